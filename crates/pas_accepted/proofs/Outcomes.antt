@@ -17,7 +17,7 @@ use Rattle.pas_rights.proofs.Orders.{until_only}
 use Rattle.pas_scavenger.specs.{Judgements.used_at, Readings.takes_until}
 use Rattle.pas_scavenger.specs.Pages.{EndsWith, EndsWithout, ExamineSteps, first_looks, quiet, unback_of}
 use Rattle.pas_scavenger.proofs.Examinations.{asks_sized, examine_event, taken_on, takes_are}
-use Rattle.pas_answers.proofs.{Consequences.parts_kept, Consequences.tidy_piece, Parts.Each, Tidy.Tidy, Tidy.tidy_over}
+use Rattle.pas_answers.proofs.{Consequences.parts_kept, Consequences.tidy_piece, Reached.Each, Tidy.Tidy, Tidy.tidy_over}
 use Rattle.pas_check.specs.{States.Examines, States.Stand, Takes.MayCome}
 use Rattle.pas_accepted.proofs.Pieces.{visible_piece}
 

@@ -10,7 +10,7 @@ use Rattle.pas_report.specs.declared.record.Record.{Record}
 use Rattle.pas_report.proofs.Showable.{AreOfRegion}
 use Rattle.pas_cache.specs.Caches.{Cached}
 use Rattle.pas_answers.specs.Answers.{Progress, with_cache}
-use Rattle.pas_answers.proofs.{Consequences.tidy_piece, Parts.Each, Parts.legal_part, Parts.of_front, Tidy.Tidy}
+use Rattle.pas_answers.proofs.{Consequences.tidy_piece, Reached.Each, Reached.legal_part, Reached.of_front, Tidy.Tidy}
 use Rattle.pas_check.specs.States.{Stand, Task}
 use Rattle.pas_accepted.proofs.{Going.LeadsOn, GuardsInBooks.AreBooked, GuardsInBooks.booked_as, LogEntries.logged_as, Pieces.lines_by, Pieces.table_same}
 

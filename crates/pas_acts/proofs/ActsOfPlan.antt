@@ -8,11 +8,11 @@ use Rattle.pas_trace.specs.EveryPlan.{all_ops, asked_with, asked_after, IsThread
 use Rattle.pas_trace.specs.EveryPlan.{records_of_work, records_of_what, records_of_ops, own_records}
 use Rattle.pas_trace.specs.Asked.{work_of, of_task, request_of, keeper_of}
 use Rattle.pas_trace.specs.declared.plan.{Chore.Chore, Work.Work, Op.Op}
-use Rattle.pas_trace.specs.Acts.{Act, Settles, StopsIdle, MarksPhase, MarksClose, Wakes, Ends, Lowers, operation_in, act_kept, is_active, numbers_from}
-use Rattle.pas_trace.specs.Acts.{active_threads, idle_threads, idle_stops, acts_of_chore, acts_of_work, acts_of_op, acts_of_ops, phase_acts, close_acts}
-use Rattle.pas_trace.specs.Acts.{acts_from, acts_of}
+use Rattle.pas_trace.specs.Acts.{Act, Settles, MarksPhase, MarksClose, Wakes, Ends, Lowers, operation_in, act_kept, is_active, numbers_from, active_threads}
+use Rattle.pas_trace.specs.Acts.{idle_threads, idle_stops, acts_of_chore, acts_of_work, acts_of_op, acts_of_ops, phase_acts, close_acts, acts_from, acts_of}
 use Rattle.pas_trace.proofs.ThreadsInOrder.{numbers_count}
 use Rattle.pas_answers.proofs.SingleActs.{sum_both}
+use Rattle.pas_answers.proofs.EachAct.{all_front, all_back, all_any, all_of_chore, all_of_close, all_acts}
 use Rattle.pas_answers.specs.Fit.{KeepsAbove, IsFitWhat, AreFit, AreOfThreads, cost_of_what, cost_of_act, costs_of, own_cost_of_act, own_costs_of}
 use Rattle.pas_answers.specs.Fit.{unbacks_of_act, unbacks_of, sum_over, AreBelow}
 
@@ -20,7 +20,8 @@ use Rattle.pas_answers.specs.Fit.{unbacks_of_act, unbacks_of, sum_over, AreBelow
 one_chosen : (b : Bool) (k : ℕ) (chosen ks : List ℕ) → length chosen ≤ length ks → length (cond b (k ∷ chosen) chosen) ≤ length (k ∷ ks)
 one_chosen b k chosen ks h = grind arith
 
-chosen_few : (chosen : ℕ → Bool) (ks : List ℕ) → length (filter chosen ks) ≤ length ks
+-- Of a list no more are chosen than there are.
+pub chosen_few : (chosen : ℕ → Bool) (ks : List ℕ) → length (filter chosen ks) ≤ length ks
 chosen_few chosen [] = omega arith
 chosen_few chosen (k ∷ ks) = one_chosen (chosen k) k (filter chosen ks) ks (chosen_few chosen ks)
 
@@ -29,16 +30,6 @@ pub idle_few : (threads : ℕ) (ops : List Op) → length (idle_threads threads 
 idle_few threads ops = let few = chosen_few (λ k. not (is_active ops k)) (numbers_from 1 threads) in let count = numbers_count 1 threads in omega (arith, few, count)
 
 -- ---- operations of a plan
--- what is so of all is so of the first, and of those that follow
-pub all_front : {A : Type 0} (P : A → Type 0) (xs ys : List A) → AllByRecursion P (xs ++ ys) → AllByRecursion P xs
-all_front P [] ys all = tt
-all_front P (x ∷ xs) ys all = (all.0, all_front P xs ys all.1)
-
--- What is so of each of two lists together is so of each of the second.
-pub all_back : {A : Type 0} (P : A → Type 0) (xs ys : List A) → AllByRecursion P (xs ++ ys) → AllByRecursion P ys
-all_back P [] ys all = all
-all_back P (x ∷ xs) ys all = all_back P xs ys all.1
-
 -- each is of an actor that may make it
 abbrev pub ArePlanned : Profile → List Op → Type 0
 ArePlanned f ops = AllByRecursion (λ (op : Op). IsActorOf f op.what op.actor) ops
@@ -50,7 +41,7 @@ are_planned f asked (op ∷ ops) sound = (sound.0, are_planned f (asked_after op
 
 -- ---- what acts cost
 -- those that cost nothing
-free_map : {A : Type 0} (cost : Act → ℕ) (to : A → Act) → ((x : A) → cost (to x) ≡ 0) → (xs : List A) → sum_over cost (map to xs) ≡ 0
+pub free_map : {A : Type 0} (cost : Act → ℕ) (to : A → Act) → ((x : A) → cost (to x) ≡ 0) → (xs : List A) → sum_over cost (map to xs) ≡ 0
 free_map cost to free [] = refl
 free_map cost to free (x ∷ xs) = let one = free x in let rest = free_map cost to free xs in omega (arith, one, rest)
 
@@ -71,14 +62,12 @@ module _ (f : Profile) (cost : Act → ℕ) (most : Op → ℕ) (mark : ℕ)
   of_ops : (idle : List ℕ) (ops : List Op) → length idle ≤ f.threads → ArePlanned f ops → sum_over cost (acts_of_ops idle ops) ≤ sum_of_ops most ops
   of_ops idle [] few all = omega arith
   of_ops idle (op ∷ ops) few all =
-      let both = sum_both cost (acts_of_op idle op) (acts_of_ops idle ops) in
-      omega (arith, each idle op few all.0, of_ops idle ops few all.1, both)
+      omega (arith, each idle op few all.0, of_ops idle ops few all.1, sum_both cost (acts_of_op idle op) (acts_of_ops idle ops))
 
   of_phase : (ops : List Op) → ArePlanned f ops → sum_over cost (phase_acts f.threads ops) ≤ sum_of_ops most ops
   of_phase ops all =
-      let rest = of_ops (idle_threads f.threads ops) ops (idle_few f.threads ops) all in
       let both = sum_both cost (map Wakes (active_threads f.threads ops)) (acts_of_ops (idle_threads f.threads ops) ops) in
-      omega (arith, free_map cost Wakes wakes (active_threads f.threads ops), rest, both)
+      omega (arith, free_map cost Wakes wakes (active_threads f.threads ops), of_ops (idle_threads f.threads ops) ops (idle_few f.threads ops) all, both)
 
   of_close : (keepers : ℕ) → sum_over cost (close_acts f.threads keepers) ≡ mark
   of_close keepers = search (arith, free_map, sum_both)
@@ -239,45 +228,27 @@ acts_fit f limit threads keepers [] below sound above = later_fit f limit thread
 acts_fit f limit threads keepers (p ∷ ps) below sound above = later_fit f limit threads keepers 1 (p ∷ ps) below [] sound above
 
 -- ---- the operations of a plan's acts are its threads'
-of_both : (threads : ℕ) (xs ys : List Act) → AreOfThreads threads xs → AreOfThreads threads ys → AreOfThreads threads (xs ++ ys)
-of_both threads [] ys a b = b
-of_both threads (x ∷ xs) ys a b = (a.0, of_both threads xs ys a.1 b)
+abbrev IsOfThread : ℕ → Act → Type 0
+IsOfThread threads act = MatchOption (operation_in act) (Unit {0}) (λ op. op.actor ≤ threads)
 
-of_map : (threads : ℕ) (to : ℕ → Act) → ((k : ℕ) → operation_in (to k) ≡ None) → (ks : List ℕ) → AreOfThreads threads (map to ks)
-of_map threads to none [] = tt
-of_map threads to none (k ∷ ks) = (subst (λ (o : Option Op). MatchOption o (Unit {0}) (λ op. op.actor ≤ threads)) (sym (none k)) tt, of_map threads to none ks)
+of_each : (threads : ℕ) (acts : List Act) → AllByRecursion (IsOfThread threads) acts → AreOfThreads threads acts
+of_each threads [] all = tt
+of_each threads (act ∷ acts) all = (all.0, of_each threads acts all.1)
 
-of_kept : (threads : ℕ) (keeper : Option ℕ) (op : Op) → op.actor ≤ threads → AreOfThreads threads (act_kept keeper op ∷ (Settles op.actor ∷ []))
+of_kept : (threads : ℕ) (keeper : Option ℕ) (op : Op) → op.actor ≤ threads
+    → AllByRecursion (IsOfThread threads) (act_kept keeper op ∷ (Settles op.actor ∷ []))
 of_kept threads keeper op h = grind arith
 
-of_chore : (threads : ℕ) (idle : List ℕ) (chore : Chore) → AreOfThreads threads (acts_of_chore idle chore)
-of_chore threads idle (Chore.Idle n) = (tt, of_map threads (λ k. StopsIdle k n) (λ k. refl) idle)
-of_chore threads idle _ = (tt, tt)
-
-of_work : (f : Profile) (idle : List ℕ) (op : Op) (work : Work) → IsActorBy f work op.actor → AreOfThreads f.threads (acts_of_work idle op work)
+of_work : (f : Profile) (idle : List ℕ) (op : Op) (work : Work) → IsActorBy f work op.actor
+    → AllByRecursion (IsOfThread f.threads) (acts_of_work idle op work)
 of_work f idle op (Work.Own task) of = of_kept f.threads (keeper_of task) op of.1
-of_work f idle op (Work.Chore chore) of = of_chore f.threads idle chore
-
-of_all : (f : Profile) (idle : List ℕ) (ops : List Op) → ArePlanned f ops → AreOfThreads f.threads (acts_of_ops idle ops)
-of_all f idle [] all = tt
-of_all f idle (op ∷ ops) all = of_both f.threads (acts_of_op idle op) (acts_of_ops idle ops) (of_work f idle op (work_of op.what) all.0) (of_all f idle ops all.1)
-
-of_later_acts : (f : Profile) (keepers n : ℕ) (phases : List (List Op)) → ArePlanned f (all_ops phases)
-    → AreOfThreads f.threads (acts_from f.threads keepers n phases)
-of_later_acts f keepers n [] all =
-    (tt, of_both f.threads (map Ends (numbers_from 1 f.threads)) (map Lowers (numbers_from (f.threads + 1) keepers)) (of_map f.threads Ends (λ k. refl) (numbers_from 1 f.threads)) (of_map f.threads Lowers (λ k. refl) (numbers_from (f.threads + 1) keepers)))
-of_later_acts f keepers n (p ∷ ps) all =
-    let idle = idle_threads f.threads p in
-    let woken = map Wakes (active_threads f.threads p) in
-    let own = all_front (λ (op : Op). IsActorOf f op.what op.actor) p (all_ops ps) all in (
-      tt,
-      of_both f.threads (phase_acts f.threads p) (acts_from f.threads keepers (n + 1) ps)
-          (of_both f.threads woken (acts_of_ops idle p) (of_map f.threads Wakes (λ k. refl) (active_threads f.threads p)) (of_all f idle p own))
-          (of_later_acts f keepers (n + 1) ps (all_back (λ (op : Op). IsActorOf f op.what op.actor) p (all_ops ps) all)),
-    )
+of_work f idle op (Work.Chore chore) of = all_of_chore (IsOfThread f.threads) (λ k. Unit {0}) idle chore (λ epoch. tt) tt tt (λ k n is. tt) (all_any idle)
 
 -- The acts of a plan are of its threads.
 pub of_threads : (f : Profile) (keepers : ℕ) (phases : List (List Op)) → ArePlanned f (all_ops phases)
     → AreOfThreads f.threads (acts_of f.threads keepers phases)
-of_threads f keepers [] all = of_later_acts f keepers 1 [] all
-of_threads f keepers (p ∷ ps) all = (of_later_acts f keepers 1 (p ∷ ps) all).1
+of_threads f keepers phases all =
+    let So = IsOfThread f.threads in
+    let close = all_of_close So f.threads keepers tt (λ k le. tt) (λ k. tt) in
+    of_each f.threads (acts_of f.threads keepers phases)
+    (all_acts So (λ op. IsActorOf f op.what op.actor) f.threads keepers (λ idle op within of. of_work f idle op (work_of op.what) of) (λ k le. tt) (λ n. tt) close phases all)

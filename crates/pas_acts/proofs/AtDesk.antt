@@ -1,25 +1,93 @@
--- The acts of a thread at its desk: an operation, its stop, and its reading of the epoch.
-use Rattle.std.proofs.Common.{◌≡◌, ℕ, ◌+◌, ◌≤◌, ◌==◌, if◌then◌else◌, inr, List, [], ◌∷◌, ◌++◌, length, Option, None, refl, ap, sym, ◌∙◌, subst, arith}
-use Rattle.std.proofs.Common.{length-append, append-nil, eq-eqb}
+-- The acts of a thread at its desk, and what one actor's acts come to for it: an operation, its stop, and its reading of the epoch.
+use Rattle.std.proofs.Common.{◌≡◌, ℕ, ◌+◌, ◌≤◌, List, ◌++◌, length, ap, sym, ◌∙◌, subst, arith, length-append, ◌==◌, if◌then◌else◌, inr, [], ◌∷◌, Option, None}
+use Rattle.std.proofs.Common.{refl, append-nil, eq-eqb}
 use Rattle.pas_profile.specs.declared.{profile.Profile.Profile, name.Block.Block, event.Range.Range}
-use Rattle.pas_steps.specs.{Agreement.Agreed, Calls.Calls, Events.events_of, Events.events_by, Lists.Whole, Lists.part, Views.View, Desks.Standing}
-use Rattle.pas_steps.specs.{Desks.CanCall, Desks.triples}
+use Rattle.pas_steps.specs.{Calls.Calls, Events.events_of, Events.events_by, Lists.Whole, Lists.part, Views.View, Agreement.Agreed}
+use Rattle.pas_steps.specs.Desks.{Standing, CanCall, triples, Seat}
 use Rattle.pas_steps.specs.declared.step.Made.{Made}
-use Rattle.pas_steps.proofs.{Called.call_none, Called.call_as, SpareRoom.Spares, Parts.part_of_own, Parts.part_of_others, Unknown.unknown_no_more}
-use Rattle.pas_trace.specs.declared.{plan.Op.Op, plan.What.What, plan.What.TheVariants.Stop, item.Request.Request}
-use Rattle.pas_report.specs.Rooms.{records_in, Records}
+use Rattle.pas_steps.proofs.{Frames.events_split, Parts.part_of_own, Called.call_none, Called.call_as, SpareRoom.Spares, Parts.part_of_others}
+use Rattle.pas_steps.proofs.{Unknown.unknown_no_more}
+use Rattle.pas_report.specs.Rooms.{records_in, room_of, Records}
 use Rattle.pas_report.specs.declared.record.{Record.Record, Said.Said}
 use Rattle.pas_cache.specs.{Caches.Cached, Caches.AtRest, Calls.Begins, Calls.SettlesEach}
-use Rattle.pas_answers.specs.{Indexes.IsNamedFor, Indexes.request_made, Fit.IsFitWhat, Fit.cost_of_what, Reaching.Reaches}
-use Rattle.pas_trace.specs.Acts.{Act, Operates, Settles, StopsIdle, Wakes, Ends}
-use Rattle.pas_answers.specs.Answers.{having, Answer, answer_of, Progress, begun, settled, stopped, epoch_look, after_answer, after_settling, after_wake}
+use Rattle.pas_answers.specs.Answers.{Progress, having, Answer, answer_of, begun, settled, stopped, epoch_look, after_answer, after_settling, after_wake}
 use Rattle.pas_answers.specs.Answers.{after_stop, IsAnswered, IsStopped, records_of, said_by}
-use Rattle.pas_answers.specs.Calls.{named_by, owed_events, MayAnswer, AnswersMeant}
+use Rattle.pas_answers.specs.Calls.{owed_events, named_by, MayAnswer, AnswersMeant}
+use Rattle.pas_answers.specs.{Indexes.IsNamedFor, Indexes.request_made, Fit.IsFitWhat, Fit.cost_of_what, Reaching.Reaches}
+use Rattle.pas_acts.specs.{Works.Later, Works.Sits, Turns.RestsAt, Turns.Moves, Keepers.StandsAt, Keepers.StandsStill, Turns.LeavesRest}
+use Rattle.pas_acts.specs.AtDesks.{and_for, Here, here, MayOperate, ThreadActs, GoesThrough}
+use Rattle.pas_trace.specs.declared.{plan.Op.Op, plan.What.What, plan.What.TheVariants.Stop, item.Request.Request}
+use Rattle.pas_trace.specs.Acts.{Act, Operates, Settles, StopsIdle, Wakes, Ends}
 use Rattle.pas_answers.proofs.{Kept.none_stands, Kept.request_meant, OwnRecords.piece_of, OwnRecords.events_of_piece}
 use Rattle.pas_answers.proofs.SingleActs.{its_cache, other_cache, if_same, records_count}
-use Rattle.pas_acts.specs.{Works.Later, Works.Sits, Turns.RestsAt, Turns.Moves, Turns.LeavesRest}
-use Rattle.pas_acts.specs.AtDesks.{Here, here, MayOperate, ThreadActs, GoesThrough}
-use Rattle.pas_acts.proofs.Alone.{of_seat, rests_after}
+
+-- ---- at the desk
+pub can_begin : {f : Profile} {k : ℕ} {σ : Standing} {c : Cached} {out : Records} {later : Later} {p : Progress} → RestsAt f k σ c out later p
+    → CanCall σ (AtRest σ.seat.profile c)
+can_begin {k = k} {c = c} {p = p} at = record {
+  view = part k p.list;
+  whole = p.list;
+  stood = at.sits.stood;
+  met = subst (λ (g : Profile). AtRest g c (part k p.list)) (sym at.sits.profile) at.sits.rest;
+}
+
+-- what is said of the desk's seat is said of its actor
+pub of_seat : {f : Profile} {k : ℕ} {Rest : View → Type 0} {σ : Standing} {l : Whole} {need : ℕ} → Sits f k Rest σ l need → (P : ℕ → Profile → Type 0)
+    → P σ.seat.actor σ.seat.profile → P k f
+of_seat {f} {k} {σ = σ} s P is = subst (λ (g : Profile). P k g) s.profile (subst (λ (j : ℕ). P j σ.seat.profile) s.actor is)
+
+-- ---- after its steps
+-- the actor sits there still, where the events of the steps are paid for
+pub sits_after : {f : Profile} {k : ℕ} {Rest Rest' : View → Type 0} {σ σ' : Standing} {l : Whole} {need need' : ℕ} {steps : List Made} → Sits f k Rest σ l need
+    → Calls σ σ' Rest (λ v w. Rest' w) steps
+    → length (events_by k (part k l) steps) + need' ≤ need → Sits f k Rest' σ' (triples k steps ++ l) need'
+sits_after {f} {k} {Rest} {Rest'} {σ} {σ'} {l} {need} {need'} {steps} s calls few =
+    let v = part k l in
+    let seat = calls.adds.seat_is in
+    let mine : part k (triples k steps ++ l) ≡ steps ++ v = part_of_own k steps l in
+    let grown = ap length (events_split k steps v) ∙ length-append (events_by k v steps) (events_of k v) in
+    record {
+      actor = ap (λ (t : Seat). t.actor) seat ∙ s.actor;
+      profile = ap (λ (t : Seat). t.profile) seat ∙ s.profile;
+      stood = subst (λ (z : View × ℕ). σ'.stands z.0 (triples z.1 steps ++ l)) (λ i. (sym mine i, s.actor i)) (calls.adds.added v l s.stood s.rest);
+      rest = subst Rest' (sym mine) (calls.leads.from v s.rest (calls.adds.agreed v l s.stood s.rest));
+      room = subst (λ (z : View × Seat). length (events_of k z.0) + need' ≤ z.1.room) (λ i. (sym mine i, sym seat i)) (omega (arith, grown, few, s.room));
+    }
+
+-- ---- while another actor makes steps
+pub stands_at : {f : Profile} {k : ℕ} {Rest : View → Type 0} {σ : Standing} {l : Whole} {need : ℕ} → Sits f k Rest σ l need → StandsAt σ l
+stands_at {σ = σ} {l = l} s = subst (λ (j : ℕ). σ.stands (part j l) l) (sym s.actor) s.stood
+
+-- it sits there still, where its desk stands still
+pub sits_still : {f : Profile} {k : ℕ} {Rest : View → Type 0} {σ σ' : Standing} {l m : Whole} (need : View → ℕ) → StandsStill σ σ' l m → part k m ≡ part k l
+    → Sits f k Rest σ l (need (part k l)) → Sits f k Rest σ' m (need (part k m))
+sits_still {f} {k} {Rest} {σ} {σ'} {l} {m} need still same s =
+    let actor : σ'.seat.actor ≡ k = ap (λ (t : Seat). t.actor) still.seat_is ∙ s.actor in
+    let stands = still.stands (stands_at s) (subst (λ (j : ℕ). part j m ≡ part j l) (sym s.actor) same) in
+    record {
+      actor = actor;
+      profile = ap (λ (t : Seat). t.profile) still.seat_is ∙ s.profile;
+      stood = subst (λ (j : ℕ). σ'.stands (part j m) m) actor stands;
+      rest = subst Rest (sym same) s.rest;
+      room = subst (λ (z : View × Seat). length (events_of k z.0) + need z.0 ≤ z.1.room) (λ i. (sym same i, sym still.seat_is i)) s.room;
+    }
+
+-- it rests again, where the records that came to its own have the events of the steps, and are paid for
+pub rests_after : {f : Profile} {k : ℕ} {σ σ' : Standing} {c c' : Cached} {out out' : Records} {later : Later} {p q : Progress} (cost : ℕ) (own : List Record)
+    → RestsAt f k σ c out (and_for cost later) p → (moves : Moves k (AtRest f c) (AtRest f c') σ σ' p q) → q.caches k ≡ c'
+    → records_in out' ≡ records_in out ++ own → room_of out' ≡ room_of out → length (events_by k (part k p.list) moves.steps) ≤ length own
+    → length own + owed_events f c' (part k q.list) ≤ cost + owed_events f c (part k p.list) → RestsAt f k σ' c' out' later q
+rests_after {f} {k} {σ} {σ'} {c} {c'} {out} {out'} {later} {p} {q} cost own at moves cache pushed room few paid =
+    record {
+      sits = subst (λ (l : Whole). Sits f k (AtRest f c') σ' l (owed_events f c' (part k q.list) + later.events)) (sym moves.list_is) (sits_after at.sits moves.calls (omega (arith, few, paid)));
+      cache = cache;
+      spare = omega (arith, ap (λ (rs : List Record). length rs) pushed ∙ length-append (records_in out) own, paid, at.spare, room);
+    }
+
+-- it rests at each progress at which it has the same in hand
+pub rests_still : {f : Profile} {k : ℕ} {σ σ' : Standing} {c : Cached} {out : Records} {later : Later} {p q : Progress} → StandsStill σ σ' p.list q.list
+    → part k q.list ≡ part k p.list → q.caches k ≡ p.caches k → RestsAt f k σ c out later p → RestsAt f k σ' c out later q
+rests_still {f} {k} {σ} {σ'} {c} {out} {later} still parts caches at = search (arith, sits_still)
 
 -- ---- with less room
 pub sits_for : {f : Profile} {k : ℕ} {Rest : View → Type 0} {σ : Standing} {l : Whole} {need need' : ℕ} → Sits f k Rest σ l need → need' ≤ need
@@ -43,8 +111,7 @@ pub fit_at : {f : Profile} {k : ℕ} {what : What} {meant : Option Block} {σ : 
 fit_at {what = what} may = (may.limit, may.asked, subst (λ (g : Profile). IsFitWhat g may.limit may.asked what) (sym may.rests.sits.profile) may.fit)
 
 -- An operation that may be done may be answered by its thread's cache.
-pub may_answer : {f : Profile} {k : ℕ} {what : What} {meant : Option Block} {σ : Standing} {c : Cached} {out : Records} {later : Later} {p : Progress}
-    (spare : ℕ)
+pub may_answer : {f k what meant σ c out later p : _} (spare : ℕ)
     → Spares σ spare → MayOperate f k what meant (here σ c out) later p
     → CanCall σ (MayAnswer σ.seat.profile c what spare out)
 may_answer {f} {k} {what} {meant} {σ} {c} {out} {later} {p} spare fits may =
@@ -62,8 +129,7 @@ may_answer {f} {k} {what} {meant} {σ} {c} {out} {later} {p} spare fits may =
     }
 
 -- ---- after it
-module _ {f : Profile} {k : ℕ} {what : What} {meant came : Option Block} {σ σ' : Standing} {c c1 : Cached} {out out' : Records} {later : Later} {p : Progress}
-    (may : MayOperate f k what meant (here σ c out) later p)
+module _ {f k what meant came σ σ' c c1 out out' later p : _} (may : MayOperate f k what meant (here σ c out) later p)
     (did : AnswersMeant what meant came c c1 out out' σ σ') where
   abbrev v : View
   v = part k p.list
@@ -104,12 +170,11 @@ module _ {f : Profile} {k : ℕ} {what : What} {meant came : Option Block} {σ �
   rests_again : {c' : Cached} {q : Progress} → (moves : Moves k (AtRest f c) (AtRest f c') σ σ' p q) → moves.steps ≡ steps → length c'.log ≡ length c1.log
       → q.caches k ≡ c' → RestsAt f k σ' c' out' later q
   rests_again {c'} moves same log cache =
-      let paid = paid_so c' log in
       let owed = ap (λ (l : Whole). owed_events f c' (part k l)) (moves.list_is ∙ ap (λ (ms : List Made). triples k ms ++ p.list) same) in
       let events = ap (λ (ms : List Made). length (events_by k v ms)) same in
       let both = length-append (records_of (events_by k v steps)) (said_by k did.said) in
       let count = records_count (events_by k v steps) in
-      rests_after (cost_of_what what) piece may.rests moves cache pushed_so did.room (omega (arith, events, both, count)) (omega (arith, paid, owed))
+      rests_after (cost_of_what what) piece may.rests moves cache pushed_so did.room (omega (arith, events, both, count)) (omega (arith, paid_so c' log, owed))
 
 -- what its cache noted is handed on
 pub settled_rest : {f : Profile} {c c' : Cached} (w : View) → c' ≡ settled c → AtRest f c w → AtRest f c' w
@@ -126,8 +191,7 @@ module _ {Door : Type 0} (Answers : Door → Door → ℕ → ℕ → Option ℕ
   AnswersAsking what meant came c c1 out out' σ σ' = (did : AnswersMeant what meant came c c1 out out' σ σ') × IsNamedFor σ.seat.profile (Answers door next) (next ≡ door) (request_made what meant) did.performs.found
 
   -- An operation that was answered, and whose noted runs were handed on, is done, and goes through its door.
-  pub has_operated : {f : Profile} {op : Op} {what : What} {meant came : Option Block} {σ σ' : Standing} {c c1 c' : Cached} {out out' : Records} {later : Later}
-      {p : Progress}
+  pub has_operated : {f : _} {op : Op} {what meant came σ σ' c c1 c' out out' later p : _}
       → op.what ≡ what → MayOperate f op.actor op.what meant (here σ c out) later p
       → AnswersAsking what meant came c c1 out out' σ σ' → c' ≡ settled c1 → SettlesEach HandsOn c1.noted next door'
       → (did : ThreadActs f op.actor (Operates op ∷ (Settles op.actor ∷ [])) (named_by op.what came) [] (here σ c out) (here σ' c' out') later p)
@@ -144,7 +208,6 @@ module _ {Door : Type 0} (Answers : Door → Door → ℕ → ℕ → Option ℕ
       let calls : Calls σ σ' (AtRest f c) (λ x w. AtRest f c' w) a.steps = call_as (λ x w. AtRest f c' w) (calls_so may did) (λ x met. met) (λ x w met rest. settled_rest w is rest) in
       let moves : Moves k (AtRest f c) (AtRest f c') σ σ' p q = record { steps = a.steps; list_is = refl; calls = calls } in
       let log = ap (λ (d : Cached). length d.log) is in
-      let cost = own_cost op in
       let paid = paid_so may did c' log in (
         record {
           reached = q;
@@ -160,7 +223,7 @@ module _ {Door : Type 0} (Answers : Door → Door → ℕ → ℕ → Option ℕ
           books = refl;
           names = refl;
           epoch = refl;
-          paid = omega (arith, cost, paid);
+          paid = omega (arith, own_cost op, paid);
         },
         (next, named, subst (λ (d : Cached). SettlesEach HandsOn d.noted next door') (sym (its_cache p.caches k c1)) handed),
       )
@@ -170,8 +233,7 @@ pub may_stop : {f : Profile} {k : ℕ} {σ : Standing} {c : Cached} {out : Recor
     → MayOperate f k Stop None (here σ c out) later p
 may_stop {f} at = record { rests = rests_for at (omega arith) (omega arith); limit = 0; asked = []; fit = (tt, tt); known = tt; means = tt; stands = none_stands f }
 
-module _ {f : Profile} {k : ℕ} {σ σ' : Standing} {c c1 : Cached} {out out' : Records} {later : Later} {p : Progress} (at : RestsAt f k σ c out later p)
-    (did : AnswersMeant Stop None None c c1 out out' σ σ') where
+module _ {f k σ σ' c c1 out out' later p : _} (at : RestsAt f k σ c out later p) (did : AnswersMeant Stop None None c c1 out out' σ σ') where
   abbrev flush : List Made
   flush = did.performs.steps
 
@@ -224,10 +286,9 @@ pub has_stayed : {f : Profile} {k n epoch : ℕ} {σ : Standing} {c : Cached} {o
     → p.epoch ≡ epoch → (c.idle_since + n ≤ epoch → ⊥)
     → ThreadActs f k (StopsIdle k n ∷ []) [] [] (here σ c out) (here σ c out) later p
 has_stayed {f} {k} {n} {epoch} {σ} {c} {out} {later} {p} at read short =
-    let since = ap (λ (d : Cached). d.idle_since) at.cache in
     record {
       reached = p;
-      reaches = (p, inr (λ idle. short (omega (arith, since, read, idle)), refl), refl);
+      reaches = (p, inr (λ idle. short (omega (arith, ap (λ (d : Cached). d.idle_since) at.cache, read, idle)), refl), refl);
       stands = at;
       moves = record { steps = []; list_is = refl; calls = call_none (λ x met. met) };
       own = [];
@@ -253,9 +314,8 @@ has_begun {f} {k} {σ} {σ'} {c} {c'} {out} {later} {p} at did =
     let agreed : Agreed f v steps = subst (λ (g : Profile). Agreed g v steps) at.sits.profile (calls.adds.agreed v p.list at.sits.stood at.sits.rest) in
     let moves : Moves k (AtRest f c) (AtRest f c') σ σ' p q = record { steps = steps; list_is = refl; calls = calls } in
     let unknown = unknown_no_more f steps v agreed in
-    let log = ap (λ (d : Cached). length d.log) did.cache in
     let mine = ap (λ (w : View). owed_events f c' w) (part_of_own k steps p.list) in
-    let paid : 0 + owed_events f c' (part k q.list) ≤ 0 + owed_events f c v = omega (arith, unknown, log, mine) in
+    let paid : 0 + owed_events f c' (part k q.list) ≤ 0 + owed_events f c v = omega (arith, unknown, ap (λ (d : Cached). length d.log) did.cache, mine) in
     let cache = its_cache p.caches k (begun (p.caches k) did.epoch) ∙ ap (λ (d : Cached). begun d did.epoch) at.cache ∙ sym did.cache in
     let pushed : records_in out ≡ records_in out ++ [] = sym (append-nil (records_in out)) in (
       record {

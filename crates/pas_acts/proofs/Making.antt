@@ -1,16 +1,39 @@
--- How the parts of a kit are made, one after the other.
+-- How the parts of a kit are made, one after the other, and how many guarded requests the books of its keepers are made for.
 use Rattle.std.proofs.Common.{◌≡◌, ℕ, ◌+◌, List, [], ◌∷◌, ◌++◌, length, All, slice_index_or, inl, inr, Option, Some, None, ap, sym, ◌∙◌, subst, arith}
-use Rattle.std.proofs.Common.{length-append}
-use Rattle.std.proofs.{lemmas.Bool.cases_lt, lemmas.List.get_or_append_left, lemmas.List.Elements.All-push, Math.Seq.get_or-append_seam}
+use Rattle.std.proofs.Common.{length-append, zero, suc, ◌<◌, ◌≤◌, ◌==◌, Bool, true, false, if◌then◌else◌, map, drop, get_or, Result, IfOk, eq-eqb, ne_eqb}
+use Rattle.std.proofs.{lemmas.Bool.cases_lt, lemmas.List.get_or_append_left, lemmas.List.Elements.All-push, Math.Seq.get_or-append_seam, lemmas.List.drop_more}
 use Rattle.pas_profile.specs.Rooms.{shown, size_of_room, EventRoom}
 use Rattle.pas_cache.specs.Caches.{Cached, cached}
 use Rattle.pas_cache.specs.declared.cache.ThreadCache.{ThreadCache}
-use Rattle.pas_acts.specs.Parts.{AreRooms, AreUnused}
+use Rattle.pas_acts.specs.{Parts.AreRooms, Parts.AreUnused, PlanKeepers.one_guarded, PlanKeepers.guarded_of, PlanKeepers.AreBooksFor}
 use Rattle.pas_answers.specs.Replays.{empty_cache}
+use Rattle.std.specs.{List.AllByRecursion, Global.Vec}
+use Rattle.pas_profile.specs.declared.profile.Profile.{Profile}
+use Rattle.pas_trace.specs.Asked.{work_of, of_task, keeper_of, keeper_in}
+use Rattle.pas_trace.specs.EveryPlan.{all_ops, IsActorBy, records_of_work, records_of_what, records_of_ops}
+use Rattle.pas_trace.specs.Plans.{ops_of}
+use Rattle.pas_trace.specs.declared.plan.{Op.Op, Phase.Phase, Work.Work}
+use Rattle.pas_guard.specs.Books.{guards_in, size_of_book}
+use Rattle.pas_guard.specs.declared.book.GuardBook.{GuardBook}
+use Rattle.pas_acts.proofs.ActsOfPlan.{ArePlanned}
+use Rattle.pas_answers.proofs.EachAct.{all_front, all_back}
 
 -- the element that was put at the end
 pub at_end : {A : Type 0} (xs : List A) (x d : A) (k : ℕ) → k ≡ length xs → slice_index_or (xs ++ x ∷ []) k d ≡ x
 at_end xs x d k is = ap (λ i. slice_index_or (xs ++ x ∷ []) i d) is ∙ get_or-append_seam xs x [] d
+
+-- What is so of each of a list by its place, and of one more at its end, is so of each of both.
+each_next : {A : Type 0} (P : ℕ → A → Type 0) (n : ℕ) (xs after : List A) (x : A) → after ≡ xs ++ x ∷ [] → length xs ≡ n
+    → ((k : ℕ) (d : A) → k < n → P k (slice_index_or xs k d)) → P n x → (k : ℕ) (d : A) → k < n + 1 → P k (slice_index_or after k d)
+each_next {A} P n xs after x is many all this k d lt = elim (cases_lt k n) [
+  | inl below ↦
+      let at = ap (λ (ys : List A). slice_index_or ys k d) is ∙ get_or_append_left xs (x ∷ []) d k (omega (arith, below, many)) in
+      subst (P k) (sym at) (all k d below)
+  | inr ge ↦
+      let last : n ≡ k = omega (arith, lt, ge) in
+      let at = ap (λ (ys : List A). slice_index_or ys k d) is ∙ at_end xs x d k (omega (arith, last, many)) in
+      subst (P k) (sym at) (subst (λ (m : ℕ). P m x) last this)
+]
 
 -- there are no rooms, so nothing is said of one
 pub no_rooms : (sizes : ℕ → Option ℕ) (rooms : List EventRoom) → rooms ≡ [] → AreRooms sizes 0 rooms
@@ -21,15 +44,9 @@ pub next_room : {sizes : ℕ → Option ℕ} {count : ℕ} {rooms : List EventRo
     → sizes count ≡ Some (size_of_room room) → shown room ≡ [] → AreRooms sizes count rooms → AreRooms sizes (count + 1) after
 next_room {sizes} {count} {rooms} after room is size empty made =
     let many = made.many in
-    let same = ap (λ rs. length rs) is in
     record {
-      many = omega (arith, many, length-append rooms (room ∷ []), same);
-      each = λ k d lt. elim (cases_lt k count) [
-        | inl below ↦ made.each k d below ∙ ap (λ r. Some (size_of_room r)) (sym (ap (λ rs. slice_index_or rs k d) is ∙ get_or_append_left rooms (room ∷ []) d k (omega (arith, below, many))))
-        | inr ge ↦
-            let last : k ≡ count = omega (arith, lt, ge) in
-            ap sizes last ∙ size ∙ ap (λ r. Some (size_of_room r)) (sym (ap (λ rs. slice_index_or rs k d) is ∙ at_end rooms room d k (omega (arith, last, many))))
-      ];
+      many = omega (arith, many, length-append rooms (room ∷ []), ap (λ rs. length rs) is);
+      each = each_next (λ k (r : EventRoom). sizes k ≡ Some (size_of_room r)) count rooms after room is many made.each size;
       empty = subst (All (λ room. shown room ≡ [])) (sym is) (All-push (λ room. shown room ≡ []) rooms room made.empty empty);
     }
 
@@ -46,15 +63,94 @@ pub next_unused : {count : ℕ} {caches : List ThreadCache} (after : List Thread
     → cached cache ≡ empty_cache → AreUnused count caches → AreUnused (count + 1) after
 next_unused {count} {caches} after cache is empty made =
     let many = made.many in
-    let same = ap (λ (cs : List ThreadCache). length cs) is in
     record {
-      many = omega (arith, many, length-append caches (cache ∷ []), same);
-      each = λ i d lt. elim (cases_lt i count) [
-        | inl below ↦ ap (λ (cs : List ThreadCache). cached (slice_index_or cs i d)) is ∙ ap cached (get_or_append_left caches (cache ∷ []) d i (omega (arith, below, many))) ∙ made.each i d below
-        | inr ge ↦ ap (λ (cs : List ThreadCache). cached (slice_index_or cs i d)) is ∙ ap cached (at_end caches cache d i (omega (arith, lt, ge, many))) ∙ empty
-      ];
+      many = omega (arith, many, length-append caches (cache ∷ []), ap (λ (cs : List ThreadCache). length cs) is);
+      each = each_next (λ k (c : ThreadCache). cached c ≡ empty_cache) count caches after cache is many made.each empty;
     }
 
 -- a cache with these parts is empty
 pub is_empty : (c : Cached) → c.locals ≡ [] → c.log ≡ [] → c.noted ≡ [] → c.idle_since ≡ 0 → c ≡ empty_cache
 is_empty c locals log noted idle = search (arith, c.log, c.noted, c.idle_since)
+
+-- ---- counts
+abbrev guards_of : ℕ → Op → ℕ
+guards_of k op = if op.actor == k then one_guarded (keeper_in op.what) else 0
+
+guarded_both : (k : ℕ) (xs ys : List Op) → guarded_of k (xs ++ ys) ≡ guarded_of k xs + guarded_of k ys
+guarded_both k [] ys = omega arith
+guarded_both k (x ∷ xs) ys = let rest = guarded_both k xs ys in omega (arith, rest)
+
+-- with one operation more
+pub guarded_next : (k : ℕ) (ops : List Op) (i : ℕ) (d : Op) → i < length ops
+    → guarded_of k (drop i ops) ≡ guards_of k (get_or ops i d) + guarded_of k (drop (i + 1) ops)
+guarded_next k ops i d lt = ap (λ (xs : List Op). guarded_of k xs) (drop_more ops i d lt)
+
+-- .. and of phases with one phase more
+pub phases_next : (k : ℕ) (phases : List Phase) (i : ℕ) (item : Phase) → i < length phases → item ≡ slice_index_or phases i item
+    → guarded_of k (all_ops (map ops_of (drop i phases))) ≡ guarded_of k (ops_of item) + guarded_of k (all_ops (map ops_of (drop (i + 1) phases)))
+phases_next k phases i item lt is = cc (drop_more phases i item lt, guarded_both k (ops_of item) (all_ops (map ops_of (drop (i + 1) phases))))
+
+-- so many more of one actor
+pub count_more : (a k more : ℕ) (counts : ℕ → ℕ) → (if a == k then counts a + more else counts k) ≡ counts k + (if a == k then more else 0)
+count_more a k more counts = search (arith, eq-eqb, ne_eqb)
+
+-- ---- each costs its plan a record at least
+few_work : (f : Profile) (work : Work) → one_guarded (of_task keeper_of work) ≤ records_of_work f work
+few_work f work = grind arith
+
+few_if : (t : Bool) (a b : ℕ) → a ≤ b → (if t then a else 0) ≤ b
+few_if true a b le = le
+few_if false a b le = omega arith
+
+-- Operations have no more guarded requests than they may make records.
+pub guarded_few : (f : Profile) (k : ℕ) (ops : List Op) → guarded_of k ops ≤ records_of_ops f ops
+guarded_few f k [] = omega arith
+guarded_few f k (op ∷ ops) =
+    omega (arith, few_if (op.actor == k) (one_guarded (keeper_in op.what)) (records_of_what f op.what) (few_work f (work_of op.what)), guarded_few f k ops)
+
+-- ---- actors
+within_work : (f : Profile) (work : Work) (k : ℕ) → f.threads ≤ 16 → IsActorBy f work k → k < 17
+within_work f work k h i = grind arith
+
+-- The actor of each planned operation is below 17.
+pub actors_within : (f : Profile) (ops : List Op) → f.threads ≤ 16 → ArePlanned f ops → AllByRecursion (λ (op : Op). op.actor < 17) ops
+actors_within f [] few all = tt
+actors_within f (op ∷ ops) few all = (within_work f (work_of op.what) op.actor few all.0, actors_within f ops few all.1)
+
+-- What is so of each of a list is so of the one at a place.
+pub all_at : {A : Type 0} (P : A → Type 0) (xs : List A) (i : ℕ) (d : A) → AllByRecursion P xs → i < length xs → P (get_or xs i d)
+all_at P [] i d all lt = absurd (let bad : i < 0 = lt in omega (arith, bad))
+all_at P (x ∷ xs) zero d all lt = all.0
+all_at P (x ∷ xs) (suc i) d all lt = all_at P xs i d all.1 (omega (arith, lt))
+
+-- what is so of all operations is so of those of a phase
+pub phase_at : (P : Op → Type 0) (phases : List Phase) (i : ℕ) (d : Phase) → AllByRecursion P (all_ops (map ops_of phases)) → i < length phases
+    → AllByRecursion P (ops_of (get_or phases i d))
+phase_at P [] i d all lt = absurd (let bad : i < 0 = lt in omega (arith, bad))
+phase_at P (p ∷ phases) zero d all lt = all_front P (ops_of p) (all_ops (map ops_of phases)) all
+phase_at P (p ∷ phases) (suc i) d all lt = phase_at P phases i d (all_back P (ops_of p) (all_ops (map ops_of phases)) all) (omega (arith, lt))
+
+-- ---- books
+pub no_books : (places : ℕ → ℕ) (books : List GuardBook) → books ≡ [] → AreBooksFor 0 places books
+no_books places books none = record { many = ap (λ (bs : List GuardBook). length bs) none; empty = λ i d bad. absurd (omega (arith, bad)); places = λ i d bad. absurd (omega (arith, bad)) }
+
+-- An empty book with enough places for the next keeper makes the books one more.
+pub next_book : {many : ℕ} {places : ℕ → ℕ} {books : List GuardBook} (after : List GuardBook) (book : GuardBook) → after ≡ books ++ book ∷ []
+    → guards_in book ≡ [] → size_of_book book ≡ places (many + 1) → AreBooksFor many places books → AreBooksFor (many + 1) places after
+next_book {many} {places} {books} after book is empty size made =
+    let count = made.many in
+    record {
+      many = omega (arith, count, length-append books (book ∷ []), ap (λ (bs : List GuardBook). length bs) is);
+      empty = each_next (λ k (b : GuardBook). guards_in b ≡ []) many books after book is count made.empty empty;
+      places = each_next (λ k (b : GuardBook). size_of_book b ≡ places (k + 1)) many books after book is count made.places size;
+    }
+
+-- with other numbers that are the same
+pub same_books : {many many' : ℕ} {places places' : ℕ → ℕ} {books : List GuardBook} → many ≡ many' → ((k : ℕ) → places k ≡ places' k)
+    → AreBooksFor many places books → AreBooksFor many' places' books
+same_books {many} {many'} {places} {places'} {books} same alike made = search (arith, made.many, made.empty, made.places)
+
+-- Books that were made for keepers are for as many keepers with the same places, otherwise counted.
+pub books_in : {many many' : ℕ} {places places' : ℕ → ℕ} {E : Type 0} (made : Result (Vec GuardBook) E) → many ≡ many' → ((k : ℕ) → places k ≡ places' k)
+    → IfOk made (λ books. AreBooksFor many places books.items) → IfOk made (λ books. AreBooksFor many' places' books.items)
+books_in made same alike is = search (arith, same_books)

@@ -18,7 +18,7 @@ use Rattle.pas_answers.specs.declared.names.Names.{Names}
 use Rattle.pas_acts.specs.NameBooks.{requests_in, room_for, name_asked, names_asked, names_of, ArePlaced, came_to, known_in, table, NamesAt, Requests}
 use Rattle.pas_acts.specs.Works.{KnowsNames}
 use Rattle.pas_acts.specs.declared.names.NameBook.{NameBook}
-use Rattle.pas_acts.proofs.{Noting.is_same, Noting.not_before, Pairing.kept_cost, Places.kept_asks}
+use Rattle.pas_acts.proofs.{Noting.is_same, Noting.not_before, Pairing.kept_cost, Noting.kept_asks}
 
 -- ---- a phase and the rest
 pub sound_front : (f : Profile) (asked : List ℕ) (xs ys : List Op) → AreSound f asked (xs ++ ys) → AreSound f asked xs
@@ -127,8 +127,7 @@ module _ {f : Profile} {ops : List Op} {book : NameBook} {p : Progress} {names :
   }
 
 -- A thread of the phase knows its names once they are noted.
-pub names_before : {f : Profile} {book : NameBook} {p : Progress} {names : List Named} (k : ℕ) (phase rest : List Op) (book1 : NameBook) (requests : Requests)
-    (at : NamesAt f (phase ++ rest) book p)
+pub names_before : {f book p names : _} (k : ℕ) (phase rest : List Op) (book1 : NameBook) (requests : Requests) (at : NamesAt f (phase ++ rest) book p)
     → 1 ≤ k → FreesItsOwn k at.asked phase → book1.names ≡ book.names
     → ArePlaced book1 0 (names_asked (own_acts k phase)) → requests_in requests ≡ [] → own_costs_of k (own_acts k phase) ≤ room_for requests → names ≡ p.names
     → KnowsNames f (own_acts k phase) (table book1 requests) names

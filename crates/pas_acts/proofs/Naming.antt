@@ -1,18 +1,24 @@
--- An answer by what a worker knows of names is one by what all know.
+-- The names of a phase: what they stand for to all and to each worker once it was done, how many there are, and what is known of them afterwards.
 use Rattle.std.proofs.Common.{arith, ◌≡◌, ◌≢◌, ℕ, ◌==◌, ◌||◌, Bool, false, if◌then◌else◌, inl, inr, List, ◌∷◌, Option, Some, None, refl, ap, sym, ◌∙◌, subst}
-use Rattle.std.proofs.Common.{ne_eqb}
+use Rattle.std.proofs.Common.{ne_eqb, ◌≤◌, [], ◌++◌}
 use Rattle.std.proofs.lemmas.Bool.{cases_eq}
 use Rattle.pas_profile.specs.declared.{profile.Profile.Profile, name.Block.Block}
-use Rattle.pas_steps.specs.Views.{View}
+use Rattle.pas_steps.specs.{Views.View, Lists.part}
 use Rattle.pas_steps.specs.declared.step.Made.{Made}
-use Rattle.pas_trace.specs.EveryPlan.{is_asked, asked_after}
-use Rattle.pas_trace.specs.declared.plan.What.{What}
+use Rattle.pas_trace.specs.EveryPlan.{is_asked, asked_after, all_ops, asked_with}
+use Rattle.pas_trace.specs.declared.{plan.What.What, plan.Op.Op, item.Request.Request}
 use Rattle.pas_trace.specs.declared.plan.What.TheVariants.{Alloc, Guarded, Free, FreeSized, Raw, RawSized, Remake, Flush, Stop}
 use Rattle.pas_report.specs.declared.record.Said.{Said}
 use Rattle.pas_cache.specs.Caches.{Cached}
-use Rattle.pas_answers.specs.Answers.{Named, named, block_of, standing_for, having, Answer, answer_of, IsFreedBy, IsRemadeBy, IsAnswered}
-use Rattle.pas_answers.specs.{Fit.IsFitWhat, Calls.OnlyAsked}
-use Rattle.pas_acts.specs.Shares.{AreAmong, IsRequestOf}
+use Rattle.pas_answers.specs.Answers.{Named, named, block_of, standing_for, having, Answer, answer_of, IsFreedBy, IsRemadeBy, IsAnswered, Progress}
+use Rattle.pas_answers.specs.Fit.{IsFitWhat, IsBelow, AreBelow, AllBelow}
+use Rattle.pas_answers.specs.Calls.{OnlyAsked, AreKnown}
+use Rattle.pas_acts.specs.Shares.{AreAmong, IsRequestOf, asked_after_act, AreKnownAfter}
+use Rattle.pas_trace.proofs.EveryPlan.{below_front}
+use Rattle.pas_acts.proofs.ActsOfPlan.{back_below}
+use Rattle.pas_trace.specs.{Acts.Act, Acts.Operates, Acts.Guards, Asked.request_in}
+use Rattle.pas_answers.proofs.{Kept.known_after, Kept.known_named, Reached.put_on}
+use Rattle.pas_answers.specs.Reaching.{AnswersOp, AnswersTried, AnswersGuarded, Advances}
 
 none_some : {b : Option Block} {A : Type 0} → None ≡ Some b → A
 none_some bad = absurd (cc)
@@ -130,3 +136,61 @@ retold f limit k (Remake name old heap size align) asked few names v c a among o
 retold f limit k Flush asked few names v c a among only fit answered = keeps_names f k Flush asked few names v c a answered.2 among only (answered.0, answered.1, refl)
 retold f limit k Stop asked few names v c a among only fit answered = keeps_names f k Stop asked few names v c a answered.2 among only (answered.0, answered.1, refl)
 retold f limit k what asked few names v c a among only fit answered = absurd answered
+
+below_both : (limit : ℕ) (xs ys : List Op) → AreBelow limit xs → AreBelow limit ys → AreBelow limit (xs ++ ys)
+below_both limit [] ys a b = b
+below_both limit (x ∷ xs) ys a b = (a.0, below_both limit xs ys a.1 b)
+
+-- Names that are below a limit in each phase are below it in all.
+pub below_all : (limit : ℕ) (phases : List (List Op)) → AllBelow limit phases → AreBelow limit (all_ops phases)
+below_all limit [] all = tt
+below_all limit (p ∷ ps) all = below_both limit p (all_ops ps) all.0 (below_all limit ps all.1)
+
+below_what : (limit higher : ℕ) (what : What) → limit ≤ higher → IsBelow limit what → IsBelow higher what
+below_what limit higher what h i = grind arith
+
+below_higher : (limit higher : ℕ) (ops : List Op) → limit ≤ higher → AreBelow limit ops → AreBelow higher ops
+below_higher limit higher [] le all = tt
+below_higher limit higher (op ∷ ops) le all = (below_what limit higher op.what le all.0, below_higher limit higher ops le all.1)
+
+-- Names below a limit are below each higher one.
+pub all_higher : (limit higher : ℕ) (phases : List (List Op)) → limit ≤ higher → AllBelow limit phases → AllBelow higher phases
+all_higher limit higher [] le all = tt
+all_higher limit higher (p ∷ ps) le all = (below_higher limit higher p le all.0, all_higher limit higher ps le all.1)
+
+-- those of each phase
+pub below_each : (limit : ℕ) (phases : List (List Op)) → AreBelow limit (all_ops phases) → AllBelow limit phases
+below_each limit [] all = tt
+below_each limit (p ∷ ps) all = (below_front limit p (all_ops ps) all, below_each limit ps (back_below limit p (all_ops ps) all))
+
+-- nothing was asked for, and the names are as they were
+same_known : (asked : List ℕ) {q r : Progress} → q ≡ r → AreKnown asked r.names → AreKnown asked q.names
+same_known asked is known = subst (λ (s : Progress). AreKnown asked s.names) (sym is) known
+
+-- a guarded request's name stands for the block that its keeper gave, or for what its thread's answer came to
+known_op : (f : Profile) (op : Op) (asked : List ℕ) (p q : Progress) → AnswersOp f op p q → AreKnown asked p.names
+    → AreKnown (asked_after op.what asked) q.names
+known_op f op asked p q did known = same_known (asked_after op.what asked) did.2
+    (known_after f op.actor op.what asked p.names did.0.names (part op.actor p.list) (p.caches op.actor) did.0.cache did.0.steps did.0.said did.0.found did.1 known)
+
+known_tried : (f : Profile) (op : Op) (r : Request) (block : Option Block) (asked : List ℕ) (p q : Progress) → request_in op.what ≡ Some r
+    → AnswersTried f op r block p q → AreKnown asked p.names → AreKnown (asked_after op.what asked) q.names
+known_tried f op r (Some block) asked p q asks did known =
+    subst (λ (o : Option Request). AreKnown (asked_with o asked) q.names) (sym asks) (same_known (r.name ∷ asked) did (known_named r.name (Some block) asked p.names known))
+known_tried f op r None asked p q asks did known = known_op f op asked p q did known
+
+known_guarded : (f : Profile) (keeper : ℕ) (op : Op) (o : Option Request) → request_in op.what ≡ o → (asked : List ℕ) (p q : Progress)
+    → AnswersGuarded f keeper op o p q → AreKnown asked p.names → AreKnown (asked_after op.what asked) q.names
+known_guarded f keeper op o h asked p q i j = grind (arith, known_tried)
+
+known_one : (f : Profile) (act : Act) (asked : List ℕ) (p q : Progress) → Advances f act p q → AreKnown asked p.names
+    → AreKnown (asked_after_act act asked) q.names
+known_one f (Operates op) asked p q did known = same_known (asked_after_act (Operates op) asked) did.2
+    (known_after f op.actor op.what asked p.names did.0.names (part op.actor p.list) (p.caches op.actor) did.0.cache did.0.steps did.0.said did.0.found did.1 known)
+known_one f (Guards keeper op) asked p q did known = known_guarded f keeper op (request_in op.what) refl asked p q did known
+known_one f act asked p q did known = subst (AreKnown asked) (sym (put_on f act p q did).2) known
+
+-- The names that were asked for stand for something after the acts, too.
+pub are_known : AreKnownAfter
+are_known f [] asked p q reaches known = same_known asked reaches known
+are_known f (act ∷ acts) asked p q reaches known = are_known f acts (asked_after_act act asked) reaches.0 q reaches.2 (known_one f act asked p reaches.0 reaches.1 known)

@@ -25,8 +25,8 @@ use Rattle.pas_acts.specs.Keepers.{KeeperHas, LaterKept, KeeperAt, KeeperTries, 
 use Rattle.pas_acts.specs.Pairs.{head_acts, MayTryTask, TriesTask, for_request, for_guard, for_guards, IsTriedBy, IsUnguarded, KeeperWaits, IsOfTwo, EachOfTwo}
 use Rattle.pas_acts.specs.Pairs.{KeptPushed, KeptStill, owed_of, PairActs}
 use Rattle.pas_acts.specs.{Turns.RestsAt, Works.Later}
-use Rattle.pas_acts.proofs.{Alone.rests_still, Alone.stands_at, AtDesk.own_cost, AtDesk.rests_for, AtDesk.settled_rest, Keeping.keeper_still}
-use Rattle.pas_acts.proofs.{Keeping.guarded_by_keeper, Keeping.guarded_by_thread}
+use Rattle.pas_acts.proofs.AtDesk.{rests_still, stands_at, own_cost, rests_for, settled_rest}
+use Rattle.pas_acts.proofs.Keeping.{keeper_still, guarded_by_keeper, guarded_by_thread}
 
 -- ---- records of two actors
 of_one : (j k : ℕ) (rs : List Record) → EachOf j rs → EachOfTwo j k rs
@@ -47,9 +47,7 @@ kept_cost k (Some keeper) op = refl
 -- the acts of an operation cost its thread what the operation does
 pub head_cost : (op : Op) → own_costs_of op.actor (head_acts op) ≡ cost_of_what op.what
 head_cost op =
-    let first = kept_cost op.actor (keeper_in op.what) op in
-    let own = own_cost op in
-    omega (arith, first, own)
+    omega (arith, kept_cost op.actor (keeper_in op.what) op, own_cost op)
 
 -- ---- the keeper, where the thread alone acts
 -- it waits still, where its part and its book are as they were
@@ -83,8 +81,7 @@ owes_same f (OneKeeper old) (OneKeeper new) l m v stands = ap (λ (b : GuardBook
 owes_same f _ _ l m v stands = absurd stands
 
 -- an act of the thread alone
-alone_acts : {f : Profile} {k : ℕ} {acts : List Act} {came : List Named} {old new : Here} {later : Later} {p : Progress} (keeper : ℕ) (kept kept' : Keeping)
-    (more : LaterKept)
+alone_acts : {f k acts came old new later p : _} (keeper : ℕ) (kept kept' : Keeping) (more : LaterKept)
     → k ≢ keeper → KeeperWaits f keeper [] kept more p
     → (did : ThreadActs f k acts came [] old new later p) → KeptStands kept kept' p.list did.reached.list
     → PairActs f k keeper acts came old new kept kept' later more p
@@ -108,8 +105,7 @@ alone_acts {f} {k} {acts} {came} {old} {new} {later} {p} keeper kept kept' more 
     }
 
 -- ---- the keeper first
-module _ {f : Profile} {keeper : ℕ} {r : Request} {block : Option Block} {h h' : KeeperHas} {more : LaterKept} {p : Progress} (op : Op)
-    (apart : op.actor ≢ keeper) (asks : request_in op.what ≡ Some r) (kept : keeper_in op.what ≡ Some keeper)
+module _ {f keeper r block h h' more p : _} (op : Op) (apart : op.actor ≢ keeper) (asks : request_in op.what ≡ Some r) (kept : keeper_in op.what ≡ Some keeper)
     (tries : KeeperTries f keeper r block h h' more p) where
   abbrev k : ℕ
   k = op.actor
@@ -144,9 +140,7 @@ module _ {f : Profile} {keeper : ℕ} {r : Request} {block : Option Block} {h h'
       let room = rests.sits.room in
       let spare = rests.spare in
       let log = ap (λ (d : Cached). length d.log) done in
-      let mine = ap (λ (w : View). owed_events f c w) thread_same in
       let pays = ap (λ (o : Option Block). cost_of_try r.size o) given in
-      let own = own_cost op in
       of_guard record {
         reached = q;
         reaches = (midway, guarded_by_keeper f keeper op r b p tries.tried asks tries.is (tries.block_is ∙ given), (q, refl, refl));
@@ -164,7 +158,7 @@ module _ {f : Profile} {keeper : ℕ} {r : Request} {block : Option Block} {h h'
         still = tt;
         each = of_other k keeper told tries.each;
         names = ap (λ (o : Option Request). named_with o (Some b) ++ p.names) (sym asks);
-        paid = omega (arith, tries.paid, pays, log, mine, own, cost);
+        paid = omega (arith, tries.paid, pays, log, ap (λ (w : View). owed_events f c w) thread_same, own_cost op, cost);
       }
 
   -- It gave none. The thread makes the request from there on.
@@ -176,8 +170,6 @@ module _ {f : Profile} {keeper : ℕ} {r : Request} {block : Option Block} {h h'
       let parts : part keeper did.reached.list ≡ part keeper after.list = ap (λ (l : Whole). part keeper l) did.moves.list_is ∙ part_of_others keeper k did.moves.steps after.list apart in
       let owed = ap (λ (b : GuardBook). owed_by_keeper f (guards_in b) (part keeper did.reached.list)) still.book ∙ ap (λ (w : View). owed_by_keeper f (guards_in h'.book) w) parts in
       let mine = ap (λ (w : View). owed_events f c w) thread_same in
-      let both = length-append told did.own in
-      let pays = ap (λ (o : Option Block). cost_of_try r.size o) none in
       of_guard record {
         reached = did.reached;
         reaches = (did.reaches.0, guarded_by_thread f keeper op r p did.reaches.0 tries.tried asks tries.is (tries.block_is ∙ none) did.reaches.1, did.reaches.2);
@@ -197,7 +189,7 @@ module _ {f : Profile} {keeper : ℕ} {r : Request} {block : Option Block} {h h'
         still = tt;
         each = two_both k keeper told did.own (of_other k keeper told tries.each) (of_one k keeper did.own did.each);
         names = did.names;
-        paid = omega (arith, tries.paid, did.paid, pays, owed, mine, both);
+        paid = omega (arith, tries.paid, did.paid, ap (λ (o : Option Block). cost_of_try r.size o) none, owed, mine, length-append told did.own);
       }
 
 -- ---- by the task
@@ -223,8 +215,7 @@ may_try_task f keeper limit asked more p (Task.Guarded k name heap size align) o
 may_try_task f keeper limit asked more p task op rest kept asks fit waits = tt
 
 -- after it, where the keeper gave a block
-pub pair_given : {f : Profile} {keeper : ℕ} {p : Progress} {σ σ' : Standing} {c c' : Cached} {out : Records} {later : Later} (b : Block) (more : LaterKept)
-    (task : Task) (op : Op) (rest : List Act) (kept kept' : Keeping)
+pub pair_given : {f keeper p σ σ' c c' out later : _} (b : Block) (more : LaterKept) (task : Task) (op : Op) (rest : List Act) (kept kept' : Keeping)
     → op.what ≡ what_of task → (keeper_of task ≡ None → Some b ≡ None)
     → op.actor ≢ keeper → KeeperWaits f keeper (act_kept (keeper_in op.what) op ∷ rest) kept more p
     → TriesTask f keeper task (Some b) σ σ' kept kept' (for_guards rest more) p → RestsAt f op.actor σ c out (and_for (cost_of_what op.what) later) p
@@ -248,8 +239,7 @@ waits_past : (f : Profile) (keeper : ℕ) (more : LaterKept) (p : Progress) (op 
 waits_past f keeper more p op rest NoKeeper waits = tt
 waits_past f keeper more p op rest (OneKeeper has) waits = (tt, waits.1)
 
-may_still : {f : Profile} {k : ℕ} {what : What} {meant : Option Block} {σ σ' : Standing} {c : Cached} {out : Records} {later : Later} {p : Progress}
-    (q : Progress)
+may_still : {f k what meant σ σ' c out later : _} {p : Progress} (q : Progress)
     → StandsStill σ σ' p.list q.list → part k q.list ≡ part k p.list → q.caches k ≡ p.caches k → q.names ≡ p.names
     → MayOperate f k what meant (here σ c out) later p → MayOperate f k what meant (here σ' c out) later q
 may_still {what = what} {meant = meant} q stays parts caches names may = record {
@@ -263,8 +253,7 @@ may_still {what = what} {meant = meant} q stays parts caches names may = record 
 }
 
 -- the thread may do the task then, from where the keeper's try led
-pub may_next : {f : Profile} {k keeper : ℕ} {p : Progress} {σ σ' : Standing} {c : Cached} {out : Records} {what : What} {meant : Option Block} {later : Later}
-    (more : LaterKept) (task : Task) (kept kept' : Keeping)
+pub may_next : {f k keeper p σ σ' c out what meant later : _} (more : LaterKept) (task : Task) (kept kept' : Keeping)
     → (keeper_of task ≡ None → (σ' ≡ σ) × (kept' ≡ kept)) → k ≢ keeper
     → TriesTask f keeper task None σ σ' kept kept' more p → MayOperate f k what meant (here σ c out) later p
     → (q : Progress) × MayOperate f k what meant (here σ' c out) later q

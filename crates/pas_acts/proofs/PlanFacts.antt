@@ -1,18 +1,30 @@
--- Each plan can be replayed: its operations follow one another, and its bounds suffice for their records.
-use Rattle.std.proofs.Common.{◌≡◌, ◌≢◌, ◌∷◌, Option, Some, refl, ap, ◌∙◌, ℕ, ◌+◌, ◌*◌, ◌<◌, ◌≤◌, List, [], length, slice_index, arith, ◌^◌, MatchOption}
-use Rattle.std.proofs.lemmas.List.{length-map}
+-- Each plan can be replayed: its operations follow one another, its bounds suffice for their records, and its keepers are asked for no more than they have room for.
+use Rattle.std.proofs.Common.{◌≡◌, ◌≢◌, ◌∷◌, Option, Some, refl, ap, ◌∙◌, ℕ, ◌+◌, ◌*◌, ◌<◌, ◌≤◌, List, [], length, slice_index, arith, ◌^◌, MatchOption, ◌-◌}
+use Rattle.std.proofs.Common.{◌==◌, Bool, if◌then◌else◌, subst, eq-eqb, ne_eqb, zero, suc, false}
+use Rattle.std.proofs.lemmas.{List.length-map, Bool.cases_eq}
 use Rattle.pas_profile.specs.Profiles.{IsValid, IsAdmitted}
 use Rattle.pas_profile.specs.declared.profile.Profile.{Profile}
 use Rattle.std.specs.List.{AllByRecursion}
-use Rattle.pas_trace.specs.{Reasons.actors_by, Plans.IsPlanOf, Plans.bounds_of, Plans.ops_of, Acts.Act, Acts.MakesPass}
-use Rattle.pas_trace.specs.Asked.{work_of, of_task, keeper_of, keeper_in}
-use Rattle.pas_trace.specs.EveryPlan.{all_ops, asked_after, IsThread, IsActorBy, IsActorOf, IsSoundTask, IsSoundWork, AreSound, AreKept}
-use Rattle.pas_trace.specs.declared.plan.{Op.Op, Task.Task, Work.Work, Plan.Plan}
-use Rattle.pas_trace.proofs.EveryPlan.{every_plan, threads_among, keepers_among}
-use Rattle.pas_answers.specs.Fit.{KeepsAbove, AreFit, AreOfThreads, cost_of_act, costs_of, own_costs_of, unbacks_of_act, unbacks_of, AllBelow}
-use Rattle.pas_answers.specs.Replays.{phases_of, region_of, threads_of, keepers_of, acts_of_plan}
-use Rattle.pas_acts.proofs.ActsOfPlan.{ArePlanned, are_planned, plan_costs, plan_owns, plan_unbacks, acts_fit, of_threads}
-use Rattle.pas_acts.proofs.NameLimits.{below_all, below_each}
+use Rattle.pas_trace.specs.{Reasons.actors_by, Plans.IsPlanOf, Plans.bounds_of, Plans.ops_of}
+use Rattle.pas_trace.specs.Acts.{Act, MakesPass, Guards, Settles, StopsIdle, act_kept, acts_of_chore, acts_of_work, acts_of}
+use Rattle.pas_trace.specs.Asked.{work_of, of_task, keeper_of, keeper_in, request_of, request_in}
+use Rattle.pas_trace.specs.EveryPlan.{all_ops, asked_after, IsThread, IsActorBy, IsActorOf, IsSoundTask, IsSoundWork, AreSound, AreKept, operations_of, IsKept}
+use Rattle.pas_trace.specs.EveryPlan.{kept_of_work, kept_records}
+use Rattle.pas_trace.specs.declared.plan.{Op.Op, Task.Task, Work.Work, Plan.Plan, Chore.Chore}
+use Rattle.pas_trace.proofs.{EveryPlan.every_plan, EveryPlan.threads_among, EveryPlan.keepers_among, Keepers.plan_actors, Keepers.keepers_few}
+use Rattle.pas_answers.specs.Fit.{KeepsAbove, AreFit, AreOfThreads, cost_of_act, costs_of, own_costs_of, unbacks_of_act, unbacks_of, AllBelow, sum_over}
+use Rattle.pas_answers.specs.Fit.{kept_cost_of, kept_cost_of_act, kept_costs_of}
+use Rattle.pas_answers.specs.Replays.{phases_of, region_of, threads_of, keepers_of, acts_of_plan, empty_cache}
+use Rattle.pas_acts.proofs.ActsOfPlan.{ArePlanned, are_planned, plan_costs, plan_owns, plan_unbacks, acts_fit, of_threads, sum_of_ops, plan_sums_at_most}
+use Rattle.pas_acts.proofs.ActsOfPlan.{free_map}
+use Rattle.pas_answers.proofs.EachAct.{all_any, all_of_chore, all_of_close, all_acts}
+use Rattle.pas_acts.proofs.Naming.{below_all, below_each}
+use Rattle.pas_acts.specs.PlanKeepers.{one_guarded, guarded_of}
+use Rattle.pas_acts.specs.Tries.{tries_of_act, tries_of, IsKeptFor, AreKeptFor}
+use Rattle.pas_steps.specs.Unknown.{unknown_below}
+use Rattle.pas_cache.specs.Locals.{any_covers, any_keeps}
+use Rattle.pas_segregated.specs.declared.slots.Slots.{Slots}
+use Rattle.pas_answers.specs.Calls.{owed_events}
 
 -- ---- the region, which has a place for each keeper
 -- what is said of a plan's operations in its own profile holds in a region of as many actors or more
@@ -138,3 +150,140 @@ plan_total {text} {plan} is =
     let total = (every_plan is).total in
     let same = same_costs plan.profile (actors_by plan.guard plan.profile.threads) (plan_threads plan) (acts_of_plan plan) in
     omega (arith, plan_costs plan.profile (keepers_of plan) (phases_of plan) (plan_planned is), total, same)
+
+-- ---- how many keepers there are
+-- there are as many as threads in a guarded plan, and none in another
+guarded_keepers : (guard threads : ℕ) → guard ≢ 0 → (if guard == 0 then 0 else threads) ≡ threads
+guarded_keepers guard threads some = ap (λ (b : Bool). if b then 0 else threads) (ne_eqb guard 0 some)
+
+-- A plan with a keeper is guarded.
+pub is_guarded : (plan : Plan) → 1 ≤ keepers_of plan → plan.guard ≢ 0
+is_guarded plan some none = let no = ap (λ (guard : ℕ). if guard == 0 then 0 else plan.profile.threads) none in omega (arith, some, no)
+
+-- ---- each guarded request is tried by its thread's keeper
+-- an operation of a plan, whose thread may make it
+abbrev IsPlanned : Profile → ℕ → Op → Type 0
+IsPlanned f guard op = IsActorOf f op.what op.actor × IsKept f guard op
+
+are_both : (f : Profile) (guard : ℕ) (ops : List Op) → ArePlanned f ops → AreKept f guard ops → AllByRecursion (IsPlanned f guard) ops
+are_both f guard [] planned kept = tt
+are_both f guard (op ∷ ops) planned kept = ((planned.0, kept.0), are_both f guard ops planned.1 kept.1)
+
+keeps_task : (f : Profile) (guard : ℕ) (op : Op) (keeper : Option ℕ) → op.actor ≤ f.threads
+    → MatchOption keeper (Unit {0}) (λ k. (k ≡ f.threads + op.actor) × (guard ≢ 0))
+    → AreKeptFor f.threads (if guard == 0 then 0 else f.threads) (act_kept keeper op ∷ (Settles op.actor ∷ []))
+keeps_task f guard op keeper most kept = search (arith, guarded_keepers)
+
+keeps_work : (f : Profile) (guard : ℕ) (idle : List ℕ) (op : Op) (work : Work) → IsActorBy f work op.actor
+    → MatchOption (of_task keeper_of work) (Unit {0}) (λ k. (k ≡ f.threads + op.actor) × (guard ≢ 0))
+    → AreKeptFor f.threads (if guard == 0 then 0 else f.threads) (acts_of_work idle op work)
+keeps_work f guard idle op (Work.Own task) of kept = keeps_task f guard op (keeper_of task) of.1 kept
+keeps_work f guard idle op (Work.Chore chore) of kept = all_of_chore (IsKeptFor f.threads (if guard == 0 then 0 else f.threads)) (λ k. Unit {0}) idle chore (λ epoch. tt) tt tt (λ k n is. tt) (all_any idle)
+
+-- Each guarded act of a plan is tried by its thread's keeper.
+pub plan_keeps : {text : List ℕ} {plan : Plan} → IsPlanOf text plan → AreKeptFor (threads_of plan) (keepers_of plan) (acts_of_plan plan)
+plan_keeps {text} {plan} is =
+    let f = plan.profile in
+    let So = IsKeptFor f.threads (keepers_of plan) in
+    let close = all_of_close So f.threads (keepers_of plan) tt (λ k le. tt) (λ k. tt) in
+    let planned = are_both f plan.guard (all_ops (phases_of plan)) (plan_planned is) (every_plan is).keepers in
+    let kept = λ (idle : List ℕ) (op : Op) (within : AllByRecursion (λ k. k ≤ f.threads) idle) (so : IsPlanned f plan.guard op). keeps_work f plan.guard idle op (work_of op.what) so.0 so.1 in
+    all_acts So (IsPlanned f plan.guard) f.threads (keepers_of plan) kept (λ k le. tt) (λ n. tt) close (phases_of plan) planned
+
+-- ---- what a keeper makes and tries is what its thread asks for
+-- so much for each guarded request of thread k
+abbrev asked_of_act : (Op → ℕ) → ℕ → Act → ℕ
+asked_of_act much k (Guards keeper op) = if op.actor == k then much op else 0
+asked_of_act much k act = 0
+
+its_keeper : (threads actor k keeper : ℕ) → keeper ≡ threads + actor → (keeper == threads + k) ≡ (actor == k)
+its_keeper threads actor k keeper is = search (arith, cases_eq, eq-eqb, ne_eqb)
+
+module _ (much : Op → ℕ) (cost : Act → ℕ) (threads keepers k : ℕ) (same : (act : Act) → IsKeptFor threads keepers act → cost act ≡ asked_of_act much k act)
+  where
+    asked_sum : (acts : List Act) → AreKeptFor threads keepers acts → sum_over cost acts ≡ sum_over (asked_of_act much k) acts
+    asked_sum [] kept = refl
+    asked_sum (act ∷ acts) kept = let one = same act kept.0 in let rest = asked_sum acts kept.1 in omega (arith, one, rest)
+
+kept_same : (threads keepers k : ℕ) (act : Act) → IsKeptFor threads keepers act
+    → kept_cost_of_act (threads + k) act ≡ asked_of_act (λ op. kept_cost_of (request_in op.what)) k act
+kept_same threads keepers k act kept = search (arith, its_keeper)
+
+tries_same : (threads keepers k : ℕ) (act : Act) → IsKeptFor threads keepers act → tries_of_act (threads + k) act ≡ asked_of_act (λ op. 1) k act
+tries_same threads keepers k act kept = search (arith, its_keeper)
+
+-- no more than is counted for each operation of the thread
+if_less : (t : Bool) (a b : ℕ) → a ≤ b → (if t then a else 0) + (0 + 0) ≤ (if t then b else 0)
+if_less t a b less = grind arith
+
+module _ (much most : Op → ℕ) (k : ℕ) (enough : (op : Op) (keeper : ℕ) → keeper_in op.what ≡ Some keeper → much op ≤ most op) where
+  asked_kept : (op : Op) (keeper : Option ℕ) → keeper_in op.what ≡ keeper
+      → sum_over (asked_of_act much k) (act_kept keeper op ∷ (Settles op.actor ∷ [])) ≤ (if op.actor == k then most op else 0)
+  asked_kept op keeper is = search (arith, if_less)
+
+  asked_chore : (idle : List ℕ) (chore : Chore) → sum_over (asked_of_act much k) (acts_of_chore idle chore) ≡ 0
+  asked_chore idle (Chore.Idle n) = let stops = free_map (asked_of_act much k) (λ j. StopsIdle j n) (λ j. refl) idle in omega (arith, stops)
+  asked_chore idle _ = refl
+
+  asked_work : (idle : List ℕ) (op : Op) (work : Work) → work_of op.what ≡ work
+      → sum_over (asked_of_act much k) (acts_of_work idle op work) ≤ (if op.actor == k then most op else 0)
+  asked_work idle op work is = search (arith, asked_kept, asked_chore)
+
+  asked_all : (f : Profile) (keepers : ℕ) (phases : List (List Op)) → ArePlanned f (all_ops phases)
+      → sum_over (asked_of_act much k) (acts_of f.threads keepers phases) ≤ sum_of_ops (λ op. if op.actor == k then most op else 0) (all_ops phases)
+  asked_all f keepers phases planned = search (arith, plan_sums_at_most, asked_work)
+
+-- ---- events
+kept_enough : (work : Work) (keeper : ℕ) → of_task keeper_of work ≡ Some keeper → kept_cost_of (of_task request_of work) ≤ kept_of_work work
+kept_enough work keeper h = grind arith
+
+kept_sum : (k : ℕ) (ops : List Op) → sum_of_ops (λ op. if op.actor == k then kept_of_work (work_of op.what) else 0) ops ≡ kept_records k ops
+kept_sum k [] = refl
+kept_sum k (op ∷ ops) = ap (λ n. (if op.actor == k then kept_of_work (work_of op.what) else 0) + n) (kept_sum k ops)
+
+-- the bound of a keeper suffices for the requests that it tries, and for a deed of each page
+kept_own : {text : List ℕ} {plan : Plan} → IsPlanOf text plan → (k : ℕ) → 1 ≤ k → k ≤ keepers_of plan
+    → (region_of plan).pages + kept_costs_of (threads_of plan + k) (acts_of_plan plan) ≤ slice_index (bounds_of plan.bounds) (threads_of plan + k)
+kept_own {text} {plan} is k some within =
+    let f = plan.profile in
+    let bound = (every_plan is).kept k (is_guarded plan (omega (arith, some, within))) some (omega (arith, within, keepers_few plan)) in
+    let same = asked_sum (λ op. kept_cost_of (request_in op.what)) (kept_cost_of_act (f.threads + k)) f.threads (keepers_of plan) k (kept_same f.threads (keepers_of plan) k) (acts_of_plan plan) (plan_keeps is) in
+    let all = asked_all (λ op. kept_cost_of (request_in op.what)) (λ op. kept_of_work (work_of op.what)) k (λ op keeper asks. kept_enough (work_of op.what) keeper asks) f (keepers_of plan) (phases_of plan) (plan_planned is) in
+    omega (arith, bound, same, all, kept_sum k (all_ops (phases_of plan)))
+
+-- What a keeper may cost, with the region's pages, is within its bound.
+pub plan_kept_own : {text : List ℕ} {plan : Plan} → IsPlanOf text plan → (k : ℕ) → threads_of plan < k → k ≤ (region_of plan).threads
+    → (region_of plan).pages + kept_costs_of k (acts_of_plan plan) ≤ slice_index (bounds_of plan.bounds) k
+plan_kept_own {text} {plan} is k past within =
+    let actors = plan_actors plan in
+    let place : threads_of plan + (k - threads_of plan) ≡ k = omega (arith, past) in
+    subst (λ (n : ℕ). (region_of plan).pages + kept_costs_of n (acts_of_plan plan) ≤ slice_index (bounds_of plan.bounds) n) place (kept_own is (k - threads_of plan) (omega (arith, past)) (omega (arith, past, within, actors)))
+
+-- ---- guards
+guarded_enough : (keeper : Option ℕ) (k : ℕ) → keeper ≡ Some k → 1 ≤ one_guarded keeper
+guarded_enough keeper k h = grind arith
+
+guarded_sum : (k : ℕ) (ops : List Op) → sum_of_ops (λ op. if op.actor == k then one_guarded (keeper_in op.what) else 0) ops ≡ guarded_of k ops
+guarded_sum k [] = refl
+guarded_sum k (op ∷ ops) = ap (λ n. (if op.actor == k then one_guarded (keeper_in op.what) else 0) + n) (guarded_sum k ops)
+
+-- a keeper tries no more requests than its book has places for
+pub plan_tries : {text : List ℕ} {plan : Plan} → IsPlanOf text plan → (k : ℕ)
+    → tries_of (threads_of plan + k) (acts_of_plan plan) ≤ guarded_of k (operations_of plan)
+plan_tries {text} {plan} is k =
+    let f = plan.profile in
+    let same = asked_sum (λ op. 1) (tries_of_act (f.threads + k)) f.threads (keepers_of plan) k (tries_same f.threads (keepers_of plan) k) (acts_of_plan plan) (plan_keeps is) in
+    let all = asked_all (λ op. 1) (λ op. one_guarded (keeper_in op.what)) k (λ op keeper asks. guarded_enough (keeper_in op.what) keeper asks) f (keepers_of plan) (phases_of plan) (plan_planned is) in
+    omega (arith, same, all, guarded_sum k (all_ops (phases_of plan)))
+
+unknown_all : (n : ℕ) → unknown_below n [] ≡ n
+unknown_all zero = refl
+unknown_all (suc n) = let rest = unknown_all n in omega (arith, rest)
+
+-- An actor that did nothing owes as many events as the region has pages.
+pub pages_owed_at_first : (f : Profile) → owed_events f empty_cache [] ≡ f.pages
+pages_owed_at_first f = let all = unknown_all f.pages in omega (arith, all)
+
+-- A cache without local allocators covers no grain and keeps no page.
+pub no_slots : (locals : List Slots) → locals ≡ [] → (g : ℕ) → (any_covers locals g ≡ false) × (any_keeps locals g ≡ false)
+no_slots locals is g = (ap (λ (xs : List Slots). any_covers xs g) is, ap (λ (xs : List Slots). any_keeps xs g) is)

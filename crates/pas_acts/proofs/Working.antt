@@ -13,7 +13,7 @@ use Rattle.pas_trace.specs.Acts.{Act, Settles, act_kept, own_acts}
 use Rattle.pas_answers.specs.{Answers.Progress, Answers.Named, Names.block_named, Names.names_held, Ways.records_by}
 use Rattle.pas_answers.specs.Calls.{MayStand, IsMeant, named_by, freed_by}
 use Rattle.pas_answers.specs.Fit.{IsFitWork, IsFitWhat, AreFit, cost_of_what, own_cost_of_act, own_costs_of}
-use Rattle.pas_answers.proofs.{KnownNames.known_more, Kept.meant_by, Kept.meant_stands, OwnRecords.records_both, Reached.reach_both, SingleActs.known_if}
+use Rattle.pas_answers.proofs.{Kept.known_more, Kept.meant_by, Kept.meant_stands, OwnRecords.records_both, Reached.reach_both, SingleActs.known_if}
 use Rattle.pas_answers.proofs.{SingleActs.sum_both}
 use Rattle.pas_acts.specs.NameBooks.{Table, requests_in, room_for, names_of, name_asked, names_asked, ArePlaced, known_in}
 use Rattle.pas_acts.specs.declared.names.NameBook.{NameBook}
@@ -23,7 +23,7 @@ use Rattle.pas_acts.specs.Works.{Later, Keeps, keeps, KnowsNames, ThreadAt}
 use Rattle.pas_acts.specs.{Turns.RestsAt, AtDesks.here, AtDesks.and_for, AtDesks.MayOperate}
 use Rattle.pas_acts.proofs.AtDesk.{sits_for}
 use Rattle.pas_acts.proofs.Pairing.{head_cost, kept_same, nothing_kept, still_without_keeper, two_both}
-use Rattle.pas_acts.proofs.Places.{names_both, names_count, asked_both, kept_asks, names_named, placed_both, tells_more, stand_more}
+use Rattle.pas_acts.proofs.Noting.{names_both, names_count, asked_both, kept_asks, names_named, placed_both, tells_more, stand_more}
 
 -- ---- an operation's acts
 -- the first of them may be guarded: the thread's part of it goes by the operation alone
@@ -41,8 +41,7 @@ abbrev pub with_acts : ℕ → List Act → Later → Later
 with_acts k next later = record { events = own_costs_of k next + later.events; records = own_costs_of k next + later.records }
 
 -- it rests, with room for them
-thread_rests : {f : Profile} {k : ℕ} {acts : List Act} {σ : Standing} {c : Cached} {known : Table} {out : Records} {later : Later} {p : Progress} (cost : ℕ)
-    (next : List Act)
+thread_rests : {f k acts σ c known out later p : _} (cost : ℕ) (next : List Act)
     → own_costs_of k acts ≡ cost + own_costs_of k next → ThreadAt f k acts σ (keeps c known out) later p
     → RestsAt f k σ c out (and_for cost (with_acts k next later)) p
 thread_rests cost next same at = let spare = at.spare in record { sits = sits_for at.sits (omega (arith, same)); cache = at.cache; spare = omega (arith, spare, same) }
@@ -67,8 +66,7 @@ pub no_chore : (f : Profile) (limit : ℕ) (asked : List ℕ) {work : Work} {cho
 no_chore f limit asked fit is = subst (λ (w : Work). IsFitWork f limit asked w) is fit
 
 -- A thread before an operation may do it, for what its name stands for.
-pub may_operate : {f : Profile} {next : List Act} {σ : Standing} {c : Cached} {known : Table} {out : Records} {later : Later} {p : Progress} {what : What}
-    {meant : Option Block} (op : Op)
+pub may_operate : {f next σ c known out later p what meant : _} (op : Op)
     → op.what ≡ what → Before f op next σ (keeps c known out) later p → meant ≡ freed_by (known_in known.book known.requests) what
     → MayOperate f op.actor op.what meant (here σ c out) (with_acts op.actor next later) p
 may_operate {f} {next} {σ} {c} {known} {out} {later} {p} op asks at freed = let is = freed ∙ ap (freed_by (known_in known.book known.requests)) (sym asks) in record {
@@ -119,10 +117,7 @@ knows_more {f} {next} {known} {known'} {came} {names} op knows kept stands =
     let placed = subst (λ (ns : List ℕ). ArePlaced known.book 0 (names_of rs ++ ns)) asks knows.placed in
     let same = names_kept what kept in
     let now = ap (λ (ns : List ℕ). length ns) asks in
-    let count = names_count rs in
-    let count' = names_count rs' in
     let grown = ap (λ (ns : List ℕ). length ns) same ∙ length-append (names_of rs) (name_asked what) in
-    let both = length-append (name_asked what) (names_asked next) in
     subst (λ (b : NameBook). KnowsNames f next (record { book = b; requests = known'.requests }) (named_by what came ++ names)) (sym kept.book) record {
       asked = asked_after what knows.asked;
       fit = (fit_now f (names_held known.book.names) knows.asked (keeper_in what) op next knows.fit).1;
@@ -130,7 +125,7 @@ knows_more {f} {next} {known} {known'} {came} {names} op knows kept stands =
       stand = λ n. stand_more f rs rs' what came n (block_named known.book.names n) kept.requests stands (knows.stand n);
       known = known_more what came knows.asked names knows.known;
       placed = subst (λ (ns : List ℕ). ArePlaced known.book 0 ns) (sym (ap (λ (ns : List ℕ). ns ++ names_asked next) same ∙ append_assoc (names_of rs) (name_asked what) (names_asked next))) placed;
-      room = omega (arith, knows.room, kept.room, now, count, count', grown, both);
+      room = omega (arith, knows.room, kept.room, now, names_count rs, names_count rs', grown, length-append (name_asked what) (names_asked next));
     }
 
 -- the keeper waits for what comes next
@@ -140,8 +135,7 @@ waits_next : (f : Profile) (keeper : ℕ) (more : LaterKept) (p : Progress) (sai
 waits_next f keeper more p said op next kept kept' q h i j = grind arith
 
 -- An operation that thread and keeper did, and whose request was noted, is work of the pair.
-pub operated : {f : Profile} {keeper : ℕ} {next : List Act} {σ σ' : Standing} {c c' : Cached} {known known' : Table} {what : What} {came : Option Block}
-    {out out' : Records} {kept kept' : Keeping} {later : Later} {more : LaterKept} {p : Progress} (op : Op)
+pub operated : {f keeper next σ σ' c c' known known' what came out out' kept kept' later more p : _} (op : Op)
     → op.what ≡ what
     → PairAt f op.actor keeper (head_acts op ++ next) σ (keeps c known out) kept later more p
     → PairActs f op.actor keeper (head_acts op) (named_by op.what came) (here σ c out) (here σ' c' out') kept kept' (with_acts op.actor next later) (for_guards next more) p
@@ -184,13 +178,10 @@ still_both : (keeper : ℕ) (xs : List Record) (k0 k1 : Keeping) (p q r : Progre
     → KeptStill keeper k1 q r → KeptStill keeper k0 p r
 still_both keeper xs k0 k1 p q r h i j = grind arith
 
-works_both : {f : Profile} {k keeper : ℕ} {xs ys mid next : List Act} {σ0 σ σ' : Standing} {h0 h h' : Keeps} {k0 k1 k2 : Keeping} {later : Later}
-    {more : LaterKept} {p : Progress}
+works_both : {f k keeper xs ys mid next σ0 σ σ' h0 h h' k0 k1 k2 later more p : _}
     → (one : PairWorks f k keeper xs mid σ0 σ h0 h k0 k1 later more p)
     → PairWorks f k keeper ys next σ σ' h h' k1 k2 later more one.reached → PairWorks f k keeper (xs ++ ys) next σ0 σ' h0 h' k0 k2 later more p
 works_both {f} {k} {keeper} {xs} {ys} {mid} {next} {σ0} {σ} {σ'} {h0} {h} {h'} {k0} {k1} {k2} {later} {more} {p} one two =
-    let count = length-append one.said two.said in
-    let cost = sum_both (own_cost_of_act k) xs ys in
     record {
       reached = two.reached;
       reaches = reach_both f xs ys p one.reached two.reached one.reaches two.reaches;
@@ -205,7 +196,7 @@ works_both {f} {k} {keeper} {xs} {ys} {mid} {next} {σ0} {σ} {σ'} {h0} {h} {h'
       book = two.book ∙ one.book;
       noted = simp (two.noted, one.noted, append_assoc, ← asked_both);
       room_noted = two.room_noted ∙ one.room_noted;
-      paid = omega (arith, count, cost, one.paid, two.paid);
+      paid = omega (arith, length-append one.said two.said, sum_both (own_cost_of_act k) xs ys, one.paid, two.paid);
     }
 
 works_none : {f : Profile} {k keeper : ℕ} {acts : List Act} {σ : Standing} {has : Keeps} (kept : Keeping) {later : Later} {more : LaterKept} {p : Progress}
@@ -246,15 +237,13 @@ pub begins : {f : Profile} {k keeper : ℕ} (ops : List Op) {σ : Standing} {has
 begins ops kept at = ([], refl, works_none kept at)
 
 -- the operation is the thread's: it stands before it
-pub stands_before : {f : Profile} {k keeper : ℕ} (ops : List Op) {i : ℕ} {σ0 σ : Standing} {h0 h : Keeps} {k0 k1 : Keeping} {later : Later} {more : LaterKept}
-    {p : Progress} (d : Op)
+pub stands_before : {f k keeper : _} (ops : List Op) {i σ0 σ h0 h k0 k1 later more p : _} (d : Op)
     → i < length ops → (get_or ops i d).actor ≡ k → (so : SoFar f k keeper ops i σ0 σ h0 h k0 k1 later more p)
     → PairAt f (get_or ops i d).actor keeper (head_acts (get_or ops i d) ++ own_acts k (drop (i + 1) ops)) σ h k1 later more so.2.reached
 stands_before {f} {k} {keeper} ops {i} {σ0} {σ} {h0} {h} {k0} {k1} {later} {more} {p} d lt is so = search (arith, own_next)
 
 -- After its own operation a pair did one more.
-pub goes_on : {f : Profile} {k keeper : ℕ} (ops : List Op) {i : ℕ} {σ0 σ σ' : Standing} {h0 h h' : Keeps} {k0 k1 k2 : Keeping} {later : Later}
-    {more : LaterKept} {p : Progress} (d : Op)
+pub goes_on : {f k keeper : _} (ops : List Op) {i σ0 σ σ' h0 h h' k0 k1 k2 later more p : _} (d : Op)
     → i < length ops → (get_or ops i d).actor ≡ k → (so : SoFar f k keeper ops i σ0 σ h0 h k0 k1 later more p)
     → PairWorks f (get_or ops i d).actor keeper (head_acts (get_or ops i d)) (own_acts k (drop (i + 1) ops)) σ σ' h h' k1 k2 later more so.2.reached
     → SoFar f k keeper ops (i + 1) σ0 σ' h0 h' k0 k2 later more p
@@ -265,16 +254,14 @@ goes_on {f} {k} {keeper} ops {i} {σ0} {σ} {σ'} {h0} {h} {h'} {k0} {k1} {k2} {
     (so.0 ++ head_acts op, append_assoc so.0 (head_acts op) rest ∙ ap (λ (acts : List Act). so.0 ++ acts) (sym (own_next k ops i d lt is)) ∙ so.1, works_both so.2 mine)
 
 -- An operation of another actor is skipped.
-pub skips : {f : Profile} {k keeper : ℕ} (ops : List Op) {i : ℕ} {σ0 σ : Standing} {h0 h : Keeps} {k0 k1 : Keeping} {later : Later} {more : LaterKept}
-    {p : Progress} (d : Op)
+pub skips : {f k keeper : _} (ops : List Op) {i σ0 σ h0 h k0 k1 later more p : _} (d : Op)
     → i < length ops → ((get_or ops i d).actor ≡ k → ⊥) → SoFar f k keeper ops i σ0 σ h0 h k0 k1 later more p
     → SoFar f k keeper ops (i + 1) σ0 σ h0 h k0 k1 later more p
 skips {f} {k} {keeper} ops {i} {σ0} {σ} {h0} {h} {k0} {k1} {later} {more} {p} d lt other so =
     subst (λ (acts : List Act). (did : List Act) × (did ++ acts ≡ own_acts k ops) × PairWorks f k keeper did acts σ0 σ h0 h k0 k1 later more p) (own_skip k ops i d lt other) so
 
 -- Once all operations of a phase were passed, a pair did all of its own.
-pub ends : {f : Profile} {k keeper : ℕ} (ops : List Op) {i : ℕ} {σ0 σ : Standing} {h0 h : Keeps} {k0 k1 : Keeping} {later : Later} {more : LaterKept}
-    {p : Progress}
+pub ends : {f k keeper : _} (ops : List Op) {i σ0 σ h0 h k0 k1 later more p : _}
     → length ops ≤ i → SoFar f k keeper ops i σ0 σ h0 h k0 k1 later more p
     → PairWorks f k keeper (own_acts k ops) [] σ0 σ h0 h k0 k1 later more p
 ends {f} {k} {keeper} ops {i} {σ0} {σ} {h0} {h} {k0} {k1} {later} {more} {p} le so =

@@ -1,22 +1,30 @@
--- What frees, flushes and stops promise.
-use Rattle.std.proofs.Common.{◌≡◌, ℕ, ◌+◌, ◌≤◌, ◌++◌, List, [], ◌∷◌, length, Option, Some, None, Result, Ok, Err, inl, inr, refl, ap, sym, ◌∙◌, subst, arith}
-use Rattle.std.proofs.Common.{length-append, nat_le, MatchResult}
-use Rattle.pas_profile.specs.declared.{name.Block.Block, name.Name.Name, profile.Profile.Profile, event.Event.Event, event.FreeFault.FreeFault}
+-- What frees, flushes and stops promise, and how many events their actor owes.
+use Rattle.std.proofs.Common.{◌≡◌, ℕ, ◌+◌, Bool, true, false, List, length, ap, arith, ◌≤◌, ◌++◌, [], ◌∷◌, Option, Some, None, Result, Ok, Err, refl, sym, ◌∙◌}
+use Rattle.std.proofs.Common.{subst, length-append, nat_le}
+use Rattle.pas_free_log.specs.declared.{log.Entry.Entry, noting.EndedRun.EndedRun}
 use Rattle.pas_steps.specs.declared.step.Made.{Made}
 use Rattle.pas_steps.specs.{Views.View, Events.events_by, Agreement.Agreed, Desks.Standing, Desks.CanCall}
+use Rattle.pas_cache.specs.{Changes.EmptiesFull, Caches.Cached, Caches.AtRest}
+use Rattle.pas_cache.proofs.Budget.{emptied_events}
+use Rattle.pas_profile.specs.declared.{name.Block.Block, name.Name.Name, profile.Profile.Profile, event.Event.Event, event.FreeFault.FreeFault}
 use Rattle.pas_steps.proofs.{Called.call_none, Called.call_as, Frames.events_append, Unknown.unknown_no_more}
 use Rattle.pas_trace.specs.Asked.{request_of, cost_of_task}
 use Rattle.pas_trace.specs.declared.plan.{Task.Task, Work.Work, What.TheVariants.Raw}
 use Rattle.pas_report.specs.declared.record.Said.{Said}
-use Rattle.pas_free_log.specs.declared.log.Entry.{Entry}
-use Rattle.pas_cache.specs.Caches.{Cached, AtRest}
 use Rattle.pas_cache.specs.Calls.{TakesEntry, RefusesName, Frees, FlushesLog, StopsCache}
 use Rattle.pas_answers.specs.Answers.{Named, standing_for, said_of_fault, entry_with, IsFreedBy}
 use Rattle.pas_answers.specs.Calls.{what_of, block_behind, owed_events, MayPerform, PerformsMeant, FreesOne}
 use Rattle.pas_answers.specs.Fit.{IsFitTask, IsFitWork, IsFitWhat, cost_of_work}
 use Rattle.pas_answers.specs.Indexes.{IsNamedFor, request_made}
-use Rattle.pas_answers.proofs.{Kept.task_of, OwedEvents.full_events}
-use Rattle.pas_cache.proofs.Budget.{emptied_events}
+use Rattle.pas_answers.proofs.Kept.{task_of}
+
+-- ---- a log is emptied
+-- what is left of the log, and the events of its flush
+pub full_events : (full : Bool) (k : ℕ) (log kept : List Entry) (noted noted' : List EndedRun) (steps : List Made) (v : View)
+    → EmptiesFull full k log kept noted noted' steps → length (events_by k v steps) + length kept ≡ length log
+full_events true k log kept noted noted' steps v empties =
+    omega (arith, emptied_events k log noted noted' steps v empties.0, ap (λ (es : List Entry). length es) empties.1)
+full_events false k log kept noted noted' steps v same = search (arith, same.0, same.1)
 
 -- ---- a free
 -- the events of the flush of a full log, and what is owed with the name in the log
@@ -24,8 +32,7 @@ pub taken_few : (f : Profile) (k : ℕ) (c c' : Cached) (entry : Entry) (steps :
     → length (events_by k v steps) + 0 + owed_events f c' (steps ++ v) ≤ 1 + owed_events f c v
 taken_few f k c c' entry steps v takes agreed =
     let events = full_events (nat_le 64 (length c.log)) k c.log takes.logs.kept c.noted c'.noted steps v takes.logs.emptied in
-    let log = ap (λ (es : List Entry). length es) takes.logs.log_is ∙ length-append takes.logs.kept (entry ∷ []) in
-    omega (arith, events, log, unknown_no_more f steps v agreed)
+    omega (arith, events, ap (λ (es : List Entry). length es) takes.logs.log_is ∙ length-append takes.logs.kept (entry ∷ []), unknown_no_more f steps v agreed)
 
 refused_few : (f : Profile) (k : ℕ) (c c' : Cached) (name : Name) (steps : List Made) (fault : FreeFault) (v : View) → RefusesName f c c' name steps fault
     → length (events_by k v steps) + 1 + owed_events f c' (steps ++ v) ≤ 1 + owed_events f c v
@@ -170,8 +177,7 @@ performs_stop {σ} {σ'} task meant c c' is stops = subst (λ t. PerformsMeant (
   few = λ v rest agreed.
       let events = emptied_events σ.seat.actor c.log c.noted c'.noted stops.flushed v stops.empties in
       let all = ap (λ (es : List Event). length es) (events_append σ.seat.actor stops.stopped stops.flushed v ∙ ap (λ (es : List Event). es ++ events_by σ.seat.actor v stops.flushed) (stops.silent σ.seat.actor (stops.flushed ++ v))) in
-      let none = ap (λ (d : Cached). length d.log) stops.cache in
-      omega (arith, events, all, none, unknown_no_more σ.seat.profile (stops.stopped ++ stops.flushed) v agreed);
+      omega (arith, events, all, ap (λ (d : Cached). length d.log) stops.cache, unknown_no_more σ.seat.profile (stops.stopped ++ stops.flushed) v agreed);
   answered = λ v l stood rest names means known. (
     record {
       flushed = stops.flushed;

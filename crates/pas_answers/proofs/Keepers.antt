@@ -1,14 +1,14 @@
 -- What a keeper's steps and records keep: they are tidy, and each record can be shown.
-use Rattle.std.proofs.Common.{ℕ, ◌+◌, ◌*◌, ◌≤◌, Bool, true, false, ◌||◌, List, [], ◌∷◌, ◌++◌, length, Option, Some, None, Result, refl, ap, sym, ◌∙◌, subst}
-use Rattle.std.proofs.Common.{arith, append_assoc, length-append, MatchOption}
-use Rattle.pas_profile.specs.declared.{event.NoRoom.NoRoom, name.Block.Block, profile.Profile.Profile}
+use Rattle.std.proofs.Common.{ℕ, ◌+◌, ◌*◌, ◌≤◌, Bool, true, false, ◌||◌, List, [], ◌∷◌, ◌++◌, length, Option, Some, None, refl, sym, ◌∙◌, subst, arith}
+use Rattle.std.proofs.Common.{append_assoc, length-append, MatchOption}
+use Rattle.pas_profile.specs.declared.{name.Block.Block, profile.Profile.Profile}
 use Rattle.pas_steps.specs.{Desks.Standing, Events.events_by, Views.View}
 use Rattle.pas_steps.specs.Kinds.{Backing, Giving, LookLife, returning}
 use Rattle.pas_steps.specs.declared.step.Made.{Made}
 use Rattle.pas_trace.specs.declared.item.Request.{Request}
 use Rattle.pas_report.specs.declared.record.Record.{Record}
 use Rattle.pas_report.proofs.Showable.{AreOfRegion}
-use Rattle.pas_cache.specs.{Caches.Cached, Calls.AllocatesPages, Serves.pages_of}
+use Rattle.pas_cache.specs.{Calls.AllocatesPages, Serves.pages_of}
 use Rattle.pas_large.specs.Named.{missed_steps}
 use Rattle.pas_rights.specs.Gives.{give_steps}
 use Rattle.pas_scan.specs.Runs.{large_directory}
@@ -18,7 +18,7 @@ use Rattle.pas_guard.specs.declared.book.Guard.{Guard}
 use Rattle.pas_guard.proofs.Raised.{raised_backs, raised_leaves}
 use Rattle.pas_answers.specs.Answers.{wanted_by, records_of}
 use Rattle.pas_answers.specs.Guarding.{said_of_guard, Tried, try_steps, guarded_steps, IsTried}
-use Rattle.pas_answers.proofs.{Parts.of_front, Shown.EachShown, Shown.each_both, Shown.records_shown}
+use Rattle.pas_answers.proofs.{Reached.of_front, OwnRecords.EachShown, OwnRecords.shown_both, OwnRecords.records_shown}
 use Rattle.pas_answers.proofs.Tidy.{Tidy, tidy_over, tidy_none, tidy_both}
 
 -- ---- tidy
@@ -68,8 +68,8 @@ try_shown f keeper r v guards t is of =
     let raised = of_front f is.raised is.swept (subst (AreOfRegion f) is.steps_are of) in
     let events = records_of (events_by keeper (is.swept ++ v) is.raised) in
     let said = said_of_guard keeper r.name (pages_of (wanted_by f r)) t.block in
-    subst EachShown (sym is.records_are) (each_both is.lowered (events ++ said) (swept_shown false keeper guards is.left is.lowered is.swept is.sweep.swept)
-    (each_both events said (records_shown f keeper is.raised (is.swept ++ v) raised) (guard_shown keeper r.name (pages_of (wanted_by f r)) t.block)))
+    subst EachShown (sym is.records_are) (shown_both is.lowered (events ++ said) (swept_shown false keeper guards is.left is.lowered is.swept is.sweep.swept)
+    (shown_both events said (records_shown f keeper is.raised (is.swept ++ v) raised) (guard_shown keeper r.name (pages_of (wanted_by f r)) t.block)))
 
 -- ---- short
 pub try_short : (f : Profile) (keeper : ℕ) (r : Request) (v : View) (guards : List Guard) (t : Tried) → IsTried f keeper r v guards t
@@ -81,8 +81,7 @@ missed_few None n = omega arith
 missed_few (Some first) n = omega arith
 
 -- A keeper's try and its thread's own request after it make at most as many steps as a guarded request may.
-pub whole_short : {σ σ' : Standing} {tells : Bool} {found : Option ℕ} {c c' : Cached} {answer : Result Block NoRoom} (keeper : ℕ) (r : Request) (v : View)
-    (guards : List Guard) (t : Tried)
+pub whole_short : {σ σ' : Standing} {tells found c c' answer : _} (keeper : ℕ) (r : Request) (v : View) (guards : List Guard) (t : Tried)
     → IsTried σ.seat.profile keeper r v guards t
     → (call : AllocatesPages (wanted_by σ.seat.profile r) found tells c c' σ σ' answer)
     → length t.steps + length call.steps ≤ guarded_steps σ.seat.profile r guards

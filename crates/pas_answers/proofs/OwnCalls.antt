@@ -1,27 +1,120 @@
--- Each keeper's part of the list of a replay is made of whole calls of `raise` and `sweep` with its one book.
-use Rattle.std.proofs.Common.{◌≡◌, ◌≢◌, ℕ, zero, suc, ◌+◌, ◌<◌, ◌≤◌, ◌==◌, Bool, true, false, if◌then◌else◌, inl, inr, List, [], ◌∷◌, ◌++◌, length, Option}
-use Rattle.std.proofs.Common.{Some, None, refl, ap, sym, ◌∙◌, subst, arith, append_assoc, append-nil, map, MatchOption, eq-eqb, ne_eqb}
-use Rattle.std.specs.List.{AllByRecursion, filter}
+-- Whose steps acts make: in each keeper's part of the list of a replay they are whole calls of `raise` and `sweep` with its one book; and where each stage's acts are in
+-- one worker's hands, the list is in the order of the acts.
+use Rattle.std.proofs.Common.{◌≡◌, ◌≢◌, inl, inr, ℕ, false, true≢false, List, [], ◌∷◌, ◌++◌, length, Option, Some, None, refl, sym, ◌∙◌, ap, eq-eqb, arith}
+use Rattle.std.proofs.Common.{length-append, ◌+◌, ◌<◌, ◌≤◌, ◌==◌, Bool, true, if◌then◌else◌, subst, append_assoc, append-nil, MatchOption, ne_eqb}
+use Rattle.std.specs.List.{AllByRecursion}
+use Rattle.pas_profile.specs.declared.{profile.Profile.Profile, name.Block.Block}
+use Rattle.pas_steps.specs.Lists.{Whole, part, Triple, Legal}
+use Rattle.pas_steps.specs.{Desks.made, Desks.triples, Agreement.Agrees, Agreement.Agreed, Views.View}
+use Rattle.pas_steps.specs.declared.step.{Made.Made, Step.TheVariants.Tick}
+use Rattle.pas_steps.proofs.Parts.{part_of_others, part_of_own, each_part}
+use Rattle.pas_core.proofs.{Choosing.steps_by_all, Nexts.agreed_steps}
+use Rattle.pas_trace.specs.Acts.{Act, Operates, Guards, Settles, Ticks, MakesPass, ReadsEpoch, StopsIdle, MarksPhase, Wakes, MarksClose, Ends, Lowers}
+use Rattle.pas_trace.specs.Acts.{operation_in, act_kept, acts_of_work, acts_of}
+use Rattle.pas_trace.specs.{Asked.request_in, Asked.work_of, Asked.keeper_of, EveryPlan.all_ops}
+use Rattle.pas_trace.specs.declared.{item.Request.Request, plan.Op.Op, plan.Chore.Chore, plan.Work.Work}
+use Rattle.pas_answers.specs.{Answers.Progress, Answers.epoch_look, Guarding.after_trying, Answers.wanted_by, Fit.AreOfThreads, Guarding.Tried}
+use Rattle.pas_answers.specs.{Guarding.IsTried}
+use Rattle.pas_answers.specs.Reaching.{AnswersTried, AnswersGuarded, Advances, Reaches, AnswersOp}
+use Rattle.pas_answers.specs.Stages.{Owners, Stage, GoByStages, AreSorted, in_hands}
+use Rattle.pas_guard.proofs.Keepers.{part_both}
+use Rattle.pas_answers.proofs.Reached.{sorted_part}
+use Rattle.pas_answers.proofs.EachAct.{all_any, all_of_chore, all_of_close, all_acts}
 use Rattle.std.proofs.lemmas.Bool.{cases_eq}
 use Rattle.pas_profile.specs.Profiles.{IsValid}
-use Rattle.pas_profile.specs.declared.{name.Block.Block, profile.Profile.Profile}
-use Rattle.pas_profile.proofs.Lists.{all_both}
-use Rattle.pas_steps.specs.{Agreement.Agrees, Agreement.Agreed, Desks.made, Views.View}
-use Rattle.pas_steps.specs.Lists.{Triple, Whole, part, Legal}
-use Rattle.pas_steps.specs.declared.step.{Made.Made, Step.TheVariants.Tick}
-use Rattle.pas_steps.proofs.Parts.{part_of_own, part_of_others, each_part}
-use Rattle.pas_core.proofs.Nexts.{agreed_steps}
-use Rattle.pas_trace.specs.Acts.{Act, Operates, Guards, Settles, Ticks, MakesPass, ReadsEpoch, StopsIdle, MarksPhase, Wakes, MarksClose, Ends, Lowers}
-use Rattle.pas_trace.specs.Acts.{operation_in, is_active, numbers_from, threads_where, active_threads, idle_threads, act_kept, acts_of_chore, acts_of_work}
-use Rattle.pas_trace.specs.Acts.{acts_of_op, acts_of_ops, phase_acts, acts_from, acts_of}
-use Rattle.pas_trace.specs.Asked.{request_in, work_of, keeper_of}
-use Rattle.pas_trace.specs.declared.{item.Request.Request, plan.Chore.Chore, plan.Op.Op, plan.Work.Work}
 use Rattle.pas_guard.specs.Keepers.{Call, MakesCalls, IsKeeper}
 use Rattle.pas_guard.specs.declared.book.Guard.{Guard}
 use Rattle.pas_cache.specs.Serves.{pages_of}
-use Rattle.pas_answers.specs.{Answers.wanted_by, Answers.Progress, Answers.epoch_look, Fit.AreOfThreads, Guarding.Tried, Guarding.IsTried}
-use Rattle.pas_answers.specs.{Guarding.after_trying}
-use Rattle.pas_answers.specs.Reaching.{AnswersOp, AnswersTried, AnswersGuarded, Advances, Reaches}
+
+-- ---- whose steps an act makes
+-- they are of actors in the hands of worker w
+abbrev pub IsHeldBy : Owners → ℕ → Act → Type 0
+IsHeldBy owner w (Operates op) = owner op.actor ≡ w
+IsHeldBy owner w (Guards keeper op) = (owner keeper ≡ w) × (owner op.actor ≡ w)
+IsHeldBy owner w (Settles k) = Unit {0}
+IsHeldBy owner w (Ticks epoch) = owner 0 ≡ w
+IsHeldBy owner w MakesPass = owner 0 ≡ w
+IsHeldBy owner w ReadsEpoch = owner 0 ≡ w
+IsHeldBy owner w (StopsIdle k n) = owner k ≡ w
+IsHeldBy owner w (MarksPhase n) = Unit {0}
+IsHeldBy owner w (Wakes k) = owner k ≡ w
+IsHeldBy owner w MarksClose = Unit {0}
+IsHeldBy owner w (Ends k) = owner k ≡ w
+IsHeldBy owner w (Lowers keeper) = owner keeper ≡ w
+
+abbrev pub AreHeldBy : Owners → ℕ → List Act → Type 0
+AreHeldBy owner w acts = AllByRecursion (IsHeldBy owner w) acts
+
+part_is : (k : ℕ) {p q : Progress} → q ≡ p → part k q.list ≡ part k p.list
+part_is k is = ap (λ (r : Progress). part k r.list) is
+
+-- an actor in another's hands has no step of it
+module _ (f : Profile) (owner : Owners) (w j : ℕ) (other : owner j ≢ w) where
+  apart : (k : ℕ) → owner k ≡ w → k ≢ j
+  apart k its same = other (sym (ap owner same) ∙ its)
+
+  put_by : (k : ℕ) (steps : List Made) (l : Whole) → owner k ≡ w → part j (triples k steps ++ l) ≡ part j l
+  put_by k steps l its = part_of_others j k steps l (apart k its)
+
+  tried_by : (op : Op) (r : Request) (block : Option Block) (p q : Progress) → owner op.actor ≡ w → AnswersTried f op r block p q
+      → part j q.list ≡ part j p.list
+  tried_by op r (Some block) p q its did = part_is j did
+  tried_by op r None p q its did = part_is j did.2 ∙ put_by op.actor did.0.steps p.list its
+
+  guarded_by : (keeper : ℕ) (op : Op) (o : Option Request) (p q : Progress) → owner keeper ≡ w → owner op.actor ≡ w → AnswersGuarded f keeper op o p q
+      → part j q.list ≡ part j p.list
+  guarded_by keeper op None p q kept its did = absurd did
+  guarded_by keeper op (Some r) p q kept its did = tried_by op r did.0.block (after_trying p keeper did.0) q its did.2 ∙ put_by keeper did.0.steps p.list kept
+
+  act_by : (act : Act) (p q : Progress) → IsHeldBy owner w act → Advances f act p q → part j q.list ≡ part j p.list
+  act_by (Operates op) p q its did = part_is j did.2 ∙ put_by op.actor did.0.steps p.list its
+  act_by (Guards keeper op) p q its did = guarded_by keeper op (request_in op.what) p q its.0 its.1 did
+  act_by (Settles k) p q its did = part_is j did
+  act_by (Ticks epoch) p q its did = part_is j did.1 ∙ put_by 0 (made (Tick epoch) did.0 ∷ []) p.list its
+  act_by MakesPass p q its did = part_is j did.4 ∙ put_by 0 did.2 p.list its
+  act_by ReadsEpoch p q its did = part_is j did.1 ∙ put_by 0 (epoch_look did.0) p.list its
+  act_by (StopsIdle k n) p q its did = elim did [ inl so ↦ part_is j so.4 ∙ put_by k so.1 p.list its | inr stays ↦ part_is j stays.1 ]
+  act_by (MarksPhase n) p q its did = part_is j did
+  act_by (Wakes k) p q its did = part_is j did.1 ∙ put_by k (epoch_look did.0) p.list its
+  act_by MarksClose p q its did = part_is j did
+  act_by (Ends k) p q its did = part_is j did.3 ∙ put_by k did.0 p.list its
+  act_by (Lowers keeper) p q its did = part_is j did.3 ∙ put_by keeper did.0 p.list its
+
+  acts_by : (acts : List Act) (p q : Progress) → AreHeldBy owner w acts → Reaches f acts p q → part j q.list ≡ part j p.list
+  acts_by [] p q its is = part_is j is
+  acts_by (act ∷ acts) p q its is = acts_by acts is.0 q its.1 is.2 ∙ act_by act p is.0 its.0 is.1
+
+-- so of what they put in front it has nothing
+nothing_more : (v w : List Made) → v ++ w ≡ w → v ≡ []
+nothing_more [] w is = refl
+nothing_more (m ∷ v) w is = absurd (let n = ap length is in omega (arith, n, length-append v w))
+
+none_of_others : (f : Profile) (owner : Owners) (w : ℕ) (acts : List Act) (p q : Progress) (new : Whole) → AreHeldBy owner w acts → Reaches f acts p q
+    → q.list ≡ new ++ p.list → (k : ℕ) → owner k ≢ w → part k new ≡ []
+none_of_others f owner w acts p q new its is told k other =
+    nothing_more (part k new) (part k p.list) (sym (part_both k new p.list) ∙ (sym (ap (part k) told) ∙ acts_by f owner w k other acts p q its is))
+
+-- ---- stages
+-- lists of one worker's steps alone are the same where they have them in the same order
+same_if_alone : (owner : Owners) (w : ℕ) (one other : Whole) → ((k : ℕ) → owner k ≢ w → part k other ≡ []) → AreSorted owner one other → one ≡ other
+same_if_alone owner w one other none same =
+    sym (steps_by_all (in_hands owner w) one (λ k out. sorted_part owner one other k same ∙ none k (elsewhere k out))) ∙ (same w ∙ steps_by_all (in_hands owner w) other (λ k out. none k (elsewhere k out)))
+  where
+    elsewhere : (k : ℕ) → in_hands owner w k ≡ false → owner k ≢ w
+    elsewhere k out its = true≢false (sym (eq-eqb (owner k) w its) ∙ out)
+
+-- all its acts are in one worker's hands
+abbrev pub IsOneHanded : Stage → Type 0
+IsOneHanded s = (w : ℕ) × AreHeldBy s.owner w s.acts
+
+-- Where each stage has acts in one worker's hands alone, the list is in the order of the acts.
+pub one_handed_list : (f : Profile) (ss : List Stage) (p q : Progress) (before after : Whole) → AllByRecursion IsOneHanded ss → GoByStages f ss p q before after
+    → before ≡ p.list → after ≡ q.list
+one_handed_list f [] p q before after all go same = go.1 ∙ (same ∙ sym (ap (λ (r : Progress). r.list) go.0))
+one_handed_list f (s ∷ ss) p q before after all go same =
+    let d = go.0 in
+    let now = same_if_alone s.owner all.0.0 d.since d.made (none_of_others f s.owner all.0.0 s.acts p d.next d.made all.0.1 d.reaches d.told) d.sorted in
+    one_handed_list f ss d.next q (d.since ++ before) after all.1 go.1 ((λ i. now i ++ same i) ∙ sym d.told)
 
 -- ---- whose steps an act makes beside those of its keeper, if it has one
 -- where a thread's, that one is among so many
@@ -56,53 +149,19 @@ acts_apart n keeper lt [] of up = tt
 acts_apart n keeper lt (act ∷ acts) of up = (act_apart n keeper lt act of.0 up.0, acts_apart n keeper lt acts of.1 up.1)
 
 -- ---- the acts of a plan
-numbers_up : (n k m : ℕ) → k + m ≤ n + 1 → AllByRecursion (λ j. j ≤ n) (numbers_from k m)
-numbers_up n k zero le = tt
-numbers_up n k (suc m) le = (omega (arith, le), numbers_up n (k + 1) m (omega (arith, le)))
-
-one_chosen : (n : ℕ) (t : Bool) (x : ℕ) (xs : List ℕ) → x ≤ n → AllByRecursion (λ j. j ≤ n) xs → AllByRecursion (λ j. j ≤ n) (if t then x ∷ xs else xs)
-one_chosen n true x xs here rest = (here, rest)
-one_chosen n false x xs here rest = rest
-
-chosen_up : (n : ℕ) (chosen : ℕ → Bool) (xs : List ℕ) → AllByRecursion (λ j. j ≤ n) xs → AllByRecursion (λ j. j ≤ n) (filter chosen xs)
-chosen_up n chosen [] all = tt
-chosen_up n chosen (x ∷ xs) all = one_chosen n (chosen x) x (filter chosen xs) all.0 (chosen_up n chosen xs all.1)
-
-where_up : (n : ℕ) (chosen : ℕ → Bool) → AllByRecursion (λ j. j ≤ n) (threads_where chosen n)
-where_up n chosen = chosen_up n chosen (numbers_from 1 n) (numbers_up n 1 n (omega arith))
-
-map_up : (n : ℕ) (to : ℕ → Act) → ((k : ℕ) → k ≤ n → IsUpTo n (to k)) → (ks : List ℕ) → AllByRecursion (λ j. j ≤ n) ks → AllByRecursion (IsUpTo n) (map to ks)
-map_up n to each [] all = tt
-map_up n to each (k ∷ ks) all = (each k all.0, map_up n to each ks all.1)
-
-lowers_up : (n : ℕ) (ks : List ℕ) → AllByRecursion (IsUpTo n) (map Lowers ks)
-lowers_up n [] = tt
-lowers_up n (k ∷ ks) = (tt, lowers_up n ks)
-
 kept_up : (n : ℕ) (keeper : Option ℕ) (op : Op) → AllByRecursion (IsUpTo n) (act_kept keeper op ∷ (Settles op.actor ∷ []))
 kept_up n None op = (tt, (tt, tt))
 kept_up n (Some keeper) op = (tt, (tt, tt))
 
-chore_up : (n : ℕ) (idle : List ℕ) (chore : Chore) → AllByRecursion (λ j. j ≤ n) idle → AllByRecursion (IsUpTo n) (acts_of_chore idle chore)
-chore_up n idle chore all = search (arith, map_up)
-
 work_up : (n : ℕ) (idle : List ℕ) (op : Op) (work : Work) → AllByRecursion (λ j. j ≤ n) idle → AllByRecursion (IsUpTo n) (acts_of_work idle op work)
-work_up n idle op work all = search (arith, kept_up, chore_up)
-
-ops_up : (n : ℕ) (idle : List ℕ) (ops : List Op) → AllByRecursion (λ j. j ≤ n) idle → AllByRecursion (IsUpTo n) (acts_of_ops idle ops)
-ops_up n idle [] all = tt
-ops_up n idle (op ∷ ops) all = all_both (IsUpTo n) (acts_of_op idle op) (acts_of_ops idle ops) (work_up n idle op (work_of op.what) all) (ops_up n idle ops all)
-
-phase_up : (n : ℕ) (ops : List Op) → AllByRecursion (IsUpTo n) (phase_acts n ops)
-phase_up n ops = search (arith, all_both, map_up, where_up, ops_up)
-
-later_up : (n keepers m : ℕ) (phases : List (List Op)) → AllByRecursion (IsUpTo n) (acts_from n keepers m phases)
-later_up n keepers m [] = (tt, all_both (IsUpTo n) (map Ends (numbers_from 1 n)) (map Lowers (numbers_from (n + 1) keepers)) (map_up n Ends (λ k le. le) (numbers_from 1 n) (numbers_up n 1 n (omega arith))) (lowers_up n (numbers_from (n + 1) keepers)))
-later_up n keepers m (phase ∷ phases) = (tt, all_both (IsUpTo n) (phase_acts n phase) (acts_from n keepers (m + 1) phases) (phase_up n phase) (later_up n keepers (m + 1) phases))
+work_up n idle op (Work.Own task) all = kept_up n (keeper_of task) op
+work_up n idle op (Work.Chore chore) all = all_of_chore (IsUpTo n) (λ j. j ≤ n) idle chore (λ epoch. tt) tt tt (λ k m le. le) all
 
 all_up : (n keepers : ℕ) (phases : List (List Op)) → AllByRecursion (IsUpTo n) (acts_of n keepers phases)
-all_up n keepers [] = later_up n keepers 1 []
-all_up n keepers (phase ∷ phases) = (later_up n keepers 1 (phase ∷ phases)).1
+all_up n keepers phases =
+    let close = all_of_close (IsUpTo n) n keepers tt (λ k le. le) (λ k. tt) in
+    let own = λ (idle : List ℕ) (op : Op) (within : AllByRecursion (λ j. j ≤ n) idle) (any : Unit {0}). work_up n idle op (work_of op.what) within in
+    all_acts (IsUpTo n) (λ op. Unit {0}) n keepers own (λ k le. le) (λ m. tt) close phases (all_any (all_ops phases))
 
 -- ---- a keeper's part
 abbrev HasCalls : Profile → ℕ → Progress → Type 0
@@ -216,10 +275,8 @@ pub is_keeper : (f : Profile) (keeper : ℕ) (later newer older : Whole) (give :
     → Legal f (later ++ (newer ++ (give ∷ older))) → give.actor ≡ keeper
     → MakesCalls f keeper calls guards (part keeper (later ++ (newer ++ (give ∷ older)))) → IsKeeper f keeper (part keeper (later ++ (newer ++ (give ∷ older))))
 is_keeper f keeper later newer older give [] guards valid legal own is =
-    let none = ap (λ (v : View). length v) is.1 in
     let here : length (part keeper (give ∷ older)) ≡ length (give.made ∷ part keeper older) = ap (λ (b : Bool). length (if b then give.made ∷ part keeper older else part keeper older)) (eq-eqb give.actor keeper own) in
-    let b = longer keeper later (newer ++ (give ∷ older)) in
-    absurd (omega (arith, none, here, longer keeper newer (give ∷ older), b))
+    absurd (omega (arith, ap (λ (v : View). length v) is.1, here, longer keeper newer (give ∷ older), longer keeper later (newer ++ (give ∷ older))))
 is_keeper f keeper later newer older give (call ∷ calls) guards valid legal own is = record {
   calls = calls;
   guards = is.0;

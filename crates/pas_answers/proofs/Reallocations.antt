@@ -15,10 +15,8 @@ use Rattle.pas_cache.specs.{Caches.Cached, Serves.wanted_for}
 use Rattle.pas_cache.specs.declared.moving.Moved.{Moved, TheVariants.Kept, TheVariants.New}
 use Rattle.pas_answers.specs.Answers.{Named, named as the_name, having, Answer, answer_of, suits, request_for, said_of_room, IsRemadeBy, IsAnswered}
 use Rattle.pas_answers.specs.Calls.{what_of, IsBlockOf, MayStand, IsMeant, IsKnown, owed_events, MayPerform, PerformsMeant}
-use Rattle.pas_answers.specs.{Fit.IsFitWhat, Fit.cost_of_what, Indexes.unless_suited, Indexes.IsNamedFor, Indexes.request_made, Moves.flush_of_full}
-use Rattle.pas_answers.specs.{Moves.MayMove, Moves.Moves}
-use Rattle.pas_answers.proofs.Frees.{fits_task, stands_for, taken_few}
-use Rattle.pas_answers.proofs.Requests.{may_request, named_for, is_given, block_stands}
+use Rattle.pas_answers.specs.{Fit.IsFitWhat, Fit.cost_of_what, Indexes.unless_suited, Indexes.IsNamedFor, Indexes.request_made, Moves.MayMove, Moves.Moves}
+use Rattle.pas_answers.proofs.{Frees.fits_task, Frees.stands_for, Frees.taken_few, Requests.named_for, Requests.is_given, Requests.block_stands}
 
 -- ---- what is asked
 -- the flush of a full log makes an event for each logged name at most
@@ -112,8 +110,7 @@ module _ (σ σ' : Standing) (c c' : Cached) (name n heap size align : ℕ) (old
               let freed = taken_few f k is.between c' (entry_of old.name) is.freed (is.placed ++ v) is.logs (agreed_first f v is.freed is.placed all) in
               let events = ap (λ (ms : List Made). length (events_by k v ms)) is.steps_are ∙ ap length (events_append k is.freed is.placed v) ∙ length-append (events_by k (is.placed ++ v) is.freed) (events_by k v is.placed) in
               let there = ap (λ (ms : List Made). owed_events f c' (ms ++ v)) is.steps_are ∙ ap (λ (u : View). owed_events f c' u) (append_assoc is.freed is.placed v) in
-              let log = ap (λ (es : List Entry). length es) is.same_log in
-              omega (arith, is.few k v rest (agreed_later f v is.freed is.placed all), freed, events, there, log);
+              omega (arith, is.few k v rest (agreed_later f v is.freed is.placed all), freed, events, there, ap (λ (es : List Entry). length es) is.same_log);
           answered = λ v l stood rest names means known.
               let agreed = subst (Agreed f v) is.steps_are (m.calls.adds.agreed v l stood rest) in
               let placed : Answer = answer_of is.placed None is.found (the_name name (Some block) ∷ names) is.between in
@@ -144,8 +141,7 @@ module _ (σ σ' : Standing) (c c' : Cached) (name n heap size align : ℕ) (old
           found = is.found;
           calls = m.calls;
           few = λ v rest agreed.
-              let log = ap (λ (es : List Entry). length es) is.same_log in
-              omega (arith, is.few k v rest agreed, log);
+              omega (arith, is.few k v rest agreed, ap (λ (es : List Entry). length es) is.same_log);
           answered = λ v l stood rest names means known.
               let placed : Answer = answer_of m.steps (Some message) is.found (the_name name None ∷ names) c' in
               by_meant names v placed means known (inr record {
@@ -181,16 +177,14 @@ abbrev pub DoesTask : (σ σ' : Standing) → Task → Option Block → Option B
 DoesTask σ σ' task meant came c c' said Answers Same = (did : PerformsMeant (what_of task) meant came c c' σ σ' said) × IsNamedFor σ.seat.profile Answers Same (request_made (what_of task) meant) did.found
 
 -- A reallocation of the block that a name stands for performs what the task means.
-pub performs_move : {σ σ' : Standing} {task : Task} {name n heap size align : ℕ} {meant came : Option Block} {old : Block} {said : Option Said} (c c' : Cached)
-    (Answers : ℕ → ℕ → Option ℕ → Type 0) (Same : Type 0)
+pub performs_move : {σ σ' task name n heap size align meant came old said : _} (c c' : Cached) (Answers : ℕ → ℕ → Option ℕ → Type 0) (Same : Type 0)
     → task ≡ Task.Remake name n heap size align → meant ≡ Some old
     → DoesTask σ σ' (Task.Remake name n heap size align) (Some old) came c c' said Answers Same → DoesTask σ σ' task meant came c c' said Answers Same
 performs_move {σ} {σ'} {task} {name} {n} {heap} {size} {align} {meant} {came} {old} {said} c c' Answers Same is named did =
     subst (λ (t : Task). DoesTask σ σ' t meant came c c' said Answers Same) (sym is) (subst (λ (o : Option Block). DoesTask σ σ' (Task.Remake name n heap size align) o came c c' said Answers Same) (sym named) did)
 
 -- its own request was refused
-pub performs_no_move : {σ : Standing} {task : Task} {name n heap size align : ℕ} {meant : Option Block} (c : Cached) (Answers : ℕ → ℕ → Option ℕ → Type 0)
-    (Same : Type 0)
+pub performs_no_move : {σ task name n heap size align meant : _} (c : Cached) (Answers : ℕ → ℕ → Option ℕ → Type 0) (Same : Type 0)
     → task ≡ Task.Remake name n heap size align → meant ≡ None → Same
     → DoesTask σ σ task meant None c c (Some (Said.Skipped name)) Answers Same
 performs_no_move {σ} {task} {name} {n} {heap} {size} {align} {meant} c Answers Same is named same =

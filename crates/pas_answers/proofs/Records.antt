@@ -52,9 +52,7 @@ can_rest {σ} c what spare out can = record { view = can.view; whole = can.whole
 
 -- ---- the records
 -- there is room for the events, and for what is said besides
-pub records_fit : {σ σ' : Standing} {said : Option Said} {c' : Cached} {n : ℕ} (what : What) (meant came : Option Block) (c : Cached) (spare : ℕ)
-    (out : Records)
-    (old new : List Event)
+pub records_fit : {σ σ' said c' n : _} (what : What) (meant came : Option Block) (c : Cached) (spare : ℕ) (out : Records) (old new : List Event)
     → (can : CanCall σ (MayAnswer σ.seat.profile c what spare out))
     → PerformsMeant what meant came c c' σ σ' said → IsShown n σ old → IsShown n σ' new
     → length (records_in out) + length (drop (length old) new) + length (said_by σ.seat.actor said) ≤ room_of out
@@ -62,8 +60,7 @@ unfolding can_rest
 records_fit {σ} {σ'} {said} {c'} {n} what meant came c spare out old new can performs before after =
     let rest = can_rest c what spare out can in
     let events = ap (λ (es : List Event). length es) (shown_new performs.calls.adds old new before after can.view can.whole can.stood rest.met) ∙ length-reverse (events_by σ.seat.actor can.view performs.steps) in
-    let few = performs.few can.view can.met.may.rest (performs.calls.adds.agreed can.view can.whole can.stood can.met.may.rest) in
-    omega (arith, events, few, can.met.records)
+    omega (arith, events, performs.few can.view can.met.may.rest (performs.calls.adds.agreed can.view can.whole can.stood can.met.may.rest), can.met.records)
 
 -- .. and room for what is said then
 pub said_fits : {said : Option Said} (k : ℕ) (out pushed : Records) (events : List Event) (message : Said) → said ≡ Some message

@@ -6,8 +6,8 @@ use Rattle.std.specs.List.{AllByRecursion}
 use Rattle.pas_profile.specs.{Directories.IsDirectory, Directories.deed_word_of, Blocks.address_of, Blocks.grain_of, Blocks.length_of, Classes.IsAlignment}
 use Rattle.pas_profile.specs.{Routes.room_by, Routes.IsRouteOf, Requests.route_in, Requests.room_in}
 use Rattle.pas_profile.specs.Profiles.{IsValid, IsAdmitted, IsPage, IsDirectoryOf}
-use Rattle.pas_profile.proofs.{ClassFacts.route_is, ClassFacts.class_known, ClassFacts.class_size_whole, Codecs.same_from_deed_word}
-use Rattle.pas_profile.proofs.{Codecs.directory_from_profile, Codecs.deed_word_of-positive}
+use Rattle.pas_profile.proofs.{ClassFacts.route_is, ClassFacts.class_known, ClassFacts.class_size_whole, Codecs.directory_from_profile}
+use Rattle.pas_profile.proofs.{Codecs.deed_word_of-positive}
 use Rattle.pas_bits.proofs.Runs.{first_of_run}
 use Rattle.pas_bitfit.proofs.Aligned.{sixteens}
 use Rattle.pas_profile.specs.declared.{profile.Profile.Profile, directory.Directory.Directory, event.Event.Event, event.NoRoom.NoRoom, name.Block.Block}
@@ -28,7 +28,6 @@ use Rattle.pas_cache.proofs.Budget.{log_kept}
 use Rattle.pas_cache.specs.Serves.{IsSmallRoute, Wanted, wanted_for, pages_of, IsBlockFor, IsDeedOf, IsSilent, MakesFew, MakesAtMost, MakesDeedsOf}
 use Rattle.pas_answers.specs.Answers.{named as the_name, block_of, said_by, said_of_request, IsGiven, RefusalEnds, RequestEnds}
 use Rattle.pas_answers.specs.{Indexes.IsNamedFor, Indexes.request_made, Fit.cost_of_what}
-use Rattle.pas_report.specs.declared.record.Said.{Said}
 use Rattle.pas_answers.specs.Calls.{what_of, IsBlockOf, MayStand, owed_events, MayPerform, Serves, events_for, PerformsMeant}
 use Rattle.pas_steps.proofs.{Adding.adds_none, Adding.can_call, Unknown.unknown_no_more, Unknown.has_room}
 use Rattle.pas_cache.proofs.Routes.{is_small, is_large, small_may, small_did, none_named, pages_asked}
@@ -67,8 +66,7 @@ small_few : (f : Profile) (w : Wanted) (Meets : View → Type 0) (steps : List M
     → MakesAtMost f Meets (events_for cost answer) steps
 small_few f w Meets steps cost (Ok block) two few of = λ k v met agreed. let paid = (few k v met agreed).paid in omega (arith, paid, two)
 small_few f w Meets steps cost (Err room) two few silent = λ k v met agreed.
-    let none = ap (λ (es : List Event). length es) (silent k v) in
-    omega (arith, none, unknown_no_more f steps v agreed)
+    omega (arith, ap (λ (es : List Event). length es) (silent k v), unknown_no_more f steps v agreed)
 
 serves_small : {σ σ' : Standing} {answer : Result Block NoRoom} {tells : Bool} (c c' : Cached) (heap size align : ℕ) → size ≤ 2048
     → Allocates (wanted_for σ.seat.profile heap size align) tells c c' σ σ' answer
@@ -93,8 +91,7 @@ serves_pages {σ} {σ'} {answer} {found} c c' heap size align large call =
     let f = σ.seat.profile in
     let w = wanted_for f heap size align in
     let route = is_large f.classes size align large in
-    let pages = pages_asked f size align route in
-    let same : cost_of_size size ≡ pages_of w + 1 = omega (arith, large_cost size large, pages) in
+    let same : cost_of_size size ≡ pages_of w + 1 = omega (arith, large_cost size large, pages_asked f size align route) in
     search (arith, most_same, pages_ends, log_kept)
 
 -- by its route
@@ -236,8 +233,7 @@ can_unguarded {σ} {task} {keeper} {name} {heap} {size} {align} c spare is can =
     record { rest = met.rest; room = omega (arith, room, cost) })
 
 -- what answers the request answers the guarded one, which costs more
-pub guarded_performs : {σ σ' : Standing} {c c' : Cached} {name heap size align : ℕ} {meant came : Option Block} {said : Option Said}
-    (Answers : ℕ → ℕ → Option ℕ → Type 0) (Same : Type 0) (keeper : ℕ)
+pub guarded_performs : {σ σ' c c' name heap size align meant came said : _} (Answers : ℕ → ℕ → Option ℕ → Type 0) (Same : Type 0) (keeper : ℕ)
     → (did : PerformsMeant (Alloc name heap size align) meant came c c' σ σ' said)
     × IsNamedFor σ.seat.profile Answers Same (request_made (Alloc name heap size align) meant) did.found
     → (did : PerformsMeant (Guarded keeper name heap size align) meant came c c' σ σ' said)

@@ -44,8 +44,7 @@ records_count es = length-map (reverse es) Record.Event ∙ length-reverse es
 pub few_unbacks : (k epoch : ℕ) (pairs : List (ℕ × Outcome)) → length (unbacks_in k epoch pairs) ≤ length pairs
 few_unbacks k epoch [] = omega arith
 few_unbacks k epoch (x ∷ pairs) =
-    let both = length-append (unback_of k epoch x.0 x.1) (unbacks_in k epoch pairs) in
-    omega (arith, one_unback k epoch x.0 x.1, few_unbacks k epoch pairs, both)
+    omega (arith, one_unback k epoch x.0 x.1, few_unbacks k epoch pairs, length-append (unback_of k epoch x.0 x.1) (unbacks_in k epoch pairs))
 
 -- One look at the epoch leaves an actor that has nothing with nothing.
 pub reads : {σ σ' : Standing} (epoch : ℕ) → Makes σ σ' (Look Word.Epoch) epoch → Calls σ σ' HasNothing (λ v w. HasNothing w) (epoch_look epoch)

@@ -34,8 +34,7 @@ module _ {σ σ' : Standing} (asked answer : ℕ) (makes : Makes σ σ' (Tick as
   }
 
 -- ---- a pass
-pub pass_answered : {σ σ' : Standing} {epoch : ℕ} {found : List (ℕ × Outcome)} (spare spare' actor : ℕ) (listed : List (ℕ × Outcome))
-    (before marked after : List Record)
+pub pass_answered : {σ σ' epoch found : _} (spare spare' actor : ℕ) (listed : List (ℕ × Outcome)) (before marked after : List Record)
     → Passes σ σ' epoch found → spare' + length (unbacks_in σ.seat.actor epoch (reverse found)) ≡ spare
     → actor ≡ σ'.seat.actor → listed ≡ found → marked ≡ before ++ Record.Said actor (Said.Pass epoch) ∷ []
     → after ≡ marked ++ map (λ p. record_of actor epoch p.0 p.1) listed → AnswersPass σ σ' spare spare' found before after

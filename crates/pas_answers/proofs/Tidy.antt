@@ -28,7 +28,7 @@ use Rattle.pas_trace.specs.declared.plan.What.{What}
 use Rattle.pas_report.specs.declared.record.Said.{Said}
 use Rattle.pas_answers.specs.Answers.{Having, Answer, standing_for, entry_with, IsFreed, IsFreedBy, IsRemadeBy, IsStopped, IsAnswered}
 use Rattle.pas_report.proofs.Showable.{AreOfRegion}
-use Rattle.pas_answers.proofs.Parts.{of_front, of_back}
+use Rattle.pas_answers.proofs.Reached.{of_front, of_back}
 use Rattle.pas_bits.proofs.Runs.{to_meet, met_by}
 
 -- ---- tidy views: all steps kept to ends, and nothing is unstamped

@@ -1,14 +1,13 @@
 -- What a keeper's two calls come to for a request that it tries, and at the close.
 use Rattle.std.proofs.Common.{◌≡◌, ℕ, ◌+◌, ◌*◌, ◌/◌, ◌%◌, ◌<◌, ◌≤◌, ◌++◌, Bool, true, false, ◌||◌, List, [], ◌∷◌, length, drop, Option, Some, None, refl, ap}
-use Rattle.std.proofs.Common.{sym, ◌∙◌, subst, arith, append_assoc, append-nil, length-append, true≢false, ◌-◌, ◌^◌, map, reverse, max}
+use Rattle.std.proofs.Common.{sym, ◌∙◌, subst, arith, append_assoc, append-nil, length-append, true≢false, ◌-◌, ◌^◌, map, reverse}
 use Rattle.std.specs.List.{AllByRecursion}
 use Rattle.std.proofs.{lemmas.List.length-map, lemmas.List.length-reverse, lemmas.Option.same_Some, Math.Nat.zero-mod}
 use Rattle.pas_large.proofs.{Outcomes.of_directory, Claims.in_parts, Claims.span_in, Gives.run_is, Gives.back_events, Outcomes.MadeOf}
 use Rattle.pas_guard.proofs.{Raises.fits_find, Raised.raised_backs, Raised.raised_few, Raised.raised_leaves}
 use Rattle.pas_bits.specs.Runs.{in_run}
 use Rattle.pas_bitfit.proofs.Aligned.{stands_aligned}
-use Rattle.pas_profile.specs.{Blocks.address_of, Blocks.grain_of, Blocks.length_of, Classes.IsAlignment, Routes.room_by}
-use Rattle.pas_profile.specs.Requests.{is_shared, kind_of_route, route_in, room_in}
+use Rattle.pas_profile.specs.{Blocks.address_of, Blocks.grain_of, Blocks.length_of, Classes.IsAlignment}
 use Rattle.pas_profile.specs.declared.{directory.Directory.Directory, directory.Route.Route, event.Event.Event, name.Block.Block, profile.Profile.Profile}
 use Rattle.pas_profile.proofs.Lists.{all_both, all_map}
 use Rattle.pas_scan.specs.Runs.{large_directory}
@@ -17,10 +16,10 @@ use Rattle.pas_steps.specs.Desks.{Seat, Standing, CanCall, triples}
 use Rattle.pas_steps.specs.Kinds.{Backing, Only, returning, kind_of, is_in}
 use Rattle.pas_steps.specs.declared.step.{Made.Made, Step.Step, Step.TheVariants.Deed}
 use Rattle.pas_steps.proofs.{Adding.agreed_first, Adding.agreed_later, Apart.no_events, Apart.events_same, Called.call_then, Called.next_call, Events.ComesOf}
-use Rattle.pas_steps.proofs.{Events.comes_of, Events.each_event, Frames.events_append, Kept.knows_still, Past.always_map, Past.always_pair, SpareRoom.Spares}
+use Rattle.pas_steps.proofs.{Events.comes_of, Events.each_event, Frames.events_append, Kept.knows_still, Past.always_pair, SpareRoom.Spares}
 use Rattle.pas_steps.proofs.{SpareRoom.spare_falls, Unknown.unknown_no_more}
 use Rattle.pas_rights.specs.Gives.{give_steps}
-use Rattle.pas_large.specs.{Claims.in_span, Evidence.DeedsOf, Finds.MayFind}
+use Rattle.pas_large.specs.Claims.{in_span}
 use Rattle.pas_trace.specs.Reasons.{cost_of_size}
 use Rattle.pas_trace.specs.declared.item.Request.{Request}
 use Rattle.pas_trace.proofs.Costs.{large_cost}
@@ -29,7 +28,7 @@ use Rattle.pas_report.specs.declared.record.{Record.Record, Said.Said}
 use Rattle.pas_cache.specs.Serves.{Wanted, wanted_for, pages_of, IsPreparing, IsDeedOf}
 use Rattle.pas_cache.proofs.Routes.{is_large, pages_asked}
 use Rattle.pas_guard.specs.{Books.FitsBook, Books.guards_in, Books.size_of_book, Seeks.seeking}
-use Rattle.pas_guard.specs.Raises.{RaiseRoom, RaiseSteps, Raises, IsRaised, guard_of}
+use Rattle.pas_guard.specs.Raises.{RaiseRoom, RaiseSteps, Raises, IsRaised}
 use Rattle.pas_guard.specs.Sweeps.{is_over, sweeping, SweptOne, Swept, SweepSteps, Sweeps}
 use Rattle.pas_guard.specs.declared.book.{Guard.Guard, GuardBook.GuardBook}
 use Rattle.pas_answers.specs.{Answers.wanted_by, Answers.records_of, Answers.IsGiven, Calls.IsBlockOf, Calls.MayStand}
@@ -48,8 +47,7 @@ pub swept_count : (all : Bool) (k : ℕ) (guards kept : List Guard) (said : List
     → length said + length kept ≡ length guards
 swept_count all k [] kept said steps h = let kept_is = ap (λ (gs : List Guard). length gs) h.0 in let said_is = ap (λ (rs : List Record). length rs) h.1 in omega (arith, kept_is, said_is)
 swept_count all k (guard ∷ guards) kept said steps h =
-    let rest = swept_count all k guards h.3 h.4 h.2 h.6 in
-    omega (arith, one_count (all || is_over guard h.0) k guard h.1 kept h.3 said h.4 h.5, rest)
+    omega (arith, one_count (all || is_over guard h.0) k guard h.1 kept h.3 said h.4 h.5, swept_count all k guards h.3 h.4 h.2 h.6)
 
 -- .. and none where all are to go
 all_gone : (k : ℕ) (guards kept : List Guard) (said : List Record) (steps : List Made) → Swept true k guards kept said steps → kept ≡ []
@@ -75,7 +73,6 @@ pub lowers_all : {σ σ' : Standing} {book book' : GuardBook} {out out' : Record
     → size_of_book book' ≡ size_of_book book → LowersAll book book' out out' σ σ'
 lowers_all {σ} {book = book} {book' = book'} s room size =
     let gone = all_gone σ.seat.actor (guards_in book) (guards_in book') s.more s.steps s.sweep.swept in
-    let count = swept_count true σ.seat.actor (guards_in book) (guards_in book') s.more s.steps s.sweep.swept in
     record {
       steps = s.steps;
       said = s.more;
@@ -83,7 +80,7 @@ lowers_all {σ} {book = book} {book' = book'} s room size =
       lowered = λ v met. record { fits = met; sweep = subst (λ (gs : List Guard). SweepSteps σ.seat.profile σ.seat.actor true (guards_in book) gs s.more s.steps) gone s.sweep };
       none = gone;
       added = s.added;
-      few = omega (arith, count);
+      few = omega (arith, swept_count true σ.seat.actor (guards_in book) (guards_in book') s.more s.steps s.sweep.swept);
       room = room;
       size = size;
     }
@@ -159,8 +156,7 @@ module _ (f : Profile) (heap n : ℕ) (guards guards' : List Guard) (steps : Lis
 
     turn_small : (v : View) → Agreed f v steps → block.name.turn < 2 ^ 37
     turn_small v agreed =
-        let turn = ap (λ (b : Block). b.name.turn) up.block_is in
-        omega (arith, turn, (agreed_first f v given is.searched (before_give v agreed)).1.0.turn)
+        omega (arith, ap (λ (b : Block). b.name.turn) up.block_is, (agreed_first f v given is.searched (before_give v agreed)).1.0.turn)
 
     page_is : address_of block.name ≡ (up.first + 1) * 4096
     page_is = ap (λ (b : Block). address_of b.name) up.block_is
@@ -210,8 +206,7 @@ module _ (f : Profile) (heap n : ℕ) (guards guards' : List Guard) (steps : Lis
       let events = ap (λ (es : List Event). length es) (events_are block is k v) in
       let both = length-append (events_by k (is.searched ++ v) is.outcome.backs) (events_by k v is.searched) in
       let backs = back_events k (is.searched ++ v) is.outcome.backs in
-      let most = raised_few is.outcome in
-      omega (arith, is.shows k v (agreed_later f v is.after is.searched all), stays, left, events, both, backs, most)
+      omega (arith, is.shows k v (agreed_later f v is.after is.searched all), stays, left, events, both, backs, raised_few is.outcome)
 
 -- ---- what is asked for
 -- a request for whole pages, by how many
@@ -325,9 +320,8 @@ module _ {σ σ1 σ2 : Standing} (r : Request) (book book1 book2 : GuardBook) (o
       let count = swept_count false k (guards_in book) guards1 s.more s.steps s.sweep.swept in
       let more = guards_more f r.heap n guards1 guards2 u.steps answer raise_so in
       let a = length-append s.more (records_of es ++ guard) in
-      let b = length-append (records_of es) guard in
       let c : length (records_of es) ≡ length es = length-map (reverse es) Record.Event ∙ length-reverse es in
-      omega (arith, few_then v agreed, count, more, one_told answer (pages_of (wanted_by f r)), a, b, c)
+      omega (arith, few_then v agreed, count, more, one_told answer (pages_of (wanted_by f r)), a, length-append (records_of es) guard, c)
 
   is_tried : (v : View) → IsAlignment r.align → FitsBook f (guards_in book) v → Agreed f v steps
       → IsTried f k r v (guards_in book) (record { steps = steps; records = told v; block = answer; guards = guards2 })
@@ -376,8 +370,7 @@ module _ {σ σ1 σ2 : Standing} (r : Request) (book book1 book2 : GuardBook) (o
       let shown = ap (λ (xs : List Event). length xs) (shown_of old new before after v can.whole can.stood can.met.fits) ∙ length-reverse es in
       let few = few_then v (both_agreed v can.whole can.stood can.met.fits) in
       let count = swept_count false k (guards_in book) guards1 s.more s.steps s.sweep.swept in
-      let swept = ap (λ (rs : List Record). length rs) s.added ∙ length-append (records_in out) s.more in
-      omega (arith, shown, few, most_cost answer, count, swept, can.met.records)
+      omega (arith, shown, few, most_cost answer, count, ap (λ (rs : List Record). length rs) s.added ∙ length-append (records_in out) s.more, can.met.records)
 
   -- ---- the answer
   -- the block that was given may be freed

@@ -13,7 +13,8 @@ use Rattle.pas_guard.specs.declared.book.{Guard.Guard, GuardBook.GuardBook}
 use Rattle.pas_free_log.specs.declared.noting.EndedRun.{EndedRun}
 use Rattle.pas_cache.specs.Caches.{Cached, cached}
 use Rattle.pas_cache.specs.declared.cache.ThreadCache.{ThreadCache}
-use Rattle.pas_large.specs.Doors.{Indexes}
+use Rattle.pas_large.specs.Doors.{Indexes, no_ranges}
+use Rattle.pas_answers.specs.{Replays.at_start, Keeping.owed_by_keeper, Keeping.cost_of_try, Reaching.AnswersTried, Reaching.AnswersGuarded, Rests.AreAtRest}
 use Rattle.pas_trace.specs.Acts.{Act, Operates, Guards, Settles, Lowers}
 use Rattle.pas_trace.specs.{Asked.request_in, EveryPlan.asked_after, Reasons.cost_of_size}
 use Rattle.pas_trace.specs.declared.{item.Request.Request, plan.Op.Op}
@@ -22,20 +23,18 @@ use Rattle.pas_answers.specs.Calls.{Tells, MayStand, AreKnown, what_of, named_wi
 use Rattle.pas_answers.specs.Fit.{AreFit, AreOfThreads, cost_of_what, kept_cost_of, kept_costs_of}
 use Rattle.pas_answers.specs.Guarding.{Tried, IsTried, after_trying, after_giving}
 use Rattle.pas_answers.specs.Indexes.{request_by, with_noted, after_operation, after_tried, after_guarded, TriedIsNamedBy, GuardedIsNamedBy, AllAreNamedBy}
-use Rattle.pas_answers.specs.{Keeping.owed_by_keeper, Keeping.cost_of_try, Reaching.AnswersTried, Reaching.AnswersGuarded, Rests.AreAtRest}
 use Rattle.pas_answers.specs.declared.names.Names.{Names}
-use Rattle.pas_answers.proofs.{KnownNames.known_more, SingleActs.its_cache, SingleActs.other_cache, SingleActs.if_same}
+use Rattle.pas_answers.proofs.{Kept.known_more, SingleActs.its_cache, SingleActs.other_cache, SingleActs.if_same, OwnRecords.EachShown, Consequences.acts_shown}
+use Rattle.pas_answers.proofs.{Consequences.tried_shown}
 use Rattle.pas_acts.specs.{Tries.tries_of, Tries.AreKeptFor, Works.Sits, Turns.Moves}
 use Rattle.pas_acts.specs.Keepers.{keeper_has, LaterKept, and_try, KeeperAt, KeeperTries, KeeperLowers}
 use Rattle.pas_acts.proofs.{AtDesk.sits_for, AtDesk.settled_rest, Keeping.other_book}
 use Rattle.pas_replay.specs.declared.seats.Guarded.{Guarded}
-use Rattle.pas_replay.specs.Sessions.{Slots, IsTaken, TakesSeat, task_of, asked_by, Session, session, SoFarAt, HasTried, rests_as, rests, owes_as, owes}
-use Rattle.pas_replay.specs.Sessions.{own_events, ActorStands, records_owed_as, owed_of, owed_by, AreCaches, Replay, Left, Hand, HasNames, IsAt, GoesBy}
+use Rattle.pas_replay.specs.Sessions.{pass_in, Slots, IsTaken, TakesSeat, task_of, asked_by, Session, session, SoFarAt, HasTried, rests_as, rests, owes_as}
+use Rattle.pas_replay.specs.Sessions.{owes, own_events, ActorStands, records_owed_as, owed_of, owed_by, AreCaches, Replay, Left, Hand, HasNames, IsAt, GoesBy}
 use Rattle.pas_replay.specs.Sessions.{HasNamed, upon}
-use Rattle.pas_replay.proofs.Going.{all_rest, rest_first, rest_one, goes_both}
-use Rattle.pas_replay.proofs.Threads.{OthersKept, there_is, set_caches, book_is, place_is, set_books, set_places, still_places, owed_moves, owed_at}
-use Rattle.pas_replay.proofs.Threads.{keeper_owes}
-use Rattle.pas_replay.proofs.Showing.{EachShown, acts_shown, tried_shown}
+use Rattle.pas_replay.proofs.Turns.{all_rest, rest_first, rest_one, goes_both, OthersKept, there_is, set_caches, book_is, place_is, set_books, set_places}
+use Rattle.pas_replay.proofs.Turns.{still_places, owed_moves, owed_at, keeper_owes}
 use Rattle.pas_replay.proofs.Turning.{hand, SitsAs, MovesAs, sits_now, turn, kept_by_moves, either_less, less_events, less_tries, said_more}
 
 -- for how much there is room besides, when keeper k has its turn: for what the acts that are left ask of it, what the others owe, and what all of them cost
@@ -76,8 +75,7 @@ keeper_now {r} {left} {desk0} {desk} {passes0} {passes} {caches} {books} {places
     search arith
 
 -- .. where its last sweep comes next, which costs nothing
-pub keeper_closes : {r : Replay} {desk0 desk : PlainDesk} {passes0 passes : Slots} {caches : List ThreadCache} {books : List GuardBook}
-    {places : ℕ} {indexes : Indexes} {table : Names} {out : Records} {p : Progress} (k i : ℕ) (there : GuardBook) (more : Left)
+pub keeper_closes : {r : Replay} {desk0 desk passes0 passes caches books places indexes table out p : _} (k i : ℕ) (there : GuardBook) (more : Left)
     → k ≡ r.threads + i → 1 ≤ i → i ≤ length books → TakesSeat desk0 desk passes0 passes k
     → there ≡ get_or books (i - 1) there → IsAt r (upon r (Lowers k ∷ []) more) (hand desk0 passes0 caches books places indexes table out) p
     → KeeperAt r.profile k (keeper_has (standing_of desk) there out) (later_kept r k p more) p
@@ -97,11 +95,10 @@ pub record KeeperTurned (r : Replay) (k : ℕ) (acts more : List Act) (there boo
   pub free : (j : ℕ) → own_events r.threads r.profile j more ≤ own_events r.threads r.profile j acts
   pub tries : (j : ℕ) → tries_of j more ≤ tries_of j acts
 
-module _ {r : Replay} {left : Left} {more : List Act} {desk0 desk desk' : PlainDesk} {passes0 passes : Slots} {caches : List ThreadCache}
-    {books : List GuardBook}
-    {places : ℕ} {indexes : Indexes} {table : Names} {out : Records} {p q : Progress} (k i : ℕ) (there book : GuardBook) (place : k ≡ r.threads + i)
-    (some : 1 ≤ i) (most : i ≤ length books)
-    (seat : TakesSeat desk0 desk passes0 passes k) (is : there ≡ get_or books (i - 1) there) (at : IsAt r left (hand desk0 passes0 caches books places indexes table out) p) (x : KeeperTurned r k left.acts more there book desk desk' p q) where
+module _ {r : Replay} {left more desk0 desk desk' passes0 passes caches books places indexes table out p q : _} (k i : ℕ) (there book : GuardBook)
+    (place : k ≡ r.threads + i) (some : 1 ≤ i) (most : i ≤ length books) (seat : TakesSeat desk0 desk passes0 passes k)
+    (is : there ≡ get_or books (i - 1) there) (at : IsAt r left (hand desk0 passes0 caches books places indexes table out) p)
+    (x : KeeperTurned r k left.acts more there book desk desk' p q) where
   past : r.threads < k
   past = omega (arith, place, some)
 
@@ -125,8 +122,7 @@ module _ {r : Replay} {left : Left} {more : List Act} {desk0 desk desk' : PlainD
   -- .. and no more than all owed before
   owed_least : owed_by_keeper r.profile (guards_in there) (part k p.list) ≤ owed_by r.threads r.profile p (r.threads + r.keepers)
   owed_least =
-      let least = owed_at r.threads r.profile p k (r.threads + r.keepers) (omega (arith, past)) within in
-      omega (arith, least, keeper_was)
+      omega (arith, owed_at r.threads r.profile p k (r.threads + r.keepers) (omega (arith, past)) within, keeper_was)
 
   moves_so : MovesAs (nat_le k r.threads) r k desk desk' p q
   moves_so = search (arith, lt-leb)
@@ -150,6 +146,12 @@ keeper_turn zero i there book place some most seat is at x shows reaches names o
 keeper_turn {r} {left} {more} {caches = caches} {books} {p = p} {q} (suc j) i there book place some most seat is at x shows reaches names operate keep written sized spare =
     let f = r.profile in
     let k = suc j in
+    let as_many = length-set books (i - 1) book ∙ at.kept in
+    let their_caches = subst (λ (cs : Caches). AreCaches cs caches) (sym x.caches) at.caches_are in
+    let its_book = ap q.books (sym place) ∙ x.book_is in
+    let their_books = set_books r.threads books i book some most its_book (λ m ne. x.books m (λ e. ne (e ∙ place))) at.books_are in
+    let its_place = subst (λ (m : ℕ). length (guards_in book) + tries_of m more.acts ≤ size_of_book book) place x.place in
+    let their_places = set_places r.threads books i book left.acts more.acts some most its_place x.tries at.books_have in
     turn k (within k i there book place some most seat is at x) seat at record {
       shows = shows;
       reaches = reaches;
@@ -157,25 +159,10 @@ keeper_turn {r} {left} {more} {caches = caches} {books} {p = p} {q} (suc j) i th
       sits = sits_so k i there book place some most seat is at x;
       kept = kept_so k i there book place some most seat is at x;
       free = λ m ne. x.free m;
-    }
-    record {
-      many = at.many;
-      kept = length-set books (i - 1) book ∙ at.kept;
-      operate = operate;
-      keep = keep;
-      room = at.places;
-      names = names;
-      caches_are = subst (λ (cs : Caches). AreCaches cs caches) (sym x.caches) at.caches_are;
-      books_are = set_books r.threads books i book some most (ap q.books (sym place) ∙ x.book_is) (λ m ne. x.books m (λ e. ne (e ∙ place))) at.books_are;
-      books_have = set_places r.threads books i book left.acts more.acts some most (subst (λ (m : ℕ). length (guards_in book) + tries_of m more.acts ≤ size_of_book book) place x.place) x.tries at.books_have;
-      records_are = written;
-      size = sized ∙ at.size;
-      spare = spare;
-    }
+    } (assumption (as_many, their_caches, their_books, their_places, sized ∙ at.size))
 
 -- ---- it lowers all its guards, as the replay closes
-pub lower_turn : {r : Replay} {more : Left} {desk0 desk desk' : PlainDesk} {passes0 passes : Slots} {caches : List ThreadCache} {books : List GuardBook}
-    {places : ℕ} {indexes : Indexes} {table : Names} {out out' : Records} {p : Progress} (k i : ℕ) (there book : GuardBook)
+pub lower_turn : {r : Replay} {more desk0 desk desk' passes0 passes caches books places indexes table out out' p : _} (k i : ℕ) (there book : GuardBook)
     → k ≡ r.threads + i → 1 ≤ i → i ≤ length books → TakesSeat desk0 desk passes0 passes k
     → there ≡ get_or books (i - 1) there → IsAt r (upon r (Lowers k ∷ []) more) (hand desk0 passes0 caches books places indexes table out) p
     → (did : KeeperLowers r.profile k (keeper_has (standing_of desk) there out) (keeper_has (standing_of desk') book out') (later_kept r k p more) p)
@@ -184,24 +171,14 @@ lower_turn {r} {more} {desk0} {desk} {desk'} {indexes = indexes} {table} {out} {
     let f = r.profile in
     let q = did.reached in
     let names = at.names in
-    let turned : KeeperTurned r k (Lowers k ∷ more.acts) more.acts there book desk desk' p q = record {
-      moves = subst (λ (gs : List Guard). Moves k (FitsBook f (guards_in there)) (FitsBook f gs) (standing_of desk) (standing_of desk') p q) (sym did.none) did.moves;
-      sits = did.stands.sits;
-      book_is = did.stands.book;
-      place = did.stands.places;
-      caches = did.caches;
-      books = did.books;
-      free = less_events r.threads f (Lowers k ∷ []) more.acts;
-      tries = less_tries (Lowers k ∷ []) more.acts;
-    } in
+    let turned : KeeperTurned r k (Lowers k ∷ more.acts) more.acts there book desk desk' p q = search (arith, book_is, less_events, less_tries) in
     let then_owed = owed_then k i there book place some most seat is at turned in
     let least = owed_least k i there book place some most seat is at turned in
-    let mine = keeper_was k i there book place some most seat is at turned in
     keeper_turn k i there book place some most seat is at turned (acts_shown f (Lowers k ∷ []) p q did.reaches)
     (λ s rest. goes_both r.threads f indexes (Lowers k ∷ []) more.acts p q s did.reaches (tt, tt) (rest_one r.threads f (Lowers k) p q did.reaches (all_rest at) (rest_first r.threads f more.acts q s rest.0.0 rest.1)) rest)
     (subst (λ (ns : List Named). HasNames f more.acts table ns) (sym did.names) record { asked = names.asked; fit = names.fit; tells = names.tells; stand = names.stand; known = names.known }) at.operate.1 at.keep.1
     (said_more r.told (records_in out) (records_in out') p.records did.said at.records_are did.pushed ∙ sym did.records_are) did.room
-    (omega (arith, then_owed, least, mine, did.stands.spare))
+    (omega (arith, then_owed, least, keeper_was k i there book place some most seat is at turned, did.stands.spare))
 
 -- ---- it tries a guarded request
 -- where its keeper gave no block, its thread answers it from there on as any request
@@ -268,8 +245,7 @@ has_tried_by op k before after None left gave = left refl
 has_tried_by op k before after (Some block) left gave = gave block refl
 
 -- before it does
-pub keeper_may : {r : Replay} {op : Op} {request : Request} {desk0 desk : PlainDesk} {passes0 passes : Slots} {caches : List ThreadCache}
-    {books : List GuardBook} {places : ℕ} {indexes : Indexes} {table : Names} {out : Records} {p : Progress} (k i : ℕ) (there : GuardBook) (more : Left)
+pub keeper_may : {r : Replay} {op request desk0 desk passes0 passes caches books places indexes table out p : _} (k i : ℕ) (there : GuardBook) (more : Left)
     → AsksKeeper k i op request → k ≡ r.threads + i → 1 ≤ i
     → i ≤ length books → TakesSeat desk0 desk passes0 passes k → there ≡ get_or books (i - 1) there
     → IsAt r (upon r (Guards k op ∷ []) more) (hand desk0 passes0 caches books places indexes table out) p
@@ -281,8 +257,7 @@ keeper_may {r} {op} {request} {p = p} k i there more asks place some most seat i
     keeper_now k i there (cost_of_size request.size) (cost_of_size request.size + 2) 1 more place some most seat is (omega (arith, own)) (omega (arith, cost)) (omega (arith, one)) at
 
 -- where it gave no block
-pub left_turn : {r : Replay} {op : Op} {request : Request} {desk0 desk desk' : PlainDesk} {passes0 passes : Slots} {caches : List ThreadCache}
-    {books : List GuardBook} {places : ℕ} {indexes : Indexes} {table : Names} {out out' : Records} {p : Progress} {result : Option Block} (k i : ℕ)
+pub left_turn : {r : Replay} {op request desk0 desk desk' passes0 passes caches books places indexes table out out' p result : _} (k i : ℕ)
     (there book : GuardBook) (more : Left)
     → result ≡ None → AsksKeeper k i op request → k ≡ r.threads + i
     → 1 ≤ i → i ≤ length books → TakesSeat desk0 desk passes0 passes k → there ≡ get_or books (i - 1) there
@@ -294,16 +269,7 @@ left_turn {r} {op} {request} {desk0} {desk} {desk'} {indexes = indexes} {table} 
     let f = r.profile in
     let q = after_trying p k did.tried in
     let names = at.names in
-    let turned : KeeperTurned r k (Guards k op ∷ more.acts) (Operates op ∷ more.acts) there book desk desk' p q = record {
-      moves = did.moves;
-      sits = sits_for did.stands.sits (omega arith);
-      book_is = did.stands.book;
-      place = omega (arith, did.stands.places);
-      caches = refl;
-      books = λ j ne. other_book p.books k j did.tried.guards ne;
-      free = thread_events r.threads f k op more.acts;
-      tries = λ j. omega arith;
-    } in
+    let turned : KeeperTurned r k (Guards k op ∷ more.acts) (Operates op ∷ more.acts) there book desk desk' p q = search (arith, book_is, thread_events) in
     let change = owed_then k i there book place some most seat is at turned in
     let cost = ap (λ (b : Option Block). cost_of_try request.size b) none in
     let longer = ap (λ (rs : List Record). length rs) did.pushed ∙ length-append (records_in out) did.tried.records in
@@ -313,9 +279,8 @@ left_turn {r} {op} {request} {desk0} {desk} {desk'} {indexes = indexes} {table} 
     (said_more r.told (records_in out) (records_in out') p.records did.tried.records at.records_are did.pushed) did.room (omega (arith, change, did.paid, cost, longer, did.room, at.spare))
 
 -- where it gave this block, once the table has it
-pub gave_turn : {r : Replay} {more : Left} {op : Op} {request : Request} {desk0 desk desk' : PlainDesk} {passes0 passes : Slots} {caches : List ThreadCache}
-    {books : List GuardBook} {places : ℕ} {indexes : Indexes} {table : Names} {out out' : Records} {p : Progress} {result : Option Block} {block : Block}
-    (k i : ℕ) (there book : GuardBook) (table' : Names)
+pub gave_turn : {r : Replay} {more op request desk0 desk desk' passes0 passes caches books places indexes table out out' p result block : _} (k i : ℕ)
+    (there book : GuardBook) (table' : Names)
     → result ≡ Some block → AsksKeeper k i op request → k ≡ r.threads + i → 1 ≤ i → i ≤ length books → TakesSeat desk0 desk passes0 passes k
     → there ≡ get_or books (i - 1) there → IsAt r (upon r (Guards k op ∷ []) more) (hand desk0 passes0 caches books places indexes table out) p
     → (did : KeeperTries r.profile k request result (keeper_has (standing_of desk) there out) (keeper_has (standing_of desk') book out') (later_kept r k p more) p)
@@ -327,16 +292,13 @@ gave_turn {r} {more} {op} {request} {desk0} {desk} {desk'} {indexes = indexes} {
     let midway = after_trying p k did.tried in
     let q = after_giving midway request.name block in
     let names = at.names in
-    let turned : KeeperTurned r k (Guards k op ∷ more.acts) more.acts there book desk desk' p q = record {
-      moves = record { steps = did.moves.steps; list_is = did.moves.list_is; calls = did.moves.calls };
-      sits = did.stands.sits;
-      book_is = did.stands.book;
-      place = did.stands.places;
-      caches = refl;
-      books = λ j ne. other_book p.books k j did.tried.guards ne;
-      free = less_events r.threads f (Guards k op ∷ []) more.acts;
-      tries = less_tries (Guards k op ∷ []) more.acts;
-    } in
+    let moves : Moves k (FitsBook f (guards_in there)) (FitsBook f (guards_in book)) (standing_of desk) (standing_of desk') p q
+    = record { steps = did.moves.steps; list_is = did.moves.list_is; calls = did.moves.calls } in
+    let caches : q.caches ≡ p.caches = refl in
+    let books : (j : ℕ) → j ≢ k → q.books j ≡ p.books j = λ j ne. other_book p.books k j did.tried.guards ne in
+    let fewer = less_events r.threads f (Guards k op ∷ []) more.acts in
+    let turned : KeeperTurned r k (Guards k op ∷ more.acts) more.acts there book desk desk' p q
+    = assumption (moves, did.stands.sits, did.stands.book, did.stands.places, caches, books, fewer, less_tries (Guards k op ∷ []) more.acts) in
     let change = owed_then k i there book place some most seat is at turned in
     let least = owed_least k i there book place some most seat is at turned in
     let mine = keeper_was k i there book place some most seat is at turned in
@@ -383,8 +345,7 @@ module _ (threads : ℕ) (f : Profile) (p : Progress) (k : ℕ) where
   owed_then_by zero = refl
   owed_then_by (suc n) =
       let this = same_of (λ j c. records_owed_as (nat_le (suc n) threads) f c (p.books (suc n)) (part (suc n) p.list)) (λ c j. owed_settled f (nat_le (suc n) threads) c (p.books (suc n)) (part (suc n) p.list)) (suc n) in
-      let rest = owed_then_by n in
-      omega (arith, this, rest)
+      omega (arith, this, owed_then_by n)
 
   stands_then : {j : ℕ} {slot : Option PlainPass} (more : List Act) → ActorStands threads f j p slot (Settles k ∷ more) → ActorStands threads f j then slot more
   stands_then {j} more st =
@@ -402,28 +363,13 @@ settle_turn {r} {more} {h} {p} k there cache some most is now at =
     let q = after_settling p k in
     let names = at.names in
     let was = there_is p.caches h.caches k there some most at.caches_are is in
-    let owed = owed_then_by r.threads f p k (r.threads + r.keepers) in
-    record {
-      profile_is = at.profile_is;
-      actors = at.actors;
-      many = length-set h.caches (k - 1) cache ∙ at.many;
-      kept = at.kept;
-      threads = at.threads;
-      operate = at.operate.1;
-      keep = at.keep.1;
-      places = at.places;
-      stands = at.stands;
-      each = λ j le. stands_then r.threads f p k more.acts (at.each j le);
-      nobody = at.nobody;
-      names = record { asked = names.asked; fit = names.fit; tells = names.tells; stand = names.stand; known = names.known };
-      caches_are = set_caches h.caches k cache some most (its_cache p.caches k (settled (p.caches k)) ∙ ap settled was ∙ sym now) (λ j ne. other_cache p.caches k j (settled (p.caches k)) ne) at.caches_are;
-      books_are = at.books_are;
-      books_have = still_places r.threads h.books (Settles k ∷ more.acts) more.acts (less_tries (Settles k ∷ []) more.acts) at.books_have;
-      records_are = at.records_are;
-      shown = at.shown;
-      size = at.size;
-      spare = omega (arith, at.spare, owed);
-      answers = λ s rest.
-          let left = subst (λ (runs : List EndedRun). GoesBy r.threads f (with_noted h.indexes runs) more.acts q s) (ap (λ (c : Cached). c.noted) (sym was)) rest in
-          at.answers s (((q, refl, left.0.0), (tt, left.0.1)), (all_rest at, left.1));
-    }
+    let each : (j : ℕ) → j ≤ f.threads → ActorStands r.threads f j q (pass_in h.passes j) more.acts = λ j le. stands_then r.threads f p k more.acts (at.each j le) in
+    let known : HasNames f more.acts h.table q.names = record { asked = names.asked; fit = names.fit; tells = names.tells; stand = names.stand; known = names.known } in
+    let their = set_caches h.caches k cache some most (its_cache p.caches k (settled (p.caches k)) ∙ ap settled was ∙ sym now) (λ j ne. other_cache p.caches k j (settled (p.caches k)) ne) at.caches_are in
+    let books = still_places r.threads h.books (Settles k ∷ more.acts) more.acts (less_tries (Settles k ∷ []) more.acts) at.books_have in
+    let spare : length (records_in h.out) + (owed_by r.threads f q (r.threads + r.keepers) + more.room) ≤ room_of h.out = omega (arith, at.spare, owed_then_by r.threads f p k (r.threads + r.keepers)) in
+    let answers : (s : Progress) → GoesBy r.threads f (with_noted h.indexes (cached there).noted) more.acts q s → GoesBy r.threads f (no_ranges f.heaps) r.acts at_start s
+    = λ s rest.
+    let left = subst (λ (runs : List EndedRun). GoesBy r.threads f (with_noted h.indexes runs) more.acts q s) (ap (λ (c : Cached). c.noted) (sym was)) rest in
+    at.answers s (((q, refl, left.0.0), (tt, left.0.1)), (all_rest at, left.1)) in
+    assumption (length-set h.caches (k - 1) cache ∙ at.many, at.operate.1, at.keep.1, their, books)

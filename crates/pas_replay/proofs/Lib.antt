@@ -1,15 +1,8 @@
 mod Turns
-mod Threads
-mod Going
 mod Turning
 mod ByActors
 mod Keepers
-mod ActsInOrder
-mod Opening
+mod InOrder
 mod StartAndEnd
 mod PlansOfOne
-mod RecordsOfOne
-mod Doors
-mod Showing
 mod Owed
-mod HandedOn

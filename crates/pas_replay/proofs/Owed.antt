@@ -1,7 +1,6 @@
 -- How much actors at rest owe at most, and what an operation costs at most.
-use Rattle.std.proofs.Common.{◌≡◌, ◌≢◌, ℕ, zero, suc, ◌+◌, ◌*◌, ◌/◌, ◌<◌, ◌≤◌, nat_le, ◌==◌, Bool, true, false, ◌||◌, if◌then◌else◌, inl, inr, List, [], ◌∷◌}
-use Rattle.std.proofs.Common.{◌++◌, length, Option, None, Some, not, refl, ap, sym, ◌∙◌, subst, arith, le-leb}
-use Rattle.std.specs.List.{filter}
+use Rattle.std.proofs.Common.{◌≡◌, ◌≢◌, ℕ, zero, suc, ◌+◌, ◌*◌, ◌/◌, ◌<◌, ◌≤◌, nat_le, ◌==◌, Bool, false, ◌||◌, if◌then◌else◌, inl, inr, List, [], ◌∷◌, ◌++◌}
+use Rattle.std.proofs.Common.{length, Option, None, Some, not, refl, ap, sym, ◌∙◌, subst, arith, le-leb}
 use Rattle.std.proofs.lemmas.Bool.{cases_eq, cases_lt, eqb-false, lt-leb}
 use Rattle.std.proofs.Math.Nat.{suc-mul}
 use Rattle.pas_profile.specs.declared.{profile.Profile.Profile, directory.Kind.Kind}
@@ -11,16 +10,17 @@ use Rattle.pas_bits.specs.declared.mask.Mask4.{Mask4}
 use Rattle.pas_steps.specs.{Lists.part, Views.View, Views.known_deed, Unknown.unknown_below, Unknown.unknown_here, Unknown.unknown_pages}
 use Rattle.pas_guard.specs.Books.{AreApart, Each, FitsBook, IsGuardOf, KnowsGuard, is_outer, is_outer_of}
 use Rattle.pas_guard.specs.declared.book.Guard.{Guard}
-use Rattle.pas_trace.specs.{Asked.work_of, Asked.keeper_of, Asked.cost_of_task, EveryPlan.IsSoundTask, Reasons.cost_of_size}
+use Rattle.pas_trace.specs.{Asked.work_of, Asked.keeper_of, Asked.cost_of_task, EveryPlan.IsSoundTask, Reasons.cost_of_size, EveryPlan.records_of_work}
 use Rattle.pas_trace.specs.declared.plan.{Chore.Chore, Op.Op, Task.Task, Work.Work}
-use Rattle.pas_trace.specs.Acts.{Act, Settles, act_kept, acts_of_work, acts_of_op, idle_stops, numbers_from}
-use Rattle.pas_trace.proofs.ThreadsInOrder.{numbers_count}
-use Rattle.pas_answers.specs.Fit.{AreFit, IsFitWork, IsFitWhat, cost_of_what, cost_of_work, costs_of}
+use Rattle.pas_trace.specs.Acts.{Act, Settles, act_kept, acts_of_work, acts_of_op, numbers_from}
+use Rattle.pas_trace.proofs.{ThreadsInOrder.numbers_count, Costs.large_cost, Costs.small_cost}
+use Rattle.pas_answers.specs.Fit.{AreFit, IsFitWork, IsFitWhat, costs_of}
 use Rattle.pas_answers.specs.Answers.{Progress}
 use Rattle.pas_acts.specs.Awake.{idle_in}
 use Rattle.pas_replay.specs.Sessions.{Replay, Left, Hand, IsAt, owed_by}
 use Rattle.pas_replay.specs.Taking.{dearest}
-use Rattle.pas_replay.proofs.{Going.all_rest, Threads.keeper_owes, Threads.thread_owes}
+use Rattle.pas_acts.proofs.ActsOfPlan.{chosen_few, work_costs}
+use Rattle.pas_replay.proofs.Turns.{all_rest, keeper_owes, thread_owes}
 
 -- ---- guards, and pages whose deed isn't known
 abbrev one_if : Bool → ℕ
@@ -58,16 +58,11 @@ one_page f n (guard ∷ guards) v apart knows = elim (cases_eq guard.low (suc n)
   | inl here ↦
       let none = none_there n guards (subst (λ (page : ℕ). is_outer guards page ≡ false) here apart.0) in
       let known : known_deed v (suc n) ≢ 0 = subst (λ (page : ℕ). known_deed v page ≢ 0) here (λ is. deed_word_of-positive (record { heap = guard.block.heap; kind = Kind.Large }) (sym knows.0.low ∙ is)) in
-      let here_none = known_here (known_deed v (suc n)) known in
       let first = le-leb guard.low (suc n) (omega (arith, here)) in
       let before = lt-leb guard.low n (omega (arith, here)) in
-      let now = ap one_if first in
-      let was = ap one_if before in
-      omega (arith, none, here_none, now, was)
+      omega (arith, none, known_here (known_deed v (suc n)) known, ap one_if first, ap one_if before)
   | inr other ↦
-      let same = ap one_if (within_same guard.low n other) in
-      let rest = one_page f n guards v apart.2 knows.1 in
-      omega (arith, same, rest)
+      omega (arith, ap one_if (within_same guard.low n other), one_page f n guards v apart.2 knows.1)
 ]
   where
     known_here : (deed : ℕ) → deed ≢ 0 → unknown_here deed ≡ 0
@@ -80,27 +75,19 @@ within_pages f zero guards v apart of knows = let none = none_at_first guards of
     none_at_first : (gs : List Guard) → Each (IsGuardOf f) gs → low_within 0 gs ≡ 0
     none_at_first [] each = refl
     none_at_first (g ∷ gs) each =
-        let first = ap one_if (lt-leb g.low 0 (omega (arith, each.0.low.0))) in
-        let rest = none_at_first gs each.1 in
-        omega (arith, first, rest)
+        omega (arith, ap one_if (lt-leb g.low 0 (omega (arith, each.0.low.0))), none_at_first gs each.1)
 within_pages f (suc n) guards v apart of knows =
-    let here = one_page f n guards v apart knows in
-    let below = within_pages f n guards v apart of knows in
-    omega (arith, here, below)
+    omega (arith, one_page f n guards v apart knows, within_pages f n guards v apart of knows)
 
 all_within : (f : Profile) (guards : List Guard) → Each (IsGuardOf f) guards → low_within f.pages guards ≡ length guards
 all_within f [] of = refl
 all_within f (guard ∷ guards) of =
-    let first = ap one_if (le-leb guard.low f.pages of.0.low.1) in
-    let rest = all_within f guards of.1 in
-    omega (arith, first, rest)
+    omega (arith, ap one_if (le-leb guard.low f.pages of.0.low.1), all_within f guards of.1)
 
 -- A keeper owes at most a record for each page: it knows the deeds of the pages at its guards.
 keeper_owes_few : (f : Profile) (guards : List Guard) (v : View) → FitsBook f guards v → unknown_pages f v + length guards ≤ f.pages
 keeper_owes_few f guards v fits =
-    let within = within_pages f f.pages guards v fits.apart fits.of_region fits.knows in
-    let all = all_within f guards fits.of_region in
-    omega (arith, within, all)
+    omega (arith, within_pages f f.pages guards v fits.apart fits.of_region fits.knows, all_within f guards fits.of_region)
 
 unknown_few : (n : ℕ) (v : View) → unknown_below n v ≤ n
 unknown_few zero v = omega arith
@@ -119,28 +106,21 @@ owed_most {r} {p = p} at (suc n) most =
     let rest = owed_most at n (omega (arith, most)) in
     let more = suc-mul n (f.pages + 64) in
     let all = all_rest at in
-    let threads = at.threads in
     elim (cases_lt r.threads k) [
       | inl past ↦
           let this = keeper_owes r.threads f p k past in
-          let few = keeper_owes_few f (p.books k) (part k p.list) (all.keeping k (past, omega (arith, most, threads))) in
-          omega (arith, rest, more, this, few)
+          omega (arith, rest, more, this, keeper_owes_few f (p.books k) (part k p.list) (all.keeping k (past, omega (arith, most, at.threads))))
       | inr within ↦
-          let this = thread_owes r.threads f p k (omega (arith, within)) in
           let few = (all.working k (omega arith, omega (arith, within))).few_entries in
-          let pages = unknown_few f.pages (part k p.list) in
-          omega (arith, rest, more, this, few, pages)
+          omega (arith, rest, more, thread_owes r.threads f p k (omega (arith, within)), few, unknown_few f.pages (part k p.list))
     ]
 
 -- ---- what an operation costs
 size_costs : (pages size : ℕ) → size ≤ pages * 4096 → cost_of_size size ≤ pages + 2
-size_costs pages size within = elim (cases_lt 2048 size) [
-  | inl large ↦ let is = ap (λ (t : Bool). if t then 2 else 1 + (size + 4095) / 4096) (lt-leb size 2048 large) in omega (arith, is, within)
-  | inr small ↦ let is = ap (λ (t : Bool). if t then 2 else 1 + (size + 4095) / 4096) (le-leb size 2048 (omega (arith, small))) in omega (arith, is)
-]
+size_costs pages size within = elim (cases_lt 2048 size) [ inl large ↦ omega (arith, within, large_cost size large) | inr small ↦ omega (arith, small_cost size small) ]
 
 large_costs : (pages size : ℕ) → size ≤ pages * 4096 → 2048 < size → cost_of_size size ≤ pages + 1
-large_costs pages size within large = let is = ap (λ (t : Bool). if t then 2 else 1 + (size + 4095) / 4096) (lt-leb size 2048 large) in omega (arith, is, within)
+large_costs pages size within large = omega (arith, within, large_cost size large)
 
 task_costs : (f : Profile) (asked : List ℕ) (task : Task) → IsSoundTask f asked task → cost_of_task task ≤ f.pages + 3
 task_costs f asked (Task.Request name heap size align) sound = let cost = size_costs f.pages size sound.0.within in omega (arith, cost)
@@ -151,43 +131,28 @@ task_costs f asked (Task.Remake name old heap size align) sound = let cost = siz
 task_costs f asked Task.Flush sound = omega arith
 task_costs f asked Task.Stop sound = omega arith
 
--- that of a thread is the same whether its guard is kept or not
-kept_costs : (f : Profile) (o : Option ℕ) (op : Op) → costs_of f (act_kept o op ∷ (Settles op.actor ∷ [])) ≡ cost_of_what op.what
-kept_costs f None op = omega arith
-kept_costs f (Some keeper) op = omega arith
-
 kept_fit : (f : Profile) (limit : ℕ) (asked : List ℕ) (o : Option ℕ) (op : Op) (more : List Act) → AreFit f limit asked (act_kept o op ∷ more)
     → IsFitWhat f limit asked op.what
 kept_fit f limit asked None op more fit = fit.1
 kept_fit f limit asked (Some keeper) op more fit = fit.3
 
-one_stop : (f : Profile) (n k m : ℕ) (b : Bool) (ks : List ℕ) → costs_of f (idle_stops n ks) ≤ m → costs_of f (idle_stops n (if b then k ∷ ks else ks)) ≤ suc m
-one_stop f n k m true ks few = omega (arith, few)
-one_stop f n k m false ks few = omega (arith, few)
-
-stops_cost : (f : Profile) (n : ℕ) (chosen : ℕ → Bool) (ks : List ℕ) → costs_of f (idle_stops n (filter chosen ks)) ≤ length ks
-stops_cost f n chosen [] = omega arith
-stops_cost f n chosen (k ∷ ks) = one_stop f n k (length ks) (chosen k) (filter chosen ks) (stops_cost f n chosen ks)
-
-work_costs : (f : Profile) (threads limit : ℕ) (asked : List ℕ) (awake : Mask4) (op : Op) (work : Work) (more : List Act) → work_of op.what ≡ work
-    → threads ≤ f.threads
-    → AreFit f limit asked (acts_of_work (idle_in awake threads) op work ++ more) → costs_of f (acts_of_work (idle_in awake threads) op work) ≤ dearest f
-work_costs f threads limit asked awake op (Work.Own task) more is within fit =
+cheap_work : (f : Profile) (limit : ℕ) (asked idle : List ℕ) (op : Op) (work : Work) (more : List Act) → work_of op.what ≡ work
+    → AreFit f limit asked (acts_of_work idle op work ++ more) → records_of_work f work ≤ dearest f
+cheap_work f limit asked idle op (Work.Own task) more is fit =
     let fits = subst (λ (w : Work). IsFitWork f limit asked w) is (kept_fit f limit asked (keeper_of task) op (Settles op.actor ∷ more) fit) in
-    let cost = kept_costs f (keeper_of task) op ∙ ap cost_of_work is in
-    let most = task_costs f asked task fits.1 in
-    omega (arith, cost, most)
-work_costs f threads limit asked awake op (Work.Chore (Chore.Tick epoch)) more is within fit = omega arith
-work_costs f threads limit asked awake op (Work.Chore Chore.Pass) more is within fit = omega arith
-work_costs f threads limit asked awake op (Work.Chore (Chore.Idle n)) more is within fit =
-    let stops = stops_cost f n (λ k. not (is_set awake k)) (numbers_from 1 threads) in
-    let count = numbers_count 1 threads in
-    omega (arith, stops, count, within)
+    omega (arith, task_costs f asked task fits.1)
+cheap_work f limit asked idle op (Work.Chore (Chore.Tick epoch)) more is fit = omega arith
+cheap_work f limit asked idle op (Work.Chore Chore.Pass) more is fit = omega arith
+cheap_work f limit asked idle op (Work.Chore (Chore.Idle n)) more is fit = omega arith
 
 -- No operation that comes next costs more than the dearest.
 pub op_costs : {r : Replay} {h : Hand} {p : Progress} {room : ℕ} (awake : Mask4) (op : Op) (more : List Act)
     → IsAt r (record { acts = acts_of_op (idle_in awake r.threads) op ++ more; room = room }) h p
     → costs_of r.profile (acts_of_op (idle_in awake r.threads) op) ≤ dearest r.profile
 op_costs {r} {h} awake op more at =
-    let threads = at.threads in
-    work_costs r.profile r.threads _ at.names.asked awake op (work_of op.what) more refl (omega (arith, threads)) at.names.fit
+    let f = r.profile in
+    let idle = idle_in awake r.threads in
+    let few = chosen_few (λ k. not (is_set awake k)) (numbers_from 1 r.threads) in
+    let cost = work_costs f idle op (work_of op.what) refl (omega (arith, few, numbers_count 1 r.threads, at.threads)) in
+    let cheap : records_of_work f (work_of op.what) ≤ dearest f = cheap_work f _ at.names.asked idle op (work_of op.what) more refl at.names.fit in
+    omega (arith, cost, cheap)

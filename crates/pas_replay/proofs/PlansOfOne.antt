@@ -1,19 +1,26 @@
--- The bounds of a plan say whether it is of one thread, and the acts of such a plan are that thread's.
+-- The bounds of a plan say whether it is of one thread: the acts of such a plan are that thread's, and its records are written in the same order in both ways.
 use Rattle.std.proofs.Common.{◌≡◌, ◌≢◌, ℕ, ◌+◌, ◌≤◌, ◌==◌, Bool, true, if◌then◌else◌, List, [], ◌∷◌, Option, None, slice_index, refl, ap, sym, ◌∙◌, subst}
-use Rattle.std.proofs.Common.{arith, map, MatchOption, eq-eqb}
+use Rattle.std.proofs.Common.{arith, MatchOption, eq-eqb, ◌++◌, append_assoc, append-nil}
 use Rattle.std.specs.List.{AllByRecursion}
 use Rattle.pas_profile.specs.declared.profile.Profile.{Profile}
-use Rattle.pas_profile.proofs.Lists.{all_both}
 use Rattle.pas_trace.specs.Asked.{work_of, of_task, keeper_of, keeper_in}
 use Rattle.pas_trace.specs.EveryPlan.{all_ops, IsActorBy, IsActorOf, AreKept, records_of_chore, records_of_work, records_of_what, own_records}
 use Rattle.pas_trace.specs.Plans.{IsPlanOf, bounds_of}
 use Rattle.pas_trace.specs.declared.plan.{Chore.Chore, Work.Work, Op.Op, Plan.Plan}
 use Rattle.pas_trace.proofs.EveryPlan.{every_plan}
-use Rattle.pas_trace.specs.Acts.{Act, Operates, Guards, Ticks, MakesPass, ReadsEpoch, StopsIdle, Wakes, Ends, Lowers, active_threads, idle_threads}
-use Rattle.pas_trace.specs.Acts.{acts_of_work, acts_of_op, acts_of_ops, phase_acts, acts_from, acts_of}
-use Rattle.pas_answers.specs.Replays.{phases_of, threads_of, keepers_of, acts_of_plan}
+use Rattle.pas_trace.specs.Acts.{Act, Operates, Guards, Ticks, MakesPass, ReadsEpoch, StopsIdle, Ends, Lowers, acts_of_work, acts_of, Settles, MarksPhase}
+use Rattle.pas_trace.specs.Acts.{Wakes, MarksClose}
+use Rattle.pas_answers.specs.Replays.{phases_of, threads_of, keepers_of, acts_of_plan, at_start, IsReplay, Shows, region_of}
 use Rattle.pas_replay.specs.OneThread.{IsOfOneThread}
-use Rattle.pas_acts.proofs.{ActsOfPlan.ArePlanned, ActsOfPlan.all_front, ActsOfPlan.all_back, PlanFacts.plan_planned}
+use Rattle.pas_answers.proofs.EachAct.{all_acts}
+use Rattle.pas_acts.proofs.{ActsOfPlan.ArePlanned, PlanFacts.plan_planned}
+use Rattle.pas_profile.proofs.Lists.{all_both}
+use Rattle.pas_steps.specs.{Events.events_by, Lists.Whole, Lists.part}
+use Rattle.pas_steps.specs.declared.state.State.{State}
+use Rattle.pas_report.specs.declared.record.Record.{Record}
+use Rattle.pas_answers.specs.{Answers.Progress, Answers.records_of, Reaching.Advances, Reaching.Reaches}
+use Rattle.pas_answers.specs.Ways.{InOrder, OnThreads, is_of, EachOf, records_by, by_actors, by_phases, arranged}
+use Rattle.pas_answers.proofs.OwnRecords.{each_both, piece_of, all_by, none_by}
 
 -- ---- operations of thread 1
 abbrev pub IsOfOne : Op → Type 0
@@ -41,8 +48,7 @@ one_records : (f : Profile) (ops : List Op) → AreOfOne ops → own_records f 0
 one_records f [] all = refl
 one_records f (op ∷ ops) all =
     let this : (if op.actor == 0 then records_of_what f op.what else 0) ≡ 0 = ap (λ (k : ℕ). if k == 0 then records_of_what f op.what else 0) all.0 in
-    let rest = one_records f ops all.1 in
-    omega (arith, this, rest)
+    omega (arith, this, one_records f ops all.1)
 
 -- ---- what the bounds say
 pub bound_shows : {text : List ℕ} {plan : Plan} → IsPlanOf text plan → threads_of plan ≡ 1 → plan.guard ≡ 0 → slice_index (bounds_of plan.bounds) 0 ≡ 0
@@ -91,35 +97,105 @@ work_of_one : (f : Profile) (idle : List ℕ) (op : Op) (work : Work) → IsActo
     → AreActsOfOne (acts_of_work idle op work)
 work_of_one f idle op work h i j = grind (arith, not_first)
 
-ops_of_one : (f : Profile) (idle : List ℕ) (ops : List Op) → AllByRecursion (IsPlannedOfOne f) ops → AreActsOfOne (acts_of_ops idle ops)
-ops_of_one f idle [] all = tt
-ops_of_one f idle (op ∷ ops) all = all_both IsActOfOne (acts_of_op idle op) (acts_of_ops idle ops) (work_of_one f idle op (work_of op.what) all.0.planned all.0.one all.0.unguarded) (ops_of_one f idle ops all.1)
-
-wakes_of_one : (ks : List ℕ) → AreActsOfOne (map Wakes ks)
-wakes_of_one [] = tt
-wakes_of_one (k ∷ ks) = (tt, wakes_of_one ks)
-
-phase_of_one : (f : Profile) (ops : List Op) → AllByRecursion (IsPlannedOfOne f) ops → AreActsOfOne (phase_acts 1 ops)
-phase_of_one f ops all = all_both IsActOfOne (map Wakes (active_threads 1 ops)) (acts_of_ops (idle_threads 1 ops) ops) (wakes_of_one (active_threads 1 ops)) (ops_of_one f (idle_threads 1 ops) ops all)
-
--- each phase takes the first operations, and its acts come before those that follow
-later_of_one : (f : Profile) (n : ℕ) (phases : List (List Op)) → AllByRecursion (IsPlannedOfOne f) (all_ops phases) → AreActsOfOne (acts_from 1 0 n phases)
-later_of_one f n [] all = (tt, (refl, tt))
-later_of_one f n (p ∷ ps) all =
-    let this = phase_of_one f p (all_front (IsPlannedOfOne f) p (all_ops ps) all) in
-    (tt, all_both IsActOfOne (phase_acts 1 p) (acts_from 1 0 (n + 1) ps) this (later_of_one f (n + 1) ps (all_back (IsPlannedOfOne f) p (all_ops ps) all)))
-
--- the first phase has no mark
-acts_of_one : (f : Profile) (phases : List (List Op)) → AllByRecursion (IsPlannedOfOne f) (all_ops phases) → AreActsOfOne (acts_of 1 0 phases)
-acts_of_one f [] all = later_of_one f 1 [] all
-acts_of_one f (p ∷ ps) all = (later_of_one f 1 (p ∷ ps) all).1
-
 -- The acts of a plan of one thread are all that thread's.
-pub plan_of_one : {text : List ℕ} {plan : Plan} → IsPlanOf text plan → IsOfOneThread plan → AreActsOfOne (acts_of_plan plan)
+plan_of_one : {text : List ℕ} {plan : Plan} → IsPlanOf text plan → IsOfOneThread plan → AreActsOfOne (acts_of_plan plan)
 plan_of_one {text} {plan} is alone =
     let f = plan.profile in
     let ops = all_ops (phases_of plan) in
     let kept = subst (λ (guard : ℕ). AreKept f guard ops) alone.unguarded (every_plan is).keepers in
-    let acts = acts_of_one f (phases_of plan) (are_all f ops (plan_planned is) alone.own kept) in
+    let own = λ (idle : List ℕ) (op : Op) (within : AllByRecursion (λ k. k ≤ 1) idle) (so : IsPlannedOfOne f op). work_of_one f idle op (work_of op.what) so.planned so.one so.unguarded in
+    let acts = all_acts IsActOfOne (IsPlannedOfOne f) 1 0 own (λ k le. tt) (λ n. tt) (tt, (refl, tt)) (phases_of plan) (are_all f ops (plan_planned is) alone.own kept) in
     let keepers : 0 ≡ keepers_of plan = sym (ap (λ (guard : ℕ). if guard == 0 then 0 else f.threads) alone.unguarded) in
     subst (λ (n : ℕ). AreActsOfOne (acts_of n (keepers_of plan) (phases_of plan))) (sym alone.threads) (subst (λ (n : ℕ). AreActsOfOne (acts_of 1 n (phases_of plan))) keepers acts)
+
+-- ---- thread 1's own
+-- the record is its own, or a mark
+abbrev IsOwnOrMark : Record → Type 0
+IsOwnOrMark (Record.Phase n) = Unit {0}
+IsOwnOrMark Record.Close = Unit {0}
+IsOwnOrMark r = (k : ℕ) → is_of k r ≡ (1 == k)
+
+abbrev AreOwnOrMarks : List Record → Type 0
+AreOwnOrMarks rs = AllByRecursion IsOwnOrMark rs
+
+own_or_marks : (rs : List Record) → EachOf 1 rs → AreOwnOrMarks rs
+own_or_marks [] all = tt
+own_or_marks (Record.Phase n ∷ rs) all = (tt, own_or_marks rs all.1)
+own_or_marks (Record.Close ∷ rs) all = (tt, own_or_marks rs all.1)
+own_or_marks (r ∷ rs) all = (all.0, own_or_marks rs all.1)
+
+-- ---- the records of all acts
+-- after a piece
+more_own : (k : ℕ) (rs new : List Record) → k ≡ 1 → AreOwnOrMarks rs → EachOf k new → AreOwnOrMarks (rs ++ new)
+more_own k rs new one all more = all_both IsOwnOrMark rs new all (own_or_marks new (subst (λ (j : ℕ). EachOf j new) one more))
+
+own_after : {p q : Progress} → q ≡ p → AreOwnOrMarks p.records → AreOwnOrMarks q.records
+own_after is all = subst (λ (r : Progress). AreOwnOrMarks r.records) (sym is) all
+
+own_one : (f : Profile) (act : Act) (p q : Progress) → IsActOfOne act → AreOwnOrMarks p.records → Advances f act p q → AreOwnOrMarks q.records
+own_one f (MarksPhase n) p q own all did = own_after did (all_both IsOwnOrMark p.records (Record.Phase n ∷ []) all (tt, tt))
+own_one f MarksClose p q own all did = own_after did (all_both IsOwnOrMark p.records (Record.Close ∷ []) all (tt, tt))
+own_one f (Wakes k) p q own all did = own_after did.1 all
+own_one f (Operates op) p q own all did = search (arith, own_after, more_own, piece_of)
+own_one f (Settles k) p q own all did = own_after did all
+own_one f (Ends k) p q own all did =
+    let v = part k p.list in
+    own_after did.3 (more_own k p.records (records_of (events_by k v did.0) ++ []) own all (piece_of k v did.0 None))
+own_one f act p q own all did = absurd own
+
+keep_own : (f : Profile) (acts : List Act) (p q : Progress) → AreActsOfOne acts → AreOwnOrMarks p.records → Reaches f acts p q → AreOwnOrMarks q.records
+keep_own f [] p q own all is = own_after is all
+keep_own f (act ∷ acts) p q own all is = keep_own f acts is.0 q own.1 (own_one f act p is.0 own.0 all is.1) is.2
+
+-- ---- actor by actor they stand in the same order
+by_one : (rs : List Record) → EachOf 1 rs → by_actors 0 2 rs ≡ rs
+by_one rs all = ap (λ (ss : List Record). ss ++ (records_by 1 rs ++ [])) (none_by 0 1 rs all (λ is. (cc))) ∙ append-nil (records_by 1 rs) ∙ all_by 1 rs all
+
+same_order : (since rs : List Record) → EachOf 1 since → AreOwnOrMarks rs → by_phases 1 since rs ≡ since ++ rs
+same_order since [] own all = by_one since own ∙ sym (append-nil since)
+same_order since (Record.Phase n ∷ rs) own all =
+    ap (λ (ss : List Record). ss ++ Record.Phase n ∷ by_phases 1 [] rs) (by_one since own) ∙ ap (λ (ss : List Record). since ++ Record.Phase n ∷ ss) (same_order [] rs tt all.1)
+same_order since (Record.Close ∷ rs) own all =
+    ap (λ (ss : List Record). ss ++ Record.Close ∷ by_phases 1 [] rs) (by_one since own) ∙ ap (λ (ss : List Record). since ++ Record.Close ∷ ss) (same_order [] rs tt all.1)
+same_order since (Record.Event e ∷ rs) own all =
+    same_order (since ++ Record.Event e ∷ []) rs (each_both 1 since (Record.Event e ∷ []) own (all.0, tt)) all.1 ∙ append_assoc since (Record.Event e ∷ []) rs
+same_order since (Record.Said k said ∷ rs) own all =
+    same_order (since ++ Record.Said k said ∷ []) rs (each_both 1 since (Record.Said k said ∷ []) own (all.0, tt)) all.1 ∙ append_assoc since (Record.Said k said ∷ []) rs
+
+-- ---- the replay
+arranged_same : {text : List ℕ} {plan : Plan} → IsPlanOf text plan → IsOfOneThread plan → (reached : Progress)
+    → Reaches (region_of plan) (acts_of_plan plan) at_start reached
+    → arranged OnThreads (region_of plan).threads reached.records ≡ reached.records
+arranged_same {text} {plan} is alone reached answers =
+    cc (same_order [] reached.records tt (keep_own (region_of plan) (acts_of_plan plan) at_start reached (plan_of_one is alone) tt answers))
+
+replay_of_one : {text : List ℕ} {plan : Plan} {whole : Whole} {records : List Record} → IsPlanOf text plan → IsOfOneThread plan
+    → IsReplay InOrder plan whole records → IsReplay OnThreads plan whole records
+replay_of_one {text} {plan} {whole} {records} is alone replay = record {
+  reached = replay.reached;
+  answers = replay.answers;
+  one_order = λ k. ap (λ (l : Whole). part k l) replay.one_order;
+  phases = replay.phases;
+  stages = replay.stages;
+  records_are = replay.records_are ∙ sym (arranged_same is alone replay.reached replay.answers);
+  legal = replay.legal;
+  nothing = replay.nothing;
+  keepers = replay.keepers;
+  run = replay.run;
+  deeds = replay.deeds;
+  stamps = replay.stamps;
+  marks = replay.marks;
+  refusals = tt;
+  indexes = tt;
+  rests = tt;
+}
+
+-- What a replay of a plan of one thread shows in the order of the text, it shows as one on threads, too.
+pub shows_of_one : {text : List ℕ} {plan : Plan} {records : List Record} {state : State} → IsPlanOf text plan → IsOfOneThread plan
+    → Shows InOrder plan records state → Shows OnThreads plan records state
+shows_of_one {text} {plan} {records} {state} is alone shows = record {
+  whole = shows.whole;
+  replay = replay_of_one is alone shows.replay;
+  profile = shows.profile;
+  words = shows.words;
+}

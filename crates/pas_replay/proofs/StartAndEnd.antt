@@ -1,16 +1,15 @@
--- How a replay starts, and what it shows at its end.
+-- How a replay starts, at a kit that nobody used, and what it shows at its end.
 use Rattle.std.proofs.Common.{◌≡◌, ℕ, zero, suc, ◌+◌, ◌-◌, ◌*◌, ◌/◌, ◌<◌, ◌≤◌, nat_le, Bool, true, false, if◌then◌else◌, inl, inr, List, [], ◌∷◌, ◌++◌, length}
-use Rattle.std.proofs.Common.{Option, Some, None, refl, ap, sym, ◌∙◌, subst, arith, slice_index, le-leb}
-use Rattle.std.proofs.{lemmas.Bool.cases_lt, lemmas.Bool.lt-leb, Math.Nat.suc-mul, lemmas.Nat.mul-le}
-use Rattle.pas_profile.specs.Profiles.{IsValid, IsWordOf}
+use Rattle.std.proofs.Common.{Option, Some, None, refl, ap, sym, ◌∙◌, subst, arith, slice_index, le-leb, map, reverse, All, slice_index_or}
+use Rattle.std.proofs.{lemmas.Bool.cases_lt, lemmas.Bool.lt-leb, Math.Nat.suc-mul, lemmas.Nat.mul-le, lemmas.List.get_or-map, lemmas.Option.same_Some}
+use Rattle.pas_profile.specs.{Profiles.IsValid, Profiles.IsWordOf, Rooms.EventRoom}
 use Rattle.pas_profile.specs.declared.{profile.Profile.Profile, word.Word.Word}
 use Rattle.pas_steps.specs.{Clear.HasNothing, States.profile_of as the_profile_of, States.word_in, Unknown.unknown_pages, Views.View}
 use Rattle.pas_steps.specs.Lists.{Whole, part, word_after, Legal}
-use Rattle.pas_steps.specs.declared.state.State.{State}
 use Rattle.pas_trace.specs.{EveryPlan.operations_of, Plans.IsPlanOf, Plans.bounds_of, Acts.acts_of}
 use Rattle.pas_trace.specs.declared.plan.{Plan.Plan, Op.Op}
-use Rattle.pas_plain.specs.Plain.{profile_of, RegionStands}
-use Rattle.pas_plain.specs.declared.{pass.PlainPass.PlainPass, region.PlainRegion.PlainRegion}
+use Rattle.pas_plain.specs.Plain.{profile_of, RegionStands, PassStands, pass_for, passes_from}
+use Rattle.pas_plain.specs.declared.pass.PlainPass.{PlainPass}
 use Rattle.pas_report.specs.Rooms.{records_in, room_of, Records}
 use Rattle.pas_report.specs.declared.record.Record.{Record}
 use Rattle.pas_guard.specs.Books.{FitsBook, is_outer}
@@ -21,7 +20,7 @@ use Rattle.pas_cache.proofs.FlushesAndFrees.{rests_empty}
 use Rattle.pas_answers.specs.{Calls.owed_events, Names.names_held, Ways.InOrder}
 use Rattle.pas_answers.specs.Fit.{AreFit, AreOfThreads, own_costs_of, kept_costs_of}
 use Rattle.pas_answers.specs.Replays.{at_start, phases_of, region_of, threads_of, keepers_of, acts_of_plan, empty_cache, Shows}
-use Rattle.pas_answers.proofs.{Consequences.replays, Reached.in_phases, Staged.plan_by_one_list, TrueRefusals.all_refuse, TrueRefusals.all_take}
+use Rattle.pas_answers.proofs.{Consequences.replays, Reached.in_phases, Reached.plan_by_one_list, Consequences.all_refuse, Consequences.all_take}
 use Rattle.pas_large.specs.Doors.{Indexes}
 use Rattle.pas_answers.specs.declared.names.Names.{Names}
 use Rattle.pas_replay.specs.Kits.{IsFresh, IsKitOf, replay_of}
@@ -29,12 +28,12 @@ use Rattle.pas_replay.specs.Sessions.{pass_in, SeatStands, rests_as, owes_as, Ac
 use Rattle.pas_replay.specs.Sessions.{GoesBy, SoFar, owed_by, telling}
 use Rattle.pas_replay.specs.Taking.{room_for_taker, room_between, left_between, FewWait, Begins}
 use Rattle.pas_replay.specs.declared.{kit.PlainKit.PlainKit, seats.Actors.Actors}
-use Rattle.pas_replay.proofs.Going.{all_rest}
+use Rattle.pas_replay.proofs.Turns.{all_rest}
 use Rattle.pas_trace.proofs.Keepers.{plan_actors}
-use Rattle.pas_acts.specs.PlanKeepers.{guarded_of}
-use Rattle.pas_acts.proofs.PlanFacts.{plan_operate, plan_fit, plan_own, plan_scavenger, plan_total}
+use Rattle.pas_acts.specs.{PlanKeepers.guarded_of, Parts.AreRooms}
+use Rattle.pas_acts.proofs.PlanFacts.{plan_operate, plan_fit, plan_own, plan_scavenger, plan_total, plan_kept_own, plan_tries, plan_keeps, pages_owed_at_first}
+use Rattle.pas_acts.proofs.PlanFacts.{no_slots}
 use Rattle.pas_steps.proofs.Nothing.{nothing_yet}
-use Rattle.pas_acts.proofs.{KeeperActs.plan_kept_own, KeeperActs.plan_tries, KeeperActs.plan_keeps, Nothing.pages_owed_at_first, Nothing.no_slots}
 
 -- an actor that made no step, which rests
 starts_at : (plan : Plan) (k need : ℕ) (slot : Option PlainPass) (Rest : View → Type 0) → Rest [] → need ≤ slice_index (bounds_of plan.bounds) k
@@ -76,10 +75,7 @@ all_owed f kind = grind (arith, pages_owed_at_first)
 owed_start : (threads : ℕ) (f : Profile) (n : ℕ) → owed_by threads f at_start n ≡ n * f.pages
 owed_start threads f zero = omega arith
 owed_start threads f (suc n) =
-    let this = all_owed f (nat_le (suc n) threads) in
-    let rest = owed_start threads f n in
-    let more = suc-mul n f.pages in
-    omega (arith, this, rest, more)
+    omega (arith, all_owed f (nat_le (suc n) threads), owed_start threads f n, suc-mul n f.pages)
 
 -- the room suffices for all that the actors owe at first, and for what is to come between two operations
 suffices : (waits : Option ℕ) {text : List ℕ} (plan : Plan) (room : ℕ) → IsPlanOf text plan → room_for_taker waits plan ≤ room
@@ -134,9 +130,7 @@ start waits {text} {plan} {kit} {out} phases read made empty room =
               let none = ap (λ (gs : List Guard). length gs) (made.books.empty i d (omega (arith, lt, made.books.many))) in
               let places = made.books.places i d (omega (arith, lt, made.books.many)) in
               let next : i + 1 ≡ suc i = omega arith in
-              let guarded = ap (λ (k : ℕ). guarded_of k (operations_of plan)) next in
-              let tries = plan_tries read (suc i) in
-              omega (arith, none, places, guarded, tries);
+              omega (arith, none, places, ap (λ (k : ℕ). guarded_of k (operations_of plan)) next, plan_tries read (suc i));
           records_are = empty;
           shown = tt;
           size = refl;
@@ -190,8 +184,7 @@ module _ {r : Replay} {left : Left} {h : Hand} (so : SoFar r left h) (empty : Ar
   bare_at k = elim (cases_lt (r.threads + r.keepers) k) [ inl past ↦ subst HasNothing (sym (so.1.nobody k past)) nothing_yet | inr within ↦ bare k (omega (arith, within)) ]
 
 -- A replay without acts left, whose actors have nothing, shows its plan by the words of its region.
-pub shows : (waits : Option ℕ) (told : List Record) (room : ℕ) {plan : Plan} {region : PlainRegion} (actors : Actors) (table : Names) {out : Records}
-    {state : State} (limit : ℕ)
+pub shows : (waits : Option ℕ) (told : List Record) (room : ℕ) {plan region : _} (actors : Actors) (table : Names) {out state : _} (limit : ℕ)
     → IsValid (region_of plan)
     → AreOfThreads (threads_of plan) (acts_of_plan plan) → AreFit (region_of plan) limit [] (acts_of_plan plan)
     → SoFar (telling (replay_of plan room) told) (left_between waits (replay_of plan room) []) (hand_of region actors table out) → AreEmpty actors.caches.items
@@ -212,4 +205,45 @@ shows waits told room {plan} {region} actors table {out} {state} limit valid thr
           ((all.0.1, all_take (region_of plan) (acts_of_plan plan) at_start p valid legal answers), all.1) threads;
       profile = profile ∙ at.profile_is;
       words = λ w of. words p.list at.stands w (subst (λ (f : Profile). IsWordOf f w) (sym at.profile_is) of);
+    }
+
+-- ---- passes
+-- the passes that were placed, and those that are left, which stand the last one first
+pub record ArePlaced (passes : List PlainPass) (places : List (Option PlainPass)) (left : List PlainPass) : Type 0 where
+  pub together : places ++ map Some (reverse left) ≡ map Some passes
+
+-- ---- the kit
+pub passes_count : (n : ℕ) (rooms : List EventRoom) → length (passes_from n rooms) ≡ length rooms
+passes_count n [] = refl
+passes_count n (room ∷ rooms) = let m = passes_count (n + 1) rooms in omega (arith, m)
+
+pass_at : (n k : ℕ) (rooms : List EventRoom) (d : PlainPass) (r : EventRoom) → k < length rooms
+    → slice_index_or (passes_from n rooms) k d ≡ pass_for (n + k) (slice_index_or rooms k r)
+pass_at n k [] d r bad = absurd (omega (arith, bad))
+pass_at n zero (room ∷ rooms) d r lt = ap (λ j. pass_for j room) (omega arith)
+pass_at n (suc k) (room ∷ rooms) d r lt = pass_at (n + 1) k rooms d r (omega (arith, lt)) ∙ ap (λ j. pass_for j (slice_index_or rooms k r)) (omega arith)
+
+first_room : (rooms : List EventRoom) → 1 ≤ length rooms → EventRoom
+first_room [] bad = absurd (omega (arith, bad))
+first_room (room ∷ rooms) some = room
+
+-- the actors, whose passes have the rooms, did nothing yet
+pub fresh_actor : (plan : Plan) (sizes : ℕ → Option ℕ) (count : ℕ) (rooms : List EventRoom) (passes : List PlainPass) (places : List (Option PlainPass))
+    → AreRooms sizes count rooms → ((k : ℕ) → k < count → sizes k ≡ Some (slice_index (bounds_of plan.bounds) k))
+    → passes ≡ passes_from 0 rooms → All (λ pass. PassStands (region_of plan) pass []) passes → places ≡ map Some passes → (k : ℕ) → k < count
+    → IsFresh plan k (pass_in places k)
+fresh_actor plan sizes count rooms passes places are bounds is stand placed k lt =
+    let all = are.many in
+    let same = ap (λ (ps : List PlainPass). length ps) is in
+    let long = passes_count 0 rooms in
+    let r = first_room rooms (omega (arith, lt, all)) in
+    let room = slice_index_or rooms k r in
+    let pass = pass_for k room in
+    let at : slice_index_or passes k pass ≡ pass = ap (λ (ps : List PlainPass). slice_index_or ps k pass) is ∙ pass_at 0 k rooms pass r (omega (arith, lt, all)) ∙ ap (λ (j : ℕ). pass_for j room) (omega arith) in
+    record {
+      pass = pass;
+      present = ap (λ (ps : List (Option PlainPass)). slice_index_or ps k None) placed ∙ get_or-map (λ (p : PlainPass). Some p) passes k pass None (omega (arith, lt, all, same, long)) ∙ ap (λ (p : PlainPass). Some p) at;
+      actor = refl;
+      stands = subst (λ (p : PlainPass). PassStands (region_of plan) p []) at (stand k pass (omega (arith, lt, all, same, long)));
+      room = same_Some _ _ (sym (are.each k r (omega (arith, lt, all))) ∙ bounds k lt);
     }

@@ -17,12 +17,12 @@ use Rattle.pas_cache.specs.Caches.{Cached, cached, AtRest}
 use Rattle.pas_cache.specs.declared.cache.ThreadCache.{ThreadCache}
 use Rattle.pas_trace.specs.Acts.{Act}
 use Rattle.pas_answers.specs.{Answers.Progress, Answers.Named, Answers.Caches, Calls.owed_events, Names.names_held, Reaching.Advances, Rests.AreAtRest}
-use Rattle.pas_answers.specs.{Rests.AllAtRest}
+use Rattle.pas_answers.specs.{Rests.AllAtRest, Replays.at_start}
 use Rattle.pas_answers.specs.Fit.{AreFit, AreOfThreads, sum_over, own_cost_of_act, own_costs_of, kept_cost_of_act, kept_costs_of, unbacks_of_act, unbacks_of}
-use Rattle.pas_large.specs.Doors.{Indexes}
+use Rattle.pas_large.specs.Doors.{Indexes, no_ranges}
 use Rattle.pas_answers.specs.Indexes.{indexes_after, indexes_after_all, ActIsNamedBy, AllAreNamedBy}
 use Rattle.pas_answers.specs.declared.names.Names.{Names}
-use Rattle.pas_answers.proofs.SingleActs.{sum_both}
+use Rattle.pas_answers.proofs.{SingleActs.sum_both, OwnRecords.EachShown, Consequences.acts_shown}
 use Rattle.pas_acts.specs.{Tries.tries_of_act, Tries.tries_of, Tries.AreKeptFor, Works.Later, Works.Sits, Turns.RestsAt, Turns.Moves}
 use Rattle.pas_acts.specs.AtDesks.{here, and_for, ThreadActs, for_act, HasRoomAt, ScavengerActs}
 use Rattle.pas_acts.proofs.AtDesk.{sits_for}
@@ -30,9 +30,8 @@ use Rattle.pas_replay.specs.Sessions.{Slots, pass_in, risen, IsTaken, MaySit, Ma
 use Rattle.pas_replay.specs.Sessions.{own_events, ActorStands, owed_by, AreCaches, HaveBooks, HavePlaces, Replay, Hand, hand_at, HasNames, IsAt, GoesBy, Left}
 use Rattle.pas_replay.specs.Sessions.{upon}
 use Rattle.pas_replay.specs.declared.seats.Actors.{Actors}
-use Rattle.pas_replay.proofs.{Turns.risen_length, Turns.put_there, Turns.put_elsewhere, Showing.EachShown, Showing.acts_shown}
-use Rattle.pas_replay.proofs.Going.{all_rest, rest_first, rest_one, goes_both}
-use Rattle.pas_replay.proofs.Threads.{OthersKept, set_caches, still_places, owed_kept, owed_moves, owed_at, thread_owes}
+use Rattle.pas_replay.proofs.Turns.{risen_length, put_there, put_elsewhere, all_rest, rest_first, rest_one, goes_both, OthersKept, set_caches, still_places}
+use Rattle.pas_replay.proofs.Turns.{owed_kept, owed_moves, owed_at, thread_owes}
 
 -- ---- an actor sits down
 pub may_sit : {f : Profile} {k : ℕ} {Rest : View → Type 0} {region : PlainRegion} {slot : Option PlainPass} {l : Whole} {need : ℕ} → profile_of region ≡ f
@@ -75,40 +74,18 @@ stands_in {f} {k} {l = l} {need = need} in_place st =
     }
 
 -- .. is what was in hand before it sat down
-pub sat_down : {r : Replay} {left : Left} {desk desk' : PlainDesk} {passes passes' : Slots} {k : ℕ} {caches : List ThreadCache} {books : List GuardBook}
-    {places : ℕ} {indexes : Indexes} {table : Names} {out : Records} {p : Progress}
+pub sat_down : {r left desk desk' passes passes' k caches books places indexes table out p : _}
     → TakesSeat desk desk' passes passes' k
     → IsAt r left (hand desk passes caches books places indexes table out) p → IsAt r left (hand desk' passes' caches books places indexes table out) p
-sat_down {r} {left} {desk} {desk'} {passes} {passes'} {k} {caches} {books} {places} {indexes} {table} {out} {p} seat at =
-    let region = sym seat.region_is in
-    record {
-      profile_is = ap profile_of seat.region_is ∙ at.profile_is;
-      actors = seat.as_many ∙ at.actors;
-      many = at.many;
-      kept = at.kept;
-      threads = at.threads;
-      operate = at.operate;
-      keep = at.keep;
-      places = at.places;
-      stands = subst (λ (g : PlainRegion). RegionStands g p.list) region at.stands;
-      each = λ j most. stands_in (seat.in_place j) (at.each j most);
-      nobody = at.nobody;
-      names = at.names;
-      caches_are = at.caches_are;
-      books_are = at.books_are;
-      books_have = at.books_have;
-      records_are = at.records_are;
-      shown = at.shown;
-      size = at.size;
-      spare = at.spare;
-      answers = at.answers;
-    }
+sat_down {r} {left} {desk' = desk'} {passes' = passes'} {p = p} seat at =
+    let stands : RegionStands (region_of desk') p.list = subst (λ (g : PlainRegion). RegionStands g p.list) (sym seat.region_is) at.stands in
+    let each : (j : ℕ) → j ≤ r.profile.threads → ActorStands r.threads r.profile j p (pass_in (risen desk' passes') j) left.acts
+    = λ j most. stands_in (seat.in_place j) (at.each j most) in
+    assumption (ap profile_of seat.region_is ∙ at.profile_is, seat.as_many ∙ at.actors)
 
 -- ---- at the desk
-module _ {r : Replay} {left : Left} {desk0 desk : PlainDesk} {passes0 passes : Slots} {caches : List ThreadCache} {books : List GuardBook} {places : ℕ}
-    {indexes : Indexes} {table : Names} {out : Records} {p : Progress} (k : ℕ) (within : k ≤ r.threads + r.keepers)
-    (seat : TakesSeat desk0 desk passes0 passes k)
-    (before : IsAt r left (hand desk0 passes0 caches books places indexes table out) p) where
+module _ {r : Replay} {left desk0 desk passes0 passes caches books places indexes table out p : _} (k : ℕ) (within : k ≤ r.threads + r.keepers)
+    (seat : TakesSeat desk0 desk passes0 passes k) (before : IsAt r left (hand desk0 passes0 caches books places indexes table out) p) where
   at : IsAt r left (hand desk passes caches books places indexes table out) p
   at = sat_down seat before
 
@@ -229,34 +206,20 @@ module _ {r : Replay} {left more : Left} {desk0 desk desk' : PlainDesk} {passes0
 
   -- An actor that took its seat and did its acts leaves the replay where the acts after them come next.
   pub turn : IsTaken desk' passes × IsAt r more (hand desk' passes caches' books' places' indexes' table' out') q
-  turn = (
-    let lt = has_place k within seat before in omega (arith, x.sits.actor, lt),
-    record {
-      profile_is = x.sits.profile;
-      actors = risen_length desk' passes ∙ sym (risen_length desk passes) ∙ (at k within seat before).actors;
-      many = have.many;
-      kept = have.kept;
-      threads = before.threads;
-      operate = have.operate;
-      keep = have.keep;
-      places = have.room;
-      stands = stood_then.region;
-      each = λ j most. elim (cases_eq j k) [
+  turn =
+      let lt = has_place k within seat before in
+      let each : (j : ℕ) → j ≤ r.profile.threads → ActorStands r.threads r.profile j q (pass_in (risen desk' passes) j) more.acts
+      = λ j most. elim (cases_eq j k) [
         | inl same ↦ subst (λ (m : ℕ). ActorStands r.threads r.profile m q (pass_in (risen desk' passes) m) more.acts) (sym same) this_stands
         | inr other ↦ other_stands r.threads r.profile p q left.acts more.acts x.moves.steps (λ (e : k ≡ j). other (sym e)) x.moves.list_is (x.kept.caches j other) (x.kept.books j other) (same_slot j other) (x.free j other) ((at k within seat before).each j most)
-      ];
-      nobody = λ j past. ap (λ (l : Whole). part j l) x.moves.list_is ∙ part_of_others j k x.moves.steps p.list (λ (e : k ≡ j). omega (arith, e, within, past)) ∙ before.nobody j past;
-      names = have.names;
-      caches_are = have.caches_are;
-      books_are = have.books_are;
-      books_have = have.books_have;
-      records_are = have.records_are;
-      shown = x.shows (subst (λ (f : Profile). Legal f q.list) x.sits.profile stood_then.region.legal) before.shown;
-      size = have.size;
-      spare = have.spare;
-      answers = λ s rest. before.answers s (x.reaches s rest);
-    },
-  )
+      ] in
+      let nobody : (j : ℕ) → r.threads + r.keepers < j → part j q.list ≡ []
+      = λ j past. ap (λ (l : Whole). part j l) x.moves.list_is ∙ part_of_others j k x.moves.steps p.list (λ (e : k ≡ j). omega (arith, e, within, past)) ∙ before.nobody j past in
+      let shown : EachShown q.records = x.shows (subst (λ (f : Profile). Legal f q.list) x.sits.profile stood_then.region.legal) before.shown in
+      let actors = risen_length desk' passes ∙ sym (risen_length desk passes) ∙ (at k within seat before).actors in
+      let answers : (s : Progress) → GoesBy r.threads r.profile indexes' more.acts q s → GoesBy r.threads r.profile (no_ranges r.profile.heaps) r.acts at_start s
+      = λ s rest. before.answers s (x.reaches s rest) in
+      (omega (arith, x.sits.actor, lt), assumption (x.sits.profile, actors, before.threads, stood_then.region))
 
 -- the actor alone made the steps between, and its cache and its book alone changed
 pub kept_by_moves : {k : ℕ} {Rest Rest' : View → Type 0} {desk desk' : PlainDesk} {p q : Progress}
@@ -325,8 +288,15 @@ thread_turn {r} {first} {more} {desk0} {desk} {desk'} {passes0} {passes} {caches
     let least = owed_at r.threads f p k (r.threads + r.keepers) some all in
     let mine = thread_owes r.threads f p k within in
     let then_mine = thread_owes r.threads f q k within in
-    let owed = ap (λ (d : Cached). owed_events f d (part k q.list)) now in
     let longer = ap (λ (rs : List Record). length rs) added ∙ length-append (records_in out1) told in
+    let many = length-set caches (k - 1) cache ∙ at.many in
+    let their_caches = set_caches caches k cache some most now did.caches at.caches_are in
+    let their_books = subst (λ (bs : ℕ → List Guard). HaveBooks r.threads bs books) (sym did.books) at.books_are in
+    let their_places = still_places r.threads books (first ++ more.acts) more.acts (less_tries first more.acts) at.books_have in
+    let own = added ∙ ap (λ (rs : List Record). rs ++ told) did.pushed ∙ append_assoc (records_in out) did.own told in
+    let said = said_more r.told (records_in out) (records_in out2) p.records (did.own ++ told) at.records_are own ∙ sym did.records_are in
+    let spare : length (records_in out2) + (owed_by r.threads f q (r.threads + r.keepers) + more.room) ≤ room_of out2
+    = omega (arith, change, least, mine, then_mine, ap (λ (d : Cached). owed_events f d (part k q.list)) now, longer, did.stands.spare, few, room) in
     turn k all seat at record {
       shows = acts_shown f first p q did.reaches;
       reaches = λ s rest. goes_both r.threads f indexes first more.acts p q s did.reaches named (rested (all_rest at) (rest_first r.threads f more.acts q s rest.0.0 rest.1)) (subst (λ (ix : Indexes). GoesBy r.threads f ix more.acts q s) after rest);
@@ -334,37 +304,20 @@ thread_turn {r} {first} {more} {desk0} {desk} {desk'} {passes0} {passes} {caches
       sits = sits;
       kept = kept;
       free = λ j ne. less_events r.threads f first more.acts j;
-    }
-    record {
-      many = length-set caches (k - 1) cache ∙ at.many;
-      kept = at.kept;
-      operate = operate;
-      keep = keep;
-      room = at.places;
-      names = names;
-      caches_are = set_caches caches k cache some most now did.caches at.caches_are;
-      books_are = subst (λ (bs : ℕ → List Guard). HaveBooks r.threads bs books) (sym did.books) at.books_are;
-      books_have = still_places r.threads books (first ++ more.acts) more.acts (less_tries first more.acts) at.books_have;
-      records_are = said_more r.told (records_in out) (records_in out2) p.records (did.own ++ told) at.records_are (added ∙ ap (λ (rs : List Record). rs ++ told) did.pushed ∙ append_assoc (records_in out) did.own told) ∙ sym did.records_are;
-      size = room ∙ did.room ∙ at.size;
-      spare = omega (arith, change, least, mine, then_mine, owed, longer, did.stands.spare, few, room);
-    }
+    } (assumption (many, their_caches, their_books, their_places, said, room ∙ did.room ∙ at.size))
 
 -- ---- the turn of the scavenger
 abbrev pub later_of : Replay → Progress → Left → Later
 later_of r p more = record { events = unbacks_of r.profile more.acts; records = owed_by r.threads r.profile p (r.threads + r.keepers) + more.room }
 
 -- The scavenger that took its seat has room for its act that comes next.
-pub scavenger_now : {r : Replay} {act : Act} {desk0 desk : PlainDesk} {passes0 passes : Slots} {caches : List ThreadCache}
-    {books : List GuardBook} {places : ℕ} {indexes : Indexes} {table : Names} {out : Records} {p : Progress}
-    (more : Left) → TakesSeat desk0 desk passes0 passes 0
+pub scavenger_now : {r act desk0 desk passes0 passes caches books places indexes table out p : _} (more : Left) → TakesSeat desk0 desk passes0 passes 0
     → IsAt r (upon r (act ∷ []) more) (hand desk0 passes0 caches books places indexes table out) p
     → HasRoomAt r.profile (standing_of desk) out (for_act r.profile act (later_of r p more)) p
 scavenger_now more seat at = let spare = at.spare in record { sits = sits_for (sits_now 0 (omega arith) seat at) (omega arith); spare = omega (arith, spare) }
 
 -- The scavenger that took its seat and did an act leaves the replay where the acts after it come next.
-pub scavenger_turn : {r : Replay} {more : Left} {act : Act} {desk0 desk desk' : PlainDesk} {passes0 passes : Slots} {caches : List ThreadCache}
-    {books : List GuardBook} {places places' : ℕ} {indexes : Indexes} {table : Names} {out out' : Records} {p : Progress}
+pub scavenger_turn : {r : Replay} {more : Left} {act desk0 desk desk' passes0 passes caches books places places' indexes table out out' p : _}
     → TakesSeat desk0 desk passes0 passes 0
     → ((limit : ℕ) (asked : List ℕ) → AreFit r.profile limit asked (act ∷ more.acts) → AreFit r.profile limit asked more.acts) → AsksNoIndex r.profile act
     → IsAt r (upon r (act ∷ []) more) (hand desk0 passes0 caches books places indexes table out) p
@@ -377,6 +330,12 @@ scavenger_turn {r} {more} {act} {desk0} {desk} {desk'} {passes0} {passes} {cache
     let kept : OthersKept 0 p q = kept_by_moves did.moves (λ j ne. ap (λ (cs : Caches). cs j) did.caches) (λ j ne. ap (λ (bs : ℕ → List Guard). bs j) did.books) in
     let owed = owed_kept r.threads f p q 0 kept (r.threads + r.keepers) (λ j low high e. omega (arith, low, e)) in
     let asked = asks indexes p did.reaches.0 did.reaches.1 in
+    let known : HasNames f more.acts table q.names = subst (λ (ns : List Named). HasNames f more.acts table ns) (sym did.names) record { asked = names.asked; fit = fit (names_held table) names.asked names.fit; tells = names.tells; stand = names.stand; known = names.known } in
+    let their_caches = subst (λ (cs : Caches). AreCaches cs caches) (sym did.caches) at.caches_are in
+    let their_books = subst (λ (bs : ℕ → List Guard). HaveBooks r.threads bs books) (sym did.books) at.books_are in
+    let their_places = still_places r.threads books (act ∷ more.acts) more.acts (less_tries (act ∷ []) more.acts) at.books_have in
+    let said = said_more r.told (records_in out) (records_in out') p.records did.says.said at.records_are did.says.pushed ∙ sym did.says.records_are in
+    let spare : length (records_in out') + (owed_by r.threads f q (r.threads + r.keepers) + more.room) ≤ room_of out' = omega (arith, owed, did.stands.spare) in
     turn 0 (omega arith) seat at record {
       shows = acts_shown f (act ∷ []) p q did.reaches;
       reaches = λ s rest. goes_both r.threads f indexes (act ∷ []) more.acts p q s did.reaches (asked.1, tt) (rest_one r.threads f act p q did.reaches (all_rest at) (rest_first r.threads f more.acts q s rest.0.0 rest.1))
@@ -385,18 +344,4 @@ scavenger_turn {r} {more} {act} {desk0} {desk} {desk'} {passes0} {passes} {cache
       sits = sits_for did.stands.sits (omega arith);
       kept = kept;
       free = λ j ne. less_events r.threads f (act ∷ []) more.acts j;
-    }
-    record {
-      many = at.many;
-      kept = at.kept;
-      operate = at.operate.1;
-      keep = at.keep.1;
-      room = same ∙ at.places;
-      names = subst (λ (ns : List Named). HasNames f more.acts table ns) (sym did.names) record { asked = names.asked; fit = fit (names_held table) names.asked names.fit; tells = names.tells; stand = names.stand; known = names.known };
-      caches_are = subst (λ (cs : Caches). AreCaches cs caches) (sym did.caches) at.caches_are;
-      books_are = subst (λ (bs : ℕ → List Guard). HaveBooks r.threads bs books) (sym did.books) at.books_are;
-      books_have = still_places r.threads books (act ∷ more.acts) more.acts (less_tries (act ∷ []) more.acts) at.books_have;
-      records_are = said_more r.told (records_in out) (records_in out') p.records did.says.said at.records_are did.says.pushed ∙ sym did.says.records_are;
-      size = did.says.room ∙ at.size;
-      spare = omega (arith, owed, did.stands.spare);
-    }
+    } (assumption (at.operate.1, at.keep.1, same ∙ at.places, their_caches, their_books, their_places, said, did.says.room ∙ at.size))

@@ -15,7 +15,7 @@ use Rattle.pas_steps.specs.{Lists.Whole, Lists.part, Desks.Standing}
 use Rattle.pas_steps.proofs.Parts.{part_of_others}
 use Rattle.pas_acts.specs.{Works.Later, Keepers.StandsStill}
 use Rattle.pas_acts.specs.AtDesks.{told_if, for_act, HasRoomAt, ScavengerActs}
-use Rattle.pas_acts.proofs.{Alone.sits_still, AtDesk.sits_for}
+use Rattle.pas_acts.proofs.AtDesk.{sits_still, sits_for}
 use Rattle.pas_threads.specs.Turns.{AreDistinct, Came, Pushed, Told, TookNoPart}
 use Rattle.pas_threads.specs.Lent.{Shift, number_in, standing_at, AreBeside, SitsLent, IsDeskAt, StopsLent, StoppedLent}
 use Rattle.pas_threads.specs.declared.workers.Worker.{Worker}

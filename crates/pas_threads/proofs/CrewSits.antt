@@ -20,7 +20,7 @@ use Rattle.pas_answers.specs.{Answers.Progress, Ways.EachOf, Ways.records_by}
 use Rattle.pas_answers.proofs.{OwnRecords.records_both, Reached.goes_on}
 use Rattle.pas_report.specs.declared.record.Record.{Record}
 use Rattle.pas_acts.specs.{Works.Later, Turns.RestsAt, Keepers.StandsStill, AtDesks.here, AtDesks.told_if, AtDesks.ThreadActs}
-use Rattle.pas_acts.proofs.{Alone.rests_still, AtDesk.leaves_rest}
+use Rattle.pas_acts.proofs.AtDesk.{rests_still, leaves_rest}
 use Rattle.pas_threads.specs.{Hands.standing_of_pass, Left.crew_in, Left.KeepsOrder, Sessions.WorkerHas, Scavengers.CrewHasLeft}
 use Rattle.pas_threads.specs.Turns.{AreDistinct, Came, Pushed, Told, TookTurns}
 use Rattle.pas_threads.specs.Lent.{Shift, number_in, AreBeside, IsLent, AreLent, SitsAmong, standing_among, standing_at, home_at, WorkerSits, SitsLent}

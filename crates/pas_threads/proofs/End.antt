@@ -19,7 +19,7 @@ use Rattle.pas_answers.specs.{Answers.Progress, Fit.AreOfThreads, Ways.OnThreads
 use Rattle.pas_answers.specs.Replays.{phases_of, region_of, threads_of, acts_of_plan, at_start, Shows}
 use Rattle.pas_answers.proofs.Consequences.{replays}
 use Rattle.pas_trace.proofs.Keepers.{plan_actors}
-use Rattle.pas_acts.proofs.Nothing.{no_slots}
+use Rattle.pas_acts.proofs.PlanFacts.{no_slots}
 use Rattle.pas_steps.proofs.Nothing.{nothing_yet}
 use Rattle.pas_threads.specs.Hands.{HasPass}
 use Rattle.pas_threads.specs.Sessions.{Session, TeamAt, IsOfActors, HasReplayed}

@@ -16,11 +16,11 @@ use Rattle.pas_trace.specs.Acts.{Act, Settles, Lowers, act_kept, numbers_from, o
 use Rattle.pas_trace.specs.declared.plan.Op.{Op}
 use Rattle.pas_answers.specs.{Answers.Progress, Keeping.owed_by_keeper, Ways.is_of, Ways.records_by}
 use Rattle.pas_answers.proofs.OwnRecords.{records_both, all_by, none_by, spoken_piece, spoken_both}
-use Rattle.pas_answers.proofs.Reached.{reach_both}
+use Rattle.pas_answers.proofs.{Reached.reach_both, EachAct.all_front, EachAct.all_back}
 use Rattle.pas_acts.specs.Keepers.{LaterKept, Keeping, NoKeeper, OneKeeper, KeeperAt, KeeperLowers, HasStill, keeper_has}
 use Rattle.pas_acts.specs.Pairs.{for_guard, for_guards, IsTriedBy, AreTriedBy, IsUnguarded, AreUnguarded, KeeperWaits, EachOfTwo, KeptPushed, KeptStill}
 use Rattle.pas_acts.specs.Pairs.{owed_of}
-use Rattle.pas_acts.proofs.{Keeping.keeper_still, ActsLeft.number_next, ActsLeft.number_last, ActsOfPlan.all_front, ActsOfPlan.all_back}
+use Rattle.pas_acts.proofs.{Keeping.keeper_still, ActsLeft.number_next, ActsLeft.number_last}
 use Rattle.pas_threads.specs.{Hands.standing_of_pass, Turns.HasSaid}
 use Rattle.pas_threads.specs.Pairs.{kept_by_worker, IsKeeperOf, IsSilent, no_more, owed_kept, keeper_at, AreGuarded, IsLow, IsButKeeper, KeptSo, Lowered}
 use Rattle.pas_threads.specs.Pairs.{MayLower, KeeperStands, KeeperLowered}

@@ -7,6 +7,7 @@ use Rattle.pas_profile.specs.declared.{name.Block.Block, profile.Profile.Profile
 use Rattle.pas_trace.specs.EveryPlan.{is_asked, asked_with, asked_after, asked_by, AreSound, IsActorOf}
 use Rattle.pas_answers.specs.{Answers.Named, Answers.standing_for, Answers.Progress, Names.block_named, Names.names_held, Fit.IsBelow, Fit.AreBelow}
 use Rattle.pas_answers.specs.{Fit.KeepsAbove}
+use Rattle.pas_answers.proofs.EachAct.{all_back}
 use Rattle.pas_acts.specs.NameBooks.{requests_in, room_for, names_of, came_to, known_in, Requests, name_asked, names_asked, AreWithin, NamesAt}
 use Rattle.pas_acts.specs.declared.names.NameBook.{NameBook}
 use Rattle.pas_threads.specs.declared.workers.Worker.{Worker}
@@ -21,8 +22,7 @@ use Rattle.pas_trace.specs.Acts.{acts_of_op, acts_of_ops, own_acts}
 use Rattle.pas_answers.specs.Calls.{block_behind, MayStand, AreKnown, OnlyAsked}
 use Rattle.pas_answers.specs.declared.names.Names.{Names}
 use Rattle.pas_trace.proofs.OperationsOfItems.{kept_with}
-use Rattle.pas_acts.proofs.{ActsOfPlan.all_back, ActsOfPlan.back_below, KnownAfter.are_known, Noting.asks, Noting.asks_more, NamesBefore.sound_front}
-use Rattle.pas_acts.proofs.{NamesBefore.sound_back}
+use Rattle.pas_acts.proofs.{ActsOfPlan.back_below, Naming.are_known, Noting.asks, Noting.asks_more, NamesBefore.sound_front, NamesBefore.sound_back}
 use Rattle.pas_acts.specs.Shares.{owner_in, IsWoven, AreAmong, IsRequestOf, NoneAsks, asked_after_act, asked_after_acts}
 use Rattle.pas_acts.specs.{Works.Later, Keepers.Keeping, Keepers.LaterKept, Pairs.PairWorks}
 use Rattle.pas_threads.specs.Hands.{kept_by}

@@ -24,11 +24,10 @@ use Rattle.pas_cache.specs.Caches.{Cached, cached}
 use Rattle.pas_utility.specs.Outcomes.{places_of}
 use Rattle.pas_answers.specs.{Answers.Books, Answers.Progress, Answers.Named, Calls.owed_events, Calls.OnlyAsked, Fit.costs_of, Fit.own_costs_of, Fit.AreFit}
 use Rattle.pas_answers.specs.{Names.names_held, Reaching.Reaches, Ways.records_by, Ways.by_actors}
-use Rattle.pas_answers.proofs.{OwnRecords.records_both as said_both, Reached.reach_both}
+use Rattle.pas_answers.proofs.{OwnRecords.records_both as said_both, Reached.reach_both, EachAct.all_front, EachAct.all_back}
 use Rattle.pas_acts.specs.{Awake.awake_in, Keepers.LaterKept, Pairs.for_guards, Works.Later}
-use Rattle.pas_acts.proofs.ActsOfPlan.{all_front, all_back, idle_few, ops_fit}
-use Rattle.pas_acts.proofs.{ActsLeft.threads_alike, Weaving.weave, Alone.rests_still, Alone.sits_still, AtDesk.sits_for, NamesBefore.names_before}
-use Rattle.pas_acts.proofs.{NamesBefore.sound_front, NamesBefore.below_front}
+use Rattle.pas_acts.proofs.{ActsOfPlan.idle_few, ActsOfPlan.ops_fit, ActsLeft.threads_alike, Weaving.weave, AtDesk.rests_still, AtDesk.sits_still}
+use Rattle.pas_acts.proofs.{AtDesk.sits_for, NamesBefore.names_before, NamesBefore.sound_front, NamesBefore.below_front}
 use Rattle.pas_acts.specs.Shares.{Owners, acts_by, owner_in, thread_in, AreKeptBehind, IsShareOf, IsWoven}
 use Rattle.pas_acts.proofs.PhaseActs.{acts_are_shared, zero_own, own_thread, kept_thread, owner_of}
 use Rattle.pas_acts.specs.NameBooks.{NamesAt, ArePlaced, names_asked, requests_in, room_for, names_of, known_in, Requests, AreWithin}

@@ -10,7 +10,7 @@ use Rattle.pas_trace.specs.Acts.{Act, Wakes, Ends, numbers_from}
 use Rattle.pas_answers.specs.{Answers.Progress, Ways.EachOf, Ways.records_by, Calls.owed_events, Fit.own_cost_of_act}
 use Rattle.pas_answers.proofs.OwnRecords.{records_both, none_by, all_by, spoken_piece, spoken_both}
 use Rattle.pas_acts.specs.{Keepers.StandsStill, Works.Later, Works.Sits, NameBooks.requests_in, NameBooks.room_for, Awake.awake_in}
-use Rattle.pas_acts.proofs.{AtDesk.leaves_rest, AtDesk.sits_for, Alone.rests_still}
+use Rattle.pas_acts.proofs.AtDesk.{leaves_rest, sits_for, rests_still}
 use Rattle.pas_shared.specs.declared.{region.SharedRegion.SharedRegion, pass.SharedPass.SharedPass}
 use Rattle.pas_answers.proofs.Reached.{reach_both}
 use Rattle.pas_threads.specs.Turns.{AreDistinct, Came, Pushed, Told, TookNoPart, Turn, TookTurns, owed_at, IsDue, Woke, WokeAll, Stopped, said_by}

@@ -1,6 +1,6 @@
 use Rattle.std.proofs.Common.{ap, arith}
 use Rattle.pas_profile.specs.declared.profile.Profile.{Profile}
-use Rattle.pas_acts.proofs.ByScavenger.{can_scavenge, pass_room, has_passed}
+use Rattle.pas_acts.proofs.Keeping.{can_scavenge, pass_room, has_passed}
 use Rattle.pas_acts.proofs.at_desk.pass.Goals as goal
 
 pub pass-requires-clause-can : goal.pass-requires-clause-can
@@ -12,10 +12,8 @@ pass-requires-clause-room g c = pass_room c.requires.stands.1 (g.D.Desk.spare_of
 pub pass-requires-clause-records : goal.pass-requires-clause-records
 pass-requires-clause-records g c =
     let at = c.requires.stands.3 in
-    let pages = ap (λ (h : Profile). h.pages) at.sits.profile in
-    omega (arith, at.spare, pages)
+    omega (arith, at.spare, ap (λ (h : Profile). h.pages) at.sits.profile)
 
 pub returns-clause-passes : goal.returns-clause-passes
 returns-clause-passes g c = λ f later p at.
-    let pages = ap (λ (h : Profile). h.pages) at.sits.profile in
-    has_passed at c.pass.ensures.passes (omega (arith, c.pass.ensures.few, pages)) c.pass.ensures.room
+    has_passed at c.pass.ensures.passes (omega (arith, c.pass.ensures.few, ap (λ (h : Profile). h.pages) at.sits.profile)) c.pass.ensures.room

@@ -1,4 +1,4 @@
-use Rattle.pas_acts.proofs.AloneInOrder.{alone_in_order}
+use Rattle.pas_acts.proofs.PhaseActs.{alone_in_order}
 use Rattle.pas_acts.proofs.laws.alone.Goals as goal
 
 pub returns : goal.returns

@@ -3,9 +3,9 @@ use Rattle.pas_profile.specs.Profiles.{IsValid}
 use Rattle.pas_profile.specs.declared.{profile.Profile.Profile, name.Block.Block}
 use Rattle.pas_trace.specs.{Acts.Settles, Asked.request_of}
 use Rattle.pas_answers.specs.{Calls.MayStand, Calls.named_with, Names.MayPack}
-use Rattle.pas_answers.proofs.{Meanings.may_pack, Kept.own_what, Kept.freed_task, Kept.named_task}
+use Rattle.pas_answers.proofs.Kept.{may_pack, own_what, freed_task, named_task}
 use Rattle.pas_acts.specs.{NameBooks.known_in, NameBooks.requests_in, Pairs.TriesTask, Pairs.for_guards}
-use Rattle.pas_acts.proofs.{Alone.stands_at, own.operate.Goals.in-Some, own.operate.Goals.in-None}
+use Rattle.pas_acts.proofs.{AtDesk.stands_at, own.operate.Goals.in-Some, own.operate.Goals.in-None}
 use Rattle.pas_acts.proofs.Pairing.{may_try_task, may_next, given_stands, pair_given, pair_left}
 use Rattle.pas_acts.proofs.Working.{no_chore, may_operate, op_rests, its_fit, its_own, room_now, operated}
 use Rattle.pas_acts.proofs.own.operate.Goals as goal

@@ -2,7 +2,7 @@ use Rattle.std.proofs.Common.{refl, sym, ◌∙◌, arith}
 use Rattle.pas_trace.specs.EveryPlan.{operations_of}
 use Rattle.pas_trace.proofs.{EveryPlan.every_plan, Keepers.keepers_few}
 use Rattle.pas_acts.specs.PlanKeepers.{guarded_of}
-use Rattle.pas_acts.proofs.Counting.{no_books, same_books, books_in}
+use Rattle.pas_acts.proofs.Making.{no_books, same_books, books_in}
 use Rattle.pas_acts.proofs.plan_keepers.books_for.Goals as goal
 
 pub returns-then-keepers-eq0 : goal.returns-then-keepers-eq0

@@ -1,6 +1,6 @@
 use Rattle.std.proofs.Common.{ℕ, subst, arith, slice_index_or}
 use Rattle.pas_acts.specs.PlanKeepers.{AreBooksFor}
-use Rattle.pas_acts.proofs.Counting.{no_books, next_book}
+use Rattle.pas_acts.proofs.Making.{no_books, next_book}
 use Rattle.pas_acts.proofs.plan_keepers.books_of.Goals as goal
 
 pub loop-below-init : goal.loop-below-init

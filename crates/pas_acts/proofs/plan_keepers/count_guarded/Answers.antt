@@ -2,7 +2,7 @@ use Rattle.std.proofs.Common.{◌<◌, ◌==◌, ℕ, Bool, if◌then◌else◌,
 use Rattle.pas_trace.specs.Asked.{keeper_in}
 use Rattle.pas_trace.specs.declared.plan.{Op.Op, What.TheVariants.Alloc}
 use Rattle.pas_acts.specs.PlanKeepers.{one_guarded, guarded_of}
-use Rattle.pas_acts.proofs.Counting.{all_at, guarded_next, count_more}
+use Rattle.pas_acts.proofs.Making.{all_at, guarded_next, count_more}
 use Rattle.pas_acts.proofs.plan_keepers.count_guarded.Goals as goal
 
 abbrev past : Op
@@ -24,11 +24,9 @@ loop-op-preserved c = record {
       let op = get_or c.args.ops.now c.loop-op.op-index past in
       let next = guarded_next k c.args.ops.now c.loop-op.op-index past c.loop-op-test.true in
       let more = count_more op.actor k c.guarded_in.result (λ j. get_or c.loop-op.counts j 0) in
-      let same = ap (λ (n : ℕ). if op.actor == k then n else 0) c.guarded_in.ensures in
-      omega (arith, c.loop-op.invariant.counts k, next, c.add.ensures k, more, same);
+      omega (arith, c.loop-op.invariant.counts k, next, c.add.ensures k, more, ap (λ (n : ℕ). if op.actor == k then n else 0) c.guarded_in.ensures);
 }
 
 pub returns : goal.returns
 returns c = λ k.
-    let none = ap (λ (ops : List Op). guarded_of k ops) (drop_of_length-le c.args.ops.now c.loop-op-test.false) in
-    omega (arith, c.loop-op.invariant.counts k, none)
+    omega (arith, c.loop-op.invariant.counts k, ap (λ (ops : List Op). guarded_of k ops) (drop_of_length-le c.args.ops.now c.loop-op-test.false))

@@ -6,7 +6,7 @@ use Rattle.pas_trace.specs.declared.plan.{Op.Op, Phase.Phase}
 use Rattle.pas_trace.proofs.EveryPlan.{every_plan}
 use Rattle.pas_answers.specs.Replays.{phases_of}
 use Rattle.pas_acts.specs.PlanKeepers.{guarded_of}
-use Rattle.pas_acts.proofs.Counting.{actors_within, guarded_few, phase_at, phases_next}
+use Rattle.pas_acts.proofs.Making.{actors_within, guarded_few, phase_at, phases_next}
 use Rattle.pas_acts.proofs.PlanFacts.{plan_planned}
 use Rattle.pas_acts.proofs.plan_keepers.guarded_by_thread.Goals as goal
 
@@ -14,8 +14,7 @@ pub loop-phase-init : goal.loop-phase-init
 loop-phase-init c = record {
   counts = λ k.
       let zero : ◌≡◌ {A = ℕ} (get_or (replicate 17 0) k 0) 0 = grind (arith, get_or-replicate, get_or_past, length-replicate) in
-      let same = ap (λ (ps : List Phase). guarded_of k (all_ops (map ops_of ps))) c.as_slice-phase-items.ensures in
-      omega (arith, zero, same);
+      omega (arith, zero, ap (λ (ps : List Phase). guarded_of k (all_ops (map ops_of ps))) c.as_slice-phase-items.ensures);
 }
 
 pub count_guarded-requires-clause-actors : goal.count_guarded-requires-clause-actors
@@ -30,15 +29,13 @@ pub count_guarded-requires-clause-few : goal.count_guarded-requires-clause-few
 count_guarded-requires-clause-few c = λ k.
     let next = phases_next k c.as_slice-phase-items.result.now c.loop-phase.phase-index c.phase-item.result c.loop-phase-test.true c.phase-item.is in
     let few = guarded_few c.args.plan.now.profile k (all_ops (phases_of c.args.plan.now)) in
-    let same = ap (λ (ops : List Op). guarded_of k ops) c.as_slice.ensures in
-    omega (arith, (every_plan c.requires.1).total, c.loop-phase.invariant.counts k, next, few, same)
+    omega (arith, (every_plan c.requires.1).total, c.loop-phase.invariant.counts k, next, few, ap (λ (ops : List Op). guarded_of k ops) c.as_slice.ensures)
 
 pub loop-phase-preserved : goal.loop-phase-preserved
 loop-phase-preserved c = record {
   counts = λ k.
       let next = phases_next k c.as_slice-phase-items.result.now c.loop-phase.phase-index c.phase-item.result c.loop-phase-test.true c.phase-item.is in
-      let same = ap (λ (ops : List Op). guarded_of k ops) c.as_slice.ensures in
-      omega (arith, c.loop-phase.invariant.counts k, next, c.count_guarded.ensures k, same);
+      omega (arith, c.loop-phase.invariant.counts k, next, c.count_guarded.ensures k, ap (λ (ops : List Op). guarded_of k ops) c.as_slice.ensures);
 }
 
 pub returns : goal.returns

@@ -1,4 +1,4 @@
-use Rattle.pas_acts.proofs.{Alone.can_begin, AtDesk.has_begun}
+use Rattle.pas_acts.proofs.AtDesk.{can_begin, has_begun}
 use Rattle.pas_acts.proofs.turns.begin.Goals as goal
 
 pub begin-requires : goal.begin-requires

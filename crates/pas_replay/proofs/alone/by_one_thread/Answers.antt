@@ -1,4 +1,4 @@
-use Rattle.pas_replay.proofs.RecordsOfOne.{shows_of_one}
+use Rattle.pas_replay.proofs.PlansOfOne.{shows_of_one}
 use Rattle.pas_replay.proofs.alone.by_one_thread.Goals as goal
 
 pub returns-clause-on_threads : goal.returns-clause-on_threads

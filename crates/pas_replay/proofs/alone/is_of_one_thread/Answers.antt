@@ -6,9 +6,7 @@ use Rattle.pas_replay.proofs.alone.is_of_one_thread.Goals as goal
 
 pub bounds-as_slice : goal.bounds-as_slice
 bounds-as_slice c =
-    let many = plan_bounds c.requires.1 in
-    let same = ap (λ (bounds : List ℕ). length bounds) c.as_slice.ensures in
-    omega (arith, many, same)
+    omega (arith, plan_bounds c.requires.1, ap (λ (bounds : List ℕ). length bounds) c.as_slice.ensures)
 
 pub returns-then-plan-eq0 : goal.returns-then-plan-eq0
 returns-then-plan-eq0 c =
@@ -18,8 +16,7 @@ returns-then-plan-eq0 c =
     let alone : (plan.profile.threads ≡ 1) × (plan.guard ≡ 0) = elim c.if-plan-eq1.branch [
       | then-plan-eq1 w ↦ (w.if-plan-eq1.true, eqb-true plan.guard 0 (sym w.value-is ∙ c.if-plan-eq0.true))
       | else-plan-eq1 w ↦
-          let one = eqb-true plan.profile.threads 1 (sym w.value-is ∙ c.if-plan-eq0.true) in
-          absurd (omega (arith, w.if-plan-eq1.false, one))
+          absurd (omega (arith, w.if-plan-eq1.false, eqb-true plan.profile.threads 1 (sym w.value-is ∙ c.if-plan-eq0.true)))
     ] in (
       λ is. bound_shows c.requires.1 alone.0 alone.1 (sym first ∙ eqb-true (slice_index bounds 0) 0 is),
       λ one. eq-eqb (slice_index bounds 0) 0 (first ∙ one_shows c.requires.1 one),

@@ -16,14 +16,11 @@ pub replay-region-requires-clause-phases : goal.replay-region-requires-clause-ph
 replay-region-requires-clause-phases g c =
     let n = ap (λ (ps : List Phase). length ps) c.as_slice.ensures in
     let m = length-map c.as_slice.result.now ops_of in
-    let k = ap (λ (ps : List Phase). length (map ops_of ps)) c.as_slice.ensures in
-    let few = plan_phases c.requires.plan.2 c.requires.plan.1 in
-    omega (arith, m, k, few)
+    omega (arith, m, ap (λ (ps : List Phase). length (map ops_of ps)) c.as_slice.ensures, plan_phases c.requires.plan.2 c.requires.plan.1)
 
 pub replay-region-requires-clause-books : goal.replay-region-requires-clause-books
 replay-region-requires-clause-books g c =
-    let few = keepers_few c.args.plan.now in
-    omega (arith, c.requires.kit.books.many, c.requires.kit.unused.many, few)
+    omega (arith, c.requires.kit.books.many, c.requires.kit.unused.many, keepers_few c.args.plan.now)
 
 pub replay-region-requires-clause-so_far : goal.replay-region-requires-clause-so_far
 replay-region-requires-clause-so_far g c =

@@ -1,7 +1,7 @@
 use Rattle.std.proofs.Common.{◌∙◌, ap}
 use Rattle.pas_trace.specs.Asked.{keeper_of}
 use Rattle.pas_answers.specs.Calls.{what_of}
-use Rattle.pas_replay.proofs.{ActsInOrder.as_first, ByActors.kept_as}
+use Rattle.pas_replay.proofs.{InOrder.as_first, ByActors.kept_as}
 use Rattle.pas_replay.proofs.order.own.Goals as goal
 
 pub guard-requires-clause-so_far : goal.guard-requires-clause-so_far

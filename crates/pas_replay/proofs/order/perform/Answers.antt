@@ -3,7 +3,7 @@ use Rattle.pas_trace.specs.Asked.{keeper_of}
 use Rattle.pas_trace.specs.declared.plan.Chore.{Chore}
 use Rattle.pas_acts.specs.Awake.{idle_in}
 use Rattle.pas_answers.proofs.Kept.{own_what}
-use Rattle.pas_replay.proofs.{ActsInOrder.as_first, ByActors.acts_as_own, ByActors.acts_as_chore, ByActors.own_actor}
+use Rattle.pas_replay.proofs.{InOrder.as_first, ByActors.acts_as_own, ByActors.acts_as_chore, ByActors.own_actor}
 use Rattle.pas_replay.proofs.order.perform.Goals as goal
 
 pub tick-requires : goal.tick-requires

@@ -3,7 +3,7 @@ use Rattle.pas_trace.specs.Acts.{acts_of_ops}
 use Rattle.pas_trace.specs.declared.plan.Op.{Op}
 use Rattle.pas_acts.specs.Awake.{idle_in}
 use Rattle.pas_replay.specs.Sessions.{session, telling}
-use Rattle.pas_replay.proofs.HandedOn.{as_between, can_show, none_told, op_next, taken_on}
+use Rattle.pas_replay.proofs.InOrder.{as_between, can_show, none_told, op_next, taken_on}
 use Rattle.pas_replay.proofs.order.perform_all.Goals as goal
 
 pub loop-op-init : goal.loop-op-init

@@ -7,9 +7,10 @@ use Rattle.pas_trace.specs.Acts.{Act, MarksPhase, MarksClose, Wakes, Ends, Lower
 use Rattle.pas_replay.specs.Sessions.{Replay, Left, Session, SoFarAt, hand_of, session, telling, upon}
 use Rattle.pas_replay.specs.Taking.{Begins, Between, left_between}
 use Rattle.pas_acts.specs.Awake.{awake_in, idle_in}
-use Rattle.pas_replay.proofs.{Turning.may_sit, order.replay.Given.Over, ActsInOrder.as_hand, ActsInOrder.after_mark, ActsInOrder.wakes_first}
+use Rattle.pas_replay.proofs.{Turning.may_sit, order.replay.Given.Over}
+use Rattle.pas_replay.proofs.InOrder.{as_hand, after_mark, wakes_first, as_between, can_show, close_next, mark_next, marked, none_told, taken_on, told_then}
+use Rattle.pas_replay.proofs.InOrder.{wakes_next}
 use Rattle.pas_acts.proofs.ActsLeft.{acts_left, next_phase, first_phase, other_phase, last_phase}
-use Rattle.pas_replay.proofs.HandedOn.{as_between, can_show, close_next, mark_next, marked, none_told, taken_on, told_then, wakes_next}
 use Rattle.pas_replay.proofs.order.replay.Goals as goal
 use Rattle.pas_replay.proofs.order.replay.Goals.{then-number-gt-UNMARKED, else-number-gt-UNMARKED, After-active-awake, After-push-2}
 
@@ -33,14 +34,12 @@ push-requires g c =
     let so0 = c.requires.so_far in
     let at = c.loop-phase.invariant in
     let i = c.loop-phase.phase-index in
-    let count = at.count in
-    let more = c.if-number-gt-UNMARKED.true in
     let item = c.phase-item.result in
     let r = telling so0.0 at.told in
     let s = session c.loop-phase.desk c.loop-phase.actors c.loop-phase.names c.loop-phase.out in
     let rest = map ops_of (drop (i + 1) c.args.phases.now) in
     let far = as_between waits r s (next_phase r.threads r.keepers c.args.phases.now i item (ops_of item) c.loop-phase-test.true (ap ops_of (sym c.phase-item.is))
-    ∙ other_phase r.threads r.keepers i (ops_of item) rest (omega (arith, count, more))) (at.far so0.0 so0.1) in
+    ∙ other_phase r.threads r.keepers i (ops_of item) rest (omega (arith, at.count, c.if-number-gt-UNMARKED.true))) (at.far so0.0 so0.1) in
     let spare = (mark_next waits r s _ (MarksPhase (i + 1)) refl far).1.1.spare in
     omega (arith, spare)
 

@@ -3,7 +3,7 @@ use Rattle.pas_trace.specs.{Acts.Settles, Asked.request_of, Asked.request_in}
 use Rattle.pas_trace.specs.declared.{item.Request.Request, plan.What.What}
 use Rattle.pas_answers.specs.{Calls.Tells, Calls.what_of, Calls.named_with, Fit.IsFitWhat, Names.names_held, Names.MayPack}
 use Rattle.pas_replay.specs.Sessions.{HasNamed}
-use Rattle.pas_replay.proofs.ActsInOrder.{as_first}
+use Rattle.pas_replay.proofs.InOrder.{as_first}
 use Rattle.pas_replay.proofs.seats.guard.Goals as goal
 
 pub keep-requires-clause-fit : goal.keep-requires-clause-fit

@@ -2,8 +2,8 @@ use Rattle.std.proofs.Common.{◌-◌, ◌++◌, ◌∙◌, subst, arith, length
 use Rattle.pas_trace.specs.declared.plan.What.{What}
 use Rattle.pas_profile.specs.declared.profile.Profile.{Profile}
 use Rattle.pas_answers.specs.{Calls.Tells, Calls.MayStand, Fit.IsFitWhat, Names.block_named, Names.names_held}
-use Rattle.pas_answers.proofs.{Kept.freed_task, Kept.named_task, Meanings.may_pack}
-use Rattle.pas_replay.proofs.{Turning.may_take_seat, ByActors.may_operate, ByActors.operate_turn, Doors.written_back}
+use Rattle.pas_answers.proofs.Kept.{freed_task, named_task, may_pack}
+use Rattle.pas_replay.proofs.{Turning.may_take_seat, ByActors.may_operate, ByActors.operate_turn, ByActors.written_back}
 use Rattle.pas_replay.proofs.seats.operate.Goals as goal
 
 pub take_seat-requires : goal.take_seat-requires

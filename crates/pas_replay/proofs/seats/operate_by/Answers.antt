@@ -3,7 +3,7 @@ use Rattle.pas_large.specs.Doors.{Indexes}
 use Rattle.pas_large.specs.declared.plain_door.PlainDoor.{PlainDoor}
 use Rattle.pas_trace.specs.Acts.{Operates, Settles}
 use Rattle.pas_answers.specs.Indexes.{AllAreNamedBy, indexes_after_all}
-use Rattle.pas_replay.proofs.Doors.{went_through}
+use Rattle.pas_replay.proofs.ByActors.{went_through}
 use Rattle.pas_replay.proofs.seats.operate_by.Goals as goal
 
 -- a door to the same indexes
@@ -21,9 +21,8 @@ returns-clause-operates g c = λ f op later p asks may.
     let through = went_through Kept held (λ d. refl) (λ x y z one two. two ∙ one) f op p did.reached did.reaches c.new-door.result c.operate.new.door all.1 in
     let entry = c.new-door.ensures.indexes in
     let left = through.2 ∙ ap (λ (ix : Indexes). indexes_after_all f (Operates op ∷ (Settles op.actor ∷ [])) p did.reached did.reaches ix) entry in
-    let same = through.1 ∙ c.new-door.ensures.same_reference in
     record {
       did = did;
       named = subst (λ (ix : Indexes). AllAreNamedBy f ix (Operates op ∷ (Settles op.actor ∷ [])) p did.reached did.reaches) entry through.0;
-      left = search (rules, left, same);
+      left = search (rules, left, through.1 ∙ c.new-door.ensures.same_reference);
     }

@@ -3,7 +3,7 @@ use Rattle.pas_cache.specs.Caches.{cached}
 use Rattle.pas_large.specs.Doors.{Indexes}
 use Rattle.pas_large.specs.declared.plain_door.PlainDoor.{PlainDoor}
 use Rattle.pas_answers.specs.Indexes.{with_noted}
-use Rattle.pas_replay.proofs.Doors.{handed}
+use Rattle.pas_replay.proofs.ByActors.{handed}
 use Rattle.pas_replay.proofs.seats.settle_by.Goals as goal
 
 -- a door to the same indexes
@@ -18,6 +18,4 @@ pub returns-clause-indexes : goal.returns-clause-indexes
 returns-clause-indexes c =
     let runs = (cached c.args.cache.now).noted in
     let went = handed Kept held (λ d. refl) (λ x y z one two. two ∙ one) runs c.new-plain.result c.settle.new.door c.settle.ensures.settles in
-    let left = went.1 ∙ ap (λ (ix : Indexes). with_noted ix runs) c.new-plain.ensures.indexes in
-    let same = went.0 ∙ c.new-plain.ensures.same_reference in
-    search (rules, left, same)
+    search (rules, went.1 ∙ ap (λ (ix : Indexes). with_noted ix runs) c.new-plain.ensures.indexes, went.0 ∙ c.new-plain.ensures.same_reference)

@@ -1,5 +1,5 @@
 use Rattle.std.proofs.Common.{arith, [], ◌∷◌}
-use Rattle.pas_answers.proofs.Meanings.{may_pack}
+use Rattle.pas_answers.proofs.Kept.{may_pack}
 use Rattle.pas_trace.specs.Acts.{Settles}
 use Rattle.pas_replay.specs.Sessions.{upon}
 use Rattle.pas_replay.proofs.Turning.{may_take_seat}

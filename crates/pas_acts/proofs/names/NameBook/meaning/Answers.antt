@@ -2,7 +2,7 @@ use Rattle.std.proofs.Common.{Option, map, ap, sym, ◌∙◌, arith}
 use Rattle.pas_profile.specs.declared.name.Block.{Block}
 use Rattle.pas_answers.specs.Names.{block_named}
 use Rattle.pas_acts.specs.NameBooks.{requests_in, request_at, named_of, came_to}
-use Rattle.pas_acts.proofs.Places.{at_place}
+use Rattle.pas_acts.proofs.Noting.{at_place}
 use Rattle.pas_acts.proofs.names.NameBook.meaning.Goals as goal
 
 pub returns-in-Some : goal.returns-in-Some

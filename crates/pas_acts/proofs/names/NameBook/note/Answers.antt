@@ -16,9 +16,8 @@ loop-op-init c = record { names = refl; placed = λ k. tt; counts = c.new-counts
 
 pub add-place-requires : goal.add-place-requires
 add-place-requires c =
-    let count = c.loop-op.invariant.counts (get_or c.args.ops.now c.loop-op.op-index past).actor in
     let small = count_small (get_or c.args.ops.now c.loop-op.op-index past).actor c.args.ops.now c.loop-op.op-index c.loop-op-test.true in
-    omega (arith, count, small, c.loop-op-test.true, c.requires.few)
+    omega (arith, c.loop-op.invariant.counts (get_or c.args.ops.now c.loop-op.op-index past).actor, small, c.loop-op-test.true, c.requires.few)
 
 pub set_place-requires : goal.set_place-requires
 set_place-requires c =

@@ -1,5 +1,5 @@
 use Rattle.std.proofs.Common.{Some, ap, sym, ◌∙◌}
-use Rattle.pas_acts.proofs.Places.{at_named, at_other, at_past}
+use Rattle.pas_acts.proofs.Noting.{at_named, at_other, at_past}
 use Rattle.pas_acts.proofs.names.Request.at.Goals as goal
 
 pub returns-then-request-name : goal.returns-then-request-name

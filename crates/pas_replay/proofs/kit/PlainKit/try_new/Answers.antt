@@ -5,7 +5,7 @@ use Rattle.pas_plain.specs.Plain.{PassStands}
 use Rattle.pas_plain.specs.declared.pass.PlainPass.{PlainPass}
 use Rattle.pas_utility.specs.Pools.{room_of}
 use Rattle.pas_answers.specs.{Fit.AllBelow, Replays.phases_of}
-use Rattle.pas_replay.proofs.Opening.{passes_count, fresh_actor}
+use Rattle.pas_replay.proofs.StartAndEnd.{passes_count, fresh_actor}
 use Rattle.pas_acts.proofs.PlanFacts.{plan_bounds, plan_below, plan_threads}
 use Rattle.pas_replay.proofs.kit.PlainKit.try_new.Goals as goal
 
@@ -20,21 +20,17 @@ rooms_of-requires-clause-left c = λ k le. (slice_index c.as_slice.result.now k,
 
 pub caches_for-requires-clause-few : goal.caches_for-requires-clause-few
 caches_for-requires-clause-few c =
-    let same = ap (λ (f : Profile). f.threads) c.region_of-profile.ensures.region in
-    let among = plan_threads c.args.plan.now in
-    omega (arith, c.region_of-profile.ensures.valid.threads, same, among)
+    omega (arith, c.region_of-profile.ensures.valid.threads, ap (λ (f : Profile). f.threads) c.region_of-profile.ensures.region, plan_threads c.args.plan.now)
 
 pub caches_for-requires-clause-threads : goal.caches_for-requires-clause-threads
 caches_for-requires-clause-threads c =
     let same = ap (λ (f : Profile). f.threads) c.region_of-profile.ensures.region in
-    let among = plan_threads c.args.plan.now in
-    omega (arith, same, among, c.in_ok-utility.ensures.threads, c.rooms_of.ensures.threads)
+    omega (arith, same, plan_threads c.args.plan.now, c.in_ok-utility.ensures.threads, c.rooms_of.ensures.threads)
 
 pub caches_for-requires-clause-left : goal.caches_for-requires-clause-left
 caches_for-requires-clause-left c = λ k low high.
     let same = ap (λ (f : Profile). f.threads) c.region_of-profile.ensures.region in
-    let among = plan_threads c.args.plan.now in
-    c.rooms_of.ensures.seats k ∙ c.in_ok-utility.ensures.seats k low (omega (arith, high, same, among))
+    c.rooms_of.ensures.seats k ∙ c.in_ok-utility.ensures.seats k low (omega (arith, high, same, plan_threads c.args.plan.now))
 
 pub returns : goal.returns
 returns c =
