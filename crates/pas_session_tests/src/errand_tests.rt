@@ -1,6 +1,6 @@
 //! An own errand against foreign ones, in storms at each own step number in turn.
 
-use crate::storming::{Found, Spoil, storm};
+use crate::storm_turns::{Found, Spoil, storm};
 use pas_trials::{Errand, Visit};
 use std::alloc::Global;
 use std::test::Fail;

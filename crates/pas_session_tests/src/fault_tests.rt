@@ -1,7 +1,7 @@
 //! What a storm reports: refusals among its events, and each kind of fault where something was spoilt after it.
 
 use crate::errand_tests::{FIRST, SLOT};
-use crate::storming::{Spoil, storm};
+use crate::storm_turns::{Spoil, storm};
 use pas_profile::*;
 use pas_trials::{Errand, Fault, Visit};
 use std::alloc::Global;

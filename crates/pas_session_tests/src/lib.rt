@@ -36,7 +36,7 @@ mod sizing_tests;
 #[cfg(test)]
 mod slot_tests;
 #[cfg(test)]
-mod storming;
+mod storm_turns;
 #[cfg(test)]
 mod turn_tests;
 #[cfg(test)]

@@ -2,7 +2,7 @@ use Rattle.std.proofs.Common.{◌≡◌}
 use Rattle.pas_plain.specs.{Plain.profile_of, Plain.room_of_pass, Plain.forgotten_by, Seats.region_of, Seats.pass_of}
 use Rattle.pas_session_tests.specs.Seated.{RestsBeside}
 use Rattle.pas_trials.specs.Storms.{cache_of}
-use Rattle.pas_session_tests.proofs.storming.prepare.Given as goal
+use Rattle.pas_session_tests.proofs.storm_turns.prepare.Given as goal
 
 -- the actor is at rest beside the other one after each errand
 abbrev pub invariant-loop-errand : goal.invariant-loop-errand

@@ -1,7 +1,7 @@
 use Rattle.std.proofs.Common.{◌++◌, ◌∙◌}
 use Rattle.pas_plain.specs.Storms.{storm_of}
 use Rattle.pas_session_tests.proofs.Stormed.{may_stop}
-use Rattle.pas_session_tests.proofs.storming.ride.Goals as goal
+use Rattle.pas_session_tests.proofs.storm_turns.ride.Goals as goal
 
 pub go_and_stop-requires-clause-can : goal.go_and_stop-requires-clause-can
 go_and_stop-requires-clause-can c =

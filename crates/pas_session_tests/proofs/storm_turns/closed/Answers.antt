@@ -2,7 +2,7 @@ use Rattle.std.proofs.Common.{[], ◌∷◌, All, List, sym, subst}
 use Rattle.std.proofs.lemmas.List.Elements.{All-nil, All-cons}
 use Rattle.pas_plain.specs.{Plain.profile_of, Plain.PassStands, Seats.ArePassesOf}
 use Rattle.pas_plain.specs.declared.pass.PlainPass.{PlainPass}
-use Rattle.pas_session_tests.proofs.storming.closed.Goals as goal
+use Rattle.pas_session_tests.proofs.storm_turns.closed.Goals as goal
 
 pub close-requires : goal.close-requires
 close-requires c =

@@ -1,5 +1,5 @@
 use Rattle.pas_session_tests.proofs.Riding.{may_stop_then, gone_and_stopped}
-use Rattle.pas_session_tests.proofs.storming.go_and_stop.Goals as goal
+use Rattle.pas_session_tests.proofs.storm_turns.go_and_stop.Goals as goal
 
 pub stop-requires : goal.stop-requires
 stop-requires g c = record { can = may_stop_then c.requires.can c.go.ensures.goes }

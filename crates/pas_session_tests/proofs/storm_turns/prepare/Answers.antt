@@ -1,7 +1,7 @@
 use Rattle.std.proofs.Common.{ap, ◌∙◌}
 use Rattle.pas_steps.specs.Desks.{Seat}
 use Rattle.pas_session_tests.proofs.Riding.{may_go_beside, rests_then}
-use Rattle.pas_session_tests.proofs.storming.prepare.Goals as goal
+use Rattle.pas_session_tests.proofs.storm_turns.prepare.Goals as goal
 
 pub go-requires-clause-can : goal.go-requires-clause-can
 go-requires-clause-can c = may_go_beside c.loop-errand.invariant.rest
