@@ -1,2 +1,6 @@
 mod BetweenCalls
 mod Beginning
+mod Besides
+mod Riding
+mod Sharing
+mod Stormed

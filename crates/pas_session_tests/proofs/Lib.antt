@@ -1,4 +1,0 @@
-mod Besides
-mod Riding
-mod Sharing
-mod Stormed
