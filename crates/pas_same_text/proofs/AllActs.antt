@@ -16,9 +16,9 @@ use Rattle.pas_trace.specs.{Acts.numbers_from, Acts.Act, Plans.IsPlanOf}
 use Rattle.pas_answers.specs.{Answers.Progress, Indexes.indexes_after, Indexes.indexes_after_all, Reaching.Reaches, Rests.AreAtRest, Rests.AllAtRest}
 use Rattle.pas_answers.specs.{Ways.InOrder}
 use Rattle.pas_answers.specs.Replays.{at_start, empty_cache, empty_caches, phases_of, region_of, threads_of, keepers_of, acts_of_plan, IsReplay}
-use Rattle.pas_one_text.specs.State.{Cache, World, no_cache, cache_in, each}
-use Rattle.pas_one_text.specs.Order.{opened, acts_on, replayed, order_text}
-use Rattle.pas_one_text.specs.Reports.{offered_by, parked_by, marks_of, text_of}
+use Rattle.pas_same_text.specs.State.{Cache, World, no_cache, cache_in, each}
+use Rattle.pas_same_text.specs.Order.{opened, acts_on, replayed, order_text}
+use Rattle.pas_same_text.specs.Reports.{offered_by, parked_by, marks_of, text_of}
 use Rattle.pas_same_text.specs.{Same.IsSame, Same.IsSameCache, Same.AreSameCaches, Acts.AreBlocksUsable, Acts.IsBetween, Acts.IsListed, Seats.IsActOf}
 use Rattle.pas_same_text.specs.{Seats.AreSeated, Told.IsTold}
 use Rattle.pas_same_text.proofs.{EntrySteps.read_deed, ActsOfPlans.plan_acts, ActsOfPlans.plan_region, SameIndexes.act_many, OneAct.act_same}

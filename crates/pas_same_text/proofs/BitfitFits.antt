@@ -4,7 +4,7 @@ use Rattle.std.proofs.Common.{◌/◌, ◌%◌, ◌≤◌, ◌==◌, nat_le, nat
 use Rattle.std.proofs.lemmas.Bool.{false≢true, or_cases, or_left, or_right, and_from, false_from_ne_true}
 use Rattle.std.proofs.{Math.Nat.suc-mul, lemmas.Bool.Decides.nat_tests, lemmas.Nat.div_below, lemmas.Nat.mul-le, Math.Nat.mul-mod_left, Math.Nat.mod-add-div'}
 use Rattle.std.specs.List.{list_any, filter}
-use Rattle.pas_one_text.specs.{Searches.some_of, Classes.spaced, State.World, Pages.is_free, Pages.are_free, Pages.is_guarded, Runs.lowest_place}
+use Rattle.pas_same_text.specs.{Searches.some_of, Classes.spaced, State.World, Pages.is_free, Pages.are_free, Pages.is_guarded, Runs.lowest_place}
 use Rattle.pas_profile.specs.{Classes.IsAlignment, Profiles.IsValid}
 use Rattle.pas_profile.specs.declared.profile.Profile.{Profile}
 use Rattle.pas_profile.proofs.Sizes.{passes_below, passes_at}

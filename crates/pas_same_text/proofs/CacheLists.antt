@@ -7,8 +7,8 @@ use Rattle.std.specs.List.{AllByRecursion, find, flat_map}
 use Rattle.pas_bits.specs.Masks.{is_set, IsLowestSet}
 use Rattle.pas_segregated.specs.declared.slots.Slots.{Slots}
 use Rattle.pas_cache.specs.{Changes.IsWithoutSlot, Locals.local_for, Locals.others_than, Locals.is_for as is_for_slots, Contents.Cached}
-use Rattle.pas_one_text.specs.State.{Local, Cache, cache_in, with_cache}
-use Rattle.pas_one_text.specs.Classes.{is_for, others}
+use Rattle.pas_same_text.specs.State.{Local, Cache, cache_in, with_cache}
+use Rattle.pas_same_text.specs.Classes.{is_for, others}
 use Rattle.pas_same_text.specs.Same.{IsSameLocal, AreSameLocals, has_number, IsRising, IsSameCache, AreSameCaches}
 use Rattle.pas_profile.specs.declared.profile.Profile.{Profile}
 use Rattle.pas_trace.specs.EveryPlan.{IsThread}

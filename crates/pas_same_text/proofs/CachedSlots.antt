@@ -21,10 +21,10 @@ use Rattle.pas_report.specs.declared.record.Record.{Record}
 use Rattle.pas_trace.specs.{EveryPlan.IsThread, Acts.Act}
 use Rattle.pas_trace.specs.declared.plan.What.TheVariants.{Alloc}
 use Rattle.pas_answers.specs.Answers.{Progress, Named, named, Answer, having, IsServed, after_answer}
-use Rattle.pas_one_text.specs.State.{Local, World, cache_of, locals_of}
-use Rattle.pas_one_text.specs.Classes.{is_for, others, gives_first, serves_class}
-use Rattle.pas_one_text.specs.Pages.{is_free, is_guarded, has_room, is_offered}
-use Rattle.pas_one_text.specs.{Searches.address_on, Order.serves}
+use Rattle.pas_same_text.specs.State.{Local, World, cache_of, locals_of}
+use Rattle.pas_same_text.specs.Classes.{is_for, others, gives_first, serves_class}
+use Rattle.pas_same_text.specs.Pages.{is_free, is_guarded, has_room, is_offered}
+use Rattle.pas_same_text.specs.{Searches.address_on, Order.serves}
 use Rattle.pas_same_text.specs.Same.{IsSame, HasSame, IsSameCache, IsSameLocal, AreSameLocals, has_number}
 use Rattle.pas_same_text.specs.Acts.{IsBetween, StaysSameWhere, HasCachedSlot}
 use Rattle.pas_same_text.proofs.CacheLists.{same_with, Finds, found_same, others_same, last_same, slot_given}

@@ -22,8 +22,8 @@ use Rattle.pas_cache.specs.Locals.{IsLocal, RestsWith, keeps_right, any_keeps, l
 use Rattle.pas_report.specs.declared.record.Said.{Said as TheSaid}
 use Rattle.pas_trace.specs.EveryPlan.{IsThread}
 use Rattle.pas_answers.specs.Answers.{Progress, Named, records_of, said_by, Caches}
-use Rattle.pas_one_text.specs.{State.Local, State.World, State.locals_of, Searches.some_of}
-use Rattle.pas_one_text.specs.Classes.{is_for, fetches, serves_class_by, serves_class}
+use Rattle.pas_same_text.specs.{State.Local, State.World, State.locals_of, Searches.some_of}
+use Rattle.pas_same_text.specs.Classes.{is_for, fetches, serves_class_by, serves_class}
 use Rattle.pas_same_text.specs.Same.{IsSame, IsSameLocal, AreSameLocals, ArePagesSame, has_number}
 use Rattle.pas_same_text.specs.Acts.{AreResting, IsBetween}
 use Rattle.pas_same_text.proofs.CacheLists.{same_own, same_again, Finds, found_same}

@@ -5,8 +5,8 @@ use Rattle.pas_profile.specs.declared.{event.Event.Event, profile.Profile.Profil
 use Rattle.pas_machine.specs.Machine.{Run}
 use Rattle.pas_free_log.specs.{Endings.reason_by, Flushes.event_for, Logs.is_sized, Flushes.Settled, Flushes.shown_for}
 use Rattle.pas_free_log.specs.declared.{ending.Outcome.Outcome, log.Entry.Entry, noting.EndedRun.EndedRun}
-use Rattle.pas_one_text.specs.State.{World, each, live_after, set_log}
-use Rattle.pas_one_text.specs.Frees.{ends, flushes}
+use Rattle.pas_same_text.specs.State.{World, each, live_after, set_log}
+use Rattle.pas_same_text.specs.Frees.{ends, flushes}
 use Rattle.pas_same_text.specs.Entries.{IsShown, IsEntryReason, IsEntryEvent, HaveOutcomes, are_unsized, onto, events_of_flush, HasShown, IsFlushOf}
 use Rattle.pas_same_text.specs.Same.{lives_in}
 use Rattle.pas_same_text.proofs.{EntryEvents.entry_shown, Tests.and_first, Tests.and_second}

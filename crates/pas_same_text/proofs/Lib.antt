@@ -72,3 +72,9 @@ mod SmallActs
 mod CacheLists
 mod SearchedPages
 mod Pieces
+pub mod Seen
+mod Rows
+mod Examples
+mod Faults
+mod Guarded
+mod Queue

@@ -15,8 +15,8 @@ use Rattle.pas_trace.specs.{Acts.Act, EveryPlan.IsThread}
 use Rattle.pas_trace.specs.declared.plan.What.TheVariants.{Free, FreeSized, Raw, RawSized}
 use Rattle.pas_answers.specs.Answers.{Progress, Named, Answer, after_answer, IsFreed, IsFreedBy, standing_for, with_records, with_steps, records_of, said_by}
 use Rattle.pas_answers.specs.Answers.{said_of_fault, room_noted}
-use Rattle.pas_one_text.specs.State.{World, Cache, cache_of, set_cache, says}
-use Rattle.pas_one_text.specs.Frees.{adds, logs, frees, frees_what, frees_named, refuses_free}
+use Rattle.pas_same_text.specs.State.{World, Cache, cache_of, set_cache, says}
+use Rattle.pas_same_text.specs.Frees.{adds, logs, frees, frees_what, frees_named, refuses_free}
 use Rattle.pas_same_text.specs.{Same.IsSame, Same.IsSameCache, Acts.StaysSameWhere, Acts.HasLogRoom}
 use Rattle.pas_same_text.proofs.CacheLists.{same_with, same_kept}
 use Rattle.pas_same_text.proofs.SmallActs.{unchanged, pages_next, records_next, cache_state}

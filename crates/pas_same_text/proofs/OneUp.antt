@@ -5,8 +5,8 @@ use Rattle.std.proofs.lemmas.Bool.{false≢true, or_right}
 use Rattle.std.specs.List.{list_any, find}
 use Rattle.pas_profile.specs.Profiles.{IsPage, IsValid, IsDirectoryOf}
 use Rattle.pas_profile.specs.declared.{profile.Profile.Profile, directory.Directory.Directory, event.Event.Event}
-use Rattle.pas_one_text.specs.State.{Local, Cache, World, cache_of, locals_of, set_locals}
-use Rattle.pas_one_text.specs.{Classes.is_for, Classes.others, Classes.gives_up, Pages.is_of}
+use Rattle.pas_same_text.specs.State.{Local, Cache, World, cache_of, locals_of, set_locals}
+use Rattle.pas_same_text.specs.{Classes.is_for, Classes.others, Classes.gives_up, Pages.is_of}
 use Rattle.pas_same_text.proofs.{GivenBack.Returns, GivenBack.OnlyHints, GivenBack.all_only_hints, GivenUp.AreUnique, GivenUp.one_returns, Tests.or_more}
 use Rattle.pas_same_text.proofs.{CacheLists.same_with, Flushes.visible_steps, GivenUp.unique_of, Holders.guards_as, Holders.still_unguarded}
 use Rattle.pas_same_text.proofs.{RestingPages.is_open, StillIndexes.same_guards, StillIndexes.given_up_keeps, StopActs.slot_room, StopActs.read_room}

@@ -10,9 +10,9 @@ use Rattle.pas_scavenger.specs.{Pages.unback_of, Passes.unbacks_in}
 use Rattle.pas_answers.specs.PassRecords.{record_of}
 use Rattle.pas_report.specs.declared.record.{Record.Record, Said.Said}
 use Rattle.pas_trace.specs.Acts.{numbers_from}
-use Rattle.pas_one_text.specs.State.{Cache, World, each, says}
-use Rattle.pas_one_text.specs.Pages.{page_numbers, is_free, is_kept, is_hinted}
-use Rattle.pas_one_text.specs.Passes.{used_word, free_bits, outcome_backed, outcome_of, comes_to, examines, passes}
+use Rattle.pas_same_text.specs.State.{Cache, World, each, says}
+use Rattle.pas_same_text.specs.Pages.{page_numbers, is_free, is_kept, is_hinted}
+use Rattle.pas_same_text.specs.Passes.{used_word, free_bits, outcome_backed, outcome_of, comes_to, examines, passes}
 use Rattle.pas_same_text.specs.Same.{has_number, lives_in}
 use Rattle.pas_same_text.proofs.{CacheLists.all_locals, GivenBack.free_kept, PassOutcomes.pair, PassOutcomes.stays_hinted, Tests.filtered_has}
 use Rattle.pas_same_text.proofs.{Tests.has_filtered}

@@ -7,8 +7,8 @@ use Rattle.pas_profile.specs.declared.{directory.Directory.Directory, event.Even
 use Rattle.pas_machine.specs.{Machine.Run, State.deed_in, State.backed_in}
 use Rattle.pas_scan.specs.Runs.{IsInRun}
 use Rattle.pas_trace.specs.Acts.{numbers_from}
-use Rattle.pas_one_text.specs.{State.World, Pages.page_numbers, Searches.deeds, Guards.are_bare, Guards.raises, Guards.raises_from}
-use Rattle.pas_one_text.specs.Runs.{large_of, is_run, deeds_run, serves_pages}
+use Rattle.pas_same_text.specs.{State.World, Pages.page_numbers, Searches.deeds, Guards.are_bare, Guards.raises, Guards.raises_from}
+use Rattle.pas_same_text.specs.Runs.{large_of, is_run, deeds_run, serves_pages}
 use Rattle.pas_same_text.proofs.ReadyPages.{shown, shown_events}
 use Rattle.pas_same_text.proofs.RunEvents.{each_in_turn, shown_both, deeds_of, AreFalling, AllInRun, deeds_in_turn}
 use Rattle.pas_profile.proofs.Lists.{all_map}

@@ -18,7 +18,7 @@ use Rattle.pas_large.specs.{Evidence.DeedsBelow, Evidence.DeedsRise, Gives.BackS
 use Rattle.pas_guard.specs.Seeks.{seeking}
 use Rattle.pas_large.proofs.Outcomes.{MadeOf}
 use Rattle.pas_trace.specs.Acts.{numbers_from}
-use Rattle.pas_one_text.specs.{State.World, State.shows, State.each, Searches.deeds, Searches.backs}
+use Rattle.pas_same_text.specs.{State.World, State.shows, State.each, Searches.deeds, Searches.backs}
 use Rattle.pas_same_text.proofs.{Flushes.visible_steps, RunsFound.DeedsInRun}
 use Rattle.pas_same_text.proofs.ReadyPages.{shown, shown_events, unowned, owned}
 use Rattle.pas_profile.proofs.Lists.{all_map}

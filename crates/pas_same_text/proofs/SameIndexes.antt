@@ -9,12 +9,12 @@ use Rattle.pas_free_log.specs.declared.noting.EndedRun.{EndedRun}
 use Rattle.pas_answers.specs.Answers.{standing_for, suits, Progress, Named, request_for}
 use Rattle.pas_trace.specs.{Acts.Act, Acts.numbers_from, Asked.request_in}
 use Rattle.pas_trace.specs.declared.{item.Request.Request, plan.What.What}
-use Rattle.pas_one_text.specs.State.{World, Guard, each, cache_of, locals_of, noted_of, set_noted}
-use Rattle.pas_one_text.specs.{Pages.page_numbers, Pages.minds, Searches.searched, Searches.deeds, Searches.backs, Classes.is_for, Indexes.indexes_run}
-use Rattle.pas_one_text.specs.{Indexes.loses_named, Frees.flushes, Frees.stops, Frees.logs, Passes.passes, Passes.stops_idle}
-use Rattle.pas_one_text.specs.Runs.{bitfit_of, large_of, lowest_place, is_run, run_or, named_run, lowest_run, deeds_run, serves_pages}
-use Rattle.pas_one_text.specs.Guards.{guards_of, is_over, without_guard, lowers, lowers_ended, are_bare, raises, raises_from, guards}
-use Rattle.pas_one_text.specs.Order.{serves, keeps_block, logs_replaced, replaces, remakes, operates, acts_on, opened}
+use Rattle.pas_same_text.specs.State.{World, Guard, each, cache_of, locals_of, noted_of, set_noted}
+use Rattle.pas_same_text.specs.{Pages.page_numbers, Pages.minds, Searches.searched, Searches.deeds, Searches.backs, Classes.is_for, Indexes.indexes_run}
+use Rattle.pas_same_text.specs.{Indexes.loses_named, Frees.flushes, Frees.stops, Frees.logs, Passes.passes, Passes.stops_idle}
+use Rattle.pas_same_text.specs.Runs.{bitfit_of, large_of, lowest_place, is_run, run_or, named_run, lowest_run, deeds_run, serves_pages}
+use Rattle.pas_same_text.specs.Guards.{guards_of, is_over, without_guard, lowers, lowers_ended, are_bare, raises, raises_from, guards}
+use Rattle.pas_same_text.specs.Order.{serves, keeps_block, logs_replaced, replaces, remakes, operates, acts_on, opened}
 use Rattle.pas_same_text.proofs.CacheLists.{many_with}
 use Rattle.pas_same_text.proofs.StillIndexes.{same_many, each_keeps, minds_keep, flushes_keep, stops_keep, idle_keeps, logs_keep, frees_keep, what_keeps}
 use Rattle.pas_same_text.proofs.StillIndexes.{deeds_keep, backs_keep, class_keeps, places_keep, run_keeps, pass_keeps, same_indexes}

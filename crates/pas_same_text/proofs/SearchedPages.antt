@@ -14,9 +14,9 @@ use Rattle.pas_core.proofs.Deeds.{deed_has_page}
 use Rattle.pas_core.proofs.OneActor.{offered_deed, unfit_entry, deed_quiet, deed_exit, deed_none, spot_same, zero_told, one_told, entry_lacks, legal_before}
 use Rattle.pas_large.specs.Telling.{IsWholePage, IsUsablePage, IsUsableRun, HasNoUsableRun, IsLowestRun, IsNamedWhole}
 use Rattle.pas_answers.specs.Answers.{Progress}
-use Rattle.pas_one_text.specs.{State.World, Indexes.named_first}
-use Rattle.pas_one_text.specs.Pages.{each_of, is_unowned, is_free, is_empty, is_offered, page_numbers, is_none}
-use Rattle.pas_one_text.specs.Runs.{large_of, is_whole, is_usable, if_whole, named_run, is_run, lowest_run}
+use Rattle.pas_same_text.specs.{State.World, Indexes.named_first}
+use Rattle.pas_same_text.specs.Pages.{each_of, is_unowned, is_free, is_empty, is_offered, page_numbers, is_none}
+use Rattle.pas_same_text.specs.Runs.{large_of, is_whole, is_usable, if_whole, named_run, is_run, lowest_run}
 use Rattle.pas_same_text.specs.{Same.HasSame, Same.ArePagesSame, Acts.IsBetween, Searched.IsSearch}
 use Rattle.pas_same_text.proofs.{FreeGrains.read_unless, GivenBack.each_at, GivenBack.each_all, Tests.and_first, Tests.and_second}
 use Rattle.pas_same_text.proofs.RestingPages.{open_unguarded, had_open, owned_is, no_word, unowned_by}
@@ -25,7 +25,7 @@ use Rattle.pas_steps.specs.declared.step.Made.{Made}
 use Rattle.pas_core.proofs.Rights.{is_offered as spot_offered, spot_of, spotted, right_not_offered}
 use Rattle.pas_search.specs.Searches.{FromOffered, ByDeed, DeedMadeHere}
 use Rattle.pas_trace.specs.Acts.{numbers_from}
-use Rattle.pas_one_text.specs.Searches.{some_of, page_or, refusal, searched}
+use Rattle.pas_same_text.specs.Searches.{some_of, page_or, refusal, searched}
 
 -- ---- the first number that passes a test
 first_at : (test : ℕ → Bool) (from : ℕ) (rest : Option ℕ) (t : Bool) → test from ≡ t → t ≡ false → (if test from then Some from else rest) ≡ rest

@@ -8,8 +8,8 @@ use Rattle.pas_steps.specs.Lists.{Whole, word_after, visible, Legal}
 use Rattle.pas_steps.specs.{Desks.made, Desks.triple, Views.usable_by_kind}
 use Rattle.pas_steps.specs.declared.step.Step.TheVariants.{Look, Tick}
 use Rattle.pas_core.specs.Rights.{empty_bit, eligible_bit}
-use Rattle.pas_one_text.specs.State.{Local, Guard, World, Cache, each, cache_of, set_cache, set_noted, noted_of, says}
-use Rattle.pas_one_text.specs.Pages.{is_offered, is_same, is_free_of, each_of}
+use Rattle.pas_same_text.specs.State.{Local, Guard, World, Cache, each, cache_of, set_cache, set_noted, noted_of, says}
+use Rattle.pas_same_text.specs.Pages.{is_offered, is_same, is_free_of, each_of}
 use Rattle.pas_machine.specs.State.{deed_in}
 use Rattle.std.specs.List.{list_any, filter}
 use Rattle.pas_same_text.specs.{Same.ArePagesSame, Same.IsSame, Same.IsSameCache, Acts.StaysSame}
@@ -20,7 +20,7 @@ use Rattle.pas_free_log.specs.declared.noting.EndedRun.{EndedRun}
 use Rattle.pas_report.specs.declared.record.{Record.Record, Said.Said}
 use Rattle.pas_trace.specs.{Acts.Act, EveryPlan.IsThread}
 use Rattle.pas_answers.specs.Answers.{Progress, with_records, begun, after_settling, after_wake, after_reading, after_tick}
-use Rattle.pas_one_text.specs.{Indexes.indexes_run, Indexes.settles, Order.begins, Passes.ticks, Passes.reads_epoch}
+use Rattle.pas_same_text.specs.{Indexes.indexes_run, Indexes.settles, Order.begins, Passes.ticks, Passes.reads_epoch}
 
 -- ---- lists of steps with the same events and the same bits of pages
 pub record HaveSamePages (l l' : Whole) : Type 0 where

@@ -17,7 +17,7 @@ use Rattle.pas_large.specs.{Evidence.AllUsable, Evidence.DeedsOf, Finds.MayFind,
 use Rattle.pas_large.proofs.Outcomes.{MadeOf}
 use Rattle.pas_guard.specs.Evidence.{HoldsRunWhole, OuterBackedHere, IsBad, OuterFailsHere, HasFailedOnce}
 use Rattle.pas_guard.specs.Seeks.{seeking}
-use Rattle.pas_one_text.specs.Runs.{large_of}
+use Rattle.pas_same_text.specs.Runs.{large_of}
 use Rattle.pas_same_text.proofs.{GivingBack.backed_stays, RunEvents.with_deed, RunEvents.deeded, FreeGrains.free_unheld}
 use Rattle.pas_same_text.proofs.RunsFound.{usable_was, bad_never, lacks_usable, never_fails}
 

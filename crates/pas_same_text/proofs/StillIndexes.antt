@@ -9,14 +9,14 @@ use Rattle.pas_large.specs.declared.span.Span.{Span}
 use Rattle.pas_free_log.specs.Logs.{sized_entry}
 use Rattle.pas_free_log.specs.declared.log.Entry.{Entry}
 use Rattle.pas_report.specs.declared.record.{Record.Record, Said.Said}
-use Rattle.pas_one_text.specs.State.{World, Cache, Guard, Local, each, shows, says, block_at, cache_of, locals_of, log_of, noted_of, set_cache, set_log}
-use Rattle.pas_one_text.specs.State.{set_locals}
-use Rattle.pas_one_text.specs.Pages.{page_numbers, is_empty, is_unowned, is_hinted, hints, minds}
-use Rattle.pas_one_text.specs.Searches.{some_of, searched, deeds, backs, readies}
-use Rattle.pas_one_text.specs.{Indexes.run_of, Indexes.notes, Runs.gives_place, Runs.places, Runs.serves_run}
-use Rattle.pas_one_text.specs.Classes.{slots_for, gives_up, gives_up_first, gives_first, takes_page, fetches, makes_place, serves_class_by, others}
-use Rattle.pas_one_text.specs.Frees.{pages_of, ends_block, takes_effect, ends, flushes, stops, logs, frees, frees_what}
-use Rattle.pas_one_text.specs.Passes.{outcome_of, comes_to, examines, passes}
+use Rattle.pas_same_text.specs.State.{World, Cache, Guard, Local, each, shows, says, block_at, cache_of, locals_of, log_of, noted_of, set_cache, set_log}
+use Rattle.pas_same_text.specs.State.{set_locals}
+use Rattle.pas_same_text.specs.Pages.{page_numbers, is_empty, is_unowned, is_hinted, hints, minds}
+use Rattle.pas_same_text.specs.Searches.{some_of, searched, deeds, backs, readies}
+use Rattle.pas_same_text.specs.{Indexes.run_of, Indexes.notes, Runs.gives_place, Runs.places, Runs.serves_run}
+use Rattle.pas_same_text.specs.Classes.{slots_for, gives_up, gives_up_first, gives_first, takes_page, fetches, makes_place, serves_class_by, others}
+use Rattle.pas_same_text.specs.Frees.{pages_of, ends_block, takes_effect, ends, flushes, stops, logs, frees, frees_what}
+use Rattle.pas_same_text.specs.Passes.{outcome_of, comes_to, examines, passes}
 use Rattle.std.specs.List.{filter}
 use Rattle.pas_same_text.proofs.CacheLists.{many_with}
 

@@ -5,8 +5,8 @@ use Rattle.pas_trace.specs.{Plans.IsPlanOf, Plans.Parsed, Plans.shared_in, Reaso
 use Rattle.pas_trace.specs.declared.plan.{Op.Op, Plan.Plan}
 use Rattle.pas_trace.proofs.Keepers.{plan_actors}
 use Rattle.pas_answers.specs.Replays.{phases_of, region_of, keepers_of}
-use Rattle.pas_one_text.specs.{State.World, Reports.text_of}
-use Rattle.pas_one_text.specs.Order.{replayed, replay_of, order_text, text_for, region_of as text_region}
+use Rattle.pas_same_text.specs.{State.World, Reports.text_of}
+use Rattle.pas_same_text.specs.Order.{replayed, replay_of, order_text, text_for, region_of as text_region}
 
 -- the region of a plan without keepers has no other actors than its threads
 pub region_same : (plan : Plan) → keepers_of plan ≡ 0 → plan.profile ≡ region_of plan

@@ -7,3 +7,14 @@ pub mod Entries
 pub mod Searched
 pub mod Seats
 pub mod Told
+pub mod State
+pub mod Indexes
+pub mod Pages
+pub mod Searches
+pub mod Classes
+pub mod Runs
+pub mod Guards
+pub mod Frees
+pub mod Passes
+pub mod Reports
+pub mod Order

@@ -11,8 +11,8 @@ use Rattle.pas_cache.specs.Contents.{Cached}
 use Rattle.pas_guard.specs.declared.book.Guard.{Guard as BookGuard}
 use Rattle.pas_trace.specs.EveryPlan.{IsThread}
 use Rattle.pas_answers.specs.Answers.{Caches, Books, Progress}
-use Rattle.pas_one_text.specs.State.{Local, Cache, Guard, World, live_after, cache_in}
-use Rattle.pas_one_text.specs.Pages.{is_offered, is_hinted}
+use Rattle.pas_same_text.specs.State.{Local, Cache, Guard, World, live_after, cache_in}
+use Rattle.pas_same_text.specs.Pages.{is_offered, is_hinted}
 
 -- ---- caches
 -- the number stands in the list; the list rises

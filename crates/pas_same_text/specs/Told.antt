@@ -5,7 +5,7 @@ use Rattle.pas_report.specs.{Lines.lines_of, Marks.marks_after, Reports.report_t
 use Rattle.pas_report.specs.declared.record.Record.{Record}
 use Rattle.pas_trace.specs.declared.plan.Plan.{Plan}
 use Rattle.pas_answers.specs.Replays.{region_of}
-use Rattle.pas_one_text.specs.{State.World, Reports.text_of}
+use Rattle.pas_same_text.specs.{State.World, Reports.text_of}
 
 -- The text of the state is what is written of the replay: the lines of its records, and the report of the machine that its events reach, with the marks after its list. The
 -- state has its records and its events.

@@ -9,13 +9,13 @@ ghost use Rattle.pas_profile.specs.Profiles.{IsValid, IsAdmitted, IsPage, IsDire
 ghost use Rattle.pas_search.specs.{Kinds.ReturnsDuly, Telling.IsTrueReason, Searches.FromOffered, Searches.ByDeed};
 ghost use Rattle.pas_machine.specs.Machine.{Run};
 ghost use Rattle.pas_free_log.specs.declared.{ending.Outcome.Outcome, log.Entry.Entry, noting.EndedRun.EndedRun};
-ghost use Rattle.pas_one_text.specs.{Frees.ends, Frees.flushes, Searches.refusal, Searches.searched, Reports.text_of, State.World, State.each};
-ghost use Rattle.pas_one_text.specs.{Indexes.named_first};
+ghost use Rattle.pas_same_text.specs.{Frees.ends, Frees.flushes, Searches.refusal, Searches.searched, Reports.text_of, State.World, State.each};
+ghost use Rattle.pas_same_text.specs.{Indexes.named_first};
 ghost use Rattle.pas_same_text.specs.{Same.IsSame, Same.lives_in, Same.ArePagesSame, Requests.RequestStaysSame, Told.IsTold, Searched.IsSearch, Words.free_bit};
 ghost use Rattle.pas_same_text.specs.Known.{ArePlanned, IsCarried, AreKnown, KeepsSame};
 ghost use Rattle.pas_answers.specs.{Indexes.ActIsNamedBy, Indexes.indexes_after_all, Reaching.Reaches, Ways.InOrder, Answers.Progress};
 ghost use Rattle.pas_answers.specs.Replays.{IsReplay, at_start, phases_of, region_of, threads_of, keepers_of, acts_of_plan};
-ghost use Rattle.pas_one_text.specs.Order.{acts_on, opened, replayed, order_text};
+ghost use Rattle.pas_same_text.specs.Order.{acts_on, opened, replayed, order_text};
 ghost use Rattle.pas_report.specs.{Lines.lines_of, Marks.marks_after, Reports.report_text, Rests.AreStamped, Rests.AreTrueMarks};
 ghost use Rattle.pas_large.specs.{Doors.Indexes, Doors.no_ranges, Finds.MayFind, Finds.FoundRun, Finds.finding};
 ghost use Rattle.pas_trace.specs.declared.{item.Request.Request, plan.Plan.Plan};
@@ -26,8 +26,8 @@ ghost use Rattle.pas_steps.specs.{Kinds.Only, Past.Always, Desks.triples, Views.
 ghost use Rattle.pas_steps.specs.Lists.{Whole, part, visible, Legal};
 ghost use Rattle.pas_steps.specs.declared.step.Made.{Made};
 ghost use Rattle.pas_core.specs.Rights.{eligible_bit, free_of_page};
-ghost use Rattle.pas_one_text.specs.Runs.{large_of, is_whole, is_usable, named_run, lowest_run};
-ghost use Rattle.pas_one_text.specs.Pages.{is_free, is_kept, is_offered, has_room, is_guarded};
+ghost use Rattle.pas_same_text.specs.Runs.{large_of, is_whole, is_usable, named_run, lowest_run};
+ghost use Rattle.pas_same_text.specs.Pages.{is_free, is_kept, is_offered, has_room, is_guarded};
 ghost use Rattle.pas_same_text.specs.Acts.{IsBetween, IsAtRest, IsTaken, StaysSame, StaysSameWhere, HasUsableBlocks, KeepsUsable, AreEndsStamped, KeepsStamped};
 ghost use Rattle.pas_same_text.specs.Acts.{KeepsIndexes, HasLogRoom, HasCachedSlot};
 

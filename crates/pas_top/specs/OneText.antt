@@ -8,7 +8,7 @@ use Rattle.pas_io.specs.Told.{Writes}
 use Rattle.pas_report.specs.Reports.{total_line}
 use Rattle.pas_answers.specs.Ways.{Way, InOrder, OnThreads}
 use Rattle.pas_replay.specs.OneThread.{IsOfOneThread}
-use Rattle.pas_one_text.specs.{State.World, Order.order_text, Order.region_of, Order.replay_of}
+use Rattle.pas_same_text.specs.{State.World, Order.order_text, Order.region_of, Order.replay_of}
 use Rattle.pas_telling.specs.Summaries.{summary_text}
 
 -- THE TEXT IS THAT OF THE BYTES, as `pas_one_text` says it

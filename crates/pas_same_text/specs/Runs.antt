@@ -3,9 +3,9 @@ use Rattle.std.specs.Prelude.{ℕ, ◌+◌, ◌*◌, ◌/◌, nat_le, Bool, ◌&
 use Rattle.std.specs.List.{find, filter}
 use Rattle.pas_profile.specs.declared.{directory.Directory.Directory, directory.Kind.Kind, event.NoRoom.NoRoom, profile.Profile.Profile}
 use Rattle.pas_trace.specs.Acts.{numbers_from}
-use Rattle.pas_one_text.specs.{State.World, State.each, Indexes.named_first, Indexes.loses_named, Classes.spaced}
-use Rattle.pas_one_text.specs.Pages.{page_numbers, each_of, are_free, is_empty, is_unowned, is_offered}
-use Rattle.pas_one_text.specs.Searches.{refusal, searched, deeds, backs, readies, address_on, gives, refuses}
+use Rattle.pas_same_text.specs.{State.World, State.each, Indexes.named_first, Indexes.loses_named, Classes.spaced}
+use Rattle.pas_same_text.specs.Pages.{page_numbers, each_of, are_free, is_empty, is_unowned, is_offered}
+use Rattle.pas_same_text.specs.Searches.{refusal, searched, deeds, backs, readies, address_on, gives, refuses}
 
 -- ---- a run of grains on one page
 -- the directory of the pages of a heap that are split bit by bit

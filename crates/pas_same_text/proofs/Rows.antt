@@ -2,10 +2,10 @@
 use Rattle.std.proofs.Common.{◌≡◌, true, false, [], ◌∷◌, codes, refl}
 use Rattle.pas_profile.specs.declared.directory.Kind.{Kind}
 use Rattle.pas_report.specs.Reports.{grains_that}
-use Rattle.pas_one_text.specs.{Pages.each_of, Passes.free_bits}
-use Rattle.pas_one_text.proofs.Seen.{seen, shown, row_of, marked, totalled, deed_of, back_of, unback_of, give_of, freed_of, ended_of, no_block_of}
-use Rattle.pas_one_text.proofs.Seen.{size_differs_of, outside_of, unaligned_of, no_space_of, held_of, skipped_of, kept_of, tick_of, pass_of, young_of}
-use Rattle.pas_one_text.proofs.Seen.{stopped_of, phase_of, closed}
+use Rattle.pas_same_text.specs.{Pages.each_of, Passes.free_bits}
+use Rattle.pas_same_text.proofs.Seen.{seen, shown, row_of, marked, totalled, deed_of, back_of, unback_of, give_of, freed_of, ended_of, no_block_of}
+use Rattle.pas_same_text.proofs.Seen.{size_differs_of, outside_of, unaligned_of, no_space_of, held_of, skipped_of, kept_of, tick_of, pass_of, young_of}
+use Rattle.pas_same_text.proofs.Seen.{stopped_of, phase_of, closed}
 
 row_another_thread : seen (codes "pas 1 pages 1 threads 2 heaps 1 age 2\na 1 1 0 16 16\na 2 2 0 16 16\nf 2 2\n")
     ≡ shown (deed_of 1 1 0 (Kind.Class 0) ∷ back_of 1 1 ∷ give_of 1 4096 0 16 0 ∷ held_of 2 1 2 ∷ skipped_of 2 2 ∷ closed ∷ []) (row_of 1 0 (Kind.Class 0) 1 255 0 (marked true true false false) ∷ []) (totalled 1 1 1 1 0)

@@ -7,7 +7,7 @@ use Rattle.pas_profile.specs.declared.{directory.Directory.Directory, name.Block
 use Rattle.pas_machine.specs.State.{deed_in, backed_in}
 use Rattle.pas_steps.specs.Views.{usable_by_kind}
 use Rattle.pas_trace.specs.Acts.{numbers_from}
-use Rattle.pas_one_text.specs.State.{Local, World}
+use Rattle.pas_same_text.specs.State.{Local, World}
 
 -- the pages of the region, in order
 abbrev pub page_numbers : Profile → List ℕ

@@ -2,7 +2,7 @@
 use Rattle.std.proofs.Common.{◌≡◌, codes, refl}
 use Rattle.pas_report.specs.Reports.{grains_that}
 use Rattle.pas_trace.specs.declared.fault.Reason.{Reason}
-use Rattle.pas_one_text.proofs.Seen.{seen, faulty}
+use Rattle.pas_same_text.proofs.Seen.{seen, faulty}
 
 fault_bad_align : seen (codes "pas 1 pages 4 threads 2 heaps 1 age 2\na 1 1 0 16 24\n") ≡ faulty 2 Reason.BadAlign
 unfolding seen grains_that

@@ -4,9 +4,9 @@ use Rattle.std.specs.Prelude.{Result, Ok, Err}
 use Rattle.std.specs.List.{find, filter}
 use Rattle.pas_profile.specs.{Classes.class_size, Classes.class_grains, Classes.slots_of, Requests.class_home, Requests.is_shared}
 use Rattle.pas_profile.specs.declared.{event.NoRoom.NoRoom, profile.Profile.Profile}
-use Rattle.pas_one_text.specs.State.{Local, World, locals_of, set_locals}
-use Rattle.pas_one_text.specs.Pages.{are_free, minds}
-use Rattle.pas_one_text.specs.Searches.{some_of, searched, readies, address_on, gives, refuses}
+use Rattle.pas_same_text.specs.State.{Local, World, locals_of, set_locals}
+use Rattle.pas_same_text.specs.Pages.{are_free, minds}
+use Rattle.pas_same_text.specs.Searches.{some_of, searched, readies, address_on, gives, refuses}
 
 -- ---- the slots that are taken of a page
 -- n numbers, each by the step above the one before

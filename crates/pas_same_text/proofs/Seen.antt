@@ -12,7 +12,7 @@ use Rattle.pas_report.specs.{Marks.Marked, Reports.live_on}
 use Rattle.pas_report.specs.declared.record.{Record.Record as TheRecord, Record.Record, Said.Said}
 use Rattle.pas_trace.specs.Plans.{Parsed, parsed, fault_at}
 use Rattle.pas_trace.specs.declared.fault.{Reason.Reason, TraceFault.TraceFault}
-use Rattle.pas_one_text.specs.{State.World, Pages.page_numbers, Pages.blocks_on, Pages.is_covered, Reports.marks_of, Order.region_of, Order.replay_of}
+use Rattle.pas_same_text.specs.{State.World, Pages.page_numbers, Pages.blocks_on, Pages.is_covered, Reports.marks_of, Order.region_of, Order.replay_of}
 
 -- ---- what is seen
 pub record Row : Type 0 where

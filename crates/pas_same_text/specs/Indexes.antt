@@ -6,7 +6,7 @@ use Rattle.pas_machine.specs.State.{deed_in}
 use Rattle.pas_free_log.specs.declared.noting.EndedRun.{EndedRun}
 use Rattle.pas_free_log.specs.Noted.{large_run}
 use Rattle.pas_large.specs.Doors.{found_in, cut_in, added_in}
-use Rattle.pas_one_text.specs.State.{World, each, noted_of, set_noted}
+use Rattle.pas_same_text.specs.State.{World, each, noted_of, set_noted}
 
 -- ---- from an end to the index
 -- the run of a block of whole pages, with its heap; nothing for a block of another kind of page

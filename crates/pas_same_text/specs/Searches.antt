@@ -6,8 +6,8 @@ use Rattle.pas_profile.specs.declared.{profile.Profile.Profile}
 use Rattle.pas_machine.specs.State.{backed_in, gives_in}
 use Rattle.pas_report.specs.declared.record.Record.{Record}
 use Rattle.pas_answers.specs.Answers.{said_of_room}
-use Rattle.pas_one_text.specs.State.{World, shows, says, names_it}
-use Rattle.pas_one_text.specs.Pages.{page_numbers, is_unowned, is_of, is_kept, is_offered}
+use Rattle.pas_same_text.specs.State.{World, shows, says, names_it}
+use Rattle.pas_same_text.specs.Pages.{page_numbers, is_unowned, is_of, is_kept, is_offered}
 
 -- the list has a number
 abbrev pub some_of : List ℕ → Bool

@@ -3,10 +3,10 @@ use Rattle.std.proofs.Common.{◌≡◌, true, false, [], ◌∷◌, codes, refl
 use Rattle.pas_profile.specs.declared.directory.Kind.{Kind}
 use Rattle.pas_report.specs.Reports.{grains_that}
 use Rattle.pas_trace.specs.declared.fault.Reason.{Reason}
-use Rattle.pas_one_text.specs.{Pages.each_of, Passes.free_bits}
-use Rattle.pas_one_text.proofs.Seen.{seen, shown, faulty, row_of, marked, totalled, deed_of, back_of, unback_of, give_of, freed_of, ended_of, no_block_of}
-use Rattle.pas_one_text.proofs.Seen.{size_differs_of, outside_of, unaligned_of, no_space_of, held_of, skipped_of, kept_of, tick_of, pass_of, young_of}
-use Rattle.pas_one_text.proofs.Seen.{in_use_of, not_offered_of, stopped_of, phase_of, closed}
+use Rattle.pas_same_text.specs.{Pages.each_of, Passes.free_bits}
+use Rattle.pas_same_text.proofs.Seen.{seen, shown, faulty, row_of, marked, totalled, deed_of, back_of, unback_of, give_of, freed_of, ended_of, no_block_of}
+use Rattle.pas_same_text.proofs.Seen.{size_differs_of, outside_of, unaligned_of, no_space_of, held_of, skipped_of, kept_of, tick_of, pass_of, young_of}
+use Rattle.pas_same_text.proofs.Seen.{in_use_of, not_offered_of, stopped_of, phase_of, closed}
 
 example_bit_fit : seen (codes "pas 1 pages 8 threads 1 heaps 1 age 2\n# Above 512 bytes a block takes just the grains of 16 bytes that it needs, at the lowest place of the heap's bit-fit pages that is aligned.\na 1 1 0 600 16\na 1 2 0 1000 16\na 1 3 0 513 256\nf 1 1\nflush 1\n# The first block's 38 grains are free again: 560 bytes fit there, 640 don't.\na 1 4 0 640 16\na 1 5 0 560 16\n")
     ≡ shown (deed_of 1 1 0 Kind.Bitfit ∷ back_of 1 1 ∷ give_of 1 4096 0 608 0 ∷ give_of 1 4704 0 1008 0 ∷ give_of 1 5888 0 528 0 ∷ freed_of 1 4096 0 0 ∷ give_of 1 6416 0 640 0 ∷ give_of 1 4096 1 560 0 ∷ closed ∷ []) (row_of 1 0 Kind.Bitfit 4 85 0 (marked true true false false) ∷ []) (totalled 1 1 4 5 1)

@@ -3,7 +3,7 @@ use Rattle.std.specs.Prelude.{ℕ, Bool, false, not, List, ◌++◌, reverse, Op
 use Rattle.pas_profile.specs.declared.{directory.Directory.Directory, profile.Profile.Profile}
 use Rattle.pas_machine.specs.State.{deed_in, backed_in}
 use Rattle.pas_report.specs.{Lines.lines_of, Marks.Marked, Reports.report_text}
-use Rattle.pas_one_text.specs.{State.World, Pages.is_offered, Pages.is_hinted}
+use Rattle.pas_same_text.specs.{State.World, Pages.is_offered, Pages.is_hinted}
 
 -- a page of a directory is offered, or else parked
 abbrev pub offered_by : World → Option Directory → ℕ → Bool

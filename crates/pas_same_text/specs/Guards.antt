@@ -7,9 +7,9 @@ use Rattle.pas_profile.specs.declared.profile.Profile.{Profile}
 use Rattle.pas_machine.specs.State.{backed_in, ends_in}
 use Rattle.pas_trace.specs.declared.item.Request.{Request}
 use Rattle.pas_report.specs.declared.record.{Record.Record, Said.Said}
-use Rattle.pas_one_text.specs.State.{Guard, World, each, says}
-use Rattle.pas_one_text.specs.{Pages.page_numbers, Pages.minds, Searches.address_on, Searches.name_at}
-use Rattle.pas_one_text.specs.Runs.{is_run, deeds_run, gives_run, serves_pages}
+use Rattle.pas_same_text.specs.State.{Guard, World, each, says}
+use Rattle.pas_same_text.specs.{Pages.page_numbers, Pages.minds, Searches.address_on, Searches.name_at}
+use Rattle.pas_same_text.specs.Runs.{is_run, deeds_run, gives_run, serves_pages}
 
 -- ---- guards are lowered
 -- a keeper's guards, in the order in which they went up

@@ -5,9 +5,9 @@ use Rattle.pas_profile.specs.declared.{event.Event.Event, event.Outcome.Outcome,
 use Rattle.pas_machine.specs.State.{backed_in, epoch_in}
 use Rattle.pas_report.specs.declared.record.{Record.Record, Said.Said}
 use Rattle.pas_answers.specs.PassRecords.{record_of}
-use Rattle.pas_one_text.specs.State.{World, each, shows, says, cache_of}
-use Rattle.pas_one_text.specs.Pages.{page_numbers, is_free, are_free, is_kept, is_hinted, unhints}
-use Rattle.pas_one_text.specs.Frees.{stops}
+use Rattle.pas_same_text.specs.State.{World, each, shows, says, cache_of}
+use Rattle.pas_same_text.specs.Pages.{page_numbers, is_free, are_free, is_kept, is_hinted, unhints}
+use Rattle.pas_same_text.specs.Frees.{stops}
 
 -- ---- a tick: the epoch never falls
 abbrev pub ticks : ℕ → World → World

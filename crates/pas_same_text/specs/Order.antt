@@ -8,10 +8,10 @@ use Rattle.pas_trace.specs.{Asked.request_in, Reasons.guard_in, Acts.Act, Acts.n
 use Rattle.pas_trace.specs.Plans.{Parsed, parsed, phases_in, shared_in}
 use Rattle.pas_report.specs.declared.record.{Record.Record, Said.Said}
 use Rattle.pas_answers.specs.Answers.{standing_for, suits}
-use Rattle.pas_one_text.specs.State.{World, each, no_cache, cache_of, set_cache, says, names_it}
-use Rattle.pas_one_text.specs.{Indexes.settles, Classes.serves_class, Runs.serves_bitfit, Runs.serves_pages, Guards.guards, Guards.lowers_all, Reports.text_of}
-use Rattle.pas_one_text.specs.Frees.{flushes, stops, logs, frees, frees_named}
-use Rattle.pas_one_text.specs.Passes.{ticks, passes, reads_epoch, stops_idle}
+use Rattle.pas_same_text.specs.State.{World, each, no_cache, cache_of, set_cache, says, names_it}
+use Rattle.pas_same_text.specs.{Indexes.settles, Classes.serves_class, Runs.serves_bitfit, Runs.serves_pages, Guards.guards, Guards.lowers_all, Reports.text_of}
+use Rattle.pas_same_text.specs.Frees.{flushes, stops, logs, frees, frees_named}
+use Rattle.pas_same_text.specs.Passes.{ticks, passes, reads_epoch, stops_idle}
 
 -- ---- the operations of thread k; those of the scavenger are acts of their own
 -- a request, by the route of its size and alignment

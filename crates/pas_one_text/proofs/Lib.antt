@@ -1,6 +1,0 @@
-pub mod Seen
-mod Rows
-mod Examples
-mod Faults
-mod Guarded
-mod Queue
