@@ -14,3 +14,4 @@ pub mod SingleActs
 mod PassShown
 mod TicksAndPasses
 pub mod EachAct
+mod Moves

@@ -3,11 +3,11 @@
 use pas_cache::{Moved, ThreadCache};
 use pas_large::Door;
 use pas_profile::{Block, NoRoom};
-use pas_realloc::reallocate;
+use pas_answers::reallocate;
 use pas_replay::Remake;
 use pas_steps::Desk;
 
-/// Reallocation as a replay is handed it: each block gets another size by `pas_realloc::reallocate`.
+/// Reallocation as a replay is handed it: each block gets another size by `pas_answers::reallocate`.
 #[derive(Clone, Copy, Drop)]
 pub struct Reallocation;
 

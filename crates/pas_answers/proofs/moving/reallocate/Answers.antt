@@ -1,8 +1,8 @@
 use Rattle.std.proofs.Common.{sym, ◌∙◌, refl}
 use Rattle.pas_cache.specs.Caches.{cached}
 use Rattle.pas_answers.proofs.Requests.{serves}
-use Rattle.pas_realloc.proofs.Moves.{can_serve, kept, refused, room_to_free, can_free, no_fault, replaced, in_same}
-use Rattle.pas_realloc.proofs.moving.reallocate.Goals as goal
+use Rattle.pas_answers.proofs.Moves.{can_serve, kept, refused, room_to_free, can_free, no_fault, replaced, in_same}
+use Rattle.pas_answers.proofs.moving.reallocate.Goals as goal
 
 pub returns-then-suits-clause-moves : goal.returns-then-suits-clause-moves
 returns-then-suits-clause-moves g c = kept _ _ _ c.args.old c.args.size c.args.align (cached c.args.cache.now) (sym c.suits.ensures ∙ c.if-suits.true) refl
