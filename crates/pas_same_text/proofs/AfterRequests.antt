@@ -28,8 +28,7 @@ use Rattle.pas_cache.proofs.Routes.{may_search_bitfit, may_find}
 use Rattle.pas_trace.specs.EveryPlan.{IsThread}
 use Rattle.pas_trace.specs.declared.item.Request.{Request}
 use Rattle.pas_answers.specs.Answers.{Progress, Answer, wanted_by}
-use Rattle.pas_same_text.specs.{State.World, Runs.large_of}
-use Rattle.pas_same_text.specs.{Same.IsSame, Acts.IsBetween}
+use Rattle.pas_same_text.specs.{State.World, Runs.large_of, Same.IsSame, Acts.IsBetween}
 use Rattle.pas_same_text.proofs.{CacheLists.same_own, OneUp.up_to, Tests.and_second, RefusedClasses.class_directory_of, RefusedClasses.class_of_request}
 use Rattle.pas_same_text.proofs.FetchedClasses.{HasPlace, IsFetched, none_kept, place_fetched, keeps_unshared}
 

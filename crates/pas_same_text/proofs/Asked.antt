@@ -7,8 +7,7 @@ use Rattle.pas_cache.specs.Serves.{ServesBy, wanted_for}
 use Rattle.pas_trace.specs.{Acts.Act, EveryPlan.IsThread}
 use Rattle.pas_trace.specs.declared.{plan.What.TheVariants.Alloc, item.Request.Request}
 use Rattle.pas_answers.specs.Answers.{Progress, Answer, named, having, IsServed, after_answer, said_of_request, block_of as block_answered}
-use Rattle.pas_same_text.specs.{State.World, Order.serves}
-use Rattle.pas_same_text.specs.{Same.IsSame, Acts.IsBetween, Acts.IsTaken, Requests.IsAsked}
+use Rattle.pas_same_text.specs.{State.World, Order.serves, Same.IsSame, Acts.IsBetween, Acts.IsTaken, Requests.IsAsked}
 use Rattle.pas_same_text.proofs.LoggedFrees.{after_with}
 
 -- Thread k asks for r after p, where the text's state is w, and is answered by a. All actors are at rest before and after it.

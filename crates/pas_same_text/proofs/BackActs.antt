@@ -16,9 +16,8 @@ use Rattle.pas_trace.specs.declared.plan.What.TheVariants.{Free, FreeSized, Raw,
 use Rattle.pas_answers.specs.Answers.{Progress, Named, named, Answer, having, suits, IsRemadeBy, IsFreed, IsFreedBy, IsFlushed, IsStopped, standing_for}
 use Rattle.pas_answers.specs.Answers.{records_of, said_by, with_records, with_steps, after_answer, after_stop, room_noted, with_cache as with_cached}
 use Rattle.pas_same_text.specs.State.{World, Cache, cache_of, set_cache, log_of, says, names_it}
-use Rattle.pas_same_text.specs.{Order.keeps_block, Order.replaces, Order.remakes, Passes.stops_idle}
+use Rattle.pas_same_text.specs.{Order.keeps_block, Order.replaces, Order.remakes, Passes.stops_idle, Same.IsSame, Same.IsSameCache}
 use Rattle.pas_same_text.specs.Frees.{adds, frees, frees_what, frees_named, flushes, stops}
-use Rattle.pas_same_text.specs.Same.{IsSame, IsSameCache}
 use Rattle.pas_same_text.specs.Acts.{IsResting, IsBetween, AreBlocksUsable, HasUsableBlocks, StaysSameWhere}
 use Rattle.pas_same_text.proofs.{CacheLists.same_own, CacheLists.same_with, CacheLists.same_again, FlushActs.flush_same, StopActs.stop_same}
 use Rattle.pas_same_text.proofs.{StillIndexes.same_many, StillIndexes.flushes_keep}

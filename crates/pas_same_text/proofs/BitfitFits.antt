@@ -4,7 +4,8 @@ use Rattle.std.proofs.Common.{◌/◌, ◌%◌, ◌≤◌, ◌==◌, nat_le, nat
 use Rattle.std.proofs.lemmas.Bool.{false≢true, or_cases, or_left, or_right, and_from, false_from_ne_true}
 use Rattle.std.proofs.{Math.Nat.suc-mul, lemmas.Bool.Decides.nat_tests, lemmas.Nat.div_below, lemmas.Nat.mul-le, Math.Nat.mul-mod_left, Math.Nat.mod-add-div'}
 use Rattle.std.specs.List.{list_any, filter}
-use Rattle.pas_same_text.specs.{Searches.some_of, Classes.spaced, State.World, Pages.is_free, Pages.are_free, Pages.is_guarded, Runs.lowest_place}
+use Rattle.pas_same_text.specs.{Searches.some_of, Classes.spaced, State.World, Pages.is_free, Pages.are_free, Pages.is_guarded, Runs.lowest_place, Same.HasSame}
+use Rattle.pas_same_text.specs.{Acts.IsBetween, Searched.FitsSame}
 use Rattle.pas_profile.specs.{Classes.IsAlignment, Profiles.IsValid}
 use Rattle.pas_profile.specs.declared.profile.Profile.{Profile}
 use Rattle.pas_profile.proofs.Sizes.{passes_below, passes_at}
@@ -12,7 +13,6 @@ use Rattle.pas_steps.specs.Evidence.{Readings}
 use Rattle.pas_core.specs.Rights.{free_of_page}
 use Rattle.pas_bitfit.specs.{Allocates.run_for, Runs.Fits, Runs.NoneFits, Runs.IsLowestFit}
 use Rattle.pas_answers.specs.Answers.{Progress}
-use Rattle.pas_same_text.specs.{Same.HasSame, Acts.IsBetween, Searched.FitsSame}
 use Rattle.pas_same_text.proofs.{FreeGrains.bit_unguarded, FreeGrains.bit_read, FreeGrains.read_unless, GivenBack.each_at, GivenBack.each_all, Tests.and_first}
 use Rattle.pas_same_text.proofs.{Tests.and_second}
 

@@ -27,10 +27,9 @@ use Rattle.pas_cache.specs.{Contents.Cached, Kinds.allocating, Serves.ServesBitf
 use Rattle.pas_cache.proofs.Routes.{bitfit_room, may_search_bitfit}
 use Rattle.pas_report.specs.declared.record.Record.{Record}
 use Rattle.pas_answers.specs.Answers.{Progress, named, Answer, after_answer, records_of, with_cache as with_cached}
-use Rattle.pas_same_text.specs.{State.World, Order.serves}
+use Rattle.pas_same_text.specs.{State.World, Order.serves, Same.IsSame, Same.HasSame, Same.AreSameCaches, Acts.IsBetween, Searched.IsSearch}
 use Rattle.pas_same_text.specs.Searches.{searched, readies, address_on, gives}
 use Rattle.pas_same_text.specs.Runs.{bitfit_of, lowest_place, gives_place, places}
-use Rattle.pas_same_text.specs.{Same.IsSame, Same.HasSame, Same.AreSameCaches, Acts.IsBetween, Searched.IsSearch}
 use Rattle.pas_same_text.proofs.{BitfitFits.bitfit_fits, BitfitFits.lowest_is, CacheLists.same_kept, Holders.guards_as, LoggedFrees.after_with}
 use Rattle.pas_same_text.proofs.{SearchedPages.offered_chosen, SearchedPages.deed_chosen, SearchMarks.free_shown, Asked.HasAsked, Asked.answer_reached}
 use Rattle.pas_same_text.proofs.{Asked.by_route, CacheLists.kept_at, RestingPages.word_known, Pieces.UsesOnly, Pieces.has_same, LeftPages.IsInUse}

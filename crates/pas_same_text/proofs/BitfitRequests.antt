@@ -18,9 +18,8 @@ use Rattle.pas_trace.specs.{Acts.Act, EveryPlan.IsThread}
 use Rattle.pas_trace.specs.declared.plan.What.TheVariants.{Alloc}
 use Rattle.pas_answers.specs.Answers.{Progress, named, Answer, after_answer, said_of_room}
 use Rattle.pas_same_text.specs.{State.World, Pages.page_numbers, Pages.is_unowned, Pages.is_offered, Runs.bitfit_of, Runs.lowest_place, Runs.places}
-use Rattle.pas_same_text.specs.{Order.serves}
+use Rattle.pas_same_text.specs.{Order.serves, Same.IsSame, Same.HasSame, Same.ArePagesSame, Acts.IsBetween, Acts.StaysSame, Searched.FitsSame}
 use Rattle.pas_same_text.specs.Searches.{some_of, page_or, refusal, refuses, searched}
-use Rattle.pas_same_text.specs.{Same.IsSame, Same.HasSame, Same.ArePagesSame, Acts.IsBetween, Acts.StaysSame, Searched.FitsSame}
 use Rattle.pas_same_text.proofs.{BitfitFits.bitfit_fits, BitfitGiven.bitfit_served, LoggedFrees.after_with, RefusedRequests.refused_to}
 use Rattle.pas_same_text.proofs.{RefusedRequests.refused_same, SearchedPages.find_none, Tests.and_first, Tests.and_second, Pieces.has_same}
 use Rattle.pas_same_text.proofs.RestingPages.{open_unguarded, had_open, owned_is, no_word}

@@ -24,9 +24,8 @@ use Rattle.pas_answers.specs.Answers.{Progress, Named, named, Answer, having, Is
 use Rattle.pas_same_text.specs.State.{Local, World, cache_of, locals_of}
 use Rattle.pas_same_text.specs.Classes.{is_for, others, gives_first, serves_class}
 use Rattle.pas_same_text.specs.Pages.{is_free, is_guarded, has_room, is_offered}
-use Rattle.pas_same_text.specs.{Searches.address_on, Order.serves}
+use Rattle.pas_same_text.specs.{Searches.address_on, Order.serves, Acts.IsBetween, Acts.StaysSameWhere, Acts.HasCachedSlot}
 use Rattle.pas_same_text.specs.Same.{IsSame, HasSame, IsSameCache, IsSameLocal, AreSameLocals, has_number}
-use Rattle.pas_same_text.specs.Acts.{IsBetween, StaysSameWhere, HasCachedSlot}
 use Rattle.pas_same_text.proofs.CacheLists.{same_with, Finds, found_same, others_same, last_same, slot_given}
 use Rattle.pas_same_text.proofs.{FreeGrains.free_same, GivenBack.each_same, LoggedFrees.after_with, SmallActs.records_next, Tests.and_first, Tests.and_second}
 use Rattle.pas_same_text.proofs.{Asked.HasAsked, Asked.by_route, Asked.request_taken}

@@ -10,9 +10,8 @@ use Rattle.pas_core.specs.Rights.{free_of_page}
 use Rattle.pas_bits.specs.Runs.{AreFree}
 use Rattle.pas_segregated.specs.Takes.{NoSlot}
 use Rattle.pas_answers.specs.Answers.{Progress}
-use Rattle.pas_same_text.specs.{State.World, Pages.is_free, Pages.are_free, Pages.is_guarded, Searches.some_of}
+use Rattle.pas_same_text.specs.{State.World, Pages.is_free, Pages.are_free, Pages.is_guarded, Searches.some_of, Same.HasSame, Acts.IsBetween, Searched.FitsSame}
 use Rattle.pas_same_text.specs.Classes.{spaced, free_slots, first_row, slots_for}
-use Rattle.pas_same_text.specs.{Same.HasSame, Acts.IsBetween, Searched.FitsSame}
 use Rattle.pas_same_text.proofs.{FreeGrains.bit_unguarded, FreeGrains.bit_read, FreeGrains.read_unless, GivenBack.each_at, GivenBack.each_all}
 use Rattle.pas_same_text.proofs.{BitfitFits.some_filtered, BitfitFits.in_spaced, BitfitFits.from_spaced}
 

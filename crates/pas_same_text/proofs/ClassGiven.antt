@@ -29,11 +29,10 @@ use Rattle.pas_report.specs.declared.record.Record.{Record}
 use Rattle.pas_answers.specs.Answers.{Progress, named, records_of}
 use Rattle.pas_same_text.specs.State.{Cache, World, Local, cache_of, locals_of}
 use Rattle.pas_partial.specs.Rows.{IsFreeSlot}
-use Rattle.pas_same_text.specs.Pages.{is_guarded}
+use Rattle.pas_same_text.specs.{Pages.is_guarded, Acts.IsBetween, Searched.IsSearch}
 use Rattle.pas_same_text.specs.Searches.{some_of, searched, readies, address_on}
 use Rattle.pas_same_text.specs.Classes.{others, slots_for, gives_first, local_on, takes_page, fetches}
 use Rattle.pas_same_text.specs.Same.{IsSame, HasSame, IsSameCache, IsSameLocal, AreSameLocals, AreSameCaches, has_number}
-use Rattle.pas_same_text.specs.{Acts.IsBetween, Searched.IsSearch}
 use Rattle.pas_same_text.proofs.{ClassFits.class_fits, ClassFits.read_unguarded, FetchedClasses.HasPlace, FetchedClasses.may_fetch}
 use Rattle.pas_same_text.proofs.{FetchedClasses.keeps_unshared, LoggedFrees.after_with, MadePlace.all_left, TakenSince.shared_row, Holders.guards_as}
 use Rattle.pas_same_text.proofs.{SearchedPages.offered_chosen, SearchedPages.deed_chosen, TakenSince.right_kept, TakenSince.exclusive_free}

@@ -9,8 +9,7 @@ use Rattle.pas_cache.specs.Serves.{filling_in, IsObtained, IsAnswered, ServesCla
 use Rattle.pas_trace.specs.{Acts.Act, EveryPlan.IsThread}
 use Rattle.pas_trace.specs.declared.plan.What.TheVariants.{Alloc}
 use Rattle.pas_answers.specs.Answers.{Progress, Named, named, Answer, after_answer}
-use Rattle.pas_same_text.specs.{State.World, Classes.fetches, Classes.serves_class, Order.serves}
-use Rattle.pas_same_text.specs.{Same.IsSame, Acts.IsBetween, Acts.StaysSame}
+use Rattle.pas_same_text.specs.{State.World, Classes.fetches, Classes.serves_class, Order.serves, Same.IsSame, Acts.IsBetween, Acts.StaysSame}
 use Rattle.pas_same_text.proofs.{CacheLists.same_own, CachedSlots.cached_answered, ClassGiven.fetched_to, ClassGiven.fetch_served, LoggedFrees.after_with}
 use Rattle.pas_same_text.proofs.{OneUp.up_to, RefusedClasses.class_served_by, RefusedClasses.fetched_so, RefusedClasses.class_refused, Asked.HasAsked}
 use Rattle.pas_same_text.proofs.{Asked.answer_reached, Asked.request_taken}

@@ -10,9 +10,8 @@ use Rattle.pas_machine.specs.{Machine.Run, State.Live, State.live_in}
 use Rattle.pas_steps.proofs.Sets.{same_truth}
 use Rattle.pas_free_log.specs.declared.noting.EndedRun.{EndedRun}
 use Rattle.pas_same_text.specs.State.{Local, World, is_at, shows, cache_of, noted_of, with_cache}
-use Rattle.pas_same_text.specs.{Indexes.notes, Indexes.run_of, Frees.pages_of, Frees.ends_block, Frees.rejects}
+use Rattle.pas_same_text.specs.{Indexes.notes, Indexes.run_of, Frees.pages_of, Frees.ends_block, Frees.rejects, Same.lives_in, Same.has_number}
 use Rattle.pas_same_text.specs.Pages.{is_covered, is_cached, is_hinted, blocks_on, locals_on, page_numbers}
-use Rattle.pas_same_text.specs.Same.{lives_in, has_number}
 use Rattle.pas_same_text.proofs.{CacheLists.all_locals, CacheLists.locals_with, Holders.LivesSo, Holders.lives_so}
 use Rattle.pas_same_text.proofs.GivenBack.{Returns, minded_last, page_within, page_there, all_only_hints}
 use Rattle.pas_same_text.proofs.Tests.{and_first, and_second, any_filtered, filtered_any, any_weaker, any_split, filtered_has, has_filtered}

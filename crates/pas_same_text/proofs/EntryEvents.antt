@@ -12,10 +12,9 @@ use Rattle.pas_machine.proofs.LiveBlocks.{all_counted}
 use Rattle.pas_free_log.specs.declared.log.Entry.{Entry}
 use Rattle.pas_free_log.specs.Logs.{is_sized}
 use Rattle.pas_same_text.specs.State.{World, each, is_at, block_at, shows}
-use Rattle.pas_same_text.specs.Indexes.{notes}
+use Rattle.pas_same_text.specs.{Indexes.notes, Same.lives_in, Entries.IsShown, Entries.IsEntryReason, Entries.IsEntryEvent}
 use Rattle.pas_same_text.specs.Pages.{is_empty, is_hinted, hints, minds}
 use Rattle.pas_same_text.specs.Frees.{pages_of, reason, is_other_room, ends_block, rejects, ends}
-use Rattle.pas_same_text.specs.{Same.lives_in, Entries.IsShown, Entries.IsEntryReason, Entries.IsEntryEvent}
 
 -- ---- the block at an address
 abbrev block_of_live : Option Live → Option Block

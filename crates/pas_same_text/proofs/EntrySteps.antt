@@ -31,8 +31,7 @@ use Rattle.pas_free_log.specs.{Frames.ending, Frames.putting_back, Logs.is_sized
 use Rattle.pas_free_log.specs.Returns.{PageSteps, PagesSteps, RunSteps, first_on, count_on}
 use Rattle.pas_free_log.specs.declared.{ending.Outcome.Outcome, ending.Outcome.TheVariants.Ended, ending.Outcome.TheVariants.Refused, log.Entry.Entry}
 use Rattle.pas_free_log.proofs.OneEntry.{first_look, trying, AreIdle, idle_look, tries_idle, EndsWith, last_ends, last_refused, guess_is, not_ended, count_some}
-use Rattle.pas_same_text.specs.Frees.{is_other_room}
-use Rattle.pas_same_text.specs.Entries.{IsEntryReason}
+use Rattle.pas_same_text.specs.{Frees.is_other_room, Entries.IsEntryReason}
 use Rattle.pas_same_text.proofs.Flushes.{visible_steps}
 
 read_earlier : (P Q : Made → Type 0) (ys xs : List Made) → Since (λ m before. P m) (λ m before. Q m) ys → Since (λ m before. P m) (λ m before. Q m) (ys ++ xs)

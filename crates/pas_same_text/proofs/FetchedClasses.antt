@@ -22,10 +22,9 @@ use Rattle.pas_cache.specs.Locals.{IsLocal, RestsWith, keeps_right, any_keeps, l
 use Rattle.pas_report.specs.declared.record.Said.{Said as TheSaid}
 use Rattle.pas_trace.specs.EveryPlan.{IsThread}
 use Rattle.pas_answers.specs.Answers.{Progress, Named, records_of, said_by, Caches}
-use Rattle.pas_same_text.specs.{State.Local, State.World, State.locals_of, Searches.some_of}
+use Rattle.pas_same_text.specs.{State.Local, State.World, State.locals_of, Searches.some_of, Acts.AreResting, Acts.IsBetween}
 use Rattle.pas_same_text.specs.Classes.{is_for, fetches, serves_class_by, serves_class}
 use Rattle.pas_same_text.specs.Same.{IsSame, IsSameLocal, AreSameLocals, ArePagesSame, has_number}
-use Rattle.pas_same_text.specs.Acts.{AreResting, IsBetween}
 use Rattle.pas_same_text.proofs.CacheLists.{same_own, same_again, Finds, found_same}
 use Rattle.pas_same_text.proofs.{LoggedFrees.after_with, SeatedActs.cached_again, SeatedActs.middle_rest, OneUp.up_to, StillIndexes.same_many}
 use Rattle.pas_same_text.proofs.{StillIndexes.given_up_keeps, StillIndexes.first_up_keeps}

@@ -18,8 +18,8 @@ use Rattle.pas_cache.specs.{Changes.EmptiesLog, Contents.Cached, Locals.any_cove
 use Rattle.pas_report.specs.declared.record.Record.{Record}
 use Rattle.pas_trace.specs.EveryPlan.{IsThread}
 use Rattle.pas_answers.specs.Answers.{Progress, records_of, with_steps, with_records, with_cache as with_cached}
-use Rattle.pas_same_text.specs.{State.World, State.each, State.set_log, Frees.ends, Frees.flushes, Pages.is_of}
-use Rattle.pas_same_text.specs.{Same.IsSame, Same.HasSame, Same.AreSameCaches, Acts.IsBetween, Acts.AreBlocksUsable, Words.free_bit}
+use Rattle.pas_same_text.specs.{State.World, State.each, State.set_log, Frees.ends, Frees.flushes, Pages.is_of, Same.IsSame, Same.HasSame, Same.AreSameCaches}
+use Rattle.pas_same_text.specs.{Acts.IsBetween, Acts.AreBlocksUsable, Words.free_bit}
 use Rattle.pas_same_text.proofs.FlushedLogs.{IsFlushedTo, IsEndedOn, OnlyFewer, flushed_start, flushed_all}
 use Rattle.pas_same_text.proofs.{FreeGrains.held_still, Holders.guards_as, Holders.still_unguarded, RestingPages.is_open, RestingPages.deed_now}
 use Rattle.pas_same_text.proofs.{StillIndexes.same_guards, StillIndexes.flushes_keep}

@@ -26,8 +26,7 @@ use Rattle.pas_trace.specs.EveryPlan.{IsThread}
 use Rattle.pas_answers.specs.Answers.{Caches, with_cache as with_cached}
 use Rattle.pas_same_text.specs.State.{World, Cache, each, cache_of, with_cache, noted_of, set_log, live_after}
 use Rattle.pas_same_text.specs.Frees.{ends, ends_block, is_other_room, rejects, pages_of}
-use Rattle.pas_same_text.specs.Pages.{page_numbers}
-use Rattle.pas_same_text.specs.Entries.{IsShown}
+use Rattle.pas_same_text.specs.{Pages.page_numbers, Entries.IsShown}
 use Rattle.pas_same_text.specs.Same.{AreSameCaches, IsSameCache, lives_in, has_number}
 use Rattle.pas_same_text.proofs.CacheLists.{all_locals, many_with, locals_with, same_with, same_own, same_again, with_own}
 use Rattle.pas_same_text.proofs.EndedBlocks.{rejected_returns, ended_returns, ended_caches, ended_locals, noted_then}

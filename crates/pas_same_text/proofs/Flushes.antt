@@ -6,9 +6,8 @@ use Rattle.pas_machine.specs.Machine.{Run}
 use Rattle.pas_free_log.specs.{Endings.reason_by, Flushes.event_for, Logs.is_sized, Flushes.Settled, Flushes.shown_for}
 use Rattle.pas_free_log.specs.declared.{ending.Outcome.Outcome, log.Entry.Entry, noting.EndedRun.EndedRun}
 use Rattle.pas_same_text.specs.State.{World, each, live_after, set_log}
-use Rattle.pas_same_text.specs.Frees.{ends, flushes}
+use Rattle.pas_same_text.specs.{Frees.ends, Frees.flushes, Same.lives_in}
 use Rattle.pas_same_text.specs.Entries.{IsShown, IsEntryReason, IsEntryEvent, HaveOutcomes, are_unsized, onto, events_of_flush, HasShown, IsFlushOf}
-use Rattle.pas_same_text.specs.Same.{lives_in}
 use Rattle.pas_same_text.proofs.{EntryEvents.entry_shown, Tests.and_first, Tests.and_second}
 use Rattle.pas_guard.proofs.Keepers.{older_legal}
 use Rattle.pas_steps.specs.{Desks.made, Desks.triple, Desks.triples, Events.event_of, Events.events_by, Events.with_event, Views.View, Views.epoch_of}

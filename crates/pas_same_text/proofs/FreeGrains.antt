@@ -20,10 +20,9 @@ use Rattle.pas_guard.specs.Books.{is_outer}
 use Rattle.pas_guard.specs.declared.book.Guard.{Guard as BookGuard}
 use Rattle.pas_trace.specs.EveryPlan.{IsThread}
 use Rattle.pas_answers.specs.Answers.{Books, Progress}
-use Rattle.pas_same_text.specs.State.{World, cache_in, Local}
+use Rattle.pas_same_text.specs.{State.World, State.cache_in, State.Local, Acts.IsBetween, Words.free_bit}
 use Rattle.pas_same_text.specs.Pages.{is_free, is_covered, is_cached, is_guarded, blocks_on, locals_on, is_kept}
 use Rattle.pas_same_text.specs.Same.{HasSame, lives_in, IsSameLocal, AreSameLocals}
-use Rattle.pas_same_text.specs.{Acts.IsBetween, Words.free_bit}
 use Rattle.pas_same_text.proofs.Holders.{LivesSo, lives_so, lives_listed, guarded_by, outer_guarded}
 use Rattle.pas_same_text.proofs.CacheLists.{all_locals}
 use Rattle.pas_same_text.proofs.Slots.{has_grain, grains_same, IsOfCache, of_cache, in_all, cached_any, any_cached}

@@ -9,9 +9,8 @@ use Rattle.pas_profile.specs.{Blocks.grain_of, Blocks.length_of, Profiles.IsPage
 use Rattle.pas_profile.specs.declared.{name.Block.Block, profile.Profile.Profile}
 use Rattle.pas_machine.specs.State.{backed_in}
 use Rattle.pas_trace.specs.Acts.{numbers_from}
-use Rattle.pas_same_text.specs.State.{Local, World, each}
+use Rattle.pas_same_text.specs.{State.Local, State.World, State.each, Same.has_number}
 use Rattle.pas_same_text.specs.Pages.{each_of, is_free, is_free_of, is_empty, is_hinted, hints, minds, page_numbers}
-use Rattle.pas_same_text.specs.Same.{has_number}
 use Rattle.pas_same_text.proofs.{CacheLists.all_locals, Tests.and_first, Tests.and_second}
 
 -- ---- tests of numbers that follow each other

@@ -17,9 +17,8 @@ use Rattle.pas_core.proofs.{MachineRuns.runs, OneActor.lends_none}
 use Rattle.pas_large.specs.Gives.{BackStep, pages_from}
 use Rattle.pas_report.specs.declared.record.Record.{Record}
 use Rattle.pas_answers.specs.Answers.{Progress, Named, named, records_of}
-use Rattle.pas_same_text.specs.State.{World}
+use Rattle.pas_same_text.specs.{State.World, Acts.IsBetween}
 use Rattle.pas_same_text.specs.Same.{IsSame, lives_in, ArePagesSame, HasSame}
-use Rattle.pas_same_text.specs.Acts.{IsBetween}
 use Rattle.pas_same_text.proofs.{CachedSlots.block_of, CachedSlots.block_same, FlushActs.events_recorded, Flushes.visible_steps, FreeGrains.free_uncovered}
 use Rattle.pas_same_text.proofs.{GivingBack.epoch_stays_by, RunEvents.deeds_of, GivingBack.HintsPage, Pieces.IsPiece, Pieces.UsesOnly, SearchMarks.at_bare}
 use Rattle.pas_same_text.proofs.{SearchMarks.at_unbacked, GivingBack.once_parts, Pieces.piece_pages}

@@ -15,9 +15,8 @@ use Rattle.pas_core.proofs.{Rights.right_in_one_place}
 use Rattle.pas_rights.specs.Looks.{HintsEmpty}
 use Rattle.pas_free_log.specs.Frames.{freeing}
 use Rattle.pas_answers.specs.Answers.{Progress}
-use Rattle.pas_same_text.specs.State.{World}
+use Rattle.pas_same_text.specs.{State.World, Same.HasSame, Same.ArePagesSame, Same.has_number, Acts.IsBetween, Words.free_bit}
 use Rattle.pas_same_text.specs.Pages.{each_of, is_free, is_empty, is_hinted, is_guarded, is_of, is_offered, has_room}
-use Rattle.pas_same_text.specs.{Same.HasSame, Same.ArePagesSame, Same.has_number, Acts.IsBetween, Words.free_bit}
 use Rattle.pas_same_text.proofs.{FreeGrains.free_unless, FreeGrains.bit_free, FreeGrains.bit_unguarded, Holders.guarded_by, Tests.and_first, Tests.and_second}
 use Rattle.pas_same_text.proofs.GivenBack.{Returns, is_idle, each_at, each_all}
 use Rattle.pas_same_text.proofs.GivingBack.{OffersPage, HintsPage, hinted_stays, hinted_by, offered_by, hinted_empty}

@@ -10,9 +10,8 @@ use Rattle.pas_steps.proofs.Sets.{same_truth}
 use Rattle.pas_segregated.specs.declared.slots.Slots.{Slots}
 use Rattle.pas_cache.specs.Locals.{HasOneEach, is_for as is_for_slots}
 use Rattle.pas_same_text.specs.State.{Local, Cache, World, each, cache_in, cache_of, with_cache, locals_of, set_locals}
-use Rattle.pas_same_text.specs.{Classes.is_for, Classes.others, Classes.gives_up, Frees.gives_up_all}
+use Rattle.pas_same_text.specs.{Classes.is_for, Classes.others, Classes.gives_up, Frees.gives_up_all, Same.AreSameLocals}
 use Rattle.pas_same_text.specs.Pages.{is_covered, is_cached, blocks_on, locals_on}
-use Rattle.pas_same_text.specs.Same.{AreSameLocals}
 use Rattle.pas_same_text.proofs.CacheLists.{all_locals, own_with, many_with, with_own, for_same}
 use Rattle.pas_same_text.proofs.GivenBack.{Returns, OnlyHints, minded_last, all_only_hints, returns_nothing, returns_then}
 use Rattle.pas_same_text.proofs.{Slots.has_grain, Slots.cached_any, Slots.any_cached, Tests.or_none, Tests.and_more, Tests.weaker_at}

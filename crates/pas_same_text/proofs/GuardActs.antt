@@ -18,9 +18,9 @@ use Rattle.pas_trace.specs.declared.{item.Request.Request, plan.Op.Op, plan.What
 use Rattle.pas_answers.specs.{Answers.Progress, Answers.with_book, Answers.records_of, Indexes.after_request, Indexes.after_tried, Indexes.TriedIsNamedBy}
 use Rattle.pas_answers.specs.{Reaching.AnswersTried}
 use Rattle.pas_answers.specs.Guarding.{Tried, IsTried, said_of_guard, after_trying, after_giving}
-use Rattle.pas_same_text.specs.{State.World, State.each, Searches.backs, Runs.large_of, Order.serves}
+use Rattle.pas_same_text.specs.{State.World, State.each, Searches.backs, Runs.large_of, Order.serves, Same.IsSame, Acts.IsBetween, Known.IsKnown, Known.IsKept}
+use Rattle.pas_same_text.specs.{Known.KeepsSame}
 use Rattle.pas_same_text.specs.Guards.{guards_of, lowers_ended, is_over, raises, guards}
-use Rattle.pas_same_text.specs.{Same.IsSame, Acts.IsBetween, Known.IsKnown, Known.IsKept, Known.KeepsSame}
 use Rattle.pas_same_text.proofs.{KeepersRest.book_finds, LowerActs.sweep_same, LowerActs.ended_text, MissedGuards.missed_same, PagesRequests.pages_answered}
 use Rattle.pas_same_text.proofs.{PagesRequests.named_large, RaisedGuards.raised_same, ReadyPages.shown, RunEvents.deeded, RunEvents.deeds_of}
 use Rattle.pas_same_text.proofs.{SameIndexes.request_indexes, SameIndexes.all_lowered_keep, Seats.thread_of, Seats.keeper_of, StillIndexes.each_keeps}

@@ -3,8 +3,8 @@ use Rattle.std.proofs.Common.{◌≡◌, true, false, [], ◌∷◌, codes, refl
 use Rattle.pas_profile.specs.declared.directory.Kind.{Kind}
 use Rattle.pas_report.specs.Reports.{grains_that}
 use Rattle.pas_same_text.specs.{Pages.each_of, Passes.free_bits}
-use Rattle.pas_same_text.proofs.Seen.{seen, shown, row_of, marked, totalled, deed_of, back_of, unback_of, give_of, freed_of, no_space_of, guarded_of, lowered_of}
-use Rattle.pas_same_text.proofs.Seen.{tick_of, pass_of, in_use_of, phase_of, closed}
+use Rattle.pas_same_text.proofs.Seen.{seen, shown, row_of, marked, totalled, deed_of, back_of, unback_of, give_of, freed_of, no_space_of, guarded_of}
+use Rattle.pas_same_text.proofs.Seen.{lowered_of, tick_of, pass_of, in_use_of, phase_of, closed}
 
 row_guard_two : seen (codes "pas 4 pages 8 threads 1 heaps 1 age 2\nguard 2\na 1 1 0 4096 16\na 1 2 0 4096 16\nf 1 2\nflush 1\na 1 3 0 4096 16\na 1 4 0 8192 16\n")
     ≡ shown (deed_of 1 1 0 Kind.Large ∷ back_of 1 1 ∷ give_of 1 4096 0 4096 0 ∷ deed_of 2 2 0 Kind.Large ∷ deed_of 2 3 0 Kind.Large ∷ deed_of 2 4 0 Kind.Large ∷ back_of 2 3 ∷ give_of 2 12288 0 4096 0 ∷ guarded_of 2 2 4 2 ∷ freed_of 1 12288 0 0 ∷ give_of 1 12288 1 4096 0 ∷ lowered_of 2 2 4 ∷ deed_of 2 5 0 Kind.Large ∷ deed_of 2 6 0 Kind.Large ∷ deed_of 2 7 0 Kind.Large ∷ back_of 2 5 ∷ back_of 2 6 ∷ give_of 2 20480 0 8192 0 ∷ guarded_of 2 4 7 4 ∷ closed ∷ lowered_of 2 4 7 ∷ []) (row_of 1 0 Kind.Large 1 0 0 (marked true false true false) ∷ row_of 2 0 Kind.Large 0 256 0 (marked false true false false) ∷ row_of 3 0 Kind.Large 1 0 0 (marked true false true true) ∷ row_of 4 0 Kind.Large 0 256 0 (marked false true false false) ∷ row_of 5 0 Kind.Large 1 0 0 (marked true false true false) ∷ row_of 6 0 Kind.Large 0 0 0 (marked true false true false) ∷ row_of 7 0 Kind.Large 0 256 0 (marked false true false false) ∷ []) (totalled 7 4 3 4 1)

@@ -9,8 +9,7 @@ use Rattle.pas_bits.proofs.Runs.{first_of_run}
 use Rattle.pas_profile.specs.Blocks.{address_of, grain_of, length_of}
 use Rattle.pas_profile.specs.declared.{event.Event.Event, name.Block.Block, name.Name.Name, profile.Profile.Profile}
 use Rattle.pas_machine.specs.{State.Live, State.live_in, Machine.Run, Machine.MayGive}
-use Rattle.pas_same_text.specs.{State.is_at, State.Guard, State.World, Pages.is_guarded}
-use Rattle.pas_same_text.specs.Same.{lives_in, told_guard, AreSameGuards}
+use Rattle.pas_same_text.specs.{State.is_at, State.Guard, State.World, Pages.is_guarded, Same.lives_in, Same.told_guard, Same.AreSameGuards}
 use Rattle.pas_same_text.proofs.Tests.{and_first, and_second, any_filtered, filtered_any, any_weaker}
 use Rattle.pas_core.proofs.Grains.{some_grain}
 use Rattle.pas_guard.specs.Books.{is_outer_of, is_outer}

@@ -27,8 +27,7 @@ use Rattle.pas_guard.specs.declared.book.Guard.{Guard}
 use Rattle.pas_report.specs.declared.record.Record.{Record}
 use Rattle.pas_trace.specs.EveryPlan.{IsThread}
 use Rattle.pas_answers.specs.Answers.{Books, Progress}
-use Rattle.pas_same_text.specs.Runs.{large_of}
-use Rattle.pas_same_text.specs.Acts.{IsResting, AreResting, IsBetween}
+use Rattle.pas_same_text.specs.{Runs.large_of, Acts.IsResting, Acts.AreResting, Acts.IsBetween}
 use Rattle.pas_same_text.proofs.{FreeGrains.outer_held, LoweredGuards.some_outer, SweptGuards.IsSwept, SweptGuards.swept_told, SweptGuards.goes_down}
 use Rattle.pas_same_text.proofs.{Tests.or_none, Tests.eqb_turned}
 

@@ -18,8 +18,7 @@ use Rattle.pas_profile.specs.{Profiles.IsValid, Directories.number_of, Directori
 use Rattle.pas_steps.specs.Lists.{Whole, word_after, Legal, part}
 use Rattle.pas_steps.specs.Kinds.{Kinds, Only, apart, Taking, Giving, LookLife, Backing, returning}
 use Rattle.pas_answers.specs.Answers.{Progress}
-use Rattle.pas_same_text.specs.{State.World, Pages.is_offered}
-use Rattle.pas_same_text.specs.{Same.HasSame, Acts.IsBetween, Words.free_bit}
+use Rattle.pas_same_text.specs.{State.World, Pages.is_offered, Same.HasSame, Acts.IsBetween, Words.free_bit}
 use Rattle.pas_same_text.proofs.GivenPages.{open_from}
 use Rattle.pas_same_text.proofs.RestingPages.{bit_at, is_open, bit_tells, bit_offered, deed_now, word_now}
 use Rattle.std.proofs.lemmas.Bool.{false≢true}

@@ -22,8 +22,8 @@ use Rattle.pas_guard.specs.declared.book.Guard.{Guard as BookGuard}
 use Rattle.pas_trace.specs.{Acts.Act, EveryPlan.IsThread}
 use Rattle.pas_answers.specs.{Answers.Progress, Answers.with_book, Answers.with_records, Guarding.after_lowering}
 use Rattle.pas_same_text.specs.{State.Guard, State.World, State.each, Pages.is_of, Runs.large_of, Guards.lowers, Guards.lowers_ended, Guards.lowers_all}
-use Rattle.pas_same_text.specs.Same.{told_guard, IsSame, HasSame, AreSameCaches, lives_in}
 use Rattle.pas_same_text.specs.{Acts.IsBetween, Acts.StaysSame, Words.free_bit}
+use Rattle.pas_same_text.specs.Same.{told_guard, IsSame, HasSame, AreSameCaches, lives_in}
 use Rattle.pas_same_text.proofs.{Flushes.unshown, GivingBack.hint_marks, GivingBack.offer_marks, GivingBack.epoch_stays_by, RestingPages.is_open}
 use Rattle.pas_same_text.proofs.{RestingPages.deed_now, RestingPages.word_known, SweptGuards.goes_down, SweptGuards.IsSwept, SweptGuards.swept_told}
 use Rattle.pas_same_text.proofs.FreeGrains.{cached_held, outer_held, held_by, never_both, holder_thread}

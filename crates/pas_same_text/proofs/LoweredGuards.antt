@@ -8,8 +8,8 @@ use Rattle.pas_profile.specs.declared.profile.Profile.{Profile}
 use Rattle.pas_report.specs.declared.record.{Record.Record, Said.Said}
 use Rattle.pas_guard.specs.Books.{is_outer_of, is_outer, AreApart}
 use Rattle.pas_guard.specs.declared.book.Guard.{Guard as BookGuard}
-use Rattle.pas_same_text.specs.{State.Guard, State.World, State.each, Pages.is_guarded, Pages.minds, Guards.without_guard, Guards.lowers}
-use Rattle.pas_same_text.specs.Same.{told_guard, has_number}
+use Rattle.pas_same_text.specs.{State.Guard, State.World, State.each, Pages.is_guarded, Pages.minds, Guards.without_guard, Guards.lowers, Same.told_guard}
+use Rattle.pas_same_text.specs.{Same.has_number}
 use Rattle.pas_same_text.proofs.GivenBack.{Returns, OnlyHints, returns_nothing, returns_then, returns_like, minded_last, all_only_hints}
 use Rattle.pas_same_text.proofs.{Holders.has_outer, SmallActs.records_next, StillIndexes.same_guards, StillIndexes.minds_keep, Tests.eqb_turned}
 

@@ -16,9 +16,8 @@ use Rattle.pas_cache.specs.{Changes.LeavesSpent, Changes.StopsFirst, Contents.Ca
 use Rattle.pas_cache.specs.Locals.{IsLocal, covers, any_covers, local_for, others_than, is_for as is_for_slots}
 use Rattle.pas_trace.specs.EveryPlan.{IsThread}
 use Rattle.pas_answers.specs.Answers.{Progress}
-use Rattle.pas_same_text.specs.State.{Local, World, locals_of}
+use Rattle.pas_same_text.specs.{State.Local, State.World, State.locals_of, Same.IsSame, Same.AreSameLocals, Acts.IsBetween}
 use Rattle.pas_same_text.specs.Classes.{is_for, others, gives_up, gives_up_first, makes_place}
-use Rattle.pas_same_text.specs.{Same.IsSame, Same.AreSameLocals, Acts.IsBetween}
 use Rattle.pas_same_text.proofs.{CachedSlots.found_passes, GivenUp.AreUnique, GivenUp.unique_of, GivenUp.no_other_counted, OneUp.up_to, OneUp.given_up_same}
 use Rattle.pas_same_text.proofs.{Tests.and_first, Tests.and_second}
 use Rattle.pas_same_text.proofs.CacheLists.{same_kept, Finds, for_same, found_same, others_same}

@@ -17,8 +17,7 @@ use Rattle.pas_cache.specs.{Kinds.allocating, Locals.any_covers}
 use Rattle.pas_large.proofs.Outcomes.{MadeOf}
 use Rattle.pas_guard.specs.{Books.is_outer, Seeks.seeking, Seeks.SoughtNone}
 use Rattle.pas_answers.specs.Answers.{Caches, Books, Progress, records_of}
-use Rattle.pas_same_text.specs.{State.World, Pages.is_offered, Runs.large_of}
-use Rattle.pas_same_text.specs.{Same.has_number, Same.IsSame, Same.HasSame, Acts.IsBetween, Words.free_bit}
+use Rattle.pas_same_text.specs.{State.World, Pages.is_offered, Runs.large_of, Same.has_number, Same.IsSame, Same.HasSame, Acts.IsBetween, Words.free_bit}
 use Rattle.pas_same_text.proofs.{FlushActs.events_recorded, GivenPages.open_from, GivingBack.epoch_stays_by, RestingPages.deed_now, RestingPages.bit_tells}
 use Rattle.pas_same_text.proofs.{RestingPages.bit_offered, SoughtRuns.IsRunOf, SoughtRuns.IsMadeOf, SearchMarks.seeks_unbacked, RunEvents.with_deed}
 use Rattle.pas_same_text.proofs.{RunEvents.deeded, RunEvents.deeds_of}

@@ -8,10 +8,9 @@ use Rattle.pas_trace.specs.{Acts.Act, EveryPlan.IsThread}
 use Rattle.pas_trace.specs.declared.{item.Request.Request, plan.What.What}
 use Rattle.pas_answers.specs.Answers.{Progress, Named, Answer, having, standing_for, request_for, IsServed, IsRemadeBy, after_answer}
 use Rattle.pas_answers.specs.{Calls.block_behind, Indexes.unless_suited, Indexes.request_made, Indexes.IsNamedBy}
-use Rattle.pas_same_text.specs.State.{World}
-use Rattle.pas_same_text.specs.Order.{keeps_block, replaces, remakes, acts_on}
-use Rattle.pas_same_text.specs.{Same.IsSame, Acts.IsBetween, Acts.HandsOnOwn, Known.IsKnown, Known.KeepsSame, Seats.IsActOf, Requests.IsAsked}
+use Rattle.pas_same_text.specs.{State.World, Same.IsSame, Acts.IsBetween, Acts.HandsOnOwn, Known.IsKnown, Known.KeepsSame, Seats.IsActOf, Requests.IsAsked}
 use Rattle.pas_same_text.specs.{Requests.AnswersSame, Requests.RequestStaysSame}
+use Rattle.pas_same_text.specs.Order.{keeps_block, replaces, remakes, acts_on}
 use Rattle.pas_same_text.proofs.BackActs.{flush_act, stop_act, end_act, idle_act, raw_act, raw_sized_act, free_act, free_sized_act, remakes_idly}
 use Rattle.pas_same_text.proofs.{Asked.has_asked, BitfitRequests.bitfit_answered, ClassRequests.class_answered, GuardActs.guards_keep, LowerActs.lower_act}
 use Rattle.pas_same_text.proofs.{PagesRequests.pages_answered, PagesRequests.named_large, PassActs.pass_same, Replaced.replaced_same, SameIndexes.indexes_kept}

@@ -6,7 +6,7 @@ use Rattle.std.specs.List.{list_any, find}
 use Rattle.pas_profile.specs.Profiles.{IsPage, IsValid, IsDirectoryOf}
 use Rattle.pas_profile.specs.declared.{profile.Profile.Profile, directory.Directory.Directory, event.Event.Event}
 use Rattle.pas_same_text.specs.State.{Local, Cache, World, cache_of, locals_of, set_locals}
-use Rattle.pas_same_text.specs.{Classes.is_for, Classes.others, Classes.gives_up, Pages.is_of}
+use Rattle.pas_same_text.specs.{Classes.is_for, Classes.others, Classes.gives_up, Pages.is_of, Acts.IsBetween, Words.free_bit}
 use Rattle.pas_same_text.proofs.{GivenBack.Returns, GivenBack.OnlyHints, GivenBack.all_only_hints, GivenUp.AreUnique, GivenUp.one_returns, Tests.or_more}
 use Rattle.pas_same_text.proofs.{CacheLists.same_with, Flushes.visible_steps, GivenUp.unique_of, Holders.guards_as, Holders.still_unguarded}
 use Rattle.pas_same_text.proofs.{RestingPages.is_open, StillIndexes.same_guards, StillIndexes.given_up_keeps, StopActs.slot_room, StopActs.read_room}
@@ -25,7 +25,6 @@ use Rattle.pas_answers.specs.Answers.{Progress, with_steps, with_cache as with_c
 use Rattle.pas_guard.specs.Books.{is_outer}
 use Rattle.pas_report.specs.declared.record.Record.{Record}
 use Rattle.pas_same_text.specs.Same.{IsSame, HasSame, IsSameCache, IsSameLocal, AreSameLocals, AreSameCaches, lives_in}
-use Rattle.pas_same_text.specs.{Acts.IsBetween, Words.free_bit}
 use Rattle.pas_same_text.proofs.FreeGrains.{cached_held, outer_held, held_by, never_both, holder_thread}
 use Rattle.pas_same_text.proofs.GivenPages.{IsGivenBack, covered_not_held, free_left, given_pages}
 use Rattle.pas_same_text.proofs.GivingBack.{IsMarked, hint_marks, offer_marks, epoch_stays_by}

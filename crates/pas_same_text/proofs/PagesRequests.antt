@@ -22,9 +22,8 @@ use Rattle.pas_trace.specs.{Acts.Act, EveryPlan.IsThread}
 use Rattle.pas_trace.specs.declared.{item.Request.Request, plan.What.TheVariants.Alloc}
 use Rattle.pas_answers.specs.Answers.{Progress, named, Answer, after_answer, said_of_request, block_of as block_answered}
 use Rattle.pas_answers.specs.Indexes.{IsNamedBy, ActIsNamedBy}
-use Rattle.pas_same_text.specs.{State.World, Indexes.loses_named, Order.serves, Order.acts_on}
+use Rattle.pas_same_text.specs.{State.World, Indexes.loses_named, Order.serves, Order.acts_on, Same.IsSame, Same.HasSame, Acts.IsBetween, Acts.IsTaken}
 use Rattle.pas_same_text.specs.Runs.{large_of, named_run, lowest_run, run_or, serves_run}
-use Rattle.pas_same_text.specs.{Same.IsSame, Same.HasSame, Acts.IsBetween, Acts.IsTaken}
 use Rattle.pas_same_text.proofs.{LoggedFrees.after_with, RefusedRequests.refused_to, RefusedRequests.refused_same, RunGiven.GaveRun, RunGiven.given_to}
 use Rattle.pas_same_text.proofs.{RunGiven.run_given, RunsFound.DeedsInRun, RunsFound.lowest_alone, RunsFound.deeds_in_run, Pieces.has_same}
 use Rattle.pas_same_text.proofs.SearchedPages.{lowest_found, none_lowest, named_whole, whole_named}

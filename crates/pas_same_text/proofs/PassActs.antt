@@ -19,10 +19,9 @@ use Rattle.pas_scavenger.specs.Passes.{outcomes_in, all_tried, passing, unbacks_
 use Rattle.pas_answers.specs.{PassRecords.record_of, Answers.Progress, Answers.after_pass}
 use Rattle.pas_report.specs.declared.record.{Record.Record, Said.Said}
 use Rattle.pas_trace.specs.Acts.{Act}
-use Rattle.pas_same_text.specs.{State.World, State.says, Order.acts_on, Passes.outcome_of, Passes.passes}
+use Rattle.pas_same_text.specs.{State.World, State.says, Order.acts_on, Passes.outcome_of, Passes.passes, Acts.IsBetween, Acts.IsTaken, Acts.AreEndsStamped}
 use Rattle.pas_same_text.specs.Pages.{page_numbers, is_free, is_empty, is_hinted, is_offered}
 use Rattle.pas_same_text.specs.Same.{IsSame, HasSame, AreSameCaches, has_number}
-use Rattle.pas_same_text.specs.Acts.{IsBetween, IsTaken, AreEndsStamped}
 use Rattle.pas_same_text.proofs.{CacheLists.all_locals, Flushes.visible_steps, GivenPages.open_grows, GivenPages.page_idle, GivenPages.idle_hinted}
 use Rattle.pas_same_text.proofs.{GivingBack.OffersPage, GivingBack.offered_by, GivingBack.epoch_stays_by, PassText.HasCome, PassText.pass_comes}
 use Rattle.pas_same_text.proofs.{Holders.guards_as, Holders.still_unguarded, Tests.has_filtered}

@@ -15,8 +15,7 @@ use Rattle.pas_scavenger.specs.Passes.{Tried, TriedSteps, TrySteps, with_outcome
 use Rattle.pas_scavenger.proofs.Trying.{outcomes_append}
 use Rattle.pas_trace.specs.Acts.{numbers_from}
 use Rattle.pas_answers.specs.Answers.{Progress}
-use Rattle.pas_same_text.specs.{State.World, Passes.outcome_of}
-use Rattle.pas_same_text.specs.{Same.IsSame, Acts.IsBetween, Acts.AreEndsStamped}
+use Rattle.pas_same_text.specs.{State.World, Passes.outcome_of, Same.IsSame, Acts.IsBetween, Acts.AreEndsStamped}
 use Rattle.pas_same_text.proofs.{SmallActs.look_word, GivingBack.OffersPage, GivingBack.once_parts, PassOutcomes.WasOffered, PassOutcomes.pair}
 use Rattle.pas_same_text.proofs.{PassOutcomes.stays_hinted, PassTries.IsTried, PassTries.tried}
 use Rattle.pas_same_text.proofs.PassedPages.{is_on, Spares, words_stay, spare_both, try_spares}

@@ -12,10 +12,9 @@ use Rattle.pas_steps.specs.{Lists.word_after, Views.all_ones, Lists.Whole, Views
 use Rattle.pas_steps.proofs.Bits.{all_set}
 use Rattle.pas_core.proofs.{Stamps.words_fit, Deeds.backed_of, Offers.offered_at_rest, Rights.right_in_one_place}
 use Rattle.pas_answers.specs.Answers.{Progress}
-use Rattle.pas_same_text.specs.State.{World}
+use Rattle.pas_same_text.specs.{State.World, Same.HasSame, Acts.IsBetween, Same.IsSame, Acts.AreEndsStamped}
 use Rattle.pas_same_text.specs.Pages.{is_free, are_free, is_guarded, is_kept}
 use Rattle.pas_same_text.specs.Passes.{used_word, free_bits, outcome_backed, outcome_of}
-use Rattle.pas_same_text.specs.{Same.HasSame, Acts.IsBetween, Same.IsSame, Acts.AreEndsStamped}
 use Rattle.pas_same_text.proofs.{GivenBack.each_at, GivenBack.each_all, RestingPages.free_at, SearchedPages.find_first, SearchedPages.find_none}
 use Rattle.pas_same_text.proofs.{GivenPages.backed_unguarded, FreeGrains.nobody_keeps, RestingPages.clear_of, RestingPages.bit_tells, SeatedActs.stamps_told}
 use Rattle.pas_profile.proofs.ClassFacts.{usable_grains_ge}

@@ -10,8 +10,8 @@ use Rattle.pas_core.specs.{Good.IsPartOf, Rights.empty_bit, Rights.eligible_bit}
 use Rattle.pas_cache.specs.{Locals.any_covers, Kinds.allocating}
 use Rattle.pas_guard.specs.Books.{is_outer}
 use Rattle.pas_answers.specs.Answers.{Progress}
-use Rattle.pas_same_text.specs.{State.World, Pages.is_guarded, Pages.is_hinted, Pages.is_offered}
-use Rattle.pas_same_text.specs.{Same.HasSame, Acts.IsBetween, Words.free_bit, Same.IsSame, Same.ArePagesSame}
+use Rattle.pas_same_text.specs.{State.World, Pages.is_guarded, Pages.is_hinted, Pages.is_offered, Same.HasSame, Acts.IsBetween, Words.free_bit, Same.IsSame}
+use Rattle.pas_same_text.specs.{Same.ArePagesSame}
 use Rattle.pas_same_text.proofs.{GivenPages.free_left, GivenPages.open_grows, Holders.not_outer, Holders.unguarded_by, Tests.on_page}
 use Rattle.pas_same_text.proofs.RestingPages.{is_open, open_unguarded, had_open, clear_of, deed_now, bit_tells, bit_offered, offered_bit}
 use Rattle.pas_same_text.proofs.FreeGrains.{bit_free, cached_held, free_uncovered, free_unheld, free_unless, held_by, holder_thread, outer_held}

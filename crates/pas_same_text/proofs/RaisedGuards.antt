@@ -28,9 +28,8 @@ use Rattle.pas_trace.specs.Acts.{numbers_from}
 use Rattle.pas_answers.specs.Answers.{Caches, Progress, named, records_of}
 use Rattle.pas_same_text.specs.State.{World, Guard, each, says}
 use Rattle.pas_same_text.specs.{Pages.is_offered, Searches.backs, Searches.address_on, Searches.gives, Runs.large_of, Guards.guard_on, Guards.with_guard}
-use Rattle.pas_same_text.specs.{Guards.raises}
+use Rattle.pas_same_text.specs.{Guards.raises, Acts.IsBetween}
 use Rattle.pas_same_text.specs.Same.{told_guard, has_number, IsSame, HasSame, AreSameCaches}
-use Rattle.pas_same_text.specs.Acts.{IsBetween}
 use Rattle.pas_same_text.proofs.{Flushes.legal_between, FreeGrains.outer_held, FreeGrains.free_unheld, KeepersRest.outer_last, SmallActs.records_next}
 use Rattle.pas_same_text.proofs.{SoughtRuns.IsRunOf, SoughtRuns.IsMadeOf, Tests.on_page, SearchMarks.seeks_unbacked, RestingPages.word_known}
 use Rattle.pas_same_text.proofs.{GivingBack.once_parts, ReadyPages.shown, ReadyPages.shown_events, ReadyPages.shown_rest}

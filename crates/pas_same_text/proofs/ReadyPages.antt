@@ -9,8 +9,7 @@ use Rattle.pas_steps.specs.{Events.event_of, Events.with_event, Events.events_by
 use Rattle.pas_steps.specs.declared.step.{Made.Made, Step.Step}
 use Rattle.pas_search.specs.Kinds.{IsQuiet, IsDeedOrBack, EventsAt}
 use Rattle.pas_report.specs.declared.record.Record.{Record}
-use Rattle.pas_same_text.specs.{State.World, State.shows, State.live_after, Pages.is_none, Searches.deeds, Searches.backs, Searches.readies}
-use Rattle.pas_same_text.specs.Same.{lives_in}
+use Rattle.pas_same_text.specs.{State.World, State.shows, State.live_after, Pages.is_none, Searches.deeds, Searches.backs, Searches.readies, Same.lives_in}
 use Rattle.pas_same_text.proofs.Tests.{eqb_itself}
 use Rattle.pas_bits.proofs.Runs.{to_run}
 

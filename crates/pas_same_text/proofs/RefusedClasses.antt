@@ -16,9 +16,8 @@ use Rattle.pas_cache.specs.Contents.{Cached}
 use Rattle.pas_cache.specs.Serves.{wanted_for, filling_in, IsRefill, Fetches, IsObtained, IsAnswered, ServesClass}
 use Rattle.pas_report.specs.declared.record.Said.{Said as TheSaid}
 use Rattle.pas_answers.specs.Answers.{Progress, Named, named, Answer, after_answer, said_of_room}
-use Rattle.pas_same_text.specs.{State.World, Searches.refusal, Searches.refuses, Order.serves}
+use Rattle.pas_same_text.specs.{State.World, Searches.refusal, Searches.refuses, Order.serves, Same.IsSame, Same.HasSame, Acts.IsBetween}
 use Rattle.pas_same_text.specs.Classes.{slots_for, takes_page, fetches, serves_class}
-use Rattle.pas_same_text.specs.{Same.IsSame, Same.HasSame, Acts.IsBetween}
 use Rattle.pas_same_text.proofs.{BitfitRequests.none_searched, CacheLists.same_own, ClassFits.class_fits, LoggedFrees.after_with, OneUp.up_to}
 use Rattle.pas_same_text.proofs.{RefusedRequests.refused_to, RefusedRequests.refused_same, Asked.HasAsked, Asked.answer_reached, Asked.by_route}
 use Rattle.pas_same_text.proofs.FetchedClasses.{HasPlace, IsFetched, with_place, may_fetch, place_fetched, text_fetched, fetch_between, fetch_carried}

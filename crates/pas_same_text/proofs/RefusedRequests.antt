@@ -12,8 +12,8 @@ use Rattle.pas_core.proofs.{Deeds.deed_of, Deeds.deed_has_page, Rights.right_in_
 use Rattle.pas_core.proofs.{OneActor.lends_none}
 use Rattle.pas_search.specs.Telling.{IsInHands, IsTrueReason}
 use Rattle.pas_answers.specs.Answers.{Progress, Named, named, records_of, said_of_room}
-use Rattle.pas_same_text.specs.{State.World, Pages.is_same, Pages.is_of, Pages.is_kept, Searches.refusal_by, Searches.refusal, Searches.refuses}
-use Rattle.pas_same_text.specs.{Same.HasSame, Acts.IsBetween, Same.IsSame}
+use Rattle.pas_same_text.specs.{State.World, Pages.is_same, Pages.is_of, Pages.is_kept, Searches.refusal_by, Searches.refusal, Searches.refuses, Same.HasSame}
+use Rattle.pas_same_text.specs.{Acts.IsBetween, Same.IsSame}
 use Rattle.pas_same_text.proofs.{FreeGrains.keeper, FreeGrains.kept_by, RestingPages.deed_now, RestingPages.deed_from_word, SearchedPages.find_first}
 use Rattle.pas_same_text.proofs.{SearchedPages.find_none, Tests.and_first, Tests.and_second, CacheLists.same_kept, Flushes.visible_steps}
 use Rattle.pas_same_text.proofs.{GivingBack.epoch_stays_by, LoggedFrees.after_with, SmallActs.records_next, Pieces.IsPiece, SearchMarks.at_bare}

@@ -18,9 +18,8 @@ use Rattle.pas_trace.specs.declared.{item.Request.Request, plan.What.TheVariants
 use Rattle.pas_answers.specs.Answers.{Caches, Progress, Named, named, standing_for, Answer, having, IsReplaced, wanted_by, records_of, said_by, with_steps}
 use Rattle.pas_answers.specs.Answers.{after_answer}
 use Rattle.pas_answers.specs.Indexes.{IsNamedBy}
-use Rattle.pas_same_text.specs.{State.World, Frees.logs, Frees.frees, Order.serves, Order.logs_replaced, Order.replaces}
-use Rattle.pas_same_text.specs.{Same.IsSame, Acts.IsResting, Acts.IsBetween, Acts.HasUsableBlocks, Requests.IsAsked, Requests.AnswersSame}
-use Rattle.pas_same_text.specs.{Requests.RequestStaysSame}
+use Rattle.pas_same_text.specs.{State.World, Frees.logs, Frees.frees, Order.serves, Order.logs_replaced, Order.replaces, Same.IsSame, Acts.IsResting}
+use Rattle.pas_same_text.specs.{Acts.IsBetween, Acts.HasUsableBlocks, Requests.IsAsked, Requests.AnswersSame, Requests.RequestStaysSame}
 use Rattle.pas_same_text.proofs.{AfterRequests.served_rests, AfterRequests.served_log, BackActs.freed_any, CacheLists.same_own, SeatedActs.cached_again}
 use Rattle.pas_same_text.proofs.{SeatedActs.at_rest_now, SeatedActs.middle_rest, LoggedFrees.after_with, LoggedFrees.page_inside, LoggedFrees.freed_is}
 use Rattle.pas_same_text.proofs.{UsableBlocks.act_usable, SameIndexes.serves_many}

@@ -14,9 +14,8 @@ use Rattle.pas_core.specs.Good.{word_of_deed}
 use Rattle.pas_core.specs.Rights.{eligible_bit, IsUsableFree, IsRightOffered, IsRightInOnePlace}
 use Rattle.pas_core.proofs.{Deeds.deed_of, Deeds.directory_is_of, Deeds.known_is, Offers.offered_at_rest, Rights.right_in_one_place, Rights.deeds_known}
 use Rattle.pas_answers.specs.Answers.{Progress}
-use Rattle.pas_same_text.specs.State.{World}
+use Rattle.pas_same_text.specs.{State.World, Same.HasSame, Acts.IsBetween, Words.free_bit}
 use Rattle.pas_same_text.specs.Pages.{each_of, is_same, is_of, is_kept, is_guarded, is_free, has_room, is_offered, is_none}
-use Rattle.pas_same_text.specs.{Same.HasSame, Acts.IsBetween, Words.free_bit}
 use Rattle.pas_same_text.proofs.{FreeGrains.free_unless, FreeGrains.keeper, FreeGrains.nobody_keeps, Tests.and_first, Tests.and_second}
 
 -- ---- tests of numbers that follow each other

@@ -28,9 +28,8 @@ use Rattle.pas_cache.proofs.Routes.{may_find}
 use Rattle.pas_report.specs.declared.record.Record.{Record}
 use Rattle.pas_trace.specs.EveryPlan.{IsThread}
 use Rattle.pas_answers.specs.Answers.{Progress, named, records_of, with_cache as with_cached}
-use Rattle.pas_same_text.specs.{State.World, Runs.large_of, Runs.gives_pages}
+use Rattle.pas_same_text.specs.{State.World, Runs.large_of, Runs.gives_pages, Same.IsSame, Same.HasSame, Same.AreSameCaches, Acts.IsBetween}
 use Rattle.pas_same_text.specs.Searches.{deeds, backs, address_on, gives}
-use Rattle.pas_same_text.specs.{Same.IsSame, Same.HasSame, Same.AreSameCaches, Acts.IsBetween}
 use Rattle.pas_same_text.proofs.{CacheLists.same_kept, Flushes.visible_steps, Flushes.legal_between, LoggedFrees.after_with, Holders.guards_as}
 use Rattle.pas_same_text.proofs.{RestingPages.word_known, RunsFound.DeedsInRun, Tests.on_page, CacheLists.kept_at, SearchMarks.seeks_unbacked}
 use Rattle.pas_same_text.proofs.{GivingBack.once_parts, ReadyPages.shown, ReadyPages.shown_events, ReadyPages.shown_rest}

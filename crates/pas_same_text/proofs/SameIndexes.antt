@@ -11,7 +11,8 @@ use Rattle.pas_trace.specs.{Acts.Act, Acts.numbers_from, Asked.request_in}
 use Rattle.pas_trace.specs.declared.{item.Request.Request, plan.What.What}
 use Rattle.pas_same_text.specs.State.{World, Guard, each, cache_of, locals_of, noted_of, set_noted}
 use Rattle.pas_same_text.specs.{Pages.page_numbers, Pages.minds, Searches.searched, Searches.deeds, Searches.backs, Classes.is_for, Indexes.indexes_run}
-use Rattle.pas_same_text.specs.{Indexes.loses_named, Frees.flushes, Frees.stops, Frees.logs, Passes.passes, Passes.stops_idle}
+use Rattle.pas_same_text.specs.{Indexes.loses_named, Frees.flushes, Frees.stops, Frees.logs, Passes.passes, Passes.stops_idle, Acts.IsTaken, Acts.HandsOnOwn}
+use Rattle.pas_same_text.specs.{Acts.KeepsIndexes}
 use Rattle.pas_same_text.specs.Runs.{bitfit_of, large_of, lowest_place, is_run, run_or, named_run, lowest_run, deeds_run, serves_pages}
 use Rattle.pas_same_text.specs.Guards.{guards_of, is_over, without_guard, lowers, lowers_ended, are_bare, raises, raises_from, guards}
 use Rattle.pas_same_text.specs.Order.{serves, keeps_block, logs_replaced, replaces, remakes, operates, acts_on, opened}
@@ -22,7 +23,6 @@ use Rattle.pas_large.specs.Doors.{Indexes, no_ranges}
 use Rattle.pas_large.specs.declared.span.Span.{Span}
 use Rattle.pas_answers.specs.Indexes.{unless_suited, request_made, request_by, after_request, after_operation, with_noted, indexes_after}
 use Rattle.pas_answers.specs.Calls.{block_behind}
-use Rattle.pas_same_text.specs.Acts.{IsTaken, HandsOnOwn, KeepsIndexes}
 
 either : (t : Bool) (v u : World) (n : ℕ) → length v.caches ≡ n → length u.caches ≡ n → length (if t then v else u).caches ≡ n
 either true v u n one other = one

@@ -14,10 +14,9 @@ use Rattle.pas_core.proofs.Deeds.{deed_has_page}
 use Rattle.pas_core.proofs.OneActor.{offered_deed, unfit_entry, deed_quiet, deed_exit, deed_none, spot_same, zero_told, one_told, entry_lacks, legal_before}
 use Rattle.pas_large.specs.Telling.{IsWholePage, IsUsablePage, IsUsableRun, HasNoUsableRun, IsLowestRun, IsNamedWhole}
 use Rattle.pas_answers.specs.Answers.{Progress}
-use Rattle.pas_same_text.specs.{State.World, Indexes.named_first}
+use Rattle.pas_same_text.specs.{State.World, Indexes.named_first, Same.HasSame, Same.ArePagesSame, Acts.IsBetween, Searched.IsSearch}
 use Rattle.pas_same_text.specs.Pages.{each_of, is_unowned, is_free, is_empty, is_offered, page_numbers, is_none}
 use Rattle.pas_same_text.specs.Runs.{large_of, is_whole, is_usable, if_whole, named_run, is_run, lowest_run}
-use Rattle.pas_same_text.specs.{Same.HasSame, Same.ArePagesSame, Acts.IsBetween, Searched.IsSearch}
 use Rattle.pas_same_text.proofs.{FreeGrains.read_unless, GivenBack.each_at, GivenBack.each_all, Tests.and_first, Tests.and_second}
 use Rattle.pas_same_text.proofs.RestingPages.{open_unguarded, had_open, owned_is, no_word, unowned_by}
 use Rattle.std.specs.List.{find}

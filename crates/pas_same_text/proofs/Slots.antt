@@ -14,8 +14,7 @@ use Rattle.pas_segregated.specs.Masks.{AreStarts, start_of}
 use Rattle.pas_segregated.specs.declared.slots.Slots.{Slots}
 use Rattle.pas_segregated.proofs.Starts.{start_at, start_below}
 use Rattle.pas_cache.specs.Locals.{IsLocal, any_covers, covers}
-use Rattle.pas_same_text.specs.{State.Local, State.Cache, State.cache_in, Pages.is_cached}
-use Rattle.pas_same_text.specs.Same.{IsSameLocal, AreSameLocals}
+use Rattle.pas_same_text.specs.{State.Local, State.Cache, State.cache_in, Pages.is_cached, Same.IsSameLocal, Same.AreSameLocals}
 use Rattle.pas_same_text.proofs.CacheLists.{all_locals}
 use Rattle.pas_same_text.proofs.Tests.{IsFound, found, passed, any_filtered, filtered_any, on_page}
 

@@ -12,7 +12,8 @@ use Rattle.pas_same_text.specs.State.{Local, Guard, World, Cache, each, cache_of
 use Rattle.pas_same_text.specs.Pages.{is_offered, is_same, is_free_of, each_of}
 use Rattle.pas_machine.specs.State.{deed_in}
 use Rattle.std.specs.List.{list_any, filter}
-use Rattle.pas_same_text.specs.{Same.ArePagesSame, Same.IsSame, Same.IsSameCache, Acts.StaysSame}
+use Rattle.pas_same_text.specs.{Same.ArePagesSame, Same.IsSame, Same.IsSameCache, Acts.StaysSame, Indexes.indexes_run, Indexes.settles, Order.begins}
+use Rattle.pas_same_text.specs.{Passes.ticks, Passes.reads_epoch}
 use Rattle.pas_same_text.proofs.CacheLists.{all_locals, locals_with, same_with}
 use Rattle.std.proofs.lemmas.Grind.{reverse_onto}
 use Rattle.pas_profile.specs.declared.word.Word.TheVariants as TheWord
@@ -20,7 +21,6 @@ use Rattle.pas_free_log.specs.declared.noting.EndedRun.{EndedRun}
 use Rattle.pas_report.specs.declared.record.{Record.Record, Said.Said}
 use Rattle.pas_trace.specs.{Acts.Act, EveryPlan.IsThread}
 use Rattle.pas_answers.specs.Answers.{Progress, with_records, begun, after_settling, after_wake, after_reading, after_tick}
-use Rattle.pas_same_text.specs.{Indexes.indexes_run, Indexes.settles, Order.begins, Passes.ticks, Passes.reads_epoch}
 
 -- ---- lists of steps with the same events and the same bits of pages
 pub record HaveSamePages (l l' : Whole) : Type 0 where

@@ -22,9 +22,8 @@ use Rattle.pas_report.specs.declared.record.Record.{Record}
 use Rattle.pas_trace.specs.EveryPlan.{IsThread}
 use Rattle.pas_answers.specs.Answers.{Progress, records_of, with_steps, with_records, with_cache as with_cached}
 use Rattle.pas_same_text.specs.State.{Local, World, cache_of, locals_of}
-use Rattle.pas_same_text.specs.{Frees.flushes, Frees.gives_up_all, Frees.stops, Pages.is_of}
+use Rattle.pas_same_text.specs.{Frees.flushes, Frees.gives_up_all, Frees.stops, Pages.is_of, Acts.IsBetween, Acts.AreBlocksUsable, Words.free_bit}
 use Rattle.pas_same_text.specs.Same.{IsSame, HasSame, IsSameCache, AreSameLocals, AreSameCaches, lives_in, has_number}
-use Rattle.pas_same_text.specs.{Acts.IsBetween, Acts.AreBlocksUsable, Words.free_bit}
 use Rattle.pas_same_text.proofs.{CacheLists.same_own, CacheLists.same_with, CacheLists.same_again, FlushedLogs.IsFlushedTo, FlushedLogs.IsEndedOn}
 use Rattle.pas_same_text.proofs.{FlushedLogs.OnlyFewer, Flushes.visible_steps, GivenBack.returns_then, GivenBack.has_both, Holders.guards_as}
 use Rattle.pas_same_text.proofs.{Holders.still_unguarded, StillIndexes.same_guards, StillIndexes.stops_keep, LeftPages.read_open}

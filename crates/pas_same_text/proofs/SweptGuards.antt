@@ -16,12 +16,11 @@ use Rattle.pas_steps.proofs.Adding.{triples_append}
 use Rattle.pas_core.proofs.{Lives.turn_is, MachineRuns.agrees, OneActor.legal_earlier}
 use Rattle.pas_rights.specs.{Looks.HintsEmpty, PutsBack.BackSteps, Words.full}
 use Rattle.pas_rights.proofs.{Orders.return_returns, Puts.puts_kinds}
-use Rattle.pas_same_text.specs.Runs.{large_of}
+use Rattle.pas_same_text.specs.{Runs.large_of, Same.told_guard}
 use Rattle.pas_report.specs.declared.record.Record.{Record}
 use Rattle.pas_guard.specs.{Books.is_outer_of, Books.is_outer, Books.Each, Keepers.IsBeside, Lowers.LowerSteps}
 use Rattle.pas_guard.specs.Sweeps.{is_over, life_look, lowered_record, SweptOne, Swept, sweeping}
 use Rattle.pas_guard.specs.declared.book.Guard.{Guard as BookGuard}
-use Rattle.pas_same_text.specs.Same.{told_guard}
 use Rattle.pas_same_text.proofs.{Flushes.unshown, LoweredGuards.lowered_line, EntrySteps.return_hints}
 use Rattle.pas_same_text.proofs.GivingBack.{IsMarked, marked_parts, none_marked, returns_marked, hints_none}
 

@@ -14,9 +14,8 @@ use Rattle.pas_steps.proofs.Sets.{same_truth}
 use Rattle.pas_core.specs.Rights.{free_of_page}
 use Rattle.pas_partial.specs.Rows.{IsFreeSlot, IsLowestRow}
 use Rattle.pas_answers.specs.Answers.{Progress}
-use Rattle.pas_same_text.specs.{State.World, Pages.are_free, Pages.is_guarded}
+use Rattle.pas_same_text.specs.{State.World, Pages.are_free, Pages.is_guarded, Same.HasSame, Same.IsRising, Same.has_number, Acts.IsBetween}
 use Rattle.pas_same_text.specs.Classes.{spaced, free_slots, row_from, first_row, slots_for}
-use Rattle.pas_same_text.specs.{Same.HasSame, Same.IsRising, Same.has_number, Acts.IsBetween}
 use Rattle.pas_same_text.proofs.ClassFits.{slot_there, slot_index, slot_tested, slot_free}
 use Rattle.pas_same_text.proofs.{BitfitFits.in_spaced, BitfitFits.from_spaced, BitfitFits.next_place, Tests.filtered_has, Tests.has_filtered}
 

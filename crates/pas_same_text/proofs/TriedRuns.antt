@@ -21,10 +21,10 @@ use Rattle.pas_large.proofs.{Claims.span_in, Outcomes.MadeOf}
 use Rattle.pas_guard.specs.Evidence.{HasFailedOnce}
 use Rattle.pas_guard.specs.Seeks.{seeking, HasSpan, SoughtRun, SoughtNone}
 use Rattle.pas_answers.specs.Answers.{Progress}
-use Rattle.pas_same_text.specs.{State.World, State.Cache, State.Guard, Guards.are_bare, Guards.raises, Guards.raises_from}
+use Rattle.pas_same_text.specs.{State.World, State.Cache, State.Guard, Guards.are_bare, Guards.raises, Guards.raises_from, Same.IsSame, Same.HasSame}
+use Rattle.pas_same_text.specs.{Acts.IsBetween, Words.free_bit}
 use Rattle.pas_same_text.specs.Pages.{page_numbers, each_of, is_none, is_same, is_free, is_empty, is_kept}
 use Rattle.pas_same_text.specs.Runs.{large_of, is_usable, is_run, serves_pages}
-use Rattle.pas_same_text.specs.{Same.IsSame, Same.HasSame, Acts.IsBetween, Words.free_bit}
 use Rattle.pas_same_text.proofs.{KeepersRest.bare_since, KeepersRest.bare_events, FreeGrains.bit_free, Flushes.visible_steps, GivenBack.each_all}
 use Rattle.pas_same_text.proofs.{GivenPages.open_from, GivingBack.backed_stays, FreeGrains.keeper, ReadyPages.shown, ReadyPages.shown_events}
 use Rattle.pas_same_text.proofs.{ReadyPages.shown_rest, RestingPages.is_open, RestingPages.owned_is, RestingPages.unowned_by, SearchedPages.run_usable}

@@ -18,8 +18,7 @@ use Rattle.pas_guard.specs.Keepers.{IsBeside}
 use Rattle.pas_guard.specs.declared.book.Guard.{Guard}
 use Rattle.pas_trace.specs.{Acts.Act, EveryPlan.IsThread}
 use Rattle.pas_answers.specs.{Answers.Caches, Answers.Books, Answers.Progress, Indexes.indexes_after, Reaching.Advances}
-use Rattle.pas_same_text.specs.{State.World, Order.acts_on}
-use Rattle.pas_same_text.specs.Same.{IsSame, HasSame}
+use Rattle.pas_same_text.specs.{State.World, Order.acts_on, Same.IsSame, Same.HasSame}
 
 -- ---- actors between two acts
 -- The actor holds exactly the grains of the unused slots of these local allocators and of the outer pages of these guards, has exactly the rights that the local

@@ -10,8 +10,7 @@ use Rattle.pas_cache.specs.Changes.{EmptiesLog}
 use Rattle.pas_steps.specs.Desks.{triples}
 use Rattle.pas_steps.specs.Lists.{Whole, visible, word_after, Legal}
 use Rattle.pas_steps.specs.declared.step.Made.{Made}
-use Rattle.pas_same_text.specs.{State.World, State.live_after, State.log_of, Frees.is_other_room}
-use Rattle.pas_same_text.specs.Same.{lives_in}
+use Rattle.pas_same_text.specs.{State.World, State.live_after, State.log_of, Frees.is_other_room, Same.lives_in}
 
 -- the text shows just this event more; caches and hints may change
 pub record IsShown (e : Event) (w w' : World) : Type 0 where

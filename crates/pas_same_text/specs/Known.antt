@@ -8,8 +8,8 @@ use Rattle.pas_large.specs.Doors.{Indexes}
 use Rattle.pas_trace.specs.{Acts.Act, Asked.request_in, Asked.keeper_in}
 use Rattle.pas_trace.specs.declared.plan.What.{What}
 use Rattle.pas_answers.specs.{Answers.Progress, Indexes.ActIsNamedBy, Indexes.AllAreNamedBy, Indexes.indexes_after, Reaching.Reaches, Rests.AllAtRest}
-use Rattle.pas_same_text.specs.{State.World, Order.acts_on}
-use Rattle.pas_same_text.specs.{Same.IsSame, Acts.IsTaken, Acts.HasUsableBlocks, Acts.AreEndsStamped, Seats.IsActOf, Seats.AreSeated}
+use Rattle.pas_same_text.specs.{State.World, Order.acts_on, Same.IsSame, Acts.IsTaken, Acts.HasUsableBlocks, Acts.AreEndsStamped, Seats.IsActOf}
+use Rattle.pas_same_text.specs.{Seats.AreSeated}
 
 -- ---- who acts, and what is asked for
 -- the operation's request is one that the profile admits, if it asks for anything

@@ -7,8 +7,7 @@ use Rattle.pas_trace.specs.EveryPlan.{IsThread}
 use Rattle.pas_trace.specs.declared.item.Request.{Request}
 use Rattle.pas_answers.specs.Answers.{Progress, Answer, having, IsServed, after_answer}
 use Rattle.pas_answers.specs.Indexes.{IsNamedBy}
-use Rattle.pas_same_text.specs.{State.World, Order.serves}
-use Rattle.pas_same_text.specs.{Same.IsSame, Acts.IsBetween}
+use Rattle.pas_same_text.specs.{State.World, Order.serves, Same.IsSame, Acts.IsBetween}
 
 -- Thread k asks for r after p, and is answered by a; the text's state is w then. All actors are at rest before and after it. Where it is for whole pages, the run was
 -- named for it that the text's index names.

@@ -7,8 +7,7 @@ use Rattle.pas_steps.specs.{Past.Always, Views.has_right, Views.KnowsDeed}
 use Rattle.pas_steps.specs.declared.step.Made.{Made}
 use Rattle.pas_core.specs.Rights.{free_of_page}
 use Rattle.pas_answers.specs.Answers.{Progress}
-use Rattle.pas_same_text.specs.{State.World, Pages.is_guarded, Searches.some_of}
-use Rattle.pas_same_text.specs.Same.{ArePagesSame}
+use Rattle.pas_same_text.specs.{State.World, Pages.is_guarded, Searches.some_of, Same.ArePagesSame}
 
 -- Where nothing fits on a page by its free grains in the replay, the text finds nothing that fits there, and it finds something where something does: of pages
 -- that no guard has, since all others' grains are a keeper's.

@@ -10,8 +10,8 @@ ghost use Rattle.pas_search.specs.{Kinds.ReturnsDuly, Telling.IsTrueReason, Sear
 ghost use Rattle.pas_machine.specs.Machine.{Run};
 ghost use Rattle.pas_free_log.specs.declared.{ending.Outcome.Outcome, log.Entry.Entry, noting.EndedRun.EndedRun};
 ghost use Rattle.pas_same_text.specs.{Frees.ends, Frees.flushes, Searches.refusal, Searches.searched, Reports.text_of, State.World, State.each};
-ghost use Rattle.pas_same_text.specs.{Indexes.named_first};
-ghost use Rattle.pas_same_text.specs.{Same.IsSame, Same.lives_in, Same.ArePagesSame, Requests.RequestStaysSame, Told.IsTold, Searched.IsSearch, Words.free_bit};
+ghost use Rattle.pas_same_text.specs.{Indexes.named_first, Same.IsSame, Same.lives_in, Same.ArePagesSame, Requests.RequestStaysSame, Told.IsTold};
+ghost use Rattle.pas_same_text.specs.{Searched.IsSearch, Words.free_bit};
 ghost use Rattle.pas_same_text.specs.Known.{ArePlanned, IsCarried, AreKnown, KeepsSame};
 ghost use Rattle.pas_answers.specs.{Indexes.ActIsNamedBy, Indexes.indexes_after_all, Reaching.Reaches, Ways.InOrder, Answers.Progress};
 ghost use Rattle.pas_answers.specs.Replays.{IsReplay, at_start, phases_of, region_of, threads_of, keepers_of, acts_of_plan};

@@ -9,8 +9,7 @@ use Rattle.pas_report.specs.Reports.{total_line}
 use Rattle.pas_report.specs.declared.record.Record.{Record}
 use Rattle.pas_answers.specs.{Replays.threads_of, Replays.keepers_of, Replays.phases_of, Ways.Way, Ways.InOrder, Ways.OnThreads}
 use Rattle.pas_replay.specs.OneThread.{IsOfOneThread}
-use Rattle.pas_same_text.specs.{State.World, Order.replayed}
-use Rattle.pas_same_text.specs.Told.{IsTold}
+use Rattle.pas_same_text.specs.{State.World, Order.replayed, Told.IsTold}
 use Rattle.pas_same_text.proofs.{AllActs.own_told, AllActs.order_told, TextOfBytes.replay_told}
 use Rattle.pas_telling.specs.Summaries.{summary_text}
 use Rattle.pas_top.specs.{Generating.IsSummarized, Manners.way_of}

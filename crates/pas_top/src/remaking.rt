@@ -1,9 +1,9 @@
 //! What gives blocks another size in a replay.
 
+use pas_answers::reallocate;
 use pas_cache::{Moved, ThreadCache};
 use pas_large::Door;
 use pas_profile::{Block, NoRoom};
-use pas_answers::reallocate;
 use pas_replay::Remake;
 use pas_steps::Desk;
 
