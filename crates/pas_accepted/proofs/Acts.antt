@@ -1,31 +1,106 @@
 -- Each act of a replay in the order of the text.
-use Rattle.std.proofs.Common.{◌≡◌, ℕ, ◌+◌, ◌==◌, max, nat_le, true, false, List, [], ◌∷◌, ◌++◌, inl, inr, refl, ap, sym, ◌∙◌, subst, append-nil, append_assoc}
-use Rattle.std.proofs.Common.{arith, map, MatchResult, Option, None, Some, le-leb, leb-true}
-use Rattle.std.proofs.lemmas.{Bool.false_from_ne_true, Option.none-some}
+use Rattle.std.proofs.Common.{arith, ◌≡◌, ℕ, List, [], ◌∷◌, ◌++◌, None, Some, refl, ap, sym, ◌∙◌, Option, MatchResult, ◌+◌, ◌==◌, max, nat_le, true, false, inl}
+use Rattle.std.proofs.Common.{inr, subst, append-nil, append_assoc, map, le-leb, leb-true}
 use Rattle.pas_profile.specs.Profiles.{IsValid}
-use Rattle.pas_profile.specs.declared.{name.Block.Block, profile.Profile.Profile, word.Word.Word}
-use Rattle.pas_core.proofs.OneActor.{legal_before}
-use Rattle.pas_steps.specs.{Desks.triples, Events.events_by, Lists.Legal, Lists.part, Lists.word_after}
-use Rattle.pas_steps.specs.declared.step.Made.{Made}
+use Rattle.pas_profile.specs.declared.{profile.Profile.Profile, name.Block.Block, word.Word.Word}
+use Rattle.pas_steps.specs.{Desks.triples, Events.events_by}
+use Rattle.pas_steps.specs.Lists.{Legal, part, visible, word_after}
+use Rattle.pas_free_log.specs.Frames.{freeing}
 use Rattle.pas_cache.specs.{Caches.Cached, Refusals.IsTrulyRefused}
-use Rattle.pas_report.specs.Lines.{line_of}
 use Rattle.pas_report.specs.declared.record.{Record.Record, Said.Said}
-use Rattle.pas_trace.specs.declared.{item.Request.Request, plan.Op.Op, plan.What.What}
-use Rattle.pas_trace.specs.Asked.{keeper_in}
+use Rattle.pas_trace.specs.declared.{item.Request.Request, plan.What.What, plan.Op.Op}
+use Rattle.pas_trace.specs.declared.plan.What.TheVariants.{Alloc, Guarded, Free, FreeSized, Raw, RawSized, Remake, Flush, Stop}
+use Rattle.pas_answers.specs.Answers.{Answer, IsAnswered, IsFreedBy, IsServed, Progress, after_answer, having, records_of, room_noted, said_by, wanted_by}
+use Rattle.pas_answers.specs.Answers.{IsIdleFor, IsStopped, after_reading, after_settling, after_stop, after_tick, after_wake, begun as woken, epoch_look}
+use Rattle.pas_answers.specs.Answers.{stopped, with_cache, with_records}
+use Rattle.pas_trace.specs.{Named.standing_for, Asked.keeper_in}
+use Rattle.pas_answers.specs.{Refusals.RefusesTruly, Refusals.ActRefusesTruly, Refusals.TriedRefusesTruly, Guarding.IsTried, Guarding.Tried}
+use Rattle.pas_answers.specs.{Guarding.after_trying, Reaching.Advances, Reaching.AnswersTried}
+use Rattle.pas_answers.proofs.Tidy.{Tidy, answer_tidy, look_tidy, tick_tidy}
+use Rattle.pas_check.specs.Begins.{begun_what, entry_of as known_entry, freeing_named, remaking_named, unsized, stopping, sweeping}
+use Rattle.pas_check.specs.States.{Serves, Stand, Task, Does, Due, Tries, Writes, with_at}
+use Rattle.pas_check.proofs.Ticks.{epoch_kept}
+use Rattle.pas_accepted.proofs.Flushing.{flush_only, flush_leads, emptied, logs_with, stop_leads, stop_tells}
+use Rattle.pas_accepted.proofs.Remakes.{free_comes, freed_comes, silent_lines, asked_tells, asked_then, remade_comes}
+use Rattle.pas_accepted.proofs.Telling.{LeadsOn, on_as, on_both, lines_by, Comes, Tells, piece_of, told_after, on_line, on_task, emptying, booked_as, logged_as}
+use Rattle.pas_accepted.proofs.Telling.{lines_both, table_at, table_same}
+use Rattle.pas_accepted.proofs.{Requests.request_leads, Requests.served_plain, Guarding.given_comes, Guarding.lowered_comes, Guarding.thread_comes}
+use Rattle.pas_accepted.proofs.{Passes.pass_comes}
+use Rattle.std.proofs.lemmas.{Bool.false_from_ne_true, Option.none-some}
+use Rattle.pas_core.proofs.OneActor.{legal_before}
+use Rattle.pas_steps.specs.declared.step.Made.{Made}
 use Rattle.pas_trace.specs.Acts.{Act, Operates, Guards, Settles, Ticks, MakesPass, ReadsEpoch, StopsIdle, MarksPhase, Wakes, MarksClose, Ends, Lowers}
-use Rattle.pas_answers.specs.Answers.{Answer, IsAnswered, IsIdleFor, IsServed, IsStopped, Progress, having, said_by, wanted_by, after_reading, after_settling}
-use Rattle.pas_answers.specs.Answers.{after_stop, after_tick, after_wake, begun as woken, epoch_look, records_of, stopped, with_cache, with_records}
-use Rattle.pas_answers.specs.{Guarding.IsTried, Guarding.Tried, Guarding.after_trying, Reaching.Advances, Reaching.AnswersTried, Refusals.ActRefusesTruly}
-use Rattle.pas_answers.specs.{Refusals.RefusesTruly, Refusals.TriedRefusesTruly}
-use Rattle.pas_answers.proofs.{Consequences.tidy_piece, Tidy.look_tidy, Tidy.tick_tidy}
-use Rattle.pas_check.specs.{Begins.stopping, Begins.sweeping, Tasks.emptying}
-use Rattle.pas_check.specs.States.{Does, Due, Stand, Task, Tries, Writes, with_at}
-use Rattle.pas_accepted.proofs.Going.{LeadsOn, on_as, on_both, on_line, on_task}
-use Rattle.pas_accepted.proofs.{Guarding.given_comes, Guarding.lowered_comes, Guarding.thread_comes, GuardsInBooks.booked_as, LogEntries.logged_as}
-use Rattle.pas_accepted.proofs.{Operations.what_comes, Passes.pass_comes, Stopping.emptied, Stopping.stop_leads, Stopping.stop_tells, Telling.Comes}
-use Rattle.pas_accepted.proofs.{Telling.Tells}
-use Rattle.pas_accepted.proofs.Pieces.{lines_both, lines_by, table_at, table_same}
+use Rattle.pas_answers.proofs.Consequences.{tidy_piece}
 
+-- ---- A thread's operation, by what it asks for
+module _ (f : Profile) (valid : IsValid f) (p : Progress) (s : Stand) (ts : List Task) (tells : Tells p s) (due : s.due ≡ []) (k : ℕ) (a : Answer)
+    (legal : Legal f (triples k a.steps ++ p.list)) where
+  -- the piece is tidy
+  tidy_of : (what : What) → IsAnswered f k what (having p.names (part k p.list) (p.caches k)) a → Tidy (a.steps ++ part k p.list)
+  tidy_of what is = answer_tidy f k what (having p.names (part k p.list) (p.caches k)) a is (piece_of f k a.steps p.list legal) (tells.tidy k)
+
+  -- a free of what a name stands for
+  named_comes : (name : ℕ) (room : Option ℕ) → IsFreedBy f k (p.caches k) a.cache name room (standing_for p.names name) a.steps a.said → a.names ≡ p.names
+      → Tidy (a.steps ++ part k p.list)
+      → LeadsOn f s [] (record (freeing_named f s k name (room_noted room) (standing_for s.names name)) { left = ts })
+      → Comes f s (records_of (events_by k (part k p.list) a.steps) ++ said_by k a.said) (after_answer p k a) ts
+  named_comes name room is same tidy begun = search (arith, freed_comes, on_as)
+
+  -- a request
+  request_comes : (r : Request) (is : IsServed f k r (having p.names (part k p.list) (p.caches k)) a)
+      → MatchResult is.answer (λ block. Unit {0}) (IsTrulyRefused f (wanted_by f r) (p.caches k).locals p.list (triples k a.steps ++ p.list))
+      → LeadsOn f s [] (record s { due = Serves k r None ∷ []; left = ts })
+      → Comes f s (records_of (events_by k (part k p.list) a.steps) ++ said_by k a.said) (after_answer p k a) ts
+  request_comes r is truly begun =
+      let w : Stand = record s { left = ts } in
+      let end : Stand = asked_then f p s ts tells k r a is legal in
+      let rs : List Record = records_of (events_by k (part k p.list) a.steps) in
+      record {
+        end = end;
+        leads = on_as (ap (λ o. lines_by (rs ++ said_by k o)) is.said_is) (sym (served_plain w k r is.answer (visible (triples k a.steps ++ p.list))))
+            (on_both begun (request_leads f valid w k r None p.list a.steps tells.events legal (p.caches k).locals is.answer is.ends truly));
+        tells = asked_tells f p s ts tells k r a is legal _;
+        due = refl;
+        left = refl;
+      }
+
+  -- THE OPERATION
+  pub what_comes : (what : What) (is : IsAnswered f k what (having p.names (part k p.list) (p.caches k)) a) → RefusesTruly f k what (having p.names (part k p.list) (p.caches k)) a is p.list → LeadsOn f s [] (record (begun_what f s k what) { left = ts })
+      → Comes f s (records_of (events_by k (part k p.list) a.steps) ++ said_by k a.said) (after_answer p k a) ts
+  what_comes (Alloc name heap size align) is truly begun = request_comes (record { name = name; heap = heap; size = size; align = align }) is truly begun
+  what_comes (Guarded keeper name heap size align) is truly begun = request_comes (record { name = name; heap = heap; size = size; align = align }) is truly begun
+  what_comes (Free name) is truly begun = named_comes name None is.0 is.1 (tidy_of (Free name) is) begun
+  what_comes (FreeSized name room) is truly begun = named_comes name (Some room) is.0 is.1 (tidy_of (FreeSized name room) is) begun
+  what_comes (Raw block) is truly begun = free_comes f valid p s ts tells k a is.1 (tidy_of (Raw block) is) legal (unsized block) is.0 begun
+  what_comes (RawSized room block) is truly begun = free_comes f valid p s ts tells k a is.1 (tidy_of (RawSized room block) is) legal (known_entry block room) is.0 begun
+  what_comes (Remake name old heap size align) is truly begun =
+      remade_comes f valid p s ts tells k a (tidy_of (Remake name old heap size align) is) legal name size align (standing_for p.names old) is truly
+      (on_as refl (ap (λ x. record (remaking_named s k name size align x) { left = ts }) (sym (ap (λ ns. standing_for ns old) tells.names))) begun)
+  what_comes Flush is truly begun =
+      let end : Stand = emptied p s k a.steps [] [] ts in
+      let h = is.0.empties in
+      let rs : List Record = records_of (events_by k (part k p.list) a.steps) in
+      record {
+        end = end;
+        leads = on_as (silent_lines k a.said rs is.1) refl (on_both begun (flush_leads f valid p s tells k (p.caches k).noted a.cache.noted a.steps h legal [] [] ts));
+        tells = told_after p s end k a.steps a.cache a.names _ tells refl (tells.names ∙ sym is.2) (logs_with p s k a.cache [] tells (ap (λ (d : Cached). d.log) is.0.cache)) (ap (λ (d : Cached). d.idle_since) is.0.cache) refl refl refl
+            (epoch_kept freeing refl k a.steps p.list (flush_only k (p.caches k).log (p.caches k).noted a.cache.noted a.steps h)) (tidy_of Flush is);
+        due = refl;
+        left = refl;
+      }
+  what_comes Stop is truly begun =
+      let end : Stand = emptied p s k a.steps [] [] ts in
+      let rs : List Record = records_of (events_by k (part k p.list) a.steps) in
+      record {
+        end = end;
+        leads = on_as (silent_lines k a.said rs is.1) refl (on_both begun (stop_leads f valid p s tells k a.cache a.steps is.0 legal [] ts));
+        tells = stop_tells f valid p s tells k a.cache a.steps is.0 legal a.names _ end refl (tells.names ∙ sym is.2) refl refl refl refl;
+        due = refl;
+        left = refl;
+      }
+  what_comes other is truly begun = absurd is
+
+-- ---- Each act of a replay in the order of the text
 -- an act whose records lead on to what it came to
 abbrev pub Written : Profile → Progress → Stand → Progress → List Task → Type 0
 Written f p s q ts = (rs : List Record) × (q.records ≡ p.records ++ rs) × Comes f s rs q ts
@@ -48,7 +123,7 @@ module _ (f : Profile) (valid : IsValid f) (p : Progress) (s : Stand) (ts : List
       let t : Stand = record s { idle_since = with_at s.idle_since k s.epoch; left = ts } in
       record {
         end = t;
-        leads = on_task f s (Does (Wakes k)) ts due left;
+        leads = on_task due left;
         tells = look_tells k epoch t (with_cache p.caches k (woken (p.caches k) epoch)) p.epoch refl refl (λ j. table_same (λ (d : Cached). d.log) p.caches k (woken (p.caches k) epoch) refl j ∙ tells.logs j)
             (λ j. sym (table_at (λ (d : Cached). d.idle_since) (λ (n : ℕ). n) (j == k) (woken (p.caches k) epoch) (p.caches j) s.epoch (s.idle_since j) (is ∙ sym tells.epoch) (sym (tells.awake j)))) refl refl;
         due = due;
@@ -58,13 +133,13 @@ module _ (f : Profile) (valid : IsValid f) (p : Progress) (s : Stand) (ts : List
   read_comes : (epoch : ℕ) → s.left ≡ Does ReadsEpoch ∷ ts → Comes f s [] (after_reading p epoch) ts
   read_comes epoch left =
       let t : Stand = record s { left = ts } in
-      record { end = t; leads = on_task f s (Does ReadsEpoch) ts due left; tells = look_tells 0 epoch t p.caches epoch refl refl tells.logs tells.awake refl refl; due = due; left = refl }
+      record { end = t; leads = on_task due left; tells = look_tells 0 epoch t p.caches epoch refl refl tells.logs tells.awake refl refl; due = due; left = refl }
 
   -- ---- what is handed on
   settled_comes : (k : ℕ) → s.left ≡ Does (Settles k) ∷ ts → Comes f s [] (after_settling p k) ts
   settled_comes k left = record {
     end = record s { left = ts };
-    leads = on_task f s (Does (Settles k)) ts due left;
+    leads = on_task due left;
     tells = search (arith, table_same);
     due = due;
     left = refl;
@@ -78,12 +153,12 @@ module _ (f : Profile) (valid : IsValid f) (p : Progress) (s : Stand) (ts : List
   wrote : (act : Act) (item : Record) (t : Stand) → s.left ≡ Does act ∷ ts → LeadsOn f s [] (record t { due = Writes item ∷ [] })
       → LeadsOn f s (lines_by (item ∷ [])) (record t { due = [] })
   wrote act item t left begun =
-      on_both f s (record t { due = Writes item ∷ [] }) (record t { due = [] }) [] (line_of item ∷ []) begun (on_line f (record t { due = Writes item ∷ [] }) (record t { due = [] }) (line_of item) (inr (refl, refl)))
+      on_both begun (on_line (inr (refl, refl)))
 
   phase_comes : (n : ℕ) → s.left ≡ Does (MarksPhase n) ∷ ts → Comes f s (Record.Phase n ∷ []) (with_records p (Record.Phase n ∷ [])) ts
   phase_comes n left = record {
     end = record s { due = []; left = ts };
-    leads = wrote (MarksPhase n) (Record.Phase n) (record s { left = ts }) left (on_task f s (Does (MarksPhase n)) ts due left);
+    leads = wrote (MarksPhase n) (Record.Phase n) (record s { left = ts }) left (on_task due left);
     tells = same_tells (record s { due = []; left = ts }) _ refl refl refl refl refl refl;
     due = refl;
     left = refl;
@@ -92,7 +167,7 @@ module _ (f : Profile) (valid : IsValid f) (p : Progress) (s : Stand) (ts : List
   close_comes : s.left ≡ Does MarksClose ∷ ts → Comes f s (Record.Close ∷ []) (with_records p (Record.Close ∷ [])) ts
   close_comes left = record {
     end = record s { due = []; left = ts };
-    leads = wrote MarksClose Record.Close (record s { left = ts }) left (on_task f s (Does MarksClose) ts due left);
+    leads = wrote MarksClose Record.Close (record s { left = ts }) left (on_task due left);
     tells = same_tells (record s { due = []; left = ts }) _ refl refl refl refl refl refl;
     due = refl;
     left = refl;
@@ -107,7 +182,7 @@ module _ (f : Profile) (valid : IsValid f) (p : Progress) (s : Stand) (ts : List
       let item : Record = Record.Said 0 (Said.Tick (max s.epoch asked)) in
       record {
         end = end;
-        leads = on_as f s end end _ _ (ap (λ n. lines_by (Record.Said 0 (Said.Tick n) ∷ [])) (sym same)) refl (wrote (Ticks asked) item t left (on_task f s (Does (Ticks asked)) ts due left));
+        leads = on_as (ap (λ n. lines_by (Record.Said 0 (Said.Tick n) ∷ [])) (sym same)) refl (wrote (Ticks asked) item t left (on_task due left));
         tells = search (arith, tidy_piece, tick_tidy);
         due = refl;
         left = refl;
@@ -121,7 +196,7 @@ module _ (f : Profile) (valid : IsValid f) (p : Progress) (s : Stand) (ts : List
       let rs : List Record = records_of (events_by k (part k p.list) steps) in
       record {
         end = end;
-        leads = on_as f s end end _ _ (ap lines_by (append-nil rs)) refl (on_both f s (emptying s k [] [] ts) end [] (lines_by rs) (on_task f s (Does (Ends k)) ts due left) (stop_leads f valid p s tells k c steps h legal [] ts));
+        leads = on_as (ap lines_by (append-nil rs)) refl (on_both (on_task due left) (stop_leads f valid p s tells k c steps h legal [] ts));
         tells = stop_tells f valid p s tells k c steps h legal p.names _ end refl tells.names refl refl refl refl;
         due = refl;
         left = refl;
@@ -140,14 +215,13 @@ module _ (f : Profile) (valid : IsValid f) (p : Progress) (s : Stand) (ts : List
       let item : Record = Record.Said 0 (Said.Stopped k) in
       let more : List Due = Writes item ∷ [] in
       let u : Stand = emptying s k [] more ts in
-      let old : Stand = emptied p s k steps [] more ts in
       let end : Stand = emptied p s k steps [] [] ts in
       let rs : List Record = records_of (events_by k (part k p.list) steps) in
-      let begun : LeadsOn f s [] u = on_as f s _ u [] [] refl (ap (λ t. record (stopping t s k) { left = ts }) (sym (idle_is k n reads idle))) (on_task f s (Does (StopsIdle k n)) ts due left) in
+      let begun : LeadsOn f s [] u = on_as refl (ap (λ t. record (stopping t s k) { left = ts }) (sym (idle_is k n reads idle))) (on_task due left) in
       record {
         end = end;
-        leads = on_as f s end end _ _ (lines_both rs (stopped k)) refl
-            (on_both f s old end (lines_by rs) (line_of item ∷ []) (on_both f s u old [] (lines_by rs) begun (stop_leads f valid p s tells k c steps h legal more ts)) (on_line f old end (line_of item) (inr (refl, refl))));
+        leads = on_as (lines_both rs (stopped k)) refl
+            (on_both (on_both begun (stop_leads f valid p s tells k c steps h legal more ts)) (on_line (inr (refl, refl))));
         tells = stop_tells f valid p s tells k c steps h legal p.names _ end refl tells.names refl refl refl refl;
         due = refl;
         left = refl;
@@ -156,7 +230,7 @@ module _ (f : Profile) (valid : IsValid f) (p : Progress) (s : Stand) (ts : List
   busy_comes : (k n : ℕ) → p.epoch ≡ word_after p.list Word.Epoch → (IsIdleFor p k n → ⊥) → s.left ≡ Does (StopsIdle k n) ∷ ts → Comes f s [] p ts
   busy_comes k n reads busy left = record {
     end = record s { left = ts };
-    leads = on_as f s _ (record s { left = ts }) [] [] refl (ap (λ t. record (stopping t s k) { left = ts }) (sym (idle_isnt k n reads busy))) (on_task f s (Does (StopsIdle k n)) ts due left);
+    leads = on_as refl (ap (λ t. record (stopping t s k) { left = ts }) (sym (idle_isnt k n reads busy))) (on_task due left);
     tells = same_tells (record s { left = ts }) p.records refl refl refl refl refl refl;
     due = due;
     left = refl;
@@ -194,7 +268,7 @@ module _ (f : Profile) (valid : IsValid f) (p : Progress) (s : Stand) (ts : List
       → ActRefusesTruly f (Guards keeper (record { line = line; actor = k; what = what })) p q did → Legal f q.list → Written f p s q ts
   guarded_written keeper line k (What.Guarded own name heap size align) q kept left did truly legal =
       let op : Op = record { line = line; actor = k; what = What.Guarded own name heap size align } in
-      tried_written keeper op (record { name = name; heap = heap; size = size; align = align }) did.0 did.1 q (on_task f s (Does (Guards keeper op)) ts due left) (λ a so so_truly. (so, so_truly)) did.0.block refl did.2 truly legal
+      tried_written keeper op (record { name = name; heap = heap; size = size; align = align }) did.0 did.1 q (on_task due left) (λ a so so_truly. (so, so_truly)) did.0.block refl did.2 truly legal
   guarded_written keeper line k what q kept left did truly legal = absurd (none-some keeper kept)
 
   -- The lines of an act of a replay lead a check from before it to after it.
@@ -204,7 +278,7 @@ module _ (f : Profile) (valid : IsValid f) (p : Progress) (s : Stand) (ts : List
   act_written MarksClose q left did truly placed legal = at_end q _ did (Record.Close ∷ [], refl, close_comes left)
   act_written (Wakes k) q left did truly placed legal = at_end q _ did.1 ([], sym (append-nil p.records), woken_comes k did.0 left (legal_end q _ did.1 legal).0.answer_is)
   act_written (Operates op) q left did truly placed legal =
-      at_end q _ did.2 (_, refl, what_comes f valid p s ts tells due op.actor did.0 (legal_end q _ did.2 legal) op.what did.1 truly (on_task f s (Does (Operates op)) ts due left))
+      at_end q _ did.2 (_, refl, what_comes f valid p s ts tells due op.actor did.0 (legal_end q _ did.2 legal) op.what did.1 truly (on_task due left))
   act_written (Guards keeper op) q left did truly placed legal = guarded_written keeper op.line op.actor op.what q placed left did truly legal
   act_written (Settles k) q left did truly placed legal = at_end q _ did ([], sym (append-nil p.records), settled_comes k left)
   act_written (Ticks asked) q left did truly placed legal = at_end q _ did.1 (_, refl, tick_comes asked did.0 left (legal_end q _ did.1 legal).0.answer_is)

@@ -16,7 +16,7 @@ use Rattle.pas_steps.specs.declared.step.Made.{Made}
 use Rattle.pas_steps.proofs.{Adding.triples_append, Events.events_own, Parts.part_of_own}
 use Rattle.pas_cache.specs.{Refusals.IsTrulyRefused, Serves.IsDeedOf, Serves.pages_of}
 use Rattle.pas_rights.specs.Gives.{give_steps}
-use Rattle.pas_report.specs.Lines.{line_of, line_of_event}
+use Rattle.pas_report.specs.Lines.{line_of_event}
 use Rattle.pas_report.specs.declared.record.{Record.Record, Said.Said}
 use Rattle.pas_trace.specs.{Acts.Lowers, Named.Named, Named.named}
 use Rattle.pas_trace.specs.declared.item.Request.{Request}
@@ -24,20 +24,18 @@ use Rattle.pas_guard.specs.Raises.{IsNotRaised, IsRaised, RaiseSteps, guard_of a
 use Rattle.pas_guard.specs.{Seeks.seeking, Sweeps.sweeping as sweeping_kinds, Sweeps.lowered_record as lowered_by}
 use Rattle.pas_guard.specs.declared.book.Guard.{Guard}
 use Rattle.pas_guard.proofs.Raised.{raised_backs, raised_leaves}
-use Rattle.pas_answers.specs.Answers.{Answer, Books, IsGiven, IsServed, Progress, after_answer, having, records_of, said_by, said_of_request, wanted_by}
-use Rattle.pas_answers.specs.Answers.{with_book}
+use Rattle.pas_answers.specs.Answers.{Answer, Books, IsGiven, IsServed, Progress, after_answer, having, records_of, said_by, wanted_by, with_book}
 use Rattle.pas_answers.specs.Guarding.{IsLowered, IsTried, Tried, TryEnds, after_giving, after_lowering, after_trying, said_of_guard}
 use Rattle.pas_answers.proofs.{Consequences.tidy_piece, Keepers.sweep_tidy, Keepers.try_tidy}
 use Rattle.pas_check.specs.Begins.{goes_down, guard_of, has_sides, lowered_record, page_above, page_below, raising, sweeping}
 use Rattle.pas_check.specs.States.{Does, Due, Serves, Stand, Task, Tries, with_name, with_one}
 use Rattle.pas_check.specs.Takes.{IsPreparing, Takes, directory_of, is_back}
-use Rattle.pas_check.specs.Accepted.{IsDone}
+use Rattle.pas_check.specs.Accepted.{IsDone, IsWhole}
 use Rattle.pas_check.specs.declared.guard.Guard.{Guard as Known}
 use Rattle.pas_check.proofs.Ticks.{epoch_kept}
-use Rattle.pas_accepted.proofs.Going.{LeadsOn, on_as, on_both, on_line, on_same, on_task}
-use Rattle.pas_accepted.proofs.GuardsInBooks.{AreBooked, booked_raise, booked_sweep, going, going_told, guards_of, raised_by}
-use Rattle.pas_accepted.proofs.Pieces.{lines_both, lines_by, lines_more, visible_piece}
-use Rattle.pas_accepted.proofs.{LogEntries.logged_as, Remakes.asked_tells, Remakes.asked_then, Telling.Comes, Telling.Tells}
+use Rattle.pas_accepted.proofs.Telling.{LeadsOn, on_as, on_both, on_line, on_same, on_task, AreBooked, booked_raise, booked_sweep, going, going_told, guards_of}
+use Rattle.pas_accepted.proofs.Telling.{raised_by, lines_both, lines_by, lines_more, visible_piece, logged_as, Comes, Tells}
+use Rattle.pas_accepted.proofs.Remakes.{asked_tells, asked_then}
 use Rattle.pas_accepted.proofs.Requests.{all_deeds, all_prepared, deed_known, kind_asked, request_leads, served, served_plain}
 use Rattle.pas_accepted.proofs.Sweeps.{IsSwept, lowered_are, lowered_lead, swept_is}
 
@@ -52,9 +50,8 @@ sweep_leads : (f : Profile) (s : Stand) (keeper : ℕ) (all : Bool) (more : List
     → LeadsOn f (record (sweeping s keeper all more) { left = ts }) (lines_by said) (record s { guards = up_after s keeper all; due = more; left = ts })
 sweep_leads f s keeper all more ts book said told are =
     let u : Stand = record s { guards = up_after s keeper all; left = ts } in
-    let end : Stand = record s { guards = up_after s keeper all; due = more; left = ts } in
     let gone : List Known = filter (goes_down s.events keeper all) s.guards in
-    on_as f (record (sweeping s keeper all more) { left = ts }) end end _ _
+    on_as
     (ap lines_by (are ∙ lowered_are keeper (going s.events all book)) ∙ ap (λ (gs : List Known). lines_by (map lowered_record gs)) (sym (going_told s.events keeper all s.guards book told))) refl
     (lowered_lead f u gone more)
 
@@ -66,11 +63,10 @@ module _ (f : Profile) (valid : IsValid f) (p : Progress) (s : Stand) (ts : List
       → Comes f s said (after_lowering p keeper steps said) ts
   lowered_comes steps said h legal left =
       let swept = swept_is f valid keeper true (p.books keeper) [] said steps p.list s.events (sym tells.events) (tells.books.aligned keeper) h.sweep.swept legal in
-      let u : Stand = record (sweeping s keeper true []) { left = ts } in
       let end : Stand = record s { guards = up_after s keeper true; due = []; left = ts } in
       record {
         end = end;
-        leads = on_both f s u end [] (lines_by said) (on_task f s (Does (Lowers keeper)) ts due left) (sweep_leads f s keeper true [] ts (p.books keeper) said (tells.books.told keeper) swept.go);
+        leads = on_both (on_task due left) (sweep_leads f s keeper true [] ts (p.books keeper) said (tells.books.told keeper) swept.go);
         tells = record {
           events = sym swept.shown;
           names = tells.names;
@@ -96,12 +92,10 @@ any_back (e ∷ es) = any_back es || is_back e
 keeping_lead : (f : Profile) (w : Stand) (keeper k : ℕ) (r : Request) (es : List Event) → AllByRecursion (IsPreparing keeper (directory_of f r)) es
     → Run f (es ++ w.events)
     → LeadsOn f (trying w keeper k r false w.events) (lines_by (records_of es)) (trying w keeper k r (any_back es) (es ++ w.events))
-keeping_lead f w keeper k r [] all run = on_same f (trying w keeper k r false w.events) (trying w keeper k r false w.events) refl
+keeping_lead f w keeper k r [] all run = on_same refl
 keeping_lead f w keeper k r (e ∷ es) all run =
-    let old : Stand = trying w keeper k r (any_back es) (es ++ w.events) in
-    let new : Stand = trying w keeper k r (any_back (e ∷ es)) (e ∷ (es ++ w.events)) in
-    on_as f (trying w keeper k r false w.events) new new _ _ (lines_more e es) refl
-    (on_both f (trying w keeper k r false w.events) old new _ _ (keeping_lead f w keeper k r es all.1 run.1) (on_line f old new (line_of_event e) (inr (inl record { event = e; prepares = all.0; admitted = run.0; line_is = refl; next_is = refl }))))
+    on_as (lines_more e es) refl
+    (on_both (keeping_lead f w keeper k r es all.1 run.1) (on_line (inr (inl record { event = e; prepares = all.0; admitted = run.0; line_is = refl; next_is = refl }))))
 
 deed_backs_none : (d : Directory) (e : Event) → IsDeedOf d e → is_back e ≡ false
 deed_backs_none d e (IsDeedOf.Deeds k page) = refl
@@ -120,8 +114,11 @@ module _ (f : Profile) (w : Stand) (keeper k : ℕ) (r : Request) (es : List Eve
   taken_by line next (inr takes) = inr (inr (inr (refl, takes)))
 
   on_thread : LeadsOn f (trying w keeper k r false es) [] by_thread
-  on_thread [] whole = let none = ap (λ (ds : List Due). length ds) (subst (IsDone f) whole.1 whole.2) in absurd (omega (arith, none))
-  on_thread (line ∷ more) whole = (whole.0, (whole.1.0, taken_by line whole.1.0 whole.1.1, whole.1.2), whole.2)
+  on_thread = record { on = past }
+    where
+      past : (more : List (List ℕ)) → IsWhole f by_thread more → IsWhole f (trying w keeper k r false es) more
+      past [] whole = let none = ap (λ (ds : List Due). length ds) (subst (IsDone f) whole.1 whole.2) in absurd (omega (arith, none))
+      past (line ∷ more) whole = (whole.0, (whole.1.0, taken_by line whole.1.0 whole.1.1, whole.1.2), whole.2)
 
 -- after the give of its block the guard is up
 abbrev pub guarded : Stand → ℕ → Request → Block → List Event → Stand
@@ -149,30 +146,29 @@ module _ (f : Profile) (valid : IsValid f) (w : Stand) (keeper k : ℕ) (r : Req
       let start : Stand = trying w keeper k r false w.events in
       let old : Stand = trying w keeper k r (any_back before) (before ++ w.events) in
       let mid : Stand = raising true (with_name (with_one old give) r.name (Some block)) keeper r.name block [] in
-      let end : Stand = guarded w keeper r block ((give ∷ before) ++ w.events) in
       let deeds : (x : ℕ) → in_run (grain_of block.name) (length_of block) x ≡ true → deed_in (before ++ w.events) (x / 256) ≡ Some (directory_of f r)
       = λ x inside. subst (λ es. deed_in es (x / 256) ≡ Some (directory_of f r)) shown
       (deed_known f (triples keeper steps ++ l) keeper (x / 256) (directory_of f r) legal (kind_asked f r) (subst (KnowsDeed (x / 256) (directory_of f r)) (sym (part_of_own keeper steps l)) (h.of_directory x inside))) in
       let given : LeadsOn f start (lines_by (records_of before) ++ line_of_event give ∷ []) mid
-      = on_both f start old mid (lines_by (records_of before)) (line_of_event give ∷ []) (keeping_lead f w keeper k r before (all_prepared keeper (directory_of f r) before h.prepared own.1) all.1)
-      (on_line f old mid (line_of_event give) (inr (inr (inl record {
+      = on_both (keeping_lead f w keeper k r before (all_prepared keeper (directory_of f r) before h.prepared own.1) all.1)
+      (on_line (inr (inr (inl record {
         block = block;
         is_for = record { heap = h.of_heap; room = h.room; aligned = h.aligned; deeds = deeds };
         admitted = all.0;
         line_is = refl;
         next_is = ap (λ t. raising t (with_name (with_one old give) r.name (Some block)) keeper r.name block []) (sym sides);
       })))) in
-      on_as f start end (guarded w keeper r block (visible (triples keeper steps ++ l))) _ _
+      on_as
       (simp (lines_both, h.events, lines_more))
       (ap (guarded w keeper r block) shown)
-      (on_both f start mid end (lines_by (records_of before) ++ line_of_event give ∷ []) (line_of (guard_said keeper r block) ∷ []) given (on_line f mid end (line_of (guard_said keeper r block)) (inr (refl, refl))))
+      (on_both given (on_line (inr (refl, refl))))
 
   tried_leads : AllByRecursion (IsDeedOf (directory_of f r)) (events_by keeper (part keeper l) steps)
       → LeadsOn f (trying w keeper k r false w.events) (lines_by (records_of (events_by keeper (part keeper l) steps))) (trying w keeper k r false (visible (triples keeper steps ++ l)))
   tried_leads deeds =
       let es : List Event = events_by keeper (part keeper l) steps in
       let shown : visible (triples keeper steps ++ l) ≡ es ++ w.events = visible_is es refl in
-      on_as f (trying w keeper k r false w.events) (trying w keeper k r (any_back es) (es ++ w.events)) (trying w keeper k r false (visible (triples keeper steps ++ l))) _ _ refl
+      on_as refl
       (λ i. trying w keeper k r (sym (deeds_back_none (directory_of f r) es deeds) i) (shown i))
       (keeping_lead f w keeper k r es (all_prepared keeper (directory_of f r) es (all_deeds (directory_of f r) es deeds) (events_own keeper (part keeper l) steps)) (subst (Run f) shown run))
 
@@ -280,7 +276,7 @@ module _ (f : Profile) (valid : IsValid f) (p : Progress) (s : Stand) (ts : List
   shown = sym sweep.shown
 
   swept_leads : LeadsOn f s (lines_by is.lowered) (trying w keeper k r false w.events)
-  swept_leads = on_both f s (record (sweeping s keeper false (Tries keeper k r false ∷ [])) { left = ts }) (trying w keeper k r false w.events) [] (lines_by is.lowered) begun
+  swept_leads = on_both begun
       (sweep_leads f s keeper false (Tries keeper k r false ∷ []) ts (p.books keeper) is.lowered (tells.books.told keeper) sweep.go)
 
   booked : AreBooked (with_book p.books keeper is.left) up
@@ -316,18 +312,16 @@ module _ (f : Profile) (valid : IsValid f) (p : Progress) (s : Stand) (ts : List
       = subst (λ v. IsGiven keeper (wanted_by f r) v is.raised block) (sym part_is) (subst (λ (o : Option Block). TryEnds f keeper r view is.raised o) gave is.ends) in
       let guard : Guard = guard_at h.first n block in
       let end : Stand = guarded w keeper r block (visible list1) in
-      let late : Stand = guarded w keeper r block (visible (triples keeper is.raised ++ l1)) in
-      let raised_lines : List (List ℕ) = lines_by (records_of (events_by keeper (part keeper l1) is.raised) ++ guard_said keeper r block ∷ []) in
       let up_now : AreBooked (with_book (with_book p.books keeper is.left) keeper (with_book p.books keeper is.left keeper ++ guard ∷ [])) (up ++ raised_by keeper guard ∷ [])
       = booked_raise (with_book p.books keeper is.left) keeper guard up (block_aligned f (large_directory r.heap) keeper n is.left t.guards is.raise.searched is.raise.after block h) booked in
       let same : with_book (with_book p.books keeper is.left) keeper (with_book p.books keeper is.left keeper ++ guard ∷ []) ≡ with_book p.books keeper t.guards
       = twice_booked p.books keeper is.left (with_book p.books keeper is.left keeper ++ guard ∷ []) ∙ ap (λ (b : List Guard). with_book p.books keeper (b ++ guard ∷ [])) (own_book p.books keeper is.left) ∙ ap (with_book p.books keeper) (sym h.raised) in
       record {
         end = end;
-        leads = on_as f s late end _ _
+        leads = on_as
             (lines_are (guard_said keeper r block ∷ []) (ap (said_of_guard keeper r.name n) gave ∙ said_is f (large_directory r.heap) keeper n is.left t.guards is.raise.searched is.raise.after block h r.name))
             (ap (λ (l : Whole). guarded w keeper r block (visible l)) list_is)
-            (on_both f s (trying w keeper k r false w.events) late (lines_by is.lowered) raised_lines swept_leads
+            (on_both swept_leads
             (guarded_leads f valid w keeper k r l1 is.raised shown raised_legal block ends (sides_are f (large_directory r.heap) keeper n is.left t.guards is.raise.searched is.raise.after block h)));
         tells = tried_tells (named r.name (Some block) ∷ p.names) end _ refl (ap (λ ns. record { name = r.name; block = Some block } ∷ ns) tells.names) refl refl refl
             (search (arith, guard_is));
@@ -354,14 +348,13 @@ module _ (f : Profile) (valid : IsValid f) (p : Progress) (s : Stand) (ts : List
         let deeds : AllByRecursion (IsDeedOf (directory_of f r)) (events_by keeper (part keeper l1) is.raised)
         = subst (λ v. AllByRecursion (IsDeedOf (directory_of f r)) (events_by keeper v is.raised)) (sym part_is) (subst (λ (o : Option Block). TryEnds f keeper r view is.raised o) none is.ends) in
         let events : List Event = events_by keeper (part keeper l1) is.raised in
-        let late : Stand = trying w keeper k r false (visible (triples keeper is.raised ++ l1)) in
         let tried : Stand = trying w keeper k r false (visible list1) in
         let there : LeadsOn f s (lines_by is.lowered ++ lines_by (records_of events)) tried
-        = on_as f s late tried _ _ refl (ap (λ (l : Whole). trying w keeper k r false (visible l)) list_is)
-        (on_both f s (trying w keeper k r false w.events) late (lines_by is.lowered) (lines_by (records_of events)) swept_leads (tried_leads f valid w keeper k r l1 is.raised shown raised_legal deeds)) in
-        on_as f s (by_thread f w keeper k r (visible list1)) (by_thread f s1 keeper k r (visible list1)) _ _
+        = on_as refl (ap (λ (l : Whole). trying w keeper k r false (visible l)) list_is)
+        (on_both swept_leads (tried_leads f valid w keeper k r l1 is.raised shown raised_legal deeds)) in
+        on_as
         (lines_are [] (ap (said_of_guard keeper r.name n) none) ∙ ap (λ (rs : List Record). lines_by is.lowered ++ lines_by rs) (append-nil (records_of events)) ∙ sym (append-nil (lines_by is.lowered ++ lines_by (records_of events)))) refl
-        (on_both f s tried (by_thread f w keeper k r (visible list1)) (lines_by is.lowered ++ lines_by (records_of events)) [] there (on_thread f w keeper k r (visible list1)))
+        (on_both there (on_thread f w keeper k r (visible list1)))
 
     -- the answer of the thread
     pub thread_comes : (a : Answer) (so : IsServed f k r (having p1.names (part k p1.list) (p1.caches k)) a)
@@ -370,12 +363,11 @@ module _ (f : Profile) (valid : IsValid f) (p : Progress) (s : Stand) (ts : List
         → Comes f s (t.records ++ (records_of (events_by k (part k p1.list) a.steps) ++ said_by k a.said)) (after_answer p1 k a) ts
     thread_comes a so truly answered_legal =
         let end : Stand = asked_then f p1 s1 ts none_tells k r a so answered_legal in
-        let there : Stand = served s1 k r None so.answer (visible (triples k a.steps ++ p1.list)) in
         let rs : List Record = records_of (events_by k (part k p1.list) a.steps) in
         record {
           end = end;
-          leads = on_as f s there end _ _ (lines_both t.records (rs ++ said_by k a.said) ∙ ap (λ o. lines_by t.records ++ lines_by (rs ++ said_by k o)) so.said_is) (sym (served_plain s1 k r so.answer (visible (triples k a.steps ++ p1.list))))
-              (on_both f s (by_thread f s1 keeper k r (visible list1)) there (lines_by t.records) (lines_by (rs ++ said_by k (said_of_request r.name so.answer))) none_leads
+          leads = on_as (lines_both t.records (rs ++ said_by k a.said) ∙ ap (λ o. lines_by t.records ++ lines_by (rs ++ said_by k o)) so.said_is) (sym (served_plain s1 k r so.answer (visible (triples k a.steps ++ p1.list))))
+              (on_both none_leads
               (request_leads f valid s1 k r None p1.list a.steps refl answered_legal (p1.caches k).locals so.answer so.ends truly));
           tells = asked_tells f p1 s1 ts none_tells k r a so answered_legal _;
           due = refl;

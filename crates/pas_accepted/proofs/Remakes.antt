@@ -1,35 +1,132 @@
--- Another size for a block: it is kept, which is said; or another one is asked for in its place, and the old name is logged once that is given.
-use Rattle.std.proofs.Common.{arith, ◌≡◌, ℕ, ◌==◌, nat_le, Bool, true, false, if◌then◌else◌, List, [], ◌∷◌, ◌++◌, length, Option, Some, None, Result, Ok, Err}
-use Rattle.std.proofs.Common.{◌⊎◌, inl, inr, refl, ap, sym, ◌∙◌, subst, append-nil, append_assoc, map, reverse, MatchOption, MatchResult, eq-eqb}
-use Rattle.std.proofs.lemmas.List.{map-append, reverse-append}
-use Rattle.pas_profile.specs.{Profiles.IsValid, Requests.route_in}
-use Rattle.pas_profile.specs.declared.{directory.Route.Route, event.Event.Event, event.NoRoom.NoRoom, name.Block.Block, name.Name.Name, profile.Profile.Profile}
-use Rattle.pas_profile.specs.declared.{word.Word.Word}
-use Rattle.pas_core.proofs.OneActor.{legal_earlier}
+-- Frees, and blocks that get another size.
+use Rattle.std.proofs.Common.{arith, ◌≡◌, ℕ, ◌/◌, ◌%◌, nat_le, Bool, true, false, List, [], ◌∷◌, ◌++◌, length, Option, Some, None, inl, inr, refl, ap, sym, ◌∙◌}
+use Rattle.std.proofs.Common.{append-nil, eq-eqb, le-leb, leb-true, ne_eqb, ◌==◌, if◌then◌else◌, Result, Ok, Err, ◌⊎◌, subst, append_assoc, map, reverse}
+use Rattle.std.proofs.Common.{MatchOption, MatchResult}
+use Rattle.std.proofs.lemmas.{Bool.and_from, Bool.and_parts, Bool.false_from_ne_true, List.length-map, List.map-append, List.reverse-append}
+use Rattle.pas_profile.specs.{Blocks.address_of, Profiles.IsPage, Profiles.IsValid, Requests.route_in}
+use Rattle.pas_profile.specs.declared.{event.FreeFault.FreeFault, event.FreeFault.TheVariants.Outside, event.FreeFault.TheVariants.Unaligned, name.Block.Block}
+use Rattle.pas_profile.specs.declared.{profile.Profile.Profile, word.Word.Word, directory.Route.Route, event.Event.Event, event.NoRoom.NoRoom, name.Name.Name}
 use Rattle.pas_steps.specs.{Desks.triples, Events.events_by}
-use Rattle.pas_steps.specs.Lists.{Legal, Whole, part, visible, word_after}
-use Rattle.pas_steps.specs.declared.step.Made.{Made}
-use Rattle.pas_steps.proofs.{Adding.triples_append, Frames.events_append, Parts.part_of_own}
-use Rattle.pas_free_log.specs.Logs.{entry_of}
-use Rattle.pas_cache.specs.{Caches.Cached, Calls.TakesEntry, Changes.EmptiesFull, Kinds.allocating, Refusals.IsTrulyRefused, Serves.ServesBy, Serves.Wanted}
-use Rattle.pas_cache.proofs.Budget.{log_kept}
-use Rattle.pas_report.specs.Lines.{line_of}
+use Rattle.pas_steps.specs.Lists.{Legal, part, visible, word_after, Whole}
+use Rattle.pas_free_log.specs.{Frames.freeing as freeing_kinds, Logs.entry_of}
+use Rattle.pas_free_log.specs.declared.log.Entry.{Entry}
+use Rattle.pas_cache.specs.{Caches.Cached, Calls.RefusesName, Calls.TakesEntry, Changes.EmptiesFull, Kinds.allocating, Refusals.IsTrulyRefused, Serves.ServesBy}
+use Rattle.pas_cache.specs.{Serves.Wanted}
 use Rattle.pas_report.specs.declared.record.{Record.Record, Said.Said}
-use Rattle.pas_trace.specs.declared.{item.Request.Request, plan.What.TheVariants.Alloc}
-use Rattle.pas_answers.specs.Answers.{Answer, Caches, IsKept, IsRemadeBy, IsReplaced, IsServed, Progress, after_answer, block_of, having, records_of}
-use Rattle.pas_answers.specs.Answers.{request_for, said_by, said_of_request, wanted_by, with_cache}
-use Rattle.pas_trace.specs.Named.{Named, named}
-use Rattle.pas_answers.specs.Refusals.{request_in_move, request_in_remade}
+use Rattle.pas_answers.specs.Answers.{Answer, IsFreed, IsFreedBy, Progress, after_answer, records_of, room_noted, said_by, said_of_fault, Caches, IsKept}
+use Rattle.pas_answers.specs.Answers.{IsRemadeBy, IsReplaced, IsServed, block_of, having, request_for, said_of_request, wanted_by, with_cache}
 use Rattle.pas_answers.proofs.Tidy.{Tidy, answer_tidy}
-use Rattle.pas_check.specs.Begins.{is_full, logging, remaking, remaking_named, suits, tells as saying, unsized}
+use Rattle.pas_check.specs.Begins.{entry_of as known_entry, freeing, freeing_at, freeing_named, is_aligned, is_page, logging, tells as saying, is_full}
+use Rattle.pas_check.specs.Begins.{remaking, remaking_named, suits, unsized}
 use Rattle.pas_check.specs.States.{Stand, Task, with_name}
 use Rattle.pas_check.specs.declared.entry.Entry.{Entry as Known}
 use Rattle.pas_check.proofs.Ticks.{epoch_kept}
-use Rattle.pas_accepted.proofs.{Frees.comes_after, Frees.full_is, Frees.logged_comes, Pieces.lines_by, Pieces.table_same, Requests.request_leads}
-use Rattle.pas_accepted.proofs.{Requests.served, Requests.serving}
-use Rattle.pas_accepted.proofs.Going.{LeadsOn, on_as, on_both, on_line}
-use Rattle.pas_accepted.proofs.Telling.{Comes, Tells, piece_of, told_after}
+use Rattle.pas_accepted.proofs.Flushing.{flush_only, flush_leads, emptied, logs_with}
+use Rattle.pas_accepted.proofs.Telling.{logged_as, lines_both, lines_by, table_same, Comes, Tells, told_after, LeadsOn, on_as, on_both, on_line, on_same}
+use Rattle.pas_accepted.proofs.Telling.{piece_of}
+use Rattle.pas_core.proofs.OneActor.{legal_earlier}
+use Rattle.pas_steps.specs.declared.step.Made.{Made}
+use Rattle.pas_steps.proofs.{Adding.triples_append, Frames.events_append, Parts.part_of_own}
+use Rattle.pas_cache.proofs.Budget.{log_kept}
+use Rattle.pas_trace.specs.declared.{item.Request.Request, plan.What.TheVariants.Alloc}
+use Rattle.pas_trace.specs.Named.{Named, named}
+use Rattle.pas_answers.specs.Refusals.{request_in_move, request_in_remade}
+use Rattle.pas_accepted.proofs.Requests.{request_leads, served, serving}
 
+-- ---- A free: its entry is logged, after a full log was emptied; or it is said why it can't be any block's
+-- ---- where a name stands
+page_is : (f : Profile) (page : ℕ) → IsPage f page → is_page f page ≡ true
+page_is f page is = and_from (nat_le 1 page) (nat_le page f.pages) (le-leb 1 page is.0) (le-leb page f.pages is.1)
+
+page_isnt : (f : Profile) (page : ℕ) → (IsPage f page → ⊥) → is_page f page ≡ false
+page_isnt f page isnt = false_from_ne_true (is_page f page) (λ t. let both = and_parts (nat_le 1 page) (nat_le page f.pages) t in isnt (leb-true 1 page both.0, leb-true page f.pages both.1))
+
+-- nothing is said besides
+pub silent_lines : (k : ℕ) (said : Option Said) (rs : List Record) → said ≡ None → lines_by (rs ++ said_by k said) ≡ lines_by rs
+silent_lines k said rs none = ap (λ o. lines_by (rs ++ said_by k o)) none ∙ ap lines_by (append-nil rs)
+
+-- lines that lead to where an act's lines go on
+pub comes_after : (f : Profile) (s u : Stand) (q : Progress) (ts : List Task) (before : List Record) {rs : List Record} → LeadsOn f s (lines_by before) u
+    → Comes f u rs q ts → Comes f s (before ++ rs) q ts
+comes_after f s u q ts before {rs} led come = record {
+  end = come.end;
+  leads = on_as (lines_both before rs) refl (on_both led come.leads);
+  tells = come.tells;
+  due = come.due;
+  left = come.left;
+}
+
+module _ (f : Profile) (valid : IsValid f) (p : Progress) (s : Stand) (ts : List Task) (tells : Tells p s) (k : ℕ) (a : Answer) (names : a.names ≡ p.names)
+    (tidy : Tidy (a.steps ++ part k p.list)) (legal : Legal f (triples k a.steps ++ p.list)) where
+  -- ---- it is only said
+  said_comes : (said : Said) → a.steps ≡ [] → a.cache ≡ p.caches k → a.said ≡ Some said → LeadsOn f s [] (record (saying s k said) { left = ts }) → Comes f s (records_of (events_by k (part k p.list) a.steps) ++ said_by k a.said) (after_answer p k a) ts
+  said_comes said none cache is begun =
+      let t : Stand = record s { due = []; left = ts } in
+      record {
+        end = t;
+        leads = on_as (ap (λ ms. lines_by (records_of (events_by k (part k p.list) ms) ++ said_by k a.said)) none ∙ ap (λ o. lines_by (said_by k o)) is) refl (on_both begun (on_line (inr (refl, refl))));
+        tells = told_after p s t k a.steps a.cache a.names _ tells (tells.events ∙ ap (λ ms. visible (triples k ms ++ p.list)) (sym none)) (tells.names ∙ sym names)
+            (λ j. table_same (λ (d : Cached). d.log) p.caches k a.cache (ap (λ (d : Cached). d.log) cache) j ∙ tells.logs j) (ap (λ (d : Cached). d.idle_since) cache) refl refl refl (ap (λ ms. word_after (triples k ms ++ p.list) Word.Epoch) none) tidy;
+        due = refl;
+        left = refl;
+      }
+
+  -- ---- it is logged
+  pub logged_comes : (full : Bool) (entry : Known) (kept : List Entry) → EmptiesFull full k (p.caches k).log kept (p.caches k).noted a.cache.noted a.steps
+      → a.cache.log ≡ kept ++ logged_as entry ∷ [] → a.cache.idle_since ≡ (p.caches k).idle_since → a.said ≡ None
+      → Comes f (record (logging full s k entry []) { left = ts }) (records_of (events_by k (part k p.list) a.steps) ++ said_by k a.said) (after_answer p k a) ts
+  logged_comes true entry kept h log idle silent =
+      let t : Stand = emptied p s k a.steps (entry ∷ []) [] ts in
+      let rs : List Record = records_of (events_by k (part k p.list) a.steps) in
+      record {
+        end = t;
+        leads = on_as (silent_lines k a.said rs silent) refl (flush_leads f valid p s tells k (p.caches k).noted a.cache.noted a.steps h.0 legal (entry ∷ []) [] ts);
+        tells = told_after p s t k a.steps a.cache a.names _ tells refl (tells.names ∙ sym names) (logs_with p s k a.cache (entry ∷ []) tells (log ∙ ap (λ es. es ++ logged_as entry ∷ []) h.1)) idle refl refl refl
+            (epoch_kept freeing_kinds refl k a.steps p.list (flush_only k (p.caches k).log (p.caches k).noted a.cache.noted a.steps h.0)) tidy;
+        due = refl;
+        left = refl;
+      }
+  logged_comes false entry kept h log idle silent =
+      let more : List Known = s.logs k ++ entry ∷ [] in
+      let t : Stand = record (logging false s k entry []) { left = ts } in
+      let rs : List Record = records_of (events_by k (part k p.list) a.steps) in
+      record {
+        end = t;
+        leads = on_as (silent_lines k a.said rs silent ∙ ap (λ ms. lines_by (records_of (events_by k (part k p.list) ms))) h.0) refl (on_same refl);
+        tells = told_after p s t k a.steps a.cache a.names _ tells (tells.events ∙ ap (λ ms. visible (triples k ms ++ p.list)) (sym h.0)) (tells.names ∙ sym names)
+            (logs_with p s k a.cache more tells (log ∙ ap (λ es. es ++ logged_as entry ∷ []) (h.1 ∙ tells.logs k) ∙ sym (map-append logged_as (s.logs k) (entry ∷ [])))) idle refl refl refl (ap (λ ms. word_after (triples k ms ++ p.list) Word.Epoch) h.0) tidy;
+        due = refl;
+        left = refl;
+      }
+
+  -- ---- a free of a block
+  pub full_is : nat_le 64 (length (s.logs k)) ≡ nat_le 64 (length (p.caches k).log)
+  full_is = ap (nat_le 64) (sym (ap (λ (es : List Entry). length es) (tells.logs k) ∙ length-map (s.logs k) logged_as))
+
+  fault_comes : (entry : Known) (fault : FreeFault) → RefusesName f (p.caches k) a.cache entry.name a.steps fault → a.said ≡ Some (said_of_fault entry.name fault) → LeadsOn f s [] (record (freeing f s k entry) { left = ts })
+      → Comes f s (records_of (events_by k (part k p.list) a.steps) ++ said_by k a.said) (after_answer p k a) ts
+  fault_comes entry Outside h said begun = search (arith, page_isnt, said_comes, on_as)
+  fault_comes entry Unaligned h said begun = search (arith, page_is, ne_eqb, said_comes, on_as)
+
+  -- The lines of a free lead the check to what the free comes to.
+  pub free_comes : (entry : Known) → IsFreed f k (p.caches k) a.cache (logged_as entry) a.steps a.said → LeadsOn f s [] (record (freeing f s k entry) { left = ts })
+      → Comes f s (records_of (events_by k (part k p.list) a.steps) ++ said_by k a.said) (after_answer p k a) ts
+  free_comes entry (inl h) begun =
+      let there = ap (λ x. record (freeing_at x (is_aligned entry.name) s k entry) { left = ts }) (page_is f (address_of entry.name / 4096) h.0.region.page)
+      ∙ ap (λ x. record (freeing_at true x s k entry) { left = ts }) (eq-eqb (address_of entry.name % 16) 0 h.0.region.aligned)
+      ∙ ap (λ x. record (logging x s k entry []) { left = ts }) full_is in
+      comes_after f s _ _ ts [] (on_as refl (sym there) begun) (logged_comes (nat_le 64 (length (p.caches k).log)) entry h.0.logs.kept h.0.logs.emptied h.0.logs.log_is (ap (λ (d : Cached). d.idle_since) h.0.cache) h.1)
+  free_comes entry (inr h) begun = fault_comes entry h.0 h.1 h.2 begun
+
+  -- ---- a free of what a name of the trace stands for
+  pub freed_comes : (name : ℕ) (room : Option ℕ) (block : Option (Option Block)) → IsFreedBy f k (p.caches k) a.cache name room block a.steps a.said
+      → LeadsOn f s [] (record (freeing_named f s k name (room_noted room) block) { left = ts })
+      → Comes f s (records_of (events_by k (part k p.list) a.steps) ++ said_by k a.said) (after_answer p k a) ts
+  freed_comes name room None h begun = absurd h
+  freed_comes name room (Some None) h begun = said_comes (Said.Skipped name) h.0 h.1 h.2 begun
+  freed_comes name room (Some (Some block)) h begun = free_comes (known_entry block.name (room_noted room)) h begun
+
+-- ---- Another size for a block: it is kept, which is said; or another one is asked for in its place, and the old name is logged once that is given
 -- no request changes when its thread read the epoch
 idle_kept : (f : Profile) (wanted : Wanted) (found : Option ℕ) (c c' : Cached) (steps : List Made) (answer : Result Block NoRoom) (route : Route)
     → ServesBy route f wanted found c c' steps answer → c'.idle_since ≡ c.idle_since
@@ -76,12 +173,10 @@ module _ (f : Profile) (valid : IsValid f) (p : Progress) (s : Stand) (ts : List
       → LeadsOn f s [] (record (saying (with_name s name found) k said) { left = ts })
       → Comes f s (records_of (events_by k (part k p.list) a.steps) ++ said_by k a.said) (after_answer p k a) ts
   named_said name found said none cache is names begun =
-      let u : Stand = record (saying (with_name s name found) k said) { left = ts } in
       let t : Stand = record (with_name s name found) { due = []; left = ts } in
-      let line : List ℕ = line_of (Record.Said k said) in
       record {
         end = t;
-        leads = on_as f s t t _ _ (ap (λ ms. lines_by (records_of (events_by k (part k p.list) ms) ++ said_by k a.said)) none ∙ ap (λ o. lines_by (said_by k o)) is) refl (on_both f s u t [] (line ∷ []) begun (on_line f u t line (inr (refl, refl))));
+        leads = on_as (ap (λ ms. lines_by (records_of (events_by k (part k p.list) ms) ++ said_by k a.said)) none ∙ ap (λ o. lines_by (said_by k o)) is) refl (on_both begun (on_line (inr (refl, refl))));
         tells = told_after p s t k a.steps a.cache a.names _ tells (tells.events ∙ ap (λ ms. visible (triples k ms ++ p.list)) (sym none)) (ap (λ ns. record { name = name; block = found } ∷ ns) tells.names ∙ sym names)
             (λ j. table_same (λ (d : Cached). d.log) p.caches k a.cache (ap (λ (d : Cached). d.log) cache) j ∙ tells.logs j) (ap (λ (d : Cached). d.idle_since) cache) refl refl refl (ap (λ ms. word_after (triples k ms ++ p.list) Word.Epoch) none) tidy;
         due = refl;
@@ -113,7 +208,7 @@ module _ (f : Profile) (valid : IsValid f) (p : Progress) (s : Stand) (ts : List
 
     leads_first : MatchResult is.answer (λ block. Unit {0}) (IsTrulyRefused f (wanted_by f r) (p.caches k).locals p.list list1)
         → LeadsOn f s (lines_by first) (served (record s { left = ts }) k r (Some old) is.answer (visible list1))
-    leads_first truly = on_both f s (serving (record s { left = ts }) k r (Some old) s.events) (served (record s { left = ts }) k r (Some old) is.answer (visible list1)) [] (lines_by first) begun
+    leads_first truly = on_both begun
         (request_leads f valid (record s { left = ts }) k r (Some old) p.list placed.steps tells.events legal_placed (p.caches k).locals is.answer is.ends truly)
 
     abbrev s1 : Stand
@@ -130,7 +225,7 @@ module _ (f : Profile) (valid : IsValid f) (p : Progress) (s : Stand) (ts : List
         let said : a.said ≡ said_of_request r.name is.answer = said_is ∙ is.said_is in
         record {
           end = s1;
-          leads = on_as f s s1 s1 _ _ (λ i. lines_by (records_of (events_by k (part k p.list) (steps i)) ++ said_by k (said i))) refl leads;
+          leads = on_as (λ i. lines_by (records_of (events_by k (part k p.list) (steps i)) ++ said_by k (said i))) refl leads;
           tells = tells_as _ _ _ _ _ _ p.epoch p.epoch [] _ s1 names_are (ap (with_cache p.caches k) cache) (ap (λ ms. triples k ms ++ p.list) steps) (asked_tells f p s ts tells k r placed is legal_placed []);
           due = refl;
           left = refl;
@@ -182,7 +277,7 @@ module _ (f : Profile) (valid : IsValid f) (p : Progress) (s : Stand) (ts : List
         let come = comes_after f s logging_old (after_answer p1 k logs_old) ts first leads (logged_old takes) in
         record {
           end = come.end;
-          leads = on_as f s come.end come.end _ _ (ap lines_by (lines_are (said_is ∙ is.said_is ∙ none) none)) refl come.leads;
+          leads = on_as (ap lines_by (lines_are (said_is ∙ is.said_is ∙ none) none)) refl come.leads;
           tells = tells_as _ _ _ _ _ _ p1.epoch p.epoch _ _ come.end names_are (sym (twice_cached p.caches k placed.cache a.cache))
               (ap (λ ms. triples k ms ++ p.list) steps_are ∙ sym (triples_append k freed placed.steps p.list)) come.tells;
           due = come.due;
@@ -203,11 +298,11 @@ module _ (f : Profile) (valid : IsValid f) (p : Progress) (s : Stand) (ts : List
         let v : Stand = with_name (record s { events = visible list1; left = ts }) r.name (Some block) in
         let is_s1 : record v { due = [] } ≡ s1 = ap (λ x. record s { events = visible list1; names = record { name = r.name; block = block_of x } ∷ s.names; due = []; left = ts }) (sym same) in
         served_so (ap (said_of_request r.name) same) logged
-        (on_as f s _ logging_old _ _ refl (sym (ap (λ x. served (record s { left = ts }) k r (Some old) x (visible list1)) same ∙ logging_is v refl is_s1)) leads)
+        (on_as refl (sym (ap (λ x. served (record s { left = ts }) k r (Some old) x (visible list1)) same ∙ logging_is v refl is_s1)) leads)
     answered (Err room) same logged leads =
         let there : served (record s { left = ts }) k r (Some old) is.answer (visible list1) ≡ s1
         = cc in
-        refused_so logged.0 logged.1 (on_as f s _ s1 _ _ refl (sym there) leads)
+        refused_so logged.0 logged.1 (on_as refl (sym there) leads)
 
   -- ---- WHAT IT COMES TO
   moved_comes : (r : Request) (old : Block)
@@ -218,9 +313,9 @@ module _ (f : Profile) (valid : IsValid f) (p : Progress) (s : Stand) (ts : List
       → Comes f s (records_of (events_by k (part k p.list) a.steps) ++ said_by k a.said) (after_answer p k a) ts
   moved_comes r old (inl kept) truly begun =
       named_said r.name (Some old) (Said.Kept old.name r.name) kept.no_steps kept.cache kept.said_is kept.names_are
-      (on_as f s _ _ [] [] refl (ap (λ x. record (remaking x s k r old) { left = ts }) (sym kept.suited)) begun)
+      (on_as refl (ap (λ x. record (remaking x s k r old) { left = ts }) (sym kept.suited)) begun)
   moved_comes r old (inr h) truly begun =
-      let there : LeadsOn f s [] (serving (record s { left = ts }) k r (Some old.name) s.events) = on_as f s _ _ [] [] refl (ap (λ x. record (remaking x s k r old) { left = ts }) (sym h.unsuited)) begun in
+      let there : LeadsOn f s [] (serving (record s { left = ts }) k r (Some old.name) s.events) = on_as refl (ap (λ x. record (remaking x s k r old) { left = ts }) (sym h.unsuited)) begun in
       answered r old.name h.placed h.served h.freed h.steps_are h.said_is h.names_are there h.served.answer refl h.logged
       (leads_first r old.name h.placed h.served h.freed h.steps_are h.said_is h.names_are there truly)
 

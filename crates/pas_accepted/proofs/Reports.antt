@@ -10,7 +10,7 @@ use Rattle.pas_report.specs.Reports.{live_on, machine_page, machine_pages, page_
 use Rattle.pas_check.specs.{Accepted.IsWhole, Begins.page_due, Begins.pages_due, Lines.is_line, Lines.lines_in, Takes.AreAllowedMarks, Takes.head_line}
 use Rattle.pas_check.specs.States.{Due, Heads, Reports, Shows, Stand, Totals}
 use Rattle.pas_check.proofs.Cuts.{cut_line, kind_first, number_first, totals_end}
-use Rattle.pas_accepted.proofs.Going.{LeadsOn, on_as, on_both, on_line, on_same, on_task}
+use Rattle.pas_accepted.proofs.Telling.{LeadsOn, on_as, on_both, on_line, on_same, on_task}
 
 -- ---- its lines
 abbrev page_line : List Event → ℕ → Option Directory → Marked → List (List ℕ)
@@ -79,20 +79,18 @@ module _ (f : Profile) (l : Whole) (true_marks : AreTrueMarks f l) (r : Stand) w
 
   page_leads : (page : ℕ) (o : Option Directory) (more : List Due) → 1 ≤ page → page ≤ f.pages → deed_in (visible l) page ≡ o
       → LeadsOn f (showing (page_due page o ++ more)) (page_line (visible l) page o (marks_after l page)) (showing more)
-  page_leads page None more low high deed = on_same f (showing more) (showing more) refl
+  page_leads page None more low high deed = on_same refl
   page_leads page (Some d) more low high deed =
-      on_line f (showing (Shows page d ∷ more)) (showing more) (machine_page (visible l) page (Some d) (marks_after l page)) (inr record { marks = marks_after l page; allowed = allowed page d more low high deed; line_is = refl; next_is = refl })
+      on_line (inr record { marks = marks_after l page; allowed = allowed page d more low high deed; line_is = refl; next_is = refl })
 
   pages_lead : (n : ℕ) (more : List Due) → n ≤ f.pages
       → LeadsOn f (showing (pages_due (visible l) n ++ more)) (page_lines (visible l) (marks_after l) n) (showing more)
-  pages_lead zero more le = on_same f (showing more) (showing more) refl
+  pages_lead zero more le = on_same refl
   pages_lead (suc n) more le =
       let es : List Event = visible l in
       let here : List Due = page_due (suc n) (deed_in es (suc n)) in
-      let s : Stand = showing (pages_due es (suc n) ++ more) in
-      let t : Stand = showing (pages_due es n ++ (here ++ more)) in
-      on_both f s t (showing more) [] (page_lines es (marks_after l) (suc n)) (on_same f s t (ap (λ ds. showing ds) (append_assoc (pages_due es n) here more)))
-      (on_both f t (showing (here ++ more)) (showing more) (page_lines es (marks_after l) n) (page_line es (suc n) (deed_in es (suc n)) (marks_after l (suc n))) (pages_lead n (here ++ more) (omega (arith, le)))
+      on_both (on_same (ap (λ ds. showing ds) (append_assoc (pages_due es n) here more)))
+      (on_both (pages_lead n (here ++ more) (omega (arith, le)))
       (page_leads (suc n) (deed_in es (suc n)) more (omega arith) le refl))
 
   -- THE REPORT
@@ -100,11 +98,11 @@ module _ (f : Profile) (l : Whole) (true_marks : AreTrueMarks f l) (r : Stand) w
   report_whole events due left =
       let es : List Event = visible l in
       let pages : List Due = pages_due es f.pages ++ Totals ∷ [] in
-      let begun : LeadsOn f r [] (showing (Heads ∷ pages)) = on_as f r _ (showing (Heads ∷ pages)) [] [] refl (ap (λ xs. record r { events = xs; due = Heads ∷ (pages_due xs f.pages ++ Totals ∷ []); left = [] }) (sym events)) (on_task f r Reports [] due left) in
-      let head : LeadsOn f (showing (Heads ∷ pages)) (head_line ∷ []) (showing pages) = on_line f (showing (Heads ∷ pages)) (showing pages) head_line (inr (refl, refl)) in
-      let total : LeadsOn f (showing (Totals ∷ [])) (total_line f es ∷ []) (showing []) = on_line f (showing (Totals ∷ [])) (showing []) (total_line f es) (inr (refl, refl)) in
+      let begun : LeadsOn f r [] (showing (Heads ∷ pages)) = on_as refl (ap (λ xs. record r { events = xs; due = Heads ∷ (pages_due xs f.pages ++ Totals ∷ []); left = [] }) (sym events)) (on_task due left) in
+      let head : LeadsOn f (showing (Heads ∷ pages)) (head_line ∷ []) (showing pages) = on_line (inr (refl, refl)) in
+      let total : LeadsOn f (showing (Totals ∷ [])) (total_line f es ∷ []) (showing []) = on_line (inr (refl, refl)) in
       let rest : LeadsOn f (showing pages) (page_lines es (marks_after l) f.pages ++ total_line f es ∷ []) (showing [])
-      = on_both f (showing pages) (showing (Totals ∷ [])) (showing []) (page_lines es (marks_after l) f.pages) (total_line f es ∷ []) (pages_lead f.pages (Totals ∷ []) (omega arith)) total in
+      = on_both (pages_lead f.pages (Totals ∷ []) (omega arith)) total in
       let all : LeadsOn f r (report_lines f es (marks_after l)) (showing [])
-      = on_both f r (showing (Heads ∷ pages)) (showing []) [] (report_lines f es (marks_after l)) begun (on_both f (showing (Heads ∷ pages)) (showing pages) (showing []) (head_line ∷ []) (page_lines es (marks_after l) f.pages ++ total_line f es ∷ []) head rest) in
-      subst (IsWhole f r) (append-nil (report_lines f es (marks_after l))) (all [] (showing [], refl, refl))
+      = on_both begun (on_both head rest) in
+      subst (IsWhole f r) (append-nil (report_lines f es (marks_after l))) (all.on [] (showing [], refl, refl))

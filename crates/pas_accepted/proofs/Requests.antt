@@ -19,7 +19,6 @@ use Rattle.pas_steps.proofs.{Events.events_own, Parts.part_of_own}
 use Rattle.pas_search.specs.Telling.{IsTrueReason}
 use Rattle.pas_cache.specs.{Refusals.IsTrulyRefused, Refusals.IsTrulyRefusedBy, Serves.IsDeedOf, Serves.Wanted, Serves.IsPreparing as Prepares}
 use Rattle.pas_segregated.specs.declared.slots.Slots.{Slots}
-use Rattle.pas_report.specs.Lines.{line_of_answer, line_of_event}
 use Rattle.pas_report.specs.declared.record.{Record.Record, Said.Said}
 use Rattle.pas_trace.specs.declared.item.Request.{Request}
 use Rattle.pas_answers.specs.Answers.{IsGiven, RefusalEnds, RequestEnds, block_of, records_of, said_by, said_of_request, said_of_room, wanted_by}
@@ -27,8 +26,7 @@ use Rattle.pas_check.specs.Begins.{is_full, logging, replacing, unsized}
 use Rattle.pas_check.specs.{Calls.after_request, Takes.IsPreparing, Takes.IsRefusal, Takes.directory_of}
 use Rattle.pas_check.specs.States.{Due, Serves, Stand, with_due, with_name}
 use Rattle.pas_check.specs.declared.entry.Entry.{Entry}
-use Rattle.pas_accepted.proofs.Going.{LeadsOn, on_as, on_both, on_line, on_same}
-use Rattle.pas_accepted.proofs.Pieces.{lines_both, lines_by, lines_more, visible_piece}
+use Rattle.pas_accepted.proofs.Telling.{LeadsOn, on_as, on_both, on_line, on_same, lines_both, lines_by, lines_more, visible_piece}
 
 -- ---- the directory of a request
 kind_routed : (f : Profile) (size align : ℕ) (shared : Bool) (route : Route) → route_in f size align ≡ route → IsKind (kind_of_route shared route)
@@ -73,12 +71,10 @@ all_prepared k d (e ∷ es) all own = (prepared_by k d e all.0 own.0, all_prepar
 prepares_lead : (f : Profile) (w : Stand) (k : ℕ) (r : Request) (replaced : Option Name) (es : List Event)
     → AllByRecursion (IsPreparing k (directory_of f r)) es → Run f (es ++ w.events)
     → LeadsOn f (serving w k r replaced w.events) (lines_by (records_of es)) (serving w k r replaced (es ++ w.events))
-prepares_lead f w k r replaced [] all run = on_same f (serving w k r replaced w.events) (serving w k r replaced w.events) refl
+prepares_lead f w k r replaced [] all run = on_same refl
 prepares_lead f w k r replaced (e ∷ es) all run =
-    let old : Stand = serving w k r replaced (es ++ w.events) in
-    let new : Stand = serving w k r replaced (e ∷ (es ++ w.events)) in
-    on_as f (serving w k r replaced w.events) new new _ _ (lines_more e es) refl
-    (on_both f (serving w k r replaced w.events) old new _ _ (prepares_lead f w k r replaced es all.1 run.1) (on_line f old new (line_of_event e) (inr (inl record { event = e; prepares = all.0; admitted = run.0; line_is = refl; next_is = refl }))))
+    on_as (lines_more e es) refl
+    (on_both (prepares_lead f w k r replaced es all.1 run.1) (on_line (inr (inl record { event = e; prepares = all.0; admitted = run.0; line_is = refl; next_is = refl }))))
 
 -- ---- the end
 deeds_prepare : (d : Directory) (e : Event) → IsDeedOf d e → Prepares d e
@@ -133,16 +129,14 @@ module _ (f : Profile) (valid : IsValid f) (w : Stand) (k : ℕ) (r : Request) (
       let shown : visible (triples k steps ++ l) ≡ (give ∷ before) ++ w.events = visible_is (give ∷ before) h.events in
       let all : Run f ((give ∷ before) ++ w.events) = subst (Run f) shown run in
       let own : AllByRecursion (λ e. actor_of e ≡ k) (give ∷ before) = subst (AllByRecursion (λ e. actor_of e ≡ k)) h.events (events_own k (part k l) steps) in
-      let old : Stand = serving w k r replaced (before ++ w.events) in
-      let new : Stand = served w k r replaced (Ok block) ((give ∷ before) ++ w.events) in
       let deeds : (x : ℕ) → in_run (grain_of block.name) (length_of block) x ≡ true → deed_in (before ++ w.events) (x / 256) ≡ Some (directory_of f r)
       = λ x inside. subst (λ es. deed_in es (x / 256) ≡ Some (directory_of f r)) shown
       (deed_known f (triples k steps ++ l) k (x / 256) (directory_of f r) legal (kind_asked f r) (subst (KnowsDeed (x / 256) (directory_of f r)) (sym (part_of_own k steps l)) (h.of_directory x inside))) in
       let next_is = sym (due_apart replaced (with_name (record w { events = (give ∷ before) ++ w.events }) r.name (Some block)) k (Serves k r replaced ∷ [])) in
-      on_as f (serving w k r replaced w.events) new (served w k r replaced (Ok block) (visible (triples k steps ++ l))) _ _ (ap lines_by (append-nil (records_of (events_by k (part k l) steps))) ∙ ap (λ es. lines_by (records_of es)) h.events ∙ lines_more give before)
+      on_as (ap lines_by (append-nil (records_of (events_by k (part k l) steps))) ∙ ap (λ es. lines_by (records_of es)) h.events ∙ lines_more give before)
       (ap (served w k r replaced (Ok block)) shown)
-      (on_both f (serving w k r replaced w.events) old new _ _ (prepares_lead f w k r replaced before (all_prepared k (directory_of f r) before h.prepared own.1) all.1)
-      (on_line f old new (line_of_event give) (inr (inr (inl record { block = block; is_for = record { heap = h.of_heap; room = h.room; aligned = h.aligned; deeds = deeds }; admitted = all.0; line_is = refl; next_is = next_is })))))
+      (on_both (prepares_lead f w k r replaced before (all_prepared k (directory_of f r) before h.prepared own.1) all.1)
+      (on_line (inr (inr (inl record { block = block; is_for = record { heap = h.of_heap; room = h.room; aligned = h.aligned; deeds = deeds }; admitted = all.0; line_is = refl; next_is = next_is })))))
 
   refuses : (room : NoRoom) → IsTrueReason f (directory_of f r) (triples k steps ++ l) room → (es : List Event) → visible (triples k steps ++ l) ≡ es
       → IsRefusal f (serving w k r replaced es) r (said_of_room r.name room)
@@ -157,11 +151,9 @@ module _ (f : Profile) (valid : IsValid f) (w : Stand) (k : ℕ) (r : Request) (
       let es : List Event = events_by k (part k l) steps in
       let shown : visible (triples k steps ++ l) ≡ es ++ w.events = visible_is es refl in
       let said : Said = said_of_room r.name room in
-      let old : Stand = serving w k r replaced (es ++ w.events) in
-      let new : Stand = served w k r replaced (Err room) (es ++ w.events) in
-      on_as f (serving w k r replaced w.events) new (served w k r replaced (Err room) (visible (triples k steps ++ l))) _ _ (lines_both (records_of es) (Record.Said k said ∷ [])) (ap (served w k r replaced (Err room)) shown)
-      (on_both f (serving w k r replaced w.events) old new _ _ (prepares_lead f w k r replaced es (all_prepared k (directory_of f r) es (refusal_prepares (wanted_by f r).route (directory_of f r) es ends) (events_own k (part k l) steps)) (subst (Run f) shown run))
-      (on_line f old new (line_of_answer k said) (inr (inr (inr record { said = said; refuses = refuses room true_reason (es ++ w.events) shown; line_is = refl; next_is = refl })))))
+      on_as (lines_both (records_of es) (Record.Said k said ∷ [])) (ap (served w k r replaced (Err room)) shown)
+      (on_both (prepares_lead f w k r replaced es (all_prepared k (directory_of f r) es (refusal_prepares (wanted_by f r).route (directory_of f r) es ends) (events_own k (part k l) steps)) (subst (Run f) shown run))
+      (on_line (inr (inr (inr record { said = said; refuses = refuses room true_reason (es ++ w.events) shown; line_is = refl; next_is = refl })))))
 
   -- THE REQUEST, as it was answered
   pub request_leads : (locals : List Slots) (answer : Result Block NoRoom) → RequestEnds k (wanted_by f r) (part k l) steps answer

@@ -9,24 +9,18 @@ use Rattle.pas_steps.specs.Lists.{Legal, Whole, part, visible, word_after}
 use Rattle.pas_steps.specs.declared.step.Made.{Made}
 use Rattle.pas_steps.proofs.{Adding.triples_append, Apart.no_events}
 use Rattle.pas_rights.specs.PutsBack.{giving_back}
-use Rattle.pas_report.specs.Lines.{line_of}
 use Rattle.pas_report.specs.declared.record.Record.{Record}
 use Rattle.pas_guard.specs.Sweeps.{Swept, SweptOne, is_over, life_look, lowered_record as lowered_by}
 use Rattle.pas_guard.specs.declared.book.Guard.{Guard}
 use Rattle.pas_check.specs.{Begins.lowered_due, Begins.lowered_record, States.Due, States.Stand}
 use Rattle.pas_check.specs.declared.guard.Guard.{Guard as Known}
-use Rattle.pas_accepted.proofs.Going.{LeadsOn, on_both, on_line, on_same}
-use Rattle.pas_accepted.proofs.GuardsInBooks.{AreAligned, going, is_down, raised_by, staying}
-use Rattle.pas_accepted.proofs.Pieces.{lines_by, visible_piece}
+use Rattle.pas_accepted.proofs.Telling.{LeadsOn, on_both, on_line, on_same, AreAligned, going, is_down, raised_by, staying, lines_by, visible_piece}
 
 -- ---- their lines
 pub lowered_lead : (f : Profile) (u : Stand) (guards : List Known) (more : List Due)
     → LeadsOn f (record u { due = map lowered_due guards ++ more }) (lines_by (map lowered_record guards)) (record u { due = more })
-lowered_lead f u [] more = on_same f (record u { due = more }) (record u { due = more }) refl
-lowered_lead f u (guard ∷ guards) more =
-    let first : Stand = record u { due = lowered_due guard ∷ (map lowered_due guards ++ more) } in
-    let rest : Stand = record u { due = map lowered_due guards ++ more } in
-    on_both f first rest (record u { due = more }) (line_of (lowered_record guard) ∷ []) (lines_by (map lowered_record guards)) (on_line f first rest (line_of (lowered_record guard)) (inr (refl, refl))) (lowered_lead f u guards more)
+lowered_lead f u [] more = on_same refl
+lowered_lead f u (guard ∷ guards) more = on_both (on_line (inr (refl, refl))) (lowered_lead f u guards more)
 
 -- the records are those of the check
 pub lowered_are : (keeper : ℕ) (guards : List Guard) → map (lowered_by keeper) guards ≡ map lowered_record (map (raised_by keeper) guards)

@@ -1,27 +1,218 @@
--- THE WHOLE REPLAY: its acts one after the other, and then its report.
-use Rattle.std.proofs.Common.{◌≡◌, ℕ, Bool, false, List, [], ◌∷◌, ◌++◌, refl, ap, sym, ◌∙◌, subst, append-nil, append_assoc, true≢false, map}
+-- Every transcript of a replay in the order of the text is accepted.
+use Rattle.std.proofs.Common.{arith, ◌≡◌, ℕ, ◌+◌, Bool, true, false, List, [], ◌∷◌, ◌++◌, inl, inr, refl, ap, sym, ◌∙◌, subst, append_assoc, true≢false, map}
+use Rattle.std.proofs.Common.{Option, None, Some, append-nil}
+use Rattle.pas_profile.specs.declared.{profile.Profile.Profile, word.Word.Word, event.Event.Event, event.Outcome.Outcome, name.Block.Block, name.Name.Name}
+use Rattle.pas_profile.specs.declared.{event.Outcome.TheVariants.Unbacked}
+use Rattle.pas_steps.specs.Lists.{Legal, word_after, Whole, visible}
+use Rattle.pas_trace.specs.Acts.{Act, Guards, ReadsEpoch, Settles, StopsIdle, Wakes, Ends, Lowers, act_kept, acts_from, acts_of, acts_of_chore, acts_of_op}
+use Rattle.pas_trace.specs.Acts.{acts_of_ops, acts_of_work, close_acts, idle_stops, numbers_from, phase_acts, Operates}
+use Rattle.pas_trace.specs.Asked.{keeper_in, keeper_of, of_task, work_of}
+use Rattle.pas_trace.specs.declared.{plan.Chore.Chore, plan.Op.Op, plan.Work.Work, item.Request.Request, plan.What.What, plan.What.TheVariants.Free}
+use Rattle.pas_trace.specs.declared.{plan.What.TheVariants.FreeSized, plan.Plan.Plan}
+use Rattle.pas_free_log.specs.Frames.{freeing}
+use Rattle.pas_answers.specs.{Answers.Progress, Reaching.Advances, Reaching.Reaches, Refusals.AllRefuseTruly, Ways.InOrder}
+use Rattle.pas_check.proofs.{Ticks.epoch_kept, Cuts.cut_records}
+use Rattle.pas_accepted.proofs.{Acts.IsInPlace, Acts.Written, Acts.act_written, Flushing.stop_only, Reports.cut_report, Reports.report_lines}
+use Rattle.pas_accepted.proofs.{Reports.report_whole}
+use Rattle.pas_machine.specs.Machine.{Admits, Bears}
+use Rattle.pas_trace.specs.Named.{standing_for}
+use Rattle.pas_check.specs.{Accepted.Goes, Accepted.IsWhole, Accepted.IsAccepted, Lines.lines_in}
+use Rattle.pas_check.specs.Begins.{after_task, begun, begun_act, begun_from, begun_what, freeing_named, past_outcomes, ready, ready_with, settled_with}
+use Rattle.pas_check.specs.States.{Due, Frees, Serves, Tries, Examines, Stand, Task, Does, Reports, with_due, at_first}
+use Rattle.pas_check.specs.Takes.{IsFor, MayCome, Takes, TakesDue, TakesFirst, TakesOutcome, TakesRequest, serving}
 use Rattle.pas_profile.specs.Profiles.{IsValid}
-use Rattle.pas_profile.specs.declared.{event.Event.Event, profile.Profile.Profile}
 use Rattle.pas_core.proofs.OneActor.{legal_before}
-use Rattle.pas_steps.specs.Lists.{Legal, Whole, visible}
-use Rattle.pas_trace.specs.Acts.{Act}
-use Rattle.pas_trace.specs.declared.plan.Plan.{Plan}
 use Rattle.pas_report.specs.{Lines.lines_of, Marks.Marked, Marks.marks_after, Reports.report_text, Rests.AreTrueMarks}
 use Rattle.pas_report.specs.declared.record.Record.{Record}
-use Rattle.pas_answers.specs.{Answers.Progress, Reaching.Reaches, Refusals.AllRefuseTruly, Ways.InOrder}
 use Rattle.pas_answers.specs.Replays.{IsReplay, acts_of_plan, at_start, keepers_of, phases_of, region_of, threads_of}
 use Rattle.pas_answers.proofs.Reached.{was_so}
-use Rattle.pas_check.specs.{Accepted.IsAccepted, Accepted.IsWhole, Lines.lines_in}
-use Rattle.pas_check.specs.States.{Does, Reports, Stand, Task, at_first}
-use Rattle.pas_check.proofs.Cuts.{cut_records}
-use Rattle.pas_accepted.proofs.{Acts.Written, Acts.act_written, Going.on_as, Going.on_both, Going.on_same, Pieces.lines_both, Pieces.lines_by, Regions.whole_in}
-use Rattle.pas_accepted.proofs.{Reports.cut_report, Reports.report_lines, Reports.report_whole, Telling.Comes, Telling.Tells}
-use Rattle.pas_accepted.proofs.Order.{AreInPlace, IsRead, acts_in_place, read_after, in_place, still_read}
+use Rattle.pas_accepted.proofs.Telling.{on_as, on_both, on_same, lines_both, lines_by, Comes, Tells}
 
+-- ---- Acts stand in their places: whenever a thread may be stopped as idle, the scavenger read the epoch just before; and a keeper acts only for requests whose guards it keeps
+-- ---- whether the epoch that the scavenger read is known to be that of the word
+abbrev pub read_after : Bool → Act → Bool
+read_after known ReadsEpoch = true
+read_after known (StopsIdle k n) = known
+read_after known act = false
+
+abbrev pub MayStand : Bool → Act → Type 0
+MayStand known (StopsIdle k n) = known ≡ true
+MayStand known (Guards keeper op) = keeper_in op.what ≡ Some keeper
+MayStand known act = Unit {0}
+
+abbrev pub AreInPlace : Bool → List Act → Type 0
+AreInPlace known [] = Unit {0}
+AreInPlace known (act ∷ acts) = MayStand known act × AreInPlace (read_after known act) acts
+
+abbrev pub IsRead : Bool → Progress → Type 0
+IsRead known p = known ≡ true → p.epoch ≡ word_after p.list Word.Epoch
+
+-- An act that may stand where it does, by what is known of the scavenger's epoch, is in its place.
+pub in_place : (known : Bool) (act : Act) (p : Progress) → MayStand known act → IsRead known p → IsInPlace act p
+in_place known (StopsIdle k n) p is read = read is
+in_place known (Guards keeper op) p is read = is
+in_place known act p is read = tt
+
+never : {A : Type 0} → false ≡ true → A
+never is = absurd (true≢false (sym is))
+
+read_as : (known : Bool) (p q : Progress) → q ≡ p → IsRead known p → IsRead known q
+read_as known p q same read = subst (IsRead known) (sym same) read
+
+-- What is known of the epoch that the scavenger read stays true after each act.
+pub still_read : (f : Profile) (known : Bool) (act : Act) (p q : Progress) → Advances f act p q → Legal f q.list → IsRead known p
+    → IsRead (read_after known act) q
+still_read f known ReadsEpoch p q did legal read = λ is. subst (λ (x : Progress). x.epoch ≡ word_after x.list Word.Epoch) (sym did.1) (subst (λ (x : Progress). Legal f x.list) did.1 legal).0.answer_is
+still_read f known (StopsIdle k n) p q (inl so) legal read = read_as known _ q so.4 (λ is. read is ∙ sym (epoch_kept freeing refl k so.1 p.list (stop_only k (p.caches k) so.2 so.1 so.3)))
+still_read f known (StopsIdle k n) p q (inr stays) legal read = read_as known p q stays.1 read
+still_read f known act p q did legal read = never
+
+-- ---- it is so in the acts of every plan
+abbrev Anyhow : List Act → Type 0
+Anyhow acts = (known : Bool) → AreInPlace known acts
+
+stops_on : (n : ℕ) (idle : List ℕ) (rest : List Act) → Anyhow rest → AreInPlace true (idle_stops n idle ++ rest)
+stops_on n [] rest on = on true
+stops_on n (k ∷ idle) rest on = (refl, stops_on n idle rest on)
+
+chore_on : (idle : List ℕ) (chore : Chore) (rest : List Act) → Anyhow rest → Anyhow (acts_of_chore idle chore ++ rest)
+chore_on idle (Chore.Idle n) rest on known = (tt, stops_on n idle rest on)
+chore_on idle other rest on known = (tt, on false)
+
+own_on : (keeper : Option ℕ) (op : Op) (rest : List Act) → keeper_in op.what ≡ keeper → Anyhow rest → Anyhow (act_kept keeper op ∷ (Settles op.actor ∷ rest))
+own_on None op rest kept on known = (tt, (tt, on false))
+own_on (Some keeper) op rest kept on known = (kept, (tt, on false))
+
+work_on : (idle : List ℕ) (op : Op) (work : Work) (rest : List Act) → work_of op.what ≡ work → Anyhow rest → Anyhow (acts_of_work idle op work ++ rest)
+work_on idle op (Work.Own task) rest is on known = own_on (keeper_of task) op rest (ap (of_task keeper_of) is) on known
+work_on idle op (Work.Chore chore) rest is on known = chore_on idle chore rest on known
+
+ops_on : (idle : List ℕ) (ops : List Op) (rest : List Act) → Anyhow rest → Anyhow (acts_of_ops idle ops ++ rest)
+ops_on idle [] rest on known = on known
+ops_on idle (op ∷ ops) rest on known =
+    subst (AreInPlace known) (sym (append_assoc (acts_of_op idle op) (acts_of_ops idle ops) rest)) (work_on idle op (work_of op.what) (acts_of_ops idle ops ++ rest) refl (ops_on idle ops rest on) known)
+
+wakes_on : (ks : List ℕ) (rest : List Act) → Anyhow rest → Anyhow (map Wakes ks ++ rest)
+wakes_on [] rest on known = on known
+wakes_on (k ∷ ks) rest on known = (tt, wakes_on ks rest on false)
+
+phase_on : (threads : ℕ) (ops : List Op) (rest : List Act) → Anyhow rest → Anyhow (phase_acts threads ops ++ rest)
+phase_on threads ops rest on known = search (arith, append_assoc, wakes_on, ops_on)
+
+lowers_on : (ks : List ℕ) → Anyhow (map Lowers ks)
+lowers_on [] known = tt
+lowers_on (k ∷ ks) known = (tt, lowers_on ks false)
+
+ends_on : (ks : List ℕ) (rest : List Act) → Anyhow rest → Anyhow (map Ends ks ++ rest)
+ends_on [] rest on known = on known
+ends_on (k ∷ ks) rest on known = (tt, ends_on ks rest on false)
+
+close_on : (threads keepers : ℕ) → Anyhow (close_acts threads keepers)
+close_on threads keepers known = (tt, ends_on (numbers_from 1 threads) (map Lowers (numbers_from (threads + 1) keepers)) (lowers_on (numbers_from (threads + 1) keepers)) false)
+
+from_on : (threads keepers n : ℕ) (phases : List (List Op)) → Anyhow (acts_from threads keepers n phases)
+from_on threads keepers n [] known = close_on threads keepers known
+from_on threads keepers n (phase ∷ phases) known = (tt, phase_on threads phase (acts_from threads keepers (n + 1) phases) (from_on threads keepers (n + 1) phases) false)
+
+-- The acts of a plan all stand in their places.
+pub acts_in_place : (threads keepers : ℕ) (phases : List (List Op)) (known : Bool) → AreInPlace known (acts_of threads keepers phases)
+acts_in_place threads keepers [] known = close_on threads keepers known
+acts_in_place threads keepers (phase ∷ phases) known = phase_on threads phase (acts_from threads keepers 2 phases) (from_on threads keepers 2 phases) known
+
+-- ---- Which transcripts are whole doesn't hang on how many actors the region has
+module _ (f : Profile) (n : ℕ) where
+  abbrev other : Profile
+  other = record f { threads = n }
+
+  -- ---- what is begun
+  named_same : (s : Stand) (k name room : ℕ) (o : Option (Option Block)) → freeing_named other s k name room o ≡ freeing_named f s k name room o
+  named_same s k name room None = refl
+  named_same s k name room any = refl
+
+  what_same : (s : Stand) (k : ℕ) (what : What) → begun_what other s k what ≡ begun_what f s k what
+  what_same s k (Free name) = named_same s k name 0 (standing_for s.names name)
+  what_same s k (FreeSized name room) = named_same s k name room (standing_for s.names name)
+  what_same s k what = refl
+
+  act_same : (s : Stand) (act : Act) → begun_act other s act ≡ begun_act f s act
+  act_same s (Operates op) = what_same s op.actor op.what
+  act_same s act = refl
+
+  task_same : (s : Stand) (t : Task) → begun other s t ≡ begun f s t
+  task_same s (Does act) = act_same s act
+  task_same s Reports = refl
+
+  begun_same : (ts : List Task) (s : Stand) → begun_from other s ts ≡ begun_from f s ts
+  begun_same [] s = refl
+  begun_same (t ∷ ts) s =
+      let e : after_task other s t ts ≡ after_task f s t ts = ap (λ (x : Stand). record x { left = ts }) (task_same s t) in
+      (λ i. settled_with (e i).due (e i) (begun_from other (e i) ts)) ∙ ap (settled_with (after_task f s t ts).due (after_task f s t ts)) (begun_same ts (after_task f s t ts))
+
+  with_same : (s : Stand) (due : List Due) → ready_with other s due ≡ ready_with f s due
+  with_same s [] = begun_same s.left (with_due s [])
+  with_same s (d ∷ ds) = refl
+
+  ready_same : (s : Stand) → ready other s ≡ ready f s
+  ready_same s = with_same s (past_outcomes s.due)
+
+  -- ---- which line may come
+  bears : (es : List Event) (heap page : ℕ) → Bears other es heap page → Bears f es heap page
+  bears es heap page h = record { exists = h.exists; directory = h.directory; deed = h.deed; of_heap = h.of_heap; backed = h.backed }
+
+  admits : (es : List Event) (e : Event) → Admits other es e → Admits f es e
+  admits es (Event.Give k block) h = record { aligned = h.aligned; whole = h.whole; some = h.some; bears = λ x inside. bears es block.heap _ (h.bears x inside); clear = h.clear; turn = h.turn }
+  admits es e h = h
+
+  is_for : (s : Stand) (r : Request) (block : Block) → IsFor other s r block → IsFor f s r block
+  is_for s r block h = record { heap = h.heap; room = h.room; aligned = h.aligned; deeds = h.deeds }
+
+  request : (s : Stand) (k : ℕ) (r : Request) (old : Option Name) (more : List Due) (line : List ℕ) (next : Stand) → TakesRequest other s k r old more line next
+      → TakesRequest f s k r old more line next
+  request s k r old more line next (inl h) = inl record { event = h.event; prepares = h.prepares; admitted = admits s.events h.event h.admitted; line_is = h.line_is; next_is = h.next_is }
+  request s k r old more line next (inr (inl h)) =
+      inr (inl record { block = h.block; is_for = is_for s r h.block h.is_for; admitted = admits s.events (Event.Give k h.block) h.admitted; line_is = h.line_is; next_is = h.next_is })
+  request s k r old more line next (inr (inr h)) = inr (inr record { said = h.said; refuses = h.refuses; line_is = h.line_is; next_is = h.next_is })
+
+  comes : (s : Stand) (page : ℕ) (outcome : Outcome) → MayCome other s page outcome → MayCome f s page outcome
+  comes s page Unbacked h = h
+  comes s page any h = h
+
+  outcome_of : (s : Stand) (last : ℕ) (more : List Due) (line : List ℕ) (next : Stand) → TakesOutcome other s last more line next
+      → TakesOutcome f s last more line next
+  outcome_of s last more line next h =
+      record { page = h.page; rises = h.rises; of_region = h.of_region; outcome = h.outcome; may = comes s h.page h.outcome h.may; line_is = h.line_is; next_is = h.next_is }
+
+  first : (s : Stand) (due : List Due) (line : List ℕ) (next : Stand) → TakesFirst other s due line next → TakesFirst f s due line next
+  first s (Examines page ∷ more) line next h = outcome_of s page more line next h
+  first s any line next h = h
+
+  due_of : (s : Stand) (due : List Due) (line : List ℕ) (next : Stand) → TakesDue other s due line next → TakesDue f s due line next
+  due_of s (Frees k entry ∷ more) line next h = record { event = h.event; of_entry = h.of_entry; admitted = admits s.events h.event h.admitted; line_is = h.line_is; next_is = h.next_is }
+  due_of s (Serves k r old ∷ more) line next h = request s k r old more line next h
+  due_of s (Tries keeper k r backed ∷ more) line next (inl h) = inl record { event = h.event; prepares = h.prepares; admitted = admits s.events h.event h.admitted; line_is = h.line_is; next_is = h.next_is }
+  due_of s (Tries keeper k r backed ∷ more) line next (inr (inl h)) =
+      inr (inl record { block = h.block; is_for = is_for s r h.block h.is_for; admitted = admits s.events (Event.Give keeper h.block) h.admitted; line_is = h.line_is; next_is = h.next_is })
+  due_of s (Tries keeper k r backed ∷ more) line next (inr (inr h)) = inr (inr (h.0, request (serving s k r more) k r None more line next h.1))
+  due_of s (Examines page ∷ more) line next h = outcome_of s page more line next h
+  due_of s any line next h = h
+
+  takes : (s : Stand) (line : List ℕ) (next : Stand) → Takes other s line next → Takes f s line next
+  takes s line next (inl h) = inl (first s s.due line next h)
+  takes s line next (inr h) = inr (subst (λ (t : Stand). TakesDue f t t.due line next) (ready_same s) (due_of (ready other s) (ready other s).due line next h))
+
+  goes : (s : Stand) (lines : List (List ℕ)) (end : Stand) → Goes other s lines end → Goes f s lines end
+  goes s [] end h = h
+  goes s (line ∷ lines) end h = (h.0, takes s line h.0 h.1, goes h.0 lines end h.2)
+
+  -- SO A WHOLE TRANSCRIPT is whole for the region of another number of actors
+  pub whole_in : (s : Stand) (lines : List (List ℕ)) → IsWhole other s lines → IsWhole f s lines
+  whole_in s lines h = (h.0, goes s lines h.0 h.1, subst (λ (t : Stand). t.due ≡ []) (ready_same h.0) h.2)
+
+-- ---- THE WHOLE REPLAY: its acts one after the other, and then its report
 -- ---- acts
 written_none : (f : Profile) (p q : Progress) (s : Stand) (ts : List Task) → Tells p s → s.due ≡ [] → s.left ≡ ts → q ≡ p → Written f p s q ts
 written_none f p q s ts tells due left same =
-    ([], ap (λ (x : Progress). x.records) same ∙ sym (append-nil p.records), record { end = s; leads = on_same f s s refl; tells = subst (λ (x : Progress). Tells x s) (sym same) tells; due = due; left = left })
+    ([], ap (λ (x : Progress). x.records) same ∙ sym (append-nil p.records), record { end = s; leads = on_same refl; tells = subst (λ (x : Progress). Tells x s) (sym same) tells; due = due; left = left })
 
 written_both : (f : Profile) (p q r : Progress) (s : Stand) (us ts : List Task) (one : Written f p s q us) → Written f q one.2.end r ts → Written f p s r ts
 written_both f p q r s us ts one rest = (
@@ -29,7 +220,7 @@ written_both f p q r s us ts one rest = (
   rest.1 ∙ ap (λ (rs : List Record). rs ++ rest.0) one.1 ∙ append_assoc p.records one.0 rest.0,
   record {
     end = rest.2.end;
-    leads = on_as f s rest.2.end rest.2.end _ _ (lines_both one.0 rest.0) refl (on_both f s one.2.end rest.2.end (lines_by one.0) (lines_by rest.0) one.2.leads rest.2.leads);
+    leads = on_as (lines_both one.0 rest.0) refl (on_both one.2.leads rest.2.leads);
     tells = rest.2.tells;
     due = rest.2.due;
     left = rest.2.left;
@@ -61,7 +252,7 @@ acts_of_replay plan whole records valid is =
 -- the report comes after them
 reported : (f : Profile) (s : Stand) (q : Progress) (whole : Whole) (rs : List Record) → AreTrueMarks f whole → whole ≡ q.list → Comes f s rs q (Reports ∷ [])
     → IsWhole f s (lines_by rs ++ report_lines f (visible whole) (marks_after whole))
-reported f s q whole rs marks order come = come.leads (report_lines f (visible whole) (marks_after whole)) (report_whole f whole marks come.end (come.tells.events ∙ sym (ap visible order)) come.due come.left)
+reported f s q whole rs marks order come = come.leads.on (report_lines f (visible whole) (marks_after whole)) (report_whole f whole marks come.end (come.tells.events ∙ sym (ap visible order)) come.due come.left)
 
 written_text : (f : Profile) (records : List Record) (es : List Event) (marks : ℕ → Marked)
     → lines_in (lines_of records ++ report_text f es marks) ≡ lines_by records ++ report_lines f es marks

@@ -11,7 +11,7 @@ use Rattle.pas_report.specs.declared.record.{Said.Said, Record.Record}
 use Rattle.pas_report.specs.Lines.{hex_digit, hex_digits, kind_text, name_text, line_of, lines_of, line_of_event, line_of_answer}
 use Rattle.pas_report.specs.Reports.{totals_text}
 use Rattle.pas_check.specs.Lines.{put_front, lines_in, is_line, is_nothing}
-use Rattle.pas_check.proofs.Marks.{all_lines}
+use Rattle.pas_check.proofs.Pages.{all_lines}
 
 -- ---- a line is cut off in front of a text
 cut_at : (b : ℕ) (bs rest : List ℕ) → is_nothing bs ≡ true → lines_in (10 ∷ (bs ++ rest)) ≡ (10 ∷ bs) ∷ lines_in rest

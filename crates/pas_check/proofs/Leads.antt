@@ -1,12 +1,20 @@
--- How a check goes from place to place.
-use Rattle.std.proofs.Common.{◌≡◌, ℕ, zero, suc, ◌+◌, ◌↔◌, Bool, true, false, List, [], ◌∷◌, length, take, inl, inr, refl, ap, sym, subst, ◌∙◌, arith}
-use Rattle.pas_profile.specs.declared.profile.Profile.{Profile}
+-- How a check goes from place to place, and what every line keeps.
+use Rattle.std.proofs.Common.{◌≡◌, ℕ, zero, suc, ◌+◌, ◌↔◌, Bool, true, false, List, [], ◌∷◌, length, take, inl, inr, refl, ap, sym, subst, ◌∙◌, arith, ◌^◌, ◌<◌}
+use Rattle.std.proofs.Common.{◌≤◌, ◌==◌, max, if◌then◌else◌, Option, Some}
+use Rattle.pas_profile.specs.declared.{profile.Profile.Profile, directory.Directory.Directory, event.Event.Event}
 use Rattle.pas_check.specs.{Accepted.IsDone, Accepted.IsWhole, Accepted.MayGo, Begins.past_outcomes, Begins.ready, Begins.ready_with, Going.AreAlike}
+use Rattle.pas_check.specs.{Bounds.IsKept, Bounds.IsSmall, Calls.Reaches}
 use Rattle.pas_check.specs.Leading.{Fails, IsJustLine, IsLed, IsWithin, Leads, lines_from}
 use Rattle.pas_check.specs.States.{Due, Examines, Stand, with_due}
 use Rattle.pas_check.specs.Takes.{IsJust, Takes, TakesDue, TakesFirst}
 use Rattle.pas_check.specs.declared.cutting.Cursor.{Cursor}
+use Rattle.std.proofs.lemmas.Option.{same_Some}
+use Rattle.pas_profile.specs.{Directories.IsKind, Profiles.IsValid, Blocks.address_of}
+use Rattle.pas_machine.specs.Machines.{profile_of, StandsFor}
+use Rattle.pas_machine.specs.State.{deed_in, epoch_in, gives_in, live_in, touches}
+use Rattle.pas_machine.specs.declared.machine.Machine.{Machine}
 
+-- ---- How a check goes from place to place
 -- ---- two stretches, one after the other
 module _ {f : Profile} {text : List ℕ} {s t : Stand} {old mid : Cursor} (first : Leads f text s old t mid) where
   -- What leads from one place to a second and from there to a third leads to the third.
@@ -44,6 +52,12 @@ module _ {f : Profile} {text : List ℕ} {s t : Stand} {old mid : Cursor} (first
           ];
         };
       }
+
+-- What leads to where a line is taken or fails leads on to there.
+pub led_on : {f : Profile} {text : List ℕ} {s t : Stand} {old mid : Cursor} (is : Bool) (u : Stand) (new : Cursor) → Leads f text s old t mid
+    → IsLed f text t mid u new is → IsLed f text s old u new is
+led_on true u new first second = leads_on first second
+led_on false u new first second = leads_fails first second
 
 -- ---- no line at all
 module _ (f : Profile) (text : List ℕ) (s t : Stand) (at : Cursor) where
@@ -184,6 +198,25 @@ module _ (f : Profile) (s : Stand) (d : Due) (more : List Due) (due : s.due ≡ 
         lacking [] none = due_lacks none
         lacking (line ∷ rest) has = due_refused line rest has (λ next x. isnt rest (has ∙ ap (λ l. l ∷ rest) ((just line next).0 x).0))
 
+-- ---- one line more, behind a stretch
+module _ {f : Profile} {text : List ℕ} {s t : Stand} {from at : Cursor} (to : Cursor) (led : Leads f text s from t at) (d : Due) (more : List Due)
+    (due : t.due ≡ d ∷ more) (no_pass : past_outcomes (d ∷ more) ≡ d ∷ more) (count : to.lines ≡ at.lines + 1) where
+  -- Where no line is left behind the stretch, the text fails there.
+  pub then_lacks : lines_from text at ≡ [] → Fails f text s from to.lines
+  then_lacks none = subst (Fails f text s from) (sym count) (leads_fails led (due_lacks f t d more due no_pass text at none))
+
+  -- Where the next line doesn't answer what is due, the text fails there.
+  pub then_fails : {line : List ℕ} → lines_from text at ≡ line ∷ lines_from text to → ((next : Stand) → TakesDue f t (d ∷ more) line next → ⊥)
+      → Fails f text s from to.lines
+  then_fails {line = line} has never =
+      subst (Fails f text s from) (sym count) (leads_fails led (due_refused f t d more due no_pass text at line (lines_from text to) has never))
+
+  -- A next line that answers what is due, and leads to one state, leads there.
+  pub then_leads : {line : List ℕ} {next : Stand} → lines_from text at ≡ line ∷ lines_from text to → IsWithin text to
+      → TakesDue f t (d ∷ more) line next → ((other : Stand) → TakesDue f t (d ∷ more) line other → other ≡ next) → Leads f text s from next to
+  then_leads {line = line} {next = next} has within takes one =
+      leads_on led (due_taken f t d more due no_pass text at next to line has count within takes one)
+
 -- ---- a state that no line tells from another
 pub leads_alike : (f : Profile) (text : List ℕ) (s t : Stand) (at : Cursor) → IsWithin text at → AreAlike f s t → Leads f text s at t at
 leads_alike f text s t at within like = leads_idly f text s t at within (same (lines_from text at)) like.done
@@ -191,3 +224,66 @@ leads_alike f text s t at within like = leads_idly f text s t at within (same (l
     same : (rest : List (List ℕ)) → IsSameAt f text s t at rest
     same [] = tt
     same (line ∷ more) = like.takes line
+
+-- ---- What every line keeps: few events, and ends at small epochs
+-- an end isn't later than this, and a deed's kind is one
+abbrev pub EndsBy : ℕ → Event → Type 0
+EndsBy epoch (Event.End k name read) = read ≤ epoch
+EndsBy epoch (Event.Deed k page d) = IsKind d.kind
+EndsBy epoch other = Unit {0}
+
+raised : (t : Bool) (old read epoch : ℕ) → old ≤ epoch → read ≤ epoch → (if t then max old read else old) ≤ epoch
+raised true old read epoch low by = omega (arith, low, by)
+raised false old read epoch low by = low
+
+epoch_more : (e : Event) (es : List Event) (page epoch : ℕ) → EndsBy epoch e → epoch_in es page ≤ epoch → epoch_in (e ∷ es) page ≤ epoch
+epoch_more (Event.End k name read) es page epoch by low = raised (touches (live_in es (address_of name)) page) (epoch_in es page) read epoch low by
+epoch_more other es page epoch by low = low
+
+-- each deed's kind is one
+abbrev AreKinds : List Event → Type 0
+AreKinds es = (page : ℕ) (d : Directory) → deed_in es page ≡ Some d → IsKind d.kind
+
+kind_made : (t : Bool) (made d : Directory) (old : Option Directory) → IsKind made.kind → (old ≡ Some d → IsKind d.kind)
+    → (if t then Some made else old) ≡ Some d → IsKind d.kind
+kind_made true made d old kind before is = subst (λ (g : Directory). IsKind g.kind) (same_Some made d is) kind
+kind_made false made d old kind before is = before is
+
+kinds_more : (e : Event) (es : List Event) (epoch : ℕ) → EndsBy epoch e → AreKinds es → AreKinds (e ∷ es)
+kinds_more (Event.Deed k p made) es epoch by kinds page d is = kind_made (p == page) made d (deed_in es page) by (kinds page d) is
+kinds_more other es epoch by kinds page d is = kinds page d is
+
+-- One event more, in one line more, at an epoch so far, keeps events few and epochs small.
+pub kept_more : (t s : Stand) (at to : Cursor) (e : Event) → t.events ≡ e ∷ s.events → t.epoch ≡ s.epoch → to.lines ≡ at.lines + 1 → EndsBy s.epoch e
+    → IsKept s at → IsKept t to
+kept_more t s at to e events epoch count by kept = search (arith, kinds_more, epoch_more)
+
+-- without an event: all that is kept is said of the events, the epoch and the lines
+pub kept_same : (t s : Stand) (at to : Cursor) → t.events ≡ s.events → t.epoch ≡ s.epoch → at.lines ≤ to.lines → IsKept s at → IsKept t to
+kept_same t s at to events epoch count kept = search arith
+
+-- From where the machine stands, that place is reached.
+pub reaches_here : {f : Profile} {text : List ℕ} {s : Stand} {from : Cursor} {machine : Machine} {due : List Due} → IsWithin text from
+    → StandsFor machine s.events → IsKept s from → s.due ≡ due → Reaches f text s from machine from due
+reaches_here {f} {text} {s} {from} {machine} {due} within stands kept is = record {
+  events = s.events;
+  led = subst (λ (u : Stand). Leads f text s from u from) (ap (with_due s) is) (leads_nowhere f text s from within);
+  stands = stands;
+  kept = kept_same (with_due s due) s from from refl refl (omega arith) kept;
+}
+
+-- ---- such a state is small
+one_more : (t : Bool) (old long : ℕ) → old ≤ long → (if t then old + 1 else old) ≤ suc long
+one_more true old long low = omega (arith, low)
+one_more false old long low = omega (arith, low)
+
+-- No more blocks were given at an address than there are events.
+pub gives_few : (es : List Event) (a : ℕ) → gives_in es a ≤ length es
+gives_few [] a = omega arith
+gives_few (Event.Give k block ∷ es) a = one_more (address_of block.name == a) (gives_in es a) (length es) (gives_few es a)
+gives_few (other ∷ es) a = omega (arith, gives_few es a)
+
+-- Before the 2^32nd line, the numbers of a state are small enough to be read back.
+pub small_of : (f : Profile) (machine : Machine) (s : Stand) (at : Cursor) → profile_of machine ≡ f → IsValid f → StandsFor machine s.events → IsKept s at
+    → at.lines < 2 ^ 32 → s.epoch < 2 ^ 64 → IsSmall f s
+small_of f machine s at same valid stands kept lines epoch = search (arith, gives_few)

@@ -1,31 +1,17 @@
-mod Digits
 mod Readings
 pub mod Cuts
-mod Marks
+mod Pages
 pub mod Verdicts
 pub mod Entries
-mod Examinings
+mod LinesTaken
 pub mod Ticks
-mod Takings
 pub mod Goings
 mod OneNext
-mod Nexts
 mod Leads
 pub mod Beginnings
 mod Logs
 mod Actings
-mod Kept
-mod Emptyings
-mod Requests
-mod Trials
+mod Stretches
 mod Guardings
-mod Passes
-mod Servings
-mod Followed
-mod Chains
 mod ActsOfPlans
-mod Pages
-mod Reportings
-mod Phases
-mod Wholes
-mod WithoutDeeds
+mod Chains

@@ -14,7 +14,8 @@ use Rattle.pas_machine.specs.declared.machine.Machine.{Machine}
 use Rattle.pas_trace.specs.declared.item.Request.{Request}
 use Rattle.pas_check.specs.Begins.{begun_from, entries_due, goes_down, has_sides, lowered_due, past_outcomes, raising, replacing}
 use Rattle.pas_check.specs.Bounds.{FitsNext, FitsRequest, FitsTry, IsFew, IsKept, IsSmall}
-use Rattle.pas_check.specs.{Leading.Fails, Leading.IsWithin, Leading.Leads, Ranges.Fits, Ranges.FitsEvent}
+use Rattle.pas_check.specs.Leading.{Fails, IsLed, IsWithin, Leads}
+use Rattle.pas_check.specs.Ranges.{Fits, FitsEvent}
 use Rattle.pas_check.specs.States.{Due, Examines, Serves, Tries, Stand, with_due, with_name, with_one}
 use Rattle.pas_check.specs.Takes.{IsFor, IsRefusal, MayCome, MayRefuse, TakesEntry, TakesGive, TakesOutcome, TakesPreparing, TakesRefusal, after_outcome}
 use Rattle.pas_check.specs.Takes.{directory_of, is_back}
@@ -63,14 +64,21 @@ EntryTaken old new k entry epoch line false = (new ≡ old) × ((s : Stand) (mor
     → s.epoch ≡ epoch
     → TakesEntry (profile_of old) s k entry more line next → ⊥)
 
+-- The lines lead from here to where the machine stands for the events, and these are due; or one of them can't be taken.
+pub record Reaches (f : Profile) (text : List ℕ) (s : Stand) (from : Cursor) (new : Machine) (to : Cursor) (dues : List Due) : Type 0 where
+  pub events : List Event
+  pub led : Leads f text s from (record s { events = events; due = dues }) to
+  pub stands : StandsFor new events
+  pub kept : IsKept (record s { events = events; due = dues }) to
+
+abbrev pub ReachesIf : Profile → List ℕ → Stand → Cursor → Machine → Cursor → List Due → Bool → Type 0
+ReachesIf f text s from new to due true = Reaches f text s from new to due
+ReachesIf f text s from new to due false = Fails f text s from to.lines
+
 -- The lines of so many entries lead from where the entries of the log are due to where those that are left are; or one of them can't be taken.
-abbrev pub EntriesTaken : Machine → Machine → List ℕ → Cursor → Cursor → ℕ → List Entry → List Entry → ℕ → Bool → Type 0
-EntriesTaken old new text from to k log left epoch true = (s : Stand) (more : List Due) → StandsFor old s.events → s.epoch ≡ epoch → IsKept s from
-    → s.due ≡ entries_due k log ++ more
-    → (t : Stand) × Leads (profile_of old) text s from t to × (t ≡ record s { events = t.events; due = entries_due k left ++ more }) × StandsFor new t.events × IsKept t to
-EntriesTaken old new text from to k log left epoch false = (s : Stand) (more : List Due) → StandsFor old s.events → s.epoch ≡ epoch → IsKept s from
-    → s.due ≡ entries_due k log ++ more
-    → Fails (profile_of old) text s from to.lines
+pub record EntriesTaken (old new : Machine) (text : List ℕ) (from to : Cursor) (k : ℕ) (log left : List Entry) (epoch : ℕ) (is : Bool) : Type 0 where
+  pub taken : (s : Stand) (more : List Due) → StandsFor old s.events → s.epoch ≡ epoch → IsKept s from → s.due ≡ entries_due k log ++ more
+      → ReachesIf (profile_of old) text s from new to (entries_due k left ++ more) is
 
 -- ---- deeds and backs of a request
 abbrev pub PreparingTaken : Machine → Machine → ℕ → Directory → List ℕ → Bool → Type 0
@@ -191,9 +199,9 @@ pub record IsAsked (machine : Machine) (s : Stand) (at : Cursor) (k : ℕ) (w : 
   pub due : s.due ≡ Serves k r replaced ∷ more
 
 -- the lines so far, which are deeds and backs, lead to where the request goes on
-abbrev pub RequestGoes : Machine → Machine → List ℕ → Cursor → Cursor → ℕ → Wanted → Type 0
-RequestGoes old new text from to k w = (s : Stand) (r : Request) (replaced : Option Name) (more : List Due) → IsAsked old s from k w r replaced more
-    → (t : Stand) × Leads (profile_of old) text s from t to × (t ≡ record s { events = t.events }) × StandsFor new t.events × IsKept t to
+pub record RequestGoes (old new : Machine) (text : List ℕ) (from to : Cursor) (k : ℕ) (w : Wanted) : Type 0 where
+  pub goes : (s : Stand) (r : Request) (replaced : Option Name) (more : List Due) → IsAsked old s from k w r replaced more
+      → Reaches (profile_of old) text s from new to (Serves k r replaced ∷ more)
 
 -- what stands after the request, whose name has come to this
 abbrev pub after_request : Stand → ℕ → Request → Option Name → Option Block → List Due → Stand
@@ -232,14 +240,10 @@ pub record IsTrying (machine : Machine) (s : Stand) (at : Cursor) (keeper k : �
   pub epoch : s.epoch < 2 ^ 64
   pub due : s.due ≡ Tries keeper k r false ∷ more
 
--- where the keeper has made these events, and has backed a page or none
-abbrev pub trying : Stand → List Event → ℕ → ℕ → Request → Bool → List Due → Stand
-trying s es keeper k r backed more = record s { events = es; due = Tries keeper k r backed ∷ more }
-
--- the lines so far, which are deeds and backs, lead to where the keeper goes on
-abbrev pub TrialGoes : Machine → Machine → List ℕ → Cursor → Cursor → ℕ → Wanted → Bool → Type 0
-TrialGoes old new text from to keeper w backed = (s : Stand) (k : ℕ) (r : Request) (more : List Due) → IsTrying old s from keeper k w r more
-    → (es : List Event) × Leads (profile_of old) text s from (trying s es keeper k r backed more) to × StandsFor new es × IsKept (record s { events = es }) to
+-- the lines so far, which are deeds and backs, lead to where the keeper goes on, which has backed a page or none
+pub record TrialGoes (old new : Machine) (text : List ℕ) (from to : Cursor) (keeper : ℕ) (w : Wanted) (backed : Bool) : Type 0 where
+  pub goes : (s : Stand) (k : ℕ) (r : Request) (more : List Due) → IsTrying old s from keeper k w r more
+      → Reaches (profile_of old) text s from new to (Tries keeper k r backed ∷ more)
 
 -- they lead to where its guard is raised; or to where its thread is to be served; or one of them can't be taken
 abbrev pub TrialTaken : Machine → Machine → List ℕ → Cursor → Cursor → ℕ → Wanted → Trial → Type 0
@@ -257,21 +261,16 @@ TrialStays text at (Passes place) = IsWithin text place
 TrialStays text at Stops = Unit {0}
 
 -- ---- the lines of a sweep
--- .. of these guards, lead to where those of the others are due
-abbrev pub SweepGoes : Machine → List ℕ → Cursor → Cursor → List Guard → ℕ → Bool → List Guard → Type 0
-SweepGoes machine text from to guards keeper all rest = (f : Profile) (s : Stand) (more : List Due) → StandsFor machine s.events
-    → s.due ≡ map lowered_due (filter (goes_down s.events keeper all) guards) ++ more
-    → Leads f text s from (with_due s (map lowered_due (filter (goes_down s.events keeper all) rest) ++ more)) to
-
--- these stay up
+-- these guards stay up
 abbrev pub staying : List Event → ℕ → Bool → List Guard → List Guard
 staying es keeper all guards = filter (λ guard. not (goes_down es keeper all guard)) guards
 
--- all of them; or one of them can't be taken
-abbrev pub LinesSwept : Machine → List ℕ → Cursor → Cursor → List Guard → ℕ → Bool → Bool → Type 0
-LinesSwept machine text from to guards keeper all true = SweepGoes machine text from to guards keeper all []
-LinesSwept machine text from to guards keeper all false = (f : Profile) (s : Stand) (more : List Due) → StandsFor machine s.events
-    → s.due ≡ map lowered_due (filter (goes_down s.events keeper all) guards) ++ more → Fails f text s from to.lines
+-- The lines of a sweep of these guards lead to where those of the others are due; or one of them can't be taken.
+pub record LinesSwept (machine : Machine) (text : List ℕ) (from to : Cursor) (guards : List Guard) (keeper : ℕ) (all : Bool) (rest : List Guard)
+    (is : Bool) : Type 0 where
+  pub swept : (f : Profile) (s : Stand) (more : List Due) → StandsFor machine s.events
+      → s.due ≡ map lowered_due (filter (goes_down s.events keeper all) guards) ++ more
+      → IsLed f text s from (with_due s (map lowered_due (filter (goes_down s.events keeper all) rest) ++ more)) to is
 
 -- ---- the lines of a pass
 -- what stands after a pass that left these events, where the next act that has a line is begun
@@ -294,11 +293,9 @@ pub record IsExamining (machine : Machine) (s : Stand) (at : Cursor) (last read 
   pub followed : IsFollowed (profile_of machine) s
 
 -- the outcomes so far lead to where this page is the last
-abbrev pub OutcomesGo : Machine → Machine → List ℕ → Cursor → Cursor → ℕ → ℕ → Type 0
-OutcomesGo old new text from to last epoch = (s : Stand) → IsExamining old s from 0 epoch
-    → (t : Stand) × Leads (profile_of old) text s from t to × (t ≡ record s { events = t.events; due = Examines last ∷ [] }) × StandsFor new t.events × IsKept t to
+pub record OutcomesGo (old new : Machine) (text : List ℕ) (from to : Cursor) (last epoch : ℕ) : Type 0 where
+  pub goes : (s : Stand) → IsExamining old s from 0 epoch → Reaches (profile_of old) text s from new to (Examines last ∷ [])
 
 -- all of them lead to where nothing more is due of the pass
-abbrev pub OutcomesTaken : Machine → Machine → List ℕ → Cursor → Cursor → ℕ → Type 0
-OutcomesTaken old new text from to epoch = (s : Stand) → IsExamining old s from 0 epoch
-    → (t : Stand) × Leads (profile_of old) text s from t to × (t ≡ record s { events = t.events; due = [] }) × StandsFor new t.events × IsKept t to
+pub record OutcomesTaken (old new : Machine) (text : List ℕ) (from to : Cursor) (epoch : ℕ) : Type 0 where
+  pub taken : (s : Stand) → IsExamining old s from 0 epoch → Reaches (profile_of old) text s from new to []

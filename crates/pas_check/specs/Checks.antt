@@ -83,13 +83,9 @@ abbrev pub SoTaken : Profile → List ℕ → Stand → Judge → Cursor → Lis
 SoTaken f text first new to left true = IsSoFar f text first new to left
 SoTaken f text first new to left false = new.lacks_memory ≡ false → Fails f text first opening to.lines
 
--- Where just these acts are left, their lines lead to where the others are left.
-abbrev pub TakenTo : List ℕ → Judge → Cursor → Judge → Cursor → List Act → List Act → Bool → Type 0
-TakenTo text old from new to acts left taken = (f : Profile) (first : Stand) → IsSoFar f text first old from acts → SoTaken f text first new to left taken
-
--- .. where these are the next ones, whatever follows them
-abbrev pub ActsTaken : List ℕ → Judge → Cursor → Judge → Cursor → List Act → Bool → Type 0
-ActsTaken text old from new to acts taken = (more : List Act) → TakenTo text old from new to (acts ++ more) more taken
+-- Where these acts are the next ones, their lines lead to where the others are, whatever follows them.
+pub record TakenTo (text : List ℕ) (old : Judge) (from : Cursor) (new : Judge) (to : Cursor) (acts left : List Act) (taken : Bool) : Type 0 where
+  pub far : (more : List Act) (f : Profile) (first : Stand) → IsSoFar f text first old from (acts ++ more) → SoTaken f text first new to (left ++ more) taken
 
 -- ---- the check begins
 -- the judge stands before the first line of the plan's transcripts, with room for its threads and its names

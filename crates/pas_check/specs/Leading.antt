@@ -1,7 +1,7 @@
 -- How far a check is in its text, and what it knows there.
 use Rattle.std.specs.Prelude.{ℕ, ◌+◌, ◌≤◌, ◌≡◌, ◌↔◌, Bool, true, false, List, ◌∷◌, length, take, drop}
 use Rattle.pas_profile.specs.declared.profile.Profile.{Profile}
-use Rattle.pas_check.specs.{Accepted.IsStopped, Accepted.IsWhole, Accepted.MayGo, Lines.lines_in, States.Stand}
+use Rattle.pas_check.specs.{Accepted.IsStopped, Accepted.IsWhole, Accepted.MayGo, Lines.lines_in, States.Due, States.Stand, States.with_due}
 use Rattle.pas_check.specs.declared.cutting.Cursor.{Cursor}
 
 -- the lines from the cursor on
@@ -33,6 +33,10 @@ pub record Fails (f : Profile) (text : List ℕ) (s : Stand) (old : Cursor) (num
 abbrev pub IsLed : Profile → List ℕ → Stand → Cursor → Stand → Cursor → Bool → Type 0
 IsLed f text s old t new true = Leads f text s old t new
 IsLed f text s old t new false = Fails f text s old new.lines
+
+-- where this is due first, one line answers it; or it doesn't
+pub record IsLineLed (text : List ℕ) (from to : Cursor) (due : Due) (is : Bool) : Type 0 where
+  pub led : (f : Profile) (s : Stand) (more : List Due) → s.due ≡ due ∷ more → IsLed f text s from (with_due s more) to is
 
 -- The next line is just this one; or it is another, or is wanting.
 abbrev pub IsJustLine : List ℕ → Cursor → Cursor → List ℕ → Bool → Type 0

@@ -30,14 +30,32 @@ pub record IsNext (f : Profile) (judge : Judge) (s : Stand) (at : Cursor) (act :
   pub due : s.due ≡ []
   pub left : s.left ≡ Does act ∷ ts
 
--- The lines lead from here to where these are due, and these are left; or one of them can't be taken, where memory wasn't wanting for a guard.
-abbrev pub Comes : Profile → List ℕ → Stand → Cursor → Judge → Cursor → List Due → List Task → Bool → Type 0
-Comes f text s from new to due left true = (t : Stand) × Leads f text s from t to × Stands f new t to × (t.due ≡ due) × (t.left ≡ left)
-Comes f text s from new to due left false = new.lacks_memory ≡ false → Fails f text s from to.lines
+-- The lines lead from here to where the judge stands, these are due, and these are left.
+pub record Arrives (f : Profile) (text : List ℕ) (s : Stand) (from : Cursor) (new : Judge) (to : Cursor) (dues : List Due) (tasks : List Task) : Type 0 where
+  pub stand : Stand
+  pub led : Leads f text s from stand to
+  pub stands : Stands f new stand to
+  pub due : stand.due ≡ dues
+  pub left : stand.left ≡ tasks
+
+-- .. or one of them can't be taken, where memory wasn't wanting for a guard
+abbrev pub ArrivesIf : Profile → List ℕ → Stand → Cursor → Judge → Cursor → List Due → List Task → Bool → Type 0
+ArrivesIf f text s from new to due left true = Arrives f text s from new to due left
+ArrivesIf f text s from new to due left false = new.lacks_memory ≡ false → Fails f text s from to.lines
+
+pub record Comes (f : Profile) (text : List ℕ) (s : Stand) (from : Cursor) (new : Judge) (to : Cursor) (due : List Due) (left : List Task)
+    (is : Bool) : Type 0 where
+  pub come : ArrivesIf f text s from new to due left is
 
 -- .. to where the act is done, and nothing is due
-abbrev pub ActTaken : Profile → List ℕ → Judge → Cursor → Judge → Cursor → Act → Bool → Type 0
-ActTaken f text old from new to act is = (s : Stand) (ts : List Task) → IsNext f old s from act ts → Comes f text s from new to [] ts is
+pub record ActTaken (f : Profile) (text : List ℕ) (old : Judge) (from : Cursor) (new : Judge) (to : Cursor) (act : Act) (is : Bool) : Type 0 where
+  pub done : (s : Stand) (ts : List Task) → IsNext f old s from act ts → Comes f text s from new to [] ts is
+
+-- .. from wherever the judge stands, once this is begun, to where what was due behind it is
+pub record IsAnswered (f : Profile) (text : List ℕ) (old : Judge) (from : Cursor) (new : Judge) (to : Cursor) (begun : Stand → List Due → Stand)
+    (is : Bool) : Type 0 where
+  pub answered : (s : Stand) (more : List Due) (ts : List Task) → Stands f old s from
+      → Comes f text (record (begun s more) { left = ts }) from new to more ts is
 
 -- an act that only empties thread k's log: a flush, a stop, and the end at the close
 abbrev pub Flushes : Profile → Act → ℕ → Type 0
@@ -51,18 +69,13 @@ FreesEntry f judge at act k entry = (s : Stand) → Stands f judge s at → begu
 abbrev pub FreesNamed : Profile → Act → ℕ → ℕ → ℕ → Type 0
 FreesNamed f act k name room = (s : Stand) → begun_act f s act ≡ freeing_named f s k name room (standing_for s.names name)
 
--- where thread k's log is being emptied, and has these entries afterwards, when this is due
-abbrev pub emptying : Stand → ℕ → List Entry → List Due → List Task → Stand
-emptying s k log more ts = record (flushing s k log more) { left = ts }
-
+-- .. once thread k's log is being emptied, which has these entries afterwards
 abbrev pub LogEmptied : Profile → List ℕ → Judge → Cursor → Judge → Cursor → ℕ → List Entry → Bool → Type 0
-LogEmptied f text old from new to k log is = (s : Stand) (more : List Due) (ts : List Task) → Stands f old s from
-    → Comes f text (emptying s k log more ts) from new to more ts is
+LogEmptied f text old from new to k log is = IsAnswered f text old from new to (λ s more. flushing s k log more) is
 
 -- .. so do those of a pass, where what follows it fits its places
-abbrev pub PassTaken : Profile → List ℕ → Judge → Cursor → Judge → Cursor → Bool → Type 0
-PassTaken f text old from new to is = (s : Stand) (ts : List Task) → IsNext f old s from MakesPass ts → IsFollowed f (record s { left = ts })
-    → Comes f text s from new to [] ts is
+pub record PassTaken (f : Profile) (text : List ℕ) (old : Judge) (from : Cursor) (new : Judge) (to : Cursor) (is : Bool) : Type 0 where
+  pub done : (s : Stand) (ts : List Task) → IsNext f old s from MakesPass ts → IsFollowed f (record s { left = ts }) → Comes f text s from new to [] ts is
 
 -- an act that only asks for what thread k's request says, and replaces the block of this name, if there is one
 abbrev pub Asks : Profile → Judge → Cursor → Act → ℕ → Request → Option Name → Type 0
@@ -88,24 +101,14 @@ Resizes f judge at act k name block size align = (s : Stand) → Stands f judge 
 abbrev pub IsSuited : Block → ℕ → ℕ → Type 0
 IsSuited block size align = (max size 1 ≤ block.room) × (address_of block.name % align ≡ 0)
 
--- where thread k's entry is logged, when this is due
-abbrev pub being_logged : Stand → ℕ → Entry → List Due → List Task → Stand
-being_logged s k entry more ts = record (logging (is_full s k) s k entry more) { left = ts }
-
--- the lines lead to where the entry is logged
+-- .. once thread k's entry is being logged
 abbrev pub EntryLogged : Profile → List ℕ → Judge → Cursor → Judge → Cursor → ℕ → Entry → Bool → Type 0
-EntryLogged f text old from new to k entry is = (s : Stand) (more : List Due) (ts : List Task) → Stands f old s from
-    → Comes f text (being_logged s k entry more ts) from new to more ts is
+EntryLogged f text old from new to k entry is = IsAnswered f text old from new to (λ s more. logging (is_full s k) s k entry more) is
 
 -- ---- guards
--- where the keeper sweeps, when these are due after its lines
-abbrev pub being_swept : Stand → ℕ → Bool → List Due → List Task → Stand
-being_swept s keeper all more ts = record (sweeping s keeper all more) { left = ts }
-
--- the lines lead to where they are due
+-- .. once the keeper sweeps
 abbrev pub GuardsSwept : Profile → List ℕ → Judge → Cursor → Judge → Cursor → ℕ → Bool → Bool → Type 0
-GuardsSwept f text old from new to keeper all is = (s : Stand) (more : List Due) (ts : List Task) → Stands f old s from
-    → Comes f text (being_swept s keeper all more ts) from new to more ts is
+GuardsSwept f text old from new to keeper all is = IsAnswered f text old from new to (λ s more. sweeping s keeper all more) is
 
 -- The lines lead from here to where nothing is due, and as much is left of the plan.
 abbrev pub IsCarried : Profile → List ℕ → Stand → Cursor → Judge → Cursor → Bool → Type 0

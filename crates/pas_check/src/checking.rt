@@ -7,7 +7,7 @@ ghost use Rattle.pas_machine.specs.Machines.{profile_of};
 ghost use Rattle.pas_trace.specs.Acts.{Act, Ends, Lowers, MarksClose, MarksPhase, ReadsEpoch, Wakes, acts_from, acts_of, acts_of_op, acts_of_ops, close_acts};
 ghost use Rattle.pas_trace.specs.Acts.{idle_stops, numbers_from, phase_acts, threads_where};
 ghost use Rattle.pas_trace.specs.{EveryPlan.all_ops, Plans.ops_of};
-ghost use Rattle.pas_check.specs.Checks.{ActsTaken, TakenTo, ArePlanned, IsPlanned, IsSized, IsSizedAs, threads_in};
+ghost use Rattle.pas_check.specs.Checks.{TakenTo, ArePlanned, IsPlanned, IsSized, IsSizedAs, threads_in};
 ghost use Rattle.pas_check.specs.{Leading.IsWithin, Leading.StaysWithin, Tables.logs_held, Tables.names_held};
 ghost use Rattle.pas_check.specs.declared.cutting.Cursor.{Cursor as TheCursor};
 
@@ -18,14 +18,21 @@ use crate::guarding::lower;
 use pas_bits::Mask4;
 use pas_trace::{Chore, Op, Phase, Work};
 
+/// How many threads the region has.
+fn threads_of(judge: &Judge) -> u8
+    ensures { result ≡ threads_in judge.now }
+{
+    judge.machine.profile().threads
+}
+
 /// Each of these threads wakes.
 fn wake_all(judge: &mut Judge, awake: Mask4)
     requires sized { IsSized judge.old }
     ensures sized { IsSizedAs judge.old judge.new }
     ensures taken { (text : List ℕ) (at : TheCursor) → IsWithin text at
-        → ActsTaken text judge.old at judge.new at (map Wakes (threads_where (is_set awake) (threads_in judge.old))) true }
+        → TakenTo text judge.old at judge.new at (map Wakes (threads_where (is_set awake) (threads_in judge.old))) [] true }
 {
-    let threads = judge.machine.profile().threads;
+    let threads = threads_of(judge);
     for index in 0..threads {
         let thread = index + 1;
         if awake.get(thread) {
@@ -47,7 +54,8 @@ fn stop_unless_awake(
     requires held { thread < logs_held judge.old.logs }
     requires known { thread < length judge.old.awake.items }
     ensures sized { IsSizedAs judge.old judge.new }
-    ensures taken { ActsTaken text.now judge.old cursor.old judge.new cursor.new (idle_stops epochs (filter (λ k. not (is_set awake k)) (thread ∷ []))) result }
+    ensures taken { TakenTo text.now judge.old cursor.old judge.new cursor.new
+        (idle_stops epochs (filter (λ k. not (is_set awake k)) (thread ∷ []))) [] result }
     ensures within { StaysWithin text.now cursor.new result }
 {
     if awake.get(thread) {
@@ -67,11 +75,11 @@ fn stop_all_idle(
     requires within { IsWithin text.now cursor.old }
     requires sized { IsSized judge.old }
     ensures sized { IsSizedAs judge.old judge.new }
-    ensures taken { ActsTaken text.now judge.old cursor.old judge.new cursor.new
-        (ReadsEpoch ∷ idle_stops epochs (threads_where (λ k. not (is_set awake k)) (threads_in judge.old))) result }
+    ensures taken { TakenTo text.now judge.old cursor.old judge.new cursor.new
+        (ReadsEpoch ∷ idle_stops epochs (threads_where (λ k. not (is_set awake k)) (threads_in judge.old))) [] result }
     ensures within { StaysWithin text.now cursor.new result }
 {
-    let threads = judge.machine.profile().threads;
+    let threads = threads_of(judge);
     for index in 0..threads {
         if !stop_unless_awake(judge, text, cursor, awake, epochs, index + 1) {
             return false;
@@ -87,8 +95,8 @@ fn perform(judge: &mut Judge, text: &[u8], cursor: &mut Cursor, awake: Mask4, op
     requires sized { IsSized judge.old }
     requires planned { IsPlanned (profile_of judge.old.machine) (names_held judge.old.names) op }
     ensures sized { IsSizedAs judge.old judge.new }
-    ensures taken { ActsTaken text.now judge.old cursor.old judge.new cursor.new
-        (acts_of_op (threads_where (λ k. not (is_set awake k)) (threads_in judge.old)) op) result }
+    ensures taken { TakenTo text.now judge.old cursor.old judge.new cursor.new
+        (acts_of_op (threads_where (λ k. not (is_set awake k)) (threads_in judge.old)) op) [] result }
     ensures within { StaysWithin text.now cursor.new result }
 {
     match op.work() {
@@ -112,8 +120,8 @@ fn perform_all(
     requires sized { IsSized judge.old }
     requires planned { ArePlanned (profile_of judge.old.machine) (names_held judge.old.names) ops.now }
     ensures sized { IsSizedAs judge.old judge.new }
-    ensures taken { ActsTaken text.now judge.old cursor.old judge.new cursor.new
-        (acts_of_ops (threads_where (λ k. not (is_set awake k)) (threads_in judge.old)) ops.now) result }
+    ensures taken { TakenTo text.now judge.old cursor.old judge.new cursor.new
+        (acts_of_ops (threads_where (λ k. not (is_set awake k)) (threads_in judge.old)) ops.now) [] result }
     ensures within { StaysWithin text.now cursor.new result }
 {
     for op in ops {
@@ -131,7 +139,7 @@ fn take_phase(judge: &mut Judge, text: &[u8], cursor: &mut Cursor, ops: &[Op]) -
     requires sized { IsSized judge.old }
     requires planned { ArePlanned (profile_of judge.old.machine) (names_held judge.old.names) ops.now }
     ensures sized { IsSizedAs judge.old judge.new }
-    ensures taken { ActsTaken text.now judge.old cursor.old judge.new cursor.new (phase_acts (threads_in judge.old) ops.now) result }
+    ensures taken { TakenTo text.now judge.old cursor.old judge.new cursor.new (phase_acts (threads_in judge.old) ops.now) [] result }
     ensures within { StaysWithin text.now cursor.new result }
 {
     let awake = active(ops);
@@ -190,10 +198,10 @@ fn end_all(judge: &mut Judge, text: &[u8], cursor: &mut Cursor) -> bool
     requires within { IsWithin text.now cursor.old }
     requires sized { IsSized judge.old }
     ensures sized { IsSizedAs judge.old judge.new }
-    ensures taken { ActsTaken text.now judge.old cursor.old judge.new cursor.new (map Ends (numbers_from 1 (threads_in judge.old))) result }
+    ensures taken { TakenTo text.now judge.old cursor.old judge.new cursor.new (map Ends (numbers_from 1 (threads_in judge.old))) [] result }
     ensures within { StaysWithin text.now cursor.new result }
 {
-    let threads = judge.machine.profile().threads;
+    let threads = threads_of(judge);
     for index in 0..threads {
         if !flush(judge, text, cursor, index + 1) {
             return false;
@@ -207,10 +215,10 @@ fn lower_all(judge: &mut Judge, text: &[u8], cursor: &mut Cursor, keepers: u8) -
     requires within { IsWithin text.now cursor.old }
     requires few { threads_in judge.old + keepers < 2 ^ 8 }
     ensures sized { IsSizedAs judge.old judge.new }
-    ensures taken { ActsTaken text.now judge.old cursor.old judge.new cursor.new (map Lowers (numbers_from (threads_in judge.old + 1) keepers)) result }
+    ensures taken { TakenTo text.now judge.old cursor.old judge.new cursor.new (map Lowers (numbers_from (threads_in judge.old + 1) keepers)) [] result }
     ensures within { StaysWithin text.now cursor.new result }
 {
-    let threads = judge.machine.profile().threads;
+    let threads = threads_of(judge);
     for index in threads..threads + keepers {
         if !lower(judge, text, cursor, index + 1) {
             return false;
@@ -225,7 +233,7 @@ fn take_close(judge: &mut Judge, text: &[u8], cursor: &mut Cursor, keepers: u8) 
     requires sized { IsSized judge.old }
     requires few { threads_in judge.old + keepers < 2 ^ 8 }
     ensures sized { IsSizedAs judge.old judge.new }
-    ensures taken { ActsTaken text.now judge.old cursor.old judge.new cursor.new (close_acts (threads_in judge.old) keepers) result }
+    ensures taken { TakenTo text.now judge.old cursor.old judge.new cursor.new (close_acts (threads_in judge.old) keepers) [] result }
     ensures within { StaysWithin text.now cursor.new result }
 {
     if !mark_close(judge, text, cursor) {

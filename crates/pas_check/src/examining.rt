@@ -7,7 +7,7 @@ ghost use Rattle.pas_check.specs.Calls.{outcome_in, outcome_in_event, outcome_in
 ghost use Rattle.pas_check.specs.{Leading.IsWithin, States.Stand, Takes.MayCome};
 
 use crate::cutting::{Cursor, next_line};
-use crate::reading::read_record;
+use crate::reading::read;
 use crate::taking::step;
 use pas_machine::Machine;
 use pas_profile::{Event, Outcome};
@@ -104,7 +104,7 @@ pub(crate) fn take_outcome(machine: &mut Machine, line: &[u8], last: u32, epoch:
     ensures profile { profile_of machine.new ≡ profile_of machine.old }
     ensures taken { OutcomeTaken machine.old machine.new last epoch line.now result }
 {
-    let Some(item) = read_record(line) else {
+    let Some(item) = read(line) else {
         return None;
     };
     let Some(examined) = outcome_of(&item, epoch) else {

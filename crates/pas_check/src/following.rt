@@ -1,9 +1,8 @@
 //! Lines of which no word is open: what stands before fixes them.
-ghost use Rattle.std.specs.Prelude.{◌≡◌, ◌+◌, ◌≤◌, ◌∷◌, List, length};
-ghost use Rattle.pas_profile.specs.declared.profile.Profile.{Profile};
+ghost use Rattle.std.specs.Prelude.{◌≡◌, ◌+◌, ◌≤◌, length};
 ghost use Rattle.pas_report.specs.Lines.{CanShow, line_of};
-ghost use Rattle.pas_check.specs.Leading.{IsJustLine, IsLed, IsWithin, StaysWithin};
-ghost use Rattle.pas_check.specs.States.{Due, Heads, Stand, Writes, with_due};
+ghost use Rattle.pas_check.specs.Leading.{IsJustLine, IsLineLed, IsWithin, StaysWithin};
+ghost use Rattle.pas_check.specs.States.{Heads, Writes};
 
 use crate::cutting::{Cursor, take_line};
 use pas_report::{Line, Record, push_record};
@@ -25,7 +24,7 @@ fn is_next(text: &[u8], cursor: &mut Cursor, item: &Record) -> bool
 pub(crate) fn take_record(text: &[u8], cursor: &mut Cursor, item: &Record) -> bool
     requires within { IsWithin text.now cursor.old }
     requires shown { CanShow item.now }
-    ensures led { (f : Profile) (s : Stand) (more : List Due) → s.due ≡ Writes item.now ∷ more → IsLed f text.now s cursor.old (with_due s more) cursor.new result }
+    ensures led { IsLineLed text.now cursor.old cursor.new (Writes item.now) result }
     ensures within { StaysWithin text.now cursor.new result }
 {
     is_next(text, cursor, item)
@@ -34,7 +33,7 @@ pub(crate) fn take_record(text: &[u8], cursor: &mut Cursor, item: &Record) -> bo
 /// Takes the head of the report, and says whether it is the next line.
 pub(crate) fn take_head(text: &[u8], cursor: &mut Cursor) -> bool
     requires within { IsWithin text.now cursor.old }
-    ensures led { (f : Profile) (s : Stand) (more : List Due) → s.due ≡ Heads ∷ more → IsLed f text.now s cursor.old (with_due s more) cursor.new result }
+    ensures led { IsLineLed text.now cursor.old cursor.new Heads result }
     ensures within { StaysWithin text.now cursor.new result }
 {
     take_line(text, cursor, b"report\n")

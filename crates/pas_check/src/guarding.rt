@@ -14,7 +14,7 @@ use crate::acting::{Judge, serve};
 use crate::cutting::{Cursor, next_line};
 use crate::following::take_record;
 use crate::guard::Guard;
-use crate::reading::read_record;
+use crate::reading::read;
 use crate::serving::{Wanted, take_give};
 use crate::taking::{event_read, is_place, take_preparing};
 use pas_machine::Machine;
@@ -74,7 +74,7 @@ fn take_lowered(
     all: bool,
 ) -> bool
     requires within { IsWithin text.now cursor.old }
-    ensures taken { LinesSwept machine.now text.now cursor.old cursor.new guards.now keeper all result }
+    ensures taken { LinesSwept machine.now text.now cursor.old cursor.new guards.now keeper all [] result }
     ensures within { StaysWithin text.now cursor.new result }
 {
     for guard in guards {
@@ -175,7 +175,7 @@ fn take_trial(
         let Some(line) = next_line(text, cursor) else {
             return Trial::Stops;
         };
-        let found = read_record(line);
+        let found = read(line);
         if !take_preparing(machine, &found, keeper, wanted.directory) {
             return end_trial(machine, &found, keeper, wanted, backed, start);
         }

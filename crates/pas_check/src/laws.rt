@@ -68,7 +68,7 @@ pub fn checks_go_on()
 /// A line that answers what is due leads to one state, where the events so far are a run of few blocks at small epochs, and the numbers of a request
 /// fit. So does a line that may come next, where what is due after the outcomes of a pass is no outcome, and its numbers fit: none has the line of what
 /// follows its pass. So it is never open which of two answers a line gave.
-#[tactic(auto, using(crate::proofs::OneNext::one_next, crate::proofs::Nexts::one_takes))]
+#[tactic(auto, using(crate::proofs::OneNext::one_next, crate::proofs::OneNext::one_takes))]
 pub fn lines_lead_on()
     ensures due { (f : Profile) (s : Stand) → IsSmall f s → (due : List Due) → FitsFirst f due
         → (line : List ℕ) (a b : Stand) → TakesDue f s due line a → TakesDue f s due line b → a ≡ b }

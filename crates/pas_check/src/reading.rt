@@ -3,7 +3,7 @@ ghost use Rattle.std.specs.Prelude.{◌≡◌, ◌≢◌, IfSome, MatchBool, Som
 ghost use Rattle.pas_profile.specs.{Requests.kind_of_route, Routes.route_of};
 ghost use Rattle.pas_report.specs.Lines.{line_of, CanShow};
 ghost use Rattle.pas_report.specs.declared.record.Record.{Record as TheRecord};
-ghost use Rattle.pas_check.specs.Ranges.{Fits};
+ghost use Rattle.pas_check.specs.{Calls.IsRead, Ranges.Fits};
 ghost use Rattle.pas_check.specs.Readings.{byte_at, of_u8, past_digits as after_digits, name_at, past_name as after_name, kind_at, directory_at, deed_at};
 ghost use Rattle.pas_check.specs.Readings.{back_at, unback_at, give_at, freed_at, held_at, in_use_at, young_at, size_differs_at, guarded_at, kept_at};
 ghost use Rattle.pas_check.specs.Readings.{lowered_at, with_b, with_u, with_g, with_n, with_s, word_at, record_at};
@@ -337,6 +337,13 @@ pub(crate) fn is_line(line: &[u8], item: &Record) -> bool
     let mut wanted = Line::new();
     push_record(&mut wanted, item);
     wanted.as_bytes() == line
+}
+
+/// What is read of a line: its record, or None.
+pub(crate) fn read(line: &[u8]) -> Option<Record>
+    ensures { IsRead line.now result }
+{
+    read_record(line)
 }
 
 /// The record whose line this is, with its newline; None where it is of no record whose numbers fit their places. Takes no memory, and time in

@@ -5,7 +5,7 @@ ghost use Rattle.pas_machine.specs.Machines.{profile_of};
 ghost use Rattle.pas_check.specs.{Calls.EndingTaken, Calls.IsRead, Calls.RequestTaken, Leading.IsWithin};
 
 use crate::cutting::{Cursor, next_line};
-use crate::reading::read_record;
+use crate::reading::read;
 use crate::serving::{Wanted, is_refusal, take_give};
 use crate::taking::take_preparing;
 use pas_machine::Machine;
@@ -59,7 +59,7 @@ pub(crate) fn take_request(
         let Some(line) = next_line(text, cursor) else {
             return None;
         };
-        let found = read_record(line);
+        let found = read(line);
         if !take_preparing(machine, &found, actor, wanted.directory) {
             return take_ending(machine, &found, actor, wanted);
         }

@@ -1,8 +1,7 @@
-use Rattle.std.proofs.Common.{◌≡◌, ◌∙◌, ◌<◌, ◌^◌, ℕ, None, ap, refl, subst, arith, MatchOption}
+use Rattle.std.proofs.Common.{◌≡◌, ◌<◌, ◌^◌, ℕ, None, ap, refl, subst, arith, MatchOption}
 use Rattle.pas_trace.specs.{Acts.Guards, Acts.Operates, Acts.act_kept, Asked.keeper_in, Asked.request_in}
 use Rattle.pas_trace.specs.declared.plan.What.{What, TheVariants.Guarded}
-use Rattle.pas_check.specs.{Begins.guarding, Calls.IsWanted, Calls.asked_for}
-use Rattle.pas_check.proofs.Actings.{of_profile}
+use Rattle.pas_check.specs.{Begins.guarding, Calls.asked_for}
 use Rattle.pas_check.proofs.acting.operate.Goals as goal
 
 pub try_request-requires-clause-apart : goal.try_request-requires-clause-apart
@@ -14,14 +13,13 @@ pub returns-in-Guarded-clause-taken : goal.returns-in-Guarded-clause-taken
 returns-in-Guarded-clause-taken c =
     let op = c.args.op in
     let a = c.in-Guarded in
-    let new = c.try_request.new.judge in
-    let to = c.try_request.new.cursor in
     let act : act_kept (keeper_in op.what) op ≡ Guards a.keeper op = ap (λ (w : What). act_kept (keeper_in w) op) a.is in
-    λ f. of_profile f c.args.text.now c.args.judge.now new c.args.cursor.now to (act_kept (keeper_in op.what) op) c.try_request.result
-    (λ same. rw act (c.try_request.ensures.taken f (Guards a.keeper op) (asked_for a.name a.heap a.size a.align)
-    (λ s stands. ap (λ (w : What). guarding s a.keeper op.actor (request_in w)) a.is)
-    (subst (λ g. IsWanted g (asked_for a.name a.heap a.size a.align) c.wanted_for-wanted.result) (c.profile.ensures ∙ same)
-    c.wanted_for-wanted.ensures.wanted)))
+    λ f. record {
+      done = λ s ts next.
+          (c.try_request.ensures.taken f (act_kept (keeper_in op.what) op) (asked_for a.name a.heap a.size a.align)
+          (λ u stands. rw act (ap (λ (w : What). guarding u a.keeper op.actor (request_in w)) a.is))
+          (rw (c.profile.ensures, next.stands.profile) at c.wanted_for-wanted.ensures.wanted)).done s ts next;
+    }
 
 plain_kept : (what : What) → ((keeper name heap size align : ℕ) → what ≡ Guarded keeper name heap size align → ⊥) → keeper_in what ≡ None
 plain_kept (Guarded keeper name heap size align) not_guarded = absurd (not_guarded keeper name heap size align refl)
@@ -30,7 +28,5 @@ plain_kept what not_guarded = refl
 pub returns-in_default-clause-taken : goal.returns-in_default-clause-taken
 returns-in_default-clause-taken c =
     let op = c.args.op in
-    let new = c.operate_plain.new.judge in
-    let to = c.operate_plain.new.cursor in
     let act : act_kept (keeper_in op.what) op ≡ Operates op = ap (λ o. act_kept o op) (plain_kept op.what c.in_default.not-Guarded) in
     λ f. rw act (c.operate_plain.ensures.taken f)

@@ -1,10 +1,10 @@
-use Rattle.std.proofs.Common.{◌≡◌, ◌⊎◌, ◌∙◌, ℕ, [], None, inl, inr, ap, subst}
+use Rattle.std.proofs.Common.{◌≡◌, ◌⊎◌, ℕ, [], None, inl, inr, ap}
 use Rattle.pas_profile.specs.declared.profile.Profile.{Profile}
 use Rattle.pas_trace.specs.Acts.{Operates}
 use Rattle.pas_trace.specs.declared.plan.What.{What}
 use Rattle.pas_trace.specs.declared.plan.What.TheVariants.{Tick, Pass, Idle, Flush, Stop}
-use Rattle.pas_check.specs.{Begins.begun_what, Begins.flushing, Calls.IsWanted, Calls.asked_for, States.Stand}
-use Rattle.pas_check.proofs.Actings.{asks_taken, nothing_begun, of_profile}
+use Rattle.pas_check.specs.{Begins.begun_what, Begins.flushing, States.Stand}
+use Rattle.pas_check.proofs.Actings.{asks_taken, nothing_begun}
 use Rattle.pas_check.proofs.acting.operate_plain.Goals as goal
 
 -- an operation of the scavenger
@@ -20,24 +20,13 @@ flush_begun f s k what (inr is) = ap (λ (w : What). begun_what f s k w) is
 
 pub returns-in-Alloc-clause-taken : goal.returns-in-Alloc-clause-taken
 returns-in-Alloc-clause-taken c = λ f.
-    let r = asked_for c.in-Alloc.name c.in-Alloc.heap c.in-Alloc.size c.in-Alloc.align in
-    of_profile f c.args.text.now c.args.judge.now c.serve.new.judge c.args.cursor.now c.serve.new.cursor (Operates c.args.op) c.serve.result
-    (λ same. asks_taken f c.args.text.now c.args.judge.now c.serve.new.judge c.args.cursor.now c.serve.new.cursor (Operates c.args.op) c.requires.within
-    c.args.op.actor r None
-    (λ s stands. ap (λ (w : What). begun_what f s c.args.op.actor w) c.in-Alloc.is) c.serve.result
-    (λ s stands. c.serve.ensures.taken f s r stands (subst (λ g. IsWanted g r c.wanted_for-wanted.result) (c.profile.ensures ∙ same)
-    c.wanted_for-wanted.ensures.wanted)))
+    asks_taken c.args.op.actor None c.requires.within (λ s stands. ap (λ (w : What). begun_what f s c.args.op.actor w) c.in-Alloc.is)
+    (rw c.profile.ensures at c.wanted_for-wanted.ensures.wanted) (c.serve.ensures.taken f)
 
 pub returns-in-Guarded-clause-taken : goal.returns-in-Guarded-clause-taken
 returns-in-Guarded-clause-taken c = λ f.
-    let r = asked_for c.in-Guarded.name c.in-Guarded.heap c.in-Guarded.size c.in-Guarded.align in
-    of_profile f c.args.text.now c.args.judge.now c.serve-in-Guarded.new.judge c.args.cursor.now c.serve-in-Guarded.new.cursor (Operates c.args.op)
-    c.serve-in-Guarded.result
-    (λ same. asks_taken f c.args.text.now c.args.judge.now c.serve-in-Guarded.new.judge c.args.cursor.now c.serve-in-Guarded.new.cursor (Operates c.args.op)
-    c.requires.within c.args.op.actor r None
-    (λ s stands. ap (λ (w : What). begun_what f s c.args.op.actor w) c.in-Guarded.is) c.serve-in-Guarded.result
-    (λ s stands. c.serve-in-Guarded.ensures.taken f s r stands
-    (subst (λ g. IsWanted g r c.wanted_for-wanted-in-Guarded.result) (c.profile-in-Guarded.ensures ∙ same) c.wanted_for-wanted-in-Guarded.ensures.wanted)))
+    asks_taken c.args.op.actor None c.requires.within (λ s stands. ap (λ (w : What). begun_what f s c.args.op.actor w) c.in-Guarded.is)
+    (rw c.profile-in-Guarded.ensures at c.wanted_for-wanted-in-Guarded.ensures.wanted) (c.serve-in-Guarded.ensures.taken f)
 
 pub returns-in-Free-clause-taken : goal.returns-in-Free-clause-taken
 returns-in-Free-clause-taken c = λ f. c.free_named.ensures.taken f (Operates c.args.op) (λ s. ap (λ (w : What). begun_what f s c.args.op.actor w) c.in-Free.is)
@@ -62,5 +51,4 @@ returns-in-Flush-clause-taken c = λ f. c.flush.ensures.taken f (Operates c.args
 
 pub returns-in-Tick-clause-taken : goal.returns-in-Tick-clause-taken
 returns-in-Tick-clause-taken c = λ f.
-    nothing_begun f c.args.text.now c.args.judge.now c.args.cursor.now (Operates c.args.op) c.requires.within
-    (λ s stands. chore_begun f s c.args.op.actor c.args.op.what c.in-Tick.is)
+    nothing_begun c.requires.within (λ s stands. chore_begun f s c.args.op.actor c.args.op.what c.in-Tick.is)

@@ -1,6 +1,6 @@
 -- the keepers so far lowered their guards
-use Rattle.std.proofs.Common.{◌+◌, ◌-◌, ◌++◌, ◌≤◌, List, map, true}
-use Rattle.pas_trace.specs.Acts.{Act, Lowers, numbers_from}
+use Rattle.std.proofs.Common.{◌+◌, ◌-◌, ◌≤◌, map, true}
+use Rattle.pas_trace.specs.Acts.{Lowers, numbers_from}
 use Rattle.pas_check.specs.{Checks.IsSizedAs, Checks.TakenTo, Checks.threads_in, Leading.IsWithin}
 use Rattle.pas_check.proofs.checking.lower_all.Given as goal
 
@@ -9,7 +9,6 @@ invariant-loop-index l = record {
   sized : IsSizedAs l.fn.judge l.judge;
   within : IsWithin l.text l.cursor;
   after : threads_in l.fn.judge ≤ l.index;
-  far : (more : List Act)
-      → TakenTo l.text l.fn.judge l.fn.cursor l.judge l.cursor (map Lowers (numbers_from (threads_in l.fn.judge + 1) l.keepers) ++ more)
-      (map Lowers (numbers_from (l.index + 1) (threads_in l.fn.judge + l.keepers - l.index)) ++ more) true;
+  far : TakenTo l.text l.fn.judge l.fn.cursor l.judge l.cursor (map Lowers (numbers_from (threads_in l.fn.judge + 1) l.keepers))
+      (map Lowers (numbers_from (l.index + 1) (threads_in l.fn.judge + l.keepers - l.index))) true;
 }

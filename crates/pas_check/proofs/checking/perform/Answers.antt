@@ -3,32 +3,23 @@ use Rattle.pas_bits.specs.Masks.{is_set}
 use Rattle.pas_trace.specs.Acts.{threads_where}
 use Rattle.pas_trace.specs.declared.plan.{Chore.Chore, Work.Work}
 use Rattle.pas_check.specs.Checks.{threads_in}
-use Rattle.pas_check.proofs.{Chains.act_taken, Chains.pass_taken, Phases.chore_taken, Phases.operation_taken}
+use Rattle.pas_check.proofs.Chains.{act_taken, pass_taken, chore_taken, operation_taken}
 use Rattle.pas_check.proofs.checking.perform.Goals as goal
 
 pub returns-in-Own-clause-taken : goal.returns-in-Own-clause-taken
-returns-in-Own-clause-taken c =
-    operation_taken c.args.text.now c.args.judge.now c.operate.new.judge c.args.cursor.now c.operate.new.cursor
-    (threads_where (λ k. not (is_set c.args.awake k)) (threads_in c.args.judge.now)) c.args.op _
-    c.operate.result (sym c.work.ensures ∙ c.in-Own.is) c.operate.ensures.within c.operate.ensures.taken
+returns-in-Own-clause-taken c = operation_taken (threads_where (λ k. not (is_set c.args.awake k)) (threads_in c.args.judge.now)) c.args.op _
+    (sym c.work.ensures ∙ c.in-Own.is) c.operate.ensures.within c.operate.ensures.taken
 
 pub returns-in-Chore-Tick-clause-taken : goal.returns-in-Chore-Tick-clause-taken
-returns-in-Chore-Tick-clause-taken c =
-    let idle = threads_where (λ k. not (is_set c.args.awake k)) (threads_in c.args.judge.now) in
-    let is = sym c.work.ensures ∙ c.in-Chore-Tick.is ∙ ap Work.Chore (c.in-Chore-Tick.field-0-is ∙ ap (λ (n : ℕ). Chore.Tick n) (sym c.in-Chore-Tick.epoch-is)) in
-    chore_taken c.args.text.now c.args.judge.now c.tick.new.judge c.args.cursor.now c.tick.new.cursor idle c.args.op _ c.tick.result is
-    (act_taken c.args.text.now c.args.judge.now c.tick.new.judge c.args.cursor.now c.tick.new.cursor _ c.tick.result c.tick.ensures.taken)
+returns-in-Chore-Tick-clause-taken c = chore_taken (threads_where (λ k. not (is_set c.args.awake k)) (threads_in c.args.judge.now)) c.args.op _
+    (sym c.work.ensures ∙ c.in-Chore-Tick.is ∙ ap Work.Chore (c.in-Chore-Tick.field-0-is ∙ ap (λ (n : ℕ). Chore.Tick n) (sym c.in-Chore-Tick.epoch-is)))
+    (act_taken c.tick.ensures.taken)
 
 pub returns-in-Chore-Pass-clause-taken : goal.returns-in-Chore-Pass-clause-taken
-returns-in-Chore-Pass-clause-taken c =
-    let idle = threads_where (λ k. not (is_set c.args.awake k)) (threads_in c.args.judge.now) in
-    chore_taken c.args.text.now c.args.judge.now c.pass.new.judge c.args.cursor.now c.pass.new.cursor idle c.args.op Chore.Pass c.pass.result
-    (sym c.work.ensures ∙ c.in-Chore-Pass.is ∙ ap Work.Chore c.in-Chore-Pass.field-0-is)
-    (pass_taken c.args.text.now c.args.judge.now c.pass.new.judge c.args.cursor.now c.pass.new.cursor c.pass.result c.pass.ensures.taken)
+returns-in-Chore-Pass-clause-taken c = chore_taken (threads_where (λ k. not (is_set c.args.awake k)) (threads_in c.args.judge.now)) c.args.op Chore.Pass
+    (sym c.work.ensures ∙ c.in-Chore-Pass.is ∙ ap Work.Chore c.in-Chore-Pass.field-0-is) (pass_taken c.pass.ensures.taken)
 
 pub returns-in-Chore-Idle-clause-taken : goal.returns-in-Chore-Idle-clause-taken
-returns-in-Chore-Idle-clause-taken c =
-    let idle = threads_where (λ k. not (is_set c.args.awake k)) (threads_in c.args.judge.now) in
-    let is = sym c.work.ensures ∙ c.in-Chore-Idle.is ∙ ap Work.Chore (c.in-Chore-Idle.field-0-is ∙ ap (λ (n : ℕ). Chore.Idle n) (sym c.in-Chore-Idle.epochs-is)) in
-    chore_taken c.args.text.now c.args.judge.now c.stop_all_idle.new.judge c.args.cursor.now c.stop_all_idle.new.cursor idle c.args.op _
-    c.stop_all_idle.result is c.stop_all_idle.ensures.taken
+returns-in-Chore-Idle-clause-taken c = chore_taken (threads_where (λ k. not (is_set c.args.awake k)) (threads_in c.args.judge.now)) c.args.op _
+    (sym c.work.ensures ∙ c.in-Chore-Idle.is ∙ ap Work.Chore (c.in-Chore-Idle.field-0-is ∙ ap (λ (n : ℕ). Chore.Idle n) (sym c.in-Chore-Idle.epochs-is)))
+    c.stop_all_idle.ensures.taken

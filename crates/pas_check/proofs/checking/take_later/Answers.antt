@@ -1,24 +1,17 @@
-use Rattle.std.proofs.Common.{◌≡◌, ◌+◌, ◌++◌, ◌∷◌, [], List, true, false, drop, get_or, map, ap, subst, sym, ◌∙◌, drop_of_length-le, arith}
+use Rattle.std.proofs.Common.{◌≡◌, ◌+◌, List, get_or, ap, subst, sym, ◌∙◌, drop_of_length-le, arith}
 use Rattle.pas_profile.specs.Profiles.{IsValid}
 use Rattle.pas_profile.specs.declared.profile.Profile.{Profile}
 use Rattle.pas_machine.specs.Machines.{profile_of}
-use Rattle.pas_trace.specs.{Acts.MarksPhase, Acts.acts_from, Acts.phase_acts, Plans.ops_of}
+use Rattle.pas_trace.specs.Plans.{ops_of}
 use Rattle.pas_trace.specs.declared.plan.Op.{Op}
 use Rattle.pas_check.specs.{Checks.ArePlanned, Checks.threads_in, Tables.names_held}
-use Rattle.pas_check.proofs.Chains.{act_taken, sized_as_before, sized_on, taken_as, then_taken}
-use Rattle.pas_check.proofs.Phases.{phase_at, phase_done, phases_there, planned_as}
+use Rattle.pas_check.proofs.Chains.{act_taken, sized_as_before, sized_on, stopped, then_taken, phase_at, phase_done, phases_there, planned_as}
 use Rattle.pas_check.proofs.checking.take_later.Goals as goal
 
 pub returns-then-not-mark_phase-clause-taken : goal.returns-then-not-mark_phase-clause-taken
 returns-then-not-mark_phase-clause-taken c keepers =
-    let n = threads_in c.args.judge.now in
-    let d = c.phase-item.result in
-    let i = c.loop-phase.phase-index in
-    let number = c.loop-phase.number + 1 in
-    then_taken c.args.text.now c.args.judge.now c.loop-phase.judge c.loop-phase.judge c.args.cursor.now c.loop-phase.cursor c.mark_phase.new.cursor _ _ (MarksPhase number ∷ [])
-    (phase_acts n (ops_of (get_or c.args.phases.now i d)) ++ acts_from n keepers (number + 1) (map ops_of (drop (i + 1) c.args.phases.now))) false
-    (phase_at n keepers number c.args.phases.now i d c.loop-phase-test.true) (c.loop-phase.invariant.far keepers)
-    (act_taken c.args.text.now c.loop-phase.judge c.loop-phase.judge c.loop-phase.cursor c.mark_phase.new.cursor (MarksPhase number) false c.if-not-mark_phase.ensures.taken)
+    stopped (then_taken _ (phase_at (threads_in c.args.judge.now) keepers (c.loop-phase.number + 1) c.args.phases.now c.loop-phase.phase-index c.phase-item.result c.loop-phase-test.true)
+    (c.loop-phase.invariant.far keepers) (act_taken c.if-not-mark_phase.ensures.taken))
 
 pub take_phase-requires-clause-valid : goal.take_phase-requires-clause-valid
 take_phase-requires-clause-valid c = subst IsValid (sym c.loop-phase.invariant.sized.profile) c.requires.valid
@@ -37,34 +30,24 @@ take_phase-requires-clause-planned c =
 
 pub returns-then-not-take_phase-clause-taken : goal.returns-then-not-take_phase-clause-taken
 returns-then-not-take_phase-clause-taken c keepers =
-    let n = threads_in c.args.judge.now in
-    let d = c.phase-item.result in
-    let i = c.loop-phase.phase-index in
-    let number = c.loop-phase.number + 1 in
-    phase_done c.args.text.now c.args.judge.now c.loop-phase.judge c.take_phase.new.judge c.args.cursor.now c.loop-phase.cursor c.mark_phase.new.cursor c.take_phase.new.cursor number
-    c.as_slice.result.now (ops_of (get_or c.args.phases.now i d)) _ _ (acts_from n keepers (number + 1) (map ops_of (drop (i + 1) c.args.phases.now))) false
-    (ap (λ (f : Profile). f.threads) c.loop-phase.invariant.sized.profile) (c.as_slice.ensures ∙ ap ops_of c.phase-item.is)
-    (phase_at n keepers number c.args.phases.now i d c.loop-phase-test.true) (c.loop-phase.invariant.far keepers) c.if-not-mark_phase.ensures.taken
-    c.if-not-take_phase.ensures.taken
+    stopped (phase_done _ (ap (λ (f : Profile). f.threads) c.loop-phase.invariant.sized.profile) (c.as_slice.ensures ∙ ap ops_of c.phase-item.is)
+    (phase_at (threads_in c.args.judge.now) keepers (c.loop-phase.number + 1) c.args.phases.now c.loop-phase.phase-index c.phase-item.result c.loop-phase-test.true)
+    (c.loop-phase.invariant.far keepers) c.if-not-mark_phase.ensures.taken c.if-not-take_phase.ensures.taken)
 
 pub loop-phase-preserved : goal.loop-phase-preserved
 loop-phase-preserved c =
     let old = c.args.judge.now in
-    let n = threads_in old in
     let d = c.phase-item.result in
     let i = c.loop-phase.phase-index in
-    let number = c.loop-phase.number + 1 in
     record {
       sized = sized_on c.loop-phase.invariant.sized c.if-not-take_phase.ensures.sized;
       within = c.if-not-take_phase.ensures.within;
       count = (omega (arith, c.loop-phase.invariant.count));
       planned = (phases_there (profile_of old.machine) (names_held old.names) c.args.phases.now i d c.loop-phase-test.true c.loop-phase.invariant.planned).1;
-      far = λ keepers. phase_done c.args.text.now old c.loop-phase.judge c.take_phase.new.judge c.args.cursor.now c.loop-phase.cursor c.mark_phase.new.cursor c.take_phase.new.cursor number
-          c.as_slice.result.now (ops_of (get_or c.args.phases.now i d)) _ _ (acts_from n keepers (number + 1) (map ops_of (drop (i + 1) c.args.phases.now))) true
-          (ap (λ (f : Profile). f.threads) c.loop-phase.invariant.sized.profile) (c.as_slice.ensures ∙ ap ops_of c.phase-item.is)
-          (phase_at n keepers number c.args.phases.now i d c.loop-phase-test.true) (c.loop-phase.invariant.far keepers) c.if-not-mark_phase.ensures.taken
-          c.if-not-take_phase.ensures.taken;
+      far = λ keepers. phase_done _ (ap (λ (f : Profile). f.threads) c.loop-phase.invariant.sized.profile) (c.as_slice.ensures ∙ ap ops_of c.phase-item.is)
+          (phase_at (threads_in old) keepers (c.loop-phase.number + 1) c.args.phases.now i d c.loop-phase-test.true) (c.loop-phase.invariant.far keepers)
+          c.if-not-mark_phase.ensures.taken c.if-not-take_phase.ensures.taken;
     }
 
 pub returns-clause-taken : goal.returns-clause-taken
-returns-clause-taken c keepers = search (arith, taken_as, drop_of_length-le)
+returns-clause-taken c keepers = rw (drop_of_length-le c.args.phases.now c.loop-phase-test.false) at (c.loop-phase.invariant.far keepers)

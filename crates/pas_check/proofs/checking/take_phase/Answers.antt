@@ -1,11 +1,9 @@
 use Rattle.std.proofs.Common.{ap}
 use Rattle.pas_profile.specs.declared.profile.Profile.{Profile}
-use Rattle.pas_check.proofs.Phases.{phase_taken}
+use Rattle.pas_check.proofs.Chains.{phase_taken}
 use Rattle.pas_check.proofs.checking.take_phase.Goals as goal
 
 pub returns-clause-taken : goal.returns-clause-taken
 returns-clause-taken c =
-    phase_taken c.args.text.now c.args.judge.now c.wake_all.new.judge c.perform_all.new.judge c.args.cursor.now c.perform_all.new.cursor c.args.ops.now
-    c.active-awake.result c.active-awake.ensures
-    (ap (λ (f : Profile). f.threads) c.wake_all.ensures.sized.profile) c.perform_all.result
+    phase_taken c.args.ops.now c.active-awake.result c.active-awake.ensures (ap (λ (f : Profile). f.threads) c.wake_all.ensures.sized.profile)
     (c.wake_all.ensures.taken c.args.text.now c.args.cursor.now c.requires.within) c.perform_all.ensures.taken

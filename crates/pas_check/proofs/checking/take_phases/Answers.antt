@@ -1,10 +1,10 @@
 use Rattle.std.proofs.Common.{◌<◌, List, drop, length, map, ap, subst, sym, ◌∙◌, arith}
 use Rattle.pas_profile.specs.declared.profile.Profile.{Profile}
 use Rattle.pas_machine.specs.Machines.{profile_of}
-use Rattle.pas_trace.specs.{Acts.acts_from, Acts.close_acts, EveryPlan.all_ops, Plans.ops_of}
+use Rattle.pas_trace.specs.{EveryPlan.all_ops, Plans.ops_of}
 use Rattle.pas_trace.specs.declared.plan.{Op.Op, Phase.Phase}
-use Rattle.pas_check.specs.{Checks.ArePlanned, Checks.TakenTo, Checks.threads_in, Tables.names_held}
-use Rattle.pas_check.proofs.Phases.{first_amiss, first_on, phases_there, planned_as, phases_behind_first}
+use Rattle.pas_check.specs.{Checks.ArePlanned, Tables.names_held}
+use Rattle.pas_check.proofs.Chains.{first_amiss, first_on, phases_there, planned_as, phases_behind_first}
 use Rattle.pas_check.proofs.checking.take_phases.Goals as goal
 
 pub take_phase-requires-clause-planned : goal.take_phase-requires-clause-planned
@@ -27,19 +27,11 @@ take_later-requires-clause-planned c =
 
 pub returns-clause-taken : goal.returns-clause-taken
 returns-clause-taken c keepers =
-    let mid = c.take_phase.new.judge in
-    let new = c.take_later.new.judge in
-    let at = c.take_phase.new.cursor in
-    let to = c.take_later.new.cursor in
-    let some : 0 < length c.args.phases.now = omega arith in
-    first_on keepers c.args.text.now c.args.judge.now c.args.cursor.now c.args.phases.now c.index-phases-0.result c.as_slice.result.now some
-    (c.as_slice.ensures ∙ ap ops_of c.index-phases-0.is)
-    mid new at to c.take_later.result (ap (λ (f : Profile). f.threads) c.if-not-take_phase.ensures.sized.profile) c.if-not-take_phase.ensures.taken
+    first_on keepers c.args.phases.now c.index-phases-0.result (omega arith) (c.as_slice.ensures ∙ ap ops_of c.index-phases-0.is)
+    (ap (λ (f : Profile). f.threads) c.if-not-take_phase.ensures.sized.profile) c.if-not-take_phase.ensures.taken
     (rw (phases_behind_first c.args.phases.now) at (c.take_later.ensures.taken keepers))
 
 pub returns-then-not-take_phase-clause-taken : goal.returns-then-not-take_phase-clause-taken
 returns-then-not-take_phase-clause-taken c keepers =
-    let some : 0 < length c.args.phases.now = omega arith in
-    first_amiss keepers c.args.text.now c.args.judge.now c.args.cursor.now c.args.phases.now c.index-phases-0.result c.as_slice.result.now some
-    (c.as_slice.ensures ∙ ap ops_of c.index-phases-0.is)
-    c.take_phase.new.judge c.take_phase.new.cursor c.if-not-take_phase.ensures.taken
+    first_amiss keepers c.args.phases.now c.index-phases-0.result (omega arith) (c.as_slice.ensures ∙ ap ops_of c.index-phases-0.is)
+    c.if-not-take_phase.ensures.taken

@@ -1,26 +1,17 @@
 use Rattle.std.proofs.Common.{◌^◌, ◌<◌, refl, ◌∙◌, arith}
-use Rattle.pas_check.specs.Leading.{lines_from}
-use Rattle.pas_check.proofs.Passes.{outcomes_begin, outcomes_lack, outcomes_more, outcomes_over}
+use Rattle.pas_check.proofs.Stretches.{outcomes_begin, outcomes_lack, outcomes_more, outcomes_over}
 use Rattle.pas_check.proofs.examining.take_outcomes.Goals as goal
 
 pub lines-init : goal.lines-init
-lines-init c = record {
-  profile = refl;
-  within = c.requires.within;
-  goes = outcomes_begin c.args.machine.now c.args.text.now c.args.cursor.now c.args.epoch c.requires.within;
-}
+lines-init c = record { profile = refl; within = c.requires.within; goes = outcomes_begin c.requires.within }
 
 pub returns-in_default-clause-taken : goal.returns-in_default-clause-taken
-returns-in_default-clause-taken c =
-    outcomes_lack c.args.machine.now c.args.text.now c.args.cursor.now c.args.epoch c.lines.machine c.lines.cursor c.lines.last c.lines.invariant.goes
-    c.lines.invariant.within c.in_default.ensures.none
+returns-in_default-clause-taken c = outcomes_lack c.lines.invariant.goes c.lines.invariant.within c.in_default.ensures.none
 
 pub returns-in-None-clause-taken : goal.returns-in-None-clause-taken
 returns-in-None-clause-taken c =
     let low : c.lines.cursor.lines < 2 ^ 32 = (omega (arith, c.lines.invariant.within.lines, c.lines.invariant.within.bytes, c.requires.within.short)) in
-    outcomes_over c.args.machine.now c.args.text.now c.args.cursor.now c.args.epoch c.lines.machine c.lines.cursor c.lines.last c.lines.invariant.goes
-    c.in-Some.line.now (lines_from c.args.text.now c.next_line.new.cursor)
-    c.requires.valid c.lines.invariant.profile low c.in-Some.ensures.some c.take_outcome.new.machine c.in-None.ensures.taken
+    outcomes_over c.lines.invariant.goes c.requires.valid c.lines.invariant.profile low c.in-Some.ensures.some c.take_outcome.new.machine c.in-None.ensures.taken
     c.lines.invariant.within
 
 pub lines-preserved : goal.lines-preserved
@@ -29,9 +20,6 @@ lines-preserved c =
     record {
       profile = c.in-Some-take_outcome.ensures.profile ∙ c.lines.invariant.profile;
       within = c.in-Some.ensures.within;
-      goes = outcomes_more c.args.machine.now c.args.text.now c.args.cursor.now c.args.epoch c.lines.machine c.lines.cursor c.lines.last c.lines.invariant.goes
-          c.in-Some.line.now (lines_from c.args.text.now c.next_line.new.cursor)
-          c.requires.valid c.lines.invariant.profile low c.in-Some.ensures.some c.take_outcome.new.machine c.next_line.new.cursor c.in-Some-take_outcome.page
-          refl
-          c.next_line.ensures.count c.in-Some.ensures.within c.in-Some-take_outcome.ensures.taken;
+      goes = outcomes_more c.lines.invariant.goes c.requires.valid c.lines.invariant.profile low c.in-Some.ensures.some
+          c.take_outcome.new.machine c.next_line.new.cursor c.in-Some-take_outcome.page refl c.next_line.ensures.count c.in-Some.ensures.within c.in-Some-take_outcome.ensures.taken;
     }

@@ -4,12 +4,9 @@ use Rattle.pas_check.proofs.Guardings.{swept_amiss, swept_on}
 use Rattle.pas_check.proofs.guarding.sweep.Goals as goal
 
 pub returns-then-not-take_lowered-clause-taken : goal.returns-then-not-take_lowered-clause-taken
-returns-then-not-take_lowered-clause-taken c = λ f.
-    swept_amiss f c.args.text.now c.args.judge.now c.args.cursor.now c.take_lowered.new.cursor c.args.keeper c.args.all c.args.judge.now
-    (rw c.deref.ensures.value at c.if-not-take_lowered.ensures.taken)
+returns-then-not-take_lowered-clause-taken c = λ f. swept_amiss (rw c.deref.ensures.value at c.if-not-take_lowered.ensures.taken)
 
 pub returns-clause-taken : goal.returns-clause-taken
 returns-clause-taken c = λ f.
-    swept_on f c.args.text.now c.args.judge.now c.args.cursor.now c.take_lowered.new.cursor c.args.keeper c.args.all c.retain.new.self
-    (rw c.deref.ensures.value at c.if-not-take_lowered.ensures.taken)
+    swept_on (rw c.deref.ensures.value at c.if-not-take_lowered.ensures.taken)
     (λ es stands. filter_same _ _ _ (λ guard b g called. search (rules, stands)) _ _ c.retain.ensures.filtered)

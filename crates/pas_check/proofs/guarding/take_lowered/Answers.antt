@@ -1,45 +1,33 @@
-use Rattle.std.proofs.Common.{◌+◌, drop, drop_of_length-le}
+use Rattle.std.proofs.Common.{drop_of_length-le}
 use Rattle.std.proofs.lemmas.List.{drop_more}
 use Rattle.pas_check.specs.declared.guard.Guard.{Guard}
-use Rattle.pas_check.proofs.Guardings.{sweep_amiss, sweep_begins, sweep_lowers, sweep_stays}
+use Rattle.pas_check.proofs.{Guardings.sweep_begins, Guardings.sweep_lowers, Guardings.sweep_stays}
+use Rattle.pas_check.proofs.{guarding.take_lowered.Goals.else-goes_down-via-then-goes_down+else-not-take_record}
+use Rattle.pas_check.proofs.{guarding.take_lowered.Goals.else-goes_down-via-else-goes_down}
 use Rattle.pas_check.proofs.guarding.take_lowered.Goals as goal
-use Rattle.pas_check.proofs.guarding.take_lowered.Goals.{else-goes_down-via-then-goes_down+else-not-take_record, else-goes_down-via-else-goes_down}
 
 abbrev nobody : Guard
 nobody = record { keeper = 0; low = 0; high = 0; name = record { address = record { 0 = 0 }; turn = 0 } }
 
 pub loop-guard-init : goal.loop-guard-init
-loop-guard-init c = record {
-  within = c.requires.within;
-  goes = sweep_begins c.args.machine.now c.args.text.now c.args.cursor.now c.args.guards.now c.args.keeper c.args.all c.requires.within;
-}
+loop-guard-init c = record { within = c.requires.within; goes = sweep_begins c.requires.within }
 
 pub returns-then-not-take_record-clause-taken : goal.returns-then-not-take_record-clause-taken
 returns-then-not-take_record-clause-taken c =
-    let guards = c.args.guards.now in
-    let i = c.loop-guard.guard-index in
-    sweep_amiss c.args.machine.now c.args.text.now c.args.cursor.now guards c.args.keeper c.args.all c.loop-guard.cursor c.take_record.new.cursor _
-    (drop (i + 1) guards)
-    (rw (drop_more guards i nobody c.loop-guard-test.true) at c.loop-guard.invariant.goes) c.if-goes_down.ensures
-    (rw c.lowered.ensures at c.if-not-take_record.ensures.led)
+    let before = rw (drop_more c.args.guards.now c.loop-guard.guard-index nobody c.loop-guard-test.true) at c.loop-guard.invariant.goes in
+    record { swept = (sweep_lowers before c.if-goes_down.ensures (rw c.lowered.ensures at c.if-not-take_record.ensures.led)).swept }
 
 pub loop-guard-preserved : goal.loop-guard-preserved
 loop-guard-preserved c =
-    let guards = c.args.guards.now in
-    let i = c.loop-guard.guard-index in
-    let before = rw (drop_more guards i nobody c.loop-guard-test.true) at c.loop-guard.invariant.goes in
+    let before = rw (drop_more c.args.guards.now c.loop-guard.guard-index nobody c.loop-guard-test.true) at c.loop-guard.invariant.goes in
     elim c.else-goes_down.branch [
       | else-goes_down-via-then-goes_down+else-not-take_record w ↦ rw w.cursor-is record {
         within = w.if-not-take_record.ensures.within;
-        goes = sweep_lowers c.args.machine.now c.args.text.now c.args.cursor.now guards c.args.keeper c.args.all c.loop-guard.cursor w.take_record.new.cursor
-            _ (drop (i + 1) guards)
-            before w.if-goes_down.ensures (rw w.lowered.ensures at w.if-not-take_record.ensures.led);
+        goes = sweep_lowers before w.if-goes_down.ensures (rw w.lowered.ensures at w.if-not-take_record.ensures.led);
       }
       | else-goes_down-via-else-goes_down w ↦ rw w.cursor-is record {
         within = c.loop-guard.invariant.within;
-        goes = sweep_stays c.args.machine.now c.args.text.now c.args.cursor.now guards c.args.keeper c.args.all c.loop-guard.cursor c.loop-guard.cursor _
-            (drop (i + 1) guards)
-            before w.if-goes_down.ensures;
+        goes = sweep_stays before w.if-goes_down.ensures;
       }
     ]
 

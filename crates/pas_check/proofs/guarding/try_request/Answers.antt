@@ -11,11 +11,7 @@ take_tried-requires-clause-named c = omega (arith, c.if-not-sweep.ensures.sized.
 
 pub returns-clause-taken : goal.returns-clause-taken
 returns-clause-taken c = λ f act r asks wants.
-    tried f c.args.text.now c.args.judge.now c.args.cursor.now c.args.k c.args.keeper c.requires.within act r asks c.sweep.new.judge c.take_tried.new.judge
-    c.sweep.new.cursor c.take_tried.new.cursor (c.if-not-sweep.ensures.taken f) c.take_tried.result
-    (λ s stands due. c.take_tried.ensures.taken f s r stands wants due)
+    tried c.args.keeper c.args.k r c.requires.within asks (c.if-not-sweep.ensures.taken f) (λ s stands due. c.take_tried.ensures.taken f s r stands wants due)
 
 pub returns-then-not-sweep-clause-taken : goal.returns-then-not-sweep-clause-taken
-returns-then-not-sweep-clause-taken c = λ f act r asks wants.
-    tried_amiss f c.args.text.now c.args.judge.now c.args.cursor.now c.args.k c.args.keeper c.requires.within act r asks c.sweep.new.judge c.sweep.new.cursor
-    (c.if-not-sweep.ensures.taken f)
+returns-then-not-sweep-clause-taken c = λ f act r asks wants. tried_amiss c.args.keeper c.args.k r c.requires.within asks (c.if-not-sweep.ensures.taken f)

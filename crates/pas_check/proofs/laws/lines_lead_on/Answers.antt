@@ -1,4 +1,4 @@
-use Rattle.pas_check.proofs.{OneNext.one_next, Nexts.one_takes}
+use Rattle.pas_check.proofs.OneNext.{one_next, one_takes}
 use Rattle.pas_check.proofs.laws.lines_lead_on.Goals as goal
 
 pub returns-clause-due : goal.returns-clause-due

@@ -1,6 +1,6 @@
 use Rattle.std.proofs.Common.{arith}
 use Rattle.std.proofs.lemmas.List.{drop_more}
-use Rattle.pas_check.proofs.Digits.{too_large}
+use Rattle.pas_check.proofs.Readings.{too_large}
 use Rattle.pas_check.proofs.numbers.number.Goals as goal
 
 pub returns-then-value-digit : goal.returns-then-value-digit

@@ -1,6 +1,6 @@
 use Rattle.std.proofs.Common.{ap, arith}
 use Rattle.pas_profile.specs.declared.profile.Profile.{Profile}
-use Rattle.pas_check.proofs.WithoutDeeds.{given_more}
+use Rattle.pas_check.proofs.Pages.{given_more}
 use Rattle.pas_check.proofs.reporting.count_given.Goals as goal
 
 pub overflow_add-given : goal.overflow_add-given

@@ -1,5 +1,5 @@
 use Rattle.std.proofs.Common.{arith}
-use Rattle.pas_check.proofs.WithoutDeeds.{live_more}
+use Rattle.pas_check.proofs.Pages.{live_more}
 use Rattle.pas_check.proofs.reporting.count_live.Goals as goal
 
 pub loop-before-preserved : goal.loop-before-preserved

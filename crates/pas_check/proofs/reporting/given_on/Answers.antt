@@ -1,7 +1,7 @@
 use Rattle.std.proofs.Common.{◌+◌, ◌*◌, ◌∙◌, arith}
 use Rattle.pas_machine.specs.State.{gives_in}
 use Rattle.pas_report.proofs.Counting.{sum_more}
-use Rattle.pas_check.proofs.{Kept.gives_few, WithoutDeeds.given_counted}
+use Rattle.pas_check.proofs.{Leads.gives_few, Pages.given_counted}
 use Rattle.pas_check.proofs.reporting.given_on.Goals as goal
 
 pub overflow_add-given : goal.overflow_add-given

@@ -1,6 +1,6 @@
 use Rattle.std.proofs.Common.{sym}
 use Rattle.pas_machine.specs.Machines.{profile_of}
-use Rattle.pas_check.proofs.WithoutDeeds.{none_given}
+use Rattle.pas_check.proofs.Pages.{none_given}
 use Rattle.pas_check.proofs.reporting.given_there.Goals as goal
 
 pub returns-in-None-clause-given : goal.returns-in-None-clause-given

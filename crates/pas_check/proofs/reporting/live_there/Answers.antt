@@ -1,6 +1,6 @@
 use Rattle.std.proofs.Common.{sym}
 use Rattle.pas_machine.specs.Machines.{profile_of}
-use Rattle.pas_check.proofs.WithoutDeeds.{none_live}
+use Rattle.pas_check.proofs.Pages.{none_live}
 use Rattle.pas_check.proofs.reporting.live_there.Goals as goal
 
 pub returns-in-None : goal.returns-in-None

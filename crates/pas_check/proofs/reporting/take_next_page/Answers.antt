@@ -1,5 +1,5 @@
 use Rattle.std.proofs.Common.{sym}
-use Rattle.pas_check.proofs.Reportings.{no_page_led, page_is_due}
+use Rattle.pas_check.proofs.Pages.{no_page_led, page_is_due}
 use Rattle.pas_check.proofs.reporting.take_next_page.Goals as goal
 
 pub returns-in-None-clause-led : goal.returns-in-None-clause-led

@@ -2,7 +2,7 @@
 use Rattle.std.proofs.Common.{◌≡◌, ◌+◌, ◌-◌, ◌++◌, List}
 use Rattle.pas_machine.specs.Machines.{profile_of, StandsFor}
 use Rattle.pas_check.specs.{Begins.pages_due, Leading.IsWithin, Leading.Leads, States.Due, States.Stand, States.with_due}
-use Rattle.pas_check.proofs.Reportings.{pages_from}
+use Rattle.pas_check.proofs.Pages.{pages_from}
 use Rattle.pas_check.proofs.reporting.take_pages.Given as goal
 
 abbrev pub invariant-loop-page : goal.invariant-loop-page

@@ -1,5 +1,5 @@
 use Rattle.std.proofs.Common.{arith}
-use Rattle.pas_check.proofs.Reportings.{given_is}
+use Rattle.pas_check.proofs.Pages.{given_is}
 use Rattle.pas_check.proofs.reporting.total.Goals as goal
 
 pub overflow_sub-result : goal.overflow_sub-result

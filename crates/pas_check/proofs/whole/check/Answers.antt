@@ -5,7 +5,7 @@ use Rattle.pas_trace.specs.Acts.{keepers_of}
 use Rattle.pas_trace.specs.declared.plan.Phase.{Phase}
 use Rattle.pas_trace.proofs.{EveryPlan.every_plan, Keepers.keepers_few}
 use Rattle.pas_check.specs.{Begins.report_due, Checks.IsSoFar, States.at_first}
-use Rattle.pas_check.proofs.Wholes.{acts_amiss, acts_on, ended_well, goes_on, known, opening_within, plan_few, planned_there, report_amiss, reported}
+use Rattle.pas_check.proofs.Chains.{acts_amiss, acts_on, ended_well, goes_on, known, opening_within, plan_few, planned_there, report_amiss, reported}
 use Rattle.pas_check.proofs.whole.check.Goals as goal
 use Rattle.pas_check.proofs.whole.check.Goals.{Else-not-take_acts}
 
@@ -19,24 +19,19 @@ take_acts-requires-clause-few c =
     omega (arith, few, same)
 
 pub take_acts-requires-clause-planned : goal.take_acts-requires-clause-planned
-take_acts-requires-clause-planned c = planned_there c.requires.plan.0 c.args.plan.now c.in-Ok.judge c.as_slice-phases.result.now c.requires.plan.2
-    c.in-Ok.ensures c.as_slice-phases.ensures
+take_acts-requires-clause-planned c = planned_there c.requires.plan.2 c.in-Ok.ensures c.as_slice-phases.ensures
 
 pub returns-then-not-take_acts : goal.returns-then-not-take_acts
 returns-then-not-take_acts c =
-    acts_amiss c.requires.plan.0 c.args.plan.now c.args.transcript.now c.in-Ok.judge c.take_acts.new.judge c.take_acts.new.cursor c.requires.plan.2 c.requires.plan.1 c.in-Ok.ensures
-    (opening_within c.args.transcript.now c.requires.short) c.first-cursor.result c.as_slice-phases.result.now c.keeper_count-keepers.result
-    c.first-cursor.ensures c.as_slice-phases.ensures c.keeper_count-keepers.ensures
-    c.if-not-take_acts.ensures.taken c.if-judge.false
+    acts_amiss c.requires.plan.2 c.requires.plan.1 c.in-Ok.ensures (opening_within c.args.transcript.now c.requires.short)
+    c.first-cursor.ensures c.as_slice-phases.ensures c.keeper_count-keepers.ensures c.if-not-take_acts.ensures.taken c.if-judge.false
 
 -- after the acts
 so_far : (c : Else-not-take_acts) → IsSoFar c.args.plan.now.profile c.args.transcript.now (at_first c.args.plan.now) c.take_acts.new.judge
     c.take_acts.new.cursor []
 so_far c =
-    acts_on c.requires.plan.0 c.args.plan.now c.args.transcript.now c.in-Ok.judge c.take_acts.new.judge c.take_acts.new.cursor c.requires.plan.2 c.requires.plan.1 c.in-Ok.ensures
-    (opening_within c.args.transcript.now c.requires.short) c.first-cursor.result c.as_slice-phases.result.now c.keeper_count-keepers.result
-    c.first-cursor.ensures c.as_slice-phases.ensures c.keeper_count-keepers.ensures
-    c.if-not-take_acts.ensures.taken
+    acts_on c.requires.plan.2 c.requires.plan.1 c.in-Ok.ensures (opening_within c.args.transcript.now c.requires.short)
+    c.first-cursor.ensures c.as_slice-phases.ensures c.keeper_count-keepers.ensures c.if-not-take_acts.ensures.taken
 
 -- its report
 reports : (c : Else-not-take_acts) → report_due (profile_of c.take_acts.new.judge.machine) (so_far c).stand.events ≡ report_due c.args.plan.now.profile
@@ -48,31 +43,25 @@ take_report-requires-clause-known c =
     let d = (goal.at.take_report-requires-clause-known c).Else-not-take_acts in
     let within = c.if-not-take_acts.ensures.within in
     let low : c.take_acts.new.cursor.lines ≤ 2 ^ 24 = (omega (arith, within.lines, within.bytes, c.requires.short)) in
-    known c.args.plan.now c.args.transcript.now c.take_acts.new.judge c.take_acts.new.cursor (so_far d) low
+    known c.args.plan.now (so_far d) low
 
 pub returns-then-not-take_report : goal.returns-then-not-take_report
 returns-then-not-take_report c =
     let d = (goal.at.returns-then-not-take_report c).Else-not-take_acts in
     let so = so_far d in
-    let s = reported c.args.plan.now c.args.transcript.now c.take_acts.new.judge c.take_acts.new.cursor so in
-    report_amiss c.args.plan.now c.args.transcript.now c.take_acts.new.judge c.take_acts.new.cursor so c.take_report.new.cursor (profile_of c.take_acts.new.judge.machine) so.stands.profile
-    (c.if-not-take_report.ensures.led s so.stands.events (sym (reports d)))
+    report_amiss c.args.plan.now so c.take_report.new.cursor so.stands.profile (c.if-not-take_report.ensures.led (reported c.args.plan.now so) so.stands.events (sym (reports d)))
 
 pub returns-in-None : goal.returns-in-None
 returns-in-None c =
     let d = (goal.at.returns-in-None c).Else-not-take_acts in
     let so = so_far d in
-    let s = reported c.args.plan.now c.args.transcript.now c.take_acts.new.judge c.take_acts.new.cursor so in
-    ended_well c.args.plan.now c.args.transcript.now c.take_acts.new.judge c.take_acts.new.cursor so c.take_report.new.cursor (profile_of c.take_acts.new.judge.machine) so.stands.profile
-    (c.if-not-take_report.ensures.led s so.stands.events (sym (reports d))) c.in-None.ensures.none
+    ended_well c.args.plan.now so c.take_report.new.cursor so.stands.profile (c.if-not-take_report.ensures.led (reported c.args.plan.now so) so.stands.events (sym (reports d))) c.in-None.ensures.none
 
 pub returns : goal.returns
 returns c =
     let d = (goal.at.returns c).Else-not-take_acts in
     let so = so_far d in
-    let s = reported c.args.plan.now c.args.transcript.now c.take_acts.new.judge c.take_acts.new.cursor so in
-    goes_on c.args.plan.now c.args.transcript.now c.take_acts.new.judge c.take_acts.new.cursor so c.take_report.new.cursor (profile_of c.take_acts.new.judge.machine) so.stands.profile
-    (c.if-not-take_report.ensures.led s so.stands.events (sym (reports d))) _ c.next_line.new.cursor c.in-Some.ensures.some c.next_line.ensures.count
+    goes_on c.args.plan.now so c.take_report.new.cursor so.stands.profile (c.if-not-take_report.ensures.led (reported c.args.plan.now so) so.stands.events (sym (reports d))) _ c.next_line.new.cursor c.in-Some.ensures.some c.next_line.ensures.count
 
 pub take_acts-requires-clause-kept : goal.take_acts-requires-clause-kept
 take_acts-requires-clause-kept c =
