@@ -1,29 +1,34 @@
--- Actors on a bench: they sit down with their passes, stand still while another one acts, and leave.
-use Rattle.std.proofs.Common.{◌≡◌, ◌≢◌, ◌==◌, ℕ, Bool, true, false, if◌then◌else◌, inl, inr, List, [], ◌∷◌, ◌++◌, length, refl, ap, sym, ◌∙◌, subst, append-nil}
-use Rattle.std.proofs.Common.{eq-eqb, ne_eqb, true≢false, ◌+◌, ◌≤◌}
-use Rattle.pas_steps.specs.{Agreement.Agreed, Calls.Calls, Calls.Leads, Events.events_of, Lists.Whole, Lists.part, Views.View, Noted.AreNotesOf}
-use Rattle.pas_steps.specs.{Noted.room_of_notes}
-use Rattle.pas_steps.specs.Desks.{Seat, Standing, triple, triples}
-use Rattle.pas_steps.specs.declared.{step.Made.Made, notes.Notes.Notes}
-use Rattle.pas_steps.proofs.Parts.{part_of_own}
-use Rattle.pas_profile.specs.declared.profile.Profile.{Profile}
+-- Actors on a bench: they sit down with their passes, stand still while another one acts, and leave; a keeper stands beside its thread.
+use Rattle.std.proofs.Common.{arith, ◌≡◌, ◌≢◌, ◌==◌, ℕ, Bool, true, false, if◌then◌else◌, inl, inr, List, [], ◌∷◌, ◌++◌, refl, ap, sym, ◌∙◌, subst, append-nil}
+use Rattle.std.proofs.Common.{eq-eqb, ne_eqb, true≢false, ◌+◌, ◌≤◌, Option, Some}
+use Rattle.pas_steps.specs.{Calls.Calls, Lists.Whole, Lists.part, Views.View, Noted.AreNotesOf, Noted.room_of_notes, Desks.Standing, Desks.triple}
+use Rattle.pas_steps.specs.{Desks.triples}
+use Rattle.pas_steps.specs.declared.step.Made.{Made}
+use Rattle.pas_steps.proofs.Parts.{part_of_own, part_of_others}
+use Rattle.pas_profile.specs.declared.{profile.Profile.Profile, name.Block.Block}
 use Rattle.pas_core.proofs.Choosing.{part_of_chosen}
-use Rattle.pas_shared.specs.Ruled.{among, made_in, SitsIn, HasRow, entries_by, rows_of, rows_of_only, isnt, only_this, all_actors, steps_of, IsRowOf, AreRowsOf}
-use Rattle.pas_shared.specs.Benches.{rows_on, first_row, row_on, made_by, seat_of_member, IsBenchOf, IsMemberOf, IsFreshRow, HasLooked, SitsInRow, MaySitOn}
-use Rattle.pas_shared.specs.Benches.{StandsOver}
+use Rattle.pas_shared.specs.Ruled.{among, made_in, HasRow, entries_by, rows_of, rows_of_only, isnt, only_this, all_actors, steps_of, IsRowOf, AreRowsOf}
+use Rattle.pas_shared.specs.Benches.{rows_on, first_row, row_on, seat_of_member, IsBenchOf, IsMemberOf, IsFreshRow, HasLooked, SitsInRow, MaySitOn, StandsOver}
+use Rattle.pas_shared.specs.Benches.{home_of, standing_on}
 use Rattle.pas_shared.specs.{Ledgers.part_of, Passes.seat_of, Passes.view_of, Passes.IsPassOf}
 use Rattle.pas_shared.specs.declared.{bench.Bench.Bench, bench.Member.Member, pass.SharedPass.SharedPass, region.SharedRegion.SharedRegion, rule.Entry.Entry}
-use Rattle.pas_shared.specs.declared.{rule.Row.Row}
+use Rattle.pas_shared.specs.declared.{rule.Row.Row, bench_desk.BenchDesk.BenchDesk}
 use Rattle.pas_shared.proofs.{Benching.among_picked, Benching.row_since, Pasts.part_both}
 use Rattle.pas_acts.specs.Works.{Sits}
-use Rattle.pas_threads.specs.Left.{IsSeated, KeepsOrder}
+use Rattle.pas_threads.specs.{Left.IsSeated, Left.KeepsOrder, Hands.standing_of_pass, Hands.HasPass, Hands.Did, Left.standing_beside, Still.stays_beside}
+use Rattle.std.proofs.lemmas.Option.{same_Some}
+use Rattle.pas_trace.specs.declared.item.Request.{Request}
+use Rattle.pas_report.specs.Rooms.{Records}
+use Rattle.pas_guard.specs.declared.book.GuardBook.{GuardBook}
+use Rattle.pas_answers.specs.{Answers.Progress, Guarding.after_trying}
+use Rattle.pas_acts.specs.Keepers.{keeper_has, KeeperAt, KeeperTries, LaterKept, StandsAt, StandsStill}
+use Rattle.pas_threads.specs.declared.keeper.Seated.{Seated}
 
 -- ---- what rows say of a list
 -- of each of its actors the list has what the row says
 pub row_part : (r : Row) (l : Whole) (k : ℕ) → IsRowOf r l → among r.actors k ≡ true → part k l ≡ made_in r k
 row_part r l k is its =
-    ap (part k) is.goes_on ∙ (part_both k is.since (steps_of r.base)
-    ∙ (ap (λ (v : View). v ++ part k (steps_of r.base)) (sym (part_of_chosen (among r.actors) k is.since its) ∙ ap (part k) is.made_is) ∙ sym (part_both k (steps_of r.made) (steps_of r.base))))
+    cc (part_both k is.since (steps_of r.base), part_of_chosen (among r.actors) k is.since its, part_both k (steps_of r.made) (steps_of r.base))
 
 -- An actor's row says of it what a list tells of which the rows are rows.
 pub rows_part : (rs : List Row) (l : Whole) (k : ℕ) (v : View) → AreRowsOf rs l → HasRow rs k v → part k l ≡ v
@@ -73,48 +78,20 @@ member_seat m = λ i. record { actor = m.actor i; profile = m.profile i; room = 
 pub sat : {region : SharedRegion} (b now : Bench) (pass : SharedPass) (member : Member) → IsPassOf region pass → IsMemberOf pass member → IsBenchOf region now
     → HasLooked (rows_on b) (rows_on now)
     → HasRow (rows_on b) pass.place.actor (view_of pass) → IsSeated region now pass member
-sat {region} b now pass member of m bench looked has =
-    let k = pass.place.actor in
-    let row_is = ap first_row looked.is in
-    let here : made_in (row_on now) k ≡ view_of pass = ap (λ (r : Row). made_in r k) row_is ∙ rows_part (rows_on b) (steps_of looked.base) k (view_of pass) looked.rows has in
-    record {
-      may = record {
-        of = bench;
-        profile = m.profile ∙ of.1;
-        one = looked.is ∙ ap (λ (r : Row). r ∷ []) (sym row_is);
-        sits = record {
-          among_them = subst (λ (j : ℕ). among (row_on now).actors j ≡ true) (sym m.actor) (ap (λ (r : Row). among r.actors k) row_is ∙ sits_among (rows_on b) k (view_of pass) has);
-          noted = subst (λ (n : Notes). AreNotesOf member.actor (made_in (row_on now) member.actor) n) (sym m.notes)
-              (subst (λ (j : ℕ). AreNotesOf j (made_in (row_on now) j) pass.notes) (sym m.actor) (subst (λ (v : View). AreNotesOf k v pass.notes) (sym here) pass.noted));
-        };
-      };
-      is = m;
-      view = ap (λ (j : ℕ). made_in (row_on now) j) m.actor ∙ here;
-    }
+sat {region} b now pass member of m bench looked has = search (arith, rows_part, sits_among)
 
 -- what is so of a desk at which an actor sits is so of another one that it has for it
 pub sits_as : {f : Profile} {k : ℕ} {Rest : View → Type 0} {σ τ : Standing} {l : Whole} {need : ℕ} → τ.seat ≡ σ.seat
     → (σ.stands (part k l) l → τ.stands (part k l) l) → Sits f k Rest σ l need → Sits f k Rest τ l need
-sits_as {k = k} {l = l} {need} seat to s = record {
-  actor = ap (λ (t : Seat). t.actor) seat ∙ s.actor;
-  profile = ap (λ (t : Seat). t.profile) seat ∙ s.profile;
-  stood = to s.stood;
-  rest = s.rest;
-  room = subst (λ (t : Seat). length (events_of k (part k l)) + need ≤ t.room) (sym seat) s.room;
-}
+-- The same actor sits there with the same profile and room, and stands there by `to`.
+sits_as {k = k} {l = l} {need} seat to s = search arith
 
 -- .. and what was done there is so of it
 pub calls_as : {σ σ' τ τ' : Standing} {Before : View → Type 0} {Change : View → View → Type 0} {steps : List Made} → τ.seat ≡ σ.seat → τ'.seat ≡ σ'.seat
     → ((v : View) (l : Whole) → τ.stands v l → σ.stands v l)
     → ((v : View) (l : Whole) → σ'.stands v l → τ'.stands v l) → Calls σ σ' Before Change steps → Calls τ τ' Before Change steps
-calls_as {σ} {σ'} {τ} {τ'} {Before} {Change} {steps} one two from to calls = record {
-  adds = record {
-    seat_is = two ∙ (calls.adds.seat_is ∙ sym one);
-    added = λ v l stood met. subst (λ (s : Seat). τ'.stands (steps ++ v) (triples s.actor steps ++ l)) (sym one) (to (steps ++ v) (triples σ.seat.actor steps ++ l) (calls.adds.added v l (from v l stood) met));
-    agreed = λ v l stood met. subst (λ (s : Seat). Agreed s.profile v steps) (sym one) (calls.adds.agreed v l (from v l stood) met);
-  };
-  leads = subst (λ (s : Seat). Leads s.profile Before Change steps) (sym one) calls.leads;
-}
+-- What the call adds is the same at the same seats, and what stood there stands there by `from` and `to`.
+calls_as {σ} {σ'} {τ} {τ'} {Before} {Change} {steps} one two from to calls = search arith
 
 -- ---- the last look
 -- all sit in one row still, in which nobody made a step since, and it says of each what it said before
@@ -144,7 +121,7 @@ left_fresh test {rs} fresh = record { actors = (first_row (rows_of_only test (re
 
 -- what is said of the others is as it was
 pub left_made : (test : ℕ → Bool) {rs : List Row} (k : ℕ) → IsFreshRow rs → made_in (first_row (rows_of_only test rs)) k ≡ made_in (first_row rs) k
-left_made test {rs} k fresh = ap (λ (qs : List Row). made_in (first_row (rows_of_only test qs)) k) fresh.is ∙ sym (ap (λ (qs : List Row). made_in (first_row qs) k) fresh.is)
+left_made test {rs} k fresh = cc
 
 -- A member of a fresh row still sits in it after another actor left.
 pub left_sits : {rs : List Row} (j : ℕ) (member : Member) → IsFreshRow rs → member.actor ≢ j → SitsInRow (first_row rs) member
@@ -173,3 +150,97 @@ keeps_order r base made told told' is grown over same = record {
   parts = λ k its. sym (same k its);
   order = is.made_is ∙ sym (row_since r made told (subst (λ (l : Whole). StandsOver r l) grown over) same);
 }
+
+-- ---- a worker sits down with its pass, and rises with it
+-- its pass is the one that it sits with
+pub seated : {region : SharedRegion} {slot : Option SharedPass} (At : Standing → Type 0) (pass : SharedPass) → slot ≡ Some pass → (has : HasPass region slot)
+    → At (standing_of_pass has.pass) → At (standing_of_pass pass)
+seated {region} {slot} At pass is has at = subst (λ (x : SharedPass). At (standing_of_pass x)) (same_Some _ _ (sym has.present ∙ is)) at
+
+-- what it did with its pass
+pub rose : {region : SharedRegion} {slot : Option SharedPass} (Does : Standing → Standing → Type 0) (pass left after : SharedPass) → slot ≡ Some pass
+    → HasPass region slot → after ≡ left → IsPassOf region after
+    → Does (standing_of_pass pass) (standing_of_pass left) → Did region slot (Some after) Does
+rose {region} {slot} Does pass left after is has same of does = record {
+  before = record { pass = pass; present = is; of = subst (λ (x : SharedPass). IsPassOf region x) (same_Some _ _ (sym has.present ∙ is)) has.of };
+  after = record { pass = after; present = refl; of = of };
+  does = subst (λ (x : SharedPass). Does (standing_of_pass pass) (standing_of_pass x)) (sym same) does;
+}
+
+-- ---- a keeper at the desk that its thread lends it, on the bench of both
+-- it stands there as it stood beside
+keeper_on : {region : SharedRegion} {b : Bench} {m : Member} {f : Profile} {k : ℕ} {book : GuardBook} {out : Records} {later : LaterKept} {p : Progress}
+    → KeeperAt f k (keeper_has (standing_beside region b m) book out) later p
+    → KeeperAt f k (keeper_has (standing_on b m) book out) later p
+keeper_on at = record { sits = sits_as refl (λ stood. (stood.1, stood.2)) at.sits; book = at.book; spare = at.spare; places = at.places }
+
+-- A keeper that stands at its own desk stands so too beside its thread, on the bench of both.
+pub keeper_beside : {region : SharedRegion} {b : Bench} {m : Member} {f : Profile} {k : ℕ} {book : GuardBook} {out : Records} {later : LaterKept} {p : Progress}
+    → MaySitOn region b m → KeeperAt f k (keeper_has (standing_on b m) book out) later p
+    → KeeperAt f k (keeper_has (standing_beside region b m) book out) later p
+keeper_beside may at = record { sits = sits_as refl (λ stood. (may, stood.0, stood.1)) at.sits; book = at.book; spare = at.spare; places = at.places }
+
+abbrev pub tries_beside : {region now : SharedRegion} {b c : Bench} {m n : Member} {f : Profile} {k : ℕ} {r : Request} {block : Option Block}
+    {book book' : GuardBook} {out out' : Records} {later : LaterKept} {p : Progress}
+    → MaySitOn now c n
+    → KeeperTries f k r block (keeper_has (standing_on b m) book out) (keeper_has (standing_on c n) book' out') later p
+    → KeeperTries f k r block (keeper_has (standing_beside region b m) book out) (keeper_has (standing_beside now c n) book' out') later p
+tries_beside may t = record {
+  tried = t.tried;
+  is = t.is;
+  short = t.short;
+  block_is = t.block_is;
+  given = t.given;
+  stands = keeper_beside may t.stands;
+  moves = record { steps = t.moves.steps; list_is = t.moves.list_is; calls = calls_as refl refl (λ v l stood. (stood.1, stood.2)) (λ v l stood. (may, stood.0, stood.1)) t.moves.calls };
+  pushed = t.pushed;
+  room = t.room;
+  size = t.size;
+  each = t.each;
+  paid = t.paid;
+}
+
+-- its thread stands still meanwhile
+thread_still : {region now : SharedRegion} {b c : Bench} {who : Member} (m n : Member) {f : Profile} {k : ℕ} {r : Request} {block : Option Block}
+    {book book' : GuardBook} {out out' : Records} {later : LaterKept} {p : Progress}
+    → (tries : KeeperTries f k r block (keeper_has (standing_on b m) book out) (keeper_has (standing_on c n) book' out') later p)
+    → home_of now (row_on c) ≡ home_of region (row_on b) → IsBenchOf now c → rows_on c ≡ row_on c ∷ []
+    → MaySitOn region b who → StandsAt (standing_on b who) p.list → who.actor ≢ k → StandsAt (standing_beside now c who) (after_trying p k tries.tried).list
+thread_still {region} {now} {b} {c} {who} m n {k = k} {p = p} tries home of one may stood other =
+    (stays_beside region now b c who p.list (after_trying p k tries.tried).list home of one tries.stands.sits.stood.1).stands (may, stood.0, stood.1)
+    (ap (part who.actor) tries.moves.list_is ∙ part_of_others who.actor k tries.moves.steps p.list (λ same. other (sym same)))
+
+-- ---- the desk that the thread lends
+-- who has a desk may sit there
+abbrev pub may_sit : (desk : BenchDesk) → MaySitOn desk.region.now desk.place.bench desk.place.member
+may_sit desk = record { of = desk.of; profile = desk.profiled; one = desk.place.one; sits = desk.place.sits }
+
+-- the keeper sits there in the thread's place
+pub lent_at : {f : Profile} {k : ℕ} {later : LaterKept} {p : Progress} (desk lent : BenchDesk) (seated : Seated) → lent.place.bench ≡ desk.place.bench
+    → lent.place.member ≡ seated.member
+    → KeeperAt f k (keeper_has (standing_beside desk.region.now desk.place.bench seated.member) seated.book seated.out) later p
+    → KeeperAt f k (keeper_has (standing_on lent.place.bench lent.place.member) seated.book seated.out) later p
+lent_at {f} {k} {later} {p} desk lent seated bench member at =
+    subst (λ (z : Bench × Member). KeeperAt f k (keeper_has (standing_on z.0 z.1) seated.book seated.out) later p) (λ i. (sym bench i, sym member i)) (keeper_on at)
+
+module _ {f : Profile} {k : ℕ} {r : Request} {block : Option Block} {later : LaterKept} {p : Progress} {book : GuardBook} {out : Records}
+    (desk lent after : BenchDesk) (seated : Seated)
+    (region : lent.region.now ≡ desk.region.now) (bench : lent.place.bench ≡ desk.place.bench) (member : lent.place.member ≡ seated.member)
+    (tries : KeeperTries f k r block (keeper_has (standing_on lent.place.bench lent.place.member) seated.book seated.out) (keeper_has (standing_on after.place.bench after.place.member) book out) later p)
+    (home : home_of after.region.now (row_on after.place.bench) ≡ home_of lent.region.now (row_on lent.place.bench)) (stood : StandsAt (standing_on desk.place.bench desk.place.member) p.list) (other : desk.place.member.actor ≢ k) where
+  -- the thread may sit down again
+  pub thread_after : StandsAt (standing_beside after.region.now after.place.bench desk.place.member) (after_trying p k tries.tried).list
+  thread_after = thread_still lent.place.member after.place.member tries home after.of after.place.one
+      (subst (λ (z : SharedRegion × Bench). MaySitOn z.0 z.1 desk.place.member) (λ i. (sym region i, sym bench i)) (may_sit desk))
+      (subst (λ (b : Bench). StandsAt (standing_on b desk.place.member) p.list) (sym bench) stood) other
+
+  -- .. and once it does, the keeper stands beside it as before
+  pub tried_at : (back : BenchDesk) (risen : Member) → back.region.now ≡ after.region.now → back.place.bench ≡ after.place.bench
+      → back.place.member ≡ desk.place.member → risen ≡ after.place.member
+      → (t : KeeperTries f k r block (keeper_has (standing_beside desk.region.now desk.place.bench seated.member) seated.book seated.out) (keeper_has (standing_beside back.region.now back.place.bench risen) book out) later p)
+      × StandsStill (standing_on desk.place.bench desk.place.member) (standing_on back.place.bench back.place.member) p.list (after_trying p k t.tried).list
+  tried_at back risen same there again gone = subst (λ (z : SharedRegion × Bench × Member × SharedRegion × Bench × Member × Member).
+      (t : KeeperTries f k r block (keeper_has (standing_beside z.0 z.1 z.2) seated.book seated.out) (keeper_has (standing_beside z.3 z.4 z.5) book out) later p)
+      × StandsStill (standing_on desk.place.bench desk.place.member) (standing_on z.4 z.6) p.list (after_trying p k t.tried).list)
+      (λ i. (region i, bench i, member i, sym same i, sym there i, sym gone i, sym again i))
+      (tries_beside (may_sit after) tries, record { seat_is = refl; stands = λ stands parts. (thread_after.1, thread_after.2) })

@@ -19,20 +19,21 @@ use Rattle.pas_answers.specs.{Reaching.Reaches, Replays.at_start, Phases.AreInPh
 use Rattle.pas_answers.specs.Stages.{itself, Stage, stage, one_by_one, phase_stages, stages_from, stages_of}
 use Rattle.pas_answers.specs.Ways.{OnThreads, AreSpoken, by_actors, arranged, records_by}
 use Rattle.pas_answers.proofs.{OwnRecords.records_both as said_both, OwnRecords.spoken_both, Reached.reach_both}
-use Rattle.pas_acts.proofs.ActsLeft.{acts_left, close_left, first_phase, other_phase}
+use Rattle.pas_acts.proofs.{ActsLeft.acts_left, ActsLeft.close_left, ActsLeft.first_phase, ActsLeft.other_phase}
 use Rattle.pas_acts.proofs.{Arranging.are_arranged, AtDesk.rests_still, AtDesk.sits_still}
 use Rattle.pas_acts.specs.NameBooks.{NamesAt, requests_in, room_for, Requests}
 use Rattle.pas_acts.specs.declared.names.NameBook.{NameBook}
 use Rattle.pas_threads.specs.Pairs.{no_more, KeeperRests, said_by_keeper, owed_kept, keeper_at, owed_by_keepers, AreGuarded, IsLow, MayLower, LoweredAll}
-use Rattle.pas_threads.specs.Sessions.{planned, Session, evenly, WorkerHas, ScavengerRests, TeamAt, HasPlaces, HasRoom, AreMarked, AreWritten, AreResting}
-use Rattle.pas_threads.specs.Sessions.{CloseDone, owed_by, PhaseAt, PhaseDone, HasReplayed, IsOfActors, StandSo, WentBy}
-use Rattle.pas_threads.specs.Turns.{StoppedAll, said_own, said_by_all, said_kept, said_by_keepers, HasSaid, IsGathered, IsKeptGathered}
+use Rattle.pas_threads.specs.Sessions.{planned, Session, evenly, WorkerHas, ScavengerRests, TeamAt, HasPlaces, HasRoom, AreMarked, AreWritten, WorkerRests}
+use Rattle.pas_threads.specs.Sessions.{WorkersRest, CloseDone, owed_by, PhaseAt, PhaseDone, HasReplayed, IsOfActors, StandSo, WentBy}
+use Rattle.pas_threads.proofs.Gathered.{OwnGathered, KeptGathered, IsCleared, cleared}
+use Rattle.pas_threads.proofs.KeptPhases.{AreAlike, alike_same, alike_pushed, alike_said, alike_both, guarded_alike, kept_still, said_then}
+use Rattle.pas_threads.specs.Turns.{StoppedAll, said_own, said_by_all, said_kept, said_by_keepers}
 use Rattle.pas_threads.specs.declared.{keeper.Keeper.Keeper, phases.Team.Team, scavenger.Scavenger.Scavenger, workers.Worker.Worker}
 use Rattle.pas_threads.proofs.{Dealt.some_worker, Staging.went_both, Staging.went_mark}
 use Rattle.pas_threads.proofs.TakingTurns.{pass_still, same_owed, same_rests, rests_clear}
 use Rattle.pas_threads.proofs.InPhases.{in_both, unmarked, phase_unmarked, close_unmarked, earlier_both, stand_first}
 use Rattle.pas_threads.proofs.Keepers.{keeper_is, owed_still, waits_gathered, of_gathered, silent_gathered, low_gathered}
-use Rattle.pas_threads.proofs.KeptPhases.{alike_same, alike_pushed, alike_said, alike_both, guarded_alike, kept_still, said_then}
 use Rattle.pas_threads.proofs.PhaseSums.{owed_less, kept_less, own_all, all_paid, said_in_order, kept_in_order, kept_few, by_all}
 
 -- ---- another progress
@@ -67,15 +68,13 @@ team_at_records : {region : SharedRegion} {s : Session} {phases : List (List Op)
     → TeamAt region s phases team p → TeamAt region s phases team (with_records p more)
 unfolding names_at
 team_at_records more at = record {
-  many = at.many;
-  fits = at.fits;
-  few_threads = at.few_threads;
-  few = at.few;
-  within = at.within;
-  behind = at.behind;
-  workers = λ i d lt. same_rests refl refl (at.workers i d lt);
-  guarded = at.guarded;
-  kept = λ i d lt. kept_still refl refl refl (at.kept i d lt);
+  fit = at.fit;
+  workers = record {
+    many = at.workers.many;
+    threads = λ i d lt. same_rests refl refl (at.workers.threads i d lt);
+    guarded = at.workers.guarded;
+    kept = λ i d lt. kept_still refl refl refl (at.workers.kept i d lt);
+  };
   scavenger = scavenger_rests refl at.scavenger;
   nobody = at.nobody;
   names = names_at refl at.names;
@@ -106,7 +105,7 @@ none_by_actors k zero = refl
 none_by_actors k (suc n) = none_by_actors (k + 1) n
 
 are_none : {records written : List Record} (s : Session) → records ≡ [] → written ≡ [] → AreMarked s records written
-are_none {records} {written} s is written_is more = ap (λ (rs : List Record). arranged OnThreads s.profile.threads (rs ++ more)) is ∙ ap (λ (ws : List Record). ws ++ arranged OnThreads s.profile.threads more) (sym written_is)
+are_none {records} {written} s is written_is more = cc
 
 none_written : {records written : List Record} (s : Session) → records ≡ [] → written ≡ [] → AreWritten s records written
 none_written s is written_is = record {
@@ -163,37 +162,45 @@ written_whole {s} so =
 
 -- ---- what is so of the workers at the end
 record AreClosed (region : SharedRegion) (s : Session) (all : List Worker) (q : Progress) : Type 0 where
-  workers : AreResting region s.profile all (λ k. own_records (planned s) k (all_ops [])) q
-  guarded : AreGuarded s.keepers all
-  kept : (i : ℕ) (d : Worker) → i < length all → KeeperRests region s.profile (s.threads + suc i) [] (get_or all i d).keeper q
+  rest : WorkersRest region s [] all q
   empty : (i : ℕ) (d : Worker) → i < length all → (cached (get_or all i d).cache).locals ≡ []
   low : (i : ℕ) (d : Worker) → i < length all → IsLow (get_or all i d).keeper
 
 -- ---- the close
 -- Each thread was stopped, then each keeper lowered its guards; then what was said for the threads is gathered, and what was said for the keepers.
 module _ {region : SharedRegion} {s : Session} {team : Team} {p : Progress} (stopped : List Worker) (at : TeamAt region s [] team p)
-    (did : StoppedAll region s.profile team.threads.items stopped (λ k. own_records (planned s) k (all_ops [])) p) (many : length stopped ≡ length team.threads.items) where
+    (did : StoppedAll region s.profile team.threads.items stopped (λ k. own_records (planned s) k (all_ops [])) p)
+    (many : length stopped ≡ length team.threads.items) where
   abbrev f : Profile
   f = s.profile
 
   abbrev between : Progress
   between = did.turns.came.reached
 
+  threads_are : length team.threads.items ≡ s.threads
+  threads_are = at.workers.many
+
+  -- a thread that was stopped is no keeper
+  no_keeper : (i j : ℕ) → j < length team.threads.items → suc j ≢ s.threads + suc i
+  no_keeper i j less same = omega (arith, less, same, threads_are)
+
   -- no keeper did anything so far
   kept_between : (i : ℕ) (d : Worker) → i < length team.threads.items → KeeperRests region f (s.threads + suc i) [] (get_or stopped i d).keeper between
   kept_between i d lt =
-      let keeper = s.threads + suc i in
-      kept_still (did.turns.told i d lt).keeper (did.turns.leaves.parts keeper (λ j less same. omega (arith, less, same, at.many))) (ap (λ (books : Books). books keeper) did.turns.leaves.books) (at.kept i d lt)
+      let books = ap (λ (books : Books). books (s.threads + suc i)) did.turns.leaves.books in
+      kept_still (did.turns.told i d lt).keeper (did.turns.leaves.parts (s.threads + suc i) (no_keeper i)) books (at.workers.kept i d lt)
+
+  alike_stopped : (i : ℕ) (d : Worker) → i < length team.threads.items → AreAlike (get_or team.threads.items i d).keeper (get_or stopped i d).keeper
+  alike_stopped i d lt = alike_same (get_or team.threads.items i d).keeper (get_or stopped i d).keeper (did.turns.told i d lt).keeper
 
   -- Once all threads are stopped at the close, each keeper may lower its guards.
   pub may_lower : MayLower region f s.threads s.keepers stopped between
   may_lower = record {
-    guarded = guarded_alike team.threads.items stopped many (λ i d lt. alike_same (get_or team.threads.items i d).keeper (get_or stopped i d).keeper (did.turns.told i d lt).keeper) at.guarded;
+    guarded = guarded_alike team.threads.items stopped many alike_stopped at.workers.guarded;
     each = λ i d lt. let rests = kept_between i d (omega (arith, lt, many)) in (rests.of, rests.waits);
   }
 
-  module _ (written : List Record) (lowered : List Worker) (low : LoweredAll region f s.threads s.keepers stopped lowered between)
-      (same : length lowered ≡ length stopped) where
+  module _ {lowered : List Worker} (low : LoweredAll region f s.threads s.keepers stopped lowered between) (same : length lowered ≡ length stopped) where
     abbrev all : List Record
     all = did.turns.came.said ++ low.said
 
@@ -201,41 +208,52 @@ module _ {region : SharedRegion} {s : Session} {team : Team} {p : Progress} (sto
     reached = low.reached
 
     threads_is : length lowered ≡ s.threads
-    threads_is = same ∙ many ∙ at.many
+    threads_is = same ∙ many ∙ threads_are
 
     -- an actor that is no keeper
     apart : (k : ℕ) → k ≤ s.threads → (j : ℕ) → j < length stopped → s.threads + suc j ≢ k
     apart k le j lt is = omega (arith, le, is)
 
+    -- what an actor said, where one of both acts told nothing of it
     of_both : (k : ℕ) → records_by k all ≡ records_by k did.turns.came.said ++ records_by k low.said
     of_both k = said_both k did.turns.came.said low.said
+
+    by_stops : (k : ℕ) → records_by k low.said ≡ [] → records_by k all ≡ records_by k did.turns.came.said
+    by_stops k none = of_both k ∙ ap (λ (rs : List Record). records_by k did.turns.came.said ++ rs) none ∙ append-nil (records_by k did.turns.came.said)
+
+    by_sweeps : (k : ℕ) → records_by k did.turns.came.said ≡ [] → records_by k all ≡ records_by k low.said
+    by_sweeps k none = of_both k ∙ ap (λ (rs : List Record). rs ++ records_by k low.said) none
+
+    of_keeper : (i : ℕ) → records_by (s.threads + suc i) all ≡ records_by (s.threads + suc i) low.said
+    of_keeper i = by_sweeps (s.threads + suc i) (did.turns.leaves.silent (s.threads + suc i) (λ is. omega (arith, is)) (no_keeper i))
 
     -- what the worker said for its thread
     said_by_one : (i : ℕ) (d : Worker) → i < length team.threads.items → records_in (get_or lowered i d).out ≡ records_by (suc i) all
     said_by_one i d lt =
         let within : i < length stopped = omega (arith, lt, many) in
-        ap (λ (o : Records). records_in o) (low.each i d within).but.out ∙ (did.turns.told i d lt).out.added ∙ ap (λ (rs : List Record). rs ++ records_by (suc i) did.turns.came.said) (at.workers i d lt).said
-        ∙ sym (of_both (suc i) ∙ ap (λ (rs : List Record). records_by (suc i) did.turns.came.said ++ rs) (low.silent (suc i) (apart (suc i) (omega (arith, lt, at.many)))) ∙ append-nil (records_by (suc i) did.turns.came.said))
+        let nothing = low.silent (suc i) (apart (suc i) (omega (arith, lt, threads_are))) in
+        ap (λ (o : Records). records_in o) (low.each i d within).but.out ∙ (did.turns.told i d lt).out.added
+        ∙ ap (λ (rs : List Record). rs ++ records_by (suc i) did.turns.came.said) (at.workers.threads i d lt).said ∙ sym (by_stops (suc i) nothing)
 
     said_are : said_by_all lowered ≡ by_actors 1 s.threads all
     said_are =
-        said_in_order said_own 1 lowered all (λ i d lt. said_by_one i d (omega (arith, lt, same, many)) ∙ ap (λ (j : ℕ). records_by j all) (let e : suc i ≡ 1 + i = omega arith in e))
+        said_in_order said_own 1 lowered all
+        (λ i d lt. said_by_one i d (omega (arith, lt, same, many)) ∙ ap (λ (j : ℕ). records_by j all) (let e : suc i ≡ 1 + i = omega arith in e))
         ∙ ap (λ (n : ℕ). by_actors 1 n all) threads_is
 
     -- .. and for its keeper
     kept_by_one : (i : ℕ) (d : Worker) → i < length team.threads.items → said_kept (get_or lowered i d) ≡ records_by (s.threads + suc i) all
     kept_by_one i d lt =
-        let within : i < length stopped = omega (arith, lt, many) in
-        let keeper = s.threads + suc i in
-        said_then keeper low.said (get_or stopped i d).keeper (get_or lowered i d).keeper (low.each i d within).told (kept_between i d lt).silent
-        ∙ sym (of_both keeper ∙ ap (λ (rs : List Record). rs ++ records_by keeper low.said) (did.turns.leaves.silent keeper (λ is. omega (arith, is)) (λ j less is. omega (arith, less, is, at.many))))
+        let told = (low.each i d (omega (arith, lt, many))).told in
+        said_then (s.threads + suc i) low.said (get_or stopped i d).keeper (get_or lowered i d).keeper told (kept_between i d lt).silent ∙ sym (of_keeper i)
 
     -- where there are no keepers nothing was done
     nothing_done : s.keepers ≡ 0 → (reached ≡ between) × (low.said ≡ [])
     nothing_done none =
         let acts : map Lowers (numbers_from (s.threads + 1) s.keepers) ≡ [] = ap (λ (n : ℕ). map Lowers (numbers_from (s.threads + 1) n)) none in
         let is : reached ≡ between = subst (λ (xs : List Act). Reaches f xs between reached) acts low.reaches in
-        (is, append_cancel_left between.records low.said [] (sym low.records_are ∙ ap (λ (q : Progress). q.records) is ∙ sym (append-nil between.records)))
+        let records = sym low.records_are ∙ ap (λ (q : Progress). q.records) is ∙ sym (append-nil between.records) in
+        (is, append_cancel_left between.records low.said [] records)
 
     -- nobody past the keepers did anything
     past : (k : ℕ) → s.threads + s.keepers < k → AreGuarded s.keepers team.threads.items
@@ -248,21 +266,20 @@ module _ {region : SharedRegion} {s : Session} {team : Team} {p : Progress} (sto
         (ap (λ (q : Progress). part k q.list) nothing.0, ap (λ (rs : List Record). records_by k rs) nothing.1)
 
     stops_past : (k : ℕ) → s.threads < k → (i : ℕ) → i < length team.threads.items → suc i ≢ k
-    stops_past k far i lt is = omega (arith, far, at.many, lt, is)
+    stops_past k far i lt is = omega (arith, far, threads_are, lt, is)
 
     silent : (k : ℕ) → s.threads + s.keepers < k → records_by k all ≡ []
-    silent k far =
-        of_both k ∙ ap (λ (rs : List Record). rs ++ records_by k low.said) (did.turns.leaves.silent k (λ is. omega (arith, is, far)) (stops_past k (omega (arith, far)))) ∙ (past k far at.guarded).1
+    silent k far = by_sweeps k (did.turns.leaves.silent k (λ is. omega (arith, is, far)) (stops_past k (omega (arith, far)))) ∙ (past k far at.workers.guarded).1
 
     none_of_scavenger : records_by 0 all ≡ []
-    none_of_scavenger = of_both 0 ∙ ap (λ (rs : List Record). rs ++ records_by 0 low.said) did.none ∙ low.silent 0 (apart 0 (omega arith))
+    none_of_scavenger = by_sweeps 0 did.none ∙ low.silent 0 (apart 0 (omega arith))
 
     -- what they owed pays for what they said
     said_few : length (by_actors 1 s.threads all) + length (by_actors (s.threads + 1) s.threads all)
         ≤ owed_by f p s.threads + owed_by_keepers f s.threads team.threads.items p s.threads
     said_few =
         let paid = all_paid f (planned s) s.threads [] all team.threads.items [] p reached s.threads (λ i lt.
-        let less : i < length team.threads.items = omega (arith, lt, at.many) in
+        let less : i < length team.threads.items = omega (arith, lt, threads_are) in
         let within : i < length stopped = omega (arith, less, many) in
         let d = some_worker team.threads.items i less in
         let keeper = s.threads + suc i in
@@ -271,144 +288,141 @@ module _ {region : SharedRegion} {s : Session} {team : Team} {p : Progress} (sto
         let size = ap (λ (rs : List Record). length rs) (said_by_one i d less) in
         let owes = same_owed f between reached (suc i) (low.parts (suc i) (apart (suc i) (omega (arith, lt)))) (ap (λ (cs : Caches). cs (suc i)) low.caches) in
         let kept = (low.each i d within).paid in
-        let by_keeper = ap (λ (rs : List Record). length rs)
-        (of_both keeper ∙ ap (λ (rs : List Record). rs ++ records_by keeper low.said) (did.turns.leaves.silent keeper (λ is. omega (arith, is)) (λ j before is. omega (arith, before, is, at.many)))) in
+        let by_keeper = ap (λ (rs : List Record). length rs) (of_keeper i) in
         let had = ap (λ (o : Option Keeper). owed_kept f keeper o between) ((did.turns.told i d less).keeper ∙ sym (keeper_is team.threads.items i d less))
-        ∙ owed_still f keeper (keeper_at team.threads.items i) p between (did.turns.leaves.parts keeper (λ j before is. omega (arith, before, is, at.many))) in
+        ∙ owed_still f keeper (keeper_at team.threads.items i) p between (did.turns.leaves.parts keeper (no_keeper i)) in
         omega (arith, due, out, size, owes, kept, by_keeper, had)) in
         let none = own_all (planned s) [] s.threads in
         omega (arith, paid, none)
 
-    -- there is room for what they said
-    pub room_at_close : {room : ℕ} → length written + (owed_by f p s.threads + owed_by_keepers f s.threads team.threads.items p s.threads + 0 + 0) ≤ room
-        → length written + length (said_by_all lowered) ≤ room
-    room_at_close {room} fits =
-        let size = ap (λ (rs : List Record). length rs) said_are in
-        omega (arith, fits, said_few, size)
+    module _ (out : Records) (room : HasRoom s [] 0 team.threads.items out p) where
+      -- There is room for what the threads said at the close.
+      pub room_at_close : length (records_in out) + length (said_by_all lowered) ≤ room_of out
+      room_at_close =
+          let size = ap (λ (rs : List Record). length rs) said_are in
+          omega (arith, room, said_few, size)
 
-    module _ (gathered : List Worker) (g : (i : ℕ) (d : Worker) → i < length lowered → IsGathered (get_or lowered i d) (get_or gathered i d))
-        (same1 : length gathered ≡ length lowered) where
+    module _ {gathered : List Worker} {out out2 : Records} (g : OwnGathered lowered gathered out out2) where
       guarded_then : AreGuarded s.keepers gathered
-      guarded_then = guarded_alike team.threads.items gathered (same1 ∙ same ∙ many) (λ i d lt.
+      guarded_then = guarded_alike team.threads.items gathered (g.many ∙ same ∙ many) (λ i d lt.
           let within : i < length stopped = omega (arith, lt, many) in
-          let here : i < length lowered = omega (arith, within, same) in
-          alike_both (get_or team.threads.items i d).keeper (get_or stopped i d).keeper (get_or gathered i d).keeper (alike_same (get_or team.threads.items i d).keeper (get_or stopped i d).keeper (did.turns.told i d lt).keeper)
-          (alike_both (get_or stopped i d).keeper (get_or lowered i d).keeper (get_or gathered i d).keeper (alike_pushed (s.threads + suc i) low.said (get_or stopped i d).keeper (get_or lowered i d).keeper (low.each i d within).told)
-          (alike_same (get_or lowered i d).keeper (get_or gathered i d).keeper (g i d here).keeper))) at.guarded
+          let old = (get_or team.threads.items i d).keeper in
+          let mid = (get_or stopped i d).keeper in
+          let swept = (get_or lowered i d).keeper in
+          let new = (get_or gathered i d).keeper in
+          let last = alike_same swept new (g.each i d (omega (arith, within, same))).keeper in
+          alike_both old mid new (alike_stopped i d lt) (alike_both mid swept new (alike_pushed (s.threads + suc i) low.said mid swept (low.each i d within).told) last)) at.workers.guarded
 
       kept_are : said_by_keepers gathered ≡ by_actors (s.threads + 1) s.keepers all
-      kept_are = kept_in_order s.threads gathered all guarded_then (λ i d lt. ap said_by_keeper (g i d (omega (arith, lt, same1))).keeper ∙ kept_by_one i d (omega (arith, lt, same1, same, many)))
+      kept_are =
+          kept_in_order s.threads gathered all guarded_then
+          (λ i d lt. ap said_by_keeper (g.each i d (omega (arith, lt, g.many))).keeper ∙ kept_by_one i d (omega (arith, lt, g.many, same, many)))
 
       -- There is room for what the keepers say at the close behind what was written before it.
-      pub room_for_keepers : {room : ℕ} (out : List Record) → out ≡ written ++ said_by_all lowered
-          → length written + (owed_by f p s.threads + owed_by_keepers f s.threads team.threads.items p s.threads + 0 + 0) ≤ room
-          → length out + length (said_by_keepers gathered) ≤ room
-      room_for_keepers {room} out added fits =
+      pub room_for_keepers : HasRoom s [] 0 team.threads.items out p → length (records_in out2) + length (said_by_keepers gathered) ≤ room_of out2
+      room_for_keepers room =
           let own = ap (λ (rs : List Record). length rs) said_are in
           let all_kept = ap (λ (rs : List Record). length rs) kept_are in
           let most = kept_few s.threads gathered all guarded_then in
-          let count = ap (λ (n : ℕ). length (by_actors (s.threads + 1) n all)) (same1 ∙ threads_is) in
-          let long = ap (λ (rs : List Record). length rs) added in
-          let sum = length-append written (said_by_all lowered) in
-          omega (arith, fits, said_few, own, all_kept, most, count, long, sum)
+          let count = ap (λ (n : ℕ). length (by_actors (s.threads + 1) n all)) (g.many ∙ threads_is) in
+          let long = ap (λ (rs : List Record). length rs) g.added in
+          let sum = length-append (records_in out) (said_by_all lowered) in
+          omega (arith, room, said_few, own, all_kept, most, count, long, sum, g.size)
 
-      written_so : {written' : List Record} → AreMarked s p.records written → written' ≡ (written ++ said_by_all lowered) ++ said_by_keepers gathered
-          → AreWritten s reached.records written'
-      written_so {written'} marked added = record {
-        before = p.records;
-        before_written = written;
-        said = all;
-        marked = marked;
-        spoken = spoken_both did.turns.came.said low.said did.spoken low.spoken;
-        records_are = low.records_are ∙ ap (λ (rs : List Record). rs ++ low.said) did.turns.came.records_are ∙ append_assoc p.records did.turns.came.said low.said;
-        written_are = added ∙ append_assoc written (said_by_all lowered) (said_by_keepers gathered)
-            ∙ ap (λ (rs : List Record). written ++ (rs ++ said_by_keepers gathered)) said_are ∙ ap (λ (rs : List Record). written ++ (by_actors 1 s.threads all ++ rs)) kept_are
-            ∙ ap (λ (rs : List Record). written ++ rs)
-            (sym (by_all s.threads s.keepers f.threads all at.fits silent ∙ ap (λ (rs : List Record). rs ++ (by_actors 1 s.threads all ++ by_actors (s.threads + 1) s.keepers all)) none_of_scavenger));
-      }
+      module _ {kept : List Worker} {out3 : Records} (h : KeptGathered gathered kept out2 out3) where
+        written_so : AreMarked s p.records (records_in out) → AreWritten s reached.records (records_in out3)
+        written_so marked =
+            let written = records_in out in
+            let own = said_by_all lowered in
+            let its = said_by_keepers gathered in
+            let sorted = by_all s.threads s.keepers f.threads all at.fit.fits silent
+            ∙ ap (λ (rs : List Record). rs ++ (by_actors 1 s.threads all ++ by_actors (s.threads + 1) s.keepers all)) none_of_scavenger in
+            record {
+              before = p.records;
+              before_written = written;
+              said = all;
+              marked = marked;
+              spoken = spoken_both did.turns.came.said low.said did.spoken low.spoken;
+              records_are = low.records_are ∙ ap (λ (rs : List Record). rs ++ low.said) did.turns.came.records_are ∙ append_assoc p.records did.turns.came.said low.said;
+              written_are = cc (append_assoc written own its, said_are, kept_are);
+            }
 
-      module _ (kept : List Worker) (h : (i : ℕ) (d : Worker) → i < length gathered → IsKeptGathered (get_or gathered i d) (get_or kept i d))
-          (same2 : length kept ≡ length gathered) where
         sized : length kept ≡ length team.threads.items
-        sized = same2 ∙ same1 ∙ same ∙ many
+        sized = h.many ∙ g.many ∙ same ∙ many
 
-        workers_rest : AreResting region f kept (λ k. own_records (planned s) k (all_ops [])) reached
-        workers_rest i d lt =
+        clear : (i : ℕ) (d : Worker) → i < length team.threads.items → IsCleared (get_or lowered i d) (get_or kept i d)
+        clear i d lt =
+            cleared (g.each i d (omega (arith, lt, same, many))) (h.each i d (omega (arith, lt, g.many, same, many)))
+
+        thread_rests : (i : ℕ) (d : Worker) → i < length kept → WorkerRests region f (suc i) (get_or kept i d) (own_records (planned s) (suc i) []) reached
+        thread_rests i d lt =
             let within : i < length team.threads.items = omega (arith, lt, sized) in
-            let here : i < length stopped = omega (arith, within, many) in
-            let was = at.workers i d within in
-            let but = (low.each i d here).but in
-            let g1 = g i d (omega (arith, here, same)) in
-            let h1 = (h i d (omega (arith, lt, same2))).but in
-            let requests = (did.turns.told i d within).requests in
+            let same1 = g.many in
+            let same2 = h.many in
+            let was = at.workers.threads i d within in
+            let but = (low.each i d (omega (arith, within, many))).but in
+            let c = clear i d within in
             let due = (did.turns.stand i d within).here in
+            let parts = low.parts (suc i) (apart (suc i) (omega (arith, within, threads_are))) in
             let has : WorkerHas region f (suc i) (get_or stopped i d) (evenly (own_records (planned s) (suc i) [])) reached =
-            record { has = due.has; rests = rests_still (pass_still due.has.pass) (low.parts (suc i) (apart (suc i) (omega (arith, within, at.many)))) (ap (λ (cs : Caches). cs (suc i)) low.caches) due.rests } in
-            let spare = has.rests.spare in
+            record { has = due.has; rests = rests_still (pass_still due.has.pass) parts (ap (λ (cs : Caches). cs (suc i)) low.caches) due.rests } in
             let owed = ap (λ (c : Cached). owed_events f c (part (suc i) reached.list)) has.rests.cache in
-            let room : room_of (get_or kept i d).out ≡ room_of (get_or stopped i d).out = ap room_of h1.out ∙ g1.room ∙ ap room_of but.out in
-            let same_requests : (get_or kept i d).requests ≡ (get_or team.threads.items i d).requests = h1.requests ∙ g1.requests ∙ but.requests ∙ requests in
-            let noted = ap (λ (r : Requests). room_for r) same_requests in
-            rests_clear has (h1.pass ∙ g1.pass ∙ but.pass) (h1.cache ∙ g1.cache ∙ but.cache) (ap (λ (o : Records). records_in o) h1.out ∙ g1.none) (omega arith) (omega (arith, spare, owed, room))
-            (ap (λ (r : Requests). requests_in r) same_requests ∙ was.asked) (omega (arith, was.requests, noted))
+            let room : room_of (get_or kept i d).out ≡ room_of (get_or stopped i d).out = c.room ∙ ap room_of but.out in
+            let requests : (get_or kept i d).requests ≡ (get_or team.threads.items i d).requests =
+            (h.each i d (omega (arith, lt, same2))).but.requests ∙ (g.each i d (omega (arith, lt, same1, same2))).requests ∙ but.requests ∙ (did.turns.told i d within).requests in
+            let noted = ap (λ (r : Requests). room_for r) requests in
+            rests_clear has (c.pass ∙ but.pass) (c.cache ∙ but.cache) c.none (omega arith) (omega (arith, has.rests.spare, owed, room))
+            (ap (λ (r : Requests). requests_in r) requests ∙ was.asked) (omega (arith, was.requests, noted))
 
-        -- what the keeper's last state was gathered from
-        last : (i : ℕ) (d : Worker) → i < length kept → HasSaid (get_or lowered i d).keeper (get_or kept i d).keeper
-        last i d lt = subst (λ (o : Option Keeper). HasSaid o (get_or kept i d).keeper) (g i d (omega (arith, lt, same1, same2))).keeper (h i d (omega (arith, lt, same2))).keeper
-
-        keepers_rest : (i : ℕ) (d : Worker) → i < length kept → KeeperRests region f (s.threads + suc i) [] (get_or kept i d).keeper reached
-        keepers_rest i d lt =
-            let one = low.each i d (omega (arith, lt, sized, many)) in
-            let said = last i d lt in
-            let old = (get_or lowered i d).keeper in
-            let new = (get_or kept i d).keeper in
-            record { of = of_gathered region old new said one.of; waits = waits_gathered f (s.threads + suc i) [] no_more reached old new said one.waits; silent = silent_gathered old new said }
-
-        keepers_low : (i : ℕ) (d : Worker) → i < length kept → IsLow (get_or kept i d).keeper
-        keepers_low i d lt =
-            let here : i < length stopped = omega (arith, lt, sized, many) in
-            low_gathered (get_or lowered i d).keeper (get_or kept i d).keeper (last i d lt) (low.low i d here here)
-
-        caches_empty : (i : ℕ) (d : Worker) → i < length kept → (cached (get_or kept i d).cache).locals ≡ []
-        caches_empty i d lt =
-            let within : i < length team.threads.items = omega (arith, lt, sized) in
-            let cache = (h i d (omega (arith, lt, same2))).but.cache ∙ (g i d (omega (arith, lt, same1, same2))).cache ∙ (low.each i d (omega (arith, within, many))).but.cache in
-            ap (λ (c : ThreadCache). (cached c).locals) cache ∙ did.empty i d within
-
-        guarded_last : AreGuarded s.keepers kept
-        guarded_last = guarded_alike gathered kept same2 (λ i d lt. alike_said (get_or gathered i d).keeper (get_or kept i d).keeper (h i d lt).keeper) guarded_then
+        all_closed : AreClosed region s kept reached
+        all_closed = record {
+          rest = record {
+            many = sized ∙ threads_are;
+            threads = thread_rests;
+            guarded = guarded_alike gathered kept h.many (λ i d lt. alike_said (get_or gathered i d).keeper (get_or kept i d).keeper (h.each i d lt).keeper) guarded_then;
+            kept = λ i d lt.
+                let within : i < length team.threads.items = omega (arith, lt, sized) in
+                let one = low.each i d (omega (arith, within, many)) in
+                let said = (clear i d within).keeper in
+                let old = (get_or lowered i d).keeper in
+                let new = (get_or kept i d).keeper in
+                record {
+                  of = of_gathered region old new said one.of;
+                  waits = waits_gathered f (s.threads + suc i) [] no_more reached old new said one.waits;
+                  silent = silent_gathered old new said;
+                };
+          };
+          empty = λ i d lt.
+              let within : i < length team.threads.items = omega (arith, lt, sized) in
+              let cache = (clear i d within).cache ∙ (low.each i d (omega (arith, within, many))).but.cache in
+              ap (λ (c : ThreadCache). (cached c).locals) cache ∙ did.empty i d within;
+          low = λ i d lt.
+              let here : i < length stopped = omega (arith, lt, sized, many) in
+              low_gathered (get_or lowered i d).keeper (get_or kept i d).keeper (clear i d (omega (arith, lt, sized))).keeper (low.low i d here here);
+        }
 
         -- The close is done once threads are stopped, guards are lowered and all that was said is gathered.
-        pub has_closed : (after : Team) → after.threads.items ≡ kept → after.scavenger ≡ team.scavenger → after.book ≡ team.book → HasPlaces s.threads after
-            → {written' : List Record} → AreMarked s p.records written
-            → written' ≡ (written ++ said_by_all lowered) ++ said_by_keepers gathered → {first last_seen : Whole}
+        pub has_closed : {after : Team} → after.threads.items ≡ kept → after.scavenger ≡ team.scavenger → after.book ≡ team.book → HasPlaces s.threads after
+            → AreMarked s p.records (records_in out) → {first last_seen : Whole}
             → WentBy s (one_by_one (map Ends (numbers_from 1 s.threads) ++ map Lowers (numbers_from (s.threads + 1) s.keepers))) p reached first last_seen
-            → CloseDone region s after written' first last_seen p
-        has_closed after threads scavenger book places {written'} marked added went =
-            let has_all : AreClosed region s kept reached = record { workers = workers_rest; guarded = guarded_last; kept = keepers_rest; empty = caches_empty; low = keepers_low } in
-            let then : AreClosed region s after.threads.items reached = subst (λ (ws : List Worker). AreClosed region s ws reached) (sym threads) has_all in
+            → CloseDone region s after (records_in out3) first last_seen p
+        has_closed {after} threads scavenger book places marked went =
+            let then : AreClosed region s after.threads.items reached = subst (λ (ws : List Worker). AreClosed region s ws reached) (sym threads) all_closed in
+            let still = low.parts 0 (apart 0 (omega arith)) ∙ did.turns.leaves.parts 0 (λ i lt is. omega (arith, is)) in
             record {
               reached = reached;
               reaches = reach_both f (map Ends (numbers_from 1 s.threads)) (map Lowers (numbers_from (s.threads + 1) s.keepers)) p between reached
-                  (subst (λ (n : ℕ). Reaches f (map Ends (numbers_from 1 n)) p between) at.many did.turns.came.reaches) low.reaches;
+                  (subst (λ (n : ℕ). Reaches f (map Ends (numbers_from 1 n)) p between) threads_are did.turns.came.reaches) low.reaches;
               team_at = record {
-                many = ap (λ (ws : List Worker). length ws) threads ∙ sized ∙ at.many;
-                fits = at.fits;
-                few_threads = at.few_threads;
-                few = at.few;
-                within = at.within;
-                behind = at.behind;
-                workers = then.workers;
-                guarded = then.guarded;
-                kept = then.kept;
-                scavenger = subst (λ (x : Scavenger). ScavengerRests region f x (own_records (planned s) 0 (all_ops [])) reached) (sym scavenger)
-                    (scavenger_rests (low.parts 0 (apart 0 (omega arith)) ∙ did.turns.leaves.parts 0 (λ i lt is. omega (arith, is))) at.scavenger);
-                nobody = λ k far. (past k far at.guarded).0 ∙ did.turns.leaves.parts k (stops_past k (omega (arith, far))) ∙ at.nobody k far;
+                fit = at.fit;
+                workers = then.rest;
+                scavenger = subst (λ (x : Scavenger). ScavengerRests region f x (own_records (planned s) 0 (all_ops [])) reached) (sym scavenger) (scavenger_rests still at.scavenger);
+                nobody = λ k far. (past k far at.workers.guarded).0 ∙ did.turns.leaves.parts k (stops_past k (omega (arith, far))) ∙ at.nobody k far;
                 names = subst (λ (b : NameBook). NamesAt f (all_ops []) b reached) (sym book) (names_at (low.names ∙ did.turns.leaves.names) at.names);
                 frees = tt;
                 places = places;
               };
-              written_so = written_so marked added;
+              written_so = written_so marked;
               empty = then.empty;
               low = then.low;
               went = went;
@@ -438,8 +452,7 @@ other_stages : (threads keepers n : ℕ) (phase : List Op) (phases : List (List 
     → stages_left threads keepers n (phase ∷ phases)
     ≡ stage (MarksPhase (n + 1) ∷ []) itself ∷ (phase_stages threads phase ++ stages_left threads keepers (n + 1) phases)
 other_stages threads keepers n phase phases some =
-    left_stages threads keepers n (phase ∷ phases) some
-    ∙ ap (λ (ss : List Stage). stage (MarksPhase (n + 1) ∷ []) itself ∷ (phase_stages threads phase ++ ss)) (sym (left_stages threads keepers (n + 1) phases (omega arith)))
+    cc (left_stages threads keepers n (phase ∷ phases) some, left_stages threads keepers (n + 1) phases (omega arith))
 
 -- What follows these acts from p on, by these stages, is a replay of all. A list of these actors that begins with these steps is in phases, if it is in what follows.
 pub record Leads (s : Session) (all : List (List Op)) (acts : List Act) (stages : List Stage) (p : Progress) (so_far : Whole) : Type 0 where
@@ -490,12 +503,12 @@ pub as_next : {region : SharedRegion} {s : Session} {all : List (List Op)} {team
     → AfterPhases region s all i (ops ∷ map ops_of (drop (i + 1) phases)) team so_far out
 as_next {region} {s} {all} {team} {so_far} {out} phases i item ops lt is same so =
     let first : ops_of (slice_index_or phases i item) ≡ ops = ap ops_of (sym is) ∙ sym same in
-    subst (λ (left : List (List Op)). AfterPhases region s all i left team so_far out) (ap (λ (ps : List Phase). map ops_of ps) (drop_more phases i item lt) ∙ ap (λ (os : List Op). os ∷ map ops_of (drop (i + 1) phases)) first) so
+    rw (drop_more phases i item lt, first) at so
 
 -- After the last phase no operations are left.
 pub as_last : {region : SharedRegion} {s : Session} {all : List (List Op)} {team : Team} {so_far : Whole} {out : Records} (phases : List Phase) (i : ℕ)
     → length phases ≤ i → AfterPhases region s all i (map ops_of (drop i phases)) team so_far out → AfterPhases region s all i [] team so_far out
-as_last {region} {s} {all} {team} {so_far} {out} phases i le so = subst (λ (left : List (List Op)). AfterPhases region s all i left team so_far out) (ap (λ (ps : List Phase). map ops_of ps) (drop_of_length-le phases le)) so
+as_last {region} {s} {all} {team} {so_far} {out} phases i le so = rw drop_of_length-le at so
 
 -- ---- a phase
 -- its mark was written, where it has one

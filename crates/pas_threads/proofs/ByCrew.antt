@@ -10,23 +10,23 @@ use Rattle.pas_shared.specs.declared.{bench.Bench.Bench, bench_desk.BenchDesk.Be
 use Rattle.pas_shared.proofs.Benching.{row_tells}
 use Rattle.pas_trace.specs.Acts.{Act, StopsIdle, idle_stops, ReadsEpoch, acts_of_chore, acts_of_work, acts_of_op, scavenger_acts}
 use Rattle.pas_answers.specs.{Answers.Progress, Answers.Caches, Ways.EachOf, Ways.records_by, Fit.costs_of, Fit.cost_of_act, Fit.unbacks_of_act}
-use Rattle.pas_answers.proofs.OwnRecords.{records_both, none_by, all_by}
+use Rattle.pas_answers.proofs.{OwnRecords.records_both, OwnRecords.none_by, OwnRecords.all_by}
 use Rattle.pas_steps.specs.{Lists.Whole, Lists.part, Desks.Standing}
 use Rattle.pas_steps.proofs.Parts.{part_of_others}
 use Rattle.pas_acts.specs.{Works.Later, Keepers.StandsStill}
 use Rattle.pas_acts.specs.AtDesks.{told_if, for_act, HasRoomAt, ScavengerActs}
-use Rattle.pas_acts.proofs.AtDesk.{sits_still, sits_for}
+use Rattle.pas_acts.proofs.{AtDesk.sits_still, AtDesk.sits_for}
 use Rattle.pas_threads.specs.Turns.{AreDistinct, Came, Pushed, Told, TookNoPart}
 use Rattle.pas_threads.specs.Lent.{Shift, number_in, standing_at, AreBeside, SitsLent, IsDeskAt, StopsLent, StoppedLent}
 use Rattle.pas_threads.specs.declared.workers.Worker.{Worker}
 use Rattle.pas_threads.proofs.TakingTurns.{by_scavenger, pushed_none, pushed_both, SoFar, at_first, goes_on, at_last, Stays, no_turn, no_part_both, came_none}
-use Rattle.pas_threads.proofs.TakingTurns.{came_both, told_none, told_both}
+use Rattle.pas_threads.proofs.TakingTurns.{came_both, told_none, told_both, acts_in_turn}
 use Rattle.pas_trace.specs.Asked.{work_of}
 use Rattle.pas_trace.specs.EveryPlan.{AreSound, IsActorBy, IsSoundWork, asked_after}
 use Rattle.pas_trace.specs.declared.plan.{Op.Op, Chore.Chore, Work.Work}
 use Rattle.pas_threads.specs.Hands.{and_left, ScavengerAt}
 use Rattle.pas_threads.specs.Crews.{Crew, crew, CrewStands, CrewDoes, CrewSits, CrewActs}
-use Rattle.pas_threads.proofs.CrewSits.{lent_stays, acts_in_turn}
+use Rattle.pas_threads.proofs.CrewSits.{lent_stays}
 
 -- ---- what is said of one thread's stop
 -- that it was stopped says the scavenger

@@ -9,7 +9,7 @@ use Rattle.pas_cache.specs.Caches.{cached}
 use Rattle.pas_shared.specs.Ruled.{IsEarlier}
 use Rattle.pas_shared.specs.declared.{region.SharedRegion.SharedRegion, pass.SharedPass.SharedPass}
 use Rattle.pas_answers.specs.{Answers.Progress, Stages.Stage, Stages.one_by_one}
-use Rattle.pas_acts.proofs.ActsLeft.{number_next, number_last}
+use Rattle.pas_acts.proofs.{ActsLeft.number_next, ActsLeft.number_last}
 use Rattle.pas_threads.specs.Pairs.{no_more, HasKeeper, AreGuarded, IsButKeeper, KeeperLowered, MayLower}
 use Rattle.pas_threads.specs.Sessions.{Session, evenly, AreResting, StandSo, WentBy}
 use Rattle.pas_threads.specs.Settling.{PassStands, ActorsStand, StoppedSo, LoweredSo}
@@ -61,7 +61,7 @@ module _ {region : SharedRegion} {s : Session} {slot : Option SharedPass} {now :
   its_own e x is = subst (λ (y : Keeper). PassStands region k did.did.reached.list (Some y.pass)) (same_Some after x (sym lowered ∙ is)) (record { pass = after.pass; present = refl; of = did.of; actor = did.did.stands.sits.actor; made = did.did.stands.sits.stood })
 
   -- After a keeper lowered its guards, all actors stand, each with the steps that the list has of it.
-  pub lowered_stands : ActorsStand region s slot (set now i w) did.did.reached.list
+  lowered_stands : ActorsStand region s slot (set now i w) did.did.reached.list
   lowered_stands =
       let all = all_have at.guarded in
       let threads = at.many in
@@ -130,8 +130,7 @@ stops_end {region} {s} {slot} {old} {now} {later} {before} {after} {p} i le ge s
     let n = length old in
     let all : ends_from 0 n ≡ map Ends (numbers_from 1 n) = ap (λ (m : ℕ). map Ends (numbers_from 1 m)) (let whole : n - 0 ≡ n = omega arith in whole) in
     let at : i ≡ n = omega (arith, le, ge) in
-    subst (λ (m : ℕ). StoppedSo region s slot (map Ends (numbers_from 1 n)) m old now later before after p) at
-    (subst (λ (acts : List Act). StoppedSo region s slot acts i old now later before after p) all (at_last (ap (λ (ks : List ℕ). map Ends ks) (number_last (i + 1) (n - i) (omega (arith, le)))) so))
+    rw (all, at) at (at_last (ap (λ (ks : List ℕ). map Ends ks) (number_last (i + 1) (n - i) (omega (arith, le)))) so)
 
 -- ---- the sweeps
 abbrev pub LowersSoFar : SharedRegion → Session → Option SharedPass → ℕ → List Worker → List Worker → Whole → Whole → Progress → Type 0
@@ -195,5 +194,4 @@ lowers_end {region} {s} {slot} {old} {now} {before} {after} {p} i may le ge so =
     let all : lowers_from threads keepers 0 ≡ map Lowers (numbers_from (threads + 1) keepers) =
     ap (λ (k : ℕ). map Lowers (numbers_from k (keepers - 0))) (let first : threads + 1 + 0 ≡ threads + 1 = omega arith in first) ∙ ap (λ (n : ℕ). map Lowers (numbers_from (threads + 1) n)) (let whole : keepers - 0 ≡ keepers = omega arith in whole)
     in
-    subst (λ (m : ℕ). LoweredSo region s slot (map Lowers (numbers_from (threads + 1) keepers)) m old now before after p) at
-    (subst (λ (acts : List Act). LoweredSo region s slot acts i old now before after p) all (at_last (ap (λ (ks : List ℕ). map Lowers ks) (number_last (threads + 1 + i) (keepers - i) (omega (arith, most, le)))) so))
+    rw (all, at) at (at_last (ap (λ (ks : List ℕ). map Lowers ks) (number_last (threads + 1 + i) (keepers - i) (omega (arith, most, le)))) so)

@@ -5,31 +5,29 @@ use Rattle.std.proofs.lemmas.{Bool.cases_eq, Option.same_Some, List.get_or_defau
 use Rattle.pas_profile.specs.declared.profile.Profile.{Profile}
 use Rattle.pas_steps.specs.{Noted.AreNotesOf, Desks.Standing, Lists.Whole, Lists.part, Views.View}
 use Rattle.pas_steps.specs.declared.notes.Notes.{Notes}
-use Rattle.pas_report.specs.Rooms.{Records, records_in, room_of}
+use Rattle.pas_report.specs.Rooms.{Records}
 use Rattle.pas_cache.specs.Caches.{Cached, cached}
 use Rattle.pas_core.proofs.Choosing.{steps_by_same}
 use Rattle.pas_shared.specs.Ruled.{among, made_in, all_actors, HasRow, only, only_this, isnt, rows_of, rows_of_only, steps_of, IsRowOf, AreRowsOf}
-use Rattle.pas_shared.specs.Benches.{empty_row, first_row, row_on, rows_on, home_of, seat_of_member, standing_on, HasLooked, IsBenchOf, IsFreshRow, IsMemberOf}
+use Rattle.pas_shared.specs.Benches.{empty_row, first_row, row_on, rows_on, seat_of_member, standing_on, HasLooked, IsBenchOf, IsFreshRow, IsMemberOf}
 use Rattle.pas_shared.specs.Benches.{SitsInRow, MaySitOn, StandsOver}
 use Rattle.pas_shared.specs.{Ledgers.part_of, Passes.seat_of, Passes.view_of, Passes.IsPassOf}
 use Rattle.pas_shared.specs.declared.{bench.Bench.Bench, bench.Member.Member, bench_desk.BenchDesk.BenchDesk, bench_desk.BenchHome.BenchHome}
 use Rattle.pas_shared.specs.declared.{pass.SharedPass.SharedPass, region.SharedRegion.SharedRegion, rule.Entry.Entry, rule.Row.Row}
 use Rattle.pas_shared.proofs.Benching.{among_only, among_picked, row_tells, stands_first}
 use Rattle.pas_trace.specs.Acts.{Act, StopsIdle}
-use Rattle.pas_answers.specs.{Answers.Progress, Ways.EachOf, Ways.records_by}
-use Rattle.pas_answers.proofs.{OwnRecords.records_both, Reached.goes_on}
+use Rattle.pas_answers.specs.Answers.{Progress}
+use Rattle.pas_answers.proofs.{Reached.goes_on}
 use Rattle.pas_report.specs.declared.record.Record.{Record}
 use Rattle.pas_acts.specs.{Works.Later, Turns.RestsAt, Keepers.StandsStill, AtDesks.here, AtDesks.told_if, AtDesks.ThreadActs}
-use Rattle.pas_acts.proofs.AtDesk.{rests_still, leaves_rest}
-use Rattle.pas_threads.specs.{Hands.standing_of_pass, Left.crew_in, Left.KeepsOrder, Sessions.WorkerHas, Scavengers.CrewHasLeft}
-use Rattle.pas_threads.specs.Turns.{AreDistinct, Came, Pushed, Told, TookTurns}
-use Rattle.pas_threads.specs.Lent.{Shift, number_in, AreBeside, IsLent, AreLent, SitsAmong, standing_among, standing_at, home_at, WorkerSits, SitsLent}
-use Rattle.pas_threads.specs.Lent.{AreOfCrew, TellAs, IsButPlace, HasSeat, AreSeated, IsDeskAt, StopsLent, MayLeave, HasLeave, MayLeaveAll, HaveLeave}
+use Rattle.pas_acts.proofs.{AtDesk.rests_still}
+use Rattle.pas_threads.specs.{Hands.standing_of_pass, Left.crew_in, Left.KeepsOrder, Sessions.WorkerHas, Scavengers.CrewHasLeft, Turns.Pushed, Turns.Told}
+use Rattle.pas_threads.specs.Lent.{Shift, number_in, IsLent, AreLent, SitsAmong, standing_among, standing_at, home_at, WorkerSits, SitsLent, AreOfCrew, TellAs}
+use Rattle.pas_threads.specs.Lent.{IsButPlace, HasSeat, AreSeated, IsDeskAt, StopsLent, MayLeave, HasLeave, MayLeaveAll, HaveLeave}
 use Rattle.pas_threads.specs.Crews.{crew, CrewAt, CrewSits, CrewActs, CrewSat, CrewMayRise, CrewRose}
 use Rattle.pas_threads.specs.declared.workers.Worker.{Worker}
-use Rattle.pas_threads.proofs.Sitting.{seated}
-use Rattle.pas_threads.proofs.Benched.{row_part, rows_part, has_seat, member_seat, sits_as, keeps_order}
-use Rattle.pas_threads.proofs.TakingTurns.{Stays, came_both, told_none, told_both, set_each, by_own, by_other}
+use Rattle.pas_threads.proofs.Benched.{seated, row_part, rows_part, has_seat, member_seat, sits_as, keeps_order}
+use Rattle.pas_threads.proofs.TakingTurns.{Stays, set_each}
 
 -- ---- who is among some actors
 among_cases : (n k : ℕ) (ns : List ℕ) → among (n ∷ ns) k ≡ true → (n ≡ k) ⊎ (among ns k ≡ true)
@@ -74,7 +72,7 @@ isnt_itself : (j k : ℕ) → isnt (only_this j) k ≡ true → k ≢ j
 isnt_itself j k h same = true≢false (sym h ∙ ap (λ (b : Bool). if b then false else true) (eq-eqb k j same))
 
 -- all of the crew, and nobody else
-pub crew_among : {s : Shift} {actors : List ℕ} → AreOfCrew s 0 (length s.idle) actors → (k : ℕ) → among actors k ≡ crew_in s.idle k
+crew_among : {s : Shift} {actors : List ℕ} → AreOfCrew s 0 (length s.idle) actors → (k : ℕ) → among actors k ≡ crew_in s.idle k
 crew_among {s} {actors} crew k = both_true (among actors k) (crew_in s.idle k)
     (λ its. ⊎_elim
     (λ own. among_here 0 k s.idle (sym own))
@@ -104,7 +102,7 @@ rests_as seat to at = record { sits = sits_as seat to at.sits; cache = at.cache;
 same_worker : {f : Profile} {k : ℕ} {σ : Standing} {old new : Worker} {later : Later} {p : Progress} → IsButPlace old new
     → RestsAt f k σ (cached old.cache) old.out later p → RestsAt f k σ (cached new.cache) new.out later p
 same_worker {f} {k} {σ} {old} {new} {later} {p} but at =
-    subst (λ (rs : Records). RestsAt f k σ (cached new.cache) rs later p) (sym but.out) (subst (λ (c : Cached). RestsAt f k σ c old.out later p) (ap cached (sym but.cache)) at)
+    rw (but.out, but.cache) at
 
 -- among more actors
 sits_wider : {region : SharedRegion} {one more : List ℕ} {f : Profile} {k : ℕ} {worker : Worker} {later : Later} {p : Progress}
@@ -160,7 +158,7 @@ pub seats_begin : {region : SharedRegion} {s : Shift} (old : List Worker) {rows 
 seats_begin old crew tell = record { each = λ j d less within. absurd (omega (arith, less)); left = λ j d from. refl; crew = crew; tell = tell }
 
 -- the next one has its pass still
-pub seats_next : {region : SharedRegion} {s : Shift} {i : ℕ} {old now : List Worker} {rows : List Row} {p : Progress} (d : Worker) → i < length old
+seats_next : {region : SharedRegion} {s : Shift} {i : ℕ} {old now : List Worker} {rows : List Row} {p : Progress} (d : Worker) → i < length old
     → AreLent region s old p → SeatedSoFar region s i old now rows p → IsLent region s i (get_or now i d) p
 seats_next {region} {s} {i} {old} {now} {rows} {p} d lt lent so = subst (λ (w : Worker). IsLent region s i w p) (sym (so.left i d (omega arith))) (lent.each i d lt)
 
@@ -204,14 +202,8 @@ seats_go_on {region} {s} {i} {old} {now} {rows} {rows'} {p} d w lt many lent so 
 -- Once each lent worker had its turn, all sit on the bench beside the scavenger.
 pub seats_end : {region : SharedRegion} {s : Shift} {i : ℕ} {old now : List Worker} {rows : List Row} {p : Progress} → length old ≤ i → i ≤ length old
     → length now ≡ length old → AreLent region s old p → SeatedSoFar region s i old now rows p → AreSeated region s old now rows p
-seats_end {region} {s} {i} {old} {now} {rows} {p} le ge many lent so =
-    let size : i ≡ length s.idle = omega (arith, le, ge, lent.many) in
-    record {
-      lent = record { many = many ∙ lent.many; each = λ j d lt. (so.each j d (omega (arith, lt, le, many)) (omega (arith, lt, many))).0 };
-      crew = subst (λ (n : ℕ). AreOfCrew s 0 n (all_actors rows)) size so.crew;
-      tell = so.tell;
-      but = λ j d lt. (so.each j d (omega (arith, lt, le)) lt).1;
-    }
+-- Each place is below `i` then, which is the number of the idle threads.
+seats_end {region} {s} {i} {old} {now} {rows} {p} le ge many lent so = search arith
 
 -- ---- at the desk
 -- a worker of the bench may take the place there
@@ -225,17 +217,7 @@ tells_of {desk = desk} {p} at k its = row_tells (row_on desk.place.bench) p.list
 -- A lent worker that sits on the bench may sit down at its desk.
 pub may_sit : {h : BenchHome} {desk : BenchDesk} {f : Profile} {k : ℕ} {worker : Worker} {later : Later} {p : Progress} → IsDeskAt h desk p
     → (w : WorkerSits h.region h.row.actors f k worker later p) → MaySitOn desk.region.now desk.place.bench w.member
-may_sit {h} {desk} {f} {k} {worker} {later} {p} at w =
-    let member = w.member in
-    let stood = w.rests.sits.stood in
-    let actor = w.rests.sits.actor in
-    let its = at_home desk at.home member.actor ∙ stood.among_them in
-    record {
-      of = desk.of;
-      profile = stood.profile ∙ sym (ap (λ (g : BenchHome). g.region.profile) at.home);
-      one = desk.place.one;
-      sits = record { among_them = its; noted = subst (λ (v : View). AreNotesOf member.actor v member.notes) (ap (λ (j : ℕ). part j p.list) (sym actor) ∙ tells_of at member.actor its) stood.noted };
-    }
+may_sit {h} {desk} {f} {k} {worker} {later} {p} at w = search (arith, at_home, tells_of)
 
 -- there it rests as it did
 rests_there : {h : BenchHome} {desk : BenchDesk} {f : Profile} {k : ℕ} {worker : Worker} {later : Later} {p : Progress} → IsDeskAt h desk p
@@ -245,14 +227,9 @@ rests_there {h} {desk} {f} {k} {worker} {later} {p} at w =
     rests_as refl (λ stood. (sym (tells_of at w.member.actor (at_home desk at.home w.member.actor ∙ stood.among_them)) ∙ ap (λ (j : ℕ). part j p.list) w.rests.sits.actor, at.over)) w.rests
 
 -- what is so of the bench and the member is so of the desk
-pub at_desk : (At : Standing → Type 0) (desk : BenchDesk) {bench : Bench} {member : Member} → desk.place.bench ≡ bench → desk.place.member ≡ member
+at_desk : (At : Standing → Type 0) (desk : BenchDesk) {bench : Bench} {member : Member} → desk.place.bench ≡ bench → desk.place.member ≡ member
     → At (standing_on bench member) → At (standing_at desk)
 at_desk At desk {bench} {member} b m at = subst (λ (x : Bench). At (standing_on x desk.place.member)) (sym b) (subst (λ (y : Member). At (standing_on bench y)) (sym m) at)
-
--- What holds at a desk holds of its bench and member, by whatever names these are called.
-pub from_desk : (At : Standing → Type 0) (desk : BenchDesk) {bench : Bench} {member : Member} → desk.place.bench ≡ bench → desk.place.member ≡ member
-    → At (standing_at desk) → At (standing_on bench member)
-from_desk At desk {bench} {member} b m at = subst (λ (y : Member). At (standing_on bench y)) m (subst (λ (x : Bench). At (standing_on x desk.place.member)) b at)
 
 -- A lent worker that has the desk rests there with its cache.
 pub rests_at : {h : BenchHome} {desk : BenchDesk} {f : Profile} {k : ℕ} {worker : Worker} {later : Later} {p : Progress} (now : BenchDesk) {member : Member}
@@ -263,25 +240,14 @@ rests_at {desk = desk} {f} {k} {worker} {later} {p} now is b m at w =
 
 -- A desk whose bench and region are as before has the same home.
 pub home_moved : (desk now : BenchDesk) → now.region.now ≡ desk.region.now → now.place.bench ≡ desk.place.bench → home_at now ≡ home_at desk
-home_moved desk now region bench = ap (λ (r : SharedRegion). home_of r (row_on now.place.bench)) region ∙ ap (λ (b : Bench). home_of desk.region.now (row_on b)) bench
+home_moved desk now region bench = cc
 
 -- the one that made way for it may take its place again
 pub may_again : {h : BenchHome} {desk : BenchDesk} {p : Progress} (mid : BenchDesk) (q : Progress) (risen : Member) → risen ≡ desk.place.member
     → IsDeskAt h desk p → home_at mid ≡ h → StandsOver (row_on mid.place.bench) q.list
     → part desk.place.member.actor q.list ≡ part desk.place.member.actor p.list
     → MaySitOn mid.region.now mid.place.bench risen
-may_again {h} {desk} {p} mid q risen is at home over same =
-    let member = desk.place.member in
-    let a = member.actor in
-    let there = desk.place.sits.among_them in
-    let its : among (row_on mid.place.bench).actors a ≡ true = at_home mid home a ∙ (sym (at_home desk at.home a) ∙ there) in
-    let made : made_in (row_on desk.place.bench) a ≡ made_in (row_on mid.place.bench) a = sym (tells_of at a there) ∙ (sym same ∙ row_tells (row_on mid.place.bench) q.list a over its) in
-    subst (λ (m : Member). MaySitOn mid.region.now mid.place.bench m) (sym is) record {
-      of = mid.of;
-      profile = desk.profiled ∙ (ap (λ (g : BenchHome). g.region.profile) at.home ∙ sym (ap (λ (g : BenchHome). g.region.profile) home));
-      one = mid.place.one;
-      sits = record { among_them = its; noted = subst (λ (v : View). AreNotesOf a v member.notes) made desk.place.sits.noted };
-    }
+may_again {h} {desk} {p} mid q risen is at home over same = search (arith, at_home, tells_of)
 
 -- a worker that sat at the desk sits on the bench beside it
 sits_beside : {h : BenchHome} (mid : BenchDesk) {f : Profile} {k : ℕ} {worker : Worker} {later : Later} {q : Progress} → home_at mid ≡ h
@@ -320,42 +286,6 @@ was_stopped {h} {f} {k} {n} {bench} {bench'} {old} {new} {out} {out'} {later} {p
     } in
     subst (λ (x : Bench). StopsLent h f k n bench x old new out out' later p) (sym b2) (subst (λ (x : Bench). StopsLent h f k n x mid.place.bench old new out out' later p) b at_mid)
 
--- ---- a turn at the desk
--- the worker at this place acted, and the others stand as they did
-abbrev pub acts_in_turn : {f : Profile} {number : ℕ → ℕ} {Stands : ℕ → Worker → Progress → Type 0} {acts : List Act} {act : Act} {told : List Record}
-    {old now : List Worker} {later : Later} {p : Progress} {σ τ : Standing}
-    → Stays number Stands → AreDistinct number (length old) → EachOf 0 told
-    → (i : ℕ) (d w : Worker) → i < length old → length now ≡ length old → (so : TookTurns f number Stands acts old now p)
-    → (x : ThreadActs f (number i) (act ∷ []) [] told (here σ (cached (get_or now i d).cache) (get_or now i d).out) (here τ (cached w.cache) w.out) later so.came.reached)
-    → w.requests ≡ (get_or now i d).requests → w.keeper ≡ (get_or now i d).keeper → Stands i w x.reached
-    → TookTurns f number Stands (acts ++ (act ∷ [])) old (set now i w) p
-acts_in_turn {f} {number} {Stands} {act = act} {told} {old} {now} stays apart theirs i d w lt many so x requests keeper stands =
-    let k = number i in
-    let one : Came f (act ∷ []) so.came.reached = record { reached = x.reached; reaches = x.reaches; said = x.own ++ told; records_are = x.records_are } in
-    let leaves = leaves_rest x in
-    let here : i < length now = omega (arith, lt, many) in
-    let others : (j : ℕ) → 0 ≢ j → k ≢ j → records_by j (x.own ++ told) ≡ [] = λ j some ne. by_other j k x.own told x.each theirs ne some in
-    let mine : Told k (x.own ++ told) (get_or now i d) w = record {
-      out = record { added = x.pushed ∙ ap (λ (rs : List Record). records_in (get_or now i d).out ++ rs) (sym (by_own k x.own told x.each theirs (apart.threads i lt))); room = x.room };
-      requests = requests;
-      keeper = keeper;
-    } in
-    record {
-      came = came_both so.came one;
-      stand = λ j e less. set_each (λ (m : ℕ) (y : Worker). Stands m y x.reached) now i w e j here stands
-          (λ ne. stays j (get_or now j e) so.came.reached x.reached (leaves.parts (number j) (apart.apart j i less lt ne)) (leaves.caches (number j) (apart.apart j i less lt ne)) leaves.names (so.stand j e less));
-      told = λ j e less. set_each (λ (m : ℕ) (y : Worker). Told (number m) (so.came.said ++ (x.own ++ told)) (get_or old m e) y) now i w e j here
-          (told_both (so.told i e lt) (subst (λ (y : Worker). Told k (x.own ++ told) y w) (get_or_default now i d e here) mine))
-          (λ ne. told_both (so.told j e less) (told_none (others (number j) (apart.threads j less) (apart.apart i j lt less (λ is. ne (sym is))))));
-      leaves = record {
-        parts = λ j other. leaves.parts j (λ (same : j ≡ k). other i lt (sym same)) ∙ so.leaves.parts j other;
-        silent = λ j some other. records_both j so.came.said (x.own ++ told) ∙ ap (λ (rs : List Record). rs ++ records_by j (x.own ++ told)) (so.leaves.silent j some other) ∙ others j some (other i lt);
-        names = leaves.names ∙ so.leaves.names;
-        books = x.books ∙ so.leaves.books;
-        epoch = leaves.epoch ∙ so.leaves.epoch;
-      };
-    }
-
 -- ---- all sat down
 module _ {region : SharedRegion} {s : Shift} {old new : List Worker} {p : Progress} {rows : List Row} (bench : Bench) (looked : HasLooked rows (rows_on bench))
     (all : AreSeated region s old new rows p) where
@@ -367,11 +297,11 @@ module _ {region : SharedRegion} {s : Shift} {old new : List Worker} {p : Progre
   saw k its = rows_part rows (steps_of looked.base) k (part k p.list) looked.rows (all.tell k its)
 
   -- After the look, the row on the bench has of each of its actors what the list tells.
-  pub made_seen : (k : ℕ) → among (all_actors rows) k ≡ true → made_in (row_on bench) k ≡ part k p.list
+  made_seen : (k : ℕ) → among (all_actors rows) k ≡ true → made_in (row_on bench) k ≡ part k p.list
   made_seen k its = ap (λ (r : Row). made_in r k) row_is ∙ saw k its
 
   -- After the look, the actors of the row are those of all rows before it.
-  pub is_among : (k : ℕ) → among (row_on bench).actors k ≡ among (all_actors rows) k
+  is_among : (k : ℕ) → among (row_on bench).actors k ≡ among (all_actors rows) k
   is_among k = ap (λ (r : Row). among r.actors k) row_is
 
   -- so the scavenger may sit down at the desk
@@ -467,11 +397,11 @@ module _ {region : SharedRegion} {s : Shift} {all : List ℕ} {base : List Entry
   next_sits = subst (λ (w : Worker). SitsLent region all s i w p) (sym (so.left i d (omega arith))) (may.lent.each i d lt)
 
   is_there : (member : Member) → member.actor ≡ number_in s i → among so.actors member.actor ≡ true
-  is_there member actor = subst (λ (j : ℕ). among so.actors j ≡ true) (sym actor) (so.crew.lent i (omega arith) (let many = may.lent.many in omega (arith, lt, many)))
+  is_there member actor = subst (λ (j : ℕ). among so.actors j ≡ true) (sym actor) (so.crew.lent i (omega arith) (omega (arith, lt, may.lent.many)))
 
   -- and the row says of it what the replay told
   row_says : (member : Member) → member.actor ≡ number_in s i → made_in (first_row rows) member.actor ≡ part (number_in s i) p.list
-  row_says member actor = ap (λ (rs : List Row). made_in (first_row rs) member.actor) so.fresh ∙ may.tell member.actor (so.within member.actor (is_there member actor)) ∙ ap (λ (j : ℕ). part j p.list) actor
+  row_says member actor = cc (may.tell member.actor (so.within member.actor (is_there member actor)))
 
   -- While others have left, the next lent worker may leave the bench.
   pub leaves_next : MayLeave region rows (get_or now i d)
@@ -506,7 +436,6 @@ module _ {region : SharedRegion} {s : Shift} {all : List ℕ} {base : List Entry
       let test = isnt (only_this a) in
       let has = has_again left in
       let mine : a ≡ number_in s i = ap (λ (m : Member). m.actor) (same_Some _ _ (sym left.may.present ∙ next_sits.present)) ∙ next_sits.rests.sits.actor in
-      let size = may.lent.many in
       record {
         each = λ j e less within. set_each (λ (m : ℕ) (x : Worker). IsLent region s m x p × IsButPlace (get_or old m e) x) now i w e j (omega (arith, lt, many))
             (has, subst (λ (x : Worker). IsButPlace x w) (so.left i d (omega arith) ∙ get_or_default old i d e lt) left.but)
@@ -515,15 +444,14 @@ module _ {region : SharedRegion} {s : Shift} {all : List ℕ} {base : List Entry
         actors = only test so.actors;
         fresh = left.rows_are ∙ ap (λ (rs : List Row). rows_of_only test rs) so.fresh;
         crew = record {
-          own = among_picked test so.actors 0 so.crew.own (isnt_other a 0 (λ same. s.distinct.threads i (omega (arith, lt, size)) (same ∙ mine)));
+          own = among_picked test so.actors 0 so.crew.own (isnt_other a 0 (λ same. s.distinct.threads i (omega (arith, lt, may.lent.many)) (same ∙ mine)));
           lent = λ j from to. among_picked test so.actors (number_in s j) (so.crew.lent j (omega (arith, from)) to)
-              (isnt_other a (number_in s j) (λ same. s.distinct.apart j i to (omega (arith, lt, size)) (λ is. omega (arith, is, from)) (same ∙ mine)));
+              (isnt_other a (number_in s j) (λ same. s.distinct.apart j i to (omega (arith, lt, may.lent.many)) (λ is. omega (arith, is, from)) (same ∙ mine)));
           only = λ k its.
               let both = among_only test so.actors k its in
               ⊎_elim inl (λ (t : (j : ℕ) × (i ≤ j) × (j < length s.idle) × (number_in s j ≡ k)).
               let ne : t.0 ≢ i = λ (is : t.0 ≡ i). isnt_itself a k both.1 (sym t.3 ∙ (ap (number_in s) is ∙ sym mine)) in
-              let from = t.1 in
-              inr (t.0, omega (arith, from, ne), t.2, t.3)) (so.crew.only k both.0);
+              inr (t.0, omega (arith, t.1, ne), t.2, t.3)) (so.crew.only k both.0);
         };
         within = λ k its. so.within k (among_only test so.actors k its).0;
       }
@@ -545,7 +473,7 @@ leaves_end le many may so =
       actors = so.actors;
       fresh = so.fresh;
       own = so.crew.own;
-      only = λ k its. ⊎_elim (λ is. is) (λ t. absurd (let from = t.1 in let to = t.2 in omega (arith, from, to, le, size))) (so.crew.only k its);
+      only = λ k its. ⊎_elim (λ is. is) (λ t. absurd (omega (arith, t.1, t.2, le, size))) (so.crew.only k its);
     }
 
 -- ---- all rise
@@ -573,7 +501,7 @@ module _ {region : SharedRegion} {s : Shift} {lent : List Worker} {p : Progress}
   module _ (bench left : Bench) {now : List Worker} (looked : HasLooked (rows_on desk.place.bench) (rows_on bench))
       (have : HaveLeave region s lent now looked.base (rows_on left) p) where
     own_made : made_in (first_row (rows_on left)) desk.place.member.actor ≡ made_in row desk.place.member.actor
-    own_made = ap (λ (rs : List Row). made_in (first_row rs) desk.place.member.actor) have.fresh ∙ row_part row (steps_of looked.base) desk.place.member.actor (row_seen bench looked) desk.place.sits.among_them
+    own_made = cc (row_part row (steps_of looked.base) desk.place.member.actor (row_seen bench looked) desk.place.sits.among_them)
 
     -- The scavenger still sits in the row once all that were lent left it.
     pub own_sits : SitsInRow (first_row (rows_on left)) desk.place.member
@@ -599,7 +527,7 @@ module _ {region : SharedRegion} {s : Shift} {lent : List Worker} {p : Progress}
           but = have.but;
           of = of;
           base = looked.base;
-          rows = rows ∙ (ap (λ (rs : List Row). rows_of_only test rs) have.fresh ∙ ap (λ (ks : List ℕ). record { actors = ks; made = []; base = looked.base } ∷ []) none);
+          rows = cc;
           saw = row_seen bench looked;
         }
 
@@ -609,23 +537,11 @@ pub crew_sits : {region : SharedRegion} {s : Shift} {acts : List Act} {pass : Sh
     (desk : BenchDesk)
     → desk.region.now ≡ region → CrewAt region s acts (crew (standing_of_pass pass) old places out) p
     → CrewSat region s pass desk old new p → CrewSits (home_at desk) s acts (crew (standing_at desk) new places out) p
-crew_sits {s = s} {new = new} {p = p} desk is at sat = record {
-  stands = record {
-    stands = record { sits = sits_as sat.seat (λ stood. sat.stands) at.stands.stands.sits; spare = at.stands.stands.spare };
-    has_places = at.stands.has_places;
-  };
-  lent = subst (λ (r : SharedRegion). AreBeside (SitsLent r (row_on desk.place.bench).actors s) s new p) (sym is) sat.lent;
-}
+crew_sits {s = s} {new = new} {p = p} desk is at sat = search (arith, sits_as)
 
 told_between : {k : ℕ} {said : List Record} {a b c d : Worker} → IsButPlace a b → Told k said b c → IsButPlace c d → Told k said a d
-told_between {k} {said} one told two = record {
-  out = record {
-    added = ap (λ (rs : Records). records_in rs) two.out ∙ (told.out.added ∙ ap (λ (rs : Records). records_in rs ++ records_by k said) one.out);
-    room = ap (λ (rs : Records). room_of rs) two.out ∙ (told.out.room ∙ ap (λ (rs : Records). room_of rs) one.out);
-  };
-  requests = two.requests ∙ (told.requests ∙ one.requests);
-  keeper = two.keeper ∙ (told.keeper ∙ one.keeper);
-}
+-- What the worker said went into the same records, which were moved before and after.
+told_between {k} {said} one told two = search arith
 
 module _ {region : SharedRegion} {s : Shift} {acts : List Act} {pass : SharedPass} {lent sat1 sat2 : List Worker} {places places' : ℕ} {out out' : Records}
     {p : Progress} (desk now : BenchDesk) (is : desk.region.now ≡ region) (home : home_at now ≡ home_at desk)
@@ -635,15 +551,7 @@ module _ {region : SharedRegion} {s : Shift} {acts : List Act} {pass : SharedPas
 
   -- After its acts the crew may rise from the bench.
   pub crew_may_rise : CrewMayRise region s now sat2 did.came.reached
-  crew_may_rise =
-      let sits = did.stands.stands.stands.sits in
-      record {
-        own = sits.actor;
-        over = sits.stood.1;
-        lent = subst (λ (ks : List ℕ). AreBeside (SitsLent region ks s) s sat2 did.came.reached) (sym actors_same)
-            (subst (λ (r : SharedRegion). AreBeside (SitsLent r (row_on desk.place.bench).actors s) s sat2 did.came.reached) is did.stands.lent);
-        crew = subst (λ (ks : List ℕ). AreOfCrew s 0 (length s.idle) ks) (sym actors_same) sat.crew;
-      }
+  crew_may_rise = search (arith, actors_same)
 
   -- A crew that sat down, acted and rose did its acts with passes, and left a bench that saw in which order.
   pub crew_left : {after : SharedPass} {bench : Bench} {new : List Worker} → length sat1 ≡ length lent → length sat2 ≡ length sat1

@@ -8,7 +8,7 @@ use Rattle.pas_bits.specs.Masks.{is_set}
 use Rattle.pas_bits.specs.declared.mask.Mask4.{Mask4}
 use Rattle.pas_trace.specs.declared.plan.Op.{Op}
 use Rattle.pas_trace.specs.Acts.{is_active, numbers_from, idle_threads}
-use Rattle.pas_acts.proofs.ActsLeft.{threads_alike}
+use Rattle.pas_acts.proofs.{ActsLeft.threads_alike}
 use Rattle.pas_threads.specs.Dealing.{picked, count_of, is_in, is_out, AreDealt, AreSized}
 use Rattle.pas_threads.specs.{Turns.AreDistinct, Pairs.MayDoPhase, Pairs.DidPhase, Scavengers.MayScavenge, Scavengers.DidScavenge, Acting.MayAct, Acting.DidAct}
 use Rattle.pas_threads.specs.{Acting.DidEach}
@@ -156,7 +156,7 @@ module _ (chosen : ℕ → Bool) (k : ℕ) (pile left : List Worker) {all : List
   -- A worker whose number is chosen goes from those that are left to the end of the pile.
   pub pile_grows : (w : Worker) (left' : List Worker) → chosen k ≡ true → left ≡ w ∷ left' → (pile ++ w ∷ []) ++ picked chosen (k + 1) left' ≡ all
   pile_grows w left' on is =
-      append_assoc pile (w ∷ []) (picked chosen (k + 1) left') ∙ ap (λ (ws : List Worker). pile ++ ws) (sym (ap (λ (ws : List Worker). picked chosen k ws) is ∙ first_in chosen k w left' on)) ∙ so
+      cc (append_assoc pile (w ∷ []) (picked chosen (k + 1) left'), first_in chosen k w left' on)
 
   -- A worker whose number isn't chosen leaves the pile as it is.
   pub pile_stays : (w : Worker) (left' : List Worker) → chosen k ≡ false → left ≡ w ∷ left' → pile ++ picked chosen (k + 1) left' ≡ all
@@ -203,7 +203,7 @@ module _ {chosen : ℕ → Bool} {left : ℕ} {all back : List Worker} where
         others,
         refl,
         record {
-          whole = ap (λ (ws : List Worker). ws ++ others) (picked_more chosen 1 back w ∙ ap (λ (b : Bool). picked chosen 1 back ++ (if b then w ∷ [] else [])) on) ∙ append_assoc (picked chosen 1 back) (w ∷ []) others ∙ pile.whole;
+          whole = simp (picked_more, on, append_assoc, pile.whole);
           many = omega (arith, some, next);
         },
       )
@@ -215,7 +215,7 @@ module _ {chosen : ℕ → Bool} {left : ℕ} {all back : List Worker} where
       let same = pile.many ∙ ap (λ (b : Bool). if b then suc (count_of chosen (1 + length back + 1) left) else count_of chosen (1 + length back + 1) left) off in
       let next = ap (λ (k : ℕ). count_of chosen k left) (let long = length-append back (w ∷ []) in let is : 1 + length (back ++ w ∷ []) ≡ 1 + length back + 1 = omega (arith, long) in is) in
       record {
-        whole = ap (λ (ws : List Worker). ws ++ rest) (picked_more chosen 1 back w ∙ ap (λ (b : Bool). picked chosen 1 back ++ (if b then w ∷ [] else [])) off ∙ append-nil (picked chosen 1 back)) ∙ pile.whole;
+        whole = simp (picked_more, off, append-nil, pile.whole);
         many = same ∙ sym next;
       }
 
@@ -305,7 +305,7 @@ all_taken {mask} {threads = threads} so none =
     let own = nil_from_length so.own (so.inside.many ∙ ap (λ (n : ℕ). count_of (is_in mask) (1 + length threads) n) none) in
     let rest = nil_from_length so.rest (so.outside.many ∙ ap (λ (n : ℕ). count_of (is_out mask) (1 + length threads) n) none) in (
       (
-        so.all_are ∙ ap (λ (ws : List Worker). map Thread ws) (sym so.inside.whole ∙ ap (λ (ws : List Worker). picked (is_in mask) 1 threads ++ ws) own ∙ append-nil (picked (is_in mask) 1 threads)),
+        cc (append-nil (picked (is_in mask) 1 threads)),
         sym so.outside.whole ∙ ap (λ (ws : List Worker). picked (is_out mask) 1 threads ++ ws) rest ∙ append-nil (picked (is_out mask) 1 threads),
       ),
       so.hands_are ∙ ap (λ (ws : List Worker). reverse (map Thread ws)) own,

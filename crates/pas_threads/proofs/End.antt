@@ -1,8 +1,9 @@
--- The end of a replay: the passes of all actors, and what the closed region shows.
+-- The end of a replay: the passes of all actors, how they are taken out, one after the other, and what the closed region shows.
 use Rattle.std.proofs.Common.{◌≡◌, ℕ, zero, suc, ◌+◌, ◌-◌, ◌/◌, ◌<◌, ◌≤◌, List, [], ◌∷◌, ◌++◌, length, map, get_or, All, Bool, if◌then◌else◌, inl, inr, Option}
-use Rattle.std.proofs.Common.{Some, None, refl, ap, sym, ◌∙◌, subst, arith, length-append, ne_eqb}
+use Rattle.std.proofs.Common.{Some, None, refl, ap, sym, ◌∙◌, subst, arith, length-append, ne_eqb, drop, append_assoc, append-nil}
 use Rattle.std.proofs.{lemmas.Bool.cases_lt, lemmas.List.get_or-map, lemmas.List.length-map, Math.ListN.get_or-append, Math.Seq.get_or-append-add}
 use Rattle.std.proofs.{lemmas.List.Elements.All-cons, lemmas.List.Elements.All-map, lemmas.List.Elements.All-append, lemmas.Option.same_Some}
+use Rattle.std.proofs.{lemmas.List.drop_more}
 use Rattle.pas_profile.specs.Profiles.{IsValid}
 use Rattle.pas_profile.specs.declared.profile.Profile.{Profile}
 use Rattle.pas_steps.specs.{Clear.HasNothing, Lists.Whole, Lists.part, Lists.Legal}
@@ -17,9 +18,9 @@ use Rattle.pas_shared.specs.{Ledgers.EndsAfter, Passes.seat_of, Passes.view_of, 
 use Rattle.pas_shared.specs.declared.{pass.SharedPass.SharedPass, region.SharedRegion.SharedRegion}
 use Rattle.pas_answers.specs.{Answers.Progress, Fit.AreOfThreads, Ways.OnThreads, Stages.stages_of, Stages.GoByStages}
 use Rattle.pas_answers.specs.Replays.{phases_of, region_of, threads_of, acts_of_plan, at_start, Shows}
-use Rattle.pas_answers.proofs.Consequences.{replays}
+use Rattle.pas_answers.proofs.{Consequences.replays}
 use Rattle.pas_trace.proofs.Keepers.{plan_actors}
-use Rattle.pas_acts.proofs.PlanFacts.{no_slots}
+use Rattle.pas_acts.proofs.{PlanFacts.no_slots}
 use Rattle.pas_steps.proofs.Nothing.{nothing_yet}
 use Rattle.pas_threads.specs.Hands.{HasPass}
 use Rattle.pas_threads.specs.Sessions.{Session, TeamAt, IsOfActors, HasReplayed}
@@ -116,15 +117,15 @@ module _ {region : SharedRegion} {s : Session} {team : Team} {end : Progress} (s
   -- all passes are back
   pub all_back : AreAllBack team
   all_back = All-cons IsBackAt team.scavenger.pass (own_passes ++ kept_passes team.threads.items) (stands.scavenger.has.pass, stands.scavenger.has.present)
-      (All-append IsBackAt own_passes (kept_passes team.threads.items) (All-map IsBackAt (λ (w : Worker). w.pass) team.threads.items (λ i d lt. let has = (stands.workers i d lt).here.has in (has.pass, has.present))) (kept_back team.threads.items))
+      (All-append IsBackAt own_passes (kept_passes team.threads.items) (All-map IsBackAt (λ (w : Worker). w.pass) team.threads.items (λ i d lt. let has = (stands.workers.threads i d lt).here.has in (has.pass, has.present))) (kept_back team.threads.items))
 
   -- A team has a slot for the pass of each thread, each keeper and the scavenger.
   pub all_slots : length (slots_of team) ≡ s.threads + s.keepers + 1
   all_slots =
       let to = length-map team.threads.items (λ (w : Worker). w.pass) in
       let both = length-append own_passes (kept_passes team.threads.items) in
-      let kept = kept_count team.threads.items stands.guarded in
-      omega (arith, to, both, kept, stands.many)
+      let kept = kept_count team.threads.items stands.workers.guarded in
+      omega (arith, to, both, kept, stands.workers.many)
 
   module _ (passes : List SharedPass) (back : map (λ (pass : SharedPass). Some pass) passes ≡ slots_of team) where
     count : length passes ≡ s.threads + s.keepers + 1
@@ -140,7 +141,7 @@ module _ {region : SharedRegion} {s : Session} {team : Team} {end : Progress} (s
     own_thread : (i : ℕ) (d : SharedPass) → suc i < length passes → i < length team.threads.items → IsOwn region end.list (suc i) (get_or passes (suc i) d)
     own_thread i d lt below =
         let w = some_worker team.threads.items i below in
-        let rests = stands.workers i w below in
+        let rests = stands.workers.threads i w below in
         let size = length-map team.threads.items (λ (w : Worker). w.pass) in
         let at = sym (get_or-map (λ (w : Worker). w.pass) team.threads.items i w None below) ∙ sym (get_or-append own_passes (kept_passes team.threads.items) None i (omega (arith, below, size))) ∙ slot_is (suc i) d lt in
         own_at region end.list (suc i) (get_or team.threads.items i w).pass rests.here.has (get_or passes (suc i) d) at rests.here.rests.sits.actor rests.here.rests.sits.stood
@@ -154,12 +155,12 @@ module _ {region : SharedRegion} {s : Session} {team : Team} {end : Progress} (s
         let below : j < length workers = omega (arith, kept, all.0) in
         let w = some_worker workers j below in
         let has = all.1 j w below in
-        let rests = stands.kept j w below in
+        let rests = stands.workers.kept j w below in
         let stood : KeeperStands region s.profile (s.threads + suc j) has.0 no_more end = stands_for (get_or workers j w).keeper has.0 has.1 rests.of rests.waits in
         let size = length-map workers (λ (w : Worker). w.pass) in
-        let place : s.threads + suc j ≡ suc (length own_passes + j) = omega (arith, stands.many, size) in
+        let place : s.threads + suc j ≡ suc (length own_passes + j) = omega (arith, stands.workers.many, size) in
         let at : Some has.0.pass ≡ Some (get_or passes (s.threads + suc j) d) =
-        sym (pass_at workers j w has.0 all.1 below has.1) ∙ sym (get_or-append-add own_passes (kept_passes workers) j None) ∙ ap (λ (k : ℕ). get_or (slots_of team) k None) (sym place) ∙ slot_is (s.threads + suc j) d lt in
+        cc (pass_at workers j w has.0 all.1 below has.1, get_or-append-add own_passes (kept_passes workers) j None, slot_is (s.threads + suc j) d lt) in
         subst (IsOwn region end.list (s.threads + suc j)) (same_Some has.0.pass (get_or passes (s.threads + suc j) d) at) (record { of_region = stood.of; actor = stood.at.sits.actor; part_is = stood.at.sits.stood })
 
     own : (k : ℕ) (d : SharedPass) → k < length passes → IsOwn region end.list k (get_or passes k d)
@@ -169,10 +170,10 @@ module _ {region : SharedRegion} {s : Session} {team : Team} {end : Progress} (s
     own (suc i) d lt =
         let all = count in
         elim (cases_lt i s.threads) [
-          | inl within ↦ own_thread i d lt (omega (arith, within, stands.many))
+          | inl within ↦ own_thread i d lt (omega (arith, within, stands.workers.many))
           | inr past ↦
               let place : s.threads + suc (i - s.threads) ≡ suc i = omega (arith, past) in
-              subst (λ (k : ℕ). IsOwn region end.list k (get_or passes k d)) place (own_keeper (i - s.threads) d (omega (arith, place, lt)) (omega (arith, past, lt, all)) stands.guarded)
+              subst (λ (k : ℕ). IsOwn region end.list k (get_or passes k d)) place (own_keeper (i - s.threads) d (omega (arith, place, lt)) (omega (arith, past, lt, all)) stands.workers.guarded)
         ]
 
     -- The passes in the slots of a team at the end are all of its region.
@@ -195,9 +196,9 @@ module _ {region : SharedRegion} {s : Session} {team : Team} {end : Progress} (s
   thread_bare : ((i : ℕ) (d : Worker) → i < length team.threads.items → (cached (get_or team.threads.items i d).cache).locals ≡ []) → (i : ℕ) → i < s.threads
       → HasNothing (part (suc i) end.list)
   thread_bare empty i lt =
-      let below : i < length team.threads.items = omega (arith, lt, stands.many) in
+      let below : i < length team.threads.items = omega (arith, lt, stands.workers.many) in
       let d = some_worker team.threads.items i below in
-      let rest = (stands.workers i d below).here.rests.sits.rest in
+      let rest = (stands.workers.threads i d below).here.rests.sits.rest in
       let none = no_slots (cached (get_or team.threads.items i d).cache).locals (empty i d below) in
       record { grains = λ g. rest.locals.grains g ∙ (none g).0; rights = λ page. rest.locals.rights page ∙ (none page).1; clear = rest.locals.clear }
 
@@ -209,7 +210,7 @@ module _ {region : SharedRegion} {s : Session} {team : Team} {end : Progress} (s
       let below : j < length workers = omega (arith, lt, all.0) in
       let w = some_worker workers j below in
       let has = all.1 j w below in
-      let rests = stands.kept j w below in
+      let rests = stands.workers.kept j w below in
       let stood : KeeperStands region s.profile (s.threads + suc j) has.0 no_more end = stands_for (get_or workers j w).keeper has.0 has.1 rests.of rests.waits in
       let fits = stood.at.sits.rest in
       let none = subst (λ (o : Option Keeper). IsLow o) has.1 (low j w below) in
@@ -223,7 +224,7 @@ module _ {region : SharedRegion} {s : Session} {team : Team} {end : Progress} (s
     | inr past ↦ elim (cases_lt i (s.threads + s.keepers)) [
       | inl kept ↦
           let place : s.threads + suc (i - s.threads) ≡ suc i = omega (arith, past) in
-          subst (λ (k : ℕ). HasNothing (part k end.list)) place (keeper_bare low (i - s.threads) (omega (arith, past, kept)) stands.guarded)
+          subst (λ (k : ℕ). HasNothing (part k end.list)) place (keeper_bare low (i - s.threads) (omega (arith, past, kept)) stands.workers.guarded)
       | inr far ↦ subst HasNothing (sym (stands.nobody (suc i) (omega (arith, far)))) nothing_yet
     ]
   ]
@@ -255,3 +256,69 @@ pub replayed_so : (plan : Plan) {region : SharedRegion} {so_far : Whole} {team :
     → slice ≡ the_phases plan.phases → HasReplayed region (session_of plan) (map ops_of slice) so_far team written
     → HasReplayed region (session_of plan) (phases_of plan) so_far team written
 replayed_so plan {region} {so_far} {team} {written} slice is replayed = subst (λ (ps : List Phase). HasReplayed region (session_of plan) (map ops_of ps) so_far team written) is replayed
+
+-- ---- how the passes of all actors are taken out, one after the other
+abbrev pub slots_for : List SharedPass → List (Option SharedPass)
+slots_for passes = map (λ (pass : SharedPass). Some pass) passes
+
+abbrev pub own_slots : List Worker → List (Option SharedPass)
+own_slots workers = map (λ (w : Worker). w.pass) workers
+
+-- as many passes as places
+pub as_many : (old now : List SharedPass) (left slots : List (Option SharedPass)) → slots_for now ++ left ≡ slots_for old ++ slots
+    → length now + length left ≡ length old + length slots
+as_many old now left slots is =
+    let same = ap (λ (ss : List (Option SharedPass)). length ss) is in
+    let here = length-append (slots_for now) left in
+    let there = length-append (slots_for old) slots in
+    let first = length-map now (λ (pass : SharedPass). Some pass) in
+    let second = length-map old (λ (pass : SharedPass). Some pass) in
+    omega (arith, same, here, there, first, second)
+
+-- with those at some places more
+pub out_more : (now after : List SharedPass) (slots left next whole : List (Option SharedPass)) → slots_for after ≡ slots_for now ++ slots
+    → left ≡ slots ++ next → slots_for now ++ left ≡ whole → slots_for after ++ next ≡ whole
+out_more now after slots left next whole added is all =
+    cc (append_assoc (slots_for now) slots next)
+
+-- .. and with all
+pub out_all : (now : List SharedPass) (left whole : List (Option SharedPass)) → left ≡ [] → slots_for now ++ left ≡ whole → slots_for now ≡ whole
+out_all now left whole none all = sym (append-nil (slots_for now)) ∙ ap (λ (ss : List (Option SharedPass)). slots_for now ++ ss) (sym none) ∙ all
+
+-- the next places: those of the threads, and of the keepers
+pub own_next : (workers : List Worker) (i : ℕ) (w : Worker) → i < length workers → w ≡ get_or workers i w
+    → own_slots (drop i workers) ≡ (w.pass ∷ []) ++ own_slots (drop (i + 1) workers)
+own_next workers i w lt is = ap own_slots (drop_more workers i w lt) ∙ ap (λ (v : Worker). v.pass ∷ own_slots (drop (i + 1) workers)) (sym is)
+
+-- The passes of keepers from a place on are that of its worker and those behind it.
+pub kept_next : (workers : List Worker) (i : ℕ) (w : Worker) → i < length workers → w ≡ get_or workers i w
+    → kept_passes (drop i workers) ≡ kept_pass w.keeper ++ kept_passes (drop (i + 1) workers)
+kept_next workers i w lt is = ap kept_passes (drop_more workers i w lt) ∙ ap (λ (v : Worker). kept_pass v.keeper ++ kept_passes (drop (i + 1) workers)) (sym is)
+
+-- workers with the same keepers
+pub kept_same : (old new : List Worker) → length new ≡ length old → ((i : ℕ) (d : Worker) → i < length old → (get_or new i d).keeper ≡ (get_or old i d).keeper)
+    → kept_passes new ≡ kept_passes old
+kept_same [] [] many same = refl
+kept_same [] (w ∷ new) many same = absurd (let bad : suc (length new) ≡ 0 = many in omega (arith, bad))
+kept_same (v ∷ old) [] many same = absurd (let bad : 0 ≡ suc (length old) = many in omega (arith, bad))
+kept_same (v ∷ old) (w ∷ new) many same =
+    ap (λ (o : Option Keeper). kept_pass o ++ kept_passes new) (same 0 v (omega arith))
+    ∙ ap (λ (ss : List (Option SharedPass)). kept_pass v.keeper ++ ss) (kept_same old new (omega (arith, many)) (λ i d lt. same (suc i) d (omega (arith, lt))))
+
+-- the scavenger's, then those of the threads, and then those of the keepers
+module _ (team : Team) (none one two : List SharedPass) (empty : none ≡ []) (first : slots_for one ≡ slots_for none ++ team.scavenger.pass ∷ [])
+    (own : slots_for two ≡ slots_for one ++ own_slots team.threads.items) where
+  own_out : slots_for two ≡ team.scavenger.pass ∷ own_slots team.threads.items
+  own_out = cc
+
+  -- There is a place left for each keeper's pass behind those of the scavenger and the threads.
+  pub places_left : length two + length (kept_passes team.threads.items) ≡ length (slots_of team)
+  places_left =
+      let same = ap (λ (ss : List (Option SharedPass)). length ss) own_out in
+      let count = length-map two (λ (pass : SharedPass). Some pass) in
+      let both = length-append (own_slots team.threads.items) (kept_passes team.threads.items) in
+      omega (arith, same, count, both)
+
+  -- Once those of the keepers are out, too, the passes are those of all slots of the team.
+  pub all_out : (three : List SharedPass) → slots_for three ≡ slots_for two ++ kept_passes team.threads.items → slots_for three ≡ slots_of team
+  all_out three kept = kept ∙ ap (λ (ss : List (Option SharedPass)). ss ++ kept_passes team.threads.items) own_out

@@ -15,7 +15,7 @@ use Rattle.pas_shared.specs.{Ruled.IsEarlier, Passes.seat_of, Passes.view_of, Pa
 use Rattle.pas_shared.specs.declared.{region.SharedRegion.SharedRegion, pass.SharedPass.SharedPass}
 use Rattle.pas_acts.specs.Pairs.{KeeperWaits}
 use Rattle.pas_answers.specs.{Answers.Progress, Reaching.Reaches, Phases.StandFirst, Phases.AtMark, Phases.AreInPhases}
-use Rattle.pas_answers.proofs.Reached.{reach_both}
+use Rattle.pas_answers.proofs.{Reached.reach_both}
 use Rattle.pas_threads.specs.{Hands.HasPass, Settling.StandsIn, Settling.PassStands, Settling.ActorsStand}
 use Rattle.pas_threads.specs.Pairs.{no_more, kept_by_worker, AreGuarded, IsKeeperOf}
 use Rattle.pas_threads.specs.Sessions.{Session, TeamAt, IsOfActors, StandSo}
@@ -149,12 +149,12 @@ module _ {region : SharedRegion} {s : Session} {slot : Option SharedPass} {worke
 pub team_stands : {region : SharedRegion} {s : Session} {phases : List (List Op)} {team : Team} {p : Progress} → TeamAt region s phases team p
     → ActorsStand region s team.scavenger.pass team.threads.items p.list
 team_stands {region} {s} {phases} {team} {p} at = record {
-  many = at.many;
-  guarded = at.guarded;
+  many = at.workers.many;
+  guarded = at.workers.guarded;
   scavenger = let has = at.scavenger.has in let sits = at.scavenger.at.stands.sits in record { pass = has.pass; present = has.present; of = has.of; actor = sits.actor; made = sits.stood };
-  threads = λ i d lt. let here = (at.workers i d lt).here in record { pass = here.has.pass; present = here.has.present; of = here.has.of; actor = here.rests.sits.actor; made = here.rests.sits.stood };
+  threads = λ i d lt. let here = (at.workers.threads i d lt).here in record { pass = here.has.pass; present = here.has.present; of = here.has.of; actor = here.rests.sits.actor; made = here.rests.sits.stood };
   keepers = λ i d keeper lt is.
-      let rests = at.kept i d lt in
+      let rests = at.workers.kept i d lt in
       let k = s.threads + suc i in
       let sits = (subst (λ (x : Option Keeper). KeeperWaits s.profile k (own_acts (suc i) (all_ops phases)) (kept_by_worker x) no_more p) is rests.waits).1.sits in
       record { pass = keeper.pass; present = refl; of = subst (λ (x : Option Keeper). IsKeeperOf region x) is rests.of; actor = sits.actor; made = sits.stood };

@@ -15,7 +15,7 @@ use Rattle.pas_trace.specs.Asked.{keeper_in}
 use Rattle.pas_trace.specs.Acts.{Act, Settles, Lowers, act_kept, numbers_from, own_acts}
 use Rattle.pas_trace.specs.declared.plan.Op.{Op}
 use Rattle.pas_answers.specs.{Answers.Progress, Keeping.owed_by_keeper, Ways.is_of, Ways.records_by}
-use Rattle.pas_answers.proofs.OwnRecords.{records_both, all_by, none_by, spoken_piece, spoken_both}
+use Rattle.pas_answers.proofs.{OwnRecords.records_both, OwnRecords.all_by, OwnRecords.none_by, OwnRecords.spoken_piece, OwnRecords.spoken_both}
 use Rattle.pas_answers.proofs.{Reached.reach_both, EachAct.all_front, EachAct.all_back}
 use Rattle.pas_acts.specs.Keepers.{LaterKept, Keeping, NoKeeper, OneKeeper, KeeperAt, KeeperLowers, HasStill, keeper_has}
 use Rattle.pas_acts.specs.Pairs.{for_guard, for_guards, IsTriedBy, AreTriedBy, IsUnguarded, AreUnguarded, KeeperWaits, EachOfTwo, KeptPushed, KeptStill}
@@ -117,7 +117,7 @@ kept_both k xs ys NoKeeper (OneKeeper b) c one two = absurd one
 kept_both k xs ys (OneKeeper a) NoKeeper c one two = absurd one
 kept_both k xs ys (OneKeeper a) (OneKeeper b) NoKeeper one two = absurd two
 kept_both k xs ys (OneKeeper a) (OneKeeper b) (OneKeeper c) one two = (
-  two.0 ∙ ap (λ (rs : List Record). rs ++ records_by k ys) one.0 ∙ append_assoc (records_in a.out) (records_by k xs) (records_by k ys) ∙ ap (λ (rs : List Record). records_in a.out ++ rs) (sym (records_both k xs ys)),
+  simp (two.0, one.0, append_assoc, ← records_both),
   two.1 ∙ one.1,
   two.2 ∙ one.2,
 )
@@ -151,8 +151,7 @@ at_gathered : {f : Profile} {k : ℕ} {later : LaterKept} {p : Progress} (old ne
 at_gathered {f} {k} {later} {p} old new pass book none room at =
     let size = ap (λ (rs : List Record). length rs) none in
     let spare = at.spare in
-    subst (λ (x : SharedPass). KeeperAt f k (keeper_has (standing_of_pass x) new.book new.out) later p) (sym pass)
-    (subst (λ (b : GuardBook). KeeperAt f k (keeper_has (standing_of_pass old.pass) b new.out) later p) (sym book) (record { sits = at.sits; book = at.book; spare = omega (arith, size, spare, room); places = at.places }))
+    rw (pass, book) (record { sits = at.sits; book = at.book; spare = omega (arith, size, spare, room); places = at.places })
 
 -- A keeper waits for the same acts after what it said was gathered.
 pub waits_gathered : (f : Profile) (k : ℕ) (acts : List Act) (later : LaterKept) (p : Progress) (old new : Option Keeper) → HasSaid old new
@@ -286,20 +285,20 @@ module _ {region : SharedRegion} {f : Profile} {threads : ℕ} {acts : List Act}
   here = omega (arith, lt, many)
 
   -- it is none of those that lowered theirs before
-  pub first : (j : ℕ) → j < i → threads + suc j ≢ k
+  first : (j : ℕ) → j < i → threads + suc j ≢ k
   first j less is = omega (arith, less, is)
 
   -- The keeper of the worker at that place is the one that it had before.
-  pub was : (e : Worker) → (get_or now i e).keeper ≡ Some keeper
+  was : (e : Worker) → (get_or now i e).keeper ≡ Some keeper
   was e = ap (λ (v : Worker). v.keeper) (get_or_default now i e d here) ∙ before
 
   -- What that keeper says of all sweeps is what it says in its own.
-  pub said_own : records_by k (x.said ++ y.said) ≡ y.said
+  said_own : records_by k (x.said ++ y.said) ≡ y.said
   said_own = records_both k x.said y.said ∙ ap (λ (rs : List Record). rs ++ records_by k y.said) (x.silent k first) ∙ all_by k y.said y.each
 
   -- What any other actor says of all sweeps is what it said before this one.
   pub said_other : (j : ℕ) → j ≢ k → records_by j (x.said ++ y.said) ≡ records_by j x.said
-  said_other j ne = records_both j x.said y.said ∙ ap (λ (rs : List Record). records_by j x.said ++ rs) (none_by j k y.said y.each (λ (is : k ≡ j). ne (sym is))) ∙ append-nil (records_by j x.said)
+  said_other j ne = cc (records_both j x.said y.said, none_by j k y.said y.each (λ (is : k ≡ j). ne (sym is)), append-nil (records_by j x.said))
 
   -- Another actor's part of the list is as it was before this sweep.
   pub parts_other : (j : ℕ) → j ≢ k → part j y.reached.list ≡ part j x.reached.list
@@ -319,7 +318,7 @@ module _ {region : SharedRegion} {f : Profile} {threads : ℕ} {acts : List Act}
         of = subst (λ (o : Option Keeper). IsKeeperOf region o) (sym lowered) did.of;
         waits = subst (λ (o : Option Keeper). KeeperWaits f k [] (kept_by_worker o) no_more y.reached) (sym lowered) (tt, y.stands);
         told = kept_both k x.said y.said (kept_by_worker (get_or old i e).keeper) (kept_by_worker (get_or now i e).keeper) (kept_by_worker w.keeper) had.told
-            (subst (λ (o : Option Keeper). KeptPushed k y.said (kept_by_worker o) (kept_by_worker w.keeper)) (sym (was e)) (subst (λ (o : Option Keeper). KeptPushed k y.said (kept_by_worker (Some keeper)) (kept_by_worker o)) (sym lowered) pushed));
+            (rw (was, lowered) pushed);
         paid = omega (arith, y.few, size, owed);
       }
 

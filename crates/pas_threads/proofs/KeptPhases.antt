@@ -7,15 +7,13 @@ use Rattle.pas_shared.specs.declared.region.SharedRegion.{SharedRegion}
 use Rattle.pas_trace.specs.Acts.{Act, own_acts}
 use Rattle.pas_trace.specs.declared.plan.Op.{Op}
 use Rattle.pas_answers.specs.{Answers.Progress, Ways.records_by}
-use Rattle.pas_acts.specs.Shares.{owner_in}
-use Rattle.pas_acts.proofs.PhaseActs.{own_thread, kept_thread, owner_of}
-use Rattle.pas_acts.specs.Keepers.{Keeping, NoKeeper, OneKeeper, LaterKept}
+use Rattle.pas_acts.specs.{Shares.owner_in, Keepers.Keeping, Keepers.NoKeeper, Keepers.OneKeeper}
+use Rattle.pas_acts.proofs.{PhaseActs.own_thread, PhaseActs.kept_thread, PhaseActs.owner_of}
 use Rattle.pas_acts.specs.Pairs.{for_guards, KeeperWaits, KeptPushed, KeptStill}
-use Rattle.pas_threads.specs.Pairs.{kept_by_worker, IsSilent, no_more, KeeperRests, said_by_keeper, owed_kept, AreGuarded}
-use Rattle.pas_threads.specs.{Performing.Round, Performing.ThreadDone, Taken.IsEmptied, Turns.HasSaid, Turns.IsGathered, Turns.IsKeptGathered}
+use Rattle.pas_threads.specs.Pairs.{kept_by_worker, IsSilent, no_more, KeeperRests, said_by_keeper, AreGuarded}
+use Rattle.pas_threads.specs.{Performing.Round, Performing.ThreadDone, Turns.HasSaid}
 use Rattle.pas_threads.specs.declared.{keeper.Keeper.Keeper, workers.Worker.Worker}
-use Rattle.pas_threads.proofs.Keepers.{own_acts_both, waits_front, WillWait, will_wait, will_wait_then, waits_next, waits_still, waits_gathered, of_gathered}
-use Rattle.pas_threads.proofs.Keepers.{silent_gathered, owed_gathered}
+use Rattle.pas_threads.proofs.Keepers.{own_acts_both, waits_front, WillWait, will_wait, waits_still}
 
 -- ---- whose hands a keeper is in
 pub kept_hands : (threads : ℕ) (ops : List Op) (i : ℕ) → suc i ≤ threads → owner_in threads ops (threads + suc i) ≡ owner_in threads ops (suc i)
@@ -83,7 +81,9 @@ said_then k said None (Some new) pushed silent = absurd pushed
 said_then k said (Some old) None pushed silent = absurd pushed
 said_then k said (Some old) (Some new) pushed silent = pushed.0 ∙ ap (λ (rs : List Record). rs ++ records_by k said) silent
 
-will_gathered : (k : ℕ) (ys : List Act) (old new : Option Keeper) → HasSaid old new → WillWait k ys (kept_by_worker old) → WillWait k ys (kept_by_worker new)
+-- A keeper that waits for some acts still does once what it said is gathered.
+pub will_gathered : (k : ℕ) (ys : List Act) (old new : Option Keeper) → HasSaid old new → WillWait k ys (kept_by_worker old)
+    → WillWait k ys (kept_by_worker new)
 will_gathered k ys None None said will = will
 will_gathered k ys None (Some new) said will = absurd said
 will_gathered k ys (Some old) None said will = absurd said
@@ -96,7 +96,8 @@ pub kept_waits : {region : SharedRegion} {f : Profile} {keeper : ℕ} (k : ℕ) 
 kept_waits {f = f} {keeper} k ops left o {p} rests =
     waits_front f keeper (own_acts k ops) (own_acts k left) (kept_by_worker o) no_more p (subst (λ (acts : List Act). KeeperWaits f keeper acts (kept_by_worker o) no_more p) (own_acts_both k ops left) rests.waits)
 
-kept_will : {region : SharedRegion} {f : Profile} {keeper : ℕ} (k : ℕ) (ops left : List Op) (o : Option Keeper) {p : Progress}
+-- A keeper that rests will wait for the requests of the phases that are left.
+pub kept_will : {region : SharedRegion} {f : Profile} {keeper : ℕ} (k : ℕ) (ops left : List Op) (o : Option Keeper) {p : Progress}
     → KeeperRests region f keeper (own_acts k (ops ++ left)) o p → WillWait keeper (own_acts k left) (kept_by_worker o)
 kept_will {f = f} {keeper} k ops left o {p} rests =
     will_wait f keeper (own_acts k ops) (own_acts k left) (kept_by_worker o) no_more p (subst (λ (acts : List Act). KeeperWaits f keeper acts (kept_by_worker o) no_more p) (own_acts_both k ops left) rests.waits)
@@ -105,48 +106,9 @@ kept_will {f = f} {keeper} k ops left o {p} rests =
 pub kept_still : {region : SharedRegion} {f : Profile} {keeper : ℕ} {acts : List Act} {old new : Option Keeper} {p q : Progress} → new ≡ old
     → part keeper q.list ≡ part keeper p.list → q.books keeper ≡ p.books keeper
     → KeeperRests region f keeper acts old p → KeeperRests region f keeper acts new q
-kept_still {region} {f} {keeper} {acts} {old} {new} {p} {q} same parts books rests = subst (λ (o : Option Keeper). KeeperRests region f keeper acts o q) (sym same) record {
-  of = rests.of;
-  waits = waits_still f keeper acts old no_more p q parts books rests.waits;
-  silent = rests.silent;
-}
+kept_still {region} {f} {keeper} {acts} {old} {new} {p} {q} same parts books rests = search (arith, waits_still)
 
 -- ---- after the phase
-module _ {region : SharedRegion} {r : Round} {k : ℕ} {old new : Worker} {said : List Record} {own : Progress} (left : List Op) (reached : Progress)
-    (rests : KeeperRests region r.profile (r.threads + k) (own_acts k (r.ops ++ left)) old.keeper r.start)
-    (done : ThreadDone region r k old new said own) (parts : part (r.threads + k) own.list ≡ part (r.threads + k) reached.list) (books : own.books (r.threads + k) ≡ reached.books (r.threads + k))
-    (more : r.more k ≡ for_guards (own_acts k left) no_more) where
-  abbrev keeper : ℕ
-  keeper = r.threads + k
-
-  -- What a worker's keeper said in the phase are its own records of what was said.
-  pub kept_said : said_by_keeper new.keeper ≡ records_by keeper said
-  kept_said = said_then keeper said old.keeper new.keeper done.kept_told rests.silent
-
-  -- once what it said is gathered it waits for the requests of the phases that are left
-  module _ {gathered kept emptied : Worker} (g : IsGathered new gathered) (h : IsKeptGathered gathered kept) (e : IsEmptied kept emptied) where
-    abbrev last : HasSaid new.keeper emptied.keeper
-    last = subst (λ (o : Option Keeper). HasSaid new.keeper o) (sym e.keeper) (subst (λ (o : Option Keeper). HasSaid o kept.keeper) g.keeper h.keeper)
-
-    -- After a phase and its gathering a keeper rests with room for the guarded requests left.
-    pub kept_rests : KeeperRests region r.profile keeper (own_acts k left) emptied.keeper reached
-    kept_rests = record {
-      of = of_gathered region new.keeper emptied.keeper last done.of;
-      waits = waits_next r.profile keeper (own_acts k left) (kept_by_worker emptied.keeper) no_more reached
-          (will_gathered keeper (own_acts k left) new.keeper emptied.keeper last (will_wait_then keeper said (own_acts k left) (kept_by_worker old.keeper) (kept_by_worker new.keeper) done.kept_told (kept_will k r.ops left old.keeper rests)))
-          (subst (λ (l : LaterKept). KeeperWaits r.profile keeper [] (kept_by_worker emptied.keeper) l reached) more
-          (waits_gathered r.profile keeper [] (r.more k) reached new.keeper emptied.keeper last (waits_still r.profile keeper [] new.keeper (r.more k) own reached (sym parts) (sym books) done.waits)));
-      silent = silent_gathered new.keeper emptied.keeper last;
-    }
-
-    -- After a phase and its gathering a worker has a keeper exactly where it had one.
-    pub kept_alike : AreAlike old.keeper emptied.keeper
-    kept_alike = alike_both old.keeper new.keeper emptied.keeper (alike_pushed keeper said old.keeper new.keeper done.kept_told) (alike_said new.keeper emptied.keeper last)
-
-    -- After the gathering a keeper owes what it owed at the end of the phase.
-    pub kept_owes : owed_kept r.profile keeper emptied.keeper reached ≡ owed_kept r.profile keeper new.keeper reached
-    kept_owes = owed_gathered r.profile keeper new.keeper emptied.keeper reached last
-
 pushed_nothing : (k : ℕ) (said : List Record) (new : Keeping) → KeptPushed k said NoKeeper new → records_by k said ≡ []
 pushed_nothing k said NoKeeper pushed = pushed
 pushed_nothing k said (OneKeeper new) pushed = absurd pushed

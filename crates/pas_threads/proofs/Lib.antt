@@ -1,13 +1,14 @@
 mod Benched
-mod Beside
 mod Pairs
 mod Staging
-mod Sitting
 mod CrewSits
 mod ByCrew
 mod Dealt
 mod TakingTurns
 mod NamesOfPhases
+mod Gathered
+mod ReadyPhases
+mod PhaseShares
 mod PhaseTeams
 mod Start
 mod MakingKeepers
@@ -18,9 +19,7 @@ mod BetweenPhases
 mod Keepers
 mod PhaseSums
 mod KeptPhases
-mod PassesOut
 mod End
 mod Hearing
 mod Closing
-mod Heard
 mod InHands

@@ -10,14 +10,12 @@ use Rattle.pas_trace.specs.{Asked.work_of, Asked.keeper_in, Plans.IsPlanOf, Plan
 use Rattle.pas_trace.specs.EveryPlan.{kept_of_work, kept_records, records_of_what, records_of_ops, operations_of}
 use Rattle.pas_trace.specs.declared.plan.{Op.Op, Plan.Plan, What.What}
 use Rattle.pas_trace.proofs.{Costs.small_cost, Costs.large_cost, EveryPlan.every_plan, EveryPlan.threads_among, Keepers.keepers_few}
-use Rattle.pas_report.specs.Rooms.{records_in, room_of, Records}
 use Rattle.pas_guard.specs.Books.{guards_in, size_of_book}
 use Rattle.pas_guard.specs.declared.book.GuardBook.{GuardBook}
-use Rattle.pas_cache.specs.Caches.{cached}
 use Rattle.pas_shared.specs.declared.pass.SharedPass.{SharedPass}
 use Rattle.pas_answers.specs.Replays.{threads_of, keepers_of}
-use Rattle.pas_acts.specs.{PlanKeepers.one_guarded, PlanKeepers.guarded_of, PlanKeepers.AreBooks, NameBooks.requests_in, NameBooks.room_for, NameBooks.Requests}
-use Rattle.pas_acts.proofs.PlanFacts.{is_guarded}
+use Rattle.pas_acts.specs.PlanKeepers.{one_guarded, guarded_of, AreBooks}
+use Rattle.pas_acts.proofs.{PlanFacts.is_guarded}
 use Rattle.pas_threads.specs.Kits.{IsEquipped, AreEquipped, IsKeeperWith, AreKeepers, IsAlone, HasRoomForKeeper, HaveKeepers, with_keeper}
 use Rattle.pas_threads.specs.Pairs.{AreGuarded, IsButKeeper}
 use Rattle.pas_threads.specs.declared.{keeper.Keeper.Keeper, workers.Worker.Worker}
@@ -119,14 +117,8 @@ keeper_with bounds i (pass ∷ passes) (book ∷ books) (keeper ∷ keepers) (su
 -- ---- who has them
 -- a worker that differs in its keeper alone is as well equipped
 equipped_but : (pass : SharedPass) (bound : ℕ) (old new : Worker) → IsButKeeper old new → IsEquipped pass bound old → IsEquipped pass bound new
-equipped_but pass bound old new but has = record {
-  present = but.pass ∙ has.present;
-  cache = ap cached but.cache ∙ has.cache;
-  asked = ap requests_in but.requests ∙ has.asked;
-  requests = subst (λ (r : Requests). bound ≤ room_for r) (sym but.requests) has.requests;
-  said = ap records_in but.out ∙ has.said;
-  records = subst (λ (r : Records). bound ≤ room_of r) (sym but.out) has.records;
-}
+-- All of the equipment is what the keeper leaves as it was.
+equipped_but pass bound old new but has = search arith
 
 equipped_still : (bounds : List ℕ) (k : ℕ) (passes : List SharedPass) (old new : List Worker) → length new ≡ length old
     → ((i : ℕ) (d : Worker) → i < length old → IsButKeeper (get_or old i d) (get_or new i d)) → AreEquipped bounds k passes old
@@ -245,6 +237,5 @@ first_given old now keepers given rest place w keeper all many here is left firs
   | inr past ↦
       let same : place ≡ i = omega (arith, past, lt) in
       subst (λ (j : ℕ). get_or (set now place w) j d ≡ with_keeper (get_or old j d) (Some (get_or keepers j e))) same
-      (get_or-set_same now place w d here ∙ is d ∙ ap (λ (v : Worker). with_keeper v (Some keeper)) (left d)
-      ∙ ap (λ (k : Keeper). with_keeper (get_or old place d) (Some k)) (sym (get_or_at given keeper rest e place many) ∙ ap (λ (ks : List Keeper). get_or ks place e) all))
+      (cc (get_or-set_same now place w d here, is d, left d, get_or_at given keeper rest e place many))
 ]

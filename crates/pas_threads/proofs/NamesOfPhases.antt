@@ -7,7 +7,7 @@ use Rattle.pas_profile.specs.declared.{name.Block.Block, profile.Profile.Profile
 use Rattle.pas_trace.specs.EveryPlan.{is_asked, asked_with, asked_after, asked_by, AreSound, IsActorOf}
 use Rattle.pas_answers.specs.{Answers.Named, Answers.standing_for, Answers.Progress, Names.block_named, Names.names_held, Fit.IsBelow, Fit.AreBelow}
 use Rattle.pas_answers.specs.{Fit.KeepsAbove}
-use Rattle.pas_answers.proofs.EachAct.{all_back}
+use Rattle.pas_answers.proofs.{EachAct.all_back}
 use Rattle.pas_acts.specs.NameBooks.{requests_in, room_for, names_of, came_to, known_in, Requests, name_asked, names_asked, AreWithin, NamesAt}
 use Rattle.pas_acts.specs.declared.names.NameBook.{NameBook}
 use Rattle.pas_threads.specs.declared.workers.Worker.{Worker}
@@ -147,7 +147,7 @@ operation_kept (Some keeper) op = refl
 
 after_work : (idle : List ℕ) (op : Op) (work : Work) (asked : List ℕ) → work_of op.what ≡ work
     → asked_after_acts (acts_of_work idle op work) asked ≡ asked_with (of_task request_of work) asked
-after_work idle op (Work.Own task) asked is = ap (λ (o : Option Op). asked_after_operation o asked) (operation_kept (keeper_of task) op) ∙ ap (λ (w : Work). asked_with (of_task request_of w) asked) is
+after_work idle op (Work.Own task) asked is = cc (operation_kept (keeper_of task) op)
 after_work idle op (Work.Chore chore) asked is = after_chore idle chore asked
 
 after_ops : (idle : List ℕ) (ops : List Op) (asked : List ℕ) → asked_after_acts (acts_of_ops idle ops) asked ≡ asked_by asked ops

@@ -1,6 +1,6 @@
 -- Both actors of a worker sit down on one bench with their passes, work there, and rise.
 use Rattle.std.proofs.Common.{◌≡◌, ◌≢◌, ◌==◌, ℕ, ◌+◌, Bool, true, false, if◌then◌else◌, List, [], ◌∷◌, ◌++◌, Option, Some, None, refl, ap, sym, ◌∙◌, subst}
-use Rattle.std.proofs.Common.{eq-eqb, ne_eqb, eqb-true, true≢false, inr, append-nil, ◌≤◌, arith}
+use Rattle.std.proofs.Common.{eq-eqb, ne_eqb, eqb-true, true≢false, inr, append-nil, arith}
 use Rattle.std.proofs.lemmas.Option.{same_Some}
 use Rattle.pas_profile.specs.declared.profile.Profile.{Profile}
 use Rattle.pas_steps.specs.{Desks.Standing, Lists.Whole, Lists.part}
@@ -14,22 +14,22 @@ use Rattle.pas_acts.specs.Keepers.{Keeping, OneKeeper, keeper_has, LaterKept, Ke
 use Rattle.pas_acts.specs.Pairs.{for_guards, KeeperWaits, KeptPushed, PairAt, PairWorks}
 use Rattle.pas_acts.specs.Works.{Later, Keeps, ThreadAt}
 use Rattle.pas_shared.specs.Ruled.{among, made_in, HasRow, rows_of, rows_of_only, only, isnt, only_this, all_actors, steps_of, AreRowsOf}
-use Rattle.pas_shared.specs.Benches.{rows_on, first_row, row_on, empty_row, made_by, home_of, standing_on, IsBenchOf, IsFreshRow, HasLooked, SitsInRow}
-use Rattle.pas_shared.specs.Benches.{MaySitOn, StandsOver}
-use Rattle.pas_shared.specs.{Ledgers.part_of, Passes.seat_of, Passes.view_of, Passes.IsPassOf}
+use Rattle.pas_shared.specs.Benches.{rows_on, first_row, row_on, empty_row, home_of, standing_on, IsBenchOf, IsFreshRow, HasLooked, SitsInRow, MaySitOn}
+use Rattle.pas_shared.specs.Benches.{StandsOver}
+use Rattle.pas_shared.specs.{Ledgers.part_of, Passes.view_of, Passes.IsPassOf}
 use Rattle.pas_shared.specs.declared.{bench.Bench.Bench, bench.Member.Member, bench_desk.BenchDesk.BenchDesk, bench_desk.BenchHome.BenchHome}
 use Rattle.pas_shared.specs.declared.{pass.SharedPass.SharedPass, region.SharedRegion.SharedRegion, rule.Entry.Entry, rule.Row.Row}
 use Rattle.pas_shared.proofs.Benching.{stands_first}
 use Rattle.pas_acts.specs.declared.names.NameBook.{NameBook}
 use Rattle.pas_threads.specs.Hands.{standing_of_pass, kept_by, Did}
 use Rattle.pas_threads.specs.Left.{keeper_actors, pair_in, IsSeated, standing_beside, KeepsOrder, HasLeft}
-use Rattle.pas_threads.specs.Pairs.{IsKeeperOf, kept_by_worker, kept_seated, PairStands, PairDid}
+use Rattle.pas_threads.specs.Pairs.{IsKeeperOf, kept_by_worker, kept_seated, MayDoPhase}
 use Rattle.pas_threads.specs.Seats.{keeper_parts, rows_without_keeper, seated_actors, IsSameKeeper, SitsBeside, KeeperMayLeave, IsPassOfMember, HasRisen}
 use Rattle.pas_threads.specs.Seats.{PairSits, PairRose, IsAnother, KeeperSits}
 use Rattle.pas_threads.specs.declared.{keeper.Keeper.Keeper, keeper.Seated.Seated, workers.Worker.Worker}
 use Rattle.pas_threads.proofs.Benched.{has_seat, member_seat, sat, sits_as, looked_made, looked_fresh, still_sits, left_fresh, left_made, left_sits}
 use Rattle.pas_threads.proofs.Benched.{keeps_order}
-use Rattle.pas_answers.proofs.Reached.{goes_on}
+use Rattle.pas_answers.proofs.{Reached.goes_on}
 
 -- ---- both sit down
 seated_beside : (region : SharedRegion) (keeper : Option Keeper) (seated : Option Seated) (b now : Bench) (r : Row) (rs : List Row) → IsSameKeeper keeper seated
@@ -57,7 +57,7 @@ pair_sat {region} pass keeper member seated b now of kept same rows thread bench
   thread = thread;
   beside = seated_beside region keeper seated b now (first_row (rows_of (part_of pass ∷ []))) (empty_row ∷ []) same kept rows bench looked;
   fresh = ap (λ (rs : List Row). (first_row rs).made) looked.is;
-  actors = ap (λ (rs : List Row). (first_row rs).actors) looked.is ∙ (ap all_actors rows ∙ (ap (λ (ns : List ℕ). pass.place.actor ∷ ns) (kept_actors keeper seated same) ∙ ap (λ (a : ℕ). a ∷ seated_actors seated) (sym thread.is.actor)));
+  actors = cc (kept_actors keeper seated same);
 }
 
 -- The row of a thread's pass, in front of others, says what the thread made.
@@ -82,7 +82,7 @@ of_either a j (Some s) P its one other = at (a == j) refl (s.member.actor == j) 
     at : (b : Bool) → (a == j) ≡ b → (c : Bool) → (s.member.actor == j) ≡ c → P j
     at true e c d = subst P (eqb-true a j e) one
     at false e true d = subst P (eqb-true s.member.actor j d) (other s refl)
-    at false e false d = absurd (true≢false (sym its ∙ (ap (λ (b : Bool). if b then true else among (s.member.actor ∷ []) j) e ∙ ap (λ (b : Bool). if b then true else false) d)))
+    at false e false d = absurd (true≢false (cc))
 
 module _ {region : SharedRegion} {pass : SharedPass} {keeper : Option Keeper} {bench : Bench} {member : Member} {seated : Option Seated}
     (sits : PairSits region pass keeper bench member seated)
@@ -98,11 +98,11 @@ module _ {region : SharedRegion} {pass : SharedPass} {keeper : Option Keeper} {b
       ap (λ (a : ℕ). part a p.list) (there.0.is.actor ∙ wait.1.sits.actor) ∙ (sym wait.1.sits.stood ∙ (sym there.0.view ∙ sym (base_part (row_on bench) s.member.actor sits.fresh)))
 
   -- Each actor of the row has the part of the list that the row's base has of it.
-  pub both_parts : (i : ℕ) → among (row_on bench).actors i ≡ true → part i p.list ≡ part i (steps_of (row_on bench).base)
+  both_parts : (i : ℕ) → among (row_on bench).actors i ≡ true → part i p.list ≡ part i (steps_of (row_on bench).base)
   both_parts i its = of_either member.actor i seated (λ n. part n p.list ≡ part n (steps_of (row_on bench).base)) (sym (ap (λ (ns : List ℕ). among ns i) sits.actors) ∙ its) own_part (kept_part keeper sits.beside waits)
 
   -- The list tells of the pair what their row tells, as nobody acted since the look.
-  pub stand_over : StandsOver (row_on bench) p.list
+  stand_over : StandsOver (row_on bench) p.list
   stand_over = stands_first (row_on bench) p.list sits.fresh both_parts
 
   waits_beside : (o : Option Keeper) (s : Option Seated) → SitsBeside region bench o s → KeeperWaits f j acts (kept_by_worker o) more p
@@ -117,7 +117,7 @@ module _ {region : SharedRegion} {pass : SharedPass} {keeper : Option Keeper} {b
   )
 
   -- A thread and its keeper that sit on one bench stand before their operations there.
-  pub pair_at : k ≢ j → PairAt f k j acts (standing_on bench member) has (kept_seated region bench seated) later more p
+  pair_at : k ≢ j → PairAt f k j acts (standing_on bench member) has (kept_seated region bench seated) later more p
   pair_at apart = record {
     thread = record {
       sits = sits_as (member_seat sits.thread.is) (λ stood. (sits.thread.view ∙ stood, stand_over)) thread.sits;
@@ -173,7 +173,7 @@ nobody : (a : ℕ) (seated : Option Seated) (base : List Entry) → IsAnother a 
 nobody a None base other = ap (λ (ns : List ℕ). row_with ns base ∷ []) (goes a [])
 nobody a (Some s) base other =
     let k = s.member.actor in
-    ap (λ (ns : List ℕ). row_with (only (isnt (only_this a)) ns) base ∷ []) (stays k a (k ∷ []) (λ same. other (sym same)) ∙ ap (λ (ns : List ℕ). a ∷ ns) (goes k [])) ∙ ap (λ (ns : List ℕ). row_with ns base ∷ []) (goes a [])
+    cc (stays k a (k ∷ []) (λ same. other (sym same)), goes k [], goes a [])
 
 module _ (region : SharedRegion) (bench looked : Bench) (member : Member) (seated : Option Seated) (thread : MaySitOn region bench member)
     (kept : KeeperSits region bench seated) (apart : IsAnother member.actor seated)
@@ -215,7 +215,7 @@ module _ (region : SharedRegion) (bench looked : Bench) (member : Member) (seate
     beside = risen_as region (row_on bench) (first_row (rows_on looked)) seated _ (kept_made seated kept) risen;
     of = of;
     base = look.base;
-    rows = left_is ∙ (ap (rows_of_only (isnt (only_this member.actor))) (gone_is ∙ ap (rows_without_keeper seated) (look.is ∙ ap (λ (ns : List ℕ). row_with ns look.base ∷ []) all)) ∙ nobody member.actor seated look.base apart);
+    rows = simp (left_is, gone_is, look.is, all, nobody);
     saw = one_row.0;
   }
     where
@@ -253,7 +253,7 @@ keeper_is f j acts more p region b (Some o) None sits waits = absurd sits
 keeper_is f j acts more p region b (Some o) (Some s) sits waits = ap (λ (a : ℕ). a ∷ []) (sits.0.is.actor ∙ waits.1.sits.actor)
 
 -- A keeper that has risen has a pass of the region.
-pub risen_keeper_is_of_region : (region : SharedRegion) (r : Row) (t : Option Seated) (keeper : Option Keeper) → HasRisen region r t keeper
+risen_keeper_is_of_region : (region : SharedRegion) (r : Row) (t : Option Seated) (keeper : Option Keeper) → HasRisen region r t keeper
     → IsKeeperOf region keeper
 risen_keeper_is_of_region region r None None risen = tt
 risen_keeper_is_of_region region r None (Some keeper) risen = absurd risen
@@ -276,7 +276,7 @@ module _ (region was now : SharedRegion) (b c : Bench) (pass : SharedPass) (memb
     (has has' : Keeps) (later : Later) (more : LaterKept) (p : Progress)
     (own : IsPassOfMember region (row_on c) member pass) where
   -- What a pair did on the bench it did with its passes, once it has risen.
-  pub works_back : (o : Option Keeper) (s t : Option Seated) (keeper : Option Keeper) → SitsBeside was b o s → HasRisen region (row_on c) t keeper
+  works_back : (o : Option Keeper) (s t : Option Seated) (keeper : Option Keeper) → SitsBeside was b o s → HasRisen region (row_on c) t keeper
       → (w : PairWorks f k j acts [] τ (standing_on c member) has has' (kept_seated was b s) (kept_seated now c t) later more p)
       → (v : PairWorks f k j acts [] σ (standing_of_pass pass) has has' (kept_by_worker o) (kept_by_worker keeper) later more p) × (v.reached ≡ w.reached)
   works_back None None None None sits risen w = (
@@ -333,41 +333,66 @@ pub sat_at : {region : SharedRegion} {pass : SharedPass} {keeper : Option Keeper
 sat_at {pass = pass} {keeper} {seated = seated} desk region bench member sits =
     subst (λ (z : SharedRegion × Bench × Member). PairSits z.0 pass keeper z.1 z.2 seated) (λ i. (sym region i, sym bench i, sym member i)) sits
 
-module _ (region : SharedRegion) (book : NameBook) (worker : Worker) (ops : List Op) (pass : SharedPass) (keeper : Option Keeper) (seated : Option Seated)
+module _ {region : SharedRegion} {book : NameBook} {worker : Worker} {ops : List Op} {pass : SharedPass} {keeper : Option Keeper} {seated : Option Seated}
     (desk : BenchDesk) (is : worker.pass ≡ Some pass) (taken : keeper ≡ worker.keeper)
-    (sits : PairSits desk.region.now pass keeper desk.place.bench desk.place.member seated) (f : Profile) (threads k : ℕ) (later : Later) (more : LaterKept) (p : Progress) (some : 1 ≤ threads)
-    (at : PairStands region book f threads k (own_acts k ops) worker later more p) where
-  thread : ThreadAt f k (own_acts k ops) (standing_of_pass pass) (kept_by book worker) later p
-  thread = subst (λ (x : SharedPass). ThreadAt f k (own_acts k ops) (standing_of_pass x) (kept_by book worker) later p) (same_Some _ _ (sym at.thread.has.present ∙ is)) at.thread.stands
+    (sits : PairSits desk.region.now pass keeper desk.place.bench desk.place.member seated) (m : MayDoPhase region book ops worker) where
+  abbrev f : Profile
+  f = m.profile
 
-  waits : KeeperWaits f (threads + k) (own_acts k ops) (kept_by_worker keeper) more p
-  waits = subst (λ (o : Option Keeper). KeeperWaits f (threads + k) (own_acts k ops) (kept_by_worker o) more p) (sym taken) at.waits
+  abbrev k : ℕ
+  k = m.thread
 
-  here : PairAt f k (threads + k) (own_acts k ops) (standing_on desk.place.bench desk.place.member) (kept_by book worker) (kept_seated desk.region.now desk.place.bench seated) later more p
-  here = pair_at sits f k (threads + k) (own_acts k ops) (kept_by book worker) later more p thread waits (λ one. omega (arith, one, some))
+  abbrev other : ℕ
+  other = m.threads + m.thread
+
+  abbrev p : Progress
+  p = m.progress
+
+  abbrev bench : Bench
+  bench = desk.place.bench
+
+  abbrev member : Member
+  member = desk.place.member
+
+  abbrev kept_before : Keeping
+  kept_before = kept_seated desk.region.now bench seated
+
+  -- what the pair does in the phase, as thread n and its keeper
+  abbrev Works : ℕ → Standing → Standing → Keeps → Keeping → Keeping → Type 0
+  Works n σ τ has kept kept' = PairWorks f n other (own_acts n ops) [] σ τ (kept_by book worker) has kept kept' m.later m.more p
+
+  thread : ThreadAt f k (own_acts k ops) (standing_of_pass pass) (kept_by book worker) m.later p
+  thread = subst (λ (x : SharedPass). ThreadAt f k (own_acts k ops) (standing_of_pass x) (kept_by book worker) m.later p) (same_Some _ _ (sym m.stands.thread.has.present ∙ is)) m.stands.thread.stands
+
+  waits : KeeperWaits f other (own_acts k ops) (kept_by_worker keeper) m.more p
+  waits = subst (λ (o : Option Keeper). KeeperWaits f other (own_acts k ops) (kept_by_worker o) m.more p) (sym taken) m.stands.waits
+
+  here : PairAt f k other (own_acts k ops) (standing_on bench member) (kept_by book worker) kept_before m.later m.more p
+  here = pair_at sits f k other (own_acts k ops) (kept_by book worker) m.later m.more p thread waits (λ one. omega (arith, one, m.some))
 
   -- they may begin
-  pub begins : PairAt f desk.place.member.actor (threads + k) (own_acts desk.place.member.actor ops) (standing_on desk.place.bench desk.place.member) (kept_by book worker) (kept_seated desk.region.now desk.place.bench seated) later more p
-  begins = subst (λ (n : ℕ). PairAt f n (threads + k) (own_acts n ops) (standing_on desk.place.bench desk.place.member) (kept_by book worker) (kept_seated desk.region.now desk.place.bench seated) later more p) (sym here.thread.sits.actor) here
+  pub begins : PairAt f member.actor other (own_acts member.actor ops) (standing_on bench member) (kept_by book worker) kept_before m.later m.more p
+  begins = subst (λ (n : ℕ). PairAt f n other (own_acts n ops) (standing_on bench member) (kept_by book worker) kept_before m.later m.more p) (sym here.thread.sits.actor) here
 
   module _ (after : BenchDesk) (has : Keeps) (there : Option Seated)
-      (works : PairWorks f desk.place.member.actor (threads + k) (own_acts desk.place.member.actor ops) [] (standing_on desk.place.bench desk.place.member) (standing_on after.place.bench after.place.member)
-      (kept_by book worker) has (kept_seated desk.region.now desk.place.bench seated) (kept_seated after.region.now after.place.bench there) later more p) (home : home_of after.region.now (row_on after.place.bench) ≡ home_of desk.region.now (row_on desk.place.bench)) where
-    mine : PairWorks f k (threads + k) (own_acts k ops) [] (standing_on desk.place.bench desk.place.member) (standing_on after.place.bench after.place.member) (kept_by book worker) has (kept_seated desk.region.now desk.place.bench seated)
-        (kept_seated after.region.now after.place.bench there) later more p
-    mine = subst (λ (n : ℕ). PairWorks f n (threads + k) (own_acts n ops) [] (standing_on desk.place.bench desk.place.member) (standing_on after.place.bench after.place.member) (kept_by book worker) has
-        (kept_seated desk.region.now desk.place.bench seated) (kept_seated after.region.now after.place.bench there) later more p) here.thread.sits.actor works
+      (works : Works member.actor (standing_on bench member) (standing_on after.place.bench after.place.member) has kept_before (kept_seated after.region.now after.place.bench there))
+      (home : home_of after.region.now (row_on after.place.bench) ≡ home_of desk.region.now (row_on bench)) where
+    abbrev kept_after : Keeping
+    kept_after = kept_seated after.region.now after.place.bench there
+
+    mine : Works k (standing_on bench member) (standing_on after.place.bench after.place.member) has kept_before kept_after
+    mine = subst (λ (n : ℕ). Works n (standing_on bench member) (standing_on after.place.bench after.place.member) has kept_before kept_after) here.thread.sits.actor works
 
     -- After its acts the keeper still sits beside its thread.
     pub keeper_may : KeeperSits after.region.now after.place.bench there
-    keeper_may = keeper_sits f (threads + k) more mine.reached after.region.now after.place.bench there mine.stands.waits
+    keeper_may = keeper_sits f other m.more mine.reached after.region.now after.place.bench there mine.stands.waits
 
     -- After its acts the keeper is still another actor than its thread.
     pub keeper_other : IsAnother after.place.member.actor there
-    keeper_other = keeper_apart f (threads + k) k more mine.reached after.region.now after.place.bench after.place.member.actor there mine.stands.thread.sits.actor mine.stands.apart mine.stands.waits
+    keeper_other = keeper_apart f other k m.more mine.reached after.region.now after.place.bench after.place.member.actor there mine.stands.thread.sits.actor mine.stands.apart mine.stands.waits
 
     same_there : seated_actors there ≡ seated_actors seated
-    same_there = same_keeper f (threads + k) (own_acts k ops) mine.said more more p mine.reached desk.region.now after.region.now desk.place.bench after.place.bench seated there mine.kept_pushed here.waits mine.stands.waits
+    same_there = same_keeper f other (own_acts k ops) mine.said m.more m.more p mine.reached desk.region.now after.region.now bench after.place.bench seated there mine.kept_pushed here.waits mine.stands.waits
 
     -- After its acts the row is still that of the thread and its keeper.
     pub actors_are : (row_on after.place.bench).actors ≡ after.place.member.actor ∷ seated_actors there
@@ -376,36 +401,42 @@ module _ (region : SharedRegion) (book : NameBook) (worker : Worker) (ops : List
 
     -- it did them, and its bench is left
     module _ (left : Bench) (own : SharedPass) (risen : Option Keeper) (rose : PairRose region after.place.bench after.place.member there left own risen) where
-      back :
-          (v : PairWorks f k (threads + k) (own_acts k ops) [] (standing_of_pass pass) (standing_of_pass own) (kept_by book worker) has (kept_by_worker keeper) (kept_by_worker risen) later more p)
-          × (v.reached ≡ mine.reached)
-      back = works_back region desk.region.now after.region.now desk.place.bench after.place.bench own after.place.member f k (threads + k) (own_acts k ops) (standing_of_pass pass) (standing_on desk.place.bench desk.place.member) (kept_by book worker) has
-          later more p rose.thread keeper seated there risen sits.beside rose.beside mine
+      back : (v : Works k (standing_of_pass pass) (standing_of_pass own) has (kept_by_worker keeper) (kept_by_worker risen)) × (v.reached ≡ mine.reached)
+      back =
+          works_back region desk.region.now after.region.now bench after.place.bench own after.place.member f k other (own_acts k ops) (standing_of_pass pass) (standing_on bench member)
+          (kept_by book worker) has m.later m.more p rose.thread keeper seated there risen sits.beside rose.beside mine
 
       grown : (made : Whole) × (mine.reached.list ≡ made ++ p.list)
       grown = goes_on f (own_acts k ops) p mine.reached mine.reaches
 
-      pair : (row_on after.place.bench).actors ≡ k ∷ keeper_actors (threads + k) worker.keeper
-      pair = actors_are ∙ (λ i. mine.stands.thread.sits.actor i ∷ (same_there ∙ (keeper_is f (threads + k) (own_acts k ops) more p desk.region.now desk.place.bench keeper seated sits.beside waits ∙ ap (keeper_actors (threads + k)) taken)) i)
+      pair : (row_on after.place.bench).actors ≡ k ∷ keeper_actors other worker.keeper
+      pair =
+          let its = keeper_is f other (own_acts k ops) m.more p desk.region.now bench keeper seated sits.beside waits in
+          actors_are ∙ (λ i. mine.stands.thread.sits.actor i ∷ (same_there ∙ (its ∙ ap (keeper_actors other) taken)) i)
 
       parts : (n : ℕ) → among (row_on after.place.bench).actors n ≡ true → part n p.list ≡ part n (steps_of (row_on after.place.bench).base)
       parts = subst (λ (h : BenchHome). (n : ℕ) → among h.row.actors n ≡ true → part n p.list ≡ part n (steps_of h.row.base)) (sym home)
-          (both_parts sits f k (threads + k) (own_acts k ops) (kept_by book worker) later more p thread waits)
+          (both_parts sits f k other (own_acts k ops) (kept_by book worker) m.later m.more p thread waits)
 
-      order : KeepsOrder (pair_in threads k worker.keeper) p.list mine.reached.list (steps_of rose.base)
+      order : KeepsOrder (pair_in m.threads k worker.keeper) p.list mine.reached.list (steps_of rose.base)
       order = subst (λ (ns : List ℕ). KeepsOrder (among ns) p.list mine.reached.list (steps_of rose.base)) pair
           (keeps_order (row_on after.place.bench) rose.base grown.0 p.list mine.reached.list rose.saw grown.1 mine.stands.thread.sits.stood.1 parts)
 
       its : IsPassOf region pass
-      its = subst (λ (x : SharedPass). IsPassOf region x) (same_Some _ _ (sym at.thread.has.present ∙ is)) at.thread.has.of
+      its = subst (λ (x : SharedPass). IsPassOf region x) (same_Some _ _ (sym m.stands.thread.has.present ∙ is)) m.stands.thread.has.of
+
+      -- what it did, with this keeper before
+      abbrev DidWith : Option Keeper → Type 0
+      DidWith o =
+          (did : Did region worker.pass (Some own) (λ σ σ'. Works k σ σ' has (kept_by_worker o) (kept_by_worker risen)))
+          × IsKeeperOf region risen × HasLeft region (Some left) (pair_in m.threads k worker.keeper) p.list did.does.reached.list
 
       -- A worker that sat down, worked and rose did its acts of the phase with its passes.
-      pub pair_did :
-          (did : Did region worker.pass (Some own) (λ σ σ'. PairWorks f k (threads + k) (own_acts k ops) [] σ σ' (kept_by book worker) has (kept_by_worker worker.keeper) (kept_by_worker risen) later more p))
-          × IsKeeperOf region risen × HasLeft region (Some left) (pair_in threads k worker.keeper) p.list did.does.reached.list
-      pair_did = subst (λ (o : Option Keeper). (did : Did region worker.pass (Some own) (λ σ σ'. PairWorks f k (threads + k) (own_acts k ops) [] σ σ' (kept_by book worker) has (kept_by_worker o) (kept_by_worker risen) later more p))
-          × IsKeeperOf region risen × HasLeft region (Some left) (pair_in threads k worker.keeper) p.list did.does.reached.list) taken (
+      pub pair_did : DidWith worker.keeper
+      pair_did =
+          let in_order = subst (λ (q : Progress). KeepsOrder (pair_in m.threads k worker.keeper) p.list q.list (steps_of rose.base)) (sym back.1) order in
+          subst DidWith taken (
             record { before = record { pass = pass; present = is; of = its }; after = record { pass = own; present = refl; of = rose.thread.of }; does = back.0 },
             risen_keeper_is_of_region region (row_on after.place.bench) there risen rose.beside,
-            record { bench = left; present = refl; of = rose.of; base = rose.base; rows = rose.rows; order = subst (λ (q : Progress). KeepsOrder (pair_in threads k worker.keeper) p.list q.list (steps_of rose.base)) (sym back.1) order },
+            record { bench = left; present = refl; of = rose.of; base = rose.base; rows = rose.rows; order = in_order },
           )

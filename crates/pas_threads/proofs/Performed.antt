@@ -7,25 +7,20 @@ use Rattle.pas_bits.specs.Masks.{is_set}
 use Rattle.pas_bits.specs.declared.mask.Mask4.{Mask4}
 use Rattle.pas_profile.specs.declared.profile.Profile.{Profile}
 use Rattle.pas_trace.specs.declared.plan.Op.{Op}
-use Rattle.pas_report.specs.Rooms.{Records}
-use Rattle.pas_utility.specs.Outcomes.{places_of, Outcomes}
 use Rattle.pas_shared.specs.declared.region.SharedRegion.{SharedRegion}
 use Rattle.pas_trace.specs.Acts.{Act, is_active, numbers_from, acts_of_op, acts_of_ops, own_acts, scavenger_acts}
-use Rattle.pas_answers.specs.{Answers.Progress, Reaching.Reaches, Answers.Books, Calls.owed_events}
-use Rattle.pas_acts.specs.Shares.{owner_in, thread_in, actor_of_act, acts_by, AreInHand}
-use Rattle.pas_acts.specs.NameBooks.{requests_in, room_for, names_of, names_asked, Requests}
+use Rattle.pas_answers.specs.{Answers.Progress, Reaching.Reaches, Answers.Books}
+use Rattle.pas_acts.specs.Shares.{owner_in, actor_of_act, acts_by, AreInHand}
+use Rattle.pas_acts.specs.NameBooks.{requests_in, room_for, names_of, names_asked}
 use Rattle.pas_acts.specs.{Works.Later, Pairs.KeeperWaits, Pairs.KeptPushed}
 use Rattle.pas_threads.specs.Dealing.{picked, count_of, is_in, is_out}
-use Rattle.pas_threads.specs.Hands.{standing_of_pass, ScavengerAt, WorkerAt, Did}
-use Rattle.pas_threads.specs.{Sessions.WorkerHas, Turns.Came, Turns.Told, Turns.TookNoPart, Crews.Crew, Crews.CrewDid, Scavengers.crew_of}
-use Rattle.pas_threads.specs.{Scavengers.ScavengerStands, Scavengers.DidScavenge, Left.pair_in, Left.HasLeft}
-use Rattle.pas_threads.specs.Lent.{Shift, number_in, IsLent, AreLent}
+use Rattle.pas_threads.specs.{Hands.WorkerAt, Hands.Did, Sessions.WorkerHas, Turns.Came, Turns.Told, Turns.TookNoPart, Crews.Crew, Crews.CrewDid}
+use Rattle.pas_threads.specs.{Scavengers.crew_of, Scavengers.ScavengerStands, Scavengers.DidScavenge, Left.pair_in, Left.HasLeft, Lent.Shift, Lent.IsLent}
+use Rattle.pas_threads.specs.{Lent.AreLent}
 use Rattle.pas_threads.specs.Performing.{Round, idle_in, IsReady, PaysFor, ThreadDone, ScavengerDone, PieceLeft}
 use Rattle.pas_acts.specs.declared.names.NameBook.{NameBook}
 use Rattle.pas_threads.specs.declared.{workers.Worker.Worker, scavenger.Scavenger.Scavenger, phases.Team.Team, keeper.Keeper.Keeper}
 use Rattle.pas_acts.proofs.{AtDesk.sits_for, PhaseActs.none_own, PhaseActs.acts_are_shared}
-use Rattle.pas_cache.specs.Caches.{Cached}
-use Rattle.pas_steps.specs.Lists.{part}
 use Rattle.pas_threads.specs.Pairs.{kept_by_worker, IsKeeperOf, owed_kept, PairStands, PairDid, MayDoPhase, DidPhase}
 use Rattle.pas_threads.proofs.Keepers.{two_counted, owed_same, owed_still, kept_none, still_same, waits_still}
 use Rattle.pas_threads.proofs.{NamesOfPhases.hands_over, NamesOfPhases.hands_nothing, TakingTurns.came_none, TakingTurns.pushed_none}
@@ -43,16 +38,7 @@ pair_paid : {region : SharedRegion} (r : Round) (k : ℕ) (old new : Worker)
     → 1 ≤ r.threads
     → (did : PairDid region r.book r.profile r.threads k (own_acts k r.ops) old new (r.later k) (r.more k) r.start)
     → PaysFor r k old new did.did.does.said did.did.does.reached
-pair_paid r k old new at some did =
-    let w = did.did.does in
-    let keeper = r.threads + k in
-    let f = r.profile in
-    let both = two_counted k keeper w.said w.stands.apart w.each in
-    let own_before = ap (λ (c : Cached). owed_events f c (part k r.start.list)) at.thread.stands.cache in
-    let own_then = ap (λ (c : Cached). owed_events f c (part k w.reached.list)) w.stands.thread.cache in
-    let kept_before = owed_same f keeper old.keeper r.start in
-    let kept_then = owed_same f keeper new.keeper w.reached in
-    inl (omega (arith, both, own_before, own_then, kept_before, kept_then, w.paid))
+pair_paid r k old new at some did = search (arith, two_counted, owed_same)
 
 active_done : {region : SharedRegion} {r : Round} (k : ℕ) (old new : Worker)
     → PairStands region r.book r.profile r.threads k (own_acts k r.ops) old (r.later k) (r.more k) r.start → 1 ≤ r.threads
@@ -84,8 +70,7 @@ active_done {r = r} k old new at some phase =
 idle_noted : (k : ℕ) (ops : List Op) (old new : Worker) → is_active ops k ≡ false → new.requests ≡ old.requests
     → names_of (requests_in new.requests) ≡ names_of (requests_in old.requests) ++ names_asked (own_acts k ops)
 idle_noted k ops old new off same =
-    ap (λ (rs : Requests). names_of (requests_in rs)) same
-    ∙ sym (ap (λ (acts : List Act). names_of (requests_in old.requests) ++ names_asked acts) (none_own k ops off) ∙ append-nil (names_of (requests_in old.requests)))
+    cc (none_own k ops off, append-nil (names_of (requests_in old.requests)))
 
 -- while the scavenger does nothing, nothing comes of it
 idle_stayed : {region : SharedRegion} {r : Round} (k : ℕ) (old new : Worker) → is_active r.ops k ≡ false
@@ -129,7 +114,7 @@ lent_done {region} {r} {acts} {has} {has'} k n old new some off stood did lt lt'
     let keeper = r.threads + k in
     let kept = kept_by_worker old.keeper in
     let at : IsLent region (shift_of r) n (get_or has'.lent n new) q = did.stands.lent.each n new lt' in
-    let told : Told k said old new = subst (λ (j : ℕ). Told j said old new) number (subst (λ (w : Worker). Told (number_in (shift_of r) n) said w new) (was old) (subst (λ (w : Worker). Told (number_in (shift_of r) n) said (get_or has.lent n old) w) (is old) (did.lent n old lt))) in
+    let told : Told k said old new = rw (is old, was old, number) at (did.lent n old lt) in
     let apart : TookNoPart keeper said r.start q = did.others keeper (λ same. omega (arith, same, some)) (λ i within same. (let most = idle_within r.threads r.ops i within in omega (arith, most, same, some))) in
     let acts_none = none_own k r.ops off in
     let waits : KeeperWaits r.profile keeper [] kept (r.more k) q = waits_still r.profile keeper [] old.keeper (r.more k) r.start q apart.part_is (ap (λ (books : Books). books keeper) did.books) (subst (λ (xs : List Act). KeeperWaits r.profile keeper xs kept (r.more k) r.start) acts_none stood.waits) in
@@ -181,15 +166,7 @@ owned_by threads ops k false is some most =
 
 -- nobody past the threads has anything in hand
 owner_few : (threads : ℕ) (ops : List Op) (k w : ℕ) → ((j : ℕ) → is_active ops j ≡ true → j ≤ threads) → threads < w → owner_in threads ops k ≢ w
-owner_few threads ops k w within past is =
-    let thread = thread_in threads k in
-    elim (cases_Bool (is_active ops thread)) [
-      | inl on ↦
-          let own : owner_in threads ops k ≡ thread = ap (λ (t : Bool). if t then thread else 0) on in
-          let le = within thread on in
-          omega (arith, own, le, past, is)
-      | inr off ↦ let own : owner_in threads ops k ≡ 0 = ap (λ (t : Bool). if t then thread else 0) off in omega (arith, own, past, is)
-    ]
+owner_few threads ops k w within past is = search (arith, cases_Bool)
 
 none_in_hand : (owner : ℕ → ℕ) (w : ℕ) (acts : List Act) → ((k : ℕ) → owner k ≢ w) → acts_by owner w acts ≡ []
 none_in_hand owner w [] none = refl
@@ -258,8 +235,7 @@ module _ {region : SharedRegion} {r : Round} {team : Team} (ready : IsReady regi
         record {
           has = record { pass = has.pass; present = pass ∙ has.present; of = has.of };
           at = record {
-            stands = subst (λ (o : Outcomes). ScavengerAt r.profile (scavenger_acts (idle_in r) r.ops) (standing_of_pass has.pass) (places_of o) scavenger.out (r.later 0) r.start) (sym outcomes)
-                (subst (λ (rs : Records). ScavengerAt r.profile (scavenger_acts (idle_in r) r.ops) (standing_of_pass has.pass) (places_of team.scavenger.outcomes) rs (r.later 0) r.start) (sym out) ready.scavenger.at);
+            stands = rw (outcomes, out) ready.scavenger.at;
             lent = subst (λ (ws : List Worker). AreLent region (shift_of r) ws r.start) (sym lent_is) record { many = lent_many; each = lent_stands };
           };
         }
@@ -396,7 +372,7 @@ module _ {region : SharedRegion} {r : Round} {team : Team} (ready : IsReady regi
                     idle_stayed (suc j) (get_or team.threads.items j d) (get_or new j d) away (ready.workers j d lt) (sym (is.1 d) ∙ ap (λ (s : Scavenger). get_or s.lent.items (rank j) d) (stayed off) ∙ was.1 d);
                 scavenger = λ is. subst (λ (s : Scavenger). ScavengerDone region r scav0 s [] r.start) (sym (stayed off)) (
                   stands.has,
-                  subst (λ (acts : List Act). ScavengerAt r.profile acts (standing_of_pass stands.has.pass) (places_of scav0.outcomes) scav0.out (r.later 0) r.start) none stands.at.stands,
+                  rw none at stands.at.stands,
                   pushed_none refl,
                   λ k far. record { part_is = refl; silent = refl },
                 );

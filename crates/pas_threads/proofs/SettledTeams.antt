@@ -28,7 +28,7 @@ settled_with pass old taken settled back same took so after left = (
     each = subst (λ (l : Whole). AreEarlier (looks_of old) l) (sym after.steps) (subst (λ (ls : List (List Entry)). AreEarlier ls (so_far settled)) same.looks so.each);
     all = λ k v has. ap (λ (l : Whole). part k l) after.steps ∙ so.all k v (subst (λ (ps : List Part). HasPart ps k v) (sym took) (inr has));
   },
-  ap (λ (l : Whole). part pass.place.actor l) after.steps ∙ so.all pass.place.actor (view_of pass) (subst (λ (ps : List Part). HasPart ps pass.place.actor (view_of pass)) (sym took) (inl (refl, refl))),
+  cc (so.all pass.place.actor (view_of pass) (subst (λ (ps : List Part). HasPart ps pass.place.actor (view_of pass)) (sym took) (inl (refl, refl)))),
 )
 
 -- what stood in it then stands in it still

@@ -1,54 +1,32 @@
 -- How the stages of a replay follow each other, and what a stage shows in the list of all steps.
-use Rattle.std.proofs.Common.{◌≡◌, ℕ, ◌+◌, Bool, true, if◌then◌else◌, inl, inr, ◌⊎◌, List, [], ◌∷◌, ◌++◌, length, refl, ap, sym, ◌∙◌, subst, arith}
-use Rattle.std.proofs.Common.{length-append, eq-eqb, true≢false}
+use Rattle.std.proofs.Common.{◌≡◌, ℕ, ◌+◌, Bool, true, if◌then◌else◌, inl, inr, ◌⊎◌, List, [], ◌∷◌, ◌++◌, length, refl, ap, sym, ◌∙◌, subst, arith, take}
+use Rattle.std.proofs.Common.{length-append, eq-eqb, true≢false, take_at}
 use Rattle.std.proofs.lemmas.{Bool.cases_lt, Bool.cases_Bool, List.map-append}
 use Rattle.pas_steps.specs.{Lists.Triple, Lists.Whole, Lists.part, Views.View, Desks.triples}
-use Rattle.pas_steps.specs.declared.step.Made.{Made}
 use Rattle.pas_core.specs.Orders.{steps_by}
 use Rattle.pas_core.proofs.Choosing.{steps_by_both, part_of_chosen, Within, steps_by_one, no_steps_by, as_many_steps}
 use Rattle.pas_trace.specs.Acts.{Act}
 use Rattle.pas_shared.specs.Ruled.{IsEarlier}
 use Rattle.pas_answers.specs.{Answers.Progress, Reaching.Reaches}
-use Rattle.pas_answers.specs.Stages.{Owners, itself, in_hands, AreSorted, Stage, stage, one_by_one, GoByStages}
-use Rattle.pas_answers.proofs.Reached.{goes_on, both_by_stages}
-use Rattle.pas_guard.proofs.Keepers.{part_both}
+use Rattle.pas_answers.specs.Stages.{Owners, itself, in_hands, AreSorted, Stage, stage, one_by_one}
+use Rattle.pas_answers.proofs.{Reached.goes_on, Reached.both_by_stages}
 use Rattle.pas_threads.specs.Left.{KeepsOrder}
 use Rattle.pas_threads.specs.Sessions.{Session, IsOfActors, StandSo, WentBy}
 use Rattle.pas_threads.proofs.InPhases.{earlier_both, none_first}
+use Rattle.pas_guard.proofs.Keepers.{part_both}
 
 -- ---- parts of lists one behind the other
 -- fronts are the same where lists are, and what is behind them is as long
-cut_views : (a b c d : View) → a ++ b ≡ c ++ d → length b ≡ length d → a ≡ c
-cut_views [] b [] d e many = refl
-cut_views [] b (m ∷ c) d e many = absurd (let all = ap (λ (v : View). length v) e in let more = length-append (m ∷ c) d in omega (arith, all, many, more))
-cut_views (m ∷ a) b [] d e many = absurd (let all = ap (λ (v : View). length v) e in let more = length-append (m ∷ a) b in omega (arith, all, many, more))
-cut_views (m ∷ a) b (n ∷ c) d e many = λ i. (first (e i) m ∷ cut_views a b c d (λ j. rest (e j)) many i)
-  where
-    first : View → Made → Made
-    first [] d = d
-    first (x ∷ xs) d = x
-
-    rest : View → View
-    rest [] = []
-    rest (x ∷ xs) = xs
-
-cut_lists : (a b c d : Whole) → a ++ b ≡ c ++ d → length b ≡ length d → a ≡ c
-cut_lists [] b [] d e many = refl
-cut_lists [] b (t ∷ c) d e many = absurd (let all = ap (λ (l : Whole). length l) e in let more = length-append (t ∷ c) d in omega (arith, all, many, more))
-cut_lists (t ∷ a) b [] d e many = absurd (let all = ap (λ (l : Whole). length l) e in let more = length-append (t ∷ a) b in omega (arith, all, many, more))
-cut_lists (t ∷ a) b (s ∷ c) d e many = λ i. (first (e i) t ∷ cut_lists a b c d (λ j. rest (e j)) many i)
-  where
-    first : Whole → Triple → Triple
-    first [] d = d
-    first (x ∷ xs) d = x
-
-    rest : Whole → Whole
-    rest [] = []
-    rest (x ∷ xs) = xs
+cut_fronts : {A : Type 0} (a b c d : List A) → a ++ b ≡ c ++ d → length b ≡ length d → a ≡ c
+cut_fronts {A} a b c d e many =
+    let all = ap (λ (xs : List A). length xs) e in
+    let one = length-append a b in
+    let two = length-append c d in
+    sym (take_at a b (length a) refl) ∙ ap (λ (xs : List A). take (length a) xs) e ∙ take_at c d (length a) (omega (arith, all, one, two, many))
 
 -- so the parts of fronts are, where those of the lists and of what is behind are
 front_same : (k : ℕ) (a b c d : Whole) → part k (a ++ b) ≡ part k (c ++ d) → part k b ≡ part k d → part k a ≡ part k c
-front_same k a b c d all behind = cut_views (part k a) (part k b) (part k c) (part k d) (sym (part_both k a b) ∙ all ∙ part_both k c d) (ap (λ (v : View). length v) behind)
+front_same k a b c d all behind = cut_fronts (part k a) (part k b) (part k c) (part k d) (sym (part_both k a b) ∙ all ∙ part_both k c d) (ap (λ (v : View). length v) behind)
 
 front_none : (k : ℕ) (a b : Whole) → part k (a ++ b) ≡ part k b → part k a ≡ []
 front_none k a b all = front_same k a b [] b all refl
@@ -93,19 +71,6 @@ went_both {s} xs ys {p} {q} {r} {a} {b} {c} one two = record {
   stand = two.stand;
   nobody = two.nobody;
   by_stages = λ of. both_by_stages s.profile xs ys p q r a b c (one.by_stages (of_first s two.earlier of)) (two.by_stages of);
-}
-
--- a look at which nothing new was seen
-pub went_still : {s : Session} (xs : List Stage) {p q : Progress} {a b c : Whole} → WentBy s xs p q a b → IsEarlier b c → StandSo s c q.list
-    → WentBy s xs p q a c
-went_still {s} xs {p} {q} {a} {b} {c} went earlier stand = record {
-  earlier = earlier_both went.earlier earlier;
-  stand = stand;
-  nobody = went.nobody;
-  by_stages = λ of.
-      let before = of_first s earlier of in
-      let same : c ≡ b = nothing_since earlier (λ k. stand_all s c q.list stand went.nobody of k ∙ sym (stand_all s b q.list went.stand went.nobody before k)) in
-      subst (λ (l : Whole). GoByStages s.profile xs p q a l) (sym same) (went.by_stages before);
 }
 
 -- ---- one stage
@@ -187,14 +152,13 @@ module _ (chosen : ℕ → Bool) (since before made told : Whole) (behind : (k :
 
     lists : steps_by sat since ++ steps_by sat before ≡ steps_by sat keeps.since ++ steps_by sat keeps.before
     lists =
-        sym (steps_by_both sat since before) ∙ ap (λ (l : Whole). steps_by sat l) first.1 ∙ steps_by_both sat first.0 seen ∙ ap (λ (l : Whole). l ++ steps_by sat seen) none_later
-        ∙ ap (λ (l : Whole). steps_by sat l) keeps.seen_is ∙ steps_by_both sat keeps.since keeps.before
+        cc (steps_by_both sat since before, steps_by_both sat first.0 seen, none_later, steps_by_both sat keeps.since keeps.before)
 
     sat_sorted : steps_by sat since ≡ steps_by sat keeps.made
-    sat_sorted = cut_lists _ _ _ _ lists (as_many_steps sat before keeps.before (λ k its. behind k ∙ sym (keeps.parts k its))) ∙ keeps.order
+    sat_sorted = cut_fronts _ _ _ _ lists (as_many_steps sat before keeps.before (λ k its. behind k ∙ sym (keeps.parts k its))) ∙ keeps.order
 
     made_same : steps_by chosen keeps.made ≡ steps_by chosen made
-    made_same = cut_lists _ _ _ _ (sym (steps_by_both chosen keeps.made told) ∙ ap (λ (l : Whole). steps_by chosen l) (sym keeps.told_is) ∙ shared ∙ steps_by_both chosen made told) refl
+    made_same = cut_fronts _ _ _ _ (sym (steps_by_both chosen keeps.made told) ∙ ap (λ (l : Whole). steps_by chosen l) (sym keeps.told_is) ∙ shared ∙ steps_by_both chosen made told) refl
 
     -- chosen and sat differ in those alone that did nothing
     differ : (l : Whole) → ((k : ℕ) → part k own ≡ part k told → chosen k ≡ true → part k l ≡ []) → (k : ℕ) → (chosen k ≡ sat k) ⊎ (part k l ≡ [])
@@ -206,5 +170,4 @@ module _ (chosen : ℕ → Bool) (since before made told : Whole) (behind : (k :
     -- The steps of a worker's actors stand in the list of all in the order in which they are told.
     pub sorted_seen : steps_by chosen since ≡ steps_by chosen made
     sorted_seen =
-        steps_by_but chosen sat since (differ since (λ k still on. front_none k since before (all k ∙ sym (parts k on) ∙ still ∙ sym (behind k))))
-        ∙ sat_sorted ∙ sym (steps_by_but chosen sat keeps.made (differ keeps.made (λ k still on. front_none k keeps.made told (ap (λ (l : Whole). part k l) (sym keeps.told_is) ∙ still)))) ∙ made_same
+        cc (steps_by_but chosen sat since (differ since (λ k still on. front_none k since before (all k ∙ sym (parts k on) ∙ still ∙ sym (behind k)))), sat_sorted, steps_by_but chosen sat keeps.made (differ keeps.made (λ k still on. front_none k keeps.made told (ap (λ (l : Whole). part k l) (sym keeps.told_is) ∙ still))), made_same)

@@ -24,7 +24,7 @@ use Rattle.pas_answers.specs.{Calls.owed_events, Names.names_held}
 use Rattle.pas_answers.specs.Replays.{at_start, phases_of, region_of, threads_of, keepers_of}
 use Rattle.pas_acts.specs.{PlanKeepers.one_guarded, PlanKeepers.guarded_of, Parts.AreRooms, Shares.AreKeptBehind, Keepers.LaterKept, Keepers.KeeperAt}
 use Rattle.pas_acts.specs.{Keepers.keeper_has, Pairs.for_guards, Pairs.AreTriedBy, Pairs.AreUnguarded}
-use Rattle.pas_acts.proofs.PlanFacts.{is_guarded, pages_owed_at_first, plan_threads, plan_above, wider_sound}
+use Rattle.pas_acts.proofs.{PlanFacts.is_guarded, PlanFacts.pages_owed_at_first, PlanFacts.plan_threads, PlanFacts.plan_above, PlanFacts.wider_sound}
 use Rattle.pas_acts.proofs.{Naming.below_all, PhaseActs.active_within, NamesBefore.names_at_start}
 use Rattle.pas_steps.proofs.Nothing.{nothing_yet}
 use Rattle.pas_threads.specs.Hands.{standing_of_pass}
@@ -96,8 +96,8 @@ tried_own f guard k (op ∷ ops) kept =
     let head = act_kept (keeper_in op.what) op in
     let rest = tried_own f guard k ops kept.1 in
     elim (cases_eq op.actor k) [
-      | inl same ↦ subst (λ (t : Bool). AreTriedBy (f.threads + k) (if t then head ∷ (Settles op.actor ∷ own_acts k ops) else own_acts k ops)) (sym (eq-eqb op.actor k same)) (tried_one f.threads k guard (keeper_in op.what) op (own_acts k ops) same kept.0 rest)
-      | inr other ↦ subst (λ (t : Bool). AreTriedBy (f.threads + k) (if t then head ∷ (Settles op.actor ∷ own_acts k ops) else own_acts k ops)) (sym (ne_eqb op.actor k other)) rest
+      | inl same ↦ rw eq-eqb (tried_one f.threads k guard (keeper_in op.what) op (own_acts k ops) same kept.0 rest)
+      | inr other ↦ rw ne_eqb rest
     ]
 
 -- .. and without a guard line there is none
@@ -294,8 +294,7 @@ kept_start {text} {plan} {kit} read made (inl all) many i d lt =
 kept_start {text} {plan} {kit} read made (inr none) many i d lt =
     let plans = every_plan read in
     let zero_of = guarded_none plan (omega (arith, lt, many)) none.0 in
-    subst (λ (o : Option Keeper). KeeperRests kit.region (region_of plan) (threads_of plan + suc i) (own_acts (suc i) (all_ops (phases_of plan))) o at_start) (sym (none.1 i d lt))
-    (record { of = tt; waits = unguarded_own plan.profile plan.guard (suc i) (all_ops (phases_of plan)) zero_of plans.keepers; silent = tt })
+    rw none.1 (record { of = tt; waits = unguarded_own plan.profile plan.guard (suc i) (all_ops (phases_of plan)) zero_of plans.keepers; silent = tt })
 
 start : {text : List ℕ} {plan : Plan} {kit : SharedKit} → IsPlanOf text plan → IsKitOf plan kit
     → TeamAt kit.region (session_of plan) (phases_of plan) kit.team at_start
@@ -311,17 +310,21 @@ start {text} {plan} {kit} read made =
     let actors = plan_actors plan in
     let threads = plan_threads plan in
     record {
-      many = many;
-      fits = omega (arith, actors);
-      few_threads = omega (arith, plans.actors, threads);
-      few = omega (arith, count);
-      within = λ k on. active_within plan.profile [] ops k plans.operations on;
-      behind = behind_own plan.profile plan.guard ops plans.keepers;
-      workers = λ i d lt. subst (λ (n : ℕ). WorkerRests kit.region f n (get_or kit.team.threads.items i d) (own_records plan.profile n ops) at_start) (omega arith)
-          (all_start kit.region f bounds 1 (λ k. own_records plan.profile k ops) made.others kit.team.threads.items made.profile (some_new kit.region bounds 1 made.others made.kept made.unused.1) made.team.workers
-          (λ j le. let own = plans.own (1 + j) (omega arith) (omega (arith, le, many)) in omega (arith, own)) i d lt);
-      guarded = made.team.keepers.1;
-      kept = kept_start read made made.team.keepers.1 many;
+      fit = record {
+        fits = omega (arith, actors);
+        few_threads = omega (arith, plans.actors, threads);
+        few = omega (arith, count);
+        within = λ k on. active_within plan.profile [] ops k plans.operations on;
+        behind = behind_own plan.profile plan.guard ops plans.keepers;
+      };
+      workers = record {
+        many = many;
+        threads = λ i d lt. subst (λ (n : ℕ). WorkerRests kit.region f n (get_or kit.team.threads.items i d) (own_records plan.profile n ops) at_start) (omega arith)
+            (all_start kit.region f bounds 1 (λ k. own_records plan.profile k ops) made.others kit.team.threads.items made.profile (some_new kit.region bounds 1 made.others made.kept made.unused.1) made.team.workers
+            (λ j le. let own = plans.own (1 + j) (omega arith) (omega (arith, le, many)) in omega (arith, own)) i d lt);
+        guarded = made.team.keepers.1;
+        kept = kept_start read made made.team.keepers.1 many;
+      };
       scavenger = scavenger_starts kit.region f (slice_index bounds 0) (own_records plan.profile 0 ops) made.first kit.team.scavenger made.profile (omega (arith, scavenger)) made.unused.0 made.team.scavenger;
       nobody = λ k past. refl;
       names = names_at_start f ops kit.team.book (wider_sound plan.profile f.threads threads [] ops plans.operations) (plan_above read) (below_all (names_held kit.team.book.names) (phases_of plan) made.team.book.names) made.team.book.no_name;
@@ -405,4 +408,4 @@ pub handed : {text : List ℕ} {plan : Plan} {kit : SharedKit} (out : Records) (
     → TeamAt kit.region (session_of plan) (map ops_of slice) kit.team at_start
     × HasRoom (session_of plan) (map ops_of slice) (length slice + 1) kit.team.threads.items out at_start
 handed {text} {plan} {kit} out slice read made is empty room =
-    subst (λ (ps : List Phase). TeamAt kit.region (session_of plan) (map ops_of ps) kit.team at_start × HasRoom (session_of plan) (map ops_of ps) (length ps + 1) kit.team.threads.items out at_start) (sym is) (start read made, start_room out read made empty room)
+    rw is (start read made, start_room out read made empty room)

@@ -3,23 +3,24 @@ use Rattle.std.proofs.Common.{◌≡◌, ◌≢◌, ℕ, ◌<◌, inl, inr, List
 use Rattle.std.proofs.Common.{◌-◌, ◌≤◌, true, false, map, length-append, drop, drop_of_length-le, append-nil, get_or-set_other}
 use Rattle.std.proofs.lemmas.{List.get_or_default, List.drop_more, Grind.get_or-set_at, Bool.cases_eq}
 use Rattle.pas_profile.specs.declared.profile.Profile.{Profile}
-use Rattle.pas_steps.specs.{Lists.Whole, Lists.part, Views.View}
+use Rattle.pas_steps.specs.{Lists.Whole, Lists.part, Views.View, Desks.Standing}
 use Rattle.pas_report.specs.Rooms.{records_in, Records, room_of}
 use Rattle.pas_report.specs.declared.record.Record.{Record}
 use Rattle.pas_trace.specs.Acts.{Act, Wakes, Ends, numbers_from}
 use Rattle.pas_answers.specs.{Answers.Progress, Ways.EachOf, Ways.records_by, Calls.owed_events, Fit.own_cost_of_act}
-use Rattle.pas_answers.proofs.OwnRecords.{records_both, none_by, all_by, spoken_piece, spoken_both}
-use Rattle.pas_acts.specs.{Keepers.StandsStill, Works.Later, Works.Sits, NameBooks.requests_in, NameBooks.room_for, Awake.awake_in}
-use Rattle.pas_acts.proofs.AtDesk.{leaves_rest, sits_for, rests_still}
+use Rattle.pas_answers.proofs.{OwnRecords.records_both, OwnRecords.none_by, OwnRecords.all_by, OwnRecords.spoken_piece, OwnRecords.spoken_both}
+use Rattle.pas_acts.specs.{Keepers.StandsStill, Works.Later, Works.Sits, NameBooks.requests_in, NameBooks.room_for, Awake.awake_in, AtDesks.here}
+use Rattle.pas_acts.specs.{AtDesks.ThreadActs}
+use Rattle.pas_acts.proofs.{AtDesk.leaves_rest, AtDesk.sits_for, AtDesk.rests_still}
 use Rattle.pas_shared.specs.declared.{region.SharedRegion.SharedRegion, pass.SharedPass.SharedPass}
-use Rattle.pas_answers.proofs.Reached.{reach_both}
+use Rattle.pas_answers.proofs.{Reached.reach_both}
 use Rattle.pas_threads.specs.Turns.{AreDistinct, Came, Pushed, Told, TookNoPart, Turn, TookTurns, owed_at, IsDue, Woke, WokeAll, Stopped, said_by}
 use Rattle.pas_threads.specs.declared.workers.Worker.{Worker}
 use Rattle.std.specs.List.{filter}
 use Rattle.pas_bits.specs.Masks.{is_set}
 use Rattle.pas_bits.specs.declared.mask.Mask4.{Mask4}
 use Rattle.pas_cache.specs.Caches.{Cached, cached, AtRest}
-use Rattle.pas_acts.proofs.ActsLeft.{acts_there, next_chosen, next_passed, none_left}
+use Rattle.pas_acts.proofs.{ActsLeft.acts_there, ActsLeft.next_chosen, ActsLeft.next_passed, ActsLeft.none_left}
 use Rattle.pas_threads.specs.Hands.{standing_of_pass}
 use Rattle.pas_threads.specs.Sessions.{evenly, WorkerHas, WorkerRests, AreResting}
 
@@ -105,7 +106,7 @@ no_turn {f} {number} {Stands} {old} {p} at = record { came = came_none f p; stan
 
 -- those of thread k and then of the scavenger, by actor
 pub by_own : (k : ℕ) (mine told : List Record) → EachOf k mine → EachOf 0 told → 0 ≢ k → records_by k (mine ++ told) ≡ mine
-by_own k mine told one two ne = records_both k mine told ∙ ap (λ (xs : List Record). xs ++ records_by k told) (all_by k mine one) ∙ ap (λ (xs : List Record). mine ++ xs) (none_by k 0 told two ne) ∙ append-nil mine
+by_own k mine told one two ne = cc (records_both k mine told, all_by k mine one, none_by k 0 told two ne, append-nil mine)
 
 -- What a thread says adds nothing to the records of the scavenger.
 pub by_scavenger : (k : ℕ) (mine told : List Record) → EachOf k mine → 0 ≢ k → records_by 0 (mine ++ told) ≡ records_by 0 told
@@ -115,34 +116,31 @@ by_scavenger k mine told one ne = records_both 0 mine told ∙ ap (λ (xs : List
 pub by_other : (j k : ℕ) (mine told : List Record) → EachOf k mine → EachOf 0 told → k ≢ j → 0 ≢ j → records_by j (mine ++ told) ≡ []
 by_other j k mine told one two ne zero = records_both j mine told ∙ ap (λ (xs : List Record). xs ++ records_by j told) (none_by j k mine one ne) ∙ none_by j 0 told two zero
 
-abbrev pub by_turn : {region : SharedRegion} {f : Profile} {k : ℕ} {act : Act} {told : List Record} {old new : Worker} {later : Later} {p : Progress}
-    → Turn region f k act told old new later p → Came f (act ∷ []) p
-by_turn {told = told} t = record { reached = t.did.does.reached; reaches = t.did.does.reaches; said = t.did.does.own ++ told; records_are = t.did.does.records_are }
-
-abbrev pub takes_turn : {region : SharedRegion} {f : Profile} {number : ℕ → ℕ} {Stands : ℕ → Worker → Progress → Type 0} {acts : List Act} {act : Act}
-    {told : List Record} {old now : List Worker} {later : Later} {p : Progress}
+-- the worker at this place acted, and the others stand as they did
+abbrev pub acts_in_turn : {f : Profile} {number : ℕ → ℕ} {Stands : ℕ → Worker → Progress → Type 0} {acts : List Act} {act : Act} {told : List Record}
+    {old now : List Worker} {later : Later} {p : Progress} {σ τ : Standing}
     → Stays number Stands → AreDistinct number (length old) → EachOf 0 told
     → (i : ℕ) (d w : Worker) → i < length old → length now ≡ length old → (so : TookTurns f number Stands acts old now p)
-    → (t : Turn region f (number i) act told (get_or now i d) w later so.came.reached) → Stands i w t.did.does.reached
+    → (x : ThreadActs f (number i) (act ∷ []) [] told (here σ (cached (get_or now i d).cache) (get_or now i d).out) (here τ (cached w.cache) w.out) later so.came.reached)
+    → w.requests ≡ (get_or now i d).requests → w.keeper ≡ (get_or now i d).keeper → Stands i w x.reached
     → TookTurns f number Stands (acts ++ (act ∷ [])) old (set now i w) p
-takes_turn {number = number} {Stands} {told = told} {old} {now} stays apart theirs i d w lt many so t stands =
-    let x = t.did.does in
+acts_in_turn {f} {number} {Stands} {act = act} {told} {old} {now} stays apart theirs i d w lt many so x requests keeper stands =
     let k = number i in
-    let one = by_turn t in
+    let one : Came f (act ∷ []) so.came.reached = record { reached = x.reached; reaches = x.reaches; said = x.own ++ told; records_are = x.records_are } in
     let leaves = leaves_rest x in
-    let here : i < length now = omega (arith, lt, many) in
+    let place : i < length now = omega (arith, lt, many) in
     let others : (j : ℕ) → 0 ≢ j → k ≢ j → records_by j (x.own ++ told) ≡ [] = λ j some ne. by_other j k x.own told x.each theirs ne some in
     let mine : Told k (x.own ++ told) (get_or now i d) w = record {
       out = record { added = x.pushed ∙ ap (λ (rs : List Record). records_in (get_or now i d).out ++ rs) (sym (by_own k x.own told x.each theirs (apart.threads i lt))); room = x.room };
-      requests = t.requests;
-      keeper = t.keeper;
+      requests = requests;
+      keeper = keeper;
     } in
     record {
       came = came_both so.came one;
-      stand = λ j e less. set_each (λ (m : ℕ) (y : Worker). Stands m y x.reached) now i w e j here stands
+      stand = λ j e less. set_each (λ (m : ℕ) (y : Worker). Stands m y x.reached) now i w e j place stands
           (λ ne. stays j (get_or now j e) so.came.reached x.reached (leaves.parts (number j) (apart.apart j i less lt ne)) (leaves.caches (number j) (apart.apart j i less lt ne)) leaves.names (so.stand j e less));
-      told = λ j e less. set_each (λ (m : ℕ) (y : Worker). Told (number m) (so.came.said ++ (x.own ++ told)) (get_or old m e) y) now i w e j here
-          (told_both (so.told i e lt) (subst (λ (y : Worker). Told k (x.own ++ told) y w) (get_or_default now i d e here) mine))
+      told = λ j e less. set_each (λ (m : ℕ) (y : Worker). Told (number m) (so.came.said ++ (x.own ++ told)) (get_or old m e) y) now i w e j place
+          (told_both (so.told i e lt) (subst (λ (y : Worker). Told k (x.own ++ told) y w) (get_or_default now i d e place) mine))
           (λ ne. told_both (so.told j e less) (told_none (others (number j) (apart.threads j less) (apart.apart i j lt less (λ is. ne (sym is))))));
       leaves = record {
         parts = λ j other. leaves.parts j (λ (same : j ≡ k). other i lt (sym same)) ∙ so.leaves.parts j other;
@@ -220,7 +218,7 @@ turn_taken {f = f} {old = old} {now} i d w free lt many so t =
     let before : owed_at f k so.came.reached ≡ owed_events f (cached (get_or now i d).cache) (part k so.came.reached.list) = ap (λ (c : Cached). owed_events f c (part k so.came.reached.list)) was.here.rests.cache in
     let paid = x.paid in
     let had = was.paid in
-    takes_turn due_stays (threads_distinct (length old)) tt i d w lt many so t (record { here = record { has = t.did.after; rests = x.stands }; paid = omega (arith, longer, then, before, paid, had, free) })
+    acts_in_turn due_stays (threads_distinct (length old)) tt i d w lt many so x t.requests t.keeper (record { here = record { has = t.did.after; rests = x.stands }; paid = omega (arith, longer, then, before, paid, had, free) })
 
 -- ---- before a phase
 -- those of the mask before this place read the epoch
@@ -326,7 +324,7 @@ module _ (says : Worker → List Record) (Is : Worker → Worker → Type 0) whe
       → AreGathered says Is i old now before said
       → said' ≡ said ++ says (get_or now i d) → Is (get_or now i d) w → AreGathered says Is (i + 1) old (set now i w) before said'
   gather_goes_on {i} {old} {now} {before} {said} {said'} d w lt many so added one = record {
-    said_are = ap (λ (rs : List Record). rs ++ said_by says (drop (i + 1) old)) added ∙ append_assoc said (says (get_or now i d)) (said_by says (drop (i + 1) old)) ∙ next_said i old now before said d lt so;
+    said_are = cc (append_assoc said (says (get_or now i d)) (said_by says (drop (i + 1) old)), next_said i old now before said d lt so);
     done = λ j e less within. set_each (λ (m : ℕ) (x : Worker). Is (get_or old m e) x) now i w e j (omega (arith, lt, many))
         (subst (λ (x : Worker). Is x w) (so.left i d (omega arith) ∙ get_or_default old i d e lt) one) (λ ne. so.done j e (omega (arith, less, ne)) within);
     left = λ j e from. let ne : j ≢ i = λ (is : j ≡ i). omega (arith, is, from) in get_or-set_other now i j w e ne ∙ so.left j e (omega (arith, from));

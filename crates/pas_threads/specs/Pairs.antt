@@ -1,6 +1,6 @@
 -- A worker with two actors: a thread, and in a guarded replay its keeper, which is the actor that stands as far behind all threads as the thread stands among
 -- them.
-use Rattle.std.specs.Prelude.{ℕ, zero, suc, map, ◌≢◌, ◌+◌, ◌<◌, ◌≤◌, ◌≡◌, ◌⊎◌, List, [], ◌∷◌, ◌++◌, length, Option, None, Some, get_or}
+use Rattle.std.specs.Prelude.{ℕ, zero, suc, map, ◌≢◌, ◌+◌, ◌<◌, ◌≤◌, ◌≡◌, ◌⊎◌, List, [], ◌++◌, length, Option, None, Some, get_or}
 use Rattle.pas_profile.specs.declared.profile.Profile.{Profile}
 use Rattle.pas_steps.specs.Lists.{part}
 use Rattle.pas_report.specs.Rooms.{records_in}

@@ -65,18 +65,26 @@ pub record HasPlaces (threads : ℕ) (team : Team) : Type 0 where
   pub lent : threads ≤ vec_capacity team.scavenger.lent
   pub free : team.hands.items ≡ []
 
--- The team stands where the replay came as far as p, and the phases are left. Their operations are of its threads.
-pub record TeamAt (region : SharedRegion) (s : Session) (phases : List (List Op)) (team : Team) (p : Progress) : Type 0 where
-  pub many : length team.threads.items ≡ s.threads
+-- These phases can be replayed: there are as many actors as the region takes, and few operations, each of a thread with its keeper behind it.
+pub record ArePhases (s : Session) (phases : List (List Op)) : Type 0 where
   pub fits : s.threads + s.keepers ≤ s.profile.threads
   pub few_threads : s.threads ≤ 16
   pub few : length (all_ops phases) < 2 ^ 32
   pub within : (k : ℕ) → is_active (all_ops phases) k ≡ true → k ≤ s.threads
   pub behind : AreKeptBehind s.threads (all_ops phases)
-  pub workers : AreResting region s.profile team.threads.items (λ k. own_records (planned s) k (all_ops phases)) p
-  pub guarded : AreGuarded s.keepers team.threads.items
-  pub kept : (i : ℕ) (d : Worker) → i < length team.threads.items
-      → KeeperRests region s.profile (s.threads + suc i) (own_acts (suc i) (all_ops phases)) (get_or team.threads.items i d).keeper p
+
+-- The workers of all threads rest where the replay came as far as p, with room for these operations of their threads. Their keepers do so, if there are any.
+pub record WorkersRest (region : SharedRegion) (s : Session) (ops : List Op) (workers : List Worker) (p : Progress) : Type 0 where
+  pub many : length workers ≡ s.threads
+  pub threads : AreResting region s.profile workers (λ k. own_records (planned s) k ops) p
+  pub guarded : AreGuarded s.keepers workers
+  pub kept : (i : ℕ) (d : Worker) → i < length workers
+      → KeeperRests region s.profile (s.threads + suc i) (own_acts (suc i) ops) (get_or workers i d).keeper p
+
+-- The team stands where the replay came as far as p, and the phases are left. Their operations are of its threads.
+pub record TeamAt (region : SharedRegion) (s : Session) (phases : List (List Op)) (team : Team) (p : Progress) : Type 0 where
+  pub fit : ArePhases s phases
+  pub workers : WorkersRest region s (all_ops phases) team.threads.items p
   pub scavenger : ScavengerRests region s.profile team.scavenger (own_records (planned s) 0 (all_ops phases)) p
   pub nobody : (k : ℕ) → s.threads + s.keepers < k → part k p.list ≡ []
   pub names : NamesAt s.profile (all_ops phases) team.book p

@@ -1,6 +1,6 @@
 -- The members of a bench stand still while another one acts there. That is what a keeper owes to its thread, and a lent thread to the scavenger; so it stands with the
 -- definitions, where the code can cite it.
-use Rattle.std.specs.Prelude.{◌≡◌, ℕ, true, [], ◌∷◌, Option, Some, None}
+use Rattle.std.specs.Prelude.{◌≡◌, true, [], ◌∷◌, Option, Some, None}
 use Rattle.std.proofs.Common.{refl, ap, sym, ◌∙◌, subst}
 use Rattle.pas_steps.specs.{Lists.Whole, Lists.part, Views.View, Noted.AreNotesOf}
 use Rattle.pas_shared.specs.Ruled.{among, made_in}

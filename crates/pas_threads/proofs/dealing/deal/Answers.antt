@@ -12,7 +12,7 @@ loop-worker-init c =
     let all = ap (λ (ws : List Worker). reverse ws) c.reverse.ensures.items ∙ reverse-reverse c.args.threads.now.items in
     record {
       inside = ([], c.requires.hands.0, ap (λ (ws : List Worker). picked (is_in c.args.awake) 1 ws) all);
-      outside = ap (λ (ws : List Worker). ws ++ picked (is_out c.args.awake) 1 (reverse c.reverse.new.self.items)) c.requires.lent.0 ∙ ap (λ (ws : List Worker). picked (is_out c.args.awake) 1 ws) all;
+      outside = simp (c.requires.lent.0, all);
       count = omega (arith, c.reverse.ensures.len);
       in_hands = omega (arith, none);
       in_lent = omega (arith, nobody);
@@ -58,8 +58,7 @@ loop-worker-preserved c =
     let last = last_left c.loop-worker.threads.items c.pop.new.self.items w c.in-Some.ensures.items in
     record {
       inside = (i.inside.0, i.inside.1, pile_stays (is_in c.args.awake) (c.loop-worker.actor + 1) i.inside.0 (reverse c.loop-worker.threads.items) i.inside.2 w (reverse c.pop.new.self.items) off last);
-      outside = ap (λ (ws : List Worker). ws ++ picked (is_out c.args.awake) (c.loop-worker.actor + 1 + 1) (reverse c.pop.new.self.items)) c.push_reserved-else-get.ensures.items
-          ∙ pile_grows (is_out c.args.awake) (c.loop-worker.actor + 1) c.loop-worker.lent.items (reverse c.loop-worker.threads.items) i.outside w (reverse c.pop.new.self.items) (not_from_false _ off) last;
+      outside = cc (pile_grows (is_out c.args.awake) (c.loop-worker.actor + 1) c.loop-worker.lent.items (reverse c.loop-worker.threads.items) i.outside w (reverse c.pop.new.self.items) (not_from_false _ off) last);
       count = omega (arith, count, c.in-Some.ensures.len);
       in_hands = omega (arith, in_hands);
       in_lent = omega (arith, in_lent, one);

@@ -21,7 +21,6 @@ returns c = record {
       record {
         of = subst (λ (r : SharedRegion). IsPassOf r c.into_pass.result) (c.lower_all.ensures.home ∙ c.desk-desk.ensures.region) c.into_pass.ensures.of;
         did = subst (λ (x : SharedPass). KeeperLowers f actor (keeper_has (standing_of_pass x) keeper.book keeper.out) (keeper_has (standing_of_pass c.into_pass.result) book out) later p) c.desk-desk.ensures.pass
-            (subst (λ (x : SharedPass). KeeperLowers f actor (keeper_has (standing_of_pass c.desk-desk.result.pass) keeper.book keeper.out) (keeper_has (standing_of_pass x) book out) later p) (sym c.into_pass.ensures.pass)
-            (c.lower_all.ensures.lowers f actor later p before));
+            (rw c.into_pass.ensures.pass (c.lower_all.ensures.lowers f actor later p before));
       };
 }

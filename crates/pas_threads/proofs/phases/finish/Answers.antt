@@ -1,9 +1,8 @@
-use Rattle.std.proofs.Common.{◌≡◌, ℕ, ◌+◌, ◌≤◌, List, [], ◌++◌, length, map, Option, refl, ap, sym, ◌∙◌, subst, arith, vec_capacity}
+use Rattle.std.proofs.Common.{◌≡◌, ℕ, ◌+◌, ◌≤◌, List, [], ◌++◌, length, map, Option, refl, sym, ◌∙◌, subst, vec_capacity}
 use Rattle.std.specs.Vec.{with_items}
 use Rattle.std.proofs.lemmas.List.{with_items_is}
 use Rattle.pas_trace.specs.{EveryPlan.all_ops, EveryPlan.own_records, Acts.Ends, Acts.Lowers, Acts.numbers_from}
 use Rattle.pas_report.specs.Rooms.{records_in, room_of}
-use Rattle.pas_report.specs.declared.record.Record.{Record}
 use Rattle.pas_steps.specs.Lists.{Whole}
 use Rattle.pas_shared.specs.Ledgers.{so_far}
 use Rattle.pas_shared.specs.declared.{region.SharedRegion.SharedRegion, pass.SharedPass.SharedPass}
@@ -12,15 +11,15 @@ use Rattle.pas_threads.specs.{Pairs.MayLower, Settling.ActorsStand, Settling.Sto
 use Rattle.pas_threads.specs.Sessions.{planned, Session, AreResting, StandSo, TeamAt, WentBy}
 use Rattle.pas_threads.specs.Turns.{said_own, said_by_all, said_kept, said_by_keepers, IsGathered, IsKeptGathered}
 use Rattle.pas_threads.specs.declared.{workers.Worker.Worker, phases.Team.Team, scavenger.Scavenger.Scavenger}
-use Rattle.pas_threads.proofs.{InPhases.team_stands, Staging.went_both, Staging.one_by_one_both, PhaseTeams.gathered_from}
-use Rattle.pas_threads.proofs.{phases.finish.Goals.After-deref_mut-2}
+use Rattle.pas_threads.proofs.{InPhases.team_stands, Staging.went_both, Staging.one_by_one_both, Gathered.OwnGathered, Gathered.KeptGathered}
+use Rattle.pas_threads.proofs.{Gathered.were_gathered, phases.finish.Goals.After-deref_mut-2, phases.finish.Goals.After-gather}
 use Rattle.pas_threads.proofs.BetweenPhases.{may_lower, room_at_close, room_for_keepers, has_closed}
 use Rattle.pas_threads.proofs.phases.finish.Goals as goal
 
 -- the threads rest, where they are lent to be stopped
 rest : {region : SharedRegion} {s : Session} {team : Team} {p : Progress} (ws : List Worker) → ws ≡ team.threads.items → TeamAt region s [] team p
     → AreResting region s.profile ws (λ k. own_records (planned s) k (all_ops [])) p
-rest {region} {s} {team} {p} ws value at = subst (λ (us : List Worker). AreResting region s.profile us (λ k. own_records (planned s) k (all_ops [])) p) (sym value) at.workers
+rest {region} {s} {team} {p} ws value at = subst (λ (us : List Worker). AreResting region s.profile us (λ k. own_records (planned s) k (all_ops [])) p) (sym value) at.workers.threads
 
 stand : {region : SharedRegion} {s : Session} {team : Team} {p : Progress} (ws : List Worker) → ws ≡ team.threads.items → TeamAt region s [] team p
     → ActorsStand region s team.scavenger.pass ws p.list
@@ -40,6 +39,9 @@ module _ (c : After-deref_mut-2) where
   -- the threads are those that were stopped, where they are lent for the keepers' sweeps
   again : c.deref_mut-2.result.now ≡ c.stop_all.new.threads
   again = c.deref_mut-2.ensures.value ∙ with_items_is c.args.team.threads c.stop_all.new.threads (c.stop_all.ensures.many ∙ c.deref_mut.ensures.len)
+
+  swept : (lowered : List Worker) → length lowered ≡ length c.deref_mut-2.result.now → length lowered ≡ length c.stop_all.new.threads
+  swept lowered many = subst (λ (ws : List Worker). length lowered ≡ length ws) again many
 
   may : (s : Session) (p : Progress) (at : TeamAt c.args.region.now s [] c.args.team p) (stood : StandSo s (so_far c.args.ledger.now) p.list)
       → MayLower c.args.region.now s.profile s.threads s.keepers c.deref_mut-2.result.now (stopped s p at stood).stopped.turns.came.reached
@@ -66,7 +68,7 @@ lower_all-requires-clause-may c =
 lowered_from : {region : SharedRegion} {s : Session} {slot : Option SharedPass} {given stopped now : List Worker} {before after : Whole} {q : Progress}
     → given ≡ stopped → LoweredSo region s slot (map Lowers (numbers_from (s.threads + 1) s.keepers)) (length given) given now before after q
     → LoweredSo region s slot (map Lowers (numbers_from (s.threads + 1) s.keepers)) (length stopped) stopped now before after q
-lowered_from {region} {s} {slot} {given} {stopped} {now} {before} {after} {q} is low = subst (λ (ws : List Worker). LoweredSo region s slot (map Lowers (numbers_from (s.threads + 1) s.keepers)) (length ws) ws now before after q) is low
+lowered_from {region} {s} {slot} {given} {stopped} {now} {before} {after} {q} is low = rw is at low
 
 -- both are the stages of the close
 close_went : {s : Session} {threads : ℕ} {p q r : Progress} {a b d : Whole} → threads ≡ s.threads
@@ -77,6 +79,7 @@ close_went {s} {threads} {p} {q} {r} {a} {b} {d} many one two =
     let lowers = map Lowers (numbers_from (s.threads + 1) s.keepers) in
     subst (λ (ss : List Stage). WentBy s ss p r a d) (sym (one_by_one_both ends lowers)) (went_both (one_by_one ends) (one_by_one lowers) (subst (λ (n : ℕ). WentBy s (one_by_one (map Ends (numbers_from 1 n))) p q a b) many one) two)
 
+-- ---- what is gathered
 pub gather-requires : goal.gather-requires
 gather-requires c =
     let d = (goal.at.gather-requires c).After-deref_mut-2 in
@@ -84,41 +87,54 @@ gather-requires c =
     let third = with_items_is (with_items c.args.team.threads c.stop_all.new.threads) c.lower_all.new.threads (c.lower_all.ensures.many ∙ c.deref_mut-2.ensures.len) in
     let st = stopped d m.0 m.1 m.2 m.5 in
     let low = (lowered_from (again d) (c.lower_all.ensures.lowered m.0 st.stopped.turns.came.reached (may d m.0 m.1 m.2 m.5) (then_stand d m.0 m.1 m.2 m.5) st.went.stand)).lowered in
+    let out = c.args.out.now in
     record {
-      room = subst (λ (ws : List Worker). length (records_in c.args.out.now) + length (said_by_all ws) ≤ room_of c.args.out.now) (sym (c.deref_mut-3.ensures.value ∙ third))
-          (room_at_close c.stop_all.new.threads m.2 st.stopped (many d) (records_in c.args.out.now) c.lower_all.new.threads low (subst (λ (ws : List Worker). length c.lower_all.new.threads ≡ length ws) (again d) c.lower_all.ensures.many) m.4);
+      room = subst (λ (ws : List Worker). length (records_in out) + length (said_by_all ws) ≤ room_of out) (sym (c.deref_mut-3.ensures.value ∙ third))
+          (room_at_close c.stop_all.new.threads m.2 st.stopped (many d) low (swept d c.lower_all.new.threads c.lower_all.ensures.many) out m.4);
     }
+
+module _ (c : After-gather) where
+  third : (with_items (with_items c.args.team.threads c.stop_all.new.threads) c.lower_all.new.threads).items ≡ c.lower_all.new.threads
+  third = with_items_is (with_items c.args.team.threads c.stop_all.new.threads) c.lower_all.new.threads (c.lower_all.ensures.many ∙ c.deref_mut-2.ensures.len)
+
+  own : OwnGathered c.lower_all.new.threads c.gather.new.threads c.args.out.now c.gather.new.out
+  own = were_gathered said_own IsGathered c.gather.new.threads c.args.out.now c.gather.new.out (c.deref_mut-3.ensures.value ∙ third) c.gather.ensures.added c.gather.ensures.room
+      c.gather.ensures.gathered c.gather.ensures.many
+
+  fourth : (with_items (with_items (with_items c.args.team.threads c.stop_all.new.threads) c.lower_all.new.threads) c.gather.new.threads).items
+      ≡ c.gather.new.threads
+  fourth = with_items_is (with_items (with_items c.args.team.threads c.stop_all.new.threads) c.lower_all.new.threads) c.gather.new.threads (c.gather.ensures.many ∙ c.deref_mut-3.ensures.len)
 
 pub gather_kept-requires : goal.gather_kept-requires
 gather_kept-requires c =
-    let d = (goal.at.gather_kept-requires c).After-deref_mut-2 in
+    let a = goal.at.gather_kept-requires c in
+    let d = a.After-deref_mut-2 in
     let m = c.requires.may in
-    let third = with_items_is (with_items c.args.team.threads c.stop_all.new.threads) c.lower_all.new.threads (c.lower_all.ensures.many ∙ c.deref_mut-2.ensures.len) in
-    let fourth = with_items_is (with_items (with_items c.args.team.threads c.stop_all.new.threads) c.lower_all.new.threads) c.gather.new.threads (c.gather.ensures.many ∙ c.deref_mut-3.ensures.len) in
     let st = stopped d m.0 m.1 m.2 m.5 in
     let low = (lowered_from (again d) (c.lower_all.ensures.lowered m.0 st.stopped.turns.came.reached (may d m.0 m.1 m.2 m.5) (then_stand d m.0 m.1 m.2 m.5) st.went.stand)).lowered in
-    let own = gathered_from said_own IsGathered c.gather.new.threads (records_in c.args.out.now) (c.deref_mut-3.ensures.value ∙ third) c.gather.ensures.added c.gather.ensures.gathered c.gather.ensures.many in
-    let fits = room_for_keepers c.stop_all.new.threads m.2 st.stopped (many d) (records_in c.args.out.now) c.lower_all.new.threads low (subst (λ (ws : List Worker). length c.lower_all.new.threads ≡ length ws) (again d) c.lower_all.ensures.many)
-    c.gather.new.threads own.1 own.2 (records_in c.gather.new.out) own.0 m.4 in
-    let size = c.gather.ensures.room in
+    let out = c.gather.new.out in
     record {
-      room = subst (λ (ws : List Worker). length (records_in c.gather.new.out) + length (said_by_keepers ws) ≤ room_of c.gather.new.out) (sym (c.deref_mut-4.ensures.value ∙ fourth)) (omega (arith, fits, size));
+      room = subst (λ (ws : List Worker). length (records_in out) + length (said_by_keepers ws) ≤ room_of out) (sym (c.deref_mut-4.ensures.value ∙ fourth a.After-gather))
+          (room_for_keepers c.stop_all.new.threads m.2 st.stopped (many d) low (swept d c.lower_all.new.threads c.lower_all.ensures.many) (own a.After-gather) m.4);
     }
 
 pub returns : goal.returns
 returns c =
-    let d = (goal.at.returns c).After-deref_mut-2 in
-    let third = with_items_is (with_items c.args.team.threads c.stop_all.new.threads) c.lower_all.new.threads (c.lower_all.ensures.many ∙ c.deref_mut-2.ensures.len) in
-    let fourth = with_items_is (with_items (with_items c.args.team.threads c.stop_all.new.threads) c.lower_all.new.threads) c.gather.new.threads (c.gather.ensures.many ∙ c.deref_mut-3.ensures.len) in
-    let last = with_items_is (with_items (with_items (with_items c.args.team.threads c.stop_all.new.threads) c.lower_all.new.threads) c.gather.new.threads) c.gather_kept.new.threads (c.gather_kept.ensures.many ∙ c.deref_mut-4.ensures.len) in
-    let own = gathered_from said_own IsGathered c.gather.new.threads (records_in c.args.out.now) (c.deref_mut-3.ensures.value ∙ third) c.gather.ensures.added c.gather.ensures.gathered c.gather.ensures.many in
-    let its = gathered_from said_kept IsKeptGathered c.gather_kept.new.threads (records_in c.gather.new.out) (c.deref_mut-4.ensures.value ∙ fourth) c.gather_kept.ensures.added c.gather_kept.ensures.gathered c.gather_kept.ensures.many in
+    let a = goal.at.returns c in
+    let d = a.After-deref_mut-2 in
+    let e = a.After-gather in
+    let threads = with_items (with_items (with_items c.args.team.threads c.stop_all.new.threads) c.lower_all.new.threads) c.gather.new.threads in
+    let last = with_items_is threads c.gather_kept.new.threads (c.gather_kept.ensures.many ∙ c.deref_mut-4.ensures.len) in
+    let its : KeptGathered c.gather.new.threads c.gather_kept.new.threads c.gather.new.out c.gather_kept.new.out =
+    were_gathered said_kept IsKeptGathered c.gather_kept.new.threads c.gather.new.out c.gather_kept.new.out (c.deref_mut-4.ensures.value ∙ fourth e) c.gather_kept.ensures.added
+    c.gather_kept.ensures.room c.gather_kept.ensures.gathered c.gather_kept.ensures.many in
+    let same = c.lower_all.ensures.scavenger ∙ c.stop_all.ensures.scavenger in
     record {
       ledger = c.lower_all.ensures.of;
       done = λ s p at marked room stood.
           let st = stopped d s p at stood in
           let so = lowered_from (again d) (c.lower_all.ensures.lowered s st.stopped.turns.came.reached (may d s p at stood) (then_stand d s p at stood) st.went.stand) in
-          let low = so.lowered in
-          has_closed c.stop_all.new.threads at st.stopped (many d) (records_in c.args.out.now) c.lower_all.new.threads low (subst (λ (ws : List Worker). length c.lower_all.new.threads ≡ length ws) (again d) c.lower_all.ensures.many)
-          c.gather.new.threads own.1 own.2 c.gather_kept.new.threads its.1 its.2 _ last (c.lower_all.ensures.scavenger ∙ c.stop_all.ensures.scavenger) refl (record { workers = at.places.workers; hands = at.places.hands; lent = subst (λ (v : Scavenger). s.threads ≤ vec_capacity v.lent) (sym (c.lower_all.ensures.scavenger ∙ c.stop_all.ensures.scavenger)) at.places.lent; free = at.places.free }) marked (its.0 ∙ ap (λ (rs : List Record). rs ++ said_by_keepers c.gather.new.threads) own.0) (close_went at.many st.went so.went);
+          let lent = subst (λ (v : Scavenger). s.threads ≤ vec_capacity v.lent) (sym same) at.places.lent in
+          has_closed c.stop_all.new.threads at st.stopped (many d) so.lowered (swept d c.lower_all.new.threads c.lower_all.ensures.many) (own e) its last same refl
+          (record { workers = at.places.workers; hands = at.places.hands; lent = lent; free = at.places.free }) marked (close_went at.workers.many st.went so.went);
     }

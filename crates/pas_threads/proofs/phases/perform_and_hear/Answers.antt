@@ -2,7 +2,7 @@ use Rattle.std.proofs.Common.{◌∙◌, suc, List, length, get_or, refl, ap, sy
 use Rattle.std.proofs.lemmas.List.{with_items_is}
 use Rattle.pas_threads.specs.Settling.{HasHeard, HasBench, IsButBench}
 use Rattle.pas_threads.specs.declared.workers.Worker.{Worker}
-use Rattle.pas_threads.proofs.Heard.{bench_left, heard_still, is_heard}
+use Rattle.pas_threads.proofs.Hearing.{bench_left, heard_still, is_heard}
 use Rattle.pas_threads.proofs.phases.perform_and_hear.Goals as goal
 
 pub hear_all-requires-clause-few : goal.hear_all-requires-clause-few

@@ -6,7 +6,7 @@ use Rattle.pas_shared.specs.declared.pass.SharedPass.{SharedPass}
 use Rattle.pas_trace.specs.Acts.{scavenger_acts}
 use Rattle.pas_threads.specs.{Hands.standing_of_pass, Crews.crew, Crews.CrewAt, Scavengers.crew_of, Scavengers.CrewHasLeft}
 use Rattle.pas_threads.specs.declared.workers.Worker.{Worker}
-use Rattle.pas_threads.proofs.Sitting.{seated}
+use Rattle.pas_threads.proofs.Benched.{seated}
 use Rattle.pas_threads.proofs.scavenger.keep_up.Goals as goal
 
 pub scavenge_seated-pass-requires-clause-pass : goal.scavenge_seated-pass-requires-clause-pass

@@ -1,4 +1,4 @@
-use Rattle.std.proofs.Common.{◌≡◌, ◌∙◌, ap, sym, subst}
+use Rattle.std.proofs.Common.{◌≡◌, ◌∙◌, sym, subst}
 use Rattle.pas_shared.specs.Ruled.{made_in, only_this, isnt, rows_of_only}
 use Rattle.pas_shared.specs.Passes.{seat_of, view_of}
 use Rattle.pas_shared.specs.Benches.{first_row, rows_on, seat_of_member, HasLooked, IsBenchOf, SitsInRow}
@@ -24,7 +24,7 @@ leave-pass-requires-clause-fresh c =
     fresh_row c.args.desk m.2 c.look.new.self c.let_lent_leave.new.bench looked (c.let_lent_leave.ensures.left m.0 _ _ m.1 (all_may_leave c.args.desk m.2 c.look.new.self looked))
 
 pub leave-pass-requires-clause-profile : goal.leave-pass-requires-clause-profile
-leave-pass-requires-clause-profile c = ap (λ (x : Member). x.profile) c.into_parts-bench.ensures.member ∙ (c.args.desk.profiled ∙ ap (λ (r : SharedRegion). r.profile) c.requires.region)
+leave-pass-requires-clause-profile c = cc
 
 pub leave-pass-requires-clause-sits : goal.leave-pass-requires-clause-sits
 leave-pass-requires-clause-sits c =

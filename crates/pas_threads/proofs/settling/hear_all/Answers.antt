@@ -27,7 +27,7 @@ loop-index-preserved c = elim c.if-get.branch [
 ]
 
 pub returns-clause-heard : goal.returns-clause-heard
-returns-clause-heard c = λ i d lt on. let le = c.loop-index-test.false in c.loop-index.invariant.far.heard i d (omega (arith, lt, le)) lt on
+returns-clause-heard c = λ i d lt on. c.loop-index.invariant.far.heard i d (omega (arith, lt, c.loop-index-test.false)) lt on
 
 pub returns-clause-saw : goal.returns-clause-saw
 returns-clause-saw c = c.loop-index.invariant.far.saw

@@ -1,4 +1,4 @@
-use Rattle.std.proofs.Common.{Option, Some, sym, ap, ◌∙◌, subst, arith}
+use Rattle.std.proofs.Common.{sym, ◌∙◌, subst, arith}
 use Rattle.std.proofs.lemmas.Option.{same_Some}
 use Rattle.pas_shared.specs.Ledgers.{so_far, actors_in}
 use Rattle.pas_shared.specs.declared.pass.SharedPass.{SharedPass}
@@ -23,7 +23,7 @@ returns-clause-scavenger c =
     let of = (stands_with c.in-Some.pass (sym c.take.ensures.value ∙ c.in-Some.is) c.requires.stand.2.scavenger).0 in
     let back = c.give_back.ensures.back c.in-Some.pass (actors_in c.args.ledger.now) of c.take_in-rest.ensures.rest (c.settle_threads.ensures.settled.actors ∙ c.take_in-rest.ensures.taken) in
     let old = c.args.scavenger.now in
-    ap (λ (o : Option SharedPass). record { pass = o; outcomes = old.outcomes; out = old.out; lent = old.lent; bench = old.bench }) (ap (λ (p : SharedPass). Some p) back.0 ∙ sym c.in-Some.is ∙ c.take.ensures.value)
+    simp (back.0, ← c.in-Some.is, c.take.ensures.value)
 
 pub returns-clause-settled : goal.returns-clause-settled
 returns-clause-settled c =

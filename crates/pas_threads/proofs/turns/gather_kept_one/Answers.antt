@@ -1,4 +1,4 @@
-use Rattle.std.proofs.Common.{◌+◌, ◌≤◌, ◌++◌, ◌∙◌, length, Option, Some, refl, ap, sym, subst, append-nil}
+use Rattle.std.proofs.Common.{◌+◌, ◌≤◌, ◌++◌, ◌∙◌, length, Option, refl, ap, sym, subst, append-nil}
 use Rattle.pas_report.specs.Rooms.{records_in, room_of}
 use Rattle.pas_threads.specs.{Pairs.said_by_keeper, Turns.HasSaid}
 use Rattle.pas_threads.specs.declared.keeper.Keeper.{Keeper}
@@ -13,7 +13,7 @@ returns-in-Some-clause-added c = c.append.ensures.added ∙ ap (λ (o : Option K
 pub returns-in-Some-clause-gathered : goal.returns-in-Some-clause-gathered
 returns-in-Some-clause-gathered c = record {
   but = record { pass = refl; cache = refl; requests = refl; out = refl };
-  keeper = subst (λ (o : Option Keeper). HasSaid o (Some (record { pass = c.in-Some.keeper.pass; book = c.in-Some.keeper.book; out = c.append.new.other }))) (sym c.in-Some.is) (refl, refl, c.append.ensures.none, c.append.ensures.other_size);
+  keeper = rw c.in-Some.is (refl, refl, c.append.ensures.none, c.append.ensures.other_size);
 }
 
 pub returns-in-None-clause-added : goal.returns-in-None-clause-added

@@ -4,7 +4,7 @@ use Rattle.pas_shared.specs.Passes.{IsPassOf}
 use Rattle.pas_shared.specs.declared.region.SharedRegion.{SharedRegion}
 use Rattle.pas_trace.specs.Acts.{Ends}
 use Rattle.pas_acts.specs.{AtDesks.here, AtDesks.ThreadActs, Turns.RestsAt}
-use Rattle.pas_threads.proofs.Sitting.{seated, rose}
+use Rattle.pas_threads.proofs.Benched.{seated, rose}
 use Rattle.pas_threads.proofs.turns.stop.Goals as goal
 
 pub end-requires : goal.end-requires

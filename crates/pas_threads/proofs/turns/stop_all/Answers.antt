@@ -1,8 +1,7 @@
-use Rattle.std.proofs.Common.{◌+◌, ◌∙◌, suc, List, set, refl, sym, subst}
-use Rattle.pas_shared.specs.Ledgers.{so_far}
+use Rattle.std.proofs.Common.{◌+◌, ◌∙◌, suc, set, refl, sym, subst}
 use Rattle.pas_threads.specs.{Sessions.evenly, Settling.ActorsStand}
-use Rattle.pas_threads.specs.declared.{scavenger.Scavenger.Scavenger, workers.Worker.Worker}
-use Rattle.pas_threads.proofs.Closing.{StopsSoFar, stops_begin, next_stands, stops_next, stops_go_on, stops_end}
+use Rattle.pas_threads.specs.declared.scavenger.Scavenger.{Scavenger}
+use Rattle.pas_threads.proofs.Closing.{stops_begin, next_stands, stops_next, stops_go_on, stops_end}
 use Rattle.pas_threads.proofs.turns.stop_all.Goals as goal
 
 pub loop-index-init : goal.loop-index-init
@@ -27,8 +26,7 @@ settle-requires-clause-stand c =
     let t = c.stop.ensures.stopped r.0.profile (suc i) (evenly (r.1 (suc i))) so.done.stopped.turns.came.reached (so.done.stopped.turns.stand i d c.loop-index-test.true).here in (
       r.0,
       t.did.does.reached.list,
-      subst (λ (v : Scavenger). ActorsStand c.args.region.now r.0 v.pass (set c.loop-index.threads i c.stop.new.worker) t.did.does.reached.list) (sym c.loop-index.invariant.same)
-          (next_stands i d c.stop.new.worker so.done r.4 c.loop-index-test.true c.loop-index.auto.threads t c.stop.ensures.empty),
+      rw c.loop-index.invariant.same (next_stands i d c.stop.new.worker so.done r.4 c.loop-index-test.true c.loop-index.auto.threads t c.stop.ensures.empty),
     )
 
 pub loop-index-preserved : goal.loop-index-preserved
@@ -45,8 +43,7 @@ loop-index-preserved c = record {
       let stands = next_stands i d w so.done stand test c.loop-index.auto.threads t c.stop.ensures.empty in
       let settled = c.settle.ensures.stand s t.did.does.reached.list (subst (λ (v : Scavenger). ActorsStand c.args.region.now s v.pass (set c.loop-index.threads i w) t.did.does.reached.list) (sym c.loop-index.invariant.same) stands) in
       let next = stops_next i d w so.done stand test c.loop-index.auto.threads t c.stop.ensures.empty c.settle.ensures.settled.earlier settled in
-      subst (λ (ws : List Worker). StopsSoFar c.args.region.now s c.args.scavenger.now.pass (i + 1) c.args.threads.now ws later (so_far c.args.ledger.now) (so_far c.settle.new.ledger) p) (sym c.settle.ensures.same)
-      (stops_go_on i so test next);
+      rw c.settle.ensures.same (stops_go_on i so test next);
 }
 
 pub returns-clause-of : goal.returns-clause-of

@@ -1,9 +1,9 @@
-use Rattle.std.proofs.Common.{◌+◌, ◌++◌, List, Option, drop, length, get_or, length-set, ap, sym, ◌∙◌, arith, get_or-set_other, length-append}
+use Rattle.std.proofs.Common.{◌+◌, ◌++◌, List, Option, drop, length, get_or, length-set, ap, ◌∙◌, arith, get_or-set_other, length-append}
 use Rattle.std.proofs.lemmas.List.{drop_all, get_or_default}
 use Rattle.pas_shared.specs.declared.pass.SharedPass.{SharedPass}
 use Rattle.pas_threads.specs.Kits.{kept_pass, kept_passes}
 use Rattle.pas_threads.specs.declared.workers.Worker.{Worker}
-use Rattle.pas_threads.proofs.PassesOut.{as_many, out_more, out_all, kept_next}
+use Rattle.pas_threads.proofs.End.{as_many, out_more, out_all, kept_next}
 use Rattle.pas_threads.proofs.whole.add_kept_passes.Goals as goal
 
 pub add_kept_pass-requires : goal.add_kept_pass-requires
@@ -33,7 +33,7 @@ loop-place-preserved c =
     let next = kept_passes (drop (place + 1) workers) in
     record {
       added = out_more c.loop-place.passes.items c.add_kept_pass.new.passes.items (kept_pass (get_or now place e).keeper) (kept_passes (drop place workers)) next _ c.add_kept_pass.ensures.added
-          (kept_next workers place own lt (get_or_default workers place e own lt) ∙ ap (λ (v : Worker). kept_pass v.keeper ++ next) (sym (i.left place e (omega arith)))) i.added;
+          (cc (kept_next workers place own lt (get_or_default workers place e own lt), i.left place e (omega arith))) i.added;
       places = c.add_kept_pass.ensures.places ∙ i.places;
       many = length-set now place w ∙ i.many;
       left = λ j d le. get_or-set_other now place j w d (λ is. omega (arith, is, le)) ∙ i.left j d (omega (arith, le));

@@ -2,7 +2,7 @@ use Rattle.std.proofs.Common.{◌≡◌, ◌<◌, ◌+◌, ◌∷◌, [], ℕ, O
 use Rattle.std.proofs.lemmas.List.{drop_all, get_or_default, length-map}
 use Rattle.pas_shared.specs.declared.pass.SharedPass.{SharedPass}
 use Rattle.pas_threads.specs.declared.workers.Worker.{Worker}
-use Rattle.pas_threads.proofs.PassesOut.{own_slots, as_many, out_more, out_all, own_next}
+use Rattle.pas_threads.proofs.End.{own_slots, as_many, out_more, out_all, own_next}
 use Rattle.pas_threads.proofs.TakingTurns.{set_each}
 use Rattle.pas_threads.proofs.whole.add_own_passes.Goals as goal
 

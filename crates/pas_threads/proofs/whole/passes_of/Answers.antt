@@ -3,8 +3,8 @@ use Rattle.std.proofs.lemmas.List.{with_items_is}
 use Rattle.pas_shared.specs.declared.pass.SharedPass.{SharedPass}
 use Rattle.pas_threads.specs.Kits.{kept_passes}
 use Rattle.pas_threads.specs.declared.workers.Worker.{Worker}
-use Rattle.pas_threads.proofs.{End.IsBack, End.first_back, End.others_back, whole.passes_of.Goals.After-deref_mut-2}
-use Rattle.pas_threads.proofs.PassesOut.{slots_for, own_slots, kept_same, places_left, all_out}
+use Rattle.pas_threads.proofs.End.{IsBack, first_back, others_back, slots_for, own_slots, kept_same, places_left, all_out}
+use Rattle.pas_threads.proofs.whole.passes_of.Goals.{After-deref_mut-2}
 use Rattle.pas_threads.proofs.whole.passes_of.Goals as goal
 
 pub add_pass-requires-clause-back : goal.add_pass-requires-clause-back
@@ -23,8 +23,7 @@ module _ (c : After-deref_mut-2) where
   -- the keepers are those that they were, where the workers are lent again
   kept : kept_passes c.deref_mut-2.result.now ≡ kept_passes c.args.team.now.threads.items
   kept =
-      ap kept_passes (c.deref_mut-2.ensures.value ∙ with_items_is c.args.team.now.threads c.add_own_passes.new.workers (c.add_own_passes.ensures.many ∙ c.deref_mut.ensures.len))
-      ∙ kept_same c.deref_mut.result.now c.add_own_passes.new.workers c.add_own_passes.ensures.many c.add_own_passes.ensures.keepers ∙ ap kept_passes c.deref_mut.ensures.value
+      cc (with_items_is c.args.team.now.threads c.add_own_passes.new.workers (c.add_own_passes.ensures.many ∙ c.deref_mut.ensures.len), kept_same c.deref_mut.result.now c.add_own_passes.new.workers c.add_own_passes.ensures.many c.add_own_passes.ensures.keepers)
 
 pub add_kept_passes-requires : goal.add_kept_passes-requires
 add_kept_passes-requires c =

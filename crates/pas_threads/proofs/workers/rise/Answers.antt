@@ -1,4 +1,3 @@
-use Rattle.std.proofs.Common.{◌∙◌}
 use Rattle.pas_threads.proofs.Benched.{looked_fresh}
 use Rattle.pas_threads.proofs.Pairs.{may_leave_first, fresh_then, sits_then, pair_rose}
 use Rattle.pas_threads.proofs.workers.rise.Goals as goal
