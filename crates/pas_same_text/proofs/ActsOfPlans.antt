@@ -1,6 +1,6 @@
 -- WHO ACTS in the replay of a plan: one of its threads, the scavenger, or one of its keepers, which are the actors behind the threads. What they ask for is admitted.
-use Rattle.std.proofs.Common.{◌≡◌, ◌≢◌, ℕ, zero, suc, ◌+◌, ◌<◌, ◌≤◌, Bool, true, false, cond, List, [], ◌∷◌, ◌++◌, map, Option, None, Some, MatchOption, refl}
-use Rattle.std.proofs.Common.{sym, arith, not}
+use Rattle.std.proofs.lemmas.Bool.Decides.{nat_tests}
+use Rattle.std.proofs.Common.{◌≡◌, ◌≢◌, ℕ, zero, suc, ◌+◌, ◌<◌, ◌≤◌, Bool, List, [], ◌∷◌, ◌++◌, map, Option, Some, MatchOption, sym, arith, not}
 use Rattle.std.specs.List.{AllByRecursion, filter}
 use Rattle.pas_profile.specs.{Profiles.IsValid, Profiles.IsAdmitted, Requests.route_in}
 use Rattle.pas_profile.specs.declared.directory.Route.{Route}
@@ -8,13 +8,13 @@ use Rattle.pas_profile.proofs.{Lists.all_both, Sizes.large_for}
 use Rattle.pas_trace.specs.Acts.{Act, Settles, StopsIdle, Wakes, Ends, Lowers, region_of, threads_of, keepers_of, acts_of_plan, act_kept, is_active}
 use Rattle.pas_trace.specs.Acts.{numbers_from, threads_where, active_threads, idle_threads, acts_of_chore, acts_of_work, acts_of_op, acts_of_ops, phase_acts}
 use Rattle.pas_trace.specs.Acts.{close_acts, acts_from, acts_of}
-use Rattle.pas_trace.specs.Asked.{work_of, of_task, request_of, request_in, keeper_of, keeper_in}
-use Rattle.pas_trace.specs.EveryPlan.{all_ops, asked_after, operations_of, IsActorBy, IsActorOf, IsSoundTask, IsSoundWork, AreSound, AreKept}
+use Rattle.pas_trace.specs.Asked.{of_task, request_of, request_in, keeper_of, keeper_in}
+use Rattle.pas_trace.specs.EveryPlan.{all_ops, operations_of, IsActorBy, IsActorOf, IsSoundTask, IsSoundWork, AreSound, AreKept}
 use Rattle.pas_trace.specs.Plans.{IsPlanOf, ops_of}
 use Rattle.pas_trace.specs.declared.{item.Request.Request, plan.Chore.Chore, plan.Op.Op, plan.Plan.Plan, plan.Task.Task, plan.Work.Work}
-use Rattle.pas_trace.proofs.{EveryPlan.every_plan, EveryPlan.keepers_among, Keepers.plan_actors}
+use Rattle.pas_trace.proofs.{EveryPlan.every_plan, Keepers.plan_actors}
 use Rattle.pas_same_text.specs.Known.{IsAdmittedWhat, IsGuardedWhat, IsPlanned, ArePlanned}
-use Rattle.pas_same_text.specs.Seats.{IsThreadOf, IsKeeperOf}
+use Rattle.pas_same_text.specs.Seats.{IsThreadOf}
 
 -- ---- several numbers, and acts of each of several actors
 all_from : (P : ℕ → Type 0) (k n : ℕ) → ((j : ℕ) → k ≤ j → j < k + n → P j) → AllByRecursion P (numbers_from k n)
@@ -23,11 +23,7 @@ all_from P k (suc n) each = (each k (omega arith) (omega arith), all_from P (k +
 
 all_chosen : (P : ℕ → Type 0) (chosen : ℕ → Bool) (ks : List ℕ) → AllByRecursion P ks → AllByRecursion P (filter chosen ks)
 all_chosen P chosen [] all = tt
-all_chosen P chosen (k ∷ ks) all = by_choice (chosen k) (filter chosen ks) (all_chosen P chosen ks all.1)
-  where
-    by_choice : (t : Bool) (rest : List ℕ) → AllByRecursion P rest → AllByRecursion P (cond t (k ∷ rest) rest)
-    by_choice true rest are = (all.0, are)
-    by_choice false rest are = are
+all_chosen P chosen (k ∷ ks) all = let ih = all_chosen P chosen ks all.1 in grind (arith, nat_tests, ih)
 
 one_each : (P : ℕ → Type 0) (Q : Act → Type 0) (to : ℕ → Act) → ((k : ℕ) → P k → Q (to k)) → (ks : List ℕ) → AllByRecursion P ks → AllByRecursion Q (map to ks)
 one_each P Q to each [] all = tt
@@ -50,18 +46,16 @@ module _ (plan : Plan) where
   chore_own : (idle : List ℕ) (chore : Chore) → AllByRecursion IsOwn idle → AreOwn (acts_of_chore idle chore)
   chore_own idle (Chore.Tick epoch) idles = ((tt, tt), tt)
   chore_own idle Chore.Pass idles = ((tt, tt), tt)
-  chore_own idle (Chore.Idle n) idles = ((tt, tt), one_each IsOwn (IsPlanned (threads_of plan) (region_of plan)) (λ k. StopsIdle k n) (λ k is. (is, tt)) idle idles)
+  chore_own idle (Chore.Idle n) idles = ((tt, tt), one_each IsOwn _ (λ k. StopsIdle k n) (λ k is. (is, tt)) idle idles)
 
   -- the actor that keeps the guard of a request of thread k, if it is guarded
   abbrev KeepsIt : ℕ → Option ℕ → Type 0
   KeepsIt k o = MatchOption o (Unit {0}) (λ keeper. (keeper ≡ threads_of plan + k) × (plan.guard ≢ 0))
 
+  -- a keeper stands behind the threads by the number of its thread, and so is one of the region's actors
   kept_own : (keeper : Option ℕ) (op : Op) → IsOwn op.actor → IsAdmittedWhat (region_of plan) op.what
       → ((k : ℕ) → keeper ≡ Some k → IsGuardedWhat (region_of plan) k op.what) → KeepsIt op.actor keeper → AreOwn (act_kept keeper op ∷ (Settles op.actor ∷ []))
-  kept_own None op thread admitted guarded keeps = ((thread, admitted), ((thread, tt), tt))
-  kept_own (Some keeper) op thread admitted guarded keeps =
-      let among = keepers_among plan.guard (threads_of plan) op.actor keeps.1 thread.1 in
-      ((((omega (arith, thread.0, keeps.0), omega (arith, keeps.0, among)), thread), (admitted, guarded keeper refl)), ((thread, tt), tt))
+  kept_own keeper op thread admitted guarded keeps = search arith
 
   work_own : (idle : List ℕ) (op : Op) (work : Work) → AllByRecursion IsOwn idle → IsActorBy plan.profile work op.actor
       → IsAdmittedWhat (region_of plan) op.what → ((k : ℕ) → of_task keeper_of work ≡ Some k → IsGuardedWhat (region_of plan) k op.what)
@@ -108,19 +102,20 @@ module _ (plan : Plan) where
 
   own_ops : (asked : List ℕ) (ops : List Op) → AreSound plan.profile asked ops → AreKept plan.profile plan.guard ops → AllByRecursion IsOwnOp ops
   own_ops asked [] sound kept = tt
-  own_ops asked (op ∷ ops) sound kept = (record { actor = sound.0; admitted = work_admitted asked (work_of op.what) sound.1; large = λ k is. work_large asked (work_of op.what) sound.1 k is; keeps = kept.0 }, own_ops (asked_after op.what asked) ops sound.2 kept.1)
+  own_ops asked (op ∷ ops) sound kept = (search (arith, work_admitted, work_large), own_ops _ ops sound.2 kept.1)
 
   ops_own : (idle : List ℕ) (ops : List Op) → AllByRecursion IsOwn idle → AllByRecursion IsOwnOp ops → AreOwn (acts_of_ops idle ops)
   ops_own idle [] idles all = tt
   ops_own idle (op ∷ ops) idles all =
-      all_both (IsPlanned (threads_of plan) (region_of plan)) (acts_of_op idle op) (acts_of_ops idle ops) (work_own idle op (work_of op.what) idles all.0.actor all.0.admitted (λ k is. (is, all.0.large k is)) all.0.keeps) (ops_own idle ops idles all.1)
+      all_both (IsPlanned (threads_of plan) (region_of plan)) (acts_of_op idle op) (acts_of_ops idle ops)
+      (work_own idle op _ idles all.0.actor all.0.admitted (λ k is. (is, all.0.large k is)) all.0.keeps) (ops_own idle ops idles all.1)
 
   phase_own : (ops : List Op) → AllByRecursion IsOwnOp ops → AreOwn (phase_acts (threads_of plan) ops)
   phase_own ops all =
       let idle : List ℕ = idle_threads (threads_of plan) ops in
       let active : List ℕ = active_threads (threads_of plan) ops in
       all_both (IsPlanned (threads_of plan) (region_of plan)) (map Wakes active) (acts_of_ops idle ops)
-      (one_each IsOwn (IsPlanned (threads_of plan) (region_of plan)) Wakes (λ k is. (is, tt)) active (own_where (is_active ops))) (ops_own idle ops (own_where (λ k. not (is_active ops k))) all)
+      (one_each IsOwn _ Wakes (λ k is. (is, tt)) active (own_where _)) (ops_own idle ops (own_where (λ k. not (is_active ops k))) all)
 
   close_own : AreOwn (close_acts (threads_of plan) (keepers_of plan))
   close_own =
@@ -128,9 +123,9 @@ module _ (plan : Plan) where
       let keepers : List ℕ = numbers_from (threads_of plan + 1) (keepers_of plan) in
       let own : Act → Type 0 = IsPlanned (threads_of plan) (region_of plan) in (
         (tt, tt),
-        all_both own (map Ends (numbers_from 1 (threads_of plan))) (map Lowers keepers) (one_each IsOwn own Ends (λ k is. (is, tt)) (numbers_from 1 (threads_of plan)) all_own)
-            (one_each (IsKeeperOf (threads_of plan) (region_of plan)) own Lowers (λ k is. (is, tt)) keepers
-            (all_from (IsKeeperOf (threads_of plan) (region_of plan)) (threads_of plan + 1) (keepers_of plan) (λ j low high. (omega (arith, low), omega (arith, high, actors))))),
+        all_both own (map Ends (numbers_from 1 (threads_of plan))) (map Lowers keepers) (one_each IsOwn own Ends (λ k is. (is, tt)) _ all_own)
+            (one_each _ own Lowers (λ k is. (is, tt)) keepers
+            (all_from _ _ _ (λ j low high. (omega (arith, low), omega (arith, high, actors))))),
       )
 
   front : (xs ys : List Op) → AllByRecursion IsOwnOp (xs ++ ys) → AllByRecursion IsOwnOp xs

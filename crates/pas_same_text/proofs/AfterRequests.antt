@@ -14,7 +14,7 @@ use Rattle.pas_steps.specs.{Views.known_deed}
 use Rattle.pas_steps.specs.declared.step.Made.{Made}
 use Rattle.pas_steps.proofs.Adding.{agreed_first, agreed_later}
 use Rattle.pas_core.proofs.{Nexts.agreed_steps, OneActor.legal_earlier}
-use Rattle.pas_search.specs.{Searches.MaySearch, Serving.right_of, Allocates.GaveBlock}
+use Rattle.pas_search.specs.{Searches.MaySearch, Allocates.GaveBlock}
 use Rattle.pas_bitfit.specs.Allocates.{bitfit_directory, IsAllocated}
 use Rattle.pas_large.specs.{Allocates.IsServedNamed, Allocates.IsScanned, Finds.MayFind}
 use Rattle.pas_segregated.specs.{Refills.GetsSlots, Stops.home_of}
@@ -41,13 +41,9 @@ module _ {X : Type 0} (test : X → Bool) where
       → filter (λ y. not (test y)) (x ∷ xs) ≡ cond (not t) (x ∷ filter (λ y. not (test y)) xs) (filter (λ y. not (test y)) xs)
   kept_one x xs t e = ap (λ (u : Bool). cond (not u) (x ∷ filter (λ y. not (test y)) xs) (filter (λ y. not (test y)) xs)) e
 
-  kept_by : (x : X) (xs : List X) (t : Bool) → test x ≡ t → count_by test (x ∷ xs) ≡ 0 → (count_by test xs ≡ 0 → filter (λ y. not (test y)) xs ≡ xs)
-      → filter (λ y. not (test y)) (x ∷ xs) ≡ x ∷ xs
-  kept_by x xs t e h more = search (arith, counted, kept_one)
-
   all_kept : (xs : List X) → count_by test xs ≡ 0 → filter (λ y. not (test y)) xs ≡ xs
   all_kept [] none = refl
-  all_kept (x ∷ xs) none = kept_by x xs (test x) refl none (all_kept xs)
+  all_kept (x ∷ xs) none = let ih = all_kept xs in grind (arith, ih, none, counted x xs (test x) refl)
 
   out_by : (y : X) (ys : List X) (x : X) (t : Bool) → test y ≡ t → find test (y ∷ ys) ≡ Some x → count_by test (y ∷ ys) ≤ 1
       → (find test ys ≡ Some x → count_by test ys ≤ 1 → IsPermutation ys (x ∷ filter (λ z. not (test z)) ys))
@@ -58,7 +54,8 @@ module _ {X : Type 0} (test : X → Bool) where
       let later : find test ys ≡ Some x = ap (λ (u : Bool). cond u (Some y) (find test ys)) (sym e) ∙ found in
       let others : List X = filter (λ z. not (test z)) ys in
       subst (λ (zs : List X). IsPermutation (y ∷ ys) (x ∷ zs)) (sym (kept_one y ys false e))
-      (IsPermutation-trans (y ∷ ys) (y ∷ x ∷ others) (x ∷ y ∷ others) (IsPermutation-cons y ys (x ∷ others) (more later (omega (arith, n, one)))) (IsPermutation-middle (y ∷ []) x others))
+      (IsPermutation-trans (y ∷ ys) (y ∷ x ∷ others) (x ∷ y ∷ others)
+      (IsPermutation-cons y ys (x ∷ others) (more later (omega (arith, n, one)))) (IsPermutation-middle (y ∷ []) x others))
 
   taken_out : (xs : List X) (x : X) → find test xs ≡ Some x → count_by test xs ≤ 1 → IsPermutation xs (x ∷ filter (λ y. not (test y)) xs)
   taken_out [] x found one = absurd (let bad : None ≡ Some x = found in cc)
@@ -83,7 +80,7 @@ module _ (f : Profile) (heap class : ℕ) (fewer : List Slots) (v : View) (of : 
       rests_gained f d slots fewer steps v rests gets agreed
       (search (arith, keeps_unshared))
       (ap (λ (h : ℕ). local_for h slots.class fewer) of_heap ∙ (ap (λ (c : ℕ). local_for heap c fewer) gives.class_is ∙ none))
-      (λ later page at. none_kept f (steps ++ v) heap class page fewer of.kind (subst (λ (q : ℕ). KnowsDeed q d (steps ++ v)) (eqb-true slots.page page at) gets.may_stop.deed) later none)
+      (λ later page at. none_kept f _ heap class page fewer of.kind (rw (eqb-true slots.page page at) at gets.may_stop.deed) later none)
 
 -- ---- no local allocator keeps a page of a kind that no class has
 no_class_kept : (f : Profile) (v : View) (d : Directory) (page : ℕ) (slots : List Slots) → IsKind d.kind
@@ -91,19 +88,16 @@ no_class_kept : (f : Profile) (v : View) (d : Directory) (page : ℕ) (slots : L
 no_class_kept f v d page [] kind other of all = refl
 no_class_kept f v d page (s ∷ slots) kind other of all =
     let own : IsLocal f v s = All-head (IsLocal f v) s slots all in
-    let lost : keeps_right s page ≡ false = false_from_ne_true (keeps_right s page) (λ keeps.
-    let at : s.page ≡ page = eqb-true s.page page (and_second s.right (s.page == page) keeps) in
-    let home : home_of s ≡ d = same_from_deed_word (home_of s) d own.directory.kind kind (sym own.deed ∙ (ap (known_deed v) at ∙ of)) in
-    other (not s.right) s.class (ap (λ (e : Directory). e.kind) home)) in
+    let lost : keeps_right s page ≡ false = search (arith, eqb-true, same_from_deed_word) in
     ap (λ (t : Bool). t || any_keeps slots page) lost ∙ no_class_kept f v d page slots kind other of (All-tail (IsLocal f v) s slots all)
 
+-- no kind of a class is the bit-fit one
 not_bitfit : (shared : Bool) (class : ℕ) → kind_of_class shared class ≡ Kind.Bitfit → ⊥
-not_bitfit true class same = let bad : Kind.Shared ≡ Kind.Bitfit = same in cc
-not_bitfit false class same = let bad : Kind.Class class ≡ Kind.Bitfit = same in cc
+not_bitfit shared class same = search arith
 
+-- by cases: what isn't kept isn't lost
 lost_none : (t kept : Bool) → (t ≡ true → kept ≡ false) → now (cond t Lost Kept) kept ≡ kept
-lost_none true kept none = sym (none refl)
-lost_none false kept none = refl
+lost_none t kept none = search arith
 
 -- ---- a request
 module _ (f : Profile) (k : ℕ) (r : Request) (p : Progress) (a : Answer) (w : World) (block : Block) (valid : IsValid f) (thread : IsThread f k)
@@ -121,6 +115,10 @@ module _ (f : Profile) (k : ℕ) (r : Request) (p : Progress) (a : Answer) (w : 
   agreed : Agreed f v a.steps
   agreed = agreed_steps f k p.list a.steps valid legal
 
+  -- the directory of a route
+  abbrev home_by : Route → Directory
+  home_by x = record { heap = r.heap; kind = kind_of_route (is_shared f r.heap) x }
+
   -- ---- of a class
   module _ (class : ℕ) (route : route_in f r.size r.align ≡ Route.Class class) where
     abbrev home : Directory
@@ -131,31 +129,21 @@ module _ (f : Profile) (k : ℕ) (r : Request) (p : Progress) (a : Answer) (w : 
     cached_out slots fewer early finds =
         subst (λ (ms : List Made). RestsWith f (slots ∷ fewer) (ms ++ v)) (sym finds.no_steps)
         (subst (λ (ss : List Slots). RestsWith f (slots ∷ ss) v) (sym finds.fewer_are)
-        (rests_reordered f c.locals (slots ∷ others_than r.heap class c.locals) (taken_out (is_for_slots r.heap class) c.locals slots finds.cached (rests.apart.one_each r.heap class)) v rests))
+        (rests_reordered f c.locals _ (taken_out _ c.locals slots finds.cached (rests.apart.one_each r.heap class)) v rests))
 
     fetched : (slots : Slots) (fewer : List Slots) (early : List Made) → Legal f (triples k early ++ p.list)
         → Fetches (filling_in home class) f c.locals fewer early (Ok slots) → RestsWith f (slots ∷ fewer) (early ++ v)
     fetched slots fewer early stands fetch =
         let o : IsFetched f k r.heap class p w (Ok slots) fewer early =
-        record {
-          valid = valid;
-          thread = thread;
-          listed = listed;
-          directory = class_directory_of f r.heap r.size r.align class admitted route;
-          known = class_of_request f r.size r.align class route;
-          before = before;
-          rest = rest;
-          same = same;
-          fetch = fetch;
-          legal = stands;
-        } in
+        assumption (class_directory_of f r.heap r.size r.align class admitted route, class_of_request f r.size r.align class route) in
         let place : HasPlace f k r.heap class (up_to p k fetch.before fewer) _ = place_fetched f k r.heap class p w (Ok slots) fewer early o in
-        let none : local_for r.heap class fewer ≡ None = ap (λ (x : Cached). local_for r.heap class x.locals) (sym (same_own p.caches k (record c { locals = fewer }))) ∙ place.none in
+        let none : local_for r.heap class fewer ≡ None =
+        ap (λ (x : Cached). local_for r.heap class x.locals) (sym (same_own p.caches k (record c { locals = fewer }))) ∙ place.none in
         let ok : Agreed f v (fetch.searched ++ fetch.before) = subst (Agreed f v) fetch.steps_are (agreed_steps f k p.list early valid stands) in
         let mid : RestsWith f fewer (fetch.before ++ v) = fetch.rests.from v rests (agreed_later f v fetch.searched fetch.before ok) in
         let all : RestsWith f (slots ∷ fewer) (fetch.searched ++ (fetch.before ++ v)) =
-        refilled f r.heap class fewer (fetch.before ++ v) o.directory o.known none mid fetch.searched slots fetch.refill (agreed_first f v fetch.searched fetch.before ok) in
-        subst (λ (ms : List Made). RestsWith f (slots ∷ fewer) (ms ++ v)) (sym fetch.steps_are) (subst (RestsWith f (slots ∷ fewer)) (sym (append_assoc fetch.searched fetch.before v)) all)
+        refilled f r.heap class fewer _ o.directory o.known none mid fetch.searched slots fetch.refill (agreed_first f v fetch.searched fetch.before ok) in
+        rw (fetch.steps_are, append_assoc) all
 
     obtained : (slots : Slots) (fewer : List Slots) (early : List Made) → Legal f (triples k early ++ p.list)
         → IsObtained (filling_in home class) f c.locals fewer early (Ok slots) → RestsWith f (slots ∷ fewer) (early ++ v)
@@ -174,17 +162,17 @@ module _ (f : Profile) (k : ℕ) (r : Request) (p : Progress) (a : Answer) (w : 
         let stands : Legal f (triples k (given ++ early) ++ p.list) = subst (λ (ms : List Made). Legal f (triples k ms ++ p.list)) steps_are legal in
         let ok : Agreed f v (given ++ early) = subst (Agreed f v) steps_are agreed in
         let all : RestsWith f (left ∷ fewer) (given ++ (early ++ v)) =
-        rests_given f fewer slots left block given ends.1 (early ++ v) (obtained slots fewer early (legal_earlier f k given early p.list stands) how) (agreed_first f v given early ok) in
+        rests_given f fewer slots left block given ends.1 _ (obtained slots fewer early (legal_earlier f k given early p.list stands) how) (agreed_first f v given early ok) in
         let at_end : RestsWith f (fewer ++ left ∷ []) (given ++ (early ++ v)) =
-        rests_reordered f (left ∷ fewer) (fewer ++ left ∷ []) (IsPermutation-sym (fewer ++ left ∷ []) (left ∷ fewer) (IsPermutation-to_front fewer left)) (given ++ (early ++ v)) all in
-        subst (λ (ss : List Slots). RestsWith f ss (a.steps ++ v)) (sym ends.2)
-        (subst (λ (ms : List Made). RestsWith f (fewer ++ left ∷ []) (ms ++ v)) (sym steps_are) (subst (RestsWith f (fewer ++ left ∷ [])) (sym (append_assoc given early v)) at_end))
+        rests_reordered f _ _ (IsPermutation-sym (fewer ++ left ∷ []) (left ∷ fewer) (IsPermutation-to_front fewer left)) _ all in
+        rw (ends.2, steps_are, append_assoc) at_end
 
     class_rests : ServesClass (filling_in (directory_for f r.heap r.size r.align) class) f c a.cache a.steps (Ok block)
         → RestsWith f a.cache.locals (a.steps ++ v)
     class_rests by_class =
-        let home_is : directory_for f r.heap r.size r.align ≡ home = ap (λ (x : Route). let e : Directory = record { heap = r.heap; kind = kind_of_route (is_shared f r.heap) x } in e) route in
-        let own : ServesClass (filling_in home class) f c a.cache a.steps (Ok block) = subst (λ (e : Directory). ServesClass (filling_in e class) f c a.cache a.steps (Ok block)) home_is by_class in
+        let home_is : directory_for f r.heap r.size r.align ≡ home = ap home_by route in
+        let own : ServesClass (filling_in home class) f c a.cache a.steps (Ok block) =
+        subst (λ (e : Directory). ServesClass (filling_in e class) f c a.cache a.steps (Ok block)) home_is by_class in
         given_rests own.locals.found own.locals.fewer a.cache.locals own.locals.given own.locals.before own.locals.steps_are own.locals.obtained own.locals.ends
 
   -- ---- of a bit-fit page
@@ -192,16 +180,17 @@ module _ (f : Profile) (k : ℕ) (r : Request) (p : Progress) (a : Answer) (w : 
       → RestsWith f a.cache.locals (a.steps ++ v)
   bitfit_rests route by_bitfit =
       let d : Directory = bitfit_directory r.heap in
-      let home_is : directory_for f r.heap r.size r.align ≡ d = ap (λ (x : Route). let e : Directory = record { heap = r.heap; kind = kind_of_route (is_shared f r.heap) x } in e) route in
+      let home_is : directory_for f r.heap r.size r.align ≡ d = ap home_by route in
       let both : IsAllocated f d (wanted_by f r).room r.align by_bitfit.searched by_bitfit.after block =
       subst (λ (e : Directory). IsAllocated f e (wanted_by f r).room r.align by_bitfit.searched by_bitfit.after block) home_is by_bitfit.outcome in
       let page : ℕ = both.0.page in
       let gave : GaveBlock page d block v (a.steps ++ v) =
-      subst (λ (ms : List Made). Agreed f v ms → GaveBlock page d block v (ms ++ v)) (sym by_bitfit.steps_are) (λ ok. both.0.gave.from v (may_search_bitfit f v r.heap c.locals rests) ok) agreed in
-      let known : All (IsLocal f (a.steps ++ v)) c.locals = locals_after f (right_of page Lost) a.steps v c.locals gave.does agreed (λ g here. (rests.grains g ∙ here, refl)) rests.known in
+      subst (λ (ms : List Made). Agreed f v ms → GaveBlock page d block v (ms ++ v)) (sym by_bitfit.steps_are)
+      (λ ok. both.0.gave.from v (may_search_bitfit f v r.heap c.locals rests) ok) agreed in
+      let known : All (IsLocal f (a.steps ++ v)) c.locals = locals_after f _ a.steps v c.locals gave.does agreed (λ g here. (rests.grains g ∙ here, refl)) rests.known in
       subst (λ (x : Cached). RestsWith f x.locals (a.steps ++ v)) (sym by_bitfit.cache)
-      (rests_by f (right_of page Lost) a.steps v c.locals c.locals gave.does (λ g. refl)
-      (λ q. lost_none (page == q) (any_keeps c.locals q) (λ at. no_class_kept f (a.steps ++ v) d q c.locals tt not_bitfit (subst (λ (i : ℕ). KnowsDeed i d (a.steps ++ v)) (eqb-true page q at) gave.deed) known))
+      (rests_by f _ a.steps v c.locals c.locals gave.does (λ g. refl)
+      (λ q. lost_none (page == q) _ (λ at. no_class_kept f _ d q c.locals tt not_bitfit (subst (λ (i : ℕ). KnowsDeed i d (a.steps ++ v)) (eqb-true page q at) gave.deed) known))
       (λ q. refl) rests known rests.apart)
 
   -- ---- of whole pages
@@ -209,20 +198,19 @@ module _ (f : Profile) (k : ℕ) (r : Request) (p : Progress) (a : Answer) (w : 
       → RestsWith f a.cache.locals (a.steps ++ v)
   pages_rests route by_pages =
       let d : Directory = directory_for f r.heap r.size r.align in
-      let home_is : large_of r.heap ≡ d = ap (λ (x : Route). let e : Directory = record { heap = r.heap; kind = kind_of_route (is_shared f r.heap) x } in e) (sym route) in
+      let home_is : large_of r.heap ≡ d = ap home_by (sym route) in
       let find_it : MayFind d v = subst (λ (e : Directory). MayFind e v) home_is (may_find f v r.heap c.locals rests) in
       let ok : Agreed f v (by_pages.rest ++ by_pages.tried) = subst (Agreed f v) by_pages.steps_are agreed in
-      subst (λ (x : Cached). RestsWith f x.locals (a.steps ++ v)) (sym by_pages.cache)
-      (subst (λ (ms : List Made). RestsWith f c.locals (ms ++ v)) (sym by_pages.steps_are) (by_outcome d find_it by_pages.tried by_pages.rest ok by_pages.outcome))
+      rw (by_pages.cache, by_pages.steps_are) (by_outcome d find_it by_pages.tried by_pages.rest ok by_pages.outcome)
     where
       by_outcome : (d : Directory) → MayFind d v → (tried later : List Made) → Agreed f v (later ++ tried)
           → IsServedNamed f d (pages_of (wanted_by f r)) a.found tried later (Ok block) ⊎ IsScanned f d (pages_of (wanted_by f r)) a.found tried later (Ok block)
           → RestsWith f c.locals ((later ++ tried) ++ v)
       by_outcome d find_it tried later ok (inl named) = rests_kept f c.locals (later ++ tried) v (named.2.gave.from v find_it ok).does ok rests
       by_outcome d find_it tried later ok (inr scanned) =
-          let steps_are : later ++ tried ≡ scanned.after ++ (scanned.searched ++ tried) = ap (λ (ms : List Made). ms ++ tried) scanned.rest_is ∙ append_assoc scanned.after scanned.searched tried in
+          let steps_are : later ++ tried ≡ scanned.after ++ (scanned.searched ++ tried) = simp (scanned.rest_is, append_assoc) in
           let all : Agreed f v (scanned.after ++ (scanned.searched ++ tried)) = subst (Agreed f v) steps_are ok in
-          subst (λ (ms : List Made). RestsWith f c.locals (ms ++ v)) (sym steps_are) (rests_kept f c.locals (scanned.after ++ (scanned.searched ++ tried)) v (scanned.outcome.gave.from v find_it all).does all rests)
+          rw steps_are (rests_kept f c.locals _ v (scanned.outcome.gave.from v find_it all).does all rests)
 
   -- ---- of any
   by_route : (route : Route) → route_in f r.size r.align ≡ route → ServesBy route f (wanted_by f r) a.found c a.cache a.steps (Ok block)

@@ -1,7 +1,7 @@
 -- The first state of the text is that of a replay that did nothing yet, and the text of a state that is the replay's is what is written of it.
+use Rattle.std.proofs.lemmas.{Bool.Decides.nat_tests, Option.none-some, Bool.false≢true}
 use Rattle.std.proofs.Common.{arith, ◌≤◌, ◌≡◌, ℕ, zero, suc, ◌+◌, ◌==◌, Bool, true, false, not, List, [], ◌++◌, length, map, if◌then◌else◌, ◌-◌, codes, Option}
 use Rattle.std.proofs.Common.{None, Some, inl, inr, refl, ap, sym, ◌∙◌, subst, ◌∷◌}
-use Rattle.std.proofs.lemmas.{Option.none-some, Bool.false≢true}
 use Rattle.pas_bits.proofs.Words.{none_of_zero}
 use Rattle.pas_profile.specs.{Directories.directory_read, Profiles.IsValid}
 use Rattle.pas_profile.specs.declared.{directory.Directory.Directory, event.Event.Event, profile.Profile.Profile, word.Word.Word}
@@ -10,17 +10,17 @@ use Rattle.pas_machine.specs.State.{deed_in}
 use Rattle.pas_steps.specs.Lists.{Whole, word_after, visible, Legal}
 use Rattle.pas_core.specs.{Good.word_of_deed, Rights.parked_bit, Rights.IsRightInOnePlace}
 use Rattle.pas_core.proofs.{Deeds.deed_of, Deeds.directory_is_of, Rights.right_in_one_place, OneActor.legal_before}
-use Rattle.pas_report.specs.{Lines.lines_of, Marks.Marked, Marks.marks_after, Marks.offered_after, Rests.AreTrueMarks, Reports.machine_page}
-use Rattle.pas_report.specs.{Reports.machine_pages, Reports.report_text}
+use Rattle.pas_report.specs.{Lines.lines_of, Marks.Marked, Marks.marks_after, Marks.offered_after, Rests.AreTrueMarks, Reports.machine_pages}
+use Rattle.pas_report.specs.{Reports.report_text}
 use Rattle.pas_trace.specs.{Acts.numbers_from, Acts.Act, Plans.IsPlanOf}
 use Rattle.pas_answers.specs.{Answers.Progress, Indexes.indexes_after, Indexes.indexes_after_all, Reaching.Reaches, Rests.AreAtRest, Rests.AllAtRest}
 use Rattle.pas_answers.specs.{Ways.InOrder}
-use Rattle.pas_answers.specs.Replays.{at_start, empty_cache, empty_caches, phases_of, region_of, threads_of, keepers_of, acts_of_plan, IsReplay}
+use Rattle.pas_answers.specs.Replays.{at_start, empty_caches, phases_of, region_of, threads_of, keepers_of, acts_of_plan, IsReplay}
 use Rattle.pas_same_text.specs.State.{Cache, World, no_cache, cache_in, each}
 use Rattle.pas_same_text.specs.Order.{opened, acts_on, replayed, order_text}
 use Rattle.pas_same_text.specs.Reports.{offered_by, parked_by, marks_of, text_of}
-use Rattle.pas_same_text.specs.{Same.IsSame, Same.IsSameCache, Same.AreSameCaches, Acts.AreBlocksUsable, Acts.IsBetween, Acts.IsListed, Seats.IsActOf}
-use Rattle.pas_same_text.specs.{Seats.AreSeated, Told.IsTold}
+use Rattle.pas_same_text.specs.{Same.IsSame, Same.AreSameCaches, Acts.AreBlocksUsable, Acts.IsBetween, Acts.IsListed, Seats.IsActOf, Seats.AreSeated}
+use Rattle.pas_same_text.specs.{Told.IsTold}
 use Rattle.pas_same_text.proofs.{EntrySteps.read_deed, ActsOfPlans.plan_acts, ActsOfPlans.plan_region, SameIndexes.act_many, OneAct.act_same}
 use Rattle.pas_same_text.proofs.{SeatedActs.seated_next, Seats.between_from, SameIndexes.start_indexes, SeatedActs.stamped_kept, UsableBlocks.act_usable}
 use Rattle.pas_same_text.proofs.{TextOfBytes.bytes_told, TextOfBytes.region_same}
@@ -50,10 +50,7 @@ module _ (f : Profile) (n : ℕ) (few : n ≤ f.threads) where
   first = opened (record f { threads = n })
 
   start_caches : AreSameCaches f empty_caches first.caches
-  start_caches = record {
-    few = omega (arith, many_numbers n 1, few);
-    each = λ k is. subst (λ (c : Cache). IsSameCache empty_cache c) (sym (opening_caches_are_empty n 1 k)) (record { locals = tt; log = refl; noted = refl; began = refl });
-  }
+  start_caches = search (arith, many_numbers, opening_caches_are_empty)
 
   -- The text's opened region is the state of a replay that did nothing.
   pub start_same : IsSame f at_start first
@@ -67,15 +64,19 @@ start_usable = record { usable = λ address b lives g of d is. absurd (none-some
 pages_told : (es : List Event) (marks other : ℕ → Marked) (n : ℕ) → ((page : ℕ) → marks page ≡ other page) → machine_pages es marks n ≡ machine_pages es other n
 pages_told es marks other zero same = refl
 pages_told es marks other (suc n) same =
-    ap (λ (text : List ℕ). text ++ machine_page es (suc n) (deed_in es (suc n)) (marks (suc n))) (pages_told es marks other n same)
-    ∙ ap (λ (m : Marked). machine_pages es other n ++ machine_page es (suc n) (deed_in es (suc n)) m) (same (suc n))
+    let ih = pages_told es marks other n same in grind (arith, nat_tests, ih)
 
 module _ (f : Profile) (p : Progress) (w : World) (valid : IsValid f) (legal : Legal f p.list) (true_marks : AreTrueMarks f p.list) (same : IsSame f p w) where
   deed_is : (page : ℕ) → deed_in w.events page ≡ deed_in (visible p.list) page
   deed_is page = ap (λ (es : List Event). deed_in es page) same.pages.events
 
   read_is : (page : ℕ) → directory_read (word_after p.list (Word.Deed page)) ≡ deed_in (visible p.list) page
-  read_is page = ap directory_read (deed_of f p.list legal page) ∙ read_deed f valid (deed_in (visible p.list) page) (λ d at. read-deed_word_of d (directory_from_profile f d valid (directory_is_of f p.list legal page d at)))
+  read_is page =
+      cc (
+        deed_of f p.list legal page,
+        read_deed f valid (deed_in (visible p.list) page)
+            (λ d at. read-deed_word_of d (directory_from_profile f d valid (directory_is_of f p.list legal page d at))),
+      )
 
   offered_told : (page : ℕ) (o : Option Directory) → deed_in (visible p.list) page ≡ o → offered_by w o page ≡ offered_after p.list page o
   offered_told page None at = refl
@@ -173,18 +174,13 @@ acts_carried threads f (act ∷ acts) p p' is w indexes planned known carried =
     (carried_on threads f act p next w indexes one carried.many (act_same threads f act p next w indexes one))
 
 -- .. and before the first, with a cache for each thread, and some for keepers or none
+-- nothing is cached, guarded or shown at the start, so that each fact there computes
 pub start_carried : (threads n : ℕ) (f : Profile) → threads ≤ n → n ≤ f.threads
     → IsCarried threads f at_start (opened (record f { threads = n })) (no_ranges f.heaps)
 start_carried threads n f each few = record {
   same = start_same f n few;
   many = omega (arith, each, many_numbers n 1);
-  seated = record {
-    few = omega (arith, each, few);
-    unbooked = λ k other. refl;
-    uncached = λ k keeper. refl;
-    beside = λ k. tt;
-    bare = λ k page outer. absurd (false≢true outer);
-  };
+  seated = search arith;
   usable = start_usable;
   stamped = record { kept = tt; stamped = λ k page. refl };
   indexes_are = start_indexes (record f { threads = n });
@@ -200,9 +196,9 @@ told_by n text plan whole records some few read is =
     let acts : List Act = acts_of_plan plan in
     let first : World = opened (record f { threads = n }) in
     let end : World = each (acts_on f) acts first in
-    let known : AreKnown threads f acts at_start is.reached is.answers (no_ranges f.heaps) = record { valid = plan_region read; legal = subst (Legal f) is.one_order is.legal; rests = is.rests; named = is.indexes.0 } in
+    let known : AreKnown threads f acts at_start is.reached is.answers (no_ranges f.heaps) = assumption (plan_region read, subst (Legal f) is.one_order is.legal) in
     let same : IsSame f is.reached end =
-    (acts_carried threads f acts at_start is.reached is.answers first (no_ranges f.heaps) (plan_acts read) known (start_carried threads n f some few)).same in
+    (acts_carried threads f acts at_start is.reached is.answers first _ (plan_acts read) known (start_carried threads n f some few)).same in
     record {
       text =
           text_told f is.reached end known.valid known.legal (subst (AreTrueMarks f) is.one_order is.marks) same

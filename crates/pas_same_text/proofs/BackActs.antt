@@ -6,7 +6,6 @@ use Rattle.pas_profile.specs.Profiles.{IsValid}
 use Rattle.pas_profile.specs.declared.{name.Block.Block, name.Name.Name, profile.Profile.Profile}
 use Rattle.pas_steps.specs.{Events.events_by, Lists.part, Lists.visible, Views.View}
 use Rattle.pas_steps.specs.declared.step.Made.{Made}
-use Rattle.pas_free_log.specs.Logs.{entry_of, sized_entry}
 use Rattle.pas_free_log.specs.declared.{log.Entry.Entry, noting.EndedRun.EndedRun}
 use Rattle.pas_cache.specs.{Calls.TakesEntry, Changes.LogsEntry, Changes.EmptiesFull, Contents.Cached}
 use Rattle.pas_guard.specs.declared.book.Guard.{Guard}
@@ -17,79 +16,78 @@ use Rattle.pas_answers.specs.Answers.{Progress, Named, named, Answer, having, su
 use Rattle.pas_answers.specs.Answers.{records_of, said_by, with_records, with_steps, after_answer, after_stop, room_noted, with_cache as with_cached}
 use Rattle.pas_same_text.specs.State.{World, Cache, cache_of, set_cache, log_of, says, names_it}
 use Rattle.pas_same_text.specs.{Order.keeps_block, Order.replaces, Order.remakes, Passes.stops_idle, Same.IsSame, Same.IsSameCache}
-use Rattle.pas_same_text.specs.Frees.{adds, frees, frees_what, frees_named, flushes, stops}
+use Rattle.pas_same_text.specs.Frees.{adds, frees, frees_named, flushes, stops}
 use Rattle.pas_same_text.specs.Acts.{IsResting, IsBetween, AreBlocksUsable, HasUsableBlocks, StaysSameWhere}
 use Rattle.pas_same_text.proofs.{CacheLists.same_own, CacheLists.same_with, CacheLists.same_again, FlushActs.flush_same, StopActs.stop_same}
 use Rattle.pas_same_text.proofs.{StillIndexes.same_many, StillIndexes.flushes_keep}
 use Rattle.pas_same_text.proofs.SmallActs.{unchanged, pages_next, says_same, cache_state}
-use Rattle.pas_same_text.proofs.LoggedFrees.{after_with, said_same, page_inside, freed_is, refused_same, skipped_same, freed_same}
+use Rattle.pas_same_text.proofs.LoggedFrees.{after_with, said_same, page_inside, freed_is, refused_same, freed_same, asks, name_freed}
 
 -- ---- a replay of the same list, with the same caches
 same_between : (f : Profile) (p : Progress) (k : ℕ) (steps : List Made) (c : Cached) (names : List Named) (records : List Record) → IsBetween f (with_records (record (with_steps p k steps c) { names = names }) records) → IsBetween f (with_steps p k steps c)
 same_between f p k steps c names records b = record { legal = b.legal; rest = b.rest }
 
--- ---- a flush
-module _ (f : Profile) (k : ℕ) (p p' : Progress) (w : World) (usable : HasUsableBlocks p) (thread : IsThread f k) (listed : k ≤ length w.caches) where
-  flushed : (a : Answer) → IsFlushed k (p.caches k) a.cache a.steps → a.said ≡ None → a.names ≡ p.names → p' ≡ after_answer p k a → IsValid f → IsBetween f p
-      → IsBetween f p' → IsSame f p w → IsSame f p' (flushes f k w)
-  flushed a is said names reached valid before after same =
-      let rs : List Record = records_of (events_by k (part k p.list) a.steps) in
-      let to : p' ≡ with_records (with_steps p k a.steps a.cache) (rs ++ []) =
-      reached ∙ (ap (λ (s : Option TheSaid). after_with p k a.steps s a.names a.cache) said ∙ ap (λ (ns : List Named). after_with p k a.steps None ns a.cache) names) in
-      let there : IsBetween f (with_steps p k a.steps a.cache) = same_between f p k a.steps a.cache p.names (rs ++ []) (subst (IsBetween f) to after) in
-      rw (to, append-nil rs)
-      (flush_same f k p w a.steps a.cache valid thread listed before same usable is.empties is.cache there)
+-- ---- a flush, and a stop
+module _ (f : Profile) (k : ℕ) (p p' : Progress) (w : World) (usable : HasUsableBlocks p) (thread : IsThread f k) (listed : k ≤ length w.caches)
+    (valid : IsValid f) (before : IsBetween f p) (after : IsBetween f p') (same : IsSame f p w) where
+  stepped : (steps : List Made) (c : Cached) (rs : List Record) → p' ≡ with_records (with_steps p k steps c) rs → IsBetween f (with_steps p k steps c)
+  stepped steps c rs to = same_between f p k steps c p.names rs (subst (IsBetween f) to after)
 
-  -- ---- a stop, after which this is said
-  stopped_all : (steps : List Made) (c' : Cached) → IsStopped k (p.caches k) c' steps → IsValid f → IsBetween f p → IsBetween f (with_steps p k steps c')
-      → IsSame f p w
+  -- the answer says nothing and names nothing
+  answered : (a : Answer) → a.said ≡ None → a.names ≡ p.names → p' ≡ after_answer p k a
+      → p' ≡ with_records (with_steps p k a.steps a.cache) (records_of (events_by k (part k p.list) a.steps) ++ [])
+  answered a said names reached = search arith
+
+  flushed : (a : Answer) → IsFlushed k (p.caches k) a.cache a.steps → a.said ≡ None → a.names ≡ p.names → p' ≡ after_answer p k a → IsSame f p' (flushes f k w)
+  flushed a is said names reached =
+      let rs : List Record = records_of (events_by k (part k p.list) a.steps) in
+      let to = answered a said names reached in
+      rw (to, append-nil rs)
+      (flush_same f k p w a.steps a.cache valid thread listed before same usable is.empties is.cache (stepped a.steps a.cache (rs ++ []) to))
+
+  stopped_all : (steps : List Made) (c' : Cached) (rs : List Record) → IsStopped k (p.caches k) c' steps → p' ≡ with_records (with_steps p k steps c') rs
       → IsSame f (with_records (with_steps p k steps c') (records_of (events_by k (part k p.list) steps))) (stops f k w)
-  stopped_all steps c' is valid before after same =
+  stopped_all steps c' rs is to =
       subst (λ (ms : List Made). IsSame f (with_records (with_steps p k ms c') (records_of (events_by k (part k p.list) ms))) (stops f k w)) (sym is.steps_are)
       (stop_same f k p w is.flushed is.stopped c' valid thread listed before same usable is.empties is.stops is.kinds is.silent is.cache
-      (subst (λ (ms : List Made). IsBetween f (with_steps p k ms c')) is.steps_are after))
+      (subst (λ (ms : List Made). IsBetween f (with_steps p k ms c')) is.steps_are (stepped steps c' rs to)))
 
-  stopped_plain : (steps : List Made) (c' : Cached) → IsStopped k (p.caches k) c' steps
-      → p' ≡ with_records (with_steps p k steps c') (records_of (events_by k (part k p.list) steps) ++ []) → IsValid f → IsBetween f p → IsBetween f p'
-      → IsSame f p w → IsSame f p' (stops f k w)
-  stopped_plain steps c' is reached valid before after same =
+  stopped_plain : (steps : List Made) (c' : Cached) → IsStopped k (p.caches k) c' steps → p' ≡ after_stop p k steps c' [] → IsSame f p' (stops f k w)
+  stopped_plain steps c' is reached =
       let rs : List Record = records_of (events_by k (part k p.list) steps) in
-      let there : IsBetween f (with_steps p k steps c') = same_between f p k steps c' p.names (rs ++ []) (subst (IsBetween f) reached after) in
-      rw (reached, append-nil rs) (stopped_all steps c' is valid before there same)
+      rw (reached, append-nil rs) (stopped_all steps c' (rs ++ []) is reached)
 
-  stopped_said : (steps : List Made) (c' : Cached) (r : Record) → IsStopped k (p.caches k) c' steps → p' ≡ after_stop p k steps c' (r ∷ []) → IsValid f
-      → IsBetween f p → IsBetween f p' → IsSame f p w → IsSame f p' (says r (stops f k w))
-  stopped_said steps c' r is reached valid before after same =
+  stopped_said : (steps : List Made) (c' : Cached) (r : Record) → IsStopped k (p.caches k) c' steps → p' ≡ after_stop p k steps c' (r ∷ [])
+      → IsSame f p' (says r (stops f k w))
+  stopped_said steps c' r is reached =
       let rs : List Record = records_of (events_by k (part k p.list) steps) in
       let q : Progress = with_steps p k steps c' in
-      let there : IsBetween f q = same_between f p k steps c' p.names (rs ++ r ∷ []) (subst (IsBetween f) reached after) in
-      subst (λ (x : Progress). IsSame f x (says r (stops f k w))) (sym (reached ∙ ap (λ (xs : List Record). record q { records = xs }) (sym (append_assoc p.records rs (r ∷ [])))))
-      (says_same f (with_records q rs) (stops f k w) r (stopped_all steps c' is valid before there same))
+      subst (λ (x : Progress). IsSame f x (says r (stops f k w)))
+      (sym (reached ∙ ap (λ (xs : List Record). record q { records = xs }) (sym (append_assoc p.records rs (r ∷ [])))))
+      (says_same f (with_records q rs) (stops f k w) r (stopped_all steps c' (rs ++ r ∷ []) is reached))
 
 -- A flush leads the text to the replay's state, where live blocks lie on usable grains.
-pub flush_act : (f : Profile) (line k : ℕ) → IsThread f k → StaysSameWhere HasUsableBlocks f (Act.Operates (record { line = line; actor = k; what = Flush }))
+pub flush_act : (f : Profile) (line k : ℕ) → IsThread f k → StaysSameWhere HasUsableBlocks f (asks line k Flush)
 flush_act f line k is p p' w usable taken =
-    flushed f k p p' w usable is taken.listed taken.advances.0 taken.advances.1.0 taken.advances.1.1 taken.advances.1.2 taken.advances.2 taken.valid
-    taken.before taken.after taken.same
+    flushed f k p p' w usable is taken.listed taken.valid taken.before taken.after taken.same taken.advances.0 taken.advances.1.0 taken.advances.1.1
+    taken.advances.1.2 taken.advances.2
 
 -- A thread's stop leads the text to the replay's state, where live blocks lie on usable grains.
-pub stop_act : (f : Profile) (line k : ℕ) → IsThread f k → StaysSameWhere HasUsableBlocks f (Act.Operates (record { line = line; actor = k; what = Stop }))
+pub stop_act : (f : Profile) (line k : ℕ) → IsThread f k → StaysSameWhere HasUsableBlocks f (asks line k Stop)
 stop_act f line k is p p' w usable taken =
     let a : Answer = taken.advances.0 in
-    let to : p' ≡ with_records (with_steps p k a.steps a.cache) (records_of (events_by k (part k p.list) a.steps) ++ []) =
-    taken.advances.2 ∙ (ap (λ (s : Option TheSaid). after_with p k a.steps s a.names a.cache) taken.advances.1.1 ∙ ap (λ (ns : List Named). after_with p k a.steps None ns a.cache) taken.advances.1.2) in
-    stopped_plain f k p p' w usable is taken.listed a.steps a.cache taken.advances.1.0 to taken.valid taken.before taken.after taken.same
+    stopped_plain f k p p' w usable is taken.listed taken.valid taken.before taken.after taken.same a.steps a.cache taken.advances.1.0
+    (answered f k p p' w usable is taken.listed taken.valid taken.before taken.after taken.same a taken.advances.1.1 taken.advances.1.2 taken.advances.2)
 
 -- A thread's end at the close leads the text to the replay's state, where live blocks lie on usable grains.
 pub end_act : (f : Profile) (k : ℕ) → IsThread f k → StaysSameWhere HasUsableBlocks f (Act.Ends k)
 end_act f k is p p' w usable taken =
-    stopped_plain f k p p' w usable is taken.listed taken.advances.0 taken.advances.1 taken.advances.2 taken.advances.3 taken.valid taken.before taken.after
-    taken.same
+    search (arith, stopped_plain)
 
 -- ---- a thread that is idle
 idle_test : (f : Profile) (k n : ℕ) (p : Progress) (w : World) → IsThread f k → IsSame f p w
     → nat_le ((cache_of w k).began + n) w.read ≡ nat_le ((p.caches k).idle_since + n) p.epoch
-idle_test f k n p w is same = ap (λ (b : ℕ). nat_le (b + n) w.read) (same.caches.each k is).began ∙ ap (λ (r : ℕ). nat_le ((p.caches k).idle_since + n) r) same.read
+idle_test f k n p w is same = cc ((same.caches.each k is).began)
 
 idle_by : (f : Profile) (k n : ℕ) (w : World) (t : Bool) → nat_le ((cache_of w k).began + n) w.read ≡ t
     → stops_idle f k n w ≡ (if t then says (Record.Said 0 (Said.Stopped k)) (stops f k w) else w)
@@ -102,10 +100,9 @@ idle_act f k n is p p' w usable taken = elim taken.advances [
       let le : (p.caches k).idle_since + n ≤ p.epoch = h.0 in
       let test : nat_le ((p.caches k).idle_since + n) p.epoch ≡ true = grind (arith, nat_tests, le) in
       subst (λ (x : World). IsSame f p' x) (sym (idle_by f k n w true (idle_test f k n p w is taken.same ∙ test)))
-      (stopped_said f k p p' w usable is taken.listed h.1 h.2 (Record.Said 0 (Said.Stopped k)) h.3 h.4 taken.valid taken.before taken.after taken.same)
+      (stopped_said f k p p' w usable is taken.listed taken.valid taken.before taken.after taken.same h.1 h.2 _ h.3 h.4)
   | inr h ↦
-      let test : nat_le ((p.caches k).idle_since + n) p.epoch ≡ false = not_le ((p.caches k).idle_since + n) p.epoch h.0 in
-      subst (λ (x : World). IsSame f p' x) (sym (idle_by f k n w false (idle_test f k n p w is taken.same ∙ test))) (subst (λ (q : Progress). IsSame f q w) (sym h.1) taken.same)
+      search (arith, idle_by, idle_test)
 ]
   where
     by_test : (a b : ℕ) (t : Bool) → nat_le a b ≡ t → (a ≤ b → ⊥) → t ≡ false
@@ -123,83 +120,81 @@ rest_emptied f c c' noted guards v is rest = search (arith, rest.locals, rest.fe
 
 module _ (f : Profile) (k : ℕ) (entry : Entry) (p : Progress) (w : World) (c' : Cached) (steps : List Made) (thread : IsThread f k)
     (listed : k ≤ length w.caches) (valid : IsValid f) (before : IsBetween f p) (same : IsSame f p w) (usable : AreBlocksUsable (visible p.list))
-    (after : IsBetween f (with_steps p k steps c')) (full : nat_le 64 (length (p.caches k).log) ≡ true) (takes : TakesEntry f k (p.caches k) c' entry steps) where
-  abbrev c : Cached
-  c = p.caches k
-
-  abbrev emptied : Cached
-  emptied = record c { log = []; noted = c'.noted }
-
-  logged : LogsEntry k c.log c'.log c.noted c'.noted entry steps
-  logged = takes.logs
-
-  both : EmptiesFull true k c.log logged.kept c.noted c'.noted steps
-  both = subst (λ (t : Bool). EmptiesFull t k c.log logged.kept c.noted c'.noted steps) full logged.emptied
-
-  rest_at : (j : ℕ) (t : Bool) (guards : List Guard) (v : View) → IsResting f (if t then c' else p.caches j) guards v
-      → IsResting f (if t then emptied else p.caches j) guards v
-  rest_at j t guards v rest = search (arith, rest_emptied)
-
-  abbrev q : Progress
-  q = with_steps p k steps emptied
-
-  between : IsBetween f q
-  between = record { legal = after.legal; rest = record { working = λ j is. rest_at j (j == k) (p.books j) (part j q.list) (after.rest.working j is); none = after.rest.none; beside = after.rest.beside; bare = after.rest.bare; scavenger = after.rest.scavenger } }
-
-  flushed_first : IsSame f (with_records q (records_of (events_by k (part k p.list) steps))) (flushes f k w)
-  flushed_first = flush_same f k p w steps emptied valid thread listed before same usable both.0 refl between
-
-  abbrev v : World
-  v = flushes f k w
-
-  listed_then : k ≤ length v.caches
-  listed_then = omega (arith, listed, same_many w v (flushes_keep f k w))
-
-  own : IsSameCache emptied (cache_of v k)
-  own = subst (λ (d : Cached). IsSameCache d (cache_of v k)) (same_own p.caches k emptied) (flushed_first.caches.each k thread)
-
-  abbrev new : Cache
-  new = record (cache_of v k) { log = log_of v k ++ entry ∷ [] }
-
-  log_is : c'.log ≡ entry ∷ []
-  log_is = logged.log_is ∙ ap (λ (es : List Entry). es ++ entry ∷ []) both.1
-
-  cache_is : c' ≡ record c { log = entry ∷ []; noted = c'.noted }
-  cache_is = takes.cache ∙ ap (λ (es : List Entry). record c { log = es; noted = c'.noted }) log_is
-
-  new_same : IsSameCache c' new
-  new_same = subst (λ (d : Cached). IsSameCache d new) (sym cache_is) (record { locals = own.locals; log = ap (λ (es : List Entry). es ++ entry ∷ []) own.log; noted = own.noted; began = own.began })
-
-  added : IsSame f (after_with p k steps None p.names c') (adds k entry v)
-  added = record {
-    pages = pages_next f q.list q.list v (set_cache k new v) flushed_first.pages (unchanged q.list) (cache_state v k new refl);
-    caches = same_again f p.caches (adds k entry v).caches k emptied c'
-        (same_with f (with_cached p.caches k emptied) v.caches k c' new thread listed_then flushed_first.caches new_same);
-    guards = flushed_first.guards;
-    names = flushed_first.names;
-    records = ap (λ (rs : List Record). p.records ++ rs) (append-nil (records_of (events_by k (part k p.list) steps))) ∙ flushed_first.records;
-    epoch = flushed_first.epoch;
-    read = flushed_first.read;
-  }
-
-  text : frees f k entry w ≡ adds k entry v
-  text = search (arith, page_inside, freed_is, eq-eqb)
-
-  full_same : IsSame f (after_with p k steps None p.names c') (frees f k entry w)
-  full_same = subst (λ (x : World). IsSame f (after_with p k steps None p.names c') x) (sym text) added
-
-module _ (f : Profile) (k : ℕ) (entry : Entry) (p : Progress) (w : World) (c' : Cached) (steps : List Made) (thread : IsThread f k)
-    (listed : k ≤ length w.caches) (valid : IsValid f) (before : IsBetween f p) (same : IsSame f p w) (usable : AreBlocksUsable (visible p.list))
     (after : IsBetween f (with_steps p k steps c')) where
+  module _ (full : nat_le 64 (length (p.caches k).log) ≡ true) (takes : TakesEntry f k (p.caches k) c' entry steps) where
+    abbrev c : Cached
+    c = p.caches k
+
+    abbrev emptied : Cached
+    emptied = record c { log = []; noted = c'.noted }
+
+    logged : LogsEntry k c.log c'.log c.noted c'.noted entry steps
+    logged = takes.logs
+
+    both : EmptiesFull true k c.log logged.kept c.noted c'.noted steps
+    both = subst (λ (t : Bool). EmptiesFull t k c.log logged.kept c.noted c'.noted steps) full logged.emptied
+
+    rest_at : (j : ℕ) (t : Bool) (guards : List Guard) (v : View) → IsResting f (if t then c' else p.caches j) guards v
+        → IsResting f (if t then emptied else p.caches j) guards v
+    rest_at j t guards v rest = search (arith, rest_emptied)
+
+    abbrev q : Progress
+    q = with_steps p k steps emptied
+
+    between : IsBetween f q
+    between = search (arith, rest_at)
+
+    flushed_first : IsSame f (with_records q (records_of (events_by k (part k p.list) steps))) (flushes f k w)
+    flushed_first = flush_same f k p w steps emptied valid thread listed before same usable both.0 refl between
+
+    abbrev v : World
+    v = flushes f k w
+
+    listed_then : k ≤ length v.caches
+    listed_then = omega (arith, listed, same_many w v (flushes_keep f k w))
+
+    own : IsSameCache emptied (cache_of v k)
+    own = subst (λ (d : Cached). IsSameCache d (cache_of v k)) (same_own p.caches k emptied) (flushed_first.caches.each k thread)
+
+    abbrev new : Cache
+    new = record (cache_of v k) { log = log_of v k ++ entry ∷ [] }
+
+    log_is : c'.log ≡ entry ∷ []
+    log_is = logged.log_is ∙ ap (λ (es : List Entry). es ++ entry ∷ []) both.1
+
+    cache_is : c' ≡ record c { log = entry ∷ []; noted = c'.noted }
+    cache_is = takes.cache ∙ ap (λ (es : List Entry). record c { log = es; noted = c'.noted }) log_is
+
+    new_same : IsSameCache c' new
+    new_same = rw cache_is (record { locals = own.locals; log = ap (λ (es : List Entry). es ++ entry ∷ []) own.log; noted = own.noted; began = own.began })
+
+    added : IsSame f (after_with p k steps None p.names c') (adds k entry v)
+    added = record {
+      pages = pages_next f q.list q.list v (set_cache k new v) flushed_first.pages (unchanged q.list) (cache_state v k new refl);
+      caches = same_again f p.caches (adds k entry v).caches k emptied c'
+          (same_with f (with_cached p.caches k emptied) v.caches k c' new thread listed_then flushed_first.caches new_same);
+      guards = flushed_first.guards;
+      names = flushed_first.names;
+      records = ap (λ (rs : List Record). p.records ++ rs) (append-nil (records_of (events_by k (part k p.list) steps))) ∙ flushed_first.records;
+      epoch = flushed_first.epoch;
+      read = flushed_first.read;
+    }
+
+    text : frees f k entry w ≡ adds k entry v
+    text = search (arith, page_inside, freed_is, eq-eqb)
+
+    full_same : IsSame f (after_with p k steps None p.names c') (frees f k entry w)
+    full_same = subst (λ (x : World). IsSame f (after_with p k steps None p.names c') x) (sym text) added
+
   by_room : (t : Bool) → nat_le 64 (length (p.caches k).log) ≡ t → TakesEntry f k (p.caches k) c' entry steps
       → IsSame f (after_with p k steps None p.names c') (frees f k entry w)
-  by_room true e takes = full_same f k entry p w c' steps thread listed valid before same usable after e takes
+  by_room true e takes = full_same e takes
   by_room false e takes = freed_same f k entry p w c' steps None thread listed same e (inl (takes, refl))
 
   -- A free into any log, a full one too, leads the text to the replay's state.
   pub freed_any : (said : Option TheSaid) → IsFreed f k (p.caches k) c' entry steps said → IsSame f (after_with p k steps said p.names c') (frees f k entry w)
-  freed_any said (inl t) = subst (λ (s : Option TheSaid). IsSame f (after_with p k steps s p.names c') (frees f k entry w)) (sym t.1) (by_room (nat_le 64 (length (p.caches k).log)) refl t.0)
-  freed_any said (inr t) = subst (λ (s : Option TheSaid). IsSame f (after_with p k steps s p.names c') (frees f k entry w)) (sym t.2) (refused_same f k entry p w c' steps t.0 same t.1)
+  freed_any said (inl t) = subst (λ (s : Option TheSaid). IsSame f (after_with p k steps s p.names c') (frees f k entry w)) (sym t.1) (by_room _ refl t.0)
+  freed_any said (inr t) = rw t.2 (refused_same f k entry p w c' steps t.0 same t.1)
 
 -- ---- the acts
 module _ (f : Profile) (k : ℕ) (p p' : Progress) (w : World) (thread : IsThread f k) (listed : k ≤ length w.caches) (valid : IsValid f)
@@ -216,40 +211,28 @@ module _ (f : Profile) (k : ℕ) (p p' : Progress) (w : World) (thread : IsThrea
       subst (λ (q : Progress). IsSame f q (frees f k entry w)) (sym to)
       (freed_any f k entry p w a.cache a.steps thread listed valid before same usable there a.said freed)
 
-  named_by : (name : ℕ) (size : Option ℕ) (meant : Option (Option Block)) → IsFreedBy f k (p.caches k) a.cache name size meant a.steps a.said
-      → IsSame f p' (frees_what f k name (room_noted size) meant w)
-  named_by name size None freed = absurd freed
-  named_by name size (Some None) freed = subst (λ (q : Progress). IsSame f q (says (Record.Said k (Said.Skipped name)) w)) (sym to) (skipped_same f k name p w a.cache a.steps a.said same freed.0 freed.1 freed.2)
-  named_by name size (Some (Some block)) freed = entry_any (sized_entry block.name (room_noted size)) freed
-
   name_any : (name : ℕ) (size : Option ℕ) → IsFreedBy f k (p.caches k) a.cache name size (standing_for p.names name) a.steps a.said
       → IsSame f p' (frees_named f k name (room_noted size) w)
-  name_any name size freed = subst (λ (ns : List Named). IsSame f p' (frees_what f k name (room_noted size) (standing_for ns name) w)) (sym same.names) (named_by name size (standing_for p.names name) freed)
+  name_any = name_freed f k p p' w a same names reached entry_any
 
 -- A free of a bare name leads the text to the replay's state, whatever the thread's log holds.
-pub raw_act : (f : Profile) (line k : ℕ) (block : Name) → IsThread f k
-    → StaysSameWhere HasUsableBlocks f (Act.Operates (record { line = line; actor = k; what = Raw block }))
+pub raw_act : (f : Profile) (line k : ℕ) (block : Name) → IsThread f k → StaysSameWhere HasUsableBlocks f (asks line k (Raw block))
 raw_act f line k block is p p' w usable taken =
-    entry_any f k p p' w is taken.listed taken.valid taken.before taken.after taken.same usable taken.advances.0 taken.advances.1.1 taken.advances.2
-    (entry_of block) taken.advances.1.0
+    search (arith, entry_any)
 
 -- A free of a bare name with its room leads the text to the replay's state, whatever the thread's log holds.
-pub raw_sized_act : (f : Profile) (line k room : ℕ) (block : Name) → IsThread f k
-    → StaysSameWhere HasUsableBlocks f (Act.Operates (record { line = line; actor = k; what = RawSized room block }))
+pub raw_sized_act : (f : Profile) (line k room : ℕ) (block : Name) → IsThread f k → StaysSameWhere HasUsableBlocks f (asks line k (RawSized room block))
 raw_sized_act f line k room block is p p' w usable taken =
-    entry_any f k p p' w is taken.listed taken.valid taken.before taken.after taken.same usable taken.advances.0 taken.advances.1.1 taken.advances.2
-    (sized_entry block room) taken.advances.1.0
+    search (arith, entry_any)
 
 -- A free of a name of the trace leads the text to the replay's state, whatever the thread's log holds.
-pub free_act : (f : Profile) (line k name : ℕ) → IsThread f k
-    → StaysSameWhere HasUsableBlocks f (Act.Operates (record { line = line; actor = k; what = Free name }))
+pub free_act : (f : Profile) (line k name : ℕ) → IsThread f k → StaysSameWhere HasUsableBlocks f (asks line k (Free name))
 free_act f line k name is p p' w usable taken =
     name_any f k p p' w is taken.listed taken.valid taken.before taken.after taken.same usable taken.advances.0 taken.advances.1.1 taken.advances.2 name None
     taken.advances.1.0
 
 -- A free of a name of the trace with its room leads the text to the replay's state, whatever the log holds.
-pub free_sized_act : (f : Profile) (line k name room : ℕ) → IsThread f k
-    → StaysSameWhere HasUsableBlocks f (Act.Operates (record { line = line; actor = k; what = FreeSized name room }))
+pub free_sized_act : (f : Profile) (line k name room : ℕ) → IsThread f k → StaysSameWhere HasUsableBlocks f (asks line k (FreeSized name room))
 free_sized_act f line k name room is p p' w usable taken =
     name_any f k p p' w is taken.listed taken.valid taken.before taken.after taken.same usable taken.advances.0 taken.advances.1.1 taken.advances.2 name
     (Some room) taken.advances.1.0
@@ -259,7 +242,7 @@ named_same : (f : Profile) (k name : ℕ) (o : Option Block) (said : TheSaid) (p
     → IsSame f (after_with p k [] (Some said) (named name o ∷ p.names) (p.caches k)) (names_it name o (says (Record.Said k said) w))
 named_same f k name o said p w same =
     let to : IsSame f (after_with p k [] (Some said) p.names (p.caches k)) (says (Record.Said k said) w) = said_same f k said p w same in record {
-      pages = pages_next f p.list p.list w (names_it name o (says (Record.Said k said) w)) same.pages (unchanged p.list) (record { events = refl; live = refl; hinted = refl; locals = refl; guards = refl });
+      pages = pages_next f p.list p.list w _ same.pages (unchanged p.list) (record { events = refl; live = refl; hinted = refl; locals = refl; guards = refl });
       caches = to.caches;
       guards = to.guards;
       names = ap (λ (ns : List Named). named name o ∷ ns) same.names;

@@ -20,14 +20,10 @@ use Rattle.pas_same_text.proofs.{Tests.and_second}
 pub some_first : (xs : List ℕ) → some_of (take 1 xs) ≡ some_of xs
 some_first xs = grind arith
 
-some_next : (x : ℕ) (xs : List ℕ) (t any : Bool) → some_of xs ≡ any → some_of (if t then x ∷ xs else xs) ≡ (t || any)
-some_next x xs true any rest = refl
-some_next x xs false any rest = rest
-
 -- Some numbers of a list pass a test exactly where the filtered list has any.
 pub some_filtered : (test : ℕ → Bool) (xs : List ℕ) → some_of (filter test xs) ≡ list_any test xs
 some_filtered test [] = refl
-some_filtered test (x ∷ xs) = some_next x (filter test xs) (test x) (list_any test xs) (some_filtered test xs)
+some_filtered test (x ∷ xs) = let ih = some_filtered test xs in grind (arith, ih)
 
 -- the i-th of them
 pub next_place : (from step i : ℕ) → from + step + i * step ≡ from + suc i * step
@@ -38,7 +34,7 @@ pub in_spaced : (test : ℕ → Bool) (n from step i : ℕ) → i < n → test (
 in_spaced test zero from step i lt h = absurd (omega (arith, lt))
 in_spaced test (suc n) from step zero lt h = or_left (test from) (list_any test (spaced (from + step) step n)) (ap test (omega arith) ∙ h)
 in_spaced test (suc n) from step (suc i) lt h =
-    or_right (test from) (list_any test (spaced (from + step) step n)) (in_spaced test n (from + step) step i (omega (arith, lt)) (ap test (next_place from step i) ∙ h))
+    or_right (test from) _ (in_spaced test n _ step i (omega (arith, lt)) (ap test (next_place from step i) ∙ h))
 
 -- Where some spaced place passes a test, it is one of those at the step.
 pub from_spaced : (test : ℕ → Bool) (n from step : ℕ) → list_any test (spaced from step n) ≡ true → (i : ℕ) × (i < n) × (test (from + i * step) ≡ true)
@@ -51,15 +47,17 @@ from_spaced test (suc n) from step h = elim (or_cases (test from) (list_any test
 ]
 
 -- the first that passes, where the i-th does and none before it
+-- by the numbers of places before it, none of which passes
 pub first_spaced : (test : ℕ → Bool) (n from step i : ℕ) → i < n → test (from + i * step) ≡ true → ((j : ℕ) → j < i → test (from + j * step) ≡ false)
     → take 1 (filter test (spaced from step n)) ≡ (from + i * step) ∷ []
 first_spaced test zero from step i lt h before = absurd (omega (arith, lt))
 first_spaced test (suc n) from step zero lt h before =
-    ap (λ (t : Bool). take 1 (if t then from ∷ filter test (spaced (from + step) step n) else filter test (spaced (from + step) step n))) (ap test (omega arith) ∙ h)
-    ∙ ap (λ (x : ℕ). x ∷ []) (omega arith)
+    search arith
 first_spaced test (suc n) from step (suc i) lt h before =
-    ap (λ (t : Bool). take 1 (if t then from ∷ filter test (spaced (from + step) step n) else filter test (spaced (from + step) step n))) (ap test (omega arith) ∙ before 0 (omega arith))
-    ∙ (first_spaced test n (from + step) step i (omega (arith, lt)) (ap test (next_place from step i) ∙ h) (λ j small. ap test (next_place from step j) ∙ before (suc j) (omega (arith, small)))
+    ap (λ (t : Bool). take 1 (if t then from ∷ filter test (spaced (from + step) step n) else filter test (spaced (from + step) step n)))
+    (ap test (omega arith) ∙ before 0 (omega arith))
+    ∙ (first_spaced test n _ step i (omega (arith, lt)) (ap test (next_place from step i) ∙ h)
+    (λ j small. ap test (next_place from step j) ∙ before (suc j) (omega (arith, small)))
     ∙ ap (λ (x : ℕ). x ∷ []) (next_place from step i))
 
 -- ==== WHERE A BIT-FIT BLOCK FITS on a page: in the text exactly where it does by the free grains of the replay.
@@ -76,8 +74,8 @@ or_last x y z h hx hy = grind arith
 page_splits : (align : ℕ) → IsAlignment align → 256 / (align / 16) * (align / 16) ≡ 256
 page_splits align is =
     let low = is.0 in let high = is.1 in
-    eqb-true (256 / (align / 16) * (align / 16)) 256
-    (or_last (nat_lt align 16) (4096 % align == 0) (256 / (align / 16) * (align / 16) == 256) (passes_at splits 4097 align splits_all (omega (arith, high))) (grind (arith, low)) (eq-eqb (4096 % align) 0 is.2))
+    eqb-true _ 256
+    (or_last (nat_lt align 16) (4096 % align == 0) _ (passes_at splits 4097 align splits_all (omega (arith, high))) (grind (arith, low)) (eq-eqb _ 0 is.2))
 
 module _ (f : Profile) (p : Progress) (w : World) (valid : IsValid f) (between : IsBetween f p) (same : HasSame f p w) (room align : ℕ) (some : 1 ≤ room / 16)
     (is : IsAlignment align) where
@@ -102,14 +100,20 @@ module _ (f : Profile) (p : Progress) (w : World) (valid : IsValid f) (between :
       record {
         aligned = aligned;
         within = within;
-        free = λ g low high. sym (read_unless f p w valid between same page g (omega (arith, within, high)) none) ∙ each_at n s g (is_free w page) (and_second (nat_le (s + n) 256) (are_free w page s n) h) low high;
+        free =
+            λ g low high. cc (
+              read_unless f p w valid between same page g (omega (arith, within, high)) none,
+              each_at n s g
+                  (is_free w page) (and_second (nat_le (s + n) 256) (are_free w page s n) h) low high,
+            );
       }
 
   fits_test : (page s : ℕ) → Fits (run_for room align) (free_of_page p.list page) s → test page s ≡ true
   fits_test page s fits =
       let within = fits.within in
-      and_from (nat_le (s + n) 256) (are_free w page s n) (grind (arith, nat_tests, within))
-      (each_all n s (is_free w page) (λ b low high. read_unless f p w valid between same page b (omega (arith, high, within)) (fits_unguarded page s fits) ∙ fits.free b low high))
+      and_from _ _ (grind (arith, nat_tests, within))
+      (each_all n s (is_free w page)
+      (λ b low high. read_unless f p w valid between same page b (omega (arith, high, within)) (fits_unguarded page s fits) ∙ fits.free b low high))
 
   some_is : (page : ℕ) → some_of (lowest_place w n step page) ≡ list_any (test page) (spaced 0 step (256 / step))
   some_is page = some_first (filter (test page) (spaced 0 step (256 / step))) ∙ some_filtered (test page) (spaced 0 step (256 / step))
@@ -144,12 +148,15 @@ module _ (f : Profile) (p : Progress) (w : World) (valid : IsValid f) (between :
       let times : first / step * step ≡ first = let m = mod-add-div' first step in omega (arith, m, fits.aligned) in
       let whole : 256 / step * step ≡ 256 = page_splits align is in
       let lt : first / step < 256 / step = div_below first step (256 / step) (omega (arith, is.0)) (omega (arith, whole, fits.within, some)) in
-      first_spaced (test page) (256 / step) 0 step (first / step) lt (ap (test page) (omega (arith, times)) ∙ fits_test page first fits) (λ j small. lower j small times) ∙ ap (λ (x : ℕ). x ∷ []) (omega (arith, times))
+      first_spaced (test page) _ 0 step _ lt (ap (test page) (omega (arith, times)) ∙ fits_test page first fits) (λ j small. lower j small times)
+      ∙ ap (λ (x : ℕ). x ∷ []) (omega (arith, times))
     where
       lower : (j : ℕ) → j < first / step → first / step * step ≡ first → test page (0 + j * step) ≡ false
-      lower j small times = false_from_ne_true (test page (0 + j * step)) (λ h.
+      lower j small times = false_from_ne_true _ (λ h.
           let low = is.0 in
-          let this : Fits (run_for room align) (free_of_page p.list page) (0 + j * step) = test_fits page (0 + j * step) (fits_unguarded page first fits) (ap (λ (x : ℕ). x % step) (omega arith) ∙ mul-mod_left j step) h in
+          let this : Fits (run_for room align) (free_of_page p.list page) (0 + j * step) =
+          test_fits page _ (fits_unguarded page first fits) (ap (λ (x : ℕ). x % step) (omega arith) ∙ mul-mod_left j step) h in
           let next : suc j * step ≤ first / step * step = mul-le (suc j) step (first / step) step (omega (arith, small)) (omega arith) in
           let m = suc-mul j step in
-          lowest.lowest (0 + j * step) (omega (arith, next, m, times, low)) (record { aligned = this.aligned; within = this.within; free = λ b from to. more b (omega (arith, this.within, to)) (this.free b from to) }))
+          lowest.lowest (0 + j * step) (omega (arith, next, m, times, low))
+          (record { aligned = this.aligned; within = this.within; free = λ b from to. more b (omega (arith, this.within, to)) (this.free b from to) }))

@@ -1,38 +1,55 @@
--- A BIT-FIT REQUEST. One that is refused changes no page, and nothing fits in the text either.
-use Rattle.std.proofs.Common.{◌≡◌, ℕ, ◌+◌, ◌/◌, ◌<◌, ◌≤◌, false, ◌&&◌, List, ◌∷◌, ◌++◌, Option, None, Some, Result, Ok, Err, refl, ap, sym, ◌∙◌, subst, arith}
-use Rattle.std.proofs.lemmas.Bool.{false≢true, false_from_ne_true}
-use Rattle.std.specs.List.{find}
-use Rattle.pas_profile.specs.Profiles.{IsAdmitted, IsDirectoryOf}
+-- A BIT-FIT REQUEST. Where it is served, the page that was searched for gets a deed and memory where it has none, and the lowest place on it is given. One that is refused
+-- changes no page, and nothing fits in the text either.
+use Rattle.std.proofs.Common.{◌≡◌, ℕ, ◌+◌, ◌*◌, ◌/◌, ◌%◌, ◌<◌, ◌≤◌, ◌==◌, Bool, true, false, if◌then◌else◌, List, [], ◌∷◌, ◌++◌, None, Some, Result, Ok, inl}
+use Rattle.std.proofs.Common.{refl, ap, sym, ◌∙◌, subst, arith, true≢false, eq-eqb, ◌&&◌, Err}
+use Rattle.std.proofs.lemmas.Bool.{false_from_ne_true, false≢true}
+use Rattle.pas_bits.specs.Runs.{in_run}
+use Rattle.pas_bits.proofs.Runs.{to_run}
+use Rattle.pas_profile.specs.{Directories.deed_word_of, Profiles.IsAdmitted, Profiles.IsDirectoryOf}
 use Rattle.pas_profile.specs.Requests.{route_in, room_in, is_shared, kind_of_route, directory_for}
-use Rattle.pas_profile.specs.declared.{directory.Directory.Directory, directory.Route.Route, event.NoRoom.NoRoom, name.Block.Block, profile.Profile.Profile}
+use Rattle.pas_profile.specs.declared.{directory.Directory.Directory, directory.Route.Route, event.Event.Event, event.NoRoom.NoRoom, name.Block.Block}
+use Rattle.pas_profile.specs.declared.{profile.Profile.Profile}
 use Rattle.pas_machine.specs.State.{deed_in}
-use Rattle.pas_steps.specs.{Desks.triples, Evidence.Readings, Lists.Legal}
+use Rattle.pas_steps.specs.{Agreement.Agreed, Desks.triples, Events.events_by, Evidence.Readings, Views.View, Views.has_right, Views.known_deed, Calls.Kept}
+use Rattle.pas_steps.specs.{Calls.Gained, Calls.now as has_now, Lists.part, Lists.Legal}
 use Rattle.pas_steps.specs.declared.step.Made.{Made}
-use Rattle.pas_core.specs.Fits.{HasNoFit}
-use Rattle.pas_bitfit.specs.{Allocates.run_for, Runs.NoneFits}
-use Rattle.pas_search.specs.{Kinds.AreSearch, Kinds.AreQuiet, Telling.IsTrueReason}
-use Rattle.pas_cache.specs.{Contents.Cached, Refusals.IsTrulyRefusedBy}
-use Rattle.pas_cache.specs.Serves.{ServesBitfit, IsTrueRefusal, no_fit_by, wanted_for}
-use Rattle.pas_cache.proofs.{Alone.truly_refused, Routes.bitfit_room}
-use Rattle.pas_trace.specs.{Acts.Act, EveryPlan.IsThread}
-use Rattle.pas_trace.specs.declared.plan.What.TheVariants.{Alloc}
-use Rattle.pas_answers.specs.Answers.{Progress, named, Answer, after_answer, said_of_room}
-use Rattle.pas_same_text.specs.{State.World, Pages.page_numbers, Pages.is_unowned, Pages.is_offered, Runs.bitfit_of, Runs.lowest_place, Runs.places}
-use Rattle.pas_same_text.specs.{Order.serves, Same.IsSame, Same.HasSame, Same.ArePagesSame, Acts.IsBetween, Acts.StaysSame, Searched.FitsSame}
-use Rattle.pas_same_text.specs.Searches.{some_of, page_or, refusal, refuses, searched}
-use Rattle.pas_same_text.proofs.{BitfitFits.bitfit_fits, BitfitGiven.bitfit_served, LoggedFrees.after_with, RefusedRequests.refused_to}
-use Rattle.pas_same_text.proofs.{RefusedRequests.refused_same, SearchedPages.find_none, Tests.and_first, Tests.and_second, Pieces.has_same}
-use Rattle.pas_same_text.proofs.RestingPages.{open_unguarded, had_open, owned_is, no_word}
+use Rattle.pas_steps.proofs.Parts.{part_of_own}
+use Rattle.pas_core.specs.{Rights.free_of_page, Fits.HasNoFit}
+use Rattle.pas_core.proofs.Nexts.{agreed_steps}
+use Rattle.pas_core.proofs.OneActor.{LendsNone, lends_none, legal_earlier, fit_entry}
+use Rattle.pas_rights.specs.Gives.{give_steps}
+use Rattle.pas_search.specs.{Kinds.searching, Searches.MaySearch, Allocates.IsGiven, Kinds.AreSearch, Kinds.AreQuiet, Telling.IsTrueReason}
+use Rattle.pas_bitfit.specs.Allocates.{run_for}
+use Rattle.pas_bitfit.specs.Runs.{Fits, NoneFits, IsLowestFit, fewer_runs, run_at, runs as run_choice}
+use Rattle.pas_cache.specs.{Contents.Cached, Locals.any_covers, Refusals.IsTrulyRefusedBy}
+use Rattle.pas_cache.specs.Serves.{ServesBitfit, wanted_for, IsTrueRefusal, no_fit_by}
+use Rattle.pas_cache.proofs.{Routes.bitfit_room, Routes.may_search_bitfit, Alone.truly_refused}
+use Rattle.pas_answers.specs.Answers.{Progress, named, Answer, after_answer, with_cache as with_cached, said_of_room}
+use Rattle.pas_same_text.specs.{State.World, Order.serves, Pages.is_unowned, Pages.is_offered, Acts.IsBetween, Searched.IsSearch, Acts.StaysSame}
+use Rattle.pas_same_text.specs.{Searched.FitsSame}
+use Rattle.pas_same_text.specs.Searches.{searched, readies, address_on, gives, some_of, refusal, refuses}
+use Rattle.pas_same_text.specs.Runs.{bitfit_of, lowest_place, gives_place, places}
+use Rattle.pas_same_text.specs.Same.{IsSame, HasSame, AreSameCaches, ArePagesSame}
+use Rattle.pas_same_text.proofs.{BitfitFits.bitfit_fits, BitfitFits.lowest_is, CacheLists.same_kept, LoggedFrees.after_with, SearchMarks.free_shown}
+use Rattle.pas_same_text.proofs.{CacheLists.kept_at, Pieces.has_same, ReadyPages.shown, ReadyPages.shown_rest, RefusedRequests.refused_same}
+use Rattle.pas_same_text.proofs.{SearchedPages.find_none, Tests.and_first, Tests.and_second, RefusedRequests.refused_to, LoggedFrees.asks}
+use Rattle.pas_same_text.proofs.GivenBlocks.{GivesBlock, page_chosen, page_ready, page_given}
 use Rattle.pas_same_text.proofs.Asked.{HasAsked, answer_reached, by_route, request_taken}
+use Rattle.pas_trace.specs.EveryPlan.{IsThread}
+use Rattle.pas_trace.specs.declared.plan.What.TheVariants.{Alloc}
+use Rattle.pas_same_text.proofs.RestingPages.{open_unguarded, had_open, owned_is, no_word}
 
 -- ---- where no page serves in the replay, none does in the text
 module _ (no_fit : Readings → Type 0) (f : Profile) (d : Directory) (p : Progress) (w : World) (fits : ℕ → List ℕ) (legal : Legal f p.list)
     (of : IsDirectoryOf f d) (pages : ArePagesSame f p.list w) (same : FitsSame no_fit f p w fits) (none : HasNoFit no_fit f d p.list) where
   unserved : (q : ℕ) → 1 ≤ q → q < 1 + f.pages → (is_offered w d q && some_of (fits q)) ≡ false
-  unserved q low high = false_from_ne_true (is_offered w d q && some_of (fits q)) (λ h. none.offered q record {
+  unserved q low high = false_from_ne_true _ (λ h. none.offered q record {
     of_region = (low, omega (arith, high));
     offered = sym (pages.offered q d of) ∙ and_first (is_offered w d q) (some_of (fits q)) h;
-    fits = λ unfit. false≢true (sym (same.none q (low, omega (arith, high)) (open_unguarded w d q (had_open w d q (and_first (is_offered w d q) (some_of (fits q)) h))) unfit) ∙ and_second (is_offered w d q) (some_of (fits q)) h);
+    fits =
+        λ unfit. false≢true
+        (sym (same.none q (low, omega (arith, high)) (open_unguarded w d q (had_open w d q (and_first (is_offered w d q) (some_of (fits q)) h))) unfit)
+        ∙ and_second (is_offered w d q) (some_of (fits q)) h);
   })
 
   owned : (q : ℕ) → 1 ≤ q → q < 1 + f.pages → is_unowned w q ≡ false
@@ -44,18 +61,22 @@ module _ (no_fit : Readings → Type 0) (f : Profile) (d : Directory) (p : Progr
   -- Where no page serves in the replay, the text's search refuses, with its own reason.
   pub none_searched : searched f w d fits ≡ Err (refusal f w d)
   none_searched =
-      ap (λ (o : Option ℕ). page_or o (page_or (find (is_unowned w) (page_numbers f)) (Err (refusal f w d)))) (find_none (λ q. is_offered w d q && some_of (fits q)) f.pages 1 unserved)
-      ∙ ap (λ (o : Option ℕ). page_or o (Err (refusal f w d))) (find_none (is_unowned w) f.pages 1 owned)
+      cc (find_none (λ q. is_offered w d q && some_of (fits q)) f.pages 1 unserved, find_none (is_unowned w) f.pages 1 owned)
 
--- ---- the act
-module _ (f : Profile) (k name heap size align : ℕ) (p : Progress) (a : Answer) (w : World) (room : NoRoom)
-    (admitted : IsAdmitted f size align heap) (route : route_in f size align ≡ Route.Bitfit)
-    (asked : HasAsked f k (record { name = name; heap = heap; size = size; align = align }) p a w) (is : asked.served.answer ≡ Err room) where
+-- ---- ANY BIT-FIT REQUEST
+module _ (f : Profile) (k name heap size align : ℕ) (p : Progress) (a : Answer) (w : World) (admitted : IsAdmitted f size align heap)
+    (route : route_in f size align ≡ Route.Bitfit) (asked : HasAsked f k (record { name = name; heap = heap; size = size; align = align }) p a w) where
   abbrev c : Cached
   c = p.caches k
 
+  abbrev own : View
+  own = part k p.list
+
   abbrev bytes : ℕ
   bytes = room_in f size align
+
+  abbrev n : ℕ
+  n = bytes / 16
 
   abbrev d : Directory
   d = bitfit_of heap
@@ -66,59 +87,197 @@ module _ (f : Profile) (k name heap size align : ℕ) (p : Progress) (a : Answer
   of : IsDirectoryOf f d
   of = record { heap = admitted.of_profile; kind = tt; class = tt }
 
-  bitfit : ServesBitfit f (wanted_for f heap size align) c a.cache a.steps (Err room)
-  bitfit = by_route asked (Err room) is Route.Bitfit route
+  sized : (16 ≤ bytes) × (bytes ≤ 2048) × (bytes % 16 ≡ 0)
+  sized = bitfit_room f.classes size align route
 
-  steps_are : a.steps ≡ bitfit.searched
-  steps_are = bitfit.steps_are ∙ ap (λ (ms : List Made). ms ++ bitfit.searched) bitfit.outcome.1
-
-  searches : AreSearch a.steps
-  searches = subst AreSearch (sym steps_are) bitfit.searches
-
-  quiet : AreQuiet a.steps
-  quiet = subst AreQuiet (sym steps_are) bitfit.outcome.0.quiet
-
-  to : after_answer p k a ≡ refused_to p k name a.steps room
-  to = answer_reached asked (Err room) is ∙ ap (λ (x : Cached). after_with p k a.steps (Some (said_of_room name room)) (named name None ∷ p.names) x) bitfit.cache
-
-  there : IsBetween f (refused_to p k name a.steps room)
-  there = subst (IsBetween f) to asked.after
-
-  -- nothing could serve before, and the reason is true after
-  truly : IsTrueRefusal f (wanted_for f heap size align) c.locals p.list (triples k a.steps ++ p.list) room
-  truly = subst (λ (r : Route). IsTrulyRefusedBy r f (wanted_for f heap size align) c.locals p.list (triples k a.steps ++ p.list) room) route
-      (truly_refused f heap size align k a.found c a.cache p.list a.steps room asked.valid admitted asked.served.rest there.legal (by_route asked (Err room) is (route_in f size align) refl))
-
-  reason : IsTrueReason f d (triples k a.steps ++ p.list) room
-  reason = subst (λ (e : Directory). IsTrueReason f e (triples k a.steps ++ p.list) room) home truly.reason
-
-  unfit : HasNoFit (NoneFits (run_for bytes align)) f d p.list
-  unfit = subst (λ (e : Directory). HasNoFit (NoneFits (run_for bytes align)) f e p.list) home (subst (λ (r : Route). HasNoFit (no_fit_by r bytes align) f (directory_for f heap size align) p.list) route truly.entry_fit)
+  some : 1 ≤ n
+  some = omega (arith, sized.0)
 
   old : HasSame f p w
   old = has_same asked.same
 
-  some : 1 ≤ bytes / 16
-  some = let low = (bitfit_room f.classes size align route).0 in omega (arith, low)
+  -- ---- ONE THAT IS SERVED
+  module _ (block : Block) (is : asked.served.answer ≡ Ok block) where
+    -- ---- the steps
+    bitfit : ServesBitfit f (wanted_for f heap size align) c a.cache a.steps (Ok block)
+    bitfit = by_route asked (Ok block) is Route.Bitfit route
 
-  found : searched f w d (lowest_place w (bytes / 16) (align / 16)) ≡ Err (refusal f w d)
-  found = none_searched (NoneFits (run_for bytes align)) f d p w (lowest_place w (bytes / 16) (align / 16)) asked.before.legal of asked.same.pages (bitfit_fits f p w asked.valid asked.before old bytes align some admitted.aligned) unfit
+    abbrev search : List Made
+    search = bitfit.searched
 
-  text : serves f k name heap (route_in f size align) bytes align w ≡ refuses k name (refusal f w d) w
-  text = ap (λ (r : Route). serves f k name heap r bytes align w) route ∙ ap (λ (r : Result ℕ NoRoom). places k name heap bytes align r w) found
+    given : IsGiven (run_choice (run_for bytes align)) (run_at (run_for bytes align)) f d search bitfit.after block
+    given = rw home at bitfit.outcome.0
 
-  bitfit_refused : IsSame f (after_answer p k a) (serves f k name heap (route_in f size align) bytes align w)
-  bitfit_refused =
-      subst (λ (x : World). IsSame f (after_answer p k a) x) (sym text)
-      (subst (λ (q : Progress). IsSame f q (refuses k name (refusal f w d) w)) (sym to) (refused_same f k name p w d a.steps room asked.valid asked.thread of asked.before there asked.same searches quiet reason))
+    abbrev gave : List Made
+    gave = give_steps given.page given.found block given.word given.answer
 
--- ---- ANY BIT-FIT REQUEST
-module _ (f : Profile) (k name heap size align : ℕ) (p : Progress) (a : Answer) (w : World) (admitted : IsAdmitted f size align heap)
-    (route : route_in f size align ≡ Route.Bitfit) (asked : HasAsked f k (record { name = name; heap = heap; size = size; align = align }) p a w) where
+    -- ---- the replay after them
+    abbrev q : Progress
+    q = after_with p k (bitfit.after ++ search) None (named name (Some block) ∷ p.names) c
+
+    to : after_answer p k a ≡ q
+    to =
+        answer_reached asked (Ok block) is
+        ∙ (ap (λ (x : Cached). after_with p k a.steps None (named name (Some block) ∷ p.names) x) bitfit.cache
+        ∙ ap (λ (ms : List Made). after_with p k ms None (named name (Some block) ∷ p.names) c) bitfit.steps_are)
+
+    there : IsBetween f q
+    there = subst (IsBetween f) to asked.after
+
+    legal : Legal f (triples k (bitfit.after ++ search) ++ p.list)
+    legal = there.legal
+
+    legal_search : Legal f (triples k search ++ p.list)
+    legal_search = legal_earlier f k bitfit.after search p.list legal
+
+    lends : LendsNone search
+    lends = lends_none searching refl search bitfit.searches.kinds
+
+    agreed : Agreed f own search
+    agreed = agreed_steps f k p.list search asked.valid legal_search
+
+    may : MaySearch d own
+    may = may_search_bitfit f own heap c.locals asked.served.rest.locals
+
+    -- ---- the block
+    abbrev lowest : IsLowestFit (run_for bytes align) given.served.serves.readings given.found
+    lowest = given.served.serves.chosen
+
+    within : given.found + n ≤ 256
+    within = lowest.this.within
+
+    abbrev es : List Event
+    es = events_by k own search
+
+    gives_it : GivesBlock f k p q w (bitfit.after ++ search) es block (address_on given.page given.found) bytes heap
+    gives_it = record {
+      valid = asked.valid;
+      same = asked.same;
+      there = there;
+      list = refl;
+      events_are = given.events k own;
+      address_is = omega (arith, given.address_is);
+      room_is = omega (arith, given.room_is, sized.2);
+      heap_is = ap (λ (b : Block). b.heap) given.block_is;
+    }
+
+    -- ---- what was free
+    read_free : (b : ℕ) → b < 256 → in_run given.found n b ≡ true → free_of_page p.list given.page b ≡ true
+    read_free b small kept = by_bit (free_of_page p.list given.page b) refl
+      where
+        fewer_bits : (r fewer : Readings) → ((x : ℕ) → x < 256 → fewer x ≡ true → r x ≡ true) → r b ≡ false → fewer b ≡ false
+        fewer_bits r fewer less none = false_from_ne_true (fewer b) (λ h. true≢false (sym (less b small h) ∙ none))
+
+        by_bit : (t : Bool) → free_of_page p.list given.page b ≡ t → t ≡ true
+        by_bit true e = refl
+        by_bit false e =
+            absurd (fit_entry (λ r. r b ≡ false) f k p.list given.page given.served.shows.readings search fewer_bits asked.valid legal_search lends
+            (λ none. true≢false (sym (given.served.shows.took b small kept) ∙ none)) given.served.shows.read
+            (given.served.shows.held.from own may agreed) e)
+
+    fits : Fits (run_for bytes align) (free_of_page p.list given.page) given.found
+    fits = record { aligned = lowest.this.aligned; within = within; free = λ g low high. read_free g (omega (arith, within, high)) (to_run given.found n g low high) }
+
+    more : (b : ℕ) → b < 256 → free_of_page p.list given.page b ≡ true → given.served.serves.readings b ≡ true
+    more b small free =
+        let bit : (given.page * 256 + b) % 64 ≡ b % 64 = omega arith in
+        free_shown f k p.list given.page b given.served.serves.readings search legal_search lends small (cc) (given.served.serves.read (b / 64) (omega (arith, small)))
+
+    place : lowest_place w n (align / 16) given.page ≡ given.found ∷ []
+    place = lowest_is f p w asked.valid asked.before old bytes align some admitted.aligned given.page given.found given.served.serves.readings lowest more fits
+
+    -- ---- the page
+    is_search : IsSearch (NoneFits (run_for bytes align)) f d k p search w (lowest_place w n (align / 16))
+    is_search = record {
+      valid = asked.valid;
+      directory = of;
+      fewer = fewer_runs (run_for bytes align);
+      legal = legal_search;
+      lends_none = lends;
+      rights = may.rights;
+      pages = asked.same.pages;
+      fits_same = bitfit_fits f p w asked.valid asked.before old bytes align some admitted.aligned;
+    }
+
+    found : searched f w d (lowest_place w n (align / 16)) ≡ Ok given.page
+    found = page_chosen is_search given.page given.served.page given.served.choice (λ none. none given.found fits)
+
+    -- ---- the text
+    abbrev v : World
+    v = gives k name heap (address_on given.page given.found) bytes (shown es w)
+
+    text : serves f k name heap (route_in f size align) bytes align w ≡ v
+    text =
+        ap (λ (r : Route). serves f k name heap r bytes align w) route
+        ∙ (ap (λ (r : Result ℕ NoRoom). places k name heap bytes align r w) found
+        ∙ (ap (λ (xs : List ℕ). gives_place k name heap bytes given.page xs (readies k d given.page w)) place
+        ∙ ap (λ (x : World). gives k name heap (address_on given.page given.found) bytes x)
+        (page_ready given.page given.found n name c d search bitfit.after gives_it given.served.events refl some within)))
+
+    -- ---- ALL: the page is left after the block was given
+    right : has_right (search ++ own) given.page ≡ true
+    right = (given.served.keeps.from own may agreed).keeps.does.right given.page
+        ∙ ap (λ (t : Bool). has_now (if t then Gained else Kept) (has_right own given.page)) (eq-eqb given.page given.page refl)
+
+    knows : known_deed (part k q.list) given.page ≡ deed_word_of d
+    knows = ap (λ (x : View). known_deed x given.page) (part_of_own k (bitfit.after ++ search) p.list)
+        ∙ (given.gave.from own may (agreed_steps f k p.list (bitfit.after ++ search) asked.valid legal)).deed
+
+    given_same : IsSame f q v
+    given_same = page_given given.page given.found n name c d search bitfit.after gives_it given.served.events refl some within true [] given.left gave given.leaves tt
+        (refl, (refl, tt)) given.after_is right knows bitfit.searches (shown es w).caches asked.before (given.served.marks own may agreed) tt
+        (subst (AreSameCaches f (with_cached p.caches k c)) (sym (shown_rest es w).caches) (same_kept f p.caches w.caches k asked.same.caches))
+        (λ j g h. inl (ap (λ (x : Cached). any_covers x.locals g) (kept_at p.caches j k (j == k) refl) ∙ h))
+
+    bitfit_served : IsSame f (after_answer p k a) (serves f k name heap (route_in f size align) bytes align w)
+    bitfit_served = subst (λ (x : World). IsSame f (after_answer p k a) x) (sym text) (subst (λ (y : Progress). IsSame f y v) (sym to) given_same)
+
+  -- ---- ONE THAT IS REFUSED
+  module _ (room : NoRoom) (is : asked.served.answer ≡ Err room) where
+    tried : ServesBitfit f (wanted_for f heap size align) c a.cache a.steps (Err room)
+    tried = by_route asked (Err room) is Route.Bitfit route
+
+    steps_are : a.steps ≡ tried.searched
+    steps_are = tried.steps_are ∙ ap (λ (ms : List Made). ms ++ tried.searched) tried.outcome.1
+
+    searches : AreSearch a.steps
+    searches = subst AreSearch (sym steps_are) tried.searches
+
+    quiet : AreQuiet a.steps
+    quiet = subst AreQuiet (sym steps_are) tried.outcome.0.quiet
+
+    refused_then : after_answer p k a ≡ refused_to p k name a.steps room
+    refused_then = answer_reached asked (Err room) is ∙ ap (λ (x : Cached). after_with p k a.steps (Some (said_of_room name room)) (named name None ∷ p.names) x) tried.cache
+
+    refused_there : IsBetween f (refused_to p k name a.steps room)
+    refused_there = subst (IsBetween f) refused_then asked.after
+
+    -- nothing could serve before, and the reason is true after
+    truly : IsTrueRefusal f (wanted_for f heap size align) c.locals p.list (triples k a.steps ++ p.list) room
+    truly = subst (λ (r : Route). IsTrulyRefusedBy r f (wanted_for f heap size align) c.locals p.list (triples k a.steps ++ p.list) room) route
+        (truly_refused f heap size align k a.found c a.cache p.list a.steps room asked.valid admitted asked.served.rest refused_there.legal (by_route asked (Err room) is _ refl))
+
+    reason : IsTrueReason f d (triples k a.steps ++ p.list) room
+    reason = subst (λ (e : Directory). IsTrueReason f e (triples k a.steps ++ p.list) room) home truly.reason
+
+    unfit : HasNoFit (NoneFits (run_for bytes align)) f d p.list
+    unfit = subst (λ (e : Directory). HasNoFit (NoneFits (run_for bytes align)) f e p.list) home
+        (subst (λ (r : Route). HasNoFit (no_fit_by r bytes align) f (directory_for f heap size align) p.list) route truly.entry_fit)
+
+    unfound : searched f w d (lowest_place w (bytes / 16) (align / 16)) ≡ Err (refusal f w d)
+    unfound = none_searched _ f d p w _ asked.before.legal of asked.same.pages (bitfit_fits f p w asked.valid asked.before old bytes align some admitted.aligned) unfit
+
+    refused_text : serves f k name heap (route_in f size align) bytes align w ≡ refuses k name (refusal f w d) w
+    refused_text = ap (λ (r : Route). serves f k name heap r bytes align w) route ∙ ap (λ (r : Result ℕ NoRoom). places k name heap bytes align r w) unfound
+
+    bitfit_refused : IsSame f (after_answer p k a) (serves f k name heap (route_in f size align) bytes align w)
+    bitfit_refused =
+        rw (refused_text, refused_then) (refused_same f k name p w d a.steps room asked.valid asked.thread of asked.before refused_there asked.same searches quiet reason)
+
   answered : (answer : Result Block NoRoom) → asked.served.answer ≡ answer
-      → IsSame f (after_answer p k a) (serves f k name heap (route_in f size align) (room_in f size align) align w)
-  answered (Ok block) is = bitfit_served f k name heap size align p a w block admitted route asked is
-  answered (Err room) is = bitfit_refused f k name heap size align p a w room admitted route asked is
+      → IsSame f (after_answer p k a) (serves f k name heap (route_in f size align) bytes align w)
+  answered (Ok block) is = bitfit_served block is
+  answered (Err room) is = bitfit_refused room is
 
   -- A bit-fit request, served or refused, leads the text to the replay's state.
   pub bitfit_answered : IsSame f (after_answer p k a) (serves f k name heap (route_in f size align) (room_in f size align) align w)
@@ -126,6 +285,6 @@ module _ (f : Profile) (k name heap size align : ℕ) (p : Progress) (a : Answer
 
 -- An operation that makes a bit-fit request leads the text from the replay's state to the replay's state.
 pub bitfit_same : (f : Profile) (line k name heap size align : ℕ) → IsThread f k → IsAdmitted f size align heap → route_in f size align ≡ Route.Bitfit
-    → StaysSame f (Act.Operates (record { line = line; actor = k; what = Alloc name heap size align }))
+    → StaysSame f (asks line k (Alloc name heap size align))
 bitfit_same f line k name heap size align thread admitted route p p' w taken =
     request_taken f line k name heap size align thread p p' w taken (bitfit_answered f k name heap size align p taken.advances.0 w admitted route)

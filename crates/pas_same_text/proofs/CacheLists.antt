@@ -1,8 +1,9 @@
 -- Local allocators of a cache, in the text and in a replay: one is looked up, taken out, put at the end, and gives its lowest slot.
+use Rattle.std.proofs.lemmas.{Bool.Decides.nat_tests, Option.same_Some, Option.none-some, List.flat_map_more, Grind.reverse_onto}
 use Rattle.std.proofs.Common.{◌≡◌, ℕ, ◌<◌, ◌==◌, Bool, true, false, not, ◌&&◌, ◌||◌, if◌then◌else◌, List, [], ◌∷◌, ◌++◌, Option, Some, inl, inr, refl, ap, sym}
-use Rattle.std.proofs.Common.{◌∙◌, subst, arith, eq-eqb, eqb-true, ne_eqb, suc, ◌-◌, ◌≤◌, ◌≢◌, length}
+use Rattle.std.proofs.Common.{◌∙◌, subst, arith, eq-eqb, eqb-true, ne_eqb, ◌-◌, ◌≤◌, ◌≢◌, length, None, append-nil, append_assoc, length-append, nat_lt}
+use Rattle.std.proofs.Common.{option_to_list, reverse, suc, take, zero}
 use Rattle.std.proofs.lemmas.Bool.{eqb-false, false≢true, or_cases, or_left, false_from_ne_true}
-use Rattle.std.proofs.lemmas.Option.{same_Some, none-some}
 use Rattle.std.specs.List.{AllByRecursion, find, flat_map}
 use Rattle.pas_bits.specs.Masks.{is_set, IsLowestSet}
 use Rattle.pas_segregated.specs.declared.slots.Slots.{Slots}
@@ -13,6 +14,8 @@ use Rattle.pas_same_text.specs.Same.{IsSameLocal, AreSameLocals, has_number, IsR
 use Rattle.pas_profile.specs.declared.profile.Profile.{Profile}
 use Rattle.pas_trace.specs.EveryPlan.{IsThread}
 use Rattle.pas_answers.specs.Answers.{Caches, with_cache as with_cached}
+use Rattle.pas_free_log.specs.Flushes.{Settled, noted_after, noted_for}
+use Rattle.pas_free_log.specs.declared.noting.EndedRun.{EndedRun}
 
 -- ---- looked up
 pub for_same : (heap class : ℕ) (s : Slots) (l : Local) → IsSameLocal s l → is_for heap class l ≡ is_for_slots heap class s
@@ -35,14 +38,13 @@ found_same heap class [] [] s same is = absurd (none-some s is)
 found_same heap class [] (l ∷ locals) s same is = absurd same
 found_same heap class (x ∷ slots) [] s same is = absurd same
 found_same heap class (x ∷ slots) (y ∷ locals) s same is =
-    subst (λ (t : Bool). Finds s (if t then Some y else find (is_for heap class) locals)) (sym (for_same heap class x y same.0))
-    (found_one s x y (local_for heap class slots) (find (is_for heap class) locals) (is_for_slots heap class x) same.0 (found_same heap class slots locals s same.1) is)
+    let ih = found_same heap class slots locals s same.1 in search (arith, for_same, found_one, ih)
 
 -- ---- taken out
+-- by cases: it is taken out on both sides or on neither
 other_one : (x : Slots) (y : Local) (xs : List Slots) (ys : List Local) (t : Bool) → IsSameLocal x y → AreSameLocals xs ys
     → AreSameLocals (if not t then x ∷ xs else xs) (if not t then y ∷ ys else ys)
-other_one x y xs ys true same rest = rest
-other_one x y xs ys false same rest = (same, rest)
+other_one x y xs ys t same rest = search arith
 
 -- The local allocators of other heaps and classes are the same in the text and in the replay.
 pub others_same : (heap class : ℕ) (slots : List Slots) (locals : List Local) → AreSameLocals slots locals
@@ -51,8 +53,7 @@ others_same heap class [] [] same = tt
 others_same heap class [] (l ∷ locals) same = absurd same
 others_same heap class (x ∷ slots) [] same = absurd same
 others_same heap class (x ∷ slots) (y ∷ locals) same =
-    subst (λ (t : Bool). AreSameLocals (others_than heap class (x ∷ slots)) (if not t then y ∷ others heap class locals else others heap class locals)) (sym (for_same heap class x y same.0))
-    (other_one x y (others_than heap class slots) (others heap class locals) (is_for_slots heap class x) same.0 (others_same heap class slots locals same.1))
+    let ih = others_same heap class slots locals same.1 in search (arith, for_same, other_one, ih)
 
 -- ---- put at the end
 pub last_same : (slots : List Slots) (locals : List Local) (s : Slots) (l : Local) → AreSameLocals slots locals → IsSameLocal s l
@@ -65,10 +66,7 @@ last_same (x ∷ slots) (y ∷ locals) s l same one = (same.0, last_same slots l
 -- ---- the lowest slot
 above : (n g : ℕ) (more : List ℕ) → AllByRecursion (λ m. n < m) more → has_number more g ≡ true → n < g
 above n g [] all h = absurd (false≢true h)
-above n g (m ∷ more) all h = elim (or_cases (m == g) (has_number more g) h) [
-  | inl here ↦ let is : m ≡ g = eqb-true m g here in let lt : n < m = all.0 in omega (arith, is, lt)
-  | inr later ↦ above n g more all.1 later
-]
+above n g (m ∷ more) all h = let ih = above n g more all.1 in search (arith, or_cases, eqb-true, ih)
 
 first_here : (n : ℕ) (more : List ℕ) → has_number (n ∷ more) n ≡ true
 first_here n more = or_left (n == n) (has_number more n) (eq-eqb n n refl)
@@ -87,7 +85,7 @@ rest_at : (n g : ℕ) (more : List ℕ) (t : Bool) → (n == g) ≡ t → AllByR
     → has_number more g ≡ (not (g == n) && (t || has_number more g))
 rest_at n g more true e all =
     let is : n ≡ g = eqb-true n g e in
-    let none : has_number more g ≡ false = false_from_ne_true (has_number more g) (λ h. let lt : n < g = above n g more all h in absurd (omega (arith, is, lt))) in
+    let none : has_number more g ≡ false = false_from_ne_true _ (λ h. let lt : n < g = above n g more all h in absurd (omega (arith, is, lt))) in
     none ∙ ap (λ (t : Bool). not t && (true || has_number more g)) (sym (eq-eqb g n (sym is)))
 rest_at n g more false e all = search (arith, eqb-false, ne_eqb)
 
@@ -112,53 +110,27 @@ slot_given s s' l n start more same is lowest without =
 abbrev pub all_locals : List Cache → List Local
 all_locals cs = flat_map (λ c. c.locals) cs
 
-many_at : (c : Cache) (cs : List Cache) (k : ℕ) (new : Cache) (t : Bool) → length (with_cache cs (k - 1) new) ≡ length cs
-    → length (if t then new ∷ cs else c ∷ with_cache cs (k - 1) new) ≡ suc (length cs)
-many_at c cs k new true e = refl
-many_at c cs k new false e = ap suc e
-
 -- A list of caches is as long as before once one of them became another.
 pub many_with : (cs : List Cache) (k : ℕ) (new : Cache) → length (with_cache cs k new) ≡ length cs
 many_with [] k new = refl
-many_with (c ∷ cs) k new = many_at c cs k new (k == 1) (many_with cs (k - 1) new)
+many_with (c ∷ cs) k new = let ih = many_with cs (k - 1) new in grind (arith, ih)
 
 -- ---- the one that changed
-own_at : (c : Cache) (cs : List Cache) (k : ℕ) (new : Cache) (t : Bool) → (k == 1) ≡ t → (t ≡ false → cache_in (with_cache cs (k - 1) new) (k - 1) ≡ new)
-    → cache_in (if t then new ∷ cs else c ∷ with_cache cs (k - 1) new) k ≡ new
-own_at c cs k new true e more = ap (λ (t : Bool). if t then new else cache_in cs (k - 1)) e
-own_at c cs k new false e more = ap (λ (t : Bool). if t then c else cache_in (with_cache cs (k - 1) new) (k - 1)) e ∙ more refl
-
 -- The cache that was put in a thread's place is what is found there.
 pub own_with : (cs : List Cache) (k : ℕ) (new : Cache) → 1 ≤ k → k ≤ length cs → cache_in (with_cache cs k new) k ≡ new
 own_with [] k new some few = absurd (omega arith)
-own_with (c ∷ cs) k new some few = own_at c cs k new (k == 1) refl (λ e.
-    let ne : k ≢ 1 = eqb-false k 1 e in
-    own_with cs (k - 1) new (omega arith) (omega arith))
+own_with (c ∷ cs) k new some few = let ih = own_with cs (k - 1) new in grind (arith, nat_tests, ih)
 
 -- ---- the others
-other_at : (c : Cache) (cs : List Cache) (j k : ℕ) (new : Cache) (t u : Bool) → (k == 1) ≡ t → (j == 1) ≡ u → j ≢ k
-    → (u ≡ false → t ≡ false → cache_in (with_cache cs (k - 1) new) (j - 1) ≡ cache_in cs (j - 1))
-    → cache_in (if t then new ∷ cs else c ∷ with_cache cs (k - 1) new) j ≡ (if u then c else cache_in cs (j - 1))
-other_at c cs j k new t u e h ne more = search (arith, eqb-true)
-
 other_with : (cs : List Cache) (j k : ℕ) (new : Cache) → 1 ≤ j → 1 ≤ k → j ≢ k → cache_in (with_cache cs k new) j ≡ cache_in cs j
 other_with [] j k new one some ne = refl
-other_with (c ∷ cs) j k new one some ne = other_at c cs j k new (k == 1) (j == 1) refl refl ne (λ h e.
-    let jn : j ≢ 1 = eqb-false j 1 h in
-    let kn : k ≢ 1 = eqb-false k 1 e in
-    other_with cs (j - 1) (k - 1) new (omega arith) (omega arith) (λ same. ne (omega (arith, same))))
+other_with (c ∷ cs) j k new one some ne = let ih = other_with cs (j - 1) (k - 1) new in grind (arith, nat_tests, ih)
 
 -- ---- local allocators stay where those of the new cache are those of the old one
-locals_at : (c : Cache) (cs : List Cache) (k : ℕ) (new : Cache) (t : Bool) → (k == 1) ≡ t → new.locals ≡ (if t then c else cache_in cs (k - 1)).locals
-    → (new.locals ≡ (cache_in cs (k - 1)).locals → all_locals (with_cache cs (k - 1) new) ≡ all_locals cs)
-    → all_locals (if t then new ∷ cs else c ∷ with_cache cs (k - 1) new) ≡ c.locals ++ all_locals cs
-locals_at c cs k new true e is more = ap (λ (ls : List Local). ls ++ all_locals cs) is
-locals_at c cs k new false e is more = ap (λ (ls : List Local). c.locals ++ ls) (more is)
-
 -- A cache with the same local allocators in a thread's place leaves the local allocators of all caches as they were.
 pub locals_with : (cs : List Cache) (k : ℕ) (new : Cache) → new.locals ≡ (cache_in cs k).locals → all_locals (with_cache cs k new) ≡ all_locals cs
 locals_with [] k new is = refl
-locals_with (c ∷ cs) k new is = locals_at c cs k new (k == 1) refl is (locals_with cs (k - 1) new)
+locals_with (c ∷ cs) k new is = let ih = locals_with cs (k - 1) new in grind (arith, ih)
 
 -- ---- the caches of a replay, of which one becomes another too
 pub same_own : (caches : Caches) (k : ℕ) (c : Cached) → with_cached caches k c k ≡ c
@@ -170,8 +142,7 @@ same_other caches j k c ne = ap (λ (b : Bool). if b then c else caches j) (ne_e
 each_with : (f : Profile) (caches : Caches) (own : List Cache) (j k : ℕ) (c : Cached) (new : Cache) → IsThread f j → IsThread f k → k ≤ length own
     → AreSameCaches f caches own → IsSameCache c new → (t : Bool) → (j == k) ≡ t
     → IsSameCache (with_cached caches k c j) (cache_in (with_cache own k new) j)
-each_with f caches own j k c new is of listed same new_same true e = search (arith, same_own, own_with, eqb-true)
-each_with f caches own j k c new is of listed same new_same false e = search (arith, eqb-false, same_other, other_with)
+each_with f caches own j k c new is of listed same new_same t e = search (arith, same_own, own_with, eqb-true, eqb-false, same_other, other_with)
 
 -- The text's caches are the replay's again after one thread's cache changed to the same on both sides.
 pub same_with : (f : Profile) (caches : Caches) (own : List Cache) (k : ℕ) (c : Cached) (new : Cache) → IsThread f k → k ≤ length own
@@ -198,12 +169,47 @@ pub same_again : (f : Profile) (caches : Caches) (own : List Cache) (k : ℕ) (c
     → AreSameCaches f (with_cached caches k d) own
 same_again f caches own k c d same = search (arith, again_at)
 
--- what is there is put there again
-with_at : (c : Cache) (cs : List Cache) (k : ℕ) (t : Bool) → (k == 1) ≡ t → (t ≡ false → with_cache cs (k - 1) (cache_in cs (k - 1)) ≡ cs)
-    → with_cache (c ∷ cs) k (if t then c else cache_in cs (k - 1)) ≡ c ∷ cs
-with_at c cs k t e more = grind arith
-
 -- A list of caches in which a thread's own cache is put back is the same list.
 pub with_own : (cs : List Cache) (k : ℕ) → with_cache cs k (cache_in cs k) ≡ cs
 with_own [] k = refl
-with_own (c ∷ cs) k = with_at c cs k (k == 1) refl (λ e. with_own cs (k - 1))
+with_own (c ∷ cs) k = let ih = with_own cs (k - 1) in grind (arith, ih)
+
+-- ==== WHAT A CACHE NOTES of the runs that ended.
+take_both : {A : Type 0} (k : ℕ) (xs ys : List A) → take k xs ++ take (k - length (take k xs)) ys ≡ take k (xs ++ ys)
+take_both zero xs ys = refl
+take_both (suc k) [] ys = ap (λ n. take n ys) {y = suc k} (omega arith)
+take_both (suc k) (x ∷ xs) ys = ap (λ n. x ∷ take k xs ++ take n ys) (omega arith) ∙ ap (λ zs. x ∷ zs) (take_both k xs ys)
+
+-- The runs that were noted for one entry more are those before and its own, as far as there is room.
+pub noted_more : (es : List EndedRun) (s : Settled) (settled : List Settled)
+    → noted_after es (s ∷ settled) ≡ noted_after es settled ++ take (64 - length (noted_after es settled)) (noted_for s)
+noted_more es s settled =
+    let xs : List EndedRun = flat_map noted_for (reverse settled) in
+    let n : ℕ = 64 - length es in
+    ap (λ (ys : List EndedRun). es ++ take n ys) (ap (flat_map noted_for) (reverse_onto settled s []) ∙ sym (flat_map_more noted_for [] (reverse settled) s))
+    ∙ (ap (λ (ys : List EndedRun). es ++ ys) (sym (take_both n xs (noted_for s)))
+    ∙ (sym (append_assoc es (take n xs) (take (n - length (take n xs)) (noted_for s)))
+    ∙ ap (λ (m : ℕ). (es ++ take n xs) ++ take m (noted_for s)) (omega (arith, length-append es (take n xs)))))
+
+-- Of no things none are taken.
+-- by cases on the number
+pub take_none : {A : Type 0} (n : ℕ) → take {A = A} n [] ≡ []
+take_none n = grind arith
+
+-- Without an entry the noted runs are as they were.
+pub noted_start : (es : List EndedRun) → noted_after es [] ≡ es
+noted_start es = ap (λ (xs : List EndedRun). es ++ xs) (take_none (64 - length es)) ∙ append-nil es
+
+-- At most one run is noted where there is room, and none where there is none.
+pub room_for : (noted : List EndedRun) (o : Option EndedRun) (t : Bool) → nat_lt (length noted) 64 ≡ t
+    → (if t then noted ++ option_to_list o else noted) ≡ noted ++ take (64 - length noted) (option_to_list o)
+room_for noted None true e = ap (λ (xs : List EndedRun). noted ++ xs) (sym (take_none (64 - length noted)))
+room_for noted (Some run) true e = let lt : length noted < 64 = grind (arith, nat_tests, e) in one (64 - length noted) (omega (arith, lt))
+  where
+    one : (n : ℕ) → 1 ≤ n → noted ++ run ∷ [] ≡ noted ++ take n (run ∷ [])
+    one zero some = absurd (omega (arith, some))
+    one (suc n) some = ap (λ (xs : List EndedRun). noted ++ run ∷ xs) (sym (take_none n))
+room_for noted o false e =
+    let le : 64 ≤ length noted = grind (arith, nat_tests, e) in
+    let none : 64 - length noted ≡ 0 = omega (arith, le) in
+    sym (ap (λ (n : ℕ). noted ++ take n (option_to_list o)) none ∙ append-nil noted)

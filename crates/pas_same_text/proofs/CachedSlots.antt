@@ -1,6 +1,6 @@
 -- A request of a class for which the thread's cache has a slot.
-use Rattle.std.proofs.Common.{◌≤◌, length, ◌≡◌, ℕ, ◌+◌, ◌*◌, ◌<◌, ◌==◌, Bool, true, not, ◌&&◌, if◌then◌else◌, List, [], ◌∷◌, ◌++◌, Option, None, Some, Result}
-use Rattle.std.proofs.Common.{Ok, Err, refl, ap, sym, ◌∙◌, subst, arith, eqb-true}
+use Rattle.std.proofs.Common.{◌≤◌, length, ◌≡◌, ℕ, ◌+◌, ◌*◌, ◌<◌, ◌==◌, Bool, true, not, ◌&&◌, if◌then◌else◌, List, [], ◌∷◌, ◌++◌, None, Some, Result, Ok, refl}
+use Rattle.std.proofs.Common.{ap, sym, ◌∙◌, subst, arith, eqb-true}
 use Rattle.std.proofs.lemmas.{Bool.false≢true, Option.none-some}
 use Rattle.std.specs.List.{find}
 use Rattle.pas_bits.specs.Masks.{HasMember, IsLowestSet}
@@ -18,7 +18,7 @@ use Rattle.pas_cache.specs.{Changes.GivesSlot, Changes.IsWithoutSlot, Changes.Is
 use Rattle.pas_cache.specs.{Locals.is_for as is_for_slots}
 use Rattle.pas_cache.specs.Serves.{ServesClass, IsObtained, IsAnswered, filling_in}
 use Rattle.pas_report.specs.declared.record.Record.{Record}
-use Rattle.pas_trace.specs.{EveryPlan.IsThread, Acts.Act}
+use Rattle.pas_trace.specs.EveryPlan.{IsThread}
 use Rattle.pas_trace.specs.declared.plan.What.TheVariants.{Alloc}
 use Rattle.pas_answers.specs.Answers.{Progress, Named, named, Answer, having, IsServed, after_answer}
 use Rattle.pas_same_text.specs.State.{Local, World, cache_of, locals_of}
@@ -28,7 +28,7 @@ use Rattle.pas_same_text.specs.{Searches.address_on, Order.serves, Acts.IsBetwee
 use Rattle.pas_same_text.specs.Same.{IsSame, HasSame, IsSameCache, IsSameLocal, AreSameLocals, has_number}
 use Rattle.pas_same_text.proofs.CacheLists.{same_with, Finds, found_same, others_same, last_same, slot_given}
 use Rattle.pas_same_text.proofs.{FreeGrains.free_same, GivenBack.each_same, LoggedFrees.after_with, SmallActs.records_next, Tests.and_first, Tests.and_second}
-use Rattle.pas_same_text.proofs.{Asked.HasAsked, Asked.by_route, Asked.request_taken}
+use Rattle.pas_same_text.proofs.{Asked.HasAsked, Asked.by_route, Asked.request_taken, LoggedFrees.asks}
 use Rattle.pas_same_text.proofs.RestingPages.{is_open, had_open, bit_offered, offered_bit}
 use Rattle.pas_steps.proofs.Sets.{same_truth}
 
@@ -43,13 +43,11 @@ abbrev pub block_of : ℕ → ℕ → ℕ → ℕ → Block
 block_of address turn room heap = record { name = record { address = record { 0 = address }; turn = turn }; room = room; heap = heap }
 
 -- A block is known by its address, its turn, its room and its heap.
+-- by its four parts
 pub block_same : (block : Block) (address turn room heap : ℕ) → address_of block.name ≡ address → block.name.turn ≡ turn → block.room ≡ room → block.heap ≡ heap
     → block ≡ block_of address turn room heap
 block_same block address turn room heap a t r h =
-    ap (λ (x : ℕ). block_of x block.name.turn block.room block.heap) a
-    ∙ (ap (λ (x : ℕ). block_of address x block.room block.heap) t
-    ∙ (ap (λ (x : ℕ). block_of address turn x block.heap) r
-    ∙ ap (λ (x : ℕ). block_of address turn room x) h))
+    search arith
 
 -- ---- the two steps
 abbrev give_steps : Block → ℕ → ℕ → ℕ → ℕ → List Made
@@ -67,7 +65,8 @@ abbrev pub text_locals : World → ℕ → Local → List ℕ → List Local
 text_locals w k l more = others l.heap l.class (locals_of w k) ++ record l { slots = more } ∷ []
 
 -- ---- one slot is given
-pub record Given (f : Profile) (k name : ℕ) (p : Progress) (w : World) (s s' : Slots) (l : Local) (n : ℕ) (more : List ℕ) (block : Block) (answer page start word : ℕ) (c' : Cached) : Type 0 where
+pub record Given (f : Profile) (k name : ℕ) (p : Progress) (w : World) (s s' : Slots) (l : Local)
+    (n : ℕ) (more : List ℕ) (block : Block) (answer page start word : ℕ) (c' : Cached) : Type 0 where
   valid : IsValid f
   thread : IsThread f k
   listed : k ≤ length w.caches
@@ -130,9 +129,9 @@ module _ (f : Profile) (k name : ℕ) (p : Progress) (w : World) (s s' : Slots) 
 
   offered_kept : (q : ℕ) (d : Directory) → IsDirectoryOf f d
       → is_offered to d q ≡ eligible_bit (given_to p k name block answer page start word c').list (number_of d) q
-  offered_kept q d of = same_truth (is_offered to d q) (eligible_bit (given_to p k name block answer page start word c').list (number_of d) q)
+  offered_kept q d of = same_truth _ _
       (offered_bit f (given_to p k name block answer page start word c') to g.valid g.after has_same q d of)
-      (λ h. bit_offered f (given_to p k name block answer page start word c') to g.valid g.after has_same q d of h (open_kept d q ∙ had_open w d q (g.same.pages.offered q d of ∙ h)))
+      (λ h. bit_offered f _ to g.valid g.after has_same q d of h (open_kept d q ∙ had_open w d q (g.same.pages.offered q d of ∙ h)))
 
   given_same : IsSame f (given_to p k name block answer page start word c') to
   given_same = record {
@@ -140,7 +139,8 @@ module _ (f : Profile) (k name : ℕ) (p : Progress) (w : World) (s s' : Slots) 
     caches = has_same.caches;
     guards = g.same.guards;
     names = ap (λ (b : Block). named name (Some b) ∷ w.names) (sym block_is) ∙ ap (λ (ns : List Named). named name (Some block) ∷ ns) g.same.names;
-    records = ap (λ (b : Block). p.records ++ Record.Event (Event.Give k b) ∷ []) block_is ∙ records_next p.records w.records (Record.Event (Event.Give k (text_block w l n))) g.same.records;
+    records = ap (λ (b : Block). p.records ++ Record.Event (Event.Give k b) ∷ []) block_is
+        ∙ records_next p.records w.records (Record.Event (Event.Give k (text_block w l n))) g.same.records;
     epoch = g.same.epoch;
     read = g.same.read;
   }
@@ -157,15 +157,10 @@ pub head_of : (xs : List ℕ) (x : ℕ) → has_number xs x ≡ true → HasHead
 head_of [] x h = absurd (false≢true h)
 head_of (n ∷ more) x h = record { head = n; more = more; is = refl }
 
--- what is found passes the test
-found_at : (heap class : ℕ) (x s : Slots) (rest : Option Slots) (t : Bool) → is_for_slots heap class x ≡ t → (rest ≡ Some s → is_for_slots heap class s ≡ true)
-    → (if t then Some x else rest) ≡ Some s → is_for_slots heap class s ≡ true
-found_at heap class x s rest t e later same = grind arith
-
 -- The local allocator that is found for a heap and class passes the test for them.
 pub found_passes : (heap class : ℕ) (slots : List Slots) (s : Slots) → local_for heap class slots ≡ Some s → is_for_slots heap class s ≡ true
 found_passes heap class [] s is = absurd (none-some s is)
-found_passes heap class (x ∷ slots) s is = found_at heap class x s (local_for heap class slots) (is_for_slots heap class x) refl (found_passes heap class slots s) is
+found_passes heap class (x ∷ slots) s is = let ih = found_passes heap class slots s in grind (arith, ih)
 
 -- what the text does where it finds a local allocator with a slot
 served_text : (f : Profile) (k name heap class : ℕ) (w : World) (l : Local) (n : ℕ) (more : List ℕ) → find (is_for heap class) (locals_of w k) ≡ Some l
@@ -187,7 +182,7 @@ to_given : (f : Profile) (k name heap class : ℕ) (p p' : Progress) (w : World)
     → IsBetween f p' → IsSame f p w → local_for heap class (p.caches k).locals ≡ Some s → HasMember s.starts
     → Served f k name heap class p p' w s → IsSame f p' (serves_class f k name heap class w)
 to_given f k name heap class p p' w s valid is listed between after same there member o =
-    let found : Finds s (find (is_for heap class) (locals_of w k)) = found_same heap class (p.caches k).locals (locals_of w k) s (same.caches.each k is).locals there in
+    let found : Finds s (find (is_for heap class) (locals_of w k)) = found_same heap class _ _ s (same.caches.each k is).locals there in
     let l : Local = found.local in
     let h : HasHead l.slots = head_of l.slots member.0 (found.same.slots member.0 ∙ member.2) in
     let passes : is_for_slots heap class s ≡ true = found_passes heap class (p.caches k).locals s there in
@@ -218,22 +213,18 @@ record Ends (fewer locals' : List Slots) (given : List Made) (slots : Slots) (an
   locals : locals' ≡ fewer ++ rest ∷ []
   is : answer ≡ Ok block
 
+-- by cases on the answer, of which one is false
 ends_of : (fewer locals' : List Slots) (given : List Made) (found : Result Slots NoRoom) (answer : Result Block NoRoom) (slots : Slots) → found ≡ Ok slots
     → IsAnswered fewer locals' given found answer → Ends fewer locals' given slots answer
-ends_of fewer locals' given found (Ok block) slots is e =
-    let x : IsAnswered fewer locals' given (Ok slots) (Ok block) = subst (λ (r : Result Slots NoRoom). IsAnswered fewer locals' given r (Ok block)) is e in
-    record { block = block; rest = x.0; gives = x.1; locals = x.2; is = refl }
-ends_of fewer locals' given found (Err room) slots is e = absurd (subst (λ (r : Result Slots NoRoom). IsAnswered fewer locals' given r (Err room)) is e)
+ends_of fewer locals' given found answer slots is e = search arith
 
 module _ (f : Profile) (k name heap size align class : ℕ) (p p' : Progress) (w : World) (s : Slots) (there : local_for heap class (p.caches k).locals ≡ Some s)
     (member : HasMember s.starts)
-    (a : Answer) (served : IsServed f k (record { name = name; heap = heap; size = size; align = align }) (having p.names (part k p.list) (p.caches k)) a) (reached : p' ≡ after_answer p k a) where
+    (a : Answer) (served : IsServed f k (record { name = name; heap = heap; size = size; align = align }) (having p.names (part k p.list) (p.caches k)) a)
+    (reached : p' ≡ after_answer p k a) where
+  -- one option has one value
   same_slots : (slots : Slots) → local_for heap class (p.caches k).locals ≡ Some slots → slots ≡ s
-  same_slots slots is = ap or_else (sym is ∙ there)
-    where
-      or_else : Option Slots → Slots
-      or_else None = slots
-      or_else (Some x) = x
+  same_slots slots is = search arith
 
   served_by : (sv : ServesClass (filling_in (directory_for f heap size align) class) f (p.caches k) a.cache a.steps served.answer)
       → IsObtained (filling_in (directory_for f heap size align) class) f (p.caches k).locals sv.locals.fewer sv.locals.before sv.locals.found
@@ -246,13 +237,15 @@ pub cached_answered : (f : Profile) (k name heap size align class : ℕ) (p : Pr
     → HasAsked f k (record { name = name; heap = heap; size = size; align = align }) p a w
     → IsSame f (after_answer p k a) (serves f k name heap (route_in f size align) (room_in f size align) align w)
 cached_answered f k name heap size align class p a w listed route has asked =
-    let sv : ServesClass (filling_in (directory_for f heap size align) class) f (p.caches k) a.cache a.steps asked.served.answer = by_route asked asked.served.answer refl (Route.Class class) route in
-    let o : Served f k name heap class p (after_answer p k a) w has.0 = served_by f k name heap size align class p (after_answer p k a) w has.0 has.1 has.2 a asked.served refl sv sv.locals.obtained in
+    let sv : ServesClass (filling_in (directory_for f heap size align) class) f (p.caches k) a.cache a.steps asked.served.answer =
+    by_route asked asked.served.answer refl (Route.Class class) route in
+    let o : Served f k name heap class p (after_answer p k a) w has.0 =
+    served_by f k name heap size align class p _ w has.0 has.1 has.2 a asked.served refl sv sv.locals.obtained in
     subst (λ (r : Route). IsSame f (after_answer p k a) (serves f k name heap r (room_in f size align) align w)) (sym route)
-    (to_given f k name heap class p (after_answer p k a) w has.0 asked.valid asked.thread listed asked.before asked.after asked.same has.1 has.2 o)
+    (to_given f k name heap class p _ w has.0 asked.valid asked.thread listed asked.before asked.after asked.same has.1 has.2 o)
 
 -- A request of a class for which the cache has a slot leads the text to the replay's state.
 pub cached_same : (f : Profile) (line k name heap size align class : ℕ) → IsThread f k → route_in f size align ≡ Route.Class class
-    → StaysSameWhere (HasCachedSlot heap class k) f (Act.Operates (record { line = line; actor = k; what = Alloc name heap size align }))
+    → StaysSameWhere (HasCachedSlot heap class k) f (asks line k (Alloc name heap size align))
 cached_same f line k name heap size align class is route p p' w has taken =
     request_taken f line k name heap size align is p p' w taken (cached_answered f k name heap size align class p taken.advances.0 w taken.listed route has)

@@ -1,6 +1,6 @@
 -- WHETHER A SLOT OF A CLASS FITS on a page: in the text exactly where it does by the free grains of the replay.
 use Rattle.std.proofs.Common.{◌≡◌, ℕ, ◌+◌, ◌*◌, ◌/◌, ◌<◌, ◌≤◌, Bool, true, false, List, refl, ap, sym, ◌∙◌, arith, true≢false, eq-eqb}
-use Rattle.std.proofs.{lemmas.Bool.false_from_ne_true, lemmas.Nat.div_below, lemmas.Nat.mul-le, Math.Nat.mul-mod_left, Math.Nat.mod-add-div', Math.Nat.suc-mul}
+use Rattle.std.proofs.{lemmas.Bool.false_from_ne_true, lemmas.Nat.div_below, Math.Nat.mod-add-div'}
 use Rattle.std.specs.List.{list_any}
 use Rattle.pas_profile.specs.Classes.{IsClass, class_grains, slots_of, IsSlotStart}
 use Rattle.pas_profile.specs.Profiles.{IsValid}
@@ -40,12 +40,10 @@ module _ (f : Profile) (p : Progress) (w : World) (valid : IsValid f) (between :
   some_is shared page = some_slots shared w class page ∙ some_filtered (test page) (spaced 0 step (slots_of class))
 
   -- a slot of the list is one of the class, and the other way round
+  -- a multiple of the step that ends within the slots
   pub slot_there : (i : ℕ) → i < slots_of class → IsSlotStart class (i * step)
   slot_there i lt =
-      let one = suc-mul i step in
-      let most = mul-le (i + 1) step (slots_of class) step (omega (arith, lt)) (omega arith) in
-      let next : (i + 1) * step ≡ i * step + step = ap (λ (x : ℕ). x * step) (omega arith) ∙ (one ∙ omega arith) in
-      record { aligned = mul-mod_left i step; within = omega (arith, most, next) }
+      search arith
 
   -- The start of a slot is a number of whole steps of its class, below the number of slots.
   pub slot_index : (s : ℕ) → IsSlotStart class s → (i : ℕ) × (i < slots_of class) × (i * step ≡ s)

@@ -3,30 +3,24 @@
 use Rattle.std.proofs.Common.{length, ◌≡◌, ℕ, ◌+◌, ◌*◌, ◌/◌, ◌%◌, ◌<◌, ◌≤◌, ◌==◌, Bool, true, false, not, if◌then◌else◌, List, [], ◌∷◌, ◌++◌, None, Some}
 use Rattle.std.proofs.Common.{Result, Ok, ◌⊎◌, inl, inr, refl, ap, sym, ◌∙◌, subst, append_assoc, arith, append-nil, true≢false, eq-eqb, eqb-true}
 use Rattle.std.proofs.lemmas.{Bool.false≢true, Bool.or_cases, Bool.not-false, List.Folds.list_any-append}
-use Rattle.pas_bits.specs.{Masks.is_set, Runs.in_run}
-use Rattle.pas_profile.specs.{Blocks.address_of, Blocks.grain_of, Blocks.length_of, Classes.class_size, Classes.class_grains, Classes.IsSlotStart}
-use Rattle.pas_profile.specs.{Directories.deed_word_of, Requests.class_home, Requests.is_shared, Requests.kind_of_class}
+use Rattle.pas_bits.specs.Masks.{is_set}
+use Rattle.pas_profile.specs.{Blocks.address_of, Classes.class_size, Classes.class_grains, Classes.IsSlotStart, Directories.deed_word_of, Requests.class_home}
+use Rattle.pas_profile.specs.{Requests.is_shared, Requests.kind_of_class}
 use Rattle.pas_profile.specs.declared.{directory.Directory.Directory, event.Event.Event, event.NoRoom.NoRoom, name.Block.Block, profile.Profile.Profile}
-use Rattle.pas_profile.specs.declared.{word.Word.Word}
 use Rattle.pas_profile.proofs.ClassFacts.{class_grains_positive, usable_grains_le, slot_end}
-use Rattle.pas_machine.specs.State.{deed_in}
 use Rattle.pas_steps.specs.{Agreement.Agreed, Desks.triples, Events.events_by, Evidence.ShowsHere, Past.Once, Past.Always, Views.View, Views.has_right}
-use Rattle.pas_steps.specs.{Views.known_deed}
+use Rattle.pas_steps.specs.{Views.known_deed, Lists.Whole, Lists.part, Lists.Legal}
 use Rattle.pas_steps.specs.Calls.{Kept, Gained, Lost, now as has_now}
 use Rattle.pas_steps.specs.Kinds.{Only, Giving, LookLife, returning}
-use Rattle.pas_steps.specs.Lists.{Whole, part, word_after, Legal}
 use Rattle.pas_steps.specs.declared.step.Made.{Made}
-use Rattle.pas_steps.proofs.{Adding.triples_append, Frames.right_of_own, Parts.part_of_own}
-use Rattle.pas_steps.proofs.Apart.{only_both, only_within, deeds_same, events_same}
+use Rattle.pas_steps.proofs.{Frames.right_of_own, Parts.part_of_own, Apart.deeds_same, Apart.events_same}
 use Rattle.pas_core.specs.Rights.{free_of_page}
 use Rattle.pas_core.proofs.{Nexts.agreed_steps, OneActor.LendsNone, OneActor.lends_none, OneActor.legal_earlier}
 use Rattle.pas_search.specs.{Kinds.KeepsMarks, Kinds.searching, Searches.MaySearch}
 use Rattle.pas_segregated.specs.{Masks.start_of, Refills.GivesSlots, Refills.GetsSlots, Stops.LeavesWhere, Takes.NoSlot, Takes.fewer_slots}
 use Rattle.pas_segregated.specs.declared.slots.Slots.{Slots}
-use Rattle.pas_cache.specs.{Changes.GivesSlot, Contents.Cached, Kinds.allocating, Serves.filling_in, Serves.took_in, Serves.IsRefill, Locals.any_covers}
-use Rattle.pas_cache.specs.{Locals.covers}
-use Rattle.pas_report.specs.declared.record.Record.{Record}
-use Rattle.pas_answers.specs.Answers.{Progress, named, records_of}
+use Rattle.pas_cache.specs.{Changes.GivesSlot, Contents.Cached, Serves.filling_in, Serves.took_in, Serves.IsRefill, Locals.any_covers, Locals.covers}
+use Rattle.pas_answers.specs.Answers.{Progress, named}
 use Rattle.pas_same_text.specs.State.{Cache, World, Local, cache_of, locals_of}
 use Rattle.pas_partial.specs.Rows.{IsFreeSlot}
 use Rattle.pas_same_text.specs.{Pages.is_guarded, Acts.IsBetween, Searched.IsSearch}
@@ -34,17 +28,11 @@ use Rattle.pas_same_text.specs.Searches.{some_of, searched, readies, address_on}
 use Rattle.pas_same_text.specs.Classes.{others, slots_for, gives_first, local_on, takes_page, fetches}
 use Rattle.pas_same_text.specs.Same.{IsSame, HasSame, IsSameCache, IsSameLocal, AreSameLocals, AreSameCaches, has_number}
 use Rattle.pas_same_text.proofs.{ClassFits.class_fits, ClassFits.read_unguarded, FetchedClasses.HasPlace, FetchedClasses.may_fetch}
-use Rattle.pas_same_text.proofs.{FetchedClasses.keeps_unshared, LoggedFrees.after_with, MadePlace.all_left, TakenSince.shared_row, Holders.guards_as}
-use Rattle.pas_same_text.proofs.{SearchedPages.offered_chosen, SearchedPages.deed_chosen, TakenSince.right_kept, TakenSince.exclusive_free}
-use Rattle.pas_same_text.proofs.{TakenSlots.all_taken, TakenSlots.row_taken, TakenSlots.slots_rise, Tests.and_first, Tests.or_none, RestingPages.word_known}
-use Rattle.pas_same_text.proofs.{CachedSlots.text_locals, CachedSlots.HasHead, CachedSlots.head_of, Pieces.UsesOnly, Pieces.has_same}
+use Rattle.pas_same_text.proofs.{FetchedClasses.keeps_unshared, LoggedFrees.after_with, MadePlace.all_left, TakenSince.shared_row, TakenSince.right_kept}
+use Rattle.pas_same_text.proofs.{TakenSince.exclusive_free, TakenSlots.all_taken, TakenSlots.row_taken, TakenSlots.slots_rise, Tests.and_first, Tests.or_none}
+use Rattle.pas_same_text.proofs.{CachedSlots.text_locals, CachedSlots.HasHead, CachedSlots.head_of, Pieces.has_same, ReadyPages.shown, ReadyPages.shown_rest}
+use Rattle.pas_same_text.proofs.GivenBlocks.{GivesBlock, page_chosen, page_ready, page_given}
 use Rattle.pas_same_text.proofs.CacheLists.{same_with, others_same, last_same, slot_given}
-use Rattle.pas_same_text.proofs.LeftPages.{LeftAll, IsInUse, LeavesBehind, leaving, rest_leaves}
-use Rattle.pas_same_text.proofs.ReadyPages.{AllAtPage, shown, shown_events, shown_rest, search_at, given_ready}
-use Rattle.std.specs.List.{AllByRecursion}
-use Rattle.pas_same_text.proofs.GivenBlocks.{GivesBlock, at_ready, block_uses, epoch_now, events_now, give_admitted, live_now, names_now, only_block}
-use Rattle.pas_same_text.proofs.GivenBlocks.{records_now, page_served}
-use Rattle.pas_bits.proofs.Runs.{run_of, to_run}
 
 -- the replay after the block was given of slots that were fetched, of which these are left
 abbrev pub fetched_to : Progress → ℕ → ℕ → List Made → Slots → Block → Progress
@@ -75,23 +63,20 @@ module _ (f : Profile) (k name heap class : ℕ) (p : Progress) (w : World) (has
   got : GivesSlots (filling_in d class) f search refill.after slots
   got = refill.outcome
 
+  abbrev steps : List Made
+  steps = (given ++ refill.after) ++ search
+
   abbrev q : Progress
-  q = fetched_to p k name (given ++ ys) rest block
+  q = fetched_to p k name steps rest block
 
   abbrev base : Whole
   base = triples k search ++ p.list
 
-  steps_are : given ++ ys ≡ (given ++ refill.after) ++ search
+  steps_are : given ++ ys ≡ steps
   steps_are = ap (λ (ms : List Made). given ++ ms) refill.steps_are ∙ sym (append_assoc given refill.after search)
 
-  list_is : q.list ≡ triples k ((given ++ refill.after) ++ search) ++ p.list
-  list_is = ap (λ (ms : List Made). triples k ms ++ p.list) steps_are
-
-  list_back : q.list ≡ triples k (given ++ refill.after) ++ base
-  list_back = list_is ∙ sym (triples_append k (given ++ refill.after) search p.list)
-
-  legal : Legal f (triples k ((given ++ refill.after) ++ search) ++ p.list)
-  legal = subst (Legal f) list_is after.legal
+  there : IsBetween f q
+  there = subst (λ (ms : List Made). IsBetween f (fetched_to p k name ms rest block)) steps_are after
 
   legal_refill : Legal f (triples k (refill.after ++ search) ++ p.list)
   legal_refill = subst (λ (ms : List Made). Legal f (triples k ms ++ p.list)) refill.steps_are (legal_earlier f k given ys p.list after.legal)
@@ -140,7 +125,9 @@ module _ (f : Profile) (k name heap class : ℕ) (p : Progress) (w : World) (has
       read_unguarded f p w has.valid has.between old class has.known slots.page s (omega (arith, within, most, some)) (free.1 s (omega arith) (omega (arith, some)))
 
   unguarded_by : (t : Bool) → took_in (kind_of_class t class) class slots.page search slots.starts → is_guarded w slots.page ≡ false
-  unguarded_by false took = slot_unguarded gives.start ((exclusive_free f k p.list class slots.page search slots.starts legal_search refill.searches marks took gives.start).0 gives.lowest.set)
+  unguarded_by false took =
+      slot_unguarded gives.start
+      ((exclusive_free f k p.list class slots.page search slots.starts legal_search refill.searches marks took gives.start).0 gives.lowest.set)
   unguarded_by true took = let row = shared_row f k p.list class slots.page search slots.starts legal_search refill.searches took in slot_unguarded row.first row.free
 
   unguarded : is_guarded w slots.page ≡ false
@@ -148,8 +135,10 @@ module _ (f : Profile) (k name heap class : ℕ) (p : Progress) (w : World) (has
 
   taken_by : (t : Bool) → took_in (kind_of_class t class) class slots.page search slots.starts → (s : ℕ)
       → has_number (slots_for t w class slots.page) s ≡ is_set slots.starts s
-  taken_by false took = all_taken f p w has.valid has.between old class has.known slots.page slots.starts unguarded (exclusive_free f k p.list class slots.page search slots.starts legal_search refill.searches marks took)
-  taken_by true took = row_taken f p w has.valid has.between old class has.known slots.page slots.starts unguarded (shared_row f k p.list class slots.page search slots.starts legal_search refill.searches took)
+  taken_by false took = all_taken f p w has.valid has.between old class has.known slots.page slots.starts unguarded
+      (exclusive_free f k p.list class slots.page search slots.starts legal_search refill.searches marks took)
+  taken_by true took = row_taken f p w has.valid has.between old class has.known slots.page slots.starts unguarded
+      (shared_row f k p.list class slots.page search slots.starts legal_search refill.searches took)
 
   abbrev local : Local
   local = local_on f w heap class slots.page
@@ -190,29 +179,19 @@ module _ (f : Profile) (k name heap class : ℕ) (p : Progress) (w : World) (has
   fit none = true≢false (sym fits ∙ is_search.fits_same.none slots.page got.page unguarded none)
 
   found : searched f w d (slots_for shared w class) ≡ Ok slots.page
-  found = elim got.choice [
-    | inl from ↦ offered_chosen (NoSlot class) f d k p w (slots_for shared w class) search is_search slots.page got.page from fit
-    | inr by ↦ deed_chosen (NoSlot class) f d k p w (slots_for shared w class) slots.page got.page search is_search by
-  ]
+  found = page_chosen is_search slots.page got.page got.choice fit
 
   -- ---- events
   abbrev es : List Event
   es = events_by k own search
 
-  at : AllAtPage k d slots.page es
-  at = search_at k d slots.page own search got.events
-
   events_are : events_by k own (given ++ ys) ≡ Event.Give k block ∷ es
   events_are =
-      ap (λ (ms : List Made). events_by k own (ms ++ ys)) gives.steps_are
-      ∙ ap (λ (evs : List Event). Event.Give k block ∷ evs) (ap (events_by k own) refill.steps_are ∙ events_same returning refl k own refill.after search got.after_kinds)
+      cc (events_same returning refl k own refill.after search got.after_kinds)
 
   -- ---- the block
   some : 1 ≤ class_grains class
   some = class_grains_positive class has.known
-
-  small : gives.start < 256
-  small = gives.lowest.within
 
   address : address_of block.name ≡ address_on slots.page head.head
   address = omega (arith, gives.address, slot.0)
@@ -220,31 +199,22 @@ module _ (f : Profile) (k name heap class : ℕ) (p : Progress) (w : World) (has
   room : block.room ≡ class_size class
   room = gives.room ∙ ap class_size of_class
 
-  grain : grain_of block.name ≡ 256 * slots.page + gives.start
-  grain =
-      let whole : (slots.page * 4096 + gives.start * 16) / 16 ≡ 256 * slots.page + gives.start = omega arith in
-      ap (λ (x : ℕ). x / 16) gives.address ∙ whole
+  fits_page : head.head + class_grains class ≤ 256
+  fits_page =
+      let within = slot_end class gives.start has.known (subst (λ (x : ℕ). IsSlotStart x gives.start) of_class (got.starts gives.start gives.lowest.set)) in
+      omega (arith, slot.0, within)
 
-  long : length_of block ≡ class_grains class
-  long = ap (λ (x : ℕ). x / 16) room
-
-  covers_first : in_run (grain_of block.name) (length_of block) (256 * slots.page + gives.start) ≡ true
-  covers_first = to_run (grain_of block.name) (length_of block) (256 * slots.page + gives.start) (omega (arith, grain)) (omega (arith, grain, long, some))
-
-  gives_it : GivesBlock f k p q w ((given ++ refill.after) ++ search) es block (address_on slots.page head.head) (class_size class) heap
+  gives_it : GivesBlock f k p q w steps es block (address_on slots.page head.head) (class_size class) heap
   gives_it = record {
     valid = has.valid;
     same = has.same;
-    there = after;
-    list = list_is;
+    there = there;
+    list = refl;
     events_are = ap (events_by k own) (sym steps_are) ∙ events_are;
     address_is = address;
     room_is = room;
     heap_is = gives.heap ∙ of_heap;
   }
-
-  ready : readies k d slots.page w ≡ shown es w
-  ready = given_ready k d slots.page f es w k block gives.start at (give_admitted gives_it) small grain (omega (arith, long, some))
 
   -- ---- the text
   abbrev v : World
@@ -254,7 +224,7 @@ module _ (f : Profile) (k name heap class : ℕ) (p : Progress) (w : World) (has
   text =
       ap (λ (r : Result ℕ NoRoom). takes_page f k name heap class r w) found
       ∙ (ap (λ (xs : List ℕ). gives_first k name local xs (readies k d slots.page w)) head.is
-      ∙ ap (gives_first k name local (head.head ∷ head.more)) ready)
+      ∙ ap (gives_first k name local (head.head ∷ head.more)) (page_ready slots.page head.head _ name new d search _ gives_it got.events refl some fits_page))
 
   -- ---- the cache
   caches_shown : AreSameCaches f p.caches (shown es w).caches
@@ -264,57 +234,29 @@ module _ (f : Profile) (k name heap class : ℕ) (p : Progress) (w : World) (has
   listed_then = omega (arith, has.listed, ap (λ (cs : List Cache). length cs) (shown_rest es w).caches)
 
   locals_same : AreSameLocals new.locals (text_locals (shown es w) k local head.more)
-  locals_same = last_same c.locals (others heap class (locals_of (shown es w) k)) rest (record local { slots = head.more })
-      (subst (λ (ss : List Slots). AreSameLocals ss (others heap class (locals_of (shown es w) k))) (all_left heap class c.locals has.none) (others_same heap class c.locals (locals_of (shown es w) k) (caches_shown.each k has.thread).locals)) slot.1
+  locals_same = last_same c.locals _ rest (record local { slots = head.more })
+      (rw (all_left heap class c.locals has.none) at (others_same heap class c.locals _ (caches_shown.each k has.thread).locals)) slot.1
 
-  cache_same : IsSameCache new (record (cache_of (shown es w) k) { locals = text_locals (shown es w) k local head.more })
+  abbrev own_cache : Cache
+  own_cache = record (cache_of (shown es w) k) { locals = text_locals (shown es w) k local head.more }
+
+  cache_same : IsSameCache new own_cache
   cache_same = let was = caches_shown.each k has.thread in record { locals = locals_same; log = was.log; noted = was.noted; began = was.began }
 
-  same_now : HasSame f q v
-  same_now = record {
-    events = events_now gives_it;
-    live = live_now gives_it;
-    caches = same_with f p.caches (shown es w).caches k new (record (cache_of (shown es w) k) { locals = text_locals (shown es w) k local head.more }) has.thread
-        listed_then caches_shown cache_same;
-    guards = guards_as p.books w v (shown_rest es w).guards has.same.guards;
-  }
-
   -- ---- what was used: the page
-  abbrev mine : ℕ → Bool
-  mine x = slots.page == x
-
-  on_it : (x : ℕ) → mine x ≡ true → slots.page ≡ x
-  on_it x h = eqb-true slots.page x h
-
   cached_at : (j g : ℕ) (t : Bool) → (j == k) ≡ t → any_covers (if t then new else p.caches j).locals g ≡ true
-      → (any_covers (p.caches j).locals g ≡ true) ⊎ (mine (g / 256) ≡ true)
+      → (any_covers (p.caches j).locals g ≡ true) ⊎ ((slots.page == g / 256) ≡ true)
   cached_at j g true e h = elim (or_cases (any_covers c.locals g) (any_covers (rest ∷ []) g) (sym (list_any-append (λ s. covers s g) c.locals (rest ∷ [])) ∙ h)) [
     | inl was ↦ inl (ap (λ (i : ℕ). any_covers (p.caches i).locals g) (eqb-true j k e) ∙ was)
-    | inr own ↦ inr (ap (λ (x : ℕ). x == g / 256) slot.1.page ∙ and_first (rest.page == g / 256) (is_set rest.starts (start_of rest.class (g % 256))) (or_none (covers rest g) own))
+    | inr own ↦ inr (cc (and_first (rest.page == g / 256) (is_set rest.starts (start_of rest.class (g % 256))) (or_none (covers rest g) own)))
   ]
   cached_at j g false e h = inl h
 
-  fits_page : gives.start + class_grains class ≤ 256
-  fits_page = slot_end class gives.start has.known (subst (λ (x : ℕ). IsSlotStart x gives.start) of_class (got.starts gives.start gives.lowest.set))
-
-  within_page : (g : ℕ) → in_run (grain_of block.name) (length_of block) g ≡ true → mine (g / 256) ≡ true
-  within_page g h = let on = run_of (grain_of block.name) (length_of block) g h in eq-eqb slots.page (g / 256) (omega (arith, on.0, on.1, grain, long, fits_page))
-
-  uses : UsesOnly p q mine
-  uses = record { cached = λ j g h. cached_at j g (j == k) refl h; outer = λ j x h. inl h; live = only_block gives_it d mine mine (at_ready k d slots.page es at) within_page }
-
   -- ---- a shared page is left before the block is given, and an exclusive one is kept
-  left_order : (t : Bool) (xs : List Made) → LeavesWhere t slots.page d xs → LeftAll d (if t then slots.page ∷ [] else []) xs
-  left_order true xs leaves = (xs, [], leaves, refl, sym (append-nil xs))
-  left_order false xs none = none
-
-  left_page : (t : Bool) → AllByRecursion (λ x. mine x ≡ true) (if t then slots.page ∷ [] else [])
-  left_page true = (eq-eqb slots.page slots.page refl, tt)
-  left_page false = tt
-
   knows : known_deed (part k q.list) slots.page ≡ deed_word_of d
   knows =
-      ap (λ (u : View). known_deed u slots.page) (part_of_own k (given ++ ys) p.list ∙ (ap (λ (ms : List Made). (given ++ ms) ++ own) refill.steps_are ∙ append_assoc given (refill.after ++ search) own))
+      ap (λ (u : View). known_deed u slots.page) (part_of_own k steps p.list
+      ∙ (ap (λ (ms : List Made). ms ++ own) (append_assoc given refill.after search) ∙ append_assoc given (refill.after ++ search) own))
       ∙ (deeds_same (Giving ∷ LookLife ∷ []) refl slots.page given ((refill.after ++ search) ++ own) given_kinds ∙ gains.may_stop.deed)
 
   -- the search kept the right of a shared page
@@ -338,42 +280,16 @@ module _ (f : Profile) (k name heap class : ℕ) (p : Progress) (w : World) (has
       ∙ ap (λ (t : Bool). has_now (if t then Gained else Lost) (has_right own slots.page)) right))
   right_then false right = right_of_own slots.page search own (right_kept slots.page search marks (read_with_right shared (not-false shared (sym kept ∙ right)) got.took))
 
-  behind : LeavesBehind f k d q base (given ++ refill.after) mine
-  behind = record {
-    pages = if not slots.right then slots.page ∷ [] else [];
-    late = given;
-    left = refill.after;
-    gave = [];
-    order = left_order (not slots.right) refill.after got.leaves;
-    late_kinds = given_kinds;
-    gave_kinds = tt;
-    rest_is = ap (λ (ms : List Made). given ++ ms) (sym (append-nil refill.after));
-    among = left_page (not slots.right);
-    list = list_back;
-    right = λ x here. subst (λ (y : ℕ). has_right (part k base) y ≡ true) (on_it x here) (ap (λ (u : View). has_right u slots.page) (part_of_own k search p.list) ∙ right_then slots.right refl);
-    deeds = λ x here. subst (λ (y : ℕ). word_after q.list (Word.Deed y) ≡ deed_word_of d) (on_it x here) (word_known f q.list after.legal k slots.page d knows);
-    in_use = λ x here. subst (IsInUse q) (on_it x here) (block_uses gives_it slots.page gives.start small covers_first);
-  }
-
-  kinds : Only allocating ((given ++ refill.after) ++ search)
-  unfolding behind
-  kinds = only_both allocating (given ++ refill.after) search (only_within leaving allocating (given ++ refill.after) refl (rest_leaves d behind.pages given refill.after [] (given ++ refill.after) behind.order given_kinds tt behind.rest_is)) (only_within searching allocating search refl refill.searches.kinds)
-
   -- ---- ALL
   fetched_same : IsSame f q v
-  fetched_same = record {
-    pages = page_served slots.page gives_it has.between same_now refill.searches got.events marks uses behind kinds has.directory.kind
-        (λ x. ap (λ (xs : List Event). deed_in xs x) (shown_events es w)) (shown_rest es w).hinted;
-    caches = same_now.caches;
-    guards = same_now.guards;
-    names = names_now gives_it name;
-    records = ap (λ (rs : List Record). p.records ++ rs) (append-nil (records_of (events_by k own (given ++ ys))) ∙ ap (λ (ms : List Made). records_of (events_by k own ms)) steps_are) ∙ records_now gives_it;
-    epoch = epoch_now gives_it kinds;
-    read = (shown_rest es w).read ∙ has.same.read;
-  }
+  fetched_same = page_given slots.page head.head _ name new d search _ gives_it got.events refl some fits_page _ given refill.after []
+      got.leaves given_kinds tt (ap (λ (ms : List Made). given ++ ms) (sym (append-nil refill.after))) (right_then slots.right refl) knows refill.searches
+      _ has.between marks has.directory.kind
+      (same_with f p.caches _ k new own_cache has.thread listed_then caches_shown cache_same)
+      (λ j g h. cached_at j g (j == k) refl h)
 
-  fetch_given : IsSame f q (fetches f k name heap class w)
-  fetch_given = subst (IsSame f q) (sym text) fetched_same
+  fetch_given : IsSame f (fetched_to p k name (given ++ ys) rest block) (fetches f k name heap class w)
+  fetch_given = rw (steps_are, text) fetched_same
 
 -- THE FETCH IS SERVED as the text says
 pub fetch_served : (f : Profile) (k name heap class : ℕ) (p : Progress) (w : World) → HasPlace f k heap class p w
@@ -381,4 +297,5 @@ pub fetch_served : (f : Profile) (k name heap class : ℕ) (p : Progress) (w : W
     → IsRefill (filling_in (class_home f heap class) class) f searched (Ok slots) → GivesSlot slots rest block given
     → IsBetween f (fetched_to p k name (given ++ searched) rest block)
     → IsSame f (fetched_to p k name (given ++ searched) rest block) (fetches f k name heap class w)
-fetch_served f k name heap class p w has slots rest block searched given refill gives after = fetch_given f k name heap class p w has slots rest block searched given refill gives after
+fetch_served f k name heap class p w has slots rest block searched given refill gives after =
+    fetch_given f k name heap class p w has slots rest block searched given refill gives after

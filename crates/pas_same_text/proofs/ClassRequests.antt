@@ -6,17 +6,18 @@ use Rattle.pas_steps.specs.declared.step.Made.{Made}
 use Rattle.pas_segregated.specs.declared.slots.Slots.{Slots}
 use Rattle.pas_cache.specs.{Changes.GivesSlot, Contents.Cached}
 use Rattle.pas_cache.specs.Serves.{filling_in, IsObtained, IsAnswered, ServesClass}
-use Rattle.pas_trace.specs.{Acts.Act, EveryPlan.IsThread}
+use Rattle.pas_trace.specs.EveryPlan.{IsThread}
 use Rattle.pas_trace.specs.declared.plan.What.TheVariants.{Alloc}
 use Rattle.pas_answers.specs.Answers.{Progress, Named, named, Answer, after_answer}
 use Rattle.pas_same_text.specs.{State.World, Classes.fetches, Classes.serves_class, Order.serves, Same.IsSame, Acts.IsBetween, Acts.StaysSame}
 use Rattle.pas_same_text.proofs.{CacheLists.same_own, CachedSlots.cached_answered, ClassGiven.fetched_to, ClassGiven.fetch_served, LoggedFrees.after_with}
 use Rattle.pas_same_text.proofs.{OneUp.up_to, RefusedClasses.class_served_by, RefusedClasses.fetched_so, RefusedClasses.class_refused, Asked.HasAsked}
-use Rattle.pas_same_text.proofs.{Asked.answer_reached, Asked.request_taken}
+use Rattle.pas_same_text.proofs.{Asked.answer_reached, Asked.request_taken, LoggedFrees.asks}
 use Rattle.pas_same_text.proofs.FetchedClasses.{IsFetched, with_place, place_fetched, text_fetched, fetch_between, fetch_carried}
 
 module _ (f : Profile) (k name heap size align class : ℕ) (p : Progress) (a : Answer) (w : World) (listed : k ≤ length w.caches)
-    (admitted : IsAdmitted f size align heap) (route : route_in f size align ≡ Route.Class class) (asked : HasAsked f k (record { name = name; heap = heap; size = size; align = align }) p a w) where
+    (admitted : IsAdmitted f size align heap) (route : route_in f size align ≡ Route.Class class)
+    (asked : HasAsked f k (record { name = name; heap = heap; size = size; align = align }) p a w) where
   abbrev c : Cached
   c = p.caches k
 
@@ -93,6 +94,6 @@ module _ (f : Profile) (k name heap size align class : ℕ) (p : Progress) (a : 
 
 -- An operation that makes a request of a class leads the text from the replay's state to the replay's state.
 pub class_same : (f : Profile) (line k name heap size align class : ℕ) → IsThread f k → IsAdmitted f size align heap → route_in f size align ≡ Route.Class class
-    → StaysSame f (Act.Operates (record { line = line; actor = k; what = Alloc name heap size align }))
+    → StaysSame f (asks line k (Alloc name heap size align))
 class_same f line k name heap size align class thread admitted route p p' w taken =
     request_taken f line k name heap size align thread p p' w taken (class_answered f k name heap size align class p taken.advances.0 w taken.listed admitted route)

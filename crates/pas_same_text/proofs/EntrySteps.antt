@@ -1,13 +1,13 @@
 -- What follows a return of grains hints no page but one that it read as backed and empty.
 use Rattle.std.proofs.Common.{◌≡◌, ℕ, zero, suc, ◌<◌, true, Bool, List, [], ◌∷◌, ◌++◌, Option, None, Some, inl, inr, refl, ap, sym, subst, arith, true≢false}
-use Rattle.std.proofs.Common.{◌+◌, ◌*◌, ◌/◌, ◌%◌, ◌^◌, ◌≤◌, ◌==◌, nat_lt, false, not, ◌&&◌, if◌then◌else◌, ◌∙◌, eq-eqb}
-use Rattle.std.proofs.{lemmas.Bool.cases_eq, Math.Bool.and-false}
+use Rattle.std.proofs.Common.{◌+◌, ◌*◌, ◌/◌, ◌%◌, ◌^◌, ◌≤◌, ◌==◌, false, ◌&&◌, if◌then◌else◌, ◌∙◌, eq-eqb}
+use Rattle.std.proofs.lemmas.Bool.{cases_eq}
 use Rattle.pas_large.proofs.Left.{hints_both}
 use Rattle.pas_bits.proofs.{Words.full_bit, Runs.to_meet}
-use Rattle.pas_profile.specs.declared.{directory.Directory.Directory, word.Word.Word, event.Event.Event, event.Why.Why, name.Name.Name, profile.Profile.Profile}
+use Rattle.pas_profile.specs.declared.{directory.Directory.Directory, word.Word.Word, event.Event.Event, name.Name.Name, profile.Profile.Profile}
 use Rattle.pas_steps.specs.{Past.Always, Past.Since, Allowed.IsStepOf, Allowed.IsEndIn, Desks.made, Desks.triples, Effects.target, Effects.life_word_at}
 use Rattle.pas_steps.specs.{Events.event_of, Events.events_by, Events.with_event, Views.epoch_of, Views.or_zero}
-use Rattle.pas_steps.specs.Kinds.{LookFree, Unparking, Offering, Only, kind_of, is_in, LookDeed, Putting, Stamping, returning}
+use Rattle.pas_steps.specs.Kinds.{LookFree, Unparking, Offering, Only, kind_of, is_in, LookDeed, Putting, Stamping, returning, Kinds}
 use Rattle.pas_steps.specs.declared.step.{Made.Made, Step.TheVariants.Look, Step.TheVariants.Stamp}
 use Rattle.pas_rights.specs.Looks.{looks, looks_until, is_free, HintSteps, HintsWhere, ReadsAllFree, TakesNone, HintsEmpty}
 use Rattle.pas_rights.specs.{Returns.ReofferSteps, Returns.ReturnSteps, Words.ones}
@@ -17,7 +17,7 @@ use Rattle.pas_same_text.proofs.GivingBack.{hint_step, hints_none, IsMarked, mar
 use Rattle.pas_answers.proofs.Tidy.{first_page}
 use Rattle.pas_bits.specs.Runs.{meets_page}
 use Rattle.pas_profile.specs.{Blocks.address_of, Blocks.grain_of, Blocks.length_of, Directories.directory_read, Directories.deed_word_of, Lives.live_word}
-use Rattle.pas_profile.specs.{Lives.turn_of, Profiles.IsValid}
+use Rattle.pas_profile.specs.{Profiles.IsValid}
 use Rattle.pas_profile.proofs.Codecs.{read-deed_word_of, directory_from_profile}
 use Rattle.pas_machine.specs.State.{Live, live_in, deed_in, gives_in, ends_in}
 use Rattle.pas_steps.specs.Lists.{Whole, part, word_after, visible, Legal}
@@ -25,13 +25,13 @@ use Rattle.pas_steps.proofs.Apart.{only_both, only_within, epoch_same, events_sa
 use Rattle.pas_steps.proofs.{Calls.returns_are, Past.in_turn_always}
 use Rattle.pas_core.specs.Good.{IsLifeOf, IsLifeOfLive, word_of_deed}
 use Rattle.pas_core.proofs.{Deeds.deed_of, Deeds.directory_is_of, Lives.life_of, Lives.block_of_word, OneActor.legal_earlier}
-use Rattle.pas_free_log.specs.Endings.{guess_by, TriesBy, last_step, IsEndOf, reason_by, reason_for}
+use Rattle.pas_free_log.specs.Endings.{guess_by, TriesBy, last_step, IsEndOf, reason_for}
 use Rattle.pas_free_log.specs.Flushes.{Settled, EntrySteps, AfterEnd, event_for}
 use Rattle.pas_free_log.specs.{Frames.ending, Frames.putting_back, Logs.is_sized, Stamps.pages_from}
 use Rattle.pas_free_log.specs.Returns.{PageSteps, PagesSteps, RunSteps, first_on, count_on}
 use Rattle.pas_free_log.specs.declared.{ending.Outcome.Outcome, ending.Outcome.TheVariants.Ended, ending.Outcome.TheVariants.Refused, log.Entry.Entry}
 use Rattle.pas_free_log.proofs.OneEntry.{first_look, trying, AreIdle, idle_look, tries_idle, EndsWith, last_ends, last_refused, guess_is, not_ended, count_some}
-use Rattle.pas_same_text.specs.{Frees.is_other_room, Entries.IsEntryReason}
+use Rattle.pas_same_text.specs.Frees.{is_other_room}
 use Rattle.pas_same_text.proofs.Flushes.{visible_steps}
 
 read_earlier : (P Q : Made → Type 0) (ys xs : List Made) → Since (λ m before. P m) (λ m before. Q m) ys → Since (λ m before. P m) (λ m before. Q m) (ys ++ xs)
@@ -48,7 +48,7 @@ all_read page (suc n) word lt = elim (cases_eq word n) [
 
 until_read : (page : ℕ) (used : Option Used) → is_free used ≡ true → (xs : List Made) (word : ℕ) → word < 4
     → Since (ReadsAllFree page word) (TakesNone page) (looks_until page used ++ xs)
-until_read page None free xs word lt = read_earlier (λ n. ReadsAllFree page word n []) (λ n. TakesNone page n []) (looks page ones 4) xs (all_read page 4 word lt)
+until_read page None free xs word lt = search (arith, read_earlier, all_read)
 until_read page (Some used) free xs word lt = absurd (true≢false (sym free))
 
 hint_after : (page : ℕ) (steps xs : List Made) → HintSteps page steps → ((word : ℕ) → word < 4 → Since (ReadsAllFree page word) (TakesNone page) xs)
@@ -59,56 +59,58 @@ hints_where : (all_free : Bool) (page : ℕ) (steps xs : List Made) → HintsWhe
     → (all_free ≡ true → (word : ℕ) → word < 4 → Since (ReadsAllFree page word) (TakesNone page) xs) → Always HintsEmpty xs → Always HintsEmpty (steps ++ xs)
 hints_where all_free page steps xs h read rest = search (arith, hint_after)
 
+-- in either case the steps are written out
 reoffer_only : (page : ℕ) (d : Directory) (steps : List Made) → ReofferSteps page d steps → Only (Unparking ∷ Offering ∷ []) steps
-reoffer_only page d steps (inl h) = subst (Only (Unparking ∷ Offering ∷ [])) (sym h.2) (refl, tt)
-reoffer_only page d steps (inr h) = subst (Only (Unparking ∷ Offering ∷ [])) (sym h.3) (refl, (refl, tt))
+reoffer_only page d steps h = search arith
 
 -- What follows a return of grains hints no page but one that it read as backed and empty.
 pub return_hints : (page : ℕ) (d : Directory) (steps : List Made) → ReturnSteps page d steps → Always HintsEmpty steps
 return_hints page d steps h =
     let before = looks_until page h.used ++ h.first in
-    let rest = hints_both (looks_until page h.used) h.first (hints_none (LookFree ∷ []) (looks_until page h.used) refl (until_only page h.used)) (hints_none (Unparking ∷ Offering ∷ []) h.first refl (reoffer_only page d h.first h.reoffers)) in
-    subst (Always HintsEmpty) (sym h.steps_are) (hints_where (is_free h.used) page h.after before h.hints (λ free. until_read page h.used free h.first) rest)
+    let rest = hints_both _ h.first (hints_none (LookFree ∷ []) _ refl (until_only page h.used))
+    (hints_none (Unparking ∷ Offering ∷ []) h.first refl (reoffer_only page d h.first h.reoffers)) in
+    subst (Always HintsEmpty) (sym h.steps_are) (hints_where _ page h.after before h.hints (λ free. until_read page h.used free h.first) rest)
 
 -- ==== One logged free by its steps: the event that they make, the block that ended, and what is noted, marked and hinted.
 -- ---- the pages of a block that ended
-page_kinds : (g n : ℕ) (steps : List Made) → PageSteps g n steps → Only putting_back steps
-page_kinds g n steps h = subst (Only putting_back) (sym h.steps_are)
-    (only_both putting_back h.after (h.puts ++ (made (Stamp (g / 256)) h.stamped ∷ made (Look (Word.Deed (g / 256))) (deed_word_of h.directory) ∷ []))
-    (only_within returning putting_back h.after refl (returns_are (g / 256) h.after (return_returns (g / 256) h.directory h.after h.returns)))
-    (only_both putting_back h.puts (made (Stamp (g / 256)) h.stamped ∷ made (Look (Word.Deed (g / 256))) (deed_word_of h.directory) ∷ [])
-    (only_within (Putting ∷ []) putting_back h.puts refl (puts_kinds (g / 256) h.mask 4 h.puts h.order)) (refl, (refl, tt))))
+module _ (g n : ℕ) (steps : List Made) (h : PageSteps g n steps) where
+  -- the grains are put back before the page is returned
+  abbrev put : List Made
+  put = h.puts ++ (made (Stamp (g / 256)) h.stamped ∷ made (Look (Word.Deed (g / 256))) (deed_word_of h.directory) ∷ [])
+
+  abbrev puts : Kinds
+  puts = Putting ∷ Stamping ∷ LookDeed ∷ []
+
+  put_kinds : Only puts put
+  put_kinds = only_both puts h.puts _ (only_within (Putting ∷ []) puts h.puts refl (puts_kinds (g / 256) h.mask 4 h.puts h.order)) (refl, (refl, tt))
+
+  page_kinds : Only putting_back steps
+  page_kinds = subst (Only putting_back) (sym h.steps_are) (only_both putting_back h.after put
+      (only_within returning putting_back h.after refl (returns_are (g / 256) h.after (return_returns (g / 256) h.directory h.after h.returns)))
+      (only_within puts putting_back put refl put_kinds))
+
+  page_hints : Always HintsEmpty steps
+  page_hints = subst (Always HintsEmpty) (sym h.steps_are)
+      (hints_both h.after put (return_hints (g / 256) h.directory h.after h.returns) (hints_none puts put refl put_kinds))
+
+  page_marks : (q : ℕ) → IsMarked q steps → g / 256 ≡ q
+  page_marks q marked = elim (marked_parts q h.after put (subst (IsMarked q) h.steps_are marked)) [
+    | inl first ↦ returns_marked (g / 256) q h.after (return_returns (g / 256) h.directory h.after h.returns) first
+    | inr later ↦ absurd (none_marked puts refl q put put_kinds later)
+  ]
 
 run_kinds : (k g n : ℕ) (steps : List Made) → PagesSteps k g n steps → Only putting_back steps
 run_kinds k g n steps h = in_turn_always (λ page piece. PageSteps (first_on g page) (count_on g n page) piece) (λ m. is_in putting_back (kind_of m.step) ≡ true)
     (λ page piece is. page_kinds (first_on g page) (count_on g n page) piece is) (pages_from (g / 256) k) steps h
 
-page_hints : (g n : ℕ) (steps : List Made) → PageSteps g n steps → Always HintsEmpty steps
-page_hints g n steps h = subst (Always HintsEmpty) (sym h.steps_are)
-    (hints_both h.after (h.puts ++ (made (Stamp (g / 256)) h.stamped ∷ made (Look (Word.Deed (g / 256))) (deed_word_of h.directory) ∷ []))
-    (return_hints (g / 256) h.directory h.after h.returns)
-    (hints_both h.puts (made (Stamp (g / 256)) h.stamped ∷ made (Look (Word.Deed (g / 256))) (deed_word_of h.directory) ∷ [])
-    (hints_none (Putting ∷ []) h.puts refl (puts_kinds (g / 256) h.mask 4 h.puts h.order))
-    (hints_none (Stamping ∷ LookDeed ∷ []) (made (Stamp (g / 256)) h.stamped ∷ made (Look (Word.Deed (g / 256))) (deed_word_of h.directory) ∷ []) refl (refl, (refl, tt)))))
-
 run_hints : (k g n : ℕ) (steps : List Made) → PagesSteps k g n steps → Always HintsEmpty steps
 run_hints zero g n steps h = subst (Always HintsEmpty) (sym h) tt
-run_hints (suc k) g n steps h = subst (Always HintsEmpty) (sym h.4) (hints_both h.0 h.1 (page_hints (first_on g (g / 256 + k)) (count_on g n (g / 256 + k)) h.0 h.2) (run_hints k g n h.1 h.3))
-
-page_marks : (g n q : ℕ) (steps : List Made) → PageSteps g n steps → IsMarked q steps → g / 256 ≡ q
-page_marks g n q steps h marked =
-    let rest : List Made = h.puts ++ (made (Stamp (g / 256)) h.stamped ∷ made (Look (Word.Deed (g / 256))) (deed_word_of h.directory) ∷ []) in
-    let others : Only (Putting ∷ Stamping ∷ LookDeed ∷ []) rest = only_both (Putting ∷ Stamping ∷ LookDeed ∷ []) h.puts (made (Stamp (g / 256)) h.stamped ∷ made (Look (Word.Deed (g / 256))) (deed_word_of h.directory) ∷ [])
-    (only_within (Putting ∷ []) (Putting ∷ Stamping ∷ LookDeed ∷ []) h.puts refl (puts_kinds (g / 256) h.mask 4 h.puts h.order)) (refl, (refl, tt)) in
-    elim (marked_parts q h.after rest (subst (IsMarked q) h.steps_are marked)) [
-      | inl first ↦ returns_marked (g / 256) q h.after (return_returns (g / 256) h.directory h.after h.returns) first
-      | inr later ↦ absurd (none_marked (Putting ∷ Stamping ∷ LookDeed ∷ []) refl q rest others later)
-    ]
+run_hints (suc k) g n steps h = subst (Always HintsEmpty) (sym h.4) (hints_both h.0 h.1 (page_hints _ _ h.0 h.2) (run_hints k g n h.1 h.3))
 
 run_marks : (k g n q : ℕ) (steps : List Made) → PagesSteps k g n steps → IsMarked q steps → (g / 256 ≤ q) × (q < g / 256 + k)
 run_marks zero g n q steps h marked = absurd (subst (IsMarked q) h marked)
 run_marks (suc k) g n q steps h marked = elim (marked_parts q h.0 h.1 (subst (IsMarked q) h.4 marked)) [
-  | inl first ↦ let at = sym (first_page g k) ∙ page_marks (first_on g (g / 256 + k)) (count_on g n (g / 256 + k)) q h.0 h.2 first in (omega (arith, at), omega (arith, at))
+  | inl first ↦ let at = sym (first_page g k) ∙ page_marks _ _ h.0 h.2 q first in (omega (arith, at), omega (arith, at))
   | inr later ↦ let rest = run_marks k g n q h.1 h.3 later in let low = rest.0 in (low, omega (arith, rest.1))
 ]
 
@@ -121,13 +123,13 @@ pub name_same : (a b : Name) → address_of a ≡ address_of b → a.turn ≡ b.
 name_same a b at turn = search (arith, a.turn)
 
 -- ---- the last try
+-- both forms of the last step have the name's life word
 target_last : (t : Bool) (entry : Entry) (n : ℕ) → target (last_step t entry n) ≡ life_word_at (grain_of entry.name)
-target_last true entry n = refl
-target_last false entry n = refl
+target_last t entry n = search arith
 
+-- by whether the entry names a room, and then the guess is that room
 end_in : (f : Profile) (t : Bool) (entry : Entry) (n : ℕ) → (t ≡ true → n ≡ entry.room / 16) → IsStepOf f (last_step t entry n) → IsEndIn f entry.name n
-end_in f true entry n is of = subst (IsEndIn f entry.name) (sym (is refl)) of.0
-end_in f false entry n is of = of
+end_in f t entry n is of = search arith
 
 whole_room : (f : Profile) (t : Bool) (entry : Entry) (n : ℕ) → t ≡ true → IsStepOf f (last_step t entry n) → entry.room % 16 ≡ 0
 whole_room f t entry n e of = search (arith, true≢false)
@@ -166,7 +168,7 @@ module _ (f : Profile) (k epoch : ℕ) (s : Settled) (piece : List Made) (l : Wh
   guessed = guess_is (is_sized s.entry) s.entry (guess_by (directory_read is.order.deed)) is.order.guess is.order.before is.order.tries
 
   ends_legal : Legal f (triples k (made (last_step (is_sized s.entry) s.entry is.order.guess) is.order.answer ∷ first) ++ l)
-  ends_legal = subst (λ (ms : List Made). Legal f (triples k ms ++ l)) is.order.steps_are (legal_earlier f k is.after is.ends l (subst (λ (ms : List Made). Legal f (triples k ms ++ l)) is.steps_are legal))
+  ends_legal = rw is.order.steps_are at (legal_earlier f k is.after is.ends l (subst (λ (ms : List Made). Legal f (triples k ms ++ l)) is.steps_are legal))
 
   abbrev lm : Whole
   lm = triples k first ++ l
@@ -181,9 +183,6 @@ module _ (f : Profile) (k epoch : ℕ) (s : Settled) (piece : List Made) (l : Wh
   same_events = visible_steps k first l ∙ ap (λ (es : List Event). es ++ visible l) (idle.events k (part k l))
 
   -- ---- the block
-  place : 16 * grain_of s.entry.name ≡ address_of s.entry.name
-  place = omega (arith, within.1)
-
   abbrev g : ℕ
   g = grain_of s.entry.name
 
@@ -194,30 +193,20 @@ module _ (f : Profile) (k epoch : ℕ) (s : Settled) (piece : List Made) (l : Wh
   life = life_of f lm valid ends_legal.1 g
 
   room_at : (b : Live) → length_of b.block ≡ is.order.guess → b.block.room % 16 ≡ 0 → (t : Bool) → is_sized s.entry ≡ t → is_other_room s.entry b.block ≡ false
-  room_at b long whole false sized = ap (λ (t : Bool). t && not (b.block.room == s.entry.room)) sized
-  room_at b long whole true sized =
-      let multiple = whole_room f (is_sized s.entry) s.entry is.order.guess sized ends_legal.0.of_region in
-      let same : b.block.room ≡ s.entry.room = omega (arith, long, whole, guessed sized, multiple) in
-      ap (λ (t : Bool). is_sized s.entry && not t) (eq-eqb b.block.room s.entry.room same) ∙ and-false (is_sized s.entry)
+  room_at b long whole t sized = search (arith, whole_room, ends_legal, guessed, eq-eqb)
 
   -- An end that was answered by the live word of its turn and length ended the block that lives there, of just that length.
   pub found_block : is.order.answer ≡ live_word s.entry.name.turn is.order.guess → IsEndOfBlock f l s.entry is.order.guess
   found_block hit =
       let turn : s.entry.name.turn < 2 ^ 40 = omega (arith, within.2) in
-      let o = block_of_word f g word (live_in (visible lm) (16 * g)) (gives_in (visible lm) (16 * g)) (ends_in (visible lm) (16 * g)) s.entry.name.turn is.order.guess life turn (sym answer_is ∙ hit) in
+      let o = block_of_word f g word (live_in (visible lm) (16 * g)) (gives_in (visible lm) (16 * g))
+      (ends_in (visible lm) (16 * g)) s.entry.name.turn is.order.guess life turn (sym answer_is ∙ hit) in
       let b : Live = o.0 in
-      let alive : IsLifeOfLive f g word b (gives_in (visible lm) (16 * g)) (ends_in (visible lm) (16 * g)) = subst (λ (x : Option Live). IsLifeOf f g word x (gives_in (visible lm) (16 * g)) (ends_in (visible lm) (16 * g))) o.1 life in
+      let alive : IsLifeOfLive f g word b (gives_in (visible lm) (16 * g)) (ends_in (visible lm) (16 * g)) = rw o.1 at life in
       let same : live_word s.entry.name.turn is.order.guess ≡ live_word (ends_in (visible lm) (16 * g)) (length_of b.block) = sym hit ∙ (answer_is ∙ alive.word_is) in
       let long : length_of b.block ≡ is.order.guess = omega (arith, same, o.3) in
       let some : 1 ≤ is.order.guess = within.3 in
-      record {
-        block = b;
-        lives = ap (λ (a : ℕ). live_in (visible l) a) (sym place) ∙ (ap (λ (es : List Event). live_in es (16 * g)) (sym same_events) ∙ o.1);
-        turn = o.2;
-        long = long;
-        some = some;
-        room = room_at b long alive.whole (is_sized s.entry) refl;
-      }
+      search (arith, same_events, room_at)
 
   -- ---- its event
   abbrev last : EndsWith s.entry.name is.order.guess (last_step (is_sized s.entry) s.entry is.order.guess)
@@ -227,16 +216,12 @@ module _ (f : Profile) (k epoch : ℕ) (s : Settled) (piece : List Made) (l : Wh
       → event_of k epoch (last_step (is_sized s.entry) s.entry is.order.guess) is.order.answer ≡ Some (event_for k epoch s.entry o)
   end_event (Ended grains) h = last.event k epoch is.order.answer h.0
   end_event (Refused read) h =
-      last_refused (is_sized s.entry) s.entry is.order.guess k epoch is.order.answer guessed h.0 (not_ended (is_sized s.entry) s.entry.name is.order.guess is.order.answer within.2 h.0)
+      last_refused _ s.entry is.order.guess k epoch is.order.answer guessed h.0 (not_ended _ s.entry.name is.order.guess is.order.answer within.2 h.0)
       ∙ ap (λ (n : ℕ). Some (Event.Reject k s.entry.name (reason_for s.entry n))) (sym h.1)
 
   ends_event : events_by k (part k l) is.ends ≡ event_for k epoch s.entry s.outcome ∷ []
   ends_event =
-      ap (events_by k (part k l)) is.order.steps_are
-      ∙ (ap (λ (o : Option ℕ). with_event (event_of k (or_zero o) (last_step (is_sized s.entry) s.entry is.order.guess) is.order.answer) (events_by k (part k l) first)) (epoch_same trying refl first (part k l) idle.kinds)
-      ∙ (ap (λ (n : ℕ). with_event (event_of k n (last_step (is_sized s.entry) s.entry is.order.guess) is.order.answer) (events_by k (part k l) first)) known
-      ∙ (ap (λ (o : Option Event). with_event o (events_by k (part k l) first)) (end_event s.outcome is.order.comes_to)
-      ∙ ap (λ (es : List Event). event_for k epoch s.entry s.outcome ∷ es) (idle.events k (part k l)))))
+      cc (epoch_same trying refl first (part k l) idle.kinds, end_event s.outcome is.order.comes_to, idle.events k (part k l))
 
   after_kinds : (o : Outcome) → AfterEnd s.entry.name o is.after → Only putting_back is.after
   after_kinds o h = search (arith, run_kinds)
@@ -246,7 +231,7 @@ module _ (f : Profile) (k epoch : ℕ) (s : Settled) (piece : List Made) (l : Wh
 
   -- The steps for one logged free are of the ending kinds alone.
   pub entry_kinds : Only ending piece
-  entry_kinds = subst (Only ending) (sym is.steps_are) (only_both ending is.after is.ends (only_within putting_back ending is.after refl (after_kinds s.outcome is.returns)) ends_kinds)
+  entry_kinds = rw is.steps_are (only_both ending is.after is.ends (only_within putting_back ending is.after refl (after_kinds s.outcome is.returns)) ends_kinds)
 
   -- The steps for one logged free show one event, that of its outcome.
   pub entry_events : visible (triples k piece ++ l) ≡ event_for k epoch s.entry s.outcome ∷ visible l
@@ -264,7 +249,7 @@ module _ (f : Profile) (k epoch : ℕ) (s : Settled) (piece : List Made) (l : Wh
 
   -- The steps for one logged free hint only pages that they read as backed and empty.
   pub entry_hints : Always HintsEmpty piece
-  entry_hints = subst (Always HintsEmpty) (sym is.steps_are) (hints_both is.after is.ends (after_hints s.outcome is.returns) (hints_none trying is.ends refl ends_trying))
+  entry_hints = search (arith, hints_both, after_hints, hints_none, ends_trying)
 
   -- a page that is marked is one of those of the block that ended
   pub after_marked : (q : ℕ) → IsMarked q piece → IsMarked q is.after
@@ -283,15 +268,4 @@ module _ (f : Profile) (k epoch : ℕ) (s : Settled) (piece : List Made) (l : Wh
       let page : ℕ = address_of s.entry.name / 4096 in
       is.directory
       ∙ (ap directory_read (look_legal.0.answer_is ∙ deed_of f l look_legal.1 page)
-      ∙ read_deed f valid (deed_in (visible l) page) (λ d at. read-deed_word_of d (directory_from_profile f d valid (directory_is_of f l look_legal.1 page d at))))
-
--- a refusal names a room only where the free did, and that one
-by_turn : (entry : Entry) (read : ℕ) → IsEntryReason entry (if nat_lt entry.name.turn (turn_of read) then Why.Ended else Why.NoBlock)
-by_turn entry read = elim (nat_lt entry.name.turn (turn_of read)) as (λ (t : Bool). IsEntryReason entry (if t then Why.Ended else Why.NoBlock)) [ true ↦ tt | false ↦ tt ]
-
-reason_sized : (t : Bool) (entry : Entry) (read : ℕ) → is_sized entry ≡ t → IsEntryReason entry (reason_by t entry read)
-reason_sized t entry read sized = search (arith, by_turn)
-
--- The reason that a read life word gives is one that the entry may have.
-pub reason_is : (entry : Entry) (read : ℕ) → IsEntryReason entry (reason_for entry read)
-reason_is entry read = reason_sized (is_sized entry) entry read refl
+      ∙ read_deed f valid _ (λ d at. read-deed_word_of d (directory_from_profile f d valid (directory_is_of f l look_legal.1 page d at))))

@@ -61,22 +61,16 @@ pub record IsFetched (f : Profile) (k heap class : ℕ) (p : Progress) (w : Worl
   pub legal : Legal f (triples k steps ++ p.list)
 
 -- ---- lists of local allocators
-other_none : (heap class : ℕ) (s : Slots) (rest : List Slots) (t : Bool) → is_for_slots heap class s ≡ t → local_for heap class rest ≡ None
-    → local_for heap class (if not t then s ∷ rest else rest) ≡ None
-other_none heap class s rest true e none = none
-other_none heap class s rest false e none = ap (λ (u : Bool). if u then Some s else local_for heap class rest) e ∙ none
-
 none_others : (heap class : ℕ) (slots : List Slots) → local_for heap class (others_than heap class slots) ≡ None
 none_others heap class [] = refl
-none_others heap class (s ∷ slots) = other_none heap class s (others_than heap class slots) (is_for_slots heap class s) refl (none_others heap class slots)
+none_others heap class (s ∷ slots) = let ih = none_others heap class slots in grind (arith, ih)
 
+-- by cases: what is found first is some
 none_behind : (s : Slots) (found : Option Slots) (t : Bool) → (if t then Some s else found) ≡ None → found ≡ None
-none_behind s found true none = absurd (let bad : Some s ≡ None = none in cc)
-none_behind s found false none = none
+none_behind s found t none = search arith
 
 none_here : (s : Slots) (found : Option Slots) (t : Bool) → (if t then Some s else found) ≡ None → t ≡ false
-none_here s found true none = absurd (let bad : Some s ≡ None = none in cc)
-none_here s found false none = refl
+none_here s found t none = search arith
 
 -- where the first is stopped, there is none either of a heap and class of which there was none
 none_stopped : (heap class : ℕ) (kept fewer : List Slots) (stopped : List Made) (t : Bool) → StopsFirst t kept fewer stopped → local_for heap class kept ≡ None
@@ -101,9 +95,9 @@ pub keeps_unshared : (right shared : Bool) (a b : ℕ) → kind_of_class (not ri
 keeps_unshared right shared a b same = grind arith
 
 -- ---- a thread without a local allocator of the heap and class may search for one
+-- kinds of classes tell their class, and the shared kind is none of them
 same_class : (shared : Bool) (a b : ℕ) → kind_of_class false a ≡ kind_of_class shared b → a ≡ b
-same_class true a b is = absurd (let bad : Kind.Class a ≡ Kind.Shared = is in cc)
-same_class false a b is = let both : Kind.Class a ≡ Kind.Class b = is in cc
+same_class shared a b is = search arith
 
 kept_for : (f : Profile) (heap class : ℕ) (s : Slots) → s.right ≡ true → home_of s ≡ class_home f heap class → is_for_slots heap class s ≡ true
 kept_for f heap class s right home = search (arith, same_class, eq-eqb)
@@ -116,7 +110,7 @@ none_kept f v heap class page (s ∷ slots) kind of all none =
     let own : IsLocal f v s = All-head (IsLocal f v) s slots all in
     let lost : keeps_right s page ≡ false = search (arith, eqb-true, true≢false, kept_for, none_here) in
     ap (λ (t : Bool). t || any_keeps slots page) lost
-    ∙ none_kept f v heap class page slots kind of (All-tail (IsLocal f v) s slots all) (none_behind s (local_for heap class slots) (is_for_slots heap class s) none)
+    ∙ none_kept f v heap class page slots kind of (All-tail (IsLocal f v) s slots all) (none_behind s _ _ none)
 
 -- A thread with place for a local allocator of the heap and class may search the pages of the class's home.
 pub may_fetch : (f : Profile) (k heap class : ℕ) (p : Progress) (w : World) → HasPlace f k heap class p w → MaySearch (class_home f heap class) (part k p.list)
@@ -156,11 +150,11 @@ module _ (f : Profile) (k heap class : ℕ) (p : Progress) (w : World) (found : 
   place_left = few_stopped o.fetch.place.kept fewer o.fetch.place.stopped (nat_le 32 (length o.fetch.place.kept)) refl few_kept o.fetch.place.shortened.first
 
   none_left : local_for heap class fewer ≡ None
-  none_left = none_stopped heap class o.fetch.place.kept fewer o.fetch.place.stopped (nat_le 32 (length o.fetch.place.kept)) o.fetch.place.shortened.first (ap (local_for heap class) o.fetch.place.taken.others ∙ none_others heap class c.locals)
+  none_left = search (arith, none_stopped, none_others)
 
   -- all actors are at rest before the search
   rests : RestsWith f fewer (part k p1.list)
-  rests = subst (RestsWith f fewer) (sym (part_of_own k xs p.list)) (o.fetch.rests.from (part k p.list) own.locals (agreed_steps f k p.list xs o.valid legal_middle))
+  rests = rw part_of_own (o.fetch.rests.from (part k p.list) own.locals (agreed_steps f k p.list xs o.valid legal_middle))
 
   own_rest : AtRest f c1 (part k p1.list)
   own_rest = let few = place_left in record { locals = rests; few = omega (arith, few); entries = own.entries; few_entries = own.few_entries }
@@ -183,18 +177,7 @@ module _ (f : Profile) (k heap class : ℕ) (p : Progress) (w : World) (found : 
 
   -- Once place was made in a cache, it has place for a local allocator of the heap and class.
   pub place_fetched : HasPlace f k heap class p1 w1
-  place_fetched = record {
-    valid = o.valid;
-    thread = o.thread;
-    listed = omega (arith, o.listed, many_placed (find (is_for heap class) (locals_of w k)));
-    directory = o.directory;
-    known = o.known;
-    between = middle;
-    rest = subst (λ (x : Cached). AtRest f x (part k p1.list)) (sym own_is) own_rest;
-    same = placed;
-    none = ap (λ (x : Cached). local_for heap class x.locals) own_is ∙ none_left;
-    place = subst (λ (x : Cached). length x.locals < 32) (sym own_is) place_left;
-  }
+  place_fetched = search (arith, many_placed, middle, own_is, own_rest, placed, none_left, place_left)
 
   -- ---- the text makes it too
   both_same : AreSameLocals c.locals (locals_of w k)

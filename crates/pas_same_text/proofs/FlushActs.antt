@@ -1,7 +1,7 @@
 -- FLUSHES as acts: all entries of a log take effect.
 use Rattle.std.proofs.Common.{◌≤◌, length, ◌≡◌, ℕ, ◌+◌, ◌*◌, ◌/◌, ◌%◌, ◌<◌, ◌==◌, Bool, true, false, if◌then◌else◌, List, [], ◌∷◌, ◌++◌, map, reverse, Some}
 use Rattle.std.proofs.Common.{refl, ap, sym, ◌∙◌, subst, arith, true≢false, eqb-true}
-use Rattle.std.proofs.lemmas.{Bool.eqb-false, Grind.reverse_onto, List.reverse-append}
+use Rattle.std.proofs.lemmas.{Bool.eqb-false, List.reverse-append}
 use Rattle.pas_bits.proofs.Runs.{IsMet, met}
 use Rattle.pas_profile.specs.{Blocks.length_of, Profiles.IsValid, Profiles.IsPage, Profiles.IsDirectoryOf}
 use Rattle.pas_profile.specs.declared.{directory.Directory.Directory, event.Event.Event, profile.Profile.Profile, word.Word.Word}
@@ -22,27 +22,16 @@ use Rattle.pas_same_text.specs.{State.World, State.each, State.set_log, Frees.en
 use Rattle.pas_same_text.specs.{Acts.IsBetween, Acts.AreBlocksUsable, Words.free_bit}
 use Rattle.pas_same_text.proofs.FlushedLogs.{IsFlushedTo, IsEndedOn, OnlyFewer, flushed_start, flushed_all}
 use Rattle.pas_same_text.proofs.{FreeGrains.held_still, Holders.guards_as, Holders.still_unguarded, RestingPages.is_open, RestingPages.deed_now}
-use Rattle.pas_same_text.proofs.{StillIndexes.same_guards, StillIndexes.flushes_keep}
+use Rattle.pas_same_text.proofs.{StillIndexes.same_guards, StillIndexes.flushes_keep, Flushes.map_reverse}
 use Rattle.pas_same_text.proofs.GivenPages.{IsGivenBack, open_from, covered_not_held, free_left, given_pages}
 use Rattle.pas_same_text.proofs.GivingBack.{OffersPage, hint_marks, offer_marks, offered_of_region, epoch_stays_by}
 
 -- ---- records
-map_reversed : (es : List Event) → map Record.Event (reverse es) ≡ reverse (map Record.Event es)
-map_reversed [] = refl
-map_reversed (e ∷ es) =
-    ap (map Record.Event) (reverse_onto es e [])
-    ∙ (map_both (reverse es) (e ∷ [])
-    ∙ (ap (λ (rs : List Record). rs ++ Record.Event e ∷ []) (map_reversed es) ∙ sym (reverse_onto (map Record.Event es) (Record.Event e) [])))
-  where
-    map_both : (xs ys : List Event) → map Record.Event (xs ++ ys) ≡ map Record.Event xs ++ map Record.Event ys
-    map_both [] ys = refl
-    map_both (x ∷ xs) ys = ap (λ (rs : List Record). Record.Event x ∷ rs) (map_both xs ys)
-
 -- the records of events come to the end, on both sides
 pub events_recorded : (rs ws vs : List Record) (es : List Event) → rs ≡ reverse ws → vs ≡ map Record.Event es ++ ws → rs ++ records_of es ≡ reverse vs
 events_recorded rs ws vs es is more =
     ap (λ (xs : List Record). xs ++ records_of es) is
-    ∙ (ap (λ (xs : List Record). reverse ws ++ xs) (map_reversed es)
+    ∙ (ap (λ (xs : List Record). reverse ws ++ xs) (map_reverse Record.Event es)
     ∙ (sym (reverse-append (map Record.Event es) ws) ∙ ap reverse (sym more)))
 
 -- ---- the whole flush
@@ -65,9 +54,10 @@ module _ (f : Profile) (k : ℕ) (p : Progress) (w : World) (steps : List Made) 
   pub flush_to : IsFlushedTo f k h.epoch p.list w (p.caches k) p.caches h.settled steps (flushes f k w)
   flush_to =
       subst (λ (v : World). IsFlushedTo f k h.epoch p.list w (p.caches k) p.caches h.settled steps v) (sym text)
-      (subst (λ (ms : List Made). IsFlushedTo f k h.epoch p.list w (p.caches k) p.caches h.settled ms (each (ends f k) (reverse (map (λ (s : Settled). s.entry) h.settled)) (set_log k [] w))) (sym h.steps_are)
-      (flushed_all f k h.epoch p.list w (p.caches k) p.caches valid thread listed now h.settled h.entries h.order all_legal
-      (flushed_start f k h.epoch p.list w (p.caches k) p.caches valid thread listed now same.pages.events same.pages.live same.caches refl)))
+      (subst (λ (ms : List Made). IsFlushedTo f k h.epoch p.list w (p.caches k) p.caches h.settled ms
+      (each (ends f k) (reverse (map (λ (s : Settled). s.entry) h.settled)) (set_log k [] w))) (sym h.steps_are)
+      (flushed_all f k h.epoch p.list w _ p.caches valid thread listed now h.settled h.entries h.order all_legal
+      (flushed_start f k h.epoch p.list w _ p.caches valid thread listed now same.pages.events same.pages.live same.caches refl)))
 
   -- A flush adds the events of its steps to the records, and nothing else.
   pub flush_records : (flushes f k w).records ≡ map Record.Event (events_by k (part k p.list) steps) ++ w.records
@@ -90,7 +80,7 @@ module _ (f : Profile) (p p' : Progress) (w v : World) (pages : List ℕ) (valid
   pub ended_room : (q : ℕ) (d : Directory) → IsDirectoryOf f d → is_of v d q ≡ true → IsEndedOn w.events v.events pages q → is_open v d q ≡ true
   ended_room q d of is o =
       let own : live_in (visible p.list) o.address ≡ Some o.block = ap (λ (es : List Event). live_in es o.address) (sym events) ∙ o.lived in
-      let m : IsMet (o.address / 16) (length_of o.block.block) q = met (o.address / 16) (length_of o.block.block) q (live_long f w.events run o.address o.block o.lived) o.met in
+      let m : IsMet (o.address / 16) (length_of o.block.block) q = met _ _ q (live_long f w.events run o.address o.block o.lived) o.met in
       let g : ℕ = m.grain in
       let deed : deed_in (visible p.list) (g / 256) ≡ Some d =
       cc (fewer.deeds (g / 256), deed_now f p' v valid after same q d of is) in
@@ -116,7 +106,8 @@ module _ (f : Profile) (p p' : Progress) (w v : World) (pages : List ℕ) (valid
 -- ---- the act
 module _ (f : Profile) (k : ℕ) (p : Progress) (w : World) (steps : List Made) (c' : Cached) (valid : IsValid f) (thread : IsThread f k)
     (listed : k ≤ length w.caches) (before : IsBetween f p) (same : IsSame f p w) (usable : AreBlocksUsable (visible p.list))
-    (h : EmptiesLog k (p.caches k).log (p.caches k).noted c'.noted steps) (cache : c' ≡ record (p.caches k) { log = []; noted = c'.noted }) (after : IsBetween f (with_steps p k steps c')) where
+    (h : EmptiesLog k (p.caches k).log (p.caches k).noted c'.noted steps)
+    (cache : c' ≡ record (p.caches k) { log = []; noted = c'.noted }) (after : IsBetween f (with_steps p k steps c')) where
   abbrev v : World
   v = flushes f k w
 

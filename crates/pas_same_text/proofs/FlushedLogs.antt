@@ -1,9 +1,7 @@
 -- A FLUSH, entry by entry: its steps beside what the text does.
-use Rattle.std.proofs.Common.{◌≡◌, ℕ, zero, suc, ◌-◌, ◌/◌, ◌<◌, ◌≤◌, ◌==◌, nat_lt, Bool, true, false, if◌then◌else◌, List, [], ◌∷◌, ◌++◌, length, map, reverse}
-use Rattle.std.proofs.Common.{take, Option, None, Some, inl, inr, refl, ap, sym, ◌∙◌, subst, append_assoc, length-append, arith, append-nil, option_to_list}
-use Rattle.std.proofs.Common.{eq-eqb}
-use Rattle.std.proofs.lemmas.{Bool.or_left, Bool.or_right, Bool.Decides.nat_tests, Grind.reverse_onto, Option.same_Some, Option.none-some}
-use Rattle.std.specs.List.{flat_map}
+use Rattle.std.proofs.Common.{◌≡◌, ℕ, ◌-◌, ◌/◌, ◌<◌, ◌≤◌, ◌==◌, Bool, true, false, if◌then◌else◌, List, [], ◌∷◌, ◌++◌, length, map, reverse, take, Option, None}
+use Rattle.std.proofs.Common.{Some, inl, inr, refl, ap, sym, ◌∙◌, subst, append_assoc, arith, append-nil, eq-eqb}
+use Rattle.std.proofs.lemmas.{Grind.reverse_onto, Option.same_Some}
 use Rattle.pas_large.proofs.Left.{hints_both}
 use Rattle.pas_bits.specs.Runs.{meets_page}
 use Rattle.pas_profile.specs.{Blocks.address_of, Blocks.grain_of, Blocks.length_of, Profiles.IsValid, Profiles.IsPage}
@@ -26,57 +24,17 @@ use Rattle.pas_trace.specs.EveryPlan.{IsThread}
 use Rattle.pas_answers.specs.Answers.{Caches, with_cache as with_cached}
 use Rattle.pas_same_text.specs.State.{World, Cache, each, cache_of, with_cache, noted_of, set_log, live_after}
 use Rattle.pas_same_text.specs.Frees.{ends, ends_block, is_other_room, rejects, pages_of}
-use Rattle.pas_same_text.specs.{Pages.page_numbers, Entries.IsShown}
+use Rattle.pas_same_text.specs.Entries.{IsShown}
 use Rattle.pas_same_text.specs.Same.{AreSameCaches, IsSameCache, lives_in, has_number}
-use Rattle.pas_same_text.proofs.CacheLists.{all_locals, many_with, locals_with, same_with, same_own, same_again, with_own}
-use Rattle.pas_same_text.proofs.EndedBlocks.{rejected_returns, ended_returns, ended_caches, ended_locals, noted_then}
-use Rattle.pas_same_text.proofs.EntryEvents.{reject_text, end_text, reject_shown, end_shown}
+use Rattle.pas_same_text.proofs.CacheLists.{all_locals, many_with, locals_with, same_with, same_own, same_again, with_own, noted_more, take_none, noted_start}
+use Rattle.pas_same_text.proofs.CacheLists.{room_for}
+use Rattle.pas_same_text.proofs.GivenBack.{rejected_returns, ended_returns, ended_caches, noted_then, Returns, returns_nothing, returns_then, returns_like}
+use Rattle.pas_same_text.proofs.GivenBack.{has_both, page_there}
+use Rattle.pas_same_text.proofs.Flushes.{reject_text, end_text, reject_shown, end_shown, reason_is}
 use Rattle.pas_same_text.proofs.EntrySteps.{IsEndOfBlock, found_block, block_marked, name_same, entry_kinds, entry_events, entry_hints, after_marked}
-use Rattle.pas_same_text.proofs.EntrySteps.{read_directory, reason_is}
-use Rattle.pas_same_text.proofs.GivenBack.{Returns, returns_nothing, returns_then, returns_like, has_both, page_there}
+use Rattle.pas_same_text.proofs.EntrySteps.{read_directory}
 use Rattle.pas_same_text.proofs.GivingBack.{IsMarked, marked_parts, none_marked, hints_none}
 use Rattle.pas_same_text.proofs.Tests.{has_filtered}
-
--- ---- what is noted
-take_both : {A : Type 0} (k : ℕ) (xs ys : List A) → take k xs ++ take (k - length (take k xs)) ys ≡ take k (xs ++ ys)
-take_both zero xs ys = refl
-take_both (suc k) [] ys = ap (λ n. take n ys) {y = suc k} (omega arith)
-take_both (suc k) (x ∷ xs) ys = ap (λ n. x ∷ take k xs ++ take n ys) (omega arith) ∙ ap (λ zs. x ∷ zs) (take_both k xs ys)
-
-flat_both : (h : Settled → List EndedRun) (xs : List Settled) (x : Settled) → flat_map h (xs ++ x ∷ []) ≡ flat_map h xs ++ h x
-flat_both h [] x = append-nil (h x)
-flat_both h (y ∷ xs) x = ap (λ (zs : List EndedRun). h y ++ zs) (flat_both h xs x) ∙ sym (append_assoc (h y) (flat_map h xs) (h x))
-
-noted_more : (es : List EndedRun) (s : Settled) (settled : List Settled)
-    → noted_after es (s ∷ settled) ≡ noted_after es settled ++ take (64 - length (noted_after es settled)) (noted_for s)
-noted_more es s settled =
-    let xs : List EndedRun = flat_map noted_for (reverse settled) in
-    let n : ℕ = 64 - length es in
-    ap (λ (ys : List EndedRun). es ++ take n ys) (ap (flat_map noted_for) (reverse_onto settled s []) ∙ flat_both noted_for (reverse settled) s)
-    ∙ (ap (λ (ys : List EndedRun). es ++ ys) (sym (take_both n xs (noted_for s)))
-    ∙ (sym (append_assoc es (take n xs) (take (n - length (take n xs)) (noted_for s)))
-    ∙ ap (λ (m : ℕ). (es ++ take n xs) ++ take m (noted_for s)) (omega (arith, length-append es (take n xs)))))
-
-take_none : {A : Type 0} (n : ℕ) → take {A = A} n [] ≡ []
-take_none zero = refl
-take_none (suc n) = refl
-
-noted_start : (es : List EndedRun) → noted_after es [] ≡ es
-noted_start es = ap (λ (xs : List EndedRun). es ++ xs) (take_none (64 - length es)) ∙ append-nil es
-
--- one run at most
-room_for : (noted : List EndedRun) (o : Option EndedRun) (t : Bool) → nat_lt (length noted) 64 ≡ t
-    → (if t then noted ++ option_to_list o else noted) ≡ noted ++ take (64 - length noted) (option_to_list o)
-room_for noted None true e = ap (λ (xs : List EndedRun). noted ++ xs) (sym (take_none (64 - length noted)))
-room_for noted (Some run) true e = let lt : length noted < 64 = grind (arith, nat_tests, e) in one (64 - length noted) (omega (arith, lt))
-  where
-    one : (n : ℕ) → 1 ≤ n → noted ++ run ∷ [] ≡ noted ++ take n (run ∷ [])
-    one zero some = absurd (omega (arith, some))
-    one (suc n) some = ap (λ (xs : List EndedRun). noted ++ run ∷ xs) (sym (take_none n))
-room_for noted o false e =
-    let le : 64 ≤ length noted = grind (arith, nat_tests, e) in
-    let none : 64 - length noted ≡ 0 = omega (arith, le) in
-    sym (ap (λ (n : ℕ). noted ++ take n (option_to_list o)) none ∙ append-nil noted)
 
 -- ---- lists of entries
 each_last : {A : Type 0} (does : A → World → World) (xs : List A) (x : A) (w : World) → each does (xs ++ x ∷ []) w ≡ does x (each does xs w)
@@ -98,21 +56,12 @@ pub record OnlyFewer (es es' : List Event) : Type 0 where
   pub deeds : (page : ℕ) → deed_in es' page ≡ deed_in es page
 
 -- what the event for an entry does to the live blocks
+-- an end takes out one block, and a refusal none
 still_gone : (k epoch : ℕ) (entry : Entry) (o : Outcome) (es : List Event) (a : ℕ) → live_in es a ≡ None → live_in (event_for k epoch entry o ∷ es) a ≡ None
-still_gone k epoch entry (Ended grains) es a h = by_test (address_of entry.name == a)
-  where
-    by_test : (t : Bool) → (if t then None else live_in es a) ≡ None
-    by_test true = refl
-    by_test false = h
-still_gone k epoch entry (Refused read) es a h = h
+still_gone k epoch entry o es a h = search arith
 
 fewer_one : (k epoch : ℕ) (entry : Entry) (o : Outcome) (es : List Event) → OnlyFewer es (event_for k epoch entry o ∷ es)
-fewer_one k epoch entry (Ended grains) es = record { lives = λ a b h. by_test a b (address_of entry.name == a) h; deeds = λ page. refl }
-  where
-    by_test : (a : ℕ) (b : Live) (t : Bool) → (if t then None else live_in es a) ≡ Some b → live_in es a ≡ Some b
-    by_test a b true h = absurd (none-some b h)
-    by_test a b false h = h
-fewer_one k epoch entry (Refused read) es = record { lives = λ a b h. h; deeds = λ page. refl }
+fewer_one k epoch entry o es = search arith
 
 fewer_then : (es fs gs : List Event) → OnlyFewer es fs → OnlyFewer fs gs → OnlyFewer es gs
 fewer_then es fs gs a b = record { lives = λ at l h. a.lives at l (b.lives at l h); deeds = λ page. b.deeds page ∙ a.deeds page }
@@ -125,8 +74,6 @@ pub record IsFlushedTo (f : Profile) (k e : ℕ) (l : Whole) (w : World) (c : Ca
   pub records : v.records ≡ map Record.Event (map (shown_for k e) settled) ++ w.records
   pub epoch : v.epoch ≡ w.epoch
   pub read : v.read ≡ w.read
-  pub indexes : v.indexes ≡ w.indexes
-  pub locals : all_locals v.caches ≡ all_locals w.caches
   pub same : AreSameCaches f (with_cached caches k (record c { log = []; noted = noted_after c.noted settled })) v.caches
   pub many : length v.caches ≡ length w.caches
   pub pages : List ℕ
@@ -142,7 +89,6 @@ pub record IsFlushedTo (f : Profile) (k e : ℕ) (l : Whole) (w : World) (c : Ca
 pub record IsTakenBy (f : Profile) (k : ℕ) (s : Settled) (piece : List Made) (v x : World) (own : Cache) : Type 0 where
   pub pages : List ℕ
   pub returns : Returns f pages v x
-  pub locals : all_locals x.caches ≡ all_locals v.caches
   pub caches : x.caches ≡ with_cache v.caches k own
   pub marks : (q : ℕ) → IsPage f q → IsMarked q piece → IsEndedOn v.events x.events pages q
 
@@ -156,7 +102,9 @@ module _ (f : Profile) (k epoch : ℕ) (s : Settled) (piece : List Made) (l : Wh
   x = ends f k s.entry v
 
   run_after : Run f (event_for k epoch s.entry s.outcome ∷ v.events)
-  run_after = subst (Run f) (entry_events f k epoch s piece l valid legal is known ∙ ap (λ (es : List Event). event_for k epoch s.entry s.outcome ∷ es) (sym events)) (runs f (triples k piece ++ l) valid legal)
+  run_after =
+      subst (Run f) (entry_events f k epoch s piece l valid legal is known ∙ ap (λ (es : List Event). event_for k epoch s.entry s.outcome ∷ es) (sym events))
+      (runs f (triples k piece ++ l) valid legal)
 
   run : Run f v.events
   run = run_after.1
@@ -189,14 +137,15 @@ module _ (f : Profile) (k epoch : ℕ) (s : Settled) (piece : List Made) (l : Wh
 
     ended_shown : IsShown (Event.End k s.entry.name epoch) v x
     ended_shown = subst (λ (e : ℕ). IsShown (Event.End k s.entry.name e) v x) now
-        (end_shown f k s.entry v live (found.block, lives, found.turn) (λ b' there. subst (λ (c : Live). is_other_room s.entry c.block ≡ false) (same_Some found.block b' (sym lives ∙ there)) found.room))
+        (end_shown f k s.entry v live (found.block, lives, found.turn) (λ b' there. rw (same_Some found.block b' (sym lives ∙ there)) at found.room))
 
     run_same : large_run found.block.block.name (length_of found.block.block) (deed_in v.events (address_of found.block.block.name / 4096))
         ≡ large_run s.entry.name grains s.directory
     run_same =
         ap (λ (n : Name). large_run n (length_of found.block.block) (deed_in v.events (address_of n / 4096))) named
         ∙ (ap (λ (m : ℕ). large_run s.entry.name m (deed_in v.events (address_of s.entry.name / 4096))) long
-        ∙ ap (λ (d : Option Directory). large_run s.entry.name grains d) (ap (λ (es : List Event). deed_in es (address_of s.entry.name / 4096)) events ∙ sym (read_directory f k epoch s piece l valid legal is known)))
+        ∙ ap (λ (d : Option Directory). large_run s.entry.name grains d)
+        (ap (λ (es : List Event). deed_in es (address_of s.entry.name / 4096)) events ∙ sym (read_directory f k epoch s piece l valid legal is known)))
 
     noted_same : noted_then f k s.entry.name found.block v run live lives ≡ noted_of v k ++ take (64 - length (noted_of v k)) (noted_for s)
     noted_same = search (arith, room_for, run_same)
@@ -206,7 +155,7 @@ module _ (f : Profile) (k epoch : ℕ) (s : Settled) (piece : List Made) (l : Wh
         let after : IsMarked q is.after = after_marked f k epoch s piece l valid legal is known q mark in
         let returns : AfterEnd s.entry.name (Ended grains) is.after = subst (λ (o : Outcome). AfterEnd s.entry.name o is.after) outcome is.returns in
         let some : 1 ≤ grains = subst (λ (m : ℕ). 1 ≤ m) (sym came.1) found.some in
-        let met : meets_page (grain_of s.entry.name) grains q ≡ true = block_marked (grain_of s.entry.name) grains q is.after some returns after in
+        let met : meets_page (grain_of s.entry.name) grains q ≡ true = block_marked _ grains q is.after some returns after in
         let own : meets_page (grain_of s.entry.name) (length_of found.block.block) q ≡ true = ap (λ (m : ℕ). meets_page (grain_of s.entry.name) m q) long ∙ met in
         record {
           address = address_of s.entry.name;
@@ -214,18 +163,17 @@ module _ (f : Profile) (k epoch : ℕ) (s : Settled) (piece : List Made) (l : Wh
           lived = lives;
           gone = ap (λ (es : List Event). live_in es (address_of s.entry.name)) (ap (λ (w : World). w.events) (sym text) ∙ ended_shown.events) ∙ ended_none;
           met = own;
-          minded = has_filtered (meets_page (grain_of found.block.block.name) (length_of found.block.block)) (page_numbers f) q (ap (λ (n : Name). meets_page (grain_of n) (length_of found.block.block) q) named ∙ own) (page_there f q of);
+          minded = has_filtered _ _ q (ap (λ (n : Name). meets_page (grain_of n) (length_of found.block.block) q) named ∙ own) (page_there f q of);
         }
       where
         ended_none : live_in (Event.End k s.entry.name epoch ∷ v.events) (address_of s.entry.name) ≡ None
-        ended_none = ap (λ (t : Bool). if t then None else live_in v.events (address_of s.entry.name)) (eq-eqb (address_of s.entry.name) (address_of s.entry.name) refl)
+        ended_none = ap (λ (t : Bool). if t then None else live_in v.events (address_of s.entry.name)) (eq-eqb _ _ refl)
 
     ended_taken : IsTakenBy f k s piece v x (own_then s v k)
     ended_taken = subst (λ (w : World). IsTakenBy f k s piece v w (own_then s v k)) (sym text) (record {
       pages = pages_of f found.block.block;
       returns = ended_returns f k s.entry.name found.block v run live lives;
-      locals = ended_locals f k s.entry.name found.block v run live lives;
-      caches = ended_caches f k s.entry.name found.block v run live lives ∙ ap (λ (ns : List EndedRun). with_cache v.caches k (record (cache_of v k) { noted = ns })) noted_same;
+      caches = cc (ended_caches f k s.entry.name found.block v run live lives, noted_same);
       marks = marked;
     })
 
@@ -247,13 +195,7 @@ module _ (f : Profile) (k epoch : ℕ) (s : Settled) (piece : List Made) (l : Wh
         (cc (take_none (64 - length (noted_of v k)), append-nil (noted_of v k)))
 
     rejected_taken : IsTakenBy f k s piece v x (own_then s v k)
-    rejected_taken = subst (λ (w : World). IsTakenBy f k s piece v w (own_then s v k)) (sym rejected_text) (record {
-      pages = [];
-      returns = rejected_returns f k s.entry.name (reason_for s.entry read) v;
-      locals = refl;
-      caches = sym (ap (λ (c : Cache). with_cache v.caches k c) none_noted ∙ with_own v.caches k);
-      marks = λ q of mark. absurd (no_mark q mark);
-    })
+    rejected_taken = search (arith, rejected_text, rejected_returns, none_noted, with_own, no_mark)
 
   taken_by : (o : Outcome) → s.outcome ≡ o → IsShown (event_for k epoch s.entry o) v x × IsTakenBy f k s piece v x (own_then s v k)
   taken_by (Ended grains) outcome = (ended_shown grains outcome, ended_taken grains outcome)
@@ -262,24 +204,10 @@ module _ (f : Profile) (k epoch : ℕ) (s : Settled) (piece : List Made) (l : Wh
 -- ---- the marks so far
 still_ended : (es fs gs : List Event) (ps qs : List ℕ) (q : ℕ) → ((a : ℕ) → live_in fs a ≡ None → live_in gs a ≡ None) → IsEndedOn es fs ps q
     → IsEndedOn es gs (ps ++ qs) q
-still_ended es fs gs ps qs q stays o = record {
-  address = o.address;
-  block = o.block;
-  lived = o.lived;
-  gone = stays o.address o.gone;
-  met = o.met;
-  minded = has_both ps qs q ∙ or_left (has_number ps q) (has_number qs q) o.minded;
-}
+still_ended es fs gs ps qs q stays o = search (arith, has_both)
 
 ended_since : (es fs gs : List Event) (ps qs : List ℕ) (q : ℕ) → OnlyFewer es fs → IsEndedOn fs gs qs q → IsEndedOn es gs (ps ++ qs) q
-ended_since es fs gs ps qs q fewer o = record {
-  address = o.address;
-  block = o.block;
-  lived = fewer.lives o.address o.block o.lived;
-  gone = o.gone;
-  met = o.met;
-  minded = has_both ps qs q ∙ or_right (has_number ps q) (has_number qs q) o.minded;
-}
+ended_since es fs gs ps qs q fewer o = search (arith, has_both)
 
 module _ (f : Profile) (k epoch : ℕ) (l : Whole) (w : World) (c : Cached) (caches : Caches) (valid : IsValid f) (thread : IsThread f k)
     (listed : k ≤ length w.caches) (now : w.epoch ≡ epoch) where
@@ -299,18 +227,16 @@ module _ (f : Profile) (k epoch : ℕ) (l : Whole) (w : World) (c : Cached) (cac
       ap (λ (ns : List EndedRun). ns ++ take (64 - length ns) (noted_for s)) own_same.noted ∙ sym (noted_more c.noted s settled) in
       let new_same : IsSameCache new (own_then s v k) = record { locals = own_same.locals; log = own_same.log; noted = noted; began = own_same.began } in
       let x : World = ends f k s.entry v in
-      let stays : (a : ℕ) → live_in v.events a ≡ None → live_in x.events a ≡ None = λ a h. ap (λ (es : List Event). live_in es a) shown.events ∙ still_gone k epoch s.entry s.outcome v.events a h in
+      let stays : (a : ℕ) → live_in v.events a ≡ None → live_in x.events a ≡ None = λ a h. simp (shown.events, still_gone) in
       let less : OnlyFewer v.events x.events = subst (OnlyFewer v.events) (sym shown.events) (fewer_one k epoch s.entry s.outcome v.events) in
       let all : triples k piece ++ before ≡ triples k (piece ++ steps) ++ l = triples_append k piece steps l in
       record {
-        events = shown.events ∙ (ap (λ (es : List Event). e ∷ es) was.events ∙ (sym (entry_events f k epoch s piece before valid legal is was.known) ∙ ap visible all));
+        events = cc (entry_events f k epoch s piece before valid legal is was.known);
         live = shown.live ∙ (ap (live_after e) was.live ∙ ap lives_in (sym shown.events));
         names = shown.names ∙ was.names;
         records = shown.records ∙ ap (λ (rs : List Record). Record.Event e ∷ rs) was.records;
         epoch = shown.epoch ∙ was.epoch;
         read = shown.read ∙ was.read;
-        indexes = shown.indexes ∙ was.indexes;
-        locals = taken.locals ∙ was.locals;
         same = same_again f caches x.caches k own new
             (subst (AreSameCaches f (with_cached (with_cached caches k own) k new)) (sym taken.caches)
             (same_with f (with_cached caches k own) v.caches k new (own_then s v k) thread (omega (arith, listed, was.many)) was.same new_same));
@@ -344,8 +270,6 @@ module _ (f : Profile) (k epoch : ℕ) (l : Whole) (w : World) (c : Cached) (cac
         records = refl;
         epoch = refl;
         read = refl;
-        indexes = refl;
-        locals = locals;
         same = same_with f caches w.caches k (record c { log = []; noted = noted_after c.noted [] }) new thread listed same
             (record { locals = own.locals; log = refl; noted = own.noted ∙ sym (noted_start c.noted); began = own.began });
         many = many_with w.caches k new;
@@ -370,7 +294,8 @@ module _ (f : Profile) (k epoch : ℕ) (l : Whole) (w : World) (c : Cached) (cac
       let before : Legal f (triples k rest ++ l) = legal_earlier f k h.0 rest l whole in
       let v : World = each (ends f k) (reverse (map (λ s. s.entry) settled)) (set_log k [] w) in
       let was : IsFlushedTo f k epoch l w c caches settled rest v = flushed_all settled h.1 h.3 before start in
-      let next : IsFlushedTo f k epoch l w c caches (s ∷ settled) (h.0 ++ rest) (ends f k s.entry v) = next_flushed s settled h.0 rest v (subst (Legal f) (sym (triples_append k h.0 rest l)) whole) h.2 was in
+      let next : IsFlushedTo f k epoch l w c caches (s ∷ settled) (h.0 ++ rest) (ends f k s.entry v) =
+      next_flushed s settled h.0 rest v (subst (Legal f) (sym (triples_append k h.0 rest l)) whole) h.2 was in
       let text : each (ends f k) (reverse (s.entry ∷ map (λ s. s.entry) settled)) (set_log k [] w) ≡ ends f k s.entry v =
-      ap (λ (es : List Entry). each (ends f k) es (set_log k [] w)) (reverse_onto (map (λ s. s.entry) settled) s.entry []) ∙ each_last (ends f k) (reverse (map (λ s. s.entry) settled)) s.entry (set_log k [] w) in
+      cc (reverse_onto (map (λ s. s.entry) settled) s.entry [], each_last (ends f k) (reverse (map (λ s. s.entry) settled)) s.entry _) in
       rw (all, text) next

@@ -1,14 +1,21 @@
--- What a flush shows: one event for each logged free, in the order of the log.
-use Rattle.std.proofs.Common.{arith, ◌≡◌, ℕ, Bool, true, false, not, List, [], ◌∷◌, refl, ap, sym, ◌∙◌, subst, true≢false, ◌++◌, map, reverse, append_assoc}
-use Rattle.std.proofs.lemmas.{Bool.not-true, Grind.reverse_onto, List.reverse-reverse}
-use Rattle.pas_profile.specs.declared.{event.Event.Event, profile.Profile.Profile, word.Word.Word}
-use Rattle.pas_machine.specs.Machine.{Run}
-use Rattle.pas_free_log.specs.{Endings.reason_by, Flushes.event_for, Logs.is_sized, Flushes.Settled, Flushes.shown_for}
-use Rattle.pas_free_log.specs.declared.{ending.Outcome.Outcome, log.Entry.Entry, noting.EndedRun.EndedRun}
-use Rattle.pas_same_text.specs.State.{World, each, live_after, set_log}
-use Rattle.pas_same_text.specs.{Frees.ends, Frees.flushes, Same.lives_in}
+-- What logged frees and flushes show: the events that the machine allows them.
+use Rattle.std.proofs.Common.{◌≡◌, ℕ, ◌<◌, ◌≤◌, ◌==◌, nat_lt, Bool, true, false, not, ◌&&◌, if◌then◌else◌, List, [], ◌∷◌, Option, None, Some, refl, ap, sym}
+use Rattle.std.proofs.Common.{◌∙◌, subst, arith, eq-eqb, ne_eqb, ◌++◌, map, reverse, append_assoc}
+use Rattle.std.proofs.lemmas.{Bool.and_from, Bool.Decides.nat_tests, Bool.not-true, Grind.reverse_onto, List.reverse-reverse, List.map_push}
+use Rattle.std.specs.List.{find, filter}
+use Rattle.pas_profile.specs.{Blocks.address_of, Lives.turn_of}
+use Rattle.pas_profile.specs.declared.{event.Event.Event, event.Why.Why, name.Block.Block, name.Name.Name, profile.Profile.Profile, word.Word.Word}
+use Rattle.pas_machine.specs.Laws.{IsCounted}
+use Rattle.pas_machine.specs.Machine.{Run, IsLive, IsReason, HasOtherRoom}
+use Rattle.pas_machine.specs.State.{Live, live_in, gives_in, ends_in}
+use Rattle.pas_machine.proofs.LiveBlocks.{all_counted}
+use Rattle.pas_free_log.specs.declared.{log.Entry.Entry, ending.Outcome.Outcome, noting.EndedRun.EndedRun}
+use Rattle.pas_free_log.specs.{Logs.is_sized, Endings.reason_by, Flushes.event_for, Flushes.Settled, Flushes.shown_for, Endings.reason_for}
+use Rattle.pas_same_text.specs.State.{World, each, is_at, block_at, shows, live_after, set_log}
+use Rattle.pas_same_text.specs.{Indexes.notes, Pages.minds, Same.lives_in}
+use Rattle.pas_same_text.specs.Frees.{pages_of, reason, is_other_room, ends_block, rejects, ends, flushes}
 use Rattle.pas_same_text.specs.Entries.{IsShown, IsEntryReason, IsEntryEvent, HaveOutcomes, are_unsized, onto, events_of_flush, HasShown, IsFlushOf}
-use Rattle.pas_same_text.proofs.{EntryEvents.entry_shown, Tests.and_first, Tests.and_second}
+use Rattle.pas_same_text.proofs.{Tests.and_first, Tests.and_second, GivenBack.OnlyHints, GivenBack.all_only_hints}
 use Rattle.pas_guard.proofs.Keepers.{older_legal}
 use Rattle.pas_steps.specs.{Desks.made, Desks.triple, Desks.triples, Events.event_of, Events.events_by, Events.with_event, Views.View, Views.epoch_of}
 use Rattle.pas_steps.specs.Lists.{Whole, part, visible, Legal}
@@ -17,14 +24,126 @@ use Rattle.pas_steps.specs.Kinds.{Kinds, Only, apart, showing}
 use Rattle.pas_steps.proofs.{Adding.triples_append, Frames.with_append, Parts.part_of_own, Apart.no_events}
 use Rattle.pas_core.proofs.{MachineRuns.runs, OneActor.legal_earlier}
 
+-- ==== What a logged free shows: the event that the machine allows it.
+-- ---- the block at an address
+abbrev block_of_live : Option Live → Option Block
+block_of_live None = None
+block_of_live (Some b) = Some b.block
+
+module _ (a c : ℕ) where
+  abbrev nothing : Option Block
+  nothing = None
+
+  found_out : (xs : List Block) → find (is_at a) (filter (λ x. not (is_at c x)) xs) ≡ (if c == a then None else find (is_at a) xs)
+  found_out [] = elim (c == a) as (λ (t : Bool). nothing ≡ (if t then nothing else nothing)) [ true ↦ refl | false ↦ refl ]
+  found_out (x ∷ xs) = let ih = found_out xs in grind (arith, nat_tests, ih)
+
+found_is : (es : List Event) (a : ℕ) → find (is_at a) (lives_in es) ≡ block_of_live (live_in es a)
+found_is [] a = refl
+found_is (Event.Deed k q d ∷ es) a = found_is es a
+found_is (Event.Back k q ∷ es) a = found_is es a
+found_is (Event.Unback k q e ∷ es) a = found_is es a
+found_is (Event.Give k block ∷ es) a = let ih = found_is es a in grind (arith, ih)
+found_is (Event.End k name e ∷ es) a = let ih = found_is es a in let out = found_out a (address_of name) (lives_in es) in grind (arith, ih, out)
+found_is (Event.Reject k name why ∷ es) a = found_is es a
+
+-- ---- what is shown besides nothing
+shown_now : (e : Event) (w : World) → IsShown e w (shows e w)
+shown_now e w = record { events = refl; live = refl; records = refl; names = refl; epoch = refl; read = refl; indexes = refl }
+
+-- .. where the block is noted and its pages are minded
+-- hints alone differ from the state that shows the end
+ended_now : (e : Event) (w : World) (k : ℕ) (b : Block) (x : World) → OnlyHints (notes k b (shows e w)) x → IsShown e w x
+ended_now e w k b x only = search arith
+
+-- ---- by the block at the address
+block_here : (w : World) (a : ℕ) (o : Option Live) → w.live ≡ lives_in w.events → live_in w.events a ≡ o → block_at w a ≡ block_of_live o
+block_here w a o live is = ap (find (is_at a)) live ∙ (found_is w.events a ∙ ap block_of_live is)
+
+rejected : (f : Profile) (k : ℕ) (entry : Entry) (w : World) (o : Option Live) → w.live ≡ lives_in w.events → live_in w.events (address_of entry.name) ≡ o
+    → ((b : Live) → o ≡ Some b → (b.block.name.turn == entry.name.turn) ≡ false) → ends f k entry w ≡ rejects k entry.name (reason w entry.name) w
+rejected f k entry w o live is other = search (arith, block_here)
+
+reason_ended : (w : World) (name : Name) → name.turn < ends_in w.events (address_of name) → reason w name ≡ Why.Ended
+reason_ended w name past = search (arith, nat_tests)
+
+reason_none : (w : World) (name : Name) → ends_in w.events (address_of name) ≤ name.turn → reason w name ≡ Why.NoBlock
+reason_none w name few = search (arith, nat_tests)
+
+-- a block that lives has as its turn the number of blocks that ended there
+turn_of_live : (f : Profile) (es : List Event) (a : ℕ) (b : Live) → Run f es → live_in es a ≡ Some b → b.block.name.turn ≡ ends_in es a
+turn_of_live f es a b run is = let counted : IsCounted (Some b) (gives_in es a) (ends_in es a) = rw is at (all_counted f es run a) in counted.1
+
+lives_text : (f : Profile) (k : ℕ) (entry : Entry) (w : World) (b : Live) (t : Bool) → w.live ≡ lives_in w.events
+    → live_in w.events (address_of entry.name) ≡ Some b → b.block.name.turn ≡ entry.name.turn → is_other_room entry b.block ≡ t
+    → ends f k entry w ≡ (if t then rejects k entry.name (Why.SizeDiffers entry.room) w else ends_block f k entry.name b.block w)
+lives_text f k entry w b t live is turn room = search (arith, block_here, eq-eqb)
+
+-- ---- THE EVENT of a logged free
+as_shown : (e : Event) (w v x : World) → v ≡ x → IsShown e w x → IsShown e w v
+as_shown e w v x is shown = subst (IsShown e w) (sym is) shown
+
+module _ (f : Profile) (k : ℕ) (entry : Entry) (w : World) (live : w.live ≡ lives_in w.events) where
+  -- A logged free whose refusal has this true reason is refused with it in the text.
+  pub reject_text : (why : Why) → Run f w.events → IsReason w.events entry.name why → IsEntryReason entry why → ends f k entry w ≡ rejects k entry.name why w
+  reject_text Why.Ended run past is =
+      rejected f k entry w _ live refl (λ b at.
+      ne_eqb b.block.name.turn entry.name.turn (λ same. let turn : b.block.name.turn ≡ ends_in w.events (address_of entry.name) =
+      turn_of_live f w.events _ b run at in absurd (omega (arith, past, same, turn))))
+      ∙ ap (λ (x : Why). rejects k entry.name x w) (reason_ended w entry.name past)
+  reject_text Why.NoBlock run none is = search (arith, rejected, ne_eqb, reason_none)
+  reject_text (Why.SizeDiffers room) run other is =
+      let o : HasOtherRoom w.events entry.name room = other.1 in
+      let differs : not (o.block.block.room == entry.room) ≡ true = ap not (ne_eqb o.block.block.room entry.room (λ same. o.differs (same ∙ sym is.1))) in
+      cc (lives_text f k entry w o.block true live o.lives o.turn_is (and_from (is_sized entry) (not (o.block.block.room == entry.room)) is.0 differs))
+
+  -- A logged free of a live block by its own name and room ends that block in the text.
+  pub end_text : (b : Live) → live_in w.events (address_of entry.name) ≡ Some b → b.block.name.turn ≡ entry.name.turn → is_other_room entry b.block ≡ false
+      → ends f k entry w ≡ ends_block f k entry.name b.block w
+  end_text b lives turn room = lives_text f k entry w b false live lives turn room
+
+  -- A logged free with a true reason to refuse it shows just that refusal.
+  pub reject_shown : (why : Why) → Run f w.events → IsReason w.events entry.name why → IsEntryReason entry why
+      → IsShown (Event.Reject k entry.name why) w (ends f k entry w)
+  reject_shown why run reason is =
+      as_shown _ w _ _ (reject_text why run reason is) (shown_now _ w)
+
+  -- A logged free of a live name with no other room shows just the end of that name.
+  pub end_shown : (lives : IsLive w.events entry.name) → ((b : Live) → live_in w.events (address_of entry.name) ≡ Some b → is_other_room entry b.block ≡ false)
+      → IsShown (Event.End k entry.name w.epoch) w (ends f k entry w)
+  end_shown lives room =
+      let e : Event = Event.End k entry.name w.epoch in
+      let b : Live = lives.0 in
+      as_shown e w (ends f k entry w) (ends_block f k entry.name b.block w) (end_text b lives.1 lives.2 (room b lives.1))
+      (ended_now e w k b.block _ (all_only_hints (pages_of f b.block) (notes k b.block (shows e w))))
+
+  -- A logged free shows in the text just the event that the machine allows it.
+  pub entry_shown : (e : Event) → Run f (e ∷ w.events) → IsEntryEvent k entry w e → IsShown e w (ends f k entry w)
+  entry_shown (Event.Deed j q d) run is = absurd is
+  entry_shown (Event.Back j q) run is = absurd is
+  entry_shown (Event.Unback j q e) run is = absurd is
+  entry_shown (Event.Give j block) run is = absurd is
+  entry_shown (Event.End j name e) run is = search (arith, end_shown)
+  entry_shown (Event.Reject j name why) run is = search (arith, reject_shown)
+
+-- ==== What a flush shows: one event for each logged free, in the order of the log.
 -- ---- one
-reason_named : (entry : Entry) (sized : Bool) (read : ℕ) → is_sized entry ≡ sized → sized ≡ false → IsEntryReason entry (reason_by sized entry read)
-reason_named entry sized read is h = search (arith, true≢false)
+-- a refusal names a room only where the free did, and that one
+-- neither reason names a room
+by_turn : (entry : Entry) (read : ℕ) → IsEntryReason entry (if nat_lt entry.name.turn (turn_of read) then Why.Ended else Why.NoBlock)
+by_turn entry read = search arith
+
+reason_sized : (t : Bool) (entry : Entry) (read : ℕ) → is_sized entry ≡ t → IsEntryReason entry (reason_by t entry read)
+reason_sized t entry read sized = search (arith, by_turn)
+
+-- The reason that a read life word gives is one that the entry may have.
+pub reason_is : (entry : Entry) (read : ℕ) → IsEntryReason entry (reason_for entry read)
+reason_is entry read = reason_sized (is_sized entry) entry read refl
 
 -- whatever came of a free without a room, its event is one that the text knows
 entry_event : (k epoch : ℕ) (entry : Entry) (outcome : Outcome) (w : World) → is_sized entry ≡ false → w.epoch ≡ epoch
     → IsEntryEvent k entry w (event_for k epoch entry outcome)
-entry_event k epoch entry outcome w unsized now = search (arith, reason_named)
+entry_event k epoch entry outcome w unsized now = search (arith, reason_is)
 
 -- ---- all
 run_before : (f : Profile) (evs es : List Event) → Run f (onto evs es) → Run f es
@@ -41,12 +160,13 @@ flush_shown f k epoch (entry ∷ entries) [] w pairs unsized live now run = absu
 flush_shown f k epoch (entry ∷ entries) (o ∷ outcomes) w pairs unsized live now run =
     let e : Event = event_for k epoch entry o in
     let evs : List Event = events_of_flush k epoch entries outcomes in
-    let own : is_sized entry ≡ false = not-true (is_sized entry) (and_first (not (is_sized entry)) (are_unsized entries) unsized) in
-    let rest : are_unsized entries ≡ true = and_second (not (is_sized entry)) (are_unsized entries) unsized in
+    let own : is_sized entry ≡ false = not-true (is_sized entry) (and_first _ _ unsized) in
+    let rest : are_unsized entries ≡ true = and_second _ _ unsized in
     let v : World = ends f k entry w in
     let one : IsShown e w v = entry_shown f k entry w live e (run_before f evs (e ∷ w.events) run) (entry_event k epoch entry o w own now) in
     let alive : v.live ≡ lives_in v.events = one.live ∙ (ap (live_after e) live ∙ ap lives_in (sym one.events)) in
-    let more : HasShown evs v (each (ends f k) entries v) = flush_shown f k epoch entries outcomes v pairs rest alive (one.epoch ∙ now) (subst (λ (es : List Event). Run f (onto evs es)) (sym one.events) run) in
+    let more : HasShown evs v (each (ends f k) entries v) =
+    flush_shown f k epoch entries outcomes v pairs rest alive (one.epoch ∙ now) (subst (λ (es : List Event). Run f (onto evs es)) (sym one.events) run) in
     assumption (more.events ∙ ap (onto evs) one.events, more.names ∙ one.names, more.epoch ∙ one.epoch)
 
 -- ==== The events of a flush, by its steps and in the text.
@@ -55,15 +175,12 @@ onto_is : (xs es : List Event) → onto xs es ≡ reverse xs ++ es
 onto_is [] es = refl
 onto_is (x ∷ xs) es = onto_is xs (x ∷ es) ∙ (sym (append_assoc (reverse xs) (x ∷ []) es) ∙ ap (λ (ys : List Event). ys ++ es) (sym (reverse_onto xs x [])))
 
-map_append : {A B : Type 0} (h : A → B) (xs ys : List A) → map h (xs ++ ys) ≡ map h xs ++ map h ys
-map_append h [] ys = refl
-map_append {B = B} h (x ∷ xs) ys = ap (λ (zs : List B). h x ∷ zs) (map_append h xs ys)
-
-map_reverse : {A B : Type 0} (h : A → B) (xs : List A) → map h (reverse xs) ≡ reverse (map h xs)
+-- The things that come of a reversed list are those of the list, reversed.
+pub map_reverse : {A B : Type 0} (h : A → B) (xs : List A) → map h (reverse xs) ≡ reverse (map h xs)
 map_reverse h [] = refl
 map_reverse {B = B} h (x ∷ xs) =
     ap (map h) (reverse_onto xs x [])
-    ∙ (map_append h (reverse xs) (x ∷ [])
+    ∙ (map_push h (reverse xs) x
     ∙ (ap (λ (zs : List B). zs ++ h x ∷ []) (map_reverse h xs) ∙ sym (reverse_onto (map h xs) (h x) [])))
 
 abbrev entries_of : List Settled → List Entry
@@ -124,7 +241,7 @@ module _ (f : Profile) (k : ℕ) (logged : List Entry) (noted noted' : List Ende
   shown_are es =
       ap (λ (evs : List Event). onto evs es) (events_are k is.empties.epoch in_order)
       ∙ (onto_is (map (shown_for k is.empties.epoch) in_order) es
-      ∙ ap (λ (evs : List Event). evs ++ es) (ap reverse (map_reverse (shown_for k is.empties.epoch) is.empties.settled) ∙ reverse-reverse (map (shown_for k is.empties.epoch) is.empties.settled)))
+      ∙ ap (λ (evs : List Event). evs ++ es) (ap reverse (map_reverse _ is.empties.settled) ∙ reverse-reverse (map (shown_for k is.empties.epoch) is.empties.settled)))
 
   all_shown : visible (triples k steps ++ l) ≡ onto shown w.events
   all_shown = search (arith, visible_steps, shown_are)

@@ -1,7 +1,7 @@
 -- A grain is free in the text exactly where its bit is set or a guard has its page, and a page is kept exactly where an actor has its right: whenever all
 -- actors are at rest.
 use Rattle.std.proofs.Common.{◌≡◌, ℕ, ◌+◌, ◌*◌, ◌/◌, ◌<◌, ◌≤◌, ◌≢◌, Bool, true, false, not, ◌&&◌, ◌||◌, List, length, Some, ◌⊎◌, inl, inr, refl, ap, sym, ◌∙◌}
-use Rattle.std.proofs.Common.{subst, arith, ◌%◌, eq-eqb, eqb-true, true≢false, ◌==◌, [], ◌∷◌}
+use Rattle.std.proofs.Common.{arith, ◌%◌, eq-eqb, eqb-true, true≢false, ◌==◌, [], ◌∷◌}
 use Rattle.std.proofs.lemmas.Bool.{false≢true, or_cases, or_left, or_right, false_from_ne_true, cases_lt}
 use Rattle.std.specs.List.{list_any}
 use Rattle.std.proofs.Math.Bool.{and-false, or-false, and_comm}
@@ -32,18 +32,13 @@ use Rattle.pas_segregated.specs.declared.slots.Slots.{Slots}
 -- ---- actors
 -- an actor that is neither the scavenger nor past the last thread is a thread
 thread_or : (f : Profile) (k : ℕ) → k ≢ 0 → (f.threads < k → ⊥) → IsThread f k
-thread_or f k some few = let last : k ≤ f.threads = le_or (cases_lt f.threads k) in (omega (arith, some), last)
-  where
-    le_or : (f.threads < k) ⊎ (k ≤ f.threads) → k ≤ f.threads
-    le_or (inl past) = absurd (few past)
-    le_or (inr le) = le
+thread_or f k some few = search (arith, cases_lt)
 
 -- the bit of grain b of a page, as one of the words that a search reads
+-- the two orders of one sum
 pub bit_read : (l : Whole) (page b : ℕ) → free_bit l (256 * page + b) ≡ free_of_page l page b
 bit_read l page b =
-    let turned : 256 * page + b ≡ page * 256 + b = omega arith in
-    let bit : (256 * page + b) % 64 ≡ b % 64 = omega arith in
-    cc
+    search arith
 
 -- a free grain is held by nobody, and no live block has it
 pub free_unheld : (f : Profile) (l : Whole) → IsValid f → Legal f l → (g : ℕ) → free_bit l g ≡ true → (k : ℕ) → holds (part k l) g ≡ false
@@ -84,11 +79,11 @@ module _ (f : Profile) (p : Progress) (between : IsBetween f p) where
 
   -- A keeper holds each grain of the outer pages of its guards.
   pub outer_held : (k g : ℕ) → is_outer (p.books k) (g / 256) ≡ true → holds (part k p.list) g ≡ true
-  outer_held k g h = (between.rest.working k (outer_thread k (g / 256) h)).locals.grains g ∙ or_right (any_covers (p.caches k).locals g) (is_outer (p.books k) (g / 256)) h
+  outer_held k g h = (between.rest.working k (outer_thread k (g / 256) h)).locals.grains g ∙ or_right _ _ h
 
   -- A grain that an actor holds is of a slot that it caches or of an outer page of one of its guards.
   pub held_by : (k g : ℕ) → holds (part k p.list) g ≡ true → (any_covers (p.caches k).locals g ≡ true) ⊎ (is_outer (p.books k) (g / 256) ≡ true)
-  held_by k g h = or_cases (any_covers (p.caches k).locals g) (is_outer (p.books k) (g / 256)) (sym ((between.rest.working k (holder_thread k g h)).locals.grains g) ∙ h)
+  held_by k g h = or_cases _ _ (sym ((between.rest.working k (holder_thread k g h)).locals.grains g) ∙ h)
 
   -- No actor has both a cached slot and a guard.
   pub never_both : (k g page : ℕ) → any_covers (p.caches k).locals g ≡ true → is_outer (p.books k) page ≡ true → ⊥
@@ -102,6 +97,16 @@ held_still f p p' before after books j g fewer h = elim (held_by f p' after j g 
   | inl cached ↦ cached_held f p before j g (holder_thread f p' after j g h) (fewer cached)
   | inr outer ↦ outer_held f p before j g (ap (λ (bs : Books). is_outer (bs j) (g / 256)) (sym books) ∙ outer)
 ]
+
+-- the block has this grain; it has one of the page; both
+abbrev has_here : ℕ → Block → Bool
+has_here g x = in_run (first_grain x.name) (length_of x) g
+
+abbrev meets : ℕ → Block → Bool
+meets page x = meets_page (first_grain x.name) (length_of x) page
+
+abbrev has_on : ℕ → ℕ → Block → Bool
+has_on page g x = meets page x && has_here g x
 
 module _ (f : Profile) (p : Progress) (w : World) (valid : IsValid f) (between : IsBetween f p) (same : HasSame f p w) where
   -- who has a right is a thread
@@ -120,31 +125,27 @@ module _ (f : Profile) (p : Progress) (w : World) (valid : IsValid f) (between :
   covered_none : (page g : ℕ) → ((address : ℕ) (b : Live) → live_in (visible p.list) address ≡ Some b → IsPartOf g address b → ⊥)
       → is_covered (blocks_on w page) g ≡ false
   covered_none page g none = false_from_ne_true (is_covered (blocks_on w page) g) (λ h.
-      let both : list_any (λ x. meets_page (first_grain x.name) (length_of x) page && in_run (first_grain x.name) (length_of x) g) w.live ≡ true =
-      any_filtered (λ x. in_run (first_grain x.name) (length_of x) g) (λ x. meets_page (first_grain x.name) (length_of x) page) w.live h in
-      let any : list_any (λ x. meets_page (first_grain x.name) (length_of x) page && in_run (first_grain x.name) (length_of x) g) (lives_in (visible p.list)) ≡ true =
-      subst (λ (bs : List Block). list_any (λ x. meets_page (first_grain x.name) (length_of x) page && in_run (first_grain x.name) (length_of x) g) bs ≡ true) live_is both in
-      let o : LivesSo (visible p.list) (λ x. meets_page (first_grain x.name) (length_of x) page && in_run (first_grain x.name) (length_of x) g) =
-      lives_so f (visible p.list) (λ x. meets_page (first_grain x.name) (length_of x) page && in_run (first_grain x.name) (length_of x) g) (runs f p.list valid between.legal) any in
+      let any : list_any (has_on page g) (lives_in (visible p.list)) ≡ true =
+      ap (list_any (has_on page g)) (sym live_is) ∙ any_filtered (has_here g) (meets page) w.live h in
+      let o : LivesSo (visible p.list) (has_on page g) = lives_so f (visible p.list) (has_on page g) (runs f p.list valid between.legal) any in
       none o.address o.live o.lives
-      (ap (λ (a : ℕ). in_run (a / 16) (length_of o.live.block) g) (sym o.at) ∙ and_second (meets_page (first_grain o.live.block.name) (length_of o.live.block) page) (in_run (first_grain o.live.block.name) (length_of o.live.block) g) o.so))
+      (ap (λ (a : ℕ). in_run (a / 16) (length_of o.live.block) g) (sym o.at) ∙ and_second (meets page o.live.block) (has_here g o.live.block) o.so))
 
   covered_some : (page g address : ℕ) (b : Live) → g / 256 ≡ page → live_in (visible p.list) address ≡ Some b → IsPartOf g address b
       → is_covered (blocks_on w page) g ≡ true
   covered_some page g address b on lives is =
       let at : address_of b.block.name ≡ address = lives_where f (visible p.list) (runs f p.list valid between.legal) address b lives in
-      let run : in_run (first_grain b.block.name) (length_of b.block) g ≡ true = ap (λ (a : ℕ). in_run (a / 16) (length_of b.block) g) at ∙ is in
-      let meets : meets_page (first_grain b.block.name) (length_of b.block) page ≡ true = ap (meets_page (first_grain b.block.name) (length_of b.block)) (sym on) ∙ run_meets (first_grain b.block.name) (length_of b.block) g run in
-      filtered_any (λ x. in_run (first_grain x.name) (length_of x) g) (λ x. meets_page (first_grain x.name) (length_of x) page) w.live
-      (subst (λ (bs : List Block). list_any (λ x. meets_page (first_grain x.name) (length_of x) page && in_run (first_grain x.name) (length_of x) g) bs ≡ true) (sym live_is)
-      (lives_listed (visible p.list) address b (λ x. meets_page (first_grain x.name) (length_of x) page && in_run (first_grain x.name) (length_of x) g) lives at
-      (ap (λ (t : Bool). t && in_run (first_grain b.block.name) (length_of b.block) g) meets ∙ run)))
+      let run : has_here g b.block ≡ true = ap (λ (a : ℕ). in_run (a / 16) (length_of b.block) g) at ∙ is in
+      let meet : meets page b.block ≡ true =
+      ap (meets_page (first_grain b.block.name) (length_of b.block)) (sym on) ∙ run_meets (first_grain b.block.name) (length_of b.block) g run in
+      filtered_any (has_here g) (meets page) w.live (ap (list_any (has_on page g)) live_is
+      ∙ lives_listed (visible p.list) address b (has_on page g) lives at (ap (λ (t : Bool). t && has_here g b.block) meet ∙ run))
 
   -- ---- caches
   cache_grains : (k page b : ℕ) → b < 256 → IsThread f k
       → list_any (has_grain page b) (cache_in w.caches k).locals ≡ any_covers (p.caches k).locals (256 * page + b)
   cache_grains k page b small is =
-      grains_same f (part k p.list) (p.caches k).locals (cache_in w.caches k).locals page b small (same.caches.each k is).locals (between.rest.working k is).locals.known
+      grains_same f _ _ _ page b small (same.caches.each k is).locals (between.rest.working k is).locals.known
 
   cached_none : (page b : ℕ) → b < 256 → ((k : ℕ) → any_covers (p.caches k).locals (256 * page + b) ≡ true → IsThread f k → ⊥)
       → is_cached (locals_on w page) b ≡ false
@@ -160,8 +161,7 @@ module _ (f : Profile) (p : Progress) (w : World) (valid : IsValid f) (between :
   pub guarded_held : (page b : ℕ) → b < 256 → is_guarded w page ≡ true
       → (k : ℕ) × (is_outer (p.books k) page ≡ true) × (holds (part k p.list) (256 * page + b) ≡ true)
   guarded_held page b small h =
-      let o = guarded_by p.books w same.guards page h in
-      (o.0, o.1, outer_held f p between o.0 (256 * page + b) (ap (is_outer (p.books o.0)) (on_page page b small) ∙ o.1))
+      search (arith, guarded_by, outer_held, on_page)
 
   -- ---- A GRAIN
   free_here : (page b : ℕ) → b < 256 → IsInOnePlace p.list (256 * page + b) → is_free w page b ≡ (free_bit p.list (256 * page + b) || is_guarded w page)
@@ -178,19 +178,19 @@ module _ (f : Profile) (p : Progress) (w : World) (valid : IsValid f) (between :
 
       in_cache : any_covers (p.caches held.actor).locals (256 * page + b) ≡ true → is_free w page b ≡ (free_bit p.list (256 * page + b) || is_guarded w page)
       in_cache cached =
-          let is : IsThread f held.actor = holder_thread f p between held.actor (256 * page + b) (held.holder held.actor ∙ eq-eqb held.actor held.actor refl) in
+          let is : IsThread f held.actor = holder_thread f p between held.actor _ (held.holder held.actor ∙ eq-eqb held.actor held.actor refl) in
           let unguarded : is_guarded w page ≡ false = false_from_ne_true (is_guarded w page) (λ h.
-          let o = guarded_held page b small h in never_both f p between held.actor (256 * page + b) page cached (ap (λ (j : ℕ). is_outer (p.books j) page) (alone o.0 o.2) ∙ o.1)) in
+          let o = guarded_held page b small h in never_both f p between held.actor _ page cached (ap (λ (j : ℕ). is_outer (p.books j) page) (alone o.0 o.2) ∙ o.1)) in
           cc (cached_some held.actor page b small is cached, and-false (not (is_covered (blocks_on w page) (256 * page + b))))
 
       in_book : is_outer (p.books held.actor) page ≡ true → is_free w page b ≡ (free_bit p.list (256 * page + b) || is_guarded w page)
       in_book outer =
           ap (λ (t : Bool). not t && not (is_cached (locals_on w page) b)) (covered_none page (256 * page + b) held.no_block)
           ∙ (ap (λ (t : Bool). not t) (cached_none page b small (λ k has is.
-          never_both f p between k (256 * page + b) page has (ap (λ (j : ℕ). is_outer (p.books j) page) (sym (alone k (cached_held f p between k (256 * page + b) is has))) ∙ outer)))
+          never_both f p between k _ page has (ap (λ (j : ℕ). is_outer (p.books j) page) (sym (alone k (cached_held f p between k _ is has))) ∙ outer)))
           ∙ sym (ap (λ (t : Bool). t || is_guarded w page) held.not_free ∙ outer_guarded p.books w same.guards held.actor page outer))
   free_here page b small (inr (inr covered)) =
-      let unguarded : is_guarded w page ≡ false = false_from_ne_true (is_guarded w page) (λ h. let o = guarded_held page b small h in false≢true (sym (covered.nobody o.0) ∙ o.2)) in
+      let unguarded : is_guarded w page ≡ false = false_from_ne_true _ (λ h. let o = guarded_held page b small h in false≢true (sym (covered.nobody o.0) ∙ o.2)) in
       cc (covered_some page (256 * page + b) covered.address covered.block (on_page page b small) covered.lives covered.covered)
 
   -- A grain is free in the text exactly where its bit is set in the replay or a guard has its page.
@@ -199,7 +199,7 @@ module _ (f : Profile) (p : Progress) (w : World) (valid : IsValid f) (between :
 
   -- of a page that no guard has; and where the bit is set
   pub free_unless : (page b : ℕ) → b < 256 → is_guarded w page ≡ false → is_free w page b ≡ free_bit p.list (256 * page + b)
-  free_unless page b small none = free_same page b small ∙ (ap (λ (t : Bool). free_bit p.list (256 * page + b) || t) none ∙ or-false (free_bit p.list (256 * page + b)))
+  free_unless page b small none = free_same page b small ∙ (ap (λ (t : Bool). free_bit p.list (256 * page + b) || t) none ∙ or-false _)
 
   -- On an unguarded page a grain is free in the text exactly where the replay reads it as free.
   pub read_unless : (page b : ℕ) → b < 256 → is_guarded w page ≡ false → is_free w page b ≡ free_of_page p.list page b
@@ -212,7 +212,7 @@ module _ (f : Profile) (p : Progress) (w : World) (valid : IsValid f) (between :
   -- A page with a grain whose bit is set is no outer page of a guard.
   pub bit_unguarded : (page b : ℕ) → b < 256 → free_bit p.list (256 * page + b) ≡ true → is_guarded w page ≡ false
   bit_unguarded page b small bit =
-      false_from_ne_true (is_guarded w page) (λ h. let o = guarded_held page b small h in false≢true (sym (free_unheld f p.list valid between.legal (256 * page + b) bit o.0) ∙ o.2))
+      false_from_ne_true _ (λ h. let o = guarded_held page b small h in false≢true (sym (free_unheld f p.list valid between.legal _ bit o.0) ∙ o.2))
 
 -- ==== Which pages the caches keep, in the text and in a replay.
 -- a local allocator that keeps the page
@@ -220,7 +220,7 @@ abbrev keeps_page : ℕ → Local → Bool
 keeps_page page l = (l.page == page) && l.keeps
 
 one_kept : (s : Slots) (l : Local) (page : ℕ) → IsSameLocal s l → keeps_page page l ≡ keeps_right s page
-one_kept s l page same = ap (λ (q : ℕ). (q == page) && l.keeps) same.page ∙ (ap (λ (t : Bool). (s.page == page) && t) same.keeps ∙ and_comm (s.page == page) s.right)
+one_kept s l page same = ap (λ (q : ℕ). (q == page) && l.keeps) same.page ∙ (ap (λ (t : Bool). (s.page == page) && t) same.keeps ∙ and_comm _ s.right)
 
 all_kept : (slots : List Slots) (locals : List Local) (page : ℕ) → AreSameLocals slots locals → list_any (keeps_page page) locals ≡ any_keeps slots page
 all_kept [] [] page same = refl
@@ -231,12 +231,12 @@ all_kept (s ∷ slots) (l ∷ locals) page same =
 
 module _ (f : Profile) (p : Progress) (w : World) (valid : IsValid f) (between : IsBetween f p) (same : HasSame f p w) where
   cache_keeps : (k page : ℕ) → IsThread f k → list_any (keeps_page page) (cache_in w.caches k).locals ≡ has_right (part k p.list) page
-  cache_keeps k page is = all_kept (p.caches k).locals (cache_in w.caches k).locals page (same.caches.each k is).locals ∙ sym ((between.rest.working k is).locals.rights page)
+  cache_keeps k page is = search (arith, all_kept)
 
   -- a page that is kept is in some thread's hands
   pub keeper : (page : ℕ) → is_kept w page ≡ true → (k : ℕ) × (has_right (part k p.list) page ≡ true)
   keeper page h =
-      let o : IsOfCache w.caches (keeps_page page) = of_cache w.caches (keeps_page page) (any_filtered (λ l. l.keeps) (λ l. l.page == page) (all_locals w.caches) h) in
+      let o : IsOfCache w.caches (keeps_page page) = of_cache w.caches _ (any_filtered (λ l. l.keeps) (λ l. l.page == page) _ h) in
       let is : IsThread f o.k = (o.first, omega (arith, o.last, same.caches.few)) in
       (o.k, sym (cache_keeps o.k page is) ∙ o.so)
 

@@ -1,30 +1,37 @@
 -- A BLOCK IS GIVEN after pages were made ready for it: what that is in the text, and which grains are in use then.
 use Rattle.std.proofs.Common.{◌≡◌, ℕ, ◌+◌, ◌*◌, ◌/◌, ◌<◌, ◌==◌, Bool, true, false, if◌then◌else◌, List, [], ◌∷◌, ◌++◌, reverse, Some, ◌⊎◌, inl, inr, refl, ap}
-use Rattle.std.proofs.Common.{sym, ◌∙◌, subst, eq-eqb, eqb-true, ne_eqb, zero, suc, None}
+use Rattle.std.proofs.Common.{sym, ◌∙◌, subst, eq-eqb, eqb-true, ne_eqb, zero, suc, None, Ok, append-nil, ◌≤◌, arith}
 use Rattle.std.proofs.lemmas.{Bool.false≢true, Option.same_Some, Bool.eqb-false}
 use Rattle.std.specs.List.{AllByRecursion}
 use Rattle.pas_bits.specs.Runs.{in_run}
-use Rattle.pas_profile.specs.{Blocks.address_of, Blocks.grain_of, Blocks.length_of, Profiles.IsValid, Directories.IsKind}
+use Rattle.pas_profile.specs.{Blocks.address_of, Blocks.grain_of, Blocks.length_of, Profiles.IsValid, Directories.IsKind, Profiles.IsPage}
+use Rattle.pas_profile.specs.{Directories.deed_word_of}
 use Rattle.pas_profile.specs.declared.{directory.Directory.Directory, event.Event.Event, name.Block.Block, profile.Profile.Profile, word.Word.Word}
 use Rattle.pas_machine.specs.Machine.{Run}
 use Rattle.pas_machine.specs.State.{Live, live_in, deed_in, gives_in}
-use Rattle.pas_cache.specs.Kinds.{allocating}
-use Rattle.pas_steps.specs.{Desks.triples, Events.events_by, Events.with_event, Kinds.Only, InTurn.InTurn, Views.View, Past.Always}
-use Rattle.pas_steps.specs.Lists.{Whole, part, word_after, visible}
+use Rattle.pas_cache.specs.{Kinds.allocating, Contents.Cached, Locals.any_covers}
+use Rattle.pas_steps.specs.{Desks.triples, Events.events_by, Events.with_event, Kinds.Only, InTurn.InTurn, Views.View, Past.Always, Kinds.Giving}
+use Rattle.pas_steps.specs.{Kinds.LookLife, Evidence.Readings, Views.has_right, Views.known_deed, Lists.part, Lists.word_after, Lists.visible}
 use Rattle.pas_steps.specs.declared.step.{Made.Made, Step.TheVariants.Hint, Step.TheVariants.Unpark}
-use Rattle.pas_core.specs.Good.{IsPartOf}
+use Rattle.pas_core.specs.{Good.IsPartOf, Rights.free_of_page}
 use Rattle.pas_core.proofs.{MachineRuns.runs, OneActor.lends_none}
 use Rattle.pas_large.specs.Gives.{BackStep, pages_from}
 use Rattle.pas_report.specs.declared.record.Record.{Record}
-use Rattle.pas_answers.specs.Answers.{Progress, Named, named, records_of}
-use Rattle.pas_same_text.specs.{State.World, Acts.IsBetween}
-use Rattle.pas_same_text.specs.Same.{IsSame, lives_in, ArePagesSame, HasSame}
-use Rattle.pas_same_text.proofs.{CachedSlots.block_of, CachedSlots.block_same, FlushActs.events_recorded, Flushes.visible_steps, FreeGrains.free_uncovered}
-use Rattle.pas_same_text.proofs.{GivingBack.epoch_stays_by, RunEvents.deeds_of, GivingBack.HintsPage, Pieces.IsPiece, Pieces.UsesOnly, SearchMarks.at_bare}
-use Rattle.pas_same_text.proofs.{SearchMarks.at_unbacked, GivingBack.once_parts, Pieces.piece_pages}
-use Rattle.pas_same_text.proofs.LeftPages.{IsInUse, LeavesBehind, left_offered, marks_behind, no_hint}
-use Rattle.pas_same_text.proofs.ReadyPages.{shown, shown_events, shown_records, shown_lives, shown_rest, IsAtPage, AllAtPage, search_at}
+use Rattle.pas_answers.specs.Answers.{Progress, named, records_of}
+use Rattle.pas_same_text.specs.{State.World, State.Cache, Acts.IsBetween, Searched.IsSearch}
+use Rattle.pas_same_text.specs.Same.{IsSame, lives_in, HasSame, AreSameCaches}
+use Rattle.pas_same_text.proofs.{CachedSlots.block_of, FlushActs.events_recorded, Flushes.visible_steps, FreeGrains.free_uncovered, GivingBack.epoch_stays_by}
+use Rattle.pas_same_text.proofs.{RunEvents.deeds_of, GivingBack.HintsPage, Pieces.IsPiece, SearchMarks.at_bare, SearchMarks.at_unbacked, GivingBack.once_parts}
+use Rattle.pas_same_text.proofs.{Pieces.piece_pages, LoggedFrees.after_with, SearchedPages.deed_chosen, Holders.guards_as, SearchedPages.offered_chosen}
+use Rattle.pas_same_text.proofs.{RestingPages.word_known}
+use Rattle.pas_same_text.proofs.LeftPages.{IsInUse, LeavesBehind, left_offered, marks_behind, no_hint, LeftAll, giving, leaving, rest_leaves}
+use Rattle.pas_same_text.proofs.ReadyPages.{shown, shown_events, shown_records, shown_lives, shown_rest, IsAtPage, AllAtPage, search_at, given_ready}
 use Rattle.pas_search.specs.Kinds.{AreSearch, EventsAt, IsReturnOf, KeepsMarks, searching}
+use Rattle.pas_search.specs.Searches.{ByDeed, FromOffered}
+use Rattle.pas_segregated.specs.Stops.{LeavesWhere}
+use Rattle.pas_same_text.specs.Searches.{address_on, gives, readies, searched}
+use Rattle.pas_steps.proofs.{Apart.only_both, Apart.only_within, Parts.part_of_own, Adding.triples_append}
+use Rattle.pas_bits.proofs.Runs.{run_of, to_run}
 
 -- ---- events that make pages ready
 -- a deed of the directory, of one of these pages, or a backing
@@ -36,32 +43,29 @@ module _ (k : ℕ) (d : Directory) (mine : ℕ → Bool) where
   abbrev pub AreReadying : List Event → Type 0
   AreReadying es = AllByRecursion (IsReadying k d mine) es
 
+  -- What neither a deed of these pages nor a backing changes is as it was.
+  reads_same : {A : Type 0} (read : List Event → A) → ((page : ℕ) (es : List Event) → mine page ≡ true → read (Event.Deed k page d ∷ es) ≡ read es)
+      → ((page : ℕ) (es : List Event) → read (Event.Back k page ∷ es) ≡ read es) → (es base : List Event) → AreReadying es → read (es ++ base) ≡ read base
+  reads_same read deeds backs [] base all = refl
+  reads_same read deeds backs (e ∷ es) base all = at e all.0 ∙ reads_same read deeds backs es base all.1
+    where
+      at : (e : Event) → IsReadying k d mine e → read (e ∷ (es ++ base)) ≡ read (es ++ base)
+      at e (IsReadying.Deeds page here) = deeds page (es ++ base) here
+      at e (IsReadying.Backs page) = backs page (es ++ base)
+
   -- They leave the live blocks as they were.
   pub ready_lives : (es base : List Event) (a : ℕ) → AreReadying es → live_in (es ++ base) a ≡ live_in base a
-  ready_lives [] base a all = refl
-  ready_lives (e ∷ es) base a all = at e all.0 ∙ ready_lives es base a all.1
-    where
-      at : (e : Event) → IsReadying k d mine e → live_in (e ∷ (es ++ base)) a ≡ live_in (es ++ base) a
-      at e (IsReadying.Deeds page here) = refl
-      at e (IsReadying.Backs page) = refl
+  ready_lives es base a all = reads_same (λ evs. live_in evs a) (λ page evs here. refl) (λ page evs. refl) es base all
 
   -- They leave the number of blocks given at each address as it was.
   pub ready_gives : (es base : List Event) (a : ℕ) → AreReadying es → gives_in (es ++ base) a ≡ gives_in base a
-  ready_gives [] base a all = refl
-  ready_gives (e ∷ es) base a all = at e all.0 ∙ ready_gives es base a all.1
-    where
-      at : (e : Event) → IsReadying k d mine e → gives_in (e ∷ (es ++ base)) a ≡ gives_in (es ++ base) a
-      at e (IsReadying.Deeds page here) = refl
-      at e (IsReadying.Backs page) = refl
+  ready_gives es base a all = reads_same (λ evs. gives_in evs a) (λ page evs here. refl) (λ page evs. refl) es base all
 
   -- They leave the deed of each other page as it was.
   pub ready_deeds : (es base : List Event) (x : ℕ) → mine x ≡ false → AreReadying es → deed_in (es ++ base) x ≡ deed_in base x
-  ready_deeds [] base x out all = refl
-  ready_deeds (e ∷ es) base x out all = at e all.0 ∙ ready_deeds es base x out all.1
-    where
-      at : (e : Event) → IsReadying k d mine e → deed_in (e ∷ (es ++ base)) x ≡ deed_in (es ++ base) x
-      at e (IsReadying.Deeds page here) = ap (λ (t : Bool). if t then Some d else deed_in (es ++ base) x) (ne_eqb page x (λ same. false≢true (sym out ∙ (ap mine (sym same) ∙ here))))
-      at e (IsReadying.Backs page) = refl
+  ready_deeds es base x out all = reads_same (λ evs. deed_in evs x)
+      (λ page evs here. cc (ne_eqb page x (λ same. false≢true (sym out ∙ (ap mine (sym same) ∙ here)))))
+      (λ page evs. refl) es base all
 
   -- The deeds of these pages make them ready.
   pub made_ready : (ps : List ℕ) → AllByRecursion (λ x. mine x ≡ true) ps → AreReadying (deeds_of k d ps)
@@ -106,7 +110,8 @@ module _ {f : Profile} {k : ℕ} {p q : Progress} {w : World} {steps : List Made
 
   -- The machine admits it.
   pub give_admitted : Run f (Event.Give k block ∷ (es ++ w.events))
-  give_admitted = subst (λ (base : List Event). Run f (Event.Give k block ∷ (es ++ base))) (sym g.same.pages.events) (subst (Run f) visible_are (runs f q.list g.valid g.there.legal))
+  give_admitted = subst (λ (base : List Event). Run f (Event.Give k block ∷ (es ++ base)))
+      (sym g.same.pages.events) (subst (Run f) visible_are (runs f q.list g.valid g.there.legal))
 
   -- the block that the text gives
   abbrev pub told : Block
@@ -114,9 +119,7 @@ module _ {f : Profile} {k : ℕ} {p q : Progress} {w : World} {steps : List Made
 
   -- It is the block that was given.
   pub block_is : block ≡ told
-  block_is = block_same block address (gives_in (shown es w).events address) room heap g.address_is
-      (give_admitted.0.turn ∙ (ap (λ (xs : List Event). gives_in xs (address_of block.name)) (sym (shown_events es w)) ∙ ap (gives_in (shown es w).events) g.address_is))
-      g.room_is g.heap_is
+  block_is = search (arith, give_admitted, shown_events)
 
   -- The text's events are those of the replay.
   pub events_now : (Event.Give k told ∷ (shown es w).events) ≡ visible q.list
@@ -130,18 +133,19 @@ module _ {f : Profile} {k : ℕ} {p q : Progress} {w : World} {steps : List Made
 
   -- The name stands for the block.
   pub names_now : (name : ℕ) → (named name (Some told) ∷ (shown es w).names) ≡ named name (Some block) ∷ p.names
-  names_now name = ap (λ (b : Block). named name (Some b) ∷ (shown es w).names) (sym block_is) ∙ ap (λ (ns : List Named). named name (Some block) ∷ ns) ((shown_rest es w).names ∙ g.same.names)
+  names_now name = simp (← block_is, (shown_rest es w).names, g.same.names)
 
   -- Its records are those of the replay.
   pub records_now : (p.records ++ records_of (events_by k (part k p.list) steps)) ≡ reverse (Record.Event (Event.Give k told) ∷ (shown es w).records)
   records_now =
       ap (λ (xs : List Event). p.records ++ records_of xs) g.events_are
       ∙ events_recorded p.records w.records (Record.Event (Event.Give k told) ∷ (shown es w).records) (Event.Give k block ∷ es) g.same.records
-      (ap (λ (b : Block). Record.Event (Event.Give k b) ∷ (shown es w).records) (sym block_is) ∙ ap (λ (rs : List Record). Record.Event (Event.Give k block) ∷ rs) (shown_records es w))
+      (ap (λ (b : Block). Record.Event (Event.Give k b) ∷ (shown es w).records) (sym block_is)
+      ∙ ap (λ (rs : List Record). Record.Event (Event.Give k block) ∷ rs) (shown_records es w))
 
   -- Its epoch is that of the replay.
   pub epoch_now : Only allocating steps → (shown es w).epoch ≡ word_after q.list Word.Epoch
-  epoch_now kinds = (shown_rest es w).epoch ∙ (g.same.epoch ∙ sym (ap (λ (m : Whole). word_after m Word.Epoch) g.list ∙ epoch_stays_by allocating refl k steps p.list kinds))
+  epoch_now kinds = cc ((shown_rest es w).epoch, epoch_stays_by allocating refl k steps p.list kinds)
 
   -- ---- the block lives
   abbrev live : Live
@@ -156,7 +160,7 @@ module _ {f : Profile} {k : ℕ} {p q : Progress} {w : World} {steps : List Made
   block_uses x b small covers = record {
     grain = b;
     small = small;
-    used = λ free. free_uncovered f q.list g.valid g.there.legal (256 * x + b) free (address_of block.name) live (lives_at (address_of block.name) true (eq-eqb (address_of block.name) (address_of block.name) refl)) covers;
+    used = λ free. free_uncovered f q.list g.valid g.there.legal (256 * x + b) free (address_of block.name) live (lives_at _ true (eq-eqb _ _ refl)) covers;
   }
 
   -- No block more lives but on pages on which it has grains.
@@ -169,8 +173,8 @@ module _ {f : Profile} {k : ℕ} {p q : Progress} {w : World} {steps : List Made
           → (live_in (visible p.list) a ≡ Some b) ⊎ ((g : ℕ) → IsPartOf g a b → used (g / 256) ≡ true)
       by_address true e =
           let is : live ≡ b = same_Some live b (sym (lives_at a true e) ∙ lives) in
-          inr (λ x of. within x (ap (λ (y : ℕ). in_run (y / 16) (length_of block) x) (eqb-true (address_of block.name) a e) ∙ (ap (λ (y : Live). in_run (a / 16) (length_of y.block) x) is ∙ of)))
-      by_address false e = inl (sym (lives_at a false e ∙ ready_lives k d mine es (visible p.list) a ready) ∙ lives)
+          inr (λ x of. within x (cc (eqb-true _ a e)))
+      by_address false e = inl (sym (lives_at a false e ∙ ready_lives k d mine es _ a ready) ∙ lives)
 
 -- ---- THE PAGE THAT SERVES A SEARCH, of which a block was given
 -- the search doesn't hint it
@@ -179,15 +183,96 @@ not_hinted page [] all h = h
 not_hinted page (m ∷ xs) all (inl h) = let o = all.0 (subst (IsReturnOf page) (sym h) IsReturnOf.Hints) in let bad : Hint page ≡ Unpark page = sym h ∙ o.0 in cc
 not_hinted page (m ∷ xs) all (inr h) = not_hinted page xs all.1 h
 
-module _ (page : ℕ) {f : Profile} {k : ℕ} {p q : Progress} {w v : World} {d : Directory} {got rest : List Made} {block : Block} {address room heap : ℕ}
-    (g : GivesBlock f k p q w (rest ++ got) (events_by k (part k p.list) got) block address room heap) (before : IsBetween f p) (now : HasSame f q v)
-    (searches : AreSearch got) (at : EventsAt d page got) (marks : Always (KeepsMarks page) got) (uses : UsesOnly p q (λ x. page == x))
-    (behind : LeavesBehind f k d q (triples k got ++ p.list) rest (λ x. page == x)) (kinds : Only allocating (rest ++ got)) (kind : IsKind d.kind) where
-  -- Where the text makes the page ready as the search did and hints none, each page is hinted and offered in it exactly where its bits are set.
-  pub page_served : ((x : ℕ) → deed_in v.events x ≡ deed_in (events_by k (part k p.list) got ++ w.events) x) → v.hinted ≡ w.hinted → ArePagesSame f q.list v
-  page_served deeds hinted = piece_pages piece
-    where
-      piece : IsPiece f k p q w v (λ x. page == x) got rest
+-- Its page is the one of the text: the lowest offered one that fits, or the lowest without a deed.
+pub page_chosen : {no_fit : Readings → Type 0} {f : Profile} {d : Directory} {k : ℕ} {p : Progress} {w : World} {fits : ℕ → List ℕ} {got : List Made}
+    → IsSearch no_fit f d k p got w fits → (page : ℕ) → IsPage f page → FromOffered no_fit d page got ⊎ ByDeed no_fit f d page got
+    → (no_fit (free_of_page p.list page) → ⊥) → searched f w d fits ≡ Ok page
+page_chosen s page of choice fit = search (arith, offered_chosen, deed_chosen)
+
+-- A request is answered by a block of n grains from the start on, of a page that was searched for.
+module _ (page start n name : ℕ) {f : Profile} {k : ℕ} {p : Progress} (c : Cached) {w : World} (d : Directory) (got rest : List Made) {block : Block}
+    {room heap : ℕ}
+    (g : GivesBlock f k p (after_with p k (rest ++ got) None (named name (Some block) ∷ p.names) c) w
+    (rest ++ got) (events_by k (part k p.list) got) block (address_on page start) room heap)
+    (at : EventsAt d page got) (long : room / 16 ≡ n) (some : 1 ≤ n) (fits : start + n ≤ 256) where
+  abbrev q : Progress
+  q = after_with p k (rest ++ got) None (named name (Some block) ∷ p.names) c
+
+  abbrev mine : ℕ → Bool
+  mine x = page == x
+
+  abbrev es : List Event
+  es = events_by k (part k p.list) got
+
+  grain : grain_of block.name ≡ 256 * page + start
+  grain = let whole : address_on page start / 16 ≡ 256 * page + start = omega arith in ap (λ (x : ℕ). x / 16) g.address_is ∙ whole
+
+  grains : length_of block ≡ n
+  grains = ap (λ (x : ℕ). x / 16) g.room_is ∙ long
+
+  small : start < 256
+  small = omega (arith, fits, some)
+
+  within_page : (x : ℕ) → in_run (grain_of block.name) (length_of block) x ≡ true → mine (x / 256) ≡ true
+  within_page x h = let on = run_of (grain_of block.name) (length_of block) x h in eq-eqb page (x / 256) (omega (arith, on.0, on.1, grain, grains, fits))
+
+  made_ready_at : AllAtPage k d page es
+  made_ready_at = search_at k d page (part k p.list) got at
+
+  -- The text makes the page ready as the search did.
+  pub page_ready : readies k d page w ≡ shown es w
+  page_ready = given_ready k d page f es w k block start made_ready_at (give_admitted g) small grain (omega (arith, grains, some))
+
+  in_use : IsInUse q page
+  in_use = block_uses g page start small (to_run _ (length_of block) (256 * page + start) (omega (arith, grain)) (omega (arith, grain, grains, some)))
+
+  at_page : (P : ℕ → Type 0) → P page → (x : ℕ) → mine x ≡ true → P x
+  at_page P own x here = subst P (eqb-true page x here) own
+
+  -- ---- the page is left before the block is given, behind the give, or not at all
+  left_order : (t : Bool) (xs : List Made) → LeavesWhere t page d xs → LeftAll d (if t then page ∷ [] else []) xs
+  left_order true xs leaves = (xs, [], leaves, refl, sym (append-nil xs))
+  left_order false xs none = none
+
+  left_among : (t : Bool) → AllByRecursion (λ x. mine x ≡ true) (if t then page ∷ [] else [])
+  left_among t = search (arith, eq-eqb)
+
+  module _ (t : Bool) (late left gave : List Made) (leaves : LeavesWhere t page d left) (late_kinds : Only (Giving ∷ LookLife ∷ []) late)
+      (gave_kinds : Only giving gave) (rest_is : rest ≡ late ++ (left ++ gave)) (right : has_right (got ++ part k p.list) page ≡ true)
+      (deed : known_deed (part k q.list) page ≡ deed_word_of d) (searches : AreSearch got) where
+    behind : LeavesBehind f k d q (triples k got ++ p.list) rest mine
+    behind = record {
+      pages = if t then page ∷ [] else [];
+      late = late;
+      left = left;
+      gave = gave;
+      order = left_order t left leaves;
+      late_kinds = late_kinds;
+      gave_kinds = gave_kinds;
+      rest_is = rest_is;
+      among = left_among t;
+      list = sym (triples_append k rest got p.list);
+      right = at_page (λ y. has_right (part k (triples k got ++ p.list)) y ≡ true) (ap (λ (u : View). has_right u page) (part_of_own k got p.list) ∙ right);
+      deeds = at_page (λ y. word_after q.list (Word.Deed y) ≡ deed_word_of d) (word_known f q.list g.there.legal k page d deed);
+      in_use = at_page (IsInUse q) in_use;
+    }
+
+    kinds : Only allocating (rest ++ got)
+    unfolding behind
+    kinds = only_both allocating rest got
+        (only_within leaving allocating rest refl (rest_leaves d behind.pages late left gave rest behind.order late_kinds gave_kinds rest_is))
+        (only_within searching allocating got refl searches.kinds)
+
+    -- ---- the text, whose caches are these then
+    module _ (cs : List Cache) (before : IsBetween f p) (marks : Always (KeepsMarks page) got) (kind : IsKind d.kind) (caches : AreSameCaches f q.caches cs)
+        (cached : (j x : ℕ) → any_covers (q.caches j).locals x ≡ true → (any_covers (p.caches j).locals x ≡ true) ⊎ (mine (x / 256) ≡ true)) where
+      abbrev v : World
+      v = record (gives k name heap (address_on page start) room (shown es w)) { caches = cs }
+
+      now : HasSame f q v
+      now = record { events = events_now g; live = live_now g; caches = caches; guards = guards_as p.books w v (shown_rest es w).guards g.same.guards }
+
+      piece : IsPiece f k p q w v mine got rest
       piece = record {
         valid = g.valid;
         before = before;
@@ -198,15 +283,27 @@ module _ (page : ℕ) {f : Profile} {k : ℕ} {p q : Progress} {w v : World} {d 
         kinds = kinds;
         lends = lends_none searching refl got searches.kinds;
         returns = searches.returns;
-        uses = uses;
+        uses = record { cached = cached; outer = λ j x h. inl h; live = only_block g d mine mine (at_ready k d page es made_ready_at) within_page };
         bare = λ x out. at_bare k d page x got (eqb-false page x out) at;
         unbacked = λ x out. at_unbacked k d page x got (eqb-false page x out) at;
-        deeds = λ x out. deeds x ∙ ready_deeds k d (λ y. page == y) (events_by k (part k p.list) got) w.events x out (at_ready k d page (events_by k (part k p.list) got) (search_at k d page (part k p.list) got at));
-        hinted = hinted;
+        deeds = λ x out. cc (shown_events es w, ready_deeds k d mine es w.events x out (at_ready k d page es made_ready_at));
+        hinted = (shown_rest es w).hinted;
         marks = marks_behind g.valid g.there behind;
         own_hint = λ x here h. absurd (elim (once_parts (λ m. m.step ≡ Hint x) rest got h) [
           | inl later ↦ no_hint g.valid g.there behind x later
           | inr early ↦ not_hinted page got marks (subst (λ (y : ℕ). HintsPage y got) (sym (eqb-true page x here)) early)
         ]);
         own_offer = left_offered g.valid g.there behind v now kind;
+      }
+
+      -- A block of a page that was searched for leads the text to the replay's state.
+      pub page_given : IsSame f q v
+      page_given = record {
+        pages = piece_pages piece;
+        caches = caches;
+        guards = now.guards;
+        names = names_now g name;
+        records = ap (λ (rs : List Record). p.records ++ rs) (append-nil (records_of (events_by k (part k p.list) (rest ++ got)))) ∙ records_now g;
+        epoch = epoch_now g kinds;
+        read = (shown_rest es w).read ∙ g.same.read;
       }

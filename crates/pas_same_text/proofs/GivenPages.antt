@@ -27,14 +27,16 @@ use Rattle.pas_same_text.proofs.RestingPages.{offered_bit}
 -- a page with a free grain that its blocks may cover has room
 room_from : (w : World) (d : Directory) (page b : ℕ) → b < 256 → usable_by_kind d.kind b ≡ true → is_free w page b ≡ true → has_room w d page ≡ true
 room_from w d page b small usable free = ap not (false_from_ne_true (each_of 0 256 (λ x. not (usable_by_kind d.kind x && is_free w page x))) (λ all.
-    false≢true (sym (ap not (and_from (usable_by_kind d.kind b) (is_free w page b) usable free)) ∙ each_at 256 0 b (λ x. not (usable_by_kind d.kind x && is_free w page x)) all (omega arith) small)))
+    false≢true (sym (ap not (and_from _ _ usable free)) ∙ each_at 256 0 b (λ x. not (usable_by_kind d.kind x && is_free w page x)) all (omega arith) small)))
 
 -- where free grains stay free, room stays
 room_grows : (w v : World) (d : Directory) (page : ℕ) → ((b : ℕ) → b < 256 → is_free w page b ≡ true → is_free v page b ≡ true) → has_room w d page ≡ true
     → has_room v d page ≡ true
 room_grows w v d page grows room =
-    let o : Fails 0 256 (λ b. not (usable_by_kind d.kind b && is_free w page b)) = some_fails 256 0 (λ b. not (usable_by_kind d.kind b && is_free w page b)) (not-true (each_of 0 256 (λ b. not (usable_by_kind d.kind b && is_free w page b))) room) in
-    let both : (usable_by_kind d.kind o.number && is_free w page o.number) ≡ true = not-false (usable_by_kind d.kind o.number && is_free w page o.number) o.fails in
+    let o : Fails 0 256 (λ b. not (usable_by_kind d.kind b && is_free w page b)) =
+    some_fails 256 0 (λ b. not (usable_by_kind d.kind b && is_free w page b))
+    (not-true (each_of 0 256 (λ b. not (usable_by_kind d.kind b && is_free w page b))) room) in
+    let both : (usable_by_kind d.kind o.number && is_free w page o.number) ≡ true = not-false _ o.fails in
     room_from v d page o.number o.high (and_first (usable_by_kind d.kind o.number) (is_free w page o.number) both)
     (grows o.number o.high (and_second (usable_by_kind d.kind o.number) (is_free w page o.number) both))
 
@@ -68,11 +70,13 @@ free_left f l valid legal g nobody none = by_place (in_one_place f l valid legal
 module _ (f : Profile) (p : Progress) (w : World) (valid : IsValid f) (between : IsBetween f p) (same : HasSame f p w) where
   -- a page of which a bit is set at a grain that its blocks may cover has room, and no guard has it
   pub open_from : (d : Directory) (page b : ℕ) → b < 256 → usable_by_kind d.kind b ≡ true → free_bit p.list (256 * page + b) ≡ true → is_open w d page ≡ true
-  open_from d page b small usable bit = is_opened w d page (bit_unguarded f p w valid between same page b small bit) (room_from w d page b small usable (bit_free f p w valid between same page b small bit))
+  open_from d page b small usable bit =
+      is_opened w d page (bit_unguarded f p w valid between same page b small bit)
+      (room_from w d page b small usable (bit_free f p w valid between same page b small bit))
 
   -- an outer page of a guard is not backed
   pub backed_unguarded : (page : ℕ) → backed_in (visible p.list) page ≡ true → is_guarded w page ≡ false
-  backed_unguarded page backed = false_from_ne_true (is_guarded w page) (λ h. let o = guarded_by p.books w same.guards page h in true≢false (sym backed ∙ between.rest.bare o.0 page o.1))
+  backed_unguarded page backed = false_from_ne_true _ (λ h. let o = guarded_by p.books w same.guards page h in true≢false (sym backed ∙ between.rest.bare o.0 page o.1))
 
   backed_is : (page : ℕ) → backed_in w.events page ≡ backed_in (visible p.list) page
   backed_is page = ap (λ (es : List Event). backed_in es page) same.events
@@ -87,17 +91,17 @@ module _ (f : Profile) (p : Progress) (w : World) (valid : IsValid f) (between :
         free = λ g of.
             let whole : 256 * page + g % 256 ≡ g = omega (arith, of) in
             let small : g % 256 < 256 = omega arith in
-            ap (free_bit p.list) (sym whole) ∙ (sym (free_unless f p w valid between same page (g % 256) small none) ∙ each_at 256 0 (g % 256) (is_free w page) empty (omega arith) small);
+            cc (free_unless f p w valid between same page (g % 256) small none, each_at 256 0 (g % 256) _ empty (omega arith) small);
       }
 
   -- A page that is backed and empty in the replay is idle in the text.
   pub page_idle : (page : ℕ) → IsEmptyBacked p.list page → is_idle w page ≡ true
   page_idle page e =
       let backed : backed_in (visible p.list) page ≡ true = one_backed (backed_in (visible p.list) page) (sym e.backed ∙ (agrees f p.list valid between.legal).backed page) in
-      let empty : is_empty w page ≡ true = each_all 256 0 (is_free w page) (λ b low high.
+      let empty : is_empty w page ≡ true = each_all 256 0 _ (λ b low high.
       let of : (256 * page + b) / 256 ≡ page = omega (arith, high) in
       bit_free f p w valid between same page b high (e.free (256 * page + b) of)) in
-      and_from (backed_in w.events page) (is_empty w page) (backed_is page ∙ backed) empty
+      and_from _ _ (backed_is page ∙ backed) empty
 
   -- at rest such a page is hinted
   pub idle_hinted : (page : ℕ) → is_idle w page ≡ true → empty_bit p.list page ≡ true
@@ -137,7 +141,9 @@ module _ (f : Profile) (k : ℕ) (l : Whole) (p' : Progress) (w v : World) (step
           (page_idle f p' v valid between same page (subst (λ (m : Whole). IsEmptyBacked m page) (sym list) empty)))
 
   from_offer : (page : ℕ) (d : Directory) → IsDirectoryOf f d → eligible_bit p'.list (number_of d) page ≡ true → is_offered v d page ≡ true
-  from_offer page d of bit = bit_offered f p' v valid between same page d of bit (at (offered_by k steps l (number_of d) page (ap (λ (m : Whole). eligible_bit m (number_of d) page) (sym list) ∙ bit)))
+  from_offer page d of bit =
+      bit_offered f p' v valid between same page d of bit
+      (at (offered_by k steps l (number_of d) page (ap (λ (m : Whole). eligible_bit m (number_of d) page) (sym list) ∙ bit)))
     where
       at : (eligible_bit l (number_of d) page ≡ true) ⊎ OffersPage page steps → is_open v d page ≡ true
       at (inl old) = open_grows w v d page (given.guarded page) (λ b small h. given.returns.grows page b small h) (had_open w d page (was.offered page d of ∙ old))
@@ -145,9 +151,4 @@ module _ (f : Profile) (k : ℕ) (l : Whole) (p' : Progress) (w v : World) (step
 
   -- After an act that only gives back, the hints and offers of the text are those of the replay.
   pub given_pages : ArePagesSame f p'.list v
-  given_pages = record {
-    events = same.events;
-    live = same.live;
-    hinted = λ page. same_truth (is_hinted v page) (empty_bit p'.list page) (to_bit page) (from_bit page);
-    offered = λ page d of. same_truth (is_offered v d page) (eligible_bit p'.list (number_of d) page) (offered_bit f p' v valid between same page d of) (from_offer page d of);
-  }
+  given_pages = search (arith, same_truth, to_bit, from_bit, offered_bit, from_offer)

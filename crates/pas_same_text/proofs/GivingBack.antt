@@ -1,7 +1,7 @@
 -- What steps that only give back leave of the words: free grains, offers, hints and backed pages stay; and which step sets a bit.
+use Rattle.std.proofs.lemmas.Bool.{false≢true}
 use Rattle.std.proofs.Common.{◌≡◌, ℕ, ◌/◌, ◌%◌, ◌<◌, ◌==◌, Bool, true, false, ◌&&◌, if◌then◌else◌, List, [], ◌∷◌, ◌++◌, ◌⊎◌, inl, inr, refl, ap, sym, ◌∙◌}
 use Rattle.std.proofs.Common.{subst, arith, true≢false, eqb-true}
-use Rattle.std.proofs.lemmas.Bool.{false≢true}
 use Rattle.pas_bits.specs.Bits.{has_bit}
 use Rattle.pas_bits.proofs.PageVectors.{page_bit-set, page_bit-clear}
 use Rattle.pas_profile.specs.{Directories.number_of, Layouts.same_word, Profiles.IsPage}
@@ -25,7 +25,8 @@ over : (Q : ℕ → Type 0) (x : Word) (ks ls : Kinds)
     → (k : ℕ) (xs : List Made) (l : Whole) → Only ks xs → Q (word_after l x) → Q (word_after (triples k xs ++ l) x)
 over Q x ks ls step w k [] l only h = h
 over Q x ks ls step w k (m ∷ xs) l only h =
-    step (epoch_of (part k (triples k xs ++ l))) m.step (word_after (triples k xs ++ l) x) (in_apart ks ls (place_of (kind_of m.step)) w only.0) (over Q x ks ls step w k xs l only.1 h)
+    step (epoch_of (part k (triples k xs ++ l))) m.step (word_after (triples k xs ++ l) x)
+    (in_apart ks ls (place_of (kind_of m.step)) w only.0) (over Q x ks ls step w k xs l only.1 h)
 
 backed_kept : (e : ℕ) (s : Step) (p old : ℕ) → is_in (Backing ∷ Unbacking ∷ []) (kind_of s) ≡ false
     → (if same_word (target s) (Word.Backed p) then new_value e s old else old) ≡ old
@@ -34,7 +35,7 @@ backed_kept e s p old is = search (arith, true≢false)
 -- where none backs a page or ends its backing, backed words stay
 pub backed_stays : (ks : Kinds) → apart ks (Backing ∷ Unbacking ∷ []) ≡ true → (k : ℕ) (xs : List Made) (l : Whole) (p : ℕ) → Only ks xs
     → word_after (triples k xs ++ l) (Word.Backed p) ≡ word_after l (Word.Backed p)
-backed_stays ks apart k xs l p only = over (λ n. n ≡ word_after l (Word.Backed p)) (Word.Backed p) ks (Backing ∷ Unbacking ∷ []) (λ e s old other h. backed_kept e s p old other ∙ h) apart k xs l only refl
+backed_stays ks apart k xs l p only = over (λ n. n ≡ word_after l (Word.Backed p)) _ ks _ (λ e s old other h. backed_kept e s p old other ∙ h) apart k xs l only refl
 
 hints_kept : (e : ℕ) (s : Step) (p old : ℕ) → is_in (Unhinting ∷ []) (kind_of s) ≡ false → has_bit old (p % 64) ≡ true
     → has_bit (if same_word (target s) (Word.Empty (p / 64)) then new_value e s old else old) (p % 64) ≡ true
@@ -43,7 +44,7 @@ hints_kept e s p old is h = search (arith, page_bit-set, true≢false)
 -- where none takes a hint back, hinted pages stay hinted
 pub hinted_stays : (ks : Kinds) → apart ks (Unhinting ∷ []) ≡ true → (k : ℕ) (xs : List Made) (l : Whole) (p : ℕ) → Only ks xs → empty_bit l p ≡ true
     → empty_bit (triples k xs ++ l) p ≡ true
-hinted_stays ks apart k xs l p only h = over (λ n. has_bit n (p % 64) ≡ true) (Word.Empty (p / 64)) ks (Unhinting ∷ []) (λ e s old other was. hints_kept e s p old other was) apart k xs l only h
+hinted_stays ks apart k xs l p only h = over (λ n. has_bit n (p % 64) ≡ true) _ ks _ (λ e s old other was. hints_kept e s p old other was) apart k xs l only h
 
 -- ---- marks: hints and offers of a page
 abbrev pub is_mark : ℕ → Step → Bool
@@ -108,10 +109,7 @@ hint_one e s p old h = inl h
 -- a page that is hinted now was so, or one of the steps hinted it
 pub hinted_by : (k : ℕ) (xs : List Made) (l : Whole) (p : ℕ) → empty_bit (triples k xs ++ l) p ≡ true → (empty_bit l p ≡ true) ⊎ HintsPage p xs
 hinted_by k [] l p h = inl h
-hinted_by k (m ∷ xs) l p h = elim (hint_one (epoch_of (part k (triples k xs ++ l))) m.step p (word_after (triples k xs ++ l) (Word.Empty (p / 64))) h) [
-  | inl was ↦ elim (hinted_by k xs l p was) [ inl old ↦ inl old | inr later ↦ inr (inr later) ]
-  | inr here ↦ inr (inl here)
-]
+hinted_by k (m ∷ xs) l p h = let ih = hinted_by k xs l p in search (arith, hint_one, ih)
 
 abbrev pub OffersPage : ℕ → List Made → Type 0
 OffersPage q = Once (λ m before. (d : Directory) × (m.step ≡ Offer q d))
@@ -120,13 +118,7 @@ OffersPage q = Once (λ m before. (d : Directory) × (m.step ≡ Offer q d))
 pub offer_one : (e : ℕ) (s : Step) (n p old : ℕ) → has_bit (if same_word (target s) (Word.Eligible n (p / 64)) then new_value e s old else old) (p % 64) ≡ true
     → (has_bit old (p % 64) ≡ true) ⊎ ((d : Directory) × (s ≡ Offer p d))
 offer_one e (Look x) n p old h = inl (ap (λ a. has_bit a (p % 64)) (sym (looked (same_word x (Word.Eligible n (p / 64))) old)) ∙ h)
-offer_one e (TakeRight q d) n p old h = by_page (number_of d == n) (q == p) (sym (page_bit-clear q p old (number_of d == n)) ∙ h)
-  where
-    by_page : (x t : Bool) → (if x && t then false else has_bit old (p % 64)) ≡ true
-        → (has_bit old (p % 64) ≡ true) ⊎ ((d' : Directory) × (TakeRight q d ≡ Offer p d'))
-    by_page true true set = absurd (false≢true set)
-    by_page true false set = inl set
-    by_page false t set = inl set
+offer_one e (TakeRight q d) n p old h = search (arith, page_bit-clear, false≢true)
 offer_one e (Offer q d) n p old h = by_page (number_of d == n) (q == p) refl (sym (page_bit-set q p old (number_of d == n)) ∙ h)
   where
     by_page : (x t : Bool) → (q == p) ≡ t → (if x && t then true else has_bit old (p % 64)) ≡ true
@@ -139,10 +131,7 @@ offer_one e s n p old h = inl h
 -- a page that is offered now was so, or one of the steps offered it
 pub offered_by : (k : ℕ) (xs : List Made) (l : Whole) (n p : ℕ) → eligible_bit (triples k xs ++ l) n p ≡ true → (eligible_bit l n p ≡ true) ⊎ OffersPage p xs
 offered_by k [] l n p h = inl h
-offered_by k (m ∷ xs) l n p h = elim (offer_one (epoch_of (part k (triples k xs ++ l))) m.step n p (word_after (triples k xs ++ l) (Word.Eligible n (p / 64))) h) [
-  | inl was ↦ elim (offered_by k xs l n p was) [ inl old ↦ inl old | inr later ↦ inr (inr later) ]
-  | inr here ↦ inr (inl here)
-]
+offered_by k (m ∷ xs) l n p h = let ih = offered_by k xs l n p in search (arith, offer_one, ih)
 
 -- A page that steps hint is one that they mark.
 pub hint_marks : (q : ℕ) (xs : List Made) → HintsPage q xs → IsMarked q xs
@@ -186,13 +175,13 @@ hint_read page (m ∷ xs) hints (inl h) =
 module _ (ks : Kinds) (f : Profile) (k : ℕ) (l : Whole) (page : ℕ) (no_take : apart ks (Taking ∷ []) ≡ true)
     (no_back : apart ks (Backing ∷ Unbacking ∷ []) ≡ true) where
   -- What was read as free is so still.
+  -- the word was read full, and no step takes a grain of it since
   pub free_read : (word b : ℕ) (xs : List Made) → Legal f (triples k xs ++ l) → Only ks xs → b < 64 → Once (ReadsAllFree page word) xs
       → has_bit (word_after (triples k xs ++ l) (Word.Free page word)) b ≡ true
   free_read word b [] legal only small h = absurd h
   free_read word b (m ∷ xs) legal only small (inr h) = free_stays ks no_take k (m ∷ []) (triples k xs ++ l) page word b (only.0, tt) (free_read word b xs legal.1 only.1 small h)
   free_read word b (m ∷ xs) legal only small (inl h) =
-      let at : m.answer ≡ word_after (triples k xs ++ l) (Word.Free page word) = legal.0.answer_is ∙ ap (λ s. word_after (triples k xs ++ l) (target s)) h.0 in
-      free_stays ks no_take k (m ∷ []) (triples k xs ++ l) page word b (only.0, tt) (ap (λ n. has_bit n b) (sym at) ∙ h.1 b small)
+      search arith
 
   backed_read : (xs : List Made) → Legal f (triples k xs ++ l) → Only ks xs → Once (ReadsBacked page) xs → word_after (triples k xs ++ l) (Word.Backed page) ≡ 1
   backed_read [] legal only h = absurd h
@@ -218,4 +207,4 @@ epoch_kept e s old is = search (arith, true≢false)
 -- Steps of kinds without a tick leave the epoch as it was.
 pub epoch_stays_by : (ks : Kinds) → apart ks (Ticking ∷ []) ≡ true → (k : ℕ) (xs : List Made) (l : Whole) → Only ks xs
     → word_after (triples k xs ++ l) Word.Epoch ≡ word_after l Word.Epoch
-epoch_stays_by ks apart k xs l only = over (λ n. n ≡ word_after l Word.Epoch) Word.Epoch ks (Ticking ∷ []) (λ e s old other h. epoch_kept e s old other ∙ h) apart k xs l only refl
+epoch_stays_by ks apart k xs l only = over (λ n. n ≡ word_after l Word.Epoch) Word.Epoch ks _ (λ e s old other h. epoch_kept e s old other ∙ h) apart k xs l only refl

@@ -23,8 +23,8 @@ use Rattle.pas_same_text.specs.{Known.KeepsSame}
 use Rattle.pas_same_text.specs.Guards.{guards_of, lowers_ended, is_over, raises, guards}
 use Rattle.pas_same_text.proofs.{KeepersRest.book_finds, LowerActs.sweep_same, LowerActs.ended_text, MissedGuards.missed_same, PagesRequests.pages_answered}
 use Rattle.pas_same_text.proofs.{PagesRequests.named_large, RaisedGuards.raised_same, ReadyPages.shown, RunEvents.deeded, RunEvents.deeds_of}
-use Rattle.pas_same_text.proofs.{SameIndexes.request_indexes, SameIndexes.all_lowered_keep, Seats.thread_of, Seats.keeper_of, StillIndexes.each_keeps}
-use Rattle.pas_same_text.proofs.{StillIndexes.backs_keep, StillIndexes.same_indexes, TriedRuns.sought_text, TriedRuns.missed_text, TriedRuns.IsSought}
+use Rattle.pas_same_text.proofs.{SameIndexes.request_indexes, SameIndexes.all_lowered_keep, Seats.keeper_of, StillIndexes.each_keeps, StillIndexes.backs_keep}
+use Rattle.pas_same_text.proofs.{StillIndexes.same_indexes, TriedRuns.sought_text, TriedRuns.missed_text, TriedRuns.IsSought}
 use Rattle.pas_same_text.proofs.SeatedActs.{own_book, other_book, swept, swept_between, raise_legal, raise_fits, sweep_and_raise_are_the_try, tried_between}
 
 -- deeds change no index
@@ -61,9 +61,6 @@ module _ (threads : ℕ) (f : Profile) (keeper line k other name heap size align
   of : IsDirectoryOf f d
   of = record { heap = admitted.of_profile; kind = tt; class = tt }
 
-  thread : IsThread f k
-  thread = thread_of threads f k known.planned.0.1 known.seated.few
-
   keeps : IsThread f keeper
   keeps = keeper_of threads f keeper known.planned.0.0
 
@@ -88,13 +85,15 @@ module _ (threads : ℕ) (f : Profile) (keeper line k other name heap size align
     between = swept_between f keeper r p t valid keeps known.taken.before uncached h legal
 
     legal_raise : Legal f (triples keeper (h.raise.after ++ xs) ++ pm.list)
-    legal_raise = subst (λ (ms : List Made). Legal f (triples keeper ms ++ pm.list)) h.raise.steps_are (raise_legal f keeper r p t valid keeps known.taken.before uncached h legal)
+    legal_raise = rw h.raise.steps_are at (raise_legal f keeper r p t valid keeps known.taken.before uncached h legal)
 
     sought : IsSought f keeper heap n pm wm xs
     sought = record {
       valid = valid;
       between = between;
-      same = subst (IsSame f pm) (sym (ended_text f keeper p w known.taken.same)) (sweep_same f keeper false p w h.swept h.left h.lowered valid keeps known.taken.before known.taken.same h.sweep between);
+      same =
+          rw (ended_text f keeper p w known.taken.same)
+          (sweep_same f keeper false p w h.swept h.left h.lowered valid keeps known.taken.before known.taken.same h.sweep between);
       of = of;
       legal = legal_earlier f keeper h.raise.after xs pm.list legal_raise;
       kinds = h.raise.kinds;
@@ -104,7 +103,7 @@ module _ (threads : ℕ) (f : Profile) (keeper line k other name heap size align
     }
 
     lists_are : triples keeper t.steps ++ p.list ≡ triples keeper (h.raise.after ++ xs) ++ pm.list
-    lists_are = sym (sweep_and_raise_are_the_try f keeper r p t valid keeps known.taken.before uncached h legal) ∙ ap (λ (ms : List Made). triples keeper ms ++ pm.list) h.raise.steps_are
+    lists_are = cc (sweep_and_raise_are_the_try f keeper r p t valid keeps known.taken.before uncached h legal)
 
     book_before : pm.books keeper ≡ h.left
     book_before = own_book p.books keeper h.left
@@ -114,17 +113,20 @@ module _ (threads : ℕ) (f : Profile) (keeper line k other name heap size align
     own_events = events_by keeper (part keeper pm.list) (h.raise.after ++ xs)
 
     events_same : events_by keeper (h.swept ++ part keeper p.list) h.raised ≡ own_events
-    events_same = ap (events_by keeper (h.swept ++ part keeper p.list)) h.raise.steps_are ∙ ap (λ (v : View). events_by keeper v (h.raise.after ++ xs)) (sym (part_of_own keeper h.swept p.list))
+    events_same = cc (part_of_own keeper h.swept p.list)
 
     records_after : p.records ++ t.records ≡ pm.records ++ (records_of own_events ++ said_of_guard keeper name n t.block)
     records_after = search (arith, append_assoc, events_same)
 
+  abbrev tried_by : List Made → List Record → Option Block → List BookGuard → Tried
+  tried_by steps records block guards' = record { steps = steps; records = records; block = block; guards = guards' }
+
   -- ==== A GUARD WENT UP
   module _ (steps : List Made) (records : List Record) (block : Block) (guards' : List BookGuard)
-      (h : IsTried f keeper r (part keeper p.list) (p.books keeper) (record { steps = steps; records = records; block = Some block; guards = guards' }))
-      (reached : p' ≡ after_giving (after_trying p keeper (record { steps = steps; records = records; block = Some block; guards = guards' })) name block) where
+      (h : IsTried f keeper r (part keeper p.list) (p.books keeper) (tried_by steps records (Some block) guards'))
+      (reached : p' ≡ after_giving (after_trying p keeper (tried_by steps records (Some block) guards')) name block) where
     abbrev t : Tried
-    t = record { steps = steps; records = records; block = Some block; guards = guards' }
+    t = tried_by steps records (Some block) guards'
 
     abbrev q : Progress
     q = after_giving (after_trying p keeper t) name block
@@ -143,7 +145,7 @@ module _ (threads : ℕ) (f : Profile) (keeper line k other name heap size align
         let at : address_of block.name ≡ (run.first + 1) * 4096 = ap (λ (b : Block). address_of b.name) run.block_is in
         let low : address_of block.name / 4096 - 1 ≡ run.first = omega (arith, at) in
         let high : address_of block.name / 4096 + n ≡ run.first + n + 1 = omega (arith, at) in
-        ap (λ (x : ℕ). Record.Said keeper (Said.Guarded x (address_of block.name / 4096 + n) name) ∷ []) low ∙ ap (λ (x : ℕ). Record.Said keeper (Said.Guarded run.first x name) ∷ []) high
+        cc
 
     up_same : IsSame f q (raises keeper name heap run.first n (shown (deeds_of keeper d (deeded h.raise.searched)) wm))
     up_same = raised_same name (sought t h there.legal) run there
@@ -155,16 +157,18 @@ module _ (threads : ℕ) (f : Profile) (keeper line k other name heap size align
 
     up_act : IsSame f p' (guards f keeper k (Some r) w) × ((guards f keeper k (Some r) w).indexes ≡ indexes)
     up_act = (
-      subst (λ (x : World). IsSame f p' x) (sym up_text) (subst (λ (y : Progress). IsSame f y (raises keeper name heap run.first n (shown (deeds_of keeper d (deeded h.raise.searched)) wm))) (sym reached) up_same),
-      ap (λ (x : World). x.indexes) up_text ∙ (raised_indexes keeper name heap run.first n (shown (deeds_of keeper d (deeded h.raise.searched)) wm) ∙ (deeds_keep_indexes keeper d (deeded h.raise.searched) wm ∙ wm_indexes)),
+      subst (λ (x : World). IsSame f p' x) (sym up_text) (subst
+          (λ (y : Progress). IsSame f y (raises keeper name heap run.first n (shown (deeds_of keeper d (deeded h.raise.searched)) wm))) (sym reached) up_same),
+      simp (up_text, raised_indexes, deeds_keep_indexes, wm_indexes),
     )
 
   -- ==== NONE DID
   module _ (steps : List Made) (records : List Record) (guards' : List BookGuard)
-      (h : IsTried f keeper r (part keeper p.list) (p.books keeper) (record { steps = steps; records = records; block = None; guards = guards' }))
-      (is : AnswersTried f op r None (after_trying p keeper (record { steps = steps; records = records; block = None; guards = guards' })) p') (named : TriedIsNamedBy f indexes op r None (after_trying p keeper (record { steps = steps; records = records; block = None; guards = guards' })) p' is) where
+      (h : IsTried f keeper r (part keeper p.list) (p.books keeper) (tried_by steps records None guards'))
+      (is : AnswersTried f op r None (after_trying p keeper (tried_by steps records None guards')) p')
+      (named : TriedIsNamedBy f indexes op r None (after_trying p keeper (tried_by steps records None guards')) p' is) where
     abbrev none : Tried
-    none = record { steps = steps; records = records; block = None; guards = guards' }
+    none = tried_by steps records None guards'
 
     abbrev left : Progress
     left = after_trying p keeper none
@@ -174,9 +178,6 @@ module _ (threads : ℕ) (f : Profile) (keeper line k other name heap size align
 
     left_between : IsBetween f left
     left_between = tried_between f keeper r p none valid keeps known.taken.before uncached h legal_left
-
-    abbrev after_sweep : Progress
-    after_sweep = pm none h legal_left
 
     missed : IsNotRaised f d n h.left guards' h.raise.searched h.raise.after
     missed = h.raise.outcome
@@ -189,8 +190,8 @@ module _ (threads : ℕ) (f : Profile) (keeper line k other name heap size align
 
     same_left : IsSame f left tried
     same_left = missed_same (sought none h legal_left) missed.found left_between
-        (lists_are none h legal_left ∙ ap (λ (ms : List Made). triples keeper ms ++ after_sweep.list) searched_all) refl (ap (with_book p.books keeper) missed.same) refl
-        (records_after none h legal_left ∙ ap (λ (rs : List Record). after_sweep.records ++ rs) (append-nil (records_of (own_events none h legal_left)) ∙ ap (λ (ms : List Made). records_of (events_by keeper (part keeper after_sweep.list) ms)) searched_all)) refl
+        (cc (lists_are none h legal_left, searched_all)) refl (ap (with_book p.books keeper) missed.same) refl
+        (cc (records_after none h legal_left, append-nil (records_of (own_events none h legal_left)), searched_all)) refl
 
     down_text : guards f keeper k (Some r) w ≡ serves f k name heap (route_in f size align) (room_in f size align) align tried
     down_text =
@@ -204,19 +205,19 @@ module _ (threads : ℕ) (f : Profile) (keeper line k other name heap size align
     down_act = (
       subst (λ (x : World). IsSame f p' x) (sym down_text)
           (subst (λ (x : Progress). IsSame f x (serves f k name heap (route_in f size align) (room_in f size align) align tried)) (sym is.2)
-          (pages_answered f k name heap size align left is.0 tried admitted route (record { valid = valid; thread = thread; before = left_between; after = subst (IsBetween f) is.2 known.taken.after; same = same_left; served = is.1 })
+          (pages_answered f k name heap size align left is.0 tried admitted route (search (arith, left_between, same_left))
           (named_large f r indexes is.0.found route named ∙ ap (λ (ix : Indexes). found_in ix heap n) (sym tried_indexes)))),
-      ap (λ (x : World). x.indexes) down_text ∙ (request_indexes f k name heap (route_in f size align) (room_in f size align) align tried ∙ ap (λ (ix : Indexes). after_request (route_in f size align) heap n ix) tried_indexes),
+      simp (down_text, request_indexes, tried_indexes),
     )
 
   -- ==== EITHER
   either_act : (steps : List Made) (records : List Record) (block : Option Block) (guards' : List BookGuard)
-      → IsTried f keeper r (part keeper p.list) (p.books keeper) (record { steps = steps; records = records; block = block; guards = guards' })
-      → (is : AnswersTried f op r block (after_trying p keeper (record { steps = steps; records = records; block = block; guards = guards' })) p')
-      → TriedIsNamedBy f indexes op r block (after_trying p keeper (record { steps = steps; records = records; block = block; guards = guards' })) p' is
+      → IsTried f keeper r (part keeper p.list) (p.books keeper) (tried_by steps records block guards')
+      → (is : AnswersTried f op r block (after_trying p keeper (tried_by steps records block guards')) p')
+      → TriedIsNamedBy f indexes op r block (after_trying p keeper (tried_by steps records block guards')) p' is
       → IsSame f p' (guards f keeper k (Some r) w)
       × ((guards f keeper k (Some r) w).indexes
-      ≡ after_tried f op r block (after_trying p keeper (record { steps = steps; records = records; block = block; guards = guards' })) p' is indexes)
+      ≡ after_tried f op r block (after_trying p keeper (tried_by steps records block guards')) p' is indexes)
   either_act steps records (Some block) guards' h is named = up_act steps records block guards' h is
   either_act steps records None guards' h is named = down_act steps records guards' h is named
 
@@ -227,13 +228,12 @@ module _ (threads : ℕ) (f : Profile) (keeper line k other name heap size align
       record { same = both.0; indexes_are = both.1 }
 
 -- ---- THE ACT
+-- only a guarded request is planned for a keeper
 by_what : (threads : ℕ) (f : Profile) (keeper line k : ℕ) (what : What)
     → KeepsSame threads f (Act.Guards keeper (record { line = line; actor = k; what = what }))
-by_what threads f keeper line k (What.Guarded other name heap size align) p p' w indexes known = guarded_kept threads f keeper line k other name heap size align p p' w indexes known
-by_what threads f keeper line k what p p' w indexes known = absurd (none_kept known.planned.1.1.0)
-  where
-    none_kept : None ≡ Some keeper → ⊥
-    none_kept is = cc
+by_what threads f keeper line k (What.Guarded other name heap size align) p p' w indexes known =
+    guarded_kept threads f keeper line k other name heap size align p p' w indexes known
+by_what threads f keeper line k what p p' w indexes known = search arith
 
 -- A guarded request leads the text to the replay's state, with its indexes.
 pub guards_keep : (threads : ℕ) (f : Profile) (keeper : ℕ) (op : Op) → KeepsSame threads f (Act.Guards keeper op)

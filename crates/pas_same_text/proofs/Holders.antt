@@ -1,8 +1,8 @@
 -- The live blocks in a list, and those that the machine has by their addresses.
+use Rattle.std.proofs.lemmas.Option.{same_Some, none-some}
 use Rattle.std.proofs.Common.{arith, ◌≡◌, ℕ, ◌/◌, ◌<◌, ◌≢◌, ◌==◌, Bool, true, false, not, ◌&&◌, ◌||◌, if◌then◌else◌, List, [], ◌∷◌, Option, Some, None, ◌⊎◌}
 use Rattle.std.proofs.Common.{inl, inr, refl, ap, sym, ◌∙◌, eq-eqb, ne_eqb, true≢false, map, subst}
 use Rattle.std.proofs.lemmas.Bool.{eqb-false, false≢true, or_cases, or_left, not-true, and_from, or_right, false_from_ne_true}
-use Rattle.std.proofs.lemmas.Option.{same_Some, none-some}
 use Rattle.std.specs.List.{list_any, filter}
 use Rattle.pas_bits.specs.Runs.{in_run}
 use Rattle.pas_bits.proofs.Runs.{first_of_run}
@@ -52,29 +52,12 @@ elsewhere f es block p o may some same =
 there : (k : ℕ) (block : Block) (es : List Event) (p : Block → Bool) (o : LivesSo es p) → address_of block.name ≢ o.address
     → LivesSo (Event.Give k block ∷ es) p
 there k block es p o ne =
-    let live : Live = record { actor = k; block = block } in
-    record {
-      address = o.address;
-      live = o.live;
-      lives = ap (λ (t : Bool). if t then Some live else live_in es o.address) (ne_eqb (address_of block.name) o.address ne) ∙ o.lives;
-      at = o.at;
-      some = o.some;
-      so = o.so;
-    }
+    search (arith, ne_eqb)
 
 ended : (k : ℕ) (name : Name) (e : ℕ) (es : List Event) (p : Block → Bool) (o : LivesSo es (λ x. not (is_at (address_of name) x) && p x))
     → LivesSo (Event.End k name e ∷ es) p
 ended k name e es p o =
-    let away : is_at (address_of name) o.live.block ≡ false = not-true (is_at (address_of name) o.live.block) (and_first (not (is_at (address_of name) o.live.block)) (p o.live.block) o.so) in
-    let ne : address_of name ≢ o.address = λ same. eqb-false (address_of o.live.block.name) (address_of name) away (o.at ∙ sym same) in
-    record {
-      address = o.address;
-      live = o.live;
-      lives = ap (λ (t : Bool). if t then None else live_in es o.address) (ne_eqb (address_of name) o.address ne) ∙ o.lives;
-      at = o.at;
-      some = o.some;
-      so = and_second (not (is_at (address_of name) o.live.block)) (p o.live.block) o.so;
-    }
+    search (arith, not-true, and_first, eqb-false, ne_eqb, and_second)
 
 -- .. after an event that gives and ends none
 still : (e : Event) (es : List Event) (p : Block → Bool) (o : LivesSo es p) → live_in (e ∷ es) o.address ≡ live_in es o.address → LivesSo (e ∷ es) p
@@ -92,16 +75,12 @@ lives_so f [] p run h = absurd (false≢true h)
 lives_so f (Event.Deed k q d ∷ es) p run h = still (Event.Deed k q d) es p (lives_so f es p run.1 h) refl
 lives_so f (Event.Back k q ∷ es) p run h = still (Event.Back k q) es p (lives_so f es p run.1 h) refl
 lives_so f (Event.Unback k q e ∷ es) p run h = still (Event.Unback k q e) es p (lives_so f es p run.1 h) refl
-lives_so f (Event.Give k block ∷ es) p run h = given_one f k block es p run.0 (some_grain block.room run.0.whole run.0.some) (lives_so f es p run.1) (or_cases (p block) (list_any p (lives_in es)) h)
-lives_so f (Event.End k name e ∷ es) p run h = ended k name e es p (lives_so f es (λ x. not (is_at (address_of name) x) && p x) run.1 (any_filtered p (λ x. not (is_at (address_of name) x)) (lives_in es) h))
+lives_so f (Event.Give k block ∷ es) p run h = given_one f k block es p run.0 (some_grain block.room run.0.whole run.0.some) (lives_so f es p run.1) (or_cases (p block) _ h)
+lives_so f (Event.End k name e ∷ es) p run h =
+    ended k name e es p (lives_so f es (λ x. not (is_at (address_of name) x) && p x) run.1 (any_filtered p (λ x. not (is_at (address_of name) x)) _ h))
 lives_so f (Event.Reject k name why ∷ es) p run h = still (Event.Reject k name why) es p (lives_so f es p run.1 h) refl
 
 -- ---- from the machine to the list
-given_listed : (t : Bool) (block : Block) (k : ℕ) (old : Option Live) (b : Live) (p : Block → Bool) (rest : Bool)
-    → (if t then Some (record { actor = k; block = block }) else old) ≡ Some b
-    → (old ≡ Some b → rest ≡ true) → p b.block ≡ true → (p block || rest) ≡ true
-given_listed t block k old b p rest is older so = search (arith, same_Some, or_left)
-
 ended_live : (t : Bool) (old : Option Live) (b : Live) → (if t then None else old) ≡ Some b → (t ≡ false) × (old ≡ Some b)
 ended_live t old b is = search (arith, none-some)
 
@@ -112,13 +91,9 @@ lives_listed [] address b p is at so = absurd (none-some b is)
 lives_listed (Event.Deed k q d ∷ es) address b p is at so = lives_listed es address b p is at so
 lives_listed (Event.Back k q ∷ es) address b p is at so = lives_listed es address b p is at so
 lives_listed (Event.Unback k q e ∷ es) address b p is at so = lives_listed es address b p is at so
-lives_listed (Event.Give k block ∷ es) address b p is at so =
-    given_listed (address_of block.name == address) block k (live_in es address) b p (list_any p (lives_in es)) is (λ older. lives_listed es address b p older at so) so
+lives_listed (Event.Give k block ∷ es) address b p is at so = let ih = lives_listed es address b p in search (arith, same_Some, or_left, ih)
 lives_listed (Event.End k name e ∷ es) address b p is at so =
-    let was = ended_live (address_of name == address) (live_in es address) b is in
-    let ne : address_of name ≢ address = eqb-false (address_of name) address was.0 in
-    let away : is_at (address_of name) b.block ≡ false = ne_eqb (address_of b.block.name) (address_of name) (λ same. ne (sym (sym at ∙ same))) in
-    filtered_any p (λ x. not (is_at (address_of name) x)) (lives_in es) (lives_listed es address b (λ x. not (is_at (address_of name) x) && p x) was.1 at (and_from (not (is_at (address_of name) b.block)) (p b.block) (ap not away) so))
+    let ih = lives_listed es address b in search (arith, ended_live, eqb-false, ne_eqb, filtered_any, and_from, ih)
 lives_listed (Event.Reject k name why ∷ es) address b p is at so = lives_listed es address b p is at so
 
 -- ==== OUTER PAGES of guards: those of the text are those of the keepers' books.
@@ -133,9 +108,9 @@ told_outer keeper page (g ∷ gs) = ap (λ (t : Bool). is_outer_of g page || t) 
 -- a guard that passes a test is some keeper's
 of_keeper : (test : Guard → Bool) (gs : List Guard) → list_any test gs ≡ true → (k : ℕ) × (list_any (λ g. (g.keeper == k) && test g) gs ≡ true)
 of_keeper test [] h = absurd (false≢true h)
-of_keeper test (g ∷ gs) h = elim (or_cases (test g) (list_any test gs) h) [
-  | inl here ↦ (g.keeper, or_left ((g.keeper == g.keeper) && test g) (list_any (λ (x : Guard). (x.keeper == g.keeper) && test x) gs) (and_from (g.keeper == g.keeper) (test g) (eq-eqb g.keeper g.keeper refl) here))
-  | inr later ↦ (let o = of_keeper test gs later in (o.0, or_right ((g.keeper == o.0) && test g) (list_any (λ (x : Guard). (x.keeper == o.0) && test x) gs) o.1))
+of_keeper test (g ∷ gs) h = elim (or_cases (test g) _ h) [
+  | inl here ↦ (g.keeper, or_left _ (list_any (λ (x : Guard). (x.keeper == g.keeper) && test x) gs) (and_from _ (test g) (eq-eqb g.keeper g.keeper refl) here))
+  | inr later ↦ (let o = of_keeper test gs later in (o.0, or_right _ (list_any (λ (x : Guard). (x.keeper == o.0) && test x) gs) o.1))
 ]
 
 module _ (books : Books) (w : World) (same : AreSameGuards books w.guards) where

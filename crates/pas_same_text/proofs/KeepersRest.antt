@@ -1,12 +1,12 @@
 -- OUTER PAGES STAY BARE: whom nothing lets back a page, and what a keeper does that raises a guard.
 use Rattle.std.proofs.Common.{◌≡◌, ℕ, ◌/◌, ◌==◌, Bool, true, false, if◌then◌else◌, List, [], ◌∷◌, ◌++◌, inl, inr, ap, sym, ◌∙◌, subst, arith, true≢false}
-use Rattle.std.proofs.Common.{eqb-true, eq-eqb, ◌+◌, ◌<◌, ◌≤◌, not, ◌||◌, Option, None, Some, ◌⊎◌, refl, All}
-use Rattle.std.proofs.lemmas.Bool.{cases_Bool, eqb-false, or_cases, or_right}
+use Rattle.std.proofs.Common.{eqb-true, eq-eqb, ◌+◌, ◌<◌, ◌≤◌, not, ◌||◌, Option, None, Some, ◌⊎◌, refl}
+use Rattle.std.proofs.lemmas.Bool.{cases_Bool, eqb-false, or_cases}
 use Rattle.pas_profile.specs.{Layouts.same_word, Profiles.IsValid}
 use Rattle.pas_profile.specs.declared.{profile.Profile.Profile, word.Word.Word, name.Block.Block}
 use Rattle.pas_machine.specs.State.{backed_in}
-use Rattle.pas_steps.specs.{Allowed.Allowed, Desks.triples, Effects.target, Effects.new_value, Past.Since, Views.View, Views.holds, Views.epoch_of}
-use Rattle.pas_steps.specs.{Clear.HasNothing, Kinds.Giving, Kinds.LookLife, Kinds.returning}
+use Rattle.pas_steps.specs.{Allowed.Allowed, Desks.triples, Effects.target, Effects.new_value, Past.Since, Views.View, Views.holds, Clear.HasNothing}
+use Rattle.pas_steps.specs.{Kinds.Giving, Kinds.LookLife, Kinds.returning}
 use Rattle.pas_steps.specs.Lists.{Whole, part, word_after, visible, Legal}
 use Rattle.pas_steps.specs.declared.step.{Made.Made, Step.Step, Step.TheVariants.Back}
 use Rattle.pas_steps.proofs.{Parts.part_of_others, Parts.part_of_own, Adding.triples_append, Past.always_map}
@@ -14,11 +14,9 @@ use Rattle.pas_core.specs.Good.{word_of_backed}
 use Rattle.pas_core.proofs.{Grains.one_holder, MachineRuns.agrees, Nexts.agreed_steps, OneActor.legal_earlier}
 use Rattle.pas_guard.specs.{Evidence.BackedReadHere, Seeks.LeftSince, Keepers.IsBeside, Sweeps.sweeping, Sweeps.SweepSteps, Raises.BacksNot, Raises.guard_of}
 use Rattle.pas_guard.specs.{Raises.RaiseSteps}
-use Rattle.std.proofs.lemmas.List.Elements.{All-nil}
 use Rattle.std.specs.List.{filter}
 use Rattle.pas_guard.proofs.{Raises.no_backs, Raises.each_more, Raises.backs_both, Raised.raised_pages, Raised.raised_leaves}
-use Rattle.pas_cache.specs.{Contents.Cached, Locals.any_covers, Locals.any_keeps, Locals.IsLocal}
-use Rattle.pas_segregated.specs.declared.slots.Slots.{Slots}
+use Rattle.pas_cache.specs.Contents.{Cached}
 use Rattle.pas_rights.specs.Gives.{give_steps}
 use Rattle.pas_large.specs.Finds.{MayFind}
 use Rattle.pas_large.proofs.InOrder.{BacksIn}
@@ -41,7 +39,7 @@ pub bare_on : (f : Profile) (k page : ℕ) (xs : List Made) (l : Whole) → Lega
     → word_after (triples k xs ++ l) (Word.Backed page) ≡ 0
 bare_on f k page [] l legal backs zero = zero
 bare_on f k page (m ∷ xs) l legal backs zero =
-    stays_bare (epoch_of (part k (triples k xs ++ l))) m.step page (word_after (triples k xs ++ l) (Word.Backed page)) backs.0 (bare_on f k page xs l legal.1 backs.1 zero)
+    stays_bare _ m.step page _ backs.0 (bare_on f k page xs l legal.1 backs.1 zero)
 
 -- nobody backs a page all of whose grains another holds
 pub held_unbacked : (f : Profile) (k j page : ℕ) (xs : List Made) (l : Whole) → IsValid f → Legal f (triples k xs ++ l) → (k == j) ≡ false
@@ -50,7 +48,8 @@ held_unbacked f k j page [] l valid legal other held = tt
 held_unbacked f k j page (m ∷ xs) l valid legal other held = (
   λ e. (let may = subst (Allowed f (part k (triples k xs ++ l))) e legal.0.allowed in
       let on = may.0 in
-      let its : holds (part j (triples k xs ++ l)) on.0 ≡ true = ap (λ (v : View). holds v on.0) (part_of_others j k xs l (λ same. true≢false (sym (eq-eqb k j same) ∙ other))) ∙ held on.0 on.1 in
+      let its : holds (part j (triples k xs ++ l)) on.0 ≡ true =
+      ap (λ (v : View). holds v on.0) (part_of_others j k xs l (λ same. true≢false (sym (eq-eqb k j same) ∙ other))) ∙ held on.0 on.1 in
       true≢false (sym (one_holder f (triples k xs ++ l) valid legal.1 k j on.0 on.2 its) ∙ other)),
   held_unbacked f k j page xs l valid legal.1 other held,
 )
@@ -61,7 +60,7 @@ pub bare_since : (f : Profile) (k page : ℕ) (v : View) (xs : List Made) (l : W
 bare_since f k page v [] l legal since = absurd since
 bare_since f k page v (m ∷ xs) l legal (inl read) = search (arith, stays_bare)
 bare_since f k page v (m ∷ xs) l legal (inr later) =
-    stays_bare (epoch_of (part k (triples k xs ++ l))) m.step page (word_after (triples k xs ++ l) (Word.Backed page)) later.0.unbacked (bare_since f k page v xs l legal.1 later.1)
+    stays_bare _ m.step page _ later.0.unbacked (bare_since f k page v xs l legal.1 later.1)
 
 -- ---- words and events
 none_backed : (b : Bool) → 0 ≡ word_of_backed b → b ≡ false
@@ -77,26 +76,9 @@ bare_word f l page valid legal none = (agrees f l valid legal).backed page ∙ a
 
 -- ==== A KEEPER RESTS after its calls, and so do all others.
 -- ---- an actor without slots rests with its book
+-- it holds what its book has, and its cache has no slots
 fitted : (f : Profile) (c : Cached) (old left : List Guard) (v w : View) → c.locals ≡ [] → IsResting f c old v → FitsBook f left w → IsResting f c left w
-fitted f c old left v w none rest fits = record {
-  locals = record {
-    grains = λ g. fits.held g ∙ ap (λ (ls : List Slots). any_covers ls g || is_outer left (g / 256)) (sym none);
-    rights = λ page. fits.rights page ∙ ap (λ (ls : List Slots). any_keeps ls page) (sym none);
-    clear = fits.clear;
-    known = known_none c.locals none;
-    apart = rest.locals.apart;
-    guards_apart = fits.apart;
-    guards_of_region = fits.of_region;
-    guards_known = fits.knows;
-    one_kind = inl none;
-  };
-  few = rest.few;
-  entries = rest.entries;
-  few_entries = rest.few_entries;
-}
-  where
-    known_none : (ls : List Slots) → ls ≡ [] → All (IsLocal f w) ls
-    known_none ls is = subst (All (IsLocal f w)) (sym is) (All-nil (IsLocal f w))
+fitted f c old left v w none rest fits = search arith
 
 -- ---- a page of another keeper stays bare
 pub others_bare : (f : Profile) (p : Progress) (j k page : ℕ) (xs : List Made) → IsValid f → IsBetween f p → Legal f (triples j xs ++ p.list) → (j == k) ≡ false
@@ -110,7 +92,8 @@ others_bare f p j k page xs valid before legal other outer =
 -- ==== A KEEPER whose steps these are has this book then
 module _ (f : Profile) (p : Progress) (keeper : ℕ) (books : Books) (steps : List Made) (left : List Guard) (valid : IsValid f) (is : IsThread f keeper)
     (before : IsBetween f p) (uncached : (p.caches keeper).locals ≡ []) (legal : Legal f (triples keeper steps ++ p.list))
-    (own : books keeper ≡ left) (others : (j : ℕ) → (j == keeper) ≡ false → books j ≡ p.books j) (fits : FitsBook f left (steps ++ part keeper p.list)) (beside : Each IsBeside left)
+    (own : books keeper ≡ left) (others : (j : ℕ) → (j == keeper) ≡ false → books j ≡ p.books j)
+    (fits : FitsBook f left (steps ++ part keeper p.list)) (beside : Each IsBeside left)
     (bare : (page : ℕ) → is_outer left page ≡ true → word_after (triples keeper steps ++ p.list) (Word.Backed page) ≡ 0) where
   abbrev l : Whole
   l = triples keeper steps ++ p.list
@@ -139,7 +122,8 @@ module _ (f : Profile) (p : Progress) (keeper : ℕ) (books : Books) (steps : Li
     working = λ j of. working j of (j == keeper) refl;
     none = λ j other. subst (λ (gs : List Guard). gs ≡ []) (sym (others j (by_test j other (j == keeper) refl))) (before.rest.none j other);
     beside = λ j. by_others (Each IsBeside) j (j == keeper) refl beside (λ ne. before.rest.beside j);
-    bare = λ j page. by_others (λ (gs : List Guard). is_outer gs page ≡ true → backed_in (visible l) page ≡ false) j (j == keeper) refl (λ outer. bare_events f l page valid legal (bare page outer))
+    bare = λ j page. by_others (λ (gs : List Guard). is_outer gs page ≡ true → backed_in (visible l) page ≡ false) j _ refl
+        (λ outer. bare_events f l page valid legal (bare page outer))
         (λ ne outer. others_bare f p keeper j page steps valid before legal (eqb_turned keeper j ∙ ne) outer);
     scavenger = subst HasNothing (sym (part_of_others 0 keeper steps p.list (λ same. not_scavenger same))) before.rest.scavenger;
   }
@@ -157,32 +141,29 @@ each_kept : (P : Guard → Type 0) (t : Guard → Bool) (gs : List Guard) → Ea
 each_kept P t [] all = tt
 each_kept P t (g ∷ gs) all = kept_at P g (filter t gs) (t g) all.0 (each_kept P t gs all.1)
 
--- The guards that a sweep leaves have their outer pages beside their blocks.
-pub swept_beside : (f : Profile) (keeper : ℕ) (all : Bool) (p : Progress) (steps : List Made) (left : List Guard) (said : List Record) → IsValid f
-    → IsBetween f p → Legal f (triples keeper steps ++ p.list) → SweepSteps f keeper all (p.books keeper) left said steps → Each IsBeside left
-swept_beside f keeper all p steps left said valid before legal sweep =
-    let told : IsSwept all (visible p.list) keeper (p.books keeper) left said steps = swept_told f all (visible p.list) keeper valid (p.books keeper) left said steps p.list legal refl (before.rest.beside keeper) sweep.kinds sweep.swept in
-    subst (Each IsBeside) (sym told.kept_is) (each_kept IsBeside (λ g. not (goes_down all (visible p.list) g)) (p.books keeper) (before.rest.beside keeper))
+module _ (f : Profile) (keeper : ℕ) (all : Bool) (p : Progress) (steps : List Made) (left : List Guard) (said : List Record) (valid : IsValid f)
+    (before : IsBetween f p) (legal : Legal f (triples keeper steps ++ p.list)) (sweep : SweepSteps f keeper all (p.books keeper) left said steps) where
+  swept : IsSwept all (visible p.list) keeper (p.books keeper) left said steps
+  swept = swept_told f all (visible p.list) keeper valid (p.books keeper) left said steps p.list legal refl (before.rest.beside keeper) sweep.kinds sweep.swept
 
--- The outer pages of the guards that a sweep leaves aren't backed.
-pub swept_bare : (f : Profile) (keeper : ℕ) (all : Bool) (p : Progress) (steps : List Made) (left : List Guard) (said : List Record) → IsValid f → IsBetween f p
-    → Legal f (triples keeper steps ++ p.list) → SweepSteps f keeper all (p.books keeper) left said steps
-    → (page : ℕ) → is_outer left page ≡ true → word_after (triples keeper steps ++ p.list) (Word.Backed page) ≡ 0
-swept_bare f keeper all p steps left said valid before legal sweep page outer =
-    let told : IsSwept all (visible p.list) keeper (p.books keeper) left said steps = swept_told f all (visible p.list) keeper valid (p.books keeper) left said steps p.list legal refl (before.rest.beside keeper) sweep.kinds sweep.swept in
-    let was : is_outer (p.books keeper) page ≡ true = some_outer (λ g. not (goes_down all (visible p.list) g)) (p.books keeper) page (ap (λ (gs : List Guard). is_outer gs page) (sym told.kept_is) ∙ outer) in
-    bare_on f keeper page steps p.list legal (no_backs sweeping page steps refl sweep.kinds) (bare_word f p.list page valid before.legal (before.rest.bare keeper page was))
+  abbrev stays : Guard → Bool
+  stays g = not (goes_down all (visible p.list) g)
+
+  -- The guards that a sweep leaves have their outer pages beside their blocks.
+  pub swept_beside : Each IsBeside left
+  swept_beside = subst (Each IsBeside) (sym swept.kept_is) (each_kept IsBeside stays (p.books keeper) (before.rest.beside keeper))
+
+  -- The outer pages of the guards that a sweep leaves aren't backed.
+  pub swept_bare : (page : ℕ) → is_outer left page ≡ true → word_after (triples keeper steps ++ p.list) (Word.Backed page) ≡ 0
+  swept_bare page outer =
+      let was = some_outer stays (p.books keeper) page (ap (λ (gs : List Guard). is_outer gs page) (sym swept.kept_is) ∙ outer) in
+      bare_on f keeper page steps p.list legal (no_backs sweeping page steps refl sweep.kinds)
+      (bare_word f p.list page valid before.legal (before.rest.bare keeper page was))
 
 -- ---- a raise
 pub outer_last : (gs : List Guard) (g : Guard) (page : ℕ) → is_outer (gs ++ g ∷ []) page ≡ true → (is_outer gs page ≡ true) ⊎ (is_outer_of g page ≡ true)
 outer_last [] g page h = inr (or_none (is_outer_of g page) h)
-outer_last (x ∷ gs) g page h = elim (or_cases (is_outer_of x page) (is_outer (gs ++ g ∷ []) page) h) [
-  | inl here ↦ inl (ap (λ (t : Bool). t || is_outer gs page) here)
-  | inr later ↦ elim (outer_last gs g page later) [
-    | inl old ↦ inl (or_right (is_outer_of x page) (is_outer gs page) old)
-    | inr own ↦ inr own
-  ]
-]
+outer_last (x ∷ gs) g page h = let ih = outer_last gs g page in search (arith, or_cases, ih)
 
 backs_beside : (first end page : ℕ) (xs : List Made) → BacksIn first end xs → ((first ≤ page) × (page < end) → ⊥) → BacksNot page xs
 backs_beside first end page xs backs out = always_map _ (λ m before. m.step ≡ Back page → ⊥) xs (λ m before h e. out (h page e)) backs
@@ -200,41 +181,43 @@ module _ (f : Profile) (keeper heap n : ℕ) (l : Whole) (guards guards' : List 
   -- its own outer pages, from the search on
   module _ (block : Block) (steps : List Made) (raise : RaiseSteps f heap n guards guards' (Some block) steps) (legal : Legal f (triples keeper steps ++ l))
     where
+      abbrev first : ℕ
+      first = raise.outcome.first
+
+      abbrev gave : List Made
+      gave = give_steps (first + 1) 0 block raise.outcome.word raise.outcome.answer
+
       whole : Legal f (triples keeper (raise.after ++ raise.searched) ++ l)
       whole = subst (λ (ms : List Made). Legal f (triples keeper ms ++ l)) raise.steps_are legal
 
       search_legal : Legal f (triples keeper raise.searched ++ l)
       search_legal = legal_earlier f keeper raise.after raise.searched l whole
 
-      after_bare : (page : ℕ) → ((raise.outcome.first + 1 ≤ page) × (page < raise.outcome.first + 1 + n) → ⊥) → BacksNot page raise.after
+      after_bare : (page : ℕ) → ((first + 1 ≤ page) × (page < first + 1 + n) → ⊥) → BacksNot page raise.after
       after_bare page out = subst (BacksNot page) (sym raise.outcome.after_is)
-          (backs_both page raise.outcome.left (give_steps (raise.outcome.first + 1) 0 block raise.outcome.word raise.outcome.answer ++ raise.outcome.backs) (no_backs returning page raise.outcome.left refl (raised_leaves raise.outcome))
-          (backs_both page (give_steps (raise.outcome.first + 1) 0 block raise.outcome.word raise.outcome.answer) raise.outcome.backs (no_backs (Giving ∷ LookLife ∷ []) page (give_steps (raise.outcome.first + 1) 0 block raise.outcome.word raise.outcome.answer) refl (refl, (refl, tt)))
-          (backs_beside (raise.outcome.first + 1) (raise.outcome.first + 1 + n) page raise.outcome.backs (raised_pages raise.outcome) out)))
+          (backs_both page raise.outcome.left (gave ++ raise.outcome.backs) (no_backs returning page raise.outcome.left refl (raised_leaves raise.outcome))
+          (backs_both page gave raise.outcome.backs (no_backs (Giving ∷ LookLife ∷ []) page gave refl (refl, (refl, tt)))
+          (backs_beside (first + 1) (first + 1 + n) page raise.outcome.backs (raised_pages raise.outcome) out)))
 
-      own_bare : (page : ℕ) → ((raise.outcome.first + 1 ≤ page) × (page < raise.outcome.first + 1 + n) → ⊥)
+      own_bare : (page : ℕ) → ((first + 1 ≤ page) × (page < first + 1 + n) → ⊥)
           → word_after (triples keeper raise.searched ++ l) (Word.Backed page) ≡ 0
           → word_after (triples keeper steps ++ l) (Word.Backed page) ≡ 0
       own_bare page out zero =
           subst (λ (ms : List Made). word_after (triples keeper ms ++ l) (Word.Backed page) ≡ 0) (sym raise.steps_are)
           (subst (λ (m : Whole). word_after m (Word.Backed page) ≡ 0) (triples_append keeper raise.after raise.searched l)
-          (bare_on f keeper page raise.after (triples keeper raise.searched ++ l) (subst (Legal f) (sym (triples_append keeper raise.after raise.searched l)) whole) (after_bare page out) zero))
+          (bare_on f keeper page raise.after _ (subst (Legal f) (sym (triples_append keeper raise.after raise.searched l)) whole) (after_bare page out) zero))
 
-      read_bare : Since (BackedReadHere (part keeper l) raise.outcome.first 0) (LeftSince raise.outcome.first) raise.searched
-          × Since (BackedReadHere (part keeper l) (raise.outcome.first + n + 1) 0) (LeftSince (raise.outcome.first + n + 1)) raise.searched
-      read_bare = raise.outcome.found.bare (part keeper l) (book_finds f heap guards (part keeper l) fits) (agreed_steps f keeper l raise.searched valid search_legal)
+      read_bare : Since (BackedReadHere (part keeper l) first 0) (LeftSince first) raise.searched
+          × Since (BackedReadHere (part keeper l) (first + n + 1) 0) (LeftSince (first + n + 1)) raise.searched
+      read_bare = raise.outcome.found.bare (part keeper l) (book_finds f heap guards _ fits) (agreed_steps f keeper l raise.searched valid search_legal)
 
-      guard_bare : (page : ℕ) → is_outer_of (guard_of raise.outcome.first n block) page ≡ true → word_after (triples keeper steps ++ l) (Word.Backed page) ≡ 0
-      guard_bare page outer = elim (or_cases (raise.outcome.first == page) (raise.outcome.first + n + 1 == page) outer) [
-        | inl low ↦ subst (λ (q : ℕ). word_after (triples keeper steps ++ l) (Word.Backed q) ≡ 0) (eqb-true raise.outcome.first page low)
-            (own_bare raise.outcome.first (λ out. omega (arith, out.0)) (bare_since f keeper raise.outcome.first (part keeper l) raise.searched l search_legal read_bare.0))
-        | inr high ↦ subst (λ (q : ℕ). word_after (triples keeper steps ++ l) (Word.Backed q) ≡ 0) (eqb-true (raise.outcome.first + n + 1) page high)
-            (own_bare (raise.outcome.first + n + 1) (λ out. omega (arith, out.1)) (bare_since f keeper (raise.outcome.first + n + 1) (part keeper l) raise.searched l search_legal read_bare.1))
-      ]
+      guard_bare : (page : ℕ) → is_outer_of (guard_of first n block) page ≡ true → word_after (triples keeper steps ++ l) (Word.Backed page) ≡ 0
+      guard_bare page outer = search (arith, or_cases, eqb-true, own_bare, bare_since, search_legal, read_bare)
 
   old_bare : (answer : Option Block) (steps : List Made) (raise : RaiseSteps f heap n guards guards' answer steps) → Legal f (triples keeper steps ++ l)
       → (page : ℕ) → is_outer guards page ≡ true → word_after (triples keeper steps ++ l) (Word.Backed page) ≡ 0
-  old_bare answer steps raise legal page outer = bare_on f keeper page steps l legal (raise.unbacked (part keeper l) fits (agreed_steps f keeper l steps valid legal) page outer) (bare page outer)
+  old_bare answer steps raise legal page outer =
+      bare_on f keeper page steps l legal (raise.unbacked (part keeper l) fits (agreed_steps f keeper l steps valid legal) page outer) (bare page outer)
 
   -- After a raise no outer page of a guard of the book is backed.
   pub raised_bare : (answer : Option Block) (steps : List Made) → RaiseSteps f heap n guards guards' answer steps → Legal f (triples keeper steps ++ l)

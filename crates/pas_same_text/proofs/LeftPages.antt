@@ -3,7 +3,7 @@ use Rattle.std.proofs.Common.{ℕ, zero, suc, List, [], ◌∷◌, inl, inr, sym
 use Rattle.std.proofs.Common.{append_assoc}
 use Rattle.std.specs.List.{AllByRecursion}
 use Rattle.pas_profile.specs.declared.{directory.Directory.Directory, word.Word.Word, profile.Profile.Profile}
-use Rattle.pas_steps.specs.{InTurn.InTurn, Past.Always, Desks.triples, Views.usable_by_kind, Views.has_right}
+use Rattle.pas_steps.specs.{InTurn.InTurn, Past.Always, Desks.triples, Views.has_right}
 use Rattle.pas_steps.specs.declared.step.{Made.Made, Step.TheVariants.Hint}
 use Rattle.pas_rights.specs.{Leaves.LeaveSteps, PutsBack.GivesDuly}
 use Rattle.pas_rights.proofs.{Hints.due_both, Hints.leave_due, Orders.leave_returns}
@@ -38,10 +38,7 @@ LeftInTurn d first n left = LeftAll d (pages_from first n) left
 -- a page that is marked is one of them
 pub all_marked : (d : Directory) (P : ℕ → Type 0) (ps : List ℕ) (q : ℕ) (left : List Made) → AllByRecursion P ps → LeftAll d ps left → IsMarked q left → P q
 all_marked d P [] q left all turn h = absurd (subst (IsMarked q) turn h)
-all_marked d P (x ∷ ps) q left all turn h = elim (marked_parts q turn.0 turn.1 (subst (IsMarked q) turn.4 h)) [
-  | inl here ↦ subst P (returns_marked x q turn.0 (leave_returns x d turn.0 turn.2) here) all.0
-  | inr before ↦ all_marked d P ps q turn.1 all.1 turn.3 before
-]
+all_marked d P (x ∷ ps) q left all turn h = let ih = all_marked d P ps q turn.1 all.1 turn.3 in search (arith, marked_parts, returns_marked, ih)
 
 -- Each of n pages in a row from the first is in that run.
 pub all_in_run : (first n : ℕ) → AllByRecursion (IsInRun first n) (pages_from first n)
@@ -71,9 +68,7 @@ module _ (f : Profile) (p : Progress) (w : World) (valid : IsValid f) (between :
     -- A page of which a look read room, and of which no step took since, is open in the text.
     pub read_open : (page : ℕ) (d e : Directory) → d ≡ e → ReadsRoom page e steps → is_open w d page ≡ true
     read_open page d e is r =
-        let free : has_bit (word_after p.list (Word.Free page (r.grain / 64))) (r.grain % 64) ≡ true =
-        ap (λ (m : Whole). has_bit (word_after m (Word.Free page (r.grain / 64))) (r.grain % 64)) list ∙ grain_read ks no_take f k l page r.grain steps (subst (Legal f) list between.legal) only r.read in
-        open_from f p w valid between same d page r.grain r.small (ap (λ (x : Directory). usable_by_kind x.kind r.grain) is ∙ r.usable) (bit_at p.list page r.grain r.small ∙ free)
+        search (arith, grain_read, open_from, bit_at)
 
 -- ==== PAGES THAT ARE LEFT after a block of theirs was given: which pages that marks, that it hints none, and that those that it offers are offered in the text.
 -- a grain of the page isn't free
@@ -112,7 +107,8 @@ pub record LeavesBehind (f : Profile) (k : ℕ) (d : Directory) (q : Progress) (
 -- Steps that give a block and leave its pages are of such kinds.
 pub rest_leaves : (d : Directory) (pages : List ℕ) (late left gave rest : List Made) → LeftAll d pages left → Only (Giving ∷ LookLife ∷ []) late
     → Only giving gave → rest ≡ late ++ (left ++ gave) → Only leaving rest
-rest_leaves d pages late left gave rest order late_kinds kinds is = subst (Only leaving) (sym is) (only_both leaving late (left ++ gave) (only_within (Giving ∷ LookLife ∷ []) leaving late refl late_kinds)
+rest_leaves d pages late left gave rest order late_kinds kinds is =
+    subst (Only leaving) (sym is) (only_both leaving late (left ++ gave) (only_within (Giving ∷ LookLife ∷ []) leaving late refl late_kinds)
     (only_both leaving left gave (only_within returning leaving left refl (only_leaves d pages left order)) (only_within giving leaving gave refl kinds)))
 
 module _ {f : Profile} {k : ℕ} {d : Directory} {q : Progress} {mid : Whole} {rest : List Made} {mine : ℕ → Bool} (valid : IsValid f) (there : IsBetween f q)
@@ -121,13 +117,14 @@ module _ {f : Profile} {k : ℕ} {d : Directory} {q : Progress} {mid : Whole} {r
   parted = h.late ++ h.left
 
   parted_kinds : Only parting parted
-  parted_kinds = only_both parting h.late h.left (only_within (Giving ∷ LookLife ∷ []) parting h.late refl h.late_kinds) (only_within returning parting h.left refl (only_leaves d h.pages h.left h.order))
+  parted_kinds = only_both parting h.late h.left (only_within (Giving ∷ LookLife ∷ []) parting h.late refl h.late_kinds)
+      (only_within returning parting h.left refl (only_leaves d h.pages h.left h.order))
 
   abbrev base : Whole
   base = triples k h.gave ++ mid
 
   list_left : q.list ≡ triples k parted ++ base
-  list_left = h.list ∙ (ap (λ (ms : List Made). triples k ms ++ mid) (h.rest_is ∙ sym (append_assoc h.late h.left h.gave)) ∙ sym (triples_append k parted h.gave mid))
+  list_left = cc (append_assoc h.late h.left h.gave, triples_append k parted h.gave mid)
 
   mark_left : (x : ℕ) → IsMarked x rest → IsMarked x h.left
   mark_left x m = elim (marked_parts x h.late (h.left ++ h.gave) (subst (IsMarked x) h.rest_is m)) [
@@ -155,16 +152,16 @@ module _ {f : Profile} {k : ℕ} {d : Directory} {q : Progress} {mid : Whole} {r
       let read = (hint_read x h.left (hints_of h.left (left_due d h.pages h.left h.order)) (hint_left x hint)).free (o.grain / 64) (omega (arith, o.small)) in
       o.used (bit_at q.list x o.grain o.small
       ∙ (ap (λ (m : Whole). has_bit (word_after m (Word.Free x (o.grain / 64))) (o.grain % 64)) list_left
-      ∙ free_read parting f k base x refl refl (o.grain / 64) (o.grain % 64) parted (subst (Legal f) list_left there.legal) parted_kinds (omega arith) (once_later _ h.late h.left read)))
+      ∙ free_read parting f k base x refl refl _ _ parted (subst (Legal f) list_left there.legal) parted_kinds (omega arith) (once_later _ h.late h.left read)))
 
   -- A page of them whose bit is set then is offered in the text: a look of the leave read room.
   pub left_offered : (v : World) → HasSame f q v → IsKind d.kind → (x : ℕ) (e : Directory) → mine x ≡ true → IsDirectoryOf f e
       → eligible_bit q.list (number_of e) x ≡ true → is_offered v e x ≡ true
   left_offered v now kind x e here of bit = elim (offered_by k rest mid (number_of e) x (ap (λ (m : Whole). eligible_bit m (number_of e) x) (sym h.list) ∙ bit)) [
-    | inl still ↦ absurd (false≢true (sym (right_not_offered f mid (legal_before f k rest mid (subst (Legal f) h.list there.legal)) k (number_of e) x (h.right x here)) ∙ still))
+    | inl still ↦ absurd (false≢true (cc (right_not_offered f mid (legal_before f k rest mid (subst (Legal f) h.list there.legal)) k (number_of e) x (h.right x here))))
     | inr offers ↦
         let tells = bit_tells f q v valid there now x e of (right_in_one_place f q.list there.legal x) bit in
-        let same : e ≡ d = same_from_deed_word e d of.kind kind (sym (word_now f q v valid there now x e (deed_now f q v valid there now x e of tells.0)) ∙ h.deeds x here) in
+        let same : e ≡ d = same_from_deed_word e d of.kind kind (cc (word_now f q v valid there now x e (deed_now f q v valid there now x e of tells.0), h.deeds x here)) in
         bit_offered f q v valid there now x e of bit (read_open f q v valid there now parting refl k base parted list_left parted_kinds x e d same
         (room_later x d h.late h.left (left_room d h.pages x h.left h.order (mark_left x (offer_marks x rest offers)))))
   ]

@@ -3,10 +3,8 @@ mod LoggedFrees
 mod Slots
 mod RestingPages
 mod CachedSlots
-mod EntryEvents
 mod GivenBack
 mod GivingBack
-mod EndedBlocks
 mod FlushedLogs
 mod GivenPages
 mod FlushActs
@@ -30,7 +28,6 @@ mod SearchMarks
 mod Asked
 mod GivenBlocks
 mod ReadyPages
-mod BitfitGiven
 mod BitfitRequests
 mod RefusedClasses
 mod TakenSlots
@@ -45,7 +42,6 @@ mod MissedGuards
 mod RaisedGuards
 mod GuardActs
 mod PagesRequests
-mod PassedPages
 mod PassReadings
 mod PassTries
 mod PassOrder

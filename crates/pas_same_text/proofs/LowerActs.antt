@@ -36,10 +36,10 @@ abbrev pub swept_to : Progress → ℕ → List BookGuard → List Made → List
 swept_to p keeper left steps said = with_records (record p { books = with_book p.books keeper left; list = triples keeper steps ++ p.list }) said
 
 -- ---- guards of a book
+-- by cases on the test
 region_at : (f : Profile) (keeper : ℕ) (g : BookGuard) (fs : List BookGuard) (s : Bool) → IsGuardOf f g → AreOfRegion f (map (told_guard keeper) fs)
     → AreOfRegion f (map (told_guard keeper) (if s then g ∷ fs else fs))
-region_at f keeper g fs true one rest = (one.low, one.high, rest)
-region_at f keeper g fs false one rest = rest
+region_at f keeper g fs s one rest = search arith
 
 region_of : (f : Profile) (keeper : ℕ) (t : BookGuard → Bool) (gs : List BookGuard) → Each (IsGuardOf f) gs
     → AreOfRegion f (map (told_guard keeper) (filter t gs))
@@ -107,7 +107,7 @@ module _ (f : Profile) (keeper : ℕ) (all : Bool) (p : Progress) (w : World) (s
       ne (only_its k (256 * q) (ap (is_outer fallen) (on_first q) ∙ h) (outer_held f p before k (256 * q) (ap (is_outer (p.books k)) (on_first q) ∙ outer))))
 
   not_left : (q : ℕ) → is_outer fallen q ≡ true → is_outer left q ≡ false
-  not_left q h = ap (λ (gs : List BookGuard). is_outer gs q) told.kept_is ∙ apart_split test (p.books keeper) q (before.rest.working keeper is).locals.guards_apart h
+  not_left q h = ap (λ (gs : List BookGuard). is_outer gs q) told.kept_is ∙ apart_split test _ q (before.rest.working keeper is).locals.guards_apart h
 
   -- ---- the guards that are left
   guards_at : (k : ℕ) (t : Bool) → (k == keeper) ≡ t → filter (λ g. g.keeper == k) v.guards ≡ map (told_guard k) (if t then left else p.books k)
@@ -151,7 +151,7 @@ module _ (f : Profile) (keeper : ℕ) (all : Bool) (p : Progress) (w : World) (s
       let o = outer_deed (part keeper p.list) (p.books keeper) q (before.rest.working keeper is).locals.guards_known (was_outer q h) in
       let deed : deed_in (visible p.list) q ≡ Some d = ap (λ (es : List Event). deed_in es q) (sym shown) ∙ deed_now f p' v valid after has q d of is_own in
       let word : word_after p.list (Word.Deed q) ≡ deed_word_of d = deed_of f p.list before.legal q ∙ ap word_of_deed deed in
-      let d_is : d ≡ large_of o.0 = same_from_deed_word d (large_of o.0) of.kind tt (sym word ∙ word_known f p.list before.legal keeper q (large_of o.0) o.1) in
+      let d_is : d ≡ large_of o.0 = same_from_deed_word d _ of.kind tt (sym word ∙ word_known f p.list before.legal keeper q (large_of o.0) o.1) in
       let free : free_bit p'.list g ≡ true = free_left f p'.list valid after.legal g
       (λ j held. no_holder j g at_g held)
       (λ a b lives of_it. covered_not_held f p.list valid before.legal g a b (ap (λ (es : List Event). live_in es a) (sym shown) ∙ lives) of_it keeper (was_held g at_g)) in
@@ -185,17 +185,10 @@ all_pass : (gs : List BookGuard) → filter (λ g. true) gs ≡ gs
 all_pass [] = refl
 all_pass (g ∷ gs) = ap (λ (xs : List BookGuard). g ∷ xs) (all_pass gs)
 
-filtered_at : (keeper : ℕ) (g : BookGuard) (us : List Guard) (ts : List BookGuard) (b : Bool) → us ≡ map (told_guard keeper) ts
-    → (if b then told_guard keeper g ∷ us else us) ≡ map (told_guard keeper) (if b then g ∷ ts else ts)
-filtered_at keeper g us ts true rest = ap (λ (xs : List Guard). told_guard keeper g ∷ xs) rest
-filtered_at keeper g us ts false rest = rest
-
 told_filtered : (keeper : ℕ) (t : BookGuard → Bool) (u : Guard → Bool) (gs : List BookGuard) → ((g : BookGuard) → u (told_guard keeper g) ≡ t g)
     → filter u (map (told_guard keeper) gs) ≡ map (told_guard keeper) (filter t gs)
 told_filtered keeper t u [] same = refl
-told_filtered keeper t u (g ∷ gs) same =
-    ap (λ (b : Bool). if b then told_guard keeper g ∷ filter u (map (told_guard keeper) gs) else filter u (map (told_guard keeper) gs)) (same g)
-    ∙ filtered_at keeper g (filter u (map (told_guard keeper) gs)) (filter t gs) (t g) (told_filtered keeper t u gs same)
+told_filtered keeper t u (g ∷ gs) same = let ih = told_filtered keeper t u gs same in let here = same g in grind (arith, ih, here)
 
 -- The guards whose blocks ended by the text are those of the book that go down by the events.
 pub ended_text : (f : Profile) (keeper : ℕ) (p : Progress) (w : World) → IsSame f p w
@@ -204,7 +197,7 @@ ended_text f keeper p w same = search (arith, told_filtered)
 
 all_text : (f : Profile) (keeper : ℕ) (p : Progress) (w : World) → IsSame f p w
     → lowers_all keeper w ≡ each lowers (map (told_guard keeper) (filter (goes_down true (visible p.list)) (p.books keeper))) w
-all_text f keeper p w same = ap (λ (gs : List Guard). each lowers gs w) (same.guards.each keeper ∙ ap (map (told_guard keeper)) (sym (all_pass (p.books keeper))))
+all_text f keeper p w same = ap (λ (gs : List Guard). each lowers gs w) (same.guards.each keeper ∙ ap (map (told_guard keeper)) (sym (all_pass _)))
 
 -- ---- THE ACT at the close
 pub lower_act : (f : Profile) (keeper : ℕ) → IsThread f keeper → StaysSame f (Act.Lowers keeper)

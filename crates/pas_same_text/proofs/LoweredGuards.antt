@@ -1,7 +1,8 @@
 -- GUARDS ARE LOWERED in the text: their outer pages are anybody's again, and nothing else changes but hints.
-use Rattle.std.proofs.Common.{arith, ◌≡◌, ℕ, ◌==◌, Bool, true, false, not, ◌||◌, if◌then◌else◌, List, [], ◌∷◌, ◌++◌, map, reverse, inl, inr, refl, ap, sym, ◌∙◌}
+use Rattle.std.proofs.lemmas.Bool.Decides.{nat_tests}
+use Rattle.std.proofs.Common.{arith, ◌≡◌, ℕ, ◌==◌, Bool, true, false, not, ◌||◌, if◌then◌else◌, List, [], ◌∷◌, ◌++◌, map, reverse, refl, ap, sym, ◌∙◌}
 use Rattle.std.proofs.Common.{append_assoc, append-nil, true≢false, eq-eqb, eqb-true}
-use Rattle.std.proofs.lemmas.Bool.{false≢true, or_cases, or_left, or_right, false_from_ne_true, or_parts}
+use Rattle.std.proofs.lemmas.Bool.{false≢true, or_cases, or_left, false_from_ne_true}
 use Rattle.std.specs.List.{list_any, filter}
 use Rattle.pas_profile.specs.Profiles.{IsPage}
 use Rattle.pas_profile.specs.declared.profile.Profile.{Profile}
@@ -11,7 +12,7 @@ use Rattle.pas_guard.specs.declared.book.Guard.{Guard as BookGuard}
 use Rattle.pas_same_text.specs.{State.Guard, State.World, State.each, Pages.is_guarded, Pages.minds, Guards.without_guard, Guards.lowers, Same.told_guard}
 use Rattle.pas_same_text.specs.{Same.has_number}
 use Rattle.pas_same_text.proofs.GivenBack.{Returns, OnlyHints, returns_nothing, returns_then, returns_like, minded_last, all_only_hints}
-use Rattle.pas_same_text.proofs.{Holders.has_outer, SmallActs.records_next, StillIndexes.same_guards, StillIndexes.minds_keep, Tests.eqb_turned}
+use Rattle.pas_same_text.proofs.{Holders.has_outer, SmallActs.records_next, StillIndexes.same_guards, StillIndexes.minds_keep}
 
 -- ---- which pages come back, what is said, and which guards are left
 abbrev pub outer_pages : List Guard → List ℕ
@@ -65,40 +66,29 @@ module _ (f : Profile) (g : Guard) (w : World) (low : IsPage f g.low) (high : Is
   within page h = search (arith, or_cases, eqb-true)
 
   one_returns : Returns f (g.low ∷ g.high ∷ []) w (lowers g w)
-  one_returns = returns_like f (g.low ∷ g.high ∷ []) w minded (lowers g w) (minded_last f (g.low ∷ g.high ∷ []) w bare within (λ page. refl) (λ page b small h. h) (λ page b of none small. refl) refl) refl refl refl refl
+  one_returns = returns_like f _ w minded _ (minded_last f _ w bare within (λ page. refl) (λ page b small h. h) (λ page b of none small. refl) refl) refl refl refl refl
 
   lowered_then : (downs : List Guard) (v : World) → AreLowered f downs (lowers g w) v → AreLowered f (g ∷ downs) w v
-  lowered_then downs v more = record {
-    events = more.events ∙ only.events;
-    records = more.records ∙ ap (λ (rs : List Record). said_onto downs (lowered_line g ∷ rs)) only.records;
-    live = more.live ∙ only.live;
-    caches = more.caches ∙ only.caches;
-    names = more.names ∙ only.names;
-    epoch = more.epoch ∙ only.epoch;
-    read = more.read ∙ only.read;
-    guards = more.guards ∙ ap (without_all downs) one_guards;
-    returns = returns_then f (g.low ∷ g.high ∷ []) (outer_pages downs) w (lowers g w) v one_returns more.returns;
-  }
+  lowered_then downs v more =
+      let returns = returns_then f (g.low ∷ g.high ∷ []) (outer_pages downs) w (lowers g w) v one_returns more.returns in
+      search (arith, only, one_guards, returns)
 
 -- Guards lowered one after the other give their outer pages back, and change nothing else but hints.
 pub all_lowered : (f : Profile) (downs : List Guard) (w : World) → AreOfRegion f downs → AreLowered f downs w (each lowers downs w)
-all_lowered f [] w of = record { events = refl; records = refl; live = refl; caches = refl; names = refl; epoch = refl; read = refl; guards = refl; returns = returns_nothing f w }
+all_lowered f [] w of = assumption (returns_nothing f w)
 all_lowered f (g ∷ downs) w of = lowered_then f g w of.0 of.1 downs (each lowers downs (lowers g w)) (all_lowered f downs (lowers g w) of.2)
 
 -- ---- records
 pub said_reversed : (downs : List Guard) (rs ws : List Record) → rs ≡ reverse ws → rs ++ map lowered_line downs ≡ reverse (said_onto downs ws)
 said_reversed [] rs ws is = append-nil rs ∙ is
 said_reversed (g ∷ downs) rs ws is =
-    sym (append_assoc rs (lowered_line g ∷ []) (map lowered_line downs)) ∙ said_reversed downs (rs ++ lowered_line g ∷ []) (lowered_line g ∷ ws) (records_next rs ws (lowered_line g) is)
+    sym (append_assoc rs (lowered_line g ∷ []) (map lowered_line downs))
+    ∙ said_reversed downs (rs ++ lowered_line g ∷ []) (lowered_line g ∷ ws) (records_next rs ws (lowered_line g) is)
 
 -- ---- no page becomes guarded
-fewer_at : (p : Guard → Bool) (g : Guard) (fs gs : List Guard) (t : Bool) → (list_any p fs ≡ true → list_any p gs ≡ true)
-    → list_any p (if t then g ∷ fs else fs) ≡ true → (p g || list_any p gs) ≡ true
-fewer_at p g fs gs t more h = search (arith, or_cases, or_left)
-
 fewer_any : (p q : Guard → Bool) (gs : List Guard) → list_any p (filter q gs) ≡ true → list_any p gs ≡ true
 fewer_any p q [] h = h
-fewer_any p q (g ∷ gs) h = fewer_at p g (filter q gs) gs (q g) (fewer_any p q gs) h
+fewer_any p q (g ∷ gs) h = let ih = fewer_any p q gs in grind (arith, ih)
 
 less_guarded : (downs gs : List Guard) (page : ℕ) → list_any (has_outer page) (without_all downs gs) ≡ true → list_any (has_outer page) gs ≡ true
 less_guarded [] gs page h = h
@@ -110,14 +100,9 @@ pub lowered_unguarded : (f : Profile) (downs : List Guard) (w v : World) (page :
 lowered_unguarded f downs w v page lowered none = search (arith, false_from_ne_true, false≢true, less_guarded)
 
 -- ---- the guards of each keeper that are left
--- two tests one after the other
-swapped_at : (p q : Guard → Bool) (g : Guard) (gs : List Guard) (s t : Bool) → p g ≡ s → q g ≡ t → filter p (filter q gs) ≡ filter q (filter p gs)
-    → filter p (if t then g ∷ filter q gs else filter q gs) ≡ filter q (if s then g ∷ filter p gs else filter p gs)
-swapped_at p q g gs s t e u rest = grind arith
-
 swapped : (p q : Guard → Bool) (gs : List Guard) → filter p (filter q gs) ≡ filter q (filter p gs)
 swapped p q [] = refl
-swapped p q (g ∷ gs) = swapped_at p q g gs (p g) (q g) refl refl (swapped p q gs)
+swapped p q (g ∷ gs) = let ih = swapped p q gs in grind (arith, ih)
 
 swapped_all : (p : Guard → Bool) (downs gs : List Guard) → filter p (without_all downs gs) ≡ without_all downs (filter p gs)
 swapped_all p [] gs = refl
@@ -126,32 +111,20 @@ swapped_all p (g ∷ downs) gs = swapped_all p downs (without g.low gs) ∙ ap (
 -- those of which the page is no outer one stay
 none_lost : (k low : ℕ) (gs : List BookGuard) → is_outer gs low ≡ false → without low (map (told_guard k) gs) ≡ map (told_guard k) gs
 none_lost k low [] none = refl
-none_lost k low (g ∷ gs) none = at (g.low == low) (g.high == low) (is_outer gs low) none (none_lost k low gs)
-  where
-    at : (x y r : Bool) → ((x || y) || r) ≡ false → (r ≡ false → without low (map (told_guard k) gs) ≡ map (told_guard k) gs)
-        → (if not x then told_guard k g ∷ without low (map (told_guard k) gs) else without low (map (told_guard k) gs)) ≡ told_guard k g ∷ map (told_guard k) gs
-    at true y r none rest = absurd (true≢false none)
-    at false true r none rest = absurd (true≢false none)
-    at false false r none rest = ap (λ (xs : List Guard). told_guard k g ∷ xs) (rest none)
+none_lost k low (g ∷ gs) none = let ih = none_lost k low gs in search (arith, true≢false, ih)
 
 -- lows of other keepers' guards take none out
 pub others_stay : (k keeper : ℕ) (fallen gs : List BookGuard) → ((low : ℕ) → is_outer fallen low ≡ true → is_outer gs low ≡ false)
     → without_all (map (told_guard keeper) fallen) (map (told_guard k) gs) ≡ map (told_guard k) gs
 others_stay k keeper [] gs none = refl
 others_stay k keeper (g ∷ fallen) gs none =
-    ap (without_all (map (told_guard keeper) fallen)) (none_lost k g.low gs (none g.low (or_left (is_outer_of g g.low) (is_outer fallen g.low) (or_left (g.low == g.low) (g.high == g.low) (eq-eqb g.low g.low refl)))))
-    ∙ others_stay k keeper fallen gs (λ low h. none low (or_right (is_outer_of g low) (is_outer fallen low) h))
+    let ih = others_stay k keeper fallen gs in search (arith, none_lost, or_left, eq-eqb, ih)
 
 -- ---- of the keeper itself: those are left that don't pass the test
--- an outer page of some of them is one of all
-some_at : (g : BookGuard) (fs gs : List BookGuard) (page : ℕ) (s : Bool) → (is_outer fs page ≡ true → is_outer gs page ≡ true)
-    → is_outer (if s then g ∷ fs else fs) page ≡ true → (is_outer_of g page || is_outer gs page) ≡ true
-some_at g fs gs page s more h = search (arith, or_cases, or_left)
-
 -- An outer page of some chosen guards of a book is one of the book.
 pub some_outer : (t : BookGuard → Bool) (gs : List BookGuard) (page : ℕ) → is_outer (filter t gs) page ≡ true → is_outer gs page ≡ true
 some_outer t [] page h = h
-some_outer t (g ∷ gs) page h = some_at g (filter t gs) gs page (t g) (some_outer t gs page) h
+some_outer t (g ∷ gs) page h = let ih = some_outer t gs page in grind (arith, ih)
 
 not_some : (t : BookGuard → Bool) (gs : List BookGuard) (page : ℕ) → is_outer gs page ≡ false → is_outer (filter t gs) page ≡ false
 not_some t gs page none = false_from_ne_true (is_outer (filter t gs) page) (λ h. false≢true (sym none ∙ some_outer t gs page h))
@@ -160,40 +133,25 @@ not_some t gs page none = false_from_ne_true (is_outer (filter t gs) page) (λ h
 first_apart : (g : BookGuard) (gs : List BookGuard) (page : ℕ) → AreApart (g ∷ gs) → is_outer_of g page ≡ true → is_outer gs page ≡ false
 first_apart g gs page apart h = search (arith, or_cases, eqb-true)
 
-split_at : (t : BookGuard → Bool) (g : BookGuard) (gs : List BookGuard) (page : ℕ) (s : Bool) → AreApart (g ∷ gs)
-    → (is_outer (filter t gs) page ≡ true → is_outer (filter (λ x. not (t x)) gs) page ≡ false)
-    → is_outer (if s then g ∷ filter t gs else filter t gs) page ≡ true
-    → is_outer (if not s then g ∷ filter (λ x. not (t x)) gs else filter (λ x. not (t x)) gs) page ≡ false
-split_at t g gs page true apart more h = search (arith, or_cases, not_some, first_apart)
-split_at t g gs page false apart more h = false_from_ne_true (is_outer_of g page || is_outer (filter (λ x. not (t x)) gs) page) (λ both. elim (or_cases (is_outer_of g page) (is_outer (filter (λ x. not (t x)) gs) page) both) [
-  | inl here ↦ false≢true (sym (first_apart g gs page apart here) ∙ some_outer t gs page h)
-  | inr later ↦ false≢true (sym (more h) ∙ later)
-])
-
 -- An outer page of the chosen guards of a book whose guards are apart is none of the others.
 pub apart_split : (t : BookGuard → Bool) (gs : List BookGuard) (page : ℕ) → AreApart gs → is_outer (filter t gs) page ≡ true
     → is_outer (filter (λ g. not (t g)) gs) page ≡ false
 apart_split t [] page apart h = absurd (false≢true h)
-apart_split t (g ∷ gs) page apart h = split_at t g gs page (t g) apart (apart_split t gs page apart.2) h
+apart_split t (g ∷ gs) page apart h =
+    let ih = apart_split t gs page apart.2 in
+    grind (arith, ih, first_apart g gs page apart, some_outer t gs page, some_outer (λ x. not (t x)) gs page)
 
 -- a guard whose low page is none of theirs stays before them
-none_first : (g : BookGuard) (page : ℕ) (rest : Bool) → (is_outer_of g page || rest) ≡ false → ((g.low == page) ≡ false) × (rest ≡ false)
-none_first g page rest none = search (arith, or_parts)
-
 first_stays : (k keeper : ℕ) (g : BookGuard) (fallen : List BookGuard) (gs : List Guard) → is_outer fallen g.low ≡ false
     → without_all (map (told_guard keeper) fallen) (told_guard k g ∷ gs) ≡ told_guard k g ∷ without_all (map (told_guard keeper) fallen) gs
 first_stays k keeper g [] gs none = refl
-first_stays k keeper g (d ∷ fallen) gs none =
-    let both = none_first d g.low (is_outer fallen g.low) none in
-    ap (λ (t : Bool). without_all (map (told_guard keeper) fallen) (if not t then told_guard k g ∷ without d.low gs else without d.low gs)) (eqb_turned g.low d.low ∙ both.0)
-    ∙ first_stays k keeper g fallen (without d.low gs) both.1
+first_stays k keeper g (d ∷ fallen) gs none = let ih = first_stays k keeper g fallen (without d.low gs) in grind (arith, nat_tests, ih)
 
 own_at : (k : ℕ) (t : BookGuard → Bool) (g : BookGuard) (gs : List BookGuard) (s : Bool) → AreApart (g ∷ gs)
     → without_all (map (told_guard k) (filter t gs)) (map (told_guard k) gs) ≡ map (told_guard k) (filter (λ x. not (t x)) gs)
     → without_all (map (told_guard k) (if s then g ∷ filter t gs else filter t gs)) (told_guard k g ∷ map (told_guard k) gs)
     ≡ map (told_guard k) (if not s then g ∷ filter (λ x. not (t x)) gs else filter (λ x. not (t x)) gs)
-own_at k t g gs true apart rest = search (arith, eq-eqb, none_lost)
-own_at k t g gs false apart rest = first_stays k k g (filter t gs) (map (told_guard k) gs) (not_some t gs g.low apart.0) ∙ ap (λ (xs : List Guard). told_guard k g ∷ xs) rest
+own_at k t g gs s apart rest = search (arith, eq-eqb, none_lost, first_stays, not_some)
 
 -- Without the chosen guards of a book, the others of it are left in their order.
 pub own_left : (k : ℕ) (t : BookGuard → Bool) (gs : List BookGuard) → AreApart gs
@@ -205,12 +163,9 @@ own_left k t (g ∷ gs) apart = own_at k t g gs (t g) apart (own_left k t gs apa
 pub left_of : (books : ℕ → List BookGuard) (keeper k : ℕ) (fallen : List BookGuard) (gs : List Guard)
     → filter (λ g. g.keeper == k) gs ≡ map (told_guard k) (books k)
     → filter (λ g. g.keeper == k) (without_all (map (told_guard keeper) fallen) gs) ≡ without_all (map (told_guard keeper) fallen) (map (told_guard k) (books k))
-left_of books keeper k fallen gs is = swapped_all (λ g. g.keeper == k) (map (told_guard keeper) fallen) gs ∙ ap (without_all (map (told_guard keeper) fallen)) is
+left_of books keeper k fallen gs is = simp (swapped_all, is)
 
 -- ---- the outer pages, as numbers
 pub outer_number : (k : ℕ) (gs : List BookGuard) (page : ℕ) → is_outer gs page ≡ true → has_number (outer_pages (map (told_guard k) gs)) page ≡ true
 outer_number k [] page h = h
-outer_number k (g ∷ gs) page h = elim (or_cases (is_outer_of g page) (is_outer gs page) h) [
-  | inl here ↦ search (arith, or_cases, or_left)
-  | inr later ↦ or_right (g.low == page) ((g.high == page) || has_number (outer_pages (map (told_guard k) gs)) page) (or_right (g.high == page) (has_number (outer_pages (map (told_guard k) gs)) page) (outer_number k gs page later))
-]
+outer_number k (g ∷ gs) page h = let ih = outer_number k gs page in search (arith, or_cases, or_left, ih)

@@ -33,10 +33,9 @@ none_next heap class s l rest other false e same more none = ap (λ (t : Bool). 
 pub none_same : (heap class : ℕ) (slots : List Slots) (ls : List Local) → AreSameLocals slots ls → local_for heap class slots ≡ None
     → find (is_for heap class) ls ≡ None
 none_same heap class [] [] same none = refl
-none_same heap class [] (l ∷ ls) same none = absurd same
-none_same heap class (s ∷ slots) [] same none = absurd same
 none_same heap class (s ∷ slots) (l ∷ ls) same none =
     none_next heap class s l (local_for heap class slots) (find (is_for heap class) ls) (is_for_slots heap class s) refl (for_same heap class s l same.0) (none_same heap class slots ls same.1) none
+none_same heap class slots ls same none = absurd same
 
 all_next : (heap class : ℕ) (s : Slots) (rest : List Slots) (found : Option Slots) (t : Bool) → (found ≡ None → others_than heap class rest ≡ rest)
     → (if t then Some s else found) ≡ None → (if not t then s ∷ others_than heap class rest else others_than heap class rest) ≡ s ∷ rest
@@ -48,14 +47,10 @@ pub all_left : (heap class : ℕ) (slots : List Slots) → local_for heap class 
 all_left heap class [] none = refl
 all_left heap class (s ∷ slots) none = all_next heap class s slots (local_for heap class slots) (is_for_slots heap class s) (all_left heap class slots) none
 
-most_next : (s : Slots) (xs ys : List Slots) (t : Bool) → length xs ≤ length ys → length (if t then s ∷ xs else xs) ≤ length (s ∷ ys)
-most_next s xs ys true le = omega (arith, le)
-most_next s xs ys false le = omega (arith, le)
-
 -- Leaving out those of a heap and class makes no list of local allocators longer.
 pub most_left : (heap class : ℕ) (slots : List Slots) → length (others_than heap class slots) ≤ length slots
 most_left heap class [] = omega arith
-most_left heap class (s ∷ slots) = most_next s (others_than heap class slots) slots (not (is_for_slots heap class s)) (most_left heap class slots)
+most_left heap class (s ∷ slots) = search (arith, most_left heap class slots)
 
 fewer_next : (heap class : ℕ) (s x : Slots) (rest : List Slots) (found : Option Slots) (t : Bool) → length (others_than heap class rest) ≤ length rest
     → (found ≡ Some x → length (others_than heap class rest) < length rest) → (if t then Some s else found) ≡ Some x
@@ -81,9 +76,8 @@ known_found P heap class (s ∷ slots) x all is = known_next P s x (local_for he
 
 long_same : (slots : List Slots) (ls : List Local) → AreSameLocals slots ls → length ls ≡ length slots
 long_same [] [] same = refl
-long_same [] (l ∷ ls) same = absurd same
-long_same (s ∷ slots) [] same = absurd same
 long_same (s ∷ slots) (l ∷ ls) same = let rest = long_same slots ls same.1 in omega (arith, rest)
+long_same slots ls same = absurd same
 
 -- a grain of the first is of no other
 none_counted : (g : ℕ) (slots : List Slots) → count_by (λ x. covers x g) slots ≤ 0 → any_covers slots g ≡ false
@@ -114,8 +108,6 @@ module _ (f : Profile) (k : ℕ) (p : Progress) (w : World) (valid : IsValid f) 
       → IsBetween f (up_to p k steps fewer) → IsSame f (up_to p k steps fewer) (gives_up_first k ls w)
   oldest_gone [] [] fewer steps own text locals t full h kinds after =
       subst (λ (xs : List Slots). IsSame f (up_to p k steps xs) w) (own ∙ sym h.0) (subst (λ (ms : List Made). IsSame f (up_to p k ms (p.caches k).locals) w) (sym h.1) (unmoved f k p w same))
-  oldest_gone [] (l ∷ ls) fewer steps own text locals t full h kinds after = absurd locals
-  oldest_gone (s ∷ slots) [] fewer steps own text locals t full h kinds after = absurd locals
   oldest_gone (s ∷ slots) (l ∷ ls) fewer steps own text locals false full h kinds after =
       let test : nat_le 32 (length (l ∷ ls)) ≡ false = ap (nat_le 32) (long_same (s ∷ slots) (l ∷ ls) locals) ∙ full in
       subst (λ (x : World). IsSame f (up_to p k steps fewer) x) (sym (ap (λ (u : Bool). if u then gives_up k l w else w) test))
@@ -126,7 +118,7 @@ module _ (f : Profile) (k : ℕ) (p : Progress) (w : World) (valid : IsValid f) 
       let unique : AreUnique (l ∷ ls) = unique_of (s ∷ slots) (l ∷ ls) locals (subst (λ (xs : List Slots). (heap class : ℕ) → count_by (is_for_slots heap class) xs ≤ 1) own rest.apart.one_each) in
       let of_own : is_for l.heap l.class l ≡ true = ap (λ (u : Bool). u && (l.class == l.class)) (eq-eqb l.heap l.heap refl) ∙ eq-eqb l.class l.class refl in
       let left : others l.heap l.class (l ∷ ls) ≡ ls = ap (λ (u : Bool). if not u then l ∷ others l.heap l.class ls else others l.heap l.class ls) of_own ∙ unique.0 in
-      subst (λ (x : World). IsSame f (up_to p k steps fewer) x) (sym (ap (λ (u : Bool). if u then gives_up k l w else w) test)) (given_up_same f k p w s l fewer steps record {
+      rw test (given_up_same f k p w s l fewer steps record {
         valid = valid;
         thread = thread;
         listed = listed;
@@ -142,6 +134,7 @@ module _ (f : Profile) (k : ℕ) (p : Progress) (w : World) (valid : IsValid f) 
         gone = λ g mine. ap (λ (xs : List Slots). any_covers xs g) h.0 ∙ first_apart g s slots (subst (λ (xs : List Slots). count_by (λ x. covers x g) xs ≤ 1) own (rest.apart.grains g)) mine;
         after = after;
       })
+  oldest_gone slots ls fewer steps own text locals t full h kinds after = absurd locals
 
 -- where there is place, none is stopped
 stops_none : (kept fewer : List Slots) (steps : List Made) (t : Bool) → t ≡ false → StopsFirst t kept fewer steps → (fewer ≡ kept) × (steps ≡ [])
@@ -179,12 +172,6 @@ module _ (f : Profile) (k heap class : ℕ) (p : Progress) (w : World) (fewer : 
       passes : is_for_slots heap class s ≡ true
       passes = found_passes heap class c.locals s is
 
-      of_heap : s.heap ≡ heap
-      of_heap = eqb-true s.heap heap (and_first (s.heap == heap) (s.class == class) passes)
-
-      of_class : s.class ≡ class
-      of_class = eqb-true s.class class (and_second (s.heap == heap) (s.class == class) passes)
-
       left_over : (fewer ≡ place.kept) × (place.stopped ≡ [])
       left_over =
           let less = fewer_left heap class c.locals s is in
@@ -216,13 +203,13 @@ module _ (f : Profile) (k heap class : ℕ) (p : Progress) (w : World) (fewer : 
       never g h = true≢false (sym (and_second (s.page == g / 256) (is_set s.starts (start_of s.class (g % 256))) h) ∙ empty (start_of s.class (g % 256)) (start_small (g % 256) (omega arith)))
 
       heap_is : found.local.heap ≡ heap
-      heap_is = found.same.heap ∙ of_heap
+      heap_is = found.same.heap ∙ eqb-true s.heap heap (and_first (s.heap == heap) (s.class == class) passes)
 
       class_is : found.local.class ≡ class
-      class_is = found.same.class ∙ of_class
+      class_is = found.same.class ∙ eqb-true s.class class (and_second (s.heap == heap) (s.class == class) passes)
 
       spent_gone : IsSame f (up_to p k steps fewer) (placed_by k found_text w)
-      spent_gone = subst (λ (x : Option Local). IsSame f (up_to p k steps fewer) (placed_by k x w)) (sym found.is) (given_up_same f k p w s found.local fewer steps record {
+      spent_gone = rw found.is (given_up_same f k p w s found.local fewer steps record {
         valid = valid;
         thread = thread;
         listed = listed;

@@ -1,41 +1,39 @@
--- NO GUARD GOES UP: the search of a keeper found no run. The pages whose deeds it made are free then, and offered; all else is as it was.
-use Rattle.std.proofs.Common.{◌≡◌, ℕ, ◌+◌, ◌*◌, ◌<◌, ◌==◌, Bool, true, false, ◌||◌, if◌then◌else◌, List, [], ◌∷◌, ◌++◌, Some, inl, inr, refl, ap, sym, ◌∙◌}
-use Rattle.std.proofs.Common.{subst, arith, eq-eqb, eqb-true}
-use Rattle.std.proofs.lemmas.Bool.{false≢true, or_cases, or_left, or_right, false_from_ne_true}
-use Rattle.std.proofs.lemmas.Option.{same_Some}
-use Rattle.std.specs.List.{AllByRecursion}
+-- NO GUARD GOES UP: the search of a keeper found no run. The pages whose deeds it made are free then, and offered; all else is as it was. At the end: one guard more in a book.
+use Rattle.std.proofs.lemmas.Bool.{cases_lt, eqb-false, false≢true, or_cases, or_left, or_right, false_from_ne_true}
+use Rattle.pas_scan.specs.{Runs.IsInRun, Usable.MakesNoDeedHere}
+use Rattle.pas_guard.specs.{Guards.left_last_first, Books.is_outer_of, Books.is_outer, Seeks.seeking, Seeks.SoughtNone}
+use Rattle.pas_same_text.proofs.{LeftPages.all_in_run, KeepersRest.outer_last, FlushActs.events_recorded, GivenPages.open_from, GivingBack.epoch_stays_by}
+use Rattle.pas_same_text.proofs.{RestingPages.deed_now, RestingPages.bit_tells, RestingPages.bit_offered, SoughtRuns.IsRunOf, SoughtRuns.IsMadeOf}
+use Rattle.pas_same_text.proofs.{SearchMarks.seeks_unbacked, RunEvents.with_deed, RunEvents.deeded, RunEvents.deeds_of}
+use Rattle.std.proofs.Common.{map, ◌⊎◌, ne_eqb, append-nil, ◌≡◌, ℕ, ◌+◌, ◌*◌, ◌<◌, ◌==◌, Bool, true, false, ◌||◌, if◌then◌else◌, List, [], ◌∷◌, ◌++◌, Some, inl}
+use Rattle.std.proofs.Common.{inr, refl, ap, sym, ◌∙◌, subst, arith, eq-eqb, eqb-true}
+use Rattle.std.proofs.lemmas.{List.map-append, List.Elements.filter-append, Option.same_Some}
+use Rattle.std.specs.List.{filter, AllByRecursion}
+use Rattle.pas_guard.specs.declared.book.Guard.{Guard as BookGuard}
+use Rattle.pas_answers.specs.Answers.{Books, Progress, records_of}
+use Rattle.pas_same_text.specs.{State.Guard, State.World, Pages.is_offered, Runs.large_of, Acts.IsBetween, Words.free_bit}
+use Rattle.pas_same_text.specs.Same.{told_guard, AreSameGuards, has_number, IsSame, HasSame}
 use Rattle.pas_profile.specs.{Directories.number_of, Profiles.IsValid, Profiles.IsDirectoryOf}
 use Rattle.pas_profile.specs.declared.{directory.Directory.Directory, event.Event.Event, profile.Profile.Profile, word.Word.Word}
-use Rattle.pas_machine.specs.State.{live_in, deed_in}
+use Rattle.pas_machine.specs.State.{deed_in}
 use Rattle.pas_steps.specs.{Desks.triples, Events.events_by, Kinds.Only, Past.Always, Views.usable_by_kind}
 use Rattle.pas_steps.specs.Lists.{Whole, part, word_after, visible}
 use Rattle.pas_steps.specs.declared.step.{Made.Made, Step.Step, Step.TheVariants.Deed}
 use Rattle.pas_steps.proofs.Apart.{only_within}
 use Rattle.pas_core.specs.Rights.{eligible_bit}
 use Rattle.pas_core.proofs.{Rights.right_in_one_place, OneActor.LendsNone, OneActor.lends_none}
-use Rattle.pas_cache.specs.{Kinds.allocating, Locals.any_covers}
+use Rattle.pas_cache.specs.Kinds.{allocating}
 use Rattle.pas_large.proofs.Outcomes.{MadeOf}
-use Rattle.pas_guard.specs.{Books.is_outer, Seeks.seeking, Seeks.SoughtNone}
-use Rattle.pas_answers.specs.Answers.{Caches, Books, Progress, records_of}
-use Rattle.pas_same_text.specs.{State.World, Pages.is_offered, Runs.large_of, Same.has_number, Same.IsSame, Same.HasSame, Acts.IsBetween, Words.free_bit}
-use Rattle.pas_same_text.proofs.{FlushActs.events_recorded, GivenPages.open_from, GivingBack.epoch_stays_by, RestingPages.deed_now, RestingPages.bit_tells}
-use Rattle.pas_same_text.proofs.{RestingPages.bit_offered, SoughtRuns.IsRunOf, SoughtRuns.IsMadeOf, SearchMarks.seeks_unbacked, RunEvents.with_deed}
-use Rattle.pas_same_text.proofs.{RunEvents.deeded, RunEvents.deeds_of}
 use Rattle.pas_same_text.proofs.Pieces.{IsPiece, UsesOnly, free_kept, hinted_before, piece_pages}
 use Rattle.pas_same_text.proofs.ReadyPages.{shown, shown_events, shown_records, shown_lives, shown_rest}
 use Rattle.pas_same_text.proofs.TriedRuns.{unowned_free, visible_mid, made_events, none_made, none_pages, IsSought}
 use Rattle.pas_same_text.proofs.GivenBlocks.{AreReadying, made_ready, ready_deeds, ready_lives}
-use Rattle.pas_scan.specs.Usable.{MakesNoDeedHere}
 use Rattle.pas_profile.proofs.Lists.{all_map}
 
 -- ---- the pages whose deeds were made
+-- whether the step made a deed or not, the list only grows
 older_listed : (s : Step) (a q : ℕ) (ps : List ℕ) → has_number ps q ≡ true → has_number (with_deed s a ps) q ≡ true
-older_listed (Deed x e) a q ps h = by_answer (a == 0)
-  where
-    by_answer : (t : Bool) → has_number (if t then x ∷ ps else ps) q ≡ true
-    by_answer true = or_right (x == q) (has_number ps q) h
-    by_answer false = h
-older_listed s a q ps h = h
+older_listed s a q ps h = search arith
 
 newest_listed : (s : Step) (a q : ℕ) (e : Directory) (ps : List ℕ) → s ≡ Deed q e → a ≡ 0 → has_number (with_deed s a ps) q ≡ true
 newest_listed s a q e ps is zero = search (arith, eq-eqb, or_left)
@@ -107,11 +105,7 @@ module _ {f : Profile} {k heap n : ℕ} {p q : Progress} {w : World} {xs : List 
 
   -- nothing was used
   uses : (mine : ℕ → Bool) → UsesOnly p q mine
-  uses mine = record {
-    cached = λ j g h. inl (ap (λ (cs : Caches). any_covers (cs j).locals g) (sym caches) ∙ h);
-    outer = λ j x h. inl (ap (λ (bs : Books). is_outer (bs j) x) (sym books) ∙ h);
-    live = λ a b h. inl (ap (λ (es : List Event). live_in es a) (sym s.same.pages.events) ∙ (sym (ap (λ (es : List Event). live_in es a) shown_is ∙ ready_lives k d (has_number made) ds w.events a ready) ∙ h));
-  }
+  uses mine = search (arith, shown_is, ready_lives, ready)
 
   page_of : (x : ℕ) → has_number made x ≡ true → IsMadeOf n p.list (λ r. IsRunOf f heap n p.list r × (r < f.pages + 1)) x
   page_of x h = all_listed (IsMadeOf n p.list (λ r. IsRunOf f heap n p.list r × (r < f.pages + 1))) made x (none_pages s found) h
@@ -159,3 +153,48 @@ module _ {f : Profile} {k heap n : ℕ} {p q : Progress} {w : World} {xs : List 
     epoch = (shown_rest ds w).epoch ∙ (s.same.epoch ∙ sym (ap (λ (m : Whole). word_after m Word.Epoch) list ∙ epoch_stays_by allocating refl k xs p.list all_kinds));
     read = (shown_rest ds w).read ∙ (s.same.read ∙ sym epoch);
   }
+
+-- ==== ONE GUARD MORE, the last one of its keeper's book
+module _ {books books' : Books} (k : ℕ) (g : BookGuard) (own : books' k ≡ books k ++ g ∷ [])
+    (others : (j : ℕ) → (j == k) ≡ false → books' j ≡ books j) where
+  -- The text's guards with that one behind them are those of the books.
+  pub guards_more : (gs : List Guard) → AreSameGuards books gs → AreSameGuards books' (gs ++ told_guard k g ∷ [])
+  guards_more gs same = record { each = λ j. at j (j == k) refl }
+    where
+      at : (j : ℕ) (t : Bool) → (j == k) ≡ t → filter (λ h. h.keeper == j) (gs ++ told_guard k g ∷ []) ≡ map (told_guard j) (books' j)
+      at j true e =
+          subst (λ (i : ℕ). filter (λ h. h.keeper == i) (gs ++ told_guard k g ∷ []) ≡ map (told_guard i) (books' i)) (sym (eqb-true j k e))
+          (filter-append (λ h. h.keeper == k) gs (told_guard k g ∷ [])
+          ∙ (ap (λ (t : Bool). filter (λ h. h.keeper == k) gs ++ (if t then told_guard k g ∷ [] else [])) (eq-eqb k k refl)
+          ∙ (ap (λ (hs : List Guard). hs ++ told_guard k g ∷ []) (same.each k)
+          ∙ (sym (map-append (told_guard k) (books k) (g ∷ [])) ∙ ap (map (told_guard k)) (sym own)))))
+      at j false e = search (arith, filter-append, ne_eqb, eqb-false, append-nil)
+
+  -- An outer page is one that it was before, or one of that guard.
+  pub outer_or : (j x : ℕ) → is_outer (books' j) x ≡ true → (is_outer (books j) x ≡ true) ⊎ (is_outer_of g x ≡ true)
+  outer_or j x h = at (j == k) refl
+    where
+      at : (t : Bool) → (j == k) ≡ t → (is_outer (books j) x ≡ true) ⊎ (is_outer_of g x ≡ true)
+      at true e =
+          let here : j ≡ k = eqb-true j k e in
+          elim (outer_last (books k) g x (ap (λ (gs : List BookGuard). is_outer gs x) (sym own) ∙ (ap (λ (i : ℕ). is_outer (books' i) x) (sym here) ∙ h))) [
+            | inl was ↦ inl (ap (λ (i : ℕ). is_outer (books i) x) here ∙ was)
+            | inr new ↦ inr new
+          ]
+      at false e = inl (ap (λ (gs : List BookGuard). is_outer gs x) (sym (others j e)) ∙ h)
+
+  -- The outer pages of that guard are its keeper's.
+  pub outer_more : (x : ℕ) → is_outer_of g x ≡ true → is_outer (books' k) x ≡ true
+  outer_more x here = ap (λ (gs : List BookGuard). is_outer gs x) own ∙ last (books k)
+    where
+      last : (gs : List BookGuard) → is_outer (gs ++ g ∷ []) x ≡ true
+      last [] = or_left (is_outer_of g x) false here
+      last (h ∷ gs) = or_right (is_outer_of h x) (is_outer (gs ++ g ∷ []) x) (last gs)
+
+-- The pages that are left are those of its run.
+pub left_in_run : (first n : ℕ) → AllByRecursion (IsInRun first (n + 2)) (left_last_first first n)
+left_in_run first n = search (arith, all_map, all_in_run)
+
+-- A page of the run is an inner one, or an outer one.
+pub inner_or : (first n x : ℕ) → IsInRun first (n + 2) x → IsInRun (first + 1) n x ⊎ ((first ≡ x) ⊎ (first + n + 1 ≡ x))
+inner_or first n x here = search (arith, cases_lt)

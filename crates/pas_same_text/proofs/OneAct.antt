@@ -29,11 +29,13 @@ pub request_same : (f : Profile) (k : ℕ) (r : Request) → RequestStaysSame f 
 request_same f k r p a w asked = by_route f k r p a w (route_in f r.size r.align) refl asked
 
 -- ---- an operation, whose act is known of
+-- the thread that acts is one of the region
+acting : {threads : ℕ} {f : Profile} {line k : ℕ} {what : What} {p p' : Progress} {w : World} {indexes : Indexes}
+    → IsKnown threads f (Act.Operates (record { line = line; actor = k; what = what })) p p' w indexes → IsThread f k
+acting {threads} {f} {line} {k} known = thread_of threads f k known.planned.0 known.seated.few
+
 module _ (threads : ℕ) (f : Profile) (line k : ℕ) (what : What) (p p' : Progress) (w : World) (indexes : Indexes)
     (known : IsKnown threads f (Act.Operates (record { line = line; actor = k; what = what })) p p' w indexes) where
-  thread : IsThread f k
-  thread = thread_of threads f k known.planned.0 known.seated.few
-
   abbrev a : Answer
   a = known.taken.advances.0
 
@@ -51,7 +53,7 @@ module _ (threads : ℕ) (f : Profile) (line k : ℕ) (what : What) (p p' : Prog
       → IsNamedBy f indexes (Some r) a.found → AnswersSame f k r p a w
   asked r admitted served named = request_same f k r p a w record {
     valid = known.taken.valid;
-    thread = thread;
+    thread = acting known;
     listed = known.taken.listed;
     admitted = admitted;
     before = known.taken.before;
@@ -76,7 +78,7 @@ module _ (threads : ℕ) (f : Profile) (line k : ℕ) (what : What) (p p' : Prog
       subst (λ (o : Option ℕ). IsNamedBy f indexes (Some r) o) moved.found_is (subst (λ (t : Bool). IsNamedBy f indexes (unless_suited t r) a.found) moved.unsuited named) in
       subst (λ (q : Progress). IsSame f q (remakes f k name size align (Some (Some block)) w)) (sym reached)
       (subst (λ (t : Bool). IsSame f (after_answer p k a) (if t then keeps_block k name block w else replaces f k name block size align w)) (sym moved.unsuited)
-      (replaced_same f k r block p a w refl known.taken.valid thread known.taken.listed own known.taken.before after known.taken.same known.usable moved
+      (replaced_same f k r block p a w refl known.taken.valid (acting known) known.taken.listed own known.taken.before after known.taken.same known.usable moved
       (named_in_text r moved.placed.found found) (request_same f k r)))
 
 -- the state that it comes to is that of the replay
@@ -85,23 +87,19 @@ LeavesSame threads f act = (p p' : Progress) (w : World) (indexes : Indexes) →
 
 operation_same : (threads : ℕ) (f : Profile) (line k : ℕ) (what : What) → LeavesSame threads f (Act.Operates (record { line = line; actor = k; what = what }))
 operation_same threads f line k (What.Alloc name heap size align) p p' w indexes known =
-    subst (λ (q : Progress). IsSame f q (acts_on f (Act.Operates (record { line = line; actor = k; what = What.Alloc name heap size align })) w)) (sym known.taken.advances.2)
-    (asked threads f line k (What.Alloc name heap size align) p p' w indexes known (record { name = name; heap = heap; size = size; align = align }) known.planned.1 known.taken.advances.1 known.named)
+    rw known.taken.advances.2 (asked threads f line k (What.Alloc name heap size align) p p' w indexes known (record { name = name; heap = heap; size = size; align = align }) known.planned.1 known.taken.advances.1 known.named)
 operation_same threads f line k (What.Guarded keeper name heap size align) p p' w indexes known =
-    subst (λ (q : Progress). IsSame f q (acts_on f (Act.Operates (record { line = line; actor = k; what = What.Guarded keeper name heap size align })) w)) (sym known.taken.advances.2)
-    (asked threads f line k (What.Guarded keeper name heap size align) p p' w indexes known (record { name = name; heap = heap; size = size; align = align }) known.planned.1 known.taken.advances.1 known.named)
-operation_same threads f line k (What.Free name) p p' w indexes known = free_act f line k name (thread_of threads f k known.planned.0 known.seated.few) p p' w known.usable known.taken
-operation_same threads f line k (What.FreeSized name room) p p' w indexes known = free_sized_act f line k name room (thread_of threads f k known.planned.0 known.seated.few) p p' w known.usable known.taken
-operation_same threads f line k (What.Raw block) p p' w indexes known = raw_act f line k block (thread_of threads f k known.planned.0 known.seated.few) p p' w known.usable known.taken
-operation_same threads f line k (What.RawSized room block) p p' w indexes known = raw_sized_act f line k room block (thread_of threads f k known.planned.0 known.seated.few) p p' w known.usable known.taken
+    rw known.taken.advances.2 (asked threads f line k (What.Guarded keeper name heap size align) p p' w indexes known (record { name = name; heap = heap; size = size; align = align }) known.planned.1 known.taken.advances.1 known.named)
+operation_same threads f line k (What.Free name) p p' w indexes known = free_act f line k name (acting known) p p' w known.usable known.taken
+operation_same threads f line k (What.FreeSized name room) p p' w indexes known = free_sized_act f line k name room (acting known) p p' w known.usable known.taken
+operation_same threads f line k (What.Raw block) p p' w indexes known = raw_act f line k block (acting known) p p' w known.usable known.taken
+operation_same threads f line k (What.RawSized room block) p p' w indexes known = raw_sized_act f line k room block (acting known) p p' w known.usable known.taken
 operation_same threads f line k (What.Remake name old heap size align) p p' w indexes known =
     subst (λ (ns : List Named). IsSame f p' (remakes f k name size align (standing_for ns old) w)) (sym known.taken.same.names)
     (remade threads f line k (What.Remake name old heap size align) p p' w indexes known name old heap size align (standing_for p.names old) known.planned.1 known.taken.advances.1 known.named)
-operation_same threads f line k What.Flush p p' w indexes known = flush_act f line k (thread_of threads f k known.planned.0 known.seated.few) p p' w known.usable known.taken
-operation_same threads f line k What.Stop p p' w indexes known = stop_act f line k (thread_of threads f k known.planned.0 known.seated.few) p p' w known.usable known.taken
-operation_same threads f line k (What.Tick e) p p' w indexes known = absurd known.taken.advances.1
-operation_same threads f line k What.Pass p p' w indexes known = absurd known.taken.advances.1
-operation_same threads f line k (What.Idle n) p p' w indexes known = absurd known.taken.advances.1
+operation_same threads f line k What.Flush p p' w indexes known = flush_act f line k (acting known) p p' w known.usable known.taken
+operation_same threads f line k What.Stop p p' w indexes known = stop_act f line k (acting known) p p' w known.usable known.taken
+operation_same threads f line k what p p' w indexes known = absurd known.taken.advances.1
 
 -- ---- AN ACT that is no guarded request
 abbrev IsOwn : Act → Type 0

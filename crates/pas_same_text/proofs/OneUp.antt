@@ -22,7 +22,6 @@ use Rattle.pas_segregated.specs.declared.slots.Slots.{Slots}
 use Rattle.pas_cache.specs.{Contents.Cached, Kinds.releasing, Locals.IsLocal, Locals.covers, Locals.any_covers}
 use Rattle.pas_trace.specs.EveryPlan.{IsThread}
 use Rattle.pas_answers.specs.Answers.{Progress, with_steps, with_cache as with_cached}
-use Rattle.pas_guard.specs.Books.{is_outer}
 use Rattle.pas_report.specs.declared.record.Record.{Record}
 use Rattle.pas_same_text.specs.Same.{IsSame, HasSame, IsSameCache, IsSameLocal, AreSameLocals, AreSameCaches, lives_in}
 use Rattle.pas_same_text.proofs.FreeGrains.{cached_held, outer_held, held_by, never_both, holder_thread}
@@ -150,8 +149,7 @@ module _ (f : Profile) (k : ℕ) (p : Progress) (w : World) (s : Slots) (l : Loc
             let was = cached_before j g (j == k) refl cached own in
             false≢true (sym was.0 ∙ one_holder f p.list o.valid o.before.legal j k g (cached_held f p o.before j g (holder_thread f p1 o.after j g held) was.1) held_then)
         | inr outer ↦
-            let same : j ≡ k = eqb-true j k (one_holder f p.list o.valid o.before.legal j k g (outer_held f p o.before j g outer) held_then) in
-            never_both f p o.before k g (g / 256) (o.in_cache g own) (ap (λ (i : ℕ). is_outer (p.books i) (g / 256)) (sym same) ∙ outer)
+            search (arith, eqb-true, one_holder, outer_held, never_both)
       ]
 
   -- ---- why its page is offered

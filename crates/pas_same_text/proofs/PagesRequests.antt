@@ -30,16 +30,9 @@ use Rattle.pas_same_text.proofs.SearchedPages.{lowest_found, none_lowest, named_
 use Rattle.pas_same_text.proofs.Asked.{HasAsked, answer_reached, by_route, request_taken}
 
 -- ---- the indexes are no part of what is the same
+-- none of what is the same looks at them
 loses_same : (f : Profile) (p : Progress) (w : World) (heap n : ℕ) → IsSame f p w → IsSame f p (loses_named heap n w)
-loses_same f p w heap n same = record {
-  pages = record { events = same.pages.events; live = same.pages.live; hinted = same.pages.hinted; offered = same.pages.offered };
-  caches = same.caches;
-  guards = same.guards;
-  names = same.names;
-  records = same.records;
-  epoch = same.epoch;
-  read = same.read;
-}
+loses_same f p w heap n same = search arith
 
 -- ---- what was tried leaves the actor as it was
 -- ---- steps of kinds without an event

@@ -39,9 +39,7 @@ map_turned g (x ∷ xs) =
 
 turned_records : (ws rs : List Record) (r : Record) → reverse (reverse rs ++ (r ∷ ws)) ≡ reverse ws ++ (r ∷ rs)
 turned_records ws rs r =
-    reverse-append (reverse rs) (r ∷ ws)
-    ∙ (ap (λ (xs : List Record). reverse (r ∷ ws) ++ xs) (reverse-reverse rs)
-    ∙ (ap (λ (xs : List Record). xs ++ rs) (reverse_onto ws r []) ∙ append_assoc (reverse ws) (r ∷ []) rs))
+    cc (reverse-append (reverse rs) (r ∷ ws), reverse-reverse rs, reverse_onto ws r [], append_assoc (reverse ws) (r ∷ []) rs)
 
 module _ (f : Profile) (p : Progress) (w : World) (epoch : ℕ) (found : List (ℕ × Outcome)) (steps : List Made) (valid : IsValid f) (before : IsBetween f p)
     (same : IsSame f p w) (stamped : AreEndsStamped p.list)
@@ -66,9 +64,6 @@ module _ (f : Profile) (p : Progress) (w : World) (epoch : ℕ) (found : List (�
 
   abbrev bound : ℕ
   bound = 64 * vector_words f.pages
-
-  was : HasSame f p w
-  was = has_same f p w valid before same stamped
 
   whole : Legal f (triples 0 (order.read ++ look) ++ p.list)
   whole = subst (λ (ms : List Made). Legal f (triples 0 ms ++ p.list)) order.steps_are after.legal
@@ -131,7 +126,7 @@ module _ (f : Profile) (p : Progress) (w : World) (epoch : ℕ) (found : List (�
       let of : IsPage f q = hinted_page f p.list before.legal q bit in
       let there : has_number pages q ≡ true = has_filtered (is_hinted w) (page_numbers f) q old (page_there f q of) in
       let stays : stays_hinted (outcome_of f w q) ≡ true = come.hinted_so q there h in
-      let idle : is_idle w q ≡ true = page_idle f p w valid before was q (past.idle q (below q of) bit stays) in
+      let idle : is_idle w q ≡ true = page_idle f p w valid before (has_same f p w valid before same stamped) q (past.idle q (below q of) bit stays) in
       let still : is_idle v q ≡ is_idle w q =
       ap (λ (t : Bool). t && is_empty v q) (come.backed q stays) ∙ ap (λ (t : Bool). backed_in w.events q && t) (empty_kept w v q (λ b small. free_is q b)) in
       idle_hinted f p' v valid after has q (still ∙ idle)

@@ -16,9 +16,9 @@ use Rattle.pas_scavenger.proofs.Trying.{outcomes_append}
 use Rattle.pas_trace.specs.Acts.{numbers_from}
 use Rattle.pas_answers.specs.Answers.{Progress}
 use Rattle.pas_same_text.specs.{State.World, Passes.outcome_of, Same.IsSame, Acts.IsBetween, Acts.AreEndsStamped}
-use Rattle.pas_same_text.proofs.{SmallActs.look_word, GivingBack.OffersPage, GivingBack.once_parts, PassOutcomes.WasOffered, PassOutcomes.pair}
-use Rattle.pas_same_text.proofs.{PassOutcomes.stays_hinted, PassTries.IsTried, PassTries.tried}
-use Rattle.pas_same_text.proofs.PassedPages.{is_on, Spares, words_stay, spare_both, try_spares}
+use Rattle.pas_same_text.proofs.{GivingBack.OffersPage, GivingBack.once_parts, PassOutcomes.WasOffered, PassOutcomes.pair, PassOutcomes.stays_hinted}
+use Rattle.pas_same_text.proofs.{PassTries.IsTried, PassTries.tried}
+use Rattle.pas_same_text.proofs.PassReadings.{is_on, Spares, words_stay, spare_both, try_spares}
 
 -- ---- the numbers below n that pass a test, the greatest first
 abbrev pub falling : (ℕ → Bool) → ℕ → List ℕ
@@ -151,15 +151,10 @@ module _ (f : Profile) (p : Progress) (w : World) (valid : IsValid f) (between :
       }
 
   -- ---- a look at a word
+  -- a look is on no page, hints none and offers none
   past_look : (n : ℕ) (word value : ℕ) (steps : List Made) (found : List (ℕ × Outcome)) → IsPast f w p.list n steps found
       → IsPast f w p.list n (made (Look (Word.Empty word)) value ∷ steps) found
-  past_look n word value steps found h = record {
-    found_are = h.found_are;
-    spared = λ q le. (refl, h.spared q le);
-    bits = λ q lt gone. ap (λ (a : ℕ). has_bit a (q % 64)) (look_word 0 value (Word.Empty word) (Word.Empty (q / 64)) (triples 0 steps ++ p.list)) ∙ h.bits q lt gone;
-    idle = h.idle;
-    offers = λ q offer. elim offer [ inl bad ↦ absurd (let e : Look (Word.Empty word) ≡ Offer q bad.0 = bad.1 in cc) | inr earlier ↦ h.offers q earlier ];
-  }
+  past_look n word value steps found h = search arith
 
   -- a word that is read has the hints with which the pass began, of pages that were spared so far
   value_bit : (n value b : ℕ) (steps : List Made) → b < 64 → value ≡ word_after (triples 0 steps ++ p.list) (Word.Empty n) → Spares (64 * n + b) steps
@@ -235,15 +230,9 @@ module _ (f : Profile) (p : Progress) (w : World) (valid : IsValid f) (between :
       past_at f w p.list (64 * n + 64) (64 * suc n) (steps ++ base) (outcomes_in (all_tried (r ∷ words))) (omega arith)
       (past_by f w p.list (64 * n + 64) (read.after ++ (look ∷ rest)) (steps ++ base) (outcomes_in r.tried ++ pairs) (outcomes_in (all_tried (r ∷ words))) (sym cut) (sym (outcomes_append r.tried (all_tried words))) done)
 
-  -- before the first word: the epoch is read
+  -- before the first word: the epoch is read, and no page is below 0
   past_none : IsPast f w p.list 0 (made (Look Word.Epoch) epoch ∷ []) []
-  past_none = record {
-    found_are = refl;
-    spared = λ q le. (refl, tt);
-    bits = λ q lt gone. absurd (omega (arith, lt));
-    idle = λ q lt is stays. absurd (omega (arith, lt));
-    offers = λ q offer. elim offer [ inl bad ↦ absurd (let e : Look Word.Epoch ≡ Offer q bad.0 = bad.1 in cc) | inr none ↦ absurd none ];
-  }
+  past_none = search arith
 
   -- THE WHOLE PASS
   pub past_all : (words : List WordRead) (read : List Made) → map (λ r. r.number) words ≡ numbers_below (vector_words f.pages)

@@ -109,10 +109,6 @@ was_backed : (b : Bool) (n : ℕ) → n ≡ word_of_backed b → n ≢ 0 → b �
 was_backed true n is some = refl
 was_backed false n is some = absurd (some is)
 
-not_backed : (b : Bool) (n : ℕ) → n ≡ word_of_backed b → n ≡ 0 → b ≡ false
-not_backed true n is none = let one : n ≡ 1 = is in absurd (omega (arith, one, none))
-not_backed false n is none = refl
-
 -- the first grain of a page is one that blocks of its directory may cover
 first_usable : (k : Kind) → IsKind k → usable_by_kind k 0 ≡ true
 first_usable k is = search (arith, usable_grains_ge, lt-ltb)
@@ -137,7 +133,7 @@ module _ (f : Profile) (p : Progress) (w : World) (valid : IsValid f) (between :
 
   -- ---- a page without memory, and one with
   pub bare_outcome : (page : ℕ) → word_after p.list (Word.Backed page) ≡ 0 → outcome_of f w page ≡ Outcome.Bare
-  bare_outcome page none = ap (λ (t : Bool). if t then outcome_backed f w page (used_word w page) else Outcome.Bare) (not_backed (backed_in w.events page) (word_after p.list (Word.Backed page)) (backed_is page) none)
+  bare_outcome page none = search (arith, backed_is)
 
   backed_outcome : (page : ℕ) (o : Option ℕ) → IsBacked page → used_word w page ≡ o → outcome_of f w page ≡ outcome_backed f w page o
   backed_outcome page o some used = search (arith, was_backed, backed_is)
@@ -178,8 +174,7 @@ module _ (f : Profile) (p : Progress) (w : World) (valid : IsValid f) (between :
       → outcome_of f w page
       ≡ (if kept then Outcome.NotOffered else (if nat_lt w.epoch (epoch_in w.events page + f.age) then Outcome.Young (epoch_in w.events page) else Outcome.Unbacked))
   empty_outcome page kept some full is =
-      backed_outcome page None some (used_none f p w valid between has_same page (unguarded page some) full)
-      ∙ ap (λ (t : Bool). if t then Outcome.NotOffered else (if nat_lt w.epoch (epoch_in w.events page + f.age) then Outcome.Young (epoch_in w.events page) else Outcome.Unbacked)) is
+      cc (backed_outcome page None some (used_none f p w valid between has_same page (unguarded page some) full))
 
   -- A page that is backed and empty, and not offered by its directory, has the outcome not offered in the text.
   pub kept_outcome : (page : ℕ) (d : Directory) → IsBacked page → IsDirectoryOf f d → word_after p.list (Word.Deed page) ≡ deed_word_of d → IsFull page

@@ -135,15 +135,7 @@ all_come out (page ∷ pages) w =
     record {
       events = cc (come_events page (out page) w, last_unback w.epoch page (out page) (map (λ q. pair q (out q)) pages) w.events);
       records = search (arith, come_records, last_record);
-      left = record {
-        live = r.left.live ∙ a.live;
-        lives = r.left.lives ∙ a.lives;
-        names = r.left.names ∙ a.names;
-        caches = r.left.caches ∙ a.caches;
-        guards = r.left.guards ∙ a.guards;
-        epoch = r.left.epoch ∙ a.epoch;
-        read = r.left.read ∙ a.read;
-      };
+      left = search arith;
       backed = λ q stays. r.backed q stays ∙ come_backed page (out page) w q (λ e. ap (λ (y : ℕ). stays_hinted (out y)) e ∙ stays);
       hinted_was = λ q h. hint_was page (stays_hinted (out page)) w.hinted q (sym (ap (λ (hs : List ℕ). has_number hs q) hints) ∙ r.hinted_was q h);
       hinted_so = search (arith, or_cases, eqb-true, hint_so);

@@ -1,5 +1,6 @@
 -- WHAT A PIECE OF STEPS USED, from one state where all actors are at rest to another, told by its pages: what is free, open or without a guard on other pages is so still.
-use Rattle.std.proofs.Common.{◌≡◌, ℕ, ◌+◌, ◌*◌, ◌/◌, Bool, true, false, Some, ◌⊎◌, inl, inr, ap, sym, ◌∙◌, true≢false, ◌==◌, List, [], ◌∷◌, ◌++◌, subst, refl}
+use Rattle.std.proofs.Common.{arith, ◌≡◌, ℕ, ◌+◌, ◌*◌, ◌/◌, Bool, true, false, Some, ◌⊎◌, inl, inr, ap, sym, ◌∙◌, true≢false, ◌==◌, List, [], ◌∷◌, ◌++◌, subst}
+use Rattle.std.proofs.Common.{refl}
 use Rattle.std.proofs.lemmas.Bool.{false≢true, false_from_ne_true, cases_Bool}
 use Rattle.pas_profile.specs.{Profiles.IsValid, Directories.number_of, Profiles.IsDirectoryOf}
 use Rattle.pas_profile.specs.declared.{directory.Directory.Directory, profile.Profile.Profile, event.Event.Event}
@@ -33,11 +34,7 @@ pub record UsesOnly (p q : Progress) (used : ℕ → Bool) : Type 0 where
 
 -- More pages are named than were used.
 pub uses_wider : {p q : Progress} {used more : ℕ → Bool} → ((x : ℕ) → used x ≡ true → more x ≡ true) → UsesOnly p q used → UsesOnly p q more
-uses_wider wider uses = record {
-  cached = λ j g h. elim (uses.cached j g h) [ inl was ↦ inl was | inr here ↦ inr (wider (g / 256) here) ];
-  outer = λ j x h. elim (uses.outer j x h) [ inl was ↦ inl was | inr here ↦ inr (wider x here) ];
-  live = λ a b h. elim (uses.live a b h) [ inl was ↦ inl was | inr here ↦ inr (λ g of. wider (g / 256) (here g of)) ];
-}
+uses_wider wider uses = search arith
 
 module _ {f : Profile} {p q : Progress} {used : ℕ → Bool} (valid : IsValid f) (before : IsBetween f p) (after : IsBetween f q) (uses : UsesOnly p q used) where
   -- A free grain of another page is free still.

@@ -32,14 +32,9 @@ by_test P true xs ys one other = one refl
 by_test P false xs ys one other = other refl
 
 module _ (e : ℕ) where
-  split_at : (t : Bool) (q : ℕ) (qs : List ℕ) → above e qs ++ below e qs ≡ qs
-      → (if t then [] else q ∷ above e qs) ++ (if t then q ∷ qs else below e qs) ≡ q ∷ qs
-  split_at true q qs rest = refl
-  split_at false q qs rest = ap (λ (xs : List ℕ). q ∷ xs) rest
-
   split : (qs : List ℕ) → above e qs ++ below e qs ≡ qs
   split [] = refl
-  split (q ∷ qs) = split_at (nat_lt q e) q qs (split qs)
+  split (q ∷ qs) = search (arith, split qs)
 
   -- What is so of all of some pages is so of those below a page.
   pub below_all : (P : ℕ → Type 0) (qs : List ℕ) → AllByRecursion P qs → AllByRecursion P (below e qs)
@@ -75,21 +70,13 @@ module _ (e : ℕ) where
   below_whole [] all = refl
   below_whole (q ∷ qs) all = ap (λ (t : Bool). if t then q ∷ qs else below e qs) (lt-ltb q e all.0)
 
-  not_under : (f q : ℕ) → e ≤ f → nat_lt q f ≡ false → nat_lt q e ≡ false
-  not_under f q le is = grind (arith, nat_tests, is, le)
-
   below_twice : (f : ℕ) → e ≤ f → (qs : List ℕ) → below e (below f qs) ≡ below e qs
   below_twice f le [] = refl
-  below_twice f le (q ∷ qs) = by_test (λ (xs : List ℕ). below e xs ≡ below e (q ∷ qs)) (nat_lt q f) (q ∷ qs) (below f qs)
-      (λ yes. refl)
-      (λ no. below_twice f le qs ∙ sym (ap (λ (t : Bool). if t then q ∷ qs else below e qs) (not_under f q le no)))
+  below_twice f le (q ∷ qs) = search (arith, by_test, below_twice f le qs)
 
 below_none : (qs : List ℕ) → below 0 qs ≡ []
 below_none [] = refl
-below_none (q ∷ qs) = ap (λ (t : Bool). if t then q ∷ qs else below 0 qs) (never q) ∙ below_none qs
-  where
-    never : (q : ℕ) → nat_lt q 0 ≡ false
-    never q = grind (arith, nat_tests)
+below_none (q ∷ qs) = search (arith, below_none qs)
 
 -- ---- their deeds
 module _ (k : ℕ) (d : Directory) where
@@ -161,10 +148,7 @@ module _ (f : Profile) (keeper k name heap n : ℕ) (w : World) (made : List ℕ
             → IsInRun p (n + 2) q
         one q h = elim (cases_lt q p) [
           | inl before ↦
-              let here = h.1.1.1 in
-              let past = up.past h.1.1.0 h.1.1.2.0 (omega (arith, here.0, before)) h.1.1.2.2 in
-              let from = h.0 in
-              absurd (omega (arith, here.1, past, from))
+              search arith
           | inr from ↦ (from, h.1.0)
         ]
 

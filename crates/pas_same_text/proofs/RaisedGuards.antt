@@ -1,23 +1,21 @@
 -- A GUARD GOES UP: the search of a keeper found a run. Its inner pages get memory where they have none, their block is given, and the keeper holds the two pages beside it.
-use Rattle.std.proofs.Common.{◌≡◌, ℕ, ◌+◌, ◌*◌, ◌/◌, ◌<◌, ◌==◌, Bool, true, false, ◌||◌, if◌then◌else◌, List, [], ◌∷◌, ◌++◌, map, Some, ◌⊎◌, inl, inr, refl, ap}
-use Rattle.std.proofs.Common.{sym, ◌∙◌, subst, arith, append_assoc, true≢false, eq-eqb, eqb-true, ne_eqb, append-nil}
-use Rattle.std.proofs.lemmas.Bool.{false≢true, eqb-false, or_cases, or_left, or_right, false_from_ne_true, cases_lt, cases_Bool}
-use Rattle.std.proofs.lemmas.List.{map-append, Elements.filter-append}
-use Rattle.std.specs.List.{AllByRecursion, filter}
+use Rattle.std.proofs.Common.{◌≡◌, ℕ, ◌+◌, ◌*◌, ◌/◌, ◌<◌, ◌==◌, Bool, true, false, ◌||◌, if◌then◌else◌, List, [], ◌∷◌, ◌++◌, Some, ◌⊎◌, inl, inr, refl, ap, sym}
+use Rattle.std.proofs.Common.{◌∙◌, subst, arith, append_assoc, true≢false, eq-eqb, eqb-true}
+use Rattle.std.proofs.lemmas.Bool.{false≢true, or_cases, or_left, or_right, false_from_ne_true, cases_Bool}
 use Rattle.pas_bits.specs.Runs.{in_run}
 use Rattle.pas_profile.specs.{Blocks.address_of, Blocks.grain_of, Blocks.length_of, Directories.number_of, Profiles.IsDirectoryOf}
 use Rattle.pas_profile.specs.declared.{directory.Directory.Directory, event.Event.Event, name.Block.Block, profile.Profile.Profile, word.Word.Word}
 use Rattle.pas_machine.specs.State.{deed_in, gives_in}
 use Rattle.pas_steps.specs.{Calls.Kept, Calls.Gained, Calls.now as has_now, Desks.triples, Events.events_by, Views.View, Views.has_right, Views.known_deed}
 use Rattle.pas_steps.specs.{Kinds.Only, Kinds.Backing, Kinds.returning}
-use Rattle.pas_steps.specs.Lists.{Whole, part, word_after, visible, Legal}
+use Rattle.pas_steps.specs.Lists.{Whole, part, word_after, Legal}
 use Rattle.pas_steps.specs.declared.step.{Made.Made, Step.TheVariants.Hint}
 use Rattle.pas_steps.proofs.{Adding.triples_append, Apart.events_same, Apart.only_both, Apart.only_within, Frames.events_append, Parts.part_of_own}
 use Rattle.pas_core.specs.Rights.{eligible_bit}
 use Rattle.pas_core.proofs.{Nexts.agreed_steps, OneActor.LendsNone, OneActor.deed_same, OneActor.lends_none}
 use Rattle.pas_rights.specs.Gives.{give_steps}
 use Rattle.pas_scan.specs.Runs.{IsInRun}
-use Rattle.pas_large.specs.{Claims.in_span, Gives.pages_from}
+use Rattle.pas_large.specs.Claims.{in_span}
 use Rattle.pas_large.proofs.{Claims.span_in, Claims.in_parts, Gives.run_is, Outcomes.MadeOf}
 use Rattle.pas_cache.specs.{Kinds.allocating, Locals.any_covers}
 use Rattle.pas_guard.specs.{Books.is_outer_of, Books.is_outer, Guards.left_last_first, Raises.guard_of, Raises.IsRaised, Seeks.seeking, Seeks.HasSpan}
@@ -29,33 +27,19 @@ use Rattle.pas_answers.specs.Answers.{Caches, Progress, named, records_of}
 use Rattle.pas_same_text.specs.State.{World, Guard, each, says}
 use Rattle.pas_same_text.specs.{Pages.is_offered, Searches.backs, Searches.address_on, Searches.gives, Runs.large_of, Guards.guard_on, Guards.with_guard}
 use Rattle.pas_same_text.specs.{Guards.raises, Acts.IsBetween}
-use Rattle.pas_same_text.specs.Same.{told_guard, has_number, IsSame, HasSame, AreSameCaches}
-use Rattle.pas_same_text.proofs.{Flushes.legal_between, FreeGrains.outer_held, FreeGrains.free_unheld, KeepersRest.outer_last, SmallActs.records_next}
-use Rattle.pas_same_text.proofs.{SoughtRuns.IsRunOf, SoughtRuns.IsMadeOf, Tests.on_page, SearchMarks.seeks_unbacked, RestingPages.word_known}
-use Rattle.pas_same_text.proofs.{GivingBack.once_parts, ReadyPages.shown, ReadyPages.shown_events, ReadyPages.shown_rest}
+use Rattle.pas_same_text.specs.Same.{told_guard, has_number, IsSame, HasSame, AreSameCaches, AreSameGuards}
+use Rattle.pas_same_text.proofs.{Flushes.legal_between, FreeGrains.outer_held, FreeGrains.free_unheld, SmallActs.records_next, SoughtRuns.IsRunOf}
+use Rattle.pas_same_text.proofs.{SoughtRuns.IsMadeOf, Tests.on_page, SearchMarks.seeks_unbacked, RestingPages.word_known, GivingBack.once_parts}
+use Rattle.pas_same_text.proofs.{ReadyPages.shown, ReadyPages.shown_events, ReadyPages.shown_rest}
 use Rattle.pas_same_text.proofs.Pieces.{IsPiece, UsesOnly, free_kept, hinted_before, piece_pages, uses_wider}
-use Rattle.pas_same_text.proofs.LeftPages.{all_in_run, left_offered, IsInUse, LeavesBehind, giving, leaving, marks_behind, no_hint, rest_leaves}
-use Rattle.pas_same_text.proofs.MissedGuards.{all_listed, deed_listed, each_listed, left_free, unlisted_bare}
+use Rattle.pas_same_text.proofs.LeftPages.{left_offered, IsInUse, LeavesBehind, giving, leaving, marks_behind, no_hint, rest_leaves}
+use Rattle.pas_same_text.proofs.MissedGuards.{all_listed, deed_listed, each_listed, guards_more, inner_or, left_free, left_in_run, outer_more, outer_or}
+use Rattle.pas_same_text.proofs.MissedGuards.{unlisted_bare}
 use Rattle.pas_same_text.proofs.RunEvents.{each_in_turn, shown_both, deeded, deeds_of, backs_in_turn}
 use Rattle.pas_same_text.proofs.TriedRuns.{unowned_free, visible_mid, made_events, found_made, found_pages, IsSought}
 use Rattle.pas_same_text.proofs.GivenBlocks.{AreReadying, GivesBlock, backs_ready, block_is, block_uses, epoch_now, events_now, live_now, made_ready, names_now}
 use Rattle.pas_same_text.proofs.GivenBlocks.{only_block, IsReadying, ready_deeds, ready_gives, records_now}
 use Rattle.pas_profile.proofs.Lists.{all_both, all_map}
-
--- ---- one guard more, the last one
--- the pages that are left are those of the run
-left_in_run : (first n : ℕ) → AllByRecursion (IsInRun first (n + 2)) (left_last_first first n)
-left_in_run first n = (
-  (omega arith, omega arith),
-  (
-    (omega arith, omega arith),
-    all_map (IsInRun (first + 1) n) (IsInRun first (n + 2)) (pages_from (first + 1) n) (λ x here. (omega (arith, here.0), omega (arith, here.1))) (all_in_run (first + 1) n),
-  ),
-)
-
--- a page of the run is an inner one, or an outer one
-inner_or : (first n x : ℕ) → IsInRun first (n + 2) x → IsInRun (first + 1) n x ⊎ ((first ≡ x) ⊎ (first + n + 1 ≡ x))
-inner_or first n x here = search (arith, cases_lt)
 
 module _ (name : ℕ) {f : Profile} {k heap n : ℕ} {p q : Progress} {w : World} {xs rest : List Made} {block : Block} {guards' : List BookGuard}
     (s : IsSought f k heap n p w xs) (run : IsRaised f (large_of heap) n (p.books k) guards' xs rest block) (there : IsBetween f q) (list : q.list ≡ triples k (rest ++ xs) ++ p.list)
@@ -77,15 +61,12 @@ module _ (name : ℕ) {f : Profile} {k heap n : ℕ} {p q : Progress} {w : World
   own = part k p.list
 
   -- ---- the steps
-  whole : Legal f (triples k (rest ++ xs) ++ p.list)
-  whole = subst (Legal f) list there.legal
-
   steps_are : rest ++ xs ≡ run.left ++ (gave ++ (run.backs ++ xs))
   steps_are = ap (λ (ms : List Made). ms ++ xs) run.after_is ∙ append_assoc run.left (gave ++ run.backs) xs
 
   legal_backs : Legal f (triples k run.backs ++ mid)
   legal_backs = legal_between f k (run.left ++ gave) run.backs xs p.list
-      (subst (λ (ms : List Made). Legal f (triples k ms ++ p.list)) (steps_are ∙ sym (append_assoc run.left gave (run.backs ++ xs))) whole)
+      (subst (λ (ms : List Made). Legal f (triples k ms ++ p.list)) (steps_are ∙ sym (append_assoc run.left gave (run.backs ++ xs))) (subst (Legal f) list there.legal))
 
   span : HasSpan d run.first (run.first + (n + 2)) own (xs ++ own)
   span = run.found.got.from own s.met (agreed_steps f k p.list xs s.valid s.legal)
@@ -115,9 +96,6 @@ module _ (name : ℕ) {f : Profile} {k heap n : ℕ} {p q : Progress} {w : World
       ∙ (ap (λ (v : View). events_by k v run.backs ++ events_by k own xs) (sym (part_of_own k xs p.list))
       ∙ ap (λ (ys : List Event). bs ++ ys) (made_events s made_of))))
 
-  mid_events : visible mid ≡ ds ++ w.events
-  mid_events = visible_mid s made_of
-
   -- ---- the text
   abbrev address : ℕ
   address = address_on (run.first + 1) 0
@@ -128,7 +106,7 @@ module _ (name : ℕ) {f : Profile} {k heap n : ℕ} {p q : Progress} {w : World
   backs_text : each (backs k) (numbers_from (run.first + 1) n) tried ≡ shown es w
   backs_text =
       each_in_turn (backs k) n (run.first + 1) tried
-      ∙ (backs_in_turn f k mid tried s.legal (shown_events ds w ∙ sym mid_events) n (run.first + 1) run.backs legal_backs run.back_order ∙ sym (shown_both bs ds w))
+      ∙ (backs_in_turn f k mid tried s.legal (shown_events ds w ∙ sym (visible_mid s made_of)) n (run.first + 1) run.backs legal_backs run.back_order ∙ sym (shown_both bs ds w))
 
   abbrev given : World
   given = gives k name heap address (4096 * n) (shown es w)
@@ -170,54 +148,29 @@ module _ (name : ℕ) {f : Profile} {k heap n : ℕ} {p q : Progress} {w : World
 
   guard_is : guard_on tried k run.first n ≡ told_guard k (guard_of run.first n block)
   guard_is =
-      ap (λ (turn : ℕ). let g : Guard = record { keeper = k; low = run.first; high = run.first + n + 1; block = record { address = record { 0 = address }; turn = turn } } in g) turns
-      ∙ ap (λ (b : Block). told_guard k (guard_of run.first n b)) (sym (block_is gives_it))
+      cc (turns, block_is gives_it)
 
   -- ---- the guards that are up
-  guards_at : (j : ℕ) (t : Bool) → (j == k) ≡ t → filter (λ g. g.keeper == j) (w.guards ++ guard_on tried k run.first n ∷ []) ≡ map (told_guard j) (q.books j)
-  guards_at j true e =
-      let here : j ≡ k = eqb-true j k e in
-      subst (λ (i : ℕ). filter (λ g. g.keeper == i) (w.guards ++ guard_on tried k run.first n ∷ []) ≡ map (told_guard i) (q.books i)) (sym here)
-      (filter-append (λ g. g.keeper == k) w.guards (guard_on tried k run.first n ∷ [])
-      ∙ (ap (λ (t : Bool). filter (λ g. g.keeper == k) w.guards ++ (if t then guard_on tried k run.first n ∷ [] else [])) (eq-eqb k k refl)
-      ∙ (ap (λ (gs : List Guard). gs ++ guard_on tried k run.first n ∷ []) (s.same.guards.each k)
-      ∙ (ap (λ (g : Guard). map (told_guard k) (p.books k) ++ g ∷ []) guard_is
-      ∙ (sym (map-append (told_guard k) (p.books k) (guard_of run.first n block ∷ [])) ∙ ap (map (told_guard k)) (sym (own_book ∙ run.raised)))))))
-  guards_at j false e = search (arith, filter-append, ne_eqb, eqb-false, append-nil)
+  book_is : q.books k ≡ p.books k ++ guard_of run.first n block ∷ []
+  book_is = own_book ∙ run.raised
+
+  guards_are : v.guards ≡ w.guards ++ told_guard k (guard_of run.first n block) ∷ []
+  guards_are = ap (λ (gs : List Guard). gs ++ guard_on tried k run.first n ∷ []) (shown_rest es w).guards ∙ ap (λ (g : Guard). w.guards ++ g ∷ []) guard_is
 
   now : HasSame f q v
   now = record {
     events = events_now gives_it;
     live = live_now gives_it;
     caches = subst (λ (cs : Caches). AreSameCaches f cs v.caches) (sym caches) (subst (AreSameCaches f p.caches) (sym (shown_rest es w).caches) s.same.caches);
-    guards = record { each = λ j. ap (λ (gs : List Guard). filter (λ g. g.keeper == j) (gs ++ guard_on tried k run.first n ∷ [])) (shown_rest es w).guards ∙ guards_at j (j == k) refl };
+    guards = subst (AreSameGuards q.books) (sym guards_are) (guards_more k (guard_of run.first n block) book_is other_books w.guards s.same.guards);
   }
 
-  -- ---- whose outer page a page is
-  outer_or : (j x : ℕ) → is_outer (q.books j) x ≡ true → (is_outer (p.books j) x ≡ true) ⊎ IsInRun run.first (n + 2) x
-  outer_or j x h = at (j == k) refl
-    where
-      own_page : is_outer_of (guard_of run.first n block) x ≡ true → IsInRun run.first (n + 2) x
-      own_page outer = search (arith, or_cases, eqb-true)
-
-      at : (t : Bool) → (j == k) ≡ t → (is_outer (p.books j) x ≡ true) ⊎ IsInRun run.first (n + 2) x
-      at true e =
-          let here : j ≡ k = eqb-true j k e in
-          elim (outer_last (p.books k) (guard_of run.first n block) x (ap (λ (gs : List BookGuard). is_outer gs x) (sym (own_book ∙ run.raised)) ∙ (ap (λ (i : ℕ). is_outer (q.books i) x) (sym here) ∙ h))) [
-            | inl was ↦ inl (ap (λ (i : ℕ). is_outer (p.books i) x) here ∙ was)
-            | inr new ↦ inr (own_page new)
-          ]
-      at false e = inl (ap (λ (gs : List BookGuard). is_outer gs x) (sym (other_books j e)) ∙ h)
+  -- ---- the outer pages of the guard
+  outer_in_run : (x : ℕ) → is_outer_of (guard_of run.first n block) x ≡ true → IsInRun run.first (n + 2) x
+  outer_in_run x outer = search (arith, or_cases, eqb-true)
 
   own_outer : (x : ℕ) → (run.first ≡ x) ⊎ (run.first + n + 1 ≡ x) → is_outer (q.books k) x ≡ true
-  own_outer x at = ap (λ (gs : List BookGuard). is_outer gs x) (own_book ∙ run.raised) ∙ last (p.books k)
-    where
-      here : is_outer_of (guard_of run.first n block) x ≡ true
-      here = search (arith, or_left, eq-eqb)
-
-      last : (gs : List BookGuard) → is_outer (gs ++ guard_of run.first n block ∷ []) x ≡ true
-      last [] = or_left (is_outer_of (guard_of run.first n block) x) false here
-      last (g ∷ gs) = or_right (is_outer_of g x) (is_outer (gs ++ guard_of run.first n block ∷ []) x) (last gs)
+  own_outer x at = outer_more k (guard_of run.first n block) book_is other_books x (search (arith, or_left, eq-eqb))
 
   -- ---- grains
   in_block : (g : ℕ) → in_run (grain_of block.name) (length_of block) g ≡ in_span (run.first + 1) (run.first + 1 + n) (g / 256)
@@ -279,7 +232,7 @@ module _ (name : ℕ) {f : Profile} {k heap n : ℕ} {p q : Progress} {w : World
   uses : UsesOnly p q in_all
   uses = record {
     cached = λ j g h. inl (ap (λ (cs : Caches). any_covers (cs j).locals g) (sym caches) ∙ h);
-    outer = λ j x h. elim (outer_or j x h) [ inl was ↦ inl was | inr here ↦ inr (spans x here) ];
+    outer = λ j x h. elim (outer_or k (guard_of run.first n block) book_is other_books j x h) [ inl was ↦ inl was | inr new ↦ inr (spans x (outer_in_run x new)) ];
     live = only_block gives_it d (has_number made) in_all es_ready (λ g h.
         let at = in_parts (run.first + 1) (run.first + 1 + n) (g / 256) (sym (in_block g) ∙ h) in spans (g / 256) (omega (arith, at.0), omega (arith, at.1)));
   }

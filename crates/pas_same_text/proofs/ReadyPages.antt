@@ -1,7 +1,7 @@
 -- A PAGE IS MADE READY for a block: the events of a search before a give are those of the text, by the machine's rules alone.
-use Rattle.std.proofs.Common.{◌≡◌, ◌≢◌, ℕ, ◌==◌, Bool, true, false, if◌then◌else◌, List, [], ◌∷◌, ◌++◌, map, Option, None, Some, ◌⊎◌, inl, inr, refl, ap, sym}
-use Rattle.std.proofs.Common.{◌∙◌, subst, ◌+◌, ◌*◌, ◌/◌, ◌<◌, ◌≤◌, arith, true≢false, eq-eqb}
-use Rattle.std.proofs.lemmas.Option.{same_Some, none-some}
+use Rattle.std.proofs.Common.{◌≡◌, ◌≢◌, ℕ, ◌==◌, Bool, true, false, if◌then◌else◌, List, [], ◌∷◌, ◌++◌, map, Option, None, Some, MatchOption, ◌⊎◌, inl, inr}
+use Rattle.std.proofs.Common.{refl, ap, sym, ◌∙◌, subst, ◌+◌, ◌*◌, ◌/◌, ◌<◌, ◌≤◌, arith, true≢false, eq-eqb}
+use Rattle.std.proofs.lemmas.Option.{none-some}
 use Rattle.pas_profile.specs.declared.{directory.Directory.Directory, event.Event.Event, profile.Profile.Profile, name.Block.Block}
 use Rattle.pas_profile.specs.Blocks.{grain_of, length_of}
 use Rattle.pas_machine.specs.{Machine.Admits, Machine.Run, Machine.Bears, State.deed_in, State.backed_in}
@@ -58,46 +58,39 @@ AllAtPage k d page [] = Unit {0}
 AllAtPage k d page (e ∷ es) = IsAtPage k d page e × AllAtPage k d page es
 
 module _ (k : ℕ) (d : Directory) (page : ℕ) where
-  -- those of a search are
-  next_at : (epoch a : ℕ) (s : Step) (o : Option Event) (es : List Event) → event_of k epoch s a ≡ o → (event_of k epoch s a ≡ None) ⊎ IsDeedOrBack d page s
-      → AllAtPage k d page es → AllAtPage k d page (with_event o es)
-  next_at epoch a s None es is at all = all
-  next_at epoch a s (Some e) es is (inl none) all = absurd (let bad : Some e ≡ None = sym is ∙ none in cc)
-  next_at epoch a s (Some e) es is (inr own) all = (of_own s own is, all)
-    where
-      deed_event : (t : Bool) → (if t then Some (Event.Deed k page d) else None) ≡ Some e → IsAtPage k d page e
-      deed_event true is = subst (IsAtPage k d page) (same_Some (Event.Deed k page d) e is) IsAtPage.Deeds
-      deed_event false is = absurd (let bad : None ≡ Some e = is in cc)
+  -- a step of a search shows nothing, or such an event
+  abbrev pub IsShownAt : Option Event → Type 0
+  IsShownAt o = MatchOption o (Unit {0}) (IsAtPage k d page)
 
-      back_event : (t : Bool) → (if t then Some (Event.Back k page) else None) ≡ Some e → IsAtPage k d page e
-      back_event true is = subst (IsAtPage k d page) (same_Some (Event.Back k page) e is) IsAtPage.Backs
-      back_event false is = absurd (let bad : None ≡ Some e = is in cc)
+  by_answer : (t : Bool) (e : Event) → IsAtPage k d page e → IsShownAt (if t then Some e else None)
+  by_answer true e at = at
+  by_answer false e at = tt
 
-      of_own : (s : Step) → IsDeedOrBack d page s → event_of k epoch s a ≡ Some e → IsAtPage k d page e
-      of_own s IsDeedOrBack.Deeds is = deed_event (a == 0) is
-      of_own s IsDeedOrBack.Backs is = back_event (a == 0) is
+  own_event : (epoch a : ℕ) (s : Step) → IsDeedOrBack d page s → IsShownAt (event_of k epoch s a)
+  own_event epoch a s IsDeedOrBack.Deeds = by_answer (a == 0) (Event.Deed k page d) IsAtPage.Deeds
+  own_event epoch a s IsDeedOrBack.Backs = by_answer (a == 0) (Event.Back k page) IsAtPage.Backs
 
-  quiet_or : (m : Made) (epoch : ℕ) → IsQuiet m ⊎ IsDeedOrBack d page m.step → (event_of k epoch m.step m.answer ≡ None) ⊎ IsDeedOrBack d page m.step
-  quiet_or m epoch (inl quiet) = inl (quiet k epoch)
-  quiet_or m epoch (inr own) = inr own
+  -- A step of a search at one page shows nothing, or a deed or a backing of that page.
+  pub event_at : (epoch : ℕ) (m : Made) → IsQuiet m ⊎ IsDeedOrBack d page m.step → IsShownAt (event_of k epoch m.step m.answer)
+  event_at epoch m (inl quiet) = subst IsShownAt (sym (quiet k epoch)) tt
+  event_at epoch m (inr own) = own_event epoch m.answer m.step own
+
+  next_at : (o : Option Event) (es : List Event) → IsShownAt o → AllAtPage k d page es → AllAtPage k d page (with_event o es)
+  next_at None es at all = all
+  next_at (Some e) es at all = (at, all)
 
   -- The events of steps at one page are deeds of the directory and backs of that page.
   pub search_at : (v : View) (xs : List Made) → EventsAt d page xs → AllAtPage k d page (events_by k v xs)
   search_at v [] at = tt
-  search_at v (m ∷ xs) at =
-      let epoch : ℕ = epoch_of (xs ++ v) in
-      next_at epoch m.answer m.step (event_of k epoch m.step m.answer) (events_by k v xs) refl (quiet_or m epoch at.0) (search_at v xs at.1)
+  search_at v (m ∷ xs) at = next_at (event_of k (epoch_of (xs ++ v)) m.step m.answer) (events_by k v xs) (event_at (epoch_of (xs ++ v)) m at.0) (search_at v xs at.1)
 
   -- ---- none but those that are due
-  deed_there : (o : Option Directory) → (if page == page then Some d else o) ≡ None → ⊥
-  deed_there o none = none-some d (sym none ∙ ap (λ (t : Bool). if t then Some d else o) (eqb_itself page))
-
   none_before : (f : Profile) (es base : List Event) → AllAtPage k d page es → Run f (es ++ base) → deed_in (es ++ base) page ≡ None → es ≡ []
   none_before f [] base all run none = refl
   none_before f (e ∷ es) base all run none = absurd (at e all.0 run.0 none)
     where
       at : (e : Event) → IsAtPage k d page e → Admits f (es ++ base) e → deed_in (e ∷ (es ++ base)) page ≡ None → ⊥
-      at e IsAtPage.Deeds may none = deed_there (deed_in (es ++ base) page) none
+      at e IsAtPage.Deeds may none = none-some d (sym none ∙ ap (λ (t : Bool). if t then Some d else (deed_in (es ++ base) page)) (eqb_itself page))
       at e IsAtPage.Backs may none = may.1 none
 
   -- A page without a deed gets one in the text.
@@ -106,11 +99,7 @@ module _ (k : ℕ) (d : Directory) (page : ℕ) where
 
   -- A page that has a deed gets none in the text.
   pub owned : (w : World) → deed_in w.events page ≢ None → deeds k d page w ≡ w
-  owned w some = at (deed_in w.events page) some
-    where
-      at : (o : Option Directory) → o ≢ None → (if is_none o then shows (Event.Deed k page d) w else w) ≡ w
-      at None some = absurd (some refl)
-      at (Some e) some = refl
+  owned w some = search arith
 
   was_backed : (w : World) → backed_in w.events page ≡ true → backs k page w ≡ w
   was_backed w is = ap (λ (t : Bool). if t then w else shows (Event.Back k page) w) is

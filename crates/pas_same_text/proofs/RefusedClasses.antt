@@ -1,5 +1,5 @@
 -- A REQUEST OF A CLASS THAT IS REFUSED: place is made for a local allocator, and then no page serves, in the text either.
-use Rattle.std.proofs.Common.{◌≤◌, length, arith, ◌≡◌, ℕ, Bool, List, [], ◌∷◌, ◌++◌, Option, None, Some, Result, Ok, Err, inl, inr, ap, sym, ◌∙◌, subst, refl}
+use Rattle.std.proofs.Common.{◌≤◌, length, arith, ◌≡◌, ℕ, Bool, List, [], ◌∷◌, ◌++◌, Option, None, Some, Result, Ok, Err, inl, inr, ap, sym, ◌∙◌, subst}
 use Rattle.pas_profile.specs.{Profiles.IsAdmitted, Profiles.IsDirectoryOf, Classes.IsClass}
 use Rattle.pas_profile.specs.Requests.{class_home, is_shared, kind_of_route, route_in, room_in}
 use Rattle.pas_profile.specs.declared.{directory.Directory.Directory, directory.Route.Route, event.NoRoom.NoRoom, profile.Profile.Profile}
@@ -19,7 +19,7 @@ use Rattle.pas_answers.specs.Answers.{Progress, Named, named, Answer, after_answ
 use Rattle.pas_same_text.specs.{State.World, Searches.refusal, Searches.refuses, Order.serves, Same.IsSame, Same.HasSame, Acts.IsBetween}
 use Rattle.pas_same_text.specs.Classes.{slots_for, takes_page, fetches, serves_class}
 use Rattle.pas_same_text.proofs.{BitfitRequests.none_searched, CacheLists.same_own, ClassFits.class_fits, LoggedFrees.after_with, OneUp.up_to}
-use Rattle.pas_same_text.proofs.{RefusedRequests.refused_to, RefusedRequests.refused_same, Asked.HasAsked, Asked.answer_reached, Asked.by_route}
+use Rattle.pas_same_text.proofs.{RefusedRequests.refused_to, RefusedRequests.refused_same, Asked.HasAsked, Asked.answer_reached}
 use Rattle.pas_same_text.proofs.FetchedClasses.{HasPlace, IsFetched, with_place, may_fetch, place_fetched, text_fetched, fetch_between, fetch_carried}
 
 -- ---- the fetch as a request of its own
@@ -52,14 +52,6 @@ module _ (f : Profile) (k name heap class : ℕ) (p : Progress) (w : World) (roo
   fetch_refused = subst (IsSame f (refused_to p k name steps room)) (sym text) (refused_same f k name p w d steps room has.valid has.thread has.directory has.between after has.same searches refused.quiet told.2)
 
 -- ---- the pages of a request of a class
-home_of_class : (f : Profile) (heap size align class : ℕ) → route_in f size align ≡ Route.Class class
-    → (wanted_for f heap size align).directory ≡ class_home f heap class
-home_of_class f heap size align class route = ap (λ (r : Route). let e : Directory = record { heap = heap; kind = kind_of_route (is_shared f heap) r } in e) route
-
-kind_is : (f : Profile) (heap size align class : ℕ) → IsAdmitted f size align heap → route_in f size align ≡ Route.Class class → IsClass class → (shared : Bool)
-    → IsDirectoryOf f (record { heap = heap; kind = kind_of_route shared (Route.Class class) })
-kind_is f heap size align class admitted route known h = search (arith, class_suits)
-
 -- A request's class is one of the classes.
 pub class_of_request : (f : Profile) (size align class : ℕ) → route_in f size align ≡ Route.Class class → IsClass class
 class_of_request f size align class route = class_known f.classes size align class (class_suits f.classes size align class route)
@@ -67,15 +59,13 @@ class_of_request f size align class route = class_known f.classes size align cla
 -- The directory of a request of a class is one of the region.
 pub class_directory_of : (f : Profile) (heap size align class : ℕ) → IsAdmitted f size align heap → route_in f size align ≡ Route.Class class
     → IsDirectoryOf f (class_home f heap class)
-class_directory_of f heap size align class admitted route = kind_is f heap size align class admitted route (class_of_request f size align class route) (is_shared f heap)
+class_directory_of f heap size align class admitted route = search (arith, class_of_request, class_suits)
 
 -- How the thread's cache serves it, in these pages.
 pub class_served_by : (f : Profile) (k name heap size align class : ℕ) (p : Progress) (a : Answer) (w : World) → route_in f size align ≡ Route.Class class
     → (asked : HasAsked f k (record { name = name; heap = heap; size = size; align = align }) p a w)
     → ServesClass (filling_in (class_home f heap class) class) f (p.caches k) a.cache a.steps asked.served.answer
-class_served_by f k name heap size align class p a w route asked =
-    subst (λ (e : Directory). ServesClass (filling_in e class) f (p.caches k) a.cache a.steps asked.served.answer) (home_of_class f heap size align class route)
-    (by_route asked asked.served.answer refl (Route.Class class) route)
+class_served_by f k name heap size align class p a w route asked = search arith
 
 -- ---- the request
 module _ (f : Profile) (k name heap size align class : ℕ) (p : Progress) (a : Answer) (w : World) (listed : k ≤ length w.caches)
@@ -96,18 +86,7 @@ module _ (f : Profile) (k name heap size align class : ℕ) (p : Progress) (a : 
   -- slots were fetched, or none were found
   pub fetched_so : (found : Result Slots NoRoom) (fewer : List Slots) (steps given : List Made) → a.steps ≡ given ++ steps
       → Fetches (filling_in home class) f c.locals fewer steps found → IsFetched f k heap class p w found fewer steps
-  fetched_so found fewer steps given steps_are fetch = record {
-    valid = asked.valid;
-    thread = asked.thread;
-    listed = listed;
-    directory = class_directory_of f heap size align class admitted route;
-    known = class_of_request f size align class route;
-    before = asked.before;
-    rest = asked.served.rest;
-    same = asked.same;
-    fetch = fetch;
-    legal = legal_fetch given steps steps_are;
-  }
+  fetched_so found fewer steps given steps_are fetch = search (arith, class_directory_of, class_of_request, legal_fetch)
 
   -- ---- none were found
   module _ (room : NoRoom) (is : asked.served.answer ≡ Err room) where

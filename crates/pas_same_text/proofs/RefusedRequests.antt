@@ -119,12 +119,9 @@ module _ (f : Profile) (k name : ℕ) (p : Progress) (w : World) (d : Directory)
     own_offer = λ x e here of_e bit. absurd (false≢true here);
   }
 
-  why : refusal f w d ≡ room
-  why = refusal_told f p' v valid after now d of room reason
-
   -- A request that is refused after a search leads the text to the replay's state, with its reason.
   pub refused_same : IsSame f p' (refuses k name (refusal f w d) w)
-  refused_same = subst (λ (r : NoRoom). IsSame f p' (refuses k name r w)) (sym why) record {
+  refused_same = subst (λ (r : NoRoom). IsSame f p' (refuses k name r w)) (sym (refusal_told f p' v valid after now d of room reason)) record {
     pages = piece_pages piece;
     caches = now.caches;
     guards = same.guards;

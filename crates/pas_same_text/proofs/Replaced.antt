@@ -10,7 +10,7 @@ use Rattle.pas_steps.proofs.{Adding.triples_append, Frames.events_append, Parts.
 use Rattle.pas_core.proofs.OneActor.{legal_earlier}
 use Rattle.pas_free_log.specs.{Conditions.IsEntryOf, Logs.entry_of}
 use Rattle.pas_free_log.specs.declared.log.Entry.{Entry}
-use Rattle.pas_cache.specs.{Caches.AtRest, Calls.TakesEntry, Contents.Cached, Locals.RestsWith, Serves.ServesBy}
+use Rattle.pas_cache.specs.{Caches.AtRest, Calls.TakesEntry, Contents.Cached, Serves.ServesBy}
 use Rattle.pas_segregated.specs.declared.slots.Slots.{Slots}
 use Rattle.pas_report.specs.declared.record.{Record.Record, Said.Said as TheSaid}
 use Rattle.pas_trace.specs.{Acts.Act, EveryPlan.IsThread}
@@ -62,8 +62,7 @@ module _ (f : Profile) (k : ℕ) (r : Request) (old : Block) (p : Progress) (a :
       let log : is.placed.cache.log ≡ (p.caches k).log = served_log f k r p is.placed w block valid thread listed admitted before same is.served.rest legal serves_it in
       let kept : a.cache.locals ≡ is.placed.cache.locals = ap (λ (c : Cached). c.locals) takes.cache in
       record {
-        locals = subst (RestsWith f is.placed.cache.locals) (sym (part_of_own k is.placed.steps p.list))
-            (served_rests f k r p is.placed w block valid thread listed admitted before same is.served.rest legal serves_it);
+        locals = rw part_of_own (served_rests f k r p is.placed w block valid thread listed admitted before same is.served.rest legal serves_it);
         few = subst (λ (ls : List Slots). length ls ≤ 32) kept at_end.few;
         entries = subst (All (IsEntryOf f)) (sym log) is.served.rest.entries;
         few_entries = subst (λ (es : List Entry). length es ≤ 64) (sym log) is.served.rest.few_entries;
@@ -92,17 +91,13 @@ module _ (f : Profile) (k : ℕ) (r : Request) (old : Block) (p : Progress) (a :
   text_as o names_are = text ∙ ap (λ (x : Option (Option Block)). logs_replaced f k old x v) (ap (λ (ns : List Named). standing_for ns r.name) (at_request.names ∙ names_are) ∙ last_standing r.name o p.names)
 
   -- ---- where it was refused nothing follows
+  -- the two answers are the same, part by part
   unserved_to : a.steps ≡ is.placed.steps → a.cache ≡ is.placed.cache → after_answer p k a ≡ q
-  unserved_to steps cache =
-      ap (λ (ms : List Made). after_with p k ms a.said a.names a.cache) steps
-      ∙ (ap (λ (c : Cached). after_with p k is.placed.steps a.said a.names c) cache
-      ∙ (ap (λ (s : Option TheSaid). after_with p k is.placed.steps s a.names is.placed.cache) is.said_is
-      ∙ ap (λ (ns : List Named). after_with p k is.placed.steps is.placed.said ns is.placed.cache) is.names_are))
+  unserved_to steps cache = search arith
 
   unserved : is.placed.names ≡ named r.name None ∷ p.names → is.freed ≡ [] → a.cache ≡ is.placed.cache → IsSame f (after_answer p k a) to
   unserved names_are none cache =
-      subst (λ (x : Progress). IsSame f x to) (sym (unserved_to (is.steps_are ∙ ap (λ (ms : List Made). ms ++ is.placed.steps) none) cache))
-      (subst (λ (x : World). IsSame f q x) (sym (text_as None names_are)) at_request)
+      rw (unserved_to (is.steps_are ∙ ap (λ (ms : List Made). ms ++ is.placed.steps) none) cache, text_as None names_are) at_request
 
   -- ---- where it was served the old name is logged
   module _ (block : Block) (names_are : is.placed.names ≡ named r.name (Some block) ∷ p.names) (silent : is.placed.said ≡ None)
@@ -125,8 +120,7 @@ module _ (f : Profile) (k : ℕ) (r : Request) (old : Block) (p : Progress) (a :
 
     events_are : events_by k own a.steps ≡ flushed ++ given
     events_are =
-        ap (events_by k own) is.steps_are
-        ∙ (events_append k is.freed is.placed.steps own ∙ ap (λ (u : View). events_by k u is.freed ++ given) (sym (part_of_own k is.placed.steps p.list)))
+        simp (is.steps_are, events_append, ← part_of_own)
 
     records_are : p.records ++ (records_of (events_by k own a.steps) ++ said_by k a.said) ≡ end.records
     records_are =

@@ -25,11 +25,9 @@ pub record Fails (from n : ℕ) (test : ℕ → Bool) : Type 0 where
   pub high : number < from + n
   pub fails : test number ≡ false
 
+-- the numbers from the next one on are among these
 fails_later : (from n : ℕ) (test : ℕ → Bool) → Fails (from + 1) n test → Fails from (suc n) test
-fails_later from n test o =
-    let low : from + 1 ≤ o.number = o.low in
-    let high : o.number < from + 1 + n = o.high in
-    record { number = o.number; low = omega (arith, low); high = omega (arith, high); fails = o.fails }
+fails_later from n test o = search arith
 
 -- A test that doesn't hold of all of several numbers fails on one of them.
 pub some_fails : (n from : ℕ) (test : ℕ → Bool) → each_of from n test ≡ false → Fails from n test
@@ -73,11 +71,7 @@ same_number a b ka kb same = same_from_deed_word a b ka kb (sym (numbered a ka) 
 
 -- the bit of grain b of a page
 pub bit_at : (l : Whole) (page b : ℕ) → b < 256 → free_bit l (256 * page + b) ≡ has_bit (word_after l (Word.Free page (b / 64))) (b % 64)
-bit_at l page b small =
-    let at_page : (256 * page + b) / 256 ≡ page = omega (arith, small) in
-    let at_word : (256 * page + b) / 64 % 4 ≡ b / 64 = omega (arith, small) in
-    let at_bit : (256 * page + b) % 64 ≡ b % 64 = omega (arith, small) in
-    cc
+bit_at l page b small = search arith
 
 -- the page has room for a block of the directory, and no guard has it
 abbrev pub is_open : World → Directory → ℕ → Bool

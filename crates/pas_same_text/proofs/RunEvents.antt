@@ -167,12 +167,10 @@ module _ (k : ℕ) (d : Directory) where
 
 -- ---- BACKINGS
 module _ (f : Profile) (k : ℕ) (l : Whole) (u : World) (legal_l : Legal f l) (same : u.events ≡ visible l) where
+  -- what a backing answered tells whether the page was backed
   one_back : (page a : ℕ) (v : World) (b : Bool) → a ≡ word_of_backed b → backed_in v.events page ≡ b
       → backs k page v ≡ shown (with_event (if a == 0 then Some (Event.Back k page) else None) []) v
-  one_back page a v true is backed =
-      ap (λ (t : Bool). if t then v else shows (Event.Back k page) v) backed ∙ ap (λ (x : ℕ). shown (with_event (if x == 0 then Some (Event.Back k page) else None) []) v) (sym is)
-  one_back page a v false is backed =
-      ap (λ (t : Bool). if t then v else shows (Event.Back k page) v) backed ∙ ap (λ (x : ℕ). shown (with_event (if x == 0 then Some (Event.Back k page) else None) []) v) (sym is)
+  one_back page a v b is backed = search arith
 
   with_shown : (o : Option Event) (es : List Event) (v : World) → shown (with_event o []) (shown es v) ≡ shown (with_event o es) v
   with_shown None es v = refl

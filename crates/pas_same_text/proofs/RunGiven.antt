@@ -7,8 +7,8 @@ use Rattle.pas_profile.specs.{Blocks.address_of, Blocks.grain_of, Blocks.length_
 use Rattle.pas_profile.specs.declared.{directory.Directory.Directory, event.Event.Event, name.Block.Block, profile.Profile.Profile, word.Word.Word}
 use Rattle.pas_profile.proofs.{Codecs.deed_word_of-positive, Lists.all_both, Lists.all_map}
 use Rattle.pas_machine.specs.{Machine.Run, State.deed_in}
-use Rattle.pas_steps.specs.{Agreement.Agreed, Desks.triples, Events.events_by, InTurn.InTurn, Past.Always, Views.View, Views.has_right, Views.known_deed}
-use Rattle.pas_steps.specs.{Kinds.Only, Kinds.Backing, Kinds.returning}
+use Rattle.pas_steps.specs.{Desks.triples, Events.events_by, InTurn.InTurn, Past.Always, Views.View, Views.has_right, Views.known_deed, Kinds.Only}
+use Rattle.pas_steps.specs.{Kinds.Backing, Kinds.returning}
 use Rattle.pas_steps.specs.Calls.{Leads, Kept, Gained, now as has_now}
 use Rattle.pas_steps.specs.Lists.{Whole, part, word_after, visible, Legal}
 use Rattle.pas_steps.specs.declared.step.{Made.Made, Step.TheVariants.Deed, Step.TheVariants.Hint}
@@ -74,12 +74,6 @@ module _ (f : Profile) (k name heap first n : ℕ) (p : Progress) (u : World) (g
   abbrev c : Cached
   c = p.caches k
 
-  back_kinds : Only (Backing ∷ []) run.backs
-  back_kinds = only_backs first n run.backs run.back_order
-
-  left_kinds : Only returning run.left
-  left_kinds = only_leaves d (pages_from first n) run.left run.left_order
-
   abbrev own : View
   own = part k p.list
 
@@ -106,9 +100,6 @@ module _ (f : Profile) (k name heap first n : ℕ) (p : Progress) (u : World) (g
   legal_backs = legal_between f k (run.left ++ gave) run.backs got p.list
       (subst (λ (ms : List Made). Legal f (triples k ms ++ p.list)) (steps_are ∙ sym (append_assoc run.left gave (run.backs ++ got))) legal)
 
-  agreed : Agreed f own (rest ++ got)
-  agreed = agreed_steps f k p.list (rest ++ got) valid legal
-
   may : MayFind d own
   may = may_find f own heap c.locals rest_now.locals
 
@@ -116,7 +107,7 @@ module _ (f : Profile) (k name heap first n : ℕ) (p : Progress) (u : World) (g
   pages = run.pages.from own may (agreed_steps f k p.list got valid legal_got)
 
   given : GaveLarge d first n block own ((rest ++ got) ++ own)
-  given = run.gave.from own may agreed
+  given = run.gave.from own may (agreed_steps f k p.list (rest ++ got) valid legal)
 
   span : (x : ℕ) → IsInRun first n x → in_span first (first + n) x ≡ true
   span x here = span_in first (first + n) x here.0 here.1
@@ -146,7 +137,7 @@ module _ (f : Profile) (k name heap first n : ℕ) (p : Progress) (u : World) (g
   events_are : events_by k own (rest ++ got) ≡ Event.Give k block ∷ es
   events_are =
       ap (events_by k own) steps_are
-      ∙ (events_same returning refl k own run.left (gave ++ (run.backs ++ got)) left_kinds
+      ∙ (events_same returning refl k own run.left (gave ++ (run.backs ++ got)) (only_leaves d (pages_from first n) run.left run.left_order)
       ∙ ap (λ (xs : List Event). Event.Give k block ∷ xs)
       (events_append k run.backs got own
       ∙ (ap (λ (v : View). events_by k v run.backs ++ events_by k own got) (sym (part_of_own k got p.list))
@@ -234,7 +225,7 @@ module _ (f : Profile) (k name heap first n : ℕ) (p : Progress) (u : World) (g
     gave = gave ++ run.backs;
     order = run.left_order;
     late_kinds = tt;
-    gave_kinds = (refl, (refl, only_within (Backing ∷ []) giving run.backs refl back_kinds));
+    gave_kinds = (refl, (refl, only_within (Backing ∷ []) giving run.backs refl (only_backs first n run.backs run.back_order)));
     rest_is = run.after_is;
     among = all_map (IsInRun first n) (λ x. mine x ≡ true) (pages_from first n) span (all_in_run first n);
     list = sym (triples_append k rest got p.list);

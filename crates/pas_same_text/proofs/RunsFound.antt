@@ -12,7 +12,7 @@ use Rattle.pas_steps.specs.{Desks.triple, Desks.triples, Effects.target, Effects
 use Rattle.pas_steps.specs.{Kinds.Only}
 use Rattle.pas_steps.specs.Views.{epoch_of, holds, has_right, known_deed}
 use Rattle.pas_steps.specs.Lists.{Whole, part, word_after, Legal}
-use Rattle.pas_steps.specs.declared.step.{Made.Made, Step.Step, Step.TheVariants.Look, Step.TheVariants.Deed}
+use Rattle.pas_steps.specs.declared.step.{Made.Made, Step.Step, Step.TheVariants.Deed}
 use Rattle.pas_steps.proofs.{Frames.right_own, Parts.part_of_own, Past.always_map}
 use Rattle.pas_core.specs.Rights.{eligible_bit}
 use Rattle.pas_core.proofs.Deeds.{looked, number_told, deed_kept, known_is}
@@ -43,10 +43,7 @@ deed_later k l p (m ∷ xs) some = let e = deed_later k l p xs some in deed_kept
 never_made : (f : Profile) (k : ℕ) (l : Whole) (p : ℕ) (xs : List Made) → Legal f (triples k xs ++ l) → word_after l (Word.Deed p) ≢ 0
     → Always (MakesNoDeedHere p) xs
 never_made f k l p [] legal some = tt
-never_made f k l p (m ∷ xs) legal some = (
-  λ d is zero. some (sym (deed_later k l p xs some) ∙ (sym (legal.0.answer_is ∙ ap (λ (s : Step). word_after (triples k xs ++ l) (target s)) is) ∙ zero)),
-  never_made f k l p xs legal.1 some,
-)
+never_made f k l p (m ∷ xs) legal some = search (arith, deed_later, never_made f k l p xs legal.1 some)
 
 module _ (f : Profile) (k : ℕ) (l : Whole) (d : Directory) (p : ℕ) where
   -- a page without one gets none but of the directory, where no other is made
@@ -54,16 +51,7 @@ module _ (f : Profile) (k : ℕ) (l : Whole) (d : Directory) (p : ℕ) where
       → word_after w (Word.Deed p) ≡ 0
       → ((if same_word (target s) (Word.Deed p) then new_value e s (word_after w (Word.Deed p)) else word_after w (Word.Deed p)) ≡ 0)
       ⊎ ((if same_word (target s) (Word.Deed p) then new_value e s (word_after w (Word.Deed p)) else word_after w (Word.Deed p)) ≡ deed_word_of d)
-  step_own w e (Look x) a is made none = inl (looked (same_word x (Word.Deed p)) (word_after w (Word.Deed p)) ∙ none)
-  step_own w e (Deed q x) a is made none = by_page (q == p) refl
-    where
-      by_page : (t : Bool) → (q == p) ≡ t
-          → ((if t then (if word_after w (Word.Deed p) == 0 then deed_word_of x else word_after w (Word.Deed p)) else word_after w (Word.Deed p)) ≡ 0)
-          ⊎ ((if t then (if word_after w (Word.Deed p) == 0 then deed_word_of x else word_after w (Word.Deed p)) else word_after w (Word.Deed p))
-          ≡ deed_word_of d)
-      by_page true at = inr (ap (λ (z : Bool). if z then deed_word_of x else word_after w (Word.Deed p)) (eq-eqb (word_after w (Word.Deed p)) 0 none) ∙ ap deed_word_of (made q x refl (is ∙ (ap (λ (y : ℕ). word_after w (Word.Deed y)) (eqb-true q p at) ∙ none))))
-      by_page false at = inl none
-  step_own w e s a is made none = inl none
+  step_own w e s a is made none = search (arith, looked, eq-eqb, eqb-true)
 
   deed_own : (xs : List Made) → Legal f (triples k xs ++ l) → MadeOf d xs → word_after l (Word.Deed p) ≡ 0
       → (word_after (triples k xs ++ l) (Word.Deed p) ≡ 0) ⊎ (word_after (triples k xs ++ l) (Word.Deed p) ≡ deed_word_of d)
@@ -122,9 +110,7 @@ module _ (f : Profile) (k : ℕ) (l : Whole) (d : Directory) (p : ℕ) where
           record {
             deed = deed;
             offered = own_number one.0 (legal_before f k xs l legal) kind deed one.1;
-            free = λ b lt.
-                let same : b ≡ 64 * (b / 64) + b % 64 = omega arith in
-                of_page l p b ∙ (ap (λ (x : ℕ). free_bit l (p * 256 + x)) same ∙ whole_read (b / 64) (b % 64) (omega (arith, lt)) (omega arith) xs legal lends due (whole.free (b / 64) (omega (arith, lt))));
+            free = search (arith, of_page, whole_read, lends);
           }
 
 module _ (f : Profile) (k : ℕ) (l : Whole) (d : Directory) (p : ℕ) where
@@ -198,9 +184,6 @@ module _ (f : Profile) (k : ℕ) (l : Whole) (d : Directory) (n : ℕ) (of : IsD
     lends : LendsNone xs
     lends = lends_none finding refl xs kinds
 
-    made_of : MadeOf d xs
-    made_of = of_directory d n _ xs found.deeds
-
     -- THE RUN is the lowest one that was usable
     pub lowest_alone : IsLowestRun f d n l first
     lowest_alone = record {
@@ -210,7 +193,7 @@ module _ (f : Profile) (k : ℕ) (l : Whole) (d : Directory) (n : ℕ) (of : IsD
           let bad = found.lower other some lt in
           let here : IsUsablePage d l bad.0 = usable bad.0 bad.1 in
           let before : Legal f l = legal_before f k xs l legal in
-          bad_never f k l d bad.0 of.kind before (lacks_usable before bad.0 here) here xs legal lends made_of bad.2;
+          bad_never f k l d bad.0 of.kind before (lacks_usable before bad.0 here) here xs legal lends (of_directory d n _ xs found.deeds) bad.2;
     }
 
     -- Each deed of a search that found a run is of a page of that run.

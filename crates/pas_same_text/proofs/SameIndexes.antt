@@ -1,7 +1,7 @@
--- HOW MANY CACHES a state of the text has: no act adds one or takes one away.
-use Rattle.std.proofs.Common.{◌≡◌, ℕ, ◌+◌, ◌/◌, nat_le, Bool, true, false, if◌then◌else◌, List, [], ◌∷◌, length, Option, None, Some, refl, ◌∙◌, arith, zero}
-use Rattle.std.proofs.Common.{suc, map, ap}
-use Rattle.std.specs.List.{find, filter}
+-- THE INDEXES of a state of the text, which each act changes as it changes those of a replay, and how many caches it has, which no act changes.
+use Rattle.std.proofs.Common.{◌≡◌, ℕ, ◌+◌, ◌/◌, nat_le, Bool, true, false, if◌then◌else◌, List, [], ◌∷◌, length, Option, Some, refl, ◌∙◌, arith, zero, suc, map}
+use Rattle.std.proofs.Common.{ap}
+use Rattle.std.specs.List.{find}
 use Rattle.pas_profile.specs.Requests.{route_in, room_in}
 use Rattle.pas_profile.specs.declared.{directory.Route.Route, name.Block.Block, profile.Profile.Profile}
 use Rattle.pas_free_log.specs.Logs.{entry_of, sized_entry}
@@ -10,16 +10,15 @@ use Rattle.pas_answers.specs.Answers.{standing_for, suits, Progress, Named, requ
 use Rattle.pas_trace.specs.{Acts.Act, Acts.numbers_from, Asked.request_in}
 use Rattle.pas_trace.specs.declared.{item.Request.Request, plan.What.What}
 use Rattle.pas_same_text.specs.State.{World, Guard, each, cache_of, locals_of, noted_of, set_noted}
-use Rattle.pas_same_text.specs.{Pages.page_numbers, Pages.minds, Searches.searched, Searches.deeds, Searches.backs, Classes.is_for, Indexes.indexes_run}
-use Rattle.pas_same_text.specs.{Indexes.loses_named, Frees.flushes, Frees.stops, Frees.logs, Passes.passes, Passes.stops_idle, Acts.IsTaken, Acts.HandsOnOwn}
-use Rattle.pas_same_text.specs.{Acts.KeepsIndexes}
+use Rattle.pas_same_text.specs.{Pages.minds, Searches.searched, Searches.deeds, Searches.backs, Classes.is_for, Indexes.indexes_run, Indexes.loses_named}
+use Rattle.pas_same_text.specs.{Frees.stops, Passes.passes, Passes.stops_idle, Acts.IsTaken, Acts.HandsOnOwn, Acts.KeepsIndexes}
 use Rattle.pas_same_text.specs.Runs.{bitfit_of, large_of, lowest_place, is_run, run_or, named_run, lowest_run, deeds_run, serves_pages}
-use Rattle.pas_same_text.specs.Guards.{guards_of, is_over, without_guard, lowers, lowers_ended, are_bare, raises, raises_from, guards}
+use Rattle.pas_same_text.specs.Guards.{guards_of, without_guard, lowers, are_bare, raises, raises_from, guards}
 use Rattle.pas_same_text.specs.Order.{serves, keeps_block, logs_replaced, replaces, remakes, operates, acts_on, opened}
 use Rattle.pas_same_text.proofs.CacheLists.{many_with}
-use Rattle.pas_same_text.proofs.StillIndexes.{same_many, each_keeps, minds_keep, flushes_keep, stops_keep, idle_keeps, logs_keep, frees_keep, what_keeps}
-use Rattle.pas_same_text.proofs.StillIndexes.{deeds_keep, backs_keep, class_keeps, places_keep, run_keeps, pass_keeps, same_indexes}
-use Rattle.pas_large.specs.Doors.{Indexes, no_ranges}
+use Rattle.pas_same_text.proofs.StillIndexes.{Still, still, same_many, each_keeps, minds_keep, flushes_keep, stops_keep, idle_keeps, logs_keep, frees_keep}
+use Rattle.pas_same_text.proofs.StillIndexes.{what_keeps, deeds_keep, backs_keep, class_keeps, places_keep, run_keeps, pass_keeps, same_indexes}
+use Rattle.pas_large.specs.Doors.{Indexes, cut_in, no_ranges}
 use Rattle.pas_large.specs.declared.span.Span.{Span}
 use Rattle.pas_answers.specs.Indexes.{unless_suited, request_made, request_by, after_request, after_operation, with_noted, indexes_after}
 use Rattle.pas_answers.specs.Calls.{block_behind}
@@ -28,73 +27,85 @@ either : (t : Bool) (v u : World) (n : ℕ) → length v.caches ≡ n → length
 either true v u n one other = one
 either false v u n one other = other
 
--- ---- a request
-pages_many : (f : Profile) (k name heap n : ℕ) (w : World) → length (serves_pages f k name heap n w).caches ≡ length w.caches
-pages_many f k name heap n w =
-    let v : World = loses_named heap n w in
-    same_many v (serves_pages f k name heap n w) (run_keeps f k name heap n (run_or (named_run w heap n) (lowest_run f w heap n)) v)
+-- ==== REQUESTS AND OPERATIONS change what a replay's change of the indexes, and neither a guard nor how many caches there are.
+-- the guards and the caches of this state, with these indexes
+abbrev with_indexes : Indexes → World → Still
+with_indexes indexes w = (indexes, w.guards, length w.caches)
+
+pages_still : (f : Profile) (k name heap n : ℕ) (w : World) → still (serves_pages f k name heap n w) ≡ with_indexes (cut_in w.indexes heap n) w
+pages_still f k name heap n w = run_keeps f k name heap n (run_or (named_run w heap n) (lowest_run f w heap n)) (loses_named heap n w)
+
+-- a request takes out what was named for it
+serves_still : (f : Profile) (k name heap : ℕ) (route : Route) (room align : ℕ) (w : World)
+    → still (serves f k name heap route room align w) ≡ with_indexes (after_request route heap (room / 4096) w.indexes) w
+serves_still f k name heap (Route.Class class) room align w = class_keeps f k name heap class (find (is_for heap class) (locals_of w k)) w
+serves_still f k name heap Route.Bitfit room align w = places_keep k name heap room align (searched f w (bitfit_of heap) (lowest_place w (room / 16) (align / 16))) w
+serves_still f k name heap Route.Large room align w = pages_still f k name heap (room / 4096) w
 
 pub serves_many : (f : Profile) (k name heap : ℕ) (route : Route) (room align : ℕ) (w : World)
     → length (serves f k name heap route room align w).caches ≡ length w.caches
-serves_many f k name heap (Route.Class class) room align w =
-    same_many w (serves f k name heap (Route.Class class) room align w) (class_keeps f k name heap class (find (is_for heap class) (locals_of w k)) w)
-serves_many f k name heap Route.Bitfit room align w =
-    same_many w (serves f k name heap Route.Bitfit room align w)
-    (places_keep k name heap room align (searched f w (bitfit_of heap) (lowest_place w (room / 16) (align / 16))) w)
-serves_many f k name heap Route.Large room align w = pages_many f k name heap (room / 4096) w
+serves_many f k name heap route room align w = ap (λ (s : Still). s.2) (serves_still f k name heap route room align w)
+
+-- A request changes the indexes of the text as it changes those of a replay.
+pub request_indexes : (f : Profile) (k name heap : ℕ) (route : Route) (room align : ℕ) (w : World)
+    → (serves f k name heap route room align w).indexes ≡ after_request route heap (room / 4096) w.indexes
+request_indexes f k name heap route room align w = ap (λ (s : Still). s.0) (serves_still f k name heap route room align w)
 
 -- ---- a reallocation
-replaced_many : (f : Profile) (k : ℕ) (old : Block) (came : Option (Option Block)) (w : World)
-    → length (logs_replaced f k old came w).caches ≡ length w.caches
-replaced_many f k old (Some (Some block)) w = same_many w (logs f k (entry_of old.name) w) (logs_keep f k (entry_of old.name) w)
-replaced_many f k old (Some None) w = refl
-replaced_many f k old None w = refl
+replaced_still : (f : Profile) (k : ℕ) (old : Block) (came : Option (Option Block)) (w : World) → still (logs_replaced f k old came w) ≡ still w
+replaced_still f k old (Some (Some block)) w = logs_keep f k (entry_of old.name) w
+replaced_still f k old came w = refl
 
-replaces_many : (f : Profile) (k name : ℕ) (old : Block) (size align : ℕ) (w : World)
-    → length (replaces f k name old size align w).caches ≡ length w.caches
-replaces_many f k name old size align w =
-    let v : World = serves f k name old.heap (route_in f size align) (room_in f size align) align w in
-    replaced_many f k old (standing_for v.names name) v ∙ serves_many f k name old.heap (route_in f size align) (room_in f size align) align w
+suited_still : (f : Profile) (k name size align : ℕ) (old : Block) (t : Bool) (w : World)
+    → still (if t then keeps_block k name old w else replaces f k name old size align w)
+    ≡ with_indexes (after_operation f (unless_suited t (request_for old name size align)) w.indexes) w
+suited_still f k name size align old t w = search (arith, replaced_still, serves_still)
 
-remakes_many : (f : Profile) (k name size align : ℕ) (meant : Option (Option Block)) (w : World)
-    → length (remakes f k name size align meant w).caches ≡ length w.caches
-remakes_many f k name size align (Some (Some old)) w =
-    either (suits old size align) (keeps_block k name old w) (replaces f k name old size align w) (length w.caches)
-    refl (replaces_many f k name old size align w)
-remakes_many f k name size align (Some None) w = refl
-remakes_many f k name size align None w = refl
+remakes_still : (f : Profile) (k name old heap size align : ℕ) (meant : Option (Option Block)) (w : World)
+    → still (remakes f k name size align meant w)
+    ≡ with_indexes (after_operation f (request_made (What.Remake name old heap size align) (block_behind meant)) w.indexes) w
+remakes_still f k name old heap size align (Some (Some block)) w = suited_still f k name size align block (suits block size align) w
+remakes_still f k name old heap size align meant w = refl
 
 -- ---- an operation
-operation_many : (f : Profile) (k : ℕ) (what : What) (w : World) → length (operates f k what w).caches ≡ length w.caches
-operation_many f k (What.Alloc name heap size align) w = serves_many f k name heap (route_in f size align) (room_in f size align) align w
-operation_many f k (What.Guarded keeper name heap size align) w = serves_many f k name heap (route_in f size align) (room_in f size align) align w
-operation_many f k (What.Free name) w = same_many w (operates f k (What.Free name) w) (what_keeps f k name 0 (standing_for w.names name) w)
-operation_many f k (What.FreeSized name room) w =
-    same_many w (operates f k (What.FreeSized name room) w) (what_keeps f k name room (standing_for w.names name) w)
-operation_many f k (What.Raw block) w = same_many w (operates f k (What.Raw block) w) (frees_keep f k (entry_of block) w)
-operation_many f k (What.RawSized room block) w =
-    same_many w (operates f k (What.RawSized room block) w) (frees_keep f k (sized_entry block room) w)
-operation_many f k (What.Remake name old heap size align) w = remakes_many f k name size align (standing_for w.names old) w
-operation_many f k What.Flush w = same_many w (flushes f k w) (flushes_keep f k w)
-operation_many f k What.Stop w = same_many w (stops f k w) (stops_keep f k w)
-operation_many f k (What.Tick e) w = refl
-operation_many f k What.Pass w = refl
-operation_many f k (What.Idle n) w = refl
+operation_still : (f : Profile) (k : ℕ) (what : What) (w : World)
+    → still (operates f k what w) ≡ with_indexes (after_operation f (request_by w.names what) w.indexes) w
+operation_still f k (What.Alloc name heap size align) w = serves_still f k name heap (route_in f size align) (room_in f size align) align w
+operation_still f k (What.Guarded keeper name heap size align) w = serves_still f k name heap (route_in f size align) (room_in f size align) align w
+operation_still f k (What.Free name) w = what_keeps f k name 0 (standing_for w.names name) w
+operation_still f k (What.FreeSized name room) w = what_keeps f k name room (standing_for w.names name) w
+operation_still f k (What.Raw block) w = frees_keep f k (entry_of block) w
+operation_still f k (What.RawSized room block) w = frees_keep f k (sized_entry block room) w
+operation_still f k (What.Remake name old heap size align) w = remakes_still f k name old heap size align (standing_for w.names old) w
+operation_still f k What.Flush w = flushes_keep f k w
+operation_still f k What.Stop w = stops_keep f k w
+operation_still f k what w = refl
 
 -- ---- what was noted comes to the indexes
-noted_many : (runs : List EndedRun) (w : World) → length (each indexes_run runs w).caches ≡ length w.caches
-noted_many [] w = refl
-noted_many (run ∷ runs) w = noted_many runs (indexes_run run w)
+noted_still : (runs : List EndedRun) (w : World) → still (each indexes_run runs w) ≡ with_indexes (with_noted w.indexes runs) w
+noted_still [] w = refl
+noted_still (run ∷ runs) w = noted_still runs (indexes_run run w)
 
--- ---- guards go down
-lowered_many : (g : Guard) (w : World) → length (lowers g w).caches ≡ length w.caches
-lowered_many g w =
+-- ==== GUARDS
+-- they go down: the indexes, and how many caches there are
+abbrev Held : Type 0
+Held = Indexes × ℕ
+
+abbrev held : World → Held
+held w = (w.indexes, length w.caches)
+
+all_lowered : (gs : List Guard) (w : World) → held (each lowers gs w) ≡ held w
+all_lowered [] w = refl
+all_lowered (g ∷ gs) w =
     let v : World = without_guard g w in
-    same_many v (minds g.high (minds g.low v)) (minds_keep g.high (minds g.low v) ∙ minds_keep g.low v)
+    all_lowered gs (lowers g w) ∙ ap (λ (s : Still). let h : Held = (s.0, s.2) in h) (minds_keep g.high (minds g.low v) ∙ minds_keep g.low v)
+
+-- Guards that are lowered change no index.
+pub all_lowered_keep : (gs : List Guard) (w : World) → (each lowers gs w).indexes ≡ w.indexes
+all_lowered_keep gs w = ap (λ (h : Held). h.0) (all_lowered gs w)
 
 all_lowered_many : (gs : List Guard) (w : World) → length (each lowers gs w).caches ≡ length w.caches
-all_lowered_many [] w = refl
-all_lowered_many (g ∷ gs) w = all_lowered_many gs (lowers g w) ∙ lowered_many g w
+all_lowered_many gs w = ap (λ (h : Held). h.1) (all_lowered gs w)
 
 -- ---- a guarded request
 raises_many : (keeper name heap first n : ℕ) (w : World) → length (raises keeper name heap first n w).caches ≡ length w.caches
@@ -104,7 +115,7 @@ raises_many keeper name heap first n w =
 
 raised_many : (f : Profile) (keeper k name heap n : ℕ) (runs : List ℕ) (w : World)
     → length (raises_from f keeper k name heap n runs w).caches ≡ length w.caches
-raised_many f keeper k name heap n [] w = pages_many f k name heap n w
+raised_many f keeper k name heap n [] w = ap (λ (s : Still). s.2) (pages_still f k name heap n w)
 raised_many f keeper k name heap n (p ∷ ps) w =
     let pages : List ℕ = numbers_from p (n + 2) in
     let v : World = deeds_run keeper heap p (n + 2) w in
@@ -117,95 +128,32 @@ raised_many f keeper k name heap n (p ∷ ps) w =
     (raised_many f keeper k name heap n ps w)
 
 guards_many : (f : Profile) (keeper k : ℕ) (asked : Option Request) (w : World) → length (guards f keeper k asked w).caches ≡ length w.caches
-guards_many f keeper k None w = refl
-guards_many f keeper k (Some r) w =
-    raised_many f keeper k r.name r.heap (room_in f r.size r.align / 4096) (page_numbers f) (lowers_ended keeper w)
-    ∙ all_lowered_many (filter (is_over w) (guards_of w keeper)) w
+guards_many f keeper k asked w = search (arith, raised_many, all_lowered_many)
 
--- ---- AN ACT
+-- ==== AN ACT
 pub act_many : (f : Profile) (act : Act) (w : World) → length (acts_on f act w).caches ≡ length w.caches
-act_many f (Act.MarksPhase n) w = refl
 act_many f (Act.Wakes k) w = many_with w.caches k (record (cache_of w k) { began = w.epoch })
-act_many f (Act.Operates op) w = operation_many f op.actor op.what w
+act_many f (Act.Operates op) w = ap (λ (s : Still). s.2) (operation_still f op.actor op.what w)
 act_many f (Act.Guards keeper op) w = guards_many f keeper op.actor (request_in op.what) w
-act_many f (Act.Settles k) w = noted_many (noted_of w k) (set_noted k [] w) ∙ many_with w.caches k (record (cache_of w k) { noted = [] })
-act_many f (Act.Ticks epoch) w = refl
+act_many f (Act.Settles k) w = ap (λ (s : Still). s.2) (noted_still (noted_of w k) (set_noted k [] w)) ∙ many_with w.caches k (record (cache_of w k) { noted = [] })
 act_many f Act.MakesPass w = same_many w (passes f w) (pass_keeps f w)
-act_many f Act.ReadsEpoch w = refl
 act_many f (Act.StopsIdle k n) w = same_many w (stops_idle f k n w) (idle_keeps f (nat_le ((cache_of w k).began + n) w.read) k w)
-act_many f Act.MarksClose w = refl
 act_many f (Act.Ends k) w = same_many w (stops f k w) (stops_keep f k w)
 act_many f (Act.Lowers keeper) w = all_lowered_many (guards_of w keeper) w
+act_many f act w = refl
 
--- ==== THE INDEXES: each act changes those of the text as it changes those of a replay.
--- a request takes out what was named for it
-pub request_indexes : (f : Profile) (k name heap : ℕ) (route : Route) (room align : ℕ) (w : World)
-    → (serves f k name heap route room align w).indexes ≡ after_request route heap (room / 4096) w.indexes
-request_indexes f k name heap (Route.Class class) room align w =
-    same_indexes w (serves f k name heap (Route.Class class) room align w) (class_keeps f k name heap class (find (is_for heap class) (locals_of w k)) w)
-request_indexes f k name heap Route.Bitfit room align w =
-    same_indexes w (serves f k name heap Route.Bitfit room align w) (places_keep k name heap room align (searched f w (bitfit_of heap) (lowest_place w (room / 16) (align / 16))) w)
-request_indexes f k name heap Route.Large room align w = search (arith, same_indexes, run_keeps)
-
--- ---- a reallocation
-replaced_keeps : (f : Profile) (k : ℕ) (old : Block) (came : Option (Option Block)) (w : World) → (logs_replaced f k old came w).indexes ≡ w.indexes
-replaced_keeps f k old (Some (Some block)) w = same_indexes w (logs f k (entry_of old.name) w) (logs_keep f k (entry_of old.name) w)
-replaced_keeps f k old (Some None) w = refl
-replaced_keeps f k old None w = refl
-
-suited_indexes : (f : Profile) (k name size align : ℕ) (old : Block) (t : Bool) (w : World)
-    → (if t then keeps_block k name old w else replaces f k name old size align w).indexes
-    ≡ after_operation f (unless_suited t (request_for old name size align)) w.indexes
-suited_indexes f k name size align old t w = search (arith, replaced_keeps, request_indexes)
-
-remake_indexes : (f : Profile) (k name old heap size align : ℕ) (meant : Option (Option Block)) (w : World)
-    → (remakes f k name size align meant w).indexes ≡ after_operation f (request_made (What.Remake name old heap size align) (block_behind meant)) w.indexes
-remake_indexes f k name old heap size align meant w = search (arith, suited_indexes)
-
--- ---- an operation
-operation_indexes : (f : Profile) (k : ℕ) (what : What) (w : World) → (operates f k what w).indexes ≡ after_operation f (request_by w.names what) w.indexes
-operation_indexes f k (What.Alloc name heap size align) w = request_indexes f k name heap (route_in f size align) (room_in f size align) align w
-operation_indexes f k (What.Guarded keeper name heap size align) w = request_indexes f k name heap (route_in f size align) (room_in f size align) align w
-operation_indexes f k (What.Free name) w = same_indexes w (operates f k (What.Free name) w) (what_keeps f k name 0 (standing_for w.names name) w)
-operation_indexes f k (What.FreeSized name room) w = same_indexes w (operates f k (What.FreeSized name room) w) (what_keeps f k name room (standing_for w.names name) w)
-operation_indexes f k (What.Raw block) w = same_indexes w (operates f k (What.Raw block) w) (frees_keep f k (entry_of block) w)
-operation_indexes f k (What.RawSized room block) w = same_indexes w (operates f k (What.RawSized room block) w) (frees_keep f k (sized_entry block room) w)
-operation_indexes f k (What.Remake name old heap size align) w = remake_indexes f k name old heap size align (standing_for w.names old) w
-operation_indexes f k What.Flush w = same_indexes w (flushes f k w) (flushes_keep f k w)
-operation_indexes f k What.Stop w = same_indexes w (stops f k w) (stops_keep f k w)
-operation_indexes f k (What.Tick e) w = refl
-operation_indexes f k What.Pass w = refl
-operation_indexes f k (What.Idle n) w = refl
-
--- ---- what was noted
-noted_indexes : (runs : List EndedRun) (w : World) → (each indexes_run runs w).indexes ≡ with_noted w.indexes runs
-noted_indexes [] w = refl
-noted_indexes (run ∷ runs) w = noted_indexes runs (indexes_run run w)
-
--- ---- guards that are lowered
-lowered_keeps : (g : Guard) (w : World) → (lowers g w).indexes ≡ w.indexes
-lowered_keeps g w = search (arith, same_indexes, minds_keep)
-
--- Guards that are lowered change no index.
-pub all_lowered_keep : (gs : List Guard) (w : World) → (each lowers gs w).indexes ≡ w.indexes
-all_lowered_keep [] w = refl
-all_lowered_keep (g ∷ gs) w = all_lowered_keep gs (lowers g w) ∙ lowered_keeps g w
-
--- ---- AN ACT
 text_indexes : (f : Profile) (act : Act) (p p' : Progress) (w : World) → HandsOnOwn f act → (taken : IsTaken f act p p' w)
     → (acts_on f act w).indexes ≡ indexes_after f act p p' taken.advances w.indexes
-text_indexes f (Act.MarksPhase n) p p' w own taken = refl
-text_indexes f Act.MarksClose p p' w own taken = refl
-text_indexes f (Act.Wakes k) p p' w own taken = refl
-text_indexes f (Act.Operates op) p p' w own taken = operation_indexes f op.actor op.what w ∙ ap (λ (names : List Named). after_operation f (request_by names op.what) w.indexes) taken.same.names
+text_indexes f (Act.Operates op) p p' w own taken =
+    ap (λ (s : Still). s.0) (operation_still f op.actor op.what w) ∙ ap (λ (names : List Named). after_operation f (request_by names op.what) w.indexes) taken.same.names
 text_indexes f (Act.Guards keeper op) p p' w own taken = absurd own
-text_indexes f (Act.Settles k) p p' w own taken = noted_indexes (noted_of w k) (set_noted k [] w) ∙ ap (λ (runs : List EndedRun). with_noted w.indexes runs) (taken.same.caches.each k own).noted
-text_indexes f (Act.Ticks epoch) p p' w own taken = refl
+text_indexes f (Act.Settles k) p p' w own taken =
+    ap (λ (s : Still). s.0) (noted_still (noted_of w k) (set_noted k [] w)) ∙ ap (with_noted w.indexes) (taken.same.caches.each k own).noted
 text_indexes f Act.MakesPass p p' w own taken = same_indexes w (passes f w) (pass_keeps f w)
-text_indexes f Act.ReadsEpoch p p' w own taken = refl
 text_indexes f (Act.StopsIdle k n) p p' w own taken = same_indexes w (stops_idle f k n w) (idle_keeps f (nat_le ((cache_of w k).began + n) w.read) k w)
 text_indexes f (Act.Ends k) p p' w own taken = same_indexes w (stops f k w) (stops_keep f k w)
 text_indexes f (Act.Lowers keeper) p p' w own taken = all_lowered_keep (guards_of w keeper) w
+text_indexes f act p p' w own taken = refl
 
 -- Each act that is no guarded request changes the indexes of the text as those of a replay.
 pub indexes_kept : (f : Profile) (act : Act) → KeepsIndexes f act

@@ -3,7 +3,7 @@
 use Rattle.pas_steps.specs.declared.step.Step.TheVariants.{Unback, Deed, Back, Take, Put, Give, End, EndSized}
 use Rattle.std.proofs.Common.{◌≡◌, ◌≢◌, ℕ, ◌+◌, ◌*◌, ◌/◌, ◌%◌, ◌<◌, ◌==◌, Bool, true, false, ◌&&◌, ◌||◌, if◌then◌else◌, List, [], ◌∷◌, ◌++◌, Option, None, Some}
 use Rattle.std.proofs.Common.{◌⊎◌, inl, inr, refl, ap, sym, ◌∙◌, subst, arith, true≢false, eqb-true, ne_eqb}
-use Rattle.std.proofs.lemmas.{Bool.false≢true, Bool.or_from, Option.same_Some}
+use Rattle.std.proofs.lemmas.Bool.{false≢true, or_from}
 use Rattle.pas_bits.specs.Bits.{has_bit}
 use Rattle.pas_profile.specs.{Directories.number_of, Directories.deed_word_of, Directories.deed_word_numbered, Profiles.IsDirectoryOf}
 use Rattle.pas_profile.specs.declared.{directory.Directory.Directory, event.Event.Event, profile.Profile.Profile, word.Word.Word}
@@ -18,34 +18,21 @@ use Rattle.pas_steps.proofs.Past.{since_once, always_map}
 use Rattle.pas_core.specs.{Good.word_of_deed, Good.word_of_backed, Hints.IsEmptyBacked, Rights.eligible_bit}
 use Rattle.pas_core.proofs.{Deeds.deed_of, Deeds.number_told, Deeds.backed_of, Grains.free_moved, Grains.free_step, OneActor.LendsNone, Rights.offered_has_deed}
 use Rattle.pas_rights.specs.Looks.{ReadsBacked, ReadsAllFree, TakesNone, ReadsEmpty}
-use Rattle.pas_search.specs.Kinds.{IsReturnOf, ReturnsDuly, IsQuiet, IsDeedOrBack, EventsAt}
+use Rattle.pas_search.specs.Kinds.{IsReturnOf, ReturnsDuly, EventsAt}
 use Rattle.pas_same_text.specs.Words.{free_bit}
-use Rattle.pas_same_text.proofs.GivingBack.{HintsPage, offer_one}
+use Rattle.pas_same_text.proofs.{GivingBack.HintsPage, GivingBack.offer_one, ReadyPages.IsAtPage, ReadyPages.IsShownAt, ReadyPages.event_at}
 use Rattle.pas_scan.specs.Usable.{MakesNoDeedHere}
 use Rattle.pas_guard.specs.Seeks.{seeking}
 
 -- ---- A GRAIN THAT ISN'T FREE stays so: the steps put only what they took, and they took only what was free
-take_moves : (x y bit held : Bool) → (x ≡ true → y ≡ bit) → bit ≡ false → held ≡ false
-    → (free_moved (if x && y then Gets else Stays) bit ≡ false) × (held_after (if x && y then Gets else Stays) held ≡ false)
-take_moves x y bit held same used h = search (arith, true≢false)
-
-put_moves : (x bit held : Bool) → (x ≡ true → held ≡ true) → bit ≡ false → held ≡ false
-    → (free_moved (if x then Puts else Stays) bit ≡ false) × (held_after (if x then Puts else Stays) held ≡ false)
-put_moves x bit held took used h = search (arith, true≢false)
-
 step_moves : (s : Step) (a g : ℕ) (bit held : Bool) → is_in lending (kind_of s) ≡ false
     → ((page word mask : ℕ) → s ≡ Take page word mask → in_mask page word mask g ≡ true → has_bit a (g % 64) ≡ bit)
     → ((page word mask : ℕ) → s ≡ Put page word mask → in_mask page word mask g ≡ true → held ≡ true) → bit ≡ false → held ≡ false
     → (free_moved (grain_move s a g) bit ≡ false) × (held_after (grain_move s a g) held ≡ false)
-step_moves s a g bit held lends reads took used word = search (arith, take_moves, put_moves, true≢false)
+step_moves s a g bit held lends reads took used word = search (arith, true≢false)
 
 mask_word : (page word mask g : ℕ) → in_mask page word mask g ≡ true → Word.Free page word ≡ free_word_at g
-mask_word page word mask g h = at (word == g / 64 % 4) (page == g / 256) refl refl h
-  where
-    at : (x y : Bool) → (word == g / 64 % 4) ≡ x → (page == g / 256) ≡ y → (x && y && has_bit mask (g % 64)) ≡ true → Word.Free page word ≡ free_word_at g
-    at true true x y h = ap (λ (q : ℕ). Word.Free q word) (eqb-true page (g / 256) y) ∙ ap (λ (u : ℕ). Word.Free (g / 256) u) (eqb-true word (g / 64 % 4) x)
-    at true false x y h = absurd (false≢true h)
-    at false t x y h = absurd (false≢true h)
+mask_word page word mask g h = search (arith, eqb-true, false≢true)
 
 module _ (f : Profile) (k : ℕ) (l : Whole) where
   -- A grain that isn't free stays so, and isn't got, by steps that give and end no block and put back only what they took.
@@ -136,64 +123,30 @@ abbrev pub KeepsBacked : ℕ → ℕ → Made → List Made → Type 0
 KeepsBacked k q m before = (epoch : ℕ) (es : List Event) → backed_in (with_event (event_of k epoch m.step m.answer) es) q ≡ backed_in es q
 
 module _ (k : ℕ) where
-  other_event : (d : Directory) (page q : ℕ) (e : Option Event) (s : Step) (epoch a : ℕ) → page ≢ q → event_of k epoch s a ≡ e
-      → (e ≡ None) ⊎ IsDeedOrBack d page s → (es : List Event) → backed_in (with_event e es) q ≡ backed_in es q
-  other_event d page q None s epoch a ne is at es = refl
-  other_event d page q (Some e) s epoch a ne is (inl none) es = absurd (let bad : Some e ≡ None = none in cc)
-  other_event d page q (Some e) s epoch a ne is (inr own) es = of_own s own is
-    where
-      deed_event : (t : Bool) → (if t then Some (Event.Deed k page d) else None) ≡ Some e → backed_in (e ∷ es) q ≡ backed_in es q
-      deed_event true is = subst (λ (x : Event). backed_in (x ∷ es) q ≡ backed_in es q) (same_Some (Event.Deed k page d) e is) refl
-      deed_event false is = absurd (let bad : None ≡ Some e = is in cc)
-
-      back_event : (t : Bool) → (if t then Some (Event.Back k page) else None) ≡ Some e → backed_in (e ∷ es) q ≡ backed_in es q
-      back_event true is = subst (λ (x : Event). backed_in (x ∷ es) q ≡ backed_in es q) (same_Some (Event.Back k page) e is) (ap (λ (t : Bool). if t then true else backed_in es q) (ne_eqb page q ne))
-      back_event false is = absurd (let bad : None ≡ Some e = is in cc)
-
-      of_own : (s : Step) → IsDeedOrBack d page s → event_of k epoch s a ≡ Some e → backed_in (e ∷ es) q ≡ backed_in es q
-      of_own s IsDeedOrBack.Deeds is = deed_event (a == 0) is
-      of_own s IsDeedOrBack.Backs is = back_event (a == 0) is
-
-  quiet_or : (d : Directory) (page : ℕ) (m : Made) (epoch : ℕ) → IsQuiet m ⊎ IsDeedOrBack d page m.step
-      → (event_of k epoch m.step m.answer ≡ None) ⊎ IsDeedOrBack d page m.step
-  quiet_or d page m epoch (inl quiet) = inl (quiet k epoch)
-  quiet_or d page m epoch (inr own) = inr own
+  other_event : (d : Directory) (page q : ℕ) (o : Option Event) (es : List Event) → page ≢ q → IsShownAt k d page o
+      → backed_in (with_event o es) q ≡ backed_in es q
+  other_event d page q o es ne at = search (arith, ne_eqb)
 
   -- Steps whose events are at one page back no other.
   pub at_unbacked : (d : Directory) (page q : ℕ) (xs : List Made) → page ≢ q → EventsAt d page xs → Always (KeepsBacked k q) xs
-  at_unbacked d page q xs ne = always_map _ (KeepsBacked k q) xs (λ m before at epoch es. other_event d page q (event_of k epoch m.step m.answer) m.step epoch m.answer ne refl (quiet_or d page m epoch at) es)
+  at_unbacked d page q xs ne =
+      always_map _ (KeepsBacked k q) xs (λ m before at epoch es. other_event d page q (event_of k epoch m.step m.answer) es ne (event_at k d page epoch m at))
 
   -- Steps of a search for whole pages back none.
   pub seeks_unbacked : (q : ℕ) (xs : List Made) → Only seeking xs → Always (KeepsBacked k q) xs
   seeks_unbacked q [] kinds = tt
-  seeks_unbacked q (m ∷ xs) kinds = (λ epoch es. one m.step m.answer epoch es kinds.0, seeks_unbacked q xs kinds.1)
-    where
-      made_or : (t : Bool) (x : ℕ) (e : Directory) (es : List Event)
-          → backed_in (with_event (if t then Some (Event.Deed k x e) else None) es) q ≡ backed_in es q
-      made_or true x e es = refl
-      made_or false x e es = refl
+  seeks_unbacked q (m ∷ xs) kinds = search (arith, true≢false, seeks_unbacked q xs kinds.1)
 
-      one : (s : Step) (a epoch : ℕ) (es : List Event) → is_in seeking (kind_of s) ≡ true → backed_in (with_event (event_of k epoch s a) es) q ≡ backed_in es q
-      one (Deed x e) a epoch es is = made_or (a == 0) x e es
-      one (Back x) a epoch es is = absurd (true≢false (sym is))
-      one (Give b) a epoch es is = absurd (true≢false (sym is))
-      one (End b g) a epoch es is = absurd (true≢false (sym is))
-      one (EndSized b r) a epoch es is = absurd (true≢false (sym is))
-      one (Unback x) a epoch es is = absurd (true≢false (sym is))
-      one s a epoch es is = refl
-
-  deed_quiet : (d d' : Directory) (page q a epoch : ℕ) → page ≢ q → a ≡ 0 → (event_of k epoch (Deed q d') a ≡ None) ⊎ IsDeedOrBack d page (Deed q d') → ⊥
-  deed_quiet d d' page q a epoch ne zero (inl none) = let bad : Some (Event.Deed k q d') ≡ None = sym (ap (λ (n : ℕ). if n == 0 then Some (Event.Deed k q d') else None) zero) ∙ none in cc
-  deed_quiet d d' page q a epoch ne zero (inr own) = of_own (Deed q d') own refl
-    where
-      of_own : (s : Step) → IsDeedOrBack d page s → s ≡ Deed q d' → ⊥
-      of_own s IsDeedOrBack.Deeds is = ne (let same : page ≡ q = cc in same)
-      of_own s IsDeedOrBack.Backs is = let bad : Back page ≡ Deed q d' = is in cc
+  deed_there : (d d' : Directory) (page q : ℕ) (e : Event) → IsAtPage k d page e → e ≡ Event.Deed k q d' → page ≡ q
+  deed_there d d' page q e IsAtPage.Deeds is = cc
+  deed_there d d' page q e IsAtPage.Backs is = let bad : Event.Back k page ≡ Event.Deed k q d' = is in cc
 
   -- They make no deed of another.
   pub at_bare : (d : Directory) (page q : ℕ) (xs : List Made) → page ≢ q → EventsAt d page xs → Always (MakesNoDeedHere q) xs
   at_bare d page q xs ne = always_map _ (MakesNoDeedHere q) xs (λ m before at d' is zero.
-      deed_quiet d d' page q m.answer 0 ne zero (subst (λ (s : Step). (event_of k 0 s m.answer ≡ None) ⊎ IsDeedOrBack d page s) is (quiet_or d page m 0 at)))
+      let now : event_of k 0 m.step m.answer ≡ Some (Event.Deed k q d') =
+      ap (λ (s : Step). event_of k 0 s m.answer) is ∙ ap (λ (n : ℕ). if n == 0 then Some (Event.Deed k q d') else None) zero in
+      ne (deed_there d d' page q (Event.Deed k q d') (subst (IsShownAt k d page) now (event_at k d page 0 m at)) refl))
 
 module _ (f : Profile) (k : ℕ) (l : Whole) where
   backed_same : (q : ℕ) (xs : List Made) → Always (KeepsBacked k q) xs → backed_in (visible (triples k xs ++ l)) q ≡ backed_in (visible l) q

@@ -122,13 +122,8 @@ module _ (no_fit : Readings → Type 0) (f : Profile) (d : Directory) (k : ℕ) 
   deed_chosen page of steps s by = deed_at page of steps s by.made_here
 
 -- ==== WHICH PAGES MAY BE ONE OF A RUN, and which run the text gives: those of a replay, whenever all actors are at rest.
--- the run that an index names, where it is whole
-whole_at : (w : World) (heap n x first : ℕ) (t : Bool) → each_of x n (is_whole w heap) ≡ t → (if t then Some x else None) ≡ Some first
-    → (x ≡ first) × (each_of first n (is_whole w heap) ≡ true)
-whole_at w heap n x first t is same = grind arith
-
 whole_of : (w : World) (heap n first : ℕ) (o : Option ℕ) → if_whole w heap n o ≡ Some first → (o ≡ Some first) × (each_of first n (is_whole w heap) ≡ true)
-whole_of w heap n first o same = search (arith, whole_at)
+whole_of w heap n first o same = search arith
 
 module _ (f : Profile) (p : Progress) (w : World) (valid : IsValid f) (between : IsBetween f p) (pages : ArePagesSame f p.list w) (same : HasSame f p w)
     (heap : ℕ) (of : IsDirectoryOf f (large_of heap)) where
@@ -202,5 +197,4 @@ module _ (f : Profile) (p : Progress) (w : World) (valid : IsValid f) (between :
   -- A named run that is whole in the replay serves in the text.
   pub whole_named : (n first : ℕ) → IsNamedWhole f d n p.list (named_first w heap n) first → named_run w heap n ≡ Some first
   whole_named n first run =
-      ap (if_whole w heap n) run.named
-      ∙ ap (λ (t : Bool). if t then Some first else None) (each_all n first (is_whole w heap) (λ page low high. page_whole page (run.whole page (low, high))))
+      cc (each_all n first (is_whole w heap) (λ page low high. page_whole page (run.whole page (low, high))))

@@ -31,13 +31,9 @@ use Rattle.pas_answers.specs.Reaching.{AnswersOp, AnswersTried, AnswersGuarded, 
 use Rattle.pas_same_text.specs.Seats.{IsThreadOf, IsKeeperOf, IsActOf, AreSeated}
 
 -- ---- the parts of the actors
-kept_next : (own : Bool) (m : Made) (v its : View) → (own ≡ true → its ≡ v) → KeepsToEnds its m.step → KeptPart v → KeptPart (if own then m ∷ v else v)
-kept_next true m v its same keeps all = (subst (λ (u : View). KeepsToEnds u m.step) (same refl) keeps, all)
-kept_next false m v its same keeps all = all
-
 kept_part : (l : Whole) → AllKeepToEnds l → (k : ℕ) → KeptPart (part k l)
 kept_part [] all k = tt
-kept_part (t ∷ l) all k = kept_next (t.actor == k) t.made (part k l) (part t.actor l) (λ same. ap (λ (j : ℕ). part j l) (eqb-true t.actor k same)) all.0 (kept_part l all.1 k)
+kept_part (t ∷ l) all k = search (arith, eqb-true, kept_part l all.1 k)
 
 tidy_parts : (l : Whole) → AreEndsStamped l → (k : ℕ) → Tidy (part k l)
 tidy_parts l are k = record { kept = kept_part l are.kept k; stamped = are.stamped k }
@@ -70,10 +66,6 @@ thread_book f c (g ∷ gs) v resting rest = absurd (elim resting.locals.one_kind
     covered : any_covers c.locals (256 * g.low) ≡ true
     covered = sym (rest.locals.grains (256 * g.low)) ∙ (resting.locals.grains (256 * g.low) ∙ or_right (any_covers c.locals (256 * g.low)) (is_outer (g ∷ gs) (256 * g.low / 256)) outer)
 
--- .. so with any other cache
-rests_now : (f : Profile) (c c' : Cached) (gs : List Guard) (v v' : View) → IsResting f c gs v → AtRest f c v → AtRest f c' v' → IsResting f c' gs v'
-rests_now f c c' gs v v' resting rest now = subst (λ (xs : List Guard). IsResting f c' xs v') (sym (thread_book f c gs v resting rest)) (thread_rests f c' v' now)
-
 -- An actor that was at rest with its cache alone is so with the cache that it rests with later.
 pub at_rest_now : (f : Profile) (c c' : Cached) (gs : List Guard) (v v' : View) → IsResting f c gs v → AtRest f c v → IsResting f c' gs v' → AtRest f c' v'
 at_rest_now f c c' gs v v' resting rest now = thread_at_rest f c' v' (subst (λ (xs : List Guard). IsResting f c' xs v') (thread_book f c gs v resting rest) now)
@@ -92,8 +84,7 @@ module _ (f : Profile) (p : Progress) (k : ℕ) (c' : Cached) (xs : List Made) (
   none = thread_book f (p.caches k) (p.books k) (part k p.list) (before.rest.working k thread) rest
 
   working : (j : ℕ) → IsThread f j → (t : Bool) → (j == k) ≡ t → IsResting f (if t then c' else p.caches j) (p.books j) (part j l)
-  working j is true e =
-      subst (λ (i : ℕ). IsResting f c' (p.books i) (part i l)) (sym (eqb-true j k e)) (rests_now f (p.caches k) c' (p.books k) (part k p.list) (part k l) (before.rest.working k thread) rest now)
+  working j is true e = search (arith, eqb-true, thread_book, thread_rests)
   working j is false e = subst (IsResting f (p.caches j) (p.books j)) (sym (part_of_others j k xs p.list (λ same. eqb-false j k e (sym same)))) (before.rest.working j is)
 
   still_bare : (j page : ℕ) → is_outer (p.books j) page ≡ true → (t : Bool) → (k == j) ≡ t → backed_in (visible l) page ≡ false
@@ -121,7 +112,6 @@ pub record IsMoved (p p' : Progress) (j : ℕ) : Type 0 where
 
 moved : (f : Profile) (act : Act) (p p' : Progress) → IsNoKeepers act → Advances f act p p' → IsMoved p p' (stepper_of act)
 moved f (Act.Operates op) p p' own is = subst (λ (q : Progress). IsMoved p q op.actor) (sym is.2) (record { steps = is.0.steps; list = refl; books = refl; others = λ k ne. ap (λ (t : Bool). if t then is.0.cache else p.caches k) ne })
-moved f (Act.Guards keeper op) p p' own is = absurd own
 moved f (Act.Settles k) p p' own is = subst (λ (q : Progress). IsMoved p q k) (sym is) (record { steps = []; list = refl; books = refl; others = λ j ne. ap (λ (t : Bool). if t then record (p.caches k) { noted = [] } else p.caches j) ne })
 moved f (Act.Ticks epoch) p p' own is = subst (λ (q : Progress). IsMoved p q 0) (sym is.1) (record { steps = made (Step.Tick epoch) is.0 ∷ []; list = refl; books = refl; others = λ k ne. refl })
 moved f Act.MakesPass p p' own is = subst (λ (q : Progress). IsMoved p q 0) (sym is.4) (record { steps = is.2; list = refl; books = refl; others = λ k ne. refl })
@@ -132,7 +122,7 @@ moved f (Act.MarksPhase n) p p' own is = subst (λ (q : Progress). IsMoved p q 0
 moved f (Act.Wakes k) p p' own is = subst (λ (q : Progress). IsMoved p q k) (sym is.1) (record { steps = epoch_look is.0; list = refl; books = refl; others = λ j ne. ap (λ (t : Bool). if t then record (p.caches k) { idle_since = is.0 } else p.caches j) ne })
 moved f Act.MarksClose p p' own is = subst (λ (q : Progress). IsMoved p q 0) (sym is) (record { steps = []; list = refl; books = refl; others = λ k ne. refl })
 moved f (Act.Ends k) p p' own is = subst (λ (q : Progress). IsMoved p q k) (sym is.3) (record { steps = is.0; list = refl; books = refl; others = λ j ne. ap (λ (t : Bool). if t then is.1 else p.caches j) ne })
-moved f (Act.Lowers keeper) p p' own is = absurd own
+moved f act p p' own is = absurd own
 
 seated_moved : (threads : ℕ) (f : Profile) (p p' : Progress) (j : ℕ) → IsValid f → IsBetween f p → Legal f p'.list → (IsKeeperOf threads f j → ⊥)
     → AreSeated threads f p → IsMoved p p' j → AreSeated threads f p'
@@ -261,22 +251,15 @@ guarded_seats threads f keeper op (Some r) p p' valid keeps own before seated is
     let tried : AreSeated threads f midway = seated_rest threads f p keeper t.guards (triples keeper t.steps ++ p.list) midway keeps seated refl refl refl rest in
     after_tried threads f op r t.block midway p' valid own (record { legal = here; rest = rest }) tried is.2 legal
 
-zero_no_keeper : (threads : ℕ) (f : Profile) → IsKeeperOf threads f 0 → ⊥
-zero_no_keeper threads f keeps = omega (arith, keeps.0)
+-- one that acts in an act of no keeper is none
+steps_no_keeper : (threads : ℕ) (f : Profile) (act : Act) → IsNoKeepers act → IsActOf threads f act → IsKeeperOf threads f (stepper_of act) → ⊥
+steps_no_keeper threads f act own is keeps = search (arith, thread_no_keeper)
 
 -- After each act only keepers have guards up, and cache nothing.
 pub seated_next : (threads : ℕ) (f : Profile) (act : Act) (p p' : Progress) → IsValid f → IsActOf threads f act → IsBetween f p → AreSeated threads f p
     → Advances f act p p' → Legal f p'.list → AreSeated threads f p'
-seated_next threads f (Act.Operates op) p p' valid own before seated is legal = seated_moved threads f p p' op.actor valid before legal (thread_no_keeper threads f op.actor own) seated (moved f (Act.Operates op) p p' tt is)
 seated_next threads f (Act.Guards keeper op) p p' valid own before seated is legal = guarded_seats threads f keeper op (request_in op.what) p p' valid own.0 own.1 before seated is legal
-seated_next threads f (Act.Settles k) p p' valid own before seated is legal = seated_moved threads f p p' k valid before legal (thread_no_keeper threads f k own) seated (moved f (Act.Settles k) p p' tt is)
-seated_next threads f (Act.Ticks epoch) p p' valid own before seated is legal = seated_moved threads f p p' 0 valid before legal (zero_no_keeper threads f) seated (moved f (Act.Ticks epoch) p p' tt is)
-seated_next threads f Act.MakesPass p p' valid own before seated is legal = seated_moved threads f p p' 0 valid before legal (zero_no_keeper threads f) seated (moved f Act.MakesPass p p' tt is)
-seated_next threads f Act.ReadsEpoch p p' valid own before seated is legal = seated_moved threads f p p' 0 valid before legal (zero_no_keeper threads f) seated (moved f Act.ReadsEpoch p p' tt is)
-seated_next threads f (Act.StopsIdle k n) p p' valid own before seated is legal = seated_moved threads f p p' k valid before legal (thread_no_keeper threads f k own) seated (moved f (Act.StopsIdle k n) p p' tt is)
-seated_next threads f (Act.MarksPhase n) p p' valid own before seated is legal = seated_moved threads f p p' 0 valid before legal (zero_no_keeper threads f) seated (moved f (Act.MarksPhase n) p p' tt is)
-seated_next threads f (Act.Wakes k) p p' valid own before seated is legal = seated_moved threads f p p' k valid before legal (thread_no_keeper threads f k own) seated (moved f (Act.Wakes k) p p' tt is)
-seated_next threads f Act.MarksClose p p' valid own before seated is legal = seated_moved threads f p p' 0 valid before legal (zero_no_keeper threads f) seated (moved f Act.MarksClose p p' tt is)
-seated_next threads f (Act.Ends k) p p' valid own before seated is legal = seated_moved threads f p p' k valid before legal (thread_no_keeper threads f k own) seated (moved f (Act.Ends k) p p' tt is)
 seated_next threads f (Act.Lowers keeper) p p' valid own before seated is legal =
     subst (AreSeated threads f) (sym is.3) (seated_lowered threads f keeper p is.0 is.1 valid own before seated is.2 (subst (λ (q : Progress). Legal f q.list) is.3 legal))
+seated_next threads f act p p' valid own before seated is legal =
+    seated_moved threads f p p' (stepper_of act) valid before legal (steps_no_keeper threads f act tt own) seated (moved f act p p' tt is)

@@ -1,10 +1,10 @@
 -- WHERE THREADS AND KEEPERS ARE AT REST with their caches and books, all actors of the region rest.
-use Rattle.std.proofs.Common.{ℕ, ◌<◌, ◌≤◌, List, [], ◌⊎◌, inl, inr, refl, sym, ◌∙◌, subst, arith}
-use Rattle.std.proofs.{lemmas.Bool.cases_lt, lemmas.List.Elements.All-nil, Math.Bool.or-false}
+use Rattle.std.proofs.Common.{ℕ, ◌<◌, ◌≤◌, List, [], ◌⊎◌, inl, inr, sym, ◌∙◌, subst, arith}
+use Rattle.std.proofs.lemmas.{Bool.cases_lt, List.Elements.All-nil}
 use Rattle.pas_profile.specs.declared.profile.Profile.{Profile}
 use Rattle.pas_steps.specs.{Lists.part, Lists.Legal, Views.View}
 use Rattle.pas_free_log.specs.Conditions.{IsEntryOf}
-use Rattle.pas_cache.specs.{Caches.AtRest, Contents.Cached, Locals.any_covers, Locals.IsLocal}
+use Rattle.pas_cache.specs.{Caches.AtRest, Contents.Cached}
 use Rattle.pas_guard.specs.Books.{FitsBook}
 use Rattle.pas_guard.specs.declared.book.Guard.{Guard}
 use Rattle.pas_trace.specs.{Acts.Act, EveryPlan.IsThread}
@@ -21,56 +21,20 @@ keeper_of threads f k keeps = (omega (arith, keeps.0), keeps.1)
 
 -- a thread at rest with its cache, which has no guard up, rests
 pub thread_rests : (f : Profile) (c : Cached) (v : View) → AtRest f c v → IsResting f c [] v
-thread_rests f c v rest = record {
-  locals = record {
-    grains = λ g. rest.locals.grains g ∙ sym (or-false (any_covers c.locals g));
-    rights = rest.locals.rights;
-    clear = rest.locals.clear;
-    known = rest.locals.known;
-    apart = rest.locals.apart;
-    guards_apart = tt;
-    guards_of_region = tt;
-    guards_known = tt;
-    one_kind = inr refl;
-  };
-  few = rest.few;
-  entries = rest.entries;
-  few_entries = rest.few_entries;
-}
+thread_rests f c v rest = search arith
 
 -- .. and a keeper that fits its book
 keeper_rests : (f : Profile) (guards : List Guard) (v : View) → FitsBook f guards v → IsResting f empty_cache guards v
 keeper_rests f guards v fits = record {
-  locals = record {
-    grains = fits.held;
-    rights = fits.rights;
-    clear = fits.clear;
-    known = All-nil (IsLocal f v);
-    apart = record { one_each = λ heap class. omega arith; grains = λ g. omega arith; rights = λ page. omega arith };
-    guards_apart = fits.apart;
-    guards_of_region = fits.of_region;
-    guards_known = fits.knows;
-    one_kind = inl refl;
-  };
+  locals = search arith;
   few = omega arith;
   entries = All-nil (IsEntryOf f);
   few_entries = omega arith;
 }
 
--- back again
+-- back again, without what is so of guards
 pub thread_at_rest : (f : Profile) (c : Cached) (v : View) → IsResting f c [] v → AtRest f c v
-thread_at_rest f c v rest = record {
-  locals = record {
-    grains = λ g. rest.locals.grains g ∙ or-false (any_covers c.locals g);
-    rights = rest.locals.rights;
-    clear = rest.locals.clear;
-    known = rest.locals.known;
-    apart = rest.locals.apart;
-  };
-  few = rest.few;
-  entries = rest.entries;
-  few_entries = rest.few_entries;
-}
+thread_at_rest f c v rest = search arith
 
 module _ (threads : ℕ) (f : Profile) (p : Progress) (rest : AreAtRest threads f p.caches p.books p.list) (seated : AreSeated threads f p) where
   working : (k : ℕ) → IsThread f k → (threads < k) ⊎ (k ≤ threads) → IsResting f (p.caches k) (p.books k) (part k p.list)

@@ -48,12 +48,11 @@ pub grains_same : (f : Profile) (v : View) (slots : List Slots) (locals : List L
     → All (IsLocal f v) slots
     → list_any (has_grain page b) locals ≡ any_covers slots (256 * page + b)
 grains_same f v [] [] page b small same known = refl
-grains_same f v [] (l ∷ locals) page b small same known = absurd same
-grains_same f v (s ∷ slots) [] page b small same known = absurd same
 grains_same f v (s ∷ slots) (l ∷ locals) page b small same known =
     let at : IsLocal f v s = All-head (IsLocal f v) s slots known in
     ap (λ (t : Bool). t || list_any (has_grain page b) locals) (grain_same s l page b small same.0 at.class at.starts)
     ∙ ap (λ (t : Bool). covers s (256 * page + b) || t) (grains_same f v slots locals page b small same.1 (All-tail (IsLocal f v) s slots known))
+grains_same f v slots locals page b small same known = absurd same
 
 -- ---- all caches
 pub record IsOfCache (cs : List Cache) (p : Local → Bool) : Type 0 where

@@ -140,13 +140,10 @@ pub reading_same : (f : Profile) → StaysSame f Act.ReadsEpoch
 reading_same f p p' w taken = search (arith, reads_to)
 
 -- ---- a tick
-ticked : (f : Profile) (p : Progress) (asked answer : ℕ) → Legal f (triple 0 (made (Tick asked) answer) ∷ p.list) → answer ≡ word_after p.list TheWord.Epoch
-ticked f p asked answer legal = legal.0.answer_is
-
 ticks_to : (f : Profile) (asked answer : ℕ) (p : Progress) (w : World) → IsSame f p w → Legal f (after_tick p asked answer).list
     → IsSame f (after_tick p asked answer) (ticks asked w)
 ticks_to f asked answer p w same legal =
-    let now : answer ≡ w.epoch = ticked f p asked answer legal ∙ sym same.epoch in
+    let now : answer ≡ w.epoch = legal.0.answer_is ∙ sym same.epoch in
     let line : Record = Record.Said 0 (Said.Tick (max w.epoch asked)) in
     record {
       pages = pages_next f p.list (triple 0 (made (Tick asked) answer) ∷ p.list) w (ticks asked w) same.pages (tick_pages 0 answer asked p.list) (record { events = refl; live = refl; hinted = refl; locals = refl; guards = refl });

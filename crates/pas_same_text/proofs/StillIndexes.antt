@@ -1,6 +1,5 @@
 -- WHAT STAYS IN THE TEXT: what changes no index and no guard, and how many caches there are.
-use Rattle.std.proofs.Common.{arith, ◌≡◌, ℕ, nat_le, nat_lt, Bool, true, false, ◌&&◌, if◌then◌else◌, List, [], ◌∷◌, ◌++◌, length, Option, None, Some, Result}
-use Rattle.std.proofs.Common.{refl, ap, ◌∙◌}
+use Rattle.std.proofs.Common.{arith, ◌≡◌, ℕ, Bool, true, false, ◌&&◌, if◌then◌else◌, List, [], ◌∷◌, ◌++◌, length, Option, None, Some, Result, refl, ap, ◌∙◌}
 use Rattle.pas_profile.specs.{Blocks.address_of, Requests.class_home, Requests.is_shared}
 use Rattle.pas_profile.specs.declared.{directory.Directory.Directory, event.Event.Event, event.NoRoom.NoRoom, event.Outcome.Outcome, name.Block.Block}
 use Rattle.pas_profile.specs.declared.{name.Name.Name, profile.Profile.Profile}
@@ -9,13 +8,12 @@ use Rattle.pas_large.specs.declared.span.Span.{Span}
 use Rattle.pas_free_log.specs.Logs.{sized_entry}
 use Rattle.pas_free_log.specs.declared.log.Entry.{Entry}
 use Rattle.pas_report.specs.declared.record.{Record.Record, Said.Said}
-use Rattle.pas_same_text.specs.State.{World, Cache, Guard, Local, each, shows, says, block_at, cache_of, locals_of, log_of, noted_of, set_cache, set_log}
-use Rattle.pas_same_text.specs.State.{set_locals}
+use Rattle.pas_same_text.specs.State.{World, Cache, Guard, Local, each, shows, says, block_at, cache_of, locals_of, log_of, set_cache, set_log}
 use Rattle.pas_same_text.specs.Pages.{page_numbers, is_empty, is_unowned, is_hinted, hints, minds}
 use Rattle.pas_same_text.specs.Searches.{some_of, searched, deeds, backs, readies}
-use Rattle.pas_same_text.specs.{Indexes.run_of, Indexes.notes, Runs.gives_place, Runs.places, Runs.serves_run}
+use Rattle.pas_same_text.specs.Runs.{gives_place, places, serves_run}
 use Rattle.pas_same_text.specs.Classes.{slots_for, gives_up, gives_up_first, gives_first, takes_page, fetches, makes_place, serves_class_by, others}
-use Rattle.pas_same_text.specs.Frees.{pages_of, ends_block, takes_effect, ends, flushes, stops, logs, frees, frees_what}
+use Rattle.pas_same_text.specs.Frees.{ends_block, takes_effect, ends, flushes, stops, logs, frees, frees_what}
 use Rattle.pas_same_text.specs.Passes.{outcome_of, comes_to, examines, passes}
 use Rattle.std.specs.List.{filter}
 use Rattle.pas_same_text.proofs.CacheLists.{many_with}
@@ -63,10 +61,7 @@ minds_keep page w = either (backed_in w.events page && is_empty w page) (hints p
 
 -- frees that take effect
 block_keeps : (f : Profile) (k : ℕ) (name : Name) (b : Block) (w : World) → still (ends_block f k name b w) ≡ still w
-block_keeps f k name b w =
-    let v : World = shows (Event.End k name w.epoch) w in
-    each_keeps minds (pages_of f b) minds_keep (notes k b v)
-    ∙ cache_keeps k (record (cache_of v k) { noted = if nat_lt (length (noted_of v k)) 64 then noted_of v k ++ run_of v b else noted_of v k }) v
+block_keeps f k name b w = search (arith, each_keeps, minds_keep, cache_keeps)
 
 effect_keeps : (f : Profile) (k : ℕ) (entry : Entry) (lives : Option Block) (w : World) → still (takes_effect f k entry lives w) ≡ still w
 effect_keeps f k entry lives w = search (arith, either, block_keeps)
@@ -81,8 +76,7 @@ flushes_keep f k w = each_keeps (ends f k) (log_of w k) (ends_keep f k) (set_log
 -- stops
 pub given_up_keeps : (k : ℕ) (l : Local) (w : World) → still (gives_up k l w) ≡ still w
 given_up_keeps k l w =
-    minds_keep l.page (set_locals k (others l.heap l.class (locals_of w k)) w)
-    ∙ cache_keeps k (record (cache_of w k) { locals = others l.heap l.class (locals_of w k) }) w
+    simp (minds_keep, cache_keeps)
 
 -- A stop keeps indexes and guards.
 pub stops_keep : (f : Profile) (k : ℕ) (w : World) → still (stops f k w) ≡ still w
@@ -94,10 +88,7 @@ idle_keeps f t k w = either t (says (Record.Said 0 (Said.Stopped k)) (stops f k 
 
 -- frees
 pub logs_keep : (f : Profile) (k : ℕ) (entry : Entry) (w : World) → still (logs f k entry w) ≡ still w
-logs_keep f k entry w =
-    let v : World = if nat_le 64 (length (log_of w k)) then flushes f k w else w in
-    cache_keeps k (record (cache_of v k) { log = log_of v k ++ entry ∷ [] }) v
-    ∙ either (nat_le 64 (length (log_of w k))) (flushes f k w) w (still w) (flushes_keep f k w) refl
+logs_keep f k entry w = search (arith, cache_keeps, either, flushes_keep)
 
 -- A free keeps indexes and guards.
 pub frees_keep : (f : Profile) (k : ℕ) (entry : Entry) (w : World) → still (frees f k entry w) ≡ still w
@@ -106,8 +97,7 @@ frees_keep f k entry w = search (arith, either, logs_keep)
 -- A free by a name of the trace keeps indexes and guards, whatever the name stands for.
 pub what_keeps : (f : Profile) (k name room : ℕ) (meant : Option (Option Block)) (w : World) → still (frees_what f k name room meant w) ≡ still w
 what_keeps f k name room (Some (Some block)) w = frees_keep f k (sized_entry block.name room) w
-what_keeps f k name room (Some None) w = refl
-what_keeps f k name room None w = refl
+what_keeps f k name room meant w = refl
 
 -- ---- requests
 pub deeds_keep : (k : ℕ) (d : Directory) (page : ℕ) (w : World) → still (deeds k d page w) ≡ still w
@@ -139,26 +129,15 @@ class_keeps f k name heap class None w = fetches_keep f k name heap class (makes
 class_keeps f k name heap class (Some l) w =
     either (some_of l.slots) (gives_first k name l l.slots w) (fetches f k name heap class (gives_up k l w)) (still w) (first_keeps k name l l.slots w) (fetches_keep f k name heap class (gives_up k l w) ∙ given_up_keeps k l w)
 
-place_keeps : (k name heap room page : ℕ) (slots : List ℕ) (w : World) → still (gives_place k name heap room page slots w) ≡ still w
-place_keeps k name heap room page [] w = refl
-place_keeps k name heap room page (s ∷ more) w = refl
-
 -- A bit-fit request keeps indexes and guards, served or refused.
 pub places_keep : (k name heap room align : ℕ) (found : Result ℕ NoRoom) (w : World) → still (places k name heap room align found w) ≡ still w
-places_keep k name heap room align found w = search (arith, place_keeps, readies_keep)
+places_keep k name heap room align found w = search (arith, readies_keep)
 
 -- A run of whole pages that is given, or refused, keeps indexes and guards.
 pub run_keeps : (f : Profile) (k name heap n : ℕ) (found : Option ℕ) (w : World) → still (serves_run f k name heap n found w) ≡ still w
 run_keeps f k name heap n found w = search (arith, each_keeps, backs_keep, deeds_keep)
 
 -- ---- a pass
-outcome_keeps : (page : ℕ) (outcome : Outcome) (w : World) → still (comes_to page outcome w) ≡ still w
-outcome_keeps page (Outcome.InUse word value) w = refl
-outcome_keeps page Outcome.Bare w = refl
-outcome_keeps page Outcome.Unbacked w = refl
-outcome_keeps page Outcome.NotOffered w = refl
-outcome_keeps page (Outcome.Young stamp) w = refl
-
 -- A pass keeps indexes and guards.
 pub pass_keeps : (f : Profile) (w : World) → still (passes f w) ≡ still w
-pass_keeps f w = each_keeps (examines f) (filter (is_hinted w) (page_numbers f)) (λ page v. outcome_keeps page (outcome_of f v page) v) (says (Record.Said 0 (Said.Pass w.epoch)) w)
+pass_keeps f w = search (arith, each_keeps)

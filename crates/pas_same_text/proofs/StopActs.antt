@@ -23,7 +23,7 @@ use Rattle.pas_trace.specs.EveryPlan.{IsThread}
 use Rattle.pas_answers.specs.Answers.{Progress, records_of, with_steps, with_records, with_cache as with_cached}
 use Rattle.pas_same_text.specs.State.{Local, World, cache_of, locals_of}
 use Rattle.pas_same_text.specs.{Frees.flushes, Frees.gives_up_all, Frees.stops, Pages.is_of, Acts.IsBetween, Acts.AreBlocksUsable, Words.free_bit}
-use Rattle.pas_same_text.specs.Same.{IsSame, HasSame, IsSameCache, AreSameLocals, AreSameCaches, lives_in, has_number}
+use Rattle.pas_same_text.specs.Same.{IsSame, HasSame, IsSameCache, AreSameLocals, lives_in, has_number}
 use Rattle.pas_same_text.proofs.{CacheLists.same_own, CacheLists.same_with, CacheLists.same_again, FlushedLogs.IsFlushedTo, FlushedLogs.IsEndedOn}
 use Rattle.pas_same_text.proofs.{FlushedLogs.OnlyFewer, Flushes.visible_steps, GivenBack.returns_then, GivenBack.has_both, Holders.guards_as}
 use Rattle.pas_same_text.proofs.{Holders.still_unguarded, StillIndexes.same_guards, StillIndexes.stops_keep, LeftPages.read_open}
@@ -42,9 +42,8 @@ all_classes f v (s ∷ slots) known = ((All-head (IsLocal f v) s slots known).cl
 
 all_of_region : (f : Profile) (v : View) (slots : List Slots) (ls : List Local) → AreSameLocals slots ls → All (IsLocal f v) slots → AllOfRegion f ls
 all_of_region f v [] [] same known = tt
-all_of_region f v [] (l ∷ ls) same known = absurd same
-all_of_region f v (s ∷ slots) [] same known = absurd same
 all_of_region f v (s ∷ slots) (l ∷ ls) same known = (subst (IsPage f) (sym same.0.page) (All-head (IsLocal f v) s slots known).page, all_of_region f v slots ls same.1 (All-tail (IsLocal f v) s slots known))
+all_of_region f v slots ls same known = absurd same
 
 -- the page of one that is marked is minded
 marked_minded : (q : ℕ) (steps : List Made) (slots : List Slots) (ls : List Local) → AreSameLocals slots ls → IsMarkedIn q steps slots
@@ -159,8 +158,7 @@ module _ (f : Profile) (k : ℕ) (p : Progress) (w : World) (flushed stopped : L
     events = events;
     live = up.live ∙ (to.live ∙ ap lives_in (sym up.events));
     caches = same_again f p.caches v.caches k own c'
-        (subst (AreSameCaches f (with_cached (with_cached p.caches k own) k c')) (sym up.caches)
-        (same_with f (with_cached p.caches k own) vf.caches k c' (record (cache_of vf k) { locals = [] }) thread listed_then to.same new_same));
+        (rw up.caches (same_with f (with_cached p.caches k own) vf.caches k c' (record (cache_of vf k) { locals = [] }) thread listed_then to.same new_same));
     guards = guards_as p.books w v (same_guards w v (stops_keep f k w)) same.guards;
   }
 

@@ -43,10 +43,7 @@ lowest_row_as class r fair starts same row =
       first = row.first;
       free = there row.first row.free;
       lowest = λ s lt free. row.lowest s lt (back s free);
-      are = λ s. (
-        λ set. row_as (IsFreeSlot class r) (IsFreeSlot class fair) row.first (class_grains class) 4 s there ((row.are s).0 set),
-        λ here. (row.are s).1 (row_as (IsFreeSlot class fair) (IsFreeSlot class r) row.first (class_grains class) 4 s back here),
-      );
+      are = search (arith, row_as);
     }
 
 module _ (f : Profile) (k : ℕ) (l : Whole) (class page : ℕ) (searched : List Made) (starts : Mask4) (legal : Legal f (triples k searched ++ l))
@@ -127,8 +124,7 @@ module _ (f : Profile) (k page g : ℕ) (of : g / 256 ≡ page) (v ts before : L
       let inside : in_mask q word mask g ≡ true = and_first (in_mask q word mask g) (has_bit a (g % 64)) is in
       let at : q ≡ page = eqb-true q (g / 256) (and_second (word == g / 64 % 4) (q == g / 256) (and_first ((word == g / 64 % 4) && (q == g / 256)) (has_bit mask (g % 64)) inside)) ∙ of in (
         ap (has_right v) (sym at) ∙ allowed,
-        in_list (made (Take q word mask) a) (page == q) (λ other. absurd (true≢false (sym (eq-eqb page q (sym at)) ∙ other)))
-            (got_or_held (in_mask q word mask g && has_bit a (g % 64)) (holds ts g) (λ none. absurd (true≢false (sym is ∙ none)))),
+        search (arith, in_list, true≢false, eq-eqb, got_or_held),
       )
   took q word mask a allowed was false is h = search (arith, in_list, got_or_held)
 
@@ -231,22 +227,16 @@ takes_split : (page : ℕ) (masks answers : ℕ → ℕ) (n word : ℕ) → word
     → (ts : List Made) × (takes page masks answers n ≡ ts ++ made (Take page word (masks word)) (answers word) ∷ takes page masks answers word)
 takes_split page masks answers zero word lt some = absurd (omega (arith, lt))
 takes_split page masks answers (suc n) word lt some = elim (cases_eq n word) [
-  | inl same ↦ subst (λ (x : ℕ). (ts : List Made) × (takes page masks answers (suc n) ≡ ts ++ made (Take page x (masks x)) (answers x) ∷ takes page masks answers x)) same
-      ([], one_taken page n (masks n) (answers n) (takes page masks answers n) (λ z. some (ap masks (sym same) ∙ z)))
+  | inl same ↦ search (arith, one_taken)
   | inr other ↦
       let before = takes_split page masks answers n word (omega (arith, lt, other)) some in
       let here : List Made = word_take page n (masks n) (answers n) in
       (here ++ before.0, ap (λ (ms : List Made). here ++ ms) before.1 ∙ sym (append_assoc here before.0 (made (Take page word (masks word)) (answers word) ∷ takes page masks answers word)))
 ]
 
--- takes of lower words get no grain of this one
-lower_take : (page n mask a g : ℕ) (rest : List Made) → n < g / 64 % 4 → holds rest g ≡ false → (t : Bool)
-    → holds ((if t then [] else made (Take page n mask) a ∷ []) ++ rest) g ≡ false
-lower_take page n mask a g rest lt h x = search (arith, ne_eqb)
-
 takes_below : (page : ℕ) (masks answers : ℕ → ℕ) (n g : ℕ) → n ≤ g / 64 % 4 → holds (takes page masks answers n) g ≡ false
 takes_below page masks answers zero g le = refl
-takes_below page masks answers (suc n) g le = lower_take page n (masks n) (answers n) g (takes page masks answers n) (omega (arith, le)) (takes_below page masks answers n g (omega (arith, le))) (masks n == 0)
+takes_below page masks answers (suc n) g le = search (arith, ne_eqb, takes_below page masks answers n g (omega (arith, le)))
 
 -- ---- THE SLOTS that a search took of an exclusive page are all that were free before it
 module _ (f : Profile) (k : ℕ) (l : Whole) (class page : ℕ) (searched : List Made) (starts : Mask4) (legal : Legal f (triples k searched ++ l))

@@ -77,8 +77,6 @@ module _ (test : ℕ → Bool) (step : ℕ) (some : 1 ≤ step) where
 
   -- what stands in a row of m at most is in it by this, and the other way round
   in_row : (m n next s : ℕ) → has_number (row_from next step m (places next n)) s ≡ true → InRow test step m n next s
-  in_row zero n next s h = absurd (false≢true h)
-  in_row (suc m) zero next s h = absurd (false≢true h)
   in_row (suc m) (suc n) next s h = elim (cases_Bool (test next)) [
     | inl so ↦ elim (or_cases (next == s) (has_number (row_from (next + step) step m (places (next + step) n)) s)
         (sym (row_passing m n next s so) ∙ h)) [
@@ -97,6 +95,7 @@ module _ (test : ℕ → Bool) (step : ℕ) (some : 1 ≤ step) where
       each_one : (i j : ℕ) → j ≤ suc i → ((j : ℕ) → j ≤ i → test (next + step + j * step) ≡ true) → test next ≡ true → test (next + j * step) ≡ true
       each_one i zero le rest so = ap test (first_place next) ∙ so
       each_one i (suc j) le rest so = ap test (sym (next_place next step j)) ∙ rest j (omega (arith, le))
+  in_row m n next s h = absurd (false≢true h)
 
   row_has : (m n next i : ℕ) → i < m → i < n → ((j : ℕ) → j ≤ i → test (next + j * step) ≡ true)
       → has_number (row_from next step m (places next n)) (next + i * step) ≡ true
@@ -125,23 +124,13 @@ module _ (test : ℕ → Bool) (step : ℕ) (some : 1 ≤ step) where
   first_row_is from n less so = search (arith, passing)
 
 -- ---- a row rises
-kept_row : (P : ℕ → Type 0) (x : ℕ) (xs : List ℕ) (t : Bool) → P x → AllByRecursion P xs → AllByRecursion P (if t then x ∷ xs else [])
-kept_row P x xs true so all = (so, all)
-kept_row P x xs false so all = tt
-
 all_row : (P : ℕ → Type 0) (step m next : ℕ) (xs : List ℕ) → AllByRecursion P xs → AllByRecursion P (row_from next step m xs)
-all_row P step zero next xs all = tt
-all_row P step (suc m) next [] all = tt
-all_row P step (suc m) next (x ∷ xs) all = kept_row P x (row_from (next + step) step m xs) (x == next) all.0 (all_row P step m (next + step) xs all.1)
-
-row_next : (x : ℕ) (xs : List ℕ) (t : Bool) → AllByRecursion (λ m. x < m) xs → IsRising xs → IsRising (if t then x ∷ xs else [])
-row_next x xs true all rising = (all, rising)
-row_next x xs false all rising = tt
+all_row P step (suc m) next (x ∷ xs) all = search (arith, all_row P step m (next + step) xs all.1)
+all_row P step m next xs all = tt
 
 rising_row : (step m next : ℕ) (xs : List ℕ) → IsRising xs → IsRising (row_from next step m xs)
-rising_row step zero next xs rising = tt
-rising_row step (suc m) next [] rising = tt
-rising_row step (suc m) next (x ∷ xs) rising = row_next x (row_from (next + step) step m xs) (x == next) (all_row (λ y. x < y) step m (next + step) xs rising.0) (rising_row step m (next + step) xs rising.1)
+rising_row step (suc m) next (x ∷ xs) rising = search (arith, all_row, rising_row step m (next + step) xs rising.1)
+rising_row step m next xs rising = tt
 
 rising_first : (step : ℕ) (xs : List ℕ) → IsRising xs → IsRising (first_row step xs)
 rising_first step xs rising = search (arith, rising_row)

@@ -74,14 +74,11 @@ pub found : (p : ℕ → Bool) (numbers : List ℕ) → list_any p numbers ≡ t
 found p [] h = absurd (false≢true h)
 found p (n ∷ more) h = found_at p n more (found p more) (or_cases (p n) (list_any p more) h)
 
-passes_at : (p : ℕ → Bool) (n m : ℕ) (rest : Bool) → (n == m) ≡ true → p m ≡ true → (p n || rest) ≡ true
-passes_at p n m rest same so = or_left (p n) rest (ap p (eqb-true n m same) ∙ so)
-
 -- A number of a list that passes a test makes that some number does.
 pub passed : (p : ℕ → Bool) (numbers : List ℕ) (m : ℕ) → has_number numbers m ≡ true → p m ≡ true → list_any p numbers ≡ true
 passed p [] m h so = h
 passed p (n ∷ more) m h so = elim (or_cases (n == m) (has_number more m) h) [
-  | inl same ↦ passes_at p n m (list_any p more) same so
+  | inl same ↦ (or_left (p n) (list_any p more) (ap p (eqb-true n m same) ∙ so))
   | inr rest ↦ or_right (p n) (list_any p more) (passed p more m rest so)
 ]
 
@@ -95,10 +92,7 @@ any_weaker p q [] more h = h
 any_weaker p q (x ∷ xs) more h = weaker_at (p x) (q x) (list_any p xs) (list_any q xs) (more x) (any_weaker p q xs more) h
 
 split_at : (a x r s t : Bool) → (r ≡ true → (s ≡ true) ⊎ (t ≡ true)) → (x || r) ≡ true → (((a && x) || s) ≡ true) ⊎ (((not a && x) || t) ≡ true)
-split_at true true r s t rest h = inl refl
-split_at false true r s t rest h = inr refl
-split_at true false r s t rest h = rest h
-split_at false false r s t rest h = rest h
+split_at a x r s t rest h = search arith
 
 -- one of which the first test is so, or one of which it isn't
 pub any_split : {X : Type 0} (a p : X → Bool) (xs : List X) → list_any p xs ≡ true

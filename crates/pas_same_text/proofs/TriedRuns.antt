@@ -4,7 +4,7 @@ use Rattle.std.proofs.Common.{None, Some, ◌⊎◌, inl, inr, refl, ap, sym, �
 use Rattle.std.proofs.{lemmas.Bool.false≢true, lemmas.Bool.eqb-false, lemmas.Bool.false_from_ne_true, Math.Path.fun_ext, Math.Bool.and-false}
 use Rattle.std.specs.List.{AllByRecursion}
 use Rattle.pas_profile.specs.{Directories.number_of, Profiles.IsValid, Profiles.IsDirectoryOf}
-use Rattle.pas_profile.specs.declared.{directory.Directory.Directory, event.Event.Event, name.Block.Block, profile.Profile.Profile, word.Word.Word}
+use Rattle.pas_profile.specs.declared.{directory.Directory.Directory, event.Event.Event, profile.Profile.Profile, word.Word.Word}
 use Rattle.pas_profile.proofs.{Codecs.deed_word_of-positive, Lists.all_map}
 use Rattle.pas_machine.specs.{Machine.Run, State.deed_in, State.backed_in}
 use Rattle.pas_steps.specs.{Agreement.Agreed, Desks.triples, Events.events_by, Kinds.Only, Past.Always, Views.View, Views.known_deed}
@@ -21,8 +21,7 @@ use Rattle.pas_large.proofs.{Claims.span_in, Outcomes.MadeOf}
 use Rattle.pas_guard.specs.Evidence.{HasFailedOnce}
 use Rattle.pas_guard.specs.Seeks.{seeking, HasSpan, SoughtRun, SoughtNone}
 use Rattle.pas_answers.specs.Answers.{Progress}
-use Rattle.pas_same_text.specs.{State.World, State.Cache, State.Guard, Guards.are_bare, Guards.raises, Guards.raises_from, Same.IsSame, Same.HasSame}
-use Rattle.pas_same_text.specs.{Acts.IsBetween, Words.free_bit}
+use Rattle.pas_same_text.specs.{State.World, Guards.are_bare, Guards.raises, Guards.raises_from, Same.IsSame, Same.HasSame, Acts.IsBetween, Words.free_bit}
 use Rattle.pas_same_text.specs.Pages.{page_numbers, each_of, is_none, is_same, is_free, is_empty, is_kept}
 use Rattle.pas_same_text.specs.Runs.{large_of, is_usable, is_run, serves_pages}
 use Rattle.pas_same_text.proofs.{KeepersRest.bare_since, KeepersRest.bare_events, FreeGrains.bit_free, Flushes.visible_steps, GivenBack.each_all}
@@ -91,23 +90,14 @@ module _ {f : Profile} {k heap n : ℕ} {p : Progress} {w : World} {xs : List Ma
   same_use : (o : Option Directory) (qs : List ℕ) (page : ℕ) → usable_in d o (mine qs) page ≡ usable_in d o w page
   same_use o qs page =
       let r = shown_rest (deeds_of k d qs) w in
-      ap (λ (bs : List Block). usable_in d o (record w { live = bs; caches = (mine qs).caches; guards = (mine qs).guards }) page) (deeds_live k d qs w)
-      ∙ (ap (λ (cs : List Cache). usable_in d o (record w { caches = cs; guards = (mine qs).guards }) page) r.caches ∙ ap (λ (gs : List Guard). usable_in d o (record w { guards = gs }) page) r.guards)
+      simp (deeds_live, r.caches, r.guards)
 
   -- the page got a deed, or its deed is as it was
   deed_or : (page : ℕ) (qs : List ℕ) → AllByRecursion (λ q. word_after p.list (Word.Deed q) ≡ 0) qs
       → ((deed_in (deeds_of k d qs ++ w.events) page ≡ Some d) × (word_after p.list (Word.Deed page) ≡ 0))
       ⊎ (deed_in (deeds_of k d qs ++ w.events) page ≡ deed_in w.events page)
   deed_or page [] bare = inr refl
-  deed_or page (q ∷ qs) bare = at (q == page) refl (deed_or page qs bare.1)
-    where
-      at : (t : Bool) → (q == page) ≡ t
-          → ((deed_in (deeds_of k d qs ++ w.events) page ≡ Some d) × (word_after p.list (Word.Deed page) ≡ 0))
-          ⊎ (deed_in (deeds_of k d qs ++ w.events) page ≡ deed_in w.events page)
-          → (((if t then Some d else deed_in (deeds_of k d qs ++ w.events) page) ≡ Some d) × (word_after p.list (Word.Deed page) ≡ 0))
-          ⊎ ((if t then Some d else deed_in (deeds_of k d qs ++ w.events) page) ≡ deed_in w.events page)
-      at true e rest = inl (refl, ap (λ (x : ℕ). word_after p.list (Word.Deed x)) (sym (eqb-true q page e)) ∙ bare.0)
-      at false e rest = rest
+  deed_or page (q ∷ qs) bare = search (arith, eqb-true, deed_or page qs bare.1)
 
   usable_still : (qs : List ℕ) → AllByRecursion (λ q. word_after p.list (Word.Deed q) ≡ 0) qs → (page : ℕ)
       → is_usable (mine qs) heap page ≡ is_usable w heap page

@@ -86,12 +86,8 @@ abbrev AreNoGives : List Event → Type 0
 AreNoGives = AllByRecursion IsNoGive
 
 no_give : (es : List Event) (e : Event) → IsNoGive e → GivesUsably es e
-no_give es (Event.Deed k p d) is = tt
-no_give es (Event.Back k p) is = tt
-no_give es (Event.Unback k p e) is = tt
 no_give es (Event.Give k block) is = absurd is
-no_give es (Event.End k name e) is = tt
-no_give es (Event.Reject k name why) is = tt
+no_give es e is = tt
 
 all_usable : (f : Profile) (evs es : List Event) → Run f (evs ++ es) → AreNoGives evs → AreBlocksUsable es → AreBlocksUsable (evs ++ es)
 all_usable f [] es run none usable = usable
@@ -104,13 +100,9 @@ steps_usable f k steps l valid legal none usable =
     subst AreBlocksUsable (sym (visible_steps k steps l)) (all_usable f (events_by k (part k l) steps) (visible l) (subst (Run f) (visible_steps k steps l) (runs f (triples k steps ++ l) valid legal)) none usable)
 
 -- ---- flushes
-entry_gives : (k epoch : ℕ) (entry : Entry) (o : TheEnd) → IsNoGive (event_for k epoch entry o)
-entry_gives k epoch entry (Ended grains) = tt
-entry_gives k epoch entry (Refused read) = tt
-
 shown_gives : (k epoch : ℕ) (settled : List Settled) → AreNoGives (map (shown_for k epoch) settled)
 shown_gives k epoch [] = tt
-shown_gives k epoch (s ∷ settled) = (entry_gives k epoch s.entry s.outcome, shown_gives k epoch settled)
+shown_gives k epoch (s ∷ settled) = search (arith, shown_gives k epoch settled)
 
 flush_gives : (k : ℕ) (logged : List Entry) (noted noted' : List EndedRun) (steps : List Made) (v : View) → EmptiesLog k logged noted noted' steps
     → AreNoGives (events_by k v steps)
@@ -137,13 +129,9 @@ stop_gives k c c' steps v h =
     subst AreNoGives (sym (ap (events_by k v) h.steps_are ∙ (events_append k h.stopped h.flushed v ∙ ap (λ (es : List Event). es ++ events_by k v h.flushed) (h.silent (h.flushed ++ v))))) (flush_gives k c.log c.noted c'.noted h.flushed v h.empties)
 
 -- ---- a pass
-one_unback : (k epoch page : ℕ) (o : Outcome) → AreNoGives (unback_of k epoch page o)
-one_unback k epoch page TheOutcome.Unbacked = (tt, tt)
-one_unback k epoch page o = tt
-
 unbacks_give : (k epoch : ℕ) (pairs : List (ℕ × Outcome)) → AreNoGives (unbacks_in k epoch pairs)
 unbacks_give k epoch [] = tt
-unbacks_give k epoch (p ∷ pairs) = all_both IsNoGive (unback_of k epoch p.0 p.1) (unbacks_in k epoch pairs) (one_unback k epoch p.0 p.1) (unbacks_give k epoch pairs)
+unbacks_give k epoch (p ∷ pairs) = search (arith, unbacks_give k epoch pairs)
 
 -- ---- a request
 preparing_none : (d : Directory) (e : Event) → IsPreparing d e → IsNoGive e
@@ -165,8 +153,7 @@ placed_usable f shared size align route block g e placed room of = search (arith
 kind_known : (f : Profile) (shared : Bool) (size align : ℕ) (route : Route) → route_in f size align ≡ route → IsKind (kind_of_route shared route)
 kind_known f true size align (Route.Class class) e = tt
 kind_known f false size align (Route.Class class) e = class_known f.classes size align class (class_suits f.classes size align class e)
-kind_known f shared size align Route.Bitfit e = tt
-kind_known f shared size align Route.Large e = tt
+kind_known f shared size align route e = tt
 
 refusal_gives : (route : Route) (d : Directory) (es : List Event) → RefusalEnds route d es → AreNoGives es
 refusal_gives route d es h = search (arith, all_map, deed_none)
@@ -219,20 +206,26 @@ remade_usable : (f : Profile) (k name size align : ℕ) (meant : Option (Option 
 remade_usable f k name size align meant p a valid legal h usable = search (arith, replaced_usable)
 
 -- ---- the acts
-operation_usable : (f : Profile) (k : ℕ) (what : What) (p : Progress) (a : Answer) → IsValid f → Legal f (triples k a.steps ++ p.list)
-    → IsAnswered f k what (having p.names (part k p.list) (p.caches k)) a → HasUsableBlocks p → AreBlocksUsable (visible (triples k a.steps ++ p.list))
-operation_usable f k (What.Alloc name heap size align) p a valid legal h usable = by_answer f k heap size align p.list a.steps valid legal usable h.answer h.ends
-operation_usable f k (What.Guarded keeper name heap size align) p a valid legal h usable = by_answer f k heap size align p.list a.steps valid legal usable h.answer h.ends
-operation_usable f k (What.Free name) p a valid legal h usable = steps_usable f k a.steps p.list valid legal (named_gives f k (p.caches k) a.cache name None (standing_for p.names name) a.steps a.said (part k p.list) h.0) usable
-operation_usable f k (What.FreeSized name room) p a valid legal h usable = steps_usable f k a.steps p.list valid legal (named_gives f k (p.caches k) a.cache name (Some room) (standing_for p.names name) a.steps a.said (part k p.list) h.0) usable
-operation_usable f k (What.Raw block) p a valid legal h usable = steps_usable f k a.steps p.list valid legal (freed_gives f k (p.caches k) a.cache (entry_of block) a.steps a.said (part k p.list) h.0) usable
-operation_usable f k (What.RawSized room block) p a valid legal h usable = steps_usable f k a.steps p.list valid legal (freed_gives f k (p.caches k) a.cache (sized_entry block room) a.steps a.said (part k p.list) h.0) usable
-operation_usable f k (What.Remake name old heap size align) p a valid legal h usable = remade_usable f k name size align (standing_for p.names old) p a valid legal h usable
-operation_usable f k What.Flush p a valid legal h usable = steps_usable f k a.steps p.list valid legal (flush_gives k (p.caches k).log (p.caches k).noted a.cache.noted a.steps (part k p.list) h.0.empties) usable
-operation_usable f k What.Stop p a valid legal h usable = steps_usable f k a.steps p.list valid legal (stop_gives k (p.caches k) a.cache a.steps (part k p.list) h.0) usable
-operation_usable f k (What.Tick e) p a valid legal h usable = absurd h
-operation_usable f k What.Pass p a valid legal h usable = absurd h
-operation_usable f k (What.Idle n) p a valid legal h usable = absurd h
+module _ (f : Profile) (k : ℕ) (p : Progress) (a : Answer) (valid : IsValid f) (legal : Legal f (triples k a.steps ++ p.list)) (usable : HasUsableBlocks p)
+  where
+    abbrev own : View
+    own = part k p.list
+
+    -- an operation that gives no block
+    idle_usable : AreNoGives (events_by k own a.steps) → AreBlocksUsable (visible (triples k a.steps ++ p.list))
+    idle_usable none = steps_usable f k a.steps p.list valid legal none usable
+
+    operation_usable : (what : What) → IsAnswered f k what (having p.names own (p.caches k)) a → AreBlocksUsable (visible (triples k a.steps ++ p.list))
+    operation_usable (What.Alloc name heap size align) h = by_answer f k heap size align p.list a.steps valid legal usable h.answer h.ends
+    operation_usable (What.Guarded keeper name heap size align) h = by_answer f k heap size align p.list a.steps valid legal usable h.answer h.ends
+    operation_usable (What.Free name) h = idle_usable (named_gives f k (p.caches k) a.cache name None (standing_for p.names name) a.steps a.said own h.0)
+    operation_usable (What.FreeSized name room) h = idle_usable (named_gives f k (p.caches k) a.cache name (Some room) (standing_for p.names name) a.steps a.said own h.0)
+    operation_usable (What.Raw block) h = idle_usable (freed_gives f k (p.caches k) a.cache (entry_of block) a.steps a.said own h.0)
+    operation_usable (What.RawSized room block) h = idle_usable (freed_gives f k (p.caches k) a.cache (sized_entry block room) a.steps a.said own h.0)
+    operation_usable (What.Remake name old heap size align) h = remade_usable f k name size align (standing_for p.names old) p a valid legal h usable
+    operation_usable What.Flush h = idle_usable (flush_gives k (p.caches k).log (p.caches k).noted a.cache.noted a.steps own h.0.empties)
+    operation_usable What.Stop h = idle_usable (stop_gives k (p.caches k) a.cache a.steps own h.0)
+    operation_usable what h = absurd h
 
 -- ---- the acts of keepers
 -- a sweep makes no event
@@ -275,14 +268,11 @@ guarded_usable f keeper op (Some r) p p' valid legal is usable =
 pub act_usable : (f : Profile) (act : Act) → KeepsUsable f act
 act_usable f (Act.MarksPhase n) p p' valid before after is usable = subst HasUsableBlocks (sym is) usable
 act_usable f Act.MarksClose p p' valid before after is usable = subst HasUsableBlocks (sym is) usable
-act_usable f (Act.Wakes k) p p' valid before after is usable = subst HasUsableBlocks (sym is.1) usable
 act_usable f (Act.Operates op) p p' valid before after is usable =
-    subst HasUsableBlocks (sym is.2) (operation_usable f op.actor op.what p is.0 valid (subst (λ (q : Progress). Legal f q.list) is.2 after.legal) is.1 usable)
+    subst HasUsableBlocks (sym is.2) (operation_usable f op.actor p is.0 valid (subst (λ (q : Progress). Legal f q.list) is.2 after.legal) usable op.what is.1)
 act_usable f (Act.Guards keeper op) p p' valid before after is usable = guarded_usable f keeper op (request_in op.what) p p' valid after.legal is usable
 act_usable f (Act.Settles k) p p' valid before after is usable = subst HasUsableBlocks (sym is) usable
-act_usable f (Act.Ticks asked) p p' valid before after is usable = subst HasUsableBlocks (sym is.1) usable
 act_usable f Act.MakesPass p p' valid before after is usable = search (arith, steps_usable, unbacks_give)
-act_usable f Act.ReadsEpoch p p' valid before after is usable = subst HasUsableBlocks (sym is.1) usable
 act_usable f (Act.StopsIdle k n) p p' valid before after is usable = elim is [
   | inl h ↦ subst HasUsableBlocks (sym h.4) (steps_usable f k h.1 p.list valid (subst (λ (q : Progress). Legal f q.list) h.4 after.legal) (stop_gives k (p.caches k) h.2 h.1 (part k p.list) h.3) usable)
   | inr h ↦ subst HasUsableBlocks (sym h.1) usable
@@ -291,3 +281,4 @@ act_usable f (Act.Ends k) p p' valid before after is usable =
     subst HasUsableBlocks (sym is.3) (steps_usable f k is.0 p.list valid (subst (λ (q : Progress). Legal f q.list) is.3 after.legal) (stop_gives k (p.caches k) is.1 is.0 (part k p.list) is.2) usable)
 act_usable f (Act.Lowers keeper) p p' valid before after is usable =
     subst HasUsableBlocks (sym is.3) (sweep_usable f keeper true (p.books keeper) [] is.1 is.0 p.list valid (subst (λ (q : Progress). Legal f q.list) is.3 after.legal) is.2.sweep usable)
+act_usable f act p p' valid before after is usable = subst HasUsableBlocks (sym is.1) usable

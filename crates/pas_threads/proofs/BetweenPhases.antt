@@ -19,7 +19,7 @@ use Rattle.pas_answers.specs.{Reaching.Reaches, Replays.at_start, Phases.AreInPh
 use Rattle.pas_answers.specs.Stages.{itself, Stage, stage, one_by_one, phase_stages, stages_from, stages_of}
 use Rattle.pas_answers.specs.Ways.{OnThreads, AreSpoken, by_actors, arranged, records_by}
 use Rattle.pas_answers.proofs.{OwnRecords.records_both as said_both, OwnRecords.spoken_both, Reached.reach_both}
-use Rattle.pas_acts.proofs.{ActsLeft.acts_left, ActsLeft.close_left, ActsLeft.first_phase, ActsLeft.other_phase}
+use Rattle.pas_acts.proofs.ActsLeft.{acts_left, close_left, first_phase, other_phase}
 use Rattle.pas_acts.proofs.{Arranging.are_arranged, AtDesk.rests_still, AtDesk.sits_still}
 use Rattle.pas_acts.specs.NameBooks.{NamesAt, requests_in, room_for, Requests}
 use Rattle.pas_acts.specs.declared.names.NameBook.{NameBook}

@@ -10,12 +10,12 @@ use Rattle.pas_shared.specs.declared.{bench.Bench.Bench, bench_desk.BenchDesk.Be
 use Rattle.pas_shared.proofs.Benching.{row_tells}
 use Rattle.pas_trace.specs.Acts.{Act, StopsIdle, idle_stops, ReadsEpoch, acts_of_chore, acts_of_work, acts_of_op, scavenger_acts}
 use Rattle.pas_answers.specs.{Answers.Progress, Answers.Caches, Ways.EachOf, Ways.records_by, Fit.costs_of, Fit.cost_of_act, Fit.unbacks_of_act}
-use Rattle.pas_answers.proofs.{OwnRecords.records_both, OwnRecords.none_by, OwnRecords.all_by}
+use Rattle.pas_answers.proofs.OwnRecords.{records_both, none_by, all_by}
 use Rattle.pas_steps.specs.{Lists.Whole, Lists.part, Desks.Standing}
 use Rattle.pas_steps.proofs.Parts.{part_of_others}
 use Rattle.pas_acts.specs.{Works.Later, Keepers.StandsStill}
 use Rattle.pas_acts.specs.AtDesks.{told_if, for_act, HasRoomAt, ScavengerActs}
-use Rattle.pas_acts.proofs.{AtDesk.sits_still, AtDesk.sits_for}
+use Rattle.pas_acts.proofs.AtDesk.{sits_still, sits_for}
 use Rattle.pas_threads.specs.Turns.{AreDistinct, Came, Pushed, Told, TookNoPart}
 use Rattle.pas_threads.specs.Lent.{Shift, number_in, standing_at, AreBeside, SitsLent, IsDeskAt, StopsLent, StoppedLent}
 use Rattle.pas_threads.specs.declared.workers.Worker.{Worker}

@@ -9,7 +9,7 @@ use Rattle.pas_cache.specs.Caches.{cached}
 use Rattle.pas_shared.specs.Ruled.{IsEarlier}
 use Rattle.pas_shared.specs.declared.{region.SharedRegion.SharedRegion, pass.SharedPass.SharedPass}
 use Rattle.pas_answers.specs.{Answers.Progress, Stages.Stage, Stages.one_by_one}
-use Rattle.pas_acts.proofs.{ActsLeft.number_next, ActsLeft.number_last}
+use Rattle.pas_acts.proofs.ActsLeft.{number_next, number_last}
 use Rattle.pas_threads.specs.Pairs.{no_more, HasKeeper, AreGuarded, IsButKeeper, KeeperLowered, MayLower}
 use Rattle.pas_threads.specs.Sessions.{Session, evenly, AreResting, StandSo, WentBy}
 use Rattle.pas_threads.specs.Settling.{PassStands, ActorsStand, StoppedSo, LoweredSo}

@@ -17,10 +17,10 @@ use Rattle.pas_shared.specs.declared.{pass.SharedPass.SharedPass, region.SharedR
 use Rattle.pas_shared.proofs.Benching.{among_only, among_picked, row_tells, stands_first}
 use Rattle.pas_trace.specs.Acts.{Act, StopsIdle}
 use Rattle.pas_answers.specs.Answers.{Progress}
-use Rattle.pas_answers.proofs.{Reached.goes_on}
+use Rattle.pas_answers.proofs.Reached.{goes_on}
 use Rattle.pas_report.specs.declared.record.Record.{Record}
 use Rattle.pas_acts.specs.{Works.Later, Turns.RestsAt, Keepers.StandsStill, AtDesks.here, AtDesks.told_if, AtDesks.ThreadActs}
-use Rattle.pas_acts.proofs.{AtDesk.rests_still}
+use Rattle.pas_acts.proofs.AtDesk.{rests_still}
 use Rattle.pas_threads.specs.{Hands.standing_of_pass, Left.crew_in, Left.KeepsOrder, Sessions.WorkerHas, Scavengers.CrewHasLeft, Turns.Pushed, Turns.Told}
 use Rattle.pas_threads.specs.Lent.{Shift, number_in, IsLent, AreLent, SitsAmong, standing_among, standing_at, home_at, WorkerSits, SitsLent, AreOfCrew, TellAs}
 use Rattle.pas_threads.specs.Lent.{IsButPlace, HasSeat, AreSeated, IsDeskAt, StopsLent, MayLeave, HasLeave, MayLeaveAll, HaveLeave}

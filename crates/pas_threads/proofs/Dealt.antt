@@ -8,7 +8,7 @@ use Rattle.pas_bits.specs.Masks.{is_set}
 use Rattle.pas_bits.specs.declared.mask.Mask4.{Mask4}
 use Rattle.pas_trace.specs.declared.plan.Op.{Op}
 use Rattle.pas_trace.specs.Acts.{is_active, numbers_from, idle_threads}
-use Rattle.pas_acts.proofs.{ActsLeft.threads_alike}
+use Rattle.pas_acts.proofs.ActsLeft.{threads_alike}
 use Rattle.pas_threads.specs.Dealing.{picked, count_of, is_in, is_out, AreDealt, AreSized}
 use Rattle.pas_threads.specs.{Turns.AreDistinct, Pairs.MayDoPhase, Pairs.DidPhase, Scavengers.MayScavenge, Scavengers.DidScavenge, Acting.MayAct, Acting.DidAct}
 use Rattle.pas_threads.specs.{Acting.DidEach}

@@ -18,9 +18,9 @@ use Rattle.pas_shared.specs.{Ledgers.EndsAfter, Passes.seat_of, Passes.view_of, 
 use Rattle.pas_shared.specs.declared.{pass.SharedPass.SharedPass, region.SharedRegion.SharedRegion}
 use Rattle.pas_answers.specs.{Answers.Progress, Fit.AreOfThreads, Ways.OnThreads, Stages.stages_of, Stages.GoByStages}
 use Rattle.pas_answers.specs.Replays.{phases_of, region_of, threads_of, acts_of_plan, at_start, Shows}
-use Rattle.pas_answers.proofs.{Consequences.replays}
+use Rattle.pas_answers.proofs.Consequences.{replays}
 use Rattle.pas_trace.proofs.Keepers.{plan_actors}
-use Rattle.pas_acts.proofs.{PlanFacts.no_slots}
+use Rattle.pas_acts.proofs.PlanFacts.{no_slots}
 use Rattle.pas_steps.proofs.Nothing.{nothing_yet}
 use Rattle.pas_threads.specs.Hands.{HasPass}
 use Rattle.pas_threads.specs.Sessions.{Session, TeamAt, IsOfActors, HasReplayed}

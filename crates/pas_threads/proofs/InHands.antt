@@ -7,7 +7,7 @@ use Rattle.pas_trace.specs.Acts.{is_active, numbers_from, idle_threads}
 use Rattle.pas_trace.specs.declared.plan.Op.{Op}
 use Rattle.pas_shared.specs.Ruled.{among}
 use Rattle.pas_acts.specs.Shares.{owner_in, thread_in}
-use Rattle.pas_acts.proofs.{PhaseActs.own_thread, PhaseActs.owner_of}
+use Rattle.pas_acts.proofs.PhaseActs.{own_thread, owner_of}
 use Rattle.pas_threads.specs.Left.{keeper_actors, pair_in, crew_in}
 use Rattle.pas_threads.specs.declared.keeper.Keeper.{Keeper}
 use Rattle.pas_threads.proofs.{KeptPhases.kept_hands, Performed.owned_by}

@@ -15,7 +15,7 @@ use Rattle.pas_shared.specs.{Ruled.IsEarlier, Passes.seat_of, Passes.view_of, Pa
 use Rattle.pas_shared.specs.declared.{region.SharedRegion.SharedRegion, pass.SharedPass.SharedPass}
 use Rattle.pas_acts.specs.Pairs.{KeeperWaits}
 use Rattle.pas_answers.specs.{Answers.Progress, Reaching.Reaches, Phases.StandFirst, Phases.AtMark, Phases.AreInPhases}
-use Rattle.pas_answers.proofs.{Reached.reach_both}
+use Rattle.pas_answers.proofs.Reached.{reach_both}
 use Rattle.pas_threads.specs.{Hands.HasPass, Settling.StandsIn, Settling.PassStands, Settling.ActorsStand}
 use Rattle.pas_threads.specs.Pairs.{no_more, kept_by_worker, AreGuarded, IsKeeperOf}
 use Rattle.pas_threads.specs.Sessions.{Session, TeamAt, IsOfActors, StandSo}

@@ -15,7 +15,7 @@ use Rattle.pas_trace.specs.Asked.{keeper_in}
 use Rattle.pas_trace.specs.Acts.{Act, Settles, Lowers, act_kept, numbers_from, own_acts}
 use Rattle.pas_trace.specs.declared.plan.Op.{Op}
 use Rattle.pas_answers.specs.{Answers.Progress, Keeping.owed_by_keeper, Ways.is_of, Ways.records_by}
-use Rattle.pas_answers.proofs.{OwnRecords.records_both, OwnRecords.all_by, OwnRecords.none_by, OwnRecords.spoken_piece, OwnRecords.spoken_both}
+use Rattle.pas_answers.proofs.OwnRecords.{records_both, all_by, none_by, spoken_piece, spoken_both}
 use Rattle.pas_answers.proofs.{Reached.reach_both, EachAct.all_front, EachAct.all_back}
 use Rattle.pas_acts.specs.Keepers.{LaterKept, Keeping, NoKeeper, OneKeeper, KeeperAt, KeeperLowers, HasStill, keeper_has}
 use Rattle.pas_acts.specs.Pairs.{for_guard, for_guards, IsTriedBy, AreTriedBy, IsUnguarded, AreUnguarded, KeeperWaits, EachOfTwo, KeptPushed, KeptStill}

@@ -8,7 +8,7 @@ use Rattle.pas_trace.specs.Acts.{Act, own_acts}
 use Rattle.pas_trace.specs.declared.plan.Op.{Op}
 use Rattle.pas_answers.specs.{Answers.Progress, Ways.records_by}
 use Rattle.pas_acts.specs.{Shares.owner_in, Keepers.Keeping, Keepers.NoKeeper, Keepers.OneKeeper}
-use Rattle.pas_acts.proofs.{PhaseActs.own_thread, PhaseActs.kept_thread, PhaseActs.owner_of}
+use Rattle.pas_acts.proofs.PhaseActs.{own_thread, kept_thread, owner_of}
 use Rattle.pas_acts.specs.Pairs.{for_guards, KeeperWaits, KeptPushed, KeptStill}
 use Rattle.pas_threads.specs.Pairs.{kept_by_worker, IsSilent, no_more, KeeperRests, said_by_keeper, AreGuarded}
 use Rattle.pas_threads.specs.{Performing.Round, Performing.ThreadDone, Turns.HasSaid}

@@ -15,7 +15,7 @@ use Rattle.pas_guard.specs.declared.book.GuardBook.{GuardBook}
 use Rattle.pas_shared.specs.declared.pass.SharedPass.{SharedPass}
 use Rattle.pas_answers.specs.Replays.{threads_of, keepers_of}
 use Rattle.pas_acts.specs.PlanKeepers.{one_guarded, guarded_of, AreBooks}
-use Rattle.pas_acts.proofs.{PlanFacts.is_guarded}
+use Rattle.pas_acts.proofs.PlanFacts.{is_guarded}
 use Rattle.pas_threads.specs.Kits.{IsEquipped, AreEquipped, IsKeeperWith, AreKeepers, IsAlone, HasRoomForKeeper, HaveKeepers, with_keeper}
 use Rattle.pas_threads.specs.Pairs.{AreGuarded, IsButKeeper}
 use Rattle.pas_threads.specs.declared.{keeper.Keeper.Keeper, workers.Worker.Worker}

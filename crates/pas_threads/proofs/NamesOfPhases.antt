@@ -7,7 +7,7 @@ use Rattle.pas_profile.specs.declared.{name.Block.Block, profile.Profile.Profile
 use Rattle.pas_trace.specs.EveryPlan.{is_asked, asked_with, asked_after, asked_by, AreSound, IsActorOf}
 use Rattle.pas_answers.specs.{Answers.Named, Answers.standing_for, Answers.Progress, Names.block_named, Names.names_held, Fit.IsBelow, Fit.AreBelow}
 use Rattle.pas_answers.specs.{Fit.KeepsAbove}
-use Rattle.pas_answers.proofs.{EachAct.all_back}
+use Rattle.pas_answers.proofs.EachAct.{all_back}
 use Rattle.pas_acts.specs.NameBooks.{requests_in, room_for, names_of, came_to, known_in, Requests, name_asked, names_asked, AreWithin, NamesAt}
 use Rattle.pas_acts.specs.declared.names.NameBook.{NameBook}
 use Rattle.pas_threads.specs.declared.workers.Worker.{Worker}

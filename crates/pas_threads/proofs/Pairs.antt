@@ -29,7 +29,7 @@ use Rattle.pas_threads.specs.Seats.{PairSits, PairRose, IsAnother, KeeperSits}
 use Rattle.pas_threads.specs.declared.{keeper.Keeper.Keeper, keeper.Seated.Seated, workers.Worker.Worker}
 use Rattle.pas_threads.proofs.Benched.{has_seat, member_seat, sat, sits_as, looked_made, looked_fresh, still_sits, left_fresh, left_made, left_sits}
 use Rattle.pas_threads.proofs.Benched.{keeps_order}
-use Rattle.pas_answers.proofs.{Reached.goes_on}
+use Rattle.pas_answers.proofs.Reached.{goes_on}
 
 -- ---- both sit down
 seated_beside : (region : SharedRegion) (keeper : Option Keeper) (seated : Option Seated) (b now : Bench) (r : Row) (rs : List Row) → IsSameKeeper keeper seated

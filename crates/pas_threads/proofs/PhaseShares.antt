@@ -14,12 +14,12 @@ use Rattle.pas_cache.specs.Caches.{Cached, cached}
 use Rattle.pas_utility.specs.Outcomes.{places_of}
 use Rattle.pas_answers.specs.{Answers.Progress, Answers.Named, Calls.owed_events, Calls.OnlyAsked, Fit.costs_of, Fit.own_costs_of, Fit.AreFit, Names.names_held}
 use Rattle.pas_answers.specs.{Reaching.Reaches, Ways.records_by}
-use Rattle.pas_answers.proofs.{OwnRecords.records_both as said_both}
+use Rattle.pas_answers.proofs.OwnRecords.{records_both as said_both}
 use Rattle.pas_acts.specs.{Keepers.LaterKept, Pairs.for_guards, Pairs.KeeperWaits}
 use Rattle.pas_acts.proofs.{ActsOfPlan.idle_few, ActsOfPlan.ops_fit, Weaving.weave, AtDesk.rests_still, AtDesk.sits_still, AtDesk.sits_for}
 use Rattle.pas_acts.proofs.{NamesBefore.sound_front}
 use Rattle.pas_acts.specs.Shares.{Owners, acts_by, owner_in, AreKeptBehind, IsShareOf, IsWoven}
-use Rattle.pas_acts.proofs.{PhaseActs.acts_are_shared, PhaseActs.zero_own, PhaseActs.own_thread, PhaseActs.owner_of}
+use Rattle.pas_acts.proofs.PhaseActs.{acts_are_shared, zero_own, own_thread, owner_of}
 use Rattle.pas_acts.specs.NameBooks.{NamesAt, requests_in, room_for, names_of, known_in, Requests}
 use Rattle.pas_acts.specs.declared.names.NameBook.{NameBook}
 use Rattle.pas_threads.specs.Pairs.{no_more, KeeperRests, said_by_keeper, owed_kept, kept_by_worker}

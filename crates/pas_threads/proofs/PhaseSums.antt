@@ -10,8 +10,8 @@ use Rattle.pas_report.specs.declared.record.Record.{Record}
 use Rattle.pas_trace.specs.Acts.{Act, MakesPass, Settles, act_kept, acts_of_op, own_acts, scavenger_acts}
 use Rattle.pas_answers.specs.{Answers.Progress, Ways.records_by, Ways.by_actors}
 use Rattle.pas_answers.specs.Fit.{cost_of_work, cost_of_what, cost_of_act, costs_of, own_cost_of_act, own_costs_of}
-use Rattle.pas_answers.proofs.{SingleActs.sum_both}
-use Rattle.pas_acts.proofs.{ActsOfPlan.work_costs}
+use Rattle.pas_answers.proofs.SingleActs.{sum_both}
+use Rattle.pas_acts.proofs.ActsOfPlan.{work_costs}
 use Rattle.pas_threads.specs.Pairs.{said_by_keeper, owed_kept, keeper_at, owed_by_keepers, AreGuarded}
 use Rattle.pas_threads.specs.Sessions.{owed_by}
 use Rattle.pas_threads.specs.Turns.{owed_at, said_by, said_kept, said_by_keepers}

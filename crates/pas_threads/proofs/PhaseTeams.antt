@@ -17,7 +17,7 @@ use Rattle.pas_report.specs.Rooms.{records_in, room_of, Records}
 use Rattle.pas_report.specs.declared.record.Record.{Record}
 use Rattle.pas_trace.specs.Acts.{Act, own_acts, idle_threads, acts_of_ops, Wakes, is_active, numbers_from, active_threads, phase_acts}
 use Rattle.pas_answers.specs.{Answers.Progress, Fit.own_costs_of, Names.names_held, Reaching.Reaches, Ways.records_by, Ways.by_actors}
-use Rattle.pas_answers.proofs.{Reached.reach_both}
+use Rattle.pas_answers.proofs.{Reached.reach_both, EachAct.all_back}
 use Rattle.pas_acts.specs.Awake.{awake_in}
 use Rattle.pas_acts.proofs.{ActsLeft.threads_alike, NamesBefore.below_front, PhaseActs.kept_thread, PhaseActs.owner_of}
 use Rattle.pas_acts.specs.Shares.{acts_by, owner_in, thread_in, IsWoven}
@@ -40,7 +40,6 @@ use Rattle.pas_threads.proofs.ReadyPhases.{HasBegun, round_of, room_is, active_f
 use Rattle.pas_threads.proofs.PhaseShares.{WorkerShare, ScavengerShare, same_part, phase_woven, has_said, kept_said, pair_paid, kept_away, rests_after}
 use Rattle.pas_threads.proofs.PhaseShares.{kept_rests, kept_alike, kept_owes, handed, scavenger_said, scavenger_paid, scavenger_after, nobody_after}
 use Rattle.pas_threads.proofs.PhaseShares.{scavenger_own}
-use Rattle.pas_answers.proofs.EachAct.{all_back}
 
 in_four : (a b c d : List Record) → ((a ++ b) ++ c) ++ d ≡ a ++ (b ++ (c ++ d))
 in_four a b c d = append_assoc (a ++ b) c d ∙ append_assoc a b (c ++ d)

@@ -9,7 +9,7 @@ use Rattle.pas_trace.specs.Acts.{Act}
 use Rattle.pas_shared.specs.Ruled.{IsEarlier}
 use Rattle.pas_answers.specs.{Answers.Progress, Reaching.Reaches}
 use Rattle.pas_answers.specs.Stages.{Owners, itself, in_hands, AreSorted, Stage, stage, one_by_one}
-use Rattle.pas_answers.proofs.{Reached.goes_on, Reached.both_by_stages}
+use Rattle.pas_answers.proofs.Reached.{goes_on, both_by_stages}
 use Rattle.pas_threads.specs.Left.{KeepsOrder}
 use Rattle.pas_threads.specs.Sessions.{Session, IsOfActors, StandSo, WentBy}
 use Rattle.pas_threads.proofs.InPhases.{earlier_both, none_first}

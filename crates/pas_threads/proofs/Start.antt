@@ -24,7 +24,7 @@ use Rattle.pas_answers.specs.{Calls.owed_events, Names.names_held}
 use Rattle.pas_answers.specs.Replays.{at_start, phases_of, region_of, threads_of, keepers_of}
 use Rattle.pas_acts.specs.{PlanKeepers.one_guarded, PlanKeepers.guarded_of, Parts.AreRooms, Shares.AreKeptBehind, Keepers.LaterKept, Keepers.KeeperAt}
 use Rattle.pas_acts.specs.{Keepers.keeper_has, Pairs.for_guards, Pairs.AreTriedBy, Pairs.AreUnguarded}
-use Rattle.pas_acts.proofs.{PlanFacts.is_guarded, PlanFacts.pages_owed_at_first, PlanFacts.plan_threads, PlanFacts.plan_above, PlanFacts.wider_sound}
+use Rattle.pas_acts.proofs.PlanFacts.{is_guarded, pages_owed_at_first, plan_threads, plan_above, wider_sound}
 use Rattle.pas_acts.proofs.{Naming.below_all, PhaseActs.active_within, NamesBefore.names_at_start}
 use Rattle.pas_steps.proofs.Nothing.{nothing_yet}
 use Rattle.pas_threads.specs.Hands.{standing_of_pass}

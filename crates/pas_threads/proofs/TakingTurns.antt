@@ -8,19 +8,19 @@ use Rattle.pas_report.specs.Rooms.{records_in, Records, room_of}
 use Rattle.pas_report.specs.declared.record.Record.{Record}
 use Rattle.pas_trace.specs.Acts.{Act, Wakes, Ends, numbers_from}
 use Rattle.pas_answers.specs.{Answers.Progress, Ways.EachOf, Ways.records_by, Calls.owed_events, Fit.own_cost_of_act}
-use Rattle.pas_answers.proofs.{OwnRecords.records_both, OwnRecords.none_by, OwnRecords.all_by, OwnRecords.spoken_piece, OwnRecords.spoken_both}
+use Rattle.pas_answers.proofs.OwnRecords.{records_both, none_by, all_by, spoken_piece, spoken_both}
 use Rattle.pas_acts.specs.{Keepers.StandsStill, Works.Later, Works.Sits, NameBooks.requests_in, NameBooks.room_for, Awake.awake_in, AtDesks.here}
 use Rattle.pas_acts.specs.{AtDesks.ThreadActs}
-use Rattle.pas_acts.proofs.{AtDesk.leaves_rest, AtDesk.sits_for, AtDesk.rests_still}
+use Rattle.pas_acts.proofs.AtDesk.{leaves_rest, sits_for, rests_still}
 use Rattle.pas_shared.specs.declared.{region.SharedRegion.SharedRegion, pass.SharedPass.SharedPass}
-use Rattle.pas_answers.proofs.{Reached.reach_both}
+use Rattle.pas_answers.proofs.Reached.{reach_both}
 use Rattle.pas_threads.specs.Turns.{AreDistinct, Came, Pushed, Told, TookNoPart, Turn, TookTurns, owed_at, IsDue, Woke, WokeAll, Stopped, said_by}
 use Rattle.pas_threads.specs.declared.workers.Worker.{Worker}
 use Rattle.std.specs.List.{filter}
 use Rattle.pas_bits.specs.Masks.{is_set}
 use Rattle.pas_bits.specs.declared.mask.Mask4.{Mask4}
 use Rattle.pas_cache.specs.Caches.{Cached, cached, AtRest}
-use Rattle.pas_acts.proofs.{ActsLeft.acts_there, ActsLeft.next_chosen, ActsLeft.next_passed, ActsLeft.none_left}
+use Rattle.pas_acts.proofs.ActsLeft.{acts_there, next_chosen, next_passed, none_left}
 use Rattle.pas_threads.specs.Hands.{standing_of_pass}
 use Rattle.pas_threads.specs.Sessions.{evenly, WorkerHas, WorkerRests, AreResting}
 

@@ -1,5 +1,5 @@
 -- Logged frees.
-use Rattle.pas_same_text.proofs.{EntryEvents.entry_shown, Flushes.flush_shown}
+use Rattle.pas_same_text.proofs.Flushes.{entry_shown, flush_shown}
 use Rattle.pas_same_text.proofs.laws.logged_frees_show_the_same.Goals as goal
 
 pub returns-clause-one : goal.returns-clause-one

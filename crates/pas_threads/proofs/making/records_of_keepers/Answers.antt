@@ -2,7 +2,7 @@ use Rattle.std.proofs.Common.{◌≡◌, ◌<◌, ◌+◌, ◌*◌, ℕ, suc, mi
 use Rattle.pas_trace.specs.Plans.{bounds_of}
 use Rattle.pas_trace.proofs.Keepers.{plan_actors}
 use Rattle.pas_answers.specs.Replays.{threads_of, keepers_of}
-use Rattle.pas_acts.proofs.{PlanFacts.plan_bounds}
+use Rattle.pas_acts.proofs.PlanFacts.{plan_bounds}
 use Rattle.pas_threads.proofs.MakingKeepers.{keeper_room, rooms_more}
 use Rattle.pas_threads.proofs.making.records_of_keepers.Goals as goal
 

@@ -6,8 +6,8 @@ use Rattle.pas_trace.proofs.Keepers.{keepers_few}
 use Rattle.pas_shared.specs.declared.pass.SharedPass.{SharedPass}
 use Rattle.pas_answers.specs.Names.{names_held}
 use Rattle.pas_answers.specs.Replays.{phases_of, region_of, threads_of, keepers_of}
-use Rattle.pas_acts.proofs.{Naming.all_higher}
-use Rattle.pas_acts.proofs.{PlanFacts.plan_valid, PlanFacts.plan_threads, PlanFacts.plan_bounds, PlanFacts.plan_below}
+use Rattle.pas_acts.proofs.Naming.{all_higher}
+use Rattle.pas_acts.proofs.PlanFacts.{plan_valid, plan_threads, plan_bounds, plan_below}
 use Rattle.pas_threads.specs.Kits.{AreEquipped, IsSupplied, HaveKeepers, HasRoomForKeeper}
 use Rattle.pas_threads.specs.declared.workers.Worker.{Worker}
 use Rattle.pas_threads.proofs.MakingKeepers.{AreGiven, keepers_many, equipped_with, have_keepers}

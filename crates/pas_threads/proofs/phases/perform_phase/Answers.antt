@@ -10,7 +10,7 @@ use Rattle.pas_threads.specs.Sessions.{planned, Session, AreResting, HasPlaces, 
 use Rattle.pas_threads.specs.{Settling.ActorsStand, Taken.IsWithin}
 use Rattle.pas_threads.specs.Turns.{said_own, said_by_all, said_kept, said_by_keepers, IsGathered, IsKeptGathered}
 use Rattle.pas_threads.specs.declared.{phases.Team.Team, scavenger.Scavenger.Scavenger, workers.Worker.Worker}
-use Rattle.pas_acts.proofs.{NamesBefore.sound_front, NamesBefore.below_front}
+use Rattle.pas_acts.proofs.NamesBefore.{sound_front, below_front}
 use Rattle.pas_threads.proofs.{Hearing.first_of, InPhases.team_stands, phases.perform_phase.Given.Over}
 use Rattle.pas_threads.proofs.Gathered.{OwnGathered, KeptGathered, WereTaken, IsScavengerCleared, were_gathered, were_taken, taken_as}
 use Rattle.pas_threads.proofs.ReadyPhases.{HasBegun, settled_team, begun_as, begun_stands, woke_stands}

@@ -3,7 +3,7 @@ use Rattle.std.proofs.lemmas.List.{length-map}
 use Rattle.pas_trace.specs.Plans.{ops_of}
 use Rattle.pas_trace.specs.declared.plan.Phase.{Phase}
 use Rattle.pas_trace.proofs.Keepers.{plan_actors}
-use Rattle.pas_acts.proofs.{PlanFacts.plan_phases, PlanFacts.plan_valid, PlanFacts.plan_operate}
+use Rattle.pas_acts.proofs.PlanFacts.{plan_phases, plan_valid, plan_operate}
 use Rattle.pas_threads.proofs.Start.{session_of, handed}
 use Rattle.pas_threads.proofs.End.{all_back, all_slots, all_of_region, shows, replayed_so}
 use Rattle.pas_threads.proofs.whole.on_threads_with_rooms.Goals as goal

@@ -5,7 +5,7 @@ use Rattle.pas_trace.specs.Plans.{bounds_of}
 use Rattle.pas_trace.proofs.Keepers.{plan_actors}
 use Rattle.pas_shared.specs.declared.pass.SharedPass.{SharedPass}
 use Rattle.pas_shared.proofs.Opened.{fresh_many}
-use Rattle.pas_acts.proofs.{PlanFacts.plan_bounds}
+use Rattle.pas_acts.proofs.PlanFacts.{plan_bounds}
 use Rattle.pas_threads.specs.Kits.{AreNew}
 use Rattle.pas_threads.proofs.Start.{fresh_new, first_taken}
 use Rattle.pas_threads.proofs.kit.SharedKit.made_at.Goals as goal
