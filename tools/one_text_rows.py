@@ -1,5 +1,5 @@
 #!/usr/bin/env python3
-"""Writes rows for the definition of the text of `pas order` (crates/pas_one_text): traces with the records and the
+"""Writes rows for the definition of the text of `pas order` (crates/pas_same_text): traces with the records and the
 report that their transcripts tell, as theorems that the kernel proves by computing. They come to standard output as a
 file for proofs/.
 
@@ -26,11 +26,11 @@ from random_trace import CLASSES, Trace
 TRANSCRIPTS = {".trace": ".transcript", ".in": ".out"}
 
 HEADER = """use Rattle.std.proofs.Common.{◌≡◌, %scodes, refl}
-%suse Rattle.pas_one_text.proofs.Seen.{%s}
+%suse Rattle.pas_same_text.proofs.Seen.{%s}
 """
 KINDS = "use Rattle.pas_profile.specs.declared.directory.Kind.{Kind}\n"
 GRAINS = "use Rattle.pas_report.specs.Reports.{grains_that}\n"
-COUNTS = "use Rattle.pas_one_text.specs.Pages.{each_of}\nuse Rattle.pas_one_text.specs.Passes.{free_bits}\n"
+COUNTS = "use Rattle.pas_same_text.specs.Pages.{each_of}\nuse Rattle.pas_same_text.specs.Passes.{free_bits}\n"
 REASONS = "use Rattle.pas_trace.specs.declared.fault.Reason.{Reason}\n"
 
 

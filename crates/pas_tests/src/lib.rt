@@ -3,7 +3,8 @@
 //! Storms round guards stand beside them: a keeper raises and lowers guards at a plain region, and between its steps
 //! another actor claims, frees, passes and unbacks.
 //!
-//! Sessions of one and two actors at a plain region, storms of one actor among the visits of another, and threads at a shared region, as tests.
+//! So do sessions of one and two actors at a plain region, storms of one actor among the visits of another, and threads
+//! at a shared region.
 #![tactic(auto)]
 
 #[cfg(test)]

@@ -11,7 +11,7 @@ use Rattle.pas_replay.specs.OneThread.{IsOfOneThread}
 use Rattle.pas_same_text.specs.{State.World, Order.order_text, Order.region_of, Order.replay_of}
 use Rattle.pas_telling.specs.Summaries.{summary_text}
 
--- THE TEXT IS THAT OF THE BYTES, as `pas_one_text` says it
+-- THE TEXT IS THAT OF THE BYTES, as `pas_same_text` says it
 abbrev pub IsTextOf : List ℕ → List ℕ → Type 0
 IsTextOf bytes text = order_text bytes ≡ Some text
 
