@@ -1,38 +1,187 @@
--- The first state of the text is that of a replay that did nothing yet, and the text of a state that is the replay's is what is written of it.
-use Rattle.std.proofs.lemmas.{Bool.Decides.nat_tests, Option.none-some, Bool.false≢true}
-use Rattle.std.proofs.Common.{arith, ◌≤◌, ◌≡◌, ℕ, zero, suc, ◌+◌, ◌==◌, Bool, true, false, not, List, [], ◌++◌, length, map, if◌then◌else◌, ◌-◌, codes, Option}
-use Rattle.std.proofs.Common.{None, Some, inl, inr, refl, ap, sym, ◌∙◌, subst, ◌∷◌}
+-- ALL ACTS of a replay: who acts in the replay of a plan, and that what is asked for is admitted; the first state of the text, which is that of a replay that did nothing
+-- yet; and the text of a state that is the replay's, which is what is written of it.
+use Rattle.std.proofs.lemmas.{Bool.Decides.nat_tests, Option.none-some}
+use Rattle.std.proofs.Common.{◌≡◌, ◌≢◌, ℕ, zero, suc, ◌+◌, ◌<◌, ◌≤◌, Bool, List, [], ◌∷◌, ◌++◌, map, Option, Some, MatchOption, sym, arith, not, ◌==◌, true}
+use Rattle.std.proofs.Common.{false, length, if◌then◌else◌, ◌-◌, codes, None, inl, inr, refl, ap, ◌∙◌, subst}
+use Rattle.std.specs.List.{AllByRecursion, filter}
+use Rattle.pas_profile.specs.{Profiles.IsValid, Profiles.IsAdmitted, Requests.route_in, Directories.directory_read}
+use Rattle.pas_profile.specs.declared.{directory.Route.Route, directory.Directory.Directory, event.Event.Event, profile.Profile.Profile, word.Word.Word}
+use Rattle.pas_profile.proofs.{Lists.all_both, Sizes.large_for, Codecs.read-deed_word_of, Codecs.directory_from_profile}
+use Rattle.pas_trace.specs.Acts.{Act, Settles, StopsIdle, Wakes, Ends, Lowers, region_of, threads_of, keepers_of, acts_of_plan, act_kept, is_active}
+use Rattle.pas_trace.specs.Acts.{numbers_from, threads_where, active_threads, idle_threads, acts_of_chore, acts_of_work, acts_of_op, acts_of_ops, phase_acts}
+use Rattle.pas_trace.specs.Acts.{close_acts, acts_from, acts_of}
+use Rattle.pas_trace.specs.Asked.{of_task, request_of, request_in, keeper_of, keeper_in}
+use Rattle.pas_trace.specs.EveryPlan.{all_ops, operations_of, IsActorBy, IsActorOf, IsSoundTask, IsSoundWork, AreSound, AreKept}
+use Rattle.pas_trace.specs.Plans.{IsPlanOf, ops_of}
+use Rattle.pas_trace.specs.declared.{item.Request.Request, plan.Chore.Chore, plan.Op.Op, plan.Plan.Plan, plan.Task.Task, plan.Work.Work}
+use Rattle.pas_trace.proofs.{EveryPlan.every_plan, Keepers.plan_actors}
+use Rattle.pas_same_text.specs.Known.{IsAdmittedWhat, IsGuardedWhat, IsPlanned, ArePlanned, IsCarried, IsKnown, IsKept, AreKnown}
+use Rattle.pas_same_text.specs.{Seats.IsThreadOf, Seats.IsActOf, Seats.AreSeated, Same.IsSame, Same.AreSameCaches, Acts.AreBlocksUsable, Acts.IsBetween}
+use Rattle.pas_same_text.specs.{Acts.IsListed, Told.IsTold}
 use Rattle.pas_bits.proofs.Words.{none_of_zero}
-use Rattle.pas_profile.specs.{Directories.directory_read, Profiles.IsValid}
-use Rattle.pas_profile.specs.declared.{directory.Directory.Directory, event.Event.Event, profile.Profile.Profile, word.Word.Word}
-use Rattle.pas_profile.proofs.Codecs.{read-deed_word_of, directory_from_profile}
 use Rattle.pas_machine.specs.State.{deed_in}
 use Rattle.pas_steps.specs.Lists.{Whole, word_after, visible, Legal}
 use Rattle.pas_core.specs.{Good.word_of_deed, Rights.parked_bit, Rights.IsRightInOnePlace}
 use Rattle.pas_core.proofs.{Deeds.deed_of, Deeds.directory_is_of, Rights.right_in_one_place, OneActor.legal_before}
 use Rattle.pas_report.specs.{Lines.lines_of, Marks.Marked, Marks.marks_after, Marks.offered_after, Rests.AreTrueMarks, Reports.machine_pages}
 use Rattle.pas_report.specs.{Reports.report_text}
-use Rattle.pas_trace.specs.{Acts.numbers_from, Acts.Act, Plans.IsPlanOf}
 use Rattle.pas_answers.specs.{Answers.Progress, Indexes.indexes_after, Indexes.indexes_after_all, Reaching.Reaches, Rests.AreAtRest, Rests.AllAtRest}
 use Rattle.pas_answers.specs.{Ways.InOrder}
 use Rattle.pas_answers.specs.Replays.{at_start, empty_caches, phases_of, region_of, threads_of, keepers_of, acts_of_plan, IsReplay}
 use Rattle.pas_same_text.specs.State.{Cache, World, no_cache, cache_in, each}
 use Rattle.pas_same_text.specs.Order.{opened, acts_on, replayed, order_text}
 use Rattle.pas_same_text.specs.Reports.{offered_by, parked_by, marks_of, text_of}
-use Rattle.pas_same_text.specs.{Same.IsSame, Same.AreSameCaches, Acts.AreBlocksUsable, Acts.IsBetween, Acts.IsListed, Seats.IsActOf, Seats.AreSeated}
-use Rattle.pas_same_text.specs.{Told.IsTold}
-use Rattle.pas_same_text.proofs.{EntrySteps.read_deed, ActsOfPlans.plan_acts, ActsOfPlans.plan_region, SameIndexes.act_many, OneAct.act_same}
-use Rattle.pas_same_text.proofs.{SeatedActs.seated_next, Seats.between_from, SameIndexes.start_indexes, SeatedActs.stamped_kept, UsableBlocks.act_usable}
-use Rattle.pas_same_text.proofs.{TextOfBytes.bytes_told, TextOfBytes.region_same}
+use Rattle.pas_same_text.proofs.{EntrySteps.read_deed, SameIndexes.act_many, SameIndexes.start_indexes, OneAct.act_same, SeatedActs.seated_next}
+use Rattle.pas_same_text.proofs.{SeatedActs.stamped_kept, KeepersRest.between_from, UsableBlocks.act_usable, TextOfBytes.bytes_told, TextOfBytes.region_same}
 use Rattle.pas_large.specs.Doors.{Indexes, no_ranges}
 use Rattle.pas_report.specs.declared.record.Record.{Record}
-use Rattle.pas_trace.specs.declared.plan.Plan.{Plan}
-use Rattle.pas_trace.proofs.Keepers.{plan_actors}
 use Rattle.pas_answers.proofs.Reached.{was_so}
-use Rattle.pas_same_text.specs.Known.{ArePlanned, IsCarried, IsKnown, IsKept, AreKnown}
 
+-- ---- several numbers, and acts of each of several actors
+all_from : (P : ℕ → Type 0) (k n : ℕ) → ((j : ℕ) → k ≤ j → j < k + n → P j) → AllByRecursion P (numbers_from k n)
+all_from P k zero each = tt
+all_from P k (suc n) each = (each k (omega arith) (omega arith), all_from P (k + 1) n (λ j low high. each j (omega (arith, low)) (omega (arith, high))))
+
+all_chosen : (P : ℕ → Type 0) (chosen : ℕ → Bool) (ks : List ℕ) → AllByRecursion P ks → AllByRecursion P (filter chosen ks)
+all_chosen P chosen [] all = tt
+all_chosen P chosen (k ∷ ks) all = let ih = all_chosen P chosen ks all.1 in grind (arith, nat_tests, ih)
+
+one_each : (P : ℕ → Type 0) (Q : Act → Type 0) (to : ℕ → Act) → ((k : ℕ) → P k → Q (to k)) → (ks : List ℕ) → AllByRecursion P ks → AllByRecursion Q (map to ks)
+one_each P Q to each [] all = tt
+one_each P Q to each (k ∷ ks) all = (each k all.0, one_each P Q to each ks all.1)
+
+module _ (plan : Plan) where
+  abbrev IsOwn : ℕ → Type 0
+  IsOwn k = IsThreadOf (threads_of plan) k
+
+  abbrev AreOwn : List Act → Type 0
+  AreOwn acts = ArePlanned (threads_of plan) (region_of plan) acts
+
+  all_own : AllByRecursion IsOwn (numbers_from 1 (threads_of plan))
+  all_own = all_from IsOwn 1 (threads_of plan) (λ j low high. (low, omega (arith, high)))
+
+  own_where : (chosen : ℕ → Bool) → AllByRecursion IsOwn (threads_where chosen (threads_of plan))
+  own_where chosen = all_chosen IsOwn chosen (numbers_from 1 (threads_of plan)) all_own
+
+  -- ---- the acts of an operation
+  chore_own : (idle : List ℕ) (chore : Chore) → AllByRecursion IsOwn idle → AreOwn (acts_of_chore idle chore)
+  chore_own idle (Chore.Tick epoch) idles = ((tt, tt), tt)
+  chore_own idle Chore.Pass idles = ((tt, tt), tt)
+  chore_own idle (Chore.Idle n) idles = ((tt, tt), one_each IsOwn _ (λ k. StopsIdle k n) (λ k is. (is, tt)) idle idles)
+
+  -- the actor that keeps the guard of a request of thread k, if it is guarded
+  abbrev KeepsIt : ℕ → Option ℕ → Type 0
+  KeepsIt k o = MatchOption o (Unit {0}) (λ keeper. (keeper ≡ threads_of plan + k) × (plan.guard ≢ 0))
+
+  -- a keeper stands behind the threads by the number of its thread, and so is one of the region's actors
+  kept_own : (keeper : Option ℕ) (op : Op) → IsOwn op.actor → IsAdmittedWhat (region_of plan) op.what
+      → ((k : ℕ) → keeper ≡ Some k → IsGuardedWhat (region_of plan) k op.what) → KeepsIt op.actor keeper → AreOwn (act_kept keeper op ∷ (Settles op.actor ∷ []))
+  kept_own keeper op thread admitted guarded keeps = search arith
+
+  work_own : (idle : List ℕ) (op : Op) (work : Work) → AllByRecursion IsOwn idle → IsActorBy plan.profile work op.actor
+      → IsAdmittedWhat (region_of plan) op.what → ((k : ℕ) → of_task keeper_of work ≡ Some k → IsGuardedWhat (region_of plan) k op.what)
+      → KeepsIt op.actor (of_task keeper_of work) → AreOwn (acts_of_work idle op work)
+  work_own idle op work idles actor admitted guarded keeps = search (arith, kept_own, chore_own)
+
+  -- ---- what is asked for: what the profile admits, its region does
+  abbrev IsAdmittedHere : Request → Type 0
+  IsAdmittedHere r = IsAdmitted (region_of plan) r.size r.align r.heap
+
+  -- by what a sound task says of the request that it makes
+  task_admitted : (asked : List ℕ) (task : Task) → IsSoundTask plan.profile asked task → MatchOption (request_of task) (Unit {0}) IsAdmittedHere
+  task_admitted asked task sound = search arith
+
+  work_admitted : (asked : List ℕ) (work : Work) → IsSoundWork plan.profile asked work → MatchOption (of_task request_of work) (Unit {0}) IsAdmittedHere
+  work_admitted asked work sound = search (arith, task_admitted)
+
+  -- .. and what is guarded is for whole pages
+  abbrev IsLargeHere : Request → Type 0
+  IsLargeHere r = route_in (region_of plan) r.size r.align ≡ Route.Large
+
+  task_large : (asked : List ℕ) (task : Task) → IsSoundTask plan.profile asked task → (k : ℕ) → keeper_of task ≡ Some k
+      → MatchOption (request_of task) (Unit {0}) IsLargeHere
+  task_large asked (Task.Request name heap size align) sound k is = cc
+  task_large asked (Task.Guarded keeper name heap size align) sound k is = sym (large_for (region_of plan).classes size align sound.2)
+  task_large asked (Task.Free name room) sound k is = tt
+  task_large asked (Task.FreeRaw block room) sound k is = tt
+  task_large asked (Task.Remake name old heap size align) sound k is = cc
+  task_large asked Task.Flush sound k is = tt
+  task_large asked Task.Stop sound k is = tt
+
+  work_large : (asked : List ℕ) (work : Work) → IsSoundWork plan.profile asked work → (k : ℕ) → of_task keeper_of work ≡ Some k
+      → MatchOption (of_task request_of work) (Unit {0}) IsLargeHere
+  work_large asked work sound k is = search (arith, task_large)
+
+  -- ---- the acts of phases
+  record IsOwnOp (op : Op) : Type 0 where
+    actor : IsActorOf plan.profile op.what op.actor
+    admitted : IsAdmittedWhat (region_of plan) op.what
+    large : (k : ℕ) → keeper_in op.what ≡ Some k → MatchOption (request_in op.what) (Unit {0}) IsLargeHere
+    keeps : KeepsIt op.actor (keeper_in op.what)
+
+  own_ops : (asked : List ℕ) (ops : List Op) → AreSound plan.profile asked ops → AreKept plan.profile plan.guard ops → AllByRecursion IsOwnOp ops
+  own_ops asked [] sound kept = tt
+  own_ops asked (op ∷ ops) sound kept = (search (arith, work_admitted, work_large), own_ops _ ops sound.2 kept.1)
+
+  ops_own : (idle : List ℕ) (ops : List Op) → AllByRecursion IsOwn idle → AllByRecursion IsOwnOp ops → AreOwn (acts_of_ops idle ops)
+  ops_own idle [] idles all = tt
+  ops_own idle (op ∷ ops) idles all =
+      all_both (IsPlanned (threads_of plan) (region_of plan)) (acts_of_op idle op) (acts_of_ops idle ops)
+      (work_own idle op _ idles all.0.actor all.0.admitted (λ k is. (is, all.0.large k is)) all.0.keeps) (ops_own idle ops idles all.1)
+
+  phase_own : (ops : List Op) → AllByRecursion IsOwnOp ops → AreOwn (phase_acts (threads_of plan) ops)
+  phase_own ops all =
+      let idle : List ℕ = idle_threads (threads_of plan) ops in
+      let active : List ℕ = active_threads (threads_of plan) ops in
+      all_both (IsPlanned (threads_of plan) (region_of plan)) (map Wakes active) (acts_of_ops idle ops)
+      (one_each IsOwn _ Wakes (λ k is. (is, tt)) active (own_where _)) (ops_own idle ops (own_where (λ k. not (is_active ops k))) all)
+
+  close_own : AreOwn (close_acts (threads_of plan) (keepers_of plan))
+  close_own =
+      let actors = plan_actors plan in
+      let keepers : List ℕ = numbers_from (threads_of plan + 1) (keepers_of plan) in
+      let own : Act → Type 0 = IsPlanned (threads_of plan) (region_of plan) in (
+        (tt, tt),
+        all_both own (map Ends (numbers_from 1 (threads_of plan))) (map Lowers keepers) (one_each IsOwn own Ends (λ k is. (is, tt)) _ all_own)
+            (one_each _ own Lowers (λ k is. (is, tt)) keepers
+            (all_from _ _ _ (λ j low high. (omega (arith, low), omega (arith, high, actors))))),
+      )
+
+  front : (xs ys : List Op) → AllByRecursion IsOwnOp (xs ++ ys) → AllByRecursion IsOwnOp xs
+  front [] ys all = tt
+  front (x ∷ xs) ys all = (all.0, front xs ys all.1)
+
+  back : (xs ys : List Op) → AllByRecursion IsOwnOp (xs ++ ys) → AllByRecursion IsOwnOp ys
+  back [] ys all = all
+  back (x ∷ xs) ys all = back xs ys all.1
+
+  later_own : (n : ℕ) (phases : List (List Op)) → AllByRecursion IsOwnOp (all_ops phases) → AreOwn (acts_from (threads_of plan) (keepers_of plan) n phases)
+  later_own n [] all = close_own
+  later_own n (phase ∷ phases) all = (
+    (tt, tt),
+    all_both (IsPlanned (threads_of plan) (region_of plan)) (phase_acts (threads_of plan) phase) (acts_from (threads_of plan) (keepers_of plan) (n + 1) phases)
+        (phase_own phase (front phase (all_ops phases) all)) (later_own (n + 1) phases (back phase (all_ops phases) all)),
+  )
+
+  phases_own : (phases : List (List Op)) → AllByRecursion IsOwnOp (all_ops phases) → AreOwn (acts_of (threads_of plan) (keepers_of plan) phases)
+  phases_own [] all = close_own
+  phases_own (phase ∷ phases) all = (later_own 1 (phase ∷ phases) all).1
+
+-- ---- THE PLAN OF A TEXT
+pub plan_acts : {text : List ℕ} {plan : Plan} → IsPlanOf text plan → ArePlanned (threads_of plan) (region_of plan) (acts_of_plan plan)
+plan_acts {text} {plan} is =
+    let sound = every_plan is in
+    phases_own plan (map ops_of plan.phases.phases.items) (own_ops plan [] (operations_of plan) sound.operations sound.keepers)
+
+-- The region that a plan of a text is replayed in is a valid profile.
+plan_region : {text : List ℕ} {plan : Plan} → IsPlanOf text plan → IsValid (region_of plan)
+plan_region {text} {plan} is =
+    let sound = every_plan is in
+    search (arith, plan.guard, plan.profile.threads)
+
+-- ==== The first state of the text is that of a replay that did nothing yet, and the text of a state that is the replay's is what is written of it.
 -- ==== THE START
-pub many_numbers : (n from : ℕ) → length (map (λ k. no_cache) (numbers_from from n)) ≡ n
+many_numbers : (n from : ℕ) → length (map (λ k. no_cache) (numbers_from from n)) ≡ n
 many_numbers zero from = refl
 many_numbers (suc n) from = ap suc (many_numbers n (from + 1))
 
@@ -53,11 +202,11 @@ module _ (f : Profile) (n : ℕ) (few : n ≤ f.threads) where
   start_caches = search (arith, many_numbers, opening_caches_are_empty)
 
   -- The text's opened region is the state of a replay that did nothing.
-  pub start_same : IsSame f at_start first
+  start_same : IsSame f at_start first
   start_same = search (arith, none_of_zero, start_caches)
 
 -- Without events each live block lies on usable grains.
-pub start_usable : AreBlocksUsable []
+start_usable : AreBlocksUsable []
 start_usable = record { usable = λ address b lives g of d is. absurd (none-some d is) }
 
 -- ==== THE END

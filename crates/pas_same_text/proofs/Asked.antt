@@ -1,5 +1,5 @@
 -- A REQUEST THAT IS ASKED in a replay: what it comes to by its route, and the replay after it.
-use Rattle.std.proofs.Common.{arith, ◌≡◌, ℕ, ◌∷◌, Result, ◌∙◌}
+use Rattle.std.proofs.Common.{arith, ◌≡◌, ℕ, ◌∷◌, Result}
 use Rattle.pas_profile.specs.{Profiles.IsValid, Requests.route_in, Requests.room_in}
 use Rattle.pas_profile.specs.declared.{directory.Route.Route, event.NoRoom.NoRoom, name.Block.Block, profile.Profile.Profile}
 use Rattle.pas_steps.specs.Lists.{part}
@@ -8,7 +8,7 @@ use Rattle.pas_trace.specs.EveryPlan.{IsThread}
 use Rattle.pas_trace.specs.declared.{plan.What.TheVariants.Alloc, item.Request.Request}
 use Rattle.pas_answers.specs.Answers.{Progress, Answer, named, having, IsServed, after_answer, said_of_request, block_of as block_answered}
 use Rattle.pas_same_text.specs.{State.World, Order.serves, Same.IsSame, Acts.IsBetween, Acts.IsTaken, Requests.IsAsked}
-use Rattle.pas_same_text.proofs.LoggedFrees.{after_with, asks}
+use Rattle.pas_same_text.proofs.SmallActs.{after_with, asks}
 
 -- Thread k asks for r after p, where the text's state is w, and is answered by a. All actors are at rest before and after it.
 pub record HasAsked (f : Profile) (k : ℕ) (r : Request) (p : Progress) (a : Answer) (w : World) : Type 0 where

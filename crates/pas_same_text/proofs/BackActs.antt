@@ -1,12 +1,12 @@
 -- THE ACTS THAT GIVE BACK: flushes, stops, stops of idle threads, the close, and frees into any log.
-use Rattle.std.proofs.Common.{◌≡◌, ℕ, ◌+◌, ◌≤◌, ◌==◌, nat_le, Bool, true, false, if◌then◌else◌, List, [], ◌∷◌, ◌++◌, length, Option, None, Some, inl, inr, refl}
-use Rattle.std.proofs.Common.{ap, sym, ◌∙◌, subst, append_assoc, arith, append-nil, eq-eqb}
+use Rattle.std.proofs.Common.{◌≡◌, ℕ, ◌+◌, ◌≤◌, nat_le, Bool, true, false, if◌then◌else◌, List, [], ◌∷◌, ◌++◌, length, Option, None, Some, inl, inr, refl, ap}
+use Rattle.std.proofs.Common.{sym, ◌∙◌, subst, append_assoc, arith, append-nil, eq-eqb}
 use Rattle.std.proofs.lemmas.Bool.{false≢true, Decides.nat_tests}
 use Rattle.pas_profile.specs.Profiles.{IsValid}
 use Rattle.pas_profile.specs.declared.{name.Block.Block, name.Name.Name, profile.Profile.Profile}
 use Rattle.pas_steps.specs.{Events.events_by, Lists.part, Lists.visible, Views.View}
 use Rattle.pas_steps.specs.declared.step.Made.{Made}
-use Rattle.pas_free_log.specs.declared.{log.Entry.Entry, noting.EndedRun.EndedRun}
+use Rattle.pas_free_log.specs.declared.log.Entry.{Entry}
 use Rattle.pas_cache.specs.{Calls.TakesEntry, Changes.LogsEntry, Changes.EmptiesFull, Contents.Cached}
 use Rattle.pas_guard.specs.declared.book.Guard.{Guard}
 use Rattle.pas_report.specs.declared.record.{Record.Record, Said.Said as TheSaid, Said.Said}
@@ -18,10 +18,10 @@ use Rattle.pas_same_text.specs.State.{World, Cache, cache_of, set_cache, log_of,
 use Rattle.pas_same_text.specs.{Order.keeps_block, Order.replaces, Order.remakes, Passes.stops_idle, Same.IsSame, Same.IsSameCache}
 use Rattle.pas_same_text.specs.Frees.{adds, frees, frees_named, flushes, stops}
 use Rattle.pas_same_text.specs.Acts.{IsResting, IsBetween, AreBlocksUsable, HasUsableBlocks, StaysSameWhere}
-use Rattle.pas_same_text.proofs.{CacheLists.same_own, CacheLists.same_with, CacheLists.same_again, FlushActs.flush_same, StopActs.stop_same}
-use Rattle.pas_same_text.proofs.{StillIndexes.same_many, StillIndexes.flushes_keep}
-use Rattle.pas_same_text.proofs.SmallActs.{unchanged, pages_next, says_same, cache_state}
-use Rattle.pas_same_text.proofs.LoggedFrees.{after_with, said_same, page_inside, freed_is, refused_same, freed_same, asks, name_freed}
+use Rattle.pas_same_text.proofs.{CacheLists.same_own, CacheLists.same_with, CacheLists.same_again, StopActs.flush_same, StopActs.stop_same}
+use Rattle.pas_same_text.proofs.{SameIndexes.same_many, SameIndexes.flushes_keep}
+use Rattle.pas_same_text.proofs.SmallActs.{unchanged, pages_next, says_same, cache_state, after_with, said_same, page_inside, freed_is, refused_same}
+use Rattle.pas_same_text.proofs.SmallActs.{freed_same, asks, name_freed}
 
 -- ---- a replay of the same list, with the same caches
 same_between : (f : Profile) (p : Progress) (k : ℕ) (steps : List Made) (c : Cached) (names : List Named) (records : List Record) → IsBetween f (with_records (record (with_steps p k steps c) { names = names }) records) → IsBetween f (with_steps p k steps c)
@@ -113,11 +113,6 @@ idle_act f k n is p p' w usable taken = elim taken.advances [
     not_le a b past = by_test a b (nat_le a b) refl past
 
 -- ==== FREES INTO ANY LOG
--- an actor that is at rest with a cache is so with an empty log
-rest_emptied : (f : Profile) (c c' : Cached) (noted : List EndedRun) (guards : List Guard) (v : View) → c'.locals ≡ c.locals → IsResting f c' guards v
-    → IsResting f (record c { log = []; noted = noted }) guards v
-rest_emptied f c c' noted guards v is rest = search (arith, rest.locals, rest.few)
-
 module _ (f : Profile) (k : ℕ) (entry : Entry) (p : Progress) (w : World) (c' : Cached) (steps : List Made) (thread : IsThread f k)
     (listed : k ≤ length w.caches) (valid : IsValid f) (before : IsBetween f p) (same : IsSame f p w) (usable : AreBlocksUsable (visible p.list))
     (after : IsBetween f (with_steps p k steps c')) where
@@ -134,18 +129,16 @@ module _ (f : Profile) (k : ℕ) (entry : Entry) (p : Progress) (w : World) (c' 
     both : EmptiesFull true k c.log logged.kept c.noted c'.noted steps
     both = subst (λ (t : Bool). EmptiesFull t k c.log logged.kept c.noted c'.noted steps) full logged.emptied
 
+    -- the other caches are as they were, and this one has no log
     rest_at : (j : ℕ) (t : Bool) (guards : List Guard) (v : View) → IsResting f (if t then c' else p.caches j) guards v
         → IsResting f (if t then emptied else p.caches j) guards v
-    rest_at j t guards v rest = search (arith, rest_emptied)
+    rest_at j t guards v rest = search arith
 
     abbrev q : Progress
     q = with_steps p k steps emptied
 
-    between : IsBetween f q
-    between = search (arith, rest_at)
-
     flushed_first : IsSame f (with_records q (records_of (events_by k (part k p.list) steps))) (flushes f k w)
-    flushed_first = flush_same f k p w steps emptied valid thread listed before same usable both.0 refl between
+    flushed_first = flush_same f k p w steps emptied valid thread listed before same usable both.0 refl (search (arith, rest_at))
 
     abbrev v : World
     v = flushes f k w
@@ -159,11 +152,9 @@ module _ (f : Profile) (k : ℕ) (entry : Entry) (p : Progress) (w : World) (c' 
     abbrev new : Cache
     new = record (cache_of v k) { log = log_of v k ++ entry ∷ [] }
 
-    log_is : c'.log ≡ entry ∷ []
-    log_is = logged.log_is ∙ ap (λ (es : List Entry). es ++ entry ∷ []) both.1
-
+    -- the fields are those that the answer tells
     cache_is : c' ≡ record c { log = entry ∷ []; noted = c'.noted }
-    cache_is = takes.cache ∙ ap (λ (es : List Entry). record c { log = es; noted = c'.noted }) log_is
+    cache_is = search arith
 
     new_same : IsSameCache c' new
     new_same = rw cache_is (record { locals = own.locals; log = ap (λ (es : List Entry). es ++ entry ∷ []) own.log; noted = own.noted; began = own.began })
@@ -180,11 +171,8 @@ module _ (f : Profile) (k : ℕ) (entry : Entry) (p : Progress) (w : World) (c' 
       read = flushed_first.read;
     }
 
-    text : frees f k entry w ≡ adds k entry v
-    text = search (arith, page_inside, freed_is, eq-eqb)
-
     full_same : IsSame f (after_with p k steps None p.names c') (frees f k entry w)
-    full_same = subst (λ (x : World). IsSame f (after_with p k steps None p.names c') x) (sym text) added
+    full_same = search (arith, added, page_inside, freed_is, eq-eqb)
 
   by_room : (t : Bool) → nat_le 64 (length (p.caches k).log) ≡ t → TakesEntry f k (p.caches k) c' entry steps
       → IsSame f (after_with p k steps None p.names c') (frees f k entry w)

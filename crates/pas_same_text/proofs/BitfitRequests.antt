@@ -30,9 +30,9 @@ use Rattle.pas_same_text.specs.{Searched.FitsSame}
 use Rattle.pas_same_text.specs.Searches.{searched, readies, address_on, gives, some_of, refusal, refuses}
 use Rattle.pas_same_text.specs.Runs.{bitfit_of, lowest_place, gives_place, places}
 use Rattle.pas_same_text.specs.Same.{IsSame, HasSame, AreSameCaches, ArePagesSame}
-use Rattle.pas_same_text.proofs.{BitfitFits.bitfit_fits, BitfitFits.lowest_is, CacheLists.same_kept, LoggedFrees.after_with, SearchMarks.free_shown}
-use Rattle.pas_same_text.proofs.{CacheLists.kept_at, Pieces.has_same, ReadyPages.shown, ReadyPages.shown_rest, RefusedRequests.refused_same}
-use Rattle.pas_same_text.proofs.{SearchedPages.find_none, Tests.and_first, Tests.and_second, RefusedRequests.refused_to, LoggedFrees.asks}
+use Rattle.pas_same_text.proofs.{PlacesFit.bitfit_fits, PlacesFit.lowest_is, CacheLists.same_kept, SmallActs.after_with, StepMarks.free_shown}
+use Rattle.pas_same_text.proofs.{CacheLists.kept_at, Pieces.has_same, ReadyPages.shown, ReadyPages.shown_rest, SearchedPages.refused_same}
+use Rattle.pas_same_text.proofs.{SearchedPages.find_none, Tests.and_first, Tests.and_second, SearchedPages.refused_to, SmallActs.asks}
 use Rattle.pas_same_text.proofs.GivenBlocks.{GivesBlock, page_chosen, page_ready, page_given}
 use Rattle.pas_same_text.proofs.Asked.{HasAsked, answer_reached, by_route, request_taken}
 use Rattle.pas_trace.specs.EveryPlan.{IsThread}

@@ -1,21 +1,30 @@
--- Local allocators of a cache, in the text and in a replay: one is looked up, taken out, put at the end, and gives its lowest slot.
-use Rattle.std.proofs.lemmas.{Bool.Decides.nat_tests, Option.same_Some, Option.none-some, List.flat_map_more, Grind.reverse_onto}
+-- Local allocators of a cache, in the text and in a replay: one is looked up, taken out, put at the end, and gives its lowest slot; and which grains the caches have.
+use Rattle.std.proofs.lemmas.{Bool.Decides.nat_tests, Option.same_Some, Option.none-some, List.flat_map_more, Grind.reverse_onto, List.Elements.All-head}
+use Rattle.std.proofs.lemmas.{List.Elements.All-tail, List.Folds.list_any-append}
 use Rattle.std.proofs.Common.{◌≡◌, ℕ, ◌<◌, ◌==◌, Bool, true, false, not, ◌&&◌, ◌||◌, if◌then◌else◌, List, [], ◌∷◌, ◌++◌, Option, Some, inl, inr, refl, ap, sym}
 use Rattle.std.proofs.Common.{◌∙◌, subst, arith, eq-eqb, eqb-true, ne_eqb, ◌-◌, ◌≤◌, ◌≢◌, length, None, append-nil, append_assoc, length-append, nat_lt}
-use Rattle.std.proofs.Common.{option_to_list, reverse, suc, take, zero}
-use Rattle.std.proofs.lemmas.Bool.{eqb-false, false≢true, or_cases, or_left, false_from_ne_true}
-use Rattle.std.specs.List.{AllByRecursion, find, flat_map}
-use Rattle.pas_bits.specs.Masks.{is_set, IsLowestSet}
+use Rattle.std.proofs.Common.{option_to_list, reverse, suc, take, zero, ◌+◌, ◌*◌, ◌⊎◌, All}
+use Rattle.std.proofs.lemmas.Bool.{eqb-false, false≢true, or_cases, or_left, false_from_ne_true, or_right}
+use Rattle.std.specs.List.{AllByRecursion, find, flat_map, list_any, filter}
+use Rattle.pas_bits.specs.{Masks.is_set, Masks.IsLowestSet, Runs.in_run}
 use Rattle.pas_segregated.specs.declared.slots.Slots.{Slots}
-use Rattle.pas_cache.specs.{Changes.IsWithoutSlot, Locals.local_for, Locals.others_than, Locals.is_for as is_for_slots, Contents.Cached}
+use Rattle.pas_cache.specs.{Changes.IsWithoutSlot, Contents.Cached}
+use Rattle.pas_cache.specs.Locals.{local_for, others_than, is_for as is_for_slots, IsLocal, any_covers, covers}
 use Rattle.pas_same_text.specs.State.{Local, Cache, cache_in, with_cache}
-use Rattle.pas_same_text.specs.Classes.{is_for, others}
+use Rattle.pas_same_text.specs.{Classes.is_for, Classes.others, Pages.is_cached}
 use Rattle.pas_same_text.specs.Same.{IsSameLocal, AreSameLocals, has_number, IsRising, IsSameCache, AreSameCaches}
 use Rattle.pas_profile.specs.declared.profile.Profile.{Profile}
 use Rattle.pas_trace.specs.EveryPlan.{IsThread}
 use Rattle.pas_answers.specs.Answers.{Caches, with_cache as with_cached}
 use Rattle.pas_free_log.specs.Flushes.{Settled, noted_after, noted_for}
 use Rattle.pas_free_log.specs.declared.noting.EndedRun.{EndedRun}
+use Rattle.pas_bits.proofs.Runs.{run_of, to_run}
+use Rattle.pas_profile.specs.Classes.{class_grains, IsClass}
+use Rattle.pas_steps.proofs.Sets.{same_truth}
+use Rattle.pas_steps.specs.Views.{View}
+use Rattle.pas_segregated.specs.Masks.{AreStarts, start_of}
+use Rattle.pas_segregated.proofs.Starts.{start_at, start_below}
+use Rattle.pas_same_text.proofs.Tests.{IsFound, found, passed, any_filtered, filtered_any, on_page}
 
 -- ---- looked up
 pub for_same : (heap class : ℕ) (s : Slots) (l : Local) → IsSameLocal s l → is_for heap class l ≡ is_for_slots heap class s
@@ -41,19 +50,13 @@ found_same heap class (x ∷ slots) (y ∷ locals) s same is =
     let ih = found_same heap class slots locals s same.1 in search (arith, for_same, found_one, ih)
 
 -- ---- taken out
--- by cases: it is taken out on both sides or on neither
-other_one : (x : Slots) (y : Local) (xs : List Slots) (ys : List Local) (t : Bool) → IsSameLocal x y → AreSameLocals xs ys
-    → AreSameLocals (if not t then x ∷ xs else xs) (if not t then y ∷ ys else ys)
-other_one x y xs ys t same rest = search arith
-
 -- The local allocators of other heaps and classes are the same in the text and in the replay.
 pub others_same : (heap class : ℕ) (slots : List Slots) (locals : List Local) → AreSameLocals slots locals
     → AreSameLocals (others_than heap class slots) (others heap class locals)
 others_same heap class [] [] same = tt
 others_same heap class [] (l ∷ locals) same = absurd same
 others_same heap class (x ∷ slots) [] same = absurd same
-others_same heap class (x ∷ slots) (y ∷ locals) same =
-    let ih = others_same heap class slots locals same.1 in search (arith, for_same, other_one, ih)
+others_same heap class (x ∷ slots) (y ∷ locals) same = search (arith, for_same, others_same heap class slots locals same.1)
 
 -- ---- put at the end
 pub last_same : (slots : List Slots) (locals : List Local) (s : Slots) (l : Local) → AreSameLocals slots locals → IsSameLocal s l
@@ -136,13 +139,10 @@ locals_with (c ∷ cs) k new is = let ih = locals_with cs (k - 1) new in grind (
 pub same_own : (caches : Caches) (k : ℕ) (c : Cached) → with_cached caches k c k ≡ c
 same_own caches k c = ap (λ (b : Bool). if b then c else caches k) (eq-eqb k k refl)
 
-same_other : (caches : Caches) (j k : ℕ) (c : Cached) → j ≢ k → with_cached caches k c j ≡ caches j
-same_other caches j k c ne = ap (λ (b : Bool). if b then c else caches j) (ne_eqb j k ne)
-
 each_with : (f : Profile) (caches : Caches) (own : List Cache) (j k : ℕ) (c : Cached) (new : Cache) → IsThread f j → IsThread f k → k ≤ length own
     → AreSameCaches f caches own → IsSameCache c new → (t : Bool) → (j == k) ≡ t
     → IsSameCache (with_cached caches k c j) (cache_in (with_cache own k new) j)
-each_with f caches own j k c new is of listed same new_same t e = search (arith, same_own, own_with, eqb-true, eqb-false, same_other, other_with)
+each_with f caches own j k c new is of listed same new_same t e = search (arith, same_own, own_with, eqb-true, eqb-false, other_with, ne_eqb)
 
 -- The text's caches are the replay's again after one thread's cache changed to the same on both sides.
 pub same_with : (f : Profile) (caches : Caches) (own : List Cache) (k : ℕ) (c : Cached) (new : Cache) → IsThread f k → k ≤ length own
@@ -213,3 +213,83 @@ room_for noted o false e =
     let le : 64 ≤ length noted = grind (arith, nat_tests, e) in
     let none : 64 - length noted ≡ 0 = omega (arith, le) in
     sym (ap (λ (n : ℕ). noted ++ take n (option_to_list o)) none ∙ append-nil noted)
+
+-- ==== Which grains the caches have, in the text and in a replay.
+-- ---- one local allocator
+-- it is of the page, and one of its slots has the grain
+abbrev pub has_grain : ℕ → ℕ → Local → Bool
+has_grain page b l = (l.page == page) && list_any (λ s. in_run s (class_grains l.class) b) l.slots
+
+module _ (s : Slots) (l : Local) (b : ℕ) (same : IsSameLocal s l) (is : IsClass s.class) (starts : AreStarts s.class s.starts) where
+  slot_set : list_any (λ x. in_run x (class_grains l.class) b) l.slots ≡ true → is_set s.starts (start_of s.class b) ≡ true
+  slot_set h =
+      let o : IsFound l.slots (λ x. in_run x (class_grains l.class) b) = found (λ x. in_run x (class_grains l.class) b) l.slots h in
+      let set : is_set s.starts o.number ≡ true = sym (same.slots o.number) ∙ o.there in
+      let run : in_run o.number (class_grains s.class) b ≡ true = sym (ap (λ (c : ℕ). in_run o.number (class_grains c) b) same.class) ∙ o.so in
+      let ends = run_of o.number (class_grains s.class) b run in
+      let at : start_of s.class b ≡ o.number = start_at s.class o.number b (starts o.number set) ends.0 ends.1 in
+      ap (is_set s.starts) at ∙ set
+
+  set_slot : is_set s.starts (start_of s.class b) ≡ true → list_any (λ x. in_run x (class_grains l.class) b) l.slots ≡ true
+  set_slot h = search (arith, start_below, to_run, passed)
+
+grain_same : (s : Slots) (l : Local) (page b : ℕ) → b < 256 → IsSameLocal s l → IsClass s.class → AreStarts s.class s.starts
+    → has_grain page b l ≡ covers s (256 * page + b)
+grain_same s l page b small same is starts = search (arith, on_page, same_truth, slot_set, set_slot)
+
+-- ---- those of a cache
+pub grains_same : (f : Profile) (v : View) (slots : List Slots) (locals : List Local) (page b : ℕ) → b < 256 → AreSameLocals slots locals
+    → All (IsLocal f v) slots
+    → list_any (has_grain page b) locals ≡ any_covers slots (256 * page + b)
+grains_same f v [] [] page b small same known = refl
+grains_same f v (s ∷ slots) (l ∷ locals) page b small same known =
+    let at : IsLocal f v s = All-head (IsLocal f v) s slots known in
+    ap (λ (t : Bool). t || list_any (has_grain page b) locals) (grain_same s l page b small same.0 at.class at.starts)
+    ∙ ap (λ (t : Bool). covers s (256 * page + b) || t) (grains_same f v slots locals page b small same.1 (All-tail (IsLocal f v) s slots known))
+grains_same f v slots locals page b small same known = absurd same
+
+-- ---- all caches
+pub record IsOfCache (cs : List Cache) (p : Local → Bool) : Type 0 where
+  pub k : ℕ
+  pub first : 1 ≤ k
+  pub last : k ≤ length cs
+  pub so : list_any p (cache_in cs k).locals ≡ true
+
+cache_next : (c : Cache) (cs : List Cache) (k : ℕ) → 1 ≤ k → cache_in (c ∷ cs) (k + 1) ≡ cache_in cs k
+cache_next c cs k some = search (arith, ne_eqb)
+
+of_cache_at : (c : Cache) (cs : List Cache) (p : Local → Bool) → (list_any p (all_locals cs) ≡ true → IsOfCache cs p)
+    → (list_any p c.locals ≡ true) ⊎ (list_any p (all_locals cs) ≡ true) → IsOfCache (c ∷ cs) p
+of_cache_at c cs p rest (inl so) = record { k = 1; first = omega arith; last = omega arith; so = so }
+of_cache_at c cs p rest (inr so) =
+    let o = rest so in
+    let last : o.k + 1 ≤ length (c ∷ cs) = let le : o.k ≤ length cs = o.last in omega (arith, le) in
+    let first : 1 ≤ o.k + 1 = omega arith in
+    record { k = o.k + 1; first = first; last = last; so = ap (λ (x : Cache). list_any p x.locals) (cache_next c cs o.k o.first) ∙ o.so }
+
+-- A local allocator among those of all caches is one of some thread's cache.
+pub of_cache : (cs : List Cache) (p : Local → Bool) → list_any p (all_locals cs) ≡ true → IsOfCache cs p
+of_cache [] p h = absurd (false≢true h)
+of_cache (c ∷ cs) p h = of_cache_at c cs p (of_cache cs p) (or_cases (list_any p c.locals) (list_any p (all_locals cs)) (sym (list_any-append p c.locals (all_locals cs)) ∙ h))
+
+in_all_at : (c : Cache) (cs : List Cache) (k : ℕ) (p : Local → Bool) (t : Bool) → (k == 1) ≡ t
+    → (t ≡ false → list_any p (cache_in cs (k - 1)).locals ≡ true → list_any p (all_locals cs) ≡ true)
+    → list_any p (if t then c else cache_in cs (k - 1)).locals ≡ true → list_any p (c.locals ++ all_locals cs) ≡ true
+in_all_at c cs k p true e rest so = list_any-append p c.locals (all_locals cs) ∙ or_left (list_any p c.locals) (list_any p (all_locals cs)) so
+in_all_at c cs k p false e rest so = list_any-append p c.locals (all_locals cs) ∙ or_right (list_any p c.locals) (list_any p (all_locals cs)) (rest refl so)
+
+-- A local allocator of a thread's cache is among those of all caches.
+pub in_all : (cs : List Cache) (k : ℕ) (p : Local → Bool) → list_any p (cache_in cs k).locals ≡ true → list_any p (all_locals cs) ≡ true
+in_all [] k p so = so
+in_all (c ∷ cs) k p so = in_all_at c cs k p (k == 1) refl (λ e. in_all cs (k - 1) p) so
+
+-- ---- of a page
+-- the caches have the grain of the page, where a local allocator in them does
+pub cached_any : (cs : List Cache) (page b : ℕ) → is_cached (filter (λ l. l.page == page) (all_locals cs)) b ≡ true
+    → list_any (has_grain page b) (all_locals cs) ≡ true
+cached_any cs page b h = any_filtered (λ l. list_any (λ s. in_run s (class_grains l.class) b) l.slots) (λ l. l.page == page) (all_locals cs) h
+
+-- A grain that some cache's slots have is cached on its page.
+pub any_cached : (cs : List Cache) (page b : ℕ) → list_any (has_grain page b) (all_locals cs) ≡ true
+    → is_cached (filter (λ l. l.page == page) (all_locals cs)) b ≡ true
+any_cached cs page b h = filtered_any (λ l. list_any (λ s. in_run s (class_grains l.class) b) l.slots) (λ l. l.page == page) (all_locals cs) h

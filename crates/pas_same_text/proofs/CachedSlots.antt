@@ -1,22 +1,21 @@
 -- A request of a class for which the thread's cache has a slot.
-use Rattle.std.proofs.Common.{◌≤◌, length, ◌≡◌, ℕ, ◌+◌, ◌*◌, ◌<◌, ◌==◌, Bool, true, not, ◌&&◌, if◌then◌else◌, List, [], ◌∷◌, ◌++◌, None, Some, Result, Ok, refl}
-use Rattle.std.proofs.Common.{ap, sym, ◌∙◌, subst, arith, eqb-true}
+use Rattle.std.proofs.Common.{◌≤◌, length, ◌≡◌, ℕ, ◌+◌, ◌*◌, ◌<◌, ◌==◌, Bool, true, not, ◌&&◌, List, [], ◌∷◌, ◌++◌, None, Some, refl, ap, sym, ◌∙◌, subst}
+use Rattle.std.proofs.Common.{arith, eqb-true}
 use Rattle.std.proofs.lemmas.{Bool.false≢true, Option.none-some}
 use Rattle.std.specs.List.{find}
 use Rattle.pas_bits.specs.Masks.{HasMember, IsLowestSet}
 use Rattle.pas_profile.specs.{Blocks.address_of, Classes.class_size, Directories.number_of, Profiles.IsValid, Profiles.IsDirectoryOf, Requests.route_in}
 use Rattle.pas_profile.specs.{Requests.room_in, Requests.directory_for}
-use Rattle.pas_profile.specs.declared.{directory.Directory.Directory, directory.Route.Route, event.NoRoom.NoRoom, event.Event.Event, name.Block.Block}
-use Rattle.pas_profile.specs.declared.{profile.Profile.Profile, word.Word.Word}
+use Rattle.pas_profile.specs.declared.{directory.Directory.Directory, directory.Route.Route, event.Event.Event, name.Block.Block, profile.Profile.Profile}
+use Rattle.pas_profile.specs.declared.{word.Word.Word}
 use Rattle.pas_machine.specs.{State.gives_in, Machine.Run}
 use Rattle.pas_steps.specs.{Desks.made, Lists.part, Lists.visible, Views.usable_by_kind}
 use Rattle.pas_steps.specs.declared.step.{Made.Made, Step.TheVariants.Look, Step.TheVariants.Give}
 use Rattle.pas_core.specs.Rights.{eligible_bit}
 use Rattle.pas_core.proofs.MachineRuns.{runs}
 use Rattle.pas_segregated.specs.declared.slots.Slots.{Slots}
-use Rattle.pas_cache.specs.{Changes.GivesSlot, Changes.IsWithoutSlot, Changes.IsTakenOut, Contents.Cached, Locals.local_for, Locals.others_than}
-use Rattle.pas_cache.specs.{Locals.is_for as is_for_slots}
-use Rattle.pas_cache.specs.Serves.{ServesClass, IsObtained, IsAnswered, filling_in}
+use Rattle.pas_cache.specs.{Changes.GivesSlot, Changes.IsWithoutSlot, Contents.Cached, Locals.local_for, Locals.others_than, Locals.is_for as is_for_slots}
+use Rattle.pas_cache.specs.{Serves.ServesClass, Serves.IsObtained, Serves.filling_in}
 use Rattle.pas_report.specs.declared.record.Record.{Record}
 use Rattle.pas_trace.specs.EveryPlan.{IsThread}
 use Rattle.pas_trace.specs.declared.plan.What.TheVariants.{Alloc}
@@ -25,10 +24,10 @@ use Rattle.pas_same_text.specs.State.{Local, World, cache_of, locals_of}
 use Rattle.pas_same_text.specs.Classes.{is_for, others, gives_first, serves_class}
 use Rattle.pas_same_text.specs.Pages.{is_free, is_guarded, has_room, is_offered}
 use Rattle.pas_same_text.specs.{Searches.address_on, Order.serves, Acts.IsBetween, Acts.StaysSameWhere, Acts.HasCachedSlot}
-use Rattle.pas_same_text.specs.Same.{IsSame, HasSame, IsSameCache, IsSameLocal, AreSameLocals, has_number}
+use Rattle.pas_same_text.specs.Same.{IsSame, HasSame, IsSameCache, IsSameLocal, has_number}
 use Rattle.pas_same_text.proofs.CacheLists.{same_with, Finds, found_same, others_same, last_same, slot_given}
-use Rattle.pas_same_text.proofs.{FreeGrains.free_same, GivenBack.each_same, LoggedFrees.after_with, SmallActs.records_next, Tests.and_first, Tests.and_second}
-use Rattle.pas_same_text.proofs.{Asked.HasAsked, Asked.by_route, Asked.request_taken, LoggedFrees.asks}
+use Rattle.pas_same_text.proofs.{FreeGrains.free_same, GivenBack.each_same, SmallActs.after_with, SmallActs.records_next, Tests.and_first, Tests.and_second}
+use Rattle.pas_same_text.proofs.{Asked.HasAsked, Asked.by_route, Asked.request_taken, SmallActs.asks}
 use Rattle.pas_same_text.proofs.RestingPages.{is_open, had_open, bit_offered, offered_bit}
 use Rattle.pas_steps.proofs.Sets.{same_truth}
 
@@ -44,7 +43,7 @@ block_of address turn room heap = record { name = record { address = record { 0 
 
 -- A block is known by its address, its turn, its room and its heap.
 -- by its four parts
-pub block_same : (block : Block) (address turn room heap : ℕ) → address_of block.name ≡ address → block.name.turn ≡ turn → block.room ≡ room → block.heap ≡ heap
+block_same : (block : Block) (address turn room heap : ℕ) → address_of block.name ≡ address → block.name.turn ≡ turn → block.room ≡ room → block.heap ≡ heap
     → block ≡ block_of address turn room heap
 block_same block address turn room heap a t r h =
     search arith
@@ -89,11 +88,8 @@ module _ (f : Profile) (k name : ℕ) (p : Progress) (w : World) (s s' : Slots) 
   given_slot : (n ≡ start) × IsSameLocal s' (record l { slots = more })
   given_slot = slot_given s s' l n start more g.local g.slots g.lowest g.without
 
-  locals_same : AreSameLocals (others_than s.heap s.class (p.caches k).locals ++ s' ∷ []) (text_locals w k l more)
-  locals_same = search (arith, last_same, others_same, given_slot)
-
   cache_same : IsSameCache c' (record (cache_of w k) { locals = text_locals w k l more })
-  cache_same = search (arith, locals_same)
+  cache_same = search (arith, last_same, others_same, given_slot)
 
   -- ---- the block, whose turn the machine tells
   given_run : Run f (Event.Give k block ∷ visible p.list)
@@ -199,37 +195,15 @@ to_given f k name heap class p p' w s valid is listed between after same there m
     (given_same f k name p w s o.rest l h.head h.more o.block g.answer s.page g.start g.word o.cache given)
 
 -- ---- the act
-module _ (f : Profile) (k name heap class : ℕ) (p : Progress) (s : Slots) (there : local_for heap class (p.caches k).locals ≡ Some s)
-    (member : HasMember s.starts) where
-  -- the request doesn't fetch slots, since one is cached
-  not_fetched : (d : Directory) (locals' : List Slots) (steps : List Made) → d.heap ≡ heap → IsTakenOut d.heap class (p.caches k).locals locals' steps → ⊥
-  not_fetched d locals' steps of taken = search (arith, taken.left)
-
--- how the give ends
-record Ends (fewer locals' : List Slots) (given : List Made) (slots : Slots) (answer : Result Block NoRoom) : Type 0 where
-  block : Block
-  rest : Slots
-  gives : GivesSlot slots rest block given
-  locals : locals' ≡ fewer ++ rest ∷ []
-  is : answer ≡ Ok block
-
--- by cases on the answer, of which one is false
-ends_of : (fewer locals' : List Slots) (given : List Made) (found : Result Slots NoRoom) (answer : Result Block NoRoom) (slots : Slots) → found ≡ Ok slots
-    → IsAnswered fewer locals' given found answer → Ends fewer locals' given slots answer
-ends_of fewer locals' given found answer slots is e = search arith
-
 module _ (f : Profile) (k name heap size align class : ℕ) (p p' : Progress) (w : World) (s : Slots) (there : local_for heap class (p.caches k).locals ≡ Some s)
     (member : HasMember s.starts)
     (a : Answer) (served : IsServed f k (record { name = name; heap = heap; size = size; align = align }) (having p.names (part k p.list) (p.caches k)) a)
     (reached : p' ≡ after_answer p k a) where
-  -- one option has one value
-  same_slots : (slots : Slots) → local_for heap class (p.caches k).locals ≡ Some slots → slots ≡ s
-  same_slots slots is = search arith
-
+  -- a cache that has a slot is served from it: the other ends say that it has none
   served_by : (sv : ServesClass (filling_in (directory_for f heap size align) class) f (p.caches k) a.cache a.steps served.answer)
       → IsObtained (filling_in (directory_for f heap size align) class) f (p.caches k).locals sv.locals.fewer sv.locals.before sv.locals.found
       → Served f k name heap class p p' w s
-  served_by sv h = search (arith, not_fetched, ends_of, same_slots)
+  served_by sv h = search arith
 
 -- ANY REQUEST OF A CLASS for which a slot is cached
 pub cached_answered : (f : Profile) (k name heap size align class : ℕ) (p : Progress) (a : Answer) (w : World) → k ≤ length w.caches

@@ -1,11 +1,11 @@
 -- A REQUEST OF A CLASS THAT A PAGE SERVES, where the cache has place for a local allocator: the page that was searched for gets a deed and memory where it has none, its
 -- slots are taken, the lowest of them is given, and the others are cached.
-use Rattle.std.proofs.Common.{length, ◌≡◌, ℕ, ◌+◌, ◌*◌, ◌/◌, ◌%◌, ◌<◌, ◌≤◌, ◌==◌, Bool, true, false, not, if◌then◌else◌, List, [], ◌∷◌, ◌++◌, None, Some}
-use Rattle.std.proofs.Common.{Result, Ok, ◌⊎◌, inl, inr, refl, ap, sym, ◌∙◌, subst, append_assoc, arith, append-nil, true≢false, eq-eqb, eqb-true}
+use Rattle.std.proofs.Common.{length, ◌≡◌, ℕ, ◌+◌, ◌/◌, ◌%◌, ◌≤◌, ◌==◌, Bool, true, false, not, if◌then◌else◌, List, [], ◌∷◌, ◌++◌, None, Some, Result, Ok, ◌⊎◌}
+use Rattle.std.proofs.Common.{inl, inr, refl, ap, sym, ◌∙◌, subst, append_assoc, arith, append-nil, true≢false, eq-eqb, eqb-true}
 use Rattle.std.proofs.lemmas.{Bool.false≢true, Bool.or_cases, Bool.not-false, List.Folds.list_any-append}
 use Rattle.pas_bits.specs.Masks.{is_set}
-use Rattle.pas_profile.specs.{Blocks.address_of, Classes.class_size, Classes.class_grains, Classes.IsSlotStart, Directories.deed_word_of, Requests.class_home}
-use Rattle.pas_profile.specs.{Requests.is_shared, Requests.kind_of_class}
+use Rattle.pas_profile.specs.{Classes.class_size, Classes.class_grains, Classes.IsSlotStart, Directories.deed_word_of, Requests.class_home, Requests.is_shared}
+use Rattle.pas_profile.specs.{Requests.kind_of_class}
 use Rattle.pas_profile.specs.declared.{directory.Directory.Directory, event.Event.Event, event.NoRoom.NoRoom, name.Block.Block, profile.Profile.Profile}
 use Rattle.pas_profile.proofs.ClassFacts.{class_grains_positive, usable_grains_le, slot_end}
 use Rattle.pas_steps.specs.{Agreement.Agreed, Desks.triples, Events.events_by, Evidence.ShowsHere, Past.Once, Past.Always, Views.View, Views.has_right}
@@ -21,14 +21,14 @@ use Rattle.pas_segregated.specs.{Masks.start_of, Refills.GivesSlots, Refills.Get
 use Rattle.pas_segregated.specs.declared.slots.Slots.{Slots}
 use Rattle.pas_cache.specs.{Changes.GivesSlot, Contents.Cached, Serves.filling_in, Serves.took_in, Serves.IsRefill, Locals.any_covers, Locals.covers}
 use Rattle.pas_answers.specs.Answers.{Progress, named}
-use Rattle.pas_same_text.specs.State.{Cache, World, Local, cache_of, locals_of}
+use Rattle.pas_same_text.specs.State.{Cache, World, Local, cache_of}
 use Rattle.pas_partial.specs.Rows.{IsFreeSlot}
 use Rattle.pas_same_text.specs.{Pages.is_guarded, Acts.IsBetween, Searched.IsSearch}
 use Rattle.pas_same_text.specs.Searches.{some_of, searched, readies, address_on}
-use Rattle.pas_same_text.specs.Classes.{others, slots_for, gives_first, local_on, takes_page, fetches}
+use Rattle.pas_same_text.specs.Classes.{slots_for, gives_first, local_on, takes_page, fetches}
 use Rattle.pas_same_text.specs.Same.{IsSame, HasSame, IsSameCache, IsSameLocal, AreSameLocals, AreSameCaches, has_number}
-use Rattle.pas_same_text.proofs.{ClassFits.class_fits, ClassFits.read_unguarded, FetchedClasses.HasPlace, FetchedClasses.may_fetch}
-use Rattle.pas_same_text.proofs.{FetchedClasses.keeps_unshared, LoggedFrees.after_with, MadePlace.all_left, TakenSince.shared_row, TakenSince.right_kept}
+use Rattle.pas_same_text.proofs.{PlacesFit.class_fits, PlacesFit.read_unguarded, FetchedClasses.HasPlace, FetchedClasses.may_fetch}
+use Rattle.pas_same_text.proofs.{FetchedClasses.keeps_unshared, SmallActs.after_with, MadePlace.all_left, TakenSince.shared_row, TakenSince.right_kept}
 use Rattle.pas_same_text.proofs.{TakenSince.exclusive_free, TakenSlots.all_taken, TakenSlots.row_taken, TakenSlots.slots_rise, Tests.and_first, Tests.or_none}
 use Rattle.pas_same_text.proofs.{CachedSlots.text_locals, CachedSlots.HasHead, CachedSlots.head_of, Pieces.has_same, ReadyPages.shown, ReadyPages.shown_rest}
 use Rattle.pas_same_text.proofs.GivenBlocks.{GivesBlock, page_chosen, page_ready, page_given}
@@ -160,9 +160,6 @@ module _ (f : Profile) (k name heap class : ℕ) (p : Progress) (w : World) (has
   slot = slot_given slots rest local head.head gives.start head.more local_same head.is gives.lowest gives.rest
 
   -- ---- the page
-  fits : some_of (slots_for shared w class slots.page) ≡ true
-  fits = ap some_of head.is
-
   is_search : IsSearch (NoSlot class) f d k p search w (slots_for shared w class)
   is_search = record {
     valid = has.valid;
@@ -176,10 +173,7 @@ module _ (f : Profile) (k name heap class : ℕ) (p : Progress) (w : World) (has
   }
 
   fit : NoSlot class (free_of_page p.list slots.page) → ⊥
-  fit none = true≢false (sym fits ∙ is_search.fits_same.none slots.page got.page unguarded none)
-
-  found : searched f w d (slots_for shared w class) ≡ Ok slots.page
-  found = page_chosen is_search slots.page got.page got.choice fit
+  fit none = true≢false (sym (ap some_of head.is) ∙ is_search.fits_same.none slots.page got.page unguarded none)
 
   -- ---- events
   abbrev es : List Event
@@ -192,9 +186,6 @@ module _ (f : Profile) (k name heap class : ℕ) (p : Progress) (w : World) (has
   -- ---- the block
   some : 1 ≤ class_grains class
   some = class_grains_positive class has.known
-
-  address : address_of block.name ≡ address_on slots.page head.head
-  address = omega (arith, gives.address, slot.0)
 
   room : block.room ≡ class_size class
   room = gives.room ∙ ap class_size of_class
@@ -211,7 +202,7 @@ module _ (f : Profile) (k name heap class : ℕ) (p : Progress) (w : World) (has
     there = there;
     list = refl;
     events_are = ap (events_by k own) (sym steps_are) ∙ events_are;
-    address_is = address;
+    address_is = omega (arith, gives.address, slot.0);
     room_is = room;
     heap_is = gives.heap ∙ of_heap;
   }
@@ -222,7 +213,7 @@ module _ (f : Profile) (k name heap class : ℕ) (p : Progress) (w : World) (has
 
   text : fetches f k name heap class w ≡ v
   text =
-      ap (λ (r : Result ℕ NoRoom). takes_page f k name heap class r w) found
+      ap (λ (r : Result ℕ NoRoom). takes_page f k name heap class r w) (page_chosen is_search slots.page got.page got.choice fit)
       ∙ (ap (λ (xs : List ℕ). gives_first k name local xs (readies k d slots.page w)) head.is
       ∙ ap (gives_first k name local (head.head ∷ head.more)) (page_ready slots.page head.head _ name new d search _ gives_it got.events refl some fits_page))
 

@@ -10,10 +10,10 @@ use Rattle.pas_trace.specs.EveryPlan.{IsThread}
 use Rattle.pas_trace.specs.declared.plan.What.TheVariants.{Alloc}
 use Rattle.pas_answers.specs.Answers.{Progress, Named, named, Answer, after_answer}
 use Rattle.pas_same_text.specs.{State.World, Classes.fetches, Classes.serves_class, Order.serves, Same.IsSame, Acts.IsBetween, Acts.StaysSame}
-use Rattle.pas_same_text.proofs.{CacheLists.same_own, CachedSlots.cached_answered, ClassGiven.fetched_to, ClassGiven.fetch_served, LoggedFrees.after_with}
-use Rattle.pas_same_text.proofs.{OneUp.up_to, RefusedClasses.class_served_by, RefusedClasses.fetched_so, RefusedClasses.class_refused, Asked.HasAsked}
-use Rattle.pas_same_text.proofs.{Asked.answer_reached, Asked.request_taken, LoggedFrees.asks}
-use Rattle.pas_same_text.proofs.FetchedClasses.{IsFetched, with_place, place_fetched, text_fetched, fetch_between, fetch_carried}
+use Rattle.pas_same_text.proofs.{CacheLists.same_own, CachedSlots.cached_answered, ClassGiven.fetched_to, ClassGiven.fetch_served, SmallActs.after_with}
+use Rattle.pas_same_text.proofs.{OneUp.up_to, Asked.HasAsked, Asked.answer_reached, Asked.request_taken, SmallActs.asks}
+use Rattle.pas_same_text.proofs.FetchedClasses.{class_served_by, fetched_so, class_refused, IsFetched, with_place, place_fetched, text_fetched, fetch_between}
+use Rattle.pas_same_text.proofs.FetchedClasses.{fetch_carried}
 
 module _ (f : Profile) (k name heap size align class : ℕ) (p : Progress) (a : Answer) (w : World) (listed : k ≤ length w.caches)
     (admitted : IsAdmitted f size align heap) (route : route_in f size align ≡ Route.Class class)

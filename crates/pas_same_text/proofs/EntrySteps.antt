@@ -1,19 +1,19 @@
 -- What follows a return of grains hints no page but one that it read as backed and empty.
 use Rattle.std.proofs.Common.{◌≡◌, ℕ, zero, suc, ◌<◌, true, Bool, List, [], ◌∷◌, ◌++◌, Option, None, Some, inl, inr, refl, ap, sym, subst, arith, true≢false}
-use Rattle.std.proofs.Common.{◌+◌, ◌*◌, ◌/◌, ◌%◌, ◌^◌, ◌≤◌, ◌==◌, false, ◌&&◌, if◌then◌else◌, ◌∙◌, eq-eqb}
+use Rattle.std.proofs.Common.{◌+◌, ◌*◌, ◌/◌, ◌%◌, ◌^◌, ◌≤◌, false, ◌∙◌, eq-eqb}
 use Rattle.std.proofs.lemmas.Bool.{cases_eq}
 use Rattle.pas_large.proofs.Left.{hints_both}
 use Rattle.pas_bits.proofs.{Words.full_bit, Runs.to_meet}
 use Rattle.pas_profile.specs.declared.{directory.Directory.Directory, word.Word.Word, event.Event.Event, name.Name.Name, profile.Profile.Profile}
-use Rattle.pas_steps.specs.{Past.Always, Past.Since, Allowed.IsStepOf, Allowed.IsEndIn, Desks.made, Desks.triples, Effects.target, Effects.life_word_at}
-use Rattle.pas_steps.specs.{Events.event_of, Events.events_by, Events.with_event, Views.epoch_of, Views.or_zero}
+use Rattle.pas_steps.specs.{Past.Always, Past.Since, Allowed.IsEndIn, Desks.made, Desks.triples, Effects.life_word_at, Events.event_of, Events.events_by}
+use Rattle.pas_steps.specs.{Views.epoch_of}
 use Rattle.pas_steps.specs.Kinds.{LookFree, Unparking, Offering, Only, kind_of, is_in, LookDeed, Putting, Stamping, returning, Kinds}
 use Rattle.pas_steps.specs.declared.step.{Made.Made, Step.TheVariants.Look, Step.TheVariants.Stamp}
-use Rattle.pas_rights.specs.Looks.{looks, looks_until, is_free, HintSteps, HintsWhere, ReadsAllFree, TakesNone, HintsEmpty}
+use Rattle.pas_rights.specs.Looks.{looks, looks_until, is_free, HintsWhere, ReadsAllFree, TakesNone, HintsEmpty}
 use Rattle.pas_rights.specs.{Returns.ReofferSteps, Returns.ReturnSteps, Words.ones}
 use Rattle.pas_rights.specs.declared.reading.Used.{Used}
 use Rattle.pas_rights.proofs.{Orders.until_only, Orders.return_returns, Puts.puts_kinds}
-use Rattle.pas_same_text.proofs.GivingBack.{hint_step, hints_none, IsMarked, marked_parts, none_marked, returns_marked}
+use Rattle.pas_same_text.proofs.StepMarks.{hint_step, hints_none, IsMarked, marked_parts, none_marked, returns_marked}
 use Rattle.pas_answers.proofs.Tidy.{first_page}
 use Rattle.pas_bits.specs.Runs.{meets_page}
 use Rattle.pas_profile.specs.{Blocks.address_of, Blocks.grain_of, Blocks.length_of, Directories.directory_read, Directories.deed_word_of, Lives.live_word}
@@ -51,13 +51,9 @@ until_read : (page : ℕ) (used : Option Used) → is_free used ≡ true → (xs
 until_read page None free xs word lt = search (arith, read_earlier, all_read)
 until_read page (Some used) free xs word lt = absurd (true≢false (sym free))
 
-hint_after : (page : ℕ) (steps xs : List Made) → HintSteps page steps → ((word : ℕ) → word < 4 → Since (ReadsAllFree page word) (TakesNone page) xs)
-    → Always HintsEmpty xs → Always HintsEmpty (steps ++ xs)
-hint_after page steps xs word read rest = search (arith, hint_step)
-
 hints_where : (all_free : Bool) (page : ℕ) (steps xs : List Made) → HintsWhere all_free page steps
     → (all_free ≡ true → (word : ℕ) → word < 4 → Since (ReadsAllFree page word) (TakesNone page) xs) → Always HintsEmpty xs → Always HintsEmpty (steps ++ xs)
-hints_where all_free page steps xs h read rest = search (arith, hint_after)
+hints_where all_free page steps xs h read rest = search (arith, hint_step)
 
 -- in either case the steps are written out
 reoffer_only : (page : ℕ) (d : Directory) (steps : List Made) → ReofferSteps page d steps → Only (Unparking ∷ Offering ∷ []) steps
@@ -123,17 +119,6 @@ pub name_same : (a b : Name) → address_of a ≡ address_of b → a.turn ≡ b.
 name_same a b at turn = search (arith, a.turn)
 
 -- ---- the last try
--- both forms of the last step have the name's life word
-target_last : (t : Bool) (entry : Entry) (n : ℕ) → target (last_step t entry n) ≡ life_word_at (grain_of entry.name)
-target_last t entry n = search arith
-
--- by whether the entry names a room, and then the guess is that room
-end_in : (f : Profile) (t : Bool) (entry : Entry) (n : ℕ) → (t ≡ true → n ≡ entry.room / 16) → IsStepOf f (last_step t entry n) → IsEndIn f entry.name n
-end_in f t entry n is of = search arith
-
-whole_room : (f : Profile) (t : Bool) (entry : Entry) (n : ℕ) → t ≡ true → IsStepOf f (last_step t entry n) → entry.room % 16 ≡ 0
-whole_room f t entry n e of = search (arith, true≢false)
-
 idle_before : (t : Bool) (entry : Entry) (deed first guess : ℕ) (before : List Made) → TriesBy t entry first guess before
     → AreIdle (before ++ first_look entry.name deed)
 idle_before true entry deed first guess before tries = subst (λ s. AreIdle (s ++ first_look entry.name deed)) (sym tries.1) (idle_look entry.name deed)
@@ -174,10 +159,10 @@ module _ (f : Profile) (k epoch : ℕ) (s : Settled) (piece : List Made) (l : Wh
   lm = triples k first ++ l
 
   answer_is : is.order.answer ≡ word_after lm (life_word_at (grain_of s.entry.name))
-  answer_is = ends_legal.0.answer_is ∙ ap (word_after lm) (target_last (is_sized s.entry) s.entry is.order.guess)
+  answer_is = search (arith, ends_legal)
 
   within : IsEndIn f s.entry.name is.order.guess
-  within = end_in f (is_sized s.entry) s.entry is.order.guess guessed ends_legal.0.of_region
+  within = search (arith, guessed, ends_legal)
 
   same_events : visible lm ≡ visible l
   same_events = visible_steps k first l ∙ ap (λ (es : List Event). es ++ visible l) (idle.events k (part k l))
@@ -193,7 +178,7 @@ module _ (f : Profile) (k epoch : ℕ) (s : Settled) (piece : List Made) (l : Wh
   life = life_of f lm valid ends_legal.1 g
 
   room_at : (b : Live) → length_of b.block ≡ is.order.guess → b.block.room % 16 ≡ 0 → (t : Bool) → is_sized s.entry ≡ t → is_other_room s.entry b.block ≡ false
-  room_at b long whole t sized = search (arith, whole_room, ends_legal, guessed, eq-eqb)
+  room_at b long whole t sized = search (arith, ends_legal, guessed, eq-eqb, true≢false)
 
   -- An end that was answered by the live word of its turn and length ended the block that lives there, of just that length.
   pub found_block : is.order.answer ≡ live_word s.entry.name.turn is.order.guess → IsEndOfBlock f l s.entry is.order.guess
@@ -241,15 +226,12 @@ module _ (f : Profile) (k epoch : ℕ) (s : Settled) (piece : List Made) (l : Wh
       (ap (events_by k (part k l)) is.steps_are ∙ (events_same putting_back refl k (part k l) is.after is.ends (after_kinds s.outcome is.returns) ∙ ends_event))
 
   -- ---- its hints
-  after_hints : (o : Outcome) → AfterEnd s.entry.name o is.after → Always HintsEmpty is.after
-  after_hints o h = search (arith, run_hints)
-
   ends_trying : Only trying is.ends
   ends_trying = subst (Only trying) (sym is.order.steps_are) (ap (is_in trying) last.kind, idle.kinds)
 
   -- The steps for one logged free hint only pages that they read as backed and empty.
   pub entry_hints : Always HintsEmpty piece
-  entry_hints = search (arith, hints_both, after_hints, hints_none, ends_trying)
+  entry_hints = search (arith, hints_both, hints_none, ends_trying, run_hints)
 
   -- a page that is marked is one of those of the block that ended
   pub after_marked : (q : ℕ) → IsMarked q piece → IsMarked q is.after

@@ -1,34 +1,40 @@
--- SLOTS OF A CLASS ARE FETCHED for a request, whatever is found: place is made for a local allocator, in the text too, and from there on the fetch is a request of
--- its own.
+-- SLOTS OF A CLASS ARE FETCHED for a request: place is made for a local allocator, in the text too, and from there on the fetch is a request of its own. At the
+-- end: no page serves it, in the text either.
 use Rattle.std.proofs.Common.{◌≡◌, ℕ, ◌≤◌, ◌<◌, nat_le, Bool, true, false, not, ◌||◌, if◌then◌else◌, List, [], ◌∷◌, ◌++◌, length, All, Option, None, Some}
-use Rattle.std.proofs.Common.{Result, refl, ap, sym, ◌∙◌, subst, append-nil, append_assoc, arith, true≢false, eq-eqb, eqb-true}
+use Rattle.std.proofs.Common.{Result, refl, ap, sym, ◌∙◌, subst, append-nil, append_assoc, arith, true≢false, eq-eqb, eqb-true, Ok, Err, inl, inr}
 use Rattle.std.proofs.lemmas.{Bool.false_from_ne_true, Bool.Decides.nat_tests, List.Elements.All-head, List.Elements.All-tail}
 use Rattle.std.specs.List.{find}
 use Rattle.pas_bits.specs.Masks.{is_set, IsEmpty}
-use Rattle.pas_profile.specs.{Classes.IsClass, Classes.IsSlotStart, Directories.IsKind, Profiles.IsValid, Profiles.IsDirectoryOf, Requests.class_home}
-use Rattle.pas_profile.specs.{Requests.kind_of_class}
-use Rattle.pas_profile.specs.declared.{directory.Kind.Kind, event.Event.Event, event.NoRoom.NoRoom, profile.Profile.Profile, word.Word.Word}
-use Rattle.pas_profile.proofs.ClassFacts.{class_grains_positive, usable_grains_le}
+use Rattle.pas_profile.specs.{Classes.IsClass, Classes.IsSlotStart, Directories.IsKind, Profiles.IsValid, Profiles.IsDirectoryOf, Profiles.IsAdmitted}
+use Rattle.pas_profile.specs.Requests.{class_home, kind_of_class, is_shared, route_in, room_in}
+use Rattle.pas_profile.specs.declared.{event.Event.Event, event.NoRoom.NoRoom, profile.Profile.Profile, word.Word.Word, directory.Directory.Directory}
+use Rattle.pas_profile.specs.declared.{directory.Route.Route}
+use Rattle.pas_profile.proofs.ClassFacts.{class_grains_positive, usable_grains_le, class_known, class_suits}
 use Rattle.pas_steps.specs.{Desks.triples, Events.events_by, Views.View, Views.KnowsDeed}
 use Rattle.pas_steps.specs.Lists.{Whole, part, word_after, Legal}
 use Rattle.pas_steps.specs.declared.step.Made.{Made}
 use Rattle.pas_steps.proofs.{Adding.triples_append, Apart.no_events, Frames.events_append, Parts.part_of_own}
 use Rattle.pas_core.proofs.{Nexts.agreed_steps, OneActor.legal_earlier}
-use Rattle.pas_search.specs.Searches.{MaySearch}
-use Rattle.pas_segregated.specs.Stops.{home_of}
+use Rattle.pas_search.specs.{Searches.MaySearch, Searches.IsRefused, Kinds.AreSearch, Telling.IsTrueReason}
+use Rattle.pas_segregated.specs.{Stops.home_of, Takes.NoSlot, Takes.fewer_slots}
 use Rattle.pas_segregated.specs.declared.slots.Slots.{Slots}
-use Rattle.pas_cache.specs.{Caches.AtRest, Changes.LeavesSpent, Changes.StopsFirst, Contents.Cached, Kinds.releasing, Serves.filling_in, Serves.Fetches}
+use Rattle.pas_cache.specs.{Caches.AtRest, Changes.LeavesSpent, Changes.StopsFirst, Contents.Cached, Kinds.releasing}
+use Rattle.pas_cache.specs.Serves.{filling_in, Fetches, IsRefill, IsObtained, IsAnswered, ServesClass}
 use Rattle.pas_cache.specs.Locals.{IsLocal, RestsWith, keeps_right, any_keeps, local_for, others_than, is_for as is_for_slots}
 use Rattle.pas_report.specs.declared.record.Said.{Said as TheSaid}
 use Rattle.pas_trace.specs.EveryPlan.{IsThread}
-use Rattle.pas_answers.specs.Answers.{Progress, Named, records_of, said_by, Caches}
-use Rattle.pas_same_text.specs.{State.Local, State.World, State.locals_of, Searches.some_of, Acts.AreResting, Acts.IsBetween}
-use Rattle.pas_same_text.specs.Classes.{is_for, fetches, serves_class_by, serves_class}
-use Rattle.pas_same_text.specs.Same.{IsSame, IsSameLocal, AreSameLocals, ArePagesSame, has_number}
+use Rattle.pas_answers.specs.Answers.{Progress, Named, records_of, said_by, Caches, named, Answer, after_answer, said_of_room}
+use Rattle.pas_same_text.specs.{State.Local, State.World, State.locals_of, Searches.some_of, Searches.refusal, Searches.refuses, Acts.AreResting}
+use Rattle.pas_same_text.specs.{Acts.IsBetween, Order.serves}
+use Rattle.pas_same_text.specs.Classes.{is_for, fetches, serves_class_by, serves_class, slots_for, takes_page}
+use Rattle.pas_same_text.specs.Same.{IsSame, IsSameLocal, AreSameLocals, ArePagesSame, has_number, HasSame}
 use Rattle.pas_same_text.proofs.CacheLists.{same_own, same_again, Finds, found_same}
-use Rattle.pas_same_text.proofs.{LoggedFrees.after_with, SeatedActs.cached_again, SeatedActs.middle_rest, OneUp.up_to, StillIndexes.same_many}
-use Rattle.pas_same_text.proofs.{StillIndexes.given_up_keeps, StillIndexes.first_up_keeps}
+use Rattle.pas_same_text.proofs.{SmallActs.after_with, SeatedActs.cached_again, SeatedActs.middle_rest, OneUp.up_to, SameIndexes.same_many}
+use Rattle.pas_same_text.proofs.{SameIndexes.given_up_keeps, SameIndexes.first_up_keeps, BitfitRequests.none_searched, PlacesFit.class_fits}
+use Rattle.pas_same_text.proofs.{SearchedPages.refused_to, SearchedPages.refused_same, Asked.HasAsked, Asked.answer_reached}
 use Rattle.pas_same_text.proofs.MadePlace.{placed_by, place_made, none_same, most_left, known_found}
+use Rattle.pas_core.specs.Fits.{HasNoFit}
+use Rattle.pas_search.proofs.Alone.{refused_told}
 
 -- the text once place was made for a local allocator of the heap and class
 abbrev pub with_place : ℕ → ℕ → ℕ → World → World
@@ -69,6 +75,7 @@ none_others heap class (s ∷ slots) = let ih = none_others heap class slots in 
 none_behind : (s : Slots) (found : Option Slots) (t : Bool) → (if t then Some s else found) ≡ None → found ≡ None
 none_behind s found t none = search arith
 
+-- one that passed would have been found
 none_here : (s : Slots) (found : Option Slots) (t : Bool) → (if t then Some s else found) ≡ None → t ≡ false
 none_here s found t none = search arith
 
@@ -81,10 +88,6 @@ none_stopped heap class kept fewer stopped t h x = search (arith, none_behind)
 below_full : (n : ℕ) → nat_le 32 n ≡ false → n < 32
 below_full n e = grind (arith, nat_tests, e)
 
-few_stopped : (kept fewer : List Slots) (stopped : List Made) (t : Bool) → nat_le 32 (length kept) ≡ t → length kept ≤ 32 → StopsFirst t kept fewer stopped
-    → length fewer < 32
-few_stopped kept fewer stopped t e le h = search (arith, below_full)
-
 -- a list in which no number stands has none
 none_some : (xs : List ℕ) → ((g : ℕ) → has_number xs g ≡ false) → some_of xs ≡ false
 none_some [] none = refl
@@ -95,12 +98,8 @@ pub keeps_unshared : (right shared : Bool) (a b : ℕ) → kind_of_class (not ri
 keeps_unshared right shared a b same = grind arith
 
 -- ---- a thread without a local allocator of the heap and class may search for one
--- kinds of classes tell their class, and the shared kind is none of them
-same_class : (shared : Bool) (a b : ℕ) → kind_of_class false a ≡ kind_of_class shared b → a ≡ b
-same_class shared a b is = search arith
-
 kept_for : (f : Profile) (heap class : ℕ) (s : Slots) → s.right ≡ true → home_of s ≡ class_home f heap class → is_for_slots heap class s ≡ true
-kept_for f heap class s right home = search (arith, same_class, eq-eqb)
+kept_for f heap class s right home = search (arith, eq-eqb)
 
 -- A page known to be of a class's home isn't kept by a cache that has no local allocator of the heap and class.
 pub none_kept : (f : Profile) (v : View) (heap class : ℕ) (page : ℕ) (slots : List Slots) → IsKind (class_home f heap class).kind
@@ -143,14 +142,8 @@ module _ (f : Profile) (k heap class : ℕ) (p : Progress) (w : World) (found : 
   legal_middle : Legal f p1.list
   legal_middle = legal_earlier f k ys xs p.list (subst (λ (ms : List Made). Legal f (triples k ms ++ p.list)) o.fetch.steps_are o.legal)
 
-  few_kept : length o.fetch.place.kept ≤ 32
-  few_kept = search (arith, most_left)
-
   place_left : length fewer < 32
-  place_left = few_stopped o.fetch.place.kept fewer o.fetch.place.stopped (nat_le 32 (length o.fetch.place.kept)) refl few_kept o.fetch.place.shortened.first
-
-  none_left : local_for heap class fewer ≡ None
-  none_left = search (arith, none_stopped, none_others)
+  place_left = search (arith, below_full, most_left)
 
   -- all actors are at rest before the search
   rests : RestsWith f fewer (part k p1.list)
@@ -174,6 +167,9 @@ module _ (f : Profile) (k heap class : ℕ) (p : Progress) (w : World) (found : 
   many_placed : (x : Option Local) → length (placed_by k x w).caches ≡ length w.caches
   many_placed None = same_many w (placed_by k None w) (first_up_keeps k (locals_of w k) w)
   many_placed (Some l) = same_many w (placed_by k (Some l) w) (given_up_keeps k l w)
+
+  none_left : local_for heap class fewer ≡ None
+  none_left = search (arith, none_stopped, none_others)
 
   -- Once place was made in a cache, it has place for a local allocator of the heap and class.
   pub place_fetched : HasPlace f k heap class p1 w1
@@ -251,3 +247,104 @@ module _ (f : Profile) (k heap class : ℕ) (p : Progress) (w : World) (found : 
       epoch = ended.epoch ∙ ap (λ (l : Whole). word_after l Word.Epoch) (sym list_is);
       read = ended.read;
     }
+
+-- ==== A REQUEST OF A CLASS THAT IS REFUSED: place is made for a local allocator, and then no page serves, in the text either.
+-- ---- the fetch as a request of its own
+module _ (f : Profile) (k name heap class : ℕ) (p : Progress) (w : World) (room : NoRoom) (steps : List Made) (has : HasPlace f k heap class p w)
+    (refill : IsRefill (filling_in (class_home f heap class) class) f steps (Err room)) (after : IsBetween f (refused_to p k name steps room)) where
+  abbrev d : Directory
+  d = class_home f heap class
+
+  searched_are : refill.searched ≡ steps
+  searched_are = sym (refill.steps_are ∙ ap (λ (ms : List Made). ms ++ refill.searched) refill.outcome.1)
+
+  searches : AreSearch steps
+  searches = subst AreSearch searched_are refill.searches
+
+  refused : IsRefused (NoSlot class) f d steps room
+  refused = subst (λ (ms : List Made). IsRefused (NoSlot class) f d ms room) searched_are refill.outcome.0
+
+  -- nothing could serve before, and the reason is true after
+  told : HasNoFit (NoSlot class) f d p.list × HasNoFit (NoSlot class) f d (triples k steps ++ p.list) × IsTrueReason f d (triples k steps ++ p.list) room
+  told = refused_told (NoSlot class) f d k p.list steps has.valid has.directory (fewer_slots class) after.legal searches (may_fetch f k heap class p w has) room refused
+
+  old : HasSame f p w
+  old = record { events = has.same.pages.events; live = has.same.pages.live; caches = has.same.caches; guards = has.same.guards }
+
+  text : fetches f k name heap class w ≡ refuses k name (refusal f w d) w
+  text = ap (λ (r : Result ℕ NoRoom). takes_page f k name heap class r w)
+      (none_searched (NoSlot class) f d p w (slots_for (is_shared f heap) w class) has.between.legal has.directory has.same.pages (class_fits f p w has.valid has.between old class has.known (is_shared f heap)) told.0)
+
+  fetch_refused : IsSame f (refused_to p k name steps room) (fetches f k name heap class w)
+  fetch_refused = subst (IsSame f (refused_to p k name steps room)) (sym text) (refused_same f k name p w d steps room has.valid has.thread has.directory has.between after has.same searches refused.quiet told.2)
+
+-- ---- the pages of a request of a class
+-- A request's class is one of the classes.
+pub class_of_request : (f : Profile) (size align class : ℕ) → route_in f size align ≡ Route.Class class → IsClass class
+class_of_request f size align class route = class_known f.classes size align class (class_suits f.classes size align class route)
+
+-- The directory of a request of a class is one of the region.
+pub class_directory_of : (f : Profile) (heap size align class : ℕ) → IsAdmitted f size align heap → route_in f size align ≡ Route.Class class
+    → IsDirectoryOf f (class_home f heap class)
+class_directory_of f heap size align class admitted route = search (arith, class_of_request, class_suits)
+
+-- How the thread's cache serves it, in these pages: by its route, which is that of the class.
+pub class_served_by : (f : Profile) (k name heap size align class : ℕ) (p : Progress) (a : Answer) (w : World) → route_in f size align ≡ Route.Class class
+    → (asked : HasAsked f k (record { name = name; heap = heap; size = size; align = align }) p a w)
+    → ServesClass (filling_in (class_home f heap class) class) f (p.caches k) a.cache a.steps asked.served.answer
+class_served_by f k name heap size align class p a w route asked = search arith
+
+-- ---- the request
+module _ (f : Profile) (k name heap size align class : ℕ) (p : Progress) (a : Answer) (w : World) (listed : k ≤ length w.caches)
+    (admitted : IsAdmitted f size align heap) (route : route_in f size align ≡ Route.Class class) (asked : HasAsked f k (record { name = name; heap = heap; size = size; align = align }) p a w) where
+  abbrev mine : Cached
+  mine = p.caches k
+
+  abbrev home : Directory
+  home = class_home f heap class
+
+  by_class : ServesClass (filling_in home class) f mine a.cache a.steps asked.served.answer
+  by_class = class_served_by f k name heap size align class p a w route asked
+
+  -- what was made before the last of its steps came onto a legal list
+  legal_fetch : (given steps : List Made) → a.steps ≡ given ++ steps → Legal f (triples k steps ++ p.list)
+  legal_fetch given steps steps_are = legal_earlier f k given steps p.list (subst (λ (ms : List Made). Legal f (triples k ms ++ p.list)) steps_are asked.after.legal)
+
+  -- slots were fetched, or none were found
+  pub fetched_so : (found : Result Slots NoRoom) (fewer : List Slots) (steps given : List Made) → a.steps ≡ given ++ steps
+      → Fetches (filling_in home class) f mine.locals fewer steps found → IsFetched f k heap class p w found fewer steps
+  fetched_so found fewer steps given steps_are fetch = search (arith, class_directory_of, class_of_request, legal_fetch)
+
+  -- ---- none were found
+  module _ (room : NoRoom) (is : asked.served.answer ≡ Err room) where
+    by_fetch : (fewer : List Slots) (steps : List Made) → a.cache ≡ record mine { locals = fewer } → a.steps ≡ steps → IsFetched f k heap class p w (Err room) fewer steps → IsSame f (after_answer p k a) (serves_class f k name heap class w)
+    by_fetch fewer steps cache steps_are o =
+        let p1 : Progress = up_to p k o.fetch.before fewer in
+        let w1 : World = with_place k heap class w in
+        let said : Option TheSaid = Some (said_of_room name room) in
+        let names : List Named = named name None ∷ p.names in
+        let to : after_answer p k a ≡ after_with p k steps said names (p1.caches k) =
+        answer_reached asked (Err room) is ∙ cc (same_own p.caches k (record mine { locals = fewer })) in
+        let end : IsBetween f (refused_to p1 k name o.fetch.searched room) = fetch_between f k heap class p w (Err room) fewer steps o [] said names (p1.caches k) (subst (IsBetween f) to asked.after) in
+        let ended : IsSame f (refused_to p1 k name o.fetch.searched room) (fetches f k name heap class w1) =
+        fetch_refused f k name heap class p1 w1 room o.fetch.searched (place_fetched f k heap class p w (Err room) fewer steps o) o.fetch.refill end in
+        rw (text_fetched f k heap class p w (Err room) fewer steps o name, to)
+        (fetch_carried f k heap class p w (Err room) fewer steps o [] said names (p1.caches k) (fetches f k name heap class w1) ended)
+
+    obtained : (fewer : List Slots) (steps : List Made) → a.cache ≡ record mine { locals = fewer } → a.steps ≡ steps → IsObtained (filling_in home class) f mine.locals fewer steps (Err room) → IsSame f (after_answer p k a) (serves_class f k name heap class w)
+    obtained fewer steps cache steps_are (inl cached) = absurd (let bad : Err room ≡ Ok cached.0 = cached.1 in cc)
+    obtained fewer steps cache steps_are (inr fetch) = by_fetch fewer steps cache steps_are (fetched_so (Err room) fewer steps [] steps_are fetch)
+
+    ends_so : (found : Result Slots NoRoom) (fewer : List Slots) (early given : List Made) → a.steps ≡ given ++ early
+        → IsObtained (filling_in home class) f mine.locals fewer early found → IsAnswered fewer a.cache.locals given found (Err room)
+        → IsSame f (after_answer p k a) (serves_class f k name heap class w)
+    ends_so (Ok slots) fewer early given steps_are how ends = absurd ends
+    ends_so (Err why) fewer early given steps_are how ends =
+        obtained fewer early (by_class.cache ∙ ap (λ (ss : List Slots). record mine { locals = ss }) ends.1) (steps_are ∙ ap (λ (ms : List Made). ms ++ early) ends.2)
+        (subst (λ (r : NoRoom). IsObtained (filling_in home class) f mine.locals fewer early (Err r)) (sym ends.0) how)
+
+    -- A request of a class that is refused leads the text to the replay's state.
+    pub class_refused : IsSame f (after_answer p k a) (serves f k name heap (route_in f size align) (room_in f size align) align w)
+    class_refused = subst (λ (r : Route). IsSame f (after_answer p k a) (serves f k name heap r (room_in f size align) align w)) (sym route)
+        (ends_so by_class.locals.found by_class.locals.fewer by_class.locals.before by_class.locals.given by_class.locals.steps_are by_class.locals.obtained
+        (subst (IsAnswered by_class.locals.fewer a.cache.locals by_class.locals.given by_class.locals.found) is by_class.locals.ends))

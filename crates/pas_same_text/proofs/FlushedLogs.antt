@@ -1,6 +1,6 @@
 -- A FLUSH, entry by entry: its steps beside what the text does.
-use Rattle.std.proofs.Common.{◌≡◌, ℕ, ◌-◌, ◌/◌, ◌<◌, ◌≤◌, ◌==◌, Bool, true, false, if◌then◌else◌, List, [], ◌∷◌, ◌++◌, length, map, reverse, take, Option, None}
-use Rattle.std.proofs.Common.{Some, inl, inr, refl, ap, sym, ◌∙◌, subst, append_assoc, arith, append-nil, eq-eqb}
+use Rattle.std.proofs.Common.{◌≡◌, ℕ, ◌-◌, ◌/◌, ◌≤◌, Bool, true, if◌then◌else◌, List, [], ◌∷◌, ◌++◌, length, map, reverse, take, Option, None, Some, inl, inr}
+use Rattle.std.proofs.Common.{refl, ap, sym, ◌∙◌, subst, append_assoc, arith, append-nil, eq-eqb}
 use Rattle.std.proofs.lemmas.{Grind.reverse_onto, Option.same_Some}
 use Rattle.pas_large.proofs.Left.{hints_both}
 use Rattle.pas_bits.specs.Runs.{meets_page}
@@ -23,7 +23,7 @@ use Rattle.pas_report.specs.declared.record.Record.{Record}
 use Rattle.pas_trace.specs.EveryPlan.{IsThread}
 use Rattle.pas_answers.specs.Answers.{Caches, with_cache as with_cached}
 use Rattle.pas_same_text.specs.State.{World, Cache, each, cache_of, with_cache, noted_of, set_log, live_after}
-use Rattle.pas_same_text.specs.Frees.{ends, ends_block, is_other_room, rejects, pages_of}
+use Rattle.pas_same_text.specs.Frees.{ends, ends_block, rejects, pages_of}
 use Rattle.pas_same_text.specs.Entries.{IsShown}
 use Rattle.pas_same_text.specs.Same.{AreSameCaches, IsSameCache, lives_in, has_number}
 use Rattle.pas_same_text.proofs.CacheLists.{all_locals, many_with, locals_with, same_with, same_own, same_again, with_own, noted_more, take_none, noted_start}
@@ -33,7 +33,7 @@ use Rattle.pas_same_text.proofs.GivenBack.{has_both, page_there}
 use Rattle.pas_same_text.proofs.Flushes.{reject_text, end_text, reject_shown, end_shown, reason_is}
 use Rattle.pas_same_text.proofs.EntrySteps.{IsEndOfBlock, found_block, block_marked, name_same, entry_kinds, entry_events, entry_hints, after_marked}
 use Rattle.pas_same_text.proofs.EntrySteps.{read_directory}
-use Rattle.pas_same_text.proofs.GivingBack.{IsMarked, marked_parts, none_marked, hints_none}
+use Rattle.pas_same_text.proofs.StepMarks.{IsMarked, marked_parts, none_marked, hints_none}
 use Rattle.pas_same_text.proofs.Tests.{has_filtered}
 
 -- ---- lists of entries
@@ -60,6 +60,7 @@ pub record OnlyFewer (es es' : List Event) : Type 0 where
 still_gone : (k epoch : ℕ) (entry : Entry) (o : Outcome) (es : List Event) (a : ℕ) → live_in es a ≡ None → live_in (event_for k epoch entry o ∷ es) a ≡ None
 still_gone k epoch entry o es a h = search arith
 
+-- no event of an entry gives a block
 fewer_one : (k epoch : ℕ) (entry : Entry) (o : Outcome) (es : List Event) → OnlyFewer es (event_for k epoch entry o ∷ es)
 fewer_one k epoch entry o es = search arith
 

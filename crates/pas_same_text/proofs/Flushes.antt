@@ -1,9 +1,9 @@
 -- What logged frees and flushes show: the events that the machine allows them.
-use Rattle.std.proofs.Common.{◌≡◌, ℕ, ◌<◌, ◌≤◌, ◌==◌, nat_lt, Bool, true, false, not, ◌&&◌, if◌then◌else◌, List, [], ◌∷◌, Option, None, Some, refl, ap, sym}
-use Rattle.std.proofs.Common.{◌∙◌, subst, arith, eq-eqb, ne_eqb, ◌++◌, map, reverse, append_assoc}
+use Rattle.std.proofs.Common.{◌≡◌, ℕ, ◌<◌, ◌==◌, Bool, true, false, not, if◌then◌else◌, List, [], ◌∷◌, Option, None, Some, refl, ap, sym, ◌∙◌, subst, arith}
+use Rattle.std.proofs.Common.{eq-eqb, ne_eqb, ◌++◌, map, reverse, append_assoc}
 use Rattle.std.proofs.lemmas.{Bool.and_from, Bool.Decides.nat_tests, Bool.not-true, Grind.reverse_onto, List.reverse-reverse, List.map_push}
 use Rattle.std.specs.List.{find, filter}
-use Rattle.pas_profile.specs.{Blocks.address_of, Lives.turn_of}
+use Rattle.pas_profile.specs.Blocks.{address_of}
 use Rattle.pas_profile.specs.declared.{event.Event.Event, event.Why.Why, name.Block.Block, name.Name.Name, profile.Profile.Profile, word.Word.Word}
 use Rattle.pas_machine.specs.Laws.{IsCounted}
 use Rattle.pas_machine.specs.Machine.{Run, IsLive, IsReason, HasOtherRoom}
@@ -12,7 +12,7 @@ use Rattle.pas_machine.proofs.LiveBlocks.{all_counted}
 use Rattle.pas_free_log.specs.declared.{log.Entry.Entry, ending.Outcome.Outcome, noting.EndedRun.EndedRun}
 use Rattle.pas_free_log.specs.{Logs.is_sized, Endings.reason_by, Flushes.event_for, Flushes.Settled, Flushes.shown_for, Endings.reason_for}
 use Rattle.pas_same_text.specs.State.{World, each, is_at, block_at, shows, live_after, set_log}
-use Rattle.pas_same_text.specs.{Indexes.notes, Pages.minds, Same.lives_in}
+use Rattle.pas_same_text.specs.{Indexes.notes, Same.lives_in}
 use Rattle.pas_same_text.specs.Frees.{pages_of, reason, is_other_room, ends_block, rejects, ends, flushes}
 use Rattle.pas_same_text.specs.Entries.{IsShown, IsEntryReason, IsEntryEvent, HaveOutcomes, are_unsized, onto, events_of_flush, HasShown, IsFlushOf}
 use Rattle.pas_same_text.proofs.{Tests.and_first, Tests.and_second, GivenBack.OnlyHints, GivenBack.all_only_hints}
@@ -48,9 +48,6 @@ found_is (Event.End k name e ∷ es) a = let ih = found_is es a in let out = fou
 found_is (Event.Reject k name why ∷ es) a = found_is es a
 
 -- ---- what is shown besides nothing
-shown_now : (e : Event) (w : World) → IsShown e w (shows e w)
-shown_now e w = record { events = refl; live = refl; records = refl; names = refl; epoch = refl; read = refl; indexes = refl }
-
 -- .. where the block is noted and its pages are minded
 -- hints alone differ from the state that shows the end
 ended_now : (e : Event) (w : World) (k : ℕ) (b : Block) (x : World) → OnlyHints (notes k b (shows e w)) x → IsShown e w x
@@ -66,9 +63,6 @@ rejected f k entry w o live is other = search (arith, block_here)
 
 reason_ended : (w : World) (name : Name) → name.turn < ends_in w.events (address_of name) → reason w name ≡ Why.Ended
 reason_ended w name past = search (arith, nat_tests)
-
-reason_none : (w : World) (name : Name) → ends_in w.events (address_of name) ≤ name.turn → reason w name ≡ Why.NoBlock
-reason_none w name few = search (arith, nat_tests)
 
 -- a block that lives has as its turn the number of blocks that ended there
 turn_of_live : (f : Profile) (es : List Event) (a : ℕ) (b : Live) → Run f es → live_in es a ≡ Some b → b.block.name.turn ≡ ends_in es a
@@ -91,7 +85,7 @@ module _ (f : Profile) (k : ℕ) (entry : Entry) (w : World) (live : w.live ≡ 
       ne_eqb b.block.name.turn entry.name.turn (λ same. let turn : b.block.name.turn ≡ ends_in w.events (address_of entry.name) =
       turn_of_live f w.events _ b run at in absurd (omega (arith, past, same, turn))))
       ∙ ap (λ (x : Why). rejects k entry.name x w) (reason_ended w entry.name past)
-  reject_text Why.NoBlock run none is = search (arith, rejected, ne_eqb, reason_none)
+  reject_text Why.NoBlock run none is = search (arith, rejected, ne_eqb)
   reject_text (Why.SizeDiffers room) run other is =
       let o : HasOtherRoom w.events entry.name room = other.1 in
       let differs : not (o.block.block.room == entry.room) ≡ true = ap not (ne_eqb o.block.block.room entry.room (λ same. o.differs (same ∙ sym is.1))) in
@@ -105,8 +99,7 @@ module _ (f : Profile) (k : ℕ) (entry : Entry) (w : World) (live : w.live ≡ 
   -- A logged free with a true reason to refuse it shows just that refusal.
   pub reject_shown : (why : Why) → Run f w.events → IsReason w.events entry.name why → IsEntryReason entry why
       → IsShown (Event.Reject k entry.name why) w (ends f k entry w)
-  reject_shown why run reason is =
-      as_shown _ w _ _ (reject_text why run reason is) (shown_now _ w)
+  reject_shown why run reason is = search (arith, as_shown, reject_text)
 
   -- A logged free of a live name with no other room shows just the end of that name.
   pub end_shown : (lives : IsLive w.events entry.name) → ((b : Live) → live_in w.events (address_of entry.name) ≡ Some b → is_other_room entry b.block ≡ false)
@@ -128,13 +121,9 @@ module _ (f : Profile) (k : ℕ) (entry : Entry) (w : World) (live : w.live ≡ 
 
 -- ==== What a flush shows: one event for each logged free, in the order of the log.
 -- ---- one
--- a refusal names a room only where the free did, and that one
--- neither reason names a room
-by_turn : (entry : Entry) (read : ℕ) → IsEntryReason entry (if nat_lt entry.name.turn (turn_of read) then Why.Ended else Why.NoBlock)
-by_turn entry read = search arith
-
+-- by cases of the test
 reason_sized : (t : Bool) (entry : Entry) (read : ℕ) → is_sized entry ≡ t → IsEntryReason entry (reason_by t entry read)
-reason_sized t entry read sized = search (arith, by_turn)
+reason_sized t entry read sized = search arith
 
 -- The reason that a read life word gives is one that the entry may have.
 pub reason_is : (entry : Entry) (read : ℕ) → IsEntryReason entry (reason_for entry read)

@@ -1,7 +1,7 @@
 -- WHAT THE TEXT DOES WHERE GRAINS COME BACK to pages, and where a block ends: which grains are free then, and which pages are hinted.
 use Rattle.std.proofs.{lemmas.Bool.Decides.nat_tests, lemmas.List.Folds.list_any-append, Math.Bool.or-false}
-use Rattle.std.proofs.Common.{◌≡◌, ℕ, zero, suc, ◌+◌, ◌<◌, ◌≤◌, ◌≢◌, ◌==◌, Bool, true, false, ◌&&◌, ◌||◌, if◌then◌else◌, List, [], ◌∷◌, ◌++◌, inl, inr, refl}
-use Rattle.std.proofs.Common.{ap, sym, ◌∙◌, arith, true≢false, eqb-true, ◌*◌, nat_lt, not, length, Some}
+use Rattle.std.proofs.Common.{◌≡◌, ℕ, zero, suc, ◌+◌, ◌<◌, ◌≤◌, ◌==◌, Bool, true, false, ◌&&◌, ◌||◌, if◌then◌else◌, List, [], ◌∷◌, ◌++◌, inl, inr, refl, ap}
+use Rattle.std.proofs.Common.{sym, ◌∙◌, arith, true≢false, eqb-true, ◌*◌, nat_lt, not, length, Some}
 use Rattle.std.proofs.lemmas.Bool.{false≢true, or_cases, cases_eq, and_from, or_parts}
 use Rattle.std.specs.List.{list_any, filter}
 use Rattle.pas_bits.specs.Runs.{meets_page, in_run}
@@ -12,7 +12,7 @@ use Rattle.pas_trace.specs.Acts.{numbers_from}
 use Rattle.pas_same_text.specs.State.{Local, World, each, is_at, shows, cache_of, noted_of, with_cache}
 use Rattle.pas_same_text.specs.Pages.{each_of, is_free, is_free_of, is_empty, is_hinted, minds, page_numbers, is_covered, is_cached, blocks_on, locals_on}
 use Rattle.pas_same_text.specs.{Same.has_number, Same.lives_in, Indexes.notes, Indexes.run_of, Frees.pages_of, Frees.ends_block, Frees.rejects}
-use Rattle.pas_same_text.proofs.{CacheLists.all_locals, CacheLists.locals_with, Holders.LivesSo, Holders.lives_so}
+use Rattle.pas_same_text.proofs.{CacheLists.all_locals, CacheLists.locals_with, FreeGrains.LivesSo, FreeGrains.lives_so}
 use Rattle.pas_same_text.proofs.Tests.{and_first, and_second, any_filtered, filtered_any, any_weaker, any_split, filtered_has, has_filtered}
 use Rattle.pas_steps.proofs.Sets.{same_truth}
 use Rattle.pas_free_log.specs.declared.noting.EndedRun.{EndedRun}
@@ -85,24 +85,17 @@ pub record OnlyHints (w v : World) : Type 0 where
 no_hints : (w : World) → OnlyHints w w
 no_hints w = record { events = refl; records = refl; live = refl; caches = refl; indexes = refl; names = refl; epoch = refl; read = refl }
 
--- field by field, one equation after the other
-hints_then : (w v x : World) → OnlyHints w v → OnlyHints v x → OnlyHints w x
-hints_then w v x a b = search arith
-
 -- by cases on the test
 only_if : (w v x : World) (t : Bool) → OnlyHints w v → OnlyHints w x → OnlyHints w (if t then v else x)
 only_if w v x t a b = search arith
 
-more_hinted : (w : World) (page : ℕ) → OnlyHints w (record w { hinted = page ∷ w.hinted })
-more_hinted w page = record { events = refl; records = refl; live = refl; caches = refl; indexes = refl; names = refl; epoch = refl; read = refl }
-
 only_minds : (w : World) (page : ℕ) → OnlyHints w (minds page w)
-only_minds w page = only_if w _ w _ (only_if w w (record w { hinted = page ∷ w.hinted }) _ (no_hints w) (more_hinted w page)) (no_hints w)
+only_minds w page = search (arith, only_if, no_hints)
 
 -- Minding several pages changes nothing of a state but hints.
 pub all_only_hints : (pages : List ℕ) (w : World) → OnlyHints w (each minds pages w)
 all_only_hints [] w = no_hints w
-all_only_hints (page ∷ pages) w = hints_then w (minds page w) (each minds pages (minds page w)) (only_minds w page) (all_only_hints pages (minds page w))
+all_only_hints (page ∷ pages) w = search (arith, only_minds, all_only_hints pages (minds page w))
 
 -- ---- a page that is backed and empty
 abbrev pub is_idle : World → ℕ → Bool
@@ -116,20 +109,9 @@ hinted_at : (page q : ℕ) (old : List ℕ) (t h same : Bool) → list_any (λ p
     → list_any (λ p. p == q) (if t then (if h then old else page ∷ old) else old) ≡ (list_any (λ p. p == q) old || (same && t))
 hinted_at page q old t h same e is = search (arith, eqb-true)
 
-hinted_minded : (w : World) (page q : ℕ) → is_hinted (minds page w) q ≡ (is_hinted w q || ((page == q) && is_idle w page))
-hinted_minded w page q = search (arith, hinted_at)
-
-same_idle : (w : World) (page q : ℕ) (same : Bool) → (page == q) ≡ same → (same && is_idle w page) ≡ (same && is_idle w q)
-same_idle w page q same is = search (arith, eqb-true)
-
--- each case computes
-joined : (h s r i : Bool) → ((h || (s && i)) || (r && i)) ≡ (h || ((s || r) && i))
-joined h s r i = grind arith
-
 hinted_all : (pages : List ℕ) (w : World) (q : ℕ) → is_hinted (each minds pages w) q ≡ (is_hinted w q || (has_number pages q && is_idle w q))
 hinted_all [] w q = sym (or-false (is_hinted w q))
-hinted_all (page ∷ pages) w q =
-    let ih = hinted_all pages (minds page w) q in search (arith, idle_kept, only_minds, hinted_minded, same_idle, joined, ih)
+hinted_all (page ∷ pages) w q = search (arith, idle_kept, only_minds, hinted_at, eqb-true, hinted_all pages (minds page w) q)
 
 -- ==== GRAINS COME BACK to these pages: what was free stays so, on other pages nothing changes, and these pages are hinted where they are idle then
 pub record Returns (f : Profile) (pages : List ℕ) (w v : World) : Type 0 where
@@ -197,7 +179,7 @@ numbers_have zero from page low high = absurd (omega (arith, low, high))
 numbers_have (suc n) from page low high = let ih = numbers_have n (from + 1) page in grind (arith, nat_tests, ih)
 
 -- A number among those of the region's pages is a page of the region.
-pub page_within : (f : Profile) (page : ℕ) → has_number (page_numbers f) page ≡ true → IsPage f page
+page_within : (f : Profile) (page : ℕ) → has_number (page_numbers f) page ≡ true → IsPage f page
 page_within f page h = let at = numbers_within f.pages 1 page h in (at.0, omega (arith, at.1))
 
 -- Each page of the region is among the numbers of its pages.

@@ -20,11 +20,10 @@ use Rattle.pas_report.specs.declared.record.Record.{Record}
 use Rattle.pas_answers.specs.Answers.{Progress, named, records_of}
 use Rattle.pas_same_text.specs.{State.World, State.Cache, Acts.IsBetween, Searched.IsSearch}
 use Rattle.pas_same_text.specs.Same.{IsSame, lives_in, HasSame, AreSameCaches}
-use Rattle.pas_same_text.proofs.{CachedSlots.block_of, FlushActs.events_recorded, Flushes.visible_steps, FreeGrains.free_uncovered, GivingBack.epoch_stays_by}
-use Rattle.pas_same_text.proofs.{RunEvents.deeds_of, GivingBack.HintsPage, Pieces.IsPiece, SearchMarks.at_bare, SearchMarks.at_unbacked, GivingBack.once_parts}
-use Rattle.pas_same_text.proofs.{Pieces.piece_pages, LoggedFrees.after_with, SearchedPages.deed_chosen, Holders.guards_as, SearchedPages.offered_chosen}
-use Rattle.pas_same_text.proofs.{RestingPages.word_known}
-use Rattle.pas_same_text.proofs.LeftPages.{IsInUse, LeavesBehind, left_offered, marks_behind, no_hint, LeftAll, giving, leaving, rest_leaves}
+use Rattle.pas_same_text.proofs.{CachedSlots.block_of, StopActs.events_recorded, Flushes.visible_steps, FreeGrains.free_uncovered, RunsFound.deeds_of}
+use Rattle.pas_same_text.proofs.{SmallActs.after_with, SearchedPages.deed_chosen, FreeGrains.guards_as, SearchedPages.offered_chosen, RestingPages.word_known}
+use Rattle.pas_same_text.proofs.StepMarks.{epoch_stays_by, HintsPage, at_bare, at_unbacked, once_parts}
+use Rattle.pas_same_text.proofs.Pieces.{IsPiece, piece_pages, IsInUse, LeavesBehind, left_offered, marks_behind, no_hint, LeftAll, giving, leaving, rest_leaves}
 use Rattle.pas_same_text.proofs.ReadyPages.{shown, shown_events, shown_records, shown_lives, shown_rest, IsAtPage, AllAtPage, search_at, given_ready}
 use Rattle.pas_search.specs.Kinds.{AreSearch, EventsAt, IsReturnOf, KeepsMarks, searching}
 use Rattle.pas_search.specs.Searches.{ByDeed, FromOffered}
@@ -83,7 +82,7 @@ module _ (k : ℕ) (d : Directory) (mine : ℕ → Bool) where
       one false es all = all
 
 -- Events at one page make it ready.
-pub at_ready : (k : ℕ) (d : Directory) (page : ℕ) (es : List Event) → AllAtPage k d page es → AreReadying k d (λ x. page == x) es
+at_ready : (k : ℕ) (d : Directory) (page : ℕ) (es : List Event) → AllAtPage k d page es → AreReadying k d (λ x. page == x) es
 at_ready k d page [] all = tt
 at_ready k d page (e ∷ es) all = (at e all.0, at_ready k d page es all.1)
   where
@@ -109,7 +108,7 @@ module _ {f : Profile} {k : ℕ} {p q : Progress} {w : World} {steps : List Made
   visible_are = ap visible g.list ∙ (visible_steps k steps p.list ∙ ap (λ (xs : List Event). xs ++ visible p.list) g.events_are)
 
   -- The machine admits it.
-  pub give_admitted : Run f (Event.Give k block ∷ (es ++ w.events))
+  give_admitted : Run f (Event.Give k block ∷ (es ++ w.events))
   give_admitted = subst (λ (base : List Event). Run f (Event.Give k block ∷ (es ++ base)))
       (sym g.same.pages.events) (subst (Run f) visible_are (runs f q.list g.valid g.there.legal))
 

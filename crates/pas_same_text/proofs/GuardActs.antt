@@ -4,7 +4,7 @@ use Rattle.std.proofs.Common.{append-nil}
 use Rattle.std.specs.List.{filter}
 use Rattle.pas_profile.specs.{Blocks.address_of, Profiles.IsValid, Profiles.IsAdmitted, Profiles.IsDirectoryOf, Requests.route_in, Requests.room_in}
 use Rattle.pas_profile.specs.declared.{directory.Directory.Directory, directory.Route.Route, event.Event.Event, name.Block.Block, profile.Profile.Profile}
-use Rattle.pas_steps.specs.{Desks.triples, Events.events_by, Lists.part, Lists.Legal, Views.View}
+use Rattle.pas_steps.specs.{Desks.triples, Events.events_by, Lists.part, Lists.Legal}
 use Rattle.pas_steps.specs.declared.step.Made.{Made}
 use Rattle.pas_steps.proofs.Parts.{part_of_own}
 use Rattle.pas_core.proofs.OneActor.{legal_before, legal_earlier}
@@ -15,16 +15,15 @@ use Rattle.pas_guard.specs.declared.book.Guard.{Guard as BookGuard}
 use Rattle.pas_report.specs.declared.record.{Record.Record, Said.Said}
 use Rattle.pas_trace.specs.{Acts.Act, Acts.numbers_from, EveryPlan.IsThread}
 use Rattle.pas_trace.specs.declared.{item.Request.Request, plan.Op.Op, plan.What.What}
-use Rattle.pas_answers.specs.{Answers.Progress, Answers.with_book, Answers.records_of, Indexes.after_request, Indexes.after_tried, Indexes.TriedIsNamedBy}
-use Rattle.pas_answers.specs.{Reaching.AnswersTried}
+use Rattle.pas_answers.specs.{Answers.Progress, Answers.with_book, Answers.records_of, Indexes.after_tried, Indexes.TriedIsNamedBy, Reaching.AnswersTried}
 use Rattle.pas_answers.specs.Guarding.{Tried, IsTried, said_of_guard, after_trying, after_giving}
 use Rattle.pas_same_text.specs.{State.World, State.each, Searches.backs, Runs.large_of, Order.serves, Same.IsSame, Acts.IsBetween, Known.IsKnown, Known.IsKept}
 use Rattle.pas_same_text.specs.{Known.KeepsSame}
 use Rattle.pas_same_text.specs.Guards.{guards_of, lowers_ended, is_over, raises, guards}
 use Rattle.pas_same_text.proofs.{KeepersRest.book_finds, LowerActs.sweep_same, LowerActs.ended_text, MissedGuards.missed_same, PagesRequests.pages_answered}
-use Rattle.pas_same_text.proofs.{PagesRequests.named_large, RaisedGuards.raised_same, ReadyPages.shown, RunEvents.deeded, RunEvents.deeds_of}
-use Rattle.pas_same_text.proofs.{SameIndexes.request_indexes, SameIndexes.all_lowered_keep, Seats.keeper_of, StillIndexes.each_keeps, StillIndexes.backs_keep}
-use Rattle.pas_same_text.proofs.{StillIndexes.same_indexes, TriedRuns.sought_text, TriedRuns.missed_text, TriedRuns.IsSought}
+use Rattle.pas_same_text.proofs.{PagesRequests.named_large, RaisedGuards.raised_same, ReadyPages.shown, RunsFound.deeded, RunsFound.deeds_of}
+use Rattle.pas_same_text.proofs.{KeepersRest.keeper_of, SoughtRuns.sought_text, SoughtRuns.missed_text, SoughtRuns.IsSought}
+use Rattle.pas_same_text.proofs.SameIndexes.{request_indexes, all_lowered_keep, each_keeps, backs_keep, same_indexes}
 use Rattle.pas_same_text.proofs.SeatedActs.{own_book, other_book, swept, swept_between, raise_legal, raise_fits, sweep_and_raise_are_the_try, tried_between}
 
 -- deeds change no index

@@ -1,13 +1,17 @@
--- OUTER PAGES STAY BARE: whom nothing lets back a page, and what a keeper does that raises a guard.
-use Rattle.std.proofs.Common.{◌≡◌, ℕ, ◌/◌, ◌==◌, Bool, true, false, if◌then◌else◌, List, [], ◌∷◌, ◌++◌, inl, inr, ap, sym, ◌∙◌, subst, arith, true≢false}
-use Rattle.std.proofs.Common.{eqb-true, eq-eqb, ◌+◌, ◌<◌, ◌≤◌, not, ◌||◌, Option, None, Some, ◌⊎◌, refl}
-use Rattle.std.proofs.lemmas.Bool.{cases_Bool, eqb-false, or_cases}
-use Rattle.pas_profile.specs.{Layouts.same_word, Profiles.IsValid}
+-- WHERE THREADS AND KEEPERS ARE AT REST with their caches and books, all actors of the region rest; and keepers are so after what they do.
+use Rattle.std.proofs.Common.{ℕ, ◌<◌, ◌≤◌, [], ◌⊎◌, inl, inr, ◌∙◌, arith, ◌≡◌, ◌/◌, ◌==◌, Bool, true, false, if◌then◌else◌, List, ◌∷◌, ◌++◌, ap, sym, subst}
+use Rattle.std.proofs.Common.{true≢false, eqb-true, eq-eqb, ◌+◌, not, Option, None, Some, refl}
+use Rattle.std.proofs.lemmas.Bool.{cases_lt, cases_Bool, eqb-false, or_cases}
 use Rattle.pas_profile.specs.declared.{profile.Profile.Profile, word.Word.Word, name.Block.Block}
-use Rattle.pas_machine.specs.State.{backed_in}
-use Rattle.pas_steps.specs.{Allowed.Allowed, Desks.triples, Effects.target, Effects.new_value, Past.Since, Views.View, Views.holds, Clear.HasNothing}
+use Rattle.pas_steps.specs.Lists.{part, Legal, Whole, word_after, visible}
+use Rattle.pas_steps.specs.{Views.View, Views.holds, Allowed.Allowed, Desks.triples, Effects.target, Effects.new_value, Past.Since, Clear.HasNothing}
 use Rattle.pas_steps.specs.{Kinds.Giving, Kinds.LookLife, Kinds.returning}
-use Rattle.pas_steps.specs.Lists.{Whole, part, word_after, visible, Legal}
+use Rattle.pas_cache.specs.{Caches.AtRest, Contents.Cached}
+use Rattle.pas_trace.specs.{Acts.Act, EveryPlan.IsThread}
+use Rattle.pas_answers.specs.{Answers.Progress, Answers.Books, Rests.AreAtRest}
+use Rattle.pas_same_text.specs.{Acts.IsResting, Acts.AreResting, Acts.IsBetween, Seats.IsThreadOf, Seats.IsKeeperOf, Seats.AreSeated, Runs.large_of}
+use Rattle.pas_profile.specs.{Layouts.same_word, Profiles.IsValid}
+use Rattle.pas_machine.specs.State.{backed_in}
 use Rattle.pas_steps.specs.declared.step.{Made.Made, Step.Step, Step.TheVariants.Back}
 use Rattle.pas_steps.proofs.{Parts.part_of_others, Parts.part_of_own, Adding.triples_append, Past.always_map}
 use Rattle.pas_core.specs.Good.{word_of_backed}
@@ -16,19 +20,57 @@ use Rattle.pas_guard.specs.{Evidence.BackedReadHere, Seeks.LeftSince, Keepers.Is
 use Rattle.pas_guard.specs.{Raises.RaiseSteps}
 use Rattle.std.specs.List.{filter}
 use Rattle.pas_guard.proofs.{Raises.no_backs, Raises.each_more, Raises.backs_both, Raised.raised_pages, Raised.raised_leaves}
-use Rattle.pas_cache.specs.Contents.{Cached}
 use Rattle.pas_rights.specs.Gives.{give_steps}
 use Rattle.pas_large.specs.Finds.{MayFind}
 use Rattle.pas_large.proofs.InOrder.{BacksIn}
 use Rattle.pas_guard.specs.Books.{is_outer_of, is_outer, Each, FitsBook}
 use Rattle.pas_guard.specs.declared.book.Guard.{Guard}
 use Rattle.pas_report.specs.declared.record.Record.{Record}
-use Rattle.pas_trace.specs.EveryPlan.{IsThread}
-use Rattle.pas_answers.specs.Answers.{Books, Progress}
-use Rattle.pas_same_text.specs.{Runs.large_of, Acts.IsResting, Acts.AreResting, Acts.IsBetween}
-use Rattle.pas_same_text.proofs.{FreeGrains.outer_held, LoweredGuards.some_outer, SweptGuards.IsSwept, SweptGuards.swept_told, SweptGuards.goes_down}
-use Rattle.pas_same_text.proofs.{Tests.or_none, Tests.eqb_turned}
+use Rattle.pas_same_text.proofs.{FreeGrains.outer_held, LoweredGuards.some_outer, LowerActs.IsSwept, LowerActs.swept_told, LowerActs.goes_down, Tests.or_none}
+use Rattle.pas_same_text.proofs.{Tests.eqb_turned}
 
+-- whoever acts is an actor of the region
+pub thread_of : (threads : ℕ) (f : Profile) (k : ℕ) → IsThreadOf threads k → threads ≤ f.threads → IsThread f k
+thread_of threads f k own few = let low = own.0 in (low, omega (arith, own.1, few))
+
+-- A keeper is an actor of the region.
+pub keeper_of : (threads : ℕ) (f : Profile) (k : ℕ) → IsKeeperOf threads f k → IsThread f k
+keeper_of threads f k keeps = (omega (arith, keeps.0), keeps.1)
+
+-- a thread at rest with its cache, which has no guard up, rests
+pub thread_rests : (f : Profile) (c : Cached) (v : View) → AtRest f c v → IsResting f c [] v
+thread_rests f c v rest = search arith
+
+-- back again, without what is so of guards
+pub thread_at_rest : (f : Profile) (c : Cached) (v : View) → IsResting f c [] v → AtRest f c v
+thread_at_rest f c v rest = search arith
+
+module _ (threads : ℕ) (f : Profile) (p : Progress) (rest : AreAtRest threads f p.caches p.books p.list) (seated : AreSeated threads f p) where
+  -- a keeper by its book, which it fits, and its empty cache; a thread as it is said of it
+  rests_so : (k : ℕ) → IsThread f k → (threads < k) ⊎ (k ≤ threads) → IsResting f (p.caches k) (p.books k) (part k p.list)
+  rests_so k is (inl keeps) = search arith
+  rests_so k is (inr works) = search (arith, thread_rests)
+
+  resting_from : AreResting f p.caches p.books p.list
+  resting_from = record {
+    working = λ k is. rests_so k is (cases_lt threads k);
+    none = λ k other. seated.unbooked k (λ keeper. other (omega (arith, keeper.0), keeper.1));
+    beside = seated.beside;
+    bare = seated.bare;
+    scavenger = rest.scavenger;
+  }
+
+  -- Where all threads and keepers are at rest, a legal replay is between two acts.
+  pub between_from : Legal f p.list → IsBetween f p
+  between_from legal = record { legal = legal; rest = resting_from }
+
+-- the act is no keeper's: it changes no book
+abbrev pub IsNoKeepers : Act → Type 0
+IsNoKeepers (Act.Guards keeper op) = ⊥
+IsNoKeepers (Act.Lowers keeper) = ⊥
+IsNoKeepers act = Unit {0}
+
+-- ==== OUTER PAGES STAY BARE: whom nothing lets back a page, and what a keeper does that raises a guard.
 -- ---- one step: only a back makes a page that isn't backed a backed one
 stays_bare : (e : ℕ) (s : Step) (page old : ℕ) → (s ≡ Back page → ⊥) → old ≡ 0
     → (if same_word (target s) (Word.Backed page) then new_value e s old else old) ≡ 0
@@ -38,11 +80,10 @@ stays_bare e s page old not h = search (arith, cases_Bool, eqb-true)
 pub bare_on : (f : Profile) (k page : ℕ) (xs : List Made) (l : Whole) → Legal f (triples k xs ++ l) → BacksNot page xs → word_after l (Word.Backed page) ≡ 0
     → word_after (triples k xs ++ l) (Word.Backed page) ≡ 0
 bare_on f k page [] l legal backs zero = zero
-bare_on f k page (m ∷ xs) l legal backs zero =
-    stays_bare _ m.step page _ backs.0 (bare_on f k page xs l legal.1 backs.1 zero)
+bare_on f k page (m ∷ xs) l legal backs zero = search (arith, stays_bare, bare_on f k page xs l legal.1 backs.1 zero)
 
 -- nobody backs a page all of whose grains another holds
-pub held_unbacked : (f : Profile) (k j page : ℕ) (xs : List Made) (l : Whole) → IsValid f → Legal f (triples k xs ++ l) → (k == j) ≡ false
+held_unbacked : (f : Profile) (k j page : ℕ) (xs : List Made) (l : Whole) → IsValid f → Legal f (triples k xs ++ l) → (k == j) ≡ false
     → ((g : ℕ) → g / 256 ≡ page → holds (part j l) g ≡ true) → BacksNot page xs
 held_unbacked f k j page [] l valid legal other held = tt
 held_unbacked f k j page (m ∷ xs) l valid legal other held = (
@@ -59,8 +100,7 @@ pub bare_since : (f : Profile) (k page : ℕ) (v : View) (xs : List Made) (l : W
     → Since (BackedReadHere v page 0) (LeftSince page) xs → word_after (triples k xs ++ l) (Word.Backed page) ≡ 0
 bare_since f k page v [] l legal since = absurd since
 bare_since f k page v (m ∷ xs) l legal (inl read) = search (arith, stays_bare)
-bare_since f k page v (m ∷ xs) l legal (inr later) =
-    stays_bare _ m.step page _ later.0.unbacked (bare_since f k page v xs l legal.1 later.1)
+bare_since f k page v (m ∷ xs) l legal (inr later) = search (arith, stays_bare, bare_since f k page v xs l legal.1 later.1)
 
 -- ---- words and events
 none_backed : (b : Bool) → 0 ≡ word_of_backed b → b ≡ false
@@ -71,7 +111,7 @@ pub bare_events : (f : Profile) (l : Whole) (page : ℕ) → IsValid f → Legal
 bare_events f l page valid legal zero = none_backed (backed_in (visible l) page) (sym zero ∙ (agrees f l valid legal).backed page)
 
 -- A page that isn't backed by the events of a legal list has 0 in its backed word.
-pub bare_word : (f : Profile) (l : Whole) (page : ℕ) → IsValid f → Legal f l → backed_in (visible l) page ≡ false → word_after l (Word.Backed page) ≡ 0
+bare_word : (f : Profile) (l : Whole) (page : ℕ) → IsValid f → Legal f l → backed_in (visible l) page ≡ false → word_after l (Word.Backed page) ≡ 0
 bare_word f l page valid legal none = (agrees f l valid legal).backed page ∙ ap word_of_backed none
 
 -- ==== A KEEPER RESTS after its calls, and so do all others.
@@ -133,13 +173,9 @@ module _ (f : Profile) (p : Progress) (keeper : ℕ) (books : Books) (steps : Li
       by_test j other false e = refl
 
 -- ---- a sweep
-kept_at : (P : Guard → Type 0) (g : Guard) (fs : List Guard) (s : Bool) → P g → Each P fs → Each P (if s then g ∷ fs else fs)
-kept_at P g fs true one rest = (one, rest)
-kept_at P g fs false one rest = rest
-
 each_kept : (P : Guard → Type 0) (t : Guard → Bool) (gs : List Guard) → Each P gs → Each P (filter t gs)
 each_kept P t [] all = tt
-each_kept P t (g ∷ gs) all = kept_at P g (filter t gs) (t g) all.0 (each_kept P t gs all.1)
+each_kept P t (g ∷ gs) all = search (arith, each_kept P t gs all.1)
 
 module _ (f : Profile) (keeper : ℕ) (all : Bool) (p : Progress) (steps : List Made) (left : List Guard) (said : List Record) (valid : IsValid f)
     (before : IsBetween f p) (legal : Legal f (triples keeper steps ++ p.list)) (sweep : SweepSteps f keeper all (p.books keeper) left said steps) where

@@ -1,7 +1,7 @@
 -- GUARDS ARE LOWERED in the text: their outer pages are anybody's again, and nothing else changes but hints.
 use Rattle.std.proofs.lemmas.Bool.Decides.{nat_tests}
-use Rattle.std.proofs.Common.{arith, ◌≡◌, ℕ, ◌==◌, Bool, true, false, not, ◌||◌, if◌then◌else◌, List, [], ◌∷◌, ◌++◌, map, reverse, refl, ap, sym, ◌∙◌}
-use Rattle.std.proofs.Common.{append_assoc, append-nil, true≢false, eq-eqb, eqb-true}
+use Rattle.std.proofs.Common.{arith, ◌≡◌, ℕ, ◌==◌, Bool, true, false, not, List, [], ◌∷◌, ◌++◌, map, reverse, refl, ap, sym, ◌∙◌, append_assoc, append-nil}
+use Rattle.std.proofs.Common.{true≢false, eq-eqb, eqb-true}
 use Rattle.std.proofs.lemmas.Bool.{false≢true, or_cases, or_left, false_from_ne_true}
 use Rattle.std.specs.List.{list_any, filter}
 use Rattle.pas_profile.specs.Profiles.{IsPage}
@@ -12,7 +12,7 @@ use Rattle.pas_guard.specs.declared.book.Guard.{Guard as BookGuard}
 use Rattle.pas_same_text.specs.{State.Guard, State.World, State.each, Pages.is_guarded, Pages.minds, Guards.without_guard, Guards.lowers, Same.told_guard}
 use Rattle.pas_same_text.specs.{Same.has_number}
 use Rattle.pas_same_text.proofs.GivenBack.{Returns, OnlyHints, returns_nothing, returns_then, returns_like, minded_last, all_only_hints}
-use Rattle.pas_same_text.proofs.{Holders.has_outer, SmallActs.records_next, StillIndexes.same_guards, StillIndexes.minds_keep}
+use Rattle.pas_same_text.proofs.{FreeGrains.has_outer, SmallActs.records_next, SameIndexes.same_guards, SameIndexes.minds_keep}
 
 -- ---- which pages come back, what is said, and which guards are left
 abbrev pub outer_pages : List Guard → List ℕ
@@ -147,17 +147,11 @@ first_stays : (k keeper : ℕ) (g : BookGuard) (fallen : List BookGuard) (gs : L
 first_stays k keeper g [] gs none = refl
 first_stays k keeper g (d ∷ fallen) gs none = let ih = first_stays k keeper g fallen (without d.low gs) in grind (arith, nat_tests, ih)
 
-own_at : (k : ℕ) (t : BookGuard → Bool) (g : BookGuard) (gs : List BookGuard) (s : Bool) → AreApart (g ∷ gs)
-    → without_all (map (told_guard k) (filter t gs)) (map (told_guard k) gs) ≡ map (told_guard k) (filter (λ x. not (t x)) gs)
-    → without_all (map (told_guard k) (if s then g ∷ filter t gs else filter t gs)) (told_guard k g ∷ map (told_guard k) gs)
-    ≡ map (told_guard k) (if not s then g ∷ filter (λ x. not (t x)) gs else filter (λ x. not (t x)) gs)
-own_at k t g gs s apart rest = search (arith, eq-eqb, none_lost, first_stays, not_some)
-
 -- Without the chosen guards of a book, the others of it are left in their order.
 pub own_left : (k : ℕ) (t : BookGuard → Bool) (gs : List BookGuard) → AreApart gs
     → without_all (map (told_guard k) (filter t gs)) (map (told_guard k) gs) ≡ map (told_guard k) (filter (λ g. not (t g)) gs)
 own_left k t [] apart = refl
-own_left k t (g ∷ gs) apart = own_at k t g gs (t g) apart (own_left k t gs apart.2)
+own_left k t (g ∷ gs) apart = search (arith, eq-eqb, none_lost, first_stays, not_some, own_left k t gs apart.2)
 
 -- ---- of all keepers, where these guards of one are lowered
 pub left_of : (books : ℕ → List BookGuard) (keeper k : ℕ) (fallen : List BookGuard) (gs : List Guard)

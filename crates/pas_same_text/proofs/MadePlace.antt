@@ -12,14 +12,14 @@ use Rattle.pas_steps.specs.declared.step.Made.{Made}
 use Rattle.pas_segregated.specs.{Masks.start_of, Stops.home_of, Stops.LeavesWhere, Stops.StopStepsAt}
 use Rattle.pas_segregated.specs.declared.slots.Slots.{Slots}
 use Rattle.pas_segregated.proofs.Starts.{start_below}
-use Rattle.pas_cache.specs.{Changes.LeavesSpent, Changes.StopsFirst, Contents.Cached, Kinds.releasing, Serves.MakesPlace}
+use Rattle.pas_cache.specs.{Changes.StopsFirst, Contents.Cached, Kinds.releasing, Serves.MakesPlace}
 use Rattle.pas_cache.specs.Locals.{IsLocal, covers, any_covers, local_for, others_than, is_for as is_for_slots}
 use Rattle.pas_trace.specs.EveryPlan.{IsThread}
 use Rattle.pas_answers.specs.Answers.{Progress}
 use Rattle.pas_same_text.specs.{State.Local, State.World, State.locals_of, Same.IsSame, Same.AreSameLocals, Acts.IsBetween}
 use Rattle.pas_same_text.specs.Classes.{is_for, others, gives_up, gives_up_first, makes_place}
-use Rattle.pas_same_text.proofs.{CachedSlots.found_passes, GivenUp.AreUnique, GivenUp.unique_of, GivenUp.no_other_counted, OneUp.up_to, OneUp.given_up_same}
-use Rattle.pas_same_text.proofs.{Tests.and_first, Tests.and_second}
+use Rattle.pas_same_text.proofs.{CachedSlots.found_passes, StopSteps.AreUnique, StopSteps.unique_of, StopSteps.no_other_counted, OneUp.up_to}
+use Rattle.pas_same_text.proofs.{OneUp.given_up_same, Tests.and_first, Tests.and_second}
 use Rattle.pas_same_text.proofs.CacheLists.{same_kept, Finds, for_same, found_same, others_same}
 
 -- ---- lists of local allocators
@@ -227,9 +227,6 @@ module _ (f : Profile) (k heap class : ℕ) (p : Progress) (w : World) (fewer : 
         after = after;
       })
 
-  by_found : (x : Option Slots) → local_for heap class c.locals ≡ x → LeavesSpent x place.spent → IsSame f (up_to p k steps fewer) (placed_by k found_text w)
-  by_found x is h = search (arith, none_gone, spent_gone)
-
   -- Place that was made in a cache leads the text to the replay's state.
   pub place_made : IsSame f (up_to p k steps fewer) (placed_by k found_text w)
-  place_made = by_found (local_for heap class c.locals) refl place.taken.left
+  place_made = search (arith, none_gone, spent_gone)

@@ -2,9 +2,11 @@
 use Rattle.std.proofs.lemmas.Bool.{cases_lt, eqb-false, false≢true, or_cases, or_left, or_right, false_from_ne_true}
 use Rattle.pas_scan.specs.{Runs.IsInRun, Usable.MakesNoDeedHere}
 use Rattle.pas_guard.specs.{Guards.left_last_first, Books.is_outer_of, Books.is_outer, Seeks.seeking, Seeks.SoughtNone}
-use Rattle.pas_same_text.proofs.{LeftPages.all_in_run, KeepersRest.outer_last, FlushActs.events_recorded, GivenPages.open_from, GivingBack.epoch_stays_by}
-use Rattle.pas_same_text.proofs.{RestingPages.deed_now, RestingPages.bit_tells, RestingPages.bit_offered, SoughtRuns.IsRunOf, SoughtRuns.IsMadeOf}
-use Rattle.pas_same_text.proofs.{SearchMarks.seeks_unbacked, RunEvents.with_deed, RunEvents.deeded, RunEvents.deeds_of}
+use Rattle.pas_same_text.proofs.Pieces.{all_in_run, IsPiece, UsesOnly, free_kept, hinted_before, piece_pages}
+use Rattle.pas_same_text.proofs.{KeepersRest.outer_last, StopActs.events_recorded, StepMarks.epoch_stays_by, StepMarks.seeks_unbacked, RunsFound.with_deed}
+use Rattle.pas_same_text.proofs.{RunsFound.deeded, RunsFound.deeds_of}
+use Rattle.pas_same_text.proofs.RestingPages.{open_from, deed_now, bit_tells, bit_offered}
+use Rattle.pas_same_text.proofs.SoughtRuns.{IsRunOf, IsMadeOf, unowned_free, visible_mid, made_events, none_made, none_pages, IsSought}
 use Rattle.std.proofs.Common.{map, ◌⊎◌, ne_eqb, append-nil, ◌≡◌, ℕ, ◌+◌, ◌*◌, ◌<◌, ◌==◌, Bool, true, false, ◌||◌, if◌then◌else◌, List, [], ◌∷◌, ◌++◌, Some, inl}
 use Rattle.std.proofs.Common.{inr, refl, ap, sym, ◌∙◌, subst, arith, eq-eqb, eqb-true}
 use Rattle.std.proofs.lemmas.{List.map-append, List.Elements.filter-append, Option.same_Some}
@@ -24,9 +26,7 @@ use Rattle.pas_core.specs.Rights.{eligible_bit}
 use Rattle.pas_core.proofs.{Rights.right_in_one_place, OneActor.LendsNone, OneActor.lends_none}
 use Rattle.pas_cache.specs.Kinds.{allocating}
 use Rattle.pas_large.proofs.Outcomes.{MadeOf}
-use Rattle.pas_same_text.proofs.Pieces.{IsPiece, UsesOnly, free_kept, hinted_before, piece_pages}
 use Rattle.pas_same_text.proofs.ReadyPages.{shown, shown_events, shown_records, shown_lives, shown_rest}
-use Rattle.pas_same_text.proofs.TriedRuns.{unowned_free, visible_mid, made_events, none_made, none_pages, IsSought}
 use Rattle.pas_same_text.proofs.GivenBlocks.{AreReadying, made_ready, ready_deeds, ready_lives}
 use Rattle.pas_profile.proofs.Lists.{all_map}
 

@@ -14,7 +14,7 @@ use Rattle.pas_same_text.specs.Order.{keeps_block, replaces, remakes, acts_on}
 use Rattle.pas_same_text.proofs.BackActs.{flush_act, stop_act, end_act, idle_act, raw_act, raw_sized_act, free_act, free_sized_act, remakes_idly}
 use Rattle.pas_same_text.proofs.{Asked.has_asked, BitfitRequests.bitfit_answered, ClassRequests.class_answered, GuardActs.guards_keep, LowerActs.lower_act}
 use Rattle.pas_same_text.proofs.{PagesRequests.pages_answered, PagesRequests.named_large, PassActs.pass_same, Replaced.replaced_same, SameIndexes.indexes_kept}
-use Rattle.pas_same_text.proofs.{Seats.thread_of, Seats.keeper_of}
+use Rattle.pas_same_text.proofs.{KeepersRest.thread_of, KeepersRest.keeper_of}
 use Rattle.pas_same_text.proofs.SmallActs.{phase_same, close_same, wake_same, reading_same, tick_same, settling_same}
 
 -- ---- a request, by its route

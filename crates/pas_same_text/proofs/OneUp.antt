@@ -1,16 +1,17 @@
 -- ONE LOCAL ALLOCATOR GOES, in the text alone: wherever it stands in its cache.
-use Rattle.std.proofs.Common.{arith, ◌≡◌, ℕ, Bool, true, false, not, ◌||◌, if◌then◌else◌, List, [], ◌∷◌, Some, refl, eqb-true, ◌≤◌, length, ◌/◌, ◌==◌, ◌++◌}
-use Rattle.std.proofs.Common.{reverse, inl, inr, ap, sym, ◌∙◌, subst, append-nil, eq-eqb}
+use Rattle.std.proofs.Common.{arith, ◌≡◌, ℕ, Bool, true, false, not, ◌||◌, if◌then◌else◌, List, [], ◌∷◌, Some, refl, eqb-true, ◌≤◌, length, ◌==◌, ◌++◌, reverse}
+use Rattle.std.proofs.Common.{inl, inr, ap, sym, ◌∙◌, subst, append-nil, eq-eqb}
 use Rattle.std.proofs.lemmas.Bool.{false≢true, or_right}
 use Rattle.std.specs.List.{list_any, find}
 use Rattle.pas_profile.specs.Profiles.{IsPage, IsValid, IsDirectoryOf}
 use Rattle.pas_profile.specs.declared.{profile.Profile.Profile, directory.Directory.Directory, event.Event.Event}
 use Rattle.pas_same_text.specs.State.{Local, Cache, World, cache_of, locals_of, set_locals}
 use Rattle.pas_same_text.specs.{Classes.is_for, Classes.others, Classes.gives_up, Pages.is_of, Acts.IsBetween, Words.free_bit}
-use Rattle.pas_same_text.proofs.{GivenBack.Returns, GivenBack.OnlyHints, GivenBack.all_only_hints, GivenUp.AreUnique, GivenUp.one_returns, Tests.or_more}
-use Rattle.pas_same_text.proofs.{CacheLists.same_with, Flushes.visible_steps, GivenUp.unique_of, Holders.guards_as, Holders.still_unguarded}
-use Rattle.pas_same_text.proofs.{RestingPages.is_open, StillIndexes.same_guards, StillIndexes.given_up_keeps, StopActs.slot_room, StopActs.read_room}
-use Rattle.pas_same_text.proofs.{StopSteps.IsMarkedBy, StopSteps.one_marked, StopSteps.one_hints}
+use Rattle.pas_same_text.proofs.{GivenBack.Returns, GivenBack.OnlyHints, GivenBack.all_only_hints, Tests.or_more, CacheLists.same_with, Flushes.visible_steps}
+use Rattle.pas_same_text.proofs.{SameIndexes.same_guards, SameIndexes.given_up_keeps, StopActs.slot_room, StopActs.read_room}
+use Rattle.pas_same_text.proofs.StopSteps.{AreUnique, one_returns, unique_of, IsMarkedBy, one_marked, one_hints}
+use Rattle.pas_same_text.proofs.FreeGrains.{guards_as, still_unguarded, cached_held, outer_held, held_by, never_both, holder_thread}
+use Rattle.pas_same_text.proofs.RestingPages.{is_open, IsGivenBack, covered_not_held, free_left, given_pages}
 use Rattle.pas_machine.specs.State.{live_in}
 use Rattle.pas_steps.specs.{Events.events_by, Kinds.Only, Lists.part, Lists.visible, Views.holds}
 use Rattle.pas_steps.specs.declared.step.Made.{Made}
@@ -24,9 +25,7 @@ use Rattle.pas_trace.specs.EveryPlan.{IsThread}
 use Rattle.pas_answers.specs.Answers.{Progress, with_steps, with_cache as with_cached}
 use Rattle.pas_report.specs.declared.record.Record.{Record}
 use Rattle.pas_same_text.specs.Same.{IsSame, HasSame, IsSameCache, IsSameLocal, AreSameLocals, AreSameCaches, lives_in}
-use Rattle.pas_same_text.proofs.FreeGrains.{cached_held, outer_held, held_by, never_both, holder_thread}
-use Rattle.pas_same_text.proofs.GivenPages.{IsGivenBack, covered_not_held, free_left, given_pages}
-use Rattle.pas_same_text.proofs.GivingBack.{IsMarked, hint_marks, offer_marks, epoch_stays_by}
+use Rattle.pas_same_text.proofs.StepMarks.{IsMarked, hint_marks, offer_marks, epoch_stays_by}
 
 -- ---- the others of a cache
 less_next : (p : Local → Bool) (x : Local) (ys : List Local) (t rest : Bool) → (list_any p ys ≡ true → rest ≡ true)
@@ -61,11 +60,11 @@ module _ (f : Profile) (k : ℕ) (l : Local) (w : World) (unique : AreUnique (lo
   bare = set_locals k (others l.heap l.class (locals_of w k)) w
 
   -- Where a local allocator goes, wherever in its cache, its grains come back to its page alone.
-  pub gone_returns : Returns f (l.page ∷ []) w (gives_up k l w)
+  gone_returns : Returns f (l.page ∷ []) w (gives_up k l w)
   gone_returns = one_returns f k l w page_of (λ p h. any_less p l.heap l.class (locals_of w k) h) (λ p none h. any_other p l.heap l.class l (locals_of w k) unique found none h)
 
   -- A local allocator that goes changes, beside its cache, hints alone.
-  pub gone_only : OnlyHints bare (gives_up k l w)
+  gone_only : OnlyHints bare (gives_up k l w)
   gone_only = all_only_hints (l.page ∷ []) bare
 
 -- ==== ONE LOCAL ALLOCATOR OF A CACHE IS STOPPED, or left where it has no slot: the text gives it up.

@@ -24,16 +24,12 @@ use Rattle.pas_answers.specs.Answers.{Progress, named, Answer, after_answer, sai
 use Rattle.pas_answers.specs.Indexes.{IsNamedBy, ActIsNamedBy}
 use Rattle.pas_same_text.specs.{State.World, Indexes.loses_named, Order.serves, Order.acts_on, Same.IsSame, Same.HasSame, Acts.IsBetween, Acts.IsTaken}
 use Rattle.pas_same_text.specs.Runs.{large_of, named_run, lowest_run, run_or, serves_run}
-use Rattle.pas_same_text.proofs.{LoggedFrees.after_with, RefusedRequests.refused_to, RefusedRequests.refused_same, RunGiven.GaveRun, RunGiven.given_to}
-use Rattle.pas_same_text.proofs.{RunGiven.run_given, RunsFound.DeedsInRun, RunsFound.lowest_alone, RunsFound.deeds_in_run, Pieces.has_same}
-use Rattle.pas_same_text.proofs.SearchedPages.{lowest_found, none_lowest, named_whole, whole_named}
+use Rattle.pas_same_text.proofs.{SmallActs.after_with, RunGiven.GaveRun, RunGiven.given_to, RunGiven.run_given, RunsFound.DeedsInRun, RunsFound.lowest_alone}
+use Rattle.pas_same_text.proofs.{RunsFound.deeds_in_run, Pieces.has_same}
+use Rattle.pas_same_text.proofs.SearchedPages.{refused_to, refused_same, lowest_found, none_lowest, named_whole, whole_named}
 use Rattle.pas_same_text.proofs.Asked.{HasAsked, answer_reached, by_route, request_taken}
 
 -- ---- the indexes are no part of what is the same
--- none of what is the same looks at them
-loses_same : (f : Profile) (p : Progress) (w : World) (heap n : ℕ) → IsSame f p w → IsSame f p (loses_named heap n w)
-loses_same f p w heap n same = search arith
-
 -- ---- what was tried leaves the actor as it was
 -- ---- steps of kinds without an event
 quiet_by : (ks : Kinds) → apart ks showing ≡ true → (steps : List Made) → Only ks steps → AreQuiet steps
@@ -129,8 +125,9 @@ module _ (f : Profile) (k name heap size align : ℕ) (p : Progress) (a : Answer
   may : MayFind d (part k p.list)
   may = may_find f (part k p.list) heap c.locals asked.served.rest.locals
 
+  -- none of what is the same looks at the indexes
   same_u : IsSame f p u
-  same_u = loses_same f p w heap n asked.same
+  same_u = search arith
 
   old : HasSame f p w
   old = has_same asked.same

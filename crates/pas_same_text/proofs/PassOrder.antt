@@ -16,7 +16,7 @@ use Rattle.pas_scavenger.proofs.Trying.{outcomes_append}
 use Rattle.pas_trace.specs.Acts.{numbers_from}
 use Rattle.pas_answers.specs.Answers.{Progress}
 use Rattle.pas_same_text.specs.{State.World, Passes.outcome_of, Same.IsSame, Acts.IsBetween, Acts.AreEndsStamped}
-use Rattle.pas_same_text.proofs.{GivingBack.OffersPage, GivingBack.once_parts, PassOutcomes.WasOffered, PassOutcomes.pair, PassOutcomes.stays_hinted}
+use Rattle.pas_same_text.proofs.{StepMarks.OffersPage, StepMarks.once_parts, PassOutcomes.WasOffered, PassOutcomes.pair, PassOutcomes.stays_hinted}
 use Rattle.pas_same_text.proofs.{PassTries.IsTried, PassTries.tried}
 use Rattle.pas_same_text.proofs.PassReadings.{is_on, Spares, words_stay, spare_both, try_spares}
 
@@ -38,9 +38,7 @@ falling_skips test m (suc n) le none = elim (cases_eq m (suc n)) [
 -- the last of some numbers that follow each other
 numbers_last : (n from : ℕ) → numbers_from from (suc n) ≡ numbers_from from n ++ (from + n) ∷ []
 numbers_last zero from = let same : from ≡ from + 0 = omega arith in ap (λ (x : ℕ). x ∷ []) same
-numbers_last (suc n) from =
-    let same : from + 1 + n ≡ from + suc n = omega arith in
-    ap (λ (xs : List ℕ). from ∷ xs) (numbers_last n (from + 1)) ∙ ap (λ (x : ℕ). from ∷ (numbers_from (from + 1) n ++ x ∷ [])) same
+numbers_last (suc n) from = search (arith, numbers_last n (from + 1))
 
 -- upwards they are the numbers that are left of all
 rising_at : (xs : List ℕ) (n m : ℕ) (t : Bool) → m ≡ n → reverse xs ++ (if t then m ∷ [] else []) ≡ reverse (if t then n ∷ xs else xs)

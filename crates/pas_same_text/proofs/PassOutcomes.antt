@@ -15,8 +15,9 @@ use Rattle.pas_answers.specs.Answers.{Progress}
 use Rattle.pas_same_text.specs.{State.World, Same.HasSame, Acts.IsBetween, Same.IsSame, Acts.AreEndsStamped}
 use Rattle.pas_same_text.specs.Pages.{is_free, are_free, is_guarded, is_kept}
 use Rattle.pas_same_text.specs.Passes.{used_word, free_bits, outcome_backed, outcome_of}
-use Rattle.pas_same_text.proofs.{GivenBack.each_at, GivenBack.each_all, RestingPages.free_at, SearchedPages.find_first, SearchedPages.find_none}
-use Rattle.pas_same_text.proofs.{GivenPages.backed_unguarded, FreeGrains.nobody_keeps, RestingPages.clear_of, RestingPages.bit_tells, SeatedActs.stamps_told}
+use Rattle.pas_same_text.proofs.{GivenBack.each_at, GivenBack.each_all, SearchedPages.find_first, SearchedPages.find_none, FreeGrains.nobody_keeps}
+use Rattle.pas_same_text.proofs.{SeatedActs.stamps_told}
+use Rattle.pas_same_text.proofs.RestingPages.{free_at, backed_unguarded, clear_of, bit_tells}
 use Rattle.pas_profile.proofs.ClassFacts.{usable_grains_ge}
 use Rattle.pas_profile.proofs.Codecs.{deed_word_of-positive, read-deed_word_of, directory_from_profile, same_from_deed_word}
 use Rattle.pas_machine.specs.State.{backed_in, epoch_in}
@@ -69,17 +70,17 @@ module _ (f : Profile) (p : Progress) (w : World) (valid : IsValid f) (between :
       (λ b small. sym (bit_is page word b none few small) ∙ each_at 64 (64 * word) (64 * word + b) (is_free w page) all (omega arith) (omega (arith, small)))))
 
   -- THE LOWEST WORD with a grain that isn't free
-  pub used_none : (page : ℕ) → is_guarded w page ≡ false → ((word : ℕ) → word < 4 → free_word page word ≡ all_ones) → used_word w page ≡ None
+  used_none : (page : ℕ) → is_guarded w page ≡ false → ((word : ℕ) → word < 4 → free_word page word ≡ all_ones) → used_word w page ≡ None
   used_none page none full = find_none (λ word. not (are_free w page (64 * word) 64)) 4 0 (λ word low high. ap not (full_free page word none high (full word high)))
 
   -- The first free word that isn't all ones is the used word that the text finds.
-  pub used_first : (page word : ℕ) → is_guarded w page ≡ false → word < 4 → ((v : ℕ) → v < word → free_word page v ≡ all_ones) → free_word page word ≢ all_ones
+  used_first : (page word : ℕ) → is_guarded w page ≡ false → word < 4 → ((v : ℕ) → v < word → free_word page v ≡ all_ones) → free_word page word ≢ all_ones
       → used_word w page ≡ Some word
   used_first page word none few full used = find_first (λ v. not (are_free w page (64 * v) 64)) 4 0 word (omega arith) (omega (arith, few)) (ap not (used_free page word none few used))
       (λ v low lt. ap not (full_free page v none (omega (arith, lt, few)) (full v lt)))
 
   -- THE VALUE of a word
-  pub value_is : (page word : ℕ) → is_guarded w page ≡ false → word < 4 → free_bits w page word 64 ≡ free_word page word
+  value_is : (page word : ℕ) → is_guarded w page ≡ false → word < 4 → free_bits w page word 64 ≡ free_word page word
   value_is page word none few =
       let fits : free_word page word < 2 ^ 64 = words_fit f p.list valid between.legal (Word.Free page word) in
       let whole : free_word page word % 2 ^ 64 ≡ free_word page word = omega (arith, fits) in

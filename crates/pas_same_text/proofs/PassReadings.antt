@@ -9,17 +9,17 @@ use Rattle.pas_bits.specs.declared.mask.Mask4.{Mask4}
 use Rattle.pas_bits.proofs.PageVectors.{page_bit-set, page_bit-clear}
 use Rattle.pas_profile.specs.{Blocks.grain_of, Layouts.same_word, Directories.number_of, Directories.deed_word_of, Profiles.IsDirectoryOf}
 use Rattle.pas_profile.specs.declared.{directory.Directory.Directory, event.Outcome.Outcome, word.Word.Word, profile.Profile.Profile}
-use Rattle.pas_steps.specs.{Desks.made, Desks.triples, Effects.target, Effects.new_value, Frames.IsReturn, Frames.OnlyReturns, InTurn.numbers_below}
-use Rattle.pas_steps.specs.{Past.Always, Views.epoch_of, Views.all_ones}
+use Rattle.pas_steps.specs.{Desks.made, Desks.triples, Effects.target, Effects.new_value, Frames.IsReturn, Frames.OnlyReturns, Past.Always, Views.epoch_of}
+use Rattle.pas_steps.specs.{Views.all_ones}
 use Rattle.pas_steps.specs.Lists.{Whole, part, word_after, Legal}
 use Rattle.pas_steps.specs.Kinds.{kind_of, is_in, looking, Only, LookFree, Kinds, place_of, apart, LookDeed, LookBacked, Taking, Putting, Claiming, Stamping}
 use Rattle.pas_steps.specs.declared.step.{Made.Made, Step.Step}
 use Rattle.pas_steps.specs.declared.step.Step.TheVariants.{Look, Deed, Back, Take, Put, Give, End, EndSized, TakeRight, Offer, Park, Unpark, Stamp, Hint, Tick}
 use Rattle.pas_steps.specs.declared.step.Step.TheVariants.{Unback, Unhint}
-use Rattle.pas_steps.proofs.{Apart.only_both, Apart.only_within, Past.always_both, Past.always_map, Past.in_turn_always, Apart.in_apart}
+use Rattle.pas_steps.proofs.{Apart.only_both, Apart.only_within, Apart.in_apart, Past.always_both, Past.always_map}
 use Rattle.pas_core.specs.Rights.{empty_bit, eligible_bit}
 use Rattle.pas_core.proofs.Deeds.{looked}
-use Rattle.pas_rights.specs.{Looks.looks_until, Puts.WordPut, Puts.PutsBelow, Takes.word_take, Takes.takes, Words.ones, Looks.looks, Looks.AreUsed}
+use Rattle.pas_rights.specs.{Looks.looks_until, Looks.looks, Looks.AreUsed, Puts.PutsBelow, Takes.word_take, Takes.takes, Words.ones}
 use Rattle.pas_rights.specs.declared.reading.Used.{Used}
 use Rattle.pas_rights.proofs.{Orders.until_only, Orders.leave_returns, Orders.return_returns, Words.each_always, Looks.looks_only}
 use Rattle.pas_scavenger.specs.{Judgements.used_at, Judgements.Judged, Passes.TrySteps, Puttings.BackSteps, Readings.takes_until}
@@ -234,16 +234,11 @@ pub asks_told : (f : Profile) (k : ℕ) (l : Whole) (page : ℕ) (d : Directory)
 asks_told f k l page d got steps h legal = search (arith, looks_told, looks_same, first_only)
 
 -- ---- THE TAKES: where each free word was all ones, each take reads it so
-aside : (x t : Bool) (new old : ℕ) → x ≡ false → (if x && t then new else old) ≡ old
-aside x t new old h = ap (λ (u : Bool). if u && t then new else old) h
-
 -- takes of lower words leave a free word
 lower_takes : (k : ℕ) (l : Whole) (page n word : ℕ) (xs : List Made) → n ≤ word
     → word_after (triples k (takes page ones ones n ++ xs) ++ l) (Word.Free page word) ≡ word_after (triples k xs ++ l) (Word.Free page word)
 lower_takes k l page zero word xs le = refl
-lower_takes k l page (suc n) word xs le =
-    let old : ℕ = word_after (triples k (takes page ones ones n ++ xs) ++ l) (Word.Free page word) in
-    aside (n == word) (page == page) (bit_and old (bit_not w64 all_ones)) old (ne_eqb n word (λ e. absurd (omega (arith, e, le)))) ∙ lower_takes k l page n word xs (omega (arith, le))
+lower_takes k l page (suc n) word xs le = search (arith, bit_and, w64, ne_eqb, lower_takes k l page n word xs (omega (arith, le)))
 
 -- Takes of a page whose free words are all ones meet no used word.
 pub none_used : (f : Profile) (k : ℕ) (l : Whole) (page : ℕ) (used : Option Used) (xs : List Made) → AreUsed used

@@ -25,7 +25,7 @@ use Rattle.pas_scavenger.specs.Pages.{first_looks, EndsWithout, EndsWith, Examin
 use Rattle.pas_scavenger.proofs.Examinations.{takes_are, taken_on}
 use Rattle.pas_answers.specs.Answers.{Progress}
 use Rattle.pas_same_text.specs.{State.World, Passes.outcome_of, Same.IsSame, Acts.IsBetween, Acts.AreEndsStamped}
-use Rattle.pas_same_text.proofs.GivingBack.{HintsPage, OffersPage, WasRead, backed_stays, hinted_by, hint_read, hints_none, hints_of, once_parts}
+use Rattle.pas_same_text.proofs.StepMarks.{HintsPage, OffersPage, WasRead, backed_stays, hinted_by, hint_read, hints_none, hints_of, once_parts}
 use Rattle.pas_same_text.proofs.PassOutcomes.{WasOffered, stays_hinted, bare_outcome, used_outcome, kept_outcome, young_outcome, old_outcome, empty_backed}
 use Rattle.pas_same_text.proofs.PassReadings.{frees_stay, stamps_stay, looks_told, IsAsked, asking, asks_only, asks_told, none_used, AreWordsKept, IsSpared}
 use Rattle.pas_same_text.proofs.PassReadings.{first_only}

@@ -1,7 +1,7 @@
 -- THE RUNS THAT A KEEPER TRIES, in the text: one after the other from the lowest up, all pages of each that is usable get deeds, until one serves.
-use Rattle.std.proofs.Common.{◌≡◌, ◌≢◌, ℕ, zero, suc, ◌+◌, ◌<◌, ◌≤◌, nat_lt, Bool, true, false, if◌then◌else◌, List, [], ◌∷◌, ◌++◌, None, Some, inl, inr, refl}
-use Rattle.std.proofs.Common.{ap, sym, ◌∙◌, subst, arith, append_assoc, true≢false, ne_eqb, lt-ltb, ltb-true}
-use Rattle.std.proofs.lemmas.{Bool.cases_eq, Bool.cases_lt, Bool.Decides.nat_tests, List.map-append}
+use Rattle.std.proofs.Common.{◌≡◌, ◌≢◌, ℕ, zero, suc, ◌+◌, ◌<◌, ◌≤◌, nat_lt, Bool, true, false, if◌then◌else◌, List, [], ◌∷◌, ◌++◌, None, inl, inr, refl, ap}
+use Rattle.std.proofs.Common.{sym, ◌∙◌, subst, arith, append_assoc, true≢false, ne_eqb, lt-ltb, ltb-true}
+use Rattle.std.proofs.lemmas.{Bool.cases_eq, Bool.cases_lt, List.map-append}
 use Rattle.std.specs.List.{AllByRecursion}
 use Rattle.pas_profile.specs.declared.{directory.Directory.Directory, event.Event.Event, profile.Profile.Profile}
 use Rattle.pas_machine.specs.{Machine.Run, State.deed_in, State.backed_in}
@@ -10,7 +10,7 @@ use Rattle.pas_trace.specs.Acts.{numbers_from}
 use Rattle.pas_same_text.specs.{State.World, Pages.page_numbers, Searches.deeds, Guards.are_bare, Guards.raises, Guards.raises_from}
 use Rattle.pas_same_text.specs.Runs.{large_of, is_run, deeds_run, serves_pages}
 use Rattle.pas_same_text.proofs.ReadyPages.{shown, shown_events}
-use Rattle.pas_same_text.proofs.RunEvents.{each_in_turn, shown_both, deeds_of, AreFalling, AllInRun, deeds_in_turn}
+use Rattle.pas_same_text.proofs.RunsFound.{each_in_turn, shown_both, deeds_of, AreFalling, AllInRun, deeds_in_turn}
 use Rattle.pas_profile.proofs.Lists.{all_map}
 
 -- ==== PAGES FROM THE HIGHEST DOWN: those below a page, and the others
@@ -55,16 +55,11 @@ module _ (e : ℕ) where
 
   below_lt : (qs : List ℕ) → AreFalling qs → AllByRecursion (λ q. q < e) (below e qs)
   below_lt [] falls = tt
-  below_lt (q ∷ qs) falls = by_test (AllByRecursion (λ x. x < e)) (nat_lt q e) (q ∷ qs) (below e qs)
-      (λ yes. let lt = ltb-true q e yes in (lt, all_map (λ x. x < q) (λ x. x < e) qs (λ x less. omega (arith, less, lt)) falls.0))
-      (λ no. below_lt qs falls.1)
-
-  not_lt : (q : ℕ) → nat_lt q e ≡ false → e ≤ q
-  not_lt q is = grind (arith, nat_tests, is)
+  below_lt (q ∷ qs) falls = search (arith, by_test, ltb-true, all_map, below_lt qs falls.1)
 
   above_ge : (qs : List ℕ) → AllByRecursion (λ q. e ≤ q) (above e qs)
   above_ge [] = tt
-  above_ge (q ∷ qs) = by_test (AllByRecursion (λ x. e ≤ x)) (nat_lt q e) [] (q ∷ above e qs) (λ yes. tt) (λ no. (not_lt q no, above_ge qs))
+  above_ge (q ∷ qs) = search (arith, by_test, above_ge qs)
 
   below_whole : (qs : List ℕ) → AllByRecursion (λ q. q < e) qs → below e qs ≡ qs
   below_whole [] all = refl
@@ -87,14 +82,9 @@ module _ (k : ℕ) (d : Directory) where
   run_below f e [] es run = run
   run_below f e (q ∷ qs) es run = by_test (λ (xs : List ℕ). Run f (deeds_of k d xs ++ es)) (nat_lt q e) (q ∷ qs) (below e qs) (λ yes. run) (λ no. run_below f e qs es run.1)
 
-  apart : (e p q : ℕ) → p < e → nat_lt q e ≡ false → q ≢ p
-  apart e p q lt is same = true≢false (sym (lt-ltb q e (omega (arith, lt, same))) ∙ is)
-
   deed_below : (e p : ℕ) (qs : List ℕ) (es : List Event) → p < e → deed_in (deeds_of k d (below e qs) ++ es) p ≡ deed_in (deeds_of k d qs ++ es) p
   deed_below e p [] es lt = refl
-  deed_below e p (q ∷ qs) es lt = by_test (λ (xs : List ℕ). deed_in (deeds_of k d xs ++ es) p ≡ deed_in (deeds_of k d (q ∷ qs) ++ es) p) (nat_lt q e) (q ∷ qs) (below e qs)
-      (λ yes. refl)
-      (λ no. deed_below e p qs es lt ∙ sym (ap (λ (t : Bool). if t then Some d else deed_in (deeds_of k d qs ++ es) p) (ne_eqb q p (apart e p q lt no))))
+  deed_below e p (q ∷ qs) es lt = search (arith, by_test, ne_eqb, true≢false, lt-ltb, deed_below e p qs es lt)
 
   backed_beside : (p : ℕ) (qs : List ℕ) (es : List Event) → backed_in (deeds_of k d qs ++ es) p ≡ backed_in es p
   backed_beside p [] es = refl

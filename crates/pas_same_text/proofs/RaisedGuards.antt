@@ -28,15 +28,15 @@ use Rattle.pas_same_text.specs.State.{World, Guard, each, says}
 use Rattle.pas_same_text.specs.{Pages.is_offered, Searches.backs, Searches.address_on, Searches.gives, Runs.large_of, Guards.guard_on, Guards.with_guard}
 use Rattle.pas_same_text.specs.{Guards.raises, Acts.IsBetween}
 use Rattle.pas_same_text.specs.Same.{told_guard, has_number, IsSame, HasSame, AreSameCaches, AreSameGuards}
-use Rattle.pas_same_text.proofs.{Flushes.legal_between, FreeGrains.outer_held, FreeGrains.free_unheld, SmallActs.records_next, SoughtRuns.IsRunOf}
-use Rattle.pas_same_text.proofs.{SoughtRuns.IsMadeOf, Tests.on_page, SearchMarks.seeks_unbacked, RestingPages.word_known, GivingBack.once_parts}
-use Rattle.pas_same_text.proofs.{ReadyPages.shown, ReadyPages.shown_events, ReadyPages.shown_rest}
-use Rattle.pas_same_text.proofs.Pieces.{IsPiece, UsesOnly, free_kept, hinted_before, piece_pages, uses_wider}
-use Rattle.pas_same_text.proofs.LeftPages.{left_offered, IsInUse, LeavesBehind, giving, leaving, marks_behind, no_hint, rest_leaves}
+use Rattle.pas_same_text.proofs.{Flushes.legal_between, FreeGrains.outer_held, FreeGrains.free_unheld, SmallActs.records_next, Tests.on_page}
+use Rattle.pas_same_text.proofs.{StepMarks.seeks_unbacked, RestingPages.word_known, StepMarks.once_parts, ReadyPages.shown, ReadyPages.shown_events}
+use Rattle.pas_same_text.proofs.{ReadyPages.shown_rest}
+use Rattle.pas_same_text.proofs.SoughtRuns.{IsRunOf, IsMadeOf, unowned_free, visible_mid, made_events, found_made, found_pages, IsSought}
+use Rattle.pas_same_text.proofs.Pieces.{IsPiece, UsesOnly, free_kept, hinted_before, piece_pages, uses_wider, left_offered, IsInUse, LeavesBehind, giving}
+use Rattle.pas_same_text.proofs.Pieces.{leaving, marks_behind, no_hint, rest_leaves}
 use Rattle.pas_same_text.proofs.MissedGuards.{all_listed, deed_listed, each_listed, guards_more, inner_or, left_free, left_in_run, outer_more, outer_or}
 use Rattle.pas_same_text.proofs.MissedGuards.{unlisted_bare}
-use Rattle.pas_same_text.proofs.RunEvents.{each_in_turn, shown_both, deeded, deeds_of, backs_in_turn}
-use Rattle.pas_same_text.proofs.TriedRuns.{unowned_free, visible_mid, made_events, found_made, found_pages, IsSought}
+use Rattle.pas_same_text.proofs.RunsFound.{each_in_turn, shown_both, deeded, deeds_of, backs_in_turn}
 use Rattle.pas_same_text.proofs.GivenBlocks.{AreReadying, GivesBlock, backs_ready, block_is, block_uses, epoch_now, events_now, live_now, made_ready, names_now}
 use Rattle.pas_same_text.proofs.GivenBlocks.{only_block, IsReadying, ready_deeds, ready_gives, records_now}
 use Rattle.pas_profile.proofs.Lists.{all_both, all_map}
@@ -114,13 +114,7 @@ module _ (name : ℕ) {f : Profile} {k heap n : ℕ} {p q : Progress} {w : World
   abbrev v : World
   v = says (Record.Said k (Said.Guarded run.first (run.first + n + 1) name)) (with_guard (guard_on tried k run.first n) given)
 
-  text : raises k name heap run.first n tried ≡ v
-  text = ap (λ (x : World). says (Record.Said k (Said.Guarded run.first (run.first + n + 1) name)) (with_guard (guard_on tried k run.first n) (gives k name heap address (4096 * n) x))) backs_text
-
   -- ---- the block
-  at_address : address_of block.name ≡ address
-  at_address = let at : address_of block.name ≡ (run.first + 1) * 4096 = ap (λ (b : Block). address_of b.name) run.block_is in omega (arith, at)
-
   gives_it : GivesBlock f k p q w (rest ++ xs) es block address (4096 * n) heap
   gives_it = record {
     valid = s.valid;
@@ -128,7 +122,7 @@ module _ (name : ℕ) {f : Profile} {k heap n : ℕ} {p q : Progress} {w : World
     there = there;
     list = list;
     events_are = events_are;
-    address_is = at_address;
+    address_is = let at : address_of block.name ≡ (run.first + 1) * 4096 = ap (λ (b : Block). address_of b.name) run.block_is in omega (arith, at);
     room_is = let room : block.room ≡ n * 4096 = ap (λ (b : Block). b.room) run.block_is in omega (arith, room);
     heap_is = ap (λ (b : Block). b.heap) run.block_is;
   }
@@ -296,4 +290,4 @@ module _ (name : ℕ) {f : Profile} {k heap n : ℕ} {p q : Progress} {w : World
 
   -- Where a keeper's search found a run, the guard that the text raises there is the replay's state.
   pub raised_same : IsSame f q (raises k name heap run.first n tried)
-  raised_same = subst (IsSame f q) (sym text) raised_here
+  raised_same = search (arith, raised_here, backs_text)

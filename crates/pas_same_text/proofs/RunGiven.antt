@@ -30,13 +30,13 @@ use Rattle.pas_trace.specs.EveryPlan.{IsThread}
 use Rattle.pas_answers.specs.Answers.{Progress, named, records_of, with_cache as with_cached}
 use Rattle.pas_same_text.specs.{State.World, Runs.large_of, Runs.gives_pages, Same.IsSame, Same.HasSame, Same.AreSameCaches, Acts.IsBetween}
 use Rattle.pas_same_text.specs.Searches.{deeds, backs, address_on, gives}
-use Rattle.pas_same_text.proofs.{CacheLists.same_kept, Flushes.visible_steps, Flushes.legal_between, LoggedFrees.after_with, Holders.guards_as}
-use Rattle.pas_same_text.proofs.{RestingPages.word_known, RunsFound.DeedsInRun, Tests.on_page, CacheLists.kept_at, SearchMarks.seeks_unbacked}
-use Rattle.pas_same_text.proofs.{GivingBack.once_parts, ReadyPages.shown, ReadyPages.shown_events, ReadyPages.shown_rest}
-use Rattle.pas_same_text.proofs.Pieces.{IsPiece, UsesOnly, hinted_before, piece_pages}
-use Rattle.pas_same_text.proofs.LeftPages.{LeftInTurn, all_in_run, LeavesBehind, giving, leaving, left_offered, marks_behind, no_hint, rest_leaves}
-use Rattle.pas_same_text.proofs.RunEvents.{in_turn, each_in_turn, shown_both, deeded, deeds_of, deeded_falls, deeded_within, deeded_events, deeds_in_turn}
-use Rattle.pas_same_text.proofs.RunEvents.{backs_in_turn}
+use Rattle.pas_same_text.proofs.{CacheLists.same_kept, Flushes.visible_steps, Flushes.legal_between, SmallActs.after_with, FreeGrains.guards_as}
+use Rattle.pas_same_text.proofs.{RestingPages.word_known, Tests.on_page, CacheLists.kept_at, StepMarks.seeks_unbacked, StepMarks.once_parts, ReadyPages.shown}
+use Rattle.pas_same_text.proofs.{ReadyPages.shown_events, ReadyPages.shown_rest}
+use Rattle.pas_same_text.proofs.RunsFound.{DeedsInRun, in_turn, each_in_turn, shown_both, deeded, deeds_of, deeded_falls, deeded_within, deeded_events}
+use Rattle.pas_same_text.proofs.RunsFound.{deeds_in_turn, backs_in_turn}
+use Rattle.pas_same_text.proofs.Pieces.{IsPiece, UsesOnly, hinted_before, piece_pages, LeftInTurn, all_in_run, LeavesBehind, giving, leaving, left_offered}
+use Rattle.pas_same_text.proofs.Pieces.{marks_behind, no_hint, rest_leaves}
 use Rattle.pas_same_text.proofs.GivenBlocks.{AreReadying, GivesBlock, backs_ready, block_uses, epoch_now, events_now, live_now, made_ready, names_now}
 use Rattle.pas_same_text.proofs.GivenBlocks.{only_block, IsReadying, ready_deeds, records_now}
 
@@ -166,13 +166,7 @@ module _ (f : Profile) (k name heap first n : ℕ) (p : Progress) (u : World) (g
   abbrev v : World
   v = gives k name heap (address_on first 0) (4096 * n) (shown es u)
 
-  text : gives_pages k name heap first n u ≡ v
-  text = search (arith, each_in_turn, deeds_text, backs_text, shown_both)
-
   -- ---- the block
-  address : address_of block.name ≡ address_on first 0
-  address = let at : address_of block.name ≡ first * 4096 = ap (λ (b : Block). address_of b.name) run.block_is in omega (arith, at)
-
   gives_it : GivesBlock f k p q u (rest ++ got) es block (address_on first 0) (4096 * n) heap
   gives_it = record {
     valid = valid;
@@ -180,7 +174,7 @@ module _ (f : Profile) (k name heap first n : ℕ) (p : Progress) (u : World) (g
     there = there;
     list = refl;
     events_are = events_are;
-    address_is = address;
+    address_is = let at : address_of block.name ≡ first * 4096 = ap (λ (b : Block). address_of b.name) run.block_is in omega (arith, at);
     room_is = let room : block.room ≡ n * 4096 = ap (λ (b : Block). b.room) run.block_is in omega (arith, room);
     heap_is = ap (λ (b : Block). b.heap) run.block_is;
   }
@@ -276,4 +270,4 @@ module _ (f : Profile) (k name heap first n : ℕ) (p : Progress) (u : World) (g
 
   -- A run of whole pages that was found and given leads the text to the replay's state.
   pub run_given : IsSame f q (gives_pages k name heap first n u)
-  run_given = subst (λ (x : World). IsSame f q x) (sym text) given_same
+  run_given = subst (λ (x : World). IsSame f q x) (sym (search (arith, each_in_turn, deeds_text, backs_text, shown_both))) given_same

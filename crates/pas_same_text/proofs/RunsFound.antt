@@ -1,31 +1,37 @@
--- WHAT A SEARCH FOR A RUN READ of a page, where no other actor makes a step: a page that was read as usable was usable before the search, and one that was usable before it is
--- never read as not usable, lost or broken.
-use Rattle.pas_same_text.proofs.SearchMarks.{was_offered_before, stays_used, free_or_held}
-use Rattle.std.proofs.Common.{◌≡◌, ◌≢◌, ℕ, ◌+◌, ◌*◌, ◌/◌, ◌%◌, ◌<◌, ◌==◌, Bool, true, false, ◌||◌, if◌then◌else◌, List, [], ◌∷◌, ◌++◌, ◌⊎◌, inl, inr, refl, ap}
-use Rattle.std.proofs.Common.{sym, ◌∙◌, arith, eqb-true, eq-eqb}
+-- A SEARCH FOR A RUN: what it read of a page, where no other actor makes a step; and the deeds and backings before the run is given.
+use Rattle.pas_same_text.proofs.{StepMarks.was_offered_before, StepMarks.stays_used, StepMarks.free_or_held, Flushes.visible_steps}
+use Rattle.std.proofs.Common.{◌≡◌, ◌≢◌, ℕ, ◌+◌, ◌*◌, ◌<◌, ◌==◌, Bool, true, false, ◌||◌, if◌then◌else◌, List, [], ◌∷◌, ◌++◌, ◌⊎◌, inl, inr, refl, ap, sym, ◌∙◌}
+use Rattle.std.proofs.Common.{arith, eqb-true, eq-eqb, zero, suc, map, Option, None, Some, subst, true≢false, ne_eqb}
 use Rattle.std.proofs.lemmas.Bool.{false≢true, cases_eq, or_from}
 use Rattle.pas_bits.specs.Bits.{has_bit}
 use Rattle.pas_profile.specs.{Directories.IsKind, Directories.number_of, Directories.deed_word_of, Layouts.same_word, Profiles.IsDirectoryOf}
-use Rattle.pas_profile.specs.declared.{directory.Directory.Directory, profile.Profile.Profile, word.Word.Word}
-use Rattle.pas_profile.proofs.Codecs.{deed_word_of-positive}
-use Rattle.pas_steps.specs.{Desks.triple, Desks.triples, Effects.target, Effects.new_value, Past.Once, Past.Always, Evidence.ReadsFree, Evidence.OneHere}
-use Rattle.pas_steps.specs.{Kinds.Only}
-use Rattle.pas_steps.specs.Views.{epoch_of, holds, has_right, known_deed}
-use Rattle.pas_steps.specs.Lists.{Whole, part, word_after, Legal}
-use Rattle.pas_steps.specs.declared.step.{Made.Made, Step.Step, Step.TheVariants.Deed}
+use Rattle.pas_profile.specs.declared.{directory.Directory.Directory, profile.Profile.Profile, word.Word.Word, event.Event.Event}
+use Rattle.pas_profile.proofs.{Codecs.deed_word_of-positive, Lists.all_map}
+use Rattle.pas_steps.specs.{Desks.triple, Desks.triples, Desks.made, Effects.target, Effects.new_value, Past.Once, Past.Always, Evidence.ReadsFree}
+use Rattle.pas_steps.specs.{Evidence.OneHere, Kinds.Only, Kinds.kind_of, Kinds.is_in, Events.event_of, Events.with_event, Events.events_by, InTurn.InTurn}
+use Rattle.pas_steps.specs.Views.{epoch_of, holds, has_right, known_deed, View}
+use Rattle.pas_steps.specs.Lists.{Whole, part, word_after, Legal, visible}
+use Rattle.pas_steps.specs.declared.step.{Made.Made, Step.Step}
+use Rattle.pas_steps.specs.declared.step.Step.TheVariants.{Deed, Back, Give, End, EndSized, Unback}
 use Rattle.pas_steps.proofs.{Frames.right_own, Parts.part_of_own, Past.always_map}
-use Rattle.pas_core.specs.Rights.{eligible_bit}
-use Rattle.pas_core.proofs.Deeds.{looked, number_told, deed_kept, known_is}
+use Rattle.pas_core.specs.{Rights.eligible_bit, Good.word_of_backed}
+use Rattle.pas_core.proofs.Deeds.{looked, number_told, deed_kept, known_is, backed_of}
 use Rattle.pas_core.proofs.OneActor.{LendsNone, deed_read, legal_before, lends_none}
 use Rattle.pas_core.proofs.Rights.{spot_of, spotted, offered_has_deed, deeds_known}
 use Rattle.pas_scan.specs.Usable.{OfHere, WholeHere, ReadUsable, OtherDeedHere, NotOfferedHere, UsedHere, MakesNoDeedHere}
 use Rattle.pas_search.specs.Kinds.{ReturnsDuly}
-use Rattle.pas_large.specs.{Evidence.BadHere, Telling.IsWholePage, Telling.IsUsablePage, Evidence.HasFailed, Finds.MayFind, Finds.FoundRun, Finds.finding}
-use Rattle.pas_large.specs.{Telling.IsLowestRun}
+use Rattle.pas_large.specs.Evidence.{BadHere, HasFailed, DeedsBelow, DeedsRise}
+use Rattle.pas_large.specs.{Telling.IsWholePage, Telling.IsUsablePage, Telling.IsLowestRun, Finds.MayFind, Finds.FoundRun, Finds.finding, Gives.BackStep}
+use Rattle.pas_large.specs.{Gives.pages_from}
 use Rattle.pas_large.proofs.Outcomes.{MadeOf, of_directory}
 use Rattle.pas_large.proofs.Told.{eligible_told, free_told, grain_bit, of_page, usable_free, clean_fresh, usable_clean, nowhere_else, none_read, lost_never}
-use Rattle.pas_same_text.specs.Words.{free_bit}
+use Rattle.pas_same_text.specs.{Words.free_bit, State.World, State.shows, State.each, Searches.deeds, Searches.backs}
 use Rattle.pas_scan.specs.Runs.{IsInRun}
+use Rattle.std.specs.List.{AllByRecursion}
+use Rattle.pas_machine.specs.{Machine.Run, State.deed_in, State.backed_in}
+use Rattle.pas_guard.specs.Seeks.{seeking}
+use Rattle.pas_trace.specs.Acts.{numbers_from}
+use Rattle.pas_same_text.proofs.ReadyPages.{shown, shown_events, unowned, owned}
 
 -- ---- what readings tell of words
 -- a bit of a free word as it was read
@@ -65,9 +71,7 @@ module _ (f : Profile) (k : ℕ) (l : Whole) (d : Directory) (p : ℕ) where
   of_now : (xs : List Made) → Legal f (triples k xs ++ l) → Once (OfHere d p) xs → word_after (triples k xs ++ l) (Word.Deed p) ≡ deed_word_of d
   of_now [] legal h = absurd h
   of_now (m ∷ xs) legal (inl h) = search (arith, deed_read, deed_kept, deed_word_of-positive)
-  of_now (m ∷ xs) legal (inr h) =
-      let now = of_now xs legal.1 h in
-      deed_kept (triples k xs ++ l) (triple k m) p (λ none. deed_word_of-positive d (sym now ∙ none)) ∙ now
+  of_now (m ∷ xs) legal (inr h) = search (arith, deed_kept, deed_word_of-positive, of_now xs legal.1 h)
 
   -- the bit is that of the page's directory
   own_number : (n : ℕ) → Legal f l → IsKind d.kind → word_after l (Word.Deed p) ≡ deed_word_of d → eligible_bit l n p ≡ true
@@ -199,3 +203,178 @@ module _ (f : Profile) (k : ℕ) (l : Whole) (d : Directory) (n : ℕ) (of : IsD
     -- Each deed of a search that found a run is of a page of that run.
     pub deeds_in_run : DeedsInRun d first n xs
     deeds_in_run = search (arith, always_map, never_fails, lends)
+
+-- ==== THE EVENTS BEFORE A RUN IS GIVEN: a deed of each of its pages that had none, the lowest first, and a backing of each that had no memory, the lowest first. They are those of the text.
+-- ---- pages of a run, one by one from the first
+abbrev pub in_turn : (ℕ → World → World) → ℕ → ℕ → World → World
+in_turn does first zero w = w
+in_turn does first (suc n) w = does (first + n) (in_turn does first n w)
+
+turn_first : (does : ℕ → World → World) (n first : ℕ) (w : World) → in_turn does (first + 1) n (does first w) ≡ in_turn does first (suc n) w
+turn_first does zero first w = let same : first ≡ first + 0 = omega arith in ap (λ (x : ℕ). does x w) same
+turn_first does (suc n) first w = search (arith, turn_first does n first w)
+
+-- What is done for each number of a run in a list is what is done for them in turn.
+pub each_in_turn : (does : ℕ → World → World) (n first : ℕ) (w : World) → each does (numbers_from first n) w ≡ in_turn does first n w
+each_in_turn does zero first w = refl
+each_in_turn does (suc n) first w = each_in_turn does n (first + 1) (does first w) ∙ turn_first does n first w
+
+-- ---- events in two parts
+pub shown_both : (ys xs : List Event) (w : World) → shown (ys ++ xs) w ≡ shown ys (shown xs w)
+shown_both [] xs w = refl
+shown_both (y ∷ ys) xs w = ap (shows y) (shown_both ys xs w)
+
+-- ---- DEEDS: the pages that got one, the last one first
+abbrev pub with_deed : Step → ℕ → List ℕ → List ℕ
+with_deed (Deed q e) a ps = if a == 0 then q ∷ ps else ps
+with_deed s a ps = ps
+
+abbrev pub deeded : List Made → List ℕ
+deeded [] = []
+deeded (m ∷ xs) = with_deed m.step m.answer (deeded xs)
+
+abbrev with_deeds : ℕ → Directory → Step → ℕ → List Event → List Event
+with_deeds k d (Deed q e) a es = if a == 0 then Event.Deed k q d ∷ es else es
+with_deeds k d s a es = es
+
+abbrev pub deeds_of : ℕ → Directory → List ℕ → List Event
+deeds_of k d ps = map (λ (p : ℕ). Event.Deed k p d) ps
+
+-- each is above those behind it
+abbrev pub AreFalling : List ℕ → Type 0
+AreFalling [] = Unit {0}
+AreFalling (p ∷ ps) = AllByRecursion (λ q. q < p) ps × AreFalling ps
+
+abbrev pub AllInRun : ℕ → ℕ → List ℕ → Type 0
+AllInRun first n = AllByRecursion (IsInRun first n)
+
+module _ (k : ℕ) (d : Directory) where
+  -- what holds of each deed that was made holds of each such page
+  deeded_all : (P : ℕ → Type 0) (xs : List Made) → Always (λ m before. (page : ℕ) (e : Directory) → m.step ≡ Deed page e → m.answer ≡ 0 → P page) xs
+      → AllByRecursion P (deeded xs)
+  deeded_all P [] all = tt
+  deeded_all P (m ∷ xs) all = one m.step m.answer all.0 (deeded_all P xs all.1)
+    where
+      by_answer : (t : Bool) (q : ℕ) (ps : List ℕ) → (t ≡ true → P q) → AllByRecursion P ps → AllByRecursion P (if t then q ∷ ps else ps)
+      by_answer true q ps is rest = (is refl, rest)
+      by_answer false q ps is rest = rest
+
+      one : (s : Step) (a : ℕ) → ((page : ℕ) (e : Directory) → s ≡ Deed page e → a ≡ 0 → P page) → AllByRecursion P (deeded xs)
+          → AllByRecursion P (with_deed s a (deeded xs))
+      one (Deed q e) a is rest = by_answer (a == 0) q (deeded xs) (λ zero. is q e refl (eqb-true a 0 zero)) rest
+      one s a is rest = rest
+
+  -- Deeds that rise in their order are of pages that fall in the list with the newest first.
+  pub deeded_falls : (xs : List Made) → DeedsRise xs → AreFalling (deeded xs)
+  deeded_falls [] rise = tt
+  deeded_falls (m ∷ xs) rise = one m.step m.answer rise.0 (deeded_falls xs rise.1)
+    where
+      by_answer : (t : Bool) (q : ℕ) → (t ≡ true → DeedsBelow q xs) → AreFalling (deeded xs) → AreFalling (if t then q ∷ deeded xs else deeded xs)
+      by_answer true q below rest = (deeded_all (λ p. p < q) xs (below refl), rest)
+      by_answer false q below rest = rest
+
+      one : (s : Step) (a : ℕ) → ((page : ℕ) (e : Directory) → s ≡ Deed page e → a ≡ 0 → DeedsBelow page xs) → AreFalling (deeded xs)
+          → AreFalling (with_deed s a (deeded xs))
+      one (Deed q e) a below rest = by_answer (a == 0) q (λ zero. below q e refl (eqb-true a 0 zero)) rest
+      one s a below rest = rest
+
+  -- Deeds within a run are of pages of that run.
+  pub deeded_within : (n first : ℕ) (xs : List Made) → DeedsInRun d first n xs → AllInRun first n (deeded xs)
+  deeded_within n first xs within = deeded_all (IsInRun first n) xs (always_map _ (λ m before. (page : ℕ) (e : Directory) → m.step ≡ Deed page e → m.answer ≡ 0 → IsInRun first n page) xs (λ m before h page e same zero. (h page e same zero).1) within)
+
+  -- the events of a search are those deeds
+  pub deeded_events : (v : View) (xs : List Made) → Only seeking xs → MadeOf d xs → events_by k v xs ≡ deeds_of k d (deeded xs)
+  deeded_events v [] kinds within = refl
+  deeded_events v (m ∷ xs) kinds within = one m.step m.answer kinds.0 within.0 ∙ ap (λ (es : List Event). with_deeds k d m.step m.answer es) (deeded_events v xs kinds.1 within.1) ∙ same m.step m.answer
+    where
+      by_answer : (t : Bool) (q : ℕ) (e : Directory) (es : List Event) → (t ≡ true → e ≡ d)
+          → with_event (if t then Some (Event.Deed k q e) else None) es ≡ (if t then Event.Deed k q d ∷ es else es)
+      by_answer true q e es is = ap (λ (x : Directory). Event.Deed k q x ∷ es) (is refl)
+      by_answer false q e es is = refl
+
+      one : (s : Step) (a : ℕ) → is_in seeking (kind_of s) ≡ true → ((page : ℕ) (e : Directory) → s ≡ Deed page e → a ≡ 0 → e ≡ d)
+          → with_event (event_of k (epoch_of (xs ++ v)) s a) (events_by k v xs) ≡ with_deeds k d s a (events_by k v xs)
+      one (Deed q e) a is within = by_answer (a == 0) q e (events_by k v xs) (λ zero. within q e refl (eqb-true a 0 zero))
+      one (Back q) a is within = absurd (true≢false (sym is))
+      one (Give b) a is within = absurd (true≢false (sym is))
+      one (End b g) a is within = absurd (true≢false (sym is))
+      one (EndSized b r) a is within = absurd (true≢false (sym is))
+      one (Unback q) a is within = absurd (true≢false (sym is))
+      one s a is within = refl
+
+      mapped : (t : Bool) (q : ℕ) (ps : List ℕ) → (if t then Event.Deed k q d ∷ deeds_of k d ps else deeds_of k d ps) ≡ deeds_of k d (if t then q ∷ ps else ps)
+      mapped true q ps = refl
+      mapped false q ps = refl
+
+      same : (s : Step) (a : ℕ) → with_deeds k d s a (deeds_of k d (deeded xs)) ≡ deeds_of k d (with_deed s a (deeded xs))
+      same (Deed q e) a = mapped (a == 0) q (deeded xs)
+      same s a = refl
+
+  -- ---- the deeds of the text
+  deed_apart : (q p : ℕ) (es : List Event) → q ≢ p → deed_in (Event.Deed k q d ∷ es) p ≡ deed_in es p
+  deed_apart q p es ne = ap (λ (t : Bool). if t then Some d else deed_in es p) (ne_eqb q p ne)
+
+  fewer_in_run : (n first : ℕ) (ps : List ℕ) → AllInRun first (suc n) ps → AllByRecursion (λ q. q < first + n) ps → AllInRun first n ps
+  fewer_in_run n first [] within below = tt
+  fewer_in_run n first (q ∷ ps) within below = ((within.0.0, below.0), fewer_in_run n first ps within.1 below.1)
+
+  none_within : (first : ℕ) (ps : List ℕ) (w : World) → AllInRun first 0 ps → w ≡ shown (deeds_of k d ps) w
+  none_within first [] w within = refl
+  none_within first (q ∷ ps) w within = absurd (omega (arith, within.0.0, within.0.1))
+
+  -- THE DEEDS of a run: each of its pages has one then
+  pub deeds_in_turn : (f : Profile) (n first : ℕ) (ps : List ℕ) (w : World) → AreFalling ps → AllInRun first n ps → Run f (deeds_of k d ps ++ w.events)
+      → ((p : ℕ) → IsInRun first n p → deed_in (deeds_of k d ps ++ w.events) p ≢ None) → in_turn (deeds k d) first n w ≡ shown (deeds_of k d ps) w
+  deeds_in_turn f zero first ps w falls within run all = none_within first ps w within
+  deeds_in_turn f (suc n) first [] w falls within run all =
+      ap (deeds k d (first + n)) (deeds_in_turn f n first [] w tt tt run (λ p here. all p (here.0, omega (arith, here.1)))) ∙ owned k d (first + n) w (all (first + n) (omega arith, omega arith))
+  deeds_in_turn f (suc n) first (q ∷ ps) w falls within run all = elim (cases_eq q (first + n)) [
+    | inl same ↦
+        let lower : AllByRecursion (λ x. x < first + n) ps = subst (λ (y : ℕ). AllByRecursion (λ x. x < y) ps) same falls.0 in
+        let rest : in_turn (deeds k d) first n w ≡ shown (deeds_of k d ps) w =
+        deeds_in_turn f n first ps w falls.1 (fewer_in_run n first ps within.1 lower) run.1
+        (λ p here. let low = here.0 in let ne : q ≢ p = (λ (e : q ≡ p). omega (arith, e, same, here.1)) in λ none. all p (low, omega (arith, here.1)) (deed_apart q p (deeds_of k d ps ++ w.events) ne ∙ none)) in
+        let bare : deed_in (shown (deeds_of k d ps) w).events q ≡ None = ap (λ (es : List Event). deed_in es q) (shown_events (deeds_of k d ps) w) ∙ run.0.2 in
+        ap (deeds k d (first + n)) rest ∙ (ap (λ (y : ℕ). deeds k d y (shown (deeds_of k d ps) w)) (sym same) ∙ unowned k d q (shown (deeds_of k d ps) w) bare)
+    | inr ne ↦
+        let under : q < first + n = omega (arith, within.0.1, ne) in
+        let lower : AllByRecursion (λ x. x < first + n) (q ∷ ps) = (under, all_map (λ x. x < q) (λ x. x < first + n) ps (λ x h. omega (arith, h, under)) falls.0) in
+        let rest : in_turn (deeds k d) first n w ≡ shown (deeds_of k d (q ∷ ps)) w =
+        deeds_in_turn f n first (q ∷ ps) w falls (fewer_in_run n first (q ∷ ps) within lower) run (λ p here. all p (here.0, omega (arith, here.1))) in
+        let has : deed_in (shown (deeds_of k d (q ∷ ps)) w).events (first + n) ≢ None = λ none. all (first + n) (omega arith, omega arith) (ap (λ (es : List Event). deed_in es (first + n)) (sym (shown_events (deeds_of k d (q ∷ ps)) w)) ∙ none) in
+        ap (deeds k d (first + n)) rest ∙ owned k d (first + n) (shown (deeds_of k d (q ∷ ps)) w) has
+  ]
+
+-- ---- BACKINGS
+module _ (f : Profile) (k : ℕ) (l : Whole) (u : World) (legal_l : Legal f l) (same : u.events ≡ visible l) where
+  -- what a backing answered tells whether the page was backed
+  one_back : (page a : ℕ) (v : World) (b : Bool) → a ≡ word_of_backed b → backed_in v.events page ≡ b
+      → backs k page v ≡ shown (with_event (if a == 0 then Some (Event.Back k page) else None) []) v
+  one_back page a v b is backed = search arith
+
+  with_shown : (o : Option Event) (es : List Event) (v : World) → shown (with_event o []) (shown es v) ≡ shown (with_event o es) v
+  with_shown None es v = refl
+  with_shown (Some e) es v = refl
+
+  -- THE BACKINGS of a run
+  pub backs_in_turn : (n first : ℕ) (steps : List Made) → Legal f (triples k steps ++ l) → InTurn BackStep (pages_from first n) steps
+      → in_turn (backs k) first n u ≡ shown (events_by k (part k l) steps) u
+  backs_in_turn zero first steps legal turn = ap (λ (ms : List Made). shown (events_by k (part k l) ms) u) (sym turn)
+  backs_in_turn (suc n) first steps legal turn =
+      let before : List Made = turn.1 in
+      let a : ℕ = turn.2.0 in
+      let page : ℕ = first + n in
+      let es : List Event = events_by k (part k l) before in
+      let is : steps ≡ made (Back page) a ∷ before = turn.4 ∙ ap (λ (ms : List Made). ms ++ before) turn.2.1 in
+      let legal_own : Legal f (triples k (made (Back page) a ∷ before) ++ l) = subst (λ (ms : List Made). Legal f (triples k ms ++ l)) is legal in
+      let now : (shown es u).events ≡ visible (triples k before ++ l) = shown_events es u ∙ (ap (λ (base : List Event). es ++ base) same ∙ sym (visible_steps k before l)) in
+      let answer : a ≡ word_of_backed (backed_in (visible (triples k before ++ l)) page) = legal_own.0.answer_is ∙ backed_of f (triples k before ++ l) legal_own.1 page in
+      ap (backs k page) (backs_in_turn n first before legal_own.1 turn.3)
+      ∙ (one_back page a (shown es u) (backed_in (visible (triples k before ++ l)) page) answer (ap (λ (xs : List Event). backed_in xs page) now)
+      ∙ (with_shown (if a == 0 then Some (Event.Back k page) else None) es u
+      ∙ ap (λ (ms : List Made). shown (events_by k (part k l) ms) u) (sym is)))
+
+-- neither begins nor ends a block
+pub deeds_live : (k : ℕ) (d : Directory) (ps : List ℕ) (w : World) → (shown (deeds_of k d ps) w).live ≡ w.live
+deeds_live k d [] w = refl
+deeds_live k d (p ∷ ps) w = deeds_live k d ps w

@@ -1,31 +1,149 @@
--- THE INDEXES of a state of the text, which each act changes as it changes those of a replay, and how many caches it has, which no act changes.
-use Rattle.std.proofs.Common.{◌≡◌, ℕ, ◌+◌, ◌/◌, nat_le, Bool, true, false, if◌then◌else◌, List, [], ◌∷◌, length, Option, Some, refl, ◌∙◌, arith, zero, suc, map}
-use Rattle.std.proofs.Common.{ap}
-use Rattle.std.specs.List.{find}
-use Rattle.pas_profile.specs.Requests.{route_in, room_in}
-use Rattle.pas_profile.specs.declared.{directory.Route.Route, name.Block.Block, profile.Profile.Profile}
-use Rattle.pas_free_log.specs.Logs.{entry_of, sized_entry}
-use Rattle.pas_free_log.specs.declared.noting.EndedRun.{EndedRun}
-use Rattle.pas_answers.specs.Answers.{standing_for, suits, Progress, Named, request_for}
-use Rattle.pas_trace.specs.{Acts.Act, Acts.numbers_from, Asked.request_in}
-use Rattle.pas_trace.specs.declared.{item.Request.Request, plan.What.What}
-use Rattle.pas_same_text.specs.State.{World, Guard, each, cache_of, locals_of, noted_of, set_noted}
-use Rattle.pas_same_text.specs.{Pages.minds, Searches.searched, Searches.deeds, Searches.backs, Classes.is_for, Indexes.indexes_run, Indexes.loses_named}
-use Rattle.pas_same_text.specs.{Frees.stops, Passes.passes, Passes.stops_idle, Acts.IsTaken, Acts.HandsOnOwn, Acts.KeepsIndexes}
-use Rattle.pas_same_text.specs.Runs.{bitfit_of, large_of, lowest_place, is_run, run_or, named_run, lowest_run, deeds_run, serves_pages}
-use Rattle.pas_same_text.specs.Guards.{guards_of, without_guard, lowers, are_bare, raises, raises_from, guards}
-use Rattle.pas_same_text.specs.Order.{serves, keeps_block, logs_replaced, replaces, remakes, operates, acts_on, opened}
-use Rattle.pas_same_text.proofs.CacheLists.{many_with}
-use Rattle.pas_same_text.proofs.StillIndexes.{Still, still, same_many, each_keeps, minds_keep, flushes_keep, stops_keep, idle_keeps, logs_keep, frees_keep}
-use Rattle.pas_same_text.proofs.StillIndexes.{what_keeps, deeds_keep, backs_keep, class_keeps, places_keep, run_keeps, pass_keeps, same_indexes}
-use Rattle.pas_large.specs.Doors.{Indexes, cut_in, no_ranges}
+-- THE INDEXES of the text are those of a replay. First: what changes no index and no guard, and how many caches there are.
+use Rattle.std.proofs.Common.{arith, ◌≡◌, ℕ, Bool, true, false, if◌then◌else◌, List, [], ◌∷◌, ◌++◌, length, Option, None, Some, Result, refl, ap, ◌∙◌, ◌+◌, ◌/◌}
+use Rattle.std.proofs.Common.{nat_le, zero, suc, map}
+use Rattle.pas_profile.specs.declared.{directory.Directory.Directory, event.Event.Event, event.NoRoom.NoRoom, name.Block.Block, name.Name.Name}
+use Rattle.pas_profile.specs.declared.{profile.Profile.Profile, directory.Route.Route}
+use Rattle.pas_machine.specs.State.{backed_in}
 use Rattle.pas_large.specs.declared.span.Span.{Span}
-use Rattle.pas_answers.specs.Indexes.{unless_suited, request_made, request_by, after_request, after_operation, with_noted, indexes_after}
-use Rattle.pas_answers.specs.Calls.{block_behind}
+use Rattle.pas_free_log.specs.Logs.{sized_entry, entry_of}
+use Rattle.pas_free_log.specs.declared.{log.Entry.Entry, noting.EndedRun.EndedRun}
+use Rattle.pas_report.specs.declared.record.{Record.Record, Said.Said}
+use Rattle.pas_same_text.specs.State.{World, Cache, Guard, Local, each, shows, says, cache_of, locals_of, log_of, set_cache, set_log, noted_of, set_noted}
+use Rattle.pas_same_text.specs.{Pages.is_unowned, Pages.minds, Passes.passes, Passes.stops_idle, Indexes.indexes_run, Indexes.loses_named, Acts.IsTaken}
+use Rattle.pas_same_text.specs.{Acts.HandsOnOwn, Acts.KeepsIndexes}
+use Rattle.pas_same_text.specs.Searches.{some_of, searched, deeds, backs, readies}
+use Rattle.pas_same_text.specs.Runs.{places, serves_run, bitfit_of, large_of, lowest_place, is_run, run_or, named_run, lowest_run, deeds_run, serves_pages}
+use Rattle.pas_same_text.specs.Classes.{gives_up, gives_up_first, gives_first, fetches, makes_place, serves_class_by, others, is_for}
+use Rattle.pas_same_text.specs.Frees.{ends_block, ends, flushes, stops, logs, frees, frees_what}
+use Rattle.std.specs.List.{find}
+use Rattle.pas_same_text.proofs.CacheLists.{many_with}
+use Rattle.pas_profile.specs.Requests.{route_in, room_in}
+use Rattle.pas_answers.specs.Answers.{standing_for, Progress, Named, request_for}
+use Rattle.pas_trace.specs.Acts.{Act, numbers_from}
+use Rattle.pas_trace.specs.declared.plan.What.{What}
+use Rattle.pas_same_text.specs.Guards.{guards_of, lowers, are_bare, raises, raises_from}
+use Rattle.pas_same_text.specs.Order.{serves, keeps_block, replaces, operates, acts_on, opened}
+use Rattle.pas_large.specs.Doors.{Indexes, cut_in, no_ranges}
+use Rattle.pas_answers.specs.Indexes.{unless_suited, request_by, after_request, after_operation, with_noted, indexes_after}
 
-either : (t : Bool) (v u : World) (n : ℕ) → length v.caches ≡ n → length u.caches ≡ n → length (if t then v else u).caches ≡ n
-either true v u n one other = one
-either false v u n one other = other
+-- ---- what stays
+-- the indexes, the guards that are up, and the number of caches
+abbrev pub Still : Type 0
+Still = List (List Span) × List Guard × ℕ
+
+abbrev pub still : World → Still
+still w = (w.indexes, w.guards, length w.caches)
+
+-- With indexes and guards the same when taken together, the indexes are the same.
+pub same_indexes : (w v : World) → still v ≡ still w → v.indexes ≡ w.indexes
+same_indexes w v is = ap (λ (s : Still). s.0) is
+
+-- With indexes and guards the same when taken together, the guards that are up are the same.
+pub same_guards : (w v : World) → still v ≡ still w → v.guards ≡ w.guards
+same_guards w v is = ap (λ (s : Still). s.1) is
+
+pub same_many : (w v : World) → still v ≡ still w → length v.caches ≡ length w.caches
+same_many w v is = ap (λ (s : Still). s.2) is
+
+-- a cache becomes another
+cache_keeps : (k : ℕ) (new : Cache) (w : World) → still (set_cache k new w) ≡ still w
+cache_keeps k new w = ap (λ (n : ℕ). let s : Still = (w.indexes, w.guards, n) in s) (many_with w.caches k new)
+
+either : (t : Bool) (v u : World) (value : Still) → still v ≡ value → still u ≡ value → still (if t then v else u) ≡ value
+either true v u value one other = one
+either false v u value one other = other
+
+-- What keeps indexes and guards each time keeps them when done for a whole list.
+pub each_keeps : {A : Type 0} (does : A → World → World) (xs : List A) → ((x : A) (w : World) → still (does x w) ≡ still w) → (w : World)
+    → still (each does xs w) ≡ still w
+each_keeps does [] keeps w = refl
+each_keeps does (x ∷ xs) keeps w = each_keeps does xs keeps (does x w) ∙ keeps x w
+
+-- Minding a page keeps indexes and guards.
+pub minds_keep : (page : ℕ) (w : World) → still (minds page w) ≡ still w
+minds_keep page w = search (arith, either)
+
+-- frees that take effect
+block_keeps : (f : Profile) (k : ℕ) (name : Name) (b : Block) (w : World) → still (ends_block f k name b w) ≡ still w
+block_keeps f k name b w = search (arith, each_keeps, minds_keep, cache_keeps)
+
+ends_keep : (f : Profile) (k : ℕ) (entry : Entry) (w : World) → still (ends f k entry w) ≡ still w
+ends_keep f k entry w = search (arith, either, block_keeps)
+
+-- A flush keeps indexes and guards.
+pub flushes_keep : (f : Profile) (k : ℕ) (w : World) → still (flushes f k w) ≡ still w
+flushes_keep f k w = each_keeps (ends f k) (log_of w k) (ends_keep f k) (set_log k [] w) ∙ cache_keeps k (record (cache_of w k) { log = [] }) w
+
+-- stops
+pub given_up_keeps : (k : ℕ) (l : Local) (w : World) → still (gives_up k l w) ≡ still w
+given_up_keeps k l w =
+    simp (minds_keep, cache_keeps)
+
+-- A stop keeps indexes and guards.
+pub stops_keep : (f : Profile) (k : ℕ) (w : World) → still (stops f k w) ≡ still w
+stops_keep f k w = each_keeps (gives_up k) (locals_of (flushes f k w) k) (given_up_keeps k) (flushes f k w) ∙ flushes_keep f k w
+
+-- A stop where a thread is idle keeps indexes and guards, and so does none.
+idle_keeps : (f : Profile) (t : Bool) (k : ℕ) (w : World) → still (if t then says (Record.Said 0 (Said.Stopped k)) (stops f k w) else w) ≡ still w
+idle_keeps f t k w = either t (says (Record.Said 0 (Said.Stopped k)) (stops f k w)) w (still w) (stops_keep f k w) refl
+
+-- frees
+logs_keep : (f : Profile) (k : ℕ) (entry : Entry) (w : World) → still (logs f k entry w) ≡ still w
+logs_keep f k entry w = search (arith, cache_keeps, either, flushes_keep)
+
+-- A free keeps indexes and guards.
+frees_keep : (f : Profile) (k : ℕ) (entry : Entry) (w : World) → still (frees f k entry w) ≡ still w
+frees_keep f k entry w = search (arith, either, logs_keep)
+
+-- A free by a name of the trace keeps indexes and guards, whatever the name stands for.
+what_keeps : (f : Profile) (k name room : ℕ) (meant : Option (Option Block)) (w : World) → still (frees_what f k name room meant w) ≡ still w
+what_keeps f k name room (Some (Some block)) w = frees_keep f k (sized_entry block.name room) w
+what_keeps f k name room meant w = refl
+
+-- ---- requests
+deeds_keep : (k : ℕ) (d : Directory) (page : ℕ) (w : World) → still (deeds k d page w) ≡ still w
+deeds_keep k d page w = either (is_unowned w page) (shows (Event.Deed k page d) w) w (still w) refl refl
+
+-- A page that gets memory keeps indexes and guards.
+pub backs_keep : (k page : ℕ) (w : World) → still (backs k page w) ≡ still w
+backs_keep k page w = either (backed_in w.events page) w (shows (Event.Back k page) w) (still w) refl refl
+
+readies_keep : (k : ℕ) (d : Directory) (page : ℕ) (w : World) → still (readies k d page w) ≡ still w
+readies_keep k d page w = backs_keep k page (deeds k d page w) ∙ deeds_keep k d page w
+
+first_keeps : (k name : ℕ) (l : Local) (slots : List ℕ) (w : World) → still (gives_first k name l slots w) ≡ still w
+first_keeps k name l [] w = refl
+first_keeps k name l (s ∷ rest) w = cache_keeps k (record (cache_of w k) { locals = others l.heap l.class (locals_of w k) ++ record l { slots = rest } ∷ [] }) w
+
+fetches_keep : (f : Profile) (k name heap class : ℕ) (w : World) → still (fetches f k name heap class w) ≡ still w
+fetches_keep f k name heap class w = search (arith, first_keeps, readies_keep)
+
+pub first_up_keeps : (k : ℕ) (ls : List Local) (w : World) → still (gives_up_first k ls w) ≡ still w
+first_up_keeps k ls w = search (arith, either, given_up_keeps)
+
+-- A request of a class keeps indexes and guards.
+class_keeps : (f : Profile) (k name heap class : ℕ) (own : Option Local) (w : World) → still (serves_class_by f k name heap class own w) ≡ still w
+class_keeps f k name heap class None w = fetches_keep f k name heap class (makes_place k w) ∙ first_up_keeps k (locals_of w k) w
+class_keeps f k name heap class (Some l) w =
+    either (some_of l.slots) (gives_first k name l l.slots w) (fetches f k name heap class (gives_up k l w)) (still w) (first_keeps k name l l.slots w) (fetches_keep f k name heap class (gives_up k l w) ∙ given_up_keeps k l w)
+
+-- A bit-fit request keeps indexes and guards, served or refused.
+places_keep : (k name heap room align : ℕ) (found : Result ℕ NoRoom) (w : World) → still (places k name heap room align found w) ≡ still w
+places_keep k name heap room align found w = search (arith, readies_keep)
+
+-- A run of whole pages that is given, or refused, keeps indexes and guards.
+run_keeps : (f : Profile) (k name heap n : ℕ) (found : Option ℕ) (w : World) → still (serves_run f k name heap n found w) ≡ still w
+run_keeps f k name heap n found w = search (arith, each_keeps, backs_keep, deeds_keep)
+
+-- ---- a pass
+-- A pass keeps indexes and guards.
+pass_keeps : (f : Profile) (w : World) → still (passes f w) ≡ still w
+pass_keeps f w = search (arith, each_keeps)
+
+-- ==== THE INDEXES of a state of the text, which each act changes as it changes those of a replay, and how many caches it has, which no act changes.
+either_many : (t : Bool) (v u : World) (n : ℕ) → length v.caches ≡ n → length u.caches ≡ n → length (if t then v else u).caches ≡ n
+either_many true v u n one other = one
+either_many false v u n one other = other
 
 -- ==== REQUESTS AND OPERATIONS change what a replay's change of the indexes, and neither a guard nor how many caches there are.
 -- the guards and the caches of this state, with these indexes
@@ -52,20 +170,10 @@ pub request_indexes : (f : Profile) (k name heap : ℕ) (route : Route) (room al
 request_indexes f k name heap route room align w = ap (λ (s : Still). s.0) (serves_still f k name heap route room align w)
 
 -- ---- a reallocation
-replaced_still : (f : Profile) (k : ℕ) (old : Block) (came : Option (Option Block)) (w : World) → still (logs_replaced f k old came w) ≡ still w
-replaced_still f k old (Some (Some block)) w = logs_keep f k (entry_of old.name) w
-replaced_still f k old came w = refl
-
 suited_still : (f : Profile) (k name size align : ℕ) (old : Block) (t : Bool) (w : World)
     → still (if t then keeps_block k name old w else replaces f k name old size align w)
     ≡ with_indexes (after_operation f (unless_suited t (request_for old name size align)) w.indexes) w
-suited_still f k name size align old t w = search (arith, replaced_still, serves_still)
-
-remakes_still : (f : Profile) (k name old heap size align : ℕ) (meant : Option (Option Block)) (w : World)
-    → still (remakes f k name size align meant w)
-    ≡ with_indexes (after_operation f (request_made (What.Remake name old heap size align) (block_behind meant)) w.indexes) w
-remakes_still f k name old heap size align (Some (Some block)) w = suited_still f k name size align block (suits block size align) w
-remakes_still f k name old heap size align meant w = refl
+suited_still f k name size align old t w = search (arith, serves_still, logs_keep)
 
 -- ---- an operation
 operation_still : (f : Profile) (k : ℕ) (what : What) (w : World)
@@ -76,7 +184,7 @@ operation_still f k (What.Free name) w = what_keeps f k name 0 (standing_for w.n
 operation_still f k (What.FreeSized name room) w = what_keeps f k name room (standing_for w.names name) w
 operation_still f k (What.Raw block) w = frees_keep f k (entry_of block) w
 operation_still f k (What.RawSized room block) w = frees_keep f k (sized_entry block room) w
-operation_still f k (What.Remake name old heap size align) w = remakes_still f k name old heap size align (standing_for w.names old) w
+operation_still f k (What.Remake name old heap size align) w = search (arith, suited_still)
 operation_still f k What.Flush w = flushes_keep f k w
 operation_still f k What.Stop w = stops_keep f k w
 operation_still f k what w = refl
@@ -96,9 +204,7 @@ held w = (w.indexes, length w.caches)
 
 all_lowered : (gs : List Guard) (w : World) → held (each lowers gs w) ≡ held w
 all_lowered [] w = refl
-all_lowered (g ∷ gs) w =
-    let v : World = without_guard g w in
-    all_lowered gs (lowers g w) ∙ ap (λ (s : Still). let h : Held = (s.0, s.2) in h) (minds_keep g.high (minds g.low v) ∙ minds_keep g.low v)
+all_lowered (g ∷ gs) w = search (arith, minds_keep, all_lowered gs (lowers g w))
 
 -- Guards that are lowered change no index.
 pub all_lowered_keep : (gs : List Guard) (w : World) → (each lowers gs w).indexes ≡ w.indexes
@@ -123,18 +229,15 @@ raised_many f keeper k name heap n (p ∷ ps) w =
     same_many w v (each_keeps (deeds keeper (large_of heap)) pages (deeds_keep keeper (large_of heap)) w) in
     let up : World = raises keeper name heap p n v in
     let later : World = raises_from f keeper k name heap n ps v in
-    either (is_run f w heap (n + 2) p) (if are_bare w p n then up else later) (raises_from f keeper k name heap n ps w) (length w.caches)
-    (either (are_bare w p n) up later (length w.caches) (raises_many keeper name heap p n v ∙ deeded) (raised_many f keeper k name heap n ps v ∙ deeded))
+    either_many (is_run f w heap (n + 2) p) (if are_bare w p n then up else later) (raises_from f keeper k name heap n ps w) (length w.caches)
+    (either_many (are_bare w p n) up later (length w.caches) (raises_many keeper name heap p n v ∙ deeded) (raised_many f keeper k name heap n ps v ∙ deeded))
     (raised_many f keeper k name heap n ps w)
-
-guards_many : (f : Profile) (keeper k : ℕ) (asked : Option Request) (w : World) → length (guards f keeper k asked w).caches ≡ length w.caches
-guards_many f keeper k asked w = search (arith, raised_many, all_lowered_many)
 
 -- ==== AN ACT
 pub act_many : (f : Profile) (act : Act) (w : World) → length (acts_on f act w).caches ≡ length w.caches
 act_many f (Act.Wakes k) w = many_with w.caches k (record (cache_of w k) { began = w.epoch })
 act_many f (Act.Operates op) w = ap (λ (s : Still). s.2) (operation_still f op.actor op.what w)
-act_many f (Act.Guards keeper op) w = guards_many f keeper op.actor (request_in op.what) w
+act_many f (Act.Guards keeper op) w = search (arith, raised_many, all_lowered_many)
 act_many f (Act.Settles k) w = ap (λ (s : Still). s.2) (noted_still (noted_of w k) (set_noted k [] w)) ∙ many_with w.caches k (record (cache_of w k) { noted = [] })
 act_many f Act.MakesPass w = same_many w (passes f w) (pass_keeps f w)
 act_many f (Act.StopsIdle k n) w = same_many w (stops_idle f k n w) (idle_keeps f (nat_le ((cache_of w k).began + n) w.read) k w)

@@ -1,30 +1,38 @@
--- THE PAGE that a search finds is the one that the text finds.
+-- THE PAGE that a search finds is the one that the text finds; and where it finds none, the reason of the refusal is the one that the text says.
 use Rattle.std.proofs.Common.{◌≡◌, ℕ, ◌+◌, ◌-◌, ◌<◌, ◌≤◌, nat_le, Bool, true, if◌then◌else◌, Option, None, Some, inl, inr, ap, sym, ◌∙◌, arith, ◌≢◌, zero, suc}
-use Rattle.std.proofs.Common.{false, ◌&&◌, List, [], ◌∷◌, ◌++◌, Ok, Err, refl, true≢false}
-use Rattle.std.proofs.lemmas.Bool.{or_cases, or_left, or_right, and_from, false_from_ne_true, cases_Bool, cases_eq}
+use Rattle.std.proofs.Common.{false, ◌&&◌, List, [], ◌∷◌, ◌++◌, Ok, Err, refl, true≢false, eq-eqb, ◌⊎◌, subst, ◌==◌}
+use Rattle.std.proofs.lemmas.Bool.{or_cases, or_left, or_right, and_from, false_from_ne_true, cases_Bool, cases_eq, false≢true}
 use Rattle.std.proofs.lemmas.Bool.Decides.{nat_tests}
-use Rattle.pas_profile.specs.{Directories.number_of, Profiles.IsValid, Profiles.IsPage, Profiles.IsDirectoryOf}
-use Rattle.pas_profile.specs.declared.{directory.Directory.Directory, profile.Profile.Profile, word.Word.Word}
-use Rattle.pas_profile.proofs.Codecs.{deed_word_of-positive}
-use Rattle.pas_machine.specs.State.{deed_in}
-use Rattle.pas_steps.specs.{Lists.part, Lists.word_after, Lists.Legal, Desks.triples, Effects.target, Evidence.Readings, Evidence.Searched, Past.Once}
-use Rattle.pas_steps.specs.{Views.has_right}
-use Rattle.pas_core.specs.{Rights.eligible_bit, Good.word_of_deed, Rights.free_of_page}
-use Rattle.pas_core.proofs.Deeds.{deed_has_page}
+use Rattle.pas_profile.specs.{Directories.number_of, Directories.deed_word_of, Profiles.IsValid, Profiles.IsPage, Profiles.IsDirectoryOf}
+use Rattle.pas_profile.specs.declared.{directory.Directory.Directory, profile.Profile.Profile, word.Word.Word, event.Event.Event, event.NoRoom.NoRoom}
+use Rattle.pas_profile.proofs.Codecs.{deed_word_of-positive, same_from_deed_word}
+use Rattle.pas_machine.specs.State.{deed_in, live_in}
+use Rattle.pas_steps.specs.Lists.{part, word_after, Legal, visible}
+use Rattle.pas_steps.specs.{Desks.triples, Effects.target, Evidence.Readings, Evidence.Searched, Past.Once, Views.has_right, Events.events_by}
+use Rattle.pas_core.specs.{Rights.eligible_bit, Rights.free_of_page, Rights.IsRightInOnePlace, Good.word_of_deed}
+use Rattle.pas_core.proofs.Deeds.{deed_has_page, deed_of}
 use Rattle.pas_core.proofs.OneActor.{offered_deed, unfit_entry, deed_quiet, deed_exit, deed_none, spot_same, zero_told, one_told, entry_lacks, legal_before}
+use Rattle.pas_core.proofs.OneActor.{lends_none}
 use Rattle.pas_large.specs.Telling.{IsWholePage, IsUsablePage, IsUsableRun, HasNoUsableRun, IsLowestRun, IsNamedWhole}
-use Rattle.pas_answers.specs.Answers.{Progress}
-use Rattle.pas_same_text.specs.{State.World, Indexes.named_first, Same.HasSame, Same.ArePagesSame, Acts.IsBetween, Searched.IsSearch}
-use Rattle.pas_same_text.specs.Pages.{each_of, is_unowned, is_free, is_empty, is_offered, page_numbers, is_none}
+use Rattle.pas_answers.specs.Answers.{Progress, Named, named, records_of, said_of_room}
+use Rattle.pas_same_text.specs.{State.World, Indexes.named_first, Same.HasSame, Same.ArePagesSame, Same.IsSame, Acts.IsBetween, Searched.IsSearch}
+use Rattle.pas_same_text.specs.Pages.{each_of, is_unowned, is_free, is_empty, is_offered, page_numbers, is_none, is_same, is_of, is_kept}
 use Rattle.pas_same_text.specs.Runs.{large_of, is_whole, is_usable, if_whole, named_run, is_run, lowest_run}
-use Rattle.pas_same_text.proofs.{FreeGrains.read_unless, GivenBack.each_at, GivenBack.each_all, Tests.and_first, Tests.and_second}
-use Rattle.pas_same_text.proofs.RestingPages.{open_unguarded, had_open, owned_is, no_word, unowned_by}
+use Rattle.pas_same_text.proofs.{FreeGrains.read_unless, FreeGrains.keeper, FreeGrains.kept_by, GivenBack.each_at, GivenBack.each_all, Tests.and_first}
+use Rattle.pas_same_text.proofs.{Tests.and_second, CacheLists.same_kept, CacheLists.kept_at, Flushes.visible_steps, StepMarks.epoch_stays_by}
+use Rattle.pas_same_text.proofs.{SmallActs.after_with, SmallActs.records_next, Pieces.IsPiece, Pieces.piece_pages, StepMarks.at_bare, StepMarks.at_unbacked}
+use Rattle.pas_same_text.proofs.RestingPages.{open_unguarded, had_open, owned_is, no_word, unowned_by, deed_now, deed_from_word}
 use Rattle.std.specs.List.{find}
 use Rattle.pas_steps.specs.declared.step.Made.{Made}
-use Rattle.pas_core.proofs.Rights.{is_offered as spot_offered, spot_of, spotted, right_not_offered}
-use Rattle.pas_search.specs.Searches.{FromOffered, ByDeed, DeedMadeHere}
-use Rattle.pas_trace.specs.Acts.{numbers_from}
-use Rattle.pas_same_text.specs.Searches.{some_of, page_or, refusal, searched}
+use Rattle.pas_core.proofs.Rights.{is_offered as spot_offered, spot_of, spotted, right_not_offered, right_in_one_place, right_not_parked}
+use Rattle.pas_search.specs.{Searches.FromOffered, Searches.ByDeed, Searches.DeedMadeHere, Telling.IsInHands, Telling.IsTrueReason}
+use Rattle.pas_trace.specs.{Acts.numbers_from, EveryPlan.IsThread}
+use Rattle.pas_same_text.specs.Searches.{some_of, page_or, refusal, searched, refusal_by, refuses}
+use Rattle.pas_cache.specs.{Contents.Cached, Kinds.allocating, Locals.any_covers}
+use Rattle.pas_steps.proofs.{Apart.only_within, Past.always_map}
+use Rattle.pas_search.specs.Kinds.{AreSearch, IsQuiet, IsDeedOrBack, AreQuiet, EventsAt, searching}
+use Rattle.pas_search.proofs.ForBackEnds.{events_quiet}
+use Rattle.pas_report.specs.declared.record.Record.{Record}
 
 -- ---- the first number that passes a test
 first_at : (test : ℕ → Bool) (from : ℕ) (rest : Option ℕ) (t : Bool) → test from ≡ t → t ≡ false → (if test from then Some from else rest) ≡ rest
@@ -122,6 +130,7 @@ module _ (no_fit : Readings → Type 0) (f : Profile) (d : Directory) (k : ℕ) 
   deed_chosen page of steps s by = deed_at page of steps s by.made_here
 
 -- ==== WHICH PAGES MAY BE ONE OF A RUN, and which run the text gives: those of a replay, whenever all actors are at rest.
+-- where the run that is named is whole, it is the one that is given
 whole_of : (w : World) (heap n first : ℕ) (o : Option ℕ) → if_whole w heap n o ≡ Some first → (o ≡ Some first) × (each_of first n (is_whole w heap) ≡ true)
 whole_of w heap n first o same = search arith
 
@@ -198,3 +207,109 @@ module _ (f : Profile) (p : Progress) (w : World) (valid : IsValid f) (between :
   pub whole_named : (n first : ℕ) → IsNamedWhole f d n p.list (named_first w heap n) first → named_run w heap n ≡ Some first
   whole_named n first run =
       cc (each_all n first (is_whole w heap) (λ page low high. page_whole page (run.whole page (low, high))))
+
+-- ==== THE REASON of a refusal: where it is true of the whole state, it is the one that the text says.
+module _ (f : Profile) (p : Progress) (w : World) (valid : IsValid f) (between : IsBetween f p) (same : HasSame f p w) (d : Directory) (of : IsDirectoryOf f d)
+  where
+    abbrev is_held : ℕ → Bool
+    is_held q = is_of w d q && is_kept w q
+
+    -- a page of the directory that is neither offered nor parked is kept, and one that is kept is so
+    hands_kept : (q : ℕ) → IsInHands f d p.list q → is_held q ≡ true
+    hands_kept q h = and_from (is_of w d q) (is_kept w q) own (by_place (right_in_one_place f p.list between.legal q))
+      where
+        own : is_of w d q ≡ true
+        own = ap (λ (es : List Event). is_same d (deed_in es q)) same.events ∙ deed_from_word f p w valid between same q d (deed_in (visible p.list) q) refl (sym (deed_of f p.list between.legal q) ∙ h.of_directory) of.kind
+
+        by_place : IsRightInOnePlace f p.list q → is_kept w q ≡ true
+        by_place (inl none) = absurd (deed_word_of-positive d (sym h.of_directory ∙ none.no_deed))
+        by_place (inr (inl one)) = kept_by f p w valid between same one.actor q (one.holder one.actor ∙ eq-eqb one.actor one.actor refl)
+        by_place (inr (inr (inl o))) = search (arith, same_from_deed_word, true≢false, eq-eqb)
+        by_place (inr (inr (inr parks))) = absurd (true≢false (sym parks.parked ∙ h.not_parked))
+
+    kept_hands : (q : ℕ) → is_held q ≡ true → IsInHands f d p.list q
+    kept_hands q h =
+        let deed : deed_in (visible p.list) q ≡ Some d = deed_now f p w valid between same q d of (and_first (is_of w d q) (is_kept w q) h) in
+        let word : word_after p.list (Word.Deed q) ≡ deed_word_of d = deed_of f p.list between.legal q ∙ ap word_of_deed deed in
+        let k = keeper f p w valid between same q (and_second (is_of w d q) (is_kept w q) h) in
+        record {
+          of_region = deed_has_page f p.list between.legal q (λ none. deed_word_of-positive d (sym word ∙ none));
+          of_directory = word;
+          not_offered = right_not_offered f p.list between.legal k.0 (number_of d) q k.1;
+          not_parked = right_not_parked f p.list between.legal k.0 q k.1;
+        }
+
+    -- A refusal's reason that is true of the whole state of the replay is the one that the text says.
+    pub refusal_told : (room : NoRoom) → IsTrueReason f d p.list room → refusal f w d ≡ room
+    refusal_told NoRoom.NoSpace none = ap refusal_by (find_none is_held f.pages 1 (λ q low high. false_from_ne_true (is_held q) (λ h. none q (kept_hands q h))))
+    refusal_told (NoRoom.Held page) held =
+        let low = held.0.of_region.0 in let high = held.0.of_region.1 in
+        ap refusal_by (find_first is_held f.pages 1 page low (omega (arith, high)) (hands_kept page held.0) (λ q above below. false_from_ne_true (is_held q) (λ h. held.1 q below (kept_hands q h))))
+
+-- ==== A REQUEST THAT IS REFUSED after a search: no page changes, and the reason is that of the text.
+-- steps without an event are at any page
+quiet_at : (d : Directory) (page : ℕ) (steps : List Made) → AreQuiet steps → EventsAt d page steps
+quiet_at d page steps quiet = always_map (λ m before. IsQuiet m) (λ m before. IsQuiet m ⊎ IsDeedOrBack d page m.step) steps (λ m before is. inl is) quiet
+
+-- the replay after a refusal
+abbrev pub refused_to : Progress → ℕ → ℕ → List Made → NoRoom → Progress
+refused_to p k name steps room = after_with p k steps (Some (said_of_room name room)) (named name None ∷ p.names) (p.caches k)
+
+module _ (f : Profile) (k name : ℕ) (p : Progress) (w : World) (d : Directory) (steps : List Made) (room : NoRoom) (valid : IsValid f) (thread : IsThread f k)
+    (of : IsDirectoryOf f d) (before : IsBetween f p) (after : IsBetween f (refused_to p k name steps room)) (same : IsSame f p w)
+    (searches : AreSearch steps) (quiet : AreQuiet steps) (reason : IsTrueReason f d (refused_to p k name steps room).list room) where
+  abbrev p' : Progress
+  p' = refused_to p k name steps room
+
+  abbrev v : World
+  v = refuses k name room w
+
+  no_event : events_by k (part k p.list) steps ≡ []
+  no_event = events_quiet k (part k p.list) steps quiet
+
+  shown : visible p'.list ≡ visible p.list
+  shown = visible_steps k steps p.list ∙ ap (λ (es : List Event). es ++ visible p.list) no_event
+
+  now : HasSame f p' v
+  now = record { events = same.pages.events ∙ sym shown; live = same.pages.live; caches = same_kept f p.caches w.caches k same.caches; guards = same.guards }
+
+  beside : (x : ℕ) → suc x ≢ x
+  beside x same = omega (arith, same)
+
+  -- no page changes
+  piece : IsPiece f k p p' w v (λ x. false) steps []
+  piece = record {
+    valid = valid;
+    before = before;
+    between = after;
+    same = same;
+    now = now;
+    list = refl;
+    kinds = only_within searching allocating steps refl searches.kinds;
+    lends = lends_none searching refl steps searches.kinds;
+    returns = searches.returns;
+    uses = record {
+      cached = λ j g h. inl (ap (λ (c : Cached). any_covers c.locals g) (kept_at p.caches j k (j == k) refl) ∙ h);
+      outer = λ j x h. inl h;
+      live = λ a b h. inl (ap (λ (es : List Event). live_in es a) (sym shown) ∙ h);
+    };
+    bare = λ x out. at_bare k d (suc x) x steps (beside x) (quiet_at d (suc x) steps quiet);
+    unbacked = λ x out. at_unbacked k d (suc x) x steps (beside x) (quiet_at d (suc x) steps quiet);
+    deeds = λ x out. refl;
+    hinted = refl;
+    marks = λ x h. absurd h;
+    own_hint = λ x here h. absurd (false≢true here);
+    own_offer = λ x e here of_e bit. absurd (false≢true here);
+  }
+
+  -- A request that is refused after a search leads the text to the replay's state, with its reason.
+  pub refused_same : IsSame f p' (refuses k name (refusal f w d) w)
+  refused_same = subst (λ (r : NoRoom). IsSame f p' (refuses k name r w)) (sym (refusal_told f p' v valid after now d of room reason)) record {
+    pages = piece_pages piece;
+    caches = now.caches;
+    guards = same.guards;
+    names = ap (λ (ns : List Named). named name None ∷ ns) same.names;
+    records = ap (λ (es : List Event). p.records ++ (records_of es ++ Record.Said k (said_of_room name room) ∷ [])) no_event ∙ records_next p.records w.records (Record.Said k (said_of_room name room)) same.records;
+    epoch = same.epoch ∙ sym (epoch_stays_by allocating refl k steps p.list (only_within searching allocating steps refl searches.kinds));
+    read = same.read;
+  }

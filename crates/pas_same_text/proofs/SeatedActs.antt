@@ -6,7 +6,7 @@ use Rattle.pas_profile.specs.declared.{profile.Profile.Profile, name.Block.Block
 use Rattle.pas_steps.specs.Lists.{Whole, part, visible, Legal, word_after}
 use Rattle.pas_steps.specs.{Views.View, Clear.HasNothing, Desks.triples, Desks.made}
 use Rattle.pas_steps.specs.declared.step.{Made.Made, Step.Step}
-use Rattle.pas_core.specs.Stamps.{KeepsToEnds, AllKeepToEnds}
+use Rattle.pas_core.specs.Stamps.{AllKeepToEnds}
 use Rattle.pas_core.proofs.{Stamps.stamps_are_ends, Nexts.agreed_steps, OneActor.legal_before, OneActor.legal_earlier}
 use Rattle.pas_report.specs.Rests.{AreStamped}
 use Rattle.pas_trace.specs.{Acts.Act, EveryPlan.IsThread, Acts.stepper_of, Asked.request_in}
@@ -21,8 +21,8 @@ use Rattle.pas_cache.specs.{Caches.AtRest, Contents.Cached, Locals.any_covers, S
 use Rattle.pas_guard.specs.Books.{is_outer_of, is_outer, Each, FitsBook}
 use Rattle.pas_guard.specs.declared.book.Guard.{Guard}
 use Rattle.pas_same_text.proofs.{CacheLists.again_at, LowerActs.swept_to}
-use Rattle.pas_same_text.proofs.KeepersRest.{others_bare, keeper_resting, swept_beside, swept_bare, raised_beside, raised_bare}
-use Rattle.pas_same_text.proofs.Seats.{thread_rests, thread_at_rest, keeper_of, IsNoKeepers}
+use Rattle.pas_same_text.proofs.KeepersRest.{others_bare, keeper_resting, swept_beside, swept_bare, raised_beside, raised_bare, thread_rests, thread_at_rest}
+use Rattle.pas_same_text.proofs.KeepersRest.{keeper_of, IsNoKeepers}
 use Rattle.pas_report.specs.declared.record.Record.{Record}
 use Rattle.pas_guard.specs.Keepers.{IsBeside}
 use Rattle.pas_trace.specs.declared.{item.Request.Request, plan.Op.Op}

@@ -1,40 +1,184 @@
--- STOPS: a flush, and then all local allocators of the cache go.
-use Rattle.std.proofs.Common.{length, ◌≡◌, ℕ, ◌+◌, ◌*◌, ◌/◌, ◌%◌, ◌<◌, ◌≤◌, ◌==◌, Bool, true, false, not, if◌then◌else◌, List, [], ◌∷◌, ◌++◌, map, ◌⊎◌, inl}
-use Rattle.std.proofs.Common.{inr, refl, ap, sym, ◌∙◌, subst, arith, All, eq-eqb, eqb-true}
-use Rattle.std.proofs.lemmas.{Bool.false≢true, Bool.or_left, Bool.or_right, List.Elements.All-head, List.Elements.All-tail}
-use Rattle.pas_large.proofs.Left.{hints_both}
-use Rattle.pas_bits.specs.Masks.{HasMember}
-use Rattle.pas_profile.specs.{Classes.class_grains, Classes.IsSlotStart, Directories.deed_word_of, Profiles.IsValid, Profiles.IsPage, Profiles.IsDirectoryOf}
-use Rattle.pas_profile.specs.{Requests.kind_of_class}
+-- FLUSHES AND STOPS as acts: a flush leads the text to the state of the replay after it, and so does a stop, by which all local allocators go too.
+use Rattle.std.proofs.Common.{◌≤◌, length, ◌≡◌, ℕ, ◌+◌, ◌*◌, ◌/◌, ◌%◌, ◌<◌, ◌==◌, Bool, true, false, if◌then◌else◌, List, [], ◌∷◌, ◌++◌, map, reverse, Some}
+use Rattle.std.proofs.Common.{refl, ap, sym, ◌∙◌, subst, arith, true≢false, eqb-true, not, ◌⊎◌, inl, inr, All, eq-eqb}
+use Rattle.std.proofs.lemmas.Bool.{eqb-false, false≢true, or_left, or_right}
+use Rattle.std.proofs.lemmas.List.{reverse-append, Elements.All-head, Elements.All-tail}
+use Rattle.pas_bits.proofs.Runs.{IsMet, met}
+use Rattle.pas_profile.specs.{Blocks.length_of, Profiles.IsValid, Profiles.IsPage, Profiles.IsDirectoryOf, Classes.class_grains, Classes.IsSlotStart}
+use Rattle.pas_profile.specs.{Directories.deed_word_of, Requests.kind_of_class}
 use Rattle.pas_profile.specs.declared.{directory.Directory.Directory, event.Event.Event, profile.Profile.Profile, word.Word.Word}
-use Rattle.pas_profile.proofs.{ClassFacts.class_grains_positive, Codecs.same_from_deed_word}
-use Rattle.pas_steps.specs.{Desks.triples, Events.events_by, Kinds.Only, Views.View, Views.holds, Views.usable_by_kind}
-use Rattle.pas_steps.specs.Lists.{part, word_after, visible, Legal}
-use Rattle.pas_steps.specs.declared.step.Made.{Made}
-use Rattle.pas_steps.proofs.{Adding.triples_append, Apart.only_both, Apart.only_within, Frames.events_append}
-use Rattle.pas_core.proofs.{Grains.one_holder, OneActor.legal_earlier, OneActor.deed_same}
-use Rattle.pas_free_log.specs.{Flushes.noted_after, Frames.freeing}
-use Rattle.pas_segregated.specs.{Masks.start_of, Stops.home_of}
+use Rattle.pas_machine.specs.{Machine.Run, State.Live, State.live_in, State.deed_in}
+use Rattle.pas_machine.proofs.LiveBlocks.{live_apart, live_long}
+use Rattle.pas_steps.specs.{Desks.made, Desks.triples, Events.events_by, Views.holds, Views.usable_by_kind, Views.View, Kinds.Only}
+use Rattle.pas_steps.specs.Lists.{part, visible, Legal, word_after}
+use Rattle.pas_steps.specs.declared.step.{Made.Made, Step.TheVariants.Look}
+use Rattle.pas_core.specs.Good.{IsPartOf}
+use Rattle.pas_core.proofs.{MachineRuns.runs, OneActor.legal_earlier, OneActor.deed_same, Grains.one_holder}
+use Rattle.pas_free_log.specs.{Frames.freeing, Flushes.Settled, Flushes.noted_after}
+use Rattle.pas_free_log.specs.declared.{log.Entry.Entry, noting.EndedRun.EndedRun}
 use Rattle.pas_segregated.specs.declared.slots.Slots.{Slots}
-use Rattle.pas_segregated.proofs.Starts.{start_at}
-use Rattle.pas_cache.specs.{Changes.EmptiesLog, Changes.StopsEach, Contents.Cached, Kinds.releasing, Locals.IsLocal, Locals.covers, Locals.any_covers}
+use Rattle.pas_cache.specs.{Changes.EmptiesLog, Changes.StopsEach, Contents.Cached, Locals.any_covers, Locals.IsLocal, Locals.covers, Kinds.releasing}
 use Rattle.pas_report.specs.declared.record.Record.{Record}
 use Rattle.pas_trace.specs.EveryPlan.{IsThread}
 use Rattle.pas_answers.specs.Answers.{Progress, records_of, with_steps, with_records, with_cache as with_cached}
-use Rattle.pas_same_text.specs.State.{Local, World, cache_of, locals_of}
-use Rattle.pas_same_text.specs.{Frees.flushes, Frees.gives_up_all, Frees.stops, Pages.is_of, Acts.IsBetween, Acts.AreBlocksUsable, Words.free_bit}
-use Rattle.pas_same_text.specs.Same.{IsSame, HasSame, IsSameCache, AreSameLocals, lives_in, has_number}
-use Rattle.pas_same_text.proofs.{CacheLists.same_own, CacheLists.same_with, CacheLists.same_again, FlushedLogs.IsFlushedTo, FlushedLogs.IsEndedOn}
-use Rattle.pas_same_text.proofs.{FlushedLogs.OnlyFewer, Flushes.visible_steps, GivenBack.returns_then, GivenBack.has_both, Holders.guards_as}
-use Rattle.pas_same_text.proofs.{Holders.still_unguarded, StillIndexes.same_guards, StillIndexes.stops_keep, LeftPages.read_open}
-use Rattle.pas_same_text.proofs.FlushActs.{flush_to, flush_records, events_recorded, ended_room, lived}
-use Rattle.pas_same_text.proofs.FreeGrains.{cached_held, held_by, never_both, held_still}
-use Rattle.pas_same_text.proofs.GivenPages.{IsGivenBack, open_from, covered_not_held, free_left, given_pages}
-use Rattle.pas_same_text.proofs.GivenUp.{IsGivenUp, AllOfRegion, unique_of, all_up}
-use Rattle.pas_same_text.proofs.GivingBack.{IsMarked, marked_parts, hint_marks, offer_marks, offered_of_region, epoch_stays_by}
-use Rattle.pas_same_text.proofs.RestingPages.{is_open, deed_now, word_known, word_now}
-use Rattle.pas_same_text.proofs.StopSteps.{IsMarkedBy, IsMarkedIn, AllClasses, ReadsRoom, room_earlier, all_marked, all_hints}
+use Rattle.pas_same_text.specs.State.{World, each, set_log, Local, cache_of, locals_of}
+use Rattle.pas_same_text.specs.Frees.{ends, flushes, gives_up_all, stops}
+use Rattle.pas_same_text.specs.{Pages.is_of, Acts.IsBetween, Acts.AreBlocksUsable, Words.free_bit}
+use Rattle.pas_same_text.specs.Same.{IsSame, HasSame, AreSameCaches, IsSameCache, AreSameLocals, lives_in, has_number}
+use Rattle.pas_same_text.proofs.FlushedLogs.{IsFlushedTo, IsEndedOn, OnlyFewer, flushed_start, flushed_all}
+use Rattle.pas_same_text.proofs.FreeGrains.{held_still, cached_held, held_by, never_both, guards_as, still_unguarded}
+use Rattle.pas_same_text.proofs.RestingPages.{is_open, deed_now, word_known, word_now, IsGivenBack, open_from, covered_not_held, free_left, given_pages}
+use Rattle.pas_same_text.proofs.{SameIndexes.same_guards, SameIndexes.flushes_keep, SameIndexes.stops_keep, Flushes.map_reverse, Flushes.visible_steps}
+use Rattle.pas_same_text.proofs.{CacheLists.same_own, CacheLists.same_with, CacheLists.same_again, GivenBack.returns_then, GivenBack.has_both, Pieces.read_open}
+use Rattle.pas_same_text.proofs.StepMarks.{OffersPage, hint_marks, offer_marks, offered_of_region, epoch_stays_by, IsMarked, marked_parts}
+use Rattle.pas_large.proofs.Left.{hints_both}
+use Rattle.pas_bits.specs.Masks.{HasMember}
+use Rattle.pas_profile.proofs.{ClassFacts.class_grains_positive, Codecs.same_from_deed_word}
+use Rattle.pas_steps.proofs.{Adding.triples_append, Apart.only_both, Apart.only_within, Frames.events_append}
+use Rattle.pas_segregated.specs.{Masks.start_of, Stops.home_of}
+use Rattle.pas_segregated.proofs.Starts.{start_at}
+use Rattle.pas_same_text.proofs.StopSteps.{IsGivenUp, AllOfRegion, unique_of, all_up, IsMarkedBy, IsMarkedIn, AllClasses, ReadsRoom, room_earlier, all_marked}
+use Rattle.pas_same_text.proofs.StopSteps.{all_hints}
 
+-- ---- records
+-- the records of events come to the end, on both sides
+pub events_recorded : (rs ws vs : List Record) (es : List Event) → rs ≡ reverse ws → vs ≡ map Record.Event es ++ ws → rs ++ records_of es ≡ reverse vs
+events_recorded rs ws vs es is more =
+    ap (λ (xs : List Record). xs ++ records_of es) is
+    ∙ (ap (λ (xs : List Record). reverse ws ++ xs) (map_reverse Record.Event es)
+    ∙ (sym (reverse-append (map Record.Event es) ws) ∙ ap reverse (sym more)))
+
+-- ---- the whole flush
+module _ (f : Profile) (k : ℕ) (p : Progress) (w : World) (steps : List Made) (noted' : List EndedRun) (valid : IsValid f) (thread : IsThread f k)
+    (listed : k ≤ length w.caches) (same : IsSame f p w) (legal : Legal f (triples k steps ++ p.list))
+    (h : EmptiesLog k (p.caches k).log (p.caches k).noted noted' steps) where
+  abbrev look : Made
+  look = made (Look Word.Epoch) h.epoch
+
+  all_legal : Legal f (triples k (h.entries ++ look ∷ []) ++ p.list)
+  all_legal = subst (λ (ms : List Made). Legal f (triples k ms ++ p.list)) h.steps_are legal
+
+  now : w.epoch ≡ h.epoch
+  now = let first : Legal f (triples k (look ∷ []) ++ p.list) = legal_earlier f k h.entries (look ∷ []) p.list all_legal in same.epoch ∙ sym first.0.answer_is
+
+  text : flushes f k w ≡ each (ends f k) (reverse (map (λ (s : Settled). s.entry) h.settled)) (set_log k [] w)
+  text = ap (λ (es : List Entry). each (ends f k) es (set_log k [] w)) ((same.caches.each k thread).log ∙ sym h.entries_are)
+
+  -- A flush in the text does for the entries of the log what its steps do in the replay, one by one.
+  flush_to : IsFlushedTo f k h.epoch p.list w (p.caches k) p.caches h.settled steps (flushes f k w)
+  flush_to =
+      subst (λ (v : World). IsFlushedTo f k h.epoch p.list w (p.caches k) p.caches h.settled steps v) (sym text)
+      (subst (λ (ms : List Made). IsFlushedTo f k h.epoch p.list w (p.caches k) p.caches h.settled ms
+      (each (ends f k) (reverse (map (λ (s : Settled). s.entry) h.settled)) (set_log k [] w))) (sym h.steps_are)
+      (flushed_all f k h.epoch p.list w _ p.caches valid thread listed now h.settled h.entries h.order all_legal
+      (flushed_start f k h.epoch p.list w _ p.caches valid thread listed now same.pages.events same.pages.live same.caches refl)))
+
+  -- A flush adds the events of its steps to the records, and nothing else.
+  flush_records : (flushes f k w).records ≡ map Record.Event (events_by k (part k p.list) steps) ++ w.records
+  flush_records = flush_to.records ∙ ap (λ (es : List Event). map Record.Event es ++ w.records) (sym (h.events (part k p.list)))
+
+-- ---- grains of ended blocks
+
+module _ (f : Profile) (p p' : Progress) (w v : World) (pages : List ℕ) (valid : IsValid f) (before : IsBetween f p) (after : IsBetween f p')
+    (events : w.events ≡ visible p.list) (same : HasSame f p' v)
+    (usable : AreBlocksUsable (visible p.list)) (fewer : OnlyFewer w.events v.events)
+    (none_held : (j g : ℕ) → holds (part j p'.list) g ≡ true → holds (part j p.list) g ≡ true) where
+  run : Run f w.events
+  run = subst (Run f) (sym events) (runs f p.list valid before.legal)
+
+  -- a block of the state after lived before
+  lived : (a : ℕ) (b : Live) → live_in (visible p'.list) a ≡ Some b → live_in (visible p.list) a ≡ Some b
+  lived a b h = ap (λ (es : List Event). live_in es a) (sym events) ∙ fewer.lives a b (ap (λ (es : List Event). live_in es a) same.events ∙ h)
+
+  -- a page of which a block ended has room, and no guard has it
+  ended_room : (q : ℕ) (d : Directory) → IsDirectoryOf f d → is_of v d q ≡ true → IsEndedOn w.events v.events pages q → is_open v d q ≡ true
+  ended_room q d of is o =
+      let own : live_in (visible p.list) o.address ≡ Some o.block = ap (λ (es : List Event). live_in es o.address) (sym events) ∙ o.lived in
+      let m : IsMet (o.address / 16) (length_of o.block.block) q = met _ _ q (live_long f w.events run o.address o.block o.lived) o.met in
+      let g : ℕ = m.grain in
+      let deed : deed_in (visible p.list) (g / 256) ≡ Some d =
+      cc (fewer.deeds (g / 256), deed_now f p' v valid after same q d of is) in
+      let may : usable_by_kind d.kind (g % 256) ≡ true = usable.usable o.address o.block own g m.of_run d deed in
+      let page : g / 256 ≡ q = m.of_page in
+      let whole : 256 * q + g % 256 ≡ g = omega (arith, page) in
+      let small : g % 256 < 256 = omega arith in
+      let free : free_bit p'.list g ≡ true = free_left f p'.list valid after.legal g
+      (λ j held. covered_not_held f p.list valid before.legal g o.address o.block own m.of_run j (none_held j g held))
+      (λ a b lives of_it. other o g m.of_run a b lives of_it) in
+      open_from f p' v valid after same d q (g % 256) small may (ap (free_bit p'.list) whole ∙ free)
+    where
+      other : (o : IsEndedOn w.events v.events pages q) (g : ℕ) → IsPartOf g o.address o.block → (a : ℕ) (b : Live) → live_in (visible p'.list) a ≡ Some b
+          → IsPartOf g a b → ⊥
+      other o g of_own a b lives of_it = by_address (o.address == a) refl
+        where
+          by_address : (t : Bool) → (o.address == a) ≡ t → ⊥
+          by_address true e = search (arith, eqb-true)
+          by_address false e =
+              let was : live_in w.events a ≡ Some b = fewer.lives a b (ap (λ (es : List Event). live_in es a) same.events ∙ lives) in
+              true≢false (sym of_it ∙ live_apart f w.events run o.address a o.block b o.lived was (eqb-false o.address a e) g of_own)
+
+-- ---- the act
+module _ (f : Profile) (k : ℕ) (p : Progress) (w : World) (steps : List Made) (c' : Cached) (valid : IsValid f) (thread : IsThread f k)
+    (listed : k ≤ length w.caches) (before : IsBetween f p) (same : IsSame f p w) (usable : AreBlocksUsable (visible p.list))
+    (h : EmptiesLog k (p.caches k).log (p.caches k).noted c'.noted steps)
+    (cache : c' ≡ record (p.caches k) { log = []; noted = c'.noted }) (after : IsBetween f (with_steps p k steps c')) where
+  abbrev emptied : World
+  emptied = flushes f k w
+
+  legal : Legal f (triples k steps ++ p.list)
+  legal = after.legal
+
+  comes : IsFlushedTo f k h.epoch p.list w (p.caches k) p.caches h.settled steps emptied
+  comes = flush_to f k p w steps c'.noted valid thread listed same legal h
+
+  cache_is : record (p.caches k) { log = []; noted = noted_after (p.caches k).noted h.settled } ≡ c'
+  cache_is = ap (λ (ns : List EndedRun). record (p.caches k) { log = []; noted = ns }) (sym h.noted_are) ∙ sym cache
+
+  flush_has : HasSame f (with_steps p k steps c') emptied
+  flush_has = record {
+    events = comes.events;
+    live = comes.live;
+    caches = subst (λ (c : Cached). AreSameCaches f (with_cached p.caches k c) emptied.caches) cache_is comes.same;
+    guards = guards_as p.books w emptied (same_guards w emptied (flushes_keep f k w)) same.guards;
+  }
+
+  -- the caches have the grains that they had
+  kept_at : (j : ℕ) (t : Bool) → (j == k) ≡ t → (if t then c' else p.caches j).locals ≡ (p.caches j).locals
+  kept_at j t e = search (arith, eqb-true)
+
+  still_held : (j g : ℕ) → holds (part j (with_steps p k steps c').list) g ≡ true → holds (part j p.list) g ≡ true
+  still_held j g held = held_still f p (with_steps p k steps c') before after refl j g (λ h. ap (λ (ls : List Slots). any_covers ls g) (sym (kept_at j (j == k) refl)) ∙ h) held
+
+  gives_back : IsGivenBack f k p.list w steps emptied
+  gives_back = record {
+    pages = comes.pages;
+    returns = comes.returns;
+    kinds = comes.kinds;
+    hints = comes.hints;
+    marks = λ q of hint. (comes.marks q of (hint_marks q steps hint)).minded;
+    rooms = λ q d of is offer.
+        ended_room f p (with_steps p k steps c') w emptied comes.pages valid before after same.pages.events flush_has usable comes.fewer still_held q d of is
+        (comes.marks q (page_of q offer) (offer_marks q steps offer));
+    guarded = λ q none. still_unguarded w emptied q (same_guards w emptied (flushes_keep f k w)) none;
+  }
+    where
+      page_of : (q : ℕ) → OffersPage q steps → IsPage f q
+      page_of q offer = offered_of_region f k p.list q steps legal offer
+
+  -- A flush leads the text to the state of the replay after its steps, caches and records too.
+  pub flush_same : IsSame f (with_records (with_steps p k steps c') (records_of (events_by k (part k p.list) steps))) emptied
+  flush_same = record {
+    pages = given_pages f k p.list (with_steps p k steps c') w emptied steps valid same.pages refl after flush_has gives_back;
+    caches = flush_has.caches;
+    guards = flush_has.guards;
+    names = comes.names ∙ same.names;
+    records = events_recorded p.records w.records emptied.records (events_by k (part k p.list) steps) same.records
+        (flush_records f k p w steps c'.noted valid thread listed same legal h);
+    epoch = comes.epoch ∙ (same.epoch ∙ sym (epoch_stays_by freeing refl k steps p.list comes.kinds));
+    read = comes.read ∙ same.read;
+  }
+
+-- ==== STOPS: a flush, and then all local allocators of the cache go.
 -- ---- what is known of each local allocator of a cache
 all_classes : (f : Profile) (v : View) (slots : List Slots) → All (IsLocal f v) slots → AllClasses slots
 all_classes f v [] known = tt
@@ -63,9 +207,7 @@ record IsOneOf (f : Profile) (v : View) (q : ℕ) (steps : List Made) (slots : L
 one_of : (f : Profile) (v : View) (q : ℕ) (steps : List Made) (slots : List Slots) → All (IsLocal f v) slots → IsMarkedIn q steps slots
     → IsOneOf f v q steps slots
 one_of f v q steps slots known (IsMarkedIn.Here s rest o) = record { own = s; marked = o; known = All-head (IsLocal f v) s rest known; has = λ g h. or_left (covers s g) (any_covers rest g) h }
-one_of f v q steps slots known (IsMarkedIn.There s rest o) =
-    let r = one_of f v q steps rest (All-tail (IsLocal f v) s rest known) o in
-    record { own = r.own; marked = r.marked; known = r.known; has = λ g h. or_right (covers s g) (any_covers rest g) (r.has g h) }
+one_of f v q steps slots known (IsMarkedIn.There s rest o) = search (arith, one_of f v q steps rest (All-tail (IsLocal f v) s rest known) o)
 
 -- a slot's first grain is one that blocks of its page's directory may cover
 slot_usable : (right : Bool) (class b : ℕ) → 1 ≤ class_grains class → IsSlotStart class b → usable_by_kind (kind_of_class (not right) class) b ≡ true

@@ -17,11 +17,11 @@ use Rattle.pas_search.specs.Kinds.{AreSearch, searching, IsReturnOf, ReturnsDuly
 use Rattle.pas_partial.specs.Rows.{IsInRow, IsFreeSlot, IsLowestRow, rows}
 use Rattle.pas_segregated.specs.Takes.{slot_within, TookSlots, takes_after, takes_since}
 use Rattle.pas_same_text.specs.Words.{free_bit}
-use Rattle.pas_same_text.proofs.SearchMarks.{free_shown, shown_free, stays_used, free_or_held}
+use Rattle.pas_same_text.proofs.StepMarks.{free_shown, shown_free, stays_used, free_or_held}
 use Rattle.std.proofs.lemmas.Bool.{false≢true, cases_eq, or_cases, false_from_ne_true}
 use Rattle.pas_bits.proofs.Words.{none_of_zero}
 use Rattle.pas_profile.specs.Directories.{number_of}
-use Rattle.pas_steps.specs.Views.{View, Gets, Puts, Stays, grain_move, held_after, holds, Way, Rests, ByDeed, FromOffer, FromParked, ToOffer, ToParked, way}
+use Rattle.pas_steps.specs.Views.{View, Gets, Stays, grain_move, held_after, holds, Way, Rests, ByDeed, FromOffer, FromParked, ToOffer, ToParked, way}
 use Rattle.pas_steps.specs.Views.{had_after, has_right}
 use Rattle.pas_steps.specs.declared.step.Step.TheVariants.{Deed, Take, Put, Give, End, EndSized, TakeRight, Offer, Park, Unpark}
 use Rattle.pas_core.proofs.Rights.{Spot, is_with, spot_of, Suits, IsSpotted, step_suits, spotted}
@@ -115,9 +115,6 @@ module _ (f : Profile) (k page g : ℕ) (of : g / 256 ≡ page) (v ts before : L
   got_or_held true held h = refl
   got_or_held false held h = h refl
 
-  put_kept : (x held : Bool) → held_after (if x then Puts else Stays) held ≡ true → held ≡ true
-  put_kept x held h = search (arith, false≢true)
-
   took : (q word mask a : ℕ) → has_right v q ≡ true → (holds before g ≡ true → IsTakenSo) → (x : Bool) → (in_mask q word mask g && has_bit a (g % 64)) ≡ x
       → held_after (if x then Gets else Stays) (holds before g) ≡ true → IsTakenAfter (Take q word mask) a
   took q word mask a allowed was true is h =
@@ -133,7 +130,7 @@ module _ (f : Profile) (k page g : ℕ) (of : g / 256 ≡ page) (v ts before : L
   listed_step (Deed q d) a lends marks allowed suits was h = search (arith, right_stays, still_listed)
   listed_step (TakeRight q d) a lends marks allowed suits was h = search (arith, right_stays, still_listed)
   listed_step (Take q word mask) a lends marks allowed suits was h = took q word mask a allowed was (in_mask q word mask g && has_bit a (g % 64)) refl h
-  listed_step (Put q word mask) a lends marks allowed suits was h = was (put_kept (in_mask q word mask g) (holds before g) h)
+  listed_step (Put q word mask) a lends marks allowed suits was h = search (arith, false≢true)
   listed_step (Give block) a lends marks allowed suits was h = absurd (true≢false lends)
   listed_step (End name guess) a lends marks allowed suits was h = absurd (true≢false lends)
   listed_step (EndSized name room) a lends marks allowed suits was h = absurd (true≢false lends)

@@ -16,17 +16,13 @@ use Rattle.pas_partial.specs.Rows.{IsFreeSlot, IsLowestRow}
 use Rattle.pas_answers.specs.Answers.{Progress}
 use Rattle.pas_same_text.specs.{State.World, Pages.are_free, Pages.is_guarded, Same.HasSame, Same.IsRising, Same.has_number, Acts.IsBetween}
 use Rattle.pas_same_text.specs.Classes.{spaced, free_slots, row_from, first_row, slots_for}
-use Rattle.pas_same_text.proofs.ClassFits.{slot_there, slot_index, slot_tested, slot_free}
-use Rattle.pas_same_text.proofs.{BitfitFits.in_spaced, BitfitFits.from_spaced, BitfitFits.next_place, Tests.filtered_has, Tests.has_filtered}
+use Rattle.pas_same_text.proofs.PlacesFit.{slot_there, slot_index, slot_tested, slot_free, in_spaced, from_spaced, next_place}
+use Rattle.pas_same_text.proofs.Tests.{filtered_has, has_filtered}
 
 -- ---- places that follow each other at a step, and pass a test
--- they rise
-kept_above : (low x : ℕ) (xs : List ℕ) (t : Bool) → low < x → AllByRecursion (λ m. low < m) xs → AllByRecursion (λ m. low < m) (if t then x ∷ xs else xs)
-kept_above low x xs t lt all = grind arith
-
 all_above : (test : ℕ → Bool) (n from step low : ℕ) → low < from → AllByRecursion (λ m. low < m) (filter test (spaced from step n))
 all_above test zero from step low lt = tt
-all_above test (suc n) from step low lt = kept_above low from (filter test (spaced (from + step) step n)) (test from) lt (all_above test n (from + step) step low (omega (arith, lt)))
+all_above test (suc n) from step low lt = search (arith, all_above test n (from + step) step low (omega (arith, lt)))
 
 kept_rising : (x : ℕ) (xs : List ℕ) (t : Bool) → AllByRecursion (λ m. x < m) xs → IsRising xs → IsRising (if t then x ∷ xs else xs)
 kept_rising x xs true all rising = (all, rising)
@@ -47,10 +43,6 @@ there_place n from step s h = let o = from_spaced (λ m. m == s) n from step h i
 -- ---- those that follow each other without a break
 no_row : (next step m : ℕ) (xs : List ℕ) → AllByRecursion (λ x. next < x) xs → row_from next step m xs ≡ []
 no_row next step m xs all = search (arith, ne_eqb)
-
--- the head is in the row where it is the place that is due
-row_head : (next step m : ℕ) (xs : List ℕ) → row_from next step (suc m) (next ∷ xs) ≡ next ∷ row_from (next + step) step m xs
-row_head next step m xs = ap (λ (t : Bool). if t then next ∷ row_from (next + step) step m xs else []) (eq-eqb next next refl)
 
 -- s is the i-th of n places from this one on, for an i below m, and all up to it pass
 abbrev InRow : (ℕ → Bool) → ℕ → ℕ → ℕ → ℕ → ℕ → Type 0
@@ -73,7 +65,7 @@ module _ (test : ℕ → Bool) (step : ℕ) (some : 1 ≤ step) where
   -- the head of a row whose first place passes
   row_passing : (m n next s : ℕ) → test next ≡ true
       → has_number (row_from next step (suc m) (places next (suc n))) s ≡ ((next == s) || has_number (row_from (next + step) step m (places (next + step) n)) s)
-  row_passing m n next s so = ap (λ (xs : List ℕ). has_number xs s) (ap (row_from next step (suc m)) (passing next n so) ∙ row_head next step m (places (next + step) n))
+  row_passing m n next s so = search (arith, passing, eq-eqb)
 
   -- what stands in a row of m at most is in it by this, and the other way round
   in_row : (m n next s : ℕ) → has_number (row_from next step m (places next n)) s ≡ true → InRow test step m n next s

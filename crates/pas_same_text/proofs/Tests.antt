@@ -18,10 +18,6 @@ eqb_itself n = eq-eqb n n refl
 pub eqb_turned : (x y : ℕ) → (x == y) ≡ (y == x)
 eqb_turned x y = grind (arith, nat_tests)
 
--- what passes a test and not another passes where the other passes less
-pub and_more : (x c d : Bool) → (d ≡ true → c ≡ true) → (x && not c) ≡ true → (x && not d) ≡ true
-and_more x c d more h = search (arith, false≢true)
-
 -- grain b of a page is on it
 pub on_page : (page b : ℕ) → b < 256 → (256 * page + b) / 256 ≡ page
 on_page page b small = omega (arith, small)
@@ -83,7 +79,7 @@ passed p (n ∷ more) m h so = elim (or_cases (n == m) (has_number more m) h) [
 ]
 
 -- ---- tests that follow from others
-pub weaker_at : (x y r s : Bool) → (x ≡ true → y ≡ true) → (r ≡ true → s ≡ true) → (x || r) ≡ true → (y || s) ≡ true
+weaker_at : (x y r s : Bool) → (x ≡ true → y ≡ true) → (r ≡ true → s ≡ true) → (x || r) ≡ true → (y || s) ≡ true
 weaker_at x y r s here rest h = search (arith, false≢true)
 
 -- Where something passes a test, something passes each weaker one.
@@ -91,6 +87,7 @@ pub any_weaker : {X : Type 0} (p q : X → Bool) (xs : List X) → ((x : X) → 
 any_weaker p q [] more h = h
 any_weaker p q (x ∷ xs) more h = weaker_at (p x) (q x) (list_any p xs) (list_any q xs) (more x) (any_weaker p q xs more) h
 
+-- by cases of the tests
 split_at : (a x r s t : Bool) → (r ≡ true → (s ≡ true) ⊎ (t ≡ true)) → (x || r) ≡ true → (((a && x) || s) ≡ true) ⊎ (((not a && x) || t) ≡ true)
 split_at a x r s t rest h = search arith
 

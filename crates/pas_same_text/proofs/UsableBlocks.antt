@@ -1,5 +1,4 @@
 -- Each act leaves each live block on grains that blocks of its page's directory may cover.
-use Rattle.pas_profile.specs.declared.event.Outcome.TheVariants as TheOutcome
 use Rattle.std.proofs.Common.{◌≡◌, ℕ, ◌/◌, ◌%◌, ◌==◌, Bool, true, false, if◌then◌else◌, List, [], ◌∷◌, ◌++◌, map, Option, None, Some, Result, Ok, Err}
 use Rattle.std.proofs.Common.{MatchResult, inl, inr, refl, ap, sym, ◌∙◌, subst, arith, eqb-true}
 use Rattle.std.proofs.lemmas.Option.{none-some}
@@ -7,11 +6,10 @@ use Rattle.std.specs.List.{AllByRecursion}
 use Rattle.pas_bits.specs.Runs.{in_run}
 use Rattle.pas_bits.proofs.Runs.{run_of}
 use Rattle.pas_profile.specs.{Blocks.address_of, Blocks.grain_of, Blocks.length_of, Directories.IsKind, Directories.deed_word_of, Profiles.IsValid}
-use Rattle.pas_profile.specs.{Classes.class_size, Classes.IsClass}
-use Rattle.pas_profile.specs.Requests.{is_shared, kind_of_class, kind_of_route, route_in, room_in}
+use Rattle.pas_profile.specs.Requests.{is_shared, kind_of_route, route_in, room_in}
 use Rattle.pas_profile.specs.declared.{directory.Directory.Directory, directory.Route.Route, event.Event.Event, event.NoRoom.NoRoom, event.Outcome.Outcome}
 use Rattle.pas_profile.specs.declared.{name.Block.Block, profile.Profile.Profile, word.Word.Word}
-use Rattle.pas_profile.proofs.{ClassFacts.class_suits, ClassFacts.class_known, Codecs.same_from_deed_word, Lists.all_both, Lists.all_map}
+use Rattle.pas_profile.proofs.{ClassFacts.class_suits, ClassFacts.class_known, Codecs.same_from_deed_word, Lists.all_map}
 use Rattle.pas_machine.specs.{Machine.Run, Machine.Bears, State.Live, State.live_in, State.deed_in}
 use Rattle.pas_machine.proofs.LiveBlocks.{all_borne}
 use Rattle.pas_steps.specs.{Desks.triples, Events.events_by, Views.View, Views.known_deed, Views.usable_by_kind}
@@ -20,19 +18,18 @@ use Rattle.pas_steps.specs.declared.step.Made.{Made}
 use Rattle.pas_steps.proofs.{Adding.triples_append, Apart.no_events, Frames.events_append, Parts.part_of_own}
 use Rattle.pas_core.specs.Good.{IsPartOf, word_of_deed}
 use Rattle.pas_core.proofs.{Deeds.deed_of, Deeds.directory_is_of, MachineRuns.runs, OneActor.legal_before, OneActor.legal_earlier}
-use Rattle.pas_free_log.specs.{Flushes.Settled, Flushes.shown_for, Flushes.event_for, Logs.entry_of, Logs.sized_entry}
-use Rattle.pas_free_log.specs.declared.{ending.Outcome.Outcome as TheEnd, ending.Outcome.TheVariants.Ended, ending.Outcome.TheVariants.Refused, log.Entry.Entry}
-use Rattle.pas_free_log.specs.declared.{noting.EndedRun.EndedRun}
+use Rattle.pas_free_log.specs.{Flushes.Settled, Flushes.shown_for, Logs.entry_of, Logs.sized_entry}
+use Rattle.pas_free_log.specs.declared.{log.Entry.Entry, noting.EndedRun.EndedRun}
 use Rattle.pas_cache.specs.{Calls.TakesEntry, Changes.EmptiesLog, Changes.EmptiesFull, Contents.Cached}
-use Rattle.pas_cache.specs.Serves.{Wanted, wanted_for, IsPlaced, IsInSlot, IsPreparing, IsDeedOf}
-use Rattle.pas_scavenger.specs.{Pages.unback_of, Passes.unbacks_in}
+use Rattle.pas_cache.specs.Serves.{Wanted, wanted_for, IsPlaced, IsPreparing, IsDeedOf}
+use Rattle.pas_scavenger.specs.Passes.{unbacks_in}
 use Rattle.pas_report.specs.declared.record.{Record.Record, Said.Said}
 use Rattle.pas_guard.specs.Sweeps.{SweepSteps, sweeping}
 use Rattle.pas_guard.specs.declared.book.Guard.{Guard}
 use Rattle.pas_trace.specs.{Acts.Act, Asked.request_in}
 use Rattle.pas_trace.specs.declared.{item.Request.Request, plan.Op.Op, plan.What.What}
 use Rattle.pas_answers.specs.Answers.{Progress, Having, Answer, having, IsGiven, RefusalEnds, RequestEnds, IsFreed, IsFreedBy, IsStopped, IsAnswered}
-use Rattle.pas_answers.specs.Answers.{IsRemadeBy, IsReplaced, standing_for, entry_with, wanted_by}
+use Rattle.pas_answers.specs.Answers.{IsReplaced, standing_for, entry_with, wanted_by}
 use Rattle.pas_answers.specs.Guarding.{Tried, IsTried, TryEnds, after_trying}
 use Rattle.pas_answers.specs.Reaching.{AnswersTried, AnswersGuarded}
 use Rattle.pas_answers.proofs.Reached.{tried_on, pieces_back}
@@ -85,13 +82,9 @@ IsNoGive (Event.Reject k name why) = Unit {0}
 abbrev AreNoGives : List Event → Type 0
 AreNoGives = AllByRecursion IsNoGive
 
-no_give : (es : List Event) (e : Event) → IsNoGive e → GivesUsably es e
-no_give es (Event.Give k block) is = absurd is
-no_give es e is = tt
-
 all_usable : (f : Profile) (evs es : List Event) → Run f (evs ++ es) → AreNoGives evs → AreBlocksUsable es → AreBlocksUsable (evs ++ es)
 all_usable f [] es run none usable = usable
-all_usable f (e ∷ evs) es run none usable = next_usable f e (evs ++ es) run (no_give (evs ++ es) e none.0) (all_usable f evs es run.1 none.1 usable)
+all_usable f (e ∷ evs) es run none usable = search (arith, next_usable, all_usable f evs es run.1 none.1 usable)
 
 -- steps without a give, after a legal list
 steps_usable : (f : Profile) (k : ℕ) (steps : List Made) (l : Whole) → IsValid f → Legal f (triples k steps ++ l) → AreNoGives (events_by k (part k l) steps)
@@ -141,14 +134,9 @@ preparing_none d e (IsPreparing.Backs k page) = tt
 deed_none : (d : Directory) (e : Event) → IsDeedOf d e → IsNoGive e
 deed_none d e (IsDeedOf.Deeds k page) = tt
 
--- where a block stands, its grains are such as its directory's blocks may cover
-slot_at : (class : ℕ) (shared : Bool) (block : Block) (g : ℕ) → IsClass class → IsInSlot class block → block.room ≡ class_size class
-    → in_run (grain_of block.name) (length_of block) g ≡ true → usable_by_kind (kind_of_class shared class) (g % 256) ≡ true
-slot_at class shared block g is slot room of = search (arith, run_of)
-
 placed_usable : (f : Profile) (shared : Bool) (size align : ℕ) (route : Route) (block : Block) (g : ℕ) → route_in f size align ≡ route → IsPlaced route block
     → block.room ≡ room_in f size align → in_run (grain_of block.name) (length_of block) g ≡ true → usable_by_kind (kind_of_route shared route) (g % 256) ≡ true
-placed_usable f shared size align route block g e placed room of = search (arith, slot_at)
+placed_usable f shared size align route block g e placed room of = search (arith, run_of)
 
 kind_known : (f : Profile) (shared : Bool) (size align : ℕ) (route : Route) → route_in f size align ≡ route → IsKind (kind_of_route shared route)
 kind_known f true size align (Route.Class class) e = tt
@@ -200,11 +188,6 @@ replaced_usable f k r old b l a view valid legal h usable =
     (steps_usable f k h.freed (triples k h.placed.steps ++ l) valid (subst (Legal f) (sym (triples_append k h.freed h.placed.steps l)) whole)
     (logged_gives f k h.placed.cache a.cache (entry_of old.name) h.freed (part k (triples k h.placed.steps ++ l)) h.served.answer h.logged) given)
 
-remade_usable : (f : Profile) (k name size align : ℕ) (meant : Option (Option Block)) (p : Progress) (a : Answer) → IsValid f
-    → Legal f (triples k a.steps ++ p.list) → IsRemadeBy f k name size align meant (having p.names (part k p.list) (p.caches k)) a → HasUsableBlocks p
-    → AreBlocksUsable (visible (triples k a.steps ++ p.list))
-remade_usable f k name size align meant p a valid legal h usable = search (arith, replaced_usable)
-
 -- ---- the acts
 module _ (f : Profile) (k : ℕ) (p : Progress) (a : Answer) (valid : IsValid f) (legal : Legal f (triples k a.steps ++ p.list)) (usable : HasUsableBlocks p)
   where
@@ -222,7 +205,7 @@ module _ (f : Profile) (k : ℕ) (p : Progress) (a : Answer) (valid : IsValid f)
     operation_usable (What.FreeSized name room) h = idle_usable (named_gives f k (p.caches k) a.cache name (Some room) (standing_for p.names name) a.steps a.said own h.0)
     operation_usable (What.Raw block) h = idle_usable (freed_gives f k (p.caches k) a.cache (entry_of block) a.steps a.said own h.0)
     operation_usable (What.RawSized room block) h = idle_usable (freed_gives f k (p.caches k) a.cache (sized_entry block room) a.steps a.said own h.0)
-    operation_usable (What.Remake name old heap size align) h = remade_usable f k name size align (standing_for p.names old) p a valid legal h usable
+    operation_usable (What.Remake name old heap size align) h = search (arith, replaced_usable)
     operation_usable What.Flush h = idle_usable (flush_gives k (p.caches k).log (p.caches k).noted a.cache.noted a.steps own h.0.empties)
     operation_usable What.Stop h = idle_usable (stop_gives k (p.caches k) a.cache a.steps own h.0)
     operation_usable what h = absurd h

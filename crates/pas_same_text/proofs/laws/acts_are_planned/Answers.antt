@@ -1,5 +1,5 @@
 -- Who acts, and what is asked for.
-use Rattle.pas_same_text.proofs.ActsOfPlans.{plan_acts}
+use Rattle.pas_same_text.proofs.AllActs.{plan_acts}
 use Rattle.pas_same_text.proofs.laws.acts_are_planned.Goals as goal
 
 pub returns : goal.returns

@@ -1,5 +1,5 @@
 -- Frees by an address, and by a name of the trace.
-use Rattle.pas_same_text.proofs.LoggedFrees.{raw_same, raw_sized_same, named_same, named_sized_same}
+use Rattle.pas_same_text.proofs.SmallActs.{raw_same, raw_sized_same, named_same, named_sized_same}
 use Rattle.pas_same_text.proofs.laws.frees_stay_the_same.Goals as goal
 
 pub returns-clause-raw : goal.returns-clause-raw

@@ -1,5 +1,5 @@
 -- The reason of a refusal.
-use Rattle.pas_same_text.proofs.RefusedRequests.{refusal_told}
+use Rattle.pas_same_text.proofs.SearchedPages.{refusal_told}
 use Rattle.pas_same_text.proofs.laws.refusals_are_told.Goals as goal
 
 pub returns : goal.returns

@@ -1,27 +1,31 @@
--- Lists of places that follow each other at a step, and those of them that pass a test.
+-- PLACES ON A PAGE, at a step from one to the next: where a bit-fit block fits, and where a slot of a class does, in the text exactly where it does by the free
+-- grains of the replay.
 use Rattle.std.proofs.Common.{◌≡◌, ℕ, zero, suc, ◌+◌, ◌*◌, ◌<◌, Bool, true, false, ◌||◌, if◌then◌else◌, List, [], ◌∷◌, take, inl, inr, refl, ap, ◌∙◌, arith}
 use Rattle.std.proofs.Common.{◌/◌, ◌%◌, ◌≤◌, ◌==◌, nat_le, nat_lt, not, ◌&&◌, sym, true≢false, eq-eqb, eqb-true}
 use Rattle.std.proofs.lemmas.Bool.{false≢true, or_cases, or_left, or_right, and_from, false_from_ne_true}
-use Rattle.std.proofs.{Math.Nat.suc-mul, lemmas.Bool.Decides.nat_tests, lemmas.Nat.div_below, lemmas.Nat.mul-le, Math.Nat.mul-mod_left, Math.Nat.mod-add-div'}
+use Rattle.std.proofs.{Math.Nat.suc-mul, Math.Nat.mul-mod_left, Math.Nat.mod-add-div', lemmas.Bool.Decides.nat_tests, lemmas.Nat.div_below, lemmas.Nat.mul-le}
 use Rattle.std.specs.List.{list_any, filter}
-use Rattle.pas_same_text.specs.{Searches.some_of, Classes.spaced, State.World, Pages.is_free, Pages.are_free, Pages.is_guarded, Runs.lowest_place, Same.HasSame}
-use Rattle.pas_same_text.specs.{Acts.IsBetween, Searched.FitsSame}
-use Rattle.pas_profile.specs.{Classes.IsAlignment, Profiles.IsValid}
+use Rattle.pas_same_text.specs.{Searches.some_of, State.World, Pages.is_free, Pages.are_free, Pages.is_guarded, Runs.lowest_place, Same.HasSame, Acts.IsBetween}
+use Rattle.pas_same_text.specs.{Searched.FitsSame, Classes.spaced, Classes.free_slots, Classes.slots_for}
+use Rattle.pas_profile.specs.Classes.{IsAlignment, IsClass, class_grains, slots_of, IsSlotStart}
+use Rattle.pas_profile.specs.Profiles.{IsValid}
 use Rattle.pas_profile.specs.declared.profile.Profile.{Profile}
-use Rattle.pas_profile.proofs.Sizes.{passes_below, passes_at}
+use Rattle.pas_profile.proofs.{Sizes.passes_below, Sizes.passes_at, ClassFacts.class_grains_positive, ClassFacts.usable_grains_le, ClassFacts.slot_end}
 use Rattle.pas_steps.specs.Evidence.{Readings}
 use Rattle.pas_core.specs.Rights.{free_of_page}
 use Rattle.pas_bitfit.specs.{Allocates.run_for, Runs.Fits, Runs.NoneFits, Runs.IsLowestFit}
 use Rattle.pas_answers.specs.Answers.{Progress}
 use Rattle.pas_same_text.proofs.{FreeGrains.bit_unguarded, FreeGrains.bit_read, FreeGrains.read_unless, GivenBack.each_at, GivenBack.each_all, Tests.and_first}
 use Rattle.pas_same_text.proofs.{Tests.and_second}
+use Rattle.pas_bits.specs.Runs.{AreFree}
+use Rattle.pas_segregated.specs.Takes.{NoSlot}
 
 -- some one passes the test
-pub some_first : (xs : List ℕ) → some_of (take 1 xs) ≡ some_of xs
+some_first : (xs : List ℕ) → some_of (take 1 xs) ≡ some_of xs
 some_first xs = grind arith
 
 -- Some numbers of a list pass a test exactly where the filtered list has any.
-pub some_filtered : (test : ℕ → Bool) (xs : List ℕ) → some_of (filter test xs) ≡ list_any test xs
+some_filtered : (test : ℕ → Bool) (xs : List ℕ) → some_of (filter test xs) ≡ list_any test xs
 some_filtered test [] = refl
 some_filtered test (x ∷ xs) = let ih = some_filtered test xs in grind (arith, ih)
 
@@ -33,8 +37,7 @@ next_place from step i = let m = suc-mul i step in omega (arith, m)
 pub in_spaced : (test : ℕ → Bool) (n from step i : ℕ) → i < n → test (from + i * step) ≡ true → list_any test (spaced from step n) ≡ true
 in_spaced test zero from step i lt h = absurd (omega (arith, lt))
 in_spaced test (suc n) from step zero lt h = or_left (test from) (list_any test (spaced (from + step) step n)) (ap test (omega arith) ∙ h)
-in_spaced test (suc n) from step (suc i) lt h =
-    or_right (test from) _ (in_spaced test n _ step i (omega (arith, lt)) (ap test (next_place from step i) ∙ h))
+in_spaced test (suc n) from step (suc i) lt h = search (arith, or_right, in_spaced test n _ step i (omega (arith, lt)) (ap test (next_place from step i) ∙ h))
 
 -- Where some spaced place passes a test, it is one of those at the step.
 pub from_spaced : (test : ℕ → Bool) (n from step : ℕ) → list_any test (spaced from step n) ≡ true → (i : ℕ) × (i < n) × (test (from + i * step) ≡ true)
@@ -48,7 +51,7 @@ from_spaced test (suc n) from step h = elim (or_cases (test from) (list_any test
 
 -- the first that passes, where the i-th does and none before it
 -- by the numbers of places before it, none of which passes
-pub first_spaced : (test : ℕ → Bool) (n from step i : ℕ) → i < n → test (from + i * step) ≡ true → ((j : ℕ) → j < i → test (from + j * step) ≡ false)
+first_spaced : (test : ℕ → Bool) (n from step i : ℕ) → i < n → test (from + i * step) ≡ true → ((j : ℕ) → j < i → test (from + j * step) ≡ false)
     → take 1 (filter test (spaced from step n)) ≡ (from + i * step) ∷ []
 first_spaced test zero from step i lt h before = absurd (omega (arith, lt))
 first_spaced test (suc n) from step zero lt h before =
@@ -153,10 +156,77 @@ module _ (f : Profile) (p : Progress) (w : World) (valid : IsValid f) (between :
     where
       lower : (j : ℕ) → j < first / step → first / step * step ≡ first → test page (0 + j * step) ≡ false
       lower j small times = false_from_ne_true _ (λ h.
-          let low = is.0 in
           let this : Fits (run_for room align) (free_of_page p.list page) (0 + j * step) =
           test_fits page _ (fits_unguarded page first fits) (ap (λ (x : ℕ). x % step) (omega arith) ∙ mul-mod_left j step) h in
           let next : suc j * step ≤ first / step * step = mul-le (suc j) step (first / step) step (omega (arith, small)) (omega arith) in
           let m = suc-mul j step in
-          lowest.lowest (0 + j * step) (omega (arith, next, m, times, low))
+          lowest.lowest (0 + j * step) (omega (arith, next, m, times, is.0))
           (record { aligned = this.aligned; within = this.within; free = λ b from to. more b (omega (arith, this.within, to)) (this.free b from to) }))
+
+-- ==== WHETHER A SLOT OF A CLASS FITS on a page: in the text exactly where it does by the free grains of the replay.
+some_slots : (shared : Bool) (w : World) (class page : ℕ) → some_of (slots_for shared w class page) ≡ some_of (free_slots w class page)
+some_slots shared w class page = search (arith, eq-eqb)
+
+module _ (f : Profile) (p : Progress) (w : World) (valid : IsValid f) (between : IsBetween f p) (same : HasSame f p w) (class : ℕ) (is : IsClass class) where
+  abbrev slot_grains : ℕ
+  slot_grains = class_grains class
+
+  abbrev fits_at : ℕ → ℕ → Bool
+  fits_at page s = are_free w page s slot_grains
+
+  some_grains : 1 ≤ slot_grains
+  some_grains = class_grains_positive class is
+
+  -- a page with a free grain is no keeper's
+  pub read_unguarded : (page b : ℕ) → b < 256 → free_of_page p.list page b ≡ true → is_guarded w page ≡ false
+  read_unguarded page b small free = bit_unguarded f p w valid between same page b small (bit_read p.list page b ∙ free)
+
+  some_slot : (shared : Bool) (page : ℕ) → some_of (slots_for shared w class page) ≡ list_any (fits_at page) (spaced 0 slot_grains (slots_of class))
+  some_slot shared page = some_slots shared w class page ∙ some_filtered (fits_at page) (spaced 0 slot_grains (slots_of class))
+
+  -- a slot of the list is one of the class, and the other way round
+  -- a multiple of the step that ends within the slots
+  pub slot_there : (i : ℕ) → i < slots_of class → IsSlotStart class (i * slot_grains)
+  slot_there i lt =
+      search arith
+
+  -- The start of a slot is a number of whole steps of its class, below the number of slots.
+  pub slot_index : (s : ℕ) → IsSlotStart class s → (i : ℕ) × (i < slots_of class) × (i * slot_grains ≡ s)
+  slot_index s slot =
+      let times : s / slot_grains * slot_grains ≡ s = let m = mod-add-div' s slot_grains in omega (arith, m, slot.aligned) in
+      (s / slot_grains, div_below s slot_grains (slots_of class) (omega (arith, some_grains)) (omega (arith, slot.within, some_grains)), times)
+
+  -- it is free in the text exactly where its grains are in the replay
+  pub slot_tested : (page s : ℕ) → IsSlotStart class s → AreFree (free_of_page p.list page) s slot_grains → fits_at page s ≡ true
+  slot_tested page s slot free =
+      let within = slot.within in
+      let most = usable_grains_le class is in
+      let some = some_grains in
+      let none : is_guarded w page ≡ false = read_unguarded page s (omega (arith, within, most, some)) (free s (omega arith) (omega (arith, some))) in
+      each_all slot_grains s (is_free w page) (λ b low high. read_unless f p w valid between same page b (omega (arith, high, within, most)) none ∙ free b low high)
+
+  -- A place that the text's test passes on an unguarded page is one whose grains the replay reads as free.
+  pub slot_free : (page s : ℕ) → IsSlotStart class s → is_guarded w page ≡ false → fits_at page s ≡ true → AreFree (free_of_page p.list page) s slot_grains
+  slot_free page s slot none tested b low high =
+      let within = slot_end class s is slot in
+      sym (read_unless f p w valid between same page b (omega (arith, within, high)) none) ∙ each_at slot_grains s b (is_free w page) tested low high
+
+  there : (page s : ℕ) → IsSlotStart class s → AreFree (free_of_page p.list page) s slot_grains
+      → list_any (fits_at page) (spaced 0 slot_grains (slots_of class)) ≡ true
+  there page s slot free =
+      let o = slot_index s slot in
+      in_spaced (fits_at page) (slots_of class) 0 slot_grains o.0 o.1 (ap (fits_at page) (omega (arith, o.2)) ∙ slot_tested page s slot free)
+
+  -- A slot of a class fits on an unguarded page in the text exactly where one does by the replay's free grains.
+  pub class_fits : (shared : Bool) → FitsSame (NoSlot class) f p w (slots_for shared w class)
+  class_fits shared = record {
+    none = λ page of unguarded none. false_from_ne_true (some_of (slots_for shared w class page)) (λ h.
+        let o = from_spaced (fits_at page) (slots_of class) 0 slot_grains (sym (some_slot shared page) ∙ h) in
+        none (o.0 * slot_grains) (slot_there o.0 o.1) (slot_free page (o.0 * slot_grains) (slot_there o.0 o.1) unguarded (ap (fits_at page) (omega arith) ∙ o.2)));
+    some = λ page of unguarded fits. some_slot shared page ∙ by_test page fits (list_any (fits_at page) (spaced 0 slot_grains (slots_of class))) refl;
+  }
+    where
+      by_test : (page : ℕ) → (NoSlot class (free_of_page p.list page) → ⊥) → (t : Bool) → list_any (fits_at page) (spaced 0 slot_grains (slots_of class)) ≡ t
+          → t ≡ true
+      by_test page fits true e = refl
+      by_test page fits false e = absurd (fits (λ s slot free. true≢false (sym (there page s slot free) ∙ e)))

@@ -1,0 +1,396 @@
+-- WHAT STEPS LEAVE OF THE WORDS, and which pages they mark with hints and offers: steps that only give back; and a search, where no other actor makes a step.
+use Rattle.std.proofs.lemmas.Bool.{false≢true, or_from}
+use Rattle.std.proofs.Common.{◌≡◌, ℕ, ◌/◌, ◌%◌, ◌<◌, ◌==◌, Bool, true, false, ◌&&◌, if◌then◌else◌, List, [], ◌∷◌, ◌++◌, ◌⊎◌, inl, inr, refl, ap, sym, ◌∙◌}
+use Rattle.std.proofs.Common.{subst, arith, true≢false, eqb-true, ◌≢◌, ◌+◌, ◌*◌, ◌||◌, Option, None, Some, ne_eqb}
+use Rattle.pas_bits.specs.Bits.{has_bit}
+use Rattle.pas_bits.proofs.PageVectors.{page_bit-set, page_bit-clear}
+use Rattle.pas_profile.specs.{Directories.number_of, Directories.deed_word_of, Directories.deed_word_numbered, Layouts.same_word, Profiles.IsPage}
+use Rattle.pas_profile.specs.{Profiles.IsDirectoryOf}
+use Rattle.pas_profile.specs.declared.{directory.Directory.Directory, profile.Profile.Profile, word.Word.Word, event.Event.Event}
+use Rattle.pas_steps.specs.{Allowed.IsStepOf, Desks.triples, Frames.OnlyReturns, Frames.IsReturn, Past.Once, Past.Always, Events.event_of, Events.with_event}
+use Rattle.pas_steps.specs.Effects.{target, new_value, in_mask, free_word_at}
+use Rattle.pas_steps.specs.Views.{epoch_of, Stays, Gets, Puts, grain_move, held_after, holds}
+use Rattle.pas_steps.specs.Kinds.{Kinds, kind_of, place_of, is_in, apart, Only, Taking, Backing, Unbacking, Hinting, Unhinting, Offering, Ticking, lending}
+use Rattle.pas_steps.specs.Lists.{Whole, part, word_after, Legal, visible}
+use Rattle.pas_steps.specs.declared.step.{Made.Made, Step.Step}
+use Rattle.pas_steps.specs.declared.step.Step.TheVariants.{Look, TakeRight, Offer, Hint, Unhint, Deed, Take, Put, Give, End, EndSized}
+use Rattle.pas_steps.proofs.{Apart.in_apart, Past.since_once, Past.always_map}
+use Rattle.pas_core.specs.{Rights.empty_bit, Rights.eligible_bit, Hints.IsEmptyBacked, Good.word_of_deed, Good.word_of_backed}
+use Rattle.pas_core.proofs.Deeds.{looked, deed_of, number_told, backed_of}
+use Rattle.pas_core.proofs.{OneActor.free_stays, OneActor.LendsNone, Grains.free_moved, Grains.free_step, Rights.offered_has_deed}
+use Rattle.pas_rights.specs.Looks.{ReadsBacked, ReadsAllFree, TakesNone, ReadsEmpty, HintsEmpty}
+use Rattle.pas_rights.specs.PutsBack.{GivesDuly}
+use Rattle.pas_same_text.proofs.{Tests.eqb_itself, ReadyPages.IsAtPage, ReadyPages.IsShownAt, ReadyPages.event_at}
+use Rattle.pas_machine.specs.State.{backed_in, deed_in}
+use Rattle.pas_steps.specs.Evidence.{Readings, ReadsFree, ShowsHere, GetsRight, GetsHere}
+use Rattle.pas_search.specs.Kinds.{IsReturnOf, ReturnsDuly, EventsAt}
+use Rattle.pas_same_text.specs.Words.{free_bit}
+use Rattle.pas_scan.specs.Usable.{MakesNoDeedHere}
+use Rattle.pas_guard.specs.Seeks.{seeking}
+
+-- ---- a word that steps of some kinds leave as it is said
+over : (Q : ℕ → Type 0) (x : Word) (ks ls : Kinds)
+    → ((e : ℕ) (s : Step) (old : ℕ) → is_in ls (kind_of s) ≡ false → Q old → Q (if same_word (target s) x then new_value e s old else old)) → apart ks ls ≡ true
+    → (k : ℕ) (xs : List Made) (l : Whole) → Only ks xs → Q (word_after l x) → Q (word_after (triples k xs ++ l) x)
+over Q x ks ls step w k [] l only h = h
+over Q x ks ls step w k (m ∷ xs) l only h =
+    step (epoch_of (part k (triples k xs ++ l))) m.step (word_after (triples k xs ++ l) x)
+    (in_apart ks ls (place_of (kind_of m.step)) w only.0) (over Q x ks ls step w k xs l only.1 h)
+
+backed_kept : (e : ℕ) (s : Step) (p old : ℕ) → is_in (Backing ∷ Unbacking ∷ []) (kind_of s) ≡ false
+    → (if same_word (target s) (Word.Backed p) then new_value e s old else old) ≡ old
+backed_kept e s p old is = search (arith, true≢false)
+
+-- where none backs a page or ends its backing, backed words stay
+pub backed_stays : (ks : Kinds) → apart ks (Backing ∷ Unbacking ∷ []) ≡ true → (k : ℕ) (xs : List Made) (l : Whole) (p : ℕ) → Only ks xs
+    → word_after (triples k xs ++ l) (Word.Backed p) ≡ word_after l (Word.Backed p)
+backed_stays ks apart k xs l p only = over (λ n. n ≡ word_after l (Word.Backed p)) _ ks _ (λ e s old other h. backed_kept e s p old other ∙ h) apart k xs l only refl
+
+hints_kept : (e : ℕ) (s : Step) (p old : ℕ) → is_in (Unhinting ∷ []) (kind_of s) ≡ false → has_bit old (p % 64) ≡ true
+    → has_bit (if same_word (target s) (Word.Empty (p / 64)) then new_value e s old else old) (p % 64) ≡ true
+hints_kept e s p old is h = search (arith, page_bit-set, true≢false)
+
+-- where none takes a hint back, hinted pages stay hinted
+pub hinted_stays : (ks : Kinds) → apart ks (Unhinting ∷ []) ≡ true → (k : ℕ) (xs : List Made) (l : Whole) (p : ℕ) → Only ks xs → empty_bit l p ≡ true
+    → empty_bit (triples k xs ++ l) p ≡ true
+hinted_stays ks apart k xs l p only h = over (λ n. has_bit n (p % 64) ≡ true) _ ks _ (λ e s old other was. hints_kept e s p old other was) apart k xs l only h
+
+-- ---- marks: hints and offers of a page
+abbrev pub is_mark : ℕ → Step → Bool
+is_mark q (Hint p) = p == q
+is_mark q (Offer p d) = p == q
+is_mark q s = false
+
+abbrev pub IsMarked : ℕ → List Made → Type 0
+IsMarked q = Once (λ m before. is_mark q m.step ≡ true)
+
+-- What is so of some step of two lists together is so of one in either.
+pub once_parts : (P : Made → Type 0) (ys xs : List Made) → Once (λ m before. P m) (ys ++ xs) → Once (λ m before. P m) ys ⊎ Once (λ m before. P m) xs
+once_parts P [] xs h = inr h
+once_parts P (y ∷ ys) xs (inl h) = inl (inl h)
+once_parts P (y ∷ ys) xs (inr h) = elim (once_parts P ys xs h) [ inl first ↦ inl (inr first) | inr later ↦ inr later ]
+
+-- A page that two lists of steps together mark is marked by either.
+pub marked_parts : (q : ℕ) (ys xs : List Made) → IsMarked q (ys ++ xs) → IsMarked q ys ⊎ IsMarked q xs
+marked_parts q ys xs h = once_parts (λ m. is_mark q m.step ≡ true) ys xs h
+
+mark_kind : (q : ℕ) (s : Step) → is_in (Hinting ∷ Offering ∷ []) (kind_of s) ≡ false → is_mark q s ≡ true → ⊥
+mark_kind q s out h = search (arith, true≢false, false≢true)
+
+-- Steps of kinds that neither hint nor offer mark no page.
+pub none_marked : (ks : Kinds) → apart ks (Hinting ∷ Offering ∷ []) ≡ true → (q : ℕ) (xs : List Made) → Only ks xs → IsMarked q xs → ⊥
+none_marked ks w q [] only h = h
+none_marked ks w q (m ∷ xs) only (inl h) = mark_kind q m.step (in_apart ks (Hinting ∷ Offering ∷ []) (place_of (kind_of m.step)) w only.0) h
+none_marked ks w q (m ∷ xs) only (inr h) = none_marked ks w q xs only.1 h
+
+-- A page marked by steps after others that mark none is marked by the later steps.
+pub marked_left : (ks : Kinds) → apart ks (Hinting ∷ Offering ∷ []) ≡ true → (q : ℕ) (ys xs : List Made) → Only ks xs → IsMarked q (ys ++ xs) → IsMarked q ys
+marked_left ks w q ys xs only h = elim (marked_parts q ys xs h) [ inl marked ↦ marked | inr later ↦ absurd (none_marked ks w q xs only later) ]
+
+return_mark : (p q : ℕ) (s : Step) → IsReturn p s → is_mark q s ≡ true → p ≡ q
+return_mark p q s h x = search (arith, false≢true, eqb-true)
+
+-- Steps that only return grains to one page mark no other page.
+pub returns_marked : (p q : ℕ) (xs : List Made) → OnlyReturns p xs → IsMarked q xs → p ≡ q
+returns_marked p q [] only h = absurd h
+returns_marked p q (m ∷ xs) only (inl h) = return_mark p q m.step only.0 h
+returns_marked p q (m ∷ xs) only (inr h) = returns_marked p q xs only.1 h
+
+-- ---- which step sets a bit
+abbrev pub HintsPage : ℕ → List Made → Type 0
+HintsPage q = Once (λ m before. m.step ≡ Hint q)
+
+hint_one : (e : ℕ) (s : Step) (p old : ℕ) → has_bit (if same_word (target s) (Word.Empty (p / 64)) then new_value e s old else old) (p % 64) ≡ true
+    → (has_bit old (p % 64) ≡ true) ⊎ (s ≡ Hint p)
+hint_one e (Look x) p old h = inl (ap (λ n. has_bit n (p % 64)) (sym (looked (same_word x (Word.Empty (p / 64))) old)) ∙ h)
+hint_one e (Hint q) p old h = by_page (q == p) refl (sym (page_bit-set q p old true) ∙ h)
+  where
+    by_page : (t : Bool) → (q == p) ≡ t → (if t then true else has_bit old (p % 64)) ≡ true → (has_bit old (p % 64) ≡ true) ⊎ (Hint q ≡ Hint p)
+    by_page true same set = inr (ap (λ (x : ℕ). Hint x) (eqb-true q p same))
+    by_page false same set = inl set
+hint_one e (Unhint q) p old h = by_page (q == p) (sym (page_bit-clear q p old true) ∙ h)
+  where
+    by_page : (t : Bool) → (if t then false else has_bit old (p % 64)) ≡ true → (has_bit old (p % 64) ≡ true) ⊎ (Unhint q ≡ Hint p)
+    by_page true set = absurd (false≢true set)
+    by_page false set = inl set
+hint_one e s p old h = inl h
+
+-- a page that is hinted now was so, or one of the steps hinted it
+pub hinted_by : (k : ℕ) (xs : List Made) (l : Whole) (p : ℕ) → empty_bit (triples k xs ++ l) p ≡ true → (empty_bit l p ≡ true) ⊎ HintsPage p xs
+hinted_by k [] l p h = inl h
+hinted_by k (m ∷ xs) l p h = let ih = hinted_by k xs l p in search (arith, hint_one, ih)
+
+abbrev pub OffersPage : ℕ → List Made → Type 0
+OffersPage q = Once (λ m before. (d : Directory) × (m.step ≡ Offer q d))
+
+-- After a step a page's offered bit was set before, or the step offered the page.
+offer_one : (e : ℕ) (s : Step) (n p old : ℕ) → has_bit (if same_word (target s) (Word.Eligible n (p / 64)) then new_value e s old else old) (p % 64) ≡ true
+    → (has_bit old (p % 64) ≡ true) ⊎ ((d : Directory) × (s ≡ Offer p d))
+offer_one e (Look x) n p old h = inl (ap (λ a. has_bit a (p % 64)) (sym (looked (same_word x (Word.Eligible n (p / 64))) old)) ∙ h)
+offer_one e (TakeRight q d) n p old h = search (arith, page_bit-clear, false≢true)
+offer_one e (Offer q d) n p old h = by_page (number_of d == n) (q == p) refl (sym (page_bit-set q p old (number_of d == n)) ∙ h)
+  where
+    by_page : (x t : Bool) → (q == p) ≡ t → (if x && t then true else has_bit old (p % 64)) ≡ true
+        → (has_bit old (p % 64) ≡ true) ⊎ ((d' : Directory) × (Offer q d ≡ Offer p d'))
+    by_page true true same set = inr (d, ap (λ (x : ℕ). Offer x d) (eqb-true q p same))
+    by_page true false same set = inl set
+    by_page false t same set = inl set
+offer_one e s n p old h = inl h
+
+-- a page that is offered now was so, or one of the steps offered it
+pub offered_by : (k : ℕ) (xs : List Made) (l : Whole) (n p : ℕ) → eligible_bit (triples k xs ++ l) n p ≡ true → (eligible_bit l n p ≡ true) ⊎ OffersPage p xs
+offered_by k [] l n p h = inl h
+offered_by k (m ∷ xs) l n p h = let ih = offered_by k xs l n p in search (arith, offer_one, ih)
+
+-- A page that steps hint is one that they mark.
+pub hint_marks : (q : ℕ) (xs : List Made) → HintsPage q xs → IsMarked q xs
+hint_marks q [] h = h
+hint_marks q (m ∷ xs) (inl h) = inl (ap (is_mark q) h ∙ eqb_itself q)
+hint_marks q (m ∷ xs) (inr h) = inr (hint_marks q xs h)
+
+-- A page that steps offer is one that they mark.
+pub offer_marks : (q : ℕ) (xs : List Made) → OffersPage q xs → IsMarked q xs
+offer_marks q [] h = h
+offer_marks q (m ∷ xs) (inl h) = inl (ap (is_mark q) h.1 ∙ eqb_itself q)
+offer_marks q (m ∷ xs) (inr h) = inr (offer_marks q xs h)
+
+-- ---- a hint rests on looks that read the page as backed and empty
+pub hint_step : (m : Made) (before : List Made) → is_in (Hinting ∷ []) (kind_of m.step) ≡ false → HintsEmpty m before
+hint_step m before other page same = absurd (true≢false (ap (λ s. is_in (Hinting ∷ []) (kind_of s)) (sym same) ∙ other))
+
+-- steps of other kinds hint nothing
+pub hints_none : (ks : Kinds) (xs : List Made) → apart ks (Hinting ∷ []) ≡ true → Only ks xs → Always HintsEmpty xs
+hints_none ks [] out only = tt
+hints_none ks (m ∷ xs) out only = (hint_step m xs (in_apart ks (Hinting ∷ []) (place_of (kind_of m.step)) out only.0), hints_none ks xs out only.1)
+
+-- Steps that give duly hint only pages that they read as backed and empty.
+pub hints_of : (xs : List Made) → Always GivesDuly xs → Always HintsEmpty xs
+hints_of xs due = always_map GivesDuly HintsEmpty xs (λ m before h. h.0) due
+
+pub record WasRead (page : ℕ) (xs : List Made) : Type 0 where
+  pub backed : Once (ReadsBacked page) xs
+  pub free : (word : ℕ) → word < 4 → Once (ReadsAllFree page word) xs
+
+-- A page that steps hint was read by them as backed, and all its free words as all ones.
+pub hint_read : (page : ℕ) (xs : List Made) → Always HintsEmpty xs → HintsPage page xs → WasRead page xs
+hint_read page [] hints h = absurd h
+hint_read page (m ∷ xs) hints (inr h) = let r = hint_read page xs hints.1 h in record { backed = inr r.backed; free = λ word small. inr (r.free word small) }
+hint_read page (m ∷ xs) hints (inl h) =
+    let e : ReadsEmpty page xs = hints.0 page h in record {
+      backed = inr (since_once (ReadsBacked page) (TakesNone page) xs e.backed);
+      free = λ word small. inr (since_once (ReadsAllFree page word) (TakesNone page) xs (e.free word small));
+    }
+
+module _ (ks : Kinds) (f : Profile) (k : ℕ) (l : Whole) (page : ℕ) (no_take : apart ks (Taking ∷ []) ≡ true)
+    (no_back : apart ks (Backing ∷ Unbacking ∷ []) ≡ true) where
+  -- What was read as free is so still.
+  -- the word was read full, and no step takes a grain of it since
+  pub free_read : (word b : ℕ) (xs : List Made) → Legal f (triples k xs ++ l) → Only ks xs → b < 64 → Once (ReadsAllFree page word) xs
+      → has_bit (word_after (triples k xs ++ l) (Word.Free page word)) b ≡ true
+  free_read word b [] legal only small h = absurd h
+  free_read word b (m ∷ xs) legal only small (inr h) = free_stays ks no_take k (m ∷ []) (triples k xs ++ l) page word b (only.0, tt) (free_read word b xs legal.1 only.1 small h)
+  free_read word b (m ∷ xs) legal only small (inl h) =
+      search arith
+
+  backed_read : (xs : List Made) → Legal f (triples k xs ++ l) → Only ks xs → Once (ReadsBacked page) xs → word_after (triples k xs ++ l) (Word.Backed page) ≡ 1
+  backed_read [] legal only h = absurd h
+  backed_read (m ∷ xs) legal only (inr h) = backed_stays ks no_back k (m ∷ []) (triples k xs ++ l) page (only.0, tt) ∙ backed_read xs legal.1 only.1 h
+  backed_read (m ∷ xs) legal only (inl h) = search (arith, backed_stays)
+
+  -- A PAGE THAT WAS HINTED is backed and empty
+  pub hinted_empty : (xs : List Made) → Legal f (triples k xs ++ l) → Only ks xs → Always HintsEmpty xs → HintsPage page xs
+      → IsEmptyBacked (triples k xs ++ l) page
+  hinted_empty xs legal only hints h = search (arith, hint_read, backed_read, free_read)
+
+-- a page that is offered is one of the region
+pub offered_of_region : (f : Profile) (k : ℕ) (l : Whole) (q : ℕ) (xs : List Made) → Legal f (triples k xs ++ l) → OffersPage q xs → IsPage f q
+offered_of_region f k l q [] legal h = absurd h
+offered_of_region f k l q (m ∷ xs) legal (inl h) = (subst (IsStepOf f) h.1 legal.0.of_region).0
+offered_of_region f k l q (m ∷ xs) legal (inr h) = offered_of_region f k l q xs legal.1 h
+
+-- ---- the epoch, where none makes a tick
+epoch_kept : (e : ℕ) (s : Step) (old : ℕ) → is_in (Ticking ∷ []) (kind_of s) ≡ false
+    → (if same_word (target s) Word.Epoch then new_value e s old else old) ≡ old
+epoch_kept e s old is = search (arith, true≢false)
+
+-- Steps of kinds without a tick leave the epoch as it was.
+pub epoch_stays_by : (ks : Kinds) → apart ks (Ticking ∷ []) ≡ true → (k : ℕ) (xs : List Made) (l : Whole) → Only ks xs
+    → word_after (triples k xs ++ l) Word.Epoch ≡ word_after l Word.Epoch
+epoch_stays_by ks apart k xs l only = over (λ n. n ≡ word_after l Word.Epoch) Word.Epoch ks _ (λ e s old other h. epoch_kept e s old other ∙ h) apart k xs l only refl
+
+-- ==== WHAT A SEARCH DOES to hints and offers, where no other actor makes a step: it hints no page but one that was hinted, and offers none but one that was
+-- offered; the page on which it may make a deed, and which it may back, is apart.
+-- ---- A GRAIN THAT ISN'T FREE stays so: the steps put only what they took, and they took only what was free
+step_moves : (s : Step) (a g : ℕ) (bit held : Bool) → is_in lending (kind_of s) ≡ false
+    → ((page word mask : ℕ) → s ≡ Take page word mask → in_mask page word mask g ≡ true → has_bit a (g % 64) ≡ bit)
+    → ((page word mask : ℕ) → s ≡ Put page word mask → in_mask page word mask g ≡ true → held ≡ true) → bit ≡ false → held ≡ false
+    → (free_moved (grain_move s a g) bit ≡ false) × (held_after (grain_move s a g) held ≡ false)
+step_moves s a g bit held lends reads took used word = search (arith, true≢false)
+
+mask_word : (page word mask g : ℕ) → in_mask page word mask g ≡ true → Word.Free page word ≡ free_word_at g
+mask_word page word mask g h = search (arith, eqb-true, false≢true)
+
+module _ (f : Profile) (k : ℕ) (l : Whole) where
+  -- A grain that isn't free stays so, and isn't got, by steps that give and end no block and put back only what they took.
+  pub stays_used : (g : ℕ) (xs : List Made) → Legal f (triples k xs ++ l) → LendsNone xs → Always ReturnsDuly xs → free_bit l g ≡ false
+      → (free_bit (triples k xs ++ l) g ≡ false) × (holds xs g ≡ false)
+  stays_used g [] legal lends due used = (used, refl)
+  stays_used g (m ∷ xs) legal lends due used =
+      let before = stays_used g xs legal.1 lends.1 due.1 used in
+      let moved = step_moves m.step m.answer g (free_bit (triples k xs ++ l) g) (holds xs g) lends.0
+      (λ page word mask is here. ap (λ (n : ℕ). has_bit n (g % 64)) (legal.0.answer_is ∙ (ap (λ (s : Step). word_after (triples k xs ++ l) (target s)) is ∙ ap (word_after (triples k xs ++ l)) (mask_word page word mask g here))))
+      (λ page word mask is here. due.0.1.1 page word mask g is here) before.0 before.1 in
+      (free_step f (triples k xs ++ l) (epoch_of (part k (triples k xs ++ l))) m.step m.answer g legal.0.of_region legal.0.answer_is ∙ moved.0, moved.1)
+
+  -- ---- A GRAIN THAT WAS FREE before the search was read as free: it is free, or the call holds it
+  free_moves : (s : Step) (a g : ℕ) (bit held : Bool) → is_in lending (kind_of s) ≡ false → (bit || held) ≡ true
+      → (free_moved (grain_move s a g) bit || held_after (grain_move s a g) held) ≡ true
+  free_moves (Take page word mask) a g bit held lends h = at (in_mask page word mask g && has_bit a (g % 64))
+    where
+      at : (t : Bool) → (free_moved (if t then Gets else Stays) bit || held_after (if t then Gets else Stays) held) ≡ true
+      at true = refl
+      at false = h
+  free_moves (Put page word mask) a g bit held lends h = at (in_mask page word mask g)
+    where
+      at : (t : Bool) → (free_moved (if t then Puts else Stays) bit || held_after (if t then Puts else Stays) held) ≡ true
+      at true = refl
+      at false = h
+  free_moves (Give block) a g bit held lends h = absurd (true≢false lends)
+  free_moves (End name guess) a g bit held lends h = absurd (true≢false lends)
+  free_moves (EndSized name room) a g bit held lends h = absurd (true≢false lends)
+  free_moves s a g bit held lends h = h
+
+  -- A grain that was free is free or held by its actor, after steps that give and end no block.
+  pub free_or_held : (g : ℕ) (xs : List Made) → Legal f (triples k xs ++ l) → LendsNone xs → free_bit l g ≡ true
+      → (free_bit (triples k xs ++ l) g || holds xs g) ≡ true
+  free_or_held g [] legal lends free = ap (λ (t : Bool). t || false) free
+  free_or_held g (m ∷ xs) legal lends free =
+      ap (λ (t : Bool). t || held_after (grain_move m.step m.answer g) (holds xs g)) (free_step f (triples k xs ++ l) (epoch_of (part k (triples k xs ++ l))) m.step m.answer g legal.0.of_region legal.0.answer_is)
+      ∙ free_moves m.step m.answer g (free_bit (triples k xs ++ l) g) (holds xs g) lends.0 (free_or_held g xs legal.1 lends.1 free)
+
+  word_read : (page word : ℕ) (s : Step) (v : Whole) → ReadsFree page word s → word_after v (target s) ≡ word_after v (Word.Free page word)
+  word_read page word s v ReadsFree.Looks = refl
+  word_read page word s v (ReadsFree.Takes mask) = refl
+
+  -- a reading is of the grain that is free at that moment, or that the call holds
+  shown_is : (page b : ℕ) (r : Readings) (m : Made) (xs : List Made) → Legal f (triples k (m ∷ xs) ++ l) → b < 256 → ShowsHere page (b / 64) r m xs
+      → r b ≡ (free_bit (triples k xs ++ l) (page * 256 + b) || holds xs (page * 256 + b))
+  shown_is page b r m xs legal small s = search (arith, word_read)
+
+  -- A grain that was free is free in each reading of it by steps that give and end no block.
+  pub free_shown : (page b : ℕ) (r : Readings) (xs : List Made) → Legal f (triples k xs ++ l) → LendsNone xs → b < 256 → free_bit l (page * 256 + b) ≡ true
+      → Once (ShowsHere page (b / 64) r) xs → r b ≡ true
+  free_shown page b r [] legal lends small free h = absurd h
+  free_shown page b r (m ∷ xs) legal lends small free (inr h) = free_shown page b r xs legal.1 lends.1 small free h
+  free_shown page b r (m ∷ xs) legal lends small free (inl s) = shown_is page b r m xs legal small s ∙ free_or_held (page * 256 + b) xs legal.1 lends.1 free
+
+  -- .. and the other way round: what was read as free, or was the call's own, was free before the search
+  pub shown_free : (page b : ℕ) (r : Readings) (xs : List Made) → Legal f (triples k xs ++ l) → LendsNone xs → Always ReturnsDuly xs → b < 256
+      → Once (ShowsHere page (b / 64) r) xs → r b ≡ true → free_bit l (page * 256 + b) ≡ true
+  shown_free page b r [] legal lends due small h read = absurd h
+  shown_free page b r (m ∷ xs) legal lends due small (inr h) read = shown_free page b r xs legal.1 lends.1 due.1 small h read
+  shown_free page b r (m ∷ xs) legal lends due small (inl s) read = by_bit (free_bit l (page * 256 + b)) refl
+    where
+      by_bit : (t : Bool) → free_bit l (page * 256 + b) ≡ t → free_bit l (page * 256 + b) ≡ true
+      by_bit true is = is
+      by_bit false is =
+          let used = stays_used (page * 256 + b) xs legal.1 lends.1 due.1 is in
+          absurd (false≢true (sym (shown_is page b r m xs legal small s ∙ or_from (free_bit (triples k xs ++ l) (page * 256 + b)) (holds xs (page * 256 + b)) used.0 used.1) ∙ read))
+
+  -- a grain that was read as free was so before the search
+  read_free : (page word b g : ℕ) (xs : List Made) → Legal f (triples k xs ++ l) → LendsNone xs → Always ReturnsDuly xs → b < 64
+      → free_word_at g ≡ Word.Free page word → g % 64 ≡ b → Once (ReadsAllFree page word) xs → free_bit l g ≡ true
+  read_free page word b g [] legal lends due small at bit h = absurd h
+  read_free page word b g (m ∷ xs) legal lends due small at bit (inr h) = read_free page word b g xs legal.1 lends.1 due.1 small at bit h
+  read_free page word b g (m ∷ xs) legal lends due small at bit (inl h) = by_bit (free_bit l g) refl
+    where
+      read : free_bit (triples k xs ++ l) g ≡ true
+      read =
+          let answer : m.answer ≡ word_after (triples k xs ++ l) (free_word_at g) = legal.0.answer_is ∙ (ap (λ (s : Step). word_after (triples k xs ++ l) (target s)) h.0 ∙ ap (word_after (triples k xs ++ l)) (sym at)) in
+          ap (λ (n : ℕ). has_bit n (g % 64)) (sym answer) ∙ (ap (has_bit m.answer) bit ∙ h.1 b small)
+
+      by_bit : (t : Bool) → free_bit l g ≡ t → free_bit l g ≡ true
+      by_bit true is = is
+      by_bit false is = absurd (false≢true (sym (stays_used g xs legal.1 lends.1 due.1 is).0 ∙ read))
+
+-- ---- steps that back no page but one, and make no deed but of it
+-- whatever it answers, the step doesn't back the page
+abbrev pub KeepsBacked : ℕ → ℕ → Made → List Made → Type 0
+KeepsBacked k q m before = (epoch : ℕ) (es : List Event) → backed_in (with_event (event_of k epoch m.step m.answer) es) q ≡ backed_in es q
+
+module _ (k : ℕ) where
+  other_event : (d : Directory) (page q : ℕ) (o : Option Event) (es : List Event) → page ≢ q → IsShownAt k d page o
+      → backed_in (with_event o es) q ≡ backed_in es q
+  other_event d page q o es ne at = search (arith, ne_eqb)
+
+  -- Steps whose events are at one page back no other.
+  pub at_unbacked : (d : Directory) (page q : ℕ) (xs : List Made) → page ≢ q → EventsAt d page xs → Always (KeepsBacked k q) xs
+  at_unbacked d page q xs ne =
+      always_map _ (KeepsBacked k q) xs (λ m before at epoch es. other_event d page q (event_of k epoch m.step m.answer) es ne (event_at k d page epoch m at))
+
+  -- Steps of a search for whole pages back none.
+  pub seeks_unbacked : (q : ℕ) (xs : List Made) → Only seeking xs → Always (KeepsBacked k q) xs
+  seeks_unbacked q [] kinds = tt
+  seeks_unbacked q (m ∷ xs) kinds = search (arith, true≢false, seeks_unbacked q xs kinds.1)
+
+  deed_there : (d d' : Directory) (page q : ℕ) (e : Event) → IsAtPage k d page e → e ≡ Event.Deed k q d' → page ≡ q
+  deed_there d d' page q e IsAtPage.Deeds is = cc
+  deed_there d d' page q e IsAtPage.Backs is = let bad : Event.Back k page ≡ Event.Deed k q d' = is in cc
+
+  -- They make no deed of another.
+  pub at_bare : (d : Directory) (page q : ℕ) (xs : List Made) → page ≢ q → EventsAt d page xs → Always (MakesNoDeedHere q) xs
+  at_bare d page q xs ne = always_map _ (MakesNoDeedHere q) xs (λ m before at d' is zero.
+      let now : event_of k 0 m.step m.answer ≡ Some (Event.Deed k q d') =
+      ap (λ (s : Step). event_of k 0 s m.answer) is ∙ ap (λ (n : ℕ). if n == 0 then Some (Event.Deed k q d') else None) zero in
+      ne (deed_there d d' page q (Event.Deed k q d') (subst (IsShownAt k d page) now (event_at k d page 0 m at)) refl))
+
+module _ (f : Profile) (k : ℕ) (l : Whole) where
+  backed_same : (q : ℕ) (xs : List Made) → Always (KeepsBacked k q) xs → backed_in (visible (triples k xs ++ l)) q ≡ backed_in (visible l) q
+  backed_same q [] keeps = refl
+  backed_same q (m ∷ xs) keeps = keeps.0 (epoch_of (part k (triples k xs ++ l))) (visible (triples k xs ++ l)) ∙ backed_same q xs keeps.1
+
+  read_backed : (q : ℕ) (xs : List Made) → Legal f (triples k xs ++ l) → Legal f l → Always (KeepsBacked k q) xs → Once (ReadsBacked q) xs
+      → word_after l (Word.Backed q) ≡ 1
+  read_backed q [] legal first keeps h = absurd h
+  read_backed q (m ∷ xs) legal first keeps (inr h) = read_backed q xs legal.1 first keeps.1 h
+  read_backed q (m ∷ xs) legal first keeps (inl h) =
+      let now : word_after (triples k xs ++ l) (Word.Backed q) ≡ 1 = sym (legal.0.answer_is ∙ ap (λ (s : Step). word_after (triples k xs ++ l) (target s)) h.0) ∙ h.1 in
+      backed_of f l first q ∙ (ap word_of_backed (sym (backed_same q xs keeps.1)) ∙ (sym (backed_of f (triples k xs ++ l) legal.1 q) ∙ now))
+
+  -- A PAGE THAT THE SEARCH HINTS was backed and empty before it
+  pub hint_was : (q : ℕ) (xs : List Made) → Legal f (triples k xs ++ l) → Legal f l → LendsNone xs → Always ReturnsDuly xs → Always (KeepsBacked k q) xs
+      → HintsPage q xs → IsEmptyBacked l q
+  hint_was q [] legal first lends due keeps h = absurd h
+  hint_was q (m ∷ xs) legal first lends due keeps (inr h) = hint_was q xs legal.1 first lends.1 due.1 keeps.1 h
+  hint_was q (m ∷ xs) legal first lends due keeps (inl h) =
+      let e : ReadsEmpty q xs = due.0.1.0 q h in record {
+        backed = read_backed q xs legal.1 first keeps.1 (since_once (ReadsBacked q) (TakesNone q) xs e.backed);
+        free = λ g of. read_free f k l q (g / 64 % 4) (g % 64) g xs legal.1 lends.1 due.1 (omega arith) (ap (λ (p : ℕ). Word.Free p (g / 64 % 4)) of) refl (since_once (ReadsAllFree q (g / 64 % 4)) (TakesNone q) xs (e.free (g / 64 % 4) (omega arith)));
+      }
+
+  -- ---- OFFERS: a page whose deed the search doesn't make, and that is offered or was got, was offered before
+  got_by : (p : ℕ) (w : Whole) (s : Step) (a : ℕ) → a ≡ word_after w (target s) → ((x : Directory) → s ≡ Deed p x → a ≡ 0 → ⊥) → GetsRight p s a
+      → (n : ℕ) × (eligible_bit w n p ≡ true)
+  got_by p w s a answer never (GetsRight.Claims x b set) = (number_of x, ap (λ (n : ℕ). has_bit n (p % 64)) (sym answer) ∙ set)
+  got_by p w s a answer never (GetsRight.Deeds x b zero) = absurd (never x refl zero)
+
+  -- A page without a deed made here was offered before the search if the search got it, or if it is offered afterwards.
+  pub was_offered_before : (p : ℕ) (xs : List Made) → Legal f (triples k xs ++ l) → Always ReturnsDuly xs → Always (MakesNoDeedHere p) xs
+      → (Once (GetsHere p) xs → (n : ℕ) × (eligible_bit l n p ≡ true))
+      × ((m : ℕ) → eligible_bit (triples k xs ++ l) m p ≡ true → (n : ℕ) × (eligible_bit l n p ≡ true))
+  was_offered_before p [] legal due never = (λ got. absurd got, λ n bit. (n, bit))
+  was_offered_before p (m ∷ xs) legal due never =
+      let before = was_offered_before p xs legal.1 due.1 never.1 in (
+        search (arith, got_by),
+        λ n bit. elim (offer_one (epoch_of (part k (triples k xs ++ l))) m.step n p (word_after (triples k xs ++ l) (Word.Eligible n (p / 64))) bit) [
+          | inl was ↦ before.1 n was
+          | inr o ↦ before.0 (due.0.0 p (subst (IsReturnOf p) (sym o.1) (IsReturnOf.Offers o.0)))
+        ],
+      )
+
+-- the bit is that of the page's own directory
+pub own_bit : (f : Profile) (l : Whole) (d : Directory) (n q : ℕ) → Legal f l → IsDirectoryOf f d → deed_in (visible l) q ≡ Some d → eligible_bit l n q ≡ true
+    → eligible_bit l (number_of d) q ≡ true
+own_bit f l d n q legal of deed bit =
+    let word : deed_word_of d ≡ deed_word_numbered n = sym (ap word_of_deed deed) ∙ (sym (deed_of f l legal q) ∙ offered_has_deed f l legal n q bit) in
+    ap (λ (m : ℕ). eligible_bit l m q) (number_told d n of.kind word) ∙ bit
