@@ -22,8 +22,8 @@ use Rattle.pas_check.specs.States.{Serves, Stand, Task, Does, Due, Tries, Writes
 use Rattle.pas_check.proofs.Ticks.{epoch_kept}
 use Rattle.pas_accepted.proofs.Flushing.{flush_only, flush_leads, emptied, logs_with, stop_leads, stop_tells}
 use Rattle.pas_accepted.proofs.Remakes.{free_comes, freed_comes, silent_lines, asked_tells, asked_then, remade_comes}
-use Rattle.pas_accepted.proofs.Telling.{LeadsOn, on_as, on_both, lines_by, Comes, Tells, piece_of, told_after, on_line, on_task, emptying, booked_as, logged_as}
-use Rattle.pas_accepted.proofs.Telling.{lines_both, table_at, table_same}
+use Rattle.pas_accepted.proofs.Telling.{LeadsOn, on_as, on_both, lines_by, Comes, Tells, piece_of, told_after, on_line, on_done, on_task, emptying, booked_as}
+use Rattle.pas_accepted.proofs.Telling.{logged_as, lines_both, table_at, table_same}
 use Rattle.pas_accepted.proofs.{Requests.request_leads, Requests.served_plain, Guarding.given_comes, Guarding.lowered_comes, Guarding.thread_comes}
 use Rattle.pas_accepted.proofs.{Passes.pass_comes}
 use Rattle.std.proofs.lemmas.{Bool.false_from_ne_true, Option.none-some}
@@ -60,8 +60,6 @@ module _ (f : Profile) (valid : IsValid f) (p : Progress) (s : Stand) (ts : List
         leads = on_as (ap (λ o. lines_by (rs ++ said_by k o)) is.said_is) (sym (served_plain w k r is.answer (visible (triples k a.steps ++ p.list))))
             (on_both begun (request_leads f valid w k r None p.list a.steps tells.events legal (p.caches k).locals is.answer is.ends truly));
         tells = asked_tells f p s ts tells k r a is legal _;
-        due = refl;
-        left = refl;
       }
 
   -- THE OPERATION
@@ -85,8 +83,6 @@ module _ (f : Profile) (valid : IsValid f) (p : Progress) (s : Stand) (ts : List
         leads = on_as (silent_lines k a.said rs is.1) refl (on_both begun (flush_leads f valid p s tells k (p.caches k).noted a.cache.noted a.steps h legal [] [] ts));
         tells = told_after p s end k a.steps a.cache a.names _ tells refl (tells.names ∙ sym is.2) (logs_with p s k a.cache [] tells (ap (λ (d : Cached). d.log) is.0.cache)) (ap (λ (d : Cached). d.idle_since) is.0.cache) refl refl refl
             (epoch_kept freeing refl k a.steps p.list (flush_only k (p.caches k).log (p.caches k).noted a.cache.noted a.steps h)) (tidy_of Flush is);
-        due = refl;
-        left = refl;
       }
   what_comes Stop is truly begun =
       let end : Stand = emptied p s k a.steps [] [] ts in
@@ -95,8 +91,6 @@ module _ (f : Profile) (valid : IsValid f) (p : Progress) (s : Stand) (ts : List
         end = end;
         leads = on_as (silent_lines k a.said rs is.1) refl (on_both begun (stop_leads f valid p s tells k a.cache a.steps is.0 legal [] ts));
         tells = stop_tells f valid p s tells k a.cache a.steps is.0 legal a.names _ end refl (tells.names ∙ sym is.2) refl refl refl refl;
-        due = refl;
-        left = refl;
       }
   what_comes other is truly begun = absurd is
 
@@ -120,29 +114,25 @@ module _ (f : Profile) (valid : IsValid f) (p : Progress) (s : Stand) (ts : List
 
   woken_comes : (k epoch : ℕ) → s.left ≡ Does (Wakes k) ∷ ts → epoch ≡ word_after p.list Word.Epoch → Comes f s [] (after_wake p k epoch) ts
   woken_comes k epoch left is =
-      let t : Stand = record s { idle_since = with_at s.idle_since k s.epoch; left = ts } in
+      let t : Stand = record s { idle_since = with_at s.idle_since k s.epoch; due = []; left = ts } in
       record {
         end = t;
-        leads = on_task due left;
+        leads = on_done {t = record s { idle_since = with_at s.idle_since k s.epoch; left = ts }} due (on_task due left);
         tells = look_tells k epoch t (with_cache p.caches k (woken (p.caches k) epoch)) p.epoch refl refl (λ j. table_same (λ (d : Cached). d.log) p.caches k (woken (p.caches k) epoch) refl j ∙ tells.logs j)
             (λ j. sym (table_at (λ (d : Cached). d.idle_since) (λ (n : ℕ). n) (j == k) (woken (p.caches k) epoch) (p.caches j) s.epoch (s.idle_since j) (is ∙ sym tells.epoch) (sym (tells.awake j)))) refl refl;
-        due = due;
-        left = refl;
       }
 
   read_comes : (epoch : ℕ) → s.left ≡ Does ReadsEpoch ∷ ts → Comes f s [] (after_reading p epoch) ts
   read_comes epoch left =
-      let t : Stand = record s { left = ts } in
-      record { end = t; leads = on_task due left; tells = look_tells 0 epoch t p.caches epoch refl refl tells.logs tells.awake refl refl; due = due; left = refl }
+      let t : Stand = record s { due = []; left = ts } in
+      record { end = t; leads = on_done {t = record s { left = ts }} due (on_task due left); tells = look_tells 0 epoch t p.caches epoch refl refl tells.logs tells.awake refl refl }
 
   -- ---- what is handed on
   settled_comes : (k : ℕ) → s.left ≡ Does (Settles k) ∷ ts → Comes f s [] (after_settling p k) ts
   settled_comes k left = record {
     end = record s { left = ts };
-    leads = on_task due left;
+    leads = on_done {t = record s { left = ts }} due (on_task due left);
     tells = search (arith, table_same);
-    due = due;
-    left = refl;
   }
 
   -- ---- marks and ticks
@@ -160,8 +150,6 @@ module _ (f : Profile) (valid : IsValid f) (p : Progress) (s : Stand) (ts : List
     end = record s { due = []; left = ts };
     leads = wrote (MarksPhase n) (Record.Phase n) (record s { left = ts }) left (on_task due left);
     tells = same_tells (record s { due = []; left = ts }) _ refl refl refl refl refl refl;
-    due = refl;
-    left = refl;
   }
 
   close_comes : s.left ≡ Does MarksClose ∷ ts → Comes f s (Record.Close ∷ []) (with_records p (Record.Close ∷ [])) ts
@@ -169,8 +157,6 @@ module _ (f : Profile) (valid : IsValid f) (p : Progress) (s : Stand) (ts : List
     end = record s { due = []; left = ts };
     leads = wrote MarksClose Record.Close (record s { left = ts }) left (on_task due left);
     tells = same_tells (record s { due = []; left = ts }) _ refl refl refl refl refl refl;
-    due = refl;
-    left = refl;
   }
 
   tick_comes : (asked answer : ℕ) → s.left ≡ Does (Ticks asked) ∷ ts → answer ≡ word_after p.list Word.Epoch
@@ -184,8 +170,6 @@ module _ (f : Profile) (valid : IsValid f) (p : Progress) (s : Stand) (ts : List
         end = end;
         leads = on_as (ap (λ n. lines_by (Record.Said 0 (Said.Tick n) ∷ [])) (sym same)) refl (wrote (Ticks asked) item t left (on_task due left));
         tells = search (arith, tidy_piece, tick_tidy);
-        due = refl;
-        left = refl;
       }
 
   -- ---- threads are stopped
@@ -198,8 +182,6 @@ module _ (f : Profile) (valid : IsValid f) (p : Progress) (s : Stand) (ts : List
         end = end;
         leads = on_as (ap lines_by (append-nil rs)) refl (on_both (on_task due left) (stop_leads f valid p s tells k c steps h legal [] ts));
         tells = stop_tells f valid p s tells k c steps h legal p.names _ end refl tells.names refl refl refl refl;
-        due = refl;
-        left = refl;
       }
 
   idle_is : (k n : ℕ) → p.epoch ≡ word_after p.list Word.Epoch → IsIdleFor p k n → nat_le (s.idle_since k + n) s.epoch ≡ true
@@ -223,17 +205,14 @@ module _ (f : Profile) (valid : IsValid f) (p : Progress) (s : Stand) (ts : List
         leads = on_as (lines_both rs (stopped k)) refl
             (on_both (on_both begun (stop_leads f valid p s tells k c steps h legal more ts)) (on_line (inr (refl, refl))));
         tells = stop_tells f valid p s tells k c steps h legal p.names _ end refl tells.names refl refl refl refl;
-        due = refl;
-        left = refl;
       }
 
   busy_comes : (k n : ℕ) → p.epoch ≡ word_after p.list Word.Epoch → (IsIdleFor p k n → ⊥) → s.left ≡ Does (StopsIdle k n) ∷ ts → Comes f s [] p ts
   busy_comes k n reads busy left = record {
     end = record s { left = ts };
-    leads = on_as refl (ap (λ t. record (stopping t s k) { left = ts }) (sym (idle_isnt k n reads busy))) (on_task due left);
-    tells = same_tells (record s { left = ts }) p.records refl refl refl refl refl refl;
-    due = due;
-    left = refl;
+    leads = on_done {t = record s { left = ts }} due
+        (on_as refl (ap (λ t. record (stopping t s k) { left = ts }) (sym (idle_isnt k n reads busy))) (on_task due left));
+    tells = same_tells (record s { due = []; left = ts }) p.records refl refl refl refl refl refl;
   }
 
   -- ---- THE ACT

@@ -36,8 +36,8 @@ use Rattle.pas_check.proofs.Ticks.{epoch_kept}
 use Rattle.pas_accepted.proofs.Telling.{LeadsOn, on_as, on_both, on_line, on_same, on_task, AreBooked, booked_raise, booked_sweep, going, going_told, guards_of}
 use Rattle.pas_accepted.proofs.Telling.{raised_by, lines_both, lines_by, lines_more, visible_piece, logged_as, Comes, Tells}
 use Rattle.pas_accepted.proofs.Remakes.{asked_tells, asked_then}
-use Rattle.pas_accepted.proofs.Requests.{all_deeds, all_prepared, deed_known, kind_asked, request_leads, served, served_plain}
-use Rattle.pas_accepted.proofs.Sweeps.{IsSwept, lowered_are, lowered_lead, swept_is}
+use Rattle.pas_accepted.proofs.Requests.{all_deeds, all_prepared, deed_known, kind_asked, request_leads, served_plain, IsSwept, lowered_are, lowered_lead}
+use Rattle.pas_accepted.proofs.Requests.{swept_is}
 
 -- ---- the lines of a sweep
 -- the guards that stay up
@@ -76,8 +76,6 @@ module _ (f : Profile) (valid : IsValid f) (p : Progress) (s : Stand) (ts : List
           books = booked_sweep p.books s.events keeper true s.guards [] swept.stay tells.books;
           tidy = tidy_piece keeper steps p.list tells.tidy (sweep_tidy f keeper true (p.books keeper) [] said steps (part keeper p.list) h.sweep (tells.tidy keeper));
         };
-        due = refl;
-        left = refl;
       }
 
 -- ---- the keeper's own lines
@@ -325,8 +323,6 @@ module _ (f : Profile) (valid : IsValid f) (p : Progress) (s : Stand) (ts : List
             (guarded_leads f valid w keeper k r l1 is.raised shown raised_legal block ends (sides_are f (large_directory r.heap) keeper n is.left t.guards is.raise.searched is.raise.after block h)));
         tells = tried_tells (named r.name (Some block) ∷ p.names) end _ refl (ap (λ ns. record { name = r.name; block = Some block } ∷ ns) tells.names) refl refl refl
             (search (arith, guard_is));
-        due = refl;
-        left = refl;
       }
 
   -- ---- it gave none, and the thread is served
@@ -370,6 +366,4 @@ module _ (f : Profile) (valid : IsValid f) (p : Progress) (s : Stand) (ts : List
               (on_both none_leads
               (request_leads f valid s1 k r None p1.list a.steps refl answered_legal (p1.caches k).locals so.answer so.ends truly));
           tells = asked_tells f p1 s1 ts none_tells k r a so answered_legal _;
-          due = refl;
-          left = refl;
         }

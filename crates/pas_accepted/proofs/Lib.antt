@@ -4,8 +4,6 @@ mod Passes
 mod Requests
 mod Remakes
 mod Acts
-mod Sweeps
 mod Guarding
 pub mod Whole
-mod Reports
 pub mod OnePlan

@@ -265,29 +265,20 @@ set_falls n value (suc m) = set_more (has_bit value m) n m (pages_set n value m)
 same_head : {A : Type 0} {x y : A} {xs ys : List A} → x ∷ xs ≡ y ∷ ys → x ≡ y
 same_head same = cc
 
-same_tail : {A : Type 0} {x y : A} {xs ys : List A} → x ∷ xs ≡ y ∷ ys → xs ≡ ys
-same_tail same = cc
-
-no_element : {A : Type 0} {x : A} {xs : List A} → x ∷ xs ≡ [] → ⊥
-no_element same = cc
-
-no_list : {A : Type 0} {x : A} {xs : List A} → [] ≡ x ∷ xs → ⊥
-no_list same = cc
-
 -- The pages of a pass are tried upwards, each once, and each outcome may come.
 pub words_pass : (f : Profile) → IsValid f → (s : Stand) (l : Whole) (n : ℕ) (words : List WordRead) (steps : List Made) → MayPass s l
     → Legal f (triples 0 steps ++ l) → map (λ w. w.number) words ≡ numbers_below n
     → InTurn (WordSteps f.age s.epoch) words steps → Passed f s l 0 (64 * n) (outcomes_in (all_tried words)) steps
 words_pass f valid s l zero [] steps may legal numbers h = none_passed f s l 0 (64 * 0) steps (λ x le some. some) h
-words_pass f valid s l zero (w ∷ words) steps may legal numbers h = absurd (no_element numbers)
-words_pass f valid s l (suc n) [] steps may legal numbers h = absurd (no_list numbers)
+words_pass f valid s l zero (w ∷ words) steps may legal numbers h = absurd (cc)
+words_pass f valid s l (suc n) [] steps may legal numbers h = absurd (cc)
 words_pass f valid s l (suc n) (w ∷ words) steps may legal numbers h =
     let piece : List Made = h.0 in
     let before : List Made = h.1 in
     let look : List Made = made (Look (Word.Empty w.number)) w.value ∷ [] in
     let after : List Made = h.2.after in
     let whole : Legal f (triples 0 (piece ++ before) ++ l) = subst (λ ms. Legal f (triples 0 ms ++ l)) h.4 legal in
-    let old : Passed f s l 0 (64 * n) (outcomes_in (all_tried words)) before = words_pass f valid s l n words before may (legal_earlier f 0 piece before l whole) (same_tail numbers) h.3 in
+    let old : Passed f s l 0 (64 * n) (outcomes_in (all_tried words)) before = words_pass f valid s l n words before may (legal_earlier f 0 piece before l whole) (cc) h.3 in
     let l1 : Whole = triples 0 before ++ l in
     let l2 : Whole = triples 0 look ++ l1 in
     let there : triples 0 piece ++ l1 ≡ triples 0 after ++ l2 = ap (λ ms. triples 0 ms ++ l1) h.2.steps_are ∙ both_pieces 0 after look l1 in
@@ -342,8 +333,6 @@ module _ (f : Profile) (valid : IsValid f) (p : Progress) (s : Stand) (ts : List
           books = tells.books;
           tidy = tidy_piece 0 steps p.list tells.tidy (tidy_over passing refl steps (part 0 p.list) h.kinds (tells.tidy 0));
         };
-        due = refl;
-        left = refl;
       }
 
   -- THE PASS

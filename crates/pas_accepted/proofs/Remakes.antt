@@ -52,8 +52,6 @@ comes_after f s u q ts before {rs} led come = record {
   end = come.end;
   leads = on_as (lines_both before rs) refl (on_both led come.leads);
   tells = come.tells;
-  due = come.due;
-  left = come.left;
 }
 
 module _ (f : Profile) (valid : IsValid f) (p : Progress) (s : Stand) (ts : List Task) (tells : Tells p s) (k : ℕ) (a : Answer) (names : a.names ≡ p.names)
@@ -67,8 +65,6 @@ module _ (f : Profile) (valid : IsValid f) (p : Progress) (s : Stand) (ts : List
         leads = on_as (ap (λ ms. lines_by (records_of (events_by k (part k p.list) ms) ++ said_by k a.said)) none ∙ ap (λ o. lines_by (said_by k o)) is) refl (on_both begun (on_line (inr (refl, refl))));
         tells = told_after p s t k a.steps a.cache a.names _ tells (tells.events ∙ ap (λ ms. visible (triples k ms ++ p.list)) (sym none)) (tells.names ∙ sym names)
             (λ j. table_same (λ (d : Cached). d.log) p.caches k a.cache (ap (λ (d : Cached). d.log) cache) j ∙ tells.logs j) (ap (λ (d : Cached). d.idle_since) cache) refl refl refl (ap (λ ms. word_after (triples k ms ++ p.list) Word.Epoch) none) tidy;
-        due = refl;
-        left = refl;
       }
 
   -- ---- it is logged
@@ -83,8 +79,6 @@ module _ (f : Profile) (valid : IsValid f) (p : Progress) (s : Stand) (ts : List
         leads = on_as (silent_lines k a.said rs silent) refl (flush_leads f valid p s tells k (p.caches k).noted a.cache.noted a.steps h.0 legal (entry ∷ []) [] ts);
         tells = told_after p s t k a.steps a.cache a.names _ tells refl (tells.names ∙ sym names) (logs_with p s k a.cache (entry ∷ []) tells (log ∙ ap (λ es. es ++ logged_as entry ∷ []) h.1)) idle refl refl refl
             (epoch_kept freeing_kinds refl k a.steps p.list (flush_only k (p.caches k).log (p.caches k).noted a.cache.noted a.steps h.0)) tidy;
-        due = refl;
-        left = refl;
       }
   logged_comes false entry kept h log idle silent =
       let more : List Known = s.logs k ++ entry ∷ [] in
@@ -95,8 +89,6 @@ module _ (f : Profile) (valid : IsValid f) (p : Progress) (s : Stand) (ts : List
         leads = on_as (silent_lines k a.said rs silent ∙ ap (λ ms. lines_by (records_of (events_by k (part k p.list) ms))) h.0) refl (on_same refl);
         tells = told_after p s t k a.steps a.cache a.names _ tells (tells.events ∙ ap (λ ms. visible (triples k ms ++ p.list)) (sym h.0)) (tells.names ∙ sym names)
             (logs_with p s k a.cache more tells (log ∙ ap (λ es. es ++ logged_as entry ∷ []) (h.1 ∙ tells.logs k) ∙ sym (map-append logged_as (s.logs k) (entry ∷ [])))) idle refl refl refl (ap (λ ms. word_after (triples k ms ++ p.list) Word.Epoch) h.0) tidy;
-        due = refl;
-        left = refl;
       }
 
   -- ---- a free of a block
@@ -179,8 +171,6 @@ module _ (f : Profile) (valid : IsValid f) (p : Progress) (s : Stand) (ts : List
         leads = on_as (ap (λ ms. lines_by (records_of (events_by k (part k p.list) ms) ++ said_by k a.said)) none ∙ ap (λ o. lines_by (said_by k o)) is) refl (on_both begun (on_line (inr (refl, refl))));
         tells = told_after p s t k a.steps a.cache a.names _ tells (tells.events ∙ ap (λ ms. visible (triples k ms ++ p.list)) (sym none)) (ap (λ ns. record { name = name; block = found } ∷ ns) tells.names ∙ sym names)
             (λ j. table_same (λ (d : Cached). d.log) p.caches k a.cache (ap (λ (d : Cached). d.log) cache) j ∙ tells.logs j) (ap (λ (d : Cached). d.idle_since) cache) refl refl refl (ap (λ ms. word_after (triples k ms ++ p.list) Word.Epoch) none) tidy;
-        due = refl;
-        left = refl;
       }
 
   -- ---- another block in its place
@@ -227,8 +217,6 @@ module _ (f : Profile) (valid : IsValid f) (p : Progress) (s : Stand) (ts : List
           end = s1;
           leads = on_as (λ i. lines_by (records_of (events_by k (part k p.list) (steps i)) ++ said_by k (said i))) refl leads;
           tells = tells_as _ _ _ _ _ _ p.epoch p.epoch [] _ s1 names_are (ap (with_cache p.caches k) cache) (ap (λ ms. triples k ms ++ p.list) steps) (asked_tells f p s ts tells k r placed is legal_placed []);
-          due = refl;
-          left = refl;
         }
 
     -- it was served, and the old name was logged
@@ -278,10 +266,8 @@ module _ (f : Profile) (valid : IsValid f) (p : Progress) (s : Stand) (ts : List
         record {
           end = come.end;
           leads = on_as (ap lines_by (lines_are (said_is ∙ is.said_is ∙ none) none)) refl come.leads;
-          tells = tells_as _ _ _ _ _ _ p1.epoch p.epoch _ _ come.end names_are (sym (twice_cached p.caches k placed.cache a.cache))
+          tells = tells_as _ _ _ _ _ _ p1.epoch p.epoch _ _ _ names_are (sym (twice_cached p.caches k placed.cache a.cache))
               (ap (λ ms. triples k ms ++ p.list) steps_are ∙ sym (triples_append k freed placed.steps p.list)) come.tells;
-          due = come.due;
-          left = come.left;
         }
 
     -- THE REQUEST in its place, as it was answered

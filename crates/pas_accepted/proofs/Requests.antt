@@ -1,33 +1,40 @@
--- A request: deeds and backs, and then the give of its block or a refusal, which is true.
+-- Requests: deeds and backs, and then the give of its block or a refusal, which is true; and the sweep before one that is guarded.
 use Rattle.std.proofs.Common.{arith, ◌≡◌, ℕ, ◌/◌, Bool, true, false, List, [], ◌∷◌, ◌++◌, Option, Some, None, Result, Ok, Err, inl, inr, refl, ap, sym, ◌∙◌}
-use Rattle.std.proofs.Common.{subst, append-nil, MatchResult}
+use Rattle.std.proofs.Common.{subst, append-nil, MatchResult, ◌%◌, ◌||◌, map}
 use Rattle.std.specs.List.{AllByRecursion}
 use Rattle.pas_bits.specs.Runs.{in_run}
 use Rattle.pas_profile.specs.{Blocks.grain_of, Blocks.length_of, Directories.IsKind, Directories.deed_word_of, Profiles.IsValid, Requests.is_shared}
-use Rattle.pas_profile.specs.{Requests.kind_of_route, Requests.route_in}
+use Rattle.pas_profile.specs.{Requests.kind_of_route, Requests.route_in, Blocks.address_of, Lives.turn_of}
 use Rattle.pas_profile.specs.declared.{directory.Directory.Directory, directory.Route.Route, event.Event.Event, event.NoRoom.NoRoom}
 use Rattle.pas_profile.specs.declared.{event.NoRoom.TheVariants.Held, event.NoRoom.TheVariants.NoSpace, name.Block.Block, name.Name.Name}
 use Rattle.pas_profile.specs.declared.{profile.Profile.Profile, word.Word.Word}
 use Rattle.pas_profile.proofs.{ClassFacts.class_known, ClassFacts.class_suits, Codecs.deed_word_of-positive, Codecs.same_from_deed_word}
-use Rattle.pas_machine.specs.{Machine.Run, State.deed_in}
+use Rattle.pas_machine.specs.Machine.{Run}
+use Rattle.pas_machine.specs.State.{deed_in, ends_in, gives_in, live_in}
 use Rattle.pas_core.specs.Good.{word_of_deed}
-use Rattle.pas_core.proofs.{Deeds.deed_of, Deeds.directory_is_of, Deeds.known_is, MachineRuns.runs, Rights.deeds_known}
-use Rattle.pas_steps.specs.{Desks.triples, Events.actor_of, Events.events_by, Views.KnowsDeed}
+use Rattle.pas_core.proofs.{Deeds.deed_of, Deeds.directory_is_of, Deeds.known_is, MachineRuns.runs, Rights.deeds_known, Lives.life_at, Lives.turn_is}
+use Rattle.pas_core.proofs.{OneActor.legal_earlier}
+use Rattle.pas_steps.specs.{Desks.triples, Events.actor_of, Events.events_by, Views.KnowsDeed, Effects.life_word_at, Kinds.LookLife}
 use Rattle.pas_steps.specs.Lists.{Legal, Whole, part, visible, word_after}
 use Rattle.pas_steps.specs.declared.step.Made.{Made}
-use Rattle.pas_steps.proofs.{Events.events_own, Parts.part_of_own}
+use Rattle.pas_steps.proofs.{Events.events_own, Parts.part_of_own, Adding.triples_append, Apart.no_events}
 use Rattle.pas_search.specs.Telling.{IsTrueReason}
 use Rattle.pas_cache.specs.{Refusals.IsTrulyRefused, Refusals.IsTrulyRefusedBy, Serves.IsDeedOf, Serves.Wanted, Serves.IsPreparing as Prepares}
 use Rattle.pas_segregated.specs.declared.slots.Slots.{Slots}
 use Rattle.pas_report.specs.declared.record.{Record.Record, Said.Said}
 use Rattle.pas_trace.specs.declared.item.Request.{Request}
 use Rattle.pas_answers.specs.Answers.{IsGiven, RefusalEnds, RequestEnds, block_of, records_of, said_by, said_of_request, said_of_room, wanted_by}
-use Rattle.pas_check.specs.Begins.{is_full, logging, replacing, unsized}
+use Rattle.pas_check.specs.Begins.{is_full, logging, replacing, unsized, lowered_due, lowered_record}
 use Rattle.pas_check.specs.{Calls.after_request, Takes.IsPreparing, Takes.IsRefusal, Takes.directory_of}
 use Rattle.pas_check.specs.States.{Due, Serves, Stand, with_due, with_name}
-use Rattle.pas_check.specs.declared.entry.Entry.{Entry}
-use Rattle.pas_accepted.proofs.Telling.{LeadsOn, on_as, on_both, on_line, on_same, lines_both, lines_by, lines_more, visible_piece}
+use Rattle.pas_check.specs.declared.{entry.Entry.Entry, guard.Guard.Guard as Known}
+use Rattle.pas_accepted.proofs.Telling.{LeadsOn, on_as, on_both, on_line, on_same, lines_both, lines_by, lines_more, visible_piece, AreAligned, going, is_down}
+use Rattle.pas_accepted.proofs.Telling.{raised_by, staying}
+use Rattle.pas_rights.specs.PutsBack.{giving_back}
+use Rattle.pas_guard.specs.Sweeps.{Swept, SweptOne, is_over, life_look, lowered_record as lowered_by}
+use Rattle.pas_guard.specs.declared.book.Guard.{Guard}
 
+-- ---- A request: deeds and backs, and then the give of its block or a refusal, which is true
 -- ---- the directory of a request
 kind_routed : (f : Profile) (size align : ℕ) (shared : Bool) (route : Route) → route_in f size align ≡ route → IsKind (kind_of_route shared route)
 kind_routed f size align true (Route.Class class) is = tt
@@ -161,3 +168,68 @@ module _ (f : Profile) (valid : IsValid f) (w : Stand) (k : ℕ) (r : Request) (
       → LeadsOn f (serving w k r replaced w.events) (lines_by (records_of (events_by k (part k l) steps) ++ said_by k (said_of_request r.name answer))) (served w k r replaced answer (visible (triples k steps ++ l)))
   request_leads locals (Ok block) ends truly = given_leads block ends
   request_leads locals (Err room) ends truly = refused_leads room ends (reason_by (wanted_by f r).route f (wanted_by f r) locals l (triples k steps ++ l) room truly)
+
+-- ---- A keeper's sweep lowers just the guards whose blocks have ended, or all; and it makes no event
+-- ---- their lines
+pub lowered_lead : (f : Profile) (u : Stand) (guards : List Known) (more : List Due)
+    → LeadsOn f (record u { due = map lowered_due guards ++ more }) (lines_by (map lowered_record guards)) (record u { due = more })
+lowered_lead f u [] more = on_same refl
+lowered_lead f u (guard ∷ guards) more = on_both (on_line (inr (refl, refl))) (lowered_lead f u guards more)
+
+-- the records are those of the check
+pub lowered_are : (keeper : ℕ) (guards : List Guard) → map (lowered_by keeper) guards ≡ map lowered_record (map (raised_by keeper) guards)
+lowered_are keeper [] = refl
+lowered_are keeper (guard ∷ guards) = ap (λ (rs : List Record). lowered_by keeper guard ∷ rs) (lowered_are keeper guards)
+
+-- ---- what goes down
+-- of a guard that is in both lists or in neither the rest decides
+one_is : (es : List Event) (all t : Bool) (k : ℕ) (guard : Guard) (guards : List Guard) (first : List Made) (kept after : List Guard) (said more : List Record)
+    → t ≡ is_down es all guard → SweptOne t k guard first kept after said more
+    → after ≡ staying es all guards → more ≡ map (lowered_by k) (going es all guards)
+    → (kept ≡ staying es all (guard ∷ guards)) × (said ≡ map (lowered_by k) (going es all (guard ∷ guards)))
+one_is es all true k guard guards first kept after said more down one stay go = search arith
+one_is es all false k guard guards first kept after said more down one stay go = search arith
+
+pub record IsSwept (es : List Event) (k : ℕ) (all : Bool) (guards kept : List Guard) (said : List Record) (steps : List Made) (l : Whole) : Type 0 where
+  pub stay : kept ≡ staying es all guards
+  pub go : said ≡ map (lowered_by k) (going es all guards)
+  pub shown : visible (triples k steps ++ l) ≡ es
+
+module _ (f : Profile) (valid : IsValid f) (k : ℕ) where
+  -- the life word of a guard's block tells how many blocks ended at its address
+  word_tells : (l : Whole) (guard : Guard) (word : ℕ) → Legal f (triples k (life_look guard word) ++ l) → address_of guard.block.name % 16 ≡ 0
+      → turn_of word ≡ ends_in (visible l) (address_of guard.block.name)
+  word_tells l guard word legal aligned =
+      let a : ℕ = address_of guard.block.name in
+      let page : a / 4096 ≡ a / 16 / 256 = omega arith in
+      let grain : a % 4096 / 16 ≡ a / 16 % 256 = omega arith in
+      let here : word ≡ word_after l (life_word_at (a / 16)) = legal.0.answer_is ∙ (λ i. word_after l (Word.Life (page i) (grain i))) in
+      ap turn_of here
+      ∙ turn_is f (a / 16) (word_after l (life_word_at (a / 16))) (live_in (visible l) a) (gives_in (visible l) a) (ends_in (visible l) a) (life_at f l valid legal.1 a aligned)
+
+  -- looks and what is given back are no events
+  quiet_one : (t : Bool) (guard : Guard) (first : List Made) (kept after : List Guard) (said more : List Record) (word : ℕ) (l : Whole)
+      → SweptOne t k guard first kept after said more → visible (triples k (first ++ life_look guard word) ++ l) ≡ visible l
+  quiet_one true guard first kept after said more word l one =
+      ap visible (sym (triples_append k first (life_look guard word) l)) ∙ visible_piece k first (triples k (life_look guard word) ++ l)
+      ∙ ap (λ (es : List Event). es ++ visible (triples k (life_look guard word) ++ l)) (no_events giving_back refl k (part k (triples k (life_look guard word) ++ l)) first one.0.kinds)
+      ∙ visible_piece k (life_look guard word) l ∙ ap (λ (es : List Event). es ++ visible l) (no_events (LookLife ∷ []) refl k (part k l) (life_look guard word) (refl, tt))
+  quiet_one false guard first kept after said more word l one = search (arith, visible_piece, no_events)
+
+  -- THE SWEEP
+  pub swept_is : (all : Bool) (guards kept : List Guard) (said : List Record) (steps : List Made) (l : Whole) (es : List Event) → visible l ≡ es
+      → AreAligned guards → Swept all k guards kept said steps → Legal f (triples k steps ++ l)
+      → IsSwept es k all guards kept said steps l
+  swept_is all [] kept said steps l es shown aligned h legal = record { stay = h.0; go = h.1; shown = ap (λ (ms : List Made). visible (triples k ms ++ l)) h.2 ∙ shown }
+  swept_is all (guard ∷ guards) kept said steps l es shown aligned h legal =
+      let word : ℕ = h.0 in
+      let first : List Made = h.1 in
+      let rest : List Made = h.2 in
+      let look : List Made = life_look guard word in
+      let all_legal : Legal f (triples k (rest ++ (first ++ look)) ++ l) = subst (λ (ms : List Made). Legal f (triples k ms ++ l)) h.7 legal in
+      let first_legal : Legal f (triples k (first ++ look) ++ l) = legal_earlier f k rest (first ++ look) l all_legal in
+      let look_legal : Legal f (triples k look ++ l) = legal_earlier f k first look l first_legal in
+      let l2 : Whole = triples k (first ++ look) ++ l in
+      let quiet : visible l2 ≡ es = quiet_one (all || is_over guard word) guard first kept h.3 said h.4 word l h.5 ∙ shown in
+      let more = swept_is all guards h.3 h.4 rest l2 es quiet aligned.1 h.6 (subst (Legal f) (sym (triples_append k rest (first ++ look) l)) all_legal) in
+      search (arith, word_tells, one_is, triples_append)

@@ -6,7 +6,7 @@ use Rattle.pas_check.specs.{Accepted.IsDone, Accepted.IsWhole, Takes.Takes, Take
 use Rattle.pas_check.specs.Begins.{after_task, flushing, past_outcomes, ready, ready_with, goes_down}
 use Rattle.pas_check.specs.declared.{entry.Entry.Entry as KnownEntry, guard.Guard.Guard as Known}
 use Rattle.pas_check.specs.States.{Due, Examines, Stand, Task, with_due}
-use Rattle.pas_check.proofs.{Beginnings.begun_alike, Goings.at_first, Goings.by_none}
+use Rattle.pas_check.proofs.{ActsOfPlans.begun_alike, Leads.at_first, Leads.by_none}
 use Rattle.std.proofs.lemmas.{Bool.cases_eq, Bool.eqb-false, Bool.false≢true, List.map-append, List.reverse-append}
 use Rattle.pas_steps.specs.{Desks.triples, Events.event_of, Events.events_by, Events.with_event, Views.epoch_of}
 use Rattle.pas_steps.specs.Lists.{Whole, part, visible, Legal, word_after}
@@ -51,6 +51,10 @@ module _ {f : Profile} {s : Stand} where
   -- Lines lead on by whatever names they and the state have.
   pub on_as : {t u : Stand} {xs ys : List (List ℕ)} → ys ≡ xs → u ≡ t → LeadsOn f s xs t → LeadsOn f s ys u
   on_as {u = u} {xs = xs} lines same a = subst (λ (ls : List (List ℕ)). LeadsOn f s ls u) (sym lines) (subst (λ (x : Stand). LeadsOn f s xs x) (sym same) a)
+
+  -- Where nothing is due, that is what is led on to.
+  pub on_done : {t : Stand} {lines : List (List ℕ)} → t.due ≡ [] → LeadsOn f s lines t → LeadsOn f s lines (with_due t [])
+  on_done {t = t} due led = on_as refl (ap (with_due t) (sym due)) led
 
   -- a task is begun without a line
   pub on_task : {t : Task} {ts : List Task} → s.due ≡ [] → s.left ≡ t ∷ ts → LeadsOn f s [] (after_task f s t ts)
@@ -314,10 +318,8 @@ pub record Tells (p : Progress) (s : Stand) : Type 0 where
 -- The lines of these records lead on to a state in which nothing is due, these tasks are left, and what is known is what the replay has come to.
 pub record Comes (f : Profile) (s : Stand) (rs : List Record) (q : Progress) (ts : List Task) : Type 0 where
   pub end : Stand
-  pub leads : LeadsOn f s (lines_by rs) end
-  pub tells : Tells q end
-  pub due : end.due ≡ []
-  pub left : end.left ≡ ts
+  pub leads : LeadsOn f s (lines_by rs) (record end { due = []; left = ts })
+  pub tells : Tells q (record end { due = []; left = ts })
 
 -- the steps of a piece are of the region
 pub piece_of : (f : Profile) (k : ℕ) (steps : List Made) (l : Whole) → Legal f (triples k steps ++ l) → AreOfRegion f steps

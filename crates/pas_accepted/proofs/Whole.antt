@@ -1,8 +1,8 @@
--- Every transcript of a replay in the order of the text is accepted.
+-- Every transcript of a replay in the order of the text is accepted, its report line by line.
 use Rattle.std.proofs.Common.{arith, ◌≡◌, ℕ, ◌+◌, Bool, true, false, List, [], ◌∷◌, ◌++◌, inl, inr, refl, ap, sym, ◌∙◌, subst, append_assoc, true≢false, map}
-use Rattle.std.proofs.Common.{Option, None, Some, append-nil}
+use Rattle.std.proofs.Common.{Option, None, Some, append-nil, zero, suc, ◌≤◌, codes}
 use Rattle.pas_profile.specs.declared.{profile.Profile.Profile, word.Word.Word, event.Event.Event, event.Outcome.Outcome, name.Block.Block, name.Name.Name}
-use Rattle.pas_profile.specs.declared.{event.Outcome.TheVariants.Unbacked}
+use Rattle.pas_profile.specs.declared.{event.Outcome.TheVariants.Unbacked, directory.Directory.Directory}
 use Rattle.pas_steps.specs.Lists.{Legal, word_after, Whole, visible}
 use Rattle.pas_trace.specs.Acts.{Act, Guards, ReadsEpoch, Settles, StopsIdle, Wakes, Ends, Lowers, act_kept, acts_from, acts_of, acts_of_chore, acts_of_op}
 use Rattle.pas_trace.specs.Acts.{acts_of_ops, acts_of_work, close_acts, idle_stops, numbers_from, phase_acts, Operates}
@@ -11,23 +11,123 @@ use Rattle.pas_trace.specs.declared.{plan.Chore.Chore, plan.Op.Op, plan.Work.Wor
 use Rattle.pas_trace.specs.declared.{plan.What.TheVariants.FreeSized, plan.Plan.Plan}
 use Rattle.pas_free_log.specs.Frames.{freeing}
 use Rattle.pas_answers.specs.{Answers.Progress, Reaching.Advances, Reaching.Reaches, Refusals.AllRefuseTruly, Ways.InOrder}
-use Rattle.pas_check.proofs.{Ticks.epoch_kept, Cuts.cut_records}
-use Rattle.pas_accepted.proofs.{Acts.IsInPlace, Acts.Written, Acts.act_written, Flushing.stop_only, Reports.cut_report, Reports.report_lines}
-use Rattle.pas_accepted.proofs.{Reports.report_whole}
-use Rattle.pas_machine.specs.Machine.{Admits, Bears}
+use Rattle.pas_check.proofs.Ticks.{epoch_kept}
+use Rattle.pas_check.proofs.Cuts.{cut_records, cut_line, kind_first, number_first, totals_end}
+use Rattle.pas_accepted.proofs.{Acts.IsInPlace, Acts.Written, Acts.act_written, Flushing.stop_only}
+use Rattle.pas_machine.specs.{Machine.Admits, Machine.Bears, State.deed_in, State.epoch_in}
 use Rattle.pas_trace.specs.Named.{standing_for}
-use Rattle.pas_check.specs.{Accepted.Goes, Accepted.IsWhole, Accepted.IsAccepted, Lines.lines_in}
+use Rattle.pas_check.specs.{Accepted.Goes, Accepted.IsWhole, Accepted.IsAccepted, Lines.lines_in, Lines.is_line}
 use Rattle.pas_check.specs.Begins.{after_task, begun, begun_act, begun_from, begun_what, freeing_named, past_outcomes, ready, ready_with, settled_with}
-use Rattle.pas_check.specs.States.{Due, Frees, Serves, Tries, Examines, Stand, Task, Does, Reports, with_due, at_first}
-use Rattle.pas_check.specs.Takes.{IsFor, MayCome, Takes, TakesDue, TakesFirst, TakesOutcome, TakesRequest, serving}
+use Rattle.pas_check.specs.Begins.{page_due, pages_due}
+use Rattle.pas_check.specs.States.{Due, Frees, Serves, Tries, Examines, Stand, Task, Does, Reports, with_due, at_first, Heads, Shows, Totals}
+use Rattle.pas_check.specs.Takes.{IsFor, MayCome, Takes, TakesDue, TakesFirst, TakesOutcome, TakesRequest, serving, AreAllowedMarks, head_line}
 use Rattle.pas_profile.specs.Profiles.{IsValid}
 use Rattle.pas_core.proofs.OneActor.{legal_before}
-use Rattle.pas_report.specs.{Lines.lines_of, Marks.Marked, Marks.marks_after, Reports.report_text, Rests.AreTrueMarks}
+use Rattle.pas_report.specs.{Lines.lines_of, Marks.Marked, Marks.marks_after, Rests.AreTrueMarks, Marks.marks_text}
+use Rattle.pas_report.specs.Reports.{report_text, live_on, machine_page, machine_pages, page_text, total_line, uncovered_on}
 use Rattle.pas_report.specs.declared.record.Record.{Record}
 use Rattle.pas_answers.specs.Replays.{IsReplay, acts_of_plan, at_start, keepers_of, phases_of, region_of, threads_of}
 use Rattle.pas_answers.proofs.Reached.{was_so}
-use Rattle.pas_accepted.proofs.Telling.{on_as, on_both, on_same, lines_both, lines_by, Comes, Tells}
+use Rattle.pas_accepted.proofs.Telling.{on_as, on_both, on_same, lines_both, lines_by, Comes, Tells, LeadsOn, on_line, on_task}
+use Rattle.pas_machine.specs.Totals.{backed_total, deeds_total, ended_total, given_total, live_total}
 
+-- ---- The report of a replay is allowed line by line
+-- ---- its lines
+abbrev page_line : List Event → ℕ → Option Directory → Marked → List (List ℕ)
+page_line es page None m = []
+page_line es page (Some d) m = machine_page es page (Some d) m ∷ []
+
+abbrev page_lines : List Event → (ℕ → Marked) → ℕ → List (List ℕ)
+page_lines es marks zero = []
+page_lines es marks (suc n) = page_lines es marks n ++ page_line es (suc n) (deed_in es (suc n)) (marks (suc n))
+
+abbrev pub report_lines : Profile → List Event → (ℕ → Marked) → List (List ℕ)
+report_lines f es marks = head_line ∷ (page_lines es marks f.pages ++ total_line f es ∷ [])
+
+marks_end : (b o p h : Bool) → is_line (marks_text record { backed = b; offered = o; parked = p; hinted = h } ++ codes "\n") ≡ true
+marks_end true true true true = refl
+marks_end true true true false = refl
+marks_end true true false true = refl
+marks_end true true false false = refl
+marks_end true false true true = refl
+marks_end true false true false = refl
+marks_end true false false true = refl
+marks_end true false false false = refl
+marks_end false true true true = refl
+marks_end false true true false = refl
+marks_end false true false true = refl
+marks_end false true false false = refl
+marks_end false false true true = refl
+marks_end false false true false = refl
+marks_end false false false true = refl
+marks_end false false false false = refl
+
+page_ends : (page : ℕ) (d : Directory) (live free stamp : ℕ) (m : Marked) → is_line (page_text page d live free stamp m) ≡ true
+page_ends page d live free stamp m = search (arith, number_first, kind_first, marks_end)
+
+cut_page : (es : List Event) (page : ℕ) (o : Option Directory) (m : Marked) (rest : List ℕ)
+    → lines_in (machine_page es page o m ++ rest) ≡ page_line es page o m ++ lines_in rest
+cut_page es page None m rest = refl
+cut_page es page (Some d) m rest = cut_line (machine_page es page (Some d) m) rest (page_ends page d (live_on es page) (uncovered_on es page) (epoch_in es page) m)
+
+cut_pages : (es : List Event) (marks : ℕ → Marked) (n : ℕ) (rest : List ℕ)
+    → lines_in (machine_pages es marks n ++ rest) ≡ page_lines es marks n ++ lines_in rest
+cut_pages es marks zero rest = refl
+cut_pages es marks (suc n) rest =
+    let page : List ℕ = machine_page es (suc n) (deed_in es (suc n)) (marks (suc n)) in
+    ap lines_in (append_assoc (machine_pages es marks n) page rest) ∙ cut_pages es marks n (page ++ rest) ∙ ap (λ ls. page_lines es marks n ++ ls) (cut_page es (suc n) (deed_in es (suc n)) (marks (suc n)) rest)
+    ∙ sym (append_assoc (page_lines es marks n) (page_line es (suc n) (deed_in es (suc n)) (marks (suc n))) (lines_in rest))
+
+-- The lines of a report are the report's own, one by one.
+pub cut_report : (f : Profile) (es : List Event) (marks : ℕ → Marked) → lines_in (report_text f es marks) ≡ report_lines f es marks
+cut_report f es marks =
+    let total : List ℕ = total_line f es in
+    let last : lines_in total ≡ total ∷ []
+    = ap lines_in (sym (append-nil total)) ∙ cut_line total [] (totals_end (deeds_total f es) (backed_total f es) (live_total f es) (given_total f es) (ended_total f es)) in
+    cut_line (codes "report\n") (machine_pages es marks f.pages ++ total) refl ∙ ap (λ ls. head_line ∷ ls) (cut_pages es marks f.pages total ∙ ap (λ ls. page_lines es marks f.pages ++ ls) last)
+
+-- ---- each is allowed
+module _ (f : Profile) (l : Whole) (true_marks : AreTrueMarks f l) (r : Stand) where
+  -- where this is due
+  abbrev showing : List Due → Stand
+  showing due = record r { events = visible l; due = due; left = [] }
+
+  -- the true marks are allowed, and the page has a deed
+  allowed : (page : ℕ) (d : Directory) (more : List Due) → 1 ≤ page → page ≤ f.pages → deed_in (visible l) page ≡ Some d
+      → AreAllowedMarks (showing (Shows page d ∷ more)) page d (marks_after l page)
+  allowed page d more low high deed = search arith
+
+  page_leads : (page : ℕ) (o : Option Directory) (more : List Due) → 1 ≤ page → page ≤ f.pages → deed_in (visible l) page ≡ o
+      → LeadsOn f (showing (page_due page o ++ more)) (page_line (visible l) page o (marks_after l page)) (showing more)
+  page_leads page None more low high deed = on_same refl
+  page_leads page (Some d) more low high deed =
+      on_line (inr record { marks = marks_after l page; allowed = allowed page d more low high deed; line_is = refl; next_is = refl })
+
+  pages_lead : (n : ℕ) (more : List Due) → n ≤ f.pages
+      → LeadsOn f (showing (pages_due (visible l) n ++ more)) (page_lines (visible l) (marks_after l) n) (showing more)
+  pages_lead zero more le = on_same refl
+  pages_lead (suc n) more le =
+      let es : List Event = visible l in
+      let here : List Due = page_due (suc n) (deed_in es (suc n)) in
+      on_both (on_same (ap (λ ds. showing ds) (append_assoc (pages_due es n) here more)))
+      (on_both (pages_lead n (here ++ more) (omega (arith, le)))
+      (page_leads (suc n) (deed_in es (suc n)) more (omega arith) le refl))
+
+  -- THE REPORT
+  pub report_whole : r.events ≡ visible l → r.due ≡ [] → r.left ≡ Reports ∷ [] → IsWhole f r (report_lines f (visible l) (marks_after l))
+  report_whole events due left =
+      let es : List Event = visible l in
+      let pages : List Due = pages_due es f.pages ++ Totals ∷ [] in
+      let begun : LeadsOn f r [] (showing (Heads ∷ pages)) = on_as refl (ap (λ xs. record r { events = xs; due = Heads ∷ (pages_due xs f.pages ++ Totals ∷ []); left = [] }) (sym events)) (on_task due left) in
+      let head : LeadsOn f (showing (Heads ∷ pages)) (head_line ∷ []) (showing pages) = on_line (inr (refl, refl)) in
+      let total : LeadsOn f (showing (Totals ∷ [])) (total_line f es ∷ []) (showing []) = on_line (inr (refl, refl)) in
+      let rest : LeadsOn f (showing pages) (page_lines es (marks_after l) f.pages ++ total_line f es ∷ []) (showing [])
+      = on_both (pages_lead f.pages (Totals ∷ []) (omega arith)) total in
+      let all : LeadsOn f r (report_lines f es (marks_after l)) (showing [])
+      = on_both begun (on_both head rest) in
+      subst (IsWhole f r) (append-nil (report_lines f es (marks_after l))) (all.on [] (showing [], refl, refl))
+
+-- ---- Every transcript of a replay in the order of the text is accepted
 -- ---- Acts stand in their places: whenever a thread may be stopped as idle, the scavenger read the epoch just before; and a keeper acts only for requests whose guards it keeps
 -- ---- whether the epoch that the scavenger read is known to be that of the word
 abbrev pub read_after : Bool → Act → Bool
@@ -212,9 +312,11 @@ module _ (f : Profile) (n : ℕ) where
 -- ---- acts
 written_none : (f : Profile) (p q : Progress) (s : Stand) (ts : List Task) → Tells p s → s.due ≡ [] → s.left ≡ ts → q ≡ p → Written f p s q ts
 written_none f p q s ts tells due left same =
-    ([], ap (λ (x : Progress). x.records) same ∙ sym (append-nil p.records), record { end = s; leads = on_same refl; tells = subst (λ (x : Progress). Tells x s) (sym same) tells; due = due; left = left })
+    let there : s ≡ record s { due = []; left = ts } = λ i. record s { due = due i; left = left i } in
+    ([], ap (λ (x : Progress). x.records) same ∙ sym (append-nil p.records), record { end = s; leads = on_same there; tells = subst (λ (u : Stand). Tells q u) there (subst (λ (x : Progress). Tells x s) (sym same) tells) })
 
-written_both : (f : Profile) (p q r : Progress) (s : Stand) (us ts : List Task) (one : Written f p s q us) → Written f q one.2.end r ts → Written f p s r ts
+written_both : (f : Profile) (p q r : Progress) (s : Stand) (us ts : List Task) (one : Written f p s q us)
+    → Written f q (record one.2.end { due = []; left = us }) r ts → Written f p s r ts
 written_both f p q r s us ts one rest = (
   one.0 ++ rest.0,
   rest.1 ∙ ap (λ (rs : List Record). rs ++ rest.0) one.1 ∙ append_assoc p.records one.0 rest.0,
@@ -222,8 +324,6 @@ written_both f p q r s us ts one rest = (
     end = rest.2.end;
     leads = on_as (lines_both one.0 rest.0) refl (on_both one.2.leads rest.2.leads);
     tells = rest.2.tells;
-    due = rest.2.due;
-    left = rest.2.left;
   },
 )
 
@@ -237,7 +337,7 @@ acts_written f valid (act ∷ acts) known p q s ts tells due left is truly are r
     let there : Legal f next.list = was_so f (Legal f) (legal_before f) acts next q is.2 legal in
     let one : Written f p s next more = act_written f valid p s more tells due act next left is.1 truly.0 (in_place known act p are.0 read) there in
     written_both f p next q s more ts one
-    (acts_written f valid acts (read_after known act) next q one.2.end ts one.2.tells one.2.due one.2.left is.2 truly.1 are.1 (still_read f known act p next is.1 there read) legal)
+    (acts_written f valid acts (read_after known act) next q (record one.2.end { due = []; left = more }) ts one.2.tells refl refl is.2 truly.1 are.1 (still_read f known act p next is.1 there read) legal)
 
 -- ---- before the first act
 first_tells : (plan : Plan) → Tells at_start (at_first plan)
@@ -252,7 +352,7 @@ acts_of_replay plan whole records valid is =
 -- the report comes after them
 reported : (f : Profile) (s : Stand) (q : Progress) (whole : Whole) (rs : List Record) → AreTrueMarks f whole → whole ≡ q.list → Comes f s rs q (Reports ∷ [])
     → IsWhole f s (lines_by rs ++ report_lines f (visible whole) (marks_after whole))
-reported f s q whole rs marks order come = come.leads.on (report_lines f (visible whole) (marks_after whole)) (report_whole f whole marks come.end (come.tells.events ∙ sym (ap visible order)) come.due come.left)
+reported f s q whole rs marks order come = come.leads.on (report_lines f (visible whole) (marks_after whole)) (report_whole f whole marks (record come.end { due = []; left = Reports ∷ [] }) (come.tells.events ∙ sym (ap visible order)) refl refl)
 
 written_text : (f : Profile) (records : List Record) (es : List Event) (marks : ℕ → Marked)
     → lines_in (lines_of records ++ report_text f es marks) ≡ lines_by records ++ report_lines f es marks

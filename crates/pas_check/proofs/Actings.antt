@@ -21,8 +21,8 @@ use Rattle.pas_check.specs.States.{Due, Writes, Serves, Examines, Task, Does, St
 use Rattle.pas_check.specs.Tasks.{ActTaken, Asks, Comes, EntryLogged, FreesEntry, FreesNamed, IsAnswered, IsCarried, IsNext, IsSuited, LogEmptied, PassTaken}
 use Rattle.pas_check.specs.Tasks.{Remakes, Resizes, SaysNamed, Stands}
 use Rattle.pas_check.specs.declared.{acting.Judge.Judge, cutting.Cursor.Cursor, entry.Entry.Entry, logging.Logs.Logs, naming.Meaning.Meaning}
-use Rattle.pas_check.specs.declared.{naming.Meaning.TheVariants.Given, naming.Names.Names, serving.Wanted.Wanted}
-use Rattle.pas_check.proofs.Beginnings.{begun_alike}
+use Rattle.pas_check.specs.declared.{naming.Names.Names, serving.Wanted.Wanted}
+use Rattle.pas_check.proofs.ActsOfPlans.{begun_alike}
 use Rattle.pas_check.proofs.Leads.{kept_same, leads_alike, leads_fails, leads_nowhere, leads_on}
 
 -- further on
@@ -286,8 +286,7 @@ module _ {f : Profile} {text : List ℕ} {old : Judge} {from : Cursor} (within :
 
 -- ---- what names stand for
 heap_known : (m : Meaning) (block : Block) → meaning_of m ≡ Some (Some block) → heap_in m < 32 → block.heap < 32
-heap_known (Given c) block is small = let same : c ≡ block = cc in subst (λ (x : Block). x.heap < 32) same small
-heap_known other block is small = absurd (cc)
+heap_known m block is small = search arith
 
 -- Each block that a name stands for in a check has a heap of the region.
 pub heaps_of : {f : Profile} {j : Judge} {s : Stand} {at : Cursor} → Stands f j s at → HaveHeaps s.names
@@ -295,22 +294,21 @@ heaps_of {f} {j} {s} {at} stands name block is = heap_known (meaning_at j.names.
 
 -- ---- a request
 pub after_plain : (v : Stand) (k : ℕ) (r : Request) (found : Option Block) → after_request v k r None found [] ≡ with_due (with_name v r.name found) []
-after_plain v k r None = refl
-after_plain v k r (Some block) = refl
+after_plain v k r found = search arith
 
+-- in each case it computes, or is given
 left_kept : (full : Bool) (v : Stand) (k : ℕ) (entry : Entry) (more : List Due) → record (logging full v k entry more) { left = v.left } ≡ logging full v k entry more
-left_kept true v k entry more = refl
-left_kept false v k entry more = refl
+left_kept full v k entry more = search arith
 
+-- in each case it computes, or is given
 pub after_none : (k : ℕ) (r : Request) (replaced : Option Name) (found : Option Block) → is_some found ≡ false → (v : Stand)
     → after_request v k r replaced found [] ≡ with_due (with_name v r.name found) []
-after_none k r replaced None none v = refl
-after_none k r replaced (Some block) none v = absurd (cc)
+after_none k r replaced found none v = search arith
 
+-- in each case it computes, or is given
 pub after_some : (k : ℕ) (r : Request) (replaced : Option Name) (name : Name) (found : Option Block) → replaced ≡ Some name → is_some found ≡ true → (v : Stand)
     → after_request v k r replaced found [] ≡ logging (is_full v k) (with_name v r.name found) k (unsized name) []
-after_some k r replaced name None is some v = absurd (cc)
-after_some k r replaced name (Some block) is some v = ap (λ o. after_request v k r o (Some block) []) is
+after_some k r replaced name found is some v = search arith
 
 -- A request has the fields of what is wanted, whose bounds are given.
 pub fits_wanted : {f : Profile} {r : Request} {w : Wanted} → IsWanted f r w → (k : ℕ) → k < 2 ^ 8 → w.name < 2 ^ 32 → w.room < 2 ^ 32 → w.directory.heap < 2 ^ 8

@@ -1,39 +1,119 @@
--- The numbers of a plan's acts fit their places, and so does what is due after a pass.
+-- The acts of a plan: what they begin needs no line by itself, and its numbers and those of what is due after a pass fit their places.
 use Rattle.std.proofs.Common.{◌≡◌, ◌≢◌, Option, None, Some, ℕ, zero, suc, ◌+◌, ◌*◌, ◌^◌, ◌<◌, ◌≤◌, Bool, true, false, cond, List, [], ◌∷◌, ◌++◌, map, length}
 use Rattle.std.proofs.Common.{refl, subst, arith, MatchOption, ◌/◌, ◌==◌, if◌then◌else◌, nat_le, max, inl, inr, sym, ◌∙◌}
 use Rattle.std.specs.List.{AllByRecursion, filter}
 use Rattle.pas_profile.specs.{Directories.IsKind, Profiles.IsAdmitted, Profiles.IsValid, Requests.kind_of_route, Routes.IsRouteOf, Routes.room_by}
 use Rattle.pas_profile.specs.{Blocks.address_of}
-use Rattle.pas_profile.specs.declared.{directory.Route.Route, directory.Route.TheVariants.Class, profile.Profile.Profile, event.Event.Event, name.Block.Block}
+use Rattle.pas_profile.specs.declared.{directory.Route.Route, profile.Profile.Profile, event.Event.Event, name.Block.Block}
 use Rattle.pas_profile.proofs.{ClassFacts.class_known, ClassFacts.route_is, Sizes.class_size_le}
 use Rattle.pas_trace.specs.Acts.{Act, StopsIdle, Ends, Lowers, act_kept, numbers_from, acts_from, acts_of, acts_of_chore, acts_of_op, acts_of_ops, acts_of_work}
 use Rattle.pas_trace.specs.Acts.{close_acts, phase_acts, threads_where, Operates, Guards, Ticks, MakesPass, MarksPhase, Wakes, MarksClose}
 use Rattle.pas_trace.specs.Asked.{epoch_of, keeper_in, keeper_of, of_task, request_of, work_of, request_in}
-use Rattle.pas_trace.specs.EveryPlan.{AreBelow, AreKept, AreSound, IsActorBy, IsSoundWork, IsSoundTask, all_ops, asked_after}
+use Rattle.pas_trace.specs.EveryPlan.{AreBelow, AreKept, AreSound, IsActorBy, IsSoundTask, all_ops, asked_after}
 use Rattle.pas_trace.specs.declared.{plan.Chore.Chore, plan.Op.Op, plan.Task.Task, plan.Work.Work, item.Request.Request, plan.What.What}
-use Rattle.pas_check.specs.{Bounds.FitsRequest, Bounds.FitsNext, Bounds.HaveHeaps, Calls.asked_for, Calls.IsFollowed}
+use Rattle.pas_check.specs.{Bounds.FitsRequest, Bounds.FitsNext, Bounds.HaveHeaps, Calls.asked_for, Calls.IsFollowed, Going.AreAlike, Takes.Takes}
+use Rattle.pas_check.specs.{Takes.TakesDue, Takes.TakesFirst}
 use Rattle.pas_check.specs.Checks.{AllFit, ArePlanned, FitsAct, FitsHeaps, FitsWhat, IsPlanned, IsThread}
 use Rattle.std.proofs.lemmas.{Bool.and_parts, Option.none-some, Option.same_Some}
 use Rattle.pas_report.specs.declared.record.{Record.Record, Said.Said}
 use Rattle.pas_trace.specs.Named.{Named, standing_for}
 use Rattle.pas_trace.specs.declared.plan.What.TheVariants.{Alloc, Guarded, Free, FreeSized, Raw, RawSized, Remake, Flush, Stop}
 use Rattle.pas_check.specs.Begins.{after_task, begun_act, begun_from, begun_what, entries_due, entry_of, flushing, freeing, freeing_at, freeing_named}
-use Rattle.pas_check.specs.Begins.{goes_down, guarding, is_aligned, is_full, is_page, logging, lowered_due, past_outcomes, remaking, remaking_named}
-use Rattle.pas_check.specs.Begins.{request_for, settled_with, stopping, suits, sweeping, tells, unsized}
-use Rattle.pas_check.specs.States.{Due, Writes, Tries, Does, Reports, Stand}
+use Rattle.pas_check.specs.Begins.{goes_down, guarding, is_aligned, is_page, logging, lowered_due, past_outcomes, remaking, remaking_named, request_for}
+use Rattle.pas_check.specs.Begins.{settled_with, stopping, suits, sweeping, tells, unsized, begun, ready, ready_with}
+use Rattle.pas_check.specs.States.{Due, Writes, Tries, Does, Reports, Stand, Task as ToDo}
 use Rattle.pas_check.specs.declared.{entry.Entry.Entry, guard.Guard.Guard}
-use Rattle.pas_check.proofs.{Beginnings.begins_no_pass, OneNext.no_outcome}
+use Rattle.pas_check.proofs.{OneNext.no_outcome, Leads.first_none}
 
+-- ---- A task is begun without a line: what may come then is what might before
+-- no outcome of a pass is due first
+abbrev pub BeginsNoPass : List Due → Type 0
+BeginsNoPass due = past_outcomes due ≡ due
+
+entries_no_pass : (k : ℕ) (log : List Entry) (more : List Due) → BeginsNoPass more → BeginsNoPass (entries_due k log ++ more)
+entries_no_pass k [] more no_pass = no_pass
+entries_no_pass k (entry ∷ log) more no_pass = refl
+
+logging_no_pass : (full : Bool) (s : Stand) (k : ℕ) (entry : Entry) → BeginsNoPass (logging full s k entry []).due
+logging_no_pass full s k entry = search (arith, entries_no_pass)
+
+freeing_at_no_pass : (inside aligned : Bool) (s : Stand) (k : ℕ) (entry : Entry) → BeginsNoPass s.due → BeginsNoPass (freeing_at inside aligned s k entry).due
+freeing_at_no_pass inside aligned s k entry no_pass = search (arith, logging_no_pass)
+
+freeing_no_pass : (f : Profile) (s : Stand) (k : ℕ) (entry : Entry) → BeginsNoPass s.due → BeginsNoPass (freeing f s k entry).due
+freeing_no_pass f s k entry no_pass = freeing_at_no_pass (is_page f (address_of entry.name / 4096)) (is_aligned entry.name) s k entry no_pass
+
+named_no_pass : (f : Profile) (s : Stand) (k name room : ℕ) (block : Option (Option Block)) → BeginsNoPass s.due
+    → BeginsNoPass (freeing_named f s k name room block).due
+named_no_pass f s k name room None no_pass = no_pass
+named_no_pass f s k name room (Some None) no_pass = refl
+named_no_pass f s k name room (Some (Some block)) no_pass = freeing_no_pass f s k (entry_of block.name room) no_pass
+
+-- in each case it computes, or is given
+remaking_no_pass : (suited : Bool) (s : Stand) (k : ℕ) (r : Request) (old : Block) → BeginsNoPass (remaking suited s k r old).due
+remaking_no_pass suited s k r old = search arith
+
+remade_no_pass : (s : Stand) (k name size align : ℕ) (block : Option (Option Block)) → BeginsNoPass s.due
+    → BeginsNoPass (remaking_named s k name size align block).due
+remade_no_pass s k name size align block no_pass = search (arith, remaking_no_pass)
+
+what_no_pass : (f : Profile) (s : Stand) (k : ℕ) (what : What) → BeginsNoPass s.due → BeginsNoPass (begun_what f s k what).due
+what_no_pass f s k what no_pass = search (arith, named_no_pass, freeing_no_pass, remade_no_pass, entries_no_pass)
+
+stopping_no_pass : (idle : Bool) (s : Stand) (k : ℕ) → BeginsNoPass s.due → BeginsNoPass (stopping idle s k).due
+stopping_no_pass idle s k no_pass = search (arith, entries_no_pass)
+
+lowered_no_pass : (guards : List Guard) (more : List Due) → BeginsNoPass more → BeginsNoPass (map lowered_due guards ++ more)
+lowered_no_pass [] more no_pass = no_pass
+lowered_no_pass (guard ∷ guards) more no_pass = refl
+
+guarding_no_pass : (s : Stand) (keeper k : ℕ) (o : Option Request) → BeginsNoPass s.due → BeginsNoPass (guarding s keeper k o).due
+guarding_no_pass s keeper k o no_pass = search (arith, lowered_no_pass)
+
+-- A task that is begun puts no outcomes of a pass first where none came first.
+pub begins_no_pass : (f : Profile) (s : Stand) (t : ToDo) → BeginsNoPass s.due → BeginsNoPass (begun f s t).due
+begins_no_pass f s t no_pass = search (arith, what_no_pass, guarding_no_pass, lowered_no_pass, stopping_no_pass, entries_no_pass)
+
+-- ---- what is due then
+settled_is : (f : Profile) (b : Stand) (due : List Due) → b.due ≡ due → BeginsNoPass due
+    → settled_with due b (begun_from f b b.left) ≡ ready_with f b (past_outcomes due)
+settled_is f b due is no_pass = search arith
+
+no_first : (f : Profile) (s : Stand) (due : List Due) → BeginsNoPass due → (line : List ℕ) (next : Stand) → TakesFirst f s due line next → ⊥
+no_first f s due no_pass line next takes = search (arith, first_none)
+
+module _ (f : Profile) (s : Stand) (t : ToDo) (ts : List ToDo) (due : s.due ≡ []) (left : s.left ≡ t ∷ ts) where
+  no_pass_before : BeginsNoPass s.due
+  no_pass_before = subst BeginsNoPass (sym due) refl
+
+  no_pass_then : BeginsNoPass (after_task f s t ts).due
+  no_pass_then = begins_no_pass f s t no_pass_before
+
+  same_ready : ready f s ≡ ready f (after_task f s t ts)
+  same_ready = search (arith, settled_is, no_pass_then)
+
+  -- THE BEGINNING of a task
+  pub begun_alike : AreAlike f s (after_task f s t ts)
+  begun_alike = record {
+    takes = λ line next. (there line next, back line next);
+    done = (λ done. subst (λ (u : Stand). u.due ≡ []) same_ready done, λ done. subst (λ (u : Stand). u.due ≡ []) (sym same_ready) done);
+  }
+    where
+      there : (line : List ℕ) (next : Stand) → Takes f s line next → Takes f (after_task f s t ts) line next
+      there line next (inl x) = absurd (no_first f s s.due no_pass_before line next x)
+      there line next (inr y) = inr (subst (λ (u : Stand). TakesDue f u u.due line next) same_ready y)
+
+      back : (line : List ℕ) (next : Stand) → Takes f (after_task f s t ts) line next → Takes f s line next
+      back line next is = search (arith, no_first, no_pass_then, same_ready)
+
+-- ---- The numbers of a plan's acts fit their places, and so does what is due after a pass
 -- ---- The numbers of a plan's acts fit their places
 -- ---- a request's
 kind_routed : (shared : Bool) (classes size align : ℕ) (route : Route) → IsRouteOf classes size align route → IsKind (kind_of_route shared route)
-kind_routed true classes size align (Class class) is = tt
-kind_routed false classes size align (Class class) is = class_known classes size align class is
-kind_routed shared classes size align other is = tt
+kind_routed shared classes size align route is = search (arith, class_known)
 
 room_small : (route : Route) (size : ℕ) → size ≤ 2 ^ 26 → room_by route size < 2 ^ 32
-room_small (Class class) size few = omega (arith, class_size_le class)
-room_small other size few = omega (arith, few)
+room_small route size few = search (arith, class_size_le)
 
 request_fits : (f : Profile) (k name heap size align : ℕ) → IsValid f → size ≤ f.pages * 4096 → k < 2 ^ 8 → name < 2 ^ 32 → heap < 32
     → FitsRequest f k (asked_for name heap size align)
@@ -59,9 +139,9 @@ numbers_are : (k n : ℕ) → 0 < k → k + n ≤ 2 ^ 8 → AreThreads (numbers_
 numbers_are k zero some few = tt
 numbers_are k (suc n) some few = ((some, omega (arith, few)), numbers_are (k + 1) n (omega arith) (omega (arith, few)))
 
+-- in each case it computes, or is given
 kept_or_not : (t : Bool) (k : ℕ) (ks : List ℕ) → IsThread k → AreThreads ks → AreThreads (cond t (k ∷ ks) ks)
-kept_or_not true k ks is all = (is, all)
-kept_or_not false k ks is all = all
+kept_or_not t k ks is all = search arith
 
 chosen_are : (chosen : ℕ → Bool) (ks : List ℕ) → AreThreads ks → AreThreads (filter chosen ks)
 chosen_are chosen [] all = tt
@@ -80,10 +160,7 @@ planned_back f limit (x ∷ xs) ys all = planned_back f limit xs ys all.1
 -- a keeper stands behind all threads
 keeper_behind : (f : Profile) (guard actor : ℕ) (work : Work) (o : Option ℕ) → f.threads ≤ 16 → IsActorBy f work actor → of_task keeper_of work ≡ o
     → MatchOption o (Unit {0}) (λ keeper. (keeper ≡ f.threads + actor) × (guard ≢ 0)) → MatchOption o (Unit {0}) (λ keeper. (actor < keeper) × (keeper < 2 ^ 8))
-keeper_behind f guard actor work None few by is kept = tt
-keeper_behind f guard actor (Work.Own task) (Some keeper) few by is kept =
-    let some : 1 ≤ actor = by.0 in let last : actor ≤ f.threads = by.1 in (omega (arith, kept.0, some, last), omega (arith, kept.0, last, few))
-keeper_behind f guard actor (Work.Chore chore) (Some keeper) few by is kept = absurd (cc)
+keeper_behind f guard actor work o few by is kept = search arith
 
 -- Sound operations of a plan, whose names are below the limit and which are kept by their keepers, are planned.
 pub all_planned : (f : Profile) (limit guard : ℕ) (asked : List ℕ) (ops : List Op) → f.threads ≤ 16 → AreSound f asked ops → AreBelow limit ops
@@ -119,8 +196,7 @@ module _ (f : Profile) (limit : ℕ) (valid : IsValid f) (few : limit ≤ 2 ^ 32
       (thread, fits, (omega (arith, kept.0), kept.1), λ same. absurd (omega (arith, kept.0, same)))
 
   work_fits : (idle : List ℕ) (op : Op) (work : Work) → AreThreads idle → work_of op.what ≡ work → IsPlanned f limit op → AllFit f (acts_of_work idle op work)
-  work_fits idle op (Work.Own task) all is planned = search (arith, task_fits, kept_fits)
-  work_fits idle op (Work.Chore chore) all is planned = chore_fits idle chore all (subst (IsSoundWork f planned.sound.0) is planned.sound.1)
+  work_fits idle op work all is planned = search (arith, task_fits, kept_fits, chore_fits)
 
   ops_fit : (idle : List ℕ) → AreThreads idle → (ops : List Op) → ArePlanned f limit ops → AllFit f (acts_of_ops idle ops)
   ops_fit idle all [] planned = tt
@@ -167,8 +243,7 @@ record IsBegun (f : Profile) (s b : Stand) : Type 0 where
 heaps_if : (t : Bool) (found : Option Block) (old : Option (Option Block)) (block : Block) → ((b : Block) → found ≡ Some b → b.heap < 32)
     → (old ≡ Some (Some block) → block.heap < 32)
     → (if t then Some found else old) ≡ Some (Some block) → block.heap < 32
-heaps_if true found old block new before is = new block (same_Some found (Some block) is)
-heaps_if false found old block new before is = before is
+heaps_if t found old block new before is = search (arith, same_Some)
 
 heaps_more : (names : List Named) (name : ℕ) (found : Option Block) → HaveHeaps names → ((b : Block) → found ≡ Some b → b.heap < 32)
     → HaveHeaps (record { name = name; block = found } ∷ names)
@@ -182,8 +257,7 @@ entries_fit f k (entry ∷ log) more thread fits = (thread.1, inl thread.0)
 lowered_first : (f : Profile) (es : List Event) (keeper : ℕ) (all : Bool) (guard : Guard) (rest : List Guard) (more : List Due) → IsThread keeper
     → FitsNext f (map lowered_due rest ++ more)
     → (down : Bool) → goes_down es keeper all guard ≡ down → FitsNext f (map lowered_due (cond down (guard ∷ rest) rest) ++ more)
-lowered_first f es keeper all guard rest more thread fits true is = search (arith, and_parts)
-lowered_first f es keeper all guard rest more thread fits false is = fits
+lowered_first f es keeper all guard rest more thread fits down is = search (arith, and_parts)
 
 lowered_fit : (f : Profile) (es : List Event) (keeper : ℕ) (all : Bool) (guards : List Guard) (more : List Due) → IsThread keeper → FitsNext f more
     → FitsNext f (map lowered_due (filter (goes_down es keeper all) guards) ++ more)
@@ -206,22 +280,17 @@ module _ (f : Profile) (s : Stand) (due : s.due ≡ []) (small : s.epoch < 2 ^ 6
   logs false k entry thread = record { fits = tt; events = refl; epoch = small; heaps = heaps }
 
   frees_at : (inside aligned : Bool) (k : ℕ) (entry : Entry) → IsThread k → IsBegun f s (freeing_at inside aligned s k entry)
-  frees_at false aligned k entry thread = said k (Said.Outside entry.name) thread
-  frees_at true false k entry thread = said k (Said.Unaligned entry.name) thread
-  frees_at true true k entry thread = logs (is_full s k) k entry thread
+  frees_at inside aligned k entry thread = search (arith, said, logs)
 
   frees : (k : ℕ) (entry : Entry) → IsThread k → IsBegun f s (freeing f s k entry)
   frees k entry thread = frees_at (is_page f (address_of entry.name / 4096)) (is_aligned entry.name) k entry thread
 
   frees_named : (k name room : ℕ) (block : Option (Option Block)) → IsThread k → IsBegun f s (freeing_named f s k name room block)
-  frees_named k name room None thread = same
-  frees_named k name room (Some None) thread = said k (Said.Skipped name) thread
-  frees_named k name room (Some (Some block)) thread = frees k (entry_of block.name room) thread
+  frees_named k name room block thread = search (arith, same, said, frees)
 
   remakes_as : (suited : Bool) (k name size align : ℕ) (old : Block) → old.heap < 32 → IsThread k → FitsRequest f k (request_for old name size align)
       → IsBegun f s (remaking suited s k (request_for old name size align) old)
-  remakes_as true k name size align old one thread fits = record { fits = inl thread; events = refl; epoch = small; heaps = heaps_more s.names name (Some old) heaps (λ b is. subst (λ (c : Block). c.heap < 32) (same_Some old b is) one) }
-  remakes_as false k name size align old one thread fits = record { fits = fits; events = refl; epoch = small; heaps = heaps }
+  remakes_as suited k name size align old one thread fits = search (arith, heaps_more, same_Some)
 
   remakes : (k name heap size align : ℕ) (block : Option (Option Block)) → ((b : Block) → block ≡ Some (Some b) → b.heap < 32) → IsThread k
       → FitsHeaps f k (record { name = name; heap = heap; size = size; align = align }) → IsBegun f s (remaking_named s k name size align block)
@@ -281,8 +350,7 @@ record IsWell (f : Profile) (es : List Event) (b : Stand) : Type 0 where
 settles : (f : Profile) (es : List Event) (b other : Stand) (ds : List Due) → b.due ≡ ds → FitsNext f ds → past_outcomes ds ≡ ds → b.events ≡ es
     → b.epoch < 2 ^ 64
     → (ds ≡ [] → IsWell f es other) → IsWell f es (settled_with ds b other)
-settles f es b other [] is fits no_pass events epoch rest = rest refl
-settles f es b other (d ∷ ds) is fits no_pass events epoch rest = search arith
+settles f es b other ds is fits no_pass events epoch rest = search arith
 
 well_from : (f : Profile) (es : List Event) (acts : List Act) → AllFit f acts → (u : Stand) → u.due ≡ [] → u.events ≡ es → u.epoch < 2 ^ 64 → HaveHeaps u.names
     → IsWell f es (begun_from f u (map Does acts ++ Reports ∷ []))

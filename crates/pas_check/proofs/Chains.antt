@@ -12,8 +12,8 @@ use Rattle.pas_check.specs.Leading.{IsWithin, StaysWithin, Fails, IsLed, Leads, 
 use Rattle.pas_check.specs.States.{Does, Reports, Stand, at_first, with_due}
 use Rattle.pas_check.specs.declared.{acting.Judge.Judge, cutting.Cursor.Cursor, verdict.Verdict.TheVariants.Yes, verdict.Verdict.TheVariants.No}
 use Rattle.pas_trace.proofs.{ThreadsInOrder.number_last, ThreadsInOrder.number_next, ThreadsInOrder.threads_alike, EveryPlan.every_plan, Keepers.keepers_few}
-use Rattle.pas_check.proofs.{Actings.heaps_of, Actings.nothing_begun, Beginnings.begun_alike}
-use Rattle.pas_check.proofs.ActsOfPlans.{is_followed, planned_back, planned_front, acts_fit, all_planned}
+use Rattle.pas_check.proofs.Actings.{heaps_of, nothing_begun}
+use Rattle.pas_check.proofs.ActsOfPlans.{begun_alike, is_followed, planned_back, planned_front, acts_fit, all_planned}
 use Rattle.pas_check.proofs.Leads.{leads_fails, leads_on, fails_line, leads_alike, leads_nowhere}
 use Rattle.std.proofs.lemmas.List.{drop_more, length-map}
 use Rattle.pas_bits.specs.Masks.{is_set}

@@ -5,7 +5,7 @@ use Rattle.std.specs.Fmt.{decimal, digits, digits_onto, digit_glyph}
 use Rattle.std.proofs.lemmas.Bool.{false_from_ne_true, false≢true, cases_eq, Decides.nat_tests}
 use Rattle.std.specs.List.{concat}
 use Rattle.memchr.specs.Find.{Nowhere, Passes, is_byte}
-use Rattle.pas_profile.specs.{Classes.class_size, Blocks.address_of}
+use Rattle.pas_profile.specs.Blocks.{address_of}
 use Rattle.pas_profile.specs.declared.{directory.Kind.Kind, name.Name.Name, event.Event.Event, event.Why.Why}
 use Rattle.pas_report.specs.declared.record.{Said.Said, Record.Record}
 use Rattle.pas_report.specs.Lines.{hex_digit, hex_digits, kind_text, name_text, line_of, lines_of, line_of_event, line_of_answer}
@@ -15,8 +15,7 @@ use Rattle.pas_check.proofs.Pages.{all_lines}
 
 -- ---- a line is cut off in front of a text
 cut_at : (b : ℕ) (bs rest : List ℕ) → is_nothing bs ≡ true → lines_in (10 ∷ (bs ++ rest)) ≡ (10 ∷ bs) ∷ lines_in rest
-cut_at b [] rest h = refl
-cut_at b (c ∷ cs) rest h = absurd (false≢true h)
+cut_at b bs rest h = search arith
 
 -- The first line of a text that begins with a line is that line.
 pub cut_line : (line rest : List ℕ) → is_line line ≡ true → lines_in (line ++ rest) ≡ line ∷ lines_in rest
@@ -37,10 +36,10 @@ hex_no_newline n = grind (arith, nat_tests)
 glyph_first : (d : ℕ) (ds rest : List ℕ) → is_line ((digit_glyph false d ∷ ds) ++ rest) ≡ is_line (ds ++ rest)
 glyph_first d ds rest = ap (λ (x : Bool). if x then is_nothing (ds ++ rest) else is_line (ds ++ rest)) (hex_no_newline d)
 
+-- in each case it computes, or is given
 either_first : (t : Bool) (xs ys rest more : List ℕ) → is_line (xs ++ rest) ≡ is_line more → is_line (ys ++ rest) ≡ is_line more
     → is_line ((if t then xs else ys) ++ rest) ≡ is_line more
-either_first true xs ys rest more x y = x
-either_first false xs ys rest more x y = y
+either_first t xs ys rest more x y = search arith
 
 onto_first : (k n : ℕ) (ds rest : List ℕ) → is_line (digits_onto k 10 false n ds ++ rest) ≡ is_line (ds ++ rest)
 onto_first zero n ds rest = refl
@@ -63,8 +62,7 @@ name_first name rest = hex_first 8 (address_of name) (codes " turn " ++ (decimal
 
 -- A text with the name of a kind in front is a line exactly where it is one without.
 pub kind_first : (kind : Kind) (rest : List ℕ) → is_line (kind_text kind ++ rest) ≡ is_line rest
-kind_first (Kind.Class class) rest = number_first (class_size class) rest
-kind_first other rest = refl
+kind_first kind rest = search (arith, number_first)
 
 -- ---- the line of a record
 event_line : (e : Event) → is_line (line_of_event e) ≡ true
@@ -116,10 +114,7 @@ said_line k (Said.Lowered low high) =
 
 -- The line of each record is one line.
 pub record_line : (r : Record) → is_line (line_of r) ≡ true
-record_line (Record.Event e) = event_line e
-record_line (Record.Said k said) = said_line k said
-record_line (Record.Phase n) = number_first n (codes "\n")
-record_line Record.Close = refl
+record_line r = search (arith, event_line, said_line, number_first)
 
 -- .. and that of the totals
 pub totals_end : (deeds backed live given ended : ℕ) → is_line (totals_text deeds backed live given ended) ≡ true

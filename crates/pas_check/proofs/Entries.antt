@@ -5,7 +5,7 @@ use Rattle.pas_profile.specs.declared.{profile.Profile.Profile, name.Block.Block
 use Rattle.pas_profile.specs.declared.{event.Why.TheVariants.NoBlock, event.Why.TheVariants.SizeDiffers}
 use Rattle.pas_profile.specs.Blocks.{address_of}
 use Rattle.pas_machine.specs.{Laws.IsCounted, Places.block_of}
-use Rattle.pas_machine.specs.Machine.{Run, Admits, HasOtherRoom, IsLive, IsReason}
+use Rattle.pas_machine.specs.Machine.{Run, Admits, IsLive, IsReason}
 use Rattle.pas_machine.specs.State.{Live, live_in, gives_in, ends_in}
 use Rattle.pas_machine.proofs.LiveBlocks.{all_counted}
 use Rattle.pas_check.specs.{Calls.Differs, States.Stand, Takes.MayRefuse, Takes.IsEventOf}
@@ -13,8 +13,7 @@ use Rattle.pas_check.specs.declared.entry.Entry.{Entry}
 
 -- a live block's turn is the number of ends at its address
 turn_counts : (o : Option Live) (b : Live) (gives ends : ℕ) → o ≡ Some b → IsCounted o gives ends → b.block.name.turn ≡ ends
-turn_counts None b gives ends e h = absurd (cc)
-turn_counts (Some c) b gives ends e h = cc
+turn_counts o b gives ends e h = search arith
 
 live_turn : (f : Profile) (es : List Event) (name : Name) → Run f es → IsLive es name → name.turn ≡ ends_in es (address_of name)
 live_turn f es name run live =
@@ -23,9 +22,7 @@ live_turn f es name run live =
 -- a name that lives with the room of its entry, if it names one, can't be refused
 no_reason : (f : Profile) (es : List Event) (entry : Entry) → Run f es → IsLive es entry.name → (Differs es entry → ⊥) → (why : Why) → MayRefuse entry why
     → IsReason es entry.name why → ⊥
-no_reason f es entry run live same Ended may reason = let turn = live_turn f es entry.name run live in absurd (omega (arith, turn, reason))
-no_reason f es entry run live same NoBlock may reason = reason.1 live
-no_reason f es entry run live same (SizeDiffers asked) may reason = same (may.0, subst (HasOtherRoom es entry.name) may.1 reason.1)
+no_reason f es entry run live same why may reason = search (arith, live_turn)
 
 -- THE EVENT of an entry, where it may come next
 pub end_is : (f : Profile) (s : Stand) (k : ℕ) (entry : Entry) → Run f s.events → Admits f s.events (Event.End k entry.name s.epoch)
@@ -39,32 +36,19 @@ reject_is f s k entry why may admitted = inl (why, may, admitted.1, refl)
 
 -- there is one
 one_reason : (es : List Event) (entry : Entry) (w v : Why) → MayRefuse entry w → MayRefuse entry v → IsReason es entry.name w → IsReason es entry.name v → w ≡ v
-one_reason es entry Ended Ended p q a b = refl
-one_reason es entry Ended NoBlock p q a b = absurd (omega (arith, a, b.0))
-one_reason es entry Ended (SizeDiffers asked) p q a b = absurd (omega (arith, a, b.0))
-one_reason es entry NoBlock Ended p q a b = absurd (omega (arith, b, a.0))
-one_reason es entry NoBlock NoBlock p q a b = refl
-one_reason es entry NoBlock (SizeDiffers asked) p q a b = let other = b.1 in absurd (a.1 (other.block, other.lives, other.turn_is))
-one_reason es entry (SizeDiffers asked) Ended p q a b = absurd (omega (arith, b, a.0))
-one_reason es entry (SizeDiffers asked) NoBlock p q a b = let other = a.1 in absurd (b.1 (other.block, other.lives, other.turn_is))
-one_reason es entry (SizeDiffers asked) (SizeDiffers other) p q a b = ap SizeDiffers (p.1 ∙ sym q.1)
+one_reason es entry w v p q a b = search arith
 
 -- There is just one event of an entry.
 pub one_event : (s : Stand) (k : ℕ) (entry : Entry) (e g : Event) → IsEventOf s k entry e → IsEventOf s k entry g → e ≡ g
-one_event s k entry e g (inl a) (inl b) = a.3 ∙ ap (Event.Reject k entry.name) (one_reason s.events entry a.0 b.0 a.1 b.1 a.2 b.2) ∙ sym b.3
-one_event s k entry e g (inl a) (inr b) = absurd (b.0 a.0 a.1 a.2)
-one_event s k entry e g (inr a) (inl b) = absurd (a.0 b.0 b.1 b.2)
-one_event s k entry e g (inr a) (inr b) = a.1 ∙ sym b.1
+one_event s k entry e g is by = search (arith, one_reason)
 
 -- ---- the true reason, by what lives at the address
 pub block_there : (o : Option Live) (block : Block) → Some block ≡ block_of o → (b : Live) × (o ≡ Some b) × (b.block ≡ block)
-block_there None block e = absurd (none-some block (sym e))
-block_there (Some b) block e = (b, refl, sym (same_Some block b.block e))
+block_there o block e = search (arith, none-some, same_Some)
 
 -- Where the machine tells no block at an address, none lives there.
 pub nothing_there : (o : Option Live) → None ≡ block_of o → o ≡ None
-nothing_there None e = refl
-nothing_there (Some b) e = absurd (none-some b.block e)
+nothing_there o e = search (arith, none-some)
 
 module _ (f : Profile) (es : List Event) (run : Run f es) (entry : Entry) where
   -- Where no block lives, as many blocks ended as were given.
@@ -105,7 +89,4 @@ module _ (f : Profile) (es : List Event) (run : Run f es) (entry : Entry) where
     -- A name of the live block's turn and room has no reason to be refused.
     pub may_end : entry.name.turn ≡ b.block.name.turn → (0 < entry.room → b.block.room ≡ entry.room) → (why : Why) → MayRefuse entry why
         → IsReason es entry.name why → ⊥
-    may_end turn room Ended may reason = absurd (omega (arith, counts, turn, reason))
-    may_end turn room NoBlock may reason = reason.1 (b, is, sym turn)
-    may_end turn room (SizeDiffers asked) may reason =
-        reason.1.differs (ap (λ (l : Live). l.block.room) (it_is reason.1.block reason.1.lives) ∙ room may.0 ∙ sym may.1)
+    may_end turn room why may reason = search (arith, counts, it_is)

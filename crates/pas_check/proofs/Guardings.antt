@@ -29,8 +29,7 @@ use Rattle.pas_check.proofs.Actings.{comes_answered, comes_as, comes_led, comes_
 -- what was due before a guard is raised has no part in it
 raise_due : (sides : Bool) (v : Stand) (due : List Due) (keeper name : ℕ) (block : Block) (more : List Due)
     → raising sides (with_due v due) keeper name block more ≡ raising sides v keeper name block more
-raise_due true v due keeper name block more = refl
-raise_due false v due keeper name block more = refl
+raise_due sides v due keeper name block more = search arith
 
 module _ {old : Machine} {text : List ℕ} {from : Cursor} {keeper : ℕ} {w : Wanted} where
   -- Before any line, nothing was taken of a keeper's try.
@@ -200,15 +199,12 @@ module _ {old : Machine} {text : List ℕ} {from : Cursor} {keeper : ℕ} {w : W
 pub trial_stays : (old new : Machine) (text : List ℕ) (keeper : ℕ) (w : Wanted) (line : List ℕ) (backed : Bool) (at to : Cursor) → IsWithin text at
     → IsWithin text to → (trial : Trial)
     → TrialEnded old new keeper w line backed at trial → TrialStays text to trial
-trial_stays old new text keeper w line backed at to behind within (Gives block) ended = within
-trial_stays old new text keeper w line backed at to behind within (Passes place) ended = subst (λ (p : Cursor). IsWithin text p) (sym ended.2) behind
-trial_stays old new text keeper w line backed at to behind within Stops ended = tt
+trial_stays old new text keeper w line backed at to behind within trial ended = search arith
 
 -- ---- Guards that are raised and lowered
 -- ---- nothing ends where no grain of the region is
 no_end : (f : Profile) (t : Bool) (address a old : ℕ) → (address == a) ≡ t → IsPlace f address → (IsPlace f a → ⊥) → old ≡ 0 → (if t then old + 1 else old) ≡ 0
-no_end f true address a old same place none before = absurd (none (subst (IsPlace f) (eqb-true address a same) place))
-no_end f false address a old same place none before = before
+no_end f t address a old same place none before = search (arith, eqb-true)
 
 -- No block ends at an address that is no place of the region.
 pub no_ends : (f : Profile) (es : List Event) → Run f es → (a : ℕ) → (IsPlace f a → ⊥) → ends_in es a ≡ 0
@@ -310,9 +306,9 @@ stands_then : {f : Profile} {old : Judge} {s : Stand} {from to : Cursor} {machin
     → Stands f (record old { machine = machine }) (record s { events = es; due = due }) to
 stands_then {f} {old} {s} {from} {to} {machine} {es} due stands profile events kept = search (arith, kept_same)
 
+-- in each case it computes, or is given
 raise_left : (sides : Bool) (v : Stand) (keeper name : ℕ) (block : Block) (more : List Due) → (raising sides v keeper name block more).left ≡ v.left
-raise_left true v keeper name block more = refl
-raise_left false v keeper name block more = refl
+raise_left sides v keeper name block more = search arith
 
 carried_on : {f : Profile} {text : List ℕ} {s t : Stand} {from at to : Cursor} {new : Judge} {is : Bool} → Leads f text s from t at → t.left ≡ s.left
     → IsCarried f text t at new to is → IsCarried f text s from new to is

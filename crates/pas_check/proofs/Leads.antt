@@ -1,19 +1,103 @@
--- How a check goes from place to place, and what every line keeps.
+-- How a check goes on, line by line and from place to place, and what every line keeps.
 use Rattle.std.proofs.Common.{◌≡◌, ℕ, zero, suc, ◌+◌, ◌↔◌, Bool, true, false, List, [], ◌∷◌, length, take, inl, inr, refl, ap, sym, subst, ◌∙◌, arith, ◌^◌, ◌<◌}
-use Rattle.std.proofs.Common.{◌≤◌, ◌==◌, max, if◌then◌else◌, Option, Some}
+use Rattle.std.proofs.Common.{◌≤◌, ◌==◌, max, if◌then◌else◌, Option, Some, ◌++◌, append_assoc, append-nil, length-append}
 use Rattle.pas_profile.specs.declared.{profile.Profile.Profile, directory.Directory.Directory, event.Event.Event}
-use Rattle.pas_check.specs.{Accepted.IsDone, Accepted.IsWhole, Accepted.MayGo, Begins.past_outcomes, Begins.ready, Begins.ready_with, Going.AreAlike}
-use Rattle.pas_check.specs.{Bounds.IsKept, Bounds.IsSmall, Calls.Reaches}
+use Rattle.pas_check.specs.Accepted.{IsDone, IsWhole, MayGo, IsStopped}
+use Rattle.pas_check.specs.{Begins.past_outcomes, Begins.ready, Begins.ready_with, Going.AreAlike, Bounds.IsKept, Bounds.IsSmall, Calls.Reaches, Going.SoFar}
 use Rattle.pas_check.specs.Leading.{Fails, IsJustLine, IsLed, IsWithin, Leads, lines_from}
 use Rattle.pas_check.specs.States.{Due, Examines, Stand, with_due}
 use Rattle.pas_check.specs.Takes.{IsJust, Takes, TakesDue, TakesFirst}
 use Rattle.pas_check.specs.declared.cutting.Cursor.{Cursor}
-use Rattle.std.proofs.lemmas.Option.{same_Some}
+use Rattle.std.proofs.{lemmas.Option.same_Some, Math.Seq.take-append_seam}
 use Rattle.pas_profile.specs.{Directories.IsKind, Profiles.IsValid, Blocks.address_of}
-use Rattle.pas_machine.specs.Machines.{profile_of, StandsFor}
-use Rattle.pas_machine.specs.State.{deed_in, epoch_in, gives_in, live_in, touches}
+use Rattle.pas_machine.specs.{Machines.profile_of, Machines.StandsFor, State.deed_in, State.epoch_in, State.gives_in}
 use Rattle.pas_machine.specs.declared.machine.Machine.{Machine}
 
+-- ---- How a check goes on, line by line, and how it ends
+-- before the first line
+pub at_first : (f : Profile) (s : Stand) → SoFar f s [] s
+at_first f s = record { go = λ more. (λ g. g, λ g. g); whole = λ more. (λ g. g, λ g. g) }
+
+-- ---- a line is taken, and leads to one state
+module _ (f : Profile) (s next : Stand) (line : List ℕ) (takes : Takes f s line next) (one : (other : Stand) → Takes f s line other → other ≡ next) where
+  go_on : (more : List (List ℕ)) → MayGo f s (line ∷ more) → MayGo f next more
+  go_on more go = subst (λ t. MayGo f t more) (one go.1.0 go.1.1) (go.0, go.1.2)
+
+  whole_on : (more : List (List ℕ)) → IsWhole f s (line ∷ more) → IsWhole f next more
+  whole_on more go = subst (λ t. IsWhole f t more) (one go.1.0 go.1.1) (go.0, go.1.2, go.2)
+
+  -- A line that may come, and leads to one state, is one line more of those seen.
+  pub by_line : (first : Stand) (seen : List (List ℕ)) → SoFar f first seen s → SoFar f first (seen ++ line ∷ []) next
+  by_line first seen far = record {
+    go = λ more.
+        let e : (seen ++ line ∷ []) ++ more ≡ seen ++ line ∷ more = append_assoc seen (line ∷ []) more in
+        let at = far.go (line ∷ more) in
+        (λ go. go_on more (at.0 (subst (MayGo f first) e go)), λ go. subst (MayGo f first) (sym e) (at.1 (go.0, (next, takes, go.1))));
+    whole = λ more.
+        let e : (seen ++ line ∷ []) ++ more ≡ seen ++ line ∷ more = append_assoc seen (line ∷ []) more in
+        let at = far.whole (line ∷ more) in
+        (λ go. whole_on more (at.0 (subst (IsWhole f first) e go)), λ go. subst (IsWhole f first) (sym e) (at.1 (go.0, (next, takes, go.1), go.2)));
+  }
+
+-- ---- what is done without a line
+alike_goes : (f : Profile) (s t : Stand) → AreAlike f s t → (more : List (List ℕ)) → MayGo f s more → MayGo f t more
+alike_goes f s t like [] go = (t, refl)
+alike_goes f s t like (line ∷ more) go = (go.0, (go.1.0, (like.takes line go.1.0).0 go.1.1, go.1.2))
+
+alike_is_whole : (f : Profile) (s t : Stand) → AreAlike f s t → (more : List (List ℕ)) → IsWhole f s more → IsWhole f t more
+alike_is_whole f s t like [] go = (t, refl, like.done.0 (subst (IsDone f) go.1 go.2))
+alike_is_whole f s t like (line ∷ more) go = (go.0, (go.1.0, (like.takes line go.1.0).0 go.1.1, go.1.2), go.2)
+
+other_way : {f : Profile} {s t : Stand} → AreAlike f s t → AreAlike f t s
+other_way like = record { takes = λ line next. ((like.takes line next).1, (like.takes line next).0); done = (like.done.1, like.done.0) }
+
+-- A task that is begun without a line leaves the lines seen as they are.
+pub by_none : (f : Profile) (first s t : Stand) (seen : List (List ℕ)) → AreAlike f s t → SoFar f first seen s → SoFar f first seen t
+by_none f first s t seen like far = record {
+  go = λ more. let at = far.go more in (λ go. alike_goes f s t like more (at.0 go), λ go. at.1 (alike_goes f t s (other_way like) more go));
+  whole = λ more. let at = far.whole more in (λ go. alike_is_whole f s t like more (at.0 go), λ go. at.1 (alike_is_whole f t s (other_way like) more go));
+}
+
+-- ---- the ends
+seen_go : (f : Profile) (first s : Stand) (seen : List (List ℕ)) → SoFar f first seen s → MayGo f first seen
+seen_go f first s seen far = subst (MayGo f first) (append-nil seen) ((far.go []).1 (s, refl))
+
+take_one : (seen : List (List ℕ)) (line : List ℕ) (rest : List (List ℕ)) → take (length seen + 1) (seen ++ line ∷ rest) ≡ seen ++ line ∷ []
+take_one [] line rest = refl
+take_one (x ∷ seen) line rest = let e : suc (length seen) + 1 ≡ suc (length seen + 1) = omega arith in ap (λ n. take n (x ∷ (seen ++ line ∷ rest))) e ∙ ap (λ ys. x ∷ ys) (take_one seen line rest)
+
+-- THE LINE that can't be taken is the first that isn't allowed
+pub refused : (f : Profile) (first s : Stand) (seen : List (List ℕ)) (line : List ℕ) (rest : List (List ℕ)) → SoFar f first seen s
+    → ((next : Stand) → Takes f s line next → ⊥)
+    → IsStopped f first (seen ++ line ∷ rest) (length seen + 1)
+refused f first s seen line rest far never = record {
+  before = length seen;
+  number = refl;
+  go = subst (MayGo f first) (sym (take-append_seam seen (line ∷ rest))) (seen_go f first s seen far);
+  stops = inl (
+    (omega (arith, length-append seen (line ∷ rest))),
+    λ go. let at = (far.go (line ∷ [])).0 (subst (MayGo f first) (take_one seen line rest) go) in never at.1.0 at.1.1,
+  );
+}
+
+-- THE END of the lines: the transcript is whole where nothing is due or left, and otherwise it ends too early
+pub ended_whole : (f : Profile) (first s : Stand) (lines : List (List ℕ)) → SoFar f first lines s → IsDone f s → IsWhole f first lines
+ended_whole f first s lines far done = subst (IsWhole f first) (append-nil lines) ((far.whole []).1 (s, refl, done))
+
+take_whole : (lines : List (List ℕ)) → take (length lines) lines ≡ lines
+take_whole lines = ap (take (length lines)) (sym (append-nil lines)) ∙ take-append_seam lines []
+
+-- A text that ends before all is done stops behind its last line.
+pub ended_early : (f : Profile) (first s : Stand) (lines : List (List ℕ)) → SoFar f first lines s → (IsDone f s → ⊥)
+    → IsStopped f first lines (length lines + 1)
+ended_early f first s lines far undone = record {
+  before = length lines;
+  number = refl;
+  go = subst (MayGo f first) (sym (take_whole lines)) (seen_go f first s lines far);
+  stops = inr (refl, λ whole. let at = (far.whole []).0 (subst (IsWhole f first) (sym (append-nil lines)) whole) in undone (subst (IsDone f) at.1 at.2));
+}
+
+-- ---- How a check goes from place to place, and what every line keeps
 -- ---- How a check goes from place to place
 -- ---- two stretches, one after the other
 module _ {f : Profile} {text : List ℕ} {s t : Stand} {old mid : Cursor} (first : Leads f text s old t mid) where
@@ -162,8 +246,7 @@ module _ (f : Profile) (s : Stand) (d : Due) (more : List Due) (due : s.due ≡ 
 
   -- A line that may come where something is due answers what is due.
   pub takes_due : (line : List ℕ) (next : Stand) → Takes f s line next → TakesDue f s (d ∷ more) line next
-  takes_due line next (inl takes) = absurd (first_none f s d more no_pass line next (subst (λ ds. TakesFirst f s ds line next) due takes))
-  takes_due line next (inr takes) = search (arith, ready_is, ready_due)
+  takes_due line next is = search (arith, first_none, ready_is, ready_due)
 
   -- A line that answers what is due may come.
   pub due_takes : (line : List ℕ) (next : Stand) → TakesDue f s (d ∷ more) line next → Takes f s line next
@@ -232,13 +315,12 @@ EndsBy epoch (Event.End k name read) = read ≤ epoch
 EndsBy epoch (Event.Deed k page d) = IsKind d.kind
 EndsBy epoch other = Unit {0}
 
+-- in each case it computes, or is given
 raised : (t : Bool) (old read epoch : ℕ) → old ≤ epoch → read ≤ epoch → (if t then max old read else old) ≤ epoch
-raised true old read epoch low by = omega (arith, low, by)
-raised false old read epoch low by = low
+raised t old read epoch low by = search arith
 
 epoch_more : (e : Event) (es : List Event) (page epoch : ℕ) → EndsBy epoch e → epoch_in es page ≤ epoch → epoch_in (e ∷ es) page ≤ epoch
-epoch_more (Event.End k name read) es page epoch by low = raised (touches (live_in es (address_of name)) page) (epoch_in es page) read epoch low by
-epoch_more other es page epoch by low = low
+epoch_more e es page epoch by low = search (arith, raised)
 
 -- each deed's kind is one
 abbrev AreKinds : List Event → Type 0
@@ -246,12 +328,10 @@ AreKinds es = (page : ℕ) (d : Directory) → deed_in es page ≡ Some d → Is
 
 kind_made : (t : Bool) (made d : Directory) (old : Option Directory) → IsKind made.kind → (old ≡ Some d → IsKind d.kind)
     → (if t then Some made else old) ≡ Some d → IsKind d.kind
-kind_made true made d old kind before is = subst (λ (g : Directory). IsKind g.kind) (same_Some made d is) kind
-kind_made false made d old kind before is = before is
+kind_made t made d old kind before is = search (arith, same_Some)
 
 kinds_more : (e : Event) (es : List Event) (epoch : ℕ) → EndsBy epoch e → AreKinds es → AreKinds (e ∷ es)
-kinds_more (Event.Deed k p made) es epoch by kinds page d is = kind_made (p == page) made d (deed_in es page) by (kinds page d) is
-kinds_more other es epoch by kinds page d is = kinds page d is
+kinds_more e es epoch by kinds page d is = search (arith, kind_made)
 
 -- One event more, in one line more, at an epoch so far, keeps events few and epochs small.
 pub kept_more : (t s : Stand) (at to : Cursor) (e : Event) → t.events ≡ e ∷ s.events → t.epoch ≡ s.epoch → to.lines ≡ at.lines + 1 → EndsBy s.epoch e
@@ -274,8 +354,7 @@ reaches_here {f} {text} {s} {from} {machine} {due} within stands kept is = recor
 
 -- ---- such a state is small
 one_more : (t : Bool) (old long : ℕ) → old ≤ long → (if t then old + 1 else old) ≤ suc long
-one_more true old long low = omega (arith, low)
-one_more false old long low = omega (arith, low)
+one_more t old long low = search arith
 
 -- No more blocks were given at an address than there are events.
 pub gives_few : (es : List Event) (a : ℕ) → gives_in es a ≤ length es

@@ -5,13 +5,11 @@ pub mod Verdicts
 pub mod Entries
 mod LinesTaken
 pub mod Ticks
-pub mod Goings
 mod OneNext
-mod Leads
-pub mod Beginnings
+pub mod Leads
 mod Logs
 mod Actings
 mod Stretches
 mod Guardings
-mod ActsOfPlans
+pub mod ActsOfPlans
 mod Chains

@@ -1,6 +1,6 @@
 -- Lines that the machine judges, taken or not: entries of a log, deeds and backs, gives and refusals, outcomes of a pass.
-use Rattle.std.proofs.Common.{◌≡◌, ◌≢◌, ℕ, ◌^◌, ◌<◌, Bool, true, false, List, Some, None, inl, inr, refl, ap, sym, subst, ◌∙◌, arith, Result, Ok, Err, is_ok}
-use Rattle.std.proofs.Common.{MatchBool, ◌+◌, ◌*◌, ◌-◌, ◌/◌, ◌≤◌, nat_le, nat_lt, Option, leb-true, ltb-true, le-leb, lt-ltb, eqb-true}
+use Rattle.std.proofs.Common.{◌≡◌, ◌≢◌, ℕ, ◌^◌, ◌<◌, Bool, true, false, List, Some, None, inl, inr, refl, ap, sym, subst, ◌∙◌, arith, Result, is_ok, MatchBool}
+use Rattle.std.proofs.Common.{◌+◌, ◌*◌, ◌-◌, ◌/◌, ◌≤◌, nat_le, nat_lt, Option, leb-true, ltb-true, le-leb, lt-ltb, eqb-true}
 use Rattle.std.proofs.lemmas.{Option.none-some, Option.same_Some, Bool.and_from, Bool.and_parts, Bool.cases_lt}
 use Rattle.pas_profile.specs.declared.{profile.Profile.Profile, directory.Directory.Directory, event.Event.Event, directory.Route.TheVariants.Class}
 use Rattle.pas_profile.specs.declared.{name.Block.Block, event.Outcome.Outcome}
@@ -22,26 +22,20 @@ use Rattle.pas_bits.specs.Runs.{in_run}
 use Rattle.pas_trace.specs.declared.item.Request.{Request}
 use Rattle.pas_profile.proofs.ClassFacts.{class_known, route_is}
 use Rattle.pas_check.proofs.OneNext.{deed_page, gives_fits, refusal_fits, outcome_fits, outcome_is}
-use Rattle.pas_profile.specs.declared.event.Outcome.TheVariants.{Bare, Young, InUse, NotOffered}
 use Rattle.pas_trace.proofs.PassedChecks.{if_some}
 
 -- ---- Lines that the machine judges, taken or not
 -- so few events can't have so many gives at an address
 counted : (es : List Event) (e : Event) → IsFew es → IsUncounted es e → ⊥
-counted es (Event.Give k block) few is = omega (arith, gives_few es (address_of block.name), few, is)
-counted es other few is = is
+counted es e few is = search (arith, gives_few)
 
 pub stepped : (old new : Machine) (e : Event) (result : Result Unit StepFault) → Steps old new e result → IsStepped old new e (is_ok result)
-stepped old new e (Ok done) steps = steps
-stepped old new e (Err (StepFault.Illegal reason)) steps =
-    (steps.0, λ es stands few admitted. never_of (profile_of old) es stands.run e admitted reason (steps.1 es stands).applies)
-stepped old new e (Err StepFault.NoMemory) steps = (steps.0, λ es stands few admitted. counted es e few (steps.1 es stands).1)
+stepped old new e result steps = search (arith, never_of, counted)
 
 -- ---- an entry
 -- the event of an entry is of a grain of the region, where it may come
 entry_place : (f : Profile) (s : Stand) (k : ℕ) (entry : Entry) (e : Event) → IsEventOf s k entry e → Admits f s.events e → IsPlace f (address_of entry.name)
-entry_place f s k entry e (inl is) admitted = (subst (Admits f s.events) is.3 admitted).0
-entry_place f s k entry e (inr is) admitted = (subst (Admits f s.events) is.1 admitted).0
+entry_place f s k entry e is admitted = search arith
 
 module _ (k : ℕ) (entry : Entry) (epoch : ℕ) (line : List ℕ) (old : Machine) where
   -- it isn't of a grain of the region
@@ -84,8 +78,7 @@ event_of_read other read =
 -- what is admitted is of a page of the region, so its number fits
 fits_preparing : (f : Profile) (es : List Event) (k : ℕ) (d : Directory) (e : Event) → IsValid f → k < 2 ^ 8 → d.heap < 2 ^ 8 → IsKind d.kind
     → IsPreparing k d e → Admits f es e → FitsEvent e
-fits_preparing f es k d e valid few heap kind (inl is) admitted = search arith
-fits_preparing f es k d e valid few heap kind (inr is) admitted = search arith
+fits_preparing f es k d e valid few heap kind is admitted = search arith
 
 module _ (k : ℕ) (d : Directory) (few : k < 2 ^ 8) (heap : d.heap < 2 ^ 8) (kind : IsKind d.kind) (line : List ℕ) (old : Machine)
     (valid : IsValid (profile_of old)) where
@@ -116,8 +109,7 @@ module _ (k : ℕ) (d : Directory) (few : k < 2 ^ 8) (heap : d.heap < 2 ^ 8) (ki
 -- ---- Gives and refusals of a request, taken or not
 -- ---- what is wanted
 kind_known : (shared : Bool) (class : ℕ) → IsClass class → IsKind (kind_of_class shared class)
-kind_known true class known = tt
-kind_known false class known = known
+kind_known shared class known = search arith
 
 -- the kind of the pages for a class that serves a request
 pub class_kind : (shared : Bool) (f : Profile) (size align class : ℕ) → route_in f size align ≡ Class class → IsKind (kind_of_class shared class)
@@ -205,21 +197,14 @@ abbrev record_in : ℕ → Examined → Record
 record_in epoch x = record_of epoch x.page x.outcome
 
 event_is : (epoch : ℕ) (e : Event) (x : Examined) → outcome_in_event epoch e ≡ Some x → Record.Event e ≡ record_in epoch x
-event_is epoch (Event.Unback k page read) x h = search (arith, if_some, eqb-true, same_Some)
-event_is epoch other x h = absurd (none-some x h)
+event_is epoch e x h = search (arith, if_some, eqb-true, same_Some, none-some)
 
 said_is : (epoch : ℕ) (said : Said) (x : Examined) → outcome_in_said said ≡ Some x → Record.Said 0 said ≡ record_in epoch x
-said_is epoch (Said.Bare page) x h = ap (record_in epoch) (same_Some (record { page = page; outcome = Bare }) x h)
-said_is epoch (Said.Young page stamp) x h = ap (record_in epoch) (same_Some (record { page = page; outcome = Young stamp }) x h)
-said_is epoch (Said.InUse page word value) x h = ap (record_in epoch) (same_Some (record { page = page; outcome = InUse word value }) x h)
-said_is epoch (Said.NotOffered page) x h = ap (record_in epoch) (same_Some (record { page = page; outcome = NotOffered }) x h)
-said_is epoch other x h = absurd (none-some x h)
+said_is epoch said x h = search (arith, same_Some, none-some)
 
 -- A record that tells a page's outcome is the record of just that outcome.
 pub record_is : (epoch : ℕ) (r : Record) (x : Examined) → outcome_in epoch r ≡ Some x → r ≡ record_of epoch x.page x.outcome
-record_is epoch (Record.Event e) x h = event_is epoch e x h
-record_is epoch (Record.Said k said) x h = search (arith, if_some, eqb-true, said_is)
-record_is epoch other x h = absurd (none-some x h)
+record_is epoch r x h = search (arith, event_is, if_some, eqb-true, said_is, none-some)
 
 -- ---- the line of an outcome
 module _ (old : Machine) (line : List ℕ) (last epoch : ℕ) where

@@ -1,15 +1,14 @@
 -- A line that may come leads to one state.
 use Rattle.std.proofs.Common.{◌≡◌, ℕ, ◌/◌, ◌%◌, ◌^◌, ◌<◌, ◌≤◌, ◌==◌, ◌||◌, Bool, true, false, if◌then◌else◌, List, [], ◌∷◌, Option, Some, None, inl, inr, refl}
-use Rattle.std.proofs.Common.{ap, sym, subst, ◌∙◌, arith, eqb-true, eq-eqb, ne_eqb, ◌≢◌, suc, ◌⊎◌, ◌++◌, length, codes}
+use Rattle.std.proofs.Common.{ap, sym, subst, ◌∙◌, arith, eqb-true, eq-eqb, ne_eqb, ◌≢◌, suc, ◌⊎◌, ◌++◌, length}
 use Rattle.std.proofs.lemmas.Option.{none-some, same_Some}
 use Rattle.pas_profile.specs.{Profiles.IsPage, Profiles.IsValid, Blocks.address_of, Blocks.grain_of, Blocks.length_of}
 use Rattle.pas_bits.proofs.Runs.{first_of_run}
 use Rattle.pas_profile.specs.declared.{directory.Directory.Directory, event.Event.Event, event.Outcome.Outcome, name.Block.Block, name.Name.Name}
 use Rattle.pas_profile.specs.declared.{profile.Profile.Profile, event.Why.Why}
-use Rattle.pas_profile.specs.declared.event.Outcome.TheVariants.{Unbacked, Young, InUse, Bare, NotOffered}
 use Rattle.pas_machine.specs.{Machine.Run, Machine.Admits, State.deed_in}
 use Rattle.pas_steps.specs.Events.{actor_of}
-use Rattle.pas_report.specs.Lines.{line_of, hex_digits, line_of_answer, line_of_event}
+use Rattle.pas_report.specs.Lines.{line_of, line_of_answer, line_of_event}
 use Rattle.pas_report.specs.declared.record.{Record.Record, Said.Said}
 use Rattle.pas_check.specs.Begins.{has_sides, raising, replacing, past_outcomes, ready}
 use Rattle.pas_check.specs.{Calls.outcome_in, Readings.byte_at, Readings.of_u8, Readings.past_digits}
@@ -44,8 +43,7 @@ deed_page f (other ∷ es) run page d h = deed_page f es run.1 page d h
 -- ---- records of outcomes
 -- the outcome is read back from its record
 pub outcome_is : (epoch page : ℕ) (o : Outcome) → outcome_in epoch (record_of epoch page o) ≡ Some record { page = page; outcome = o }
-outcome_is epoch page Unbacked = ap (λ (t : Bool). if t then Some (record { page = page; outcome = Unbacked }) else None) (eq-eqb epoch epoch refl)
-outcome_is epoch page other = refl
+outcome_is epoch page o = search (arith, eq-eqb)
 
 -- no outcome is read from the record
 abbrev pub TellsNone : Record → Type 0
@@ -72,21 +70,20 @@ abbrev pub IsOf : ℕ → Record → Type 0
 IsOf k (Record.Event e) = actor_of e ≡ k
 IsOf k other = Unit {0}
 
+-- in each case it computes, or is given
 prepared_by : (k : ℕ) (d : Directory) (e : Event) → IsPreparing k d e → actor_of e ≡ k
-prepared_by k d e (inl is) = ap actor_of is.1
-prepared_by k d e (inr is) = ap actor_of is.1
+prepared_by k d e is = search arith
 
+-- in each case it computes, or is given
 preparing_none : (k : ℕ) (d : Directory) (e : Event) → IsPreparing k d e → TellsNone (Record.Event e)
-preparing_none k d e (inl is) = subst (λ g. TellsNone (Record.Event g)) (sym is.1) (λ n. refl)
-preparing_none k d e (inr is) = subst (λ g. TellsNone (Record.Event g)) (sym is.1) (λ n. refl)
+preparing_none k d e is = search arith
 
+-- in each case it computes, or is given
 same_both : (t : Bool) (o : Option Examined) → (if t then o else o) ≡ o
-same_both true o = refl
-same_both false o = refl
+same_both t o = search arith
 
 refusal_none : (f : Profile) (s : Stand) (k : ℕ) (r : Request) (said : Said) → IsRefusal f s r said → TellsNone (Record.Said k said)
-refusal_none f s k r said (inl is) = subst (λ w. TellsNone (Record.Said k w)) (sym is) (λ n. same_both (k == 0) None)
-refusal_none f s k r said (inr is) = subst (λ w. TellsNone (Record.Said k w)) (sym is.2) (λ n. same_both (k == 0) None)
+refusal_none f s k r said is = search (arith, same_both)
 
 -- ---- the lines of a request
 -- what follows from a record that answers it
@@ -95,16 +92,15 @@ answered s k r replaced more (Record.Event (Event.Give j block)) = replacing rep
 answered s k r replaced more (Record.Event e) = with_one s e
 answered s k r replaced more other = with_due (with_name s r.name None) more
 
+-- in each case it computes, or is given
 prepared_then : (s : Stand) (k : ℕ) (r : Request) (replaced : Option Name) (more : List Due) (d : Directory) (e : Event) → IsPreparing k d e
     → answered s k r replaced more (Record.Event e) ≡ with_one s e
-prepared_then s k r replaced more d e (inl is) = subst (λ g. answered s k r replaced more (Record.Event g) ≡ with_one s g) (sym is.1) refl
-prepared_then s k r replaced more d e (inr is) = subst (λ g. answered s k r replaced more (Record.Event g) ≡ with_one s g) (sym is.1) refl
+prepared_then s k r replaced more d e is = search arith
 
 module _ (f : Profile) (s : Stand) (small : IsSmall f s) (k : ℕ) (r : Request) (fits : FitsRequest f k r) where
   -- A deed or a back that the machine admits for a request fits.
   pub prepares_fits : (e : Event) → IsPreparing k (directory_of f r) e → Admits f s.events e → FitsEvent e
-  prepares_fits e (inl is) admitted = search (arith, small_page)
-  prepares_fits e (inr is) admitted = search (arith, small_page)
+  prepares_fits e is admitted = search (arith, small_page)
 
   -- A give that the machine admits for a request fits.
   pub gives_fits : (block : Block) → IsFor f s r block → Admits f s.events (Event.Give k block) → FitsEvent (Event.Give k block)
@@ -173,18 +169,12 @@ module _ (f : Profile) (s : Stand) (small : IsSmall f s) (keeper k : ℕ) (r : R
       (eq-eqb (actor_of e) keeper by)
 
   tried_own : (item : Record) → IsOf k item → tried f s keeper k r backed more item ≡ answered (serving s k r more) k r None more item
-  tried_own (Record.Event e) own =
-      ap (λ t. if t then kept f s keeper k r backed more e else answered (serving s k r more) k r None more (Record.Event e))
-      (ne_eqb (actor_of e) keeper (λ same. fits.apart (sym same ∙ own)))
-  tried_own (Record.Said j said) own = refl
-  tried_own other own = refl
+  tried_own item own = search (arith, ne_eqb)
 
+  -- in each case it computes, or is given
   kept_then : (e : Event) → IsPreparing keeper (directory_of f r) e
       → kept f s keeper k r backed more e ≡ with_due (with_one s e) (Tries keeper k r (backed || is_back e) ∷ more)
-  kept_then e (inl is) = subst (λ g. kept f s keeper k r backed more g ≡ with_due (with_one s g) (Tries keeper k r (backed || is_back g) ∷ more)) (sym is.1)
-      refl
-  kept_then e (inr is) = subst (λ g. kept f s keeper k r backed more g ≡ with_due (with_one s g) (Tries keeper k r (backed || is_back g) ∷ more)) (sym is.1)
-      refl
+  kept_then e is = search arith
 
   by_try : (line : List ℕ) (a : Stand) → TakesTry f s keeper k r backed more line a → IsBy (λ item. Unit {0}) (tried f s keeper k r backed more) line a
   by_try line a (inl x) = record {
@@ -213,10 +203,7 @@ same_outcome epoch x y e = same_Some x y (sym (outcome_is epoch x.page x.outcome
 
 -- An outcome that may come of a page fits.
 pub outcome_fits : (f : Profile) (s : Stand) → IsSmall f s → (page : ℕ) (o : Outcome) → IsPage f page → MayCome f s page o → Fits (record_of s.epoch page o)
-outcome_fits f s small page Unbacked of may = (omega arith, small_page f page small.valid of, small.epoch)
-outcome_fits f s small page (Young stamp) of may = let few = small.ends page in (omega arith, (small_page f page small.valid of, omega (arith, few, may.0)))
-outcome_fits f s small page (InUse word value) of may = (omega arith, (small_page f page small.valid of, omega (arith, may.0), omega (arith, may.1)))
-outcome_fits f s small page other of may = (omega arith, small_page f page small.valid of)
+outcome_fits f s small page o of may = search (arith, small_page)
 
 -- A line that tells an outcome of a pass leads to one state.
 one_outcome : (f : Profile) (s : Stand) → IsSmall f s → (last : ℕ) (more : List Due) (line : List ℕ) (a b : Stand) → TakesOutcome f s last more line a
@@ -245,18 +232,11 @@ one_next f s small other fits line a b x y = x.1 ∙ sym y.1
 -- ---- A line that may come next leads to one state: no outcome of a pass has the line of what follows the pass
 -- ---- the lines of outcomes begin with a number
 behind_actor : (epoch page : ℕ) (o : Outcome) → byte_at 0 (past_digits (line_of (record_of epoch page o))) ≡ 32
-behind_actor epoch page Bare = ap (byte_at 0) (past_number 0 32 (codes "bare page " ++ (decimal page ++ codes "\n")) (omega arith) refl)
-behind_actor epoch page NotOffered = ap (byte_at 0) (past_number 0 32 (codes "not-offered page " ++ (decimal page ++ codes "\n")) (omega arith) refl)
-behind_actor epoch page other = search (arith, past_number)
+behind_actor epoch page o = search (arith, past_number)
 
 -- ---- the actor in front of a line
 outcome_actor : (epoch page : ℕ) (o : Outcome) → of_u8 (line_of (record_of epoch page o)) ≡ 0
-outcome_actor epoch page Unbacked = u8_back 0 32 (codes "unback page " ++ (decimal page ++ (codes " epoch " ++ (decimal epoch ++ codes "\n")))) (omega arith) refl
-outcome_actor epoch page Bare = u8_back 0 32 (codes "bare page " ++ (decimal page ++ codes "\n")) (omega arith) refl
-outcome_actor epoch page (Young stamp) = u8_back 0 32 (codes "young page " ++ (decimal page ++ (codes " stamp " ++ (decimal stamp ++ codes "\n")))) (omega arith) refl
-outcome_actor epoch page (InUse word value) = u8_back 0 32 (codes "in-use page " ++ (decimal page ++ (codes " word "
-    ++ (decimal word ++ (codes " value 0x" ++ (hex_digits 16 value ++ codes "\n")))))) (omega arith) refl
-outcome_actor epoch page NotOffered = u8_back 0 32 (codes "not-offered page " ++ (decimal page ++ codes "\n")) (omega arith) refl
+outcome_actor epoch page o = search (arith, u8_back)
 
 module _ (k : ℕ) (few : k < 2 ^ 8) where
   -- behind it stands a space
@@ -279,17 +259,16 @@ module _ (k : ℕ) (few : k < 2 ^ 8) where
       refused (Why.SizeDiffers room) = (_, refl)
   entry_spaced s entry e (inr is) = subst (λ g. Spaced (line_of_event g)) (sym is.1) (_, refl)
 
+-- in each case it computes, or is given
 no_entry : (s : Stand) (k : ℕ) (entry : Entry) (e : Event) → IsEventOf s k entry e → TellsNone (Record.Event e)
-no_entry s k entry e (inl is) = subst (λ g. TellsNone (Record.Event g)) (sym is.3) (λ n. refl)
-no_entry s k entry e (inr is) = subst (λ g. TellsNone (Record.Event g)) (sym is.1) (λ n. refl)
+no_entry s k entry e is = search arith
 
+-- in each case it computes, or is given
 why_fits : (entry : Entry) (why : Why) → entry.room < 2 ^ 32 → MayRefuse entry why → FitsWhy why
-why_fits entry (Why.SizeDiffers asked) room may = omega (arith, may.1, room)
-why_fits entry other room may = tt
+why_fits entry why room may = search arith
 
 entry_fits : (s : Stand) (k : ℕ) (entry : Entry) (e : Event) → k < 2 ^ 8 → FitsEntry entry → s.epoch < 2 ^ 64 → IsEventOf s k entry e → FitsEvent e
-entry_fits s k entry e few fits small (inl is) = subst FitsEvent (sym is.3) (few, fits.name, why_fits entry is.0 fits.room is.1)
-entry_fits s k entry e few fits small (inr is) = subst FitsEvent (sym is.1) (few, fits.name, small)
+entry_fits s k entry e few fits small is = search (arith, why_fits)
 
 -- ---- the line of an outcome answers nothing else that is due
 module _ (f : Profile) (s : Stand) (small : IsSmall f s) (last : ℕ) (rest : List Due) (line : List ℕ) (a : Stand) (x : TakesOutcome f s last rest line a) where
@@ -336,19 +315,15 @@ module _ (f : Profile) (s : Stand) (small : IsSmall f s) (last : ℕ) (rest : Li
 
 -- ---- THE NEXT STATE is one
 fits_first : (f : Profile) (due : List Due) → FitsNext f due → FitsFirst f due
-fits_first f (Writes item ∷ more) fits = tt
-fits_first f (Frees k entry ∷ more) fits = tt
-fits_first f other fits = fits
+fits_first f due fits = search arith
 
 module _ (f : Profile) (s : Stand) (small : IsSmall f s) where
   one_first : (due : List Due) (line : List ℕ) (a b : Stand) → TakesFirst f s due line a → TakesFirst f s due line b → a ≡ b
-  one_first (Examines page ∷ more) line a b x y = one_outcome f s small page more line a b x y
-  one_first other line a b x y = absurd x
+  one_first due line a b x y = search (arith, one_outcome)
 
   module _ (new : IsSmall f (ready f s)) (fits : FitsNext f (ready f s).due) (no_pass : past_outcomes (ready f s).due ≡ (ready f s).due) where
     first_apart : (due : List Due) (line : List ℕ) (a b : Stand) → TakesFirst f s due line a → TakesDue f (ready f s) (ready f s).due line b → ⊥
-    first_apart (Examines page ∷ more) line a b x y = outcome_apart f s small page more line a x (ready f s) new (ready f s).due fits no_pass b y
-    first_apart other line a b x y = x
+    first_apart due line a b x y = search (arith, outcome_apart)
 
     -- A line that may come next leads to one state.
     pub one_takes : (line : List ℕ) (a b : Stand) → Takes f s line a → Takes f s line b → a ≡ b

@@ -1,7 +1,7 @@
 -- Pages of the report with their marks, and its totals.
-use Rattle.std.proofs.Common.{◌≡◌, ℕ, ◌+◌, ◌-◌, ◌==◌, Bool, true, false, if◌then◌else◌, List, [], ◌∷◌, ◌++◌, refl, ap, sym, ◌∙◌, arith, append_assoc, length}
-use Rattle.std.proofs.Common.{take, drop, inl, inr, drop-drop, eq-eqb, ne_eqb, MatchBool, ◌*◌, ◌/◌, ◌%◌, ◌≤◌, nat_le, nat_lt, not, Option, None, Some, subst}
-use Rattle.std.proofs.Common.{eqb-true, leb-true, ◌≢◌, zero, suc, ◌<◌, add-zero, add-suc}
+use Rattle.std.proofs.Common.{◌≡◌, ℕ, ◌+◌, ◌-◌, ◌==◌, Bool, true, false, if◌then◌else◌, List, [], ◌∷◌, ◌++◌, refl, ap, sym, ◌∙◌, arith, append_assoc}
+use Rattle.std.proofs.Common.{append-nil, length, take, drop, inl, inr, drop-drop, eq-eqb, ne_eqb, MatchBool, ◌*◌, ◌/◌, ◌%◌, ◌≤◌, nat_le, nat_lt, not, Option}
+use Rattle.std.proofs.Common.{None, Some, subst, eqb-true, leb-true, ◌≢◌, zero, suc, ◌<◌, add-zero, add-suc}
 use Rattle.std.specs.List.{concat}
 use Rattle.std.proofs.{Math.Seq.take-add, lemmas.List.take_rest, lemmas.Bool.cases_eq, lemmas.Bool.and_parts, lemmas.Option.none-some}
 use Rattle.pas_check.specs.{Lines.put_front, Lines.lines_in, Takes.AreAllowedMarks, Begins.page_due, Begins.pages_due}
@@ -27,8 +27,7 @@ use Rattle.pas_machine.proofs.LiveBlocks.{all_counted}
 -- ---- What a cut of an input does to its trace and its transcript
 -- ---- the lines of a text, one after the other, are the text
 front_of : (b : ℕ) (lines : List (List ℕ)) → concat (put_front b lines) ≡ b ∷ concat lines
-front_of b [] = refl
-front_of b (line ∷ lines) = refl
+front_of b lines = search arith
 
 -- A text's lines one after the other are the text.
 pub all_lines : (text : List ℕ) → concat (lines_in text) ≡ text
@@ -101,12 +100,10 @@ module _ (input : List ℕ) (p n : ℕ)
 -- ---- a live block begins at a grain
 given_even : (t : Bool) (a k : ℕ) (block : Block) (old : Option Live) (b : Live) → (address_of block.name == a) ≡ t → address_of block.name % 16 ≡ 0
     → ((c : Live) → old ≡ Some c → a % 16 ≡ 0) → (if t then Some (record { actor = k; block = block }) else old) ≡ Some b → a % 16 ≡ 0
-given_even true a k block old b same even before is = subst (λ (n : ℕ). n % 16 ≡ 0) (eqb-true (address_of block.name) a same) even
-given_even false a k block old b same even before is = before b is
+given_even t a k block old b same even before is = search (arith, eqb-true)
 
 ended_even : (t : Bool) (a : ℕ) (old : Option Live) (b : Live) → ((c : Live) → old ≡ Some c → a % 16 ≡ 0) → (if t then None else old) ≡ Some b → a % 16 ≡ 0
-ended_even true a old b before is = absurd (none-some _ is)
-ended_even false a old b before is = before b is
+ended_even t a old b before is = search (arith, none-some)
 
 live_even : (f : Profile) (es : List Event) → Run f es → (a : ℕ) (b : Live) → live_in es a ≡ Some b → a % 16 ≡ 0
 live_even f [] run a b is = absurd (none-some _ is)
@@ -216,8 +213,7 @@ deed_under f es block may none =
     none-some bears.directory (sym none ∙ ap (deed_in es) here ∙ bears.deed)
 
 not_made : (t : Bool) (d : Directory) (old : Option Directory) → (if t then Some d else old) ≡ None → old ≡ None
-not_made true d old none = absurd (none-some d (sym none))
-not_made false d old none = none
+not_made t d old none = search (arith, none-some)
 
 no_gives : (f : Profile) (es : List Event) → Run f es → (a : ℕ) → deed_in es (a / 4096) ≡ None → gives_in es a ≡ 0
 no_gives f [] run a none = refl
@@ -320,11 +316,7 @@ pages_from es k (suc n) = page_due k (deed_in es k) ++ pages_from es (k + 1) n
 pages_more : (es : List Event) (k n : ℕ) → pages_from es k (suc n) ≡ pages_from es k n ++ page_due (k + n) (deed_in es (k + n))
 pages_more es k zero =
     let e : k + 0 ≡ k = omega arith in
-    append_none (page_due k (deed_in es k)) ∙ ap (λ (x : ℕ). page_due x (deed_in es x)) (sym e)
-  where
-    append_none : (xs : List Due) → xs ++ [] ≡ xs
-    append_none [] = refl
-    append_none (x ∷ xs) = ap (λ ys. x ∷ ys) (append_none xs)
+    append-nil (page_due k (deed_in es k)) ∙ ap (λ (x : ℕ). page_due x (deed_in es x)) (sym e)
 pages_more es k (suc n) =
     let e : k + 1 + n ≡ k + suc n = omega arith in
     ap (λ (ds : List Due). page_due k (deed_in es k) ++ ds) (pages_more es (k + 1) n ∙ ap (λ (x : ℕ). pages_from es (k + 1) n ++ page_due x (deed_in es x)) e)
@@ -341,18 +333,15 @@ pages_are es (suc n) =
 -- What is due from a page on is that of the page and that from the next page on.
 pub pages_next : (es : List Event) (k n m : ℕ) (more : List Due) (deed : Option Directory) → n ≡ m + 1 → deed_in es k ≡ deed
     → pages_from es k n ++ more ≡ page_due k deed ++ (pages_from es (k + 1) m ++ more)
-pages_next es k zero m more deed is at = absurd (omega (arith, is))
-pages_next es k (suc n) m more deed is at = search (arith, append_assoc)
+pages_next es k n m more deed is at = search (arith, append_assoc)
 
 -- Where no page is left, nothing is due of pages.
 pub pages_last : (es : List Event) (k n : ℕ) (more : List Due) → n ≡ 0 → pages_from es k n ++ more ≡ more
-pages_last es k zero more is = refl
-pages_last es k (suc n) more is = absurd (omega (arith, is))
+pages_last es k n more is = search arith
 
 -- ---- the totals
 counted : (o : Option Live) (gives ends : ℕ) → IsCounted o gives ends → gives ≡ ends + (if has_block o then 1 else 0)
-counted None gives ends is = omega (arith, is)
-counted (Some b) gives ends is = omega (arith, is.0)
+counted o gives ends is = search arith
 
 -- As many blocks were given in all as ended and live.
 pub given_is : (f : Profile) (es : List Event) → Run f es → given_total f es ≡ ended_total f es + live_total f es

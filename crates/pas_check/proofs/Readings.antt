@@ -2,7 +2,7 @@
 use Rattle.std.proofs.Common.{◌≡◌, ℕ, zero, suc, ◌+◌, ◌-◌, ◌*◌, ◌/◌, ◌%◌, ◌^◌, ◌<◌, ◌≤◌, nat_lt, Bool, true, false, if◌then◌else◌, List, [], ◌∷◌, ◌++◌, refl}
 use Rattle.std.proofs.Common.{ap, sym, ◌∙◌, arith, lt-ltb, le-ltb, ◌==◌, length, drop, codes, eqb-true}
 use Rattle.std.specs.Fmt.{decimal}
-use Rattle.std.proofs.lemmas.{Bool.and_parts, Bool.false≢true, Bool.Decides.nat_tests, Grind.pow_more}
+use Rattle.std.proofs.lemmas.{Bool.and_parts, Bool.Decides.nat_tests, Grind.pow_more}
 use Rattle.std.proofs.Math.Nat.{pow-le-pow_right, pow-suc, div-add-mod, div-div-eq-div-mul, mul-add, mul_comm, mul_assoc, mul_left_comm}
 use Rattle.pas_trace.specs.Numbers.{is_digit, all_digits, value_from, hex_value}
 use Rattle.pas_trace.proofs.Digits.{digit-is}
@@ -54,9 +54,9 @@ u8_back n end rest fits stops = ap (small (2 ^ 8)) (number_back n end rest (omeg
 u32_back : (n end : ℕ) (rest : List ℕ) → n < 2 ^ 32 → is_digit end ≡ false → of_u32 (decimal n ++ end ∷ rest) ≡ n
 u32_back n end rest fits stops = ap (small (2 ^ 32)) (number_back n end rest (omega (arith, fits)) stops) ∙ small_is (2 ^ 32) n fits
 
+-- in each case it computes, or is given
 grown : (t : Bool) (v w x : ℕ) → v ≤ w → w ≤ x → v ≤ (if t then x else v)
-grown true v w x a b = omega (arith, a, b)
-grown false v w x a b = omega arith
+grown t v w x a b = search arith
 
 no_small : (limit n : ℕ) → limit ≤ n → small limit n ≡ 0
 no_small limit n h = let t : nat_lt n limit ≡ false = le-ltb n limit h in rw t refl
@@ -120,13 +120,11 @@ hex_most v i n lt le = let p : 16 ^ i ≤ 16 ^ n = pow-le-pow_right (omega arith
 
 -- One hexadecimal digit more is read as sixteen times the number before and its value.
 pub hex_more : (k v b : ℕ) (bs : List ℕ) → 0 < k → hex_after k v (b ∷ bs) ≡ hex_after (k - 1) (16 * v + hex_value b % 16) bs
-hex_more zero v b bs some = absurd (omega (arith, some))
-hex_more (suc k) v b bs some = let e : suc k - 1 ≡ k = omega arith in ap (λ j. hex_after j (16 * v + hex_value b % 16) bs) (sym e)
+hex_more k v b bs some = search arith
 
 -- Where no byte is left, the number read so far stays.
 pub hex_stops : (k v : ℕ) → hex_after k v [] ≡ v
-hex_stops zero v = refl
-hex_stops (suc k) v = refl
+hex_stops k v = search arith
 
 -- ---- THE LINE of a record is read as that record. So no two records whose numbers fit have one line
 -- ---- names
@@ -148,16 +146,14 @@ is_of_class (Kind.Class c) class = c == class
 is_of_class other class = false
 
 of_class : (kind : Kind) (class : ℕ) → is_of_class kind class ≡ true → kind ≡ Kind.Class class
-of_class (Kind.Class c) class e = ap (λ n. Kind.Class n) (eqb-true c class e)
-of_class other class e = absurd (false≢true e)
+of_class kind class e = search (arith, eqb-true)
 
 -- the size of a class names it
 class_is : (class : ℕ) → IsClass class → kind_of_route false (route_of 20 (class_size class) 16) ≡ Kind.Class class
 class_is class is = of_class _ class (class_passes (λ c. is_of_class (kind_of_route false (route_of 20 (class_size c) 16)) c) refl class is)
 
 kind_is : (kind : Kind) → IsKind kind → kind_at (codes " " ++ (kind_text kind ++ codes "\n")) ≡ kind
-kind_is (Kind.Class class) h = ap (λ n. kind_of_route false (route_of 20 n 16)) (u32_back (class_size class) 10 [] (size_fits class) refl) ∙ class_is class h
-kind_is other h = refl
+kind_is kind h = search (arith, u32_back, size_fits, class_is)
 
 directory_is : (d : Directory) → d.heap < 2 ^ 8 → IsKind d.kind
     → directory_at (codes " heap " ++ (decimal d.heap ++ (codes " " ++ (kind_text d.kind ++ codes "\n")))) ≡ d
@@ -293,8 +289,7 @@ one_line r q fits fits' same = sym (read_back r fits) ∙ ap record_at same ∙ 
 
 -- a record whose numbers fit can be shown
 pub fits_show : (r : Record) → Fits r → CanShow r
-fits_show (Record.Event (Event.Deed k page d)) fits = fits.3
-fits_show other fits = tt
+fits_show r fits = search arith
 
 -- the record that was found is the one of the line
 pub found_is : (line : List ℕ) (found r : Record) → found ≡ record_at line → Fits r → line ≡ line_of r → found ≡ r

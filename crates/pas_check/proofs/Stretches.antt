@@ -1,7 +1,7 @@
 -- The lines of a log's entries, of a request and of a pass, one after the other.
-use Rattle.std.proofs.Common.{◌≡◌, ℕ, ◌+◌, ◌^◌, ◌<◌, ◌≤◌, true, false, List, [], ◌∷◌, ◌++◌, inl, inr, refl, ap, sym, subst, ◌∙◌, arith, ◌⊎◌, Option, None, Some}
+use Rattle.std.proofs.Common.{◌≡◌, ℕ, ◌+◌, ◌^◌, ◌<◌, true, false, List, [], ◌∷◌, ◌++◌, inl, inr, refl, ap, sym, subst, ◌∙◌, arith, ◌⊎◌, Option, None, Some}
 use Rattle.pas_profile.specs.declared.{event.Event.Event, directory.Directory.Directory, name.Block.Block, name.Name.Name, event.Outcome.Outcome}
-use Rattle.pas_profile.specs.declared.{profile.Profile.Profile, event.Outcome.TheVariants.Unbacked}
+use Rattle.pas_profile.specs.declared.{profile.Profile.Profile}
 use Rattle.pas_machine.specs.Machines.{profile_of, StandsFor}
 use Rattle.pas_machine.specs.declared.machine.Machine.{Machine}
 use Rattle.pas_check.specs.Begins.{entries_due, replacing, ready}
@@ -21,8 +21,7 @@ use Rattle.pas_check.specs.Bounds.{FitsRequest, IsFew, IsSmall, IsKept}
 
 -- ---- The lines of the entries of a log, one after the other
 ends_by : (s : Stand) (k : ℕ) (entry : Entry) (e : Event) → IsEventOf s k entry e → EndsBy s.epoch e
-ends_by s k entry e (inl is) = subst (EndsBy s.epoch) (sym is.3) tt
-ends_by s k entry e (inr is) = let same : s.epoch ≤ s.epoch = omega arith in subst (EndsBy s.epoch) (sym is.1) same
+ends_by s k entry e is = search arith
 
 module _ {old : Machine} {text : List ℕ} {from : Cursor} {k : ℕ} {log : List Entry} {epoch : ℕ} where
   -- Before any line, no entry of the log is taken.
@@ -72,13 +71,11 @@ module _ {old : Machine} {text : List ℕ} {from : Cursor} {k : ℕ} {log : List
 -- ---- The lines of a request, one after the other
 -- A deed or a back is no end, and so keeps epochs small.
 pub prepares_by : (epoch k : ℕ) (d : Directory) (e : Event) → IsKind d.kind → IsPreparing k d e → EndsBy epoch e
-prepares_by epoch k d e kind (inl is) = subst (EndsBy epoch) (sym is.1) kind
-prepares_by epoch k d e kind (inr is) = subst (EndsBy epoch) (sym is.1) tt
+prepares_by epoch k d e kind is = search arith
 
+-- in each case it computes, or is given
 none_of : {A B C : Type 0} → (A → ⊥) → (B → ⊥) → (C → ⊥) → A ⊎ B ⊎ C → ⊥
-none_of a b c (inl x) = a x
-none_of a b c (inr (inl x)) = b x
-none_of a b c (inr (inr x)) = c x
+none_of a b c is = search arith
 
 module _ {old : Machine} {text : List ℕ} {from : Cursor} {k : ℕ} {w : Wanted} where
   -- Before any line, nothing was taken of a request.
@@ -183,13 +180,11 @@ module _ {old : Machine} {text : List ℕ} {from : Cursor} {k : ℕ} {w : Wanted
 -- ---- The lines of the outcomes of a pass, one after the other
 -- ---- what an outcome changes
 outcome_shape : (t : Stand) (page : ℕ) (o : Outcome) → after_outcome t page o ≡ record t { events = (after_outcome t page o).events }
-outcome_shape t page Unbacked = refl
-outcome_shape t page other = refl
+outcome_shape t page o = search arith
 
 outcome_kept : (u t : Stand) (page : ℕ) (o : Outcome) (at to : Cursor) → u.events ≡ (after_outcome t page o).events → u.epoch ≡ t.epoch
     → to.lines ≡ at.lines + 1 → IsKept t at → IsKept u to
-outcome_kept u t page Unbacked at to events epoch count kept = kept_more u t at to (Event.Unback 0 page t.epoch) events epoch count tt kept
-outcome_kept u t page other at to events epoch count kept = kept_same u t at to events epoch (omega (arith, count)) kept
+outcome_kept u t page o at to events epoch count kept = search (arith, kept_more, kept_same)
 
 -- another state of the same events is small: but for the epoch, its bounds are of the events
 small_as : (f : Profile) (s t : Stand) → t.events ≡ s.events → t.epoch < 2 ^ 64 → IsSmall f s → IsSmall f t
@@ -234,10 +229,10 @@ module _ {old : Machine} {text : List ℕ} {from : Cursor} {epoch : ℕ} where
             (omega (arith, (before.goes s ex).kept.few, low)) ex.epoch (subst (λ g. TakesOutcome g (passing s ex) last [] line next) (sym same) x))
         there s ex next (inr y) = inr y
 
+        -- in each case it computes, or is given
         back : (s : Stand) (ex : IsExamining old s from 0 epoch) (next : Stand) → Takes (profile_of old) (with_due (passing s ex) []) line next
             → Takes (profile_of old) (passing s ex) line next
-        back s ex next (inl x) = absurd x
-        back s ex next (inr y) = inr y
+        back s ex next is = search arith
 
         -- A line that tells no outcome ends those of a pass.
         pub outcomes_over : IsWithin text at → OutcomesTaken old new text from at epoch

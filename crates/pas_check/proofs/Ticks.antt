@@ -1,23 +1,21 @@
 -- Steps that aren't ticks leave the epoch as it is.
-use Rattle.std.proofs.Common.{◌≡◌, ℕ, Bool, true, false, if◌then◌else◌, List, [], ◌∷◌, ◌++◌, refl, ◌∙◌, true≢false}
+use Rattle.std.proofs.Common.{arith, ◌≡◌, ℕ, Bool, true, false, if◌then◌else◌, List, [], ◌∷◌, ◌++◌, refl, ◌∙◌}
 use Rattle.pas_profile.specs.Layouts.{same_word}
 use Rattle.pas_profile.specs.declared.word.Word.{Word}
 use Rattle.pas_steps.specs.{Desks.triples, Effects.target, Effects.new_value, Lists.Whole, Lists.part, Lists.word_after, Views.epoch_of}
 use Rattle.pas_steps.specs.Kinds.{Kinds, Ticking, Only, kind_of, is_in, apart, place_of}
-use Rattle.pas_steps.specs.declared.step.{Made.Made, Step.Step, Step.TheVariants.Look, Step.TheVariants.Tick}
+use Rattle.pas_steps.specs.declared.step.{Made.Made, Step.Step}
 use Rattle.pas_steps.proofs.Apart.{in_apart}
 
+-- in each case it computes, or is given
 same_both : (t : Bool) (x : ℕ) → (if t then x else x) ≡ x
-same_both true x = refl
-same_both false x = refl
+same_both t x = search arith
 
 abbrev pub raising : Kinds
 raising = Ticking ∷ []
 
 epoch_stays : (e : ℕ) (s : Step) (old : ℕ) → is_in raising (kind_of s) ≡ false → (if same_word (target s) Word.Epoch then new_value e s old else old) ≡ old
-epoch_stays e (Look word) old h = same_both (same_word word Word.Epoch) old
-epoch_stays e (Tick raised) old h = absurd (true≢false h)
-epoch_stays e s old h = refl
+epoch_stays e s old h = search (arith, same_both)
 
 -- THE EPOCH after steps of these kinds of one actor
 pub epoch_kept : (ks : Kinds) → apart ks raising ≡ true → (k : ℕ) (steps : List Made) (l : Whole) → Only ks steps

@@ -3,9 +3,9 @@ use Rattle.std.proofs.Common.{◌≡◌, ℕ, zero, suc, ◌+◌, ◌<◌, ◌�
 use Rattle.std.proofs.lemmas.Bool.{cases_lt}
 use Rattle.pas_profile.specs.declared.profile.Profile.{Profile}
 use Rattle.pas_trace.specs.declared.plan.Plan.{Plan}
-use Rattle.pas_check.specs.{Lines.lines_in, States.Stand, States.at_first}
+use Rattle.pas_check.specs.States.{Stand}
 use Rattle.pas_check.specs.Accepted.{MayGo, IsWhole, IsStopped, IsVerdict}
-use Rattle.pas_check.specs.declared.verdict.Verdict.{Verdict, TheVariants.Yes, TheVariants.No}
+use Rattle.pas_check.specs.declared.verdict.Verdict.{Verdict}
 
 -- where lines may come, a first part of them may
 goes_front : (n : ℕ) (f : Profile) (s : Stand) (lines : List (List ℕ)) → MayGo f s lines → MayGo f s (take n lines)
@@ -49,7 +49,4 @@ module _ (f : Profile) (s : Stand) (lines : List (List ℕ)) where
 
 -- A transcript has at most one verdict for its plan.
 pub one_verdict : (plan : Plan) (text : List ℕ) (v w : Verdict) → IsVerdict plan text v → IsVerdict plan text w → v ≡ w
-one_verdict plan text Yes Yes a b = refl
-one_verdict plan text Yes (No m) a b = absurd (no_whole plan.profile (at_first plan) (lines_in text) m b a)
-one_verdict plan text (No n) Yes a b = absurd (no_whole plan.profile (at_first plan) (lines_in text) n a b)
-one_verdict plan text (No n) (No m) a b = ap No (one_stop plan.profile (at_first plan) (lines_in text) n m a b)
+one_verdict plan text v w a b = search (arith, no_whole, one_stop)

@@ -1,4 +1,4 @@
-use Rattle.std.proofs.Common.{◌≡◌, ◌<◌, ◌^◌, ℕ, None, ap, refl, subst, arith, MatchOption}
+use Rattle.std.proofs.Common.{◌≡◌, ◌<◌, ◌^◌, ℕ, None, ap, subst, arith, MatchOption}
 use Rattle.pas_trace.specs.{Acts.Guards, Acts.Operates, Acts.act_kept, Asked.keeper_in, Asked.request_in}
 use Rattle.pas_trace.specs.declared.plan.What.{What, TheVariants.Guarded}
 use Rattle.pas_check.specs.{Begins.guarding, Calls.asked_for}
@@ -21,9 +21,9 @@ returns-in-Guarded-clause-taken c =
           (rw (c.profile.ensures, next.stands.profile) at c.wanted_for-wanted.ensures.wanted)).done s ts next;
     }
 
+-- in each case it computes, or is given
 plain_kept : (what : What) → ((keeper name heap size align : ℕ) → what ≡ Guarded keeper name heap size align → ⊥) → keeper_in what ≡ None
-plain_kept (Guarded keeper name heap size align) not_guarded = absurd (not_guarded keeper name heap size align refl)
-plain_kept what not_guarded = refl
+plain_kept what not_guarded = search arith
 
 pub returns-in_default-clause-taken : goal.returns-in_default-clause-taken
 returns-in_default-clause-taken c =

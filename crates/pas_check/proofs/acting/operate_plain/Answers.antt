@@ -1,4 +1,4 @@
-use Rattle.std.proofs.Common.{◌≡◌, ◌⊎◌, ℕ, [], None, inl, inr, ap}
+use Rattle.std.proofs.Common.{arith, ◌≡◌, ◌⊎◌, ℕ, [], None, ap}
 use Rattle.pas_profile.specs.declared.profile.Profile.{Profile}
 use Rattle.pas_trace.specs.Acts.{Operates}
 use Rattle.pas_trace.specs.declared.plan.What.{What}
@@ -10,13 +10,11 @@ use Rattle.pas_check.proofs.acting.operate_plain.Goals as goal
 -- an operation of the scavenger
 chore_begun : (f : Profile) (s : Stand) (k : ℕ) (what : What) → ((e : ℕ) × (what ≡ Tick e)) ⊎ ((what ≡ Pass) ⊎ ((n : ℕ) × (what ≡ Idle n)))
     → begun_what f s k what ≡ s
-chore_begun f s k what (inl is) = ap (λ (w : What). begun_what f s k w) is.1
-chore_begun f s k what (inr (inl is)) = ap (λ (w : What). begun_what f s k w) is
-chore_begun f s k what (inr (inr is)) = ap (λ (w : What). begun_what f s k w) is.1
+chore_begun f s k what is = search arith
 
+-- in each case it computes, or is given
 flush_begun : (f : Profile) (s : Stand) (k : ℕ) (what : What) → (what ≡ Flush) ⊎ (what ≡ Stop) → begun_what f s k what ≡ flushing s k [] []
-flush_begun f s k what (inl is) = ap (λ (w : What). begun_what f s k w) is
-flush_begun f s k what (inr is) = ap (λ (w : What). begun_what f s k w) is
+flush_begun f s k what is = search arith
 
 pub returns-in-Alloc-clause-taken : goal.returns-in-Alloc-clause-taken
 returns-in-Alloc-clause-taken c = λ f.

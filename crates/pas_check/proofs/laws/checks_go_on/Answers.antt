@@ -1,5 +1,5 @@
-use Rattle.pas_check.proofs.Goings.{at_first, by_line, by_none, refused, ended_whole, ended_early}
-use Rattle.pas_check.proofs.Beginnings.{begun_alike}
+use Rattle.pas_check.proofs.Leads.{at_first, by_line, by_none, refused, ended_whole, ended_early}
+use Rattle.pas_check.proofs.ActsOfPlans.{begun_alike}
 use Rattle.pas_check.proofs.laws.checks_go_on.Goals as goal
 
 pub returns-clause-first : goal.returns-clause-first
