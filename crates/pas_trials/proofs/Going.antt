@@ -109,8 +109,10 @@ module _ {σ σ1 : Standing} {c c1 : Cached} (locals : c.locals ≡ []) (log : c
 -- ==== After a call of a cache its actor goes on.
 
 -- An actor that works with a cache goes on working after a call that leaves it at rest.
-pub works_on : {σ σ' : Standing} {c c' : Cached} {steps : List Made} (room : ℕ) → IsWorking σ c room → Rests c c' σ σ' steps → IsWorking σ' c' room
-works_on {σ} {σ'} {c} {c'} room working calls = record {
+pub works_on : {σ σ' : Standing} {c c' : Cached} {steps : List Made} {n n' : ℕ} (room : ℕ) → IsWorking σ c room n → n' ≡ n → Rests c c' σ σ' steps
+    → IsWorking σ' c' room n'
+works_on {σ} {σ'} {c} {c'} room working same calls = record {
   room_is = ap (λ (s : Seat). s.room) calls.adds.seat_is ∙ working.room_is;
   rest = subst (λ (s : Seat). CanCall σ' (AtRest s.profile c')) (sym calls.adds.seat_is) (next_call calls working.rest (λ v met rests. rests));
+  whole = same ∙ working.whole;
 }

@@ -1,7 +1,10 @@
--- Two actors at a region that nobody used yet are in a storm, and both passes of a storm are the region's.
-use Rattle.std.proofs.Common.{arith, ◌≡◌, ℕ, []}
+-- Two actors at a region that nobody used yet are in a storm, and the passes of two actors are the region's.
+use Rattle.std.proofs.Common.{◌≡◌, ℕ, List, [], ◌∷◌, All, sym, subst, arith}
+use Rattle.std.proofs.lemmas.List.Elements.{All-nil, All-cons}
+use Rattle.pas_steps.specs.Lists.{Whole}
 use Rattle.pas_steps.proofs.Nothing.{nothing_yet}
-use Rattle.pas_plain.specs.{Storms.StormStands, Seats.region_of, Seats.pass_of, Seats.Opens}
+use Rattle.pas_plain.specs.{Plain.profile_of, Plain.RegionStands, Plain.PassStands, Storms.StormStands}
+use Rattle.pas_plain.specs.Seats.{region_of, pass_of, Opens, ArePassesOf}
 use Rattle.pas_plain.specs.declared.{desk.PlainDesk.PlainDesk, pass.PlainPass.PlainPass, region.PlainRegion.PlainRegion}
 
 -- Once the actor at the desk of a new region has risen, the region and both passes stand for a storm.
@@ -9,3 +12,11 @@ pub storm_stands : {desk : PlainDesk} {region : PlainRegion} {own foreign : Plai
     → own ≡ pass_of desk → StormStands region own foreign [] []
 storm_stands {desk} {region} {own} {foreign} opens at of =
     search (arith, nothing_yet)
+
+-- The passes of two actors that stand beside each other are the region's.
+pub both_passes : {region : PlainRegion} {own foreign : PlainPass} {whole : Whole} {passes : List PlainPass} → passes ≡ own ∷ foreign ∷ []
+    → RegionStands region whole → PassStands (profile_of region) own whole → PassStands (profile_of region) foreign whole → ArePassesOf region passes
+both_passes {region} {own} {foreign} {whole} is stands first second =
+    let Has : PlainPass → Type 0 = λ pass. PassStands (profile_of region) pass whole in
+    let parts : All Has (own ∷ foreign ∷ []) = All-cons Has own (foreign ∷ []) first (All-cons Has foreign [] second (All-nil Has)) in
+    subst (λ passes. ArePassesOf region passes) (sym is) (record { whole = whole; stands = stands; parts = parts })

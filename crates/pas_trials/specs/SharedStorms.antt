@@ -7,10 +7,11 @@ use Rattle.pas_shared.specs.{Passes.IsFreshPass, Workers.IsReady}
 use Rattle.pas_shared.specs.declared.{region.SharedRegion.SharedRegion, pass.SharedPass.SharedPass, workers.Worker.Worker}
 use Rattle.pas_trials.specs.declared.workers.StormWork.{StormWork}
 
--- the actor's room is for so many events in all, and the actor is at rest with the cache
-pub record IsWorking (desk : Standing) (c : Cached) (room : ℕ) : Type 0 where
+-- the actor's room is for so many events in all, the actor is at rest with the cache, and of its events none is forgotten
+pub record IsWorking (desk : Standing) (c : Cached) (room forgotten : ℕ) : Type 0 where
   pub room_is : desk.seat.room ≡ room
   pub rest : CanCall desk (AtRest desk.seat.profile c)
+  pub whole : forgotten ≡ 0
 
 -- the pass is fresh, with room for so many events, and an actor that has nothing is at rest with the thread's cache
 pub record MayTakeTurns (events : ℕ) (region : SharedRegion) (work : StormWork) (pass : SharedPass) : Type 0 where

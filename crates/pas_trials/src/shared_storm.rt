@@ -28,8 +28,7 @@ fn next(numbers: u64) -> u64 {
 
 /// Whether there is room for so many more events, in a room for `room` in all, at a desk that forgot none.
 pub fn has_room<D: Desk>(desk: &D, cache: &ThreadCache, room: usize, events: usize) -> bool
-    requires working { IsWorking (D.standing desk.now) (cached cache.now) room }
-    requires whole { D.forgotten (D.home desk.now) ≡ 0 }
+    requires working { IsWorking (D.standing desk.now) (cached cache.now) room (D.forgotten (D.home desk.now)) }
     ensures { result ≡ true → events ≤ D.spare_of desk.now }
 {
     let _ = cache;
@@ -45,9 +44,8 @@ pub fn ask_once<D: Desk>(
     size: u32,
 ) -> Option<Name>
     requires size { size ≤ 2048 }
-    requires working { IsWorking (D.standing desk.old) (cached cache.old) room }
-    requires whole { D.forgotten (D.home desk.old) ≡ 0 }
-    ensures working { IsWorking (D.standing desk.new) (cached cache.new) room }
+    requires working { IsWorking (D.standing desk.old) (cached cache.old) room (D.forgotten (D.home desk.old)) }
+    ensures working { IsWorking (D.standing desk.new) (cached cache.new) room (D.forgotten (D.home desk.new)) }
     ensures home { D.home desk.new ≡ D.home desk.old }
 {
     if !has_room(desk, cache, room, 3) {
@@ -61,9 +59,8 @@ pub fn ask_once<D: Desk>(
 
 /// One free, where the name is one that can be freed and there is room for the events of a full log.
 pub fn free_once<D: Desk>(desk: &mut D, cache: &mut ThreadCache, room: usize, name: Name)
-    requires working { IsWorking (D.standing desk.old) (cached cache.old) room }
-    requires whole { D.forgotten (D.home desk.old) ≡ 0 }
-    ensures working { IsWorking (D.standing desk.new) (cached cache.new) room }
+    requires working { IsWorking (D.standing desk.old) (cached cache.old) room (D.forgotten (D.home desk.old)) }
+    ensures working { IsWorking (D.standing desk.new) (cached cache.new) room (D.forgotten (D.home desk.new)) }
     ensures home { D.home desk.new ≡ D.home desk.old }
 {
     if name.turn < 1 << 37 && has_room(desk, cache, room, 64) {
@@ -73,9 +70,8 @@ pub fn free_once<D: Desk>(desk: &mut D, cache: &mut ThreadCache, room: usize, na
 
 /// Stops the cache, where there is room for the events of a full log. Whether it was stopped.
 pub fn stop_once<D: Desk>(desk: &mut D, cache: &mut ThreadCache, room: usize) -> bool
-    requires working { IsWorking (D.standing desk.old) (cached cache.old) room }
-    requires whole { D.forgotten (D.home desk.old) ≡ 0 }
-    ensures working { IsWorking (D.standing desk.new) (cached cache.new) room }
+    requires working { IsWorking (D.standing desk.old) (cached cache.old) room (D.forgotten (D.home desk.old)) }
+    ensures working { IsWorking (D.standing desk.new) (cached cache.new) room (D.forgotten (D.home desk.new)) }
     ensures home { D.home desk.new ≡ D.home desk.old }
 {
     if !has_room(desk, cache, room, 64) {
@@ -99,9 +95,8 @@ impl Storm {
 
     /// Frees one of the blocks, or asks for one in its place, of one of the sizes. Now and then the cache is stopped instead.
     fn turn<D: Desk>(&mut self, desk: &mut D, cache: &mut ThreadCache, room: usize)
-        requires working { IsWorking (D.standing desk.old) (cached cache.old) room }
-        requires whole { D.forgotten (D.home desk.old) ≡ 0 }
-        ensures working { IsWorking (D.standing desk.new) (cached cache.new) room }
+        requires working { IsWorking (D.standing desk.old) (cached cache.old) room (D.forgotten (D.home desk.old)) }
+        ensures working { IsWorking (D.standing desk.new) (cached cache.new) room (D.forgotten (D.home desk.new)) }
         ensures home { D.home desk.new ≡ D.home desk.old }
     {
         self.numbers = next(self.numbers);
@@ -127,9 +122,8 @@ impl Storm {
 
     /// Frees all blocks and stops the cache. Whether it was stopped.
     fn end<D: Desk>(&mut self, desk: &mut D, cache: &mut ThreadCache, room: usize) -> bool
-        requires working { IsWorking (D.standing desk.old) (cached cache.old) room }
-        requires whole { D.forgotten (D.home desk.old) ≡ 0 }
-        ensures working { IsWorking (D.standing desk.new) (cached cache.new) room }
+        requires working { IsWorking (D.standing desk.old) (cached cache.old) room (D.forgotten (D.home desk.old)) }
+        ensures working { IsWorking (D.standing desk.new) (cached cache.new) room (D.forgotten (D.home desk.new)) }
         ensures home { D.home desk.new ≡ D.home desk.old }
     {
         for at in 0..BLOCKS {
@@ -148,8 +142,7 @@ impl Storm {
         room: usize,
         turns: u64,
     ) -> bool
-        requires working { IsWorking (D.standing desk.old) (cached cache.old) room }
-        requires whole { D.forgotten (D.home desk.old) ≡ 0 }
+        requires working { IsWorking (D.standing desk.old) (cached cache.old) room (D.forgotten (D.home desk.old)) }
         ensures home { D.home desk.new ≡ D.home desk.old }
     {
         for _turn in 0..turns {

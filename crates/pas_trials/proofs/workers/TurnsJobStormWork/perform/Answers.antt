@@ -11,4 +11,4 @@ run-work-requires c =
     let pass = c.args.desk.now.pass in
     let f = (seat_of pass).profile in
     let rest = subst (λ (v : View). AtRest f (cached c.args.work.now.cache) v) (sym may.fresh.no_steps) (may.rest f [] nothing_yet) in
-    record { working = record { room_is = may.fresh.room; rest = record { view = view_of pass; whole = []; stood = refl; met = rest } }; whole = refl }
+    record { working = record { room_is = may.fresh.room; rest = record { view = view_of pass; whole = []; stood = refl; met = rest }; whole = refl } }
