@@ -1,11 +1,12 @@
 #!/usr/bin/env python3
-"""Breaks statements and heads of modules that are wider than 160 columns: tools/short_lines.py [--check] [FILE..]
+"""Breaks statements and heads of modules that are wider than 160 columns: tools/short_lines.py [--check] [--bodies N] [FILE..]
 
 Of the .antt files of specs/ and proofs/ (or of those named) the lines that state something: what stands behind a name and
 a colon, and the parameters of a `module`. A statement is broken before an arrow, a head between two parameters, so that
 each line holds as many as fit. Where one of them alone is too wide, it is broken at its own arrows, or before a `×`, `⊎`
 or a relation, inside its brackets if need be, two columns further in. What can't be broken so stays as it is, and bodies
-are left alone.
+are left alone, but for --bodies N: the N widest lines of bodies that fit into two are broken, behind an `in`, an `=` or a `↦`, or
+before a `∙` or an argument. Records, arms and texts in quotes stay whole.
 
 With --check nothing is written. A line tells of each file how many lines were too wide and how many still are. The status
 is 1 where something was, or would be, changed.
@@ -25,6 +26,10 @@ STATED = re.compile(r" *(?:pub |abbrev |unfoldable |pattern |opaque )*[^\s:(){},
 OPENED, CLOSED = "({[", ")}]"
 # What a type is broken before, the weakest first.
 JOINTS = ("→", "⊎", "×", "≡", "≤")
+# Words before which or behind which no argument stands.
+NO_HEAD = set("in = ↦ ∙ let λ then else if → × ⊎ ≡ ≤ < , ; ∷ ++ + * - / == && || | elim".split())
+# How deep in brackets a body is broken at most, and how long the two parts are at least.
+DEEPEST, LEAST_FIRST, LEAST_REST = 2, 24, 12
 PARAMETER = re.compile(r"[({][^\s(){}]+(?: [^\s(){}:]+)* : ")
 
 
@@ -168,12 +173,84 @@ def wide(lines: list[str]) -> int:
     return sum(len(it) > WIDTH and not it.lstrip().startswith("--") for it in lines)
 
 
+def joints(line: str, start: int) -> Iterator[tuple[int, int, int, int]]:
+    """Where a line of a body may be broken: how deep in round brackets, how good (0 is best), the place, and how far in the rest stands."""
+    open_at: list[str] = []
+    for at in range(start, len(line)):
+        letter = line[at]
+        depth = len(open_at)
+        if letter in CLOSED:
+            if not open_at:
+                return
+            open_at.pop()
+        elif any(it != "(" for it in open_at):
+            open_at += [letter] if letter in OPENED else []
+        elif letter in OPENED:
+            if letter == "(" and is_argument(line, at, start):
+                yield depth, 3, at, 4
+            open_at.append(letter)
+        elif line.startswith(" in ", at):
+            yield depth, 0, at + 4, 2 if depth else 0
+        elif line.startswith((" = ", " ↦ "), at):
+            yield depth, 1, at + 3, 4
+        elif line.startswith(" ∙ ", at):
+            yield depth, 2, at + 1, 2 if depth else 0
+        elif depth and line.startswith(", ", at):
+            yield depth, 2, at + 2, 2
+
+
+def is_argument(line: str, at: int, start: int) -> bool:
+    """Whether what the bracket opens is an argument of what stands before it."""
+    before = line[:at].split()
+    if at == start or line[at - 1] != " " or not before or re.match(r"\((?:[\w'-]+ )+: ", line[at:]):
+        return False
+    return before[-1] not in NO_HEAD and not before[-1].endswith((",", ";", ".", "(", "|"))
+
+
+def in_two(line: str) -> list[str] | None:
+    """The line in two that are narrow enough, cut where it is least deep."""
+    indent = len(line) - len(line.lstrip(" "))
+    is_clause = not line.lstrip().startswith(("let ", "∙", "|", "(")) and any(rank == 1 and not depth for depth, rank, _, _ in joints(line, indent))
+    best = None
+    for depth, rank, at, further in joints(line, indent):
+        first, rest = line[:at].rstrip(" "), line[at:]
+        further = 4 if is_clause and not depth else further
+        narrow = len(first) <= WIDTH and indent + further + len(rest) <= WIDTH
+        if depth <= DEEPEST and narrow and len(first.strip()) >= LEAST_FIRST and len(rest) >= LEAST_REST:
+            key = (depth, rank, at if rank < 2 else -at)
+            if best is None or key < best[0]:
+                best = (key, [first, " " * (indent + further) + rest])
+    return best[1] if best else None
+
+
+def is_body(line: str) -> bool:
+    bare = line.lstrip()
+    if bare.startswith(("--", "use ", "→", "record ")) or '"' in line or " -- " in line or "record {" in line or "[ " in line:
+        return False
+    return not re.match(r"(?:pub )?module |(?:pub |abbrev |unfoldable )+|(?!let )[^\s:(){},;=]+ : ", bare)
+
+
+def with_bodies(files: list[Path], most: int) -> dict[Path, list[str]]:
+    """The files in which so many of the widest lines of bodies are broken."""
+    texts = {file: file.read_text().split("\n") for file in files if file.parts[-3:-1] != ("specs",) and "proofs" in file.parts}
+    found = [(len(line), file, at) for file, lines in texts.items() for at, line in enumerate(lines) if len(line) > WIDTH and is_body(line) and in_two(line)]
+    chosen = {(file, at) for _, file, at in sorted(found, key=lambda it: -it[0])[:most]}
+    told = {}
+    for file in {file for file, _ in chosen}:
+        told[file] = [part for at, line in enumerate(texts[file]) for part in (in_two(line) if (file, at) in chosen else [line])]
+    return told
+
+
 def main() -> int:
     parser = argparse.ArgumentParser(description=__doc__, formatter_class=argparse.RawDescriptionHelpFormatter)
     parser.add_argument("--check", action="store_true")
+    parser.add_argument("--bodies", type=int, default=0, metavar="N")
     parser.add_argument("files", nargs="*", type=Path)
     given = parser.parse_args()
     files = given.files or sorted(it for part in ("specs", "proofs") for it in ROOT.glob(f"crates/*/{part}/**/*.antt"))
+    for file, new in with_bodies(files, given.bodies).items() if given.bodies else ():
+        print(f"{file}: {wide(file.read_text().split(chr(10)))} too wide, {wide(new)} still are")
+        file.write_text("\n".join(new))
     changed = False
     for file in files:
         lines = file.read_text().split("\n")
