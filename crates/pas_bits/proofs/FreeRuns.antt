@@ -6,6 +6,7 @@ use Rattle.pas_bits.specs.declared.mask.Mask4.{Mask4}
 use Rattle.pas_bits.specs.Masks.{is_set, AreClear, IsLowestSet, IsRunEnd}
 use Rattle.pas_bits.specs.Runs.{AreFree, IsFreeRun, IsNextRun, HasNoRunFrom}
 
+-- No grain is both free and not.
 clash : {A : Type 0} (is_free : ℕ → Bool) (x : ℕ) → is_free x ≡ true → is_free x ≡ false → A
 clash is_free x free used = absurd (true≢false (sym free ∙ used))
 
@@ -18,10 +19,7 @@ begins_by is_free g n h m x run other low high = elim (cases_lt h g) [
 ]
 
 ends_by : (is_free : ℕ → Bool) (g n m : ℕ) → IsFreeRun is_free g n → IsFreeRun is_free g m → m ≤ n
-ends_by is_free g n m run other = elim (cases_lt n m) [
-  | inl lt ↦ let within = other.within in clash is_free (g + n) (other.free (g + n) (omega arith) (omega (arith, lt))) (run.after (omega (arith, lt, within)))
-  | inr le ↦ le
-]
+ends_by is_free g n m run other = search (arith, cases_lt, clash)
 
 pub same_run : (is_free : ℕ → Bool) (g n h m x : ℕ) → IsFreeRun is_free g n → IsFreeRun is_free h m
     → g ≤ x → x < g + n → h ≤ x → x < h + m → (g ≡ h) × (n ≡ m)
@@ -119,17 +117,11 @@ module _ (mask moved others starts : Mask4) (moved_is : (g : ℕ) → g < 256 �
     (others_are : (g : ℕ) → g < 256 → is_set others g ≡ not (is_set moved g))
     (starts_are : (g : ℕ) → is_set starts g ≡ (is_set mask g && is_set others g)) where
   not_moved : (g : ℕ) → g < 256 → ((x : ℕ) → x + 1 ≡ g → is_set mask x ≡ false) → is_set moved g ≡ false
-  not_moved g small before = moved_is g small ∙ elim (cases_lt 0 g) [
-    | inl some ↦ ap (λ t. t && is_set mask (g - 1)) (le-leb 1 g (omega (arith, some))) ∙ before (g - 1) (omega (arith, some))
-    | inr none ↦ ap (λ t. t && is_set mask (g - 1)) (lt-leb 1 g (omega (arith, none)))
-  ]
+  not_moved g small before = search (arith, cases_lt, le-leb, lt-leb)
 
   start_at : (g n : ℕ) → IsFreeRun (is_set mask) g n → is_set starts g ≡ true
   start_at g n run =
-      let some = run.some in let within = run.within in
-      let small : g < 256 = omega (arith, some, within) in
-      starts_are g ∙ and_from (is_set mask g) (is_set others g) (run.free g (omega arith) (omega (arith, some)))
-      (others_are g small ∙ ap not (not_moved g small run.before))
+      search (arith, and_from, not_moved)
 
   clear_before : (g : ℕ) → g < 256 → is_set starts g ≡ true → (x : ℕ) → x + 1 ≡ g → is_set mask x ≡ false
   clear_before g small start x next =

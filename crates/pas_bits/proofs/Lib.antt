@@ -1,6 +1,5 @@
 pub mod Runs
 pub mod FreeRuns
-pub mod Counts
 pub mod Words
 mod Masks
 pub mod MovedMasks

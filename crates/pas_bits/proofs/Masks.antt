@@ -13,7 +13,7 @@ use Rattle.pas_bits.proofs.Runs.{run_of, to_run, run_below, run_above}
 use Rattle.pas_bits.specs.declared.mask.Mask4.{Mask4}
 use Rattle.pas_bits.specs.Masks.{is_set, AreSet, AreApart, set_count, AllSetBelow, AreClear, IsLowestSet, IsLowestClear, IsEmpty, HasMember, IsRunEnd, IsPlace}
 use Rattle.pas_bits.specs.Masks.{HasNoPlace, IsLowestPlace}
-use Rattle.pas_bits.proofs.Counts.{count_same, count_add, ones_counted}
+use Rattle.pas_bits.proofs.Rows.{count_same, count_add, ones_counted}
 
 -- ==== The lowest set bit of a word from a place on.
 
@@ -75,22 +75,12 @@ mask_between low high h = let p = pow_pos low in omega (arith, p)
 mask_bit : (first grains base b : ℕ) → b < 64
     → has_bit (2 ^ min (first + grains - base) 64 - 1 - (2 ^ min (first - base) 64 - 1)) b ≡ in_run first grains (base + b)
 mask_bit first grains base b h =
-    let order : min (first - base) 64 ≤ min (first + grains - base) 64 = cut_le first (first + grains) base (omega arith) in
-    let is = mask_between (min (first - base) 64) (min (first + grains - base) 64) order in
-    let from = cut first base b h in
-    let to = cut (first + grains) base b h in
-    ap (λ n. has_bit n b) is ∙ elim (cases_lt b (min (first - base) 64)) [
-      | inl lt ↦ ap (λ n. n == 1) (bit_at_mask_below (min (first - base) 64) (min (first + grains - base) 64) b lt) ∙ sym (run_below first grains (base + b) (from.0 lt))
-      | inr ge ↦ elim (cases_lt b (min (first + grains - base) 64)) [
-        | inl inside ↦ ap (λ n. n == 1) (bit_at_mask_inside (min (first - base) 64) (min (first + grains - base) 64) b ge inside) ∙ sym (to_run first grains (base + b) (from.1 ge) (to.0 inside))
-        | inr above ↦ ap (λ n. n == 1) (bit_at_mask_above (min (first - base) 64) (min (first + grains - base) 64) b above) ∙ sym (run_above first grains (base + b) (to.1 above))
-      ]
-    ]
+    search (arith, cut_le, mask_between, cut, cases_lt, bit_at_mask_below, run_below, bit_at_mask_inside, to_run, bit_at_mask_above, run_above)
 
 -- The difference of two runs of low ones has just the bits of a run that lie in the word.
 pub mask_is : (first grains base low high b m : ℕ) → m ≡ high - low → high ≡ 2 ^ min (first + grains - base) 64 - 1 → low ≡ 2 ^ min (first - base) 64 - 1
     → b < 64 → has_bit m b ≡ in_run first grains (base + b)
-mask_is first grains base low high b m is is_high is_low h = ap (λ n. has_bit n b) (is ∙ ap (λ n. n - low) is_high ∙ ap (λ n. 2 ^ min (first + grains - base) 64 - 1 - n) is_low) ∙ mask_bit first grains base b h
+mask_is first grains base low high b m is is_high is_low h = search (arith, mask_bit)
 
 -- ---- masks that share no bit
 -- the words so far share none
@@ -115,7 +105,8 @@ not_apart a b word fits shares apart =
     let le = and_le_l (slice_index a.0 word) (slice_index b.0 word) in
     let t = bit_at-trailing_zeros w64 (bit_and (slice_index a.0 word) (slice_index b.0 word)) (omega (arith, shares)) (omega (arith, le, fits)) in
     let z = trailing_zeros w64 (bit_and (slice_index a.0 word) (slice_index b.0 word)) in
-    let both = and_parts (has_bit (slice_index a.0 word) z) (has_bit (slice_index b.0 word) z) (sym (bit_of_and (slice_index a.0 word) (slice_index b.0 word) z) ∙ is_one (bit_and (slice_index a.0 word) (slice_index b.0 word)) z t.1) in
+    let both = and_parts (has_bit (slice_index a.0 word) z) (has_bit (slice_index b.0 word) z)
+    (sym (bit_of_and (slice_index a.0 word) (slice_index b.0 word) z) ∙ is_one (bit_and (slice_index a.0 word) (slice_index b.0 word)) z t.1) in
     let in_a = at_word a word z t.0 ∙ both.0 in
     let out_of_a = apart (64 * word + z) (at_word b word z t.0 ∙ both.1) in
     cc
@@ -142,6 +133,7 @@ count_word mask word k from width at fits =
 abbrev pub ones_in : Mask4 → ℕ
 ones_in mask = count_ones (slice_index mask.0 0) + count_ones (slice_index mask.0 1) + count_ones (slice_index mask.0 2) + count_ones (slice_index mask.0 3)
 
+-- The ones of a mask are its set bits.
 counted : (mask : Mask4) (n k : ℕ) → k ≡ 64 → n ≡ k + k + k + k → WordsFit mask → ones_in mask ≡ count_below n (is_set mask)
 counted mask n k width parts fits =
     let a = count_word mask 0 k 0 width (omega arith) fits in
@@ -175,15 +167,7 @@ pub lowest_is : (mask : Mask4) (from word low g : ℕ) → g ≡ 64 * word + low
     → from / 64 ≤ word → word < 4 → slice_index mask.0 word < 2 ^ 64
     → slice_index mask.0 word / 2 ^ low ≢ 0 → AreClear mask from (64 * word) → IsLowestSet mask from g
 lowest_is mask from word low g at is began small fits some before =
-    let found = lowest_from (slice_index mask.0 word) low fits some in
-    let inside = found.within in
-    let g_is : g ≡ 64 * word + (low + trailing_zeros w64 (slice_index mask.0 word / 2 ^ low)) = omega (arith, at) in
-    record {
-      above = omega (arith, is, at);
-      within = omega (arith, inside, small, at);
-      set = ap (is_set mask) g_is ∙ at_word mask word (low + trailing_zeros w64 (slice_index mask.0 word / 2 ^ low)) inside ∙ found.set;
-      lowest = search (arith, cases_lt, by_word);
-    }
+    search (arith, lowest_from, at_word, cases_lt, by_word)
 
 -- there is none exactly in an empty mask
 pub is_empty_by : (mask : Mask4) (o : Option ℕ) → MatchOption o (AreClear mask 0 256) (λ g. IsLowestSet mask 0 g) → (t : Bool) → is_some o ≡ not t
@@ -252,7 +236,4 @@ none_past mask n align end place stop small within short before run h lt other =
 -- A place whose run ends late enough, with none below it, is the lowest one.
 pub place_found : (mask : Mask4) (n align end place stop : ℕ) → place % align ≡ 0 → place + n ≤ end → place + n ≤ stop → NoPlaceBelow mask n align end place
     → IsRunEnd mask place stop → IsLowestPlace mask n align end place
-place_found mask n align end place stop whole within long before run = record {
-  place = record { aligned = whole; within = within; set = λ x a b. run.set x a (omega (arith, b, long)) };
-  lowest = before;
-}
+place_found mask n align end place stop whole within long before run = search arith

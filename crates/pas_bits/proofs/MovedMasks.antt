@@ -92,8 +92,8 @@ from_above t x y h e = e ∙ ap (λ s. s && x) (sym h)
 -- a word above the lowest is moved up with the bits of the one below it
 moved_word : (mask : Mask4) (r i by : ℕ) → Window r (slice_index mask.0 i) (slice_index mask.0 (i + 1)) (64 - by) → 1 ≤ by → by ≤ 64 → (x : ℕ) → x < 64
     → has_bit r x ≡ (nat_le by (64 * (i + 1) + x) && is_set mask (64 * (i + 1) + x - by))
-moved_word mask r i by w some few x h = from_above (nat_le by (64 * (i + 1) + x)) (is_set mask (64 * (i + 1) + x - by)) (has_bit r x) (le-leb by (64 * (i + 1) + x) (omega (arith, few)))
-    (window_of mask r i (64 - by) (64 * (i + 1) + x - by) w (omega (arith, some)) x h (omega (arith, some, few)))
+moved_word mask r i by w some few x h = from_above (nat_le by (64 * (i + 1) + x)) (is_set mask (64 * (i + 1) + x - by)) (has_bit r x) (le-leb by
+    (64 * (i + 1) + x) (omega (arith, few))) (window_of mask r i (64 - by) (64 * (i + 1) + x - by) w (omega (arith, some)) x h (omega (arith, some, few)))
 
 lowest_word : (mask : Mask4) (r by : ℕ) → Window r 0 (slice_index mask.0 0) (64 - by) → 1 ≤ by → by ≤ 64 → (x : ℕ) → x < 64
     → has_bit r x ≡ (nat_le by x && is_set mask (x - by))
@@ -102,7 +102,8 @@ lowest_word mask r by w some few x h = elim (cases_lt x by) [
   | inr ge ↦ from_above (nat_le by x) (is_set mask (x - by)) (has_bit r x) (le-leb by x ge)
       (w x h
       ∙ ap (λ t. if t then has_bit 0 (x + (64 - by)) else has_bit (slice_index mask.0 0) (x + (64 - by) - 64)) (le-ltb (x + (64 - by)) 64 (omega (arith, ge, few)))
-      ∙ ap (has_bit (slice_index mask.0 0)) (let e : x + (64 - by) - 64 ≡ x - by = omega (arith, ge, few) in e) ∙ sym (at_word mask 0 (x - by) (omega (arith, h))) ∙ ap (is_set mask) (let e : 64 * 0 + (x - by) ≡ x - by = omega arith in e))
+      ∙ ap (has_bit (slice_index mask.0 0)) (let e : x + (64 - by) - 64 ≡ x - by = omega (arith, ge, few) in e)
+      ∙ sym (at_word mask 0 (x - by) (omega (arith, h))) ∙ ap (is_set mask) (let e : 64 * 0 + (x - by) ≡ x - by = omega arith in e))
 ]
 
 -- A mask each of whose words is the window of two is the mask moved up.
@@ -121,7 +122,8 @@ pub words_are : (op : ℕ → ℕ → ℕ) (bit : Bool → Bool → Bool) → ((
     → is_set (four (op (slice_index m.0 0) (slice_index n.0 0)) (op (slice_index m.0 1) (slice_index n.0 1)) (op (slice_index m.0 2) (slice_index n.0 2)) (op (slice_index m.0 3) (slice_index n.0 3))) g
     ≡ bit (is_set m g) (is_set n g)
 words_are op bit bits none m n long_m long_n g =
-    let word = λ (w x : ℕ) (h : x < 64). bits (slice_index m.0 w) (slice_index n.0 w) x ∙ ap (λ t. bit t (has_bit (slice_index n.0 w) x)) (sym (at_word m w x h)) ∙ ap (bit (is_set m (64 * w + x))) (sym (at_word n w x h)) in
+    let word = λ (w x : ℕ) (h : x < 64). bits (slice_index m.0 w) (slice_index n.0 w) x
+    ∙ ap (λ t. bit t (has_bit (slice_index n.0 w) x)) (sym (at_word m w x h)) ∙ ap (bit (is_set m (64 * w + x))) (sym (at_word n w x h)) in
     let at = λ (w : ℕ). op (slice_index m.0 w) (slice_index n.0 w) in
     elim (cases_lt g 256) [
       | inl lt ↦ four_words (at 0) (at 1) (at 2) (at 3) (λ x. bit (is_set m x) (is_set n x)) (word 0) (word 1) (word 2) (word 3) g lt

@@ -36,6 +36,7 @@ page_added word page p same = search (arith, bit_of_or, or_comm, page_mask_bit, 
 clear_cases : (f y : Bool) → (f && not y) ≡ (if y then false else f)
 clear_cases f y = grind arith
 
+-- A flag that is set where a test passes: by its two values.
 set_cases : (f y : Bool) → (f || y) ≡ (if y then true else f)
 set_cases f y = grind arith
 
@@ -44,9 +45,7 @@ other_block q p h = ne_eqb q p (λ e. eqb-false (q / 64) (p / 64) h (ap (λ x. x
 
 clear_page : (q p old : ℕ) (x t : Bool) → (q / 64 == p / 64) ≡ t
     → has_bit (if x && t then bit_and old (bit_not w64 (page_mask q)) else old) (p % 64) ≡ (if x && (q == p) then false else has_bit old (p % 64))
-clear_page q p old true true h = bit_cleared old (page_mask q) (p % 64) (page_mask_lt q) (omega arith) ∙ ap (λ y. has_bit old (p % 64) && not y) (block_bit q p h) ∙ clear_cases (has_bit old (p % 64)) (q == p)
-clear_page q p old true false h = ap (λ y. if y then false else has_bit old (p % 64)) (sym (other_block q p h))
-clear_page q p old false t h = refl
+clear_page q p old a t h = search (arith, bit_cleared, page_mask_lt, block_bit, clear_cases, other_block)
 
 set_page : (q p old : ℕ) (x t : Bool) → (q / 64 == p / 64) ≡ t
     → has_bit (if x && t then bit_or old (page_mask q) else old) (p % 64) ≡ (if x && (q == p) then true else has_bit old (p % 64))
@@ -71,11 +70,4 @@ no_page n number next low is nothing p from at = none_from n low (p % 64) nothin
 pub lowest_found : (n number next low : ℕ) → low ≡ next - 64 * number → low < 64 → n < 2 ^ 64 → n / 2 ^ low ≢ 0
     → IsLowestPage n number next (64 * number + low + trailing_zeros w64 (n / 2 ^ low))
 lowest_found n number next low is small fits some =
-    let found = lowest_from n low fits some in
-    let place : low + trailing_zeros w64 (n / 2 ^ low) ≡ (64 * number + low + trailing_zeros w64 (n / 2 ^ low)) % 64 = omega (arith, found.within) in
-    record {
-      above = omega (arith, is);
-      here = omega (arith, found.within);
-      set = ap (λ (b : ℕ). has_bit n b) (sym place) ∙ found.set;
-      lowest = λ p from at lt. found.lowest (p % 64) (omega (arith, is, from, at)) (omega (arith, is, from, at, lt, found.within));
-    }
+    search (arith, lowest_from)

@@ -1,17 +1,64 @@
--- Rows of words: their bits, rows of which so many words were read, groups of words in lanes, and how many bits are set.
-use Rattle.std.proofs.Common.{◌≡◌, ◌≢◌, ℕ, ◌+◌, ◌-◌, ◌*◌, ◌/◌, ◌%◌, ◌^◌, ◌<◌, ◌≤◌, ◌==◌, ◌&&◌, not, Bool, true, false, List, length, slice_index, inl, inr, ap}
-use Rattle.std.proofs.Common.{sym, ◌∙◌, arith, bit_and, zero, suc, [], ◌∷◌, map, bit_or, if◌then◌else◌, take, drop, subst, refl, add-one, add-zero, w64}
-use Rattle.std.proofs.Common.{count_ones}
-use Rattle.std.specs.Int.{trailing_zeros}
-use Rattle.std.proofs.{lemmas.Bool.cases_lt, lemmas.List.get_or_past, lemmas.List.get_or-map, lemmas.List.length-map, lemmas.Nat.and_le_l, lemmas.Nat.le_or_l}
-use Rattle.std.proofs.{lemmas.Nat.le_or_r, lemmas.Nat.Bits.bit_at-trailing_zeros, lemmas.Simd.get_or-chunk, lemmas.Simd.get_or-zip2, lemmas.Simd.length-chunk}
-use Rattle.std.proofs.{Math.Seq.drop-cons}
+-- Counts of the numbers below a bound that pass a test, and of the bits of a number.
+use Rattle.std.proofs.Common.{◌≡◌, ℕ, zero, suc, ◌+◌, ◌*◌, ◌/◌, ◌%◌, ◌^◌, ◌<◌, ◌==◌, Bool, if◌then◌else◌, ap, sym, ◌∙◌, refl, arith, add-one, add-zero, add-suc}
+use Rattle.std.proofs.Common.{pow_pos, ◌≢◌, ◌-◌, ◌≤◌, ◌&&◌, not, true, false, List, length, slice_index, inl, inr, bit_and, [], ◌∷◌, map, bit_or, take, drop}
+use Rattle.std.proofs.Common.{subst, w64, count_ones}
+use Rattle.std.proofs.{Math.Nat.pow-suc, Math.Nat.div-lt_iff_lt-mul, Math.Nat.mod-lt, lemmas.Nat.Bits.bit_at_cat_low, lemmas.Bool.cases_lt}
+use Rattle.std.proofs.{lemmas.List.get_or_past, lemmas.List.get_or-map, lemmas.List.length-map, lemmas.Nat.Bits.bit_at-trailing_zeros, lemmas.Simd.get_or-chunk}
+use Rattle.std.proofs.{lemmas.Simd.get_or-zip2, lemmas.Simd.length-chunk, Math.Seq.drop-cons}
+use Rattle.std.proofs.lemmas.Nat.{ones_cat, shr_split, and_le_l, le_or_l, le_or_r}
+use Rattle.std.specs.Int.{bit_at, RustNames.count_ones, trailing_zeros}
 use Rattle.pas_bits.specs.Bits.{has_bit, count_below}
 use Rattle.pas_bits.proofs.Words.{none_of_zero, bit_of_and, bit_of_not}
 use Rattle.pas_bits.specs.Rows.{is_set, IsClearBelow, HasMember, IsLowestSet, IsWithinBelow, HasMemberOutside, set_count}
 use Rattle.std.specs.Simd.Lanes.{chunk, fold_l, zip2, sum_l}
-use Rattle.pas_bits.proofs.Counts.{count_same, count_add, count_suc, ones_counted}
 
+-- ---- one more
+pub count_suc : (i : ℕ) (p : ℕ → Bool) (b : Bool) → p i ≡ b → count_below (suc i) p ≡ count_below i p + (if b then 1 else 0)
+count_suc i p b e = grind arith
+
+-- The numbers below one more that pass are those before it, and the number itself if it passes.
+pub count_more : (i : ℕ) (p : ℕ → Bool) → count_below (i + 1) p ≡ count_below i p + (if p i then 1 else 0)
+count_more i p = ap (λ n. count_below n p) (add-one i) ∙ count_suc i p (p i) refl
+
+-- ---- equal tests, and counts of two parts
+pub count_same : (n : ℕ) (p q : ℕ → Bool) → ((i : ℕ) → i < n → p i ≡ q i) → count_below n p ≡ count_below n q
+count_same zero p q same = refl
+count_same (suc n) p q same = let rest = count_same n p q (λ i h. same i (omega arith)) in λ t. if same n (omega arith) t then suc (rest t) else rest t
+
+-- The numbers below a sum that pass are those below its first part and those behind it.
+pub count_add : (i j : ℕ) (p : ℕ → Bool) → count_below (i + j) p ≡ count_below i p + count_below j (λ b. p (i + b))
+count_add i zero p = ap (λ n. count_below n p) (add-zero i) ∙ omega arith
+count_add i (suc j) p = ap (λ n. count_below n p) (add-suc i j) ∙ count_suc (i + j) p (p (i + j)) refl ∙ omega (arith, count_add i j p, count_suc j (λ b. p (i + b)) (p (i + j)) refl)
+
+-- ---- the bits of a number: the highest, and those below it
+no_ones : count_ones 0 ≡ 0
+unfolding count_ones
+no_ones = refl
+
+top_ones : (bit : ℕ) → bit < 2 → (b : Bool) → (bit == 1) ≡ b → count_ones bit ≡ (if b then 1 else 0)
+unfolding count_ones
+top_ones zero few b is = ap (λ t. if t then 1 else 0) is
+top_ones (suc zero) few b is = ap (λ t. if t then 1 else 0) is
+top_ones (suc (suc n)) few b is = absurd (omega arith)
+
+-- The ones of a number are its set bits.
+pub ones_counted : (k n : ℕ) → n < 2 ^ k → count_ones n ≡ count_below k (has_bit n)
+ones_counted zero n small = let none : n ≡ 0 = omega arith in ap (λ m. count_ones m) none ∙ no_ones
+ones_counted (suc k) n small =
+    let power = pow-suc 2 k in
+    let some : 0 < 2 ^ k = pow_pos k in
+    let fits = div-lt_iff_lt-mul {k = 2 ^ k} {x = n} {y = 2} some in
+    let high : n / 2 ^ k < 2 = fits.1 (omega arith) in
+    let same : n / 2 ^ k % 2 ≡ n / 2 ^ k = omega arith in
+    let split : n / 2 ^ k * 2 ^ k + n % 2 ^ k ≡ n = shr_split n k in
+    let low : n % 2 ^ k < 2 ^ k = mod-lt n some in
+    let below : count_below k (has_bit (n % 2 ^ k)) ≡ count_below k (has_bit n) =
+    count_same k _ _ (λ i h. ap (λ t. t == 1) (sym (bit_at_cat_low (n / 2 ^ k) k (n % 2 ^ k) i h) ∙ ap (λ m. bit_at m i) split)) in
+    let top : count_ones (n / 2 ^ k) ≡ (if has_bit n k then 1 else 0) = top_ones (n / 2 ^ k) high (has_bit n k) (ap (λ t. t == 1) (sym same)) in
+    let ones : count_ones n ≡ count_ones (n / 2 ^ k) + count_ones (n % 2 ^ k) = ap (λ m. count_ones m) (sym split) ∙ ones_cat k (n / 2 ^ k) (n % 2 ^ k) low in
+    ones ∙ omega (arith, top, below, ones_counted k (n % 2 ^ k) low, count_suc k (has_bit n) (has_bit n k) refl)
+
+-- Rows of words: their bits, rows of which so many words were read, groups of words in lanes, and how many bits are set.
 -- ==== Words of a row, and rows of which so many words were read.
 
 -- each word of the row fits
@@ -57,11 +104,7 @@ clear_more words start end bare clear x h = search (arith, cases_lt, clear_word)
 pub lowest_set : (words : List ℕ) (word : ℕ) → WordsFit words → slice_index words word ≢ 0 → IsClearBelow words (64 * word)
     → IsLowestSet words (64 * word + trailing_zeros w64 (slice_index words word))
 lowest_set words word fits some clear =
-    let low = lowest_bit (slice_index words word) some (fits word) in
-    record {
-      set = at_word words word (trailing_zeros w64 (slice_index words word)) low.within ∙ low.set;
-      lowest = search (arith, cases_lt, by_word);
-    }
+    search (arith, lowest_bit, at_word, cases_lt, by_word)
 
 -- A row with a word that isn't 0 has a member.
 pub has_member : (words : List ℕ) (word : ℕ) → WordsFit words → slice_index words word ≢ 0 → HasMember words
@@ -73,6 +116,7 @@ has_member words word fits some =
 implied : (s t : Bool) → (s && not t) ≡ false → s ≡ true → t ≡ true
 implied s t none is = grind arith
 
+-- Where the first holds without the second, each is known.
 only_first : (s t : Bool) → (s && not t) ≡ true → (s ≡ true) × (t ≡ false)
 only_first s t some = grind arith
 
@@ -170,6 +214,7 @@ pub whole_before : (words : List ℕ) → count_before words (length words) ≡ 
 unfolding count_before set_count
 whole_before words = refl
 
+-- A test counts one at most.
 choice_most : (b : Bool) → (if b then 1 else 0) ≤ 1
 choice_most b = grind arith
 

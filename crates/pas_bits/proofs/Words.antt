@@ -116,12 +116,14 @@ pub after_set : (words : List ℕ) (grain : ℕ) → length words ≡ 4 → grai
 after_set words grain long h g = elim (cases_eq (g / 64) (grain / 64)) [
   | inl word ↦ replaced_same words (grain / 64) (one_set (slice_index words (grain / 64)) (grain % 64)) (g / 64) (g % 64) (omega (arith, long, h)) word
       ∙ elim (cases_eq (g % 64) (grain % 64)) [
-        | inl place ↦ ap (has_bit (one_set (slice_index words (grain / 64)) (grain % 64))) place ∙ is_one (one_set (slice_index words (grain / 64)) (grain % 64)) (grain % 64) (bit_at_set_same w64 (slice_index words (grain / 64)) (grain % 64) (omega arith))
+        | inl place ↦ ap (has_bit (one_set (slice_index words (grain / 64)) (grain % 64))) place ∙ is_one (one_set (slice_index words (grain / 64))
+            (grain % 64)) (grain % 64) (bit_at_set_same w64 (slice_index words (grain / 64)) (grain % 64) (omega arith))
             ∙ ap (λ t. t || has_bit (slice_index words (g / 64)) (g % 64)) (sym (same_place g grain word place))
-        | inr place ↦ ap (λ x. x == 1) (bit_at_set_other w64 (slice_index words (grain / 64)) (grain % 64) (omega arith) (g % 64) place)
-            ∙ ap (λ w. has_bit (slice_index words w) (g % 64)) (sym word) ∙ ap (λ t. t || has_bit (slice_index words (g / 64)) (g % 64)) (sym (other_place g grain word place))
+        | inr place ↦ ap (λ x. x == 1) (bit_at_set_other w64 (slice_index words (grain / 64)) (grain % 64) (omega arith) (g % 64) place) ∙ ap (λ w. has_bit
+            (slice_index words w) (g % 64)) (sym word) ∙ ap (λ t. t || has_bit (slice_index words (g / 64)) (g % 64)) (sym (other_place g grain word place))
       ]
-  | inr word ↦ replaced_other words (grain / 64) (one_set (slice_index words (grain / 64)) (grain % 64)) (g / 64) (g % 64) word ∙ ap (λ t. t || has_bit (slice_index words (g / 64)) (g % 64)) (sym (other_word g grain word))
+  | inr word ↦ replaced_other words (grain / 64) (one_set (slice_index words (grain / 64)) (grain % 64)) (g / 64) (g % 64) word
+      ∙ ap (λ t. t || has_bit (slice_index words (g / 64)) (g % 64)) (sym (other_word g grain word))
 ]
 
 -- After one grain was cleared, a mask's bits are those before but that one.
@@ -131,12 +133,14 @@ pub after_clear : (words : List ℕ) (grain : ℕ) → length words ≡ 4 → gr
 after_clear words grain long h g = elim (cases_eq (g / 64) (grain / 64)) [
   | inl word ↦ replaced_same words (grain / 64) (one_cleared (slice_index words (grain / 64)) (grain % 64)) (g / 64) (g % 64) (omega (arith, long, h)) word
       ∙ elim (cases_eq (g % 64) (grain % 64)) [
-        | inl place ↦ ap (has_bit (one_cleared (slice_index words (grain / 64)) (grain % 64))) place ∙ is_zero (one_cleared (slice_index words (grain / 64)) (grain % 64)) (grain % 64) (bit_at_clear_same w64 (slice_index words (grain / 64)) (grain % 64) (omega arith))
+        | inl place ↦ ap (has_bit (one_cleared (slice_index words (grain / 64)) (grain % 64))) place ∙ is_zero (one_cleared (slice_index words (grain / 64))
+            (grain % 64)) (grain % 64) (bit_at_clear_same w64 (slice_index words (grain / 64)) (grain % 64) (omega arith))
             ∙ ap (λ t. not t && has_bit (slice_index words (g / 64)) (g % 64)) (sym (same_place g grain word place))
         | inr place ↦ ap (λ x. x == 1) (bit_at_clear_other w64 (slice_index words (grain / 64)) (grain % 64) (omega arith) (g % 64) (omega arith) place)
             ∙ ap (λ w. has_bit (slice_index words w) (g % 64)) (sym word) ∙ ap (λ t. not t && has_bit (slice_index words (g / 64)) (g % 64)) (sym (other_place g grain word place))
       ]
-  | inr word ↦ replaced_other words (grain / 64) (one_cleared (slice_index words (grain / 64)) (grain % 64)) (g / 64) (g % 64) word ∙ ap (λ t. not t && has_bit (slice_index words (g / 64)) (g % 64)) (sym (other_word g grain word))
+  | inr word ↦ replaced_other words (grain / 64) (one_cleared (slice_index words (grain / 64)) (grain % 64)) (g / 64) (g % 64) word
+      ∙ ap (λ t. not t && has_bit (slice_index words (g / 64)) (g % 64)) (sym (other_word g grain word))
 ]
 
 -- ---- all other bits
@@ -152,5 +156,4 @@ pub after_complement : (mask : Mask4) → WordsFit mask → (g : ℕ) → g < 25
     → has_bit (slice_index ((2 ^ 64 - 1 - slice_index mask.0 0) ∷ (2 ^ 64 - 1 - slice_index mask.0 1) ∷ (2 ^ 64 - 1 - slice_index mask.0 2) ∷ (2 ^ 64 - 1 - slice_index mask.0 3) ∷ []) (g / 64)) (g % 64)
     ≡ not (is_set mask g)
 after_complement mask fits g h =
-    four_words (2 ^ 64 - 1 - slice_index mask.0 0) (2 ^ 64 - 1 - slice_index mask.0 1) (2 ^ 64 - 1 - slice_index mask.0 2) (2 ^ 64 - 1 - slice_index mask.0 3) (λ x. not (is_set mask x))
-    (λ x lt. other_bits mask 0 x fits lt) (λ x lt. other_bits mask 1 x fits lt) (λ x lt. other_bits mask 2 x fits lt) (λ x lt. other_bits mask 3 x fits lt) g h
+    search (arith, four_words, other_bits)

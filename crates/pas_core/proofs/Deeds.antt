@@ -135,9 +135,7 @@ directory_if f z k q d es of rest p d' is = grind (arith, one_directory)
 directory_step : (f : Profile) (k e : ℕ) (s : Step) (a : ℕ) (es : List Event) → IsStepOf f s → AreOf f es → AreOf f (with_event (event_of k e s a) es)
 directory_step f k e (Deed q d) a es of rest = directory_if f (a == 0) k q d es of.1 rest
 directory_step f k e (Back q) a es of rest = λ p d is. rest p d (sym (event_if (λ x. deed_in x p ≡ deed_in es p) (a == 0) (Event.Back k q) es refl refl) ∙ is)
-directory_step f k e (End name guess) a es of rest = search (arith, end_event_cases)
-directory_step f k e (EndSized name room) a es of rest = search (arith, end_event_cases)
-directory_step f k e s a es of rest = rest
+directory_step f k e s a es of rest = search (arith, end_event_cases)
 
 -- A page's deed by the events of a legal list is a directory of the profile.
 pub directory_is_of : (f : Profile) (l : Whole) → Legal f l → (p : ℕ) (d : Directory) → deed_in (visible l) p ≡ Some d → IsDirectoryOf f d
@@ -156,6 +154,7 @@ back_agrees : (x z : Bool) (k q p old a : ℕ) (es : List Event) → (q == p) �
     → (if x then bit_or old 1 else old) ≡ word_of_backed (backed_in (with_event (if z then Some (Event.Back k q) else None) es) p)
 back_agrees x z k q p old a es xe is ze h = grind (arith, or_one, is_backed)
 
+-- A page whose backing ends is read so: whether it is this one or another.
 unback_agrees : (x : Bool) (old : ℕ) (was : Bool) → old ≡ word_of_backed was → (if x then 0 else old) ≡ word_of_backed (if x then false else was)
 unback_agrees x old was h = grind arith
 

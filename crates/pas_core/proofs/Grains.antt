@@ -15,7 +15,7 @@ use Rattle.pas_steps.specs.declared.step.Step.TheVariants.{Look, Take, Put, Give
 use Rattle.pas_core.specs.Good.{Place, IsFree, Held, Covered, is_free, is_held_by, is_covered_by, covers, IsPlacedOnce}
 use Rattle.pas_bits.proofs.{Words.bit_cleared, Words.bit_of_or, Runs.first_of_run}
 use Rattle.pas_core.proofs.Deeds.{looked}
-use Rattle.pas_steps.proofs.Targets.{guess_fits}
+use Rattle.pas_steps.proofs.Running.{guess_fits}
 
 -- ---- words of grains: one for each grain
 -- two grains have the same life word where they are the same
@@ -46,6 +46,7 @@ Fits j Puts o = o ≡ Held j
 Fits j (Gives a) o = o ≡ Held j
 Fits j (Ends a) o = o ≡ Covered a
 
+-- What is told to be free is so: place by place.
 is_free-true : (o : Place) → is_free o ≡ true → o ≡ IsFree
 is_free-true s h = grind arith
 
@@ -56,9 +57,11 @@ is_held_by-true k s h = grind (arith, eqb-true)
 is_covered_by-true : (b : ℕ) (o : Place) → is_covered_by b o ≡ true → o ≡ Covered b
 is_covered_by-true b s h = grind (arith, eqb-true)
 
+-- What an actor holds after its own step is what the place says: by each move from each place.
 own_next : (m : Move) (o : Place) (j k : ℕ) (had : Bool) → had ≡ is_held_by k o → (j == k) ≡ true → held_after m had ≡ is_held_by k (place_after j m o)
 own_next s o j k had is e = grind arith
 
+-- So it is for an actor that made no step.
 other_next : (m : Move) (o : Place) (j k : ℕ) (had : Bool) → had ≡ is_held_by k o → Fits j m o → (j == k) ≡ false → had ≡ is_held_by k (place_after j m o)
 other_next s o j k had is fits e = grind arith
 
@@ -67,6 +70,7 @@ free_moved Gets was = false
 free_moved Puts was = true
 free_moved s was = was
 
+-- And for what is free.
 free_next : (j : ℕ) (m : Move) (o : Place) → Fits j m o → free_moved m (is_free o) ≡ is_free (place_after j m o)
 free_next j s o h = grind arith
 
@@ -90,6 +94,7 @@ covered_next j s b o h = grind (arith, if_true, if_false)
 take_cases : (x y : Bool) → (x && not y) ≡ free_moved (if y && x then Gets else Stays) x
 take_cases x y = grind arith
 
+-- A grain is free after a put where it was, or where it is put.
 put_cases : (x y : Bool) → (x || y) ≡ free_moved (if y then Puts else Stays) x
 put_cases x y = grind arith
 
@@ -146,18 +151,10 @@ covered_step : (f : Profile) (l : Whole) (k e : ℕ) (s : Step) (a g b : ℕ) �
     → a ≡ word_after l (target s)
     → covers (if same_word (target s) (life_word_at b) then new_value e s (word_after l (life_word_at b)) else word_after l (life_word_at b)) b g
     ≡ covered_moved (grain_move s a g) b (covers (word_after l (life_word_at b)) b g)
-covered_step f l k e (Look word) a g b valid placed of allowed is = ap (λ n. covers n b g) (looked (same_word word (life_word_at b)) (word_after l (life_word_at b)))
-covered_step f l k e (Take page word mask) a g b valid placed of allowed is = rests_covered (in_mask page word mask g && has_bit a (g % 64)) (covers (word_after l (life_word_at b)) b g) Gets b refl
-covered_step f l k e (Put page word mask) a g b valid placed of allowed is = rests_covered (in_mask page word mask g) (covers (word_after l (life_word_at b)) b g) Puts b refl
-covered_step f l k e (Give block) a g b valid placed of allowed is =
-    give_covers (grain_of block.name == b) (same_word (life_word_at (grain_of block.name)) (life_word_at b)) (grain_of block.name) b g block.name.turn (length_of block) (word_after l (life_word_at b)) (life_same (grain_of block.name) b) refl
-    of.turn (give_short f (address_of block.name) block.room valid of.last)
-    (λ e. ap (λ x. covers (word_after l (life_word_at x)) x g) (sym (eqb-true (grain_of block.name) b e)) ∙ not_covering f l k block g (placed (grain_of block.name)) allowed) (in_run (grain_of block.name) (length_of block) g) refl
-covered_step f l k e (End name guess) a g b valid placed of allowed is =
-    search (arith, life_same, end_covers, guess_fits, eqb-true)
-covered_step f l k e (EndSized name room) a g b valid placed of allowed is =
-    search (arith, life_same, end_covers, guess_fits, eqb-true)
-covered_step f l k e s a g b valid placed of allowed is = refl
+covered_step f l k e (Give block) a g b valid placed of allowed is = give_covers _ _ _ b g block.name.turn _ _ (life_same _ b) refl
+    of.turn (give_short f _ block.room valid of.last)
+    (λ e. ap (λ x. covers (word_after l (life_word_at x)) x g) (sym (eqb-true _ b e)) ∙ not_covering f l k block g (placed (grain_of block.name)) allowed) _ refl
+covered_step f l k e s a g b valid placed of allowed is = search (arith, looked, rests_covered, life_same, end_covers, guess_fits, eqb-true)
 
 -- ---- a legal step's move fits
 fits_if : (j : ℕ) (m : Move) (o : Place) (t : Bool) → (t ≡ true → Fits j m o) → Fits j (if t then m else Stays) o
@@ -167,27 +164,24 @@ fits_if j m o t h = cond_both t m Stays (λ x. Fits j x o) h (λ other. tt)
 pub step_fits : (f : Profile) (l : Whole) (k : ℕ) (s : Step) (a g : ℕ) (at : IsPlacedOnce l g) → IsValid f → IsStepOf f s → Allowed f (part k l) s
     → a ≡ word_after l (target s) → Fits k (grain_move s a g) at.place
 step_fits f l k (Take page word mask) a g at valid of allowed is = search (arith, fits_if, and_parts, is_free-true, free_same)
-step_fits f l k (Put page word mask) a g at valid of allowed is = fits_if k Puts at.place (in_mask page word mask g) (λ h. is_held_by-true k at.place (sym (at.held k) ∙ allowed.held g h))
-step_fits f l k (Give block) a g at valid of allowed is = search (arith, fits_if, is_held_by-true)
-step_fits f l k (End name guess) a g at valid of allowed is = search (arith, fits_if, and_parts, is_covered_by-true, eqb-true, covers_live, guess_fits)
-step_fits f l k (EndSized name room) a g at valid of allowed is = search (arith, fits_if, and_parts, is_covered_by-true, eqb-true, covers_live, guess_fits)
-step_fits f l k s a g at valid of allowed is = tt
+step_fits f l k s a g at valid of allowed is = search (arith, fits_if, and_parts, is_held_by-true, is_covered_by-true, eqb-true, covers_live, guess_fits)
 
 -- ---- the induction
 -- after every legal list each grain is in exactly one place
 pub placed_once : (f : Profile) (l : Whole) → IsValid f → Legal f l → (g : ℕ) → IsPlacedOnce l g
-placed_once f [] valid legal g = record { place = IsFree; free = ap (λ x. x == 1) (bit_at_ones 64 (g % 64) (omega arith)); held = λ k. refl; covered = λ a. refl }
+placed_once f [] valid legal g = record { place = IsFree; free = ap (λ x. x == 1) (bit_at_ones 64 _ (omega arith)); held = λ k. refl; covered = λ a. refl }
 placed_once f (t ∷ l) valid legal g =
     let at : IsPlacedOnce l g = placed_once f l valid legal.1 g in
     let next : IsNext f l t = legal.0 in
     let m : Move = grain_move t.made.step t.made.answer g in
     let e : ℕ = epoch_of (part t.actor l) in
-    let fits : Fits t.actor (grain_move t.made.step t.made.answer g) at.place = step_fits f l t.actor t.made.step t.made.answer g at valid next.of_region next.allowed next.answer_is in
+    let fits : Fits t.actor (grain_move t.made.step t.made.answer g) at.place = step_fits f l _ _ _ g at valid next.of_region next.allowed next.answer_is in
     record {
       place = place_after t.actor m at.place;
-      free = free_step f l e t.made.step t.made.answer g next.of_region next.answer_is ∙ ap (free_moved m) at.free ∙ free_next t.actor m at.place fits;
-      held = λ k. cond_both (t.actor == k) (t.made ∷ part k l) (part k l) (λ v. holds v g ≡ is_held_by k (place_after t.actor m at.place)) (own_next m at.place t.actor k (holds (part k l) g) (at.held k)) (other_next m at.place t.actor k (holds (part k l) g) (at.held k) fits);
-      covered = λ b. covered_step f l t.actor e t.made.step t.made.answer g b valid (placed_once f l valid legal.1) next.of_region next.allowed next.answer_is ∙ ap (covered_moved m b) (at.covered b) ∙ covered_next t.actor m b at.place fits;
+      free = free_step f l e _ _ g next.of_region next.answer_is ∙ ap (free_moved m) at.free ∙ free_next _ m at.place fits;
+      held = λ k. cond_both (t.actor == k) (t.made ∷ part k l) (part k l) (λ v. holds v g ≡ is_held_by k (place_after t.actor m at.place))
+          (own_next m at.place _ k _ (at.held k)) (other_next m at.place _ k _ (at.held k) fits);
+      covered = λ b. covered_step f l _ e _ _ g b valid (placed_once f l valid legal.1) next.of_region next.allowed next.answer_is ∙ ap (covered_moved m b) (at.covered b) ∙ covered_next _ m b at.place fits;
     }
 
 -- no two actors hold one grain

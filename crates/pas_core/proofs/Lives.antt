@@ -1,27 +1,34 @@
 -- Life words: the blocks that live, those that were given, and their turns.
 use Rattle.std.proofs.Common.{◌≡◌, ◌≢◌, ℕ, ◌+◌, ◌-◌, ◌*◌, ◌/◌, ◌%◌, ◌^◌, ◌<◌, ◌≤◌, ◌==◌, Bool, true, false, ◌&&◌, if◌then◌else◌, List, [], ◌∷◌, Option, Some}
-use Rattle.std.proofs.Common.{None, refl, ap, sym, ◌∙◌, subst, arith, inl, inr, ◌++◌, length, zero, suc, eqb-true, eq-eqb, le-leb}
-use Rattle.std.proofs.lemmas.Bool.{false≢true, cases_eq, and_parts, cond_both, eqb-false}
-use Rattle.pas_profile.specs.{Layouts.same_word, Lives.live_word, Lives.is_live, Lives.turn_of, Profiles.IsValid, Blocks.address_of, Blocks.grain_of}
-use Rattle.pas_profile.specs.{Blocks.length_of}
+use Rattle.std.proofs.Common.{None, refl, ap, sym, ◌∙◌, subst, arith, inl, inr, ◌++◌, length, zero, suc, eqb-true, eq-eqb, le-leb, max, ◌⊎◌, w64}
+use Rattle.std.proofs.lemmas.Bool.{false≢true, cases_eq, and_parts, cond_both, eqb-false, and_from, false_from_ne_true, cases_Bool}
+use Rattle.pas_profile.specs.{Layouts.same_word, Layouts.opening, Lives.live_word, Lives.is_live, Lives.turn_of, Profiles.IsValid, Profiles.IsDirectoryOf}
+use Rattle.pas_profile.specs.{Blocks.address_of, Blocks.grain_of, Blocks.length_of, Directories.deed_word_of}
 use Rattle.pas_profile.specs.declared.{profile.Profile.Profile, name.Block.Block, name.Name.Name, event.Event.Event, event.Why.Why}
-use Rattle.pas_bits.specs.Runs.{in_run}
-use Rattle.pas_machine.specs.State.{Live, live_in, gives_in, ends_in}
-use Rattle.pas_steps.specs.{Effects.life_word_at, Effects.target, Effects.new_value, Allowed.Allowed, Allowed.IsStepOf, Allowed.IsBlockOf}
+use Rattle.pas_profile.specs.declared.{directory.Directory.Directory, word.Word.Word}
+use Rattle.pas_bits.specs.{Runs.in_run, Runs.meets_page, PageVectors.page_mask}
+use Rattle.pas_machine.specs.State.{Live, live_in, gives_in, ends_in, touches, epoch_in}
+use Rattle.pas_steps.specs.Effects.{life_word_at, target, new_value, in_mask}
+use Rattle.pas_steps.specs.Allowed.{Allowed, IsStepOf, IsBlockOf, HoldsOn, MayPutNow, MayGiveNow}
 use Rattle.pas_steps.specs.Views.{View, Move, Stays, Gives, Ends, grain_move, held_after, holds, epoch_of, looks_at_life, life_after, known_life, given_after}
-use Rattle.pas_steps.specs.Views.{given_count}
+use Rattle.pas_steps.specs.Views.{given_count, epoch_after, known_epoch, or_zero, holds_all, stamp_after, known_stamp, unstamped_after, is_unstamped, ends_on}
 use Rattle.pas_steps.specs.Events.{event_of, end_event, with_event, reason_of, sized_reason, sized_event}
 use Rattle.pas_steps.specs.Lists.{Whole, word_after, part, visible, IsNext, Legal, Triple}
 use Rattle.pas_steps.specs.declared.step.Step.{Step}
-use Rattle.pas_steps.specs.declared.step.Step.TheVariants.{Look, Deed, Back, Give, End, EndSized}
+use Rattle.pas_steps.specs.declared.step.Step.TheVariants.{Look, Deed, Back, Give, End, EndSized, Take, Put, TakeRight, Offer, Park, Unpark, Stamp, Hint, Tick}
+use Rattle.pas_steps.specs.declared.step.Step.TheVariants.{Unhint}
 use Rattle.pas_core.specs.Good.{Place, Held, is_held_by, covers, IsPlacedOnce, IsLifeOf, IsLifeOfNone, IsLifeOfLive, IsBare}
-use Rattle.pas_core.proofs.Grains.{life_same, give_short, Fits, is_held_by-true, covers_live, some_grain, step_fits, placed_once}
-use Rattle.std.proofs.lemmas.{Option.same_Some, Option.none-some, Bool.Decides.nat_tests}
-use Rattle.pas_core.proofs.Deeds.{event_if, end_event_cases, looked}
-use Rattle.pas_bits.proofs.Runs.{first_of_run}
+use Rattle.pas_core.proofs.Grains.{life_same, give_short, Fits, is_held_by-true, covers_live, some_grain, step_fits, placed_once, one_holder}
+use Rattle.std.proofs.lemmas.{Option.same_Some, Option.none-some, Bool.Decides.nat_tests, Nat.and_le_l, Nat.or_lt}
+use Rattle.pas_core.proofs.Deeds.{event_if, end_event_cases, looked, next_value}
+use Rattle.pas_bits.proofs.{Runs.first_of_run, Runs.IsMet, Runs.met, PageVectors.page_mask_lt}
 use Rattle.pas_machine.specs.{Machine.Admits, Machine.Run, Totals.sum_below}
 use Rattle.pas_core.specs.Given.{WasGiven}
-use Rattle.pas_steps.proofs.Parts.{each_part}
+use Rattle.pas_steps.proofs.{Parts.each_part, Running.guess_fits, Bits.all_below-at, Flags.stays_set, Flags.was_set}
+use Rattle.std.specs.Int.{bit_not}
+use Rattle.pas_profile.proofs.Codecs.{kind_number_lt}
+use Rattle.pas_steps.specs.Desks.{made}
+use Rattle.pas_core.specs.Stamps.{IsSoAtEnd, EachEnd, IsStampedOr, KeepsToEnds, AllKeepToEnds}
 
 -- ==== The life words are those of the machine, and what actors know of them is true.
 
@@ -82,13 +89,11 @@ rests_at f t l g legal = life_rests f l t.actor (epoch_of (part t.actor l)) t.ma
 -- What a view knows of a life word is the word, and its actor holds the grain.
 pub life_is_known : (f : Profile) (l : Whole) → IsValid f → Legal f l → (k g : ℕ) → TellsLife (part k l) g (word_after l (life_word_at g))
 life_is_known f l valid legal k g = each_part f (λ l k v. TellsLife v g (word_after l (life_word_at g))) (λ k w h. cc)
-    (λ t l legal before w. own_life (grain_move t.made.step t.made.answer g) (looks_at_life t.made.step g) (holds (part t.actor l) g) t.made.answer (word_after l (life_word_at g)) (word_after (t ∷ l) (life_word_at g)) (known_life (part t.actor l) g) w
-    (rests_at f t l g legal) (look_is l t.made.step t.made.answer g legal.0.answer_is) before)
-    (λ t l k legal other before w h.
+    (λ t l legal before w. own_life _ _ _ _ _ _ _ w (rests_at f t l g legal) (look_is l _ _ g legal.0.answer_is) before) (λ t l k legal other before w h.
     let o = before w h in
     let at : IsPlacedOnce l g = placed_once f l valid legal.1 g in
-    let fits = step_fits f l t.actor t.made.step t.made.answer g at valid legal.0.of_region legal.0.allowed legal.0.answer_is in
-    (o.0, o.1 ∙ sym (rests_at f t l g legal (no_move t.actor k (grain_move t.made.step t.made.answer g) at.place fits (is_held_by-true k at.place (sym (at.held k) ∙ o.0)) other)))) l legal k
+    let fits = step_fits f l _ _ _ g at valid legal.0.of_region legal.0.allowed legal.0.answer_is in
+    (o.0, o.1 ∙ sym (rests_at f t l g legal (no_move _ k _ at.place fits (is_held_by-true k at.place (sym (at.held k) ∙ o.0)) other)))) l legal k
 
 -- ---- life words of the machine
 -- the block that a live word tells of
@@ -119,11 +124,13 @@ record IsNewAt (f : Profile) (g : ℕ) (block : Block) (ends : ℕ) : Type 0 whe
   last : g + length_of block ≤ 256 * (f.pages + 1)
   heap : block.heap < f.heaps
 
+-- After a give the word is that of the block at its address, and as it was elsewhere.
 give_life : (x : Bool) (f : Profile) (g word k : ℕ) (block : Block) (live : Option Live) (gives ends : ℕ) → IsLifeOf f g word live gives ends
     → (x ≡ true → live ≡ None) → (x ≡ true → IsNewAt f g block ends)
     → IsLifeOf f g (if x then live_word block.name.turn (length_of block) else word) (if x then Some record { actor = k; block = block } else live) (if x then gives + 1 else gives) ends
 give_life x f g word k block live gives ends was none new = grind arith
 
+-- A live word that ends leaves the word of no block, with the next turn.
 ended : (f : Profile) (g word : ℕ) (live : Option Live) (gives ends t n : ℕ) → IsLifeOf f g word live gives ends → t < 2 ^ 40 - 1 → word ≡ live_word t n
     → IsLifeOfNone (t + 1) gives (ends + 1)
 ended f g word live gives ends t n h small is = grind arith
@@ -147,22 +154,7 @@ life_step : (f : Profile) (l : Whole) (k e : ℕ) (s : Step) (a g : ℕ) → IsV
     → (holds (part k l) g ≡ true → live_in (visible l) (16 * g) ≡ None) → TellsLife (part k l) g (word_after l (life_word_at g))
     → LifeIn f g (word_after l (life_word_at g)) (visible l) (16 * g)
     → LifeIn f g (if same_word (target s) (life_word_at g) then new_value e s (word_after l (life_word_at g)) else word_after l (life_word_at g)) (with_event (event_of k e s a) (visible l)) (16 * g)
-life_step f l k e (Look word) a g valid of allowed is dead tells h = subst (λ x. LifeIn f g x (visible l) (16 * g)) (sym (looked (same_word word (life_word_at g)) (word_after l (life_word_at g)))) h
-life_step f l k e (Deed page directory) a g valid of allowed is dead tells h = event_if (λ x. LifeIn f g (word_after l (life_word_at g)) x (16 * g)) (a == 0) (Event.Deed k page directory) (visible l) h h
-life_step f l k e (Back page) a g valid of allowed is dead tells h = event_if (λ x. LifeIn f g (word_after l (life_word_at g)) x (16 * g)) (a == 0) (Event.Back k page) (visible l) h h
-life_step f l k e (Give block) a g valid of allowed is dead tells h =
-    search (arith, address_same, eqb-true, first_of_run, some_grain, turn_is, as_test, life_same, give_life, new_at)
-life_step f l k e (End name guess) a g valid of allowed is dead tells h =
-    as_test (same_word (life_word_at (grain_of name)) (life_word_at g)) (address_of name == 16 * g) (λ w. LifeIn f g w (with_event (end_event k e name guess a) (visible l)) (16 * g)) (if word_after l (life_word_at g) == live_word name.turn guess then name.turn + 1 else word_after l (life_word_at g)) (word_after l (life_word_at g))
-    (life_same (grain_of name) g ∙ sym (address_same (address_of name) g of.1))
-    (end_life (address_of name == 16 * g) (a == live_word name.turn guess) (is_live a && (turn_of a == name.turn)) f g k e a (word_after l (life_word_at g)) guess name (reason_of name a) (visible l) (16 * g) refl
-    (λ x. word_is l a (grain_of name) g is (sym (address_same (address_of name) g of.1) ∙ x)) refl of.2 h)
-life_step f l k e (EndSized name room) a g valid of allowed is dead tells h =
-    as_test (same_word (life_word_at (grain_of name)) (life_word_at g)) (address_of name == 16 * g) (λ w. LifeIn f g w (with_event (sized_event k e name room a) (visible l)) (16 * g)) (if word_after l (life_word_at g) == live_word name.turn (room / 16) then name.turn + 1 else word_after l (life_word_at g)) (word_after l (life_word_at g))
-    (life_same (grain_of name) g ∙ sym (address_same (address_of name) g of.0.1))
-    (end_life (address_of name == 16 * g) (a == live_word name.turn (room / 16)) false f g k e a (word_after l (life_word_at g)) (room / 16) name (sized_reason name room a) (visible l) (16 * g) refl
-    (λ x. word_is l a (grain_of name) g is (sym (address_same (address_of name) g of.0.1) ∙ x)) refl of.0.2 h)
-life_step f l k e s a g valid of allowed is dead tells h = h
+life_step f l k e s a g valid of allowed is dead tells h = search (arith, event_if, address_same, eqb-true, first_of_run, some_grain, turn_is, as_test, life_same, give_life, new_at, end_life)
 
 -- a grain of a live block is covered
 live_covers : (f : Profile) (g word : ℕ) (b : Live) (gives ends x : ℕ) → IsLifeOfLive f g word b gives ends → in_run g (length_of b.block) x ≡ true
@@ -186,9 +178,8 @@ life_of f [] valid legal g = record { word_is = refl; gives_are = refl; few = om
 life_of f (t ∷ l) valid legal g =
     let next : IsNext f l t = legal.0 in
     let before : IsLifeOf f g (word_after l (life_word_at g)) (live_in (visible l) (16 * g)) (gives_in (visible l) (16 * g)) (ends_in (visible l) (16 * g)) = life_of f l valid legal.1 g in
-    life_step f l t.actor (epoch_of (part t.actor l)) t.made.step t.made.answer g valid next.of_region next.allowed next.answer_is
-    (λ held. dead_while_held f l t.actor g (live_in (visible l) (16 * g)) (gives_in (visible l) (16 * g)) (ends_in (visible l) (16 * g)) (placed_once f l valid legal.1 g) held before)
-    (life_is_known f l valid legal.1 t.actor g) before
+    life_step f l _ _ _ _ g valid next.of_region next.allowed next.answer_is
+    (λ held. dead_while_held f l _ g _ _ _ (placed_once f l valid legal.1 g) held before) (life_is_known f l valid legal.1 _ g) before
 
 -- ---- addresses that are no grain's
 abbrev BareIn : List Event → ℕ → Type 0
@@ -217,7 +208,7 @@ bare_of f (t ∷ l) legal address un = search (arith, bare_step, bare_of f l leg
 
 -- no block lives at an address that is no multiple of 16
 pub live_is_aligned : (f : Profile) (l : Whole) → Legal f l → (address : ℕ) (b : Live) → live_in (visible l) address ≡ Some b → address % 16 ≡ 0
-live_is_aligned f l legal address b is = elim (cases_eq (address % 16) 0) [ inl e ↦ e | inr ne ↦ absurd (none-some b (sym (bare_of f l legal address ne).no_block ∙ is)) ]
+live_is_aligned f l legal address b is = search (arith, cases_eq, none-some, bare_of)
 
 -- a live block has its own address, which is that of a grain
 pub live_of : (f : Profile) (l : Whole) → IsValid f → Legal f l → (address : ℕ) (b : Live) → live_in (visible l) address ≡ Some b
@@ -225,7 +216,7 @@ pub live_of : (f : Profile) (l : Whole) → IsValid f → Legal f l → (address
 live_of f l valid legal address b is =
     let e : 16 * (address / 16) ≡ address = omega (arith, live_is_aligned f l legal address b is) in
     let one : IsLifeOf f (address / 16) (word_after l (life_word_at (address / 16))) (live_in (visible l) address) (gives_in (visible l) address) (ends_in (visible l) address)
-    = subst (λ x. IsLifeOf f (address / 16) (word_after l (life_word_at (address / 16))) (live_in (visible l) x) (gives_in (visible l) x) (ends_in (visible l) x)) e (life_of f l valid legal (address / 16)) in
+    = subst (λ x. IsLifeOf f (address / 16) (word_after l (life_word_at (address / 16))) (live_in (visible l) x) (gives_in (visible l) x) (ends_in (visible l) x)) e (life_of f l valid legal _) in
     subst (λ v. IsLifeOf f (address / 16) (word_after l (life_word_at (address / 16))) v (gives_in (visible l) address) (ends_in (visible l) address)) is one
 
 -- the life word at an address
@@ -233,7 +224,7 @@ pub life_at : (f : Profile) (l : Whole) → IsValid f → Legal f l → (address
     → IsLifeOf f (address / 16) (word_after l (life_word_at (address / 16))) (live_in (visible l) address) (gives_in (visible l) address) (ends_in (visible l) address)
 life_at f l valid legal address aligned =
     let e : 16 * (address / 16) ≡ address = omega (arith, aligned) in
-    subst (λ x. IsLifeOf f (address / 16) (word_after l (life_word_at (address / 16))) (live_in (visible l) x) (gives_in (visible l) x) (ends_in (visible l) x)) e (life_of f l valid legal (address / 16))
+    subst (λ x. IsLifeOf f (address / 16) (word_after l (life_word_at (address / 16))) (live_in (visible l) x) (gives_in (visible l) x) (ends_in (visible l) x)) e (life_of f l valid legal _)
 
 -- ==== What callers need of the blocks that were given: names keep their blocks, and there are no more gives than events.
 
@@ -243,6 +234,7 @@ given_live : (x : Bool) (live : Option Live) (new : Live) (block : Block) → (x
     → (b : Live) → (if x then Some new else live) ≡ Some b → b.block.name.turn ≡ block.name.turn → b.block ≡ block
 given_live x live new block other old b is turn = grind (arith, same_Some)
 
+-- After an end the block of this name lives no more: whether it is at this address or not.
 ended_live : (x : Bool) (live : Option Live) (block : Block) → ((b : Live) → live ≡ Some b → b.block.name.turn ≡ block.name.turn → b.block ≡ block) → (b : Live)
     → (if x then None else live) ≡ Some b → b.block.name.turn ≡ block.name.turn → b.block ≡ block
 ended_live x live block old b is turn = grind arith
@@ -330,8 +322,10 @@ all_gives f (t ∷ l) legal =
     let actor : t.actor < f.threads + 1 = omega (arith, legal.0.actor) in
     let is : count_gives (visible (t ∷ l)) ≡ given_after t.made.step (count_gives (visible l)) = count_step t.actor (epoch_of (part t.actor l)) t.made.step t.made.answer (visible l) in
     let rises : sum_below (f.threads + 1) (λ k. given_count (part k l)) + given_after t.made.step 0 ≤ sum_below (f.threads + 1) (λ k. given_count (part k (t ∷ l)))
-    = sum_rises (f.threads + 1) t.actor (given_after t.made.step 0) (λ k. given_count (part k l)) (λ k. given_count (part k (t ∷ l))) (λ k. cond_both (t.actor == k) (t.made ∷ part k l) (part k l) (λ v. given_count (part k l) ≤ given_count v) (λ own. omega (arith, more_given t.made.step (given_count (part k l)))) (λ other. omega arith))
-    (subst (λ b. given_count (part t.actor l) + given_after t.made.step 0 ≤ given_count (if b then t.made ∷ part t.actor l else part t.actor l)) (sym (eq-eqb t.actor t.actor refl)) (omega (arith, more_given t.made.step (given_count (part t.actor l))))) actor in
+    = sum_rises (f.threads + 1) _ _ (λ k. given_count (part k l)) (λ k. given_count (part k (t ∷ l))) (λ k. cond_both (t.actor == k) (t.made ∷ part k l)
+    (part k l) (λ v. given_count (part k l) ≤ given_count v) (λ own. omega (arith, more_given t.made.step (given_count (part k l)))) (λ other. omega arith))
+    (subst (λ b. given_count (part t.actor l) + given_after t.made.step 0 ≤ given_count (if b then t.made ∷ part t.actor l else part t.actor l))
+    (sym (eq-eqb _ _ refl)) (omega (arith, more_given t.made.step (given_count (part t.actor l))))) actor in
     omega (arith, all_gives f l legal.1, is, more_given t.made.step (count_gives (visible l)), rises)
 
 -- ---- turns
@@ -339,6 +333,7 @@ all_gives f (t ∷ l) legal =
 gives_small : (f : Profile) (l : Whole) → IsValid f → Legal f l → (address : ℕ) → gives_in (visible l) address < 2 ^ 37
 gives_small f l valid legal address = search (arith, sum_small, given_small, all_gives, gives_few)
 
+-- No block ended that wasn't given, whether one lives or none.
 ends_below : (f : Profile) (g word : ℕ) (live : Option Live) (gives ends : ℕ) → IsLifeOf f g word live gives ends → ends ≤ gives
 ends_below f g word live gives ends h = grind arith
 
@@ -346,5 +341,341 @@ ends_below f g word live gives ends h = grind arith
 pub turn_small : (f : Profile) (l : Whole) → IsValid f → Legal f l → (g : ℕ) → turn_of (word_after l (life_word_at g)) < 2 ^ 37
 turn_small f l valid legal g =
     let life : IsLifeOf f g (word_after l (life_word_at g)) (live_in (visible l) (16 * g)) (gives_in (visible l) (16 * g)) (ends_in (visible l) (16 * g)) = life_of f l valid legal g in
-    let ends : ends_in (visible l) (16 * g) ≤ gives_in (visible l) (16 * g) = ends_below f g (word_after l (life_word_at g)) (live_in (visible l) (16 * g)) (gives_in (visible l) (16 * g)) (ends_in (visible l) (16 * g)) life in
+    let ends : ends_in (visible l) (16 * g) ≤ gives_in (visible l) (16 * g) = ends_below f g _ _ _ _ life in
     omega (arith, turn_is f g (word_after l (life_word_at g)) (live_in (visible l) (16 * g)) (gives_in (visible l) (16 * g)) (ends_in (visible l) (16 * g)) life, ends, gives_small f l valid legal (16 * g))
+
+-- ==== Epochs, stamps, and the ends that stamps tell of.
+
+-- ==== The epoch only grows, every word fits 64 bits, and epochs and stamps are below 2 ^ 40.
+
+-- ---- the epoch
+-- no step lowers the epoch
+epoch_next : (e : ℕ) (s : Step) (old : ℕ) → old ≤ next_value e s Word.Epoch old
+epoch_next e s old = grind (arith, looked)
+
+epoch_grows : (l : Whole) (t : Triple) → word_after l Word.Epoch ≤ word_after (t ∷ l) Word.Epoch
+epoch_grows l t = epoch_next (epoch_of (part t.actor l)) t.made.step (word_after l Word.Epoch)
+
+-- an actor learns no epoch but that of the word, and its tick the one that it makes
+epoch_learns : (l : Whole) (e : ℕ) (s : Step) (a : ℕ) (known : Option ℕ) → a ≡ word_after l (target s) → or_zero known ≤ word_after l Word.Epoch
+    → or_zero (epoch_after s a known) ≤ next_value e s Word.Epoch (word_after l Word.Epoch)
+epoch_learns l e s a known is h = grind arith
+
+-- the epoch that a view knows is at most the epoch
+pub epoch_known : (f : Profile) (l : Whole) → Legal f l → (k : ℕ) → epoch_of (part k l) ≤ word_after l Word.Epoch
+epoch_known f = each_part f (λ l k v. epoch_of v ≤ word_after l Word.Epoch) (λ k. omega arith)
+    (λ t l legal before. epoch_learns l (epoch_of (part t.actor l)) t.made.step _ (known_epoch (part t.actor l)) legal.0.answer_is before)
+    (λ t l k legal other before. omega (arith, before, epoch_grows l t))
+
+-- ---- every word is below 2 ^ 64
+deed_small : (f : Profile) (d : Directory) → IsValid f → IsDirectoryOf f d → deed_word_of d < 2 ^ 64
+deed_small f d valid of = omega (arith, kind_number_lt d.kind of.kind, of.heap, valid.heaps)
+
+live_small : (turn n : ℕ) → turn < 2 ^ 40 → n < 2 ^ 23 → live_word turn n < 2 ^ 64
+live_small turn n ht hn = omega arith
+
+value_small : (f : Profile) (e : ℕ) (s : Step) (old : ℕ) → IsValid f → IsStepOf f s → e < 2 ^ 64 → old < 2 ^ 64 → new_value e s old < 2 ^ 64
+value_small f e (Back q) old valid of he h = or_lt 64 old 1 h (omega arith)
+value_small f e (Take q w mask) old valid of he h = omega (arith, and_le_l old (bit_not w64 mask))
+value_small f e (TakeRight q directory) old valid of he h = omega (arith, and_le_l old (bit_not w64 (page_mask q)))
+value_small f e (Unpark q) old valid of he h = omega (arith, and_le_l old (bit_not w64 (page_mask q)))
+value_small f e (Tick raised) old valid of he h = omega (arith, of, h)
+value_small f e (Unhint q) old valid of he h = omega (arith, and_le_l old (bit_not w64 (page_mask q)))
+value_small f e s old valid of he h = search (arith, cond_both, deed_small, or_lt, live_small, give_short, page_mask_lt)
+
+-- Each word fits 64 bits at the opening: word by word.
+opening_small : (word : Word) → opening word < 2 ^ 64
+opening_small s = grind arith
+
+-- every word fits 64 bits
+pub words_fit : (f : Profile) (l : Whole) → IsValid f → Legal f l → (word : Word) → word_after l word < 2 ^ 64
+words_fit f [] valid legal word = opening_small word
+words_fit f (t ∷ l) valid legal word =
+    search (arith, epoch_known, cond_both, value_small, words_fit f l valid legal.1 Word.Epoch, words_fit f l valid legal.1 word)
+
+-- ---- the epoch and the stamps are below 2 ^ 40
+epoch_below : (f : Profile) (e : ℕ) (s : Step) (old : ℕ) → IsStepOf f s → old < 2 ^ 40 → next_value e s Word.Epoch old < 2 ^ 40
+epoch_below f e s old of h = grind (arith, looked)
+
+-- the epoch is below 2 ^ 40
+pub epoch_small : (f : Profile) (l : Whole) → Legal f l → word_after l Word.Epoch < 2 ^ 40
+epoch_small f [] legal = omega arith
+epoch_small f (t ∷ l) legal = search (arith, epoch_below, epoch_small f l legal.1)
+
+stamp_below : (e : ℕ) (s : Step) (p old : ℕ) → e < 2 ^ 40 → old < 2 ^ 40 → next_value e s (Word.Stamp p) old < 2 ^ 40
+stamp_below e s p old he h = grind (arith, looked, cond_both)
+
+-- a stamp is an epoch that an actor read, so it is below 2 ^ 40 too
+pub stamp_small : (f : Profile) (l : Whole) → Legal f l → (p : ℕ) → word_after l (Word.Stamp p) < 2 ^ 40
+stamp_small f [] legal p = omega arith
+stamp_small f (t ∷ l) legal p = search (arith, epoch_known, stamp_below, epoch_small, stamp_small f l legal.1 p)
+
+-- ==== The block that an end finds.
+
+-- ---- the block that an end found
+pub record IsFound (f : Profile) (l : Whole) (name : Name) (guess : ℕ) : Type 0 where
+  pub block : Live
+  pub address_is : address_of block.block.name ≡ 16 * grain_of name
+  pub lives : live_in (visible l) (address_of name) ≡ Some block
+  pub grains_are : length_of block.block ≡ guess
+  pub first : 256 ≤ grain_of name
+  pub last : grain_of name + guess ≤ 256 * (f.pages + 1)
+
+-- The word that an end finds is that of the live block of this name.
+found : (f : Profile) (l : Whole) (name : Name) (word guess gives ends : ℕ) (live : Option Live) → live_in (visible l) (address_of name) ≡ live
+    → IsLifeOf f (grain_of name) word live gives ends
+    → name.turn < 2 ^ 40 → guess < 2 ^ 23 → word ≡ live_word name.turn guess → IsFound f l name guess
+found f l name word guess gives ends live is life turn short h = grind arith
+
+-- An end that is answered by the live word of its turn and length finds that block.
+pub end_finds : (f : Profile) (l : Whole) → IsValid f → Legal f l → (name : Name) (guess a : ℕ) → IsStepOf f (End name guess)
+    → a ≡ word_after l (life_word_at (grain_of name)) → a ≡ live_word name.turn guess → IsFound f l name guess
+end_finds f l valid legal name guess a of is hit = found f l name _ guess _ _ _ refl (life_at f l valid legal _ of.1)
+    (omega (arith, of.2)) (guess_fits guess f.pages valid.pages of.4) (sym is ∙ hit)
+
+-- ==== The stamps: what is known of them is true, and the epoch of each end on a page is at most the page's stamp, or the page is unstamped for the
+-- actor that made the end.
+
+-- ---- stamps that are known
+abbrev pub stamps : Step → ℕ → Bool
+stamps (Stamp q) p = q == p
+stamps s p = false
+
+stamp_rests : (e : ℕ) (s : Step) (p old : ℕ) → stamps s p ≡ false → next_value e s (Word.Stamp p) old ≡ old
+stamp_rests e s p old other = grind (arith, looked)
+
+-- whoever stamps a page holds a grain of it
+stamps_held : (f : Profile) (v : View) (s : Step) (p : ℕ) → Allowed f v s → stamps s p ≡ true → HoldsOn v p
+stamps_held f v s p allowed h = grind (arith, eqb-true, false≢true)
+
+-- What is found only where a test passes shows that it passed.
+all_if : (t : Bool) (o : Option ℕ) (s : ℕ) → (if t then o else None) ≡ Some s → (t ≡ true) × (o ≡ Some s)
+all_if t o s h = grind arith
+
+-- while a stamp is known each grain of the page is held
+known_all : (v : View) (p s : ℕ) → known_stamp v p ≡ Some s → holds_all v p ≡ true
+known_all [] p s h = cc
+known_all (m ∷ v) p s h = (all_if (holds_all (m ∷ v) p) (stamp_after m.step m.answer p (known_stamp v p)) s h).0
+
+all_held : (v : View) (p g : ℕ) → holds_all v p ≡ true → g / 256 ≡ p → holds v g ≡ true
+all_held v p g all e =
+    let is : p * 256 + g % 256 ≡ g = omega (arith, e) in
+    subst (λ x. holds v x ≡ true) is (all_below-at 256 _ (λ b. holds v (p * 256 + b)) all (omega arith))
+
+-- A stamp that was read is the word, whether it was read now or before.
+look_stamp : (x : Bool) (a word : ℕ) (known : Option ℕ) (s : ℕ) → (x ≡ true → a ≡ word) → ((s : ℕ) → known ≡ Some s → word ≡ s)
+    → (if x then Some a else known) ≡ Some s → word ≡ s
+look_stamp x a word known s h e k = grind arith
+
+-- A stamp that is known after one was raised is of another page, so its word stands.
+own_stamp : (x : Bool) (e word : ℕ) (known : Option ℕ) (s : ℕ) → ((s : ℕ) → known ≡ Some s → word ≡ s) → (if x then None else known) ≡ Some s
+    → (if x then max word e else word) ≡ s
+own_stamp x e word known s h k = grind arith
+
+-- an actor's own step tells it the stamp
+stamp_learns : (l : Whole) (e : ℕ) (t : Step) (a p : ℕ) (known : Option ℕ) (s : ℕ) → a ≡ word_after l (target t)
+    → ((s : ℕ) → known ≡ Some s → word_after l (Word.Stamp p) ≡ s) → stamp_after t a p known ≡ Some s
+    → next_value e t (Word.Stamp p) (word_after l (Word.Stamp p)) ≡ s
+stamp_learns l e step a p known s is old h = grind (arith, looked, look_stamp, eqb-true, own_stamp)
+
+-- nobody else stamps a page each of whose grains this actor holds
+other_stamps : (f : Profile) (l : Whole) → IsValid f → Legal f l → (t : Triple) (k p : ℕ) → IsNext f l t → (t.actor == k) ≡ false
+    → holds_all (part k l) p ≡ true → stamps t.made.step p ≡ false
+other_stamps f l valid legal t k p next other all = search (arith, false_from_ne_true, stamps_held, false≢true, one_holder, all_held)
+
+-- a stamp that a view knows is the page's
+pub stamp_known : (f : Profile) (l : Whole) → IsValid f → Legal f l → (k p s : ℕ) → known_stamp (part k l) p ≡ Some s → word_after l (Word.Stamp p) ≡ s
+stamp_known f l valid legal k p = each_part f (λ l k v. (s : ℕ) → known_stamp v p ≡ Some s → word_after l (Word.Stamp p) ≡ s) (λ k s told. cc)
+    (λ t l legal before s h. stamp_learns l _ _ _ p _ s legal.0.answer_is before (all_if _ _ s h).1)
+    (λ t l k legal other before s h. stamp_rests _ _ p _ (other_stamps f l valid legal.1 t k p legal.0 other (known_all _ p s h)) ∙ before s h) l legal k
+
+-- ---- an actor holds a grain of each page that is unstamped for it
+pub moved_held : (t held : Bool) (m : Move) → (t ≡ true → held_after m held ≡ true) → held ≡ true → held_after (if t then m else Stays) held ≡ true
+moved_held t held m new h = cond_both t m Stays (λ x. held_after x held ≡ true) new (λ other. h)
+
+put_misses : (v : View) (q w mask p g : ℕ) → MayPutNow v q w mask → is_unstamped v p ≡ true → g / 256 ≡ p → in_mask q w mask g ≡ false
+put_misses v q w mask p g may unstamped e = search (arith, false_from_ne_true, and_parts, eqb-true, false≢true)
+
+give_misses : (f : Profile) (v : View) (block : Block) (p g : ℕ) → MayGiveNow f v block → is_unstamped v p ≡ true → g / 256 ≡ p
+    → in_run (grain_of block.name) (length_of block) g ≡ false
+give_misses f v block p g may unstamped e = search (arith, false_from_ne_true, false≢true)
+
+-- after an end: a page of the block has a grain of it, and another page is as it was
+end_keeps : (v : View) (name : Name) (guess a p : ℕ) → 1 ≤ guess → (is_unstamped v p ≡ true → HoldsOn v p) → (z : Bool) → (a == live_word name.turn guess) ≡ z
+    → (y : Bool) → meets_page (grain_of name) guess p ≡ y
+    → (if z && y then true else is_unstamped v p) ≡ true → HoldsOn (made (End name guess) a ∷ v) p
+end_keeps v name guess a p some before true ze true ye h =
+    let at : IsMet (grain_of name) guess p = met _ guess p some ye in
+    (at.grain, at.of_page, ap (λ t. held_after (if t then Ends (grain_of name) else Stays) (holds v at.grain)) (and_from _ _ ze at.of_run))
+end_keeps v name guess a p some before z ze y ye h = search (arith, moved_held)
+
+keeps_held : (f : Profile) (v : View) (s : Step) (a p : ℕ) → IsStepOf f s → Allowed f v s → (is_unstamped v p ≡ true → HoldsOn v p)
+    → unstamped_after s a p (is_unstamped v p) ≡ true → HoldsOn (made s a ∷ v) p
+keeps_held f v (Stamp q) a p of allowed before h = let was = before (was_set (q == p) (is_unstamped v p) h) in (was.0, was.1, was.2)
+keeps_held f v s a p of allowed before h = search (arith, moved_held, false≢true, put_misses, give_misses, end_keeps)
+
+-- an actor holds a grain of each page that is unstamped for it
+pub unstamped_is_held : (f : Profile) (l : Whole) → Legal f l → (k p : ℕ) → is_unstamped (part k l) p ≡ true → HoldsOn (part k l) p
+unstamped_is_held f l legal k p = each_part f (λ l k v. is_unstamped v p ≡ true → HoldsOn v p) (λ k h. absurd (false≢true h))
+    (λ t l legal before. keeps_held f (part t.actor l) _ _ p legal.0.of_region legal.0.allowed before) (λ t l k legal other before. before) l legal k
+
+-- ---- the epoch of each end on a page
+so_map : (P Q : ℕ → ℕ → Type 0) (e : Event) (es : List Event) (p : ℕ) → ((k e : ℕ) → P k e → Q k e) → IsSoAtEnd P e es p → IsSoAtEnd Q e es p
+so_map P Q e es p f h = grind arith
+
+ends_map : (P Q : ℕ → ℕ → Type 0) (es : List Event) (p : ℕ) → ((k e : ℕ) → P k e → Q k e) → EachEnd P es p → EachEnd Q es p
+ends_map P Q [] p f h = tt
+ends_map P Q (e ∷ es) p f h = (so_map P Q e es p f h.0, ends_map P Q es p f h.1)
+
+-- a block that ends touches a page just where its run meets it
+end_touches : (f : Profile) (l : Whole) → IsValid f → Legal f l → (name : Name) (guess a p : ℕ) → IsStepOf f (End name guess)
+    → a ≡ word_after l (life_word_at (grain_of name)) → (a == live_word name.turn guess) ≡ true
+    → touches (live_in (visible l) (address_of name)) p ≡ true → ends_on (End name guess) a p ≡ true
+end_touches f l valid legal name guess a p of is hit on =
+    let at : IsFound f l name guess = end_finds f l valid legal name guess a of is (eqb-true a _ hit) in
+    let first : address_of at.block.block.name / 16 ≡ grain_of name = omega (arith, at.address_is) in
+    let meets : meets_page (grain_of name) guess p ≡ true = ap (λ g. meets_page g guess p) (sym first)
+    ∙ ap (λ n. meets_page (address_of at.block.block.name / 16) n p) (sym at.grains_are) ∙ ap (λ o. touches o p) (sym at.lives) ∙ on in
+    and_from _ _ hit meets
+
+-- the ends so far and the one that the step may make
+ends_step : (f : Profile) (l : Whole) → IsValid f → Legal f l → (P : ℕ → ℕ → Type 0) (k e : ℕ) (s : Step) (a p : ℕ) → IsStepOf f s → a ≡ word_after l (target s)
+    → (ends_on s a p ≡ true → P k e) → EachEnd P (visible l) p
+    → EachEnd P (with_event (event_of k e s a) (visible l)) p
+ends_step f l valid legal P k e s a p of is new h = grind (arith, event_if, end_event_cases, end_touches)
+
+-- no step lowers a stamp
+stamp_next : (e : ℕ) (s : Step) (p old : ℕ) → old ≤ next_value e s (Word.Stamp p) old
+stamp_next e s p old = grind (arith, looked, cond_both)
+
+-- an actor forgets no epoch
+epoch_rises : (l : Whole) (s : Step) (a : ℕ) (known : Option ℕ) → a ≡ word_after l (target s) → or_zero known ≤ word_after l Word.Epoch
+    → or_zero known ≤ or_zero (epoch_after s a known)
+epoch_rises l s a known is h = grind arith
+
+-- what an own step leaves: the page is unstamped still, or is stamped now
+stamped_now : (x was : Bool) (e n old : ℕ) → was ≡ true → n ≤ e → ((if x then false else was) ≡ true) ⊎ (n ≤ (if x then max old e else old))
+stamped_now x was e n old h k = grind arith
+
+own_late : (e : ℕ) (s : Step) (a p : ℕ) (was : Bool) (n old : ℕ) → was ≡ true → n ≤ e
+    → (unstamped_after s a p was ≡ true) ⊎ (n ≤ next_value e s (Word.Stamp p) old)
+own_late e s a p was n old h le = grind (arith, stays_set, stamped_now)
+
+late_next : (f : Profile) (t : Triple) (l : Whole) → Legal f (t ∷ l) → (p k n : ℕ) → IsStampedOr l p k n → IsStampedOr (t ∷ l) p k n
+late_next f t l legal p k n before = search (arith, stamp_next, epoch_known, cond_both, epoch_rises, eqb-true, own_late)
+
+-- an end that is made now
+new_unstamped : (s : Step) (a p : ℕ) (was : Bool) → ends_on s a p ≡ true → unstamped_after s a p was ≡ true
+new_unstamped s a p was h = grind (arith, false≢true)
+
+new_epoch : (s : Step) (a p : ℕ) (known : Option ℕ) → ends_on s a p ≡ true → or_zero known ≤ or_zero (epoch_after s a known)
+new_epoch s a p known h = grind (arith, false≢true)
+
+now_late : (t : Triple) (l : Whole) (p : ℕ) → ends_on t.made.step t.made.answer p ≡ true → IsStampedOr (t ∷ l) p t.actor (epoch_of (part t.actor l))
+now_late t l p h = search (arith, eq-eqb, new_unstamped, new_epoch)
+
+-- the epoch of each end on a page is at most the page's stamp, or the page is unstamped for its actor, which knows an epoch as great
+pub ends_stamped : (f : Profile) (l : Whole) → IsValid f → Legal f l → (p : ℕ) → EachEnd (IsStampedOr l p) (visible l) p
+ends_stamped f [] valid legal p = tt
+ends_stamped f (t ∷ l) valid legal p =
+    let next : IsNext f l t = legal.0 in
+    ends_step f l valid legal.1 _ _ _ _ _ p next.of_region next.answer_is (now_late t l p)
+    (ends_map _ _ _ p (λ k n. late_next f t l legal p k n) (ends_stamped f l valid legal.1 p))
+
+-- ---- the machine's epoch of a page
+ends_bound : (es : List Event) (p n : ℕ) → EachEnd (λ k e. e ≤ n) es p → epoch_in es p ≤ n
+ends_bound [] p n h = omega arith
+ends_bound (Event.End k name e ∷ es) p n h = search (arith, cond_both, ends_bound es p n h.1)
+ends_bound (e ∷ es) p n h = ends_bound es p n h.1
+
+-- where an actor holds each grain of a page that isn't unstamped for it, the stamp is at least the epoch of each end on the page
+pub ends_before : (f : Profile) (l : Whole) → IsValid f → Legal f l → (k p : ℕ) → ((g : ℕ) → g / 256 ≡ p → holds (part k l) g ≡ true)
+    → is_unstamped (part k l) p ≡ false → epoch_in (visible l) p ≤ word_after l (Word.Stamp p)
+ends_before f l valid legal k p held stamped = ends_bound _ p _ (ends_map _ (λ j e. e ≤ word_after l (Word.Stamp p)) _ p (λ j n late. elim late [
+  | inl le ↦ le
+  | inr un ↦
+      let on : HoldsOn (part j l) p = unstamped_is_held f l legal j p un.0 in
+      let own : j ≡ k = eqb-true j k (one_holder f l valid legal j k on.0 on.2 (held on.0 on.1)) in
+      absurd (false≢true (sym stamped ∙ ap (λ i. is_unstamped (part i l) p) (sym own) ∙ un.0))
+]) (ends_stamped f l valid legal p))
+
+-- ==== Where actors learn no epoch between an end and its stamps, and stamp only what they ended on, the stamp of a page is the greatest epoch of an end
+-- on it, once no page is unstamped.
+
+-- ---- the machine's epoch of a page only grows
+more_epoch : (e : Event) (es : List Event) (p : ℕ) → epoch_in es p ≤ epoch_in (e ∷ es) p
+more_epoch s es p = grind (arith, cond_both)
+
+with_more : (o : Option Event) (es : List Event) (p : ℕ) → epoch_in es p ≤ epoch_in (with_event o es) p
+with_more o es p = grind (arith, more_epoch)
+
+-- a block that an end ended touches each page that its run meets
+touched_by_end : (f : Profile) (l : Whole) → IsValid f → Legal f l → (name : Name) (guess a p : ℕ) → IsStepOf f (End name guess)
+    → a ≡ word_after l (life_word_at (grain_of name)) → (a == live_word name.turn guess) ≡ true → meets_page (grain_of name) guess p ≡ true
+    → touches (live_in (visible l) (address_of name)) p ≡ true
+touched_by_end f l valid legal name guess a p of is hit meets =
+    let at : IsFound f l name guess = end_finds f l valid legal name guess a of is (eqb-true a _ hit) in
+    let first : address_of at.block.block.name / 16 ≡ grain_of name = omega (arith, at.address_is) in
+    ap (λ o. touches o p) at.lives ∙ ap (λ n. meets_page (address_of at.block.block.name / 16) n p) at.grains_are ∙ ap (λ g. meets_page g guess p) first ∙ meets
+
+end_reached : (z y : Bool) (k e : ℕ) (name : Name) (reject : Event) (es : List Event) (p : ℕ) → z ≡ true → touches (live_in es (address_of name)) p ≡ true
+    → e ≤ epoch_in (with_event (if z then Some (Event.End k name e) else (if y then None else Some reject)) es) p
+end_reached z y k e name reject es p h on = grind (arith, cond_both, false≢true)
+
+end_reaches : (f : Profile) (l : Whole) → IsValid f → Legal f l → (k e : ℕ) (s : Step) (a p : ℕ) → IsStepOf f s → a ≡ word_after l (target s)
+    → ends_on s a p ≡ true → e ≤ epoch_in (with_event (event_of k e s a) (visible l)) p
+end_reaches f l valid legal k e s a p of is h = grind (arith, and_parts, end_reached, touched_by_end, false≢true)
+
+-- ---- steps
+keeps_unstamped : (v : View) (s : Step) (p : ℕ) → KeepsToEnds v s → stamps s p ≡ true → is_unstamped v p ≡ true
+keeps_unstamped v s p keeps h = grind (arith, eqb-true, false≢true)
+
+stamp_value : (e : ℕ) (s : Step) (p old : ℕ) → next_value e s (Word.Stamp p) old ≤ max old e
+stamp_value e s p old = grind (arith, looked, cond_both)
+
+-- while a page is unstamped no epoch is learned
+same_epoch : (v : View) (s : Step) (a p : ℕ) → KeepsToEnds v s → unstamped_after s a p (is_unstamped v p) ≡ true → epoch_of (made s a ∷ v) ≡ epoch_of v
+same_epoch v s a p keeps h = grind (arith, false≢true)
+
+-- What is so once a flag was set was so, or is the one that was set.
+ended_or : (x was : Bool) → (if x then true else was) ≡ true → (was ≡ true) ⊎ (x ≡ true)
+ended_or x was h = grind arith
+
+was_or_ends : (s : Step) (a p : ℕ) (was : Bool) → unstamped_after s a p was ≡ true → (was ≡ true) ⊎ (ends_on s a p ≡ true)
+was_or_ends s a p was h = grind (arith, ended_or, was_set)
+
+-- ---- the induction
+-- the stamp is the epoch of some end, and so is what an actor knows while the page is unstamped for it
+record IsExact (l : Whole) (p : ℕ) : Type 0 where
+  stamp : word_after l (Word.Stamp p) ≤ epoch_in (visible l) p
+  late : (k : ℕ) → is_unstamped (part k l) p ≡ true → epoch_of (part k l) ≤ epoch_in (visible l) p
+
+-- After every legal list the stamp of each page is exact.
+exact : (f : Profile) (l : Whole) → IsValid f → Legal f l → AllKeepToEnds l → (p : ℕ) → IsExact l p
+exact f [] valid legal keeps p = record { stamp = omega arith; late = λ k h. absurd (false≢true h) }
+exact f (t ∷ l) valid legal keeps p =
+    let next : IsNext f l t = legal.0 in
+    let before : IsExact l p = exact f l valid legal.1 keeps.1 p in
+    let s = t.made.step in
+    let a = t.made.answer in
+    let e : ℕ = epoch_of (part t.actor l) in
+    let more : epoch_in (visible l) p ≤ epoch_in (visible (t ∷ l)) p = with_more (event_of t.actor (epoch_of (part t.actor l)) t.made.step t.made.answer) (visible l) p in
+    let own : is_unstamped (t.made ∷ part t.actor l) p ≡ true → epoch_of (t.made ∷ part t.actor l) ≤ epoch_in (visible (t ∷ l)) p =
+    search (arith, same_epoch, was_or_ends, end_reaches) in
+    record {
+      stamp = search (arith, cases_Bool, keeps_unstamped, stamp_value, stamp_rests);
+      late = λ k. cond_both (t.actor == k) (t.made ∷ part k l) (part k l) (λ v. is_unstamped v p ≡ true → epoch_of v ≤ epoch_in (visible (t ∷ l)) p)
+          (λ here. subst (λ j. is_unstamped (t.made ∷ part j l) p ≡ true → epoch_of (t.made ∷ part j l) ≤ epoch_in (visible (t ∷ l)) p) (eqb-true _ k here) own)
+          (λ other h. let le = before.late k h in omega (arith, le, more));
+    }
+
+-- the stamp of a page is the greatest epoch of an end on it, once the page is unstamped for nobody
+pub stamps_are_ends : (f : Profile) (l : Whole) → IsValid f → Legal f l → AllKeepToEnds l → (p : ℕ) → ((k : ℕ) → is_unstamped (part k l) p ≡ false)
+    → word_after l (Word.Stamp p) ≡ epoch_in (visible l) p
+stamps_are_ends f l valid legal keeps p settled =
+    let at : IsExact l p = exact f l valid legal keeps p in
+    let least : epoch_in (visible l) p ≤ word_after l (Word.Stamp p) = ends_bound _ p _ (ends_map _ (λ j e. e ≤ word_after l (Word.Stamp p)) _ p (λ j n late. elim late [
+      | inl le ↦ le
+      | inr un ↦ absurd (false≢true (sym (settled j) ∙ un.0))
+    ]) (ends_stamped f l valid legal p)) in
+    omega (arith, at.stamp, least)

@@ -21,16 +21,15 @@ use Rattle.pas_steps.specs.declared.step.{Step.Step, Made.Made}
 use Rattle.pas_steps.specs.declared.step.Step.TheVariants.{Deed, Back, Give, End, EndSized, Unback, Look, Take, Tick}
 use Rattle.pas_core.specs.Good.{word_of_deed, word_of_backed, IsLifeOf, IsLifeOfLive, AgreesWithWords, Place, IsFree, Held, Covered, is_free, is_held_by}
 use Rattle.pas_core.specs.Good.{is_covered_by, covers, IsPlacedOnce, IsInOnePlace}
-use Rattle.pas_core.proofs.{Grains.some_grain, Grains.placed_once, Grains.covers_live, Rights.deeds_known, Rights.backed_known, Stamps.stamp_known}
-use Rattle.pas_core.proofs.{Stamps.ends_before, Stamps.moved_held}
+use Rattle.pas_core.proofs.{Grains.some_grain, Grains.placed_once, Grains.covers_live, Rights.deeds_known, Rights.backed_known}
+use Rattle.pas_core.proofs.Lives.{stamp_known, ends_before, moved_held, life_is_known, block_of_word, turn_is, live_is_live, no_block, dead_while_held, life_of}
+use Rattle.pas_core.proofs.Lives.{life_at, bare_of, live_of, live_is_aligned}
 use Rattle.pas_core.proofs.Deeds.{known_is, deed_of, backed_of, directory_is_of, is_backed}
-use Rattle.pas_core.proofs.Lives.{life_is_known, block_of_word, turn_is, live_is_live, no_block, dead_while_held, life_of, life_at, bare_of, live_of}
-use Rattle.pas_core.proofs.Lives.{live_is_aligned}
 use Rattle.pas_profile.proofs.Codecs.{kind_number_lt}
 use Rattle.pas_bits.proofs.Runs.{run_of, first_of_run, IsMet, met}
 use Rattle.pas_machine.specs.Laws.{AreBorne, AreApart}
 use Rattle.pas_machine.proofs.LiveBlocks.{all_borne, live_apart}
-use Rattle.pas_steps.proofs.{Kept.any_from, Bits.all_below-from}
+use Rattle.pas_steps.proofs.{Frames.any_from, Bits.all_below-from}
 
 -- ==== The visible events of every legal list are a run of the machine.
 
@@ -47,9 +46,6 @@ page_of_run f address room x low high aligned run = search (arith, run_of)
 pub one_backed : (b : Bool) → 1 ≡ word_of_backed b → b ≡ true
 one_backed b h = grind arith
 
-no_deed : (o : Option Directory) → 0 ≡ word_of_deed o → o ≡ None
-no_deed o h = grind arith
-
 some_deed : (o : Option Directory) → word_of_deed o ≢ 0 → o ≢ None
 some_deed o ne h = ne (ap word_of_deed h)
 
@@ -63,22 +59,23 @@ deed_from : (f : Profile) (o : Option Directory) (d : Directory) → ((d' : Dire
     → deed_word_of d ≡ word_of_deed o → HasDeed f o d.heap
 deed_from f o d of is_of h = grind (arith, kind_number_lt)
 
+-- A page that an actor knows to bear a heap's blocks bears them in the events.
 bearing : (f : Profile) (l : Whole) → IsValid f → Legal f l → (k heap p : ℕ) → IsPage f p → KnowsBearing f (part k l) heap p → Bears f (visible l) heap p
 bearing f l valid legal k heap p page knows =
     let some : known_deed (part k l) p ≢ 0 = λ z. absurd (omega (arith, sym knows.deed ∙ z)) in
-    let word : known_deed (part k l) p ≡ word_after l (Word.Deed p) = known_is (known_deed (part k l) p) (word_after l (Word.Deed p)) (deeds_known f l legal k p) some in
-    let has : HasDeed f (deed_in (visible l) p) knows.directory.heap = deed_from f (deed_in (visible l) p) knows.directory (directory_is_of f l legal p) knows.of_profile (sym knows.deed ∙ word ∙ deed_of f l legal p) in
+    let word : known_deed (part k l) p ≡ word_after l (Word.Deed p) = known_is _ _ (deeds_known f l legal k p) some in
+    let has : HasDeed f (deed_in (visible l) p) knows.directory.heap = deed_from f _ knows.directory (directory_is_of f l legal p) knows.of_profile (sym knows.deed ∙ word ∙ deed_of f l legal p) in
     record {
       exists = page;
       directory = has.directory;
       deed = has.deed;
       of_heap = has.of_heap ∙ knows.of_heap;
-      backed = one_backed (backed_in (visible l) p) (sym (backed_known f l valid legal k p knows.backed) ∙ backed_of f l legal p);
+      backed = one_backed _ (sym (backed_known f l valid legal k p knows.backed) ∙ backed_of f l legal p);
     }
 
 -- no block lives where an actor holds the grains
 clear : (f : Profile) (l : Whole) → IsValid f → Legal f l → (k g n : ℕ) → ((x : ℕ) → in_run g n x ≡ true → holds (part k l) x ≡ true) → IsClear (visible l) g n
-clear f l valid legal k g n held address b live x run = false_from_ne_true (in_run g n x) (λ here.
+clear f l valid legal k g n held address b live x run = false_from_ne_true _ (λ here.
     no_block f l k (address / 16) x b (gives_in (visible l) address) (ends_in (visible l) address) (placed_once f l valid legal x) (held x here) (live_of f l valid legal address b live) run)
 
 give_turn : (f : Profile) (g word : ℕ) (live : Option Live) (gives ends : ℕ) → IsLifeOf f g word live gives ends → live ≡ None → turn_of word ≡ gives
@@ -125,28 +122,28 @@ give_admits : (f : Profile) (l : Whole) → IsValid f → Legal f l → (k : ℕ
     → MayGive f (visible l) block
 give_admits f l valid legal k block of allowed =
     let g : ℕ = grain_of block.name in
-    let life : IsLifeOf f (grain_of block.name) (word_after l (life_word_at (grain_of block.name))) (live_in (visible l) (address_of block.name)) (gives_in (visible l) (address_of block.name)) (ends_in (visible l) (address_of block.name))
-    = life_at f l valid legal (address_of block.name) allowed.aligned in
+    let life : IsLifeOf f (grain_of block.name) (word_after l (life_word_at (grain_of block.name))) (live_in (visible l) (address_of block.name))
+    (gives_in (visible l) (address_of block.name)) (ends_in (visible l) (address_of block.name))
+    = life_at f l valid legal _ allowed.aligned in
     record {
       aligned = allowed.aligned;
       whole = allowed.whole;
       some = allowed.some;
-      bears = λ x here. bearing f l valid legal k block.heap (x / 256) (page_of_run f (address_of block.name) block.room x of.first of.last allowed.aligned here) (allowed.bears x here);
+      bears = λ x here. bearing f l valid legal k block.heap _ (page_of_run f _ block.room x of.first of.last allowed.aligned here) (allowed.bears x here);
       clear = clear f l valid legal k (grain_of block.name) (length_of block) allowed.held;
-      turn = allowed.turn_is ∙ ap turn_of (life_is_known f l valid legal k (grain_of block.name) allowed.word allowed.known).1
-          ∙ give_turn f (grain_of block.name) (word_after l (life_word_at (grain_of block.name))) (live_in (visible l) (address_of block.name)) (gives_in (visible l) (address_of block.name)) (ends_in (visible l) (address_of block.name)) life
-          (dead_while_held f l k (grain_of block.name) (live_in (visible l) (address_of block.name)) (gives_in (visible l) (address_of block.name)) (ends_in (visible l) (address_of block.name)) (placed_once f l valid legal (grain_of block.name))
-          (allowed.held (grain_of block.name) (first_of_run (grain_of block.name) (length_of block) (some_grain block.room allowed.whole allowed.some))) life);
+      turn = allowed.turn_is ∙ ap turn_of (life_is_known f l valid legal k _ allowed.word allowed.known).1 ∙ give_turn f _ _ _ _ _ life
+          (dead_while_held f l k _ _ _ _ (placed_once f l valid legal _)
+          (allowed.held (grain_of block.name) (first_of_run _ _ (some_grain block.room allowed.whole allowed.some))) life);
     }
 
 -- no live block touches a page each of whose grains an actor holds
 untouched_if : (f : Profile) (l : Whole) → IsValid f → Legal f l → (k page address : ℕ) → ((g : ℕ) → g / 256 ≡ page → holds (part k l) g ≡ true)
     → (live : Option Live) → live_in (visible l) address ≡ live → touches live page ≡ false
 untouched_if f l valid legal k page address held None is = refl
-untouched_if f l valid legal k page address held (Some b) is = false_from_ne_true (touches (Some b) page) (λ h.
+untouched_if f l valid legal k page address held (Some b) is = false_from_ne_true _ (λ h.
     let life : IsLifeOfLive f (address / 16) (word_after l (life_word_at (address / 16))) b (gives_in (visible l) address) (ends_in (visible l) address) = live_of f l valid legal address b is in
     let first : address_of b.block.name / 16 ≡ address / 16 = omega (arith, life.address) in
-    let at : IsMet (address / 16) (length_of b.block) page = met (address / 16) (length_of b.block) page life.some (ap (λ g. meets_page g (length_of b.block) page) (sym first) ∙ h) in
+    let at : IsMet (address / 16) (length_of b.block) page = met _ _ page life.some (ap (λ g. meets_page g (length_of b.block) page) (sym first) ∙ h) in
     no_block f l k (address / 16) at.grain b (gives_in (visible l) address) (ends_in (visible l) address) (placed_once f l valid legal at.grain) (held at.grain at.of_page) life at.of_run)
 
 -- a page that may be unbacked: its last end is old enough, since its stamp is
@@ -156,27 +153,28 @@ unback_admits f l valid legal k page of may =
     let stamp : word_after l (Word.Stamp page) ≡ may.stamp = stamp_known f l valid legal k page may.stamp may.known in
     let old = may.old in (
       of,
-      one_backed (backed_in (visible l) page) (sym (backed_known f l valid legal k page may.backed) ∙ backed_of f l legal page),
-      (λ address. untouched_if f l valid legal k page address may.held (live_in (visible l) address) refl),
+      one_backed _ (sym (backed_known f l valid legal k page may.backed) ∙ backed_of f l legal page),
+      (λ address. untouched_if f l valid legal k page address may.held _ refl),
       omega (arith, ends_before f l valid legal k page may.held may.stamped, stamp, old),
     )
 
+-- The event of a step that is allowed may come next.
 admits : (f : Profile) (l : Whole) → IsValid f → Legal f l → (k : ℕ) (s : Step) (a : ℕ) → IsStepOf f s → Allowed f (part k l) s → a ≡ word_after l (target s)
     → Run f (visible l) → Run f (with_event (event_of k (epoch_of (part k l)) s a) (visible l))
 admits f l valid legal k (Deed q d) a of allowed is run = search (arith, cond_both, eqb-true, deed_of)
 admits f l valid legal k (Back q) a of allowed is run = search (arith, cond_both, some_deed, known_is, deeds_known, deed_of, is_backed, backed_of)
 admits f l valid legal k (Give block) a of allowed is run = (give_admits f l valid legal k block of allowed, run)
 admits f l valid legal k (End name guess) a of allowed is run =
-    end_admits f (a == live_word name.turn guess) (is_live a && (turn_of a == name.turn)) k (epoch_of (part k l)) (grain_of name) a (word_after l (life_word_at (grain_of name))) guess name (visible l) run (of.0, of.1) is of.2 (life_at f l valid legal (address_of name) of.1) refl refl
+    end_admits f _ _ k _ _ a _ guess name _ run (of.0, of.1) is of.2 (life_at f l valid legal _ of.1) refl refl
 admits f l valid legal k (EndSized name room) a of allowed is run =
-    sized_admits f (a == live_word name.turn (room / 16)) (is_live a && (turn_of a == name.turn)) k (epoch_of (part k l)) (grain_of name) a (word_after l (life_word_at (grain_of name))) room name (visible l) run (of.0.0, of.0.1) is of.0.2 (life_at f l valid legal (address_of name) of.0.1) refl refl
+    sized_admits f _ _ k _ _ a _ room name _ run (of.0.0, of.0.1) is of.0.2 (life_at f l valid legal _ of.0.1) refl refl
 admits f l valid legal k (Unback q) a of allowed is run = (unback_admits f l valid legal k q of allowed, run)
 admits f l valid legal k s a of allowed is run = run
 
 -- the visible events of every legal list are a run of the machine
 pub runs : (f : Profile) (l : Whole) → IsValid f → Legal f l → Run f (visible l)
 runs f [] valid legal = tt
-runs f (t ∷ l) valid legal = admits f l valid legal.1 t.actor t.made.step t.made.answer legal.0.of_region legal.0.allowed legal.0.answer_is (runs f l valid legal.1)
+runs f (t ∷ l) valid legal = let rest = runs f l valid legal.1 in grind (arith, rest, admits)
 
 -- ==== Where a grain is, in the machine's words.
 
@@ -198,7 +196,7 @@ in_place : (f : Profile) (l : Whole) (g : ℕ) → Legal f l → (o : Place) →
     → ((k : ℕ) → holds (part k l) g ≡ is_held_by k o)
     → ((address : ℕ) (b : Live) → live_in (visible l) address ≡ Some b → in_run (address / 16) (length_of b.block) g ≡ is_covered_by (address / 16) o)
     → ((a : ℕ) → o ≡ Covered a → LivesAt l a) → IsInOnePlace l g
-in_place f l g legal IsFree free held parts lives = inl (record { free = free; nobody = held; no_block = λ address b is here. false≢true (sym (parts address b is) ∙ here) })
+in_place f l g legal IsFree free held parts lives = search (arith, false≢true)
 in_place f l g legal (Held k) free held parts lives = inr (inl (record { actor = k; not_free = free; holder = held; no_block = λ address b is here. false≢true (sym (parts address b is) ∙ here) }))
 in_place f l g legal (Covered a) free held parts lives =
     let found : LivesAt l a = lives a refl in
@@ -207,7 +205,7 @@ in_place f l g legal (Covered a) free held parts lives =
       address = 16 * a;
       block = found.block;
       lives = found.lives;
-      covered = parts (16 * a) found.block found.lives ∙ eq-eqb a (16 * a / 16) (sym own);
+      covered = parts (16 * a) found.block found.lives ∙ eq-eqb a _ (sym own);
       not_free = free;
       nobody = held;
       one = λ other b is here.
@@ -221,7 +219,7 @@ in_one_place f l valid legal g =
     in_place f l g legal at.place at.free at.held (part_is f l g valid legal at) (λ a is.
     let covering : covers (word_after l (life_word_at a)) a g ≡ true = at.covered a ∙ ap (is_covered_by a) is ∙ eq-eqb a a refl in
     let live = and_parts (is_live (word_after l (life_word_at a))) (in_run a (grains_of (word_after l (life_word_at a))) g) covering in
-    found_block f l a (word_after l (life_word_at a)) (live_in (visible l) (16 * a)) (gives_in (visible l) (16 * a)) (ends_in (visible l) (16 * a)) refl (life_of f l valid legal a) live.0)
+    found_block f l a _ _ _ _ refl (life_of f l valid legal a) live.0)
 
 -- the laws of the machine's runs, for every legal list
 pub lists_borne : (f : Profile) (l : Whole) → IsValid f → Legal f l → AreBorne f (visible l)
@@ -252,9 +250,9 @@ ticked age = made (Tick age) 0 ∷ looked
 -- ---- it holds all grains then
 in_ones : (w g : ℕ) → g / 256 ≡ 1 → g / 64 % 4 ≡ w → (in_mask 1 w all_ones g && has_bit all_ones (g % 64)) ≡ true
 in_ones w g page word =
-    let bit : has_bit all_ones (g % 64) ≡ true = ap (λ x. x == 1) (bit_at_ones 64 (g % 64) (omega arith)) in
-    let place : ((w == g / 64 % 4) && (1 == g / 256)) ≡ true = and_from (w == g / 64 % 4) (1 == g / 256) (eq-eqb w (g / 64 % 4) (sym word)) (eq-eqb 1 (g / 256) (sym page)) in
-    and_from (in_mask 1 w all_ones g) (has_bit all_ones (g % 64)) (and_from ((w == g / 64 % 4) && (1 == g / 256)) (has_bit all_ones (g % 64)) place bit) bit
+    let bit : has_bit all_ones (g % 64) ≡ true = ap (λ x. x == 1) (bit_at_ones 64 _ (omega arith)) in
+    let place : ((w == g / 64 % 4) && (1 == g / 256)) ≡ true = and_from _ _ (eq-eqb w _ (sym word)) (eq-eqb 1 _ (sym page)) in
+    and_from _ _ (and_from _ _ place bit) bit
 
 abbrev gets : ℕ → ℕ → Bool
 gets w g = in_mask 1 w all_ones g && has_bit all_ones (g % 64)

@@ -20,7 +20,7 @@ use Rattle.pas_core.specs.Rights.{empty_bit, parked_bit, IsUsableFree, IsOwed, I
 use Rattle.pas_core.specs.Rights.{AllClear}
 use Rattle.pas_bits.proofs.{Words.bit_cleared, PageVectors.page_bit-clear, PageVectors.page_bit-set}
 use Rattle.pas_core.proofs.Deeds.{next_value, looked, known_is, word_stays}
-use Rattle.pas_core.proofs.{Grains.is_held_by-true, Grains.placed_once, Stamps.words_fit}
+use Rattle.pas_core.proofs.{Grains.is_held_by-true, Grains.placed_once, Lives.words_fit}
 use Rattle.pas_steps.proofs.{Flags.stays_set, Bits.none_set, Bits.all_set, Bits.all_below-at, Parts.part_of_others}
 use Rattle.pas_core.proofs.Rights.{Spot, InParked, is_with, is_parked, spot_after, spot_of, IsSpotted, spotted, parked_spot, right_in_one_place}
 
@@ -35,7 +35,7 @@ free_bits : (l : Whole) (p w b : ℕ) → w < 4 → b < 64 → IsEmptyBacked l p
 free_bits l p w b hw hb empty = grain_bit l p w b hw hb ∙ empty.free (p * 256 + w * 64 + b) (omega (arith, hw, hb))
 
 full_word : (f : Profile) (l : Whole) → IsValid f → Legal f l → (p w : ℕ) → w < 4 → IsEmptyBacked l p → word_after l (Word.Free p w) ≡ all_ones
-full_word f l valid legal p w hw empty = all_set (word_after l (Word.Free p w)) (words_fit f l valid legal (Word.Free p w)) (λ b hb. free_bits l p w b hw hb empty)
+full_word f l valid legal p w hw empty = search (arith, all_set, words_fit, free_bits)
 
 -- ---- what was so before a step
 -- the step puts grains of the page back
@@ -46,9 +46,11 @@ puts s p = false
 clear_was : (t : Bool) (old mask b : ℕ) → mask < 2 ^ 64 → b < 64 → has_bit (if t then bit_and old (bit_not w64 mask) else old) b ≡ true → has_bit old b ≡ true
 clear_was t old mask b hm hb h = grind (arith, and_parts, bit_cleared)
 
+-- A page that is backed by another's step was backed.
 back_was : (x : Bool) (old : ℕ) → (x ≡ true → ⊥) → (if x then bit_or old 1 else old) ≡ 1 → old ≡ 1
 back_was x old never h = grind arith
 
+-- A page that is backed after a backing ended was backed.
 unback_was : (x : Bool) (old : ℕ) → (if x then 0 else old) ≡ 1 → old ≡ 1
 unback_was x old h = grind arith
 
@@ -65,12 +67,8 @@ back_not_empty f l valid legal j q p on free h =
 
 was_empty : (f : Profile) (l : Whole) → IsValid f → Legal f l → (j : ℕ) (s : Step) (a p : ℕ) → IsStepOf f s → Allowed f (part j l) s → puts s p ≡ false
     → IsEmptyBacked (triple j (made s a) ∷ l) p → IsEmptyBacked l p
-was_empty f l valid legal j (Look word) a p of allowed other h = search (arith, looked)
-was_empty f l valid legal j (Back q) a p of allowed other h = search (arith, back_was, back_not_empty)
-was_empty f l valid legal j (Take q w mask) a p of allowed other h = search (arith, clear_was)
-was_empty f l valid legal j (Put q w mask) a p of allowed other h = search (arith, put_misses)
 was_empty f l valid legal j (Unback q) a p of allowed other h = record { backed = unback_was (q == p) (word_after l (Word.Backed p)) h.backed; free = h.free }
-was_empty f l valid legal j s a p of allowed other h = record { backed = h.backed; free = h.free }
+was_empty f l valid legal j s a p of allowed other h = search (arith, looked, back_was, back_not_empty, clear_was, put_misses)
 
 -- ---- debts and examinations
 -- the debt and the examination stay where the step ends none, and the bit where it stays set
@@ -96,8 +94,8 @@ take_mask_none : (l : Whole) (j e q w mask a p : ℕ) → w < 4 → mask < 2 ^ 6
 take_mask_none l j e q w mask a p hw hm here free = none_set mask hm (λ b hb.
     let both : ((w == w) && (q == p)) ≡ true = ap (λ t. t && (q == p)) (eq-eqb w w refl) ∙ here in
     let cleared : (has_bit (word_after l (Word.Free p w)) b && not (has_bit mask b)) ≡ true
-    = sym (bit_cleared (word_after l (Word.Free p w)) mask b hm hb) ∙ ap (λ t. has_bit (if t then bit_and (word_after l (Word.Free p w)) (bit_not w64 mask) else word_after l (Word.Free p w)) b) (sym both) ∙ free b hb in
-    not-true (has_bit mask b) (and_parts (has_bit (word_after l (Word.Free p w)) b) (not (has_bit mask b)) cleared).1)
+    = sym (bit_cleared _ mask b hm hb) ∙ ap (λ t. has_bit (if t then bit_and (word_after l (Word.Free p w)) (bit_not w64 mask) else word_after l (Word.Free p w)) b) (sym both) ∙ free b hb in
+    not-true _ (and_parts (has_bit (word_after l (Word.Free p w)) b) (not (has_bit mask b)) cleared).1)
 
 and_zero : (a : ℕ) → bit_and a 0 ≡ 0
 and_zero a = let le = and_le_r a 0 in omega (arith, le)
@@ -105,17 +103,17 @@ and_zero a = let le = and_le_r a 0 in omega (arith, le)
 take_keeps : (f : Profile) (l : Whole) → IsValid f → Legal f l → (j q w mask a p : ℕ) → w < 4 → mask < 2 ^ 64 → a ≡ word_after l (Word.Free q w)
     → IsEmptyBacked l p → IsEmptyBacked (triple j (made (Take q w mask) a) ∷ l) p
     → ((q == p) && (not (a == all_ones) || not (bit_and a mask == 0))) ≡ false
-take_keeps f l valid legal j q w mask a p hw hm is empty now = false_from_ne_true ((q == p) && (not (a == all_ones) || not (bit_and a mask == 0))) (λ h.
+take_keeps f l valid legal j q w mask a p hw hm is empty now = false_from_ne_true _ (λ h.
     let parts = and_parts (q == p) (not (a == all_ones) || not (bit_and a mask == 0)) h in
     let full : a ≡ all_ones = is ∙ ap (λ x. word_after l (Word.Free x w)) (eqb-true q p parts.0) ∙ full_word f l valid legal p w hw empty in
-    let none : mask ≡ 0 = take_mask_none l j (epoch_of (part j l)) q w mask a p hw hm parts.0 (λ b hb. free_bits (triple j (made (Take q w mask) a) ∷ l) p w b hw hb now) in
+    let none : mask ≡ 0 = take_mask_none l j (epoch_of (part j l)) q w mask a p hw hm parts.0 (λ b hb. free_bits _ p w b hw hb now) in
     let zero : bit_and a mask ≡ 0 = ap (bit_and a) none ∙ and_zero a in
-    false≢true (sym (or_from (not (a == all_ones)) (not (bit_and a mask == 0)) (ap not (eq-eqb a all_ones full)) (ap not (eq-eqb (bit_and a mask) 0 zero))) ∙ parts.1))
+    false≢true (sym (or_from _ _ (ap not (eq-eqb a all_ones full)) (ap not (eq-eqb _ 0 zero))) ∙ parts.1))
 
 -- the empty bit
 hint_keeps : (l : Whole) (j q a p : ℕ) → (x : Bool) → (q == p) ≡ x → IsMinded l p → IsMinded (triple j (made (Hint q) a) ∷ l) p
 hint_keeps l j q a p true e was = inl (page_bit-set q p (word_after l (Word.Empty (p / 64))) true ∙ cond-true (q == p) true (empty_bit l p) e)
-hint_keeps l j q a p false e was = keeps l j (Hint q) a p (cond-false (q == p) false true e) (cond-false (q == p) false true e) (λ set. inl (page_bit-set q p (word_after l (Word.Empty (p / 64))) true ∙ stays_set (q == p) (empty_bit l p) set)) was
+hint_keeps l j q a p false e was = keeps l j (Hint q) a p (cond-false _ false true e) (cond-false _ false true e) (λ set. inl (page_bit-set q p _ true ∙ stays_set _ _ set)) was
 
 -- who clears the bit that was set examines the page
 unhint_bit : (l : Whole) (j q a p : ℕ) → a ≡ word_after l (Word.Empty (q / 64)) → (x : Bool) → (q == p) ≡ x → empty_bit l p ≡ true
@@ -131,10 +129,10 @@ minded_step : (f : Profile) (l : Whole) → IsValid f → Legal f l → (j : ℕ
 minded_step f l valid legal j (Look (Word.Free q w)) a p of is was now h = search (arith, cond-false, look_free_keeps)
 minded_step f l valid legal j (Look (Word.Backed q)) a p of is was now h = search (arith, cond-false, look_backed_keeps)
 minded_step f l valid legal j (Look (Word.Empty i)) a p of is was now h = search arith
-minded_step f l valid legal j (Take q w mask) a p of is was now h = keeps l j (Take q w mask) a p (cond-false ((q == p) && (not (a == all_ones) || not (bit_and a mask == 0))) false true (take_keeps f l valid legal j q w mask a p of.1 of.2 is was now)) (cond-false ((q == p) && (not (a == all_ones) || not (bit_and a mask == 0))) false true (take_keeps f l valid legal j q w mask a p of.1 of.2 is was now)) (λ set. inl set) h
+minded_step f l valid legal j (Take q w mask) a p of is was now h = keeps l j (Take q w mask) a p (cond-false _ false true (take_keeps f l valid legal j q w mask a p of.1 of.2 is was now)) (cond-false _ false true (take_keeps f l valid legal j q w mask a p of.1 of.2 is was now)) (λ set. inl set) h
 minded_step f l valid legal j (Put q w mask) a p of is was now h = keeps l j (Put q w mask) a p (stays_set (q == p) true refl) refl (λ set. inl set) h
 minded_step f l valid legal j (Hint q) a p of is was now h = hint_keeps l j q a p (q == p) refl h
-minded_step f l valid legal j (Unhint q) a p of is was now h = keeps l j (Unhint q) a p refl (stays_set ((q == p) && has_bit a (p % 64)) true refl) (unhint_bit l j q a p is (q == p) refl) h
+minded_step f l valid legal j (Unhint q) a p of is was now h = keeps l j (Unhint q) a p refl (stays_set _ true refl) (unhint_bit l j q a p is _ refl) h
 minded_step f l valid legal j s a p of is was now h = keeps l j s a p refl refl (λ set. inl set) h
 
 -- a backed page whose grains are all free has its empty bit set, or some actor owes its hint, or some actor examines it
@@ -145,11 +143,11 @@ empty_is_minded f (t ∷ l) valid legal p h =
     let s = t.made.step in
     let a = t.made.answer in
     let j = t.actor in
-    elim (cases_Bool (puts t.made.step p)) [
-      | inl put ↦ inr (inl (record { actor = t.actor; owes = ap (λ b. owes_hint (if b then t.made ∷ (part t.actor l) else (part t.actor l)) p) (eq-eqb t.actor t.actor refl) ∙ put_owes t.made.step t.made.answer p (owes_hint (part t.actor l) p) put }))
+    elim (cases_Bool _) [
+      | inl put ↦ inr (inl (record { actor = t.actor; owes = ap (λ b. owes_hint (if b then t.made ∷ (part t.actor l) else (part t.actor l)) p) (eq-eqb t.actor _ refl) ∙ put_owes t.made.step t.made.answer p (owes_hint (part t.actor l) p) put }))
       | inr other ↦
-          let was : IsEmptyBacked l p = was_empty f l valid legal.1 t.actor t.made.step t.made.answer p next.of_region next.allowed other h in
-          minded_step f l valid legal.1 t.actor t.made.step t.made.answer p next.of_region next.answer_is was h (empty_is_minded f l valid legal.1 p was)
+          let was : IsEmptyBacked l p = was_empty f l valid legal.1 _ _ _ p next.of_region next.allowed other h in
+          minded_step f l valid legal.1 _ _ _ p next.of_region next.answer_is was h (empty_is_minded f l valid legal.1 p was)
     ]
 
 -- ==== Where a parked page has a free usable grain, some actor owes the check of its word.
@@ -172,14 +170,14 @@ owes_now l j s a p w h = record { actor = j; owes = ap (λ t. owes_check (if t t
 -- the word of a look has a usable bit, so the look ends no debt
 look_keeps : (l : Whole) (q u a p w b k : ℕ) → IsSpotted l p → IsUsableFree l p w b → a ≡ word_after l (Word.Free q u)
     → ((u == w) && (q == p) && not (known_deed (part k l) p == 0) && no_usable (known_deed (part k l) p) w a) ≡ false
-look_keeps l q u a p w b k at is_free is = false_from_ne_true ((u == w) && (q == p) && not (known_deed (part k l) p == 0) && no_usable (known_deed (part k l) p) w a) (λ h.
+look_keeps l q u a p w b k at is_free is = false_from_ne_true _ (λ h.
     let none = and_parts ((u == w) && (q == p) && not (known_deed (part k l) p == 0)) (no_usable (known_deed (part k l) p) w a) h in
     let knows = and_parts ((u == w) && (q == p)) (not (known_deed (part k l) p == 0)) none.0 in
     let here = and_parts (u == w) (q == p) knows.0 in
     let word : a ≡ word_after l (Word.Free p w) = is ∙ ap (λ x. word_after l (Word.Free q x)) (eqb-true u w here.0) ∙ ap (λ x. word_after l (Word.Free x w)) (eqb-true q p here.1) in
-    let some : known_deed (part k l) p ≢ 0 = λ z. false≢true (ap not (sym (eq-eqb (known_deed (part k l) p) 0 z)) ∙ knows.1) in
-    let deed : known_deed (part k l) p ≡ word_after l (Word.Deed p) = known_is (known_deed (part k l) p) (word_after l (Word.Deed p)) (at.known k) some in
-    false≢true (sym (ap not (and_from (has_bit a b) (usable_by (directory_read (known_deed (part k l) p)) (64 * w + b)) (ap (λ n. has_bit n b) word ∙ is_free.free) (ap (λ n. usable_by (directory_read n) (64 * w + b)) deed ∙ is_free.usable)))
+    let some : known_deed (part k l) p ≢ 0 = λ z. false≢true (ap not (sym (eq-eqb _ 0 z)) ∙ knows.1) in
+    let deed : known_deed (part k l) p ≡ word_after l (Word.Deed p) = known_is _ _ (at.known k) some in
+    false≢true (sym (ap not (and_from _ _ (ap (λ n. has_bit n b) word ∙ is_free.free) (ap (λ n. usable_by (directory_read n) (64 * w + b)) deed ∙ is_free.usable)))
     ∙ all_below-at 64 b (λ i. not (has_bit a i && usable_by (directory_read (known_deed (part k l) p)) (64 * w + i))) none.1 is_free.small))
 
 -- ---- what was so before a step
@@ -216,16 +214,9 @@ owed_step : (f : Profile) (l : Whole) (j e : ℕ) (s : Step) (a p w b : ℕ) →
     → IsOwed (triple j (made s a) ∷ l) p w
 owed_step f l j e (Look (Word.Free q u)) a p w b small at of is before usable o free =
     search (arith, looked, keeps_owed, cond-false, look_keeps)
-owed_step f l j e (Deed q d) a p w b small at of is before usable o free = search (arith, was_parked, keeps_owed)
-owed_step f l j e (Take q u mask) a p w b small at of is before usable o free = search (arith, keeps_owed, clear_was)
 owed_step f l j e (Put q u mask) a p w b small at of is before usable o free = put_owed l j q u mask a p w b at o (before o) ((u == w) && (q == p)) refl free
-owed_step f l j e (TakeRight q d) a p w b small at of is before usable o free = search (arith, was_parked, keeps_owed)
-owed_step f l j e (Offer q d) a p w b small at of is before usable o free =
-    search (arith, was_parked, keeps_owed, cond-false)
 owed_step f l j e (Park q) a p w b small at of is before usable o free = park_owed l j q a p w (q == p) refl o (λ parked. before parked free)
-owed_step f l j e (Unpark q) a p w b small at of is before usable o free =
-    search (arith, was_parked, keeps_owed, cond-false, unpark_other)
-owed_step f l j e s a p w b small at of is before usable o free = keeps_owed l j s a p w (λ k. refl) (before o free)
+owed_step f l j e s a p w b small at of is before usable o free = search (arith, was_parked, keeps_owed, clear_was, cond-false, unpark_other)
 
 -- the induction
 owed_at : (f : Profile) (l : Whole) → Legal f l → (p w b : ℕ) → spot_of l p ≡ InParked → IsUsableFree l p w b → IsOwed l p w
@@ -235,7 +226,7 @@ owed_at f (t ∷ l) legal p w b o free =
     let next : IsNext f l t = legal.0 in
     let e : ℕ = epoch_of (part t.actor l) in
     let was : spot_of l p ≡ InParked → has_bit (word_after l (Word.Free p w)) b ≡ true → IsUsableFree l p w b = search (arith, same_deed) in
-    owed_step f l t.actor e t.made.step t.made.answer p w b free.small at next.of_region next.answer_is (λ parked bit. owed_at f l legal.1 p w b parked (was parked bit)) was o free.free
+    owed_step f l _ e _ _ p w b free.small at next.of_region next.answer_is (λ parked bit. owed_at f l legal.1 p w b parked (was parked bit)) was o free.free
 
 -- where a parked page has a free usable grain, some actor owes the check of its word
 pub parked_is_owed : (f : Profile) (l : Whole) → Legal f l → (p w b : ℕ) → parked_bit l p ≡ true → IsUsableFree l p w b → IsOwed l p w

@@ -14,7 +14,8 @@ use Rattle.pas_steps.specs.Lists.{Whole, part, word_after, Legal}
 use Rattle.pas_steps.specs.Kinds.{Kinds, kind_of, is_in, apart, Only, Taking, Claiming, Deeding, lending}
 use Rattle.pas_steps.specs.declared.step.{Made.Made, Step.Step, Step.TheVariants.Look, Step.TheVariants.Deed}
 use Rattle.pas_steps.proofs.{Apart.in_apart, Past.since_once, Past.always_map, Past.once_map, Parts.part_of_own, Parts.part_of_others, Parts.each_part}
-use Rattle.pas_steps.proofs.{Adding.triples_append, Frames.right_own, Frames.right_of_own, Frames.lacks_now, Kept.deed_stays}
+use Rattle.pas_steps.proofs.{Adding.triples_append}
+use Rattle.pas_steps.proofs.Frames.{right_own, right_of_own, lacks_now, deed_stays}
 use Rattle.pas_core.proofs.Deeds.{looked, deed_kept, deed_was_none, known_is, numbered_ne}
 use Rattle.pas_core.proofs.Rights.{put_keeps, one_has_right, offered_has_deed, offered_spot, own_eligible, is_on_offer, Spot, With, is_with, is_offered}
 use Rattle.pas_core.proofs.Rights.{is_parked, spot_after, spot_of, Suits, DeedFits, IsSpotted, step_suits, spotted}
@@ -45,7 +46,7 @@ frees_kept e s p w old b is h = grind (arith, looked, put_keeps, true≢false)
 -- where none takes, free grains stay free
 pub free_stays : (ks : Kinds) → apart ks (Taking ∷ []) ≡ true → (k : ℕ) (xs : List Made) (l : Whole) (p w b : ℕ) → Only ks xs
     → has_bit (word_after l (Word.Free p w)) b ≡ true → has_bit (word_after (triples k xs ++ l) (Word.Free p w)) b ≡ true
-free_stays ks apart k xs l p w b = over (λ n. has_bit n b ≡ true) (Word.Free p w) ks (Taking ∷ []) (λ e s old other. frees_kept e s p w old b other) apart k xs l
+free_stays ks apart k xs l p w b = over (λ n. has_bit n b ≡ true) _ ks _ (λ e s old other. frees_kept e s p w old b other) apart k xs l
 
 offers_kept : (e : ℕ) (s : Step) (n j old b : ℕ) → is_in (Claiming ∷ []) (kind_of s) ≡ false → has_bit old b ≡ true
     → has_bit (if same_word (target s) (Word.Eligible n j) then new_value e s old else old) b ≡ true
@@ -54,7 +55,7 @@ offers_kept e s n j old b is h = grind (arith, looked, put_keeps, true≢false)
 -- where none claims, offered pages stay offered
 pub offered_stays : (ks : Kinds) → apart ks (Claiming ∷ []) ≡ true → (k : ℕ) (xs : List Made) (l : Whole) (n j b : ℕ) → Only ks xs
     → has_bit (word_after l (Word.Eligible n j)) b ≡ true → has_bit (word_after (triples k xs ++ l) (Word.Eligible n j)) b ≡ true
-offered_stays ks apart k xs l n j b = over (λ a. has_bit a b ≡ true) (Word.Eligible n j) ks (Claiming ∷ []) (λ e s old other. offers_kept e s n j old b other) apart k xs l
+offered_stays ks apart k xs l n j b = over (λ a. has_bit a b ≡ true) _ ks _ (λ e s old other. offers_kept e s n j old b other) apart k xs l
 
 deeds_kept : (e : ℕ) (s : Step) (p old : ℕ) → is_in (Deeding ∷ []) (kind_of s) ≡ false
     → (if same_word (target s) (Word.Deed p) then new_value e s old else old) ≡ old
@@ -63,7 +64,7 @@ deeds_kept e s p old is = grind (arith, looked, true≢false)
 -- where none makes a deed, deed words stay
 pub deed_same : (ks : Kinds) → apart ks (Deeding ∷ []) ≡ true → (k : ℕ) (xs : List Made) (l : Whole) (p : ℕ) → Only ks xs
     → word_after (triples k xs ++ l) (Word.Deed p) ≡ word_after l (Word.Deed p)
-deed_same ks apart k xs l p only = over (λ n. n ≡ word_after l (Word.Deed p)) (Word.Deed p) ks (Deeding ∷ []) (λ e s old other h. deeds_kept e s p old other ∙ h) apart k xs l only refl
+deed_same ks apart k xs l p only = over (λ n. n ≡ word_after l (Word.Deed p)) _ ks _ (λ e s old other h. deeds_kept e s p old other ∙ h) apart k xs l only refl
 
 -- ==== Which grains are free, and which deed words there are, before and after the steps of an actor that gives and ends no block.
 
@@ -124,8 +125,8 @@ used_next : (f : Profile) (k : ℕ) (l : Whole) (g : ℕ) (m : Made) (xs : List 
 used_next f k l g m xs valid legal search used =
     let w : Whole = triples k xs ++ l in
     let at : IsPlacedOnce w g = placed_once f w valid legal.1 g in
-    let moved = used_move k (grain_move m.step m.answer g) at.place (bit_of w g) (holds (xs ++ part k l) g) (plain_move m.step m.answer g search)
-    (step_fits f w k m.step m.answer g at valid legal.0.of_region legal.0.allowed legal.0.answer_is)
+    let moved = used_move k _ at.place _ _ (plain_move m.step m.answer g search)
+    (step_fits f w k _ _ g at valid legal.0.of_region legal.0.allowed legal.0.answer_is)
     (sym at.free ∙ used.0) (sym (at.held k) ∙ ap (λ v. holds v g) (part_of_own k xs l) ∙ used.1) used.0 used.1 in
     (bit_moved f k l g m xs legal ∙ moved.0, moved.1)
 
@@ -141,6 +142,7 @@ free_read page word s w e = grind arith
 word_of_page : (page b : ℕ) → b < 256 → free_word_at (page * 256 + b) ≡ Word.Free page (b / 64)
 word_of_page page b lt = search arith
 
+-- What a look shows of a grain is its bit at that moment.
 shown : (f : Profile) (k : ℕ) (l : Whole) (page b : ℕ) (r : Readings) (m : Made) (xs : List Made) → Legal f (triples k (m ∷ xs) ++ l) → b < 256
     → ShowsHere page (b / 64) r m xs → r b ≡ (bit_of (triples k xs ++ l) (page * 256 + b) || holds xs (page * 256 + b))
 shown f k l page b r m xs legal lt s = search (arith, free_read, word_of_page)
@@ -153,16 +155,16 @@ free_shown : (f : Profile) (k : ℕ) (l : Whole) (page b : ℕ) (r : Readings) (
     → bit_of l (page * 256 + b) ≡ true → Once (ShowsHere page (b / 64) r) xs → r b ≡ true
 free_shown f k l page b r [] legal lends lt free h = absurd h
 free_shown f k l page b r (m ∷ xs) legal lends lt free (inr h) = free_shown f k l page b r xs legal.1 lends.1 lt free h
-free_shown f k l page b r (m ∷ xs) legal lends lt free (inl s) = shown f k l page b r m xs legal lt s ∙ free_or_held f k l (page * 256 + b) xs legal.1 lends.1 free
+free_shown f k l page b r (m ∷ xs) legal lends lt free (inl s) = shown f k l page b r m xs legal lt s ∙ free_or_held f k l _ xs legal.1 lends.1 free
 
 -- one that was read as not free, and that the actor didn't hold at entry, is used from then on
 shown_used : (f : Profile) (k : ℕ) (l : Whole) (page b : ℕ) (r : Readings) (xs : List Made) → IsValid f → Legal f (triples k xs ++ l) → LendsNone xs → b < 256
     → r b ≡ false → holds (part k l) (page * 256 + b) ≡ false → Once (ShowsHere page (b / 64) r) xs → Used k l (page * 256 + b) xs
 shown_used f k l page b r [] valid legal lends lt miss none h = absurd h
-shown_used f k l page b r (m ∷ xs) valid legal lends lt miss none (inr h) = used_next f k l (page * 256 + b) m xs valid legal lends.0 (shown_used f k l page b r xs valid legal.1 lends.1 lt miss none h)
+shown_used f k l page b r (m ∷ xs) valid legal lends lt miss none (inr h) = used_next f k l _ m xs valid legal lends.0 (shown_used f k l page b r xs valid legal.1 lends.1 lt miss none h)
 shown_used f k l page b r (m ∷ xs) valid legal lends lt miss none (inl s) =
-    let parts = or_parts (bit_of (triples k xs ++ l) (page * 256 + b)) (holds xs (page * 256 + b)) (sym (shown f k l page b r m xs legal lt s) ∙ miss) in
-    used_next f k l (page * 256 + b) m xs valid legal lends.0 (parts.0, holds_own (page * 256 + b) xs (part k l) none ∙ parts.1)
+    let parts = or_parts _ _ (sym (shown f k l page b r m xs legal lt s) ∙ miss) in
+    used_next f k l _ m xs valid legal lends.0 (parts.0, holds_own _ xs _ none ∙ parts.1)
 
 -- one that was used at entry is read as not free
 used_shown : (f : Profile) (k : ℕ) (l : Whole) (page b : ℕ) (r : Readings) (xs : List Made) → IsValid f → Legal f (triples k xs ++ l) → LendsNone xs → b < 256
@@ -170,8 +172,8 @@ used_shown : (f : Profile) (k : ℕ) (l : Whole) (page b : ℕ) (r : Readings) (
 used_shown f k l page b r [] valid legal lends lt used h = absurd h
 used_shown f k l page b r (m ∷ xs) valid legal lends lt used (inr h) = used_shown f k l page b r xs valid legal.1 lends.1 lt used h
 used_shown f k l page b r (m ∷ xs) valid legal lends lt used (inl s) =
-    let now : Used k l (page * 256 + b) xs = used_all f k l (page * 256 + b) xs valid legal.1 lends.1 used in
-    shown f k l page b r m xs legal lt s ∙ or_from (bit_of (triples k xs ++ l) (page * 256 + b)) (holds xs (page * 256 + b)) now.0 (sym (holds_own (page * 256 + b) xs (part k l) used.1) ∙ now.1)
+    let now : Used k l (page * 256 + b) xs = used_all f k l _ xs valid legal.1 lends.1 used in
+    shown f k l page b r m xs legal lt s ∙ or_from _ _ now.0 (sym (holds_own _ xs _ used.1) ∙ now.1)
 
 -- ---- a page that didn't fit
 -- it fitted neither at entry ..
@@ -181,7 +183,7 @@ unfit_entry no_fit f k l page [] fewer legal lends h = absurd h
 unfit_entry no_fit f k l page (m ∷ xs) fewer legal lends (inr h) = unfit_entry no_fit f k l page xs fewer legal.1 lends.1 h
 unfit_entry no_fit f k l page (m ∷ xs) fewer legal lends (inl u) =
     fewer u.readings (free_of_page l page) (λ b lt free. free_shown f k l page b u.readings xs legal.1 lends.1 lt (sym (of_page l page b) ∙ free)
-    (since_once (ShowsHere page (b / 64) u.readings) (KeptHere page) xs (u.read (b / 64) (omega (arith, lt))))) u.none
+    (since_once _ _ xs (u.read (b / 64) (omega (arith, lt))))) u.none
 
 unfit_used : (no_fit : Readings → Type 0) (f : Profile) (k : ℕ) (l : Whole) (page : ℕ) (xs : List Made) → IsValid f → Legal f (triples k xs ++ l) → LendsNone xs
     → Once (UnfitHere no_fit page) xs
@@ -189,12 +191,12 @@ unfit_used : (no_fit : Readings → Type 0) (f : Profile) (k : ℕ) (l : Whole) 
 unfit_used no_fit f k l page [] valid legal lends h = absurd h
 unfit_used no_fit f k l page (m ∷ xs) valid legal lends (inr h) =
     let old = unfit_used no_fit f k l page xs valid legal.1 lends.1 h in
-    (old.0, old.1, λ b lt miss none. used_next f k l (page * 256 + b) m xs valid legal lends.0 (old.2 b lt miss none))
+    (old.0, old.1, λ b lt miss none. used_next f k l _ m xs valid legal lends.0 (old.2 b lt miss none))
 unfit_used no_fit f k l page (m ∷ xs) valid legal lends (inl u) = (
   u.readings,
   u.none,
-  λ b lt miss none. used_next f k l (page * 256 + b) m xs valid legal lends.0
-      (shown_used f k l page b u.readings xs valid legal.1 lends.1 lt miss none (since_once (ShowsHere page (b / 64) u.readings) (KeptHere page) xs (u.read (b / 64) (omega (arith, lt))))),
+  λ b lt miss none. used_next f k l _ m xs valid legal lends.0
+      (shown_used f k l page b u.readings xs valid legal.1 lends.1 lt miss none (since_once _ _ xs (u.read (b / 64) (omega (arith, lt))))),
 )
 
 -- .. nor at exit, where the actor holds what it held
@@ -207,7 +209,7 @@ unfit_exit no_fit f k l page xs fewer valid legal lends still h =
     fewer r.0 (free_of_page w page) (λ b lt free. let g : ℕ = page * 256 + b in
     elim (cases_Bool (r.0 b)) [
       | inl hit ↦ hit
-      | inr miss ↦ elim (cases_Bool (holds (part k l) g)) [
+      | inr miss ↦ elim (cases_Bool _) [
         | inr none ↦ absurd (true≢false (sym free ∙ of_page w page b ∙ (r.2 b lt miss none).0))
         | inl held ↦
             let at : IsPlacedOnce w g = placed_once f w valid legal g in
@@ -224,9 +226,9 @@ pub fit_entry : (no_fit : Readings → Type 0) (f : Profile) (k : ℕ) (l : Whol
 fit_entry no_fit f k l page r xs fewer valid legal lends fits read held none =
     fits (fewer (free_of_page l page) r (λ b lt hit. let g : ℕ = page * 256 + b in
     let rest : g % 256 ≡ b = omega (arith, lt) in
-    elim (cases_Bool (bit_of l g)) [
+    elim (cases_Bool _) [
       | inl free ↦ of_page l page b ∙ free
-      | inr used ↦ elim (cases_Bool (holds (part k l) g)) [
+      | inr used ↦ elim (cases_Bool _) [
         | inl mine ↦ absurd (true≢false (sym hit ∙ ap r (sym rest) ∙ held g (omega (arith, lt)) mine))
         | inr none ↦ absurd (true≢false (sym hit ∙ used_shown f k l page b r xs valid legal lends lt (used, none) (read (b / 64) (omega (arith, lt)))))
       ]
@@ -240,15 +242,15 @@ MakesNoEvent = Always (λ m before. (k epoch : ℕ) → event_of k epoch m.step 
 pub no_event_fails_test : (t : Bool) (e : Event) → (if t then Some e else None) ≡ None → t ≡ false
 no_event_fails_test t e h = grind arith
 
+-- A deed that isn't made leaves the word.
 no_deed_written : (t z : Bool) (word old : ℕ) → (t ≡ true → z ≡ false) → (if t then (if z then word else old) else old) ≡ old
 no_deed_written t z word old h = grind arith
 
 deed_step : (w : Whole) (e : ℕ) (s : Step) (a p : ℕ) → a ≡ word_after w (target s) → ((k epoch : ℕ) → event_of k epoch s a ≡ None)
     → (if same_word (target s) (Word.Deed p) then new_value e s (word_after w (Word.Deed p)) else word_after w (Word.Deed p)) ≡ word_after w (Word.Deed p)
-deed_step w e (Look x) a p is quiet = looked (same_word x (Word.Deed p)) (word_after w (Word.Deed p))
-deed_step w e (Deed q d) a p is quiet = no_deed_written (q == p) (word_after w (Word.Deed p) == 0) (deed_word_of d) (word_after w (Word.Deed p))
-    (λ h. ap (λ n. n == 0) (sym (is ∙ ap (λ x. word_after w (Word.Deed x)) (eqb-true q p h))) ∙ no_event_fails_test (a == 0) (Event.Deed 0 q d) (quiet 0 0))
-deed_step w e s a p is quiet = refl
+deed_step w e (Deed q d) a p is quiet = no_deed_written _ _ _ _
+    (λ h. ap (λ n. n == 0) (sym (is ∙ ap (λ x. word_after w (Word.Deed x)) (eqb-true q p h))) ∙ no_event_fails_test _ (Event.Deed 0 q d) (quiet 0 0))
+deed_step w e s a p is quiet = search (arith, looked)
 
 -- without events it stays as it was
 pub deed_quiet : (f : Profile) (k : ℕ) (l : Whole) (p : ℕ) (xs : List Made) → Legal f (triples k xs ++ l) → MakesNoEvent xs
@@ -307,7 +309,7 @@ zero_told f k l d p (m ∷ xs) legal none lacks (inl z) =
     let w : Whole = triples k xs ++ l in
     let at : IsSpotted w p = spotted f w legal.1 p in
     ap (is_offered (number_of d)) (sym (spot_same f k l p xs legal.1 none lacks.1)) ∙ sym (at.eligible (number_of d))
-    ∙ ap (λ n. has_bit n (p % 64)) (sym (eligible_read d p m.step w z.0) ∙ sym legal.0.answer_is) ∙ z.1
+    ∙ ap (λ n. has_bit n (p % 64)) (sym (eligible_read d p _ w z.0) ∙ sym legal.0.answer_is) ∙ z.1
 
 -- the page was offered when the call read its bit as 1
 pub one_told : (f : Profile) (k : ℕ) (l : Whole) (d : Directory) (p : ℕ) (xs : List Made) → Legal f (triples k xs ++ l)
@@ -315,7 +317,7 @@ pub one_told : (f : Profile) (k : ℕ) (l : Whole) (d : Directory) (p : ℕ) (xs
     → (ys : List Made) × Legal f (triples k ys ++ l) × Always (LacksAfter p) ys × (eligible_bit (triples k ys ++ l) (number_of d) p ≡ true)
 one_told f k l d p [] legal h = absurd h
 one_told f k l d p (m ∷ xs) legal (inr h) = one_told f k l d p xs legal.1 h
-one_told f k l d p (m ∷ xs) legal (inl z) = (xs, legal.1, z.1, ap (λ n. has_bit n (p % 64)) (sym (eligible_read d p m.step (triples k xs ++ l) z.0.0) ∙ sym legal.0.answer_is) ∙ z.0.1)
+one_told f k l d p (m ∷ xs) legal (inl z) = (xs, legal.1, z.1, ap (λ n. has_bit n (p % 64)) (sym (eligible_read d p _ _ z.0.0) ∙ sym legal.0.answer_is) ∙ z.0.1)
 
 parked_read : (p : ℕ) (s : Step) (w : Whole) → ReadsParked p s → word_after w (target s) ≡ word_after w (Word.Parked (p / 64))
 parked_read p s w (ReadsParked.Looks j ej) = ap (λ x. word_after w (Word.Parked x)) ej
@@ -326,7 +328,7 @@ pub parked_told : (f : Profile) (k : ℕ) (l : Whole) (p : ℕ) (set : Bool) (xs
 parked_told f k l p set [] legal none lacks h = absurd h
 parked_told f k l p set (m ∷ xs) legal none lacks (inr h) = parked_told f k l p set xs legal.1 none lacks.1 h
 parked_told f k l p set (m ∷ xs) legal none lacks (inl z) =
-    cc (spot_same f k l p xs legal.1 none lacks.1, (spotted f (triples k xs ++ l) legal.1 p).parked, parked_read p m.step (triples k xs ++ l) z.0)
+    cc (spot_same f k l p xs legal.1 none lacks.1, (spotted f _ legal.1 p).parked, parked_read p _ _ z.0)
 
 -- ---- the deed word stays, once it is there
 deed_later : (k : ℕ) (l : Whole) (p : ℕ) (xs : List Made) → word_after l (Word.Deed p) ≢ 0
@@ -350,18 +352,17 @@ own_known f v m p allowed agrees known had e h = grind (arith, deed_stays, gains
 
 right_known : (f : Profile) (l : Whole) → IsValid f → Legal f l → (k p : ℕ) → has_right (part k l) p ≡ true → known_deed (part k l) p ≢ 0
 right_known f l valid legal k p = each_part f (λ l k v. has_right v p ≡ true → known_deed v p ≢ 0) (λ k h. absurd (false≢true h))
-    (λ t l legal before. own_known f (part t.actor l) t.made p legal.0.allowed
-    (agrees_next f l t.actor (part t.actor l) t.made.step t.made.answer valid legal.1 refl legal.0.of_region legal.0.answer_is) before (has_right (part t.actor l) p) refl)
+    (λ t l legal before. own_known f _ t.made p legal.0.allowed (agrees_next f l _ _ _ _ valid legal.1 refl legal.0.of_region legal.0.answer_is) before _ refl)
     (λ t l k legal other before. before) l legal k
 
 -- An actor that has no right of a page that it knows to be of the directory had none at entry of a page that turns out to be so.
 pub entry_lacks : (f : Profile) (k : ℕ) (l : Whole) (d : Directory) (p : ℕ) (xs : List Made) → IsValid f → Legal f l
     → (KnowsDeed p d (part k l) → has_right (part k l) p ≡ false) → word_after (triples k xs ++ l) (Word.Deed p) ≡ deed_word_of d
     → has_right (part k l) p ≡ false
-entry_lacks f k l d p xs valid legal may deed = elim (cases_Bool (has_right (part k l) p)) [
+entry_lacks f k l d p xs valid legal may deed = elim (cases_Bool _) [
   | inl has ↦
       let known : known_deed (part k l) p ≢ 0 = right_known f l valid legal k p has in
-      let is : known_deed (part k l) p ≡ word_after l (Word.Deed p) = known_is (known_deed (part k l) p) (word_after l (Word.Deed p)) ((spotted f l legal p).known k) known in
+      let is : known_deed (part k l) p ≡ word_after l (Word.Deed p) = known_is _ _ ((spotted f l legal p).known k) known in
       let there : word_after (triples k xs ++ l) (Word.Deed p) ≡ word_after l (Word.Deed p) = deed_later k l p xs (λ z. known (is ∙ z)) in
       absurd (true≢false (sym has ∙ may (is ∙ sym there ∙ deed)))
   | inr none ↦ none
@@ -392,8 +393,7 @@ had_then f k l p j [] legal ne h there = h
 had_then f k l p j (m ∷ xs) legal ne (inr h) there = had_then f k l p j xs legal.1 ne h there
 had_then f k l p j (m ∷ xs) legal ne (inl h) there =
     let w : Whole = triples k xs ++ l in
-    ne (one_has_right f w legal.1 k j p
-    (ap (λ v. has_right v p) (part_of_own k xs l) ∙ right_of_own p xs (part k l) h)
+    ne (one_has_right f w legal.1 k j p (ap (λ v. has_right v p) (part_of_own k xs l) ∙ right_of_own p xs _ h)
     (ap (λ v. has_right v p) (part_of_others j k xs l ne) ∙ there))
 
 -- the page has a deed, and is neither offered nor parked, so some actor has its right
@@ -438,6 +438,7 @@ module _ (no_fit : Readings → Type 0) (f : Profile) (d : Directory) (k : ℕ) 
   abbrev w : Whole
   w = triples k xs ++ l
 
+  -- The list at entry is legal, since the one with the call behind it is.
   first : Legal f l
   first = legal_before f k xs l legal
 
@@ -447,7 +448,7 @@ module _ (no_fit : Readings → Type 0) (f : Profile) (d : Directory) (k : ℕ) 
       let read = one_told f k l d page xs legal shows.offered in record {
         of_region = shows.of_region;
         offered = (spotted f l first page).eligible (number_of d) ∙ ap (is_offered (number_of d)) (sym (spot_same f k l page read.0 read.1 (rest.rights page k) read.2))
-            ∙ sym ((spotted f (triples k read.0 ++ l) read.1 page).eligible (number_of d)) ∙ read.3;
+            ∙ sym ((spotted f _ read.1 page).eligible (number_of d)) ∙ read.3;
         fits = fit_entry no_fit f k l page shows.readings xs fewer valid legal lends shows.fits shows.read shows.none_held;
       }
 
@@ -471,13 +472,14 @@ module _ (no_fit : Readings → Type 0) (f : Profile) (d : Directory) (k : ℕ) 
       let same = spot_same f k l page xs legal lacks shows.lacked in
       let at = spotted f w legal page in
       let known : known_deed (part k w) page ≡ deed_word_of d = ap (λ v. known_deed v page) (part_of_own k xs l) ∙ shows.of_directory in
-      let deed : word_after w (Word.Deed page) ≡ deed_word_of d = sym (known_is (known_deed (part k w) page) (word_after w (Word.Deed page)) (at.known k) (λ z. deed_word_of-positive d (sym known ∙ z))) ∙ known in
+      let deed : word_after w (Word.Deed page) ≡ deed_word_of d = sym (known_is _ _ (at.known k) (λ z. deed_word_of-positive d (sym known ∙ z))) ∙ known in
       let not_offered : is_offered (number_of d) (spot_of l page) ≡ false = search (arith, unfit_lacks, zero_told) in
-      let not_parked : is_parked (spot_of l page) ≡ false = parked_told f k l page false xs legal lacks shows.lacked (once_map (HeldHere d page) (ParkedHere false page) xs (λ m before h. h.0) shows.held) in
-      let with = in_hands (spot_of w page) (word_after w (Word.Deed page)) at.deed (λ z. deed_word_of-positive d (sym deed ∙ z))
+      let not_parked : is_parked (spot_of l page) ≡ false = parked_told f k l page false xs legal lacks shows.lacked (once_map _ _ xs (λ m before h. h.0) shows.held) in
+      let with = in_hands _ _ at.deed (λ z. deed_word_of-positive d (sym deed ∙ z))
       (sym (own_eligible f w legal page d of deed) ∙ at.eligible (number_of d) ∙ ap (is_offered (number_of d)) same ∙ not_offered) (ap is_parked same ∙ not_parked) in
       true≢false (sym ((spotted f l first page).has with.0 ∙ ap (is_with with.0) (sym same ∙ with.1) ∙ is_with_own with.0) ∙ rest.rights page with.0)
 
+  -- An answer that one actor's steps show is true of the state.
   plain : (answer : Result ℕ NoRoom) → ShowsAnswer no_fit f d (part k l) xs answer → IsPlainAnswer no_fit f d l answer
   plain (Ok page) (inl shows) = record { not_held = λ p bad. absurd cc; none_fits = λ bad. absurd cc; no_space = λ none. absurd (none.offered page (offered_fits page shows)) }
   plain (Ok page) (inr shows) = record { not_held = λ p bad. absurd cc; none_fits = λ bad. absurd cc; no_space = λ none. absurd (none.bare page (bare_page page shows)) }

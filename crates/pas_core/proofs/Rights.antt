@@ -22,7 +22,7 @@ use Rattle.pas_core.proofs.Grains.{if_true, if_false, one_holder}
 use Rattle.pas_profile.proofs.Codecs.{deed_word_of-positive, numbered}
 use Rattle.std.proofs.lemmas.{Bool.Decides.nat_tests, Nat.Bits.bit_at_ones}
 use Rattle.std.specs.Int.{bit_not}
-use Rattle.pas_steps.proofs.{Flags.was_set, Kept.any_one, Kept.backed_holds, Parts.each_part}
+use Rattle.pas_steps.proofs.{Flags.was_set, Frames.any_one, Frames.backed_holds, Parts.each_part}
 
 -- ==== The right of each page is at one spot after a legal list, and what views know of deeds is true. Each needs the other, so one induction
 -- proves both: an offer goes into the vector of the directory that its actor knows, and a set bit of that vector tells the directory.
@@ -107,6 +107,7 @@ somewhere s word h e = grind (arith, false≢true, numbered_ne)
 own_after : (m : Way) (o : Spot) (j k : ℕ) (had : Bool) → had ≡ is_with k o → (j == k) ≡ true → had_after m had ≡ is_with k (spot_after j m o)
 own_after s o j k had is e = grind arith
 
+-- What an actor has that made no step is what the spot says: by each move from each spot.
 other_after : (m : Way) (o : Spot) (j k : ℕ) (had : Bool) → had ≡ is_with k o → Suits j m o → (j == k) ≡ false → had ≡ is_with k (spot_after j m o)
 other_after s o j k had is fits e = grind arith
 
@@ -115,6 +116,7 @@ parked_moved FromParked was = false
 parked_moved ToParked was = true
 parked_moved s was = was
 
+-- So it is for what is parked.
 parked_next : (j : ℕ) (m : Way) (o : Spot) → Suits j m o → parked_moved m (is_parked o) ≡ is_parked (spot_after j m o)
 parked_next j s o h = grind arith
 
@@ -130,6 +132,7 @@ offered_next j s n o h = grind (arith, if_false, if_true)
 unpark_cases : (y g was : Bool) → (y ≡ true → g ≡ was) → (if y then false else was) ≡ parked_moved (if y && g then FromParked else Rests) was
 unpark_cases y g was h = grind arith
 
+-- A page is parked where it was, or where it is parked now.
 park_cases : (y was : Bool) → (if y then true else was) ≡ parked_moved (if y then ToParked else Rests) was
 park_cases y was = grind arith
 
@@ -145,6 +148,7 @@ take_right_cases : (x y g was : Bool) (m n : ℕ) → (m == n) ≡ x → (x ≡ 
     → (if x && y then false else was) ≡ offered_moved (if y && g then FromOffer m else Rests) n was
 take_right_cases x y g was m n e h = grind arith
 
+-- A page is offered where it was, or where it is offered now: of this directory.
 offer_cases : (x y was : Bool) (m n : ℕ) → (m == n) ≡ x → (if x && y then true else was) ≡ offered_moved (if y then ToOffer m else Rests) n was
 offer_cases x y was m n e = grind arith
 
@@ -157,13 +161,9 @@ eligible_at l a m n q p is x y = search (arith, eqb-true)
 
 eligible_step : (l : Whole) (e : ℕ) (s : Step) (a p n : ℕ) → a ≡ word_after l (target s)
     → has_bit (next_value e s (Word.Eligible n (p / 64)) (word_after l (Word.Eligible n (p / 64)))) (p % 64) ≡ offered_moved (way s a p) n (eligible_bit l n p)
-eligible_step l e (Look word) a p n is = ap (λ n. has_bit n (p % 64)) (looked (same_word word (Word.Eligible n (p / 64))) (word_after l (Word.Eligible n (p / 64))))
-eligible_step l e (Deed q d) a p n is = offered_rests ((q == p) && (a == 0)) (eligible_bit l n p) n ByDeed (λ b. refl)
 eligible_step l e (TakeRight q d) a p n is = search (arith, page_bit-clear, take_right_cases, eligible_at)
 eligible_step l e (Offer q d) a p n is = search (arith, page_bit-set, offer_cases)
-eligible_step l e (Park q) a p n is = offered_rests (q == p) (eligible_bit l n p) n ToParked (λ b. refl)
-eligible_step l e (Unpark q) a p n is = offered_rests ((q == p) && has_bit a (p % 64)) (eligible_bit l n p) n FromParked (λ b. refl)
-eligible_step l e s a p n is = refl
+eligible_step l e s a p n is = search (arith, looked, offered_rests)
 
 -- ---- a legal step's way suits
 suits_if : (j : ℕ) (m : Way) (o : Spot) (t : Bool) → (t ≡ true → Suits j m o) → Suits j (if t then m else Rests) o
@@ -234,12 +234,12 @@ spotted f (t ∷ l) legal p =
     let next : IsNext f l t = legal.0 in
     let suits : Suits j (way s a p) (spot_of l p) = step_suits f l j s a p at next.allowed next.answer_is in
     record {
-      has = λ k. cond_both (j == k) (t.made ∷ part k l) (part k l) (λ v. has_right v p ≡ is_with k (spot_of (t ∷ l) p)) (own_after (way s a p) (spot_of l p) j k (has_right (part k l) p) (at.has k)) (other_after (way s a p) (spot_of l p) j k (has_right (part k l) p) (at.has k) suits);
-      eligible = λ n. eligible_step l e s a p n next.answer_is ∙ ap (offered_moved (way s a p) n) (at.eligible n) ∙ offered_next j (way s a p) n (spot_of l p) suits;
-      parked = parked_step l e s a p next.answer_is ∙ ap (parked_moved (way s a p)) at.parked ∙ parked_next j (way s a p) (spot_of l p) suits;
+      has = λ k. cond_both (j == k) (t.made ∷ part k l) (part k l) (λ v. has_right v p ≡ is_with k (spot_of (t ∷ l) p)) (own_after _ _ j k _ (at.has k)) (other_after _ _ j k _ (at.has k) suits);
+      eligible = λ n. eligible_step l e s a p n next.answer_is ∙ ap (offered_moved (way s a p) n) (at.eligible n) ∙ offered_next j _ n _ suits;
+      parked = parked_step l e s a p next.answer_is ∙ ap (parked_moved (way s a p)) at.parked ∙ parked_next j _ _ suits;
       deed = fits_step f l j e s a p at next.of_region next.allowed next.answer_is suits;
       known = λ k. cond_both (j == k) (t.made ∷ part k l) (part k l) (λ v. IsKnown (known_deed v p) (word_after (t ∷ l) (Word.Deed p)))
-          (λ own. deed_learns l e s a p (known_deed (part k l) p) at next.answer_is (at.known k)) (λ other. word_stays e s p (word_after l (Word.Deed p)) (known_deed (part k l) p) (at.known k));
+          (λ own. deed_learns l e s a p _ at next.answer_is (at.known k)) (λ other. word_stays e s p _ _ (at.known k));
     }
 
 -- ==== What follows for rights, for the bits of page vectors, and for the grains that views know as free.
@@ -249,7 +249,7 @@ spotted f (t ∷ l) legal p =
 pub one_has_right : (f : Profile) (l : Whole) → Legal f l → (j k p : ℕ) → has_right (part j l) p ≡ true → has_right (part k l) p ≡ true → j ≡ k
 one_has_right f l legal j k p hj hk =
     let at : IsSpotted l p = spotted f l legal p in
-    let there : spot_of l p ≡ With j = is_with-true j (spot_of l p) (sym (at.has j) ∙ hj) in
+    let there : spot_of l p ≡ With j = is_with-true j _ (sym (at.has j) ∙ hj) in
     eqb-true j k (sym (ap (is_with k) there) ∙ sym (at.has k) ∙ hk)
 
 -- the spot of a right that an actor has, that is offered, or that is parked
@@ -297,7 +297,7 @@ in_place f l p InParked has eligible parked deed word = inr (inr (inr (record { 
 
 -- the right of each page that has a deed is in exactly one place
 pub right_in_one_place : (f : Profile) (l : Whole) → Legal f l → (p : ℕ) → IsRightInOnePlace f l p
-right_in_one_place f l legal p = let at : IsSpotted l p = spotted f l legal p in in_place f l p (spot_of l p) at.has at.eligible at.parked at.deed (deed_words f l legal p)
+right_in_one_place f l legal p = search (arith, spotted, in_place, deed_words)
 
 -- the bit in the vector of the page's own directory says whether the right is offered
 abbrev pub is_on_offer : Spot → Bool
@@ -311,7 +311,7 @@ own_offer s d kind fits = grind (arith, eq-eqb, number_told)
 pub own_eligible : (f : Profile) (l : Whole) → Legal f l → (p : ℕ) (d : Directory) → IsDirectoryOf f d → word_after l (Word.Deed p) ≡ deed_word_of d
     → eligible_bit l (number_of d) p ≡ is_on_offer (spot_of l p)
 own_eligible f l legal p d of deed =
-    cc ((spotted f l legal p).eligible (number_of d), own_offer (spot_of l p) d of.kind (subst (DeedFits (spot_of l p)) deed (spotted f l legal p).deed))
+    cc ((spotted f l legal p).eligible (number_of d), own_offer _ d of.kind (subst (DeedFits (spot_of l p)) deed (spotted f l legal p).deed))
 
 -- a set bit of an eligible word tells the deed that an actor knows, if it knows one
 pub offered_is_known : (f : Profile) (l : Whole) → Legal f l → (k n p : ℕ) → eligible_bit l n p ≡ true → known_deed (part k l) p ≢ 0
@@ -380,6 +380,7 @@ takes_not : (f : Profile) (l : Whole) (j : ℕ) (s : Step) (g : ℕ) → IsSpott
     → takes s g ≡ false
 takes_not f l j s g at allowed never = false_from_ne_true (takes s g) (λ h. never (takes_with f l j s g at allowed h))
 
+-- No step leads nowhere from a spot: by each move.
 was_nowhere : (j : ℕ) (m : Way) (o : Spot) → spot_after j m o ≡ Nowhere → o ≡ Nowhere
 was_nowhere j s o h = grind arith
 
@@ -404,12 +405,15 @@ tells_free (Look (Word.Free q w)) a g right = (w == g / 64 % 4) && (q == g / 256
 tells_free (Deed q d) a g right = (q == g / 256) && (a == 0)
 tells_free s a g right = false
 
+-- A step that tells of a thing: it is known where it was, or is this one.
 tells_or : (x known : Bool) → (if x then true else known) ≡ (x || (not false && not false && known))
 tells_or x known = grind arith
 
+-- A step that takes a thing: it is known where it was, and isn't this one.
 takes_or : (x known : Bool) → (if x then false else known) ≡ (false || (not x && not false && known))
 takes_or x known = grind arith
 
+-- A step that leaves a thing: it is known where it was, and isn't this one.
 leaves_or : (x known : Bool) → (if x then false else known) ≡ (false || (not false && not x && known))
 leaves_or x known = grind arith
 
@@ -418,6 +422,7 @@ free_after-is : (s : Step) (a g : ℕ) (right known : Bool)
     → free_after s a g right known ≡ (tells_free s a g right || (not (takes s g) && not (leaves s (g / 256)) && known))
 free_after-is s a g right known = grind (arith, tells_or, takes_or, leaves_or)
 
+-- Where both tests fail and the third passes, each is known.
 not_from : (x z y : Bool) → (not x && not z && y) ≡ true → (x ≡ false) × (z ≡ false) × (y ≡ true)
 not_from x z y h = grind arith
 
@@ -451,11 +456,12 @@ other_free f l j k e s a g at clear of allowed is ne h =
 nowhere_not_with : (j : ℕ) (o : Spot) → o ≡ Nowhere → o ≡ With j → ⊥
 nowhere_not_with j o h g = let e : Nowhere ≡ With j = sym h ∙ g in absurd cc
 
+-- After every legal list each grain is clear.
 cleared : (f : Profile) (l : Whole) → Legal f l → (g : ℕ) → IsClear l g
 cleared f [] legal g = record { bare = λ h. ap (λ x. x == 1) (bit_at_ones 64 (g % 64) (omega arith)); free = λ k h. absurd (false≢true h) }
 cleared f (t ∷ l) legal g =
     let clear : IsClear l g = cleared f l legal.1 g in
-    let at : IsSpotted l (g / 256) = spotted f l legal.1 (g / 256) in
+    let at : IsSpotted l (g / 256) = spotted f l legal.1 _ in
     let next : IsNext f l t = legal.0 in
     let s = t.made.step in
     let a = t.made.answer in
@@ -465,7 +471,8 @@ cleared f (t ∷ l) legal g =
       bare = search (arith, was_nowhere, free_stays, takes_not, nowhere_not_with);
       free = λ k. cond_both (j == k) (t.made ∷ part k l) (part k l) (λ v. known_free v g ≡ true → Known k (spot_of (t ∷ l) (g / 256)) (free_bit (t ∷ l) g))
           (λ same h. let e' : j ≡ k = eqb-true j k same in
-          subst (λ i. Known i (spot_of (t ∷ l) (g / 256)) (free_bit (t ∷ l) g)) e' (own_free f l j e s a g at clear next.of_region next.allowed next.answer_is (ap (λ i. free_after s a g (has_right (part i l) (g / 256)) (known_free (part i l) g)) e' ∙ h)))
+          subst (λ i. Known i (spot_of (t ∷ l) (g / 256)) (free_bit (t ∷ l) g)) e' (own_free f l j e s a g at clear next.of_region next.allowed next.answer_is
+          (ap (λ i. free_after s a g (has_right (part i l) (g / 256)) (known_free (part i l) g)) e' ∙ h)))
           (λ ne h. other_free f l j k e s a g at clear next.of_region next.allowed next.answer_is ne h);
     }
 
@@ -475,14 +482,13 @@ free_known f l legal k g h = let clear : IsClear l g = cleared f l legal g in (c
 
 -- who knows a grain as free has the right of its page
 pub free_known_has_right : (f : Profile) (l : Whole) → Legal f l → (k g : ℕ) → known_free (part k l) g ≡ true → has_right (part k l) (g / 256) ≡ true
-free_known_has_right f l legal k g h =
-    cc ((spotted f l legal (g / 256)).has k, ((cleared f l legal g).free k h).0, eq-eqb k k refl)
+free_known_has_right f l legal k g h = cc ((spotted f l legal _).has k, ((cleared f l legal g).free k h).0, eq-eqb k k refl)
 
 -- each grain of a page without a deed is free
 pub free_without_deed : (f : Profile) (l : Whole) → Legal f l → (g : ℕ) → word_after l (Word.Deed (g / 256)) ≡ 0 → free_bit l g ≡ true
 free_without_deed f l legal g none =
     let clear : IsClear l g = cleared f l legal g in
-    let at : IsSpotted l (g / 256) = spotted f l legal (g / 256) in
+    let at : IsSpotted l (g / 256) = spotted f l legal _ in
     clear.bare (no_deed (spot_of l (g / 256)) (subst (DeedFits (spot_of l (g / 256))) none at.deed))
 
 -- ==== What views know of deeds and of backed pages is true.
@@ -510,6 +516,7 @@ backed_stays e s p old keep h = grind (arith, looked, cond_both)
 back_tells : (x known : Bool) (old : ℕ) → old ≤ 1 → (known ≡ true → old ≡ 1) → (if x then true else known) ≡ true → (if x then bit_or old 1 else old) ≡ 1
 back_tells x known old small was told = grind (arith, or_one)
 
+-- A page that is known as backed after a backing ended is another, and its word stands.
 unback_tells : (x known : Bool) (old : ℕ) → (known ≡ true → old ≡ 1) → (if x then false else known) ≡ true → (if x then 0 else old) ≡ 1
 unback_tells x known old h e = grind arith
 
@@ -542,6 +549,6 @@ other_unbacks f l valid legal t k p next other held = false_from_ne_true (unback
 -- a page that a view knows as backed is
 pub backed_known : (f : Profile) (l : Whole) → IsValid f → Legal f l → (k p : ℕ) → knows_backed (part k l) p ≡ true → word_after l (Word.Backed p) ≡ 1
 backed_known f l valid legal k p = each_part f (λ l k v. knows_backed v p ≡ true → word_after l (Word.Backed p) ≡ 1) (λ k told. absurd (false≢true told))
-    (λ t l legal before h. backed_learns l (epoch_of (part t.actor l)) t.made.step t.made.answer p (knows_backed (part t.actor l) p) legal.0.answer_is (backed_small f l legal.1 p) before
+    (λ t l legal before h. backed_learns l _ _ _ p _ legal.0.answer_is (backed_small f l legal.1 p) before
     (and_parts (backed_after t.made.step t.made.answer p (knows_backed (part t.actor l) p)) (holds_on (t.made ∷ part t.actor l) p) h).0)
-    (λ t l k legal other before h. backed_stays (epoch_of (part t.actor l)) t.made.step p (word_after l (Word.Backed p)) (other_unbacks f l valid legal.1 t k p legal.0 other (backed_holds (part k l) p h)) (before h)) l legal k
+    (λ t l k legal other before h. backed_stays _ _ p _ (other_unbacks f l valid legal.1 t k p legal.0 other (backed_holds (part k l) p h)) (before h)) l legal k

@@ -13,7 +13,7 @@ ghost use Rattle.pas_steps.specs.Lists.{Triple, Whole, part, word_after, IsNext,
 /// that is offered has the deed of that directory. A page that the actor once read as backed has a deed, and so has each page of a block
 /// that it ended, which lay in the region on pages of one heap. A block that it once read as live, and that still lives, has the length
 /// that it had then. Turns are below 2^37, epochs and stamps below 2^40, and each word has only values of its kind.
-#[tactic(auto, using(crate::proofs::Agreement::answer_agrees))]
+#[tactic(auto, using(crate::proofs::Nexts::answer_agrees))]
 pub fn answers_agree()
     ensures { (f : Profile) (l : Whole) → IsValid f → Legal f l → (t : Triple) → IsNext f l t → Agrees f (part t.actor l) t.made.step t.made.answer }
 {}
@@ -28,7 +28,7 @@ pub fn one_right()
 /// What an actor knows is so now, whatever the others did since: the deed of a page (from its deed word, or from a bit that was set in
 /// the eligible vector of its directory), that a page is backed and what its stamp is, that a grain is free, whose page's right the actor has then, and the
 /// life word of a grain. The epoch is at least the one that it read.
-#[tactic(auto, using(crate::proofs::Rights::backed_known, crate::proofs::Rights::free_known, crate::proofs::Rights::free_known_has_right, crate::proofs::Stamps::stamp_known, crate::proofs::Stamps::epoch_known))]
+#[tactic(auto, using(crate::proofs::Rights::backed_known, crate::proofs::Rights::free_known, crate::proofs::Rights::free_known_has_right, crate::proofs::Lives::stamp_known, crate::proofs::Lives::epoch_known))]
 pub fn known_is_true()
     ensures deed { (f : Profile) (l : Whole) → Legal f l → (k page : ℕ) → known_deed (part k l) page ≢ 0 → word_after l (Word.Deed page) ≡ known_deed (part k l) page }
     ensures backed { (f : Profile) (l : Whole) → IsValid f → Legal f l → (k page : ℕ) → knows_backed (part k l) page ≡ true → word_after l (Word.Backed page) ≡ 1 }

@@ -59,7 +59,7 @@ pub fn parked_pages_are_checked()
 /// However late an actor stamps the pages of a block that it ended: the epoch of each end on a page is at most the page's stamp, or the page is
 /// unstamped for the actor that made the end, which knows an epoch at least as great. An actor holds a grain of each page that is unstamped
 /// for it. So whoever holds all grains of a page reads a stamp that no end on the page is past.
-#[tactic(auto, using(crate::proofs::Stamps::ends_stamped, crate::proofs::Stamps::unstamped_is_held, crate::proofs::Stamps::ends_before))]
+#[tactic(auto, using(crate::proofs::Lives::ends_stamped, crate::proofs::Lives::unstamped_is_held, crate::proofs::Lives::ends_before))]
 pub fn ends_are_stamped()
     ensures ends { (f : Profile) (l : Whole) → IsValid f → Legal f l → (page : ℕ) → EachEnd (IsStampedOr l page) (visible l) page }
     ensures held { (f : Profile) (l : Whole) → Legal f l → (k page : ℕ) → is_unstamped (part k l) page ≡ true → HoldsOn (part k l) page }
@@ -68,7 +68,7 @@ pub fn ends_are_stamped()
 
 /// Where each actor learns no epoch between an end and its stamps, and stamps only pages on which it ended a block since, the stamp of a page is
 /// just the greatest epoch of an end on it, once the page is unstamped for nobody.
-#[tactic(auto, using(crate::proofs::Stamps::stamps_are_ends))]
+#[tactic(auto, using(crate::proofs::Lives::stamps_are_ends))]
 pub fn stamps_are_ends()
     ensures { (f : Profile) (l : Whole) → IsValid f → Legal f l → AllKeepToEnds l → (page : ℕ) → ((k : ℕ) → is_unstamped (part k l) page ≡ false) → word_after l (Word.Stamp page) ≡ epoch_in (visible l) page }
 {}

@@ -12,7 +12,7 @@ use Rattle.pas_machine.specs.Laws.{AreApart, IsWhere, IsCounted, AreCounted, Are
 
 -- What is so of each number of a range, and of the next one, is so of the range up to that.
 pub each_more : (from until : ℕ) (P : ℕ → Type 0) → IsEach from until P → P until → IsEach from (until + 1) P
-each_more from until P before last n low high = elim (eqb_tells until n) [ inl h ↦ subst P h.1 last | inr h ↦ let other : until ≢ n = h.1 in before n low (omega arith) ]
+each_more from until P before last n low high = search (arith, eqb_tells)
 
 -- ---- what holds of each block that is given holds of each live block
 given_if : (P : ℕ → Live → Type 0) (t : Bool) (a k : ℕ) (block : Block) (old : Option Live) (b : Live) → (address_of block.name == a) ≡ t
@@ -27,7 +27,7 @@ each_live : (f : Profile) (P : ℕ → Live → Type 0)
     → ((es : List Event) (k : ℕ) (block : Block) → MayGive f es block → P (address_of block.name) (record { actor = k; block = block }))
     → (es : List Event) → Run f es → (a : ℕ) (b : Live) → live_in es a ≡ Some b → P a b
 each_live f P new [] run a b h = absurd (none-some _ h)
-each_live f P new (Event.Give k block ∷ es) run a b h = given_if P (address_of block.name == a) a k block (live_in es a) b refl (new es k block run.0) (each_live f P new es run.1 a) h
+each_live f P new (Event.Give k block ∷ es) run a b h = let rest = each_live f P new es run.1 a in grind (arith, rest, given_if)
 each_live f P new (Event.End k name e ∷ es) run a b h = ended_if (P a) (address_of name == a) (live_in es a) b (each_live f P new es run.1 a) h
 each_live f P new (e ∷ es) run a b h = each_live f P new es run.1 a b h
 
@@ -67,8 +67,8 @@ apart_end t u a c old old' b d before h h' = grind (arith, none-some)
 -- In every run live blocks have no grain in common.
 pub live_apart : (f : Profile) (es : List Event) → Run f es → AreApart es
 live_apart f [] run a c b d h h' ne = absurd (none-some _ h)
-live_apart f (Event.Give k block ∷ es) run a c b d h h' ne = apart_give (address_of block.name == a) (address_of block.name == c) a c k block (live_in es a) (live_in es c) b d refl refl
-    (λ l o. run.0.clear a l o) (λ l o. run.0.clear c l o) (λ l l' o o'. live_apart f es run.1 a c l l' o o' ne) h h' ne
+live_apart f (Event.Give k block ∷ es) run a c b d h h' ne = apart_give (address_of block.name == a) (address_of block.name == c) a c k block (live_in es a)
+    (live_in es c) b d refl refl (λ l o. run.0.clear a l o) (λ l o. run.0.clear c l o) (λ l l' o o'. live_apart f es run.1 a c l l' o o' ne) h h' ne
 live_apart f (Event.End k name e ∷ es) run a c b d h h' ne = apart_end (address_of name == a) (address_of name == c) a c (live_in es a) (live_in es c) b d (λ l l' o o'. live_apart f es run.1 a c l l' o o' ne) h h'
 live_apart f (e ∷ es) run a c b d h h' ne = live_apart f es run.1 a c b d h h' ne
 
@@ -90,7 +90,7 @@ no_block f es block a (Some b) is may e some =
     let positive : 0 < length_of b.block = some b refl in
     let own : in_run (a / 16) (length_of b.block) (a / 16) ≡ true = first_of_run (a / 16) (length_of b.block) positive in
     let long : 0 < length_of block = omega (arith, may.some, may.whole) in
-    let here : in_run (grain_of block.name) (length_of block) (a / 16) ≡ true = ap (λ n. in_run (n / 16) (length_of block) (a / 16)) e ∙ first_of_run (a / 16) (length_of block) long in
+    let here : in_run (grain_of block.name) (length_of block) (a / 16) ≡ true = simp (e, first_of_run) in
     absurd (false≢true (sym (may.clear a b is (a / 16) own) ∙ here))
 
 -- In every run as many blocks were given at an address as ended there and live there.
@@ -99,8 +99,7 @@ all_counted f [] run a = refl
 all_counted f (Event.Give k block ∷ es) run a = counted_give (address_of block.name == a) a k block (live_in es a) (gives_in es a) (ends_in es a)
     (λ t. no_block f es block a (live_in es a) refl run.0 (eqb-true (address_of block.name) a t) (live_long f es run.1 a))
     (λ t. run.0.turn ∙ ap (gives_in es) (eqb-true (address_of block.name) a t)) (all_counted f es run.1 a)
-all_counted f (Event.End k name e ∷ es) run a = counted_end (address_of name == a) (live_in es a) (gives_in es a) (ends_in es a)
-    (λ t. (run.0.1.0, ap (live_in es) (sym (eqb-true (address_of name) a t)) ∙ run.0.1.1)) (all_counted f es run.1 a)
+all_counted f (Event.End k name e ∷ es) run a = let rest = all_counted f es run.1 a in grind (arith, rest, counted_end, eqb-true)
 all_counted f (e ∷ es) run a = all_counted f es run.1 a
 
 -- ---- the pages under a live block
@@ -108,9 +107,11 @@ all_counted f (e ∷ es) run a = all_counted f es run.1 a
 same_deed : (t : Bool) (d d' : Directory) (old : Option Directory) → (t ≡ true → old ≡ None) → old ≡ Some d' → (if t then Some d else old) ≡ Some d'
 same_deed t d d' old none is = grind (arith, none-some)
 
+-- A page that is backed stays so when one is backed.
 stays_backed : (t old : Bool) → old ≡ true → (if t then true else old) ≡ true
 stays_backed t old h = grind arith
 
+-- A page that is backed stays so when another's backing ends.
 not_unbacked : (t old : Bool) → (t ≡ true → ⊥) → old ≡ true → (if t then false else old) ≡ true
 not_unbacked t old h e = grind arith
 
@@ -130,21 +131,17 @@ still_bears f es es' heap page old deed backed = record { exists = old.exists; d
 pub all_borne : (f : Profile) (es : List Event) → Run f es → AreBorne f es
 all_borne f [] run a b h x r = absurd (none-some _ h)
 all_borne f (Event.Deed k p d ∷ es) run a b h x r =
-    let old : Bears f es b.block.heap (x / 256) = all_borne f es run.1 a b h x r in
-    still_bears f es (Event.Deed k p d ∷ es) b.block.heap (x / 256) old (same_deed (p == x / 256) d old.directory (deed_in es (x / 256)) (λ t. ap (deed_in es) (sym (eqb-true p (x / 256) t)) ∙ run.0.2) old.deed) old.backed
+    let rest = all_borne f es run.1 a b h x r in grind (arith, rest, still_bears, same_deed, eqb-true)
 all_borne f (Event.Back k p ∷ es) run a b h x r =
-    let old : Bears f es b.block.heap (x / 256) = all_borne f es run.1 a b h x r in
-    still_bears f es (Event.Back k p ∷ es) b.block.heap (x / 256) old old.deed (stays_backed (p == x / 256) (backed_in es (x / 256)) old.backed)
+    let rest = all_borne f es run.1 a b h x r in grind (arith, rest, still_bears, stays_backed)
 all_borne f (Event.Unback k p e ∷ es) run a b h x r =
-    let old : Bears f es b.block.heap (x / 256) = all_borne f es run.1 a b h x r in
-    let there : touches (live_in es a) (x / 256) ≡ true = ap (λ o. touches o (x / 256)) h ∙ ap (λ n. meets_page (n / 16) (length_of b.block) (x / 256)) (lives_where f es run.1 a b h) ∙ run_meets (a / 16) (length_of b.block) x r in
-    still_bears f es (Event.Unback k p e ∷ es) b.block.heap (x / 256) old old.deed
-    (not_unbacked (p == x / 256) (backed_in es (x / 256)) (λ t. false≢true (sym (run.0.2 a) ∙ ap (touches (live_in es a)) (eqb-true p (x / 256) t) ∙ there)) old.backed)
+    let rest = all_borne f es run.1 a b h x r in grind (arith, rest, lives_where, run_meets, still_bears, not_unbacked, false≢true, eqb-true)
 all_borne f (Event.Give k block ∷ es) run a b h x r = borne_if f es (Event.Give k block ∷ es) (address_of block.name == a) a k block (live_in es a) b refl
     (λ y q. let old = run.0.bears y q in still_bears f es (Event.Give k block ∷ es) block.heap (y / 256) old old.deed old.backed)
     (λ l o y q. let old = all_borne f es run.1 a l o y q in still_bears f es (Event.Give k block ∷ es) l.block.heap (y / 256) old old.deed old.backed) h x r
 all_borne f (Event.End k name e ∷ es) run a b h x r =
-    let old : Bears f es b.block.heap (x / 256) = ended_if (λ (l : Live). in_run (a / 16) (length_of l.block) x ≡ true → Bears f es l.block.heap (x / 256)) (address_of name == a) (live_in es a) b (λ l o q. all_borne f es run.1 a l o x q) h r in
+    let old : Bears f es b.block.heap (x / 256) = ended_if (λ (l : Live). in_run (a / 16) (length_of l.block) x ≡ true → Bears f es l.block.heap (x / 256))
+    (address_of name == a) (live_in es a) b (λ l o q. all_borne f es run.1 a l o x q) h r in
     still_bears f es (Event.End k name e ∷ es) b.block.heap (x / 256) old old.deed old.backed
 all_borne f (Event.Reject k name why ∷ es) run a b h x r =
-    let old : Bears f es b.block.heap (x / 256) = all_borne f es run.1 a b h x r in still_bears f es (Event.Reject k name why ∷ es) b.block.heap (x / 256) old old.deed old.backed
+    let rest = all_borne f es run.1 a b h x r in grind (arith, rest, still_bears)

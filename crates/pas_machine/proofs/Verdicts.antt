@@ -36,6 +36,7 @@ le_of a b never = elim (leb_tells a b) [ inl h ↦ h.1 | inr h ↦ absurd (never
 lt_of : (a b : ℕ) → (b ≤ a → ⊥) → a < b
 lt_of a b never = elim (leb_tells b a) [ inl h ↦ absurd (never h.1) | inr h ↦ h.1 ]
 
+-- What can't be something is nothing.
 none_of : {A : Type 0} (o : Option A) → (o ≢ None → ⊥) → o ≡ None
 none_of o never = grind arith
 
@@ -43,6 +44,7 @@ none_of o never = grind arith
 page_of : (f : Profile) (page : ℕ) → (IsOutside f page → ⊥) → IsPage f page
 page_of f page never = (le_of 1 page (λ h. never (inl h)), le_of page f.pages (λ h. never (inr h)))
 
+-- A page of the region isn't outside of it.
 not_outside : (f : Profile) (page : ℕ) → IsPage f page → IsOutside f page → ⊥
 not_outside f page is e = grind arith
 
@@ -67,7 +69,7 @@ deed_heaps f (e ∷ es) run page d h = deed_heaps f es run.1 page d h
 found_or_not : {A : Type 0} (o : Option A) (number : A → ℕ) (n : ℕ)
     → ((a : A) × (o ≡ Some a) × (number a ≡ n)) ⊎ (((a : A) × (o ≡ Some a) × (number a ≡ n)) → ⊥)
 found_or_not None number n = inr (λ has. none-some _ has.1)
-found_or_not (Some a) number n = elim (eqb_tells (number a) n) [ inl h ↦ inl (a, refl, h.1) | inr h ↦ inr (λ has. h.1 (ap number (same_Some _ _ has.1) ∙ has.2)) ]
+found_or_not (Some a) number n = elim (eqb_tells (number a) n) [ inl h ↦ inl (a, refl, h.1) | inr h ↦ inr (λ has. h.1 (cc (same_Some _ _ has.1))) ]
 
 -- ---- live names
 live_or_not : (es : List Event) (name : Name) → IsLive es name ⊎ (IsLive es name → ⊥)
@@ -86,8 +88,8 @@ room_or_not es name room = elim (live_or_not es name) [
 ]
 
 reason_of : (es : List Event) (name : Name) (why : Why) → ((IsReason es name why → ⊥) → ⊥) → IsReason es name why
-reason_of es name Why.Ended never = elim (leb_tells (ends_in es (address_of name)) name.turn) [ inl h ↦ absurd (never (λ r. let e : ends_in es (address_of name) ≤ name.turn = h.1 in omega arith)) | inr h ↦ h.1 ]
-reason_of es name Why.NoBlock never = (le_of (ends_in es (address_of name)) name.turn (λ h. never (λ r. let e : ends_in es (address_of name) ≤ name.turn = r.0 in omega arith)), λ live. never (λ r. r.1 live))
+reason_of es name Why.Ended never = search (arith, leb_tells)
+reason_of es name Why.NoBlock never = search (arith, le_of)
 reason_of es name (Why.SizeDiffers room) never = (
   le_of (ends_in es (address_of name)) name.turn (λ h. never (λ r. let e : ends_in es (address_of name) ≤ name.turn = r.0 in omega arith)),
   elim (room_or_not es name room) [ inl h ↦ h | inr h ↦ absurd (never (λ r. h r.1)) ],
@@ -115,7 +117,7 @@ admits_of f es (Event.Give k block) never = record {
   whole = equal_of (block.room % 16) 0 (λ h. never Illegal.BadPage (inl (inr (inr h))));
   some = lt_of 0 block.room (λ h. never Illegal.BadPage (inl (inr (inl (omega (arith, h))))));
   bears = λ x has. give_bears f es block.heap (x / 256) (λ h. never Illegal.BadPage (inr (x, has, h))) (λ h. never Illegal.NoDeed (x, has, h)) (λ h. never Illegal.NotBacked (x, has, h));
-  clear = λ a b lives x has. false_from_ne_true (in_run (grain_of block.name) (length_of block) x) (λ h. never Illegal.LivesThere (x, h, record { address = a; live = b; lives = lives; has = has }));
+  clear = λ a b lives x has. false_from_ne_true (in_run (grain_of block.name) (length_of block) x) (λ h. never Illegal.LivesThere (x, h, search arith));
   turn = equal_of block.name.turn (gives_in es (address_of block.name)) (never Illegal.WrongTurn);
 }
 admits_of f es (Event.End k name epoch) never = (place_of f (address_of name) (never Illegal.BadPage), live_of es name (never Illegal.NotLive))
@@ -139,7 +141,7 @@ never_of f es run (Event.Back k page) may Illegal.BackedTwice h = false≢true (
 never_of f es run (Event.Unback k page epoch) may Illegal.BadPage h = not_outside f page may.0 h
 never_of f es run (Event.Unback k page epoch) may Illegal.NotBacked h = false≢true (sym h ∙ may.1)
 never_of f es run (Event.Unback k page epoch) may Illegal.LivesThere h = false≢true (sym (may.2 h.0) ∙ h.1)
-never_of f es run (Event.Unback k page epoch) may Illegal.TooYoung h = let old : epoch_in es page + f.age ≤ epoch = may.3 in let young : epoch < epoch_in es page + f.age = h in omega arith
+never_of f es run (Event.Unback k page epoch) may Illegal.TooYoung h = search arith
 never_of f es run (Event.Give k block) may Illegal.BadPage h = not_no_run f es block may h
 never_of f es run (Event.Give k block) may Illegal.BadHeap h =
     let bears = may.bears (grain_of block.name) (first_grain f es block may) in
@@ -161,6 +163,7 @@ numbered n = if n == 1 then Illegal.BadPage else if n == 2 then Illegal.BadHeap 
     else if n == 5 then Illegal.BackedTwice else if n == 6 then Illegal.NotBacked else if n == 7 then Illegal.LivesThere else if n == 8 then Illegal.TooYoung
     else if n == 9 then Illegal.WrongTurn else if n == 10 then Illegal.NotLive else Illegal.WrongReason
 
+-- Each reason is read back from its number: reason by reason.
 numbers_tell : (reason : Illegal) → numbered (reason_number reason) ≡ reason
 numbers_tell reason = grind arith
 
@@ -200,6 +203,7 @@ inside_never f block is (inr h) = outside h.2
     at : (grain_of block.name ≤ h.0) × (h.0 < grain_of block.name + length_of block)
     at = run_of (grain_of block.name) (length_of block) h.0 h.1
 
+    -- The page of the grain is one of the region.
     outside : IsOutside f (h.0 / 256) → ⊥
     outside (inl low) = omega (arith, low, at.0, is.within.0)
     outside (inr high) = omega (arith, high, at.1, is.within.1)
@@ -236,7 +240,7 @@ ends_are f pages places covered len a p same sized place read es shows =
     let high : a / 4096 ≤ f.pages = place.0.1 in
     let is : p ≡ place_in es (a / 16) = place_is f pages places covered es shows (a / 16) (omega (arith, high)) len same sized p read in
     let at : p ≡ place_with (live_in es a) (gives_in es a) = is ∙ ap (λ n. place_with (live_in es n) (gives_in es n)) (at_place a place.1) in
-    subst (λ (q : Place). (q.lives ≡ true → q.gives - 1 ≡ ends_in es a) × (q.lives ≡ false → q.gives ≡ ends_in es a)) (sym at) (ends_by (live_in es a) (gives_in es a) (ends_in es a) (all_counted f es shows.run a))
+    rw at (ends_by (live_in es a) (gives_in es a) (ends_in es a) (all_counted f es shows.run a))
 
 -- ---- the block of a place
 -- A live block is what its place says: it lives at its own address, and all that were given there before it have ended.
@@ -250,8 +254,8 @@ pub block_is : (f : Profile) (pages : List Page) (places : List Place) (covered 
     → len ≡ length places → len ≡ grains_of f → (p : Place) → p ≡ get_or places (address.0 / 16) p → block_at p address ≡ block_of (live_in es address.0)
 block_is f pages places covered es shows address aligned within len same sized p read =
     let is : p ≡ place_in es (address.0 / 16) = place_is f pages places covered es shows (address.0 / 16) within len same sized p read in
-    let at : p ≡ place_with (live_in es address.0) (gives_in es address.0) = is ∙ ap (λ n. place_with (live_in es n) (gives_in es n)) (at_place address.0 aligned) in
-    ap (λ (q : Place). block_at q address) at ∙ block_by (live_in es address.0) address (gives_in es address.0) (ends_in es address.0) (lives_where f es shows.run address.0) (all_counted f es shows.run address.0)
+    let at : p ≡ place_with (live_in es address.0) (gives_in es address.0) = cc (at_place address.0 aligned) in
+    cc (block_by (live_in es address.0) address (gives_in es address.0) (ends_in es address.0) (lives_where f es shows.run address.0) (all_counted f es shows.run address.0))
 
 live_there : (o : Option Live) (block : Block) → block_of o ≡ Some block → (b : Live) × (o ≡ Some b) × (b.block ≡ block)
 live_there o block h = grind (arith, none-some, same_Some)
@@ -263,7 +267,7 @@ module _ {f : Profile} {pages : List Page} {places : List Place} {covered : List
   found_there : (b : Live) × (live_in es (address_of name) ≡ Some b) × (b.block ≡ block)
   found_there =
       let on : address_of name / 4096 ≤ f.pages = place.0.1 in
-      live_there (live_in es (address_of name)) block (sym (block_is f pages places covered es shows name.address place.1 (omega (arith, on)) len same sized p read) ∙ found)
+      live_there (live_in es (address_of name)) block (cc (block_is f pages places covered es shows name.address place.1 (omega (arith, on)) len same sized p read))
 
   -- A block that was found at a name's place with its turn is the live block of that name.
   pub found_live : block.name.turn ≡ name.turn → IsLiveBlock es name block
@@ -283,14 +287,16 @@ touched_by : (f : Profile) (es : List Event) → Run f es → (page : ℕ) → (
     → touches (live_in es address) page ≡ true → ⊥
 touched_by f es run page never address h = by (live_in es address) refl h
   where
+    -- After the give a grain is covered where it was, or where it is the block's.
     by : (o : Option Live) → live_in es address ≡ o → touches o page ≡ true → ⊥
     by None is t = false≢true t
     by (Some b) is t =
-        let meets : meets_page (address / 16) (length_of b.block) page ≡ true = ap (λ n. meets_page (n / 16) (length_of b.block) page) (sym (lives_where f es run address b is)) ∙ t in
+        let meets : meets_page (address / 16) (length_of b.block) page ≡ true = cc (lives_where f es run address b is) in
         let x = met (address / 16) (length_of b.block) page (live_long f es run address b is) meets in
         let on = x.of_page in
         never x.grain (omega (arith, on)) (omega (arith, on)) (record { address = address; live = b; lives = is; has = x.of_run })
 
+-- The reasons that come before this one don't hold: reason by reason.
 unback_before : (f : Profile) (es : List Event) (k page epoch n : ℕ) → (1 < n → IsOutside f page → ⊥) → (6 < n → backed_in es page ≡ false → ⊥)
     → (7 < n → (a : ℕ) → touches (live_in es a) page ≡ true → ⊥)
     → (8 < n → epoch < epoch_in es page + f.age → ⊥) → (reason : Illegal) → reason_number reason < n → Applies f es (Event.Unback k page epoch) reason → ⊥
@@ -323,11 +329,12 @@ unback_lives f pages places covered es shows k page epoch within p is backed som
       others = unback_before f es k page epoch 7 (λ _. not_outside f page within) (λ _. backed_now es page p is backed) (λ lt. absurd (omega (arith, lt))) (λ lt. absurd (omega (arith, lt)));
     }
 
+-- No live block touches a page without a covered grain.
 untouched : (f : Profile) (pages : List Page) (places : List Place) (covered : List Bool) (es : List Event) → Shows f pages places covered es → (page : ℕ)
     → IsPage f page
     → IsEach (256 * page) (256 * page + 256) (λ x. get_or covered x false ≡ false) → (a : ℕ) → touches (live_in es a) page ≡ true → ⊥
-untouched f pages places covered es shows page within each = touched_by f es shows.run page
-    (λ x low until. let high : page ≤ f.pages = within.1 in uncovered_at es x (get_or covered x false) (shows.covered_are x (omega (arith, high, until))) (each x low until))
+untouched f pages places covered es shows page within each = touched_by f es shows.run page (λ x low until. let high : page ≤ f.pages = within.1 in
+    uncovered_at es x (get_or covered x false) (shows.covered_are x (omega (arith, high, until))) (each x low until))
 
 -- An unback of an empty page at too small an epoch is refused first because it is too young.
 pub unback_young : (f : Profile) (pages : List Page) (places : List Place) (covered : List Bool) (es : List Event) → Shows f pages places covered es
@@ -346,7 +353,8 @@ pub unback_may : (f : Profile) (pages : List Page) (places : List Place) (covere
     → Applies f es (Event.Unback k page epoch) reason → ⊥
 unback_may f pages places covered es shows k page epoch within p is backed each old reason =
     let old' : epoch_in es page + f.age ≤ epoch = subst (λ (q : Page). q.epoch + f.age ≤ epoch) is old in
-    unback_before f es k page epoch 12 (λ _. not_outside f page within) (λ _. backed_now es page p is backed) (λ _. untouched f pages places covered es shows page within each) (λ _ young. omega (arith, old', young)) reason (number_below reason)
+    unback_before f es k page epoch 12 (λ _. not_outside f page within) (λ _. backed_now es page p is backed)
+    (λ _. untouched f pages places covered es shows page within each) (λ _ young. omega (arith, old', young)) reason (number_below reason)
 
 -- ---- gives
 pub give_before : (f : Profile) (es : List Event) (k : ℕ) (block : Block) (n : ℕ) → (1 < n → IsNoRun f block → ⊥) → (2 < n → f.heaps ≤ block.heap → ⊥)
@@ -381,7 +389,7 @@ module _ {f : Profile} {pages : List Page} {places : List Place} {covered : List
   pub each_page : (P : Page → Type 0) → IsEach (first_page block) (until_page block) (λ page. P (get_or pages page blank_page)) → (x : ℕ) → IsGrainOf block x
       → P (page_in es (x / 256))
   each_page P each x has =
-      let on = page_on (grain_of block.name) (length_of block) x has in subst P (shows.pages_are (x / 256) (page_within f block is.within x has).0) (each (x / 256) on.0 on.1)
+      search (arith, page_on, page_within)
 
   -- Where some grain of a block is marked as covered, a live block covers it.
   pub some_lives : IsSome (grain_of block.name) (grain_of block.name + length_of block) (λ x. get_or covered x false ≡ true)
@@ -457,12 +465,13 @@ module _ (f : Profile) (pages : List Page) (places : List Place) (covered : List
   page_made es shows e none new after changed kept now places_same live_same =
       let may : Admits f es e = admits_of f es e none in
       let high : page ≤ f.pages = within.1 in
-      let here : new p ≡ page_in (e ∷ es) page = ap new (page_is f pages places covered es shows page high len same sized p read) ∙ changed page ∙ ap (after page) (sym (eq-eqb page page refl)) ∙ now page in
+      let here : new p ≡ page_in (e ∷ es) page = cc (page_is f pages places covered es shows page high len same sized p read, changed page, eq-eqb page page refl, now page) in
       let others : (q : ℕ) → page ≢ q → page_in es q ≡ page_in (e ∷ es) q = λ q ne. kept q ∙ ap (after q) (sym (ne_eqb page q ne)) ∙ now q in (
         may,
         record {
           run = (may, shows.run);
-          pages_are = λ q h. written pages blank_page page (f.pages + 1) (new p) (page_in es) (page_in (e ∷ es)) (omega (arith, high, same, sized)) (λ j l. shows.pages_are j (omega (arith, l))) here others q (omega (arith, h));
+          pages_are = λ q h. written pages blank_page page (f.pages + 1) (new p) (page_in es) (page_in (e ∷ es)) (omega (arith, high, same, sized))
+              (λ j l. shows.pages_are j (omega (arith, l))) here others q (omega (arith, h));
           places_are = λ g h. shows.places_are g h ∙ places_same g;
           covered_are = λ x h. same_covered es (e ∷ es) x (get_or covered x false) live_same (shows.covered_are x h);
         },
@@ -521,24 +530,24 @@ unmarked covered covered' g n x below above out = elim (leb_tells (g + n) x) [ i
 give_covered : (f : Profile) (es : List Event) → Run f es → (k : ℕ) (block : Block) → MayGive f es block → (x : ℕ) (t : Bool)
     → (in_run (grain_of block.name) (length_of block) x ≡ true → ⊥) → IsCovered es x t
     → IsCovered (Event.Give k block ∷ es) x t
-give_covered f es run k block may x true out c = record { address = c.address; live = c.live; lives = ap (λ t. if t then Some record { actor = k; block = block } else live_in es c.address) (ne_eqb (address_of block.name) c.address other) ∙ c.lives; has = c.has }
+give_covered f es run k block may x true out c = record { address = c.address; live = c.live; lives = cc (ne_eqb (address_of block.name) c.address other); has = c.has }
   where
     other : address_of block.name ≢ c.address
     other e = none-some _ (sym (no_block f es block c.address (live_in es c.address) refl may e (λ b h. live_long f es run c.address b h)) ∙ c.lives)
 give_covered f es run k block may x false out never = λ c. by c (address_of block.name == c.address) refl c.lives
   where
+    -- After the end a grain is covered where it was, and isn't the block's.
     by : (c : Covers (Event.Give k block ∷ es) x) (t : Bool) → (address_of block.name == c.address) ≡ t
         → (if t then Some record { actor = k; block = block } else live_in es c.address) ≡ Some c.live → ⊥
     by c true e is =
-        let same : block ≡ c.live.block = ap (λ (l : Live). l.block) (same_Some _ _ is) in
-        out (ap (λ n. in_run (n / 16) (length_of block) x) (eqb-true (address_of block.name) c.address e) ∙ (ap (λ (b : Block). in_run (c.address / 16) (length_of b) x) same ∙ c.has))
+        search (arith, same_Some, eqb-true)
     by c false e is = never (record { address = c.address; live = c.live; lives = is; has = c.has })
 
 new_cover : (es : List Event) (k : ℕ) (block : Block) (x : ℕ) → in_run (grain_of block.name) (length_of block) x ≡ true → Covers (Event.Give k block ∷ es) x
 new_cover es k block x has = record {
   address = address_of block.name;
   live = record { actor = k; block = block };
-  lives = ap (λ t. if t then Some record { actor = k; block = block } else live_in es (address_of block.name)) (eq-eqb (address_of block.name) (address_of block.name) refl);
+  lives = simp eq-eqb;
   has = has;
 }
 
@@ -560,7 +569,7 @@ give_shows f pages places covered covered' es shows k block may gives is low set
   pages_are = shows.pages_are;
   places_are = place_set f places es (Event.Give k block) (address_of block.name) (record { lives = true; heap = block.heap; room = block.room; gives = gives + 1 })
       (λ g t. place_with (if t then Some record { actor = k; block = block } else live_in es (16 * g)) (if t then gives_in es (16 * g) + 1 else gives_in es (16 * g))) may.aligned low shows.places_are
-      (ap (λ n. record { lives = true; heap = block.heap; room = block.room; gives = n + 1 }) (is ∙ ap (gives_in es) (sym (at_place (address_of block.name) may.aligned)))) (λ g. refl) (λ g. refl);
+      (cc (at_place (address_of block.name) may.aligned)) (λ g. refl) (λ g. refl);
   covered_are = λ x h. by x h (in_run (grain_of block.name) (length_of block) x) refl;
 }
   where
@@ -584,8 +593,8 @@ give_made f pages places covered covered' len first n block p e e' inside same s
     let high = inside.within.1 in
     let long : 0 < length_of block = long_of block inside.whole in (
       may,
-      rw e (give_shows f pages places covered covered' es shows k block may p.gives (gives_are es (address_of block.name) inside.whole.aligned p at) (omega (arith, high, long, same, sized))
-          (rw (e, e') at marked) (rw e at below) (rw (e, e') at above)),
+      rw e (give_shows f pages places covered covered' es shows k block may p.gives (gives_are es (address_of block.name) inside.whole.aligned p at)
+          (omega (arith, high, long, same, sized)) (rw (e, e') at marked) (rw e at below) (rw (e, e') at above)),
     )
 
 -- ---- ends
@@ -601,8 +610,9 @@ over_of g n p high = let last : g + n ≤ 256 * p = omega (arith, high) in grind
 
 touches_of : (f : Profile) (es : List Event) → Run f es → (name : Name) (block : Block) → IsLiveBlock es name block → (p : ℕ)
     → touches (live_in es (address_of name)) p ≡ meets_page (grain_of name) (length_of block) p
-touches_of f es run name block live p = ap (λ o. touches o p) live.1 ∙ (ap (λ n. meets_page (n / 16) (length_of live.0.block) p) (lives_where f es run (address_of name) live.0 live.1) ∙ ap (λ (b : Block). meets_page (grain_of name) (length_of b) p) live.2)
+touches_of f es run name block live p = search (arith, lives_where)
 
+-- A page after an end, whether the block touched it or not.
 ended_page : (es : List Event) (k : ℕ) (name : Name) (epoch p : ℕ) (t : Bool) (q : Page) → touches (live_in es (address_of name)) p ≡ t
     → q ≡ (if t then ended_at epoch (page_in es p) else page_in es p) → q ≡ page_in (Event.End k name epoch ∷ es) p
 ended_page es k name epoch p t q e is = grind arith
@@ -615,14 +625,11 @@ apart_from f es run k name epoch block live x c = by (address_of name == c.addre
     by : (t : Bool) → (address_of name == c.address) ≡ t → (if t then None else live_in es c.address) ≡ Some c.live
         → (in_run (grain_of name) (length_of block) x ≡ true → ⊥) × Covers es x
     by true e is = absurd (none-some _ is)
-    by false e is = (
-      (λ i. false≢true (sym (live_apart f es run c.address (address_of name) c.live live.0 is live.1 (λ same. false≢true (sym e ∙ eq-eqb (address_of name) c.address (sym same))) x c.has) ∙ (ap (λ (b : Block). in_run (grain_of name) (length_of b) x) live.2 ∙ i))),
-      record { address = c.address; live = c.live; lives = is; has = c.has },
-    )
+    by false e is = search (arith, false≢true, live_apart, eq-eqb)
 
 still_covers : (es : List Event) (k : ℕ) (name : Name) (epoch : ℕ) (block : Block) → IsLiveBlock es name block → (x : ℕ)
     → (in_run (grain_of name) (length_of block) x ≡ true → ⊥) → Covers es x → Covers (Event.End k name epoch ∷ es) x
-still_covers es k name epoch block live x out c = record { address = c.address; live = c.live; lives = ap (λ t. if t then None else live_in es c.address) (ne_eqb (address_of name) c.address other) ∙ c.lives; has = c.has }
+still_covers es k name epoch block live x out c = search (arith, ne_eqb)
   where
     other : address_of name ≢ c.address
     other e = search (arith, same_Some)
@@ -647,22 +654,25 @@ end_shows f pages pages' places covered covered' es shows k name epoch place blo
   record {
     run = (may, shows.run);
     pages_are = page;
-    places_are = place_set f places es (Event.End k name epoch) (address_of name) (bare_place p.gives) (λ g t. place_with (if t then None else live_in es (16 * g)) (gives_in es (16 * g)))
-        place.1 low shows.places_are (ap (λ (q : Place). bare_place q.gives) is) (λ g. refl) (λ g. refl);
+    places_are = place_set f places es (Event.End k name epoch) (address_of name) (bare_place p.gives) (λ g t. place_with (if t then None else live_in es
+        (16 * g)) (gives_in es (16 * g))) place.1 low shows.places_are (ap (λ (q : Place). bare_place q.gives) is) (λ g. refl) (λ g. refl);
     covered_are = λ x h. by x h (in_run (grain_of name) (length_of block) x) refl;
   },
 )
   where
+    -- The end may come.
     may : Admits f es (Event.End k name epoch)
     may = (place, (live.0, live.1, ap (λ (b : Block). b.name.turn) live.2 ∙ live.3))
 
+    -- After the end each page of the machine is that of the events.
     page : (q : ℕ) → q ≤ f.pages → get_or pages' q blank_page ≡ page_in (Event.End k name epoch ∷ es) q
     page q within = elim (leb_tells (grain_of name / 256) q) [
       | inl l ↦ elim (leb_tells ((grain_of name + length_of block + 255) / 256) q) [
-        | inl m ↦ ended_page es k name epoch q false (get_or pages' q blank_page) (touches_of f es shows.run name block live q ∙ over_of (grain_of name) (length_of block) q m.1) (pabove q m.1 ∙ shows.pages_are q within)
-        | inr m ↦ ended_page es k name epoch q true (get_or pages' q blank_page) (touches_of f es shows.run name block live q ∙ met_of (grain_of name) (length_of block) q l.1 m.1) (pset q l.1 m.1 ∙ ap (ended_at epoch) (shows.pages_are q within))
+        | inl m ↦ ended_page es k name epoch q false (get_or pages' q blank_page) (touches_of f es shows.run name block live q ∙ over_of (grain_of name) (length_of block) q m.1) (grind arith)
+        | inr m ↦ ended_page es k name epoch q true (get_or pages' q blank_page)
+            (touches_of f es shows.run name block live q ∙ met_of (grain_of name) (length_of block) q l.1 m.1) (cc (pset q l.1 m.1, shows.pages_are q within))
       ]
-      | inr l ↦ ended_page es k name epoch q false (get_or pages' q blank_page) (touches_of f es shows.run name block live q ∙ under_of (grain_of name) (length_of block) q l.1) (pbelow q l.1 ∙ shows.pages_are q within)
+      | inr l ↦ ended_page es k name epoch q false (get_or pages' q blank_page) (touches_of f es shows.run name block live q ∙ under_of (grain_of name) (length_of block) q l.1) (grind arith)
     ]
 
     by : (x : ℕ) → x < grains_of f → (t : Bool) → in_run (grain_of name) (length_of block) x ≡ t

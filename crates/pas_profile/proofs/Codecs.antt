@@ -20,6 +20,7 @@ kind_of-kind_number k h = grind (arith, lt-ltb)
 abbrev Names : ℕ → Kind → Type 0
 Names n k = IsKind k × (kind_number k ≡ n)
 
+-- The kind that a number chooses has that number.
 named : (small bitfit shared large : Bool) (n : ℕ) (k : Kind) → (small ≡ true → n < 20) → (bitfit ≡ true → n ≡ 20) → (shared ≡ true → n ≡ 21)
     → (large ≡ true → n ≡ 22) →
     (if small then Some (Class n) else (if bitfit then Some Bitfit else (if shared then Some Shared else (if large then Some Large else None)))) ≡ Some k → Names n k
@@ -64,23 +65,16 @@ read_by low below heap kind = if low then None else (if below then with_kind hea
 -- The deed word of a directory reads as that directory.
 pub read-deed_word_of : (d : Directory) → IsDirectory d → directory_read (deed_word_of d) ≡ Some d
 read-deed_word_of d h =
-    let w = deed_word_of d in
-    let n : kind_number d.kind < 23 = kind_number_lt d.kind h.kind in
-    let below : ltb w 73728 ≡ true = lt-ltb w 73728 (omega (arith, n, h.heap)) in
-    let q : (w - 65536) / 256 ≡ d.heap = omega (arith, n) in
-    let r : w % 256 ≡ kind_number d.kind = omega (arith, n) in
-    ap (λ b. read_by b (ltb w 73728) ((w - 65536) / 256) (w % 256)) (le-ltb w 65536 (omega arith))
-    ∙ ap (λ b. read_by false b ((w - 65536) / 256) (w % 256)) below
-    ∙ ap (λ i. read_by false true i (w % 256)) q
-    ∙ ap (λ i. read_by false true d.heap i) r
-    ∙ ap (λ o. with_kind d.heap o) (kind_of-kind_number d.kind h.kind)
+    search (arith, kind_number_lt, ltb, lt-ltb, le-ltb, kind_of-kind_number)
 
 abbrev Records : ℕ → Directory → Type 0
 Records w d = IsDirectory d × (w ≡ deed_word_of d)
 
+-- A directory that is read has the kind and the heap that were read.
 with_kind_is : (heap : ℕ) (o : Option Kind) (d : Directory) → with_kind heap o ≡ Some d → (k : Kind) × (o ≡ Some k) × (d.heap ≡ heap) × (d.kind ≡ k)
 with_kind_is heap o d e = grind arith
 
+-- A deed word that is read as a directory records it.
 recorded : (low below : Bool) (w : ℕ) (d : Directory) → (low ≡ false → 65536 ≤ w) → (below ≡ true → w < 73728)
     → read_by low below ((w - 65536) / 256) (w % 256) ≡ Some d → Records w d
 recorded low b w d p q e = grind (arith, with_kind_is, kind_named)

@@ -15,6 +15,7 @@ word_from kind i j =
     if kind == 0 then Word.Epoch else (if kind == 1 then Word.Free j i else (if kind == 2 then Word.Life j i else (if kind == 3 then Word.Deed j else (
     if kind == 4 then Word.Backed j else (if kind == 5 then Word.Stamp j else (if kind == 6 then Word.Parked j else (if kind == 7 then Word.Empty j else Word.Eligible i j)))))))
 
+-- Each word is read back from its numbers: kind by kind.
 from_numbers : (w : Word) → word_from (word_kind w) (word_minor w) (word_major w) ≡ w
 from_numbers s = grind arith
 

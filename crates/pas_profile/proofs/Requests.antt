@@ -4,7 +4,7 @@ use Rattle.pas_profile.specs.{Directories.IsKind, Directories.IsKindAmong, Profi
 use Rattle.pas_profile.specs.{Requests.directory_for}
 use Rattle.pas_profile.specs.Routes.{route_of, room_by, room_of, IsRouteOf, IsRoomFor}
 use Rattle.pas_profile.specs.declared.{directory.Route.Route, profile.Profile.Profile}
-use Rattle.pas_profile.proofs.ClassFacts.{route_is, class_known, class_size_whole}
+use Rattle.pas_profile.proofs.Sizes.{route_is, class_known, class_size_whole}
 
 -- ---- rooms
 pub room_routed : (classes size align : ℕ) (route : Route) → route_of classes size align ≡ route → room_by route (max size 1) ≡ room_of classes size align

@@ -61,7 +61,7 @@ pub fn turns_are_read(turn: u64)
 
 /// The route is the smallest class of the region that is large enough and a multiple of the alignment. Where there is none it is a
 /// bit-fit page up to 2,048 bytes, and whole pages above.
-#[tactic(auto, using(crate::proofs::ClassFacts::route_is))]
+#[tactic(auto, using(crate::proofs::Sizes::route_is))]
 pub fn routes_are_smallest(classes: u8, size: u32, align: u32)
     requires { IsAlignment align }
     ensures { IsRouteOf classes size align (route_of classes size align) }

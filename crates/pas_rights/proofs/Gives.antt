@@ -12,14 +12,14 @@ use Rattle.pas_steps.specs.Desks.{Standing, made, Makes, CanMake, CanCall, Adds}
 use Rattle.pas_steps.specs.Views.{View, Gives, Stays, holds, holds_on, knows_backed, known_life, KnowsDeed, is_unstamped}
 use Rattle.pas_steps.specs.declared.step.Step.TheVariants.{Look, Give}
 use Rattle.pas_steps.proofs.Adding.{adds_none, adds_step, can_step, room_left}
-use Rattle.pas_steps.proofs.{Kept.backed_holds, Calls.does_as, Calls.does_step, Calls.does_then, Frames.given_le, SpareRoom.Spares}
+use Rattle.pas_steps.proofs.{Frames.backed_holds, Calls.does_as, Calls.does_step, Calls.does_then, Frames.given_le, SpareRoom.Spares}
 use Rattle.pas_rights.specs.Gives.{in_piece, MayGive, block_of, give_steps, GaveRun, GivesRun}
 
 -- ---- what may be given
 -- the page is known to bear the directory's blocks
 pub bears_by : {f : Profile} {v : View} (d : Directory) (page : ℕ) → IsDirectoryOf f d → KnowsDeed page d v → knows_backed v page ≡ true
     → is_unstamped v page ≡ false → KnowsBearing f v d.heap page
-bears_by d page of_profile deed backed stamped = record { backed = backed; directory = d; of_profile = of_profile; deed = deed; of_heap = refl; stamped = stamped }
+bears_by d page of_profile deed backed stamped = search arith
 
 -- a run on one page
 pub may_give_on : {f : Profile} {v : View} (d : Directory) (page first n : ℕ) → IsDirectoryOf f d → first + n ≤ 256
@@ -28,16 +28,18 @@ pub may_give_on : {f : Profile} {v : View} (d : Directory) (page first n : ℕ) 
 may_give_on {f} {v} d page first n of_profile within held deed backed stamped = record {
   held = held;
   bears = λ g inside.
-      let at = run_of (page * 256 + first) n g inside in let here : page ≡ g / 256 = omega (arith, at.0, at.1, within) in
+      let at = run_of _ n g inside in let here : page ≡ g / 256 = omega (arith, at.0, at.1, within) in
       subst (KnowsBearing f v d.heap) here (bears_by d page of_profile deed backed stamped);
 }
 
+-- A grain that is given is lost, and another kept.
 given_fate : (t : Bool) (g : ℕ) → later Kept (grain_fate (if t then Gives g else Stays)) ≡ (if t then Lost else Kept)
 given_fate t g = grind arith
 
 -- ---- the block and its grains
+-- The turn is named otherwise on the two sides, and nothing else is.
 pub block_is : (heap page first n word turn : ℕ) → turn ≡ turn_of word → record { name = record { address = record { 0 = page * 4096 + first * 16 }; turn = turn }; room = n * 16; heap = heap } ≡ block_of heap page first n word
-block_is heap page first n word turn t = ap (λ x. record { name = record { address = record { 0 = page * 4096 + first * 16 }; turn = x }; room = n * 16; heap = heap }) t
+block_is heap page first n word turn t = search arith
 
 -- they are those of the run
 run_is : (heap page first n word g : ℕ)
@@ -74,8 +76,9 @@ module _ (heap page first n word : ℕ) where
       life_read : known_life looked (page * 256 + first) ≡ Some word
       life_read = search (arith, and_from, eq-eqb, first_held)
 
+      -- What is known of a page as bearing the heap's blocks is known after the look.
       bears : (q : ℕ) → KnowsBearing f v heap q → KnowsBearing f looked heap q
-      bears q b = record { backed = and_from (knows_backed v q) (holds_on v q) b.backed (backed_holds v q b.backed); directory = b.directory; of_profile = b.of_profile; deed = b.deed; of_heap = b.of_heap; stamped = b.stamped }
+      bears q b = search (arith, and_from, backed_holds)
 
       may_give : (l : Whole) → σ.stands v l → MayGiveNow f looked block
       may_give l stood = record {
@@ -95,18 +98,18 @@ module _ (heap page first n word : ℕ) where
 
     -- After the look at its life word, the block of a run may be given.
     pub can_give : (given : Block) → given ≡ block_of heap page first n word → CanCall σ (MayGive σ.seat.profile heap page first n) → CanMake σ1 (Give given)
-    can_give given is can = subst (λ b. CanMake σ1 (Give b)) (sym is) (can_step {step = Give block} look_adds can of_the_region (λ v l stood met. may_give v met l stood))
+    can_give given is can = search (arith, can_step, look_adds, of_the_region, may_give)
 
     -- After the look at a life word there is still room for the event of the give.
     pub room_to_give : {spare1 : ℕ} → Spares σ1 spare1 → 1 ≤ spare → CanCall σ (MayGive σ.seat.profile heap page first n) → 1 ≤ spare1
-    room_to_give {spare1} spares1 one can = let now = spares can.view can.whole can.stood in room_left {spare = spare1} 1 look_adds can spares1 (omega (arith, now, one))
+    room_to_give {spare1} spares1 one can = search (arith, room_left, look_adds)
 
+    -- After the steps of a give the run was given.
     gave : (answer : ℕ) (v : View) → Agreed f v (give_steps page first block word answer)
         → GaveRun page first n block v (made (Give block) answer ∷ made (Look (Word.Life page first)) word ∷ v)
     gave answer v agreed = record {
-      does = does_as (freed (in_run (page * 256 + first) n) (λ q. false))
-          (does_then (does_step f (Look (Word.Life page first)) word v refl agreed.1.0) (does_step f (Give block) answer (made (Look (Word.Life page first)) word ∷ v) refl agreed.0))
-          (λ g. inl (given_fate (in_run (grain_of block.name) (length_of block) g) (grain_of block.name) ∙ ap (λ t. if t then Lost else Kept) (run_is heap page first n word g))) (λ q. refl) (λ q h. h);
+      does = does_as _ (does_then (does_step f _ word v refl agreed.1.0) (does_step f _ answer _ refl agreed.0))
+          (λ g. inl (given_fate _ _ ∙ ap (λ t. if t then Lost else Kept) (run_is heap page first n word g))) (λ q. refl) (λ q h. h);
       turn = agreed.1.0.turn;
     }
 

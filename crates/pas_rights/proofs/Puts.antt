@@ -1,28 +1,47 @@
 -- The grains of a mask of one page, put back word by word.
 use Rattle.std.proofs.Common.{◌≡◌, ◌≢◌, ℕ, zero, suc, ◌<◌, ◌+◌, ◌/◌, ◌%◌, ◌≤◌, ◌==◌, nat_lt, Bool, true, false, ◌&&◌, ◌||◌, List, [], ◌∷◌, ◌++◌, length}
-use Rattle.std.proofs.Common.{slice_index, inl, inr, refl, ap, sym, ◌∙◌, subst, arith, append_assoc, true≢false, eqb-true, ne_eqb, lt-ltb, le-ltb}
-use Rattle.std.proofs.lemmas.Bool.{cases_eq, and_parts, and_right, Decides.nat_tests}
-use Rattle.pas_bits.specs.{Bits.has_bit, Masks.is_set, Masks.HasMember}
+use Rattle.std.proofs.Common.{slice_index, inl, inr, refl, ap, sym, ◌∙◌, subst, arith, append_assoc, true≢false, eqb-true, ne_eqb, lt-ltb, le-ltb, ◌*◌}
+use Rattle.std.proofs.Common.{if◌then◌else◌, add-one, append-nil, Option, length-append, MatchBool}
+use Rattle.std.proofs.lemmas.Bool.{cases_eq, and_parts, and_right, and_from, and_left, or_right, or_from, false_from_ne_true}
+use Rattle.std.proofs.{lemmas.Bool.Decides.nat_tests, Math.Bool.and_comm}
+use Rattle.pas_bits.specs.{Bits.has_bit, Masks.is_set, Masks.HasMember, Masks.IsEmpty}
 use Rattle.pas_bits.specs.declared.mask.Mask4.{Mask4}
-use Rattle.pas_bits.proofs.Words.{none_of_zero}
-use Rattle.pas_steps.specs.{Calls.Calls, Calls.Does, Calls.put, Effects.in_mask, Frames.IsOnPage, Frames.OnlyOn, InTurn.numbers_below, Desks.Standing}
-use Rattle.pas_steps.specs.{Past.Once, Past.Always}
-use Rattle.pas_steps.specs.Kinds.{Putting, Only, is_in, kind_of}
-use Rattle.pas_steps.specs.Views.{View, Move, Puts, grain_move, held_after, holds}
-use Rattle.pas_steps.specs.declared.step.Made.{Made}
-use Rattle.pas_steps.proofs.{Apart.unstamped_same, Called.call_then, Called.call_as, Calls.does_none, Sets.put_both, Sets.put_as, Sets.put_nothing}
-use Rattle.pas_steps.proofs.Past.{in_turn_always, in_turn_length, once_earlier, once_later}
+use Rattle.pas_bits.proofs.Words.{none_of_zero, full_bit, at_word}
+use Rattle.pas_steps.specs.Calls.{Calls, Does, put, Kept, Gained, grain_fate, Fate, Lost, later, ClearAfter}
+use Rattle.pas_steps.specs.{Effects.in_mask, InTurn.numbers_below, Desks.Standing, Desks.made, Desks.CanCall, Past.Once, Past.Always, Past.Since}
+use Rattle.pas_steps.specs.{Agreement.Agreed, Agreement.AgreesFree, Clear.IsClearOn}
+use Rattle.pas_steps.specs.Frames.{IsOnPage, OnlyOn, KeepsRight, GivesUp}
+use Rattle.pas_steps.specs.Kinds.{Putting, Only, is_in, kind_of, Taking, Kinds, LookFree, LookBacked, Unparking, Hinting, returning, place_of, apart}
+use Rattle.pas_steps.specs.Views.{View, Move, Puts, grain_move, held_after, holds, Gets, Stays, has_right, known_free, KnowsDeed}
+use Rattle.pas_steps.specs.declared.step.{Made.Made, Step.TheVariants.Take, Step.TheVariants.Look, Step.TheVariants.Offer}
+use Rattle.pas_steps.proofs.Apart.{unstamped_same, rights_same, only_both, only_within, holds_same, examines_same, in_apart}
+use Rattle.pas_steps.proofs.Called.{call_then, call_as, call_none, call_knows, next_call}
+use Rattle.pas_steps.proofs.{Adding.agreed_first, Adding.agreed_later, Adding.adds_under, Flags.ap_if, Frames.returns_on}
+use Rattle.pas_steps.proofs.Calls.{does_none, does_then, does_as, does_step, kept_first, returns_are}
+use Rattle.pas_steps.proofs.Sets.{put_both, put_as, put_nothing, both_fates, same_truth, kept_kept}
+use Rattle.pas_steps.proofs.Past.{in_turn_always, in_turn_length, once_earlier, once_later, always_both, always_map}
 use Rattle.pas_rights.specs.Puts.{masked, MayPut, WordPut, PutsBelow, PutsHere, MayPutWord, PutsWord, PutsMask}
-use Rattle.pas_rights.specs.PutsBack.{GivesDuly}
+use Rattle.pas_rights.specs.PutsBack.{GivesDuly, giving_back, MayPutAndReturn, given_back, PutsAndReturns, MayPutAndLeave, put_and_left, PutsAndLeaves}
+use Rattle.pas_rights.specs.PutsBack.{BackSteps}
+use Rattle.pas_rights.specs.Words.{words, ones}
+use Rattle.pas_rights.specs.Leaves.{MayLeave, Leaves, ReoffersWhere, EndsLeave, LeaveSteps}
+use Rattle.pas_rights.specs.Looks.{looks_until, is_free, HintsWhere, looks, IsAllFree, HasUsed, HintSteps, ReadsAllFree, TakesNone}
+use Rattle.pas_profile.specs.declared.{profile.Profile.Profile, directory.Directory.Directory, word.Word.Word}
+use Rattle.pas_steps.specs.Evidence.{Readings, ReadsFree, ShowsHere, KeptHere}
+use Rattle.pas_rights.specs.Takes.{word_take, takes, taken, GetsGrains, TakesMask}
+use Rattle.pas_rights.proofs.Orders.{each_always, each_few, each_agreed, keeps_by, words_read, bit_of, or_none, looks_held, leave_lacks, until_only, looks_only}
+use Rattle.pas_rights.specs.Returns.{ReofferSteps, ReturnSteps, Settles, Returned}
+use Rattle.pas_rights.specs.declared.reading.Used.{Used}
 
 -- ---- one word
 pub none_in : (page word mask g : ℕ) → mask ≡ 0 → in_mask page word mask g ≡ false
-none_in page word mask g z = and_right ((word == g / 64 % 4) && (page == g / 256)) (has_bit mask (g % 64)) (ap (λ m. has_bit m (g % 64)) z ∙ none_of_zero (g % 64))
+none_in page word mask g z = and_right ((word == g / 64 % 4) && (page == g / 256)) (has_bit mask (g % 64)) (ap (λ m. has_bit m (g % 64)) z ∙ none_of_zero _)
 
 -- A word without grains to put leaves the view as it is.
 pub word_none : (page word mask : ℕ) (v : View) → mask ≡ 0 → Does (put (in_mask page word mask) page) v v
 word_none page word mask v z = put_nothing (in_mask page word mask) page (does_none v) (λ g. none_in page word mask g z)
 
+-- A put of a word, or none, is a put.
 word_kind : (page word mask : ℕ) (steps : List Made) → WordPut page word mask steps → Only (Putting ∷ []) steps
 word_kind page word mask steps e = grind arith
 
@@ -30,6 +49,7 @@ word_on : (page word mask : ℕ) (steps : List Made) → WordPut page word mask 
 word_on page word mask steps (inl none) = subst (OnlyOn page) (sym none.1) tt
 word_on page word mask steps (inr some) = subst (OnlyOn page) (sym some.2) (IsOnPage.Puts word mask, tt)
 
+-- It is one step at most.
 word_few : (page word mask : ℕ) (steps : List Made) → WordPut page word mask steps → length steps ≤ 1
 word_few page word mask steps e = grind arith
 
@@ -43,7 +63,7 @@ behind s t u v same = grind arith
 
 -- A grain is in a word of a mask exactly where the mask has it and the word is its own.
 pub in_word : (page : ℕ) (mask : Mask4) (n g : ℕ) → in_mask page n (slice_index mask.0 n) g ≡ ((n == g / 64 % 4) && masked page mask g)
-in_word page mask n g = behind (n == g / 64 % 4) (page == g / 256) (has_bit (slice_index mask.0 n) (g % 64)) (is_set mask (g % 256)) (λ e.
+in_word page mask n g = behind _ _ _ _ (λ e.
     let word : n ≡ g % 256 / 64 = omega (arith, eqb-true n (g / 64 % 4) e) in
     let bit : g % 64 ≡ g % 256 % 64 = omega arith in
     ap (λ w. has_bit (slice_index mask.0 w) (g % 64)) word ∙ ap (has_bit (slice_index mask.0 (g % 256 / 64))) bit)
@@ -52,6 +72,7 @@ in_word page mask n g = behind (n == g / 64 % 4) (page == g / 256) (has_bit (sli
 pub next_word : (w n : ℕ) → nat_lt w (n + 1) ≡ (nat_lt w n || (n == w))
 next_word w n = grind (arith, nat_tests)
 
+-- What holds holds again.
 or_same : (m t : Bool) → (m || (t && m)) ≡ m
 or_same m t = grind arith
 
@@ -61,7 +82,7 @@ shared s t m = grind (arith, or_same)
 
 below_more : (page : ℕ) (mask : Mask4) (n g : ℕ) → (masked_below page mask n g || in_mask page n (slice_index mask.0 n) g) ≡ masked_below page mask (n + 1) g
 below_more page mask n g =
-    ap (λ t. masked_below page mask n g || t) (in_word page mask n g) ∙ shared (nat_lt (g / 64 % 4) n) (n == g / 64 % 4) (masked page mask g) ∙ ap (λ t. t && masked page mask g) (sym (next_word (g / 64 % 4) n))
+    search (arith, in_word, shared, next_word)
 
 none_below : (page : ℕ) (mask : Mask4) (g : ℕ) → masked_below page mask 0 g ≡ false
 none_below page mask g = ap (λ t. t && masked page mask g) (le-ltb (g / 64 % 4) 0 (omega arith))
@@ -71,14 +92,14 @@ all_below page mask g = ap (λ t. t && masked page mask g) (lt-ltb (g / 64 % 4) 
 
 -- The puts of the words of a mask are puts alone.
 pub puts_kinds : (page : ℕ) (mask : Mask4) (n : ℕ) (steps : List Made) → PutsBelow page mask n steps → Only (Putting ∷ []) steps
-puts_kinds page mask n = in_turn_always (λ word piece. WordPut page word (slice_index mask.0 word) piece) (λ m. is_in (Putting ∷ []) (kind_of m.step) ≡ true) (λ word. word_kind page word (slice_index mask.0 word)) (numbers_below n)
+puts_kinds page mask n = in_turn_always (λ word piece. WordPut page word (slice_index mask.0 word) piece) (λ m. is_in (Putting ∷ []) (kind_of m.step) ≡ true) (λ word. word_kind page word _) _
 
 puts_on : (page : ℕ) (mask : Mask4) (n : ℕ) (steps : List Made) → PutsBelow page mask n steps → OnlyOn page steps
-puts_on page mask n = in_turn_always (λ word piece. WordPut page word (slice_index mask.0 word) piece) (λ m. IsOnPage page m.step) (λ word. word_on page word (slice_index mask.0 word)) (numbers_below n)
+puts_on page mask n = in_turn_always (λ word piece. WordPut page word (slice_index mask.0 word) piece) (λ m. IsOnPage page m.step) (λ word. word_on page word _) _
 
 -- The puts of a mask are at most four.
 pub puts_few : (page : ℕ) (mask : Mask4) (steps : List Made) → PutsBelow page mask 4 steps → length steps ≤ 4
-puts_few page mask = in_turn_length (λ word piece. WordPut page word (slice_index mask.0 word) piece) 1 (λ word. word_few page word (slice_index mask.0 word)) (numbers_below 4)
+puts_few page mask = in_turn_length (λ word piece. WordPut page word (slice_index mask.0 word) piece) 1 (λ word. word_few page word _) (numbers_below 4)
 
 -- a word of the mask that has any grains is put
 word_made : (page word mask : ℕ) (steps : List Made) → WordPut page word mask steps → mask ≢ 0 → Once (PutsHere page) steps
@@ -88,15 +109,15 @@ made_below : (page : ℕ) (mask : Mask4) (n w : ℕ) (steps : List Made) → Put
     → Once (PutsHere page) steps
 made_below page mask zero w steps h lt some = absurd (omega (arith, lt))
 made_below page mask (suc n) w steps h lt some = subst (Once (PutsHere page)) (sym h.4) (elim (cases_eq w n) [
-  | inl e ↦ once_earlier (PutsHere page) (PutsHere page) h.0 h.1 (λ m before put. put) (word_made page n (slice_index mask.0 n) h.0 h.2 (subst (λ k. slice_index mask.0 k ≢ 0) e some))
-  | inr ne ↦ once_later (PutsHere page) h.0 h.1 (made_below page mask n w h.1 h.3 (omega (arith, lt, ne)) some)
+  | inl e ↦ once_earlier _ _ h.0 h.1 (λ m before put. put) (word_made page n _ h.0 h.2 (subst (λ k. slice_index mask.0 k ≢ 0) e some))
+  | inr ne ↦ once_later _ h.0 h.1 (made_below page mask n w h.1 h.3 (omega (arith, lt, ne)) some)
 ])
 
 -- A mask with a grain makes some put on the page.
 pub some_put : (page : ℕ) (mask : Mask4) (steps : List Made) → PutsBelow page mask 4 steps → HasMember mask → Once (PutsHere page) steps
 some_put page mask steps h some =
     let b = some.0 in let lt = some.1 in
-    made_below page mask 4 (b / 64) steps h (omega (arith, lt)) (λ none. true≢false (sym some.2 ∙ ap (λ m. has_bit m (b % 64)) none ∙ none_of_zero (b % 64)))
+    made_below page mask 4 _ steps h (omega (arith, lt)) (λ none. true≢false (sym some.2 ∙ ap (λ m. has_bit m (b % 64)) none ∙ none_of_zero _))
 
 -- ---- what is put was held
 -- what steps hold they hold whatever stood before
@@ -115,7 +136,7 @@ StillHeld page mask n steps = ((g : ℕ) → masked page mask g ≡ true → n �
 word_held : (page : ℕ) (mask : Mask4) (n : ℕ) (xs : List Made) → StillHeld page mask n xs → (g : ℕ) → in_mask page n (slice_index mask.0 n) g ≡ true
     → holds xs g ≡ true
 word_held page mask n xs h g here =
-    let at = and_parts (n == g / 64 % 4) (masked page mask g) (sym (in_word page mask n g) ∙ here) in let e : n ≡ g / 64 % 4 = eqb-true n (g / 64 % 4) at.0 in h.0 g at.1 (omega (arith, e))
+    search (arith, and_parts, in_word, eqb-true)
 
 word_taken : (page : ℕ) (mask : Mask4) (n : ℕ) (piece xs : List Made) → WordPut page n (slice_index mask.0 n) piece → StillHeld page mask n xs
     → StillHeld page mask (suc n) (piece ++ xs)
@@ -125,7 +146,7 @@ puts_below : (page : ℕ) (mask : Mask4) (xs : List Made) → ((g : ℕ) → mas
     → (n : ℕ) (steps : List Made) → PutsBelow page mask n steps → StillHeld page mask n (steps ++ xs)
 puts_below page mask xs held all zero steps h = subst (λ s. StillHeld page mask 0 (s ++ xs)) (sym h) ((λ g is le. held g is), all)
 puts_below page mask xs held all (suc n) steps h =
-    subst (StillHeld page mask (suc n)) (sym (ap (λ s. s ++ xs) h.4 ∙ append_assoc h.0 h.1 xs)) (word_taken page mask n h.0 (h.1 ++ xs) h.2 (puts_below page mask xs held all n h.1 h.3))
+    let rest = puts_below page mask xs held all n h.1 h.3 in grind (arith, rest, append_assoc, word_taken)
 
 -- Puts of grains that the call holds give duly.
 pub puts_due : (page : ℕ) (mask : Mask4) (steps xs : List Made) → PutsBelow page mask 4 steps → ((g : ℕ) → masked page mask g ≡ true → holds xs g ≡ true)
@@ -155,9 +176,449 @@ pub puts_all : {σ σ1 : Standing} (page : ℕ) (mask : Mask4) (steps : List Mad
     → Calls σ σ1 (MayPut page mask) (Does (put (masked_below page mask 4) page)) steps → PutsMask page mask σ σ1
 puts_all page mask steps order calls = record {
   steps = steps;
-  calls = call_as (Does (put (masked page mask) page)) calls (λ v met. met) (λ v w met d. put_as (masked_below page mask 4) (masked page mask) page d (all_below page mask));
+  calls = call_as _ calls (λ v met. met) (λ v w met d. put_as _ _ page d (all_below page mask));
   order = order;
   kinds = puts_kinds page mask 4 steps order;
   on = puts_on page mask 4 steps order;
   few = puts_few page mask steps order;
 }
+
+-- ==== Grains of one page, taken word by word.
+
+-- ---- the steps
+word_always : (P : Made → Type 0) (t : Bool) (m : Made) → P m → Always (λ m before. P m) (if t then [] else m ∷ [])
+word_always P t m p = grind arith
+
+-- A take is one step at most.
+take_few : (t : Bool) (m : Made) → length (if t then [] else m ∷ []) ≤ 1
+take_few t m = grind arith
+
+-- what a grain that is got does to whether it is held
+gets : (t had : Bool) → held_after (if t then Gets else Stays) had ≡ (t || had)
+gets t had = grind arith
+
+-- Of three tests, in another order.
+or_move : (a b h : Bool) → (a || (b || h)) ≡ ((b || a) || h)
+or_move a b h = grind arith
+
+-- Where the first holds, the others may be put for one another.
+one_test : (s p u a u' a' : Bool) → (s ≡ true → u ≡ u') → (s ≡ true → a ≡ a') → (((s && p) && u) && a) ≡ (s && (p && (u' && a')))
+one_test s p u a u' a' f g = grind arith
+
+-- the grain is got by the take of this word
+abbrev got_word : ℕ → ℕ → ℕ → ℕ → ℕ → Bool
+got_word page word mask a g = in_mask page word mask g && has_bit a (g % 64)
+
+-- the grain is of the page, in its word's mask, and was read as free; and its word is below n
+abbrev got_in : ℕ → (ℕ → ℕ) → (ℕ → ℕ) → ℕ → Bool
+got_in page masks answers g = (page == g / 256) && (has_bit (masks (g / 64 % 4)) (g % 64) && has_bit (answers (g / 64 % 4)) (g % 64))
+
+abbrev pub got_below : ℕ → (ℕ → ℕ) → (ℕ → ℕ) → ℕ → ℕ → Bool
+got_below page masks answers n g = nat_lt (g / 64 % 4) n && got_in page masks answers g
+
+-- ---- one word
+module _ (page word mask a : ℕ) where
+  abbrev one : Bool → List Made
+  one t = if t then [] else made (Take page word mask) a ∷ []
+
+  word_holds : (t : Bool) (g : ℕ) (v : View) → (mask == 0) ≡ t → holds (one t ++ v) g ≡ (got_word page word mask a g || holds v g)
+  word_holds t g v e = grind (arith, none_in, eqb-true, gets)
+
+  word_does : (f : Profile) (t : Bool) (v : View) → (mask == 0) ≡ t → Agreed f v (one t) → Does (taken (got_word page word mask a)) v (one t ++ v)
+  word_does f true v e agreed = search (arith, does_as, does_none, none_in, eqb-true)
+  word_does f false v e agreed = does_as _ (does_step f _ a v refl agreed.0) (λ g. inl (ap_if grain_fate (got_word page word mask a g) Gets Stays)) (λ q. refl) (λ q h. h)
+
+  word_agrees : (f : Profile) (t : Bool) (v : View) → (mask == 0) ≡ t → mask ≢ 0 → Agreed f v (one t) → AgreesFree v page word a
+  word_agrees f t v e some agreed = grind (arith, eqb-true)
+
+  word_known : (t : Bool) (g : ℕ) (v : View) → word ≢ g / 64 % 4 → known_free (one t ++ v) g ≡ known_free v g
+  word_known t g v ne = grind (arith, ne_eqb)
+
+  word_shows : (t : Bool) (r : Readings) (v : View) → (mask == 0) ≡ t → mask ≢ 0 → has_right v page ≡ true
+      → ((b : ℕ) → b < 64 → r (64 * word + b) ≡ has_bit a b) → ((b : ℕ) → b < 64 → holds v (page * 256 + (64 * word + b)) ≡ false)
+      → Since (ShowsHere page word r) (KeptHere page) (one t ++ v)
+  word_shows true r v e some right bits none = absurd (some (eqb-true mask 0 e))
+  word_shows false r v e some right bits none = inl (ReadsFree.Takes mask, right, λ b lt. bits b lt ∙ or_none (has_bit a b) _ (none b lt))
+
+-- ---- the words below n
+module _ (page : ℕ) (masks answers : ℕ → ℕ) where
+  abbrev piece : ℕ → List Made
+  piece word = word_take page word (masks word) (answers word)
+
+  -- What is so of each take of a word is so of the takes of a page.
+  pub takes_always : (P : Made → Type 0) → ((word : ℕ) → P (made (Take page word (masks word)) (answers word))) → (n : ℕ)
+      → Always (λ m before. P m) (takes page masks answers n)
+  takes_always P each = each_always P (λ word. word_take page word (masks word) (answers word)) (λ word. word_always P _ _ (each word))
+
+  -- The takes of a page are takes alone.
+  pub takes_only : (n : ℕ) → Only (Taking ∷ []) (takes page masks answers n)
+  takes_only = takes_always (λ m. is_in (Taking ∷ []) (kind_of m.step) ≡ true) (λ word. refl)
+
+  -- The takes of a page are on that page.
+  pub takes_on : (n : ℕ) → OnlyOn page (takes page masks answers n)
+  takes_on = takes_always (λ m. IsOnPage page m.step) (λ word. IsOnPage.Takes word (masks word))
+
+  -- The takes of a page keep its right.
+  pub takes_keep : (n : ℕ) → KeepsRight page (takes page masks answers n)
+  takes_keep n = keeps_by page (Taking ∷ []) (takes page masks answers n) refl (takes_only n)
+
+  -- The takes of n words are at most n.
+  pub takes_few : (n : ℕ) → length (takes page masks answers n) ≤ n
+  takes_few = each_few (λ word. word_take page word (masks word) (answers word)) (λ word. take_few _ _)
+
+  -- An actor that has a page's right has it after takes.
+  pub takes_right : (n : ℕ) (v : View) → has_right v page ≡ true → has_right (takes page masks answers n ++ v) page ≡ true
+  takes_right n v right = rights_same (Taking ∷ []) refl page (takes page masks answers n) v (takes_only n) ∙ right
+
+  got_more : (n g : ℕ) → (got_below page masks answers n g || got_word page n (masks n) (answers n) g) ≡ got_below page masks answers (suc n) g
+  got_more n g = ap (λ t. got_below page masks answers n g || t)
+      (one_test (n == g / 64 % 4) (page == g / 256) (has_bit (masks n) (g % 64)) (has_bit (answers n) (g % 64)) (has_bit (masks (g / 64 % 4)) (g % 64)) _
+      (λ e. ap (λ w. has_bit (masks w) (g % 64)) (eqb-true n _ e)) (λ e. ap (λ w. has_bit (answers w) (g % 64)) (eqb-true n _ e)))
+      ∙ shared (nat_lt (g / 64 % 4) n) (n == g / 64 % 4) (got_in page masks answers g) ∙ ap (λ t. t && got_in page masks answers g) (sym (next_word _ n) ∙ ap (nat_lt (g / 64 % 4)) (add-one n))
+
+  none_got_below : (g : ℕ) → got_below page masks answers 0 g ≡ false
+  none_got_below g = ap (λ t. t && got_in page masks answers g) (le-ltb (g / 64 % 4) 0 (omega arith))
+
+  -- a grain is held after them that was got, or was held before
+  pub takes_hold : (n g : ℕ) (v : View) → holds (takes page masks answers n ++ v) g ≡ (got_below page masks answers n g || holds v g)
+  takes_hold zero g v = ap (λ t. t || holds v g) (sym (none_got_below g))
+  takes_hold (suc n) g v =
+      let rest = takes_hold n g v in grind (arith, rest, append_assoc, word_holds, or_move, got_more)
+
+  takes_do : (f : Profile) (n : ℕ) (v : View) → Agreed f v (takes page masks answers n)
+      → Does (taken (got_below page masks answers n)) v (takes page masks answers n ++ v)
+  takes_do f zero v agreed = does_as _ (does_none v) (λ g. inl (ap (λ t. if t then Gained else Kept) (sym (none_got_below g)))) (λ q. refl) (λ q h. h)
+  takes_do f (suc n) v agreed = let before = takes page masks answers n in
+      subst (Does (taken (got_below page masks answers (suc n))) v) (sym (append_assoc _ before v)) (does_as _
+      (does_then (takes_do f n v (agreed_later f v _ before agreed)) (word_does page n _ _ f _ _ refl (agreed_first f v _ before agreed)))
+      (λ g. inl (both_fates Gained _ _ _ refl (got_more n g))) (λ q. refl) (λ q h. h))
+
+  known_takes : (n g : ℕ) (v : View) → n ≤ g / 64 % 4 → known_free (takes page masks answers n ++ v) g ≡ known_free v g
+  known_takes zero g v le = refl
+  known_takes (suc n) g v le = let rest = known_takes n g v (omega (arith, le)) in grind (arith, rest, append_assoc, word_known)
+
+  module _ (f : Profile) (n : ℕ) (v : View) (agreed : Agreed f v (takes page masks answers n)) (g : ℕ) (at : g / 256 ≡ page) (lt : g / 64 % 4 < n)
+      (some : masks (g / 64 % 4) ≢ 0) where
+    abbrev w : ℕ
+    w = g / 64 % 4
+
+    agrees_here : AgreesFree (takes page masks answers w ++ v) page w (answers w)
+    agrees_here = word_agrees page w (masks w) (answers w) f (masks w == 0) (takes page masks answers w ++ v) refl some (each_agreed f piece n w v lt agreed)
+
+    -- a grain that is held was read as not free, and one that is known as free as free
+    pub takes_held : holds v g ≡ true → has_bit (answers (g / 64 % 4)) (g % 64) ≡ false
+    takes_held held = agrees_here.held g at refl (takes_hold w g v ∙ or_right (got_below page masks answers w g) (holds v g) held)
+
+    -- A grain that its actor knows to be free was free in its word's take.
+    pub takes_free : known_free v g ≡ true → has_bit (answers (g / 64 % 4)) (g % 64) ≡ true
+    takes_free known = agrees_here.free g at refl (known_takes w g v (omega arith) ∙ known)
+
+  -- what they show, after steps that have the right of the page and hold none of its grains
+  pub takes_read : (r : Readings) → ((word b : ℕ) → b < 64 → r (64 * word + b) ≡ has_bit (answers word) b) → (before : List Made) → has_right before page ≡ true
+      → ((g : ℕ) → g / 256 ≡ page → holds before g ≡ false)
+      → (n word : ℕ) → word < n → word < 4 → masks word ≢ 0 → Since (ShowsHere page word r) (KeptHere page) (takes page masks answers n ++ before)
+  takes_read r bits before right none n word lt small some = words_read _ page piece
+      (λ w. keeps_by page (Taking ∷ []) _ refl (word_always (λ m. is_in (Taking ∷ []) (kind_of m.step) ≡ true) _ _ refl)) before right n word lt
+      (word_shows page word _ _ _ r _ refl some (rights_same (Taking ∷ []) refl page _ before (takes_only word) ∙ right) (bits word) (λ b hb.
+      let g = page * 256 + (64 * word + b) in
+      takes_hold word g before ∙ or_from _ _ (and_left (nat_lt (g / 64 % 4) word) (got_in page masks answers g) (le-ltb _ word (omega (arith, small, hb)))) (none g (omega (arith, small, hb)))))
+
+-- ---- the grains of a mask
+module _ (page : ℕ) (mask answers got : Mask4) (got_is : (g : ℕ) → is_set got g ≡ (is_set answers g && is_set mask g)) where
+  -- a word that has a grain of the mask
+  some_of : (g : ℕ) → is_set mask (g % 256) ≡ true → words mask (g / 64 % 4) ≢ 0
+  some_of g set z = true≢false (sym set ∙ sym (bit_of mask (g / 64 % 4) g refl) ∙ ap (λ n. has_bit n (g % 64)) z ∙ none_of_zero (g % 64))
+
+  got_all : (g : ℕ) → got_below page (words mask) (words answers) 4 g ≡ masked page got g
+  got_all g = search (arith, lt-ltb, and_comm, bit_of)
+
+  -- a grain that wasn't got is held as before
+  pub takes_leave : (g : ℕ) (v : View) → masked page got g ≡ false → holds (takes page (words mask) (words answers) 4 ++ v) g ≡ holds v g
+  takes_leave g v none = takes_hold page (words mask) (words answers) 4 g v ∙ ap (λ t. t || holds v g) (got_all g ∙ none)
+
+  -- and one that was got is held by these steps alone
+  pub takes_got : (g : ℕ) → masked page got g ≡ true → holds (takes page (words mask) (words answers) 4) g ≡ true
+  takes_got g is = ap (λ s. holds s g) (sym (append-nil (takes page (words mask) (words answers) 4))) ∙ takes_hold page (words mask) (words answers) 4 g [] ∙ ap (λ t. t || false) (got_all g ∙ is)
+
+  -- Takes of a mask get just those of its grains that were read as free.
+  pub takes_get : (f : Profile) (v : View) → Agreed f v (takes page (words mask) (words answers) 4)
+      → GetsGrains (masked page got) v (takes page (words mask) (words answers) 4 ++ v)
+  takes_get f v agreed = record {
+    does = does_as _ (takes_do page (words mask) (words answers) f 4 v agreed) (λ g. inl (ap (λ t. if t then Gained else Kept) (got_all g))) (λ q. refl) (λ q h. h);
+    apart = λ g here.
+        let at = and_parts (page == g / 256) (is_set got (g % 256)) here in let both = and_parts _ (is_set mask (g % 256)) (sym (got_is (g % 256)) ∙ at.1) in
+        false_from_ne_true _ (λ held. true≢false (sym both.0 ∙ sym (bit_of answers _ g refl)
+        ∙ takes_held page (words mask) (words answers) f 4 v agreed g (sym (eqb-true page _ at.0)) (omega arith) (some_of g both.1) held));
+  }
+
+  -- all of the mask is got that is known as free
+  takes_all : (f : Profile) (v : View) → Agreed f v (takes page (words mask) (words answers) 4) → ((g : ℕ) → masked page mask g ≡ true → known_free v g ≡ true)
+      → (g : ℕ) → masked page got g ≡ masked page mask g
+  takes_all f v agreed known g = same_truth _ _ (λ here. let at = and_parts (page == g / 256) (is_set got (g % 256)) here in
+      and_from _ _ at.0 (and_parts (is_set answers (g % 256)) (is_set mask (g % 256)) (sym (got_is (g % 256)) ∙ at.1)).1)
+      (λ here. let at = and_parts (page == g / 256) (is_set mask (g % 256)) here in
+      and_from _ _ at.0 (got_is (g % 256) ∙ and_from _ _
+      (sym (bit_of answers _ g refl) ∙ takes_free page (words mask) (words answers) f 4 v agreed g (sym (eqb-true page _ at.0)) (omega arith) (some_of g at.1) (known g here)) at.1))
+
+-- ---- grains that are known as free
+pub record MayTakeAll (page : ℕ) (mask : Mask4) (v : View) : Type 0 where
+  pub right : has_right v page ≡ true
+  pub free : (g : ℕ) → masked page mask g ≡ true → known_free v g ≡ true
+
+-- Takes of a mask whose grains are known to be free get all of them.
+pub takes_known : {σ σ1 : Standing} (page : ℕ) (mask got : Mask4) (took : TakesMask page mask σ σ1 got)
+    → Calls σ σ1 (MayTakeAll page mask) (Does (taken (masked page mask))) (takes page (words mask) (words took.answers) 4)
+takes_known {σ} page mask got took = record {
+  adds = adds_under took.calls.adds (λ v l stood met. met.right);
+  leads = record {
+    from = λ v met agreed.
+        does_as _ (took.calls.leads.from v met.right agreed).does (λ g. inl (ap (λ t. if t then Gained else Kept) (takes_all page mask took.answers got took.got_is _ v agreed met.free g))) (λ q. refl) (λ q h. h);
+  };
+}
+
+-- ==== Grains of a page are put back, and what follows that; and its right meanwhile.
+
+-- ---- what follows puts keeps a right
+abbrev settling : Kinds
+settling = LookFree ∷ LookBacked ∷ Unparking ∷ Hinting ∷ []
+
+-- A hint, or none, settles what is owed.
+hints_settle : (page : ℕ) (all_free : Bool) (steps : List Made) → HintsWhere all_free page steps → Only settling steps
+hints_settle page all_free steps h = grind arith
+
+-- the parked bit of a page whose right the actor has is read as 0
+unparks_only : (f : Profile) (page : ℕ) (d : Directory) (steps : List Made) (v : View) → ReofferSteps page d steps → Agreed f v steps → has_right v page ≡ true
+    → Only settling steps
+unparks_only f page d steps v e agreed right = grind (arith, true≢false)
+
+return_keeps : (f : Profile) (page : ℕ) (d : Directory) (steps : List Made) (v : View) → ReturnSteps page d steps → Agreed f v steps → has_right v page ≡ true
+    → KeepsRight page steps
+return_keeps f page d steps v h agreed right =
+    let looked = looks_until page h.used in
+    let all : Agreed f v (h.after ++ (looked ++ h.first)) = subst (Agreed f v) h.steps_are agreed in
+    let first : Agreed f v h.first = agreed_later f v looked h.first (agreed_later f v h.after _ all) in
+    keeps_by page settling steps refl (subst (Only settling) (sym h.steps_are) (only_both settling h.after _ (hints_settle page _ h.after h.hints)
+    (only_both settling looked h.first (only_within (LookFree ∷ []) settling looked refl (until_only page h.used)) (unparks_only f page d h.first v h.reoffers first right))))
+
+-- where a grain of the page is held its free words aren't all ones, so the page isn't hinted either
+abbrev pub unparking : Kinds
+unparking = LookFree ∷ Unparking ∷ []
+
+unparks_alone : (f : Profile) (page : ℕ) (d : Directory) (steps : List Made) (v : View) → ReofferSteps page d steps → Agreed f v steps → has_right v page ≡ true
+    → Only unparking steps
+unparks_alone f page d steps v e agreed right = grind (arith, true≢false)
+
+hints_not : (f : Profile) (page g : ℕ) (used : Option Used) (v : View) (after : List Made) → HintsWhere (is_free used) page after
+    → Agreed f v (looks_until page used) → g / 256 ≡ page → holds v g ≡ true → Only unparking after
+hints_not f page g used v after h agreed at held = grind (arith, true≢false, full_bit, looks_held)
+
+-- A return of a page all of whose grains its actor holds only takes it back from the parked ones.
+pub return_holds : (f : Profile) (page : ℕ) (d : Directory) (steps : List Made) (v : View) → ReturnSteps page d steps → Agreed f v steps
+    → has_right v page ≡ true → (g : ℕ) → g / 256 ≡ page → holds v g ≡ true → Only unparking steps
+return_holds f page d steps v h agreed right g at held =
+    let looked = looks_until page h.used in
+    let all : Agreed f v (h.after ++ (looked ++ h.first)) = subst (Agreed f v) h.steps_are agreed in
+    let before : Agreed f v (looked ++ h.first) = agreed_later f v h.after _ all in
+    let first : Only unparking h.first = unparks_alone f page d h.first v h.reoffers (agreed_later f v looked h.first before) right in
+    let after : Only unparking h.after = hints_not f page g h.used _ _ h.hints (agreed_first f v looked _ before) at (holds_same unparking refl g _ v first ∙ held) in
+    subst (Only unparking) (sym h.steps_are) (only_both unparking h.after _ after (only_both unparking looked h.first (only_within (LookFree ∷ []) unparking looked refl (until_only page h.used)) first))
+
+-- ---- the page is clear again where it was
+clear_again : (t : Bool) (q : ℕ) (v u : View) → (t ≡ true → IsClearOn q v → IsClearOn q u)
+    → ClearAfter (later (if t then Lost else Kept) (if t then Kept else Kept)) q v u → IsClearOn q v → IsClearOn q u
+clear_again t q v u again h = grind arith
+
+-- a mask that has none
+none_masked : (page : ℕ) (mask : Mask4) (g : ℕ) → IsEmpty mask → masked page mask g ≡ false
+none_masked page mask g empty = and_right (page == g / 256) (is_set mask (g % 256)) (empty (g % 256) (omega arith))
+
+-- steps that follow puts, on the same page
+both_on : (page : ℕ) (ys xs : List Made) → OnlyOn page ys → OnlyOn page xs → OnlyOn page (ys ++ xs)
+both_on page ys xs = always_both (λ m before. IsOnPage page m.step) (λ m before. IsOnPage page m.step) ys xs (λ m before h. h)
+
+-- An empty mask is put back without a step.
+pub puts_nothing : {σ : Standing} (page : ℕ) (d : Directory) (mask : Mask4) → IsEmpty mask → PutsAndReturns page d mask σ σ
+puts_nothing page d mask empty = record {
+  steps = [];
+  calls = call_none (λ v met. does_as _ (does_none v) (λ g. inl (ap (λ t. if t then Lost else Kept) (sym (none_masked page mask g empty)))) (λ q. refl) (λ q h. h));
+  order = inl (empty, refl);
+  kinds = tt;
+  on = tt;
+  few = omega arith;
+  keeps = λ v agreed right. tt;
+}
+
+module _ {σ σ1 : Standing} (page : ℕ) (d : Directory) (mask : Mask4) (puts : PutsMask page mask σ σ1) where
+  -- ---- the puts, for a caller that knows the deed
+  put_call : {B : View → Type 0} → ((v : View) → B v → MayPut page mask v) → ((v : View) → B v → KnowsDeed page d v)
+      → Calls σ σ1 B (λ v w. Does (put (masked page mask) page) v w × KnowsDeed page d w) puts.steps
+  put_call may knows = call_knows page d (call_as (Does (put (masked page mask) page)) puts.calls may (λ v w met does. does)) knows
+
+  -- what settles the page then has it clear again
+  settled : {r : Fate} (v w : View) → Settles page r (puts.steps ++ v) w → IsClearOn page v → IsClearOn page w
+  settled v w settles clear =
+      search (arith, unstamped_same, examines_same)
+
+  clear_after : {r : Fate} (v u : View) → Settles page r (puts.steps ++ v) u → (q : ℕ)
+      → ClearAfter (later (if page == q then Lost else Kept) (if page == q then Kept else Kept)) q v u → IsClearOn q v → IsClearOn q u
+  clear_after v u settles q = clear_again (page == q) q v u (λ e. subst (λ p. IsClearOn p v → IsClearOn p u) (eqb-true page q e) (settled v u settles))
+
+  only_back : (ys : List Made) → Only returning ys → Only giving_back (ys ++ puts.steps)
+  only_back ys only = search (arith, only_both, only_within)
+
+  -- ---- and what follows every put
+  return_call : Calls σ σ1 (MayPutAndReturn page d mask) (λ v w. Does (put (masked page mask) page) v w × KnowsDeed page d w) puts.steps
+  return_call = put_call (λ v met. met.puts) (λ v met. met.deed)
+
+  -- After its grains were put back, what follows puts may be done.
+  pub may_return : CanCall σ (MayPutAndReturn page d mask) → CanCall σ1 (KnowsDeed page d)
+  may_return can = next_call return_call can (λ v met after. after.1)
+
+  module _ {σ2 : Standing} (ret : Returned page d σ1 σ2) where
+    keeps_right : (v : View) → Agreed σ.seat.profile v (ret.steps ++ puts.steps) → has_right v page ≡ true → KeepsRight page (ret.steps ++ puts.steps)
+    keeps_right v agreed right = always_both (λ m before. GivesUp page m.step → ⊥) (λ m before. GivesUp page m.step → ⊥) ret.steps puts.steps (λ m before h. h)
+        (return_keeps _ page d ret.steps (puts.steps ++ v) ret.order (agreed_first _ v ret.steps puts.steps agreed) (rights_same (Putting ∷ []) refl page puts.steps v puts.kinds ∙ right))
+        (keeps_by page (Putting ∷ []) puts.steps refl puts.kinds)
+
+    -- A put and what follows it give the grains back, and keep the right where it was.
+    pub returned_call : Calls σ σ2 (MayPutAndReturn page d mask) (Does (given_back (masked page mask))) (ret.steps ++ puts.steps)
+    returned_call = call_then _ return_call ret.calls (λ v met after. after.1)
+        (λ v met a b. does_as _ (does_then a.0 b.does) (λ g. inl refl) (λ q. kept_kept _) (clear_after v (ret.steps ++ (puts.steps ++ v)) b))
+
+    -- A mask with a grain was put back, and what follows done.
+    pub puts_some : HasMember mask → PutsAndReturns page d mask σ σ2
+    puts_some some = record {
+      steps = ret.steps ++ puts.steps;
+      calls = returned_call;
+      order = inr (some, puts.steps, ret.steps, puts.order, ret.order, refl);
+      kinds = only_back ret.steps (returns_are page ret.steps ret.returns);
+      on = both_on page ret.steps puts.steps (returns_on page ret.steps ret.returns) puts.on;
+      few = let all = length-append ret.steps puts.steps in omega (arith, all, ret.few, puts.few);
+      keeps = keeps_right;
+    }
+
+  -- ---- and the page is left
+  leave_call : Calls σ σ1 (MayPutAndLeave page d (masked page mask)) (λ v w. Does (put (masked page mask) page) v w × KnowsDeed page d w) puts.steps
+  leave_call = put_call (λ v met. record { held = met.held; stamped = met.clear.stamped }) (λ v met. met.deed)
+
+  may_leave : (v : View) → MayPutAndLeave page d (masked page mask) v
+      → Does (put (masked page mask) page) v (puts.steps ++ v) × KnowsDeed page d (puts.steps ++ v) → MayLeave page d (puts.steps ++ v)
+  may_leave v met after = record { right = after.0.right page ∙ met.right; deed = after.1 }
+
+  -- After its grains were put back, the page may be left.
+  pub can_leave : CanCall σ (MayPutAndLeave page d (masked page mask)) → CanCall σ1 (MayLeave page d)
+  can_leave can = next_call leave_call can may_leave
+
+  -- A mask that was put back, and a leave, put back and leave the page.
+  pub puts_and_leaves : {σ2 : Standing} → Leaves page d σ1 σ2 → PutsAndLeaves page d mask σ σ2
+  puts_and_leaves left = record {
+    puts = puts.steps;
+    after = left.steps;
+    calls = call_then _ leave_call left.calls may_leave (λ v met a b. does_as _ (does_then a.0 b.does) (λ g. inl refl)
+        (λ q. kept_first (if page == q then Lost else Kept)) (clear_after v (left.steps ++ (puts.steps ++ v)) b));
+    on = both_on page left.steps puts.steps (returns_on page left.steps left.returns) puts.on;
+    kinds = only_back left.steps (returns_are page left.steps left.returns);
+    few = let all = length-append left.steps puts.steps in omega (arith, all, left.few, puts.few);
+    put_order = puts.order;
+    order = left.order;
+    left = left.left;
+    lacks = λ before. ap (λ s. has_right s page) (append_assoc left.steps puts.steps before) ∙ leave_lacks page d left.steps (puts.steps ++ before) left.order;
+  }
+
+-- A page is hinted only after looks that read it as backed, and each of its grains as free; and grains are put only after they were taken.
+-- ---- steps of two calls
+read_earlier : (P Q : Made → Type 0) (ys xs : List Made) → Since (λ m before. P m) (λ m before. Q m) ys → Since (λ m before. P m) (λ m before. Q m) (ys ++ xs)
+read_earlier P Q [] xs h = absurd h
+read_earlier P Q (y ∷ ys) xs (inl h) = inl h
+read_earlier P Q (y ∷ ys) xs (inr h) = inr (h.0, read_earlier P Q ys xs h.1)
+
+-- A step that gives duly does so after more steps before the call.
+pub due_later : (m : Made) (before xs : List Made) → GivesDuly m before → GivesDuly m (before ++ xs)
+due_later m before xs h = (
+  λ page is. let e = h.0 page is in record {
+    backed = read_earlier (λ n. (n.step ≡ Look (Word.Backed page)) × (n.answer ≡ 1)) (λ n. TakesNone page n []) before xs e.backed;
+    free = λ word lt. read_earlier (λ n. ReadsAllFree page word n []) (λ n. TakesNone page n []) before xs (e.free word lt);
+  },
+  λ page word mask g same here. holds_more g before xs (h.1 page word mask g same here),
+)
+
+-- Two lists of steps that give duly do so together.
+pub due_both : (ys xs : List Made) → Always GivesDuly ys → Always GivesDuly xs → Always GivesDuly (ys ++ xs)
+due_both ys xs = always_both GivesDuly GivesDuly ys xs (λ m before h. due_later m before xs h)
+
+-- steps of other kinds hint and put nothing
+abbrev pub giving : Kinds
+giving = Putting ∷ Hinting ∷ []
+
+due_step : (m : Made) (before : List Made) → is_in giving (kind_of m.step) ≡ false → GivesDuly m before
+due_step m before other = search (arith, true≢false)
+
+-- Steps of kinds that neither hint nor put give duly.
+pub due_none : (ks : Kinds) (steps : List Made) → apart ks giving ≡ true → Only ks steps → Always GivesDuly steps
+due_none ks steps out = search (arith, always_map, due_step, in_apart)
+
+-- ---- the looks before a hint
+all_read : (page : ℕ) (answers : ℕ → ℕ) (n word : ℕ) → word < n → ((b : ℕ) → b < 64 → has_bit (answers word) b ≡ true)
+    → Since (ReadsAllFree page word) (TakesNone page) (looks page answers n)
+all_read page answers zero word lt all = absurd (omega (arith, lt))
+all_read page answers (suc n) word lt all = elim (cases_eq word n) [
+  | inl e ↦ inl (ap (λ w. Look (Word.Free page w)) (sym e), λ b small. ap (λ w. has_bit (answers w) b) (sym e) ∙ all b small)
+  | inr ne ↦ inr ((λ w mask same. cc), all_read page answers n word (omega (arith, lt, ne)) all)
+]
+
+hint_after : (page : ℕ) (steps xs : List Made) → HintSteps page steps → ((word : ℕ) → word < 4 → Since (ReadsAllFree page word) (TakesNone page) xs)
+    → Always GivesDuly xs → Always GivesDuly (steps ++ xs)
+hint_after page steps xs e read rest = grind (arith, due_step)
+
+hints_where : (all_free : Bool) (page : ℕ) (steps xs : List Made) → HintsWhere all_free page steps
+    → (all_free ≡ true → (word : ℕ) → word < 4 → Since (ReadsAllFree page word) (TakesNone page) xs) → Always GivesDuly xs → Always GivesDuly (steps ++ xs)
+hints_where all_free page steps xs h read rest = grind (arith, hint_after)
+
+-- ---- what follows puts
+reoffer_due : (page : ℕ) (d : Directory) (steps : List Made) → ReofferSteps page d steps → Always GivesDuly steps
+reoffer_due page d steps e = grind (arith, due_step)
+
+until_read : (page : ℕ) (used : Option Used) → is_free used ≡ true → (xs : List Made) (word : ℕ) → word < 4
+    → Since (ReadsAllFree page word) (TakesNone page) (looks_until page used ++ xs)
+until_read page used free xs word lt = grind (arith, read_earlier, all_read, full_bit, true≢false)
+
+return_due : (page : ℕ) (d : Directory) (steps : List Made) → ReturnSteps page d steps → Always GivesDuly steps
+return_due page d steps h =
+    let before = looks_until page h.used ++ h.first in
+    let rest = due_both _ h.first (due_none (LookFree ∷ []) _ refl (until_only page h.used)) (reoffer_due page d h.first h.reoffers) in
+    subst (Always GivesDuly) (sym h.steps_are) (hints_where _ page h.after before h.hints (λ free. until_read page h.used free h.first) rest)
+
+-- ---- a leave
+free_word : (all_free : Bool) (free : Mask4) → MatchBool all_free (IsAllFree free) (HasUsed free) → all_free ≡ true → (word : ℕ) → word < 4 → (b : ℕ) → b < 64
+    → has_bit (words free word) b ≡ true
+free_word true free all is word lt b small = sym (at_word free word b small) ∙ all (64 * word + b) (omega (arith, lt, small))
+free_word false free all is word lt b small = absurd (true≢false (sym is))
+
+reoffers_due : (usable : Bool) (page : ℕ) (d : Directory) (steps : List Made) → ReoffersWhere usable page d steps → Always GivesDuly steps
+reoffers_due usable page d steps h = grind (arith, reoffer_due)
+
+looks_due : (page : ℕ) (answers : ℕ → ℕ) → Always GivesDuly (looks page answers 4)
+looks_due page answers = due_none (LookFree ∷ []) (looks page answers 4) refl (looks_only page answers 4)
+
+end_due : (usable : Bool) (page : ℕ) (d : Directory) (all_free : Bool) (free : Mask4) (after : List Made) → MatchBool all_free (IsAllFree free) (HasUsed free)
+    → EndsLeave usable page d all_free after → Always GivesDuly (after ++ looks page (words free) 4)
+end_due a page d all_free free after all h = search (arith, append_assoc, hints_where, all_read, free_word, due_step, looks_due, due_both, reoffers_due)
+
+-- The steps of a leave give duly.
+pub leave_due : (page : ℕ) (d : Directory) (steps : List Made) → LeaveSteps page d steps → Always GivesDuly steps
+leave_due page d steps h = subst (Always GivesDuly) (sym h.steps_are) (end_due h.usable page d h.all_free h.free h.after h.all_free_is h.ends)
+
+-- grains that are held are put back, and what follows that
+module _ (page : ℕ) (d : Directory) (mask : Mask4) (xs : List Made) (held : (g : ℕ) → masked page mask g ≡ true → holds xs g ≡ true) (all : Always GivesDuly xs)
+  where
+    put_first : (after puts : List Made) → Always GivesDuly after → PutsBelow page mask 4 puts → Always GivesDuly ((after ++ puts) ++ xs)
+    put_first after puts due order = search (arith, append_assoc, due_both, puts_due)
+
+    -- Grains that the call holds are put back, and the page left, duly.
+    pub put_and_leave_due : {σ σ' : Standing} (h : PutsAndLeaves page d mask σ σ') → Always GivesDuly ((h.after ++ h.puts) ++ xs)
+    put_and_leave_due h = put_first h.after h.puts (leave_due page d h.after h.order) h.put_order
+
+    -- Grains that the call holds are put back, with what follows, duly.
+    pub back_due : (steps : List Made) → BackSteps page d mask steps → Always GivesDuly (steps ++ xs)
+    back_due steps (inl h) = subst (λ s. Always GivesDuly (s ++ xs)) (sym h.1) all
+    back_due steps (inr h) = subst (λ s. Always GivesDuly (s ++ xs)) (sym h.5) (put_first h.2 h.1 (return_due page d h.2 h.4) h.3)

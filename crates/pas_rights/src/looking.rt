@@ -10,7 +10,7 @@ use pas_profile::{Directory, Kind, Word, slot_mask};
 use pas_steps::Desk;
 
 /// The grains of a page that blocks of its directory may cover.
-#[tactic(auto, using(crate::proofs::Looks::full_mask))]
+#[tactic(auto, using(crate::proofs::Orders::full_mask))]
 fn usable_mask(kind: Kind) -> Mask4
     requires { IsKind kind }
     ensures { (g : ℕ) → g < 256 → is_set result g ≡ usable_by_kind kind g }

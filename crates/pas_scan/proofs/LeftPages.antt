@@ -65,14 +65,14 @@ one_before d p xs alone m before h = (h.0, h.1, right_own p before xs alone.righ
 pub usable_before : (d : Directory) (p : ℕ) (ys xs : List Made) → LeftAlone p xs → ReadUsable d p ys → ReadUsable d p (ys ++ xs)
 usable_before d p ys xs alone (inl bare) = inl (once_earlier (NoDeedHere p) (NoDeedHere p) ys xs (λ m before h. h) bare)
 usable_before d p ys xs alone (inr whole) = inr record {
-  of = once_earlier (OfHere d p) (OfHere d p) ys xs (λ m before h. h) whole.of;
-  offered = once_earlier (OneHere d p) (OneHere d p) ys xs (one_before d p xs alone) whole.offered;
-  free = λ w lt. once_earlier (WholeHere p w) (WholeHere p w) ys xs (λ m before h. (h.0, free_before p w m.answer before xs alone lt h.1)) (whole.free w lt);
+  of = once_earlier _ _ ys xs (λ m before h. h) whole.of;
+  offered = once_earlier _ _ ys xs (one_before d p xs alone) whole.offered;
+  free = λ w lt. once_earlier _ _ ys xs (λ m before h. (h.0, free_before p w _ before xs alone lt h.1)) (whole.free w lt);
 }
 
 fresh_before : (d : Directory) (p : ℕ) (ys xs : List Made) → LeftAlone p xs → IsFresh d p ys → IsFresh d p (ys ++ xs)
 fresh_before d p ys xs alone (inl none) = inl (always_both (ParksNotHere p) (ParksNotHere p) ys xs (λ m before h. h) none alone.parks)
-fresh_before d p ys xs alone (inr since) = inr (since_earlier (OneHere d p) (ParksNotHere p) (OneHere d p) (ParksNotHere p) ys xs (one_before d p xs alone) (λ m before h. h) since)
+fresh_before d p ys xs alone (inr since) = inr (since_earlier _ _ _ _ ys xs (one_before d p xs alone) (λ m before h. h) since)
 
 -- A step that reads a page as not usable does so behind steps that left it alone.
 pub unusable_here : (d : Directory) (p : ℕ) (xs : List Made) → LeftAlone p xs → (m : Made) (before : List Made) → UnusableHere d p m before
@@ -80,9 +80,9 @@ pub unusable_here : (d : Directory) (p : ℕ) (xs : List Made) → LeftAlone p x
 unusable_here d p xs alone m before (inl other) = inl other
 unusable_here d p xs alone m before (inr (inl zero_read)) = inr (inl (
   ((zero_read.0.0.0, zero_read.0.0.1, right_own p before xs alone.right ∙ zero_read.0.0.2), fresh_before d p before xs alone zero_read.0.1),
-  once_earlier (OfHere d p) (OfHere d p) before xs (λ m before h. h) zero_read.1,
+  once_earlier _ _ before xs (λ m before h. h) zero_read.1,
 ))
-unusable_here d p xs alone m before (inr (inr used)) = inr (inr (used.0, used.1, used.2, λ free. used.3 (free_after p used.0 m.answer before xs alone used.1 free)))
+unusable_here d p xs alone m before (inr (inr used)) = inr (inr (used.0, used.1, used.2, λ free. used.3 (free_after p used.0 _ before xs alone used.1 free)))
 
 -- A page that was once read as not usable is so read behind steps that left it alone.
 pub unusable_before : (d : Directory) (p : ℕ) (ys xs : List Made) → LeftAlone p xs → Once (UnusableHere d p) ys → Once (UnusableHere d p) (ys ++ xs)
@@ -189,11 +189,11 @@ free_here page word m before h = (
 
 used_not_free : (page word a : ℕ) (before : List Made) → a < 2 ^ 64 → a ≢ all_ones → ((b : ℕ) → b < 64 → holds before (page * 256 + (64 * word + b)) ≡ false)
     → IsAllFree page word a before → ⊥
-used_not_free page word a before small ne none free = ne (all_set a small (λ b lt. sym (or-false (has_bit a b)) ∙ ap (λ t. has_bit a b || t) (sym (none b lt)) ∙ free b lt))
+used_not_free page word a before small ne none free = ne (all_set a small (λ b lt. sym (or-false _) ∙ ap (λ t. has_bit a b || t) (sym (none b lt)) ∙ free b lt))
 
 used_once : (page : ℕ) (ys : List Made) → Only page_looks ys → Once (UsedLookHere page) ys → Once (UsedHere page) ys
 used_once page [] are h = absurd h
-used_once page (m ∷ ys) are (inl h) = inl (h.0, h.1, subst (ReadsFree page h.0) (sym h.2) ReadsFree.Looks, used_not_free page h.0 m.answer ys h.4 h.3 (λ b lt. holds_none_by page_looks refl (page * 256 + (64 * h.0 + b)) ys are.1))
+used_once page (m ∷ ys) are (inl h) = inl (h.0, h.1, subst (ReadsFree page h.0) (sym h.2) ReadsFree.Looks, used_not_free page h.0 _ ys h.4 h.3 (λ b lt. holds_none_by page_looks refl _ ys are.1))
 used_once page (m ∷ ys) are (inr h) = inr (used_once page ys are.1 h)
 
 -- ---- one page: a look at its deed word, one at its eligible word, and looks at its free words
@@ -233,13 +233,13 @@ offered_free : (d : Directory) (page a e : ℕ) (free : Bool) (ys : List Made) �
     → MatchBool free ((w : ℕ) → w < 4 → Once (FreeLookHere page w) ys) (Once (UsedLookHere page) ys)
     → MatchBool free (ReadUsable d page (ys ++ two_looks d page a e)) (Once (UnusableHere d page) (ys ++ two_looks d page a e))
 offered_free d page a e false ys are is bit used =
-    once_map (UsedHere page) (UnusableHere d page) (ys ++ two_looks d page a e) (λ m before u. inr (inr u)) (used_once page (ys ++ two_looks d page a e) (all_looks d page a e ys are) (once_earlier (UsedLookHere page) (UsedLookHere page) ys (two_looks d page a e) (λ m before h. h) used))
+    once_map _ _ _ (λ m before u. inr (inr u)) (used_once page _ (all_looks d page a e ys are) (once_earlier _ _ ys _ (λ m before h. h) used))
 offered_free d page a e true ys are is bit free =
     let base = two_looks d page a e in
     inr record {
-      of = once_later (OfHere d page) ys base (inr (of_deed d page a is));
-      offered = once_later (OneHere d page) ys base (inl (ReadsEligible.Looks (number_of d) (page / 64) refl refl, bit, refl));
-      free = λ w lt. once_map (FreeLookHere page w) (WholeHere page w) (ys ++ base) (free_here page w) (once_earlier (FreeLookHere page w) (FreeLookHere page w) ys base (λ m before h. h) (free w lt));
+      of = once_later _ ys base (inr (of_deed d page a is));
+      offered = once_later _ ys base (inl (ReadsEligible.Looks (number_of d) (page / 64) refl refl, bit, refl));
+      free = λ w lt. once_map _ _ _ (free_here page w) (once_earlier _ _ ys base (λ m before h. h) (free w lt));
     }
 
 -- ---- the looks at free words, one more

@@ -1,4 +1,2 @@
-mod EligibleRows
 pub mod Reading
-pub mod Judging
 pub mod LeftPages

@@ -13,8 +13,7 @@ use Rattle.pas_shared.specs.declared.{bench.Member.Member, rule.Entry.Entry, rul
 use Rattle.pas_shared.specs.Ruled.{Names, Holds, steps_of, among, made_in, HasRow, rows_in, row_with, with_made, only, only_this, leaver_of, alone, isnt}
 use Rattle.pas_shared.specs.Ruled.{row_of_only, left_of, picked_of, all_actors, IsEmptyBench, IsRowOf, AreRowsOf, SettlesAll}
 use Rattle.pas_shared.specs.Benches.{empty_row, SitsInRow, StandsOver}
-use Rattle.pas_shared.proofs.Pasts.{part_both}
-use Rattle.pas_shared.proofs.Ruling.{Fits, entries_for, entries_same, enter, learns, split_by, split_one}
+use Rattle.pas_shared.proofs.Ruling.{part_both, Fits, entries_for, entries_same, enter, learns, split_by, split_one}
 
 -- ---- a bench on which nobody sits
 empty_row_of : (l : Whole) → IsRowOf empty_row l
@@ -39,6 +38,7 @@ pub among_picked : (test : ℕ → Bool) (ns : List ℕ) (k : ℕ) → among ns 
 among_picked test [] k h its = absurd (true≢false (sym h))
 among_picked test (n ∷ ns) k h its = let again = among_picked test ns k in grind (arith, eqb-true, again)
 
+-- Where a test's contrary passes, it fails.
 isnt_true : (test : ℕ → Bool) (k : ℕ) → isnt test k ≡ true → test k ≡ false
 isnt_true test k h = grind arith
 
@@ -59,6 +59,7 @@ only_names test r k v (inr p) = absurd p
 row_fits : (test : ℕ → Bool) (r : Row) (l : Whole) → r.made ≡ [] → AreRowsOf (r ∷ []) l → Fits l (Benched (row_of_only test r ∷ []))
 row_fits test r l none rows = (tt, tt, (row_of_fewer test r l none rows.0, tt))
 
+-- A bench gives the actors that a test chooses a row of their own.
 gives : (f : Profile) (id : ℕ) (test : ℕ → Bool) (r : Row) → r.made ≡ []
     → Splits (Holds f) id (Benched (r ∷ [])) (Benched (row_of_only (isnt test) r ∷ [])) (Benched (row_of_only test r ∷ []))
 gives f id test r none s h there =
@@ -88,6 +89,7 @@ has_a_row : (rs : List Row) (k : ℕ) → among (all_actors rs) k ≡ true → (
 has_a_row [] k h = absurd (true≢false (sym h))
 has_a_row (r ∷ rs) k h = ⊎_elim (λ its. (made_in r k, inl (its, refl))) (λ later. let rest = has_a_row rs k later in (rest.0, inr rest.1)) (among_both r.actors (all_actors rs) k h)
 
+-- A bench may settle all that its actors did.
 settles : (f : Profile) (slots id i : ℕ) (rs : List Row) → Allows (Holds f) slots id (Benched rs, []) i (λ n. n) (λ n me. SettlesAll (Benched rs, []) me)
 settles f slots id i rs s h len there fits = (
   now,
@@ -101,12 +103,15 @@ settles f slots id i rs s h len there fits = (
   },
 )
   where
+    -- The entries of a list of steps are those steps.
     same : steps_of (entries_for h.whole) ≡ h.whole
     same = entries_same h.whole
 
+    -- The roster of the bench after the step.
     now : Roster
     now = Benched (record { actors = all_actors rs; made = []; base = entries_for h.whole } ∷ [])
 
+    -- Each actor of the roster sits at this bench, with its own steps.
     its : (k : ℕ) (v : View) → Names now k v → (h.seat_number k ≡ id) × (h.own k ≡ v)
     its k v (inl p) =
         let one = has_a_row rs k p.0 in
@@ -117,8 +122,8 @@ settles f slots id i rs s h len there fits = (
 -- ---- at a seat that is known by an equation
 pub gives_as : (f : Profile) (id : ℕ) (test : ℕ → Bool) (me : Me (Unit {0}) Roster) (r : Row) → me ≡ (Benched (rows_in me.0), []) → rows_in me.0 ≡ r ∷ []
     → r.made ≡ [] → Splits (Holds f) id me.0 (left_of test me.0) (picked_of test me.0)
-gives_as f id test me r benched is none =
-    subst (λ (m : Me (Unit {0}) Roster). Splits (Holds f) id m.0 (left_of test m.0) (picked_of test m.0)) (sym (benched ∙ ap (λ (rs : List Row). (Benched rs, [])) is)) (gives f id test r none)
+gives_as f id test me r benched is none = subst (λ (m : Me (Unit {0}) Roster). Splits (Holds f) id m.0 (left_of test m.0) (picked_of test m.0))
+    (sym (benched ∙ ap (λ (rs : List Row). (Benched rs, [])) is)) (gives f id test r none)
 
 -- A look of a bench makes one row of all its rows, however the bench is written.
 pub settles_as : (f : Profile) (slots id i : ℕ) (me : Me (Unit {0}) Roster) → me ≡ (Benched (rows_in me.0), [])
@@ -154,6 +159,7 @@ stands_first r l none same = record {
   parts = same;
 }
 
+-- Two lists with ends of one length are equal in front of these.
 cut : (a b c d : Whole) → a ++ b ≡ c ++ d → length b ≡ length d → a ≡ c
 cut [] b [] d e many = refl
 cut [] b (t ∷ c) d e many = absurd (let all = ap length e ∙ ap suc (length-append c d) in omega (arith, all, many))
@@ -164,6 +170,7 @@ cut (t ∷ a) b (s ∷ c) d e many = λ i. (first (e i) t ∷ cut a b c d (λ j.
     first [] d = d
     first (x ∷ xs) d = x
 
+    -- What of a list isn't this bench's.
     rest : Whole → Whole
     rest [] = []
     rest (x ∷ xs) = xs
@@ -177,8 +184,8 @@ row_since r since l h same =
 -- A member of a fresh row may leave it.
 pub leaves_as : (f : Profile) (id k : ℕ) (me : Me (Unit {0}) Roster) (r : Row) → me ≡ (Benched (rows_in me.0), []) → rows_in me.0 ≡ r ∷ [] → r.made ≡ []
     → among r.actors k ≡ true → Splits (Holds f) id me.0 (left_of (only_this k) me.0) (leaver_of k me.0)
-leaves_as f id k me r benched is none sits =
-    subst (λ (m : Me (Unit {0}) Roster). Splits (Holds f) id m.0 (left_of (only_this k) m.0) (leaver_of k m.0)) (sym (benched ∙ ap (λ (rs : List Row). (Benched rs, [])) is)) (leaves f id k r none sits)
+leaves_as f id k me r benched is none sits = subst (λ (m : Me (Unit {0}) Roster). Splits (Holds f) id m.0 (left_of (only_this k) m.0) (leaver_of k m.0))
+    (sym (benched ∙ ap (λ (rs : List Row). (Benched rs, [])) is)) (leaves f id k r none sits)
 
 -- ---- each actor's part of a list for which a desk of the row stands
 -- A row that stands over a list says of each actor what the list tells.

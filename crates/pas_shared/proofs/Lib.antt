@@ -1,5 +1,4 @@
-mod Ruling
-pub mod Pasts
+pub mod Ruling
 pub mod GivingBack
 pub mod Opened
 pub mod Pops

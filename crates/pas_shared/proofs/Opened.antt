@@ -31,9 +31,11 @@ begins f words sized values = record {
   rows = know_one (RowsOf []) (Unused 0) tt;
 }
   where
+    -- An actor at a seat that nobody used made no step.
     none : (u : Roster) (k : ℕ) (v : View) → Unused 0 ≡ u → Names u k v → [] ≡ v
     none u k v e its = sym (subst (λ (y : Roster). Names y k v) (sym e) its).1
 
+    -- A table with one seat that nobody used names each actor there.
     named : AreNamed (λ _. []) (λ _. 0) (Unused 0 ∷ [])
     named zero u k v e its = (refl, none u k v (some-injective _ _ e) its)
     named (suc i) u k v e its = absurd (some-ne-none u (sym e))

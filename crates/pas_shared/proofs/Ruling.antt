@@ -8,21 +8,17 @@ use Rattle.pas_steps.specs.{Views.known_deed, Views.View, Views.epoch_of, Effect
 use Rattle.pas_steps.specs.{States.profile_of, States.word_in}
 use Rattle.pas_steps.specs.Lists.{Triple, Whole, Legal, part, visible, word_after}
 use Rattle.pas_core.proofs.MachineRuns.{runs, agrees, in_one_place, lists_borne}
-use Rattle.pas_core.proofs.{Offers.parked_is_owed, Offers.empty_is_minded, Deeds.known_is, Lives.life_is_known, Choosing.step_taken, Choosing.step_passed}
-use Rattle.pas_core.proofs.{Choosing.steps_by_one}
+use Rattle.pas_core.proofs.{Offers.parked_is_owed, Offers.empty_is_minded, Deeds.known_is, Choosing.step_taken, Choosing.step_passed, Choosing.steps_by_one}
+use Rattle.pas_core.proofs.Lives.{life_is_known, ends_stamped, unstamped_is_held, stamp_known, epoch_known}
 use Rattle.pas_core.proofs.Rights.{right_in_one_place, free_without_deed, free_known, deeds_known, backed_known}
-use Rattle.pas_core.proofs.Stamps.{ends_stamped, unstamped_is_held, stamp_known, epoch_known}
-use Rattle.pas_shared.specs.{Kept.IsGood, Kept.NoneIsEarly, Left.IsLeftBy}
-use Rattle.std.proofs.lemmas.{Bool.cases_eq, Bool.false_from_ne_true, List.set-get_or, List.Elements.All-weaker}
-use prog.Atomic.{either}
-use mathlib.Core.Option.{some, some-injective, some-ne-none}
-use lib.ListN.{get_elem?}
+use Rattle.pas_shared.specs.{Kept.IsGood, Kept.NoneIsEarly, Left.IsLeftBy, Pasts.HasOwn, Pasts.StandsAfter}
+use Rattle.std.proofs.lemmas.{Bool.cases_eq, Bool.false_from_ne_true, List.set-get_or, List.Elements.All-weaker, List.append_cancel_right}
 use Rattle.atomic_table.specs.Seated.{TableId}
 use Rattle.atomic_table.specs.Table.{Me, Act, keeps, Valid, stepped, carried_after, Allows, Splits, Joins, Final, Seen, Enters}
 use Rattle.atomic_table.proofs.Lists.{at_set, set_again}
 use Rattle.pas_profile.proofs.Places.{index_lt}
 use Rattle.pas_steps.specs.declared.{step.Step.Step, step.Made.Made, state.State.State}
-use Rattle.pas_steps.proofs.{Parts.part_of_own, Parts.part_of_others, Targets.target_of_region}
+use Rattle.pas_steps.proofs.{Parts.part_of_own, Parts.part_of_others, Running.target_of_region}
 use Rattle.pas_core.specs.{Orders.with_step, WordLists.AreWordsAfter}
 use Rattle.pas_core.proofs.Nexts.{legal_next, agrees_next, with_step_own, with_step_others, one_order_next, words_next}
 use Rattle.pas_shared.specs.declared.{exchange.Change.Change, rule.Entry.Entry, rule.Part.Part, rule.Roster.Roster, rule.Row.Row, pass.SharedPass.SharedPass}
@@ -33,6 +29,9 @@ use Rattle.pas_shared.specs.Ruled.{AllKnow, SeesAll, among, made_in, SitsIn, Has
 use Rattle.pas_shared.specs.Ruled.{row_with, with_made, bases_in}
 use Rattle.std.specs.List.{All}
 use Rattle.pas_shared.specs.Passes.{view_of, seat_of, IsNamed, AreWordsOf}
+use prog.Atomic.{either}
+use mathlib.Core.Option.{some, some-injective, some-ne-none}
+use lib.ListN.{get_elem?}
 
 -- ==== Every legal list is good.
 
@@ -85,25 +84,29 @@ named_with : (own : ℕ → View) (seat_number : ℕ → ℕ) (id k : ℕ) (v : 
     → IsNamedAt (with_step k m own) seat_number id (with_made k m u)
 named_with own seat_number id k v m u (inl is) h = subst (λ (y : Roster). IsNamedAt (with_step k m own) seat_number id (with_made k m y)) (sym is) now
   where
+    -- Each actor of the row sits at this bench, with the steps that the row has of it.
     its : (seat_number k ≡ id) × (own k ≡ v)
     its = h k v (sits_named u k v (inl is))
 
+    -- The step of one that sits alone is named at its seat.
     now : IsNamedAt (with_step k m own) seat_number id (alone k (m ∷ v))
     now b x (inl p) = (ap seat_number (sym p.0) ∙ its.0, subst (λ (c : ℕ). with_step k m own c ≡ x) p.0 (with_step_own k m own ∙ (ap (λ (y : View). m ∷ y) its.1 ∙ p.1)))
     now b x (inr p) = absurd p
-named_with own seat_number id k v m u (inr (r, is, sits)) h = subst (λ (y : Roster). IsNamedAt (with_step k m own) seat_number id (with_made k m y)) (sym is) now
-  where
-    its : (b : ℕ) → among r.actors b ≡ true → (seat_number b ≡ id) × (own b ≡ made_in r b)
-    its b sits = h b (made_in r b) (subst (λ (y : Roster). Names y b (made_in r b)) (sym is) (inl (sits, refl)))
+named_with own seat_number id k v m u (inr (r, is, sits)) h =
+    subst (λ (y : Roster). IsNamedAt (with_step k m own) seat_number id (with_made k m y)) (sym is) now where
+      its : (b : ℕ) → among r.actors b ≡ true → (seat_number b ≡ id) × (own b ≡ made_in r b)
+      its b sits = h b (made_in r b) (subst (λ (y : Roster). Names y b (made_in r b)) (sym is) (inl (sits, refl)))
 
-    now : IsNamedAt (with_step k m own) seat_number id (Benched (row_with k m r ∷ []))
-    now b x (inl p) = ((its b p.0).0, view_with own k m (steps_of r.made ++ steps_of r.base) b (its b p.0).1 ∙ p.1)
-    now b x (inr p) = absurd p
+      -- The step of one at a bench is named at its seat.
+      now : IsNamedAt (with_step k m own) seat_number id (Benched (row_with k m r ∷ []))
+      now b x (inl p) = ((its b p.0).0, view_with own k m (steps_of r.made ++ steps_of r.base) b (its b p.0).1 ∙ p.1)
+      now b x (inr p) = absurd p
 
+-- With one more step of an actor each roster still names its own.
 grows : (own : ℕ → View) (seat_number : ℕ → ℕ) (rosters : List Roster) (id k : ℕ) (v : View) (m : Made) (u : Roster) → AreNamed own seat_number rosters
     → get_elem? rosters id ≡ some u → SitsFor u k v → AreNamed (with_step k m own) seat_number (set rosters id (with_made k m u))
-grows own seat_number rosters id k v m u h at sits i y b x e named = ⊎_elim
-    (λ (t : (i ≡ id) × (with_made k m u ≡ y)). let now = named_with own seat_number id k v m u sits (λ c z. h id u c z at) b x (subst (λ (z : Roster). Names z b x) (sym t.1) named) in (now.0 ∙ sym t.0, now.1))
+grows own seat_number rosters id k v m u h at sits i y b x e named = ⊎_elim (λ (t : (i ≡ id) × (with_made k m u ≡ y)). let now =
+    named_with own seat_number id k v m u sits (λ c z. h id u c z at) b x (subst (λ (z : Roster). Names z b x) (sym t.1) named) in (now.0 ∙ sym t.0, now.1))
     (λ (t : (i ≢ id) × (get_elem? rosters i ≡ some y)). there t.0 (h i y b x t.1 named))
     (at_set rosters id i (with_made k m u) y e)
   where
@@ -211,6 +214,7 @@ names_rows : (u : Roster) (k : ℕ) (x : View) → HasRow (rows_in u) k x → Na
 names_rows (Benched rs) k x h = h
 names_rows _ k x h = absurd h
 
+-- A roster with one more step still tells its actors apart.
 apart_with : (k : ℕ) (v : View) (m : Made) (u : Roster) → SitsFor u k v → Apart (with_made k m u)
 apart_with k v m u h = grind arith
 
@@ -245,7 +249,8 @@ adds f slots id k v s i g u sits asked at same t h len there fits =
         seat_number = h.seat_number;
         named = grows h.own h.seat_number t.views id k v (made s n) u h.named there sits;
         apart = know_set Apart t.views id (with_made k (made s n) u) h.apart (apart_with k v (made s n) u sits);
-        seen = know_set (SawOf (triple k (made s n) ∷ l)) t.views id (with_made k (made s n) u) (λ j y e. seen_longer (looks_in y) l (triple k (made s n)) (h.seen j y e)) (seen_with (triple k (made s n) ∷ l) k v (made s n) u sits);
+        seen = know_set (SawOf (triple k (made s n) ∷ l)) t.views id (with_made k (made s n) u)
+            (λ j y e. seen_longer (looks_in y) l (triple k (made s n)) (h.seen j y e)) (seen_with (triple k (made s n) ∷ l) k v (made s n) u sits);
         rows = know_others (RowsOf l) (RowsOf (triple k (made s n) ∷ l)) t.views id (with_made k (made s n) u)
             (λ j y ne e. rows_still (rows_in y) k (made s n) l (λ x has. ne (sym (h.named j y k x e (names_rows y k x has)).0 ∙ here.0)))
             h.rows (rows_with_step l k v (made s n) u sits (h.rows id u there));
@@ -261,14 +266,17 @@ adds_if_kept f slots id k v s i u sits asked at t h len there fits = ⊎_elim ke
     n : ℕ
     n = slice_index t.words i
 
+    -- What the rule answers to a step with this old value.
     Answer : Type 0
     Answer = (w : Roster) × (a : Act (Unit {0})) × Valid t.homes [] a × Holds f (stepped t i n id [] w a) × IsAddedIfKept f u k v s n (w, carried_after [] a)
 
+    -- A step that leaves the word needs no exchange.
     kept : new_value (epoch_of v) s n ≡ n → Answer
     kept e =
         let added = adds f slots id k v s i (new_value (epoch_of v) s) u sits asked at (λ x. refl) t h len there fits in
         (added.0, added.1, added.2, subst (λ x. Holds f (stepped t i x id [] added.0 added.1)) e added.3, record { kept = λ same. added.4; changed = λ ne. absurd (ne e) })
 
+    -- A step that changes the word makes one exchange.
     changed : new_value (epoch_of v) s n ≢ n → Answer
     changed ne = (
       u,
@@ -307,7 +315,8 @@ pub may_look_first : {f key : Profile} {here there : TableId} {m slots id k : �
     → (me ≡ (u, [])) × SitsFor u k v × IsAskedOf f k v s
     → i ≡ index_of f.pages (target s)
     → (here ≡ there) × (i < m) × Allows (Holds key) slots id me i (λ n. n) (IsAddedIfKept f u k v s)
-may_look_first {f = f} {slots = slots} {id = id} {k = k} {v = v} {u = u} {s = s} {i = i} place asked at = at_call s (λ n. n) (IsAddedIfKept f u k v s) place asked.0 asked.2 at (adds_if_kept f slots id k v s i u asked.1 asked.2 at)
+may_look_first {f = f} {slots = slots} {id = id} {k = k} {v = v} {u = u} {s = s} {i = i} place asked at =
+    at_call s (λ n. n) (IsAddedIfKept f u k v s) place asked.0 asked.2 at (adds_if_kept f slots id k v s i u asked.1 asked.2 at)
 
 -- for the exchange after such a load, which found a word that the change alters
 pub may_change : {f key : Profile} {here there : TableId} {m slots id k : ℕ} {v : View} {u : Roster} {s : Step} {i n : ℕ} {g : ℕ → ℕ}
@@ -360,6 +369,7 @@ split_by {rosters = rosters} h id u stays goes went there stay go its one other 
     as_was : (b i : ℕ) → went b ≡ false → h.seat_number b ≡ i → seat_number b ≡ i
     as_was b i e is = ap (λ c. if c then k else h.seat_number b) e ∙ is
 
+    -- Who stays sits where it sat, with the same steps.
     kept : (i : ℕ) (y : Roster) (b : ℕ) (x : View) → Names y b x → ((i ≡ id) × (stays ≡ y)) ⊎ ((i ≢ id) × (get_elem? rosters i ≡ some y))
         → (seat_number b ≡ i) × (h.own b ≡ x)
     kept i y b x named (inl t) =
@@ -370,6 +380,7 @@ split_by {rosters = rosters} h id u stays goes went there stay go its one other 
         let old = h.named i y b x t.1 named in
         (as_was b i (false_from_ne_true (went b) (λ e. t.0 (sym old.0 ∙ its b e))) old.0, old.1)
 
+    -- Who goes sits at the new seat, with the same steps.
     new : (i b : ℕ) (x : View) → i ≡ k → Names goes b x → (seat_number b ≡ i) × (h.own b ≡ x)
     new i b x z named = let p = go b x named in (ap (λ c. if c then k else h.seat_number b) p.0 ∙ sym z, (h.named id u b x there p.1).1)
 
@@ -506,6 +517,7 @@ joins f id u other w s h here apart there =
     seat_number : ℕ → ℕ
     seat_number b = (if eqb (h.seat_number b) other then id else h.seat_number b)
 
+    -- The other seat has the roster that is joined to this one.
     theirs : get_elem? s.views other ≡ some w
     theirs = ⊎_elim (λ (t : (other ≡ id) × (joined u w ≡ w)). absurd (apart t.0)) (λ (t : (other ≢ id) × (get_elem? s.views other ≡ some w)). t.1) (at_set s.views id other (joined u w) w there)
 
@@ -515,16 +527,19 @@ joins f id u other w s h here apart there =
     at_one : AtOne u w
     at_one k v x mine its = apart (sym (h.named other w k x theirs its).0 ∙ (h.named id u k v here mine).0)
 
+    -- Who sat at the other seat sits here afterwards.
     moved : (b : ℕ) → h.seat_number b ≡ other → seat_number b ≡ id
     moved b e = ap (λ c. if c then id else h.seat_number b) (eq-eqb (h.seat_number b) other e)
 
     as_was : (b i : ℕ) → i ≢ other → h.seat_number b ≡ i → seat_number b ≡ i
     as_was b i ne e = ap (λ c. if c then id else h.seat_number b) (ne_eqb (h.seat_number b) other (λ z. ne (sym e ∙ z))) ∙ e
 
+    -- Who was in either roster sits here, with the same steps.
     both : (i b : ℕ) (x : View) → i ≡ id → Names u b x ⊎ Names w b x → (seat_number b ≡ i) × (h.own b ≡ x)
     both i b x z (inl named) = let old = h.named id u b x here named in (as_was b i (λ e. apart (sym e ∙ z)) (old.0 ∙ sym z), old.1)
     both i b x z (inr named) = let old = h.named other w b x theirs named in (moved b old.0 ∙ sym z, old.1)
 
+    -- Who sat elsewhere sits there still, with the same steps.
     kept : (i : ℕ) (y : Roster) (b : ℕ) (x : View) → i ≢ other → Names y b x → ((i ≡ id) × (joined u w ≡ y)) ⊎ ((i ≢ id) × (get_elem? s.views i ≡ some y))
         → (seat_number b ≡ i) × (h.own b ≡ x)
     kept i y b x ne named (inl t) = both i b x t.0 (names_either u w b x (subst (λ (z : Roster). Names z b x) (sym t.1) named))
@@ -542,6 +557,7 @@ has_right : (ps qs : List Part) (k : ℕ) (v : View) → HasPart qs k v → HasP
 has_right [] qs k v h = h
 has_right (p ∷ ps) qs k v h = inr (has_right ps qs k v h)
 
+-- A roster keeps each actor's part when one more actor joins.
 kept : (u : Roster) (n : ℕ) (w : View) (k : ℕ) (v : View) → HasPart (parts_in u) k v → HasPart (parts_in (joined u (alone n w))) k v
 kept u n w k v h = grind (arith, has_right)
 
@@ -564,6 +580,7 @@ pub takes_in : (u : Roster) (me : Me (Unit {0}) Roster) (p : SharedPass) (rest :
     → All (IsNamed u) rest → All (IsNamed me.0) (p ∷ rest)
 takes_in u me p rest list is h = search (arith, taken_in)
 
+-- A part that a roster has is one that it names.
 names_shown : (u : Roster) (k : ℕ) (v : View) → HasPart (parts_in u) k v → Names u k v
 names_shown u k v h = grind arith
 
@@ -574,7 +591,8 @@ ends f u state passes left named = (
   record {
     whole = left.holds.whole;
     legal = left.holds.legal;
-    parts = All-weaker (IsNamed u) (λ (p : SharedPass). part (seat_of p).actor left.holds.whole ≡ view_of p) (λ p has. left.holds.one_order p.place.actor ∙ (left.holds.named left.seat u p.place.actor (view_of p) left.there (names_shown u _ _ has)).1) passes named;
+    parts = All-weaker (IsNamed u) (λ (p : SharedPass). part (seat_of p).actor left.holds.whole ≡ view_of p) (λ p has. left.holds.one_order p.place.actor
+        ∙ (left.holds.named left.seat u p.place.actor (view_of p) left.there (names_shown u _ _ has)).1) passes named;
     words = λ w hw. left.values w hw ∙ left.holds.words_are.values w hw;
   },
   first_earlier (looks_in u) left.holds.whole (left.holds.seen left.seat u left.there),
@@ -660,3 +678,38 @@ looks f slots id i es ps s h len there fits =
         all = λ k v has. ap (λ (l : Whole). part k l) same ∙ (h.one_order k ∙ (h.named id (Settled es ps) k v there has).1);
       },
     )
+
+-- Two pasts that become one, and what stands behind a past.
+-- ---- two pasts
+earlier_left : (looks more : List (List Entry)) (l : Whole) → AreEarlier (looks ++ more) l → AreEarlier looks l
+earlier_left [] more l seen = tt
+earlier_left (es ∷ looks) more l seen = (seen.0, earlier_left looks more l seen.1)
+
+earlier_right : (looks more : List (List Entry)) (l : Whole) → AreEarlier (looks ++ more) l → AreEarlier more l
+earlier_right [] more l seen = seen
+earlier_right (es ∷ looks) more l seen = earlier_right looks more l seen.1
+
+-- what each of two ledgers' seats saw is behind the look of the one that took the other in
+pub both_earlier : (one other both : Me (Unit {0}) Roster) (l : Whole) → one ≡ (Settled (looks_in one.0) (parts_in one.0), [])
+    → other ≡ (Settled (looks_in other.0) (parts_in other.0), [])
+    → both.0 ≡ joined one.0 other.0 → AreEarlier (looks_in both.0) l → IsEarlier (seen_in one.0) l × IsEarlier (seen_in other.0) l
+both_earlier one other both l one_is other_is new seen = search (arith, first_earlier, earlier_left, earlier_right)
+
+-- ---- what stands behind a past
+one_more : (b : Bool) (m : Made) (v w x : View) → x ≡ v ++ w → (if b then m ∷ x else x) ≡ (if b then m ∷ v else v) ++ w
+one_more true m v w x is = ap (λ (y : View). m ∷ y) is
+one_more false m v w x is = is
+
+-- An actor's part of two lists together is that of both, one after the other.
+pub part_both : (k : ℕ) (l m : Whole) → part k (l ++ m) ≡ part k l ++ part k m
+part_both k [] m = refl
+part_both k (t ∷ l) m = one_more (t.actor == k) t.made (part k l) (part k m) (part k (l ++ m)) (part_both k l m)
+
+-- A list that goes on from a past, and has of an actor what it made since, stands after that past.
+pub stands_after : (first whole : Whole) (k : ℕ) (v since : View) → IsEarlier first whole → HasOwn k v first → part k whole ≡ since ++ v
+    → StandsAfter first k since whole
+stands_after first whole k v since earlier own now = record {
+  later = earlier.0;
+  whole_is = earlier.1;
+  own = append_cancel_right (part k earlier.0) since v (ap (λ (x : View). part k earlier.0 ++ x) (sym own) ∙ (sym (part_both k earlier.0 first) ∙ (ap (part k) (sym earlier.1) ∙ now)));
+}

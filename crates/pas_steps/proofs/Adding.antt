@@ -24,12 +24,12 @@ pub adds_step : {σ σ' σ'' : Standing} {C : View → Type 0} {xs : List Made} 
     → Adds σ σ' C xs → Makes σ' σ'' step a → ((v : View) (l : Whole) → σ.stands v l → C v → Allowed σ.seat.profile (xs ++ v) step)
     → Adds σ σ'' C (made step a ∷ xs)
 adds_step {σ} {σ'} {σ''} {C} {xs} {step} {a} before makes allowed =
-    let may : (v : View) (l : Whole) → σ.stands v l → C v → Allowed σ'.seat.profile (xs ++ v) step = λ v l stood met. subst (λ s. Allowed s.profile (xs ++ v) step) (sym before.seat_is) (allowed v l stood met) in
+    let may : (v : View) (l : Whole) → σ.stands v l → C v → Allowed _ (xs ++ v) step = λ v l stood met. subst (λ s. Allowed s.profile (xs ++ v) step) (sym before.seat_is) (allowed v l stood met) in
     record {
       seat_is = makes.seat_is ∙ before.seat_is;
       added = λ v l stood met. subst (λ s. σ''.stands (made step a ∷ (xs ++ v)) (triple s.actor (made step a) ∷ (triples σ.seat.actor xs ++ l))) before.seat_is
           (makes.added (xs ++ v) (triples σ.seat.actor xs ++ l) (before.added v l stood met) (may v l stood met));
-      agreed = λ v l stood met. (subst (λ s. Agrees s.profile (xs ++ v) step a) before.seat_is (makes.agrees (xs ++ v) (triples σ.seat.actor xs ++ l) (before.added v l stood met) (may v l stood met)), before.agreed v l stood met);
+      agreed = λ v l stood met. (subst (λ s. Agrees s.profile (xs ++ v) step a) before.seat_is (makes.agrees (xs ++ v) _ (before.added v l stood met) (may v l stood met)), before.agreed v l stood met);
     }
 
 -- A call after another one, whose condition holds then, is one call with it.
@@ -72,7 +72,7 @@ Tells σ = (v : View) (l : Whole) → σ.stands v l → Legal σ.seat.profile l
 -- After a call a desk that tells the whole state has a legal list.
 pub legal_after : {σ σ' : Standing} {C : View → Type 0} {xs : List Made} → Adds σ σ' C xs → Tells σ' → (v : View) (l : Whole) → σ.stands v l → C v
     → Legal σ.seat.profile (triples σ.seat.actor xs ++ l)
-legal_after {σ} {σ'} {C} {xs} adds tells v l stood met = subst (λ s. Legal s.profile (triples σ.seat.actor xs ++ l)) adds.seat_is (tells (xs ++ v) (triples σ.seat.actor xs ++ l) (adds.added v l stood met))
+legal_after {σ} {σ'} {C} {xs} adds tells v l stood met = subst (λ s. Legal s.profile (triples σ.seat.actor xs ++ l)) adds.seat_is (tells (xs ++ v) _ (adds.added v l stood met))
 
 -- ---- room for events
 -- a desk that has room for n more events after these steps has so much to spare

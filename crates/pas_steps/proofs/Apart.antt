@@ -33,7 +33,7 @@ out_within ks ls n w out = false_from_ne_true (has_place ks n) (λ h. true≢fal
 
 -- steps of some kinds are steps of more, and of none that is apart
 pub only_within : (ks ls : Kinds) (steps : List Made) → within ks ls ≡ true → Only ks steps → Only ls steps
-only_within ks ls steps w = always_map (λ m before. is_in ks (kind_of m.step) ≡ true) (λ m before. is_in ls (kind_of m.step) ≡ true) steps (λ m before h. in_within ks ls (place_of (kind_of m.step)) w h)
+only_within ks ls steps w = always_map _ (λ m before. is_in ls (kind_of m.step) ≡ true) steps (λ m before h. in_within ks ls (place_of (kind_of m.step)) w h)
 
 -- Two lists of steps of some kinds are of those kinds together.
 pub only_both : (ks : Kinds) (ys xs : List Made) → Only ks ys → Only ks xs → Only ks (ys ++ xs)
@@ -43,7 +43,7 @@ only_both ks ys xs = always_both (λ m before. is_in ks (kind_of m.step) ≡ tru
 pub holds_over : (P : View → Type 0) (ls ks : Kinds) → ((m : Made) (v : View) → is_in ls (kind_of m.step) ≡ false → P v → P (m ∷ v)) → apart ks ls ≡ true
     → (steps : List Made) (v : View) → Only ks steps → P v → P (steps ++ v)
 holds_over P ls ks step w [] v only h = h
-holds_over P ls ks step w (m ∷ more) v only h = step m (more ++ v) (in_apart ks ls (place_of (kind_of m.step)) w only.0) (holds_over P ls ks step w more v only.1 h)
+holds_over P ls ks step w (m ∷ more) v only h = step m (more ++ v) (in_apart ks ls _ w only.0) (holds_over P ls ks step w more v only.1 h)
 
 -- Steps of kinds apart from those that change a thing leave it as it was.
 pub same_over : {A : Type 0} (T : View → A) (ls ks : Kinds) → ((m : Made) (v : View) → is_in ls (kind_of m.step) ≡ false → T (m ∷ v) ≡ T v) → apart ks ls ≡ true
@@ -92,6 +92,7 @@ pub unstamped_same : (ks : Kinds) → apart ks unstamping ≡ true → (p : ℕ)
     → is_unstamped (steps ++ v) p ≡ is_unstamped v p
 unstamped_same ks w p = same_over (λ v. is_unstamped v p) unstamping ks (λ m v h. unstamped_step_same m.step m.answer p (is_unstamped v p) h) w
 
+-- A step of another kind leaves which page is examined: step by step.
 examined_same : (s : Step) (a p : ℕ) (was : Bool) → is_in examining (kind_of s) ≡ false → examined_after s a p was ≡ was
 examined_same s a p was h = grind arith
 
@@ -106,11 +107,11 @@ no_event k e s a h = grind arith
 -- the events of the steps before them
 pub events_same : (ks : Kinds) → apart ks showing ≡ true → (k : ℕ) (v : View) (ys xs : List Made) → Only ks ys → events_by k v (ys ++ xs) ≡ events_by k v xs
 events_same ks w k v [] xs only = refl
-events_same ks w k v (y ∷ ys) xs only =
-    ap (λ o. with_event o (events_by k v (ys ++ xs))) (no_event k (epoch_of (ys ++ xs ++ v)) y.step y.answer (in_apart ks showing (place_of (kind_of y.step)) w only.0)) ∙ events_same ks w k v ys xs only.1
+events_same ks w k v (y ∷ ys) xs only = ap (λ o. with_event o (events_by k v (ys ++ xs)))
+    (no_event k (epoch_of (ys ++ xs ++ v)) y.step y.answer (in_apart ks showing (place_of (kind_of y.step)) w only.0)) ∙ events_same ks w k v ys xs only.1
 
 -- Steps of kinds that show nothing make no event.
 pub no_events : (ks : Kinds) → apart ks showing ≡ true → (k : ℕ) (v : View) (steps : List Made) → Only ks steps → events_by k v steps ≡ []
 no_events ks w k v [] only = refl
-no_events ks w k v (y ∷ ys) only =
-    ap (λ o. with_event o (events_by k v ys)) (no_event k (epoch_of (ys ++ v)) y.step y.answer (in_apart ks showing (place_of (kind_of y.step)) w only.0)) ∙ no_events ks w k v ys only.1
+no_events ks w k v (y ∷ ys) only = ap (λ o. with_event o (events_by k v ys))
+    (no_event k (epoch_of (ys ++ v)) y.step y.answer (in_apart ks showing (place_of (kind_of y.step)) w only.0)) ∙ no_events ks w k v ys only.1

@@ -6,7 +6,7 @@ use Rattle.pas_steps.specs.Desks.{Standing, made, Makes, CanMake, CanCall}
 use Rattle.pas_steps.specs.Kinds.{Kinds, kind_of, is_in, apart, changing}
 use Rattle.pas_steps.specs.declared.step.{Made.Made, Step.Step}
 use Rattle.pas_steps.proofs.Adding.{agreed_first, agreed_later, adds_none, adds_step, adds_call, adds_under, can_step, can_call}
-use Rattle.pas_steps.proofs.Kept.{knows_still}
+use Rattle.pas_steps.proofs.Frames.{knows_still}
 use Rattle.pas_steps.proofs.Calls.{leads_none, leads_as, leads_at, does_then, does_idly}
 
 -- A call of no step does what holds between each view and itself.
@@ -40,7 +40,7 @@ call_as S c under more = record { adds = adds_under c.adds (λ v l stood met. un
 -- and a deed that was known is known still
 pub call_knows : {σ σ' : Standing} {B : View → Type 0} {R : View → View → Type 0} {xs : List Made} (page : ℕ) (d : Directory) → Calls σ σ' B R xs
     → ((v : View) → B v → KnowsDeed page d v) → Calls σ σ' B (λ v w. R v w × KnowsDeed page d w) xs
-call_knows {σ} {xs = xs} page d c knows = record { adds = c.adds; leads = record { from = λ v met agreed. (c.leads.from v met agreed, knows_still σ.seat.profile d page xs v agreed (knows v met)) } }
+call_knows {σ} {xs = xs} page d c knows = record { adds = c.adds; leads = record { from = λ v met agreed. (c.leads.from v met agreed, knows_still _ d _ xs v agreed (knows v met)) } }
 
 -- After a call a desk can make a step that is allowed then.
 pub next_step : {σ σ1 : Standing} {B : View → Type 0} {R : View → View → Type 0} {xs : List Made} {s : Step} → Calls σ σ1 B R xs → CanCall σ B

@@ -15,7 +15,7 @@ use Rattle.pas_steps.specs.declared.step.{Made.Made, Step.Step}
 use Rattle.pas_steps.specs.declared.step.Step.TheVariants.{Look, Take, Put, End, Hint, Unhint}
 use Rattle.pas_steps.proofs.{Adding.agreed_first, Adding.agreed_later, Flags.ends_none, Flags.ap_if, Past.always_map}
 use Rattle.pas_steps.proofs.Apart.{in_apart, holds_over, grain_same, holds_same}
-use Rattle.pas_steps.proofs.Kept.{look_check, look_hint, right_on, returns_on, backed_with}
+use Rattle.pas_steps.proofs.Frames.{look_check, look_hint, right_on, returns_on, backed_with}
 use Rattle.pas_steps.specs.Frames.{IsReturn, OnlyOn, OnlyReturns, unbacks, IsOnPage}
 use Rattle.pas_steps.specs.Kinds.{Kinds, kind_of, look_kind, place_of, is_in, apart, Only, Unhinting, moving, unbacking, changing, returning, Putting, Ending}
 use Rattle.pas_steps.specs.Kinds.{Parking}
@@ -43,12 +43,15 @@ leads_at {B = B} {R = R} {xs = xs} same leads = subst (λ t. Leads t.profile B R
 pub does_none : (v : View) → Does nothing v v
 does_none v = record { held = λ x. refl; right = λ page. refl; clear = λ page is. is; backed = λ x kept bears. bears }
 
+-- Two fates, one after the other: by each pair.
 now_later : (a b : Fate) (had : Bool) → now (later a b) had ≡ now b (now a had)
 now_later a s had = grind arith
 
+-- What is kept by both is kept by each.
 kept_both : (a b : Fate) → later a b ≡ Kept → (a ≡ Kept) × (b ≡ Kept)
 kept_both a s h = grind arith
 
+-- A page that is clear after the first call is so after the second: fate by fate.
 clear_kept : (a : Fate) (page : ℕ) (v w u : View) → ClearAfter a page v w → (IsClearOn page w → IsClearOn page u) → ClearAfter a page v u
 clear_kept a page v w u first next = grind arith
 
@@ -64,6 +67,7 @@ does_then {d} {e} {v} {w} {u} a b = search (arith, now_later, clear_later, kept_
 abbrev pub SameGrain : Fate → Fate → Bool → Type 0
 SameGrain a b held = (a ≡ b) ⊎ ((held ≡ false) × (now a false ≡ now b false))
 
+-- Fates that do the same to a grain leave it held alike.
 same_held : (a b : Fate) (held : Bool) → SameGrain a b held → now a held ≡ now b held
 same_held a b held e = grind arith
 
@@ -92,6 +96,7 @@ still_clear does clear = record { on = λ page. does.clear page (clear.on page) 
 fate_is : (m : Move) (had : Bool) → held_after m had ≡ now (grain_fate m) had
 fate_is s had = grind arith
 
+-- What becomes of a right is the fate of its way: way by way.
 had_is : (w : Way) (had : Bool) → had_after w had ≡ now (way_fate w) had
 had_is w had = grind arith
 
@@ -141,9 +146,11 @@ owes_over ks w p = holds_over (OwesNothing p) opening ks (λ m v other owes. rec
   hint = hint_shut m.step m.answer p (owes_hint v p) (opens_none m.step m.answer p other) owes.hint;
 }) w
 
+-- A page that isn't lost is as clear as it was.
 clear_step : (t : Bool) (p : ℕ) (v w : View) → (t ≡ false → IsClearOn p v → IsClearOn p w) → ClearAfter (if t then Lost else Kept) p v w
 clear_step t p v w shut = grind arith
 
+-- Only a grain that stays is kept: move by move.
 stays_by : (m : Move) → grain_fate m ≡ Kept → m ≡ Stays
 stays_by s h = grind arith
 
@@ -156,7 +163,8 @@ bears_step f s a x v agrees keeps stays bears =
     let at : x / 256 * 256 + x % 256 ≡ x = omega arith in
     record {
       held = ap (λ m. held_after m (holds v x)) stays ∙ bears.held;
-      backed = backed_with f (x / 256) (x % 256) (made s a ∷ []) v (omega arith) (agrees, tt) (no_unback s (x / 256) keeps, tt) (subst (λ y. grain_move s a y ≡ Stays) (sym at) stays, tt) (subst (λ y. holds v y ≡ true) (sym at) bears.held) bears.backed;
+      backed = backed_with f (x / 256) (x % 256) (made s a ∷ []) v (omega arith) (agrees, tt) (no_unback s (x / 256) keeps, tt)
+          (subst (λ y. grain_move s a y ≡ Stays) (sym at) stays, tt) (subst (λ y. holds v y ≡ true) (sym at) bears.held) bears.backed;
     }
 
 -- any step that ends no page's backing
@@ -179,7 +187,7 @@ does_idle f s a v h agrees = grind (arith, does_step, look_keeps, true≢false)
 pub does_idly : (f : Profile) (ks : Kinds) → apart ks changing ≡ true → (steps : List Made) (v : View) → Only ks steps → Agreed f v steps
     → Does nothing v (steps ++ v)
 does_idly f ks w [] v only agreed = does_none v
-does_idly f ks w (m ∷ more) v only agreed = does_then (does_idly f ks w more v only.1 agreed.1) (does_idle f m.step m.answer (more ++ v) (in_apart ks changing (place_of (kind_of m.step)) w only.0) agreed.0)
+does_idly f ks w (m ∷ more) v only agreed = does_then (does_idly f ks w more v only.1 agreed.1) (does_idle f m.step m.answer (more ++ v) (in_apart ks changing _ w only.0) agreed.0)
 
 -- Steps of kinds that change nothing lead to where nothing was done.
 pub leads_idly : (f : Profile) (ks : Kinds) → apart ks changing ≡ true → (steps : List Made) → Only ks steps → Leads f AnyView (Does nothing) steps
@@ -189,8 +197,8 @@ leads_idly f ks w steps only = record { from = λ v met agreed. does_idly f ks w
 bears_over : (f : Profile) (x : ℕ) (ks : Kinds) → apart ks moving ≡ true → apart ks unbacking ≡ true → (steps : List Made) (v : View) → Only ks steps
     → Agreed f v steps → Bears v x → Bears (steps ++ v) x
 bears_over f x ks w k [] v only agreed bears = bears
-bears_over f x ks w k (m ∷ more) v only agreed bears =
-    bears_step f m.step m.answer x (more ++ v) agreed.0 (in_apart ks unbacking (place_of (kind_of m.step)) k only.0) (grain_same m.step m.answer x (in_apart ks moving (place_of (kind_of m.step)) w only.0)) (bears_over f x ks w k more v only.1 agreed.1 bears)
+bears_over f x ks w k (m ∷ more) v only agreed bears = bears_step f m.step m.answer x _ agreed.0 (in_apart ks unbacking _ k only.0)
+    (grain_same m.step m.answer x (in_apart ks moving _ w only.0)) (bears_over f x ks w k more v only.1 agreed.1 bears)
 
 right_at : (p q : ℕ) (t : Bool) (r : Fate) (v w : View) → (p == q) ≡ t → has_right w p ≡ now r (has_right v p) → (q ≢ p → has_right w q ≡ has_right v q)
     → has_right w q ≡ now (if t then r else Kept) (has_right v q)
@@ -220,17 +228,18 @@ does_on_page f p r c ks w k steps v only on agreed right clear =
       backed = λ x kept bears. bears_over f x ks w k steps v only agreed bears;
     }
 
+-- A step that returns is of such a kind: step by step.
 return_kind : (p : ℕ) (s : Step) → IsReturn p s → is_in returning (kind_of s) ≡ true
 return_kind p s is = grind arith
 
 -- Steps that only return grains to a page are of the returning kinds.
 pub returns_are : (p : ℕ) (steps : List Made) → OnlyReturns p steps → Only returning steps
-returns_are p steps = always_map (λ m before. IsReturn p m.step) (λ m before. is_in returning (kind_of m.step) ≡ true) steps (λ m before is. return_kind p m.step is)
+returns_are p steps = always_map (λ m before. IsReturn p m.step) _ steps (λ m before is. return_kind p m.step is)
 
 -- steps of a return or a leave
 pub does_returns : (f : Profile) (p : ℕ) (r c : Fate) (steps : List Made) (v : View) → OnlyReturns p steps → Agreed f v steps
     → has_right (steps ++ v) p ≡ now r (has_right v p) → ClearAfter c p v (steps ++ v) → Does (on_page p r c) v (steps ++ v)
-does_returns f p r c steps v only agreed right clear = does_on_page f p r c returning refl refl steps v (returns_are p steps only) (returns_on p steps only) agreed right clear
+does_returns f p r c steps v only agreed right clear = does_on_page f p r c returning refl refl _ v (returns_are p _ only) (returns_on p _ only) agreed right clear
 
 -- ---- an end
 -- what an end does with this guess, where it read the live word of the name or didn't
@@ -253,7 +262,7 @@ pub record EndsBlock (g n : ℕ) (v w : View) : Type 0 where
 -- An end whose answer is the live word ends that block.
 pub end_succeeds : (f : Profile) (name : Name) (guess a : ℕ) → a ≡ live_word name.turn guess
     → Leads f AnyView (EndsBlock (grain_of name) guess) (made (End name guess) a ∷ [])
-end_succeeds f name guess a live = record { from = λ v met agreed. record { does = end_does f name guess a true v (eq-eqb a (live_word name.turn guess) live) agreed.0; apart = agreed.0.apart live } }
+end_succeeds f name guess a live = record { from = λ v met agreed. record { does = end_does f _ _ a _ v (eq-eqb a _ live) agreed.0; apart = agreed.0.apart live } }
 
 -- ---- two calls that leave all as it was
 pub nothing_then : {f : Profile} {ys xs : List Made} → Leads f AnyView (Does nothing) xs → Leads f AnyView (Does nothing) ys
@@ -262,7 +271,7 @@ nothing_then a b = leads_then (Does nothing) a b (λ v w met d. tt) (λ v w u d 
 
 -- ---- a put
 pub leads_put : (f : Profile) (page word mask a : ℕ) → Leads f AnyView (Does (put (in_mask page word mask) page)) (made (Put page word mask) a ∷ [])
-leads_put f page word mask a = record { from = λ v met agreed. does_as (put (in_mask page word mask) page) (does_step f (Put page word mask) a v refl agreed.0) (λ x. inl (ap_if grain_fate (in_mask page word mask x) Puts Stays)) (λ q. refl) (λ q h. h) }
+leads_put f page word mask a = record { from = λ v met agreed. does_as _ (does_step f _ a v refl agreed.0) (λ x. inl (ap_if grain_fate _ Puts Stays)) (λ q. refl) (λ q h. h) }
 
 -- ---- an end whose grains were put back leaves all as it was, since none of them was held
 back_grain : (t held : Bool) (g : ℕ) → (t ≡ true → held ≡ false)
@@ -276,7 +285,7 @@ back_clear t u page v w covers h is = grind (arith, true≢false)
 -- A block that was ended, and whose grains were given back on each page, leaves nothing changed.
 pub ends_back : {v w u : View} (g n : ℕ) (pages : ℕ → Bool) → EndsBlock g n v w → Does (freed (in_run g n) pages) w u
     → ((page : ℕ) → meets_page g n page ≡ true → pages page ≡ true) → Does nothing v u
-ends_back {v} {w} {u} g n pages e b covers = does_as nothing (does_then e.does b) (λ x. back_grain (in_run g n x) (holds v x) g (e.apart x)) (λ page. refl) (λ page. back_clear (meets_page g n page) (pages page) page v u (covers page))
+ends_back {v} {w} {u} g n pages e b covers = does_as nothing (does_then e.does b) (λ x. back_grain _ _ g (e.apart x)) (λ page. refl) (λ page. back_clear _ _ page v u (covers page))
 
 -- An end after steps that do nothing ends the block from the view before.
 pub end_later : {v w u : View} (g n : ℕ) → Does nothing v w → EndsBlock g n w u → EndsBlock g n v u

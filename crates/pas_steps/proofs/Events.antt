@@ -31,9 +31,11 @@ pub record ComesOf (k : ℕ) (s : Step) (a : ℕ) (e : Event) : Type 0 where
   pub step : IsToldBy e s a
 
 module _ (k a : ℕ) (s : Step) (e : Event) where
+  -- An event that comes where a test passes is one that comes of the step.
   chosen : (t : Bool) (x : Event) → (t ≡ true → ComesOf k s a x) → (if t then Some x else None) ≡ Some e → ComesOf k s a e
   chosen t x comes is = let h = cond_some t x e is in subst (ComesOf k s a) h.1 (comes h.0)
 
+  -- Of an end come its success, or its refusal, or nothing.
   ended : (z y : Bool) (x r : Event) → ComesOf k s a x → ComesOf k s a r → (if z then Some x else (if y then None else Some r)) ≡ Some e → ComesOf k s a e
   ended z y x r one other is = grind (arith, same_Some, none-some)
 
@@ -51,9 +53,9 @@ pub each_event : (P : Event → Type 0) (Q : Made → List Made → Type 0) (k :
     → ((m : Made) (before : List Made) (epoch : ℕ) (e : Event) → Q m before → event_of k epoch m.step m.answer ≡ Some e → P e)
     → (steps : List Made) → Always Q steps → AllByRecursion P (events_by k v steps)
 each_event P Q k v one [] all = tt
-each_event P Q k v one (m ∷ more) all = with_one P (event_of k (epoch_of (more ++ v)) m.step m.answer) (events_by k v more) (λ e is. one m more (epoch_of (more ++ v)) e all.0 is) (each_event P Q k v one more all.1)
+each_event P Q k v one (m ∷ more) all = with_one P _ (events_by k v more) (λ e is. one m more _ e all.0 is) (each_event P Q k v one more all.1)
 
 -- they are all of the steps' actor
 pub events_own : (k : ℕ) (v : View) (steps : List Made) → AllByRecursion (λ e. actor_of e ≡ k) (events_by k v steps)
 events_own k v [] = tt
-events_own k v (m ∷ more) = with_one (λ e. actor_of e ≡ k) (event_of k (epoch_of (more ++ v)) m.step m.answer) (events_by k v more) (λ e is. (comes_of k (epoch_of (more ++ v)) m.step m.answer e is).actor) (events_own k v more)
+events_own k v (m ∷ more) = with_one (λ e. actor_of e ≡ k) _ (events_by k v more) (λ e is. (comes_of k _ m.step m.answer e is).actor) (events_own k v more)

@@ -6,7 +6,7 @@ use Rattle.pas_steps.specs.{Agreement.Agrees, Agreement.Agreed, Desks.made, Past
 use Rattle.pas_steps.specs.Evidence.{ReadsDeed, ZeroHere, DeedHere, NoDeedHere}
 use Rattle.pas_steps.specs.Views.{View, has_right, known_deed, KnowsDeed}
 use Rattle.pas_steps.specs.declared.step.{Made.Made, Step.Step, Step.TheVariants.Deed}
-use Rattle.pas_steps.proofs.{Frames.right_own, Kept.deed_stays, Past.once_earlier}
+use Rattle.pas_steps.proofs.{Frames.right_own, Frames.deed_stays, Past.once_earlier}
 
 -- a page that was read as having no deed isn't known to have one
 read_unknown : (f : Profile) (v : View) (p : ℕ) (s : Step) (a : ℕ) → ReadsDeed p s → Agrees f v s a → a ≡ 0 → known_deed v p ≢ 0 → ⊥

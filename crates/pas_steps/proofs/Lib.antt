@@ -3,8 +3,6 @@ pub mod Flags
 pub mod Frames
 pub mod Parts
 pub mod Past
-pub mod Targets
-pub mod Kept
 pub mod Bits
 pub mod Apart
 pub mod Calls
@@ -16,6 +14,6 @@ pub mod Unknown
 pub mod SpareRoom
 pub mod ReadDeeds
 pub mod Evidence
-mod Running
+pub mod Running
 pub mod Noting
 mod OnPages

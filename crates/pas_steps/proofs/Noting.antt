@@ -31,8 +31,8 @@ rest_length {n} {shown} {es} rest =
 pub rest_more : {n : ℕ} (old new es more : List Event) → ShowsRest n old es → ShowsRest n new (more ++ es) → new ≡ old ++ reverse more
 rest_more {n} old new es more before after =
     let all = after.all ∙ reverse-append more es ∙ ap (λ xs. xs ++ reverse more) (sym before.all) ∙ append_assoc before.gone old (reverse more) in
-    sym (drop-append_seam after.gone new) ∙ ap (drop (length after.gone)) all ∙ ap (λ k. drop k (before.gone ++ (old ++ reverse more))) (after.many ∙ sym before.many)
-    ∙ drop-append_seam before.gone (old ++ reverse more)
+    sym (drop-append_seam after.gone new) ∙ ap (drop (length after.gone)) all
+    ∙ ap (λ k. drop k (before.gone ++ (old ++ reverse more))) (after.many ∙ sym before.many) ∙ drop-append_seam before.gone (old ++ reverse more)
 
 -- The count of one step more is that of a view that is longer by one.
 pub count_next : (c c' n m : ℕ) → m ≡ n + 1 → c' ≡ min (c + 1) (2 ^ 64 - 1) → c ≡ min n (2 ^ 64 - 1) → c' ≡ min m (2 ^ 64 - 1)
@@ -48,7 +48,7 @@ rest_noted n old new k s a v rest knows noted =
 -- Notes with one more step are those of the view with that step.
 pub notes_next : (old new : Notes) (k : ℕ) (s : Step) (a : ℕ) (v : View) → AreNotesOf k v old → IsNoted old new k s a → AreNotesOf k (made s a ∷ v) new
 notes_next old new k s a v are noted = record {
-  shown = noted.shown ∙ ap (λ e. events_noted old ++ option_to_list (event_of k (or_zero e) s a)) are.epoch ∙ shown_next (event_of k (epoch_of v) s a) (events_noted old) (events_of k v) are.shown;
+  shown = noted.shown ∙ ap (λ e. events_noted old ++ option_to_list (event_of k (or_zero e) s a)) are.epoch ∙ shown_next _ _ (events_of k v) are.shown;
   count = count_next (count_of_notes old) (count_of_notes new) (length v) (length (made s a ∷ v)) (omega arith) noted.count are.count;
   epoch = noted.epoch ∙ ap (epoch_after s a) are.epoch;
 }

@@ -29,11 +29,11 @@ none_open words n v e epoch none no_life deeds parked empty eligible (Word.Free 
 none_open words n v e epoch none no_life deeds parked empty eligible (Word.Life p grain) of =
     ap (λ (ws : List (List ℕ)). slice_index (get_or ws (p - 1) no_lives) grain) no_life ∙ zero_at 256 grain
 none_open words n v e epoch none no_life deeds parked empty eligible (Word.Deed p) of = all_zero words.deeds.items n (p - 1) deeds
-none_open words n v e epoch none no_life deeds parked empty eligible (Word.Backed p) of = ap (λ (ws : List PageWords). (get_or ws (p - 1) opening_page).backed) none
-none_open words n v e epoch none no_life deeds parked empty eligible (Word.Stamp p) of = ap (λ (ws : List PageWords). (get_or ws (p - 1) opening_page).stamp) none
+none_open words n v e epoch none no_life deeds parked empty eligible (Word.Backed p) of = ap (λ ws. (get_or ws (p - 1) opening_page).backed) none
+none_open words n v e epoch none no_life deeds parked empty eligible (Word.Stamp p) of = ap (λ ws. (get_or ws (p - 1) opening_page).stamp) none
 none_open words n v e epoch none no_life deeds parked empty eligible (Word.Parked j) of = all_zero words.parked.items v j parked
 none_open words n v e epoch none no_life deeds parked empty eligible (Word.Empty j) of = all_zero words.empty.items v j empty
-none_open words n v e epoch none no_life deeds parked empty eligible (Word.Eligible d j) of = all_zero words.eligible.items e (d * vector_words words.layout.pages + j) eligible
+none_open words n v e epoch none no_life deeds parked empty eligible (Word.Eligible d j) of = all_zero words.eligible.items e _ eligible
 
 -- ---- as more pages come
 pub past_all : {A : Type 0} (all : List A) (i : ℕ) (opening : A) → length all ≤ i → get_or all i opening ≡ opening
@@ -100,7 +100,7 @@ pub eligible_written : (old new : PagedWords) (d j n : ℕ) → IsWordIn old.lay
 eligible_written old new d j n of layout epoch pages lives deeds parked empty eligible (Word.Eligible b i) of' =
     ap (λ (l : Layout). slice_index new.eligible.items (b * vector_words l.pages + i)) layout
     ∙ ap (λ (row : List ℕ). slice_index row (b * vector_words old.layout.pages + i)) eligible
-    ∙ in_row old.eligible.items (vector_words old.layout.pages) old.layout.heaps d j b i n (omega (arith, old.eligible_sized, old.eligible.ok.0)) of.0 of.1 of'.1 _ refl
+    ∙ in_row old.eligible.items _ old.layout.heaps d j b i n (omega (arith, old.eligible_sized, old.eligible.ok.0)) of.0 of.1 of'.1 _ refl
 eligible_written old new d j n of layout epoch pages lives deeds parked empty eligible w of' = grind arith
 
 -- ---- a region at rest

@@ -51,8 +51,8 @@ since_once P Q (m ∷ xs) (inr h) = inr (since_once P Q xs h.1)
 pub in_turn_always : {A : Type 0} (P : A → List Made → Type 0) (R : Made → Type 0) → ((x : A) (piece : List Made) → P x piece → Always (λ m before. R m) piece)
     → (xs : List A) (steps : List Made) → InTurn P xs steps → Always (λ m before. R m) steps
 in_turn_always P R each [] steps h = subst (Always (λ m before. R m)) (sym h) tt
-in_turn_always P R each (x ∷ xs) steps h =
-    subst (Always (λ m before. R m)) (sym h.4) (always_both (λ m before. R m) (λ m before. R m) h.0 h.1 (λ m before r. r) (each x h.0 h.2) (in_turn_always P R each xs h.1 h.3))
+in_turn_always P R each (x ∷ xs) steps h = subst (Always (λ m before. R m)) (sym h.4)
+    (always_both (λ m before. R m) (λ m before. R m) h.0 h.1 (λ m before r. r) (each x h.0 h.2) (in_turn_always P R each xs h.1 h.3))
 
 -- at most so many steps for each thing, and for all things
 pub in_turn_length : {A : Type 0} (P : A → List Made → Type 0) (n : ℕ) → ((x : A) (piece : List Made) → P x piece → length piece ≤ n)

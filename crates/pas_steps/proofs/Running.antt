@@ -1,18 +1,77 @@
--- A state is stepped along a list as the list's words are.
-use Rattle.std.proofs.Common.{◌≡◌, ℕ, ◌+◌, ◌<◌, ◌≤◌, ◌==◌, Bool, true, false, if◌then◌else◌, List, [], ◌∷◌, length, get_or, set, take, Option, None, refl, ap}
-use Rattle.std.proofs.Common.{sym, ◌∙◌, subst, arith, inl, inr, eqb-true, length-append, length-set, length-take-le, take_at, take-take, get_or-take}
-use Rattle.std.proofs.Common.{get_or-set_same, get_or-set_other}
-use Rattle.std.proofs.lemmas.{Bool.eqb-false, Bool.cases_eq, List.take-append-le, List.get_or_at, List.get_or_append_left}
-use Rattle.pas_profile.specs.{Layouts.same_word, Profiles.IsValid, Profiles.IsWordOf}
+-- The words of a region: that the numbers of a step fit them, that the word of a step is one of them, and what they are after one was written.
+use Rattle.std.proofs.Common.{ℕ, ◌+◌, ◌*◌, ◌/◌, ◌^◌, ◌<◌, ◌≤◌, arith, ◌%◌, ◌≡◌, Bool, true, false, if◌then◌else◌, List, length, sym, slice_index, slice_set}
+use Rattle.std.proofs.Common.{get_or-set_same, get_or-set_other, ◌==◌, [], ◌∷◌, get_or, set, take, Option, None, refl, ap, ◌∙◌, subst, inl, inr, eqb-true}
+use Rattle.std.proofs.Common.{length-append, length-set, length-take-le, take_at, take-take, get_or-take}
+use Rattle.pas_profile.specs.Profiles.{IsValid, vector_words, IsWordOf, IsWordIn}
 use Rattle.pas_profile.specs.declared.{profile.Profile.Profile, word.Word.Word}
-use Rattle.pas_profile.proofs.Places.{same_word-true}
-use Rattle.pas_steps.specs.{Effects.target, Effects.new_value, Ranges.IsRanged, States.profile_of, States.word_in}
-use Rattle.pas_steps.specs.Views.{epoch_after, known_epoch, or_zero, epoch_of}
+use Rattle.pas_profile.specs.{Blocks.address_of, Layouts.index_of, Layouts.words_of, Layouts.same_word}
+use Rattle.pas_steps.specs.{Allowed.IsStepOf, Allowed.Allowed, Ranges.IsRanged, Effects.target, Effects.new_value, States.profile_of, States.word_in}
+use Rattle.pas_steps.specs.Views.{View, epoch_after, known_epoch, or_zero, epoch_of}
+use Rattle.pas_steps.specs.declared.{step.Step.Step, state.State.State}
+use Rattle.pas_steps.specs.declared.step.Step.TheVariants.{Deed, Give, End, EndSized, TakeRight, Offer, Take, Put, Park, Unpark, Hint, Tick, Unhint}
+use Rattle.pas_profile.proofs.{Codecs.number_lt, Places.same_word-true, Places.index_lt, Places.other_place}
+use Rattle.std.proofs.lemmas.{Bool.eqb-false, Bool.cases_eq, List.take-append-le, List.get_or_at, List.get_or_append_left}
 use Rattle.pas_steps.specs.Lists.{Triple, Whole, part, word_after, IsNext, Legal}
-use Rattle.pas_steps.specs.declared.{state.State.State, step.Step.Step}
-use Rattle.pas_steps.proofs.Targets.{is_ranged, target_of_region}
 use Rattle.pas_steps.specs.Runs.{in_order, CanRun, IsOpening, IsAfter, IsStepped}
 
+-- ==== The numbers in a step of a region fit the words that they go into.
+
+grains_fit : (first room pages : ℕ) → pages ≤ 16384 → 4096 ≤ first → first + room ≤ 4096 * (pages + 1) → room / 16 < 2 ^ 23
+grains_fit first room pages few low high = omega arith
+
+-- A length of at most the grains of a region is below 2^23.
+pub guess_fits : (guess pages : ℕ) → pages ≤ 16384 → guess ≤ 256 * pages → guess < 2 ^ 23
+guess_fits guess pages few high = omega arith
+
+heap_fits : (heap heaps : ℕ) → heaps ≤ 32 → heap < heaps → heap < 32
+heap_fits heap heaps few low = omega arith
+
+-- the numbers of a step of a valid profile fit
+pub is_ranged : (f : Profile) (s : Step) → IsValid f → IsStepOf f s → IsRanged s
+is_ranged f s valid of = grind (arith, heap_fits, grains_fit, guess_fits)
+
+-- ==== The word of a step of a region is one of the region.
+
+given_page : (first room pages : ℕ) → 4096 ≤ first → first + room ≤ 4096 * (pages + 1) → 0 < room
+    → (1 ≤ first / 16 / 256) × (first / 16 / 256 ≤ pages) × (first / 16 % 256 < 256)
+given_page first room pages low high some = (omega arith, omega arith, omega arith)
+
+ended_page : (first pages : ℕ) → 1 ≤ first / 4096 → first / 4096 ≤ pages → (1 ≤ first / 16 / 256) × (first / 16 / 256 ≤ pages) × (first / 16 % 256 < 256)
+ended_page first pages low high = (omega arith, omega arith, omega arith)
+
+-- a page vector has a bit for each page
+vector_has : (page pages : ℕ) → page ≤ pages → page / 64 < vector_words pages
+vector_has page pages low = omega arith
+
+-- only a block of no bytes may begin past the last page, and it isn't given
+pub target_of_region : (f : Profile) (v : View) (s : Step) → IsStepOf f s → Allowed f v s → IsWordOf f (target s)
+target_of_region f v (Deed page directory) of allowed = of.0
+target_of_region f v (Take page word mask) of allowed = (of.0.0, of.0.1, of.1)
+target_of_region f v (Put page word mask) of allowed = (of.0.0, of.0.1, of.1)
+target_of_region f v (Give block) of allowed = given_page (address_of block.name) block.room f.pages of.first of.last allowed.some
+target_of_region f v (End name guess) of allowed = ended_page (address_of name) f.pages of.0.0 of.0.1
+target_of_region f v (EndSized name room) of allowed = ended_page (address_of name) f.pages of.0.0.0 of.0.0.1
+target_of_region f v (TakeRight page directory) of allowed = (number_lt directory f.heaps of.1.heap of.1.kind, vector_has page f.pages of.0.1)
+target_of_region f v (Offer page directory) of allowed = (number_lt directory f.heaps of.1.heap of.1.kind, vector_has page f.pages of.0.1)
+target_of_region f v (Park page) of allowed = vector_has page f.pages of.1
+target_of_region f v (Unpark page) of allowed = vector_has page f.pages of.1
+target_of_region f v (Hint page) of allowed = vector_has page f.pages of.1
+target_of_region f v (Tick raised) of allowed = tt
+target_of_region f v (Unhint page) of allowed = vector_has page f.pages of.1
+target_of_region f v s of allowed = of
+
+-- ==== The words of a state after a write of one.
+
+-- a word's value after the write of another one's
+pub place_written : (pages heaps : ℕ) (words : List ℕ) (x w : Word) (n : ℕ) → length words ≡ words_of pages heaps → IsWordIn pages heaps x
+    → IsWordIn pages heaps w
+    → (same : Bool) → same_word x w ≡ same
+    → slice_index (slice_set words (index_of pages x) n) (index_of pages w) ≡ (if same then n else slice_index words (index_of pages w))
+place_written pages heaps words x w n sized hx hw true e = search (arith, index_lt, same_word-true, get_or-set_same)
+place_written pages heaps words x w n sized hx hw false e =
+    get_or-set_other words (index_of pages x) (index_of pages w) n 0 (λ same. other_place pages heaps x w hx hw e (sym same))
+
+-- A state is stepped along a list as the list's words are.
 -- ---- lists in order
 abbrev Steps : Type 0
 Steps = List (ℕ × Step)
@@ -59,8 +118,8 @@ step_in f (t ∷ l) i d legal lt = elim (cases_eq i (length (in_order l))) [
 
 -- Each step of a list that can be run is one at its place.
 pub step_at : (f : Profile) (steps : Steps) (i : ℕ) (d : ℕ × Step) → CanRun f steps → i < length steps → IsStepAt f steps i (get_or steps i d)
-step_at f steps i d can lt =
-    subst (λ (xs : Steps). IsStepAt f xs i (get_or xs i d)) can.steps_are (step_in f can.whole i d can.legal (subst (λ (xs : Steps). i < length xs) (sym can.steps_are) lt))
+step_at f steps i d can lt = subst (λ (xs : Steps). IsStepAt f xs i (get_or xs i d)) can.steps_are
+    (step_in f can.whole i d can.legal (subst (λ (xs : Steps). i < length xs) (sym can.steps_are) lt))
 
 -- what the step may rely on
 pub at_actor : (f : Profile) (steps : Steps) (i : ℕ) (x : ℕ × Step) → IsValid f → IsStepAt f steps i x → x.0 < 17
@@ -87,7 +146,7 @@ pub record IsSoFar (f : Profile) (steps : Steps) (i : ℕ) (state : State) (epoc
   pub epochs_are : (l : Whole) → Legal f l → in_order l ≡ take i steps → (k : ℕ) → k < 17 → get_or epochs k None ≡ known_epoch (part k l)
 
 not_empty : (l : Whole) (t : Triple) → in_order (t ∷ l) ≡ [] → ⊥
-not_empty l t h = let more : length (in_order (t ∷ l)) ≡ length (in_order l) + 1 = length_next l t in let none : length (in_order (t ∷ l)) ≡ 0 = ap length h in absurd (omega (arith, more, none))
+not_empty l t h = let more = length_next l t in let none : length (in_order (t ∷ l)) ≡ 0 = ap length h in absurd (omega (arith, more, none))
 
 first_words : (state : State) → IsOpening state → IsAfter (profile_of state) [] state
 first_words state opening [] legal is w of = opening w of
@@ -101,13 +160,14 @@ first_epochs f epochs none (t ∷ l) legal is k small = absurd (not_empty l t is
 -- Before any step a state stands at the opening, with no epoch known.
 pub so_far_first : (steps : Steps) (state : State) (epochs : List (Option ℕ)) → IsOpening state → length epochs ≡ 17
     → ((k : ℕ) → k < 17 → get_or epochs k None ≡ None) → IsSoFar (profile_of state) steps 0 state epochs
-so_far_first steps state epochs opening actors none = record { profile = refl; words = first_words state opening; actors = actors; epochs_are = first_epochs (profile_of state) epochs none }
+so_far_first steps state epochs opening actors none = record { profile = refl; words = first_words state opening; actors = actors; epochs_are = first_epochs _ _ none }
 
 -- the list up to a step is the list before it, and the step
 record IsSplit (steps : Steps) (i : ℕ) (d : ℕ × Step) (l : Whole) (t : Triple) : Type 0 where
   before : in_order l ≡ take i steps
   made : made_by t ≡ get_or steps i d
 
+-- A list that is the first steps in order is cut before the newest one.
 split : (steps : Steps) (i : ℕ) (d : ℕ × Step) (l : Whole) (t : Triple) → i < length steps → in_order (t ∷ l) ≡ take (i + 1) steps → IsSplit steps i d l t
 split steps i d l t lt is =
     let more : length (in_order (t ∷ l)) ≡ length (in_order l) + 1 = length_next l t in
@@ -179,7 +239,7 @@ next_epochs f steps i d old new epochs known lt far did (t ∷ l) legal is k sma
     let actors : length epochs ≡ 17 = far.actors in
     let lower : t.actor < 17 = here.actor in
     ap (λ (x : ℕ × Step). get_or (set epochs x.0 (epoch_after x.1 (word_in old (target x.1)) known)) k None) (sym parts.made)
-    ∙ epoch_next l t epochs (epoch_after t.made.step (word_in old (target t.made.step)) known) k (omega (arith, actors, lower)) (far.epochs_are l legal.1 parts.before k small)
+    ∙ epoch_next l t epochs _ k (omega (arith, actors, lower)) (far.epochs_are l legal.1 parts.before k small)
     (ap (λ (n : ℕ). epoch_after t.made.step n known) (at ∙ sym next.answer_is) ∙ ap (epoch_after t.made.step t.made.answer) kept) (t.actor == k) refl
 
 -- After one step more a state has the words of the list so far, and the epochs that are known.
@@ -190,12 +250,12 @@ pub so_far_next : (f : Profile) (steps : Steps) (i : ℕ) (d : ℕ × Step) (old
     → IsSoFar f steps (i + 1) new (set epochs (get_or steps i d).0 told)
 so_far_next f steps i d old new epochs known told valid can lt far known_is stepped told_is =
     let at : IsStepAt f steps i (get_or steps i d) = step_at f steps i d can lt in
-    let did : IsStep f old new epochs known (get_or steps i d) = record { of_region = at_word f steps i (get_or steps i d) at; actor = at_actor f steps i (get_or steps i d) valid at; known_is = known_is; stepped = stepped } in
+    let did : IsStep f old new _ _ (get_or _ i d) = record { of_region = at_word f _ i _ at; actor = at_actor f _ i _ valid at; known_is = known_is; stepped = stepped } in
     record {
       profile = stepped.profile ∙ far.profile;
       words = next_words f steps i d old new epochs known lt far did;
       actors = length-set epochs (get_or steps i d).0 told ∙ far.actors;
-      epochs_are = λ l legal is k small. ap (λ (o : Option ℕ). get_or (set epochs (get_or steps i d).0 o) k None) told_is ∙ next_epochs f steps i d old new epochs known lt far did l legal is k small;
+      epochs_are = λ l legal is k small. ap (λ o. get_or (set epochs (get_or steps i d).0 o) k None) told_is ∙ next_epochs f _ i d old new _ known lt far did l legal is k small;
     }
 
 -- ---- the end

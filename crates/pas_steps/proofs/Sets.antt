@@ -31,6 +31,7 @@ put_both {v} {w} {u} a b c page d e grains = search (arith, does_as, does_then, 
 pub put_as : {v w : View} (a b : ℕ → Bool) (page : ℕ) → Does (put a page) v w → ((x : ℕ) → a x ≡ b x) → Does (put b page) v w
 put_as a b page d same = does_as (put b page) d (λ x. inl (ap (λ t. if t then Lost else Kept) (same x))) (λ q. refl) (λ q h. h)
 
+-- A page that isn't lost is as clear as it was.
 may_open : (t : Bool) (q : ℕ) (v w : View) → (IsClearOn q v → IsClearOn q w) → ClearAfter (if t then Lost else Kept) q v w
 may_open t q v w h = grind arith
 
@@ -41,7 +42,7 @@ put_nothing {v} {w} a page d none = does_as (put a page) d (λ x. inl (ap (λ t.
 -- ---- the page is clear then
 pub put_freed : {v w u : View} (a pages : ℕ → Bool) (page : ℕ) → Does (put a page) v w → Does (on_page page Kept Gained) w u → ((q : ℕ) → (page == q) ≡ pages q)
     → Does (freed a pages) v u
-put_freed {v} {w} {u} a pages page d e its = does_as (freed a pages) (does_then d e) (λ x. inl refl) (λ q. kept_kept (page == q)) (λ q h. subst (λ t. ClearAfter t q v u) (open_first (page == q) (pages q) (its q)) h)
+put_freed {v} {w} {u} a pages page d e its = does_as _ (does_then d e) (λ x. inl refl) (λ q. kept_kept _) (λ q h. subst (λ t. ClearAfter t q v u) (open_first _ (pages q) (its q)) h)
 
 -- Grains that were freed one set after the other were freed together.
 pub freed_both : {v w u : View} (a p b q c r : ℕ → Bool) → Does (freed a p) v w → Does (freed b q) w u → ((x : ℕ) → (a x || b x) ≡ c x)
@@ -50,7 +51,8 @@ freed_both {v} {w} {u} a p b q c r d e grains pages = search (arith, does_as, do
 
 -- A set without grains or pages was freed where nothing was done.
 pub freed_nothing : {v w : View} (a p : ℕ → Bool) → Does nothing v w → ((x : ℕ) → a x ≡ false) → ((x : ℕ) → p x ≡ false) → Does (freed a p) v w
-freed_nothing {v} {w} a p d none no_page = does_as (freed a p) d (λ x. inl (ap (λ t. if t then Lost else Kept) (sym (none x)))) (λ q. refl) (λ q h. subst (λ t. ClearAfter (if t then Gained else Kept) q v w) (sym (no_page q)) h)
+freed_nothing {v} {w} a p d none no_page = does_as (freed a p) d (λ x. inl (ap (λ t. if t then Lost else Kept) (sym (none x)))) (λ q. refl)
+    (λ q h. subst (λ t. ClearAfter (if t then Gained else Kept) q v w) (sym (no_page q)) h)
 
 -- ---- one thing that is given, or got and lost again
 pub given_fate : (t : Bool) (g : ℕ) → later Kept (grain_fate (if t then Gives g else Stays)) ≡ (if t then Lost else Kept)

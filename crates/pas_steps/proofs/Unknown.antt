@@ -6,7 +6,7 @@ use Rattle.pas_profile.specs.declared.profile.Profile.{Profile}
 use Rattle.pas_steps.specs.{Views.View, Views.known_deed, Agreement.Agreed}
 use Rattle.pas_steps.specs.Unknown.{KnowsAllDeeds, unknown_here, unknown_below, unknown_pages, HasRoom}
 use Rattle.pas_steps.specs.declared.step.Made.{Made}
-use Rattle.pas_steps.proofs.Kept.{deed_stays}
+use Rattle.pas_steps.proofs.Frames.{deed_stays}
 
 abbrev one_if : Bool → ℕ
 one_if t = if t then 1 else 0

@@ -37,7 +37,7 @@ impl WordRow {
     }
 
     /// Writes a word, and leaves each other one as it was.
-    #[tactic(auto, using(crate::proofs::Targets::place_written))]
+    #[tactic(auto, using(crate::proofs::Running::place_written))]
     #[inline]
     pub(crate) fn set(&mut self, word: Word, value: u64)
         requires { IsWordIn self.old.layout.pages self.old.layout.heaps word }

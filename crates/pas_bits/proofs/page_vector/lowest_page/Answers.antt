@@ -6,4 +6,4 @@ pub returns-then-rest-eq0 : goal.returns-then-rest-eq0
 returns-then-rest-eq0 c = no_page c.args.word c.args.number c.args.next c.saturating_sub-low.result c.saturating_sub-low.ensures c.if-rest-eq0.true
 
 pub returns : goal.returns
-returns c = lowest_found c.args.word c.args.number c.args.next c.saturating_sub-low.result c.saturating_sub-low.ensures (omega (arith, c.if-low-ge64.false)) (omega arith) c.if-rest-eq0.false
+returns c = search (arith, lowest_found)

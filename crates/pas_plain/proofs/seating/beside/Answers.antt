@@ -2,7 +2,7 @@ use Rattle.std.proofs.Common.{◌≡◌, List, [], ◌∷◌, ◌++◌, ap, sym,
 use Rattle.pas_profile.specs.Rooms.{EventRoom}
 use Rattle.pas_plain.specs.Plain.{profile_of, actor_of, room_of_pass, PassStands}
 use Rattle.pas_plain.specs.declared.{pass.PlainPass.PlainPass, region.PlainRegion.PlainRegion}
-use Rattle.pas_plain.proofs.FreshPasses.{are_two}
+use Rattle.pas_plain.proofs.Desks.{are_two}
 use Rattle.pas_plain.proofs.seating.beside.Goals as goal
 
 pub desk-requires : goal.desk-requires

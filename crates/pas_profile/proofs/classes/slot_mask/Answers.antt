@@ -1,4 +1,4 @@
-use Rattle.std.proofs.Common.{◌≡◌, ℕ, ◌*◌, ◌/◌, ◌-◌, ◌%◌, ◌^◌, ◌<◌, ◌==◌, Bool, List, [], ◌∷◌, get_or, refl, sym, subst}
+use Rattle.std.proofs.Common.{arith, ◌≡◌, ℕ, ◌*◌, ◌/◌, ◌-◌, ◌%◌, ◌^◌, ◌<◌, ◌==◌, Bool, List, [], ◌∷◌, get_or, refl, sym, subst}
 use Rattle.std.proofs.lemmas.Bool.{agree_below, agree_below_at}
 use Rattle.pas_profile.specs.Classes.{IsClass, class_size, is_usable}
 use Rattle.std.specs.Int.{bit_at}
@@ -18,4 +18,4 @@ each_bit class h g lt = agree_below_at (λ g. is_masked (mask_of (class_size cla
     (class_passes (λ class. agree_below (λ g. is_masked (mask_of (class_size class)) g) (is_usable class) 256) refl class h) lt
 
 pub returns : goal.returns
-returns c = subst (λ size. (g : ℕ) → g < 256 → is_masked (mask_of size) g ≡ is_usable c.args.class g) (sym c.class_size-size.ensures) (each_bit c.args.class c.requires)
+returns c = search (arith, each_bit)

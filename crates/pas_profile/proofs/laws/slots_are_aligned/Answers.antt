@@ -1,4 +1,4 @@
-use Rattle.pas_profile.proofs.ClassFacts.{slot_aligned}
+use Rattle.pas_profile.proofs.Sizes.{slot_aligned}
 use Rattle.pas_profile.proofs.laws.slots_are_aligned.Goals as goal
 
 pub returns : goal.returns

@@ -19,26 +19,14 @@ returns-then-class-align-eq0 c =
     let room = le-leb size block (c.loop-class.invariant.large class (omega arith) (omega (arith, few))) in
     let aligned = eq-eqb (block % c.args.align) 0 c.if-class-align-eq0.true in
     let suits = and_from (leb size block) (eqb (block % c.args.align) 0) room aligned in
-    route_found c.args.classes c.args.size c.args.align class (sym c.loop-class.invariant.rest ∙ found_at c.args.classes class size c.args.align few c.loop-class-test.true suits)
+    route_found c.args.classes c.args.size c.args.align class (cc (found_at c.args.classes class size c.args.align few c.loop-class-test.true suits))
 
 pub loop-class-preserved : goal.loop-class-preserved
 loop-class-preserved c =
-    let class = c.loop-class.class in
-    let size = max c.args.size 1 in
-    let block = class_size class in
-    let crooked = ne_eqb (block % c.args.align) 0 c.if-class-align-eq0.false in
-    let passed = and_right (leb size block) (eqb (block % c.args.align) 0) crooked in
-    record {
-      rest = passed_at c.args.classes class size c.args.align c.loop-class-test.true passed ∙ c.loop-class.invariant.rest;
-      large = λ k ge lt. c.loop-class.invariant.large k (omega (arith, ge)) lt;
-    }
+    search (arith, ne_eqb, and_right, leb, eqb, passed_at)
 
 pub returns-then-size-le-MOST_BITFIT : goal.returns-then-size-le-MOST_BITFIT
-returns-then-size-le-MOST_BITFIT c = bitfit_for c.args.classes c.args.size c.args.align c.if-size-le-MOST_BITFIT.true
-    (elim c.if-grains-lt65.branch [
-      | then-grains-lt65+else-loop-class-test w ↦ after_all c.args.classes c.args.size c.args.align w.loop-class.class w.loop-class-test.false w.loop-class.invariant.rest
-      | else-grains-lt65 w ↦ none_above c.args.classes c.args.size c.args.align (omega (arith, w.if-grains-lt65.false, c.div_ceil-grains.ensures))
-    ])
+returns-then-size-le-MOST_BITFIT c = search (arith, bitfit_for, after_all, else-grains-lt65, none_above)
 
 pub returns-else-size-le-MOST_BITFIT : goal.returns-else-size-le-MOST_BITFIT
 returns-else-size-le-MOST_BITFIT c = large_for c.args.classes c.args.size c.args.align c.if-size-le-MOST_BITFIT.false

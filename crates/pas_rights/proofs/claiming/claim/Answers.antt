@@ -1,4 +1,4 @@
-use Rattle.pas_rights.proofs.Claimed.{claims}
+use Rattle.pas_rights.proofs.Orders.{claims}
 use Rattle.pas_rights.proofs.claiming.claim.Goals as goal
 
 pub returns-clause-claims : goal.returns-clause-claims

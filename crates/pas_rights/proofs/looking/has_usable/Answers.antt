@@ -1,5 +1,5 @@
 use Rattle.std.proofs.Common.{arith}
-use Rattle.pas_rights.proofs.Looks.{match_not, usable_some, usable_none}
+use Rattle.pas_rights.proofs.Orders.{match_not, usable_some, usable_none}
 use Rattle.pas_rights.proofs.looking.has_usable.Goals as goal
 
 pub returns : goal.returns

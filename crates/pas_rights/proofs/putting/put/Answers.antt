@@ -13,13 +13,13 @@ put_word-requires-clause-page g c = subst (λ s. IsPage s.profile c.args.page) (
 
 pub put_word-requires-clause-can : goal.put_word-requires-clause-can
 put_word-requires-clause-can g c = let i = c.loop-word.invariant in
-    next_call i.calls c.requires.can (λ v met d. may_put_word c.args.page c.args.mask.now c.loop-word.word i.steps v i.order met d)
+    next_call i.calls c.requires.can (λ v met d. may_put_word _ _ c.loop-word.word i.steps v i.order met d)
 
 pub loop-word-preserved : goal.loop-word-preserved
 loop-word-preserved g c = let i = c.loop-word.invariant in let p = c.put_word.ensures.puts in record {
   steps = p.steps ++ i.steps;
   order = subst (λ n. PutsBelow c.args.page c.args.mask.now n (p.steps ++ i.steps)) (sym (add-one c.loop-word.word)) (p.steps, i.steps, p.order, i.order, refl);
-  calls = puts_more c.args.page c.args.mask.now c.loop-word.word i.steps i.order i.calls p;
+  calls = puts_more _ _ c.loop-word.word i.steps i.order i.calls p;
   home = c.put_word.ensures.home ∙ i.home;
 }
 

@@ -1,4 +1,4 @@
-use Rattle.pas_rights.proofs.PutsBack.{can_leave, puts_and_leaves}
+use Rattle.pas_rights.proofs.Puts.{can_leave, puts_and_leaves}
 use Rattle.pas_rights.proofs.putting.put_and_leave.Goals as goal
 
 pub leave-requires-clause-can : goal.leave-requires-clause-can

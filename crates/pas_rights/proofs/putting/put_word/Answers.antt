@@ -1,4 +1,4 @@
-use Rattle.std.proofs.Common.{[], ◌∷◌, refl, inl, inr}
+use Rattle.std.proofs.Common.{arith, [], ◌∷◌, refl, inl, inr}
 use Rattle.pas_steps.specs.Desks.{made}
 use Rattle.pas_steps.specs.declared.step.Step.TheVariants.{Put}
 use Rattle.pas_steps.proofs.{Adding.adds_none, Adding.adds_step, Called.call_none, Calls.leads_put, Calls.leads_as}
@@ -10,10 +10,10 @@ returns-then-mask-ne0-clause-puts g c = let a = c.put.result in record {
   steps = made (Put c.args.page c.args.word c.args.mask) a ∷ [];
   calls = record {
     adds = adds_step adds_none c.put.ensures.makes (λ v l stood met. record { some = c.if-mask-ne0.true; held = met.held; stamped = met.stamped });
-    leads = leads_as (leads_put (g.D.Desk.standing c.args.desk.now).seat.profile c.args.page c.args.word c.args.mask a) (λ v met. tt) (λ v w met d. d);
+    leads = leads_as (leads_put (g.D.Desk.standing c.args.desk.now).seat.profile _ _ _ a) (λ v met. tt) (λ v w met d. d);
   };
   order = inr (c.if-mask-ne0.true, a, refl);
 }
 
 pub returns-else-mask-ne0-clause-puts : goal.returns-else-mask-ne0-clause-puts
-returns-else-mask-ne0-clause-puts g c = record { steps = []; calls = call_none (λ v met. word_none c.args.page c.args.word c.args.mask v c.if-mask-ne0.false); order = inl (c.if-mask-ne0.false, refl) }
+returns-else-mask-ne0-clause-puts g c = search (arith, call_none, word_none)

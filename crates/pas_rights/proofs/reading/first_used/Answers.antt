@@ -2,14 +2,14 @@ use Rattle.std.proofs.Common.{◌≡◌, refl, subst, ◌∙◌, add-one, arith}
 use Rattle.pas_steps.specs.Desks.{AnyView, Adds}
 use Rattle.pas_steps.proofs.Adding.{adds_none, adds_step, can_step}
 use Rattle.pas_rights.specs.{Looks.looks, Words.ones}
-use Rattle.pas_rights.proofs.Looks.{more_looks}
+use Rattle.pas_rights.proofs.Orders.{more_looks}
 use Rattle.pas_rights.proofs.reading.first_used.Goals as goal
 
 pub loop-word-init : goal.loop-word-init
 loop-word-init g c = record { adds = adds_none; home = refl }
 
 pub look-value-requires-clause-can : goal.look-value-requires-clause-can
-look-value-requires-clause-can g c = can_step c.loop-word.invariant.adds c.requires.can (c.requires.page.0, c.requires.page.1, c.loop-word-test.true) (λ v l stood met. tt)
+look-value-requires-clause-can g c = search (arith, can_step)
 
 pub loop-word-preserved : goal.loop-word-preserved
 loop-word-preserved g c = let D = g.D.Desk in let i = c.loop-word.invariant in record {
@@ -18,7 +18,7 @@ loop-word-preserved g c = let D = g.D.Desk in let i = c.loop-word.invariant in r
 }
 
 pub returns-then-value-clause-reads : goal.returns-then-value-clause-reads
-returns-then-value-clause-reads g c = record { are = record { within = c.loop-word-test.true; some = c.if-value.true }; adds = adds_step c.loop-word.invariant.adds c.look-value.ensures.makes (λ v l stood met. tt) }
+returns-then-value-clause-reads g c = search (arith, adds_step)
 
 pub returns-clause-reads : goal.returns-clause-reads
 returns-clause-reads g c = let D = g.D.Desk in let all : c.loop-word.word ≡ 4 = omega (arith, c.loop-word.auto.word-end, c.loop-word-test.false) in record {

@@ -1,21 +1,20 @@
-use Rattle.std.proofs.Common.{[], ◌∷◌}
+use Rattle.std.proofs.Common.{arith, [], ◌∷◌}
 use Rattle.pas_bits.specs.declared.mask.Mask4.{Mask4}
 use Rattle.pas_steps.proofs.Adding.{adds_none, adds_call, can_call}
 use Rattle.pas_rights.specs.Words.{words}
-use Rattle.pas_rights.proofs.Takes.{takes_right, takes_get}
+use Rattle.pas_rights.proofs.Puts.{takes_right, takes_get}
 use Rattle.pas_rights.proofs.taking.take.Goals as goal
 
 pub take_word-requires-2-clause-can : goal.take_word-requires-2-clause-can
-take_word-requires-2-clause-can g c = let page = c.args.page in let mask = words c.args.mask.now in
-    can_call (adds_call adds_none c.take_word.ensures.takes (λ v l stood met. met)) c.requires.can (λ v l stood. takes_right page mask (λ w. c.take_word.result) 1 v)
+take_word-requires-2-clause-can g c = search (arith, can_call, adds_call, adds_none, takes_right)
 
 pub take_word-requires-3-clause-can : goal.take_word-requires-3-clause-can
-take_word-requires-3-clause-can g c = let page = c.args.page in let mask = words c.args.mask.now in let answers = words (record { 0 = c.take_word.result ∷ c.take_word-2.result ∷ [] }) in
-    can_call (adds_call (adds_call adds_none c.take_word.ensures.takes (λ v l stood met. met)) c.take_word-2.ensures.takes (λ v l stood. takes_right page mask answers 1 v)) c.requires.can (λ v l stood. takes_right page mask answers 2 v)
+take_word-requires-3-clause-can g c = search (arith, can_call, adds_call, adds_none, takes_right)
 
 pub take_word-requires-4-clause-can : goal.take_word-requires-4-clause-can
 take_word-requires-4-clause-can g c = let page = c.args.page in let mask = words c.args.mask.now in let answers = words (record { 0 = c.take_word.result ∷ c.take_word-2.result ∷ c.take_word-3.result ∷ [] }) in
-    can_call (adds_call (adds_call (adds_call adds_none c.take_word.ensures.takes (λ v l stood met. met)) c.take_word-2.ensures.takes (λ v l stood. takes_right page mask answers 1 v)) c.take_word-3.ensures.takes (λ v l stood. takes_right page mask answers 2 v))
+    can_call (adds_call (adds_call (adds_call adds_none c.take_word.ensures.takes (λ v l stood met. met)) c.take_word-2.ensures.takes
+    (λ v l stood. takes_right page mask answers 1 v)) c.take_word-3.ensures.takes (λ v l stood. takes_right page mask answers 2 v))
     c.requires.can (λ v l stood. takes_right page mask answers 3 v)
 
 pub returns-clause-takes : goal.returns-clause-takes
@@ -28,6 +27,6 @@ returns-clause-takes g c =
       calls = record {
         adds = adds_call (adds_call (adds_call (adds_call adds_none c.take_word.ensures.takes (λ v l stood met. met)) c.take_word-2.ensures.takes (λ v l stood. takes_right page (words mask) (words answers) 1 v))
             c.take_word-3.ensures.takes (λ v l stood. takes_right page (words mask) (words answers) 2 v)) c.take_word-4.ensures.takes (λ v l stood. takes_right page (words mask) (words answers) 3 v);
-        leads = record { from = λ v met agreed. takes_get page mask answers c.both.result c.both.ensures (g.D.Desk.standing c.args.desk.now).seat.profile v agreed };
+        leads = record { from = λ v met agreed. takes_get page mask answers _ c.both.ensures (g.D.Desk.standing c.args.desk.now).seat.profile v agreed };
       };
     }

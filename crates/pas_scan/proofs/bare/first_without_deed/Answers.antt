@@ -19,7 +19,8 @@ returns-then-deed-eq0-clause-found g c =
       answers = a ∷ i.answers;
       order = order;
       count = looks_count (λ p. Word.Deed p) c.args.from (page + 1 - c.args.from) (step ∷ i.steps) (a ∷ i.answers) order (omega (arith, i.at));
-      outcome = first_none (g.D.Desk.standing c.args.desk.now).seat.profile c.args.from page a i.steps c.requires.from (omega (arith, c.loop-page.auto.page)) (omega (arith, pages, c.loop-page-test.true)) c.if-deed-eq0.true i.deeds;
+      outcome = first_none (g.D.Desk.standing c.args.desk.now).seat.profile c.args.from page a i.steps c.requires.from (omega (arith, c.loop-page.auto.page))
+          (omega (arith, pages, c.loop-page-test.true)) c.if-deed-eq0.true i.deeds;
     }
 
 pub loop-page-preserved : goal.loop-page-preserved
@@ -28,9 +29,9 @@ loop-page-preserved g c =
     record {
       steps = step ∷ i.steps;
       adds = adds_step i.adds c.look-deed.ensures.makes (λ v l stood met. tt);
-      deeds = deed_more c.args.from page i.steps a i.deeds c.if-deed-eq0.false;
+      deeds = deed_more _ page i.steps a i.deeds c.if-deed-eq0.false;
       answers = a ∷ i.answers;
-      order = looks_more (λ p. Word.Deed p) c.args.from page a i.steps i.answers i.at i.order;
+      order = looks_more (λ p. Word.Deed p) _ page a i.steps i.answers i.at i.order;
       at = omega (arith, i.at);
       few = (let pages : c.profile.result.now.pages ≡ (g.D.Desk.standing c.args.desk.now).seat.profile.pages = ap (λ f. f.pages) c.profile.ensures in omega (arith, i.at, pages, c.loop-page-test.true));
       home = c.look-deed.ensures.home ∙ i.home;
@@ -42,10 +43,10 @@ returns-clause-found g c =
     record {
       steps = i.steps;
       adds = i.adds;
-      scans = looks_scan (λ p. Word.Deed p) c.args.from (λ p. IsScan.LooksDeed p) i.steps i.answers i.order;
-      single = looks_single (λ p. Word.Deed p) c.args.from (λ p q e. cc) i.steps i.answers i.order;
+      scans = looks_scan (λ p. Word.Deed p) _ (λ p. IsScan.LooksDeed p) i.steps i.answers i.order;
+      single = looks_single (λ p. Word.Deed p) _ (λ p q e. cc) i.steps i.answers i.order;
       answers = i.answers;
       order = i.order;
-      count = looks_count (λ p. Word.Deed p) c.args.from ((g.D.Desk.standing c.args.desk.now).seat.profile.pages + 1 - c.args.from) i.steps i.answers i.order (omega (arith, i.at, i.few, pages, c.loop-page-test.false));
+      count = looks_count (λ p. Word.Deed p) _ _ i.steps i.answers i.order (omega (arith, i.at, i.few, pages, c.loop-page-test.false));
       outcome = λ p low high. i.deeds p low (omega (arith, pages, high, c.loop-page-test.false));
     }

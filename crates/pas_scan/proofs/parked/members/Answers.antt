@@ -4,24 +4,25 @@ use Rattle.pas_profile.specs.declared.word.Word.{Word}
 use Rattle.pas_steps.specs.declared.step.{Made.Made, Step.TheVariants.Look}
 use Rattle.pas_steps.specs.Desks.{made}
 use Rattle.pas_steps.proofs.Adding.{adds_step}
-use Rattle.pas_scan.proofs.{Reading.single_more, Reading.below_more, parked.members.Goals.then-is_open, parked.members.Goals.else-is_open}
-use Rattle.pas_scan.proofs.Judging.{members_more, IsSpan, span_block, span_first, span_some, span_end, span_page}
+use Rattle.pas_scan.proofs.Reading.{single_more, below_more, members_more, IsSpan, span_block, span_first, span_some, span_end, span_page}
+use Rattle.pas_scan.proofs.parked.members.Goals.{then-is_open, else-is_open}
 use Rattle.pas_scan.proofs.parked.members.Goals as goal
 
 pub loop-page-preserved : goal.loop-page-preserved
 loop-page-preserved g c =
     let i = c.loop-page.invariant in let page = c.loop-page.page in let a = c.look-deed.result in let step : Made = made (Look (Word.Deed page)) a in let looked = c.args.looked.now in
     let span : IsSpan c.args.block (g.D.Desk.standing c.args.desk.now).seat.profile.pages c.max-first.result c.min-end.result = record { first_is = c.max-first.ensures; end_is = c.min-end.ensures ∙ ap (λ f. min (c.args.block * 64 + 64) (f.pages + 1)) c.profile.ensures } in
-    let at : page / 64 ≡ c.args.block = span_block c.args.block (g.D.Desk.standing c.args.desk.now).seat.profile.pages c.max-first.result c.min-end.result page span c.loop-page.auto.page c.loop-page-test.true in
+    let at : page / 64 ≡ c.args.block = span_block _ (g.D.Desk.standing c.args.desk.now).seat.profile.pages _ _ page span c.loop-page.auto.page c.loop-page-test.true in
     record {
       steps = step ∷ i.steps;
       adds = adds_step i.adds c.look-deed.ensures.makes (λ v l stood met. tt);
       deeds = ((page, refl, at), i.deeds);
-      single = single_more (page + page / 64) step i.steps i.below (omega arith) i.single;
-      below = (omega arith, below_more (page + page / 64) (page + 1 + (page + 1) / 64) i.steps (omega arith) i.below);
-      members = members_more (g.D.Desk.standing c.args.desk.now).seat.profile looked.unfit looked.directory c.args.block c.max-first.result page c.loop-page.members _ a i.steps i.members at c.loop-page.auto.page
+      single = single_more _ step i.steps i.below (omega arith) i.single;
+      below = (omega arith, below_more _ _ i.steps (omega arith) i.below);
+      members = members_more (g.D.Desk.standing c.args.desk.now).seat.profile looked.unfit looked.directory _ _ page c.loop-page.members _ a i.steps i.members at c.loop-page.auto.page
           (λ p e. elim c.if-is_open.branch [
-            | then-is_open w ↦ ap (λ m. is_in_word m p) w.members-is ∙ w.with_page-members.ensures p (e ∙ sym at) ∙ ap (λ o. (o && (page == p)) || is_in_word c.loop-page.members p) (sym w.if-is_open.true ∙ c.is_open.ensures)
+            | then-is_open w ↦ ap (λ m. is_in_word m p) w.members-is ∙ w.with_page-members.ensures p (e ∙ sym at)
+                ∙ ap (λ o. (o && (page == p)) || is_in_word c.loop-page.members p) (sym w.if-is_open.true ∙ c.is_open.ensures)
             | else-is_open w ↦ ap (λ m. is_in_word m p) w.members-is ∙ ap (λ o. (o && (page == p)) || is_in_word c.loop-page.members p) (sym w.if-is_open.false ∙ c.is_open.ensures)
           ]);
       count = omega (arith, i.count);
@@ -34,13 +35,14 @@ returns-clause-members g c =
     let span : IsSpan c.args.block (g.D.Desk.standing c.args.desk.now).seat.profile.pages c.max-first.result c.min-end.result = record { first_is = c.max-first.ensures; end_is = c.min-end.ensures ∙ ap (λ f. min (c.args.block * 64 + 64) (f.pages + 1)) c.profile.ensures } in
     let f = (g.D.Desk.standing c.args.desk.now).seat.profile in let first = c.max-first.result in let end = c.min-end.result in
     let past : end ≤ page = c.loop-page-test.false in
-    let exact : page ≤ end = c.loop-page.auto.page-end (span_some c.args.block f.pages first end span c.requires.block (g.met.D.Desk.valid c.args.desk.now).some_page) in
+    let exact : page ≤ end = c.loop-page.auto.page-end (span_some _ f.pages first end span c.requires.block (g.met.D.Desk.valid c.args.desk.now).some_page) in
     record {
       steps = i.steps;
       adds = i.adds;
       deeds = i.deeds;
       single = i.single;
       few = (omega (arith, i.count, exact, c.max-first.ensures, span.end_is));
-      members = λ v p at is. i.members.all v p at (span_first c.args.block f.pages first end p span at is.of_region.0) (let lt = span_end c.args.block f.pages first end p span at is.of_region.1 in omega (arith, lt, past)) is.of_directory is.unmarked;
-      only = λ v p at bit. let old = i.members.only v p at bit in record { of_region = span_page f c.args.block first end p span old.0 (omega (arith, old.1, exact)); of_directory = old.2; unmarked = old.3 };
+      members = λ v p at is. i.members.all v p at (span_first _ f.pages first end p span at is.of_region.0)
+          (let lt = span_end _ f.pages first end p span at is.of_region.1 in omega (arith, lt, past)) is.of_directory is.unmarked;
+      only = λ v p at bit. let old = i.members.only v p at bit in record { of_region = span_page f _ first end p span old.0 (omega (arith, old.1, exact)); of_directory = old.2; unmarked = old.3 };
     }

@@ -4,7 +4,7 @@ use Rattle.pas_profile.specs.declared.word.Word.{Word}
 use Rattle.pas_steps.specs.declared.step.Step.TheVariants.{Look}
 use Rattle.pas_steps.specs.Desks.{Makes, made}
 use Rattle.pas_steps.proofs.Adding.{adds_none, adds_step}
-use Rattle.pas_scan.proofs.{Reading.looks_more, EligibleRows.zero_row, EligibleRows.words_more, EligibleRows.rest_more}
+use Rattle.pas_scan.proofs.Reading.{looks_more, zero_row, words_more, rest_more}
 use Rattle.pas_scan.proofs.row.read_row.Goals as goal
 
 pub loop-word-init : goal.loop-word-init
@@ -15,7 +15,7 @@ loop-word-init g c = record {
   order = refl;
   at = omega arith;
   words = λ b low high. absurd (omega (arith, low, high));
-  rest = λ b low. zero_row (b - c.args.block);
+  rest = λ b low. zero_row _;
   long = refl;
   home = refl;
 }
@@ -29,10 +29,10 @@ loop-word-preserved g c =
       steps = made (Look (Word.Eligible number word)) a ∷ i.steps;
       adds = adds_step i.adds makes (λ v l stood met. tt);
       answers = a ∷ i.answers;
-      order = looks_more (λ j. Word.Eligible number j) c.args.block word a i.steps i.answers i.at i.order;
+      order = looks_more (λ j. Word.Eligible number j) _ word a i.steps i.answers i.at i.order;
       at = omega (arith, i.at);
-      words = words_more number c.args.block word a c.loop-word.row i.steps (omega (arith, i.at)) (omega (arith, i.long, room, c.loop-word-test.true)) i.words;
-      rest = rest_more c.args.block word a c.loop-word.row (omega (arith, i.at)) i.rest;
+      words = words_more number _ word a c.loop-word.row i.steps (omega (arith, i.at)) (omega (arith, i.long, room, c.loop-word-test.true)) i.words;
+      rest = rest_more _ word a c.loop-word.row (omega (arith, i.at)) i.rest;
       long = search rules;
       home = c.look.ensures.home ∙ i.home;
     }

@@ -12,7 +12,7 @@ loop-page-init g c = record {
   kinds = tt;
   few = omega arith;
   most = omega arith;
-  so_far = run_none (large_directory c.args.heap) c.args.from c.args.next c.args.pages (c.args.next - c.args.from) c.requires.read c.requires.short refl;
+  so_far = run_none _ _ _ _ _ c.requires.read c.requires.short refl;
   home = refl;
 }
 
@@ -26,7 +26,7 @@ returns-then-length-pages-clause-found g c =
       adds = adds_call i.adds h.adds (λ v l stood met. tt);
       kinds = only_both page_looks h.steps i.steps h.kinds i.kinds;
       few = (let n = length-append h.steps i.steps in let is = sym c.longer-length.ensures ∙ c.if-length-pages.true in omega (arith, n, h.few, i.few, i.so_far.within, is));
-      outcome = run_found f d c.args.from c.args.next c.args.pages page c.loop-page.length h.steps i.steps c.is_usable-usable.result (omega (arith, c.requires.read, c.requires.short)) (left_alone_by page_looks refl refl page i.steps i.kinds)
+      outcome = run_found f d _ _ _ page c.loop-page.length h.steps i.steps _ (omega (arith, c.requires.read, c.requires.short)) (left_alone_by page_looks refl refl page i.steps i.kinds)
           (omega (arith, c.loop-page-test.true, pages)) i.so_far h.deed h.outcome (sym c.longer-length.ensures ∙ c.if-length-pages.true);
     }
 
@@ -38,9 +38,10 @@ loop-page-preserved g c =
       adds = adds_call i.adds h.adds (λ v l stood met. tt);
       kinds = only_both page_looks h.steps i.steps h.kinds i.kinds;
       few = (let n = length-append h.steps i.steps in omega (arith, n, h.few, i.few));
-      most = (let n = length-append h.steps i.steps in let pages : c.profile.result.now.pages ≡ (g.D.Desk.standing c.args.desk.now).seat.profile.pages = ap (λ (x : Profile). x.pages) c.profile.ensures in omega (arith, n, h.few, i.few, c.loop-page-test.true, pages));
+      most = (let n = length-append h.steps i.steps in let pages : c.profile.result.now.pages ≡ (g.D.Desk.standing c.args.desk.now).seat.profile.pages =
+          ap (λ (x : Profile). x.pages) c.profile.ensures in omega (arith, n, h.few, i.few, c.loop-page-test.true, pages));
       so_far = subst (λ n. RunSoFar d c.args.from c.args.next c.args.pages (page + 1) n (h.steps ++ i.steps)) (sym c.longer-length.ensures)
-          (run_more d c.args.from c.args.next c.args.pages page c.loop-page.length h.steps i.steps c.is_usable-usable.result (left_alone_by page_looks refl refl page i.steps i.kinds) (omega (arith, c.loop-page.auto.page, c.requires.read)) i.so_far h.deed h.outcome
+          (run_more d _ _ _ page c.loop-page.length h.steps i.steps _ (left_alone_by page_looks refl refl page i.steps i.kinds) (omega (arith, c.loop-page.auto.page, c.requires.read)) i.so_far h.deed h.outcome
           (λ e. c.if-length-pages.false (c.longer-length.ensures ∙ e)));
       home = c.is_usable-usable.ensures.home ∙ i.home;
     }
@@ -55,5 +56,5 @@ returns-clause-found g c =
       adds = i.adds;
       kinds = i.kinds;
       few = i.most;
-      outcome = run_ended f d c.args.from c.args.next c.args.pages c.loop-page.page c.loop-page.length i.steps (omega (arith, c.loop-page-test.false, pages)) i.so_far;
+      outcome = run_ended f d _ _ _ c.loop-page.page c.loop-page.length i.steps (omega (arith, c.loop-page-test.false, pages)) i.so_far;
     }

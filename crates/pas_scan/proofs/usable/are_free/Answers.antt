@@ -19,7 +19,7 @@ loop-word-preserved g c =
       adds = adds_step i.adds c.look-value.ensures.makes (λ v l stood met. tt);
       kinds = (refl, i.kinds);
       count = omega (arith, i.count);
-      free = free_more c.args.page c.loop-word.word a i.steps c.if-value.false i.free;
+      free = free_more _ c.loop-word.word a i.steps c.if-value.false i.free;
       home = c.look-value.ensures.home ∙ i.home;
     }
 

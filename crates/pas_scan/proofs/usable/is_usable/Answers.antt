@@ -43,5 +43,5 @@ pub returns-then-has_page-clause-reads : goal.returns-then-has_page-clause-reads
 returns-then-has_page-clause-reads g c =
     let a = c.look-deed.result in let e = c.look-offered.result in let page = c.args.page in let d = c.args.directory in let D = g.D.Desk in
     let makes = subst (λ n. Makes (D.standing c.look-deed.new.self) (D.standing c.look-offered.new.self) (Look (Word.Eligible n (page / 64))) e) c.number.ensures c.look-offered.ensures.makes in
-    reads_by d page a e c.are_free.result (adds_step (adds_step adds_none c.look-deed.ensures.makes (λ v l stood met. tt)) makes (λ v l stood met. tt))
+    reads_by d page a e _ (adds_step (adds_step adds_none c.look-deed.ensures.makes (λ v l stood met. tt)) makes (λ v l stood met. tt))
     (c.if-deed-deed_word.false ∙ c.deed_word.ensures) (sym c.has_page.ensures ∙ c.if-has_page.true) c.are_free.ensures.looks

@@ -10,7 +10,8 @@ pub load-requires : goal.load-requires
 load-requires g c = may_make c.requires.place c.requires.step c.requires.at c.in-Look.is (λ n. refl)
 
 pub compare_exchange-requires : goal.compare_exchange-requires
-compare_exchange-requires g c = may_make c.requires.place c.requires.step c.requires.at c.in-Deed.is (λ n. either_if (n == 0) (deed_word_of c.in-Deed.directory) n ∙ ap (λ x. either (n == 0) x n) (sym c.deed_word.ensures))
+compare_exchange-requires g c = may_make c.requires.place c.requires.step c.requires.at c.in-Deed.is
+    (λ n. either_if (n == 0) (deed_word_of c.in-Deed.directory) n ∙ ap (λ x. either (n == 0) x n) (sym c.deed_word.ensures))
 
 pub fetch_and-requires : goal.fetch_and-requires
 fetch_and-requires g c = may_make c.requires.place c.requires.step c.requires.at c.in-Take.is (λ n. refl)

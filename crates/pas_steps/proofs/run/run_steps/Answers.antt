@@ -15,26 +15,26 @@ abbrev nothing : ℕ × Step
 nothing = (0, Look Word.Epoch)
 
 pub bounds-epochs-actor : goal.bounds-epochs-actor
-bounds-epochs-actor c = at_actor (profile_of c.args.state) c.args.list.now c.loop-actor.actor-index _ c.args.state.valid (step_at (profile_of c.args.state) c.args.list.now c.loop-actor.actor-index nothing c.requires.legal c.loop-actor-test.true)
+bounds-epochs-actor c = at_actor _ c.args.list.now _ _ c.args.state.valid (step_at _ c.args.list.now _ nothing c.requires.legal c.loop-actor-test.true)
 
 pub make-requires-clause-of_region : goal.make-requires-clause-of_region
 make-requires-clause-of_region c =
     let here : IsWordOf (profile_of c.args.state) (target (get_or c.args.list.now c.loop-actor.actor-index nothing).1)
-    = at_word (profile_of c.args.state) c.args.list.now c.loop-actor.actor-index (get_or c.args.list.now c.loop-actor.actor-index nothing) (step_at (profile_of c.args.state) c.args.list.now c.loop-actor.actor-index nothing c.requires.legal c.loop-actor-test.true) in
+    = at_word _ c.args.list.now _ _ (step_at _ c.args.list.now c.loop-actor.actor-index nothing c.requires.legal c.loop-actor-test.true) in
     subst (λ f. IsWordOf f (target (get_or c.args.list.now c.loop-actor.actor-index nothing).1)) (sym c.loop-actor.invariant.profile) here
 
 pub make-requires-clause-ranged : goal.make-requires-clause-ranged
-make-requires-clause-ranged c = at_ranged (profile_of c.args.state) c.args.list.now c.loop-actor.actor-index (get_or c.args.list.now c.loop-actor.actor-index nothing) c.args.state.valid (step_at (profile_of c.args.state) c.args.list.now c.loop-actor.actor-index nothing c.requires.legal c.loop-actor-test.true)
+make-requires-clause-ranged c = at_ranged _ c.args.list.now _ _ c.args.state.valid (step_at _ c.args.list.now _ nothing c.requires.legal c.loop-actor-test.true)
 
 pub bounds-epochs-actor-in-loop-actor : goal.bounds-epochs-actor-in-loop-actor
-bounds-epochs-actor-in-loop-actor c = at_actor (profile_of c.args.state) c.args.list.now c.loop-actor.actor-index _ c.args.state.valid (step_at (profile_of c.args.state) c.args.list.now c.loop-actor.actor-index nothing c.requires.legal c.loop-actor-test.true)
+bounds-epochs-actor-in-loop-actor c = at_actor _ _ _ _ c.args.state.valid (step_at _ c.args.list.now _ nothing c.requires.legal c.loop-actor-test.true)
 
 pub loop-actor-preserved : goal.loop-actor-preserved
-loop-actor-preserved c = so_far_next (profile_of c.args.state) c.args.list.now c.loop-actor.actor-index nothing c.loop-actor.state c.make.new.state c.loop-actor.epochs _ c.make.result c.args.state.valid c.requires.legal c.loop-actor-test.true
+loop-actor-preserved c = so_far_next _ c.args.list.now _ nothing _ c.make.new.state _ _ c.make.result c.args.state.valid c.requires.legal c.loop-actor-test.true
     c.loop-actor.invariant refl c.make.ensures.stepped c.make.ensures.epoch
 
 pub returns-clause-profile : goal.returns-clause-profile
 returns-clause-profile c = c.loop-actor.invariant.profile
 
 pub returns-clause-words : goal.returns-clause-words
-returns-clause-words c = so_far_last (profile_of c.args.state) c.args.list.now c.loop-actor.actor-index c.loop-actor.state c.loop-actor.epochs c.loop-actor.invariant (take_all c.loop-actor.actor-index c.args.list.now c.loop-actor-test.false)
+returns-clause-words c = so_far_last _ c.args.list.now _ c.loop-actor.state _ c.loop-actor.invariant (take_all _ c.args.list.now c.loop-actor-test.false)

@@ -12,5 +12,5 @@ invariant_of-self-clause-shown c = shown_after c.args.self.now.profile _ _ _ _ _
     c.index_mut.ensures.value c.in_default.ensures.verdict 0) c.args.self.now.shown
 
 pub returns-clause-steps : goal.returns-clause-steps
-returns-clause-steps c = back_made c.args.self.now.profile _ _ _ _ c.args.page c.index_mut.result.now c.args.self.now.pages.ok.0 c.args.self.now.pages_sized (c.in_default.ensures.inside refl)
-    c.index_mut.ensures.value c.in_default.ensures.verdict
+returns-clause-steps c = back_made c.args.self.now.profile _ _ _ _ c.args.page c.index_mut.result.now c.args.self.now.pages.ok.0 c.args.self.now.pages_sized
+    (c.in_default.ensures.inside refl) c.index_mut.ensures.value c.in_default.ensures.verdict

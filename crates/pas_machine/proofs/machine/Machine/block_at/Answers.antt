@@ -7,4 +7,4 @@ pub returns : goal.returns
 returns c es shows =
     let within : c.args.grain < grains_of c.args.self.now.profile = c.requires in
     let same : 16 * c.args.grain / 16 ≡ c.args.grain = omega arith in
-    c.block_at.ensures ∙ block_is c.args.self.now.profile _ _ _ es shows (record { 0 = 16 * c.args.grain }) (omega arith) (omega (arith, within)) c.args.self.now.places.len c.args.self.now.places.ok.0 c.args.self.now.places_sized c.index.result.now (rw same c.index.ensures)
+    cc (block_is c.args.self.now.profile _ _ _ es shows (record { 0 = 16 * c.args.grain }) (omega arith) (omega (arith, within)) c.args.self.now.places.len c.args.self.now.places.ok.0 c.args.self.now.places_sized c.index.result.now (rw same c.index.ensures))

@@ -1,4 +1,4 @@
-use Rattle.std.proofs.Common.{◌∙◌, refl, sym}
+use Rattle.std.proofs.Common.{arith, ◌∙◌, refl, sym}
 use Rattle.pas_profile.specs.declared.event.Event.{Event}
 use Rattle.pas_profile.specs.Blocks.{address_of}
 use Rattle.pas_machine.proofs.Verdicts.{admits_of, place_at, gives_are, give_made, shown_after}
@@ -16,7 +16,7 @@ returns-then-gives-clause-steps c k = (
       let inside = c.in_default.ensures.inside refl in
       let read = rw c.grain-first.ensures at c.index.ensures in
       let p = place_at f _ _ _ es shows block inside c.args.self.now.places.len c.args.self.now.places.ok.0 c.args.self.now.places_sized c.index.result.now read in
-      (admits_of f es (Event.Give k block) (c.in_default.ensures.verdict k es shows), sym (gives_are es (address_of block.name) inside.whole.aligned c.index.result.now p) ∙ c.if-gives.true),
+      (admits_of f es (Event.Give k block) (c.in_default.ensures.verdict k es shows), cc (gives_are es (address_of block.name) inside.whole.aligned c.index.result.now p)),
 )
 
 pub invariant_of-self-clause-shown : goal.invariant_of-self-clause-shown

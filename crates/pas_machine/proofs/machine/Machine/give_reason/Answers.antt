@@ -14,8 +14,7 @@ returns-then-lacks_deed-clause-verdict c k es shows =
     let some = rw (c.grain-first.ensures, c.grains.ensures, c.deref.ensures.value) at c.if-lacks_deed.ensures in
     record {
       applies = some_page shows block is (λ (p : Page). IsOfHeap block.heap p.directory → ⊥) some;
-      others = give_before f es k block 4 (λ _. inside_never f block is) (λ _ h. omega (arith, h, c.if-block-self.false)) (λ lt. absurd (omega (arith, lt))) (λ lt. absurd (omega (arith, lt)))
-          (λ lt. absurd (omega (arith, lt))) (λ lt. absurd (omega (arith, lt)));
+      others = search (arith, give_before, inside_never);
     }
 
 pub returns-then-lacks_backing-clause-verdict : goal.returns-then-lacks_backing-clause-verdict
@@ -43,7 +42,7 @@ returns-then-is_some_covered-clause-verdict c k es shows =
       applies = some_lives shows block is some;
       others = give_before f es k block 7 (λ _. inside_never f block is) (λ _ h. omega (arith, h, c.if-block-self.false))
           (λ _ h. h.2 (each_page shows block is (λ (p : Page). IsOfHeap block.heap p.directory) deeds h.0 h.1))
-          (λ _ h. false≢true (sym h.2 ∙ each_page shows block is (λ (p : Page). p.backed ≡ true) backed h.0 h.1)) (λ lt. absurd (omega (arith, lt))) (λ lt. absurd (omega (arith, lt)));
+          (λ _ h. false≢true (cc (each_page shows block is (λ (p : Page). p.backed ≡ true) backed h.0 h.1))) (λ lt. absurd (omega (arith, lt))) (λ lt. absurd (omega (arith, lt)));
     }
 
 pub returns-then-index-block-clause-verdict : goal.returns-then-index-block-clause-verdict
@@ -59,7 +58,7 @@ returns-then-index-block-clause-verdict c k es shows =
       applies = λ same. c.if-index-block.true (gives_are es (address_of block.name) is.whole.aligned c.index.result.now p ∙ sym same);
       others = give_before f es k block 9 (λ _. inside_never f block is) (λ _ h. omega (arith, h, c.if-block-self.false))
           (λ _ h. h.2 (each_page shows block is (λ (p : Page). IsOfHeap block.heap p.directory) deeds h.0 h.1))
-          (λ _ h. false≢true (sym h.2 ∙ each_page shows block is (λ (p : Page). p.backed ≡ true) backed h.0 h.1)) (λ _ h. none_lives shows block is clear h.0 h.1 h.2) (λ lt. absurd (omega (arith, lt)));
+          (λ _ h. false≢true (cc (each_page shows block is (λ (p : Page). p.backed ≡ true) backed h.0 h.1))) (λ _ h. none_lives shows block is clear h.0 h.1 h.2) (λ lt. absurd (omega (arith, lt)));
     }
 
 pub returns-clause-verdict : goal.returns-clause-verdict

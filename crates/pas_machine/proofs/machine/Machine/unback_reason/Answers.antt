@@ -10,19 +10,16 @@ returns-then-is_some_covered-clause-verdict c k es shows =
     let f = c.args.self.now.profile in
     let p = page_is f _ _ _ es shows c.args.page c.if-is_outside.ensures.1 c.args.self.now.pages.len c.args.self.now.pages.ok.0 c.args.self.now.pages_sized c.index.result.now c.index.ensures in
     unback_lives f _ _ _ es shows k c.args.page c.args.epoch c.if-is_outside.ensures c.index.result.now p c.if-not-index.false
-    (subst (λ (xs : List Bool). IsSome (256 * c.args.page) (256 * c.args.page + 256) (λ x. get_or xs x false ≡ true)) c.deref.ensures.value c.if-is_some_covered.ensures)
+    (rw c.deref.ensures.value at c.if-is_some_covered.ensures)
 
 pub returns-then-epoch-last-clause-verdict : goal.returns-then-epoch-last-clause-verdict
 returns-then-epoch-last-clause-verdict c k es shows =
     let f = c.args.self.now.profile in
     let p = page_is f _ _ _ es shows c.args.page c.if-is_outside.ensures.1 c.args.self.now.pages.len c.args.self.now.pages.ok.0 c.args.self.now.pages_sized c.index.result.now c.index.ensures in
     let q = page_is f _ _ _ es shows c.args.page c.if-is_outside.ensures.1 c.args.self.now.pages.len c.args.self.now.pages.ok.0 c.args.self.now.pages_sized c.index-2.result.now c.index-2.ensures in
-    let young : c.args.epoch < c.index-2.result.now.epoch + f.age = elim c.then-epoch-last.branch [
-      | then-epoch-last-via-then-epoch-last w ↦ omega arith
-      | then-epoch-last-via-else-epoch-last+then-epoch-last-2 w ↦ omega arith
-    ] in
-    unback_young f _ _ _ es shows k c.args.page c.args.epoch c.if-is_outside.ensures c.index-2.result.now q (subst (λ (r : Page). r.backed ≡ true) (p ∙ sym q) c.if-not-index.false)
-    (subst (λ (xs : List Bool). IsEach (256 * c.args.page) (256 * c.args.page + 256) (λ x. get_or xs x false ≡ false)) c.deref.ensures.value c.if-is_some_covered.ensures) young
+    let young : c.args.epoch < c.index-2.result.now.epoch + f.age = search (arith, then-epoch-last-via-then-epoch-last) in
+    unback_young f _ _ _ es shows k c.args.page c.args.epoch c.if-is_outside.ensures c.index-2.result.now q (search arith)
+    (rw c.deref.ensures.value at c.if-is_some_covered.ensures) young
 
 pub returns-clause-verdict : goal.returns-clause-verdict
 returns-clause-verdict c k es shows =
@@ -30,5 +27,5 @@ returns-clause-verdict c k es shows =
     let p = page_is f _ _ _ es shows c.args.page c.if-is_outside.ensures.1 c.args.self.now.pages.len c.args.self.now.pages.ok.0 c.args.self.now.pages_sized c.index.result.now c.index.ensures in
     let q = page_is f _ _ _ es shows c.args.page c.if-is_outside.ensures.1 c.args.self.now.pages.len c.args.self.now.pages.ok.0 c.args.self.now.pages_sized c.index-2.result.now c.index-2.ensures in
     let old : c.index-2.result.now.epoch + f.age ≤ c.args.epoch = omega arith in
-    unback_may f _ _ _ es shows k c.args.page c.args.epoch c.if-is_outside.ensures c.index-2.result.now q (subst (λ (r : Page). r.backed ≡ true) (p ∙ sym q) c.if-not-index.false)
-    (subst (λ (xs : List Bool). IsEach (256 * c.args.page) (256 * c.args.page + 256) (λ x. get_or xs x false ≡ false)) c.deref.ensures.value c.if-is_some_covered.ensures) old
+    unback_may f _ _ _ es shows k c.args.page c.args.epoch c.if-is_outside.ensures c.index-2.result.now q (search arith)
+    (rw c.deref.ensures.value at c.if-is_some_covered.ensures) old

@@ -1,4 +1,4 @@
-use Rattle.pas_scan.proofs.EligibleRows.{marked_none}
+use Rattle.pas_scan.proofs.Reading.{marked_none}
 use Rattle.pas_scan.proofs.looked.Looked.begin.Goals as goal
 
 pub returns-clause-unfit : goal.returns-clause-unfit

@@ -1,5 +1,5 @@
 use Rattle.std.proofs.Common.{arith}
-use Rattle.pas_scan.proofs.EligibleRows.{marked_more}
+use Rattle.pas_scan.proofs.Reading.{marked_more}
 use Rattle.pas_scan.proofs.looked.Looked.mark_unfit.Goals as goal
 
 pub returns-clause-unfit : goal.returns-clause-unfit

@@ -29,8 +29,11 @@ exchange-answer-requires-clause-at c =
 
 pub invariant_of-self : goal.invariant_of-self
 invariant_of-self c =
-    let place = c.args.self.now in
-    (benched_is _ _ (row_stepped place.bench.seat.me _ place.member.actor (made c.args.step c.exchange-answer.result) _ (one_row place.bench.seat.me _ place.bench.benched place.one) c.exchange-answer.ensures.step.0), tt)
+    let place = c.args.self.now in (
+      benched_is _ _ (row_stepped place.bench.seat.me _ place.member.actor (made c.args.step c.exchange-answer.result) _
+          (one_row place.bench.seat.me _ place.bench.benched place.one) c.exchange-answer.ensures.step.0),
+      tt,
+    )
 
 pub invariant_of-self-2 : goal.invariant_of-self-2
 invariant_of-self-2 c =
@@ -38,7 +41,8 @@ invariant_of-self-2 c =
     let k = place.member.actor in
     let m = made c.args.step c.exchange-answer.result in
     let r = row_on place.bench in
-    let rows : rows_in c.exchange-answer.new.seat.me.0 ≡ row_with k m r ∷ [] = ap (λ n. rows_in n.0) (row_stepped place.bench.seat.me _ k m _ (one_row place.bench.seat.me _ place.bench.benched place.one) c.exchange-answer.ensures.step.0) in (
+    let rows : rows_in c.exchange-answer.new.seat.me.0 ≡ row_with k m r ∷ [] = ap (λ n. rows_in n.0) (row_stepped place.bench.seat.me _ k m _
+    (one_row place.bench.seat.me _ place.bench.benched place.one) c.exchange-answer.ensures.step.0) in (
       (place.member.valid, (place.member.within, tt)),
       (
         rows ∙ ap (λ rs. first_row rs ∷ []) (sym rows),
@@ -55,7 +59,8 @@ invariant_of-self-2 c =
 pub returns-clause-row : goal.returns-clause-row
 returns-clause-row c =
     let place = c.args.self.now in
-    ap (λ n. first_row (rows_in n.0)) (row_stepped place.bench.seat.me _ place.member.actor (made c.args.step c.exchange-answer.result) _ (one_row place.bench.seat.me _ place.bench.benched place.one) c.exchange-answer.ensures.step.0)
+    ap (λ n. first_row (rows_in n.0)) (row_stepped place.bench.seat.me _ place.member.actor (made c.args.step c.exchange-answer.result) _
+    (one_row place.bench.seat.me _ place.bench.benched place.one) c.exchange-answer.ensures.step.0)
 
 pub returns-clause-agrees : goal.returns-clause-agrees
 returns-clause-agrees c =

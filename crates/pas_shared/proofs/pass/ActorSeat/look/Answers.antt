@@ -17,7 +17,8 @@ split_seat-own-requires-2 c =
     let stand = c.args.self.now in
     let me = c.look.new.self.seat.me in
     let its = ap (λ m. m.0) c.split_seat-own.ensures.4 ∙ ap (λ m. m.0) stand.named in
-    let took = took_alone c.args.ledger.now.seat.me c.split_seat-own.result.me c.join_seat.new.seat.me stand.actor (view_in stand.seat.me.0) c.args.ledger.now.settled c.requires.nobody its (ap (λ m. m.0) c.join_seat.ensures.2) in
+    let took = took_alone c.args.ledger.now.seat.me c.split_seat-own.result.me c.join_seat.new.seat.me stand.actor
+    (view_in stand.seat.me.0) c.args.ledger.now.settled c.requires.nobody its (ap (λ m. m.0) c.join_seat.ensures.2) in
     (c.look.ensures.of, some_word c.args.region.now, splits_last_as _ _ me _ _ [] (took_last me _ [] c.look.new.self.settled (c.look.ensures.actors ∙ took)))
 
 pub join_seat-requires-2 : goal.join_seat-requires-2

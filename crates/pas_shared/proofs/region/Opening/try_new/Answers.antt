@@ -14,4 +14,5 @@ of_words-requires c =
     let words = c.in_ok-words.words in
     let sized = sym words.ok.0 ∙ c.in_ok-words.ensures.sized ∙ (λ i. words_of (pages i) (heaps i)) in
     subst (λ (ws : List ℕ). AreAfterOneList f ws (Unused 0 ∷ [])) (sym c.deref.ensures.value)
-    (begins f words.items sized (λ w hw. ap (λ (n : ℕ). slice_index words.items (index_of n w)) (sym pages) ∙ c.in_ok-words.ensures.values w (subst (λ (z : ℕ × ℕ). IsWordIn z.0 z.1 w) (λ i. (sym pages i, sym heaps i)) hw)))
+    (begins f words.items sized (λ w hw. ap (λ (n : ℕ). slice_index words.items (index_of n w)) (sym pages)
+    ∙ c.in_ok-words.ensures.values w (subst (λ (z : ℕ × ℕ). IsWordIn z.0 z.1 w) (λ i. (sym pages i, sym heaps i)) hw)))
