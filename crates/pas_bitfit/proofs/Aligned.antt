@@ -11,6 +11,7 @@ is_sixteens a = nat_lt a 16 || not (4096 % a == 0) || (a % 16 == 0)
 sixteens_all : passes_below is_sixteens 4097 ≡ true
 sixteens_all = refl
 
+-- Where one of three holds and the first two don't, the third does.
 or_last : (x y z : Bool) → (x || not y || z) ≡ true → x ≡ false → y ≡ true → z ≡ true
 or_last x y z h hx hy = grind arith
 

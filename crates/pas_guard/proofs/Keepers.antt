@@ -1,39 +1,38 @@
 -- While a keeper's guard is up, its outer pages stand whole and bare.
-use Rattle.std.proofs.Common.{◌≡◌, ℕ, zero, suc, ◌+◌, ◌/◌, ◌<◌, ◌==◌, Bool, true, false, ◌||◌, if◌then◌else◌, ◌⊎◌, List, [], ◌∷◌, ◌++◌, length, inl, inr, refl}
-use Rattle.std.proofs.Common.{ap, sym, ◌∙◌, subst, arith, append_assoc, append-nil, true≢false, Option, Some, None, Contains, slice_index_or, eqb-true, eq-eqb}
-use Rattle.std.proofs.lemmas.{Bool.cases_Bool, Bool.Decides.nat_tests, List.Elements.Contains-append_right, List.Elements.Contains-push_cases, Bool.or_right}
+use Rattle.std.proofs.Common.{◌≡◌, ℕ, ◌+◌, ◌/◌, ◌<◌, ◌==◌, Bool, true, false, ◌||◌, if◌then◌else◌, ◌⊎◌, List, [], ◌∷◌, ◌++◌, length, inl, inr, refl, ap, sym}
+use Rattle.std.proofs.Common.{◌∙◌, subst, arith, append_assoc, append-nil, true≢false, Option, Some, None, Contains, slice_index_or, eqb-true, eq-eqb}
+use Rattle.std.proofs.lemmas.Bool.{cases_Bool, Decides.nat_tests, or_right}
+use Rattle.std.proofs.lemmas.List.Elements.{Contains-append_right, Contains-push_cases, Contains-append_left, Contains-push}
 use Rattle.pas_profile.specs.{Profiles.IsValid, Blocks.address_of}
 use Rattle.pas_profile.specs.declared.{directory.Directory.Directory, name.Block.Block, profile.Profile.Profile}
 use Rattle.pas_report.specs.declared.record.Record.{Record}
 use Rattle.pas_scan.specs.Runs.{large_directory}
-use Rattle.pas_steps.specs.{Agreement.Agreed, Allowed.IsStepOf, Effects.target, Effects.in_mask, Past.Once, Past.Always, Clear.IsClear}
-use Rattle.pas_steps.specs.Kinds.{Kinds, Giving, Only, is_in, kind_of}
-use Rattle.pas_steps.specs.Lists.{Triple, Whole, part, word_after, Legal}
-use Rattle.pas_steps.specs.Views.{Stays, Puts, grain_move, KnowsDeed}
-use Rattle.pas_steps.specs.declared.step.{Made.Made, Step.Step}
-use Rattle.pas_steps.specs.declared.step.Step.TheVariants.{Take, Put, Give, End, EndSized}
+use Rattle.pas_steps.specs.{Agreement.Agreed, Effects.in_mask, Past.Once, Past.Always, Clear.IsClear}
+use Rattle.pas_steps.specs.Kinds.{Kinds, Giving, Only, is_in, kind_of, Backing, returning}
+use Rattle.pas_steps.specs.Lists.{Triple, Whole, part, Legal}
+use Rattle.pas_steps.specs.Views.{Stays, Puts, grain_move, KnowsDeed, View}
+use Rattle.pas_steps.specs.declared.step.{Made.Made, Step.Step, Step.TheVariants.Put, Step.TheVariants.Give}
 use Rattle.pas_steps.proofs.{Adding.agreed_first, Adding.agreed_later, Past.once_later}
 use Rattle.pas_core.proofs.Nexts.{agrees_next}
-use Rattle.pas_large.specs.Claims.{in_span, StaysPut}
+use Rattle.pas_large.specs.{Claims.in_span, Claims.StaysPut, Gives.run_block}
 use Rattle.pas_large.proofs.Claims.{span_in}
 use Rattle.pas_guard.specs.{Books.is_outer_of, Books.is_outer, Books.FitsBook, Guarded.StandsGuard, Seeks.seeking}
-use Rattle.pas_guard.specs.Keepers.{Call, MakesCall, MakesCalls, GivesBlockOf, PutsNoneOf, IsUpIn, IsUp, IsUpThrough, StandsBetween, StandsThrough}
+use Rattle.pas_guard.specs.Keepers.{Call, MakesCall, MakesCalls, GivesBlockOf, PutsNoneOf, IsUpIn, IsUp, IsUpThrough, StandsBetween, StandsThrough, IsKeeper}
+use Rattle.pas_guard.specs.Keepers.{IsBeside, GivesGuarded}
 use Rattle.pas_guard.specs.Raises.{BacksNot, guard_of, IsRaised, RaiseSteps}
-use Rattle.pas_guard.specs.Sweeps.{is_over, SweptOne, Swept, sweeping, SweepSteps}
+use Rattle.pas_guard.specs.Sweeps.{is_over, SweptOne, Swept, sweeping, SweepSteps, life_look}
 use Rattle.pas_guard.specs.declared.book.Guard.{Guard}
 use Rattle.pas_guard.proofs.Guarded.{head_same, stands_on, own_keep, guard_begins, untouched_between}
-use Rattle.pas_guard.proofs.{Raised.raised_backs, Raised.raised_pages, Raised.raised_leaves, Sweeps.kept_steady}
-use Rattle.pas_guard.proofs.Raises.{no_backs, after_steady, after_unbacked, fits_find}
+use Rattle.pas_guard.proofs.Raises.{raised_backs, raised_pages, raised_leaves, kept_steady, no_backs, after_steady, after_unbacked, fits_find}
+use Rattle.pas_rights.specs.{Gives.give_steps, Puts.PutsHere, PutsBack.BackSteps, Words.full}
+use Rattle.pas_rights.proofs.Orders.{full_set, full_word}
 
 -- ==== The list of all actors, and the steps of one.
 
 -- An actor's part of two lists is that of the newer in front of that of the older.
 pub part_both : (k : ℕ) (newer older : Whole) → part k (newer ++ older) ≡ part k newer ++ part k older
 part_both k [] older = refl
-part_both k (t ∷ newer) older = elim (cases_Bool (t.actor == k)) [
-  | inl own ↦ ap (λ o. if o then t.made ∷ part k (newer ++ older) else part k (newer ++ older)) own ∙ ap (λ xs. t.made ∷ xs) (part_both k newer older) ∙ sym (ap (λ o. (if o then t.made ∷ part k newer else part k newer) ++ part k older) own)
-  | inr other ↦ ap (λ o. if o then t.made ∷ part k (newer ++ older) else part k (newer ++ older)) other ∙ part_both k newer older ∙ sym (ap (λ o. (if o then t.made ∷ part k newer else part k newer) ++ part k older) other)
-]
+part_both k (t ∷ newer) older = let rest = part_both k newer older in grind (arith, rest, cases_Bool)
 
 -- its own newest step, or the step of another
 own_first : (k : ℕ) (o : Bool) (m x : Made) (rest xs : List Made) → o ≡ true → (if o then m ∷ rest else rest) ≡ x ∷ xs → (m ≡ x) × (rest ≡ xs)
@@ -50,6 +49,7 @@ record Cut (l : Whole) (k : ℕ) (xs ys : List Made) : Type 0 where
   newer_is : part k newer ≡ xs
   older_is : part k older ≡ ys
 
+-- An actor's part that is cut comes from a list that is cut.
 cut : (l : Whole) (k : ℕ) (xs ys : List Made) → part k l ≡ xs ++ ys → Cut l k xs ys
 cut [] k [] ys is = record { newer = []; older = []; whole = refl; newer_is = refl; older_is = is }
 cut [] k (x ∷ xs) ys is = absurd (let e : [] ≡ x ∷ (xs ++ ys) = is in cc)
@@ -83,7 +83,7 @@ agreed_of f [] k (x ∷ xs) v valid legal is = absurd (let e : [] ≡ x ∷ (xs 
 agreed_of f (t ∷ l) k [] v valid legal is = tt
 agreed_of f (t ∷ l) k (x ∷ xs) v valid legal is = elim (cases_Bool (t.actor == k)) [
   | inl own ↦ (let both = own_first k (t.actor == k) t.made x (part k l) (xs ++ v) own is in let next = legal.0 in (
-    agrees_next f l k (xs ++ v) x.step x.answer valid legal.1 both.1 (subst (λ (m : Made). IsStepOf f m.step) both.0 next.of_region) (subst (λ (m : Made). m.answer ≡ word_after l (target m.step)) both.0 next.answer_is),
+    search (arith, agrees_next),
     agreed_of f l k xs v valid legal.1 both.1,
   ))
   | inr other ↦ agreed_of f l k (x ∷ xs) v valid legal.1 (others_first (t.actor == k) t.made (part k l) (x ∷ (xs ++ v)) other is)
@@ -102,7 +102,7 @@ record LeavePage (page : ℕ) (steps : List Made) : Type 0 where
   backs : BacksNot page steps
 
 leave_older : (page : ℕ) (ys xs : List Made) → LeavePage page (ys ++ xs) → LeavePage page xs
-leave_older page ys xs h = record { stays = λ g at. older_always (λ m before. grain_move m.step m.answer g ≡ Stays) ys xs (h.stays g at); backs = older_always _ ys xs h.backs }
+leave_older page ys xs h = search (arith, older_always)
 
 -- a guard stands on after such steps
 page_on : (f : Profile) (l : Whole) (keeper page : ℕ) (d : Directory) (xs ys : List Made) → IsValid f → Legal f l → (c : Cut l keeper xs ys)
@@ -122,9 +122,9 @@ between_on f l keeper guard xs ys valid legal c stands low high = let d = large_
 
 -- ==== Guards of a book.
 
+-- at place 0 or at a later one
 at_cases : (g : Guard) (gs : List Guard) (x : Guard) (k : ℕ) → k < length (g ∷ gs) → slice_index_or (g ∷ gs) k x ≡ x → (g ≡ x) ⊎ Contains gs x
-at_cases g gs x zero lt is = inl is
-at_cases g gs x (suc k) lt is = inr (k, omega (arith, lt), is)
+at_cases g gs x k lt is = search arith
 
 -- A guard that a list contains is its first or one of the others.
 pub first_or_later : (g : Guard) (gs : List Guard) (x : Guard) → Contains (g ∷ gs) x → (g ≡ x) ⊎ Contains gs x
@@ -173,12 +173,33 @@ record BookStands (f : Profile) (keeper : ℕ) (guards : List Guard) (l : Whole)
 abbrev StoodBefore : Profile → ℕ → List Guard → List Made → Type 0
 StoodBefore f keeper guards before = (older : Whole) → Legal f older → part keeper older ≡ before → BookStands f keeper guards older
 
+-- a place in a call: `first` of its steps were made by then, after those of the calls before it
+record Place (f : Profile) (keeper : ℕ) (guards : List Guard) (l : Whole) (before first rest : List Made) : Type 0 where
+  valid : IsValid f
+  legal : Legal f l
+  is : part keeper l ≡ first ++ before
+  agreed : Agreed f before (rest ++ first)
+  stood : StoodBefore f keeper guards before
+
+module _ {f : Profile} {keeper : ℕ} {guards : List Guard} {l : Whole} {before first rest : List Made} (at : Place f keeper guards l before first rest) where
+  begin : Cut l keeper first before
+  begin = cut l keeper first before at.is
+
+  book_before : BookStands f keeper guards begin.older
+  book_before = at.stood begin.older (older_legal f begin.newer begin.older (subst (Legal f) begin.whole at.legal)) begin.older_is
+
+  fits_before : FitsBook f guards before
+  fits_before = subst (FitsBook f guards) begin.older_is book_before.fits
+
+  old_stands : (guard : Guard) → Contains guards guard → LeavePage guard.low first → LeavePage guard.high first → StandsBetween l keeper guard
+  old_stands guard has = between_on f l keeper guard first before at.valid at.legal begin (book_before.each guard has)
+
 -- ---- the place between two parts of the steps
 pub split_at : (rest first after searched : List Made) → rest ++ first ≡ after ++ searched
     → ((x : List Made) × (first ≡ x ++ searched) × (after ≡ rest ++ x)) ⊎ ((y : List Made) × (searched ≡ y ++ first) × (rest ≡ after ++ y))
 split_at [] first after searched e = inl (after, e, refl)
 split_at (r ∷ rest) first [] searched e = inr (r ∷ rest, sym e, refl)
-split_at (r ∷ rest) first (a ∷ after) searched e = let both = head_same r a (rest ++ first) (after ++ searched) e in elim (split_at rest first after searched both.1) [
+split_at (r ∷ rest) first (a ∷ after) searched e = let both = head_same r a (rest ++ first) _ e in elim (split_at rest first after searched both.1) [
   | inl h ↦ inl (h.0, h.1, ap (λ m. m ∷ after) (sym both.0) ∙ ap (λ xs. r ∷ xs) h.2)
   | inr h ↦ inr (h.0, h.1, ap (λ m. m ∷ rest) both.0 ∙ ap (λ xs. a ∷ xs) h.2)
 ]
@@ -196,24 +217,15 @@ high_out : (first k : ℕ) → in_span (first + 1) (first + 1 + k) (first + k + 
 high_out first k = grind (arith, nat_tests)
 
 -- ---- a raise, of which these were the first steps by then
-module _ (f : Profile) (keeper heap k : ℕ) (guards guards' : List Guard) (answer : Option Block) (l : Whole) (before first rest : List Made) (valid : IsValid f)
-    (legal : Legal f l) (is : part keeper l ≡ first ++ before) (agreed : Agreed f before (rest ++ first)) (stood : StoodBefore f keeper guards before)
-    (raise : RaiseSteps f heap k guards guards' answer (rest ++ first)) where
-  raise_cut : Cut l keeper first before
-  raise_cut = cut l keeper first before is
-
-  raise_before : BookStands f keeper guards raise_cut.older
-  raise_before = stood raise_cut.older (older_legal f raise_cut.newer raise_cut.older (subst (Legal f) raise_cut.whole legal)) raise_cut.older_is
-
-  raise_fits : FitsBook f guards before
-  raise_fits = subst (FitsBook f guards) raise_cut.older_is raise_before.fits
-
+module _ {f : Profile} {keeper heap k : ℕ} {guards guards' : List Guard} {answer : Option Block} {l : Whole} {before first rest : List Made}
+    (at : Place f keeper guards l before first rest) (raise : RaiseSteps f heap k guards guards' answer (rest ++ first)) where
+  -- a raise moves no grain of an outer page that was one before, nor does it back that page
   raise_leaves : (p : ℕ) → is_outer guards p ≡ true → LeavePage p first
-  raise_leaves p outer = leave_older p rest first (record { stays = λ g at. raise.steady before raise_fits agreed g (ap (is_outer guards) at ∙ outer); backs = raise.unbacked before raise_fits agreed p outer })
+  raise_leaves p outer = let fits = fits_before at in
+      leave_older p rest first (record { stays = search arith; backs = raise.unbacked before fits at.agreed p outer })
 
   raise_old : (guard : Guard) → Contains guards guard → StandsBetween l keeper guard
-  raise_old guard has = between_on f l keeper guard first before valid legal raise_cut (raise_before.each guard has)
-      (raise_leaves guard.low (outer_in guards guard guard.low has (low_outer guard))) (raise_leaves guard.high (outer_in guards guard guard.high has (high_outer guard)))
+  raise_old guard has = old_stands at guard has (raise_leaves guard.low (outer_in guards guard guard.low has (low_outer guard))) (raise_leaves guard.high (outer_in guards guard guard.high has (high_outer guard)))
 
   -- its own guard, from the end of the search on
   module _ (block : Block) (r : IsRaised f (large_directory heap) k guards guards' raise.searched raise.after block) (x : List Made)
@@ -222,17 +234,17 @@ module _ (f : Profile) (keeper heap k : ℕ) (guards guards' : List Guard) (answ
     d = large_directory heap
 
     search_cut : Cut l keeper x (raise.searched ++ before)
-    search_cut = cut l keeper x (raise.searched ++ before) (is ∙ ap (λ xs. xs ++ before) first_is ∙ append_assoc x raise.searched before)
+    search_cut = cut l keeper x (raise.searched ++ before) (at.is ∙ ap (λ xs. xs ++ before) first_is ∙ append_assoc x raise.searched before)
 
     search_legal : Legal f search_cut.older
-    search_legal = older_legal f search_cut.newer search_cut.older (subst (Legal f) search_cut.whole legal)
+    search_legal = older_legal f search_cut.newer search_cut.older (subst (Legal f) search_cut.whole at.legal)
 
     search_agreed : Agreed f before raise.searched
-    search_agreed = agreed_of f search_cut.older keeper raise.searched before valid search_legal search_cut.older_is
+    search_agreed = agreed_of f search_cut.older keeper raise.searched before at.valid search_legal search_cut.older_is
 
     own_leaves : (p : ℕ) → in_span (r.first + 1) (r.first + 1 + k) p ≡ false → LeavePage p x
     own_leaves p out = leave_older p rest x (record {
-      stays = λ g at. subst (StaysPut g) (sym r.after_is ∙ after_is) (after_steady d r.first k r.word r.answer block r.block_is r.left r.backs (raised_leaves r) (raised_backs r) g (ap (in_span (r.first + 1) (r.first + 1 + k)) at ∙ out));
+      stays = λ g on. subst (StaysPut g) (sym r.after_is ∙ after_is) (after_steady d r.first k r.word r.answer block r.block_is r.left r.backs (raised_leaves r) (raised_backs r) g (ap (in_span (r.first + 1) _) on ∙ out));
       backs = subst (BacksNot p) (sym r.after_is ∙ after_is) (after_unbacked d r.first k r.word r.answer block r.block_is r.left r.backs (raised_leaves r) (raised_pages r) p out);
     })
 
@@ -241,29 +253,27 @@ module _ (f : Profile) (keeper heap k : ℕ) (guards guards' : List Guard) (answ
 
     raise_own : StandsBetween l keeper (guard_of r.first k block)
     raise_own =
-        let may = fits_find f d guards before raise_fits in
+        let may = fits_find f d guards before (fits_before at) in
         let bare = r.found.bare before may search_agreed in let span = r.found.got.from before may search_agreed in
-        let known : (p : ℕ) → in_span r.first (r.first + (k + 2)) p ≡ true → KnowsDeed p d (part keeper search_cut.older) = λ p here. subst (KnowsDeed p d) (sym search_cut.older_is) (span.got.deeds p here) in
-        let low = guard_begins f search_cut.older keeper r.first d before raise.searched valid search_legal search_cut.older_is bare.0 (known r.first (span_in r.first (r.first + (k + 2)) r.first (omega arith) (omega arith))) in
-        let high = guard_begins f search_cut.older keeper (r.first + k + 1) d before raise.searched valid search_legal search_cut.older_is bare.1 (known (r.first + k + 1) (span_in r.first (r.first + (k + 2)) (r.first + k + 1) (omega arith) (omega arith))) in
+        let known : (p : ℕ) → in_span _ _ p ≡ true → KnowsDeed p d (part keeper _) = λ p here. subst (KnowsDeed p d) (sym search_cut.older_is) (span.got.deeds p here) in
+        let low = guard_begins f _ keeper r.first d before _ at.valid search_legal search_cut.older_is bare.0 (known r.first (span_in r.first _ r.first (omega arith) (omega arith))) in
+        let high = guard_begins f _ keeper _ d before _ at.valid search_legal search_cut.older_is bare.1 (known _ (span_in r.first _ _ (omega arith) (omega arith))) in
         record {
-          low = subst (StandsGuard l keeper r.first) own_heap (page_on f l keeper r.first d x (raise.searched ++ before) valid legal search_cut low (own_leaves r.first (low_out r.first k)));
-          high = subst (StandsGuard l keeper (r.first + k + 1)) own_heap (page_on f l keeper (r.first + k + 1) d x (raise.searched ++ before) valid legal search_cut high (own_leaves (r.first + k + 1) (high_out r.first k)));
-          begins = (let at = ap (λ (b : Block). address_of b.name) r.block_is in omega (arith, at));
-          ends = (let at = ap (λ (b : Block). address_of b.name) r.block_is in let room = ap (λ (b : Block). b.room) r.block_is in omega (arith, at, room));
+          low = subst (StandsGuard l keeper r.first) own_heap (page_on f l keeper r.first d x (raise.searched ++ before) at.valid at.legal search_cut low (own_leaves r.first (low_out r.first k)));
+          high = subst (StandsGuard l keeper _) own_heap (page_on f l keeper (r.first + k + 1) d x _ at.valid at.legal search_cut high (own_leaves (r.first + k + 1) (high_out r.first k)));
+          begins = (let name = ap (λ (b : Block). address_of b.name) r.block_is in omega (arith, name));
+          ends = (let name = ap (λ (b : Block). address_of b.name) r.block_is in let room = ap (λ (b : Block). b.room) r.block_is in omega (arith, name, room));
         }
 
 -- a guard of the book after the raise: from the give on, or when the raise is over
-raise_up : (f : Profile) (keeper heap k : ℕ) (guards guards' : List Guard) (answer : Option Block) (l : Whole) (before first rest : List Made) → IsValid f
-    → Legal f l → part keeper l ≡ first ++ before → Agreed f before (rest ++ first) → StoodBefore f keeper guards before
-    → (raise : RaiseSteps f heap k guards guards' answer (rest ++ first)) → (guard : Guard) → Contains guards' guard
+raise_up : {f : Profile} {keeper heap k : ℕ} {guards guards' : List Guard} (answer : Option Block) {l : Whole} {before first rest : List Made}
+    → Place f keeper guards l before first rest → (raise : RaiseSteps f heap k guards guards' answer (rest ++ first)) → (guard : Guard) → Contains guards' guard
     → ((x : List Made) × (first ≡ x ++ raise.searched) × (raise.after ≡ rest ++ x)) → StandsBetween l keeper guard
-raise_up f keeper heap k guards guards' None l before first rest valid legal is agreed stood raise guard has at =
-    raise_old f keeper heap k guards guards' None l before first rest valid legal is agreed stood raise guard (subst (λ xs. Contains xs guard) raise.outcome.same has)
-raise_up f keeper heap k guards guards' (Some block) l before first rest valid legal is agreed stood raise guard has at =
+raise_up None at raise guard has split = raise_old at raise guard (subst (λ xs. Contains xs guard) raise.outcome.same has)
+raise_up {k = k} {guards = guards} (Some block) {l} at raise guard has split =
     let r = raise.outcome in elim (Contains-push_cases guards (guard_of r.first k block) guard (subst (λ xs. Contains xs guard) r.raised has)) [
-      | inl old ↦ raise_old f keeper heap k guards guards' (Some block) l before first rest valid legal is agreed stood raise guard old
-      | inr own ↦ subst (StandsBetween l keeper) own (raise_own f keeper heap k guards guards' (Some block) l before first rest valid legal is agreed stood raise block r at.0 at.1 at.2)
+      | inl old ↦ raise_old at raise guard old
+      | inr own ↦ subst (StandsBetween l _) own (raise_own at raise block r split.0 split.1 split.2)
     ]
 
 -- ---- a sweep, of which these were the first steps by then
@@ -286,43 +296,37 @@ puts_leave guard p (m ∷ xs) outer only puts g at = (
   puts_leave guard p xs outer only.1 puts.1 g at,
 )
 
-module _ (f : Profile) (keeper : ℕ) (all : Bool) (guards guards' : List Guard) (said : List Record) (l : Whole) (before first rest : List Made)
-    (valid : IsValid f) (legal : Legal f l) (is : part keeper l ≡ first ++ before) (stood : StoodBefore f keeper guards before)
-    (sweep : SweepSteps f keeper all guards guards' said (rest ++ first)) where
-  sweep_cut : Cut l keeper first before
-  sweep_cut = cut l keeper first before is
-
-  sweep_before : BookStands f keeper guards sweep_cut.older
-  sweep_before = stood sweep_cut.older (older_legal f sweep_cut.newer sweep_cut.older (subst (Legal f) sweep_cut.whole legal)) sweep_cut.older_is
+module _ {f : Profile} {keeper : ℕ} {all : Bool} {guards guards' : List Guard} {said : List Record} {l : Whole} {before first rest : List Made}
+    (at : Place f keeper guards l before first rest) (sweep : SweepSteps f keeper all guards guards' said (rest ++ first)) where
+  first_kinds : Only sweeping first
+  first_kinds = older_always (λ m before. is_in sweeping (kind_of m.step) ≡ true) rest first sweep.kinds
 
   sweep_leaves : (guard : Guard) → Contains guards' guard ⊎ Always (PutsNoneOf guard) first → (p : ℕ) → is_outer_of guard p ≡ true → LeavePage p first
   sweep_leaves guard up p outer = record {
-    stays = λ g at. elim up [
-      | inl kept ↦ older_always (λ m before. grain_move m.step m.answer g ≡ Stays) rest first (kept_steady all keeper guards guards' said (rest ++ first) sweep_before.fits.apart sweep.swept g (ap (is_outer guards') at ∙ outer_in guards' guard p kept outer))
-      | inr puts ↦ puts_leave guard p first outer (older_always (λ m before. is_in sweeping (kind_of m.step) ≡ true) rest first sweep.kinds) puts g at
+    stays = λ g on. elim up [
+      | inl kept ↦ older_always _ rest first (kept_steady all keeper guards _ said _ (book_before at).fits.apart sweep.swept g (ap (is_outer _) on ∙ outer_in guards' guard p kept outer))
+      | inr puts ↦ puts_leave guard p first outer first_kinds puts g on
     ];
-    backs = no_backs sweeping p first refl (older_always (λ m before. is_in sweeping (kind_of m.step) ≡ true) rest first sweep.kinds);
+    backs = no_backs sweeping p first refl first_kinds;
   }
 
   sweep_up : (guard : Guard) → Contains guards guard → Contains guards' guard ⊎ Always (PutsNoneOf guard) first → StandsBetween l keeper guard
-  sweep_up guard has up = between_on f l keeper guard first before valid legal sweep_cut (sweep_before.each guard has) (sweep_leaves guard up guard.low (low_outer guard)) (sweep_leaves guard up guard.high (high_outer guard))
+  sweep_up guard has up = old_stands at guard has (sweep_leaves guard up guard.low (low_outer guard)) (sweep_leaves guard up guard.high (high_outer guard))
 
 -- ==== Whole calls, and a place in one call.
 
 -- where the calls before it left the book standing, so does this one
-call_stands : (f : Profile) (keeper : ℕ) (call : Call) (guards guards' : List Guard) (l : Whole) (before last : List Made) → IsValid f → Legal f l
-    → part keeper l ≡ last ++ before → StoodBefore f keeper guards before → MakesCall f keeper call guards guards' last → BookStands f keeper guards' l
-call_stands f keeper (Call.Raise heap k answer) guards guards' l before last valid legal is stood raise =
-    let agreed = agreed_of f l keeper last before valid legal is in let met = raise_fits f keeper heap k guards guards' answer l before last [] valid legal is agreed stood raise in record {
-      fits = subst (FitsBook f guards') (sym is) (raise.fits.from before met agreed);
-      each = λ guard has. raise_up f keeper heap k guards guards' answer l before last [] valid legal is agreed stood raise guard has (raise.after, raise.steps_are, refl);
-    }
-call_stands f keeper (Call.Sweep all said) guards guards' l before last valid legal is stood sweep =
-    let agreed = agreed_of f l keeper last before valid legal is in let c = sweep_cut f keeper all guards guards' said l before last [] valid legal is stood sweep in
-    let met = subst (FitsBook f guards) c.older_is (sweep_before f keeper all guards guards' said l before last [] valid legal is stood sweep).fits in record {
-      fits = subst (FitsBook f guards') (sym is) (sweep.fits.from before met agreed);
-      each = λ guard has. sweep_up f keeper all guards guards' said l before last [] valid legal is stood sweep guard (was_up all keeper guards guards' said last guard sweep.swept has) (inl has);
-    }
+call_stands : {f : Profile} {keeper : ℕ} (call : Call) {guards guards' : List Guard} {l : Whole} {before last : List Made}
+    → Place f keeper guards l before last []
+    → MakesCall f keeper call guards guards' last → BookStands f keeper guards' l
+call_stands {f} {keeper} (Call.Raise heap k answer) {guards} {guards'} {l} {before} at raise = record {
+  fits = subst (FitsBook f guards') (sym at.is) (raise.fits.from before (fits_before at) at.agreed);
+  each = λ guard has. raise_up answer at raise guard has (raise.after, raise.steps_are, refl);
+}
+call_stands {f} {keeper} (Call.Sweep all said) {guards} {guards'} {l} {before} {last} at sweep = record {
+  fits = subst (FitsBook f guards') (sym at.is) (sweep.fits.from before (fits_before at) at.agreed);
+  each = λ guard has. sweep_up at sweep guard (was_up all keeper guards guards' said last guard sweep.swept has) (inl has);
+}
 
 -- before any step, and a book without guards
 clear_at_first : IsClear []
@@ -335,20 +339,21 @@ calls_stand : (f : Profile) (keeper : ℕ) → IsValid f → (calls : List Call)
     → (l : Whole) → Legal f l → part keeper l ≡ steps → BookStands f keeper guards l
 calls_stand f keeper valid [] guards steps made l legal is = empty_stands f keeper guards l made.0 (is ∙ made.1)
 calls_stand f keeper valid (call ∷ calls) guards steps made l legal is =
-    call_stands f keeper call made.0 guards l made.1 made.2 valid legal (is ∙ made.5) (λ older older_legal at. calls_stand f keeper valid calls made.0 made.1 made.3 older older_legal at) made.4
+    let at = is ∙ made.5 in call_stands call (record { valid = valid; legal = legal; is = at; agreed = agreed_of f l _ _ _ valid legal at; stood = calls_stand f _ valid calls _ _ made.3 }) made.4
 
 -- a place in a call
-place_stands : (f : Profile) (keeper : ℕ) (call : Call) (guards guards' : List Guard) (guard : Guard) (l : Whole) (before first rest : List Made) → IsValid f
-    → Legal f l → part keeper l ≡ first ++ before → Agreed f before (rest ++ first) → StoodBefore f keeper guards before
-    → MakesCall f keeper call guards guards' (rest ++ first) → IsUpIn call guards guards' guard first → StandsBetween l keeper guard
-place_stands f keeper (Call.Raise heap k answer) guards guards' guard l before first rest valid legal is agreed stood raise up = elim up [
-  | inl old ↦ raise_old f keeper heap k guards guards' answer l before first rest valid legal is agreed stood raise guard old
+place_stands : {f : Profile} {keeper : ℕ} (call : Call) {guards : List Guard} (guards' : List Guard) (guard : Guard) {l : Whole} {before : List Made}
+    (first rest : List Made)
+    → Place f keeper guards l before first rest → MakesCall f keeper call guards guards' (rest ++ first) → IsUpIn call guards guards' guard first
+    → StandsBetween l keeper guard
+place_stands (Call.Raise heap k answer) guards' guard first rest at raise up = elim up [
+  | inl old ↦ raise_old at raise guard old
   | inr own ↦ elim (split_at rest first raise.after raise.searched raise.steps_are) [
-    | inl at ↦ raise_up f keeper heap k guards guards' answer l before first rest valid legal is agreed stood raise guard own.0 at
+    | inl split ↦ raise_up answer at raise guard own.0 split
     | inr early ↦ absurd (none_gives seeking guard raise.searched refl raise.kinds (subst (Once (GivesBlockOf guard)) (sym early.1) (once_later (GivesBlockOf guard) early.0 first own.1)))
   ]
 ]
-place_stands f keeper (Call.Sweep all said) guards guards' guard l before first rest valid legal is agreed stood sweep up = sweep_up f keeper all guards guards' said l before first rest valid legal is stood sweep guard up.0 up.1
+place_stands (Call.Sweep all said) guards' guard first rest at sweep up = sweep_up at sweep guard up.0 up.1
 
 -- the answers of all its steps agree with what the actor had seen by then
 agreed_all : (f : Profile) (l : Whole) (k : ℕ) → IsValid f → Legal f l → Agreed f [] (part k l)
@@ -360,9 +365,13 @@ pub up_stands : (f : Profile) (keeper : ℕ) (guard : Guard) (later : List Made)
 up_stands f keeper guard later l valid legal agreed up =
     let steps = up.rest ++ up.first in
     let whole : later ++ part keeper l ≡ up.more ++ (steps ++ up.before) = search (arith, append_assoc) in
-    place_stands f keeper up.call up.guards up.guards_after guard l up.before up.first up.rest valid legal up.made_is
-    (subst (λ v. Agreed f v steps) (append-nil up.before) (agreed_first f [] steps up.before (agreed_later f [] up.more (steps ++ up.before) (subst (Agreed f []) whole agreed))))
-    (λ older legal_older at. calls_stand f keeper valid up.calls up.guards up.before up.called older legal_older at) up.calls_now up.up
+    place_stands up.call up.guards_after guard up.first up.rest (record {
+      valid = valid;
+      legal = legal;
+      is = up.made_is;
+      agreed = search (arith, append-nil, agreed_first, agreed_later);
+      stood = calls_stand f keeper valid up.calls up.guards up.before up.called;
+    }) up.calls_now up.up
 
 -- ---- all places
 at_the_end : (keeper : ℕ) (guard : Guard) (newer older : Whole) → StandsThrough keeper guard newer older → StandsBetween (newer ++ older) keeper guard
@@ -375,17 +384,238 @@ pub one_more : (f : Profile) (keeper : ℕ) (guard : Guard) (t : Triple) (newer 
     → StandsThrough keeper guard (t ∷ newer) older
 one_more f keeper guard t newer older valid legal after so_far =
     let d = large_directory guard.block.heap in let l = newer ++ older in let before = at_the_end keeper guard newer older so_far in
-    (after, untouched_between f l t keeper guard.low d valid legal before.low after.low, untouched_between f l t keeper guard.high d valid legal before.high after.high, so_far)
+    (after, search (arith, untouched_between), search (arith, untouched_between), so_far)
 
 up_here : (f : Profile) (keeper : ℕ) (guard : Guard) (later l : Whole) → IsValid f → Legal f (later ++ l)
     → IsUp f keeper guard (part keeper later) (part keeper l) → StandsBetween l keeper guard
-up_here f keeper guard later l valid legal up =
-    up_stands f keeper guard (part keeper later) l valid (older_legal f later l legal) (subst (Agreed f []) (part_both keeper later l) (agreed_all f (later ++ l) keeper valid legal)) up
+up_here f keeper guard later l valid legal up = up_stands f keeper guard (part keeper later) l valid (older_legal f later l legal)
+    (subst (Agreed f []) (part_both keeper later l) (agreed_all f (later ++ l) keeper valid legal)) up
 
 -- While a keeper's guard is up, its outer pages stand whole and bare beside its block.
 pub stands_through : (f : Profile) (keeper : ℕ) (guard : Guard) (later newer older : Whole) → IsValid f → Legal f (later ++ (newer ++ older))
     → IsUpThrough f keeper guard later newer older → StandsThrough keeper guard newer older
 stands_through f keeper guard later [] older valid legal up = up_here f keeper guard later older valid legal up
 stands_through f keeper guard later (t ∷ newer) older valid legal up =
-    let l = newer ++ older in one_more f keeper guard t newer older valid (older_legal f later (t ∷ l) legal) (up_here f keeper guard later (t ∷ l) valid legal up.0)
+    let l = newer ++ older in one_more f keeper guard t newer older valid (older_legal f later _ legal) (up_here f keeper guard later (t ∷ l) valid legal up.0)
     (stands_through f keeper guard (later ++ (t ∷ [])) newer older valid (subst (Legal f) (sym (append_assoc later (t ∷ []) l)) legal) up.1)
+
+-- How long a guard is up, by the calls of its keeper: until a grain of an outer page is put.
+-- ---- a lowering puts grains of the low page
+full_put : (page : ℕ) (d : Directory) (steps : List Made) → BackSteps page d full steps → Once (PutsHere page) steps
+full_put page d steps a = search (arith, true≢false, full_set, full_word, once_later)
+
+not_put : (guard : Guard) (xs : List Made) → Once (PutsHere guard.low) xs → Always (PutsNoneOf guard) xs → ⊥
+not_put guard [] h none = h
+not_put guard (m ∷ xs) (inl h) none = true≢false (sym (low_outer guard) ∙ none.0 guard.low h.0 h.1 h.2)
+not_put guard (m ∷ xs) (inr h) none = not_put guard xs h none.1
+
+newer_none : (guard : Guard) (ys xs : List Made) → Always (PutsNoneOf guard) (ys ++ xs) → Always (PutsNoneOf guard) ys
+newer_none guard [] xs h = tt
+newer_none guard (y ∷ ys) xs h = (h.0, newer_none guard ys xs h.1)
+
+-- ---- so a sweep that puts none of them keeps the guard
+one_kept : (t : Bool) (k : ℕ) (guard : Guard) (first : List Made) (kept after : List Guard) (said more : List Record) (x : Guard)
+    → SweptOne t k guard first kept after said more → guard ≡ x → Always (PutsNoneOf x) first → Contains kept x
+one_kept true k guard first kept after said more x h same none = let low = h.0 in
+    absurd (not_put guard first (subst (Once (PutsHere guard.low)) (sym low.steps_are) (once_later (PutsHere guard.low) low.high low.low (full_put guard.low _ low.low low.low_order))) (subst (λ y. Always (PutsNoneOf y) first) (sym same) none))
+one_kept false k guard first kept after said more x h same none = subst (λ xs. Contains xs x) (sym h.1) (0, omega arith, same)
+
+others_kept : (t : Bool) (k : ℕ) (guard : Guard) (first : List Made) (kept after : List Guard) (said more : List Record) (x : Guard)
+    → SweptOne t k guard first kept after said more → Contains after x → Contains kept x
+others_kept true k guard first kept after said more x h has = subst (λ xs. Contains xs x) (sym h.1) has
+others_kept false k guard first kept after said more x h has = subst (λ xs. Contains xs x) (sym h.1) (Contains-append_right (guard ∷ []) after x has)
+
+kept_without_puts : (all : Bool) (k : ℕ) (guards kept : List Guard) (said : List Record) (steps : List Made) (x : Guard) → Swept all k guards kept said steps
+    → Contains guards x → Always (PutsNoneOf x) steps → Contains kept x
+kept_without_puts all k [] kept said steps x h has none = absurd (none_in x has)
+kept_without_puts all k (guard ∷ guards) kept said steps x h has none =
+    let look = life_look guard h.0 in let parts = subst (Always (PutsNoneOf x)) h.7 none in elim (first_or_later guard guards x has) [
+      | inl same ↦ one_kept _ k guard h.1 kept h.3 said h.4 x h.5 same (newer_none x h.1 look (older_always (PutsNoneOf x) h.2 (h.1 ++ look) parts))
+      | inr later ↦ others_kept _ k guard h.1 kept h.3 said h.4 x h.5 (kept_without_puts all k guards h.3 h.4 h.2 x h.6 later (newer_none x h.2 (h.1 ++ look) parts))
+    ]
+
+-- ---- from one step to the next, and from one call to the next
+pub begins_up : (heap pages : ℕ) (answer : Option Block) (guards guards' : List Guard) (guard : Guard) (m : Made) (first : List Made) → Contains guards' guard
+    → GivesBlockOf guard m first → IsUpIn (Call.Raise heap pages answer) guards guards' guard (m ∷ first)
+begins_up heap pages answer guards guards' guard m first has gives = inr (has, inl gives)
+
+-- A guard that is up in a call stays up by one step more that puts none of its grains.
+pub stays_up : (call : Call) (guards guards' : List Guard) (guard : Guard) (m : Made) (first : List Made) → IsUpIn call guards guards' guard first
+    → PutsNoneOf guard m first → IsUpIn call guards guards' guard (m ∷ first)
+stays_up call guards guards' guard m first up none = search arith
+
+in_book : (f : Profile) (keeper : ℕ) (call : Call) (guards guards' : List Guard) (guard : Guard) (steps : List Made)
+    → MakesCall f keeper call guards guards' steps → IsUpIn call guards guards' guard steps → Contains guards' guard
+in_book f keeper (Call.Raise heap pages None) guards guards' guard steps raise (inl old) = subst (λ xs. Contains xs guard) (sym raise.outcome.same) old
+in_book f keeper (Call.Raise heap pages (Some block)) guards guards' guard steps raise (inl old) = let r = raise.outcome in subst (λ xs. Contains xs guard) (sym r.raised) (Contains-append_left _ _ guard old)
+in_book f keeper (Call.Raise heap pages answer) guards guards' guard steps raise (inr own) = own.0
+in_book f keeper (Call.Sweep all said) guards guards' guard steps sweep up = elim up.1 [ inl kept ↦ kept | inr none ↦ kept_without_puts all _ _ _ _ _ _ sweep.swept up.0 none ]
+
+-- a guard that was up before the call, as long as no grain of its outer pages is put
+up_before : (call : Call) (guards guards' : List Guard) (guard : Guard) (first : List Made) → Contains guards guard → Always (PutsNoneOf guard) first
+    → IsUpIn call guards guards' guard first
+up_before call guards guards' guard first has h = grind arith
+
+-- A guard that is up after a call is up at the start of the keeper's next.
+pub up_in_next : (f : Profile) (keeper : ℕ) (call next : Call) (guards guards' later : List Guard) (guard : Guard) (steps : List Made)
+    → MakesCall f keeper call guards guards' steps → IsUpIn call guards guards' guard steps → IsUpIn next guards' later guard []
+up_in_next f keeper call next guards guards' later guard steps made up = up_before next _ later guard [] (in_book f keeper call guards _ guard steps made up) tt
+
+-- a call that leaves the guard in its book leaves its outer pages alone
+pub left_alone : (f : Profile) (keeper : ℕ) (call : Call) (guards guards' : List Guard) (guard : Guard) (v : View) (steps : List Made) → FitsBook f guards v
+    → Agreed f v steps → MakesCall f keeper call guards guards' steps → Contains guards guard → Contains guards' guard
+    → (g : ℕ) → is_outer_of guard (g / 256) ≡ true → StaysPut g steps
+left_alone f keeper a guards guards' guard v steps met agreed raise has left g outer = search (arith, outer_in, kept_steady)
+
+-- ==== From the give on, by the calls alone.
+
+-- ---- the raise that gives a block puts the block and the pages beside it into its book
+give_in_parts : (guard : Guard) (ys xs : List Made) → Once (GivesBlockOf guard) (ys ++ xs) → Once (GivesBlockOf guard) ys ⊎ Once (GivesBlockOf guard) xs
+give_in_parts guard [] xs h = inr h
+give_in_parts guard (y ∷ ys) xs (inl h) = inl (inl h)
+give_in_parts guard (y ∷ ys) xs (inr h) = elim (give_in_parts guard ys xs h) [ inl newer ↦ inl (inr newer) | inr older ↦ inr older ]
+
+same_block : (b c : Block) → Give b ≡ Give c → b ≡ c
+same_block b c e = cc
+
+given_block : (guard : Guard) (page word answer : ℕ) (block : Block) → Once (GivesBlockOf guard) (give_steps page 0 block word answer) → block ≡ guard.block
+given_block guard page word answer block h = search (arith, same_block)
+
+guard_is : (d : Directory) (first k word : ℕ) (block : Block) (guard : Guard) → block ≡ run_block d (first + 1) k word → block ≡ guard.block → IsBeside guard
+    → guard_of first k block ≡ guard
+guard_is d first k word block guard is same beside = search (arith, guard.low, beside.begins, guard.high, beside.ends)
+
+raised_in_book : (f : Profile) (d : Directory) (k : ℕ) (guards guards' : List Guard) (searched after : List Made) (block : Block) (guard : Guard)
+    → IsRaised f d k guards guards' searched after block → IsBeside guard → Once (GivesBlockOf guard) after → Contains guards' guard
+raised_in_book f d k guards guards' searched after block guard r beside gives =
+    let given = give_steps (r.first + 1) 0 block r.word r.answer in
+    let same : block ≡ guard.block = elim (give_in_parts guard r.left (given ++ r.backs) (subst (Once (GivesBlockOf guard)) r.after_is gives)) [
+      | inl left ↦ absurd (none_gives returning guard r.left refl (raised_leaves r) left)
+      | inr before ↦ elim (give_in_parts guard given r.backs before) [
+        | inl now ↦ given_block guard (r.first + 1) r.word r.answer block now
+        | inr backs ↦ absurd (none_gives (Backing ∷ []) guard r.backs refl (raised_backs r) backs)
+      ]
+    ] in
+    subst (λ xs. Contains xs guard) (sym r.raised) (subst (Contains (guards ++ guard_of r.first k block ∷ []))
+    (guard_is d r.first k r.word block guard r.block_is same beside) (Contains-push guards (guard_of r.first k block)))
+
+-- so it is up from the give on, and no call gives it but such a raise
+up_when_given : (f : Profile) (keeper : ℕ) (call : Call) (guards guards' : List Guard) (guard : Guard) (first rest : List Made)
+    → MakesCall f keeper call guards guards' (rest ++ first) → IsBeside guard → Once (GivesBlockOf guard) first → IsUpIn call guards guards' guard first
+up_when_given f keeper (Call.Raise heap pages None) guards guards' guard first rest raise beside gives =
+    let none = raise.outcome in absurd (none_gives seeking guard _ refl raise.kinds (subst (Once _) (raise.steps_are ∙ ap (λ xs. xs ++ raise.searched) none.nothing) (once_later _ rest first gives)))
+up_when_given f keeper (Call.Raise heap pages (Some block)) guards guards' guard first rest raise beside gives =
+    let book : Contains guards' guard = elim (give_in_parts guard raise.after raise.searched (subst (Once (GivesBlockOf guard)) raise.steps_are (once_later (GivesBlockOf guard) rest first gives))) [
+      | inl after ↦ raised_in_book f (large_directory heap) pages guards guards' raise.searched raise.after block guard raise.outcome beside after
+      | inr early ↦ absurd (none_gives seeking guard raise.searched refl raise.kinds early)
+    ] in inr (book, gives)
+up_when_given f keeper (Call.Sweep all said) guards guards' guard first rest sweep beside gives = absurd (none_gives sweeping guard _ refl sweep.kinds (once_later _ rest _ gives))
+
+-- ---- until a grain of an outer page is put
+-- the give is one of the last steps, or one of those before them
+given_by_then : (guard : Guard) (m : Made) (newer older last before : List Made) → newer ++ (m ∷ older) ≡ last ++ before → m.step ≡ Give guard.block
+    → Always (PutsNoneOf guard) newer
+    → Once (GivesBlockOf guard) last ⊎ ((y : List Made) × (before ≡ y ++ (m ∷ older)) × Always (PutsNoneOf guard) y × Always (PutsNoneOf guard) last)
+given_by_then guard m newer older [] before e gives none = inr (newer, sym e, none, tt)
+given_by_then guard m [] older (x ∷ last) before e gives none = inl (inl (ap (λ (n : Made). n.step) (sym (head_same m x older (last ++ before) e).0) ∙ gives))
+given_by_then guard m (n ∷ newer) older (x ∷ last) before e gives none =
+    let both = head_same n x (newer ++ (m ∷ older)) (last ++ before) e in elim (given_by_then guard m newer older last before both.1 gives none.1) [
+      | inl now ↦ inl (inr now)
+      | inr h ↦ inr (h.0, h.1, h.2, (λ page word mask is. none.0 page word mask (ap (λ (y : Made). y.step) both.0 ∙ is), h.3))
+    ]
+
+no_steps : (m : Made) (ys xs zs : List Made) → [] ≡ zs ++ (ys ++ (m ∷ xs)) → ⊥
+no_steps m [] xs [] e = cc
+no_steps m (y ∷ ys) xs [] e = cc
+no_steps m ys xs (z ∷ zs) e = cc
+
+still_in_book : (f : Profile) (keeper : ℕ) (calls : List Call) (guards : List Guard) (guard : Guard) (m : Made) (steps newer older : List Made)
+    → MakesCalls f keeper calls guards steps → steps ≡ newer ++ (m ∷ older)
+    → m.step ≡ Give guard.block → IsBeside guard → Always (PutsNoneOf guard) newer → Contains guards guard
+still_in_book f keeper [] guards guard m steps newer older made is gives beside none = absurd (no_steps m newer older [] (sym made.1 ∙ is))
+still_in_book f keeper (call ∷ calls) guards guard m steps newer older made is gives beside none = in_book f _ call _ _ _ _ made.4 (elim (given_by_then guard m newer older _ _ (sym is ∙ made.5) gives none) [
+  | inl now ↦ up_when_given f keeper call made.0 guards guard made.2 [] made.4 beside now
+  | inr h ↦ up_before call made.0 guards guard made.2 (still_in_book f keeper calls made.0 guard m made.1 h.0 older made.3 h.1 gives beside h.2) h.3
+])
+
+-- A guard whose block a raise gave, and none of whose grains was put since, is in the keeper's book after its calls.
+pub booked : (f : Profile) (keeper : ℕ) (calls : List Call) (guards : List Guard) (guard : Guard) (m : Made) (newer older : List Made)
+    → MakesCalls f keeper calls guards (newer ++ (m ∷ older)) → GivesBlockOf guard m older → IsBeside guard → Always (PutsNoneOf guard) newer
+    → Contains guards guard
+booked f keeper calls guards guard m newer older made gives beside none = still_in_book f keeper calls guards guard m _ newer older made refl gives beside none
+
+-- at each place in whole calls
+still_up : (f : Profile) (keeper : ℕ) (calls : List Call) (guards : List Guard) (guard : Guard) (m : Made) (steps later newer older : List Made)
+    → MakesCalls f keeper calls guards steps → steps ≡ later ++ (newer ++ (m ∷ older))
+    → m.step ≡ Give guard.block → IsBeside guard → Always (PutsNoneOf guard) newer → IsUp f keeper guard later (newer ++ (m ∷ older))
+still_up f keeper [] guards guard m steps later newer older made is gives beside none = absurd (no_steps m newer older later (sym made.1 ∙ is))
+still_up f keeper (call ∷ calls) guards guard m steps later newer older made is gives beside none = elim (split_at later _ made.2 made.1 (sym is ∙ made.5)) [
+  | inl h ↦ record {
+    calls = calls;
+    guards = made.0;
+    before = made.1;
+    called = made.3;
+    call = call;
+    guards_after = guards;
+    first = h.0;
+    rest = later;
+    more = [];
+    calls_now = subst (MakesCall f keeper call made.0 guards) h.2 made.4;
+    made_is = h.1;
+    later_is = refl;
+    up = elim (given_by_then guard m newer older h.0 made.1 h.1 gives none) [
+      | inl now ↦ up_when_given f keeper call made.0 guards guard h.0 later (subst (MakesCall f keeper call made.0 guards) h.2 made.4) beside now
+      | inr early ↦ up_before call made.0 guards guard h.0 (still_in_book f keeper calls made.0 guard m made.1 _ older made.3 early.1 gives beside early.2) early.3
+    ];
+  }
+  | inr h ↦ (let up = still_up f keeper calls made.0 guard m made.1 h.0 newer older made.3 h.1 gives beside none in record {
+    calls = up.calls;
+    guards = up.guards;
+    before = up.before;
+    called = up.called;
+    call = up.call;
+    guards_after = up.guards_after;
+    first = up.first;
+    rest = up.rest;
+    more = made.2 ++ up.more;
+    calls_now = up.calls_now;
+    made_is = up.made_is;
+    later_is = h.2 ∙ ap (λ xs. made.2 ++ xs) up.later_is ∙ sym (append_assoc made.2 up.more up.rest);
+    up = up.up;
+  })
+]
+
+-- ---- in a list of all actors' steps, after which the keeper goes on by the rest
+record KeepsOn (f : Profile) (keeper : ℕ) (calls : List Call) (guards : List Guard) (rest : List Made) (l : Whole) : Type 0 where
+  legal : Legal f l
+  called : MakesCalls f keeper calls guards (rest ++ part keeper l)
+  agreed : Agreed f [] (rest ++ part keeper l)
+
+-- its own step is first, or that of another leaves it
+none_earlier : (guard : Guard) (own : Bool) (m : Made) (xs : List Made) → Always (PutsNoneOf guard) (if own then m ∷ xs else xs) → Always (PutsNoneOf guard) xs
+none_earlier guard own m xs none = search arith
+
+module _ (f : Profile) (keeper : ℕ) (guard : Guard) (calls : List Call) (guards : List Guard) (rest : List Made) (give : Triple) (older : Whole)
+    (valid : IsValid f) (given : GivesGuarded keeper guard give) where
+  stands_here : (later newer : Whole) → KeepsOn f keeper calls guards rest (later ++ (newer ++ (give ∷ older))) → Always (PutsNoneOf guard) (part keeper newer)
+      → StandsBetween (newer ++ (give ∷ older)) keeper guard
+  stands_here later newer keeps none =
+      let l = newer ++ (give ∷ older) in let goes_on = rest ++ part keeper later in
+      let whole = ap (λ xs. rest ++ xs) (part_both keeper later l) ∙ sym (append_assoc rest (part keeper later) (part keeper l)) in
+      let own : part keeper l ≡ part keeper newer ++ (give.made ∷ part keeper older) = search (arith, part_both, eq-eqb) in
+      let up = still_up f keeper calls guards guard give.made _ goes_on _ _ keeps.called (whole ∙ ap (λ xs. goes_on ++ xs) own) given.gives given.beside none in
+      up_stands f keeper guard goes_on l valid (older_legal f later l keeps.legal) (subst (Agreed f []) whole keeps.agreed) (subst (IsUp f keeper guard goes_on) (sym own) up)
+
+  stands_since : (later newer : Whole) → KeepsOn f keeper calls guards rest (later ++ (newer ++ (give ∷ older))) → Always (PutsNoneOf guard) (part keeper newer)
+      → StandsThrough keeper guard newer (give ∷ older)
+  stands_since later [] keeps none = stands_here later [] keeps none
+  stands_since later (t ∷ newer) keeps none =
+      let l = newer ++ (give ∷ older) in one_more f keeper guard t newer _ valid (older_legal f later (t ∷ l) keeps.legal) (stands_here later (t ∷ newer) keeps none)
+      (stands_since (later ++ (t ∷ [])) newer (subst (KeepsOn f keeper calls guards rest) (sym (append_assoc later (t ∷ []) l)) keeps) (none_earlier guard (t.actor == keeper) t.made (part keeper newer) none))
+
+-- A guard stands from the give of its block on, until its keeper puts a grain of it.
+pub stands_from_give : (f : Profile) (keeper : ℕ) (guard : Guard) (later newer older : Whole) (give : Triple) → IsValid f
+    → Legal f (later ++ (newer ++ (give ∷ older))) → IsKeeper f keeper (part keeper (later ++ (newer ++ (give ∷ older))))
+    → GivesGuarded keeper guard give → Always (PutsNoneOf guard) (part keeper newer) → StandsThrough keeper guard newer (give ∷ older)
+stands_from_give f keeper guard later newer older give valid legal keeps given none =
+    stands_since f keeper guard (keeps.call ∷ keeps.calls) keeps.guards_after keeps.rest give older valid given later newer (search (arith, append_assoc)) none

@@ -1,8 +1,4 @@
-mod HeldSpans
 mod Seeks
 mod Guarded
 pub mod Raises
-pub mod Raised
-mod Sweeps
 pub mod Keepers
-mod Times

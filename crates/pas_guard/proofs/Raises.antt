@@ -1,38 +1,42 @@
 -- A guard goes up, and the actor fits the book still.
 use Rattle.std.proofs.Common.{◌≡◌, ◌≢◌, ℕ, ◌+◌, ◌*◌, ◌/◌, ◌<◌, ◌≤◌, ◌==◌, Bool, true, false, ◌||◌, if◌then◌else◌, List, [], ◌∷◌, ◌++◌, inl, inr, refl, ap, sym}
-use Rattle.std.proofs.Common.{◌∙◌, subst, arith, length-append, append_assoc, true≢false, Some, None, eqb-true, eq-eqb, ne_eqb}
-use Rattle.std.proofs.lemmas.Bool.{cases_Bool, Decides.nat_tests, or_from, or_parts}
-use Rattle.pas_profile.specs.Blocks.{address_of, grain_of}
+use Rattle.std.proofs.Common.{◌∙◌, subst, arith, length-append, append_assoc, true≢false, Some, None, eqb-true, eq-eqb, ne_eqb, ◌⊎◌, length, append-nil, remove}
+use Rattle.std.proofs.Common.{slice_index_or}
+use Rattle.std.proofs.lemmas.Bool.{cases_Bool, or_from, or_parts, or_right}
+use Rattle.std.proofs.lemmas.Bool.Decides.{nat_tests}
+use Rattle.pas_profile.specs.{Blocks.address_of, Profiles.IsPage}
 use Rattle.pas_profile.specs.declared.{directory.Directory.Directory, name.Block.Block, profile.Profile.Profile}
 use Rattle.pas_scan.specs.Runs.{large_directory}
-use Rattle.pas_steps.specs.Calls.{Calls, Kept, Gained, Lost, now, nothing, Does}
-use Rattle.pas_steps.specs.Desks.{Standing, CanCall}
-use Rattle.pas_steps.specs.Kinds.{Kinds, Backing, Only, is_in, kind_of, returning}
+use Rattle.pas_steps.specs.Calls.{Calls, Kept, Lost, now, nothing, Does, Leads}
+use Rattle.pas_steps.specs.Desks.{Standing, CanCall, Seat, AnyView}
+use Rattle.pas_steps.specs.Agreement.{Agreed}
+use Rattle.pas_steps.specs.Kinds.{Kinds, Backing, Only, is_in, kind_of, returning, LookLife}
 use Rattle.pas_steps.specs.declared.step.{Step.TheVariants.Back, Step.TheVariants.Give, Made.Made}
-use Rattle.pas_steps.proofs.{Past.always_map, Past.always_both, Called.next_call, Calls.leads_at, Kept.knows_still, SpareRoom.Spares}
-use Rattle.pas_profile.proofs.Codecs.{deed_word_of-positive}
+use Rattle.pas_steps.proofs.{Past.always_map, Past.always_both, Called.next_call, Calls.leads_at, Frames.knows_still, SpareRoom.Spares, Apart.only_within}
+use Rattle.pas_steps.proofs.{Apart.only_both, Called.call_none, Calls.does_idly}
 use Rattle.pas_large.proofs.Gives.{run_is}
 use Rattle.pas_guard.proofs.Seeks.{steady_kinds}
-use Rattle.pas_steps.specs.Views.{View, Stays, Gives, grain_move, holds, has_right, known_deed, KnowsDeed}
+use Rattle.pas_steps.specs.Views.{View, Stays, grain_move, holds, has_right, known_deed, KnowsDeed}
 use Rattle.pas_steps.proofs.Adding.{adds_under, agreed_first, agreed_later, adds_call}
 use Rattle.pas_large.specs.{Claims.in_span, Claims.StaysPut, Claims.HasPages, Finds.MayFind, Finds.FindRoom, Gives.run_block}
-use Rattle.pas_rights.specs.Gives.{give_steps}
-use Rattle.pas_large.proofs.InOrder.{BacksIn, only_backs, backs_in, only_leaves}
-use Rattle.pas_large.proofs.Claims.{has_got, room_after, span_in, steady_both}
-use Rattle.pas_guard.specs.Books.{is_outer_of, is_outer, AreApart, Each, IsGuardOf, KnowsGuard, FitsBook}
-use Rattle.pas_guard.specs.Guards.{left_last_first, GuardedRun, GuardsRun}
-use Rattle.pas_guard.specs.Raises.{BacksNot, RaiseRoom, guard_of, Raises}
+use Rattle.pas_rights.specs.{Gives.give_steps, PutsBack.giving_back}
+use Rattle.pas_large.proofs.Left.{BacksIn, only_backs, backs_in, only_leaves, backs_few}
+use Rattle.pas_large.proofs.Claims.{has_got, room_after, span_in, steady_both, steady_on}
+use Rattle.pas_guard.specs.Books.{is_outer_of, is_outer, AreApart, Each, KnowsGuard, FitsBook, IsGuardOf}
+use Rattle.pas_guard.specs.{Guards.left_last_first, Guards.GuardedRun, Guards.GuardsRun, Lowers.MayLower, Lowers.lowered, Lowers.Lowers}
+use Rattle.pas_guard.specs.Raises.{BacksNot, RaiseRoom, guard_of, Raises, IsRaised}
 use Rattle.pas_guard.specs.Seeks.{seeking, HoldsWhole, HasSpan, Seeks}
 use Rattle.pas_guard.specs.declared.book.Guard.{Guard}
+use Rattle.pas_report.specs.declared.record.Record.{Record}
+use Rattle.pas_guard.specs.Sweeps.{is_over, life_look, LooksOver, lowered_record, SweptOne, Swept, sweeping, Sweeps}
 
 -- ---- books with a guard more
 or_false : (t : Bool) → (t || false) ≡ t
-or_false true = refl
-or_false false = refl
+or_false t = search arith
 
+-- by its truth table
 or_later : (a b c : Bool) → (a || (b || c)) ≡ ((a || b) || c)
-or_later true b c = refl
-or_later false b c = refl
+or_later a b c = search arith
 
 outer_more : (gs : List Guard) (guard : Guard) (p : ℕ) → is_outer (gs ++ guard ∷ []) p ≡ (is_outer gs p || is_outer_of guard p)
 outer_more [] guard p = or_false (is_outer_of guard p)
@@ -48,6 +52,13 @@ pub each_map : (P Q : Guard → Type 0) (gs : List Guard) → ((g : Guard) → P
 each_map P Q [] f h = tt
 each_map P Q (g ∷ gs) f h = (f g h.0, each_map P Q gs f h.1)
 
+-- Guards whose deeds are known are known where no deed is forgotten.
+pub each_known : (v w : View) (gs : List Guard) → ((p : ℕ) (e : Directory) → KnowsDeed p e v → KnowsDeed p e w) → Each (KnowsGuard v) gs
+    → Each (KnowsGuard w) gs
+each_known v w gs knows = each_map (KnowsGuard v) (KnowsGuard w) gs
+    (λ g h. let e = large_directory g.block.heap in record { low = knows g.low e h.low; high = knows g.high e h.high })
+
+-- The test says the same the other way round.
 turned : (a b : ℕ) → (a == b) ≡ false → (b == a) ≡ false
 turned a b h = ne_eqb b a (λ e. true≢false (sym (eq-eqb a b (sym e)) ∙ h))
 
@@ -67,8 +78,7 @@ apart_more (g ∷ gs) guard apart low high =
 
 -- ---- the grains that are held
 raised_in : (inner outer : Bool) → (inner || outer) ≡ true → (inner ≡ true → outer ≡ false) → now (if inner then Lost else Kept) true ≡ outer
-raised_in true outer one apart = sym (apart refl)
-raised_in false outer one apart = sym one
+raised_in inner outer one apart = search arith
 
 in_or_outer : (first k p : ℕ) → in_span first (first + (k + 2)) p ≡ true
     → (in_span (first + 1) (first + 1 + k) p || ((first == p) || (first + k + 1 == p))) ≡ true
@@ -83,7 +93,7 @@ page_again p = omega arith
 -- of a page of the run
 raised_here : (first k p : ℕ) → in_span first (first + (k + 2)) p ≡ true
     → now (if in_span (first + 1) (first + 1 + k) p then Lost else Kept) true ≡ ((first == p) || (first + k + 1 == p))
-raised_here first k p is = raised_in (in_span (first + 1) (first + 1 + k) p) ((first == p) || (first + k + 1 == p)) (in_or_outer first k p is) (in_not_outer first k p)
+raised_here first k p is = raised_in _ ((first == p) || (first + k + 1 == p)) (in_or_outer first k p is) (in_not_outer first k p)
 
 -- of another page
 raised_out : (first k p : ℕ) → in_span first (first + (k + 2)) p ≡ false → ((first == p) || (first + k + 1 == p)) ≡ false
@@ -114,14 +124,7 @@ module _ (f : Profile) (heap first k : ℕ) (gs : List Guard) (block : Block) wh
     new_page p is = let at : p * 256 / 256 ≡ p = omega arith in ap (is_outer gs) (sym at) ∙ sym (fits.held (p * 256)) ∙ span.got.apart (p * 256) (ap run at ∙ is)
 
     held_now : (g : ℕ) → holds u g ≡ is_outer (gs ++ guard ∷ []) (g / 256)
-    held_now g =
-        let p = g / 256 in
-        let first_is = guarded.does.held g ∙ ap (now (if in_span (first + 1) (first + 1 + k) p then Lost else Kept)) (span.got.does.held g) in
-        first_is ∙ elim (cases_Bool (run p)) [
-          | inl is ↦ ap (λ t. now (if in_span (first + 1) (first + 1 + k) p then Lost else Kept) (now (if t then Gained else Kept) (holds v g))) is ∙ raised_here first k p is ∙ ap (λ t. t || is_outer_of guard p) (sym (new_page p is))
-          | inr out ↦ ap (λ t. now (if t then Lost else Kept) (now (if run p then Gained else Kept) (holds v g))) (inner_out first k p out) ∙ ap (λ t. now (if t then Gained else Kept) (holds v g)) out ∙ fits.held g
-              ∙ sym (or_false (is_outer gs p)) ∙ ap (λ t. is_outer gs p || t) (sym (raised_out first k p out))
-        ] ∙ sym (outer_more gs guard p)
+    held_now g = search (arith, cases_Bool, raised_here, new_page, inner_out, or_false, raised_out, outer_more)
 
     rights_now : (q : ℕ) → has_right u q ≡ false
     rights_now q = search (arith, cases_Bool)
@@ -131,7 +134,7 @@ module _ (f : Profile) (heap first k : ℕ) (gs : List Guard) (block : Block) wh
     fits_more low high of some of_heap at knows = record {
       apart = apart_more gs guard fits.apart (new_page first low_in) (new_page (first + k + 1) high_in);
       of_region = search (arith, each_more);
-      knows = each_more (KnowsGuard u) gs guard (each_map (KnowsGuard v) (KnowsGuard u) gs (λ g h. record { low = knows g.low (large_directory g.block.heap) h.low; high = knows g.high (large_directory g.block.heap) h.high }) fits.knows) (record {
+      knows = each_more (KnowsGuard u) gs guard (each_known v u gs knows fits.knows) (record {
         low = subst (λ h. KnowsDeed first (large_directory h) u) (sym of_heap) (guarded.deeds first low_in);
         high = subst (λ h. KnowsDeed (first + k + 1) (large_directory h) u) (sym of_heap) (guarded.deeds (first + k + 1) high_in);
       });
@@ -143,10 +146,7 @@ module _ (f : Profile) (heap first k : ℕ) (gs : List Guard) (block : Block) wh
 -- ---- the outer pages of the guards that were up
 outer_known : (v : View) (gs : List Guard) → Each (KnowsGuard v) gs → (p : ℕ) → is_outer gs p ≡ true → known_deed v p ≢ 0
 outer_known v [] knows p is z = true≢false (sym is)
-outer_known v (g ∷ gs) knows p is z = elim (cases_Bool (is_outer_of g p)) [
-  | inl mine ↦ search (arith, cases_Bool, eqb-true)
-  | inr other ↦ outer_known v gs knows.1 p (sym (ap (λ t. t || is_outer gs p) other) ∙ is) z
-]
+outer_known v (g ∷ gs) knows p is z = let rest = outer_known v gs knows.1 p in grind (arith, rest, cases_Bool, eqb-true)
 
 whole_outer : (f : Profile) (gs : List Guard) (v : View) → FitsBook f gs v → (p : ℕ) → is_outer gs p ≡ true → HoldsWhole p v
 whole_outer f gs v fits p is = record { held = λ g at. fits.held g ∙ ap (is_outer gs) at ∙ is; known = outer_known v gs fits.knows p is }
@@ -161,7 +161,7 @@ run_out f d gs first stop v w fits span p is = elim (cases_Bool (in_span first s
 
 -- Steps of kinds without a back don't back a page.
 pub no_backs : (ks : Kinds) (p : ℕ) (xs : List Made) → is_in ks Backing ≡ false → Only ks xs → BacksNot p xs
-no_backs ks p xs none = always_map (λ m before. is_in ks (kind_of m.step) ≡ true) (λ m before. m.step ≡ Back p → ⊥) xs (λ m before is e. true≢false (sym is ∙ ap (λ s. is_in ks (kind_of s)) e ∙ none))
+no_backs ks p xs none = always_map _ (λ m before. m.step ≡ Back p → ⊥) xs (λ m before is e. true≢false (sym is ∙ ap (λ s. is_in ks (kind_of s)) e ∙ none))
 
 -- Two lists of steps that don't back a page don't back it together.
 pub backs_both : (p : ℕ) (ys xs : List Made) → BacksNot p ys → BacksNot p xs → BacksNot p (ys ++ xs)
@@ -175,18 +175,12 @@ module _ (d : Directory) (first k word answer : ℕ) (block : Block) (is : block
   -- After the search of a raise, no step moves a grain of a page that isn't an inner one.
   pub after_steady : Only returning left → Only (Backing ∷ []) backs → (g : ℕ) → in_span (first + 1) (first + 1 + k) (g / 256) ≡ false
       → StaysPut g (left ++ (give_steps (first + 1) 0 block word answer ++ backs))
-  after_steady leaves back g out = steady_both g left (give_steps (first + 1) 0 block word answer ++ backs) (steady_kinds returning refl g left leaves) (give_stays g out, (refl, steady_kinds (Backing ∷ []) refl g backs back))
+  after_steady leaves back g out = steady_both g left _ (steady_kinds returning refl g left leaves) (give_stays g out, (refl, steady_kinds (Backing ∷ []) refl g backs back))
 
   -- After the search of a raise, no step backs a page that isn't an inner one.
   pub after_unbacked : Only returning left → BacksIn (first + 1) (first + 1 + k) backs → (p : ℕ) → in_span (first + 1) (first + 1 + k) p ≡ false
       → BacksNot p (left ++ (give_steps (first + 1) 0 block word answer ++ backs))
-  after_unbacked leaves pages p out = backs_both p left (give_steps (first + 1) 0 block word answer ++ backs) (no_backs returning p left refl leaves) (
-    (λ e. cc),
-    (
-      (λ e. cc),
-      always_map (λ m before. (q : ℕ) → m.step ≡ Back q → (first + 1 ≤ q) × (q < first + 1 + k)) (λ m before. m.step ≡ Back p → ⊥) backs (λ m before h e. let at = h p e in true≢false (sym (span_in (first + 1) (first + 1 + k) p at.0 at.1) ∙ out)) pages,
-    ),
-  )
+  after_unbacked leaves pages p out = search (arith, backs_both, no_backs, always_map, true≢false, span_in)
 
 -- ---- before the search
 pub fits_find : (f : Profile) (d : Directory) (gs : List Guard) (v : View) → FitsBook f gs v → MayFind d v
@@ -195,15 +189,17 @@ fits_find f d gs v fits = record { lacks = λ p h. fits.rights p; clear = fits.c
 -- Who may raise a guard may search for a run of its heap's large pages.
 pub can_seek : {σ : Standing} (heap n spare : ℕ) (gs : List Guard) → 1 ≤ n → CanCall σ (RaiseRoom σ.seat.profile gs n spare)
     → CanCall σ (FindRoom σ.seat.profile (large_directory heap) 1 spare)
-can_seek {σ} heap n spare gs some can = record { view = can.view; whole = can.whole; stood = can.stood; met = record { may = fits_find σ.seat.profile (large_directory heap) gs can.view can.met.fits; room = (omega (arith, can.met.room, some)) } }
+can_seek {σ} heap n spare gs some can = record { view = can.view; whole = can.whole; stood = can.stood; met = record { may = fits_find _ _ gs _ can.met.fits; room = (omega (arith, can.met.room, some)) } }
 
 -- ---- after it
-fits_nothing : (f : Profile) (gs : List Guard) (v w : View) → FitsBook f gs v → Does nothing v w → ((p : ℕ) (e : Directory) → KnowsDeed p e v → KnowsDeed p e w)
+-- Who did nothing fits the book still.
+pub fits_nothing : (f : Profile) (gs : List Guard) (v w : View) → FitsBook f gs v → Does nothing v w
+    → ((p : ℕ) (e : Directory) → KnowsDeed p e v → KnowsDeed p e w)
     → FitsBook f gs w
 fits_nothing f gs v w fits still knows = record {
   apart = fits.apart;
   of_region = fits.of_region;
-  knows = each_map (KnowsGuard v) (KnowsGuard w) gs (λ g h. record { low = knows g.low (large_directory g.block.heap) h.low; high = knows g.high (large_directory g.block.heap) h.high }) fits.knows;
+  knows = each_known v w gs knows fits.knows;
   held = λ g. still.held g ∙ fits.held g;
   rights = λ q. still.right q ∙ fits.rights q;
   clear = record { on = λ q. still.clear q (fits.clear.on q) };
@@ -219,7 +215,7 @@ not_raised {σ} heap k gs seek =
         searched = seek.steps;
         after = [];
         steps_are = refl;
-        fits = record { from = λ v met agreed. fits_nothing f gs v (seek.steps ++ v) met (seek.outcome.still.from v (fits_find f d gs v met) agreed) (λ p e knows. knows_still f e p seek.steps v agreed knows) };
+        fits = record { from = λ v met agreed. fits_nothing f gs v _ met (seek.outcome.still.from v (fits_find f d gs v met) agreed) (λ p e knows. knows_still f e p _ v agreed knows) };
         kinds = seek.kinds;
         rise = seek.rise;
         returns = seek.returns;
@@ -238,6 +234,7 @@ module _ {σ σ1 : Standing} (heap k first : ℕ) (gs : List Guard) (seek : Seek
   abbrev d_ : Directory
   d_ = large_directory heap
 
+  -- After the search the actor has the span of the run.
   sought : Calls σ σ1 (FitsBook f_ gs) (HasSpan d_ first (first + (k + 2))) seek.steps
   sought = record { adds = adds_under seek.adds (λ v l stood met. fits_find f_ d_ gs v met); leads = record { from = λ v met agreed. seek.outcome.got.from v (fits_find f_ d_ gs v met) agreed } }
 
@@ -253,7 +250,7 @@ module _ {σ σ1 : Standing} (heap k first : ℕ) (gs : List Guard) (seek : Seek
 
   -- After a search that found a run there is room for the events of its guard.
   pub room_to_guard : (n spare spare1 : ℕ) → CanCall σ (RaiseRoom f_ gs n spare) → Spares σ spare → Spares σ1 spare1 → n ≤ spare1
-  room_to_guard n spare spare1 can law law1 = let room = room_after {spare = spare} {spare' = spare1} n sought.adds (may_fit n spare can) seek.shows can.met.room law law1 in omega (arith, room)
+  room_to_guard n spare spare1 can law law1 = let room = room_after {spare = spare} {spare' = spare1} n sought.adds (may_fit n _ can) seek.shows can.met.room law law1 in omega (arith, room)
 
   -- A run that was found and guarded raises a guard, which is the last of the book.
   pub raised : {σ2 : Standing} (block : Block) → 1 ≤ k → heap < f_.heaps → GuardsRun d_ first k block σ1 σ2
@@ -261,7 +258,9 @@ module _ {σ σ1 : Standing} (heap k first : ℕ) (gs : List Guard) (seek : Seek
   raised block some of g =
       let after = g.left ++ (give_steps (first + 1) 0 block g.word g.answer ++ g.backs) in
       let later = leads_at sought.adds.seat_is g.calls.leads in
-      let inner = inner_out first k in
+      let inner = inner_out first k in let left = only_leaves d_ (left_last_first first k) g.left g.left_order in
+      let out : (v : View) → FitsBook f_ gs v → Agreed f_ v seek.steps → (p : ℕ) → is_outer gs p ≡ true → in_span first (first + (k + 2)) p ≡ false
+      = λ v met agreed p is. run_out f_ d_ gs first (first + (k + 2)) v (seek.steps ++ v) met (sought.leads.from v met agreed) p is in
       record {
         steps = after ++ seek.steps;
         adds = adds_call sought.adds g.calls.adds (λ v l stood met. sought_pages v met (sought.leads.from v met (sought.adds.agreed v l stood met)));
@@ -271,10 +270,10 @@ module _ {σ σ1 : Standing} (heap k first : ℕ) (gs : List Guard) (seek : Seek
           steps_are = refl;
           fits = record {
             from = λ v met agreed.
-                let before = agreed_later f_ v after seek.steps agreed in let next = agreed_first f_ v after seek.steps agreed in let span = sought.leads.from v met before in
-                let guarded = later.from (seek.steps ++ v) (sought_pages v met span) next in
+                let before = agreed_later f_ v after seek.steps agreed in let next = agreed_first f_ v after seek.steps agreed in
+                let span = sought.leads.from v met before in let guarded = later.from (seek.steps ++ v) (sought_pages v met span) next in
                 subst (FitsBook f_ (gs ++ guard_of first k block ∷ [])) (sym (append_assoc after seek.steps v))
-                (fits_more f_ heap first k gs block v (seek.steps ++ v) (after ++ (seek.steps ++ v)) met span guarded seek.outcome.of_region.0 seek.outcome.of_region.1 of some (ap (λ (b : Block). b.heap) g.block_is)
+                (fits_more f_ heap first k gs block v _ _ met span guarded seek.outcome.of_region.0 seek.outcome.of_region.1 of some (ap (λ b. b.heap) g.block_is)
                 (ap (λ (b : Block). address_of b.name / 4096) g.block_is ∙ page_again (first + 1))
                 (λ p e knows. knows_still f_ e p after (seek.steps ++ v) next (knows_still f_ e p seek.steps v before knows)));
           };
@@ -282,13 +281,12 @@ module _ {σ σ1 : Standing} (heap k first : ℕ) (gs : List Guard) (seek : Seek
           rise = seek.rise;
           returns = seek.returns;
           shows = seek.shows;
-          steady = λ v met agreed x is.
-              let before = agreed_later f_ v after seek.steps agreed in let out = run_out f_ d_ gs first (first + (k + 2)) v (seek.steps ++ v) met (sought.leads.from v met before) (x / 256) is in
-              steady_both x after seek.steps (after_steady d_ first k g.word g.answer block g.block_is g.left g.backs (only_leaves d_ (left_last_first first k) g.left g.left_order) (only_backs (first + 1) k g.backs g.back_order) x (inner (x / 256) out))
+          steady = λ v met agreed x is. let before = agreed_later f_ v after seek.steps agreed in
+              steady_both x after seek.steps (after_steady d_ first k g.word g.answer block g.block_is g.left g.backs left (only_backs (first + 1) k g.backs g.back_order) x (inner (x / 256) (out v met before (x / 256) is)))
               (seek.steady v (fits_find f_ d_ gs v met) before (x / 256) (whole_outer f_ gs v met (x / 256) is) x refl);
-          unbacked = λ v met agreed p is.
-              let before = agreed_later f_ v after seek.steps agreed in let out = run_out f_ d_ gs first (first + (k + 2)) v (seek.steps ++ v) met (sought.leads.from v met before) p is in
-              backs_both p after seek.steps (after_unbacked d_ first k g.word g.answer block g.block_is g.left g.backs (only_leaves d_ (left_last_first first k) g.left g.left_order) (backs_in (first + 1) k g.backs g.back_order) p (inner p out)) (no_backs seeking p seek.steps refl seek.kinds);
+          unbacked = λ v met agreed p is. let apart = inner p (out v met (agreed_later f_ v after seek.steps agreed) p is) in backs_both p after seek.steps
+              (after_unbacked d_ first k g.word g.answer block g.block_is g.left g.backs left (backs_in (first + 1) k g.backs g.back_order) p apart)
+              (no_backs seeking p seek.steps refl seek.kinds);
           few = (let j = length-append after seek.steps in omega (arith, seek.few, j, g.few));
           outcome = record {
             first = first;
@@ -305,3 +303,364 @@ module _ {σ σ1 : Standing} (heap k first : ℕ) (gs : List Guard) (seek : Seek
           };
         };
       }
+
+-- A sweep over the guards that are up, one guard more.
+abbrev pub no_guard : Guard
+no_guard = record { low = 0; high = 0; block = record { name = record { address = record { 0 = 0 }; turn = 0 }; room = 0; heap = 0 } }
+
+-- ---- a list, and the guard at a place of it
+at_place : (ks rs : List Guard) (g d : Guard) → slice_index_or (ks ++ g ∷ rs) (length ks) d ≡ g
+at_place [] rs g d = refl
+at_place (k ∷ ks) rs g d = at_place ks rs g d
+
+taken_out : (ks rs : List Guard) (g : Guard) → remove (ks ++ g ∷ rs) (length ks) ≡ ks ++ rs
+taken_out [] rs g = refl
+taken_out (k ∷ ks) rs g = ap (λ xs. k ∷ xs) (taken_out ks rs g)
+
+-- ---- a book without it
+-- by its truth table
+or_swap : (a b c : Bool) → (a || (b || c)) ≡ (b || (a || c))
+or_swap a b c = search arith
+
+outer_split : (ks rs : List Guard) (g : Guard) (p : ℕ) → is_outer (ks ++ g ∷ rs) p ≡ (is_outer_of g p || is_outer (ks ++ rs) p)
+outer_split [] rs g p = refl
+outer_split (k ∷ ks) rs g p = ap (λ t. is_outer_of k p || t) (outer_split ks rs g p) ∙ or_swap (is_outer_of k p) (is_outer_of g p) (is_outer (ks ++ rs) p)
+
+each_split : (P : Guard → Type 0) (ks rs : List Guard) (g : Guard) → Each P (ks ++ g ∷ rs) → P g × Each P (ks ++ rs)
+each_split P [] rs g h = h
+each_split P (k ∷ ks) rs g h = let rest = each_split P ks rs g h.1 in (rest.0, (h.0, rest.1))
+
+apart_split : (ks rs : List Guard) (g : Guard) → AreApart (ks ++ g ∷ rs)
+    → AreApart (ks ++ rs) × (is_outer (ks ++ rs) g.low ≡ false) × (is_outer (ks ++ rs) g.high ≡ false)
+apart_split [] rs g h = (h.2, h.0, h.1)
+apart_split (k ∷ ks) rs g h =
+    let rest = apart_split ks rs g h.2 in grind (arith, rest, or_parts, outer_split, other_guard, or_from)
+
+-- its pages are those of no other
+not_outer : (ks rs : List Guard) (g : Guard) (p : ℕ) → AreApart (ks ++ g ∷ rs) → is_outer_of g p ≡ true → is_outer (ks ++ rs) p ≡ false
+not_outer ks rs g p apart is = search (arith, apart_split, cases_Bool, eqb-true)
+
+-- what one guard loses is held by no other
+held_less : (t rest : Bool) → (t ≡ true → rest ≡ false) → now (if t then Lost else Kept) (t || rest) ≡ rest
+held_less t rest none = search arith
+
+fits_less : (f : Profile) (ks rs : List Guard) (g : Guard) (v w : View) → FitsBook f (ks ++ g ∷ rs) v → Does (lowered g) v w
+    → ((q : ℕ) → has_right w q ≡ has_right v q) → ((p : ℕ) (e : Directory) → KnowsDeed p e v → KnowsDeed p e w) → FitsBook f (ks ++ rs) w
+fits_less f ks rs g v w fits does rights knows = record {
+  apart = (apart_split ks rs g fits.apart).0;
+  of_region = (each_split (IsGuardOf f) ks rs g fits.of_region).1;
+  knows = each_known v w (ks ++ rs) knows (each_split (KnowsGuard v) ks rs g fits.knows).1;
+  held = λ x. does.held x ∙ ap (now _) (fits.held x ∙ outer_split ks rs g (x / 256)) ∙ held_less _ _ (not_outer ks rs g (x / 256) fits.apart);
+  rights = λ q. rights q ∙ fits.rights q;
+  clear = record { on = λ q. does.clear q (fits.clear.on q) };
+}
+
+may_lower : (f : Profile) (ks rs : List Guard) (g : Guard) (v : View) → FitsBook f (ks ++ g ∷ rs) v → MayLower f g v
+may_lower f ks rs g v fits = search (arith, each_split, outer_split)
+
+-- ---- the sweep, a guard more at the end
+joined_one : (t : Bool) (k : ℕ) (g : Guard) (first : List Made) (kept after more : List Guard) (said left : List Record) (r : List Record)
+    → SweptOne t k g first kept after said left → SweptOne t k g first (kept ++ more) (after ++ more) (said ++ r) (left ++ r)
+joined_one t k g first kept after more said left r h = search arith
+
+swept_more : (all : Bool) (k : ℕ) (ps kept : List Guard) (said : List Record) (xs : List Made) (g : Guard) (word : ℕ) (first : List Made) (mine : List Guard)
+    (mine_said : List Record)
+    → Swept all k ps kept said xs → SweptOne (all || is_over g word) k g first mine [] mine_said []
+    → Swept all k (ps ++ g ∷ []) (kept ++ mine) (said ++ mine_said) ((first ++ life_look g word) ++ xs)
+swept_more all k [] kept said xs g word first mine mine_said h one = (
+  word,
+  first,
+  [],
+  [],
+  [],
+  subst (λ y. SweptOne (all || is_over g word) k g first y [] (said ++ mine_said) []) (sym (ap (λ y. y ++ mine) h.0))
+      (subst (λ y. SweptOne (all || is_over g word) k g first mine [] y []) (sym (ap (λ y. y ++ mine_said) h.1)) one),
+  (refl, refl, refl),
+  ap (λ y. (first ++ life_look g word) ++ y) h.2 ∙ append-nil (first ++ life_look g word),
+)
+swept_more all k (p ∷ ps) kept said xs g word first mine mine_said h one =
+    let rest = h.2 in let after = h.3 in let more = h.4 in (
+      h.0,
+      h.1,
+      (first ++ life_look g word) ++ rest,
+      after ++ mine,
+      more ++ mine_said,
+      joined_one (all || is_over p h.0) k p h.1 kept after mine said more mine_said h.5,
+      swept_more all k ps after more rest g word first mine mine_said h.6 one,
+      ap (λ y. (first ++ life_look g word) ++ y) h.7 ∙ sym (append_assoc (first ++ life_look g word) rest (h.1 ++ life_look p h.0)),
+    )
+
+-- ---- what its steps are, and how many
+one_kinds : (t : Bool) (k : ℕ) (guard : Guard) (first : List Made) (kept after : List Guard) (said more : List Record)
+    → SweptOne t k guard first kept after said more → Only sweeping first
+one_kinds true k guard first kept after said more h = let low = h.0 in only_within giving_back sweeping first refl low.kinds
+one_kinds false k guard first kept after said more h = subst (Only sweeping) (sym h.0) tt
+
+-- a lowering has at most 24 steps
+one_few : (t : Bool) (k : ℕ) (guard : Guard) (first : List Made) (kept after : List Guard) (said more : List Record)
+    → SweptOne t k guard first kept after said more → length first ≤ 24
+one_few t k guard first kept after said more h = search arith
+
+swept_kinds : (all : Bool) (k : ℕ) (guards kept : List Guard) (said : List Record) (steps : List Made) → Swept all k guards kept said steps
+    → Only sweeping steps
+swept_kinds all k [] kept said steps h = subst (Only sweeping) (sym h.2) tt
+swept_kinds all k (guard ∷ guards) kept said steps h = let rest = swept_kinds all k guards h.3 h.4 h.2 h.6 in grind (arith, rest, only_both, one_kinds)
+
+swept_few : (all : Bool) (k : ℕ) (guards kept : List Guard) (said : List Record) (steps : List Made) → Swept all k guards kept said steps
+    → length steps ≤ 25 * length guards
+swept_few all k [] kept said steps h = let none = ap (λ (xs : List Made). length xs) h.2 in omega (arith, none)
+swept_few all k (guard ∷ guards) kept said steps h =
+    let rest = swept_few all k guards h.3 h.4 h.2 h.6 in grind (arith, rest, one_few, length-append)
+
+-- The first guards were swept: those that stayed up stand before the others, which come next.
+pub record SweptSoFar (all : Bool) (guards now_up : List Guard) (place : ℕ) (said said' : List Record) (desk desk' : Standing) : Type 0 where
+  pub done : List Guard
+  pub kept : List Guard
+  pub rest : List Guard
+  pub whole : guards ≡ done ++ rest
+  pub up : now_up ≡ kept ++ rest
+  pub at : length kept ≡ place
+  pub steps : List Made
+  pub more : List Record
+  pub calls : Calls desk desk' (FitsBook desk.seat.profile guards) (λ v w. FitsBook desk.seat.profile now_up w) steps
+  pub swept : Swept all desk.seat.actor done kept more steps
+  pub added : said' ≡ said ++ more
+
+-- Before any guard was looked over, none of the book went down.
+pub swept_none : {σ : Standing} (all : Bool) (guards : List Guard) (said : List Record) → SweptSoFar all guards guards 0 said said σ σ
+swept_none all guards said = record { done = []; kept = []; rest = guards; whole = refl; up = refl; at = refl; steps = []; more = []; calls = call_none (λ v met. met); swept = (refl, refl, refl); added = sym (append-nil _) }
+
+-- all were swept
+no_rest : (kept rest : List Guard) → length (kept ++ rest) ≤ length kept → rest ≡ []
+no_rest kept [] le = refl
+no_rest kept (g ∷ rest) le = absurd (let n = length-append kept (g ∷ rest) in omega (arith, n, le))
+
+-- Once all guards that are up were looked over, the book is swept.
+pub swept_all : {σ σ1 : Standing} {all : Bool} {guards up : List Guard} {place : ℕ} {said said' : List Record}
+    → SweptSoFar all guards up place said said' σ σ1 → length up ≤ place → Sweeps all guards up said said' σ σ1
+swept_all {σ} {all = all} {guards = guards} {up = up} so le =
+    let none = no_rest so.kept so.rest (let e = ap (λ (xs : List Guard). length xs) so.up in omega (arith, e, so.at, le)) in
+    let done : guards ≡ so.done = so.whole ∙ ap (λ xs. so.done ++ xs) none ∙ append-nil so.done in
+    let kept : up ≡ so.kept = so.up ∙ ap (λ xs. so.kept ++ xs) none ∙ append-nil so.kept in
+    let swept = subst (λ x. Swept all _ x up so.more so.steps) (sym done) (subst (λ x. Swept all _ so.done x so.more so.steps) (sym kept) so.swept) in record {
+      steps = so.steps;
+      more = so.more;
+      adds = so.calls.adds;
+      sweep = record { fits = so.calls.leads; swept = swept; kinds = swept_kinds all _ guards up _ _ swept; few = swept_few all _ guards up so.more _ swept };
+      added = so.added;
+    }
+
+-- the guard at the place comes next
+pub record NextGuard (up kept rest : List Guard) (guard : Guard) : Type 0 where
+  pub later : List Guard
+  pub rest_is : rest ≡ guard ∷ later
+
+next_guard : (kept rest up : List Guard) (place : ℕ) (d : Guard) → up ≡ kept ++ rest → length kept ≡ place → place < length up
+    → NextGuard up kept rest (slice_index_or up place d)
+next_guard kept [] up place d is at lt = absurd (let e = ap (λ (xs : List Guard). length xs) (is ∙ append-nil kept) in omega (arith, e, at, lt))
+next_guard kept (g ∷ rest) up place d is at lt =
+    record { later = rest; rest_is = ap (λ x. x ∷ rest) (sym (ap (λ n. slice_index_or up n d) (sym at) ∙ ap (λ xs. slice_index_or xs (length kept) d) is ∙ at_place kept rest g d)) }
+
+module _ {σ σ1 : Standing} {all : Bool} {guards up : List Guard} {place : ℕ} {said said' : List Record} (so : SweptSoFar all guards up place said said' σ σ1)
+    {guard : Guard} {later : List Guard} (rest_is : so.rest ≡ guard ∷ later) where
+  abbrev f : Profile
+  f = σ.seat.profile
+
+  up_is : up ≡ so.kept ++ guard ∷ later
+  up_is = so.up ∙ ap (λ xs. so.kept ++ xs) rest_is
+
+  fits_split : (w : View) → FitsBook f up w → FitsBook f (so.kept ++ guard ∷ later) w
+  fits_split w fits = subst (λ xs. FitsBook f xs w) up_is fits
+
+  done_is : guards ≡ (so.done ++ guard ∷ []) ++ later
+  done_is = so.whole ∙ ap (λ xs. so.done ++ xs) rest_is ∙ sym (append_assoc so.done (guard ∷ []) later)
+
+  -- its life word was looked at
+  module _ {σ2 : Standing} {down : Bool} (look : LooksOver all guard σ1 σ2 down) where
+    abbrev ls : List Made
+    ls = life_look guard look.word
+
+    -- After the looks the actor fits the book still.
+    looked : Calls σ σ2 (FitsBook f guards) (λ v w. FitsBook f up w) (ls ++ so.steps)
+    looked = record {
+      adds = adds_call so.calls.adds look.adds (λ v l stood met. tt);
+      leads = record {
+        from = λ v met agreed.
+            let before = agreed_later f v ls so.steps agreed in let after = agreed_first f v ls so.steps agreed in
+            let fits = so.calls.leads.from v met before in let still = does_idly f (LookLife ∷ []) refl ls (so.steps ++ v) (refl, tt) after in
+            subst (λ w. FitsBook f up w) (sym (append_assoc ls so.steps v))
+            (fits_nothing f up (so.steps ++ v) (ls ++ (so.steps ++ v)) fits still (λ p e knows. knows_still f e p ls (so.steps ++ v) after knows));
+      };
+    }
+
+    can_lower : CanCall σ (FitsBook f guards) → CanCall σ2 (MayLower σ2.seat.profile guard)
+    can_lower can = subst (λ (s : Seat). CanCall σ2 (MayLower s.profile guard)) (sym looked.adds.seat_is)
+        (next_call looked can (λ v met fits. may_lower f so.kept later guard ((ls ++ so.steps) ++ v) (fits_split ((ls ++ so.steps) ++ v) fits)))
+
+    -- it stays up
+    stays_up : down ≡ false → SweptSoFar all guards up (place + 1) said said' σ σ2
+    stays_up stays =
+        let test : (all || is_over guard look.word) ≡ false = sym look.down_is ∙ stays in record {
+          done = so.done ++ guard ∷ [];
+          kept = so.kept ++ guard ∷ [];
+          rest = later;
+          whole = done_is;
+          up = up_is ∙ sym (append_assoc so.kept (guard ∷ []) later);
+          at = let n = length-append so.kept (guard ∷ []) in omega (arith, n, so.at);
+          steps = ls ++ so.steps;
+          more = so.more ++ [];
+          calls = looked;
+          swept = swept_more all _ _ so.kept so.more _ guard _ [] (guard ∷ []) [] so.swept (subst (λ t. SweptOne t σ.seat.actor guard [] (guard ∷ []) [] [] []) (sym test) (refl, refl, refl));
+          added = so.added ∙ ap (λ xs. said ++ xs) (sym (append-nil so.more));
+        }
+
+    -- it is lowered
+    module _ {σ3 : Standing} (falls : down ≡ true) (low : Lowers guard σ2 σ3) where
+      abbrev ps : List Made
+      ps = low.steps
+
+      -- The steps take the guard down.
+      lead : Leads f (MayLower f guard) (Does (lowered guard)) ps
+      lead = leads_at looked.adds.seat_is (subst (λ (s : Seat). Leads σ2.seat.profile (MayLower s.profile guard) (Does (lowered guard)) ps) looked.adds.seat_is low.calls.leads)
+
+      met_low : (v : View) → FitsBook f up ((ls ++ so.steps) ++ v) → MayLower f guard ((ls ++ so.steps) ++ v)
+      met_low v fits = may_lower f so.kept later guard ((ls ++ so.steps) ++ v) (fits_split ((ls ++ so.steps) ++ v) fits)
+
+      goes_down : {up' : List Guard} {said'' : List Record} → up' ≡ remove up place → said'' ≡ said' ++ lowered_record σ.seat.actor guard ∷ []
+          → SweptSoFar all guards up' place said said'' σ σ3
+      goes_down {up'} out pushed =
+          let test : (all || is_over guard look.word) ≡ true = sym look.down_is ∙ falls in
+          let less = out ∙ ap (λ n. remove up n) (sym so.at) ∙ ap (λ xs. remove xs (length so.kept)) up_is ∙ taken_out so.kept later guard in
+          let steps = ps ++ (ls ++ so.steps) in record {
+            done = so.done ++ guard ∷ [];
+            kept = so.kept ++ [];
+            rest = later;
+            whole = done_is;
+            up = less ∙ ap (λ xs. xs ++ later) (sym (append-nil so.kept));
+            at = ap length (append-nil so.kept) ∙ so.at;
+            steps = (ps ++ ls) ++ so.steps;
+            more = so.more ++ lowered_record σ.seat.actor guard ∷ [];
+            calls = subst (Calls σ σ3 (FitsBook f guards) (λ v w. FitsBook f up' w)) (sym (append_assoc ps ls so.steps)) (record {
+              adds = adds_call looked.adds low.calls.adds (λ v l stood met. subst (λ (s : Seat). MayLower s.profile guard ((ls ++ so.steps) ++ v))
+                  (sym looked.adds.seat_is) (met_low v (looked.leads.from v met (looked.adds.agreed v l stood met))));
+              leads = record {
+                from = λ v met agreed.
+                    let before = agreed_later f v ps (ls ++ so.steps) agreed in let after = agreed_first f v ps (ls ++ so.steps) agreed in
+                    let fits = looked.leads.from v met before in let does = lead.from ((ls ++ so.steps) ++ v) (met_low v fits) after in
+                    subst (FitsBook f up') (sym (append_assoc ps (ls ++ so.steps) v)) (subst (λ xs. FitsBook f xs (ps ++ ((ls ++ so.steps) ++ v))) (sym less)
+                    (fits_less f so.kept later guard _ _ (fits_split _ fits) does does.right (λ p e knows. knows_still f e p ps _ after knows)));
+              };
+            });
+            swept = search (arith, swept_more);
+            added = pushed ∙ ap (λ xs. xs ++ lowered_record σ.seat.actor guard ∷ []) so.added ∙ append_assoc said so.more _;
+          }
+
+-- ---- the guard at the place, as it was read
+module _ {σ σ1 : Standing} {all : Bool} {guards up : List Guard} {place : ℕ} {said said' : List Record} (so : SweptSoFar all guards up place said said' σ σ1)
+    {guard : Guard} (read : guard ≡ slice_index_or up place no_guard) (lt : place < length up) where
+  -- The next guard of the sweep.
+  next : NextGuard up so.kept so.rest guard
+  next = subst (NextGuard up so.kept so.rest) (sym read) (next_guard so.kept so.rest up place no_guard so.up so.at lt)
+
+  -- its block stands in the region
+  pub its_page : CanCall σ (FitsBook σ.seat.profile guards) → IsPage σ1.seat.profile (address_of guard.block.name / 4096)
+  its_page can =
+      let fits = so.calls.leads.from can.view can.met (so.calls.adds.agreed can.view can.whole can.stood can.met) in
+      let its = each_split (IsGuardOf σ.seat.profile) so.kept next.later guard (fits_split so next.rest_is (so.steps ++ can.view) fits).of_region in
+      subst (λ (s : Seat). IsPage s.profile (address_of guard.block.name / 4096)) (sym so.calls.adds.seat_is) its.0.block
+
+  -- A keeper that fits its book may look over the next guard.
+  pub may_look : CanCall σ (FitsBook σ.seat.profile guards) → CanCall σ1 AnyView
+  may_look can = record { view = so.steps ++ can.view; whole = _; stood = so.calls.adds.added can.view can.whole can.stood can.met; met = tt }
+
+  module _ {σ2 : Standing} {down : Bool} (look : LooksOver all guard σ1 σ2 down) where
+    -- After the look over a guard, it may be lowered.
+    pub can_lower_it : CanCall σ (FitsBook σ.seat.profile guards) → CanCall σ2 (MayLower σ2.seat.profile guard)
+    can_lower_it can = can_lower so next.rest_is look can
+
+    -- A guard that stays up is looked over, and the sweep goes on with the next one.
+    pub it_stays : down ≡ false → SweptSoFar all guards up (place + 1) said said' σ σ2
+    it_stays stays = stays_up so next.rest_is look stays
+
+    -- A guard that was lowered is taken out of the book, and its line is said.
+    pub it_goes : {σ3 : Standing} {up' : List Guard} {said'' : List Record} → down ≡ true → Lowers guard σ2 σ3 → up' ≡ remove up place
+        → said'' ≡ said' ++ lowered_record σ.seat.actor guard ∷ [] → SweptSoFar all guards up' place said said'' σ σ3
+    it_goes falls low out pushed = goes_down so next.rest_is look falls low out pushed
+
+  -- A guard that was taken out of the book leaves one fewer up.
+  pub one_less : {up' : List Guard} → up' ≡ remove up place → length up' + 1 ≡ length up
+  one_less out =
+      let split = so.up ∙ ap (λ xs. so.kept ++ xs) next.rest_is in
+      let less = out ∙ ap (λ n. remove up n) (sym so.at) ∙ ap (λ xs. remove xs (length so.kept)) split ∙ taken_out so.kept next.later guard in
+      let a = ap (λ (xs : List Guard). length xs) less in let b = ap (λ (xs : List Guard). length xs) split in let m = length-append so.kept next.later in
+      let n = length-append so.kept (guard ∷ next.later) in omega (arith, a, b, m, n)
+
+-- ---- guards that stay up
+mine_not : (mine other : Bool) → other ≡ true → (mine ≡ true → other ≡ false) → mine ≡ false
+mine_not mine other is not = search (arith, true≢false)
+
+-- steps of a sweep are on pages of guards that go down
+one_steady : (t : Bool) (k : ℕ) (guard : Guard) (first : List Made) (kept after : List Guard) (said more : List Record) (g : ℕ)
+    → SweptOne t k guard first kept after said more → is_outer_of guard (g / 256) ≡ false → StaysPut g first
+one_steady t k guard first kept after said more g h out = search (arith, or_parts, steady_both, steady_on, true≢false, eq-eqb)
+
+-- the steps of one guard and of those after it
+piece_steady : (guard : Guard) (word : ℕ) (first rest steps : List Made) (g : ℕ) → steps ≡ rest ++ (first ++ life_look guard word) → StaysPut g first
+    → StaysPut g rest → StaysPut g steps
+piece_steady guard word first rest steps g is one more = subst (StaysPut g) (sym is) (steady_both g rest _ more (steady_both g first (life_look guard word) one (refl, tt)))
+
+none_steady : (all : Bool) (k : ℕ) (guards kept : List Guard) (said : List Record) (steps : List Made) (g : ℕ) → Swept all k guards kept said steps
+    → is_outer guards (g / 256) ≡ false → StaysPut g steps
+none_steady all k [] kept said steps g h out = subst (StaysPut g) (sym h.2) tt
+none_steady all k (guard ∷ guards) kept said steps g h out =
+    let parts = or_parts (is_outer_of guard (g / 256)) (is_outer guards (g / 256)) out in
+    piece_steady guard h.0 h.1 h.2 steps g h.7 (one_steady _ k guard h.1 kept h.3 said h.4 g h.5 parts.0) (none_steady all k guards h.3 h.4 h.2 g h.6 parts.1)
+
+-- those that stay up are of those that were
+one_among : (t : Bool) (k : ℕ) (guard : Guard) (first : List Made) (kept after : List Guard) (said more : List Record) (p : ℕ)
+    → SweptOne t k guard first kept after said more → is_outer kept p ≡ true → ((t ≡ false) × (is_outer_of guard p ≡ true)) ⊎ (is_outer after p ≡ true)
+one_among t k guard first kept after said more p h is = search (arith, cases_Bool)
+
+-- Outer pages of the guards that stay are among those of all.
+among : (all : Bool) (k : ℕ) (guards kept : List Guard) (said : List Record) (steps : List Made) (p : ℕ) → Swept all k guards kept said steps
+    → is_outer kept p ≡ true → is_outer guards p ≡ true
+among all k [] kept said steps p h is = absurd (true≢false (sym is ∙ ap (λ xs. is_outer xs p) h.0))
+among all k (guard ∷ guards) kept said steps p h is = elim (one_among (all || is_over guard h.0) k guard h.1 kept h.3 said h.4 p h.5 is) [
+  | inl mine ↦ ap (λ t. t || is_outer guards p) mine.1
+  | inr after ↦ or_right (is_outer_of guard p) (is_outer guards p) (among all k guards h.3 h.4 h.2 p h.6 after)
+]
+
+stays_steady : (t : Bool) (k : ℕ) (guard : Guard) (first : List Made) (kept after : List Guard) (said more : List Record) (g : ℕ)
+    → SweptOne t k guard first kept after said more → t ≡ false → StaysPut g first
+stays_steady t k guard first kept after said more g h up = search (arith, true≢false)
+
+-- A sweep moves no grain of an outer page of a guard that it leaves up.
+pub kept_steady : (all : Bool) (k : ℕ) (guards kept : List Guard) (said : List Record) (steps : List Made) → AreApart guards
+    → Swept all k guards kept said steps → (g : ℕ) → is_outer kept (g / 256) ≡ true → StaysPut g steps
+kept_steady all k [] kept said steps apart h g is = subst (StaysPut g) (sym h.2) tt
+kept_steady all k (guard ∷ guards) kept said steps apart h g is = elim (one_among (all || is_over guard h.0) k guard h.1 kept h.3 said h.4 (g / 256) h.5 is) [
+  | inl mine ↦ search (arith, piece_steady, stays_steady, none_steady, not_outer)
+  | inr after ↦ (let old = among all k guards h.3 h.4 h.2 (g / 256) h.6 after in
+      piece_steady guard h.0 h.1 h.2 steps g h.7
+      (one_steady (all || is_over guard h.0) k guard h.1 kept h.3 said h.4 g h.5 (mine_not _ (is_outer guards (g / 256)) old (not_outer [] guards guard (g / 256) apart)))
+      (kept_steady all k guards h.3 h.4 h.2 apart.2 h.6 g after))
+]
+
+-- The steps of a raise after its search: which they are, and how many back the pages of its block.
+module _ {f : Profile} {d : Directory} {k : ℕ} {guards guards' : List Guard} {searched after : List Made} {block : Block}
+    (r : IsRaised f d k guards guards' searched after block) where
+  -- The steps by which a raise backs pages are backs alone.
+  pub raised_backs : Only (Backing ∷ []) r.backs
+  raised_backs = only_backs (r.first + 1) k r.backs r.back_order
+
+  -- A raise backs the pages of its block in order.
+  pub raised_pages : BacksIn (r.first + 1) (r.first + 1 + k) r.backs
+  raised_pages = backs_in (r.first + 1) k r.backs r.back_order
+
+  -- A raise backs at most as many pages as its block has.
+  pub raised_few : length r.backs ≤ k
+  raised_few = backs_few (r.first + 1) k r.backs r.back_order
+
+  -- A raise leaves the pages of its block by steps that return alone.
+  pub raised_leaves : Only returning r.left
+  raised_leaves = only_leaves d (left_last_first r.first k) r.left r.left_order

@@ -1,39 +1,38 @@
 -- The search for a run whose outer pages aren't backed, one turn more.
-use Rattle.std.proofs.Common.{ℕ, ◌+◌, ◌*◌, ◌/◌, ◌%◌, ◌<◌, ◌≤◌, ◌==◌, Bool, true, false, ◌||◌, if◌then◌else◌, MatchBool, List, [], ◌∷◌, ◌++◌, refl, ◌∙◌, inl}
-use Rattle.std.proofs.Common.{inr, ◌⊎◌, arith, Option, ◌≡◌, ◌≢◌, Some, None, ap, sym, subst, append_assoc, true≢false, length, length-append, eqb-true, eq-eqb}
-use Rattle.std.proofs.Common.{append-nil}
+use Rattle.std.proofs.Common.{ℕ, ◌+◌, ◌*◌, ◌/◌, ◌<◌, ◌≤◌, ◌==◌, Bool, true, false, ◌||◌, MatchBool, List, [], ◌∷◌, ◌++◌, refl, ◌∙◌, inl, inr, ◌⊎◌, arith}
+use Rattle.std.proofs.Common.{Option, ◌≡◌, ◌≢◌, Some, None, ap, sym, subst, append_assoc, true≢false, length, length-append, eqb-true, eq-eqb, append-nil}
 use Rattle.std.proofs.lemmas.Bool.{cases_lt, cases_eq, cases_Bool}
-use Rattle.pas_large.proofs.Claims.{narrower, StaysHere, steady_on, steady_both, out_of, span_in, in_parts, span_past, has_got, room_after, alone_on}
-use Rattle.pas_large.proofs.Claims.{deeds_below, deeds_from}
+use Rattle.pas_large.proofs.Claims.{narrower, steady_on, steady_both, out_of, span_in, in_parts, span_past, has_got, room_after, alone_on, deeds_below}
+use Rattle.pas_large.proofs.Claims.{deeds_from}
 use Rattle.pas_bits.specs.Bits.{has_bit}
 use Rattle.pas_profile.specs.declared.{directory.Directory.Directory, profile.Profile.Profile, word.Word.Word}
 use Rattle.pas_rights.specs.{Puts.masked, PutsBack.giving_back, PutsBack.MayPutAndLeave, PutsBack.PutsAndLeaves, Words.full}
-use Rattle.pas_rights.proofs.{Looks.on_full, Words.keeps_by}
+use Rattle.pas_rights.proofs.Orders.{keeps_by}
 use Rattle.pas_scan.specs.Runs.{page_looks, IsFirstRun, HasNoRun, HasUnusable, FindsRun}
 use Rattle.pas_scan.specs.Usable.{ReadUsable, UnusableHere, LeftAlone, ParksNotHere, MakesNoDeedHere, WholeHere}
 use Rattle.pas_scan.proofs.LeftPages.{usable_before, usable_later, unusable_before, left_alone_by, lacks_by, holds_own}
 use Rattle.pas_steps.specs.{Agreement.Agrees, Agreement.Agreed, Evidence.ReadsFree, Frames.KeepsRight, Past.Once, Past.Always, Past.Since}
 use Rattle.pas_steps.specs.{Unknown.unknown_pages}
-use Rattle.pas_steps.specs.Calls.{Calls, Leads, Kept, Gained, now, nothing, Does}
+use Rattle.pas_steps.specs.Calls.{Calls, Leads, nothing, Does}
 use Rattle.pas_steps.specs.Desks.{Seat, Standing, AnyView, Adds, CanCall, Makes, made}
 use Rattle.pas_steps.specs.declared.step.{Step.Step, Made.Made, Step.TheVariants.Deed, Step.TheVariants.Look}
-use Rattle.pas_steps.specs.Kinds.{Kinds, Deeding, Only, kind_of, is_in, place_of, apart, moving}
+use Rattle.pas_steps.specs.Kinds.{Kinds, Deeding, Only, kind_of, is_in, apart, moving, showing, within, changing}
 use Rattle.pas_steps.specs.Views.{View, held_after, holds, has_right, KnowsDeed}
 use Rattle.pas_steps.proofs.Adding.{adds_none, adds_step, adds_call, agreed_first, agreed_later}
 use Rattle.pas_steps.proofs.Apart.{in_apart, grain_same, only_both, only_within, holds_same}
-use Rattle.pas_steps.proofs.{Called.call_then, Called.next_call, Frames.right_own, Kept.right_on, Kept.knows_still, SpareRoom.Spares, Evidence.unknown}
+use Rattle.pas_steps.proofs.{Called.call_then, Called.next_call, Frames.right_own, Frames.right_on, Frames.knows_still, SpareRoom.Spares, Evidence.unknown}
 use Rattle.pas_steps.proofs.Calls.{does_none, does_idly, leads_none, leads_at}
 use Rattle.pas_steps.proofs.Past.{once_later, once_earlier, once_map, always_both, always_map}
 use Rattle.pas_search.specs.Kinds.{ReturnsDuly}
-use Rattle.pas_search.proofs.Returns.{duly_both, duly_none}
+use Rattle.pas_search.proofs.PagesThatServe.{duly_both, duly_none}
 use Rattle.pas_large.specs.Claims.{StaysPut, in_span, MayClaimPages, HasRunRoom, AloneFrom, DeedsIn, HasPages, Releases, ClaimsRun, HoldsRun, FailsRun}
 use Rattle.pas_large.specs.Claims.{HoldsSpan}
 use Rattle.pas_large.specs.Evidence.{LostHere, BrokenHere, BadHere, AllUsable, FailsHere, HasFailed, DeedsOf, DeedsBelow, DeedsRise}
-use Rattle.pas_large.specs.{Finds.MayFind, Finds.FindRoom, Pages.OnceAfter, Pages.OnlyDeedsShow, Pages.claiming}
+use Rattle.pas_large.specs.{Finds.MayFind, Finds.FindRoom, Pages.OnlyDeedsShow, Pages.claiming}
 use Rattle.pas_large.proofs.Finds.{DeedOf, bad_later, alone_looks, knew, deeds_map, may_find}
 use Rattle.pas_large.proofs.Pages.{shows_both, below_both, below_wider, rise_both}
-use Rattle.pas_guard.proofs.HeldSpans.{shows_later, no_span, span_kept, span_beside, span_joined, claim_keeps, span_of_none, span_then, span_lost, span_both}
-use Rattle.pas_guard.proofs.HeldSpans.{out_later, but_first, span_slid, rise_later, below_later, release_duly, first_duly}
+use Rattle.pas_guard.proofs.Guarded.{shows_later, no_span, span_kept, span_beside, span_joined, claim_keeps, span_of_none, span_then, span_lost, span_both}
+use Rattle.pas_guard.proofs.Guarded.{out_later, but_first, span_slid, span_has, span_holds, span_spares, rise_later, below_later, release_duly, first_duly}
 use Rattle.pas_guard.specs.Evidence.{BackedReadHere, HoldsRunWhole, OuterBackedHere, IsBad, OuterFailsHere, HasFailedOnce}
 use Rattle.pas_guard.specs.Guarded.{LeavesGuard}
 use Rattle.pas_guard.specs.Seeks.{LeftSince, backed_looks, ZeroBackedHere, SomeBackedHere, LooksBacked, HoldsWhole, HasSpan, seeking, Seeks}
@@ -45,10 +44,17 @@ bad_more v d k s ys xs h = search (arith, bad_later, once_later)
 failed_more : (v : View) (d : Directory) (k s : ℕ) (ys xs : List Made) → HasFailedOnce v d k s xs → HasFailedOnce v d k s (ys ++ xs)
 failed_more v d k s ys xs h = search (arith, once_later)
 
--- steps that make no deed
-deeds_none : (ks : Kinds) (d : Directory) (n : ℕ) (P : ℕ → Type 0) (ys xs : List Made) → is_in ks Deeding ≡ false → Only ks ys → DeedsOf d n P xs
-    → DeedsOf d n P (ys ++ xs)
-deeds_none ks d n P ys xs none = always_both (λ m before. is_in ks (kind_of m.step) ≡ true) (DeedOf d n P) ys xs (λ m before is p e same z. absurd (true≢false (sym is ∙ ap (λ s. is_in ks (kind_of s)) same ∙ none)))
+-- runs that failed below page `from`, or the one that begins there, where it is held whole
+abbrev Failed : View → Directory → ℕ → ℕ → List Made → ℕ → Type 0
+Failed v d k from steps s = (s < from) × HasFailedOnce v d k s steps
+
+abbrev Chosen : View → Directory → ℕ → ℕ → ℕ → List Made → ℕ → Type 0
+Chosen v d k from free steps s = ((s ≡ from) × (free ≡ from + (k + 2))) ⊎ Failed v d k from steps s
+
+-- steps that make no deed, after deeds of runs that are chosen in a stronger way
+deeds_later : (ks : Kinds) (d : Directory) (n : ℕ) (P Q : ℕ → Type 0) (ys xs : List Made) → ((s : ℕ) → P s → Q s) → is_in ks Deeding ≡ false → Only ks ys
+    → DeedsOf d n P xs → DeedsOf d n Q (ys ++ xs)
+deeds_later ks d n P Q ys xs more none only deeds = search (arith, always_both, true≢false, deeds_map)
 
 -- an outer page that was looked at while the run was held
 some_is_one : (f : Profile) (v : View) (page : ℕ) (m : Made) → SomeBackedHere page m [] → Agrees f v m.step m.answer → m.answer ≡ 1
@@ -58,7 +64,10 @@ outer_some : (f : Profile) (v : View) (page : ℕ) (R : List Made → Type 0) (l
     → Only backed_looks ls → Agreed f v (ls ++ ss) → ((g : ℕ) → g / 256 ≡ page → holds (ss ++ v) g ≡ true) → Once (SomeBackedHere page) ls
     → Once (λ m before. R before × BackedReadHere v page 1 m before) (ls ++ ss)
 outer_some f v page R [] ss had only agreed held h = absurd h
-outer_some f v page R (m ∷ ls) ss had only agreed held (inl h) = inl (had ls only.1, (h.0, some_is_one f ((ls ++ ss) ++ v) page m h agreed.0, λ g at. ap (λ s. holds s g) (append_assoc ls ss v) ∙ holds_same backed_looks refl g ls (ss ++ v) only.1 ∙ held g at))
+outer_some f v page R (m ∷ ls) ss had only agreed held (inl h) = inl (
+  had ls only.1,
+  (h.0, some_is_one f _ page m h agreed.0, λ g at. ap (λ s. holds s g) (append_assoc ls ss v) ∙ holds_same backed_looks refl g ls _ only.1 ∙ held g at),
+)
 outer_some f v page R (m ∷ ls) ss had only agreed held (inr h) = inr (outer_some f v page R ls ss had only.1 agreed.1 held h)
 
 -- a look at a backed word leaves each page alone
@@ -84,7 +93,29 @@ alone_still p ys xs looks alone =
 
 -- ---- pages that were held whole before
 pub steady_kinds : (ks : Kinds) → apart ks moving ≡ true → (g : ℕ) (ys : List Made) → Only ks ys → StaysPut g ys
-steady_kinds ks none g ys only = always_map (λ m before. is_in ks (kind_of m.step) ≡ true) (StaysHere g) ys (λ m before is. grain_same m.step m.answer g (in_apart ks moving (place_of (kind_of m.step)) none is)) only
+steady_kinds ks none g ys only = search (arith, always_map, grain_same, in_apart)
+
+-- no grain of a page that was held whole moves
+abbrev Steady : Profile → Directory → List Made → Type 0
+Steady f d steps = (v : View) → MayFind d v → Agreed f v steps → (page : ℕ) → HoldsWhole page v → (g : ℕ) → g / 256 ≡ page → StaysPut g steps
+
+steady_later : (ks : Kinds) (f : Profile) (d : Directory) (ys xs : List Made) → apart ks moving ≡ true → Only ks ys → Steady f d xs → Steady f d (ys ++ xs)
+steady_later ks f d ys xs none only still v met agreed p whole g at = search (arith, steady_both, steady_kinds, agreed_later)
+
+-- each run that begins below this page can't be guarded
+abbrev BadBelow : Profile → Directory → ℕ → ℕ → List Made → Type 0
+BadBelow f d k from steps = (v : View) → MayFind d v → Agreed f v steps → (s : ℕ) → 1 ≤ s → s < from → IsBad v d k s steps
+
+-- the steps are of a search's kinds, and their deeds rise, are below this page and alone show events
+pub record Orderly (f : Profile) (end : ℕ) (steps : List Made) : Type 0 where
+  pub kinds : Only seeking steps
+  pub rise : DeedsRise steps
+  pub below : DeedsBelow end steps
+  pub shows : OnlyDeedsShow f steps
+
+orderly_later : (ks : Kinds) {f : Profile} {end : ℕ} (ys xs : List Made) → is_in ks Deeding ≡ false → apart ks showing ≡ true → within ks seeking ≡ true
+    → Only ks ys → Orderly f end xs → Orderly f end (ys ++ xs)
+orderly_later ks {f} {end} ys xs none shows_none within only o = search (arith, only_both, only_within, rise_later, below_later, shows_later)
 
 -- a grain that stays put is held still, and isn't got by the steps
 still_held : (g : ℕ) (ys : List Made) (v : View) → StaysPut g ys → holds (ys ++ v) g ≡ holds v g
@@ -115,8 +146,7 @@ used_here f v p (m ∷ xs) agreed (inl h) held stays =
 -- it is read as not usable
 not_usable : (f : Profile) (d : Directory) (v : View) (p : ℕ) (xs : List Made) → Agreed f v xs → HoldsWhole p v → ((g : ℕ) → g / 256 ≡ p → StaysPut g xs)
     → ReadUsable d p xs → ⊥
-not_usable f d v p xs agreed whole stays (inl bare) = unknown f v p xs agreed bare whole.known
-not_usable f d v p xs agreed whole stays (inr offered) = used_here f v p xs agreed (offered.free 0 (omega arith)) whole.held stays
+not_usable f d v p xs agreed whole stays a = search (arith, unknown, used_here)
 
 -- ---- the search so far: each run that begins below page `from` can't be guarded, the pages from there to below `next` were read as usable, and those
 -- of them below `free` are held
@@ -124,11 +154,8 @@ pub record Sought (d : Directory) (k from free next : ℕ) (desk desk' : Standin
   pub steps : List Made
   pub adds : Adds desk desk' (MayFind d) steps
   pub got : Leads desk.seat.profile (MayFind d) (HasSpan d from free) steps
-  pub shows : OnlyDeedsShow desk.seat.profile steps
+  pub orderly : Orderly desk.seat.profile free steps
   pub lacks : (p : ℕ) → in_span from free p ≡ false → has_right steps p ≡ false
-  pub kinds : Only seeking steps
-  pub rise : DeedsRise steps
-  pub below : DeedsBelow free steps
   pub returns : Always ReturnsDuly steps
   pub low : 1 ≤ from
   pub order : (from ≤ free) × (free ≤ next)
@@ -137,10 +164,9 @@ pub record Sought (d : Directory) (k from free next : ℕ) (desk desk' : Standin
   pub usable : (page : ℕ) → from ≤ page → page < next → ReadUsable d page steps
   pub holding : (v : View) → MayFind d v → Agreed desk.seat.profile v steps → HoldsSpan from free steps
   pub alone : AloneFrom free steps
-  pub steady : (v : View) → MayFind d v → Agreed desk.seat.profile v steps → (page : ℕ) → HoldsWhole page v → (g : ℕ) → g / 256 ≡ page → StaysPut g steps
-  pub bad : (v : View) → MayFind d v → Agreed desk.seat.profile v steps → (s : ℕ) → 1 ≤ s → s < from → IsBad v d k s steps
-  pub deeds : (v : View) → MayFind d v → Agreed desk.seat.profile v steps
-      → DeedsOf d (k + 2) (λ s. ((s ≡ from) × (free ≡ from + (k + 2))) ⊎ ((s < from) × HasFailedOnce v d k s steps)) steps
+  pub steady : Steady desk.seat.profile d steps
+  pub bad : BadBelow desk.seat.profile d k from steps
+  pub deeds : (v : View) → MayFind d v → Agreed desk.seat.profile v steps → DeedsOf d (k + 2) (Chosen v d k from free steps) steps
 
 -- Before the first page, nothing is sought.
 pub sought_none : {σ : Standing} (d : Directory) (k : ℕ) → Sought d k 1 1 1 σ σ
@@ -148,11 +174,8 @@ sought_none d k = record {
   steps = [];
   adds = adds_none;
   got = leads_none (λ v met. span_of_none d 1 (does_none v));
-  shows = λ n v agreed. omega arith;
+  orderly = record { kinds = tt; rise = tt; below = tt; shows = λ n v agreed. omega arith };
   lacks = λ p out. refl;
-  kinds = tt;
-  rise = tt;
-  below = tt;
   returns = tt;
   low = omega arith;
   order = (omega arith, omega arith);
@@ -173,6 +196,7 @@ module _ {σ σ1 : Standing} {d : Directory} {k from free next : ℕ} (so : Soug
   abbrev xs : List Made
   xs = so.steps
 
+  -- The region's profile is the same after the search.
   same : σ1.seat.profile ≡ f
   same = ap (λ (s : Seat). s.profile) so.adds.seat_is
 
@@ -185,15 +209,21 @@ module _ {σ σ1 : Standing} {d : Directory} {k from free next : ℕ} (so : Soug
           let span = so.got.from v met agreed in let at = so.order.0 in (
             span,
             record {
-              lacks = λ p low high knows. span.got.does.right p ∙ ap (λ t. now (if t then Gained else Kept) (has_right v p)) (span_past from free p low) ∙ met.lacks p (knew f d p xs v agreed (so.usable p (omega (arith, low, at)) high));
+              lacks = λ p low high knows. span_spares span p (span_past from free p low) ∙ met.lacks p (knew f d p xs v agreed (so.usable p (omega (arith, low, at)) high));
               clear = record { on = λ q. span.got.does.clear q (met.clear.on q) };
             },
           );
     };
   }
 
-  abbrev Idle : View → View → Type 0
-  Idle w u = Does nothing w u × ((p : ℕ) → KnowsDeed p d w → KnowsDeed p d u)
+  -- looks leave it so that they are held
+  idle_call : {σ2 : Standing} (ks : Kinds) (ys : List Made) → apart ks changing ≡ true → Only ks ys → Adds σ1 σ2 AnyView ys
+      → Calls σ σ2 (MayFind d) (HasSpan d from free) (ys ++ xs)
+  idle_call ks ys none only adds =
+      let g = σ1.seat.profile in let Idle = λ (w u : View). Does nothing w u × ((p : ℕ) → KnowsDeed p d w → KnowsDeed p d u) in
+      call_then {S = Idle} (HasSpan d from free) (record { adds = so.adds; leads = so.got })
+      (record { adds = adds; leads = record { from = λ v met agreed. (does_idly g ks none ys v only agreed, λ p knows. knows_still g d p ys v agreed knows) } })
+      (λ v met has. tt) (λ v met has kept. span_then d from free has kept.0 kept.1)
 
   -- a page that was held whole is none of those that were read as usable
   held_apart : (v : View) → MayFind d v → Agreed f v xs → (p : ℕ) → HoldsWhole p v → (g : ℕ) → g / 256 ≡ p → in_span from next (g / 256) ≡ false
@@ -201,6 +231,13 @@ module _ {σ σ1 : Standing} {d : Directory} {k from free next : ℕ} (so : Soug
     | inl is ↦ (let there = in_parts from next p (ap (in_span from next) (sym at) ∙ is) in absurd (not_usable f d v p xs agreed whole (so.steady v met agreed p whole) (so.usable p there.0 there.1)))
     | inr out ↦ out
   ]
+
+  bad_still : (ys : List Made) → BadBelow f d k from (ys ++ xs)
+  bad_still ys v met agreed s low lt = bad_more v d k s ys xs (so.bad v met (agreed_later f v ys xs agreed) s low lt)
+
+  -- grains that are put back are none of a page that was held whole
+  put_steady : {σ2 σ3 : Standing} (zs : List Made) (r : Releases d from free σ2 σ3) → Steady f d (zs ++ xs) → Steady f d (r.steps ++ (zs ++ xs))
+  put_steady zs r still v met agreed p whole g at = search (arith, agreed_later, steady_both, narrower, held_apart)
 
   -- pages that are held are put back
   module _ {σ2 : Standing} {ss : List Made} (held : Calls σ σ2 (MayFind d) (HasSpan d from free) ss) where
@@ -210,6 +247,7 @@ module _ {σ σ1 : Standing} {d : Directory} {k from free next : ℕ} (so : Soug
     can_release : CanCall σ (MayFind d) → CanCall σ2 (HasPages d from free)
     can_release can = next_call held can held_pages
 
+    -- A span that is released leaves nothing behind.
     released : {σ3 : Standing} (r : Releases d from free σ2 σ3) → Calls σ σ3 (MayFind d) (Does nothing) (r.steps ++ ss)
     released r = call_then (Does nothing) held r.calls held_pages (λ v met span lost. span_lost d from free span lost)
 
@@ -218,26 +256,15 @@ module _ {σ σ1 : Standing} {d : Directory} {k from free next : ℕ} (so : Soug
     abbrev ys : List Made
     ys = find.steps
 
-    find_call : Calls σ1 σ2 AnyView Idle ys
-    find_call = record { adds = find.adds; leads = record { from = λ v met agreed. (does_idly σ1.seat.profile page_looks refl ys v find.kinds agreed, λ p knows. knows_still σ1.seat.profile d p ys v agreed knows) } }
-
+    -- After the looks the actor has the span still.
     looked : Calls σ σ2 (MayFind d) (HasSpan d from free) (ys ++ xs)
-    looked = call_then (HasSpan d from free) so_call find_call (λ v met has. tt) (λ v met has kept. span_then d from free has.0 kept.0 kept.1)
+    looked = idle_call page_looks ys refl find.kinds find.adds
 
-    looked_kinds : Only seeking (ys ++ xs)
-    looked_kinds = only_both seeking ys xs (only_within page_looks seeking ys refl find.kinds) so.kinds
-
-    looked_rise : DeedsRise (ys ++ xs)
-    looked_rise = rise_later page_looks free ys xs refl find.kinds so.below so.rise
-
-    looked_below : DeedsBelow free (ys ++ xs)
-    looked_below = below_later page_looks free ys xs refl find.kinds so.below
+    looked_orderly : Orderly f free (ys ++ xs)
+    looked_orderly = orderly_later page_looks ys xs refl refl refl find.kinds so.orderly
 
     looked_returns : Always ReturnsDuly (ys ++ xs)
     looked_returns = duly_both ys xs (duly_none page_looks ys refl refl find.kinds) so.returns
-
-    looked_shows : OnlyDeedsShow f (ys ++ xs)
-    looked_shows = shows_later page_looks refl f ys xs find.kinds so.shows
 
     looked_lacks : (p : ℕ) → in_span from free p ≡ false → has_right (ys ++ xs) p ≡ false
     looked_lacks p out = right_own p ys xs (so.lacks p out) ∙ lacks_by page_looks refl p ys find.kinds
@@ -248,14 +275,8 @@ module _ {σ σ1 : Standing} {d : Directory} {k from free next : ℕ} (so : Soug
     looked_usable : (p : ℕ) → from ≤ p → p < next → ReadUsable d p (ys ++ xs)
     looked_usable p ge lt = usable_later d p ys xs (so.usable p ge lt)
 
-    looked_steady : (v : View) (met : MayFind d v) → Agreed f v (ys ++ xs) → (p : ℕ) → HoldsWhole p v → (g : ℕ) → g / 256 ≡ p → StaysPut g (ys ++ xs)
-    looked_steady v met agreed p whole g at = steady_both g ys xs (steady_kinds page_looks refl g ys find.kinds) (so.steady v met (agreed_later f v ys xs agreed) p whole g at)
-
-    put_steady : {σ3 : Standing} (r : Releases d from free σ2 σ3) (v : View) (met : MayFind d v) → Agreed f v (r.steps ++ (ys ++ xs)) → (p : ℕ) → HoldsWhole p v
-        → (g : ℕ) → g / 256 ≡ p → StaysPut g (r.steps ++ (ys ++ xs))
-    put_steady r v met agreed p whole g at =
-        let before = agreed_later f v r.steps (ys ++ xs) agreed in
-        steady_both g r.steps (ys ++ xs) (r.steady g (narrower from free next (g / 256) so.order.1 (held_apart v met (agreed_later f v ys xs before) p whole g at))) (looked_steady v met before p whole g at)
+    looked_steady : Steady f d (ys ++ xs)
+    looked_steady = steady_later page_looks f d ys xs refl find.kinds so.steady
 
     -- a run with a page, `next` or a later one, that was read as not usable
     bad_here : (v : View) (s other : ℕ) → next ≤ other → s ≤ other → other < s + (k + 2) → HasUnusable d 1 other ys → IsBad v d k s (ys ++ xs)
@@ -263,15 +284,11 @@ module _ {σ σ1 : Standing} {d : Directory} {k from free next : ℕ} (so : Soug
         let at = h.1 in let ge = at.0 in let lt = at.1 in let order = so.order.1 in
         inl (h.0, (omega (arith, ge, low), omega (arith, lt, high)), once_map (UnusableHere d h.0) (BadHere d h.0) (ys ++ xs) (λ m b x. inl x) (unusable_before d h.0 ys xs (so.alone h.0 (omega (arith, ge, past, order))) h.2))
 
-    looked_bad : (v : View) (met : MayFind d v) → Agreed f v (ys ++ xs) → (s : ℕ) → 1 ≤ s → s < from → IsBad v d k s (ys ++ xs)
-    looked_bad v met agreed s low lt = bad_more v d k s ys xs (so.bad v met (agreed_later f v ys xs agreed) s low lt)
-
     -- where not all pages of a run are held
     looked_deeds : (rs : List Made) → free < from + (k + 2) → (v : View) (met : MayFind d v) → Agreed f v (ys ++ xs)
-        → DeedsOf d (k + 2) (λ s. (s < from) × HasFailedOnce v d k s (rs ++ (ys ++ xs))) (ys ++ xs)
-    looked_deeds rs short v met agreed = deeds_none page_looks d (k + 2) (λ s. (s < from) × HasFailedOnce v d k s (rs ++ (ys ++ xs))) ys xs refl find.kinds
-        (deeds_map d (k + 2) (λ s. ((s ≡ from) × (free ≡ from + (k + 2))) ⊎ ((s < from) × HasFailedOnce v d k s xs)) (λ s. (s < from) × HasFailedOnce v d k s (rs ++ (ys ++ xs))) xs
-        (λ s h. elim h [ inl full ↦ (absurd (omega (arith, full.1, short))) | inr failed ↦ (failed.0, failed_more v d k s rs (ys ++ xs) (failed_more v d k s ys xs failed.1)) ]) (so.deeds v met (agreed_later f v ys xs agreed)))
+        → DeedsOf d (k + 2) (Failed v d k from (rs ++ (ys ++ xs))) (ys ++ xs)
+    looked_deeds rs short v met agreed = deeds_later page_looks d (k + 2) (Chosen v d k from free xs) (Failed v d k from (rs ++ (ys ++ xs))) ys xs
+        (λ s h. elim h [ inl full ↦ (absurd (omega (arith, full.1, short))) | inr failed ↦ search (arith, failed_more) ]) refl find.kinds (so.deeds v met (agreed_later f v ys xs agreed))
 
   -- After a look for the next page, those of the run so far may be released.
   pub can_release_looked : {σ2 : Standing} {found : Option ℕ} → FindsRun d next next 1 σ1 σ2 found → CanCall σ (MayFind d) → CanCall σ2 (HasPages d from free)
@@ -282,27 +299,27 @@ module _ {σ σ1 : Standing} {d : Directory} {k from free next : ℕ} (so : Soug
       → Seeks d k σ σ3 None
   seek_ends can short find r =
       let ys = find.steps in let rs = r.steps in let none = subst (λ x. HasNoRun x d next next 1 ys) same find.outcome in
-      let calls = released (looked find) r in let order = so.order.1 in let first = so.order.0 in let in_region = so.within.1 in record {
+      let calls = released (looked find) r in let order = so.order.1 in let first = so.order.0 in let in_region = so.within.1 in
+      let orderly = orderly_later giving_back rs (ys ++ xs) refl refl refl r.kinds (looked_orderly find) in record {
         steps = rs ++ (ys ++ xs);
         adds = calls.adds;
-        kinds = only_both seeking rs (ys ++ xs) (only_within giving_back seeking rs refl r.kinds) (looked_kinds find);
-        rise = rise_later giving_back free rs (ys ++ xs) refl r.kinds (looked_below find) (looked_rise find);
+        kinds = orderly.kinds;
+        rise = orderly.rise;
         returns = release_duly d from free (looked find) can (looked_returns find) r;
-        shows = shows_later giving_back refl f rs (ys ++ xs) r.kinds (looked_shows find);
-        few = (let i = length-append rs (ys ++ xs) in let j = length-append ys xs in let e = ap (λ (x : Profile). x.pages) same in omega (arith, i, j, r.few, find.few, so.few, e, order, first, in_region));
-        steady = put_steady find r;
+        shows = orderly.shows;
+        few = search (arith, length-append);
+        steady = put_steady ys r (looked_steady find);
         outcome = record {
           still = calls.leads;
           bad = λ v met agreed s low le. let before = agreed_later f v rs (ys ++ xs) agreed in bad_more v d k s rs (ys ++ xs) (elim (cases_lt s from) [
-            | inl below ↦ looked_bad find v met before s low below
+            | inl below ↦ bad_still ys v met before s low below
             | inr above ↦ elim (cases_lt s next) [
               | inl lt ↦ bad_here find v s next (omega arith) (omega (arith, lt)) (omega (arith, short, above)) (none.runs next (omega arith) (omega (arith, short, above, le)))
               | inr ge ↦ bad_here find v s s ge (omega arith) (omega arith) (none.runs s ge (omega (arith, le)))
             ]
           ]);
-          deeds = λ v met agreed. let before = agreed_later f v rs (ys ++ xs) agreed in
-              deeds_map d (k + 2) (λ s. (s < from) × HasFailedOnce v d k s (rs ++ (ys ++ xs))) (λ s. HasFailedOnce v d k s (rs ++ (ys ++ xs))) (rs ++ (ys ++ xs)) (λ s h. h.1)
-              (deeds_none giving_back d (k + 2) (λ s. (s < from) × HasFailedOnce v d k s (rs ++ (ys ++ xs))) rs (ys ++ xs) refl r.kinds (looked_deeds find rs (omega (arith, short, order)) v met before));
+          deeds = λ v met agreed. let before = agreed_later f v rs (ys ++ xs) agreed in let all = rs ++ (ys ++ xs) in
+              deeds_later giving_back d (k + 2) _ _ rs (ys ++ xs) (λ s h. h.1) refl r.kinds (looked_deeds find rs (omega (arith, short, order)) v met before);
           lacks = λ p. r.lacks (ys ++ xs) p (λ out. looked_lacks find p out);
         };
       }
@@ -315,11 +332,8 @@ module _ {σ σ1 : Standing} {d : Directory} {k from free next : ℕ} (so : Soug
         steps = ys ++ xs;
         adds = (looked find).adds;
         got = (looked find).leads;
-        shows = looked_shows find;
+        orderly = looked_orderly find;
         lacks = looked_lacks find;
-        kinds = looked_kinds find;
-        rise = looked_rise find;
-        below = looked_below find;
         returns = looked_returns find;
         low = so.low;
         order = (so.order.0, omega (arith, order, at));
@@ -332,8 +346,8 @@ module _ {σ σ1 : Standing} {d : Directory} {k from free next : ℕ} (so : Soug
         holding = λ v met agreed. span_kept from free ys xs (λ p ge lt. keeps_by p page_looks ys refl find.kinds) (so.holding v met (agreed_later f v ys xs agreed));
         alone = looked_alone find;
         steady = looked_steady find;
-        bad = looked_bad find;
-        deeds = λ v met agreed. deeds_map d (k + 2) (λ s. (s < from) × HasFailedOnce v d k s ([] ++ (ys ++ xs))) (λ s. ((s ≡ from) × (free ≡ from + (k + 2))) ⊎ ((s < from) × HasFailedOnce v d k s (ys ++ xs))) (ys ++ xs) (λ s h. inr h) (looked_deeds find [] (omega (arith, short, order)) v met agreed);
+        bad = bad_still ys;
+        deeds = λ v met agreed. deeds_map d (k + 2) _ _ (ys ++ xs) (λ s h. inr h) (looked_deeds find [] (omega (arith, short, order)) v met agreed);
       }
 
   -- a later page is, and what is held is put back
@@ -345,11 +359,9 @@ module _ {σ σ1 : Standing} {d : Directory} {k from free next : ℕ} (so : Soug
         steps = rs ++ (ys ++ xs);
         adds = calls.adds;
         got = record { from = λ v met agreed. span_of_none d page (calls.leads.from v met agreed) };
-        shows = shows_later giving_back refl f rs (ys ++ xs) r.kinds (looked_shows find);
+        orderly = let o = orderly_later giving_back rs (ys ++ xs) refl refl refl r.kinds (looked_orderly find) in
+            record { kinds = o.kinds; rise = o.rise; below = below_wider free page (rs ++ (ys ++ xs)) (omega (arith, order, past)) o.below; shows = o.shows };
         lacks = λ p out. r.lacks (ys ++ xs) p (λ out. looked_lacks find p out);
-        kinds = only_both seeking rs (ys ++ xs) (only_within giving_back seeking rs refl r.kinds) (looked_kinds find);
-        rise = rise_later giving_back free rs (ys ++ xs) refl r.kinds (looked_below find) (looked_rise find);
-        below = below_wider free page (rs ++ (ys ++ xs)) (omega (arith, order, past)) (below_later giving_back free rs (ys ++ xs) refl r.kinds (looked_below find));
         returns = release_duly d from free (looked find) can (looked_returns find) r;
         low = omega (arith, low, first, order, past);
         order = (omega arith, omega arith);
@@ -358,17 +370,17 @@ module _ {σ σ1 : Standing} {d : Directory} {k from free next : ℕ} (so : Soug
         usable = λ p ge lt. usable_later d p rs (ys ++ xs) (usable_before d p ys xs (so.alone p (omega (arith, ge, past, order))) (run.usable p (ge, lt) (omega (arith, ge, past))));
         holding = λ v met agreed. no_span page (rs ++ (ys ++ xs));
         alone = λ p ge. r.alone (ys ++ xs) p (omega (arith, ge, past, order)) (looked_alone find p (omega (arith, ge, past, order)));
-        steady = put_steady find r;
+        steady = put_steady ys r (looked_steady find);
         bad = λ v met agreed s one lt. let before = agreed_later f v rs (ys ++ xs) agreed in bad_more v d k s rs (ys ++ xs) (elim (cases_lt s from) [
-          | inl below ↦ looked_bad find v met before s one below
+          | inl below ↦ bad_still ys v met before s one below
           | inr above ↦ elim (cases_lt s next) [
             | inl less ↦ bad_here find v s next (omega arith) (omega (arith, less)) (omega (arith, short, above)) (run.lower next (omega arith) (omega (arith, past, other)))
             | inr ge ↦ bad_here find v s s ge (omega arith) (omega arith) (run.lower s ge lt)
           ]
         ]);
-        deeds = λ v met agreed. let before = agreed_later f v rs (ys ++ xs) agreed in
-            deeds_map d (k + 2) (λ s. (s < from) × HasFailedOnce v d k s (rs ++ (ys ++ xs))) (λ s. ((s ≡ page) × (page ≡ page + (k + 2))) ⊎ ((s < page) × HasFailedOnce v d k s (rs ++ (ys ++ xs)))) (rs ++ (ys ++ xs)) (λ s h. inr (omega (arith, h.0, first, order, past), h.1))
-            (deeds_none giving_back d (k + 2) (λ s. (s < from) × HasFailedOnce v d k s (rs ++ (ys ++ xs))) rs (ys ++ xs) refl r.kinds (looked_deeds find rs (omega (arith, short, order)) v met before));
+        deeds = λ v met agreed. let before = agreed_later f v rs (ys ++ xs) agreed in let all = rs ++ (ys ++ xs) in deeds_later giving_back d (k + 2)
+            (Failed v d k from all) (Chosen v d k page page all) rs (ys ++ xs) (λ s h. inr (omega (arith, h.0, first, order, past), h.1)) refl r.kinds
+            (looked_deeds find rs (omega (arith, short, order)) v met before);
       }
 
   -- ---- all pages of a run were read as usable, and those that aren't held are claimed
@@ -387,7 +399,7 @@ module _ {σ σ1 : Standing} {d : Directory} {k from free next : ℕ} (so : Soug
           stood = so.adds.added may.view may.whole may.stood met;
           met = record {
             may = (so_call.leads.from can.view met agreed).1;
-            room = subst (λ x. 1 + unknown_pages x (xs ++ can.view) ≤ spare1) (sym same) (room_after {spare = spare} {spare' = spare1} 1 so.adds may so.shows can.met.room law law1);
+            room = subst (λ x. 1 + unknown_pages x (xs ++ can.view) ≤ spare1) (sym same) (room_after {spare = spare} {spare' = spare1} 1 so.adds may so.orderly.shows can.met.room law law1);
           };
         }
 
@@ -398,42 +410,36 @@ module _ {σ σ1 : Standing} {d : Directory} {k from free next : ℕ} (so : Soug
       claim_adds : Adds σ σ2 (MayFind d) (zs ++ xs)
       claim_adds = adds_call so.adds claim.adds (λ v l stood met. (so_call.leads.from v met (so.adds.agreed v l stood met)).1)
 
-      claim_kinds : Only seeking (zs ++ xs)
-      claim_kinds = only_both seeking zs xs (only_within claiming seeking zs refl claim.kinds) so.kinds
-
-      claim_rise : DeedsRise (zs ++ xs)
-      claim_rise = rise_both free zs xs claim.rise so.rise (deeds_from d free next zs claim.made) so.below
-
-      claim_below : (stop : ℕ) → free ≤ stop → DeedsIn d free stop zs → DeedsBelow stop (zs ++ xs)
-      claim_below stop le made = below_both stop zs xs (deeds_below d free stop stop zs (omega arith) made) (below_wider free stop xs le so.below)
+      claim_orderly : (stop : ℕ) → free ≤ stop → DeedsIn d free stop zs → Orderly f stop (zs ++ xs)
+      claim_orderly stop le made = record {
+        kinds = only_both seeking zs xs (only_within claiming seeking zs refl claim.kinds) so.orderly.kinds;
+        rise = rise_both free zs xs claim.rise so.orderly.rise (deeds_from d free next zs claim.made) so.orderly.below;
+        below = below_both stop zs xs (deeds_below d free stop stop zs (omega arith) made) (below_wider free stop xs le so.orderly.below);
+        shows = shows_both f zs xs (subst (λ x. OnlyDeedsShow x zs) same claim.shows) so.orderly.shows;
+      }
 
       claim_returns : Always ReturnsDuly (zs ++ xs)
       claim_returns = duly_both zs xs claim.returns so.returns
 
-      claim_shows : OnlyDeedsShow f (zs ++ xs)
-      claim_shows = shows_both f zs xs (subst (λ x. OnlyDeedsShow x zs) same claim.shows) so.shows
-
       claim_usable : (p : ℕ) → from ≤ p → p < next → ReadUsable d p (zs ++ xs)
       claim_usable p ge lt = usable_later d p zs xs (so.usable p ge lt)
 
-      claim_bad : (v : View) (met : MayFind d v) → Agreed f v (zs ++ xs) → (s : ℕ) → 1 ≤ s → s < from → IsBad v d k s (zs ++ xs)
-      claim_bad v met agreed s low lt = bad_more v d k s zs xs (so.bad v met (agreed_later f v zs xs agreed) s low lt)
-
-      claim_steady : (v : View) (met : MayFind d v) → Agreed f v (zs ++ xs) → (p : ℕ) → HoldsWhole p v → (g : ℕ) → g / 256 ≡ p → StaysPut g (zs ++ xs)
+      claim_steady : Steady f d (zs ++ xs)
       claim_steady v met agreed p whole g at = search (arith, agreed_later, steady_both, out_later, held_apart)
 
       -- deeds of the claim are of the run, and those before of it or of one that failed
       claim_deeds : (v : View) (met : MayFind d v) → Agreed f v (zs ++ xs) → (P : ℕ → Type 0) → P from → ((s : ℕ) → s < from → HasFailedOnce v d k s xs → P s)
           → DeedsOf d (k + 2) P (zs ++ xs)
-      claim_deeds v met agreed P its more = always_both (λ m before. (p : ℕ) (e : Directory) → m.step ≡ Deed p e → m.answer ≡ 0 → (e ≡ d) × (free ≤ p) × (p < next)) (DeedOf d (k + 2) P) zs xs
+      claim_deeds v met agreed P its more = always_both _ (DeedOf d (k + 2) P) zs xs
           (λ m before h p e is z. let at = h p e is z in (at.0, (from, (omega (arith, at.1, so.order.0), omega (arith, at.2, whole)), all_usable before, its)))
-          claim.made (deeds_map d (k + 2) (λ s. ((s ≡ from) × (free ≡ from + (k + 2))) ⊎ ((s < from) × HasFailedOnce v d k s xs)) P xs (λ s h. elim h [ inl full ↦ subst P (sym full.0) its | inr failed ↦ more s failed.0 failed.1 ]) (so.deeds v met (agreed_later f v zs xs agreed)))
+          claim.made (deeds_map d (k + 2) (Chosen v d k from free xs) P xs (λ s h. elim h [ inl full ↦ subst P (sym full.0) its | inr failed ↦ more s failed.0 failed.1 ]) (so.deeds v met (agreed_later f v zs xs agreed)))
 
     -- the claim failed, and what is held is put back
     module _ {σ2 : Standing} (page : ℕ) (claim : ClaimsRun true d free next σ1 σ2 (Some page)) where
       abbrev ws : List Made
       ws = claim.steps
 
+      -- The claim of the run failed.
       fails : FailsRun true f d free next page ws
       fails = subst (λ x. FailsRun true x d free next page ws) same claim.outcome
 
@@ -451,24 +457,28 @@ module _ {σ σ1 : Standing} {d : Directory} {k from free next : ℕ} (so : Soug
       pub can_release_lost : CanCall σ (MayFind d) → CanCall σ2 (HasPages d from free)
       can_release_lost can = can_release lost_call can
 
-      lost_below : DeedsBelow (page + 1) (ws ++ xs)
-      lost_below = claim_below claim (page + 1) (omega (arith, fails.in_run.0)) fails.made
+      lost_orderly : Orderly f (page + 1) (ws ++ xs)
+      lost_orderly = claim_orderly claim (page + 1) (omega (arith, fails.in_run.0)) fails.made
 
       lost_lacks : (p : ℕ) → in_span from free p ≡ false → has_right (ws ++ xs) p ≡ false
       lost_lacks p out = right_own p ws xs (so.lacks p out) ∙ ap (λ s. has_right s p) (sym (append-nil ws)) ∙ fails.lacks [] (λ q. refl) p
 
       module _ (v : View) (agreed : Agreed f v (ws ++ xs)) where
-        failing : OnceAfter xs (λ m b. LostHere d page m b ⊎ BrokenHere page m b) ws
+        abbrev Fails : Made → List Made → Type 0
+        Fails m b = LostHere d page m (b ++ xs) ⊎ BrokenHere page m (b ++ xs)
+
+        -- It failed at a page that was lost or broken.
+        failing : Once Fails ws
         failing = elim (fails.failed refl xs v so.alone (so.usable page (omega (arith, so.order.0, fails.in_run.0)) fails.in_run.1) agreed) [
-          | inl lost ↦ once_map (λ m b. LostHere d page m (b ++ xs)) (λ m b. LostHere d page m (b ++ xs) ⊎ BrokenHere page m (b ++ xs)) ws (λ m b x. inl x) lost
-          | inr broken ↦ once_map (λ m b. BrokenHere page m (b ++ xs)) (λ m b. LostHere d page m (b ++ xs) ⊎ BrokenHere page m (b ++ xs)) ws (λ m b x. inr x) broken
+          | inl lost ↦ once_map (λ m b. LostHere d page m (b ++ xs)) Fails ws (λ m b x. inl x) lost
+          | inr broken ↦ once_map (λ m b. BrokenHere page m (b ++ xs)) Fails ws (λ m b x. inr x) broken
         ]
 
         page_bad : Once (BadHere d page) (ws ++ xs)
-        page_bad = once_earlier (λ m b. LostHere d page m (b ++ xs) ⊎ BrokenHere page m (b ++ xs)) (BadHere d page) ws xs (λ m b x. inr x) failing
+        page_bad = once_earlier Fails (BadHere d page) ws xs (λ m b x. inr x) failing
 
         run_failed : HasFailed d (k + 2) from (ws ++ xs)
-        run_failed = once_earlier (λ m b. LostHere d page m (b ++ xs) ⊎ BrokenHere page m (b ++ xs)) (FailsHere d (k + 2) from) ws xs
+        run_failed = once_earlier Fails (FailsHere d (k + 2) from) ws xs
             (λ m b x. (all_usable b, (page, (omega (arith, so.order.0, fails.in_run.0), omega (arith, fails.in_run.1, whole)), x))) failing
 
       -- After a claim that failed at a page, and the others were released, the search goes on past it.
@@ -478,11 +488,8 @@ module _ {σ σ1 : Standing} {d : Directory} {k from free next : ℕ} (so : Soug
             steps = rs ++ (ws ++ xs);
             adds = calls.adds;
             got = record { from = λ v met agreed. span_of_none d (page + 1) (calls.leads.from v met agreed) };
-            shows = shows_later giving_back refl f rs (ws ++ xs) r.kinds (claim_shows claim);
+            orderly = orderly_later giving_back rs (ws ++ xs) refl refl refl r.kinds lost_orderly;
             lacks = λ p out. r.lacks (ws ++ xs) p (λ out. lost_lacks p out);
-            kinds = only_both seeking rs (ws ++ xs) (only_within giving_back seeking rs refl r.kinds) (claim_kinds claim);
-            rise = rise_later giving_back (page + 1) rs (ws ++ xs) refl r.kinds lost_below (claim_rise claim);
-            below = below_later giving_back (page + 1) rs (ws ++ xs) refl r.kinds lost_below;
             returns = release_duly d from free lost_call can (claim_returns claim) r;
             low = omega arith;
             order = (omega arith, omega (arith, lt));
@@ -491,17 +498,15 @@ module _ {σ σ1 : Standing} {d : Directory} {k from free next : ℕ} (so : Soug
             usable = λ p from_page below. usable_later d p rs (ws ++ xs) (claim_usable claim p (omega (arith, from_page, first, ge)) below);
             holding = λ v met agreed. no_span (page + 1) (rs ++ (ws ++ xs));
             alone = λ p from_page. r.alone (ws ++ xs) p (omega (arith, from_page, ge)) (fails.alone xs so.alone p from_page);
-            steady = λ v met agreed p kept_whole g at. let before = agreed_later f v rs (ws ++ xs) agreed in
-                steady_both g rs (ws ++ xs) (r.steady g (narrower from free next (g / 256) so.order.1 (held_apart v met (agreed_later f v ws xs before) p kept_whole g at))) (claim_steady claim v met before p kept_whole g at);
+            steady = put_steady ws r (claim_steady claim);
             bad = λ v met agreed s one under. let before = agreed_later f v rs (ws ++ xs) agreed in bad_more v d k s rs (ws ++ xs) (elim (cases_lt s from) [
-              | inl below ↦ claim_bad claim v met before s one below
+              | inl below ↦ bad_still ws v met before s one below
               | inr above ↦ inl (page, (omega (arith, under), omega (arith, lt, whole, above)), page_bad v before)
             ]);
-            deeds = λ v met agreed. let before = agreed_later f v rs (ws ++ xs) agreed in
-                deeds_map d (k + 2) (λ s. (s < page + 1) × HasFailedOnce v d k s (rs ++ (ws ++ xs))) (λ s. ((s ≡ page + 1) × (page + 1 ≡ page + 1 + (k + 2))) ⊎ ((s < page + 1) × HasFailedOnce v d k s (rs ++ (ws ++ xs)))) (rs ++ (ws ++ xs)) (λ s h. inr h)
-                (deeds_none giving_back d (k + 2) (λ s. (s < page + 1) × HasFailedOnce v d k s (rs ++ (ws ++ xs))) rs (ws ++ xs) refl r.kinds
-                (claim_deeds claim v met before (λ s. (s < page + 1) × HasFailedOnce v d k s (rs ++ (ws ++ xs))) (omega (arith, first, ge), failed_more v d k from rs (ws ++ xs) (inl (run_failed v before)))
-                (λ s lt h. (omega (arith, lt, first, ge), failed_more v d k s rs (ws ++ xs) (failed_more v d k s ws xs h)))));
+            deeds = λ v met agreed. let before = agreed_later f v rs (ws ++ xs) agreed in let all = rs ++ (ws ++ xs) in deeds_later giving_back d (k + 2)
+                (Failed v d k (page + 1) all) (Chosen v d k (page + 1) (page + 1) all) rs (ws ++ xs) (λ s h. inr h) refl r.kinds
+                (claim_deeds claim v met before _ (omega (arith, first, ge), failed_more v d k from rs (ws ++ xs) (inl (run_failed v before)))
+                (λ s lt h. (omega (arith, lt, first, ge), failed_more v d k s rs (ws ++ xs) (failed_more v d k s ws xs h))));
           }
 
     -- the whole run is held
@@ -515,14 +520,11 @@ module _ {σ σ1 : Standing} {d : Directory} {k from free next : ℕ} (so : Soug
                 let before = agreed_later f v zs xs agreed in let after = agreed_first f v zs xs agreed in let has = so_call.leads.from v met before in
                 let new = holds_it.got.from (xs ++ v) has.1 after in
                 subst (HasSpan d from next v) (sym (append_assoc zs xs v)) (span_both d from free next first last has.0
-                (λ p ge lt. sym (ap (λ t. now (if t then Gained else Kept) (has_right v p)) (span_past from free p ge)) ∙ sym (has.0.got.does.right p) ∙ new.lacked p (span_in free next p ge lt))
+                (λ p ge lt. sym (span_spares has.0 p (span_past from free p ge)) ∙ new.lacked p (span_in free next p ge lt))
                 new (λ p knows. knows_still f d p zs (xs ++ v) after knows));
           };
-          shows = claim_shows claim;
-          lacks = λ p out. right_own p zs xs (so.lacks p (narrower from free next p last out)) ∙ ap (λ s. has_right s p) (sym (append-nil zs)) ∙ holds_it.lacks [] (λ q. refl) p (out_later from free next p first out);
-          kinds = claim_kinds claim;
-          rise = claim_rise claim;
-          below = claim_below claim next last claim.made;
+          orderly = claim_orderly claim next last claim.made;
+          lacks = λ p out. right_own p zs xs (so.lacks p (narrower _ _ next p last out)) ∙ ap (λ s. has_right s p) (sym (append-nil zs)) ∙ holds_it.lacks [] (λ q. refl) p (out_later from free next p first out);
           returns = claim_returns claim;
           low = so.low;
           order = (omega (arith, first, last), omega arith);
@@ -532,12 +534,12 @@ module _ {σ σ1 : Standing} {d : Directory} {k from free next : ℕ} (so : Soug
           holding = λ v met agreed.
               let before = agreed_later f v zs xs agreed in let after = agreed_first f v zs xs agreed in let has = so_call.leads.from v met before in
               let kept : (p : ℕ) → from ≤ p → p < free → KeepsRight p zs = λ p ge lt. let is = span_in from free p ge lt in
-              (claim_keeps f d p (xs ++ v) zs after claim.returns (has.0.got.deeds p is) (has.0.got.does.right p ∙ ap (λ t. now (if t then Gained else Kept) (has_right v p)) is)).0 in
+              (claim_keeps f d p (xs ++ v) zs after claim.returns (has.0.got.deeds p is) (span_has has.0 p is)).0 in
               span_joined from free next (zs ++ xs) (span_kept from free zs xs kept (so.holding v met before)) (holds_it.holding xs so.alone);
           alone = holds_it.alone xs so.alone;
           steady = claim_steady claim;
-          bad = claim_bad claim;
-          deeds = λ v met agreed. claim_deeds claim v met agreed (λ s. ((s ≡ from) × (next ≡ from + (k + 2))) ⊎ ((s < from) × HasFailedOnce v d k s (zs ++ xs))) (inl (refl, whole)) (λ s lt h. inr (lt, failed_more v d k s zs xs h));
+          bad = bad_still zs;
+          deeds = λ v met agreed. claim_deeds claim v met agreed _ (inl (refl, whole)) (λ s lt h. inr (lt, failed_more v d k s zs xs h));
         }
 
 abbrev HeldRun : View → Directory → ℕ → ℕ → List Made → Type 0
@@ -563,24 +565,13 @@ module _ {σ σ1 σ2 : Standing} {d : Directory} {k from next : ℕ} (so : Sough
   high_is = omega (arith, whole, last)
 
   held_page : (v : View) (met : MayFind d v) → Agreed g_ v us → (p : ℕ) → from ≤ p → p < next → (g : ℕ) → g / 256 ≡ p → holds (us ++ v) g ≡ true
-  held_page v met agreed p ge lt g at = (so.got.from v met agreed).got.does.held g ∙ ap (λ t. now (if t then Gained else Kept) (holds v g)) (ap (in_span from next) at ∙ span_in from next p ge lt)
+  held_page v met agreed p ge lt g at = span_holds (so.got.from v met agreed) g (ap (in_span from next) at ∙ span_in from next p ge lt)
 
   look_call : Calls σ σ2 (MayFind d) (HasSpan d from next) (ls ++ us)
-  look_call = call_then {S = λ w u. Does nothing w u × ((p : ℕ) → KnowsDeed p d w → KnowsDeed p d u)} (HasSpan d from next) (record { adds = so.adds; leads = so.got })
-      (record { adds = looks.adds; leads = record { from = λ v met agreed. (does_idly σ1.seat.profile backed_looks refl ls v looks.kinds agreed, λ p knows. knows_still σ1.seat.profile d p ls v agreed knows) } })
-      (λ v met has. tt) (λ v met has kept. span_then d from next has kept.0 kept.1)
+  look_call = idle_call so backed_looks ls refl looks.kinds looks.adds
 
-  look_shows : OnlyDeedsShow g_ (ls ++ us)
-  look_shows = shows_later backed_looks refl g_ ls us looks.kinds so.shows
-
-  look_kinds : Only seeking (ls ++ us)
-  look_kinds = only_both seeking ls us (only_within backed_looks seeking ls refl looks.kinds) so.kinds
-
-  look_rise : DeedsRise (ls ++ us)
-  look_rise = rise_later backed_looks next ls us refl looks.kinds so.below so.rise
-
-  look_below : DeedsBelow next (ls ++ us)
-  look_below = below_later backed_looks next ls us refl looks.kinds so.below
+  look_orderly : Orderly g_ next (ls ++ us)
+  look_orderly = orderly_later backed_looks ls us refl refl refl looks.kinds so.orderly
 
   look_returns : Always ReturnsDuly (ls ++ us)
   look_returns = duly_both ls us (duly_none backed_looks ls refl refl looks.kinds) so.returns
@@ -595,32 +586,30 @@ module _ {σ σ1 σ2 : Standing} {d : Directory} {k from next : ℕ} (so : Sough
   held_run : (v : View) (met : MayFind d v) → Agreed g_ v us → (b : List Made) → Only backed_looks b → HeldRun v d k from (b ++ us)
   held_run v met agreed b only = (
     usable_now b,
-    λ g is. ap (λ s. holds s g) (append_assoc b us v) ∙ holds_same backed_looks refl g b (us ++ v) only ∙ held_page v met agreed (g / 256) is.0 (omega (arith, is.1, whole)) g refl,
+    λ g is. ap (λ s. holds s g) (append_assoc b us v) ∙ holds_same backed_looks refl g b _ only ∙ held_page v met agreed _ is.0 (omega (arith, is.1, whole)) g refl,
   )
 
-  look_steady : (v : View) (met : MayFind d v) → Agreed g_ v (ls ++ us) → (p : ℕ) → HoldsWhole p v → (g : ℕ) → g / 256 ≡ p → StaysPut g (ls ++ us)
-  look_steady v met agreed p kept_whole g at = steady_both g ls us (steady_kinds backed_looks refl g ls looks.kinds) (so.steady v met (agreed_later g_ v ls us agreed) p kept_whole g at)
-
-  look_bad : (v : View) (met : MayFind d v) → Agreed g_ v (ls ++ us) → (s : ℕ) → 1 ≤ s → s < from → IsBad v d k s (ls ++ us)
-  look_bad v met agreed s low lt = bad_more v d k s ls us (so.bad v met (agreed_later g_ v ls us agreed) s low lt)
+  look_steady : Steady g_ d (ls ++ us)
+  look_steady = steady_later backed_looks g_ d ls us refl looks.kinds so.steady
 
   look_deeds : (v : View) (met : MayFind d v) → Agreed g_ v (ls ++ us) → (P : ℕ → Type 0) → P from → ((s : ℕ) → s < from → HasFailedOnce v d k s us → P s)
       → DeedsOf d (k + 2) P (ls ++ us)
-  look_deeds v met agreed P its more = deeds_none backed_looks d (k + 2) P ls us refl looks.kinds
-      (deeds_map d (k + 2) (λ s. ((s ≡ from) × (next ≡ from + (k + 2))) ⊎ ((s < from) × HasFailedOnce v d k s us)) P us (λ s h. elim h [ inl run ↦ subst P (sym run.0) its | inr failed ↦ more s failed.0 failed.1 ]) (so.deeds v met (agreed_later g_ v ls us agreed)))
+  look_deeds v met agreed P its more = deeds_later backed_looks d _ _ P ls us (λ s h. elim h [ inl run ↦ subst P (sym run.0) its | inr failed ↦ more s failed.0 failed.1 ]) refl looks.kinds
+      (so.deeds v met (agreed_later g_ v ls us agreed))
 
 module _ {σ σ1 σ2 : Standing} {d : Directory} {k from next : ℕ} (so : Sought d k from next next σ σ1) (high : ℕ) (whole : next ≡ from + (k + 2))
     (last : high + 1 ≡ next) where
   -- neither is backed
   pub seek_found : LooksBacked from high σ1 σ2 true → Seeks d k σ σ2 (Some from)
   seek_found looks =
-      let f = σ.seat.profile in let ls = looks.steps in let us = so.steps in let call = look_call so high whole last looks in record {
+      let f = σ.seat.profile in let ls = looks.steps in let us = so.steps in let call = look_call so high whole last looks in
+      let orderly = look_orderly so high whole last looks in record {
         steps = ls ++ us;
         adds = call.adds;
-        kinds = look_kinds so high whole last looks;
-        rise = look_rise so high whole last looks;
+        kinds = orderly.kinds;
+        rise = orderly.rise;
         returns = look_returns so high whole last looks;
-        shows = look_shows so high whole last looks;
+        shows = orderly.shows;
         few = (let j = length-append ls us in omega (arith, j, looks.few, so.few, so.within.1, so.order.0));
         steady = look_steady so high whole last looks;
         outcome = record {
@@ -634,8 +623,8 @@ module _ {σ σ1 σ2 : Standing} {d : Directory} {k from next : ℕ} (so : Sough
                 whole = λ p word is small. held.whole p word is.0 (omega (arith, is.1, whole)) small;
               };
           bare = search (arith, agreed_later, outer_zero, held_page, high_is);
-          lower = look_bad so high whole last looks;
-          deeds = λ v met agreed. look_deeds so high whole last looks v met agreed (λ s. (s ≡ from) ⊎ ((s < from) × HasFailedOnce v d k s (ls ++ us))) (inl refl) (λ s lt h. inr (lt, failed_more v d k s ls us h));
+          lower = bad_still so ls;
+          deeds = λ v met agreed. look_deeds so high whole last looks v met agreed _ (inl refl) (λ s lt h. inr (lt, failed_more v d k s ls us h));
         };
       }
 
@@ -647,18 +636,19 @@ module _ {σ σ1 σ2 : Standing} {d : Directory} {k from next : ℕ} (so : Sough
     abbrev us_ : List Made
     us_ = so.steps
 
+    -- An outer page fails, as the looks show.
     outer : (v : View) (met : MayFind d v) → Agreed σ.seat.profile v (ls_ ++ us_) → Once (OuterFailsHere v d k from) (ls_ ++ us_)
     outer v met agreed =
-        let f = σ.seat.profile in let before = agreed_later f v ls_ us_ agreed in let had = held_run so high whole last looks v met before in let R = HeldRun v d k from in elim looks.outcome [
-          | inl low ↦ once_map (λ m b. R b × BackedReadHere v from 1 m b) (OuterFailsHere v d k from) (ls_ ++ us_) (λ m b x. (x.0.0, (x.0.1, inl x.1))) (outer_some f v from R ls_ us_ had looks.kinds agreed (held_page so high whole last looks v met before from (omega arith) (omega (arith, whole))) low)
-          | inr up ↦ once_map (λ m b. R b × BackedReadHere v high 1 m b) (OuterFailsHere v d k from) (ls_ ++ us_) (λ m b x. (x.0.0, (x.0.1, inr (subst (λ p. BackedReadHere v p 1 m b) (high_is so high whole last looks) x.1))))
+        let f = σ.seat.profile in let before = agreed_later f v ls_ us_ agreed in let had = held_run so _ whole last looks v met before in let R = HeldRun v d k _ in elim looks.outcome [
+          | inl low ↦ once_map _ _ _ (λ m b x. (x.0.0, (x.0.1, inl x.1))) (outer_some f v from R ls_ us_ had looks.kinds agreed (held_page so high whole last looks v met before from (omega arith) (omega (arith, whole))) low)
+          | inr up ↦ once_map (λ m b. R b × BackedReadHere v high 1 m b) (OuterFailsHere v d k from) (ls_ ++ us_) (λ m b x. (x.0.0, search (arith, high_is)))
               (outer_some f v high R ls_ us_ had looks.kinds agreed (held_page so high whole last looks v met before high (omega (arith, whole, last)) (omega (arith, last))) up)
         ]
 
     may_slide : (v : View) → MayFind d v → HasSpan d from next v (ls_ ++ (us_ ++ v)) → MayPutAndLeave from d (masked from full) (ls_ ++ (us_ ++ v))
     may_slide v met span =
         let is = span_in from next from (omega arith) (omega (arith, whole)) in record {
-          right = span.got.does.right from ∙ ap (λ t. now (if t then Gained else Kept) (has_right v from)) is;
+          right = span_has span from is;
           deed = span.got.deeds from is;
           held = search (arith, eqb-true);
           clear = span.got.does.clear from (met.clear.on from);
@@ -674,22 +664,20 @@ module _ {σ σ1 σ2 : Standing} {d : Directory} {k from next : ℕ} (so : Sough
     -- After its first page was left, the run slides one page on.
     pub seek_slide : {σ3 : Standing} → CanCall σ (MayFind d) → PutsAndLeaves from d full σ2 σ3 → Sought d k (from + 1) next next σ σ3
     seek_slide can h =
-        let f = σ.seat.profile in let ps = h.after ++ h.puts in let call = look_call so high whole last looks in let left = leads_at call.adds.seat_is h.calls.leads in record {
+        let f = σ.seat.profile in let ps = h.after ++ h.puts in let call = look_call so _ whole last looks in let left = leads_at call.adds.seat_is h.calls.leads in record {
           steps = ps ++ (ls_ ++ us_);
           adds = adds_call call.adds h.calls.adds (λ v l stood met. slide_may v met (call.leads.from v met (call.adds.agreed v l stood met)));
           got = record {
             from = λ v met agreed.
-                let before = agreed_later f v ps (ls_ ++ us_) agreed in let after = agreed_first f v ps (ls_ ++ us_) agreed in let span = call.leads.from v met before in
-                subst (HasSpan d (from + 1) next v) (sym (append_assoc ps (ls_ ++ us_) v)) (span_slid d from next (omega (arith, whole)) span (left.from ((ls_ ++ us_) ++ v) (slide_may v met span) after) (λ p knows. knows_still f d p ps ((ls_ ++ us_) ++ v) after knows));
+                let before = agreed_later f v ps _ agreed in let after = agreed_first f v ps (ls_ ++ us_) agreed in let span = call.leads.from v met before in
+                subst (HasSpan d (from + 1) next v) (sym (append_assoc ps (ls_ ++ us_) v)) (span_slid d from next (omega (arith, whole)) span
+                (left.from _ (slide_may v met span) after) (λ p knows. knows_still f d p ps ((ls_ ++ us_) ++ v) after knows));
           };
-          shows = shows_later giving_back refl f ps (ls_ ++ us_) h.kinds (look_shows so high whole last looks);
+          orderly = orderly_later giving_back ps (ls_ ++ us_) refl refl refl h.kinds (look_orderly so high whole last looks);
           lacks = λ p out. elim (cases_eq p from) [
             | inl e ↦ ap (has_right (ps ++ (ls_ ++ us_))) e ∙ h.lacks (ls_ ++ us_)
             | inr ne ↦ right_on from p ps (ls_ ++ us_) h.on ne ∙ look_lacks so high whole last looks p (but_first from next p ne ∙ out)
           ];
-          kinds = only_both seeking ps (ls_ ++ us_) (only_within giving_back seeking ps refl h.kinds) (look_kinds so high whole last looks);
-          rise = rise_later giving_back next ps (ls_ ++ us_) refl h.kinds (look_below so high whole last looks) (look_rise so high whole last looks);
-          below = below_later giving_back next ps (ls_ ++ us_) refl h.kinds (look_below so high whole last looks);
           returns = first_duly d from next call can (look_returns so high whole last looks) (omega (arith, whole)) h;
           low = omega arith;
           order = (omega (arith, whole), omega arith);
@@ -698,19 +686,19 @@ module _ {σ σ1 σ2 : Standing} {d : Directory} {k from next : ℕ} (so : Sough
           usable = λ p ge lt. usable_later d p ps (ls_ ++ us_) (usable_later d p ls_ us_ (so.usable p (omega (arith, ge)) lt));
           holding = λ v met agreed. let before = agreed_later f v ps (ls_ ++ us_) agreed in
               let held = span_kept from next ls_ us_ (λ p ge lt. keeps_by p backed_looks ls_ refl looks.kinds) (so.holding v met (agreed_later f v ls_ us_ before)) in
-              span_beside from (from + 1) next ps (ls_ ++ us_) h.on (λ p ge lt e. absurd (omega (arith, e, ge))) (record { right = λ p ge lt. held.right p (omega (arith, ge)) lt; whole = λ p word ge lt small. held.whole p word (omega (arith, ge)) lt small });
+              span_beside from _ next ps _ h.on (λ p ge lt e. absurd (omega (arith, e, ge))) (record { right = λ p ge lt. held.right p (omega (arith, ge)) lt; whole = λ p word ge lt small. held.whole p word (omega (arith, ge)) lt small });
           alone = λ p ge. alone_on from p ps (ls_ ++ us_) h.on (λ e. absurd (omega (arith, e, ge, whole))) (alone_still p ls_ us_ looks.kinds (so.alone p ge));
           steady = λ v met agreed p kept_whole g at. let before = agreed_later f v ps (ls_ ++ us_) agreed in
               let out = held_apart so v met (agreed_later f v ls_ us_ before) p kept_whole g at in
               steady_both g ps (ls_ ++ us_) (steady_on from g ps h.on (out_of from next (g / 256) from out (omega arith) (omega (arith, whole)))) (look_steady so high whole last looks v met before p kept_whole g at);
           bad = λ v met agreed s one under. let before = agreed_later f v ps (ls_ ++ us_) agreed in bad_more v d k s ps (ls_ ++ us_) (elim (cases_lt s from) [
-            | inl below ↦ look_bad so high whole last looks v met before s one below
-            | inr above ↦ (let e : from ≡ s = omega (arith, above, under) in inr (subst (λ x. Once (OuterBackedHere v k x) (ls_ ++ us_)) e (once_map (OuterFailsHere v d k from) (OuterBackedHere v k from) (ls_ ++ us_) (λ m b x. x.1) (outer v met before))))
+            | inl below ↦ bad_still so ls_ v met before s one below
+            | inr above ↦ (let e : from ≡ s = omega (arith, above, under) in inr (subst (λ x. Once (OuterBackedHere v k x) (ls_ ++ us_)) e (once_map _ _ (ls_ ++ us_) (λ m b x. x.1) (outer v met before))))
           ]);
-          deeds = λ v met agreed. let before = agreed_later f v ps (ls_ ++ us_) agreed in
-              deeds_none giving_back d (k + 2) (λ s. ((s ≡ from + 1) × (next ≡ from + 1 + (k + 2))) ⊎ ((s < from + 1) × HasFailedOnce v d k s (ps ++ (ls_ ++ us_)))) ps (ls_ ++ us_) refl h.kinds
-              (look_deeds so high whole last looks v met before (λ s. ((s ≡ from + 1) × (next ≡ from + 1 + (k + 2))) ⊎ ((s < from + 1) × HasFailedOnce v d k s (ps ++ (ls_ ++ us_))))
-              (inr (omega arith, failed_more v d k from ps (ls_ ++ us_) (inr (outer v met before)))) (λ s lt h. inr (omega (arith, lt), failed_more v d k s ps (ls_ ++ us_) (failed_more v d k s ls_ us_ h))));
+          deeds = λ v met agreed. let before = agreed_later f v ps (ls_ ++ us_) agreed in let chosen = Chosen v d k (from + 1) next (ps ++ (ls_ ++ us_)) in
+              deeds_later giving_back d (k + 2) chosen chosen ps (ls_ ++ us_) (λ s h. h) refl h.kinds
+              (look_deeds so high whole last looks v met before chosen (inr (omega arith, failed_more v d k from ps (ls_ ++ us_) (inr (outer v met before))))
+              (λ s lt h. inr (omega (arith, lt), failed_more v d k s ps (ls_ ++ us_) (failed_more v d k s ls_ us_ h))));
         }
 
 -- ---- the looks at the outer pages
@@ -719,7 +707,7 @@ look_at page a = made (Look (Word.Backed page)) a
 
 -- A low page that was read as backed shows that the run can't be guarded.
 pub looks_low : {σ σ1 : Standing} (low high a : ℕ) → a ≢ 0 → Makes σ σ1 (Look (Word.Backed low)) a → LooksBacked low high σ σ1 false
-looks_low low high a some makes = record { steps = look_at low a ∷ []; adds = adds_step {step = Look (Word.Backed low)} adds_none makes (λ v l stood met. tt); kinds = (refl, tt); few = omega arith; outcome = inl (inl (refl, some)) }
+looks_low low high a some makes = record { steps = look_at low a ∷ []; adds = search (arith, adds_step, adds_none); kinds = (refl, tt); few = omega arith; outcome = inl (inl (refl, some)) }
 
 two_reads : (low high a b : ℕ) → a ≡ 0 → (bare : Bool) → (b == 0) ≡ bare
     → MatchBool bare (Once (ZeroBackedHere low) (look_at high b ∷ look_at low a ∷ [])
@@ -732,7 +720,7 @@ pub looks_both : {σ σ1 σ2 : Standing} (low high a b : ℕ) (bare : Bool) → 
     → Makes σ1 σ2 (Look (Word.Backed high)) b → LooksBacked low high σ σ2 bare
 looks_both low high a b bare zero is first second = record {
   steps = look_at high b ∷ look_at low a ∷ [];
-  adds = adds_step {step = Look (Word.Backed high)} (adds_step {step = Look (Word.Backed low)} adds_none first (λ v l stood met. tt)) second (λ v l stood met. tt);
+  adds = search (arith, adds_step, adds_none);
   kinds = (refl, (refl, tt));
   few = omega arith;
   outcome = two_reads low high a b zero bare is;

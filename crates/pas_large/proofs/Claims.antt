@@ -1,26 +1,26 @@
 -- The claim of the pages of a run, one page more, and how they are left.
 use Rattle.pas_steps.specs.{Clear.IsClear, Frames.IsOnPage, Frames.OnlyOn, Past.Once, Past.Always, Past.Since, Evidence.KeptHere, Evidence.GetsHere}
-use Rattle.pas_steps.specs.{Agreement.Agreed, Events.events_by, Unknown.unknown_pages}
+use Rattle.pas_steps.specs.{Agreement.Agreed, Unknown.unknown_pages, Kinds.Kinds, Kinds.within}
 use Rattle.pas_steps.proofs.{SpareRoom.Spares, SpareRoom.spare_falls, Sets.both_fates, Apart.only_both, Apart.only_within}
-use Rattle.std.proofs.Common.{◌≡◌, ◌≢◌, ℕ, ◌+◌, ◌/◌, ◌-◌, ◌<◌, ◌≤◌, ◌==◌, ◌*◌, min, nat_le, nat_lt, Bool, true, false, ◌||◌, if◌then◌else◌, List, [], ◌∷◌, ◌++◌}
-use Rattle.std.proofs.Common.{inl, inr, refl, ap, sym, ◌∙◌, arith, true≢false, length, subst, append_assoc, length-append, append-nil, Some, None, eqb-true}
+use Rattle.std.proofs.Common.{◌≡◌, ◌≢◌, ℕ, ◌+◌, ◌/◌, ◌-◌, ◌<◌, ◌≤◌, ◌==◌, ◌*◌, min, Bool, true, false, ◌||◌, if◌then◌else◌, List, [], ◌∷◌, ◌++◌, inl, inr, refl}
+use Rattle.std.proofs.Common.{ap, sym, ◌∙◌, arith, true≢false, length, subst, append_assoc, length-append, append-nil, Some, None, eqb-true, Option}
 use Rattle.std.proofs.lemmas.Bool.{and_parts, cases_Bool, cases_eq, Decides.nat_tests}
 use Rattle.pas_profile.specs.declared.{directory.Directory.Directory, profile.Profile.Profile}
 use Rattle.pas_steps.specs.Calls.{Kept, Gained, Lost, now, nothing, Does, Calls, Leads}
 use Rattle.pas_steps.specs.Views.{View, Stays, grain_move, held_after, holds, has_right, KnowsDeed}
 use Rattle.pas_steps.specs.declared.step.{Made.Made, Step.TheVariants.Deed}
 use Rattle.pas_steps.proofs.Calls.{does_as, does_then, does_after_nothing, does_none}
-use Rattle.pas_steps.proofs.Kept.{right_on, on_grain, holds_on_page, knows_still}
+use Rattle.pas_steps.proofs.Frames.{right_on, on_grain, holds_on_page, knows_still}
 use Rattle.pas_steps.proofs.Past.{always_both, always_map, once_later, once_earlier}
 use Rattle.pas_scan.specs.{Runs.page_looks, Usable.LeftAlone}
 use Rattle.pas_large.specs.Pages.{of_pages, GotPages, MayClaim, DeedsOn, OnlyDeedsShow, claiming, claiming_old, LosesPage, BreaksPage, WinsPage, ClaimsPage}
 use Rattle.pas_large.specs.Claims.{in_span, MayClaimPages, HasRunRoom, AloneFrom, DeedsIn, HoldsSpan, FailsAt, ClaimsPages, HasPages, Releases, ClaimsRun}
 use Rattle.pas_large.specs.Claims.{LacksAll, StaysPut}
 use Rattle.pas_search.specs.Kinds.{IsReturnOf, ReturnsDuly}
-use Rattle.pas_search.proofs.Returns.{duly_both, duly_in, return_page}
-use Rattle.pas_rights.proofs.{Hints.put_and_leave_due, Looks.on_full}
-use Rattle.pas_large.proofs.Pages.{DeedsFrom, from_on, from_none, rise_none, rise_both, MadeHere, since_more, undone, no_deeds, knew_before, shows_both}
-use Rattle.pas_large.proofs.Pages.{shows_taking, after_more}
+use Rattle.pas_search.proofs.PagesThatServe.{duly_both, duly_in, return_page}
+use Rattle.pas_rights.proofs.{Puts.put_and_leave_due, Orders.on_full}
+use Rattle.pas_large.proofs.Pages.{DeedsFrom, from_on, rise_later, rise_both, Orderly, below_both, below_wider, MadeHere, since_more, undone, no_deeds}
+use Rattle.pas_large.proofs.Pages.{knew_before, shows_both, shows_taking, after_more}
 use Rattle.pas_profile.specs.Directories.{IsDirectory}
 use Rattle.pas_rights.specs.{Puts.masked, Words.full}
 use Rattle.pas_rights.specs.PutsBack.{giving_back, taking_grains, GivesDuly, MayPutAndLeave, PutsAndLeaves}
@@ -39,7 +39,7 @@ span_in first stop p low high = grind (arith, nat_tests)
 
 -- A page in the span of some pages is at least the first and below the end.
 pub in_parts : (first stop p : ℕ) → in_span first stop p ≡ true → (first ≤ p) × (p < stop)
-in_parts first stop p h = let parts = and_parts (nat_le first p) (nat_lt p stop) h in let a = parts.0 in let b = parts.1 in (grind (arith, nat_tests), grind (arith, nat_tests))
+in_parts first stop p h = search (arith, and_parts, nat_tests)
 
 -- A page from the end of a span on isn't in it.
 pub span_past : (first stop p : ℕ) → stop ≤ p → in_span first stop p ≡ false
@@ -74,11 +74,11 @@ got_both {v} {w} {u} d a b c same first second knows = search (arith, does_as, d
 
 got_still : {v w u : View} (d : Directory) (a : ℕ → Bool) → GotPages a d v w → Does nothing w u → ((p : ℕ) → KnowsDeed p d w → KnowsDeed p d u)
     → GotPages a d v u
-got_still d a first second knows = record { does = does_then first.does second; apart = first.apart; lacked = first.lacked; deeds = λ p h. knows p (first.deeds p h) }
+got_still d a first second knows = search (arith, does_then)
 
 -- Pages got after steps that did nothing were got from the view before.
 pub got_after : {v w u : View} (a : ℕ → Bool) (d : Directory) → Does nothing v w → GotPages a d w u → GotPages a d v u
-got_after a d first second = record { does = does_after_nothing (of_pages a Gained) first second.does; apart = λ g h. sym (first.held g) ∙ second.apart g h; lacked = λ p h. sym (first.right p) ∙ second.lacked p h; deeds = second.deeds }
+got_after a d first second = search (arith, does_after_nothing)
 
 -- ---- grains of pages that aren't of the span stay put
 abbrev pub StaysHere : ℕ → Made → List Made → Type 0
@@ -106,12 +106,7 @@ narrower first stop end p le out = grind (arith, nat_tests)
 
 -- ---- steps on one page leave another alone
 pub alone_on : (q p : ℕ) (ys xs : List Made) → OnlyOn q ys → p ≢ q → LeftAlone p xs → LeftAlone p (ys ++ xs)
-alone_on q p ys xs on ne alone = record {
-  right = right_on q p ys xs on ne ∙ alone.right;
-  none = λ g at. holds_on_page q g ys xs on (λ e. ne (sym at ∙ e)) ∙ alone.none g at;
-  parks = parks_both p ys xs (off_parks p ys (off_on q p ys ne on)) alone.parks;
-  deeds = deeds_both p ys xs (off_deeds p ys (off_on q p ys ne on)) alone.deeds;
-}
+alone_on q p ys xs on ne alone = search (arith, right_on, holds_on_page, parks_both, off_parks, off_on, deeds_both, off_deeds)
 
 -- nothing was done yet
 pub alone_at_first : (first : ℕ) → AloneFrom first []
@@ -127,7 +122,7 @@ claims_one d first end page low high v met = record { lacks = met.lacks page low
 -- Who may claim the pages of a run may claim each of them.
 pub can_claim_one : {σ : Standing} {page : ℕ} (d : Directory) (first end : ℕ) → first ≤ page → page < end → CanCall σ (MayClaimPages d first end)
     → CanCall σ (MayClaim d page)
-can_claim_one {page = page} d first end low high can = record { view = can.view; whole = can.whole; stood = can.stood; met = claims_one d first end page low high can.view can.met }
+can_claim_one {page = page} d first end low high can = search (arith, claims_one)
 
 abbrev pub may_claim : {σ : Standing} {f : Profile} {d : Directory} {first end n spare : ℕ} (stop : ℕ) → stop ≤ end
     → CanCall σ (HasRunRoom f d first end n spare) → CanCall σ (MayClaimPages d first stop)
@@ -138,7 +133,7 @@ pub room_after : {σ σ' : Standing} {C : View → Type 0} {xs : List Made} {spa
     → OnlyDeedsShow σ.seat.profile xs → n + unknown_pages σ.seat.profile can.view ≤ spare → Spares σ spare → Spares σ' spare'
     → n + unknown_pages σ.seat.profile (xs ++ can.view) ≤ spare'
 room_after {σ} {xs = xs} {spare = spare} {spare' = spare'} n adds can shows room law law' =
-    let falls = spare_falls spare spare' (length (events_by σ.seat.actor can.view xs)) adds can law law' refl in let shown = shows σ.seat.actor can.view (adds.agreed can.view can.whole can.stood can.met) in omega (arith, falls, shown, room)
+    let falls = spare_falls spare spare' _ adds can law law' refl in let shown = shows σ.seat.actor can.view (adds.agreed can.view _ can.stood can.met) in omega (arith, falls, shown, room)
 
 -- the pages below this one were claimed, and it and those above it were left alone
 pub record ClaimedBelow (deeds : Bool) (d : Directory) (first page : ℕ) (desk desk' : Standing) : Type 0 where
@@ -178,19 +173,30 @@ MadeIn d first end m before = (p : ℕ) (e : Directory) → m.step ≡ Deed p e 
 
 deeds_join : (d : Directory) (first stop end page : ℕ) (ys xs : List Made) → first ≤ page → page < end → stop ≤ end → DeedsOn d page ys
     → DeedsIn d first stop xs → DeedsIn d first end (ys ++ xs)
-deeds_join d first stop end page ys xs low high le on within = always_both (MadeHere d page) (MadeIn d first end) ys xs (λ m before h p e same z. let its = h p e same z in (its.0, omega (arith, its.1, low), omega (arith, its.1, high))) on
-    (always_map (MadeIn d first stop) (MadeIn d first end) xs (λ m before h p e same z. let its = h p e same z in (its.0, its.1, omega (arith, its.2, le))) within)
+deeds_join d first stop end page ys xs low high le on within = always_both _ _ ys xs (λ m before h p e same z. let its = h p e same z in (its.0, omega (arith, its.1, low), omega (arith, its.1, high))) on
+    (always_map _ (MadeIn d first end) xs (λ m before h p e same z. let its = h p e same z in (its.0, its.1, omega (arith, its.2, le))) within)
 
 deeds_wider : (d : Directory) (first stop end : ℕ) (xs : List Made) → stop ≤ end → DeedsIn d first stop xs → DeedsIn d first end xs
-deeds_wider d first stop end xs le = always_map (MadeIn d first stop) (MadeIn d first end) xs (λ m before h p e same z. let its = h p e same z in (its.0, its.1, omega (arith, its.2, le)))
+deeds_wider d first stop end xs le = search (arith, always_map)
 
 -- Deeds of pages of a span are of pages below each end behind it.
 pub deeds_below : (d : Directory) (first stop end : ℕ) (xs : List Made) → stop ≤ end → DeedsIn d first stop xs → DeedsBelow end xs
-deeds_below d first stop end xs le = always_map (MadeIn d first stop) (λ m before. (p : ℕ) (e : Directory) → m.step ≡ Deed p e → m.answer ≡ 0 → p < end) xs (λ m before h p e same z. let lt = (h p e same z).2 in omega (arith, lt, le))
+deeds_below d first stop end xs le = search (arith, always_map)
 
 -- Deeds of pages of a span are of pages from its first one on.
 pub deeds_from : (d : Directory) (first stop : ℕ) (xs : List Made) → DeedsIn d first stop xs → DeedsFrom first xs
-deeds_from d first stop xs = always_map (MadeIn d first stop) (λ m before. (p : ℕ) (e : Directory) → m.step ≡ Deed p e → m.answer ≡ 0 → first ≤ p) xs (λ m before h p e same z. (h p e same z).1)
+deeds_from d first stop xs = search (arith, always_map)
+
+-- The claim of a run leaves steps in order, where it begins behind their deeds.
+pub orderly_claim : {ks : Kinds} {d : Directory} {first end : ℕ} {σ σ1 : Standing} {failed : Option ℕ} (claim : ClaimsRun true d first end σ σ1 failed)
+    {f : Profile} (xs : List Made) (stop : ℕ) → σ.seat.profile ≡ f → within claiming ks ≡ true → first ≤ stop → DeedsIn d first stop claim.steps
+    → Orderly ks f first xs → Orderly ks f stop (claim.steps ++ xs)
+orderly_claim {ks} {d} {first} {end} claim {f} xs stop same among le made o = let zs = claim.steps in record {
+  kinds = only_both ks zs xs (only_within claiming ks zs among claim.kinds) o.kinds;
+  rise = rise_both first zs xs claim.rise o.rise (deeds_from d first end zs claim.made) o.below;
+  below = below_both stop zs xs (deeds_below d first stop stop zs (omega arith) made) (below_wider first stop xs le o.below);
+  shows = shows_both f zs xs (subst (λ x. OnlyDeedsShow x zs) same claim.shows) o.shows;
+}
 
 module _ {σ σ1 : Standing} {deeds : Bool} {d : Directory} {first page : ℕ} (end : ℕ) (below : ClaimedBelow deeds d first page σ σ1) (high : page < end) where
   abbrev so_far : ClaimsPages deeds d first page σ σ1 page
@@ -229,6 +235,7 @@ module _ {σ σ1 : Standing} {deeds : Bool} {d : Directory} {first page : ℕ} (
     turn_alone : (before : List Made) → AloneFrom first before → AloneFrom (page + 1) ((ys ++ xs) ++ before)
     turn_alone before free p ge = subst (LeftAlone p) (sym (all_at before)) (alone_on page p ys (xs ++ before) h.on (λ e. absurd (omega (arith, e, ge))) (below.alone before free p (omega (arith, ge))))
 
+    -- Up to the page where it stopped the claim got the pages of the run.
     turned : (stop : ℕ) → (page ≤ stop) × (stop ≤ end) → Leads σ.seat.profile (MayClaimPages d first end) (GotPages (in_span first stop) d) (ys ++ xs)
         → ((before : List Made) → AloneFrom first before → HoldsSpan first stop ((ys ++ xs) ++ before))
         → ((before : List Made) → LacksAll before → (p : ℕ) → in_span first stop p ≡ false → has_right ((ys ++ xs) ++ before) p ≡ false)
@@ -244,7 +251,7 @@ module _ {σ σ1 : Standing} {deeds : Bool} {d : Directory} {first page : ℕ} (
       few = let n = length-append ys xs in omega (arith, n, few, so_far.few, low, high, above);
       returns = duly_both ys xs h.returns so_far.returns;
       gets = gets;
-      made = deeds_join d first (min (page + 1) page) (min (stop + 1) end) page ys xs low (omega (arith, high, above)) (omega (arith, high, above)) h.made so_far.made;
+      made = deeds_join d first _ (min (stop + 1) end) page ys xs low (omega (arith, high, above)) (omega (arith, high, above)) h.made so_far.made;
       rise = rise_both page ys xs h.rise so_far.rise (from_on d page ys h.made) (deeds_below d first (min (page + 1) page) page xs (omega arith) so_far.made);
       shows = shows_both σ.seat.profile ys xs (subst (λ (s : Seat). OnlyDeedsShow s.profile ys) so_adds.seat_is h.shows) so_far.shows;
       span = (omega (arith, low, above), at.1);
@@ -275,7 +282,8 @@ module _ {σ σ1 : Standing} {deeds : Bool} {d : Directory} {first page : ℕ} (
     others_held : (before : List Made) → AloneFrom first before → HoldsSpan first page ((ys ++ xs) ++ before)
     others_held before free = let old = so_far.holding before free in record {
       right = λ p ge lt. ap (λ s. has_right s p) (all_at before) ∙ right_on page p ys (xs ++ before) h.on (λ e. absurd (omega (arith, e, lt))) ∙ old.right p ge lt;
-      whole = λ p word ge lt small. subst (Since (TakenWholeHere p word) (KeptHere p)) (sym (all_at before)) (since_more (TakenWholeHere p word) (KeptHere p) (λ m c. IsOnPage page m.step) ys (xs ++ before) (λ m c is on. right_on page p c (xs ++ before) on (λ e. absurd (omega (arith, e, lt))) ∙ old.right p ge lt) h.on (old.whole p word ge lt small));
+      whole = λ p word ge lt small. subst (Since _ (KeptHere p)) (sym (all_at before)) (since_more _ (KeptHere p) _ ys (xs ++ before)
+          (λ m c is on. right_on page p c (xs ++ before) on (λ e. absurd (omega (arith, e, lt))) ∙ old.right p ge lt) h.on (old.whole p word ge lt small));
     }
 
     -- it was lost or broken
@@ -287,7 +295,7 @@ module _ {σ σ1 : Standing} {deeds : Bool} {d : Directory} {first page : ℕ} (
         (record {
           from = λ v met agreed.
               let mine = agreed_later σ.seat.profile v ys xs agreed in let next = agreed_first σ.seat.profile v ys xs agreed in
-              subst (GotPages (in_span first page) d v) (sym (all_at v)) (got_still d (in_span first page) (so_got v met mine) (still.from (xs ++ v) (page_may v met mine) next) (λ p knows. knows_still σ.seat.profile d p ys (xs ++ v) next knows));
+              subst (GotPages _ d v) (sym (all_at v)) (got_still d _ (so_got v met mine) (still.from (xs ++ v) (page_may v met mine) next) (λ p knows. knows_still σ.seat.profile d p ys (xs ++ v) next knows));
         })
         others_held
         (λ before none p out. let old = so_far.lacks before none p out in ap (λ s. has_right s p) (all_at before) ∙ elim (cases_eq p page) [
@@ -299,7 +307,7 @@ module _ {σ σ1 : Standing} {deeds : Bool} {d : Directory} {first page : ℕ} (
         (λ p ge lt. once_later (GetsHere p) ys xs (so_far.gets p ge lt))
         (λ lt bare. missed_before d page ys xs page_alone (missed bare))
         others_of
-        (λ bare p out. elim (cases_eq p page) [ inl e ↦ subst (λ q. LeftOrBroken d q (ys ++ xs)) (sym e) (left_before d page ys xs page_alone (left bare)) | inr ne ↦ others_left bare p ne out ])
+        (λ bare p out. elim (cases_eq p _) [ inl e ↦ subst (λ q. LeftOrBroken d q (ys ++ xs)) (sym e) (left_before d _ ys xs page_alone (left bare)) | inr ne ↦ others_left bare p ne out ])
 
     -- A page that was lost ends the claim of its run there.
     pub lost_turn : LosesPage deeds σ1.seat.profile d page h.steps → ClaimsPages deeds d first end σ σ2 page
@@ -311,7 +319,8 @@ module _ {σ σ1 : Standing} {deeds : Bool} {d : Directory} {first page : ℕ} (
     pub broken_turn : BreaksPage deeds σ1.seat.profile d page h.steps → ClaimsPages deeds d first end σ σ2 page
     broken_turn broken =
         let breaks = subst (λ (s : Seat). BreaksPage deeds s.profile d page ys) so_adds.seat_is broken in
-        stopped breaks.still breaks.lacks (λ may before v free usable agreed. inr (after_more (BrokenHere page) ys xs before (breaks.broken (xs ++ before) (below.alone before free page (omega arith))))) breaks.left breaks.missed
+        stopped breaks.still breaks.lacks (λ may before v free usable agreed. inr
+        (after_more (BrokenHere page) ys xs before (breaks.broken (xs ++ before) (below.alone before free page (omega arith))))) breaks.left breaks.missed
 
     -- it was won
     won_claims : end ≡ page + 1 → WinsPage deeds σ1.seat.profile d page h.steps → ClaimsPages deeds d first end σ σ2 (page + 1)
@@ -322,16 +331,16 @@ module _ {σ σ1 : Standing} {deeds : Bool} {d : Directory} {first page : ℕ} (
           from = λ v met agreed.
               let mine = agreed_later σ.seat.profile v ys xs agreed in let next = agreed_first σ.seat.profile v ys xs agreed in
               let new = wins.leads.from (xs ++ v) (page_may v met mine) next in
-              subst (GotPages (in_span first (page + 1)) d v) (sym (all_at v)) (got_both d (in_span first page) (λ q. page == q) (in_span first (page + 1)) (λ p. span_more first page p low) (so_got v met mine) new (λ p knows. knows_still σ.seat.profile d p ys (xs ++ v) next knows));
+              subst (GotPages _ d v) (sym (all_at v)) (got_both d _ (λ q. page == q) _ (λ p. span_more first page p low) (so_got v met mine) new (λ p knows. knows_still σ.seat.profile d p ys (xs ++ v) next knows));
         })
         (λ before free. let rest = others_held before free in let alone = below.alone before free page (omega arith) in record {
           right = search (arith, cases_eq, all_at);
           whole = λ p word ge lt small. elim (cases_eq p page) [
-            | inl e ↦ subst (λ q. Since (TakenWholeHere q word) (KeptHere q) ((ys ++ xs) ++ before)) (sym e) (subst (Since (TakenWholeHere page word) (KeptHere page)) (sym (all_at before)) (wins.whole (xs ++ before) alone word small))
+            | inl e ↦ subst (λ q. Since (TakenWholeHere q word) (KeptHere q) ((ys ++ xs) ++ before)) (sym e) (subst (Since _ (KeptHere page)) (sym (all_at before)) (wins.whole (xs ++ before) alone word small))
             | inr ne ↦ rest.whole p word ge (omega (arith, lt, ne)) small
           ];
         })
-        (λ before none p out. let ne = not_in first page p low out in ap (λ s. has_right s p) (all_at before) ∙ right_on page p ys (xs ++ before) h.on ne ∙ so_far.lacks before none p (grind (arith, nat_tests)))
+        (λ before none p out. let ne = not_in _ _ p low out in ap (λ s. has_right s p) (all_at _) ∙ right_on page p ys _ h.on ne ∙ so_far.lacks _ none p (grind (arith, nat_tests)))
         (λ lt. absurd (omega (arith, lt, last)))
         (omega (arith, wins.few))
         (λ p ge lt. elim (cases_eq p page) [
@@ -372,13 +381,14 @@ pages_call {R = R} d first stop end le c = call_as R c (pages_fewer d first stop
 pub call_knowing : {σ σ1 : Standing} {B : View → Type 0} {R : View → View → Type 0} {xs : List Made} (d : Directory) (pages : ℕ → Bool) → Calls σ σ1 B R xs
     → ((v : View) → B v → (p : ℕ) → pages p ≡ true → KnowsDeed p d v)
     → Calls σ σ1 B (λ v w. R v w × ((p : ℕ) → pages p ≡ true → KnowsDeed p d w)) xs
-call_knowing {σ} {xs = xs} d pages c knows = record { adds = c.adds; leads = record { from = λ v met agreed. (c.leads.from v met agreed, λ p is. knows_still σ.seat.profile d p xs v agreed (knows v met p is)) } }
+call_knowing {σ} {xs = xs} d pages c knows = search (arith, knows_still)
 
 -- Before the first page of a run is left, none is.
 pub left_none : {σ : Standing} (d : Directory) (first : ℕ) → Releases d first first σ σ
 left_none d first = record {
   steps = [];
-  calls = call_none (λ v met. does_as (of_pages (in_span first first) Lost) (does_none v) (λ g. inl (ap (λ t. if t then Lost else Kept) (sym (span_none first (g / 256))))) (λ q. ap (λ t. if t then Lost else Kept) (sym (span_none first q))) (λ q h. h));
+  calls = call_none (λ v met. does_as (of_pages (in_span first first) Lost) (does_none v) (λ g. inl
+      (ap (λ t. if t then Lost else Kept) (sym (span_none first (g / 256))))) (λ q. ap (λ t. if t then Lost else Kept) (sym (span_none first q))) (λ q h. h));
   kinds = tt;
   within = tt;
   hints = tt;
@@ -392,6 +402,7 @@ left_none d first = record {
 }
 
 module _ {σ σ1 : Standing} {d : Directory} {first page : ℕ} (end : ℕ) (so_far : Releases d first page σ σ1) (low : first ≤ page) (high : page < end) where
+  -- The pages that were left so far are lost, and the deeds of all are known.
   known : Calls σ σ1 (HasPages d first end) (λ v w. Does (of_pages (in_span first page) Lost) v w
       × ((p : ℕ) → in_span first end p ≡ true → KnowsDeed p d w)) so_far.steps
   known = call_knowing d (in_span first end) (pages_call d first page end (omega (arith, high)) so_far.calls) (λ v met. met.deeds)
@@ -416,7 +427,7 @@ abbrev OnSpan : ℕ → ℕ → Made → List Made → Type 0
 OnSpan first end m before = (p : ℕ) × (in_span first end p ≡ true) × IsOnPage p m.step
 
 off_span : (first end p : ℕ) (ys : List Made) → in_span first end p ≡ false → Always (OnSpan first end) ys → OffPage p ys
-off_span first end p ys out = always_map (OnSpan first end) (λ m before. (q : ℕ) × (p ≢ q) × IsOnPage q m.step) ys (λ m before on. (on.0, (λ e. true≢false (sym on.1 ∙ ap (in_span first end) (sym e) ∙ out)), on.2))
+off_span first end p ys out = search (arith, always_map, true≢false)
 
 abbrev ReturnsHere : (ℕ → Bool) → Made → List Made → Type 0
 ReturnsHere pages m before = (p : ℕ) → IsReturnOf p m.step → pages p ≡ true
@@ -428,16 +439,17 @@ left_more d directory first page low so_far h =
     let ys = h.after ++ h.puts in
     record {
       steps = ys ++ so_far.steps;
-      calls = call_then (Does (of_pages (in_span first (page + 1)) Lost)) (known (page + 1) so_far low (omega arith)) h.calls (leave_may (page + 1) so_far low (omega arith))
+      calls = call_then _ (known (page + 1) so_far low (omega arith)) h.calls (leave_may (page + 1) so_far low (omega arith))
           (λ v met a b. does_as (of_pages (in_span first (page + 1)) Lost) (does_then a.0 b)
-          (λ g. inl (both_fates Lost (in_span first page (g / 256)) (masked page full g) (in_span first (page + 1) (g / 256)) refl (ap (λ t. in_span first page (g / 256) || t) (on_full page g) ∙ span_more first page (g / 256) low)))
+          (λ g. inl (both_fates Lost (in_span first page (g / 256)) (masked page full g) (in_span first (page + 1) (g / 256)) refl
+          (ap (λ t. in_span first page (g / 256) || t) (on_full page g) ∙ span_more first page (g / 256) low)))
           (λ q. both_fates Lost (in_span first page q) (page == q) (in_span first (page + 1) q) refl (span_more first page q low)) (λ q h. h));
       kinds = only_both giving_back ys so_far.steps h.kinds so_far.kinds;
-      within = always_both (λ m before. IsOnPage page m.step) (ReturnsHere (in_span first (page + 1))) ys so_far.steps (λ m before on p is. ap (in_span first (page + 1)) (return_page page p m.step is on) ∙ span_in first (page + 1) page low (omega arith)) h.on
-          (always_map (ReturnsHere (in_span first page)) (ReturnsHere (in_span first (page + 1))) so_far.steps (λ m before h p is. span_wider first page (page + 1) p (omega arith) (h p is)) so_far.within);
+      within = always_both _ _ ys _ (λ m before on p is. ap (in_span first (page + 1)) (return_page page p m.step is on) ∙ span_in first (page + 1) page low
+          (omega arith)) h.on (always_map _ _ so_far.steps (λ m before h p is. span_wider first page (page + 1) p (omega arith) (h p is)) so_far.within);
       hints = left_hints page d full h so_far.steps so_far.hints;
-      on = always_both (λ m before. IsOnPage page m.step) (OnSpan first (page + 1)) ys so_far.steps (λ m before on. (page, span_in first (page + 1) page low (omega arith), on)) h.on
-          (always_map (OnSpan first page) (OnSpan first (page + 1)) so_far.steps (λ m before on. (on.0, span_wider first page (page + 1) on.0 (omega arith) on.1, on.2)) so_far.on);
+      on = always_both _ (OnSpan first (page + 1)) ys so_far.steps (λ m before on. (page, span_in first (page + 1) page low (omega arith), on)) h.on
+          (always_map (OnSpan first page) _ so_far.steps (λ m before on. (on.0, span_wider first page (page + 1) on.0 (omega arith) on.1, on.2)) so_far.on);
       left = λ before p is got. subst (LeftOrBroken d p) (sym (append_assoc ys so_far.steps before)) (elim (cases_eq p page) [
         | inl e ↦ subst (λ q. GotOf d q before → LeftOrBroken d q (ys ++ (so_far.steps ++ before))) (sym e)
             (λ here. released page d directory (so_far.steps ++ before) (got_off d page so_far.steps before (off_span first page page so_far.steps (span_past first page page (omega arith)) so_far.on) here) h) got
@@ -451,7 +463,8 @@ left_more d directory first page low so_far h =
       few = let n = length-append ys so_far.steps in omega (arith, n, h.few, so_far.few, low);
       lacks = search (arith, append_assoc, cases_eq, right_on, span_apart);
       alone = λ before p ge alone. rw (append_assoc ys so_far.steps before) (alone_on page p ys (so_far.steps ++ before) h.on (λ e. absurd (omega (arith, e, ge))) (so_far.alone before p (omega (arith, ge)) alone));
-      steady = λ g out. steady_both g ys so_far.steps (steady_on page g ys h.on (out_of first (page + 1) (g / 256) page out low (omega arith))) (so_far.steady g (narrower first page (page + 1) (g / 256) (omega arith) out));
+      steady = λ g out. steady_both g ys so_far.steps (steady_on page g ys h.on (out_of first (page + 1) (g / 256) page out low (omega arith)))
+          (so_far.steady g (narrower first page (page + 1) (g / 256) (omega arith) out));
     }
 
 -- ---- the claim of a run
@@ -470,7 +483,7 @@ run_claimed {σ} {σ1} {deeds} {d} {first} {end} {stop} e h =
       shows = all.shows;
       steady = all.steady;
       of = λ bare none. all.of bare;
-      outcome = record { few = (omega (arith, all.few)); got = all.got; holding = all.holding; lacks = all.lacks; alone = λ before free p ge. all.alone before free p (omega (arith, ge)) };
+      outcome = record { few = (omega (arith, all.few)); got = all.got; holding = all.holding; lacks = all.lacks; alone = λ before free p ge. all.alone _ free p (omega (arith, ge)) };
     }
 
 module _ {σ σ1 : Standing} {deeds : Bool} {d : Directory} {first end stop : ℕ} (h : ClaimsPages deeds d first end σ σ1 stop) (ne : stop ≢ end) where
@@ -496,16 +509,16 @@ module _ {σ σ1 : Standing} {deeds : Bool} {d : Directory} {first end stop : �
   run_failed can r =
       let calls = call_then (Does nothing) got_call r.calls may_release
       (λ v met got lost. undone (λ g. in_span first stop (g / 256)) (in_span first stop) got.apart got.lacked got.does lost) in
-      let made_below : DeedsIn d first (stop + 1) (r.steps ++ h.steps) = deeds_join d first (min (stop + 1) end) (stop + 1) stop r.steps h.steps h.span.0 (omega arith) (omega arith) (no_deeds giving_back d stop r.steps refl r.kinds) h.made in
+      let made_below = deeds_join d first _ _ stop r.steps h.steps h.span.0 (omega arith) (omega arith) (no_deeds giving_back d stop r.steps refl r.kinds) h.made in
       record {
         steps = r.steps ++ h.steps;
         adds = calls.adds;
         kinds = only_both claiming r.steps h.steps (only_within giving_back claiming r.steps refl r.kinds) h.kinds;
         old = λ none. only_both claiming_old r.steps h.steps (only_within giving_back claiming_old r.steps refl r.kinds) (h.old none);
-        returns = duly_in (in_span first stop) r.steps h.steps r.within (r.due h.steps (own_held can) (always_map ReturnsDuly GivesDuly h.steps (λ m before is. is.1) h.returns)) (λ p is. let at = in_parts first stop p is in h.gets p at.0 at.1) h.returns;
+        returns = duly_in _ r.steps h.steps r.within (r.due h.steps (own_held can) (always_map _ _ h.steps (λ m before is. is.1) h.returns)) (λ p is. let at = in_parts first stop p is in h.gets p at.0 at.1) h.returns;
         made = deeds_wider d first (stop + 1) end (r.steps ++ h.steps) (omega (arith, before_end)) made_below;
-        rise = rise_both (stop + 1) r.steps h.steps (rise_none giving_back r.steps refl r.kinds) h.rise (from_none giving_back (stop + 1) r.steps refl r.kinds) (deeds_below d first (min (stop + 1) end) (stop + 1) h.steps (omega arith) h.made);
-        shows = shows_both σ.seat.profile r.steps h.steps (shows_taking σ.seat.profile r.steps (only_within giving_back taking_grains r.steps refl r.kinds)) h.shows;
+        rise = rise_later giving_back (stop + 1) r.steps h.steps refl r.kinds (deeds_below d first _ (stop + 1) h.steps (omega arith) h.made) h.rise;
+        shows = shows_both _ r.steps h.steps (shows_taking σ.seat.profile r.steps (only_within giving_back taking_grains r.steps refl r.kinds)) h.shows;
         steady = λ g out. steady_both g r.steps h.steps (r.steady g (narrower first stop end (g / 256) h.span.1 out)) (h.steady g out);
         of = λ bare none. cc;
         outcome = record {
@@ -516,7 +529,7 @@ module _ {σ σ1 : Standing} {deeds : Bool} {d : Directory} {first end stop : �
           lacks = λ before none p. ap (λ s. has_right s p) (append_assoc r.steps h.steps before) ∙ r.lacks (h.steps ++ before) p (λ out. h.lacks before none p out);
           alone = λ before free p ge. rw (append_assoc r.steps h.steps before) (r.alone (h.steps ++ before) p (omega (arith, ge)) (h.alone before free p (omega (arith, ge))));
           failed = λ may before v free usable agreed.
-              let mine : Agreed σ.seat.profile v (h.steps ++ before) = agreed_later σ.seat.profile v r.steps (h.steps ++ before) (subst (Agreed σ.seat.profile v) (append_assoc r.steps h.steps before) agreed) in
+              let mine = agreed_later σ.seat.profile v r.steps _ (subst (Agreed σ.seat.profile v) (append_assoc r.steps h.steps before) agreed) in
               elim (h.failed before_end may before v free usable mine) [
                 | inl lost ↦ inl (once_later (λ m b. LostHere d stop m (b ++ before)) r.steps h.steps lost)
                 | inr broken ↦ inr (once_later (λ m b. BrokenHere stop m (b ++ before)) r.steps h.steps broken)

@@ -1,39 +1,41 @@
 -- The search for a run that can be claimed, one run more.
-use Rattle.pas_steps.proofs.{SpareRoom.Spares, Frames.right_own, Apart.no_events, Apart.only_both, Apart.only_within, Kept.deed_stays, Unknown.unknown_no_more}
-use Rattle.pas_steps.proofs.{Evidence.unknown}
+use Rattle.pas_steps.proofs.{SpareRoom.Spares, Frames.right_own, Apart.only_within, Frames.deed_stays, Evidence.unknown, Apart.only_both}
 use Rattle.std.proofs.Common.{ℕ, ◌+◌, ◌<◌, ◌≤◌, List, [], ◌++◌, refl, ◌∙◌, inl, inr, ◌⊎◌, arith, Option, ◌≡◌, true, Some, None, ap, sym, subst, append_assoc}
-use Rattle.std.proofs.Common.{true≢false, length, ◌*◌, length-append, Bool, append-nil}
+use Rattle.std.proofs.Common.{true≢false, false, length, ◌*◌, length-append, Bool, append-nil, ◌∷◌, Result, MatchResult, Ok, Err}
 use Rattle.std.proofs.lemmas.Bool.{cases_lt, cases_eq}
-use Rattle.pas_profile.specs.declared.{directory.Directory.Directory, profile.Profile.Profile}
+use Rattle.pas_profile.specs.declared.{directory.Directory.Directory, profile.Profile.Profile, event.NoRoom.NoRoom, name.Block.Block}
 use Rattle.pas_steps.specs.{Views.View, Views.known_deed, Views.KnowsDeed, Agreement.Agreed, Past.Once, Past.Always, Calls.Leads, Calls.nothing, Calls.Does}
-use Rattle.pas_steps.specs.{Lists.Whole, Lists.part, Lists.Legal}
-use Rattle.pas_steps.specs.Kinds.{Only, kind_of, is_in, looking}
+use Rattle.pas_steps.specs.{Lists.Whole, Lists.part, Lists.Legal, Frames.OnlyScans}
+use Rattle.pas_steps.specs.Kinds.{Kinds, Deeding, Only, kind_of, is_in, looking, apart, righting, moving, Backing, returning}
 use Rattle.pas_scan.specs.Runs.{page_looks, HasUnusable, IsFirstRun, HasNoRun, IsInRun, FindsRun}
 use Rattle.pas_steps.specs.declared.step.{Made.Made, Step.TheVariants.Deed}
 use Rattle.pas_steps.proofs.Past.{once_later, once_earlier, once_map, always_both, always_map}
-use Rattle.pas_scan.specs.Usable.{DeedReadHere, UnusableHere, LeftAlone, ParksNotHere, MakesNoDeedHere, ReadUsable}
+use Rattle.pas_scan.specs.Usable.{DeedReadHere, UnusableHere, LeftAlone, ReadUsable}
 use Rattle.pas_scan.proofs.LeftPages.{usable_before, usable_later, unusable_before, left_alone_by, holds_own, deed_before, lacks_by}
 use Rattle.pas_search.specs.Kinds.{ReturnsDuly}
-use Rattle.pas_search.proofs.Returns.{duly_both, duly_none}
-use Rattle.pas_large.specs.Evidence.{DeedsBelow, DeedsRise, LostHere, BrokenHere, BadHere, HasBad, IsVain, AllUsable, FailsHere, HasFailed, DeedsOf}
-use Rattle.pas_large.specs.Pages.{OnceAfter, GotPages, OnlyDeedsShow, claiming}
-use Rattle.pas_large.specs.Claims.{AloneFrom, FailsRun, in_span, MayClaimPages, HasRunRoom, LacksAll, ClaimsRun, HoldsRun}
+use Rattle.pas_search.proofs.PagesThatServe.{duly_both, duly_none}
+use Rattle.pas_large.specs.Evidence.{LostHere, BrokenHere, BadHere, HasBad, IsVain, AllUsable, FailsHere, HasFailed, DeedsOf}
+use Rattle.pas_large.specs.{Pages.OnceAfter, Telling.IsUsableRun, Telling.IsLowestRun, Gives.pages_from, Gives.run_block, Pages.OnlyDeedsShow}
+use Rattle.pas_large.specs.{Pages.claiming_old}
+use Rattle.pas_large.specs.Claims.{AloneFrom, DeedsIn, FailsRun, in_span, MayClaimPages, HasRunRoom, LacksAll, ClaimsRun, HoldsRun}
 use Rattle.pas_steps.specs.Desks.{Seat, Standing, Adds, CanCall, triples}
 use Rattle.pas_steps.proofs.Adding.{Tells, adds_none, adds_call, agreed_first, agreed_later, legal_after}
 use Rattle.pas_steps.proofs.Calls.{does_none, leads_none, leads_idly, leads_then, does_then, still_clear}
 use Rattle.pas_profile.specs.{Directories.IsKind, Profiles.IsValid}
 use Rattle.pas_core.proofs.{Nexts.agreed_steps, OneActor.lends_none, OneActor.legal_earlier}
-use Rattle.pas_large.specs.Telling.{IsUsableRun, IsLowestRun}
-use Rattle.pas_large.proofs.Told.{usable_told, has_unusable, fails_told}
+use Rattle.pas_large.proofs.{Told.usable_told, Told.has_unusable, Told.fails_told, Claims.orderly_claim, Claims.room_after, Claims.got_after}
+use Rattle.pas_large.proofs.Left.{parks_both, deeds_both, only_backs, backs_few, only_leaves}
 use Rattle.pas_large.specs.Finds.{MayFind, FindRoom, finding, Finds}
-use Rattle.pas_large.proofs.Pages.{below_both, below_none, below_wider, from_none, rise_none, rise_both, shows_both, known_of}
-use Rattle.pas_large.proofs.Claims.{deeds_below, deeds_from, room_after, got_after}
+use Rattle.pas_large.proofs.Pages.{Orderly, orderly_later, orderly_wider, known_of, shows_both}
+use Rattle.pas_large.specs.Allocates.{GaveLarge, IsAllocatedLarge, IsRefusedLarge, IsServedNamed, IsScanned}
+use Rattle.pas_rights.specs.Gives.{give_steps}
 
 -- ---- the search of runs so far: each run that begins below page `from` can't serve, and the pages from there to below `next` were read as usable
 pub record VainSoFar (d : Directory) (n from next : ℕ) (steps : List Made) : Type 0 where
   pub order : (from ≤ next) × (next < from + n)
   pub runs : (first : ℕ) → 1 ≤ first → first < from → HasBad d n first steps
   pub deeds : (page : ℕ) → 1 ≤ page → page < next → Once (DeedReadHere page) steps
+  -- Each page of the run was read as usable.
   pub usable : (page : ℕ) → from ≤ page → page < next → ReadUsable d page steps
   pub alone : AloneFrom from steps
 
@@ -48,16 +50,30 @@ unusable_bad d n from first ys xs alone ge h =
     let low = h.1.0 in
     (h.0, h.1, once_map (UnusableHere d h.0) (BadHere d h.0) (ys ++ xs) (λ m b x. inl x) (unusable_before d h.0 ys xs (alone h.0 (omega (arith, ge, low))) h.2))
 
--- looks at pages leave each page alone
-pub alone_looks : (p : ℕ) (ys xs : List Made) → Only page_looks ys → LeftAlone p xs → LeftAlone p (ys ++ xs)
-alone_looks p ys xs looks alone =
-    let own = left_alone_by page_looks refl refl p ys looks in
+-- Steps that move no grain and no right leave each page alone.
+pub alone_later : (ks : Kinds) (p : ℕ) (ys xs : List Made) → apart ks righting ≡ true → apart ks moving ≡ true → Only ks ys → LeftAlone p xs
+    → LeftAlone p (ys ++ xs)
+alone_later ks p ys xs rights grains only alone =
+    let own = left_alone_by ks rights grains p ys only in
     record {
       right = right_own p ys xs alone.right ∙ own.right;
       none = λ g at. holds_own g ys xs (alone.none g at) ∙ own.none g at;
-      parks = always_both (ParksNotHere p) (ParksNotHere p) ys xs (λ m before h. h) own.parks alone.parks;
-      deeds = always_both (MakesNoDeedHere p) (MakesNoDeedHere p) ys xs (λ m before h. h) own.deeds alone.deeds;
+      parks = parks_both p ys xs own.parks alone.parks;
+      deeds = deeds_both p ys xs own.deeds alone.deeds;
     }
+
+-- So do looks at pages.
+pub alone_looks : (p : ℕ) (ys xs : List Made) → Only page_looks ys → LeftAlone p xs → LeftAlone p (ys ++ xs)
+alone_looks p ys xs = alone_later page_looks p ys xs refl refl
+
+-- a page at which a claim failed was lost or broken
+abbrev pub LostAfter : List Made → Directory → ℕ → Made → List Made → Type 0
+LostAfter xs d page m b = LostHere d page m (b ++ xs) ⊎ BrokenHere page m (b ++ xs)
+
+-- Where it was lost once or broken once, it was one of both.
+pub lost_after : (xs : List Made) (d : Directory) (page : ℕ) (zs : List Made) → OnceAfter xs (LostHere d page) zs ⊎ OnceAfter xs (BrokenHere page) zs
+    → Once (LostAfter xs d page) zs
+lost_after xs d page zs lost = search (arith, once_map)
 
 -- the search found no run
 vain_ends : (f : Profile) (d : Directory) (n from next : ℕ) (ys xs : List Made) → 1 ≤ from → VainSoFar d n from next xs → HasNoRun f d from next n ys
@@ -96,11 +112,9 @@ module _ {f : Profile} {d : Directory} {n from next first : ℕ} {ys xs : List M
 
   -- and its claim failed
   module _ (page : ℕ) (zs : List Made) (fails : FailsRun true f d first (first + n) page zs) (v : View) (agreed : Agreed f v (zs ++ (ys ++ xs))) where
-    failed : OnceAfter before (λ m b. LostHere d page m b ⊎ BrokenHere page m b) zs
-    failed = elim (fails.failed refl before v first_alone (all_usable page (fails.in_run.0, fails.in_run.1)) agreed) [
-      | inl lost ↦ once_map (λ m b. LostHere d page m (b ++ before)) (λ m b. LostHere d page m (b ++ before) ⊎ BrokenHere page m (b ++ before)) zs (λ m b x. inl x) lost
-      | inr broken ↦ once_map (λ m b. BrokenHere page m (b ++ before)) (λ m b. LostHere d page m (b ++ before) ⊎ BrokenHere page m (b ++ before)) zs (λ m b x. inr x) broken
-    ]
+    -- The claim failed at a page that was lost or broken.
+    failed : Once (LostAfter before d page) zs
+    failed = lost_after before d page zs (fails.failed refl before v first_alone (all_usable page (fails.in_run.0, fails.in_run.1)) agreed)
 
     vain_goes_on : VainSoFar d n (page + 1) (first + n) (zs ++ (ys ++ xs))
     vain_goes_on = record {
@@ -108,7 +122,7 @@ module _ {f : Profile} {d : Directory} {n from next first : ℕ} {ys xs : List M
       runs = λ s low lt. elim (cases_lt s first) [
         | inl early ↦ lower_bad zs s low early
         | inr late ↦ let high = fails.in_run.1 in
-            (page, (omega (arith, lt), omega (arith, late, high)), once_earlier (λ m b. LostHere d page m (b ++ before) ⊎ BrokenHere page m (b ++ before)) (BadHere d page) zs before (λ m b x. inr x) failed)
+            (page, (omega (arith, lt), omega (arith, late, high)), once_earlier (LostAfter before d page) (BadHere d page) zs before (λ m b x. inr x) failed)
       ];
       deeds = λ p low lt. elim (cases_lt p next) [
         | inl below ↦ once_later (DeedReadHere p) zs before (once_later (DeedReadHere p) ys xs (so_far.deeds p low below))
@@ -119,15 +133,12 @@ module _ {f : Profile} {d : Directory} {n from next first : ℕ} {ys xs : List M
     }
 
     run_has_failed : HasFailed d n first (zs ++ (ys ++ xs))
-    run_has_failed = once_earlier (λ m b. LostHere d page m (b ++ before) ⊎ BrokenHere page m (b ++ before)) (FailsHere d n first) zs before (λ m b x. (usable_still b, (page, (fails.in_run.0, fails.in_run.1), x))) failed
+    run_has_failed = once_earlier _ (FailsHere d n first) zs before (λ m b x. (usable_still b, (page, (fails.in_run.0, fails.in_run.1), x))) failed
 
 -- ---- the search for a run that can be claimed, one run more
 -- of a page that was read as usable the deed wasn't known, or as the directory's
 pub knew : (f : Profile) (d : Directory) (p : ℕ) (xs : List Made) (v : View) → Agreed f v xs → ReadUsable d p xs → (known_deed v p ≡ 0) ⊎ KnowsDeed p d v
-knew f d p xs v agreed usable = elim (cases_eq (known_deed v p) 0) [
-  | inl none ↦ inl none
-  | inr some ↦ elim usable [ inl bare ↦ absurd (unknown f v p xs agreed bare some) | inr whole ↦ inr (sym (deed_stays f xs v p agreed some) ∙ known_of f d p xs v agreed whole.of) ]
-]
+knew f d p xs v agreed usable = search (arith, cases_eq, unknown, deed_stays, known_of)
 
 -- ---- deeds
 abbrev pub DeedOf : Directory → ℕ → (ℕ → Type 0) → Made → List Made → Type 0
@@ -135,22 +146,23 @@ DeedOf d n Chosen m before = (page : ℕ) (e : Directory) → m.step ≡ Deed pa
 
 -- Deeds of pages of chosen runs are such of runs chosen in any weaker way.
 pub deeds_map : (d : Directory) (n : ℕ) (P Q : ℕ → Type 0) (steps : List Made) → ((s : ℕ) → P s → Q s) → DeedsOf d n P steps → DeedsOf d n Q steps
-deeds_map d n P Q steps more = always_map (DeedOf d n P) (DeedOf d n Q) steps (λ m before h p e same z. let its = h p e same z in (its.0, (its.1.0, its.1.1, its.1.2, more its.1.0 its.1.3)))
+deeds_map d n P Q steps more = always_map _ _ steps (λ m before h p e same z. let its = h p e same z in (its.0, (its.1.0, its.1.1, its.1.2, more _ its.1.3)))
 
-deeds_looks : (d : Directory) (n : ℕ) (P : ℕ → Type 0) (ys xs : List Made) → Only page_looks ys → DeedsOf d n P xs → DeedsOf d n P (ys ++ xs)
-deeds_looks d n P ys xs looks = always_both (λ m before. is_in page_looks (kind_of m.step) ≡ true) (DeedOf d n P) ys xs (λ m before is p e same z. absurd (true≢false (sym is ∙ ap (λ s. is_in page_looks (kind_of s)) same))) looks
+-- Steps without a deed, after deeds of runs that were chosen in a stronger way.
+pub deeds_later : (ks : Kinds) (d : Directory) (n : ℕ) (P Q : ℕ → Type 0) (ys xs : List Made) → ((s : ℕ) → P s → Q s) → is_in ks Deeding ≡ false
+    → Only ks ys → DeedsOf d n P xs → DeedsOf d n Q (ys ++ xs)
+deeds_later ks d n P Q ys xs more none only deeds =
+    always_both (λ m before. is_in ks (kind_of m.step) ≡ true) (DeedOf d n Q) ys xs
+    (λ m before is p e same z. absurd (true≢false (sym is ∙ ap (λ s. is_in ks (kind_of s)) same ∙ none))) only (deeds_map d n P Q xs more deeds)
 
 -- ---- the search so far
 pub record SearchedRuns (d : Directory) (n from next : ℕ) (desk desk' : Standing) : Type 0 where
   pub steps : List Made
   pub adds : Adds desk desk' (MayFind d) steps
   pub still : Leads desk.seat.profile (MayFind d) (Does nothing) steps
-  pub shows : OnlyDeedsShow desk.seat.profile steps
+  pub orderly : Orderly finding desk.seat.profile from steps
   pub lacks : LacksAll steps
-  pub kinds : Only finding steps
   pub returns : Always ReturnsDuly steps
-  pub rise : DeedsRise steps
-  pub below : DeedsBelow from steps
   pub within : next ≤ desk.seat.profile.pages + 1
   pub few : length steps + 54 ≤ 6 * next + 48 * from
   pub vain : VainSoFar d n from next steps
@@ -167,16 +179,13 @@ IsFirstAlone f d from next steps = (k : ℕ) (l : Whole) → Legal f (triples k 
 -- Before the first run is looked for, the search passed none.
 pub searched_none : {σ : Standing} (d : Directory) (n : ℕ) → 1 ≤ n → SearchedRuns d n 1 1 σ σ
 searched_none d n some = record {
-  kinds = tt;
+  orderly = record { kinds = tt; rise = tt; below = tt; shows = λ k v agreed. omega arith };
   returns = tt;
-  rise = tt;
-  below = tt;
   within = omega arith;
   few = omega arith;
   steps = [];
   adds = adds_none;
   still = leads_none (λ v met. does_none v);
-  shows = λ k v agreed. omega arith;
   lacks = λ p. refl;
   vain = record { order = (omega arith, omega (arith, some)); runs = λ s low lt. absurd (omega (arith, low, lt)); deeds = λ p low lt. absurd (omega (arith, low, lt)); usable = λ p ge lt. absurd (omega (arith, ge, lt)); alone = λ p ge. left_alone_by page_looks refl refl p [] tt };
   deeds = tt;
@@ -207,24 +216,16 @@ module _ {σ σ1 : Standing} {d : Directory} {n from next : ℕ} (so_far : Searc
     look_still : Leads f (MayFind d) (Does nothing) (ys ++ xs)
     look_still = leads_then (Does nothing) so_far.still (leads_idly f page_looks refl ys find.kinds) (λ v w met does. tt) (λ v w u a b. does_then a b)
 
-    look_kinds : Only finding (ys ++ xs)
-    look_kinds = only_both finding ys xs (only_within page_looks finding ys refl find.kinds) so_far.kinds
+    look_orderly : Orderly finding f from (ys ++ xs)
+    look_orderly = orderly_later page_looks ys xs refl refl refl find.kinds so_far.orderly
 
     look_returns : Always ReturnsDuly (ys ++ xs)
     look_returns = duly_both ys xs (duly_none page_looks ys refl refl find.kinds) so_far.returns
 
-    look_rise : DeedsRise (ys ++ xs)
-    look_rise = rise_both from ys xs (rise_none page_looks ys refl find.kinds) so_far.rise (from_none page_looks from ys refl find.kinds) so_far.below
-
-    look_below : DeedsBelow from (ys ++ xs)
-    look_below = below_both from ys xs (below_none page_looks from ys refl find.kinds) so_far.below
-
-    look_shows : OnlyDeedsShow f (ys ++ xs)
-    look_shows = shows_both f ys xs (λ k v agreed. let none = ap (λ es. length es) (no_events page_looks refl k v ys find.kinds) in let stays = unknown_no_more f ys v agreed in omega (arith, none, stays)) so_far.shows
-
     look_lacks : LacksAll (ys ++ xs)
     look_lacks p = right_own p ys xs (so_far.lacks p) ∙ lacks_by page_looks refl p ys find.kinds
 
+    -- The region's profile is the same after the search.
     same : σ1.seat.profile ≡ f
     same = ap (λ (s : Seat). s.profile) so_far.adds.seat_is
 
@@ -247,18 +248,19 @@ module _ {σ σ1 : Standing} {d : Directory} {n from next : ℕ} (so_far : Searc
         let legal = legal_alone find (laws t) at.2 v l stood met in
         let only = looks_alone find at.2 in
         let none = subst (λ x. HasNoRun x d from next n find.steps) (same find) find.outcome in
-        (λ start low le usable. has_unusable f σ.seat.actor l d n start find.steps legal only (none.runs start (omega (arith, at.0, low)) le) usable, subst (Only looking) (sym (all_alone find at.2)) only);
+        (λ start low le usable. has_unusable f _ l d n start _ legal only (none.runs start (omega (arith, at.0, low)) le) usable, subst (Only looking) (sym (all_alone find at.2)) only);
     steps = find.steps ++ xs;
     adds = look_adds find;
-    kinds = look_kinds find;
+    kinds = (look_orderly find).kinds;
     returns = look_returns find;
-    shows = look_shows find;
-    few = (let k = length-append find.steps xs in let e = ap (λ (x : Profile). x.pages) (same find) in omega (arith, k, find.few, so_far.few, so_far.within, e, so_far.vain.order.0));
+    shows = (look_orderly find).shows;
+    few = (let k = length-append find.steps xs in let e = ap (λ x. x.pages) (same find) in omega (arith, k, find.few, so_far.few, so_far.within, e, so_far.vain.order.0));
     outcome = record {
       still = look_still find;
       vain = vain_ends f d n from next find.steps xs low so_far.vain (subst (λ x. HasNoRun x d from next n find.steps) (same find) find.outcome);
-      deeds = deeds_looks d n (λ other. HasFailed d n other (find.steps ++ xs)) find.steps xs find.kinds (deeds_map d n (λ other. HasFailed d n other xs) (λ other. HasFailed d n other (find.steps ++ xs)) xs (λ s h. once_later _ find.steps xs h) so_far.deeds);
-      rise = look_rise find;
+      deeds = deeds_later page_looks d n (λ s. HasFailed d n s xs) (λ s. HasFailed d n s (find.steps ++ xs)) find.steps xs
+          (λ s h. once_later _ find.steps xs h) refl find.kinds so_far.deeds;
+      rise = (look_orderly find).rise;
       lacks = look_lacks find;
     };
     looked = λ none k l legal met. let at = alone k l (legal_earlier f k find.steps xs l legal) met in subst (Only looking) (sym (all_alone find at.2)) (looks_alone find at.2);
@@ -291,7 +293,7 @@ module _ {σ σ1 : Standing} {d : Directory} {n from next : ℕ} (so_far : Searc
           stood = adds.added can.view can.whole can.stood met;
           met = subst (λ (s : Seat). HasRunRoom s.profile d first (first + n) 1 spare2 (ls ++ can.view)) (sym adds.seat_is) (record {
             may = run_may can.view met (adds.agreed can.view can.whole can.stood met);
-            room = room_after {spare = spare} {spare' = spare2} 1 adds (may_find can) (look_shows find) can.met.room law law2;
+            room = room_after {spare = spare} {spare' = spare2} 1 adds (may_find can) (look_orderly find).shows can.met.room law law2;
           });
         }
 
@@ -299,28 +301,23 @@ module _ {σ σ1 : Standing} {d : Directory} {n from next : ℕ} (so_far : Searc
       abbrev zs : List Made
       zs = claim.steps
 
+      -- The region's profile is the same after the claim.
       same2 : σ2.seat.profile ≡ f
       same2 = ap (λ (s : Seat). s.profile) (look_adds find).seat_is
 
       claim_adds : Adds σ σ3 (MayFind d) (zs ++ ls)
-      claim_adds = let adds = look_adds find in adds_call {D = MayClaimPages d first (first + n)} adds claim.adds (λ v l stood met. run_may v met (adds.agreed v l stood met))
+      claim_adds = let adds = look_adds find in adds_call {D = MayClaimPages d first _} adds claim.adds (λ v l stood met. run_may v met (adds.agreed v l stood met))
 
-      claim_kinds : Only finding (zs ++ ls)
-      claim_kinds = only_both finding zs ls (only_within claiming finding zs refl claim.kinds) (look_kinds find)
+      claim_orderly : (stop : ℕ) → first ≤ stop → DeedsIn d first stop zs → Orderly finding f stop (zs ++ ls)
+      claim_orderly stop le made = orderly_claim claim ls stop same2 refl le made (orderly_wider from first ls run_at.from_there (look_orderly find))
 
       claim_returns : Always ReturnsDuly (zs ++ ls)
       claim_returns = duly_both zs ls claim.returns (look_returns find)
 
-      claim_rise : DeedsRise (zs ++ ls)
-      claim_rise = rise_both first zs ls claim.rise (look_rise find) (deeds_from d first (first + n) zs claim.made) (below_wider from first ls run_at.from_there (look_below find))
-
-      claim_shows : OnlyDeedsShow f (zs ++ ls)
-      claim_shows = shows_both f zs ls (subst (λ x. OnlyDeedsShow x zs) same2 claim.shows) (look_shows find)
-
       claim_deeds : (P : ℕ → Type 0) → P first → ((s : ℕ) → HasFailed d n s xs → P s) → DeedsOf d n P (zs ++ ls)
-      claim_deeds P its more = always_both (λ m before. (p : ℕ) (e : Directory) → m.step ≡ Deed p e → m.answer ≡ 0 → (e ≡ d) × (first ≤ p) × (p < first + n)) (DeedOf d n P) zs ls
+      claim_deeds P its more = always_both _ (DeedOf d n P) zs ls
           (λ m before h p e is z. let at = h p e is z in (at.0, (first, (at.1, at.2), usable_still so_far.vain run_at low find.kinds before, its)))
-          claim.made (deeds_looks d n P find.steps xs find.kinds (deeds_map d n (λ other. HasFailed d n other xs) P xs more so_far.deeds))
+          claim.made (deeds_later page_looks d n (λ s. HasFailed d n s xs) P find.steps xs more refl find.kinds so_far.deeds)
 
     -- where no other actor made a step between them all its pages are usable
     usable_alone : (k : ℕ) (l : Whole) → Legal f (triples k find.steps ++ l) → (from ≡ 1) × (next ≡ 1) × (xs ≡ []) → IsUsableRun d n l first
@@ -343,7 +340,7 @@ module _ {σ σ1 : Standing} {d : Directory} {n from next : ℕ} (so_far : Searc
         let agreed = agreed_steps f k l (claim.steps ++ ls) valid legal in
         let fails = subst (λ x. FailsRun true x d first (first + n) page claim.steps) (same2 claim) claim.outcome in
         let looks = subst (λ zs. Legal f (triples k zs ++ l)) (all_alone find at.2) (legal_earlier f k claim.steps ls l legal) in
-        fails_told f k l d n first (claim.steps ++ ls) kind legal (lends_none finding refl (claim.steps ++ ls) (claim_kinds claim))
+        fails_told f k l d n first _ kind legal (lends_none finding refl (claim.steps ++ ls) (claim_orderly claim (first + n) (omega arith) claim.made).kinds)
         (usable_alone k l looks at)
         (λ p here. met.lacks p (knew f d p ls (part k l) (agreed_later f (part k l) claim.steps ls agreed) (usable p here)))
         (run_has_failed so_far.vain run_at low find.kinds page claim.steps fails (part k l) agreed)
@@ -351,7 +348,7 @@ module _ {σ σ1 : Standing} {d : Directory} {n from next : ℕ} (so_far : Searc
     -- on a desk that tells the whole state
     pub never_fails : {σ3 : Standing} → IsKind d.kind → IsValid f → Tells σ3 → (page : ℕ) → (claim : ClaimsRun true d first (first + n) σ2 σ3 (Some page))
         → (from ≡ 1) × (next ≡ 1) × (xs ≡ []) → (can : CanCall σ (MayFind d)) → part σ.seat.actor can.whole ≡ can.view → ⊥
-    never_fails kind valid tells page claim at can own = fails_alone kind valid page claim at σ.seat.actor can.whole (legal_after (claim_adds claim) tells can.view can.whole can.stood can.met) (subst (MayFind d) (sym own) can.met)
+    never_fails kind valid tells page claim at can own = fails_alone kind valid page claim at _ _ (legal_after (claim_adds claim) tells can.view _ can.stood can.met) (subst (MayFind d) (sym own) can.met)
 
     -- its claim failed
     pub goes_on : {σ3 : Standing} → CanCall σ (MayFind d) → (page : ℕ) → ClaimsRun true d first (first + n) σ2 σ3 (Some page)
@@ -369,16 +366,13 @@ module _ {σ σ1 : Standing} {d : Directory} {n from next : ℕ} (so_far : Searc
                 let before = agreed_later f v claim.steps ls agreed in
                 rw (append_assoc claim.steps ls v) (does_then ((look_still find).from v met before) (fails.still.from (ls ++ v) (run_may v met before) (agreed_first f v claim.steps ls agreed)));
           };
-          kinds = claim_kinds claim;
+          orderly = claim_orderly claim (page + 1) (omega (arith, fails.in_run.0)) fails.made;
           returns = claim_returns claim;
-          rise = claim_rise claim;
-          below = below_both (page + 1) claim.steps ls (deeds_below d first (page + 1) (page + 1) claim.steps (omega arith) fails.made) (below_wider from (page + 1) ls (omega (arith, run_at.from_there, fails.in_run.0)) (look_below find));
-          shows = claim_shows claim;
           lacks = fails.lacks ls (look_lacks find);
           within = run_at.of_region;
           few = (let k = length-append claim.steps ls in let j = length-append find.steps xs in omega (arith, k, j, find.few, so_far.few, fails.few, run_at.from_there));
           vain = vain_goes_on so_far.vain run_at low find.kinds page claim.steps fails can.view agreed;
-          deeds = claim_deeds claim (λ other. HasFailed d n other (claim.steps ++ ls)) failed (λ s h. once_later _ claim.steps ls (once_later _ find.steps xs h));
+          deeds = claim_deeds claim _ failed (λ s h. once_later _ claim.steps ls (once_later _ find.steps xs h));
         }
 
     -- so nothing was done before, where no other actor made a step between these
@@ -396,14 +390,15 @@ module _ {σ σ1 : Standing} {d : Directory} {n from next : ℕ} (so_far : Searc
     finds_run tells laws alone some claim =
         let holds_it = subst (λ x. HoldsRun x d first (first + n) claim.steps) (same2 claim) claim.outcome in
         let span = holds_it.holding ls (first_alone so_far.vain run_at low find.kinds) in
+        let orderly = claim_orderly claim (first + n) (omega arith) claim.made in
         record {
           steps = claim.steps ++ ls;
           adds = claim_adds claim;
           told = λ t v l stood met. lowest_told l (legal_alone find (laws t) (alone t).2 v l stood met) (alone t);
           looked = λ none. cc;
-          kinds = claim_kinds claim;
+          kinds = orderly.kinds;
           returns = claim_returns claim;
-          shows = claim_shows claim;
+          shows = orderly.shows;
           few = (let k = length-append claim.steps ls in let j = length-append find.steps xs in omega (arith, k, j, find.few, so_far.few, holds_it.few, run_at.from_there, run_at.of_region));
           outcome = record {
             of_region = (omega (arith, run_at.from_there, low), run_at.of_region);
@@ -419,7 +414,108 @@ module _ {σ σ1 : Standing} {d : Directory} {n from next : ℕ} (so_far : Searc
               whole = λ p word is lt. span.whole p word is.0 is.1 lt;
             };
             lower = lower_bad so_far.vain run_at low find.kinds claim.steps;
-            rise = claim_rise claim;
-            deeds = claim_deeds claim (λ other. (other ≡ first) ⊎ HasFailed d n other (claim.steps ++ ls)) (inl refl) (λ s h. inr (once_later _ claim.steps ls (once_later _ find.steps xs h)));
+            rise = orderly.rise;
+            deeds = claim_deeds claim _ (inl refl) (λ s h. inr (once_later _ claim.steps ls (once_later _ find.steps xs h)));
           };
         }
+
+-- A request for whole pages, however its run was found: what its steps did.
+-- each deed that was made is of the directory
+abbrev pub MadeOf : Directory → List Made → Type 0
+MadeOf d = Always (λ m before. (p : ℕ) (e : Directory) → m.step ≡ Deed p e → m.answer ≡ 0 → e ≡ d)
+
+-- a run was got by the first of these steps, and given and left by the others
+pub record IsGivenRun (f : Profile) (d : Directory) (n : ℕ) (got after : List Made) (block : Block) : Type 0 where
+  pub first : ℕ
+  pub of_region : (1 ≤ first) × (first + n ≤ f.pages + 1)
+  pub made : MadeOf d got
+  pub backs : List Made
+  pub back_kinds : Only (Backing ∷ []) backs
+  pub back_few : length backs ≤ n
+  pub word : ℕ
+  pub answer : ℕ
+  pub block_is : block ≡ run_block d first n word
+  pub left : List Made
+  pub left_kinds : Only returning left
+  pub after_is : after ≡ left ++ (give_steps first 0 block word answer ++ backs)
+  pub gave : Leads f (MayFind d) (GaveLarge d first n block) (after ++ got)
+
+-- nothing was got, and looks followed
+pub record IsRefusedRun (f : Profile) (d : Directory) (got after : List Made) : Type 0 where
+  pub made : MadeOf d got
+  pub scans : OnlyScans after
+  pub still : Leads f (MayFind d) (Does nothing) (after ++ got)
+
+-- the steps of a request in two parts
+pub record HasEnded (f : Profile) (d : Directory) (n : ℕ) (steps : List Made) (answer : Result Block NoRoom) : Type 0 where
+  pub got : List Made
+  pub after : List Made
+  pub kinds : Only finding got
+  pub shows : OnlyDeedsShow f got
+  pub outcome : MatchResult answer (IsGivenRun f d n got after) (λ why. IsRefusedRun f d got after)
+  pub steps_are : steps ≡ after ++ got
+
+-- Deeds of pages of runs are of their directory alone.
+pub of_directory : (d : Directory) (n : ℕ) (P : ℕ → Type 0) (steps : List Made) → DeedsOf d n P steps → MadeOf d steps
+of_directory d n P steps deeds = always_map _ _ steps (λ m before h p e same z. (h p e same z).0) deeds
+
+module _ (f : Profile) (d : Directory) (n : ℕ) (tried : List Made) (old : Only claiming_old tried) (shows : OnlyDeedsShow f tried) where
+  named_ended : (found : Option ℕ) (rest : List Made) (answer : Result Block NoRoom) → IsServedNamed f d n found tried rest answer
+      → HasEnded f d n (rest ++ tried) answer
+  named_ended found rest answer served = let block = served.0 in let is = served.2 in record {
+    got = tried;
+    after = rest;
+    kinds = only_within claiming_old finding tried refl old;
+    shows = shows;
+    outcome = subst (λ a. MatchResult a (IsGivenRun f d n tried rest) (λ why. IsRefusedRun f d tried rest)) (sym served.1) (record {
+      first = is.first;
+      of_region = is.holds_it.of_region;
+      made = search (arith, always_map, true≢false);
+      backs = is.backs;
+      back_kinds = only_backs is.first n is.backs is.back_order;
+      back_few = backs_few is.first n is.backs is.back_order;
+      word = is.word;
+      answer = is.answer;
+      block_is = is.block_is;
+      left = is.left;
+      left_kinds = only_leaves d (pages_from is.first n) is.left is.left_order;
+      after_is = is.after_is;
+      gave = is.gave;
+    });
+    steps_are = refl;
+  }
+
+  scan_outcome : (got after : List Made) (answer : Result Block NoRoom) → MatchResult answer (IsAllocatedLarge f d n got after) (IsRefusedLarge f d n got after)
+      → MatchResult answer (IsGivenRun f d n got after) (λ why. IsRefusedRun f d got after)
+  scan_outcome got after (Ok block) is = record {
+    first = is.first;
+    of_region = is.found.of_region;
+    made = of_directory d n _ got is.found.deeds;
+    backs = is.backs;
+    back_kinds = only_backs is.first n is.backs is.back_order;
+    back_few = backs_few is.first n is.backs is.back_order;
+    word = is.word;
+    answer = is.answer;
+    block_is = is.block_is;
+    left = is.left;
+    left_kinds = only_leaves d (pages_from is.first n) is.left is.left_order;
+    after_is = is.after_is;
+    gave = is.gave;
+  }
+  scan_outcome got after (Err why) is = record { made = of_directory d n _ got is.found.deeds; scans = is.scans; still = is.still }
+
+  scan_ended : {found : Option ℕ} (rest : List Made) (answer : Result Block NoRoom) → IsScanned f d n found tried rest answer
+      → HasEnded f d n (rest ++ tried) answer
+  scan_ended rest answer is = record {
+    got = is.searched ++ tried;
+    after = is.after;
+    kinds = only_both finding is.searched tried is.kinds (only_within claiming_old finding tried refl old);
+    shows = shows_both f is.searched tried is.shows shows;
+    outcome = scan_outcome (is.searched ++ tried) is.after answer is.outcome;
+    steps_are = ap (λ xs. xs ++ tried) is.rest_is ∙ append_assoc is.after is.searched tried;
+  }
+
+  -- The steps of a request for whole pages, by the door or by the scan, are those of its search and then its end.
+  pub ended : (found : Option ℕ) (rest : List Made) (answer : Result Block NoRoom)
+      → IsServedNamed f d n found tried rest answer ⊎ IsScanned f d n found tried rest answer → HasEnded f d n (rest ++ tried) answer
+  ended found rest answer outcome = elim outcome [ inl served ↦ named_ended found rest answer served | inr scanned ↦ scan_ended rest answer scanned ]

@@ -1,24 +1,24 @@
 -- The pages of a run are backed, its block is given, and they are left.
-use Rattle.std.proofs.Common.{◌≡◌, ℕ, zero, suc, ◌+◌, ◌-◌, ◌*◌, ◌/◌, ◌<◌, ◌≤◌, ◌==◌, true, if◌then◌else◌, List, [], ◌∷◌, ◌++◌, length, inl, inr, refl, ap, sym}
-use Rattle.std.proofs.Common.{◌∙◌, subst, arith, length-append, true≢false, ◌^◌, eq-eqb}
+use Rattle.std.proofs.Common.{◌≡◌, ℕ, zero, ◌+◌, ◌-◌, ◌*◌, ◌/◌, ◌<◌, ◌≤◌, ◌==◌, true, if◌then◌else◌, List, [], ◌∷◌, ◌++◌, length, inl, inr, refl, ap, sym, ◌∙◌}
+use Rattle.std.proofs.Common.{subst, arith, length-append, true≢false, ◌^◌, eq-eqb}
 use Rattle.std.proofs.lemmas.Bool.{cases_eq, and_from}
-use Rattle.pas_profile.specs.{Profiles.IsPage, Profiles.IsDirectoryOf, Lives.turn_of, Blocks.grain_of, Blocks.length_of}
+use Rattle.pas_profile.specs.{Profiles.IsPage, Profiles.IsDirectoryOf, Blocks.grain_of, Blocks.length_of}
 use Rattle.pas_profile.specs.declared.{directory.Directory.Directory, profile.Profile.Profile, name.Block.Block}
 use Rattle.pas_profile.proofs.Codecs.{deed_word_of-positive}
 use Rattle.pas_rights.specs.Leaves.{MayLeave, Leaves, LeaveSteps}
 use Rattle.pas_steps.specs.{Agreement.Agrees, Allowed.Allowed, Events.events_by, Events.event_of, InTurn.InTurn}
-use Rattle.pas_steps.specs.Calls.{Calls, Kept, Lost, now, nothing, Does, ClearAfter}
+use Rattle.pas_steps.specs.Calls.{Calls, Kept, Lost, Does, ClearAfter}
 use Rattle.pas_steps.specs.Desks.{Standing, CanCall, CanMake, Makes, made}
 use Rattle.pas_steps.specs.Kinds.{Backing, Only, Giving, LookLife}
-use Rattle.pas_steps.specs.Views.{View, holds, holds_on, has_right, knows_backed, KnowsDeed, epoch_of}
+use Rattle.pas_steps.specs.Views.{View, holds, holds_on, knows_backed, KnowsDeed, epoch_of}
 use Rattle.pas_steps.specs.declared.step.{Made.Made, Step.TheVariants.Back}
-use Rattle.pas_steps.proofs.{Apart.deeds_same, Kept.any_from, Sets.both_fates, Sets.same_truth, Sets.kept_kept, Frames.with_few}
+use Rattle.pas_steps.proofs.{Apart.deeds_same, Frames.any_from, Sets.both_fates, Sets.kept_kept, Frames.with_few}
 use Rattle.pas_steps.proofs.Called.{call_none, call_step, call_then, next_call, call_as}
 use Rattle.pas_steps.proofs.Calls.{does_as, does_then, does_none, does_idly, does_after_nothing, kept_first}
 use Rattle.pas_large.proofs.Claims.{pages_call, call_knowing, span_wider, span_in, in_parts, span_past, span_none, span_more}
-use Rattle.pas_large.proofs.InOrder.{only_backs, backs_few}
-use Rattle.pas_large.specs.{Claims.in_span, Claims.HasPages, Pages.of_pages}
-use Rattle.pas_large.specs.Gives.{BackStep, pages_from, BackedRun, BacksRun, MayLeaveRun, left_run, LeavesRun, run_block, given_run, GaveRun, GivesRun, LeftRun}
+use Rattle.pas_large.proofs.Left.{only_backs, backs_few}
+use Rattle.pas_large.specs.Claims.{in_span, HasPages}
+use Rattle.pas_large.specs.Gives.{BackStep, pages_from, BackedRun, BacksRun, MayLeaveRun, LeavesRun, run_block, given_run, GaveRun, GivesRun, LeftRun}
 use Rattle.pas_rights.specs.Gives.{MayGive, block_of, give_steps, GivesRun as GivesBlock}
 use Rattle.pas_rights.proofs.Gives.{bears_by}
 use Rattle.pas_bits.specs.Runs.{in_run}
@@ -28,12 +28,10 @@ use Rattle.pas_bits.proofs.Runs.{run_of, to_run}
 none_in_turn : (P : ℕ → List Made → Type 0) (first : ℕ) → InTurn P (pages_from first (first - first)) []
 none_in_turn P first = let none : zero ≡ first - first = omega arith in subst (λ n. InTurn P (pages_from first n) []) none refl
 
+-- from page + 1 on there is one page more
 more_in_turn : (P : ℕ → List Made → Type 0) (first page end : ℕ) (xs steps : List Made) → first ≤ page → end ≡ page + 1 → P page xs
     → InTurn P (pages_from first (page - first)) steps → InTurn P (pages_from first (end - first)) (xs ++ steps)
-more_in_turn P first page end xs steps low last this earlier =
-    let count : suc (page - first) ≡ end - first = omega (arith, low, last) in
-    let same : page ≡ first + (page - first) = omega (arith, low) in
-    subst (λ n. InTurn P (pages_from first n) (xs ++ steps)) count (xs, steps, subst (λ q. P q xs) same this, earlier, refl)
+more_in_turn P first page end xs steps low last this earlier = search arith
 
 run_in_turn : (P : ℕ → List Made → Type 0) (first n : ℕ) (steps : List Made) → InTurn P (pages_from first (first + n - first)) steps
     → InTurn P (pages_from first n) steps
@@ -41,21 +39,23 @@ run_in_turn P first n steps h = let count : first + n - first ≡ n = omega arit
 
 -- ---- the pages are backed, one page more
 pub backed_none : {σ : Standing} (d : Directory) (first : ℕ) → BacksRun d first first σ σ
-backed_none d first = record {
-  steps = [];
-  calls = call_none (λ v met. record { does = does_none v; bears = λ g h. absurd (true≢false (sym h ∙ span_none first (g / 256))) });
-  order = none_in_turn BackStep first;
-}
+backed_none d first = search (arith, call_none, does_none, true≢false, span_none, none_in_turn)
 
 -- a page of a run that is held may be backed
 may_back_page : (f : Profile) (d : Directory) (first end page : ℕ) → first ≤ page → page < end → (v : View) → HasPages d first end v → Allowed f v (Back page)
-may_back_page f d first end page low high v met = let here = span_in first end page low high in
-    ((page * 256, omega arith, met.held (page * 256) (ap (in_span first end) (omega arith) ∙ here)), λ z. deed_word_of-positive d (sym (met.deeds page here) ∙ z))
+may_back_page f d first end page low high v met = let here = span_in first end page low high in (
+  (
+    page * 256,
+    omega arith,
+    met.held (page * 256) (ap (in_span first end) (omega arith) ∙ here),
+  ),
+  λ z. deed_word_of-positive d (sym (met.deeds page here) ∙ z),
+)
 
 -- Who has the pages of a run may back each of them.
 pub can_back : {σ : Standing} {page : ℕ} (d : Directory) (first end : ℕ) → first ≤ page → page < end → IsPage σ.seat.profile page
     → CanCall σ (HasPages d first end) → CanMake σ (Back page)
-can_back {σ} {page} d first end low high is can = record { of_region = is; view = can.view; whole = can.whole; stood = can.stood; allowed = may_back_page σ.seat.profile d first end page low high can.view can.met }
+can_back {σ} {page} d first end low high is can = record { of_region = is; view = can.view; whole = can.whole; stood = can.stood; allowed = may_back_page σ.seat.profile d _ end _ low high _ can.met }
 
 module _ {σ σ1 : Standing} {d : Directory} {first page : ℕ} (end : ℕ) (so_far : BacksRun d first page σ σ1) (low : first ≤ page) (high : page < end) where
   abbrev xs : List Made
@@ -86,15 +86,15 @@ module _ {σ σ1 : Standing} {d : Directory} {first page : ℕ} (end : ℕ) (so_
   now_backed : (a : ℕ) (v : View) → HasPages d first end v → BackedRun first page v (xs ++ v) → Agrees σ.seat.profile (xs ++ v) (Back page) a
       → BackedRun first (page + 1) v (made (Back page) a ∷ (xs ++ v))
   now_backed a v met old agrees =
-      let step : Does nothing (xs ++ v) (made (Back page) a ∷ (xs ++ v)) = does_idly σ.seat.profile (Backing ∷ []) refl (made (Back page) a ∷ []) (xs ++ v) (refl, tt) (agrees, tt) in
+      let step = does_idly σ.seat.profile (Backing ∷ []) refl (made (Back page) a ∷ []) (xs ++ v) (refl, tt) (agrees, tt) in
       record {
         does = does_then old.does step;
         bears = λ g is. elim (cases_eq (g / 256) page) [
           | inl e ↦ record {
             held = step.held g ∙ held_here v met old g e;
             backed = subst (λ q. knows_backed (made (Back page) a ∷ (xs ++ v)) q ≡ true) (sym e)
-                (and_from (if page == page then true else knows_backed (xs ++ v) page) (holds_on (made (Back page) a ∷ (xs ++ v)) page) (ap (λ t. if t then true else knows_backed (xs ++ v) page) (eq-eqb page page refl))
-                (any_from 256 (λ b. holds (made (Back page) a ∷ (xs ++ v)) (page * 256 + b)) 0 (omega arith) (step.held (page * 256 + 0) ∙ held_here v met old (page * 256 + 0) (omega arith))));
+                (and_from _ (holds_on (made (Back page) a ∷ (xs ++ v)) page) (ap (λ t. if t then true else knows_backed (xs ++ v) page) (eq-eqb page page refl))
+                (any_from 256 _ 0 (omega arith) (step.held (page * 256 + 0) ∙ held_here v met old (page * 256 + 0) (omega arith))));
           }
           | inr ne ↦ step.backed g refl (old.bears g (let at = in_parts first (page + 1) (g / 256) is in span_in first page (g / 256) at.0 (omega (arith, at.1, ne))))
         ];
@@ -110,16 +110,11 @@ module _ {σ σ1 : Standing} {d : Directory} {first page : ℕ} (end : ℕ) (so_
 
 -- ---- and left
 pub left_run_none : {σ : Standing} (d : Directory) (first : ℕ) → LeavesRun d first first σ σ
-left_run_none d first = record {
-  steps = [];
-  calls = call_none (λ v met. record { does = does_as (left_run first first) (does_none v) (λ g. inl refl) (λ q. ap (λ t. if t then Lost else Kept) (sym (span_none first q))) (λ q h. h); deeds = met.deeds });
-  order = none_in_turn (λ page piece. LeaveSteps page d piece) first;
-  few = omega arith;
-}
+left_run_none d first = search (arith, call_none, does_as, does_none, span_none, none_in_turn)
 
 module _ {σ σ1 : Standing} {d : Directory} {first page : ℕ} (end : ℕ) (so_far : LeavesRun d first page σ σ1) (low : first ≤ page) (high : page < end) where
   leaves_fewer : (v : View) → MayLeaveRun d first end v → MayLeaveRun d first page v
-  leaves_fewer v met = record { right = λ p is. met.right p (span_wider first page end p (omega (arith, high)) is); deeds = λ p is. met.deeds p (span_wider first page end p (omega (arith, high)) is) }
+  leaves_fewer v met = record { right = λ p is. met.right p (span_wider _ _ end p (omega (arith, high)) is); deeds = λ p is. met.deeds p (span_wider _ page end p (omega (arith, high)) is) }
 
   so_left : Calls σ σ1 (MayLeaveRun d first end) (λ v w. LeftRun d first page v w × ((p : ℕ) → in_span first end p ≡ true → KnowsDeed p d w)) so_far.steps
   so_left = call_knowing d (in_span first end) (call_as (LeftRun d first page) so_far.calls leaves_fewer (λ v w met left. left)) (λ v met. met.deeds)
@@ -137,12 +132,12 @@ module _ {σ σ1 : Standing} {d : Directory} {first page : ℕ} (end : ℕ) (so_
 pub left_run_more : {σ σ1 σ2 : Standing} {d : Directory} {first page : ℕ} → first ≤ page → LeavesRun d first page σ σ1 → Leaves page d σ1 σ2
     → LeavesRun d first (page + 1) σ σ2
 left_run_more {d = d} {first = first} {page = page} low so_far h =
-    let calls = call_then (Does (left_run first (page + 1))) (so_left (page + 1) so_far low (omega arith)) h.calls (may_leave (page + 1) so_far low (omega arith))
-    (λ v met a b. does_as (left_run first (page + 1)) (does_then a.0.does b.does) (λ g. inl refl) (λ q. both_fates Lost (in_span first page q) (page == q) (in_span first (page + 1) q) refl (span_more first page q low))
+    let calls = call_then _ (so_left (page + 1) so_far low (omega arith)) h.calls (may_leave (page + 1) so_far low (omega arith))
+    (λ v met a b. does_as _ (does_then a.0.does b.does) (λ g. inl refl) (λ q. both_fates Lost _ (page == q) _ refl (span_more first page q low))
     (λ q c. subst (λ t. ClearAfter t q v (h.steps ++ (so_far.steps ++ v))) (kept_kept (page == q)) c)) in
     record {
       steps = h.steps ++ so_far.steps;
-      calls = call_as (LeftRun d first (page + 1)) (call_knowing d (in_span first (page + 1)) calls (λ v met. met.deeds)) (λ v met. met) (λ v w met left. record { does = left.0; deeds = left.1 });
+      calls = call_as _ (call_knowing d _ calls (λ v met. met.deeds)) (λ v met. met) (λ v w met left. record { does = left.0; deeds = left.1 });
       order = more_in_turn (λ q piece. LeaveSteps q d piece) first page (page + 1) h.steps so_far.steps low refl h.order so_far.order;
       few = let n = length-append h.steps so_far.steps in omega (arith, n, h.few, so_far.few, low);
     }
@@ -167,9 +162,11 @@ is_run_block d first n word block is = search (arith, d.heap)
 
 -- ---- a run is given: its pages are backed, the block is given, and the pages are left
 module _ {σ σ1 : Standing} (d : Directory) (first n : ℕ) (backs : BacksRun d first (first + n) σ σ1) where
+  -- The pages are backed in their order.
   order : InTurn BackStep (pages_from first n) backs.steps
   order = run_in_turn BackStep first n backs.steps backs.order
 
+  -- Backing makes steps of that kind alone.
   kinds : Only (Backing ∷ []) backs.steps
   kinds = only_backs first n backs.steps order
 
@@ -188,7 +185,7 @@ module _ {σ σ1 : Standing} (d : Directory) (first n : ℕ) (backs : BacksRun d
 
   -- The grains of a run within the region end within it.
   pub gives_within : first + n ≤ σ.seat.profile.pages + 1 → first * 256 + 0 + n * 256 ≤ 256 * (σ1.seat.profile.pages + 1)
-  gives_within region = let high : first + n ≤ σ1.seat.profile.pages + 1 = subst (λ s. first + n ≤ s.profile.pages + 1) (sym backs.calls.adds.seat_is) region in omega (arith, high)
+  gives_within region = let high = subst (λ s. first + n ≤ s.profile.pages + 1) (sym backs.calls.adds.seat_is) region in omega (arith, high)
 
   module _ {σ2 : Standing} (of_profile : IsDirectoryOf σ.seat.profile d) (block : Block) (give : GivesBlock d.heap first 0 (n * 256) block σ1 σ2) where
     abbrev gs : List Made
@@ -206,7 +203,7 @@ module _ {σ σ1 : Standing} (d : Directory) (first n : ℕ) (backs : BacksRun d
           turn = gave.turn;
           leave = record {
             right = λ p is. gave.does.right p ∙ back.does.right p ∙ met.right p is;
-            deeds = λ p is. deeds_same (Giving ∷ LookLife ∷ []) refl p gs (backs.steps ++ v) (refl, (refl, tt)) ∙ deeds_same (Backing ∷ []) refl p backs.steps v kinds ∙ met.deeds p is;
+            deeds = λ p is. deeds_same (Giving ∷ LookLife ∷ []) refl p gs (backs.steps ++ v) (refl, (refl, tt)) ∙ deeds_same (Backing ∷ []) refl p _ v kinds ∙ met.deeds p is;
           };
         })
 

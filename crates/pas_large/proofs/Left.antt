@@ -1,6 +1,6 @@
 -- What a claim without a deed gets of a page, and what is left of it: the page is as it was for the steps of the call, or it was broken.
-use Rattle.std.proofs.Common.{◌≡◌, ◌≢◌, ℕ, zero, suc, ◌+◌, ◌*◌, ◌/◌, ◌%◌, ◌<◌, ◌==◌, Bool, true, false, ◌||◌, if◌then◌else◌, MatchBool, List, [], ◌∷◌, ◌++◌}
-use Rattle.std.proofs.Common.{◌⊎◌, inl, inr, slice_index, refl, ap, sym, ◌∙◌, subst, arith, append_assoc, true≢false, eq-eqb}
+use Rattle.std.proofs.Common.{◌≡◌, ◌≢◌, ℕ, zero, suc, ◌+◌, ◌*◌, ◌/◌, ◌%◌, ◌<◌, ◌==◌, Bool, true, false, ◌||◌, MatchBool, List, [], ◌∷◌, ◌++◌, ◌⊎◌, inl, inr}
+use Rattle.std.proofs.Common.{slice_index, refl, ap, sym, ◌∙◌, subst, arith, append_assoc, true≢false, eq-eqb, ◌≤◌, length, length-append}
 use Rattle.std.proofs.lemmas.Bool.{and_from, cases_Bool, cases_eq, cond_both}
 use Rattle.pas_bits.specs.declared.mask.Mask4.{Mask4}
 use Rattle.pas_bits.specs.{Masks.is_set, Bits.has_bit}
@@ -10,33 +10,32 @@ use Rattle.pas_profile.specs.declared.directory.Directory.{Directory}
 use Rattle.pas_rights.specs.{Leaves.EndsLeave, Leaves.LeaveSteps, Puts.masked, Puts.WordPut, Puts.PutsBelow, PutsBack.giving_back, PutsBack.GivesDuly}
 use Rattle.pas_rights.specs.{PutsBack.PutsAndLeaves, Words.words, Words.full}
 use Rattle.pas_rights.specs.Looks.{looks, HasUsable, HasNoUsable, HintsEmpty, HintsWhere, ReadsBacked, ReadsAllFree, TakesNone}
-use Rattle.pas_rights.proofs.{Hints.leave_due, Orders.parked_on, Orders.leave_returns, Puts.none_in, Puts.in_word, Puts.puts_kinds}
-use Rattle.pas_rights.proofs.Looks.{looks_only, looks_read, none_used, on_full}
-use Rattle.pas_steps.specs.{Desks.Standing, Desks.made, Effects.in_mask, Past.Once, Past.Always}
+use Rattle.pas_rights.proofs.Puts.{leave_due, in_word, puts_kinds}
+use Rattle.pas_rights.proofs.Orders.{leave_returns, looks_only, looks_read, none_used, on_full}
+use Rattle.pas_steps.specs.{Desks.Standing, Desks.made, Effects.in_mask, Past.Once, Past.Always, InTurn.InTurn}
 use Rattle.pas_steps.specs.Evidence.{Readings, OneHere, ShowsHere, KeptHere, GetsHere}
 use Rattle.pas_steps.specs.Frames.{IsOnPage, OnlyOn, GivesUp, KeepsRight}
-use Rattle.pas_steps.specs.Kinds.{Kinds, LookFree, Deeding, Taking, Giving, Ending, Putting, Parking, kind_of, is_in, Only, returning}
-use Rattle.pas_steps.specs.Views.{View, Puts, Stays, grain_move, held_after, holds, has_right}
-use Rattle.pas_steps.specs.declared.step.{Made.Made, Step.Step}
-use Rattle.pas_steps.specs.declared.step.Step.TheVariants.{Deed, Put, Offer, Park}
-use Rattle.pas_steps.proofs.{Apart.holds_over, Apart.holds_same, Apart.rights_same, Calls.returns_are, Frames.right_own, Kept.right_on, Kept.holds_on_page}
-use Rattle.pas_steps.proofs.Past.{always_both, always_map, once_earlier, once_later}
+use Rattle.pas_steps.specs.Kinds.{Kinds, LookFree, Deeding, Taking, Giving, Ending, Putting, Parking, kind_of, is_in, Only, returning, Backing}
+use Rattle.pas_steps.specs.Views.{View, grain_move, held_after, holds, has_right}
+use Rattle.pas_steps.specs.declared.step.{Made.Made, Step.Step, Step.TheVariants.Deed, Step.TheVariants.Park, Step.TheVariants.Back}
+use Rattle.pas_steps.proofs.{Apart.holds_over, Apart.holds_same, Apart.rights_same, Calls.returns_are, Frames.right_own, Frames.right_on, Frames.holds_on_page}
+use Rattle.pas_steps.proofs.Past.{always_both, always_map, once_earlier, once_later, in_turn_always}
 use Rattle.pas_scan.specs.Usable.{OfHere, ParksNotHere, IsFresh, MakesNoDeedHere, LeftAlone}
 use Rattle.pas_scan.proofs.LeftPages.{holds_own, since_earlier}
 use Rattle.pas_large.specs.Evidence.{BrokenHere, MissedHere, GotOf, LeftOrBroken}
-use Rattle.pas_large.specs.Pages.{OnceAfter}
+use Rattle.pas_large.specs.{Pages.OnceAfter, Gives.BackStep, Gives.pages_from}
 
 -- ---- steps of kinds that make no deeds, and that park nothing
 pub deeds_none : (ks : Kinds) (page : ℕ) (steps : List Made) → is_in ks Deeding ≡ false → Only ks steps → Always (MakesNoDeedHere page) steps
-deeds_none ks page steps none = always_map (λ m before. is_in ks (kind_of m.step) ≡ true) (MakesNoDeedHere page) steps (λ m before is d e z. absurd (true≢false (sym is ∙ ap (λ s. is_in ks (kind_of s)) e ∙ none)))
+deeds_none ks page steps none = always_map _ _ steps (λ m before is d e z. absurd (true≢false (sym is ∙ ap (λ s. is_in ks (kind_of s)) e ∙ none)))
 
 -- Steps of kinds without a park park no page.
 pub parks_none : (ks : Kinds) (page : ℕ) (steps : List Made) → is_in ks Parking ≡ false → Only ks steps → Always (ParksNotHere page) steps
-parks_none ks page steps none = always_map (λ m before. is_in ks (kind_of m.step) ≡ true) (ParksNotHere page) steps (λ m before is e. absurd (true≢false (sym is ∙ ap (λ s. is_in ks (kind_of s)) e ∙ none)))
+parks_none ks page steps none = always_map _ (ParksNotHere page) steps (λ m before is e. absurd (true≢false (sym is ∙ ap (λ s. is_in ks (kind_of s)) e ∙ none)))
 
 -- Steps that keep a page's right don't park it.
 pub parks_kept : (page : ℕ) (steps : List Made) → KeepsRight page steps → Always (ParksNotHere page) steps
-parks_kept page steps = always_map (λ m before. GivesUp page m.step → ⊥) (ParksNotHere page) steps (λ m before keeps e. keeps (subst (GivesUp page) (sym e) GivesUp.Parks))
+parks_kept page steps = always_map _ (ParksNotHere page) steps (λ m before keeps e. keeps (subst (GivesUp page) (sym e) GivesUp.Parks))
 
 -- Two lists of steps that don't park a page don't park it together.
 pub parks_both : (page : ℕ) (ys xs : List Made) → Always (ParksNotHere page) ys → Always (ParksNotHere page) xs → Always (ParksNotHere page) (ys ++ xs)
@@ -62,13 +61,13 @@ off_holds : (p g : ℕ) (ys xs : List Made) → g / 256 ≡ p → OffPage p ys �
 off_holds p g [] xs at off = refl
 off_holds p g (m ∷ ys) xs at off = holds_on_page off.0.0 g (m ∷ []) (ys ++ xs) (off.0.2, tt) (λ e. off.0.1 (sym at ∙ e)) ∙ off_holds p g ys xs at off.1
 
+-- a park is on its own page alone
 not_parked : (q p : ℕ) (s : Step) → p ≢ q → IsOnPage q s → s ≡ Park p → ⊥
-not_parked q p s ne IsOnPage.Parks e = let same : q ≡ p = cc in ne (sym same)
-not_parked q p s ne on e = cc
+not_parked q p s ne on e = search arith
 
+-- .. and so is a deed
 not_deeded : (q p : ℕ) (s : Step) (x : Directory) → p ≢ q → IsOnPage q s → s ≡ Deed p x → ⊥
-not_deeded q p s x ne (IsOnPage.Deeds d) e = let same : q ≡ p = cc in ne (sym same)
-not_deeded q p s x ne on e = cc
+not_deeded q p s x ne on e = search arith
 
 -- Steps off a page don't park it.
 pub off_parks : (p : ℕ) (ys : List Made) → OffPage p ys → Always (ParksNotHere p) ys
@@ -76,7 +75,7 @@ off_parks p ys = always_map (λ m before. (q : ℕ) × (p ≢ q) × IsOnPage q m
 
 -- Steps off a page don't make its deed.
 pub off_deeds : (p : ℕ) (ys : List Made) → OffPage p ys → Always (MakesNoDeedHere p) ys
-off_deeds p ys = always_map (λ m before. (q : ℕ) × (p ≢ q) × IsOnPage q m.step) (MakesNoDeedHere p) ys (λ m before off x e z. not_deeded off.0 p m.step x off.1 off.2 e)
+off_deeds p ys = always_map _ (MakesNoDeedHere p) ys (λ m before off x e z. not_deeded off.0 p m.step x off.1 off.2 e)
 
 -- ---- a page that was left alone, or left or broken
 pub left_of_alone : (d : Directory) (p : ℕ) (xs : List Made) → LeftAlone p xs → LeftOrBroken d p xs
@@ -88,18 +87,12 @@ left_off d p ys xs off left = record {
   right = off_right p ys xs off ∙ left.right;
   none = λ g at. off_holds p g ys xs at off ∙ left.none g at;
   deeds = deeds_both p ys xs (off_deeds p ys off) left.deeds;
-  parks = elim left.parks [ inl parks ↦ inl (parks_both p ys xs (off_parks p ys off) parks) | inr broken ↦ inr (once_later (OfHere d p) ys xs broken.0, once_later (BrokenHere p) ys xs broken.1) ];
+  parks = elim left.parks [ inl parks ↦ inl (parks_both p ys xs (off_parks p ys off) parks) | inr broken ↦ inr (once_later _ ys xs broken.0, once_later _ ys xs broken.1) ];
 }
 
 -- A page that was got stays so by steps off it.
 pub got_off : (d : Directory) (p : ℕ) (ys xs : List Made) → OffPage p ys → GotOf d p xs → GotOf d p (ys ++ xs)
-got_off d p ys xs off got = record {
-  right = off_right p ys xs off ∙ got.right;
-  of = once_later (OfHere d p) ys xs got.of;
-  got = once_later (GetsHere p) ys xs got.got;
-  deeds = deeds_both p ys xs (off_deeds p ys off) got.deeds;
-  parks = parks_both p ys xs (off_parks p ys off) got.parks;
-}
+got_off d p ys xs off got = search (arith, off_right, once_later, deeds_both, off_deeds, parks_both, off_parks)
 
 -- ---- one page, with steps that stood before and have neither its right nor a grain of it
 module _ (d : Directory) (p : ℕ) (xs : List Made) (left : LeftOrBroken d p xs) where
@@ -126,7 +119,7 @@ module _ (d : Directory) (p : ℕ) (xs : List Made) (left : LeftOrBroken d p xs)
     got = once_earlier (GetsHere p) (GetsHere p) b xs (λ m c h. h) h.got;
     readings = h.readings;
     none = h.none;
-    read = λ word lt. since_earlier (ShowsHere p word h.readings) (KeptHere p) (ShowsHere p word h.readings) (KeptHere p) b xs (shows_at word lt h.readings) kept_at (h.read word lt);
+    read = λ word lt. since_earlier _ (KeptHere p) (ShowsHere p word h.readings) (KeptHere p) b xs (shows_at word lt h.readings) kept_at (h.read word lt);
   }
 
 -- steps that left it alone stood before
@@ -143,17 +136,11 @@ left_before d p ys xs alone left = record {
 
 -- A page that later steps got was got behind steps that left it alone.
 pub got_before : (d : Directory) (p : ℕ) (ys xs : List Made) → LeftAlone p xs → GotOf d p ys → GotOf d p (ys ++ xs)
-got_before d p ys xs alone got = record {
-  right = right_own p ys xs alone.right ∙ got.right;
-  of = once_earlier (OfHere d p) (OfHere d p) ys xs (λ m b h. h) got.of;
-  got = once_earlier (GetsHere p) (GetsHere p) ys xs (λ m b h. h) got.got;
-  deeds = deeds_both p ys xs got.deeds alone.deeds;
-  parks = parks_both p ys xs got.parks alone.parks;
-}
+got_before d p ys xs alone got = search (arith, right_own, once_earlier, deeds_both, parks_both)
 
 fresh_before : (d : Directory) (p : ℕ) (ys xs : List Made) → LeftAlone p xs → IsFresh d p ys → IsFresh d p (ys ++ xs)
 fresh_before d p ys xs alone (inl never) = inl (parks_both p ys xs never alone.parks)
-fresh_before d p ys xs alone (inr since) = inr (since_earlier (OneHere d p) (ParksNotHere p) (OneHere d p) (ParksNotHere p) ys xs (λ m b h. (h.0, h.1, right_own p b xs alone.right ∙ h.2)) (λ m b h. h) since)
+fresh_before d p ys xs alone (inr since) = inr (since_earlier (OneHere d p) _ (OneHere d p) (ParksNotHere p) ys xs (λ m b h. (h.0, h.1, right_own p b xs alone.right ∙ h.2)) (λ m b h. h) since)
 
 missed_at : (d : Directory) (p : ℕ) (xs : List Made) → LeftAlone p xs → (m : Made) (b : List Made) → MissedHere d p m b → MissedHere d p m (b ++ xs)
 missed_at d p xs alone m b (inl other) = inl other
@@ -174,9 +161,9 @@ not_got s a g had h x = search (arith, cond_both)
 still_none : (g : ℕ) (steps : List Made) (v : View) → Only giving_back steps → holds v g ≡ false → holds (steps ++ v) g ≡ false
 still_none g = holds_over (λ v. holds v g ≡ false) taking_up giving_back (λ m v h none. not_got m.step m.answer g (holds v g) h none) refl
 
+-- at most one put
 word_back : (page word mask : ℕ) (piece : List Made) → WordPut page word mask piece → Only giving_back piece
-word_back page word mask piece (inl none) = subst (Only giving_back) (sym none.1) tt
-word_back page word mask piece (inr puts) = subst (Only giving_back) (sym puts.2) (refl, tt)
+word_back page word mask piece put = search arith
 
 word_gone : (page word mask g : ℕ) (piece : List Made) (v : View) → WordPut page word mask piece → in_mask page word mask g ≡ true
     → holds (piece ++ v) g ≡ false
@@ -186,7 +173,7 @@ below_gone : (page : ℕ) (mask : Mask4) (g : ℕ) (v : View) → masked page ma
     → g / 64 % 4 < n → holds (steps ++ v) g ≡ false
 below_gone page mask g v is zero steps h lt = absurd (omega (arith, lt))
 below_gone page mask g v is (suc n) steps h lt = ap (λ s. holds (s ++ v) g) h.4 ∙ ap (λ s. holds s g) (append_assoc h.0 h.1 v) ∙ elim (cases_eq n (g / 64 % 4)) [
-  | inl e ↦ word_gone page n (slice_index mask.0 n) g h.0 (h.1 ++ v) h.2 (in_word page mask n g ∙ and_from (n == g / 64 % 4) (masked page mask g) (eq-eqb n (g / 64 % 4) e) is)
+  | inl e ↦ word_gone page n _ g h.0 (h.1 ++ v) h.2 (in_word page mask n g ∙ and_from (n == g / 64 % 4) (masked page mask g) (eq-eqb n (g / 64 % 4) e) is)
   | inr ne ↦ still_none g h.0 (h.1 ++ v) (word_back page n (slice_index mask.0 n) h.0 h.2) (below_gone page mask g v is n h.1 h.3 (omega (arith, lt, ne)))
 ]
 
@@ -194,7 +181,7 @@ below_gone page mask g v is (suc n) steps h lt = ap (λ s. holds (s ++ v) g) h.4
 hint_later : (m : Made) (before xs : List Made) → HintsEmpty m before → HintsEmpty m (before ++ xs)
 hint_later m before xs empty page same = let e = empty page same in record {
   backed = since_earlier (ReadsBacked page) (TakesNone page) (ReadsBacked page) (TakesNone page) before xs (λ n b r. r) (λ n b r. r) e.backed;
-  free = λ word lt. since_earlier (ReadsAllFree page word) (TakesNone page) (ReadsAllFree page word) (TakesNone page) before xs (λ n b r. r) (λ n b r. r) (e.free word lt);
+  free = λ word lt. since_earlier _ (TakesNone page) (ReadsAllFree page word) (TakesNone page) before xs (λ n b r. r) (λ n b r. r) (e.free word lt);
 }
 
 -- Two lists of steps that hint only what they read as empty do so together.
@@ -202,7 +189,7 @@ pub hints_both : (ys xs : List Made) → Always HintsEmpty ys → Always HintsEm
 hints_both ys xs = always_both HintsEmpty HintsEmpty ys xs (λ m before is. hint_later m before xs is)
 
 hints_none : (steps : List Made) → Only (Putting ∷ []) steps → Always HintsEmpty steps
-hints_none steps = always_map (λ m before. is_in (Putting ∷ []) (kind_of m.step) ≡ true) HintsEmpty steps (λ m before is page same. absurd (true≢false (sym is ∙ ap (λ s. is_in (Putting ∷ []) (kind_of s)) same)))
+hints_none steps = always_map _ HintsEmpty steps (λ m before is page same. absurd (true≢false (sym is ∙ ap (λ s. is_in (Putting ∷ []) (kind_of s)) same)))
 
 -- ---- a page that is put back and left
 module _ {σ σ1 : Standing} (page : ℕ) (d : Directory) (mask : Mask4) (h : PutsAndLeaves page d mask σ σ1) where
@@ -218,14 +205,12 @@ module _ {σ σ1 : Standing} (page : ℕ) (d : Directory) (mask : Mask4) (h : Pu
 
   -- Grains that are put back when a page is left hint only pages that were read as empty.
   pub left_hints : (before : List Made) → Always HintsEmpty before → Always HintsEmpty ((h.after ++ h.puts) ++ before)
-  left_hints before all = hints_both (h.after ++ h.puts) before
-      (hints_both h.after h.puts (always_map GivesDuly HintsEmpty h.after (λ m b due. due.0) (leave_due page d h.after h.order)) (hints_none h.puts (puts_kinds page mask 4 h.puts h.put_order))) all
+  left_hints before all = hints_both (h.after ++ h.puts) before (hints_both h.after h.puts (always_map GivesDuly HintsEmpty h.after (λ m b due. due.0)
+      (leave_due page d h.after h.order)) (hints_none h.puts (puts_kinds page mask 4 h.puts h.put_order))) all
 
 -- ---- .. with all its grains: it was parked only where not all of them were read as free
 hints_park : (all_free : Bool) (page : ℕ) (steps : List Made) → HintsWhere all_free page steps → Always (ParksNotHere page) steps
-hints_park true page steps (inl h) = subst (Always (ParksNotHere page)) (sym h.2) ((λ e. cc), tt)
-hints_park true page steps (inr h) = subst (Always (ParksNotHere page)) (sym h.1) ((λ e. cc), ((λ e. cc), tt))
-hints_park false page steps h = subst (Always (ParksNotHere page)) (sym h) tt
+hints_park all_free page steps h = search arith
 
 module _ (page : ℕ) (d : Directory) (is : IsDirectory d) (free : Mask4) (xs : List Made) (right : has_right xs page ≡ true) (got : Once (GetsHere page) xs)
     (none : (g : ℕ) → g / 256 ≡ page → holds xs g ≡ false) where
@@ -247,14 +232,13 @@ module _ (page : ℕ) (d : Directory) (is : IsDirectory d) (free : Mask4) (xs : 
 
   end_parks : (usable all_free : Bool) (after : List Made) → MatchBool usable (HasUsable d free) (HasNoUsable d free) → EndsLeave usable page d all_free after
       → Always (ParksNotHere page) (after ++ first) ⊎ Once BrokenAfter (after ++ first)
-  end_parks true all_free after usable h = search (arith, parks_both, hints_park, parks_none, looks_only)
-  end_parks false all_free after unusable h = search (arith, once_later, park_breaks)
+  end_parks usable all_free after has h = search (arith, parks_both, hints_park, parks_none, looks_only, once_later, park_breaks)
 
 leave_parks : (page : ℕ) (d : Directory) (is : IsDirectory d) (xs steps : List Made) → has_right xs page ≡ true → Once (GetsHere page) xs
     → ((g : ℕ) → g / 256 ≡ page → holds xs g ≡ false) → LeaveSteps page d steps
     → Always (ParksNotHere page) steps ⊎ OnceAfter xs (BrokenHere page) steps
-leave_parks page d is xs steps right got none h =
-    subst (λ s. Always (ParksNotHere page) s ⊎ OnceAfter xs (BrokenHere page) s) (sym h.steps_are) (end_parks page d is h.free xs right got none h.usable h.all_free h.after h.usable_is h.ends)
+leave_parks page d is xs steps right got none h = subst (λ s. Always (ParksNotHere page) s ⊎ OnceAfter xs (BrokenHere page) s) (sym h.steps_are)
+    (end_parks page d is h.free xs right got none h.usable h.all_free h.after h.usable_is h.ends)
 
 -- A page that was got and then put back and left is as it was, or it was broken.
 pub released : {σ σ1 : Standing} (page : ℕ) (d : Directory) → IsDirectory d → (before : List Made) → GotOf d page before → (h : PutsAndLeaves page d full σ σ1)
@@ -263,7 +247,7 @@ released page d is before got h =
     let all = h.after ++ h.puts in
     let ws = h.puts ++ before in
     let putting = puts_kinds page full 4 h.puts h.put_order in
-    let gone : (g : ℕ) → g / 256 ≡ page → holds ws g ≡ false = λ g at. below_gone page full g before (on_full page g ∙ eq-eqb page (g / 256) (sym at)) 4 h.puts h.put_order (omega arith) in
+    let gone : (g : ℕ) → g / 256 ≡ page → holds ws g ≡ false = λ g at. below_gone page full g _ (on_full page g ∙ eq-eqb page _ (sym at)) 4 h.puts h.put_order (omega arith) in
     let right : has_right ws page ≡ true = rights_same (Putting ∷ []) refl page h.puts before putting ∙ got.right in
     record {
       right = h.lacks before;
@@ -277,3 +261,35 @@ released page d is before got h =
         )
       ];
     }
+
+-- The steps for the pages of a run in their order: which steps they are, and how many.
+-- ---- one back for each page
+pub only_backs : (first n : ℕ) (steps : List Made) → InTurn BackStep (pages_from first n) steps → Only (Backing ∷ []) steps
+only_backs first n = in_turn_always BackStep _ (λ page piece back. subst (Only (Backing ∷ [])) (sym back.1) (refl, tt)) (pages_from first n)
+
+-- each back is of one of these pages
+abbrev pub BacksIn : ℕ → ℕ → List Made → Type 0
+BacksIn first end = Always (λ m before. (page : ℕ) → m.step ≡ Back page → (first ≤ page) × (page < end))
+
+-- Backs of the pages of a run in turn are backs of pages in its span.
+pub backs_in : (first n : ℕ) (steps : List Made) → InTurn BackStep (pages_from first n) steps → BacksIn first (first + n) steps
+backs_in first zero steps h = subst (BacksIn first (first + zero)) (sym h) tt
+backs_in first (suc n) steps h =
+    subst (BacksIn first (first + suc n)) (sym (h.4 ∙ ap (λ piece. piece ++ h.1) h.2.1)) (
+      (λ page e. let same : first + n ≡ page = cc in (omega (arith, same), omega (arith, same))),
+      always_map (λ m before. (page : ℕ) → m.step ≡ Back page → (first ≤ page) × (page < first + n)) _ h.1
+          (λ m before its page e. let at = its page e in (at.0, omega (arith, at.1))) (backs_in first n h.1 h.3),
+    )
+
+-- Backs of the pages of a run in turn are at most one step a page.
+pub backs_few : (first n : ℕ) (steps : List Made) → InTurn BackStep (pages_from first n) steps → length steps ≤ n
+backs_few first zero steps h = let none : length steps ≡ 0 = ap length h in omega (arith, none)
+backs_few first (suc n) steps h =
+    let one : length h.0 ≡ 1 = ap length h.2.1 in
+    let rest : length h.1 ≤ n = backs_few first n h.1 h.3 in
+    let all : length steps ≡ length h.0 + length h.1 = ap length h.4 ∙ length-append h.0 h.1 in
+    omega (arith, one, rest, all)
+
+-- ---- a leave of each page
+pub only_leaves : (d : Directory) (pages : List ℕ) (steps : List Made) → InTurn (λ page piece. LeaveSteps page d piece) pages steps → Only returning steps
+only_leaves d = in_turn_always (λ page piece. LeaveSteps page d piece) _ (λ page piece leave. returns_are page piece (leave_returns page d piece leave))

@@ -1,5 +1,5 @@
 -- The evidence of a scan, where the claim of a run by the door failed before it: what is said of the scan's steps holds of all steps of the call.
-use Rattle.std.proofs.Common.{arith, ◌≡◌, ℕ, ◌+◌, ◌<◌, ◌⊎◌, ◌||◌, List, [], ◌∷◌, ◌++◌, inl, inr, true, refl, ap, sym, ◌∙◌, subst, append_assoc, true≢false}
+use Rattle.std.proofs.Common.{arith, ◌≡◌, ℕ, ◌+◌, ◌<◌, ◌⊎◌, ◌||◌, List, [], ◌∷◌, ◌++◌, inl, inr, true, refl, ap, sym, ◌∙◌, append_assoc, true≢false}
 use Rattle.pas_bits.specs.Bits.{has_bit}
 use Rattle.pas_profile.specs.declared.{directory.Directory.Directory, profile.Profile.Profile}
 use Rattle.pas_profile.proofs.Codecs.{deed_word_of-positive}
@@ -35,6 +35,7 @@ module _ (d : Directory) (p : ℕ) (xs : List Made) (left : LeftOrBroken d p xs)
 
   -- the page wasn't parked
   module _ (parks : Always (ParksNotHere p) xs) where
+    -- The earlier steps left the page alone.
     alone : LeftAlone p xs
     alone = record { right = left.right; none = left.none; parks = parks; deeds = left.deeds }
 
@@ -44,7 +45,7 @@ module _ (d : Directory) (p : ℕ) (xs : List Made) (left : LeftOrBroken d p xs)
 
     lost_at : (m : Made) (b : List Made) → LostHere d p m b → LostHere d p m (b ++ xs)
     lost_at m b (inl h) = inl (h.0, h.1, right_at d p xs left b ∙ h.2, fresh_at b h.3)
-    lost_at m b (inr h) = inr (h.0, h.1, once_earlier (NoDeedHere p) (NoDeedHere p) b xs (λ m c h. h) h.2, always_both (MakesNoDeedHere p) (MakesNoDeedHere p) b xs (λ m c h. h) h.3 left.deeds)
+    lost_at m b (inr h) = inr (h.0, h.1, once_earlier (NoDeedHere p) (NoDeedHere p) b xs (λ m c h. h) h.2, always_both _ _ b xs (λ m c h. h) h.3 left.deeds)
 
     bad_at : (m : Made) (b : List Made) → BadHere d p m b → BadHere d p m (b ++ xs)
     bad_at m b (inl h) = inl (unusable_here d p xs alone m b h)
@@ -76,7 +77,12 @@ module _ (d : Directory) (p : ℕ) (xs : List Made) (left : LeftOrBroken d p xs)
       → LostHere d p m (b ++ xs)
   lost_again f v m b agreed of (inl bare) h = absurd (not_bare f v b agreed of bare)
   lost_again f v m b agreed of (inr whole) (inr h) = absurd (not_bare f v b agreed of h.2)
-  lost_again f v m b agreed of (inr whole) (inl h) = inl (h.0, h.1, right_at d p xs left b ∙ h.2, inr (since_earlier (OneHere d p) (ParksNotHere p) (OneHere d p) (ParksNotHere p) b xs one_at (λ m c h. h) (still_fresh b whole.offered h.3)))
+  lost_again f v m b agreed of (inr whole) (inl h) = inl (
+    h.0,
+    h.1,
+    right_at d p xs left b ∙ h.2,
+    inr (since_earlier (OneHere d p) (ParksNotHere p) (OneHere d p) (ParksNotHere p) b xs one_at (λ m c h. h) (still_fresh b whole.offered h.3)),
+  )
 
   failed_at : (f : Profile) (v : View) (m : Made) (b : List Made) → Agreed f v (b ++ xs) → ReadUsable d p b → LostHere d p m b ⊎ BrokenHere p m b
       → LostHere d p m (b ++ xs) ⊎ BrokenHere p m (b ++ xs)
@@ -108,7 +114,7 @@ module _ (d : Directory) (n : ℕ) (xs : List Made) (left : (p : ℕ) → LeftOr
   taken_run first ys taken = record {
     usable = all_usable first ys taken.usable;
     right = λ p here. right_own p ys xs (left p).right ∙ taken.right p here;
-    whole = λ p word here lt. since_earlier (TakenWholeHere p word) (KeptHere p) (TakenWholeHere p word) (KeptHere p) ys xs (λ m b h. (whole_at d p xs (left p) word lt m b h.0, kept_at d p xs (left p) m b h.1)) (kept_at d p xs (left p)) (taken.whole p word here lt);
+    whole = λ p word here lt. since_earlier _ _ _ _ ys xs (λ m b h. (whole_at d p xs (left p) word lt m b h.0, kept_at d p xs (left p) m b h.1)) (kept_at d p xs (left p)) (taken.whole p word here lt);
   }
 
 -- ---- the whole search
@@ -129,9 +135,9 @@ after_still {f} {R} d ys xs join still leads = record {
 module _ (f : Profile) (d : Directory) (n : ℕ) (xs ys : List Made) (old : Only claiming_old xs) (left : (p : ℕ) → LeftOrBroken d p xs)
     (still : Leads f (MayFind d) (Does nothing) xs) where
   deeds_run : (P Q : ℕ → Type 0) → ((s : ℕ) → P s → Q s) → DeedsOf d n P ys → DeedsOf d n Q (ys ++ xs)
-  deeds_run P Q more deeds = always_both (DeedOf d n P) (DeedOf d n Q) ys xs (λ m b h p e same z. let its = h p e same z in (its.0, (its.1.0, its.1.1, all_usable d n xs left its.1.0 b its.1.2, more its.1.0 its.1.3)))
-      deeds
-      (always_map (λ m before. is_in claiming_old (kind_of m.step) ≡ true) (DeedOf d n Q) xs (λ m before is p e same z. absurd (true≢false (sym is ∙ ap (λ s. is_in claiming_old (kind_of s)) same))) old)
+  deeds_run P Q more deeds = always_both _ _ ys xs
+      (λ m b h p e same z. let its = h p e same z in (its.0, (its.1.0, its.1.1, all_usable d n xs left _ b its.1.2, more _ its.1.3))) deeds
+      (always_map _ (DeedOf d n Q) xs (λ m before is p e same z. absurd (true≢false (sym is ∙ ap (λ s. is_in claiming_old (kind_of s)) same))) old)
 
   rise_run : DeedsRise ys → DeedsRise (ys ++ xs)
   rise_run rise = rise_both 0 ys xs rise (rise_none claiming_old xs refl old) (from_first ys rise) (below_none claiming_old 0 xs refl old)
@@ -155,7 +161,7 @@ module _ (f : Profile) (d : Directory) (n : ℕ) (xs ys : List Made) (old : Only
     found_none none = record {
       still = after_still d ys xs (λ v u w a b. does_then a b) still none.still;
       vain = vain_run d n xs left f ys none.vain;
-      deeds = deeds_run (λ other. HasFailed d n other ys) (λ other. HasFailed d n other (ys ++ xs)) (λ s failed. failed_run d n xs left f v s ys agreed failed) none.deeds;
+      deeds = deeds_run (λ other. HasFailed d n other ys) _ (λ s failed. failed_run d n xs left f v s ys agreed failed) none.deeds;
       rise = rise_run none.rise;
       lacks = λ p. right_own p ys xs (left p).right ∙ none.lacks p;
     }

@@ -8,29 +8,30 @@ use Rattle.pas_bits.specs.declared.mask.Mask4.{Mask4}
 use Rattle.pas_bits.proofs.Words.{at_word}
 use Rattle.pas_rights.specs.{Leaves.LosesHere, Puts.masked, Takes.GetsGrains, Takes.TakesMask, Takes.takes, Words.words, Words.full, Claims.Claims}
 use Rattle.pas_rights.specs.PutsBack.{giving_back, taking_grains, GivesDuly, MayPutAndLeave, PutsAndLeaves}
-use Rattle.pas_rights.proofs.{Hints.due_none, Hints.put_and_leave_due, Puts.puts_kinds, Looks.full_set, Looks.full_word, Words.keeps_by}
-use Rattle.pas_rights.proofs.Takes.{takes_only, takes_on, takes_keep, takes_few, takes_right, takes_leave, takes_got, takes_read}
+use Rattle.pas_rights.proofs.Puts.{due_none, put_and_leave_due, puts_kinds, takes_only, takes_on, takes_keep, takes_few, takes_right, takes_leave, takes_got}
+use Rattle.pas_rights.proofs.Puts.{takes_read}
+use Rattle.pas_rights.proofs.Orders.{full_set, full_word, keeps_by}
 use Rattle.pas_steps.specs.Calls.{Calls, Kept, Lost, later, Does, ClearAfter, Gained, now, Fate, nothing}
 use Rattle.pas_steps.specs.Desks.{Standing, CanCall, AnyView, Makes, Adds, made}
 use Rattle.pas_steps.specs.Frames.{IsOnPage, KeepsRight, IsRead, GivesUp}
-use Rattle.pas_steps.specs.Kinds.{Putting, Taking, kind_of, is_in, Kinds, LookDeed, Deeding, Only}
+use Rattle.pas_steps.specs.Kinds.{Putting, Taking, kind_of, is_in, Kinds, LookDeed, Deeding, Only, apart, showing, within}
 use Rattle.pas_steps.specs.Views.{View, has_right, holds, KnowsDeed, Way, Rests, ByDeed, FromOffer, had_after, deed_after, known_deed}
 use Rattle.pas_steps.proofs.Apart.{unstamped_same, only_both, only_within, no_events, holds_same}
 use Rattle.pas_steps.proofs.Called.{call_as, call_then, next_call, call_knows}
 use Rattle.pas_steps.proofs.Calls.{does_as, does_then, kept_first, does_on_page, leads_as, leads_at, leads_idly, owes_over, unexamined_over}
-use Rattle.pas_steps.proofs.Kept.{looks_read, right_reads, deed_stays, knows_still}
+use Rattle.pas_steps.proofs.Frames.{looks_read, right_reads, deed_stays, knows_still, rights_stay, events_append}
 use Rattle.pas_steps.proofs.Past.{always_both, always_pair, once_later, once_earlier, always_map, once_map}
 use Rattle.pas_large.specs.Pages.{OnceAfter, TookPage, TakesPage, getting, DeedsOn, OnlyDeedsShow, GetsPage, MayClaim, of_pages, GotPages, getting_old}
 use Rattle.pas_large.specs.Pages.{claiming, claiming_old, IsClaimed, ClaimsPage, GetsRightOf, LosesRightOf}
-use Rattle.pas_bits.specs.{Bits.has_bit, Masks.is_set, Masks.AllSetBelow, Masks.IsLowestClear}
+use Rattle.pas_bits.specs.Masks.{is_set, AllSetBelow, IsLowestClear}
 use Rattle.pas_steps.specs.Evidence.{GetsHere, ShowsHere, KeptHere, ReadsDeed, GetsRight, NoDeedHere}
-use Rattle.pas_steps.specs.{Past.Once, Past.Since, Past.Always, Agreement.Agreed, Events.with_event, Events.events_by, Unknown.unknown_pages}
+use Rattle.pas_steps.specs.{Past.Once, Past.Since, Past.Always, Agreement.Agreed, Events.with_event, Events.events_by}
 use Rattle.pas_steps.specs.declared.step.{Made.Made, Step.Step, Step.TheVariants.Look, Step.TheVariants.Deed, Step.TheVariants.TakeRight}
-use Rattle.pas_steps.proofs.{Frames.rights_stay, Frames.events_append, Unknown.unknown_no_more, Unknown.unknown_less, Evidence.deed_known, Sets.got_lost}
+use Rattle.pas_steps.proofs.{Unknown.unknown_no_more, Unknown.unknown_less, Evidence.deed_known}
 use Rattle.pas_search.specs.Serving.{MayServe, HoldsNone, GotBefore, right_of}
-use Rattle.pas_search.proofs.Returns.{duly_none, duly_on}
+use Rattle.pas_search.proofs.PagesThatServe.{duly_none, duly_on}
 use Rattle.pas_large.specs.Evidence.{BrokenHere, TakenWholeHere, LostRightHere, LostHere, DeedsBelow, DeedsRise, MissedHere}
-use Rattle.pas_profile.specs.{Directories.number_of, Directories.deed_word_of, Profiles.IsPage}
+use Rattle.pas_profile.specs.{Directories.deed_word_of, Profiles.IsPage}
 use Rattle.pas_profile.proofs.Codecs.{deed_word_of-positive}
 use Rattle.pas_steps.proofs.Adding.{adds_none, adds_step, adds_call, adds_under, agreed_first, agreed_later}
 use Rattle.pas_scan.specs.Runs.{page_looks}
@@ -70,7 +71,7 @@ module _ (d : Directory) (page : ℕ) (got : Mask4) {σ σ1 : Standing} (taken :
 
   ts_read : (before : List Made) → GotBefore page before → (word : ℕ) → word < 4
       → Since (ShowsHere page word (is_set taken.answers)) (KeptHere page) (ts ++ before)
-  ts_read before met word lt = takes_read page (words full) answers (is_set taken.answers) (λ w b small. at_word taken.answers w b small) before met.right met.none 4 word lt lt (full_word word lt)
+  ts_read before met word lt = search (arith, takes_read, at_word, full_word)
 
   take_call : Calls σ σ1 (MayServe page d) (GetsGrains (masked page got)) ts
   take_call = call_as (GetsGrains (masked page got)) taken.calls (λ v met. met.right) (λ v w met gets. gets)
@@ -90,6 +91,7 @@ module _ (d : Directory) (page : ℕ) (got : Mask4) {σ σ1 : Standing} (taken :
         → TakenWholeHere page word m before
     whole_here word small m before h = ((h.0, λ b lt. sym (h.2 b lt) ∙ set_read (64 * word + b) (all (64 * word + b) (omega (arith, small, lt)))), h.1)
 
+    -- Grains that were got make the page taken.
     took : (v w : View) → GetsGrains (masked page got) v w → TookPage page v w
     took v w gets = search (arith, does_as, on_page, eq-eqb)
 
@@ -106,7 +108,7 @@ module _ (d : Directory) (page : ℕ) (got : Mask4) {σ σ1 : Standing} (taken :
         few = takes_few page (words full) answers 4;
         leads = record { from = λ v met agreed. took v (ts ++ v) (take_call.leads.from v met agreed) };
         keeps = takes_keep page (words full) answers 4;
-        whole = λ before met word lt. since_map (ShowsHere page word (is_set taken.answers)) (TakenWholeHere page word) (KeptHere page) (ts ++ before) (whole_here word lt) (ts_read before met word lt);
+        whole = λ before met word lt. since_map _ (TakenWholeHere page word) (KeptHere page) (ts ++ before) (whole_here word lt) (ts_read before met word lt);
       };
     }
 
@@ -114,14 +116,10 @@ module _ (d : Directory) (page : ℕ) (got : Mask4) {σ σ1 : Standing} (taken :
   took_call : Calls σ σ1 (MayServe page d) (λ v w. GetsGrains (masked page got) v w × KnowsDeed page d w) ts
   took_call = call_knows page d take_call (λ v met. met.deed)
 
+  -- what the takes got is held, and they kept the right
   may_put_back : (v : View) → MayServe page d v → GetsGrains (masked page got) v (ts ++ v) × KnowsDeed page d (ts ++ v)
       → MayPutAndLeave page d (masked page got) (ts ++ v)
-  may_put_back v met gets = record {
-    right = gets.0.does.right page ∙ met.right;
-    deed = gets.1;
-    held = λ g here. gets.0.does.held g ∙ ap (λ t. now (if t then Gained else Kept) (holds v g)) here;
-    clear = gets.0.does.clear page met.clear;
-  }
+  may_put_back v met gets = search arith
 
   -- Grains that were taken of a page may be put back, and the page be left.
   pub can_put : CanCall σ (MayServe page d) → CanCall σ1 (MayPutAndLeave page d (masked page got))
@@ -136,14 +134,15 @@ module _ (d : Directory) (page : ℕ) (got : Mask4) {σ σ1 : Standing} (taken :
 
     left_call : Calls σ σ2 (MayServe page d) (Does (right_of page Lost)) ((back.after ++ back.puts) ++ ts)
     left_call = call_then (Does (right_of page Lost)) took_call back.calls may_put_back
-        (λ v met gets back. does_as (right_of page Lost) (does_then gets.0.does back) (λ g. again (masked page got g) (holds v g) (gets.0.apart g)) (λ q. kept_first (if page == q then Lost else Kept)) (λ q h. h))
+        (λ v met gets back. does_as _ (does_then gets.0.does back) (λ g. again (masked page got g) (holds v g) (gets.0.apart g)) (λ q. kept_first _) (λ q h. h))
 
     puts_keep : KeepsRight page back.puts
     puts_keep = keeps_by page (Putting ∷ []) back.puts refl (puts_kinds page got 4 back.puts back.put_order)
 
+    -- The page was broken after its right was got.
     broken : (before : List Made) → GotBefore page before → OnceAfter before (BrokenHere page) ((back.after ++ back.puts) ++ ts)
     broken before met =
-        let xs = ts ++ before in let right = takes_right page (words full) answers 4 before met.right in let kept = rights_stay back.puts xs page puts_keep right in
+        let xs = ts ++ before in let right = takes_right page (words full) answers 4 before met.right in let kept = rights_stay _ xs page puts_keep right in
         after_more (BrokenHere page) (back.after ++ back.puts) ts before (after_more (BrokenHere page) back.after back.puts xs
         (once_map (LosesHere page) (λ m b. BrokenHere page m (b ++ (back.puts ++ xs))) back.after (λ m b h. record {
           left = h.0;
@@ -152,24 +151,24 @@ module _ (d : Directory) (page : ℕ) (got : Mask4) {σ σ1 : Standing} (taken :
           readings = is_set taken.answers;
           none = λ all. true≢false (sym (read_set x clear.within (all x clear.within)) ∙ clear.clear);
           read = λ word lt. let shows = ShowsHere page word (is_set taken.answers) in
-              since_more shows (KeptHere page) (λ m c. IsRead m.step m.answer) b (back.puts ++ xs) (λ m c is reads. right_reads page c (back.puts ++ xs) reads ∙ kept) (looks_read b h.1)
-              (since_more shows (KeptHere page) (λ m c. GivesUp page m.step → ⊥) back.puts xs (λ m c is keeps. rights_stay c xs page keeps right) puts_keep (ts_read before met word lt));
+              since_more shows (KeptHere page) _ b (back.puts ++ xs) (λ m c is reads. right_reads page c (back.puts ++ xs) reads ∙ kept) (looks_read b h.1)
+              (since_more shows (KeptHere page) _ back.puts xs (λ m c is keeps. rights_stay c xs page keeps right) puts_keep (ts_read before met word lt));
         }) back.left))
 
     -- of what was taken nothing is held
     all_back : (before : List Made) → HoldsNone page before → HoldsNone page (((back.after ++ back.puts) ++ ts) ++ before)
-    all_back before none g at = ap (λ s. holds s g) (append_assoc (back.after ++ back.puts) ts before) ∙ nothing_held page d got back (ts ++ before) g (λ other. takes_leave page full taken.answers got taken.got_is g before other ∙ none g at)
+    all_back before none g at = ap (λ s. holds s g) (append_assoc (back.after ++ back.puts) ts _) ∙ nothing_held page d got back _ g (λ other. takes_leave page full _ got taken.got_is g before other ∙ none g at)
 
     -- Takes that missed a grain, after which all was put back and left, leave the page broken.
     pub leaves_broken : TakesPage d page σ σ2 false
     leaves_broken = record {
       steps = (back.after ++ back.puts) ++ ts;
       adds = left_call.adds;
-      on = always_both (λ m before. IsOnPage page m.step) (λ m before. IsOnPage page m.step) (back.after ++ back.puts) ts (λ m before h. h) back.on (takes_on page (words full) answers 4);
-      kinds = only_both taking_grains (back.after ++ back.puts) ts (only_within giving_back taking_grains (back.after ++ back.puts) refl back.kinds) (only_within (Taking ∷ []) taking_grains ts refl (takes_only page (words full) answers 4));
+      on = always_both _ (λ m before. IsOnPage page m.step) (back.after ++ back.puts) ts (λ m before h. h) back.on (takes_on page (words full) answers 4);
+      kinds = only_both taking_grains _ ts (only_within giving_back taking_grains _ refl back.kinds) (only_within (Taking ∷ []) taking_grains ts refl (takes_only page (words full) answers 4));
       due = put_and_leave_due page d got ts (takes_got page full taken.answers got taken.got_is) ts_due back;
       few = let n = length-append (back.after ++ back.puts) ts in let b = takes_few page (words full) answers 4 in omega (arith, n, back.few, b);
-      outcome = record { leads = left_call.leads; lacks = λ before. ap (λ s. has_right s page) (append_assoc (back.after ++ back.puts) ts before) ∙ back.lacks (ts ++ before); none = all_back; broken = broken };
+      outcome = record { leads = left_call.leads; lacks = λ before. ap (λ s. has_right s page) (append_assoc (back.after ++ back.puts) ts _) ∙ back.lacks _; none = all_back; broken = broken };
     }
 
 -- ---- the right of a page of a run: a look at its deed word, and a claim or a deed
@@ -219,12 +218,12 @@ module _ {σ σ1 : Standing} (deeds : Bool) (d : Directory) (page a : ℕ) (m : 
       → LostHere d page m (deed_look page a ∷ before))
       → MatchBool got (GetsRightOf σ.seat.profile d page pair) (LosesRightOf deeds σ.seat.profile d page pair)
   pair_outcome true right known gets undeeded missed lost = record {
-    leads = record { from = λ v met agreed. let does = pair_does Gained v agreed (right v) in record { does = does; may = record { right = right v; deed = known refl v agreed; clear = does.clear page (met.clear.on page) } } };
+    leads = record { from = λ v met agreed. let does = pair_does _ v agreed (right v) in record { does = does; may = record { right = right v; deed = known refl v agreed; clear = does.clear _ (met.clear.on _) } } };
     got = λ before alone. record { right = right before; got = inl (gets refl); none = λ g at. holds_same getting refl g pair before (kind, (refl, tt)) ∙ alone.none g at; newest = gets refl };
   }
   pair_outcome false right known gets undeeded missed lost = record {
     leads = record { from = λ v met agreed. does_as nothing (pair_does Kept v agreed (right v)) (λ x. inl refl) (λ q. looked (page == q) Kept) (λ q h. h) };
-    alone = record { right = right []; none = λ g at. holds_same getting refl g pair [] (kind, (refl, tt)); parks = parks_none getting page pair refl (kind, (refl, tt)); deeds = (undeeded refl, ((λ x e z. cc), tt)) };
+    alone = record { right = right []; none = λ g at. holds_same getting refl g pair [] (kind, (refl, tt)); parks = parks_none getting _ pair refl (kind, (refl, tt)); deeds = (undeeded refl, ((λ x e z. cc), tt)) };
     missed = λ none. inl (inr (inl (missed refl none)));
     lacks = λ before none. right before ∙ none;
     lost = λ may before v alone usable agreed. inl (lost refl before v alone usable agreed);
@@ -251,11 +250,12 @@ module _ {σ σ1 : Standing} (deeds : Bool) (d : Directory) (page a : ℕ) (m : 
 pub claim_gets : {σ σ1 σ2 : Standing} (deeds : Bool) (d : Directory) (page a : ℕ) → a ≡ deed_word_of d → Makes σ σ1 (Look (Word.Deed page)) a → (got : Bool)
     → Claims page d σ1 σ2 got → GetsPage deeds d page σ σ2 got
 claim_gets {σ} {σ1} {σ2} deeds d page a is look got h =
-    let m : Made = made (TakeRight page d) h.answer in let f : Profile = σ.seat.profile in let known = λ (v : View). read_here page a (known_deed v page) ∙ is in
-    let adds : Adds σ σ2 AnyView (m ∷ deed_look page a ∷ []) = adds_call {D = KnowsDeed page d} (adds_step adds_none look (λ v l stood met. tt)) h.calls.adds (λ v l stood met. known v) in
-    pair_gets deeds d page a m adds (IsOnPage.Claims d) refl got (λ none. (refl, (refl, tt))) (λ none gets. inr (inl (ReadsDeed.Looks, is))) ((λ p e same z. cc), tt) (λ k v agreed. let still = unknown_no_more f (m ∷ deed_look page a ∷ []) v agreed in omega (arith, still))
-    (pair_outcome deeds d page a m adds (IsOnPage.Claims d) refl got (λ v. way_taken page (has_bit h.answer (page % 64)) got (has_right v page) (FromOffer (number_of d)) refl (sym h.got_is))
-    (λ e v agreed. knows_still f d page (m ∷ []) (deed_look page a ∷ v) (agreed.0, tt) (known v)) (λ e. GetsRight.Claims d h.answer (sym h.got_is ∙ e)) (λ e x same z. cc) (λ e none. (refl, sym h.got_is ∙ e, refl, inl ((λ x. cc), tt)))
+    let m : Made = made (TakeRight page d) h.answer in let f : Profile = σ.seat.profile in let known = λ (v : View). read_here page a _ ∙ is in
+    let adds = adds_call {D = KnowsDeed page d} (adds_step adds_none look (λ v l stood met. tt)) h.calls.adds (λ v l stood met. known v) in
+    pair_gets deeds d page a m adds (IsOnPage.Claims d) refl got (λ none. (refl, (refl, tt))) (λ none gets. inr (inl (ReadsDeed.Looks, is)))
+    ((λ p e same z. cc), tt) (λ k v agreed. let still = unknown_no_more f (m ∷ deed_look page a ∷ []) v agreed in omega (arith, still))
+    (pair_outcome deeds d page a m adds (IsOnPage.Claims d) refl got (λ v. way_taken page _ got (has_right v page) _ refl (sym h.got_is))
+    (λ e v agreed. knows_still f d page (m ∷ []) _ (agreed.0, tt) (known v)) (λ e. GetsRight.Claims d h.answer (sym h.got_is ∙ e)) (λ e x same z. cc) (λ e none. (refl, sym h.got_is ∙ e, refl, inl ((λ x. cc), tt)))
     (λ e before v alone usable agreed. inl (refl, sym h.got_is ∙ e, alone.right, inl ((λ e. cc), alone.parks))))
 
 -- ---- the deed of a page whose deed word was read as another word
@@ -280,16 +280,16 @@ module _ {σ σ1 σ2 : Standing} (d : Directory) (page a b : ℕ) (is : IsPage �
       elim (cases_eq b 0) [
         | inl z ↦
             let one : length (events_by k v both) ≡ 1 = count true (eq-eqb b 0 z) in
-            let fewer = unknown_less σ.seat.profile page both v agreed is (knew_none v agreed z) (λ none. deed_word_of-positive d (sym (deed_known page d b (deed_look page a ∷ v) z) ∙ none)) in omega (arith, one, fewer)
-        | inr some ↦ let none : length (events_by k v both) ≡ 0 = count false (ne_eqb b 0 some) in let still = unknown_no_more σ.seat.profile both v agreed in omega (arith, none, still)
+            let fewer = unknown_less _ page both v agreed is (knew_none v agreed z) (λ none. deed_word_of-positive d (sym (deed_known page d b (deed_look page a ∷ v) z) ∙ none)) in omega (arith, one, fewer)
+        | inr some ↦ let none = count false (ne_eqb b 0 some) in let still = unknown_no_more σ.seat.profile both v agreed in omega (arith, none, still)
       ]
 
   -- A deed that is tried on a page without one gets the page exactly where its answer is 0.
   pub deed_gets : GetsPage true d page σ σ2 (b == 0)
-  deed_gets = pair_gets true d page a (made (Deed page d) b) deed_adds (IsOnPage.Deeds d) refl (b == 0) (λ none. absurd (true≢false none)) (λ none. absurd (true≢false none)) ((λ p e same z. (cc, cc)), tt) deed_shows
-      (pair_outcome true d page a (made (Deed page d) b) deed_adds (IsOnPage.Deeds d) refl (b == 0) (λ v. way_taken page (b == 0) (b == 0) (has_right v page) ByDeed refl refl)
-      (λ e v agreed. deed_known page d b (deed_look page a ∷ v) (eqb-true b 0 e)) (λ e. GetsRight.Deeds d b (eqb-true b 0 e)) (λ e x same z. eqb-false b 0 e z) (λ e none. absurd (true≢false none))
-      (λ e before v alone usable agreed. inr (refl, eqb-false b 0 e, inr (other_known σ.seat.profile d page a before v ne usable agreed.1), ((λ x h z. cc), alone.deeds))))
+  deed_gets = pair_gets true d page a _ deed_adds (IsOnPage.Deeds d) refl _ (λ none. absurd (true≢false none)) (λ none. absurd (true≢false none)) ((λ p e same z. (cc, cc)), tt) deed_shows
+      (pair_outcome true d page a _ deed_adds (IsOnPage.Deeds d) refl (b == 0) (λ v. way_taken page (b == 0) (b == 0) (has_right v page) ByDeed refl refl)
+      (λ e v agreed. deed_known page d b (deed_look _ a ∷ v) (eqb-true b 0 e)) (λ e. GetsRight.Deeds d b (eqb-true b 0 e)) (λ e x same z. eqb-false b 0 e z) (λ e none. absurd (true≢false none))
+      (λ e before v alone usable agreed. inr (refl, eqb-false b 0 e, inr (other_known _ d page a before v ne usable agreed.1), ((λ x h z. cc), alone.deeds))))
 
 -- ---- no deed may be made: only its deed word was read
 pub look_gets : {σ σ1 : Standing} (d : Directory) (page a : ℕ) → a ≢ deed_word_of d → Makes σ σ1 (Look (Word.Deed page)) a → GetsPage false d page σ σ1 false
@@ -331,7 +331,7 @@ claim_lost get = record {
   made = get.made;
   rise = get.rise;
   shows = get.shows;
-  outcome = record { still = leads_as get.outcome.leads (λ v met. tt) (λ v w met does. does); lacks = get.outcome.lacks; alone = get.outcome.alone; missed = get.outcome.missed; lost = get.outcome.lost };
+  outcome = record { still = leads_as get.outcome.leads _ (λ v w met does. does); lacks = get.outcome.lacks; alone = get.outcome.alone; missed = get.outcome.missed; lost = get.outcome.lost };
 }
 
 abbrev pub MadeHere : Directory → ℕ → Made → List Made → Type 0
@@ -339,7 +339,7 @@ MadeHere d page m before = (p : ℕ) (e : Directory) → m.step ≡ Deed p e →
 
 -- steps of a kind that makes no deeds and no events
 pub no_deeds : (ks : Kinds) (d : Directory) (page : ℕ) (steps : List Made) → is_in ks Deeding ≡ false → Only ks steps → DeedsOn d page steps
-no_deeds ks d page steps none = always_map (λ m before. is_in ks (kind_of m.step) ≡ true) (MadeHere d page) steps (λ m before is p e same z. absurd (true≢false (sym is ∙ ap (λ s. is_in ks (kind_of s)) same ∙ none)))
+no_deeds ks d page steps none = search (arith, always_map, true≢false)
 
 -- ---- the order of deeds
 abbrev RisesHere : Made → List Made → Type 0
@@ -372,11 +372,11 @@ from_on d page steps = always_map (MadeHere d page) (FromHere page) steps (λ m 
 
 -- steps of a kind that makes no deeds
 pub rise_none : (ks : Kinds) (steps : List Made) → is_in ks Deeding ≡ false → Only ks steps → DeedsRise steps
-rise_none ks steps none = always_map (λ m before. is_in ks (kind_of m.step) ≡ true) RisesHere steps (λ m before is p e same z. absurd (true≢false (sym is ∙ ap (λ s. is_in ks (kind_of s)) same ∙ none)))
+rise_none ks steps none = search (arith, always_map, true≢false)
 
 -- Steps of kinds without a deed make deeds from any page on only, as they make none.
 pub from_none : (ks : Kinds) (first : ℕ) (steps : List Made) → is_in ks Deeding ≡ false → Only ks steps → DeedsFrom first steps
-from_none ks first steps none = always_map (λ m before. is_in ks (kind_of m.step) ≡ true) (FromHere first) steps (λ m before is p e same z. absurd (true≢false (sym is ∙ ap (λ s. is_in ks (kind_of s)) same ∙ none)))
+from_none ks first steps none = search (arith, always_map, true≢false)
 
 -- any deed is of a page from the first on
 pub from_first : (steps : List Made) → DeedsRise steps → DeedsFrom 0 steps
@@ -384,24 +384,54 @@ from_first steps = always_map RisesHere (FromHere 0) steps (λ m before h p e sa
 
 -- Steps of kinds without a deed make deeds below any page only, as they make none.
 pub below_none : (ks : Kinds) (end : ℕ) (steps : List Made) → is_in ks Deeding ≡ false → Only ks steps → DeedsBelow end steps
-below_none ks end steps none = always_map (λ m before. is_in ks (kind_of m.step) ≡ true) (BelowHere end) steps (λ m before is p e same z. absurd (true≢false (sym is ∙ ap (λ s. is_in ks (kind_of s)) same ∙ none)))
+below_none ks end steps none = search (arith, always_map, true≢false)
 
 -- the later deeds are of pages from this one on, and the earlier ones of pages below it
 pub rise_both : (first : ℕ) (ys xs : List Made) → DeedsRise ys → DeedsRise xs → DeedsFrom first ys → DeedsBelow first xs → DeedsRise (ys ++ xs)
-rise_both first ys xs later before from below =
-    always_both (λ m b. RisesHere m b × FromHere first m b) RisesHere ys xs (λ m b h p e same z. below_both p b xs (h.0 p e same z) (below_wider first p xs (h.1 p e same z) below)) (always_pair RisesHere (FromHere first) ys later from) before
+rise_both first ys xs later before from below = always_both _ _ ys xs
+    (λ m b h p e same z. below_both p b xs (h.0 p e same z) (below_wider first p xs (h.1 p e same z) below)) (always_pair _ _ ys later from) before
 
 -- Two lists of which deeds alone show events show deeds alone together.
 pub shows_both : (f : Profile) (ys xs : List Made) → OnlyDeedsShow f ys → OnlyDeedsShow f xs → OnlyDeedsShow f (ys ++ xs)
-shows_both f ys xs later first k v agreed =
-    let a = later k (xs ++ v) (agreed_first f v ys xs agreed) in let b = first k v (agreed_later f v ys xs agreed) in
-    let n : length (events_by k v (ys ++ xs)) ≡ length (events_by k (xs ++ v) ys) + length (events_by k v xs) = ap length (events_append k ys xs v) ∙ length-append (events_by k (xs ++ v) ys) (events_by k v xs) in
-    let same : unknown_pages f ((ys ++ xs) ++ v) ≡ unknown_pages f (ys ++ (xs ++ v)) = ap (unknown_pages f) (append_assoc ys xs v) in
-    omega (arith, a, b, n, same)
+shows_both f ys xs later first k v agreed = search (arith, agreed_first, agreed_later, events_append, length-append, append_assoc)
+
+-- ---- steps that make no deed, after others
+pub rise_later : (ks : Kinds) (end : ℕ) (ys xs : List Made) → is_in ks Deeding ≡ false → Only ks ys → DeedsBelow end xs → DeedsRise xs → DeedsRise (ys ++ xs)
+rise_later ks end ys xs none only below rise = rise_both end ys xs (rise_none ks ys none only) rise (from_none ks end ys none only) below
+
+-- Steps that show no event, after steps of which deeds alone show some, leave it so.
+pub shows_later : (ks : Kinds) → apart ks showing ≡ true → (f : Profile) (ys xs : List Made) → Only ks ys → OnlyDeedsShow f xs → OnlyDeedsShow f (ys ++ xs)
+shows_later ks none f ys xs only = shows_both f ys xs
+    (λ k v agreed. let no = ap (λ es. length es) (no_events ks none k v ys only) in let stays = unknown_no_more f ys v agreed in omega (arith, no, stays))
+
+-- Steps without a deed keep all deeds below a page.
+pub below_later : (ks : Kinds) (end : ℕ) (ys xs : List Made) → is_in ks Deeding ≡ false → Only ks ys → DeedsBelow end xs → DeedsBelow end (ys ++ xs)
+below_later ks end ys xs none only = below_both end ys xs (below_none ks end ys none only)
+
+-- The steps are of these kinds, and their deeds rise, are below this page and alone show events.
+pub record Orderly (ks : Kinds) (f : Profile) (end : ℕ) (steps : List Made) : Type 0 where
+  pub kinds : Only ks steps
+  pub rise : DeedsRise steps
+  pub below : DeedsBelow end steps
+  pub shows : OnlyDeedsShow f steps
+
+-- Deeds below a page are below each higher one.
+pub orderly_wider : {ks : Kinds} {f : Profile} (a b : ℕ) (steps : List Made) → a ≤ b → Orderly ks f a steps → Orderly ks f b steps
+orderly_wider a b steps le o = record { kinds = o.kinds; rise = o.rise; below = below_wider a b steps le o.below; shows = o.shows }
+
+-- Steps without a deed and without an event leave it so.
+pub orderly_later : {ls : Kinds} (ks : Kinds) {f : Profile} {end : ℕ} (ys xs : List Made) → is_in ks Deeding ≡ false → apart ks showing ≡ true
+    → within ks ls ≡ true → Only ks ys → Orderly ls f end xs → Orderly ls f end (ys ++ xs)
+orderly_later {ls} ks {f} {end} ys xs none quiet among only o = record {
+  kinds = only_both ls ys xs (only_within ks ls ys among only) o.kinds;
+  rise = rise_later ks end ys xs none only o.below o.rise;
+  below = below_later ks end ys xs none only o.below;
+  shows = shows_later ks quiet f ys xs only o.shows;
+}
 
 -- Takes and puts of grains show no event.
 pub shows_taking : (f : Profile) (steps : List Made) → Only taking_grains steps → OnlyDeedsShow f steps
-shows_taking f steps only k v agreed = let none = ap length (no_events taking_grains refl k v steps only) in let still = unknown_no_more f steps v agreed in omega (arith, none, still)
+shows_taking f steps only k v agreed = let none = ap length (no_events taking_grains refl k v _ only) in let still = unknown_no_more f _ v agreed in omega (arith, none, still)
 
 -- ---- effects
 -- what was got is lost again
@@ -419,22 +449,23 @@ module _ {deeds : Bool} {d : Directory} {page : ℕ} {σ σ1 : Standing} (get : 
     just_before = subst (GotBefore page) (append-nil get.steps) (get.outcome.got [] (left_alone_by page_looks refl refl page [] tt))
 
     all_adds : Adds σ σ2 (MayClaim d page) all
-    all_adds = adds_call {D = MayServe page d} (adds_under get.adds (λ v l stood met. tt)) takes.adds (λ v l stood met. (get.outcome.leads.from v met (get.adds.agreed v l stood tt)).may)
+    all_adds = adds_call {D = MayServe page d} (adds_under get.adds _) takes.adds (λ v l stood met. (get.outcome.leads.from v met (get.adds.agreed v l stood tt)).may)
 
     no_deed : deeds ≡ false → Always (MakesNoDeedHere page) all
     no_deed none = deeds_both page takes.steps get.steps (deeds_none taking_grains page takes.steps refl takes.kinds) (deeds_none getting_old page get.steps refl (get.old none))
 
+    -- What the claim's steps come to is what it promises.
     claims : (claimed : Claimed) → IsClaimed deeds σ.seat.profile d page (takes.steps ++ get.steps) claimed → ClaimsPage deeds d page σ σ2 claimed
     claims claimed outcome = record {
       steps = all;
       adds = all_adds;
       on = always_both (λ m before. IsOnPage page m.step) (λ m before. IsOnPage page m.step) takes.steps get.steps (λ m before h. h) takes.on get.on;
       kinds = only_both claiming takes.steps get.steps (only_within taking_grains claiming takes.steps refl takes.kinds) (only_within getting claiming get.steps refl get.kinds);
-      old = λ none. only_both claiming_old takes.steps get.steps (only_within taking_grains claiming_old takes.steps refl takes.kinds) (only_within getting_old claiming_old get.steps refl (get.old none));
+      old = λ none. only_both claiming_old _ get.steps (only_within taking_grains claiming_old takes.steps refl takes.kinds) (only_within getting_old claiming_old get.steps refl (get.old none));
       returns = duly_on page takes.steps get.steps takes.on takes.due just_before.got (duly_none getting get.steps refl refl get.kinds);
       few = let n = length-append takes.steps get.steps in omega (arith, n, takes.few, get.few);
-      rise = rise_both (page + 1) takes.steps get.steps (rise_none taking_grains takes.steps refl takes.kinds) get.rise (from_none taking_grains (page + 1) takes.steps refl takes.kinds) (below_on d page get.steps get.made);
-      made = always_both (MadeHere d page) (MadeHere d page) takes.steps get.steps (λ m before h. h) (no_deeds taking_grains d page takes.steps refl takes.kinds) get.made;
+      rise = rise_later taking_grains (page + 1) takes.steps get.steps refl takes.kinds (below_on d page get.steps get.made) get.rise;
+      made = always_both _ (MadeHere d page) takes.steps get.steps (λ m before h. h) (no_deeds taking_grains d page takes.steps refl takes.kinds) get.made;
       shows = shows_both σ.seat.profile takes.steps get.steps (shows_taking σ.seat.profile takes.steps takes.kinds) get.shows;
       outcome = outcome;
     }
@@ -457,7 +488,7 @@ module _ {deeds : Bool} {d : Directory} {page : ℕ} {σ σ1 : Standing} (get : 
               let now = agreed_first f v zs get.steps agreed in
               let took = took.from (get.steps ++ v) got.may now in
               subst (GotPages (λ q. page == q) d v) (sym (append_assoc zs get.steps v)) (record {
-                does = does_as (of_pages (λ q. page == q) Gained) (does_then got.does took.does) (λ g. inl (kept_first (if page == g / 256 then Gained else Kept))) (λ q. refl) (λ q h. h);
+                does = does_as (of_pages (λ q. page == q) Gained) (does_then got.does took.does) (λ g. inl (kept_first _)) (λ q. refl) (λ q h. h);
                 apart = λ g at. sym (got.does.held g) ∙ took.apart g (eqb-true page (g / 256) at);
                 lacked = λ p at. subst (λ q. has_right v q ≡ false) (eqb-true page p at) (got_lacked v met (agreed_later f v zs get.steps agreed));
                 deeds = λ p at. subst (λ q. KnowsDeed q d (zs ++ (get.steps ++ v))) (eqb-true page p at) (knows_still f d page zs (get.steps ++ v) now got.may.deed);
@@ -471,7 +502,7 @@ module _ {deeds : Bool} {d : Directory} {page : ℕ} {σ σ1 : Standing} (get : 
           deeds = no_deed takes none;
           parks = parks_both page takes.steps get.steps (parks_kept page takes.steps takes.outcome.keeps) (parks_none getting page get.steps refl get.kinds);
         };
-        right = λ before alone. ap (λ s. has_right s page) (append_assoc takes.steps get.steps before) ∙ rights_stay takes.steps (get.steps ++ before) page takes.outcome.keeps (get.outcome.got before alone).right;
+        right = λ before alone. ap (λ s. has_right s page) (append_assoc takes.steps _ _) ∙ rights_stay _ _ page takes.outcome.keeps (get.outcome.got before alone).right;
         whole = λ before alone word lt. rw (append_assoc takes.steps get.steps before) (takes.outcome.whole (get.steps ++ before) (get.outcome.got before alone) word lt);
       })
 
@@ -493,9 +524,9 @@ module _ {deeds : Bool} {d : Directory} {page : ℕ} {σ σ1 : Standing} (get : 
           deeds = no_deed takes none;
           parks = inr (
             once_later (OfHere d page) takes.steps get.steps (get.of none refl),
-            once_earlier (λ m b. BrokenHere page m (b ++ get.steps)) (BrokenHere page) takes.steps get.steps (λ m b x. x) (takes.outcome.broken get.steps (just_before takes)),
+            once_earlier _ (BrokenHere page) takes.steps get.steps (λ m b x. x) (takes.outcome.broken get.steps (just_before takes)),
           );
         };
-        missed = λ none. once_earlier (λ m b. BrokenHere page m (b ++ get.steps)) (MissedHere d page) takes.steps get.steps (λ m b x. inr (inr x)) (takes.outcome.broken get.steps (just_before takes));
-        broken = λ before alone. after_more (BrokenHere page) takes.steps get.steps before (takes.outcome.broken (get.steps ++ before) (get.outcome.got before alone));
+        missed = λ none. once_earlier _ (MissedHere d page) takes.steps get.steps (λ m b x. inr (inr x)) (takes.outcome.broken get.steps (just_before takes));
+        broken = λ before alone. after_more (BrokenHere page) takes.steps get.steps before (takes.outcome.broken _ (get.outcome.got before alone));
       })

@@ -11,9 +11,9 @@ use Rattle.pas_steps.specs.{Past.Once, Past.Always, Past.Since, Frames.OnlyScans
 use Rattle.pas_steps.specs.{Kinds.is_in}
 use Rattle.pas_steps.specs.declared.step.{Made.Made, Step.Step, Step.TheVariants.Look}
 use Rattle.pas_scan.specs.Marks.{is_marked}
-use Rattle.pas_steps.specs.Evidence.{ReadsEligible, NoDeedHere, ZeroHere, OneHere, GetsHere, LeftHere, ParkedHere, ParkedLater, LacksAfter, MissingHere}
-use Rattle.pas_steps.specs.Evidence.{HeldHere}
-use Rattle.pas_scan.proofs.{Reading.scans_lack, Reading.right_scans, Reading.place_of, LeftPages.since_earlier, Judging.scans_append}
+use Rattle.pas_steps.specs.Evidence.{ReadsEligible, ZeroHere, OneHere, GetsHere, LeftHere, ParkedHere, ParkedLater, LacksAfter, MissingHere, HeldHere}
+use Rattle.pas_scan.proofs.Reading.{scans_lack, right_scans, place_of, scans_append}
+use Rattle.pas_scan.proofs.LeftPages.{since_earlier}
 use Rattle.pas_large.specs.Refusals.{LastOffered, NotReadHere, IsAccounted, AllAccounted, IsReason, MarksOffered, Refuses}
 use Rattle.pas_steps.specs.Views.{View, has_right, known_deed, KnowsDeed}
 use Rattle.pas_steps.proofs.{Adding.adds_call, Adding.agreed_first, Past.once_later, Past.once_earlier, Past.always_map, Frames.right_own, Evidence.zero_before}
@@ -25,16 +25,17 @@ abbrev pub MarkedBelow : Directory → ℕ → List ℕ → List Made → Type 0
 MarkedBelow d block marks steps = (p : ℕ) → p / 64 < block → MatchBool (is_marked marks p) (LastOffered d p steps) (Once (ZeroHere d p) steps)
 
 read_block : (d : Directory) (p : ℕ) (s : Step) → ReadsEligible d p s → (n j : ℕ) → s ≡ Look (Word.Eligible n j) → j ≡ p / 64
-read_block d p s (ReadsEligible.Looks m i e at) n j same = let here : i ≡ j = ap place_of same in sym here ∙ at
-read_block d p s ReadsEligible.Claims n j same = cc
+read_block d p s a n j same = search (arith, place_of)
 
 other_word : (d : Directory) (p n j : ℕ) → j ≢ p / 64 → ReadsEligible d p (Look (Word.Eligible n j)) → ⊥
 other_word d p n j ne r = ne (read_block d p (Look (Word.Eligible n j)) r n j refl)
 
+-- A newer look at another word leaves what was read last of a page.
 older : (d : Directory) (p block a : ℕ) (steps : List Made) (t : Bool) → p / 64 < block → MatchBool t (LastOffered d p steps) (Once (ZeroHere d p) steps)
     → MatchBool t (LastOffered d p (made (Look (Word.Eligible (number_of d) block)) a ∷ steps)) (Once (ZeroHere d p) (made (Look (Word.Eligible (number_of d) block)) a ∷ steps))
 older d p block a steps t lt h = search (arith, other_word)
 
+-- A look at the page's own word tells whether it was offered.
 newest : (d : Directory) (p block a : ℕ) (steps : List Made) (t : Bool) → block ≡ p / 64 → OnlyScans steps → has_bit a (p % 64) ≡ t
     → MatchBool t (LastOffered d p (made (Look (Word.Eligible (number_of d) block)) a ∷ steps)) (Once (ZeroHere d p) (made (Look (Word.Eligible (number_of d) block)) a ∷ steps))
 newest d p block a steps true at scans bit = inl (ReadsEligible.Looks (number_of d) block refl at, bit, scans_lack steps p scans)
@@ -45,12 +46,12 @@ pub marked_more : (d : Directory) (block a : ℕ) (marks : List ℕ) (steps : Li
     → MarkedBelow d (block + 1) (set marks block a) (made (Look (Word.Eligible (number_of d) block)) a ∷ steps)
 marked_more d block a marks steps small scans before p lt = elim (cases_lt (p / 64) block) [
   | inl low ↦
-      let same : is_marked marks p ≡ is_marked (set marks block a) p = ap (λ n. has_bit n (p % 64)) (sym (get_or-set_other marks block (p / 64) a 0 (λ e. absurd (omega (arith, e, low))))) in
+      let same = ap (λ n. has_bit n (p % 64)) (sym (get_or-set_other marks block (p / 64) a 0 (λ e. absurd (omega (arith, e, low))))) in
       subst (λ t. MatchBool t (LastOffered d p (made (Look (Word.Eligible (number_of d) block)) a ∷ steps)) (Once (ZeroHere d p) (made (Look (Word.Eligible (number_of d) block)) a ∷ steps))) same
       (older d p block a steps (is_marked marks p) low (before p low))
   | inr high ↦
       let at : block ≡ p / 64 = omega (arith, lt, high) in
-      let here : has_bit a (p % 64) ≡ is_marked (set marks block a) p = ap (λ n. has_bit n (p % 64)) (sym (get_or-set_same marks block a 0 small)) ∙ ap (λ i. has_bit (get_or (set marks block a) i 0) (p % 64)) at in
+      let here = ap (λ n. has_bit n (p % 64)) (sym (get_or-set_same marks block a 0 small)) ∙ ap (λ i. has_bit (get_or (set marks block a) i 0) (p % 64)) at in
       newest d p block a steps (is_marked (set marks block a) p) at scans here
 ]
 
@@ -59,9 +60,9 @@ marked_more d block a marks steps small scans before p lt = elim (cases_lt (p / 
 eligible_kind : (d : Directory) (p : ℕ) (s : Step) → ReadsEligible d p s → is_in judging (kind_of s) ≡ false
 eligible_kind d p s h = grind arith
 
+-- the last word is that of the page which is held, or the last one there is
 last_within : (f : Profile) (room : NoRoom) → ((page : ℕ) → room ≡ Held page → page ≤ f.pages) → last_block f room ≤ f.pages / 64
-last_within f NoSpace h = omega arith
-last_within f (Held page) h = let le = h page refl in omega (arith, le)
+last_within f room h = search arith
 
 -- ---- a page read as not offered, and its right not had since
 missing : (d : Directory) (p : ℕ) (ys xs : List Made) → OnlyScans ys → has_right xs p ≡ false → Once (ZeroHere d p) ys
@@ -73,7 +74,7 @@ missing d p (m ∷ ys) xs scans none (inr h) = inr (right_scans (m ∷ ys) xs p 
 held_from : (d : Directory) (p : ℕ) (ys xs : List Made) → OnlyScans ys → has_right xs p ≡ false → Since (MissingHere d p) (LacksAfter p) xs
     → Once (ParkedHere false p) ys → Once (HeldHere d p) (ys ++ xs)
 held_from d p [] xs scans none since h = absurd h
-held_from d p (m ∷ ys) xs scans none since (inl z) = inl ((z.0, z.1, right_own p ys xs none ∙ z.2), since_more (MissingHere d p) (LacksAfter p) (λ k c. IsScan k.step) ys xs (λ k c is more. right_scans (k ∷ c) xs p (is, more) ∙ none) scans.1 since)
+held_from d p (m ∷ ys) xs scans none since (inl z) = inl ((z.0, z.1, right_own p ys xs none ∙ z.2), since_more _ _ _ ys xs (λ k c is more. right_scans (k ∷ c) xs p (is, more) ∙ none) scans.1 since)
 held_from d p (m ∷ ys) xs scans none since (inr h) = inr (held_from d p ys xs scans.1 none since h)
 
 module _ (d : Directory) (marks : List ℕ) {σ σ1 σ2 : Standing} (offers : MarksOffered d marks σ σ1) (room : NoRoom) (judges : Judges marks d σ1 σ2 room) where
@@ -86,40 +87,44 @@ module _ (d : Directory) (marks : List ℕ) {σ σ1 σ2 : Standing} (offers : Ma
   abbrev js : List Made
   js = judges.steps
 
+  -- The region's profile is the same after the looks.
   same : σ1.seat.profile ≡ f
   same = ap (λ (s : Seat). s.profile) offers.adds.seat_is
 
   reads_none : (p : ℕ) → Always (NotReadHere d p) js
-  reads_none p = always_map (λ m before. is_in judging (kind_of m.step) ≡ true) (NotReadHere d p) js (λ m before is reads. true≢false (sym is ∙ eligible_kind d p m.step reads)) judges.kinds
+  reads_none p = always_map _ (NotReadHere d p) js (λ m before is reads. true≢false (sym is ∙ eligible_kind d p m.step reads)) judges.kinds
 
+  -- a verdict names a page of the region
   held_page : (answer : NoRoom) → IsVerdict f marks d js answer → (page : ℕ) → answer ≡ Held page → page ≤ f.pages
-  held_page NoSpace verdict page e = cc
-  held_page (Held q) verdict page e = let at : q ≡ page = cc in let le = (verdict.0 []).of_region.1 in omega (arith, at, le)
+  held_page answer verdict page e = search arith
 
   module _ (before : List Made) (none : (p : ℕ) → has_right before p ≡ false) where
     ms_none : (p : ℕ) → has_right (ms ++ before) p ≡ false
     ms_none p = right_scans ms before p offers.scans ∙ none p
 
+    -- The steps of the call, in their three parts.
     at : (js ++ ms) ++ before ≡ js ++ (ms ++ before)
     at = append_assoc js ms before
 
     at_view : (v : View) → ((js ++ ms) ++ before) ++ v ≡ js ++ ((ms ++ before) ++ v)
     at_view v = ap (λ s. s ++ v) at ∙ append_assoc js (ms ++ before) v
 
+    -- What was read last of a page is so in the whole call.
     last : (p : ℕ) → LastOffered d p ms → LastOffered d p ((js ++ ms) ++ before)
     last p h = subst (LastOffered d p) (sym at)
         (since_more (OneHere d p) (NotReadHere d p) (NotReadHere d p) js (ms ++ before) (λ m b x all. x) (reads_none p)
-        (since_earlier (OneHere d p) (NotReadHere d p) (OneHere d p) (NotReadHere d p) ms before (λ m b x. (x.0, x.1, right_own p b before (none p) ∙ x.2)) (λ m b x. x) h))
+        (since_earlier (OneHere d p) _ (OneHere d p) (NotReadHere d p) ms before (λ m b x. (x.0, x.1, right_own p b before (none p) ∙ x.2)) (λ m b x. x) h))
 
     parked_later : (p : ℕ) → Once (ZeroHere d p) ms → Once (ParkedHere true p) js → Once (ParkedLater d p) ((js ++ ms) ++ before)
-    parked_later p zero_read h = subst (Once (ParkedLater d p)) (sym at)
-        (once_earlier (ParkedHere true p) (ParkedLater d p) js (ms ++ before) (λ m b x. ((x.0, x.1, right_own p b (ms ++ before) (ms_none p) ∙ x.2), inl (once_later (ZeroHere d p) b (ms ++ before) (zero_before d p ms before (none p) zero_read)))) h)
+    parked_later p zero_read h = subst (Once (ParkedLater d p)) (sym at) (once_earlier _ _ js _
+        (λ m b x. ((x.0, x.1, right_own p b _ (ms_none p) ∙ x.2), inl (once_later _ b _ (zero_before d p ms before (none p) zero_read)))) h)
 
     by_mark : (p : ℕ) (t : Bool) → is_marked marks p ≡ t → MatchBool t (LastOffered d p ms) (Once (ZeroHere d p) ms)
         → (is_marked marks p ≡ false → Once (ParkedHere true p) js) → IsAccounted d p ((js ++ ms) ++ before)
     by_mark p true e h parked = inr (last p h)
     by_mark p false e h parked = inl (inr (parked_later p h (parked e)))
 
+    -- Pages that the verdict read as parked are accounted for in the whole call.
     accounted : (end : ℕ) → end ≤ f.pages + 1 → AllParked f marks d end js → AllAccounted f d end ((js ++ ms) ++ before)
     accounted end le parked v agreed p some lt is = search (arith, by_mark, at_view)
 
@@ -130,17 +135,19 @@ module _ (d : Directory) (marks : List ℕ) {σ σ1 σ2 : Standing} (offers : Ma
         record {
           page_of = here.of_region;
           of_directory = λ v agreed. ap (λ s. known_deed s page) (at_view v) ∙ (verdict.0 ((ms ++ before) ++ v)).of_directory;
-          held = subst (Once (HeldHere d page)) (sym at)
-              (held_from d page js (ms ++ before) judges.scans (ms_none page) (missing d page ms before offers.scans (none page) (MatchBool-at_false (LastOffered d page ms) (Once (ZeroHere d page) ms) here.unmarked (offers.offered page within))) verdict.1);
+          held = subst (Once (HeldHere d page)) (sym at) (held_from d page js _ judges.scans (ms_none page)
+              (missing d page ms before offers.scans (none page) (MatchBool-at_false _ _ here.unmarked (offers.offered page within))) verdict.1);
           lower = accounted page (omega (arith, within)) verdict.2;
         }
 
+  -- The call refuses with its reason.
   refuses : Refuses d σ σ2 room
   refuses = record {
     steps = js ++ ms;
     adds = adds_call offers.adds judges.adds (λ v l stood met. tt);
     scans = scans_append js ms judges.scans offers.scans;
-    few = let n = length-append js ms in let a = subst (λ x. length js ≤ 65 * (last_block x room + 1)) same judges.few in let last = last_within f room (held_page room (subst (λ x. IsVerdict x marks d js room) same judges.verdict)) in omega (arith, n, a, offers.few, last);
+    few = let n = length-append js ms in let a = subst (λ x. length js ≤ 65 * (last_block x room + 1)) same judges.few in
+        let last = last_within f room (held_page room (subst (λ x. IsVerdict x marks d js room) same judges.verdict)) in omega (arith, n, a, offers.few, last);
     reason = λ before none. reason_of before none room (subst (λ x. IsVerdict x marks d js room) same judges.verdict);
   }
 
@@ -156,28 +163,18 @@ module _ (d : Directory) (xs : List Made) (lacks : (p : ℕ) → has_right xs p 
   left_at p m b h = (h.0, right_own p b xs (lacks p) ∙ h.1, once_earlier (GetsHere p) (GetsHere p) b xs (λ n c x. x) h.2)
 
   later_at : (p : ℕ) (m : Made) (b : List Made) → ParkedLater d p m b → ParkedLater d p m (b ++ xs)
-  later_at p m b h = (
-    (h.0.0, h.0.1, right_own p b xs (lacks p) ∙ h.0.2),
-    elim h.1 [
-      | inl zero_read ↦ inl (zero_before d p b xs (lacks p) zero_read)
-      | inr bare ↦ inr (once_earlier (NoDeedHere p) (NoDeedHere p) b xs (λ n c x. x) bare)
-    ],
-  )
+  later_at p m b h = search (arith, right_own, zero_before, once_earlier)
 
   accounted_before : (p : ℕ) (ys : List Made) → IsAccounted d p ys → IsAccounted d p (ys ++ xs)
   accounted_before p ys (inl (inl left)) = inl (inl (once_earlier (LeftHere p) (LeftHere p) ys xs (left_at p) left))
   accounted_before p ys (inl (inr later)) = inl (inr (once_earlier (ParkedLater d p) (ParkedLater d p) ys xs (later_at p) later))
-  accounted_before p ys (inr offered) = inr (since_earlier (OneHere d p) (NotReadHere d p) (OneHere d p) (NotReadHere d p) ys xs (λ m b x. (x.0, x.1, right_own p b xs (lacks p) ∙ x.2)) (λ m b x. x) offered)
+  accounted_before p ys (inr offered) = inr (since_earlier (OneHere d p) _ (OneHere d p) (NotReadHere d p) ys xs (λ m b x. (x.0, x.1, right_own p b xs (lacks p) ∙ x.2)) (λ m b x. x) offered)
 
   missing_at : (p : ℕ) (m : Made) (b : List Made) → MissingHere d p m b → MissingHere d p m (b ++ xs)
-  missing_at p m b (inl zero_read, after) = (inl (zero_read.0, zero_read.1, right_own p b xs (lacks p) ∙ zero_read.2), right_own p (m ∷ b) xs (lacks p) ∙ after)
-  missing_at p m b (inr bare, after) = (inr bare, right_own p (m ∷ b) xs (lacks p) ∙ after)
+  missing_at p m b missing = search (arith, right_own)
 
   held_at : (p : ℕ) (m : Made) (b : List Made) → HeldHere d p m b → HeldHere d p m (b ++ xs)
-  held_at p m b h = (
-    (h.0.0, h.0.1, right_own p b xs (lacks p) ∙ h.0.2),
-    since_earlier (MissingHere d p) (LacksAfter p) (MissingHere d p) (LacksAfter p) b xs (missing_at p) (λ n c x. right_own p (n ∷ c) xs (lacks p) ∙ x) h.1,
-  )
+  held_at p m b h = search (arith, right_own, since_earlier, missing_at)
 
   module _ (f : Profile) (ys : List Made) where
     all_before : (end : ℕ) → AllAccounted f d end ys → AllAccounted f d end (ys ++ xs)

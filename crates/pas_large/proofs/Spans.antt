@@ -1,6 +1,6 @@
 -- Ranges of pages: in order, long enough, cut, and looked up.
-use Rattle.std.proofs.Common.{◌≡◌, ℕ, ◌<◌, ◌≤◌, min, max, nat_le, nat_lt, Bool, true, false, ◌||◌, if◌then◌else◌, List, [], ◌∷◌, inl, inr, refl, ap, sym, ◌∙◌}
-use Rattle.std.proofs.Common.{subst, arith, true≢false, ◌+◌, ◌-◌, ◌⊎◌, Option, Some, None, MatchOption, not, ◌&&◌, ◌++◌, ◌≢◌, length, get_or, set, take, drop}
+use Rattle.std.proofs.Common.{◌≡◌, ℕ, ◌<◌, ◌≤◌, nat_le, nat_lt, Bool, true, false, ◌||◌, if◌then◌else◌, List, [], ◌∷◌, inl, inr, refl, ap, sym, ◌∙◌, subst}
+use Rattle.std.proofs.Common.{arith, true≢false, ◌+◌, ◌-◌, ◌⊎◌, Option, Some, None, MatchOption, not, ◌&&◌, ◌++◌, ◌≢◌, length, get_or, set, take, drop}
 use Rattle.std.proofs.Common.{append_assoc, length-set, zero, suc, eq-eqb, ne_eqb, take_at, drop-drop, length-take-le}
 use Rattle.std.proofs.{Math.Bool.or_comm, lemmas.Bool.Decides.nat_tests}
 use Rattle.std.proofs.lemmas.Bool.{cases_Bool, cases_lt, and_parts, or_cases, or_from, or_left, or_right, cases_order, or_parts, cases_eq}
@@ -17,9 +17,11 @@ use Rattle.arrayvec.proofs.ArrayVecLemmas.{items-with_items}
 same_truth : (a b : Bool) → (a ≡ true → b ≡ true) → (b ≡ true → a ≡ true) → a ≡ b
 same_truth a b to from = grind arith
 
+-- Of three tests, however they are put in brackets.
 or_assoc : (a b c : Bool) → (a || (b || c)) ≡ ((a || b) || c)
 or_assoc a b c = grind arith
 
+-- And in whatever order.
 or_between : (a b c : Bool) → (b || (a || c)) ≡ ((a || b) || c)
 or_between a b c = grind arith
 
@@ -73,16 +75,14 @@ apart_from low lower (s ∷ rest) le h = (omega (arith, h.0, le), h.1, h.2, h.3)
 joins_later : (new s : Span) (rest : List Span) → nat_lt s.end new.first ≡ true → joined new (s ∷ rest) ≡ s ∷ joined new rest
 joins_later new s rest is = ap (λ t. if t then s ∷ joined new rest else if nat_lt new.end s.first then new ∷ s ∷ rest else joined (hull s new) rest) is
 
+-- the tests decide which range stands first
 joins_before : (new s : Span) (rest : List Span) → nat_lt s.end new.first ≡ false → nat_lt new.end s.first ≡ true → joined new (s ∷ rest) ≡ new ∷ s ∷ rest
-joins_before new s rest isnt is =
-    ap (λ t. if t then s ∷ joined new rest else if nat_lt new.end s.first then new ∷ s ∷ rest else joined (hull s new) rest) isnt
-    ∙ ap (λ t. if t then new ∷ s ∷ rest else joined (hull s new) rest) is
+joins_before new s rest isnt is = search arith
 
+-- .. or that they meet
 joins_into : (new s : Span) (rest : List Span) → nat_lt s.end new.first ≡ false → nat_lt new.end s.first ≡ false
     → joined new (s ∷ rest) ≡ joined (hull s new) rest
-joins_into new s rest isnt either =
-    ap (λ t. if t then s ∷ joined new rest else if nat_lt new.end s.first then new ∷ s ∷ rest else joined (hull s new) rest) isnt
-    ∙ ap (λ t. if t then new ∷ s ∷ rest else joined (hull s new) rest) either
+joins_into new s rest isnt either = search arith
 
 -- Ranges that keep apart still do with one more joined to them.
 pub joined_apart : (low : ℕ) (new : Span) (spans : List Span) → AreApart low spans → low < new.first → new.first < new.end → new.end ≤ 65536
@@ -94,27 +94,14 @@ joined_apart low new (s ∷ rest) h above some last =
       | inl later ↦ subst (AreApart low) (sym (joins_later new s rest later)) (h.0, h.1, h.2, joined_apart s.end new rest h.3 (lt_is s.end new.first later) some last)
       | inr meets ↦ elim (cases_Bool (nat_lt new.end s.first)) [
         | inl before ↦ subst (AreApart low) (sym (joins_before new s rest meets before)) (above, some, last, (lt_is new.end s.first before, h.1, h.2, h.3))
-        | inr into ↦ subst (AreApart low) (sym (joins_into new s rest meets into))
-            (joined_apart low (hull s new) rest (apart_from s.end low rest (omega (arith, a, b)) h.3) (omega (arith, a, above)) (omega (arith, b, some)) (omega (arith, c, last)))
+        | inr into ↦ subst (AreApart low) (sym (joins_into new s rest meets into)) (joined_apart low (hull s new) rest
+            (apart_from s.end low rest (omega (arith, a, b)) h.3) (omega (arith, a, above)) (omega (arith, b, some)) (omega (arith, c, last)))
       ]
     ]
 
 hull_has : (s new : Span) (p : ℕ) → s.first < s.end → new.first < new.end → new.first ≤ s.end → s.first ≤ new.end
     → in_span (hull s new) p ≡ (in_span s p || in_span new p)
-hull_has s new p some other low high =
-    same_truth (in_span (hull s new) p) (in_span s p || in_span new p)
-    (λ is. let parts = span_parts (hull s new) p is in let a : min s.first new.first ≤ p = parts.0 in let b : p < max s.end new.end = parts.1 in
-    elim (cases_lt p s.first) [
-      | inl below ↦ or_right (in_span s p) (in_span new p) (span_in new p (omega (arith, a, below)) (omega (arith, below, high)))
-      | inr above ↦ elim (cases_lt p s.end) [
-        | inl within ↦ or_left (in_span s p) (in_span new p) (span_in s p above within)
-        | inr past ↦ or_right (in_span s p) (in_span new p) (span_in new p (omega (arith, past, low)) (omega (arith, past, b)))
-      ]
-    ])
-    (λ is. elim (or_cases (in_span s p) (in_span new p) is) [
-      | inl one ↦ let parts = span_parts s p one in span_in (hull s new) p (omega (arith, parts.0)) (omega (arith, parts.1))
-      | inr two ↦ let parts = span_parts new p two in span_in (hull s new) p (omega (arith, parts.0)) (omega (arith, parts.1))
-    ])
+hull_has s new p some other low high = search (arith, same_truth, span_parts, cases_lt, or_right, span_in, or_left, or_cases)
 
 -- Ranges with one more joined have just that one's pages more.
 pub joined_has : (low : ℕ) (new : Span) (spans : List Span) → AreApart low spans → new.first < new.end
@@ -144,7 +131,7 @@ begin_same low s t xs ys h k same = elim (cases_lt t.first s.first) [
   | inr le ↦ le
   | inl lt ↦ let a = k.1 in let b = h.1 in
       let there : has_page (t ∷ ys) t.first ≡ true = or_left (in_span t t.first) (has_page ys t.first) (span_in t t.first (omega arith) a) in
-      let not_here : has_page (s ∷ xs) t.first ≡ false = or_from (in_span s t.first) (has_page xs t.first) (span_below s t.first lt) (none_below s.end xs t.first h.3 (omega (arith, b, lt))) in
+      let not_here = or_from (in_span s t.first) (has_page xs t.first) (span_below s t.first lt) (none_below s.end xs t.first h.3 (omega (arith, b, lt))) in
       absurd (true≢false (sym there ∙ (sym (same t.first) ∙ not_here)))
 ]
 
@@ -154,7 +141,7 @@ end_same low s t xs ys h k first same = elim (cases_lt s.end t.end) [
   | inr le ↦ le
   | inl lt ↦ let b = h.1 in
       let there : has_page (t ∷ ys) s.end ≡ true = or_left (in_span t s.end) (has_page ys s.end) (span_in t s.end (omega (arith, b, first)) lt) in
-      let not_here : has_page (s ∷ xs) s.end ≡ false = or_from (in_span s s.end) (has_page xs s.end) (span_past s s.end (omega arith)) (none_below s.end xs s.end h.3 (omega arith)) in
+      let not_here = or_from (in_span s s.end) (has_page xs s.end) (span_past s s.end (omega arith)) (none_below s.end xs s.end h.3 (omega arith)) in
       absurd (true≢false (sym there ∙ (sym (same s.end) ∙ not_here)))
 ]
 
@@ -195,7 +182,8 @@ fit_step low s rest n p h fit =
         begins = sym is;
         long = elim (cases_lt s.end (s.first + n)) [
           | inr le ↦ le
-          | inl lt ↦ absurd (true≢false (sym (fit.pages s.end (omega (arith, is, b)) (omega (arith, is, lt))) ∙ or_from (in_span s s.end) (has_page rest s.end) (span_past s s.end (omega arith)) (none_below s.end rest s.end h.3 (omega arith))))
+          | inl lt ↦ absurd (true≢false (sym (fit.pages s.end (omega (arith, is, b)) (omega (arith, is, lt)))
+              ∙ or_from (in_span s s.end) (has_page rest s.end) (span_past s s.end (omega arith)) (none_below s.end rest s.end h.3 (omega arith))))
         ];
       })
       | inr differ ↦ elim differ [
@@ -218,22 +206,10 @@ fit_step low s rest n p h fit =
     ]
 
 fit_here : (low : ℕ) (s : Span) (rest : List Span) (n p : ℕ) → AreApart low (s ∷ rest) → IsPlaceOf p n s → FitsAt (has_page (s ∷ rest)) n p
-fit_here low s rest n p h place =
-    let b = h.1 in let is = place.begins in let long = place.long in
-    record {
-      begins = or_left (in_span s p) (has_page rest p) (span_in s p (omega (arith, is)) (omega (arith, is, b)));
-      before = λ page next. or_from (in_span s page) (has_page rest page) (span_below s page (omega (arith, is, next))) (none_below s.end rest page h.3 (omega (arith, is, next, b)));
-      pages = λ page from to. or_left (in_span s page) (has_page rest page) (span_in s page (omega (arith, is, from)) (omega (arith, is, to, long)));
-    }
+fit_here low s rest n p h place = search (arith, or_left, span_in, or_from, span_below, none_below)
 
 fit_later : (low : ℕ) (s : Span) (rest : List Span) (n p : ℕ) → AreApart low (s ∷ rest) → FitsAt (has_page rest) n p → FitsAt (has_page (s ∷ rest)) n p
-fit_later low s rest n p h fit =
-    let past = above_low s.end rest p h.3 fit.begins in
-    record {
-      begins = or_right (in_span s p) (has_page rest p) fit.begins;
-      before = λ page next. or_from (in_span s page) (has_page rest page) (span_past s page (omega (arith, next, past))) (fit.before page next);
-      pages = λ page from to. or_right (in_span s page) (has_page rest page) (fit.pages page from to);
-    }
+fit_later low s rest n p h fit = search (arith, above_low, or_right, or_from, span_past)
 
 no_fit : (n p : ℕ) → FitsAt (has_page []) n p → ⊥
 no_fit n p fit = true≢false (sym fit.begins)
@@ -296,20 +272,12 @@ leaves_none : (n : ℕ) (s : Span) → s.end - s.first ≤ n → left_of n s ≡
 leaves_none n s le = ap (λ t. if t then record { first = s.first + n; end = s.end } ∷ [] else []) (isnt_lt n (s.end - s.first) le)
 
 left_apart : (low n : ℕ) (s : Span) (rest : List Span) → AreApart low (s ∷ rest) → AreApart low (left_of n s ++ rest)
-left_apart low n s rest h =
-    let a = h.0 in let b = h.1 in
-    elim (cases_lt n (s.end - s.first)) [
-      | inl lt ↦ subst (λ l. AreApart low (l ++ rest)) (sym (leaves_some n s lt)) (omega (arith, a), omega (arith, lt), h.2, h.3)
-      | inr le ↦ subst (λ l. AreApart low (l ++ rest)) (sym (leaves_none n s le)) (apart_from s.end low rest (omega (arith, a, b)) h.3)
-    ]
+left_apart low n s rest h = search (arith, cases_lt, leaves_some, leaves_none, apart_from)
 
 -- Ranges that keep apart still do when the first pages of one are cut.
 pub cut_apart : (low first n : ℕ) (spans : List Span) → AreApart low spans → AreApart low (cut_at first n spans)
 cut_apart low first n [] h = tt
-cut_apart low first n (s ∷ rest) h = elim (cases_eq s.first first) [
-  | inl is ↦ subst (AreApart low) (sym (cuts_here first n s rest is)) (left_apart low n s rest h)
-  | inr isnt ↦ subst (AreApart low) (sym (cuts_later first n s rest isnt)) (h.0, h.1, h.2, cut_apart s.end first n rest h.3)
-]
+cut_apart low first n (s ∷ rest) h = let rest = cut_apart s.end first n rest h.3 in grind (arith, rest, cases_eq, cuts_here, left_apart, cuts_later)
 
 -- ---- the pages that are left
 within_cases : (a r c : Bool) → (r ≡ true → c ≡ false) → ((a && not c) || r) ≡ ((a || r) && not c)
@@ -318,6 +286,7 @@ within_cases a r c apart = grind arith
 within_or : (x a r c : Bool) → x ≡ (a && not c) → (r ≡ true → c ≡ false) → (x || r) ≡ ((a || r) && not c)
 within_or x a r c is apart = ap (λ t. t || r) is ∙ within_cases a r c apart
 
+-- What is in front isn't cut off: by whether the page is there.
 front_cases : (a x c : Bool) → (a ≡ true → c ≡ false) → (a || (x && not c)) ≡ ((a || x) && not c)
 front_cases a x c apart = grind arith
 
@@ -333,14 +302,7 @@ none_left n p s is = grind (arith, nat_tests)
 
 left_has : (low n p : ℕ) (s : Span) (rest : List Span) → AreApart low (s ∷ rest) → s.first + n ≤ s.end
     → has_page (left_of n s ++ rest) p ≡ ((in_span s p || has_page rest p) && not (in_span (from_to s.first n) p))
-left_has low n p s rest h long =
-    let a = h.1 in
-    let apart : has_page rest p ≡ true → in_span (from_to s.first n) p ≡ false
-    = λ there. let past = above_low s.end rest p h.3 there in span_past (from_to s.first n) p (omega (arith, past, long)) in
-    elim (cases_lt n (s.end - s.first)) [
-      | inl lt ↦ ap (λ l. has_page (l ++ rest) p) (leaves_some n s lt) ∙ within_or (in_span (record { first = s.first + n; end = s.end }) p) (in_span s p) (has_page rest p) (in_span (from_to s.first n) p) (some_left n p s lt) apart
-      | inr le ↦ ap (λ l. has_page (l ++ rest) p) (leaves_none n s le) ∙ within_or false (in_span s p) (has_page rest p) (in_span (from_to s.first n) p) (none_left n p s (omega (arith, a, le, long))) apart
-    ]
+left_has low n p s rest h long = search (arith, above_low, span_past, cases_lt, leaves_some, within_or, some_left, leaves_none, none_left)
 
 -- Ranges that were cut have just those first pages fewer.
 pub cut_has : (low first n : ℕ) (spans : List Span) → AreApart low spans → FitsAt (has_page spans) n first
@@ -388,7 +350,7 @@ cut_is_lowest low first n (s ∷ rest) h is =
           cuts_here first n s rest (some_same s.first first same) ∙ sym (ap (λ t. if t then left_of n s ++ rest else s ∷ cut_lowest n rest) long)
       | inr short ↦ let later : lowest_fit n rest ≡ Some first = sym (fits_later n s rest short) ∙ is in
           let past = above_fit s.end rest n first h.3 later in
-          cuts_later first n s rest (λ same. omega (arith, same, past, b)) ∙ (ap (λ l. s ∷ l) (cut_is_lowest s.end first n rest h.3 later) ∙ sym (ap (λ t. if t then left_of n s ++ rest else s ∷ cut_lowest n rest) short))
+          cuts_later _ n s rest (λ same. omega (arith, same, past, b)) ∙ (ap (λ l. s ∷ l) (cut_is_lowest _ _ n rest h.3 later) ∙ sym (ap (λ t. if t then left_of n s ++ rest else s ∷ cut_lowest n rest) short))
     ]
 
 -- Where no range is long enough, nothing is cut.
@@ -432,9 +394,9 @@ ends_of : (first : ℕ) (spans : List Span) (i : ℕ) (d : Span) → i < length 
 ends_of first spans i d lt h = subst (EndsFrom first) (drop_more spans i d lt) h
 
 -- ---- ranges that a new one meets
+-- the first of them begins behind the end of the one before
 ends_later : (first : ℕ) (s : Span) (rest : List Span) → AreApart 0 (s ∷ rest) → first ≤ s.first → EndsFrom first rest
-ends_later first s [] h le = tt
-ends_later first s (t ∷ rest) h le = omega (arith, h.1, h.3.0, h.3.1, le)
+ends_later first s rest h le = search arith
 
 -- the range so far has all pages of the new one and of those from the place to here
 pub record Gathers (new whole : Span) (spans : List Span) (place here : ℕ) : Type 0 where
@@ -446,15 +408,7 @@ pub record Gathers (new whole : Span) (spans : List Span) (place here : ℕ) : T
 -- A range that meets what was gathered so far is gathered, too.
 pub gathers_more : (new whole : Span) (spans : List Span) (place here : ℕ) (d : Span) → AreApart 0 spans → here < length spans
     → (get_or spans here d).first ≤ whole.end → Gathers new whole spans place here → Gathers new (hull (get_or spans here d) whole) spans place (here + 1)
-gathers_more new whole spans place here d h lt meets so_far =
-    let s : Span = get_or spans here d in
-    let ends = ends_of whole.first spans here d lt so_far.behind in
-    record {
-      from = omega (arith, so_far.from);
-      within = omega (arith, lt);
-      joins = so_far.joins ∙ (ap (λ r. joined whole r) (drop_more spans here d lt) ∙ joins_into whole s (drop (here + 1) spans) (isnt_lt s.end whole.first ends) (isnt_lt whole.end s.first meets));
-      behind = ends_later (min s.first whole.first) s (drop (here + 1) spans) (at_place spans here d h lt) (omega arith);
-    }
+gathers_more new whole spans place here d h lt meets so_far = search (arith, ends_of, drop_more, joins_into, isnt_lt, ends_later, at_place)
 
 -- ---- the lowest one that has as many
 -- ---- the range that begins at a page
@@ -465,10 +419,7 @@ pub record LooksFor (first n : ℕ) (spans : List Span) (i : ℕ) : Type 0 where
 
 -- The range that is looked for stands before the end of the list.
 pub looks_within : (first n : ℕ) (spans : List Span) (i : ℕ) → LooksFor first n spans i → i < length spans
-looks_within first n spans i so_far = elim (cases_lt i (length spans)) [
-  | inl lt ↦ lt
-  | inr past ↦ absurd (no_fit n first (subst (λ r. FitsAt (has_page r) n first) (drop_all i spans past) so_far.fits))
-]
+looks_within first n spans i so_far = search (arith, cases_lt, no_fit, drop_all)
 
 -- A range that begins elsewhere is passed over.
 pub looks_more : (first n : ℕ) (spans : List Span) (i : ℕ) (d : Span) → AreApart 0 spans → i < length spans → (get_or spans i d).first ≢ first
@@ -481,7 +432,7 @@ looks_more first n spans i d h lt other so_far =
         | inl here ↦ absurd (other here.begins)
         | inr later ↦ later
       ];
-      before = so_far.before ∙ (ap (λ r. take i spans ++ cut_at first n r) (drop_more spans i d lt) ∙ (ap (λ r. take i spans ++ r) (cuts_later first n s (drop (i + 1) spans) other) ∙ one_on spans i d (cut_at first n (drop (i + 1) spans)) lt));
+      before = so_far.before ∙ (ap (λ r. take i spans ++ cut_at first n r) (drop_more spans i d lt) ∙ (ap (λ r. take i spans ++ r) (cuts_later first n s _ other) ∙ one_on spans i d _ lt));
     }
 
 -- A range that begins at the page is the one that was looked for, and is long enough.
@@ -498,7 +449,7 @@ looked first n spans i d h lt is so_far =
 cut_there : (first n : ℕ) (spans : List Span) (i : ℕ) (d : Span) → i < length spans → (get_or spans i d).first ≡ first
     → cut_at first n spans ≡ take i spans ++ cut_at first n (drop i spans)
     → cut_at first n spans ≡ take i spans ++ (left_of n (get_or spans i d) ++ drop (i + 1) spans)
-cut_there first n spans i d lt is before = before ∙ ap (λ r. take i spans ++ r) (ap (cut_at first n) (drop_more spans i d lt) ∙ cuts_here first n (get_or spans i d) (drop (i + 1) spans) is)
+cut_there first n spans i d lt is before = search (arith, drop_more, cuts_here)
 
 one_up : (i : ℕ) → suc i ≡ i + 1
 one_up i = omega arith
@@ -520,10 +471,7 @@ shortened spans i n s ys same lt some =
 -- those from a place to here were taken out, one more
 pub without_more : (spans : List Span) (place here : ℕ) → place ≤ here → here < length spans
     → remove (take place spans ++ drop here spans) place ≡ take place spans ++ drop (here + 1) spans
-without_more spans place here le lt =
-    let n : length (take place spans) ≡ place = length-take-le place spans (omega (arith, le, lt)) in
-    ap (λ l. l ++ drop (suc place) (take place spans ++ drop here spans)) (take_at (take place spans) (drop here spans) place n)
-    ∙ ap (λ l. take place spans ++ l) (dropped_more (take place spans) spans place here n lt)
+without_more spans place here le lt = search (arith, length-take-le, take_at, dropped_more)
 
 -- ---- the calls of an index
 abbrev pub blank : Span
@@ -537,11 +485,10 @@ found_for spans items n found h same is = subst (IsFound spans n) (sym (is ∙ a
 pub cut_is : (first n : ℕ) (spans items ys : List Span) (i : ℕ) → items ≡ spans → i < length items
     → cut_at first n items ≡ take i items ++ cut_at first n (drop i items) → ((d : Span) → IsPlaceOf first n (get_or items i d))
     → ((d : Span) → ys ≡ take i spans ++ (left_of n (get_or spans i d) ++ drop (i + 1) spans)) → ys ≡ cut_at first n spans
-cut_is first n spans items ys i same lt before here is =
-    is blank ∙ sym (cut_there first n spans i blank (subst (λ l. i < length l) same lt) (subst (λ l. (get_or l i blank).first ≡ first) same (here blank).begins) (subst (λ l. cut_at first n l ≡ take i l ++ cut_at first n (drop i l)) same before))
+cut_is first n spans items ys i same lt before here is = is blank ∙ sym (cut_there first n spans i blank (subst (λ l. i < length l) same lt) (subst
+    (λ l. (get_or l i blank).first ≡ first) same (here blank).begins) (subst (λ l. cut_at first n l ≡ take i l ++ cut_at first n (drop i l)) same before))
 
 -- A list in which one range stands for all that it meets is the ranges with the new one joined.
 pub joined_is : (new whole : Span) (spans one two ys : List Span) (place end : ℕ) → one ≡ spans → two ≡ spans → StandsBehind new.first one place
     → joined new (drop place two) ≡ whole ∷ drop end two → ys ≡ take place spans ++ whole ∷ drop end spans → ys ≡ joined new spans
-joined_is new whole spans one two ys place end first second before joins is =
-    is ∙ sym (subst (λ l. StandsBehind new.first l place) first before new refl ∙ ap (λ r. take place spans ++ r) (subst (λ l. joined new (drop place l) ≡ whole ∷ drop end l) second joins))
+joined_is new whole spans one two ys place end first second before joins is = search arith

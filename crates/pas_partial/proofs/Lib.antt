@@ -1,2 +1,1 @@
-mod LowestRow
 mod Refilled

@@ -4,7 +4,7 @@ use Rattle.std.proofs.Common.{arith}
 use Rattle.std.proofs.Math.Nat.{mul-le-mul_right}
 use Rattle.pas_profile.specs.Classes.{IsClass, class_grains, usable_grains, IsSlotStart}
 use Rattle.pas_profile.specs.declared.directory.Kind.{Kind}
-use Rattle.pas_profile.proofs.ClassFacts.{class_grains_positive, usable_grains_le, first_slot}
+use Rattle.pas_profile.proofs.Sizes.{class_grains_positive, usable_grains_le, first_slot}
 use Rattle.pas_bits.specs.declared.mask.Mask4.{Mask4}
 use Rattle.pas_bits.specs.{Masks.is_set, Runs.AreFree}
 use Rattle.pas_steps.specs.Evidence.{Readings}

@@ -3,7 +3,7 @@ use Rattle.std.proofs.Common.{◌≡◌, ℕ, ◌+◌, ◌*◌, ◌/◌, ◌%◌
 use Rattle.std.proofs.Common.{Result, Ok, Err, MatchResult, refl, ap, sym, ◌∙◌, subst, arith, inl, inr, ◌⊎◌, append_assoc, length-append, true≢false, eq-eqb}
 use Rattle.std.proofs.Common.{eqb-true}
 use Rattle.std.proofs.lemmas.Bool.{and_parts, and_from}
-use Rattle.pas_profile.specs.{Profiles.IsDirectoryOf, Blocks.address_of, Blocks.grain_of, Blocks.length_of}
+use Rattle.pas_profile.specs.{Profiles.IsDirectoryOf, Blocks.address_of, Blocks.grain_of, Blocks.length_of, Profiles.IsValid}
 use Rattle.pas_bits.specs.Runs.{in_run}
 use Rattle.pas_profile.specs.declared.{directory.Directory.Directory, event.NoRoom.NoRoom, name.Block.Block, profile.Profile.Profile}
 use Rattle.pas_bits.proofs.Runs.{to_run}
@@ -12,17 +12,19 @@ use Rattle.pas_rights.specs.Leaves.{MayLeave, Leaves}
 use Rattle.pas_rights.proofs.Gives.{may_give_on, covers}
 use Rattle.pas_steps.specs.Calls.{Calls, Kept, Gained, Lost, now, later, Does}
 use Rattle.pas_steps.specs.Desks.{Seat, Standing, Adds, CanCall, triples}
-use Rattle.pas_steps.specs.{Unknown.HasRoom, Events.events_of, Events.events_by, Kinds.returning, Views.View, Views.holds, Views.KnowsDeed}
+use Rattle.pas_steps.specs.{Unknown.HasRoom, Events.events_of, Events.events_by, Kinds.returning, Views.View, Views.holds, Views.KnowsDeed, Evidence.IsAntitone}
+use Rattle.pas_steps.specs.{Lists.Whole, Lists.part, Lists.Legal}
 use Rattle.pas_steps.specs.declared.step.Made.{Made}
 use Rattle.pas_steps.proofs.{Adding.room_left, Apart.events_same, Calls.does_as, Calls.does_then, Calls.returns_are, Frames.events_split, Sets.same_truth}
 use Rattle.pas_steps.proofs.{SpareRoom.Spares}
 use Rattle.pas_steps.proofs.Called.{call_as, call_knows, call_then, next_call}
 use Rattle.pas_search.specs.{Kinds.deeds_made, Serving.right_of, Telling.IsLowestOffered, Telling.IsLowestBare, Telling.IsTold, ByRank.AllocatesByRank}
+use Rattle.pas_search.specs.{Alone.FindsWhatThereIs, Choices.Choice}
 use Rattle.pas_search.specs.Placements.{Placement, IsPlacement, IsFit, placed, by_run, placing}
 use Rattle.pas_search.specs.Searches.{MaySearch, SearchRoom, FromOffered, ByDeed, Finds, IsRefused, search_steps, Searches}
 use Rattle.pas_search.specs.Ranks.{Measure, RankRoom, TriesBest, FromSurvey, IsBestOffered}
-use Rattle.pas_search.proofs.{TheBestPage.falls_back, TheBestPage.adds_then, TheBestPage.stood_then, Placed.placed_fits}
-use Rattle.pas_search.proofs.Found.{KeepsNew, finds_call, finds_as, left_after}
+use Rattle.pas_search.proofs.TheBestPage.{falls_back, adds_then, stood_then, KeepsNew, finds_call, finds_as, left_after}
+use Rattle.pas_search.proofs.{Pages.placed_fits, FindingAPage.IsFoundOrRefused, FindingAPage.found_before}
 use Rattle.pas_search.specs.declared.{serving.Served.Served, placing.Run.Run}
 use Rattle.pas_search.specs.Allocates.{GaveBlock, GivesFound, IsGiven, AllocatesRun}
 
@@ -118,7 +120,7 @@ module _ (p : Placement) (is : IsPlacement p) (asked : p.asked) (d : Directory) 
     gave_call = call_then (λ v w. Gave v w × KnowsDeed page d w) new_call give_call (λ v met kept. (may_give v met kept, kept.found.deed)) (λ v met kept gave. (
       record {
         does = does_as (right_of page Gained) (does_then kept.found.keeps.does gave.0.does)
-            (λ g. taken_given ((page == g / 256) && in_run first n (g % 256)) (in_run (page * 256 + first) n g) (holds v g) (in_region g) (kept.apart g)) (λ q. refl) (λ q h. h);
+            (λ g. taken_given _ (in_run (page * 256 + first) n g) (holds v g) (in_region g) (kept.apart g)) (λ q. refl) (λ q h. h);
         apart = λ g inside. kept.apart g (in_region g ∙ sym (covers d.heap page first n gives.word block gives.block_is g) ∙ inside);
         turn = gave.0.turn;
       },
@@ -161,7 +163,7 @@ module _ (p : Placement) (is : IsPlacement p) (asked : p.asked) (d : Directory) 
           record {
             page = page;
             found = it.found;
-            served = finds_as (by_run p) p.chosen (λ found. in_run (p.run found).first (p.run found).grains) page run it.found (λ g lt. ap (λ (x : Run). in_run x.first x.grains g) it.run_is) finds it.chosen chosen;
+            served = finds_as (by_run p) p.chosen _ page run it.found (λ g lt. ap (λ (x : Run). in_run x.first x.grains g) it.run_is) finds it.chosen chosen;
             word = gives.word;
             answer = gives.answer;
             left = left.steps;
@@ -172,7 +174,7 @@ module _ (p : Placement) (is : IsPlacement p) (asked : p.asked) (d : Directory) 
             address_is = ap (λ (b : Block). address_of b.name) block_as;
             room_is = ap (λ (b : Block). b.room) block_as;
             gave = whole_call.leads;
-            events = λ k v. ap (events_by k v) (append_assoc left.steps given xs) ∙ events_same returning refl k v left.steps (given ++ xs) (returns_are page left.steps left.returns);
+            events = λ k v. ap (events_by k v) (append_assoc left.steps given xs) ∙ events_same returning refl k v left.steps _ (returns_are page left.steps left.returns);
           }
 
 -- ---- by a search
@@ -192,7 +194,7 @@ allocates p is asked d {σ = σ} of_profile served searches block gives left = r
   few = searches.few;
   after = left.steps ++ give_steps served.page served.found.first block gives.word gives.answer;
   adds = given_adds p is asked d of_profile served searches.adds searches.outcome block gives left;
-  outcome = given_run p is asked d of_profile served searches.adds searches.outcome block gives left (λ page call. FromOffered p.no_fit d page call ⊎ ByDeed p.no_fit σ.seat.profile d page call) searches.outcome.choice;
+  outcome = given_run p is asked d of_profile served searches.adds searches.outcome block gives left _ searches.outcome.choice;
   told = λ t v l stood met. subst (λ q. IsLowestOffered p.no_fit σ.seat.profile d l q ⊎ IsLowestBare p.no_fit σ.seat.profile d l q)
       (sym (page_is p is asked d of_profile served searches.adds searches.outcome block gives left)) (searches.told t v l stood met);
 }
@@ -249,3 +251,19 @@ allocates_then p d {answer = answer} tries a = let seat_is = tries.adds.seat_is 
   told = λ t v l b met. subst (λ (seat : Seat). IsTold (λ (block : Block). address_of block.name / 4096) p.no_fit seat.profile d l
       (triples seat.actor (a.after ++ a.searched) ++ l) answer) seat_is (a.told t v l (stood_then tries v l b) met);
 }))
+
+-- A request for a run whose actor alone made steps meanwhile.
+-- both cases are parts of what the request promises
+found_or_refused : {Found : Type 0} (choice : Choice Found) (run : Found → Run) (f : Profile) (d : Directory) (searched after : List Made)
+    (answer : Result Block NoRoom)
+    → MatchResult answer (IsGiven choice run f d searched after) (λ why. IsRefused choice.no_fit f d searched why × (after ≡ []))
+    → IsFoundOrRefused choice.no_fit f d searched answer
+found_or_refused choice run f d searched after answer refused = search arith
+
+-- A request for a run whose actor went on alone finds what there is.
+pub run_alone : {Found : Type 0} {σ σ' : Standing} (choice : Choice Found) (run : Found → Run) (d : Directory) (tells : Bool) (answer : Result Block NoRoom)
+    → (call : AllocatesRun choice run d tells σ σ' answer) → (l : Whole)
+    → IsValid σ.seat.profile → IsDirectoryOf σ.seat.profile d → IsAntitone choice.no_fit
+    → Legal σ.seat.profile (triples σ.seat.actor (call.after ++ call.searched) ++ l) → MaySearch d (part σ.seat.actor l)
+    → FindsWhatThereIs choice.no_fit σ.seat.profile d l answer
+run_alone {σ = σ} choice run d tells answer call l valid of fewer legal may = search (arith, found_before, found_or_refused)

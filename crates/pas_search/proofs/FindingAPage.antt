@@ -1,21 +1,22 @@
 -- The answer of a search: an offered page serves, a page does whose deed was made, or the request is refused; and what it says of the states at entry and exit.
 use Rattle.std.proofs.Common.{◌≡◌, ℕ, ◌+◌, ◌*◌, ◌/◌, ◌<◌, ◌≤◌, true, false, List, [], ◌∷◌, ◌++◌, refl, sym, ◌∙◌, subst, arith, ◌⊎◌, inl, inr, append_assoc}
 use Rattle.std.proofs.Common.{true≢false, ◌≢◌, ap, Result, Ok, Err, MatchResult, Bool, length, length-append, suc, Some, None, eq-eqb, ne_eqb}
-use Rattle.std.proofs.lemmas.Bool.{cases_Bool, cases_lt}
+use Rattle.std.proofs.lemmas.Bool.{cases_Bool, cases_lt, cases_eq}
 use Rattle.pas_profile.specs.declared.{directory.Directory.Directory, profile.Profile.Profile, event.NoRoom.NoRoom, event.NoRoom.TheVariants.NoSpace}
 use Rattle.pas_profile.specs.declared.{event.NoRoom.TheVariants.Held, word.Word.Word}
 use Rattle.pas_steps.specs.declared.step.{Made.Made, Step.Step, Step.TheVariants.Deed}
 use Rattle.pas_steps.specs.Views.{has_right, KnowsDeed, View, deed_after, known_deed}
 use Rattle.pas_steps.specs.{Past.Once, Past.Always, Past.Since, Frames.OnlyScans, Effects.target, Agreement.Agreed, Clear.IsClear, Events.events_of}
-use Rattle.pas_steps.specs.{Events.events_by, Unknown.HasRoom}
-use Rattle.pas_steps.proofs.{Kept.scans_look, Kept.looks_read, Kept.deed_stays, Past.once_later, Past.once_earlier, Past.once_map, Frames.right_own}
-use Rattle.pas_steps.proofs.{Frames.events_append, Frames.lacks_now, Parts.part_of_own, Unknown.all_known, Calls.still_clear, Evidence.deed_before}
+use Rattle.pas_steps.specs.{Events.events_by, Unknown.HasRoom, Calls.nothing, Calls.Does}
+use Rattle.pas_steps.proofs.Frames.{scans_look, looks_read, deed_stays, right_own, events_append, lacks_now}
+use Rattle.pas_steps.proofs.{Past.once_later, Past.once_earlier, Past.once_map, Parts.part_of_own, Unknown.all_known, Calls.still_clear, Evidence.deed_before}
 use Rattle.pas_steps.proofs.{Evidence.unknown, Evidence.deed_known}
 use Rattle.pas_steps.specs.Evidence.{UnfitHere, ZeroHere, DeedHere, ParkedHere, ParkedLater, LeftHere, LacksAfter, MissingHere, HeldHere, Accounted, AllDeeds}
-use Rattle.pas_steps.specs.Evidence.{ReadsDeed, KeptHere, Searched, NoDeedHere, GetsRight, GetsHere, IsAntitone}
+use Rattle.pas_steps.specs.Evidence.{ReadsDeed, KeptHere, Searched, NoDeedHere, GetsRight, GetsHere, IsAntitone, Readings}
 use Rattle.pas_scan.specs.Marks.{is_marked}
 use Rattle.pas_scan.specs.Scan.{IsMember, AllParked, IsVerdict, last_block, Judges}
-use Rattle.pas_search.specs.{Serving.Rule, Serving.ShowsFit, Kinds.AreSearch, Kinds.IsDeedOrBack, Kinds.deeds_made}
+use Rattle.pas_search.specs.{Serving.Rule, Serving.ShowsFit, Alone.page_found, Alone.FindsWhatThereIs}
+use Rattle.pas_search.specs.Kinds.{AreSearch, IsDeedOrBack, deeds_made, searching}
 use Rattle.pas_search.specs.Searches.{search_steps, Searching, AllAccounted, IsRefusal, IsRefused, MaySearch, DeedMadeHere, IsHeld, IsServed, SearchRoom}
 use Rattle.pas_search.specs.Searches.{BareRoom, FromOffered, ByDeed, SearchesOffered, ServesBare, SearchesBare, Searches}
 use Rattle.pas_search.proofs.PagesThatServe.{no_deeds, served_search, deeds_serves, AreVain, reads_vain, vain_lacks, vain_search, searched, vain_searching}
@@ -25,12 +26,14 @@ use Rattle.pas_profile.specs.{Directories.deed_word_of, Directories.number_of, P
 use Rattle.pas_profile.proofs.Codecs.{deed_word_of-positive}
 use Rattle.pas_steps.specs.Lists.{Whole, part, word_after, Legal}
 use Rattle.pas_steps.specs.Desks.{triples, Seat, Standing, AnyView, made, Adds, CanCall}
-use Rattle.pas_core.proofs.{Deeds.known_is, Deeds.numbered_ne, Rights.is_offered, Rights.is_parked, Rights.spotted}
-use Rattle.pas_core.specs.Fits.{IsOfferedFit, HasNoFit}
+use Rattle.pas_core.proofs.{Deeds.known_is, Deeds.numbered_ne, Nexts.agreed_steps}
+use Rattle.pas_core.proofs.Rights.{is_offered, is_parked, spotted, own_eligible, spot_of, is_with}
+use Rattle.pas_core.specs.{Fits.IsOfferedFit, Fits.HasNoFit, Alone.ShowsNone, Alone.ShowsAnswer, Alone.IsPlainAnswer, Rights.AllRest}
 use Rattle.pas_search.specs.Telling.{IsLowestOffered, IsLowestBare, IsInHands, IsTrueReason, IsTold}
 use Rattle.pas_search.specs.declared.serving.Served.{Served}
 use Rattle.pas_core.proofs.OneActor.{spot_same, zero_told, one_told, parked_told, entry_lacks, legal_before, offered_deed, offered_lacks, not_in_hands}
-use Rattle.pas_core.proofs.OneActor.{LendsNone, unfit_entry, unfit_exit, fit_entry, deed_quiet, deed_exit, deed_none, lends_none}
+use Rattle.pas_core.proofs.OneActor.{LendsNone, unfit_entry, unfit_exit, fit_entry, deed_quiet, deed_exit, deed_none, lends_none, plain_answer, legal_earlier}
+use Rattle.pas_core.proofs.OneActor.{in_hands, is_with_own}
 use Rattle.pas_steps.proofs.Adding.{adds_call, can_call, legal_after, adds_under}
 
 -- the call had the right of a page that didn't fit
@@ -53,10 +56,11 @@ held_here d p (m ∷ more) xs vain none zero_read lacks (inr h) = inr (held_here
 
 parked_later : (d : Directory) (p : ℕ) (ys xs : List Made) → has_right xs p ≡ false → Once (ZeroHere d p) xs → Once (ParkedHere true p) ys
     → Once (ParkedLater d p) (ys ++ xs)
-parked_later d p ys xs none zero_read = once_earlier (ParkedHere true p) (ParkedLater d p) ys xs (λ m before k. ((k.0, k.1, right_own p before xs none ∙ k.2), inl (once_later (ZeroHere d p) before xs zero_read)))
+parked_later d p ys xs none zero_read = once_earlier _ _ ys xs (λ m before k. ((k.0, k.1, right_own p before xs none ∙ k.2), inl (once_later _ _ xs zero_read)))
 
 module _ {F : Type 0} (rule : Rule F) (f : Profile) (d : Directory) (marks : List ℕ) (ys xs : List Made) (scans : OnlyScans ys)
     (s : Searching rule.no_fit f d (f.pages + 1) marks xs) where
+  -- The verdict's steps are looks, so they change nothing.
   vain : AreVain ys
   vain = reads_vain ys (looks_read ys (scans_look ys scans))
 
@@ -67,6 +71,7 @@ module _ {F : Type 0} (rule : Rule F) (f : Profile) (d : Directory) (marks : Lis
         (all (xs ++ v) p high (record { of_region = (low, omega (arith, limit, high)); of_directory = subst (KnowsDeed p d) (append_assoc ys xs v) is; unmarked = m })))
   ]
 
+  -- The verdict is the refusal's reason, read over the whole search.
   refusal : (answer : NoRoom) → IsVerdict f marks d ys answer → IsRefusal f d (ys ++ xs) answer
   refusal NoSpace all = all_accounted (f.pages + 1) (omega arith) all
   refusal (Held page) h =
@@ -78,8 +83,9 @@ module _ {F : Type 0} (rule : Rule F) (f : Profile) (d : Directory) (marks : Lis
         lower = all_accounted page (omega (arith, is.1)) h.2;
       }
 
+  -- A search whose pages all have deeds is refused as the verdict says.
   refused : (answer : NoRoom) → IsVerdict f marks d ys answer → AllDeeds (f.pages + 1) xs → IsRefused rule.no_fit f d (ys ++ xs) answer
-  refused answer verdict all = let now : Searching rule.no_fit f d (f.pages + 1) marks (ys ++ xs) = vain_searching rule f d (f.pages + 1) marks ys xs vain s in record {
+  refused answer verdict all = let now = vain_searching rule f d (f.pages + 1) marks ys xs vain s in record {
     still = now.still;
     quiet = now.quiet;
     no_deed = no_deeds (ys ++ xs) now.quiet;
@@ -108,7 +114,7 @@ no_fit_there rule f k l d end xs fewer legal searches searched page high fit =
     let first : Legal f l = legal_before f k xs l legal in
     elim (searched page fit.of_region.0 high) [
       | inl u ↦ fit.fits (unfit_entry rule.no_fit f k l page xs fewer legal searches u)
-      | inr z ↦ true≢false (sym fit.offered ∙ (spotted f l first page).eligible (number_of d) ∙ zero_told f k l d page xs legal (offered_lacks f k l (number_of d) page first fit.offered) z.0 z.1)
+      | inr z ↦ true≢false (sym fit.offered ∙ (spotted f l first page).eligible (number_of d) ∙ zero_told f k l d page xs legal (offered_lacks f k l _ page first fit.offered) z.0 z.1)
     ]
 
 -- ---- by a deed
@@ -128,6 +134,7 @@ module _ {F : Type 0} (rule : Rule F) (f : Profile) (k : ℕ) (l : Whole) (d : D
   abbrev w : Whole
   w = triples k xs ++ l
 
+  -- The list at entry is legal, since the one with the search behind it is.
   first : Legal f l
   first = legal_before f k xs l legal
 
@@ -142,7 +149,7 @@ module _ {F : Type 0} (rule : Rule F) (f : Profile) (k : ℕ) (l : Whole) (d : D
         inl (record {
           this = record {
             of_region = here;
-            offered = (spotted f l first p).eligible (number_of d) ∙ ap (is_offered (number_of d)) (sym (spot_same f k l p read.0 read.1 lacks read.2)) ∙ sym ((spotted f (triples k read.0 ++ l) read.1 p).eligible (number_of d)) ∙ read.3;
+            offered = (spotted f l first p).eligible (number_of d) ∙ ap (is_offered _) (sym (spot_same f k l p _ read.1 lacks read.2)) ∙ sym ((spotted f _ read.1 p).eligible (number_of d)) ∙ read.3;
             fits = fit_entry rule.no_fit f k l p shows.readings xs fewer valid legal searches shows.fits shows.read (shows.held.from (part k l) may agreed);
           };
           lowest = λ other fit. not_below p other (λ lt. no_fit_there rule f k l d p xs fewer legal searches from.searched other lt fit);
@@ -184,7 +191,7 @@ module _ {F : Type 0} (rule : Rule F) (f : Profile) (k : ℕ) (l : Whole) (d : D
       elim (account (known_exit p some ∙ hands.of_directory)) [
         | inl left ↦ not_in_hands f k l d p xs of legal lacks (once_map (LeftHere p) (KeptHere p) xs (λ m before h. h.1) left) hands.of_directory hands.not_offered hands.not_parked
         | inr parked ↦ elim (is.searched p low (omega (arith, high))) [
-          | inl u ↦ not_in_hands f k l d p xs of legal lacks (once_map (UnfitHere rule.no_fit p) (KeptHere p) xs (λ m before h. h.kept) u) hands.of_directory hands.not_offered hands.not_parked
+          | inl u ↦ not_in_hands f k l d p xs of legal lacks (once_map _ (KeptHere p) xs (λ m before h. h.kept) u) hands.of_directory hands.not_offered hands.not_parked
           | inr z ↦ true≢false (sym ((spotted f w legal p).parked ∙ ap is_parked (spot_same f k l p xs legal none z.0)
               ∙ parked_told f k l p true xs legal none z.0 (once_map (ParkedLater d p) (ParkedHere true p) xs (λ m before h. h.0) parked)) ∙ hands.not_parked)
         ]
@@ -204,12 +211,13 @@ module _ {F : Type 0} (rule : Rule F) (f : Profile) (k : ℕ) (l : Whole) (d : D
           | inl u ↦ absurd (unfit_lacks rule p xs u held.lacked)
           | inr z ↦ zero_told f k l d p xs legal none held.lacked z.1
         ];
-        not_parked = (spotted f w legal p).parked ∙ ap is_parked same ∙ parked_told f k l p false xs legal none held.lacked (once_map (HeldHere d p) (ParkedHere false p) xs (λ m before h. h.0) held.held);
+        not_parked = (spotted f w legal p).parked ∙ ap is_parked same ∙ parked_told f k l p _ xs legal none held.lacked (once_map _ _ xs (λ m before h. h.0) held.held);
       }
 
+  -- The reason of a refusal is true of the state at exit.
   reason : (room : NoRoom) → IsRefused rule.no_fit f d xs room → IsTrueReason f d w room
   reason NoSpace is = λ page hands. accounted_out NoSpace is page (is.answer (part k l) agreed page hands.of_region.0 (omega (arith, hands.of_region.1))) hands
-  reason (Held p) is = (held_in_hands (Held p) is p is.answer, λ other lt hands. accounted_out (Held p) is other (is.answer.lower (part k l) agreed other hands.of_region.0 lt) hands)
+  reason (Held p) is = (held_in_hands _ is p is.answer, λ other lt hands. accounted_out _ is other (is.answer.lower _ agreed other hands.of_region.0 lt) hands)
 
   -- The answer of a search, served or refused, is told of the states at entry and exit.
   pub all_told : (answer : Result (Served F) NoRoom) → MatchResult answer (IsServed rule f d xs) (IsRefused rule.no_fit f d xs)
@@ -253,6 +261,7 @@ module _ {F : Type 0} (rule : Rule F) (f : Profile) (d : Directory) (marks : Lis
   abbrev call : List Made
   call = bare.serve ++ (m ∷ ws)
 
+  -- What the search of offered pages has passed by when it ends.
   now : Searching rule.no_fit f d (f.pages + 1) marks ws
   now = vain_searching rule f d (f.pages + 1) marks bare.before os (reads_vain bare.before bare.reads) s
 
@@ -264,23 +273,24 @@ module _ {F : Type 0} (rule : Rule F) (f : Profile) (d : Directory) (marks : Lis
 
   deed_made : ByDeed rule.no_fit f d served.page call
   deed_made = record {
-    made_here = once_later (DeedMadeHere rule.no_fit f d served.page) bare.serve (m ∷ ws) (inl (record { deed = refl; made = refl; searched = searched rule f d (f.pages + 1) marks ws now; lower = λ q low high. deed_before q bare.before os (bare.lower q low high); quiet = now.quiet }));
+    made_here = once_later _ _ (m ∷ ws) (inl (record { deed = refl; made = refl; searched = searched rule f d _ marks ws now; lower = λ q low high. deed_before q _ os (bare.lower q low high); quiet = now.quiet }));
     one_deed = one_deed;
   }
 
   deed_search : AreSearch (steps ++ os)
-  deed_search = subst AreSearch (sym all_steps) (served_search served.page bare.serve (m ∷ ws) bare.serves.only bare.serves.due (inl (GetsRight.Deeds d 0 refl)) (got_search f d served.page m ws (GetsRight.Deeds d 0 refl) now.searches))
+  deed_search = subst AreSearch (sym all_steps) (served_search served.page bare.serve (m ∷ ws) bare.serves.only bare.serves.due (inl (GetsRight.Deeds d 0 refl))
+      (got_search f d served.page m ws (GetsRight.Deeds d 0 refl) now.searches))
 
   deed_serves : IsServed rule f d (steps ++ os) served
-  deed_serves = subst (λ call. IsServed rule f d call served) (sym all_steps)
-      (finds f d served.page m ws (GetsRight.Deeds d 0 refl) rule bare.serve (ready f d served.page m ws (GetsRight.Deeds d 0 refl) (λ v met. met.clear) now.still (λ v agreed. deed_known served.page d 0 (ws ++ v) refl)) (now.untouched served.page)
+  deed_serves = subst (λ call. IsServed rule f d call served) (sym all_steps) (finds f d _ m ws (GetsRight.Deeds d 0 refl) rule bare.serve
+      (ready f d _ m ws (GetsRight.Deeds d 0 refl) (λ v met. met.clear) now.still (λ v agreed. deed_known _ d 0 (ws ++ v) refl)) (now.untouched served.page)
       served.found (λ call. FromOffered rule.no_fit d served.page call ⊎ ByDeed rule.no_fit f d served.page call) bare.serves bare.page (inr deed_made)
       (λ k v agreed.
       let one : length (events_by k v (m ∷ ws)) ≡ 1 = ap (λ es. suc (length es)) (events_quiet k v ws now.quiet) in
       let some : length (events_by k ((m ∷ ws) ++ v) bare.serve) ≤ rule.events = bare.serves.few k ((m ∷ ws) ++ v) in
-      let counts : length (events_by k v call) ≡ length (events_by k ((m ∷ ws) ++ v) bare.serve) + length (events_by k v (m ∷ ws)) = ap length (events_append k bare.serve (m ∷ ws) v) ∙ length-append (events_by k ((m ∷ ws) ++ v) bare.serve) (events_by k v (m ∷ ws)) in
+      let counts = ap length (events_append k bare.serve (m ∷ ws) v) ∙ length-append (events_by k ((m ∷ ws) ++ v) bare.serve) (events_by k v (m ∷ ws)) in
       let deed = one_deed in
-      (omega (arith, one, some, counts, deed), λ known. absurd (unknown f v served.page call agreed (once_later (NoDeedHere served.page) bare.serve (m ∷ ws) (inl (ReadsDeed.Deeds d, refl))) (known served.page bare.page))))
+      (omega (arith, one, some, counts, deed), λ known. absurd (unknown f v _ call agreed (once_later _ bare.serve (m ∷ ws) (inl (ReadsDeed.Deeds d, refl))) (known _ bare.page))))
       (inr IsDeedOrBack.Deeds) now.quiet now.searches (λ v agreed got. unknown f (ws ++ v) served.page (m ∷ []) (agreed.0, tt) (inl (ReadsDeed.Deeds d, refl)) (got_known f served.page ws v agreed.1 got)))
 
 -- what the search of offered pages asks
@@ -292,6 +302,7 @@ profile_kept adds = ap (λ (s : Seat). s.profile) adds.seat_is
 
 module _ {F : Type 0} {rule : Rule F} {σ σ1 : Standing} {d' : Directory} (d : Directory) (same : d' ≡ d) {marks : List ℕ}
     (found : SearchesOffered rule d' σ σ1 marks None) where
+  -- The search of offered pages found none.
   offered : SearchesOffered rule d σ σ1 marks None
   offered = subst (λ x. SearchesOffered rule x σ σ1 marks None) same found
 
@@ -309,7 +320,7 @@ module _ {F : Type 0} {rule : Rule F} {σ σ1 : Standing} {d' : Directory} (d : 
 
   -- A search of pages without a deed that found one ends with it.
   pub ends_bare : {σ2 : Standing} {served : Served F} → SearchesBare rule d σ1 σ2 (Some served) → Ends rule d σ σ2 (Ok served)
-  ends_bare {served = served} bare = let found : ServesBare rule f d bare.steps served = subst (λ x. ServesBare rule x d bare.steps served) (profile_kept offered.adds) bare.outcome in record {
+  ends_bare {served = served} bare = let found = subst (λ x. ServesBare rule x d bare.steps served) (profile_kept offered.adds) bare.outcome in record {
     steps = bare.steps ++ offered.steps;
     adds = bare_adds bare.adds;
     few = omega (arith, offered.few, bare.few, pages_kept, length-append bare.steps offered.steps);
@@ -324,16 +335,16 @@ module _ {F : Type 0} {rule : Rule F} {σ σ1 : Standing} {d' : Directory} (d : 
   -- A search that found neither, and was judged, ends refused for that reason.
   pub ends_refused : {σ2 σ3 : Standing} (room : NoRoom) → SearchesBare rule d σ1 σ2 None → Judges marks d σ2 σ3 room → Ends rule d σ σ3 (Err room)
   ends_refused room bare judged =
-      let verdict : IsVerdict f marks d judged.steps room = subst (λ x. IsVerdict x marks d judged.steps room) (profile_kept (bare_adds bare.adds)) judged.verdict in
+      let verdict = subst (λ x. IsVerdict x marks d judged.steps room) (profile_kept (bare_adds bare.adds)) judged.verdict in
       let xs : List Made = bare.steps ++ offered.steps in
-      let s : Searching rule.no_fit f d (f.pages + 1) marks xs = vain_searching rule f d (f.pages + 1) marks bare.steps offered.steps (reads_vain bare.steps bare.outcome.0) offered.outcome in
+      let s = vain_searching rule f d (f.pages + 1) marks bare.steps offered.steps (reads_vain bare.steps bare.outcome.0) offered.outcome in
       let deeds : AllDeeds (f.pages + 1) xs = λ p low high. deed_before p bare.steps offered.steps (bare.outcome.1 p low (omega (arith, high, pages_kept))) in
       record {
         steps = judged.steps ++ xs;
         adds = adds_call {D = AnyView} (bare_adds bare.adds) judged.adds (λ v l stood met. tt);
         few =
             let last : last_block f room ≤ f.pages / 64 = last_within f judged.steps room verdict in
-            let short : length judged.steps ≤ 65 * (last_block f room + 1) = subst (λ x. length judged.steps ≤ 65 * (last_block x room + 1)) (profile_kept (bare_adds bare.adds)) judged.few in
+            let short = subst (λ x. length judged.steps ≤ 65 * (last_block x room + 1)) (profile_kept (bare_adds bare.adds)) judged.few in
             omega (arith, last, short, offered.few, bare.few, pages_kept, length-append judged.steps xs, length-append bare.steps offered.steps);
         searches = vain_search judged.steps xs (reads_vain judged.steps (looks_read judged.steps (scans_look judged.steps judged.scans))) s.searches;
         outcome = refused rule f d marks judged.steps xs judged.scans s room verdict deeds;
@@ -350,9 +361,9 @@ module _ {F : Type 0} {rule : Rule F} {σ σ1 : Standing} {d' : Directory} (d : 
       → CanCall σ1 (BareRoom σ1.seat.profile rule.events spare')
   bare_can {spare} {spare'} can law law' =
       let keep = λ (n : ℕ) (fits : n ≤ spare). room_kept {C = MaySearch d} n offered.adds (may_can can) offered.outcome.quiet law law' fits in
-      can_call {C = SearchRoom f d rule.events spare} (adds_under offered.adds (λ v l stood met. met.may)) can (λ v l stood met. let agreed = offered.adds.agreed v l stood met.may in record {
+      can_call {C = SearchRoom f d _ _} (adds_under offered.adds (λ v l stood met. met.may)) can (λ v l stood met. let agreed = offered.adds.agreed v l stood met.may in record {
         clear = clear_then v met.may agreed;
-        room = subst (λ x. HasRoom x rule.events spare' (offered.steps ++ v)) (sym (profile_kept offered.adds)) (keep rule.events met.room.0, elim met.room.1 [ inl all ↦ inl (all_known f offered.steps v agreed all) | inr wide ↦ inr (keep (rule.events + 1) wide) ]);
+        room = subst (λ x. HasRoom x rule.events spare' (offered.steps ++ v)) (sym (profile_kept offered.adds)) (keep rule.events met.room.0, elim met.room.1 [ inl all ↦ inl (all_known f _ v agreed all) | inr wide ↦ inr (keep _ wide) ]);
       })
 
 -- ---- with what it says on a desk that tells the whole state
@@ -361,3 +372,101 @@ pub searches_by : {F : Type 0} {rule : Rule F} {σ σ' : Standing} {answer : Res
     → ((v : View) (l : Whole) → tells ≡ true → σ'.stands v l → Legal σ'.seat.profile l)
     → ((v : View) (l : Whole) → tells ≡ true → σ.stands v l → part σ.seat.actor l ≡ v) → Ends rule d σ σ' answer → Searches rule tells d σ σ' answer
 searches_by {F} {rule} {σ} {σ'} {answer} tells d valid of fewer told parts ends = search (arith, all_told, legal_after, lends_none)
+
+-- A search whose actor alone made steps meanwhile: its promise is what the law of the lone search asks.
+abbrev pub IsOutcome : {F : Type 0} → Rule F → Profile → Directory → List Made → Result (Served F) NoRoom → Type 0
+IsOutcome rule f d steps answer = MatchResult answer (IsServed rule f d steps) (IsRefused rule.no_fit f d steps)
+
+-- ---- its promise is what the law asks
+shows_none : {F : Type 0} (rule : Rule F) (f : Profile) (d : Directory) (steps : List Made) (room : NoRoom) → IsRefused rule.no_fit f d steps room
+    → ShowsNone rule.no_fit f d steps
+shows_none rule f d steps room is = record { searched = is.searched; deeds = is.deeds; quiet = is.quiet }
+
+-- What a search promises shows its answer.
+pub shows_answer : {F : Type 0} (rule : Rule F) (f : Profile) (d : Directory) (v : View) (steps : List Made) → MaySearch d v → Agreed f v steps
+    → (answer : Result (Served F) NoRoom) → IsOutcome rule f d steps answer → ShowsAnswer rule.no_fit f d v steps (page_found answer)
+shows_answer rule f d v steps may agreed answer is = grind (arith, once_map, shows_none)
+
+-- ---- where no other actor made a step meanwhile
+module _ {F : Type 0} (rule : Rule F) (f : Profile) (d : Directory) (k : ℕ) (l : Whole) (steps : List Made) (valid : IsValid f) (of : IsDirectoryOf f d)
+    (fewer : IsAntitone rule.no_fit) (legal : Legal f (triples k steps ++ l)) (searches : AreSearch steps) (may : MaySearch d (part k l)) where
+  -- Each answer of the search agrees with the actor's view of its moment.
+  agreed : Agreed f (part k l) steps
+  agreed = agreed_steps f k l steps valid legal
+
+  -- The answer of a search whose actor went on alone is told of the states at entry and exit.
+  pub told_alone : (answer : Result (Served F) NoRoom) → IsOutcome rule f d steps answer
+      → IsTold (λ (s : Served F). s.page) rule.no_fit f d l (triples k steps ++ l) answer
+  told_alone = all_told rule f k l d steps valid of fewer legal (lends_none searching refl steps searches.kinds) may agreed
+
+  -- Where all are at rest, the answer of a lone search is the plain one: no page is held.
+  pub plain_alone : AllRest f l → (answer : Result (Served F) NoRoom) → IsOutcome rule f d steps answer → IsPlainAnswer rule.no_fit f d l (page_found answer)
+  plain_alone rest answer is = plain_answer _ f d k l steps _ valid of fewer rest (record { legal = legal; lends_none = lends_none searching refl steps searches.kinds; shows = shows_answer rule f d _ steps may agreed _ is })
+
+-- ---- an answer, whatever a back end takes
+-- the search found this page, and what was read of it fits
+pub record FoundPage (no_fit : Readings → Type 0) (f : Profile) (d : Directory) (steps : List Made) : Type 0 where
+  pub page : ℕ
+  pub of_region : IsPage f page
+  pub choice : FromOffered no_fit d page steps ⊎ ByDeed no_fit f d page steps
+  pub kept : ℕ → Bool
+  pub shows : ShowsFit no_fit kept f page (MaySearch d) steps steps
+
+abbrev pub IsFoundOrRefused : {A : Type 0} → (Readings → Type 0) → Profile → Directory → List Made → Result A NoRoom → Type 0
+IsFoundOrRefused no_fit f d steps answer = MatchResult answer (λ found. FoundPage no_fit f d steps) (IsRefused no_fit f d steps)
+
+abbrev any_of : (Readings → Type 0) → Rule (Unit {0})
+any_of no_fit = record { suits = λ d. Unit {0}; no_fit = no_fit; kept = λ found b. false; keeps_right = λ found. false; serves = λ page steps found. Unit {0}; events = 0; steps = 0 }
+
+module _ (no_fit : Readings → Type 0) (f : Profile) (d : Directory) (k : ℕ) (l : Whole) (steps : List Made) (valid : IsValid f) (of : IsDirectoryOf f d)
+    (fewer : IsAntitone no_fit) (legal : Legal f (triples k steps ++ l)) (searches : AreSearch steps) (may : MaySearch d (part k l)) where
+  -- A search that was refused while its actor went on alone tells that no page fits, before and after it, and why.
+  pub refused_told : (room : NoRoom) → IsRefused no_fit f d steps room
+      → HasNoFit no_fit f d l × HasNoFit no_fit f d (triples k steps ++ l) × IsTrueReason f d (triples k steps ++ l) room
+  refused_told room is = told_alone (any_of no_fit) f d k l steps valid of fewer legal searches may (Err room) is
+
+  -- a page that was found could serve before
+  could_before : FoundPage no_fit f d steps → HasNoFit no_fit f d l → ⊥
+  could_before found none = elim (could_serve (any_of no_fit) f k l d steps valid of fewer legal (lends_none searching refl steps searches.kinds) may
+      (agreed_steps f k l steps valid legal) _ _ found.of_region found.choice found.shows) [
+        | inl offered ↦ none.offered found.page offered.this
+        | inr bare ↦ none.bare found.page bare.this
+      ]
+
+  none_before : (room : NoRoom) → IsRefused no_fit f d steps room → HasNoFit no_fit f d l
+  none_before room is = (refused_told room is).0
+
+  held_by_none : AllRest f l → (page : ℕ) → IsRefused no_fit f d steps (Held page) → ⊥
+  held_by_none rest page is = (plain_alone (any_of no_fit) f d k l steps valid of fewer legal searches may rest (Err (Held page)) is).not_held page refl
+
+  finds_what_there_is : {A : Type 0} (answer : Result A NoRoom) → IsFoundOrRefused no_fit f d steps answer → FindsWhatThereIs no_fit f d l answer
+  finds_what_there_is answer is = search (arith, could_before, none_before, held_by_none)
+
+-- the same of a search after which the actor went on, as the list with its later steps is legal
+pub found_before : {A : Type 0} (no_fit : Readings → Type 0) (f : Profile) (d : Directory) (k : ℕ) (l : Whole) (after searched : List Made) → IsValid f
+    → IsDirectoryOf f d → IsAntitone no_fit → Legal f (triples k (after ++ searched) ++ l) → AreSearch searched → MaySearch d (part k l)
+    → (answer : Result A NoRoom) → IsFoundOrRefused no_fit f d searched answer → FindsWhatThereIs no_fit f d l answer
+found_before no_fit f d k l after searched valid of fewer legal searches may = finds_what_there_is _ f d k l _ valid of fewer (legal_earlier f k _ _ l legal) searches may
+
+-- ---- a page that is in some actor's hands
+pub none_in_hands : (f : Profile) (d : Directory) (w : Whole) (p : ℕ) → IsDirectoryOf f d → Legal f w → ((j : ℕ) → has_right (part j w) p ≡ false)
+    → IsInHands f d w p → ⊥
+none_in_hands f d w p of legal none hands =
+    let at = spotted f w legal p in
+    let with = in_hands _ _ at.deed (λ z. deed_word_of-positive d (sym hands.of_directory ∙ z)) (sym (own_eligible f w legal p d of hands.of_directory) ∙ hands.not_offered) (sym at.parked ∙ hands.not_parked) in
+    true≢false (sym (at.has with.0 ∙ ap (is_with with.0) with.1 ∙ is_with_own with.0) ∙ none with.0)
+
+-- the actor has no right of a page of the directory
+abbrev pub OwnLacks : ℕ → Directory → Whole → Type 0
+OwnLacks k d w = (p : ℕ) → word_after w (Word.Deed p) ≡ deed_word_of d → has_right (part k w) p ≡ false
+
+-- so it is where it had none before and these steps leave all as it was
+pub still_lacks : (f : Profile) (k : ℕ) (l : Whole) (d : Directory) (steps : List Made) → IsValid f → Legal f (triples k steps ++ l)
+    → ((p : ℕ) → KnowsDeed p d (part k l) → has_right (part k l) p ≡ false) → Does nothing (part k l) (steps ++ part k l)
+    → OwnLacks k d (triples k steps ++ l)
+still_lacks f k l d steps valid legal may still p deed = search (arith, part_of_own, entry_lacks, legal_before)
+
+-- where no other actor has a right there, no page of the directory is in anybody's hands
+pub none_held_there : (f : Profile) (k : ℕ) (d : Directory) (w : Whole) (room : NoRoom) → IsDirectoryOf f d → Legal f w → OwnLacks k d w
+    → ((j p : ℕ) → k ≢ j → has_right (part j w) p ≡ false) → IsTrueReason f d w room → room ≡ NoSpace
+none_held_there f k d w room of legal own others reason = grind (arith, none_in_hands, cases_eq)

@@ -5,7 +5,7 @@ use Rattle.pas_steps.specs.Evidence.{Readings, ShowsHere, KeptHere, GetsHere, Un
 use Rattle.pas_steps.specs.{Frames.AreLooks, Past.Once, Past.Since, Views.View, Views.has_right, Views.epoch_of, Desks.Standing, Desks.Adds, Desks.CanCall}
 use Rattle.pas_steps.specs.{Events.with_event, Events.events_of, Events.events_by, Lists.Whole}
 use Rattle.pas_steps.specs.declared.step.Made.{Made}
-use Rattle.pas_steps.proofs.{Kept.looks_read, Kept.right_reads, Past.once_later, Adding.room_left, Frames.events_split}
+use Rattle.pas_steps.proofs.{Frames.looks_read, Frames.right_reads, Past.once_later, Adding.room_left, Frames.events_split}
 use Rattle.pas_search.specs.Kinds.{AreQuiet}
 
 since_looks : (P : Made → List Made → Type 0) (p : ℕ) (ys xs : List Made) → AreLooks ys → has_right xs p ≡ true → Since P (KeptHere p) xs

@@ -1,13 +1,8 @@
 pub mod ForBackEnds
-pub mod Returns
 pub mod Pages
-pub mod Found
-mod PagesThatServe
-mod FindingAPage
+pub mod PagesThatServe
+pub mod FindingAPage
 mod Surveyed
 pub mod TheBestPage
-pub mod Alone
-mod Allocated
-mod Placed
-pub mod RunAlone
+pub mod Allocated
 pub mod Sessions

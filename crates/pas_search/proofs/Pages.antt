@@ -8,7 +8,8 @@ use Rattle.pas_profile.specs.declared.{directory.Directory.Directory, event.Even
 use Rattle.pas_profile.proofs.Codecs.{deed_word_of-positive}
 use Rattle.pas_rights.specs.{Leaves.MayLeave, Leaves.Leaves, PutsBack.taking_grains, PutsBack.GivesDuly, Looks.looks, Looks.ReadsPage, Puts.masked, Words.words}
 use Rattle.pas_rights.specs.Takes.{taken, HasRight, takes, TakesMask}
-use Rattle.pas_rights.proofs.{Debts.leave_lacks, Hints.due_both, Hints.leave_due, Hints.due_none}
+use Rattle.pas_rights.proofs.Orders.{leave_lacks, looks_only, looks_on, looks_held, looks_free, looks_know, looks_read, bit_of, bit_on, keeps_by, since_kept}
+use Rattle.pas_rights.proofs.Puts.{due_both, leave_due, due_none, MayTakeAll, takes_always, takes_only, takes_on, takes_keep, takes_few, takes_known}
 use Rattle.pas_steps.specs.{Agreement.Agreed, Allowed.Allowed, Events.with_event, Events.events_by, Past.Once, Past.Always, Past.Since}
 use Rattle.pas_steps.specs.Frames.{IsOnPage, OnlyOn, KeepsRight, GivesUp}
 use Rattle.pas_steps.specs.Evidence.{ShowsHere, KeptHere, GetsHere, Readings, UnfitHere}
@@ -17,21 +18,20 @@ use Rattle.pas_steps.specs.Calls.{Calls, Leads, Kept, Gained, Lost, now, ClearAf
 use Rattle.pas_steps.specs.Desks.{Standing, CanCall, made, Makes, CanMake}
 use Rattle.pas_steps.specs.Kinds.{Backing, Only, kind_of, is_in, Kinds, LookFree, Taking}
 use Rattle.pas_steps.specs.declared.step.{Made.Made, Step.TheVariants.Back}
-use Rattle.pas_steps.proofs.{Adding.agreed_later, Kept.any_from, Kept.returns_on, Frames.rights_stay, Sets.kept_kept, Adding.adds_under}
+use Rattle.pas_steps.proofs.{Adding.agreed_later, Frames.any_from, Frames.returns_on, Frames.rights_stay, Sets.kept_kept, Adding.adds_under}
 use Rattle.pas_steps.proofs.Called.{call_then, next_call, call_knows, call_step, next_step}
 use Rattle.pas_steps.proofs.Calls.{does_after_nothing, does_as, does_idly, does_then, returns_are, kept_first}
 use Rattle.pas_steps.proofs.Past.{always_both, always_map, once_later, since_once}
 use Rattle.pas_steps.proofs.Apart.{in_apart, only_within, only_both, holds_same, no_event, no_events, rights_same}
 use Rattle.pas_search.specs.Kinds.{serving, KeepsMarks, AreQuiet}
 use Rattle.pas_search.specs.Serving.{Rule, MayServe, HoldsNone, GotBefore, right_of, Keeps, ReadsNoneHeld, ServesPage, IsJustGot}
-use Rattle.pas_search.proofs.{ForBackEnds.unfit_left, Returns.keeps_marks}
+use Rattle.pas_search.proofs.{ForBackEnds.unfit_left, PagesThatServe.keeps_marks}
 use Rattle.pas_bits.specs.declared.mask.Mask4.{Mask4}
-use Rattle.pas_bits.specs.{Bits.has_bit, Masks.is_set}
-use Rattle.pas_bits.proofs.Words.{at_word}
-use Rattle.pas_rights.proofs.Looks.{looks_only, looks_on, looks_held, looks_free, looks_know, looks_read}
-use Rattle.pas_rights.proofs.Takes.{MayTakeAll, takes_always, takes_only, takes_on, takes_keep, takes_few, takes_known}
-use Rattle.pas_rights.proofs.Words.{bit_of, bit_on, keeps_by, since_kept}
+use Rattle.pas_bits.specs.{Bits.has_bit, Masks.is_set, Runs.in_run}
+use Rattle.pas_bits.proofs.{Words.at_word, Runs.run_of, Runs.first_of_run}
 use Rattle.pas_search.specs.Choices.{Choice, IsUnfit, IsChosen, TakesKept, choosing}
+use Rattle.pas_search.specs.Placements.{Placement, IsPlacement, IsPlaced, IsFit, by_run}
+use Rattle.pas_search.specs.declared.placing.Run.{Run}
 
 -- Takes and puts of grains make no event.
 pub quiet_by : (steps : List Made) → Only taking_grains steps → AreQuiet steps
@@ -82,7 +82,7 @@ module _ {Found : Type 0} (rule : Rule Found) (page : ℕ) (d : Directory) (r : 
 
       left_call : Calls σ σ2 (MayServe page d) (Does (right_of page Lost)) (left.steps ++ p.steps)
       left_call = call_then (Does (right_of page Lost)) prepared left.calls may_leave (λ v met a b. does_as (right_of page Lost) (does_then a.0 b.does)
-          (λ g. inl (ap (λ t. if t then Gained else Kept) (none_on g))) (λ q. kept_first (if page == q then Lost else Kept)) (λ q h. subst (λ t. ClearAfter t q v (left.steps ++ (p.steps ++ v))) (kept_kept (page == q)) h))
+          (λ g. inl (ap (λ t. if t then Gained else Kept) (none_on g))) (λ q. kept_first _) (λ q h. subst (λ t. ClearAfter t q v (left.steps ++ (p.steps ++ v))) (kept_kept (page == q)) h))
 
       left_kinds : Only taking_grains (left.steps ++ p.steps)
       left_kinds = search (arith, only_both, only_within, returns_are)
@@ -95,7 +95,7 @@ module _ {Found : Type 0} (rule : Rule Found) (page : ℕ) (d : Directory) (r : 
         serves = record {
           only = record {
             kinds = only_within taking_grains serving (left.steps ++ p.steps) refl left_kinds;
-            on = always_both (λ m before. IsOnPage page m.step) (λ m before. IsOnPage page m.step) left.steps p.steps (λ m before h. h) (returns_on page left.steps left.returns) p.on;
+            on = always_both _ (λ m before. IsOnPage page m.step) left.steps p.steps (λ m before h. h) (returns_on page left.steps left.returns) p.on;
           };
           due = due_both left.steps p.steps (leave_due page d left.steps left.order) p.due;
           few = λ k v. subst (λ es. length es ≤ rule.events) (sym (no_events taking_grains refl k v (left.steps ++ p.steps) left_kinds)) (omega arith);
@@ -105,8 +105,8 @@ module _ {Found : Type 0} (rule : Rule Found) (page : ℕ) (d : Directory) (r : 
             left = record { before = p.steps; leave = left.steps; order = left.order; steps_are = refl };
             quiet = quiet_by (left.steps ++ p.steps) left_kinds;
             untouched = search (arith, append_assoc, leave_lacks, holds_same, returns_are);
-            unfit = λ before got. subst (Once (UnfitHere rule.no_fit page)) (sym (append_assoc left.steps p.steps before))
-                (unfit_left rule.no_fit page left.steps (p.steps ++ before) left.left (rights_stay p.steps before page p.keeps got.right) (once_later (GetsHere page) p.steps before got.got) r unfit (p.read before got));
+            unfit = λ before got. subst (Once (UnfitHere rule.no_fit page)) (sym (append_assoc left.steps p.steps before)) (unfit_left _ page _ _ left.left
+                (rights_stay p.steps before page p.keeps got.right) (once_later _ p.steps before got.got) r unfit (p.read before got));
             not_free = λ v met agreed free. not_free v met (agreed_later σ.seat.profile v left.steps p.steps agreed) free;
           };
         };
@@ -155,7 +155,7 @@ module _ {Found : Type 0} (rule : Rule Found) (page : ℕ) (d : Directory) (r : 
             only = record { kinds = (refl, only_within taking_grains serving p.steps refl p.kinds); on = (IsOnPage.Backs, p.on) };
             due = (((λ q same. cc), (λ q word mask g same here. cc)), p.due);
             few = λ k v. let none : length (events_by k v p.steps) ≡ 0 = ap length (no_events taking_grains refl k v p.steps p.kinds) in
-                cond_both (a == 0) (Some (Event.Back k page)) None (λ o. length (with_event o (events_by k v p.steps)) ≤ rule.events) (λ made. omega (arith, none, one)) (λ silent. omega (arith, none));
+                cond_both (a == 0) _ None (λ o. length (with_event o (events_by k v p.steps)) ≤ rule.events) (λ made. omega (arith, none, one)) (λ silent. omega (arith, none));
             short = omega (arith, short);
             outcome = search (arith, back_call, once_read);
           };
@@ -164,7 +164,7 @@ module _ {Found : Type 0} (rule : Rule Found) (page : ℕ) (d : Directory) (r : 
 -- ---- the grains that steps take
 -- what takes nothing takes no grain but these
 idle_keeps : (kept : ℕ → Bool) (page : ℕ) (m : Made) → is_in (LookFree ∷ []) (kind_of m.step) ≡ true → TakesKept kept page m
-idle_keeps kept page m is word mask g same here = let none : true ≡ false = sym is ∙ ap (λ s. is_in (LookFree ∷ []) (kind_of s)) same in absurd (true≢false none)
+idle_keeps kept page m is word mask g same here = let none = sym is ∙ ap (λ s. is_in (LookFree ∷ []) (kind_of s)) same in absurd (true≢false none)
 
 -- takes of these grains alone
 takes_kept : (page : ℕ) (grains : Mask4) (kept : ℕ → Bool) → ((b : ℕ) → b < 256 → is_set grains b ≡ kept b) → (answers : ℕ → ℕ) (n : ℕ)
@@ -197,6 +197,7 @@ module _ {Found : Type 0} (choice : Choice Found) (page : ℕ) (d : Directory) {
       → Since (ShowsHere page word (is_set free)) (KeptHere page) (looked ++ before)
   looked_read before got word lt = looks_read page (words free) (is_set free) (λ w b small. at_word free w b small) before got.right got.none 4 word lt lt
 
+  -- No grain that the looks read as free is held.
   unheld : Leads σ.seat.profile (MayServe page d) (ReadsNoneHeld page (is_set free)) looked
   unheld = search (arith, bit_of, looks_held)
 
@@ -266,7 +267,7 @@ module _ {Found : Type 0} (choice : Choice Found) (page : ℕ) (d : Directory) {
 
       take_call : Calls σ σ2 (MayServe page d) (Does (taken (on_page page (choice.kept found)))) (ts ++ looked)
       take_call = call_then (Does (taken (on_page page (choice.kept found)))) look_call (takes_known page grains got took) may_take (λ v met a b.
-          does_as (taken (on_page page (choice.kept found))) (does_after_nothing (taken (masked page grains)) a.0 b) (λ g. inl (ap (λ t. if (page == g / 256) && t then Gained else Kept) (is.exactly (g % 256) (omega arith)))) (λ q. refl) (λ q h. h))
+          does_as _ (does_after_nothing (taken (masked page grains)) a.0 b) (λ g. inl (ap (λ t. if (page == g / 256) && t then Gained else Kept) (is.exactly (g % 256) (omega arith)))) (λ q. refl) (λ q h. h))
 
       -- Takes of just the chosen grains of a page leave it prepared with them.
       pub taken_from : Prepares page d (is_set free) (choice.kept found) σ σ2
@@ -274,10 +275,10 @@ module _ {Found : Type 0} (choice : Choice Found) (page : ℕ) (d : Directory) {
         steps = ts ++ looked;
         calls = take_call;
         kinds = only_both taking_grains ts looked (only_within (Taking ∷ []) taking_grains ts refl ts_only) (only_within (LookFree ∷ []) taking_grains looked refl looked_only);
-        on = always_both (λ m before. IsOnPage page m.step) (λ m before. IsOnPage page m.step) ts looked (λ m before h. h) (takes_on page (words grains) (words took.answers) 4) (looks_on page (words free) 4);
-        keeps = always_both (λ m before. GivesUp page m.step → ⊥) (λ m before. GivesUp page m.step → ⊥) ts looked (λ m before h. h) (takes_keep page (words grains) (words took.answers) 4) (keeps_by page (LookFree ∷ []) looked refl looked_only);
+        on = always_both _ _ ts looked (λ m before h. h) (takes_on page (words grains) (words took.answers) 4) (looks_on page (words free) 4);
+        keeps = always_both _ _ ts looked (λ m before h. h) (takes_keep page (words grains) (words took.answers) 4) (keeps_by page (LookFree ∷ []) looked refl looked_only);
         read = λ before got word lt. subst (Since (ShowsHere page word (is_set free)) (KeptHere page)) (sym (append_assoc ts looked before))
-            (since_kept (ShowsHere page word (is_set free)) page ts (looked ++ before) (takes_keep page (words grains) (words took.answers) 4) (rights_same (LookFree ∷ []) refl page looked before looked_only ∙ got.right) (looked_read before got word lt));
+            (since_kept _ page ts _ (takes_keep page (words grains) (words took.answers) 4) (rights_same (LookFree ∷ []) refl page looked before looked_only ∙ got.right) (looked_read before got word lt));
         held = record { from = λ v met agreed. unheld.from v met (agreed_later σ.seat.profile v ts looked agreed) };
         due = due_none looking_and_taking (ts ++ looked) refl all_only;
         marks = λ some. keeps_marks looking_and_taking page (ts ++ looked) refl all_only;
@@ -286,7 +287,7 @@ module _ {Found : Type 0} (choice : Choice Found) (page : ℕ) (d : Directory) {
       takes_all : Always (λ m before. TakesKept (choice.kept found) page m) (ts ++ looked)
       takes_all = always_both (λ m before. TakesKept (choice.kept found) page m) (λ m before. TakesKept (choice.kept found) page m) ts looked (λ m before h. h)
           (takes_kept page grains (choice.kept found) is.exactly (words took.answers) 4)
-          (always_map (λ m before. is_in (LookFree ∷ []) (kind_of m.step) ≡ true) (λ m before. TakesKept (choice.kept found) page m) looked (λ m before. idle_keeps (choice.kept found) page m) looked_only)
+          (always_map _ (λ m before. TakesKept (choice.kept found) page m) looked (λ m before. idle_keeps (choice.kept found) page m) looked_only)
 
       -- A page of which the chosen grains were taken, and which was backed, serves and keeps them.
       pub keeps_chosen : {σ3 : Standing} (a : ℕ) → Makes σ2 σ3 (Back page) a → ServesPage (choosing choice) page d σ σ3 (Some found)
@@ -300,3 +301,24 @@ module _ {Found : Type 0} (choice : Choice Found) (page : ℕ) (d : Directory) {
             chosen = is.chosen;
             takes = since_got (TakesKept (choice.kept found) page) page (made (Back page) a ∷ (ts ++ looked)) before ((λ word mask g same here. cc), takes_all) got.newest;
           }) (omega arith) (omega (arith, few, all))
+
+-- What a placement chose of the free grains of a page.
+module _ (p : Placement) (is : IsPlacement p) (asked : p.asked) where
+  -- A run that is placed fits.
+  pub placed_fits : (r : Readings) (run : Run) → IsPlaced p r run → IsFit p.no_fit r run
+  placed_fits r run so = subst (IsFit p.no_fit r) (sym so.run_is) (is.is_fit r so.found asked so.chosen)
+
+  module _ (free : Mask4) where
+    -- an empty page would have a fit
+    pub unfit : p.no_fit (is_set free) → IsUnfit (by_run p) (is_set free)
+    unfit none = record { none = none; used = λ all. is.empty asked (is.fewer (is_set free) (λ g. true) (λ b lt one. all b lt) none) }
+
+    pub run_chosen : (run : Run) (grains : Mask4) → IsPlaced p (is_set free) run → ((g : ℕ) → is_set grains g ≡ in_run run.first run.grains g)
+        → IsChosen (by_run p) (is_set free) run grains
+    run_chosen run grains so are = let fit = placed_fits (is_set free) run so in record {
+      chosen = so;
+      fits = fit.fits;
+      within = λ b lt kept. let at = run_of run.first run.grains b kept in fit.free b at.0 at.1;
+      some = (run.first, omega (arith, fit.some, fit.within), first_of_run run.first run.grains (omega (arith, fit.some)));
+      exactly = λ b lt. are b;
+    }

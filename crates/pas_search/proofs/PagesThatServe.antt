@@ -1,22 +1,26 @@
--- The steps of a search so far, and a page whose right the call got by its newest step: the back end leaves it, or keeps what its answer says.
-use Rattle.std.proofs.Common.{◌≡◌, ℕ, suc, ◌≤◌, ◌==◌, arith, Bool, true, false, if◌then◌else◌, List, [], ◌∷◌, ◌++◌, ◌⊎◌, inl, inr, None, Some, refl, ap, ◌∙◌}
-use Rattle.std.proofs.Common.{sym, append-nil, true≢false, subst, ◌%◌, ◌&&◌, ◌<◌, ◌≢◌, ◌+◌, ◌/◌, ◌||◌, ◌*◌, ◌-◌, length, length-append, Option, append_assoc}
+-- Which pages a call gives up, takes back and hints: those that it got, and hints after the looks that they rest on. And what it puts: what it took.
+use Rattle.std.proofs.Common.{arith, ◌≡◌, ℕ, Bool, true, List, [], ◌∷◌, ◌++◌, inr, sym, ◌∙◌, subst, true≢false, suc, ◌≤◌, ◌==◌, false, if◌then◌else◌, ◌⊎◌, inl}
+use Rattle.std.proofs.Common.{None, Some, refl, ap, append-nil, ◌%◌, ◌&&◌, ◌<◌, ◌≢◌, ◌+◌, ◌/◌, ◌||◌, ◌*◌, ◌-◌, length, length-append, Option, append_assoc}
 use Rattle.std.proofs.Common.{eq-eqb, eqb-true, ne_eqb}
-use Rattle.pas_profile.specs.declared.{directory.Directory.Directory, event.Event.Event, profile.Profile.Profile, word.Word.Word}
-use Rattle.pas_steps.specs.declared.step.{Made.Made, Step.Step, Step.TheVariants.Deed, Step.TheVariants.Look, Step.TheVariants.TakeRight}
-use Rattle.pas_steps.specs.Views.{View, has_right, Way, Stays, Puts, grain_move, held_after, holds, KnowsDeed, known_free, epoch_of}
-use Rattle.pas_steps.specs.{Events.events_by, Events.event_of, Events.events_of, Past.Once, Past.Always, Agreement.Agrees, Agreement.Agreed, Clear.IsClear}
-use Rattle.pas_steps.specs.{Lists.Whole}
+use Rattle.pas_rights.specs.{Puts.PutsHere, PutsBack.GivesDuly}
+use Rattle.pas_rights.proofs.Puts.{giving, due_later, due_none, unparking}
 use Rattle.pas_steps.specs.Evidence.{GetsHere, GetsRight, LacksAfter, ZeroHere, OneHere, UnfitHere, Searched, ReadsEligible, ReadsDeed, DeedHere, AllDeeds}
 use Rattle.pas_steps.specs.Frames.{IsOnPage, OnlyOn, IsRead, OnlyReads}
-use Rattle.pas_steps.specs.Kinds.{kind_of, is_in, Only, look_kind, place_of, unbacking, Deeding}
-use Rattle.pas_steps.specs.Desks.{made, Seat, Standing, AnyView, Adds, CanCall, Makes}
-use Rattle.pas_steps.proofs.Apart.{only_within, only_both, in_apart, same_over}
-use Rattle.pas_steps.proofs.Calls.{does_none, does_then, does_as, does_step, right_is, leads_then, does_after_nothing, kept_first, leads_as}
-use Rattle.pas_steps.proofs.{Frames.events_append, Frames.right_own, Frames.with_few, Sets.got_lost}
-use Rattle.pas_steps.proofs.Past.{always_both, always_map, once_later, once_earlier}
-use Rattle.pas_search.specs.Kinds.{serving, searching, OnlyServes, IsReturnOf, ReturnsDuly, KeepsMarks, AreSearch, IsQuiet, AreQuiet, IsDeedOrBack, EventsAt}
+use Rattle.pas_steps.specs.{Past.Once, Past.Always, Events.events_by, Events.event_of, Events.events_of, Agreement.Agrees, Agreement.Agreed, Clear.IsClear}
+use Rattle.pas_steps.specs.{Lists.Whole}
+use Rattle.pas_steps.specs.Kinds.{Kinds, Offering, Parking, Unparking, Hinting, kind_of, place_of, is_in, apart, Only, look_kind, unbacking, Deeding}
+use Rattle.pas_steps.specs.declared.step.{Made.Made, Step.Step}
+use Rattle.pas_steps.specs.declared.step.Step.TheVariants.{Unpark, Deed, Look, TakeRight}
+use Rattle.pas_steps.proofs.Apart.{in_apart, only_within, only_both, same_over}
+use Rattle.pas_steps.proofs.Past.{always_both, always_map, always_pair, once_earlier, once_later}
+use Rattle.pas_search.specs.Kinds.{IsReturnOf, ReturnsDuly, KeepsMarks, serving, searching, OnlyServes, AreSearch, IsQuiet, AreQuiet, IsDeedOrBack, EventsAt}
 use Rattle.pas_search.specs.Kinds.{makes_deed, deeds_made}
+use Rattle.pas_profile.specs.declared.{directory.Directory.Directory, event.Event.Event, profile.Profile.Profile, word.Word.Word}
+use Rattle.pas_steps.specs.Views.{View, has_right, Way, Stays, Puts, grain_move, held_after, holds, KnowsDeed, known_free, epoch_of}
+use Rattle.pas_steps.specs.Desks.{made, Seat, Standing, AnyView, Adds, CanCall, Makes}
+use Rattle.pas_steps.proofs.Calls.{does_none, does_then, does_as, does_step, right_is, leads_then, does_after_nothing, kept_first, leads_as}
+use Rattle.pas_steps.proofs.Frames.{events_append, right_own, with_few, right_on, holds_on_page, knows_still, scans_look, looks_read}
+use Rattle.pas_steps.proofs.Sets.{got_lost}
 use Rattle.std.proofs.{Math.Nat.mul-le-mul_right, Math.Nat.suc-mul, lemmas.Bool.cases_Bool, lemmas.Bool.cases_lt, lemmas.Bool.cases_eq}
 use Rattle.pas_bits.specs.Bits.{has_bit}
 use Rattle.pas_profile.specs.Profiles.{IsPage}
@@ -25,13 +29,79 @@ use Rattle.pas_search.specs.Serving.{righted, IsUntouched, Rule, MayServe, GotBe
 use Rattle.pas_scan.specs.{Marks.is_marked, Rows.row_end, Rows.row_words, Rows.words_to, Scan.IsFirstOffered, Scan.FindsOffered, Scan.FindsBare}
 use Rattle.pas_search.specs.Searches.{offered_steps, OfferedHere, Searching, MaySearch, FromOffered, KeepsFound, FewEvents, Finds, GoesOn, SearchesOffered}
 use Rattle.pas_search.specs.Searches.{BareRoom, SearchesBare}
-use Rattle.pas_rights.specs.{Puts.PutsHere, PutsBack.GivesDuly}
-use Rattle.pas_search.proofs.{Returns.duly_on, Returns.never_returned, ForBackEnds.events_quiet, ForBackEnds.room_after, ForBackEnds.room_kept}
-use Rattle.pas_steps.proofs.Kept.{right_on, holds_on_page, knows_still, scans_look, looks_read}
+use Rattle.pas_search.proofs.ForBackEnds.{events_quiet, room_after, room_kept}
 use Rattle.pas_steps.proofs.Adding.{adds_call, can_call, agreed_first, agreed_later, adds_step}
 use Rattle.pas_core.proofs.OneActor.{no_event_fails_test}
 use Rattle.pas_steps.proofs.Evidence.{zero_before, deed_known, deed_before, unknown}
 
+-- ---- steps of two calls
+duly_later : (m : Made) (before xs : List Made) → ReturnsDuly m before → ReturnsDuly m (before ++ xs)
+duly_later m before xs h = (λ page is. once_earlier (GetsHere page) (GetsHere page) before xs (λ n b gets. gets) (h.0 page is), due_later m before xs h.1)
+
+-- Two lists of steps that return duly do so together.
+pub duly_both : (ys xs : List Made) → Always ReturnsDuly ys → Always ReturnsDuly xs → Always ReturnsDuly (ys ++ xs)
+duly_both ys xs = always_both ReturnsDuly ReturnsDuly ys xs (λ m before h. duly_later m before xs h)
+
+-- ---- kinds
+abbrev pub turning_back : Kinds
+turning_back = Offering ∷ Parking ∷ Unparking ∷ Hinting ∷ []
+
+-- A step that gives a page back is of such a kind: step by step.
+return_kind : (page : ℕ) (s : Step) → IsReturnOf page s → is_in turning_back (kind_of s) ≡ true
+return_kind page s e = grind arith
+
+no_return : (ks : Kinds) (page : ℕ) (s : Step) → apart ks turning_back ≡ true → is_in ks (kind_of s) ≡ true → IsReturnOf page s → ⊥
+no_return ks page s out is returns = true≢false (sym (return_kind page s returns) ∙ in_apart ks turning_back (place_of (kind_of s)) out is)
+
+-- steps of other kinds
+pub duly_none : (ks : Kinds) (steps : List Made) → apart ks turning_back ≡ true → apart ks giving ≡ true → Only ks steps → Always ReturnsDuly steps
+duly_none ks steps out due only = search (arith, always_pair, always_map, no_return, due_none)
+
+-- Steps of kinds that turn no page back keep its marks.
+pub keeps_marks : (ks : Kinds) (page : ℕ) (steps : List Made) → apart ks turning_back ≡ true → Only ks steps → Always (KeepsMarks page) steps
+keeps_marks ks page steps out = search (arith, always_map, no_return)
+
+-- ---- pages
+pub return_page : (p q : ℕ) (s : Step) → IsReturnOf q s → IsOnPage p s → q ≡ p
+return_page p q s e h = grind arith
+
+-- these steps return none but these pages
+abbrev pub ReturnsIn : (ℕ → Bool) → List Made → Type 0
+ReturnsIn pages = Always (λ m before. (page : ℕ) → IsReturnOf page m.step → pages page ≡ true)
+
+-- pages that were got before
+pub duly_in : (pages : ℕ → Bool) (ys xs : List Made) → ReturnsIn pages ys → Always GivesDuly (ys ++ xs) → ((p : ℕ) → pages p ≡ true → Once (GetsHere p) xs)
+    → Always ReturnsDuly xs → Always ReturnsDuly (ys ++ xs)
+duly_in pages [] xs within due got all = all
+duly_in pages (y ∷ ys) xs within due got all = ((λ q is. once_later _ ys xs (got q (within.0 q is)), due.0), duly_in pages ys xs within.1 due.1 got all)
+
+-- Steps on a page that the call got, which give duly, return duly.
+pub duly_on : (p : ℕ) (ys xs : List Made) → OnlyOn p ys → Always GivesDuly ys → Once (GetsHere p) xs → Always ReturnsDuly xs → Always ReturnsDuly (ys ++ xs)
+duly_on p [] xs on due got all = all
+duly_on p (y ∷ ys) xs on due got all = (
+  (
+    λ q is. subst (λ r. Once (GetsHere r) (ys ++ xs)) (sym (return_page p q y.step is on.0)) (once_later _ ys xs got),
+    due_later y ys xs due.0,
+  ),
+  duly_on p ys xs on.1 due.1 got all,
+)
+
+-- a page that was never got isn't returned
+pub never_returned : (p : ℕ) (xs : List Made) → (Once (GetsHere p) xs → ⊥) → Always ReturnsDuly xs → Always (KeepsMarks p) xs
+never_returned p [] never all = tt
+never_returned p (m ∷ xs) never all = (λ is. absurd (never (inr (all.0.0 p is))), never_returned p xs (λ got. never (inr got)) all.1)
+
+-- ---- after puts the page is taken back from the parked pages, and nothing else
+unparks : (page : ℕ) (s : Step) → is_in unparking (kind_of s) ≡ true → IsReturnOf page s → s ≡ Unpark page
+unparks page s is e = grind (arith, true≢false)
+
+-- Steps that take a page back after grains were put on it keep its marks.
+pub marks_after : (page : ℕ) (ys xs : List Made) → Only unparking ys → Once (PutsHere page) xs → Always (KeepsMarks page) xs
+    → Always (KeepsMarks page) (ys ++ xs)
+marks_after page [] xs only put all = all
+marks_after page (y ∷ ys) xs only put all = ((λ is. (unparks page y.step only.0 is, once_later _ ys xs put)), marks_after page ys xs only.1 put all)
+
+-- The steps of a search so far, and a page whose right the call got by its newest step: the back end leaves it, or keeps what its answer says.
 -- ---- kinds
 -- a search goes on with a page whose right it got
 pub served_search : (p : ℕ) (ys xs : List Made) → OnlyServes p ys → Always GivesDuly ys → Once (GetsHere p) xs → AreSearch xs → AreSearch (ys ++ xs)
@@ -40,7 +110,7 @@ served_search p ys xs only due got are = search (arith, only_both, only_within, 
 -- ---- events
 -- the events of steps, where those before made none
 pub events_after_quiet : (k : ℕ) (v : View) (ys xs : List Made) → AreQuiet xs → events_by k v (ys ++ xs) ≡ events_by k (xs ++ v) ys
-events_after_quiet k v ys xs quiet = events_append k ys xs v ∙ ap (λ es. events_by k (xs ++ v) ys ++ es) (events_quiet k v xs quiet) ∙ append-nil (events_by k (xs ++ v) ys)
+events_after_quiet k v ys xs quiet = events_append k ys xs v ∙ ap (λ es. events_by k (xs ++ v) ys ++ es) (events_quiet k v xs quiet) ∙ append-nil _
 
 serve_event : (d : Directory) (p : ℕ) (s : Step) (a : ℕ) → is_in serving (kind_of s) ≡ true → IsOnPage p s → IsQuiet (made s a) ⊎ IsDeedOrBack d p s
 serve_event d p s a kind (IsOnPage.Deeds e) = absurd (true≢false (sym kind))
@@ -50,7 +120,7 @@ serve_event d p s a kind on = inl (λ k e. refl)
 -- the events of a back end's steps, and of those before
 serves_events : (d : Directory) (p : ℕ) (ys xs : List Made) → OnlyServes p ys → EventsAt d p xs → EventsAt d p (ys ++ xs)
 serves_events d p [] xs only rest = rest
-serves_events d p (m ∷ ys) xs only rest = (serve_event d p m.step m.answer only.kinds.0 only.on.0, serves_events d p ys xs (record { kinds = only.kinds.1; on = only.on.1 }) rest)
+serves_events d p (m ∷ ys) xs only rest = (serve_event d p _ _ only.kinds.0 only.on.0, serves_events d p ys xs (record { kinds = only.kinds.1; on = only.on.1 }) rest)
 
 -- ---- deeds
 quiet_deed : (s : Step) (a : ℕ) → IsQuiet (made s a) → makes_deed s a ≡ false
@@ -85,9 +155,10 @@ holds_then : (fates : ℕ → Fate) (m : Made) (v : View) (x : ℕ) → Rights f
 holds_then fates m v x h = ap (λ t. held_after t (holds v x)) (h.grains x)
 
 does_rights : (f : Profile) (fates : ℕ → Fate) (m : Made) (v : View) → Rights fates m → Agrees f v m.step m.answer → Does (righted fates) v (m ∷ v)
-does_rights f fates m v h agrees = does_as (righted fates) (does_step f m.step m.answer v (in_apart searching unbacking (place_of (kind_of m.step)) refl h.kind) agrees)
+does_rights f fates m v h agrees = does_as (righted fates) (does_step f m.step m.answer v (in_apart searching unbacking _ refl h.kind) agrees)
     (λ x. inl (ap grain_fate (h.grains x))) h.rights (λ q c. subst (λ t. ClearAfter (if t then Lost else Kept) q v (m ∷ v)) (h.opens q) c)
 
+-- Each look is a step of a search: word by word.
 look_searches : (word : Word) → is_in searching (look_kind word) ≡ true
 look_searches word = grind arith
 
@@ -98,6 +169,7 @@ look_rights word a = record { grains = λ x. refl; rights = λ q. refl; opens = 
 abbrev pub gained : Bool → ℕ → ℕ → Fate
 gained got p q = if got && (p == q) then Gained else Kept
 
+-- The right is got just where the bit was read: by each test.
 gets_way : (here bit got : Bool) (w : Way) → way_fate w ≡ Gained → (here ≡ true → bit ≡ got)
     → way_fate (if here && bit then w else Way.Rests) ≡ (if got && here then Gained else Kept)
 gets_way here bit got w h same = grind arith
@@ -129,7 +201,7 @@ reads_vain steps = always_map (λ m before. IsRead m.step m.answer) (λ m before
 
 vain_leads : (f : Profile) (steps : List Made) → AreVain steps → Leads f AnyView (Does nothing) steps
 vain_leads f [] vain = record { from = λ v met agreed. does_none v }
-vain_leads f (m ∷ more) vain = record { from = λ v met agreed. does_then ((vain_leads f more vain.1).from v tt agreed.1) (does_rights f (λ q. Kept) m (more ++ v) vain.0.rights agreed.0) }
+vain_leads f (m ∷ more) vain = record { from = λ v met agreed. does_then ((vain_leads f more vain.1).from v tt agreed.1) (does_rights f _ m _ vain.0.rights agreed.0) }
 
 vain_right : (q : ℕ) (steps : List Made) (v : View) → AreVain steps → has_right (steps ++ v) q ≡ has_right v q
 vain_right q [] v vain = refl
@@ -156,7 +228,7 @@ returns_none fates m before h = (
   λ q is. absurd (h.returns q is),
   (
     λ q same. absurd (h.returns q (subst (IsReturnOf q) (sym same) IsReturnOf.Hints)),
-    λ q word mask g same here. let puts : Puts ≡ Stays = ap (λ t. if t then Puts else Stays) (sym here) ∙ ap (λ s. grain_move s m.answer g) (sym same) ∙ h.grains g in cc,
+    λ q word mask g same here. let puts = ap (λ t. if t then Puts else Stays) (sym here) ∙ ap (λ s. grain_move s m.answer g) (sym same) ∙ h.grains g in cc,
   ),
 )
 
@@ -213,10 +285,12 @@ lacks_on page p (m ∷ more) xs h ne none all = (right_on page p (m ∷ more) xs
 
 -- the page may be served from
 pub record IsReady (page : ℕ) (d : Directory) (v w : View) : Type 0 where
+  -- A claim that got the right makes the page ready to serve.
   pub got : Does (right_of page Gained) v w
   pub may : MayServe page d w
 
 module _ (f : Profile) (d : Directory) (page : ℕ) (m : Made) (ws : List Made) (gets : GetsRight page m.step m.answer) where
+  -- The step gets this page's right, and changes nothing else.
   turns : Rights (λ q. if page == q then Gained else Kept) m
   turns = gets_rights page m.step m.answer gets
 
@@ -235,7 +309,7 @@ module _ (f : Profile) (d : Directory) (page : ℕ) (m : Made) (ws : List Made) 
       → ((v : View) → Agreed f v (m ∷ ws) → KnowsDeed page d (m ∷ (ws ++ v))) → Leads f B (IsReady page d) (m ∷ ws)
   ready clear still deed = record {
     from = λ v met agreed.
-        let got : Does (right_of page Gained) v (m ∷ (ws ++ v)) = does_after_nothing (right_of page Gained) (still.from v met agreed.1) (does_rights f (λ q. if page == q then Gained else Kept) m (ws ++ v) turns agreed.0) in
+        let got = does_after_nothing (right_of page Gained) (still.from v met agreed.1) (does_rights f _ m (ws ++ v) turns agreed.0) in
         record { got = got; may = record { right = got_right (ws ++ v); deed = deed v agreed; clear = got.clear page ((clear v met).on page) } };
   }
 
@@ -248,10 +322,10 @@ module _ (f : Profile) (d : Directory) (page : ℕ) (m : Made) (ws : List Made) 
         → Finds rule f d Choice (zs ++ (m ∷ ws)) (record { page = page; found = found })
     finds found Choice serve is choice few event quiet are never =
         let shows = serve.outcome.shows (m ∷ ws) (got_before untouched) in
-        let kept : Leads f (MayServe page d) (λ w u. Keeps rule page found w u × KnowsDeed page d u) zs = record { from = λ w may agreed. (serve.outcome.keeps.from w may agreed, knows_still f d page zs w agreed may.deed) } in
+        let kept : Leads f _ (λ w u. Keeps rule page _ w u × KnowsDeed page d u) zs = record { from = λ w may agreed. (serve.outcome.keeps.from w may agreed, knows_still f d page zs w agreed may.deed) } in
         record {
           page = is;
-          keeps = leads_then (KeepsFound rule d (record { page = page; found = found })) ready kept (λ v w met r. r.may) (λ v w u r k. record { keeps = record { does = got_served rule page found r.got k.0.does; backed = k.0.backed }; deed = k.1 });
+          keeps = leads_then _ ready kept (λ v w met r. r.may) (λ v w u r k. record { keeps = record { does = got_served rule page _ r.got k.0.does; backed = k.0.backed }; deed = k.1 });
           choice = choice;
           shows = record {
             readings = shows.readings;
@@ -261,10 +335,10 @@ module _ (f : Profile) (d : Directory) (page : ℕ) (m : Made) (ws : List Made) 
             held = leads_then (ReadsNoneHeld page shows.readings) ready shows.held (λ v w met r. r.may) (λ v w u r h g at has. h g at (r.got.held g ∙ has));
           };
           serves = serve.outcome.serves (m ∷ ws) (got_before untouched);
-          marks = λ v met agreed. always_both (KeepsMarks page) (KeepsMarks page) zs (m ∷ ws) (λ n before h is. let put = h is in (put.0, once_earlier (PutsHere page) (PutsHere page) before (m ∷ ws) (λ x b puts. puts) put.1)) serve.outcome.marks
+          marks = λ v met agreed. always_both _ _ zs _ (λ n before h is. let put = h is in (put.0, once_earlier _ _ before _ (λ x b puts. puts) put.1)) serve.outcome.marks
               (λ is. absurd (turns.returns page is), never_returned page ws (never v (agreed_later f v zs (m ∷ ws) agreed)) are.returns);
           few = few;
-          events = serves_events d page zs (m ∷ ws) serve.only (event, always_map (λ m before. IsQuiet m) (λ m before. IsQuiet m ⊎ IsDeedOrBack d page m.step) ws (λ m before q. inl q) quiet);
+          events = serves_events d page zs (m ∷ ws) serve.only (event, always_map (λ m before. IsQuiet m) _ ws (λ m before q. inl q) quiet);
         }
 
 -- a page whose right the call never had was never got
@@ -283,7 +357,8 @@ pub offered_further : (each words : ℕ) {next page end : ℕ} → 1 ≤ page �
     → offered_steps each words (next - 1) + (end - next / 64) + (each + 1) ≤ offered_steps each words page
 unfolding offered_steps
 offered_further each words {next} {page} {end} some le within =
-    let more : suc (next - 1) * (each + words + 1) ≤ page * (each + words + 1) = mul-le-mul_right (each + words + 1) (omega (arith, some, le)) in omega (arith, some, le, within, more, suc-mul (next - 1) (each + words + 1))
+    let more : suc (next - 1) * (each + words + 1) ≤ page * (each + words + 1) = mul-le-mul_right (each + words + 1) (omega (arith, some, le)) in
+    omega (arith, some, le, within, more, suc-mul (next - 1) (each + words + 1))
 
 -- the search goes on from the page after this one
 few_past : (each page : ℕ) (f : Profile) (steps : List Made) → length steps ≤ offered_steps each (row_words f.pages) page
@@ -305,7 +380,7 @@ module _ {F : Type 0} (rule : Rule F) (f : Profile) (d : Directory) (page : ℕ)
   others_untouched : (p : ℕ) → p ≢ page → IsUntouched p (zs ++ (m ∷ ws))
   others_untouched p ne = record {
     right = right_on page p zs (m ∷ ws) on ne ∙ right_on page p (m ∷ []) ws on_m ne ∙ (s.untouched p).right;
-    none = λ g at. let away = λ (e : g / 256 ≡ page). ne (sym at ∙ e) in holds_on_page page g zs (m ∷ ws) on away ∙ holds_on_page page g (m ∷ []) ws on_m away ∙ (s.untouched p).none g at;
+    none = λ g at. let away = λ (e : g / 256 ≡ page). ne (sym at ∙ e) in holds_on_page _ g zs _ on away ∙ holds_on_page _ g (m ∷ []) ws on_m away ∙ (s.untouched p).none g at;
   }
 
   -- it serves
@@ -320,7 +395,7 @@ module _ {F : Type 0} (rule : Rule F) (f : Profile) (d : Directory) (page : ℕ)
         ];
         no_deed = deeds_serves zs (m ∷ ws) serve.only.kinds ∙ no_deeds (m ∷ ws) (quiet, s.quiet);
       })
-      (λ k v agreed. let few : length (events_by k v (zs ++ (m ∷ ws))) ≤ rule.events = subst (λ es. length es ≤ rule.events) (sym (events_after_quiet k v zs (m ∷ ws) (quiet, s.quiet))) (serve.few k ((m ∷ ws) ++ v)) in (omega (arith, few), λ known. few))
+      (λ k v agreed. let few = subst (λ es. length es ≤ rule.events) (sym (events_after_quiet k v zs (m ∷ ws) (quiet, s.quiet))) (serve.few k _) in (omega (arith, few), λ known. few))
       (inl quiet) s.quiet s.searches (λ v agreed. never_got page ws (s.lacked page unmarked))
 
   -- it was left
@@ -329,7 +404,7 @@ module _ {F : Type 0} (rule : Rule F) (f : Profile) (d : Directory) (page : ℕ)
       → page ≤ f.pages → length (zs ++ (m ∷ ws)) ≤ offered_steps rule.steps (row_words f.pages) page → GoesOn rule f d (page + 1) marks' (zs ++ (m ∷ ws))
   goes_on marks' more serve lacked rest within few =
       let left = serve.outcome in let got = got_before f d page m ws gets (s.untouched page) in
-      let lacking : Leads f (MaySearch d) (λ v w. IsReady page d v w × (has_right v page ≡ false)) (m ∷ ws) = record { from = λ v met agreed. (ready.from v met agreed, lacked v met agreed.1) } in
+      let lacking : Leads f _ (λ v w. IsReady page d v w × (has_right v page ≡ false)) (m ∷ ws) = record { from = λ v met agreed. (ready.from v met agreed, lacked v met agreed.1) } in
       let here : is_marked marks' page ≡ true = more page ∙ ap (λ x. x || is_marked marks page) (eq-eqb page page refl) in
       let others : (p : ℕ) → p ≢ page → is_marked marks' p ≡ is_marked marks p = λ p ne. more p ∙ ap (λ x. x || is_marked marks p) (ne_eqb page p (λ e. ne (sym e))) in
       let unmarked : (p : ℕ) → is_marked marks' p ≡ false → p ≢ page = λ p mark e. true≢false (sym here ∙ ap (is_marked marks') (sym e) ∙ mark) in
@@ -378,9 +453,9 @@ module _ {F : Type 0} {rule : Rule F} {σ0 σ : Standing} {d : Directory} {next 
   none_offered {σ1} same {next'} some low found =
       let find : FindsOffered d next σ σ1 next' None = subst (λ x. FindsOffered x next σ σ1 next' None) same found in
       let pages : σ.seat.profile.pages ≡ f.pages = ap (λ (s : Seat). s.profile.pages) tries.adds.seat_is in
-      let s : Searching rule.no_fit f d (f.pages + 1) marks (find.steps ++ earlier) = zeros_searching rule f d next marks (f.pages + 1) find.steps earlier (reads_vain find.steps (looks_read find.steps (scans_look find.steps find.scans))) tries.goes.searching
+      let s = zeros_searching rule f d next marks _ find.steps earlier (reads_vain find.steps (looks_read find.steps (scans_look find.steps find.scans))) tries.goes.searching
       (λ p low high. zero_before d p find.steps earlier (tries.goes.searching.untouched p).right (find.outcome.1 p low (omega (arith, high, pages)))) in
-      record { steps = find.steps ++ earlier; adds = adds_call {D = AnyView} tries.adds find.adds (λ v l stood met. tt); searches = s.searches; few = let all = offered_further rule.steps (row_words f.pages) {end = f.pages / 64 + 1} (omega (arith, some, low)) low (omega arith) in omega (arith, tries.goes.few, find.count, pages, all, length-append find.steps earlier); outcome = s }
+      record { steps = find.steps ++ earlier; adds = adds_call {D = AnyView} tries.adds find.adds _; searches = s.searches; few = let all = offered_further rule.steps (row_words f.pages) {end = f.pages / 64 + 1} (omega (arith, some, low)) low (omega arith) in omega (arith, tries.goes.few, find.count, pages, all, length-append find.steps earlier); outcome = s }
 
   module _ {σ1 : Standing} {d' : Directory} (same : d' ≡ d) {next' page : ℕ} (found : FindsOffered d' next σ σ1 next' (Some page)) where
     -- What was found offered is found by the search's own directory.
@@ -390,14 +465,16 @@ module _ {F : Type 0} {rule : Rule F} {σ0 σ : Standing} {d : Directory} {next 
     abbrev pub looked : List Made
     looked = find.steps ++ earlier
 
+    -- The looks that found the page change nothing.
     vain : AreVain find.steps
     vain = reads_vain find.steps (looks_read find.steps (scans_look find.steps find.scans))
 
+    -- The page is the lowest one that was read as offered.
     first : IsFirstOffered f d next find.steps page
     first = subst (λ (s : Seat). IsFirstOffered s.profile d next find.steps page) tries.adds.seat_is find.outcome.1
 
     at_page : Searching rule.no_fit f d page marks looked
-    at_page = zeros_searching rule f d next marks page find.steps earlier vain tries.goes.searching (λ p low high. zero_before d p find.steps earlier (tries.goes.searching.untouched p).right (first.lower p low high))
+    at_page = zeros_searching rule f d next _ page _ _ vain tries.goes.searching (λ p low high. zero_before d p _ _ (tries.goes.searching.untouched p).right (first.lower p low high))
 
     rest_at : (p : ℕ) → page ≤ p → is_marked marks p ≡ false
     rest_at p low = tries.goes.rest p (omega (arith, first.from_next, low))
@@ -409,6 +486,7 @@ module _ {F : Type 0} {rule : Rule F} {σ0 σ : Standing} {d : Directory} {next 
     deed_at : (v : View) → KnowsDeed page d (looked ++ v)
     deed_at v = subst (KnowsDeed page d) (sym (append_assoc find.steps earlier v)) (first.deed (earlier ++ v))
 
+    -- The actor hasn't the page's right when it was found.
     lacked : (v : View) → MaySearch d v → Agreed f v looked → has_right v page ≡ false
     lacked v met agreed = search (arith, agreed_later, agreed_first)
 
@@ -423,8 +501,8 @@ module _ {F : Type 0} {rule : Rule F} {σ0 σ : Standing} {d : Directory} {next 
       -- with the steps of the back end
       few_after : (ys : List Made) → length ys ≤ rule.steps → length (ys ++ claimed) ≤ offered_steps rule.steps (row_words f.pages) page
       few_after ys short =
-          let counted : length find.steps ≡ words_to f next page = subst (λ (s : Seat). length find.steps ≡ words_to s.profile next page) tries.adds.seat_is find.count in
-          let further = offered_further rule.steps (row_words f.pages) {end = row_end f page} first.of_region.0 first.from_next (row_within f page first.of_region.1) in
+          let counted = subst (λ (s : Seat). length find.steps ≡ words_to s.profile next page) tries.adds.seat_is find.count in
+          let further = offered_further rule.steps _ {end = row_end f page} first.of_region.0 first.from_next (row_within f page first.of_region.1) in
           omega (arith, tries.goes.few, counted, further, short, length-append ys claimed, length-append find.steps earlier)
 
       -- The search so far, with the claim of the page that was found, is one call.
@@ -441,7 +519,7 @@ module _ {F : Type 0} {rule : Rule F} {σ0 σ : Standing} {d : Directory} {next 
         steps = claimed;
         adds = claim_adds;
         goes = subst (λ k. GoesOn rule f d k marks' claimed) (sym further) (subst (λ x. GoesOn rule f d (page + 1) x claimed) (sym unmarked) (record {
-          searching = zeros_searching rule f d page marks (page + 1) (made (TakeRight page d) a ∷ []) looked (record { rights = claim_rights page d a false bit; quiet = λ k e. refl }, tt) at_page
+          searching = zeros_searching rule f d page _ _ (made _ a ∷ []) _ (record { rights = claim_rights page d a false bit; quiet = λ k e. refl }, tt) at_page
               (λ p low high. let same : page ≡ p = omega (arith, low, high) in inl (subst (λ q. ReadsEligible d q (TakeRight page d) × (has_bit a (q % 64) ≡ false) × (has_right looked q ≡ false)) same (ReadsEligible.Claims, bit, (at_page.untouched page).right)));
           rest = λ p low. rest_at p (omega (arith, low));
           within = omega (arith, first.of_region.1);
@@ -451,7 +529,7 @@ module _ {F : Type 0} {rule : Rule F} {σ0 σ : Standing} {d : Directory} {next 
 
       module _ (bit : has_bit a (page % 64) ≡ true) where
         got : Leads f (MaySearch d) (IsReady page d) claimed
-        got = ready f d page (made (TakeRight page d) a) looked (GetsRight.Claims d a bit) (λ v met. met.clear) at_page.still (λ v agreed. knows_still f d page (made (TakeRight page d) a ∷ []) (looked ++ v) (agreed.0, tt) (deed_at v))
+        got = ready f d page _ looked (GetsRight.Claims d a bit) (λ v met. met.clear) at_page.still (λ v agreed. knows_still f d page (made (TakeRight page d) a ∷ []) (looked ++ v) (agreed.0, tt) (deed_at v))
 
         -- A page that was claimed may serve.
         pub serve_can : CanCall σ0 (MaySearch d) → CanCall σ2 (MayServe page d)
@@ -470,16 +548,17 @@ module _ {F : Type 0} {rule : Rule F} {σ0 σ : Standing} {d : Directory} {next 
           found_there marks' {found} serve = let s = at_page in record {
             steps = serve.steps ++ claimed;
             adds = serve_adds (Some found) serve;
-            few = let most = few_after serve.steps serve.serves.short in let all = offered_grows rule.steps (row_words f.pages) first.of_region.1 in omega (arith, most, all);
-            searches = served_search page serve.steps claimed serve.serves.only serve.serves.due (inl (GetsRight.Claims d a bit)) (got_search f d page (made (TakeRight page d) a) looked (GetsRight.Claims d a bit) s.searches);
-            outcome = from_offered rule f d page marks (made (TakeRight page d) a) looked serve.steps (GetsRight.Claims d a bit) (λ k e. refl) (IsOnPage.Claims d, tt) serve.serves.only.on got s found (serve_at (Some found) serve) first.of_region (rest_at page (omega arith))
-                (offered_before d page find.steps earlier vain (tries.goes.searching.untouched page).right (tries.goes.searching.lacked page (rest_at page (omega arith))) first.one);
+            few = let most = few_after _ serve.serves.short in let all = offered_grows rule.steps (row_words f.pages) first.of_region.1 in omega (arith, most, all);
+            searches = served_search page _ claimed serve.serves.only serve.serves.due (inl (GetsRight.Claims d a bit)) (got_search f d page _ looked (GetsRight.Claims d a bit) s.searches);
+            outcome = from_offered rule f d page marks _ looked serve.steps (GetsRight.Claims d a bit) (λ k e. refl)
+                (IsOnPage.Claims d, tt) serve.serves.only.on got s found (serve_at (Some found) serve) first.of_region (rest_at page (omega arith))
+                (offered_before d _ _ _ vain (tries.goes.searching.untouched page).right (tries.goes.searching.lacked page (rest_at page (omega arith))) first.one);
           }
 
           -- A claimed page that was left is tried, and the search goes on behind it.
           pub left_tries : {k : ℕ} → k ≡ page + 1 → (marks' : List ℕ) → ((p : ℕ) → is_marked marks' p ≡ ((page == p) || is_marked marks p))
               → (serve : ServesPage rule page d σ2 σ3 None) → TriesPages rule d k marks' σ0 σ3
-          left_tries is marks' more serve = record { steps = serve.steps ++ claimed; adds = serve_adds None serve; goes = subst (λ j. GoesOn rule f d j marks' (serve.steps ++ claimed)) (sym is) (goes_on rule f d page marks (made (TakeRight page d) a) looked serve.steps (GetsRight.Claims d a bit) (λ k e. refl) (IsOnPage.Claims d, tt) serve.serves.only.on got at_page marks' more (serve_at None serve) lacked rest_at first.of_region.1 (few_after serve.steps serve.serves.short)) }
+          left_tries is marks' more serve = record { steps = serve.steps ++ claimed; adds = serve_adds None serve; goes = subst (λ j. GoesOn rule f d j marks' (serve.steps ++ claimed)) (sym is) (goes_on rule f d page marks _ looked serve.steps (GetsRight.Claims d a bit) (λ k e. refl) (IsOnPage.Claims d, tt) serve.serves.only.on got at_page marks' more (serve_at None serve) lacked rest_at first.of_region.1 (few_after serve.steps serve.serves.short)) }
 
 -- ---- a deed that was made
 deed_frees : (p : ℕ) (d : Directory) (a : ℕ) (v : View) (g : ℕ) → a ≡ 0 → g / 256 ≡ p → known_free (made (Deed p d) a ∷ v) g ≡ true
@@ -509,7 +588,7 @@ module _ {σ0 σ : Standing} (d : Directory) {from : ℕ} (passes : PassesDeeds 
   more_reads ys h = always_both (λ m before. IsRead m.step m.answer) (λ m before. IsRead m.step m.answer) ys xs (λ m before is. is) h passes.reads
 
   more_deeds : (end : ℕ) (ys : List Made) → ((p : ℕ) → from ≤ p → p < end → Once (DeedHere p) ys) → AllDeeds end (ys ++ xs)
-  more_deeds end ys more p low high = elim (cases_lt p from) [ inl lt ↦ once_later (DeedHere p) ys xs (passes.deeds p low lt) | inr ge ↦ deed_before p ys xs (more p ge high) ]
+  more_deeds end ys more p low high = elim (cases_lt p _) [ inl lt ↦ once_later _ ys xs (passes.deeds p low lt) | inr ge ↦ deed_before p ys xs (more p ge high) ]
 
   -- each page has a deed
   pub all_bare : {F : Type 0} {rule : Rule F} → region.pages < from → SearchesBare rule d σ0 σ None
@@ -518,8 +597,8 @@ module _ {σ0 σ : Standing} (d : Directory) {from : ℕ} (passes : PassesDeeds 
   -- Where no page without a deed was found, the search of such pages has none.
   pub none_bare : {F : Type 0} {rule : Rule F} {σ1 : Standing} → FindsBare from σ σ1 None → SearchesBare rule d σ0 σ1 None
   none_bare find =
-      let pages : σ.seat.profile.pages ≡ region.pages = ap (λ (s : Seat). s.profile.pages) passes.adds.seat_is in let deeds = more_deeds (region.pages + 1) find.steps (λ p low high. find.outcome p low (omega (arith, high, pages))) in
-      record { steps = find.steps ++ xs; adds = adds_call {D = AnyView} passes.adds find.adds (λ v l stood met. tt); few = omega (arith, passes.few, passes.within, find.count, pages, length-append find.steps xs); outcome = (more_reads find.steps (looks_read find.steps (scans_look find.steps find.scans)), deeds) }
+      let pages = ap (λ s. s.profile.pages) passes.adds.seat_is in let deeds = more_deeds _ _ (λ p low high. find.outcome p low (omega (arith, high, pages))) in
+      record { steps = find.steps ++ xs; adds = adds_call {D = AnyView} passes.adds find.adds _; few = omega (arith, passes.few, passes.within, find.count, pages, length-append find.steps xs); outcome = (more_reads _ (looks_read _ (scans_look _ find.scans)), deeds) }
 
   module _ {σ1 : Standing} {page : ℕ} (find : FindsBare from σ σ1 (Some page)) where
     abbrev pub read : List Made
@@ -543,6 +622,7 @@ module _ {σ0 σ : Standing} (d : Directory) {from : ℕ} (passes : PassesDeeds 
     -- there is room for the event of its deed
     module _ {n spare : ℕ} (can : CanCall σ0 (BareRoom region n spare))
         (law : (v : View) (l : Whole) → σ0.stands v l → spare + length (events_of σ0.seat.actor v) ≡ σ0.seat.room) where
+      -- There is room for the events of the back end and for that of a deed, since some page's deed isn't known.
       wide : n + 1 ≤ spare
       wide = search (arith, unknown, reads_adds, once_earlier, of_region)
 
@@ -554,7 +634,8 @@ module _ {σ0 σ : Standing} (d : Directory) {from : ℕ} (passes : PassesDeeds 
       pub serve_room : {σ2 : Standing} {spare' : ℕ} {a : ℕ} → Adds σ0 σ2 IsClear (tried a)
           → ((v : View) (l : Whole) → σ2.stands v l → spare' + length (events_of σ2.seat.actor v) ≡ σ2.seat.room) → n ≤ spare'
       serve_room {a = a} deed_adds law' = room_after {C = IsClear} n 1 deed_adds (clear_can can) (λ k v.
-          let none = ap length (events_quiet k v read (vain_quiet read (reads_vain read found_reads))) in let more = with_few (event_of k (epoch_of (read ++ v)) (Deed page d) a) (events_by k v read) in omega (arith, none, more)) law law' wide
+          let none = ap length (events_quiet k v read (vain_quiet read (reads_vain read found_reads))) in
+          let more = with_few (event_of k (epoch_of (read ++ v)) (Deed page d) a) (events_by k v read) in omega (arith, none, more)) law law' wide
 
     module _ {σ2 : Standing} {a : ℕ} (makes : Makes σ1 σ2 (Deed page d) a) where
       -- The search so far, with the deed that was tried, is one call.
@@ -581,7 +662,8 @@ module _ {σ0 σ : Standing} (d : Directory) {from : ℕ} (passes : PassesDeeds 
       -- the deed was made
       module _ (made_it : a ≡ 0) where
         deed_got : Leads region IsClear (IsReady page d) (tried a)
-        deed_got = ready region d page (made (Deed page d) a) read (GetsRight.Deeds d a made_it) (λ v clear. clear) (leads_as (vain_leads region read (reads_vain read found_reads)) (λ v clear. tt) (λ v w clear does. does)) (λ v agreed. deed_known page d a (read ++ v) made_it)
+        deed_got = ready region d page _ read (GetsRight.Deeds d a made_it) (λ v clear. clear)
+            (leads_as (vain_leads region read (reads_vain read found_reads)) _ (λ v w clear does. does)) (λ v agreed. deed_known page d a (read ++ v) made_it)
 
         -- A page whose deed was made may serve.
         pub deed_can : CanCall σ0 IsClear → CanCall σ2 (MayServe page d)

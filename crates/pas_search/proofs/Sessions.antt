@@ -40,10 +40,12 @@ one_deed : (m : ℕ) {A B : Type 0} → (A → m ≡ 0) → (B → m ≡ 1) → 
 one_deed m f g either = search arith
 
 module _ {Found : Type 0} {σ σ' : Standing} {tells : Bool} {choice : Choice Found} {run : Found → Run} (d : Directory) where
+  -- After the request an actor that had nothing has nothing.
   leads : (answer : Result Block NoRoom) (asks : AllocatesRun choice run d tells σ σ' answer) (v : View) → HasNothing v
       → Agreed σ.seat.profile v (asks.after ++ asks.searched) → HasNothing ((asks.after ++ asks.searched) ++ v)
   leads answer asks v none agreed = search (arith, nothing_left, nothing_still)
 
+  -- A request makes three events at most.
   few : (answer : Result Block NoRoom) (asks : AllocatesRun choice run d tells σ σ' answer) (k : ℕ) (v : View) → MaySearch d v
       → Agreed σ.seat.profile v (asks.after ++ asks.searched) → length (events_by k v (asks.after ++ asks.searched)) ≤ 3
   few answer asks k v may agreed = search (arith, agreed_later, events_quiet)

@@ -8,15 +8,15 @@ use Rattle.pas_bits.proofs.Words.{at_word}
 use Rattle.pas_profile.specs.Profiles.{IsPage}
 use Rattle.pas_profile.specs.declared.{directory.Directory.Directory, profile.Profile.Profile}
 use Rattle.pas_rights.specs.{Looks.looks, Looks.ReadsPage, Words.words}
-use Rattle.pas_rights.proofs.Looks.{looks_are, looks_few}
+use Rattle.pas_rights.proofs.Orders.{looks_are, looks_few}
 use Rattle.pas_scan.specs.{Rows.row_end, Rows.row_words, Rows.words_to, Scan.IsFirstOffered, Scan.FindsOffered}
 use Rattle.pas_steps.specs.{Agreement.Agreed, Frames.AreLooks, Past.Once, Evidence.Readings, Evidence.ZeroHere, Evidence.OneHere, Views.View, Views.has_right}
 use Rattle.pas_steps.specs.{Views.KnowsDeed}
 use Rattle.pas_steps.specs.Desks.{Seat, Standing, AnyView, Adds}
 use Rattle.pas_steps.specs.declared.step.Made.{Made}
 use Rattle.pas_steps.proofs.Adding.{adds_none, adds_call, agreed_first, agreed_later}
-use Rattle.pas_steps.proofs.Kept.{knows_still, looks_read, right_reads, scans_look}
-use Rattle.pas_steps.proofs.{Evidence.zero_before, Frames.right_own, Past.once_later, Past.once_earlier}
+use Rattle.pas_steps.proofs.Frames.{knows_still, looks_read, right_reads, scans_look, right_own}
+use Rattle.pas_steps.proofs.{Evidence.zero_before, Past.once_later, Past.once_earlier}
 use Rattle.pas_search.specs.Ranks.{Measure, SeenHere, IsRanked, IsSeen, AllSeen, HasNone, IsNoBetter, IsBestBelow, IsSurvey, IsBetterOf, survey_steps, Surveys}
 use Rattle.pas_search.specs.declared.surveying.Best.{Best}
 use Rattle.pas_search.proofs.PagesThatServe.{offered_further, row_within}
@@ -120,8 +120,8 @@ module _ (ranks : Measure) (d : Directory) where
 
       best_more : (best : Option Best) (rank : Option ℕ) (better : Option Best) → IsBetterOf best page rank better → IsRanked ranks d page rank xs
           → IsSurvey f ranks d page xs best → IsSurvey f ranks d (page + 1) xs better
-      best_more None None better so is all =
-          subst (IsSurvey f ranks d (page + 1) xs) (sym (so.old (λ n e. absurd cc))) (all_more HasNone HasNone page None xs (λ p other lt holds. holds) is refl all)
+      best_more None None better so is all = subst (IsSurvey f ranks d (page + 1) xs) (sym (so.old (λ n e. absurd cc)))
+          (all_more HasNone HasNone page None xs (λ p other lt holds. holds) is refl all)
       best_more (Some best) None better so is old =
           subst (IsSurvey f ranks d (page + 1) xs) (sym (so.old (λ n e. absurd cc))) (old_best best None is (λ n e. absurd cc) old)
       best_more None (Some rank) better so is all =
@@ -183,9 +183,11 @@ module _ {ranks : Measure} {d : Directory} {next : ℕ} {best : Option Best} {σ
       }
 
   module _ {σ1 : Standing} {d' : Directory} (same : d' ≡ d) {next' page : ℕ} (found : FindsOffered d' next σ σ1 next' (Some page)) where
+    -- The page that the survey goes on with, as it was found.
     find : FindsOffered d next σ σ1 next' (Some page)
     find = subst (λ x. FindsOffered x next σ σ1 next' (Some page)) same found
 
+    -- It is the lowest one from there on that was read as offered.
     first : IsFirstOffered f d next find.steps page
     first = subst (λ (s : Seat). IsFirstOffered s.profile d next find.steps page) surveys.adds.seat_is find.outcome.1
 
@@ -201,6 +203,7 @@ module _ {ranks : Measure} {d : Directory} {next : ℕ} {best : Option Best} {σ
     looked_looks : AreLooks looked
     looked_looks = looks_both find.steps earlier (scans_look find.steps find.scans) surveys.looks
 
+    -- Its bit was read as 1, in the steps with the looks at its grains, too.
     offered : Once (OneHere d page) looked
     offered = search (arith, once_earlier, right_own, looks_lack)
 

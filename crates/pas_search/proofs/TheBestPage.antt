@@ -1,33 +1,36 @@
 -- The best page of a survey is claimed, and serves or comes to nothing; where it came to nothing the search goes on. What a survey of looks and the claim
 -- that follows it say of the state at entry, where no other actor makes a step meanwhile.
 use Rattle.std.proofs.Common.{◌≡◌, ℕ, ◌+◌, ◌*◌, ◌/◌, ◌%◌, ◌<◌, Bool, true, false, if◌then◌else◌, List, [], ◌∷◌, ◌++◌, Option, Some, inl, inr, refl, ap, sym}
-use Rattle.std.proofs.Common.{◌∙◌, subst, arith, true≢false, ◌≤◌, length, None, Result, append-nil, length-append}
+use Rattle.std.proofs.Common.{◌∙◌, subst, arith, true≢false, ◌≤◌, length, None, Result, append-nil, length-append, ◌==◌, ◌&&◌, Ok, eqb-true}
 use Rattle.pas_bits.specs.Bits.{has_bit}
 use Rattle.pas_profile.specs.{Directories.number_of, Layouts.same_word, Profiles.IsValid}
 use Rattle.pas_profile.specs.declared.{directory.Directory.Directory, profile.Profile.Profile, word.Word.Word, event.NoRoom.NoRoom}
-use Rattle.pas_steps.specs.{Agreement.Agreed, Effects.target, Effects.new_value, Effects.free_word_at, Frames.IsLook, Frames.AreLooks, Past.Once, Calls.Leads}
-use Rattle.pas_steps.specs.{Calls.nothing, Calls.Does, Events.events_by, Events.events_of, Unknown.HasRoom, Views.has_right, Views.View, Views.KnowsDeed}
+use Rattle.pas_steps.specs.{Agreement.Agreed, Effects.target, Effects.new_value, Effects.free_word_at, Frames.IsLook, Frames.AreLooks, Past.Once}
+use Rattle.pas_steps.specs.{Events.events_by, Events.events_of, Unknown.HasRoom, Past.Since}
+use Rattle.pas_steps.specs.Calls.{Leads, nothing, Does, Calls, Fate, Kept, Gained, Lost, later, ClearAfter, Effect, on_page}
+use Rattle.pas_steps.specs.Views.{has_right, View, KnowsDeed, holds}
 use Rattle.pas_steps.specs.Desks.{triples, Seat, Standing, Adds, CanCall, made}
-use Rattle.pas_steps.specs.Evidence.{Readings, ReadsEligible, IsAntitone, GetsRight}
+use Rattle.pas_steps.specs.Evidence.{Readings, ReadsEligible, IsAntitone, GetsRight, GetsHere}
 use Rattle.pas_steps.specs.Lists.{Whole, Legal, part, word_after}
 use Rattle.pas_steps.specs.declared.step.{Made.Made, Step.Step, Step.TheVariants.TakeRight}
 use Rattle.pas_core.specs.Rights.{eligible_bit, free_of_page}
 use Rattle.pas_core.proofs.{Deeds.looked, OneActor.fit_entry, OneActor.legal_earlier, OneActor.lends_none}
 use Rattle.pas_search.specs.Kinds.{searching, AreSearch, AreQuiet, IsQuiet}
-use Rattle.pas_search.specs.Serving.{Rule, ShowsFit, MayServe, ServeSteps, ServesPage}
-use Rattle.pas_search.specs.Searches.{MaySearch, Searching, SearchRoom, FewEvents, Searches}
+use Rattle.pas_search.specs.Serving.{Rule, ShowsFit, MayServe, ServeSteps, ServesPage, served}
+use Rattle.pas_search.specs.Searches.{MaySearch, Searching, SearchRoom, FewEvents, Searches, KeepsFound, Finds}
 use Rattle.pas_search.specs.Ranks.{Measure, IsOfGrains, SeenHere, IsRanked, TriesPage, FromSurvey, IsBestOffered, MayRank, RankRoom, Surveys, TriesBest}
 use Rattle.pas_search.specs.Ranks.{StoodBefore, having_made, FallsBack}
-use Rattle.std.proofs.lemmas.Bool.{cases_eq}
+use Rattle.std.proofs.lemmas.Bool.{cases_eq, and_parts, false_from_ne_true}
 use Rattle.pas_bits.proofs.Words.{none_of_zero}
 use Rattle.pas_scan.specs.Marks.{is_marked}
 use Rattle.pas_steps.proofs.Adding.{adds_call, adds_under, can_call, legal_after}
-use Rattle.pas_steps.proofs.Calls.{does_none, leads_none, leads_then, still_clear}
-use Rattle.pas_steps.proofs.{Kept.deed_stays, Kept.knows_still, Kept.looks_read, Past.always_both, Unknown.all_known}
+use Rattle.pas_steps.proofs.Calls.{does_none, leads_none, leads_then, still_clear, does_as, does_then}
+use Rattle.pas_steps.proofs.{Frames.deed_stays, Frames.knows_still, Frames.looks_read, Past.always_both, Unknown.all_known, Sets.kept_kept}
 use Rattle.pas_search.specs.declared.{serving.Served.Served, surveying.Best.Best}
 use Rattle.pas_search.proofs.ForBackEnds.{room_kept}
 use Rattle.pas_search.proofs.PagesThatServe.{IsReady, reads_vain, vain_searching, claim_rights, ready, got_search, got_before, served_search, finds, never_got}
 use Rattle.pas_search.proofs.PagesThatServe.{deeds_serves, no_deeds, got_left, events_after_quiet}
+use Rattle.pas_search.specs.{Allocates.served_by, Choices.Choice, Choices.TakesKept, Choices.choosing}
 
 -- ---- looks leave each word as it was
 look_keeps : (e : ℕ) (s : Step) (w : Word) (old : ℕ) → IsLook s → (if same_word (target s) w then new_value e s old else old) ≡ old
@@ -37,6 +40,7 @@ words_same : (k : ℕ) (xs : List Made) (l : Whole) (w : Word) → AreLooks xs �
 words_same k [] l w looks = refl
 words_same k (m ∷ xs) l w looks = search (arith, look_keeps, words_same k xs l w looks.1)
 
+-- A step that reads the page's eligible bit reads its word: look or claim.
 eligible_read : (d : Directory) (p : ℕ) (s : Step) (w : Whole) → ReadsEligible d p s
     → word_after w (target s) ≡ word_after w (Word.Eligible (number_of d) (p / 64))
 eligible_read d p s w e = grind arith
@@ -130,6 +134,7 @@ module _ {F : Type 0} (rule : Rule F) {ranks : Measure} (tells : Bool) {d : Dire
   abbrev ws : List Made
   ws = surveys.steps
 
+  -- The search when the best page is claimed: nothing was marked yet.
   s : Searching rule.no_fit f d 1 [] ws
   s = looked_over rule f d ws surveys.looks
 
@@ -172,9 +177,11 @@ module _ {F : Type 0} (rule : Rule F) {ranks : Measure} (tells : Bool) {d : Dire
         }
 
     module _ (bit : has_bit a (best.page % 64) ≡ true) where
+      -- The claim got the right.
       gets : GetsRight page (TakeRight page d) a
       gets = GetsRight.Claims d a bit
 
+      -- So the page is ready to serve.
       got : Leads f (MaySearch d) (IsReady page d) claimed
       got = ready f d page m ws gets (λ v met. met.clear) s.still (λ v agreed. knows_still f d page (m ∷ []) (ws ++ v) (agreed.0, tt)
           (surveys.outcome.deed v agreed.1))
@@ -277,3 +284,55 @@ module _ {F : Type 0} {rule : Rule F} {ranks : Measure} {tells : Bool} {d : Dire
   pub searches_then : {σ2 : Standing} {answer : Result (Served F) NoRoom} → Searches rule tells d σ1 σ2 answer
       → Searches rule tells d (having_made σ (MayRank d) tries.steps) σ2 answer
   searches_then {σ2} {answer} searches = search (arith, adds_then, stood_then)
+
+-- For callers of a search: what it found, and the page that is left at once.
+-- ---- what was found
+-- it is kept, and none of its grains was held
+pub record KeepsNew {Found : Type 0} (rule : Rule Found) (d : Directory) (served : Served Found) (v w : View) : Type 0 where
+  pub found : KeepsFound rule d served v w
+  pub apart : (g : ℕ) → ((served.page == g / 256) && rule.kept served.found (g % 256)) ≡ true → holds v g ≡ false
+
+-- a page that was chosen, however it was
+pub finds_call : {Found : Type 0} (rule : Rule Found) (d : Directory) {Choice : List Made → Type 0} {σ σ1 : Standing} (served : Served Found)
+    {steps : List Made}
+    → Adds σ σ1 (MaySearch d) steps → Finds rule σ.seat.profile d Choice steps served → Calls σ σ1 (MaySearch d) (KeepsNew rule d served) steps
+finds_call rule d served adds finds = search (arith, and_parts, false_from_ne_true, true≢false, eqb-true)
+
+-- A page that a search found is a new one of its actor.
+pub found_call : {Found : Type 0} (rule : Rule Found) (d : Directory) {tells : Bool} {σ σ1 : Standing} (served : Served Found)
+    (searches : Searches rule tells d σ σ1 (Ok served))
+    → Calls σ σ1 (MaySearch d) (KeepsNew rule d served) searches.steps
+found_call rule d served searches = finds_call rule d served searches.adds searches.outcome
+
+-- ---- what was found, named otherwise
+-- the same choice, by what has other names
+abbrev pub named : {A B : Type 0} → Choice A → (Readings → B → Type 0) → (B → ℕ → Bool) → Choice B
+named choice chosen kept = record { asked = choice.asked; kind = choice.kind; no_fit = choice.no_fit; chosen = chosen; kept = kept }
+
+module _ {A B : Type 0} (choice : Choice A) (chosen : Readings → B → Type 0) (kept : B → ℕ → Bool) (page : ℕ) (a : A) (b : B)
+    (same : (g : ℕ) → g < 256 → choice.kept a g ≡ kept b g) where
+  takes_as : (steps : List Made) → Since (GetsHere page) (λ m before. TakesKept (choice.kept a) page m) steps
+      → Since (GetsHere page) (λ m before. TakesKept (kept b) page m) steps
+  takes_as [] none = none
+  takes_as (m ∷ steps) (inl got) = inl got
+  takes_as (m ∷ steps) (inr so) = inr ((λ word mask g is here. sym (same (g % 256) (omega arith)) ∙ so.0 word mask g is here), takes_as steps so.1)
+
+  -- What was found is what has the same grains, where that was chosen by the same readings.
+  pub finds_as : {f : Profile} {d : Directory} {So How : List Made → Type 0} {steps : List Made}
+      → (finds : Finds (choosing choice) f d So steps (served_by page a)) → chosen finds.serves.readings b → How steps
+      → Finds (choosing (named choice chosen kept)) f d How steps (served_by page b)
+  finds_as {steps = steps} finds this how = search (arith, does_as, takes_as)
+
+-- ---- the page is left
+-- what became of the grains, and of the page's right
+abbrev pub with_right : (ℕ → Fate) → ℕ → Fate → Effect
+with_right grains page right = record { grains = grains; rights = λ q. if page == q then right else Kept; clears = λ q. Kept }
+
+-- What is got and then lost is lost.
+lost_later : (t : Bool) → later (if t then Gained else Kept) (if t then Lost else Kept) ≡ (if t then Lost else Kept)
+lost_later t = grind arith
+
+-- A page that was got with some grains, and left, is the actor's no longer.
+pub left_after : {v w u : View} (grains : ℕ → Fate) (page : ℕ) → Does (with_right grains page Gained) v w → Does (on_page page Lost Kept) w u
+    → Does (with_right grains page Lost) v u
+left_after {v} {w} {u} grains page a b = does_as _ (does_then a b) (λ g. inl refl) (λ q. lost_later _) (λ q h. subst (λ t. ClearAfter t q v u) (kept_kept _) h)

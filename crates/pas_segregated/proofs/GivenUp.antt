@@ -1,15 +1,15 @@
 -- What takes and puts leave: the takes of the page, and grains that aren't held. And slots that are given up.
 use Rattle.std.proofs.Common.{◌≡◌, ℕ, zero, suc, ◌/◌, ◌%◌, ◌==◌, Bool, true, false, if◌then◌else◌, List, [], ◌∷◌, ◌++◌, refl, ap, sym, ◌∙◌, subst, arith, inl}
-use Rattle.std.proofs.Common.{append_assoc, length-append, ◌&&◌, eq-eqb, ◌<◌, None, Some, Ok, Err, true≢false}
+use Rattle.std.proofs.Common.{append_assoc, length-append, ◌&&◌, eq-eqb, ◌<◌, None, Some, Ok, Err, true≢false, Result, MatchResult}
 use Rattle.std.proofs.lemmas.Bool.{and_from, cond_both}
 use Rattle.pas_bits.specs.{Bits.has_bit, Masks.is_set, Masks.IsEmpty, Masks.HasMember}
-use Rattle.pas_profile.specs.declared.{directory.Directory.Directory, directory.Kind.Kind, event.NoRoom.NoRoom}
+use Rattle.pas_profile.specs.declared.{directory.Directory.Directory, directory.Kind.Kind, event.NoRoom.NoRoom, profile.Profile.Profile}
 use Rattle.pas_bits.specs.declared.mask.Mask4.{Mask4}
 use Rattle.pas_rights.specs.{Leaves.MayLeave, Leaves.Leaves, Puts.masked, Takes.word_take, Takes.takes, Takes.taken}
 use Rattle.pas_rights.specs.PutsBack.{giving_back, MayPutAndReturn, given_back, PutsAndReturns}
 use Rattle.pas_steps.specs.Calls.{Calls, Kept, Lost, later, ClearAfter, Does, Gained, now, Leads}
-use Rattle.pas_steps.specs.Desks.{made, Standing, CanCall, Makes}
-use Rattle.pas_steps.specs.{Effects.in_mask, Evidence.GetsRight, Frames.IsOnPage}
+use Rattle.pas_steps.specs.Desks.{made, Standing, CanCall, Makes, triples}
+use Rattle.pas_steps.specs.{Effects.in_mask, Evidence.GetsRight, Frames.IsOnPage, Evidence.IsAntitone, Lists.Whole, Lists.part, Lists.Legal}
 use Rattle.pas_steps.specs.Kinds.{Kinds, Deeding, Taking, Giving, Ending, Claiming, kind_of, is_in, Only, returning}
 use Rattle.pas_steps.specs.Views.{View, Puts, Stays, grain_move, held_after, holds, KnowsDeed, has_right}
 use Rattle.pas_steps.specs.declared.step.{Made.Made, Step.Step}
@@ -17,17 +17,18 @@ use Rattle.pas_steps.specs.declared.step.Step.TheVariants.{Put, Look, Take, Back
 use Rattle.pas_steps.proofs.Apart.{only_both, same_over, holds_over, only_within}
 use Rattle.pas_steps.proofs.Called.{call_as, call_then, next_call, call_knows}
 use Rattle.pas_steps.proofs.Calls.{does_then, does_as, returns_are, kept_first, leads_as}
-use Rattle.pas_steps.proofs.{Kept.returns_on, Past.always_both, Sets.kept_kept}
-use Rattle.pas_search.specs.{Serving.IsJustGot, Searches.MaySearch, Searches.Searches, Serving.ServesPage}
+use Rattle.pas_steps.proofs.{Frames.returns_on, Past.always_both, Sets.kept_kept}
+use Rattle.pas_search.specs.{Serving.IsJustGot, Searches.MaySearch, Searches.Searches, Serving.ServesPage, Alone.FindsWhatThereIs, Searches.IsRefused}
 use Rattle.pas_segregated.specs.Stops.{in_slots, AreGrains, MayStopAt, LeavesWhere, of_slots, StopsAt, class_directory}
 use Rattle.pas_segregated.specs.Takes.{takes_after, takes_since, in_starts, TakesSlots, exclusive}
 use Rattle.pas_segregated.specs.declared.slots.Slots.{Slots}
-use Rattle.pas_profile.specs.{Classes.IsClass, Classes.IsSlotStart, Directories.IsKind}
-use Rattle.pas_profile.proofs.ClassFacts.{class_grains_positive, slot_lt}
+use Rattle.pas_profile.specs.{Classes.IsClass, Classes.IsSlotStart, Directories.IsKind, Profiles.IsValid, Profiles.IsDirectoryOf}
+use Rattle.pas_profile.proofs.Sizes.{class_grains_positive, slot_lt}
 use Rattle.pas_search.specs.declared.serving.Served.{Served}
-use Rattle.pas_search.proofs.Found.{found_call}
+use Rattle.pas_search.proofs.{TheBestPage.found_call, FindingAPage.IsFoundOrRefused, FindingAPage.found_before}
 use Rattle.pas_search.proofs.Pages.{Prepares, on_page, leaves_page, keeps_page}
-use Rattle.pas_segregated.specs.{Masks.start_of, Refills.exclusive_slots, Refills.GetsSlots, Refills.Refills}
+use Rattle.pas_segregated.specs.Masks.{start_of}
+use Rattle.pas_segregated.specs.Refills.{exclusive_slots, GetsSlots, Refills, Filling, GivesSlots}
 use Rattle.pas_segregated.proofs.Starts.{start_at, start_below}
 
 -- ---- the takes
@@ -102,15 +103,15 @@ module _ (d : Directory) (slots : Slots) (mask : Mask4) (are : AreGrains slots m
   module _ {σ σ1 : Standing} (back : PutsAndReturns slots.page d mask σ σ1) where
     -- the grains are gone, and the deed is known still
     back_call : Calls σ σ1 (MayStopAt d slots) (λ v w. Does (given_back (in_slots slots)) v w × KnowsDeed slots.page d w) back.steps
-    back_call = call_knows slots.page d (call_as (Does (given_back (in_slots slots))) back.calls may_put_back
-        (λ v w met does. does_as (given_back (in_slots slots)) does (λ g. inl (ap (λ t. if t then Lost else Kept) (same_grains g))) (λ q. refl) (λ q h. h))) (λ v met. met.deed)
+    back_call = call_knows slots.page d (call_as (Does (given_back (in_slots slots))) back.calls may_put_back (λ v w met does. does_as
+        (given_back (in_slots slots)) does (λ g. inl (ap (λ t. if t then Lost else Kept) (same_grains g))) (λ q. refl) (λ q h. h))) (λ v met. met.deed)
 
     -- Slots without a right that were put back are stopped.
     pub stops_without : slots.right ≡ false → StopsAt d slots σ σ1
     stops_without none = record {
       steps = back.steps;
-      calls = call_as (Does (of_slots slots Lost)) back_call (λ v met. met)
-          (λ v w met after. does_as (of_slots slots Lost) after.0 (λ g. inl refl) (λ q. ap (λ t. if t && (slots.page == q) then Lost else Kept) (sym none)) (λ q h. h));
+      calls = call_as (Does (of_slots slots Lost)) back_call (λ v met. met) (λ v w met after. does_as (of_slots slots Lost) after.0 (λ g. inl refl)
+          (λ q. ap (λ t. if t && (slots.page == q) then Lost else Kept) (sym none)) (λ q h. h));
       order = record { mask = mask; grains = are; back = back.steps; puts = back.order; left = []; leaves = subst (λ t. LeavesWhere t slots.page d []) (sym none) refl; steps_are = refl };
       kinds = back.kinds;
       on = back.on;
@@ -181,8 +182,8 @@ module _ (class page : ℕ) (d : Directory) (is : IsClass class) (starts : Mask4
 
     -- A page whose slots were taken, and which was backed, serves and keeps them.
     pub keeps_slots : {σ2 : Standing} (a : ℕ) → Makes σ1 σ2 (Back page) a → ServesPage (exclusive class) page d σ σ2 (Some starts)
-    keeps_slots a back = keeps_page (exclusive class) page d (is_set took.answers) (in_starts class starts) prepared some_grain starts (λ b lt. refl) refl a back
-        (λ none. none some.0 first_slot_is ((took.are some.0).0 some.2).1)
+    keeps_slots a back = keeps_page (exclusive class) page d (is_set took.answers) (in_starts class starts) prepared some_grain starts
+        (λ b lt. refl) refl a back (λ none. none some.0 first_slot_is ((took.are some.0).0 some.2).1)
         (λ b lt kept. let at = start_below class b is in ((took.are (start_of class b)).0 kept).1 b at.0 at.1)
         (λ before got. record { usable = took.usable; usable_are = took.usable_are; answers = took.answers; takes = took.takes before got.newest; are = took.are; some = some })
         (omega arith) (omega (arith, took.few))
@@ -235,3 +236,19 @@ module _ (heap class : ℕ) {tells : Bool} {σ σ' : Standing} (served : Served 
 pub refills_err : (heap class : ℕ) {tells : Bool} {σ σ' : Standing} (room : NoRoom)
     → Searches (exclusive class) tells (class_directory heap class) σ σ' (Err room) → Refills (exclusive_slots heap class) tells σ σ' (Err room)
 refills_err heap class room searches = record { searched = searches.steps; searches = searches.searches; few = searches.few; after = []; adds = searches.adds; outcome = (searches.outcome, refl); told = searches.told }
+
+-- A refill whose actor alone made steps meanwhile.
+found_or_refused : (fill : Filling) (f : Profile) (searched after : List Made) (answer : Result Slots NoRoom)
+    → MatchResult answer (GivesSlots fill f searched after) (λ room. IsRefused fill.no_fit f fill.directory searched room × (after ≡ []))
+    → IsFoundOrRefused fill.no_fit f fill.directory searched answer
+found_or_refused fill f searched after (Ok slots) gives = record { page = slots.page; of_region = gives.page; choice = gives.choice; kept = in_starts fill.class slots.starts; shows = gives.shows }
+found_or_refused fill f searched after (Err room) refused = refused.0
+
+-- A refill whose actor went on alone finds what there is.
+pub refill_alone : {σ σ' : Standing} (fill : Filling) (tells : Bool) (answer : Result Slots NoRoom) → (call : Refills fill tells σ σ' answer) → (l : Whole)
+    → IsValid σ.seat.profile → IsDirectoryOf σ.seat.profile fill.directory → IsAntitone fill.no_fit
+    → Legal σ.seat.profile (triples σ.seat.actor (call.after ++ call.searched) ++ l) → MaySearch fill.directory (part σ.seat.actor l)
+    → FindsWhatThereIs fill.no_fit σ.seat.profile fill.directory l answer
+refill_alone {σ} fill tells answer call l valid of fewer legal may =
+    let f = σ.seat.profile in
+    found_before fill.no_fit f fill.directory σ.seat.actor l call.after call.searched valid of fewer legal call.searches may answer (found_or_refused fill f call.searched call.after answer call.outcome)

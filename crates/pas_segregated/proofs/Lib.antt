@@ -1,4 +1,3 @@
 pub mod Starts
-mod GivenUp
+pub mod GivenUp
 mod WholeSlots
-pub mod Alone

@@ -5,7 +5,7 @@ use Rattle.std.proofs.lemmas.Bool.{agree_below, agree_below_at, and_parts, and_f
 use Rattle.std.proofs.{lemmas.Nat.same_from_place, Math.Nat.mod-lt}
 use Rattle.pas_profile.specs.Classes.{IsClass, class_grains, usable_grains, IsSlotStart}
 use Rattle.pas_bits.specs.{Bits.has_bit, Masks.is_set, Masks.AreSet, Masks.IsNear}
-use Rattle.pas_profile.proofs.{Sizes.of_each_class, Sizes.class_passes, ClassFacts.class_grains_positive, ClassFacts.usable_grains_le, ClassFacts.slot_end}
+use Rattle.pas_profile.proofs.Sizes.{of_each_class, class_passes, class_grains_positive, usable_grains_le, slot_end}
 use Rattle.pas_bits.specs.declared.mask.Mask4.{Mask4}
 use Rattle.pas_bits.proofs.Words.{none_past}
 use Rattle.pas_steps.proofs.Sets.{same_truth}
@@ -18,7 +18,8 @@ start_is class g h =
     record { aligned = eqb-true (g % class_grains class) 0 parts.0; within = leb-true (g + class_grains class) (usable_grains class) parts.1 }
 
 is_start-from : (class g : ℕ) → IsSlotStart class g → is_start class g ≡ true
-is_start-from class g s = and_from (g % class_grains class == 0) (nat_le (g + class_grains class) (usable_grains class)) (eq-eqb (g % class_grains class) 0 s.aligned) (le-leb (g + class_grains class) (usable_grains class) s.within)
+is_start-from class g s = and_from (g % class_grains class == 0) (nat_le (g + class_grains class) (usable_grains class))
+    (eq-eqb (g % class_grains class) 0 s.aligned) (le-leb (g + class_grains class) (usable_grains class) s.within)
 
 -- no slot begins past the page
 none_begins : (class g : ℕ) → IsClass class → 256 ≤ g → is_start class g ≡ false
@@ -37,7 +38,8 @@ pub table_bits : (table : List (List ℕ)) (default : List ℕ) → of_each_clas
     → (class : ℕ) → IsClass class → (g : ℕ) → is_set (row table default class) g ≡ is_start class g
 table_bits table default computed sized class is g = elim (cases_lt g 256) [
   | inl lt ↦ agree_below_at (λ g. has_bit (slice_index (get_or table class default) (g / 64)) (g % 64)) (is_start class) 256 g (class_passes (agrees table default) computed class is) lt
-  | inr ge ↦ none_past (row table default class) g (eqb-true (length (get_or table class default)) 4 (class_passes (λ class. length (get_or table class default) == 4) sized class is)) ge ∙ sym (none_begins class g is ge)
+  | inr ge ↦ none_past (row table default class) g (eqb-true (length (get_or table class default)) 4
+      (class_passes (λ class. length (get_or table class default) == 4) sized class is)) ge ∙ sym (none_begins class g is ge)
 ]
 
 -- ---- whole slots

@@ -5,15 +5,15 @@ use Rattle.std.proofs.lemmas.Bool.{cases_Bool, and_parts, and_from, and_right}
 use Rattle.pas_profile.specs.Classes.{IsClass, class_grains, usable_grains, is_usable, IsSlotStart}
 use Rattle.pas_bits.specs.{Bits.has_bit, Masks.is_set, Masks.IsEmpty, Masks.HasMember}
 use Rattle.pas_profile.specs.declared.directory.Directory.{Directory}
-use Rattle.pas_profile.proofs.ClassFacts.{class_grains_positive, usable_grains_le, usable_grains_ge, first_slot}
+use Rattle.pas_profile.proofs.Sizes.{class_grains_positive, usable_grains_le, usable_grains_ge, first_slot}
 use Rattle.pas_bits.specs.declared.mask.Mask4.{Mask4}
 use Rattle.pas_bits.proofs.Words.{at_word, none_of_zero}
 use Rattle.pas_rights.specs.{Puts.masked, Puts.PutsBelow, Puts.PutsHere, Returns.ReturnSteps, Words.words}
 use Rattle.pas_rights.specs.PutsBack.{MayPutAndReturn, giving_back, PutsAndReturns, taking_grains}
 use Rattle.pas_rights.specs.Takes.{GetsGrains, taken, TakesMask, takes}
-use Rattle.pas_rights.proofs.{Hints.due_none, Hints.back_due, Orders.return_returns, Puts.puts_kinds, Puts.some_put, PutsBack.return_holds, Words.bit_of}
-use Rattle.pas_rights.proofs.{Words.bit_on, Words.since_kept}
-use Rattle.pas_rights.proofs.Takes.{takes_only, takes_on, takes_keep, takes_few, takes_right, takes_leave, takes_got, takes_held, takes_free, takes_read}
+use Rattle.pas_rights.proofs.Puts.{due_none, back_due, puts_kinds, some_put, return_holds, takes_only, takes_on, takes_keep, takes_few, takes_right}
+use Rattle.pas_rights.proofs.Puts.{takes_leave, takes_got, takes_held, takes_free, takes_read}
+use Rattle.pas_rights.proofs.Orders.{return_returns, bit_of, bit_on, since_kept}
 use Rattle.pas_steps.specs.{Views.View, Views.holds, Views.has_right, Agreement.Agreed, Past.Always, Past.Since, Frames.IsOnPage, Frames.GivesUp}
 use Rattle.pas_steps.specs.{Frames.KeepsRight, Desks.Seat, Desks.Standing, Desks.CanCall, Evidence.ShowsHere, Evidence.KeptHere}
 use Rattle.pas_steps.specs.Calls.{Calls, Kept, Gained, Lost, later, now}
@@ -23,7 +23,7 @@ use Rattle.pas_steps.proofs.{Adding.agreed_first, Adding.agreed_later, Called.ca
 use Rattle.pas_steps.proofs.Apart.{only_within, only_both, deeds_same, holds_same, rights_same}
 use Rattle.pas_steps.proofs.Calls.{SameGrain, does_then, does_as, returns_are}
 use Rattle.pas_search.specs.{Kinds.KeepsMarks, Serving.MayServe, Serving.HoldsNone}
-use Rattle.pas_search.proofs.Returns.{keeps_marks, marks_after}
+use Rattle.pas_search.proofs.PagesThatServe.{keeps_marks, marks_after}
 use Rattle.pas_segregated.specs.Masks.{start_of}
 use Rattle.pas_segregated.specs.Takes.{AreUsable, AreFreeSlots, IsRest, in_starts, slots_on, takes_since, TakesSlots}
 use Rattle.pas_segregated.proofs.Starts.{start_at, start_below}
@@ -59,16 +59,18 @@ module _ (class page : ℕ) (d : Directory) (is : IsClass class) {σ σ1 : Stand
 
   -- each word has some usable grains
   some_word : (w : ℕ) → w < 4 → words usable w ≢ 0
-  some_word w lt z = let most = usable_grains_ge class is in
-      true≢false (sym (lt-ltb (64 * w + 0) (usable_grains class) (omega (arith, lt, most))) ∙ sym (usable_are (64 * w + 0) (omega (arith, lt))) ∙ at_word usable w 0 (omega arith) ∙ ap (λ m. has_bit m 0) z ∙ none_of_zero 0)
+  some_word w lt z = let most = usable_grains_ge class is in true≢false (sym (lt-ltb (64 * w + 0) (usable_grains class) (omega (arith, lt, most)))
+      ∙ sym (usable_are (64 * w + 0) (omega (arith, lt))) ∙ at_word usable w 0 (omega arith) ∙ ap (λ m. has_bit m 0) z ∙ none_of_zero 0)
 
   read_of : (g : ℕ) → g < 256 → is_set got g ≡ (is_set took.answers g && is_usable class g)
   read_of g lt = took.got_is g ∙ ap (λ u. is_set took.answers g && u) (usable_are g lt)
 
   free_slots : AreFreeSlots class (is_set took.answers) starts
   free_slots s = (
-    λ h. let both = (whole s).0 h in
-        (both.0, λ g low high. (and_parts (is_set took.answers g) (is_usable class g) (sym (read_of g (slot_in class s g is both.0 high)) ∙ both.1 g low high)).0),
+    λ h. let both = (whole s).0 h in (
+      both.0,
+      λ g low high. (and_parts (is_set took.answers g) (is_usable class g) (sym (read_of g (slot_in class s g is both.0 high)) ∙ both.1 g low high)).0,
+    ),
     λ both. (whole s).1 (
       both.0,
       λ g low high. read_of g (slot_in class s g is both.0 high) ∙ and_from (is_set took.answers g) (is_usable class g) (both.1 g low high) (slot_usable class s g both.0 high),
@@ -81,6 +83,7 @@ module _ (class page : ℕ) (d : Directory) (is : IsClass class) {σ σ1 : Stand
       let parts = and_parts (page == g / 256) (in_starts class starts (g % 256)) h in let at = start_below class (g % 256) is in
       and_from (page == g / 256) (is_set got (g % 256)) parts.0 (((whole (start_of class (g % 256))).0 parts.1).1 (g % 256) at.0 at.1)
 
+  -- Of what was taken the rest is what isn't kept.
   others : (p t k r : Bool) → r ≡ (t && not k) → (p && r) ≡ ((p && t) && not (p && k))
   others true t k r h = h
   others false t k r h = refl
@@ -110,8 +113,8 @@ module _ (class page : ℕ) (d : Directory) (is : IsClass class) {σ σ1 : Stand
   module _ {σ2 : Standing} (back : PutsAndReturns page d rest σ1 σ2) (can : CanCall σ (MayServe page d)) where
     all_call : Calls σ σ2 (MayServe page d) (GetsGrains (slots_on page class starts)) (back.steps ++ first)
     all_call = call_then (GetsGrains (slots_on page class starts)) first_call back.calls may_put_back (λ v met a b. record {
-      does = does_as (taken (slots_on page class starts)) (does_then a.does b)
-          (λ g. kept_fate (masked page got g) (slots_on page class starts g) (masked page rest g) (holds v g) (a.apart g) (kept_got g) (rest_is_other g)) (λ q. refl) (λ q h. h);
+      does = does_as (taken (slots_on page class starts)) (does_then a.does b) (λ g. kept_fate (masked page got g) (slots_on page class starts g)
+          (masked page rest g) (holds v g) (a.apart g) (kept_got g) (rest_is_other g)) (λ q. refl) (λ q h. h);
       apart = λ g here. a.apart g (kept_got g here);
     })
 
@@ -132,7 +135,8 @@ module _ (class page : ℕ) (d : Directory) (is : IsClass class) {σ σ1 : Stand
       | inl here ↦ elim (cases_Bool (holds (first ++ before) g)) [
         | inr lost ↦ back_holds g back.steps (first ++ before) back.kinds lost
         | inl held ↦
-            let gets = first_call.leads.from can.view can.met (agreed_later σ.seat.profile can.view back.steps first at_view) in let gone = (back.calls.leads.from (first ++ can.view) (may_put_back can.view can.met gets) at_back).held g in
+            let gets = first_call.leads.from can.view can.met (agreed_later σ.seat.profile can.view back.steps first at_view) in
+            let gone = (back.calls.leads.from (first ++ can.view) (may_put_back can.view can.met gets) at_back).held g in
             same_after g back.steps (first ++ before) (first ++ can.view) (held ∙ sym (gets.does.held g ∙ ap (λ t. now (if t then Gained else Kept) (holds can.view g)) here))
             ∙ gone ∙ ap (λ t. now (if t then Lost else Kept) (holds (first ++ can.view) g)) (rest_is_other g ∙ ap (λ t. t && not (slots_on page class starts g)) here ∙ ap not (and_right (page == g / 256) (in_starts class starts (g % 256)) (empty (start_of class (g % 256)) (let at = start_below class (g % 256) is in omega (arith, at.0)))))
       ]
@@ -161,7 +165,8 @@ module _ (class page : ℕ) (d : Directory) (is : IsClass class) {σ σ1 : Stand
       puts_only = puts_kinds page rest 4 puts order
 
       right_had : has_right ((puts ++ first) ++ can.view) page ≡ true
-      right_had = ap (λ s. has_right s page) (append_assoc puts first can.view) ∙ rights_same (Putting ∷ []) refl page puts (first ++ can.view) puts_only ∙ takes_right page (words usable) (words took.answers) 4 can.view can.met.right
+      right_had = ap (λ s. has_right s page) (append_assoc puts first can.view) ∙ rights_same (Putting ∷ []) refl page puts (first ++ can.view) puts_only
+          ∙ takes_right page (words usable) (words took.answers) 4 can.view can.met.right
 
       grain_held : holds ((puts ++ first) ++ can.view) (page * 256 + some.0) ≡ true
       grain_held =
@@ -174,7 +179,8 @@ module _ (class page : ℕ) (d : Directory) (is : IsClass class) {σ σ1 : Stand
       return_marks =
           let lt = some.1 in
           let only = return_holds σ.seat.profile page d after ((puts ++ first) ++ can.view) ret at_return right_had (page * 256 + some.0) (omega (arith, lt)) grain_held in
-          subst (Always (KeepsMarks page)) (sym all_same) (marks_after page after (puts ++ first) only (once_earlier (PutsHere page) (PutsHere page) puts first (λ m before put. put) (some_put page rest puts order others))
+          subst (Always (KeepsMarks page)) (sym all_same) (marks_after page after (puts ++ first) only
+          (once_earlier (PutsHere page) (PutsHere page) puts first (λ m before put. put) (some_put page rest puts order others))
           (keeps_marks (Putting ∷ Taking ∷ []) page (puts ++ first) refl (only_both (Putting ∷ Taking ∷ []) puts first (only_within (Putting ∷ []) (Putting ∷ Taking ∷ []) puts refl puts_only)
           (only_within (Taking ∷ []) (Putting ∷ Taking ∷ []) first refl (takes_only page (words usable) (words took.answers) 4)))))
 
@@ -189,7 +195,8 @@ module _ (class page : ℕ) (d : Directory) (is : IsClass class) {σ σ1 : Stand
     takes_slots = record {
       steps = back.steps ++ first;
       calls = all_call;
-      kinds = only_both taking_grains back.steps first (only_within giving_back taking_grains back.steps refl back.kinds) (only_within (Taking ∷ []) taking_grains first refl (takes_only page (words usable) (words took.answers) 4));
+      kinds = only_both taking_grains back.steps first (only_within giving_back taking_grains back.steps refl back.kinds)
+          (only_within (Taking ∷ []) taking_grains first refl (takes_only page (words usable) (words took.answers) 4));
       on = always_both (λ m before. IsOnPage page m.step) (λ m before. IsOnPage page m.step) back.steps first (λ m before h. h) back.on (takes_on page (words usable) (words took.answers) 4);
       few = let all = length-append back.steps first in let b = takes_few page (words usable) (words took.answers) 4 in omega (arith, all, back.few, b);
       usable = usable;
@@ -197,8 +204,8 @@ module _ (class page : ℕ) (d : Directory) (is : IsClass class) {σ σ1 : Stand
       answers = took.answers;
       are = free_slots;
       held = record {
-        from = λ v met agreed g at held. sym (bit_of took.answers (g / 64 % 4) g refl)
-            ∙ takes_held page (words usable) (words took.answers) σ.seat.profile 4 v (agreed_later σ.seat.profile v back.steps first agreed) g at (omega arith) (some_word (g / 64 % 4) (omega arith)) held;
+        from = λ v met agreed g at held. sym (bit_of took.answers (g / 64 % 4) g refl) ∙ takes_held page (words usable) (words took.answers) σ.seat.profile 4 v
+            (agreed_later σ.seat.profile v back.steps first agreed) g at (omega arith) (some_word (g / 64 % 4) (omega arith)) held;
       };
       all_free = λ v agreed free. (
         0,
@@ -212,9 +219,11 @@ module _ (class page : ℕ) (d : Directory) (is : IsClass class) {σ σ1 : Stand
         ),
       );
       keeps = always_both (λ m before. GivesUp page m.step → ⊥) (λ m before. GivesUp page m.step → ⊥) back.steps first (λ m before h. h) back_keeps (takes_keep page (words usable) (words took.answers) 4);
-      due = back_due page d rest first (λ g here. takes_got page usable took.answers got took.got_is g (rest_got g here)) (due_none (Taking ∷ []) first refl (takes_only page (words usable) (words took.answers) 4)) back.steps back.order;
+      due = back_due page d rest first (λ g here. takes_got page usable took.answers got took.got_is g (rest_got g here))
+          (due_none (Taking ∷ []) first refl (takes_only page (words usable) (words took.answers) 4)) back.steps back.order;
       marks = marks_kept;
-      takes = λ before newest. ap (takes_since page) (append_assoc back.steps first before) ∙ takes_kept_by_giving_back page back.steps (first ++ before) back.kinds ∙ takes_are_all_since page (words usable) (words took.answers) 4 before (none_yet page before newest);
+      takes = λ before newest. ap (takes_since page) (append_assoc back.steps first before) ∙ takes_kept_by_giving_back page back.steps
+          (first ++ before) back.kinds ∙ takes_are_all_since page (words usable) (words took.answers) 4 before (none_yet page before newest);
       read = λ before met w lt. subst (Since (ShowsHere page w (is_set took.answers)) (KeptHere page)) (sym (append_assoc back.steps first before))
           (since_kept (ShowsHere page w (is_set took.answers)) page back.steps (first ++ before) back_keeps (takes_right page (words usable) (words took.answers) 4 before met.right)
           (takes_read page (words usable) (words took.answers) (is_set took.answers) (λ word b small. at_word took.answers word b small) before met.right met.none 4 w lt lt (some_word w lt)));

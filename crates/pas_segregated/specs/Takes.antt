@@ -3,7 +3,7 @@ use Rattle.std.specs.Prelude.{ℕ, ◌+◌, ◌*◌, ◌/◌, ◌%◌, ◌<◌, 
 use Rattle.std.proofs.Common.{ap, arith, inl, inr}
 use Rattle.std.proofs.lemmas.{Bool.cases_lt, List.get_or_past}
 use Rattle.pas_profile.specs.Classes.{is_usable, class_sizes, class_size, class_grains, usable_grains, IsSlotStart}
-use Rattle.pas_profile.proofs.ClassFacts.{slot_end}
+use Rattle.pas_profile.proofs.Sizes.{slot_end}
 use Rattle.pas_bits.specs.{Bits.has_bit, Masks.is_set, Masks.IsEmpty, Masks.HasMember, Runs.AreFree}
 use Rattle.pas_profile.specs.declared.directory.{Directory.Directory, Kind.Kind}
 use Rattle.pas_bits.specs.declared.mask.Mask4.{Mask4}

@@ -8,7 +8,7 @@ pub leave-requires-clause-can : goal.leave-requires-clause-can
 leave-requires-clause-can g c = can_leave_low c.args.directory c.args.first c.args.pages c.give_run-block.result c.give_run-block.ensures.gives c.requires.can
 
 pub leave-requires-2-clause-can : goal.leave-requires-2-clause-can
-leave-requires-2-clause-can g c = can_leave_high c.args.directory c.args.first c.args.pages c.give_run-block.result c.give_run-block.ensures.gives c.leave.ensures.leaves c.requires.can
+leave-requires-2-clause-can g c = can_leave_high _ c.args.first c.args.pages _ c.give_run-block.ensures.gives c.leave.ensures.leaves c.requires.can
 
 pub returns-clause-guards : goal.returns-clause-guards
-returns-clause-guards g c = guards c.args.directory c.args.first c.args.pages c.give_run-block.result c.give_run-block.ensures.gives c.leave.ensures.leaves c.leave-2.ensures.leaves
+returns-clause-guards g c = guards c.args.directory c.args.first c.args.pages _ c.give_run-block.ensures.gives c.leave.ensures.leaves c.leave-2.ensures.leaves

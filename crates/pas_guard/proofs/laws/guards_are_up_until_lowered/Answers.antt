@@ -1,4 +1,4 @@
-use Rattle.pas_guard.proofs.Times.{begins_up, stays_up, up_in_next, booked, left_alone}
+use Rattle.pas_guard.proofs.Keepers.{begins_up, stays_up, up_in_next, booked, left_alone}
 use Rattle.pas_guard.proofs.laws.guards_are_up_until_lowered.Goals as goal
 
 pub returns-clause-begins : goal.returns-clause-begins

@@ -1,4 +1,4 @@
-use Rattle.pas_guard.proofs.{Keepers.stands_through, Times.stands_from_give}
+use Rattle.pas_guard.proofs.Keepers.{stands_through, stands_from_give}
 use Rattle.pas_guard.proofs.laws.outer_pages_stay_bare.Goals as goal
 
 pub returns-clause-given : goal.returns-clause-given

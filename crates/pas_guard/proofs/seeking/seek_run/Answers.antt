@@ -29,7 +29,7 @@ loop-next-preserved-else-page-next g c = let i = c.loop-next.invariant in let sh
 
 pub claim_run-requires-clause-can : goal.claim_run-requires-clause-can
 claim_run-requires-clause-can g c = let i = c.loop-next.invariant in let within = i.so_far.within.0 in let long = c.if-next-from.false in
-    can_claim i.so_far (omega (arith, within, long)) (g.D.Desk.spare_of c.args.desk.now) _ c.requires.can (g.met.D.Desk.spares c.args.desk.now) (g.met.D.Desk.spares c.loop-next.desk)
+    can_claim i.so_far (omega (arith, within, long)) _ _ c.requires.can (g.met.D.Desk.spares c.args.desk.now) (g.met.D.Desk.spares c.loop-next.desk)
 
 pub release-requires-in-Some-claim_run-clause-can : goal.release-requires-in-Some-claim_run-clause-can
 release-requires-in-Some-claim_run-clause-can g c = let i = c.loop-next.invariant in let within = i.so_far.within.0 in let long = c.if-next-from.false in
@@ -37,7 +37,7 @@ release-requires-in-Some-claim_run-clause-can g c = let i = c.loop-next.invarian
 
 pub loop-next-preserved-in-Some-claim_run : goal.loop-next-preserved-in-Some-claim_run
 loop-next-preserved-in-Some-claim_run g c = let i = c.loop-next.invariant in let within = i.so_far.within.0 in let long = c.if-next-from.false in record {
-  so_far = seek_lost i.so_far (omega (arith, within, long)) c.in-Some-claim_run.page c.in-Some-claim_run.ensures.claims (may_find c.requires.can) c.release-in-Some-claim_run.ensures.releases;
+  so_far = seek_lost i.so_far (omega (arith, within, long)) _ c.in-Some-claim_run.ensures.claims (may_find c.requires.can) c.release-in-Some-claim_run.ensures.releases;
   home = c.release-in-Some-claim_run.ensures.home ∙ c.in-Some-claim_run.ensures.home ∙ i.home;
 }
 
@@ -58,6 +58,6 @@ put_and_leave-requires-clause-can g c = let i = c.loop-next.invariant in let wit
 pub loop-next-preserved : goal.loop-next-preserved
 loop-next-preserved g c = let i = c.loop-next.invariant in let within = i.so_far.within.0 in let long = c.if-next-from.false in
     let whole : c.loop-next.next ≡ c.loop-next.from + (c.args.pages + 2) = omega (arith, within, long) in record {
-      so_far = seek_slide (seek_claimed i.so_far whole c.in-None-claim_run.ensures.claims) (c.loop-next.next - 1) whole (omega (arith, whole)) c.if-are_bare.ensures.looks (may_find c.requires.can) c.put_and_leave.ensures.puts;
+      so_far = seek_slide (seek_claimed i.so_far whole c.in-None-claim_run.ensures.claims) _ whole (omega (arith, whole)) c.if-are_bare.ensures.looks (may_find c.requires.can) c.put_and_leave.ensures.puts;
       home = c.put_and_leave.ensures.home ∙ c.if-are_bare.ensures.home ∙ c.in-None-claim_run.ensures.home ∙ i.home;
     }

@@ -1,5 +1,4 @@
 use Rattle.std.proofs.Common.{◌+◌}
-use Rattle.pas_scan.specs.Runs.{large_directory}
 use Rattle.pas_large.proofs.Allocates.{can_give_named, region_named, room_named, can_scan, serves_named, scans_after}
 use Rattle.pas_large.proofs.Finds.{may_find}
 use Rattle.pas_large.proofs.allocating.alloc.Goals as goal
@@ -11,13 +10,13 @@ pub give_run-requires-clause-region : goal.give_run-requires-clause-region
 give_run-requires-clause-region g c = let names = c.in-Some.ensures.names in region_named names.2
 
 pub give_run-requires-clause-room : goal.give_run-requires-clause-room
-give_run-requires-clause-room g c = let names = c.in-Some.ensures.names in room_named (large_directory c.args.heap) c.args.pages (c.args.pages + 1) names.2 (g.D.Desk.spare_of c.args.desk.now) _ c.requires.can (g.met.D.Desk.spares c.args.desk.now) (g.met.D.Desk.spares c.claim_named.new.desk)
+give_run-requires-clause-room g c = let names = c.in-Some.ensures.names in room_named _ c.args.pages _ names.2 _ _ c.requires.can (g.met.D.Desk.spares _) (g.met.D.Desk.spares _)
 
 pub returns-in-Some-clause-allocates : goal.returns-in-Some-clause-allocates
-returns-in-Some-clause-allocates g c = let names = c.in-Some.ensures.names in (names.0, names.1, serves_named c.args.heap c.args.pages c.in-Some.first names.0 g.D.Desk.tells names.2 c.give_run.result (g.met.D.Desk.valid c.args.desk.now) (λ t v l stood. g.met.D.Desk.told c.give_run.new.desk v l t stood) (λ t v l stood. g.met.D.Desk.told_part c.args.desk.now v l t stood) c.give_run.ensures.gives)
+returns-in-Some-clause-allocates g c = let names = c.in-Some.ensures.names in (names.0, names.1, serves_named c.args.heap c.args.pages _ names.0 g.D.Desk.tells names.2 _ (g.met.D.Desk.valid _) (λ t v l stood. g.met.D.Desk.told _ v l t stood) (λ t v l stood. g.met.D.Desk.told_part _ v l t stood) c.give_run.ensures.gives)
 
 pub alloc_by_scan-requires-clause-can : goal.alloc_by_scan-requires-clause-can
-alloc_by_scan-requires-clause-can g c = let names = c.in-None.ensures.names in can_scan (large_directory c.args.heap) c.args.pages (c.args.pages + 1) names.2 (g.D.Desk.spare_of c.args.desk.now) _ c.requires.can (g.met.D.Desk.spares c.args.desk.now) (g.met.D.Desk.spares c.claim_named.new.desk)
+alloc_by_scan-requires-clause-can g c = let names = c.in-None.ensures.names in can_scan _ c.args.pages _ names.2 _ _ c.requires.can (g.met.D.Desk.spares _) (g.met.D.Desk.spares _)
 
 pub returns-in-None-clause-allocates : goal.returns-in-None-clause-allocates
-returns-in-None-clause-allocates g c = let names = c.in-None.ensures.names in (names.0, names.1, scans_after c.args.heap c.args.pages names.0 g.D.Desk.tells names.2 (may_find c.requires.can) (g.met.D.Desk.valid c.args.desk.now) (λ t v l stood. g.met.D.Desk.told c.alloc_by_scan.new.desk v l t stood) (λ t v l stood. g.met.D.Desk.told_part c.args.desk.now v l t stood) c.alloc_by_scan.result c.alloc_by_scan.ensures.allocates)
+returns-in-None-clause-allocates g c = let names = c.in-None.ensures.names in (names.0, names.1, scans_after c.args.heap c.args.pages names.0 g.D.Desk.tells names.2 (may_find c.requires.can) (g.met.D.Desk.valid _) (λ t v l stood. g.met.D.Desk.told _ v l t stood) (λ t v l stood. g.met.D.Desk.told_part _ v l t stood) _ c.alloc_by_scan.ensures.allocates)

@@ -6,10 +6,11 @@ pub give_run-requires-clause-can : goal.give_run-requires-clause-can
 give_run-requires-clause-can g c = can_give_run c.in-Some.ensures.finds (may_find c.requires.can)
 
 pub give_run-requires-clause-room : goal.give_run-requires-clause-room
-give_run-requires-clause-room g c = room_to_give_run c.in-Some.ensures.finds (g.D.Desk.spare_of c.args.desk.now) _ c.requires.can (g.met.D.Desk.spares c.args.desk.now) (g.met.D.Desk.spares c.find_run.new.desk)
+give_run-requires-clause-room g c = room_to_give_run c.in-Some.ensures.finds _ _ c.requires.can (g.met.D.Desk.spares c.args.desk.now) (g.met.D.Desk.spares _)
 
 pub returns-in-Some-clause-allocates : goal.returns-in-Some-clause-allocates
-returns-in-Some-clause-allocates g c = allocates c.args.heap c.args.pages c.in-Some.first g.D.Desk.tells c.in-Some.ensures.finds c.give_run.result c.give_run.ensures.gives
+returns-in-Some-clause-allocates g c = allocates c.args.heap c.args.pages c.in-Some.first g.D.Desk.tells c.in-Some.ensures.finds _ c.give_run.ensures.gives
 
 pub returns-in-None-clause-allocates : goal.returns-in-None-clause-allocates
-returns-in-None-clause-allocates g c = refuses_large c.args.heap c.args.pages g.D.Desk.tells c.in-None.ensures.finds c.refuse.result (λ t v l stood. g.met.D.Desk.told c.refuse.new.desk v l t stood) (λ t v l stood. g.met.D.Desk.told_part c.args.desk.now v l t stood) c.refuse.ensures.refuses
+returns-in-None-clause-allocates g c = refuses_large c.args.heap _ _ c.in-None.ensures.finds _ (λ t v l stood. g.met.D.Desk.told _ v l t stood)
+    (λ t v l stood. g.met.D.Desk.told_part _ v l t stood) c.refuse.ensures.refuses

@@ -1,7 +1,7 @@
-use Rattle.std.proofs.Common.{◌+◌, ◌-◌, ◌≤◌, length, subst, sym, refl, ◌∙◌, arith}
+use Rattle.std.proofs.Common.{◌+◌, ◌-◌, ◌≤◌, subst, sym, refl, ◌∙◌, arith}
 use Rattle.pas_search.proofs.ForBackEnds.{room_after}
 use Rattle.pas_large.specs.Gives.{BacksRun}
-use Rattle.pas_large.proofs.{Claims.pages_call, InOrder.backs_few}
+use Rattle.pas_large.proofs.{Claims.pages_call, Left.backs_few}
 use Rattle.pas_large.proofs.Gives.{backed_none, can_back_next, backed_more, back_events}
 use Rattle.pas_large.proofs.giving.back_run.Goals as goal
 
@@ -15,13 +15,13 @@ pub back_page-requires-clause-can : goal.back_page-requires-clause-can
 back_page-requires-clause-can g c = let i = c.loop-page.invariant in can_back_next c.args.end i.so_far c.loop-page.auto.page c.loop-page-test.true c.requires.can
 
 pub back_page-requires-clause-room : goal.back_page-requires-clause-room
-back_page-requires-clause-room g c = let i = c.loop-page.invariant in let few = backs_few c.args.first (c.loop-page.page - c.args.first) i.so_far.steps i.so_far.order in let room = c.requires.room in let low = c.loop-page.auto.page in let test = c.loop-page-test.true in
-    room_after {spare = g.D.Desk.spare_of c.args.desk.now} {spare' = g.D.Desk.spare_of c.loop-page.desk} 1 (length i.so_far.steps) (pages_call c.args.directory c.args.first c.loop-page.page c.args.end (omega (arith, test)) i.so_far.calls).adds c.requires.can
+back_page-requires-clause-room g c = let i = c.loop-page.invariant in let few = backs_few _ _ _ i.so_far.order in let room = c.requires.room in let low = c.loop-page.auto.page in let test = c.loop-page-test.true in
+    room_after {spare = g.D.Desk.spare_of _} {spare' = g.D.Desk.spare_of _} 1 _ (pages_call _ c.args.first _ c.args.end (omega (arith, test)) i.so_far.calls).adds c.requires.can
     (λ k v. back_events k v i.so_far.steps) (g.met.D.Desk.spares c.args.desk.now) (g.met.D.Desk.spares c.loop-page.desk) (omega (arith, few, room, test, low))
 
 pub loop-page-preserved : goal.loop-page-preserved
 loop-page-preserved g c = let i = c.loop-page.invariant in
-    record { so_far = backed_more (c.loop-page.page + 1) i.so_far c.loop-page.auto.page (omega arith) refl c.back_page.ensures.backs.0 c.back_page.ensures.backs.1; home = c.back_page.ensures.home ∙ i.home }
+    record { so_far = backed_more _ i.so_far c.loop-page.auto.page (omega arith) refl _ c.back_page.ensures.backs.1; home = c.back_page.ensures.home ∙ i.home }
 
 pub returns-clause-backs : goal.returns-clause-backs
 returns-clause-backs g c = let past = c.loop-page-test.false in let most = c.loop-page.auto.page-end c.requires.span in

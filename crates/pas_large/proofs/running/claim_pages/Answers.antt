@@ -14,16 +14,16 @@ claim_lowest-requires-clause-can g c = let i = c.loop-page.invariant in rest_cal
 
 pub claim_lowest-requires-clause-room : goal.claim_lowest-requires-clause-room
 claim_lowest-requires-clause-room g c = let i = c.loop-page.invariant in let test = c.loop-page-test.true in
-    let room = room_after {spare = g.D.Desk.spare_of c.args.desk.now} 1 i.below.so_far.adds (may_claim c.loop-page.page (omega (arith, test)) c.requires.can) i.below.so_far.shows c.requires.can.met.room (g.met.D.Desk.spares c.args.desk.now) (g.met.D.Desk.spares c.loop-page.desk) in omega (arith, room)
+    let room = room_after {spare = g.D.Desk.spare_of c.args.desk.now} 1 i.below.so_far.adds (may_claim _ (omega (arith, test)) c.requires.can) i.below.so_far.shows c.requires.can.met.room (g.met.D.Desk.spares c.args.desk.now) (g.met.D.Desk.spares _) in omega (arith, room)
 
 pub loop-page-preserved : goal.loop-page-preserved
 loop-page-preserved g c = let i = c.loop-page.invariant in record { below = won_turn i.below c.in-Whole.ensures.claims; home = c.in-Whole.ensures.home ∙ i.home }
 
 pub returns-in-Lost-clause-claims : goal.returns-in-Lost-clause-claims
-returns-in-Lost-clause-claims g c = let h = c.in-Lost.ensures.claims in let i = c.loop-page.invariant in lost_turn c.args.end i.below c.loop-page-test.true h h.outcome
+returns-in-Lost-clause-claims g c = let h = c.in-Lost.ensures.claims in let i = c.loop-page.invariant in lost_turn _ i.below c.loop-page-test.true h h.outcome
 
 pub returns-in-Broken-clause-claims : goal.returns-in-Broken-clause-claims
-returns-in-Broken-clause-claims g c = let h = c.in-Broken.ensures.claims in let i = c.loop-page.invariant in broken_turn c.args.end i.below c.loop-page-test.true h h.outcome
+returns-in-Broken-clause-claims g c = let h = c.in-Broken.ensures.claims in let i = c.loop-page.invariant in broken_turn _ i.below c.loop-page-test.true h h.outcome
 
 pub returns-clause-claims : goal.returns-clause-claims
 returns-clause-claims g c = let past = c.loop-page-test.false in let most = c.loop-page.auto.page-end c.requires.span in

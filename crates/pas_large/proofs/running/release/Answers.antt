@@ -12,7 +12,7 @@ put_and_leave-requires-clause-can g c = leave_call c.args.end c.loop-page.invari
 
 pub loop-page-preserved : goal.loop-page-preserved
 loop-page-preserved g c = let i = c.loop-page.invariant in
-    record { so_far = left_more c.args.directory (directory_from_profile (g.D.Desk.standing c.args.desk.now).seat.profile c.args.directory (g.met.D.Desk.valid c.args.desk.now) c.requires.directory) c.args.first c.loop-page.page c.loop-page.auto.page i.so_far c.put_and_leave.ensures.puts; home = c.put_and_leave.ensures.home ∙ i.home }
+    record { so_far = left_more _ (directory_from_profile (g.D.Desk.standing _).seat.profile c.args.directory (g.met.D.Desk.valid c.args.desk.now) c.requires.directory) c.args.first _ c.loop-page.auto.page i.so_far c.put_and_leave.ensures.puts; home = c.put_and_leave.ensures.home ∙ i.home }
 
 pub returns-clause-releases : goal.returns-clause-releases
 returns-clause-releases g c = let past = c.loop-page-test.false in let most = c.loop-page.auto.page-end c.requires.span in

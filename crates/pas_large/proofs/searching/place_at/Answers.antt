@@ -5,7 +5,7 @@ use Rattle.pas_large.proofs.Spans.{blank, looks_within, looks_more, looked}
 use Rattle.pas_large.proofs.searching.place_at.Goals as goal
 
 pub loop-place-preserved : goal.loop-place-preserved
-loop-place-preserved c = looks_more c.args.first c.args.pages c.args.spans.now c.loop-place.place blank c.requires.apart (looks_within c.args.first c.args.pages c.args.spans.now c.loop-place.place c.loop-place.invariant) c.loop-place-test.true c.loop-place.invariant
+loop-place-preserved c = looks_more c.args.first c.args.pages _ _ blank c.requires.apart (looks_within c.args.first c.args.pages _ _ c.loop-place.invariant) c.loop-place-test.true c.loop-place.invariant
 
 pub returns-clause-here : goal.returns-clause-here
 returns-clause-here c d =

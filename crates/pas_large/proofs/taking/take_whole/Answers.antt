@@ -8,4 +8,4 @@ pub put_and_leave-requires-clause-can : goal.put_and_leave-requires-clause-can
 put_and_leave-requires-clause-can g c = can_put c.args.directory c.args.page c.take-got.result c.take-got.ensures.takes c.requires.can
 
 pub returns-in-Some-clause-takes : goal.returns-in-Some-clause-takes
-returns-in-Some-clause-takes g c = leaves_broken c.args.directory c.args.page c.take-got.result c.take-got.ensures.takes c.put_and_leave.ensures.puts c.in-Some.field-0 c.in-Some.ensures
+returns-in-Some-clause-takes g c = leaves_broken c.args.directory c.args.page _ c.take-got.ensures.takes c.put_and_leave.ensures.puts _ c.in-Some.ensures

@@ -8,7 +8,7 @@ returns-in_default-clause-found g c = let i = c.loop-from.invariant in none_bare
 
 pub deed-requires-clause-room : goal.deed-requires-clause-room
 deed-requires-clause-room g c = let i = c.loop-from.invariant in
-    deed_room c.args.directory i.passes c.in-Some.ensures.found c.requires.can (g.met.D.Desk.spares c.args.desk.now) (g.met.D.Desk.spares c.first_without_deed.new.desk)
+    deed_room c.args.directory i.passes c.in-Some.ensures.found c.requires.can (g.met.D.Desk.spares c.args.desk.now) (g.met.D.Desk.spares _)
 
 pub serve-requires-clause-can : goal.serve-requires-clause-can
 serve-requires-clause-can g c = let i = c.loop-from.invariant in
@@ -19,8 +19,8 @@ serve-requires-clause-room g c = let i = c.loop-from.invariant in let d = c.args
     serve_room d i.passes find c.requires.can (g.met.D.Desk.spares c.args.desk.now) (deed_adds d i.passes find c.deed.ensures.makes) (g.met.D.Desk.spares c.deed.new.self)
 
 pub returns-in-None-clause-found : goal.returns-in-None-clause-found
-returns-in-None-clause-found g c = let i = c.loop-from.invariant in
-    absurd (not_left c.args.directory i.passes c.in-Some.ensures.found c.deed.ensures.makes c.if-deed-eq0.true (clear_can c.requires.can) c.in-None.ensures.serves)
+returns-in-None-clause-found g c = let i = c.loop-from.invariant in absurd
+    (not_left c.args.directory i.passes c.in-Some.ensures.found c.deed.ensures.makes c.if-deed-eq0.true (clear_can c.requires.can) c.in-None.ensures.serves)
 
 pub returns-in-Some-serve-clause-found : goal.returns-in-Some-serve-clause-found
 returns-in-Some-serve-clause-found g c = let i = c.loop-from.invariant in
@@ -36,4 +36,4 @@ loop-from-preserved g c =
 
 pub returns-clause-found : goal.returns-clause-found
 returns-clause-found g c =
-    all_bare c.args.directory c.loop-from.invariant.passes (let pages : c.profile.result.now.pages ≡ (g.D.Desk.standing c.args.desk.now).seat.profile.pages = ap (λ (f : Profile). f.pages) c.profile.ensures in omega (arith, pages, c.loop-from-test.false))
+    all_bare _ c.loop-from.invariant.passes (let pages = ap (λ (f : Profile). f.pages) c.profile.ensures in omega (arith, pages, c.loop-from-test.false))

@@ -10,8 +10,8 @@ pub search_offered-requires-clause-can : goal.search_offered-requires-clause-can
 search_offered-requires-clause-can g c = subst (λ (x : Directory). CanCall (g.D.Desk.standing c.args.desk.now) (MaySearch x)) (sym c.begin-looked.ensures.directory) (may_can c.requires.can)
 
 pub search_bare-requires-clause-can : goal.search_bare-requires-clause-can
-search_bare-requires-clause-can g c =
-    bare_can c.args.directory c.begin-looked.ensures.directory c.in_default.ensures.found c.requires.can (g.met.D.Desk.spares c.args.desk.now) (g.met.D.Desk.spares c.search_offered.new.desk)
+search_bare-requires-clause-can g c = bare_can c.args.directory c.begin-looked.ensures.directory c.in_default.ensures.found c.requires.can
+    (g.met.D.Desk.spares c.args.desk.now) (g.met.D.Desk.spares _)
 
 pub returns-in-Some-clause-searches : goal.returns-in-Some-clause-searches
 returns-in-Some-clause-searches g c =

@@ -17,7 +17,7 @@ pub returns-in_default-clause-found : goal.returns-in_default-clause-found
 returns-in_default-clause-found g c =
     let i = c.loop-looked.invariant in let D = g.D.Desk in let d = c.args.looked.now.directory in
     subst (λ m. SearchesOffered (g.S.Serving.rule c.args.serving.now) d (D.standing c.args.desk.now) (D.standing c.first_offered.new.desk) m None) (sym c.first_offered.ensures.unfit)
-    (none_offered i.tries i.directory i.low (let pages : c.profile.result.now.pages ≡ (g.D.Desk.standing c.args.desk.now).seat.profile.pages = ap (λ (f : Profile). f.pages) c.profile.ensures in omega (arith, pages, c.loop-looked-test.true)) c.in_default.ensures.found)
+    (none_offered i.tries i.directory i.low (let pages = ap (λ f. f.pages) c.profile.ensures in omega (arith, pages, c.loop-looked-test.true)) c.in_default.ensures.found)
 
 pub claim-requires-clause-can : goal.claim-requires-clause-can
 claim-requires-clause-can g c = let i = c.loop-looked.invariant in claim_can i.tries i.directory c.in-Some.ensures.found c.requires.can
@@ -30,7 +30,7 @@ serve-requires-clause-can g c =
 pub serve-requires-clause-room : goal.serve-requires-clause-room
 serve-requires-clause-room g c =
     let i = c.loop-looked.invariant in let d = c.args.looked.now.directory in let h = c.claim.ensures.claims in
-    room_kept {C = MaySearch d} (g.S.Serving.rule c.args.serving.now).events (claim_adds i.tries i.directory c.in-Some.ensures.found h.calls.adds) c.requires.can
+    room_kept {C = MaySearch d} (g.S.Serving.rule c.args.serving.now).events (claim_adds i.tries i.directory _ h.calls.adds) c.requires.can
     (claim_quiet i.tries i.directory c.in-Some.ensures.found h.calls.adds) (g.met.D.Desk.spares c.args.desk.now) (g.met.D.Desk.spares c.claim.new.desk) c.requires.room
 
 pub mark_unfit-requires : goal.mark_unfit-requires
@@ -48,7 +48,7 @@ loop-looked-preserved-then-claim g c =
     let next : marked.next ≡ p + 1 = c.mark_unfit.ensures.next ∙ further i.tries i.directory c.in-Some.ensures.found in record {
       low = omega (arith, next);
       directory = c.mark_unfit.ensures.directory ∙ c.first_offered.ensures.directory ∙ i.directory;
-      tries = left_tries i.tries i.directory c.in-Some.ensures.found h.calls.adds bit next marked.unfit (λ q. c.mark_unfit.ensures.unfit q ∙ ap (λ m. (p == q) || is_marked m q) c.first_offered.ensures.unfit) serves;
+      tries = left_tries i.tries i.directory c.in-Some.ensures.found h.calls.adds bit next _ (λ q. c.mark_unfit.ensures.unfit q ∙ ap (λ m. (p == q) || is_marked m q) c.first_offered.ensures.unfit) serves;
       home = c.serve.ensures.home ∙ c.claim.ensures.home ∙ c.first_offered.ensures.home ∙ i.home;
     }
 
@@ -64,4 +64,4 @@ loop-looked-preserved g c =
 
 pub returns-clause-found : goal.returns-clause-found
 returns-clause-found g c =
-    all_offered c.loop-looked.invariant.tries (let pages : c.profile.result.now.pages ≡ (g.D.Desk.standing c.args.desk.now).seat.profile.pages = ap (λ (f : Profile). f.pages) c.profile.ensures in omega (arith, pages, c.loop-looked-test.false))
+    all_offered c.loop-looked.invariant.tries (let pages = ap (λ (f : Profile). f.pages) c.profile.ensures in omega (arith, pages, c.loop-looked-test.false))

@@ -2,11 +2,11 @@ use Rattle.std.proofs.Common.{◌++◌, ◌∷◌, List, [], length, length-appe
 use Rattle.pas_report.specs.Rooms.{records_in}
 use Rattle.pas_guard.specs.{Books.guards_in, Sweeps.lowered_record}
 use Rattle.pas_guard.specs.declared.book.Guard.{Guard}
-use Rattle.pas_guard.proofs.Sweeps.{swept_none, swept_all, no_guard, its_page, may_look, can_lower_it, it_stays, it_goes, one_less}
+use Rattle.pas_guard.proofs.Raises.{swept_none, swept_all, no_guard, its_page, may_look, can_lower_it, it_stays, it_goes, one_less}
 use Rattle.pas_guard.proofs.book.GuardBook.sweep.Goals as goal
 
 pub loop-place-init : goal.loop-place-init
-loop-place-init g c = let room = c.requires.room in record { so_far = swept_none c.args.all (guards_in c.args.self.now) (records_in c.args.lowered.now); actor = c.actor-actor.ensures; room = omega (arith, room); rooms = refl; size = refl; home = refl }
+loop-place-init g c = let room = c.requires.room in record { so_far = swept_none _ _ _; actor = c.actor-actor.ensures; room = omega (arith, room); rooms = refl; size = refl; home = refl }
 
 pub goes_down-requires : goal.goes_down-requires
 goes_down-requires g c = let i = c.loop-place.invariant in let lt = c.loop-place-test.true in let many = ap length c.guards.ensures in

@@ -7,7 +7,7 @@ use Rattle.pas_large.proofs.index.LargeIndex.cut.Goals as goal
 pub returns-clause-ranges : goal.returns-clause-ranges
 returns-clause-ranges c =
     let i = c.place_at-place.result in let n = c.args.pages in let ys = c.shorten.new.spans.items in
-    cut_is c.args.first n c.args.self.now c.as_slice.result.now ys i (c.as_slice.ensures.value ∙ c.self.view_is) c.place_at-place.ensures.within c.place_at-place.ensures.before c.place_at-place.ensures.here
+    cut_is _ n _ _ ys i (c.as_slice.ensures.value ∙ c.self.view_is) c.place_at-place.ensures.within c.place_at-place.ensures.before c.place_at-place.ensures.here
     (subst (λ l. (d : Span) → ys ≡ take i l ++ (left_of n (get_or l i d) ++ drop (i + 1) l)) c.self.view_is c.shorten.ensures)
 
 pub invariant_of-self : goal.invariant_of-self

@@ -7,14 +7,14 @@ use Rattle.pas_large.proofs.index.LargeIndex.insert.Goals as goal
 pub returns-clause-ranges : goal.returns-clause-ranges
 returns-clause-ranges c =
     let new = c.of-new.result in let place = c.place_behind-place.result in
-    joined_is new c.gather-end.result.1 c.args.self.now c.as_slice.result.now c.as_slice-2.result.now c.replace.new.spans.items place c.gather-end.result.0 (c.as_slice.ensures.value ∙ c.self.view_is) (c.as_slice-2.ensures.value ∙ c.self.view_is)
+    joined_is new _ c.args.self.now _ _ _ place c.gather-end.result.0 (c.as_slice.ensures.value ∙ c.self.view_is) (c.as_slice-2.ensures.value ∙ c.self.view_is)
     c.place_behind-place.ensures.before c.gather-end.ensures.joins (subst (λ l. c.replace.new.spans.items ≡ take place l ++ c.gather-end.result.1 ∷ drop c.gather-end.result.0 l) c.self.view_is c.replace.ensures)
     ∙ ap (λ s. joined s c.args.self.now) c.of-new.ensures
 
 pub invariant_of-self : goal.invariant_of-self
-invariant_of-self c = let some = c.requires.some in
-    subst (AreApart 0) (sym (returns-clause-ranges c)) (joined_apart 0 (span_of c.args.range) c.args.self.now (subst (AreApart 0) c.self.view_is c.self.invariant) c.requires.first (omega (arith, some)) c.requires.last)
+invariant_of-self c = let some = c.requires.some in subst (AreApart 0) (sym (returns-clause-ranges c)) (joined_apart 0 (span_of c.args.range) c.args.self.now
+    (subst (AreApart 0) c.self.view_is c.self.invariant) c.requires.first (omega (arith, some)) c.requires.last)
 
 pub returns-clause-pages : goal.returns-clause-pages
-returns-clause-pages c = let some = c.requires.some in
-    subst (λ l. HasMore (span_of c.args.range) (has_page c.args.self.now) (has_page l)) (sym (returns-clause-ranges c)) (joined_has 0 (span_of c.args.range) c.args.self.now (subst (AreApart 0) c.self.view_is c.self.invariant) (omega (arith, some)))
+returns-clause-pages c = let some = c.requires.some in subst (λ l. HasMore (span_of c.args.range) (has_page c.args.self.now) (has_page l))
+    (sym (returns-clause-ranges c)) (joined_has 0 _ c.args.self.now (subst (AreApart 0) c.self.view_is c.self.invariant) (omega (arith, some)))

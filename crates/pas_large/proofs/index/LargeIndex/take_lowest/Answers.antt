@@ -8,9 +8,9 @@ returns-in_err-first-clause-left c = sym (none_cut c.args.pages c.args.self.now 
 
 pub cut-requires : goal.cut-requires
 cut-requires c =
-    (found_for c.args.self.now c.as_slice.result.now c.args.pages (Some c.in_ok-first.first) (subst (AreApart 0) c.self.view_is c.self.invariant) (c.as_slice.ensures.value ∙ c.self.view_is) c.in_ok-first.ensures).fits
+    (found_for _ _ c.args.pages _ (subst (AreApart 0) c.self.view_is c.self.invariant) (c.as_slice.ensures.value ∙ c.self.view_is) c.in_ok-first.ensures).fits
 
 pub returns-clause-left : goal.returns-clause-left
 returns-clause-left c =
     c.cut.ensures.ranges
-    ∙ cut_is_lowest 0 c.in_ok-first.first c.args.pages c.args.self.now (subst (AreApart 0) c.self.view_is c.self.invariant) (ap (lowest_fit c.args.pages) (sym (c.as_slice.ensures.value ∙ c.self.view_is)) ∙ sym c.in_ok-first.ensures)
+    ∙ cut_is_lowest 0 _ c.args.pages c.args.self.now (subst (AreApart 0) c.self.view_is c.self.invariant) (ap (lowest_fit c.args.pages) (sym (c.as_slice.ensures.value ∙ c.self.view_is)) ∙ sym c.in_ok-first.ensures)
