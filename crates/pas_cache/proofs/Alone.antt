@@ -1,28 +1,282 @@
--- A request whose actor alone made steps meanwhile, whatever its desk tells: a refusal is true, and the run that a door named is taken where it is whole.
-use Rattle.std.proofs.Common.{arith, ◌≡◌, ℕ, List, ◌++◌, Option, Result, Ok, Err, refl, ap, sym, ◌∙◌, subst, true≢false, inl, inr}
-use Rattle.pas_profile.specs.{Profiles.IsValid, Profiles.IsAdmitted, Profiles.IsDirectoryOf, Directories.IsKind}
-use Rattle.pas_profile.specs.Requests.{is_shared, kind_of_route, route_in, room_in, class_home}
-use Rattle.pas_profile.specs.declared.{directory.Directory.Directory, directory.Route.Route, name.Block.Block, event.NoRoom.NoRoom}
-use Rattle.pas_profile.specs.declared.{event.NoRoom.TheVariants.NoSpace, profile.Profile.Profile}
-use Rattle.pas_steps.specs.{Views.View, Views.has_right, Desks.triples, Lists.Whole, Lists.part, Lists.Legal}
+-- A request is answered from the local allocators.
+use Rattle.std.proofs.Common.{◌≡◌, ℕ, ◌+◌, ◌/◌, ◌^◌, ◌<◌, ◌≤◌, Bool, false, List, [], ◌∷◌, ◌++◌, length, Ok, Err, Result, inl, inr, Option, Some, true≢false}
+use Rattle.std.proofs.Common.{refl, ap, sym, ◌∙◌, subst, arith, append_assoc, append-nil, length-append, true, MatchResult, All, ◌%◌, max}
+use Rattle.std.proofs.lemmas.List.{Elements.All-weaker, Sorted.IsPermutation-sym, Sorted.IsPermutation-to_front}
+use Rattle.pas_steps.specs.{Calls.Calls, Views.View, Views.has_right, Events.events_by, Agreement.Agreed, Lists.Whole, Lists.part, Lists.Legal}
+use Rattle.pas_steps.specs.{Unknown.unknown_pages, Kinds.returning, Kinds.Only}
+use Rattle.pas_steps.specs.Desks.{Standing, Seat, CanCall, triples}
+use Rattle.pas_steps.proofs.{Called.call_as, Called.next_call, Calls.leads_as, Calls.leads_at, SpareRoom.Spares, SpareRoom.spare_falls, Frames.events_append}
+use Rattle.pas_steps.proofs.{Frames.deed_stays, Apart.no_events, Apart.only_both, Apart.only_within, Unknown.unknown_no_more, Unknown.none_unknown}
+use Rattle.pas_steps.proofs.{Parts.part_of_own, Parts.part_of_others}
+use Rattle.pas_profile.specs.Profiles.{IsAdmitted, IsDirectoryOf, IsPage, IsValid}
+use Rattle.pas_profile.specs.{Routes.room_by, Classes.IsClass, Classes.class_size, Classes.IsSlotStart, Directories.IsKind, Directories.IsKindAmong}
+use Rattle.pas_profile.specs.{Directories.deed_word_of}
+use Rattle.pas_profile.specs.Requests.{is_shared, kind_of_class, kind_of_route, route_in, room_in, class_home}
+use Rattle.pas_profile.specs.declared.{directory.Kind.Kind as TheKind, directory.Route.Route, profile.Profile.Profile, directory.Directory.Directory}
+use Rattle.pas_profile.specs.declared.{event.Event.Event, event.NoRoom.NoRoom, name.Block.Block, event.NoRoom.TheVariants.NoSpace}
+use Rattle.pas_utility.specs.Heaps.{marks_of, is_marked}
+use Rattle.pas_utility.specs.declared.table.HeapTable.{HeapTable}
+use Rattle.pas_profile.proofs.{Sizes.class_suits, Sizes.class_known, Sizes.routed_slot_aligned, Codecs.deed_word_of-positive}
+use Rattle.pas_cache.specs.{Caches.Cached, Caches.AtRest, Calls.MayAllocate, Calls.Allocates, Changes.GivesSlot, Changes.LeavesSpent, Kinds.releasing}
+use Rattle.pas_cache.specs.{Kinds.allocating}
+use Rattle.std.specs.List.{AllByRecursion}
+use Rattle.pas_bits.specs.{Bits.has_bit, Masks.HasMember}
 use Rattle.pas_steps.specs.declared.step.Made.{Made}
-use Rattle.pas_steps.proofs.{Adding.triples_append, Parts.part_of_own, Parts.part_of_others}
+use Rattle.pas_steps.proofs.Adding.{adds_none, adds_call, can_call, agreed_first, agreed_later, triples_append}
+use Rattle.pas_search.proofs.ForBackEnds.{events_quiet}
+use Rattle.pas_search.specs.{Searches.search_steps, Searches.IsRefused, Kinds.searching, Kinds.AreSearch, Telling.IsTrueReason}
+use Rattle.pas_segregated.specs.{Refills.Filling, Takes.fewer_slots}
+use Rattle.pas_segregated.specs.declared.slots.Slots.{Slots}
+use Rattle.pas_cache.specs.Locals.{local_for, IsFormed, IsLocal, RestsWith}
+use Rattle.pas_cache.specs.Serves.{Wanted, wanted_for, class_wanted, IsFilling, IsRefill, IsObtained, IsAnswered, ServesLocals, IsPreparing, IsBlockFor}
+use Rattle.pas_cache.specs.Serves.{IsSilent, filling_in, IsToldBy, pages_of, HasNoneCached, Fetches, ServesClass, ServesBitfit, ServesPages, ServesBy}
+use Rattle.pas_cache.specs.Serves.{ServesRequest}
+use Rattle.pas_cache.specs.Parts.{MayGiveSlot, GivesLowest, MayObtain, Obtains, ServesFrom, IsToldOf, IsTrueOf}
+use Rattle.pas_cache.proofs.Resting.{here, may_give_slot, rests_reordered, rests_given, given_page}
+use Rattle.pas_cache.proofs.Obtained.{obtain_rests, refill_events, prepared, refused_steps, refusal, no_fit_before, none_shortened, may_search}
 use Rattle.pas_core.specs.Fits.{HasNoFit}
 use Rattle.pas_core.proofs.{Nexts.agreed_steps, OneActor.legal_earlier}
 use Rattle.pas_scan.specs.Runs.{large_directory}
-use Rattle.pas_search.specs.{Kinds.AreSearch, Searches.IsRefused, Telling.IsTrueReason}
-use Rattle.pas_search.proofs.Alone.{refused_told, OwnLacks, still_lacks, none_held_there}
+use Rattle.pas_search.proofs.FindingAPage.{refused_told, OwnLacks, still_lacks, none_held_there}
 use Rattle.pas_bitfit.specs.{Allocates.bitfit_directory, Allocates.run_for, Runs.NoneFits, Runs.fewer_runs}
 use Rattle.pas_large.specs.{Finds.MayFind, Alone.GoesByDoor}
-use Rattle.pas_large.proofs.Alone.{refused_alone, goes_by_door}
-use Rattle.pas_segregated.specs.Refills.{Filling}
-use Rattle.pas_segregated.specs.declared.slots.Slots.{Slots}
-use Rattle.pas_cache.specs.{Caches.Cached, Caches.AtRest, Changes.LeavesSpent, Locals.local_for, Locals.RestsWith, Parts.IsTrueOf}
+use Rattle.pas_large.proofs.Allocates.{refused_alone, goes_by_door}
 use Rattle.pas_cache.specs.Refusals.{IsTrulyRefusedBy, IsTrulyRefused, OthersHaveNone, GoesByDoorOn, TakesWhatIsNamed}
-use Rattle.pas_cache.specs.Serves.{Wanted, wanted_for, pages_of, filling_in, IsFilling, HasNoneCached, Fetches, IsObtained, IsAnswered, ServesLocals}
-use Rattle.pas_cache.specs.Serves.{ServesClass, ServesBitfit, ServesPages, ServesBy, ServesRequest}
-use Rattle.pas_cache.proofs.{Routes.may_search_bitfit, Routes.bitfit_wanted, Routes.may_find, Served.wanted_is, Served.filling_for}
-use Rattle.pas_cache.proofs.Obtained.{no_fit_before, none_shortened, may_search, refused_steps, refusal}
+use Rattle.pas_cache.proofs.Routes.{may_search_bitfit, bitfit_wanted, may_find}
+
+-- ---- room
+pub fewer_room : {σ : Standing} {spare : ℕ} {locals : List Slots} → CanCall σ (MayObtain σ.seat.profile 2 spare locals)
+    → CanCall σ (MayObtain σ.seat.profile 1 spare locals)
+fewer_room can = can_call adds_none can (λ v l stood met. record { rest = met.rest; room = (omega (arith, met.room.0), inr (omega (arith, met.room.0))) })
+
+-- After slots were obtained there is room for the event of a give.
+pub room_to_give : {σ σ1 : Standing} {spare spare1 : ℕ} {locals fewer : List Slots} {answer : Result Slots NoRoom} (fill : Filling) (tells : Bool)
+    → Obtains fill tells locals fewer σ σ1 answer → CanCall σ (MayObtain σ.seat.profile 2 spare locals)
+    → Spares σ spare → Spares σ1 spare1 → 1 ≤ spare1
+room_to_give {σ} {spare = spare} {spare1 = spare1} {locals} fill tells one can law law' =
+    let few = one.few σ.seat.actor can.view can.met.rest (one.calls.adds.agreed can.view can.whole can.stood can.met.rest) in
+    let left = spare_falls {C = RestsWith σ.seat.profile locals} spare spare1 _ one.calls.adds (obtain_rests can) law law' refl in
+    elim can.met.room.1 [
+      | inl all ↦ let none = none_unknown σ.seat.profile can.view all in omega (arith, left, few.paid, none, can.met.room.0)
+      | inr three ↦ omega (arith, left, few.most, three)
+    ]
+
+-- ---- the slots that were obtained may give
+pub give_call : {σ σ1 : Standing} {spare : ℕ} (fill : Filling) (tells : Bool) (locals fewer : List Slots) (slots : Slots)
+    → Obtains fill tells locals fewer σ σ1 (Ok slots) → CanCall σ (MayObtain σ.seat.profile 2 spare locals)
+    → CanCall σ1 (MayGiveSlot σ1.seat.profile slots)
+give_call {σ} {σ1} fill tells locals fewer slots one can = next_call one.calls (obtain_rests can) (λ v met here. subst
+    (λ (s : Seat). MayGiveSlot s.profile slots (one.steps ++ v)) (sym one.calls.adds.seat_is) (may_give_slot _ _ fewer (one.steps ++ v) here))
+
+-- ---- kinds and events of what was made before the give
+refill_kinds : {fill : Filling} {f : Profile} {steps : List Made} {found : Result Slots NoRoom} → IsRefill fill f steps found → Only allocating steps
+refill_kinds {found = Ok slots} h = subst (Only allocating) (sym h.steps_are) (only_both allocating h.after h.searched
+    (only_within returning allocating h.after refl h.outcome.after_kinds) (only_within searching allocating h.searched refl h.searches.kinds))
+refill_kinds {found = Err room} h = subst (Only allocating) (refused_steps h) (only_within searching allocating h.searched refl h.searches.kinds)
+
+obtained_kinds : {fill : Filling} {f : Profile} {locals fewer : List Slots} {steps : List Made} {found : Result Slots NoRoom}
+    → IsObtained fill f locals fewer steps found → Only allocating steps
+obtained_kinds (inl h) = subst (Only allocating) (sym h.2.no_steps) tt
+obtained_kinds (inr h) = subst (Only allocating) (sym h.steps_are) (only_both allocating h.searched h.before (refill_kinds h.refill) (only_within releasing allocating h.before refl h.gives_back))
+
+events_later : (ys xs : List Made) → Only releasing xs → (k : ℕ) (v : View) → events_by k v (ys ++ xs) ≡ events_by k (xs ++ v) ys
+events_later ys xs kinds k v = events_append k ys xs v ∙ (ap (λ es. events_by k (xs ++ v) ys ++ es) (no_events releasing refl k v xs kinds) ∙ append-nil _)
+
+prepared_before : {f : Profile} (fill : Filling) {locals fewer : List Slots} (steps : List Made) (slots : Slots)
+    → IsObtained fill f locals fewer steps (Ok slots) → (k : ℕ) (v : View) → AllByRecursion (IsPreparing fill.directory) (events_by k v steps)
+prepared_before fill steps slots e k v = grind (arith, events_later, refill_events, prepared)
+
+silent_before : {fill : Filling} {f : Profile} {locals fewer : List Slots} (steps : List Made) (room : NoRoom) → IsObtained fill f locals fewer steps (Err room)
+    → IsSilent steps
+silent_before steps room e = grind (arith, events_later, events_quiet, refusal)
+
+-- ---- the give
+give_event : (slots rest : Slots) (block : Block) (steps : List Made) → GivesSlot slots rest block steps → (k : ℕ) (v : View)
+    → events_by k v steps ≡ Event.Give k block ∷ []
+give_event slots rest block steps gives k v = ap (events_by k v) gives.steps_are
+
+-- A request of a class is served where slots were obtained and the lowest one of them was given.
+pub serves_given : {σ σ1 σ2 : Standing} (fill : Filling) (tells : Bool) (locals fewer after : List Slots) (slots rest : Slots) (block : Block)
+    → CanCall σ (RestsWith σ.seat.profile locals) → (one : Obtains fill tells locals fewer σ σ1 (Ok slots))
+    → GivesLowest slots rest block σ1 σ2 → after ≡ fewer ++ rest ∷ [] → ServesFrom fill tells locals after σ σ2 (Ok block)
+serves_given {σ} {σ1} {σ2} fill tells locals fewer after slots rest block can one two list =
+    let f : Profile = σ.seat.profile in
+    let d : Directory = fill.directory in
+    let xs : List Made = one.steps in
+    let ys : List Made = two.steps in
+    let for = one.found_for in
+    let give = subst (λ (s : Seat). Calls σ1 σ2 (MayGiveSlot s.profile slots) (λ v w. block.name.turn < 2 ^ 37) ys) one.calls.adds.seat_is two.calls in
+    let before : (v : View) → RestsWith f locals v → Agreed f v (ys ++ xs) → RestsWith f (slots ∷ fewer) (xs ++ v) = λ v h agreed. one.calls.leads.from v h (agreed_later f v ys xs agreed) in
+    let may : (v : View) → RestsWith f (slots ∷ fewer) v → MayGiveSlot f slots v = may_give_slot f slots fewer in
+    let obtained = one.calls.leads.from can.view can.met (one.calls.adds.agreed can.view can.whole can.stood can.met) in
+    let local : IsLocal f (xs ++ can.view) slots = here f slots fewer (xs ++ can.view) obtained in
+    record {
+      steps = ys ++ xs;
+      calls = record {
+        adds = adds_call {C = RestsWith f locals} {D = MayGiveSlot f slots} one.calls.adds give.adds (λ v l stood met. may (xs ++ v) (one.calls.leads.from v met (one.calls.adds.agreed v l stood met)));
+        leads = record {
+          from = λ v h agreed. subst (λ zs. RestsWith f zs ((ys ++ xs) ++ v)) (sym list)
+              (rests_reordered f _ _ (IsPermutation-sym (fewer ++ rest ∷ []) (rest ∷ fewer) (IsPermutation-to_front fewer rest)) _
+              (subst (RestsWith f (rest ∷ fewer)) (sym (append_assoc ys xs v)) (rests_given f fewer _ _ _ ys two.gives _ (before v h agreed) (agreed_first f v ys xs agreed))));
+        };
+      };
+      change = record { found = Ok slots; fewer = fewer; before = xs; obtained = one.how; given = ys; ends = (rest, two.gives, list); steps_are = refl };
+      kinds = only_both allocating ys xs (subst (Only allocating) (sym two.gives.steps_are) (refl, (refl, tt))) (obtained_kinds one.how);
+      few = λ k v h agreed.
+          let few = one.few k v h (agreed_later f v ys xs agreed) in
+          let fewer_left = unknown_no_more f ys _ (agreed_first f v ys xs agreed) in
+          let split : length (events_by k v (ys ++ xs)) ≡ length (events_by k (xs ++ v) ys) + length (events_by k v xs) = ap length (events_append k ys xs v) ∙ length-append _ _ in
+          let last : length (events_by k (xs ++ v) ys) ≡ 1 = ap length (give_event slots rest block ys two.gives k _) in
+          let left : unknown_pages f ((ys ++ xs) ++ v) ≡ unknown_pages f (ys ++ (xs ++ v)) = ap (unknown_pages f) (append_assoc ys xs v) in
+          record { paid = omega (arith, few.paid, fewer_left, split, last, left); most = omega (arith, few.most, split, last) };
+      outcome = record {
+        of_heap = two.gives.heap ∙ ap (λ x. x.heap) for.home;
+        room = two.gives.room ∙ ap class_size for.class_is;
+        placed = record {
+          page = slots.page;
+          start = two.gives.start;
+          is_start = subst (λ c. IsSlotStart c two.gives.start) for.class_is (local.starts two.gives.start two.gives.lowest.set);
+          address = two.gives.address;
+        };
+        aligned = omega arith;
+        of_region = λ g inside. subst (IsPage f) (sym (given_page f fewer slots rest block ys two.gives _ obtained g inside)) local.page;
+        turn = record { from = λ v h agreed. (leads_at one.calls.adds.seat_is give.leads).from (xs ++ v) (may (xs ++ v) (before v h agreed)) (agreed_first f v ys xs agreed) };
+        deeds = record {
+          from = λ v h agreed g inside.
+              let page : g / 256 ≡ slots.page = given_page f fewer slots rest block ys two.gives (xs ++ v) (before v h agreed) g inside in
+              let known = (here f slots fewer (xs ++ v) (before v h agreed)).deed ∙ ap deed_word_of for.home in
+              cc (append_assoc ys xs v, deed_stays f ys _ slots.page (agreed_first f v ys xs agreed) (λ z. deed_word_of-positive d (sym known ∙ z)));
+        };
+        events = λ k v. (events_by k v xs, events_append k ys xs v ∙ ap (λ es. es ++ events_by k v xs) (give_event _ _ _ ys two.gives k _), prepared_before _ xs _ one.how k v);
+      };
+      place = let n : length after ≡ length fewer + 1 = ap length list ∙ length-append fewer _ in omega (arith, n, one.place);
+      told = λ t v l stood h. tt;
+    }
+
+-- ---- a refusal
+pub serves_none : {σ σ1 : Standing} (fill : Filling) (tells : Bool) (locals fewer : List Slots) (room : NoRoom)
+    → Obtains fill tells locals fewer σ σ1 (Err room) → ServesFrom fill tells locals fewer σ σ1 (Err room)
+serves_none {σ} fill tells locals fewer room one = record {
+  steps = one.steps;
+  calls = one.calls;
+  change = record { found = Err room; fewer = fewer; before = one.steps; obtained = one.how; given = []; ends = (refl, refl, refl); steps_are = refl };
+  kinds = obtained_kinds one.how;
+  few = λ k v h agreed. let few = one.few k v h agreed in record { paid = omega (arith, few.paid); most = omega (arith, few.most) };
+  outcome = silent_before one.steps room one.how;
+  place = omega (arith, one.place);
+  told = one.told;
+}
+
+-- ---- a cached slot is given in two steps
+given_two : (fewer locals' : List Slots) (given : List Made) (found : Result Slots NoRoom) (answer : Result Block NoRoom) (slots : Slots) → found ≡ Ok slots
+    → IsAnswered fewer locals' given found answer → length given ≡ 2
+given_two fewer locals' given found answer slots is h = grind arith
+
+spent_empty : (spent : List Made) (local : Option Slots) (slots : Slots) → local ≡ Some slots → LeavesSpent local spent → HasMember slots.starts → ⊥
+spent_empty spent local slots is leaves some = true≢false (sym some.2 ∙ (subst (λ l. LeavesSpent l spent) is leaves).0 some.0 some.1)
+
+cached_two : {fill : Filling} {f : Profile} {locals locals' : List Slots} {steps : List Made} {answer : Result Block NoRoom}
+    → (h : ServesLocals fill f locals locals' steps answer) → (slots : Slots) → local_for fill.directory.heap fill.class locals ≡ Some slots
+    → HasMember slots.starts
+    → length steps ≡ 2
+cached_two {fill = fill} {locals = locals} {locals' = locals'} {answer = answer} h slots is some = search (arith, given_two, length-append, spent_empty)
+
+-- ---- how many steps there are at most
+refill_short : {fill : Filling} {f : Profile} {steps : List Made} {found : Result Slots NoRoom} → IsRefill fill f steps found
+    → length steps ≤ 11 + search_steps fill.steps f.pages
+refill_short {found = Ok slots} h = let n = ap length h.steps_are ∙ length-append h.after h.searched in omega (arith, n, h.few, h.outcome.after_few)
+refill_short {found = Err room} h = let n = ap length (refused_steps h) in omega (arith, n, h.few)
+
+-- A give makes two steps at most, and a refusal none.
+given_few : (fewer locals' : List Slots) (given : List Made) (found : Result Slots NoRoom) (answer : Result Block NoRoom)
+    → IsAnswered fewer locals' given found answer → length given ≤ 2
+given_few fewer locals' given found answer h = grind arith
+
+serves_short : {fill : Filling} {f : Profile} {locals locals' : List Slots} {steps : List Made} {answer : Result Block NoRoom}
+    → ServesLocals fill f locals locals' steps answer → length steps ≤ 59 + search_steps fill.steps f.pages
+serves_short {locals' = locals'} {answer = answer} h = search (arith, length-append, given_few, refill_short)
+
+-- ---- of a cache
+for_cache : (f : Profile) (c : Cached) (d : Directory) (class size align : ℕ) (steps : List Made) (answer : Result Block NoRoom) → 4096 % align ≡ 0
+    → route_in f size align ≡ Route.Class class
+    → MatchResult answer (IsBlockFor f (class_wanted d class 1) (RestsWith f c.locals) steps) (λ room. IsSilent steps)
+    → MatchResult answer (IsBlockFor f (class_wanted d class align) (AtRest f c) steps) (λ room. IsSilent steps)
+for_cache f c d class size align steps answer whole route h = grind (arith, routed_slot_aligned, leads_as)
+
+-- The kind of a class is one, in a shared heap and in another.
+kind_known : (shared : Bool) (class : ℕ) → IsClass class → IsKind (kind_of_class shared class)
+kind_known shared class is = grind arith
+
+-- And one of the profile's, where the class is.
+kind_among : (shared : Bool) (classes class : ℕ) → class < classes → IsKindAmong classes (kind_of_class shared class)
+kind_among shared classes class is = grind arith
+
+-- the route by the profile that a desk tells is that in its region
+pub routed : (f told : Profile) (size align : ℕ) (route way : Route) → told ≡ f → route ≡ route_in told size align → route ≡ way → route_in f size align ≡ way
+routed f told size align route way same is at = ap (λ (h : Profile). route_in h size align) (sym same) ∙ sym is ∙ at
+
+-- the room of a bit-fit block is that of its request
+pub roomed : (f : Profile) (size align room : ℕ) → route_in f size align ≡ Route.Bitfit → room ≡ room_by Route.Bitfit (max size 1) → room_in f size align ≡ room
+roomed f size align room route is = ap (λ (r : Route). room_by r (max size 1)) route ∙ sym is
+
+-- the class of a request has its home in the heap
+pub filling_for : (f : Profile) (size align heap class : ℕ) → IsAdmitted f size align heap → route_in f size align ≡ Route.Class class
+    → IsFilling f (filling_in (class_home f heap class) class)
+filling_for f size align heap class admitted route =
+    let smallest = class_suits f.classes size align class route in
+    let known : IsClass class = class_known f.classes size align class smallest in
+    let directory : IsDirectoryOf f (class_home f heap class) = record { heap = admitted.of_profile; kind = kind_known _ _ known; class = kind_among _ f.classes _ smallest.known } in
+    record { directory = directory; class = known; home = refl; fewer = fewer_slots class }
+
+-- a request of a class wants pages of the class's home
+pub wanted_is : (f : Profile) (heap class size align : ℕ) → route_in f size align ≡ Route.Class class
+    → class_wanted (class_home f heap class) class align ≡ wanted_for f heap size align
+wanted_is f heap class size align route = ap (λ r. record { directory = record { heap = heap; kind = kind_of_route (is_shared f heap) r }; route = r; room = room_by r (max size 1); align = align }) (sym route)
+
+-- the directory that the table of heaps tells is that home
+pub home_is : (f : Profile) (table : HeapTable) (heap class : ℕ) (kind : TheKind) → kind ≡ kind_of_class (is_marked table heap) class → marks_of table ≡ f.shared → record { heap = heap; kind = kind } ≡ class_home f heap class
+home_is f table heap class kind is marks = ap (λ (k : TheKind). record { heap = heap; kind = k }) (is ∙ ap (λ n. kind_of_class (has_bit n heap) class) marks)
+
+-- What is told of the state makes a refusal true; of a served request nothing is to be shown.
+true_refusal : (f : Profile) (d : Directory) (class align : ℕ) (locals : List Slots) (entry exit : Whole) (answer : Result Block NoRoom)
+    → IsToldOf (filling_in d class) f locals entry exit answer → IsToldBy f (class_wanted d class align) locals entry exit answer
+true_refusal f d class align locals entry exit answer told = grind arith
+
+-- A request of a class that was served from its slots is allocated.
+pub allocates : {σ σ' : Standing} (size align heap class : ℕ) (tells : Bool) (c c' : Cached) (answer : Result Block NoRoom) → IsAdmitted σ.seat.profile size align heap → route_in σ.seat.profile size align ≡ Route.Class class → c' ≡ record c { locals = c'.locals }
+    → ServesFrom (filling_in (class_home σ.seat.profile heap class) class) tells c.locals c'.locals σ σ' answer
+    → Allocates (wanted_for σ.seat.profile heap size align) tells c c' σ σ' answer
+allocates {σ} {σ'} size align heap class tells c c' answer admitted route is h =
+    let f : Profile = σ.seat.profile in
+    subst (λ (w : Wanted). Allocates w tells c c' σ σ' answer) (wanted_is f heap class size align route) (record {
+      steps = h.steps;
+      calls = call_as _ h.calls (λ v rest. rest.locals) (λ v w rest locals. subst (λ x. AtRest f x w) (sym is) (record { locals = locals; few = h.place; entries = rest.entries; few_entries = rest.few_entries }));
+      change = record { locals = h.change; cache = is };
+      kinds = h.kinds;
+      short = serves_short h.change;
+      two = λ some. cached_two h.change some.0 some.1 some.2;
+      few = λ k v rest agreed. h.few k v rest.locals agreed;
+      outcome = for_cache f c _ class size align h.steps answer admitted.aligned.2 route h.outcome;
+      told = λ t v l stood rest. true_refusal f _ class align c.locals l _ answer (h.told t v l stood rest.locals);
+    })
+
+-- A cache that may allocate may obtain slots with room for two events.
+pub serve_call : {σ : Standing} {c : Cached} {spare : ℕ} → CanCall σ (MayAllocate σ.seat.profile c spare)
+    → CanCall σ (MayObtain σ.seat.profile 2 spare c.locals)
+serve_call can = can_call adds_none can (λ v l stood met. record { rest = met.rest.locals; room = met.room })
+
+-- the local allocators of an actor at rest are well formed
+pub formed : (f : Profile) (v : View) (locals : List Slots) → RestsWith f locals v → All IsFormed locals
+formed f v locals h = All-weaker (IsLocal f v) IsFormed (λ t at. record { class = at.class; starts = at.starts }) locals h.known
+
+-- After a request of a class its cache rests with the local allocators that it has then.
+pub rests_after : {σ σ' : Standing} (fill : Filling) (tells : Bool) (locals locals' : List Slots) (answer : Result Block NoRoom)
+    → (h : ServesFrom fill tells locals locals' σ σ' answer) → (can : CanCall σ (RestsWith σ.seat.profile locals))
+    → RestsWith σ.seat.profile locals' (h.steps ++ can.view)
+rests_after fill tells locals locals' answer h can = h.calls.leads.from can.view can.met (h.calls.adds.agreed can.view can.whole can.stood can.met)
+
+-- ==== A request whose actor alone made steps meanwhile, whatever its desk tells: a refusal is true, and the run that a door named is taken where it is
+-- whole.
 
 -- ---- a request of a class
 spent_none : (heap class : ℕ) (locals : List Slots) (steps : List Made) → LeavesSpent (local_for heap class locals) steps → HasNoneCached heap class locals
@@ -41,9 +295,9 @@ module _ (f : Profile) (k : ℕ) (l : Whole) (valid : IsValid f) (fill : Filling
       let ys = fetch.searched in
       let middle : Whole = triples k xs ++ l in
       let all : Legal f (triples k (ys ++ xs) ++ l) = subst (λ zs. Legal f (triples k zs ++ l)) fetch.steps_are legal in
-      let rests : RestsWith f fewer (part k middle) = subst (RestsWith f fewer) (sym (part_of_own k xs l)) (fetch.rests.from (part k l) rest (agreed_steps f k l xs valid (legal_earlier f k ys xs l all))) in
+      let rests = subst (RestsWith f fewer) (sym (part_of_own k xs l)) (fetch.rests.from (part k l) rest (agreed_steps f k l xs valid (legal_earlier f k ys xs l all))) in
       let searches : AreSearch ys = subst AreSearch (refused_steps fetch.refill) fetch.refill.searches in
-      let may = may_search f (part k middle) fill fewer is (none_shortened fetch.place.taken fetch.place.shortened) rests in
+      let may = may_search f _ fill fewer is (none_shortened fetch.place.taken fetch.place.shortened) rests in
       let at_middle = subst (Legal f) (sym (triples_append k ys xs l)) all in
       let told = refused_told fill.no_fit f fill.directory k middle ys valid is.directory is.fewer at_middle searches may room (refusal fetch.refill) in
       let still = (refusal fetch.refill).still.from (part k middle) may (agreed_steps f k middle ys valid at_middle) in
@@ -105,8 +359,8 @@ module _ (f : Profile) (heap size align k : ℕ) (found : Option ℕ) (c c' : Ca
   class_refused class route serves =
       let same = wanted_is f heap class size align route in
       let d = class_home f heap class in
-      let home : ServesClass (filling_in d class) f c c' steps (Err room) = subst (λ (w : Wanted). ServesClass (filling_in w.directory class) f c c' steps (Err room)) (sym same) serves in
-      let both = locals_refused f k l valid (filling_in d class) (filling_for f size align heap class admitted route) c.locals rest.locals c'.locals steps room legal home.locals in
+      let home = subst (λ (w : Wanted). ServesClass (filling_in w.directory class) f c c' steps (Err room)) (sym same) serves in
+      let both = locals_refused f k l valid _ (filling_for f _ _ _ _ admitted route) c.locals rest.locals c'.locals _ room legal home.locals in
       let told = both.0 in
       subst (IsRefusedBy (Route.Class class)) same (record { cached = λ h. told.cached h.0 h.1 h.2; entry_fit = told.entry_fit; exit_fit = told.exit_fit; reason = told.reason }, both.1)
 
@@ -116,12 +370,12 @@ module _ (f : Profile) (heap size align k : ℕ) (found : Option ℕ) (c c' : Ca
       let r = room_in f size align in
       let d = bitfit_directory heap in
       let none = NoneFits (run_for r align) in
-      let refused : IsRefused none f d serves.searched room = subst (λ (w : Wanted). IsRefused none f w.directory serves.searched room) (sym same) serves.outcome.0 in
+      let refused = subst (λ (w : Wanted). IsRefused none f w.directory serves.searched room) (sym same) serves.outcome.0 in
       let all : steps ≡ serves.searched = serves.steps_are ∙ ap (λ xs. xs ++ serves.searched) serves.outcome.1 in
-      let may = may_search_bitfit f (part k l) heap c.locals rest.locals in
+      let may = may_search_bitfit f _ heap c.locals rest.locals in
       let stands : Legal f (triples k serves.searched ++ l) = subst (λ xs. Legal f (triples k xs ++ l)) all legal in
       let told = subst (λ xs. (HasNoFit none f d l × HasNoFit none f d (triples k xs ++ l) × IsTrueReason f d (triples k xs ++ l) room) × OwnLacks k d (triples k xs ++ l)) (sym all) (
-        refused_told none f d k l serves.searched valid (record { heap = admitted.of_profile; kind = tt; class = tt }) (fewer_runs (run_for r align)) stands serves.searches may room refused,
+        refused_told none f d k l _ valid (record { heap = admitted.of_profile; kind = tt; class = tt }) (fewer_runs _) stands serves.searches may room refused,
         still_lacks f k l d serves.searched valid stands may.rights (refused.still.from (part k l) may (agreed_steps f k l serves.searched valid stands)),
       ) in
       subst (IsRefusedBy Route.Bitfit) same (record { cached = λ none. none; entry_fit = told.0.0; exit_fit = told.0.1; reason = told.0.2 }, told.1)
@@ -129,7 +383,7 @@ module _ (f : Profile) (heap size align k : ℕ) (found : Option ℕ) (c c' : Ca
   pages_refused : route_in f size align ≡ Route.Large → ServesPages f wanted found c c' steps (Err room) → IsRefusedBy Route.Large wanted
   pages_refused route serves =
       let stands : Legal f (triples k (serves.rest ++ serves.tried) ++ l) = subst (λ xs. Legal f (triples k xs ++ l)) serves.steps_are legal in
-      let told = refused_alone f k l wanted.directory (pages_of wanted) found serves.tried serves.rest valid (kind_large f heap size align route) serves.old serves.returns stands (find_large f heap size align c.locals (part k l) route rest.locals) room serves.outcome in
+      let told = refused_alone f k l wanted.directory _ _ serves.tried serves.rest valid (kind_large f _ _ _ route) serves.old serves.returns stands (find_large f _ _ _ c.locals _ route rest.locals) room serves.outcome in
       subst (λ xs. IsTrulyRefusedBy Route.Large f wanted c.locals l (triples k xs ++ l) room × OwnLacks k wanted.directory (triples k xs ++ l)) (sym serves.steps_are) ((told.before, told.after, told.reason), told.own_lacks)
 
   by_route : (r : Route) → route_in f size align ≡ r → ServesBy r f wanted found c c' steps (Err room) → IsRefusedBy r wanted
@@ -140,6 +394,7 @@ module _ (f : Profile) (heap size align k : ℕ) (found : Option ℕ) (c c' : Ca
   of_profile : (r : Route) → route_in f size align ≡ r → IsDirectoryOf f wanted.directory
   of_profile r route = grind (arith, wanted_is, filling_for, bitfit_wanted, large_home)
 
+  -- By whichever route the request went, its refusal is true.
   true_reason : (r : Route) → IsTrulyRefusedBy r f wanted c.locals l exit room → IsTrueReason f wanted.directory exit room
   true_reason r told = grind arith
 
@@ -151,8 +406,8 @@ module _ (f : Profile) (heap size align k : ℕ) (found : Option ℕ) (c c' : Ca
   -- A request that was refused while nobody else had a right finds no space, and no page held.
   pub no_space : OthersHaveNone k l → ServesRequest f (wanted_for f heap size align) found c c' steps (Err room) → room ≡ NoSpace
   no_space others serves =
-      let told = by_route (route_in f size align) refl serves in
-      none_held_there f k wanted.directory exit room (of_profile (route_in f size align) refl) legal told.1 (λ j p other. ap (λ v. has_right v p) (part_of_others j k steps l other) ∙ others j p other) (true_reason (route_in f size align) told.0)
+      let told = by_route _ refl serves in
+      none_held_there f k wanted.directory exit room (of_profile _ refl) legal told.1 (λ j p other. ap (λ v. has_right v p) (part_of_others j k _ l other) ∙ others j p other) (true_reason _ told.0)
 
 -- ---- the run that a door named
 module _ (f : Profile) (heap size align k : ℕ) (found : Option ℕ) (c c' : Cached) (l : Whole) (steps : List Made) (answer : Result Block NoRoom)
@@ -165,7 +420,7 @@ module _ (f : Profile) (heap size align k : ℕ) (found : Option ℕ) (c c' : Ca
       let w = wanted_for f heap size align in
       let stands : Legal f (triples k (serves.rest ++ serves.tried) ++ l) = subst (λ xs. Legal f (triples k xs ++ l)) serves.steps_are legal in
       subst (λ xs. GoesByDoor f w.directory (pages_of w) found l xs answer) (sym serves.steps_are)
-      (goes_by_door f k l w.directory (pages_of w) found serves.tried serves.rest valid (kind_large f heap size align route) serves.old serves.returns stands (find_large f heap size align c.locals (part k l) route rest.locals) answer serves.outcome)
+      (goes_by_door f k l w.directory _ _ serves.tried serves.rest valid (kind_large f _ _ _ route) serves.old serves.returns stands (find_large f _ _ _ c.locals _ route rest.locals) _ serves.outcome)
 
   -- A request whose actor went on alone takes the run that its door named, where that is whole.
   pub takes_named : ServesRequest f (wanted_for f heap size align) found c c' steps answer

@@ -27,7 +27,7 @@ budget_left {σ} {c = c} {c' = c'} {spare = spare} {spare' = spare'} n h can law
     let k : ℕ = σ.seat.actor in
     let v : View = can.view in
     let ok = h.calls.adds.agreed v can.whole can.stood can.met.rest in
-    let left = spare_falls {C = HasBudget σ.seat.profile c (n + 2) spare} spare spare' (length (events_by k v h.steps)) (adds_under h.calls.adds (λ v l stood met. met.rest)) can law law' refl in
+    let left = spare_falls {C = HasBudget σ.seat.profile c (n + 2) spare} _ spare' _ (adds_under h.calls.adds (λ v l stood met. met.rest)) can law law' refl in
     let few = (h.few k v can.met.rest ok).paid in
     record {
       view = h.steps ++ v;

@@ -72,7 +72,7 @@ begins {σ} c epoch look = record {
   calls = record {
     adds = adds_step {step = Look Word.Epoch} adds_none look (λ v l stood met. tt);
     leads = rests_idle σ.seat.profile c (record c { idle_since = epoch }) (made (Look Word.Epoch) epoch ∷ []) refl
-        (record { from = λ v clear agreed. does_idly σ.seat.profile looking refl (made (Look Word.Epoch) epoch ∷ []) v (refl, tt) agreed }) (λ v h. (h.entries, h.few_entries));
+        (record { from = λ v clear agreed. does_idly σ.seat.profile looking refl (made _ epoch ∷ []) v (refl, tt) agreed }) (λ v h. (h.entries, h.few_entries));
   };
 }
 
@@ -88,7 +88,7 @@ flushes_log {σ} {σ'} c c' noted is flush =
       steps = flush.steps;
       calls = record {
         adds = adds_under flush.calls.adds (λ v l stood met. met.locals.clear);
-        leads = rests_idle σ.seat.profile c (record c { log = []; noted = noted }) flush.steps refl flush.calls.leads (λ v h. (All-nil (IsEntryOf σ.seat.profile), omega arith));
+        leads = rests_idle _ c (record c { log = []; noted = noted }) flush.steps refl flush.calls.leads (λ v h. (All-nil (IsEntryOf σ.seat.profile), omega arith));
       };
       empties = empties c.log c.noted noted flush;
       cache = refl;
@@ -108,7 +108,7 @@ flushed_call {σ} {σ1} c c' flush can = next_call flush.calls can (λ v h here.
 pub stops_cache : {σ σ1 σ2 : Standing} (c c1 c' : Cached) → (flush : FlushesLog c c1 σ σ1) → (stops : Releases (StopsEach c1.locals) c1.locals [] σ1 σ2) → c1 ≡ record c { log = []; noted = c1.noted } → c' ≡ record c { locals = []; log = []; noted = c1.noted } → StopsCache c c' σ σ2
 stops_cache {σ} {σ1} {σ2} c c1 c' flush stops mid is =
     let f : Profile = σ.seat.profile in
-    let stop : Calls σ1 σ2 (RestsWith f c1.locals) (λ v w. RestsWith f [] w) stops.steps = subst (λ (s : Seat). Calls σ1 σ2 (RestsWith s.profile c1.locals) (λ v w. RestsWith s.profile [] w) stops.steps) flush.calls.adds.seat_is stops.calls in
+    let stop = subst (λ (s : Seat). Calls σ1 σ2 (RestsWith s.profile c1.locals) (λ v w. RestsWith s.profile [] w) stops.steps) flush.calls.adds.seat_is stops.calls in
     record {
       flushed = flush.steps;
       stopped = stops.steps;
@@ -131,7 +131,7 @@ empties_where {σ} {σ'} log log' noted noted' full none flush = search (arith, 
 -- A log with room needs no emptying before a name is logged.
 pub empties_nothing : {σ : Standing} (log : List Entry) (noted : List EndedRun) → length log < 64
     → EmptiesWhere (nat_le 64 (length log)) log log noted noted σ σ
-empties_nothing {σ} log noted few = record { steps = []; calls = call_none (λ v clear. does_none v); empties = subst (λ t. EmptiesFull t σ.seat.actor log log noted noted []) (sym (lt-leb 64 (length log) few)) (refl, refl, refl); ranges = λ are. are }
+empties_nothing {σ} log noted few = record { steps = []; calls = call_none (λ v clear. does_none v); empties = subst (λ t. EmptiesFull t σ.seat.actor log log noted noted []) (sym (lt-leb 64 _ few)) (refl, refl, refl); ranges = λ are. are }
 
 -- A log that was emptied where it was full, and then got an entry at its end, logs the entry.
 pub logs_into : {σ σ' : Standing} (log kept log' : List Entry) (noted noted' : List EndedRun) (entry : Entry)
@@ -146,8 +146,8 @@ kept_names f full k log kept noted noted' steps e h names = grind (arith, leb-fa
 logged_names : (f : Profile) (k : ℕ) (log log' : List Entry) (noted noted' : List EndedRun) (entry : Entry) (steps : List Made)
     → LogsEntry k log log' noted noted' entry steps → IsEntryOf f entry → All (IsEntryOf f) log → All (IsEntryOf f) log' × (length log' ≤ 64)
 logged_names f k log log' noted noted' entry steps logs is names =
-    let kept = kept_names f (nat_le 64 (length log)) k log logs.kept noted noted' steps refl logs.emptied names in
-    let n : length log' ≡ length logs.kept + 1 = ap length logs.log_is ∙ length-append logs.kept (entry ∷ []) in
+    let kept = kept_names f _ k log logs.kept noted noted' steps refl logs.emptied names in
+    let n : length log' ≡ length logs.kept + 1 = ap length logs.log_is ∙ length-append logs.kept _ in
     (All-same (IsEntryOf f) log' (logs.kept ++ entry ∷ []) logs.log_is (All-push (IsEntryOf f) logs.kept entry kept.0 is), omega (arith, n, kept.1))
 
 -- A name that may be tried, and was logged, is freed.
@@ -156,8 +156,8 @@ frees {σ} c c' entry turn size region logs is = record {
   steps = logs.steps;
   calls = record {
     adds = adds_under logs.calls.adds (λ v l stood met. met.locals.clear);
-    leads = rests_idle σ.seat.profile c c' logs.steps (ap (λ x. x.locals) is) logs.calls.leads
-        (λ v h. logged_names σ.seat.profile σ.seat.actor c.log c'.log c.noted c'.noted entry logs.steps logs.logs (record { name = record { page = region.page; aligned = region.aligned; turn = turn }; whole = size.0; within = size.1 }) h.entries);
+    leads = rests_idle _ c c' logs.steps (ap (λ x. x.locals) is) logs.calls.leads
+        (λ v h. logged_names _ σ.seat.actor c.log c'.log c.noted c'.noted _ logs.steps logs.logs (record { name = record { page = region.page; aligned = region.aligned; turn = turn }; whole = size.0; within = size.1 }) h.entries);
   };
   outcome = record { region = region; logs = logs.logs; cache = is };
 }

@@ -1,8 +1,5 @@
-mod Locals
 pub mod Resting
-pub mod Stops
-mod Obtained
-mod Served
+pub mod Obtained
 pub mod Routes
 pub mod FlushesAndFrees
 pub mod Budget

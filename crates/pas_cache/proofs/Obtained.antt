@@ -1,41 +1,136 @@
--- Slots are obtained: cached ones, or those of a refill.
-use Rattle.std.proofs.Common.{◌≡◌, Bool, ℕ, ◌==◌, true, false, List, [], ◌∷◌, ◌++◌, Ok, Err, Result, None, refl, ap, sym, ◌∙◌, subst, true≢false, ◌≢◌, ◌+◌}
-use Rattle.std.proofs.Common.{length, Some, inl, inr, arith, append_assoc, length-append, ◌*◌, ◌/◌, ◌%◌, ◌<◌, ◌≤◌, cond, Option, get_or, append-nil, All}
-use Rattle.std.proofs.Common.{MatchResult, not, ◌⊎◌, eq-eqb, eqb-true}
-use Rattle.std.specs.List.{cons_option, list_any, AllByRecursion, remove}
-use Rattle.std.specs.{Result.result_ok, List.Sorted.IsPermutation}
-use Rattle.std.proofs.lemmas.Bool.{and_parts, and_from, or_parts, or_from, false_from_ne_true, cases_eq, cases_Bool}
-use Rattle.std.proofs.{lemmas.List.Elements.All-head, lemmas.List.Elements.All-tail, Math.Bool.not-not, lemmas.Option.cond_some, lemmas.Option.none-some}
-use Rattle.std.proofs.{lemmas.List.Sorted.length_permutation}
-use Rattle.pas_profile.specs.{Classes.IsClass, Directories.IsKind, Directories.number_of, Requests.kind_of_class, Profiles.IsPage}
-use Rattle.pas_profile.specs.declared.{directory.Directory.Directory, event.NoRoom.NoRoom, profile.Profile.Profile, event.Event.Event, directory.Kind.Kind}
-use Rattle.pas_steps.specs.{Agreement.Agreed, Calls.Leads, Views.View, Views.known_deed, Views.KnowsDeed, Events.event_of, Events.events_by, Past.Once}
-use Rattle.pas_steps.specs.{Evidence.Readings, Evidence.IsAntitone, Unknown.unknown_pages, Unknown.HasRoom, Kinds.Only, Kinds.returning, Lists.Whole}
-use Rattle.pas_steps.specs.Desks.{Standing, CanCall, triples, Seat}
+-- Local allocators are stopped.
+use Rattle.std.proofs.Common.{length-append, ◌≡◌, ℕ, ◌+◌, ◌<◌, ◌≤◌, ◌==◌, true, false, List, [], ◌∷◌, ◌++◌, length, refl, ap, sym, ◌∙◌, subst, arith}
+use Rattle.std.proofs.Common.{true≢false, slice_index_or, remove, nat_le, le-leb, eqb-true, Bool, Ok, Err, Result, None, ◌≢◌, Some, inl, inr, append_assoc, ◌*◌}
+use Rattle.std.proofs.Common.{◌/◌, ◌%◌, cond, Option, get_or, append-nil, All, MatchResult, not, ◌⊎◌, eq-eqb}
+use Rattle.std.specs.{List.Sorted.IsPermutation, List.cons_option, List.list_any, List.AllByRecursion, Result.result_ok}
+use Rattle.std.proofs.lemmas.Bool.{eqb-false, and_parts, and_from, or_parts, or_from, false_from_ne_true, cases_eq, cases_Bool}
+use Rattle.std.proofs.{lemmas.List.Sorted.IsPermutation-remove, lemmas.List.Sorted.length_permutation, lemmas.List.Elements.All-head}
+use Rattle.std.proofs.{lemmas.List.Elements.All-tail, Math.Bool.not-not, lemmas.Option.cond_some, lemmas.Option.none-some}
+use Rattle.pas_steps.specs.{Views.View, Views.known_deed, Views.KnowsDeed, Calls.Calls, Calls.Leads, Kinds.Only, Kinds.returning, Agreement.Agreed}
+use Rattle.pas_steps.specs.{Events.event_of, Events.events_by, Past.Once, Evidence.Readings, Evidence.IsAntitone, Unknown.unknown_pages, Unknown.HasRoom}
+use Rattle.pas_steps.specs.{Lists.Whole}
+use Rattle.pas_profile.specs.declared.{event.Event.Event, directory.Directory.Directory, event.NoRoom.NoRoom, profile.Profile.Profile, directory.Kind.Kind}
+use Rattle.pas_steps.specs.Desks.{Standing, Seat, CanCall, Adds, triples}
 use Rattle.pas_steps.specs.declared.step.{Made.Made, Step.Step, Step.TheVariants.Deed}
-use Rattle.pas_search.specs.Searches.{MaySearch, SearchRoom, IsRefused, DeedMadeHere, FromOffered, ByDeed, FewEvents}
-use Rattle.pas_segregated.specs.{Refills.Filling, Refills.GetsSlots, Refills.Refills, Stops.home_of, Stops.LeavesWhere, Stops.StopStepsAt, Masks.start_of}
+use Rattle.pas_steps.proofs.Adding.{adds_none, adds_under, can_call, agreed_first, agreed_later, triples_append}
+use Rattle.pas_steps.proofs.Apart.{only_both, only_within, no_events, events_same}
+use Rattle.pas_steps.proofs.{Called.call_none, Called.call_then, Called.next_call, SpareRoom.Spares, SpareRoom.spare_falls, Unknown.unknown_no_more}
+use Rattle.pas_steps.proofs.{Unknown.unknown_less, Unknown.room_after, Frames.events_append, Frames.deed_stays, Events.each_event}
+use Rattle.pas_rights.specs.PutsBack.{giving_back, BackSteps}
+use Rattle.pas_segregated.specs.Stops.{home_of, StopStepsAt, MayStopAt, StopsAt, LeavesWhere}
 use Rattle.pas_segregated.specs.declared.slots.Slots.{Slots}
-use Rattle.pas_cache.specs.Locals.{keeps_right, any_keeps, is_for, local_for, IsLocal, RestsWith, others_than, HasOneEach, IsPlaceOf}
-use Rattle.pas_cache.specs.Parts.{MayObtain, IsFoundFor, Releases, StopsPlace, BringsCached, Obtains, StandsLast, IsToldOf}
+use Rattle.pas_cache.specs.Changes.{StopsFirst, StopsEach, IsShortened, LeavesSpent, IsTakenOut}
+use Rattle.pas_cache.specs.Kinds.{releasing}
+use Rattle.pas_cache.specs.Locals.{IsLocal, RestsWith, any_keeps, is_for, local_for, others_than, HasOneEach, IsPlaceOf}
+use Rattle.pas_cache.specs.Parts.{Rests, Releases, StopsPlace, MayObtain, IsFoundFor, BringsCached, Obtains, StandsLast, IsToldOf}
+use Rattle.pas_cache.proofs.Resting.{at_end, none_found, none_any, found_passes, at_place, none_left, here, may_stop, rests_stopped, rests_reordered}
+use Rattle.pas_cache.proofs.Resting.{rests_gained, rests_kept}
+use Rattle.pas_profile.specs.{Classes.IsClass, Directories.IsKind, Requests.kind_of_class, Profiles.IsPage}
+use Rattle.pas_search.specs.Searches.{MaySearch, SearchRoom, IsRefused, DeedMadeHere, FromOffered, ByDeed, FewEvents}
+use Rattle.pas_segregated.specs.{Refills.Filling, Refills.GetsSlots, Refills.Refills, Masks.start_of}
 use Rattle.pas_cache.specs.Serves.{IsFilling, IsRefill, IsFew, IsPreparing, MakesPlace, HasNoneCached}
-use Rattle.pas_cache.proofs.Locals.{none_found, none_any, found_passes, at_place, none_left}
-use Rattle.pas_cache.proofs.Resting.{rests_gained, rests_kept, here, rests_reordered}
 use Rattle.pas_profile.proofs.Codecs.{same_from_deed_word, same_parts, deed_word_of-positive}
-use Rattle.pas_steps.proofs.{Unknown.unknown_no_more, Unknown.unknown_less, Unknown.room_after, Frames.events_append, Kept.deed_stays, Apart.no_events}
-use Rattle.pas_steps.proofs.{Apart.events_same, Events.each_event, Called.call_none}
-use Rattle.pas_steps.proofs.Adding.{agreed_first, agreed_later, adds_under, triples_append, adds_none, can_call}
 use Rattle.pas_search.specs.Kinds.{AreQuiet, IsDeedOrBack, EventsAt, IsQuiet}
 use Rattle.pas_search.proofs.ForBackEnds.{events_quiet}
-use Rattle.pas_cache.specs.Kinds.{releasing}
 use Rattle.pas_core.proofs.OneActor.{free_stays, offered_stays, deed_same}
 use Rattle.pas_core.specs.{Fits.HasNoFit, Rights.free_of_page}
 use Rattle.pas_bits.specs.Masks.{is_set, IsEmpty, HasMember}
 use Rattle.pas_search.specs.Telling.{IsTold}
-use Rattle.pas_rights.specs.PutsBack.{BackSteps}
 use Rattle.pas_segregated.proofs.Starts.{start_below}
-use Rattle.pas_cache.specs.Changes.{LeavesSpent, StopsFirst, IsTakenOut, IsShortened}
-use Rattle.pas_cache.proofs.Stops.{releases_as, releases_none, releases_then, rests_then}
+
+-- ---- the one at a place is stopped
+module _ {σ : Standing} {locals : List Slots} {place : ℕ} {slots : Slots} {rest : List Slots} (lt : place < length locals)
+    (at : slots ≡ slice_index_or locals place slots) (is : rest ≡ remove locals place) (can : CanCall σ (RestsWith σ.seat.profile locals)) where
+  -- An actor that rests with the others rests with this one, too, as it was.
+  first : (v : View) → RestsWith σ.seat.profile locals v → RestsWith σ.seat.profile (slots ∷ rest) v
+  first v = rests_reordered _ locals _ (subst (λ ys. IsPermutation locals (slots ∷ ys)) (sym is) (IsPermutation-remove locals place slots lt at)) v
+
+  -- A cache at rest knows of the local allocator at a place what a local allocator is.
+  pub local_of : IsLocal σ.seat.profile can.view slots
+  local_of = here σ.seat.profile slots rest can.view (first can.view can.met)
+
+  -- The first local allocator may be stopped.
+  may : (v : View) → RestsWith σ.seat.profile locals v → MayStopAt (home_of slots) slots v
+  may v h = may_stop σ.seat.profile slots rest v (first v h)
+
+  -- A cache at rest may stop the local allocator at a place.
+  pub may_call : CanCall σ (MayStopAt (home_of slots) slots)
+  may_call = can_call adds_none can (λ v l stood met. may v met)
+
+  -- A stop of the local allocator at a place takes it out of its list.
+  pub stops_place : {σ' : Standing} → StopsAt (home_of slots) slots σ σ' → StopsPlace place locals rest σ σ'
+  stops_place stops = record {
+    slots = slots;
+    at = at;
+    fewer = is;
+    stops = record {
+      steps = stops.steps;
+      calls = record {
+        adds = adds_under stops.calls.adds (λ v l stood met. may v met);
+        leads = record { from = λ v h agreed. rests_stopped _ slots rest v (first v h) stops.steps (stops.calls.leads.from v (may v h) agreed) agreed };
+      };
+      change = record { order = stops.order; few = stops.few };
+      kinds = only_within giving_back releasing stops.steps refl stops.kinds;
+    };
+  }
+
+-- Local allocators that were released in some way are released in each weaker one.
+pub releases_as : {σ σ' : Standing} {C D : List Made → Type 0} {locals locals' : List Slots} → Releases C locals locals' σ σ'
+    → ((steps : List Made) → C steps → D steps) → Releases D locals locals' σ σ'
+releases_as r by = record { steps = r.steps; calls = r.calls; change = by r.steps r.change; kinds = r.kinds }
+
+abbrev pub releases_none : {σ : Standing} (Change : List Made → Type 0) (locals : List Slots) → Change [] → Releases Change locals locals σ σ
+releases_none Change locals change = record { steps = []; calls = call_none (λ v h. h); change = change; kinds = tt }
+
+-- ---- steps without events leave the room
+pub spare_kept : {σ σ' : Standing} {C : View → Type 0} {xs : List Made} {spare spare' : ℕ} → Adds σ σ' C xs → CanCall σ C → Only releasing xs
+    → Spares σ spare → Spares σ' spare' → spare' ≡ spare
+spare_kept {σ} {C = C} {xs} {spare} {spare'} adds can kinds law law' =
+    let e = spare_falls {C = C} _ spare' 0 adds can law law' (ap (λ (es : List Event). length es) (no_events releasing refl σ.seat.actor can.view xs kinds)) in omega (arith, e)
+
+-- ---- the first one of a full list
+first_stopped : (locals kept : List Slots) (oldest : Slots) (steps : List Made) → (length locals == 32) ≡ true → oldest ≡ slice_index_or locals 0 oldest
+    → kept ≡ remove locals 0 → StopStepsAt (home_of oldest) oldest steps → StopsFirst (nat_le 32 (length locals)) locals kept steps
+first_stopped locals kept oldest steps full at is stops = grind (arith, true≢false, eqb-true, le-leb)
+
+-- A full list is shortened by a stop of its oldest local allocator.
+pub shortens_full : {σ σ' : Standing} {locals kept : List Slots} → (length locals == 32) ≡ true → StopsPlace 0 locals kept σ σ'
+    → Releases (IsShortened locals kept) locals kept σ σ'
+shortens_full {locals = locals} {kept = kept} full h = releases_as h.stops (λ steps one. record { first = first_stopped _ kept h.slots _ full h.at h.fewer one.order; few = one.few })
+
+-- A list that isn't full stays as it is when it is to be shortened.
+pub shortens_none : (locals : List Slots) → (length locals == 32) ≡ false → length locals ≤ 32 → IsShortened locals locals []
+shortens_none locals other le = grind (arith, eqb-false)
+
+-- ---- one call after another
+module _ {σ σ1 : Standing} {First : List Made → Type 0} (locals kept : List Slots) (one : Releases First locals kept σ σ1) where
+  -- After some local allocators were released, the cache rests with those that are kept.
+  pub rests_call : CanCall σ (RestsWith σ.seat.profile locals) → CanCall σ1 (RestsWith σ1.seat.profile kept)
+  rests_call can = next_call one.calls can (λ v h here. subst (λ (s : Seat). RestsWith s.profile kept (one.steps ++ v)) (sym one.calls.adds.seat_is) here)
+
+  -- Two releases one after the other are one, and the cache rests then.
+  pub rests_then : {σ2 : Standing} (rest : List Slots) (ys : List Made) → Rests kept rest σ1 σ2 ys → Rests locals rest σ σ2 (ys ++ one.steps)
+  rests_then {σ2} rest ys two = call_then (λ v w. RestsWith σ.seat.profile rest w) one.calls (subst (λ (s : Seat). Calls σ1 σ2 (RestsWith s.profile kept)
+      (λ v w. RestsWith s.profile rest w) ys) one.calls.adds.seat_is two) (λ v h here. here) (λ v h here there. there)
+
+  abbrev pub releases_then : {σ2 : Standing} {Next : List Made → Type 0} (Change : List Made → Type 0) (rest : List Slots) (two : Releases Next kept rest σ1 σ2)
+      → Change (two.steps ++ one.steps) → Releases Change locals rest σ σ2
+  releases_then Change rest two change = record { steps = two.steps ++ one.steps; calls = rests_then rest two.steps two.calls; change = change; kinds = only_both releasing two.steps one.steps two.kinds one.kinds }
+
+-- ---- all are stopped, the last one first
+pub popped : {σ σ' : Standing} {locals rest : List Slots} {place : ℕ} → place + 1 ≡ length locals → (h : StopsPlace place locals rest σ σ')
+    → locals ≡ rest ++ h.slots ∷ []
+popped {locals = locals} {rest = rest} {place = place} last h = at_end _ _ h.slots last ∙ (ap (λ xs. xs ++ slice_index_or locals place h.slots ∷ []) (sym h.fewer) ∙ ap (λ s. rest ++ s ∷ []) (sym h.at))
+
+-- One more stopped local allocator is one more of those that were stopped.
+pub stops_more : {σ σ1 σ2 : Standing} {place : ℕ} (locals kept rest stopped : List Slots) → (one : Releases (StopsEach stopped) locals kept σ σ1)
+    → (h : StopsPlace place kept rest σ1 σ2) → Releases (StopsEach (h.slots ∷ stopped)) locals rest σ σ2
+stops_more locals kept rest stopped one h =
+    let two = h.stops in
+    let n = length-append two.steps one.steps in
+    releases_then _ _ one _ _ two (record { order = (two.steps, one.steps, two.change.order, one.change.order, refl); few = omega (arith, n, two.change.few, one.change.few) })
+
+-- ==== Slots are obtained: cached ones, or those of a refill.
 
 -- ==== Slots come by a refill.
 
@@ -43,6 +138,7 @@ use Rattle.pas_cache.proofs.Stops.{releases_as, releases_none, releases_then, re
 unshared : (shared : Bool) (a b : ℕ) → Kind.Class a ≡ kind_of_class shared b → a ≡ b
 unshared shared a b h = grind arith
 
+-- The right is kept just where the heap isn't shared, since the kinds of pages differ.
 kept_by : (right shared : Bool) (a b : ℕ) → kind_of_class (not right) a ≡ kind_of_class shared b → right ≡ not shared
 kept_by right shared a b h = grind arith
 
@@ -58,12 +154,11 @@ no_right_in : (f : Profile) (v : View) (d : Directory) (test : Slots → Bool) �
     → (p : ℕ) → KnowsDeed p d v → any_keeps locals p ≡ false
 no_right_in f v d test is all_there [] all none p of = refl
 no_right_in f v d test is all_there (first ∷ rest) all none p of =
-    let others = or_parts (test first) (list_any test rest) none in
+    let others = or_parts _ _ none in
     let at : IsLocal f v first = All-head (IsLocal f v) first rest all in
-    or_from (keeps_right first p) (any_keeps rest p)
-    (false_from_ne_true (keeps_right first p) (λ keeps.
+    or_from _ _ (false_from_ne_true _ (λ keeps.
     let both = and_parts first.right (first.page == p) keeps in
-    true≢false (sym (all_there first both.0 (same_from_deed_word (home_of first) d at.directory.kind is (sym at.deed ∙ (ap (known_deed v) (eqb-true first.page p both.1) ∙ of)))) ∙ others.0)))
+    true≢false (sym (all_there first both.0 (same_from_deed_word _ d at.directory.kind is (sym at.deed ∙ (ap (known_deed v) (eqb-true first.page p both.1) ∙ of)))) ∙ others.0)))
     (no_right_in f v d test is all_there rest (All-tail (IsLocal f v) first rest all) others.1 p of)
 
 -- nor of a page of a kind that no class has
@@ -74,13 +169,13 @@ no_test (s ∷ rest) = no_test rest
 -- A thread keeps no page of a directory whose kind is that of no class.
 pub no_right_of : (f : Profile) (v : View) (d : Directory) → IsKind d.kind → ((shared : Bool) (class : ℕ) → kind_of_class shared class ≡ d.kind → ⊥)
     → (locals : List Slots) → All (IsLocal f v) locals → (p : ℕ) → KnowsDeed p d v → any_keeps locals p ≡ false
-no_right_of f v d is no_class locals known p of = no_right_in f v d (λ s. false) is (λ slots right home. absurd (no_class (not slots.right) slots.class (ap (λ (h : Directory). h.kind) home))) locals known (no_test locals) p of
+no_right_of f v d is no_class locals known p of = no_right_in f v d (λ s. false) is (λ slots right home. absurd (no_class (not slots.right) slots.class (ap (λ (h : Directory). h.kind) home))) _ known (no_test locals) p of
 
 -- A cache that rests without a local allocator of the heap and class may search the pages of the class's home.
 pub may_search : (f : Profile) (v : View) (fill : Filling) (locals : List Slots) → IsFilling f fill → local_for fill.directory.heap fill.class locals ≡ None
     → RestsWith f locals v → MaySearch fill.directory v
 may_search f v fill locals is none h = record {
-  rights = λ p of. h.rights p ∙ no_right_in f v fill.directory (is_for fill.directory.heap fill.class) is.directory.kind (is_one f fill is) locals h.known (none_found (is_for fill.directory.heap fill.class) locals none).any p of;
+  rights = λ p of. h.rights p ∙ no_right_in f v fill.directory _ is.directory.kind (is_one f fill is) locals h.known (none_found _ locals none).any p of;
   clear = h.clear;
 }
 
@@ -88,13 +183,14 @@ may_search f v fill locals is none h = record {
 pub search_call : {σ : Standing} {n spare : ℕ} (fill : Filling) (locals : List Slots) → IsFilling σ.seat.profile fill
     → local_for fill.directory.heap fill.class locals ≡ None → CanCall σ (MayObtain σ.seat.profile n spare locals)
     → CanCall σ (SearchRoom σ.seat.profile fill.directory n spare)
-search_call {σ} fill locals is none can = can_call adds_none can (λ v l stood met. record { may = may_search σ.seat.profile v fill locals is none met.rest; room = met.room })
+search_call {σ} fill locals is none can = can_call adds_none can (λ v l stood met. record { may = may_search _ v _ _ is none met.rest; room = met.room })
 
 -- ---- what a refill says, by its answer
 refill_of : {σ σ' : Standing} (fill : Filling) (tells : Bool) (answer : Result Slots NoRoom) → (h : Refills fill tells σ σ' answer)
     → IsRefill fill σ.seat.profile (h.after ++ h.searched) answer
 refill_of fill tells answer h = record { searched = h.searched; searches = h.searches; few = h.few; after = h.after; outcome = h.outcome; steps_are = refl }
 
+-- What a refill served is what it found; of a refusal nothing is to be shown.
 found_by : (fill : Filling) (f : Profile) (steps : List Made) (answer : Result Slots NoRoom) → IsRefill fill f steps answer
     → MatchResult answer (IsFoundFor fill) (λ room. Unit {0})
 found_by fill f steps answer refill = grind arith
@@ -130,9 +226,9 @@ rests_refilled f fill locals is none steps v h agreed (Ok slots) refill =
     rests_gained f d slots locals steps v h gains agreed
     (search (arith, kept_by))
     (ap (λ n. local_for n slots.class locals) heap ∙ (ap (λ n. local_for d.heap n locals) s.class_is ∙ none))
-    (λ later page at. no_right_in f (steps ++ v) d (is_for d.heap fill.class) is.directory.kind (is_one f fill is) locals later (none_found (is_for d.heap fill.class) locals none).any page
+    (λ later page at. no_right_in f _ d _ is.directory.kind (is_one f fill is) locals later (none_found _ locals none).any page
     (subst (λ p. KnowsDeed p d (steps ++ v)) (eqb-true slots.page page at) gains.may_stop.deed))
-rests_refilled f fill locals is none steps v h agreed (Err room) refill = rests_kept f locals steps v ((refusal refill).still.from v (may_search f v fill locals is none h) agreed) agreed h
+rests_refilled f fill locals is none steps v h agreed (Err room) refill = rests_kept f _ _ v ((refusal refill).still.from v (may_search f v fill locals is none h) agreed) agreed h
 
 -- ==== Which events a refill makes, and how many.
 
@@ -169,16 +265,17 @@ found_few : (fill : Filling) (f : Profile) (steps : List Made) (found : Result S
 found_few fill f steps (Ok slots) h k v may agreed =
     let s = h.outcome in
     let same = ap length (refill_events h k v) in
-    chosen_few fill.no_fit f fill.directory slots.page h.searched steps s.page s.choice s.few k v (agreed_later f v h.after h.searched (subst (Agreed f v) h.steps_are agreed)) agreed ((refill_leads h).from v may agreed).may_stop.deed 0 (omega (arith, same))
+    chosen_few fill.no_fit f fill.directory slots.page h.searched _ s.page s.choice s.few k v (agreed_later f v h.after h.searched
+    (subst (Agreed f v) h.steps_are agreed)) agreed ((refill_leads h).from v may agreed).may_stop.deed 0 (omega (arith, same))
 found_few fill f steps (Err room) h k v may agreed = silent_few f k steps v (refusal h).quiet agreed
 
 -- after steps without events
 refill_few : (fill : Filling) (f : Profile) (ys xs : List Made) (found : Result Slots NoRoom) → IsRefill fill f ys found → Only releasing xs
     → (k : ℕ) (v : View) → MaySearch fill.directory (xs ++ v) → Agreed f v (ys ++ xs) → IsFew f 1 k (ys ++ xs) v
 refill_few fill f ys xs found refill kinds k v may agreed =
-    let here = found_few fill f ys found refill k (xs ++ v) may (agreed_first f v ys xs agreed) in
+    let here = found_few fill f ys found refill k _ may (agreed_first f v ys xs agreed) in
     let before = unknown_no_more f xs v (agreed_later f v ys xs agreed) in
-    let split : length (events_by k v (ys ++ xs)) ≡ length (events_by k (xs ++ v) ys) + length (events_by k v xs) = ap length (events_append k ys xs v) ∙ length-append (events_by k (xs ++ v) ys) (events_by k v xs) in
+    let split : length (events_by k v (ys ++ xs)) ≡ length (events_by k (xs ++ v) ys) + length (events_by k v xs) = ap length (events_append k ys xs v) ∙ length-append _ _ in
     let none : length (events_by k v xs) ≡ 0 = ap length (no_events releasing refl k v xs kinds) in
     let same : unknown_pages f ((ys ++ xs) ++ v) ≡ unknown_pages f (ys ++ (xs ++ v)) = ap (unknown_pages f) (append_assoc ys xs v) in
     record { paid = omega (arith, here.paid, before, split, none, same); most = omega (arith, here.most, split, none) }
@@ -191,8 +288,8 @@ one_prepared d k page epoch s a e IsDeedOrBack.Backs is = subst (IsPreparing d) 
 -- The events of a search at one page are deeds of its directory and backs.
 pub prepared : (d : Directory) (page : ℕ) (steps : List Made) → EventsAt d page steps → (k : ℕ) (v : View)
     → AllByRecursion (IsPreparing d) (events_by k v steps)
-prepared d page steps at k v = each_event (IsPreparing d) (λ m before. IsQuiet m ⊎ IsDeedOrBack d page m.step) k v
-    (λ m before epoch e which is. elim which [ inl quiet ↦ absurd (none-some e (sym (quiet k epoch) ∙ is)) | inr some ↦ one_prepared d k page epoch m.step m.answer e some is ]) steps at
+prepared d page steps at k v = each_event _ (λ m before. IsQuiet m ⊎ IsDeedOrBack d page m.step) k v
+    (λ m before epoch e which is. elim which [ inl quiet ↦ absurd (none-some e (sym (quiet k epoch) ∙ is)) | inr some ↦ one_prepared d k _ _ _ _ e some is ]) _ at
 
 -- Where no page fits after a local allocator was released, none fitted before.
 pub no_fit_before : (no_fit : Readings → Type 0) (f : Profile) (d : Directory) (k : ℕ) (xs : List Made) (l : Whole) → IsAntitone no_fit → Only releasing xs
@@ -200,8 +297,8 @@ pub no_fit_before : (no_fit : Readings → Type 0) (f : Profile) (d : Directory)
 no_fit_before no_fit f d k xs l fewer are none = record {
   offered = λ page o. none.offered page (record {
     of_region = o.of_region;
-    offered = offered_stays releasing refl k xs l (number_of d) (page / 64) (page % 64) are o.offered;
-    fits = λ unfit. o.fits (fewer (free_of_page (triples k xs ++ l) page) (free_of_page l page) (λ b lt h. free_stays releasing refl k xs l ((page * 256 + b) / 256) ((page * 256 + b) / 64 % 4) (b % 64) are h) unfit);
+    offered = offered_stays releasing refl k xs l _ _ _ are o.offered;
+    fits = λ unfit. o.fits (fewer (free_of_page (triples k xs ++ l) page) (free_of_page l page) (λ b lt h. free_stays releasing refl k xs l _ _ _ are h) unfit);
   });
   bare = λ page b. none.bare page (record { of_region = b.of_region; no_deed = deed_same releasing refl k xs l page are ∙ b.no_deed });
 }
@@ -213,13 +310,14 @@ none_in : (heap class : ℕ) (locals others : List Slots) → others ≡ others_
 none_in heap class locals others is = ap (local_for heap class) is ∙ none_left (is_for heap class) locals
 
 module _ {heap class : ℕ} {locals : List Slots} {place : ℕ} (d : Slots) (one : HasOneEach locals) (at : IsPlaceOf heap class locals place) where
+  -- The local allocator of the class is the one at this place, and the others are the rest.
   placed : (local_for heap class locals ≡ Some (get_or locals place d)) × (others_than heap class locals ≡ remove locals place)
   placed = at_place (is_for heap class) locals place d at.within (at.serves d) (one heap class)
 
   -- A local allocator with a slot, moved to the end of its list, brings a cached slot.
   pub brings : (locals' : List Slots) → HasMember (get_or locals place d).starts → locals' ≡ remove locals place ++ get_or locals place d ∷ []
       → BringsCached heap class locals locals'
-  brings locals' some is = record { slots = get_or locals place d; cached = placed.0; some = some; last = is ∙ ap (λ xs. xs ++ get_or locals place d ∷ []) (sym placed.1) }
+  brings locals' some is = record { slots = get_or _ place d; cached = placed.0; some = some; last = is ∙ ap (λ xs. xs ++ get_or locals place d ∷ []) (sym placed.1) }
 
   -- A local allocator without a slot leaves none cached of its heap and class.
   pub none_cached : IsEmpty (get_or locals place d).starts → HasNoneCached heap class locals
@@ -251,7 +349,7 @@ leaves_spent heap class {locals} {others} {place} at none can h =
     let found : local_for heap class locals ≡ Some slots = p.0 ∙ ap (λ s. Some s) (sym h.at) in
     let small : IsClass slots.class = subst (λ (s : Slots). IsClass s.class) (sym h.at) (can.met.known place slots at.within).class in
     let empty : IsEmpty slots.starts = none_empty slots (none slots found) in
-    releases_as h.stops (λ steps one. record { left = subst (λ o. LeavesSpent o steps) (sym found) (empty, spent_leaves slots steps small empty one.order); others = h.fewer ∙ sym p.1; few = one.few })
+    releases_as h.stops (λ steps one. record { left = subst (λ o. LeavesSpent o steps) (sym found) (empty, spent_leaves _ _ small empty one.order); others = h.fewer ∙ sym p.1; few = one.few })
 
 -- Where a list has no local allocator of a heap and class, none is taken out.
 pub leaves_none : {σ : Standing} (heap class : ℕ) {locals : List Slots} → list_any (is_for heap class) locals ≡ false
@@ -276,14 +374,14 @@ none_stopped heap class full locals kept steps h none = grind (arith, none_first
 -- Once the spent one was taken out and the list shortened, none of the heap and class is left.
 pub none_shortened : {heap class : ℕ} {locals others fewer : List Slots} {spent stopped : List Made} → IsTakenOut heap class locals others spent
     → IsShortened others fewer stopped → local_for heap class fewer ≡ None
-none_shortened {heap} {class} {locals} {others} {fewer} {spent} {stopped} taken short = none_stopped heap class _ others fewer stopped short.first (none_in heap class locals others taken.others)
+none_shortened {heap} {class} {locals} {others} {fewer} {spent} {stopped} taken short = none_stopped _ _ _ _ fewer stopped short.first (none_in _ _ _ _ taken.others)
 
 -- A list of which the spent one was taken out, and which was shortened then, has place.
 pub makes_place : {σ σ1 σ2 : Standing} (heap class : ℕ) (locals others fewer : List Slots) → Releases (IsTakenOut heap class locals others) locals others σ σ1
     → Releases (IsShortened others fewer) others fewer σ1 σ2 → Releases (MakesPlace heap class locals fewer) locals fewer σ σ2
 makes_place heap class locals others fewer one two =
     let n = length-append two.steps one.steps in
-    releases_then locals others one (MakesPlace heap class locals fewer) fewer two (record { spent = one.steps; kept = others; taken = one.change; stopped = two.steps; shortened = two.change; steps_are = refl; few = omega (arith, n, one.change.few, two.change.few) })
+    releases_then _ _ one _ _ two (record { spent = one.steps; kept = others; taken = one.change; stopped = two.steps; shortened = two.change; steps_are = refl; few = omega (arith, n, one.change.few, two.change.few) })
 
 -- ---- the slots that serve the request
 abbrev pub obtain_rests : {σ : Standing} {n spare : ℕ} {locals : List Slots} → CanCall σ (MayObtain σ.seat.profile n spare locals)
@@ -297,7 +395,7 @@ obtain_after {σ} {σ1} {n} {spare} {spare1} locals fewer one same can = can_cal
     let f : Profile = σ.seat.profile in
     let ok : Agreed f v one.steps = one.calls.adds.agreed v l stood met.rest in
     subst (λ (s : Seat). MayObtain s.profile n spare1 fewer (one.steps ++ v)) (sym one.calls.adds.seat_is)
-    (record { rest = one.calls.leads.from v met.rest ok; room = subst (λ m. HasRoom f n m (one.steps ++ v)) (sym same) (room_after f n spare one.steps v ok met.room) }))
+    (record { rest = one.calls.leads.from v met.rest ok; room = subst (λ m. HasRoom f n m (one.steps ++ v)) (sym same) (room_after f n _ one.steps v ok met.room) }))
 
 -- the profile is the same after place was made
 pub filling_then : {σ σ1 : Standing} {fill : Filling} {First : List Made → Type 0} {locals fewer : List Slots} → Releases First locals fewer σ σ1
@@ -313,7 +411,7 @@ obtains_cached {σ} fill tells locals locals' is can fits cached =
     let class : ℕ = fill.class in
     let slots : Slots = cached.slots in
     let others : List Slots = others_than heap class locals in
-    let passes = found_passes (is_for heap class) locals slots cached.cached in
+    let passes = found_passes _ locals slots cached.cached in
     let moved : IsPermutation locals (slots ∷ others) = passes.without (can.met.apart.one_each heap class) in
     let pair = and_parts (slots.heap == heap) (slots.class == class) passes.passes in
     record {
@@ -321,10 +419,10 @@ obtains_cached {σ} fill tells locals locals' is can fits cached =
       slots = slots;
       obtains = record {
         steps = [];
-        calls = call_none (λ v h. rests_reordered σ.seat.profile locals (slots ∷ others) moved v h);
+        calls = call_none (λ v h. rests_reordered _ locals _ moved v h);
         how = inl (slots, refl, record { cached = cached.cached; some = cached.some; fewer_are = refl; no_steps = refl });
         found_for = record {
-          home = cached_home σ.seat.profile can.view fill is slots (here σ.seat.profile slots others can.view (rests_reordered σ.seat.profile locals (slots ∷ others) moved can.view can.met)) passes.passes;
+          home = cached_home _ can.view _ is slots (here σ.seat.profile slots others can.view (rests_reordered σ.seat.profile locals (slots ∷ others) moved can.view can.met)) passes.passes;
           class_is = eqb-true slots.class class pair.1;
           some = cached.some;
         };
@@ -335,6 +433,7 @@ obtains_cached {σ} fill tells locals locals' is can fits cached =
       last = cached.last;
     }
 
+-- What a refill tells is told of the whole request, served or refused.
 refill_told : (fill : Filling) (f : Profile) (locals : List Slots) (entry middle exit : Whole) (answer : Result Slots NoRoom)
     → HasNoneCached fill.directory.heap fill.class locals
     → (HasNoFit fill.no_fit f fill.directory middle → HasNoFit fill.no_fit f fill.directory entry)
@@ -360,11 +459,12 @@ obtains_refilled {σ} {σ1} {σ2} fill tells locals fewer answer is cached one n
       how = inr (record { before = xs; place = one.change; gives_back = one.kinds; rests = one.calls.leads; searched = ys; refill = refill; steps_are = refl });
       found_for = found_by fill f ys answer refill;
       place = place;
-      few = λ n v h agreed. refill_few fill f ys xs answer refill one.kinds n v (may_search f (xs ++ v) fill fewer is none (one.calls.leads.from v h (agreed_later f v ys xs agreed))) agreed;
+      few = λ n v h agreed. refill_few _ f ys xs _ refill one.kinds n v (may_search f _ _ fewer is none (one.calls.leads.from v h (agreed_later f v ys xs agreed))) agreed;
       told = λ t v l stood h.
           let middle : Whole = triples k xs ++ l in
-          let may = may_search f (xs ++ v) fill fewer is none (one.calls.leads.from v h (one.calls.adds.agreed v l stood h)) in
-          let told = subst (λ (s : Seat). IsTold (λ (x : Slots). x.page) fill.no_fit s.profile fill.directory middle (triples s.actor ys ++ middle) answer) e (two.told t (xs ++ v) middle (one.calls.adds.added v l stood h) may) in
+          let may = may_search f _ fill fewer is none (one.calls.leads.from v h (one.calls.adds.agreed v l stood h)) in
+          let told = subst (λ (s : Seat). IsTold (λ (x : Slots). x.page) fill.no_fit s.profile fill.directory middle (triples s.actor ys ++ middle) answer) e
+          (two.told t (xs ++ v) middle (one.calls.adds.added v l stood h) may) in
           subst (λ x. IsToldOf fill f locals l x answer) (triples_append k ys xs l)
-          (refill_told fill f locals l middle (triples k ys ++ middle) answer cached (no_fit_before fill.no_fit f fill.directory k xs l is.fewer one.kinds) told);
+          (refill_told fill f locals l middle _ answer cached (no_fit_before fill.no_fit f fill.directory k xs l is.fewer one.kinds) told);
     }

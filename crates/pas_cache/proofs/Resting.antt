@@ -1,29 +1,171 @@
--- An actor at rest with local allocators: what it has of each, that it is at rest again after a call, and that one gives its lowest slot.
-use Rattle.std.proofs.Common.{◌≡◌, ℕ, ◌+◌, ◌*◌, ◌/◌, ◌%◌, ◌^◌, ◌<◌, ◌≤◌, ◌==◌, true, refl, ap, sym, ◌∙◌, arith, Bool, false, ◌||◌, if◌then◌else◌, List, ◌∷◌}
-use Rattle.std.proofs.Common.{◌++◌, get_or, None, subst, true≢false, ◌&&◌, not, [], inl, eq-eqb, eqb-true, All}
-use Rattle.std.proofs.lemmas.Bool.{and_from, and_parts, or_right, false_from_ne_true, cond-false}
+-- What a test finds in a list of local allocators, and lists with one more or in another order.
+use Rattle.std.proofs.Common.{◌≡◌, ℕ, zero, suc, ◌+◌, ◌-◌, ◌<◌, ◌≤◌, Bool, true, false, not, ◌||◌, cond, List, [], ◌∷◌, ◌++◌, length, get_or, set, length-set}
+use Rattle.std.proofs.Common.{length-append, ◌⊎◌, Some, None, inl, inr, refl, ap, sym, ◌∙◌, subst, arith, true≢false, ◌*◌, ◌/◌, ◌%◌, ◌^◌, ◌==◌, if◌then◌else◌}
+use Rattle.std.proofs.Common.{◌&&◌, eq-eqb, eqb-true, All}
+use Rattle.std.specs.List.{list_any, find, filter, count_by, remove, refill}
+use Rattle.std.proofs.{lemmas.List.get_or-append_right, lemmas.List.set-append_right, lemmas.List.Sums.sum_by-cons, lemmas.List.Elements.All-head}
+use Rattle.std.proofs.{lemmas.List.Elements.All-tail, lemmas.List.Elements.All-cons, lemmas.List.Recursion.or_at, Math.Bool.and-false}
+use Rattle.std.proofs.lemmas.Bool.{cases_Bool, and_from, and_parts, or_right, false_from_ne_true, cond-false}
+use Rattle.std.proofs.lemmas.List.Sorted.{IsPermutation-cons, IsPermutation-trans, IsPermutation-middle, All-permutation, sum_by-IsPermutation}
+use Rattle.std.proofs.lemmas.List.Sorted.{list_any-IsPermutation}
+use Rattle.arrayvec.proofs.ArrayVecLemmas.{items-with_items}
+use Rattle.std.specs.List.Sorted.{IsPermutation}
 use Rattle.pas_profile.specs.{Classes.IsClass, Classes.class_grains, Classes.IsSlotStart, Blocks.grain_of, Blocks.length_of}
 use Rattle.pas_bits.specs.{Runs.in_run, Masks.is_set, Masks.IsLowestSet, Masks.HasMember}
 use Rattle.pas_profile.specs.declared.{name.Block.Block, profile.Profile.Profile, directory.Directory.Directory, word.Word.Word}
-use Rattle.pas_profile.proofs.{ClassFacts.class_size_whole, ClassFacts.class_grains_positive, ClassFacts.slot_end, Codecs.deed_word_of-positive}
+use Rattle.pas_profile.proofs.{Sizes.class_size_whole, Sizes.class_grains_positive, Sizes.slot_end, Codecs.deed_word_of-positive}
 use Rattle.pas_bits.proofs.Runs.{run_of, to_run}
 use Rattle.pas_rights.specs.Gives.{MayGive, give_steps, GivesRun}
 use Rattle.pas_rights.proofs.Gives.{may_give_on}
-use Rattle.pas_steps.specs.{Desks.Standing, Desks.CanCall, Desks.made, Agreement.Agreed, Views.View, Views.holds, Views.knows_backed}
-use Rattle.pas_steps.proofs.{Called.call_as, Kept.deed_stays, Calls.does_then, Calls.does_as, Calls.does_step, Sets.given_fate}
+use Rattle.pas_steps.specs.{Desks.Standing, Desks.CanCall, Agreement.Agreed, Views.View, Views.holds, Views.knows_backed}
+use Rattle.pas_steps.proofs.{Called.call_as, Frames.deed_stays, Calls.does_then, Calls.does_as, Calls.does_step, Sets.given_fate}
 use Rattle.pas_segregated.specs.Stops.{home_of, of_slots, MayStopAt, home_by}
 use Rattle.pas_segregated.specs.declared.slots.Slots.{Slots}
 use Rattle.pas_segregated.proofs.Starts.{start_at, start_below}
 use Rattle.pas_cache.specs.Locals.{covers, keeps_right, any_covers, any_keeps, is_for, local_for, IsLocal, AreApart, RestsWith}
 use Rattle.pas_cache.specs.{Changes.IsWithoutSlot, Changes.GivesSlot, Parts.MayGiveSlot, Parts.GivesLowest}
-use Rattle.std.specs.List.{list_any, count_by, Sorted.IsPermutation}
-use Rattle.std.proofs.{lemmas.List.Elements.All-head, lemmas.List.Elements.All-tail, lemmas.List.Elements.All-cons, lemmas.List.Recursion.or_at}
-use Rattle.std.proofs.{lemmas.List.Sorted.All-permutation, lemmas.List.Sorted.sum_by-IsPermutation, lemmas.List.Sorted.list_any-IsPermutation}
-use Rattle.std.proofs.{Math.Bool.and-false}
 use Rattle.pas_steps.specs.Calls.{Effect, Fate, Kept, Gained, Lost, now, nothing, ClearAfter, Does}
 use Rattle.pas_steps.specs.declared.step.{Made.Made, Step.TheVariants.Look, Step.TheVariants.Give}
 use Rattle.pas_segregated.specs.{Refills.got, Refills.GetsSlots, Masks.start_of}
-use Rattle.pas_cache.proofs.Locals.{none_found, no_other, one_more, one_fewer}
+
+abbrev one_if : Bool → ℕ
+one_if t = cond t 1 0
+
+module _ {X : Type 0} (test : X → Bool) where
+  -- none passes the test, or the first that does is found
+  pub record NonePasses (xs : List X) : Type 0 where
+    pub found : find test xs ≡ None
+    pub any : list_any test xs ≡ false
+    pub count : count_by test xs ≡ 0
+    -- The other local allocators are as they were.
+    pub others : filter (λ x. not (test x)) xs ≡ xs
+
+  pub record Passes (xs : List X) (x : X) : Type 0 where
+    pub found : find test xs ≡ Some x
+    pub any : list_any test xs ≡ true
+    pub count : 1 ≤ count_by test xs
+    pub passes : test x ≡ true
+    pub without : count_by test xs ≤ 1 → IsPermutation xs (x ∷ filter (λ y. not (test y)) xs)
+
+  -- One more element counts where it passes the test.
+  counted : (x : X) (xs : List X) → count_by test (x ∷ xs) ≡ cond (test x) 1 0 + count_by test xs
+  counted x xs = sum_by-cons (λ y. cond (test y) 1 0) x xs
+
+  counted_is : (x : X) (xs : List X) → test x ≡ true → count_by test (x ∷ xs) ≡ 1 + count_by test xs
+  counted_is x xs is = counted x xs ∙ ap (λ t. cond t 1 0 + count_by test xs) is
+
+  counted_not : (x : X) (xs : List X) → test x ≡ false → count_by test (x ∷ xs) ≡ count_by test xs
+  counted_not x xs isnt = let n = counted x xs in let none = ap one_if isnt in omega (arith, n, none)
+
+  none_passes : (x : X) (xs : List X) → test x ≡ false → NonePasses xs → NonePasses (x ∷ xs)
+  none_passes x xs isnt h = search (arith, counted_not)
+
+  first_passes : (x : X) (xs : List X) → test x ≡ true → (count_by test xs ≡ 0 → NonePasses xs) → Passes (x ∷ xs) x
+  first_passes x xs is none = search (arith, counted_is)
+
+  later_passes : (x : X) (xs : List X) (y : X) → test x ≡ false → Passes xs y → Passes (x ∷ xs) y
+  later_passes x xs y isnt h =
+      let n = counted_not x xs isnt in
+      record {
+        found = ap (λ t. cond t (Some x) (find test xs)) isnt ∙ h.found;
+        any = ap (λ t. t || list_any test xs) isnt ∙ h.any;
+        count = omega (arith, n, h.count);
+        passes = h.passes;
+        without = λ one.
+            let others : List X = filter (λ z. not (test z)) xs in
+            let keeps : filter (λ z. not (test z)) (x ∷ xs) ≡ x ∷ others = ap (λ t. cond (not t) (x ∷ others) others) isnt in
+            subst (λ ys. IsPermutation (x ∷ xs) (y ∷ ys)) (sym keeps)
+            (IsPermutation-trans (x ∷ xs) (x ∷ y ∷ others) (y ∷ x ∷ others) (IsPermutation-cons x xs (y ∷ others) (h.without (omega (arith, n, one)))) (IsPermutation-middle (x ∷ []) y others));
+      }
+
+  -- None of a list passes the test, or some element does.
+  passing : (xs : List X) → NonePasses xs ⊎ ((x : X) × Passes xs x)
+  passing [] = inl (record { found = refl; any = refl; count = refl; others = refl })
+  passing (x ∷ xs) = elim (cases_Bool _) [
+    | inl is ↦ inr (x, first_passes x xs is (λ zero_there. elim (passing xs) [ inl none ↦ none | inr some ↦ absurd (omega (arith, some.1.count, zero_there)) ]))
+    | inr isnt ↦ elim (passing xs) [ inl none ↦ inl (none_passes x xs isnt none) | inr some ↦ inr (some.0, later_passes x xs some.0 isnt some.1) ]
+  ]
+
+  -- by what is known of the list
+  pub none_found : (xs : List X) → find test xs ≡ None → NonePasses xs
+  none_found xs h = elim (passing xs) [ inl none ↦ none | inr some ↦ let found = some.1.found in cc ]
+
+  -- Where a list has none that passes the test, nothing in it passes.
+  pub none_any : (xs : List X) → list_any test xs ≡ false → NonePasses xs
+  none_any xs h = elim (passing xs) [ inl none ↦ none | inr some ↦ absurd (true≢false (sym some.1.any ∙ h)) ]
+
+  none_count : (xs : List X) → count_by test xs ≡ 0 → NonePasses xs
+  none_count xs h = elim (passing xs) [ inl none ↦ none | inr some ↦ absurd (omega (arith, some.1.count, h)) ]
+
+  -- What is found in a list passes the test.
+  pub found_passes : (xs : List X) (x : X) → find test xs ≡ Some x → Passes xs x
+  found_passes xs x h = elim (passing xs) [ inl none ↦ let found = none.found in cc | inr some ↦ let found = some.1.found in subst (Passes xs) (cc) some.1 ]
+
+  -- ---- of a list with one more
+  pub no_other : (x : X) (xs : List X) → count_by test (x ∷ xs) ≤ 1 → test x ≡ true → list_any test xs ≡ false
+  no_other x xs one is = let n = counted_is x xs is in (none_count xs (omega (arith, n, one))).any
+
+  -- One more in a list, of which none passed if it does, leaves at most one that passes.
+  pub one_more : (x : X) (xs : List X) → (test x ≡ true → list_any test xs ≡ false) → count_by test xs ≤ 1 → count_by test (x ∷ xs) ≤ 1
+  one_more x xs other one = elim (cases_Bool _) [
+    | inl is ↦ let n = counted_is x xs is in let none = (none_any xs (other is)).count in omega (arith, n, none)
+    | inr isnt ↦ let n = counted_not x xs isnt in omega (arith, n, one)
+  ]
+
+  -- A list of which at most one passes has at most one without its first.
+  pub one_fewer : (x : X) (xs : List X) → count_by test (x ∷ xs) ≤ 1 → count_by test xs ≤ 1
+  one_fewer x xs one = let n = counted x xs in omega (arith, n, one)
+
+  -- the one at a place
+  pub at_place : (xs : List X) (place : ℕ) (d : X) → place < length xs → test (get_or xs place d) ≡ true → count_by test xs ≤ 1
+      → (find test xs ≡ Some (get_or xs place d)) × (filter (λ y. not (test y)) xs ≡ remove xs place)
+  at_place [] place d lt is one = absurd (omega arith)
+  at_place (x ∷ xs) zero d lt is one =
+      let n = counted_is x xs is in
+      (ap (λ t. cond t (Some x) (find test xs)) is, ap (λ t. cond (not t) (x ∷ filter (λ y. not (test y)) xs) (filter (λ y. not (test y)) xs)) is ∙ (none_count xs (omega (arith, n, one))).others)
+  at_place (x ∷ xs) (suc place) d lt is one =
+      let later = at_place xs place d (omega (arith, lt)) is (one_fewer x xs one) in
+      elim (cases_Bool _) [
+        | inl passes ↦ let n = counted_is x xs passes in let none = none_count xs (omega (arith, n, one)) in let found = none.found in let other = later.0 in absurd (cc)
+        | inr fails ↦ (ap (λ t. cond t (Some x) (find test xs)) fails ∙ later.0, ap (λ t. cond (not t) (x ∷ filter (λ y. not (test y)) xs) (filter (λ y. not (test y)) xs)) fails ∙ ap (λ ys. x ∷ ys) later.1)
+      ]
+
+  -- those that don't pass
+  pub none_left : (xs : List X) → find test (filter (λ x. not (test x)) xs) ≡ None
+  none_left [] = refl
+  none_left (x ∷ xs) = elim (cases_Bool _) [
+    | inl is ↦ ap (λ t. find test (cond (not t) (x ∷ filter (λ y. not (test y)) xs) (filter (λ y. not (test y)) xs))) is ∙ none_left xs
+    | inr isnt ↦ ap (λ t. find test (cond (not t) (x ∷ filter (λ y. not (test y)) xs) (filter (λ y. not (test y)) xs))) isnt
+        ∙ ap (λ t. cond t (Some x) (find test (filter (λ y. not (test y)) xs))) isnt ∙ none_left xs
+  ]
+
+-- ---- the last one
+module _ {X : Type 0} where
+  -- A list is all but its last, and that one at the end.
+  pub at_end : (xs : List X) (place : ℕ) (d : X) → place + 1 ≡ length xs → xs ≡ remove xs place ++ get_or xs place d ∷ []
+  at_end [] place d is = absurd (omega arith)
+  at_end (x ∷ []) zero d is = refl
+  at_end (x ∷ y ∷ xs) zero d is = absurd (omega arith)
+  at_end (x ∷ xs) (suc place) d is = ap (λ ys. x ∷ ys) (at_end xs place d (omega (arith, is)))
+
+  -- a write through the slice keeps the length
+  pub refill_same : (xs ys : List X) → length ys ≡ length xs → refill (length xs) xs ys ≡ ys
+  refill_same xs ys same = items-with_items (record { items = xs }) ys same
+
+  -- What stands at the last place of a list is its last one.
+  pub last_is : {xs ys : List X} {n : ℕ} (fewer : List X) (x d : X) → ys ≡ xs → xs ≡ fewer ++ x ∷ [] → n ≡ length xs → get_or ys (n - 1) d ≡ x
+  last_is {xs} {ys} {n} fewer x d same last long = search (arith, length-append, get_or-append_right)
+
+  -- A list whose last one was set to another has that one at its end.
+  pub last_set : {xs ys : List X} {n : ℕ} (fewer : List X) (x y : X) → ys ≡ xs → xs ≡ fewer ++ x ∷ [] → n ≡ length xs
+      → refill (length xs) xs (set ys (n - 1) y) ≡ fewer ++ y ∷ []
+  last_set {xs} {ys} {n} fewer x y same last long =
+      let m = ap length last ∙ length-append fewer _ in
+      let first : n - 1 - length fewer ≡ 0 = omega (arith, m, long) in
+      refill_same xs _ (length-set ys _ y ∙ ap length same)
+      ∙ (ap (λ zs. set zs (n - 1) y) (same ∙ last) ∙ (set-append_right fewer _ _ _ y refl (omega (arith, m, long)) ∙ ap (λ k. fewer ++ set (x ∷ []) k y) first))
+
+-- ==== An actor at rest with local allocators: what it has of each, that it is at rest again after a call, and that one gives its lowest slot.
 
 -- ==== The lowest slot is given.
 
@@ -71,7 +213,7 @@ module _ (slots : Slots) (start : ℕ) (lowest : IsLowestSet slots.starts 0 star
       → GivesRun slots.heap slots.page start (class_grains slots.class) block σ σ' → GivesLowest slots slots' block σ σ'
   gives_lowest {σ} slots' block is rest give = record {
     steps = give_steps slots.page start block give.word give.answer;
-    calls = call_as (λ v w. block.name.turn < 2 ^ 37) give.calls (may_give σ.seat.profile) (λ v w met gave. gave.turn);
+    calls = call_as (λ v w. block.name.turn < 2 ^ 37) give.calls (may_give _) (λ v w met gave. gave.turn);
     gives = record {
       start = start;
       lowest = lowest;
@@ -113,8 +255,8 @@ local_after f e steps v t does agreed stays at = record {
 -- What is known of local allocators stays so through steps that keep all their grains.
 pub locals_after : (f : Profile) (e : Effect) (steps : List Made) (v : View) (locals : List Slots) → Does e v (steps ++ v) → Agreed f v steps
     → ((g : ℕ) → any_covers locals g ≡ true → (holds v g ≡ true) × (e.grains g ≡ Kept)) → All (IsLocal f v) locals → All (IsLocal f (steps ++ v)) locals
-locals_after f e steps v locals does agreed stays known k d lt =
-    local_after f e steps v (get_or locals k d) does agreed (λ g here. stays g (or_at (list_any (λ t. covers t g)) (λ t. covers t g) refl (λ x xs. refl) locals k d lt here)) (known k d lt)
+locals_after f e steps v locals does agreed stays known k d lt = local_after f e _ v _ does agreed
+    (λ g here. stays g (or_at (list_any (λ t. covers t g)) (λ t. covers t g) refl (λ x xs. refl) _ k d lt here)) (known k d lt)
 
 -- ---- all of them
 -- the order doesn't matter
@@ -126,7 +268,7 @@ rests_reordered f xs ys p v h =
       rights = λ page. h.rights page ∙ list_any-IsPermutation (λ t. keeps_right t page) xs ys p;
       clear = h.clear;
       known = All-permutation (IsLocal f v) xs ys p h.known;
-      apart = record { one_each = λ heap class. few (is_for heap class) (h.apart.one_each heap class); grains = λ g. few (λ t. covers t g) (h.apart.grains g); rights = λ page. few (λ t. keeps_right t page) (h.apart.rights page) };
+      apart = record { one_each = λ heap class. few _ (h.apart.one_each heap class); grains = λ g. few _ (h.apart.grains g); rights = λ page. few _ (h.apart.rights page) };
     }
 
 -- after a call with this effect, where what the others cover and keep is what it leaves
@@ -144,14 +286,16 @@ rests_by f e steps v xs ys does grains rights clears h known apart = record {
 -- a call that does nothing
 pub rests_kept : (f : Profile) (locals : List Slots) (steps : List Made) (v : View) → Does nothing v (steps ++ v) → Agreed f v steps → RestsWith f locals v
     → RestsWith f locals (steps ++ v)
-rests_kept f locals steps v does agreed h = rests_by f nothing steps v locals locals does (λ g. refl) (λ page. refl) (λ page. refl) h (locals_after f nothing steps v locals does agreed (λ g here. (h.grains g ∙ here, refl)) h.known) h.apart
+rests_kept f locals steps v does agreed h = rests_by f nothing _ v _ _ does (λ g. refl) (λ page. refl) (λ page. refl) h (locals_after f nothing _ v _ does agreed (λ g here. (h.grains g ∙ here, refl)) h.known) h.apart
 
 unless_covered : (t : Bool) (fate : Fate) → (t ≡ true → ⊥) → (if t then fate else Kept) ≡ Kept
 unless_covered t fate isnt = cond-false t fate Kept (false_from_ne_true t isnt)
 
+-- A right that is lost leaves what the other local allocators keep.
 less : (c r : Bool) → (c ≡ true → r ≡ false) → now (if c then Lost else Kept) (c || r) ≡ r
 less c r away = grind arith
 
+-- A right that is gained is kept beside what was.
 more : (c r : Bool) → now (if c then Gained else Kept) r ≡ (c || r)
 more c r = grind arith
 
@@ -184,20 +328,23 @@ module _ (f : Profile) (slots : Slots) (rest : List Slots) (v : View) (h : Rests
   -- the others after a call that keeps what this one doesn't cover
   others_after : (e : Effect) (steps : List Made) → Does e v (steps ++ v) → Agreed f v steps → ((g : ℕ) → covers slots g ≡ false → e.grains g ≡ Kept)
       → All (IsLocal f (steps ++ v)) rest
-  others_after e steps does agreed kept = locals_after f e steps v rest does agreed (λ g there. (h.grains g ∙ or_right (covers slots g) (any_covers rest g) there, kept g (false_from_ne_true (covers slots g) (λ mine. true≢false (sym there ∙ no_other_grain g mine))))) others
+  others_after e steps does agreed kept = locals_after f e _ v _ does agreed (λ g there. (
+    h.grains g ∙ or_right (covers slots g) (any_covers rest g) there,
+    kept g (false_from_ne_true _ (λ mine. true≢false (sym there ∙ no_other_grain g mine))),
+  )) others
 
   fewer_apart : AreApart rest
   fewer_apart = record {
-    one_each = λ heap class. one_fewer (is_for heap class) slots rest (h.apart.one_each heap class);
+    one_each = λ heap class. one_fewer _ slots rest (h.apart.one_each heap class);
     grains = λ g. one_fewer (λ t. covers t g) slots rest (h.apart.grains g);
     rights = λ page. one_fewer (λ t. keeps_right t page) slots rest (h.apart.rights page);
   }
 
   -- it goes
   pub rests_stopped : (steps : List Made) → Does (of_slots slots Lost) v (steps ++ v) → Agreed f v steps → RestsWith f rest (steps ++ v)
-  rests_stopped steps does agreed = rests_by f (of_slots slots Lost) steps v (slots ∷ rest) rest does
-      (λ g. less (covers slots g) (any_covers rest g) (no_other_grain g)) (λ page. less (keeps_right slots page) (any_keeps rest page) (no_other_right page)) (λ page. refl) h
-      (others_after (of_slots slots Lost) steps does agreed (λ g outside. ap (λ t. if t then Lost else Kept) outside)) fewer_apart
+  rests_stopped steps does agreed = rests_by f _ steps v _ rest does
+      (λ g. less _ _ (no_other_grain g)) (λ page. less _ _ (no_other_right page)) (λ page. refl) h
+      (others_after _ steps does agreed (λ g outside. ap (λ t. if t then Lost else Kept) outside)) fewer_apart
 
 -- one comes
 by_page : (t right kept : Bool) → (t ≡ true → kept ≡ false) → now (if t then (if right then Gained else Lost) else Kept) kept ≡ ((right && t) || kept)
@@ -210,14 +357,16 @@ pub rests_gained : (f : Profile) (d : Directory) (slots : Slots) (rest : List Sl
     → (All (IsLocal f (steps ++ v)) rest → (page : ℕ) → (slots.page == page) ≡ true → any_keeps rest page ≡ false) → RestsWith f (slots ∷ rest) (steps ++ v)
 rests_gained f d slots rest steps v h gains agreed here none no_right =
     let e : Effect = got slots in
-    let later : All (IsLocal f (steps ++ v)) rest = locals_after f e steps v rest gains.does agreed (λ g there. (h.grains g ∙ there, unless_covered (covers slots g) Gained (λ mine. true≢false (sym (h.grains g ∙ there) ∙ gains.apart g mine)))) h.known in
-    rests_by f e steps v rest (slots ∷ rest) gains.does (λ g. more (covers slots g) (any_covers rest g)) (λ page. by_page (slots.page == page) slots.right (any_keeps rest page) (no_right later page)) (λ page. refl) h
+    let later : All (IsLocal f (steps ++ v)) rest = locals_after f e _ v _ gains.does agreed
+    (λ g there. (h.grains g ∙ there, unless_covered _ Gained (λ mine. true≢false (sym (h.grains g ∙ there) ∙ gains.apart g mine)))) h.known in
+    rests_by f e _ v _ _ gains.does (λ g. more (covers slots g) (any_covers rest g)) (λ page. by_page (slots.page == page) slots.right _ (no_right later page)) (λ page. refl) h
     (All-cons (IsLocal f (steps ++ v)) slots rest here later)
     (record {
-      one_each = λ heap class. one_more (is_for heap class) slots rest (λ is. let pair = and_parts (slots.heap == heap) (slots.class == class) is in
-          (none_found (is_for heap class) rest (ap (λ n. local_for n class rest) (sym (eqb-true slots.heap heap pair.0)) ∙ (ap (λ n. local_for slots.heap n rest) (sym (eqb-true slots.class class pair.1)) ∙ none))).any) (h.apart.one_each heap class);
+      one_each = λ heap class. one_more _ slots rest (λ is. let pair = and_parts (slots.heap == heap) (slots.class == class) is in
+          (none_found _ rest (ap (λ n. local_for n class rest) (sym (eqb-true slots.heap heap pair.0))
+          ∙ (ap (λ n. local_for slots.heap n rest) (sym (eqb-true slots.class class pair.1)) ∙ none))).any) (h.apart.one_each heap class);
       grains = λ g. one_more (λ t. covers t g) slots rest (λ mine. sym (h.grains g) ∙ gains.apart g mine) (h.apart.grains g);
-      rights = λ page. one_more (λ t. keeps_right t page) slots rest (λ keeps. no_right later page (and_parts slots.right (slots.page == page) keeps).1) (h.apart.rights page);
+      rights = λ page. one_more _ slots rest (λ keeps. no_right later page (and_parts slots.right (slots.page == page) keeps).1) (h.apart.rights page);
     })
 
 -- ==== At rest after one of them gave a slot.
@@ -230,26 +379,30 @@ given block = record { grains = λ g. if in_run (grain_of block.name) (length_of
 give_does : (f : Profile) (slots rest : Slots) (block : Block) (steps : List Made) → GivesSlot slots rest block steps → (v : View) → Agreed f v steps
     → Does (given block) v (steps ++ v)
 give_does f slots rest block steps gives v agreed =
-    let ok : Agreed f v (made (Give block) gives.answer ∷ made (Look (Word.Life slots.page gives.start)) gives.word ∷ []) = subst (Agreed f v) gives.steps_are agreed in
+    let ok = subst (Agreed f v) gives.steps_are agreed in
     subst (λ s. Does (given block) v (s ++ v)) (sym gives.steps_are)
-    (does_as (given block) (does_then (does_step f (Look (Word.Life slots.page gives.start)) gives.word v refl ok.1.0) (does_step f (Give block) gives.answer (made (Look (Word.Life slots.page gives.start)) gives.word ∷ v) refl ok.0))
-    (λ g. inl (given_fate (in_run (grain_of block.name) (length_of block) g) (grain_of block.name))) (λ page. refl) (λ page h. h))
+    (does_as _ (does_then (does_step f _ gives.word v refl ok.1.0) (does_step f _ gives.answer _ refl ok.0))
+    (λ g. inl (given_fate _ _)) (λ page. refl) (λ page h. h))
 
+-- Where no start is on the page, to leave it out changes nothing.
 unless_start : (page at set : Bool) → (page ≡ true → at ≡ true → ⊥) → (page && (not at && set)) ≡ (page && set)
 unless_start page at set h = grind arith
 
+-- A run that is lost leaves what the rest has.
 by_run : (inside had left rest : Bool) → (inside ≡ true → (left || rest) ≡ false) → (inside ≡ false → left ≡ had)
     → now (if inside then Lost else Kept) (had || rest) ≡ (left || rest)
 by_run inside had left rest gone same = grind arith
 
 module _ (f : Profile) (locals : List Slots) (slots rest : Slots) (block : Block) (steps : List Made) (gives : GivesSlot slots rest block steps) (v : View)
     (h : RestsWith f (slots ∷ locals) v) where
+  -- This one is a local allocator of the actor.
   local : IsLocal f v slots
   local = here f slots locals v h
 
   abbrev start : ℕ
   start = gives.start
 
+  -- The start is that of a slot of its class.
   slot : IsSlotStart slots.class start
   slot = local.starts start gives.lowest.set
 
@@ -266,6 +419,7 @@ module _ (f : Profile) (locals : List Slots) (slots rest : Slots) (block : Block
   covered : (g : ℕ) → covers rest g ≡ true → covers slots g ≡ true
   covered g of_rest = search (arith, and_parts, covers_rest, and_from)
 
+  -- What is left keeps the right of the same page.
   kept : (page : ℕ) → keeps_right rest page ≡ keeps_right slots page
   kept page = ap (λ r. r && (rest.page == page)) gives.rest.right ∙ ap (λ q. slots.right && (q == page)) gives.rest.page
 
@@ -278,8 +432,8 @@ module _ (f : Profile) (locals : List Slots) (slots rest : Slots) (block : Block
   inside_gone : (g : ℕ) → in_run (grain_of block.name) (length_of block) g ≡ true → (covers rest g || any_covers locals g) ≡ false
   inside_gone g inside =
       let at : InSlot slots start g = in_slot slots start g local.class slot (sym (run_is g) ∙ inside) in
-      let same : (start_here g == start) ≡ true = eq-eqb (start_here g) start (start_at slots.class start (g % 256) slot at.low at.high) in
-      let gone : covers rest g ≡ false = covers_rest g ∙ (ap (λ t. (slots.page == g / 256) && (not t && is_set slots.starts (start_here g))) same ∙ and-false (slots.page == g / 256)) in
+      let same : (start_here g == start) ≡ true = eq-eqb _ start (start_at slots.class start _ slot at.low at.high) in
+      let gone = covers_rest g ∙ (ap (λ t. (slots.page == g / 256) && (not t && is_set slots.starts (start_here g))) same ∙ and-false _) in
       ap (λ t. t || any_covers locals g) gone ∙ no_other_grain f slots locals v h g (inside_covered g inside)
 
   outside_same : (g : ℕ) → in_run (grain_of block.name) (length_of block) g ≡ false → covers rest g ≡ covers slots g
@@ -289,13 +443,13 @@ module _ (f : Profile) (locals : List Slots) (slots rest : Slots) (block : Block
       let high = below.1 in
       let p : slots.page ≡ g / 256 = eqb-true slots.page (g / 256) page in
       let s : start_here g ≡ start = eqb-true (start_here g) start at in
-      true≢false (sym (to_run (first_grain slots start) (class_grains slots.class) g (omega (arith, low, p, s)) (omega (arith, high, p, s))) ∙ (sym (run_is g) ∙ outside)))
+      true≢false (sym (to_run _ _ g (omega (arith, low, p, s)) (omega (arith, high, p, s))) ∙ (sym (run_is g) ∙ outside)))
 
   uncovered_kept : (g : ℕ) → covers slots g ≡ false → (if in_run (grain_of block.name) (length_of block) g then Lost else Kept) ≡ Kept
-  uncovered_kept g outside = unless_covered (in_run (grain_of block.name) (length_of block) g) Lost (λ inside. true≢false (sym (inside_covered g inside) ∙ outside))
+  uncovered_kept g outside = unless_covered _ Lost (λ inside. true≢false (sym (inside_covered g inside) ∙ outside))
 
   rest_kept : (g : ℕ) → covers rest g ≡ true → (if in_run (grain_of block.name) (length_of block) g then Lost else Kept) ≡ Kept
-  rest_kept g of_rest = unless_covered (in_run (grain_of block.name) (length_of block) g) Lost (λ inside. true≢false (sym (ap (λ t. t || any_covers locals g) of_rest) ∙ inside_gone g inside))
+  rest_kept g of_rest = unless_covered _ Lost (λ inside. true≢false (sym (ap (λ t. t || any_covers locals g) of_rest) ∙ inside_gone g inside))
 
   same_home : home_of rest ≡ home_of slots
   same_home = ap (λ h. home_by h rest.class rest.right) gives.rest.heap ∙ (ap (λ c. home_by slots.heap c rest.right) gives.rest.class ∙ ap (home_by slots.heap slots.class) gives.rest.right)
@@ -308,16 +462,14 @@ module _ (f : Profile) (locals : List Slots) (slots rest : Slots) (block : Block
   rests_given agreed =
       let does : Does (given block) v (steps ++ v) = give_does f slots rest block steps gives v agreed in
       let fewer : AreApart locals = fewer_apart f slots locals v h in
-      rests_by f (given block) steps v (slots ∷ locals) (rest ∷ locals) does
-      (λ g. by_run (in_run (grain_of block.name) (length_of block) g) (covers slots g) (covers rest g) (any_covers locals g) (inside_gone g) (outside_same g))
+      rests_by f _ steps v _ _ does (λ g. by_run _ _ _ _ (inside_gone g) (outside_same g))
       (λ page. ap (λ t. t || any_keeps locals page) (sym (kept page))) (λ page. refl) h
       (All-cons (IsLocal f (steps ++ v)) rest locals
-      (local_after f (given block) steps v rest does agreed (λ g of_rest. (h.grains g ∙ ap (λ t. t || any_covers locals g) (covered g of_rest), rest_kept g of_rest)) rest_before)
-      (others_after f slots locals v h (given block) steps does agreed uncovered_kept))
-      (record {
-        one_each = λ heap class. one_more (is_for heap class) rest locals (λ is. no_other (is_for heap class) slots locals (h.apart.one_each heap class) (sym (same_pair heap class) ∙ is)) (fewer.one_each heap class);
+      (local_after f _ _ v _ does agreed (λ g of_rest. (h.grains g ∙ ap (λ t. t || any_covers locals g) (covered g of_rest), rest_kept g of_rest)) rest_before)
+      (others_after f slots locals v h _ steps does agreed uncovered_kept)) (record {
+        one_each = λ heap class. one_more _ rest locals (λ is. no_other _ slots locals (h.apart.one_each heap class) (sym (same_pair heap class) ∙ is)) (fewer.one_each heap class);
         grains = λ g. one_more (λ t. covers t g) rest locals (λ of_rest. no_other_grain f slots locals v h g (covered g of_rest)) (fewer.grains g);
-        rights = λ page. one_more (λ t. keeps_right t page) rest locals (λ of_rest. no_other_right f slots locals v h page (sym (kept page) ∙ of_rest)) (fewer.rights page);
+        rights = λ page. one_more (λ t. keeps_right t page) rest locals (λ of_rest. no_other_right f _ _ v h _ (sym (kept page) ∙ of_rest)) (fewer.rights page);
       })
 
   -- the block's pages

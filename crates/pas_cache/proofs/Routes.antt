@@ -8,7 +8,7 @@ use Rattle.pas_profile.specs.{Classes.sizes_of, Classes.IsAlignment, Profiles.Is
 use Rattle.pas_profile.specs.Routes.{first_class, route_with, route_of, room_by, room_of, IsRouteOf}
 use Rattle.pas_profile.specs.declared.{directory.Route.Route, directory.Directory.Directory, event.NoRoom.NoRoom, name.Block.Block, profile.Profile.Profile}
 use Rattle.pas_profile.specs.declared.{event.Event.Event, directory.Kind.Kind}
-use Rattle.pas_profile.proofs.{Sizes.large_for, ClassFacts.bitfit_suits, ClassFacts.route_is, Codecs.deed_word_of-positive, Lists.all_both, Lists.all_map}
+use Rattle.pas_profile.proofs.{Sizes.large_for, Sizes.bitfit_suits, Sizes.route_is, Codecs.deed_word_of-positive, Lists.all_both, Lists.all_map}
 use Rattle.pas_cache.specs.Serves.{IsSmallRoute, Wanted, wanted_for, IsBlockFor, IsFew, IsSilent, IsToldBy, IsPreparing, IsDeedOf, MakesDeedsOf}
 use Rattle.pas_profile.specs.Requests.{is_shared, kind_of_class, kind_of_route, route_in, room_in}
 use Rattle.pas_bits.specs.Runs.{in_run}
@@ -21,23 +21,22 @@ use Rattle.pas_steps.proofs.Adding.{agreed_later, adds_under, agreed_first, adds
 use Rattle.pas_steps.proofs.{Apart.only_both, Apart.only_within, Apart.events_same, Calls.returns_are, Frames.events_append, Past.always_pair}
 use Rattle.pas_steps.proofs.{Unknown.unknown_no_more, Events.ComesOf, Events.comes_of, Events.each_event}
 use Rattle.pas_search.proofs.ForBackEnds.{events_quiet}
-use Rattle.pas_search.specs.{Kinds.searching, Serving.right_of, Telling.IsTold, Allocates.GaveBlock, Allocates.IsGiven}
+use Rattle.pas_search.specs.{Kinds.searching, Telling.IsTold, Allocates.GaveBlock, Allocates.IsGiven}
 use Rattle.pas_search.specs.Searches.{MaySearch, IsRefused, SearchRoom, search_steps}
 use Rattle.pas_segregated.specs.declared.slots.Slots.{Slots}
 use Rattle.pas_bitfit.specs.Allocates.{bitfit_directory, run_for, IsOfRequest, IsAllocated, Allocates}
 use Rattle.pas_bitfit.specs.Runs.{NoneFits, runs, run_at}
 use Rattle.pas_rights.specs.Gives.{give_steps}
 use Rattle.pas_rights.proofs.{Gives.covers, Orders.leave_returns}
-use Rattle.pas_cache.specs.{Caches.Cached, Caches.AtRest, Kinds.allocating}
+use Rattle.pas_cache.specs.{Caches.Cached, Caches.AtRest, Kinds.allocating, Locals.any_keeps, Locals.IsLocal, Locals.RestsWith}
 use Rattle.pas_cache.specs.Calls.{MayAllocate, Allocates as Serves, MayAllocatePages, AllocatesPages, most_events, IsNamed, MayRequestBy, MayRequest}
 use Rattle.pas_cache.specs.Calls.{AllocatesBy, AllocatesRequest}
-use Rattle.pas_cache.specs.Locals.{any_keeps, IsLocal, RestsWith, keeps_right}
 use Rattle.pas_cache.proofs.Obtained.{chosen_few, silent_few, prepared, no_right_of}
 use Rattle.pas_cache.proofs.Resting.{locals_after, rests_by, rests_kept}
 use Rattle.std.specs.List.{AllByRecursion}
 use Rattle.pas_bitfit.proofs.Aligned.{stands_aligned}
 use Rattle.pas_large.specs.Allocates.{GaveLarge, IsServedNamed, IsScanned, AllocatesLarge}
-use Rattle.pas_large.proofs.Outcomes.{MadeOf, IsGivenRun, IsRefusedRun, HasEnded, ended}
+use Rattle.pas_large.proofs.Finds.{MadeOf, IsGivenRun, IsRefusedRun, HasEnded, ended}
 use Rattle.pas_large.specs.{Claims.in_span, Finds.MayFind, Finds.FindRoom, Finds.finding, Pages.OnlyDeedsShow, Named.missed_steps, Telling.IsToldByDoor}
 use Rattle.pas_large.proofs.{Claims.in_parts, Gives.run_is, Gives.back_events, Allocates.scans_only}
 use Rattle.pas_scan.specs.Runs.{large_directory}
@@ -102,14 +101,16 @@ not_bitfit shared class same = grind arith
 
 -- A cache at rest may search the bit-fit pages of each heap.
 pub may_search_bitfit : (f : Profile) (v : View) (heap : ℕ) (locals : List Slots) → RestsWith f locals v → MaySearch (bitfit_directory heap) v
-may_search_bitfit f v heap locals rest = record { rights = λ p of. rest.rights p ∙ no_right_of f v (bitfit_directory heap) tt not_bitfit locals rest.known p of; clear = rest.clear }
+may_search_bitfit f v heap locals rest = record { rights = λ p of. rest.rights p ∙ no_right_of f v _ tt not_bitfit locals rest.known p of; clear = rest.clear }
 
+-- What isn't kept is lost without a change.
 lost_none : (t kept : Bool) → (t ≡ true → kept ≡ false) → now (if t then Lost else Kept) kept ≡ kept
 lost_none t kept none = grind arith
 
 -- ---- a block is given, or the request is refused
 abbrev pub BitfitEnds : Profile → ℕ → ℕ → ℕ → List Made → List Made → Result Block NoRoom → Type 0
-BitfitEnds f heap room align searched after answer = MatchResult answer (IsAllocated f (bitfit_directory heap) room align searched after) (λ why. IsRefused (NoneFits (run_for room align)) f (bitfit_directory heap) searched why × (after ≡ []))
+BitfitEnds f heap room align searched after answer = MatchResult answer (IsAllocated f (bitfit_directory heap) room align searched after)
+    (λ why. IsRefused (NoneFits (run_for room align)) f (bitfit_directory heap) searched why × (after ≡ []))
 
 module _ (f : Profile) (heap room align : ℕ) (locals : List Slots) (searched after : List Made) where
   abbrev bitfit_steps : List Made
@@ -128,24 +129,24 @@ module _ (f : Profile) (heap room align : ℕ) (locals : List Slots) (searched a
   bitfit_rests (Ok block) both v h agreed =
       let page = both.0.page in
       let g = bitfit_gave block both v h agreed in
-      let known : All (IsLocal f (bitfit_steps ++ v)) locals = locals_after f (right_of page Lost) bitfit_steps v locals g.does agreed (λ x here. (h.grains x ∙ here, refl)) h.known in
-      rests_by f (right_of page Lost) bitfit_steps v locals locals g.does (λ x. refl)
-      (λ q. lost_none (page == q) (any_keeps locals q) (λ at. no_right_of f (bitfit_steps ++ v) (bitfit_directory heap) tt not_bitfit locals known q (subst (λ p. KnowsDeed p (bitfit_directory heap) (bitfit_steps ++ v)) (eqb-true page q at) g.deed)))
+      let known : All (IsLocal f (bitfit_steps ++ v)) locals = locals_after f _ bitfit_steps v _ g.does agreed (λ x here. (h.grains x ∙ here, refl)) h.known in
+      rests_by f _ bitfit_steps v locals locals g.does (λ x. refl)
+      (λ q. lost_none _ _ (λ at. no_right_of f _ _ tt not_bitfit _ known q (subst (λ p. KnowsDeed p (bitfit_directory heap) (bitfit_steps ++ v)) (eqb-true _ q at) g.deed)))
       (λ q. refl) h known h.apart
-  bitfit_rests (Err why) h v rest agreed =
-      subst (λ xs. Agreed f v xs → RestsWith f locals (xs ++ v)) (refused h.1) (λ ok. rests_kept f locals searched v (h.0.still.from v (may_search_bitfit f v heap locals rest) ok) ok rest) agreed
+  bitfit_rests (Err why) h v rest agreed = subst (λ xs. Agreed f v xs → RestsWith f locals (xs ++ v)) (refused h.1)
+      (λ ok. rests_kept f _ searched v (h.0.still.from v (may_search_bitfit f v _ locals rest) ok) ok rest) agreed
 
   bitfit_few : (answer : Result Block NoRoom) → BitfitEnds f heap room align searched after answer → (k : ℕ) (v : View) → RestsWith f locals v
       → Agreed f v bitfit_steps → IsFew f 2 k bitfit_steps v
-  bitfit_few (Ok block) both k v h agreed = let is = both.0 in
-      chosen_few (NoneFits (run_for room align)) f (bitfit_directory heap) is.page searched bitfit_steps is.served.page is.served.choice is.served.few k v (agreed_later f v after searched agreed) agreed (bitfit_gave block both v h agreed).deed 1 (let more = ap length (is.events k v) in omega (arith, more))
+  bitfit_few (Ok block) both k v h agreed = let is = both.0 in chosen_few _ f _ is.page searched bitfit_steps is.served.page is.served.choice is.served.few k v
+      (agreed_later f v after searched agreed) agreed (bitfit_gave _ both v h agreed).deed 1 (let more = ap length (is.events k v) in omega (arith, more))
   bitfit_few (Err why) h k v rest agreed =
       subst (λ xs. Agreed f v xs → IsFew f 2 k xs v) (refused h.1) (λ ok. let few = silent_few f k searched v h.0.quiet ok in record { paid = omega (arith, few.paid); most = omega (arith, few.most) }) agreed
 
   bitfit_kinds : (answer : Result Block NoRoom) → BitfitEnds f heap room align searched after answer → Only searching searched → Only allocating bitfit_steps
   bitfit_kinds (Ok block) both only = let is = both.0 in
       only_both allocating after searched
-      (subst (Only allocating) (sym is.after_is) (only_both allocating is.left (give_steps is.page is.found block is.word is.answer) (only_within returning allocating is.left refl (returns_are is.page is.left (leave_returns is.page (bitfit_directory heap) is.left is.leaves))) (refl, (refl, tt))))
+      (subst (Only allocating) (sym is.after_is) (only_both allocating is.left _ (only_within returning allocating is.left refl (returns_are is.page is.left (leave_returns is.page _ is.left is.leaves))) (refl, (refl, tt))))
       (only_within searching allocating searched refl only)
   bitfit_kinds (Err why) h only = subst (Only allocating) (refused h.1) (only_within searching allocating searched refl only)
 
@@ -164,8 +165,8 @@ module _ (f : Profile) (heap room align : ℕ) (locals : List Slots) (searched a
     aligned = both.1.aligned;
     of_region = λ g inside. subst (IsPage f) (sym (on_page block both g inside)) is.served.page;
     turn = record { from = λ v met agreed. (bitfit_gave block both v (rests v met) agreed).turn };
-    deeds = record { from = λ v met agreed g inside. subst (λ p. KnowsDeed p (bitfit_directory heap) (bitfit_steps ++ v)) (sym (on_page block both g inside)) (bitfit_gave block both v (rests v met) agreed).deed };
-    events = λ k v. (events_by k v searched, is.events k v, prepared (bitfit_directory heap) is.page searched is.served.events k v);
+    deeds = record { from = λ v met agreed g inside. subst (λ p. KnowsDeed p (bitfit_directory heap) (bitfit_steps ++ v)) (sym (on_page _ both g inside)) (bitfit_gave _ both v (rests v met) agreed).deed };
+    events = λ k v. (events_by k v searched, is.events k v, prepared _ is.page searched is.served.events k v);
   }
   bitfit_ends rests (Err why) h = subst IsSilent (refused h.1) (λ k v. events_quiet k v searched h.0.quiet)
 
@@ -190,11 +191,11 @@ with_request f heap room align searched after answer given fits = grind arith
 -- A cache that may allocate has room for the search of a bit-fit request.
 pub bitfit_call : {σ : Standing} {c : Cached} {spare : ℕ} (heap : ℕ) → CanCall σ (MayAllocate σ.seat.profile c spare)
     → CanCall σ (SearchRoom σ.seat.profile (bitfit_directory heap) 2 spare)
-bitfit_call {σ} {c} heap can = can_call adds_none can (λ v l stood met. record { may = may_search_bitfit σ.seat.profile v heap c.locals met.rest.locals; room = met.room })
+bitfit_call {σ} {c} heap can = can_call adds_none can (λ v l stood met. record { may = may_search_bitfit _ v heap c.locals met.rest.locals; room = met.room })
 
 -- What a bit-fit request wants is the bit-fit directory of its heap, and its room and alignment.
 pub bitfit_wanted : (f : Profile) (heap size align : ℕ) → route_in f size align ≡ Route.Bitfit → record { directory = bitfit_directory heap; route = Route.Bitfit; room = room_in f size align; align = align } ≡ wanted_for f heap size align
-bitfit_wanted f heap size align route = ap (λ (r : Route). record { directory = record { heap = heap; kind = kind_of_route (is_shared f heap) r }; route = r; room = room_in f size align; align = align }) (sym route)
+bitfit_wanted f heap size align route = ap (λ r. record { directory = record { heap = heap; kind = kind_of_route (is_shared f heap) r }; route = r; room = room_in f size align; align = align }) (sym route)
 
 -- A bit-fit block that was allocated, or refused, serves the request, and leaves the cache as it is.
 pub bitfit_allocates : {σ σ' : Standing} (size align heap : ℕ) (tells : Bool) (c : Cached) (answer : Result Block NoRoom)
@@ -208,7 +209,7 @@ bitfit_allocates {σ} {σ'} size align heap tells c answer route both =
       steps = a.after ++ a.searched;
       calls = record {
         adds = adds_under a.adds (λ v l stood met. may_search_bitfit f v heap c.locals met.locals);
-        leads = record { from = λ v met agreed. record { locals = bitfit_rests f heap room align c.locals a.searched a.after answer outcome v met.locals agreed; few = met.few; entries = met.entries; few_entries = met.few_entries } };
+        leads = record { from = λ v met agreed. record { locals = bitfit_rests f _ room _ c.locals a.searched a.after _ outcome v met.locals agreed; few = met.few; entries = met.entries; few_entries = met.few_entries } };
       };
       change = record { cache = refl; searched = a.searched; searches = a.searches; after = a.after; outcome = outcome; steps_are = refl };
       kinds = bitfit_kinds f heap room align c.locals a.searched a.after answer outcome a.searches.kinds;
@@ -236,7 +237,7 @@ not_large shared class same = grind arith
 
 known_of_local : (f : Profile) (v : View) (p : ℕ) (locals : List Slots) → All (IsLocal f v) locals → any_keeps locals p ≡ true → known_deed v p ≡ 0 → ⊥
 known_of_local f v p [] all keeps none = true≢false (sym keeps)
-known_of_local f v p (first ∷ rest) all keeps none = elim (cases_Bool (keeps_right first p)) [
+known_of_local f v p (first ∷ rest) all keeps none = elim (cases_Bool _) [
   | inl here ↦
       let at : IsLocal f v first = All-head (IsLocal f v) first rest all in
       let both = and_parts first.right (first.page == p) here in
@@ -252,7 +253,7 @@ pub may_find : (f : Profile) (v : View) (heap : ℕ) (locals : List Slots) → R
 may_find f v heap locals h = record {
   lacks = λ p of. h.rights p ∙ elim of [
     | inl none ↦ lacks_known f v locals p h.known none
-    | inr knows ↦ no_right_of f v (large_directory heap) tt not_large locals h.known p knows
+    | inr knows ↦ no_right_of f v _ tt not_large locals h.known p knows
   ];
   clear = h.clear;
 }
@@ -264,16 +265,16 @@ deed_made d k s a (Event.Deed j p x) is made comes = subst (λ y. IsDeedOf d (Ev
 deed_made d k s a e is made comes = absurd (true≢false (sym is ∙ ap (is_in finding) comes.kind))
 
 deeds_only : (d : Directory) (steps : List Made) → Only finding steps → MadeOf d steps → (k : ℕ) (v : View) → AllByRecursion (IsDeedOf d) (events_by k v steps)
-deeds_only d steps kinds deeds k v = each_event (IsDeedOf d) (λ m before. (is_in finding (kind_of m.step) ≡ true) × ((p : ℕ) (x : Directory) → m.step ≡ Deed p x → m.answer ≡ 0 → x ≡ d)) k v
-    (λ m before epoch e h is. deed_made d k m.step m.answer e h.0 h.1 (comes_of k epoch m.step m.answer e is)) steps
-    (always_pair (λ m before. is_in finding (kind_of m.step) ≡ true) (λ m before. (p : ℕ) (x : Directory) → m.step ≡ Deed p x → m.answer ≡ 0 → x ≡ d) steps kinds deeds)
+deeds_only d steps kinds deeds k v = each_event _ (λ m before. (is_in finding (kind_of m.step) ≡ true) × ((p : ℕ) (x : Directory) → m.step ≡ Deed p x → m.answer ≡ 0 → x ≡ d)) k v
+    (λ m before epoch e h is. deed_made d k _ _ e h.0 h.1 (comes_of k epoch _ _ e is)) steps
+    (always_pair (λ m before. is_in finding (kind_of m.step) ≡ true) (λ m before. (p : ℕ) (x : Directory) → m.step ≡ Deed p x → m.answer ≡ 0 → x ≡ d) _ kinds deeds)
 
 back_made : (d : Directory) (k : ℕ) (s : Step) (a : ℕ) (e : Event) → is_in (Backing ∷ []) (kind_of s) ≡ true → ComesOf k s a e → IsPreparing d e
 back_made d k s a (Event.Back j p) is comes = IsPreparing.Backs j p
 back_made d k s a e is comes = absurd (true≢false (sym is ∙ ap (is_in (Backing ∷ [])) comes.kind))
 
 backs_only : (d : Directory) (steps : List Made) → Only (Backing ∷ []) steps → (k : ℕ) (v : View) → AllByRecursion (IsPreparing d) (events_by k v steps)
-backs_only d steps kinds k v = each_event (IsPreparing d) (λ m before. is_in (Backing ∷ []) (kind_of m.step) ≡ true) k v (λ m before epoch e h is. back_made d k m.step m.answer e h (comes_of k epoch m.step m.answer e is)) steps kinds
+backs_only d steps kinds k v = each_event _ (λ m before. is_in (Backing ∷ []) (kind_of m.step) ≡ true) k v (λ m before epoch e h is. back_made d k _ _ e h (comes_of k _ _ _ e is)) _ kinds
 
 deed_prepares : (d : Directory) (e : Event) → IsDeedOf d e → IsPreparing d e
 deed_prepares d e (IsDeedOf.Deeds k page) = IsPreparing.Deeds k page
@@ -283,6 +284,7 @@ module _ (f : Profile) (heap n : ℕ) (searched after : List Made) (block : Bloc
   abbrev pages : ℕ → Bool
   pages = in_span is.first (is.first + n)
 
+  -- After the call the actor gave the block of the run, and nothing else.
   gave : (locals : List Slots) (v : View) → RestsWith f locals v → Agreed f v (after ++ searched)
       → GaveLarge (large_directory heap) is.first n block v ((after ++ searched) ++ v)
   gave locals v h agreed = is.gave.from v (may_find f v heap locals h) agreed
@@ -290,10 +292,8 @@ module _ (f : Profile) (heap n : ℕ) (searched after : List Made) (block : Bloc
   events_are : (k : ℕ) (v : View) → events_by k v (after ++ searched) ≡ Event.Give k block ∷ (events_by k (searched ++ v) is.backs ++ events_by k v searched)
   events_are k v =
       let gs = give_steps is.first 0 block is.word is.answer in
-      ap (λ xs. events_by k v (xs ++ searched)) is.after_is
-      ∙ ap (events_by k v) (append_assoc is.left (gs ++ is.backs) searched)
-      ∙ events_same returning refl k v is.left ((gs ++ is.backs) ++ searched) is.left_kinds
-      ∙ ap (λ es. Event.Give k block ∷ es) (events_append k is.backs searched v)
+      ap (λ xs. events_by k v (xs ++ searched)) is.after_is ∙ ap (events_by k v) (append_assoc is.left _ searched)
+      ∙ events_same returning refl k v is.left _ is.left_kinds ∙ ap (λ es. Event.Give k block ∷ es) (events_append k is.backs searched v)
 
   on_pages : (g : ℕ) → in_run (grain_of block.name) (length_of block) g ≡ true → pages (g / 256) ≡ true
   on_pages g inside = sym (ap (λ (b : Block). in_run (grain_of b.name) (length_of b) g) is.block_is ∙ run_is (large_directory heap) is.first n is.word g) ∙ inside
@@ -306,6 +306,7 @@ abbrev pub Ends : Profile → ℕ → ℕ → List Made → List Made → Result
 Ends f heap n searched after answer = MatchResult answer (IsGivenRun f (large_directory heap) n searched after) (λ why. IsRefusedRun f (large_directory heap) searched after)
 
 module _ (f : Profile) (heap n : ℕ) (searched after : List Made) where
+  -- After the call the actor rests with the same local allocators.
   rests : (locals : List Slots) (answer : Result Block NoRoom) → Ends f heap n searched after answer → (v : View) → RestsWith f locals v
       → Agreed f v (after ++ searched) → RestsWith f locals ((after ++ searched) ++ v)
   rests locals (Ok block) is v h agreed = rests_kept f locals (after ++ searched) v (is.gave.from v (may_find f v heap locals h) agreed).does agreed h
@@ -320,18 +321,22 @@ module _ (f : Profile) (heap n : ℕ) (searched after : List Made) where
       → length (events_by k v (after ++ searched)) + unknown_pages f ((after ++ searched) ++ v) ≤ most + unknown_pages f v
   few_by shows k most v agreed all = search (arith, agreed_later, unknown_no_more, agreed_first, append_assoc)
 
+  -- The events of the call are few, and fewer where deeds were known.
   few : (answer : Result Block NoRoom) → Ends f heap n searched after answer → OnlyDeedsShow f searched → (k : ℕ) (v : View) → Agreed f v (after ++ searched)
       → length (events_by k v (after ++ searched)) + unknown_pages f ((after ++ searched) ++ v) ≤ most_events n answer + unknown_pages f v
   few (Ok block) is shows k v agreed = few_by shows k (n + 1) v agreed
-      (let all = ap length (events_are f heap n searched after block is k v) in let both = length-append (events_by k (searched ++ v) is.backs) (events_by k v searched) in let backs = back_events k (searched ++ v) is.backs in omega (arith, all, both, backs, is.back_few))
+      (let all = ap length (events_are f heap n _ after block is k v) in let both = length-append (events_by k (searched ++ v) is.backs)
+      (events_by k v searched) in let backs = back_events k (searched ++ v) is.backs in omega (arith, all, both, backs, is.back_few))
   few (Err why) is shows k v agreed = few_by shows k 0 v agreed (let all = ap length (silent is k v) in omega (arith, all))
 
+  -- The call makes steps of an allocation alone.
   kinds : (answer : Result Block NoRoom) → Ends f heap n searched after answer → Only finding searched → Only allocating (after ++ searched)
-  kinds (Ok block) is only = only_both allocating after searched
-      (subst (Only allocating) (sym is.after_is) (only_both allocating is.left (give_steps is.first 0 block is.word is.answer ++ is.backs) (only_within returning allocating is.left refl is.left_kinds) (refl, (refl, only_within (Backing ∷ []) allocating is.backs refl is.back_kinds))))
+  kinds (Ok block) is only = only_both allocating after searched (subst (Only allocating) (sym is.after_is) (only_both allocating is.left _
+      (only_within returning allocating is.left refl is.left_kinds) (refl, (refl, only_within (Backing ∷ []) allocating is.backs refl is.back_kinds))))
       (only_within finding allocating searched refl only)
   kinds (Err why) is only = only_both allocating after searched (only_within looking allocating after refl (scans_only after is.scans)) (only_within finding allocating searched refl only)
 
+  -- The call ends as a request for whole pages does.
   ends : {Meets : View → Type 0} (align : ℕ) (locals : List Slots) → IsAlignment align → Only finding searched → ((v : View) → Meets v → RestsWith f locals v)
       → (answer : Result Block NoRoom) → Ends f heap n searched after answer
       → MatchResult answer (IsBlockFor f (record { directory = large_directory heap; route = Route.Large; room = n * 4096; align = align }) Meets (after ++ searched)) (λ why. MakesDeedsOf (large_directory heap) (after ++ searched))
@@ -339,18 +344,17 @@ module _ (f : Profile) (heap n : ℕ) (searched after : List Made) where
     of_heap = ap (λ (b : Block). b.heap) is.block_is;
     room = ap (λ (b : Block). b.room) is.block_is;
     placed = ap (λ (b : Block). address_of b.name % 4096) is.block_is ∙ omega arith;
-    aligned = ap (λ (b : Block). address_of b.name % align) is.block_is ∙ ap (λ a. a % align) (omega arith) ∙ stands_aligned is.first 0 align alignment (zero-mod (align / 16));
+    aligned = ap (λ (b : Block). address_of b.name % align) is.block_is ∙ ap (λ a. a % align) (omega arith) ∙ stands_aligned is.first 0 _ alignment (zero-mod _);
     of_region = λ g inside. of_region f heap n searched after block is (g / 256) (on_pages f heap n searched after block is g inside);
     turn = record { from = λ v met agreed. (gave f heap n searched after block is locals v (rests v met) agreed).turn };
-    deeds = record { from = λ v met agreed g inside. (gave f heap n searched after block is locals v (rests v met) agreed).deeds (g / 256) (on_pages f heap n searched after block is g inside) };
+    deeds = record { from = λ v met agreed g inside. (gave f _ n searched after _ is locals v (rests v met) agreed).deeds (g / 256) (on_pages f _ n searched after _ is g inside) };
     events = λ k v. (
       events_by k (searched ++ v) is.backs ++ events_by k v searched,
       events_are f heap n searched after block is k v,
-      all_both (IsPreparing (large_directory heap)) (events_by k (searched ++ v) is.backs) (events_by k v searched) (backs_only (large_directory heap) is.backs is.back_kinds k (searched ++ v))
-          (all_map (IsDeedOf (large_directory heap)) (IsPreparing (large_directory heap)) (events_by k v searched) (deed_prepares (large_directory heap)) (deeds_only (large_directory heap) searched only is.made k v)),
+      all_both _ _ _ (backs_only _ is.backs is.back_kinds k _) (all_map _ _ _ (deed_prepares _) (deeds_only _ searched only is.made k v)),
     );
   }
-  ends align locals alignment only rests (Err why) is = λ k v. subst (AllByRecursion (IsDeedOf (large_directory heap))) (sym (silent is k v)) (deeds_only (large_directory heap) searched only is.made k v)
+  ends align locals alignment only rests (Err why) is = λ k v. subst (AllByRecursion (IsDeedOf (large_directory heap))) (sym (silent is k v)) (deeds_only _ searched only is.made k v)
 
 -- ---- what is asked for
 -- From 1 on the size is its own maximum with 1.
@@ -364,7 +368,7 @@ whole_pages size = omega arith
 -- A cache that may allocate pages has room for the search for a run of them.
 pub pages_call : {σ : Standing} {c : Cached} {spare n m : ℕ} (heap : ℕ) → m ≡ n → CanCall σ (MayAllocatePages σ.seat.profile c n spare)
     → CanCall σ (FindRoom σ.seat.profile (large_directory heap) (m + 1) spare)
-pages_call {σ} {c} heap same can = can_call adds_none can (λ v l stood met. record { may = may_find σ.seat.profile v heap c.locals met.rest.locals; room = omega (arith, met.room, same) })
+pages_call {σ} {c} heap same can = can_call adds_none can (λ v l stood met. record { may = may_find _ v _ c.locals met.rest.locals; room = omega (arith, met.room, same) })
 
 -- A large block that was allocated, or refused, serves the request for pages, and leaves the cache as it is.
 pub pages_allocates : {σ σ' : Standing} (size align heap n : ℕ) (found : Option ℕ) (tells : Bool) (c : Cached) (answer : Result Block NoRoom)
@@ -394,9 +398,9 @@ pages_allocates {σ} {σ'} size align heap n found tells c answer is some alignm
       short = (let missed = ap (missed_steps found) count in omega (arith, a.few, count, missed));
       few = λ k v met agreed.
           subst (λ m. length (events_by k v (a.rest ++ a.tried)) + unknown_pages f ((a.rest ++ a.tried) ++ v) ≤ most_events m answer + unknown_pages f v) (sym count)
-          (subst (λ xs. length (events_by k v xs) + unknown_pages f (xs ++ v) ≤ most_events n answer + unknown_pages f v) (sym same) (few f heap n e.got e.after answer e.outcome e.shows k v (subst (Agreed f v) same agreed)));
+          (subst (λ xs. length (events_by k v xs) + unknown_pages f (xs ++ v) ≤ most_events n answer + unknown_pages f v) (sym same) (few f heap n e.got _ answer e.outcome e.shows k v (subst (Agreed f v) same agreed)));
       outcome = subst (λ xs. MatchResult answer (IsBlockFor f (record { directory = large_directory heap; route = Route.Large; room = n * 4096; align = align }) (AtRest f c) xs) (λ why. MakesDeedsOf (large_directory heap) xs)) (sym same)
           (ends f heap n e.got e.after {Meets = AtRest f c} align c.locals alignment e.kinds (λ v met. met.locals) answer e.outcome);
-      told = λ t v l stood met. subst (λ k. IsToldByDoor f (large_directory heap) k found l (triples σ.seat.actor (a.rest ++ a.tried) ++ l) (a.rest ++ a.tried) answer) (sym count)
-          (a.told t v l stood (may_find f v heap c.locals met.locals));
+      told = λ t v l stood met. subst (λ k. IsToldByDoor f (large_directory heap) k found l (triples σ.seat.actor (a.rest ++ a.tried) ++ l)
+          (a.rest ++ a.tried) answer) (sym count) (a.told t v l stood (may_find f v heap c.locals met.locals));
     })

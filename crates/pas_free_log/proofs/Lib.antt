@@ -1,2 +1,1 @@
 pub mod OneEntry
-mod AllEntries

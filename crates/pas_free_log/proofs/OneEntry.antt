@@ -1,11 +1,12 @@
 -- What a flush does for one entry of a log.
 use Rattle.std.proofs.Common.{◌≡◌, ℕ, true, false, List, [], ◌∷◌, ◌++◌, refl, ap, sym, ◌∙◌, append_assoc, true≢false, ◌+◌, ◌-◌, ◌/◌, ◌%◌, ◌≤◌, ◌==◌}
 use Rattle.std.proofs.Common.{if◌then◌else◌, Option, Some, arith, ◌&&◌, suc, ◌*◌, ◌<◌, ◌||◌, min, inl, inr, subst, ◌≢◌, ◌^◌, None, Bool, append-nil, ne_eqb}
-use Rattle.std.proofs.Common.{eqb-true, eq-eqb, IfSome, option_to_list}
-use Rattle.std.proofs.lemmas.{List.map-append, Bool.Decides.nat_tests, List.Elements.All-nil}
+use Rattle.std.proofs.Common.{eqb-true, eq-eqb, IfSome, option_to_list, length, length-append, zero, take, get_or, map, reverse}
+use Rattle.std.proofs.lemmas.List.{map-append, length-map, length-reverse, flat_map_more, reverse-append, take_more, reverse-reverse}
+use Rattle.std.proofs.lemmas.{Bool.Decides.nat_tests, List.Elements.All-nil, List.Elements.All-append, List.Elements.All-take}
 use Rattle.pas_steps.specs.declared.step.{Made.Made, Step.Step}
 use Rattle.pas_steps.specs.declared.step.Step.TheVariants.{Stamp, Look, End, EndSized}
-use Rattle.pas_steps.specs.Kinds.{Kinds, Stamping, kind_of, place_of, is_in, apart, Only, LookDeed, Putting, returning, Ending}
+use Rattle.pas_steps.specs.Kinds.{Kinds, Stamping, kind_of, is_in, apart, Only, LookDeed, Putting, returning, Ending}
 use Rattle.pas_steps.specs.Views.{View, EndedOn, epoch_of, known_deed, known_epoch, is_unstamped, examines, holds, or_zero, ends_on, Stays, Ends, grain_move}
 use Rattle.pas_steps.specs.Views.{held_after}
 use Rattle.pas_steps.proofs.Apart.{in_apart, only_within, only_both, deeds_same, unstamped_same, examines_same, epoch_same, events_same}
@@ -17,32 +18,38 @@ use Rattle.pas_profile.specs.declared.{directory.Directory.Directory, profile.Pr
 use Rattle.pas_profile.specs.declared.{event.Event.Event, event.Range.Range}
 use Rattle.pas_bits.specs.{Runs.in_run, Runs.meets_page, Masks.is_set}
 use Rattle.pas_bits.proofs.Runs.{to_run, run_of, run_above, met_by}
-use Rattle.pas_steps.specs.{Allowed.HoldsOn, Allowed.IsEpochKnown, Allowed.IsStepOf, Frames.OnlyReturns, Effects.succeeds}
+use Rattle.pas_steps.specs.{Allowed.HoldsOn, Allowed.IsEpochKnown, Allowed.IsStepOf, Frames.OnlyReturns, Effects.succeeds, Clear.IsClear}
 use Rattle.pas_steps.specs.Agreement.{AgreesDeed, AgreesLife, AgreesEnd, Agrees}
 use Rattle.pas_steps.specs.Calls.{nothing, put, Does, Calls, Kept, now, Leads}
 use Rattle.pas_steps.specs.Desks.{Standing, made, Makes, CanCall, Adds, AnyView}
 use Rattle.pas_steps.proofs.{Adding.adds_none, Adding.adds_step, Adding.adds_under, Called.call_then, ReadDeeds.directory_told, Past.once_later}
+use Rattle.pas_steps.proofs.{Past.in_turn_length, Frames.events_append}
 use Rattle.pas_steps.proofs.Calls.{does_after_nothing, does_idly, returns_are, does_none, unexamined_over, leads_idly, nothing_then, end_fails, does_step}
-use Rattle.pas_steps.proofs.Calls.{end_effect, EndsBlock, end_succeeds, leads_as, leads_then, end_later, ends_back}
+use Rattle.pas_steps.proofs.Calls.{end_effect, EndsBlock, end_succeeds, leads_as, leads_then, end_later, ends_back, still_clear}
 use Rattle.pas_steps.proofs.Sets.{put_freed, put_as, freed_both, freed_nothing}
 use Rattle.pas_rights.specs.{Returns.Returned, Puts.masked, Puts.MayPut, Puts.PutsMask}
-use Rattle.pas_rights.proofs.{Ends.settled_clear, Orders.same_page, Orders.ends}
-use Rattle.pas_free_log.specs.Frames.{putting_back, run_freed, PutsBack, ending}
+use Rattle.pas_rights.proofs.Orders.{settled_clear, same_page, ends, return_few}
+use Rattle.pas_rights.proofs.Puts.{puts_few}
+use Rattle.pas_free_log.specs.Frames.{putting_back, run_freed, PutsBack, ending, freeing}
 use Rattle.pas_free_log.specs.Returns.{MayReturn, ReturnsPage, PageSteps, PagesSteps, first_on, count_on, ReturnsRun}
 use Rattle.pas_bits.specs.declared.mask.Mask4.{Mask4}
 use Rattle.pas_free_log.specs.Conditions.{IsRun, IsRunOnPage, IsNameOf, IsEntryOf, KnowsEpoch, MayEnd}
 use Rattle.pas_profile.specs.Lives.{live_word, is_live, turn_of, grains_of}
-use Rattle.pas_profile.proofs.{ClassFacts.class_grains_positive, ClassFacts.class_grains_le, Codecs.read_is, Codecs.is_live-live_word, Codecs.turn_of-live_word}
+use Rattle.pas_profile.proofs.{Sizes.class_grains_positive, Sizes.class_grains_le, Codecs.read_is, Codecs.is_live-live_word, Codecs.turn_of-live_word}
 use Rattle.pas_free_log.specs.Endings.{guess_by, guess_by_kind, is_of, Tries, TriesBy, IsRefusedBy, last_step, IsEndOf, IsOfRegion, EndsOne, reason_by}
-use Rattle.pas_free_log.specs.Endings.{reason_for}
+use Rattle.pas_free_log.specs.Endings.{reason_for, EndSteps}
 use Rattle.pas_free_log.specs.declared.{ending.Outcome.Outcome, ending.Outcome.TheVariants.Refused, ending.Outcome.TheVariants.Ended, log.Entry.Entry}
 use Rattle.pas_free_log.specs.declared.{noting.EndedRun.EndedRun}
-use Rattle.pas_free_log.specs.{Logs.entry_of, Logs.is_sized, Flushes.event_for, Flushes.EndsEntry}
+use Rattle.pas_free_log.specs.Logs.{entry_of, is_sized}
+use Rattle.pas_free_log.specs.Flushes.{event_for, EndsEntry, Settled, stamps_by_outcome, stamps_for, AfterEnd, EntriesSteps, shown_for, noted_for, noted_after}
+use Rattle.pas_free_log.specs.Flushes.{Flushes, EndsName}
 use Rattle.pas_steps.specs.Events.{events_by, with_event, end_event, reason_of, event_of, sized_reason}
-use Rattle.pas_free_log.specs.Noted.{IsRange, AreRanges, is_whole, range_of, run_of_kind, run_in, large_run}
+use Rattle.pas_free_log.specs.Noted.{IsRange, AreRanges, range_of, run_of_kind, run_in, large_run}
+use Rattle.std.specs.List.{flat_map}
 
 -- ==== The stamps of two calls, and steps that stamp no page.
 
+-- What a step stamps comes before what was stamped: by the kinds of steps.
 stamped_more : (s : Step) (e : ℕ) (ys xs : List (ℕ × ℕ)) → stamped_by s e (ys ++ xs) ≡ stamped_by s e ys ++ xs
 stamped_more s e ys xs = grind arith
 
@@ -51,8 +58,7 @@ pub stamps_append : (v : View) (ys xs : List Made) → stamps_by v (ys ++ xs) �
 stamps_append v [] xs = refl
 stamps_append v (y ∷ ys) xs =
     ap (λ w. stamped_by y.step (epoch_of w) (stamps_by v (ys ++ xs))) (append_assoc ys xs v)
-    ∙ ap (stamped_by y.step (epoch_of (ys ++ (xs ++ v)))) (stamps_append v ys xs)
-    ∙ stamped_more y.step (epoch_of (ys ++ (xs ++ v))) (stamps_by (xs ++ v) ys) (stamps_by v xs)
+    ∙ ap (stamped_by y.step (epoch_of (ys ++ (xs ++ v)))) (stamps_append v ys xs) ∙ stamped_more y.step _ _ _
 
 no_stamp : (s : Step) (e : ℕ) (stamps : List (ℕ × ℕ)) → is_in (Stamping ∷ []) (kind_of s) ≡ false → stamped_by s e stamps ≡ stamps
 no_stamp s e stamps h = grind (arith, true≢false)
@@ -60,14 +66,13 @@ no_stamp s e stamps h = grind (arith, true≢false)
 -- the stamps of the steps before them
 stamps_same : (ks : Kinds) → apart ks (Stamping ∷ []) ≡ true → (v : View) (ys xs : List Made) → Only ks ys → stamps_by v (ys ++ xs) ≡ stamps_by v xs
 stamps_same ks w v [] xs only = refl
-stamps_same ks w v (y ∷ ys) xs only = no_stamp y.step (epoch_of (ys ++ xs ++ v)) (stamps_by v (ys ++ xs)) (in_apart ks (Stamping ∷ []) (place_of (kind_of y.step)) w only.0) ∙ stamps_same ks w v ys xs only.1
+stamps_same ks w v (y ∷ ys) xs only = no_stamp y.step _ _ (in_apart ks _ _ w only.0) ∙ stamps_same ks w v ys xs only.1
 
 no_stamps : (ks : Kinds) → apart ks (Stamping ∷ []) ≡ true → (v : View) (steps : List Made) → Only ks steps → stamps_by v steps ≡ []
 no_stamps ks w v steps only = ap (stamps_by v) (sym (append-nil steps)) ∙ stamps_same ks w v steps [] only
 
 -- ==== The steps for the grains of one page.
 
--- ---- the steps, on a view
 abbrev pub stamping : ℕ → ℕ → ℕ → List Made
 stamping p deed stamped = made (Stamp p) stamped ∷ made (Look (Word.Deed p)) deed ∷ []
 
@@ -97,7 +102,7 @@ run_grains g n mask within bits x = ap (λ t. (g / 256 == x / 256) && t) (bits (
 
 may_put_now : (g n deed stamped : ℕ) (mask : Mask4) (v : View) → ((x : ℕ) → masked (g / 256) mask x ≡ in_run g n x) → MayReturn g n v
     → MayPut (g / 256) mask (stamping (g / 256) deed stamped ++ v)
-may_put_now g n deed stamped mask v grains met = record { held = λ x inside. met.held x (sym (grains x) ∙ inside); stamped = ends (g / 256) (is_unstamped v (g / 256)) }
+may_put_now g n deed stamped mask v grains met = record { held = λ x inside. met.held x (sym (grains x) ∙ inside); stamped = ends (g / 256) _ }
 
 -- ---- what the steps leave
 pub count_some : (g n : ℕ) → 1 ≤ n → page_count g n ≡ (g + n - 1) / 256 - g / 256 + 1
@@ -119,7 +124,7 @@ page_back g n deed stamped puts after some within kinds returns =
     let are = returns_are p after returns in
     record {
       kinds = search (arith, only_both, only_within);
-      stamps = λ v. stamps_same returning refl v after (puts ++ stamping p deed stamped) are ∙ stamps_same (Putting ∷ []) refl v puts (stamping p deed stamped) kinds ∙ ap (stamps_with (epoch_of v)) (sym (pages_one g n some within));
+      stamps = λ v. stamps_same returning refl v after _ are ∙ stamps_same (Putting ∷ []) refl v puts _ kinds ∙ ap (stamps_with (epoch_of v)) (sym (pages_one g n some within));
     }
 
 -- ---- the call
@@ -128,7 +133,7 @@ pub page_directory : {σ σ1 : Standing} (g n deed : ℕ) (r : Option Directory)
     → Makes σ σ1 (Look (Word.Deed (g / 256))) deed → r ≡ directory_read deed
     → (d : Directory) × (r ≡ Some d) × (deed ≡ deed_word_of d) × IsDirectoryOf σ.seat.profile d
 page_directory {σ} {σ1} g n deed r valid some can look read =
-    directory_told σ.seat.profile deed r valid read (read_here σ.seat.profile can.view g n deed some can.met (look.agrees can.view can.whole can.stood tt))
+    directory_told _ deed r valid read (read_here _ can.view g n deed some can.met (look.agrees can.view can.whole can.stood tt))
 
 -- what is known before the grains are put back, and after it
 pub record IsStamped (page word : ℕ) (w : View) : Type 0 where
@@ -149,7 +154,7 @@ module _ {σ σ1 σ2 : Standing} (g n deed stamped : ℕ) (mask : Mask4) (some :
       from = λ v met agreed. (
         does_idly σ.seat.profile (LookDeed ∷ Stamping ∷ []) refl (stamping page deed stamped) v (refl, (refl, tt)) agreed,
         may_put_now g n deed stamped mask v grains met,
-        record { deed = ap (λ t. if t then deed else known_deed v page) (same_page page); stamped = ends page (is_unstamped v page); examined = met.examined page (first_meets g n some) },
+        record { deed = ap (λ t. if t then deed else known_deed v page) (same_page _); stamped = ends page _; examined = met.examined page (first_meets g n some) },
       );
     };
   }
@@ -159,7 +164,7 @@ module _ {σ σ1 σ2 : Standing} (g n deed stamped : ℕ) (mask : Mask4) (some :
       → Calls σ σ3 (MayReturn g n) (λ v w. Does (put (in_run g n) page) v w × IsStamped page deed w) (p.steps ++ stamping page deed stamped)
   put_so p = call_then (λ v w. Does (put (in_run g n) page) v w × IsStamped page deed w) stamped_so p.calls (λ v met r. r.1)
       (λ v met r d. let w = stamping page deed stamped ++ v in (
-        put_as (masked page mask) (in_run g n) page (does_after_nothing (put (masked page mask) page) r.0 d) grains,
+        put_as _ _ page (does_after_nothing _ r.0 d) grains,
         record {
           deed = deeds_same (Putting ∷ []) refl page p.steps w p.kinds ∙ r.2.deed;
           stamped = unstamped_same (Putting ∷ []) refl page p.steps w p.kinds ∙ r.2.stamped;
@@ -172,15 +177,14 @@ module _ {σ σ1 σ2 : Standing} (g n deed stamped : ℕ) (mask : Mask4) (some :
       → ReturnsPage g n σ σ4
   page_returned d within is p r = record {
     steps = piece page deed stamped p.steps r.steps;
-    calls = call_then (Does (run_freed g n)) (put_so p) r.calls (λ v met q. q.1.deed ∙ is)
-        (λ v met q s. put_freed (in_run g n) (in_run page (page_count g n)) page q.0 (settled_clear page Kept s q.1.stamped q.1.examined) (λ x. its_page g n x (count_one g n some within)));
+    calls = call_then _ (put_so p) r.calls (λ v met q. q.1.deed ∙ is)
+        (λ v met q s. put_freed _ _ page q.0 (settled_clear page Kept s q.1.stamped q.1.examined) (λ x. its_page g n x (count_one g n some within)));
     order = record { directory = d; stamped = stamped; mask = mask; grains = grains; puts = p.steps; order = p.order; after = r.steps; returns = r.order; steps_are = ap (λ x. piece page x stamped p.steps r.steps) is };
     back = page_back g n deed stamped p.steps r.steps some within p.kinds r.returns;
   }
 
 -- ==== The pages of a block, put back one after the other.
 
--- ---- two runs that follow each other
 -- the one run and the next are the whole
 join : (a m b n k x : ℕ) → b ≡ a + m → k ≡ m + n → (in_run a m x || in_run b n x) ≡ in_run a k x
 join a m b n k x at whole = grind (arith, nat_tests, at, whole)
@@ -196,7 +200,6 @@ back_none g = record { kinds = tt; stamps = λ v. refl }
 pub none_freed : (g : ℕ) (v : View) → Does (run_freed g 0) v v
 none_freed g v = freed_nothing (in_run g 0) (in_run (g / 256) 0) (does_none v) (no_run g) (no_run (g / 256))
 
--- ---- the pages so far
 -- the run begins here, or a page does, unless nothing is left
 abbrev pub IsBorder : ℕ → ℕ → ℕ → Type 0
 IsBorder g n from = from < g + n → first_on g (from / 256) ≡ from
@@ -237,18 +240,17 @@ back_more g n from next ys xs low high border is a b = record {
   stamps = λ v.
       stamps_append v ys xs ∙ ap (λ s. s ++ stamps_by v xs) (b.stamps (xs ++ v)) ∙ ap (λ s. stamps_with (epoch_of (xs ++ v)) (pages_met from (next - from)) ++ s) (a.stamps v)
       ∙ ap (λ o. stamps_with (or_zero o) (pages_met from (next - from)) ++ stamps_with (epoch_of v) (pages_met g (from - g))) (epoch_same putting_back refl xs v a.kinds)
-      ∙ sym (map-append (λ page. (page, epoch_of v)) (pages_met from (next - from)) (pages_met g (from - g))) ∙ ap (stamps_with (epoch_of v)) (sym (pages_more g n from next low high border is));
+      ∙ sym (map-append (λ page. (page, epoch_of v)) _ _) ∙ ap (stamps_with (epoch_of v)) (sym (pages_more g n from next low high border is));
 }
 
 -- The grains of a run up to one border more are freed together.
 pub more_freed : {v w u : View} (g n from next : ℕ) → g ≤ from → from < g + n → IsBorder g n from → IsNextBorder g n from next
     → Does (run_freed g (from - g)) v w → Does (run_freed from (next - from)) w u → Does (run_freed g (next - g)) v u
 more_freed g n from next low high border is d e =
-    let one = count_one from (next - from) (omega (arith, is.some)) is.on_page in
+    let one = count_one from _ (omega (arith, is.some)) is.on_page in
     let more = count_next g n from next low high border is in
-    freed_both (in_run g (from - g)) (in_run (g / 256) (page_count g (from - g))) (in_run from (next - from)) (in_run (from / 256) (page_count from (next - from))) (in_run g (next - g)) (in_run (g / 256) (page_count g (next - g))) d e
-    (λ x. join g (from - g) from (next - from) (next - g) x (omega (arith, low)) (omega (arith, low, is.some)))
-    (λ q. join (g / 256) (page_count g (from - g)) (from / 256) (page_count from (next - from)) (page_count g (next - g)) q (sym (count_so_far g n from low high border)) (omega (arith, one, more)))
+    freed_both _ _ _ _ _ _ d e (λ x. join g _ from _ _ x (omega (arith, low)) (omega (arith, low, is.some)))
+    (λ q. join _ _ _ _ _ q (sym (count_so_far g n from low high border)) (omega (arith, one, more)))
 
 count_is : (g n from next : ℕ) → from < g + n → next ≡ next_border g n from → first_on g (from / 256) ≡ from → count_on g n (from / 256) ≡ next - from
 count_is g n from next high is first = ap (λ k. min (g + n) (256 * (from / 256) + 256) - k) first ∙ omega (arith, is)
@@ -259,8 +261,8 @@ pub order_more : (g n from next : ℕ) (ys xs : List Made) → g ≤ from → fr
 order_more g n from next ys xs low high border is before piece =
     let c = count_so_far g n from low high border in
     let first = border high in
-    let one : PageSteps (first_on g (from / 256)) (count_on g n (from / 256)) ys = subst (λ k. PageSteps (first_on g (from / 256)) k ys) (sym (count_is g n from next high is first)) (subst (λ s. PageSteps s (next - from) ys) (sym first) piece) in
-    let here : PageSteps (first_on g (g / 256 + page_count g (from - g))) (count_on g n (g / 256 + page_count g (from - g))) ys = subst (λ p. PageSteps (first_on g p) (count_on g n p) ys) (sym c) one in
+    let one = subst (λ k. PageSteps (first_on g (from / 256)) k ys) (sym (count_is g n from next high is first)) (subst (λ s. PageSteps s (next - from) ys) (sym first) piece) in
+    let here = subst (λ p. PageSteps (first_on g p) (count_on g n p) ys) (sym c) one in
     subst (λ k. PagesSteps k g n (ys ++ xs)) (sym (count_next g n from next low high border (next_is g n from next low high is))) (ys, xs, here, before, refl)
 
 meets_more : (g n from k page : ℕ) → g ≤ from → from + k ≤ g + n → meets_page from k page ≡ true → meets_page g n page ≡ true
@@ -274,8 +276,8 @@ may_more g n from next xs v low is back does met =
     let within = is.within in
     record {
       held = search (arith, run_of, run_above, to_run);
-      ended = λ page meets. once_later (λ m before. ends_on m.step m.answer page ≡ true) xs v (met.ended page (meets_more g n from (next - from) page low (omega (arith, some, within)) meets));
-      examined = λ page meets. unexamined_over putting_back refl page xs v back.kinds (met.examined page (meets_more g n from (next - from) page low (omega (arith, some, within)) meets));
+      ended = λ page meets. once_later (λ m before. ends_on m.step m.answer page ≡ true) xs v (met.ended page (meets_more g n from _ page low (omega (arith, some, within)) meets));
+      examined = λ page meets. unexamined_over putting_back refl page xs v back.kinds (met.examined page (meets_more g n from _ page low (omega (arith, some, within)) meets));
       epoch = subst IsEpochKnown (sym (epoch_same putting_back refl xs v back.kinds)) met.epoch;
     }
 
@@ -300,6 +302,7 @@ by_length o is = grind (arith, kind_length)
 pub guess_length : (deed : ℕ) → IsLength (guess_by (directory_read deed))
 guess_length deed = by_length (directory_read deed) (λ d e. (read_is deed d e).0.kind)
 
+-- What holds of each directory that may be there holds of the one that is.
 kind_if : (o : Option Directory) → ((d : Directory) → o ≡ Some d → IsKind d.kind) → IfSome o (λ d. IsKind d.kind)
 kind_if o is = grind arith
 
@@ -307,7 +310,6 @@ kind_if o is = grind arith
 pub known_kind : (deed : ℕ) (directory : Option Directory) → directory ≡ directory_read deed → IfSome directory (λ d. IsKind d.kind)
 known_kind deed directory is = kind_if directory (λ d e. (read_is deed d (sym is ∙ e)).0.kind)
 
--- ---- the steps
 -- the look at the deed word
 abbrev pub first_look : Name → ℕ → List Made
 first_look name deed = made (Look (Word.Deed (address_of name / 4096))) deed ∷ []
@@ -349,15 +351,15 @@ still_length f v name first guess read a is length agrees lives =
     let old = and_parts (is_live read) (turn_of read == name.turn) is in
     let now = and_parts (is_live a) (turn_of a == name.turn) lives in
     agrees.again guess now.0
-    (inl record { reads = eq-eqb (grain_of name) (grain_of name) refl; live = old.0; turn_is = eqb-true (turn_of read) name.turn old.1 ∙ sym (eqb-true (turn_of a) name.turn now.1); grains_are = sym length })
+    (inl record { reads = eq-eqb _ _ refl; live = old.0; turn_is = eqb-true _ name.turn old.1 ∙ sym (eqb-true _ name.turn now.1); grains_are = sym length })
 
 -- where another life word is read then, it lives no longer
 pub gone_since : (f : Profile) (v : View) (name : Name) (first guess read a : ℕ) → is_of name read ≡ true → guess ≡ grains_of read
     → AgreesLife f (made (End name first) read ∷ v) (grain_of name) a → a ≢ live_word name.turn guess → is_of name a ≡ false
-gone_since f v name first guess read a is length agrees ne = elim (cases_Bool (is_of name a)) [
+gone_since f v name first guess read a is length agrees ne = elim (cases_Bool _) [
   | inl lives ↦
       let now = and_parts (is_live a) (turn_of a == name.turn) lives in
-      absurd (ne (agrees.live now.0 ∙ ap (λ t. live_word t (grains_of a)) (eqb-true (turn_of a) name.turn now.1) ∙ ap (λ n. live_word name.turn n) (still_length f v name first guess read a is length agrees lives)))
+      absurd (ne (agrees.live now.0 ∙ ap (λ t. live_word t (grains_of a)) (eqb-true _ name.turn now.1) ∙ ap (λ n. live_word name.turn n) (still_length f v name first guess read a is length agrees lives)))
   | inr none ↦ none
 ]
 
@@ -369,14 +371,13 @@ ended_again f v name first guess read a named is length live agrees =
     let lives : is_live a ≡ true = ap is_live live ∙ is_live-live_word name.turn guess in
     let same = still_length f v name first guess read a is length agrees.life (is_of_name name a lives (ap turn_of live ∙ turn_of-live_word name.turn guess turn)) in
     let some = (agrees.life.length lives).0 in
-    ended_run f (made (End name first) read ∷ v) name guess a (omega (arith, same, some)) live agrees
+    ended_run f _ name guess a (omega (arith, same, some)) live agrees
 
 -- the first try read another length
 pub again : (name : Name) (deed first guess read : ℕ) → first ≡ guess_by (directory_read deed) → read ≢ live_word name.turn first → is_of name read ≡ true
     → guess ≡ grains_of read → Tries name (guess_by (directory_read deed)) guess (made (End name first) read ∷ [])
 again name deed first guess read first_is ne is length = inr (read, (λ e. ne (e ∙ ap (λ n. live_word name.turn n) (sym first_is))), is, length, ap (λ n. made (End name n) read ∷ []) first_is)
 
--- ---- tries that change nothing, and a try that ends the block
 -- the steps change nothing, make no event and stamp no page
 abbrev pub trying : Kinds
 trying = LookDeed ∷ Ending ∷ []
@@ -396,18 +397,14 @@ not_live name guess a turn is live = search (arith, false≢true, is_of_name, is
 
 -- ---- the steps before the last try
 pub idle_look : (name : Name) (deed : ℕ) → AreIdle (first_look name deed)
-idle_look name deed = record {
-  kinds = (refl, tt);
-  does = λ f. leads_idly f (LookDeed ∷ []) refl (first_look name deed) (refl, tt);
-  events = λ k v. refl;
-}
+idle_look name deed = record { kinds = (refl, tt); does = λ f. leads_idly f (LookDeed ∷ []) refl _ (refl, tt); events = λ k v. refl }
 
 idle_try : (name : Name) (deed first read : ℕ) → read ≢ live_word name.turn first → is_of name read ≡ true
     → AreIdle (made (End name first) read ∷ first_look name deed)
 idle_try name deed first read ne is = record {
   kinds = (refl, (refl, tt));
   does = λ f. nothing_then ((idle_look name deed).does f) (end_fails f name first read ne);
-  events = λ k v. ap (λ o. with_event o []) (no_event k (or_zero (known_epoch v)) name first read ne is);
+  events = λ k v. ap (λ o. with_event o []) (no_event k _ name first read ne is);
 }
 
 -- The look and the tries of a name before its last do nothing, and make no event.
@@ -419,7 +416,7 @@ tries_idle name deed first guess before (inr t) = subst (λ s. AreIdle (s ++ fir
 pub tried : {σ σ1 σ2 : Standing} (name : Name) (deed first guess a : ℕ) (before : List Made) → Tries name first guess before
     → Adds σ σ1 KnowsEpoch (before ++ first_look name deed) → Makes σ1 σ2 (End name guess) a
     → Adds σ σ2 KnowsEpoch (made (End name guess) a ∷ before ++ first_look name deed)
-tried name deed first guess a before tries adds makes = adds_step adds makes (λ v l stood met. subst IsEpochKnown (sym (epoch_same trying refl (before ++ first_look name deed) v (tries_idle name deed first guess before tries).kinds)) met)
+tried name deed first guess a before tries adds makes = adds_step adds makes (λ v l stood met. subst IsEpochKnown (sym (epoch_same trying refl _ v (tries_idle name deed first guess before tries).kinds)) met)
 
 -- ==== The step that tries an end, by a length or by a room: what holds of both.
 
@@ -434,6 +431,7 @@ pub record EndsWith (name : Name) (n : ℕ) (s : Step) : Type 0 where
   pub stamps : (e : ℕ) (xs : List (ℕ × ℕ)) → stamped_by s e xs ≡ xs
   pub agrees : (f : Profile) (v : View) (a : ℕ) → Agrees f v s a → AgreesEnd f v name n a
 
+-- An end that finds the block with its length makes the event of the end.
 success : (k e : ℕ) (name : Name) (n a : ℕ) (other : Option Event) → a ≡ live_word name.turn n
     → (if succeeds name n a then Some (Event.End k name e) else other) ≡ Some (Event.End k name e)
 success k e name n a other live = ap (λ t. if t then Some (Event.End k name e) else other) (eq-eqb a (live_word name.turn n) live)
@@ -443,16 +441,16 @@ ends_by_length name n = search (arith, end_succeeds, end_fails, success)
 
 sized_does : (f : Profile) (name : Name) (room a : ℕ) (t : Bool) (v : View) → (a == live_word name.turn (room / 16)) ≡ t → Agrees f v (EndSized name room) a
     → Does (end_effect t (grain_of name) (room / 16)) v (made (EndSized name room) a ∷ v)
-sized_does f name room a t v e agrees = subst (λ x. Does (end_effect x (grain_of name) (room / 16)) v (made (EndSized name room) a ∷ v)) e (does_step f (EndSized name room) a v refl agrees)
+sized_does f name room a t v e agrees = subst (λ x. Does (end_effect x (grain_of name) (room / 16)) v (made (EndSized name room) a ∷ v)) e (does_step f _ a v refl agrees)
 
 by_room : (name : Name) (room : ℕ) → EndsWith name (room / 16) (EndSized name room)
 by_room name room = record {
   kind = refl;
   moves = λ a x. refl;
   ends = λ a page. refl;
-  hits = λ f a live. record { from = λ v met agreed. record { does = sized_does f name room a true v (eq-eqb a (live_word name.turn (room / 16)) live) agreed.0; apart = agreed.0.apart live } };
-  fails = λ f a ne. record { from = λ v met agreed. sized_does f name room a false v (ne_eqb a (live_word name.turn (room / 16)) ne) agreed.0 };
-  event = λ k e a live. success k e name (room / 16) a (Some (Event.Reject k name (sized_reason name room a))) live;
+  hits = λ f a live. record { from = λ v met agreed. record { does = sized_does f name room a true v (eq-eqb a _ live) agreed.0; apart = agreed.0.apart live } };
+  fails = λ f a ne. record { from = λ v met agreed. sized_does f name room a false v (ne_eqb a _ ne) agreed.0 };
+  event = λ k e a live. success k e name _ a _ live;
   stamps = λ e xs. refl;
   agrees = λ f v a h. h;
 }
@@ -469,7 +467,7 @@ refusal k e name guess a ne is = cc (ne_eqb a (live_word name.turn guess) ne)
 
 sized_refusal : (k e : ℕ) (name : Name) (room a : ℕ) → a ≢ live_word name.turn (room / 16)
     → event_of k e (EndSized name room) a ≡ Some (Event.Reject k name (sized_reason name room a))
-sized_refusal k e name room a ne = ap (λ t. if t then Some (Event.End k name e) else Some (Event.Reject k name (sized_reason name room a))) (ne_eqb a (live_word name.turn (room / 16)) ne)
+sized_refusal k e name room a ne = ap (λ t. if t then Some (Event.End k name e) else Some (Event.Reject k name (sized_reason name room a))) (ne_eqb a _ ne)
 
 -- The last try of an entry, refused, shows the refusal with the true reason.
 pub last_refused : (t : Bool) (entry : Entry) (n k e a : ℕ) → (t ≡ true → n ≡ entry.room / 16) → IsRefusedBy t entry.name n a → a ≢ live_word entry.name.turn n
@@ -490,8 +488,8 @@ ends_by : {σ σ1 : Standing} (entry : Entry) (outcome : Outcome) (directory : O
     → IsEndOf entry guess a outcome × IsOfRegion σ.seat.profile entry.name outcome)
     → EndsOne entry σ σ1 outcome directory
 ends_by {σ} entry outcome directory deed guess a before tells tries adds can told =
-    let last = last_ends (is_sized entry) entry guess (guess_is (is_sized entry) entry (guess_by (directory_read deed)) guess before tries) in
-    let came = told can.view (last.agrees σ.seat.profile (before ++ first_look entry.name deed ++ can.view) a (adds.agreed can.view can.whole can.stood can.met).0) in
+    let last = last_ends _ entry guess (guess_is _ entry _ guess before tries) in
+    let came = told can.view (last.agrees σ.seat.profile _ a (adds.agreed can.view can.whole can.stood can.met).0) in
     record {
       steps = made (last_step (is_sized entry) entry guess) a ∷ before ++ first_look entry.name deed;
       adds = adds;
@@ -508,7 +506,8 @@ pub ends_named : {σ σ1 σ2 : Standing} (name : Name) (outcome : Outcome) (dire
     → ((v : View) → AgreesEnd σ.seat.profile (before ++ first_look name deed ++ v) name guess a
     → IsEndOf (entry_of name) guess a outcome × IsOfRegion σ.seat.profile name outcome)
     → EndsOne (entry_of name) σ σ2 outcome directory
-ends_named name outcome directory deed guess a before tells tries adds makes = ends_by (entry_of name) outcome directory deed guess a before tells tries (tried name deed (guess_by (directory_read deed)) guess a before tries adds makes)
+ends_named name outcome directory deed guess a before tells tries adds makes =
+    ends_by _ outcome directory deed guess a before tells tries (tried name deed (guess_by (directory_read deed)) guess a before tries adds makes)
 
 -- an entry with a room has the one try
 pub ends_by_room : {σ σ1 σ2 : Standing} (entry : Entry) (outcome : Outcome) (directory : Option Directory) (deed a : ℕ) → is_sized entry ≡ true
@@ -517,8 +516,8 @@ pub ends_by_room : {σ σ1 σ2 : Standing} (entry : Entry) (outcome : Outcome) (
     → ((v : View) → AgreesEnd σ.seat.profile (first_look entry.name deed ++ v) entry.name (entry.room / 16) a
     → IsEndOf entry (entry.room / 16) a outcome × IsOfRegion σ.seat.profile entry.name outcome)
     → EndsOne entry σ σ2 outcome directory
-ends_by_room {σ} {σ2 = σ2} entry outcome directory deed a sized tells adds makes can told =
-    ends_by entry outcome directory deed (entry.room / 16) a [] tells (subst (λ t. TriesBy t entry (guess_by (directory_read deed)) (entry.room / 16) []) (sym sized) (refl, refl))
+ends_by_room {σ} {σ2 = σ2} entry outcome directory deed a sized tells adds makes can told = ends_by entry outcome directory deed (entry.room / 16) a [] tells
+    (subst (λ t. TriesBy t entry (guess_by (directory_read deed)) (entry.room / 16) []) (sym sized) (refl, refl))
     (subst (λ t. Adds σ σ2 KnowsEpoch (made (last_step t entry (entry.room / 16)) a ∷ first_look entry.name deed)) (sym sized) (adds_step adds makes (λ v l stood met. met))) can told
 
 -- ---- the tries before the last one change nothing
@@ -531,17 +530,19 @@ module _ {σ σ1 : Standing} {entry : Entry} {outcome : Outcome} {directory : Op
   abbrev first_steps : List Made
   first_steps = e.order.before ++ first_look entry.name e.order.deed
 
+  -- The steps before the end are idle.
   idle : AreIdle first_steps
   idle = idle_before (is_sized entry) entry e.order.deed (guess_by (directory_read e.order.deed)) e.order.guess e.order.before e.order.tries
 
+  -- The last step is the end of the entry's block.
   last : EndsWith entry.name e.order.guess (last_step (is_sized entry) entry e.order.guess)
-  last = last_ends (is_sized entry) entry e.order.guess (guess_is (is_sized entry) entry (guess_by (directory_read e.order.deed)) e.order.guess e.order.before e.order.tries)
+  last = last_ends _ entry e.order.guess (guess_is _ entry _ e.order.guess e.order.before e.order.tries)
 
   end_kinds : Only ending e.steps
   end_kinds = subst (Only ending) (sym e.order.steps_are) (ap (is_in ending) last.kind, only_within trying ending first_steps refl idle.kinds)
 
   end_stamps : (v : View) → stamps_by v e.steps ≡ []
-  end_stamps v = ap (stamps_by v) e.order.steps_are ∙ last.stamps (epoch_of (first_steps ++ v)) (stamps_by v first_steps) ∙ no_stamps trying refl v first_steps idle.kinds
+  end_stamps v = ap (stamps_by v) e.order.steps_are ∙ last.stamps _ (stamps_by v first_steps) ∙ no_stamps trying refl v first_steps idle.kinds
 
   -- the last one makes the event
   end_shows : (k : ℕ) (v : View) (event : Event) → event_of k (epoch_of v) (last_step (is_sized entry) entry e.order.guess) e.order.answer ≡ Some event
@@ -563,18 +564,18 @@ pub entry_refused : {σ σ1 : Standing} (entry : Entry) (read : ℕ) (directory 
 entry_refused {σ} entry read directory named e =
     let o = e.order in
     let f : Profile = σ.seat.profile in
-    let ne = not_ended (is_sized entry) entry.name o.guess o.answer named.name.turn o.comes_to.0 in
+    let ne = not_ended _ entry.name o.guess o.answer named.name.turn o.comes_to.0 in
     record {
       outcome = Refused read;
       directory = directory;
       run_is = refl;
       range = All-nil (λ run. IsRange run.range);
       steps = e.steps;
-      calls = record { adds = adds_under e.adds (λ v l stood met. met.epoch); leads = leads_as (subst (Leads f AnyView (Does nothing)) (sym o.steps_are) (nothing_then ((idle e).does f) ((last e).fails f o.answer ne))) (λ v met. tt) (λ v w met d. d) };
+      calls = record { adds = adds_under e.adds (λ v l stood met. met.epoch); leads = leads_as (subst (Leads f AnyView _) (sym o.steps_are) (nothing_then ((idle e).does f) ((last e).fails f o.answer ne))) (λ v met. tt) (λ v w met d. d) };
       kinds = end_kinds e;
       order = record { ends = e.steps; order = o; directory = e.tells; after = []; returns = refl; steps_are = refl };
-      event = λ v. end_shows e σ.seat.actor v (event_for σ.seat.actor (epoch_of v) entry (Refused read))
-          (last_refused (is_sized entry) entry o.guess σ.seat.actor (epoch_of v) o.answer (guess_is (is_sized entry) entry (guess_by (directory_read o.deed)) o.guess o.before o.tries) o.comes_to.0 ne
+      event = λ v. end_shows e σ.seat.actor v _
+          (last_refused _ entry o.guess σ.seat.actor _ o.answer (guess_is _ entry _ o.guess o.before o.tries) o.comes_to.0 ne
           ∙ ap (λ n. Some (Event.Reject σ.seat.actor entry.name (reason_for entry n))) (sym o.comes_to.1));
       stamps = end_stamps e;
     }
@@ -588,7 +589,7 @@ range_in directory range is = grind (arith, range_of_kind)
 
 whole_range : (f : Profile) (name : Name) (grains : ℕ) (directory : Option Directory) → IsValid f → IsRun f (grain_of name) grains
     → AreRanges (option_to_list (large_run name grains directory))
-whole_range f name grains directory valid run = elim (cases_Bool (is_whole name grains)) [
+whole_range f name grains directory valid run = elim (cases_Bool _) [
   | inl whole ↦ search (arith, and_parts, eqb-true, range_in)
   | inr other ↦ subst (λ t. AreRanges (option_to_list (if t then run_in directory (range_of name grains) else None))) (sym other) (All-nil (λ run. IsRange run.range))
 ]
@@ -608,21 +609,22 @@ module _ {σ σ1 : Standing} {entry : Entry} {grains : ℕ} {directory : Option 
   ended_last : EndsWith entry.name grains (last_step (is_sized entry) entry e.order.guess)
   ended_last = subst (λ n. EndsWith entry.name n (last_step (is_sized entry) entry e.order.guess)) (sym e.order.comes_to.1) (last e)
 
+  -- The end's answer is the word of the live block.
   lived : e.order.answer ≡ live_word entry.name.turn grains
   lived = e.order.comes_to.0 ∙ ap (live_word entry.name.turn) (sym e.order.comes_to.1)
 
   may_return : (v : View) → MayEnd v → MayReturn g grains (e.steps ++ v)
   may_return v met = let a = e.order.answer in let live = live_word entry.name.turn grains in record {
-    held = λ x inside. ap (λ s. holds (s ++ v) x) e.order.steps_are ∙ ap (λ m. held_after m (holds (first_steps e ++ v) x)) (ended_last.moves a x) ∙ ended_held (a == live) (in_run g grains x) (holds (first_steps e ++ v) x) g (eq-eqb a live lived) inside;
-    ended = λ page meets. subst (λ s. EndedOn (s ++ v) page) (sym e.order.steps_are) (inl (ended_last.ends a page ∙ and_from (a == live) (meets_page g grains page) (eq-eqb a live lived) meets));
+    held = λ x inside. ap (λ s. holds (s ++ v) x) e.order.steps_are ∙ ap (λ m. held_after m (holds (first_steps e ++ v) x)) (ended_last.moves a x) ∙ ended_held _ _ _ g (eq-eqb a live lived) inside;
+    ended = λ page meets. subst (λ s. EndedOn (s ++ v) page) (sym e.order.steps_are) (inl (ended_last.ends a page ∙ and_from _ _ (eq-eqb a live lived) meets));
     examined = λ page meets. unexamined_over ending refl page e.steps v (end_kinds e) (met.examined page);
     epoch = subst IsEpochKnown (sym (epoch_same ending refl e.steps v (end_kinds e))) met.epoch;
   }
 
   -- the tries and the end
   ends_block : Leads σ.seat.profile AnyView (EndsBlock g grains) e.steps
-  ends_block = subst (Leads σ.seat.profile AnyView (EndsBlock g grains)) (sym e.order.steps_are)
-      (leads_then (EndsBlock g grains) ((idle e).does σ.seat.profile) (ended_last.hits σ.seat.profile e.order.answer lived) (λ v w met d. tt) (λ v w u d x. end_later g grains d x))
+  ends_block = subst (Leads σ.seat.profile AnyView (EndsBlock g grains)) (sym e.order.steps_are) (leads_then _ ((idle e).does σ.seat.profile)
+      (ended_last.hits σ.seat.profile e.order.answer lived) (λ v w met d. tt) (λ v w u d x. end_later g grains d x))
 
   -- An entry whose end came true ended the block, whose grains may be returned.
   pub ended_call : Calls σ σ1 MayEnd (λ v w. EndsBlock g grains v w × MayReturn g grains w) e.steps
@@ -635,14 +637,173 @@ module _ {σ σ1 : Standing} {entry : Entry} {grains : ℕ} {directory : Option 
     outcome = Ended grains;
     directory = directory;
     run_is = ap option_to_list is;
-    range = subst (λ o. AreRanges (option_to_list o)) (sym is) (whole_range σ.seat.profile entry.name grains directory valid e.of_region);
+    range = subst (λ o. AreRanges (option_to_list o)) (sym is) (whole_range _ entry.name grains directory valid e.of_region);
     steps = r.steps ++ e.steps;
-    calls = call_then (Does nothing) ended_call r.calls (λ v met q. q.1) (λ v met q b. ends_back g grains (in_run (g / 256) (page_count g grains)) q.0 b (λ page. page_of_run g grains page e.of_region.some));
+    calls = call_then _ ended_call r.calls (λ v met q. q.1) (λ v met q b. ends_back g grains _ q.0 b (λ page. page_of_run g grains page e.of_region.some));
     kinds = only_both ending r.steps e.steps (only_within putting_back ending r.steps refl r.back.kinds) (end_kinds e);
     order = record { ends = e.steps; order = e.order; directory = e.tells; after = r.steps; returns = r.order; steps_are = refl };
-    event = λ v. events_same putting_back refl σ.seat.actor v r.steps e.steps r.back.kinds ∙ end_shows e σ.seat.actor v (Event.End σ.seat.actor entry.name (epoch_of v)) (ended_last.event σ.seat.actor (epoch_of v) e.order.answer lived);
+    event = λ v. events_same putting_back refl σ.seat.actor v r.steps e.steps r.back.kinds ∙ end_shows e σ.seat.actor v _ (ended_last.event σ.seat.actor (epoch_of v) e.order.answer lived);
     stamps = λ v.
         stamps_append v r.steps e.steps ∙ ap (λ s. s ++ stamps_by v e.steps) (r.back.stamps (e.steps ++ v))
-        ∙ ap (λ s. stamps_with (epoch_of (e.steps ++ v)) (pages_met g grains) ++ s) (end_stamps e v) ∙ append-nil (stamps_with (epoch_of (e.steps ++ v)) (pages_met g grains))
+        ∙ ap (λ s. stamps_with (epoch_of (e.steps ++ v)) (pages_met g grains) ++ s) (end_stamps e v) ∙ append-nil _
         ∙ ap (λ o. stamps_with (or_zero o) (pages_met g grains)) (epoch_same ending refl e.steps v (end_kinds e));
   }
+
+-- ==== What a flush does for all entries of a log: how many steps it makes at most.
+
+page_few : (g n : ℕ) (steps : List Made) → PageSteps g n steps → length steps ≤ 14
+page_few g n steps h =
+    let first = made (Stamp (g / 256)) h.stamped ∷ made (Look (Word.Deed (g / 256))) (deed_word_of h.directory) ∷ [] in
+    let most = length-append h.puts first in
+    let puts = puts_few _ h.mask h.puts h.order in
+    let after = return_few _ h.directory h.after h.returns in
+    omega (arith, ap length h.steps_are ∙ length-append h.after (h.puts ++ first), most, puts, after)
+
+-- One step at most comes before an end: none, or the look.
+by_few : (t : Bool) (entry : Entry) (first guess : ℕ) (before : List Made) → TriesBy t entry first guess before → length before ≤ 1
+by_few t entry first guess before none = grind arith
+
+end_few : (entry : Entry) (outcome : Outcome) (steps : List Made) → EndSteps entry outcome steps → length steps ≤ 3
+end_few entry outcome steps h = let all = ap length h.steps_are in let n = length-append h.before
+    (made (Look (Word.Deed (address_of entry.name / 4096))) h.deed ∷ []) in let few = by_few _ entry _ h.guess h.before h.tries in omega (arith, all, n, few)
+
+after_few : (epoch : ℕ) (name : Name) (outcome : Outcome) (steps : List Made) → AfterEnd name outcome steps
+    → length steps ≤ 14 * length (stamps_by_outcome epoch name outcome)
+after_few epoch name (Ended grains) steps h =
+    let g = grain_of name in
+    let few = in_turn_length (λ page piece. PageSteps (first_on g page) (count_on g grains page) piece) 14 (λ page piece. page_few _ _ piece) _ steps h in
+    let pages : length (stamps_with epoch (pages_met g grains)) ≡ length (pages_met g grains) = length-map _ (λ page. (page, epoch)) in
+    omega (arith, few, pages)
+after_few epoch name (Refused read) steps h = let none = ap length h in omega (arith, none)
+
+entries_few : (epoch : ℕ) (settled : List Settled) (steps : List Made) → EntriesSteps settled steps
+    → length steps ≤ 3 * length settled + 14 * length (flat_map (stamps_for epoch) settled)
+entries_few epoch [] steps h = let none = ap length h in omega (arith, none)
+entries_few epoch (entry ∷ earlier) steps h =
+    let e = h.2 in
+    let here = ap length e.steps_are ∙ length-append e.after e.ends in
+    let ends = end_few entry.entry entry.outcome e.ends e.order in
+    let after = after_few epoch entry.entry.name entry.outcome e.after e.returns in
+    let stamps : length (flat_map (stamps_for epoch) (entry ∷ earlier)) ≡ length (stamps_for epoch entry) + length (flat_map (stamps_for epoch) earlier) = length-append _ _ in
+    omega (arith, ap length h.4 ∙ length-append h.0 h.1, here, ends, after, entries_few epoch earlier h.1 h.3, stamps)
+
+-- what came of each entry
+settled_count : (settled : List Settled) (logged : List Entry) → reverse (map (λ s. s.entry) settled) ≡ logged → length settled ≡ length logged
+settled_count settled logged are = sym (length-map settled (λ s. s.entry)) ∙ sym (length-reverse (map (λ s. s.entry) settled)) ∙ ap length are
+
+-- ==== All entries of a log.
+
+pub events_more : (k epoch : ℕ) (entry : Settled) (settled : List Settled) (ys xs : List Made) → Only ending xs
+    → ((v : View) → epoch_of v ≡ epoch → events_by k v xs ≡ map (shown_for k epoch) settled)
+    → ((v : View) → events_by k v ys ≡ event_for k (epoch_of v) entry.entry entry.outcome ∷ [])
+    → (v : View) → epoch_of v ≡ epoch → events_by k v (ys ++ xs) ≡ map (shown_for k epoch) (entry ∷ settled)
+events_more k epoch entry settled ys xs kinds before one v is =
+    cc (events_append k ys xs v, one (xs ++ v), epoch_same ending refl xs v kinds, before v is)
+
+-- The stamps for one entry more come behind those for the entries before.
+pub stamps_more : (epoch : ℕ) (entry : Settled) (settled : List Settled) (ys xs : List Made) → Only ending xs
+    → ((v : View) → epoch_of v ≡ epoch → stamps_by v xs ≡ flat_map (stamps_for epoch) settled)
+    → ((v : View) → stamps_by v ys ≡ stamps_by_outcome (epoch_of v) entry.entry.name entry.outcome)
+    → (v : View) → epoch_of v ≡ epoch → stamps_by v (ys ++ xs) ≡ flat_map (stamps_for epoch) (entry ∷ settled)
+stamps_more epoch entry settled ys xs kinds before one v is =
+    cc (stamps_append v ys xs, one (xs ++ v), epoch_same ending refl xs v kinds, before v is)
+
+-- The entries that were settled, with one more, are the first ones of the log.
+pub entries_more : (settled : List Settled) (entry : Settled) (logged : List Entry) (i : ℕ) (d : Entry) → i < length logged → entry.entry ≡ get_or logged i d
+    → reverse (map (λ s. s.entry) settled) ≡ take i logged → reverse (map (λ s. s.entry) (entry ∷ settled)) ≡ take (i + 1) logged
+entries_more settled entry logged i d lt is before = reverse-append (entry.entry ∷ []) (map (λ s. s.entry) settled) ∙ ap (λ xs. xs ++ entry.entry ∷ []) before
+    ∙ ap (λ e. take i logged ++ e ∷ []) is ∙ sym (take_more logged i d lt)
+
+-- ---- the runs so far
+-- those of the first list that have room, and then of the second, are those of both
+take_both : {A : Type 0} (k : ℕ) (xs ys : List A) → take k xs ++ take (k - length (take k xs)) ys ≡ take k (xs ++ ys)
+take_both zero xs ys = refl
+take_both (suc k) [] ys = ap (λ n. take n ys) {y = suc k} (omega arith)
+take_both (suc k) (x ∷ xs) ys = ap (λ n. x ∷ take k xs ++ take n ys) (omega arith) ∙ ap (λ zs. x ∷ zs) (take_both k xs ys)
+
+noted_both : {A : Type 0} (n : ℕ) (es xs ys : List A)
+    → (es ++ take (n - length es) xs) ++ take (n - length (es ++ take (n - length es) xs)) ys ≡ es ++ take (n - length es) (xs ++ ys)
+noted_both n es xs ys = append_assoc es _ _ ∙ ap (λ k. es ++ (take (n - length es) xs ++ take k ys)) (omega (arith, length-append es (take (n - length es) xs)))
+    ∙ ap (λ zs. es ++ zs) (take_both _ xs ys)
+
+-- The runs that were noted for one entry more are those before and its own, as far as there is room.
+pub noted_more : (settled : List Settled) (s : Settled) (es noted noted' runs : List EndedRun) → noted ≡ noted_after es settled → runs ≡ noted_for s
+    → noted' ≡ noted ++ take (64 - length noted) runs
+    → noted' ≡ noted_after es (s ∷ settled)
+noted_more settled s es noted noted' runs before one more =
+    let so_far = flat_map noted_for (reverse settled) in
+    cc (noted_both 64 es so_far (noted_for s), flat_map_more noted_for [] (reverse settled) s, reverse-append (s ∷ []) settled)
+
+-- Of no runs there are none to take.
+no_runs : {A : Type 0} (k : ℕ) → take {A = A} k [] ≡ []
+no_runs k = grind arith
+
+-- Without an entry the noted runs are as they were.
+pub noted_none : (es : List EndedRun) → es ≡ noted_after es []
+noted_none es = sym (ap (λ xs. es ++ xs) (no_runs (64 - length es)) ∙ append-nil es)
+
+-- Noted runs with more of which each is a range are ranges.
+pub ranges_more : (noted noted' runs : List EndedRun) → noted' ≡ noted ++ take (64 - length noted) runs → AreRanges runs → AreRanges noted → AreRanges noted'
+ranges_more noted noted' runs is more before = subst AreRanges (sym is) (All-append (λ run. IsRange run.range) noted _ before (All-take (λ run. IsRange run.range) (64 - length noted) runs more))
+
+-- ---- the whole flush
+epoch_after_entries : (epoch : ℕ) (entries : List Made) (v : View) → Only ending entries
+    → known_epoch ((entries ++ made (Look Word.Epoch) epoch ∷ []) ++ v) ≡ Some epoch
+epoch_after_entries epoch entries v kinds = ap known_epoch (append_assoc entries _ v) ∙ epoch_same ending refl entries _ kinds
+
+-- the next entry may be ended
+pub may_end : (epoch : ℕ) (entries : List Made) (v : View) → Only ending entries → Does nothing v ((entries ++ made (Look Word.Epoch) epoch ∷ []) ++ v)
+    → IsClear v → MayEnd ((entries ++ made (Look Word.Epoch) epoch ∷ []) ++ v)
+may_end epoch entries v kinds does clear = record { epoch = subst IsEpochKnown (sym (epoch_after_entries _ _ v kinds)) tt; examined = λ page. ((still_clear does clear).on page).examined }
+
+-- The epoch that was read, and then the steps for each entry, flush the log.
+pub flushed : {σ σ' : Standing} (epoch : ℕ) (settled : List Settled) (logged : List Entry) (ended ended' : List EndedRun) (entries : List Made)
+    → ended' ≡ noted_after ended settled → (AreRanges ended → AreRanges ended') → reverse (map (λ s. s.entry) settled) ≡ logged → EntriesSteps settled entries
+    → Calls σ σ' IsClear (Does nothing) (entries ++ made (Look Word.Epoch) epoch ∷ []) → Only ending entries
+    → ((v : View) → epoch_of v ≡ epoch → events_by σ.seat.actor v entries ≡ map (shown_for σ.seat.actor epoch) settled)
+    → ((v : View) → epoch_of v ≡ epoch → stamps_by v entries ≡ flat_map (stamps_for epoch) settled)
+    → Flushes logged ended ended' σ σ'
+flushed {σ} {σ'} epoch settled logged ended ended' entries noted ranges entries_are order calls kinds events stamps =
+    let look : List Made = made (Look Word.Epoch) epoch ∷ [] in
+    record {
+      epoch = epoch;
+      settled = settled;
+      entries_are = entries_are;
+      noted = noted;
+      ranges = ranges;
+      steps = entries ++ look;
+      entries = entries;
+      order = order;
+      steps_are = refl;
+      calls = calls;
+      kinds = only_both freeing entries look (only_within ending freeing entries refl kinds) (refl, tt);
+      events = λ v. events_append σ.seat.actor entries look v ∙ append-nil _ ∙ events (look ++ v) refl;
+      stamps = λ v. stamps_append v entries look ∙ append-nil _ ∙ stamps (look ++ v) refl;
+      few = (let few = entries_few epoch _ _ order in let n = length-append entries look in let count = settled_count settled _ entries_are in omega (arith, few, n, count));
+      epoch_known = λ v. epoch_after_entries epoch entries v kinds;
+    }
+
+-- ---- a list of one
+one_settled : (settled : List Settled) (entry : Entry) → map (λ (s : Settled). s.entry) settled ≡ entry ∷ []
+    → (s : Settled) × (settled ≡ s ∷ []) × (s.entry ≡ entry)
+one_settled [] entry e = absurd (let none : [] ≡ entry ∷ [] = e in cc)
+one_settled (s ∷ []) entry e = (s, refl, (let one : s.entry ∷ [] ≡ entry ∷ [] = e in cc))
+one_settled (s ∷ t ∷ more) entry e = absurd (let two : s.entry ∷ t.entry ∷ map (λ (s : Settled). s.entry) more ≡ entry ∷ [] = e in cc)
+
+-- ---- the flush
+pub ends_name : {σ σ' : Standing} (name : Name) (logged : List Entry) (before after : List EndedRun) → logged ≡ entry_of name ∷ [] → before ≡ []
+    → Flushes logged before after σ σ' → EndsName name σ σ'
+ends_name {σ} {σ'} name logged before after is none flushed =
+    let all : Flushes (entry_of name ∷ []) [] after σ σ' =
+    subst (λ (z : List Entry × List EndedRun). Flushes z.0 z.1 after σ σ') (λ i. (is i, none i)) flushed in
+    let one = one_settled all.settled _ (sym (reverse-reverse _) ∙ ap reverse all.entries_are) in
+    let settled : Entry → List Settled = λ e. record { entry = e; outcome = one.0.outcome; directory = one.0.directory } ∷ [] in
+    record {
+      noted = after;
+      flushes = all;
+      outcome = one.0.outcome;
+      directory = one.0.directory;
+      settled_is = one.1 ∙ ap settled one.2;
+      event = λ v. all.events v ∙ (ap (map (shown_for σ.seat.actor all.epoch)) one.1
+          ∙ ap (λ (e : Entry). event_for σ.seat.actor all.epoch e one.0.outcome ∷ []) one.2);
+    }

@@ -1,56 +1,59 @@
 -- What the scavenger does on one page whose empty bit was cleared.
 use Rattle.std.proofs.Common.{◌≡◌, ℕ, ◌*◌, ◌/◌, ◌%◌, ◌<◌, ◌==◌, nat_lt, Bool, true, false, ◌&&◌, ◌||◌, length, slice_index, slice_set, refl, ap, sym, ◌∙◌}
 use Rattle.std.proofs.Common.{arith, inl, inr, get_or-set_same, get_or-set_other, ◌+◌, not, if◌then◌else◌, List, [], ◌∷◌, ◌++◌, Option, None, Some, subst}
-use Rattle.std.proofs.Common.{bit_and, ◌≢◌, ◌≤◌, append_assoc, length-append, eq-eqb, ne_eqb, lt-ltb, le-ltb, ltb-true, eqb-true}
-use Rattle.std.proofs.Math.Bool.{or-false}
+use Rattle.std.proofs.Common.{bit_and, ◌≢◌, ◌≤◌, append_assoc, length-append, eq-eqb, ne_eqb, lt-ltb, le-ltb, ltb-true, eqb-true, zero, suc, ◌-◌, reverse, map}
+use Rattle.std.proofs.Common.{append-nil}
+use Rattle.std.proofs.{Math.Bool.or-false, lemmas.List.reverse-append, lemmas.List.length-reverse}
 use Rattle.std.proofs.lemmas.Bool.{cases_eq, cases_lt, cases_Bool, and_from, and_right}
-use Rattle.pas_bits.specs.{Bits.has_bit, Runs.in_run, Masks.is_set}
+use Rattle.pas_bits.specs.{Bits.has_bit, Runs.in_run, Masks.is_set, PageVectors.HasNoPage, PageVectors.IsLowestPage}
 use Rattle.pas_bits.proofs.{Runs.to_run, Runs.run_of, Words.none_past, Words.full_bit}
 use Rattle.pas_bits.specs.declared.mask.Mask4.{Mask4}
-use Rattle.pas_steps.proofs.{Sets.same_truth, Sets.kept_kept, Adding.adds_none, Adding.adds_step, Adding.adds_under, Kept.any_from, Bits.all_below-from}
-use Rattle.pas_steps.proofs.{Past.once_later}
+use Rattle.pas_steps.proofs.{Sets.same_truth, Sets.kept_kept, Adding.adds_none, Adding.adds_step, Adding.adds_under, Frames.any_from, Bits.all_below-from}
+use Rattle.pas_steps.proofs.{Past.once_later, SpareRoom.Spares, SpareRoom.spare_falls, Nothing.nothing_still, Frames.events_append}
 use Rattle.pas_rights.specs.{Words.full, Words.ones, Takes.takes, Leaves.MayLeave, Leaves.Leaves, Puts.masked, Puts.PutsMask, PutsBack.MayPutAndReturn}
 use Rattle.pas_rights.specs.{PutsBack.given_back, Returns.Returned, Claims.Claims}
-use Rattle.pas_rights.proofs.{Looks.full_set, Looks.looks_only, Puts.puts_kinds, Puts.puts_few, PutsBack.may_return as may_settle, PutsBack.returned_call}
-use Rattle.pas_profile.specs.declared.{directory.Directory.Directory, profile.Profile.Profile, word.Word.Word, event.Outcome.Outcome}
+use Rattle.pas_rights.proofs.Orders.{full_set, looks_only, same_page, until_only, until_few, leave_few, return_few, leave_returns, return_returns, ends}
+use Rattle.pas_rights.proofs.Puts.{puts_kinds, puts_few, may_return as may_settle, returned_call, takes_only, got_below, takes_hold as grains_held}
+use Rattle.pas_rights.proofs.Puts.{takes_few as grains_few}
+use Rattle.pas_profile.specs.declared.{directory.Directory.Directory, profile.Profile.Profile, word.Word.Word, event.Outcome.Outcome, event.Event.Event}
 use Rattle.pas_steps.specs.Calls.{Kept, Gained, now, on_page, Does, Calls, Lost, ClearAfter}
-use Rattle.pas_steps.specs.{Clear.IsClear, Clear.HasNothing, Agreement.Agreed, Allowed.IsEpochKnown, Allowed.MayUnback, Events.events_by, Evidence.ReadsFree}
-use Rattle.pas_steps.specs.{Past.Once}
+use Rattle.pas_steps.specs.{Clear.IsClear, Clear.HasNothing, Agreement.Agreed, Agreement.AgreesEmpty, Allowed.IsEpochKnown, Allowed.MayUnback, Events.events_by}
+use Rattle.pas_steps.specs.{Evidence.ReadsFree, Past.Once, InTurn.InTurn, InTurn.numbers_below}
 use Rattle.pas_steps.specs.Desks.{made, Standing, Makes, Adds, CanCall}
 use Rattle.pas_steps.specs.Kinds.{LookFree, Taking, Only, Kinds, LookDeed, LookBacked, LookStamp, Claiming, Hinting, Unbacking, Unhinting, apart, unstamping}
-use Rattle.pas_steps.specs.Kinds.{within, Putting, returning}
+use Rattle.pas_steps.specs.Kinds.{within, Putting, returning, showing, LookEmpty, LookEpoch}
 use Rattle.pas_steps.specs.Views.{View, Gets, Stays, held_after, holds, has_right, all_ones, examines, holds_on, holds_all, knows_backed, or_zero, known_epoch}
 use Rattle.pas_steps.specs.Views.{KnowsDeed, known_deed, ReadBacked}
 use Rattle.pas_steps.specs.declared.step.Made.{Made}
 use Rattle.pas_steps.specs.declared.step.Step.TheVariants.{TakeRight, Unhint, Look, Hint}
 use Rattle.pas_steps.proofs.Apart.{holds_same, rights_same, unstamped_same, only_within, only_both, epoch_same, events_same, no_events}
-use Rattle.pas_steps.proofs.Calls.{opening, owes_over, unexamined_over, returns_are, does_then}
+use Rattle.pas_steps.proofs.Calls.{opening, owes_over, unexamined_over, returns_are, does_then, does_idly}
 use Rattle.pas_rights.specs.declared.reading.Used.{Used}
-use Rattle.pas_rights.proofs.Orders.{same_page, until_only, until_few, leave_few, return_few, leave_returns, return_returns, ends}
-use Rattle.pas_rights.proofs.Takes.{takes_only, got_below, takes_hold as grains_held, takes_few as grains_few}
 use Rattle.pas_scavenger.specs.Puttings.{IsAt, none, BackSteps, MayPutBack, PutsBack}
 use Rattle.pas_scavenger.specs.{Readings.was_free, Readings.takes_until, Readings.TakesUntilUsed, Evidence.UsedByOthers, Evidence.UnbackedHere}
 use Rattle.pas_scavenger.specs.Judgements.{MayJudge, used_at, Judged, JudgesPage}
 use Rattle.pas_profile.specs.declared.event.Outcome.TheVariants.{Unbacked, Bare, Young, InUse, NotOffered}
-use Rattle.pas_rights.specs.Looks.{AreUsed, looks, looks_until, IsUsed, ReadsUntilUsed}
+use Rattle.pas_rights.specs.Looks.{AreUsed, looks_until, IsUsed, ReadsUntilUsed}
 use Rattle.pas_scavenger.specs.Pages.{first_looks, AsksSteps, EndsWithout, EndsWith, ExamineSteps, unback_of, quiet, examining, MayTake, TakesPage, TakesSteps}
 use Rattle.pas_scavenger.specs.Pages.{MayExamine, ReadsDirectory, ExaminesPage}
 use Rattle.pas_steps.proofs.Called.{call_as, call_then, call_knows, next_call, call_none, call_step}
-use Rattle.pas_profile.specs.Directories.{deed_word_of}
+use Rattle.pas_profile.specs.{Directories.deed_word_of, Profiles.IsPage, Profiles.vector_words}
+use Rattle.pas_utility.specs.Outcomes.{pair}
+use Rattle.pas_scavenger.specs.Passes.{Tried, with_outcome, outcomes_in, pages_set, trying, unbacks_in, IsReady, Tries, TriesPage, WordRead, WordSteps}
+use Rattle.pas_scavenger.specs.Passes.{all_tried, passing, Passes}
 
 -- ==== The grains that were taken, as a mask.
 
 -- The full mask has each grain of the four words.
 pub all_grains : (g : ℕ) → is_set full g ≡ nat_lt (g / 64) 4
 all_grains g = elim (cases_lt g 256) [
-  | inl lt ↦ full_set g lt ∙ sym (lt-ltb (g / 64) 4 (omega (arith, lt)))
-  | inr ge ↦ none_past full g refl ge ∙ sym (le-ltb (g / 64) 4 (omega (arith, ge)))
+  | inl lt ↦ full_set g lt ∙ sym (lt-ltb _ 4 (omega (arith, lt)))
+  | inr ge ↦ none_past full g refl ge ∙ sym (le-ltb _ 4 (omega (arith, ge)))
 ]
 
 run_below : (word g : ℕ) → in_run 0 (word * 64) g ≡ nat_lt (g / 64) word
-run_below word g = same_truth (in_run 0 (word * 64) g) (nat_lt (g / 64) word)
-    (λ h. let at = run_of 0 (word * 64) g h in lt-ltb (g / 64) word (omega (arith, at.1)))
-    (λ h. let lt = ltb-true (g / 64) word h in to_run 0 (word * 64) g (omega arith) (omega (arith, lt)))
+run_below word g = same_truth _ _ (λ h. let at = run_of 0 _ g h in lt-ltb _ word (omega (arith, at.1)))
+    (λ h. let lt = ltb-true _ word h in to_run 0 _ g (omega arith) (omega (arith, lt)))
 
 -- a run of all grains of the words below this one, and the word
 pub grains_before : (run : Mask4) (word value : ℕ) → length run.0 ≡ 4 → word < 4 → ((g : ℕ) → is_set run g ≡ in_run 0 (word * 64) g)
@@ -76,12 +79,13 @@ both_order x p = grind arith
 below : (page n g : ℕ) → got_below page ones ones n g ≡ ((page == g / 256) && nat_lt (g % 256 / 64) n)
 below page n g = search (arith, full_bit, both_order)
 
+-- What is held of a word is what its take got: by each test.
 one_take : (s p u b r : Bool) → u ≡ true → held_after (if ((s && p) && u) && b then Gets else Stays) (p && r) ≡ (p && (r || (s && b)))
 one_take s p u b r e = grind arith
 
 -- Takes of all grains of the first words of a page hold just those, where nothing was held before.
 pub takes_hold : (page n g : ℕ) (v : View) → holds v g ≡ false → holds (takes page ones ones n ++ v) g ≡ ((page == g / 256) && nat_lt (g % 256 / 64) n)
-takes_hold page n g v none = grains_held page ones ones n g v ∙ ap (λ t. got_below page ones ones n g || t) none ∙ or-false (got_below page ones ones n g) ∙ below page n g
+takes_hold page n g v none = grains_held page ones ones n g v ∙ ap (λ t. got_below page ones ones n g || t) none ∙ or-false _ ∙ below page n g
 
 until_holds : (page : ℕ) (used : Option Used) (g : ℕ) (v : View) → holds v g ≡ false
     → holds (takes_until page used ++ v) g ≡ ((page == g / 256) && was_free used (g % 256))
@@ -116,8 +120,9 @@ idle = LookFree ∷ LookDeed ∷ LookBacked ∷ LookStamp ∷ Hinting ∷ Unback
 
 at_idle : {page : ℕ} {grains : ℕ → Bool} {right : Bool} (steps : List Made) (v : View) → Only idle steps → IsAt page grains right v
     → IsAt page grains right (steps ++ v)
-at_idle steps v only at = at_over idle refl refl refl steps v only at (λ g. holds_same idle refl g steps v only ∙ at.held g) (λ q. rights_same idle refl q steps v only ∙ at.rights q)
+at_idle steps v only at = at_over idle refl refl refl _ v only at (λ g. holds_same idle refl g steps v only ∙ at.held g) (λ q. rights_same idle refl q steps v only ∙ at.rights q)
 
+-- A right is had just where it was got here.
 got_right : (got here : Bool) → now (if here then (if got then Gained else Kept) else Kept) false ≡ (got && here)
 got_right got here = grind arith
 
@@ -131,8 +136,8 @@ abbrev pub got_on : ℕ → Option Used → ℕ → Bool
 got_on page used g = (page == g / 256) && was_free used (g % 256)
 
 at_takes : (page : ℕ) (used : Option Used) (v : View) → IsAt page none true v → IsAt page (got_on page used) true (takes_until page used ++ v)
-at_takes page used v at = at_over (Taking ∷ []) refl refl refl (takes_until page used) v (takes_are page used) at (λ g. until_holds page used g v (at.held g))
-    (λ q. rights_same (Taking ∷ []) refl q (takes_until page used) v (takes_are page used) ∙ at.rights q)
+at_takes page used v at = at_over (Taking ∷ []) refl refl refl _ v (takes_are page used) at (λ g. until_holds page used g v (at.held g))
+    (λ q. rights_same (Taking ∷ []) refl q _ v (takes_are page used) ∙ at.rights q)
 
 -- ---- at the beginning and at the end
 pub at_unhint : (page a : ℕ) (v : View) → HasNothing v → IsAt page none false (made (Unhint page) a ∷ v)
@@ -175,11 +180,11 @@ may_unback f page epoch b stamp used v whole some old met agreed =
     let on : holds_on v page ≡ true = any_from 256 (λ i. holds v (page * 256 + i)) 0 (omega arith) (held (page * 256 + 0) (omega arith)) in
     let all : holds_all v page ≡ true = all_below-from 256 (λ i. holds v (page * 256 + i)) (λ k lt. held (page * 256 + k) (omega (arith, lt))) in
     let read : knows_backed (made (Look (Word.Backed page)) b ∷ v) page ≡ true
-    = and_from (if page == page then b == 1 else knows_backed v page) (holds_on v page) (ap (λ t. if t then b == 1 else knows_backed v page) (same_page page) ∙ one) on in
+    = and_from (if page == page then b == 1 else knows_backed v page) _ (ap (λ t. if t then b == 1 else knows_backed v page) (same_page page) ∙ one) on in
     record {
       held = held;
       stamped = met.stamped;
-      backed = and_from (knows_backed (made (Look (Word.Backed page)) b ∷ v) page) (holds_on v page) read on;
+      backed = and_from _ _ read on;
       stamp = stamp;
       known = cc (same_page page);
       read = subst IsEpochKnown (sym met.epoch_is) tt;
@@ -199,7 +204,7 @@ module _ {σ σ1 σ2 : Standing} (page epoch b stamp : ℕ) (used : Option Used)
   -- A page whose grains are all held, that is backed and whose stamp is old enough may be unbacked.
   pub allowed : (f : Profile) → f ≡ σ2.seat.profile → used ≡ None → b ≢ 0 → stamp + f.age ≤ epoch → (v : View) (l : _) → σ.stands v l
       → MayJudge page epoch used v → MayUnback σ.seat.profile (two_looks page b stamp ++ v) page
-  allowed f is whole some old v l stood met = may_unback σ.seat.profile page epoch b stamp used v whole some (subst (λ a. stamp + a ≤ epoch) (age_is f is) old) met (looked.agreed v l stood met)
+  allowed f is whole some old v l stood met = may_unback _ page epoch b stamp used v whole some (subst (λ a. stamp + a ≤ epoch) (age_is f is) old) met (looked.agreed v l stood met)
 
 -- ==== The steps for one page: their kinds, their number and their event.
 
@@ -209,6 +214,7 @@ pub record Sized (ks : Kinds) (n : ℕ) (steps : List Made) : Type 0 where
   pub only : Only ks steps
   pub few : length steps ≤ n
 
+-- Steps of some kinds, and so many at most.
 sized : (ks : Kinds) (n : ℕ) {steps : List Made} → Only ks steps → length steps ≤ n → Sized ks n steps
 sized ks n only few = record { only = only; few = few }
 
@@ -235,8 +241,8 @@ without_sized page NotOffered steps h = let asked = asks_sized page h.0 false h.
 without_sized page other steps h = absurd h
 
 back_sized : (page : ℕ) (d : Directory) (grains : Mask4) (steps : List Made) → BackSteps page d grains steps → Sized quiet 23 steps
-back_sized page d grains steps h = sized_at h.steps_are
-    (sized_both {m = 11} {n = 12} (sized_as quiet refl (sized returning 11 (returns_are page h.left (leave_returns page d h.left h.leaves)) (leave_few page d h.left h.leaves)))
+back_sized page d grains steps h = sized_at h.steps_are (sized_both {m = 11} {n = 12}
+    (sized_as quiet refl (sized returning 11 (returns_are page h.left (leave_returns page d h.left h.leaves)) (leave_few page d h.left h.leaves)))
     (sized_both {m = 8} {n = 4} (sized_as quiet refl (sized returning 8 (returns_are page h.after (return_returns page d h.after h.returns)) (return_few page d h.after h.returns)))
     (sized_as quiet refl (sized (Putting ∷ []) 4 (puts_kinds page grains 4 h.puts h.order) (puts_few page grains h.puts h.order)))))
 
@@ -269,6 +275,7 @@ judged_event k age epoch page used Unbacked steps rest v h only known =
     cc (epoch_same quiet refl looked v (refl, (refl, only)), known, no_events quiet refl k v looked (refl, (refl, only)))
 judged_event k age epoch page used NotOffered steps rest v h only known = absurd h
 
+-- An examination that ends without a backing's end says none: outcome by outcome.
 without_none : (k epoch page : ℕ) (outcome : Outcome) (steps : List Made) → EndsWithout page outcome steps → unback_of k epoch page outcome ≡ []
 without_none k epoch page other steps h = grind arith
 
@@ -280,16 +287,17 @@ taken_on age epoch page outcome steps h = search (arith, append_assoc)
 -- The examination of a page makes one event where it was unbacked, and none otherwise.
 pub examine_event : (k age epoch page : ℕ) (outcome : Outcome) (steps : List Made) (v : View) → ExamineSteps age epoch page outcome steps
     → known_epoch v ≡ Some epoch → events_by k v steps ≡ unback_of k epoch page outcome
-examine_event k age epoch page outcome steps v (inl h) known = no_events quiet refl k v steps (without_sized page outcome steps h).only ∙ sym (without_none k epoch page outcome steps h)
+examine_event k age epoch page outcome steps v (inl h) known = no_events quiet refl k v _ (without_sized page _ _ h).only ∙ sym (without_none k _ page _ _ h)
 examine_event k age epoch page outcome steps v (inr h) known =
     let t = h.takes in let rest = takes_until page t.used ++ h.asked in
-    let quiet_rest : Only quiet rest = only_both quiet (takes_until page t.used) h.asked (takes_sized page t.used t.are).only (asks_sized page h.directory true h.asked h.asks).only in
+    let quiet_rest : Only quiet rest = only_both quiet _ h.asked (takes_sized page t.used t.are).only (asks_sized page h.directory true h.asked h.asks).only in
     ap (events_by k v) (taken_on age epoch page outcome steps h)
     ∙ events_same quiet refl k v t.back (t.after ++ rest) (back_sized page h.directory t.grains t.back t.puts).only
     ∙ judged_event k age epoch page t.used outcome t.after rest v t.judged quiet_rest known
 
 -- ==== All grains are put back, and their page is left.
 
+-- What was had and is lost isn't had.
 lost : (t : Bool) → now (if t then Lost else Kept) t ≡ false
 lost t = grind arith
 
@@ -299,12 +307,12 @@ may_put page d grains v met = record { deed = met.deed; puts = record { held = �
 module _ {σ σ1 : Standing} (page : ℕ) (d : Directory) (grains : Mask4) (puts : PutsMask page grains σ σ1) where
   -- After its grains were put back, what follows puts may be done.
   pub may_return : CanCall σ (MayPutBack page d grains) → CanCall σ1 (KnowsDeed page d)
-  may_return can = may_settle page d grains puts (record { view = can.view; whole = can.whole; stood = can.stood; met = may_put page d grains can.view can.met })
+  may_return can = may_settle page d grains puts (record { view = can.view; whole = can.whole; stood = can.stood; met = may_put page d grains _ can.met })
 
   module _ {σ2 : Standing} (ret : Returned page d σ1 σ2) where
     -- the grains are gone, and the deed is known still
     back_call : Calls σ σ2 (MayPutBack page d grains) (λ v w. Does (given_back (masked page grains)) v w × KnowsDeed page d w) (ret.steps ++ puts.steps)
-    back_call = call_knows page d (call_as (Does (given_back (masked page grains))) (returned_call page d grains puts ret) (may_put page d grains) (λ v w met does. does)) (λ v met. met.deed)
+    back_call = call_knows page d (call_as _ (returned_call page d grains puts ret) (may_put page d grains) (λ v w met does. does)) (λ v met. met.deed)
 
     may_leave : (v : View) → MayPutBack page d grains v
         → Does (given_back (masked page grains)) v ((ret.steps ++ puts.steps) ++ v) × KnowsDeed page d ((ret.steps ++ puts.steps) ++ v)
@@ -322,7 +330,7 @@ module _ {σ σ1 : Standing} (page : ℕ) (d : Directory) (grains : Mask4) (puts
       calls = call_then (λ v w. HasNothing w) back_call leave.calls may_leave (λ v met back left. record {
         grains = λ g. left.does.held g ∙ back.0.held g ∙ ap (now (if masked page grains g then Lost else Kept)) (met.at.held g) ∙ lost (masked page grains g);
         rights = λ q. left.does.right q ∙ ap (now (if page == q then Lost else Kept)) (back.0.right q ∙ met.at.rights q) ∙ lost (page == q);
-        clear = record { on = λ q. subst (λ t. ClearAfter t q v (leave.steps ++ ((ret.steps ++ puts.steps) ++ v))) (kept_kept (page == q)) ((does_then back.0 left.does).clear q) ((is_clear met.at met.ended).on q) };
+        clear = record { on = λ q. subst (λ t. ClearAfter t q v (leave.steps ++ ((ret.steps ++ puts.steps) ++ v))) (kept_kept _) ((does_then back.0 left.does).clear q) ((is_clear met.at met.ended).on q) };
       });
       order = record { puts = puts.steps; order = puts.order; after = ret.steps; returns = ret.order; left = leave.steps; leaves = leave.order; steps_are = refl };
     }
@@ -345,9 +353,9 @@ module _ {σ σ1 : Standing} (page : ℕ) (d : Directory) (epoch : ℕ) (used : 
     (t : TakesUntilUsed page σ σ1 used) where
   is_taken : (v : View) → MayTake page d epoch v → IsTaken page epoch grains (takes_until page used ++ v)
   is_taken v met = record {
-    at = at_as (masked page grains) (at_takes page used v met.at) (λ g. ap (λ x. (page == g / 256) && x) (sym (got (g % 256))));
+    at = at_as _ (at_takes page used v met.at) (λ g. ap (λ x. (page == g / 256) && x) (sym (got (g % 256))));
     ended = takes_examined page used v;
-    epoch_is = epoch_same (Taking ∷ []) refl (takes_until page used) v (takes_are page used) ∙ met.epoch_is;
+    epoch_is = epoch_same (Taking ∷ []) refl _ v (takes_are page used) ∙ met.epoch_is;
   }
 
   -- Takes up to the first used word hold the grains that were read as free.
@@ -370,7 +378,7 @@ module _ {σ σ1 : Standing} (page : ℕ) (d : Directory) (epoch : ℕ) (used : 
         let c : Calls σ1 σ2 (IsTaken page epoch grains) (λ v w. IsAt page (masked page grains) true w × (examines w page ≡ false)) j.steps
         = call_by j.adds may_judge (λ v is agreed. (at_idle j.steps v only_idle is.at, unexamined_over idle refl page j.steps v only_idle is.ended)) in
         let both = call_then (λ v w. IsAt page (masked page grains) true w × (examines w page ≡ false)) took c (λ v met is. is) (λ v met is after. after) in
-        call_as (λ v w. MayPutBack page d grains w) (call_knows page d both (λ v met. met.deed)) (λ v met. met) (λ v w met h. record { at = h.0.0; ended = h.0.1; deed = h.1 })
+        call_as _ (call_knows page d both (λ v met. met.deed)) (λ v met. met) (λ v w met h. record { at = h.0.0; ended = h.0.1; deed = h.1 })
 
     -- After the judgement all that was got may be put back.
     pub can_put : CanCall σ (MayTake page d epoch) → CanCall σ2 (MayPutBack page d grains)
@@ -394,6 +402,7 @@ module _ {σ σ1 : Standing} (page : ℕ) (d : Directory) (epoch : ℕ) (used : 
       };
     }
 
+-- A call that leaves nothing behind, by the steps of an examination, is one.
 examined : {σ σ' : Standing} (page epoch : ℕ) (outcome : Outcome) (steps : List Made) → Calls σ σ' (MayExamine page epoch) (λ v w. HasNothing w) steps
     → ExamineSteps σ.seat.profile.age epoch page outcome steps → ExaminesPage page epoch σ σ' outcome
 examined {σ} page epoch outcome steps calls order = let age = σ.seat.profile.age in record {
@@ -405,6 +414,7 @@ examined {σ} page epoch outcome steps calls order = let age = σ.seat.profile.a
   event = λ v known. examine_event σ.seat.actor age epoch page outcome steps v order known;
 }
 
+-- Idle steps leave a page that may be examined so.
 still : (page epoch : ℕ) (steps : List Made) (v : View) → Only idle steps → MayExamine page epoch v → MayExamine page epoch (steps ++ v)
 still page epoch steps v only met = record { at = at_idle steps v only met.at; epoch_is = epoch_same idle refl steps v only ∙ met.epoch_is }
 
@@ -413,19 +423,21 @@ looks_idle page used = only_within (LookFree ∷ []) idle (looks_until page used
 
 -- ---- the examination ends at a backed word that is 0, and at a free word that isn't all ones
 used_ends : (page : ℕ) (used : Used) (v : View) → IsUsed used → examines (looks_until page (Some used) ++ v) page ≡ false
-used_ends page used v is = ended_by page (not (used.value == all_ones)) (examines (looks page ones used.word ++ v) page) (ap not (ne_eqb used.value all_ones is.some))
+used_ends page used v is = ended_by page _ _ (ap not (ne_eqb used.value all_ones is.some))
 
 -- A page whose backed word reads as 0 is bare.
 pub bare_page : {σ σ1 : Standing} (page epoch b : ℕ) → Makes σ σ1 (Look (Word.Backed page)) b → b ≡ 0 → ExaminesPage page epoch σ σ1 Bare
-bare_page page epoch b makes zero = examined page epoch Bare (made (Look (Word.Backed page)) b ∷ [])
-    (call_step (λ v w. HasNothing w) (call_none {R = λ v w. MayExamine page epoch w} (λ v met. met)) makes (λ v met is. tt) (λ v met is agrees. rests (at_idle (made (Look (Word.Backed page)) b ∷ []) v (refl, tt) met.at) (ended_by page (b == 0) (examines v page) (eq-eqb b 0 zero))))
-    (inl (ap (λ n. made (Look (Word.Backed page)) n ∷ []) zero))
+bare_page page epoch b makes none = examined page epoch Bare (made (Look (Word.Backed page)) b ∷ [])
+    (call_step (λ v w. HasNothing w) (call_none {R = λ v w. MayExamine page epoch w} (λ v met. met)) makes (λ v met is. tt) (λ v met is agrees. rests
+    (at_idle (made (Look (Word.Backed page)) b ∷ []) v (refl, tt) met.at) (ended_by page (b == 0) (examines v page) (eq-eqb b 0 none))))
+    (inl (ap (λ n. made (Look (Word.Backed page)) n ∷ []) none))
 
 -- ---- the page is backed
 abbrev IsSeen : ℕ → ℕ → View → Type 0
 IsSeen page epoch v = MayExamine page epoch v × ReadBacked v page
 
 module _ {σ σ1 : Standing} (page epoch b : ℕ) (some : b ≢ 0) (first : Makes σ σ1 (Look (Word.Backed page)) b) where
+  -- The look at the backed word, as a call.
   backed : Calls σ σ1 (MayExamine page epoch) (λ v w. IsSeen page epoch w) (made (Look (Word.Backed page)) b ∷ [])
   backed = call_step (λ v w. IsSeen page epoch w) (call_none {R = λ v w. MayExamine page epoch w} (λ v met. met)) first (λ v met is. tt)
       (λ v met is agrees. (still page epoch (made (Look (Word.Backed page)) b ∷ []) v (refl, tt) met, inl (same_page page, omega (arith, agrees.small, some))))
@@ -435,10 +447,11 @@ module _ {σ σ1 : Standing} (page epoch b : ℕ) (some : b ≢ 0) (first : Make
   used_page {σ2} used l =
       let c : Calls σ1 σ2 (IsSeen page epoch) (λ v w. HasNothing w) (looks_until page (Some used))
       = call_by l.adds (λ v met. tt) (λ v is agreed. rests (at_idle (looks_until page (Some used)) v (looks_idle page (Some used)) is.0.at) (used_ends page used v l.are)) in
-      examined page epoch (InUse used.word used.value) (first_looks page b (Some used)) (call_then (λ v w. HasNothing w) backed c (λ v met is. is) (λ v met is r. r)) (inl (b, some, l.are, refl))
+      examined page epoch _ _ (call_then (λ v w. HasNothing w) backed c (λ v met is. is) (λ v met is r. r)) (inl (b, some, l.are, refl))
 
   -- each free word is all ones
   module _ {σ2 : Standing} (l : ReadsUntilUsed page σ1 σ2 None) where
+    -- The look at the backed word and those at the free words, as one call.
     seen : Calls σ σ2 (MayExamine page epoch) (λ v w. IsSeen page epoch w) (first_looks page b None)
     seen =
         let c : Calls σ1 σ2 (IsSeen page epoch) (λ v w. IsSeen page epoch w) (looks_until page None)
@@ -450,6 +463,7 @@ module _ {σ σ1 : Standing} (page epoch b : ℕ) (some : b ≢ 0) (first : Make
     can_read can = next_call seen can (λ v met is. is.1)
 
     module _ {σ3 : Standing} (d : Directory) (r : ReadsDirectory page σ2 σ3 d) where
+      -- With the look at the deed word its directory is known.
       known : Calls σ σ3 (MayExamine page epoch) (λ v w. MayExamine page epoch w
           × KnowsDeed page d w) (made (Look (Word.Deed page)) (deed_word_of d) ∷ first_looks page b None)
       known =
@@ -470,8 +484,8 @@ module _ {σ σ1 : Standing} (page epoch b : ℕ) (some : b ≢ 0) (first : Make
         -- After the claim its actor has the page's right exactly where it was got, and knows its deed.
         pub asked : Calls σ σ4 (MayExamine page epoch) (λ v w. IsAt page none got w × (known_epoch w ≡ Some epoch) × KnowsDeed page d w) asking
         unfolding asking
-        asked = call_then (λ v w. IsAt page none got w × (known_epoch w ≡ Some epoch) × KnowsDeed page d w) known (call_knows page d cl.calls (λ v met. met)) (λ v met is. is.1)
-            (λ v met is r. (at_claim page d cl.answer got (made (Look (Word.Deed page)) (deed_word_of d) ∷ (first_looks page b None ++ v)) r.0 is.0.at, is.0.epoch_is, r.1))
+        asked = call_then (λ v w. IsAt page none got w × (known_epoch w ≡ Some epoch) × KnowsDeed page d w) known (call_knows page d cl.calls (λ v met. met))
+            (λ v met is. is.1) (λ v met is r. (at_claim page d cl.answer got _ r.0 is.0.at, is.0.epoch_is, r.1))
 
         -- The looks and the claim are what is asked of a page.
         pub asks : AsksSteps page d got asking
@@ -481,7 +495,7 @@ module _ {σ σ1 : Standing} (page epoch b : ℕ) (some : b ≢ 0) (first : Make
       -- A page whose claim failed, and which was hinted again, is not offered.
       pub page_not_offered : {σ4 σ5 : Standing} (cl : Claims page d σ3 σ4 false) (h : ℕ) → Makes σ4 σ5 (Hint page) h → ExaminesPage page epoch σ σ5 NotOffered
       page_not_offered cl h makes = examined page epoch NotOffered (made (Hint page) h ∷ asking false cl)
-          (call_step (λ v w. HasNothing w) (asked false cl) makes (λ v met is. tt) (λ v met is agrees. rests (at_idle (made (Hint page) h ∷ []) (asking false cl ++ v) (refl, tt) is.0) (ends page (examines (asking false cl ++ v) page))))
+          (call_step (λ v w. HasNothing w) (asked false cl) makes (λ v met is. tt) (λ v met is agrees. rests (at_idle (made (Hint page) h ∷ []) (asking false cl ++ v) (refl, tt) is.0) (ends page _)))
           (inl (d, h, asking false cl, asks false cl, refl))
 
       module _ {σ4 : Standing} (cl : Claims page d σ3 σ4 true) where
@@ -494,8 +508,8 @@ module _ {σ σ1 : Standing} (page epoch b : ℕ) (some : b ≢ 0) (first : Make
 
         -- A page that was claimed and taken has the outcome of its judgement.
         pub page_taken : {σ5 : Standing} {outcome : Outcome} → TakesPage page d epoch σ4 σ5 outcome → ExaminesPage page epoch σ σ5 outcome
-        page_taken {outcome = outcome} t = examined page epoch outcome (t.steps ++ asking true cl) (call_then (λ v w. HasNothing w) (asked true cl) t.calls (λ v met is. may_take is) (λ v met is r. r))
-            (inr record { directory = d; asked = asking true cl; asks = asks true cl; after = t.steps; takes = subst (λ s. TakesSteps s.profile.age epoch page d outcome t.steps) (asked true cl).adds.seat_is t.order; steps_are = refl })
+        page_taken {outcome = outcome} t = examined page epoch outcome _ (call_then _ (asked true cl) t.calls (λ v met is. may_take is) (λ v met is r. r))
+            (inr record { directory = d; asked = asking _ cl; asks = asks _ cl; after = t.steps; takes = subst (λ s. TakesSteps s.profile.age epoch page d outcome t.steps) (asked true cl).adds.seat_is t.order; steps_are = refl })
 
 looks_hold : (page g : ℕ) (used : Option Used) (v : View) → holds (looks_until page used ++ v) g ≡ holds v g
 looks_hold page g used v = holds_same (LookFree ∷ []) refl g (looks_until page used) v (until_only page used)
@@ -509,19 +523,19 @@ pub used_by_others : (age epoch page word value : ℕ) (steps : List Made) → E
 used_by_others age epoch page word value steps (inl h) = let b = made (Look (Word.Backed page)) h.0 ∷ [] in (
   h.2.some,
   subst (Once (UsedByOthers page word value)) (sym h.3)
-      (inl (ReadsFree.Looks, refl, λ g at here. holds_same (LookFree ∷ []) refl g (looks page ones word) b (looks_only page ones word))),
+      (inl (ReadsFree.Looks, refl, λ g at here. holds_same (LookFree ∷ []) refl g _ b (looks_only page ones word))),
 )
 used_by_others age epoch page word value steps (inr h) =
     let t = h.takes in
     let used : IsUsed (used_at word value) = subst AreUsed t.judged.0 t.are in
-    let are = taken_on age epoch page (InUse word value) steps h ∙ ap (λ s. t.back ++ (s ++ (takes_until page t.used ++ h.asked))) t.judged.1 ∙ ap (λ u. t.back ++ (takes_until page u ++ h.asked)) t.judged.0 in (
+    let are = taken_on age epoch page _ steps h ∙ ap (λ s. t.back ++ (s ++ (takes_until page t.used ++ h.asked))) t.judged.1
+    ∙ ap (λ u. t.back ++ (takes_until page u ++ h.asked)) t.judged.0 in (
       used.some,
-      subst (Once (UsedByOthers page word value)) (sym are) (once_later (UsedByOthers page word value) t.back (takes_until page (Some (used_at word value)) ++ h.asked)
-          (inl (
-            ReadsFree.Takes all_ones,
-            refl,
-            λ g at here. takes_hold page word g h.asked (asks_none page h.directory h.asked h.asks g) ∙ and_right (page == g / 256) (nat_lt (g % 256 / 64) word) (le-ltb (g % 256 / 64) word (omega (arith, here))),
-          ))),
+      subst (Once (UsedByOthers page word value)) (sym are) (once_later _ t.back _ (inl (
+        ReadsFree.Takes all_ones,
+        refl,
+        λ g at here. takes_hold page word g h.asked (asks_none page h.directory h.asked h.asks g) ∙ and_right (page == g / 256) (nat_lt (g % 256 / 64) word) (le-ltb _ word (omega (arith, here))),
+      ))),
     )
 
 -- A page that was unbacked was held whole, with a stamp that is old enough.
@@ -530,10 +544,216 @@ unbacked_when_old age epoch page steps (inl h) = absurd h
 unbacked_when_old age epoch page steps (inr h) =
     let t = h.takes in let j = t.judged in
     let are = taken_on age epoch page Unbacked steps h ∙ ap (λ s. t.back ++ (s ++ (takes_until page t.used ++ h.asked))) j.6 in
-    subst (Once (UnbackedHere age epoch page)) (sym are) (once_later (UnbackedHere age epoch page) t.back _ (inl (
+    subst (Once (UnbackedHere age epoch page)) (sym are) (once_later _ t.back _ (inl (
       refl,
       λ g at.
           until_holds page t.used g h.asked (asks_none page h.directory h.asked h.asks g)
-          ∙ and_from (page == g / 256) (was_free t.used (g % 256)) (eq-eqb page (g / 256) (sym at)) (ap (λ u. was_free u (g % 256)) j.3 ∙ lt-ltb (g % 256 / 64) 4 (omega arith)),
+          ∙ and_from _ _ (eq-eqb page _ (sym at)) (ap (λ u. was_free u (g % 256)) j.3 ∙ lt-ltb _ 4 (omega arith)),
       inl (refl, j.5),
     )))
+
+-- ==== Tries of pages, one after the other, and the whole pass.
+
+-- A call of kinds that make no event leaves its room as it was.
+pub same_room : {σ σ' : Standing} {B : View → Type 0} {R : View → View → Type 0} {xs : List Made} (ks : Kinds) → apart ks showing ≡ true → (spare spare' : ℕ)
+    → Calls σ σ' B R xs → (can : CanCall σ B) → Only ks xs → Spares σ spare → Spares σ' spare' → spare' ≡ spare
+same_room {σ} {B = B} {xs = xs} ks w spare spare' c can only old new =
+    let e = spare_falls {C = B} spare spare' 0 c.adds can old new (ap (λ (es : List Event). length es) (no_events ks w σ.seat.actor can.view xs only)) in omega (arith, e)
+
+-- ---- outcomes and events of some pages and of more
+with_append : (page : ℕ) (o : Option Outcome) (xs ys : List (ℕ × Outcome)) → with_outcome page o (xs ++ ys) ≡ with_outcome page o xs ++ ys
+with_append page o xs ys = grind arith
+
+-- The outcomes of two lists of tries are those of both, one after the other.
+pub outcomes_append : (xs ys : List Tried) → outcomes_in (xs ++ ys) ≡ outcomes_in xs ++ outcomes_in ys
+outcomes_append [] ys = refl
+outcomes_append (x ∷ xs) ys = ap (with_outcome x.page x.outcome) (outcomes_append xs ys) ∙ with_append x.page x.outcome (outcomes_in xs) (outcomes_in ys)
+
+unbacks_append : (k epoch : ℕ) (xs ys : List (ℕ × Outcome)) → unbacks_in k epoch (xs ++ ys) ≡ unbacks_in k epoch xs ++ unbacks_in k epoch ys
+unbacks_append k epoch [] ys = refl
+unbacks_append k epoch (x ∷ xs) ys = ap (λ es. unback_of k epoch x.0 x.1 ++ es) (unbacks_append k epoch xs ys) ∙ sym (append_assoc _ _ (unbacks_in k epoch ys))
+
+-- A page's outcome makes at most one unback.
+pub one_unback : (k epoch page : ℕ) (o : Outcome) → length (unback_of k epoch page o) ≤ 1
+one_unback k epoch page other = grind arith
+
+few_unbacks : (k epoch page : ℕ) (o : Option Outcome) → length (unbacks_in k epoch (with_outcome page o [])) ≤ 1
+few_unbacks k epoch page o = grind (arith, length-append, one_unback)
+
+-- ---- a look that leaves the actor ready
+pub looked_first : {σ σ1 : Standing} (epoch block a : ℕ) (before : List (ℕ × Outcome)) → Makes σ σ1 (Look (Word.Empty block)) a
+    → Tries epoch [] σ σ1 before before (made (Look (Word.Empty block)) a ∷ [])
+looked_first {σ} epoch block a before makes = record {
+  calls = call_step (λ v w. IsReady epoch w) (call_none {R = λ v w. IsReady epoch w} (λ v met. met)) makes (λ v met is. tt)
+      (λ v met is agrees. record { nothing = nothing_still (does_idly _ (LookEmpty ∷ []) refl (made _ a ∷ []) v (refl, tt) (agrees, tt)) met.nothing; epoch_is = met.epoch_is });
+  pairs = refl;
+  kinds = (refl, tt);
+  events = λ v known. refl;
+}
+
+-- ---- tries after tries
+pub tries_then : {σ σ1 σ2 : Standing} {epoch : ℕ} {earlier later : List Tried} {before middle after : List (ℕ × Outcome)} {xs ys : List Made}
+    → Tries epoch earlier σ σ1 before middle xs → Tries epoch later σ1 σ2 middle after ys → Tries epoch (later ++ earlier) σ σ2 before after (ys ++ xs)
+tries_then {σ} {epoch = epoch} {earlier} {later} {before} {middle} {after} {xs} {ys} a b = let k = σ.seat.actor in record {
+  calls = call_then (λ v w. IsReady epoch w) a.calls b.calls (λ v met is. is) (λ v met is r. r);
+  pairs = b.pairs ∙ ap (λ r. outcomes_in later ++ r) a.pairs ∙ sym (append_assoc _ _ (reverse before)) ∙ ap (λ r. r ++ reverse before) (sym (outcomes_append later earlier));
+  kinds = only_both trying ys xs b.kinds a.kinds;
+  events = λ v known.
+      let there : events_by k (xs ++ v) ys ≡ unbacks_in k epoch (outcomes_in later)
+      = subst (λ s. events_by s.actor (xs ++ v) ys ≡ unbacks_in s.actor epoch (outcomes_in later)) a.calls.adds.seat_is (b.events (xs ++ v) (epoch_same trying refl xs v a.kinds ∙ known)) in
+      cc (events_append k ys xs v, a.events v known, unbacks_append k epoch (outcomes_in later) (outcomes_in earlier), outcomes_append later earlier);
+}
+
+-- Each unback of the tries takes up one event of the room.
+pub spare_by : {σ σ' : Standing} {epoch : ℕ} {tried : List Tried} {before after : List (ℕ × Outcome)} {steps : List Made} (spare spare' : ℕ)
+    → Tries epoch tried σ σ' before after steps → CanCall σ (IsReady epoch) → Spares σ spare → Spares σ' spare'
+    → spare' + length (unbacks_in σ.seat.actor epoch (outcomes_in tried)) ≡ spare
+spare_by {σ} {epoch = epoch} {tried} spare spare' t can old new = spare_falls {C = IsReady epoch} spare spare' _ t.calls.adds can old new (ap (λ (es : List Event). length es) (t.events can.view can.met.epoch_is))
+
+-- A try of a page takes up at most one event of the room.
+pub spare_page : {σ σ' : Standing} {page epoch : ℕ} {before after : List (ℕ × Outcome)} (spare spare' : ℕ) → TriesPage page epoch σ σ' before after
+    → CanCall σ (IsReady epoch) → Spares σ spare → Spares σ' spare' → spare ≤ spare' + 1
+spare_page {σ} {page = page} {epoch} spare spare' t can old new = let e = spare_by _ _ t.tries can old new in let few = few_unbacks σ.seat.actor epoch page t.outcome in omega (arith, e, few)
+
+-- A page has one outcome at most.
+one_more : (page : ℕ) (o : Option Outcome) → length (with_outcome page o []) ≤ 1
+one_more page o = grind arith
+
+-- at most one pair more
+pub one_pair : (page : ℕ) (o : Option Outcome) (before after : List (ℕ × Outcome)) → reverse after ≡ with_outcome page o [] ++ reverse before
+    → length after ≤ length before + 1
+one_pair page o before after pairs = search (arith, length-reverse, length-append, one_more)
+
+-- ---- one page
+not_begun : (page a : ℕ) (was : Bool) → has_bit a (page % 64) ≡ false → was ≡ false → (if (page == page) && has_bit a (page % 64) then true else was) ≡ false
+not_begun page a was none h = ap (λ t. if t && has_bit a (page % 64) then true else was) (same_page page) ∙ ap (λ t. if t then true else was) none ∙ h
+
+module _ {σ σ1 : Standing} (page epoch a : ℕ) (makes : Makes σ σ1 (Unhint page) a) where
+  -- Once its empty bit was cleared the page may be examined.
+  unhinted : Calls σ σ1 (IsReady epoch) (λ v w. MayExamine page epoch w) (made (Unhint page) a ∷ [])
+  unhinted = call_step (λ v w. MayExamine page epoch w) (call_none {R = λ v w. IsReady epoch w} (λ v met. met)) makes (λ v met is. tt)
+      (λ v met is agrees. record { at = at_unhint page a v met.nothing; epoch_is = met.epoch_is })
+
+  -- A page whose hint was taken away may be examined.
+  pub can_examine : CanCall σ (IsReady epoch) → CanCall σ1 (MayExamine page epoch)
+  can_examine can = next_call unhinted can (λ v met may. may)
+
+  -- A page whose empty bit was 0 isn't tried, and has no outcome.
+  pub tries_none : (before : List (ℕ × Outcome)) → has_bit a (page % 64) ≡ false → TriesPage page epoch σ σ1 before before
+  tries_none before none = record {
+    outcome = None;
+    steps = made (Unhint page) a ∷ [];
+    order = (a, none, refl);
+    tries = record {
+      calls = call_step (λ v w. IsReady epoch w) (call_none {R = λ v w. IsReady epoch w} (λ v met. met)) makes (λ v met is. tt)
+          (λ v met is agrees. record { nothing = rests (at_unhint page a v met.nothing) (not_begun page a _ none (met.nothing.clear.on page).examined); epoch_is = met.epoch_is });
+      pairs = refl;
+      kinds = (refl, tt);
+      events = λ v known. refl;
+    };
+    few = omega arith;
+  }
+
+  -- A page whose empty bit was set is examined, and its outcome is the last one found.
+  pub tries_some : {σ2 : Standing} {outcome : Outcome} (before after : List (ℕ × Outcome)) → has_bit a (page % 64) ≡ true
+      → ExaminesPage page epoch σ1 σ2 outcome → after ≡ before ++ pair page outcome ∷ [] → TriesPage page epoch σ σ2 before after
+  tries_some {σ2} {outcome} before after set x added =
+      let unhint = made (Unhint page) a ∷ [] in
+      let c : Calls σ1 σ2 (MayExamine page epoch) (λ v w. IsReady epoch w) x.steps
+      = call_by x.calls.adds (λ v may. may) (λ v may agreed. record { nothing = x.calls.leads.from v may agreed; epoch_is = epoch_same examining refl x.steps v x.kinds ∙ may.epoch_is }) in
+      record {
+        outcome = Some outcome;
+        steps = x.steps ++ unhint;
+        order = (a, set, x.steps, subst (λ s. ExamineSteps s.profile.age epoch page outcome x.steps) makes.seat_is x.order, refl);
+        tries = record {
+          calls = call_then (λ v w. IsReady epoch w) unhinted c (λ v met may. may) (λ v met may r. r);
+          pairs = ap reverse added ∙ reverse-append before _;
+          kinds = only_both trying x.steps unhint (only_within examining trying x.steps refl x.kinds) (refl, tt);
+          events = search (arith, events_append);
+        };
+        few = let n = length-append x.steps unhint in omega (arith, n, x.few);
+      }
+
+-- ---- the pages of a word
+skip : (number value m n : ℕ) → m ≤ n → ((b : ℕ) → m ≤ b → b < n → has_bit value b ≡ false) → pages_set number value n ≡ pages_set number value m
+skip number value m zero le none = let same : zero ≡ m = omega (arith, le) in ap (pages_set number value) same
+skip number value m (suc n) le none = elim (cases_eq m (suc n)) [
+  | inl e ↦ ap (pages_set number value) (sym e)
+  | inr ne ↦
+      let below : m ≤ n = omega (arith, le, ne) in
+      ap (λ t. if t then (64 * number + n) ∷ pages_set number value n else pages_set number value n) (none n below (omega arith)) ∙ skip number value m n below (λ b low high. none b low (omega (arith, high)))
+]
+
+-- a page whose bit is set in an empty word is one of the region
+pub hinted_page : (f : Profile) (block value next page : ℕ) → AgreesEmpty f block value → IsLowestPage value block next page → IsPage f page
+hinted_page f block value next page agrees is = let here = is.here in let whole : 64 * block + page % 64 ≡ page = omega (arith, here) in
+    subst (IsPage f) whole (agrees.page (page % 64) (omega arith) is.set)
+
+-- The pages set in a word up to the lowest found are that page and those before it.
+pub next_page : (number value next page : ℕ) → 64 * number ≤ next → IsLowestPage value number next page
+    → pages_set number value (page + 1 - 64 * number) ≡ page ∷ pages_set number value (next - 64 * number)
+next_page number value next page from is =
+    let above = is.above in let here = is.here in
+    let at : page + 1 - 64 * number ≡ suc (page % 64) = omega (arith, here) in
+    let whole : 64 * number + page % 64 ≡ page = omega (arith, here) in
+    ap (pages_set number value) at
+    ∙ ap (λ t. if t then (64 * number + page % 64) ∷ pages_set number value (page % 64) else pages_set number value (page % 64)) is.set
+    ∙ ap (λ p. p ∷ pages_set number value (page % 64)) whole ∙ ap (λ ps. page ∷ ps) (skip number value _ _ (omega (arith, above, here, from)) (λ b low high.
+    let p : (64 * number + b) % 64 ≡ b = omega (arith, high) in
+    ap (has_bit value) (sym p) ∙ is.lowest (64 * number + b) (omega (arith, low, from)) (omega (arith, high)) (omega (arith, high, whole))))
+
+-- Where no page is left in a word, all those set in it were tried.
+pub last_page : (number value next : ℕ) → 64 * number ≤ next → next ≤ 64 * number + 64 → HasNoPage value number next
+    → pages_set number value 64 ≡ pages_set number value (next - 64 * number)
+last_page number value next from to none = skip number value _ 64 (omega (arith, to)) (λ b low high.
+    let p : (64 * number + b) % 64 ≡ b = omega (arith, high) in
+    ap (has_bit value) (sym p) ∙ none (64 * number + b) (omega (arith, low, from)) (omega (arith, high)))
+
+-- no try yet
+pub tries_nothing : {σ : Standing} (epoch : ℕ) (found : List (ℕ × Outcome)) → found ≡ [] → Tries epoch [] σ σ [] found []
+tries_nothing epoch found none = record { calls = call_none (λ v met. met); pairs = ap reverse none; kinds = tt; events = λ v known. refl }
+
+module _ {σ σ1 : Standing} (epoch : ℕ) (makes : Makes σ σ1 (Look Word.Epoch) epoch) where
+  abbrev look : List Made
+  look = made (Look Word.Epoch) epoch ∷ []
+
+  read_epoch : Calls σ σ1 HasNothing (λ v w. IsReady epoch w) look
+  read_epoch = call_step (λ v w. IsReady epoch w) (call_none {R = λ v w. HasNothing w} (λ v met. met)) makes (λ v met is. tt)
+      (λ v met is agrees. record { nothing = nothing_still (does_idly σ.seat.profile (LookEpoch ∷ []) refl look v (refl, tt) (agrees, tt)) met; epoch_is = refl })
+
+  -- After the look at the epoch the tries may begin.
+  pub is_ready : CanCall σ HasNothing → CanCall σ1 (IsReady epoch)
+  is_ready can = next_call read_epoch can (λ v met is. is)
+
+  -- The look at the epoch leaves the room as it was.
+  pub first_room : (spare spare' : ℕ) → CanCall σ HasNothing → Spares σ spare → Spares σ1 spare' → spare' ≡ spare
+  first_room spare spare' can old new = let e = spare_falls {C = HasNothing} spare spare' 0 read_epoch.adds can old new refl in omega (arith, e)
+
+  -- The look at the epoch, and the tries of the pages of each word, are the pass.
+  pub passed : {σ2 : Standing} (words : List WordRead) (read : List Made) (found : List (ℕ × Outcome))
+      → map (λ w. w.number) words ≡ numbers_below (vector_words σ1.seat.profile.pages) → InTurn (WordSteps σ1.seat.profile.age epoch) words read
+      → Tries epoch (all_tried words) σ1 σ2 [] found read → length read ≤ vector_words σ1.seat.profile.pages + 38 * length (all_tried words)
+      → Passes σ σ2 epoch found
+  passed words read found numbers order tries few =
+      let k = σ.seat.actor in let same = makes.seat_is in
+      let found_are : reverse found ≡ outcomes_in (all_tried words) = tries.pairs ∙ append-nil _ in
+      record {
+        steps = read ++ look;
+        order = record {
+          words = words;
+          numbers_are = subst (λ s. map (λ w. w.number) words ≡ numbers_below (vector_words s.profile.pages)) same numbers;
+          read = read;
+          order = subst (λ s. InTurn (WordSteps s.profile.age epoch) words read) same order;
+          found_are = found_are;
+          steps_are = refl;
+          kinds = only_both passing read look (only_within trying passing read refl tries.kinds) (refl, tt);
+          events = search (arith, events_append, append-nil);
+          few = let n = length-append read look in let most = subst (λ s. length read ≤ vector_words s.profile.pages + 38 * length (all_tried words)) same few in omega (arith, n, most);
+        };
+        calls = call_then (λ v w. HasNothing w) read_epoch tries.calls (λ v met is. is) (λ v met is r. r.nothing);
+      }
+
+-- Each unback of a pass takes up one event of the room.
+pub spare_pass : {σ σ' : Standing} {epoch : ℕ} {found : List (ℕ × Outcome)} (spare spare' : ℕ) → Passes σ σ' epoch found → CanCall σ HasNothing → Spares σ spare
+    → Spares σ' spare' → spare' + length (unbacks_in σ.seat.actor epoch (reverse found)) ≡ spare
+spare_pass {σ} {epoch = epoch} {found} spare spare' p can old new = spare_falls {C = HasNothing} spare spare' _ p.calls.adds can old new (ap (λ (es : List Event). length es) (p.order.events can.view))

@@ -1,2 +1,1 @@
 pub mod Examinations
-pub mod Trying

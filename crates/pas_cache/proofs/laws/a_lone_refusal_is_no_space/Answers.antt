@@ -2,4 +2,4 @@ use Rattle.pas_cache.proofs.Alone.{no_space}
 use Rattle.pas_cache.proofs.laws.a_lone_refusal_is_no_space.Goals as goal
 
 pub returns : goal.returns
-returns c = λ f heap size align k found c1 c2 l steps room valid admitted rest others legal serves. no_space f heap size align k found c1 c2 l steps room valid admitted rest legal others serves
+returns c = λ f heap size align k found c1 c2 l steps room valid admitted rest others legal serves. no_space f _ _ _ k _ c1 c2 l _ room valid admitted rest legal others serves

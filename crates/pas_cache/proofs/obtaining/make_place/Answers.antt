@@ -1,4 +1,4 @@
-use Rattle.pas_cache.proofs.{Stops.rests_call, Obtained.none_shortened, Obtained.makes_place}
+use Rattle.pas_cache.proofs.Obtained.{rests_call, none_shortened, makes_place}
 use Rattle.pas_cache.proofs.obtaining.make_place.Goals as goal
 
 pub shorten-requires : goal.shorten-requires

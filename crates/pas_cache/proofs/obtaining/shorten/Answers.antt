@@ -1,5 +1,5 @@
 use Rattle.std.proofs.Common.{sym, ◌∙◌}
-use Rattle.pas_cache.proofs.Stops.{releases_none, shortens_full, shortens_none}
+use Rattle.pas_cache.proofs.Obtained.{releases_none, shortens_full, shortens_none}
 use Rattle.pas_cache.proofs.obtaining.shorten.Goals as goal
 
 pub returns-then-is_full-clause-shortens : goal.returns-then-is_full-clause-shortens

@@ -1,4 +1,4 @@
-use Rattle.pas_cache.proofs.Stops.{local_of, may_call, stops_place, spare_kept}
+use Rattle.pas_cache.proofs.Obtained.{local_of, may_call, stops_place, spare_kept}
 use Rattle.pas_cache.proofs.stopping.stop_at.Goals as goal
 
 pub give_up-requires : goal.give_up-requires

@@ -1,5 +1,5 @@
 use Rattle.std.proofs.Common.{arith, refl, sym}
-use Rattle.pas_cache.proofs.{Locals.none_any, Locals.at_end, Obtained.none_at_all, Obtained.brings, Obtained.none_cached}
+use Rattle.pas_cache.proofs.{Resting.none_any, Resting.at_end, Obtained.none_at_all, Obtained.brings, Obtained.none_cached}
 use Rattle.pas_cache.specs.Locals.{is_for}
 use Rattle.pas_cache.proofs.taking.bring_cached.Goals as goal
 
@@ -13,4 +13,4 @@ pub returns-then-place-locals : goal.returns-then-place-locals
 returns-then-place-locals c = brings _ c.requires c.in-Some.ensures _ c.if-not-has_slot.ensures (c.move_to_end.ensures _)
 
 pub returns-else-place-locals : goal.returns-else-place-locals
-returns-else-place-locals c = brings _ c.requires c.in-Some.ensures _ c.if-not-has_slot.ensures (at_end c.args.locals.now c.in-Some.place _ (omega (arith, c.in-Some.ensures.within)))
+returns-else-place-locals c = brings _ c.requires c.in-Some.ensures _ c.if-not-has_slot.ensures (at_end _ c.in-Some.place _ (omega (arith, c.in-Some.ensures.within)))

@@ -1,19 +1,19 @@
 use Rattle.std.proofs.Common.{◌/◌, ◌++◌, refl, sym, ◌∙◌}
 use Rattle.pas_steps.proofs.Adding.{can_step}
 use Rattle.pas_free_log.specs.declared.ending.Outcome.TheVariants.{Ended, Refused}
-use Rattle.pas_free_log.proofs.OneEntry.{looked, ended_run, first_look, ends_by_room, room_end, some_room, refused_by_room}
+use Rattle.pas_free_log.proofs.OneEntry.{looked, ended_run, ends_by_room, room_end, some_room, refused_by_room}
 use Rattle.pas_free_log.proofs.ending.end_by_room.Goals as goal
 
 pub end_sized-read-requires-clause-can : goal.end_sized-read-requires-clause-can
-end_sized-read-requires-clause-can g c = can_step (looked c.args.entry.name c.look-deed.result c.look-deed.ensures.makes) c.requires.can (room_end _ c.args.entry c.requires.entry c.requires.sized) (λ v l stood met. met)
+end_sized-read-requires-clause-can g c = can_step (looked c.args.entry.name _ c.look-deed.ensures.makes) c.requires.can (room_end _ _ c.requires.entry c.requires.sized) (λ v l stood met. met)
 
 pub returns-then-read-life_word-clause-ends : goal.returns-then-read-life_word-clause-ends
 returns-then-read-life_word-clause-ends g c =
     let live = c.if-read-life_word.true ∙ c.life_word.ensures in
-    ends_by_room c.args.entry (Ended (c.args.entry.room / 16)) c.read_deed-directory.result c.look-deed.result c.end_sized-read.result c.requires.sized c.read_deed-directory.ensures (looked c.args.entry.name c.look-deed.result c.look-deed.ensures.makes) c.end_sized-read.ensures.makes c.requires.can
-    (λ v agrees. ((live, refl), ended_run (g.D.Desk.standing c.args.desk.now).seat.profile (first_look c.args.entry.name c.look-deed.result ++ v) c.args.entry.name (c.args.entry.room / 16) c.end_sized-read.result (some_room _ c.args.entry c.requires.entry c.requires.sized) live agrees))
+    ends_by_room _ _ _ _ _ c.requires.sized c.read_deed-directory.ensures (looked c.args.entry.name _ c.look-deed.ensures.makes) c.end_sized-read.ensures.makes c.requires.can
+    (λ v agrees. ((live, refl), ended_run (g.D.Desk.standing c.args.desk.now).seat.profile _ _ _ _ (some_room _ _ c.requires.entry c.requires.sized) live agrees))
 
 pub returns-else-read-life_word-clause-ends : goal.returns-else-read-life_word-clause-ends
-returns-else-read-life_word-clause-ends g c =
-    ends_by_room c.args.entry (Refused c.end_sized-read.result) c.read_deed-directory.result c.look-deed.result c.end_sized-read.result c.requires.sized c.read_deed-directory.ensures (looked c.args.entry.name c.look-deed.result c.look-deed.ensures.makes) c.end_sized-read.ensures.makes c.requires.can
-    (λ v agrees. (refused_by_room c.args.entry c.end_sized-read.result c.requires.sized (λ e. c.if-read-life_word.false (e ∙ sym c.life_word.ensures)), tt))
+returns-else-read-life_word-clause-ends g c = ends_by_room _ _ _ _ _ c.requires.sized c.read_deed-directory.ensures
+    (looked c.args.entry.name _ c.look-deed.ensures.makes) c.end_sized-read.ensures.makes c.requires.can
+    (λ v agrees. (refused_by_room _ _ c.requires.sized (λ e. c.if-read-life_word.false (e ∙ sym c.life_word.ensures)), tt))

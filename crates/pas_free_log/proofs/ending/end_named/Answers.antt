@@ -16,12 +16,13 @@ pub returns-then-read-life_word-clause-ends : goal.returns-then-read-life_word-c
 returns-then-read-life_word-clause-ends g c =
     let is = (c.guess-first.ensures ∙ ap guess_by c.read_deed-directory.ensures) in let some = (guess_length c.look-deed.result).0 in
     let live = c.if-read-life_word.true ∙ c.life_word.ensures in
-    ends_named c.args.name (Ended c.guess-first.result) c.read_deed-directory.result c.look-deed.result c.guess-first.result c.end-read.result [] c.read_deed-directory.ensures (inl (is, refl)) (looked c.args.name c.look-deed.result c.look-deed.ensures.makes) c.end-read.ensures.makes c.requires.can
-    (λ v agrees. ((live, refl), ended_run (g.D.Desk.standing c.args.desk.now).seat.profile (first_look c.args.name c.look-deed.result ++ v) c.args.name c.guess-first.result c.end-read.result (omega (arith, is, some)) live agrees))
+    ends_named c.args.name _ _ _ _ c.end-read.result [] c.read_deed-directory.ensures (inl (is, refl)) (looked c.args.name _ c.look-deed.ensures.makes) c.end-read.ensures.makes c.requires.can
+    (λ v agrees. ((live, refl), ended_run (g.D.Desk.standing _).seat.profile (first_look c.args.name _ ++ v) _ _ _ (omega (arith, is, some)) live agrees))
 
 pub returns-in_default-clause-ends : goal.returns-in_default-clause-ends
 returns-in_default-clause-ends g c =
-    ends_named c.args.name (Refused c.end-read.result) c.read_deed-directory.result c.look-deed.result c.guess-first.result c.end-read.result [] c.read_deed-directory.ensures (inl ((c.guess-first.ensures ∙ ap guess_by c.read_deed-directory.ensures), refl)) (looked c.args.name c.look-deed.result c.look-deed.ensures.makes) c.end-read.ensures.makes c.requires.can
+    ends_named _ _ _ _ _ _ [] c.read_deed-directory.ensures (inl ((c.guess-first.ensures ∙ ap guess_by c.read_deed-directory.ensures), refl))
+    (looked c.args.name _ c.look-deed.ensures.makes) c.end-read.ensures.makes c.requires.can
     (λ v agrees. ((c.in_default.ensures, refl), tt))
 
 -- the second try
@@ -30,16 +31,18 @@ returns-then-read-life_word-2-clause-ends g c =
     let name = c.args.name in let first = c.guess-first.result in let read = c.end-read.result in
     let live = c.if-read-life_word-2.true ∙ c.life_word-2.ensures in
     let before = made (End name first) read ∷ [] in
-    ends_named name (Ended c.in-Some.grains) c.read_deed-directory.result c.look-deed.result c.in-Some.grains c.end-read-2.result before c.read_deed-directory.ensures
-    (again name c.look-deed.result first c.in-Some.grains read (c.guess-first.ensures ∙ ap guess_by c.read_deed-directory.ensures) (λ e. c.if-read-life_word.false (e ∙ sym c.life_word.ensures)) c.in-Some.ensures.0 c.in-Some.ensures.1)
-    (tried name c.look-deed.result first first read [] (inl (refl, refl)) (looked name c.look-deed.result c.look-deed.ensures.makes) c.end-read.ensures.makes) c.end-read-2.ensures.makes c.requires.can
-    (λ v agrees. ((live, refl), ended_again (g.D.Desk.standing c.args.desk.now).seat.profile (first_look name c.look-deed.result ++ v) name first c.in-Some.grains read c.end-read-2.result c.requires.name c.in-Some.ensures.0 c.in-Some.ensures.1 live agrees))
+    ends_named name _ _ c.look-deed.result c.in-Some.grains _ before c.read_deed-directory.ensures
+    (again name c.look-deed.result first _ read (c.guess-first.ensures ∙ ap guess_by c.read_deed-directory.ensures)
+    (λ e. c.if-read-life_word.false (e ∙ sym c.life_word.ensures)) c.in-Some.ensures.0 c.in-Some.ensures.1)
+    (tried name _ first first read [] (inl (refl, refl)) (looked name _ c.look-deed.ensures.makes) c.end-read.ensures.makes) c.end-read-2.ensures.makes c.requires.can
+    (λ v agrees. ((live, refl), ended_again (g.D.Desk.standing c.args.desk.now).seat.profile _ name first c.in-Some.grains read _ c.requires.name c.in-Some.ensures.0 c.in-Some.ensures.1 live agrees))
 
 pub returns-else-read-life_word-2-clause-ends : goal.returns-else-read-life_word-2-clause-ends
 returns-else-read-life_word-2-clause-ends g c =
     let name = c.args.name in let first = c.guess-first.result in let read = c.end-read.result in
     let before = made (End name first) read ∷ [] in
-    ends_named name (Refused c.end-read-2.result) c.read_deed-directory.result c.look-deed.result c.in-Some.grains c.end-read-2.result before c.read_deed-directory.ensures
-    (again name c.look-deed.result first c.in-Some.grains read (c.guess-first.ensures ∙ ap guess_by c.read_deed-directory.ensures) (λ e. c.if-read-life_word.false (e ∙ sym c.life_word.ensures)) c.in-Some.ensures.0 c.in-Some.ensures.1)
-    (tried name c.look-deed.result first first read [] (inl (refl, refl)) (looked name c.look-deed.result c.look-deed.ensures.makes) c.end-read.ensures.makes) c.end-read-2.ensures.makes c.requires.can
-    (λ v agrees. ((gone_since (g.D.Desk.standing c.args.desk.now).seat.profile (first_look name c.look-deed.result ++ v) name first c.in-Some.grains read c.end-read-2.result c.in-Some.ensures.0 c.in-Some.ensures.1 agrees.life (λ e. c.if-read-life_word-2.false (e ∙ sym c.life_word-2.ensures)), refl), tt))
+    ends_named name _ _ c.look-deed.result c.in-Some.grains _ before c.read_deed-directory.ensures
+    (again name c.look-deed.result first _ read (c.guess-first.ensures ∙ ap guess_by c.read_deed-directory.ensures)
+    (λ e. c.if-read-life_word.false (e ∙ sym c.life_word.ensures)) c.in-Some.ensures.0 c.in-Some.ensures.1)
+    (tried name _ first first read [] (inl (refl, refl)) (looked name _ c.look-deed.ensures.makes) c.end-read.ensures.makes) c.end-read-2.ensures.makes c.requires.can
+    (λ v agrees. ((gone_since (g.D.Desk.standing c.args.desk.now).seat.profile _ name first c.in-Some.grains read _ c.in-Some.ensures.0 c.in-Some.ensures.1 agrees.life (λ e. c.if-read-life_word-2.false (e ∙ sym c.life_word-2.ensures)), refl), tt))

@@ -1,23 +1,23 @@
-use Rattle.std.proofs.Common.{◌≡◌, [], ◌∷◌, ◌++◌, get_or, refl, sym, ◌∙◌, subst, arith, append_assoc, option_to_list, take_all}
+use Rattle.std.proofs.Common.{◌≡◌, [], ◌∷◌, ◌++◌, get_or, refl, sym, ◌∙◌, subst, arith, append_assoc, take_all}
 use Rattle.pas_free_log.specs.declared.log.Entry.{Entry}
 use Rattle.pas_profile.specs.declared.word.Word.{Word}
 use Rattle.pas_steps.specs.declared.step.Step.TheVariants.{Look}
-use Rattle.pas_steps.specs.{Views.View, Views.epoch_of, Events.events_by, Calls.nothing, Calls.Does, Calls.Calls, Kinds.LookEpoch, Desks.made, Clear.IsClear}
+use Rattle.pas_steps.specs.{Views.View, Views.epoch_of, Events.events_by, Calls.nothing, Calls.Does, Calls.Calls, Kinds.LookEpoch, Clear.IsClear}
 use Rattle.pas_steps.proofs.{Apart.only_both, Calls.does_none, Calls.does_then, SpareRoom.spare_falls}
 use Rattle.pas_steps.proofs.Called.{call_none, call_idly, call_then, next_call}
-use Rattle.pas_free_log.specs.{Logs.entries_in, Logs.entry_of, Frames.ending, Flushes.Settled, Flushes.event_for}
-use Rattle.pas_free_log.proofs.AllEntries.{events_more, stamps_more, entries_more, noted_more, noted_none, ranges_more, may_end, flushed}
+use Rattle.pas_free_log.specs.{Logs.entry_of, Frames.ending, Flushes.Settled, Flushes.event_for}
+use Rattle.pas_free_log.proofs.OneEntry.{events_more, stamps_more, entries_more, noted_more, noted_none, ranges_more, may_end, flushed}
 use Rattle.pas_free_log.proofs.flushing.flush.Goals as goal
 
 pub loop-entry-init : goal.loop-entry-init
 loop-entry-init g c =
     let D = g.D.Desk in
-    let calls : Calls (D.standing c.args.desk.now) (D.standing c.look.new.self) IsClear (Does nothing) (made (Look Word.Epoch) c.look.result ∷ []) = call_idly (LookEpoch ∷ []) refl (call_none (λ v met. does_none v)) c.look.ensures.makes refl (λ v met d. tt) in
+    let calls = call_idly (LookEpoch ∷ []) refl (call_none (λ v met. does_none v)) c.look.ensures.makes refl (λ v met d. tt) in
     record {
       epoch = c.look.result;
       settled = [];
       entries_are = refl;
-      noted = noted_none c.args.ended.now.items;
+      noted = noted_none _;
       ranges = λ are. are;
       entries = [];
       order = refl;
@@ -25,7 +25,7 @@ loop-entry-init g c =
       kinds = tt;
       events = λ v is. refl;
       stamps = λ v is. refl;
-      spare = spare_falls {C = IsClear} (D.spare_of c.args.desk.now) (D.spare_of c.look.new.self) 0 calls.adds c.requires.can (λ v l stood. g.met.D.Desk.spares c.args.desk.now v l stood) (λ v l stood. g.met.D.Desk.spares c.look.new.self v l stood) refl;
+      spare = spare_falls {C = IsClear} _ _ 0 calls.adds c.requires.can (λ v l stood. g.met.D.Desk.spares c.args.desk.now v l stood) (λ v l stood. g.met.D.Desk.spares c.look.new.self v l stood) refl;
       home = c.look.ensures.home;
     }
 
@@ -36,8 +36,8 @@ end_entry-run-requires-clause-can g c =
 
 pub loop-entry-preserved : goal.loop-entry-preserved
 loop-entry-preserved g c =
-    let D = g.D.Desk in let i = c.loop-entry.invariant in let s = c.end_entry-run.ensures.ends in let σ = D.standing c.args.desk.now in let index = c.loop-entry.entry-index in
-    let logged = c.as_slice-entries.result.now in
+    let D = g.D.Desk in let i = c.loop-entry.invariant in let s = c.end_entry-run.ensures.ends in let σ = D.standing c.args.desk.now in
+    let index = c.loop-entry.entry-index in let logged = c.as_slice-entries.result.now in
     let blank : Entry = entry_of (record { address = record { 0 = 0 }; turn = 0 }) in
     let entry : Settled = record { entry = get_or logged index blank; outcome = s.outcome; directory = s.directory } in
     let event : (v : View) → events_by σ.seat.actor v s.steps ≡ event_for σ.seat.actor (epoch_of v) entry.entry s.outcome ∷ []
@@ -47,12 +47,12 @@ loop-entry-preserved g c =
       epoch = i.epoch;
       settled = entry ∷ i.settled;
       entries_are = entries_more i.settled entry logged index blank c.loop-entry-test.true refl i.entries_are;
-      noted = noted_more i.settled entry c.args.ended.now.items _ _ (option_to_list c.end_entry-run.result) i.noted s.run_is c.note.ensures;
-      ranges = λ are. ranges_more _ _ (option_to_list c.end_entry-run.result) c.note.ensures s.range (i.ranges are);
+      noted = noted_more i.settled entry c.args.ended.now.items _ _ _ i.noted s.run_is c.note.ensures;
+      ranges = λ are. ranges_more _ _ _ c.note.ensures s.range (i.ranges are);
       entries = s.steps ++ i.entries;
       order = (s.steps, i.entries, s.order, i.order, refl);
-      calls = subst (λ xs. Calls σ (D.standing c.end_entry-run.new.desk) IsClear (Does nothing) xs) (sym (append_assoc s.steps i.entries (made (Look Word.Epoch) i.epoch ∷ [])))
-          (call_then (Does nothing) i.calls s.calls (λ v met d. may_end i.epoch i.entries v i.kinds d met) (λ v met d e. does_then d e));
+      calls = subst (λ xs. Calls σ (D.standing c.end_entry-run.new.desk) IsClear (Does nothing) xs) (sym (append_assoc s.steps i.entries _))
+          (call_then _ i.calls s.calls (λ v met d. may_end i.epoch i.entries v i.kinds d met) (λ v met d e. does_then d e));
       kinds = only_both ending s.steps i.entries s.kinds i.kinds;
       events = events_more σ.seat.actor i.epoch entry i.settled s.steps i.entries i.kinds i.events event;
       stamps = stamps_more i.epoch entry i.settled s.steps i.entries i.kinds i.stamps s.stamps;
@@ -63,4 +63,4 @@ loop-entry-preserved g c =
 pub returns-clause-flushes : goal.returns-clause-flushes
 returns-clause-flushes g c =
     let i = c.loop-entry.invariant in
-    flushed i.epoch i.settled (entries_in c.args.log.now) c.args.ended.now.items _ i.entries i.noted i.ranges (i.entries_are ∙ take_all c.loop-entry.entry-index c.as_slice-entries.result.now c.loop-entry-test.false ∙ c.as_slice-entries.ensures) i.order i.calls i.kinds i.events i.stamps
+    flushed i.epoch i.settled _ _ _ i.entries i.noted i.ranges (i.entries_are ∙ take_all c.loop-entry.entry-index c.as_slice-entries.result.now c.loop-entry-test.false ∙ c.as_slice-entries.ensures) i.order i.calls i.kinds i.events i.stamps

@@ -6,30 +6,30 @@ use Rattle.pas_free_log.proofs.returning.return_page.Goals as goal
 
 pub unreachable-requires : goal.unreachable-requires
 unreachable-requires g c =
-    let told = page_directory c.args.grain c.args.grains c.look.result c.read_deed.result (g.met.D.Desk.valid c.args.desk.now) c.requires.run.some c.requires.can c.look.ensures.makes c.read_deed.ensures in
+    let told = page_directory _ _ _ _ (g.met.D.Desk.valid c.args.desk.now) c.requires.run.some c.requires.can c.look.ensures.makes c.read_deed.ensures in
     c.in_default.not-Some told.0 told.1
 
 pub put-requires-clause-can : goal.put-requires-clause-can
-put-requires-clause-can g c = let grains = run_grains c.args.grain c.args.grains c.run.result c.requires.run.within c.run.ensures in
-    next_call (stamped_so c.args.grain c.args.grains c.look.result c.stamp.result c.run.result c.requires.run.some grains c.look.ensures.makes c.stamp.ensures.makes) c.requires.can (λ v met r. r.1)
+put-requires-clause-can g c = let grains = run_grains _ _ _ c.requires.run.within c.run.ensures in
+    next_call (stamped_so _ _ _ _ _ c.requires.run.some grains c.look.ensures.makes c.stamp.ensures.makes) c.requires.can (λ v met r. r.1)
 
 pub returned-requires-clause-directory : goal.returned-requires-clause-directory
 returned-requires-clause-directory g c =
-    let told = page_directory c.args.grain c.args.grains c.look.result c.read_deed.result (g.met.D.Desk.valid c.args.desk.now) c.requires.run.some c.requires.can c.look.ensures.makes c.read_deed.ensures in
-    let is = directory_is (g.D.Desk.standing c.args.desk.now).seat.profile c.look.result c.read_deed.result c.in-Some.directory told c.in-Some.is in
+    let told = page_directory _ _ _ _ (g.met.D.Desk.valid c.args.desk.now) c.requires.run.some c.requires.can c.look.ensures.makes c.read_deed.ensures in
+    let is = directory_is (g.D.Desk.standing c.args.desk.now).seat.profile _ _ c.in-Some.directory told c.in-Some.is in
     subst (λ s. IsDirectoryOf s.profile c.in-Some.directory) (sym (c.put.ensures.puts.calls.adds.seat_is ∙ c.stamp.ensures.makes.seat_is ∙ c.look.ensures.makes.seat_is)) is.1
 
 pub returned-requires-clause-can : goal.returned-requires-clause-can
 returned-requires-clause-can g c =
     let grain = c.args.grain in let grains = c.args.grains in let p = c.put.ensures.puts in
-    let told = page_directory grain grains c.look.result c.read_deed.result (g.met.D.Desk.valid c.args.desk.now) c.requires.run.some c.requires.can c.look.ensures.makes c.read_deed.ensures in
-    let is = directory_is (g.D.Desk.standing c.args.desk.now).seat.profile c.look.result c.read_deed.result c.in-Some.directory told c.in-Some.is in
-    next_call (put_so grain grains c.look.result c.stamp.result c.run.result c.requires.run.some (run_grains grain grains c.run.result c.requires.run.within c.run.ensures) c.look.ensures.makes c.stamp.ensures.makes p) c.requires.can (λ v met r. r.1.deed ∙ is.0)
+    let told = page_directory grain grains _ _ (g.met.D.Desk.valid c.args.desk.now) c.requires.run.some c.requires.can c.look.ensures.makes c.read_deed.ensures in
+    let is = directory_is (g.D.Desk.standing c.args.desk.now).seat.profile _ _ c.in-Some.directory told c.in-Some.is in
+    next_call (put_so grain grains _ _ _ c.requires.run.some (run_grains grain grains _ c.requires.run.within c.run.ensures) c.look.ensures.makes c.stamp.ensures.makes p) c.requires.can (λ v met r. r.1.deed ∙ is.0)
 
 pub returns-clause-returns : goal.returns-clause-returns
 returns-clause-returns g c =
     let grain = c.args.grain in let grains = c.args.grains in
-    let told = page_directory grain grains c.look.result c.read_deed.result (g.met.D.Desk.valid c.args.desk.now) c.requires.run.some c.requires.can c.look.ensures.makes c.read_deed.ensures in
-    let is = directory_is (g.D.Desk.standing c.args.desk.now).seat.profile c.look.result c.read_deed.result c.in-Some.directory told c.in-Some.is in
-    page_returned grain grains c.look.result c.stamp.result c.run.result c.requires.run.some (run_grains grain grains c.run.result c.requires.run.within c.run.ensures) c.look.ensures.makes c.stamp.ensures.makes
+    let told = page_directory grain grains _ _ (g.met.D.Desk.valid c.args.desk.now) c.requires.run.some c.requires.can c.look.ensures.makes c.read_deed.ensures in
+    let is = directory_is (g.D.Desk.standing c.args.desk.now).seat.profile _ _ c.in-Some.directory told c.in-Some.is in
+    page_returned grain grains _ _ _ c.requires.run.some (run_grains grain grains _ c.requires.run.within c.run.ensures) c.look.ensures.makes c.stamp.ensures.makes
     c.in-Some.directory c.requires.run.within is.0 c.put.ensures.puts c.returned.ensures.returns

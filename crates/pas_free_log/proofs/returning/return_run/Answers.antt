@@ -10,9 +10,9 @@ loop-from-init g c =
     let σ = g.D.Desk.standing c.args.desk.now in let none : 0 ≡ c.args.grain - c.args.grain = omega arith in
     record {
       steps = [];
-      calls = subst (λ k. Calls σ σ (MayReturn c.args.grain c.args.grains) (Does (run_freed c.args.grain k)) []) none (call_none (λ v met. none_freed c.args.grain v));
+      calls = subst (λ k. Calls σ σ (MayReturn c.args.grain c.args.grains) (Does (run_freed c.args.grain k)) []) none (call_none (λ v met. none_freed _ v));
       order = subst (λ k. PagesSteps (page_count c.args.grain k) c.args.grain c.args.grains []) none refl;
-      back = subst (λ k. PutsBack c.args.grain k []) none (back_none c.args.grain);
+      back = subst (λ k. PutsBack c.args.grain k []) none (back_none _);
       low = omega arith;
       high = omega arith;
       border = λ left. omega arith;
@@ -22,13 +22,13 @@ loop-from-init g c =
 pub return_page-requires-clause-can : goal.return_page-requires-clause-can
 return_page-requires-clause-can g c =
     let i = c.loop-from.invariant in let from = c.loop-from.from in let next = c.min-next.result in let f = (g.D.Desk.standing c.args.desk.now).seat.profile in
-    next_call i.calls c.requires.can (λ v met d. may_more c.args.grain c.args.grains from next i.steps v i.low (next_is c.args.grain c.args.grains from next i.low c.loop-from-test.true c.min-next.ensures) i.back d met)
+    next_call i.calls c.requires.can (λ v met d. may_more _ _ from next i.steps v i.low (next_is _ _ from next i.low c.loop-from-test.true c.min-next.ensures) i.back d met)
 
 pub return_page-requires-clause-run : goal.return_page-requires-clause-run
 return_page-requires-clause-run g c =
     let i = c.loop-from.invariant in let from = c.loop-from.from in let next = c.min-next.result in let f = (g.D.Desk.standing c.args.desk.now).seat.profile in
     subst (λ s. IsRunOnPage s.profile from (next - from)) (sym i.calls.adds.seat_is)
-    (on_page f c.args.grain c.args.grains from next c.requires.run i.low c.loop-from-test.true (next_is c.args.grain c.args.grains from next i.low c.loop-from-test.true c.min-next.ensures))
+    (on_page f _ _ from next c.requires.run i.low c.loop-from-test.true (next_is _ _ from next i.low c.loop-from-test.true c.min-next.ensures))
 
 pub loop-from-preserved : goal.loop-from-preserved
 loop-from-preserved g c =
@@ -38,7 +38,7 @@ loop-from-preserved g c =
     let some = is.some in let within = is.within in let low = i.low in
     record {
       steps = r.steps ++ i.steps;
-      calls = call_then (Does (run_freed grain (next - grain))) i.calls r.calls (λ v met d. may_more grain grains from next i.steps v i.low is i.back d met) (λ v met d e. more_freed grain grains from next i.low c.loop-from-test.true i.border is d e);
+      calls = call_then _ i.calls r.calls (λ v met d. may_more grain grains from next i.steps v i.low is i.back d met) (λ v met d e. more_freed grain grains from next i.low c.loop-from-test.true i.border is d e);
       order = order_more grain grains from next r.steps i.steps i.low c.loop-from-test.true i.border c.min-next.ensures i.order r.order;
       back = back_more grain grains from next r.steps i.steps i.low c.loop-from-test.true i.border is i.back r.back;
       low = omega (arith, low, some);

@@ -19,7 +19,7 @@ pub unback-requires-clause-can : goal.unback-requires-clause-can
 unback-requires-clause-can g c =
     let page = c.args.page in let b = c.look.result in let stamp = c.look-stamp.result in
     can_step (looked page c.args.epoch b stamp c.args.used c.look.ensures.makes c.look-stamp.ensures.makes) c.requires.can c.requires.page
-    (allowed page c.args.epoch b stamp c.args.used c.look.ensures.makes c.look-stamp.ensures.makes c.profile.result.now c.profile.ensures c.in_default.is c.if-look-eq0.false c.if-epoch-stamp.false)
+    (allowed page _ b stamp _ c.look.ensures.makes c.look-stamp.ensures.makes _ c.profile.ensures c.in_default.is c.if-look-eq0.false c.if-epoch-stamp.false)
 
 pub returns-clause-judges : goal.returns-clause-judges
 returns-clause-judges g c =

@@ -4,13 +4,13 @@ use Rattle.pas_steps.specs.InTurn.{numbers_below}
 use Rattle.pas_steps.proofs.Called.{next_call}
 use Rattle.pas_utility.specs.Outcomes.{pairs_in}
 use Rattle.pas_scavenger.specs.Passes.{WordRead, WordSteps, all_tried}
-use Rattle.pas_scavenger.proofs.Trying.{tries_then, tries_nothing, is_ready, first_room, passed, spare_pass}
+use Rattle.pas_scavenger.proofs.Examinations.{tries_then, tries_nothing, is_ready, first_room, passed, spare_pass}
 use Rattle.pas_scavenger.proofs.passing.pass.Goals as goal
 
 pub loop-block-init : goal.loop-block-init
 loop-block-init g c =
     let D = g.D.Desk in let found = pairs_in c.clear.new.self in
-    let same = first_room c.look-epoch.result c.look-epoch.ensures.makes (D.spare_of c.args.desk.now) (D.spare_of c.look-epoch.new.self) c.requires.can
+    let same = first_room _ c.look-epoch.ensures.makes _ _ c.requires.can
     (λ v l stood. g.met.D.Desk.spares c.args.desk.now v l stood) (λ v l stood. g.met.D.Desk.spares c.look-epoch.new.self v l stood) in
     let pages = ap (λ s. s.profile.pages) c.look-epoch.ensures.makes.seat_is in let room = c.requires.room in
     record {
@@ -18,7 +18,7 @@ loop-block-init g c =
       numbers_are = refl;
       read = [];
       order = refl;
-      tries = tries_nothing c.look-epoch.result found c.clear.ensures.empty;
+      tries = tries_nothing _ found c.clear.ensures.empty;
       few = omega arith;
       room = omega (arith, same, pages, room);
       left = let none = ap (λ (xs : _). length xs) c.clear.ensures.empty in omega (arith, none);
@@ -27,7 +27,7 @@ loop-block-init g c =
     }
 
 pub read_word-requires-clause-can : goal.read_word-requires-clause-can
-read_word-requires-clause-can g c = next_call c.loop-block.invariant.tries.calls (is_ready c.look-epoch.result c.look-epoch.ensures.makes c.requires.can) (λ v met is. is)
+read_word-requires-clause-can g c = next_call c.loop-block.invariant.tries.calls (is_ready _ c.look-epoch.ensures.makes c.requires.can) (λ v met is. is)
 
 pub loop-block-preserved : goal.loop-block-preserved
 loop-block-preserved g c =
@@ -51,13 +51,13 @@ returns-clause-passes g c =
     let i = c.loop-block.invariant in let few = i.few in
     let pages = ap (λ f. f.pages) c.profile.ensures in let high = c.loop-block.auto.block-end in let low = c.loop-block-test.false in
     let all : c.loop-block.block ≡ vector_words (g.D.Desk.standing c.look-epoch.new.self).seat.profile.pages = omega (arith, pages, high, low) in
-    passed c.look-epoch.result c.look-epoch.ensures.makes i.words i.read (pairs_in c.loop-block.out) (i.numbers_are ∙ ap numbers_below all) i.order i.tries (omega (arith, few, all))
+    passed _ c.look-epoch.ensures.makes i.words i.read _ (i.numbers_are ∙ ap numbers_below all) i.order i.tries (omega (arith, few, all))
 
 pub returns-clause-spare : goal.returns-clause-spare
 returns-clause-spare g c =
     let D = g.D.Desk in let i = c.loop-block.invariant in let few = i.few in
     let pages = ap (λ f. f.pages) c.profile.ensures in let high = c.loop-block.auto.block-end in let low = c.loop-block-test.false in
     let all : c.loop-block.block ≡ vector_words (D.standing c.look-epoch.new.self).seat.profile.pages = omega (arith, pages, high, low) in
-    spare_pass (D.spare_of c.args.desk.now) (D.spare_of c.loop-block.desk)
-    (passed c.look-epoch.result c.look-epoch.ensures.makes i.words i.read (pairs_in c.loop-block.out) (i.numbers_are ∙ ap numbers_below all) i.order i.tries (omega (arith, few, all))) c.requires.can
+    spare_pass _ _
+    (passed _ c.look-epoch.ensures.makes i.words i.read _ (i.numbers_are ∙ ap numbers_below all) i.order i.tries (omega (arith, few, all))) c.requires.can
     (λ v l stood. g.met.D.Desk.spares c.args.desk.now v l stood) (λ v l stood. g.met.D.Desk.spares c.loop-block.desk v l stood)

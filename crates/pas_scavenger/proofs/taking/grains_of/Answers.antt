@@ -8,4 +8,4 @@ pub returns-in-None : goal.returns-in-None
 returns-in-None c g = all_grains g ∙ sym (ap (λ u. was_free u g) c.in-None.is)
 
 pub returns-in-Some : goal.returns-in-Some
-returns-in-Some c g = grains_before c.run-grains.result c.in-Some.last.word c.in-Some.last.value (omega arith) (subst AreUsed c.in-Some.is c.requires).within c.run-grains.ensures g ∙ sym (ap (λ u. was_free u g) c.in-Some.is)
+returns-in-Some c g = grains_before _ c.in-Some.last.word c.in-Some.last.value (omega arith) (subst AreUsed c.in-Some.is c.requires).within c.run-grains.ensures g ∙ sym (ap (λ u. was_free u g) c.in-Some.is)

@@ -1,6 +1,6 @@
 use Rattle.std.proofs.Common.{◌≡◌, refl, subst, ◌∙◌, add-one, arith}
 use Rattle.pas_rights.specs.{Takes.HasRight, Takes.takes, Words.ones}
-use Rattle.pas_rights.proofs.Takes.{takes_right}
+use Rattle.pas_rights.proofs.Puts.{takes_right}
 use Rattle.pas_steps.specs.Desks.{Adds}
 use Rattle.pas_steps.proofs.Adding.{adds_none, adds_step, can_step}
 use Rattle.pas_scavenger.proofs.taking.take_grains.Goals as goal
@@ -9,8 +9,8 @@ pub loop-word-init : goal.loop-word-init
 loop-word-init g c = record { adds = adds_none; home = refl }
 
 pub take-value-requires-clause-can : goal.take-value-requires-clause-can
-take-value-requires-clause-can g c =
-    can_step c.loop-word.invariant.adds c.requires.can ((c.requires.page.0, c.requires.page.1), c.loop-word-test.true, omega arith) (λ v l stood right. takes_right c.args.page ones ones c.loop-word.word v right)
+take-value-requires-clause-can g c = can_step c.loop-word.invariant.adds c.requires.can
+    ((c.requires.page.0, c.requires.page.1), c.loop-word-test.true, omega arith) (λ v l stood right. takes_right _ ones ones c.loop-word.word v right)
 
 pub loop-word-preserved : goal.loop-word-preserved
 loop-word-preserved g c = let D = g.D.Desk in let i = c.loop-word.invariant in let page = c.args.page in let word = c.loop-word.word in record {

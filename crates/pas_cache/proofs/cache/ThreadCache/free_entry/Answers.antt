@@ -19,4 +19,4 @@ pub returns-clause-frees : goal.returns-clause-frees
 returns-clause-frees g c = search (arith, frees)
 
 pub returns-in-Err-clause-frees : goal.returns-in-Err-clause-frees
-returns-in-Err-clause-frees g c = refuses _ _ c.args.entry c.in-Err.fault (subst (λ (f : Profile). IsFaultOf f c.args.entry.name c.in-Err.fault) c.profile.ensures c.in-Err.ensures) refl
+returns-in-Err-clause-frees g c = refuses _ _ _ c.in-Err.fault (subst (λ (f : Profile). IsFaultOf f c.args.entry.name c.in-Err.fault) c.profile.ensures c.in-Err.ensures) refl

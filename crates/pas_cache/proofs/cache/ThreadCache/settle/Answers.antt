@@ -19,7 +19,7 @@ pub loop-run-preserved : goal.loop-run-preserved
 loop-run-preserved g c =
     let runs = c.as_slice-run-items.result.now in let i = c.loop-run.run-index in
     subst (λ xs. SettlesEach g.O.Door.settles xs c.args.door.now c.settle.new.self) (sym (take_more runs i blank c.loop-run-test.true))
-    (settles_more g.O.Door.settles (take i runs) (get_or runs i blank) c.args.door.now c.loop-run.door c.settle.new.self c.loop-run.invariant c.settle.ensures.settles)
+    (settles_more g.O.Door.settles (take i runs) _ _ c.loop-run.door c.settle.new.self c.loop-run.invariant c.settle.ensures.settles)
 
 pub returns-clause-settles : goal.returns-clause-settles
 returns-clause-settles g c = search (arith, take_all)
