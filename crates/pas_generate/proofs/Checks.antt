@@ -4,7 +4,7 @@ use Rattle.std.proofs.Common.{nat_le, not, ◌||◌, if◌then◌else◌, List, 
 use Rattle.std.proofs.{Math.Nat.mod-lt, Math.Nat.mul-le-mul, lemmas.Bool.and_from, lemmas.Bool.cases_lt}
 use Rattle.pas_generate.specs.{Draws.drawn, Draws.draw, Draws.moved_by, Requests.IsValid, Requests.lot, Requests.request_from, Traces.IsJob, Meant.region}
 use Rattle.pas_trace.specs.Reasons.{first_failed, is_thread, is_alignment, is_named, is_named_now, thread_of, operations_in, guard_after, guard_in}
-use Rattle.pas_trace.specs.Reasons.{cost_of_size, cost_of, costs_of, record_bound, few_enough, checks_of, reason_of}
+use Rattle.pas_trace.specs.Reasons.{cost_of_size, cost_of, costs_of, record_bound, few_enough, reason_of}
 use Rattle.pas_trace.specs.declared.{fault.Reason.Reason, item.Item.Item, item.Item.TheVariants.Operates, item.Item.TheVariants.Scavenges}
 use Rattle.pas_trace.specs.declared.{item.Wish.TheVariants.Asks, item.Wish.TheVariants.Frees, plan.Chore.Chore}
 use Rattle.pas_trace.proofs.{Costs.small_cost, Costs.large_cost, PassedChecks.AreHeld}
@@ -15,9 +15,9 @@ below : (x n : ℕ) → 0 < n → drawn x n < n
 unfolding drawn
 below x n some = mod-lt (x / 2 ^ 33) some
 
+-- by the test
 either : (P : ℕ → Type 0) (b : Bool) (m n : ℕ) → P m → P n → P (cond b m n)
-either P true m n h k = h
-either P false m n h k = k
+either a b m n h k = search arith
 
 abbrev IsAlign : ℕ → Type 0
 IsAlign n = (n ≡ 16) ⊎ ((n ≡ 32) ⊎ (n ≡ 64))
@@ -28,8 +28,9 @@ align_of (suc zero) small = inr (inl refl)
 align_of (suc (suc zero)) small = inr (inr refl)
 align_of (suc (suc (suc n))) small = absurd (omega arith)
 
+-- by the two tests
 sized : (a b c : ℕ) → a < 6144 → b < 1536 → c < 513 → (p q : Bool) → cond p (2049 + a) (cond q (513 + b) c) ≤ 8192
-sized a b c f g h p q = either (λ n. n ≤ 8192) p (2049 + a) (cond q (513 + b) c) (omega arith) (either (λ n. n ≤ 8192) q (513 + b) c (omega arith) (omega arith))
+sized a b c f g h p q = search arith
 
 -- Each drawn request is valid.
 pub valid : (x : ℕ) → IsValid (request_from x)
@@ -61,6 +62,7 @@ request-cost size within = elim (cases_lt 2048 size) [
   | inr few ↦ omega (arith, small_cost size few)
 ]
 
+-- With one operation more there are still few enough.
 few : (ops threads pages n : ℕ) (items : List Item) (i : Item) → IsJob ops threads pages → n < ops → ((guard : ℕ) → guard_after i guard ≡ guard)
     → Counted pages threads n items → cost_of (region pages threads) 0 i ≤ 4097
     → AreHeld (few_enough (operations_in items) (record_bound (region pages threads) (i ∷ items)))
@@ -70,22 +72,21 @@ few ops threads pages n items i job more same counted small = search (arith, mul
 pub tick-fine : (ops threads pages n : ℕ) (items : List Item) (epoch : ℕ) → IsJob ops threads pages → n < ops → Counted pages threads n items
     → reason_of (region pages threads) items (Scavenges (Chore.Tick epoch)) ≡ None
 tick-fine ops threads pages n items epoch job more counted =
-    none-failed (checks_of (region pages threads) items (Scavenges (Chore.Tick epoch))) (few ops threads pages n items (Scavenges (Chore.Tick epoch)) job more (λ guard. refl) counted (omega arith))
+    search (arith, none-failed, few)
 
 -- A pass of a generated trace passes its checks.
 pub pass-fine : (ops threads pages n : ℕ) (items : List Item) → IsJob ops threads pages → n < ops → Counted pages threads n items
     → reason_of (region pages threads) items (Scavenges Chore.Pass) ≡ None
 pass-fine ops threads pages n items job more counted =
-    none-failed (checks_of (region pages threads) items (Scavenges Chore.Pass)) (few ops threads pages n items (Scavenges Chore.Pass) job more (λ guard. refl) counted (omega (arith, job.pages_most)))
+    search (arith, none-failed, few)
 
 -- ---- allocations
 thread-fine : (pages threads t : ℕ) → 1 ≤ t → t ≤ threads → is_thread (region pages threads) t ≡ true
 thread-fine pages threads t lo hi = and_from (nat_le 1 t) (nat_le t threads) (le-leb 1 t lo) (le-leb t threads hi)
 
+-- by computing, for each of the three
 align-fine : (a : ℕ) → (a ≡ 16) ⊎ ((a ≡ 32) ⊎ (a ≡ 64)) → is_alignment a ≡ true
-align-fine a (inl e) = ap is_alignment e
-align-fine a (inr (inl e)) = ap is_alignment e
-align-fine a (inr (inr e)) = ap is_alignment e
+align-fine a b = search arith
 
 -- the thread and the request are of the region, and no item has the name
 pub record IsRequested (threads t name heap size align : ℕ) (items : List Item) : Type 0 where
@@ -101,12 +102,7 @@ pub allocation-fine : (ops threads pages n : ℕ) (items : List Item) (t name he
     → Counted pages threads n items → IsRequested threads t name heap size align items
     → reason_of (region pages threads) items (Operates t (Asks name heap size align)) ≡ None
 allocation-fine ops threads pages n items t name heap size align job more counted r =
-    let cost : cost_of_size size ≤ 3 = request-cost size r.small in
-    let within : size ≤ 4096 * pages = omega (arith, r.small, job.two_pages) in
-    none-failed (checks_of (region pages threads) items (Operates t (Asks name heap size align))) (
-      thread-fine pages threads t r.some_thread r.thread_within,
-      search (arith, lt-ltb, le-leb, align-fine, few),
-    )
+    search (arith, request-cost, none-failed, thread-fine, lt-ltb, le-leb, align-fine, few)
 
 -- ---- frees
 pub free-fine : (ops threads pages n : ℕ) (items : List Item) (t name : ℕ) → IsJob ops threads pages → n < ops → Counted pages threads n items → 1 ≤ t

@@ -1,6 +1,6 @@
 -- The decimal of a number is read as the number.
-use Rattle.std.proofs.Common.{◌≡◌, ℕ, zero, suc, ◌+◌, ◌/◌, ◌%◌, ◌^◌, ◌<◌, ◌≤◌, nat_lt, nat_le, Bool, true, if◌then◌else◌, List, [], ◌∷◌, ◌++◌, length, get_or}
-use Rattle.std.proofs.Common.{None, Some, ap, ◌∙◌, arith, length-append, le-leb, lt-ltb}
+use Rattle.std.proofs.Common.{◌≡◌, ℕ, ◌+◌, ◌/◌, ◌%◌, ◌^◌, ◌<◌, ◌≤◌, nat_lt, nat_le, Bool, true, if◌then◌else◌, List, [], ◌∷◌, ◌++◌, length, get_or, None, Some}
+use Rattle.std.proofs.Common.{ap, ◌∙◌, arith, length-append, le-leb, lt-ltb}
 use Rattle.std.specs.Fmt.{decimal}
 use Rattle.std.proofs.lemmas.{Bool.and_from, Bool.and_parts, Fmt.decimal_by_steps, Fmt.decimal_digit, Fmt.first_decimal}
 use Rattle.pas_trace.specs.Numbers.{is_digit, all_digits, value_from, is_decimal, number_of}
@@ -26,13 +26,10 @@ pub are-digits : (n : ℕ) → n < 2 ^ 64 → AreDigits n (decimal n)
 are-digits = decimal_by_steps AreDigits one-digit more-digits
 
 decimal-from : (w : List ℕ) → all_digits w ≡ true → 0 < length w → 48 < get_or w 0 0 → is_decimal w ≡ true
-decimal-from [] digits some head = absurd (omega arith)
-decimal-from (b ∷ []) digits some head = (and_parts (is_digit b) true digits).0
-decimal-from (b ∷ c ∷ bs) digits some head = and_from (nat_le 49 b) (all_digits (b ∷ c ∷ bs)) (le-leb 49 b (omega (arith, head))) digits
+decimal-from a digits d head = search (arith, and_parts, and_from, nat_le, le-leb)
 
 is-decimal : (n : ℕ) → n < 2 ^ 64 → is_decimal (decimal n) ≡ true
-is-decimal zero small = ap is_decimal (decimal_digit 0 (omega arith))
-is-decimal (suc n) small = let h = are-digits (suc n) small in decimal-from (decimal (suc n)) h.digits h.some (first_decimal (suc n) (omega arith) small)
+is-decimal a small = search (arith, decimal_digit, are-digits, decimal-from, first_decimal)
 
 -- it reads back
 pub number-back : (n : ℕ) → n < 2 ^ 64 → number_of (decimal n) ≡ Some n

@@ -1,6 +1,6 @@
 -- The allocations that no line has freed, against the items so far.
 use Rattle.std.proofs.Common.{◌≡◌, ◌≢◌, ℕ, ◌+◌, ◌-◌, ◌<◌, ◌≤◌, ◌==◌, nat_eq, Bool, true, false, not, ◌||◌, if◌then◌else◌, List, [], ◌∷◌, ◌++◌, length, set}
-use Rattle.std.proofs.Common.{get_or, All, swap_remove, inl, inr, refl, arith, eq-eqb, ne_eqb}
+use Rattle.std.proofs.Common.{get_or, All, swap_remove, arith, eq-eqb, ne_eqb}
 use Rattle.std.proofs.lemmas.Bool.{cases_eq, false_from_ne_true}
 use Rattle.std.proofs.lemmas.List.Elements.{All-push, All-take, All-set, All-get_or, All-weaker}
 use Rattle.pas_trace.specs.Wishes.{name_made, is_name}
@@ -40,9 +40,9 @@ pub record IsFreer (threads : ℕ) (items : List Item) (name t : ℕ) : Type 0 w
   pub thread_within : t ≤ threads
   pub late : ((t == thread_of items name) || not (is_named_now items name)) ≡ true
 
+-- by the test
 or-true : (b : Bool) → (b || true) ≡ true
-or-true true = refl
-or-true false = refl
+or-true a = search arith
 
 own-thread : (threads phase next : ℕ) (items : List Item) (name thread at : ℕ) → IsListed threads phase next items name thread at
     → IsFreer threads items name thread
@@ -55,10 +55,7 @@ other-thread threads phase next items name thread at t h past lo hi = search (ar
 -- A listed allocation may be freed by its own thread, or after its phase by any.
 pub freer : (threads phase next : ℕ) (items : List Item) (name thread at t : ℕ) → IsListed threads phase next items name thread at → 1 ≤ t → t ≤ threads
     → IsFreer threads items name (if nat_eq at phase then thread else t)
-freer threads phase next items name thread at t h lo hi = elim (cases_eq at phase) [
-  | inl e ↦ let tested : nat_eq at phase ≡ true = eq-eqb at phase e in rw tested (own-thread threads phase next items name thread at h)
-  | inr ne ↦ let tested : nat_eq at phase ≡ false = ne_eqb at phase ne in rw tested (other-thread threads phase next items name thread at t h ne lo hi)
-]
+freer threads phase next items name thread at t h lo hi = search (arith, cases_eq, eq-eqb, own-thread, ne_eqb, other-thread)
 
 -- ---- elements of a list
 abbrev pub Each : {A : Type 0} → List A → (A → Type 0) → Type 0

@@ -1,5 +1,5 @@
 -- The operation of a number, by cases.
-use Rattle.std.proofs.Common.{◌≡◌, ℕ, ◌+◌, ◌/◌, ◌%◌, Bool, true, false, ◌||◌, nat_eq, nat_lt, length, refl, sym, ap, ◌∙◌, ne_eqb}
+use Rattle.std.proofs.Common.{arith, ◌≡◌, ℕ, ◌+◌, ◌/◌, ◌%◌, Bool, true, false, ◌||◌, nat_eq, nat_lt, length, refl, sym, ◌∙◌, ne_eqb}
 use Rattle.pas_generate.specs.Draws.{moved, moved_by, drawn}
 use Rattle.pas_generate.specs.Operations.{State, allocates, allocation, after_allocation, free_of, after_free, thread_of, drawn_operation, after_drawn}
 use Rattle.pas_generate.specs.Operations.{operation_at, after_operation}
@@ -35,24 +35,26 @@ pub record Began (threads first choice x number : ℕ) (s : State) (answer : Boo
 pub began : (threads first choice x number : ℕ) (s : State) (found answer : Bool) → choice ≡ drawn (moved s.x) 8 → first ≡ moved s.x
     → number ≡ drawn (moved first) threads → x ≡ moved first → found ≡ (nat_lt choice 4 || nat_eq (length s.unfreed) 0) → found ≡ answer
     → Began threads first choice x number s answer
-began threads first choice x number s found answer choice_is first_is number_is x_is found_is answered = record {
-  thread = ap (λ n. 1 + n) (number_is ∙ ap (λ f. drawn (moved f) threads) first_is);
-  source = x_is ∙ ap moved first_is;
-  answered = ap (λ n. nat_lt n 4 || nat_eq (length s.unfreed) 0) (sym choice_is) ∙ sym found_is ∙ answered;
-}
+began threads first choice x number s found answer choice_is first_is number_is x_is found_is answered = search arith
 
 -- A draw of an allocation makes the operation and the state after it.
 pub allocated : (threads first choice x number : ℕ) (s now : State) (made : Operation) → Began threads first choice x number s true
     → made ≡ allocation (1 + number) (record s { x = x }) → now ≡ after_allocation (1 + number) (record s { x = x })
     → (made ≡ drawn_operation threads s) × (now ≡ after_drawn threads s)
 unfolding drawn_operation after_drawn
-allocated threads first choice x number s now made b made_is now_is =
-    (made_is ∙ (λ i. allocation (b.thread i) (record s { x = b.source i })) ∙ sym (rw b.answered refl), now_is ∙ (λ i. after_allocation (b.thread i) (record s { x = b.source i })) ∙ sym (rw b.answered refl))
+allocated threads first choice x number s now made b made_is now_is = (
+  made_is ∙ (λ i. allocation (b.thread i) (record s { x = b.source i }))
+      ∙ sym (rw b.answered refl),
+  now_is ∙ (λ i. after_allocation (b.thread i) (record s { x = b.source i })) ∙ sym (rw b.answered refl),
+)
 
 -- A draw of a free makes the operation and the state after it.
 pub was_freed : (threads first choice x number : ℕ) (s now : State) (made : Operation) → Began threads first choice x number s false
     → made ≡ free_of (1 + number) (record s { x = x }) → now ≡ after_free (record s { x = x })
     → (made ≡ drawn_operation threads s) × (now ≡ after_drawn threads s)
 unfolding drawn_operation after_drawn
-was_freed threads first choice x number s now made b made_is now_is =
-    (made_is ∙ (λ i. free_of (b.thread i) (record s { x = b.source i })) ∙ sym (rw b.answered refl), now_is ∙ (λ i. after_free (record s { x = b.source i })) ∙ sym (rw b.answered refl))
+was_freed threads first choice x number s now made b made_is now_is = (
+  made_is ∙ (λ i. free_of (b.thread i) (record s { x = b.source i }))
+      ∙ sym (rw b.answered refl),
+  now_is ∙ (λ i. after_free (record s { x = b.source i })) ∙ sym (rw b.answered refl),
+)

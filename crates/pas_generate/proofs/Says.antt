@@ -1,6 +1,6 @@
 -- What the first line and the lines of operations say, in texts that are read line by line.
-use Rattle.std.proofs.Common.{◌≡◌, ℕ, ◌^◌, ◌<◌, ◌≤◌, List, [], ◌∷◌, codes, Some, refl, arith, le-leb, Bool, ◌++◌, get_or, Ok, ap, ◌∙◌, lit<, lt-ltb, ne_eqb}
-use Rattle.std.proofs.Common.{◌+◌, None, sym, append_assoc, append-nil}
+use Rattle.std.proofs.Common.{◌≡◌, ℕ, ◌^◌, ◌<◌, ◌≤◌, List, [], ◌∷◌, codes, Some, refl, arith, le-leb, Bool, ◌++◌, Ok, ap, ◌∙◌, lit<, lt-ltb, ne_eqb, ◌+◌, None}
+use Rattle.std.proofs.Common.{sym, append_assoc, append-nil}
 use Rattle.std.specs.Fmt.{decimal}
 use Rattle.std.proofs.lemmas.Bool.{and_from}
 use Rattle.pas_trace.specs.{Numbers.number_of, Texts.words_of, Texts.lines_of, Plans.items_from, Plans.parsed}
@@ -56,8 +56,7 @@ pub record Says (version : ℕ) (text : List ℕ) (item : Item) : Type 0 where
 -- a line is no comment if its text begins with a letter
 by-words : (started : Bool) (b : ℕ) (bs line : List ℕ) → b ∷ bs ≡ line ++ 10 ∷ [] → 35 < b
     → item_of_line 1 started line ≡ item_of_words 1 started (words_of line)
-by-words started b bs [] is big = absurd (let e : b ≡ 10 = ap (λ xs. get_or xs 0 0) is in omega (arith, e, big))
-by-words started b bs (c ∷ cs) is big = search (arith, ne_eqb)
+by-words started b bs a is big = search (arith, ne_eqb)
 
 line-says : (b : ℕ) (bs : List ℕ) (words : List (List ℕ)) (item : Item) → 35 < b → IsLine (b ∷ bs) words []
     → ((started : Bool) → item_of_words 1 started words ≡ Ok item) → Says 1 (b ∷ bs) item
@@ -68,6 +67,7 @@ line-says b bs words item big l says = record {
   says = λ started. by-words started b bs l.line l.text_is big ∙ ap (item_of_words 1 started) l.words_are ∙ says started;
 }
 
+-- A byte above 35 is a word by itself.
 letter : (b : ℕ) → 35 < b → IsWord (b ∷ [])
 letter b big = record { some = lit< tt; no_end = (λ e. omega (arith, e, big), tt); no_space = (λ e. omega (arith, e, big), tt) }
 
@@ -91,8 +91,10 @@ allocation-says t n h s a w =
     let aw = decimal-word a w.align_fits in
     line-says 97 (32 ∷ (decimal t ++ 32 ∷ (decimal n ++ 32 ∷ (decimal h ++ 32 ∷ (decimal s ++ 32 ∷ (decimal a ++ 10 ∷ []))))))
     ((97 ∷ []) ∷ decimal t ∷ decimal n ∷ decimal h ∷ decimal s ∷ decimal a ∷ []) _ (lit< tt)
-    (word-before (97 ∷ []) _ _ [] (letter 97 (lit< tt)) (word-before (decimal t) _ _ [] tw (word-before (decimal n) _ _ [] nw (word-before (decimal h) _ _ [] hw (word-before (decimal s) _ _ [] sw (last-word (decimal a) [] aw))))))
-    (λ started i. item5 (λ t n h s a. Operates t (Asks n h s a)) (number-back t w.thread_fits i) (name-fits n w.some_name w.name_fits i) (number-back h w.heap_fits i) (number-back s w.size_fits i) (number-back a w.align_fits i))
+    (word-before (97 ∷ []) _ _ [] (letter 97 (lit< tt)) (word-before (decimal t) _ _ [] tw
+    (word-before (decimal n) _ _ [] nw (word-before (decimal h) _ _ [] hw (word-before (decimal s) _ _ [] sw (last-word (decimal a) [] aw))))))
+    (λ started i. item5 (λ t n h s a. Operates t (Asks n h s a)) (number-back t w.thread_fits i) (name-fits n w.some_name w.name_fits i)
+    (number-back h w.heap_fits i) (number-back s w.size_fits i) (number-back a w.align_fits i))
 
 -- The line of a free says the free.
 pub free-says : (t n : ℕ) → t < 2 ^ 64 → 1 ≤ n → n ≤ 1000000 → Says 1 (free_line t n) (Operates t (Frees n))

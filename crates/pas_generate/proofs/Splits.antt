@@ -1,11 +1,10 @@
 -- Words, and lines that are made of them.
-use Rattle.std.proofs.Common.{◌≡◌, ℕ, ◌^◌, ◌<◌, ◌==◌, ◌&&◌, not, nat_lt, Bool, true, false, List, [], ◌∷◌, ◌++◌, length, refl, sym, ap, ◌∙◌, arith}
-use Rattle.std.proofs.Common.{append_assoc, eq-eqb, ltb-true}
+use Rattle.std.proofs.Common.{◌≡◌, ℕ, ◌^◌, ◌<◌, ◌==◌, ◌&&◌, not, nat_lt, Bool, true, false, List, [], ◌∷◌, ◌++◌, length, sym, ap, ◌∙◌, arith, append_assoc}
+use Rattle.std.proofs.Common.{eq-eqb, ltb-true}
 use Rattle.std.specs.Fmt.{decimal}
 use Rattle.std.proofs.lemmas.Bool.{and_parts}
 use Rattle.pas_trace.specs.Texts.{pieces, without_empty}
-use Rattle.pas_trace.proofs.Splits.{keeps}
-use Rattle.pas_trace.proofs.WordLines.{Lacks, lacks-both, digits-lack, pieces-until, pieces-only, IsLine}
+use Rattle.pas_trace.proofs.WordLines.{keeps, Lacks, lacks-both, digits-lack, pieces-until, pieces-only, IsLine}
 use Rattle.pas_generate.proofs.Digits.{are-digits}
 
 pub record IsWord (w : List ℕ) : Type 0 where
@@ -35,12 +34,7 @@ decimal-word n small = let h = are-digits n small in search (arith, digits-lack)
 
 -- ---- a line of these words, the end of the line, and the rest
 pub last-word : (w rest : List ℕ) → IsWord w → IsLine (w ++ 10 ∷ rest) (w ∷ []) rest
-last-word w rest h = record {
-  line = w;
-  text_is = refl;
-  whole = h.no_end;
-  words_are = ap without_empty (pieces-only 32 w h.no_space) ∙ keeps w [] h.some;
-}
+last-word w rest h = search (arith, pieces-only, keeps)
 
 -- A word and a space in front of a line are the line's first word.
 pub word-before : (w after : List ℕ) (words : List (List ℕ)) (rest : List ℕ) → IsWord w → IsLine after words rest → IsLine (w ++ 32 ∷ after) (w ∷ words) rest
@@ -53,9 +47,4 @@ word-before w after words rest h l = record {
 
 -- more text after the line
 pub line-then : (text : List ℕ) (words : List (List ℕ)) (rest more : List ℕ) → IsLine text words rest → IsLine (text ++ more) words (rest ++ more)
-line-then text words rest more l = record {
-  line = l.line;
-  text_is = ap (λ (t : List ℕ). t ++ more) l.text_is ∙ append_assoc l.line (10 ∷ rest) more;
-  whole = l.whole;
-  words_are = l.words_are;
-}
+line-then text words rest more l = search (arith, append_assoc)

@@ -1,17 +1,17 @@
 -- One operation more: its lines are read, what is kept between two operations holds again, and the plan is made of them.
 use Rattle.std.proofs.Common.{◌≡◌, ℕ, ◌+◌, ◌*◌, ◌^◌, ◌<◌, ◌≤◌, ◌||◌, Bool, true, false, if◌then◌else◌, List, [], ◌∷◌, ◌++◌, map, length, Option, None, Some, Ok}
-use Rattle.std.proofs.Common.{refl, ap, subst, arith, length-append, Global, ne_eqb, ◌⊎◌, zero, suc, ◌/◌, ◌%◌, nat_eq, nat_lt, codes, inl, inr, ◌∙◌, eq-eqb}
+use Rattle.std.proofs.Common.{refl, ap, arith, length-append, Global, ne_eqb, ◌⊎◌, ◌/◌, ◌%◌, nat_eq, nat_lt, codes, ◌∙◌, eq-eqb}
 use Rattle.std.specs.Global.{Vec}
 use Rattle.std.proofs.{lemmas.Bool.cases_eq, lemmas.Bool.false≢true, lemmas.List.length-map, Math.Nat.mod-lt}
 use denote.RawPtr.{null_ptr}
 use Rattle.pas_profile.specs.declared.profile.Profile.{Profile}
 use Rattle.pas_trace.specs.declared.{header.Header.Header, item.Item.Item, plan.Op.Op, plan.Phase.Phase, plan.Plan.Plan, item.Wish.TheVariants.Asks}
-use Rattle.pas_trace.specs.declared.{item.Wish.TheVariants.Frees, plan.Chore.Chore}
+use Rattle.pas_trace.specs.declared.{item.Wish.TheVariants.Frees, plan.Chore.Chore, item.Item.TheVariants.NextPhase, item.Item.TheVariants.Operates}
+use Rattle.pas_trace.specs.declared.{item.Item.TheVariants.Scavenges}
 use Rattle.pas_trace.specs.Wishes.{name_made, is_name}
-use Rattle.pas_trace.specs.Reasons.{is_named, heap_of, guard_in, record_bound, operations_in, kept}
-use Rattle.pas_trace.specs.Plans.{parsed, shared_in, add_last, line_of_newest, keeper_for, phases_after, phases_in, all_bounds, ops_of, IsPlanOf}
-use Rattle.pas_trace.specs.declared.item.Item.TheVariants.{Blank, Shares, Guards, NextPhase, Operates, Scavenges}
-use Rattle.pas_trace.proofs.{EveryPlan.bounds_count, OperationsOfItems.phases_within}
+use Rattle.pas_trace.specs.Reasons.{is_named, guard_in, record_bound, operations_in, kept}
+use Rattle.pas_trace.specs.Plans.{parsed, shared_in, add_last, phases_after, phases_in, all_bounds, ops_of, IsPlanOf}
+use Rattle.pas_trace.proofs.EveryPlan.{bounds_count, phases_within}
 use Rattle.pas_generate.specs.{Draws.drawn, Draws.draw, Draws.moved_by, Requests.request_from, Lines.line_of, Lines.tick_line, Traces.IsJob}
 use Rattle.pas_generate.specs.Operations.{State, place, none, freed, freeing_thread, allocation, after_allocation, free_of, after_free, allocates, begun}
 use Rattle.pas_generate.specs.Operations.{thread_of, drawn_operation, after_drawn}
@@ -48,18 +48,12 @@ most-add n op (p ∷ q ∷ ps) h = (omega (arith, h.0), most-add n op (q ∷ ps)
 
 most-after : (f : Profile) (heaps : ℕ → ℕ) (keeper : Option ℕ) (n line : ℕ) (i : Item) (ps : List (List Op)) → AtMost n ps
     → AtMost (n + 1) (phases_after f heaps keeper i line ps)
-most-after f heaps keeper n line Blank ps h = most-more n ps h
-most-after f heaps keeper n line (Shares a) ps h = most-more n ps h
-most-after f heaps keeper n line (Guards g) ps h = most-more n ps h
-most-after f heaps keeper n line NextPhase ps h = most-next n ps h
-most-after f heaps keeper n line (Operates t w) ps h = most-add n _ ps h
-most-after f heaps keeper n line (Scavenges c) ps h = most-add n _ ps h
+most-after f heaps keeper n line b ps h = search (arith, most-more, most-next, most-add)
 
 most-in : (f : Profile) (items : List Item) → AtMost (length items) (phases_in f items)
 most-in f [] = (omega arith, tt)
 most-in f (i ∷ items) =
-    let e : length items + 1 ≡ length (i ∷ items) = omega arith in
-    subst (λ n. AtMost n (phases_in f (i ∷ items))) e (most-after f (heap_of items) (keeper_for f items i) (length items) (line_of_newest (i ∷ items)) i (phases_in f items) (most-in f items))
+    let rest = most-in f items in grind (arith, rest, most-after)
 
 -- the phases with these operations
 held : Global → (n : ℕ) → n < 2 ^ 63 → (ps : List (List Op)) → AtMost n ps → List Phase
@@ -73,8 +67,7 @@ held-back heap n small (p ∷ ps) h = ap (λ qs. p ∷ qs) (held-back heap n sma
 
 -- ---- bounds
 few-actors : (none : Bool) (threads : ℕ) → threads < 2 ^ 62 → (if none then threads else 2 * threads) + 1 < 2 ^ 63
-few-actors true threads few = omega (arith, few)
-few-actors false threads few = omega (arith, few)
+few-actors a threads few = search arith
 
 all-few : (f : Profile) (items : List Item) → f.threads < 2 ^ 62 → length (all_bounds f items) < 2 ^ 63
 all-few f items few = search (arith, bounds_count, few-actors)
@@ -90,8 +83,7 @@ limit_in (Operates t w ∷ items) = limit_in items + above (name_made w)
 limit_in (i ∷ items) = limit_in items
 
 below_more : (made : Option ℕ) (named : Bool) (n limit : ℕ) → is_name made n || named ≡ true → (named ≡ true → n < limit) → n < limit + above made
-below_more None named n limit is before = omega (arith, before is)
-below_more (Some m) named n limit is before = search (arith, cases_eq, ne_eqb)
+below_more a named n limit is before = search (arith, cases_eq, ne_eqb)
 
 named_below : (items : List Item) (n : ℕ) → is_named items n ≡ true → n < limit_in items
 named_below [] n is = absurd (false≢true is)
@@ -108,7 +100,12 @@ plan-of heap header items few threads =
       profile = record f { shared = shared_in items };
       phases = record {
         phases = holding heap (held heap (length items) small (phases_in f items) (most-in f items))
-            (omega (arith, length-map (held heap (length items) small (phases_in f items) (most-in f items)) ops_of, ap (λ ps. length ps) (held-back heap (length items) small (phases_in f items) (most-in f items)), phases_within f items));
+            (omega (
+              arith,
+              length-map (held heap (length items) small (phases_in f items) (most-in f items)) ops_of,
+              ap (λ ps. length ps) (held-back heap (length items) small (phases_in f items) (most-in f items)),
+              phases_within f items,
+            ));
       };
       guard = guard_in items;
       bounds = record { bounds = holding heap (all_bounds f items) (all-few f items threads) };
@@ -179,9 +176,7 @@ pass-step ops threads pages n s items job more turn h =
 
 -- ---- allocations
 aligned-small : (a : ℕ) → (a ≡ 16) ⊎ ((a ≡ 32) ⊎ (a ≡ 64)) → a < 2 ^ 64
-aligned-small a (inl e) = omega arith
-aligned-small a (inr (inl e)) = omega arith
-aligned-small a (inr (inr e)) = omega arith
+aligned-small a b = search arith
 
 allocation-step : (ops threads pages n t : ℕ) (s : State) (items : List Item) → IsJob ops threads pages → n < ops → 1 ≤ t → t ≤ threads
     → Follows pages threads n s items
@@ -197,7 +192,8 @@ allocation-step ops threads pages n t s items job more lo hi h =
     let written : IsWritten t name heap size align = search (arith, aligned-small) in
     let requested : IsRequested threads t name heap size align items = assumption (h.fresh name (omega arith)) in
     record {
-      reads = reads-said (heading pages threads) items (line_of (allocation t s)) i (allocation-says t name heap size align written) (allocation-fine ops threads pages n items t name heap size align job more h.counted requested);
+      reads = reads-said (heading pages threads) items (line_of (allocation t s)) i (allocation-says t name heap size align written)
+          (allocation-fine ops threads pages n items t name heap size align job more h.counted requested);
       follows = record {
         some_name = omega arith;
         few_names = omega arith;
@@ -240,10 +236,9 @@ free-step ops threads pages n t s items job more lo hi some h =
 drawn-follows : (pages threads n : ℕ) (s : State) (items : List Item) → Follows pages threads n s items → Follows pages threads n (begun s) items
 drawn-follows pages threads n s items h = record { some_name = h.some_name; few_names = h.few_names; fresh = h.fresh; listed = h.listed; counted = h.counted }
 
+-- by the test and the number
 some-left : (b : Bool) (n : ℕ) → (b || nat_eq n 0) ≡ false → 0 < n
-some-left true n e = absurd (cc)
-some-left false zero e = absurd (cc)
-some-left false (suc n) e = omega arith
+some-left a n e = search arith
 
 by-choice : (ops threads pages n : ℕ) (s : State) (items : List Item) (choice : Bool) → allocates s ≡ choice → IsJob ops threads pages → n < ops
     → Follows pages threads n s items

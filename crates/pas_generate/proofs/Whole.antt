@@ -45,7 +45,8 @@ pub more_lines : (threads seed n own : ℕ) (s : State) (made : Operation) (fron
     → made ≡ operation_at own (n + 1) s → text ≡ front ++ lines_of threads seed n → now ≡ text ++ line_of made → now ≡ front ++ lines_of threads seed (n + 1)
 more_lines threads seed n own s made front text now same is made_is so_far next =
     let planned : made ≡ operation_at threads (n + 1) (state_after threads seed n) = made_is ∙ (λ i. operation_at (same i) (n + 1) (is i)) in
-    next ∙ (λ i. so_far i ++ line_of (planned i)) ∙ append_assoc front (lines_of threads seed n) (line_of (operation_at threads (n + 1) (state_after threads seed n))) ∙ ap (λ (t : List ℕ). front ++ t) (sym (lines_step threads seed n))
+    next ∙ (λ i. so_far i ++ line_of (planned i)) ∙ append_assoc front (lines_of threads seed n)
+    (line_of (operation_at threads (n + 1) (state_after threads seed n))) ∙ ap (λ (t : List ℕ). front ++ t) (sym (lines_step threads seed n))
 
 -- ==== The whole text is read, one operation after the other.
 
@@ -113,7 +114,8 @@ more-read ops pages threads seed n job more h =
     let items = items_after threads seed n in
     let next : n + 1 ≡ suc n = omega arith in
     let step : Step pages threads n items (line_of (operation_at threads (suc n) s)) (after_operation threads (suc n) s) (with_operation threads (suc n) s items) =
-    subst (λ k. Step pages threads n items (line_of (operation_at threads k s)) (after_operation threads k s) (with_operation threads k s items)) next (operation-step ops threads pages n s items job more h.follows) in
+    subst (λ k. Step pages threads n items (line_of (operation_at threads k s)) (after_operation threads k s) (with_operation threads k s items)) next
+    (operation-step ops threads pages n s items job more h.follows) in
     record {
       reads = reads-both (heading pages threads) (Shares 5 ∷ []) items (with_operation threads (suc n) s items) (lines_of threads seed n) (line_of (operation_at threads (suc n) s)) h.reads step.reads;
       follows = subst (λ k. Follows pages threads k (after_operation threads (suc n) s) (with_operation threads (suc n) s items)) next step.follows;
@@ -142,7 +144,7 @@ text-read seed ops threads pages job =
 
 -- A generated trace has no fault.
 pub text-faultless : (seed ops threads pages : ℕ) → IsJob ops threads pages → (fault : TraceFault) → parsed (trace_text seed ops threads pages) ≢ Err fault
-text-faultless seed ops threads pages job fault bad = let same : Ok (meant seed ops threads pages) ≡ Err fault = sym (text-read seed ops threads pages job) ∙ bad in absurd (cc)
+text-faultless seed ops threads pages job fault bad = search (arith, text-read)
 
 -- A generated trace has a plan.
 pub text-planned : (heap : Global) (seed ops threads pages : ℕ) → IsJob ops threads pages → (plan : Plan) × IsPlanOf (trace_text seed ops threads pages) plan

@@ -2,17 +2,13 @@
 use Rattle.std.proofs.Common.{◌≡◌, ℕ, ◌+◌, ◌≤◌, List, [], ◌++◌, Option, None, Some, take, drop, length, ap, sym, ◌∙◌, subst, append_assoc, arith, length-take}
 use Rattle.std.proofs.Common.{take-append-drop, take_all}
 use Rattle.std.proofs.{lemmas.List.take-append-le, lemmas.List.drop_all, Math.Seq.take-add, Math.Seq.take-append-add}
-use borrow.Rule.Slice.PartMut.{put_mid, post_of}
+use borrow.Rule.Slice.PartMut.{put_mid}
 use Rattle.pas_io.specs.Inputs.{HasRead}
 use Rattle.pas_io.specs.Told.{KeepsTold, Moves, MovesTold, Writes, WritesFront}
 
 -- Two writes in a row write the bytes of both.
 pub writes_more : (before middle after : Option (List ℕ)) (xs ys : List ℕ) → Writes before middle xs → Writes middle after ys → Writes before after (xs ++ ys)
-writes_more None middle after xs ys first next = tt
-writes_more (Some held) middle after xs ys first next =
-    let Next : Option (List ℕ) → Type 0 = λ m. Writes m after ys in
-    let e : after ≡ Some ((held ++ xs) ++ ys) = subst Next first next in
-    e ∙ ap Some (append_assoc held xs ys)
+writes_more a middle after xs ys first next = search (arith, append_assoc)
 
 -- A write of the next bytes in a row writes so many more of them.
 pub writes_on : (before middle after : Option (List ℕ)) (bytes : List ℕ) (k n : ℕ) → Writes before middle (take k bytes)
@@ -31,11 +27,7 @@ front_of (Some held) after after' bytes k wrote same =
 pub filled_more : (told buffer part : List ℕ) (k m n : ℕ) → k ≤ length buffer → take k buffer ≡ take k told → n ≤ length part
     → take n part ≡ take n (drop k told) → take (k + n) (put_mid k m buffer part) ≡ take (k + n) told
 filled_more told buffer part k m n within front fits moved =
-    let front_length : length (take k buffer) ≡ k = omega (arith, length-take k buffer) in
-    let Taken : ℕ → Type 0 = λ i. take (i + n) (take k buffer ++ (part ++ post_of k m buffer)) ≡ take k buffer ++ take n (part ++ post_of k m buffer) in
-    let whole : take (k + n) (put_mid k m buffer part) ≡ take k buffer ++ take n (part ++ post_of k m buffer) = subst Taken front_length (take-append-add (take k buffer) (part ++ post_of k m buffer) n) in
-    let rest : take n (part ++ post_of k m buffer) ≡ take n part = take-append-le n part (post_of k m buffer) fits in
-    whole ∙ ap (λ (t : List ℕ). take k buffer ++ t) (rest ∙ moved) ∙ ap (λ (t : List ℕ). t ++ take n (drop k told)) front ∙ sym (take-add k n told)
+    search (arith, length-take, take-append-add, take-append-le, take-add)
 
 -- What moves from what is left of the told bytes moves the next ones of them.
 pub left_more : (told : List ℕ) (left left' : Option (List ℕ)) (buffer buffer' : List ℕ) (k n : ℕ) → left ≡ Some (drop k told)
@@ -51,7 +43,8 @@ grown_front items new more n size full less is =
 -- What was read stays so in a buffer that grew.
 pub has_read_grown : (told : List ℕ) (rest : Option (List ℕ)) (items new more : List ℕ) (n size : ℕ) → n ≡ length items → n ≤ size
     → new ≡ take size items ++ more → HasRead told rest items n → HasRead told rest new n
-has_read_grown told rest items new more n size full less is read = record { within = read.within; left = read.left; front = grown_front items new more n size full less is ∙ read.front }
+has_read_grown told rest items new more n size full less is read =
+    record { within = read.within; left = read.left; front = grown_front items new more n size full less is ∙ read.front }
 
 -- a source that was read to its end
 pub whole_input : (told : List ℕ) (rest : Option (List ℕ)) (buffer bytes : List ℕ) (n most : ℕ) → bytes ≡ take n buffer → n ≤ most → HasRead told rest buffer n

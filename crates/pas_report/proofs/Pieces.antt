@@ -29,8 +29,13 @@ put_more before now waiting waiting' text line is out = search (arith, append_as
 -- a failed write
 pub front_out : (before now after : Option (List ℕ)) (waiting text : List ℕ) → IsPutOut before now waiting text → WritesFront now after waiting
     → WritesFront before after text
-front_out before now after waiting text out (front, back, is, wrote) =
-    (out.written ++ front, back, out.text_is ∙ ap (λ (t : List ℕ). out.written ++ t) is ∙ sym (append_assoc out.written front back), writes_more before now after out.written front out.writes wrote)
+front_out before now after waiting text out (front, back, is, wrote) = (
+  out.written ++ front,
+  back,
+  out.text_is ∙ ap (λ (t : List ℕ). out.written ++ t) is
+      ∙ sym (append_assoc out.written front back),
+  writes_more before now after out.written front out.writes wrote,
+)
 
 -- A first part that was written of a text is one of each longer text.
 pub front_longer : (before after : Option (List ℕ)) (text more whole : List ℕ) → whole ≡ text ++ more → WritesFront before after text
@@ -56,8 +61,8 @@ pages_between state n (suc k) = pages_between state n k ++ page_by_words state (
 
 split_pages : (state : State) (n k : ℕ) → pages_by_words state (n + k) ≡ pages_by_words state n ++ pages_between state n k
 split_pages state n zero = ap (pages_by_words state) (add-zero n) ∙ sym (append-nil (pages_by_words state n))
-split_pages state n (suc k) =
-    ap (pages_by_words state) (add-suc n k) ∙ (λ t. split_pages state n k t ++ page_by_words state (sym (add-suc n k) t)) ∙ append_assoc (pages_by_words state n) (pages_between state n k) (page_by_words state (n + suc k))
+split_pages state n (suc k) = ap (pages_by_words state) (add-suc n k) ∙ (λ t. split_pages state n k t ++ page_by_words state (sym (add-suc n k) t))
+    ∙ append_assoc (pages_by_words state n) (pages_between state n k) (page_by_words state (n + suc k))
 
 -- the lines so far are a front of the report
 so_far_front : (state : State) (n : ℕ) → n ≤ pages_of state

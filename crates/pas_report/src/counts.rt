@@ -9,7 +9,7 @@ use pas_profile::{Word, read_life};
 use pas_steps::State;
 
 /// The blocks that begin on a page, at most 256. It reads each life word of the page once.
-#[tactic(auto, using(pas_bits::proofs::Counts::count_more))]
+#[tactic(auto, using(pas_bits::proofs::Rows::count_more))]
 pub(crate) fn live_on(state: &State, page: u32) -> u16
     requires { IsPage (profile_of state.now) page }
     ensures { result ≡ live_counted_on state.now page }
@@ -37,7 +37,7 @@ pub(crate) fn free_on(state: &State, page: u32) -> u16
 }
 
 /// The number of pages that have a deed.
-#[tactic(auto, using(pas_bits::proofs::Counts::count_more))]
+#[tactic(auto, using(pas_bits::proofs::Rows::count_more))]
 pub(crate) fn count_deeds(state: &State) -> u32
     ensures { result ≡ deeds_counted state.now }
 {
@@ -49,7 +49,7 @@ pub(crate) fn count_deeds(state: &State) -> u32
 }
 
 /// The number of backed pages.
-#[tactic(auto, using(pas_bits::proofs::Counts::count_more))]
+#[tactic(auto, using(pas_bits::proofs::Rows::count_more))]
 pub(crate) fn count_backed(state: &State) -> u32
     ensures { result ≡ backed_counted state.now }
 {
@@ -68,7 +68,7 @@ pub(crate) struct Blocks {
 }
 
 /// The blocks of the first pages and those of one page more, where these are the blocks of the first.
-#[tactic(auto, using(pas_bits::proofs::Counts::count_more, crate::proofs::Counting::sum_more))]
+#[tactic(auto, using(pas_bits::proofs::Rows::count_more, crate::proofs::Counting::sum_more))]
 #[inline(always)]
 fn with_page(state: &State, before: u32, blocks: Blocks) -> Blocks
     requires page { before < (profile_of state.now).pages }

@@ -2,7 +2,6 @@
 use Rattle.std.proofs.Common.{◌≡◌, ℕ, ◌≤◌, ◌<◌, Bool, false, List, [], ◌∷◌, IsTrue, Bor, get_or, length, ap, ◌∙◌, sym, inl, inr, arith, nat_eq, refl, codes}
 use Rattle.std.proofs.lemmas.{Bool.false≢true, Slice.Eq.slice_eq-Decides, Bool.Decides.Decides-eqb}
 use Rattle.std.specs.Cmp.Lexicographic.{pointwise}
-use Rattle.pas_trace.specs.Numbers.{number_of}
 use Rattle.pas_telling.specs.Words.{texts_of, word_of, IsReplaying, IsChecking, IsGen, IsNumbers, IsAccepted}
 use Rattle.pas_telling.specs.declared.manner.Manner.{Manner}
 
@@ -76,10 +75,4 @@ not_gen words d1 d2 d3 d4 some few never (inl (manner, is)) = not_one _ _ _ _ _ 
 not_gen words d1 d2 d3 d4 some few never (inr (inl is)) = not_one _ _ _ _ _ (codes "check") (sym (five_words words d1 d1 d2 d3 d4 some few) ∙ is)
 not_gen words d1 d2 d3 d4 some few never (inr (inr (seed, ops, threads, pages, is))) =
     let same = same_words _ _ _ _ _ (codes "gen") is.s is.o is.t is.p (sym (five_words words d1 d1 d2 d3 d4 some few) ∙ is.words_are) in
-    never seed ops threads pages (record {
-      seed_is = ap number_of same.0 ∙ is.numbers.seed_is;
-      ops_is = ap number_of same.1 ∙ is.numbers.ops_is;
-      threads_is = ap number_of same.2 ∙ is.numbers.threads_is;
-      pages_is = ap number_of same.3 ∙ is.numbers.pages_is;
-      job = is.numbers.job;
-    })
+    never seed ops threads pages (rw (same.0, same.1, same.2, same.3) is.numbers)

@@ -21,8 +21,8 @@ small_request guard size within = sym (ap (λ t. if t then 2 else (if guard == 0
 
 large_request : (guard size : ℕ) (none : Bool) → 2048 < size → (guard == 0) ≡ none
     → (if none then 1 + pages_for size else 3 + pages_for size) ≡ cost_of_request guard size
-large_request guard size none beyond is =
-    sym (ap (λ t. if t then 2 else (if guard == 0 then 1 + pages_for size else 3 + pages_for size)) (lt-leb size 2048 beyond) ∙ ap (λ t. if t then 1 + pages_for size else 3 + pages_for size) is)
+large_request guard size none beyond is = sym (ap (λ t. if t then 2 else (if guard == 0 then 1 + pages_for size else 3 + pages_for size))
+    (lt-leb size 2048 beyond) ∙ ap (λ t. if t then 1 + pages_for size else 3 + pages_for size) is)
 
 -- In an unguarded trace a request costs what an allocation does.
 pub unguarded_cost : (guard size : ℕ) → guard ≡ 0 → cost_of_size size ≡ cost_of_request guard size

@@ -35,7 +35,7 @@ value-end v lt = grind arith
 -- one digit more at the end
 pub digits-add : (ds : List ℕ) (d : ℕ) → all_digits ds ≡ true → is_digit d ≡ true → all_digits (ds ++ d ∷ []) ≡ true
 digits-add [] d e digit = and_from (is_digit d) true digit refl
-digits-add (b ∷ ds) d e digit = let p = and_parts (is_digit b) (all_digits ds) e in and_from (is_digit b) (all_digits (ds ++ d ∷ [])) p.0 (digits-add ds d p.1 digit)
+digits-add (b ∷ ds) d e digit = let p = and_parts (is_digit b) (all_digits ds) e in and_from _ _ p.0 (digits-add ds d p.1 digit)
 
 -- A digit at the end makes the value of digits ten times as large, and is added.
 pub value-add : (n : ℕ) (ds : List ℕ) (d : ℕ) → value_from n (ds ++ d ∷ []) ≡ 10 * value_from n ds + (d - 48)

@@ -1,16 +1,390 @@
--- The plan of every text is sound.
-use Rattle.std.proofs.Common.{MatchOption, ◌≡◌, ◌≢◌, ◌≤◌, ◌==◌, Bool, true, false, if◌then◌else◌, Option, Some, None, ℕ, zero, suc, ◌+◌, ◌*◌, ◌<◌, List, []}
-use Rattle.std.proofs.Common.{◌∷◌, ◌++◌, length, slice_index, inl, inr, refl, ap, sym, ◌∙◌, subst, arith, length-append, ne_eqb}
-use Rattle.std.proofs.{lemmas.Bool.cases_lt, lemmas.List.length-map, lemmas.List.get_or_append_left, Math.Seq.get_or-append_seam}
+-- The operations of items follow one another soundly, and may make as many records as the items.
+use Rattle.std.proofs.Common.{◌≡◌, ℕ, ◌≢◌, ◌+◌, ◌*◌, ◌%◌, ◌<◌, ◌≤◌, ◌==◌, nat_le, ◌||◌, ◌&&◌, not, Bool, true, false, if◌then◌else◌, List, [], ◌∷◌, ◌++◌}
+use Rattle.std.proofs.Common.{length, Option, Some, None, refl, ap, sym, ◌∙◌, subst, arith, append_assoc, length-append, MatchOption, eq-eqb, ne_eqb, leb-true}
+use Rattle.std.proofs.Common.{leb-false, ltb-true, append-nil, zero, suc, slice_index, inl, inr, map, eqb-true}
+use Rattle.std.proofs.{Math.Bool.and-false, lemmas.Bool.and_parts, lemmas.Bool.cases_lt, lemmas.Bool.false≢true, lemmas.List.length-map}
+use Rattle.std.proofs.{lemmas.List.get_or_append_left, Math.Seq.get_or-append_seam}
+use Rattle.pas_profile.specs.Profiles.{IsValid, IsAdmitted}
 use Rattle.pas_profile.specs.declared.profile.Profile.{Profile}
-use Rattle.pas_trace.specs.Plans.{IsPlanOf, phases_of, ops_of, phases_in, shared_in, own_costs, bound_of, bounds_upto, bounds_of}
-use Rattle.pas_trace.specs.EveryPlan.{all_ops, operations_of, AreBelow, AreSound, AreKept, own_records, IsSound}
-use Rattle.pas_trace.specs.{Asked.keeper_in, Reasons.guard_in, Reasons.actors_by, Reasons.reason_of}
-use Rattle.pas_trace.specs.declared.{item.Item.Item, item.Item.TheVariants.Guards, plan.Op.Op, plan.Plan.Plan}
-use Rattle.pas_trace.proofs.{LineCounts.lines_few, ParsedItems.AreChecked, ParsedItems.parts_of, PassedChecks.guard_passed, Telling.bound-thread}
-use Rattle.pas_trace.proofs.{Telling.bound-keeper}
-use Rattle.pas_trace.proofs.OperationsOfItems.{ops_in, following, all_below, all_records, all_own, all_scavenger, exact_records, exact_own, all_kept}
-use Rattle.pas_trace.proofs.OperationsOfItems.{all_keepers, phases_within}
+use Rattle.pas_trace.specs.Reasons.{guard_in, is_sampled, large_requests, is_guarded, cost_of_size, cost_of_request, makes, is_named, heap_of_item, heap_of}
+use Rattle.pas_trace.specs.Reasons.{actor_of, cost_of, costs_of, cost_of_wish, records_of_chore, reason_of, actors_by, is_phase, is_named_now, thread_of}
+use Rattle.pas_trace.specs.Reasons.{is_operation, operations_in}
+use Rattle.pas_trace.specs.Plans.{operation, operation_of, keeper_for, request_kept, kept_costs, what_wished, what_of_chore, add_last, phases_in, phases_after}
+use Rattle.pas_trace.specs.Plans.{line_of_newest, own_costs, IsPlanOf, phases_of, ops_of, shared_in, bound_of, bounds_upto, bounds_of}
+use Rattle.pas_trace.specs.{Asked.request_in, Asked.keeper_in, Asked.freed_in, EveryPhase.FreesItsOwn, EveryPhase.FreeTheirOwn}
+use Rattle.pas_trace.specs.Wishes.{name_made, heap_made, is_large, is_name, name_freed}
+use Rattle.pas_trace.specs.EveryPlan.{all_ops, IsThread, is_asked, asked_with, asked_after, asked_by, AreBelow, AreSound, AreKept, records_of_what}
+use Rattle.pas_trace.specs.EveryPlan.{records_of_ops, own_records, kept_records, operations_of, IsSound}
+use Rattle.pas_trace.specs.declared.{item.Request.Request, item.Item.Item, item.Wish.Wish, plan.Chore.Chore, plan.Op.Op, plan.Plan.Plan}
+use Rattle.pas_trace.specs.declared.item.Item.TheVariants.{Guards, NextPhase, Operates, Scavenges}
+use Rattle.pas_trace.specs.declared.item.Wish.TheVariants.{Asks, Frees, FreesSized, FreesRaw, FreesRawSized, Remakes, Flushes, Stops}
+use Rattle.pas_trace.proofs.{ParsedItems.IsInRange, ParsedItems.AreChecked, ParsedItems.parts_of, Rooms.room_named, Costs.unguarded_cost, Costs.guarded_cost}
+use Rattle.pas_trace.proofs.{Costs.least_cost, WordLines.lines_few, Telling.bound-thread, Telling.bound-keeper}
+use Rattle.pas_trace.proofs.PassedChecks.{own_passed, guard_passed, aligns, is_not, held_both, counts_within}
+
+-- ---- the operations of items in one list: those before, and that of the newest item, where it is one
+abbrev pub ops_in : Profile → List Item → List Op
+ops_in f items = all_ops (phases_in f items)
+
+abbrev one : Option Op → List Op
+one None = []
+one (Some op) = op ∷ []
+
+abbrev pub new_ops : Profile → Item → List Item → List Op
+new_ops f i earlier = one (operation_of f (heap_of earlier) (keeper_for f earlier i) (line_of_newest (i ∷ earlier)) i)
+
+all_more : (phases : List (List Op)) → all_ops (phases ++ [] ∷ []) ≡ all_ops phases
+all_more [] = refl
+all_more (p ∷ ps) = ap (λ ops. p ++ ops) (all_more ps)
+
+all_add : (op : Op) (phases : List (List Op)) → all_ops (add_last (Some op) phases) ≡ all_ops phases ++ op ∷ []
+all_add op [] = refl
+all_add op (p ∷ []) = append-nil (p ++ op ∷ []) ∙ ap (λ ops. ops ++ op ∷ []) (sym (append-nil p))
+all_add op (p ∷ q ∷ phases) = ap (λ ops. p ++ ops) (all_add op (q ∷ phases)) ∙ sym (append_assoc p (all_ops (q ∷ phases)) (op ∷ []))
+
+-- The operations of one item more stand behind those of the items before.
+ops_next : (f : Profile) (i : Item) (earlier : List Item) → ops_in f (i ∷ earlier) ≡ ops_in f earlier ++ new_ops f i earlier
+ops_next f i earlier = search (arith, append-nil, all_more, all_add)
+
+-- ---- they follow one another
+asked_both : (asked : List ℕ) (xs ys : List Op) → asked_by asked (xs ++ ys) ≡ asked_by (asked_by asked xs) ys
+asked_both asked [] ys = refl
+asked_both asked (x ∷ xs) ys = asked_both (asked_after x.what asked) xs ys
+
+sound_both : (f : Profile) (asked : List ℕ) (xs ys : List Op) → AreSound f asked xs → AreSound f (asked_by asked xs) ys → AreSound f asked (xs ++ ys)
+sound_both f asked [] ys a b = b
+sound_both f asked (x ∷ xs) ys a b = (a.0, a.1, sound_both f (asked_after x.what asked) xs ys a.2 b)
+
+-- the names are those that the items allocate
+abbrev pub AreNames : List ℕ → List Item → Type 0
+AreNames asked items = (n : ℕ) → is_asked asked n ≡ is_named items n
+
+abbrev sharing : Profile → ℕ → Profile
+sharing f shared = record f { shared = shared }
+
+-- each name has a heap of the profile
+abbrev HaveHeaps : Profile → List Item → Type 0
+HaveHeaps f items = (n : ℕ) → is_named items n ≡ true → heap_of items n < f.heaps
+
+made_heap : (f : Profile) (t : ℕ) (w : Wish) (earlier : List Item) (n : ℕ) → is_name (name_made w) n ≡ true → reason_of f earlier (Operates t w) ≡ None
+    → HaveHeaps f earlier → heap_made (heap_of earlier) w < f.heaps
+made_heap f t w earlier n is passed homes = search (arith, ltb-true, own_passed)
+
+-- whichever way the test goes
+name_heap : (here : Bool) (f : Profile) (i : Item) (earlier : List Item) (n : ℕ) → makes i n ≡ here → (here ≡ true → heap_of_item (heap_of earlier) i < f.heaps)
+    → HaveHeaps f earlier → is_named (i ∷ earlier) n ≡ true → heap_of (i ∷ earlier) n < f.heaps
+name_heap a f i earlier n is made homes known = search arith
+
+item_heaps : (f : Profile) (i : Item) (earlier : List Item) → reason_of f earlier i ≡ None → HaveHeaps f earlier → HaveHeaps f (i ∷ earlier)
+item_heaps f i earlier passed homes n known = search (arith, name_heap, made_heap)
+
+all_heaps : (f : Profile) (items : List Item) → AreChecked f items → HaveHeaps f items
+all_heaps f [] checked = λ n known. absurd (cc)
+all_heaps f (i ∷ earlier) checked = item_heaps f i earlier checked.0.passes (all_heaps f earlier checked.1)
+
+large_size : (size : ℕ) → is_large size ≡ true → 2048 < size
+large_size size large = leb-false size 2048 (is_not (nat_le size 2048) large)
+
+-- a request that is guarded, or isn't
+request_sound : (f : Profile) (t n h s a : ℕ) (guarded : Bool) (line : ℕ) (asked : List ℕ) → IsThread f t → IsAdmitted f s a h → is_asked asked n ≡ false
+    → (guarded ≡ true → 2048 < s)
+    → AreSound f asked (operation line t (request_kept (if guarded then Some (f.threads + t) else None) n h s a) ∷ [])
+request_sound f t n h s a true line asked thread admitted fresh large = (thread, (admitted, fresh, large refl), tt)
+request_sound f t n h s a false line asked thread admitted fresh large = (thread, (admitted, fresh), tt)
+
+item_sound : (f : Profile) (shared : ℕ) (i : Item) (earlier : List Item) (asked : List ℕ) → reason_of f earlier i ≡ None → IsInRange i → AreNames asked earlier
+    → IsValid f → HaveHeaps f earlier → AreSound (sharing f shared) asked (new_ops f i earlier)
+item_sound f shared (Operates t (Asks n h s a)) earlier asked passed range names valid homes =
+    let held = own_passed f earlier t (Asks n h s a) passed in
+    let size = leb-true s (4096 * f.pages) held.size in
+    request_sound (sharing f shared) t n h s a (is_guarded earlier (Operates t (Asks n h s a))) (line_of_newest (Operates t (Asks n h s a) ∷ earlier)) asked held.thread
+    (record { within = omega (arith, size); aligned = aligns a held.align; of_profile = ltb-true h f.heaps held.heap }) (names n ∙ is_not (is_named earlier n) held.fresh)
+    (λ guarded. large_size s (and_parts (is_large s) (is_sampled (guard_in earlier) (large_requests t earlier + 1)) guarded).0)
+item_sound f shared (Operates t (Frees n)) earlier asked passed range names valid homes =
+    let held = own_passed f earlier t (Frees n) passed in (held.thread, (names n ∙ held.known, tt), tt)
+item_sound f shared (Operates t (FreesSized n s a)) earlier asked passed range names valid homes =
+    let held = own_passed f earlier t (FreesSized n s a) passed in
+    let size = leb-true s (4096 * f.pages) held.size in
+    (held.thread, (names n ∙ held.known, room_named f s a valid (omega (arith, size))), tt)
+item_sound f shared (Operates t (FreesRaw a n)) earlier asked passed range names valid homes =
+    ((own_passed f earlier t (FreesRaw a n) passed).thread, (range, tt), tt)
+item_sound f shared (Operates t (FreesRawSized b n s a)) earlier asked passed range names valid homes =
+    let held = own_passed f earlier t (FreesRawSized b n s a) passed in
+    (held.thread, (range, room_named f s a valid (omega (arith, leb-true s (4096 * f.pages) held.size))), tt)
+item_sound f shared (Operates t (Remakes n o s a)) earlier asked passed range names valid homes =
+    let held = own_passed f earlier t (Remakes n o s a) passed in
+    let size = leb-true s (4096 * f.pages) held.size in
+    (held.thread, (record { within = omega (arith, size); aligned = aligns a held.align; of_profile = homes o held.known }, names n ∙ is_not (is_named earlier n) held.fresh, names o ∙ held.known), tt)
+item_sound f shared (Operates t Flushes) earlier asked passed range names valid homes = ((own_passed f earlier t Flushes passed).thread, tt, tt)
+item_sound f shared (Operates t Stops) earlier asked passed range names valid homes = ((own_passed f earlier t Stops passed).thread, tt, tt)
+item_sound f shared (Scavenges (Chore.Tick e)) earlier asked passed range names valid homes = (refl, range, tt)
+item_sound f shared (Scavenges Chore.Pass) earlier asked passed range names valid homes = (refl, range, tt)
+item_sound f shared (Scavenges (Chore.Idle n)) earlier asked passed range names valid homes = (refl, range, tt)
+item_sound f shared i earlier asked passed range names valid homes = tt
+
+-- what an operation of a thread, and a chore, ask for
+asks_for : (f : Profile) (heaps : ℕ → ℕ) (keeper : Option ℕ) (w : Wish) (asked : List ℕ) (n : ℕ)
+    → is_asked (asked_after (what_wished f heaps keeper w) asked) n ≡ (is_name (name_made w) n || is_asked asked n)
+asks_for f heaps keeper w asked n = search arith
+
+-- A chore asks for no name of the trace.
+asks_none : (c : Chore) (asked : List ℕ) → asked_after (what_of_chore c) asked ≡ asked
+asks_none (Chore.Tick e) asked = refl
+asks_none c asked = refl
+
+-- The names that operations asked for are those of their items, with one item more, too.
+item_names : (f : Profile) (i : Item) (earlier : List Item) (asked : List ℕ) → AreNames asked earlier
+    → AreNames (asked_by asked (new_ops f i earlier)) (i ∷ earlier)
+item_names f i earlier asked names m = search (arith, asks_for, asks_none)
+
+pub record AreFollowing (f : Profile) (shared : ℕ) (items : List Item) : Type 0 where
+  pub sound : AreSound (sharing f shared) [] (ops_in f items)
+  pub names : AreNames (asked_by [] (ops_in f items)) items
+
+-- The operations of items that passed their checks follow one another soundly.
+following : (f : Profile) (shared : ℕ) (items : List Item) → IsValid f → AreChecked f items → AreFollowing f shared items
+following f shared [] valid checked = record { sound = tt; names = λ n. refl }
+following f shared (i ∷ earlier) valid checked =
+    let before = following f shared earlier valid checked.1 in
+    let asked = asked_by [] (ops_in f earlier) in
+    record {
+      sound = search (arith, ops_next, sound_both, item_sound, all_heaps);
+      names = subst (λ now. AreNames now (i ∷ earlier)) (sym (ap (asked_by []) (ops_next f i earlier) ∙ asked_both [] (ops_in f earlier) (new_ops f i earlier))) (item_names f i earlier asked before.names);
+    }
+
+-- ---- the names that they ask for are below a limit above all of them
+or_right : (s t : Bool) → t ≡ true → s || t ≡ true
+or_right true t is = refl
+or_right false t is = is
+
+-- a name that was asked for stays so
+pub kept_with : (request : Option Request) (asked : List ℕ) (n : ℕ) → is_asked asked n ≡ true → is_asked (asked_with request asked) n ≡ true
+kept_with None asked n is = is
+kept_with (Some request) asked n is = or_right (request.name == n) (is_asked asked n) is
+
+kept_by : (asked : List ℕ) (ops : List Op) (n : ℕ) → is_asked asked n ≡ true → is_asked (asked_by asked ops) n ≡ true
+kept_by asked [] n is = is
+kept_by asked (op ∷ ops) n is = kept_by (asked_after op.what asked) ops n (kept_with (request_in op.what) asked n is)
+
+below_one : (limit : ℕ) (request : Option Request) (asked : List ℕ) (ops : List Op)
+    → ((n : ℕ) → is_asked (asked_by (asked_with request asked) ops) n ≡ true → n < limit) → MatchOption request (Unit {0}) (λ r. r.name < limit)
+below_one limit None asked ops all = tt
+below_one limit (Some r) asked ops all = all r.name (kept_by (r.name ∷ asked) ops r.name (ap (λ t. t || is_asked asked r.name) (eq-eqb r.name r.name refl)))
+
+-- Operations whose names are all below a limit are below it.
+all_below : (limit : ℕ) (asked : List ℕ) (ops : List Op) → ((n : ℕ) → is_asked (asked_by asked ops) n ≡ true → n < limit) → AreBelow limit ops
+all_below limit asked [] all = tt
+all_below limit asked (op ∷ ops) all = (below_one limit (request_in op.what) asked ops all, all_below limit (asked_after op.what asked) ops all)
+
+-- ---- how many records
+pub records_both : (f : Profile) (xs ys : List Op) → records_of_ops f (xs ++ ys) ≡ records_of_ops f xs + records_of_ops f ys
+records_both f [] ys = omega arith
+records_both f (x ∷ xs) ys = omega (arith, records_both f xs ys)
+
+-- What a thread's operations may make of records is counted over both of two lists.
+pub own_both : (f : Profile) (k : ℕ) (xs ys : List Op) → own_records f k (xs ++ ys) ≡ own_records f k xs + own_records f k ys
+own_both f k [] ys = omega arith
+own_both f k (x ∷ xs) ys = omega (arith, own_both f k xs ys)
+
+-- an operation may make as many records as its line costs, or fewer: in a guarded trace one for whole pages may cost two more
+large_records : (guard size : ℕ) (guarded : Bool) (n h a t : ℕ) (f : Profile) → (guarded ≡ true → 2048 < size) → (guarded ≡ true → guard ≢ 0)
+    → records_of_what f (request_kept (if guarded then Some (f.threads + t) else None) n h size a) ≤ cost_of_request guard size
+large_records guard size true n h a t f large some = let same = guarded_cost guard size (large refl) (some refl) in omega (arith, same)
+large_records guard size false n h a t f large some = least_cost guard size
+
+not_none : (guard number : ℕ) (none : Bool) → (guard == 0) ≡ none → not none && (number % guard == 0) ≡ true → guard ≢ 0
+not_none guard number true is sampled = absurd (cc)
+not_none guard number false is sampled = λ zero. absurd (let same = eq-eqb guard 0 zero in cc)
+
+-- a guarded item is a request for whole pages after a `guard` line
+guard_there : (earlier : List Item) (t n h s a : ℕ) → is_guarded earlier (Operates t (Asks n h s a)) ≡ true → (2048 < s) × (guard_in earlier ≢ 0)
+guard_there earlier t n h s a guarded = search (arith, and_parts, large_size, not_none)
+
+wish_records : (f : Profile) (shared : ℕ) (heaps : ℕ → ℕ) (earlier : List Item) (t : ℕ) (w : Wish)
+    → records_of_what (sharing f shared) (what_wished f heaps (keeper_for f earlier (Operates t w)) w) ≤ cost_of_wish (guard_in earlier) w
+wish_records f shared heaps earlier t w = search (arith, large_records, guard_there, least_cost)
+
+chore_records : (f : Profile) (shared : ℕ) (c : Chore) → records_of_what (sharing f shared) (what_of_chore c) ≡ records_of_chore f c
+chore_records f shared (Chore.Tick e) = refl
+chore_records f shared c = refl
+
+item_records : (f : Profile) (shared : ℕ) (i : Item) (earlier : List Item)
+    → records_of_ops (sharing f shared) (new_ops f i earlier) ≤ cost_of f (guard_in earlier) i
+item_records f shared i earlier = search (arith, wish_records, chore_records)
+
+if_le : (t : Bool) (m n : ℕ) → m ≤ n → (if t then m else 0) + 0 ≤ (if t then n else 0)
+if_le true m n le = omega (arith, le)
+if_le false m n le = omega arith
+
+item_own : (f : Profile) (shared k : ℕ) (i : Item) (earlier : List Item)
+    → own_records (sharing f shared) k (new_ops f i earlier) ≤ (if actor_of i == k then cost_of f (guard_in earlier) i else 0)
+item_own f shared k i earlier = search (arith, if_le, wish_records, chore_records)
+
+-- .. those of the scavenger are exact
+item_scavenger : (f : Profile) (shared : ℕ) (i : Item) (earlier : List Item) → reason_of f earlier i ≡ None
+    → own_records (sharing f shared) 0 (new_ops f i earlier) ≡ (if actor_of i == 0 then cost_of f (guard_in earlier) i else 0)
+item_scavenger f shared i earlier passed = search (arith, own_passed, ne_eqb, chore_records)
+
+own_more : (t : Bool) (own cost : ℕ) → own + (if t then cost else 0) ≡ (if t then own + cost else own)
+own_more true own cost = refl
+own_more false own cost = omega arith
+
+-- The operations of items may make at most as many records as the items.
+all_records : (f : Profile) (shared : ℕ) (items : List Item) → records_of_ops (sharing f shared) (ops_in f items) ≤ costs_of f items
+all_records f shared [] = omega arith
+all_records f shared (i ∷ earlier) =
+    let g = sharing f shared in
+    let both = ap (records_of_ops g) (ops_next f i earlier) ∙ records_both g (ops_in f earlier) (new_ops f i earlier) in
+    omega (arith, both, item_records f shared i earlier, all_records f shared earlier)
+
+-- An actor's operations may make at most as many records as its items.
+all_own : (f : Profile) (shared k : ℕ) (items : List Item) → own_records (sharing f shared) k (ops_in f items) ≤ own_costs f k items
+all_own f shared k [] = omega arith
+all_own f shared k (i ∷ earlier) =
+    let g = sharing f shared in
+    let both = ap (own_records g k) (ops_next f i earlier) ∙ own_both g k (ops_in f earlier) (new_ops f i earlier) in
+    let more = own_more (actor_of i == k) (own_costs f k earlier) (cost_of f (guard_in earlier) i) in
+    omega (arith, both, more, item_own f shared k i earlier, all_own f shared k earlier)
+
+-- The scavenger's operations may make just as many records as its items.
+all_scavenger : (f : Profile) (shared : ℕ) (items : List Item) → AreChecked f items
+    → own_records (sharing f shared) 0 (ops_in f items) ≡ own_costs f 0 items
+all_scavenger f shared [] checked = refl
+all_scavenger f shared (i ∷ earlier) checked =
+    let g = sharing f shared in
+    let both = ap (own_records g 0) (ops_next f i earlier) ∙ own_both g 0 (ops_in f earlier) (new_ops f i earlier) in
+    let more = own_more (actor_of i == 0) (own_costs f 0 earlier) (cost_of f (guard_in earlier) i) in
+    omega (arith, both, more, item_scavenger f shared i earlier checked.0.passes, all_scavenger f shared earlier checked.1)
+
+-- ---- without a `guard` line they may make as many as their lines cost
+none_guarded : (earlier : List Item) (t n h s a : ℕ) → guard_in earlier ≡ 0 → is_guarded earlier (Operates t (Asks n h s a)) ≡ false
+none_guarded earlier t n h s a none = ap (λ guard. is_large s && is_sampled guard (large_requests t earlier + 1)) none ∙ and-false (is_large s)
+
+wish_exact : (f : Profile) (shared : ℕ) (heaps : ℕ → ℕ) (earlier : List Item) (t : ℕ) (w : Wish) → guard_in earlier ≡ 0
+    → records_of_what (sharing f shared) (what_wished f heaps (keeper_for f earlier (Operates t w)) w) ≡ cost_of_wish (guard_in earlier) w
+wish_exact f shared heaps earlier t w b = search (arith, none_guarded, unguarded_cost)
+
+item_exact : (f : Profile) (shared : ℕ) (i : Item) (earlier : List Item) → guard_in earlier ≡ 0
+    → records_of_ops (sharing f shared) (new_ops f i earlier) ≡ cost_of f (guard_in earlier) i
+item_exact f shared i earlier a = search (arith, wish_exact, chore_records)
+
+if_same : (t : Bool) (n : ℕ) → n ≡ (if t then n else n)
+if_same true n = refl
+if_same false n = refl
+
+own_exactly : (f : Profile) (shared k : ℕ) (i : Item) (earlier : List Item) → guard_in earlier ≡ 0
+    → own_records (sharing f shared) k (new_ops f i earlier) ≡ (if actor_of i == k then cost_of f (guard_in earlier) i else 0)
+own_exactly f shared k i earlier a = search (arith, wish_exact, chore_records, if_same)
+
+none_before : (f : Profile) (i : Item) (earlier : List Item) → reason_of f earlier i ≡ None → guard_in (i ∷ earlier) ≡ 0 → guard_in earlier ≡ 0
+none_before f (Guards n) earlier passed none = (guard_passed f earlier n passed).single
+none_before f i earlier passed none = none
+
+-- Without a guard, operations may make just as many records as their items.
+exact_records : (f : Profile) (shared : ℕ) (items : List Item) → AreChecked f items → guard_in items ≡ 0
+    → records_of_ops (sharing f shared) (ops_in f items) ≡ costs_of f items
+exact_records f shared [] checked none = refl
+exact_records f shared (i ∷ earlier) checked none =
+    let g = sharing f shared in
+    let before = none_before f i earlier checked.0.passes none in
+    let both = ap (records_of_ops g) (ops_next f i earlier) ∙ records_both g (ops_in f earlier) (new_ops f i earlier) in
+    omega (arith, both, item_exact f shared i earlier before, exact_records f shared earlier checked.1 before)
+
+-- Without a guard, an actor's operations may make just as many records as its items.
+exact_own : (f : Profile) (shared k : ℕ) (items : List Item) → AreChecked f items → guard_in items ≡ 0
+    → own_records (sharing f shared) k (ops_in f items) ≡ own_costs f k items
+exact_own f shared k [] checked none = refl
+exact_own f shared k (i ∷ earlier) checked none =
+    let g = sharing f shared in
+    let before = none_before f i earlier checked.0.passes none in
+    let both = ap (own_records g k) (ops_next f i earlier) ∙ own_both g k (ops_in f earlier) (new_ops f i earlier) in
+    let more = own_more (actor_of i == k) (own_costs f k earlier) (cost_of f (guard_in earlier) i) in
+    omega (arith, both, more, own_exactly f shared k i earlier before, exact_own f shared k earlier checked.1 before)
+
+-- ---- what keepers may make for them, and who they are
+kept_both : (k : ℕ) (xs ys : List Op) → kept_records k (xs ++ ys) ≡ kept_records k xs + kept_records k ys
+kept_both k [] ys = omega arith
+kept_both k (x ∷ xs) ys = omega (arith, kept_both k xs ys)
+
+none_or : (t : Bool) → (if t then 0 else 0) + 0 ≡ 0
+none_or true = refl
+none_or false = refl
+
+kept_one : (f : Profile) (guarded mine : Bool) (line t k n h s a : ℕ) → (t == k) ≡ mine
+    → kept_records k (operation line t (request_kept (if guarded then Some (f.threads + t) else None) n h s a) ∷ [])
+    ≡ (if guarded && mine then cost_of_size s else 0)
+kept_one f true mine line t k n h s a is = ap (λ b. (if b then cost_of_size s else 0) + 0) is ∙ omega arith
+kept_one f false mine line t k n h s a is = ap (λ b. (if b then 0 else 0) + 0) is ∙ none_or mine
+
+item_kept : (f : Profile) (k : ℕ) (i : Item) (earlier : List Item)
+    → kept_records k (new_ops f i earlier) ≡ (if is_guarded earlier i && (actor_of i == k) then cost_of f 0 i else 0)
+item_kept f k i earlier = search (arith, kept_one, none_or)
+
+-- A keeper's operations may make just as many records as its items.
+all_kept : (f : Profile) (k : ℕ) (items : List Item) → kept_records k (ops_in f items) ≡ kept_costs f k items
+all_kept f k [] = refl
+all_kept f k (i ∷ earlier) =
+    let both = ap (kept_records k) (ops_next f i earlier) ∙ kept_both k (ops_in f earlier) (new_ops f i earlier) in
+    let more = own_more (is_guarded earlier i && (actor_of i == k)) (kept_costs f k earlier) (cost_of f 0 i) in
+    omega (arith, both, more, item_kept f k i earlier, all_kept f k earlier)
+
+-- each guarded request after a `guard` line has the keeper of its thread
+one_kept : (f : Profile) (guard : ℕ) (guarded : Bool) (line t n h s a : ℕ) → (guarded ≡ true → guard ≢ 0)
+    → AreKept f guard (operation line t (request_kept (if guarded then Some (f.threads + t) else None) n h s a) ∷ [])
+one_kept f guard true line t n h s a some = ((refl, some refl), tt)
+one_kept f guard false line t n h s a some = (tt, tt)
+
+keepers_both : (f : Profile) (guard : ℕ) (xs ys : List Op) → AreKept f guard xs → AreKept f guard ys → AreKept f guard (xs ++ ys)
+keepers_both f guard [] ys a b = b
+keepers_both f guard (x ∷ xs) ys a b = (a.0, keepers_both f guard xs ys a.1 b)
+
+item_keepers : (f : Profile) (i : Item) (earlier : List Item) → AreKept f (guard_in earlier) (new_ops f i earlier)
+item_keepers f i earlier = search (arith, one_kept, guard_there)
+
+-- a `guard` line stands before them all
+kept_so : (guard other place : ℕ) (o : Option ℕ) → (guard ≢ 0 → other ≢ 0) → MatchOption o (Unit {0}) (λ keeper. (keeper ≡ place) × (guard ≢ 0))
+    → MatchOption o (Unit {0}) (λ keeper. (keeper ≡ place) × (other ≢ 0))
+kept_so guard other place None more kept = tt
+kept_so guard other place (Some keeper) more kept = (kept.0, more kept.1)
+
+same_guard : (f : Profile) (guard other : ℕ) (ops : List Op) → (guard ≢ 0 → other ≢ 0) → AreKept f guard ops → AreKept f other ops
+same_guard f guard other [] more kept = tt
+same_guard f guard other (op ∷ ops) more kept = (kept_so guard other (f.threads + op.actor) _ more kept.0, same_guard f guard other ops more kept.1)
+
+guard_more : (f : Profile) (i : Item) (earlier : List Item) → reason_of f earlier i ≡ None → guard_in earlier ≢ 0 → guard_in (i ∷ earlier) ≢ 0
+guard_more f (Guards n) earlier passed some = absurd (some (guard_passed f earlier n passed).single)
+guard_more f i earlier passed some = some
+
+item_guard : (f : Profile) (i : Item) (earlier : List Item) → reason_of f earlier i ≡ None → AreKept f (guard_in (i ∷ earlier)) (new_ops f i earlier)
+item_guard f i earlier passed =
+    same_guard f (guard_in earlier) (guard_in (i ∷ earlier)) (new_ops f i earlier) (guard_more f i earlier passed) (item_keepers f i earlier)
+
+-- The guarded requests of items that passed their checks are kept by their threads' keepers.
+all_keepers : (f : Profile) (items : List Item) → AreChecked f items → AreKept f (guard_in items) (ops_in f items)
+all_keepers f [] checked = tt
+all_keepers f (i ∷ earlier) checked =
+    let guard = guard_in (i ∷ earlier) in
+    subst (AreKept f guard) (sym (ops_next f i earlier))
+    (keepers_both f guard _ _ (same_guard f (guard_in earlier) guard (ops_in f earlier) (guard_more f i earlier checked.0.passes) (all_keepers f earlier checked.1))
+    (item_guard f i earlier checked.0.passes))
+
+-- ---- how many phases: one, and one for each item at most
+add_few : (op : Op) (phases : List (List Op)) → length (add_last (Some op) phases) ≤ length phases + 1
+add_few op [] = omega arith
+add_few op (p ∷ []) = omega arith
+add_few op (p ∷ q ∷ phases) = omega (arith, add_few op (q ∷ phases))
+
+after_few : (f : Profile) (heaps : ℕ → ℕ) (keeper : Option ℕ) (i : Item) (line : ℕ) (phases : List (List Op))
+    → length (phases_after f heaps keeper i line phases) ≤ length phases + 1
+after_few f heaps keeper i line phases = search (arith, length-append, add_few)
+
+-- There is at most one phase more than items.
+pub phases_within : (f : Profile) (items : List Item) → length (phases_in f items) ≤ length items + 1
+phases_within f [] = omega arith
+phases_within f (i ∷ earlier) =
+    omega (arith, after_few f (heap_of earlier) (keeper_for f earlier i) i (line_of_newest (i ∷ earlier)) (phases_in f earlier), phases_within f earlier)
+
+-- ==== The plan of every text is sound.
 
 -- There are as many bounds as actors.
 pub bounds_count : (f : Profile) (items : List Item) (n : ℕ) → length (bounds_upto f items n) ≡ n
@@ -33,6 +407,7 @@ guarded_few : (none : Bool) (threads : ℕ) → threads ≤ 16 → threads ≤ 8
 guarded_few true threads most few = most
 guarded_few false threads most few = omega (arith, few)
 
+-- There are twice as many actors as threads at most.
 among : (none : Bool) (threads : ℕ) → threads ≤ (if none then threads else 2 * threads)
 among true threads = omega arith
 among false threads = omega arith
@@ -54,9 +429,7 @@ keepers_of f g guard other ops others threads same is kept =
 -- there are 16 at most beside the scavenger
 few_actors : (f : Profile) (i : Item) (earlier : List Item) → reason_of f earlier i ≡ None → f.threads ≤ 16 → actors_by (guard_in earlier) f.threads ≤ 16
     → actors_by (guard_in (i ∷ earlier)) f.threads ≤ 16
-few_actors f (Guards None) earlier passed threads few = few
-few_actors f (Guards (Some n)) earlier passed threads few = guarded_few (n == 0) f.threads threads (guard_passed f earlier (Some n) passed).few
-few_actors f i earlier passed threads few = few
+few_actors f i earlier passed threads few = search (arith, guarded_few, guard_passed)
 
 actors_few : (f : Profile) (items : List Item) → AreChecked f items → f.threads ≤ 16 → actors_by (guard_in items) f.threads ≤ 16
 actors_few f [] checked threads = threads
@@ -68,7 +441,8 @@ threads_among guard threads = among (guard == 0) threads
 
 -- The keeper of each thread of a guarded plan is among its actors.
 pub keepers_among : (guard threads k : ℕ) → guard ≢ 0 → k ≤ threads → threads + k ≤ actors_by guard threads
-keepers_among guard threads k some within = subst (λ (b : Bool). threads + k ≤ (if b then threads else 2 * threads)) (sym (ne_eqb guard 0 some)) (omega (arith, within))
+keepers_among guard threads k some within =
+    subst (λ (b : Bool). threads + k ≤ (if b then threads else 2 * threads)) (sym (ne_eqb guard 0 some)) (omega (arith, within))
 
 -- The plan of every text is sound.
 pub every_plan : {text : List ℕ} {plan : Plan} → IsPlanOf text plan → IsSound text plan
@@ -113,3 +487,179 @@ every_plan {text} {plan} is =
 pub below_front : (limit : ℕ) (xs ys : List Op) → AreBelow limit (xs ++ ys) → AreBelow limit xs
 below_front limit [] ys below = tt
 below_front limit (x ∷ xs) ys below = (below.0, below_front limit xs ys below.1)
+
+-- ==== In each phase of every plan, the names that a thread frees were asked for by itself or before the phase.
+
+-- ---- the names that thread k may free: those that were asked for before the phase, and its own after operations of the phase
+abbrev own_after : ℕ → List ℕ → Op → List ℕ
+own_after k asked op = if op.actor == k then asked_after op.what asked else asked
+
+abbrev own_by : ℕ → List ℕ → List Op → List ℕ
+own_by k asked [] = asked
+own_by k asked (op ∷ ops) = own_by k (own_after k asked op) ops
+
+own_in_turn : (k : ℕ) (asked : List ℕ) (xs ys : List Op) → own_by k asked (xs ++ ys) ≡ own_by k (own_by k asked xs) ys
+own_in_turn k asked [] ys = refl
+own_in_turn k asked (x ∷ xs) ys = own_in_turn k (own_after k asked x) xs ys
+
+frees_both : (k : ℕ) (asked : List ℕ) (xs ys : List Op) → FreesItsOwn k asked xs → FreesItsOwn k (own_by k asked xs) ys → FreesItsOwn k asked (xs ++ ys)
+frees_both k asked [] ys a b = b
+frees_both k asked (x ∷ xs) ys a b = (a.0, frees_both k (own_after k asked x) xs ys a.1 b)
+
+-- ---- the last phase after others
+frees_last : (asked : List ℕ) (front : List (List Op)) (last : List Op) → FreeTheirOwn asked front
+    → ((k : ℕ) → FreesItsOwn k (asked_by asked (all_ops front)) last) → FreeTheirOwn asked (front ++ last ∷ [])
+frees_last asked [] last fronts frees = (frees, tt)
+frees_last asked (p ∷ ps) last fronts frees =
+    (fronts.0, frees_last _ ps last fronts.1 (λ k. subst (λ now. FreesItsOwn k now last) (asked_both asked p _) (frees k)))
+
+add_behind : (op : Op) (front : List (List Op)) (last : List Op) → add_last (Some op) (front ++ last ∷ []) ≡ front ++ (last ++ op ∷ []) ∷ []
+add_behind op [] last = refl
+add_behind op (p ∷ []) last = refl
+add_behind op (p ∷ q ∷ ps) last = ap (λ phases. p ∷ phases) (add_behind op (q ∷ ps) last)
+
+all_behind : (front : List (List Op)) (last : List Op) → all_ops (front ++ last ∷ []) ≡ all_ops front ++ last
+all_behind [] last = append-nil last
+all_behind (p ∷ ps) last = ap (λ ops. p ++ ops) (all_behind ps last) ∙ sym (append_assoc p (all_ops ps) last)
+
+-- ---- the names that an item's thread may free by the check of its line
+abbrev MayFree : List Item → ℕ → ℕ → Type 0
+MayFree items k n = (is_named items n ≡ true) × (((k == thread_of items n) || not (is_named_now items n)) ≡ true)
+
+-- of each thread, these names have all that it may free
+abbrev HaveOwn : (ℕ → List ℕ) → List Item → Type 0
+HaveOwn own items = (k n : ℕ) → MayFree items k n → is_asked (own k) n ≡ true
+
+-- the names that these phases asked for
+abbrev asked_in : List (List Op) → List ℕ
+asked_in phases = asked_by [] (all_ops phases)
+
+-- the phases of items end with this one, and each thread frees its own in all of them
+record HasLast (f : Profile) (items : List Item) : Type 0 where
+  front : List (List Op)
+  last : List Op
+  same : phases_in f items ≡ front ++ last ∷ []
+  fronts : FreeTheirOwn [] front
+  names : AreNames (asked_by (asked_in front) last) items
+  frees : (k : ℕ) → FreesItsOwn k (asked_in front) last
+  own : HaveOwn (λ k. own_by k (asked_in front) last) items
+
+-- whichever case it is
+wish_frees : (f : Profile) (heaps : ℕ → ℕ) (keeper : Option ℕ) (w : Wish) → freed_in (what_wished f heaps keeper w) ≡ name_freed w
+wish_frees f heaps keeper w = search arith
+
+chore_frees : (c : Chore) → freed_in (what_of_chore c) ≡ None
+chore_frees (Chore.Tick e) = refl
+chore_frees c = refl
+
+item_frees : (f : Profile) (i : Item) (earlier : List Item) (own : ℕ → List ℕ) → reason_of f earlier i ≡ None → HaveOwn own earlier → (k : ℕ)
+    → FreesItsOwn k (own k) (new_ops f i earlier)
+item_frees f i earlier own passed have k = search (arith, own_passed, held_both, wish_frees, chore_frees)
+
+-- ---- what a thread may free after an item
+either_same : (t : Bool) (asked : List ℕ) (n : ℕ) → is_asked asked n ≡ true → is_asked (if t then asked else asked) n ≡ true
+either_same true asked n is = is
+either_same false asked n is = is
+
+-- an operation of thread t: of a name that it makes, what another thread may free is no other than before
+own_made : (f : Profile) (heaps : ℕ → ℕ) (keeper : Option ℕ) (new mine : Bool) (w : Wish) (n : ℕ) (asked : List ℕ) → is_name (name_made w) n ≡ new
+    → (new ≡ true → mine ≡ true) → (new ≡ false → is_asked asked n ≡ true)
+    → is_asked (if mine then asked_after (what_wished f heaps keeper w) asked else asked) n ≡ true
+own_made f heaps keeper a b w n asked is own old = search (arith, asks_for, false≢true)
+
+only_left : (t : Bool) → t || false ≡ true → t ≡ true
+only_left true is = refl
+only_left false is = absurd (cc)
+
+wish_own : (f : Profile) (heaps : ℕ → ℕ) (keeper : Option ℕ) (new named now : Bool) (t thread k : ℕ) (w : Wish) (n : ℕ) (asked : List ℕ)
+    → is_name (name_made w) n ≡ new → new || named ≡ true → ((k == (if new then t else thread)) || not (new || now)) ≡ true
+    → (named ≡ true → ((k == thread) || not now) ≡ true → is_asked asked n ≡ true)
+    → is_asked (if t == k then asked_after (what_wished f heaps keeper w) asked else asked) n ≡ true
+wish_own f heaps keeper a named now t thread k w n asked is known may old = search (arith, own_made, eq-eqb, eqb-true, only_left)
+
+item_own_told : (f : Profile) (i : Item) (earlier : List Item) (own : ℕ → List ℕ) → is_phase i ≡ false → HaveOwn own earlier
+    → HaveOwn (λ k. own_by k (own k) (new_ops f i earlier)) (i ∷ earlier)
+item_own_told f i earlier own other have k n may = search (arith, wish_own, asks_none, either_same)
+
+-- ---- item by item
+item_behind : (f : Profile) (i : Item) (earlier : List Item) (front : List (List Op)) (last : List Op) → is_phase i ≡ false
+    → phases_in f earlier ≡ front ++ last ∷ []
+    → phases_in f (i ∷ earlier) ≡ front ++ (last ++ new_ops f i earlier) ∷ []
+item_behind f i earlier front last other same = search (arith, append-nil, add_behind)
+
+after_other : (f : Profile) (i : Item) (earlier : List Item) → is_phase i ≡ false → reason_of f earlier i ≡ None → HasLast f earlier → HasLast f (i ∷ earlier)
+after_other f i earlier other passed at =
+    let before = asked_in at.front in
+    let own : ℕ → List ℕ = λ k. own_by k before at.last in
+    let news = new_ops f i earlier in
+    record {
+      front = at.front;
+      last = at.last ++ news;
+      same = item_behind f i earlier at.front at.last other at.same;
+      fronts = at.fronts;
+      names = subst (λ now. AreNames now (i ∷ earlier)) (sym (asked_both before at.last news)) (item_names f i earlier _ at.names);
+      frees = λ k. frees_both k before at.last news (at.frees k) (item_frees f i earlier own passed at.own k);
+      own = λ k n may. subst (λ now. is_asked now n ≡ true) (sym (own_in_turn k before at.last news)) (item_own_told f i earlier own other at.own k n may);
+    }
+
+after_phase : (f : Profile) (earlier : List Item) → HasLast f earlier → HasLast f (NextPhase ∷ earlier)
+after_phase f earlier at =
+    let asked : asked_by (asked_in at.front) at.last ≡ asked_in (at.front ++ at.last ∷ []) = sym (ap (asked_by []) (all_behind at.front at.last) ∙ asked_both [] (all_ops at.front) at.last) in
+    let names : AreNames (asked_in (at.front ++ at.last ∷ [])) earlier = subst (λ now. AreNames now earlier) asked at.names in
+    record {
+      front = at.front ++ at.last ∷ [];
+      last = [];
+      same = ap (λ phases. phases ++ [] ∷ []) at.same;
+      fronts = frees_last [] at.front at.last at.fronts at.frees;
+      names = names;
+      frees = λ k. tt;
+      own = λ k n may. names n ∙ may.0;
+    }
+
+after_item : (f : Profile) (i : Item) (earlier : List Item) → reason_of f earlier i ≡ None → HasLast f earlier → HasLast f (i ∷ earlier)
+after_item f NextPhase earlier passed at = after_phase f earlier at
+after_item f i earlier passed at = after_other f i earlier refl passed at
+
+after_all : (f : Profile) (items : List Item) → AreChecked f items → HasLast f items
+after_all f [] checked = record { front = []; last = []; same = refl; fronts = tt; names = λ n. refl; frees = λ k. tt; own = λ k n may. may.0 }
+after_all f (i ∷ earlier) checked = after_item f i earlier checked.0.passes (after_all f earlier checked.1)
+
+-- In each phase of every plan, the names that a thread frees were asked for by itself or before the phase.
+pub every_phase : {text : List ℕ} {plan : Plan} → IsPlanOf text plan → FreeTheirOwn [] (map ops_of (phases_of plan.phases))
+every_phase {text} {plan} is =
+    let at = after_all is.header.profile is.items (parts_of text is.header is.items is.read).checked in
+    subst (FreeTheirOwn []) (sym (is.phases ∙ at.same)) (frees_last [] at.front at.last at.fronts at.frees)
+
+-- ==== How many operations a plan has.
+
+-- ---- the phases have an operation for each item that is one
+item_count : (f : Profile) (i : Item) (earlier : List Item) → length (new_ops f i earlier) ≡ (if is_operation i then 1 else 0)
+item_count f i earlier = search arith
+
+count_more : (t : Bool) (n : ℕ) → n + (if t then 1 else 0) ≡ (if t then n + 1 else n)
+count_more true n = refl
+count_more false n = omega arith
+
+all_counted : (f : Profile) (items : List Item) → length (ops_in f items) ≡ operations_in items
+all_counted f [] = refl
+all_counted f (i ∷ earlier) =
+    ap (λ (ops : List Op). length ops) (ops_next f i earlier)
+    ∙ omega (arith, length-append (ops_in f earlier) (new_ops f i earlier), item_count f i earlier, all_counted f earlier) ∙ count_more (is_operation i) (operations_in earlier)
+
+-- ---- the check of each is that fewer than 1,000,000 stood before it
+one_more : (t : Bool) (n : ℕ) → n ≤ 1000000 → (t ≡ true → n < 1000000) → (if t then n + 1 else n) ≤ 1000000
+one_more true n before room = let lt = room refl in omega (arith, lt)
+one_more false n before room = before
+
+few_items : (f : Profile) (items : List Item) → AreChecked f items → operations_in items ≤ 1000000
+few_items f [] checked = omega arith
+few_items f (i ∷ earlier) checked = one_more _ _ (few_items f earlier checked.1) (λ is. (counts_within f earlier i is checked.0.passes).few)
+
+-- Every plan has at most 1,000,000 operations.
+pub few_operations : {text : List ℕ} {plan : Plan} → IsPlanOf text plan → length (operations_of plan) ≤ 1000000
+few_operations {text} {plan} is =
+    let f = is.header.profile in
+    let few = few_items f is.items (parts_of text is.header is.items is.read).checked in
+    let same : operations_of plan ≡ ops_in f is.items = ap all_ops is.phases in
+    let count : length (operations_of plan) ≡ operations_in is.items = ap (λ (ops : List Op). length ops) same ∙ all_counted f is.items in
+    omega (arith, few, count)

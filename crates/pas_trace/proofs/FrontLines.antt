@@ -8,8 +8,8 @@ use Rattle.pas_trace.specs.{Texts.pieces, Texts.without_empty, Texts.lines_of, F
 use Rattle.pas_trace.specs.Numbers.{is_digit, all_digits, value_from, is_decimal, number_of}
 use Rattle.pas_trace.specs.Items.{trace_name, item2, item5, item_of_words}
 use Rattle.pas_trace.specs.declared.item.{Item.Item, Item.TheVariants.Operates, Wish.TheVariants.Asks, Wish.TheVariants.Frees}
-use Rattle.pas_trace.proofs.{Digits.digit-is, Digits.digits-add, Digits.value-add, Splits.keeps}
-use Rattle.pas_trace.proofs.WordLines.{IsLine, Lacks, lacks-both, digits-lack, pieces-until, pieces-only, lines-until}
+use Rattle.pas_trace.proofs.Digits.{digit-is, digits-add, value-add}
+use Rattle.pas_trace.proofs.WordLines.{keeps, IsLine, Lacks, lacks-both, digits-lack, pieces-until, pieces-only, lines-until}
 
 -- the first so many bytes are digits of this value
 pub record AreDigits (text : List ℕ) (count value : ℕ) : Type 0 where
@@ -43,9 +43,7 @@ digits-small count value small few =
 
 -- ---- a number and the byte after it
 decimal-from : (w : List ℕ) → all_digits w ≡ true → 0 < length w → (1 < length w → get_or w 0 0 ≢ 48) → is_decimal w ≡ true
-decimal-from [] digits some head = absurd (omega arith)
-decimal-from (b ∷ []) digits some head = (and_parts (is_digit b) true digits).0
-decimal-from (b ∷ c ∷ bs) digits some head = search (arith, and_parts, and_from, le-leb)
+decimal-from a digits d head = search (arith, and_parts, and_from, le-leb)
 
 number-found : (text : List ℕ) (count value end : ℕ) → all_digits (take count text) ≡ true → value ≡ value_from 0 (take count text)
     → value < 1000000000000000000
@@ -55,8 +53,8 @@ number-found text count value end digits is small some within ended head =
     let w = take count text in
     let long : length w ≡ count = length-take-le count text (omega arith) in
     let decimal : is_decimal w ≡ true = decimal-from w digits (omega arith) (λ more e. head (omega (arith, more, long)) (sym (get_or-take count text 0 0 some) ∙ e)) in
-    let fits : nat_lt (value_from 0 w) (2 ^ 64) ≡ true = lt-ltb (value_from 0 w) (2 ^ 64) (omega (arith, is, small)) in
-    let tested = and_from (is_decimal w) (nat_lt (value_from 0 w) (2 ^ 64)) decimal fits in
+    let fits : nat_lt (value_from 0 w) (2 ^ 64) ≡ true = lt-ltb _ _ (omega (arith, is, small)) in
+    let tested = and_from _ _ decimal fits in
     record {
       word = w;
       digits = digits;
@@ -103,15 +101,15 @@ word-more : (text w after : List ℕ) (words : List (List ℕ)) (rest : List ℕ
     → IsLine after words rest → IsLine text (w ∷ words) rest
 word-more text w after words rest is whole one some l = record {
   line = w ++ 32 ∷ l.line;
-  text_is = is ∙ ap (λ (t : List ℕ). w ++ 32 ∷ t) l.text_is ∙ sym (append_assoc w (32 ∷ l.line) (10 ∷ rest));
-  whole = lacks-both 10 w (32 ∷ l.line) whole (λ e. omega (arith, e), l.whole);
-  words_are = ap without_empty (pieces-until 32 w l.line one) ∙ keeps w (pieces 32 l.line) some ∙ ap (λ ws. w ∷ ws) l.words_are;
+  text_is = is ∙ ap (λ (t : List ℕ). w ++ 32 ∷ t) l.text_is ∙ sym (append_assoc w _ _);
+  whole = lacks-both 10 w _ whole (λ e. omega (arith, e), l.whole);
+  words_are = ap without_empty (pieces-until 32 w _ one) ∙ keeps w (pieces 32 l.line) some ∙ ap (λ ws. w ∷ ws) l.words_are;
 }
 
 line-more : (text : List ℕ) (n : ℕ) (after : List ℕ) (words : List (List ℕ)) (rest : List ℕ) (b : BeginsWith text n 32 after) → IsLine after words rest
     → IsLine text (b.word ∷ words) rest
-line-more text n after words rest b l =
-    word-more text b.word after words rest b.text_is (digits-lack 10 b.word (omega arith) b.digits) (digits-lack 32 b.word (omega arith) b.digits) (number-some b.word n b.number) l
+line-more text n after words rest b l = word-more text b.word after words rest b.text_is (digits-lack 10 b.word (omega arith) b.digits)
+    (digits-lack 32 b.word (omega arith) b.digits) (number-some b.word n b.number) l
 
 -- ---- the first line
 line-says : (version b : ℕ) (text : List ℕ) (words : List (List ℕ)) (rest : List ℕ) (item : Item) → 35 < b → IsLine text words rest

@@ -1,10 +1,18 @@
 -- What the reader's tables hold after each step.
 use Rattle.std.proofs.Common.{◌≡◌, ℕ, zero, suc, ◌<◌, ◌==◌, true, false, if◌then◌else◌, List, [], ◌∷◌, ◌++◌, length, map, get_or, set, Some, refl, sym, ap}
-use Rattle.std.proofs.Common.{subst, ◌∙◌, inl, inr, get_or-set_same, get_or-set_other, eq-eqb, ne_eqb}
-use Rattle.std.proofs.lemmas.{Bool.cases_eq, List.map-append}
-use Rattle.pas_trace.specs.{Codes.unlined, Plans.add_last, Scripts.without_lines}
+use Rattle.std.proofs.Common.{subst, ◌∙◌, inl, inr, get_or-set_same, get_or-set_other, eq-eqb, ne_eqb, ◌+◌, Bool, arith, Result, Ok, Err, MatchResult}
+use Rattle.std.proofs.lemmas.Bool.{cases_eq}
+use Rattle.std.proofs.lemmas.List.{map-append, get_or_append_left, get_or_at, length-map}
+use Rattle.pas_trace.specs.Codes.{unlined, is_rare, IsPlaced, nothing, said_by, no_code}
+use Rattle.pas_trace.specs.Plans.{add_last, ops_of, IsReading}
+use Rattle.pas_trace.specs.Scripts.{without_lines, coded_ops, IsScriptFor, IsScriptOf, IsScripting}
 use Rattle.pas_trace.specs.Gathering.{scripted_phases, HasGathered, Gathers, is_scripting}
-use Rattle.pas_trace.specs.declared.{gathered.Coded.Coded, gathered.Gathered.Gathered, plan.Op.Op}
+use Rattle.pas_trace.specs.declared.{gathered.Coded.Coded, gathered.Gathered.Gathered, plan.Op.Op, code.Code.Code, header.Header.Header}
+use Rattle.pas_trace.specs.declared.{fault.ReadFault.ReadFault, fault.ReadFault.TheVariants.Trace, fault.ReadFault.TheVariants.NoMemory, item.Item.Item}
+use Rattle.pas_trace.specs.declared.{plan.Phase.Phase, plan.Plan.Plan, reader.Reader.Reader, script.CodedPhase.CodedPhase, script.Script.Script}
+use Rattle.std.specs.Global.{Vec}
+use Rattle.pas_trace.specs.Told.{Tells, IsRead, IsBegun, IsPlanned, IsScripted}
+use Rattle.pas_trace.proofs.LexedLines.{read-planned}
 use Rattle.pas_trace.specs.declared.gathered.Gathered.TheVariants as kind
 
 -- an operation goes to the end of the last phase
@@ -42,3 +50,101 @@ get_or-written xs i n x d lt = elim (cases_eq n i) [
   | inl e ↦ let t : (n == i) ≡ true = eq-eqb n i e in rw (t, e) (get_or-set_same xs i x d lt)
   | inr ne ↦ let t : (n == i) ≡ false = ne_eqb n i ne in rw t (get_or-set_other xs i n x d ne)
 ]
+
+-- ==== Codes beside a list of whole operations.
+
+-- each code of the list that is a place is one of so many
+abbrev pub ArePlaced : ℕ → List Code → Type 0
+ArePlaced count codes = (k : ℕ) → IsPlaced count (get_or codes k no_code)
+
+said-here : (rare : List Op) (op : Op) (code : Code) (here : Bool) → is_rare code ≡ here → IsPlaced (length rare) code
+    → said_by (rare ++ op ∷ []) code ≡ said_by rare code
+said-here rare op code a is placed = search (arith, get_or_append_left)
+
+-- Codes that are placed stand for the same beside one operation more.
+said-more : (rare : List Op) (op : Op) (codes : List Code) → ArePlaced (length rare) codes
+    → map (said_by (rare ++ op ∷ [])) codes ≡ map (said_by rare) codes
+said-more rare op [] all = refl
+said-more rare op (c ∷ codes) all = ap (λ o. o ∷ map (said_by (rare ++ op ∷ [])) codes) (said-here rare op c _ refl (all zero))
+    ∙ ap (λ ops. said_by rare c ∷ ops) (said-more rare op codes (λ k. all (suc k)))
+
+-- A code that is the place of the last operation stands for it.
+said-last : (rare : List Op) (op : Op) (code : Code) → is_rare code ≡ true → code.tail ≡ length rare → said_by (rare ++ op ∷ []) code ≡ unlined op
+said-last rare op code is last = rw (is, last) (ap unlined (get_or_at rare op [] nothing (length rare) refl))
+
+-- .. and the others stand for what they stood for.
+pub rare-added : (codes : List Code) (rare now : List Op) (op : Op) (code : Code) → ArePlaced (length rare) codes → now ≡ rare ++ op ∷ [] → is_rare code ≡ true
+    → code.tail ≡ length rare → map (said_by now) codes ++ said_by now code ∷ [] ≡ map (said_by rare) codes ++ unlined op ∷ []
+rare-added codes rare now op code all e is last = ap (λ (xs : List Op). map (said_by xs) codes ++ said_by xs code ∷ []) e
+    ∙ ap (λ (ops : List Op). ops ++ said_by (rare ++ op ∷ []) code ∷ []) (said-more rare op codes all)
+    ∙ ap (λ (o : Op). map (said_by rare) codes ++ o ∷ []) (said-last rare op code is last)
+
+-- ==== The plan that a script is of.
+
+-- a vector of the same length, with other items
+abbrev like : {X Y : Type 0} (v : Vec X) (ys : List Y) → length ys ≡ length v.items → Vec Y
+like v ys e = record { ptr = v.ptr; len = v.len; cap = v.cap; alloc = v.alloc; items = ys; ok = (v.ok.0 ∙ sym e, v.ok.1); small = v.small }
+
+-- whole phases of which these are the codes
+record WholePhases (coded : List CodedPhase) (ops : List (List Op)) : Type 0 where
+  phases : List Phase
+  are : map ops_of phases ≡ ops
+  many : length phases ≡ length coded
+
+abbrev one-whole : (p : CodedPhase) (ops : List Op) → coded_ops p ≡ map unlined ops → Phase
+one-whole p ops e =
+    let many : length ops ≡ length p.codes.items = sym (length-map ops unlined) ∙ ap length (sym e) ∙ length-map p.codes.items (said_by p.rare.items) in
+    record { ops = like p.codes ops many }
+
+whole-phases : (coded : List CodedPhase) (ops : List (List Op)) → map coded_ops coded ≡ without_lines ops → WholePhases coded ops
+whole-phases [] [] e = record { phases = []; are = refl; many = refl }
+whole-phases [] (o ∷ ops) e = absurd (cc)
+whole-phases (p ∷ coded) [] e = absurd (cc)
+whole-phases (p ∷ coded) (o ∷ ops) e =
+    let first : coded_ops p ≡ map unlined o = cc in
+    let rest : map coded_ops coded ≡ without_lines ops = cc in
+    let more = whole-phases coded ops rest in
+    record { phases = one-whole p o first ∷ more.phases; are = ap (λ os. o ∷ os) more.are; many = ap suc more.many }
+
+-- a plan that the script is of
+record PlanFor (header : Header) (items : List Item) (script : Script) : Type 0 where
+  plan : Plan
+  planned : IsPlanned header items plan
+  same : IsScriptFor plan script
+
+plan-for : (header : Header) (items : List Item) (script : Script) → IsScripted header items script → PlanFor header items script
+plan-for header items script s =
+    let whole = whole-phases _ _ s.phases in
+    record {
+      plan = record {
+        version = script.version;
+        profile = script.profile;
+        guard = script.guard;
+        phases = record { phases = like script.phases.phases whole.phases whole.many };
+        bounds = script.bounds;
+        total = script.total;
+        names_limit = script.names_limit;
+      };
+      planned = record { outline = s.outline; phases = whole.are };
+      same = record { version = refl; profile = refl; guard = refl; phases = s.phases ∙ ap without_lines (sym whole.are); bounds = refl; total = refl; names = refl };
+    }
+
+-- A text that was read without a fault has the script of its items.
+pub read-scripted : (for_script : Bool) (text rest : List ℕ) (r new : Reader) (script : Script) → IsBegun for_script text r rest
+    → (h : IsRead r [] rest new (Ok tt))
+    → IsScripted new.header h.0 script → IsScriptOf text script
+read-scripted for_script text rest r new script b h made =
+    let p = plan-for new.header h.0 script made in
+    record { plan = p.plan; read = read-planned for_script text rest r new p.plan b h p.planned; same = p.same }
+
+-- .. which may want memory
+pub scripted-reading : (text : List ℕ) (reader : Reader) (result : Result Script ReadFault)
+    → ((script : Script) → ((items : List Item) → Tells reader items → IsScripted reader.header items script) → IsScriptOf text script)
+    → MatchResult result (λ script. (items : List Item) → Tells reader items → IsScripted reader.header items script) (λ fault. fault ≡ NoMemory)
+    → IsScripting text result
+scripted-reading text reader a is h = search arith
+
+-- A script has the faults of a plan.
+pub same-fault : (text : List ℕ) (fault : ReadFault) → IsReading text (Err fault) → IsScripting text (Err fault)
+same-fault text (Trace fault) h = h
+same-fault text NoMemory h = tt

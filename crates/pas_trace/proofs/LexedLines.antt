@@ -1,15 +1,104 @@
--- Lines that say something by themselves, and what is read of them.
-use Rattle.std.proofs.Common.{◌≡◌, ℕ, ◌+◌, ◌==◌, Bool, true, false, if◌then◌else◌, List, [], ◌∷◌, ◌++◌, OnOk, map, length, Result, Ok, Err, codes, refl, sym}
-use Rattle.std.proofs.Common.{ap, subst, ◌∙◌, arith, append_assoc, length-append}
+-- The lines that are read, and those that are left.
+use Rattle.std.proofs.Common.{arith, ◌≡◌, ℕ, ◌+◌, Bool, List, [], ◌∷◌, Some, Result, Ok, Err, MatchResult, refl, sym, ap, subst, ◌∙◌, ◌==◌, true, false}
+use Rattle.std.proofs.Common.{if◌then◌else◌, ◌++◌, OnOk, map, length, codes, append_assoc, length-append}
+use Rattle.pas_trace.specs.declared.{header.Header.Header, fault.ReadFault.ReadFault, fault.ReadFault.TheVariants.Trace, fault.ReadFault.TheVariants.NoMemory}
+use Rattle.pas_trace.specs.declared.{item.Item.Item, plan.Plan.Plan, reader.Reader.Reader, fault.Reason.Reason, fault.TraceFault.TraceFault}
+use Rattle.pas_trace.specs.declared.{item.Item.TheVariants.Shares}
+use Rattle.pas_trace.specs.{Texts.lines_of, Texts.words_of, Reasons.line_says, Reasons.header_of, Gathering.is_scripting, FirstLines.FirstSays, Lexed.Say}
+use Rattle.pas_trace.specs.{Lexed.AreLexed}
+use Rattle.pas_trace.specs.Plans.{parsed, parsed_lines, with_header, with_items, items_from, after_item, IsPlanOf, IsReading, line_of_newest}
+use Rattle.pas_trace.specs.Told.{Tells, IsTaken, AreTaken, IsRead, IsBegun, IsPlanned}
 use Rattle.std.proofs.lemmas.List.{map-append}
-use Rattle.pas_trace.specs.declared.{header.Header.Header, fault.Reason.Reason, fault.TraceFault.TraceFault, fault.ReadFault.ReadFault}
-use Rattle.pas_trace.specs.declared.{fault.ReadFault.TheVariants.Trace, fault.ReadFault.TheVariants.NoMemory, item.Item.Item, item.Item.TheVariants.Shares}
-use Rattle.pas_trace.specs.declared.{reader.Reader.Reader}
-use Rattle.pas_trace.specs.{Texts.lines_of, Texts.words_of, FirstLines.FirstSays, Reasons.line_says, Plans.items_from, Plans.after_item, Plans.line_of_newest}
-use Rattle.pas_trace.specs.{Lexed.Say, Lexed.AreLexed}
-use Rattle.pas_trace.specs.Items.{same_bytes, since, has_since, item1, item_by_count, item_of_words, item_of_line, plain}
-use Rattle.pas_trace.specs.Told.{Tells, IsTaken, AreTaken, IsRead}
-use Rattle.pas_trace.proofs.Reading.{SoFar, at-first, left-is, after-taken, taken-fault, at-end}
+use Rattle.pas_trace.specs.Items.{same_bytes, item1, item_by_count, item_of_words, item_of_line, plain}
+
+-- the answer of the lines that are left is the answer of all
+pub record SoFar (old : Reader) (start : List Item) (lines : List (List ℕ)) (now : Reader) (left : List (List ℕ)) : Type 0 where
+  pub items : List Item
+  pub tells : Tells now items
+  pub header : now.header ≡ old.header
+  pub scripting : is_scripting now.gathered ≡ is_scripting old.gathered
+  pub same : items_from old.header (old.line + 1) start lines ≡ items_from old.header (now.line + 1) items left
+
+abbrev pub at-first : (r : Reader) (start : List Item) (lines : List (List ℕ)) → Tells r start → SoFar r start lines r lines
+at-first r start lines t = record { items = start; tells = t; header = refl; scripting = refl; same = refl }
+
+-- After a line was taken, the reader is one line further.
+after-taken : (old now new : Reader) (start : List Item) (lines : List (List ℕ)) (line : List ℕ) (left : List (List ℕ))
+    (far : SoFar old start lines now (line ∷ left))
+    → IsTaken now far.items line new (Ok tt) → SoFar old start lines new left
+after-taken old now new start lines line left far t =
+    let i = t.0 in
+    let says : line_says old.header far.items line ≡ Ok i = ap (λ (f : Header). line_says f far.items line) (sym far.header) ∙ t.1 in
+    record {
+      items = i ∷ far.items;
+      tells = t.2;
+      header = t.3 ∙ far.header;
+      scripting = t.5 ∙ far.scripting;
+      same = far.same ∙ ap (λ says. after_item (now.line + 1) says (λ i. items_from old.header (now.line + 1 + 1) (i ∷ far.items) left)) says
+          ∙ ap (λ n. items_from old.header (n + 1) (i ∷ far.items) left) (sym t.4);
+    }
+
+-- the line with the fault is the first of those that are left
+taken-fault : (old now new : Reader) (start : List Item) (lines : List (List ℕ)) (line : List ℕ) (left : List (List ℕ)) (fault : ReadFault)
+    (far : SoFar old start lines now (line ∷ left))
+    → IsTaken now far.items line new (Err fault) → AreTaken old start lines new (Err fault)
+taken-fault old now new start lines line left (Trace fault) far t = search arith
+taken-fault old now new start lines line left NoMemory far t = tt
+
+-- Where no line is left, all lines are taken.
+at-end : (old now : Reader) (start : List Item) (lines left : List (List ℕ)) → SoFar old start lines now left → left ≡ []
+    → AreTaken old start lines now (Ok tt)
+at-end old now start lines left far none =
+    (far.items, far.same ∙ ap (items_from old.header (now.line + 1) far.items) none, far.tells, far.header, far.scripting)
+
+-- ---- the first line of a text
+abbrev pub left-is : (old now : Reader) (start : List Item) (lines left other : List (List ℕ)) → left ≡ other → SoFar old start lines now left
+    → SoFar old start lines now other
+left-is old now start lines left other e far = record { items = far.items; tells = far.tells; header = far.header; scripting = far.scripting; same = far.same ∙ ap (items_from old.header (now.line + 1) far.items) e }
+
+-- ---- from the text
+parsed-items : (text line rest : List ℕ) (f : Header) → lines_of text ≡ line ∷ lines_of rest → header_of line ≡ Some f
+    → parsed text ≡ with_items f (items_from f 2 [] (lines_of rest))
+parsed-items text line rest f e h = ap parsed_lines e ∙ ap (λ header. with_header header (lines_of rest)) h
+
+-- ---- and to the plan
+planned : (text line rest : List ℕ) (f : Header) (all : List Item) (plan : Plan) → lines_of text ≡ line ∷ lines_of rest → header_of line ≡ Some f
+    → items_from f 2 [] (lines_of rest) ≡ Ok all → IsPlanned f all plan → IsPlanOf text plan
+planned text line rest f all plan e h i p = record {
+  items = all;
+  header = f;
+  read = parsed-items text line rest f e h ∙ ap (with_items f) i;
+  version = p.outline.version;
+  profile = p.outline.profile;
+  guard = p.outline.guard;
+  phases = p.phases;
+  bounds = p.outline.bounds;
+  total = p.outline.total;
+  names = p.outline.names;
+}
+
+from-second : (r : Reader) (rest : List ℕ) → Tells r [] → items_from r.header 2 [] (lines_of rest) ≡ items_from r.header (r.line + 1) [] (lines_of rest)
+from-second r rest t = ap (λ n. items_from r.header n [] (lines_of rest)) (sym (ap (λ n. n + 1) t.line))
+
+-- A text that was read without a fault has the plan of its items.
+pub read-planned : (for_script : Bool) (text rest : List ℕ) (r new : Reader) (plan : Plan) → IsBegun for_script text r rest → (h : IsRead r [] rest new (Ok tt))
+    → IsPlanned new.header h.0 plan → IsPlanOf text plan
+read-planned for_script text rest r new plan b h made =
+    planned text b.line rest r.header h.0 plan b.cut b.header (from-second r rest b.tells ∙ h.1) (subst (λ (g : Header). IsPlanned g h.0 plan) h.3 made)
+
+-- A text that was read with a fault has that as its first.
+pub read-failed : (for_script : Bool) (text rest : List ℕ) (r new : Reader) (fault : ReadFault) → IsBegun for_script text r rest
+    → IsRead r [] rest new (Err fault) → IsReading text (Err fault)
+read-failed for_script text rest r new a b h = search (arith, parsed-items, from-second)
+
+-- .. which may want memory
+pub planned-reading : (text : List ℕ) (reader : Reader) (result : Result Plan ReadFault)
+    → ((plan : Plan) → ((items : List Item) → Tells reader items → IsPlanned reader.header items plan) → IsPlanOf text plan)
+    → MatchResult result (λ plan. (items : List Item) → Tells reader items → IsPlanned reader.header items plan) (λ fault. fault ≡ NoMemory)
+    → IsReading text result
+planned-reading text reader a is h = search arith
+
+-- ==== Lines that say something by themselves, and what is read of them.
 
 -- ---- what a line says after an operation it says anywhere
 shared-anywhere : (is : Bool) (started : Bool) (shares other : Result Item Reason) (item : Item)
@@ -35,9 +124,7 @@ since-anywhere false one other why item h e = absurd (cc)
 
 words-anywhere : (version : ℕ) (started : Bool) (words : List (List ℕ)) (item : Item) → item_of_words version true words ≡ Ok item
     → item_of_words version started words ≡ Ok item
-words-anywhere version started [] item e = e
-words-anywhere version started (w ∷ more) item e =
-    since-anywhere (has_since version (since w)) (item_by_count true w more) (item_by_count started w more) Reason.BadWord item (count-anywhere started w more item) e
+words-anywhere version started a item e = search (arith, since-anywhere, count-anywhere)
 
 comment-anywhere : (is : Bool) (blank one other : Result Item Reason) (item : Item) → (one ≡ Ok item → other ≡ Ok item) → (if is then blank else one) ≡ Ok item
     → (if is then blank else other) ≡ Ok item
@@ -48,8 +135,8 @@ comment-anywhere false blank one other item h e = h e
 pub says-anywhere : (version : ℕ) (started : Bool) (line : List ℕ) (item : Item) → item_of_line version true line ≡ Ok item
     → item_of_line version started line ≡ Ok item
 says-anywhere version started [] item e = e
-says-anywhere version started (b ∷ bs) item e =
-    comment-anywhere (b == 35) _ (item_of_words version true (words_of (b ∷ bs))) (item_of_words version started (words_of (b ∷ bs))) item (words-anywhere version started (words_of (b ∷ bs)) item) e
+says-anywhere version started (b ∷ bs) item e = comment-anywhere (b == 35) _ (item_of_words version true (words_of (b ∷ bs)))
+    (item_of_words version started (words_of (b ∷ bs))) item (words-anywhere version started (words_of (b ∷ bs)) item) e
 
 -- ---- lines are taken apart, one after another
 pub lexed-none : (version : ℕ) (text : List ℕ) → AreLexed version text [] text
@@ -65,14 +152,13 @@ lexed-now old now text items others left same is lexed =
 -- A text whose next line says an item by itself is read one line further.
 pub lexed-more : (version : ℕ) (text left after : List ℕ) (items : List Item) (item : Item) → AreLexed version text items left
     → FirstSays version left item after → AreLexed version text (items ++ item ∷ []) after
-lexed-more version text left after items item h f =
-    record {
-      lines = h.lines ++ f.line ∷ [];
-      cut = h.cut ∙ ap (λ ls. h.lines ++ ls) f.cut ∙ sym (append_assoc h.lines (f.line ∷ []) (lines_of after));
-      say = λ started. map-append (item_of_line version started) h.lines (f.line ∷ []) ∙ ap (λ rs. rs ++ item_of_line version started f.line ∷ []) (h.say started)
-          ∙ ap (λ (r : Result Item Reason). map Ok items ++ r ∷ []) (f.says started) ∙ sym (map-append Ok items (item ∷ []));
-      few = omega (arith, length-append items (item ∷ []), h.few, f.shorter);
-    }
+lexed-more version text left after items item h f = record {
+  lines = h.lines ++ f.line ∷ [];
+  cut = h.cut ∙ ap (λ ls. h.lines ++ ls) f.cut ∙ sym (append_assoc h.lines (f.line ∷ []) _);
+  say = λ started. map-append _ h.lines (f.line ∷ []) ∙ ap (λ rs. rs ++ item_of_line version started f.line ∷ []) (h.say started)
+      ∙ ap (λ (r : Result Item Reason). map Ok items ++ r ∷ []) (f.says started) ∙ sym (map-append Ok items _);
+  few = omega (arith, length-append items (item ∷ []), h.few, f.shorter);
+}
 
 -- ---- what lines say is taken, one after another
 -- the lines that are left say these items, and their answer is that of all
@@ -90,11 +176,13 @@ record FirstOf (version : ℕ) (left : List (List ℕ)) (item : Item) (items : L
 
 first-of : (version : ℕ) (left : List (List ℕ)) (item : Item) (items : List Item) → Say version left (item ∷ items) → FirstOf version left item items
 first-of version [] item items say = let e = say true in absurd (cc)
-first-of version (line ∷ rest) item items say = record { line = line; rest = rest; is = refl; says = λ started. let e = say started in cc; say = λ started. let e = say started in cc }
+first-of version (line ∷ rest) item items say =
+    record { line = line; rest = rest; is = refl; says = λ started. let e = say started in cc; say = λ started. let e = say started in cc }
 
 -- the item was taken, or has this fault, whichever line it stands on
 abbrev pub Takes : Reader → Item → Reader → Result (Unit {0}) ReadFault → Type 0
-Takes now item new result = (told : List Item) (line : List ℕ) → Tells now told → item_of_line now.header.version now.started line ≡ Ok item → IsTaken now told line new result
+Takes now item new result =
+    (told : List Item) (line : List ℕ) → Tells now told → item_of_line now.header.version now.started line ≡ Ok item → IsTaken now told line new result
 
 said-now : (old now : Reader) → now.header ≡ old.header → (line : List ℕ) (item : Item) → item_of_line old.header.version now.started line ≡ Ok item
     → item_of_line now.header.version now.started line ≡ Ok item
@@ -122,7 +210,7 @@ pub further-fault : (old now new : Reader) (start : List Item) (lines : List (Li
 further-fault old now new start lines item items fault h takes =
     let f = first-of old.header.version h.left item items h.say in
     let far = left-is old now start lines h.left (f.line ∷ f.rest) f.is h.far in
-    taken-fault old now new start lines f.line f.rest fault far (takes far.items f.line far.tells (said-now old now far.header f.line item (f.says now.started)))
+    taken-fault old now new start lines _ _ fault far (takes far.items f.line far.tells (said-now old now far.header f.line item (f.says now.started)))
 
 none-left : (version : ℕ) (left : List (List ℕ)) → Say version left [] → left ≡ []
 none-left version [] say = refl
@@ -141,8 +229,7 @@ after-more n (Err r) some more all result h e = absurd (cc)
 items-more : (f : Header) (told : List Item) (xs ys : List (List ℕ)) (all : List Item) → items_from f (line_of_newest told + 1) told xs ≡ Ok all
     → items_from f (line_of_newest told + 1) told (xs ++ ys) ≡ items_from f (line_of_newest all + 1) all ys
 items-more f told [] ys all e = let same : told ≡ all = cc in ap (λ (is : List Item). items_from f (line_of_newest is + 1) is ys) same
-items-more f told (x ∷ xs) ys all e =
-    after-more (line_of_newest told + 1) (line_says f told x) _ _ all _ (λ i. items-more f (i ∷ told) xs ys all) e
+items-more f told (x ∷ xs) ys all e = after-more _ _ _ _ all _ (λ i. items-more f (i ∷ told) xs ys all) e
 
 after-fault : (n : ℕ) (says : Result Item Reason) (some more : Item → Result (List Item) TraceFault) (fault : TraceFault)
     → ((i : Item) → some i ≡ Err fault → more i ≡ Err fault) → after_item n says some ≡ Err fault → after_item n says more ≡ Err fault
@@ -173,38 +260,34 @@ after-lines old now new start lines xs ys far t =
 -- Lines with a fault end the taking of all lines with that fault.
 pub lines-fault : (old now new : Reader) (start : List Item) (lines xs ys : List (List ℕ)) (fault : ReadFault) (far : SoFar old start lines now (xs ++ ys))
     → AreTaken now far.items xs new (Err fault) → AreTaken old start lines new (Err fault)
-lines-fault old now new start lines xs ys (Trace fault) far t =
-    far.same ∙ items-fault old.header (now.line + 1) far.items xs ys fault (ap (λ (f : Header). items_from f (now.line + 1) far.items xs) (sym far.header) ∙ t)
-lines-fault old now new start lines xs ys NoMemory far t = tt
+lines-fault old now new start lines xs ys a far t = search (arith, items-fault)
 
 -- .. and those that are left
 pub all-read : (old now new : Reader) (start : List Item) (lines left : List (List ℕ)) (result : Result (Unit {0}) ReadFault)
     (far : SoFar old start lines now left)
     → AreTaken now far.items left new result → AreTaken old start lines new result
-all-read old now new start lines left (Ok done) far t = (t.0, far.same ∙ ap (λ (f : Header). items_from f (now.line + 1) far.items left) (sym far.header) ∙ t.1, t.2, t.3 ∙ far.header, t.4 ∙ far.scripting)
-all-read old now new start lines left (Err (Trace fault)) far t = far.same ∙ ap (λ (f : Header). items_from f (now.line + 1) far.items left) (sym far.header) ∙ t
-all-read old now new start lines left (Err NoMemory) far t = tt
+all-read old now new start lines left a far t = search arith
 
 -- ---- a text of which some lines were taken apart
 pub lexed-far : (old now : Reader) (start : List Item) (text : List ℕ) (items : List Item) (left : List ℕ)
     → (lexed : AreLexed old.header.version text items left) → Tells old start → AreTaken old start lexed.lines now (Ok tt)
     → SoFar old start (lines_of text) now (lines_of left)
-lexed-far old now start text items left lexed t taken =
-    after-lines old old now start (lines_of text) lexed.lines (lines_of left) (left-is old old start (lines_of text) (lines_of text) (lexed.lines ++ lines_of left) lexed.cut (at-first old start (lines_of text) t)) taken
+lexed-far old now start text items left lexed t taken = after-lines old old now start _ lexed.lines _
+    (left-is old old start (lines_of text) (lines_of text) (lexed.lines ++ lines_of left) lexed.cut (at-first old start (lines_of text) t)) taken
 
 -- A text whose first lines were taken is read as what is left of it is read then.
 pub lexed-read : (old now new : Reader) (start : List Item) (text : List ℕ) (items : List Item) (left : List ℕ) (result : Result (Unit {0}) ReadFault)
     → (lexed : AreLexed old.header.version text items left) → Tells old start
     → AreTaken old start lexed.lines now (Ok tt) → ((told : List Item) → Tells now told → IsRead now told left new result) → IsRead old start text new result
 lexed-read old now new start text items left result lexed t taken read =
-    let far = lexed-far old now start text items left lexed t taken in all-read old now new start (lines_of text) (lines_of left) result far (read far.items far.tells)
+    let far = lexed-far old now start text items left lexed t taken in all-read old now new start _ _ result far (read far.items far.tells)
 
 -- A text whose first lines have a fault is read with that fault.
 pub lexed-fault : (old new : Reader) (start : List Item) (text : List ℕ) (items : List Item) (left : List ℕ) (fault : ReadFault)
     → (lexed : AreLexed old.header.version text items left) → Tells old start
     → AreTaken old start lexed.lines new (Err fault) → IsRead old start text new (Err fault)
-lexed-fault old new start text items left fault lexed t taken =
-    lines-fault old old new start (lines_of text) lexed.lines (lines_of left) fault (left-is old old start (lines_of text) (lines_of text) (lexed.lines ++ lines_of left) lexed.cut (at-first old start (lines_of text) t)) taken
+lexed-fault old new start text items left fault lexed t taken = lines-fault old old new start (lines_of text) lexed.lines (lines_of left) fault
+    (left-is old old start (lines_of text) (lines_of text) (lexed.lines ++ lines_of left) lexed.cut (at-first old start (lines_of text) t)) taken
 
 -- ---- results and lists
 pub at-ok : (result : Result (Unit {0}) ReadFault) (P : Type 0) → OnOk result P → result ≡ Ok tt → P

@@ -1,12 +1,138 @@
--- The items of a text have passed their checks, and there are no more of them than lines after the first.
-use Rattle.std.proofs.Common.{◌≡◌, ℕ, ◌+◌, ◌≤◌, List, [], ◌∷◌, length, Option, Some, None, Result, Ok, Err, refl, ap, sym, ◌∙◌, subst, arith, IfOk}
-use Rattle.pas_profile.specs.Profiles.{IsValid}
+-- A header has ten words, and its numbers are within the limits.
+use Rattle.std.proofs.Common.{◌≡◌, ℕ, ◌<◌, ◌≤◌, ◌&&◌, Bool, true, false, if◌then◌else◌, List, [], ◌∷◌, length, Option, None, Some, refl, subst, arith, codes}
+use Rattle.std.proofs.Common.{le-leb, ◌-◌, ◌^◌, ◌==◌, nat_lt, Result, IfOk, MatchOption, ltb-true, ◌+◌, Ok, Err, ap, ◌∙◌}
+use Rattle.std.proofs.lemmas.Bool.{and_parts}
+use Rattle.pas_profile.specs.Profiles.{IsValid, AreClassesFor}
+use Rattle.pas_trace.specs.declared.{header.Header.Header, fault.Reason.Reason, item.Item.Item, item.Item.TheVariants.Operates, item.Item.TheVariants.Scavenges}
+use Rattle.pas_trace.specs.declared.{fault.TraceFault.TraceFault, item.Wish.TheVariants.FreesRaw, item.Wish.TheVariants.FreesRawSized}
+use Rattle.pas_trace.specs.{Texts.words_of, Texts.lines_of, Numbers.number_of, Asked.epoch_of}
+use Rattle.pas_trace.specs.Items.{same_bytes, below, since, has_since, item1, item2, item3, item4, item5, item_of_two, item_of_six, item_by_count}
+use Rattle.pas_trace.specs.Items.{item_of_words, item_of_line}
+use Rattle.pas_trace.specs.Reasons.{within, most_pages, header_with, header_for, header_of_words, header_of, reason_of, kept, checked, line_says}
+use Rattle.pas_trace.proofs.PassedChecks.{if_some}
 use Rattle.pas_profile.specs.declared.profile.Profile.{Profile}
-use Rattle.pas_trace.specs.declared.{header.Header.Header, fault.Reason.Reason, fault.TraceFault.TraceFault, item.Item.Item}
-use Rattle.pas_trace.specs.Texts.{lines_of}
-use Rattle.pas_trace.specs.Reasons.{reason_of, kept, checked, line_says, header_of}
 use Rattle.pas_trace.specs.Plans.{after_item, items_from, Parsed, with_items, with_header, parsed, parsed_lines}
-use Rattle.pas_trace.proofs.{Headers.header_valid, ItemRanges.IsInRange, ItemRanges.line_range}
+
+-- Four or five words are no header.
+pub short4 : (a b c d : List ℕ) (ws : List (List ℕ)) → length ws < 2 → header_of_words (a ∷ b ∷ c ∷ d ∷ ws) ≡ None
+short4 a b c d e lt = search arith
+
+-- Six or seven words are no header.
+pub short6 : (a b c d e f : List ℕ) (ws : List (List ℕ)) → length ws < 2 → header_of_words (a ∷ b ∷ c ∷ d ∷ e ∷ f ∷ ws) ≡ None
+short6 a b c d e f h lt = search arith
+
+-- Eight or nine words are no header.
+pub short8 : (a b c d e f g h : List ℕ) (ws : List (List ℕ)) → length ws < 2 → header_of_words (a ∷ b ∷ c ∷ d ∷ e ∷ f ∷ g ∷ h ∷ ws) ≡ None
+short8 a b c d e f g h i lt = search arith
+
+-- ---- the limits
+in_range : (least most n : ℕ) (o : Option ℕ) → within least most o ≡ Some n → (least ≤ n) × (n ≤ most)
+in_range least most n None e = absurd (cc)
+in_range least most n (Some m) e = search (arith, if_some, and_parts)
+
+-- a number that is there is within these limits
+abbrev Within : ℕ → ℕ → Option ℕ → Type 0
+Within least most o = (n : ℕ) → o ≡ Some n → (least ≤ n) × (n ≤ most)
+
+-- the classes and the pages of either kind of region
+region_fits : (large : Bool) (p : ℕ) → p ≤ (if large then 16384 else 4096) → AreClassesFor p (if large then 20 else 16) × (p ≤ 16384)
+region_fits true p le = (refl, le)
+region_fits false p le = (le-leb p 4096 le, omega (arith, le))
+
+numbers_valid : (version : ℕ) (p t h a : Option ℕ) (f : Header) → Within 1 (most_pages version) p → Within 1 16 t → Within 1 32 h → Within 1 1000000 a
+    → header_with version p t h a ≡ Some f → IsValid f.profile
+numbers_valid version b t h a f ps ts hs es e = search (arith, region_fits)
+
+for_valid : (o : Option ℕ) (p t h a : List ℕ) (f : Header) → header_for o p t h a ≡ Some f → IsValid f.profile
+for_valid None p t h a f e = absurd (cc)
+for_valid (Some version) p t h a f e = numbers_valid version _ _ _ _ f (λ n. in_range 1 (most_pages version) n (number_of p))
+    (λ n. in_range 1 16 n (number_of t)) (λ n. in_range 1 32 n (number_of h)) (λ n. in_range 1 1000000 n (number_of a)) e
+
+no_header : {A : Type 0} (f : Header) → None ≡ Some f → A
+no_header f bad = absurd (cc)
+
+words_valid : (ws : List (List ℕ)) (f : Header) → header_of_words ws ≡ Some f → IsValid f.profile
+words_valid (a ∷ b ∷ c ∷ d ∷ g ∷ h ∷ i ∷ j ∷ k ∷ m ∷ []) f e =
+    let q = if_some (same_bytes a (codes "pas") && same_bytes c (codes "pages") && same_bytes g (codes "threads") && same_bytes i (codes "heaps") && same_bytes k (codes "age"))
+    (header_for (within 1 4 (number_of b)) d h j m) f e in
+    for_valid (within 1 4 (number_of b)) d h j m f q.1
+words_valid (a ∷ b ∷ c ∷ d ∷ g ∷ h ∷ i ∷ j ∷ k ∷ m ∷ n ∷ ws) f e = no_header f e
+words_valid s f e = no_header f e
+
+-- The region of a line that is a header is a valid profile.
+pub header_valid : (line : List ℕ) (f : Header) → header_of line ≡ Some f → IsValid f.profile
+header_valid line f is = words_valid (words_of line) f is
+
+-- ==== The numbers of an item are within the ranges of their places.
+
+-- a turn has a next one, and epochs are below 2^40
+abbrev pub IsInRange : Item → Type 0
+IsInRange (Operates t (FreesRaw a n)) = n < 2 ^ 40 - 1
+IsInRange (Operates t (FreesRawSized b n s a)) = n < 2 ^ 40 - 1
+IsInRange (Scavenges c) = MatchOption (epoch_of c) (Unit {0}) (λ e. e < 2 ^ 40)
+IsInRange i = Unit {0}
+
+if_range : (t : Bool) (a b : Result Item Reason) → IfOk a IsInRange → IfOk b IsInRange → IfOk (if t then a else b) IsInRange
+if_range true a b x y = x
+if_range false a b x y = y
+
+-- An item of one number is in range where the number is,
+range1 : (make : ℕ → Item) (a : Option ℕ) → ((x : ℕ) → a ≡ Some x → IsInRange (make x)) → IfOk (item1 make a) IsInRange
+range1 make None all = tt
+range1 make (Some a) all = all a refl
+
+-- one of two numbers,
+range2 : (make : ℕ → ℕ → Item) (a b : Option ℕ) → ((x y : ℕ) → b ≡ Some y → IsInRange (make x y)) → IfOk (item2 make a b) IsInRange
+range2 make None b all = tt
+range2 make (Some a) b all = range1 (make a) b (all a)
+
+-- of three,
+range3 : (make : ℕ → ℕ → ℕ → Item) (a b c : Option ℕ) → ((x y z : ℕ) → c ≡ Some z → IsInRange (make x y z)) → IfOk (item3 make a b c) IsInRange
+range3 make None b c all = tt
+range3 make (Some a) b c all = range2 (make a) b c (all a)
+
+-- of four,
+range4 : (make : ℕ → ℕ → ℕ → ℕ → Item) (a b c d : Option ℕ) → ((w x y z : ℕ) → IsInRange (make w x y z)) → IfOk (item4 make a b c d) IsInRange
+range4 make None b c d all = tt
+range4 make (Some a) b c d all = range3 (make a) b c d (λ x y z is. all a x y z)
+
+-- .. of five by the third
+first_of_three : (make : ℕ → ℕ → ℕ → Item) (a b c : Option ℕ) → ((x y z : ℕ) → a ≡ Some x → IsInRange (make x y z)) → IfOk (item3 make a b c) IsInRange
+first_of_three make None b c all = tt
+first_of_three make (Some a) b c all = range2 (make a) b c (λ y z is. all a y z refl)
+
+-- and of five.
+range5 : (make : ℕ → ℕ → ℕ → ℕ → ℕ → Item) (a b c d e : Option ℕ) → ((v w x y z : ℕ) → c ≡ Some x → IsInRange (make v w x y z))
+    → IfOk (item5 make a b c d e) IsInRange
+range5 make h b c d e all = search (arith, first_of_three)
+
+kept_lt : (t : Bool) (limit n m : ℕ) → nat_lt m limit ≡ t → (if t then Some m else None) ≡ Some n → n < limit
+kept_lt true limit n m is e = let same : m ≡ n = cc in omega (arith, same, ltb-true m limit is)
+kept_lt false limit n m is e = absurd (cc)
+
+below_lt : (limit n : ℕ) (o : Option ℕ) → below limit o ≡ Some n → n < limit
+below_lt limit n None e = absurd (cc)
+below_lt limit n (Some m) e = kept_lt (nat_lt m limit) limit n m refl e
+
+two_range : (started : Bool) (w a : List ℕ) → IfOk (item_of_two started w a) IsInRange
+two_range started w a = search (arith, if_range, range1, below_lt)
+
+six_range : (w a b c d e : List ℕ) → IfOk (item_of_six w a b c d e) IsInRange
+six_range w a b c d e = search (arith, if_range, range5, below_lt)
+
+count_range : (started : Bool) (w : List ℕ) (more : List (List ℕ)) → IfOk (item_by_count started w more) IsInRange
+count_range started w h = search (arith, if_range, two_range, range2, range3, below_lt, range4, six_range)
+
+words_range : (version : ℕ) (started : Bool) (ws : List (List ℕ)) → IfOk (item_of_words version started ws) IsInRange
+words_range version started [] = tt
+words_range version started (w ∷ more) = if_range (has_since version (since w)) _ _ (count_range started w more) tt
+
+-- The numbers of the item that a line says are within the ranges of their places.
+line_range : (version : ℕ) (started : Bool) (line : List ℕ) → IfOk (item_of_line version started line) IsInRange
+line_range version started [] = tt
+line_range version started (b ∷ bs) = if_range (b == 35) _ _ tt (words_range version started (words_of (b ∷ bs)))
+
+-- ==== The items of a text have passed their checks, and there are no more of them than lines after the first.
 
 pub record IsPassed (f : Profile) (earlier : List Item) (i : Item) : Type 0 where
   pub passes : reason_of f earlier i ≡ None
@@ -23,9 +149,9 @@ kept_none : (i j : Item) (o : Option Reason) → kept i o ≡ Ok j → (i ≡ j)
 kept_none i j None e = (ok_is e, refl)
 kept_none i j (Some r) e = absurd (cc)
 
+-- An item that is in range and was checked has passed.
 passed : (f : Profile) (earlier : List Item) (r : Result Item Reason) (i : Item) → IfOk r IsInRange → checked f earlier r ≡ Ok i → IsPassed f earlier i
-passed f earlier (Err r) i range e = absurd (cc)
-passed f earlier (Ok j) i range e = let k = kept_none j i (reason_of f earlier j) e in record { passes = ap (reason_of f earlier) (sym k.0) ∙ k.1; range = subst IsInRange k.0 range }
+passed f earlier a i range e = search (arith, kept_none)
 
 record AreRead (f : Profile) (items : List Item) (most : ℕ) : Type 0 where
   checked : AreChecked f items
@@ -43,9 +169,10 @@ next_read h number earlier items line lines (Ok i) is e more before = search (ar
 
 all_read : (h : Header) (number : ℕ) (earlier items : List Item) (lines : List (List ℕ)) → AreChecked h.profile earlier
     → items_from h number earlier lines ≡ Ok items → AreRead h.profile items (length earlier + length lines)
-all_read h number earlier items [] before e = record { checked = subst (AreChecked h.profile) (ok_is e) before; few = let n = ap (λ is. length is) (ok_is e) in omega (arith, n) }
+all_read h number earlier items [] before e =
+    record { checked = subst (AreChecked h.profile) (ok_is e) before; few = let n = ap (λ is. length is) (ok_is e) in omega (arith, n) }
 all_read h number earlier items (line ∷ lines) before e =
-    next_read h number earlier items line lines (line_says h earlier line) refl e (λ i next rest. all_read h (number + 1) (i ∷ earlier) items lines next rest) before
+    next_read h number earlier items line lines _ refl e (λ i next rest. all_read h (number + 1) (i ∷ earlier) items lines next rest) before
 
 -- ---- the whole text
 abbrev parts : Header → List Item → Parsed

@@ -8,8 +8,7 @@ use Rattle.pas_trace.specs.Wishes.{Sizing, heap_in, sizing_in, name_made, name_f
 use Rattle.pas_trace.specs.Reasons.{first_failed, is_thread, is_alignment, record_bound, few_enough, may_free, is_guard_number, guard_in, checks_of, reason_of}
 use Rattle.pas_trace.specs.Reasons.{operations_in, started, is_operation, is_named, actor_of}
 use Rattle.pas_trace.specs.EveryPlan.{IsThread}
-use Rattle.pas_trace.specs.declared.{fault.Reason.Reason, item.Item.Item, item.Item.TheVariants.Guards, item.Item.TheVariants.Operates}
-use Rattle.pas_trace.specs.declared.{item.Item.TheVariants.Scavenges, item.Wish.Wish}
+use Rattle.pas_trace.specs.declared.{fault.Reason.Reason, item.Item.Item, item.Item.TheVariants.Guards, item.Item.TheVariants.Operates, item.Wish.Wish}
 
 abbrev pub AreHeld : List (Bool × Reason) → Type 0
 AreHeld [] = Unit {0}
@@ -87,9 +86,7 @@ actor_within f items i e = omega arith
 
 -- An operation that passed its checks keeps all counts within their bounds.
 pub counts_within : (f : Profile) (items : List Item) (i : Item) → is_operation i ≡ true → reason_of f items i ≡ None → FineCounts f items i
-counts_within f items (Operates t w) o e = (own_passed f items t w e).counts
-counts_within f items (Scavenges c) o e = counts_fit f items (Scavenges c) (passes f items (Scavenges c) e)
-counts_within f items i o e = absurd (cc)
+counts_within f items i o e = search (arith, own_passed, counts_fit, passes)
 
 -- ---- tests of a value that may be there
 pub held_both : {A : Type 0} (o : Option A) (test other : A → Bool) (P : A → Type 0) → ((x : A) → test x ≡ true → other x ≡ true → P x) → holds_of test o ≡ true
@@ -103,7 +100,7 @@ small_heap f valid h held = omega (arith, valid.heaps, ltb-true h f.heaps held)
 
 fit_sizing : (f : Profile) → IsValid f → (s : Sizing) → nat_le s.size (4096 * f.pages) ≡ true → is_alignment s.align ≡ true → IsFitSizing f s
 fit_sizing f valid s size align =
-    let le = leb-true s.size (4096 * f.pages) size in
+    let le = leb-true s.size _ size in
     record { small = omega (arith, valid.pages, le); within = omega (arith, le); aligned = aligns s.align align }
 
 -- What a thread wishes by an item that passed its checks fits a valid profile.

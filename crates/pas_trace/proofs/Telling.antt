@@ -1,24 +1,167 @@
--- What the reader keeps after each item.
-use Rattle.std.proofs.Common.{◌≡◌, ◌≢◌, ℕ, ◌+◌, ◌<◌, ◌≤◌, ◌==◌, Bool, true, false, ◌||◌, ◌*◌, nat_le, if◌then◌else◌, List, [], ◌∷◌, ◌++◌, length, get_or, set}
-use Rattle.std.proofs.Common.{Option, None, Some, refl, sym, ap, subst, ◌∙◌, arith, add-one, eq-eqb, ne_eqb, leb-true, le-leb, rules}
+-- The checks by what the reader keeps are those of the items before.
+use Rattle.std.proofs.Common.{◌≡◌, ℕ, ◌+◌, ◌*◌, nat_lt, nat_le, Bool, true, false, not, List, [], ◌∷◌, ◌++◌, Option, None, Some, Result, Ok, Err, refl, sym, ap}
+use Rattle.std.proofs.Common.{arith, ◌<◌, ◌≤◌, ◌==◌, ◌&&◌, if◌then◌else◌, length, get_or, set, ◌∙◌, eq-eqb, ne_eqb, le-leb, ◌≢◌, ◌||◌, subst, add-one, leb-true}
+use Rattle.std.proofs.Common.{rules, ltb-true}
+use Rattle.pas_trace.specs.Wishes.{heap_in, sizing_in, name_made, name_freed, holds_of, asking, is_large, asks_pages, heap_by, heap_made, is_name, IsFit}
+use Rattle.pas_trace.specs.Reasons.{first_failed, is_thread, is_alignment, guard_after, guard_in, cost_of, cost_of_request, cost_of_wish, record_bound}
+use Rattle.pas_trace.specs.Reasons.{few_enough, may_free, checks_of, reason_of, operations_in, is_named, line_says, actor_of, is_operation, is_large_request}
+use Rattle.pas_trace.specs.Reasons.{large_requests, is_sampled, is_guarded, costs_of, cost_of_size, is_guard_number, actors_by, records_of_chore, is_phase}
+use Rattle.pas_trace.specs.Reasons.{makes, heap_of, started}
+use Rattle.pas_trace.specs.{Items.item_of_line, Gathering.HasGathered, Gathering.Gathers, Gathering.is_scripting}
+use Rattle.pas_trace.specs.Told.{few_told, sizing_told, told_checks, reason_told, has_owner, may_free_told, IsChecked, Tells, TellsSamples, IsSampled}
+use Rattle.pas_trace.specs.Told.{samples_next, keeper_told, owner_in, heap_told, NameTold, IsReady, CanSample, IsCounted, IsOperated, IsGuarding, IsAdded}
+use Rattle.pas_trace.specs.Told.{IsNextPhase}
+use Rattle.pas_trace.specs.declared.{fault.Reason.Reason, item.Request.Request, item.Item.Item, item.Wish.Wish, reader.Reader.Reader}
+use Rattle.pas_trace.specs.declared.{item.Wish.TheVariants.Remakes, samples.Samples.Samples, header.Header.Header, names.Owner.Owner, names.Names.Names}
+use Rattle.pas_trace.specs.declared.{plan.Chore.Chore, plan.Op.Op, plan.What.What, plan.What.TheVariants.Remake, gathered.Gathered.Gathered}
+use Rattle.pas_trace.specs.declared.item.Item.TheVariants.{Guards, Operates, Scavenges, NextPhase, Shares}
 use Rattle.std.proofs.{Math.ListN.length-set, lemmas.Bool.cases_eq, lemmas.Bool.lt-leb, lemmas.Bool.and_parts, lemmas.Nat.mul-le}
-use Rattle.pas_profile.specs.Profiles.{IsValid}
 use Rattle.pas_profile.specs.declared.profile.Profile.{Profile}
-use Rattle.pas_trace.specs.declared.{header.Header.Header, item.Item.Item, item.Wish.Wish, item.Wish.TheVariants.Remakes, names.Owner.Owner, names.Names.Names}
-use Rattle.pas_trace.specs.declared.{plan.Chore.Chore, plan.Op.Op, plan.What.What, plan.What.TheVariants.Remake, reader.Reader.Reader, samples.Samples.Samples}
-use Rattle.pas_trace.specs.declared.{gathered.Gathered.Gathered}
-use Rattle.pas_trace.specs.declared.item.Item.TheVariants.{Guards, Operates, Scavenges, NextPhase}
-use Rattle.pas_trace.specs.Wishes.{heap_in, name_made, name_freed, heap_by, heap_made, is_name}
-use Rattle.pas_trace.specs.Reasons.{is_guard_number, guard_after, guard_in, actors_by, cost_of, costs_of, cost_of_wish, records_of_chore, record_bound}
-use Rattle.pas_trace.specs.Reasons.{reason_of, is_operation, is_phase, actor_of, makes, heap_of, started}
-use Rattle.pas_trace.specs.Plans.{shared_by, phases_after, phases_in, own_costs, kept_costs, keeper_for, bound_of, bounds_upto, all_bounds, operation}
+use Rattle.pas_trace.specs.Plans.{kept_costs, keeper_for, shared_by, phases_after, phases_in, own_costs, bound_of, bounds_upto, all_bounds, operation}
 use Rattle.pas_trace.specs.Plans.{what_wished, what_of_chore, add_last, line_of_newest}
-use Rattle.pas_trace.specs.Told.{owner_in, heap_told, keeper_told, Tells, TellsSamples, NameTold, IsReady, CanSample, IsCounted, IsOperated, IsGuarding}
-use Rattle.pas_trace.specs.Told.{IsAdded, IsNextPhase}
-use Rattle.pas_trace.specs.Gathering.{HasGathered, Gathers, is_scripting}
-use Rattle.pas_trace.proofs.{Checking.bound-after, Gathering.get_or-written}
-use Rattle.pas_trace.proofs.PassedChecks.{FineCounts, own_passed, guard_passed, actor_within, counts_within}
-use Rattle.pas_trace.proofs.Sampling.{sampled, unsampled, keeper_same, few_larges, few_kept}
+use Rattle.pas_trace.proofs.{Costs.least_cost, Gathering.get_or-written}
+use Rattle.pas_profile.specs.Profiles.{IsValid}
+use Rattle.pas_trace.proofs.PassedChecks.{FineCounts, own_passed, guard_passed, actor_within, counts_within, passes, all_fit}
+
+-- ---- the tables tell what the checks ask
+-- the bound with an operation; its cost goes by the `guard` line before it, and it is none itself
+bound-after : (r : Reader) (items : List Item) (i : Item) → guard_after i (guard_in items) ≡ guard_in items → Tells r items
+    → r.counts.bound + cost_of r.header.profile r.samples.guard i ≡ record_bound r.header.profile (i ∷ items)
+bound-after r items i none t = search arith
+
+few-same : (r : Reader) (items : List Item) (i : Item) → guard_after i (guard_in items) ≡ guard_in items → Tells r items
+    → few_told r (cost_of r.header.profile r.samples.guard i) ≡ few_enough (operations_in items) (record_bound r.header.profile (i ∷ items))
+few-same r items i none t = search (arith, bound-after)
+
+-- two tests that say the same of each value
+holds-same : {A : Type 0} (o : Option A) (test other : A → Bool) → ((x : A) → test x ≡ other x) → holds_of test o ≡ holds_of other o
+holds-same None test other same = refl
+holds-same (Some x) test other same = same x
+
+-- each table that it reads has what the items tell of the name
+free-same : (r : Reader) (items : List Item) (t n : ℕ) → Tells r items → may_free_told r t n ≡ may_free items t n
+free-same r items t n h = search arith
+
+own-same : (r : Reader) (items : List Item) (t : ℕ) (w : Wish) → Tells r items → told_checks r (Operates t w) ≡ checks_of r.header.profile items (Operates t w)
+own-same r items t w h =
+    let f = r.header.profile in
+    let list : Bool → Bool → Bool → List (Bool × Reason) → List (Bool × Reason) = λ fresh known free few.
+    (is_thread f t, Reason.BadThread) ∷ (holds_of (λ h. nat_lt h f.heaps) (heap_in w), Reason.BadHeap) ∷ (holds_of (λ s. nat_le s.size (4096 * f.pages)) (sizing_in w), Reason.BadSize)
+    ∷ (holds_of (λ s. is_alignment s.align) (sizing_in w), Reason.BadAlign) ∷ (fresh, Reason.NameTaken) ∷ (known, Reason.NameUnknown) ∷ (free, Reason.TooEarly) ∷ few in
+    let named : (n : ℕ) → has_owner r n ≡ is_named items n = λ n. sym (h.names n).named in
+    let fresh = holds-same (name_made w) (λ n. not (has_owner r n)) (λ n. not (is_named items n)) (λ n. ap not (named n)) in
+    let known = holds-same (name_freed w) (has_owner r) (is_named items) named in
+    let free = holds-same (name_freed w) (may_free_told r t) (may_free items t) (λ n. free-same r items t n h) in
+    let few = few_told r (cost_of_wish r.samples.guard w) in
+    cc (few-same r items (Operates t w) refl h)
+
+checks-same : (r : Reader) (items : List Item) (i : Item) → Tells r items → told_checks r i ≡ checks_of r.header.profile items i
+checks-same r items i h = search (arith, own-same, few-same)
+
+-- ---- what a line says
+pub says-item : (r : Reader) (items : List Item) (line : List ℕ) (i : Item) → Tells r items → Ok i ≡ item_of_line r.header.version r.started line
+    → first_failed (told_checks r i) ≡ None
+    → (line_says r.header items line ≡ Ok i) × (reason_of r.header.profile items i ≡ None)
+says-item r items line i h e none = search (arith, checks-same)
+
+-- A line whose item fails a check by what the reader keeps says that reason.
+pub says-reason : (r : Reader) (items : List Item) (line : List ℕ) (i : Item) (why : Reason) → Tells r items
+    → Ok i ≡ item_of_line r.header.version r.started line → first_failed (told_checks r i) ≡ Some why
+    → line_says r.header items line ≡ Err why
+says-reason r items line i why h e some = search (arith, checks-same)
+
+-- ---- a request that passes its own checks stands by those of every operation
+passed-then : (cs ds : List (Bool × Reason)) → first_failed cs ≡ None → first_failed (cs ++ ds) ≡ first_failed ds
+passed-then [] ds e = refl
+passed-then ((true, r) ∷ cs) ds e = passed-then cs ds e
+passed-then ((false, r) ∷ cs) ds e = absurd (cc)
+
+-- A request whose other checks passed is checked by its cost alone.
+pub request-checked : (r : Reader) (t : ℕ) (q : Request) (result : Result ℕ Reason)
+    → is_thread r.header.profile t ≡ true → nat_lt q.heap r.header.profile.heaps ≡ true → first_failed (sizing_told r q.size q.align) ≡ None
+    → not (has_owner r q.name) ≡ true
+    → IsChecked (first_failed (few_told r (cost_of_request r.samples.guard q.size))) (cost_of_request r.samples.guard q.size) result
+    → IsChecked (reason_told r t (asking q)) (cost_of_request r.samples.guard q.size) result
+request-checked r t q result thread heap sized fresh few = search (arith, passed-then)
+
+-- ---- the checks of a `guard` line, one after the other
+
+-- ==== Which requests are guarded, by what the reader keeps.
+
+-- ---- a count that is raised in one place
+raised : (here : Bool) (xs : List ℕ) (t k more n : ℕ) → t < length xs → (t == k) ≡ here → get_or xs k 0 ≡ n
+    → get_or (set xs t (get_or xs t 0 + more)) k 0 ≡ (if here then n + more else n)
+raised here xs t k more n lt is told = search (arith, cases_eq, eq-eqb, get_or-written, ne_eqb)
+
+raised_where : (on : Bool) (xs : List ℕ) (t k more n : ℕ) → t < length xs → get_or xs k 0 ≡ n
+    → get_or (if on then set xs t (get_or xs t 0 + more) else xs) k 0 ≡ (if on && (t == k) then n + more else n)
+raised_where true xs t k more n lt told = raised (t == k) xs t k more n lt refl told
+raised_where false xs t k more n lt told = told
+
+width_where : (on : Bool) (xs : List ℕ) (t x : ℕ) → length (if on then set xs t x else xs) ≡ length xs
+width_where true xs t x = length-set xs t x
+width_where false xs t x = refl
+
+-- ---- whether a request is guarded
+module _ (f : Profile) (s : Samples) (items : List Item) (told : TellsSamples f s items) where
+  -- the reader tells it by its counts
+  guarded_same : (t : ℕ) (w : Wish) → t < 17 → (asks_pages w && samples_next s t) ≡ is_guarded items (Operates t w)
+  guarded_same t w lt =
+      ap (λ n. asks_pages w && is_sampled s.guard (n + 1)) (told.larges t lt) ∙ ap (λ g. asks_pages w && is_sampled g (large_requests t items + 1)) told.guard
+
+  -- After a wish was sampled, the samples tell of the items with this one more.
+  sampled : (new : Samples) (t : ℕ) (w : Wish) → t < 17 → IsSampled s new t (asks_pages w) (cost_of_wish 0 w) → TellsSamples f new (Operates t w ∷ items)
+  sampled new t w lt h = search (arith, width_where, raised_where, guarded_same)
+
+-- The keeper of a wish by what the reader keeps is that by the items before.
+keeper_same : (r : Reader) (items : List Item) (t : ℕ) (w : Wish) → Tells r items → t < 17
+    → keeper_told r t w ≡ keeper_for r.header.profile items (Operates t w)
+keeper_same r items t w told lt =
+    ap (λ on. if on then Some (r.header.profile.threads + t) else None) (guarded_same r.header.profile r.samples items told.samples t w lt)
+
+-- what is no operation of a thread is no request
+unsampled : (f : Profile) (s : Samples) (i : Item) (items : List Item) → is_large_request i ≡ false → ((guard : ℕ) → guard_after i guard ≡ guard)
+    → TellsSamples f s items → TellsSamples f s (i ∷ items)
+unsampled f s i items none same told = search arith
+
+-- ---- one request is counted
+pub sampled_small : (s : Samples) (t size : ℕ) → size ≤ 2048
+    → (false ≡ (is_large size && samples_next s t)) × IsSampled s s t (is_large size) (cost_of_size size)
+sampled_small s t size within = search (arith, le-leb)
+
+-- ---- the counts are small
+large_is : (i : Item) → is_large_request i ≡ true → is_operation i ≡ true
+large_is (Operates t w) is = refl
+large_is i is = absurd (cc)
+
+-- whichever way the test goes
+one_more : (large mine operates : Bool) (n m : ℕ) → (large ≡ true → operates ≡ true) → n ≤ m
+    → (if large && mine then n + 1 else n) ≤ (if operates then m + 1 else m)
+one_more a mine b n m is le = search arith
+
+-- A thread has no more requests for whole pages than there are operations.
+few_larges : (t : ℕ) (items : List Item) → large_requests t items ≤ operations_in items
+few_larges t [] = omega arith
+few_larges t (i ∷ items) = one_more _ _ _ _ _ (large_is i) (few_larges t items)
+
+-- A wish that isn't guarded costs no more.
+cheaper : (guard : ℕ) (w : Wish) → cost_of_wish 0 w ≤ cost_of_wish guard w
+cheaper guard w = search (arith, least_cost)
+
+cheaper_item : (f : Profile) (guard : ℕ) (i : Item) → cost_of f 0 i ≤ cost_of f guard i
+cheaper_item f guard (Operates t w) = cheaper guard w
+cheaper_item f guard i = omega arith
+
+some_more : (on : Bool) (n m cost plain : ℕ) → plain ≤ cost → n ≤ m → (if on then n + plain else n) ≤ m + cost
+some_more true n m cost plain least le = omega (arith, least, le)
+some_more false n m cost plain least le = omega (arith, le)
+
+-- what keepers may make is counted among all costs
+few_kept : (f : Profile) (k : ℕ) (items : List Item) → kept_costs f k items ≤ costs_of f items
+few_kept f k [] = omega arith
+few_kept f k (i ∷ items) = some_more _ _ _ _ _ (cheaper_item f _ i) (few_kept f k items)
+
+-- ==== What the reader keeps after each item.
 
 -- ---- costs
 if-le : (b : Bool) (x y z : ℕ) → x ≤ z → y ≤ z → (if b then x else y) ≤ z
@@ -44,12 +187,12 @@ kept-within r items k t lt =
     omega (arith, t.samples.kept k lt, t.bound, few_kept r.header.profile k items)
 
 -- a request of the thread may be counted
-pub can-sample : (r : Reader) (items : List Item) (i : Item) (actor : ℕ) → Tells r items → FineCounts r.header.profile items i → actor ≤ 16
+can-sample : (r : Reader) (items : List Item) (i : Item) (actor : ℕ) → Tells r items → FineCounts r.header.profile items i → actor ≤ 16
     → CanSample r.samples actor
 can-sample r items i actor t fine le = search (arith, kept-within, few_larges)
 
 -- An operation whose counts are fine may be counted for its actor.
-pub ready : (r : Reader) (items : List Item) (i : Item) (actor cost : ℕ) → ((guard : ℕ) → guard_after i guard ≡ guard) → Tells r items
+ready : (r : Reader) (items : List Item) (i : Item) (actor cost : ℕ) → ((guard : ℕ) → guard_after i guard ≡ guard) → Tells r items
     → FineCounts r.header.profile items i → actor ≤ 16 → cost ≡ cost_of r.header.profile r.samples.guard i → IsReady r.counts actor cost
 ready r items i actor cost same t fine le e = search (arith, bound-after, cost-within)
 
@@ -60,9 +203,7 @@ kept-name i items o p n phase none h = search arith
 
 -- the heap of a name that is made, by heaps that are the same
 heap-by-same : (heaps others : ℕ → ℕ) (heap freed : Option ℕ) → ((n : ℕ) → heaps n ≡ others n) → heap_by heaps heap freed ≡ heap_by others heap freed
-heap-by-same heaps others (Some h) freed same = refl
-heap-by-same heaps others None None same = refl
-heap-by-same heaps others None (Some old) same = same old
+heap-by-same heaps others a freed same = search arith
 
 what-same : (f : Profile) (heaps others : ℕ → ℕ) (keeper : Option ℕ) (w : Wish) → ((n : ℕ) → heaps n ≡ others n)
     → what_wished f heaps keeper w ≡ what_wished f others keeper w
@@ -76,8 +217,7 @@ taken-here t heap p w items n home least e = search (arith, ne_eqb, eq-eqb)
 taken-by : (here : Bool) (t heap p : ℕ) (w : Wish) (items : List Item) (o o' : Owner) (n : ℕ) → heap_made (heap_of items) w ≡ heap
     → is_name (name_made w) n ≡ here → 1 ≤ t → o' ≡ (if here then record { thread = t; heap = heap; phase = p } else o) → NameTold o p items n
     → NameTold o' p (Operates t w ∷ items) n
-taken-by true t heap p w items o o' n home is least e told = subst (λ (x : Owner). NameTold x p (Operates t w ∷ items) n) (sym e) (taken-here t heap p w items n home least is)
-taken-by false t heap p w items o o' n home is least e told = subst (λ (x : Owner). NameTold x p (Operates t w ∷ items) n) (sym e) (kept-name (Operates t w) items o p n refl is told)
+taken-by a t heap p w items o o' n home is least e told = search (arith, taken-here, kept-name)
 
 -- ---- an item that is an operation, of a thread or of the scavenger
 pub record IsOperation (f : Profile) (heaps : ℕ → ℕ) (keeper : Option ℕ) (guard : ℕ) (i : Item) (actor : ℕ) (what : What) (cost : ℕ) : Type 0 where
@@ -107,6 +247,7 @@ gathered-more old new items i actor what cost t op header h =
     ∙ ap (λ n. add_last (Some (operation n actor what)) (phases_in f items)) (sym line) in
     subst (λ (ps : List (List Op)). HasGathered ps new.gathered) (sym is) (h.phases (phases_in f items) t.phases)
 
+-- The reader tells of one operation more.
 operated : (old new : Reader) (names : Names) (samples : Samples) (items : List Item) (i : Item) (actor : ℕ) (what : What) (cost : ℕ) → Tells old items
     → IsOperation old.header.profile (heap_of items) (keeper_for old.header.profile items i) old.samples.guard i actor what cost
     → IsReady old.counts actor cost → ((n : ℕ) → NameTold (owner_in names n) old.phase (i ∷ items) n) → TellsSamples old.header.profile samples (i ∷ items)
@@ -117,24 +258,26 @@ operated old new names samples items i actor what cost t op can told sampling h 
 
 -- what the names hold after an item
 abbrev pub NamesAfter : Reader → Names → Item → Type 0
-NamesAfter old names i = (items : List Item) → Tells old items → reason_of old.header.profile items i ≡ None → (n : ℕ) → NameTold (owner_in names n) old.phase (i ∷ items) n
+NamesAfter old names i =
+    (items : List Item) → Tells old items → reason_of old.header.profile items i ≡ None → (n : ℕ) → NameTold (owner_in names n) old.phase (i ∷ items) n
 
 names-taken : (old : Reader) (names : Names) (t : ℕ) (w : Wish) → ((n : ℕ) → owner_in names n ≡ (if is_name (name_made w) n then record { thread = t; heap = heap_made (heap_told old) w; phase = old.phase } else owner_in old.names n)) → NamesAfter old names (Operates t w)
-names-taken old names t w given items told e n =
-    taken-by (is_name (name_made w) n) t (heap_made (heap_told old) w) old.phase w items (owner_in old.names n) (owner_in names n) n
-    (heap-by-same (heap_of items) (heap_told old) (heap_in w) (name_freed w) (λ m. (told.names m).heap)) refl (own_passed old.header.profile items t w e).thread.0 (given n) (told.names n)
+names-taken old names t w given items told e n = taken-by _ t _ old.phase w items _ _ n
+    (heap-by-same _ _ (heap_in w) (name_freed w) (λ m. (told.names m).heap)) refl (own_passed old.header.profile items t w e).thread.0 (given n) (told.names n)
 
 names-kept : (old : Reader) (c : Chore) → NamesAfter old old.names (Scavenges c)
 names-kept old c items told e n = kept-name (Scavenges c) items (owner_in old.names n) old.phase n refl refl (told.names n)
 
 -- .. and which requests are guarded
 abbrev pub SamplesAfter : Reader → Samples → Item → Type 0
-SamplesAfter old samples i = (items : List Item) → Tells old items → reason_of old.header.profile items i ≡ None → TellsSamples old.header.profile samples (i ∷ items)
+SamplesAfter old samples i =
+    (items : List Item) → Tells old items → reason_of old.header.profile items i ≡ None → TellsSamples old.header.profile samples (i ∷ items)
 
 small_thread : (old : Reader) (items : List Item) (t : ℕ) (w : Wish) → Tells old items → reason_of old.header.profile items (Operates t w) ≡ None → t < 17
 small_thread old items t w told e =
     omega (arith, actor_within old.header.profile items (Operates t w) e, told.header.threads)
 
+-- The reader tells of one item more.
 added : (old new : Reader) (names : Names) (samples : Samples) (i : Item) (actor : ℕ) (what : What) (cost : ℕ)
     → ((items : List Item) → Tells old items → reason_of old.header.profile items i ≡ None
     → IsOperation old.header.profile (heap_of items) (keeper_for old.header.profile items i) old.samples.guard i actor what cost)
@@ -178,9 +321,10 @@ pub added_chore : (old new : Reader) (c : Chore)
 added_chore old new c h =
     let f = old.header.profile in
     let cost = records_of_chore f c in
-    let op : (items : List Item) → Tells old items → reason_of f items (Scavenges c) ≡ None → IsOperation f (heap_of items) (keeper_for f items (Scavenges c)) old.samples.guard (Scavenges c) 0 (what_of_chore c) cost = λ items told e.
+    let op : (items : List Item) → Tells old items → reason_of f items (Scavenges c) ≡ None → IsOperation f (heap_of items)
+    (keeper_for f items (Scavenges c)) old.samples.guard (Scavenges c) 0 (what_of_chore c) cost = λ items told e.
     record { operates = refl; same_phase = refl; same_guard = λ g. refl; marks = λ m. refl; thread = refl; costs = refl; phases = λ line ps. refl } in
-    added old new old.names old.samples (Scavenges c) 0 (what_of_chore c) cost op (names-kept old c) (λ items told e. unsampled f old.samples (Scavenges c) items refl (λ g. refl) told.samples) h
+    added old new old.names old.samples (Scavenges c) 0 (what_of_chore c) cost op (names-kept old c) (λ items told e. unsampled f old.samples _ items refl (λ g. refl) told.samples) h
 
 -- ---- a phase begins
 phased : (old new : Reader) (items : List Item) → Tells old items → IsNextPhase (record old { line = old.line + 1 }) new
@@ -193,20 +337,17 @@ added_phase old new h = record {
   header = h.header;
   scripting = h.gathers.scripting;
   line = h.line;
-  tells = λ items t e. phased old new items t h (subst (λ (g : Header). HasGathered (phases_in g.profile (NextPhase ∷ items)) new.gathered) (sym h.header) (h.gathers.phases (phases_in old.header.profile items) t.phases));
+  tells = λ items t e. phased old new items t h (subst (λ (g : Header). HasGathered (phases_in g.profile (NextPhase ∷ items)) new.gathered) (sym h.header)
+      (h.gathers.phases (phases_in old.header.profile items) t.phases));
 }
 
 -- ---- a `guard` line stands before all operations
 or_none : (s t u : Bool) → s || t || u ≡ false → (s ≡ false) × (u ≡ false)
-or_none false false false is = (refl, refl)
-or_none false false true is = absurd (cc)
-or_none false true u is = absurd (cc)
-or_none true t u is = absurd (cc)
+or_none a t u is = search arith
 
+-- whichever case it is
 no_cost : (f : Profile) (guard : ℕ) (i : Item) → is_operation i ≡ false → cost_of f guard i ≡ 0
-no_cost f guard (Operates t w) none = absurd (cc)
-no_cost f guard (Scavenges c) none = absurd (cc)
-no_cost f guard i none = refl
+no_cost f guard i a = search arith
 
 none-costs : (f : Profile) (items : List Item) → started items ≡ false → costs_of f items ≡ 0
 none-costs f [] none = refl
@@ -218,6 +359,7 @@ free-cost : (here : Bool) (n : ℕ) → n ≡ (if here then n + 0 else n)
 free-cost true n = omega arith
 free-cost false n = refl
 
+-- A line that sets the guard's number was added.
 numbered : (old new : Reader) (n : ℕ) → IsGuarding (record old { line = old.line + 1 }) new (Some n) → IsAdded old new (Guards (Some n))
 numbered old new n h = record {
   header = h.header;
@@ -245,12 +387,12 @@ numbered old new n h = record {
         started = h.started ∙ t.started;
         line = line ∙ ap (λ n. n + 1) t.line;
         phase = omega (arith, phase, line, t.phase);
-        names = λ m. rw (h.names, phase) (kept-name (Guards (Some n)) items (owner_in old.names m) old.phase m refl refl (t.names m));
+        names = λ m. rw (h.names, phase) (kept-name _ items _ old.phase m refl refl (t.names m));
         operations = h.operations ∙ t.operations;
         bound = same_bound ∙ ap (λ (g : Header). record_bound g.profile (Guards (Some n) ∷ items)) (sym h.header);
         small = omega (arith, now, bound, before, costs, mul-le f.threads f.pages 8 16384 few pages);
         width = ap length h.costs ∙ t.width;
-        costs = λ k lt. ap (λ xs. get_or xs k 0) h.costs ∙ t.costs k lt ∙ free-cost (0 == k) (own_costs f k items) ∙ ap (λ (g : Header). own_costs g.profile k (Guards (Some n) ∷ items)) (sym h.header);
+        costs = λ k lt. ap (λ xs. get_or xs k 0) h.costs ∙ t.costs k lt ∙ free-cost _ _ ∙ ap (λ (g : Header). own_costs g.profile k (Guards (Some n) ∷ items)) (sym h.header);
         samples = search arith;
         phases = subst (λ (g : Gathered). HasGathered (phases_in new.header.profile (Guards (Some n) ∷ items)) g) (sym h.gathered)
             (subst (λ (g : Header). HasGathered (phases_in g.profile items) old.gathered) (sym h.header) t.phases);
@@ -266,7 +408,8 @@ added_guard old new (Some n) number h = numbered old new n h
 -- ---- bounds
 pub bounds-more : (f : Profile) (items : List Item) (k bound : ℕ) (bounds more : List ℕ) → bounds ≡ bounds_upto f items k → bound ≡ bound_of f items k
     → more ≡ bounds ++ bound ∷ [] → more ≡ bounds_upto f items (k + 1)
-bounds-more f items k bound bounds more e b m = m ∙ ap (λ xs. xs ++ bound ∷ []) e ∙ ap (λ n. bounds_upto f items k ++ n ∷ []) b ∙ sym (ap (λ n. bounds_upto f items n) (add-one k))
+bounds-more f items k bound bounds more e b m =
+    m ∙ ap (λ xs. xs ++ bound ∷ []) e ∙ ap (λ n. bounds_upto f items k ++ n ∷ []) b ∙ sym (ap (λ n. bounds_upto f items n) (add-one k))
 
 -- The bound of a thread is its cost and the region's pages.
 pub bound-thread : (f : Profile) (items : List Item) (k : ℕ) → 1 ≤ k → k ≤ f.threads → f.pages + own_costs f k items ≡ bound_of f items k
@@ -283,3 +426,81 @@ all-plain f items none = ap (λ guard. bounds_upto f items (actors_by guard f.th
 -- In a guarded trace the bounds are those of the threads and of as many keepers.
 pub all-guarded : (f : Profile) (items : List Item) → guard_in items ≢ 0 → bounds_upto f items (f.threads + (f.threads + 1)) ≡ all_bounds f items
 all-guarded f items some = search (arith, ne_eqb)
+
+-- ==== What an item that passed its checks may do to the reader.
+
+module _ (r : Reader) (items : List Item) (i : Item) (tells : Tells r items) (passed : reason_of r.header.profile items i ≡ None) where
+  -- The actor of an item that passed its checks is at most 16.
+  pub small_actor : (actor : ℕ) → actor_of i ≡ actor → actor ≤ 16
+  small_actor actor is =
+      omega (arith, actor_within r.header.profile items i passed, tells.header.threads, is)
+
+  -- An operation that passed its checks may be counted for its actor, with its cost.
+  pub ready_for : (actor cost : ℕ) → cost ≡ cost_of r.header.profile r.samples.guard i → is_operation i ≡ true → actor_of i ≡ actor
+      → ((guard : ℕ) → guard_after i guard ≡ guard) → IsReady r.counts actor cost
+  ready_for actor cost is_cost operates is same =
+      ready r items i actor cost same tells (counts_within r.header.profile items i operates passed) (small_actor actor is) is_cost
+
+  -- The actor of an operation that passed its checks can be sampled.
+  pub sample_for : (actor : ℕ) → is_operation i ≡ true → actor_of i ≡ actor → CanSample r.samples actor
+  sample_for actor operates is = can-sample r items i actor tells (counts_within r.header.profile items i operates passed) (small_actor actor is)
+
+  -- The number of a guard item that passed its checks is one of a guard.
+  pub guard_for : (n : Option ℕ) → i ≡ Guards n → is_guard_number n ≡ true
+  guard_for n is = (guard_passed r.header.profile items n (subst (λ (j : Item). reason_of r.header.profile items j ≡ None) is passed)).number
+
+  -- What a thread wishes by an item that passed its checks fits the profile.
+  pub fit_for : (t : ℕ) (w : Wish) → i ≡ Operates t w → IsFit r.header.profile w
+  fit_for t w is = all_fit r.header.profile items t w tells.header (own_passed r.header.profile items t w (rw is at passed))
+
+  -- The heap that an item shares is below 32, where it passed its checks.
+  pub small_heap : (h : ℕ) → i ≡ Shares h → h < 32
+  small_heap h is = search (arith, ltb-true, passes)
+
+-- ---- an operation was counted, by a reader that had given its name
+eqb_sym : (m n : ℕ) → (m == n) ≡ (n == m)
+eqb_sym m n = search (arith, cases_eq, eq-eqb, ne_eqb)
+
+-- A wish that makes a name is operated once it is sampled, its name has an owner, and its operation is counted.
+pub named : (old mid new : Reader) (names : Names) (samples : Samples) (t name heap : ℕ) (w : Wish) (what : What) (cost : ℕ) → Some name ≡ name_made w
+    → heap ≡ heap_made (heap_told old) w
+    → what ≡ what_wished old.header.profile (heap_told old) (keeper_told old t w) w → mid ≡ record old { names = names; samples = samples }
+    → IsSampled old.samples samples t (asks_pages w) (cost_of_wish 0 w)
+    → ((n : ℕ) → owner_in names n ≡ (if n == name then record { thread = t; heap = heap; phase = old.phase } else owner_in old.names n))
+    → IsCounted mid new t what cost → IsOperated old new t w cost
+named old mid new names samples t name heap w what cost made home is same sampled given counted = record {
+  names = names;
+  samples = samples;
+  sampled = sampled;
+  given = search (arith, eqb_sym);
+  counted = rw (same, is) at counted;
+}
+
+-- a wish that is no request leaves what is known of requests
+idle_sample : (s : Samples) (t : ℕ) (w : Wish) → asks_pages w ≡ false → IsSampled s s t (asks_pages w) (cost_of_wish 0 w)
+idle_sample s t w none = search arith
+
+no_keeper : (old : Reader) (t : ℕ) (w : Wish) → asks_pages w ≡ false → keeper_told old t w ≡ None
+no_keeper old t w none = ap (λ large. if large && samples_next old.samples t then Some (old.header.profile.threads + t) else None) none
+
+-- A wish that makes a name and asks for no pages is operated without being sampled.
+pub renamed : (old mid new : Reader) (names : Names) (t name heap : ℕ) (w : Wish) (what : What) (cost : ℕ) → Some name ≡ name_made w
+    → heap ≡ heap_made (heap_told old) w → asks_pages w ≡ false
+    → what ≡ what_wished old.header.profile (heap_told old) None w → mid ≡ record old { names = names }
+    → ((n : ℕ) → owner_in names n ≡ (if n == name then record { thread = t; heap = heap; phase = old.phase } else owner_in old.names n))
+    → IsCounted mid new t what cost → IsOperated old new t w cost
+renamed old mid new names t name heap w what cost made home none is same given counted =
+    named old mid new names old.samples t name heap w what cost made home (is ∙ ap (λ keeper. what_wished old.header.profile (heap_told old) keeper w)
+    (sym (no_keeper old t w none))) same (idle_sample old.samples t w none) given counted
+
+-- A wish that makes no name and asks for no pages is operated once its operation is counted.
+pub unnamed : (old mid new : Reader) (t : ℕ) (w : Wish) (what : What) (cost : ℕ) → None ≡ name_made w → asks_pages w ≡ false
+    → what ≡ what_wished old.header.profile (heap_told old) None w → mid ≡ old → IsCounted mid new t what cost
+    → IsOperated old new t w cost
+unnamed old mid new t w what cost none small is same counted = record {
+  names = old.names;
+  samples = old.samples;
+  sampled = idle_sample old.samples t w small;
+  given = λ n. ap (λ o. if is_name o n then record { thread = t; heap = heap_made (heap_told old) w; phase = old.phase } else owner_in old.names n) none;
+  counted = search (arith, no_keeper);
+}

@@ -48,25 +48,19 @@ module _ (to : ℕ → Act) (chosen : ℕ → Bool) (i n : ℕ) (more : List Act
 
   -- whichever it is
   pub next_there : i < n → acts_there ≡ map to (filter chosen ((i + 1) ∷ [])) ++ acts_past
-  next_there lt = ap (λ (ks : List ℕ). map to (filter chosen ks) ++ more) (number_next (i + 1) (n - i) (n - (i + 1)) (omega (arith, lt))) ∙ apart (chosen (i + 1)) refl
+  next_there lt = ap (λ (ks : List ℕ). map to (filter chosen ks) ++ more) (number_next _ _ _ (omega (arith, lt))) ∙ apart (chosen (i + 1)) refl
     where
       rest : List ℕ
       rest = filter chosen (numbers_from (i + 1 + 1) (n - (i + 1)))
 
+      -- Whether the first number is chosen or not, it may be told apart from the others.
       apart : (on : Bool) → chosen (i + 1) ≡ on
           → map to (filter chosen ((i + 1) ∷ numbers_from (i + 1 + 1) (n - (i + 1)))) ++ more ≡ map to (filter chosen ((i + 1) ∷ [])) ++ acts_past
-      apart true on = (λ t. map to (if on t then (i + 1) ∷ rest else rest) ++ more) ∙ (λ t. map to (if sym on t then (i + 1) ∷ [] else []) ++ (map to rest ++ more))
-      apart false off = (λ t. map to (if off t then (i + 1) ∷ rest else rest) ++ more) ∙ (λ t. map to (if sym off t then (i + 1) ∷ [] else []) ++ (map to rest ++ more))
-
--- .. of all threads
-module _ (to : ℕ → Act) (i n : ℕ) (more : List Act) where
-  -- The acts of actors from one on are its own and those of the actors past it.
-  pub next_number : i < n → map to (numbers_from (i + 1) (n - i)) ++ more ≡ to (i + 1) ∷ (map to (numbers_from (i + 1 + 1) (n - (i + 1))) ++ more)
-  next_number lt = ap (λ (ks : List ℕ). map to ks ++ more) (number_next (i + 1) (n - i) (n - (i + 1)) (omega (arith, lt)))
-
-  -- Past the last actor no act of theirs is left.
-  pub no_number : n ≤ i → map to (numbers_from (i + 1) (n - i)) ++ more ≡ more
-  no_number le = ap (λ (ks : List ℕ). map to ks ++ more) (number_last (i + 1) (n - i) (omega (arith, le)))
+      apart true on =
+          (λ t. map to (if on t then (i + 1) ∷ rest else rest) ++ more) ∙ (λ t. map to (if sym on t then (i + 1) ∷ [] else []) ++ (map to rest ++ more))
+      apart false off =
+          (λ t. map to (if off t then (i + 1) ∷ rest else rest) ++ more) ∙ (λ t. map to (if sym off t then (i + 1) ∷ [] else []) ++ (map to rest ++ more))
+      -- The acts of actors from one on are its own and those of the actors past it.
 
 -- the same ones, where it is said otherwise
 chosen_alike : (p q : ℕ → Bool) → ((k : ℕ) → p k ≡ q k) → (ks : List ℕ) → filter p ks ≡ filter q ks

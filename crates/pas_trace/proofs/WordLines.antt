@@ -1,9 +1,141 @@
--- Lines and words that are known whole, without the byte that parts them.
-use Rattle.std.proofs.Common.{◌≡◌, ◌≢◌, ℕ, ◌<◌, ◌≤◌, nat_le, true, List, [], ◌∷◌, ◌++◌, refl, ap, ◌∙◌, arith, leb-true}
-use Rattle.std.proofs.lemmas.Bool.{and_parts}
-use Rattle.pas_trace.specs.Texts.{put_first, pieces, without_empty_end, lines_of, words_of}
+-- Pieces, lines and words against places in the bytes.
+use Rattle.std.proofs.Common.{◌≡◌, ◌≢◌, ℕ, zero, suc, ◌+◌, ◌<◌, ◌≤◌, ◌==◌, Bool, true, false, if◌then◌else◌, List, [], ◌∷◌, take, drop, length, get_or, ◌-◌}
+use Rattle.std.proofs.Common.{refl, sym, ap, subst, ◌∙◌, arith, add-one, add-zero, length-drop, get_or-drop, eq-eqb, ne_eqb, nat_le, ◌++◌, leb-true}
+use Rattle.std.proofs.Common.{take-append-drop, append-nil}
+use Rattle.std.proofs.{Math.Seq.drop-length, lemmas.List.take_rest, lemmas.List.take_more, lemmas.List.drop_more, lemmas.Bool.and_parts}
+use Rattle.pas_trace.specs.Texts.{put_first, pieces, without_empty_end, lines_of, without_empty, words_of}
 use Rattle.pas_trace.specs.Numbers.{is_digit, all_digits}
-use Rattle.pas_trace.proofs.Splits.{pieces-at, pieces-off, end-after}
+
+-- no byte among the first n is the separator
+abbrev pub NoneBefore : ℕ → List ℕ → ℕ → Type 0
+NoneBefore s bytes n = (k : ℕ) → k < n → get_or bytes k 0 ≢ s
+
+-- A text that begins with the parting byte begins with an empty piece.
+pieces-at : (s b : ℕ) (bs : List ℕ) → b ≡ s → pieces s (b ∷ bs) ≡ [] ∷ pieces s bs
+pieces-at s b bs e = let t : (b == s) ≡ true = eq-eqb b s e in rw t refl
+
+-- A first byte that doesn't part belongs to the first piece.
+pieces-off : (s b : ℕ) (bs : List ℕ) → b ≢ s → pieces s (b ∷ bs) ≡ put_first b (pieces s bs)
+pieces-off s b bs e = let t : (b == s) ≡ false = ne_eqb b s e in rw t refl
+
+-- the first piece ends at the first separator
+pieces-found : (s : ℕ) (bs : List ℕ) (n : ℕ) → NoneBefore s bs n → n < length bs → get_or bs n 0 ≡ s → pieces s bs ≡ take n bs ∷ pieces s (drop (suc n) bs)
+pieces-found s [] n none lt found = absurd (omega arith)
+pieces-found s (b ∷ bs) zero none lt found = pieces-at s b bs found
+pieces-found s (b ∷ bs) (suc n) none lt found =
+    pieces-off s b bs (none zero (omega arith))
+    ∙ ap (put_first b) (pieces-found s bs n (λ k h. none (suc k) (omega (arith, h))) (omega (arith, lt)) found)
+
+-- .. and where there is none it is all
+pieces-whole : (s : ℕ) (bs : List ℕ) → NoneBefore s bs (length bs) → pieces s bs ≡ bs ∷ []
+pieces-whole s [] none = refl
+pieces-whole s (b ∷ bs) none =
+    pieces-off s b bs (none zero (omega arith))
+    ∙ ap (put_first b) (pieces-whole s bs (λ k h. none (suc k) (omega (arith, h))))
+
+-- there is always a piece
+put_first-some : (b : ℕ) (ps : List (List ℕ)) → (q : List ℕ) × (qs : List (List ℕ)) × (put_first b ps ≡ q ∷ qs)
+put_first-some b [] = (b ∷ [], [], refl)
+put_first-some b (p ∷ ps) = (b ∷ p, ps, refl)
+
+if-some : (t : Bool) (x y : List (List ℕ)) → ((q : List ℕ) × (qs : List (List ℕ)) × (x ≡ q ∷ qs)) → ((q : List ℕ) × (qs : List (List ℕ)) × (y ≡ q ∷ qs))
+    → (q : List ℕ) × (qs : List (List ℕ)) × ((if t then x else y) ≡ q ∷ qs)
+if-some true x y hx hy = hx
+if-some false x y hx hy = hy
+
+-- There is at least one piece of each text.
+pieces-some : (s : ℕ) (bs : List ℕ) → (q : List ℕ) × (qs : List (List ℕ)) × (pieces s bs ≡ q ∷ qs)
+pieces-some s [] = ([], [], refl)
+pieces-some s (b ∷ bs) = if-some (b == s) ([] ∷ pieces s bs) (put_first b (pieces s bs)) ([], pieces s bs, refl) (put_first-some b (pieces s bs))
+
+-- ---- lines
+end-cons : (p q : List ℕ) (qs : List (List ℕ)) → without_empty_end (p ∷ q ∷ qs) ≡ p ∷ without_empty_end (q ∷ qs)
+end-cons [] q qs = refl
+end-cons (b ∷ bs) q qs = refl
+
+-- An empty end that falls away leaves the pieces before it as they are.
+end-after : (p : List ℕ) (s : ℕ) (bs : List ℕ) → without_empty_end (p ∷ pieces s bs) ≡ p ∷ without_empty_end (pieces s bs)
+end-after p s bs =
+    let some = pieces-some s bs in
+    ap (λ ps. without_empty_end (p ∷ ps)) some.2 ∙ end-cons p some.0 some.1 ∙ sym (ap (λ ps. p ∷ without_empty_end ps) some.2)
+
+lines-found : (bs : List ℕ) (n : ℕ) → NoneBefore 10 bs n → n < length bs → get_or bs n 0 ≡ 10 → lines_of bs ≡ take n bs ∷ lines_of (drop (n + 1) bs)
+lines-found bs n none lt found = search (arith, pieces-found, end-after, add-one)
+
+lines-last : (bs : List ℕ) → 0 < length bs → NoneBefore 10 bs (length bs) → lines_of bs ≡ bs ∷ []
+lines-last [] some none = absurd (omega arith)
+lines-last (b ∷ bs) some none = ap without_empty_end (pieces-whole 10 (b ∷ bs) none)
+
+-- .. as the code cuts them
+abbrev pub IsCut : List ℕ → List ℕ → List ℕ → Type 0
+IsCut text line rest = (lines_of text ≡ line ∷ lines_of rest) × (length rest < length text)
+
+-- A text without a line feed is cut into itself and nothing.
+pub cut-last : (bs : List ℕ) (n : ℕ) → 0 < length bs → NoneBefore 10 bs n → n ≡ length bs → IsCut bs bs (take (length bs - n) (drop n bs))
+cut-last bs n some none e = search (arith, take_rest, drop-length, lines-last)
+
+-- A text with a first line feed is cut there into its first line and the rest.
+pub cut-found : (bs : List ℕ) (n : ℕ) → NoneBefore 10 bs n → n ≤ length bs → (n < length bs → get_or bs n 0 ≡ 10) → n ≢ length bs
+    → IsCut bs (take n bs) (take (length bs - (n + 1)) (drop (n + 1) bs))
+cut-found bs n none le ended ne = search (arith, take_rest, lines-found, length-drop)
+
+-- ---- words
+words-skip : (bs : List ℕ) (n : ℕ) → ((k : ℕ) → k < n → get_or bs k 0 ≡ 32) → n ≤ length bs → words_of bs ≡ words_of (drop n bs)
+words-skip bs zero spaces le = refl
+words-skip [] (suc n) spaces le = absurd (omega arith)
+words-skip (b ∷ bs) (suc n) spaces le =
+    ap without_empty (pieces-at 32 b bs (spaces zero (omega arith)))
+    ∙ words-skip bs n (λ k h. spaces (suc k) (omega (arith, h))) (omega (arith, le))
+
+-- A word of some bytes stays where empty ones fall away.
+pub keeps : (bs : List ℕ) (ps : List (List ℕ)) → 0 < length bs → without_empty (bs ∷ ps) ≡ bs ∷ without_empty ps
+keeps [] ps some = absurd (omega arith)
+keeps (b ∷ bs) ps some = refl
+
+-- for zero and any other number
+take-some : (bs : List ℕ) (n : ℕ) → 0 < n → n < length bs → 0 < length (take n bs)
+take-some bs a c lt = search arith
+
+words-found : (bs : List ℕ) (n : ℕ) → NoneBefore 32 bs n → 0 < n → n < length bs → get_or bs n 0 ≡ 32 → words_of bs ≡ take n bs ∷ words_of (drop (n + 1) bs)
+words-found bs n none some lt found = search (arith, pieces-found, take-some, add-one)
+
+words-last : (bs : List ℕ) → 0 < length bs → NoneBefore 32 bs (length bs) → words_of bs ≡ bs ∷ []
+words-last bs some none = ap without_empty (pieces-whole 32 bs none) ∙ keeps bs [] some
+
+-- .. as the code cuts them
+pub words-none : (bs : List ℕ) (n : ℕ) → ((k : ℕ) → k < n → get_or bs k 0 ≡ 32) → n ≡ length bs → words_of bs ≡ []
+words-none bs n spaces e = words-skip bs n spaces (omega (arith, e)) ∙ ap (λ m. words_of (drop m bs)) e ∙ ap words_of (drop-length bs)
+
+-- the bytes from the first word on
+pub record FromWord (bs word : List ℕ) : Type 0 where
+  pub words : words_of bs ≡ words_of word
+  pub some : 0 < length word
+  pub head : get_or word 0 0 ≢ 32
+
+-- The first word of a text begins where its spaces end.
+pub from_word : (bs : List ℕ) (n : ℕ) → ((k : ℕ) → k < n → get_or bs k 0 ≡ 32) → n ≤ length bs → (n < length bs → get_or bs n 0 ≢ 32) → n ≢ length bs
+    → FromWord bs (take (length bs - n) (drop n bs))
+from_word bs n spaces le ended ne =
+    let lt : n < length bs = omega (arith, ne) in
+    let r = take_rest bs n in
+    let head : get_or (drop n bs) 0 0 ≢ 32 = λ e. ended lt (ap (λ m. get_or bs m 0) (sym (add-zero n)) ∙ sym (get_or-drop n bs 0 0) ∙ e) in
+    let some : 0 < length (drop n bs) = omega (arith, length-drop n bs, lt) in
+    subst (λ w. FromWord bs w) (sym r) (record { words = words-skip bs n spaces le; some = some; head = head })
+
+-- Where no space follows a word, it ends with the text.
+pub word-last : (bs w : List ℕ) (n : ℕ) → FromWord bs w → NoneBefore 32 w n → n ≡ length w → words_of bs ≡ w ∷ words_of (take (length w - n) (drop n w))
+word-last bs w n from none e = search (arith, take_rest, drop-length, words-last)
+
+some-before : (w : List ℕ) (n : ℕ) → get_or w 0 0 ≢ 32 → get_or w n 0 ≡ 32 → 0 < n
+some-before w zero head e = absurd (head e)
+some-before w (suc n) head e = omega arith
+
+-- A word ends before the first space after it, and the other words follow.
+pub word-found : (bs w : List ℕ) (n : ℕ) → FromWord bs w → NoneBefore 32 w n → n ≤ length w → (n < length w → get_or w n 0 ≡ 32) → n ≢ length w
+    → words_of bs ≡ take n w ∷ words_of (take (length w - (n + 1)) (drop (n + 1) w))
+word-found bs w n from none le ended ne = search (arith, take_rest, some-before, words-found)
+
+-- ==== Lines and words that are known whole, without the byte that parts them.
 
 -- no byte is the separator
 abbrev pub Lacks : ℕ → List ℕ → Type 0
@@ -43,3 +175,61 @@ pub record IsLine (text : List ℕ) (words : List (List ℕ)) (rest : List ℕ) 
 -- A line without a line feed is the first line of a text in which one follows it.
 pub lines-until : (line rest : List ℕ) → Lacks 10 line → lines_of (line ++ 10 ∷ rest) ≡ line ∷ lines_of rest
 lines-until line rest whole = ap without_empty_end (pieces-until 10 line rest whole) ∙ end-after line 10 rest
+
+-- ==== A text that is cut behind the end of a line: its lines are those of the front and those of the rest.
+
+split-append : (t : Bool) (b : ℕ) (ps qs : List (List ℕ)) → ((q : List ℕ) × (rs : List (List ℕ)) × (ps ≡ q ∷ rs))
+    → (if t then [] ∷ (ps ++ qs) else put_first b (ps ++ qs)) ≡ (if t then [] ∷ ps else put_first b ps) ++ qs
+split-append true b ps qs some = refl
+split-append false b ps qs some = ap (λ xs. put_first b (xs ++ qs)) some.2 ∙ sym (ap (λ xs. put_first b xs ++ qs) some.2)
+
+pieces-append : (s : ℕ) (xs ys : List ℕ) → pieces s (xs ++ s ∷ ys) ≡ pieces s xs ++ pieces s ys
+pieces-append s [] ys = pieces-at s s ys refl
+pieces-append s (b ∷ bs) ys = ap (λ ps. if b == s then [] ∷ ps else put_first b ps) (pieces-append s bs ys) ∙ split-append _ b _ _ (pieces-some s bs)
+
+end-append : (ps : List (List ℕ)) (s : ℕ) (bs : List ℕ) → without_empty_end (ps ++ pieces s bs) ≡ ps ++ without_empty_end (pieces s bs)
+end-append [] s bs = refl
+end-append (p ∷ []) s bs =
+    let some = pieces-some s bs in
+    ap (λ ps. without_empty_end (p ∷ ps)) some.2 ∙ end-cons p some.0 some.1 ∙ sym (ap (λ ps. p ∷ without_empty_end ps) some.2)
+end-append (p ∷ q ∷ ps) s bs = end-cons p q (ps ++ pieces s bs) ∙ ap (λ qs. p ∷ qs) (end-append (q ∷ ps) s bs)
+
+lines-ended : (xs ys : List ℕ) → lines_of (xs ++ 10 ∷ ys) ≡ pieces 10 xs ++ lines_of ys
+lines-ended xs ys = ap without_empty_end (pieces-append 10 xs ys) ∙ end-append (pieces 10 xs) 10 ys
+
+lines-append : (xs ys : List ℕ) → lines_of (xs ++ 10 ∷ ys) ≡ lines_of (xs ++ 10 ∷ []) ++ lines_of ys
+lines-append xs ys = lines-ended xs ys ∙ ap (λ ls. ls ++ lines_of ys) (sym (lines-ended xs [] ∙ append-nil (pieces 10 xs)))
+
+-- .. behind the line feed at a place
+lines-cut : (bs : List ℕ) (n : ℕ) → n < length bs → get_or bs n 0 ≡ 10 → lines_of bs ≡ lines_of (take (n + 1) bs) ++ lines_of (drop (n + 1) bs)
+lines-cut bs n lt found =
+    let after : List ℕ = drop (n + 1) bs in
+    let whole : bs ≡ take n bs ++ 10 ∷ after = sym (take-append-drop n bs) ∙ ap (λ (t : List ℕ). take n bs ++ t) (drop_more bs n 0 lt ∙ ap (λ (b : ℕ). b ∷ after) found) in
+    let front : take (n + 1) bs ≡ take n bs ++ 10 ∷ [] = take_more bs n 0 lt ∙ ap (λ (b : ℕ). take n bs ++ b ∷ []) found in
+    ap lines_of whole ∙ lines-append (take n bs) after ∙ ap (λ (t : List ℕ). lines_of t ++ lines_of after) (sym front)
+
+-- .. that is the first from a place on
+pub lines-from : (bs : List ℕ) (p n : ℕ) → n ≤ length (take (length bs - p) (drop p bs))
+    → (n < length (take (length bs - p) (drop p bs)) → get_or (take (length bs - p) (drop p bs)) n 0 ≡ 10)
+    → p ≤ length bs → p + n ≢ length bs → lines_of bs ≡ lines_of (take (p + n + 1) bs) ++ lines_of (drop (p + n + 1) bs)
+lines-from bs p n within ended le ne = search (arith, take_rest, length-drop, get_or-drop, lines-cut)
+
+-- ==== A text has no more lines than bytes, and one.
+
+-- whichever way the test goes
+split_few : (t : Bool) (b : ℕ) (ps : List (List ℕ)) → length (if t then [] ∷ ps else put_first b ps) ≤ length ps + 1
+split_few a b ps = search arith
+
+pieces_few : (separator : ℕ) (text : List ℕ) → length (pieces separator text) ≤ length text + 1
+pieces_few separator [] = omega arith
+pieces_few separator (b ∷ bs) = omega (arith, split_few (b == separator) b (pieces separator bs), pieces_few separator bs)
+
+ends_few : (ps : List (List ℕ)) → length (without_empty_end ps) ≤ length ps
+ends_few [] = omega arith
+ends_few ([] ∷ []) = omega arith
+ends_few ((b ∷ bs) ∷ []) = omega arith
+ends_few (p ∷ q ∷ ps) = omega (arith, ends_few (q ∷ ps))
+
+-- A text has at most one line more than bytes.
+pub lines_few : (text : List ℕ) → length (lines_of text) ≤ length text + 1
+lines_few text = omega (arith, ends_few (pieces 10 text), pieces_few 10 text)

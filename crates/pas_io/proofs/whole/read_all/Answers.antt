@@ -1,4 +1,4 @@
-use Rattle.std.proofs.Common.{rules, ◌≡◌, ◌-◌, ℕ, List, Some, length, replicate, ◌∙◌, arith}
+use Rattle.std.proofs.Common.{rules, ◌≡◌, ℕ, List, Some, length, ◌∙◌, arith}
 use Rattle.pas_io.proofs.Telling.{all_of_it, has_read_grown, read_out, whole_input}
 use Rattle.pas_io.proofs.whole.read_all.Goals as goal
 use Rattle.pas_io.proofs.whole.read_all.Goals.{then-loop-taken-test+else-taken-most, else-loop-taken-test}
@@ -8,8 +8,7 @@ loop-taken-preserved g c =
     let size : length c.fill.new.buffer ≡ c.resize.new.self.len = search rules in
     let full : c.loop-taken.taken ≡ length c.loop-taken.buffer.items = search rules in
     let grown = λ (told : List ℕ) (is : g.S.Source.rest c.args.source.now ≡ Some told).
-    has_read_grown told (g.S.Source.rest c.loop-taken.source) c.loop-taken.buffer.items c.deref_mut.result.now (replicate (c.next_size.result - c.loop-taken.buffer.len) 0) c.loop-taken.taken c.next_size.result full (omega arith)
-    (c.deref_mut.ensures.value ∙ c.in-Ok.ensures.items) (c.loop-taken.invariant.told told is) in
+    has_read_grown _ _ _ _ _ _ c.next_size.result full (omega arith) (c.deref_mut.ensures.value ∙ c.in-Ok.ensures.items) (c.loop-taken.invariant.told _ is) in
     rw (all_of_it c.fill.new.buffer c.resize.new.self.items c.resize.new.self.len size) (record {
       within = search rules;
       short = search rules;
@@ -24,16 +23,14 @@ pub returns-in-Err-clause-takes : goal.returns-in-Err-clause-takes
 returns-in-Err-clause-takes g c = λ told is.
     let full : c.loop-taken.taken ≡ length c.loop-taken.buffer.items = search rules in
     let takes = c.fill.ensures.takes told
-    (has_read_grown told (g.S.Source.rest c.loop-taken.source) c.loop-taken.buffer.items c.deref_mut.result.now (replicate (c.next_size.result - c.loop-taken.buffer.len) 0) c.loop-taken.taken c.next_size.result full (omega arith)
-    (c.deref_mut.ensures.value ∙ c.in-Ok.ensures.items) (c.loop-taken.invariant.told told is)) in
+    (has_read_grown _ _ _ _ _ _ c.next_size.result full (omega arith) (c.deref_mut.ensures.value ∙ c.in-Ok.ensures.items) (c.loop-taken.invariant.told _ is)) in
     record { number = takes.number; within = (let w = takes.within in search rules); left = takes.left }
 
 pub returns-in-Err-clause-stopped : goal.returns-in-Err-clause-stopped
 returns-in-Err-clause-stopped g c = λ fault told is.
     let full : c.loop-taken.taken ≡ length c.loop-taken.buffer.items = search rules in
     let takes = c.in-Err.ensures.stopped told
-    (has_read_grown told (g.S.Source.rest c.loop-taken.source) c.loop-taken.buffer.items c.deref_mut.result.now (replicate (c.next_size.result - c.loop-taken.buffer.len) 0) c.loop-taken.taken c.next_size.result full (omega arith)
-    (c.deref_mut.ensures.value ∙ c.in-Ok.ensures.items) (c.loop-taken.invariant.told told is)) in
+    (has_read_grown _ _ _ _ _ _ c.next_size.result full (omega arith) (c.deref_mut.ensures.value ∙ c.in-Ok.ensures.items) (c.loop-taken.invariant.told _ is)) in
     record { number = takes.number; within = (let w = takes.within in search rules); left = takes.left }
 
 pub returns-clause-input : goal.returns-clause-input

@@ -4,7 +4,7 @@ use Rattle.pas_io.proofs.whole.write_all.Goals as goal
 
 pub returns-in_err-written-clause-front : goal.returns-in_err-written-clause-front
 returns-in_err-written-clause-front g c =
-    let front = front_of (g.K.Sink.held c.args.sink.now) (g.K.Sink.held c.loop-written.sink) (g.K.Sink.held c.write.new.self) c.args.bytes.now c.loop-written.written c.loop-written.invariant.held c.in_err-written.ensures.keeps in
+    let front = front_of _ _ (g.K.Sink.held c.write.new.self) _ c.loop-written.written c.loop-written.invariant.held c.in_err-written.ensures.keeps in
     search (rules, front)
 
 pub loop-written-preserved : goal.loop-written-preserved

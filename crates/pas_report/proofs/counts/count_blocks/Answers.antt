@@ -1,5 +1,5 @@
 use Rattle.std.proofs.Common.{arith}
-use Rattle.pas_report.proofs.Unused.{all_counted}
+use Rattle.pas_report.proofs.ReportOfWords.{all_counted}
 use Rattle.pas_report.proofs.counts.count_blocks.Goals as goal
 
 pub returns-clause-live : goal.returns-clause-live

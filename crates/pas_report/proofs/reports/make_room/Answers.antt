@@ -1,5 +1,4 @@
-use Rattle.std.proofs.Common.{arith, rules, ◌≡◌, ℕ, List, Option, ◌∙◌, subst}
-use Rattle.pas_io.specs.Told.{WritesFront}
+use Rattle.std.proofs.Common.{arith, rules, ◌≡◌, ℕ, List, Option, ◌∙◌}
 use Rattle.pas_report.specs.Pieces.{IsPutOut}
 use Rattle.pas_report.proofs.Pieces.{front_out, put_all}
 use Rattle.pas_report.proofs.reports.make_room.Goals as goal
@@ -7,9 +6,9 @@ use Rattle.pas_report.proofs.reports.make_room.Goals as goal
 pub returns-in_err-write_all-clause-front : goal.returns-in_err-write_all-clause-front
 returns-in_err-write_all-clause-front g c =
     let waiting : c.as_bytes.result.now ≡ c.args.lines.now.bytes = c.as_bytes.ensures.value ∙ c.as_str.ensures.value in
-    let wrote = subst (WritesFront (g.K.Sink.held c.args.sink.now) (g.K.Sink.held c.write_all.new.sink)) waiting c.in_err-write_all.ensures.front in
+    let wrote = rw waiting at c.in_err-write_all.ensures.front in
     let front = λ (before : Option (List ℕ)) (text : List ℕ) (out : IsPutOut before (g.K.Sink.held c.args.sink.now) c.args.lines.now.bytes text).
-    front_out before (g.K.Sink.held c.args.sink.now) (g.K.Sink.held c.write_all.new.sink) c.args.lines.now.bytes text out wrote in
+    front_out _ _ _ _ _ out wrote in
     search (rules, front)
 
 pub returns-in_ok-write_all-clause-keeps : goal.returns-in_ok-write_all-clause-keeps

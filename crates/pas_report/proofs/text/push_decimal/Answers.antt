@@ -38,6 +38,6 @@ returns-then-n-lt1000 g c =
     let digit = c.digit-then-n-lt1000 in
     let text : List ℕ = c.args.text.now.bytes in
     let rest = c.args.n % 100 in
-    then_piece text c.push_str-then-n-lt1000.new.self.bytes c.push_two-then-n-lt1000.new.text.bytes (hex_digit (c.args.n / 100) ∷ []) (hex_digit (rest / 10) ∷ hex_digit (rest % 10) ∷ [])
+    then_piece text _ _ (hex_digit (c.args.n / 100) ∷ []) (hex_digit (rest / 10) ∷ hex_digit (rest % 10) ∷ [])
     (c.push_str-then-n-lt1000.ensures.bytes ∙ ap (λ (t : List ℕ). text ++ t) digit.ensures) c.push_two-then-n-lt1000.ensures.bytes
     ∙ ap (λ (t : List ℕ). text ++ t) (sym (three_digits c.args.n (omega arith) (omega arith)))

@@ -13,19 +13,17 @@ past_end = Record.Event (Event.Deed 0 0 (record { heap = 0; kind = Kind.Class 0 
 
 pub returns-in_err-make_room-clause-front : goal.returns-in_err-make_room-clause-front
 returns-in_err-make_room-clause-front g c =
-    let front = front_longer (g.K.Sink.held c.args.sink.now) (g.K.Sink.held c.make_room.new.sink) c.loop-item.invariant.text
-    (lines_of (drop c.loop-item.item-index c.args.records.now)) (lines_of c.args.records.now) (sym c.loop-item.invariant.rest)
-    (c.in_err-make_room.ensures.front (g.K.Sink.held c.args.sink.now) c.loop-item.invariant.text c.loop-item.invariant.put_out) in
+    let front = front_longer _ _ _ _ _ (sym c.loop-item.invariant.rest) (c.in_err-make_room.ensures.front _ _ c.loop-item.invariant.put_out) in
     search (rules, front)
 
 pub loop-item-preserved : goal.loop-item-preserved
 loop-item-preserved g c =
     let line : List ℕ = line_of (get_or c.args.records.now c.loop-item.item-index past_end) in
     let more = at_drop_more lines_of c.args.records.now c.loop-item.item-index past_end c.loop-item-test.true in
-    let kept = c.in_ok-make_room.ensures.keeps (g.K.Sink.held c.args.sink.now) c.loop-item.invariant.text c.loop-item.invariant.put_out in
+    let kept = c.in_ok-make_room.ensures.keeps _ _ c.loop-item.invariant.put_out in
     record {
       text = c.loop-item.invariant.text ++ line;
-      put_out = put_more (g.K.Sink.held c.args.sink.now) (g.K.Sink.held c.make_room.new.sink) c.make_room.new.lines.bytes c.push_record.new.text.bytes c.loop-item.invariant.text line c.push_record.ensures.bytes kept;
+      put_out = put_more _ _ _ _ _ line c.push_record.ensures.bytes kept;
       rest = simp (append_assoc, ← more, c.loop-item.invariant.rest);
       count = search rules;
     }
@@ -35,8 +33,7 @@ returns-clause-front g c =
     let none : drop c.loop-item.item-index c.args.records.now ≡ [] = drop_all c.loop-item.item-index c.args.records.now (omega (arith, c.loop-item-test.false)) in
     let text : c.loop-item.invariant.text ≡ lines_of c.args.records.now =
     sym (append-nil c.loop-item.invariant.text) ∙ sym (ap (λ rs. c.loop-item.invariant.text ++ lines_of rs) none) ∙ c.loop-item.invariant.rest in
-    let out = subst (IsPutOut (g.K.Sink.held c.args.sink.now) (g.K.Sink.held c.loop-item.sink) c.loop-item.lines.bytes) text c.loop-item.invariant.put_out in
+    let out = subst (IsPutOut _ _ _) text c.loop-item.invariant.put_out in
     let waiting : c.as_bytes.result.now ≡ c.loop-item.lines.bytes = c.as_bytes.ensures.value ∙ c.as_str.ensures.value in
     on_err_weaker c.write_all.result (λ (wrote : WritesFront (g.K.Sink.held c.loop-item.sink) (g.K.Sink.held c.write_all.new.sink) c.as_bytes.result.now).
-    front_out (g.K.Sink.held c.args.sink.now) (g.K.Sink.held c.loop-item.sink) (g.K.Sink.held c.write_all.new.sink) c.loop-item.lines.bytes (lines_of c.args.records.now) out
-    (subst (WritesFront (g.K.Sink.held c.loop-item.sink) (g.K.Sink.held c.write_all.new.sink)) waiting wrote)) c.write_all.ensures.front
+    front_out _ _ _ _ (lines_of c.args.records.now) out (rw waiting at wrote)) c.write_all.ensures.front

@@ -1,4 +1,4 @@
-use Rattle.std.proofs.Common.{rules, ◌≡◌, ◌++◌, [], ℕ, List, All, ap, sym, ◌∙◌, subst, arith}
+use Rattle.std.proofs.Common.{rules, ◌≡◌, ◌++◌, [], List, All, sym, ◌∙◌, subst, arith}
 use Rattle.std.proofs.lemmas.Result.{on_err_weaker}
 use Rattle.pas_io.specs.Told.{WritesFront}
 use Rattle.pas_io.proofs.Telling.{writes_more}
@@ -29,11 +29,10 @@ pub loop-round-preserved : goal.loop-round-preserved
 loop-round-preserved g c =
     let steps = c.in-Some.ensures.steps in
     let filled : texts_of c.swap.new.x.sheets.items ≡ lines_of c.in-Some.round.now = search rules in
-    let whole = next_round c.args.records.now c.loop-round.round-iterator.rest.now c.in-Some.round.now c.next.new.self.rest.now c.loop-round.invariant.text (texts_of c.loop-round.sheets.full.sheets.items)
-    (texts_of c.swap.new.x.sheets.items) steps.1.0 filled c.loop-round.invariant.rest in
+    let whole = next_round _ _ _ _ _ _ (texts_of c.swap.new.x.sheets.items) steps.1.0 filled c.loop-round.invariant.rest in
     record {
       text = c.loop-round.invariant.text ++ texts_of c.loop-round.sheets.full.sheets.items;
-      written = writes_more (g.K.Sink.held c.args.sink.now) (g.K.Sink.held c.loop-round.sink) (g.K.Sink.held c.write_and_fill.new.sink) c.loop-round.invariant.text (texts_of c.loop-round.sheets.full.sheets.items) c.loop-round.invariant.written c.in_ok-write_and_fill.ensures.whole;
+      written = writes_more _ _ _ _ _ c.loop-round.invariant.written c.in_ok-write_and_fill.ensures.whole;
       rest = whole;
       size = steps.0 ∙ c.loop-round.invariant.size;
       shown = shown_after c.loop-round.round-iterator.rest.now c.in-Some.round.now c.next.new.self.rest.now steps.1.0 c.loop-round.invariant.shown;
@@ -42,15 +41,12 @@ loop-round-preserved g c =
 
 pub returns-in_err-write_and_fill-clause-front : goal.returns-in_err-write_and_fill-clause-front
 returns-in_err-write_and_fill-clause-front g c =
-    let front = front_more (g.K.Sink.held c.args.sink.now) (g.K.Sink.held c.loop-round.sink) (g.K.Sink.held c.write_and_fill.new.sink) c.loop-round.invariant.text (texts_of c.loop-round.sheets.full.sheets.items)
-    (lines_of c.loop-round.round-iterator.rest.now) (lines_of c.args.records.now) c.loop-round.invariant.rest c.loop-round.invariant.written c.in_err-write_and_fill.ensures.front in
+    let front = front_more _ _ _ _ _ _ _ c.loop-round.invariant.rest c.loop-round.invariant.written c.in_err-write_and_fill.ensures.front in
     search (rules, front)
 
 pub returns-clause-front : goal.returns-clause-front
 returns-clause-front g c =
-    let held : texts_of c.deref.result.now ≡ texts_of c.loop-round.sheets.full.sheets.items = ap texts_of c.deref.ensures.value in
     let whole : c.loop-round.invariant.text ++ (texts_of c.deref.result.now ++ lines_of c.loop-round.round-iterator.rest.now) ≡ lines_of c.args.records.now =
-    ap (λ (t : List ℕ). c.loop-round.invariant.text ++ (t ++ lines_of c.loop-round.round-iterator.rest.now)) held ∙ c.loop-round.invariant.rest in
+    rw c.deref.ensures.value c.loop-round.invariant.rest in
     on_err_weaker c.write_texts.result (λ (wrote : WritesFront (g.K.Sink.held c.loop-round.sink) (g.K.Sink.held c.write_texts.new.sink) (texts_of c.deref.result.now)).
-    front_more (g.K.Sink.held c.args.sink.now) (g.K.Sink.held c.loop-round.sink) (g.K.Sink.held c.write_texts.new.sink) c.loop-round.invariant.text (texts_of c.deref.result.now)
-    (lines_of c.loop-round.round-iterator.rest.now) (lines_of c.args.records.now) whole c.loop-round.invariant.written wrote) c.write_texts.ensures.front
+    front_more _ _ _ _ _ _ _ whole c.loop-round.invariant.written wrote) c.write_texts.ensures.front

@@ -1,4 +1,4 @@
-use Rattle.std.proofs.Common.{rules, ◌≡◌, ◌+◌, ◌++◌, ◌∙◌, append_assoc, drop}
+use Rattle.std.proofs.Common.{rules, ◌+◌, ◌++◌, ◌∙◌, append_assoc, drop}
 use Rattle.pas_io.proofs.Telling.{writes_more}
 use Rattle.pas_report.specs.Texts.{texts_of}
 use Rattle.pas_report.proofs.Written.{front_more, next_text}
@@ -6,17 +6,16 @@ use Rattle.pas_report.proofs.writing.write_texts.Goals as goal
 
 pub returns-in_err-write_sheet-clause-front : goal.returns-in_err-write_sheet-clause-front
 returns-in_err-write_sheet-clause-front g c =
-    let whole = next_text c.args.sheets.now c.loop-sheet.sheet-index c.sheet-item.result c.loop-sheet.invariant.text c.loop-sheet-test.true c.sheet-item.is c.loop-sheet.invariant.rest in
-    let front = front_more (g.K.Sink.held c.args.sink.now) (g.K.Sink.held c.loop-sheet.sink) (g.K.Sink.held c.write_sheet.new.sink) c.loop-sheet.invariant.text c.sheet-item.result.text.items
-    (texts_of (drop (c.loop-sheet.sheet-index + 1) c.args.sheets.now)) (texts_of c.args.sheets.now) whole c.loop-sheet.invariant.written c.in_err-write_sheet.ensures.front in
+    let whole = next_text _ _ c.sheet-item.result _ c.loop-sheet-test.true c.sheet-item.is c.loop-sheet.invariant.rest in
+    let front = front_more _ _ _ _ _ _ _ whole c.loop-sheet.invariant.written c.in_err-write_sheet.ensures.front in
     search (rules, front)
 
 pub loop-sheet-preserved : goal.loop-sheet-preserved
 loop-sheet-preserved g c =
-    let whole = next_text c.args.sheets.now c.loop-sheet.sheet-index c.sheet-item.result c.loop-sheet.invariant.text c.loop-sheet-test.true c.sheet-item.is c.loop-sheet.invariant.rest in
+    let whole = next_text _ _ c.sheet-item.result _ c.loop-sheet-test.true c.sheet-item.is c.loop-sheet.invariant.rest in
     record {
       text = c.loop-sheet.invariant.text ++ c.sheet-item.result.text.items;
-      written = writes_more (g.K.Sink.held c.args.sink.now) (g.K.Sink.held c.loop-sheet.sink) (g.K.Sink.held c.write_sheet.new.sink) c.loop-sheet.invariant.text c.sheet-item.result.text.items c.loop-sheet.invariant.written c.in_ok-write_sheet.ensures.whole;
+      written = writes_more _ _ _ _ _ c.loop-sheet.invariant.written c.in_ok-write_sheet.ensures.whole;
       rest = append_assoc c.loop-sheet.invariant.text c.sheet-item.result.text.items (texts_of (drop (c.loop-sheet.sheet-index + 1) c.args.sheets.now)) ∙ whole;
       count = search rules;
     }

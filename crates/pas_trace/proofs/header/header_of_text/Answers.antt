@@ -1,5 +1,5 @@
 use Rattle.std.proofs.Common.{sym}
-use Rattle.pas_trace.proofs.Headers.{header_valid}
+use Rattle.pas_trace.proofs.ParsedItems.{header_valid}
 use Rattle.pas_trace.proofs.header.header_of_text.Goals as goal
 
 pub returns-clause-valid : goal.returns-clause-valid

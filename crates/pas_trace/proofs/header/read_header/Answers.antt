@@ -1,5 +1,5 @@
 use Rattle.std.proofs.Common.{arith}
-use Rattle.pas_trace.proofs.Headers.{short4, short6, short8}
+use Rattle.pas_trace.proofs.ParsedItems.{short4, short6, short8}
 use Rattle.pas_trace.proofs.header.read_header.Goals as goal
 
 pub returns-in_err-threads_label : goal.returns-in_err-threads_label

@@ -8,4 +8,4 @@ pub loop-left-preserved : goal.loop-left-preserved
 loop-left-preserved c =
     let first = c.in-Some.ensures in
     subst (λ (items : List Item). AreLexed c.args.version c.args.text.now items c.in-Some.after.now) (sym c.push_reserved.ensures.items)
-    (lexed-more c.args.version c.args.text.now c.loop-left.left.now c.in-Some.after.now c.loop-left.items.items c.in-Some.item c.loop-left.invariant first)
+    (lexed-more _ _ _ _ _ c.in-Some.item c.loop-left.invariant first)

@@ -1,5 +1,5 @@
 use Rattle.std.proofs.Common.{arith}
-use Rattle.pas_trace.proofs.Splits.{cut-last, cut-found}
+use Rattle.pas_trace.proofs.WordLines.{cut-last, cut-found}
 use Rattle.pas_trace.proofs.lines.next_line.Goals as goal
 
 pub returns-then-end-text : goal.returns-then-end-text

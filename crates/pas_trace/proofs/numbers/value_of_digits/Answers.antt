@@ -1,4 +1,4 @@
-use Rattle.std.proofs.Common.{◌+◌, drop, get_or, sym, ap, ◌∙◌, arith}
+use Rattle.std.proofs.Common.{◌+◌, drop, sym, ap, ◌∙◌, arith}
 use Rattle.std.proofs.lemmas.List.{drop_more, drop_all}
 use Rattle.pas_trace.proofs.Digits.{value_after, value-step, value-large, value-end}
 use Rattle.pas_trace.proofs.numbers.value_of_digits.Goals as goal
@@ -11,7 +11,7 @@ loop-byte-preserved c =
     let w = c.args.word.now in
     let i = c.loop-byte.byte-index in
     let v = c.loop-byte.value in
-    sym (value-step v (get_or w i 0) (drop (i + 1) w) c.if-byte-lt48.false c.if-byte-gt57.false) ∙ sym (ap (value_after v) (drop_more w i 0 c.loop-byte-test.true)) ∙ c.loop-byte.invariant
+    sym (value-step v _ (drop (i + 1) w) c.if-byte-lt48.false c.if-byte-gt57.false) ∙ sym (ap (value_after v) (drop_more w i 0 c.loop-byte-test.true)) ∙ c.loop-byte.invariant
 
 pub returns : goal.returns
 returns c = search (arith, drop_all, value-end)

@@ -7,8 +7,7 @@ pub returns-in_default-clause-value : goal.returns-in_default-clause-value
 returns-in_default-clause-value c = search (arith, drop_more, hex-stop, hex-none, c.in_default.ensures)
 
 pub overflow_mul-value : goal.overflow_mul-value
-overflow_mul-value c =
-    let r = hex-room c.loop-byte.value c.loop-byte.byte-index c.loop-byte.invariant.1 (omega arith) in omega arith
+overflow_mul-value c = let r = hex-room _ _ c.loop-byte.invariant.1 (omega arith) in omega arith
 
 pub overflow_add-value : goal.overflow_add-value
 overflow_add-value c =

@@ -1,5 +1,5 @@
 use Rattle.std.proofs.Common.{sym}
-use Rattle.pas_trace.proofs.Headers.{header_valid}
+use Rattle.pas_trace.proofs.ParsedItems.{header_valid}
 use Rattle.pas_trace.proofs.reader.begun.Goals as goal
 
 pub new-requires-clause-valid : goal.new-requires-clause-valid

@@ -1,6 +1,6 @@
 use Rattle.std.proofs.Common.{[], ◌∙◌}
 use Rattle.std.proofs.lemmas.Result.{err_from_is_err_and}
-use Rattle.pas_trace.proofs.{Reading.read-failed, Scripting.read-scripted, Scripting.scripted-reading, Scripting.same-fault}
+use Rattle.pas_trace.proofs.{LexedLines.read-failed, Gathering.read-scripted, Gathering.scripted-reading, Gathering.same-fault}
 use Rattle.pas_trace.proofs.reader.read_script.Goals as goal
 
 pub returns-in_err-read_lines : goal.returns-in_err-read_lines
@@ -24,4 +24,4 @@ pub returns : goal.returns
 returns c =
     let b = c.in_ok-reader.ensures in
     let h = c.in_ok-read_lines.ensures.read [] b.tells in
-    scripted-reading c.args.text.now c.read_lines.new.self c.scripted.result (λ script made. read-scripted _ c.args.text.now c.in_ok-reader.rest.now c.in_ok-reader.reader c.read_lines.new.self script b h (made h.0 h.2)) c.scripted.ensures
+    scripted-reading _ _ _ (λ script made. read-scripted _ _ _ c.in_ok-reader.reader _ script b h (made h.0 h.2)) c.scripted.ensures

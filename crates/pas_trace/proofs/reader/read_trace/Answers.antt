@@ -1,6 +1,6 @@
 use Rattle.std.proofs.Common.{[], ◌∙◌}
 use Rattle.std.proofs.lemmas.Result.{err_from_is_err_and}
-use Rattle.pas_trace.proofs.Reading.{read-planned, read-failed, planned-reading}
+use Rattle.pas_trace.proofs.LexedLines.{read-planned, read-failed, planned-reading}
 use Rattle.pas_trace.proofs.reader.read_trace.Goals as goal
 
 pub returns-in_err-read_lines : goal.returns-in_err-read_lines
@@ -24,4 +24,4 @@ pub returns : goal.returns
 returns c =
     let b = c.in_ok-reader.ensures in
     let h = c.in_ok-read_lines.ensures.read [] b.tells in
-    planned-reading c.args.text.now c.read_lines.new.self c.planned.result (λ plan made. read-planned _ c.args.text.now c.in_ok-reader.rest.now c.in_ok-reader.reader c.read_lines.new.self plan b h (made h.0 h.2)) c.planned.ensures
+    planned-reading _ _ _ (λ plan made. read-planned _ c.args.text.now c.in_ok-reader.rest.now c.in_ok-reader.reader c.read_lines.new.self plan b h (made h.0 h.2)) c.planned.ensures

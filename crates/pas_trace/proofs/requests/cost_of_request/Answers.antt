@@ -3,7 +3,8 @@ use Rattle.pas_trace.proofs.Costs.{small_cost, small_request, unguarded_cost, gu
 use Rattle.pas_trace.proofs.requests.cost_of_request.Goals as goal
 
 pub returns-then-size-le-MOST_BITFIT-clause-value : goal.returns-then-size-le-MOST_BITFIT-clause-value
-returns-then-size-le-MOST_BITFIT-clause-value c = c.cost_of_allocation-plain.ensures.value ∙ sym (small_cost c.args.size (omega arith)) ∙ small_request c.args.guard c.args.size (omega arith)
+returns-then-size-le-MOST_BITFIT-clause-value c =
+    c.cost_of_allocation-plain.ensures.value ∙ sym (small_cost c.args.size (omega arith)) ∙ small_request c.args.guard c.args.size (omega arith)
 
 pub returns-then-guard-eq0-clause-value : goal.returns-then-guard-eq0-clause-value
 returns-then-guard-eq0-clause-value c = c.cost_of_allocation-plain.ensures.value ∙ unguarded_cost c.args.guard c.args.size c.if-guard-eq0.true

@@ -1,5 +1,5 @@
 use Rattle.std.proofs.Common.{arith}
-use Rattle.pas_trace.proofs.Cutting.{lines-from}
+use Rattle.pas_trace.proofs.WordLines.{lines-from}
 use Rattle.pas_trace.proofs.rounds.cut.Goals as goal
 
 pub returns-clause-lines : goal.returns-clause-lines

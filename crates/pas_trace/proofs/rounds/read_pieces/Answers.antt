@@ -2,8 +2,7 @@ use Rattle.std.proofs.Common.{◌≡◌, ◌++◌, [], ℕ, List, subst, sym, ap
 use Rattle.std.proofs.lemmas.Result.{err_from_is_err_and}
 use Rattle.pas_trace.specs.{Lexed.AreLexed, Texts.lines_of, Told.AreTaken}
 use Rattle.pas_trace.specs.declared.item.Item.{Item}
-use Rattle.pas_trace.proofs.Reading.{at-first, left-is}
-use Rattle.pas_trace.proofs.LexedLines.{lexed-none, lexed-now, after-lines, lines-fault, all-read, at-ok, none-of}
+use Rattle.pas_trace.proofs.LexedLines.{at-first, left-is, lexed-none, lexed-now, after-lines, lines-fault, all-read, at-ok, none-of}
 use Rattle.pas_trace.proofs.rounds.read_pieces.Goals as goal
 
 pub loop-rest-init : goal.loop-rest-init
@@ -29,7 +28,7 @@ take_lexed-requires-clause-lexed g c =
     let h = c.loop-rest.invariant in
     let told = c.requires.tells in
     let same = (h.far told.0 told.1).header in
-    (h.piece, lexed-now c.args.reader.now c.loop-rest.reader h.piece c.loop-rest.full.items _ c.loop-rest.left.now same (sym c.deref-2.ensures.value) h.lexed, omega (arith, h.size))
+    (h.piece, lexed-now c.args.reader.now c.loop-rest.reader h.piece _ _ _ same (sym c.deref-2.ensures.value) h.lexed, omega (arith, h.size))
 
 pub loop-rest-preserved : goal.loop-rest-preserved
 loop-rest-preserved g c =
@@ -42,16 +41,16 @@ loop-rest-preserved g c =
     let next = c.cut-in-loop-rest in
     let start = c.requires.tells in
     let same = (h.far start.0 start.1).header in
-    let lexed = lexed-now r now h.piece c.loop-rest.full.items _ c.loop-rest.left.now same (sym c.deref.ensures.value) h.lexed in
-    let few = at-ok c.take_and_lex-took.result.0 _ e.few c.in_ok-took.was h.piece lexed in
+    let lexed = lexed-now r now h.piece _ _ _ same (sym c.deref.ensures.value) h.lexed in
+    let few = at-ok _ _ e.few c.in_ok-took.was h.piece lexed in
     record {
       piece = next.result.0.now;
-      lexed = lexed-now now r next.result.0.now _ _ c.take_and_lex-took.result.1.now (sym same) (sym (ap (λ v. v.items) c.swap.ensures.x_after)) e.next;
+      lexed = lexed-now now r next.result.0.now _ _ _ (sym same) (sym (ap (λ v. v.items) c.swap.ensures.x_after)) e.next;
       far = λ told t.
           let far = h.far told t in
           let read = subst (λ result. AreTaken now far.items (lines_of h.piece) new result) c.in_ok-took.was (e.read far.items h.piece far.tells lexed) in
           left-is r new told lines (lines_of c.loop-rest.rest.now) (lines_of next.result.0.now ++ lines_of next.result.1.now) next.ensures.lines
-          (after-lines r now new told lines (lines_of h.piece) (lines_of c.loop-rest.rest.now) far read);
+          (after-lines r now new told lines _ _ far read);
       size = omega (arith, few, h.size, next.ensures.bytes);
     }
 
@@ -70,8 +69,9 @@ pub returns : goal.returns
 returns g c told t =
     let h = c.loop-rest.invariant in
     let far = h.far told t in
-    let lexed = lexed-now c.args.reader.now c.loop-rest.reader h.piece c.loop-rest.full.items _ c.loop-rest.left.now far.header (sym c.deref-2.ensures.value) h.lexed in
-    let none : c.loop-rest.rest.now ≡ [] = none-of c.loop-rest.rest.now (grind arith) in
-    let last : lines_of h.piece ++ lines_of c.loop-rest.rest.now ≡ lines_of h.piece = ap (λ (rest : List ℕ). lines_of h.piece ++ lines_of rest) none ∙ append-nil (lines_of h.piece) in
-    all-read c.args.reader.now c.loop-rest.reader c.take_lexed.new.self told (lines_of c.args.text.now) (lines_of h.piece) c.take_lexed.result
-    (left-is c.args.reader.now c.loop-rest.reader told (lines_of c.args.text.now) (lines_of h.piece ++ lines_of c.loop-rest.rest.now) (lines_of h.piece) last far) (c.take_lexed.ensures.read far.items h.piece far.tells lexed)
+    let lexed = lexed-now c.args.reader.now c.loop-rest.reader h.piece _ _ _ far.header (sym c.deref-2.ensures.value) h.lexed in
+    let none : c.loop-rest.rest.now ≡ [] = none-of _ (grind arith) in
+    let last : lines_of h.piece ++ lines_of c.loop-rest.rest.now ≡ lines_of h.piece = ap (λ (rest : List ℕ). lines_of h.piece ++ lines_of rest) none ∙ append-nil _ in
+    all-read c.args.reader.now c.loop-rest.reader c.take_lexed.new.self told (lines_of c.args.text.now) (lines_of h.piece) _
+    (left-is c.args.reader.now c.loop-rest.reader told (lines_of c.args.text.now) (lines_of h.piece ++ lines_of c.loop-rest.rest.now)
+    (lines_of h.piece) last far) (c.take_lexed.ensures.read far.items h.piece far.tells lexed)

@@ -1,5 +1,5 @@
 use Rattle.std.proofs.Common.{arith}
-use Rattle.pas_trace.proofs.Splits.{words-none, from_word, word-last, word-found}
+use Rattle.pas_trace.proofs.WordLines.{words-none, from_word, word-last, word-found}
 use Rattle.pas_trace.proofs.words.next_word.Goals as goal
 
 pub returns-then-start-line : goal.returns-then-start-line

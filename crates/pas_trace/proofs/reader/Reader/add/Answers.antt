@@ -1,9 +1,7 @@
-use Rattle.std.proofs.Common.{ap, sym, subst, arith}
+use Rattle.std.proofs.Common.{ap, arith}
 use Rattle.std.proofs.lemmas.Result.{on_ok_weaker}
-use Rattle.pas_trace.specs.{Reasons.actor_of, Reasons.guard_after, Reasons.is_operation, Told.IsAdded}
-use Rattle.pas_trace.specs.declared.item.Item.{Item}
-use Rattle.pas_trace.proofs.Telling.{added_wish, added_chore, added_phase, added_guard}
-use Rattle.pas_trace.proofs.Adding.{small_actor, small_heap, ready_for, sample_for, guard_for, fit_for}
+use Rattle.pas_trace.specs.Reasons.{actor_of, guard_after, is_operation}
+use Rattle.pas_trace.proofs.Telling.{added_wish, added_chore, added_phase, added_guard, small_actor, small_heap, ready_for, sample_for, guard_for, fit_for}
 use Rattle.pas_trace.proofs.reader.Reader.add.Goals as goal
 
 pub overflow_cast-self : goal.overflow_cast-self
@@ -15,28 +13,26 @@ overflow_shl-self c = search (arith, small_heap)
 pub overflow_cast-thread : goal.overflow_cast-thread
 overflow_cast-thread c =
     let p = c.requires.tells in
-    let small = small_actor c.args.self.now p.0 c.args.item p.1 p.2 c.in-Operates.thread (ap actor_of c.in-Operates.is) in omega (arith, small)
+    let small = small_actor _ p.0 c.args.item p.1 p.2 c.in-Operates.thread (ap actor_of c.in-Operates.is) in omega (arith, small)
 
 pub operate-requires-clause-ready : goal.operate-requires-clause-ready
 operate-requires-clause-ready c =
     let p = c.requires.tells in
-    ready_for c.args.self.now p.0 c.args.item p.1 p.2 c.in-Operates.thread c.args.cost c.requires.cost (ap is_operation c.in-Operates.is) (ap actor_of c.in-Operates.is)
+    ready_for _ p.0 _ p.1 p.2 c.in-Operates.thread _ c.requires.cost (ap is_operation c.in-Operates.is) (ap actor_of c.in-Operates.is)
     (λ g. ap (λ i. guard_after i g) c.in-Operates.is)
 
 pub operate-requires-clause-can : goal.operate-requires-clause-can
 operate-requires-clause-can c =
     let p = c.requires.tells in
-    sample_for c.args.self.now p.0 c.args.item p.1 p.2 c.in-Operates.thread (ap is_operation c.in-Operates.is) (ap actor_of c.in-Operates.is)
+    sample_for _ p.0 _ p.1 p.2 c.in-Operates.thread (ap is_operation c.in-Operates.is) (ap actor_of c.in-Operates.is)
 
 pub operate-requires-clause-fits : goal.operate-requires-clause-fits
-operate-requires-clause-fits c =
-    let p = c.requires.tells in
-    fit_for c.args.self.now p.0 c.args.item p.1 p.2 c.in-Operates.thread c.in-Operates.wish c.in-Operates.is
+operate-requires-clause-fits c = let p = c.requires.tells in fit_for _ p.0 _ p.1 p.2 c.in-Operates.thread c.in-Operates.wish c.in-Operates.is
 
 pub count-requires : goal.count-requires
 count-requires c =
     let p = c.requires.tells in
-    ready_for c.args.self.now p.0 c.args.item p.1 p.2 0 c.args.cost c.requires.cost (ap is_operation c.in-Scavenges.is) (ap actor_of c.in-Scavenges.is) (λ g. ap (λ i. guard_after i g) c.in-Scavenges.is)
+    ready_for _ p.0 _ p.1 p.2 0 _ c.requires.cost (ap is_operation c.in-Scavenges.is) (ap actor_of c.in-Scavenges.is) (λ g. ap (λ i. guard_after i g) c.in-Scavenges.is)
 
 pub returns-in-Operates : goal.returns-in-Operates
 returns-in-Operates c = search (arith, on_ok_weaker, added_wish, c.operate.ensures)
@@ -48,12 +44,10 @@ pub returns-in-NextPhase : goal.returns-in-NextPhase
 returns-in-NextPhase c = search (arith, on_ok_weaker, added_phase, c.next_phase.ensures)
 
 pub begin_guarding-requires-clause-number : goal.begin_guarding-requires-clause-number
-begin_guarding-requires-clause-number c =
-    let p = c.requires.tells in
-    guard_for c.args.self.now p.0 c.args.item p.1 p.2 c.in-Guards.number c.in-Guards.is
+begin_guarding-requires-clause-number c = let p = c.requires.tells in guard_for _ p.0 _ p.1 p.2 c.in-Guards.number c.in-Guards.is
 
 pub returns-in-Guards : goal.returns-in-Guards
 returns-in-Guards c =
     let p = c.requires.tells in
-    let number = guard_for c.args.self.now p.0 c.args.item p.1 p.2 c.in-Guards.number c.in-Guards.is in
-    subst (λ (i : Item). IsAdded c.args.self.now c.begin_guarding.new.self i) (sym c.in-Guards.is) (added_guard c.args.self.now c.begin_guarding.new.self c.in-Guards.number number c.begin_guarding.ensures)
+    let number = guard_for _ p.0 _ p.1 p.2 c.in-Guards.number c.in-Guards.is in
+    rw c.in-Guards.is (added_guard _ _ c.in-Guards.number number c.begin_guarding.ensures)

@@ -17,7 +17,7 @@ loop-thread-preserved c items t =
     let kept : get_or r.samples.kept k 0 ≡ kept_costs f k items = t.samples.kept k (omega arith) in
     let bound = ap (λ n. f.pages + n) kept ∙ bound-keeper f items k (omega arith) in
     let next : f.threads + k + 1 ≡ f.threads + (k + 1) = omega arith in
-    bounds-more f items (f.threads + k) _ c.loop-thread.bounds.items _ (c.loop-thread.invariant items t) bound c.in_ok-push.ensures.items ∙ ap (λ n. bounds_upto f items n) next
+    bounds-more f items (f.threads + k) _ _ _ (c.loop-thread.invariant items t) bound c.in_ok-push.ensures.items ∙ ap (λ n. bounds_upto f items n) next
 
 pub returns-then-self-eq0 : goal.returns-then-self-eq0
 returns-then-self-eq0 c items t = c.requires.threads items t ∙ all-plain c.args.self.now.header.profile items (sym t.samples.guard ∙ c.if-self-eq0.true)

@@ -17,4 +17,4 @@ loop-thread-preserved c items t =
     let k = c.loop-thread.thread in
     let cost : get_or r.counts.costs k 0 ≡ own_costs r.header.profile k items = t.costs k (omega arith) in
     let bound = ap (λ n. r.header.profile.pages + n) cost ∙ bound-thread r.header.profile items k (omega arith) (omega arith) in
-    bounds-more r.header.profile items k _ c.loop-thread.bounds.items _ (c.loop-thread.invariant items t) bound c.in_ok-push-2.ensures.items
+    bounds-more r.header.profile items k _ _ _ (c.loop-thread.invariant items t) bound c.in_ok-push-2.ensures.items

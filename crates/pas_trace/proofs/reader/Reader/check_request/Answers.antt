@@ -1,5 +1,5 @@
 use Rattle.std.proofs.Common.{arith, lt-ltb, eq-eqb}
-use Rattle.pas_trace.proofs.Checking.{request-checked}
+use Rattle.pas_trace.proofs.Telling.{request-checked}
 use Rattle.pas_trace.proofs.reader.Reader.check_request.Goals as goal
 
 pub returns : goal.returns

@@ -2,7 +2,7 @@ use Rattle.std.proofs.Common.{arith, ◌+◌, Some, None, if◌then◌else◌, r
 use Rattle.std.proofs.lemmas.Result.{on_ok_weaker}
 use Rattle.pas_trace.specs.{Plans.request_kept, Told.IsOperated}
 use Rattle.pas_trace.specs.declared.{item.Wish.Wish, names.Owner.Owner, plan.What.What}
-use Rattle.pas_trace.proofs.Adding.{named, renamed, unnamed}
+use Rattle.pas_trace.proofs.Telling.{named, renamed, unnamed}
 use Rattle.pas_trace.proofs.reader.Reader.operate.Goals as goal
 
 pub returns-in_ok-give-in-Asks : goal.returns-in_ok-give-in-Asks
@@ -13,7 +13,7 @@ returns-in_ok-give-in-Asks c =
     let names = c.give.new.self in
     let samples = c.sample-guarded.new.self in
     let kept = c.request_kept-what.ensures ∙ ap (λ guarded. request_kept (if guarded then Some (old.header.profile.threads + c.args.thread) else None) a.name a.heap a.size a.align) c.sample-guarded.ensures.guarded in
-    on_ok_weaker c.count.result (λ h. subst (λ (w : Wish). IsOperated old new c.args.thread w c.args.cost) (sym a.is)
+    on_ok_weaker _ (λ h. subst (λ (w : Wish). IsOperated old new c.args.thread w c.args.cost) (sym a.is)
     (named old (record old { names = names; samples = samples }) new names samples c.args.thread a.name a.heap (Wish.Asks a.name a.heap a.size a.align) c.request_kept-what.result c.args.cost refl refl kept refl
     c.sample-guarded.ensures.sampled c.in_ok-give-in-Asks.ensures h)) c.count.ensures
 
@@ -35,9 +35,9 @@ returns-in_ok-give-in-Remakes c =
     let new = c.count-in-Remakes.new.self in
     let a = c.in-Remakes in
     let home = ap (λ (o : Owner). o.heap) c.owner-heap.ensures in
-    on_ok_weaker c.count-in-Remakes.result (λ h. subst (λ (w : Wish). IsOperated old new c.args.thread w c.args.cost) (sym a.is)
-    (renamed old (record old { names = c.give-in-Remakes.new.self }) new c.give-in-Remakes.new.self c.args.thread a.name c.owner-heap.result.heap (Wish.Remakes a.name a.old a.size a.align)
-    (What.Remake a.name a.old c.owner-heap.result.heap a.size a.align) c.args.cost refl home refl (ap (λ heap. What.Remake a.name a.old heap a.size a.align) home) refl c.in_ok-give-in-Remakes.ensures h)) c.count-in-Remakes.ensures
+    on_ok_weaker _ (λ h. subst (λ (w : Wish). IsOperated old new c.args.thread w c.args.cost) (sym a.is)
+    (renamed old (record old { names = c.give-in-Remakes.new.self }) new _ _ a.name _ _
+    _ _ refl home refl (ap (λ heap. What.Remake a.name a.old heap a.size a.align) home) refl c.in_ok-give-in-Remakes.ensures h)) c.count-in-Remakes.ensures
 
 pub returns-in-Flushes : goal.returns-in-Flushes
 returns-in-Flushes c = search (arith, on_ok_weaker, unnamed, c.count-in-Flushes.ensures)

@@ -1,12 +1,12 @@
 use Rattle.std.proofs.Common.{sym, refl}
-use Rattle.pas_trace.proofs.Checking.{says-item, says-reason}
+use Rattle.pas_trace.proofs.Telling.{says-item, says-reason}
 use Rattle.pas_trace.proofs.reader.Reader.take_item.Goals as goal
 
 pub returns-in-Ok-add : goal.returns-in-Ok-add
 returns-in-Ok-add c items line t e =
-    let says = says-item c.args.self.now items line c.args.item t (sym e) c.in-Ok.ensures.0 in
+    let says = says-item _ items line _ t (sym e) c.in-Ok.ensures.0 in
     let added = c.in-Ok-add.ensures in
     (c.args.item, says.0, added.tells items t says.1, added.header, added.line, added.scripting)
 
 pub returns-in-Err : goal.returns-in-Err
-returns-in-Err c items line t e = rw c.fault.ensures (c.in-Err.reason, says-reason c.args.self.now items line c.args.item c.in-Err.reason t (sym e) c.in-Err.ensures, refl)
+returns-in-Err c items line t e = rw c.fault.ensures (c.in-Err.reason, says-reason _ items line _ c.in-Err.reason t (sym e) c.in-Err.ensures, refl)

@@ -19,11 +19,13 @@ loop-item-preserved c =
     let i = c.loop-item.item-index in
     let xs = c.args.items.now in
     record {
-      further = λ told lines t said. further-more c.args.self.now c.loop-item.self c.take_by_kind.new.self told lines _ (drop (i + 1) xs) (subst (λ (items : List Item). Further c.args.self.now told lines c.loop-item.self items) (drop_more xs i _ c.loop-item-test.true) (c.loop-item.invariant.further told lines t said)) c.in_ok-take_by_kind.ensures;
+      further = λ told lines t said. further-more _ _ _ told lines _ _ (subst (λ (items : List Item). Further c.args.self.now told lines c.loop-item.self items)
+          (drop_more xs i _ c.loop-item-test.true) (c.loop-item.invariant.further told lines t said)) c.in_ok-take_by_kind.ensures;
       line =
           let told = c.requires.tells in
           let said = c.requires.said in
-          let one = further-line c.args.self.now c.loop-item.self c.take_by_kind.new.self told.0 said.0 _ (drop (i + 1) xs) (subst (λ (items : List Item). Further c.args.self.now told.0 said.0 c.loop-item.self items) (drop_more xs i _ c.loop-item-test.true) (c.loop-item.invariant.further told.0 said.0 told.1 said.1)) c.in_ok-take_by_kind.ensures in
+          let one = further-line _ _ _ told.0 said.0 _ _ (subst (λ (items : List Item). Further c.args.self.now told.0 said.0 c.loop-item.self items)
+          (drop_more xs i _ c.loop-item-test.true) (c.loop-item.invariant.further told.0 said.0 told.1 said.1)) c.in_ok-take_by_kind.ensures in
           omega (arith, one, c.loop-item.invariant.line);
     }
 

@@ -12,9 +12,9 @@ read_lines-requires-clause-tells c =
     let told = c.requires.tells in
     let lexed = c.requires.lexed in
     let l = lexed.1 in
-    let far = lexed-far c.args.self.now c.take_items.new.self told.0 lexed.0 c.args.items.now c.args.left.now l told.1 (c.in_ok-take_items.ensures.taken told.0 l.lines told.1 l.say) in
+    let far = lexed-far _ _ told.0 lexed.0 _ _ l told.1 (c.in_ok-take_items.ensures.taken told.0 l.lines told.1 l.say) in
     (far.items, far.tells)
 
 pub returns-clause-read : goal.returns-clause-read
 returns-clause-read c told text t lexed =
-    lexed-read c.args.self.now c.take_items.new.self c.read_lines.new.self told text c.args.items.now c.args.left.now c.read_lines.result lexed t (c.in_ok-take_items.ensures.taken told lexed.lines t lexed.say) c.read_lines.ensures.read
+    lexed-read _ _ _ told text _ _ _ lexed t (c.in_ok-take_items.ensures.taken told lexed.lines t lexed.say) c.read_lines.ensures.read

@@ -1,5 +1,5 @@
 use Rattle.std.proofs.Common.{arith}
-use Rattle.pas_trace.proofs.Sampling.{sampled_small}
+use Rattle.pas_trace.proofs.Telling.{sampled_small}
 use Rattle.pas_trace.proofs.samples.Samples.sample.Goals as goal
 
 pub returns-then-size-le-MOST_BITFIT-clause-guarded : goal.returns-then-size-le-MOST_BITFIT-clause-guarded
