@@ -1,6 +1,5 @@
 -- Which acts of a plan are left: for threads in order, which the reader's crate has, and after so many phases.
-use Rattle.std.proofs.Common.{◌≡◌, ℕ, zero, suc, ◌+◌, ◌<◌, ◌≤◌, List, [], ◌∷◌, ◌++◌, map, length, drop, slice_index_or, refl, ap, sym, ◌∙◌, arith}
-use Rattle.std.proofs.Common.{drop_of_length-le}
+use Rattle.std.proofs.Common.{◌≡◌, ℕ, zero, suc, ◌+◌, ◌<◌, ◌≤◌, List, [], ◌∷◌, ◌++◌, map, length, drop, slice_index_or, arith, drop_of_length-le}
 use Rattle.std.proofs.lemmas.List.{drop_more}
 use Rattle.pas_trace.specs.Plans.{ops_of}
 use Rattle.pas_trace.specs.declared.plan.{Op.Op, Phase.Phase}
@@ -14,9 +13,9 @@ acts_left threads keepers (suc n) phases = acts_from threads keepers (suc n + 1)
 
 -- Where no phase is left, the acts left are those of the close.
 pub close_left : (threads keepers n : ℕ) → acts_left threads keepers n [] ≡ close_acts threads keepers
-close_left threads keepers zero = refl
-close_left threads keepers (suc n) = refl
+close_left threads keepers a = search arith
 
+-- After n phases just the acts of those behind them are left: by the definitions.
 left_is : (threads keepers n : ℕ) (phases : List (List Op)) → 1 ≤ n → acts_left threads keepers n phases ≡ acts_from threads keepers (n + 1) phases
 left_is threads keepers n phases h = grind arith
 
@@ -28,14 +27,14 @@ first_phase threads keepers n phase phases is = grind arith
 -- A phase that isn't the first is its mark, its acts and those of the phases after it.
 pub other_phase : (threads keepers n : ℕ) (phase : List Op) (phases : List (List Op)) → 1 ≤ n
     → acts_left threads keepers n (phase ∷ phases) ≡ MarksPhase (n + 1) ∷ (phase_acts threads phase ++ acts_left threads keepers (n + 1) phases)
-other_phase threads keepers n phase phases some = left_is threads keepers n (phase ∷ phases) some ∙ ap (λ (acts : List Act). MarksPhase (n + 1) ∷ (phase_acts threads phase ++ acts)) (sym (left_is threads keepers (n + 1) phases (omega arith)))
+other_phase threads keepers n phase phases some = search (arith, left_is)
 
 -- The acts left from a phase on are those of its operations and of the phases after it.
 pub next_phase : (threads keepers : ℕ) (phases : List Phase) (i : ℕ) (d : Phase) (ops : List Op) → i < length phases → ops_of (slice_index_or phases i d) ≡ ops
     → acts_left threads keepers i (map ops_of (drop i phases)) ≡ acts_left threads keepers i (ops ∷ map ops_of (drop (i + 1) phases))
-next_phase threads keepers phases i d ops lt is = ap (λ (ps : List Phase). acts_left threads keepers i (map ops_of ps)) (drop_more phases i d lt) ∙ ap (λ (os : List Op). acts_left threads keepers i (os ∷ map ops_of (drop (i + 1) phases))) is
+next_phase threads keepers phases i d ops lt is = search (arith, drop_more)
 
 -- Past the last phase the acts left are those of the close.
 pub last_phase : (threads keepers : ℕ) (phases : List Phase) (i : ℕ) → length phases ≤ i
     → acts_left threads keepers i (map ops_of (drop i phases)) ≡ close_acts threads keepers
-last_phase threads keepers phases i le = ap (λ (ps : List Phase). acts_left threads keepers i (map ops_of ps)) (drop_of_length-le phases le) ∙ close_left threads keepers i
+last_phase threads keepers phases i le = search (arith, drop_of_length-le, close_left)

@@ -1,6 +1,6 @@
 -- The acts of a plan fit where its operations do, and cost no more than they, and one record for each phase and one for the close.
-use Rattle.std.proofs.Common.{◌≡◌, ℕ, ◌+◌, ◌*◌, ◌<◌, ◌≤◌, ◌==◌, Bool, true, if◌then◌else◌, cond, List, [], ◌∷◌, ◌++◌, length, Option, None, Some, refl, ap, sym}
-use Rattle.std.proofs.Common.{subst, arith, append_assoc, map, not, MatchOption, eq-eqb}
+use Rattle.std.proofs.Common.{◌≡◌, ℕ, ◌+◌, ◌*◌, ◌<◌, ◌≤◌, ◌==◌, Bool, true, if◌then◌else◌, cond, List, [], ◌∷◌, ◌++◌, length, Option, refl, ap, sym, subst}
+use Rattle.std.proofs.Common.{arith, append_assoc, map, MatchOption, eq-eqb}
 use Rattle.std.specs.List.{AllByRecursion, filter}
 use Rattle.std.proofs.Math.Nat.{suc-mul}
 use Rattle.pas_profile.specs.declared.profile.Profile.{Profile}
@@ -8,8 +8,8 @@ use Rattle.pas_trace.specs.EveryPlan.{all_ops, asked_with, asked_after, IsThread
 use Rattle.pas_trace.specs.EveryPlan.{records_of_work, records_of_what, records_of_ops, own_records}
 use Rattle.pas_trace.specs.Asked.{work_of, of_task, request_of, keeper_of}
 use Rattle.pas_trace.specs.declared.plan.{Chore.Chore, Work.Work, Op.Op}
-use Rattle.pas_trace.specs.Acts.{Act, Settles, MarksPhase, MarksClose, Wakes, Ends, Lowers, operation_in, act_kept, is_active, numbers_from, active_threads}
-use Rattle.pas_trace.specs.Acts.{idle_threads, idle_stops, acts_of_chore, acts_of_work, acts_of_op, acts_of_ops, phase_acts, close_acts, acts_from, acts_of}
+use Rattle.pas_trace.specs.Acts.{Act, Settles, MarksPhase, MarksClose, Wakes, Ends, Lowers, operation_in, act_kept, numbers_from, active_threads, idle_threads}
+use Rattle.pas_trace.specs.Acts.{idle_stops, acts_of_chore, acts_of_work, acts_of_op, acts_of_ops, phase_acts, close_acts, acts_from, acts_of}
 use Rattle.pas_trace.proofs.ThreadsInOrder.{numbers_count}
 use Rattle.pas_answers.proofs.SingleActs.{sum_both}
 use Rattle.pas_answers.proofs.EachAct.{all_front, all_back, all_any, all_of_chore, all_of_close, all_acts}
@@ -27,7 +27,7 @@ chosen_few chosen (k ∷ ks) = one_chosen (chosen k) k (filter chosen ks) ks (ch
 
 -- There are no more idle threads than threads.
 pub idle_few : (threads : ℕ) (ops : List Op) → length (idle_threads threads ops) ≤ threads
-idle_few threads ops = let few = chosen_few (λ k. not (is_active ops k)) (numbers_from 1 threads) in let count = numbers_count 1 threads in omega (arith, few, count)
+idle_few threads ops = search (arith, chosen_few, numbers_count)
 
 -- ---- operations of a plan
 -- each is of an actor that may make it
@@ -80,10 +80,7 @@ module _ (f : Profile) (cost : Act → ℕ) (most : Op → ℕ) (mark : ℕ)
       → sum_over cost (acts_from f.threads keepers n phases) ≤ sum_of_ops most (all_ops phases) + (length phases + 1) * mark
   of_later keepers n [] all = let last = of_close keepers in omega (arith, last)
   of_later keepers n (p ∷ ps) all =
-      let this = of_phase p (all_front (λ (op : Op). IsActorOf f op.what op.actor) p (all_ops ps) all) in
-      let rest = of_later keepers (n + 1) ps (all_back (λ (op : Op). IsActorOf f op.what op.actor) p (all_ops ps) all) in
-      let both = sum_both cost (phase_acts f.threads p) (acts_from f.threads keepers (n + 1) ps) in
-      omega (arith, this, rest, both, ops_both p (all_ops ps), phase n, suc-mul (length ps + 1) mark)
+      let rest = of_later keepers (n + 1) ps in grind (arith, rest, of_phase, all_front, all_back, sum_both, ops_both, suc-mul)
 
   -- The acts of a plan cost at most what its operations may, and a mark for each phase and one for the close.
   pub plan_sums_at_most : (keepers : ℕ) (phases : List (List Op)) → ArePlanned f (all_ops phases)
@@ -112,10 +109,10 @@ own_cost t a b same = grind arith
 chore_owns : (k : ℕ) (idle : List ℕ) (chore : Chore) → own_costs_of k (acts_of_chore idle chore) ≡ 0
 chore_owns k idle chore = search (arith, free_map)
 
+-- whether it is guarded or not, by computing
 kept_owns : (k : ℕ) (keeper : Option ℕ) (op : Op)
     → own_costs_of k (act_kept keeper op ∷ (Settles op.actor ∷ [])) ≡ (if op.actor == k then cost_of_what op.what else 0) + 0
-kept_owns k None op = refl
-kept_owns k (Some keeper) op = refl
+kept_owns k a op = search arith
 
 work_owns : (f : Profile) (k : ℕ) (idle : List ℕ) (op : Op) (work : Work) → work_of op.what ≡ work
     → own_costs_of k (acts_of_work idle op work) ≤ (if op.actor == k then records_of_work f work else 0)
@@ -125,6 +122,7 @@ work_owns f k idle op work is = search (arith, kept_owns, own_cost, chore_owns)
 its_own : (t : Bool) (n : ℕ) → t ≡ true → n ≤ (if t then 1 + n else 0)
 its_own t n is = grind arith
 
+-- A guarded request and what settles it end the backing of no page.
 kept_unbacks : (f : Profile) (keeper : Option ℕ) (op : Op) → unbacks_of f (act_kept keeper op ∷ (Settles op.actor ∷ [])) ≤ 0
 kept_unbacks f keeper op = grind arith
 
@@ -145,21 +143,24 @@ own_sum f k (op ∷ ops) = ap (λ n. (if op.actor == k then records_of_what f op
 pub plan_costs : (f : Profile) (keepers : ℕ) (phases : List (List Op)) → ArePlanned f (all_ops phases)
     → costs_of f (acts_of f.threads keepers phases) ≤ records_of_ops f (all_ops phases) + (length phases + 1)
 plan_costs f keepers phases all =
-    let most = plan_sums_at_most f (cost_of_act f) (λ op. records_of_what f op.what) 1 (λ idle op few is. work_costs f idle op (work_of op.what) refl few) (λ k. refl) (λ k. refl) (λ k. refl) (λ n. refl) refl keepers phases all in
+    let most = plan_sums_at_most f (cost_of_act f) (λ op. records_of_what f op.what) 1 (λ idle op few is. work_costs f idle op (work_of op.what) refl few)
+    (λ k. refl) (λ k. refl) (λ k. refl) (λ n. refl) refl keepers phases all in
     omega (arith, most, records_sum f (all_ops phases))
 
 -- The acts of an actor cost at most the records that its operations may make.
 pub plan_owns : (f : Profile) (keepers k : ℕ) (phases : List (List Op)) → ArePlanned f (all_ops phases)
     → own_costs_of k (acts_of f.threads keepers phases) ≤ own_records f k (all_ops phases)
 plan_owns f keepers k phases all =
-    let most = plan_sums_at_most f (own_cost_of_act k) (λ op. if op.actor == k then records_of_what f op.what else 0) 0 (λ idle op few is. work_owns f k idle op (work_of op.what) refl) (λ j. refl) (λ j. refl) (λ j. refl) (λ n. refl) refl keepers phases all in
+    let most = plan_sums_at_most f (own_cost_of_act k) (λ op. if op.actor == k then records_of_what f op.what else 0) 0
+    (λ idle op few is. work_owns f k idle op (work_of op.what) refl) (λ j. refl) (λ j. refl) (λ j. refl) (λ n. refl) refl keepers phases all in
     omega (arith, most, own_sum f k (all_ops phases))
 
 -- The acts of a plan unback at most as many pages as the scavenger's operations may make records.
 pub plan_unbacks : (f : Profile) (keepers : ℕ) (phases : List (List Op)) → ArePlanned f (all_ops phases)
     → unbacks_of f (acts_of f.threads keepers phases) ≤ own_records f 0 (all_ops phases)
 plan_unbacks f keepers phases all =
-    let most = plan_sums_at_most f (unbacks_of_act f) (λ op. if op.actor == 0 then records_of_what f op.what else 0) 0 (λ idle op few is. work_unbacks f idle op (work_of op.what) is) (λ j. refl) (λ j. refl) (λ j. refl) (λ n. refl) refl keepers phases all in
+    let most = plan_sums_at_most f (unbacks_of_act f) (λ op. if op.actor == 0 then records_of_what f op.what else 0) 0
+    (λ idle op few is. work_unbacks f idle op (work_of op.what) is) (λ j. refl) (λ j. refl) (λ j. refl) (λ n. refl) refl keepers phases all in
     omega (arith, most, own_sum f 0 (all_ops phases))
 
 -- ---- what acts fit to
@@ -176,11 +177,13 @@ fits_chore : (f : Profile) (limit : ℕ) (asked : List ℕ) (chore : Chore) (idl
     → AreFit f limit asked more → AreFit f limit asked (acts_of_chore idle chore ++ more)
 fits_chore f limit asked chore idle more sound fit = search (arith, skip_stops)
 
+-- They fit where the operation's keeper is one of the region.
 kept_fits : (f : Profile) (limit : ℕ) (asked : List ℕ) (keeper : Option ℕ) (op : Op) (more : List Act)
     → MatchOption keeper (Unit {0}) (λ k. IsThread f k × (op.actor < k)) → IsThread f op.actor → IsFitWhat f limit asked op.what
     → AreFit f limit (asked_after op.what asked) more → AreFit f limit asked (act_kept keeper op ∷ (Settles op.actor ∷ more))
 kept_fits f limit asked keeper op more h i j m = grind arith
 
+-- Each work of an operation fits.
 fits : (f : Profile) (limit : ℕ) (asked : List ℕ) (op : Op) (work : Work) (idle : List ℕ) (more : List Act) → KeepsAbove f op → work_of op.what ≡ work
     → MatchOption (of_task request_of work) (Unit {0}) (λ r. r.name < limit) → IsActorBy f work op.actor → IsSoundWork f asked work
     → AreFit f limit (asked_with (of_task request_of work) asked) more → AreFit f limit asked (acts_of_work idle op work ++ more)
@@ -192,7 +195,7 @@ pub ops_fit : (f : Profile) (limit : ℕ) (idle : List ℕ) (ops rest : List Op)
 ops_fit f limit idle [] rest more below go asked sound above = go asked sound above
 ops_fit f limit idle (op ∷ ops) rest more below go asked sound above =
     subst (AreFit f limit asked) (sym (append_assoc (acts_of_op idle op) (acts_of_ops idle ops) more))
-    (fits f limit asked op (work_of op.what) idle (acts_of_ops idle ops ++ more) above.0 refl below.0 sound.0 sound.1 (ops_fit f limit idle ops rest more below.1 go (asked_after op.what asked) sound.2 above.1))
+    (fits f limit asked op (work_of op.what) idle _ above.0 refl below.0 sound.0 sound.1 (ops_fit f limit idle ops rest more below.1 go _ sound.2 above.1))
 
 wakes_fit : (f : Profile) (limit : ℕ) (asked : List ℕ) (ks : List ℕ) (more : List Act) → AreFit f limit asked more → AreFit f limit asked (map Wakes ks ++ more)
 wakes_fit f limit asked [] more fit = fit
@@ -219,7 +222,7 @@ later_fit : (f : Profile) (limit threads keepers n : ℕ) (phases : List (List O
     → Continues f limit (all_ops phases) (acts_from threads keepers n phases)
 later_fit f limit threads keepers n [] below asked sound above = ends_fit f limit asked (numbers_from 1 threads) (numbers_from (threads + 1) keepers)
 later_fit f limit threads keepers n (p ∷ ps) below asked sound above =
-    phase_fit f limit threads p (all_ops ps) (acts_from threads keepers (n + 1) ps) below (later_fit f limit threads keepers (n + 1) ps (back_below limit p (all_ops ps) below)) asked sound above
+    phase_fit f limit threads p (all_ops ps) _ below (later_fit f limit threads keepers (n + 1) ps (back_below limit p (all_ops ps) below)) asked sound above
 
 -- The acts of a plan fit where its operations are sound and below a limit.
 pub acts_fit : (f : Profile) (limit threads keepers : ℕ) (phases : List (List Op)) → AreBelow limit (all_ops phases) → AreSound f [] (all_ops phases)
@@ -235,6 +238,7 @@ of_each : (threads : ℕ) (acts : List Act) → AllByRecursion (IsOfThread threa
 of_each threads [] all = tt
 of_each threads (act ∷ acts) all = (all.0, of_each threads acts all.1)
 
+-- They are acts of a thread where the operation is.
 of_kept : (threads : ℕ) (keeper : Option ℕ) (op : Op) → op.actor ≤ threads
     → AllByRecursion (IsOfThread threads) (act_kept keeper op ∷ (Settles op.actor ∷ []))
 of_kept threads keeper op h = grind arith
@@ -248,7 +252,4 @@ of_work f idle op (Work.Chore chore) of = all_of_chore (IsOfThread f.threads) (�
 pub of_threads : (f : Profile) (keepers : ℕ) (phases : List (List Op)) → ArePlanned f (all_ops phases)
     → AreOfThreads f.threads (acts_of f.threads keepers phases)
 of_threads f keepers phases all =
-    let So = IsOfThread f.threads in
-    let close = all_of_close So f.threads keepers tt (λ k le. tt) (λ k. tt) in
-    of_each f.threads (acts_of f.threads keepers phases)
-    (all_acts So (λ op. IsActorOf f op.what op.actor) f.threads keepers (λ idle op within of. of_work f idle op (work_of op.what) of) (λ k le. tt) (λ n. tt) close phases all)
+    search (arith, all_of_close, of_each, all_acts, of_work)

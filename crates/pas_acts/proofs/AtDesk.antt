@@ -1,58 +1,54 @@
 -- The acts of a thread at its desk, and what one actor's acts come to for it: an operation, its stop, and its reading of the epoch.
 use Rattle.std.proofs.Common.{◌≡◌, ℕ, ◌+◌, ◌≤◌, List, ◌++◌, length, ap, sym, ◌∙◌, subst, arith, length-append, ◌==◌, if◌then◌else◌, inr, [], ◌∷◌, Option, None}
-use Rattle.std.proofs.Common.{refl, append-nil, eq-eqb}
-use Rattle.pas_profile.specs.declared.{profile.Profile.Profile, name.Block.Block, event.Range.Range}
-use Rattle.pas_steps.specs.{Calls.Calls, Events.events_of, Events.events_by, Lists.Whole, Lists.part, Views.View, Agreement.Agreed}
-use Rattle.pas_steps.specs.Desks.{Standing, CanCall, triples, Seat}
-use Rattle.pas_steps.specs.declared.step.Made.{Made}
+use Rattle.std.proofs.Common.{refl, append-nil, eq-eqb, ◌≢◌, Bool, true, Some, ne_eqb, max, reverse}
+use Rattle.pas_profile.specs.declared.{profile.Profile.Profile, name.Block.Block, event.Range.Range, event.Event.Event, event.Outcome.Outcome, word.Word.Word}
+use Rattle.pas_steps.specs.{Calls.Calls, Events.events_by, Lists.Whole, Lists.part, Views.View, Agreement.Agreed, Unknown.unknown_pages, Clear.HasNothing}
+use Rattle.pas_steps.specs.Desks.{Standing, CanCall, triples, Makes, made}
+use Rattle.pas_steps.specs.declared.step.{Made.Made, Step.TheVariants.Look, Step.TheVariants.Tick}
 use Rattle.pas_steps.proofs.{Frames.events_split, Parts.part_of_own, Called.call_none, Called.call_as, SpareRoom.Spares, Parts.part_of_others}
-use Rattle.pas_steps.proofs.{Unknown.unknown_no_more}
+use Rattle.pas_steps.proofs.{Unknown.unknown_no_more, Apart.no_events}
 use Rattle.pas_report.specs.Rooms.{records_in, room_of, Records}
 use Rattle.pas_report.specs.declared.record.{Record.Record, Said.Said}
 use Rattle.pas_cache.specs.{Caches.Cached, Caches.AtRest, Calls.Begins, Calls.SettlesEach}
 use Rattle.pas_answers.specs.Answers.{Progress, having, Answer, answer_of, begun, settled, stopped, epoch_look, after_answer, after_settling, after_wake}
-use Rattle.pas_answers.specs.Answers.{after_stop, IsAnswered, IsStopped, records_of, said_by}
-use Rattle.pas_answers.specs.Calls.{owed_events, named_by, MayAnswer, AnswersMeant}
-use Rattle.pas_answers.specs.{Indexes.IsNamedFor, Indexes.request_made, Fit.IsFitWhat, Fit.cost_of_what, Reaching.Reaches}
-use Rattle.pas_acts.specs.{Works.Later, Works.Sits, Turns.RestsAt, Turns.Moves, Keepers.StandsAt, Keepers.StandsStill, Turns.LeavesRest}
-use Rattle.pas_acts.specs.AtDesks.{and_for, Here, here, MayOperate, ThreadActs, GoesThrough}
+use Rattle.pas_answers.specs.Answers.{after_stop, IsAnswered, IsStopped, records_of, said_by, Books, with_book, after_tick, after_pass, after_reading}
+use Rattle.pas_answers.specs.Calls.{owed_events, named_by, MayAnswer, AnswersMeant, MayStand}
+use Rattle.pas_answers.specs.{Indexes.IsNamedFor, Indexes.request_made, Reaching.Reaches, TicksAndPasses.AnswersTick, TicksAndPasses.AnswersPass}
+use Rattle.pas_answers.specs.{PassRecords.record_of, PassRecords.records_of_pass, Reaching.AnswersOp, Reaching.Advances}
+use Rattle.pas_answers.specs.Fit.{IsFitWhat, cost_of_what, cost_of_act, unbacks_of_act}
+use Rattle.pas_acts.specs.Works.{Later, Sits}
+use Rattle.pas_acts.specs.Turns.{RestsAt, Moves, LeavesRest, Says}
+use Rattle.pas_acts.specs.Keepers.{StandsAt, StandsStill, keeper_has, KeeperHas, HasStill, LaterKept, and_try, KeeperAt, KeeperTries, KeeperLowers}
+use Rattle.pas_acts.specs.AtDesks.{and_for, Here, here, MayOperate, ThreadActs, GoesThrough, HasRoomAt, for_act, ScavengerActs}
 use Rattle.pas_trace.specs.declared.{plan.Op.Op, plan.What.What, plan.What.TheVariants.Stop, item.Request.Request}
-use Rattle.pas_trace.specs.Acts.{Act, Operates, Settles, StopsIdle, Wakes, Ends}
-use Rattle.pas_answers.proofs.{Kept.none_stands, Kept.request_meant, OwnRecords.piece_of, OwnRecords.events_of_piece}
-use Rattle.pas_answers.proofs.SingleActs.{its_cache, other_cache, if_same, records_count}
+use Rattle.pas_trace.specs.Acts.{Act, Operates, Settles, StopsIdle, Wakes, Ends, Guards, Ticks, MakesPass, ReadsEpoch}
+use Rattle.pas_answers.proofs.SingleActs.{none_stands, request_meant, its_cache, other_cache, if_same, records_count, few_unbacks, reads}
+use Rattle.pas_answers.proofs.Tries.{swept_count}
+use Rattle.pas_answers.proofs.OwnRecords.{piece_of, events_of_piece, swept_each, try_each, pass_of}
+use Rattle.pas_trace.specs.{Asked.request_in, Reasons.cost_of_size}
+use Rattle.pas_guard.specs.{Books.FitsBook, Books.guards_in, Raises.RaiseSteps, Sweeps.sweeping}
+use Rattle.pas_guard.specs.declared.book.{Guard.Guard, GuardBook.GuardBook}
+use Rattle.pas_answers.specs.Guarding.{Tried, try_steps, IsTried, after_trying, after_giving, IsLowered, after_lowering}
+use Rattle.pas_answers.specs.Keeping.{owed_by_keeper, cost_of_try, MayTry, TriesRequest, MayLowerAll, LowersAll}
+use Rattle.std.proofs.lemmas.List.{length-map, length-reverse}
+use Rattle.pas_scavenger.specs.Passes.{PassSteps}
 
 -- ---- at the desk
-pub can_begin : {f : Profile} {k : ℕ} {σ : Standing} {c : Cached} {out : Records} {later : Later} {p : Progress} → RestsAt f k σ c out later p
-    → CanCall σ (AtRest σ.seat.profile c)
-can_begin {k = k} {c = c} {p = p} at = record {
-  view = part k p.list;
-  whole = p.list;
-  stood = at.sits.stood;
-  met = subst (λ (g : Profile). AtRest g c (part k p.list)) (sym at.sits.profile) at.sits.rest;
-}
+pub can_begin : {σ : Standing} {f k c out later p : _} → RestsAt f k σ c out later p → CanCall σ (AtRest σ.seat.profile c)
+can_begin {k = k} {c = c} {p = p} at = search arith
 
 -- what is said of the desk's seat is said of its actor
-pub of_seat : {f : Profile} {k : ℕ} {Rest : View → Type 0} {σ : Standing} {l : Whole} {need : ℕ} → Sits f k Rest σ l need → (P : ℕ → Profile → Type 0)
+of_seat : {f : Profile} {k : ℕ} {Rest : View → Type 0} {σ : Standing} {l : Whole} {need : ℕ} → Sits f k Rest σ l need → (P : ℕ → Profile → Type 0)
     → P σ.seat.actor σ.seat.profile → P k f
 of_seat {f} {k} {σ = σ} s P is = subst (λ (g : Profile). P k g) s.profile (subst (λ (j : ℕ). P j σ.seat.profile) s.actor is)
 
 -- ---- after its steps
 -- the actor sits there still, where the events of the steps are paid for
-pub sits_after : {f : Profile} {k : ℕ} {Rest Rest' : View → Type 0} {σ σ' : Standing} {l : Whole} {need need' : ℕ} {steps : List Made} → Sits f k Rest σ l need
+sits_after : {f : Profile} {k : ℕ} {Rest Rest' : View → Type 0} {σ σ' : Standing} {l : Whole} {need need' : ℕ} {steps : List Made} → Sits f k Rest σ l need
     → Calls σ σ' Rest (λ v w. Rest' w) steps
     → length (events_by k (part k l) steps) + need' ≤ need → Sits f k Rest' σ' (triples k steps ++ l) need'
 sits_after {f} {k} {Rest} {Rest'} {σ} {σ'} {l} {need} {need'} {steps} s calls few =
-    let v = part k l in
-    let seat = calls.adds.seat_is in
-    let mine : part k (triples k steps ++ l) ≡ steps ++ v = part_of_own k steps l in
-    let grown = ap length (events_split k steps v) ∙ length-append (events_by k v steps) (events_of k v) in
-    record {
-      actor = ap (λ (t : Seat). t.actor) seat ∙ s.actor;
-      profile = ap (λ (t : Seat). t.profile) seat ∙ s.profile;
-      stood = subst (λ (z : View × ℕ). σ'.stands z.0 (triples z.1 steps ++ l)) (λ i. (sym mine i, s.actor i)) (calls.adds.added v l s.stood s.rest);
-      rest = subst Rest' (sym mine) (calls.leads.from v s.rest (calls.adds.agreed v l s.stood s.rest));
-      room = subst (λ (z : View × Seat). length (events_of k z.0) + need' ≤ z.1.room) (λ i. (sym mine i, sym seat i)) (omega (arith, grown, few, s.room));
-    }
+    search (arith, part_of_own, events_split, length-append)
 
 -- ---- while another actor makes steps
 pub stands_at : {f : Profile} {k : ℕ} {Rest : View → Type 0} {σ : Standing} {l : Whole} {need : ℕ} → Sits f k Rest σ l need → StandsAt σ l
@@ -62,18 +58,10 @@ stands_at {σ = σ} {l = l} s = subst (λ (j : ℕ). σ.stands (part j l) l) (sy
 pub sits_still : {f : Profile} {k : ℕ} {Rest : View → Type 0} {σ σ' : Standing} {l m : Whole} (need : View → ℕ) → StandsStill σ σ' l m → part k m ≡ part k l
     → Sits f k Rest σ l (need (part k l)) → Sits f k Rest σ' m (need (part k m))
 sits_still {f} {k} {Rest} {σ} {σ'} {l} {m} need still same s =
-    let actor : σ'.seat.actor ≡ k = ap (λ (t : Seat). t.actor) still.seat_is ∙ s.actor in
-    let stands = still.stands (stands_at s) (subst (λ (j : ℕ). part j m ≡ part j l) (sym s.actor) same) in
-    record {
-      actor = actor;
-      profile = ap (λ (t : Seat). t.profile) still.seat_is ∙ s.profile;
-      stood = subst (λ (j : ℕ). σ'.stands (part j m) m) actor stands;
-      rest = subst Rest (sym same) s.rest;
-      room = subst (λ (z : View × Seat). length (events_of k z.0) + need z.0 ≤ z.1.room) (λ i. (sym same i, sym still.seat_is i)) s.room;
-    }
+    search arith
 
 -- it rests again, where the records that came to its own have the events of the steps, and are paid for
-pub rests_after : {f : Profile} {k : ℕ} {σ σ' : Standing} {c c' : Cached} {out out' : Records} {later : Later} {p q : Progress} (cost : ℕ) (own : List Record)
+rests_after : {f : Profile} {k : ℕ} {σ σ' : Standing} {c c' : Cached} {out out' : Records} {later : Later} {p q : Progress} (cost : ℕ) (own : List Record)
     → RestsAt f k σ c out (and_for cost later) p → (moves : Moves k (AtRest f c) (AtRest f c') σ σ' p q) → q.caches k ≡ c'
     → records_in out' ≡ records_in out ++ own → room_of out' ≡ room_of out → length (events_by k (part k p.list) moves.steps) ≤ length own
     → length own + owed_events f c' (part k q.list) ≤ cost + owed_events f c (part k p.list) → RestsAt f k σ' c' out' later q
@@ -90,19 +78,17 @@ pub rests_still : {f : Profile} {k : ℕ} {σ σ' : Standing} {c : Cached} {out 
 rests_still {f} {k} {σ} {σ'} {c} {out} {later} still parts caches at = search (arith, sits_still)
 
 -- ---- with less room
-pub sits_for : {f : Profile} {k : ℕ} {Rest : View → Type 0} {σ : Standing} {l : Whole} {need need' : ℕ} → Sits f k Rest σ l need → need' ≤ need
-    → Sits f k Rest σ l need'
+pub sits_for : {Rest : View → Type 0} {f k σ l need need' : _} → Sits f k Rest σ l need → need' ≤ need → Sits f k Rest σ l need'
 sits_for s less = let room = s.room in record { actor = s.actor; profile = s.profile; stood = s.stood; rest = s.rest; room = omega (arith, room, less) }
 
 -- A thread that rests with some room rests with less.
 pub rests_for : {f : Profile} {k : ℕ} {σ : Standing} {c : Cached} {out : Records} {later later' : Later} {p : Progress} → RestsAt f k σ c out later p
     → later'.events ≤ later.events → later'.records ≤ later.records → RestsAt f k σ c out later' p
-rests_for at events records = let spare = at.spare in record { sits = sits_for at.sits (omega (arith, events)); cache = at.cache; spare = omega (arith, spare, records) }
+rests_for at events records = search (arith, sits_for)
 
 -- ---- before an operation
 -- it is what is asked for
-pub may_do : {f : Profile} {k : ℕ} {w what : What} {meant : Option Block} {old : Here} {later : Later} {p : Progress} → w ≡ what
-    → MayOperate f k w meant old later p → MayOperate f k what meant old later p
+pub may_do : {f k w what meant old later p : _} → w ≡ what → MayOperate f k w meant old later p → MayOperate f k what meant old later p
 may_do {f} {k} {meant = meant} {old = old} {later = later} {p = p} is may = subst (λ (x : What). MayOperate f k x meant old later p) is may
 
 -- An operation that may be done asks for what fits the region.
@@ -115,18 +101,7 @@ pub may_answer : {f k what meant σ c out later p : _} (spare : ℕ)
     → Spares σ spare → MayOperate f k what meant (here σ c out) later p
     → CanCall σ (MayAnswer σ.seat.profile c what spare out)
 may_answer {f} {k} {what} {meant} {σ} {c} {out} {later} {p} spare fits may =
-    let v = part k p.list in
-    let s = may.rests.sits in
-    let is = subst (λ (j : ℕ). spare + length (events_of j v) ≡ σ.seat.room) s.actor (fits v p.list s.stood) in
-    record {
-      view = v;
-      whole = p.list;
-      stood = s.stood;
-      met = subst (λ (g : Profile). MayAnswer g c what spare out v) (sym s.profile) record {
-        may = record { rest = s.rest; room = omega (arith, is, s.room) };
-        records = omega (arith, may.rests.spare);
-      };
-    }
+    search arith
 
 -- ---- after it
 module _ {f k what meant came σ σ' c c1 out out' later p : _} (may : MayOperate f k what meant (here σ c out) later p)
@@ -144,8 +119,9 @@ module _ {f k what meant came σ σ' c c1 out out' later p : _} (may : MayOperat
   the_answer = answer_of steps did.said did.performs.found (named_by what came ++ p.names) c1
 
   is_answered : IsAnswered f k what (having p.names v c) the_answer
-  is_answered = of_seat may.rests.sits (λ (j : ℕ) (g : Profile). IsAnswered g j what (having p.names v c) the_answer) (did.performs.answered v p.list may.rests.sits.stood was_at_rest p.names may.means may.known)
+  is_answered = search (arith, of_seat, was_at_rest)
 
+  -- The request was answered so.
   answered : IsAnswered f k what (having p.names v (p.caches k)) the_answer
   answered = subst (λ (d : Cached). IsAnswered f k what (having p.names v d) the_answer) (sym may.rests.cache) is_answered
 
@@ -156,7 +132,7 @@ module _ {f k what meant came σ σ' c c1 out out' later p : _} (may : MayOperat
   piece = records_of (events_by k v steps) ++ said_by k did.said
 
   pushed_so : records_in out' ≡ records_in out ++ piece
-  pushed_so = of_seat may.rests.sits (λ (j : ℕ) (g : Profile). records_in out' ≡ records_in out ++ (records_of (events_by j v steps) ++ said_by j did.said)) (did.pushed v p.list may.rests.sits.stood was_at_rest)
+  pushed_so = search (arith, of_seat, was_at_rest)
 
   few_so : length (events_by k v steps) + length (said_by k did.said) + owed_events f c1 (steps ++ v) ≤ cost_of_what what + owed_events f c v
   few_so = search (arith, of_seat, was_at_rest)
@@ -178,7 +154,7 @@ module _ {f k what meant came σ σ' c c1 out out' later p : _} (may : MayOperat
 
 -- what its cache noted is handed on
 pub settled_rest : {f : Profile} {c c' : Cached} (w : View) → c' ≡ settled c → AtRest f c w → AtRest f c' w
-settled_rest {f} {c} {c'} w is rest = subst (λ (d : Cached). AtRest f d w) (sym is) record { locals = rest.locals; few = rest.few; entries = rest.entries; few_entries = rest.few_entries }
+settled_rest {f} {c} {c'} w is rest = search arith
 
 -- what an operation costs its thread
 pub own_cost : (op : Op) → (if op.actor == op.actor then cost_of_what op.what else 0) ≡ cost_of_what op.what
@@ -205,7 +181,8 @@ module _ {Door : Type 0} (Answers : Door → Door → ℕ → ℕ → Option ℕ
       let a = the_answer may did in
       let midway = after_answer p k a in
       let q = after_settling midway k in
-      let calls : Calls σ σ' (AtRest f c) (λ x w. AtRest f c' w) a.steps = call_as (λ x w. AtRest f c' w) (calls_so may did) (λ x met. met) (λ x w met rest. settled_rest w is rest) in
+      let calls : Calls σ σ' (AtRest f c) (λ x w. AtRest f c' w) a.steps =
+      call_as (λ x w. AtRest f c' w) (calls_so may did) (λ x met. met) (λ x w met rest. settled_rest w is rest) in
       let moves : Moves k (AtRest f c) (AtRest f c') σ σ' p q = record { steps = a.steps; list_is = refl; calls = calls } in
       let log = ap (λ (d : Cached). length d.log) is in
       let paid = paid_so may did c' log in (
@@ -229,9 +206,9 @@ module _ {Door : Type 0} (Answers : Door → Door → ℕ → ℕ → Option ℕ
       )
 
 -- ---- a thread is stopped
-pub may_stop : {f : Profile} {k : ℕ} {σ : Standing} {c : Cached} {out : Records} {later : Later} {p : Progress} → RestsAt f k σ c out later p
-    → MayOperate f k Stop None (here σ c out) later p
-may_stop {f} at = record { rests = rests_for at (omega arith) (omega arith); limit = 0; asked = []; fit = (tt, tt); known = tt; means = tt; stands = none_stands f }
+may_stop : {f k σ c out later p : _} → RestsAt f k σ c out later p → MayOperate f k Stop None (here σ c out) later p
+may_stop {f} at =
+    record { rests = rests_for at (omega arith) (omega arith); limit = 0; asked = []; fit = (tt, tt); known = tt; means = tt; stands = none_stands f }
 
 module _ {f k σ σ' c c1 out out' later p : _} (at : RestsAt f k σ c out later p) (did : AnswersMeant Stop None None c c1 out out' σ σ') where
   abbrev flush : List Made
@@ -310,7 +287,8 @@ has_begun {f} {k} {σ} {σ'} {c} {c'} {out} {later} {p} at did =
     let v = part k p.list in
     let steps = epoch_look did.epoch in
     let q = after_wake p k did.epoch in
-    let calls : Calls σ σ' (AtRest f c) (λ v w. AtRest f c' w) steps = subst (λ (g : Profile). Calls σ σ' (AtRest g c) (λ v w. AtRest g c' w) steps) at.sits.profile did.calls in
+    let calls : Calls σ σ' (AtRest f c) (λ v w. AtRest f c' w) steps =
+    subst (λ (g : Profile). Calls σ σ' (AtRest g c) (λ v w. AtRest g c' w) steps) at.sits.profile did.calls in
     let agreed : Agreed f v steps = subst (λ (g : Profile). Agreed g v steps) at.sits.profile (calls.adds.agreed v p.list at.sits.stood at.sits.rest) in
     let moves : Moves k (AtRest f c) (AtRest f c') σ σ' p q = record { steps = steps; list_is = refl; calls = calls } in
     let unknown = unknown_no_more f steps v agreed in
@@ -338,6 +316,237 @@ has_begun {f} {k} {σ} {σ'} {c} {c'} {out} {later} {p} at did =
     )
 
 -- ---- what a thread's acts leave as it was
-pub leaves_rest : {f : Profile} {k : ℕ} {acts : List Act} {told : List Record} {old new : Here} {later : Later} {p : Progress}
-    → (did : ThreadActs f k acts [] told old new later p) → LeavesRest k p did.reached
+pub leaves_rest : {f k acts told old new later p : _} → (did : ThreadActs f k acts [] told old new later p) → LeavesRest k p did.reached
 leaves_rest {k = k} {p = p} did = search (arith, part_of_others)
+
+-- A keeper and the scavenger at their desks: a guarded request that is tried, the close, and what the scavenger's acts come to.
+
+-- ---- books of which that of one keeper became another
+its_book : (books : Books) (k : ℕ) (guards : List Guard) → with_book books k guards k ≡ guards
+its_book books k guards = ap (λ (b : Bool). if b then guards else books k) (eq-eqb k k refl)
+
+-- A keeper's new book leaves that of every other actor as it was.
+pub other_book : (books : Books) (k j : ℕ) (guards : List Guard) → j ≢ k → with_book books k guards j ≡ books j
+other_book books k j guards ne = ap (λ (b : Bool). if b then guards else books j) (ne_eqb j k ne)
+
+-- ---- a guarded request is answered
+-- by its keeper, which gave a block
+pub guarded_by_keeper : (f : Profile) (keeper : ℕ) (op : Op) (r : Request) (block : Block) (p : Progress) (t : Tried) → request_in op.what ≡ Some r
+    → IsTried f keeper r (part keeper p.list) (p.books keeper) t → t.block ≡ Some block
+    → Advances f (Guards keeper op) p (after_giving (after_trying p keeper t) r.name block)
+guarded_by_keeper f keeper op r block p t asks is given =
+    search arith
+
+-- by its thread, where the keeper gave none
+pub guarded_by_thread : (f : Profile) (keeper : ℕ) (op : Op) (r : Request) (p q : Progress) (t : Tried) → request_in op.what ≡ Some r
+    → IsTried f keeper r (part keeper p.list) (p.books keeper) t → t.block ≡ None
+    → AnswersOp f op (after_trying p keeper t) q → Advances f (Guards keeper op) p q
+guarded_by_thread f keeper op r p q t asks is given did =
+    search arith
+
+-- ---- at the desk
+abbrev At : Profile → ℕ → Standing → GuardBook → Records → LaterKept → Progress → Type 0
+At f k σ book out later p = KeeperAt f k (keeper_has σ book out) later p
+
+-- what the keeper has in hand is said of its desk's seat
+fits_seat : {f : Profile} {k : ℕ} {σ : Standing} {book : GuardBook} {out : Records} {later : LaterKept} {p : Progress} → At f k σ book out later p
+    → FitsBook σ.seat.profile (guards_in book) (part k p.list)
+fits_seat {k = k} {book = book} {p = p} at = subst (λ (g : Profile). FitsBook g (guards_in book) (part k p.list)) (sym at.sits.profile) at.sits.rest
+
+-- what it owes then
+sits_owing : {f : Profile} {k : ℕ} {Rest : View → Type 0} {σ : Standing} {l : Whole} {v : View} (n : ℕ) → part k l ≡ v
+    → Sits f k Rest σ l (unknown_pages f v + n) → Sits f k Rest σ l (unknown_pages f (part k l) + n)
+sits_owing {f} {k} {Rest} {σ} {l} {v} n mine s = subst (λ (w : View). Sits f k Rest σ l (unknown_pages f w + n)) (sym mine) s
+
+-- the keeper is there still, while another actor makes steps
+pub keeper_still : {f : Profile} {k : ℕ} {has has' : KeeperHas} {later : LaterKept} {p q : Progress} → HasStill has has' p.list q.list
+    → part k q.list ≡ part k p.list → q.books k ≡ p.books k → KeeperAt f k has later p → KeeperAt f k has' later q
+keeper_still {f} {k} {has} {has'} {later} {p} {q} still parts books at = search (arith, sits_still)
+
+-- ---- a request is tried
+pub may_try : {f : Profile} {k : ℕ} {σ : Standing} {book : GuardBook} {out : Records} {p : Progress} (later : LaterKept) (size spare : ℕ) → Spares σ spare
+    → At f k σ book out (and_try size later) p → CanCall σ (MayTry σ.seat.profile book size spare out)
+may_try {f} {k} {σ} {book} {out} {p} later size spare fits at =
+    search arith
+
+-- by whether a block was given
+few_cost : (size : ℕ) (block : Option Block) → cost_of_try size block ≤ cost_of_size size + 2
+few_cost size a = search arith
+
+-- the book has one guard more at most
+one_more : (f : Profile) (heap k : ℕ) (guards guards' : List Guard) (answer : Option Block) (steps : List Made)
+    → RaiseSteps f heap k guards guards' answer steps → length guards' ≤ length guards + 1
+one_more f heap k guards guards' answer steps h = grind (arith, length-append)
+
+few_guards : (f : Profile) (keeper : ℕ) (r : Request) (v : View) (guards : List Guard) (t : Tried) → IsTried f keeper r v guards t
+    → length t.guards ≤ length guards + 1
+few_guards f keeper r v guards t is = omega (arith, swept_count, one_more)
+
+-- A request that a keeper tried at its desk is one that it tried in the replay.
+pub has_tried : {f k σ σ' book book' out out' p block : _} (later : LaterKept) (r : Request)
+    → At f k σ book out (and_try r.size later) p → TriesRequest r book book' out out' σ σ' block → MayStand σ.seat.profile block
+    → KeeperTries f k r block (keeper_has σ book out) (keeper_has σ' book' out') later p
+has_tried {f} {k} {σ} {σ'} {book} {book'} {out} {out'} {p} {block} later r at did given =
+    let v = part k p.list in
+    let s = at.sits in
+    let fits = fits_seat at in
+    let steps = did.steps in
+    let got = of_seat s (λ (j : ℕ) (g : Profile). (said : List Record)
+    × IsTried g j r v (guards_in book) (record { steps = steps; records = said; block = block; guards = guards_in book' })
+    × (records_in out' ≡ records_in out ++ said)
+    × (length said + owed_by_keeper g (guards_in book') (steps ++ v) ≤ cost_of_try r.size block + owed_by_keeper g (guards_in book) v)) (did.tried v p.list s.stood fits) in
+    let few = of_seat s (λ (j : ℕ) (g : Profile). length (events_by j v steps) + unknown_pages g (steps ++ v) ≤ cost_of_size r.size + unknown_pages g v)
+    (did.few v fits (did.calls.adds.agreed v p.list s.stood fits)) in
+    let calls : Calls σ σ' (FitsBook f (guards_in book)) (λ u w. FitsBook f (guards_in book') w) steps =
+    subst (λ (g : Profile). Calls σ σ' (FitsBook g (guards_in book)) (λ u w. FitsBook g (guards_in book') w) steps) s.profile did.calls in
+    let tried : Tried = record { steps = steps; records = got.0; block = block; guards = guards_in book' } in
+    let q = after_trying p k tried in
+    let mine : part k q.list ≡ steps ++ v = part_of_own k steps p.list in
+    let owed = ap (λ (w : View). owed_by_keeper f (guards_in book') w) mine in
+    let longer = ap (λ (rs : List Record). length rs) got.2 ∙ length-append (records_in out) got.0 in
+    let paid = got.3 in
+    let room = did.room in
+    let size = did.size in
+    record {
+      tried = tried;
+      is = subst (λ (gs : List Guard). IsTried f k r v gs tried) (sym at.book) got.1;
+      short = of_seat s (λ (j : ℕ) (g : Profile). length steps ≤ try_steps g r (guards_in book)) did.short;
+      block_is = refl;
+      given = subst (λ (g : Profile). MayStand g block) s.profile given;
+      stands = record {
+        sits = sits_owing later.events mine (sits_after s calls (omega (arith, few)));
+        book = its_book p.books k (guards_in book');
+        spare = omega (arith, longer, at.spare, room, owed, paid, few_cost r.size block);
+        places = omega (arith, at.places, size, few_guards f k r v (guards_in book) tried got.1);
+      };
+      moves = record { steps = steps; list_is = refl; calls = calls };
+      pushed = got.2;
+      room = room;
+      size = size;
+      each = try_each f k r v (guards_in book) tried got.1;
+      paid = omega (arith, paid, owed);
+    }
+
+-- ---- the close
+pub may_lower : {σ : Standing} {f k book out later p : _} → At f k σ book out later p → CanCall σ (MayLowerAll σ.seat.profile book out)
+may_lower {σ = σ} {f = f} {k = k} {book = book} {out = out} {later = later} {p = p} at =
+    search (arith, fits_seat)
+
+-- Guards that a keeper lowered at its desk are lowered in the replay.
+pub has_lowered : {f : Profile} {k : ℕ} {σ σ' : Standing} {book book' : GuardBook} {out out' : Records} {later : LaterKept} {p : Progress}
+    → At f k σ book out later p → LowersAll book book' out out' σ σ'
+    → KeeperLowers f k (keeper_has σ book out) (keeper_has σ' book' out') later p
+has_lowered {f} {k} {σ} {σ'} {book} {book'} {out} {out'} {later} {p} at did =
+    let v = part k p.list in
+    let s = at.sits in
+    let fits = fits_seat at in
+    let steps = did.steps in
+    let lowered = of_seat s (λ (j : ℕ) (g : Profile). IsLowered g j v (guards_in book) steps did.said) (did.lowered v fits) in
+    let calls : Calls σ σ' (FitsBook f (guards_in book)) (λ u w. FitsBook f (guards_in book') w) steps =
+    subst (λ (g : Profile). Calls σ σ' (FitsBook g (guards_in book)) (λ u w. FitsBook g (guards_in book') w) steps) s.profile did.calls in
+    let agreed : Agreed f v steps = subst (λ (g : Profile). Agreed g v steps) s.profile (did.calls.adds.agreed v p.list s.stood fits) in
+    let silent = ap (λ (es : List Event). length es) (no_events sweeping refl k v steps lowered.sweep.kinds) in
+    let unknown = unknown_no_more f steps v agreed in
+    let q = after_lowering p k steps did.said in
+    let mine : part k q.list ≡ steps ++ v = part_of_own k steps p.list in
+    let none = ap (λ (gs : List Guard). length gs) did.none in
+    let longer = ap (λ (rs : List Record). length rs) did.added ∙ length-append (records_in out) did.said in
+    let few = did.few in
+    let room = did.room in
+    let size = did.size in
+    record {
+      reached = q;
+      reaches = (q, (steps, did.said, subst (λ (gs : List Guard). IsLowered f k v gs steps did.said) (sym at.book) lowered, refl), refl);
+      stands = record {
+        sits = sits_owing later.events mine (sits_after s calls (omega (arith, silent, unknown)));
+        book = its_book p.books k [] ∙ sym did.none;
+        spare = omega (arith, longer, at.spare, room, ap (λ (w : View). unknown_pages f w) mine, unknown, none, few);
+        places = omega (arith, none, at.places, size);
+      };
+      none = did.none;
+      moves = record { steps = steps; list_is = refl; calls = subst (λ (gs : List Guard). Calls σ σ' (FitsBook f (guards_in book)) (λ u w. FitsBook f gs w) steps) did.none calls };
+      said = did.said;
+      records_are = refl;
+      pushed = did.added;
+      room = room;
+      size = size;
+      each = swept_each true k (guards_in book) [] did.said steps lowered.sweep.swept;
+      few = few;
+      caches = refl;
+      names = refl;
+      books = λ j ne. other_book p.books k j [] ne;
+    }
+
+-- ---- before
+pub can_scavenge : {f : Profile} {σ : Standing} {out : Records} {later : Later} {p : Progress} → HasRoomAt f σ out later p → CanCall σ HasNothing
+can_scavenge {p = p} at = record { view = part 0 p.list; whole = p.list; stood = at.sits.stood; met = at.sits.rest }
+
+-- A scavenger with room for a pass may unback each page of the region.
+pub pass_room : {f : Profile} {σ : Standing} {out : Records} {p : Progress} (later : Later) (spare : ℕ) → Spares σ spare
+    → HasRoomAt f σ out (for_act f MakesPass later) p → σ.seat.profile.pages ≤ spare
+pass_room {f} {σ} {out} {p} later spare fits at =
+    search arith
+
+-- ---- after
+-- there is room again, where the act pays for the events of its steps and for what is said
+room_again : {f : Profile} {σ σ' : Standing} {out out' : Records} {p q : Progress} (act : Act) (later : Later) → HasRoomAt f σ out (for_act f act later) p
+    → (moves : Moves 0 HasNothing HasNothing σ σ' p q) → (says : Says 0 out out' p q)
+    → length (events_by 0 (part 0 p.list) moves.steps) ≤ unbacks_of_act f act → length says.said ≤ cost_of_act f act → HasRoomAt f σ' out' later q
+room_again {f} {σ} {σ'} {out} {out'} {p} {q} act later at moves says few paid =
+    record {
+      sits = subst (λ (l : Whole). Sits f 0 HasNothing σ' l later.events) (sym moves.list_is) (sits_after at.sits moves.calls (omega (arith, few)));
+      spare = omega (arith, ap (λ (rs : List Record). length rs) says.pushed ∙ length-append (records_in out) says.said, at.spare, says.room, paid);
+    }
+
+-- A tick that was answered is an act of the scavenger.
+pub has_ticked : {f σ σ' out out' later p : _} (epoch : ℕ) → HasRoomAt f σ out (for_act f (Ticks epoch) later) p
+    → AnswersTick epoch σ σ' (records_in out) (records_in out') → room_of out' ≡ room_of out → ScavengerActs f (Ticks epoch) σ σ' out out' later p
+has_ticked {f} {σ} {σ'} {out} {out'} {later} {p} epoch at ticks room =
+    let steps : List Made = made (Tick epoch) ticks.answer ∷ [] in
+    let said : List Record = Record.Said 0 (Said.Tick (max ticks.answer epoch)) ∷ [] in
+    let q = after_tick p epoch ticks.answer in
+    let moves : Moves 0 HasNothing HasNothing σ σ' p q = record { steps = steps; list_is = refl; calls = subst (λ (ms : List Made). Calls σ σ' HasNothing (λ v w. HasNothing w) ms) ticks.steps_are ticks.calls } in
+    let added : records_in out' ≡ records_in out ++ said = cc (ticks.raised 0) in
+    let says : Says 0 out out' p q = record { said = said; records_are = refl; pushed = added; room = room; each = (λ k. refl, tt) } in
+    record { reached = q; reaches = (q, (ticks.answer, refl), refl); stands = room_again (Ticks epoch) later at moves says (omega arith) (omega arith); moves = moves; says = says; caches = refl; books = refl; names = refl }
+
+-- A pass that was answered is an act of the scavenger.
+pub has_passed : {f : Profile} {σ σ' : Standing} {spare spare' : ℕ} {found : List (ℕ × Outcome)} {out out' : Records} {later : Later} {p : Progress}
+    → HasRoomAt f σ out (for_act f MakesPass later) p
+    → AnswersPass σ σ' spare spare' found (records_in out) (records_in out') → length (records_in out') ≤ length (records_in out) + (1 + f.pages)
+    → room_of out' ≡ room_of out → ScavengerActs f MakesPass σ σ' out out' later p
+has_passed {f} {σ} {σ'} {spare} {spare'} {found} {out} {out'} {later} {p} at pass short room =
+    let epoch = pass.epoch in
+    let steps = pass.passes.steps in
+    let said = records_of_pass 0 epoch found in
+    let q = after_pass p epoch found steps in
+    let order : PassSteps f 0 epoch found steps = subst (λ (g : Profile). PassSteps g 0 epoch found steps) at.sits.profile
+    (subst (λ (k : ℕ). PassSteps σ.seat.profile k epoch found steps) at.sits.actor pass.passes.order) in
+    let added : records_in out' ≡ records_in out ++ said = pass.added ∙ ap (λ (k : ℕ). records_in out ++ records_of_pass k epoch found) at.sits.actor in
+    let moves : Moves 0 HasNothing HasNothing σ σ' p q = record { steps = steps; list_is = refl; calls = pass.passes.calls } in
+    let says : Says 0 out out' p q = record { said = said; records_are = refl; pushed = added; room = room; each = pass_of 0 epoch found } in
+    let longer = ap (λ (rs : List Record). length rs) added ∙ length-append (records_in out) said in
+    let size = length-map found (λ (x : ℕ × Outcome). record_of 0 epoch x.0 x.1) in
+    let events = ap (λ (es : List Event). length es) (order.events (part 0 p.list)) in
+    let few = few_unbacks 0 epoch (reverse found) in
+    record {
+      reached = q;
+      reaches = (q, (epoch, found, steps, order, refl), refl);
+      stands = room_again MakesPass later at moves says (omega (arith, events, few, length-reverse found, longer, size, short)) (omega (arith, longer, short));
+      moves = moves;
+      says = says;
+      caches = refl;
+      books = refl;
+      names = refl;
+    }
+
+-- A look at the epoch is an act of the scavenger, which knows that epoch then.
+pub has_read : {f : Profile} {σ σ' : Standing} {out : Records} {later : Later} {p : Progress} (epoch : ℕ) → HasRoomAt f σ out (for_act f ReadsEpoch later) p
+    → Makes σ σ' (Look Word.Epoch) epoch
+    → (did : ScavengerActs f ReadsEpoch σ σ' out out later p) × (did.reached.epoch ≡ epoch)
+has_read {f} {σ} {σ'} {out} {later} {p} epoch at makes =
+    let q = after_reading p epoch in
+    let moves : Moves 0 HasNothing HasNothing σ σ' p q = record { steps = epoch_look epoch; list_is = refl; calls = reads epoch makes } in
+    let says : Says 0 out out p q =
+    record { said = []; records_are = sym (append-nil p.records); pushed = sym (append-nil (records_in out)); room = refl; each = tt } in
+    (record { reached = q; reaches = (q, (epoch, refl), refl); stands = room_again ReadsEpoch later at moves says (omega arith) (omega arith); moves = moves; says = says; caches = refl; books = refl; names = refl }, refl)

@@ -1,9 +1,5 @@
 pub mod Noting
-pub mod NamesBefore
-mod TakingOver
 pub mod AtDesk
-pub mod Keeping
-pub mod Pairing
 mod Working
 pub mod ActsOfPlan
 pub mod Naming
@@ -12,4 +8,3 @@ pub mod ActsLeft
 mod Making
 pub mod PhaseActs
 pub mod Weaving
-pub mod Arranging

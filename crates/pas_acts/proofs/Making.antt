@@ -1,6 +1,6 @@
 -- How the parts of a kit are made, one after the other, and how many guarded requests the books of its keepers are made for.
-use Rattle.std.proofs.Common.{◌≡◌, ℕ, ◌+◌, List, [], ◌∷◌, ◌++◌, length, All, slice_index_or, inl, inr, Option, Some, None, ap, sym, ◌∙◌, subst, arith}
-use Rattle.std.proofs.Common.{length-append, zero, suc, ◌<◌, ◌≤◌, ◌==◌, Bool, true, false, if◌then◌else◌, map, drop, get_or, Result, IfOk, eq-eqb, ne_eqb}
+use Rattle.std.proofs.Common.{◌≡◌, ℕ, ◌+◌, List, [], ◌∷◌, ◌++◌, length, All, slice_index_or, Option, Some, None, ap, sym, ◌∙◌, subst, arith, length-append}
+use Rattle.std.proofs.Common.{zero, suc, ◌<◌, ◌≤◌, ◌==◌, Bool, if◌then◌else◌, map, drop, get_or, Result, IfOk, eq-eqb, ne_eqb}
 use Rattle.std.proofs.{lemmas.Bool.cases_lt, lemmas.List.get_or_append_left, lemmas.List.Elements.All-push, Math.Seq.get_or-append_seam, lemmas.List.drop_more}
 use Rattle.pas_profile.specs.Rooms.{shown, size_of_room, EventRoom}
 use Rattle.pas_cache.specs.Caches.{Cached, cached}
@@ -19,21 +19,13 @@ use Rattle.pas_acts.proofs.ActsOfPlan.{ArePlanned}
 use Rattle.pas_answers.proofs.EachAct.{all_front, all_back}
 
 -- the element that was put at the end
-pub at_end : {A : Type 0} (xs : List A) (x d : A) (k : ℕ) → k ≡ length xs → slice_index_or (xs ++ x ∷ []) k d ≡ x
+at_end : {A : Type 0} (xs : List A) (x d : A) (k : ℕ) → k ≡ length xs → slice_index_or (xs ++ x ∷ []) k d ≡ x
 at_end xs x d k is = ap (λ i. slice_index_or (xs ++ x ∷ []) i d) is ∙ get_or-append_seam xs x [] d
 
 -- What is so of each of a list by its place, and of one more at its end, is so of each of both.
 each_next : {A : Type 0} (P : ℕ → A → Type 0) (n : ℕ) (xs after : List A) (x : A) → after ≡ xs ++ x ∷ [] → length xs ≡ n
     → ((k : ℕ) (d : A) → k < n → P k (slice_index_or xs k d)) → P n x → (k : ℕ) (d : A) → k < n + 1 → P k (slice_index_or after k d)
-each_next {A} P n xs after x is many all this k d lt = elim (cases_lt k n) [
-  | inl below ↦
-      let at = ap (λ (ys : List A). slice_index_or ys k d) is ∙ get_or_append_left xs (x ∷ []) d k (omega (arith, below, many)) in
-      subst (P k) (sym at) (all k d below)
-  | inr ge ↦
-      let last : n ≡ k = omega (arith, lt, ge) in
-      let at = ap (λ (ys : List A). slice_index_or ys k d) is ∙ at_end xs x d k (omega (arith, last, many)) in
-      subst (P k) (sym at) (subst (λ (m : ℕ). P m x) last this)
-]
+each_next {A} P n xs after x is many all this k d lt = search (arith, cases_lt, get_or_append_left, at_end)
 
 -- there are no rooms, so nothing is said of one
 pub no_rooms : (sizes : ℕ → Option ℕ) (rooms : List EventRoom) → rooms ≡ [] → AreRooms sizes 0 rooms
@@ -98,9 +90,9 @@ count_more a k more counts = search (arith, eq-eqb, ne_eqb)
 few_work : (f : Profile) (work : Work) → one_guarded (of_task keeper_of work) ≤ records_of_work f work
 few_work f work = grind arith
 
+-- by the test
 few_if : (t : Bool) (a b : ℕ) → a ≤ b → (if t then a else 0) ≤ b
-few_if true a b le = le
-few_if false a b le = omega arith
+few_if c a b le = search arith
 
 -- Operations have no more guarded requests than they may make records.
 pub guarded_few : (f : Profile) (k : ℕ) (ops : List Op) → guarded_of k ops ≤ records_of_ops f ops
@@ -132,7 +124,7 @@ phase_at P (p ∷ phases) (suc i) d all lt = phase_at P phases i d (all_back P (
 
 -- ---- books
 pub no_books : (places : ℕ → ℕ) (books : List GuardBook) → books ≡ [] → AreBooksFor 0 places books
-no_books places books none = record { many = ap (λ (bs : List GuardBook). length bs) none; empty = λ i d bad. absurd (omega (arith, bad)); places = λ i d bad. absurd (omega (arith, bad)) }
+no_books places books none = search arith
 
 -- An empty book with enough places for the next keeper makes the books one more.
 pub next_book : {many : ℕ} {places : ℕ → ℕ} {books : List GuardBook} (after : List GuardBook) (book : GuardBook) → after ≡ books ++ book ∷ []

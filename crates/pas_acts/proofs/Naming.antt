@@ -1,28 +1,38 @@
 -- The names of a phase: what they stand for to all and to each worker once it was done, how many there are, and what is known of them afterwards.
-use Rattle.std.proofs.Common.{arith, ◌≡◌, ◌≢◌, ℕ, ◌==◌, ◌||◌, Bool, false, if◌then◌else◌, inl, inr, List, ◌∷◌, Option, Some, None, refl, ap, sym, ◌∙◌, subst}
-use Rattle.std.proofs.Common.{ne_eqb, ◌≤◌, [], ◌++◌}
-use Rattle.std.proofs.lemmas.Bool.{cases_eq}
+use Rattle.std.proofs.Common.{arith, ◌≡◌, ◌≢◌, ℕ, ◌==◌, ◌||◌, Bool, false, if◌then◌else◌, inl, inr, List, ◌∷◌, Option, Some, None, refl, sym, ◌∙◌, subst}
+use Rattle.std.proofs.Common.{ne_eqb, ◌≤◌, [], ◌++◌, ◌<◌, true, length, ap, length-append, MatchOption, eq-eqb, true≢false}
+use Rattle.std.proofs.lemmas.Bool.{cases_eq, or_parts}
 use Rattle.pas_profile.specs.declared.{profile.Profile.Profile, name.Block.Block}
-use Rattle.pas_steps.specs.{Views.View, Lists.part}
+use Rattle.pas_steps.specs.Views.{View}
 use Rattle.pas_steps.specs.declared.step.Made.{Made}
-use Rattle.pas_trace.specs.EveryPlan.{is_asked, asked_after, all_ops, asked_with}
-use Rattle.pas_trace.specs.declared.{plan.What.What, plan.Op.Op, item.Request.Request}
+use Rattle.pas_trace.specs.EveryPlan.{is_asked, asked_after, all_ops, asked_with, asked_by, AreSound, IsSoundTask, IsSoundWork, IsActorBy, IsThread}
+use Rattle.pas_trace.specs.declared.{plan.What.What, plan.Op.Op, item.Request.Request, plan.Task.Task, plan.Work.Work}
 use Rattle.pas_trace.specs.declared.plan.What.TheVariants.{Alloc, Guarded, Free, FreeSized, Raw, RawSized, Remake, Flush, Stop}
 use Rattle.pas_report.specs.declared.record.Said.{Said}
 use Rattle.pas_cache.specs.Caches.{Cached}
 use Rattle.pas_answers.specs.Answers.{Named, named, block_of, standing_for, having, Answer, answer_of, IsFreedBy, IsRemadeBy, IsAnswered, Progress}
-use Rattle.pas_answers.specs.Fit.{IsFitWhat, IsBelow, AreBelow, AllBelow}
-use Rattle.pas_answers.specs.Calls.{OnlyAsked, AreKnown}
+use Rattle.pas_answers.specs.Fit.{IsFitWhat, IsBelow, AreBelow, AllBelow, KeepsAbove, IsFitTask, IsFitWork, AreFit, cost_of_what, own_costs_of}
+use Rattle.pas_answers.specs.Calls.{OnlyAsked, AreKnown, block_behind, MayStand}
 use Rattle.pas_acts.specs.Shares.{AreAmong, IsRequestOf, asked_after_act, AreKnownAfter}
-use Rattle.pas_trace.proofs.EveryPlan.{below_front}
-use Rattle.pas_acts.proofs.ActsOfPlan.{back_below}
-use Rattle.pas_trace.specs.{Acts.Act, Acts.Operates, Acts.Guards, Asked.request_in}
-use Rattle.pas_answers.proofs.{Kept.known_after, Kept.known_named, Reached.put_on}
+use Rattle.pas_trace.proofs.{EveryPlan.below_front, Costs.some_cost}
+use Rattle.pas_acts.proofs.{ActsOfPlan.back_below, Noting.is_same, Noting.not_before, Working.kept_cost, Noting.kept_asks}
+use Rattle.pas_trace.specs.Acts.{Act, Operates, Guards, Settles, act_kept, own_acts}
+use Rattle.pas_trace.specs.Asked.{request_in, work_of, of_task, request_of, freed_of, keeper_in}
+use Rattle.pas_answers.proofs.{SingleActs.known_after, SingleActs.known_named, Reached.put_on}
 use Rattle.pas_answers.specs.Reaching.{AnswersOp, AnswersTried, AnswersGuarded, Advances}
+use Rattle.std.specs.List.{AllByRecursion}
+use Rattle.pas_trace.specs.EveryPhase.{FreesItsOwn}
+use Rattle.pas_answers.specs.{Names.block_named, Names.names_held, Replays.at_start}
+use Rattle.pas_answers.specs.declared.names.Names.{Names}
+use Rattle.pas_acts.specs.NameBooks.{requests_in, room_for, name_asked, names_asked, names_of, ArePlaced, came_to, known_in, table, NamesAt, Requests}
+use Rattle.pas_acts.specs.Works.{KnowsNames}
+use Rattle.pas_acts.specs.declared.names.NameBook.{NameBook}
+pub use Rattle.pas_trace.proofs.EveryPlan.{below_front}
 
 none_some : {b : Option Block} {A : Type 0} → None ≡ Some b → A
 none_some bad = absurd (cc)
 
+-- One more name keeps what the fewer say and the many say, too: whether it is this name or not.
 both_more : (t : Bool) (block : Option Block) (few many : Option (Option Block)) (b : Option Block) → (few ≡ Some b → many ≡ Some b)
     → (if t then Some block else few) ≡ Some b → (if t then Some block else many) ≡ Some b
 both_more t block few many b h i = grind arith
@@ -31,6 +41,7 @@ new_here : (name n : ℕ) (block : Option Block) (names : List Named) (b : Optio
     → (if name == n then Some block else standing_for names n) ≡ Some b
 new_here name n block names b none is = search (arith, cases_eq, none_some, ne_eqb)
 
+-- A name that wasn't asked for stands for nothing, with one more asked, too: whether it is this name or not.
 asked_more : (t : Bool) (block : Option Block) (o : Option (Option Block)) (old : Bool) → (old ≡ false → o ≡ None) → t || old ≡ false
     → (if t then Some block else o) ≡ None
 asked_more t block o old h i = grind arith
@@ -44,21 +55,16 @@ pub record Retold (f : Profile) (k : ℕ) (what : What) (asked : List ℕ) (name
   pub only_asked : OnlyAsked (asked_after what asked) after
   pub same_names : (n : ℕ) → (IsRequestOf n what → ⊥) → standing_for after n ≡ standing_for names n
 
+-- What a freed name stands for is the same by the fewer names and by the many, whatever was answered.
 freed_same : (f : Profile) (k : ℕ) (c c1 : Cached) (name : ℕ) (room : Option ℕ) (o many : Option (Option Block)) (steps : List Made) (said : Option Said)
     → ((b : Option Block) → o ≡ Some b → many ≡ Some b) → IsFreedBy f k c c1 name room o steps said → IsFreedBy f k c c1 name room many steps said
 freed_same f k c c1 name room o many steps said h i = grind arith
 
+-- by the names that the answer has, whatever it did
 keeps_names : (f : Profile) (k : ℕ) (what : What) (asked : List ℕ) (few names : List Named) (v : View) (c : Cached) (a : Answer)
     → a.names ≡ few → AreAmong few names → OnlyAsked (asked_after what asked) names
     → IsAnswered f k what (having names v c) (answer_of a.steps a.said a.found names a.cache) → Retold f k what asked names v c a
-keeps_names f k what asked few names v c a same among only answered = record {
-  after = names;
-  answered = answered;
-  own = subst (λ (ns : List Named). AreAmong ns names) (sym same) among;
-  others = λ more is. is;
-  only_asked = only;
-  same_names = λ n other. refl;
-}
+keeps_names f k what asked few names v c a same among only answered = search arith
 
 -- .. a reallocation
 remade_same : (f : Profile) (k name size align : ℕ) (o many : Option (Option Block)) (few names : List Named) (v : View) (c : Cached) (a : Answer)
@@ -100,14 +106,7 @@ asks_name : (f : Profile) (k : ℕ) (what : What) (asked : List ℕ) (few names 
     → asked_after what asked ≡ name ∷ asked → ((n : ℕ) → name ≡ n → IsRequestOf n what)
     → is_asked asked name ≡ false → AreAmong few names → OnlyAsked asked names → a.names ≡ named name block ∷ few
     → IsAnswered f k what (having names v c) (answer_of a.steps a.said a.found (named name block ∷ names) a.cache) → Retold f k what asked names v c a
-asks_name f k what asked few names v c a name block asks request new among only same answered = record {
-  after = named name block ∷ names;
-  answered = answered;
-  own = subst (λ (ns : List Named). AreAmong ns (named name block ∷ names)) (sym same) (λ n b is. both_more (name == n) block (standing_for few n) (standing_for names n) b (among n b) is);
-  others = λ more is n b known. new_here name n block names b (only name new) (is n b known);
-  only_asked = subst (λ (ns : List ℕ). OnlyAsked ns (named name block ∷ names)) (sym asks) (λ n is. asked_more (name == n) block (standing_for names n) (is_asked asked n) (only n) is);
-  same_names = λ n other. ap (λ (t : Bool). if t then Some block else standing_for names n) (ne_eqb name n (λ e. other (request n e)));
-}
+asks_name f k what asked few names v c a name block asks request new among only same answered = search (arith, both_more, new_here, asked_more, ne_eqb)
 
 -- a name that is new to all comes to stand for a block in the hands of one worker
 pub record IsNamedNew (asked : List ℕ) (few names : List Named) (name : ℕ) (block : Option Block) : Type 0 where
@@ -126,15 +125,15 @@ pub retold : (f : Profile) (limit k : ℕ) (what : What) (asked : List ℕ) (few
     → AreAmong few names → OnlyAsked asked names → IsFitWhat f limit asked what → IsAnswered f k what (having few v c) a → Retold f k what asked names v c a
 retold f limit k (Alloc name heap size align) asked few names v c a among only fit answered = search (arith, asks_name)
 retold f limit k (Guarded keeper name heap size align) asked few names v c a among only fit answered = search (arith, asks_name)
-retold f limit k (Free name) asked few names v c a among only fit answered = keeps_names f k (Free name) asked few names v c a answered.1 among only (freed_same f k c a.cache name None (standing_for few name) (standing_for names name) a.steps a.said (among name) answered.0, refl)
-retold f limit k (FreeSized name room) asked few names v c a among only fit answered = keeps_names f k (FreeSized name room) asked few names v c a answered.1 among only (freed_same f k c a.cache name (Some room) (standing_for few name) (standing_for names name) a.steps a.said (among name) answered.0, refl)
-retold f limit k (Raw block) asked few names v c a among only fit answered = keeps_names f k (Raw block) asked few names v c a answered.1 among only (answered.0, refl)
-retold f limit k (RawSized room block) asked few names v c a among only fit answered = keeps_names f k (RawSized room block) asked few names v c a answered.1 among only (answered.0, refl)
+retold f limit k (Free name) asked few names v c a among only fit answered = search (arith, keeps_names, freed_same)
+retold f limit k (FreeSized name room) asked few names v c a among only fit answered = search (arith, keeps_names, freed_same)
+retold f limit k (Raw block) asked few names v c a among only fit answered = search (arith, keeps_names)
+retold f limit k (RawSized room block) asked few names v c a among only fit answered = search (arith, keeps_names)
 retold f limit k (Remake name old heap size align) asked few names v c a among only fit answered =
     let again = remade_same f k name size align (standing_for few old) (standing_for names old) few names v c a (among old) answered in
     asks_name f k (Remake name old heap size align) asked few names v c a name again.0 refl (λ n same. same) fit.1.1 among only again.1 again.2
-retold f limit k Flush asked few names v c a among only fit answered = keeps_names f k Flush asked few names v c a answered.2 among only (answered.0, answered.1, refl)
-retold f limit k Stop asked few names v c a among only fit answered = keeps_names f k Stop asked few names v c a answered.2 among only (answered.0, answered.1, refl)
+retold f limit k Flush asked few names v c a among only fit answered = search (arith, keeps_names)
+retold f limit k Stop asked few names v c a among only fit answered = search (arith, keeps_names)
 retold f limit k what asked few names v c a among only fit answered = absurd answered
 
 below_both : (limit : ℕ) (xs ys : List Op) → AreBelow limit xs → AreBelow limit ys → AreBelow limit (xs ++ ys)
@@ -146,6 +145,7 @@ pub below_all : (limit : ℕ) (phases : List (List Op)) → AllBelow limit phase
 below_all limit [] all = tt
 below_all limit (p ∷ ps) all = below_both limit p (all_ops ps) all.0 (below_all limit ps all.1)
 
+-- What is below a limit is below a higher one, whatever is asked.
 below_what : (limit higher : ℕ) (what : What) → limit ≤ higher → IsBelow limit what → IsBelow higher what
 below_what limit higher what h i = grind arith
 
@@ -171,12 +171,12 @@ same_known asked is known = subst (λ (s : Progress). AreKnown asked s.names) (s
 known_op : (f : Profile) (op : Op) (asked : List ℕ) (p q : Progress) → AnswersOp f op p q → AreKnown asked p.names
     → AreKnown (asked_after op.what asked) q.names
 known_op f op asked p q did known = same_known (asked_after op.what asked) did.2
-    (known_after f op.actor op.what asked p.names did.0.names (part op.actor p.list) (p.caches op.actor) did.0.cache did.0.steps did.0.said did.0.found did.1 known)
+    (known_after f op.actor op.what asked p.names did.0.names _ (p.caches op.actor) did.0.cache did.0.steps did.0.said did.0.found did.1 known)
 
 known_tried : (f : Profile) (op : Op) (r : Request) (block : Option Block) (asked : List ℕ) (p q : Progress) → request_in op.what ≡ Some r
     → AnswersTried f op r block p q → AreKnown asked p.names → AreKnown (asked_after op.what asked) q.names
-known_tried f op r (Some block) asked p q asks did known =
-    subst (λ (o : Option Request). AreKnown (asked_with o asked) q.names) (sym asks) (same_known (r.name ∷ asked) did (known_named r.name (Some block) asked p.names known))
+known_tried f op r (Some block) asked p q asks did known = subst (λ (o : Option Request). AreKnown (asked_with o asked) q.names) (sym asks)
+    (same_known (r.name ∷ asked) did (known_named r.name (Some block) asked p.names known))
 known_tried f op r None asked p q asks did known = known_op f op asked p q did known
 
 known_guarded : (f : Profile) (keeper : ℕ) (op : Op) (o : Option Request) → request_in op.what ≡ o → (asked : List ℕ) (p q : Progress)
@@ -185,12 +185,136 @@ known_guarded f keeper op o h asked p q i j = grind (arith, known_tried)
 
 known_one : (f : Profile) (act : Act) (asked : List ℕ) (p q : Progress) → Advances f act p q → AreKnown asked p.names
     → AreKnown (asked_after_act act asked) q.names
-known_one f (Operates op) asked p q did known = same_known (asked_after_act (Operates op) asked) did.2
-    (known_after f op.actor op.what asked p.names did.0.names (part op.actor p.list) (p.caches op.actor) did.0.cache did.0.steps did.0.said did.0.found did.1 known)
+known_one f (Operates op) asked p q did known = known_op f op asked p q did known
 known_one f (Guards keeper op) asked p q did known = known_guarded f keeper op (request_in op.what) refl asked p q did known
 known_one f act asked p q did known = subst (AreKnown asked) (sym (put_on f act p q did).2) known
 
 -- The names that were asked for stand for something after the acts, too.
 pub are_known : AreKnownAfter
 are_known f [] asked p q reaches known = same_known asked reaches known
-are_known f (act ∷ acts) asked p q reaches known = are_known f acts (asked_after_act act asked) reaches.0 q reaches.2 (known_one f act asked p reaches.0 reaches.1 known)
+are_known f (act ∷ acts) asked p q reaches known = are_known f acts _ reaches.0 q reaches.2 (known_one f act asked p reaches.0 reaches.1 known)
+
+-- What each thread knows of the names when a phase begins.
+
+-- ---- a phase and the rest
+pub sound_front : (f : Profile) (asked : List ℕ) (xs ys : List Op) → AreSound f asked (xs ++ ys) → AreSound f asked xs
+sound_front f asked [] ys sound = tt
+sound_front f asked (x ∷ xs) ys sound = (sound.0, sound.1, sound_front f (asked_after x.what asked) xs ys sound.2)
+
+-- Sound operations behind others are sound after the names that those asked for.
+pub sound_back : (f : Profile) (asked : List ℕ) (xs ys : List Op) → AreSound f asked (xs ++ ys) → AreSound f (asked_by asked xs) ys
+sound_back f asked [] ys sound = sound
+sound_back f asked (x ∷ xs) ys sound = sound_back f (asked_after x.what asked) xs ys sound.2
+
+above_front : (f : Profile) (xs ys : List Op) → AllByRecursion (KeepsAbove f) (xs ++ ys) → AllByRecursion (KeepsAbove f) xs
+above_front f [] ys above = tt
+above_front f (x ∷ xs) ys above = (above.0, above_front f xs ys above.1)
+
+-- ---- the thread's own operations fit
+-- what was asked for among the first was so among the second
+abbrev IsSmaller : List ℕ → List ℕ → Type 0
+IsSmaller few many = (n : ℕ) → is_asked many n ≡ false → is_asked few n ≡ false
+
+-- by the two tests
+or_false : (s t : Bool) → s ≡ false → t ≡ false → s || t ≡ false
+or_false a t one two = search arith
+
+smaller_after : (request : Option Request) (few many : List ℕ) → IsSmaller few many → IsSmaller (asked_with request few) (asked_with request many)
+smaller_after a few many small n b = search (arith, or_parts, or_false)
+
+smaller_if : (t : Bool) (what : What) (few many : List ℕ) → IsSmaller few many → IsSmaller (if t then asked_after what few else few) (asked_after what many)
+smaller_if a what few many small n b = search (arith, smaller_after, not_before)
+
+-- What a sound task asks for fits, whatever task it is.
+fit_task : (f : Profile) (limit : ℕ) (few many : List ℕ) (task : Task) → IsSmaller few many → IsSoundTask f many task
+    → MatchOption (request_of task) (Unit {0}) (λ r. r.name < limit) → MatchOption (freed_of task) (Unit {0}) (λ n. is_asked few n ≡ true)
+    → IsFitTask f limit few task
+fit_task f limit few many task h i j k = grind arith
+
+fit_work : (f : Profile) (limit k : ℕ) (few many : List ℕ) (work : Work) → 1 ≤ k → IsSmaller few many → IsActorBy f work k → IsSoundWork f many work
+    → MatchOption (of_task request_of work) (Unit {0}) (λ r. r.name < limit)
+    → MatchOption (of_task freed_of work) (Unit {0}) (λ n. is_asked few n ≡ true) → IsThread f k × IsFitWork f limit few work
+fit_work f limit k few many work h i j m p q = grind (arith, fit_task)
+
+-- Acts with those of a keeper in front fit, whether there is a keeper or not.
+fit_if : (t : Bool) (f : Profile) (limit : ℕ) (asked : List ℕ) (keeper : Option ℕ) (op : Op) (acts : List Act)
+    → MatchOption keeper (Unit {0}) (λ k. IsThread f k × (op.actor < k)) → (t ≡ true → IsThread f op.actor × IsFitWhat f limit asked op.what)
+    → AreFit f limit (if t then asked_after op.what asked else asked) acts
+    → AreFit f limit asked (if t then act_kept keeper op ∷ (Settles op.actor ∷ acts) else acts)
+fit_if t f limit asked keeper op acts h i j = grind arith
+
+own_fit : (f : Profile) (limit k : ℕ) (few many : List ℕ) (ops : List Op) → 1 ≤ k → IsSmaller few many → AreSound f many ops → AllByRecursion (KeepsAbove f) ops
+    → AreBelow limit ops → FreesItsOwn k few ops → AreFit f limit few (own_acts k ops)
+own_fit f limit k few many [] some small sound above below frees = tt
+own_fit f limit k few many (op ∷ ops) some small sound above below frees =
+    let t = op.actor == k in
+    fit_if t f limit few (keeper_in op.what) op (own_acts k ops) above.0
+    (λ is.
+    let same = is_same op.actor k is in
+    fit_work f limit op.actor few many (work_of op.what) (omega (arith, some, same)) small sound.0 sound.1 below.0 (frees.0 same))
+    (own_fit f limit k (if t then asked_after op.what few else few) (asked_after op.what many) ops some (smaller_if t op.what few many small) sound.2 above.1 below.1 frees.1)
+
+-- ---- there is room for its requests
+few_asked : (what : What) → length (name_asked what) ≤ cost_of_what what
+few_asked what = grind (arith, some_cost)
+
+own_asked : (k : ℕ) (ops : List Op) → length (names_asked (own_acts k ops)) ≤ own_costs_of k (own_acts k ops)
+own_asked k [] = omega arith
+own_asked k (op ∷ ops) =
+    let rest = own_asked k ops in grind (arith, rest, cases_eq, kept_cost, eq-eqb, few_asked, kept_asks, length-append, ne_eqb)
+
+-- ---- before a phase
+module _ {f : Profile} {ops : List Op} {book : NameBook} {p : Progress} {names : List Named} (book1 : NameBook) (requests : Requests)
+    (at : NamesAt f ops book p) (same : book1.names ≡ book.names) (none : requests_in requests ≡ []) (are : names ≡ p.names) where
+  only_book : (n : ℕ) → known_in book1 requests n ≡ block_named book.names n
+  only_book n = ap (λ (rs : List Named). came_to (standing_for rs n) (block_named book1.names n)) none ∙ ap (λ (t : Names). block_named t n) same
+
+  book_tells : (n : ℕ) → known_in book1 requests n ≡ block_behind (standing_for names n)
+  book_tells n = only_book n ∙ at.tells n ∙ ap (λ (ns : List Named). block_behind (standing_for ns n)) (sym are)
+
+  book_stands : (n : ℕ) → MayStand f (known_in book1 requests n)
+  book_stands n = subst (MayStand f) (sym (only_book n)) (at.stand n)
+
+  still_known : (n : ℕ) → is_asked at.asked n ≡ true → (block : Option Block) × (standing_for names n ≡ Some block)
+  still_known n is = let known = at.known n is in (known.0, ap (λ (ns : List Named). standing_for ns n) are ∙ known.1)
+
+  no_names : names_of (requests_in requests) ≡ []
+  no_names = ap names_of none
+
+  -- a thread with these acts, which fit
+  knows_by : (acts : List Act) → AreFit f (names_held book.names) at.asked acts → ArePlaced book1 0 (names_asked acts)
+      → length (names_asked acts) ≤ room_for requests → KnowsNames f acts (table book1 requests) names
+  knows_by acts fit placed room = record {
+    asked = at.asked;
+    fit = subst (λ (t : Names). AreFit f (names_held t) at.asked acts) (sym same) fit;
+    tells = book_tells;
+    stand = book_stands;
+    known = still_known;
+    placed = subst (λ (ns : List ℕ). ArePlaced book1 0 (ns ++ names_asked acts)) (sym no_names) placed;
+    room = let size = ap (λ (rs : List Named). length rs) none in omega (arith, size, room);
+  }
+
+-- A thread of the phase knows its names once they are noted.
+pub names_before : {f book p names : _} (k : ℕ) (phase rest : List Op) (book1 : NameBook) (requests : Requests) (at : NamesAt f (phase ++ rest) book p)
+    → 1 ≤ k → FreesItsOwn k at.asked phase → book1.names ≡ book.names
+    → ArePlaced book1 0 (names_asked (own_acts k phase)) → requests_in requests ≡ [] → own_costs_of k (own_acts k phase) ≤ room_for requests → names ≡ p.names
+    → KnowsNames f (own_acts k phase) (table book1 requests) names
+names_before {f} {book} k phase rest book1 requests at some frees same placed none room are =
+    let few = own_asked k phase in
+    knows_by book1 requests at same none are (own_acts k phase)
+    (own_fit f (names_held book.names) k at.asked at.asked phase some (λ n is. is) (sound_front f at.asked phase rest at.sound)
+    (above_front f phase rest at.above) (below_front (names_held book.names) phase rest at.below) frees) placed (omega (arith, few, room))
+
+-- ---- before the first phase no name stands for a block
+unfoldable pub names_at_start : (f : Profile) (ops : List Op) (book : NameBook) → AreSound f [] ops → AllByRecursion (KeepsAbove f) ops
+    → AreBelow (names_held book.names) ops → ((n : ℕ) → block_named book.names n ≡ None) → NamesAt f ops book at_start
+names_at_start f ops book sound above below none = record {
+  asked = [];
+  sound = sound;
+  above = above;
+  below = below;
+  tells = none;
+  stand = λ n block is. absurd (let bad : None ≡ Some block = sym (none n) ∙ is in cc);
+  known = λ n is. absurd (true≢false (sym is));
+  only = λ n is. refl;
+}

@@ -1,17 +1,17 @@
 -- What the names stand for to a thread, by the places of its requests; and those places, one after the other.
-use Rattle.std.proofs.Common.{◌≡◌, ℕ, zero, suc, ◌+◌, ◌<◌, ◌≤◌, ◌==◌, Bool, true, false, if◌then◌else◌, inl, inr, List, [], ◌∷◌, ◌++◌, map, get_or, length}
-use Rattle.std.proofs.Common.{Option, Some, None, refl, ap, sym, ◌∙◌, subst, arith, append_assoc, append-nil, ne_eqb, eq-eqb, ◌≢◌, ◌||◌, take, replicate}
-use Rattle.std.proofs.Common.{length-append, length-take, true≢false}
+use Rattle.std.proofs.Common.{◌≡◌, ℕ, zero, suc, ◌+◌, ◌<◌, ◌≤◌, ◌==◌, Bool, true, false, if◌then◌else◌, List, [], ◌∷◌, ◌++◌, map, get_or, length, Option, Some}
+use Rattle.std.proofs.Common.{None, refl, ap, sym, ◌∙◌, subst, arith, append_assoc, append-nil, ne_eqb, eq-eqb, ◌≢◌, ◌||◌, take, replicate, length-append}
+use Rattle.std.proofs.Common.{length-take, true≢false, drop}
 use Rattle.std.proofs.lemmas.Bool.{cases_eq, false≢true, cases_lt, or_parts}
 use Rattle.pas_profile.specs.declared.{name.Block.Block, profile.Profile.Profile}
 use Rattle.pas_trace.specs.declared.plan.{What.What, What.TheVariants.Alloc, What.TheVariants.Guarded, What.TheVariants.Remake, Op.Op}
 use Rattle.pas_trace.specs.Acts.{Act, act_kept, Settles, own_acts}
 use Rattle.pas_answers.specs.{Answers.Named, Answers.named, Answers.standing_for, Calls.block_behind, Calls.MayStand, Calls.named_by, Names.block_in}
 use Rattle.pas_answers.specs.{Fit.IsBelow, Fit.AreBelow}
-use Rattle.pas_acts.specs.NameBooks.{name_asked, name_asked_by, names_asked, names_of, place_in, ArePlaced, request_at, named_of, came_to}
+use Rattle.pas_acts.specs.NameBooks.{name_asked, name_asked_by, names_asked, names_of, place_in, ArePlaced, request_at, named_of, came_to, AreWithin}
 use Rattle.pas_acts.specs.declared.names.{Request.Request, NameBook.NameBook}
-use Rattle.std.proofs.lemmas.List.{take_more, get_or-replicate, length-replicate, get_or_past}
-use Rattle.pas_trace.specs.Asked.{request_in, keeper_in}
+use Rattle.std.proofs.lemmas.List.{take_more, get_or-replicate, length-replicate, get_or_past, drop_more}
+use Rattle.pas_trace.specs.Asked.{keeper_in}
 use Rattle.pas_trace.specs.EveryPlan.{is_asked, asked_with, asked_after, asked_by, AreSound, IsSoundWhat}
 
 -- ---- names in order
@@ -19,9 +19,9 @@ abbrev or_else : Option (Option Block) → Option (Option Block) → Option (Opt
 or_else None p = p
 or_else (Some b) p = Some b
 
+-- by the test, and by whether there is one before
 if_else : (t : Bool) (b : Option Block) (o p q : Option (Option Block)) → q ≡ or_else o p → (if t then Some b else q) ≡ or_else (if t then Some b else o) p
-if_else true b o p q is = refl
-if_else false b o p q is = is
+if_else a b o p q is = search arith
 
 standing_both : (xs ys : List Named) (n : ℕ) → standing_for (xs ++ ys) n ≡ or_else (standing_for xs n) (standing_for ys n)
 standing_both [] ys n = refl
@@ -44,26 +44,24 @@ asked_both (x ∷ xs) ys = ap (λ (ns : List ℕ). name_asked_by x ++ ns) (asked
 
 -- an operation's act asks for the same, whether it is guarded or not
 pub kept_asks : (o : Option ℕ) (op : Op) → name_asked_by (act_kept o op) ≡ name_asked op.what
-kept_asks None op = refl
-kept_asks (Some keeper) op = refl
+kept_asks a op = search arith
 
 -- the names of what an operation came to are those that it asks for
 pub names_named : (what : What) (came : Option Block) → names_of (named_by what came) ≡ name_asked what
-names_named (Alloc name heap size align) came = refl
-names_named _ came = refl
+names_named a came = search arith
 
 -- ---- places
 pub placed_both : (book : NameBook) (i : ℕ) (xs ys : List ℕ) → ArePlaced book i (xs ++ ys) → ArePlaced book i xs × ArePlaced book (i + length xs) ys
 placed_both book i [] ys placed = (tt, subst (λ (j : ℕ). ArePlaced book j ys) (omega arith) placed)
 placed_both book i (x ∷ xs) ys placed =
-    let rest = placed_both book (i + 1) xs ys placed.1 in
-    ((placed.0, rest.0), subst (λ (j : ℕ). ArePlaced book j ys) (omega arith) rest.1)
+    let rest = placed_both book (i + 1) xs ys placed.1 in grind (arith, rest)
 
 -- Names that have their places, and others that have those behind them, have their places together.
-pub placed_all : (book : NameBook) (i : ℕ) (xs ys : List ℕ) → ArePlaced book i xs → ArePlaced book (i + length xs) ys → ArePlaced book i (xs ++ ys)
+placed_all : (book : NameBook) (i : ℕ) (xs ys : List ℕ) → ArePlaced book i xs → ArePlaced book (i + length xs) ys → ArePlaced book i (xs ++ ys)
 placed_all book i [] ys one two = subst (λ (j : ℕ). ArePlaced book j ys) (omega arith) two
 placed_all book i (x ∷ xs) ys one two = (one.0, placed_all book (i + 1) xs ys one.1 (subst (λ (j : ℕ). ArePlaced book j ys) (omega arith) two))
 
+-- A name that isn't the first stands for what it stands for in the rest.
 skip : (r : Named) (rs : List Named) (n : ℕ) → (r.name ≡ n → ⊥) → standing_for (r ∷ rs) n ≡ standing_for rs n
 skip r rs n other = ap (λ (t : Bool). if t then Some r.block else standing_for rs n) (ne_eqb r.name n other)
 
@@ -71,23 +69,20 @@ skip r rs n other = ap (λ (t : Bool). if t then Some r.block else standing_for 
 past_none : (book : NameBook) (i : ℕ) (rs : List Named) (n : ℕ) → ArePlaced book i (names_of rs) → i + length rs ≤ place_in book n → standing_for rs n ≡ None
 past_none book i [] n placed le = refl
 past_none book i (r ∷ rs) n placed le =
-    let here = placed.0 in
-    skip r rs n (λ is. let same = ap (λ (m : ℕ). place_in book m) is in omega (arith, here, same, le)) ∙ past_none book (i + 1) rs n placed.1 (omega (arith, le))
+    let rest = past_none book (i + 1) rs n placed.1 (omega (arith, le)) in grind (arith, rest, skip)
 
 before_none : (book : NameBook) (i : ℕ) (rs : List Named) (n : ℕ) → ArePlaced book i (names_of rs) → place_in book n < i → standing_for rs n ≡ None
 before_none book i [] n placed lt = refl
 before_none book i (r ∷ rs) n placed lt =
-    let here = placed.0 in
-    skip r rs n (λ is. let same = ap (λ (m : ℕ). place_in book m) is in omega (arith, here, same, lt)) ∙ before_none book (i + 1) rs n placed.1 (omega (arith, lt))
+    let rest = before_none book (i + 1) rs n placed.1 (omega (arith, lt)) in grind (arith, rest, skip)
 
 -- where each is at its place, the request at a name's place is the only one that can have it
 pub at_place : (book : NameBook) (i : ℕ) (rs : List Named) (n j : ℕ) → ArePlaced book i (names_of rs) → place_in book n ≡ i + j
     → standing_for rs n ≡ request_at rs j n
 at_place book i [] n j placed is = refl
-at_place book i (r ∷ rs) n zero placed is = ap (λ (o : Option (Option Block)). if r.name == n then Some r.block else o) (before_none book (i + 1) rs n placed.1 (omega (arith, is)))
+at_place book i (r ∷ rs) n zero placed is = search (arith, before_none)
 at_place book i (r ∷ rs) n (suc j) placed is =
-    let here = placed.0 in
-    skip r rs n (λ same. let there = ap (λ (m : ℕ). place_in book m) same in omega (arith, here, there, is)) ∙ at_place book (i + 1) rs n j placed.1 (omega (arith, is))
+    let rest = at_place book (i + 1) rs n j placed.1 (omega (arith, is)) in grind (arith, rest, skip)
 
 -- the request at a place of the room
 at_index : (items : List Request) (i n : ℕ) (d : Request) → i < length items
@@ -99,12 +94,14 @@ at_index (r ∷ items) (suc i) n d lt = at_index items i n d (omega (arith, lt))
 -- The request at a place whose name is asked about tells what came of it.
 pub at_named : (items : List Request) (i n : ℕ) (d : Request) → i < length items → (get_or items i d).name ≡ n
     → Some (block_in (get_or items i d).meaning) ≡ request_at (map named_of items) i n
-at_named items i n d lt same = sym (at_index items i n d lt ∙ ap (λ (t : Bool). if t then Some (block_in (get_or items i d).meaning) else None) (eq-eqb (get_or items i d).name n same))
+at_named items i n d lt same =
+    sym (at_index items i n d lt ∙ ap (λ (t : Bool). if t then Some (block_in (get_or items i d).meaning) else None) (eq-eqb (get_or items i d).name n same))
 
 -- The request at a place with another name tells nothing of the one asked about.
 pub at_other : (items : List Request) (i n : ℕ) (d : Request) → i < length items → ((get_or items i d).name ≡ n → ⊥)
     → None ≡ request_at (map named_of items) i n
-at_other items i n d lt other = sym (at_index items i n d lt ∙ ap (λ (t : Bool). if t then Some (block_in (get_or items i d).meaning) else None) (ne_eqb (get_or items i d).name n other))
+at_other items i n d lt other =
+    sym (at_index items i n d lt ∙ ap (λ (t : Bool). if t then Some (block_in (get_or items i d).meaning) else None) (ne_eqb (get_or items i d).name n other))
 
 -- Past the last request nothing is told of a name.
 pub at_past : (items : List Request) (i n : ℕ) → length items ≤ i → request_at (map named_of items) i n ≡ None
@@ -126,17 +123,12 @@ stand_either f _ _ came base new old = old
 
 not_yet : (book : NameBook) (rs : List Named) (ms : List ℕ) (name n : ℕ) → ArePlaced book 0 (names_of rs ++ (name ∷ ms)) → name == n ≡ true
     → standing_for rs n ≡ None
-not_yet book rs ms name n placed is = elim (cases_eq name n) [
-  | inl same ↦
-      let both = placed_both book 0 (names_of rs) (name ∷ ms) placed in
-      past_none book 0 rs n both.0 (omega (arith, both.1.0, names_count rs, ap (λ (m : ℕ). place_in book m) same))
-  | inr other ↦ absurd (false≢true (sym (ne_eqb name n other) ∙ is))
-]
+not_yet book rs ms name n placed is = search (arith, cases_eq, placed_both, past_none, names_count, false≢true, ne_eqb)
 
 -- what each name stands for then, where the request's has its place next
 came_as : (rs more : List Named) (n : ℕ) (base : Option Block) (rs' : List Named) → rs' ≡ rs ++ more
     → came_to (standing_for rs' n) base ≡ came_to (or_else (standing_for rs n) (standing_for more n)) base
-came_as rs more n base rs' is = ap (λ (xs : List Named). came_to (standing_for xs n) base) is ∙ ap (λ (o : Option (Option Block)). came_to o base) (standing_both rs more n)
+came_as rs more n base rs' is = search (arith, standing_both)
 
 came_same : (rs rs' : List Named) (n : ℕ) (base : Option Block) → rs' ≡ rs ++ [] → came_to (standing_for rs' n) base ≡ came_to (standing_for rs n) base
 came_same rs rs' n base is = ap (λ (xs : List Named). came_to (standing_for xs n) base) (is ∙ append-nil rs)
@@ -147,11 +139,11 @@ pub tells_more : (book : NameBook) (rs rs' : List Named) (what : What) (came : O
     → came_to (standing_for rs n) base ≡ block_behind (standing_for names n)
     → came_to (standing_for rs' n) base ≡ block_behind (standing_for (named_by what came ++ names) n)
 tells_more book rs rs' (Alloc name heap size align) came names ms n base is placed tells =
-    came_as rs (named name came ∷ []) n base rs' is ∙ both_ways (name == n) (standing_for rs n) came base (standing_for names n) (not_yet book rs ms name n placed) tells
+    came_as rs (named name came ∷ []) n base rs' is ∙ both_ways (name == n) (standing_for rs n) came base _ (not_yet book rs ms name n placed) tells
 tells_more book rs rs' (Guarded keeper name heap size align) came names ms n base is placed tells =
-    came_as rs (named name came ∷ []) n base rs' is ∙ both_ways (name == n) (standing_for rs n) came base (standing_for names n) (not_yet book rs ms name n placed) tells
+    came_as rs (named name came ∷ []) n base rs' is ∙ both_ways (name == n) (standing_for rs n) came base _ (not_yet book rs ms name n placed) tells
 tells_more book rs rs' (Remake name old heap size align) came names ms n base is placed tells =
-    came_as rs (named name came ∷ []) n base rs' is ∙ both_ways (name == n) (standing_for rs n) came base (standing_for names n) (not_yet book rs ms name n placed) tells
+    came_as rs (named name came ∷ []) n base rs' is ∙ both_ways (name == n) (standing_for rs n) came base _ (not_yet book rs ms name n placed) tells
 tells_more book rs rs' what came names ms n base is placed tells = came_same rs rs' n base is ∙ tells
 
 stand_same : (f : Profile) (rs rs' : List Named) (n : ℕ) (base : Option Block) → rs' ≡ rs ++ [] → MayStand f (came_to (standing_for rs n) base)
@@ -161,17 +153,17 @@ stand_same f rs rs' n base is stands = subst (MayStand f) (sym (came_same rs rs'
 -- After an operation what a name stands for by the thread's requests may stand in the region.
 pub stand_more : (f : Profile) (rs rs' : List Named) (what : What) (came : Option Block) (n : ℕ) (base : Option Block) → rs' ≡ rs ++ named_by what came
     → MayStand f came → MayStand f (came_to (standing_for rs n) base) → MayStand f (came_to (standing_for rs' n) base)
-stand_more f rs rs' (Alloc name heap size align) came n base is new old = subst (MayStand f) (sym (came_as rs (named name came ∷ []) n base rs' is)) (stand_either f (name == n) (standing_for rs n) came base new old)
-stand_more f rs rs' (Guarded keeper name heap size align) came n base is new old = subst (MayStand f) (sym (came_as rs (named name came ∷ []) n base rs' is)) (stand_either f (name == n) (standing_for rs n) came base new old)
-stand_more f rs rs' (Remake name other heap size align) came n base is new old = subst (MayStand f) (sym (came_as rs (named name came ∷ []) n base rs' is)) (stand_either f (name == n) (standing_for rs n) came base new old)
+stand_more f rs rs' (Alloc name heap size align) came n base is new old =
+    subst (MayStand f) (sym (came_as rs (named name came ∷ []) n base rs' is)) (stand_either f (name == n) (standing_for rs n) came base new old)
+stand_more f rs rs' (Guarded keeper name heap size align) came n base is new old =
+    subst (MayStand f) (sym (came_as rs (named name came ∷ []) n base rs' is)) (stand_either f (name == n) (standing_for rs n) came base new old)
+stand_more f rs rs' (Remake name other heap size align) came n base is new old =
+    subst (MayStand f) (sym (came_as rs (named name came ∷ []) n base rs' is)) (stand_either f (name == n) (standing_for rs n) came base new old)
 stand_more f rs rs' what came n base is new old = stand_same f rs rs' n base is old
 
 -- ---- counts
 pub none_yet : (n k : ℕ) → ◌≡◌ {A = ℕ} (get_or (replicate n 0) k 0) 0
-none_yet n k = elim (cases_lt k n) [
-  | inl lt ↦ get_or-replicate n k 0 0 lt
-  | inr ge ↦ let size = length-replicate {A = ℕ} n 0 in get_or_past (replicate n 0) k 0 (omega (arith, size, ge))
-]
+none_yet n k = search (arith, cases_lt, get_or-replicate, length-replicate, get_or_past)
 
 -- ---- what a thread asks for
 abbrev pub asks : ℕ → List Op → List ℕ
@@ -179,8 +171,7 @@ asks k ops = names_asked (own_acts k ops)
 
 own_one : (t : Bool) (o : Option ℕ) (op : Op) (acts : List Act)
     → names_asked (if t then act_kept o op ∷ (Settles op.actor ∷ acts) else acts) ≡ (if t then name_asked op.what else []) ++ names_asked acts
-own_one true o op acts = ap (λ (ns : List ℕ). ns ++ names_asked acts) (kept_asks o op)
-own_one false o op acts = refl
+own_one a o op acts = search (arith, kept_asks)
 
 -- The names that an actor asks for by one operation more in front are that one's, if it is its own, and the others.
 pub asks_more : (k : ℕ) (op : Op) (ops : List Op) → asks k (op ∷ ops) ≡ (if op.actor == k then name_asked op.what else []) ++ asks k ops
@@ -189,23 +180,20 @@ asks_more k op ops = own_one (op.actor == k) (keeper_in op.what) op (own_acts k 
 asks_last : (k : ℕ) (ops : List Op) (op : Op) → asks k (ops ++ op ∷ []) ≡ asks k ops ++ (if op.actor == k then name_asked op.what else [])
 asks_last k [] op = asks_more k op [] ∙ append-nil (if op.actor == k then name_asked op.what else [])
 asks_last k (o ∷ ops) op =
-    let first = if o.actor == k then name_asked o.what else [] in
-    asks_more k o (ops ++ op ∷ []) ∙ ap (λ (ns : List ℕ). first ++ ns) (asks_last k ops op) ∙ sym (append_assoc first (asks k ops) (if op.actor == k then name_asked op.what else []))
-    ∙ ap (λ (ns : List ℕ). ns ++ (if op.actor == k then name_asked op.what else [])) (sym (asks_more k o ops))
+    let rest = asks_last k ops op in grind (arith, rest, asks_more)
 
+-- by whether there is a request
 one_at_most : (request : _) → length (asked_with request []) ≤ 1
-one_at_most None = omega arith
-one_at_most (Some r) = omega arith
+one_at_most a = search arith
 
+-- by the test
 if_few : (t : Bool) (ns : List ℕ) → length ns ≤ 1 → length (if t then ns else []) ≤ 1
-if_few true ns few = few
-if_few false ns few = omega arith
+if_few a ns few = search arith
 
 asks_few : (k : ℕ) (ops : List Op) → length (asks k ops) ≤ length ops
 asks_few k [] = omega arith
 asks_few k (op ∷ ops) =
-    let both = ap (λ (ns : List ℕ). length ns) (asks_more k op ops) ∙ length-append (if op.actor == k then name_asked op.what else []) (asks k ops) in
-    omega (arith, asks_few k ops, if_few (op.actor == k) (name_asked op.what) (one_at_most (request_in op.what)), both)
+    let rest = asks_few k ops in grind (arith, rest, asks_more, length-append, if_few, one_at_most)
 
 -- An actor asks for at most one name an operation.
 pub count_small : (k : ℕ) (ops : List Op) (i : ℕ) → i < length ops → length (asks k (take i ops)) ≤ i
@@ -217,24 +205,21 @@ count_small k ops i lt =
 -- not asked for afterwards: neither before nor by the operation
 pub not_before : (what : What) (asked : List ℕ) (n : ℕ) → is_asked (asked_after what asked) n ≡ false
     → (is_asked (name_asked what) n ≡ false) × (is_asked asked n ≡ false)
-not_before (Alloc name heap size align) asked n none = let both = or_parts (name == n) (is_asked asked n) none in (ap (λ (t : Bool). t || false) both.0, both.1)
-not_before (Guarded keeper name heap size align) asked n none = let both = or_parts (name == n) (is_asked asked n) none in (ap (λ (t : Bool). t || false) both.0, both.1)
-not_before (Remake name old heap size align) asked n none = let both = or_parts (name == n) (is_asked asked n) none in (ap (λ (t : Bool). t || false) both.0, both.1)
-not_before what asked n none = (refl, none)
+not_before what asked n a = search (arith, or_parts)
 
 never_before : (ops : List Op) (asked : List ℕ) (n : ℕ) → is_asked (asked_by asked ops) n ≡ false → is_asked asked n ≡ false
 never_before [] asked n none = none
 never_before (op ∷ ops) asked n none = (not_before op.what asked n (never_before ops (asked_after op.what asked) n none)).1
 
 if_none : (t : Bool) (ms ns : List ℕ) (n : ℕ) → is_asked ms n ≡ false → is_asked ns n ≡ false → is_asked ((if t then ms else []) ++ ns) n ≡ false
-if_none true (m ∷ ms) ns n one two = let both = or_parts (m == n) (is_asked ms n) one in ap (λ (s : Bool). s || is_asked (ms ++ ns) n) both.0 ∙ if_none true ms ns n both.1 two
+if_none true (m ∷ ms) ns n one two =
+    let both = or_parts (m == n) (is_asked ms n) one in ap (λ (s : Bool). s || is_asked (ms ++ ns) n) both.0 ∙ if_none true ms ns n both.1 two
 if_none _ _ ns n one two = two
 
 not_asked : (k : ℕ) (ops : List Op) (asked : List ℕ) (n : ℕ) → is_asked (asked_by asked ops) n ≡ false → is_asked (asks k ops) n ≡ false
 not_asked k [] asked n none = refl
 not_asked k (op ∷ ops) asked n none =
-    let one = not_before op.what asked n (never_before ops (asked_after op.what asked) n none) in
-    ap (λ (ns : List ℕ). is_asked ns n) (asks_more k op ops) ∙ if_none (op.actor == k) (name_asked op.what) (asks k ops) n one.0 (not_asked k ops (asked_after op.what asked) n none)
+    let rest = not_asked k ops (asked_after op.what asked) n none in grind (arith, rest, not_before, never_before, asks_more, if_none)
 
 sound_at : (f : Profile) (asked : List ℕ) (ops : List Op) (i : ℕ) (d : Op) → AreSound f asked ops → i < length ops
     → IsSoundWhat f (asked_by asked (take i ops)) (get_or ops i d).what
@@ -250,22 +235,16 @@ below_at limit (op ∷ ops) (suc i) d below lt = below_at limit ops i d below.1 
 
 -- a name that an operation asks for wasn't asked for before
 asks_new : (f : Profile) (asked : List ℕ) (what : What) (name : ℕ) → IsSoundWhat f asked what → name_asked what ≡ name ∷ [] → is_asked asked name ≡ false
-asks_new f asked (Alloc n heap size align) name sound is = subst (λ (m : ℕ). is_asked asked m ≡ false) (cc) sound.1
-asks_new f asked (Guarded keeper n heap size align) name sound is = subst (λ (m : ℕ). is_asked asked m ≡ false) (cc) sound.1
-asks_new f asked (Remake n old heap size align) name sound is = subst (λ (m : ℕ). is_asked asked m ≡ false) (cc) sound.1
-asks_new f asked what name sound is = absurd (let bad : [] ≡ name ∷ [] = is in cc)
+asks_new f asked what name sound is = search arith
 
 -- .. and is below the limit
 pub asks_below : (limit : ℕ) (what : What) (name : ℕ) → IsBelow limit what → name_asked what ≡ name ∷ [] → name < limit
-asks_below limit (Alloc n heap size align) name below is = subst (λ (m : ℕ). m < limit) (cc) below
-asks_below limit (Guarded keeper n heap size align) name below is = subst (λ (m : ℕ). m < limit) (cc) below
-asks_below limit (Remake n old heap size align) name below is = subst (λ (m : ℕ). m < limit) (cc) below
-asks_below limit what name below is = absurd (let bad : [] ≡ name ∷ [] = is in cc)
+asks_below limit what name below is = search arith
 
 -- the name of the operation at a place is new to each thread
 new_name : (f : Profile) (asked : List ℕ) (ops : List Op) (i : ℕ) (d : Op) (name : ℕ) → AreSound f asked ops → i < length ops
     → name_asked (get_or ops i d).what ≡ name ∷ [] → (k : ℕ) → is_asked (asks k (take i ops)) name ≡ false
-new_name f asked ops i d name sound lt is k = not_asked k (take i ops) asked name (asks_new f (asked_by asked (take i ops)) (get_or ops i d).what name (sound_at f asked ops i d sound lt) is)
+new_name f asked ops i d name sound lt is k = search (arith, not_asked, asks_new, sound_at)
 
 -- ---- a place is set
 -- the name has this place, and each other its own
@@ -278,6 +257,7 @@ set_here old new name place sets = sets name ∙ ap (λ (t : Bool). if t then pl
 set_other : (old new : NameBook) (name place n : ℕ) → SetsPlace old new name place → name ≢ n → place_in new n ≡ place_in old n
 set_other old new name place n sets other = sets n ∙ ap (λ (t : Bool). if t then place else place_in old n) (ne_eqb name n other)
 
+-- Numbers that a test tells apart are distinct.
 apart : (x name : ℕ) → x == name ≡ false → name ≢ x
 apart x name none is = true≢false (sym (eq-eqb x name (sym is)) ∙ none)
 
@@ -290,20 +270,17 @@ still_placed old new name place i (x ∷ xs) sets none placed =
 
 one_more : (t : Bool) (old new : NameBook) (name : ℕ) (xs : List ℕ) → (t ≡ true → place_in new name ≡ length xs) → ArePlaced new 0 xs
     → ArePlaced new 0 (xs ++ (if t then name ∷ [] else []))
-one_more true old new name xs here placed = let at = here refl in placed_all new 0 xs (name ∷ []) placed (omega (arith, at), tt)
-one_more false old new name xs here placed = subst (λ (ns : List ℕ). ArePlaced new 0 ns) (sym (append-nil xs)) placed
+one_more a old new name xs here placed = search (arith, placed_all)
 
 -- what each thread asked for, after the operation at a place
 asks_next : (k : ℕ) (ops : List Op) (i : ℕ) (d : Op) (names : List ℕ) → i < length ops → name_asked (get_or ops i d).what ≡ names
     → asks k (take (i + 1) ops) ≡ asks k (take i ops) ++ (if (get_or ops i d).actor == k then names else [])
-asks_next k ops i d names lt is = ap (λ (xs : List Op). asks k xs) (take_more ops i d lt) ∙ asks_last k (take i ops) (get_or ops i d) ∙ ap (λ (ns : List ℕ). asks k (take i ops) ++ (if (get_or ops i d).actor == k then ns else [])) is
+asks_next k ops i d names lt is = ap (λ (xs : List Op). asks k xs) (take_more ops i d lt) ∙ asks_last k (take i ops) (get_or ops i d)
+    ∙ ap (λ (ns : List ℕ). asks k (take i ops) ++ (if (get_or ops i d).actor == k then ns else [])) is
 
 -- Two numbers that test as the same are the same.
 pub is_same : (a k : ℕ) → a == k ≡ true → a ≡ k
-is_same a k is = elim (cases_eq a k) [
-  | inl same ↦ same
-  | inr other ↦ absurd (true≢false (sym is ∙ ne_eqb a k other))
-]
+is_same a k is = search (arith, cases_eq, true≢false, ne_eqb)
 
 -- the next operation asks for a name
 pub placed_next : (f : Profile) (asked : List ℕ) (old new : NameBook) (ops : List Op) (i : ℕ) (d : Op) (name place : ℕ) → AreSound f asked ops → i < length ops
@@ -313,18 +290,15 @@ placed_next f asked old new ops i d name place sound lt is sets count k placed =
     let a = (get_or ops i d).actor in
     let xs = asks k (take i ops) in
     let there = still_placed old new name place 0 xs sets (new_name f asked ops i d name sound lt is k) placed in
-    let here : a == k ≡ true → place_in new name ≡ length xs = λ same. set_here old new name place sets ∙ count ∙ ap (λ (j : ℕ). length (asks j (take i ops))) (is_same a k same) in
+    let here : a == k ≡ true → place_in new name ≡ length xs =
+    λ same. set_here old new name place sets ∙ count ∙ ap (λ (j : ℕ). length (asks j (take i ops))) (is_same a k same) in
     subst (λ (ns : List ℕ). ArePlaced new 0 ns) (sym (asks_next k ops i d (name ∷ []) lt is)) (one_more (a == k) old new name xs here there)
 
 if_length : (t : Bool) (xs : List ℕ) (name c : ℕ) → length (xs ++ (if t then name ∷ [] else [])) ≡ (if t then length xs + 1 else length xs)
-if_length true xs name c = length-append xs (name ∷ [])
-if_length false xs name c = ap (λ (ns : List ℕ). length ns) (append-nil xs)
+if_length a xs name c = search (arith, length-append)
 
 count_if : (a k place old : ℕ) (n : ℕ → ℕ) → place ≡ n a → old ≡ n k → (if a == k then place + 1 else old) ≡ (if a == k then n k + 1 else n k)
-count_if a k place old n here there = elim (cases_eq a k) [
-  | inl same ↦ ap (λ (t : Bool). if t then place + 1 else old) (eq-eqb a k same) ∙ ap (λ (m : ℕ). m + 1) (here ∙ ap n same) ∙ sym (ap (λ (t : Bool). if t then n k + 1 else n k) (eq-eqb a k same))
-  | inr other ↦ ap (λ (t : Bool). if t then place + 1 else old) (ne_eqb a k other) ∙ there ∙ sym (ap (λ (t : Bool). if t then n k + 1 else n k) (ne_eqb a k other))
-]
+count_if a k place old n here there = search (arith, cases_eq, eq-eqb, ne_eqb)
 
 -- .. and how many a thread asked for then
 count_next : (ops : List Op) (i : ℕ) (d : Op) (name k : ℕ) → i < length ops → name_asked (get_or ops i d).what ≡ name ∷ []
@@ -348,3 +322,24 @@ if_nothing false xs = append-nil xs
 pub asks_same : (k : ℕ) (ops : List Op) (i : ℕ) (d : Op) → i < length ops → name_asked (get_or ops i d).what ≡ []
     → asks k (take (i + 1) ops) ≡ asks k (take i ops)
 asks_same k ops i d lt none = asks_next k ops i d [] lt none ∙ if_nothing ((get_or ops i d).actor == k) (asks k (take i ops))
+
+-- The book takes a thread's requests over, from the last to the first.
+
+-- The name of each request is within the limit that all are.
+pub within_at : (limit : ℕ) (items : List Request) (i : ℕ) (d : Request) → AreWithin limit (names_of (map named_of items)) → i < length items
+    → (get_or items i d).name < limit
+within_at limit [] i d within lt = absurd (let bad : i < 0 = lt in omega (arith, bad))
+within_at limit (r ∷ items) zero d within lt = within.0
+within_at limit (r ∷ items) (suc i) d within lt = within_at limit items i d within.1 (omega (arith, lt))
+
+-- ---- what the names stand for then
+came_if : (t : Bool) (block base : Option Block) (o : Option (Option Block))
+    → came_to (if t then Some block else o) base ≡ (if t then block else came_to o base)
+came_if a block base o = search arith
+
+-- The request at a place says what its name stands for, and those behind it what the others do.
+pub over_next : (items : List Request) (i j : ℕ) (d : Request) (n : ℕ) (base : Option Block) → i < length items → j ≡ i + 1
+    → (if (get_or items i d).name == n then block_in (get_or items i d).meaning else came_to (standing_for (map named_of (drop j items)) n) base)
+    ≡ came_to (standing_for (map named_of (drop i items)) n) base
+over_next items i j d n base lt next =
+    search (arith, came_if, drop_more)

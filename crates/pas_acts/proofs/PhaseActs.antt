@@ -1,6 +1,6 @@
 -- The acts of a phase are shared among its workers; where one actor alone has operations in it, all acts of each stage are in one worker's hands.
-use Rattle.std.proofs.Common.{◌≡◌, ℕ, zero, suc, ◌+◌, ◌-◌, ◌≤◌, ◌==◌, ◌||◌, not, Option, Bool, true, false, if◌then◌else◌, inl, inr, List, [], ◌∷◌, ◌++◌, refl}
-use Rattle.std.proofs.Common.{ap, sym, subst, ◌∙◌, arith, MatchOption, eq-eqb, ne_eqb, le-leb, map, ◌≢◌, eqb-true}
+use Rattle.std.proofs.Common.{◌≡◌, ℕ, zero, suc, ◌+◌, ◌-◌, ◌≤◌, ◌==◌, ◌||◌, not, Option, Bool, true, false, if◌then◌else◌, List, [], ◌∷◌, ◌++◌, refl, ap, sym}
+use Rattle.std.proofs.Common.{subst, ◌∙◌, arith, MatchOption, eq-eqb, ne_eqb, le-leb, map, ◌≢◌, eqb-true}
 use Rattle.std.specs.List.{AllByRecursion, filter}
 use Rattle.std.proofs.lemmas.Bool.{lt-leb, false≢true, cases_eq, or_left, or_right, or_parts}
 use Rattle.pas_profile.specs.declared.profile.Profile.{Profile}
@@ -15,7 +15,7 @@ use Rattle.pas_acts.specs.Shares.{Owners, actor_of_act, IsInHand, AreInHand, act
 use Rattle.pas_trace.proofs.EveryPlan.{every_plan}
 use Rattle.pas_answers.specs.Replays.{at_start, region_of, keepers_of, phases_of, stages_of_plan}
 use Rattle.pas_answers.specs.Stages.{Owners, itself, owner_in, one_by_one, phase_stages, stages_from, stages_of}
-use Rattle.pas_answers.proofs.OwnCalls.{IsHeldBy, AreHeldBy, IsOneHanded, one_handed_list}
+use Rattle.pas_answers.proofs.Reached.{IsHeldBy, AreHeldBy, IsOneHanded, one_handed_list}
 use Rattle.pas_acts.specs.AloneInOrder.{AreOfOneActor, AloneIsInOrder}
 
 -- ---- who owns whom
@@ -42,13 +42,12 @@ all_own threads all [] within most = tt
 all_own threads all (op ∷ ops) within most =
     let here = or_left (op.actor == op.actor) (is_active ops op.actor) (eq-eqb op.actor op.actor refl) in (
       owner_of threads all op.actor op.actor (own_thread threads op.actor (most op.actor here)) ∙ ap (λ (t : Bool). if t then op.actor else 0) (within op.actor here),
-      all_own threads all ops (λ k is. within k (or_right (op.actor == k) (is_active ops k) is)) (λ k is. most k (or_right (op.actor == k) (is_active ops k) is)),
+      all_own threads all ops (λ k is. within k (or_right (op.actor == k) _ is)) (λ k is. most k (or_right (op.actor == k) (is_active ops k) is)),
     )
 
 -- A choice between 0 and 0 is 0, whatever the test.
 pub zero_own : (t : Bool) → ◌≡◌ {A = ℕ} (if t then 0 else 0) 0
-zero_own true = refl
-zero_own false = refl
+zero_own a = search arith
 
 -- who is active is a thread of the region, or the scavenger
 work_within : (f : Profile) (work : Work) (k : ℕ) → IsActorBy f work k → k ≤ f.threads
@@ -57,10 +56,7 @@ work_within f work k h = grind arith
 -- An actor with an operation in a sound phase is one of the threads.
 pub active_within : (f : Profile) (asked : List ℕ) (ops : List Op) (k : ℕ) → AreSound f asked ops → is_active ops k ≡ true → k ≤ f.threads
 active_within f asked [] k sound on = absurd (false≢true on)
-active_within f asked (op ∷ ops) k sound on = elim (cases_eq op.actor k) [
-  | inl is ↦ let within = work_within f (work_of op.what) op.actor sound.0 in omega (arith, within, is)
-  | inr other ↦ active_within f (asked_after op.what asked) ops k sound.2 (sym (ap (λ (t : Bool). t || is_active ops k) (ne_eqb op.actor k other)) ∙ on)
-]
+active_within f asked (op ∷ ops) k sound on = let rest = active_within f _ ops k sound.2 in grind (arith, rest, cases_eq, work_within, ne_eqb)
 
 -- ---- the acts of one worker
 if_both : (t : Bool) (act : Act) (xs ys zs : List Act) → zs ≡ xs ++ ys → (if t then act ∷ zs else zs) ≡ (if t then act ∷ xs else xs) ++ ys
@@ -68,7 +64,7 @@ if_both t act xs ys zs h = grind arith
 
 by_both : (owner : Owners) (w : ℕ) (xs ys : List Act) → acts_by owner w (xs ++ ys) ≡ acts_by owner w xs ++ acts_by owner w ys
 by_both owner w [] ys = refl
-by_both owner w (x ∷ xs) ys = if_both (owner (actor_of_act x) == w) x (acts_by owner w xs) (acts_by owner w ys) (acts_by owner w (xs ++ ys)) (by_both owner w xs ys)
+by_both owner w (x ∷ xs) ys = let rest = by_both owner w xs ys in grind (arith, rest, if_both)
 
 -- ---- each act of an operation
 -- by what is so of each operation besides
@@ -76,12 +72,13 @@ module _ (f : Profile) (P : Act → Type 0) (Q : Op → Type 0) (idle : List ℕ
     (each : (op : Op) → IsActorBy f (work_of op.what) op.actor → Q op → AllByRecursion P (acts_of_op idle op)) where
   all_of_kept : (asked : List ℕ) (ops : List Op) → AreSound f asked ops → AllByRecursion Q ops → AllByRecursion P (acts_of_ops idle ops)
   all_of_kept asked [] sound kept = tt
-  all_of_kept asked (op ∷ ops) sound kept = all_both P (acts_of_op idle op) (acts_of_ops idle ops) (each op sound.0 kept.0) (all_of_kept (asked_after op.what asked) ops sound.2 kept.1)
+  all_of_kept asked (op ∷ ops) sound kept = let rest = all_of_kept (asked_after op.what asked) ops sound.2 kept.1 in grind (arith, rest, all_both)
 
 -- the maker of each of these acts is actor j
 abbrev pub AreOf : ℕ → List Act → Type 0
 AreOf j acts = AllByRecursion (λ act. actor_of_act act ≡ j) acts
 
+-- A guarded request and what settles it are the thread's.
 kept_is_of : (keeper : Option ℕ) (op : Op) → AreOf op.actor (act_kept keeper op ∷ (Settles op.actor ∷ []))
 kept_is_of keeper op = grind arith
 
@@ -91,29 +88,28 @@ work_is_of f idle op (Work.Chore chore) of =
     all_of_chore (λ act. actor_of_act act ≡ op.actor) (λ k. Unit {0}) idle chore (λ epoch. sym of) (sym of) (sym of) (λ k n is. sym of) (all_any idle)
 
 -- The acts of operations of one actor are of that actor.
-pub are_of : (f : Profile) (j : ℕ) (idle : List ℕ) (asked : List ℕ) (ops : List Op) → AreSound f asked ops → AllByRecursion (λ (op : Op). op.actor ≡ j) ops
+are_of : (f : Profile) (j : ℕ) (idle : List ℕ) (asked : List ℕ) (ops : List Op) → AreSound f asked ops → AllByRecursion (λ (op : Op). op.actor ≡ j) ops
     → AreOf j (acts_of_ops idle ops)
-are_of f j idle asked ops sound own =
-    all_of_kept f (λ act. actor_of_act act ≡ j) (λ op. op.actor ≡ j) idle (λ op of is. subst (λ (i : ℕ). AreOf i (acts_of_op idle op)) is (work_is_of f idle op (work_of op.what) of)) asked ops sound own
+are_of f j idle asked ops sound own = all_of_kept f (λ act. actor_of_act act ≡ j) (λ op. op.actor ≡ j) idle
+    (λ op of is. subst (λ (i : ℕ). AreOf i (acts_of_op idle op)) is (work_is_of f idle op (work_of op.what) of)) asked ops sound own
 
+-- by the test
 none_if : (t : Bool) → ◌≡◌ {A = List Act} [] (if t then [] else [])
-none_if true = refl
-none_if false = refl
+none_if a = search arith
 
+-- by the test
 one_if : (t : Bool) (act : Act) (acts : List Act) → (if t then act ∷ (if t then acts else []) else (if t then acts else [])) ≡ (if t then act ∷ acts else [])
-one_if true act acts = refl
-one_if false act acts = refl
+one_if a act acts = search arith
 
 -- acts of an actor that is its own worker are that worker's, and nobody else's
 all_or_none : (owner : Owners) (j k : ℕ) (acts : List Act) → owner j ≡ j → AreOf j acts → acts_by owner k acts ≡ (if j == k then acts else [])
 all_or_none owner j k [] own of = none_if (j == k)
 all_or_none owner j k (act ∷ acts) own of =
-    ap (λ (i : ℕ). if i == k then act ∷ acts_by owner k acts else acts_by owner k acts) (ap owner of.0 ∙ own)
-    ∙ ap (λ (more : List Act). if j == k then act ∷ more else more) (all_or_none owner j k acts own of.1) ∙ one_if (j == k) act acts
+    let rest = all_or_none owner j k acts own of.1 in grind (arith, rest, one_if)
 
+-- by the test
 then_others : (t : Bool) (acts rest : List Act) → (if t then acts else []) ++ rest ≡ (if t then acts ++ rest else rest)
-then_others true acts rest = refl
-then_others false acts rest = refl
+then_others a acts rest = search arith
 
 -- The acts of worker k are `whole` of the operations, where that has the acts of each operation of actor k.
 module _ (f : Profile) (owner : Owners) (k : ℕ) (idle : List ℕ) (whole : List Op → List Act) (none : whole [] ≡ [])
@@ -144,6 +140,7 @@ none_own k (op ∷ ops) is =
 abbrev AreIdle : Owners → List ℕ → Type 0
 AreIdle owner ks = AllByRecursion (λ k. owner k ≡ owner 0) ks
 
+-- Both are in the hands of one worker.
 kept_in_hand : (owner : Owners) (keeper : Option ℕ) (op : Op) → MatchOption keeper (Unit {0}) (λ k. owner k ≡ owner op.actor)
     → AreInHand owner (act_kept keeper op ∷ (Settles op.actor ∷ []))
 kept_in_hand owner keeper op h = grind arith
@@ -167,8 +164,8 @@ idle_one threads ops k t rest h i j = grind (arith, owner_of, own_thread, zero_o
 are_idle : (threads : ℕ) (ops : List Op) (k n : ℕ) → k + n ≤ threads + 1
     → AreIdle (owner_in threads ops) (filter (λ k. not (is_active ops k)) (numbers_from k n))
 are_idle threads ops k zero within = tt
-are_idle threads ops k (suc n) within =
-    idle_one threads ops k (is_active ops k) (filter (λ k. not (is_active ops k)) (numbers_from (k + 1) n)) (omega (arith, within)) refl (are_idle threads ops (k + 1) n (omega (arith, within)))
+are_idle threads ops k (suc n) within = idle_one threads ops k (is_active ops k) (filter (λ k. not (is_active ops k)) (numbers_from (k + 1) n))
+    (omega (arith, within)) refl (are_idle threads ops (k + 1) n (omega (arith, within)))
 
 -- each operation is active among all
 actors_within : (threads : ℕ) (all ops : List Op) → ((k : ℕ) → is_active ops k ≡ true → is_active all k ≡ true)
@@ -193,7 +190,7 @@ acts_are_shared f threads asked ops sound kept most =
     let of_thread : (k : ℕ) → 1 ≤ k → acts_by owner k (acts_of_ops idle ops) ≡ own_acts k ops = λ k some.
     of_ops f owner k idle (own_acts k) refl (λ op rest of. own_next f k idle op (work_of op.what) (own_acts k rest) some of) asked ops own sound in (
       all_of_kept f (IsInHand owner) (λ (op : Op). (op.actor ≤ threads) × MatchOption (keeper_in op.what) (Unit {0}) (λ keeper. keeper ≡ threads + op.actor)) idle
-          (λ op of here. hands_one owner idle op (work_of op.what) (kept_owned f threads ops op (work_of op.what) (keeper_in op.what) refl of here.0 here.1) (are_idle threads ops 1 threads (omega arith)))
+          (λ op of here. hands_one owner idle op _ (kept_owned f threads ops op _ _ refl of here.0 here.1) (are_idle threads ops 1 threads (omega arith)))
           asked ops sound (both_kept threads ops kept (actors_within threads ops ops (λ k is. is) most)),
       λ k some within active. of_thread k some,
       λ k some within inactive. of_thread k some ∙ none_own k ops inactive,
@@ -256,7 +253,7 @@ phase_held f asked ops sound kept one =
     let owner = owner_in f.threads ops in
     let idle = idle_threads f.threads ops in
     let hands = (acts_are_shared f f.threads asked ops sound kept (λ j on. active_within f asked ops j sound on)).0 in
-    ((k, wakes_held ops k (numbers_from 1 f.threads) one.own), ((owner k, all_held owner k (acts_of_ops idle ops) hands (are_of f k idle asked ops sound one.own)), tt))
+    ((k, wakes_held ops k _ one.own), ((owner k, all_held owner k (acts_of_ops idle ops) hands (are_of f k idle asked ops sound one.own)), tt))
 
 -- ---- the phases of a plan, whose operations follow each other
 sound_front : (f : Profile) (asked : List ℕ) (xs ys : List Op) → AreSound f asked (xs ++ ys) → AreSound f asked xs
@@ -267,6 +264,7 @@ sound_back : (f : Profile) (asked : List ℕ) (xs ys : List Op) → AreSound f a
 sound_back f asked [] ys sound = sound
 sound_back f asked (x ∷ xs) ys sound = sound_back f (asked_after x.what asked) xs ys sound.2
 
+-- Where there is a keeper, it stands behind the threads.
 behind_one : (threads actor guard : ℕ) (o : Option ℕ) → MatchOption o (Unit {0}) (λ keeper. (keeper ≡ threads + actor) × (guard ≢ 0))
     → MatchOption o (Unit {0}) (λ keeper. keeper ≡ threads + actor)
 behind_one threads actor guard o h = grind arith
@@ -285,7 +283,7 @@ later_held : (f : Profile) (guard keepers n : ℕ) (asked : List ℕ) (phases : 
 later_held f guard keepers n asked [] sound kept one = close_held f.threads keepers
 later_held f guard keepers n asked (p ∷ ps) sound kept one =
     let this = phase_held f asked p (sound_front f asked p (all_ops ps) sound) (kept_front f guard p (all_ops ps) kept) one.0 in
-    let later = later_held f guard keepers (n + 1) (asked_by asked p) ps (sound_back f asked p (all_ops ps) sound) (kept_back f guard p (all_ops ps) kept) one.1 in
+    let later = later_held f guard keepers (n + 1) _ ps (sound_back f asked p (all_ops ps) sound) (kept_back f guard p (all_ops ps) kept) one.1 in
     ((0, (tt, tt)), all_both IsOneHanded (phase_stages f.threads p) (stages_from f.threads keepers (n + 1) ps) this later)
 
 -- the first phase has no mark
@@ -293,12 +291,11 @@ all_phases_held : (f : Profile) (guard keepers : ℕ) (phases : List (List Op)) 
     → AllByRecursion AreOfOneActor phases → AllByRecursion IsOneHanded (stages_of f.threads keepers phases)
 all_phases_held f guard keepers [] sound kept one = close_held f.threads keepers
 all_phases_held f guard keepers (p ∷ ps) sound kept one =
-    let this = phase_held f [] p (sound_front f [] p (all_ops ps) sound) (kept_front f guard p (all_ops ps) kept) one.0 in
-    let later = later_held f guard keepers 2 (asked_by [] p) ps (sound_back f [] p (all_ops ps) sound) (kept_back f guard p (all_ops ps) kept) one.1 in
-    all_both IsOneHanded (phase_stages f.threads p) (stages_from f.threads keepers 2 ps) this later
+    search (arith, phase_held, sound_front, kept_front, later_held, sound_back, kept_back, all_both)
 
 -- Where one actor alone has operations in a phase, the list is in the order of the acts.
 pub alone_in_order : AloneIsInOrder
 alone_in_order text plan way whole records is one replay =
     let sound = every_plan is in
-    one_handed_list (region_of plan) (stages_of_plan plan) at_start replay.reached [] whole (all_phases_held plan.profile plan.guard (keepers_of plan) (phases_of plan) sound.operations sound.keepers one) replay.stages refl
+    one_handed_list (region_of plan) (stages_of_plan plan) at_start replay.reached [] whole
+    (all_phases_held plan.profile plan.guard (keepers_of plan) (phases_of plan) sound.operations sound.keepers one) replay.stages refl

@@ -1,12 +1,12 @@
 -- Each plan can be replayed: its operations follow one another, its bounds suffice for their records, and its keepers are asked for no more than they have room for.
 use Rattle.std.proofs.Common.{◌≡◌, ◌≢◌, ◌∷◌, Option, Some, refl, ap, ◌∙◌, ℕ, ◌+◌, ◌*◌, ◌<◌, ◌≤◌, List, [], length, slice_index, arith, ◌^◌, MatchOption, ◌-◌}
-use Rattle.std.proofs.Common.{◌==◌, Bool, if◌then◌else◌, subst, eq-eqb, ne_eqb, zero, suc, false}
-use Rattle.std.proofs.lemmas.{List.length-map, Bool.cases_eq}
+use Rattle.std.proofs.Common.{◌==◌, Bool, if◌then◌else◌, subst, eq-eqb, ne_eqb, zero, suc, false, ◌++◌, sym, append_assoc, append-nil}
+use Rattle.std.proofs.lemmas.{List.length-map, Bool.cases_eq, Bool.false≢true}
 use Rattle.pas_profile.specs.Profiles.{IsValid, IsAdmitted}
 use Rattle.pas_profile.specs.declared.profile.Profile.{Profile}
 use Rattle.std.specs.List.{AllByRecursion}
 use Rattle.pas_trace.specs.{Reasons.actors_by, Plans.IsPlanOf, Plans.bounds_of, Plans.ops_of}
-use Rattle.pas_trace.specs.Acts.{Act, MakesPass, Guards, Settles, StopsIdle, act_kept, acts_of_chore, acts_of_work, acts_of}
+use Rattle.pas_trace.specs.Acts.{Act, Guards, Settles, act_kept, acts_of_chore, acts_of_work, acts_of}
 use Rattle.pas_trace.specs.Asked.{work_of, of_task, keeper_of, keeper_in, request_of, request_in}
 use Rattle.pas_trace.specs.EveryPlan.{all_ops, asked_after, IsThread, IsActorBy, IsActorOf, IsSoundTask, IsSoundWork, AreSound, AreKept, operations_of, IsKept}
 use Rattle.pas_trace.specs.EveryPlan.{kept_of_work, kept_records}
@@ -19,12 +19,13 @@ use Rattle.pas_acts.proofs.ActsOfPlan.{ArePlanned, are_planned, plan_costs, plan
 use Rattle.pas_acts.proofs.ActsOfPlan.{free_map}
 use Rattle.pas_answers.proofs.EachAct.{all_any, all_of_chore, all_of_close, all_acts}
 use Rattle.pas_acts.proofs.Naming.{below_all, below_each}
-use Rattle.pas_acts.specs.PlanKeepers.{one_guarded, guarded_of}
+use Rattle.pas_acts.specs.{PlanKeepers.one_guarded, PlanKeepers.guarded_of, Shares.ArePhasesArranged}
 use Rattle.pas_acts.specs.Tries.{tries_of_act, tries_of, IsKeptFor, AreKeptFor}
 use Rattle.pas_steps.specs.Unknown.{unknown_below}
 use Rattle.pas_cache.specs.Locals.{any_covers, any_keeps}
 use Rattle.pas_segregated.specs.declared.slots.Slots.{Slots}
-use Rattle.pas_answers.specs.Calls.{owed_events}
+use Rattle.pas_answers.specs.{Calls.owed_events, Ways.AreSpoken, Ways.by_phases}
+use Rattle.pas_report.specs.declared.record.Record.{Record}
 
 -- ---- the region, which has a place for each keeper
 -- what is said of a plan's operations in its own profile holds in a region of as many actors or more
@@ -32,6 +33,7 @@ module _ (f : Profile) (threads : ℕ) (more : f.threads ≤ threads) where
   abbrev pub region : Profile
   region = record f { threads = threads }
 
+  -- What an actor of the profile may do, it may do in the region, which has as many: work by work.
   wider_actor : (work : Work) (k : ℕ) → IsActorBy f work k → IsActorBy region work k
   wider_actor work k h = grind arith
 
@@ -47,7 +49,7 @@ module _ (f : Profile) (threads : ℕ) (more : f.threads ≤ threads) where
   -- Operations that are sound in a region are sound in one with more threads.
   pub wider_sound : (asked : List ℕ) (ops : List Op) → AreSound f asked ops → AreSound region asked ops
   wider_sound asked [] sound = tt
-  wider_sound asked (op ∷ ops) sound = (wider_actor (work_of op.what) op.actor sound.0, wider_work asked (work_of op.what) sound.1, wider_sound (asked_after op.what asked) ops sound.2)
+  wider_sound asked (op ∷ ops) sound = let rest = wider_sound (asked_after op.what asked) ops sound.2 in grind (arith, rest, wider_actor, wider_work)
 
   -- what acts cost goes by its pages alone
   same_cost : (act : Act) → cost_of_act region act ≡ cost_of_act f act
@@ -57,9 +59,9 @@ module _ (f : Profile) (threads : ℕ) (more : f.threads ≤ threads) where
   same_costs [] = refl
   same_costs (act ∷ acts) = ap (λ n. n + costs_of region acts) (same_cost act) ∙ ap (λ n. cost_of_act f act + n) (same_costs acts)
 
+  -- by computing, for each act
   same_unback : (act : Act) → unbacks_of_act region act ≡ unbacks_of_act f act
-  same_unback MakesPass = refl
-  same_unback act = refl
+  same_unback act = search arith
 
   same_unbacks : (acts : List Act) → unbacks_of region acts ≡ unbacks_of f acts
   same_unbacks [] = refl
@@ -71,6 +73,7 @@ above_one : (f : Profile) (guard : ℕ) (actor : ℕ) (o : Option ℕ) → 1 ≤
     → MatchOption o (Unit {0}) (λ keeper. IsThread (record f { threads = actors_by guard f.threads }) keeper × (actor < keeper))
 above_one f guard actor o h most kept = search (arith, keepers_among)
 
+-- A keeper that is asked for is one of the profile: work by work.
 of_thread : (f : Profile) (work : Work) (k : ℕ) (o : Option ℕ) → IsActorBy f work k → of_task keeper_of work ≡ o → (keeper : ℕ) → o ≡ Some keeper → IsThread f k
 of_thread f work k o h i keeper j = grind arith
 
@@ -82,7 +85,7 @@ keeps_above f guard op o is of kept = search (arith, of_thread, above_one)
 all_above : (f : Profile) (guard : ℕ) (asked : List ℕ) (ops : List Op) → AreSound f asked ops → AreKept f guard ops
     → AllByRecursion (KeepsAbove (record f { threads = actors_by guard f.threads })) ops
 all_above f guard asked [] sound kept = tt
-all_above f guard asked (op ∷ ops) sound kept = (keeps_above f guard op (keeper_in op.what) refl sound.0 kept.0, all_above f guard (asked_after op.what asked) ops sound.2 kept.1)
+all_above f guard asked (op ∷ ops) sound kept = let rest = all_above f guard (asked_after op.what asked) ops sound.2 kept.1 in grind (arith, rest, keeps_above)
 
 -- ---- the plan
 pub plan_valid : {text : List ℕ} {plan : Plan} → IsPlanOf text plan → IsValid (region_of plan)
@@ -101,7 +104,8 @@ plan_bounds {text} {plan} is = (every_plan is).count
 
 -- A plan of a text of at most 16 MB has fewer than 2^32 phases.
 pub plan_phases : {text : List ℕ} {plan : Plan} → IsPlanOf text plan → length text ≤ 16777216 → length (phases_of plan) < 2 ^ 32
-plan_phases {text} {plan} is short = let few = (every_plan is).phases in let same = length-map plan.phases.phases.items ops_of in omega (arith, few, same, short)
+plan_phases {text} {plan} is short =
+    let few = (every_plan is).phases in let same = length-map plan.phases.phases.items ops_of in omega (arith, few, same, short)
 
 -- The operations of a plan of a text are planned.
 pub plan_planned : {text : List ℕ} {plan : Plan} → IsPlanOf text plan → ArePlanned plan.profile (all_ops (phases_of plan))
@@ -116,8 +120,7 @@ pub plan_above : {text : List ℕ} {plan : Plan} → IsPlanOf text plan → AllB
 plan_above {text} {plan} is = let sound = every_plan is in all_above plan.profile plan.guard [] (all_ops (phases_of plan)) sound.operations sound.keepers
 
 -- The acts of a plan of a text fit its region, for each limit on its names.
-pub plan_fit : {text : List ℕ} {plan : Plan} → IsPlanOf text plan → (limit : ℕ) → AllBelow limit (phases_of plan)
-    → AreFit (region_of plan) limit [] (acts_of_plan plan)
+pub plan_fit : {text plan : _} → IsPlanOf text plan → (limit : ℕ) → AllBelow limit (phases_of plan) → AreFit (region_of plan) limit [] (acts_of_plan plan)
 plan_fit {text} {plan} is limit below =
     let sound = every_plan is in
     acts_fit (region_of plan) limit (threads_of plan) (keepers_of plan) (phases_of plan) (below_all limit (phases_of plan) below)
@@ -178,7 +181,8 @@ keeps_work : (f : Profile) (guard : ℕ) (idle : List ℕ) (op : Op) (work : Wor
     → MatchOption (of_task keeper_of work) (Unit {0}) (λ k. (k ≡ f.threads + op.actor) × (guard ≢ 0))
     → AreKeptFor f.threads (if guard == 0 then 0 else f.threads) (acts_of_work idle op work)
 keeps_work f guard idle op (Work.Own task) of kept = keeps_task f guard op (keeper_of task) of.1 kept
-keeps_work f guard idle op (Work.Chore chore) of kept = all_of_chore (IsKeptFor f.threads (if guard == 0 then 0 else f.threads)) (λ k. Unit {0}) idle chore (λ epoch. tt) tt tt (λ k n is. tt) (all_any idle)
+keeps_work f guard idle op (Work.Chore chore) of kept =
+    all_of_chore (IsKeptFor f.threads (if guard == 0 then 0 else f.threads)) (λ k. Unit {0}) idle chore (λ epoch. tt) tt tt (λ k n is. tt) (all_any idle)
 
 -- Each guarded act of a plan is tried by its thread's keeper.
 pub plan_keeps : {text : List ℕ} {plan : Plan} → IsPlanOf text plan → AreKeptFor (threads_of plan) (keepers_of plan) (acts_of_plan plan)
@@ -222,8 +226,7 @@ module _ (much most : Op → ℕ) (k : ℕ) (enough : (op : Op) (keeper : ℕ) �
   asked_kept op keeper is = search (arith, if_less)
 
   asked_chore : (idle : List ℕ) (chore : Chore) → sum_over (asked_of_act much k) (acts_of_chore idle chore) ≡ 0
-  asked_chore idle (Chore.Idle n) = let stops = free_map (asked_of_act much k) (λ j. StopsIdle j n) (λ j. refl) idle in omega (arith, stops)
-  asked_chore idle _ = refl
+  asked_chore idle a = search (arith, free_map)
 
   asked_work : (idle : List ℕ) (op : Op) (work : Work) → work_of op.what ≡ work
       → sum_over (asked_of_act much k) (acts_of_work idle op work) ≤ (if op.actor == k then most op else 0)
@@ -248,7 +251,8 @@ kept_own {text} {plan} is k some within =
     let f = plan.profile in
     let bound = (every_plan is).kept k (is_guarded plan (omega (arith, some, within))) some (omega (arith, within, keepers_few plan)) in
     let same = asked_sum (λ op. kept_cost_of (request_in op.what)) (kept_cost_of_act (f.threads + k)) f.threads (keepers_of plan) k (kept_same f.threads (keepers_of plan) k) (acts_of_plan plan) (plan_keeps is) in
-    let all = asked_all (λ op. kept_cost_of (request_in op.what)) (λ op. kept_of_work (work_of op.what)) k (λ op keeper asks. kept_enough (work_of op.what) keeper asks) f (keepers_of plan) (phases_of plan) (plan_planned is) in
+    let all = asked_all (λ op. kept_cost_of (request_in op.what)) (λ op. kept_of_work (work_of op.what)) k
+    (λ op keeper asks. kept_enough (work_of op.what) keeper asks) f (keepers_of plan) (phases_of plan) (plan_planned is) in
     omega (arith, bound, same, all, kept_sum k (all_ops (phases_of plan)))
 
 -- What a keeper may cost, with the region's pages, is within its bound.
@@ -257,7 +261,8 @@ pub plan_kept_own : {text : List ℕ} {plan : Plan} → IsPlanOf text plan → (
 plan_kept_own {text} {plan} is k past within =
     let actors = plan_actors plan in
     let place : threads_of plan + (k - threads_of plan) ≡ k = omega (arith, past) in
-    subst (λ (n : ℕ). (region_of plan).pages + kept_costs_of n (acts_of_plan plan) ≤ slice_index (bounds_of plan.bounds) n) place (kept_own is (k - threads_of plan) (omega (arith, past)) (omega (arith, past, within, actors)))
+    subst (λ (n : ℕ). (region_of plan).pages + kept_costs_of n (acts_of_plan plan) ≤ slice_index (bounds_of plan.bounds) n) place
+    (kept_own is (k - threads_of plan) (omega (arith, past)) (omega (arith, past, within, actors)))
 
 -- ---- guards
 guarded_enough : (keeper : Option ℕ) (k : ℕ) → keeper ≡ Some k → 1 ≤ one_guarded keeper
@@ -268,8 +273,7 @@ guarded_sum k [] = refl
 guarded_sum k (op ∷ ops) = ap (λ n. (if op.actor == k then one_guarded (keeper_in op.what) else 0) + n) (guarded_sum k ops)
 
 -- a keeper tries no more requests than its book has places for
-pub plan_tries : {text : List ℕ} {plan : Plan} → IsPlanOf text plan → (k : ℕ)
-    → tries_of (threads_of plan + k) (acts_of_plan plan) ≤ guarded_of k (operations_of plan)
+pub plan_tries : {text plan : _} → IsPlanOf text plan → (k : ℕ) → tries_of (threads_of plan + k) (acts_of_plan plan) ≤ guarded_of k (operations_of plan)
 plan_tries {text} {plan} is k =
     let f = plan.profile in
     let same = asked_sum (λ op. 1) (tries_of_act (f.threads + k)) f.threads (keepers_of plan) k (tries_same f.threads (keepers_of plan) k) (acts_of_plan plan) (plan_keeps is) in
@@ -287,3 +291,22 @@ pages_owed_at_first f = let all = unknown_all f.pages in omega (arith, all)
 -- A cache without local allocators covers no grain and keeps no page.
 pub no_slots : (locals : List Slots) → locals ≡ [] → (g : ℕ) → (any_covers locals g ≡ false) × (any_keeps locals g ≡ false)
 no_slots locals is g = (ap (λ (xs : List Slots). any_covers xs g) is, ap (λ (xs : List Slots). any_keeps xs g) is)
+
+-- The records of phases, as they are written.
+
+-- records without a mark are added to those since the last one
+gathers : (threads : ℕ) (since said rest : List Record) → AreSpoken said → by_phases threads since (said ++ rest) ≡ by_phases threads (since ++ said) rest
+gathers threads since [] rest spoken = ap (λ (rs : List Record). by_phases threads rs rest) (sym (append-nil since))
+gathers threads since (Record.Event e ∷ said) rest spoken = gathers threads (since ++ Record.Event e ∷ []) said rest spoken.1
+    ∙ ap (λ (rs : List Record). by_phases threads rs rest) (append_assoc since (Record.Event e ∷ []) said)
+gathers threads since (Record.Said k s ∷ said) rest spoken = gathers threads (since ++ Record.Said k s ∷ []) said rest spoken.1
+    ∙ ap (λ (rs : List Record). by_phases threads rs rest) (append_assoc since (Record.Said k s ∷ []) said)
+gathers threads since _ rest spoken = absurd (false≢true spoken.0.1)
+
+-- The records of phases are arranged as those of each phase, one after the other.
+pub are_arranged : ArePhasesArranged
+are_arranged threads said spoken = (
+  λ n more. gathers threads [] said (Record.Phase n ∷ more) spoken,
+  λ more. gathers threads [] said (Record.Close ∷ more) spoken,
+  ap (λ (rs : List Record). by_phases threads [] rs) (sym (append-nil said)) ∙ gathers threads [] said [] spoken,
+)

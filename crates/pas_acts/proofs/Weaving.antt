@@ -1,5 +1,5 @@
 -- What workers did, each for itself, is put into the order of the acts: what a piece does to each one's share, and then the whole.
-use Rattle.std.proofs.Common.{arith, ◌≡◌, ◌≢◌, ℕ, ◌==◌, Bool, false, if◌then◌else◌, List, [], ◌∷◌, ◌++◌, refl, ap, sym, ◌∙◌, append-nil, ne_eqb, ◌+◌, ◌≤◌, true}
+use Rattle.std.proofs.Common.{arith, ◌≡◌, ◌≢◌, ℕ, ◌==◌, Bool, false, if◌then◌else◌, List, [], ◌∷◌, ◌++◌, refl, ap, sym, ◌∙◌, append-nil, ne_eqb, ◌+◌, true}
 use Rattle.std.proofs.Common.{Option, None, Some, inl, inr, append_assoc, max, subst, IsSomeAnd, eq-eqb}
 use Rattle.std.proofs.lemmas.Bool.{cases_eq}
 use Rattle.pas_steps.specs.{Lists.Whole, Lists.part, Desks.triple, Desks.triples, Events.events_by, Views.View, Desks.made}
@@ -41,89 +41,92 @@ steps_past chosen k (m ∷ steps) l other = step_passed chosen (triple k m) (tri
 
 -- ---- one thing of the two is changed, and stays shared
 module _ {owner : Owners} {w : ℕ} {own p : Progress} (share : IsShareOf owner w own p) where
+  -- all else is as the share has it
   by_lists : (l m : Whole) → steps_by (in_hands owner w) l ≡ steps_by (in_hands owner w) m → ((j : ℕ) → owner j ≡ w → part j l ≡ part j m)
       → IsShareOf owner w (record own { list = l }) (record p { list = m })
-  by_lists l m order same = record { steps = order; parts = same; caches = share.caches; books = share.books; records = share.records; epoch = share.epoch; names = share.names }
+  by_lists l m order same = search arith
 
+  -- all else is as the share has it
   by_caches : (c d : Caches) → ((j : ℕ) → owner j ≡ w → c j ≡ d j) → IsShareOf owner w (record own { caches = c }) (record p { caches = d })
-  by_caches c d same = record { steps = share.steps; parts = share.parts; caches = same; books = share.books; records = share.records; epoch = share.epoch; names = share.names }
+  by_caches c d same = search arith
 
+  -- all else is as the share has it
   by_books : (a b : Books) → ((j : ℕ) → owner j ≡ w → a j ≡ b j) → IsShareOf owner w (record own { books = a }) (record p { books = b })
-  by_books a b same = record { steps = share.steps; parts = share.parts; caches = share.caches; books = same; records = share.records; epoch = share.epoch; names = share.names }
+  by_books a b same = search arith
 
+  -- all else is as the share has it
   by_records : (rs ss : List Record) → ((j : ℕ) → owner j ≡ w → records_by j rs ≡ records_by j ss)
       → IsShareOf owner w (record own { records = rs }) (record p { records = ss })
-  by_records rs ss same = record { steps = share.steps; parts = share.parts; caches = share.caches; books = share.books; records = same; epoch = share.epoch; names = share.names }
+  by_records rs ss same = search arith
 
   -- A worker's share is so by fewer names, where these are among all.
-  pub by_names : (few many : List Named) → AreAmong few many → IsShareOf owner w (record own { names = few }) (record p { names = many })
-  by_names few many among = record { steps = share.steps; parts = share.parts; caches = share.caches; books = share.books; records = share.records; epoch = share.epoch; names = among }
+  by_names : (few many : List Named) → AreAmong few many → IsShareOf owner w (record own { names = few }) (record p { names = many })
+  by_names few many among = search arith
 
   -- A worker's share may have another epoch, unless the scavenger is in its hands.
-  pub by_epochs : (e f : ℕ) → (owner 0 ≡ w → e ≡ f) → IsShareOf owner w (record own { epoch = e }) (record p { epoch = f })
-  by_epochs e f same = record { steps = share.steps; parts = share.parts; caches = share.caches; books = share.books; records = share.records; epoch = same; names = share.names }
+  by_epochs : (e f : ℕ) → (owner 0 ≡ w → e ≡ f) → IsShareOf owner w (record own { epoch = e }) (record p { epoch = f })
+  by_epochs e f same = search arith
 
 -- ---- the same change at both
-pub share_list : {owner : Owners} {w : ℕ} {own p : Progress} (k : ℕ) (steps : List Made) → IsShareOf owner w own p
+share_list : {owner : Owners} {w : ℕ} {own p : Progress} (k : ℕ) (steps : List Made) → IsShareOf owner w own p
     → IsShareOf owner w (record own { list = triples k steps ++ own.list }) (record p { list = triples k steps ++ p.list })
-share_list {owner} {w} {own} {p} k steps share = by_lists share (triples k steps ++ own.list) (triples k steps ++ p.list) (same_steps (in_hands owner w) (triples k steps) own.list p.list share.steps) (λ j is. same_part j k steps own.list p.list (share.parts j is))
+share_list {owner} {w} {own} {p} k steps share = search (arith, by_lists, same_steps, same_part)
 
 -- A worker's share changes as the whole does, where one cache became another.
-pub share_cache : {owner : Owners} {w : ℕ} {own p : Progress} (k : ℕ) (c c' : Cached) → c ≡ c' → IsShareOf owner w own p
+share_cache : {owner : Owners} {w : ℕ} {own p : Progress} (k : ℕ) (c c' : Cached) → c ≡ c' → IsShareOf owner w own p
     → IsShareOf owner w (record own { caches = with_cache own.caches k c }) (record p { caches = with_cache p.caches k c' })
 share_cache {owner} {w} {own} {p} k c c' same share =
-    by_caches share (with_cache own.caches k c) (with_cache p.caches k c') (λ j is. ap (λ (d : Cached). if j == k then c else d) (share.caches j is) ∙ ap (λ (d : Cached). if j == k then d else p.caches j) same)
+    search (arith, by_caches)
 
 -- A worker's share changes as the whole does, where one book became another.
-pub share_book : {owner : Owners} {w : ℕ} {own p : Progress} (k : ℕ) (guards : List Guard) → IsShareOf owner w own p
+share_book : {owner : Owners} {w : ℕ} {own p : Progress} (k : ℕ) (guards : List Guard) → IsShareOf owner w own p
     → IsShareOf owner w (record own { books = with_book own.books k guards }) (record p { books = with_book p.books k guards })
 share_book {owner} {w} {own} {p} k guards share =
-    by_books share (with_book own.books k guards) (with_book p.books k guards) (λ j is. ap (λ (gs : List Guard). if j == k then guards else gs) (share.books j is))
+    search (arith, by_books)
 
 -- A worker's share changes as the whole does, where records were added.
-pub share_records : {owner : Owners} {w : ℕ} {own p : Progress} (rs : List Record) → IsShareOf owner w own p
-    → IsShareOf owner w (with_records own rs) (with_records p rs)
+share_records : {owner w own p : _} (rs : List Record) → IsShareOf owner w own p → IsShareOf owner w (with_records own rs) (with_records p rs)
 share_records {owner} {w} {own} {p} rs share =
-    by_records share (own.records ++ rs) (p.records ++ rs) (λ j is. records_both j own.records rs ∙ ap (λ (xs : List Record). xs ++ records_by j rs) (share.records j is) ∙ sym (records_both j p.records rs))
+    search (arith, by_records, records_both)
 
 -- ---- a change of what another worker has in its hands
 apart : (owner : Owners) (k j x : ℕ) → owner k ≢ x → owner j ≡ x → k ≢ j
 apart owner k j x other is same = other (ap owner same ∙ is)
 
 -- Another worker's share stays as it is where an actor of this one makes steps.
-pub beside_list : {owner : Owners} {x : ℕ} {own p : Progress} (k : ℕ) (steps : List Made) → owner k ≢ x → IsShareOf owner x own p
+beside_list : {owner : Owners} {x : ℕ} {own p : Progress} (k : ℕ) (steps : List Made) → owner k ≢ x → IsShareOf owner x own p
     → IsShareOf owner x own (record p { list = triples k steps ++ p.list })
-beside_list {owner} {x} {own} {p} k steps other share = by_lists share own.list (triples k steps ++ p.list) (share.steps ∙ sym (steps_past (in_hands owner x) k steps p.list (ne_eqb (owner k) x other))) (λ j is. share.parts j is ∙ sym (part_of_others j k steps p.list (apart owner k j x other is)))
+beside_list {owner} {x} {own} {p} k steps other share = search (arith, by_lists, steps_past, ne_eqb, part_of_others)
 
 -- Another worker's share stays as it is where a cache in this one's hands changes.
-pub beside_cache : {owner : Owners} {x : ℕ} {own p : Progress} (k : ℕ) (c : Cached) → owner k ≢ x → IsShareOf owner x own p
+beside_cache : {owner : Owners} {x : ℕ} {own p : Progress} (k : ℕ) (c : Cached) → owner k ≢ x → IsShareOf owner x own p
     → IsShareOf owner x own (record p { caches = with_cache p.caches k c })
 beside_cache {owner} {x} {own} {p} k c other share =
-    by_caches share own.caches (with_cache p.caches k c) (λ j is. share.caches j is ∙ sym (ap (λ (t : Bool). if t then c else p.caches j) (ne_eqb j k (λ same. apart owner k j x other is (sym same)))))
+    search (arith, by_caches, ne_eqb)
 
 -- Another worker's share stays as it is where a book in this one's hands changes.
-pub beside_book : {owner : Owners} {x : ℕ} {own p : Progress} (k : ℕ) (guards : List Guard) → owner k ≢ x → IsShareOf owner x own p
+beside_book : {owner : Owners} {x : ℕ} {own p : Progress} (k : ℕ) (guards : List Guard) → owner k ≢ x → IsShareOf owner x own p
     → IsShareOf owner x own (record p { books = with_book p.books k guards })
 beside_book {owner} {x} {own} {p} k guards other share =
-    by_books share own.books (with_book p.books k guards) (λ j is. share.books j is ∙ sym (ap (λ (t : Bool). if t then guards else p.books j) (ne_eqb j k (λ same. apart owner k j x other is (sym same)))))
+    search (arith, by_books, ne_eqb)
 
 -- none of these records is of an actor in the hands of worker x
 abbrev pub AreElsewhere : Owners → ℕ → List Record → Type 0
 AreElsewhere owner x rs = (j : ℕ) → owner j ≡ x → records_by j rs ≡ []
 
 -- Records of an actor in another one's hands are elsewhere.
-pub elsewhere : (owner : Owners) (x k : ℕ) (rs : List Record) → EachOf k rs → owner k ≢ x → AreElsewhere owner x rs
+elsewhere : (owner : Owners) (x k : ℕ) (rs : List Record) → EachOf k rs → owner k ≢ x → AreElsewhere owner x rs
 elsewhere owner x k rs each other = λ j is. none_by j k rs each (apart owner k j x other is)
 
 -- Two lists of records that are elsewhere are so together.
-pub elsewhere_both : (owner : Owners) (x : ℕ) (rs ss : List Record) → AreElsewhere owner x rs → AreElsewhere owner x ss → AreElsewhere owner x (rs ++ ss)
+elsewhere_both : (owner : Owners) (x : ℕ) (rs ss : List Record) → AreElsewhere owner x rs → AreElsewhere owner x ss → AreElsewhere owner x (rs ++ ss)
 elsewhere_both owner x rs ss one two = λ j is. records_both j rs ss ∙ ap (λ (xs : List Record). xs ++ records_by j ss) (one j is) ∙ two j is
 
 -- Another worker's share stays as it is where records elsewhere are added.
-pub beside_records : {owner : Owners} {x : ℕ} {own p : Progress} (rs : List Record) → AreElsewhere owner x rs → IsShareOf owner x own p
-    → IsShareOf owner x own (with_records p rs)
+beside_records : {owner x own p : _} (rs : List Record) → AreElsewhere owner x rs → IsShareOf owner x own p → IsShareOf owner x own (with_records p rs)
 beside_records {owner} {x} {own} {p} rs away share =
-    by_records share own.records (p.records ++ rs) (λ j is. share.records j is ∙ sym (records_both j p.records rs ∙ ap (λ (xs : List Record). records_by j p.records ++ xs) (away j is) ∙ append-nil (records_by j p.records)))
+    by_records share own.records (p.records ++ rs) (λ j is. share.records j is
+    ∙ sym (records_both j p.records rs ∙ ap (λ (xs : List Record). records_by j p.records ++ xs) (away j is) ∙ append-nil (records_by j p.records)))
 
 -- ---- one act
 -- An act that was answered from a share on is answered from all on. Its worker has its share of what came of it, and each other worker the one that it had.
@@ -146,17 +149,21 @@ operates_one f owner limit asked op p before after fit only share did =
     let a = did.0 in
     let v = share.parts k refl in
     let c = share.caches k refl in
-    let here : IsAnswered f k op.what (having before.names (part k p.list) (p.caches k)) a = subst (λ (d : Cached). IsAnswered f k op.what (having before.names (part k p.list) d) a) c (subst (λ (u : View). IsAnswered f k op.what (having before.names u (before.caches k)) a) v did.1) in
+    let here : IsAnswered f k op.what (having before.names (part k p.list) (p.caches k)) a = subst (λ (d : Cached). IsAnswered f k op.what
+    (having before.names (part k p.list) d) a) c (subst (λ (u : View). IsAnswered f k op.what (having before.names u (before.caches k)) a) v did.1) in
     let again = retold f limit k op.what asked before.names p.names (part k p.list) (p.caches k) a share.names only fit here in
     let b = answer_of a.steps a.said a.found again.after a.cache in
     let piece = records_of (events_by k (part k p.list) a.steps) ++ said_by k a.said in
     let each = piece_of k (part k p.list) a.steps a.said in
-    let same : after ≡ with_records (record (with_steps before k a.steps a.cache) { names = a.names }) piece = did.2 ∙ ap (λ (u : View). with_records (record (with_steps before k a.steps a.cache) { names = a.names }) (records_of (events_by k u a.steps) ++ said_by k a.said)) v in
+    let same : after ≡ with_records (record (with_steps before k a.steps a.cache) { names = a.names }) piece = did.2 ∙ ap (λ (u : View). with_records
+    (record (with_steps before k a.steps a.cache) { names = a.names }) (records_of (events_by k u a.steps) ++ said_by k a.said)) v in
     record {
       next = after_answer p k b;
       advances = (b, again.answered, refl);
-      share = subst (λ (q : Progress). IsShareOf owner (owner k) q (after_answer p k b)) (sym same) (share_records piece (by_names (share_cache k a.cache a.cache refl (share_list k a.steps share)) a.names again.after again.own));
-      beside = λ x o other theirs. beside_records piece (elsewhere owner x k piece each other) (by_names (beside_cache k a.cache other (beside_list k a.steps other theirs)) o.names again.after (again.others o.names theirs.names));
+      share = subst (λ (q : Progress). IsShareOf owner (owner k) q (after_answer p k b)) (sym same)
+          (share_records piece (by_names (share_cache k a.cache a.cache refl (share_list k a.steps share)) a.names again.after again.own));
+      beside = λ x o other theirs. beside_records piece (elsewhere owner x k piece each other)
+          (by_names (beside_cache k a.cache other (beside_list k a.steps other theirs)) o.names again.after (again.others o.names theirs.names));
       said = piece;
       records_are = refl;
       spoken = spoken_piece k piece each;
@@ -165,22 +172,11 @@ operates_one f owner limit asked op p before after fit only share did =
     }
 
 -- An act that changes no name: its worker comes to `mine` by it, all come to `next`, and `said` is added to the records.
-woven_by : {f : Profile} {owner : Owners} {asked : List ℕ} {act : Act} {p after mine : Progress} (next : Progress) (said : List Record)
-    → OnlyAsked (asked_after_act act asked) next.names → next.names ≡ p.names → next.records ≡ p.records ++ said → AreSpoken said → after ≡ mine
-    → IsShareOf owner (owner (actor_of_act act)) mine next
+woven_by : {p : Progress} {f owner asked act after mine : _} (next : Progress) (said : List Record) → OnlyAsked (asked_after_act act asked) next.names
+    → next.names ≡ p.names → next.records ≡ p.records ++ said → AreSpoken said → after ≡ mine → IsShareOf owner (owner (actor_of_act act)) mine next
     → ((x : ℕ) (other : Progress) → owner (actor_of_act act) ≢ x → IsShareOf owner x other p → IsShareOf owner x other next) → Advances f act p next
     → IsWovenOne f owner act asked p after
-woven_by {f} {owner} {asked} {act} {p} {after} {mine} next said only names records spoken is share beside advances = record {
-  next = next;
-  advances = advances;
-  share = subst (λ (q : Progress). IsShareOf owner (owner (actor_of_act act)) q next) (sym is) share;
-  beside = beside;
-  said = said;
-  records_are = records;
-  spoken = spoken;
-  only_asked = only;
-  same_names = λ n none. ap (λ (ns : List Named). standing_for ns n) names;
-}
+woven_by {p = p} {f = f} {owner = owner} {asked = asked} {act = act} {after = after} {mine = mine} next said only names records spoken is share beside advances = search arith
 
 -- ---- a stop, which says so much besides
 stops_one : (f : Profile) (owner : Owners) (asked : List ℕ) (act : Act) (k j : ℕ) (p before after : Progress) (steps : List Made) (c : Cached)
@@ -194,15 +190,17 @@ stops_one f owner asked act k j p before after steps c more mine said_mine each 
     let events = records_of (events_by k (part k p.list) steps) in
     let own = events_of_piece k (part k p.list) steps in
     let same : after ≡ with_records (with_steps before k steps c) (events ++ more) = is ∙ ap (λ (u : View). with_records (with_steps before k steps c) (records_of (events_by k u steps) ++ more)) v in
-    woven_by (after_stop p k steps c more) (events ++ more) only refl refl (spoken_both events more (spoken_piece k events own) (spoken_piece j more each)) same (share_records (events ++ more) (share_cache k c c refl (share_list k steps share)))
+    woven_by (after_stop p k steps c more) (events ++ more) only refl refl (spoken_both events more (spoken_piece k events own) (spoken_piece j more each)) same
+    (share_records (events ++ more) (share_cache k c c refl (share_list k steps share)))
     (λ x o other theirs.
     let ne : owner k ≢ x = λ is. other (sym mine ∙ is) in
     let away = elsewhere_both owner x events more (elsewhere owner x k events own ne) (elsewhere owner x j more each (λ is. other (sym said_mine ∙ is))) in
     beside_records (events ++ more) away (beside_cache k c ne (beside_list k steps ne theirs)))
     (advances (subst (λ (d : Cached). IsStopped k d c steps) (share.caches k mine) did))
 
+-- the cache and the epoch of the one are those of the other
 idle_same : (owner : Owners) (w k n : ℕ) (own p : Progress) → owner k ≡ w → owner 0 ≡ w → IsShareOf owner w own p → IsIdleFor own k n ≡ IsIdleFor p k n
-idle_same owner w k n own p mine scavenger share = ap (λ (c : Cached). c.idle_since + n ≤ own.epoch) (share.caches k mine) ∙ ap (λ (e : ℕ). (p.caches k).idle_since + n ≤ e) (share.epoch scavenger)
+idle_same owner w k n own p mine scavenger share = search arith
 
 idle_one : (f : Profile) (owner : Owners) (asked : List ℕ) (k n : ℕ) (p before after : Progress) → owner k ≡ owner 0 → OnlyAsked asked p.names
     → IsShareOf owner (owner 0) before p → Advances f (StopsIdle k n) before after → IsWovenOne f owner (StopsIdle k n) asked p after
@@ -250,7 +248,7 @@ module _ (f : Profile) (owner : Owners) (limit : ℕ) (asked : List ℕ) (keeper
       record {
         next = next;
         advances = subst (λ (o : Option Request). AnswersGuarded f keeper op o p next) (sym asks) (t, is, subst (λ (b : Option Block). AnswersTried f op r b (after_trying p keeper t) next) (sym given) refl);
-        share = subst (λ (q : Progress). IsShareOf owner (owner op.actor) q next) (sym did) (by_names one.share (named r.name (Some block) ∷ before.names) (named r.name (Some block) ∷ p.names) new.own);
+        share = subst (λ (q : Progress). IsShareOf owner (owner op.actor) q next) (sym did) (by_names one.share _ _ new.own);
         beside = λ x o other theirs. by_names (one.beside x o other theirs) o.names (named r.name (Some block) ∷ p.names) (new.others o.names theirs.names);
         said = t.records;
         records_are = refl;
@@ -263,7 +261,8 @@ module _ (f : Profile) (owner : Owners) (limit : ℕ) (asked : List ℕ) (keeper
       let late = operates_one f owner limit asked op (after_trying p keeper t) (after_trying before keeper t) after fit only one.share did in
       record {
         next = late.next;
-        advances = subst (λ (o : Option Request). AnswersGuarded f keeper op o p late.next) (sym asks) (t, is, subst (λ (b : Option Block). AnswersTried f op r b (after_trying p keeper t) late.next) (sym given) late.advances);
+        advances = subst (λ (o : Option Request). AnswersGuarded f keeper op o p late.next) (sym asks)
+            (t, is, subst (λ (b : Option Block). AnswersTried f op r b (after_trying p keeper t) late.next) (sym given) late.advances);
         share = late.share;
         beside = λ x o other theirs. late.beside x o other (one.beside x o other theirs);
         said = t.records ++ late.said;
@@ -273,13 +272,15 @@ module _ (f : Profile) (owner : Owners) (limit : ℕ) (asked : List ℕ) (keeper
         same_names = λ n none. late.same_names n none;
       }
 
+  -- A guarded request is woven into its thread's acts.
   guarded : (o : Option Request) → request_in op.what ≡ o → AnswersGuarded f keeper op o before after → IsWovenOne f owner (Guards keeper op) asked p after
   guarded o h i = grind (arith, followed, try_each)
 
 guards_one : (f : Profile) (owner : Owners) (limit : ℕ) (asked : List ℕ) (keeper : ℕ) (op : Op) (p before after : Progress) → IsFitWhat f limit asked op.what
     → owner keeper ≡ owner op.actor → OnlyAsked asked p.names
     → IsShareOf owner (owner op.actor) before p → Advances f (Guards keeper op) before after → IsWovenOne f owner (Guards keeper op) asked p after
-guards_one f owner limit asked keeper op p before after fit mine only share did = guarded f owner limit asked keeper op p before after fit mine only share (request_in op.what) refl did
+guards_one f owner limit asked keeper op p before after fit mine only share did =
+    guarded f owner limit asked keeper op p before after fit mine only share (request_in op.what) refl did
 
 -- ---- any act
 -- what of the fitness of all acts is that of the others after the first
@@ -290,41 +291,48 @@ rest_fit f limit asked act acts h = grind arith
 woven_one : (f : Profile) (owner : Owners) (limit : ℕ) (asked : List ℕ) (act : Act) (acts : List Act) (p before after : Progress)
     → AreFit f limit asked (act ∷ acts) → IsInHand owner act → OnlyAsked asked p.names
     → IsShareOf owner (owner (actor_of_act act)) before p → Advances f act before after → IsWovenOne f owner act asked p after
-woven_one f owner limit asked (Operates op) acts p before after fit hand only share did = operates_one f owner limit asked op p before after fit.1 only share did
-woven_one f owner limit asked (Guards keeper op) acts p before after fit hand only share did = guards_one f owner limit asked keeper op p before after fit.3 hand only share did
+woven_one f owner limit asked (Operates op) acts p before after fit hand only share did = search (arith, operates_one)
+woven_one f owner limit asked (Guards keeper op) acts p before after fit hand only share did = search (arith, guards_one)
 woven_one f owner limit asked (Settles k) acts p before after fit hand only share did =
     let same = ap settled (share.caches k refl) in
-    woven_by (after_settling p k) [] only refl (sym (append-nil p.records)) tt did (share_cache k (settled (before.caches k)) (settled (p.caches k)) same share) (λ x o other theirs. beside_cache k (settled (p.caches k)) other theirs) refl
+    woven_by (after_settling p k) [] only refl (sym (append-nil p.records)) tt did (share_cache k (settled (before.caches k)) (settled (p.caches k)) same share)
+    (λ x o other theirs. beside_cache k (settled (p.caches k)) other theirs) refl
 woven_one f owner limit asked (Ticks asked_for) acts p before after fit hand only share did =
     let e = did.0 in
     let steps : List Made = made (Step.Tick asked_for) e ∷ [] in
     let rs : List Record = Record.Said 0 (Said.Tick (max e asked_for)) ∷ [] in
     let each : EachOf 0 rs = (λ k. refl, tt) in
-    woven_by (after_tick p asked_for e) rs only refl refl (spoken_piece 0 rs each) did.1 (share_records rs (share_list 0 steps share)) (λ x o other theirs. beside_records rs (elsewhere owner x 0 rs each other) (beside_list 0 steps other theirs)) (e, refl)
+    woven_by (after_tick p asked_for e) rs only refl refl (spoken_piece 0 rs each) did.1 (share_records rs (share_list 0 steps share))
+    (λ x o other theirs. beside_records rs (elsewhere owner x 0 rs each other) (beside_list 0 steps other theirs)) (e, refl)
 woven_one f owner limit asked MakesPass acts p before after fit hand only share did =
     let steps = did.2 in
     let rs = records_of_pass 0 did.0 did.1 in
     let each = pass_of 0 did.0 did.1 in
-    woven_by (after_pass p did.0 did.1 steps) rs only refl refl (spoken_piece 0 rs each) did.4 (share_records rs (share_list 0 steps share)) (λ x o other theirs. beside_records rs (elsewhere owner x 0 rs each other) (beside_list 0 steps other theirs)) (did.0, did.1, steps, did.3, refl)
+    woven_by (after_pass p did.0 did.1 steps) rs only refl refl (spoken_piece 0 rs each) did.4 (share_records rs (share_list 0 steps share))
+    (λ x o other theirs. beside_records rs (elsewhere owner x 0 rs each other) (beside_list 0 steps other theirs)) (did.0, did.1, steps, did.3, refl)
 woven_one f owner limit asked ReadsEpoch acts p before after fit hand only share did =
     let e = did.0 in
     let look = epoch_look e in
-    woven_by (after_reading p e) [] only refl (sym (append-nil p.records)) tt did.1 (by_epochs (share_list 0 look share) e e (λ is. refl)) (λ x o other theirs. by_epochs (beside_list 0 look other theirs) o.epoch e (λ is. absurd (other is))) (e, refl)
+    woven_by (after_reading p e) [] only refl (sym (append-nil p.records)) tt did.1 (by_epochs (share_list 0 look share) e e (λ is. refl))
+    (λ x o other theirs. by_epochs (beside_list 0 look other theirs) o.epoch e (λ is. absurd (other is))) (e, refl)
 woven_one f owner limit asked (StopsIdle k n) acts p before after fit hand only share did = idle_one f owner asked k n p before after hand only share did
 woven_one f owner limit asked (Wakes k) acts p before after fit hand only share did =
     let e = did.0 in
     let c = begun (p.caches k) e in
     let same = ap (λ (d : Cached). begun d e) (share.caches k refl) in
-    woven_by (after_wake p k e) [] only refl (sym (append-nil p.records)) tt did.1 (share_cache k (begun (before.caches k) e) c same (share_list k (epoch_look e) share)) (λ x o other theirs. beside_cache k c other (beside_list k (epoch_look e) other theirs)) (e, refl)
+    woven_by (after_wake p k e) [] only refl (sym (append-nil p.records)) tt did.1 (share_cache k (begun (before.caches k) e) c same
+    (share_list k (epoch_look e) share)) (λ x o other theirs. beside_cache k c other (beside_list k (epoch_look e) other theirs)) (e, refl)
 woven_one f owner limit asked (Lowers keeper) acts p before after fit hand only share did =
     let steps = did.0 in
     let said = did.1 in
     let here : IsLowered f keeper (part keeper p.list) (p.books keeper) steps said =
-    subst (λ (gs : List Guard). IsLowered f keeper (part keeper p.list) gs steps said) (share.books keeper refl) (subst (λ (v : View). IsLowered f keeper v (before.books keeper) steps said) (share.parts keeper refl) did.2) in
+    subst (λ (gs : List Guard). IsLowered f keeper (part keeper p.list) gs steps said) (share.books keeper refl)
+    (subst (λ (v : View). IsLowered f keeper v (before.books keeper) steps said) (share.parts keeper refl) did.2) in
     let each = swept_each true keeper (p.books keeper) [] said steps here.sweep.swept in
     woven_by (after_lowering p keeper steps said) said only refl refl (spoken_piece keeper said each) did.3 (share_records said (share_book keeper [] (share_list keeper steps share)))
     (λ x o other theirs. beside_records said (elsewhere owner x keeper said each other) (beside_book keeper [] other (beside_list keeper steps other theirs))) (steps, said, here, refl)
-woven_one f owner limit asked (Ends k) acts p before after fit hand only share did = stops_one f owner asked (Ends k) k k p before after did.0 did.1 [] refl refl tt only share did.2 did.3 (λ so. (did.0, did.1, so, refl))
+woven_one f owner limit asked (Ends k) acts p before after fit hand only share did =
+    stops_one f owner asked (Ends k) k k p before after did.0 did.1 [] refl refl tt only share did.2 did.3 (λ so. (did.0, did.1, so, refl))
 woven_one f owner limit asked _ acts p before after fit hand only share did = absurd hand
 
 -- ---- all acts
@@ -349,7 +357,8 @@ weave f owner limit asked [] p before after fit hands only shares own = record {
 }
 weave f owner limit asked (act ∷ acts) p before after fit hands only shares own =
     let w = owner (actor_of_act act) in
-    let mine : Reaches f (act ∷ acts_by owner w acts) (before w) (after w) = subst (λ (t : Bool). Reaches f (if t then act ∷ acts_by owner w acts else acts_by owner w acts) (before w) (after w)) (eq-eqb w w refl) (own w) in
+    let mine : Reaches f (act ∷ acts_by owner w acts) (before w) (after w) =
+    subst (λ (t : Bool). Reaches f (if t then act ∷ acts_by owner w acts else acts_by owner w acts) (before w) (after w)) (eq-eqb w w refl) (own w) in
     let one = woven_one f owner limit asked act acts p (before w) mine.0 fit hands.0 only (shares w) mine.1 in
     let now = at before w mine.0 in
     let shares1 : (x : ℕ) → IsShareOf owner x (now x) one.next = λ x. elim (cases_eq x w) [
@@ -357,7 +366,8 @@ weave f owner limit asked (act ∷ acts) p before after fit hands only shares ow
       | inr other ↦ subst (λ (t : Bool). IsShareOf owner x (if t then mine.0 else before x) one.next) (sym (ne_eqb x w other)) (one.beside x (before x) (λ is. other (sym is)) (shares x))
     ] in
     let own1 : (x : ℕ) → Reaches f (acts_by owner x acts) (now x) (after x) = search (arith, cases_eq, eq-eqb, ne_eqb) in
-    let rest = weave f owner limit (asked_after_act act asked) acts one.next now after (rest_fit f limit asked act acts fit) hands.1 one.only_asked shares1 own1 in
+    let rest =
+    weave f owner limit (asked_after_act act asked) acts one.next now after (rest_fit f limit asked act acts fit) hands.1 one.only_asked shares1 own1 in
     record {
       reached = rest.reached;
       reaches = (one.next, one.advances, rest.reaches);

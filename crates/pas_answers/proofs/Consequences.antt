@@ -1,42 +1,405 @@
--- What follows once the acts of a plan were answered by a legal list, at whose end all actors have nothing; and that refusals are true.
-use Rattle.std.proofs.Common.{arith, ◌≡◌, ℕ, ◌==◌, Bool, true, false, if◌then◌else◌, inl, inr, List, [], ◌∷◌, ◌++◌, Option, Some, None, refl, sym, subst, All}
-use Rattle.std.proofs.Common.{eq-eqb, ◌<◌, Result, MatchResult, MatchOption}
-use Rattle.std.proofs.lemmas.Bool.{cases_eq}
-use Rattle.pas_profile.specs.declared.{profile.Profile.Profile, word.Word.Word, name.Block.Block, event.NoRoom.NoRoom}
-use Rattle.pas_steps.specs.{Views.View, Events.events_by, Desks.made, Desks.triples, Clear.HasNothing, Lists.Whole, Lists.part, Lists.Legal}
-use Rattle.pas_steps.specs.declared.step.Made.{Made}
-use Rattle.pas_steps.proofs.Parts.{part_of_own, part_of_others}
-use Rattle.pas_core.specs.Stamps.{AllStamped, AllKeepToEnds}
-use Rattle.pas_core.proofs.{Stamps.stamps_are_ends, MachineRuns.runs, OneActor.legal_before, OneActor.legal_earlier}
-use Rattle.pas_report.specs.{Lines.CanShow, Rests.AreStamped}
-use Rattle.pas_report.proofs.{Showable.AreOfRegion, TrueMarks.true_marks}
-use Rattle.pas_profile.specs.Profiles.{IsValid, IsAdmitted}
-use Rattle.pas_trace.specs.declared.{plan.Plan.Plan, item.Request.Request, plan.Op.Op, plan.What.What, plan.What.TheVariants.Alloc}
+-- What answers an operation leaves its actor's view tidy: no epoch is learned between an end and its stamps, a page is stamped only where it is unstamped,
+-- and at the end none is.
+use Rattle.std.proofs.Common.{◌≡◌, ℕ, zero, suc, ◌+◌, ◌-◌, ◌/◌, ◌^◌, ◌<◌, ◌≤◌, ◌==◌, nat_le, Bool, true, false, ◌&&◌, if◌then◌else◌, List, [], ◌∷◌, ◌++◌}
+use Rattle.std.proofs.Common.{length, Option, Some, None, Result, Ok, Err, MatchResult, inl, inr, refl, ap, sym, ◌∙◌, subst, arith, append_assoc, true≢false}
+use Rattle.std.proofs.Common.{eq-eqb, ne_eqb, ◌*◌, ◌||◌, length-append, MatchOption, All}
+use Rattle.std.proofs.lemmas.Bool.{eqb-false, false_from_ne_true, cond-false, and_left, cases_eq}
+use Rattle.pas_profile.specs.{Lives.live_word, Directories.directory_read, Directories.deed_word_of, Blocks.address_of, Blocks.grain_of, Profiles.IsValid}
+use Rattle.pas_profile.specs.{Profiles.IsAdmitted}
+use Rattle.pas_profile.specs.declared.{profile.Profile.Profile, event.NoRoom.NoRoom, name.Block.Block, name.Name.Name, word.Word.Word}
+use Rattle.pas_bits.specs.Runs.{meets_page}
+use Rattle.pas_steps.specs.{Views.View, Views.is_unstamped, Allowed.IsStepOf, Desks.made, Desks.Standing, Desks.triples, Events.events_by, Clear.HasNothing}
+use Rattle.pas_steps.specs.{Lists.Whole, Lists.part, Lists.Legal}
+use Rattle.pas_steps.specs.declared.step.{Made.Made, Step.Step}
+use Rattle.pas_steps.specs.declared.step.Step.TheVariants.{Look, EndSized, Stamp, Tick}
+use Rattle.pas_core.specs.Stamps.{AllStamped, KeepsToEnds, AllKeepToEnds}
+use Rattle.pas_rights.proofs.{Orders.return_returns, Puts.puts_kinds}
+use Rattle.pas_free_log.specs.Endings.{guess_by, Tries, TriesBy, last_step, IsRefusedBy, IsEndOf, EndSteps}
+use Rattle.pas_free_log.specs.{Logs.entry_of, Logs.sized_entry, Logs.is_sized, Stamps.page_count}
+use Rattle.pas_free_log.specs.Returns.{PageSteps, PagesSteps, first_on, count_on}
+use Rattle.pas_free_log.specs.declared.{log.Entry.Entry, noting.EndedRun.EndedRun, ending.Outcome.Outcome, ending.Outcome.TheVariants.Ended}
+use Rattle.pas_free_log.specs.declared.{ending.Outcome.TheVariants.Refused}
+use Rattle.pas_free_log.specs.Flushes.{Settled, AfterEnd, EntrySteps, EntriesSteps}
+use Rattle.pas_free_log.proofs.OneEntry.{count_some, guess_is, not_ended}
+use Rattle.pas_cache.specs.{Caches.Cached, Caches.AtRest, Calls.TakesEntry, Calls.AllocatesPages, Changes.EmptiesLog, Changes.EmptiesFull, Kinds.releasing}
+use Rattle.pas_cache.specs.{Kinds.allocating, Serves.pages_of, Serves.wanted_for, Serves.ServesRequest, Refusals.IsTrulyRefused, Refusals.TakesWhatIsNamed}
+use Rattle.pas_steps.specs.Kinds.{Kinds, Only, kind_of, look_kind, is_in, apart, LookEpoch, Putting, Ending, Stamping, Ticking, looking, returning, place_of}
+use Rattle.pas_steps.specs.Kinds.{unstamping, Backing, Giving, LookLife}
+use Rattle.pas_steps.proofs.Apart.{holds_over, only_both, only_within, unstamped_same, unstamped_step_same, out_within}
+use Rattle.pas_steps.proofs.{Calls.returns_are, Parts.part_of_own, Parts.part_of_others}
+use Rattle.pas_trace.specs.declared.{plan.What.What, item.Request.Request, plan.Plan.Plan, plan.Op.Op, plan.What.TheVariants.Alloc}
 use Rattle.pas_trace.specs.declared.{plan.What.TheVariants.Guarded, plan.What.TheVariants.Remake}
-use Rattle.pas_report.specs.declared.record.Record.{Record}
-use Rattle.pas_cache.specs.{Caches.Cached, Caches.AtRest, Refusals.IsTrulyRefused, Refusals.TakesWhatIsNamed, Serves.wanted_for, Serves.ServesRequest}
-use Rattle.pas_answers.specs.{Guarding.Tried, Guarding.IsTried, Guarding.after_trying, Phases.AreInPhases, Stages.GoByStages, Fit.AreOfThreads}
-use Rattle.pas_answers.specs.{Rests.RestBetween, Fit.IsFitWhat, Fit.AreFit}
+use Rattle.pas_report.specs.declared.record.{Said.Said, Record.Record}
+use Rattle.pas_answers.specs.Answers.{Having, Answer, standing_for, entry_with, IsFreed, IsFreedBy, IsRemadeBy, IsStopped, IsAnswered, wanted_by, records_of}
+use Rattle.pas_answers.specs.Answers.{Progress, having, said_by, stopped, epoch_look, after_stop, request_for, IsReplaced}
+use Rattle.pas_report.proofs.{Showable.AreOfRegion, ReportOfWords.true_marks}
+use Rattle.pas_answers.proofs.Reached.{of_front, of_back, was_so, tried_on, pieces_back, Each, same_parts, legal_part, of_rest, calls_alone}
+use Rattle.pas_bits.proofs.Runs.{to_meet, met_by}
+use Rattle.pas_large.specs.Named.{missed_steps}
+use Rattle.pas_rights.specs.Gives.{give_steps}
+use Rattle.pas_scan.specs.Runs.{large_directory}
+use Rattle.pas_guard.specs.{Seeks.seeking, Raises.IsRaised, Raises.IsNotRaised, Raises.RaiseSteps, Keepers.MakesCalls}
+use Rattle.pas_guard.specs.Sweeps.{is_over, sweeping, SweptOne, Swept, SweepSteps}
+use Rattle.pas_guard.specs.declared.book.Guard.{Guard}
+use Rattle.pas_guard.proofs.Raises.{raised_backs, raised_leaves}
+use Rattle.pas_answers.specs.Guarding.{said_of_guard, Tried, try_steps, guarded_steps, IsTried, after_trying}
+use Rattle.pas_answers.proofs.OwnRecords.{EachShown, shown_both, records_shown, each_arranged, piece_shown, pass_shown, all_shown}
+use Rattle.pas_core.proofs.{Lives.stamps_are_ends, MachineRuns.runs, OneActor.legal_before, OneActor.legal_earlier}
+use Rattle.pas_report.specs.{Lines.CanShow, Rests.AreStamped}
+use Rattle.pas_answers.specs.{Phases.AreInPhases, Stages.GoByStages, Fit.AreOfThreads, Fit.IsFitWhat, Fit.AreFit, Rests.RestBetween}
 use Rattle.pas_answers.specs.Indexes.{GoByIndexes, TakesItsRun, TriedTakesItsRun, GuardedTakesItsRun, AllTakeTheirRuns}
 use Rattle.pas_answers.specs.Refusals.{AreRefusalsTrue, request_in_remade, RefusesTruly, TriedRefusesTruly, GuardedRefusesTruly, AllRefuseTruly}
 use Rattle.pas_answers.specs.Reaching.{AnswersTried, AnswersGuarded, Reaches, AnswersOp, Advances}
 use Rattle.pas_trace.specs.Acts.{Act, Operates, Guards, Settles, Ticks, MakesPass, ReadsEpoch, StopsIdle, MarksPhase, Wakes, MarksClose, Ends, Lowers}
-use Rattle.pas_answers.specs.Answers.{Progress, having, records_of, said_by, stopped, epoch_look, IsStopped, after_stop, Having, Answer, standing_for}
-use Rattle.pas_answers.specs.Answers.{wanted_by, request_for, IsReplaced, IsRemadeBy, IsAnswered}
 use Rattle.pas_trace.specs.{Asked.request_in, EveryPlan.asked_after}
 use Rattle.pas_answers.specs.Replays.{at_start, acts_of_plan, threads_of, keepers_of, phases_of, stages_of_plan, IsReplay, region_of}
 use Rattle.pas_answers.specs.Ways.{Way, InOrder, OnThreads, IsOneOrder, arranged}
-use Rattle.pas_answers.proofs.Reached.{was_so, tried_on, pieces_back, Each, same_parts, legal_part, of_front, of_rest}
-use Rattle.pas_answers.proofs.{OwnCalls.calls_alone, Requests.known_directory}
-use Rattle.pas_answers.proofs.Keepers.{sweep_tidy, swept_shown, try_tidy, try_shown}
-use Rattle.pas_guard.specs.Keepers.{MakesCalls}
-use Rattle.pas_answers.proofs.OwnRecords.{EachShown, shown_both, each_arranged, piece_shown, records_shown, pass_shown, all_shown}
-use Rattle.pas_answers.proofs.Tidy.{Tidy, KeptPart, tidy_over, look_tidy, tick_tidy, stop_tidy, answer_tidy}
+use Rattle.pas_answers.proofs.Requests.{known_directory}
 use Rattle.pas_cache.proofs.Alone.{truly_refused, takes_named}
+
+-- ---- tidy views: all steps kept to ends, and nothing is unstamped
+abbrev pub KeptPart : View → Type 0
+KeptPart [] = Unit {0}
+KeptPart (m ∷ v) = KeepsToEnds v m.step × KeptPart v
+
+pub record Tidy (v : View) : Type 0 where
+  pub kept : KeptPart v
+  pub stamped : AllStamped v
+
+-- kinds of steps that keep to ends only on a condition
+abbrev bound : Kinds
+bound = LookEpoch ∷ Stamping ∷ Ticking ∷ []
+
+keeps_free : (s : Step) (v : View) → is_in bound (kind_of s) ≡ false → KeepsToEnds v s
+keeps_free s v h = search (arith, true≢false)
+
+kept_over : (ks : Kinds) → apart ks bound ≡ true → (steps : List Made) (v : View) → Only ks steps → KeptPart v → KeptPart (steps ++ v)
+kept_over ks w = holds_over KeptPart bound ks (λ m v h kept. (keeps_free m.step v h, kept)) w
+
+-- kinds of steps after which a tidy view may not be tidy
+abbrev untidy : Kinds
+untidy = Ending ∷ Stamping ∷ Ticking ∷ []
+
+keeps_tidy : (s : Step) (v : View) → is_in untidy (kind_of s) ≡ false → AllStamped v → KeepsToEnds v s
+keeps_tidy s v h stamped = search (arith, true≢false)
+
+-- Steps of kinds that learn no epoch, end nothing and stamp nothing leave a view tidy.
+pub tidy_over : (ks : Kinds) → apart ks untidy ≡ true → (steps : List Made) (v : View) → Only ks steps → Tidy v → Tidy (steps ++ v)
+tidy_over ks w = holds_over Tidy untidy ks
+    (λ m v h tidy. record { kept = (keeps_tidy m.step v h tidy.stamped, tidy.kept); stamped = λ p. unstamped_step_same m.step m.answer p (is_unstamped v p) (out_within unstamping untidy (place_of (kind_of m.step)) refl h) ∙ tidy.stamped p }) w
+
+-- A look at another word than the epoch leaves a view tidy.
+pub look_tidy : (word : Word) (a : ℕ) (v : View) → is_in looking (look_kind word) ≡ true → Tidy v → Tidy (made (Look word) a ∷ v)
+look_tidy word a v is = tidy_over looking refl (made (Look word) a ∷ []) v (is, tt)
+
+-- a tick keeps to ends too, since nothing is unstamped for its actor
+pub tick_tidy : (asked a : ℕ) (v : View) → Tidy v → Tidy (made (Tick asked) a ∷ v)
+tick_tidy asked a v tidy = record { kept = (tidy.stamped, tidy.kept); stamped = tidy.stamped }
+
+-- Where no step was made, a view stays tidy.
+tidy_none : (steps : List Made) (v : View) → steps ≡ [] → Tidy v → Tidy (steps ++ v)
+tidy_none steps v none tidy = subst (λ ms. Tidy (ms ++ v)) (sym none) tidy
+
+-- Steps in two parts leave a view tidy where the parts do, one after the other.
+tidy_both : (steps ys xs : List Made) (v : View) → steps ≡ ys ++ xs → Tidy (ys ++ (xs ++ v)) → Tidy (steps ++ v)
+tidy_both steps ys xs v is tidy = subst (λ ms. Tidy (ms ++ v)) (sym is) (subst Tidy (sym (append_assoc ys xs v)) tidy)
+
+-- ---- the pages of a block
+-- the steps for a page that is unstamped: afterwards it isn't, and the others are as they were
+record PageDone (p : ℕ) (v w : View) : Type 0 where
+  kept : KeptPart w
+  stamps : (q : ℕ) → is_unstamped w q ≡ (if p == q then false else is_unstamped v q)
+
+page_done : (g n : ℕ) (steps : List Made) (v : View) → PageSteps g n steps → KeptPart v → is_unstamped v (g / 256) ≡ true → PageDone (g / 256) v (steps ++ v)
+page_done g n steps v h kept un =
+    let first : List Made = made (Stamp (g / 256)) h.stamped ∷ made (Look (Word.Deed (g / 256))) (deed_word_of h.directory) ∷ [] in
+    let more : List Made = h.after ++ h.puts in
+    let only : Only releasing more = only_both releasing h.after h.puts (only_within returning releasing h.after refl (returns_are (g / 256) h.after (return_returns (g / 256) h.directory h.after h.returns)))
+    (only_within (Putting ∷ []) releasing h.puts refl (puts_kinds (g / 256) h.mask 4 h.puts h.order)) in
+    subst (PageDone (g / 256) v) (sym (ap (λ ms. ms ++ v) (h.steps_are ∙ sym (append_assoc h.after h.puts first)) ∙ append_assoc more first v)) record {
+      kept = kept_over releasing refl more (first ++ v) only (un, (tt, kept));
+      stamps = λ q. unstamped_same releasing refl q more (first ++ v) only;
+    }
+
+-- of the pages that the run meets just those from the kth on are unstamped
+record IsPending (g n k : ℕ) (v : View) : Type 0 where
+  only : (p : ℕ) → is_unstamped v p ≡ true → (meets_page g n p ≡ true) × (g / 256 + k ≤ p)
+  rest : (p : ℕ) → meets_page g n p ≡ true → g / 256 + k ≤ p → is_unstamped v p ≡ true
+
+record PagesDone (g n k : ℕ) (v : View) : Type 0 where
+  kept : KeptPart v
+  pending : IsPending g n k v
+
+-- The first grain of a run on a page so many behind its first is on that page.
+pub first_page : (g k : ℕ) → first_on g (g / 256 + k) / 256 ≡ g / 256 + k
+first_page g k = omega arith
+
+-- What is true after others were cleared was true, and isn't one of them.
+others_stay : (x was : Bool) → (if x then false else was) ≡ true → (x ≡ false) × (was ≡ true)
+others_stay x was h = grind arith
+
+other_stays : (x was : Bool) → x ≡ false → was ≡ true → (if x then false else was) ≡ true
+other_stays x was e h = ap (λ t. if t then false else was) e ∙ h
+
+next_pending : (g n k : ℕ) (v w : View) → IsPending g n k v → PageDone (g / 256 + k) v w → IsPending g n (suc k) w
+next_pending g n k v w was at = search (arith, others_stay, eqb-false, other_stays, ne_eqb)
+
+pages_done : (k g n : ℕ) (steps : List Made) (v : View) → 1 ≤ n → g / 256 + k ≤ (g + n - 1) / 256 + 1 → PagesDone g n 0 v → PagesSteps k g n steps
+    → PagesDone g n k (steps ++ v)
+pages_done zero g n steps v some few was h = subst (λ ms. PagesDone g n 0 (ms ++ v)) (sym h) was
+pages_done (suc k) g n steps v some few was h =
+    let before : PagesDone g n k (h.1 ++ v) = pages_done k g n h.1 v some (omega (arith, few)) was h.3 in
+    let meets : meets_page g n (g / 256 + k) ≡ true = to_meet g n (g / 256 + k) (omega arith) (omega (arith, few, some)) in
+    let un : is_unstamped (h.1 ++ v) (first_on g (g / 256 + k) / 256) ≡ true = ap (is_unstamped (h.1 ++ v)) (first_page g k) ∙ before.pending.rest (g / 256 + k) meets (omega arith) in
+    let page : PageDone (g / 256 + k) (h.1 ++ v) (h.0 ++ (h.1 ++ v))
+    = subst (λ p. PageDone p (h.1 ++ v) (h.0 ++ (h.1 ++ v))) (first_page g k) (page_done (first_on g (g / 256 + k)) (count_on g n (g / 256 + k)) h.0 (h.1 ++ v) h.2 before.kept un) in
+    subst (PagesDone g n (suc k)) (sym (ap (λ ms. ms ++ v) h.4 ∙ append_assoc h.0 h.1 v)) record { kept = page.kept; pending = next_pending g n k (h.1 ++ v) (h.0 ++ (h.1 ++ v)) before.pending page }
+
+all_pages : (g n : ℕ) → 1 ≤ n → g / 256 + page_count g n ≡ (g + n - 1) / 256 + 1
+all_pages g n some = let count = count_some g n some in omega (arith, count, some)
+
+run_tidy : (g n : ℕ) (steps : List Made) (v : View) → 1 ≤ n → PagesDone g n 0 v → PagesSteps (page_count g n) g n steps → Tidy (steps ++ v)
+run_tidy g n steps v some was h =
+    let count : g / 256 + page_count g n ≡ (g + n - 1) / 256 + 1 = all_pages g n some in
+    let at : PagesDone g n (page_count g n) (steps ++ v) = pages_done (page_count g n) g n steps v some (omega (arith, count)) was h in
+    record {
+      kept = at.kept;
+      stamped = λ p. false_from_ne_true (is_unstamped (steps ++ v) p) (λ un.
+          let on = at.pending.only p un in
+          absurd (omega (arith, count, on.1, (met_by g n p on.0).1)));
+    }
+
+-- ---- an entry of the log
+misses : (z y was : Bool) → z ≡ false → (if z && y then true else was) ≡ was
+misses z y was h = cond-false (z && y) true was (and_left z y h)
+
+tries_tidy : (name : Name) (first guess : ℕ) (before : List Made) (v : View) → Tries name first guess before → Tidy v → Tidy (before ++ v)
+tries_tidy name first guess before v h tidy = search (arith, tidy_none, misses, ne_eqb)
+
+-- What wasn't so before is so now just where the test passes.
+if_met : (y was : Bool) → was ≡ false → (if y then true else was) ≡ y
+if_met y was h = grind arith
+
+met_from : (g n p : ℕ) → meets_page g n p ≡ true → g / 256 + 0 ≤ p
+met_from g n p h = let low = (met_by g n p h).0 in omega (arith, low)
+
+ended_is : {x y : ℕ} → Ended x ≡ Ended y → x ≡ y
+ended_is h = cc
+
+not_refused : {x y : ℕ} → Ended x ≡ Refused y → ⊥
+not_refused h = cc
+
+-- the pages of the block that an end with this answer ended
+record IsTidyTry (name : Name) (outcome : Outcome) (v : View) : Type 0 where
+  ended : (grains : ℕ) → outcome ≡ Ended grains → (1 ≤ grains) × PagesDone (grain_of name) grains 0 v
+  refused : (read : ℕ) → outcome ≡ Refused read → Tidy v
+
+-- what the last try came to
+abbrev EndOf : Bool → Name → ℕ → ℕ → Outcome → Type 0
+EndOf t name guess a (Ended grains) = (a ≡ live_word name.turn guess) × (grains ≡ guess)
+EndOf t name guess a (Refused read) = IsRefusedBy t name guess a × (read ≡ a)
+
+end_of : (entry : Entry) (guess a : ℕ) (outcome : Outcome) → IsEndOf entry guess a outcome → EndOf (is_sized entry) entry.name guess a outcome
+end_of entry guess a (Ended grains) h = h
+end_of entry guess a (Refused read) h = h
+
+-- what the step of an end leaves unstamped, by a length or by a room
+record MarksEnds (name : Name) (n : ℕ) (s : Step) : Type 0 where
+  marks : (a p : ℕ) (u : View)
+      → is_unstamped (made s a ∷ u) p ≡ (if (a == live_word name.turn n) && meets_page (grain_of name) n p then true else is_unstamped u p)
+  keeps : (u : View) → KeepsToEnds u s
+
+marks_by : (t : Bool) (entry : Entry) (n : ℕ) → (t ≡ true → n ≡ entry.room / 16) → MarksEnds entry.name n (last_step t entry n)
+marks_by true entry n is = subst (λ m. MarksEnds entry.name m (EndSized entry.name entry.room)) (sym (is refl)) (record { marks = λ a p u. refl; keeps = λ u. tt })
+marks_by false entry n is = record { marks = λ a p u. refl; keeps = λ u. tt }
+
+last_of : (f : Profile) (t : Bool) (entry : Entry) (n : ℕ) → (t ≡ true → n ≡ entry.room / 16) → IsStepOf f (last_step t entry n)
+    → (entry.name.turn < 2 ^ 40 - 1) × (1 ≤ n)
+last_of f true entry n is of = (of.0.2, subst (λ m. 1 ≤ m) (sym (is refl)) of.0.3)
+last_of f false entry n is of = (of.2, of.3)
+
+tries_by_tidy : (t : Bool) (entry : Entry) (first guess : ℕ) (before : List Made) (v : View) → TriesBy t entry first guess before → Tidy v → Tidy (before ++ v)
+tries_by_tidy t entry first guess before v h tidy = search (arith, tidy_none, tries_tidy)
+
+pending_now : (name : Name) (guess a : ℕ) (s : Step) (u : View) → MarksEnds name guess s → AllStamped u → a ≡ live_word name.turn guess
+    → IsPending (grain_of name) guess 0 (made s a ∷ u)
+pending_now name guess a s u h stamped hit = search (arith, eq-eqb, if_met, met_from)
+
+end_done : (t : Bool) (name : Name) (outcome : Outcome) (guess a : ℕ) (s : Step) (u : View) → MarksEnds name guess s → Tidy u → name.turn < 2 ^ 40 - 1
+    → 1 ≤ guess → EndOf t name guess a outcome → IsTidyTry name outcome (made s a ∷ u)
+end_done t name (Ended grains) guess a s u marks tidy turn some h = search (arith, ended_is, pending_now, not_refused)
+end_done t name (Refused read) guess a s u marks tidy turn some h = search (arith, not_refused, misses, ne_eqb, not_ended)
+
+-- ---- an entry, all entries, and a flush; the steps are of the region
+ends_done : (f : Profile) (entry : Entry) (outcome : Outcome) (steps : List Made) (v : View) → AreOfRegion f steps → EndSteps entry outcome steps → Tidy v
+    → IsTidyTry entry.name outcome (steps ++ v)
+ends_done f entry outcome steps v of h tidy =
+    let t : Bool = is_sized entry in
+    let first : ℕ = guess_by (directory_read h.deed) in
+    let look = made (Look (Word.Deed (address_of entry.name / 4096))) h.deed in
+    let is : t ≡ true → h.guess ≡ entry.room / 16 = guess_is t entry first h.guess h.before h.tries in
+    let step : IsStepOf f (last_step t entry h.guess) = (subst (AreOfRegion f) h.steps_are of).0 in
+    let last : (entry.name.turn < 2 ^ 40 - 1) × (1 ≤ h.guess) = last_of f t entry h.guess is step in
+    let tried : Tidy ((h.before ++ look ∷ []) ++ v) = tidy_both (h.before ++ look ∷ []) h.before (look ∷ []) v refl
+    (tries_by_tidy t entry first h.guess h.before (look ∷ v) h.tries (look_tidy (Word.Deed (address_of entry.name / 4096)) h.deed v refl tidy)) in
+    subst (λ ms. IsTidyTry entry.name outcome (ms ++ v)) (sym h.steps_are)
+    (end_done t entry.name outcome h.guess h.answer (last_step t entry h.guess) ((h.before ++ look ∷ []) ++ v) (marks_by t entry h.guess is) tried last.0 last.1 (end_of entry h.guess h.answer outcome h.comes_to))
+
+after_tidy : (name : Name) (outcome : Outcome) (after : List Made) (v : View) → IsTidyTry name outcome v → AfterEnd name outcome after → Tidy (after ++ v)
+after_tidy name (Ended grains) after v h run = let now = h.ended grains refl in run_tidy (grain_of name) grains after v now.0 now.1 run
+after_tidy name (Refused read) after v h none = tidy_none after v none (h.refused read refl)
+
+entry_tidy : (f : Profile) (entry : Settled) (steps : List Made) (v : View) → AreOfRegion f steps → EntrySteps entry steps → Tidy v → Tidy (steps ++ v)
+entry_tidy f entry steps v of h tidy =
+    let ends = of_back f h.after h.ends (subst (AreOfRegion f) h.steps_are of) in
+    tidy_both steps h.after h.ends v h.steps_are (after_tidy entry.entry.name entry.outcome h.after (h.ends ++ v) (ends_done f entry.entry entry.outcome h.ends v ends h.order tidy) h.returns)
+
+entries_tidy : (f : Profile) (settled : List Settled) (steps : List Made) (v : View) → AreOfRegion f steps → EntriesSteps settled steps → Tidy v
+    → Tidy (steps ++ v)
+entries_tidy f [] steps v of h tidy = tidy_none steps v h tidy
+entries_tidy f (entry ∷ earlier) steps v of h tidy =
+    let here : AreOfRegion f (h.0 ++ h.1) = subst (AreOfRegion f) h.4 of in
+    tidy_both steps h.0 h.1 v h.4 (entry_tidy f entry h.0 (h.1 ++ v) (of_front f h.0 h.1 here) h.2 (entries_tidy f earlier h.1 v (of_back f h.0 h.1 here) h.3 tidy))
+
+flush_tidy : (f : Profile) (k : ℕ) (logged : List Entry) (noted noted' : List EndedRun) (steps : List Made) (v : View) → AreOfRegion f steps
+    → EmptiesLog k logged noted noted' steps → Tidy v → Tidy (steps ++ v)
+flush_tidy f k logged noted noted' steps v of h tidy =
+    let look = made (Look Word.Epoch) h.epoch in
+    tidy_both steps h.entries (look ∷ []) v h.steps_are (entries_tidy f h.settled h.entries (look ∷ v)
+    (of_front f h.entries (look ∷ []) (subst (AreOfRegion f) h.steps_are of)) h.order (look_tidy Word.Epoch h.epoch v refl tidy))
+
+-- ---- operations
+pub stop_tidy : (f : Profile) (k : ℕ) (c c' : Cached) (steps : List Made) (v : View) → AreOfRegion f steps → IsStopped k c c' steps → Tidy v → Tidy (steps ++ v)
+stop_tidy f k c c' steps v of h tidy =
+    let flushed = of_back f h.stopped h.flushed (subst (AreOfRegion f) h.steps_are of) in
+    tidy_both steps h.stopped h.flushed v h.steps_are (tidy_over releasing refl h.stopped (h.flushed ++ v) h.kinds (flush_tidy f k c.log c.noted c'.noted h.flushed v flushed h.empties tidy))
+
+full_tidy : (f : Profile) (k : ℕ) (full : Bool) (log log' : List Entry) (noted noted' : List EndedRun) (steps : List Made) (v : View) → AreOfRegion f steps
+    → EmptiesFull full k log log' noted noted' steps → Tidy v → Tidy (steps ++ v)
+full_tidy f k true log log' noted noted' steps v of h tidy = flush_tidy f k log noted noted' steps v of h.0 tidy
+full_tidy f k false log log' noted noted' steps v of h tidy = tidy_none steps v h.0 tidy
+
+-- a name is logged
+taken_tidy : (f : Profile) (k : ℕ) (c c' : Cached) (entry : Entry) (steps : List Made) (v : View) → AreOfRegion f steps → TakesEntry f k c c' entry steps
+    → Tidy v → Tidy (steps ++ v)
+taken_tidy f k c c' entry steps v of h tidy = full_tidy f k (nat_le 64 (length c.log)) c.log h.logs.kept c.noted c'.noted steps v of h.logs.emptied tidy
+
+free_tidy : (f : Profile) (k : ℕ) (c c' : Cached) (entry : Entry) (steps : List Made) (said : Option Said) (v : View) → AreOfRegion f steps
+    → IsFreed f k c c' entry steps said → Tidy v → Tidy (steps ++ v)
+free_tidy f k c c' entry steps said v of (inl h) tidy = taken_tidy f k c c' entry steps v of h.0 tidy
+free_tidy f k c c' entry steps said v of (inr h) tidy = tidy_none steps v h.1.no_steps tidy
+
+freed_tidy : (f : Profile) (k : ℕ) (c c' : Cached) (name : ℕ) (room : Option ℕ) (is : Option (Option Block)) (steps : List Made) (said : Option Said) (v : View)
+    → AreOfRegion f steps → IsFreedBy f k c c' name room is steps said → Tidy v → Tidy (steps ++ v)
+freed_tidy f k c c' name room None steps said v of h tidy = absurd h
+freed_tidy f k c c' name room (Some None) steps said v of h tidy = tidy_none steps v h.0 tidy
+freed_tidy f k c c' name room (Some (Some block)) steps said v of h tidy = free_tidy f k c c' (entry_with block.name room) steps said v of h tidy
+
+-- .. or nothing was, since the request was refused
+logged_tidy : (f : Profile) (k : ℕ) (answer : Result Block NoRoom) (c c' : Cached) (entry : Entry) (steps : List Made) (v : View) → AreOfRegion f steps
+    → MatchResult answer (λ block. TakesEntry f k c c' entry steps) (λ room. (steps ≡ []) × (c' ≡ c)) → Tidy v → Tidy (steps ++ v)
+logged_tidy f k (Ok block) c c' entry steps v of h tidy = taken_tidy f k c c' entry steps v of h tidy
+logged_tidy f k (Err room) c c' entry steps v of h tidy = tidy_none steps v h.0 tidy
+
+-- a block is kept or replaced
+remade_tidy : (f : Profile) (k name size align : ℕ) (is : Option (Option Block)) (b : Having) (a : Answer) → IsRemadeBy f k name size align is b a
+    → AreOfRegion f a.steps → Tidy b.view → Tidy (a.steps ++ b.view)
+remade_tidy f k name size align None b a h of tidy = absurd h
+remade_tidy f k name size align (Some None) b a h of tidy = tidy_none a.steps b.view h.0 tidy
+remade_tidy f k name size align (Some (Some old)) b a (inl kept) of tidy = tidy_none a.steps b.view kept.no_steps tidy
+remade_tidy f k name size align (Some (Some old)) b a (inr h) of tidy =
+    let freed = of_front f h.freed h.placed.steps (subst (AreOfRegion f) h.steps_are of) in
+    tidy_both a.steps h.freed h.placed.steps b.view h.steps_are
+    (logged_tidy f k h.served.answer h.placed.cache a.cache (entry_of old.name) h.freed (h.placed.steps ++ b.view) freed h.logged (tidy_over allocating refl h.placed.steps b.view h.served.kinds tidy))
+
+-- The steps that answer an operation leave their actor's view tidy.
+pub answer_tidy : (f : Profile) (k : ℕ) (what : What) (b : Having) (a : Answer) → IsAnswered f k what b a → AreOfRegion f a.steps → Tidy b.view
+    → Tidy (a.steps ++ b.view)
+answer_tidy f k (What.Alloc name heap size align) b a h of tidy = tidy_over allocating refl a.steps b.view h.kinds tidy
+answer_tidy f k (What.Guarded keeper name heap size align) b a h of tidy = tidy_over allocating refl a.steps b.view h.kinds tidy
+answer_tidy f k (What.FreeSized name room) b a h of tidy = freed_tidy f k b.cache a.cache name (Some room) (standing_for b.names name) a.steps a.said b.view of h.0 tidy
+answer_tidy f k (What.RawSized room block) b a h of tidy = free_tidy f k b.cache a.cache (sized_entry block room) a.steps a.said b.view of h.0 tidy
+answer_tidy f k (What.Free name) b a h of tidy = freed_tidy f k b.cache a.cache name None (standing_for b.names name) a.steps a.said b.view of h.0 tidy
+answer_tidy f k (What.Raw block) b a h of tidy = free_tidy f k b.cache a.cache (entry_of block) a.steps a.said b.view of h.0 tidy
+answer_tidy f k (What.Remake name old heap size align) b a h of tidy = remade_tidy f k name size align (standing_for b.names old) b a h of tidy
+answer_tidy f k What.Flush b a h of tidy = flush_tidy f k b.cache.log b.cache.noted a.cache.noted a.steps b.view of h.0.empties tidy
+answer_tidy f k What.Stop b a h of tidy = stop_tidy f k b.cache a.cache a.steps b.view of h.0 tidy
+answer_tidy f k what b a h of tidy = absurd h
+
+-- ==== What a keeper's steps and records keep: they are tidy, and each record can be shown.
+
+-- ---- tidy
+pub sweep_tidy : (f : Profile) (k : ℕ) (all : Bool) (guards left : List Guard) (said : List Record) (steps : List Made) (v : View)
+    → SweepSteps f k all guards left said steps → Tidy v → Tidy (steps ++ v)
+sweep_tidy f k all guards left said steps v is tidy = tidy_over sweeping refl steps v is.kinds tidy
+
+given_tidy : (f : Profile) (heap k : ℕ) (guards left : List Guard) (answer : Option Block) (searched after : List Made) (v : View)
+    → MatchOption answer (IsNotRaised f (large_directory heap) k guards left searched after) (IsRaised f (large_directory heap) k guards left searched after)
+    → Tidy v → Tidy (after ++ v)
+given_tidy f heap k guards left None searched after v is tidy = tidy_none after v is.nothing tidy
+given_tidy f heap k guards left (Some block) searched after v is tidy =
+    let give = give_steps (is.first + 1) 0 block is.word is.answer in
+    let backed = tidy_over (Backing ∷ []) refl is.backs v (raised_backs is) tidy in
+    let given = tidy_over (Giving ∷ (LookLife ∷ [])) refl give (is.backs ++ v) (refl, (refl, tt)) backed in
+    tidy_both after is.left (give ++ is.backs) v is.after_is (tidy_over returning refl is.left ((give ++ is.backs) ++ v) (raised_leaves is) (subst Tidy (sym (append_assoc give is.backs v)) given))
+
+raise_tidy : (f : Profile) (heap k : ℕ) (guards left : List Guard) (answer : Option Block) (steps : List Made) (v : View)
+    → RaiseSteps f heap k guards left answer steps → Tidy v → Tidy (steps ++ v)
+raise_tidy f heap k guards left answer steps v is tidy = tidy_both steps is.after is.searched v is.steps_are
+    (given_tidy f heap k guards left answer is.searched is.after (is.searched ++ v) is.outcome (tidy_over seeking refl is.searched v is.kinds tidy))
+
+-- A keeper's try leaves its view tidy.
+pub try_tidy : (f : Profile) (keeper : ℕ) (r : Request) (v : View) (guards : List Guard) (t : Tried) → IsTried f keeper r v guards t → Tidy v
+    → Tidy (t.steps ++ v)
+try_tidy f keeper r v guards t is tidy = search (arith, tidy_both, raise_tidy, sweep_tidy)
+
+-- ---- shown
+one_shown : (down : Bool) (k : ℕ) (guard : Guard) (first : List Made) (kept after : List Guard) (said more : List Record)
+    → SweptOne down k guard first kept after said more → EachShown more → EachShown said
+one_shown true k guard first kept after said more is rest = subst EachShown (sym is.2) (tt, rest)
+one_shown false k guard first kept after said more is rest = subst EachShown (sym is.2) rest
+
+-- Each line that a sweep says can be shown.
+swept_shown : (all : Bool) (k : ℕ) (guards kept : List Guard) (said : List Record) (steps : List Made) → Swept all k guards kept said steps → EachShown said
+swept_shown all k [] kept said steps is = subst EachShown (sym is.1) tt
+swept_shown all k (guard ∷ guards) kept said steps is = one_shown (all || is_over guard is.0) k guard is.1 kept is.3 said is.4 is.5 (swept_shown all k guards is.3 is.4 is.2 is.6)
+
+guard_shown : (keeper name k : ℕ) (block : Option Block) → EachShown (said_of_guard keeper name k block)
+guard_shown keeper name k None = tt
+guard_shown keeper name k (Some block) = (tt, tt)
+
+-- Each record of a keeper's try can be shown.
+try_shown : (f : Profile) (keeper : ℕ) (r : Request) (v : View) (guards : List Guard) (t : Tried) → IsTried f keeper r v guards t → AreOfRegion f t.steps
+    → EachShown t.records
+try_shown f keeper r v guards t is of =
+    let raised = of_front f is.raised is.swept (subst (AreOfRegion f) is.steps_are of) in
+    let events = records_of (events_by keeper (is.swept ++ v) is.raised) in
+    let said = said_of_guard keeper r.name (pages_of (wanted_by f r)) t.block in
+    subst EachShown (sym is.records_are) (shown_both is.lowered (events ++ said) (swept_shown false keeper guards is.left is.lowered is.swept is.sweep.swept)
+    (shown_both events said (records_shown f keeper is.raised (is.swept ++ v) raised) (guard_shown keeper r.name (pages_of (wanted_by f r)) t.block)))
+
+-- ---- short
+pub try_short : (f : Profile) (keeper : ℕ) (r : Request) (v : View) (guards : List Guard) (t : Tried) → IsTried f keeper r v guards t
+    → length t.steps ≤ try_steps f r guards
+try_short f keeper r v guards t is = search (arith, length-append)
+
+missed_few : (found : Option ℕ) (n : ℕ) → missed_steps found n ≤ 48 * n
+missed_few None n = omega arith
+missed_few (Some first) n = omega arith
+
+-- A keeper's try and its thread's own request after it make at most as many steps as a guarded request may.
+pub whole_short : {σ σ' : Standing} {tells found c c' answer : _} (keeper : ℕ) (r : Request) (v : View) (guards : List Guard) (t : Tried)
+    → IsTried σ.seat.profile keeper r v guards t
+    → (call : AllocatesPages (wanted_by σ.seat.profile r) found tells c c' σ σ' answer)
+    → length t.steps + length call.steps ≤ guarded_steps σ.seat.profile r guards
+whole_short {σ} {found = found} keeper r v guards t is call = search (arith, missed_few, try_short)
+
+-- ==== What follows once the acts of a plan were answered by a legal list, at whose end all actors have nothing; and that refusals are true.
 
 -- ---- the whole replay, by the parts of the actors
 -- what steps of the region and their records leave tidy and to be shown
 record Leaves (l l' : Whole) (rs rs' : List Record) : Type 0 where
+  -- Each actor's steps are tidy.
   tidy : Each Tidy l → Each Tidy l'
   shown : EachShown rs → EachShown rs'
 
@@ -83,7 +446,8 @@ left_op f op p q did =
     let k = op.actor in
     let v = part k p.list in
     let a = did.0 in
-    left_at f p did.2 (λ of. leaves_piece f k a.steps (records_of (events_by k v a.steps) ++ said_by k a.said) p.list p.records (answer_tidy f k op.what (having p.names v (p.caches k)) a did.1) (piece_shown f k a.steps a.said v) of)
+    left_at f p did.2 (λ of. leaves_piece f k a.steps (records_of (events_by k v a.steps) ++ said_by k a.said) p.list p.records
+    (answer_tidy f k op.what (having p.names v (p.caches k)) a did.1) (piece_shown f k a.steps a.said v) of)
 
 -- what follows a keeper's try, and the try itself
 left_tried : (f : Profile) (op : Op) (r : Request) (block : Option Block) (p q : Progress) → AnswersTried f op r block p q → AreLeft f p q
@@ -157,9 +521,11 @@ parts_kept (t ∷ l) all = (
 
 module _ (way : Way) (f : Profile) (acts : List Act) (reached : Progress) (whole : Whole) (answers : Reaches f acts at_start reached)
     (one_order : IsOneOrder way reached.list whole) (legal : Legal f whole) where
+  -- Each actor's part is the same in both lists.
   same : (k : ℕ) → part k whole ≡ part k reached.list
   same = same_parts way reached.list whole one_order
 
+  -- What was reached is left as it is.
   left : Leaves [] reached.list [] reached.records
   left = left_by f acts at_start reached answers (λ k. subst (AreOfRegion f) (same k) (legal_part f whole k legal))
 
@@ -191,6 +557,7 @@ by_indexes : (way : Way) (threads : ℕ) (f : Profile) (acts : List Act) (p p' :
 by_indexes InOrder threads f acts p p' is go = go.0
 by_indexes OnThreads threads f acts p p' is go = tt
 
+-- Between two acts of a replay in order all rest.
 resting : (way : Way) (threads : ℕ) (f : Profile) (acts : List Act) (p p' : Progress) (is : Reaches f acts p p') → GoInOrder way threads f acts p p' is
     → RestBetween way threads f acts p p' is
 resting InOrder threads f acts p p' is go = go.1
@@ -252,7 +619,8 @@ module _ (f : Profile) (k name size align : ℕ) (b : Having) (a : Answer) (l : 
   remade_takes None is = tt
   remade_takes (Some None) is = tt
   remade_takes (Some (Some old)) (inl kept) = tt
-  remade_takes (Some (Some old)) (inr h) = takes_named f old.heap size align k h.placed.found b.cache h.placed.cache l h.placed.steps h.served.answer valid (subst (AtRest f b.cache) (sym own) h.served.rest) (placed_legal old h) h.served.serves
+  remade_takes (Some (Some old)) (inr h) = takes_named f old.heap size align k h.placed.found b.cache h.placed.cache l h.placed.steps h.served.answer valid
+      (subst (AtRest f b.cache) (sym own) h.served.rest) (placed_legal old h) h.served.serves
 
 -- a request that is admitted in one heap is so in each
 in_each_heap : (f : Profile) (size align heap : ℕ) → IsAdmitted f size align heap → (other : ℕ) → other < f.heaps → IsAdmitted f size align other
@@ -273,8 +641,8 @@ tried_refuses : (f : Profile) (limit : ℕ) (asked : List ℕ) (op : Op) (r : Re
     → IsFitWhat f limit asked op.what → Legal f q.list → (is : AnswersTried f op r block p q)
     → TriedRefusesTruly f op r block p q is
 tried_refuses f limit asked op r (Some block) p q valid fit legal is = tt
-tried_refuses f limit asked op r None p q valid fit legal is =
-    operation_refuses f op.actor limit asked op.what (having p.names (part op.actor p.list) (p.caches op.actor)) is.0 p.list valid refl fit (subst (λ (s : Progress). Legal f s.list) is.2 legal) is.1
+tried_refuses f limit asked op r None p q valid fit legal is = operation_refuses f op.actor limit asked op.what
+    (having p.names (part op.actor p.list) (p.caches op.actor)) is.0 p.list valid refl fit (subst (λ (s : Progress). Legal f s.list) is.2 legal) is.1
 
 guarded_refuses : (f : Profile) (keeper limit : ℕ) (asked : List ℕ) (op : Op) (o : Option Request) (p q : Progress) → IsValid f
     → IsFitWhat f limit asked op.what → Legal f q.list → (is : AnswersGuarded f keeper op o p q)
@@ -287,7 +655,8 @@ pub all_refuse : (f : Profile) (limit : ℕ) (asked : List ℕ) (acts : List Act
     → (is : Reaches f acts p q) → AllRefuseTruly f acts p q is
 all_refuse f limit asked [] p q valid fit legal is = tt
 all_refuse f limit asked (Operates op ∷ acts) p q valid fit legal is = (
-  operation_refuses f op.actor limit asked op.what (having p.names (part op.actor p.list) (p.caches op.actor)) is.1.0 p.list valid refl fit.1 (subst (λ (r : Progress). Legal f r.list) is.1.2 (was_so f (Legal f) (legal_before f) acts is.0 q is.2 legal)) is.1.1,
+  operation_refuses f op.actor limit asked op.what (having p.names (part op.actor p.list) (p.caches op.actor)) is.1.0 p.list valid refl fit.1
+      (subst (λ (r : Progress). Legal f r.list) is.1.2 (was_so f (Legal f) (legal_before f) acts is.0 q is.2 legal)) is.1.1,
   all_refuse f limit (asked_after op.what asked) acts is.0 q valid fit.2 legal is.2,
 )
 all_refuse f limit asked (Guards keeper op ∷ acts) p q valid fit legal is =
@@ -316,7 +685,8 @@ guarded_takes f keeper op o p q valid legal is = search (arith, tried_takes)
 pub all_take : (f : Profile) (acts : List Act) (p q : Progress) → IsValid f → Legal f q.list → (is : Reaches f acts p q) → AllTakeTheirRuns f acts p q is
 all_take f [] p q valid legal is = tt
 all_take f (Operates op ∷ acts) p q valid legal is = (
-  takes_run f op.actor op.what (having p.names (part op.actor p.list) (p.caches op.actor)) is.1.0 p.list valid refl (subst (λ (r : Progress). Legal f r.list) is.1.2 (was_so f (Legal f) (legal_before f) acts is.0 q is.2 legal)) is.1.1,
+  takes_run f op.actor op.what (having p.names (part op.actor p.list) (p.caches op.actor)) is.1.0 p.list valid refl
+      (subst (λ (r : Progress). Legal f r.list) is.1.2 (was_so f (Legal f) (legal_before f) acts is.0 q is.2 legal)) is.1.1,
   all_take f acts is.0 q valid legal is.2,
 )
 all_take f (Guards keeper op ∷ acts) p q valid legal is =

@@ -25,17 +25,17 @@ events_all P [] all = tt
 events_all P (e ∷ es) all = (all.0, events_all P es all.1)
 
 -- What is so of each event is so of the records of those events.
-pub piece_events : (P : Record → Type 0) (es : List Event) → AllByRecursion (λ e. P (Record.Event e)) es → AllByRecursion P (records_of es)
+piece_events : (P : Record → Type 0) (es : List Event) → AllByRecursion (λ e. P (Record.Event e)) es → AllByRecursion P (records_of es)
 piece_events P es all = events_all P (reverse es) (all_reverse (λ e. P (Record.Event e)) es all)
 
 -- What is so of each event of a piece and of all that its actor says is so of each of its records.
-pub piece_all : (P : Record → Type 0) (k : ℕ) (es : List Event) (said : Option Said) → AllByRecursion (λ e. P (Record.Event e)) es
+piece_all : (P : Record → Type 0) (k : ℕ) (es : List Event) (said : Option Said) → AllByRecursion (λ e. P (Record.Event e)) es
     → ((s : Said) → P (Record.Said k s)) → AllByRecursion P (records_of es ++ said_by k said)
 piece_all P k es None all says = all_both P (records_of es) [] (piece_events P es all) tt
 piece_all P k es (Some said) all says = all_both P (records_of es) (Record.Said k said ∷ []) (piece_events P es all) (says said, tt)
 
 -- What is so of the record of each page's outcome is so of all those of a pass.
-pub outcomes_all : (P : Record → Type 0) (k epoch : ℕ) (found : List (ℕ × Outcome)) → ((page : ℕ) (o : Outcome) → P (record_of k epoch page o))
+outcomes_all : (P : Record → Type 0) (k epoch : ℕ) (found : List (ℕ × Outcome)) → ((page : ℕ) (o : Outcome) → P (record_of k epoch page o))
     → AllByRecursion P (map (λ p. record_of k epoch p.0 p.1) found)
 outcomes_all P k epoch [] all = tt
 outcomes_all P k epoch (x ∷ found) all = (all x.0 x.1, outcomes_all P k epoch found all)

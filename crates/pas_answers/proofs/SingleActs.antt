@@ -1,19 +1,28 @@
 -- What a single act changes and shows, whatever region it is done at.
 use Rattle.std.proofs.Common.{◌≡◌, ◌≢◌, ℕ, ◌+◌, ◌≤◌, ◌++◌, Bool, if◌then◌else◌, List, length, refl, ap, ◌∙◌, arith, true, false, [], ◌∷◌, reverse}
-use Rattle.std.proofs.Common.{length-append, eq-eqb, ne_eqb}
-use Rattle.pas_profile.specs.declared.{profile.Profile.Profile, event.Event.Event, event.Outcome.Outcome, word.Word.Word}
+use Rattle.std.proofs.Common.{length-append, eq-eqb, ne_eqb, sym, map, append-nil, Some, append_assoc, max, Option, None, option_and_then, ◌==◌, ◌||◌, subst}
+use Rattle.std.proofs.Common.{◌/◌, ◌%◌, ◌^◌, ◌<◌}
+use Rattle.pas_profile.specs.declared.{profile.Profile.Profile, event.Event.Event, event.Outcome.Outcome, word.Word.Word, name.Block.Block}
 use Rattle.pas_cache.specs.Caches.{Cached}
-use Rattle.pas_answers.specs.Answers.{Caches, with_cache, Named, epoch_look, records_of}
-use Rattle.std.proofs.lemmas.List.{length-reverse, length-map}
-use Rattle.pas_trace.specs.Acts.{Act}
-use Rattle.pas_trace.specs.declared.plan.What.{What, TheVariants.Free, TheVariants.FreeSized, TheVariants.Remake}
-use Rattle.pas_report.specs.declared.record.Record.{Record}
-use Rattle.pas_answers.specs.{Calls.AreKnown, Calls.IsKnown, Fit.IsFitWhat, Fit.sum_over}
-use Rattle.pas_steps.specs.{Calls.Calls, Clear.HasNothing, Kinds.LookEpoch, Desks.Standing, Desks.Makes}
-use Rattle.pas_steps.specs.declared.step.Step.TheVariants.{Look}
+use Rattle.pas_answers.specs.Answers.{Caches, with_cache, Named, epoch_look, records_of, standing_for, block_of, Having, having, Answer, answer_of, named}
+use Rattle.pas_answers.specs.Answers.{IsRemadeBy, IsAnswered}
+use Rattle.std.proofs.lemmas.{List.length-reverse, List.length-map, List.reverse-append, Grind.flat_map-append}
+use Rattle.pas_trace.specs.{Acts.Act, EveryPlan.is_asked, EveryPlan.asked_after}
+use Rattle.pas_trace.specs.declared.plan.{What.What, Task.Task, Work.Work}
+use Rattle.pas_trace.specs.declared.plan.What.TheVariants.{Free, FreeSized, Remake, Alloc, Guarded, Raw, RawSized, Flush, Stop}
+use Rattle.pas_report.specs.declared.record.{Record.Record, Said.Said}
+use Rattle.pas_answers.specs.Calls.{AreKnown, IsKnown, IsBlockOf, MayStand, what_of, block_behind, IsMeant, named_with, named_by, freed_by}
+use Rattle.pas_answers.specs.{Fit.IsFitWhat, Fit.sum_over, TicksAndPasses.ticking, TicksAndPasses.AnswersTick, TicksAndPasses.AnswersPass, Indexes.request_made}
+use Rattle.pas_answers.specs.{Indexes.request_by, Names.IsPackable, Names.MayPack}
+use Rattle.pas_steps.specs.{Calls.Calls, Clear.HasNothing, Kinds.LookEpoch, Desks.Standing, Desks.Makes, Desks.made, Events.events_by, Views.View}
+use Rattle.pas_steps.specs.declared.step.{Step.TheVariants.Look, Step.TheVariants.Tick, Made.Made}
 use Rattle.pas_steps.proofs.{Called.call_none, Called.call_step, Calls.does_idly, Nothing.nothing_still}
-use Rattle.pas_scavenger.specs.{Pages.unback_of, Passes.unbacks_in}
-use Rattle.pas_scavenger.proofs.Trying.{one_unback}
+use Rattle.pas_scavenger.specs.{Pages.unback_of, Passes.unbacks_in, Passes.Passes}
+use Rattle.pas_scavenger.proofs.Examinations.{one_unback}
+use Rattle.pas_profile.specs.declared.event.Outcome.TheVariants.{Unbacked, Bare, Young, InUse, NotOffered}
+use Rattle.pas_answers.specs.PassRecords.{record_of, records_of_pass, event_in, events_in}
+use Rattle.pas_trace.specs.Asked.{work_of, of_task, request_of, freed_of}
+use Rattle.pas_profile.specs.Profiles.{IsValid}
 
 -- ---- caches of which that of thread k became another
 pub its_cache : (caches : Caches) (k : ℕ) (c : Cached) → with_cache caches k c k ≡ c
@@ -55,3 +64,171 @@ reads {σ} {σ'} epoch makes = call_step (λ v w. HasNothing w) (call_none {R = 
 pub sum_both : (cost : Act → ℕ) (xs ys : List Act) → sum_over cost (xs ++ ys) ≡ sum_over cost xs + sum_over cost ys
 sum_both cost [] ys = omega arith
 sum_both cost (x ∷ xs) ys = let rest = sum_both cost xs ys in omega (arith, rest)
+
+-- ==== The events among the records of a pass are those of its steps.
+
+one_event : (k epoch page : ℕ) (o : Outcome) → event_in (record_of k epoch page o) ≡ reverse (unback_of k epoch page o)
+one_event k epoch page Unbacked = refl
+one_event k epoch page Bare = refl
+one_event k epoch page (Young stamp) = refl
+one_event k epoch page (InUse word value) = refl
+one_event k epoch page NotOffered = refl
+
+-- of the outcomes, which the events have the newest first
+outcomes_shown : (k epoch : ℕ) (found : List (ℕ × Outcome))
+    → events_in (map (λ p. record_of k epoch p.0 p.1) found) ≡ reverse (unbacks_in k epoch (reverse found))
+outcomes_shown k epoch [] = refl
+outcomes_shown k epoch (x ∷ found) =
+    let one = x ∷ [] in
+    ap (λ es. es ++ events_in (map (λ p. record_of k epoch p.0 p.1) found)) (one_event k epoch x.0 x.1) ∙ ap (λ es. reverse (unback_of k epoch x.0 x.1) ++ es) (outcomes_shown k epoch found)
+    ∙ sym (ap (λ ps. reverse (unbacks_in k epoch ps)) (reverse-append one found) ∙ ap reverse (flat_map-append (λ (p : ℕ × Outcome). unback_of k epoch p.0 p.1) (reverse found) one)
+    ∙ reverse-append (unbacks_in k epoch (reverse found)) (unbacks_in k epoch one) ∙ ap (λ es. reverse es ++ reverse (unbacks_in k epoch (reverse found))) (append-nil (unback_of k epoch x.0 x.1)))
+
+-- The events among the records of a pass are those of its steps, in order.
+pass_shown : {σ σ' : Standing} {epoch : ℕ} {found : List (ℕ × Outcome)} (passes : Passes σ σ' epoch found) (v : View)
+    → events_in (records_of_pass σ.seat.actor epoch found) ≡ reverse (events_by σ.seat.actor v passes.steps)
+pass_shown {σ} {σ'} {epoch} {found} passes v = outcomes_shown σ.seat.actor epoch found ∙ ap reverse (sym (passes.order.events v))
+
+-- ==== A tick and a pass with their records.
+
+-- ---- a tick
+module _ {σ σ' : Standing} (asked answer : ℕ) (makes : Makes σ σ' (Tick asked) answer) where
+  -- A tick leaves nothing behind.
+  ticks : Calls σ σ' HasNothing (λ v w. HasNothing w) (made (Tick asked) answer ∷ [])
+  ticks = call_step (λ v w. HasNothing w) (call_none {R = λ v w. HasNothing w} (λ v met. met)) makes (λ v met is. tt)
+      (λ v met is agrees. nothing_still (does_idly σ.seat.profile ticking refl (made (Tick asked) answer ∷ []) v (refl, tt) (agrees, tt)) met)
+
+  -- A tick whose record was said is answered.
+  pub tick_answered : (epoch actor : ℕ) (before after : List Record) → epoch ≡ max answer asked → actor ≡ σ'.seat.actor
+      → after ≡ before ++ Record.Said actor (Said.Tick epoch) ∷ [] → AnswersTick asked σ σ' before after
+  tick_answered epoch actor before after raised own added = record {
+    answer = answer;
+    steps = made (Tick asked) answer ∷ [];
+    steps_are = refl;
+    few = refl;
+    calls = ticks;
+    kinds = (refl, tt);
+    silent = λ v. refl;
+    epoch = epoch;
+    raised = λ earlier. raised;
+    known = λ v. ap (λ e. Some e) (sym raised);
+    added = added ∙ ap (λ k. before ++ Record.Said k (Said.Tick epoch) ∷ []) (own ∙ ap (λ s. s.actor) makes.seat_is);
+  }
+
+-- ---- a pass
+pub pass_answered : {σ σ' epoch found : _} (spare spare' actor : ℕ) (listed : List (ℕ × Outcome)) (before marked after : List Record)
+    → Passes σ σ' epoch found → spare' + length (unbacks_in σ.seat.actor epoch (reverse found)) ≡ spare
+    → actor ≡ σ'.seat.actor → listed ≡ found → marked ≡ before ++ Record.Said actor (Said.Pass epoch) ∷ []
+    → after ≡ marked ++ map (λ p. record_of actor epoch p.0 p.1) listed → AnswersPass σ σ' spare spare' found before after
+pass_answered {σ} {σ'} {epoch} {found} spare spare' actor listed before marked after passes fell own same mark added = record {
+  epoch = epoch;
+  passes = passes;
+  added = added ∙ ap (λ ps. marked ++ map (λ p. record_of actor epoch p.0 p.1) ps) same ∙ ap (λ rs. rs ++ map (λ p. record_of actor epoch p.0 p.1) found) mark
+      ∙ append_assoc before (Record.Said actor (Said.Pass epoch) ∷ []) (map (λ p. record_of actor epoch p.0 p.1) found)
+      ∙ ap (λ k. before ++ records_of_pass k epoch found) (own ∙ ap (λ s. s.actor) passes.calls.adds.seat_is);
+  shown = pass_shown passes;
+  spare_is = fell;
+}
+
+-- An operation by what it asks for, and what the names that it frees or reallocates stand for, before it and after it.
+
+-- it is the one that asks its thread for this
+same_own : {a b : Task} → Work.Own a ≡ Work.Own b → a ≡ b
+same_own is = cc
+
+-- An operation that is a thread's own task is the operation of that task.
+pub own_what : (what : What) (task : Task) → work_of what ≡ Work.Own task → what ≡ what_of task
+own_what what task is = search (arith, same_own)
+
+-- each case computes
+pub task_of : (task : Task) → work_of (what_of task) ≡ Work.Own task
+task_of task = grind arith
+
+-- the name that is freed or reallocated, and the one that is asked for, by the task
+pub freed_task : (block : ℕ → Option Block) (task : Task) → option_and_then block (freed_of task) ≡ freed_by block (what_of task)
+freed_task block task = ap (λ (w : Work). option_and_then block (of_task freed_of w)) (sym (task_of task))
+
+-- What a task's request comes to is named as by its operation.
+pub named_task : (task : Task) (came : Option Block) → named_with (request_of task) came ≡ named_by (what_of task) came
+named_task task came = ap (λ (w : Work). named_with (of_task request_of w) came) (sym (task_of task))
+
+-- what is said of each name is said of the freed or reallocated one
+pub meant_by : (block : ℕ → Option Block) (names : List Named) (what : What) → ((n : ℕ) → block n ≡ block_behind (standing_for names n))
+    → IsMeant names what (freed_by block what)
+meant_by block names what tells = grind arith
+
+-- the request that it makes by what names stand for
+pub request_meant : (what : What) (names : List Named) (meant : Option Block) → IsMeant names what meant → request_made what meant ≡ request_by names what
+request_meant what names meant means = grind arith
+
+-- .. and it is one of the region
+pub none_stands : (f : Profile) → MayStand f None
+none_stands f = λ b same. absurd (let bad : None ≡ Some b = same in cc)
+
+-- What the name that an operation frees or reallocates stands for may stand in the region, where each name's may.
+pub meant_stands : (f : Profile) (block : ℕ → Option Block) (what : What) → ((n : ℕ) → MayStand f (block n)) → MayStand f (freed_by block what)
+meant_stands f block (Free name) stand = stand name
+meant_stands f block (FreeSized name room) stand = stand name
+meant_stands f block (Remake name old heap size align) stand = stand old
+meant_stands f block what stand = none_stands f
+
+one_more : (t : Bool) (block : Option Block) (rest : Option (Option Block)) (old : Bool) → (old ≡ true → (b : Option Block) × (rest ≡ Some b)) → t || old ≡ true
+    → (b : Option Block) × ((if t then Some block else rest) ≡ Some b)
+one_more true block rest old known is = (block, refl)
+one_more false block rest old known is = known is
+
+same_names : (asked : List ℕ) {names names' : List Named} → names' ≡ names → AreKnown asked names → AreKnown asked names'
+same_names asked same known = subst (λ (ns : List Named). AreKnown asked ns) (sym same) known
+
+-- a reallocation asks for its new name, which stands for this then
+remade_names : (f : Profile) (k name size align : ℕ) (o : Option (Option Block)) (b : Having) (a : Answer) → IsRemadeBy f k name size align o b a
+    → (came : Option Block) × (a.names ≡ named name came ∷ b.names)
+remade_names f k name size align o b a is = grind arith
+
+-- After an operation was answered, each name that was asked for so far stands for something.
+pub known_after : (f : Profile) (k : ℕ) (what : What) (asked : List ℕ) (names names' : List Named) (v : View) (c c' : Cached) (steps : List Made)
+    (said : Option Said) (found : Option ℕ)
+    → IsAnswered f k what (having names v c) (answer_of steps said found names' c') → AreKnown asked names → AreKnown (asked_after what asked) names'
+known_after f k (Alloc name heap size align) asked names names' l c c' steps said found answered known = subst (λ (ns : List Named). AreKnown (name ∷ asked) ns)
+    (sym answered.names_are) (λ n is. one_more (name == n) (block_of answered.answer) (standing_for names n) (is_asked asked n) (known n) is)
+known_after f k (Guarded keeper name heap size align) asked names names' l c c' steps said found answered known = subst (λ (ns : List Named). AreKnown
+    (name ∷ asked) ns) (sym answered.names_are) (λ n is. one_more (name == n) (block_of answered.answer) (standing_for names n) (is_asked asked n) (known n) is)
+known_after f k (Free name) asked names names' l c c' steps said found answered known = same_names asked answered.1 known
+known_after f k (FreeSized name room) asked names names' l c c' steps said found answered known = same_names asked answered.1 known
+known_after f k (Raw block) asked names names' l c c' steps said found answered known = same_names asked answered.1 known
+known_after f k (RawSized room block) asked names names' l c c' steps said found answered known = same_names asked answered.1 known
+known_after f k (Remake name old heap size align) asked names names' l c c' steps said found answered known =
+    search (arith, remade_names, one_more)
+known_after f k Flush asked names names' l c c' steps said found answered known = same_names asked answered.2 known
+known_after f k Stop asked names names' l c c' steps said found answered known = same_names asked answered.2 known
+known_after f k what asked names names' l c c' steps said found answered known = absurd answered
+
+-- the name that an operation asked for stands for what it came to
+pub known_more : (what : What) (came : Option Block) (asked : List ℕ) (names : List Named) → AreKnown asked names
+    → AreKnown (asked_after what asked) (named_by what came ++ names)
+known_more (Alloc name heap size align) came asked names known = λ n is. one_more (name == n) came (standing_for names n) (is_asked asked n) (known n) is
+known_more (Guarded keeper name heap size align) came asked names known = λ n is. one_more (name == n) came (standing_for names n) (is_asked asked n) (known n) is
+known_more (Remake name old heap size align) came asked names known = λ n is. one_more (name == n) came (standing_for names n) (is_asked asked n) (known n) is
+known_more what came asked names known = known
+
+-- a name that comes to stand for something is known, and so are those before it
+pub known_named : (name : ℕ) (came : Option Block) (asked : List ℕ) (names : List Named) → AreKnown asked names
+    → AreKnown (name ∷ asked) (named name came ∷ names)
+known_named name came asked names known = λ n is. one_more (name == n) came (standing_for names n) (is_asked asked n) (known n) is
+
+-- A block of the region may be packed.
+packs : (f : Profile) (block : Block) → IsValid f → IsBlockOf f block → IsPackable block
+packs f block valid of =
+    record {
+      first = omega (arith, of.region.page.0);
+      last = omega (arith, of.region.page.1, valid.pages);
+      aligned = of.region.aligned;
+      whole = of.room.0;
+      room = omega (arith, of.room.2, valid.pages);
+      turn = omega (arith, of.turn);
+    }
+
+-- So may what a name may stand for.
+pub may_pack : (f : Profile) (found : Option Block) → IsValid f → MayStand f found → MayPack found
+may_pack f None valid stands = tt
+may_pack f (Some block) valid stands = packs f block valid (stands block refl)

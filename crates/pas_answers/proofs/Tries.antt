@@ -1,40 +1,143 @@
--- What a keeper's two calls come to for a request that it tries, and at the close.
-use Rattle.std.proofs.Common.{◌≡◌, ℕ, ◌+◌, ◌*◌, ◌/◌, ◌%◌, ◌<◌, ◌≤◌, ◌++◌, Bool, true, false, ◌||◌, List, [], ◌∷◌, length, drop, Option, Some, None, refl, ap}
-use Rattle.std.proofs.Common.{sym, ◌∙◌, subst, arith, append_assoc, append-nil, length-append, true≢false, ◌-◌, ◌^◌, map, reverse}
+-- What an operation adds to the records.
+use Rattle.std.proofs.Common.{◌≡◌, ℕ, ◌+◌, ◌<◌, ◌≤◌, ◌++◌, List, [], ◌∷◌, length, drop, Option, Some, None, ap, sym, ◌∙◌, subst, arith, length-append}
+use Rattle.std.proofs.Common.{append_assoc, append-nil, map, reverse, ◌*◌, ◌/◌, ◌%◌, Bool, true, false, ◌||◌, refl, true≢false, ◌-◌, ◌^◌}
+use Rattle.std.proofs.{lemmas.List.length-reverse, lemmas.List.length-map, Math.Seq.drop-append_seam, lemmas.Option.same_Some, Math.Nat.zero-mod}
+use Rattle.pas_profile.specs.declared.{event.Event.Event, name.Block.Block, directory.Directory.Directory, directory.Route.Route, profile.Profile.Profile}
+use Rattle.pas_steps.specs.declared.step.{Made.Made, Step.Step, Step.TheVariants.Deed}
+use Rattle.pas_steps.specs.{Views.View, Views.KnowsDeed, Events.events_of, Events.events_by, Lists.Whole, Noted.ShowsRest, Agreement.Agreed, Calls.Calls}
+use Rattle.pas_steps.specs.{Unknown.unknown_pages}
+use Rattle.pas_steps.specs.Desks.{Standing, triples, CanCall, Adds, Seat}
+use Rattle.pas_steps.proofs.{Frames.events_split, Frames.events_append, Noting.rest_more, Adding.agreed_first, Adding.agreed_later, Apart.no_events}
+use Rattle.pas_steps.proofs.{Apart.events_same, Called.call_then, Called.next_call, Events.ComesOf, Events.comes_of, Events.each_event, Frames.knows_still}
+use Rattle.pas_steps.proofs.{Past.always_pair, SpareRoom.Spares, SpareRoom.spare_falls, Unknown.unknown_no_more}
+use Rattle.pas_trace.specs.declared.{plan.What.What, item.Request.Request}
+use Rattle.pas_report.specs.Rooms.{records_in, room_of, Records}
+use Rattle.pas_report.specs.declared.record.{Record.Record, Said.Said}
+use Rattle.pas_cache.specs.Caches.{Cached, AtRest}
+use Rattle.pas_answers.specs.Answers.{records_of, said_by, wanted_by, IsGiven}
+use Rattle.pas_answers.specs.Calls.{PerformsMeant, MayAnswer, AnswersMeant, IsBlockOf, MayStand}
 use Rattle.std.specs.List.{AllByRecursion}
-use Rattle.std.proofs.{lemmas.List.length-map, lemmas.List.length-reverse, lemmas.Option.same_Some, Math.Nat.zero-mod}
-use Rattle.pas_large.proofs.{Outcomes.of_directory, Claims.in_parts, Claims.span_in, Gives.run_is, Gives.back_events, Outcomes.MadeOf}
-use Rattle.pas_guard.proofs.{Raises.fits_find, Raised.raised_backs, Raised.raised_few, Raised.raised_leaves}
+use Rattle.pas_large.proofs.{Finds.of_directory, Finds.MadeOf, Claims.in_parts, Claims.span_in, Gives.run_is, Gives.back_events}
+use Rattle.pas_guard.proofs.Raises.{fits_find, raised_backs, raised_few, raised_leaves}
 use Rattle.pas_bits.specs.Runs.{in_run}
 use Rattle.pas_bitfit.proofs.Aligned.{stands_aligned}
 use Rattle.pas_profile.specs.{Blocks.address_of, Blocks.grain_of, Blocks.length_of, Classes.IsAlignment}
-use Rattle.pas_profile.specs.declared.{directory.Directory.Directory, directory.Route.Route, event.Event.Event, name.Block.Block, profile.Profile.Profile}
 use Rattle.pas_profile.proofs.Lists.{all_both, all_map}
 use Rattle.pas_scan.specs.Runs.{large_directory}
-use Rattle.pas_steps.specs.{Agreement.Agreed, Calls.Calls, Events.events_by, Lists.Whole, Unknown.unknown_pages, Views.View, Views.KnowsDeed}
-use Rattle.pas_steps.specs.Desks.{Seat, Standing, CanCall, triples}
 use Rattle.pas_steps.specs.Kinds.{Backing, Only, returning, kind_of, is_in}
-use Rattle.pas_steps.specs.declared.step.{Made.Made, Step.Step, Step.TheVariants.Deed}
-use Rattle.pas_steps.proofs.{Adding.agreed_first, Adding.agreed_later, Apart.no_events, Apart.events_same, Called.call_then, Called.next_call, Events.ComesOf}
-use Rattle.pas_steps.proofs.{Events.comes_of, Events.each_event, Frames.events_append, Kept.knows_still, Past.always_pair, SpareRoom.Spares}
-use Rattle.pas_steps.proofs.{SpareRoom.spare_falls, Unknown.unknown_no_more}
 use Rattle.pas_rights.specs.Gives.{give_steps}
 use Rattle.pas_large.specs.Claims.{in_span}
 use Rattle.pas_trace.specs.Reasons.{cost_of_size}
-use Rattle.pas_trace.specs.declared.item.Request.{Request}
 use Rattle.pas_trace.proofs.Costs.{large_cost}
-use Rattle.pas_report.specs.Rooms.{records_in, room_of, Records}
-use Rattle.pas_report.specs.declared.record.{Record.Record, Said.Said}
 use Rattle.pas_cache.specs.Serves.{Wanted, wanted_for, pages_of, IsPreparing, IsDeedOf}
 use Rattle.pas_cache.proofs.Routes.{is_large, pages_asked}
 use Rattle.pas_guard.specs.{Books.FitsBook, Books.guards_in, Books.size_of_book, Seeks.seeking}
 use Rattle.pas_guard.specs.Raises.{RaiseRoom, RaiseSteps, Raises, IsRaised}
 use Rattle.pas_guard.specs.Sweeps.{is_over, sweeping, SweptOne, Swept, SweepSteps, Sweeps}
 use Rattle.pas_guard.specs.declared.book.{Guard.Guard, GuardBook.GuardBook}
-use Rattle.pas_answers.specs.{Answers.wanted_by, Answers.records_of, Answers.IsGiven, Calls.IsBlockOf, Calls.MayStand}
 use Rattle.pas_answers.specs.Guarding.{said_of_guard, TryEnds, try_steps, IsTried}
 use Rattle.pas_answers.specs.Keeping.{owed_by_keeper, MayTry, cost_of_try, TriesRequest, LowersAll}
-use Rattle.pas_answers.proofs.Records.{IsShown, shown_new, shown_longer}
+
+-- ---- what the desk shows
+-- the events shown are those of each view, of which n were forgotten
+abbrev pub IsShown : ℕ → Standing → List Event → Type 0
+IsShown n σ shown = (v : View) (l : Whole) → σ.stands v l → ShowsRest n shown (events_of σ.seat.actor v)
+
+-- What a desk answers to be shown is shown by it.
+pub is_shown : (σ : Standing) {m n : ℕ} {told shown : List Event} → told ≡ shown → m ≡ n → IsShown m σ shown → IsShown n σ told
+is_shown σ {m} {n} {told} {shown} is same shows v l stood =
+    subst (λ k. ShowsRest k told (events_of σ.seat.actor v)) same (subst (λ es. ShowsRest m es (events_of σ.seat.actor v)) (sym is) (shows v l stood))
+
+shown_more : {σ σ' : Standing} {C : View → Type 0} {steps : List Made} {n : ℕ} → Adds σ σ' C steps → (old new : List Event) → IsShown n σ old → IsShown n σ' new
+    → (v : View) (l : Whole) → σ.stands v l → C v → new ≡ old ++ reverse (events_by σ.seat.actor v steps)
+shown_more {σ} {σ'} {C} {steps} {n} adds old new before after v l stood met =
+    let k = σ.seat.actor in
+    let next = after (steps ++ v) (triples k steps ++ l) (adds.added v l stood met) in
+    rest_more old new (events_of k v) (events_by k v steps) (before v l stood)
+    (subst (ShowsRest n new) (events_split k steps v) (subst (λ s. ShowsRest n new (events_of s.actor (steps ++ v))) adds.seat_is next))
+
+-- the events of a call are those from the place on where the earlier ones ended
+shown_new : {σ σ' : Standing} {C : View → Type 0} {steps : List Made} {n : ℕ} → Adds σ σ' C steps → (old new : List Event) → IsShown n σ old
+    → IsShown n σ' new
+    → (v : View) (l : Whole) → σ.stands v l → C v → drop (length old) new ≡ reverse (events_by σ.seat.actor v steps)
+shown_new {σ} {σ'} {C} {steps} {n} adds old new before after v l stood met = ap (drop (length old)) (shown_more adds old new before after v l stood met) ∙ drop-append_seam old (reverse (events_by σ.seat.actor v steps))
+
+-- After a call a desk has shown no fewer events than before it.
+pub shown_longer : {σ σ' : Standing} {C : View → Type 0} {steps : List Made} {n : ℕ} → Adds σ σ' C steps → (old new : List Event) → IsShown n σ old
+    → IsShown n σ' new
+    → CanCall σ C → length old ≤ length new
+shown_longer {σ} {σ'} {C} {steps} {n} adds old new before after can =
+    let n = ap (λ (es : List Event). length es) (shown_more adds old new before after can.view can.whole can.stood can.met) ∙ length-append old (reverse (events_by σ.seat.actor can.view steps)) in
+    omega (arith, n)
+
+-- ---- what an operation asks
+pub can_rest : {σ : Standing} (c : Cached) (what : What) (spare : ℕ) (out : Records) → CanCall σ (MayAnswer σ.seat.profile c what spare out)
+    → CanCall σ (AtRest σ.seat.profile c)
+can_rest {σ} c what spare out can = record { view = can.view; whole = can.whole; stood = can.stood; met = can.met.may.rest }
+
+-- ---- the records
+-- there is room for the events, and for what is said besides
+pub records_fit : {σ σ' said c' n : _} (what : What) (meant came : Option Block) (c : Cached) (spare : ℕ) (out : Records) (old new : List Event)
+    → (can : CanCall σ (MayAnswer σ.seat.profile c what spare out))
+    → PerformsMeant what meant came c c' σ σ' said → IsShown n σ old → IsShown n σ' new
+    → length (records_in out) + length (drop (length old) new) + length (said_by σ.seat.actor said) ≤ room_of out
+unfolding can_rest
+records_fit {σ} {σ'} {said} {c'} {n} what meant came c spare out old new can performs before after =
+    let rest = can_rest c what spare out can in
+    let events = ap (λ (es : List Event). length es) (shown_new performs.calls.adds old new before after can.view can.whole can.stood rest.met) ∙ length-reverse (events_by σ.seat.actor can.view performs.steps) in
+    omega (arith, events, performs.few can.view can.met.may.rest (performs.calls.adds.agreed can.view can.whole can.stood can.met.may.rest), can.met.records)
+
+-- .. and room for what is said then
+pub said_fits : {said : Option Said} (k : ℕ) (out pushed : Records) (events : List Event) (message : Said) → said ≡ Some message
+    → length (records_in out) + length events + length (said_by k said) ≤ room_of out
+    → records_in pushed ≡ records_in out ++ map Record.Event events → room_of pushed ≡ room_of out → length (records_in pushed) < room_of pushed
+said_fits {said} k out pushed events message is fits added same =
+    let size = ap (λ (rs : List Record). length rs) added ∙ length-append (records_in out) (map Record.Event events) ∙ ap (λ n. length (records_in out) + n) (length-map events Record.Event) in
+    let one : length (said_by k said) ≡ 1 = ap (λ o. length (said_by k o)) is in
+    omega (arith, size, one, fits, same)
+
+-- nothing is said besides
+pub answers_silent : {σ σ' : Standing} {said : Option Said} {n : ℕ} (Named : Option ℕ → Type 0) (what : What) (meant came : Option Block) (c c' : Cached)
+    (out out' : Records) (old new : List Event)
+    → said ≡ None
+    → (performs : PerformsMeant what meant came c c' σ σ' said) → Named performs.found → IsShown n σ old → IsShown n σ' new
+    → records_in out' ≡ records_in out ++ map Record.Event (drop (length old) new) → room_of out' ≡ room_of out
+    → (did : AnswersMeant what meant came c c' out out' σ σ') × Named did.performs.found
+answers_silent {σ} {σ'} {said} {n} Named what meant came c c' out out' old new is performs named before after added room = (
+  record {
+    said = said;
+    performs = performs;
+    pushed = λ v l stood rest. added ∙ ap (λ es. records_in out ++ map Record.Event es) (shown_new performs.calls.adds old new before after v l stood rest)
+        ∙ ap (λ rs. records_in out ++ rs) (sym (append-nil (records_of (events_by σ.seat.actor v performs.steps))) ∙ ap (λ o. records_of (events_by σ.seat.actor v performs.steps) ++ said_by σ.seat.actor o) (sym is));
+    room = room;
+  },
+  named,
+)
+
+-- this is said besides
+pub answers_said : {σ σ' : Standing} {said : Option Said} {n : ℕ} (Named : Option ℕ → Type 0) (what : What) (meant came : Option Block) (c c' : Cached)
+    (out pushed out' : Records) (old new : List Event) (message : Said) (actor : ℕ)
+    → said ≡ Some message → actor ≡ σ'.seat.actor
+    → (performs : PerformsMeant what meant came c c' σ σ' said) → Named performs.found → IsShown n σ old → IsShown n σ' new
+    → records_in pushed ≡ records_in out ++ map Record.Event (drop (length old) new) → room_of pushed ≡ room_of out
+    → records_in out' ≡ records_in pushed ++ Record.Said actor message ∷ [] → room_of out' ≡ room_of pushed
+    → (did : AnswersMeant what meant came c c' out out' σ σ') × Named did.performs.found
+answers_said {σ} {σ'} {said} {n} Named what meant came c c' out pushed out' old new message actor is actor_is performs named before after added same last room =
+    let own : actor ≡ σ.seat.actor = actor_is ∙ ap (λ s. s.actor) performs.calls.adds.seat_is in (
+      record {
+        said = said;
+        performs = performs;
+        pushed = λ v l stood rest.
+            let records = records_of (events_by σ.seat.actor v performs.steps) in
+            let first : records_in pushed ≡ records_in out ++ records = added ∙ ap (λ es. records_in out ++ map Record.Event es) (shown_new performs.calls.adds old new before after v l stood rest) in
+            last ∙ ap (λ k. records_in pushed ++ Record.Said k message ∷ []) own ∙ ap (λ rs. rs ++ said_by σ.seat.actor (Some message)) first
+            ∙ append_assoc (records_in out) records (said_by σ.seat.actor (Some message)) ∙ ap (λ o. records_in out ++ (records ++ said_by σ.seat.actor o)) (sym is);
+        room = room ∙ same;
+      },
+      named,
+    )
+
+-- ==== What a keeper's two calls come to for a request that it tries, and at the close.
 
 -- ---- a sweep
 one_count : (t : Bool) (k : ℕ) (guard : Guard) (first : List Made) (kept after : List Guard) (said more : List Record)
@@ -102,7 +205,8 @@ back_made d k s a (Event.Back j p) is comes = IsPreparing.Backs j p
 back_made d k s a e is comes = absurd (true≢false (sym is ∙ ap (is_in (Backing ∷ [])) comes.kind))
 
 backs_only : (d : Directory) (steps : List Made) → Only (Backing ∷ []) steps → (k : ℕ) (v : View) → AllByRecursion (IsPreparing d) (events_by k v steps)
-backs_only d steps kinds k v = each_event (IsPreparing d) (λ m before. is_in (Backing ∷ []) (kind_of m.step) ≡ true) k v (λ m before epoch e h is. back_made d k m.step m.answer e h (comes_of k epoch m.step m.answer e is)) steps kinds
+backs_only d steps kinds k v = each_event (IsPreparing d) (λ m before. is_in (Backing ∷ []) (kind_of m.step) ≡ true) k v
+    (λ m before epoch e h is. back_made d k m.step m.answer e h (comes_of k epoch m.step m.answer e is)) steps kinds
 
 deed_prepares : (d : Directory) (e : Event) → IsDeedOf d e → IsPreparing d e
 deed_prepares d e (IsDeedOf.Deeds k page) = IsPreparing.Deeds k page
@@ -187,9 +291,10 @@ module _ (f : Profile) (heap n : ℕ) (guards guards' : List Guard) (steps : Lis
           of_directory = deeds_known v fits agreed;
           before = events_by k (is.searched ++ v) up.backs ++ events_by k v is.searched;
           events = events_are k v;
-          prepared = all_both (IsPreparing d) (events_by k (is.searched ++ v) up.backs) (events_by k v is.searched) (backs_only d up.backs (raised_backs up) k (is.searched ++ v))
-              (all_map (IsDeedOf d) (IsPreparing d) (events_by k v is.searched) (deed_prepares d)
-              (deeds_sought d is.searched is.kinds (of_directory d (n + 2) _ is.searched (up.found.deeds v (fits_find f d guards v fits) (agreed_later f v is.after is.searched (subst (Agreed f v) is.steps_are agreed)))) k v));
+          prepared = all_both (IsPreparing d) (events_by k (is.searched ++ v) up.backs) (events_by k v is.searched)
+              (backs_only d up.backs (raised_backs up) k (is.searched ++ v)) (all_map (IsDeedOf d) (IsPreparing d) (events_by k v is.searched) (deed_prepares d)
+              (deeds_sought d is.searched is.kinds (of_directory d (n + 2) _ is.searched
+              (up.found.deeds v (fits_find f d guards v fits) (agreed_later f v is.after is.searched (subst (Agreed f v) is.steps_are agreed)))) k v));
         }
 
     stands_so : (align : ℕ) → IsAlignment align → address_of block.name % align ≡ 0
@@ -223,8 +328,8 @@ cost_wanted size n is large = let cost = large_cost size large in omega (arith, 
 ends_by : (f : Profile) (k n : ℕ) (r : Request) (guards guards' : List Guard) (steps : List Made) (v : View) (answer : Option Block)
     → n ≡ (r.size + 4096 - 1) / 4096 → 2048 < r.size → IsAlignment r.align → RaiseSteps f r.heap n guards guards' answer steps
     → FitsBook f guards v → Agreed f v steps → TryEnds f k r v steps answer
-ends_by f k n r guards guards' steps v None is large alignment raise fits agreed =
-    subst (λ (w : Wanted). AllByRecursion (IsDeedOf w.directory) (events_by k v steps)) (pages_wanted f r.heap r.size r.align n is large) (none_ends f r.heap n guards guards' steps raise k v fits agreed)
+ends_by f k n r guards guards' steps v None is large alignment raise fits agreed = subst (λ (w : Wanted). AllByRecursion (IsDeedOf w.directory)
+    (events_by k v steps)) (pages_wanted f r.heap r.size r.align n is large) (none_ends f r.heap n guards guards' steps raise k v fits agreed)
 ends_by f k n r guards guards' steps v (Some block) is large alignment raise fits agreed =
     subst (λ (w : Wanted). IsGiven k w v steps block) (pages_wanted f r.heap r.size r.align n is large)
     (some_ends f r.heap n guards guards' steps block raise k r.align v fits agreed (stands_so f r.heap n guards guards' steps block raise r.align alignment))
@@ -253,7 +358,7 @@ module _ {σ σ1 : Standing} {said said' : List Record} {guards1 : List Guard} (
         view = s.steps ++ can.view;
         whole = triples σ.seat.actor s.steps ++ can.whole;
         stood = s.adds.added can.view can.whole can.stood can.met.fits;
-        met = subst (λ (x : Seat). RaiseRoom x.profile guards1 (n + 1) spare1 (s.steps ++ can.view)) (sym s.adds.seat_is) (record { fits = s.sweep.fits.from can.view can.met.fits agreed; room = omega (arith, left, unknown, room, cost) });
+        met = rw s.adds.seat_is (record { fits = s.sweep.fits.from can.view can.met.fits agreed; room = omega (arith, left, unknown, room, cost) });
       }
 
 -- ---- what both calls come to
@@ -312,6 +417,7 @@ module _ {σ σ1 σ2 : Standing} (r : Request) (book book1 book2 : GuardBook) (o
   one_told : (a : Option Block) (m : ℕ) → length (said_of_guard k r.name m a) + more_guards a + cost_of_raise n a ≤ cost_of_try r.size a
   one_told a m = search (arith, cost_wanted)
 
+  -- The records of a try and what its keeper owes afterwards are paid for.
   paid : (v : View) → Agreed f v steps
       → length (told v) + owed_by_keeper f guards2 (steps ++ v) ≤ cost_of_try r.size answer + owed_by_keeper f (guards_in book) v
   paid v agreed =
@@ -402,6 +508,7 @@ module _ {σ σ1 σ2 : Standing} (r : Request) (book book1 book2 : GuardBook) (o
   told_are {gone} out2 out3 old new before after events last v l stood met =
       let shown = shown_of old new before after v l stood met in search (arith, shown, append_assoc)
 
+  -- A try makes so many steps at most.
   short : length steps ≤ try_steps f r (guards_in book)
   short = search (arith, count_wanted, raise_so, length-append)
 

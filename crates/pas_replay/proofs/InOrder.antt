@@ -1,28 +1,49 @@
 -- The acts of a replay, one after the other, and what stands between two operations where records are handed on.
 use Rattle.std.proofs.Common.{◌≡◌, ℕ, ◌+◌, ◌-◌, ◌<◌, ◌≤◌, not, List, [], ◌∷◌, ◌++◌, map, length, drop, get_or, refl, ap, sym, ◌∙◌, subst, arith, Option, Bool}
-use Rattle.std.proofs.Common.{true, false, length-append, append_assoc, append-nil, None, Some, MatchOption, All, drop_at}
+use Rattle.std.proofs.Common.{true, false, length-append, append_assoc, append-nil, None, Some, MatchOption, All, drop_at, zero, suc, ◌*◌, ◌/◌, nat_le}
+use Rattle.std.proofs.Common.{if◌then◌else◌, inl, inr, slice_index, le-leb, reverse, slice_index_or}
 use Rattle.std.specs.List.{filter}
-use Rattle.pas_steps.specs.Lists.{Legal}
-use Rattle.std.proofs.lemmas.{List.drop_more, List.Elements.All-drop, Nat.mul-le}
-use Rattle.pas_profile.specs.declared.profile.Profile.{Profile}
-use Rattle.pas_trace.specs.declared.plan.{Op.Op, What.TheVariants.Alloc}
+use Rattle.pas_steps.specs.Lists.{Legal, Whole, part, word_after}
+use Rattle.std.proofs.{lemmas.List.drop_more, lemmas.List.Elements.All-drop, lemmas.Nat.mul-le, lemmas.Bool.cases_lt, lemmas.Bool.lt-leb, Math.Nat.suc-mul}
+use Rattle.std.proofs.{lemmas.List.get_or-map, lemmas.Option.same_Some}
+use Rattle.pas_profile.specs.declared.{profile.Profile.Profile, word.Word.Word}
+use Rattle.pas_trace.specs.declared.plan.{Op.Op, What.TheVariants.Alloc, Plan.Plan}
 use Rattle.pas_report.specs.{Rooms.records_in, Rooms.room_of, Rooms.Records, Lines.CanShow}
 use Rattle.pas_report.specs.declared.record.Record.{Record}
 use Rattle.pas_trace.specs.Acts.{Act, Wakes, Lowers, is_active, numbers_from, acts_of_op, acts_of_ops, phase_acts, MarksPhase, MarksClose, Ends, close_acts}
-use Rattle.pas_answers.specs.{Answers.Progress, Answers.with_records, Reaching.Advances, Fit.AreFit, Fit.cost_of_act, Fit.costs_of, Names.names_held}
-use Rattle.pas_answers.specs.{Replays.at_start}
+use Rattle.pas_trace.specs.Acts.{acts_of}
+use Rattle.pas_answers.specs.{Answers.Progress, Answers.with_records, Reaching.Advances, Names.names_held, Ways.InOrder}
+use Rattle.pas_answers.specs.Fit.{AreFit, cost_of_act, costs_of, AreOfThreads, own_costs_of, kept_costs_of}
+use Rattle.pas_answers.specs.Replays.{at_start, phases_of, region_of, threads_of, keepers_of, acts_of_plan, empty_cache, Shows}
 use Rattle.pas_large.specs.Doors.{Indexes, no_ranges}
-use Rattle.pas_answers.proofs.{OwnRecords.EachShown, Consequences.acts_shown, SingleActs.sum_both, OwnRecords.all_shown}
+use Rattle.pas_answers.proofs.{OwnRecords.EachShown, SingleActs.sum_both, OwnRecords.all_shown, Reached.in_phases, Reached.plan_by_one_list}
+use Rattle.pas_answers.proofs.Consequences.{acts_shown, replays, all_refuse, all_take}
 use Rattle.pas_replay.specs.Sessions.{pass_in, HasNames, own_events, ActorStands, Replay, Left, Hand, GoesBy, IsAt, SoFar, costs_and, upon, Session, SoFarAt}
-use Rattle.pas_replay.specs.Sessions.{owed_by, session, telling}
+use Rattle.pas_replay.specs.Sessions.{owed_by, session, telling, SeatStands, rests_as, owes_as, records_owed_as, AreEmpty, AreLowered, hand_of}
 use Rattle.pas_plain.specs.declared.pass.PlainPass.{PlainPass}
 use Rattle.pas_bits.specs.Masks.{is_set}
 use Rattle.pas_bits.specs.declared.mask.Mask4.{Mask4}
-use Rattle.pas_acts.specs.Awake.{awake_in, idle_in}
+use Rattle.pas_acts.specs.{Awake.awake_in, Awake.idle_in, PlanKeepers.guarded_of, Parts.AreRooms}
 use Rattle.pas_acts.proofs.ActsLeft.{number_next, number_last, next_chosen, next_passed, none_left, threads_alike}
-use Rattle.pas_replay.proofs.{Turns.all_rest, Turns.still_places, Turns.owed_kept, Owed.op_costs, Owed.owed_most}
-use Rattle.pas_replay.proofs.Turning.{AsksNoIndex, less_events, less_tries, other_stands, said_more}
-use Rattle.pas_replay.specs.Taking.{dearest, left_between, FewWait, Between}
+use Rattle.pas_replay.proofs.Turning.{all_rest, still_places, owed_kept, op_costs, owed_most, AsksNoIndex, still_named, less_events, less_tries, other_stands}
+use Rattle.pas_replay.proofs.Turning.{said_more}
+use Rattle.pas_replay.specs.Taking.{dearest, left_between, FewWait, Between, room_for_taker, room_between, Begins}
+use Rattle.pas_profile.specs.{Profiles.IsValid, Profiles.IsWordOf, Rooms.EventRoom}
+use Rattle.pas_steps.specs.{Clear.HasNothing, States.profile_of as the_profile_of, States.word_in, Unknown.unknown_pages, Views.View}
+use Rattle.pas_trace.specs.{EveryPlan.operations_of, Plans.IsPlanOf, Plans.bounds_of}
+use Rattle.pas_plain.specs.Plain.{profile_of, RegionStands, PassStands, pass_for, passes_from}
+use Rattle.pas_guard.specs.Books.{FitsBook, is_outer}
+use Rattle.pas_guard.specs.declared.book.{Guard.Guard, GuardBook.GuardBook}
+use Rattle.pas_cache.specs.Caches.{Cached, AtRest}
+use Rattle.pas_cache.specs.declared.cache.ThreadCache.{ThreadCache}
+use Rattle.pas_cache.proofs.FlushesAndFrees.{rests_empty}
+use Rattle.pas_answers.specs.declared.names.Names.{Names}
+use Rattle.pas_replay.specs.Kits.{IsFresh, IsKitOf, replay_of}
+use Rattle.pas_replay.specs.declared.{kit.PlainKit.PlainKit, seats.Actors.Actors}
+use Rattle.pas_trace.proofs.Keepers.{plan_actors}
+use Rattle.pas_acts.proofs.PlanFacts.{plan_operate, plan_fit, plan_own, plan_scavenger, plan_total, plan_kept_own, plan_tries, plan_keeps, pages_owed_at_first}
+use Rattle.pas_acts.proofs.PlanFacts.{no_slots}
+use Rattle.pas_steps.proofs.Nothing.{nothing_yet}
 
 -- ---- marks
 -- no actor has a hand in a mark
@@ -39,11 +60,10 @@ pub after_mark : {r : Replay} {more : Left} {act : Act} {T : Type 0} {h : Hand} 
     → records_in out' ≡ records_in h.out ++ mark ∷ [] → room_of out' ≡ room_of h.out → T × SoFar r more (record h { out = out' })
 after_mark {r} {more} {act} {T} {h} out' mark (taken, (p, at)) advances one fit asks pushed room =
     let f = r.profile in
-    let names = at.names in
     let next = with_records p (mark ∷ []) in
     let each : (k : ℕ) → k ≤ f.threads → ActorStands r.threads f k next (pass_in h.passes k) more.acts
     = λ k le. still_stands r.threads f k p (act ∷ more.acts) more.acts mark (less_events r.threads f (act ∷ []) more.acts k) (at.each k le) in
-    let known : HasNames f more.acts h.table next.names = record { asked = names.asked; fit = fit (names_held h.table) names.asked names.fit; tells = names.tells; stand = names.stand; known = names.known } in
+    let known : HasNames f more.acts h.table next.names = still_named fit refl at.names in
     let places = still_places r.threads h.books (act ∷ more.acts) more.acts (less_tries (act ∷ []) more.acts) at.books_have in
     let said = said_more r.told (records_in h.out) (records_in out') p.records (mark ∷ []) at.records_are pushed in
     let legal = subst (λ (g : Profile). Legal g p.list) at.profile_is at.stands.legal in
@@ -68,8 +88,9 @@ costs_both : (f : Profile) (first more : List Act) (after : ℕ) → costs_and f
 costs_both f [] more after = refl
 costs_both f (act ∷ first) more after = ap (λ (n : ℕ). cost_of_act f act + n) (costs_both f first more after)
 
+-- field by field
 left_same : {acts acts' : List Act} {room room' : ℕ} → acts ≡ acts' → room ≡ room' → ◌≡◌ {A = Left} record { acts = acts; room = room } record { acts = acts'; room = room' }
-left_same {acts' = acts'} {room = room} same is = ap (λ (xs : List Act). let l : Left = record { acts = xs; room = room } in l) same ∙ ap (λ (n : ℕ). let l : Left = record { acts = acts'; room = n } in l) is
+left_same {acts' = acts'} {room = room} same is = search arith
 
 -- What stands before some acts stands before the same acts otherwise written.
 pub as_left : {r : Replay} {left left' : Left} {T : Type 0} {h : Hand} → left ≡ left' → T × SoFar r left h → T × SoFar r left' h
@@ -82,7 +103,7 @@ as_hand {r} {left} same so = subst (λ (k : Hand). SoFar r left k) same so
 -- .. the same where it came after a reading of the epoch
 pub as_read : {r : Replay} {left left' : Left} {T : Type 0} {h : Hand} {epoch : ℕ} → left ≡ left' → T × (p : Progress) × IsAt r left h p × (p.epoch ≡ epoch)
     → T × (p : Progress) × IsAt r left' h p × (p.epoch ≡ epoch)
-as_read {r} {h = h} {epoch} same so = let rest = subst (λ (l : Left). (p : Progress) × IsAt r l h p × (p.epoch ≡ epoch)) same (so.1, so.2, so.3) in (so.0, rest.0, rest.1, rest.2)
+as_read {r} {h = h} {epoch} same so = search arith
 
 -- .. where the first ones are alike
 upon_same : (r : Replay) {acts acts' : List Act} (more : Left) → acts ≡ acts' → upon r acts more ≡ upon r acts' more
@@ -142,7 +163,7 @@ module _ {r : Replay} {T : Type 0} {h : Hand} (i : ℕ) (more : Left) where
       let k = r.threads + (i + 1) in
       let m = r.keepers - (i + 1) in
       let next : k + 1 ≡ r.threads + (i + 1 + 1) = omega arith in
-      as_first more (ap (λ (ks : List ℕ). map Lowers ks) (number_next k (r.keepers - i) m (omega (arith, lt))) ∙ ap (λ (n : ℕ). Lowers k ∷ map Lowers (numbers_from n m)) next
+      as_first more (ap (λ ks. map Lowers ks) (number_next k (r.keepers - i) m (omega (arith, lt))) ∙ ap (λ n. Lowers k ∷ map Lowers (numbers_from n m)) next
       ∙ ap (λ (n : ℕ). Lowers n ∷ map Lowers (numbers_from (r.threads + (i + 1 + 1)) m)) (sym is)) so
 
   -- Past the last keeper, what comes next are the acts behind theirs.
@@ -158,15 +179,13 @@ past = record { line = 0; actor = 0; what = Alloc 0 0 0 0 }
 at_next : (idle : List ℕ) (more : List Act) (ops : List Op) (i : ℕ) → i < length ops
     → acts_of_ops idle (drop i ops) ++ more ≡ acts_of_op idle (get_or ops i past) ++ (acts_of_ops idle (drop (i + 1) ops) ++ more)
 at_next idle more ops i lt =
-    ap (λ (os : List Op). acts_of_ops idle os ++ more) (drop_more ops i past lt) ∙ append_assoc (acts_of_op idle (get_or ops i past)) (acts_of_ops idle (drop (i + 1) ops)) more
+    search (arith, drop_more, append_assoc)
 
 -- the phase begins: first its threads wake
 pub wakes_first : (threads : ℕ) (awake : Mask4) (ops : List Op) (more : List Act) → ((k : ℕ) → is_set awake k ≡ is_active ops k)
     → phase_acts threads ops ++ more ≡ map Wakes (awake_in awake threads) ++ (acts_of_ops (idle_in awake threads) ops ++ more)
 wakes_first threads awake ops more alike =
-    let active = threads_alike (is_set awake) (is_active ops) threads alike in
-    let idle = threads_alike (λ k. not (is_set awake k)) (λ k. not (is_active ops k)) threads (λ k. ap not (alike k)) in
-    simp (append_assoc, ← active, ← idle)
+    search (arith, threads_alike, not, append_assoc)
 
 -- the same acts are left of the same progress, with other records handed on, other ones that wait, and room for others
 as_so : {r : Replay} {left : Left} {h : Hand} {p : Progress} (told : List Record) (room : ℕ) (out : Records) → IsAt r left h p
@@ -193,7 +212,7 @@ may_do (Some most) r s acts more cheap ((taken, (p, at)), few) =
 pub can_show : {r : Replay} {left : Left} {h : Hand} → SoFar r left h → All CanShow (records_in h.out)
 can_show {r} {h = h} (p, at) =
     let all = subst (λ (rs : List Record). All CanShow rs) (sym at.records_are) (all_shown p.records at.shown) in
-    subst (λ (rs : List Record). All CanShow rs) (drop_at r.told (records_in h.out) (length r.told) refl) (All-drop CanShow (length r.told) (r.told ++ records_in h.out) all)
+    subst (λ (rs : List Record). All CanShow rs) (drop_at r.told _ (length r.told) refl) (All-drop CanShow (length r.told) (r.told ++ records_in h.out) all)
 
 -- ---- what was handed on
 -- Nothing was handed on at first.
@@ -209,10 +228,10 @@ told_then waits r acts s first more btw = subst (λ (told : List Record). Betwee
 pub as_between : (waits : Option ℕ) (r : Replay) (s : Session) {acts acts' : List Act} → acts ≡ acts' → Between waits r acts s → Between waits r acts' s
 as_between waits r s same btw = subst (λ (xs : List Act). Between waits r xs s) same btw
 
+-- by whether a number may wait
 few_then : (waits : Option ℕ) (r : Replay) (out out' : Records) → FewWait waits r out → MatchOption waits (Unit {0}) (λ most. length (records_in out') ≤ most)
     → FewWait waits r out'
-few_then None r out out' few less = tt
-few_then (Some most) r out out' few less = (less, few.1)
+few_then a r out out' few less = search arith
 
 -- Between two operations the taker takes the first of the records that wait.
 pub taken_on : (waits : Option ℕ) (r : Replay) (acts : List Act) (s : Session) (before : Records) (told first : List Record) (out : Records)
@@ -220,12 +239,7 @@ pub taken_on : (waits : Option ℕ) (r : Replay) (acts : List Act) (s : Session)
     → FewWait waits r before → SoFarAt (telling r told) (left_between waits r acts) s
     → Between waits (telling r (told ++ first)) acts (session s.desk s.actors s.table out)
 taken_on waits r acts s before told first out parts size less few (taken, (p, at)) =
-    let long = ap (λ (rs : List Record). length rs) parts ∙ length-append first (records_in out) in
-    let same : (r.told ++ (told ++ first)) ++ records_in out ≡ (r.told ++ told) ++ records_in s.out =
-    ap (λ (rs : List Record). rs ++ records_in out) (sym (append_assoc r.told told first)) ∙ append_assoc (r.told ++ told) first (records_in out)
-    ∙ ap (λ (rs : List Record). (r.told ++ told) ++ rs) (sym parts) in
-    let spare = at.spare in
-    ((taken, (p, as_so (r.told ++ (told ++ first)) (left_between waits r acts).room out at same size (omega (arith, spare, long, size)))), few_then waits r before out few less)
+    search (arith, length-append, append_assoc, few_then)
 
 -- ---- the next operation
 -- Where operations from one on come next, there is room for that one.
@@ -272,4 +286,219 @@ pub marked : (waits : Option ℕ) (r : Replay) (s : Session) (more : List Act) (
     → records_in out ≡ records_in s.out ++ Record.Phase n ∷ [] → room_of out ≡ room_of s.out
     → SoFarAt r (left_between waits r more) (session s.desk s.actors s.table out)
 marked waits r s more n out btw pushed size =
-    after_mark out (Record.Phase n) (mark_next waits r s more (MarksPhase n) refl btw) (λ p. refl) refl (λ limit asked fit. fit) (λ indexes p q is. (refl, tt)) pushed size
+    after_mark out _ (mark_next waits r s more (MarksPhase n) refl btw) (λ p. refl) refl (λ limit asked fit. fit) (λ indexes p q is. (refl, tt)) pushed size
+
+-- How a replay starts, at a kit that nobody used, and what it shows at its end.
+
+-- an actor that made no step, which rests
+starts_at : (plan : Plan) (k need : ℕ) (slot : Option PlainPass) (Rest : View → Type 0) → Rest [] → need ≤ slice_index (bounds_of plan.bounds) k
+    → IsFresh plan k slot → SeatStands (region_of plan) k Rest slot [] need
+starts_at plan k need slot Rest rest within fresh =
+    record { pass = fresh.pass; present = fresh.present; actor = fresh.actor; stands = fresh.stands; rest = rest; room = omega (arith, fresh.room, within) }
+
+-- a thread or a keeper, which made no step and has nothing
+abbrev StartsAs : Bool → Plan → ℕ → Option PlainPass → Type 0
+StartsAs kind plan k slot =
+    SeatStands (region_of plan) k (rests_as kind (region_of plan) empty_cache []) slot []
+    (owes_as kind (region_of plan) empty_cache [] + (if kind then own_costs_of k (acts_of_plan plan) else kept_costs_of k (acts_of_plan plan)))
+
+actor_starts : {text : List ℕ} {plan : Plan} {kit : PlainKit} → IsPlanOf text plan → IsKitOf plan kit → (k : ℕ) → k ≤ (region_of plan).threads
+    → ActorStands (threads_of plan) (region_of plan) k at_start (pass_in kit.actors.passes.items k) (acts_of_plan plan)
+actor_starts {text} {plan} {kit} read made zero le = let bound = plan_scavenger read in starts_at plan 0 _ (pass_in kit.actors.passes.items 0) HasNothing nothing_yet (omega (arith, bound)) (made.fresh 0 (omega arith))
+actor_starts {text} {plan} {kit} read made (suc i) le =
+    let f = region_of plan in
+    let k = suc i in
+    let slot = pass_in kit.actors.passes.items k in
+    let fresh = made.fresh k (omega (arith, le)) in
+    let owed = pages_owed_at_first f in
+    elim (cases_lt (threads_of plan) k) [
+      | inl past ↦
+          let own = plan_kept_own read k past le in
+          let starts : StartsAs false plan k slot =
+          starts_at plan k (unknown_pages f [] + kept_costs_of k (acts_of_plan plan)) slot (FitsBook f []) (record { apart = tt; of_region = tt; knows = tt; held = nothing_yet.grains; rights = nothing_yet.rights; clear = nothing_yet.clear }) (omega (arith, own, owed)) fresh in
+          subst (λ (kind : Bool). StartsAs kind plan k slot) (sym (lt-leb k (threads_of plan) past)) starts
+      | inr within ↦
+          let own = plan_own read k (omega arith) (omega (arith, within)) in
+          let starts : StartsAs true plan k slot =
+          starts_at plan k _ slot (AtRest f empty_cache) (rests_empty f empty_cache [] refl refl nothing_yet) (omega (arith, own, owed)) fresh in
+          subst (λ (kind : Bool). StartsAs kind plan k slot) (sym (le-leb k (threads_of plan) (omega (arith, within)))) starts
+    ]
+
+-- each owes a deed of each page
+all_owed : (f : Profile) (kind : Bool) → records_owed_as kind f empty_cache [] [] ≡ f.pages
+all_owed f kind = grind (arith, pages_owed_at_first)
+
+owed_start : (threads : ℕ) (f : Profile) (n : ℕ) → owed_by threads f at_start n ≡ n * f.pages
+owed_start threads f zero = omega arith
+owed_start threads f (suc n) =
+    omega (arith, all_owed f (nat_le (suc n) threads), owed_start threads f n, suc-mul n f.pages)
+
+-- the room suffices for all that the actors owe at first, and for what is to come between two operations
+suffices : (waits : Option ℕ) {text : List ℕ} (plan : Plan) (room : ℕ) → IsPlanOf text plan → room_for_taker waits plan ≤ room
+    → (region_of plan).threads * (region_of plan).pages + room_between waits (region_of plan) (acts_of_plan plan) ≤ room
+suffices None plan room read enough = let total = plan_total read in omega (arith, total, enough)
+suffices (Some most) plan room read enough =
+    search (arith, mul-le)
+
+-- by whether a number may wait
+few_at_first : (waits : Option ℕ) (plan : Plan) (out : Records) → records_in out ≡ [] → room_for_taker waits plan ≤ room_of out
+    → FewWait waits (replay_of plan (room_of out)) out
+few_at_first a plan out empty enough = search arith
+
+-- A replay starts at the kit of its plan, with nothing said and all its acts to come.
+pub start : (waits : Option ℕ) {text : List ℕ} {plan : Plan} {kit : PlainKit} {out : Records} {phases : List (List Op)} → phases ≡ phases_of plan
+    → IsPlanOf text plan
+    → IsKitOf plan kit → records_in out ≡ [] → room_for_taker waits plan ≤ room_of out
+    → Begins waits phases (replay_of plan (room_of out)) (hand_of kit.region kit.actors kit.names out)
+start waits {text} {plan} {kit} {out} phases read made empty room =
+    let actors = plan_actors plan in
+    let owed = owed_start (threads_of plan) (region_of plan) (threads_of plan + keepers_of plan) in
+    let pages = ap (λ (n : ℕ). n * (region_of plan).pages) actors in
+    let enough = suffices waits plan (room_of out) read room in
+    let none = ap (λ (rs : List Record). length rs) empty in (
+      ap (λ (ps : List (List Op)). acts_of (threads_of plan) (keepers_of plan) ps) (sym phases),
+      (
+        at_start,
+        record {
+          profile_is = made.profile;
+          actors = made.actors;
+          many = made.unused.many;
+          kept = made.books.many;
+          threads = omega (arith, actors);
+          operate = plan_operate read;
+          keep = plan_keeps read;
+          places = made.places;
+          stands = made.opening;
+          each = λ k le. actor_starts read made k le;
+          nobody = λ k past. refl;
+          names = record {
+            asked = [];
+            fit = plan_fit read (names_held kit.names) made.names;
+            tells = made.no_name;
+            stand = λ n block is. absurd (let bad : None ≡ Some block = sym (made.no_name n) ∙ is in cc);
+            known = λ n is. absurd (let bad : false ≡ true = is in cc);
+          };
+          caches_are = λ i d lt. sym (made.unused.each i d (omega (arith, lt, made.unused.many)));
+          books_are = λ i d lt. sym (made.books.empty i d (omega (arith, lt, made.books.many)));
+          books_have = λ i d lt.
+              let none = ap (λ (gs : List Guard). length gs) (made.books.empty i d (omega (arith, lt, made.books.many))) in
+              let places = made.books.places i d (omega (arith, lt, made.books.many)) in
+              let next : i + 1 ≡ suc i = omega arith in
+              omega (arith, none, places, ap (λ (k : ℕ). guarded_of k (operations_of plan)) next, plan_tries read (suc i));
+          records_are = empty;
+          shown = tt;
+          size = refl;
+          spare = omega (arith, owed, pages, enough, none);
+          answers = λ q goes. subst (λ (ix : Indexes). GoesBy (threads_of plan) (region_of plan) ix (acts_of_plan plan) at_start q) made.indexes goes;
+        },
+      ),
+      few_at_first waits plan out empty room,
+    )
+
+-- The first of the caches, of which there is one at least.
+some_cache : (caches : List ThreadCache) → 1 ≤ length caches → ThreadCache
+some_cache caches h = grind arith
+
+some_book : (books : List GuardBook) → 1 ≤ length books → GuardBook
+some_book [] bad = absurd (omega (arith, bad))
+some_book (book ∷ books) some = book
+
+module _ {r : Replay} {left : Left} {h : Hand} (so : SoFar r left h) (empty : AreEmpty h.caches) (lowered : AreLowered h.books) where
+  -- a thread has no local allocator, and a keeper no guard
+  bare_thread : (i : ℕ) → suc i ≤ r.threads → HasNothing (part (suc i) so.0.list)
+  bare_thread i most =
+      let p = so.0 in
+      let within : i < length h.caches = omega (arith, most, so.1.many) in
+      let d = some_cache h.caches (omega (arith, within)) in
+      let rest = subst (λ (kind : Bool). rests_as kind r.profile (p.caches (suc i)) (p.books (suc i)) (part (suc i) p.list)) (le-leb (suc i) r.threads most)
+      (so.1.each (suc i) (omega (arith, most, so.1.threads))).rest in
+      let none = no_slots (p.caches (suc i)).locals (ap (λ (c : Cached). c.locals) (so.1.caches_are i d within) ∙ empty i d within) in
+      record { grains = λ g. rest.locals.grains g ∙ (none g).0; rights = λ page. rest.locals.rights page ∙ (none page).1; clear = rest.locals.clear }
+
+  bare_keeper : (i j : ℕ) → suc i ≡ r.threads + suc j → suc j ≤ r.keepers → HasNothing (part (suc i) so.0.list)
+  bare_keeper i j place most =
+      let p = so.0 in
+      let within : j < length h.books = omega (arith, most, so.1.kept) in
+      let d = some_book h.books (omega (arith, within)) in
+      let fits = subst (λ (kind : Bool). rests_as kind r.profile (p.caches (suc i)) (p.books (suc i)) (part (suc i) p.list))
+      (lt-leb (suc i) r.threads (omega (arith, place))) (so.1.each (suc i) (omega (arith, place, most, so.1.threads))).rest in
+      let none = ap p.books place ∙ so.1.books_are j d within ∙ lowered j d within in
+      record { grains = λ g. fits.held g ∙ ap (λ (gs : List Guard). is_outer gs (g / 256)) none; rights = fits.rights; clear = fits.clear }
+
+  -- an actor holds, has and owes nothing
+  bare : (k : ℕ) → k ≤ r.threads + r.keepers → HasNothing (part k so.0.list)
+  bare zero most = (so.1.each 0 (omega arith)).rest
+  bare (suc i) most = elim (cases_lt r.threads (suc i)) [
+    | inl past ↦ bare_keeper i (i - r.threads) (omega (arith, past)) (omega (arith, past, most))
+    | inr within ↦ bare_thread i (omega (arith, within))
+  ]
+
+  bare_at : (k : ℕ) → HasNothing (part k so.0.list)
+  bare_at k = elim (cases_lt _ k) [ inl past ↦ subst HasNothing (sym (so.1.nobody k past)) nothing_yet | inr within ↦ bare k (omega (arith, within)) ]
+
+-- A replay without acts left, whose actors have nothing, shows its plan by the words of its region.
+pub shows : (waits : Option ℕ) (told : List Record) (room : ℕ) {plan region : _} (actors : Actors) (table : Names) {out state : _} (limit : ℕ)
+    → IsValid (region_of plan)
+    → AreOfThreads (threads_of plan) (acts_of_plan plan) → AreFit (region_of plan) limit [] (acts_of_plan plan)
+    → SoFar (telling (replay_of plan room) told) (left_between waits (replay_of plan room) []) (hand_of region actors table out) → AreEmpty actors.caches.items
+    → AreLowered actors.books.items
+    → the_profile_of state ≡ profile_of region
+    → ((l : Whole) → RegionStands region l → (w : Word) → IsWordOf (profile_of region) w → word_in state w ≡ word_after l w)
+    → Shows InOrder plan (told ++ records_in out) state
+shows waits told room {plan} {region} actors table {out} {state} limit valid threads fit so empty lowered profile words =
+    let p = so.0 in
+    let at = so.1 in
+    let legal = subst (λ (f : Profile). Legal f p.list) at.profile_is at.stands.legal in
+    let all = at.answers p ((refl, tt), all_rest at) in
+    let answers = all.0.0 in
+    record {
+      whole = p.list;
+      replay = replays InOrder plan p p.list (told ++ records_in out) valid answers refl (in_phases (region_of plan)
+          (acts_of_plan plan) at_start p answers p.list ([], refl)) (plan_by_one_list plan p answers) at.records_are legal (bare_at so empty lowered)
+          (all_refuse (region_of plan) limit [] (acts_of_plan plan) at_start p valid fit legal answers)
+          ((all.0.1, all_take (region_of plan) (acts_of_plan plan) at_start p valid legal answers), all.1) threads;
+      profile = profile ∙ at.profile_is;
+      words = λ w of. words p.list at.stands w (subst (λ (f : Profile). IsWordOf f w) (sym at.profile_is) of);
+    }
+
+-- ---- passes
+-- the passes that were placed, and those that are left, which stand the last one first
+pub record ArePlaced (passes : List PlainPass) (places : List (Option PlainPass)) (left : List PlainPass) : Type 0 where
+  pub together : places ++ map Some (reverse left) ≡ map Some passes
+
+-- ---- the kit
+pub passes_count : (n : ℕ) (rooms : List EventRoom) → length (passes_from n rooms) ≡ length rooms
+passes_count n [] = refl
+passes_count n (room ∷ rooms) = let m = passes_count (n + 1) rooms in omega (arith, m)
+
+pass_at : (n k : ℕ) (rooms : List EventRoom) (d : PlainPass) (r : EventRoom) → k < length rooms
+    → slice_index_or (passes_from n rooms) k d ≡ pass_for (n + k) (slice_index_or rooms k r)
+pass_at n k [] d r bad = absurd (omega (arith, bad))
+pass_at n zero (room ∷ rooms) d r lt = ap (λ j. pass_for j room) (omega arith)
+pass_at n (suc k) (room ∷ rooms) d r lt = pass_at (n + 1) k rooms d r (omega (arith, lt)) ∙ ap (λ j. pass_for j (slice_index_or rooms k r)) (omega arith)
+
+first_room : (rooms : List EventRoom) → 1 ≤ length rooms → EventRoom
+first_room [] bad = absurd (omega (arith, bad))
+first_room (room ∷ rooms) some = room
+
+-- the actors, whose passes have the rooms, did nothing yet
+pub fresh_actor : (plan : Plan) (sizes : ℕ → Option ℕ) (count : ℕ) (rooms : List EventRoom) (passes : List PlainPass) (places : List (Option PlainPass))
+    → AreRooms sizes count rooms → ((k : ℕ) → k < count → sizes k ≡ Some (slice_index (bounds_of plan.bounds) k))
+    → passes ≡ passes_from 0 rooms → All (λ pass. PassStands (region_of plan) pass []) passes → places ≡ map Some passes → (k : ℕ) → k < count
+    → IsFresh plan k (pass_in places k)
+fresh_actor plan sizes count rooms passes places are bounds is stand placed k lt =
+    let all = are.many in
+    let same = ap (λ (ps : List PlainPass). length ps) is in
+    let long = passes_count 0 rooms in
+    let r = first_room rooms (omega (arith, lt, all)) in
+    let room = slice_index_or rooms k r in
+    let pass = pass_for k room in
+    let at : slice_index_or passes k pass ≡ pass = ap (λ (ps : List PlainPass). slice_index_or ps k pass) is ∙ pass_at 0 k rooms pass r (omega (arith, lt, all)) ∙ ap (λ (j : ℕ). pass_for j room) (omega arith) in
+    record {
+      pass = pass;
+      present = ap (λ (ps : List (Option PlainPass)). slice_index_or ps k None) placed
+          ∙ get_or-map (λ (p : PlainPass). Some p) passes k pass None (omega (arith, lt, all, same, long)) ∙ ap (λ (p : PlainPass). Some p) at;
+      actor = refl;
+      stands = subst (λ (p : PlainPass). PassStands (region_of plan) p []) at (stand k pass (omega (arith, lt, all, same, long)));
+      room = same_Some _ _ (sym (are.each k r (omega (arith, lt, all))) ∙ bounds k lt);
+    }

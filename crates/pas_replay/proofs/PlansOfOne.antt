@@ -4,7 +4,7 @@ use Rattle.std.proofs.Common.{arith, MatchOption, eq-eqb, ◌++◌, append_assoc
 use Rattle.std.specs.List.{AllByRecursion}
 use Rattle.pas_profile.specs.declared.profile.Profile.{Profile}
 use Rattle.pas_trace.specs.Asked.{work_of, of_task, keeper_of, keeper_in}
-use Rattle.pas_trace.specs.EveryPlan.{all_ops, IsActorBy, IsActorOf, AreKept, records_of_chore, records_of_work, records_of_what, own_records}
+use Rattle.pas_trace.specs.EveryPlan.{all_ops, IsActorBy, IsActorOf, AreKept, records_of_chore, records_of_work, own_records}
 use Rattle.pas_trace.specs.Plans.{IsPlanOf, bounds_of}
 use Rattle.pas_trace.specs.declared.plan.{Chore.Chore, Work.Work, Op.Op, Plan.Plan}
 use Rattle.pas_trace.proofs.EveryPlan.{every_plan}
@@ -33,6 +33,7 @@ AreOfOne ops = AllByRecursion IsOfOne ops
 its_record : (t : Bool) (n : ℕ) → t ≡ true → 1 ≤ n → (if t then n else 0) ≡ 0 → ⊥
 its_record t n h i j = grind arith
 
+-- Each chore makes a record at least, of one thread's region: chore by chore.
 chore_record : (f : Profile) (chore : Chore) → f.threads ≡ 1 → 1 ≤ records_of_chore f chore
 chore_record f chore h = grind arith
 
@@ -47,8 +48,7 @@ no_records f (op ∷ ops) one all none =
 one_records : (f : Profile) (ops : List Op) → AreOfOne ops → own_records f 0 ops ≡ 0
 one_records f [] all = refl
 one_records f (op ∷ ops) all =
-    let this : (if op.actor == 0 then records_of_what f op.what else 0) ≡ 0 = ap (λ (k : ℕ). if k == 0 then records_of_what f op.what else 0) all.0 in
-    omega (arith, this, one_records f ops all.1)
+    let rest = one_records f ops all.1 in grind (arith, rest)
 
 -- ---- what the bounds say
 pub bound_shows : {text : List ℕ} {plan : Plan} → IsPlanOf text plan → threads_of plan ≡ 1 → plan.guard ≡ 0 → slice_index (bounds_of plan.bounds) 0 ≡ 0
@@ -86,12 +86,13 @@ record IsPlannedOfOne (f : Profile) (op : Op) : Type 0 where
   pub one : IsOfOne op
   pub unguarded : keeper_in op.what ≡ None
 
+-- No keeper is asked for where no guard is up.
 no_keeper : (f : Profile) (actor : ℕ) (keeper : Option ℕ) → MatchOption keeper (Unit {0}) (λ k. (k ≡ f.threads + actor) × (◌≢◌ {A = ℕ} 0 0)) → keeper ≡ None
 no_keeper f actor keeper h = grind arith
 
 are_all : (f : Profile) (ops : List Op) → ArePlanned f ops → AreOfOne ops → AreKept f 0 ops → AllByRecursion (IsPlannedOfOne f) ops
 are_all f [] all own kept = tt
-are_all f (op ∷ ops) all own kept = (record { planned = all.0; one = own.0; unguarded = no_keeper f op.actor (keeper_in op.what) kept.0 }, are_all f ops all.1 own.1 kept.1)
+are_all f (op ∷ ops) all own kept = let rest = are_all f ops all.1 own.1 kept.1 in grind (arith, rest, no_keeper)
 
 work_of_one : (f : Profile) (idle : List ℕ) (op : Op) (work : Work) → IsActorBy f work op.actor → IsOfOne op → of_task keeper_of work ≡ None
     → AreActsOfOne (acts_of_work idle op work)
@@ -104,7 +105,7 @@ plan_of_one {text} {plan} is alone =
     let ops = all_ops (phases_of plan) in
     let kept = subst (λ (guard : ℕ). AreKept f guard ops) alone.unguarded (every_plan is).keepers in
     let own = λ (idle : List ℕ) (op : Op) (within : AllByRecursion (λ k. k ≤ 1) idle) (so : IsPlannedOfOne f op). work_of_one f idle op (work_of op.what) so.planned so.one so.unguarded in
-    let acts = all_acts IsActOfOne (IsPlannedOfOne f) 1 0 own (λ k le. tt) (λ n. tt) (tt, (refl, tt)) (phases_of plan) (are_all f ops (plan_planned is) alone.own kept) in
+    let acts = all_acts IsActOfOne _ 1 0 own (λ k le. tt) (λ n. tt) (tt, (refl, tt)) (phases_of plan) (are_all f ops (plan_planned is) alone.own kept) in
     let keepers : 0 ≡ keepers_of plan = sym (ap (λ (guard : ℕ). if guard == 0 then 0 else f.threads) alone.unguarded) in
     subst (λ (n : ℕ). AreActsOfOne (acts_of n (keepers_of plan) (phases_of plan))) (sym alone.threads) (subst (λ (n : ℕ). AreActsOfOne (acts_of 1 n (phases_of plan))) keepers acts)
 
@@ -154,13 +155,13 @@ by_one rs all = ap (λ (ss : List Record). ss ++ (records_by 1 rs ++ [])) (none_
 same_order : (since rs : List Record) → EachOf 1 since → AreOwnOrMarks rs → by_phases 1 since rs ≡ since ++ rs
 same_order since [] own all = by_one since own ∙ sym (append-nil since)
 same_order since (Record.Phase n ∷ rs) own all =
-    ap (λ (ss : List Record). ss ++ Record.Phase n ∷ by_phases 1 [] rs) (by_one since own) ∙ ap (λ (ss : List Record). since ++ Record.Phase n ∷ ss) (same_order [] rs tt all.1)
+    let rest = same_order [] rs tt all.1 in grind (arith, rest, by_one)
 same_order since (Record.Close ∷ rs) own all =
-    ap (λ (ss : List Record). ss ++ Record.Close ∷ by_phases 1 [] rs) (by_one since own) ∙ ap (λ (ss : List Record). since ++ Record.Close ∷ ss) (same_order [] rs tt all.1)
+    let rest = same_order [] rs tt all.1 in grind (arith, rest, by_one)
 same_order since (Record.Event e ∷ rs) own all =
     same_order (since ++ Record.Event e ∷ []) rs (each_both 1 since (Record.Event e ∷ []) own (all.0, tt)) all.1 ∙ append_assoc since (Record.Event e ∷ []) rs
 same_order since (Record.Said k said ∷ rs) own all =
-    same_order (since ++ Record.Said k said ∷ []) rs (each_both 1 since (Record.Said k said ∷ []) own (all.0, tt)) all.1 ∙ append_assoc since (Record.Said k said ∷ []) rs
+    same_order _ rs (each_both 1 since (Record.Said k said ∷ []) own (all.0, tt)) all.1 ∙ append_assoc since (Record.Said k said ∷ []) rs
 
 -- ---- the replay
 arranged_same : {text : List ℕ} {plan : Plan} → IsPlanOf text plan → IsOfOneThread plan → (reached : Progress)

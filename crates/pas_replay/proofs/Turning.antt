@@ -1,37 +1,408 @@
 -- THE TURN: an actor sits down, does acts of its own as at any desk, and all others still stand.
-use Rattle.std.proofs.Common.{◌≡◌, ◌≢◌, ℕ, zero, suc, ◌+◌, ◌-◌, ◌<◌, ◌≤◌, nat_le, Bool, true, if◌then◌else◌, inl, inr, List, [], ◌∷◌, ◌++◌, length, set, Option}
-use Rattle.std.proofs.Common.{Some, ap, sym, ◌∙◌, subst, arith, length-append, append_assoc, le-leb, length-set}
-use Rattle.std.proofs.lemmas.{Bool.cases_eq, Option.same_Some}
-use Rattle.pas_profile.specs.declared.profile.Profile.{Profile}
-use Rattle.pas_steps.specs.{Events.events_of, Views.View, Lists.Whole, Lists.Legal, Lists.part, Desks.triples}
+use Rattle.std.proofs.Common.{arith, ◌≡◌, ◌≢◌, ℕ, ◌<◌, length, set, Option, Some, None, inl, inr, refl, ap, sym, ◌∙◌, subst, get_or-set_same, get_or-set_other}
+use Rattle.std.proofs.Common.{length-set, set-set, zero, suc, ◌≤◌, Bool, true, if◌then◌else◌, List, [], ◌∷◌, ◌++◌, eqb-true, le-leb, ◌+◌, ◌-◌, get_or, ◌*◌}
+use Rattle.std.proofs.Common.{nat_le, ◌==◌, false, ◌||◌, not, length-append, append_assoc}
+use Rattle.std.proofs.{lemmas.List.set_comm, lemmas.List.set-get_or, lemmas.Option.same_Some, lemmas.Grind.get_or-set_at, Math.Nat.suc-mul}
+use Rattle.std.proofs.lemmas.Bool.{cases_eq, lt-leb, cases_lt, eqb-false}
+use Rattle.pas_plain.specs.Plain.{actor_of, Forgets, profile_of, RegionStands, PassStands}
+use Rattle.pas_plain.specs.Seats.{region_of, pass_of, standing_of, DeskStands}
+use Rattle.pas_plain.specs.declared.{pass.PlainPass.PlainPass, desk.PlainDesk.PlainDesk, region.PlainRegion.PlainRegion}
+use Rattle.pas_replay.specs.Sessions.{Slots, pass_in, risen, IsTaken, StandsIn, IsInPlace, MayTakeSeat, ChangesSeats, TakesSeat, rests_as, rests, Replay, Left}
+use Rattle.pas_replay.specs.Sessions.{Hand, IsAt, SoFar, GoesBy, AreCaches, HaveBooks, HavePlaces, records_owed_as, owed_of, owed_by, MaySit, SeatStands}
+use Rattle.pas_replay.specs.Sessions.{owes_as, owes, own_events, ActorStands, HasNames, SoFarAt, session, upon}
+use Rattle.pas_profile.specs.declared.{profile.Profile.Profile, directory.Kind.Kind}
+use Rattle.pas_steps.specs.{Views.View, Lists.part, Views.known_deed, Unknown.unknown_below, Unknown.unknown_here, Unknown.unknown_pages, Events.events_of}
+use Rattle.pas_steps.specs.{Lists.Whole, Lists.Legal, Desks.triples}
+use Rattle.pas_guard.specs.Books.{FitsBook, guards_in, size_of_book, AreApart, Each, IsGuardOf, KnowsGuard, is_outer, is_outer_of}
+use Rattle.pas_large.specs.Doors.{Indexes, no_ranges}
+use Rattle.pas_cache.specs.Caches.{Cached, AtRest, cached}
+use Rattle.pas_trace.specs.Acts.{Act, Operates, Settles, act_kept, acts_of_work, acts_of_op}
+use Rattle.pas_trace.specs.declared.plan.{Op.Op, Task.Task, Work.Work}
+use Rattle.pas_answers.specs.Answers.{Progress, settled, after_settling, Caches, Books, Named}
+use Rattle.pas_answers.specs.Indexes.{indexes_after, indexes_after_all, AllAreNamedBy, ActIsNamedBy}
+use Rattle.pas_answers.specs.{Reaching.Reaches, Rests.AreAtRest, Rests.AllAtRest, Calls.owed_events, Keeping.owed_by_keeper, Reaching.Advances}
+use Rattle.pas_answers.specs.{Replays.at_start}
+use Rattle.pas_cache.specs.declared.cache.ThreadCache.{ThreadCache}
+use Rattle.pas_guard.specs.declared.book.{GuardBook.GuardBook, Guard.Guard}
+use Rattle.pas_acts.specs.{Tries.tries_of, Awake.idle_in, Tries.tries_of_act, Tries.AreKeptFor, Works.Later, Works.Sits, Turns.RestsAt, Turns.Moves}
+use Rattle.pas_profile.proofs.Codecs.{deed_word_of-positive}
+use Rattle.pas_bits.specs.declared.mask.Mask4.{Mask4}
+use Rattle.pas_trace.specs.{Asked.work_of, Asked.cost_of_task, EveryPlan.IsSoundTask, Reasons.cost_of_size, EveryPlan.records_of_work}
+use Rattle.pas_trace.proofs.{ThreadsInOrder.numbers_count, Costs.large_cost, Costs.small_cost}
+use Rattle.pas_answers.specs.Fit.{AreFit, IsFitWhat, costs_of, AreOfThreads, sum_over, own_cost_of_act, own_costs_of, kept_cost_of_act, kept_costs_of}
+use Rattle.pas_answers.specs.Fit.{unbacks_of_act, unbacks_of}
+use Rattle.pas_replay.specs.Taking.{dearest}
+use Rattle.pas_acts.proofs.{ActsOfPlan.chosen_few, ActsOfPlan.work_costs, AtDesk.sits_for}
 use Rattle.pas_steps.specs.declared.step.Made.{Made}
 use Rattle.pas_steps.proofs.Parts.{part_of_others}
-use Rattle.pas_plain.specs.Plain.{profile_of, actor_of, RegionStands, PassStands}
-use Rattle.pas_plain.specs.Seats.{region_of, pass_of, standing_of, DeskStands}
 use Rattle.pas_plain.proofs.Desks.{pass_rests}
-use Rattle.pas_plain.specs.declared.{region.PlainRegion.PlainRegion, pass.PlainPass.PlainPass, desk.PlainDesk.PlainDesk}
 use Rattle.pas_report.specs.Rooms.{records_in, room_of, Records}
 use Rattle.pas_report.specs.declared.record.Record.{Record}
-use Rattle.pas_guard.specs.declared.book.{Guard.Guard, GuardBook.GuardBook}
-use Rattle.pas_cache.specs.Caches.{Cached, cached, AtRest}
-use Rattle.pas_cache.specs.declared.cache.ThreadCache.{ThreadCache}
-use Rattle.pas_trace.specs.Acts.{Act}
-use Rattle.pas_answers.specs.{Answers.Progress, Answers.Named, Answers.Caches, Calls.owed_events, Names.names_held, Reaching.Advances, Rests.AreAtRest}
-use Rattle.pas_answers.specs.{Rests.AllAtRest, Replays.at_start}
-use Rattle.pas_answers.specs.Fit.{AreFit, AreOfThreads, sum_over, own_cost_of_act, own_costs_of, kept_cost_of_act, kept_costs_of, unbacks_of_act, unbacks_of}
-use Rattle.pas_large.specs.Doors.{Indexes, no_ranges}
-use Rattle.pas_answers.specs.Indexes.{indexes_after, indexes_after_all, ActIsNamedBy, AllAreNamedBy}
 use Rattle.pas_answers.specs.declared.names.Names.{Names}
 use Rattle.pas_answers.proofs.{SingleActs.sum_both, OwnRecords.EachShown, Consequences.acts_shown}
-use Rattle.pas_acts.specs.{Tries.tries_of_act, Tries.tries_of, Tries.AreKeptFor, Works.Later, Works.Sits, Turns.RestsAt, Turns.Moves}
 use Rattle.pas_acts.specs.AtDesks.{here, and_for, ThreadActs, for_act, HasRoomAt, ScavengerActs}
-use Rattle.pas_acts.proofs.AtDesk.{sits_for}
-use Rattle.pas_replay.specs.Sessions.{Slots, pass_in, risen, IsTaken, MaySit, MayTakeSeat, IsInPlace, TakesSeat, SeatStands, rests_as, rests, owes_as, owes}
-use Rattle.pas_replay.specs.Sessions.{own_events, ActorStands, owed_by, AreCaches, HaveBooks, HavePlaces, Replay, Hand, hand_at, HasNames, IsAt, GoesBy, Left}
-use Rattle.pas_replay.specs.Sessions.{upon}
 use Rattle.pas_replay.specs.declared.seats.Actors.{Actors}
-use Rattle.pas_replay.proofs.Turns.{risen_length, put_there, put_elsewhere, all_rest, rest_first, rest_one, goes_both, OthersKept, set_caches, still_places}
-use Rattle.pas_replay.proofs.Turns.{owed_kept, owed_moves, owed_at, thread_owes}
+
+-- The one desk of a replay, at which the actors take turns; and how a replay goes on: what all actors have, and what they owe, when one did something.
+
+-- ---- the places of the passes
+risen_length : (desk : PlainDesk) (passes : Slots) → length (risen desk passes) ≡ length passes
+risen_length desk passes = length-set passes (actor_of (pass_of desk)) (Some (pass_of desk))
+
+-- the one of actor k, once it is put at its place
+put_there : (passes : Slots) (k : ℕ) (p : Option PlainPass) → k < length passes → pass_in (set passes k p) k ≡ p
+put_there passes k p lt = get_or-set_same passes k p None lt
+
+-- A pass that was put elsewhere leaves those of the other places as they were.
+put_elsewhere : (passes : Slots) (i k : ℕ) (p : Option PlainPass) → k ≢ i → pass_in (set passes i p) k ≡ pass_in passes k
+put_elsewhere passes i k p ne = get_or-set_other passes i k p None ne
+
+-- ---- one sits down where nobody sits, and one rises
+pub sits_down : (desk : PlainDesk) (passes : Slots) (k : ℕ) (slot : Option PlainPass) → actor_of (pass_of desk) ≡ k → pass_in passes k ≡ Some (pass_of desk)
+    → risen desk (set passes k slot) ≡ passes
+sits_down desk passes k slot actor has =
+    search (arith, set-set, set-get_or)
+
+-- ---- one rises with its pass p at place i, and another sits down, whose pass q was at place k
+seats_change : (p q : PlainPass) (i k : ℕ) (passes : Slots) (slot : Option PlainPass) → k ≢ i → pass_in passes k ≡ Some q
+    → set (set (set passes k slot) i (Some p)) k (Some q) ≡ set passes i (Some p)
+seats_change p q i k passes slot ne has =
+    search (arith, set_comm, set-set, set-get_or)
+
+-- the one that sits down there has its pass
+pub pass_there : (desk : PlainDesk) (passes : Slots) (k : ℕ) → actor_of (pass_of desk) ≢ k → (may : MayTakeSeat desk passes k)
+    → pass_in passes k ≡ Some may.own.pass
+pass_there desk passes k other may = search (arith, put_elsewhere)
+
+-- Once the desk has an actor's pass, and the one before has its own back, they changed seats.
+pub seats_changed : {desk desk' : PlainDesk} {passes : Slots} {q : PlainPass} (k n : ℕ) (slot : Option PlainPass) → n ≡ actor_of (pass_of desk)
+    → actor_of (pass_of desk) ≢ k → pass_in passes k ≡ Some q → actor_of q ≡ k
+    → region_of desk' ≡ region_of desk → pass_of desk' ≡ q → ChangesSeats desk desk' passes (set (set passes k slot) n (Some (pass_of desk))) k
+seats_changed {desk} {desk'} {passes} {q} k n slot is other has actor region pass =
+    search (arith, seats_change)
+
+-- ---- the one that sits down forgets what it had shown
+-- it is in its own place as it was
+in_its_place : {old new : PlainPass} → Forgets old new → IsInPlace (Some old) (Some new)
+in_its_place {old} {new} forgot pass is = (
+  new,
+  refl,
+  subst (λ (x : PlainPass). StandsIn x new) (same_Some _ _ is) (record { actor = forgot.actor; room = forgot.room; stands = forgot.stands }),
+)
+
+same_place : (slot : Option PlainPass) → IsInPlace slot slot
+same_place slot pass is = (pass, is, record { actor = refl; room = refl; stands = λ f l stands. stands })
+
+-- At its own desk a pass stands in for the one that forgot.
+in_place : (desk desk' : PlainDesk) (passes : Slots) → IsTaken desk passes → Forgets (pass_of desk) (pass_of desk') → (j : ℕ)
+    → IsInPlace (pass_in (risen desk passes) j) (pass_in (risen desk' passes) j)
+in_place desk desk' passes taken forgot j =
+    let i = actor_of (pass_of desk) in
+    let own = λ (slot slot' : Option PlainPass) (h : slot ≡ Some (pass_of desk)) (h' : slot' ≡ Some (pass_of desk')).
+    subst (λ (x : Option PlainPass). IsInPlace x slot') (sym h) (subst (λ (x : Option PlainPass). IsInPlace (Some (pass_of desk)) x) (sym h') (in_its_place forgot)) in
+    let moved = ap (λ (n : ℕ). pass_in (set passes n (Some (pass_of desk'))) j) forgot.actor in
+    elim (cases_eq j i) [
+      | inl same ↦
+          let here = λ (p : PlainPass). ap (λ (n : ℕ). pass_in (set passes i (Some p)) n) same ∙ put_there passes i (Some p) taken in
+          own (pass_in (risen desk passes) j) (pass_in (risen desk' passes) j) (here (pass_of desk)) (moved ∙ here (pass_of desk'))
+      | inr other ↦
+          let there = λ (p : PlainPass). put_elsewhere passes i j (Some p) other in
+          subst (λ (x : Option PlainPass). IsInPlace (pass_in (risen desk passes) j) x) (there (pass_of desk) ∙ sym (there (pass_of desk')) ∙ sym moved) (same_place (pass_in (risen desk passes) j))
+    ]
+
+-- An actor that changed seats, or sat there, and forgot what it had shown, has taken its seat.
+pub seat_taken : {desk mid desk' : PlainDesk} {passes passes' : Slots} (k : ℕ) → ChangesSeats desk mid passes passes' k → k < length passes
+    → region_of desk' ≡ region_of mid → Forgets (pass_of mid) (pass_of desk') → TakesSeat desk desk' passes passes' k
+seat_taken {desk} {mid} {desk'} {passes} {passes'} k changes place region forgot =
+    let many = sym (risen_length mid passes') ∙ ap (λ (xs : Slots). length xs) changes.passes_are ∙ risen_length desk passes in
+    let taken = subst (λ (n : ℕ). n < length passes') (sym changes.actor_is) (omega (arith, many, place)) in
+    record {
+      region_is = region ∙ changes.region_is;
+      actor_is = forgot.actor ∙ changes.actor_is;
+      as_many = risen_length desk' passes' ∙ many ∙ sym (risen_length desk passes);
+      in_place = λ j.
+          subst (λ (xs : Slots). IsInPlace (pass_in xs j) (pass_in (risen desk' passes') j)) changes.passes_are (in_place mid desk' passes' taken forgot j);
+    }
+
+-- ---- at rest
+rests_of_thread : (threads : ℕ) (f : Profile) (p : Progress) (k : ℕ) (v : View) → (1 ≤ k) × (k ≤ threads) → rests threads f p k v → AtRest f (p.caches k) v
+rests_of_thread threads f p zero v is rest = absurd (omega (arith, is.0))
+rests_of_thread threads f p (suc i) v is rest = subst (λ (kind : Bool). rests_as kind f (p.caches (suc i)) (p.books (suc i)) v) (le-leb _ threads is.1) rest
+
+rests_of_keeper : (threads : ℕ) (f : Profile) (p : Progress) (k : ℕ) (v : View) → threads < k → rests threads f p k v → FitsBook f (p.books k) v
+rests_of_keeper threads f p zero v past rest = absurd (omega (arith, past))
+rests_of_keeper threads f p (suc i) v past rest =
+    subst (λ (kind : Bool). rests_as kind f (p.caches (suc i)) (p.books (suc i)) v) (lt-leb (suc i) threads past) rest
+
+-- all are, wherever a replay has come
+pub all_rest : {r : Replay} {left : Left} {h : Hand} {p : Progress} → IsAt r left h p → AreAtRest r.threads r.profile p.caches p.books p.list
+all_rest {r} {p = p} at = search (arith, rests_of_thread, rests_of_keeper)
+
+-- .. before the first of the acts
+pub rest_first : (threads : ℕ) (f : Profile) (acts : List Act) (p q : Progress) (is : Reaches f acts p q) → AllAtRest threads f acts p q is
+    → AreAtRest threads f p.caches p.books p.list
+rest_first threads f [] p q is all = all
+rest_first threads f (act ∷ acts) p q is all = all.0
+
+-- .. before one act, and after it
+pub rest_one : (threads : ℕ) (f : Profile) (act : Act) (p q : Progress) (is : Reaches f (act ∷ []) p q) → AreAtRest threads f p.caches p.books p.list
+    → AreAtRest threads f q.caches q.books q.list → AllAtRest threads f (act ∷ []) p q is
+rest_one threads f act p q is before after = (before, subst (λ (s : Progress). AreAtRest threads f s.caches s.books s.list) is.2 after)
+
+-- what a cache noted doesn't matter
+before_settled : (f : Profile) (t : Bool) (c own : Cached) (v : View) → (t ≡ true → own ≡ c) → AtRest f (if t then settled c else own) v → AtRest f own v
+before_settled f t c own v h i = grind arith
+
+-- What rests once an actor's records were settled rested before.
+unsettled : (threads : ℕ) (f : Profile) (p : Progress) (k : ℕ)
+    → AreAtRest threads f (after_settling p k).caches (after_settling p k).books (after_settling p k).list → AreAtRest threads f p.caches p.books p.list
+unsettled threads f p k rest = search (arith, before_settled, eqb-true)
+
+-- .. before an operation, once it is done, and after what its cache noted was handed on
+pub rest_two : (threads : ℕ) (f : Profile) (op : Op) (p q : Progress) (is : Reaches f (Operates op ∷ (Settles op.actor ∷ [])) p q)
+    → AreAtRest threads f p.caches p.books p.list → AreAtRest threads f q.caches q.books q.list
+    → AllAtRest threads f (Operates op ∷ (Settles op.actor ∷ [])) p q is
+rest_two threads f op p q is before after =
+    let then_settled = subst (λ (s : Progress). AreAtRest threads f s.caches s.books s.list) is.2.2 after in
+    (before, (unsettled threads f is.0 op.actor (subst (λ (s : Progress). AreAtRest threads f s.caches s.books s.list) is.2.1 then_settled), then_settled))
+
+-- ---- acts that were answered are followed by others
+pub goes_both : (threads : ℕ) (f : Profile) (indexes : Indexes) (xs ys : List Act) (p q r : Progress) → (one : Reaches f xs p q)
+    → AllAreNamedBy f indexes xs p q one → AllAtRest threads f xs p q one → GoesBy threads f (indexes_after_all f xs p q one indexes) ys q r
+    → GoesBy threads f indexes (xs ++ ys) p r
+goes_both threads f indexes [] ys p q r one named rested two = subst (λ (s : Progress). GoesBy threads f indexes ys s r) one two
+goes_both threads f indexes (x ∷ xs) ys p q r one named rested two =
+    let rest = goes_both threads f (indexes_after f x p one.0 one.1 indexes) xs ys one.0 q r one.2 named.1 rested.1 two in
+    (((one.0, one.1, rest.0.0), (named.0, rest.0.1)), (rested.0, rest.1))
+
+-- .. wherever that led
+pub somewhere : {T : Type 0} {r : Replay} {left : Left} {h : Hand} {p : Progress} → T × IsAt r left h p → T × SoFar r left h
+somewhere {p = p} so = (so.0, (p, so.1))
+
+-- ---- what their caches hold
+pub there_is : (caches : Caches) (list : List ThreadCache) (k : ℕ) (there : ThreadCache) → 1 ≤ k → k ≤ length list → AreCaches caches list
+    → there ≡ get_or list (k - 1) there → caches k ≡ cached there
+there_is caches list k there h i j m = grind arith
+
+-- The caches in hand are those of the replay, where one thread's became another on both sides.
+pub set_caches : {caches caches' : Caches} (list : List ThreadCache) (k : ℕ) (cache : ThreadCache) → 1 ≤ k → k ≤ length list → caches' k ≡ cached cache
+    → ((j : ℕ) → j ≢ k → caches' j ≡ caches j) → AreCaches caches list → AreCaches caches' (set list (k - 1) cache)
+set_caches {caches} {caches'} list k cache some most its others all i d less = search (arith, length-set, cases_eq, get_or-set_at, get_or-set_other)
+
+-- those below the next place are empty
+pub empty_next : (caches caches' : List ThreadCache) (i : ℕ) (cache : ThreadCache) → caches' ≡ set caches i cache → i < length caches
+    → ((j : ℕ) (d : ThreadCache) → j < i → (cached (get_or caches j d)).locals ≡ []) → (cached cache).locals ≡ []
+    → (j : ℕ) (d : ThreadCache) → j < i + 1 → (cached (get_or caches' j d)).locals ≡ []
+empty_next caches caches' i cache is lt before this j d less = search (arith, cases_eq, get_or-set_at, get_or-set_other)
+
+-- ---- the books of the keepers
+pub book_is : (threads : ℕ) (books : Books) (list : List GuardBook) (i : ℕ) (there : GuardBook) → 1 ≤ i → i ≤ length list → HaveBooks threads books list
+    → there ≡ get_or list (i - 1) there → books (threads + i) ≡ guards_in there
+book_is threads books list i there h j k m = grind arith
+
+-- A keeper has a place in its book for each guarded request that it tries yet.
+pub place_is : (threads : ℕ) (list : List GuardBook) (acts : List Act) (i : ℕ) (there : GuardBook) → 1 ≤ i → i ≤ length list → HavePlaces threads list acts
+    → there ≡ get_or list (i - 1) there
+    → length (guards_in there) + tries_of (threads + i) acts ≤ size_of_book there
+place_is threads list acts i there h j k m = grind arith
+
+-- The books in hand are those of the replay, where one keeper's became another on both sides.
+pub set_books : {books books' : Books} (threads : ℕ) (list : List GuardBook) (i : ℕ) (book : GuardBook) → 1 ≤ i → i ≤ length list
+    → books' (threads + i) ≡ guards_in book → ((j : ℕ) → j ≢ threads + i → books' j ≡ books j) → HaveBooks threads books list
+    → HaveBooks threads books' (set list (i - 1) book)
+set_books {books} {books'} threads list i book some most its others all j d less = search (arith, length-set, cases_eq, get_or-set_at, get_or-set_other)
+
+-- what is so of each book of a list, by its place, is so where one was set
+module _ (P : ℕ → GuardBook → Type 0) (list : List GuardBook) (i : ℕ) (book : GuardBook) where
+  set_each : i < length list → P i book → ((j : ℕ) (d : GuardBook) → j < length list → P j (get_or list j d)) → (j : ℕ) (d : GuardBook) → j < length list
+      → P j (get_or (set list i book) j d)
+  set_each lt this all j d less = search (arith, cases_eq, get_or-set_at, get_or-set_other)
+
+-- Each keeper has places for what it tries yet, where one's book has them after an act and the others tried nothing more.
+pub set_places : (threads : ℕ) (list : List GuardBook) (i : ℕ) (book : GuardBook) (acts more : List Act) → 1 ≤ i → i ≤ length list
+    → length (guards_in book) + tries_of (threads + i) more ≤ size_of_book book → ((j : ℕ) → tries_of j more ≤ tries_of j acts)
+    → HavePlaces threads list acts → HavePlaces threads (set list (i - 1) book) more
+set_places threads list i book acts more some most this fewer all j d less =
+    let at : i - 1 < length list = omega (arith, some, most) in
+    let place : i ≡ suc (i - 1) = omega (arith, some) in
+    set_each (λ (m : ℕ) (b : GuardBook). length (guards_in b) + tries_of (threads + suc m) more ≤ size_of_book b) list (i - 1) book at
+    (subst (λ (m : ℕ). length (guards_in book) + tries_of (threads + m) more ≤ size_of_book book) place this)
+    (λ m b lt. let one = all m b lt in let few = fewer (threads + suc m) in omega (arith, one, few)) j d (omega (arith, less, length-set list (i - 1) book))
+
+-- fewer acts ask for fewer places
+pub still_places : (threads : ℕ) (list : List GuardBook) (acts more : List Act) → ((j : ℕ) → tries_of j more ≤ tries_of j acts) → HavePlaces threads list acts
+    → HavePlaces threads list more
+still_places threads list acts more fewer all i d lt = let one = all i d lt in let few = fewer (threads + suc i) in omega (arith, one, few)
+
+-- those below the next place are empty
+pub lowered_next : (books books' : List GuardBook) (i : ℕ) (book : GuardBook) → books' ≡ set books i book → i < length books
+    → ((j : ℕ) (d : GuardBook) → j < i → guards_in (get_or books j d) ≡ []) → guards_in book ≡ []
+    → (j : ℕ) (d : GuardBook) → j < i + 1 → guards_in (get_or books' j d) ≡ []
+lowered_next books books' i book is lt before this j d less = search (arith, cases_eq, get_or-set_at, get_or-set_other)
+
+-- ---- what actors owe
+-- nothing of any actor but k changed
+pub record OthersKept (k : ℕ) (p q : Progress) : Type 0 where
+  pub parts : (j : ℕ) → j ≢ k → part j q.list ≡ part j p.list
+  pub caches : (j : ℕ) → j ≢ k → q.caches j ≡ p.caches j
+  pub books : (j : ℕ) → j ≢ k → q.books j ≡ p.books j
+
+module _ (threads : ℕ) (f : Profile) (p q : Progress) (k : ℕ) (kept : OthersKept k p q) where
+  -- it has the same cache, book and part
+  owed_same : (j : ℕ) → j ≢ k → owed_of threads f q j ≡ owed_of threads f p j
+  owed_same j ne =
+      search arith
+
+  -- the scavenger, or an actor past these, did something
+  pub owed_kept : (n : ℕ) → ((j : ℕ) → 1 ≤ j → j ≤ n → j ≢ k) → owed_by threads f q n ≡ owed_by threads f p n
+  owed_kept zero apart = refl
+  owed_kept (suc n) apart =
+      omega (arith, owed_same (suc n) (apart (suc n) (omega arith) (omega arith)), owed_kept n (λ j low high. apart j low (omega (arith, high))))
+
+  -- What all actors owe changes by what one actor owes, where nothing of the others changed.
+  pub owed_moves : (n : ℕ) → 1 ≤ k → k ≤ n → owed_by threads f q n + owed_of threads f p k ≡ owed_by threads f p n + owed_of threads f q k
+  owed_moves zero some most = absurd (omega (arith, some, most))
+  owed_moves (suc n) some most = elim (cases_eq (suc n) k) [
+    | inl here ↦
+        search (arith, owed_kept)
+    | inr other ↦
+        omega (arith, owed_same (suc n) other, owed_moves n some (omega (arith, most, other)))
+  ]
+
+-- one actor owes no more than all
+pub owed_at : (threads : ℕ) (f : Profile) (p : Progress) (k n : ℕ) → 1 ≤ k → k ≤ n → owed_of threads f p k ≤ owed_by threads f p n
+owed_at threads f p k zero some most = absurd (omega (arith, some, most))
+owed_at threads f p k (suc n) some most = elim (cases_eq (suc n) k) [
+  | inl here ↦ let same = ap (λ (m : ℕ). owed_of threads f p m) here in omega (arith, same)
+  | inr other ↦ let rest = owed_at threads f p k n some (omega (arith, most, other)) in omega (arith, rest)
+]
+
+-- a thread, and a keeper
+thread_owes : (threads : ℕ) (f : Profile) (p : Progress) (k : ℕ) → k ≤ threads → owed_of threads f p k ≡ owed_events f (p.caches k) (part k p.list)
+thread_owes threads f p k within = ap (λ (b : Bool). records_owed_as b f (p.caches k) (p.books k) (part k p.list)) (le-leb k threads within)
+
+-- What an actor behind the threads owes is what a keeper does by its book.
+pub keeper_owes : (threads : ℕ) (f : Profile) (p : Progress) (k : ℕ) → threads < k → owed_of threads f p k ≡ owed_by_keeper f (p.books k) (part k p.list)
+keeper_owes threads f p k past = ap (λ (b : Bool). records_owed_as b f (p.caches k) (p.books k) (part k p.list)) (lt-leb k threads past)
+
+-- How much actors at rest owe at most, and what an operation costs at most.
+
+-- ---- guards, and pages whose deed isn't known
+abbrev one_if : Bool → ℕ
+one_if t = if t then 1 else 0
+
+-- how many guards have their low page at most there
+abbrev low_within : ℕ → List Guard → ℕ
+low_within n [] = 0
+low_within n (guard ∷ guards) = one_if (nat_le guard.low n) + low_within n guards
+
+within_same : (low n : ℕ) → low ≢ suc n → nat_le low (suc n) ≡ nat_le low n
+within_same low n other = search (arith, cases_lt, lt-leb, le-leb)
+
+-- Where not one of two tests passes, both fail.
+neither : (a b : Bool) → (a || b) ≡ false → (a ≡ false) × (b ≡ false)
+neither a b none = grind arith
+
+-- no guard has its low page there
+none_there : (n : ℕ) (guards : List Guard) → is_outer guards (suc n) ≡ false → low_within (suc n) guards ≡ low_within n guards
+none_there n [] none = refl
+none_there n (guard ∷ guards) none =
+    let apart = neither (is_outer_of guard (suc n)) (is_outer guards (suc n)) none in
+    let other = eqb-false guard.low (suc n) (neither (guard.low == suc n) (guard.high == suc n) apart.0).0 in
+    let same = within_same guard.low n other in
+    let rest = none_there n guards apart.1 in
+    ap (λ (t : Bool). one_if t + low_within (suc n) guards) same ∙ ap (λ (m : ℕ). one_if (nat_le guard.low n) + m) rest
+
+-- a page counts once, as one whose deed isn't known or as the low page of a guard
+one_page : (f : Profile) (n : ℕ) (guards : List Guard) (v : View) → AreApart guards → Each (KnowsGuard v) guards
+    → low_within (suc n) guards + unknown_here (known_deed v (suc n)) ≤ low_within n guards + 1
+one_page f n [] v apart knows = grind arith
+one_page f n (guard ∷ guards) v apart knows = elim (cases_eq guard.low (suc n)) [
+  | inl here ↦
+      let none = none_there n guards (subst (λ (page : ℕ). is_outer guards page ≡ false) here apart.0) in
+      let known : known_deed v (suc n) ≢ 0 = subst (λ (page : ℕ). known_deed v page ≢ 0) here (λ is. deed_word_of-positive (record { heap = guard.block.heap; kind = Kind.Large }) (sym knows.0.low ∙ is)) in
+      let first = le-leb guard.low (suc n) (omega (arith, here)) in
+      let before = lt-leb guard.low n (omega (arith, here)) in
+      omega (arith, none, known_here (known_deed v (suc n)) known, ap one_if first, ap one_if before)
+  | inr other ↦
+      omega (arith, ap one_if (within_same guard.low n other), one_page f n guards v apart.2 knows.1)
+]
+  where
+    known_here : (deed : ℕ) → deed ≢ 0 → unknown_here deed ≡ 0
+    known_here deed some = grind (arith, eqb-false)
+
+within_pages : (f : Profile) (n : ℕ) (guards : List Guard) (v : View) → AreApart guards → Each (IsGuardOf f) guards → Each (KnowsGuard v) guards
+    → unknown_below n v + low_within n guards ≤ n
+within_pages f zero guards v apart of knows = let none = none_at_first guards of in omega (arith, none)
+  where
+    none_at_first : (gs : List Guard) → Each (IsGuardOf f) gs → low_within 0 gs ≡ 0
+    none_at_first [] each = refl
+    none_at_first (g ∷ gs) each =
+        omega (arith, ap one_if (lt-leb g.low 0 (omega (arith, each.0.low.0))), none_at_first gs each.1)
+within_pages f (suc n) guards v apart of knows =
+    omega (arith, one_page f n guards v apart knows, within_pages f n guards v apart of knows)
+
+all_within : (f : Profile) (guards : List Guard) → Each (IsGuardOf f) guards → low_within f.pages guards ≡ length guards
+all_within f [] of = refl
+all_within f (guard ∷ guards) of =
+    omega (arith, ap one_if (le-leb guard.low f.pages of.0.low.1), all_within f guards of.1)
+
+-- A keeper owes at most a record for each page: it knows the deeds of the pages at its guards.
+keeper_owes_few : (f : Profile) (guards : List Guard) (v : View) → FitsBook f guards v → unknown_pages f v + length guards ≤ f.pages
+keeper_owes_few f guards v fits =
+    omega (arith, within_pages f f.pages guards v fits.apart fits.of_region fits.knows, all_within f guards fits.of_region)
+
+unknown_few : (n : ℕ) (v : View) → unknown_below n v ≤ n
+unknown_few zero v = omega arith
+unknown_few (suc n) v = let rest = unknown_few n v in let one = at_most_one (known_deed v (suc n)) in omega (arith, rest, one)
+  where
+    at_most_one : (deed : ℕ) → unknown_here deed ≤ 1
+    at_most_one deed = grind arith
+
+-- Between two acts each actor owes at most a record for each page, and one for each entry of a log.
+pub owed_most : {r : Replay} {left : Left} {h : Hand} {p : Progress} → IsAt r left h p → (n : ℕ) → n ≤ r.threads + r.keepers
+    → owed_by r.threads r.profile p n ≤ n * (r.profile.pages + 64)
+owed_most at zero most = omega arith
+owed_most {r} {p = p} at (suc n) most =
+    let f = r.profile in
+    let k = suc n in
+    let rest = owed_most at n (omega (arith, most)) in
+    let more = suc-mul n (f.pages + 64) in
+    let all = all_rest at in
+    elim (cases_lt r.threads k) [
+      | inl past ↦
+          let this = keeper_owes r.threads f p k past in
+          omega (arith, rest, more, this, keeper_owes_few f (p.books k) (part k p.list) (all.keeping k (past, omega (arith, most, at.threads))))
+      | inr within ↦
+          let few = (all.working k (omega arith, omega (arith, within))).few_entries in
+          omega (arith, rest, more, thread_owes r.threads f p k (omega (arith, within)), few, unknown_few f.pages (part k p.list))
+    ]
+
+-- ---- what an operation costs
+size_costs : (pages size : ℕ) → size ≤ pages * 4096 → cost_of_size size ≤ pages + 2
+size_costs pages size within = search (arith, cases_lt, large_cost, small_cost)
+
+large_costs : (pages size : ℕ) → size ≤ pages * 4096 → 2048 < size → cost_of_size size ≤ pages + 1
+large_costs pages size within large = omega (arith, within, large_cost size large)
+
+task_costs : (f : Profile) (asked : List ℕ) (task : Task) → IsSoundTask f asked task → cost_of_task task ≤ f.pages + 3
+task_costs f asked a sound = search (arith, size_costs, large_costs)
+
+-- whether it is guarded or not
+kept_fit : (f : Profile) (limit : ℕ) (asked : List ℕ) (o : Option ℕ) (op : Op) (more : List Act) → AreFit f limit asked (act_kept o op ∷ more)
+    → IsFitWhat f limit asked op.what
+kept_fit f limit asked a op more fit = search arith
+
+cheap_work : (f : Profile) (limit : ℕ) (asked idle : List ℕ) (op : Op) (work : Work) (more : List Act) → work_of op.what ≡ work
+    → AreFit f limit asked (acts_of_work idle op work ++ more) → records_of_work f work ≤ dearest f
+cheap_work f limit asked idle op a more is fit = search (arith, kept_fit, task_costs)
+
+-- No operation that comes next costs more than the dearest.
+pub op_costs : {r : Replay} {h : Hand} {p : Progress} {room : ℕ} (awake : Mask4) (op : Op) (more : List Act)
+    → IsAt r (record { acts = acts_of_op (idle_in awake r.threads) op ++ more; room = room }) h p
+    → costs_of r.profile (acts_of_op (idle_in awake r.threads) op) ≤ dearest r.profile
+op_costs {r} {h} awake op more at =
+    search (arith, chosen_few, not, work_costs, numbers_count, cheap_work)
 
 -- ---- an actor sits down
 pub may_sit : {f : Profile} {k : ℕ} {Rest : View → Type 0} {region : PlainRegion} {slot : Option PlainPass} {l : Whole} {need : ℕ} → profile_of region ≡ f
@@ -44,16 +415,11 @@ may_sit {l = l} of stands st = record {
 }
 
 -- Between two acts each actor of the replay may take the seat at the desk.
-pub may_take_seat : {r : Replay} {left : Left} {table : Names} {out : Records} {p : Progress} (desk : PlainDesk) (actors : Actors) (k : ℕ)
-    → k ≤ length actors.caches.items + length actors.books.items → IsTaken desk actors.passes.items → IsAt r left (hand_at desk actors table out) p
-    → MayTakeSeat desk actors.passes.items k
-may_take_seat desk actors k within taken at =
+pub may_take_seat : {r : Replay} {left : Left} {table : Names} {out : Records} (desk : PlainDesk) (actors : Actors) (k : ℕ)
+    → k ≤ length actors.caches.items + length actors.books.items → SoFarAt r left (session desk actors table out) → MayTakeSeat desk actors.passes.items k
+may_take_seat desk actors k within (taken, (p, at)) =
     let sized = risen_length desk actors.passes.items in
-    let places = at.actors in
-    let many = at.many in
-    let kept = at.kept in
-    let threads = at.threads in
-    record { taken = taken; place = omega (arith, sized, places, many, kept, within, threads); own = may_sit at.profile_is at.stands (at.each k (omega (arith, within, many, kept, threads))) }
+    record { taken = taken; place = omega (arith, sized, at.actors, at.many, at.kept, within, at.threads); own = may_sit at.profile_is at.stands (at.each k (omega (arith, within, at.many, at.kept, at.threads))) }
 
 -- what is in hand while an actor sits there
 abbrev pub hand : PlainDesk → Slots → List ThreadCache → List GuardBook → ℕ → Indexes → Names → Records → Hand
@@ -86,9 +452,11 @@ sat_down {r} {left} {desk' = desk'} {passes' = passes'} {p = p} seat at =
 -- ---- at the desk
 module _ {r : Replay} {left desk0 desk passes0 passes caches books places indexes table out p : _} (k : ℕ) (within : k ≤ r.threads + r.keepers)
     (seat : TakesSeat desk0 desk passes0 passes k) (before : IsAt r left (hand desk0 passes0 caches books places indexes table out) p) where
+  -- The replay is at these acts.
   at : IsAt r left (hand desk passes caches books places indexes table out) p
   at = sat_down seat before
 
+  -- The actor is one of the region.
   le : k ≤ r.profile.threads
   le = omega (arith, within, before.threads)
 
@@ -96,7 +464,7 @@ module _ {r : Replay} {left desk0 desk passes0 passes caches books places indexe
   has_place = let sized = risen_length desk passes in omega (arith, sized, at.actors, le)
 
   its_pass : (at.each k le).pass ≡ pass_of desk
-  its_pass = same_Some _ _ (sym (at.each k le).present ∙ ap (λ (m : ℕ). pass_in (set passes m (Some (pass_of desk))) k) seat.actor_is ∙ put_there passes k (Some (pass_of desk)) has_place)
+  its_pass = search (arith, same_Some, put_there, has_place)
 
   stood_now : DeskStands desk (part k p.list) p.list
   stood_now = search (arith, its_pass)
@@ -107,9 +475,11 @@ module _ {r : Replay} {left desk0 desk passes0 passes caches books places indexe
 
 -- ---- the others
 module _ (threads : ℕ) (f : Profile) (p q : Progress) where
+  -- What rests by the same cache and book still rests.
   rests_kept : (j : ℕ) (v : View) → q.caches j ≡ p.caches j → q.books j ≡ p.books j → rests threads f p j v → rests threads f q j v
   rests_kept j v h i k = grind arith
 
+  -- And owes the same.
   owes_kept : (j : ℕ) (v : View) → q.caches j ≡ p.caches j → owes threads f q j v ≡ owes threads f p j v
   owes_kept j v h = grind arith
 
@@ -142,7 +512,7 @@ either_less t a b a' b' h i = grind arith
 pub less_events : (threads : ℕ) (f : Profile) (first more : List Act) (j : ℕ) → own_events threads f j more ≤ own_events threads f j (first ++ more)
 less_events threads f first more zero = behind (unbacks_of_act f) first more
 less_events threads f first more (suc i) =
-    either_less (nat_le (suc i) threads) (own_costs_of (suc i) more) (kept_costs_of (suc i) more) (own_costs_of (suc i) (first ++ more)) (kept_costs_of (suc i) (first ++ more)) (behind (own_cost_of_act (suc i)) first more) (behind (kept_cost_of_act (suc i)) first more)
+    either_less (nat_le (suc i) threads) _ _ _ _ (behind (own_cost_of_act (suc i)) first more) (behind (kept_cost_of_act (suc i)) first more)
 
 -- The acts that are left of some have no more guarded requests of a keeper than all of them.
 pub less_tries : (first more : List Act) (j : ℕ) → tries_of j more ≤ tries_of j (first ++ more)
@@ -150,11 +520,17 @@ less_tries first more j = behind (tries_of_act j) first more
 
 -- What is said comes behind what was said before, handed on or not.
 pub said_more : (told waiting waiting' before said : List Record) → told ++ waiting ≡ before → waiting' ≡ waiting ++ said → told ++ waiting' ≡ before ++ said
-said_more told waiting waiting' before said is pushed = ap (λ (rs : List Record). told ++ rs) pushed ∙ sym (append_assoc told waiting said) ∙ ap (λ (rs : List Record). rs ++ said) is
+said_more told waiting waiting' before said is pushed = search (arith, append_assoc)
 
 -- ---- acts that ask no index for a run and change none
 abbrev pub AsksNoIndex : Profile → Act → Type 0
 AsksNoIndex f act = (indexes : Indexes) (p : Progress) → ((q : Progress) (is : Advances f act p q) → (indexes_after f act p q is indexes ≡ indexes) × ActIsNamedBy f indexes act p q is)
+
+-- What is known of the names is known yet, where no name came and the acts that are left fit.
+pub still_named : {f acts more table names names' : _} → ((limit : ℕ) (asked : List ℕ) → AreFit f limit asked acts → AreFit f limit asked more)
+    → names' ≡ names → HasNames f acts table names → HasNames f more table names'
+still_named {f} {acts} {more} {table} fit same has =
+    subst (HasNames f more table) (sym same) record { asked = has.asked; fit = fit _ _ has.fit; tells = has.tells; stand = has.stand; known = has.known }
 
 -- ---- the turn
 -- Actor k did acts at the desk, after which `more` are left: it came from p to q. It sits there again, and the acts cost others nothing.
@@ -187,13 +563,13 @@ module _ {r : Replay} {left more : Left} {desk0 desk desk' : PlainDesk} {passes0
     (seat : TakesSeat desk0 desk passes0 passes k) (before : IsAt r left (hand desk0 passes0 caches books places indexes table out) p)
     (x : Turned r k left.acts more.acts indexes indexes' desk desk' p q) (have : HaveInHand r more caches' books' places' table' out' q) where
   stood_then : DeskStands desk' (x.moves.steps ++ part k p.list) q.list
-  stood_then = subst (λ (l : Whole). DeskStands desk' (x.moves.steps ++ part k p.list) l) (ap (λ (m : ℕ). triples m x.moves.steps ++ p.list) seat.actor_is ∙ sym x.moves.list_is)
-      (x.moves.calls.adds.added (part k p.list) p.list (stood_now k within seat before) (before.each k (le k within seat before)).rest)
+  stood_then = subst (λ (l : Whole). DeskStands desk' (x.moves.steps ++ part k p.list) l) (ap (λ (m : ℕ). triples m x.moves.steps ++ p.list) seat.actor_is
+      ∙ sym x.moves.list_is) (x.moves.calls.adds.added (part k p.list) p.list (stood_now k within seat before) (before.each k (le k within seat before)).rest)
 
   this_stands : ActorStands r.threads r.profile k q (pass_in (risen desk' passes) k) more.acts
   this_stands = record {
     pass = pass_of desk';
-    present = ap (λ (m : ℕ). pass_in (set passes m (Some (pass_of desk'))) k) x.sits.actor ∙ put_there passes k (Some (pass_of desk')) (has_place k within seat before);
+    present = ap (λ (m : ℕ). pass_in (set passes m (Some (pass_of desk'))) k) x.sits.actor ∙ put_there passes k _ (has_place k within seat before);
     actor = x.sits.actor;
     stands = subst (λ (g : Profile). PassStands g (pass_of desk') q.list) x.sits.profile stood_then.pass;
     rest = x.sits.rest;
@@ -201,8 +577,7 @@ module _ {r : Replay} {left more : Left} {desk0 desk desk' : PlainDesk} {passes0
   }
 
   same_slot : (j : ℕ) → j ≢ k → pass_in (risen desk' passes) j ≡ pass_in (risen desk passes) j
-  same_slot j ne = put_elsewhere passes (actor_of (pass_of desk')) j (Some (pass_of desk')) (λ (e : j ≡ actor_of (pass_of desk')). ne (e ∙ x.sits.actor))
-      ∙ sym (put_elsewhere passes (actor_of (pass_of desk)) j (Some (pass_of desk)) (λ (e : j ≡ actor_of (pass_of desk)). ne (e ∙ seat.actor_is)))
+  same_slot j ne = search (arith, put_elsewhere)
 
   -- An actor that took its seat and did its acts leaves the replay where the acts after them come next.
   pub turn : IsTaken desk' passes × IsAt r more (hand desk' passes caches' books' places' indexes' table' out') q
@@ -211,13 +586,14 @@ module _ {r : Replay} {left more : Left} {desk0 desk desk' : PlainDesk} {passes0
       let each : (j : ℕ) → j ≤ r.profile.threads → ActorStands r.threads r.profile j q (pass_in (risen desk' passes) j) more.acts
       = λ j most. elim (cases_eq j k) [
         | inl same ↦ subst (λ (m : ℕ). ActorStands r.threads r.profile m q (pass_in (risen desk' passes) m) more.acts) (sym same) this_stands
-        | inr other ↦ other_stands r.threads r.profile p q left.acts more.acts x.moves.steps (λ (e : k ≡ j). other (sym e)) x.moves.list_is (x.kept.caches j other) (x.kept.books j other) (same_slot j other) (x.free j other) ((at k within seat before).each j most)
+        | inr other ↦ other_stands r.threads r.profile p q left.acts more.acts x.moves.steps (λ (e : k ≡ j). other (sym e)) x.moves.list_is
+            (x.kept.caches j other) (x.kept.books j other) (same_slot j other) (x.free j other) ((at k within seat before).each j most)
       ] in
       let nobody : (j : ℕ) → r.threads + r.keepers < j → part j q.list ≡ []
-      = λ j past. ap (λ (l : Whole). part j l) x.moves.list_is ∙ part_of_others j k x.moves.steps p.list (λ (e : k ≡ j). omega (arith, e, within, past)) ∙ before.nobody j past in
+      = λ j past. ap (λ l. part j l) x.moves.list_is ∙ part_of_others j k x.moves.steps p.list (λ e. omega (arith, e, within, past)) ∙ before.nobody j past in
       let shown : EachShown q.records = x.shows (subst (λ (f : Profile). Legal f q.list) x.sits.profile stood_then.region.legal) before.shown in
       let actors = risen_length desk' passes ∙ sym (risen_length desk passes) ∙ (at k within seat before).actors in
-      let answers : (s : Progress) → GoesBy r.threads r.profile indexes' more.acts q s → GoesBy r.threads r.profile (no_ranges r.profile.heaps) r.acts at_start s
+      let answer : (s : Progress) → GoesBy r.threads r.profile indexes' more.acts q s → GoesBy r.threads r.profile (no_ranges r.profile.heaps) r.acts at_start s
       = λ s rest. before.answers s (x.reaches s rest) in
       (omega (arith, x.sits.actor, lt), assumption (x.sits.profile, actors, before.threads, stood_then.region))
 
@@ -229,11 +605,12 @@ kept_by_moves {k} {p = p} moves caches books = search (arith, part_of_others)
 
 -- ---- an actor behind the scavenger, which is a thread or a keeper
 abbrev pub SitsAs : Bool → Replay → ℕ → PlainDesk → List Act → Progress → Type 0
-SitsAs kind r k desk acts p =
-    Sits r.profile k (rests_as kind r.profile (p.caches k) (p.books k)) (standing_of desk) p.list (owes_as kind r.profile (p.caches k) (part k p.list) + (if kind then own_costs_of k acts else kept_costs_of k acts))
+SitsAs kind r k desk acts p = Sits r.profile k (rests_as kind r.profile (p.caches k) (p.books k)) (standing_of desk) p.list
+    (owes_as kind r.profile (p.caches k) (part k p.list) + (if kind then own_costs_of k acts else kept_costs_of k acts))
 
 abbrev pub MovesAs : Bool → Replay → ℕ → PlainDesk → PlainDesk → Progress → Progress → Type 0
-MovesAs kind r k desk desk' p q = Moves k (rests_as kind r.profile (p.caches k) (p.books k)) (rests_as kind r.profile (q.caches k) (q.books k)) (standing_of desk) (standing_of desk') p q
+MovesAs kind r k desk desk' p q =
+    Moves k (rests_as kind r.profile (p.caches k) (p.books k)) (rests_as kind r.profile (q.caches k) (q.books k)) (standing_of desk) (standing_of desk') p q
 
 -- ---- the turn of a thread
 -- for how much there is room besides: for the acts that are left, what the others owe, and what is said besides
@@ -279,7 +656,8 @@ thread_turn {r} {first} {more} {desk0} {desk} {desk'} {passes0} {passes} {caches
     let all : k ≤ r.threads + r.keepers = omega (arith, within) in
     let kind : true ≡ nat_le k r.threads = sym (le-leb k r.threads within) in
     let moves0 : Moves k (AtRest f (p.caches k)) (AtRest f (q.caches k)) (standing_of desk) (standing_of desk') p q =
-    subst (λ (d : Cached). Moves k (AtRest f d) (AtRest f (q.caches k)) (standing_of desk) (standing_of desk') p q) (sym was) (subst (λ (d : Cached). Moves k (AtRest f c) (AtRest f d) (standing_of desk) (standing_of desk') p q) (sym now) did.moves) in
+    subst (λ (d : Cached). Moves k (AtRest f d) (AtRest f (q.caches k)) (standing_of desk) (standing_of desk') p q) (sym was)
+    (subst (λ (d : Cached). Moves k (AtRest f c) (AtRest f d) (standing_of desk) (standing_of desk') p q) (sym now) did.moves) in
     let moves = subst (λ (b : Bool). MovesAs b r k desk desk' p q) kind moves0 in
     let sits0 = subst (λ (d : Cached). Sits f k (AtRest f d) (standing_of desk') q.list (owed_events f d (part k q.list) + own_costs_of k more.acts)) (sym now) did.stands.sits in
     let sits = subst (λ (b : Bool). SitsAs b r k desk' more.acts q) kind sits0 in
@@ -299,7 +677,8 @@ thread_turn {r} {first} {more} {desk0} {desk} {desk'} {passes0} {passes} {caches
     = omega (arith, change, least, mine, then_mine, ap (λ (d : Cached). owed_events f d (part k q.list)) now, longer, did.stands.spare, few, room) in
     turn k all seat at record {
       shows = acts_shown f first p q did.reaches;
-      reaches = λ s rest. goes_both r.threads f indexes first more.acts p q s did.reaches named (rested (all_rest at) (rest_first r.threads f more.acts q s rest.0.0 rest.1)) (subst (λ (ix : Indexes). GoesBy r.threads f ix more.acts q s) after rest);
+      reaches = λ s rest. goes_both r.threads f indexes first more.acts p q s did.reaches named (rested (all_rest at)
+          (rest_first r.threads f more.acts q s rest.0.0 rest.1)) (subst (λ (ix : Indexes). GoesBy r.threads f ix more.acts q s) after rest);
       moves = moves;
       sits = sits;
       kept = kept;
@@ -326,11 +705,10 @@ pub scavenger_turn : {r : Replay} {more : Left} {act desk0 desk desk' passes0 pa
 scavenger_turn {r} {more} {act} {desk0} {desk} {desk'} {passes0} {passes} {caches} {books} {places} {places'} {indexes} {table} {out} {out'} {p} seat fit asks at did same =
     let f = r.profile in
     let q = did.reached in
-    let names = at.names in
-    let kept : OthersKept 0 p q = kept_by_moves did.moves (λ j ne. ap (λ (cs : Caches). cs j) did.caches) (λ j ne. ap (λ (bs : ℕ → List Guard). bs j) did.books) in
+    let kept : OthersKept 0 p q = kept_by_moves did.moves (λ j ne. ap (λ (cs : Caches). cs j) did.caches) (λ j ne. ap (λ (bs : Books). bs j) did.books) in
     let owed = owed_kept r.threads f p q 0 kept (r.threads + r.keepers) (λ j low high e. omega (arith, low, e)) in
     let asked = asks indexes p did.reaches.0 did.reaches.1 in
-    let known : HasNames f more.acts table q.names = subst (λ (ns : List Named). HasNames f more.acts table ns) (sym did.names) record { asked = names.asked; fit = fit (names_held table) names.asked names.fit; tells = names.tells; stand = names.stand; known = names.known } in
+    let known : HasNames f more.acts table q.names = still_named fit did.names at.names in
     let their_caches = subst (λ (cs : Caches). AreCaches cs caches) (sym did.caches) at.caches_are in
     let their_books = subst (λ (bs : ℕ → List Guard). HaveBooks r.threads bs books) (sym did.books) at.books_are in
     let their_places = still_places r.threads books (act ∷ more.acts) more.acts (less_tries (act ∷ []) more.acts) at.books_have in
@@ -338,7 +716,8 @@ scavenger_turn {r} {more} {act} {desk0} {desk} {desk'} {passes0} {passes} {cache
     let spare : length (records_in out') + (owed_by r.threads f q (r.threads + r.keepers) + more.room) ≤ room_of out' = omega (arith, owed, did.stands.spare) in
     turn 0 (omega arith) seat at record {
       shows = acts_shown f (act ∷ []) p q did.reaches;
-      reaches = λ s rest. goes_both r.threads f indexes (act ∷ []) more.acts p q s did.reaches (asked.1, tt) (rest_one r.threads f act p q did.reaches (all_rest at) (rest_first r.threads f more.acts q s rest.0.0 rest.1))
+      reaches = λ s rest. goes_both r.threads f indexes (act ∷ []) more.acts p q s did.reaches (asked.1, tt)
+          (rest_one r.threads f act p q did.reaches (all_rest at) (rest_first r.threads f more.acts q s rest.0.0 rest.1))
           (subst (λ (ix : Indexes). GoesBy r.threads f ix more.acts q s) (sym asked.0) rest);
       moves = did.moves;
       sits = sits_for did.stands.sits (omega arith);

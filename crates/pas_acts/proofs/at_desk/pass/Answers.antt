@@ -1,18 +1,18 @@
 use Rattle.std.proofs.Common.{ap, arith}
 use Rattle.pas_profile.specs.declared.profile.Profile.{Profile}
-use Rattle.pas_acts.proofs.Keeping.{can_scavenge, pass_room, has_passed}
+use Rattle.pas_acts.proofs.AtDesk.{can_scavenge, pass_room, has_passed}
 use Rattle.pas_acts.proofs.at_desk.pass.Goals as goal
 
 pub pass-requires-clause-can : goal.pass-requires-clause-can
 pass-requires-clause-can g c = can_scavenge c.requires.stands.3
 
 pub pass-requires-clause-room : goal.pass-requires-clause-room
-pass-requires-clause-room g c = pass_room c.requires.stands.1 (g.D.Desk.spare_of c.args.desk.now) (λ v l stood. g.met.D.Desk.spares c.args.desk.now v l stood) c.requires.stands.3
+pass-requires-clause-room g c = search (arith, pass_room)
 
+-- the desk's room for records is that of the pass
 pub pass-requires-clause-records : goal.pass-requires-clause-records
 pass-requires-clause-records g c =
-    let at = c.requires.stands.3 in
-    omega (arith, at.spare, ap (λ (h : Profile). h.pages) at.sits.profile)
+    search arith
 
 pub returns-clause-passes : goal.returns-clause-passes
 returns-clause-passes g c = λ f later p at.

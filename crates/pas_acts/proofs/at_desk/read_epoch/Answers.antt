@@ -1,4 +1,4 @@
-use Rattle.pas_acts.proofs.Keeping.{has_read}
+use Rattle.pas_acts.proofs.AtDesk.{has_read}
 use Rattle.pas_acts.proofs.at_desk.read_epoch.Goals as goal
 
 pub look-requires-clause-can : goal.look-requires-clause-can

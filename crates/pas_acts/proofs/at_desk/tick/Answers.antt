@@ -1,5 +1,5 @@
 use Rattle.std.proofs.Common.{arith}
-use Rattle.pas_acts.proofs.Keeping.{can_scavenge, has_ticked}
+use Rattle.pas_acts.proofs.AtDesk.{can_scavenge, has_ticked}
 use Rattle.pas_acts.proofs.at_desk.tick.Goals as goal
 
 pub tick-requires-clause-can : goal.tick-requires-clause-can

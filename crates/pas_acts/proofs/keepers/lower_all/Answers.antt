@@ -1,4 +1,4 @@
-use Rattle.pas_acts.proofs.Keeping.{may_lower, has_lowered}
+use Rattle.pas_acts.proofs.AtDesk.{may_lower, has_lowered}
 use Rattle.pas_acts.proofs.keepers.lower_all.Goals as goal
 
 pub lower_all-requires : goal.lower_all-requires

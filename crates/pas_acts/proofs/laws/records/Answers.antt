@@ -1,4 +1,4 @@
-use Rattle.pas_acts.proofs.Arranging.{are_arranged}
+use Rattle.pas_acts.proofs.PlanFacts.{are_arranged}
 use Rattle.pas_acts.proofs.laws.records.Goals as goal
 
 pub returns : goal.returns

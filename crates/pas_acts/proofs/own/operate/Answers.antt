@@ -1,13 +1,13 @@
-use Rattle.std.proofs.Common.{◌∷◌, ◌++◌, ◌≢◌, Option, Some, refl, ap, sym, ◌∙◌, subst}
+use Rattle.std.proofs.Common.{arith, ◌∷◌, ◌++◌, ◌≢◌, Option, Some, refl, ap, sym, ◌∙◌, subst}
 use Rattle.pas_profile.specs.Profiles.{IsValid}
 use Rattle.pas_profile.specs.declared.{profile.Profile.Profile, name.Block.Block}
 use Rattle.pas_trace.specs.{Acts.Settles, Asked.request_of}
 use Rattle.pas_answers.specs.{Calls.MayStand, Calls.named_with, Names.MayPack}
-use Rattle.pas_answers.proofs.Kept.{may_pack, own_what, freed_task, named_task}
+use Rattle.pas_answers.proofs.SingleActs.{may_pack, own_what, freed_task, named_task}
 use Rattle.pas_acts.specs.{NameBooks.known_in, NameBooks.requests_in, Pairs.TriesTask, Pairs.for_guards}
 use Rattle.pas_acts.proofs.{AtDesk.stands_at, own.operate.Goals.in-Some, own.operate.Goals.in-None}
-use Rattle.pas_acts.proofs.Pairing.{may_try_task, may_next, given_stands, pair_given, pair_left}
-use Rattle.pas_acts.proofs.Working.{no_chore, may_operate, op_rests, its_fit, its_own, room_now, operated}
+use Rattle.pas_acts.proofs.Working.{may_try_task, may_next, given_stands, pair_given, pair_left, no_chore, may_operate, op_rests, its_fit, its_own, room_now}
+use Rattle.pas_acts.proofs.Working.{operated}
 use Rattle.pas_acts.proofs.own.operate.Goals as goal
 
 pub tried-requires : goal.tried-requires
@@ -26,10 +26,14 @@ operate-came-requires g c =
     let is = own_what op.what c.in-Own.task (sym c.work.ensures ∙ c.in-Own.is) in
     let apart : (g.D.Desk.standing c.args.desk.now).seat.actor ≢ st.1 = λ e. st.6.apart (sym st.6.thread.sits.actor ∙ e) in
     let may_try = may_try_task st.0 st.1 _ _ st.4 st.5 c.in-Own.task op (Settles op.actor ∷ st.2) (g.K.Tries.has c.args.desk.now c.args.keeper.now) is (its_fit op st.6.thread.names) st.6.waits in
-    let tries = subst (λ (o : Option Block). TriesTask st.0 st.1 c.in-Own.task o (g.D.Desk.standing c.args.desk.now) (g.D.Desk.standing c.tried.new.desk) (g.K.Tries.has c.args.desk.now c.args.keeper.now) (g.K.Tries.has c.tried.new.desk c.tried.new.keeper) (for_guards st.2 st.4) st.5) c.in-None.is
+    let tries = subst (λ (o : Option Block). TriesTask st.0 st.1 c.in-Own.task o (g.D.Desk.standing c.args.desk.now) (g.D.Desk.standing c.tried.new.desk)
+    (g.K.Tries.has c.args.desk.now c.args.keeper.now) (g.K.Tries.has c.tried.new.desk c.tried.new.keeper) (for_guards st.2 st.4) st.5) c.in-None.is
     (c.tried.ensures.tries st.0 st.1 (for_guards st.2 st.4) st.5 may_try (stands_at st.6.thread.sits) apart) in
     let may = may_operate op is st.6.thread (c.freed-meant.ensures ∙ freed_task (known_in c.args.book.now c.args.requests.now) c.in-Own.task) in
-    let led = may_next (for_guards st.2 st.4) c.in-Own.task _ _ (λ no. (ap (λ d. g.D.Desk.standing d) (c.tried.ensures.same no).0, (λ i. g.K.Tries.has ((c.tried.ensures.same no).0 i) ((c.tried.ensures.same no).1 i)))) st.6.apart tries may in
+    let led = may_next (for_guards st.2 st.4) c.in-Own.task _ _ (λ no. (
+      ap (λ d. g.D.Desk.standing d) (c.tried.ensures.same no).0,
+      (λ i. g.K.Tries.has ((c.tried.ensures.same no).0 i) ((c.tried.ensures.same no).1 i)),
+    )) st.6.apart tries may in
     record { stands = (st.0, op, _, led.0, is, led.1) }
 
 pub keep-requires-clause-room : goal.keep-requires-clause-room
@@ -67,9 +71,13 @@ returns-after-tried-clause-works g c = elim c.match-tried.branch [
       let may_try = may_try_task f k _ _ more p c.in-Own.task op (Settles op.actor ∷ next) (g.K.Tries.has c.args.desk.now c.args.keeper.now) is (its_fit op at.thread.names) at.waits in
       let tries = subst (λ (o : Option Block). TriesTask f k c.in-Own.task o (g.D.Desk.standing c.args.desk.now) (g.D.Desk.standing c.tried.new.desk) (g.K.Tries.has c.args.desk.now c.args.keeper.now) (g.K.Tries.has c.tried.new.desk c.tried.new.keeper) (for_guards next more) p) w.in-None.is (c.tried.ensures.tries f k (for_guards next more) p may_try (stands_at at.thread.sits) (λ e. at.apart (sym at.thread.sits.actor ∙ e))) in
       let may = may_operate op is at.thread (w.freed-meant.ensures ∙ freed_task (known_in c.args.book.now c.args.requests.now) c.in-Own.task) in
-      let led = may_next (for_guards next more) c.in-Own.task _ _ (λ no. (ap (λ d. g.D.Desk.standing d) (c.tried.ensures.same no).0, (λ i. g.K.Tries.has ((c.tried.ensures.same no).0 i) ((c.tried.ensures.same no).1 i)))) at.apart tries may in
+      let led = may_next (for_guards next more) c.in-Own.task _ _ (λ no. (
+        ap (λ d. g.D.Desk.standing d) (c.tried.ensures.same no).0,
+        (λ i. g.K.Tries.has ((c.tried.ensures.same no).0 i) ((c.tried.ensures.same no).1 i)),
+      )) at.apart tries may in
       let did = pair_left w.operate-came.result more c.in-Own.task op (Settles op.actor ∷ next) (g.K.Tries.has c.args.desk.now c.args.keeper.now) (g.K.Tries.has c.tried.new.desk c.tried.new.keeper) (g.K.Tries.has w.operate-came.new.desk c.tried.new.keeper) is (λ no. (ap (λ d. g.D.Desk.standing d) (c.tried.ensures.same no).0, (λ i. g.K.Tries.has ((c.tried.ensures.same no).0 i) ((c.tried.ensures.same no).1 i)))) at.apart at.waits tries may
-      (λ q here. (w.operate-came.ensures.operates f op _ q is here).0) (λ l m stood stands. g.met.K.Tries.still c.tried.new.keeper c.tried.new.desk w.operate-came.new.desk l m w.operate-came.ensures.home stood stands) in
+      (λ q here. (w.operate-came.ensures.operates f op _ q is here).0)
+      (λ l m stood stands. g.met.K.Tries.still c.tried.new.keeper c.tried.new.desk w.operate-came.new.desk l m w.operate-came.ensures.home stood stands) in
       operated op is at did (record {
         book = refl;
         requests = c.keep.ensures.kept ∙ ap (λ ns. requests_in c.args.requests.now ++ ns) (ap (λ o. named_with (request_of c.in-Own.task) o) w.came-is ∙ named_task c.in-Own.task w.operate-came.result);
@@ -78,4 +86,4 @@ returns-after-tried-clause-works g c = elim c.match-tried.branch [
 ]
 
 pub returns-in_default-clause-works : goal.returns-in_default-clause-works
-returns-in_default-clause-works g c = λ f k next later more p at. absurd (no_chore f _ at.thread.names.asked (its_fit c.args.op at.thread.names) (sym c.work.ensures ∙ c.in_default.is))
+returns-in_default-clause-works g c = search (arith, no_chore)

@@ -1,4 +1,4 @@
-use Rattle.std.proofs.Common.{◌∙◌, sym, refl, arith}
+use Rattle.std.proofs.Common.{◌∙◌, sym, arith}
 use Rattle.pas_trace.specs.declared.plan.{Op.Op, What.TheVariants.Alloc}
 use Rattle.pas_acts.proofs.Working.{begins, stands_before, goes_on, skips, ends}
 use Rattle.pas_acts.proofs.own.work.Goals as goal
@@ -8,7 +8,7 @@ abbrev past : Op
 past = record { line = 0; actor = 0; what = Alloc 0 0 0 0 }
 
 pub loop-op-init : goal.loop-op-init
-loop-op-init g c = record { far = λ f keeper later more p at. begins c.args.ops.now (g.K.Tries.has c.args.desk.now c.args.keeper.now) at; number = omega arith; home = refl; keeps_home = refl }
+loop-op-init g c = search (arith, begins)
 
 pub overflow_add-number : goal.overflow_add-number
 overflow_add-number g c =

@@ -1,7 +1,7 @@
-use Rattle.std.proofs.Common.{◌<◌, ◌==◌, ℕ, Bool, if◌then◌else◌, List, get_or, refl, ap, arith, drop_of_length-le, eq-eqb}
+use Rattle.std.proofs.Common.{◌<◌, Bool, if◌then◌else◌, get_or, refl, ap, arith, drop_of_length-le, eq-eqb}
 use Rattle.pas_trace.specs.Asked.{keeper_in}
 use Rattle.pas_trace.specs.declared.plan.{Op.Op, What.TheVariants.Alloc}
-use Rattle.pas_acts.specs.PlanKeepers.{one_guarded, guarded_of}
+use Rattle.pas_acts.specs.PlanKeepers.{one_guarded}
 use Rattle.pas_acts.proofs.Making.{all_at, guarded_next, count_more}
 use Rattle.pas_acts.proofs.plan_keepers.count_guarded.Goals as goal
 
@@ -19,14 +19,7 @@ add-requires-clause-few c =
     omega (arith, c.loop-op.invariant.counts op.actor, next, one, c.requires.few op.actor, c.guarded_in.ensures)
 
 pub loop-op-preserved : goal.loop-op-preserved
-loop-op-preserved c = record {
-  counts = λ k.
-      let op = get_or c.args.ops.now c.loop-op.op-index past in
-      let next = guarded_next k c.args.ops.now c.loop-op.op-index past c.loop-op-test.true in
-      let more = count_more op.actor k c.guarded_in.result (λ j. get_or c.loop-op.counts j 0) in
-      omega (arith, c.loop-op.invariant.counts k, next, c.add.ensures k, more, ap (λ (n : ℕ). if op.actor == k then n else 0) c.guarded_in.ensures);
-}
+loop-op-preserved c = search (arith, guarded_next, count_more)
 
 pub returns : goal.returns
-returns c = λ k.
-    omega (arith, c.loop-op.invariant.counts k, ap (λ (ops : List Op). guarded_of k ops) (drop_of_length-le c.args.ops.now c.loop-op-test.false))
+returns c = search (arith, drop_of_length-le)

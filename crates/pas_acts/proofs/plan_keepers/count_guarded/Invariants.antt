@@ -4,4 +4,5 @@ use Rattle.pas_acts.specs.PlanKeepers.{guarded_of}
 use Rattle.pas_acts.proofs.plan_keepers.count_guarded.Given as goal
 
 abbrev pub invariant-loop-op : goal.invariant-loop-op
-invariant-loop-op l = record { counts : (k : ℕ) → slice_index_or l.counts k 0 + guarded_of k (drop l.op-index l.ops) ≡ slice_index_or l.fn.counts k 0 + guarded_of k l.ops }
+invariant-loop-op l =
+    record { counts : (k : ℕ) → slice_index_or l.counts k 0 + guarded_of k (drop l.op-index l.ops) ≡ slice_index_or l.fn.counts k 0 + guarded_of k l.ops }

@@ -14,5 +14,6 @@ overflow_add-result c =
 pub returns-clause-valid : goal.returns-clause-valid
 returns-clause-valid c =
     let plan = c.args.plan.now in
-    let same : plan.profile.threads + c.keepers_of.result ≡ actors_by plan.guard plan.profile.threads = ap (λ (n : ℕ). plan.profile.threads + n) c.keepers_of.ensures ∙ plan_actors plan in
+    let same : plan.profile.threads + c.keepers_of.result ≡ actors_by plan.guard plan.profile.threads =
+    ap (λ (n : ℕ). plan.profile.threads + n) c.keepers_of.ensures ∙ plan_actors plan in
     subst (λ (n : ℕ). IsValid (record plan.profile { threads = n })) (sym same) (plan_valid c.requires.1)

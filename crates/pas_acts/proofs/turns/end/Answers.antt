@@ -1,8 +1,9 @@
-use Rattle.pas_acts.proofs.AtDesk.{may_stop, may_answer, has_ended}
+use Rattle.std.proofs.Common.{arith}
+use Rattle.pas_acts.proofs.AtDesk.{may_answer, has_ended}
 use Rattle.pas_acts.proofs.turns.end.Goals as goal
 
 pub answer_stop-requires : goal.answer_stop-requires
-answer_stop-requires g c = record { can = may_answer (g.D.Desk.spare_of c.args.desk.now) (λ v l stood. g.met.D.Desk.spares c.args.desk.now v l stood) (may_stop c.requires.rests.4) }
+answer_stop-requires g c = search (arith, may_answer)
 
 pub returns-clause-ends : goal.returns-clause-ends
 returns-clause-ends g c = λ f k later p at. (has_ended at c.answer_stop.ensures.answers).0

@@ -1,7 +1,7 @@
 use Rattle.std.proofs.Common.{◌≡◌, refl, ap, arith, length, drop}
 use Rattle.pas_cache.specs.Caches.{cached}
 use Rattle.pas_answers.specs.{Calls.what_of, Indexes.IsNamedFor, Indexes.request_made}
-use Rattle.pas_answers.proofs.Records.{can_rest, is_shown, shown_longer, records_fit, said_fits, answers_silent, answers_said}
+use Rattle.pas_answers.proofs.Tries.{can_rest, is_shown, shown_longer, records_fit, said_fits, answers_silent, answers_said}
 use Rattle.pas_answers.proofs.answering.answer_meant.Goals as goal
 
 pub push_events-requires-clause-within : goal.push_events-requires-clause-within
@@ -11,13 +11,15 @@ push_events-requires-clause-within g c = shown_longer c.perform-came.ensures.per
 
 pub push_events-requires-clause-room : goal.push_events-requires-clause-room
 push_events-requires-clause-room g c =
-    let fits = records_fit (what_of c.args.task) c.args.meant c.perform-came.result.0 (cached c.args.cache.now) (g.D.Desk.spare_of c.args.desk.now) c.args.out.now c.shown-before.result.now c.shown.result.now c.requires.can c.perform-came.ensures.performs.0
+    let fits = records_fit (what_of c.args.task) c.args.meant c.perform-came.result.0 (cached c.args.cache.now)
+    (g.D.Desk.spare_of c.args.desk.now) c.args.out.now c.shown-before.result.now c.shown.result.now c.requires.can c.perform-came.ensures.performs.0
     (is_shown (g.D.Desk.standing c.args.desk.now) c.shown-before.ensures refl (g.met.D.Desk.shows c.args.desk.now)) (is_shown (g.D.Desk.standing c.perform-came.new.desk) c.shown.ensures (ap g.D.Desk.forgotten c.perform-came.ensures.home) (g.met.D.Desk.shows c.perform-came.new.desk)) in
     omega (arith, fits)
 
 pub push-requires : goal.push-requires
 push-requires g c = said_fits (g.D.Desk.standing c.args.desk.now).seat.actor c.args.out.now c.push_events.new.out (drop (length c.shown-before.result.now) c.shown.result.now) c.in-Some.said c.in-Some.is
-    (records_fit (what_of c.args.task) c.args.meant c.perform-came.result.0 (cached c.args.cache.now) (g.D.Desk.spare_of c.args.desk.now) c.args.out.now c.shown-before.result.now c.shown.result.now c.requires.can c.perform-came.ensures.performs.0
+    (records_fit (what_of c.args.task) c.args.meant c.perform-came.result.0 (cached c.args.cache.now)
+    (g.D.Desk.spare_of c.args.desk.now) c.args.out.now c.shown-before.result.now c.shown.result.now c.requires.can c.perform-came.ensures.performs.0
     (is_shown (g.D.Desk.standing c.args.desk.now) c.shown-before.ensures refl (g.met.D.Desk.shows c.args.desk.now)) (is_shown (g.D.Desk.standing c.perform-came.new.desk) c.shown.ensures (ap g.D.Desk.forgotten c.perform-came.ensures.home) (g.met.D.Desk.shows c.perform-came.new.desk)))
     c.push_events.ensures.added c.push_events.ensures.room
 

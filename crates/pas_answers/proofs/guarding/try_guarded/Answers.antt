@@ -2,8 +2,8 @@ use Rattle.std.proofs.Common.{◌∙◌, ◌++◌, List, refl, ap, arith, length
 use Rattle.std.proofs.lemmas.List.{length-map}
 use Rattle.pas_report.specs.Rooms.{records_in}
 use Rattle.pas_report.specs.declared.record.Record.{Record}
-use Rattle.pas_answers.proofs.{Requests.asking, Records.is_shown}
-use Rattle.pas_answers.proofs.Tries.{fewer_up, can_sweep, can_raise, more_shown, told_fits, given_stands, said_some, said_none, tries}
+use Rattle.pas_answers.proofs.Requests.{asking}
+use Rattle.pas_answers.proofs.Tries.{is_shown, fewer_up, can_sweep, can_raise, more_shown, told_fits, given_stands, said_some, said_none, tries}
 use Rattle.pas_answers.proofs.guarding.try_guarded.Goals as goal
 
 pub raise-block-requires-clause-book : goal.raise-block-requires-clause-book
@@ -11,8 +11,8 @@ raise-block-requires-clause-book g c =
     omega (arith, fewer_up c.sweep.ensures.sweeps, c.requires.can.met.place, c.sweep.ensures.size)
 
 pub raise-block-requires-clause-can : goal.raise-block-requires-clause-can
-raise-block-requires-clause-can g c =
-    can_raise c.args.book.now c.args.size (g.D.Desk.spare_of c.args.desk.now) (g.D.Desk.spare_of c.sweep.new.desk) c.args.out.now c.requires.can c.sweep.ensures.sweeps _ (omega arith) c.requires.large
+raise-block-requires-clause-can g c = can_raise c.args.book.now c.args.size (g.D.Desk.spare_of c.args.desk.now)
+    (g.D.Desk.spare_of c.sweep.new.desk) c.args.out.now c.requires.can c.sweep.ensures.sweeps _ (omega arith) c.requires.large
     (g.met.D.Desk.spares c.args.desk.now) (g.met.D.Desk.spares c.sweep.new.desk)
 
 pub push_events-requires-clause-within : goal.push_events-requires-clause-within

@@ -1,4 +1,4 @@
-use Rattle.pas_answers.proofs.Keepers.{try_short, whole_short}
+use Rattle.pas_answers.proofs.Consequences.{try_short, whole_short}
 use Rattle.pas_answers.proofs.laws.guarded_requests_are_short.Goals as goal
 
 pub returns-clause-tried : goal.returns-clause-tried

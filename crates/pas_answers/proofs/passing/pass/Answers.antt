@@ -1,5 +1,5 @@
 use Rattle.pas_report.specs.Rooms.{records_in}
-use Rattle.pas_answers.proofs.TicksAndPasses.{pass_answered}
+use Rattle.pas_answers.proofs.SingleActs.{pass_answered}
 use Rattle.pas_answers.proofs.passing.pass.Goals as goal
 
 pub returns-clause-passes : goal.returns-clause-passes

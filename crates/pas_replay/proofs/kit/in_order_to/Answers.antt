@@ -9,7 +9,7 @@ use Rattle.pas_acts.proofs.PlanFacts.{plan_phases, plan_valid, plan_operate, pla
 use Rattle.pas_trace.proofs.Keepers.{keepers_few}
 use Rattle.pas_answers.specs.Names.{names_held}
 use Rattle.pas_replay.specs.Kits.{replay_of}
-use Rattle.pas_replay.proofs.StartAndEnd.{start, shows}
+use Rattle.pas_replay.proofs.InOrder.{start, shows}
 use Rattle.pas_replay.proofs.kit.in_order_to.Goals as goal
 
 pub replay-region-requires-clause-phases : goal.replay-region-requires-clause-phases
@@ -30,7 +30,7 @@ replay-region-requires-clause-so_far g c =
 pub close-requires : goal.close-requires
 close-requires g c =
     let phases = ap (λ (ps : List Phase). map ops_of ps) c.as_slice.ensures in
-    let so = c.replay-region.ensures.so_far.2 (replay_of c.args.plan.now (room_of c.args.out.now)) (start g.T.Takes.waits phases c.requires.plan.2 c.requires.kit c.requires.empty c.requires.room) in
+    let so = c.replay-region.ensures.so_far.2 _ (start g.T.Takes.waits phases c.requires.plan.2 c.requires.kit c.requires.empty c.requires.room) in
     let part = λ (pass : PlainPass). PassStands (profile_of c.replay-region.result) pass so.0.list in
     record { whole = so.0.list; stands = so.1.stands; parts = subst (λ (ps : List PlainPass). All part ps) (sym c.requires.kit.none_left) (All-nil part) }
 

@@ -1,6 +1,6 @@
 -- the passes that were placed and those that are left are all
 use Rattle.std.proofs.Common.{◌≤◌, ◌+◌, length, vec_capacity}
-use Rattle.pas_replay.proofs.StartAndEnd.{ArePlaced}
+use Rattle.pas_replay.proofs.InOrder.{ArePlaced}
 use Rattle.pas_replay.proofs.kit.places_for.Given as goal
 
 abbrev pub invariant-loop-pass : goal.invariant-loop-pass

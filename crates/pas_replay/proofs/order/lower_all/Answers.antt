@@ -1,5 +1,5 @@
 use Rattle.std.proofs.Common.{◌≡◌, ◌∙◌, ◌+◌, ◌-◌, set, ap, arith}
-use Rattle.pas_replay.proofs.{InOrder.next_keeper, InOrder.no_keeper, Turns.lowered_next}
+use Rattle.pas_replay.proofs.{InOrder.next_keeper, InOrder.no_keeper, Turning.lowered_next}
 use Rattle.pas_replay.proofs.order.lower_all.Goals as goal
 
 pub lower-requires-clause-thread : goal.lower-requires-clause-thread
@@ -10,28 +10,22 @@ lower-requires-clause-thread c =
 
 pub lower-requires-clause-so_far : goal.lower-requires-clause-so_far
 lower-requires-clause-so_far c =
-    let test = c.loop-index-test.true in
     let so0 = c.requires.so_far in
-    let kept = so0.3.1.1.kept in
-    let many = so0.3.1.1.many in
-    (so0.0, (so0.1, _, next_keeper c.loop-index.index so0.2 _ (omega (arith, many)) (omega (arith, test, kept)) (c.loop-index.invariant.far so0.0 so0.1 so0.2 so0.3)))
+    (so0.0, (so0.1, _, next_keeper c.loop-index.index so0.2 _ (omega (arith, so0.3.1.1.many)) (omega (arith, c.loop-index-test.true, so0.3.1.1.kept)) (c.loop-index.invariant.far so0.0 so0.1 so0.2 so0.3)))
 
 pub loop-index-preserved : goal.loop-index-preserved
 loop-index-preserved c =
-    let test = c.loop-index-test.true in
     let i = c.loop-index.index in
     let now = c.loop-index.actors.books.items in
     let ended = c.lower.ensures.book in
     let so0 = c.requires.so_far in
-    let was = so0.3.1.1.kept in
     let far = (c.loop-index.invariant.far so0.0 so0.1 so0.2 so0.3).1.1.kept in
     record {
       far = λ table r more so.
-          let kept = so.1.1.kept in
-          let many = so.1.1.many in
-          c.lower.ensures.so_far table r _ (next_keeper i more _ (omega (arith, many)) (omega (arith, test, kept)) (c.loop-index.invariant.far table r more so));
+          c.lower.ensures.so_far table r _ (next_keeper i more _ (omega (arith, so.1.1.many)) (omega (arith, c.loop-index-test.true, so.1.1.kept)) (c.loop-index.invariant.far table r more so));
       caches = c.lower.ensures.caches ∙ c.loop-index.invariant.caches;
-      lowered = lowered_next now c.lower.new.actors.books.items i ended.0 (ended.1 ∙ ap (λ j. set now j ended.0) (let at : i + 1 - 1 ≡ i = omega arith in at)) (omega (arith, test, was, far)) c.loop-index.invariant.lowered ended.2;
+      lowered = lowered_next now c.lower.new.actors.books.items i ended.0 (ended.1 ∙ ap (λ j. set now j ended.0) (let at : i + 1 - 1 ≡ i = omega arith in at))
+          (omega (arith, c.loop-index-test.true, so0.3.1.1.kept, far)) c.loop-index.invariant.lowered ended.2;
     }
 
 pub returns-clause-so_far : goal.returns-clause-so_far

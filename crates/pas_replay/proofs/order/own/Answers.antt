@@ -1,4 +1,4 @@
-use Rattle.std.proofs.Common.{◌∙◌, ap}
+use Rattle.std.proofs.Common.{arith, ◌∙◌, ap}
 use Rattle.pas_trace.specs.Asked.{keeper_of}
 use Rattle.pas_answers.specs.Calls.{what_of}
 use Rattle.pas_replay.proofs.{InOrder.as_first, ByActors.kept_as}
@@ -6,14 +6,11 @@ use Rattle.pas_replay.proofs.order.own.Goals as goal
 
 pub guard-requires-clause-so_far : goal.guard-requires-clause-so_far
 guard-requires-clause-so_far g c =
-    let so0 = c.requires.so_far in
-    let is = c.in-Some.ensures in
-    (so0.0, so0.1, so0.2 ∙ ap what_of is, (so0.3.0, so0.3.1, as_first so0.3.1 (kept_as so0.0 (ap keeper_of is)) so0.3.2))
+    search (arith, kept_as)
 
 pub operate-requires-clause-so_far : goal.operate-requires-clause-so_far
 operate-requires-clause-so_far g c =
-    let so0 = c.requires.so_far in
-    (so0.0, so0.1, so0.2, (so0.3.0, so0.3.1, as_first so0.3.1 (kept_as so0.0 c.in-None.ensures) so0.3.2))
+    search (arith, kept_as)
 
 pub returns-in-Some-clause-so_far : goal.returns-in-Some-clause-so_far
 returns-in-Some-clause-so_far g c op mine asks r more so =

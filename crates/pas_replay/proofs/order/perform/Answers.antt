@@ -1,8 +1,7 @@
-use Rattle.std.proofs.Common.{◌∙◌, ◌≤◌, ℕ, refl, ap, sym, subst}
-use Rattle.pas_trace.specs.Asked.{keeper_of}
+use Rattle.std.proofs.Common.{arith, ◌∙◌, ℕ, refl, ap, sym}
 use Rattle.pas_trace.specs.declared.plan.Chore.{Chore}
 use Rattle.pas_acts.specs.Awake.{idle_in}
-use Rattle.pas_answers.proofs.Kept.{own_what}
+use Rattle.pas_answers.proofs.SingleActs.{own_what}
 use Rattle.pas_replay.proofs.{InOrder.as_first, ByActors.acts_as_own, ByActors.acts_as_chore, ByActors.own_actor}
 use Rattle.pas_replay.proofs.order.perform.Goals as goal
 
@@ -25,11 +24,7 @@ stop_idle-requires-clause-so_far g c =
 
 pub own-requires : goal.own-requires
 own-requires g c =
-    let so0 = c.requires.so_far in
-    let so = as_first so0.1 (acts_as_own (idle_in c.args.awake so0.0.threads) c.args.op c.work.ensures c.in-Own.is) so0.2 in
-    let asks = own_what c.args.op.what c.in-Own.task (sym c.work.ensures ∙ c.in-Own.is) in
-    let of = own_actor (keeper_of c.in-Own.task) c.args.op so0.1 so.1 in
-    record { some = of.0; thread = subst (λ (n : ℕ). c.args.op.actor ≤ n) (sym so.1.1.many) of.1; so_far = (c.args.op, refl, asks, (so0.0, so0.1, so)) }
+    search (arith, acts_as_own, own_what, own_actor)
 
 pub returns-in-Own-clause-so_far : goal.returns-in-Own-clause-so_far
 returns-in-Own-clause-so_far g c r more so =
@@ -39,13 +34,13 @@ returns-in-Own-clause-so_far g c r more so =
 pub returns-in-Chore-Tick-clause-so_far : goal.returns-in-Chore-Tick-clause-so_far
 returns-in-Chore-Tick-clause-so_far g c r more so =
     let is = c.in-Chore-Tick.field-0-is ∙ ap (λ (n : ℕ). Chore.Tick n) (sym c.in-Chore-Tick.epoch-is) in
-    c.tick.ensures.so_far c.args.names.now r more (as_first more (acts_as_chore (idle_in c.args.awake r.threads) c.args.op c.work.ensures c.in-Chore-Tick.is is) so)
+    c.tick.ensures.so_far _ r more (as_first more (acts_as_chore (idle_in c.args.awake r.threads) c.args.op c.work.ensures c.in-Chore-Tick.is is) so)
 
 pub returns-in-Chore-Pass-clause-so_far : goal.returns-in-Chore-Pass-clause-so_far
-returns-in-Chore-Pass-clause-so_far g c r more so =
-    c.pass.ensures.so_far c.args.names.now r more (as_first more (acts_as_chore (idle_in c.args.awake r.threads) c.args.op c.work.ensures c.in-Chore-Pass.is c.in-Chore-Pass.field-0-is) so)
+returns-in-Chore-Pass-clause-so_far g c r more so = c.pass.ensures.so_far c.args.names.now r more
+    (as_first more (acts_as_chore (idle_in c.args.awake r.threads) c.args.op c.work.ensures c.in-Chore-Pass.is c.in-Chore-Pass.field-0-is) so)
 
 pub returns-in-Chore-Idle-clause-so_far : goal.returns-in-Chore-Idle-clause-so_far
 returns-in-Chore-Idle-clause-so_far g c r more so =
     let is = c.in-Chore-Idle.field-0-is ∙ ap (λ (n : ℕ). Chore.Idle n) (sym c.in-Chore-Idle.epochs-is) in
-    c.stop_idle.ensures.so_far c.args.names.now r more (as_first more (acts_as_chore (idle_in c.args.awake r.threads) c.args.op c.work.ensures c.in-Chore-Idle.is is) so)
+    c.stop_idle.ensures.so_far _ r more (as_first more (acts_as_chore (idle_in c.args.awake r.threads) c.args.op c.work.ensures c.in-Chore-Idle.is is) so)

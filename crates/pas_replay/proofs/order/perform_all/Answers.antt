@@ -42,7 +42,7 @@ loop-op-preserved g c =
       took = g.met.T.Takes.both _ _ _ at.told taken.0 at.took taken.2;
       far = λ r more btw.
           let before = at.far r more btw in
-          let so = c.perform_by_kind.ensures.so_far (telling r at.told) _ (op_next g.T.Takes.waits (telling r at.told) s c.args.awake c.args.ops.now more c.loop-op.op-index c.loop-op-test.true before) in
+          let so = c.perform_by_kind.ensures.so_far _ _ (op_next g.T.Takes.waits _ s c.args.awake _ more c.loop-op.op-index c.loop-op-test.true before) in
           taken_on g.T.Takes.waits r _ after c.loop-op.out at.told taken.0 c.take.new.out taken.1 c.take.ensures.size c.take.ensures.few before.1 so;
       threads = c.perform_by_kind.ensures.threads ∙ at.threads;
     }

@@ -65,5 +65,5 @@ loop-index-preserved c = elim c.if-not-get.branch [
 pub returns-clause-so_far : goal.returns-clause-so_far
 returns-clause-so_far c table r more so =
     let past : r.threads ≤ c.loop-index.index = omega (arith, c.loop-index-test.false, c.len-threads.ensures, so.1.1.many) in
-    let last = as_read (none_next r (stop c.args.epochs) (idle c.args.awake) c.loop-index.index r.threads more past) (c.loop-index.invariant.far table r more so) in
+    let last = as_read (none_next r _ (idle c.args.awake) c.loop-index.index r.threads more past) (c.loop-index.invariant.far table r more so) in
     (last.0, (last.1, last.2))

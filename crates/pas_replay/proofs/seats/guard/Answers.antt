@@ -1,17 +1,15 @@
-use Rattle.std.proofs.Common.{◌∙◌, ◌++◌, [], ◌∷◌, ℕ, Option, Some, ap, sym, subst}
+use Rattle.std.proofs.Common.{arith, ◌∙◌, ◌++◌, [], ◌∷◌, ℕ, Option, Some, ap, sym, subst}
 use Rattle.pas_trace.specs.{Acts.Settles, Asked.request_of, Asked.request_in}
-use Rattle.pas_trace.specs.declared.{item.Request.Request, plan.What.What}
-use Rattle.pas_answers.specs.{Calls.Tells, Calls.what_of, Calls.named_with, Fit.IsFitWhat, Names.names_held, Names.MayPack}
+use Rattle.pas_trace.specs.declared.item.Request.{Request}
+use Rattle.pas_answers.specs.{Calls.Tells, Calls.what_of, Calls.named_with, Names.MayPack}
 use Rattle.pas_replay.specs.Sessions.{HasNamed}
 use Rattle.pas_replay.proofs.InOrder.{as_first}
 use Rattle.pas_replay.proofs.seats.guard.Goals as goal
 
+-- the operation fits by the names that the acts have
 pub keep-requires-clause-fit : goal.keep-requires-clause-fit
 keep-requires-clause-fit g c =
-    let so0 = c.requires.so_far in
-    let f = so0.3.0.profile in
-    let names = so0.3.2.1.1.names in
-    (f, names.asked, subst (λ (w : What). IsFitWhat f (names_held c.args.names.now) names.asked w) (so0.2 ∙ ap what_of (sym c.task.ensures)) names.fit.3)
+    search arith
 
 pub keep-requires-clause-packs : goal.keep-requires-clause-packs
 keep-requires-clause-packs g c = subst MayPack c.in-Some.is c.try_by.ensures.packs
@@ -19,17 +17,17 @@ keep-requires-clause-packs g c = subst MayPack c.in-Some.is c.try_by.ensures.pac
 pub operate-requires-clause-so_far : goal.operate-requires-clause-so_far
 operate-requires-clause-so_far g c =
     let so0 = c.requires.so_far in
-    (so0.0, so0.1, so0.2 ∙ ap what_of (sym c.task-in-None.ensures), (so0.3.0, so0.3.1, c.in-None.ensures.tried so0.0 c.args.names.now so0.1 so0.2 so0.3.0 so0.3.1 so0.3.2))
+    (so0.0, so0.1, so0.2 ∙ ap what_of (sym c.task-in-None.ensures), (so0.3.0, so0.3.1, c.in-None.ensures.tried so0.0 _ so0.1 so0.2 so0.3.0 so0.3.1 so0.3.2))
 
 pub returns-in-Some-clause-so_far : goal.returns-in-Some-clause-so_far
 returns-in-Some-clause-so_far g c op mine is r more so =
     let asks = ap request_of c.task.ensures ∙ sym (ap request_in is) in
     let named : HasNamed op (Some c.in-Some.block) c.args.names.now c.keep.new.names = record {
       held = c.keep.ensures.held;
-      tells = λ known tells. subst (λ (o : Option Request). Tells c.keep.new.names (named_with o (Some c.in-Some.block) ++ known)) asks (c.keep.ensures.tells known tells);
+      tells = λ known tells. subst (λ o. Tells c.keep.new.names (named_with o (Some c.in-Some.block) ++ known)) asks (c.keep.ensures.tells known tells);
       stand = c.keep.ensures.stand;
     } in
-    c.settle.ensures.so_far c.try_by.new.desk c.keep.new.names c.try_by.new.out r more (as_first more (ap (λ (k : ℕ). Settles k ∷ []) mine) (c.in-Some.ensures.tried op c.args.names.now mine is r more c.keep.new.names named so))
+    c.settle.ensures.so_far _ _ _ r more (as_first more (ap (λ (k : ℕ). Settles k ∷ []) mine) (c.in-Some.ensures.tried op _ mine is r more _ named so))
 
 pub returns-in-None-clause-so_far : goal.returns-in-None-clause-so_far
 returns-in-None-clause-so_far g c op mine is r more so =

@@ -2,18 +2,17 @@ use Rattle.std.proofs.Common.{◌-◌, ◌++◌, ◌∙◌, subst, arith, length
 use Rattle.pas_trace.specs.declared.plan.What.{What}
 use Rattle.pas_profile.specs.declared.profile.Profile.{Profile}
 use Rattle.pas_answers.specs.{Calls.Tells, Calls.MayStand, Fit.IsFitWhat, Names.block_named, Names.names_held}
-use Rattle.pas_answers.proofs.Kept.{freed_task, named_task, may_pack}
+use Rattle.pas_answers.proofs.SingleActs.{freed_task, named_task, may_pack}
 use Rattle.pas_replay.proofs.{Turning.may_take_seat, ByActors.may_operate, ByActors.operate_turn, ByActors.written_back}
 use Rattle.pas_replay.proofs.seats.operate.Goals as goal
 
 pub take_seat-requires : goal.take_seat-requires
-take_seat-requires g c = let so = c.requires.so_far.3.2 in may_take_seat c.args.desk.now c.args.actors.now c.args.actor (omega (arith, c.requires.thread)) so.0 so.1.1
+take_seat-requires g c = may_take_seat c.args.desk.now c.args.actors.now c.args.actor (omega (arith, c.requires.thread)) c.requires.so_far.3.2
 
 pub operate_by-came-requires : goal.operate_by-came-requires
 operate_by-came-requires g c =
-    let so0 = c.requires.so_far in
-    let so = so0.3.2.1 in
-    record { stands = (so0.3.0.profile, so0.0, _, so.0, so0.2, may_operate c.args.actor c.index_mut-cache.result.now so0.3.1 so0.1 so0.2 c.requires.some c.requires.thread c.take_seat.ensures c.index_mut-cache.ensures.value (c.freed-meant.ensures ∙ freed_task (block_named c.args.names.now) c.args.task) so.1) }
+    let so = c.requires.so_far in
+    record { stands = (so.3.0.profile, so.0, _, so.3.2.1.0, so.2, may_operate c.args.actor c.index_mut-cache.result.now so.3.1 so.1 so.2 c.requires.some c.requires.thread c.take_seat.ensures c.index_mut-cache.ensures.value (c.freed-meant.ensures ∙ freed_task (block_named c.args.names.now) c.args.task) so.3.2.1.1) }
 
 pub keep-requires-clause-fit : goal.keep-requires-clause-fit
 keep-requires-clause-fit g c =

@@ -1,10 +1,10 @@
 use Rattle.std.proofs.Common.{◌∙◌, refl, ap, sym, arith}
 use Rattle.pas_profile.specs.declared.profile.Profile.{Profile}
-use Rattle.pas_replay.proofs.Turning.{may_take_seat, sat_down, scavenger_now, scavenger_turn}
+use Rattle.pas_replay.proofs.Turning.{may_take_seat, sat_down, scavenger_now, scavenger_turn, somewhere}
 use Rattle.pas_replay.proofs.seats.pass.Goals as goal
 
 pub take_seat-requires : goal.take_seat-requires
-take_seat-requires c = let so = c.requires.so_far.1.2 in may_take_seat c.args.desk.now c.args.actors.now 0 (omega arith) so.0 so.1.1
+take_seat-requires c = may_take_seat c.args.desk.now c.args.actors.now 0 (omega arith) c.requires.so_far.1.2
 
 pub pass-requires-clause-stands : goal.pass-requires-clause-stands
 pass-requires-clause-stands c =
@@ -17,5 +17,4 @@ pass-requires-clause-places c = let at = sat_down c.take_seat.ensures c.requires
 pub returns-clause-so_far : goal.returns-clause-so_far
 returns-clause-so_far c table r more (taken, (p, at)) =
     let did = c.pass.ensures.passes r.profile _ p (scavenger_now more c.take_seat.ensures at) in
-    let so = scavenger_turn c.take_seat.ensures (λ limit asked fit. fit) (λ indexes p q is. (refl, tt)) at did c.pass.ensures.places in
-    (so.0, (did.reached, so.1))
+    somewhere (scavenger_turn c.take_seat.ensures (λ limit asked fit. fit) (λ indexes p q is. (refl, tt)) at did c.pass.ensures.places)

@@ -3,7 +3,7 @@ use Rattle.pas_replay.proofs.Turning.{may_take_seat, scavenger_now, scavenger_tu
 use Rattle.pas_replay.proofs.seats.read_epoch.Goals as goal
 
 pub take_seat-requires : goal.take_seat-requires
-take_seat-requires c = let so = c.requires.so_far.2.2 in may_take_seat c.args.desk.now c.args.actors.now 0 (omega arith) so.0 so.1.1
+take_seat-requires c = may_take_seat c.args.desk.now c.args.actors.now 0 (omega arith) c.requires.so_far.2.2
 
 pub read_epoch-requires : goal.read_epoch-requires
 read_epoch-requires c =

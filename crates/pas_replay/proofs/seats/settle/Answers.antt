@@ -2,7 +2,7 @@ use Rattle.std.proofs.Common.{◌-◌, set, sym, subst, length-set}
 use Rattle.pas_cache.specs.Caches.{cached}
 use Rattle.pas_large.specs.Doors.{Indexes}
 use Rattle.pas_replay.specs.Sessions.{IsAt, hand_at}
-use Rattle.pas_replay.proofs.{ByActors.noted_back, Keepers.settle_turn}
+use Rattle.pas_replay.proofs.ByActors.{noted_back, settle_turn}
 use Rattle.pas_answers.specs.Answers.{after_settling}
 use Rattle.pas_replay.proofs.seats.settle.Goals as goal
 
@@ -12,6 +12,6 @@ returns-clause-threads c = length-set c.args.actors.now.caches.items (c.args.act
 pub returns-clause-so_far : goal.returns-clause-so_far
 returns-clause-so_far c desk table out r more (taken, (p, at)) =
     let q = after_settling p c.args.actor in
-    let done = settle_turn c.args.actor c.index_mut-cache.result.now c.settle_by.new.cache c.requires.some c.requires.thread c.index_mut-cache.ensures.value c.settle_by.ensures.cache at in
-    let back = noted_back c.args.actors.now.indexes.items c.args.actors.now.indexes.len (cached c.index_mut-cache.result.now).noted c.deref_mut.ensures.value c.deref_mut.ensures.len c.settle_by.ensures.indexes in
+    let done = settle_turn c.args.actor _ _ c.requires.some c.requires.thread c.index_mut-cache.ensures.value c.settle_by.ensures.cache at in
+    let back = noted_back _ c.args.actors.now.indexes.len (cached c.index_mut-cache.result.now).noted c.deref_mut.ensures.value c.deref_mut.ensures.len c.settle_by.ensures.indexes in
     (taken, (q, subst (λ (ix : Indexes). IsAt r more (record (hand_at desk c.args.actors.now table out) { caches = set c.args.actors.now.caches.items (c.args.actor - 1) c.settle_by.new.cache; indexes = ix }) q) (sym back) done))

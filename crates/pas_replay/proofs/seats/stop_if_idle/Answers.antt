@@ -1,32 +1,34 @@
 use Rattle.std.proofs.Common.{◌∙◌, refl, sym, arith, append-nil}
-use Rattle.pas_report.specs.Rooms.{records_in}
 use Rattle.pas_replay.proofs.{Turning.may_take_seat, ByActors.rests_now, ByActors.act_turn}
 use Rattle.pas_replay.proofs.seats.stop_if_idle.Goals as goal
 
 pub take_seat-requires : goal.take_seat-requires
-take_seat-requires c = let so = c.requires.so_far.1.2 in may_take_seat c.args.desk.now c.args.actors.now c.args.actor (omega (arith, c.requires.thread)) so.0 so.2
+take_seat-requires c = let so = c.requires.so_far.1.2 in may_take_seat c.args.desk.now c.args.actors.now c.args.actor (omega (arith, c.requires.thread)) (so.0, (_, so.2))
 
 pub stop_if_idle-requires : goal.stop_if_idle-requires
 stop_if_idle-requires c =
-    let so0 = c.requires.so_far.1 in
-    let so = so0.2 in
-    record { stands = (so0.0.profile, c.args.actor, _, so.1, rests_now c.args.actor 1 c.index_mut-cache.result.now so0.1 c.requires.some c.requires.thread refl refl c.take_seat.ensures c.index_mut-cache.ensures.value so.2) }
+    let so = c.requires.so_far.1.2 in
+    record { stands = (_, _, _, so.1, rests_now _ c.requires.some c.requires.thread refl refl c.take_seat.ensures c.index_mut-cache.ensures.value so.2) }
 
 pub push-requires : goal.push-requires
 push-requires c =
-    let so0 = c.requires.so_far.1 in
-    let so = so0.2 in
-    let did = c.if-stop_if_idle.ensures.stops so0.0.profile c.args.actor _ so.1 (rests_now c.args.actor 1 c.index_mut-cache.result.now so0.1 c.requires.some c.requires.thread refl refl c.take_seat.ensures c.index_mut-cache.ensures.value so.2) so.3 in
+    let so = c.requires.so_far.1.2 in
+    let did = c.if-stop_if_idle.ensures.stops _ _ _ so.1 (rests_now _ c.requires.some c.requires.thread refl refl
+    c.take_seat.ensures c.index_mut-cache.ensures.value so.2) so.3 in
     omega (arith, did.stands.spare)
 
 pub returns-then-stop_if_idle-clause-so_far : goal.returns-then-stop_if_idle-clause-so_far
 returns-then-stop_if_idle-clause-so_far c table r more (taken, p, at, read) =
-    let did = c.if-stop_if_idle.ensures.stops r.profile c.args.actor _ p (rests_now c.args.actor 1 c.index_mut-cache.result.now more c.requires.some c.requires.thread refl refl c.take_seat.ensures c.index_mut-cache.ensures.value at) read in
-    let so = act_turn c.args.actor c.index_mut-cache.result.now c.stop_if_idle.new.cache c.requires.some c.requires.thread (λ limit asked fit. fit) (λ indexes p q is. (refl, tt)) c.take_seat.ensures c.index_mut-cache.ensures.value at did (omega arith) c.push.ensures.added c.push.ensures.size in
+    let did = c.if-stop_if_idle.ensures.stops _ _ _ p (rests_now _ c.requires.some c.requires.thread refl refl
+    c.take_seat.ensures c.index_mut-cache.ensures.value at) read in
+    let so = act_turn _ c.requires.some c.requires.thread (λ limit asked fit. fit) (λ indexes p q is. (refl, tt)) c.take_seat.ensures
+    c.index_mut-cache.ensures.value at did (omega arith) c.push.ensures.added c.push.ensures.size in
     (so.0, did.reached, so.1, did.epoch ∙ read)
 
 pub returns-else-stop_if_idle-clause-so_far : goal.returns-else-stop_if_idle-clause-so_far
 returns-else-stop_if_idle-clause-so_far c table r more (taken, p, at, read) =
-    let did = c.if-stop_if_idle.ensures.stops r.profile c.args.actor _ p (rests_now c.args.actor 1 c.index_mut-cache.result.now more c.requires.some c.requires.thread refl refl c.take_seat.ensures c.index_mut-cache.ensures.value at) read in
-    let so = act_turn c.args.actor c.index_mut-cache.result.now c.stop_if_idle.new.cache c.requires.some c.requires.thread (λ limit asked fit. fit) (λ indexes p q is. (refl, tt)) c.take_seat.ensures c.index_mut-cache.ensures.value at did (omega arith) (sym (append-nil (records_in c.stop_if_idle.new.out))) refl in
+    let did = c.if-stop_if_idle.ensures.stops _ _ _ p (rests_now _ c.requires.some c.requires.thread refl refl
+    c.take_seat.ensures c.index_mut-cache.ensures.value at) read in
+    let so = act_turn _ c.requires.some c.requires.thread (λ limit asked fit. fit) (λ indexes p q is. (refl, tt)) c.take_seat.ensures
+    c.index_mut-cache.ensures.value at did (omega arith) (sym (append-nil _)) refl in
     (so.0, did.reached, so.1, did.epoch ∙ read)

@@ -2,8 +2,7 @@ use Rattle.std.proofs.Common.{ℕ, ◌<◌, get_or, length, refl, ap, sym, ◌�
 use Rattle.pas_trace.specs.declared.plan.{Op.Op, What.TheVariants.Alloc}
 use Rattle.pas_answers.specs.Names.{names_held}
 use Rattle.pas_answers.specs.declared.names.Names.{Names}
-use Rattle.pas_acts.specs.NameBooks.{names_asked, ArePlaced}
-use Rattle.pas_trace.specs.Acts.{own_acts}
+use Rattle.pas_acts.specs.NameBooks.{ArePlaced}
 use Rattle.pas_acts.proofs.Noting.{asks_same, asks_below, below_at, placed_next, counted, count_small}
 use Rattle.pas_acts.proofs.names.NameBook.note.Goals as goal
 use Rattle.pas_acts.proofs.names.NameBook.note.Goals.{in-Some, in-None}
@@ -16,12 +15,12 @@ loop-op-init c = record { names = refl; placed = λ k. tt; counts = c.new-counts
 
 pub add-place-requires : goal.add-place-requires
 add-place-requires c =
-    let small = count_small (get_or c.args.ops.now c.loop-op.op-index past).actor c.args.ops.now c.loop-op.op-index c.loop-op-test.true in
-    omega (arith, c.loop-op.invariant.counts (get_or c.args.ops.now c.loop-op.op-index past).actor, small, c.loop-op-test.true, c.requires.few)
+    search (arith, count_small)
 
 pub set_place-requires : goal.set_place-requires
 set_place-requires c =
-    let below = asks_below (names_held c.args.self.now.names) (get_or c.args.ops.now c.loop-op.op-index past).what c.in-Some.name (below_at (names_held c.args.self.now.names) c.args.ops.now c.loop-op.op-index past c.requires.below c.loop-op-test.true) c.in-Some.ensures in
+    let below = asks_below (names_held c.args.self.now.names) (get_or c.args.ops.now c.loop-op.op-index past).what c.in-Some.name
+    (below_at (names_held c.args.self.now.names) c.args.ops.now c.loop-op.op-index past c.requires.below c.loop-op-test.true) c.in-Some.ensures in
     subst (λ (names : Names). c.in-Some.name < names_held names) (sym c.loop-op.invariant.names) below
 
 pub loop-op-preserved : goal.loop-op-preserved
@@ -44,4 +43,4 @@ loop-op-preserved c = elim c.match-asked_name.branch [
 ]
 
 pub returns-clause-placed : goal.returns-clause-placed
-returns-clause-placed c = λ k. subst (λ (ops : List Op). ArePlaced c.loop-op.self 0 (names_asked (own_acts k ops))) (take_all c.loop-op.op-index c.args.ops.now c.loop-op-test.false) (c.loop-op.invariant.placed k)
+returns-clause-placed c = search (arith, take_all)

@@ -3,9 +3,8 @@ use Rattle.std.proofs.lemmas.{List.length-map, Option.same_Some}
 use Rattle.pas_profile.specs.declared.profile.Profile.{Profile}
 use Rattle.pas_plain.specs.Plain.{PassStands}
 use Rattle.pas_plain.specs.declared.pass.PlainPass.{PlainPass}
-use Rattle.pas_utility.specs.Pools.{room_of}
 use Rattle.pas_answers.specs.{Fit.AllBelow, Replays.phases_of}
-use Rattle.pas_replay.proofs.StartAndEnd.{passes_count, fresh_actor}
+use Rattle.pas_replay.proofs.InOrder.{passes_count, fresh_actor}
 use Rattle.pas_acts.proofs.PlanFacts.{plan_bounds, plan_below, plan_threads}
 use Rattle.pas_replay.proofs.kit.PlainKit.try_new.Goals as goal
 
@@ -24,13 +23,10 @@ caches_for-requires-clause-few c =
 
 pub caches_for-requires-clause-threads : goal.caches_for-requires-clause-threads
 caches_for-requires-clause-threads c =
-    let same = ap (λ (f : Profile). f.threads) c.region_of-profile.ensures.region in
-    omega (arith, same, plan_threads c.args.plan.now, c.in_ok-utility.ensures.threads, c.rooms_of.ensures.threads)
+    search (arith, plan_threads)
 
 pub caches_for-requires-clause-left : goal.caches_for-requires-clause-left
-caches_for-requires-clause-left c = λ k low high.
-    let same = ap (λ (f : Profile). f.threads) c.region_of-profile.ensures.region in
-    c.rooms_of.ensures.seats k ∙ c.in_ok-utility.ensures.seats k low (omega (arith, high, same, plan_threads c.args.plan.now))
+caches_for-requires-clause-left c = search (arith, plan_threads)
 
 pub returns : goal.returns
 returns c =
@@ -46,7 +42,7 @@ returns c =
       profile = c.in_ok-region.ensures.profile ∙ region;
       opening = c.in_ok-region.ensures.opening;
       actors = omega (arith, rooms.many, long, placed, threads);
-      fresh = λ k less. fresh_actor plan (room_of c.in_ok-utility.utility) (profile.threads + 1) c.in_ok-rooms.rooms.items c.in_ok-region.passes.items c.in_ok-places.places.items rooms
+      fresh = λ k less. fresh_actor plan _ (profile.threads + 1) c.in_ok-rooms.rooms.items c.in_ok-region.passes.items c.in_ok-places.places.items rooms
           (λ j lt. c.in_ok-utility.ensures.rooms j (omega (arith, lt)) ∙ ap (λ bs. Some (slice_index bs j)) c.as_slice.ensures)
           c.in_ok-region.ensures.passes stand c.in_ok-places.ensures.places k (omega (arith, less, threads));
       unused = c.in_ok-caches.ensures.caches;
