@@ -1,28 +1,37 @@
--- Actors on a bench: they sit down with their passes, stand still while another one acts, and leave; a keeper stands beside its thread.
+-- Actors on a bench: they sit down with their passes, stand still while another one acts, and leave; and a thread with its keeper on the bench of both.
 use Rattle.std.proofs.Common.{arith, ◌≡◌, ◌≢◌, ◌==◌, ℕ, Bool, true, false, if◌then◌else◌, inl, inr, List, [], ◌∷◌, ◌++◌, refl, ap, sym, ◌∙◌, subst, append-nil}
-use Rattle.std.proofs.Common.{eq-eqb, ne_eqb, true≢false, ◌+◌, ◌≤◌, Option, Some}
-use Rattle.pas_steps.specs.{Calls.Calls, Lists.Whole, Lists.part, Views.View, Noted.AreNotesOf, Noted.room_of_notes, Desks.Standing, Desks.triple}
-use Rattle.pas_steps.specs.{Desks.triples}
+use Rattle.std.proofs.Common.{eq-eqb, ne_eqb, true≢false, ◌+◌, Option, Some, None, eqb-true, ⊎_elim, ◌⊎◌}
+use Rattle.pas_steps.specs.{Calls.Calls, Lists.Whole, Lists.part, Views.View, Noted.room_of_notes, Desks.Standing, Desks.triple, Desks.triples}
 use Rattle.pas_steps.specs.declared.step.Made.{Made}
 use Rattle.pas_steps.proofs.Parts.{part_of_own, part_of_others}
 use Rattle.pas_profile.specs.declared.{profile.Profile.Profile, name.Block.Block}
 use Rattle.pas_core.proofs.Choosing.{part_of_chosen}
 use Rattle.pas_shared.specs.Ruled.{among, made_in, HasRow, entries_by, rows_of, rows_of_only, isnt, only_this, all_actors, steps_of, IsRowOf, AreRowsOf}
 use Rattle.pas_shared.specs.Benches.{rows_on, first_row, row_on, seat_of_member, IsBenchOf, IsMemberOf, IsFreshRow, HasLooked, SitsInRow, MaySitOn, StandsOver}
-use Rattle.pas_shared.specs.Benches.{home_of, standing_on}
+use Rattle.pas_shared.specs.Benches.{home_of, standing_on, empty_row}
 use Rattle.pas_shared.specs.{Ledgers.part_of, Passes.seat_of, Passes.view_of, Passes.IsPassOf}
 use Rattle.pas_shared.specs.declared.{bench.Bench.Bench, bench.Member.Member, pass.SharedPass.SharedPass, region.SharedRegion.SharedRegion, rule.Entry.Entry}
 use Rattle.pas_shared.specs.declared.{rule.Row.Row, bench_desk.BenchDesk.BenchDesk}
-use Rattle.pas_shared.proofs.{Benching.among_picked, Benching.row_since, Pasts.part_both}
-use Rattle.pas_acts.specs.Works.{Sits}
-use Rattle.pas_threads.specs.{Left.IsSeated, Left.KeepsOrder, Hands.standing_of_pass, Hands.HasPass, Hands.Did, Left.standing_beside, Still.stays_beside}
-use Rattle.std.proofs.lemmas.Option.{same_Some}
-use Rattle.pas_trace.specs.declared.item.Request.{Request}
+use Rattle.pas_shared.proofs.{Benching.among_picked, Benching.row_since, Ruling.part_both, Benching.stands_first}
+use Rattle.pas_acts.specs.Works.{Sits, Later, Keeps, ThreadAt}
+use Rattle.pas_threads.specs.Left.{IsSeated, KeepsOrder, standing_beside, keeper_actors, pair_in, HasLeft}
+use Rattle.pas_threads.specs.Hands.{standing_of_pass, HasPass, Did, kept_by}
+use Rattle.pas_threads.specs.Still.{stays_beside}
+use Rattle.std.proofs.lemmas.{Option.same_Some, Bool.cases_eq}
+use Rattle.pas_trace.specs.declared.{item.Request.Request, plan.Op.Op}
 use Rattle.pas_report.specs.Rooms.{Records}
 use Rattle.pas_guard.specs.declared.book.GuardBook.{GuardBook}
 use Rattle.pas_answers.specs.{Answers.Progress, Guarding.after_trying}
-use Rattle.pas_acts.specs.Keepers.{keeper_has, KeeperAt, KeeperTries, LaterKept, StandsAt, StandsStill}
-use Rattle.pas_threads.specs.declared.keeper.Seated.{Seated}
+use Rattle.pas_acts.specs.Keepers.{keeper_has, KeeperAt, KeeperTries, LaterKept, StandsAt, StandsStill, Keeping, OneKeeper}
+use Rattle.pas_threads.specs.declared.{keeper.Seated.Seated, keeper.Keeper.Keeper, workers.Worker.Worker}
+use Rattle.pas_report.specs.declared.record.Record.{Record}
+use Rattle.pas_trace.specs.Acts.{Act, own_acts}
+use Rattle.pas_acts.specs.Pairs.{KeeperWaits, KeptPushed, PairAt, PairWorks}
+use Rattle.pas_acts.specs.declared.names.NameBook.{NameBook}
+use Rattle.pas_threads.specs.Pairs.{IsKeeperOf, kept_by_worker, kept_seated, MayDoPhase}
+use Rattle.pas_threads.specs.Seats.{keeper_parts, rows_without_keeper, seated_actors, IsSameKeeper, SitsBeside, KeeperMayLeave, IsPassOfMember, HasRisen}
+use Rattle.pas_threads.specs.Seats.{PairSits, PairRose, IsAnother, KeeperSits}
+use Rattle.pas_answers.proofs.Reached.{goes_on}
 
 -- ---- what rows say of a list
 -- of each of its actors the list has what the row says
@@ -36,22 +45,28 @@ rows_part [] l k v are has = absurd has
 rows_part (r ∷ rs) l k v are (inl sits) = row_part r l k are.0 sits.0 ∙ sits.1
 rows_part (r ∷ rs) l k v are (inr later) = rows_part rs l k v are.1 later
 
--- ---- the actors of several rows
+-- ---- one of several actors
+-- A number among others is the first or one of the rest.
+pub among_cases : (n k : ℕ) (ns : List ℕ) → among (n ∷ ns) k ≡ true → (n ≡ k) ⊎ (among ns k ≡ true)
+among_cases n k ns h =
+    elim (cases_eq n k) [ inl is ↦ inl is | inr other ↦ inr (sym (ap (λ (b : Bool). if b then true else among ns k) (ne_eqb n k other)) ∙ h) ]
+
+-- The first of several numbers is among them.
+pub among_here : (n k : ℕ) (ns : List ℕ) → n ≡ k → among (n ∷ ns) k ≡ true
+among_here n k ns e = ap (λ (b : Bool). if b then true else among ns k) (eq-eqb n k e)
+
+-- A number among the rest is among all.
+pub among_later : (n k : ℕ) (ns : List ℕ) → among ns k ≡ true → among (n ∷ ns) k ≡ true
+among_later n k ns h =
+    elim (cases_eq n k) [ inl is ↦ among_here n k ns is | inr other ↦ ap (λ (b : Bool). if b then true else among ns k) (ne_eqb n k other) ∙ h ]
+
 among_front : (ms ns : List ℕ) (k : ℕ) → among ms k ≡ true → among (ms ++ ns) k ≡ true
 among_front [] ns k h = absurd (true≢false (sym h))
-among_front (m ∷ ms) ns k h = at (among_front ms ns k) (m == k) refl
-  where
-    at : (among ms k ≡ true → among (ms ++ ns) k ≡ true) → (b : Bool) → (m == k) ≡ b → among (m ∷ (ms ++ ns)) k ≡ true
-    at again true e = ap (λ (b : Bool). if b then true else among (ms ++ ns) k) e
-    at again false e = ap (λ (b : Bool). if b then true else among (ms ++ ns) k) e ∙ again (sym (ap (λ (b : Bool). if b then true else among ms k) e) ∙ h)
+among_front (m ∷ ms) ns k h = ⊎_elim (among_here m k (ms ++ ns)) (λ more. among_later m k (ms ++ ns) (among_front ms ns k more)) (among_cases m k ms h)
 
 among_back : (ms ns : List ℕ) (k : ℕ) → among ns k ≡ true → among (ms ++ ns) k ≡ true
 among_back [] ns k h = h
-among_back (m ∷ ms) ns k h = at (among_back ms ns k h) (m == k) refl
-  where
-    at : among (ms ++ ns) k ≡ true → (b : Bool) → (m == k) ≡ b → among (m ∷ (ms ++ ns)) k ≡ true
-    at again true e = ap (λ (b : Bool). if b then true else among (ms ++ ns) k) e
-    at again false e = ap (λ (b : Bool). if b then true else among (ms ++ ns) k) e ∙ again
+among_back (m ∷ ms) ns k h = among_later m k (ms ++ ns) (among_back ms ns k h)
 
 sits_among : (rs : List Row) (k : ℕ) (v : View) → HasRow rs k v → among (all_actors rs) k ≡ true
 sits_among [] k v has = absurd has
@@ -68,7 +83,7 @@ pub has_seat : (pass : SharedPass) (rs : List Row) → HasRow (rows_of (part_of 
 has_seat pass rs =
     let k = pass.place.actor in
     let v = view_of pass in
-    inl (ap (λ (b : Bool). if b then true else false) (eq-eqb k k refl), ap (λ (l : Whole). part k (l ++ [])) (entries_are k v) ∙ (part_of_own k v [] ∙ append-nil v))
+    inl (ap (λ (b : Bool). if b then true else false) (eq-eqb k k refl), ap (λ l. part k (l ++ [])) (entries_are k v) ∙ (part_of_own k v [] ∙ append-nil v))
 
 -- A member has the seat of the pass with which it sat down.
 pub member_seat : {pass : SharedPass} {member : Member} → IsMemberOf pass member → seat_of_member member ≡ seat_of pass
@@ -95,46 +110,34 @@ calls_as {σ} {σ'} {τ} {τ'} {Before} {Change} {steps} one two from to calls =
 
 -- ---- the last look
 -- all sit in one row still, in which nobody made a step since, and it says of each what it said before
-pub looked_made : (b now : Bench) (k : ℕ) → rows_on b ≡ row_on b ∷ [] → HasLooked (rows_on b) (rows_on now) → among (row_on b).actors k ≡ true
+looked_made : (b now : Bench) (k : ℕ) → rows_on b ≡ row_on b ∷ [] → HasLooked (rows_on b) (rows_on now) → among (row_on b).actors k ≡ true
     → (among (first_row (rows_on now)).actors k ≡ true) × (made_in (first_row (rows_on now)) k ≡ made_in (row_on b) k)
 looked_made b now k one looked its =
-    let row_is = ap first_row looked.is in
-    let rows = subst (λ (rs : List Row). AreRowsOf rs (steps_of looked.base)) one looked.rows in (
-      ap (λ (r : Row). among r.actors k) row_is ∙ (ap (λ (rs : List Row). among (all_actors rs) k) one ∙ among_front (row_on b).actors [] k its),
-      ap (λ (r : Row). made_in r k) row_is ∙ row_part (row_on b) (steps_of looked.base) k rows.0 its,
-    )
+    search (arith, among_front, row_part)
 
 -- After a look on a bench its rows are one fresh row.
 pub looked_fresh : {old new : List Row} → HasLooked old new → IsFreshRow new
 looked_fresh {old} looked = record { actors = all_actors old; base = looked.base; is = looked.is }
 
 -- a member that sat there does so still
-pub still_sits : (b now : Bench) (member : Member) → rows_on b ≡ row_on b ∷ [] → HasLooked (rows_on b) (rows_on now) → SitsInRow (row_on b) member
+still_sits : (b now : Bench) (member : Member) → rows_on b ≡ row_on b ∷ [] → HasLooked (rows_on b) (rows_on now) → SitsInRow (row_on b) member
     → SitsInRow (first_row (rows_on now)) member
 still_sits b now member one looked sits =
-    let both = looked_made b now member.actor one looked sits.among_them in
-    record { among_them = both.0; noted = subst (λ (v : View). AreNotesOf member.actor v member.notes) (sym both.1) sits.noted }
+    search (arith, looked_made)
 
 -- ---- it leaves
-pub left_fresh : (test : ℕ → Bool) {rs : List Row} → IsFreshRow rs → IsFreshRow (rows_of_only test rs)
+left_fresh : (test : ℕ → Bool) {rs : List Row} → IsFreshRow rs → IsFreshRow (rows_of_only test rs)
 left_fresh test {rs} fresh = record { actors = (first_row (rows_of_only test (record { actors = fresh.actors; made = []; base = fresh.base } ∷ []))).actors; base = fresh.base; is = ap (rows_of_only test) fresh.is }
 
 -- what is said of the others is as it was
-pub left_made : (test : ℕ → Bool) {rs : List Row} (k : ℕ) → IsFreshRow rs → made_in (first_row (rows_of_only test rs)) k ≡ made_in (first_row rs) k
+left_made : (test : ℕ → Bool) {rs : List Row} (k : ℕ) → IsFreshRow rs → made_in (first_row (rows_of_only test rs)) k ≡ made_in (first_row rs) k
 left_made test {rs} k fresh = cc
 
 -- A member of a fresh row still sits in it after another actor left.
-pub left_sits : {rs : List Row} (j : ℕ) (member : Member) → IsFreshRow rs → member.actor ≢ j → SitsInRow (first_row rs) member
+left_sits : {rs : List Row} (j : ℕ) (member : Member) → IsFreshRow rs → member.actor ≢ j → SitsInRow (first_row rs) member
     → SitsInRow (first_row (rows_of_only (isnt (only_this j)) rs)) member
 left_sits {rs} j member fresh other sits =
-    let k = member.actor in
-    let test = isnt (only_this j) in
-    let stays : test k ≡ true = ap (λ (b : Bool). if b then false else true) (ne_eqb k j other) in
-    let its : among fresh.actors k ≡ true = sym (ap (λ (qs : List Row). among (first_row qs).actors k) fresh.is) ∙ sits.among_them in
-    record {
-      among_them = ap (λ (qs : List Row). among (first_row (rows_of_only test qs)).actors k) fresh.is ∙ among_picked test fresh.actors k its stays;
-      noted = subst (λ (v : View). AreNotesOf k v member.notes) (sym (left_made test k fresh)) sits.noted;
-    }
+    search (arith, ne_eqb, among_picked, left_made)
 
 -- ---- what the bench saw
 -- of a row that stands beside the list that was told the steps stand in the same order in the list that the bench saw at its last look
@@ -148,7 +151,7 @@ keeps_order r base made told told' is grown over same = record {
   before = steps_of r.base;
   seen_is = is.goes_on;
   parts = λ k its. sym (same k its);
-  order = is.made_is ∙ sym (row_since r made told (subst (λ (l : Whole). StandsOver r l) grown over) same);
+  order = is.made_is ∙ sym (row_since r made told (subst (StandsOver r) grown over) same);
 }
 
 -- ---- a worker sits down with its pass, and rises with it
@@ -162,7 +165,7 @@ pub rose : {region : SharedRegion} {slot : Option SharedPass} (Does : Standing �
     → HasPass region slot → after ≡ left → IsPassOf region after
     → Does (standing_of_pass pass) (standing_of_pass left) → Did region slot (Some after) Does
 rose {region} {slot} Does pass left after is has same of does = record {
-  before = record { pass = pass; present = is; of = subst (λ (x : SharedPass). IsPassOf region x) (same_Some _ _ (sym has.present ∙ is)) has.of };
+  before = record { pass = pass; present = is; of = subst (IsPassOf region) (same_Some _ _ (sym has.present ∙ is)) has.of };
   after = record { pass = after; present = refl; of = of };
   does = subst (λ (x : SharedPass). Does (standing_of_pass pass) (standing_of_pass x)) (sym same) does;
 }
@@ -221,13 +224,15 @@ pub lent_at : {f : Profile} {k : ℕ} {later : LaterKept} {p : Progress} (desk l
     → KeeperAt f k (keeper_has (standing_beside desk.region.now desk.place.bench seated.member) seated.book seated.out) later p
     → KeeperAt f k (keeper_has (standing_on lent.place.bench lent.place.member) seated.book seated.out) later p
 lent_at {f} {k} {later} {p} desk lent seated bench member at =
-    subst (λ (z : Bench × Member). KeeperAt f k (keeper_has (standing_on z.0 z.1) seated.book seated.out) later p) (λ i. (sym bench i, sym member i)) (keeper_on at)
+    subst (λ (z : Bench × Member). KeeperAt f k (keeper_has (standing_on z.0 z.1) seated.book seated.out) later p) (λ i. (sym bench i, sym member i))
+    (keeper_on at)
 
 module _ {f : Profile} {k : ℕ} {r : Request} {block : Option Block} {later : LaterKept} {p : Progress} {book : GuardBook} {out : Records}
     (desk lent after : BenchDesk) (seated : Seated)
     (region : lent.region.now ≡ desk.region.now) (bench : lent.place.bench ≡ desk.place.bench) (member : lent.place.member ≡ seated.member)
     (tries : KeeperTries f k r block (keeper_has (standing_on lent.place.bench lent.place.member) seated.book seated.out) (keeper_has (standing_on after.place.bench after.place.member) book out) later p)
-    (home : home_of after.region.now (row_on after.place.bench) ≡ home_of lent.region.now (row_on lent.place.bench)) (stood : StandsAt (standing_on desk.place.bench desk.place.member) p.list) (other : desk.place.member.actor ≢ k) where
+    (home : home_of after.region.now (row_on after.place.bench) ≡ home_of lent.region.now (row_on lent.place.bench))
+    (stood : StandsAt (standing_on desk.place.bench desk.place.member) p.list) (other : desk.place.member.actor ≢ k) where
   -- the thread may sit down again
   pub thread_after : StandsAt (standing_beside after.region.now after.place.bench desk.place.member) (after_trying p k tries.tried).list
   thread_after = thread_still lent.place.member after.place.member tries home after.of after.place.one
@@ -244,3 +249,358 @@ module _ {f : Profile} {k : ℕ} {r : Request} {block : Option Block} {later : L
       × StandsStill (standing_on desk.place.bench desk.place.member) (standing_on z.4 z.6) p.list (after_trying p k t.tried).list)
       (λ i. (region i, bench i, member i, sym same i, sym there i, sym gone i, sym again i))
       (tries_beside (may_sit after) tries, record { seat_is = refl; stands = λ stands parts. (thread_after.1, thread_after.2) })
+
+-- ---- both sit down
+seated_beside : (region : SharedRegion) (keeper : Option Keeper) (seated : Option Seated) (b now : Bench) (r : Row) (rs : List Row) → IsSameKeeper keeper seated
+    → IsKeeperOf region keeper → rows_on b ≡ r ∷ (rows_of (keeper_parts keeper) ++ rs)
+    → IsBenchOf region now → HasLooked (rows_on b) (rows_on now) → SitsBeside region now keeper seated
+seated_beside region None None b now r rs same of rows bench looked = tt
+seated_beside region None (Some seated) b now r rs same of rows bench looked = same
+seated_beside region (Some keeper) None b now r rs same of rows bench looked = same
+seated_beside region (Some keeper) (Some seated) b now r rs same of rows bench looked = (
+  sat b now keeper.pass seated.member of same.0 bench looked
+      (subst (λ qs. HasRow qs keeper.pass.place.actor (view_of keeper.pass)) (sym rows) (inr (has_seat keeper.pass rs))),
+  same.1,
+  same.2,
+)
+
+kept_actors : (keeper : Option Keeper) (seated : Option Seated) → IsSameKeeper keeper seated
+    → all_actors (rows_of (keeper_parts keeper) ++ (empty_row ∷ [])) ≡ seated_actors seated
+-- With one and without one.
+kept_actors a b same = search arith
+
+-- A thread and its keeper that sat down with their passes and looked sit in one row.
+pub pair_sat : {region : SharedRegion} (pass : SharedPass) (keeper : Option Keeper) (member : Member) (seated : Option Seated) (b now : Bench)
+    → IsPassOf region pass → IsKeeperOf region keeper → IsSameKeeper keeper seated
+    → (rows_on b ≡ rows_of (part_of pass ∷ []) ++ (rows_of (keeper_parts keeper) ++ (empty_row ∷ []))) → IsSeated region now pass member → IsBenchOf region now
+    → HasLooked (rows_on b) (rows_on now) → PairSits region pass keeper now member seated
+pair_sat {region} pass keeper member seated b now of kept same rows thread bench looked = search (arith, seated_beside, kept_actors)
+
+-- The row of a thread's pass, in front of others, says what the thread made.
+pub has_thread : (pass : SharedPass) (b : Bench) (rs : List Row) → rows_on b ≡ rows_of (part_of pass ∷ []) ++ rs
+    → HasRow (rows_on b) pass.place.actor (view_of pass)
+has_thread pass b rs rows = subst (λ (qs : List Row). HasRow qs pass.place.actor (view_of pass)) (sym rows) (has_seat pass rs)
+
+-- ---- beside each list that tells of both what they made
+-- nobody made a step since they sit in one row
+base_part : (r : Row) (k : ℕ) → r.made ≡ [] → part k (steps_of r.base) ≡ made_in r k
+base_part r k none = sym (ap (λ es. part k (steps_of es ++ steps_of r.base)) none)
+
+of_either : (a j : ℕ) (seated : Option Seated) (P : ℕ → Type 0) → among (a ∷ seated_actors seated) j ≡ true → P a
+    → ((s : Seated) → seated ≡ Some s → P s.member.actor) → P j
+of_either a j None P its one other = at (a == j) refl
+  where
+    at : (b : Bool) → (a == j) ≡ b → P j
+    at true e = subst P (eqb-true a j e) one
+    at false e = absurd (true≢false (sym its ∙ ap (λ (b : Bool). if b then true else false) e))
+of_either a j (Some s) P its one other = at (a == j) refl (s.member.actor == j) refl
+  where
+    at : (b : Bool) → (a == j) ≡ b → (c : Bool) → (s.member.actor == j) ≡ c → P j
+    at true e c d = subst P (eqb-true a j e) one
+    at false e true d = subst P (eqb-true s.member.actor j d) (other s refl)
+    at false e false d = absurd (true≢false (cc))
+
+module _ {region : SharedRegion} {pass : SharedPass} {keeper : Option Keeper} {bench : Bench} {member : Member} {seated : Option Seated}
+    (sits : PairSits region pass keeper bench member seated)
+    (f : Profile) (k j : ℕ) (acts : List Act) (has : Keeps) (later : Later) (more : LaterKept) (p : Progress)
+    (thread : ThreadAt f k acts (standing_of_pass pass) has later p) (waits : KeeperWaits f j acts (kept_by_worker keeper) more p) where
+  own_part : part member.actor p.list ≡ part member.actor (steps_of (row_on bench).base)
+  own_part = ap (λ a. part a p.list) (sits.thread.is.actor ∙ thread.sits.actor) ∙ (sym thread.sits.stood ∙ (sym sits.thread.view ∙ sym (base_part (row_on bench) member.actor sits.fresh)))
+
+  kept_part : (o : Option Keeper) → SitsBeside region bench o seated → KeeperWaits f j acts (kept_by_worker o) more p → (s : Seated) → seated ≡ Some s
+      → part s.member.actor p.list ≡ part s.member.actor (steps_of (row_on bench).base)
+  kept_part a beside wait s is = search (arith, base_part)
+
+  -- Each actor of the row has the part of the list that the row's base has of it.
+  both_parts : (i : ℕ) → among (row_on bench).actors i ≡ true → part i p.list ≡ part i (steps_of (row_on bench).base)
+  both_parts i its = of_either member.actor i seated (λ n. part n p.list ≡ part n (steps_of (row_on bench).base)) (sym (ap (λ ns. among ns i) sits.actors) ∙ its) own_part (kept_part keeper sits.beside waits)
+
+  -- The list tells of the pair what their row tells, as nobody acted since the look.
+  stand_over : StandsOver (row_on bench) p.list
+  stand_over = stands_first (row_on bench) p.list sits.fresh both_parts
+
+  waits_beside : (o : Option Keeper) (s : Option Seated) → SitsBeside region bench o s → KeeperWaits f j acts (kept_by_worker o) more p
+      → KeeperWaits f j acts (kept_seated region bench s) more p
+  waits_beside a b beside wait = search (arith, member_seat, stand_over)
+
+  -- A thread and its keeper that sit on one bench stand before their operations there.
+  pair_at : k ≢ j → PairAt f k j acts (standing_on bench member) has (kept_seated region bench seated) later more p
+  pair_at apart = search (arith, member_seat, stand_over, waits_beside)
+
+-- ---- both rise
+keeper_may_leave : (region : SharedRegion) (b now : Bench) (seated : Option Seated) → KeeperSits region b seated → HasLooked (rows_on b) (rows_on now)
+    → KeeperMayLeave region (first_row (rows_on now)) seated
+keeper_may_leave region b now a may looked = search (arith, still_sits)
+
+fresh_without : (seated : Option Seated) {rs : List Row} → IsFreshRow rs → IsFreshRow (rows_without_keeper seated rs)
+fresh_without a fresh = search (arith, left_fresh)
+
+sits_without : (seated : Option Seated) {rs : List Row} (member : Member) → IsFreshRow rs → IsAnother member.actor seated → SitsInRow (first_row rs) member
+    → SitsInRow (first_row (rows_without_keeper seated rs)) member
+sits_without a member fresh other sits = search (arith, left_sits)
+
+made_without : (seated : Option Seated) {rs : List Row} (k : ℕ) → IsFreshRow rs
+    → made_in (first_row (rows_without_keeper seated rs)) k ≡ made_in (first_row rs) k
+made_without a k fresh = search (arith, left_made)
+
+-- what both have then is what the row said before the look
+risen_as : (region : SharedRegion) (r s : Row) (seated : Option Seated) (keeper : Option Keeper)
+    → ((there : Seated) → seated ≡ Some there → made_in s there.member.actor ≡ made_in r there.member.actor) → HasRisen region s seated keeper
+    → HasRisen region r seated keeper
+risen_as region r s a b same risen = search arith
+
+abbrev row_with : List ℕ → List Entry → Row
+row_with ns base = record { actors = ns; made = []; base = base }
+
+module _ (region : SharedRegion) (bench looked : Bench) (member : Member) (seated : Option Seated) (thread : MaySitOn region bench member)
+    (kept : KeeperSits region bench seated) (apart : IsAnother member.actor seated)
+    (look : HasLooked (rows_on bench) (rows_on looked)) where
+  one_row : AreRowsOf (row_on bench ∷ []) (steps_of look.base)
+  one_row = subst (λ (rs : List Row). AreRowsOf rs (steps_of look.base)) thread.one look.rows
+
+  -- The keeper may leave the bench first.
+  pub may_leave_first : KeeperMayLeave region (first_row (rows_on looked)) seated
+  may_leave_first = keeper_may_leave region bench looked seated kept look
+
+  -- The row is fresh after the keeper left.
+  pub fresh_then : {rs : List Row} → rs ≡ rows_without_keeper seated (rows_on looked) → IsFreshRow rs
+  fresh_then is = subst IsFreshRow (sym is) (fresh_without seated (looked_fresh look))
+
+  -- The thread still sits in the row after its keeper left.
+  pub sits_then : {rs : List Row} → rs ≡ rows_without_keeper seated (rows_on looked) → SitsInRow (first_row rs) member
+  sits_then is = subst (λ rs. SitsInRow (first_row rs) member) (sym is) (sits_without seated member (looked_fresh look) apart (still_sits bench looked member thread.one look thread.sits))
+
+  kept_made : (o : Option Seated) → KeeperSits region bench o → (there : Seated) → o ≡ Some there
+      → made_in (first_row (rows_on looked)) there.member.actor ≡ made_in (row_on bench) there.member.actor
+  kept_made o sits there is =
+      search (arith, looked_made)
+
+  -- A pair rose once its keeper and then its thread left the bench: both have passes with what they made.
+  pub pair_rose : (gone left : Bench) {keeper : Option Keeper} {pass : SharedPass} → (row_on bench).actors ≡ member.actor ∷ seated_actors seated
+      → rows_on gone ≡ rows_without_keeper seated (rows_on looked)
+      → HasRisen region (first_row (rows_on looked)) seated keeper → IsPassOfMember region (first_row (rows_on gone)) member pass → IsBenchOf region left
+      → rows_on left ≡ rows_of_only (isnt (only_this member.actor)) (rows_on gone)
+      → PairRose region bench member seated left pass keeper
+  pair_rose gone left actors gone_is risen own of left_is = search (arith, made_without, looked_fresh, looked_made, risen_as, kept_made, one_row)
+    where
+      -- At the bench sit the thread and its keeper alone.
+      all : all_actors (rows_on bench) ≡ member.actor ∷ seated_actors seated
+      all = ap all_actors thread.one ∙ (append-nil (row_on bench).actors ∙ actors)
+
+-- ---- after their acts
+-- there is a keeper still, or there is none
+same_keeper : (f : Profile) (j : ℕ) (acts : List Act) (said : List Record) (more more' : LaterKept) (p q : Progress) (region now : SharedRegion) (b c : Bench)
+    (s t : Option Seated)
+    → KeptPushed j said (kept_seated region b s) (kept_seated now c t)
+    → KeeperWaits f j acts (kept_seated region b s) more p → KeeperWaits f j [] (kept_seated now c t) more' q → seated_actors t ≡ seated_actors s
+same_keeper f j acts said more more' p q region now b c a d pushed was is = search arith
+
+keeper_sits : (f : Profile) (j : ℕ) (more : LaterKept) (p : Progress) (region : SharedRegion) (b : Bench) (s : Option Seated)
+    → KeeperWaits f j [] (kept_seated region b s) more p → KeeperSits region b s
+-- With one and without one.
+keeper_sits f j more p region b a waits = search arith
+
+keeper_apart : (f : Profile) (j k : ℕ) (more : LaterKept) (p : Progress) (region : SharedRegion) (b : Bench) (a : ℕ) (s : Option Seated) → a ≡ k → k ≢ j
+    → KeeperWaits f j [] (kept_seated region b s) more p → IsAnother a s
+-- With one and without one.
+keeper_apart f j k more p region b a c is apart waits = search arith
+
+keeper_is : (f : Profile) (j : ℕ) (acts : List Act) (more : LaterKept) (p : Progress) (region : SharedRegion) (b : Bench) (o : Option Keeper)
+    (s : Option Seated)
+    → SitsBeside region b o s → KeeperWaits f j acts (kept_by_worker o) more p
+    → seated_actors s ≡ keeper_actors j o
+-- With one and without one.
+keeper_is f j acts more p region b a c sits waits = search arith
+
+-- A keeper that has risen has a pass of the region.
+risen_keeper_is_of_region : (region : SharedRegion) (r : Row) (t : Option Seated) (keeper : Option Keeper) → HasRisen region r t keeper
+    → IsKeeperOf region keeper
+risen_keeper_is_of_region region r a b risen = search arith
+
+-- ---- with their passes again
+thread_back : (c : Bench) {region : SharedRegion} {pass : SharedPass} {member : Member} {f : Profile} {k : ℕ} {has : Keeps} {later : Later} {q : Progress}
+    → IsPassOfMember region (row_on c) member pass → ThreadAt f k [] (standing_on c member) has later q
+    → ThreadAt f k [] (standing_of_pass pass) has later q
+thread_back c own at = record { sits = sits_as own.seat (λ stood. own.view ∙ stood.0) at.sits; cache = at.cache; spare = at.spare; names = at.names }
+
+keeper_back : (c : Bench) {region now : SharedRegion} {f : Profile} {j : ℕ} {more : LaterKept} {q : Progress} (s : Seated) (keeper : Keeper)
+    → IsPassOfMember region (row_on c) s.member keeper.pass
+    → KeeperAt f j (keeper_has (standing_beside now c s.member) s.book s.out) more q
+    → KeeperAt f j (keeper_has (standing_of_pass keeper.pass) s.book s.out) more q
+keeper_back c s keeper risen at =
+    record { sits = sits_as risen.seat (λ stood. risen.view ∙ stood.1) at.sits; book = at.book; spare = at.spare; places = at.places }
+
+module _ (region was now : SharedRegion) (b c : Bench) (pass : SharedPass) (member : Member) (f : Profile) (k j : ℕ) (acts : List Act) (σ τ : Standing)
+    (has has' : Keeps) (later : Later) (more : LaterKept) (p : Progress)
+    (own : IsPassOfMember region (row_on c) member pass) where
+  -- What a pair did on the bench it did with its passes, once it has risen.
+  works_back : (o : Option Keeper) (s t : Option Seated) (keeper : Option Keeper) → SitsBeside was b o s → HasRisen region (row_on c) t keeper
+      → (w : PairWorks f k j acts [] τ (standing_on c member) has has' (kept_seated was b s) (kept_seated now c t) later more p)
+      → (v : PairWorks f k j acts [] σ (standing_of_pass pass) has has' (kept_by_worker o) (kept_by_worker keeper) later more p) × (v.reached ≡ w.reached)
+  works_back None None None None sits risen w = (
+    record {
+      reached = w.reached;
+      reaches = w.reaches;
+      stands = record { thread = thread_back c own w.stands.thread; apart = w.stands.apart; waits = w.stands.waits };
+      said = w.said;
+      records_are = w.records_are;
+      pushed = w.pushed;
+      room = w.room;
+      kept_pushed = w.kept_pushed;
+      still = w.still;
+      each = w.each;
+      book = w.book;
+      noted = w.noted;
+      room_noted = w.room_noted;
+      paid = w.paid;
+    },
+    refl,
+  )
+  works_back (Some o) (Some s) (Some t) (Some keeper) sits risen w = subst (λ (z : GuardBook × Records × GuardBook × Records).
+      (v : PairWorks f k j acts [] σ (standing_of_pass pass) has has' (OneKeeper (keeper_has (standing_of_pass o.pass) z.0 z.1))
+      (OneKeeper (keeper_has (standing_of_pass keeper.pass) z.2 z.3)) later more p) × (v.reached ≡ w.reached))
+      (λ i. (sits.1 i, sits.2 i, sym risen.1 i, sym risen.2 i)) (
+        record {
+          reached = w.reached;
+          reaches = w.reaches;
+          stands = record { thread = thread_back c own w.stands.thread; apart = w.stands.apart; waits = (w.stands.waits.0, keeper_back c t keeper risen.0 w.stands.waits.1) };
+          said = w.said;
+          records_are = w.records_are;
+          pushed = w.pushed;
+          room = w.room;
+          kept_pushed = w.kept_pushed;
+          still = w.still;
+          each = w.each;
+          book = w.book;
+          noted = w.noted;
+          room_noted = w.room_noted;
+          paid = w.paid;
+        },
+        refl,
+      )
+  works_back None None (Some t) keeper sits risen w = absurd w.kept_pushed
+  works_back (Some o) (Some s) None keeper sits risen w = absurd w.kept_pushed
+  works_back None None None (Some keeper) sits risen w = absurd risen
+  works_back (Some o) (Some s) (Some t) None sits risen w = absurd risen
+  works_back None (Some s) t keeper sits risen w = absurd sits
+  works_back (Some o) None t keeper sits risen w = absurd sits
+
+-- ---- a worker's operations of a phase
+pub sat_at : {region : SharedRegion} {pass : SharedPass} {keeper : Option Keeper} {bench : Bench} {member : Member} {seated : Option Seated} (desk : BenchDesk)
+    → desk.region.now ≡ region → desk.place.bench ≡ bench → desk.place.member ≡ member
+    → PairSits region pass keeper bench member seated → PairSits desk.region.now pass keeper desk.place.bench desk.place.member seated
+sat_at {pass = pass} {keeper} {seated = seated} desk region bench member sits =
+    subst (λ (z : SharedRegion × Bench × Member). PairSits z.0 pass keeper z.1 z.2 seated) (λ i. (sym region i, sym bench i, sym member i)) sits
+
+module _ {region : SharedRegion} {book : NameBook} {worker : Worker} {ops : List Op} {pass : SharedPass} {keeper : Option Keeper} {seated : Option Seated}
+    (desk : BenchDesk) (is : worker.pass ≡ Some pass) (taken : keeper ≡ worker.keeper)
+    (sits : PairSits desk.region.now pass keeper desk.place.bench desk.place.member seated) (m : MayDoPhase region book ops worker) where
+  abbrev f : Profile
+  f = m.profile
+
+  abbrev k : ℕ
+  k = m.thread
+
+  abbrev other : ℕ
+  other = m.threads + m.thread
+
+  abbrev p : Progress
+  p = m.progress
+
+  abbrev bench : Bench
+  bench = desk.place.bench
+
+  abbrev member : Member
+  member = desk.place.member
+
+  abbrev kept_before : Keeping
+  kept_before = kept_seated desk.region.now bench seated
+
+  -- what the pair does in the phase, as thread n and its keeper
+  abbrev Works : ℕ → Standing → Standing → Keeps → Keeping → Keeping → Type 0
+  Works n σ τ has kept kept' = PairWorks f n other (own_acts n ops) [] σ τ (kept_by book worker) has kept kept' m.later m.more p
+
+  -- The thread stands with its pass as it should before its acts.
+  thread : ThreadAt f k (own_acts k ops) (standing_of_pass pass) (kept_by book worker) m.later p
+  thread = subst (λ x. ThreadAt f k (own_acts k ops) (standing_of_pass x) (kept_by book worker) m.later p) (same_Some _ _ (sym m.stands.thread.has.present ∙ is)) m.stands.thread.stands
+
+  -- Its keeper waits for these acts.
+  waits : KeeperWaits f other (own_acts k ops) (kept_by_worker keeper) m.more p
+  waits = subst (λ (o : Option Keeper). KeeperWaits f other (own_acts k ops) (kept_by_worker o) m.more p) (sym taken) m.stands.waits
+
+  here : PairAt f k other (own_acts k ops) (standing_on bench member) (kept_by book worker) kept_before m.later m.more p
+  here = pair_at sits f k other (own_acts k ops) (kept_by book worker) m.later m.more p thread waits (λ one. omega (arith, one, m.some))
+
+  -- they may begin
+  pub begins : PairAt f member.actor other (own_acts member.actor ops) (standing_on bench member) (kept_by book worker) kept_before m.later m.more p
+  begins = subst (λ n. PairAt f n other (own_acts n ops) (standing_on bench member) (kept_by book worker) kept_before m.later m.more p) (sym here.thread.sits.actor) here
+
+  module _ (after : BenchDesk) (has : Keeps) (there : Option Seated)
+      (works : Works member.actor (standing_on bench member) (standing_on after.place.bench after.place.member) has kept_before (kept_seated after.region.now after.place.bench there))
+      (home : home_of after.region.now (row_on after.place.bench) ≡ home_of desk.region.now (row_on bench)) where
+    abbrev kept_after : Keeping
+    kept_after = kept_seated after.region.now after.place.bench there
+
+    -- What the thread did at the bench.
+    mine : Works k (standing_on bench member) (standing_on after.place.bench after.place.member) has kept_before kept_after
+    mine = subst (λ n. Works n (standing_on bench member) (standing_on after.place.bench after.place.member) has kept_before kept_after) here.thread.sits.actor works
+
+    -- After its acts the keeper still sits beside its thread.
+    pub keeper_may : KeeperSits after.region.now after.place.bench there
+    keeper_may = keeper_sits f other m.more mine.reached after.region.now after.place.bench there mine.stands.waits
+
+    -- After its acts the keeper is still another actor than its thread.
+    pub keeper_other : IsAnother after.place.member.actor there
+    keeper_other = keeper_apart f other k m.more mine.reached after.region.now after.place.bench after.place.member.actor there mine.stands.thread.sits.actor mine.stands.apart mine.stands.waits
+
+    same_there : seated_actors there ≡ seated_actors seated
+    same_there = same_keeper f other (own_acts k ops) mine.said m.more m.more p mine.reached desk.region.now after.region.now bench after.place.bench seated there mine.kept_pushed here.waits mine.stands.waits
+
+    -- After its acts the row is still that of the thread and its keeper.
+    pub actors_are : (row_on after.place.bench).actors ≡ after.place.member.actor ∷ seated_actors there
+    actors_are = search (arith, same_there)
+
+    -- it did them, and its bench is left
+    module _ (left : Bench) (own : SharedPass) (risen : Option Keeper) (rose : PairRose region after.place.bench after.place.member there left own risen) where
+      -- Between its passes it did the same.
+      back : (v : Works k (standing_of_pass pass) (standing_of_pass own) has (kept_by_worker keeper) (kept_by_worker risen)) × (v.reached ≡ mine.reached)
+      back =
+          works_back region desk.region.now after.region.now bench after.place.bench own after.place.member f k other (own_acts k ops) (standing_of_pass pass)
+          (standing_on bench member)
+          (kept_by book worker) has m.later m.more p rose.thread keeper seated there risen sits.beside rose.beside mine
+
+      -- The list grew by what the pair made.
+      grown : (made : Whole) × (mine.reached.list ≡ made ++ p.list)
+      grown = goes_on f (own_acts k ops) p mine.reached mine.reaches
+
+      -- The bench's row names the thread and its keeper.
+      pair : (row_on after.place.bench).actors ≡ k ∷ keeper_actors other worker.keeper
+      pair =
+          search (arith, keeper_is, actors_are, same_there)
+
+      parts : (n : ℕ) → among (row_on after.place.bench).actors n ≡ true → part n p.list ≡ part n (steps_of (row_on after.place.bench).base)
+      parts = search (arith, both_parts)
+
+      -- The steps of the pair stand in the order in which it made them.
+      order : KeepsOrder (pair_in m.threads k worker.keeper) p.list mine.reached.list (steps_of rose.base)
+      order = subst (λ (ns : List ℕ). KeepsOrder (among ns) p.list mine.reached.list (steps_of rose.base)) pair
+          (keeps_order (row_on after.place.bench) rose.base grown.0 p.list mine.reached.list rose.saw grown.1 mine.stands.thread.sits.stood.1 parts)
+
+      its : IsPassOf region pass
+      its = subst (IsPassOf region) (same_Some _ _ (sym m.stands.thread.has.present ∙ is)) m.stands.thread.has.of
+
+      -- what it did, with this keeper before
+      abbrev DidWith : Option Keeper → Type 0
+      DidWith o =
+          (did : Did region worker.pass (Some own) (λ σ σ'. Works k σ σ' has (kept_by_worker o) (kept_by_worker risen)))
+          × IsKeeperOf region risen × HasLeft region (Some left) (pair_in m.threads k worker.keeper) p.list did.does.reached.list
+
+      -- A worker that sat down, worked and rose did its acts of the phase with its passes.
+      pub pair_did : DidWith worker.keeper
+      pair_did =
+          let in_order = subst (λ (q : Progress). KeepsOrder (pair_in m.threads k worker.keeper) p.list q.list (steps_of rose.base)) (sym back.1) order in
+          subst DidWith taken (
+            record { before = record { pass = pass; present = is; of = its }; after = record { pass = own; present = refl; of = rose.thread.of }; does = back.0 },
+            risen_keeper_is_of_region region (row_on after.place.bench) there risen rose.beside,
+            record { bench = left; present = refl; of = rose.of; base = rose.base; rows = rose.rows; order = in_order },
+          )

@@ -1,6 +1,6 @@
 -- How a replay on threads goes from phase to phase, and to its end: what stays so at another progress, the marks between phases, and the close.
-use Rattle.std.proofs.Common.{◌≡◌, ◌≢◌, ℕ, ◌+◌, inl, inr, List, [], ◌∷◌, ◌++◌, length, Option, refl, ap, sym, subst, arith, length-append, zero, suc, ◌∙◌}
-use Rattle.std.proofs.Common.{append_assoc, ◌<◌, ◌≤◌, get_or, map, drop, slice_index_or, drop_of_length-le, append-nil}
+use Rattle.std.proofs.Common.{◌≡◌, ◌≢◌, ℕ, ◌+◌, List, [], ◌∷◌, ◌++◌, length, Option, refl, ap, sym, subst, arith, length-append, zero, suc, ◌∙◌, append_assoc}
+use Rattle.std.proofs.Common.{◌<◌, ◌≤◌, get_or, map, drop, slice_index_or, drop_of_length-le, append-nil}
 use Rattle.std.proofs.lemmas.List.{append_cancel_left, drop_more}
 use Rattle.pas_profile.specs.declared.profile.Profile.{Profile}
 use Rattle.pas_steps.specs.{Lists.Whole, Lists.part, Views.View}
@@ -13,28 +13,25 @@ use Rattle.pas_cache.specs.Caches.{Cached, cached}
 use Rattle.pas_cache.specs.declared.cache.ThreadCache.{ThreadCache}
 use Rattle.pas_shared.specs.Ruled.{IsEarlier}
 use Rattle.pas_shared.specs.declared.region.SharedRegion.{SharedRegion}
-use Rattle.pas_answers.specs.Answers.{Books, Caches, Named, Progress, with_records}
-use Rattle.pas_answers.specs.Calls.{Tells, AreKnown, OnlyAsked, owed_events}
-use Rattle.pas_answers.specs.{Reaching.Reaches, Replays.at_start, Phases.AreInPhases}
+use Rattle.pas_answers.specs.{Answers.Caches, Answers.Progress, Answers.with_records, Calls.owed_events, Reaching.Reaches, Replays.at_start, Phases.AreInPhases}
 use Rattle.pas_answers.specs.Stages.{itself, Stage, stage, one_by_one, phase_stages, stages_from, stages_of}
 use Rattle.pas_answers.specs.Ways.{OnThreads, AreSpoken, by_actors, arranged, records_by}
 use Rattle.pas_answers.proofs.{OwnRecords.records_both as said_both, OwnRecords.spoken_both, Reached.reach_both}
 use Rattle.pas_acts.proofs.ActsLeft.{acts_left, close_left, first_phase, other_phase}
-use Rattle.pas_acts.proofs.{Arranging.are_arranged, AtDesk.rests_still, AtDesk.sits_still}
-use Rattle.pas_acts.specs.NameBooks.{NamesAt, requests_in, room_for, Requests}
+use Rattle.pas_acts.proofs.{PlanFacts.are_arranged, AtDesk.rests_still, AtDesk.sits_still}
+use Rattle.pas_acts.specs.NameBooks.{NamesAt, requests_in, room_for}
 use Rattle.pas_acts.specs.declared.names.NameBook.{NameBook}
-use Rattle.pas_threads.specs.Pairs.{no_more, KeeperRests, said_by_keeper, owed_kept, keeper_at, owed_by_keepers, AreGuarded, IsLow, MayLower, LoweredAll}
+use Rattle.pas_threads.specs.Pairs.{no_more, KeeperRests, owed_kept, keeper_at, owed_by_keepers, AreGuarded, IsLow, MayLower, LoweredAll}
 use Rattle.pas_threads.specs.Sessions.{planned, Session, evenly, WorkerHas, ScavengerRests, TeamAt, HasPlaces, HasRoom, AreMarked, AreWritten, WorkerRests}
 use Rattle.pas_threads.specs.Sessions.{WorkersRest, CloseDone, owed_by, PhaseAt, PhaseDone, HasReplayed, IsOfActors, StandSo, WentBy}
-use Rattle.pas_threads.proofs.Gathered.{OwnGathered, KeptGathered, IsCleared, cleared}
-use Rattle.pas_threads.proofs.KeptPhases.{AreAlike, alike_same, alike_pushed, alike_said, alike_both, guarded_alike, kept_still, said_then}
-use Rattle.pas_threads.specs.Turns.{StoppedAll, said_own, said_by_all, said_kept, said_by_keepers}
+use Rattle.pas_threads.proofs.TakingTurns.{OwnGathered, KeptGathered, IsCleared, cleared, pass_still, same_owed, same_rests, rests_clear}
+use Rattle.pas_threads.proofs.Keepers.{AreAlike, alike_same, alike_pushed, alike_said, alike_both, guarded_alike, kept_still, said_then, keeper_is, owed_still}
+use Rattle.pas_threads.proofs.Keepers.{waits_gathered, of_gathered, silent_gathered, low_gathered}
+use Rattle.pas_threads.specs.Turns.{StoppedAll, said_by_all, said_kept, said_by_keepers}
 use Rattle.pas_threads.specs.declared.{keeper.Keeper.Keeper, phases.Team.Team, scavenger.Scavenger.Scavenger, workers.Worker.Worker}
-use Rattle.pas_threads.proofs.{Dealt.some_worker, Staging.went_both, Staging.went_mark}
-use Rattle.pas_threads.proofs.TakingTurns.{pass_still, same_owed, same_rests, rests_clear}
-use Rattle.pas_threads.proofs.InPhases.{in_both, unmarked, phase_unmarked, close_unmarked, earlier_both, stand_first}
-use Rattle.pas_threads.proofs.Keepers.{keeper_is, owed_still, waits_gathered, of_gathered, silent_gathered, low_gathered}
-use Rattle.pas_threads.proofs.PhaseSums.{owed_less, kept_less, own_all, all_paid, said_in_order, kept_in_order, kept_few, by_all}
+use Rattle.pas_threads.proofs.Dealt.{some_item}
+use Rattle.pas_threads.proofs.Staging.{went_both, went_mark, in_both, unmarked, phase_unmarked, close_unmarked, earlier_both, stand_first, close_rest}
+use Rattle.pas_threads.proofs.ReadyPhases.{owed_less, kept_less, own_all, all_paid, said_in_order, kept_in_order, kept_few, by_all}
 
 -- ---- another progress
 -- the scavenger rests at each progress of which it has the same part
@@ -52,16 +49,7 @@ scavenger_rests {region} {f} {scavenger} {later} {p} {q} same at = record {
 
 -- the book says what all names stand for, wherever they stand for the same
 names_at : {f : Profile} {ops : List Op} {book : NameBook} {p q : Progress} → q.names ≡ p.names → NamesAt f ops book p → NamesAt f ops book q
-names_at {f} {ops} {book} {p} {q} same at = record {
-  asked = at.asked;
-  sound = at.sound;
-  above = at.above;
-  below = at.below;
-  tells = subst (λ (names : List Named). Tells book.names names) (sym same) at.tells;
-  stand = at.stand;
-  known = subst (λ (names : List Named). AreKnown at.asked names) (sym same) at.known;
-  only = subst (λ (names : List Named). OnlyAsked at.asked names) (sym same) at.only;
-}
+names_at {f} {ops} {book} {p} {q} same at = search arith
 
 -- ---- more records
 team_at_records : {region : SharedRegion} {s : Session} {phases : List (List Op)} {team : Team} {p : Progress} (more : List Record)
@@ -87,12 +75,7 @@ room_after_mark : (s : Session) (phases : List (List Op)) (marks : ℕ) (workers
     → records_in out' ≡ records_in out ++ mark ∷ [] → room_of out' ≡ room_of out
     → HasRoom s phases (marks + 1) workers out p → HasRoom s phases marks workers out' (with_records p (mark ∷ []))
 room_after_mark s phases marks workers out out' p mark pushed size room =
-    let grown = ap (λ (rs : List Record). length rs) pushed in
-    let one = length-append (records_in out) (mark ∷ []) in
-    let same = owed_less s.profile p (with_records p (mark ∷ [])) s.threads (λ i lt. omega arith) in
-    let kept = kept_less s.profile s.threads workers workers p (with_records p (mark ∷ [])) s.threads
-    (λ i lt. let still = owed_still s.profile (s.threads + suc i) (keeper_at workers i) p (with_records p (mark ∷ [])) refl in omega (arith, still)) in
-    omega (arith, grown, one, same, kept, size, room)
+    search (arith, length-append, owed_less, kept_less, owed_still)
 
 -- .. and no mark took none
 room_without_mark : (s : Session) (phases : List (List Op)) (marks : ℕ) (workers : List Worker) (out : Records) (p : Progress)
@@ -129,9 +112,9 @@ marked_by {s} {records} {written} mark behind so more =
     let threads = s.profile.threads in
     let after = arranged OnThreads threads more in
     let ordered = by_actors 0 (threads + 1) so.said in
-    ap (λ (rs : List Record). arranged OnThreads threads rs) (append_assoc records (mark ∷ []) more)
+    ap (arranged OnThreads threads) (append_assoc records (mark ∷ []) more)
     ∙ ap (λ (rs : List Record). arranged OnThreads threads (rs ++ mark ∷ more)) so.records_are
-    ∙ ap (λ (rs : List Record). arranged OnThreads threads rs) (append_assoc so.before so.said (mark ∷ more))
+    ∙ ap (arranged OnThreads threads) (append_assoc so.before so.said (mark ∷ more))
     ∙ so.marked (so.said ++ mark ∷ more)
     ∙ ap (λ (rs : List Record). so.before_written ++ rs) (behind so.said more so.spoken)
     ∙ sym (append_assoc so.before_written ordered (mark ∷ after))
@@ -149,16 +132,12 @@ close_marked {s} so = marked_by Record.Close (λ said more spoken. (are_arranged
 -- where another text of the records was written
 as_marked : (s : Session) (records : List Record) {written written' : List Record} → written' ≡ written → AreMarked s records written
     → AreMarked s records written'
-as_marked s records same so = subst (λ (ws : List Record). AreMarked s records ws) (sym same) so
+as_marked s records same so = subst (AreMarked s records) (sym same) so
 
 -- ---- the end
 written_whole : {s : Session} {records written : List Record} → AreWritten s records written → written ≡ arranged OnThreads s.profile.threads records
 written_whole {s} so =
-    let threads = s.profile.threads in
-    so.written_are
-    ∙ ap (λ (rs : List Record). so.before_written ++ rs) (sym (are_arranged threads so.said so.spoken).2)
-    ∙ sym (so.marked so.said)
-    ∙ ap (λ (rs : List Record). arranged OnThreads threads rs) (sym so.records_are)
+    search (arith, are_arranged)
 
 -- ---- what is so of the workers at the end
 record AreClosed (region : SharedRegion) (s : Session) (all : List Worker) (q : Progress) : Type 0 where
@@ -187,11 +166,10 @@ module _ {region : SharedRegion} {s : Session} {team : Team} {p : Progress} (sto
   -- no keeper did anything so far
   kept_between : (i : ℕ) (d : Worker) → i < length team.threads.items → KeeperRests region f (s.threads + suc i) [] (get_or stopped i d).keeper between
   kept_between i d lt =
-      let books = ap (λ (books : Books). books (s.threads + suc i)) did.turns.leaves.books in
-      kept_still (did.turns.told i d lt).keeper (did.turns.leaves.parts (s.threads + suc i) (no_keeper i)) books (at.workers.kept i d lt)
+      search (arith, kept_still, no_keeper)
 
   alike_stopped : (i : ℕ) (d : Worker) → i < length team.threads.items → AreAlike (get_or team.threads.items i d).keeper (get_or stopped i d).keeper
-  alike_stopped i d lt = alike_same (get_or team.threads.items i d).keeper (get_or stopped i d).keeper (did.turns.told i d lt).keeper
+  alike_stopped i d lt = alike_same (did.turns.told i d lt).keeper
 
   -- Once all threads are stopped at the close, each keeper may lower its guards.
   pub may_lower : MayLower region f s.threads s.keepers stopped between
@@ -230,22 +208,16 @@ module _ {region : SharedRegion} {s : Session} {team : Team} {p : Progress} (sto
     -- what the worker said for its thread
     said_by_one : (i : ℕ) (d : Worker) → i < length team.threads.items → records_in (get_or lowered i d).out ≡ records_by (suc i) all
     said_by_one i d lt =
-        let within : i < length stopped = omega (arith, lt, many) in
-        let nothing = low.silent (suc i) (apart (suc i) (omega (arith, lt, threads_are))) in
-        ap (λ (o : Records). records_in o) (low.each i d within).but.out ∙ (did.turns.told i d lt).out.added
-        ∙ ap (λ (rs : List Record). rs ++ records_by (suc i) did.turns.came.said) (at.workers.threads i d lt).said ∙ sym (by_stops (suc i) nothing)
+        search (arith, threads_are, by_stops)
 
     said_are : said_by_all lowered ≡ by_actors 1 s.threads all
     said_are =
-        said_in_order said_own 1 lowered all
-        (λ i d lt. said_by_one i d (omega (arith, lt, same, many)) ∙ ap (λ (j : ℕ). records_by j all) (let e : suc i ≡ 1 + i = omega arith in e))
-        ∙ ap (λ (n : ℕ). by_actors 1 n all) threads_is
+        search (arith, said_in_order, said_by_one, threads_is)
 
     -- .. and for its keeper
     kept_by_one : (i : ℕ) (d : Worker) → i < length team.threads.items → said_kept (get_or lowered i d) ≡ records_by (s.threads + suc i) all
     kept_by_one i d lt =
-        let told = (low.each i d (omega (arith, lt, many))).told in
-        said_then (s.threads + suc i) low.said (get_or stopped i d).keeper (get_or lowered i d).keeper told (kept_between i d lt).silent ∙ sym (of_keeper i)
+        search (arith, said_then, kept_between, of_keeper)
 
     -- where there are no keepers nothing was done
     nothing_done : s.keepers ≡ 0 → (reached ≡ between) × (low.said ≡ [])
@@ -258,18 +230,15 @@ module _ {region : SharedRegion} {s : Session} {team : Team} {p : Progress} (sto
     -- nobody past the keepers did anything
     past : (k : ℕ) → s.threads + s.keepers < k → AreGuarded s.keepers team.threads.items
         → (part k reached.list ≡ part k between.list) × (records_by k low.said ≡ [])
-    past k far (inl keepers) =
-        let other : (j : ℕ) → j < length stopped → s.threads + suc j ≢ k = λ j lt is. omega (arith, far, keepers.0, lt, is, many) in
-        (low.parts k other, low.silent k other)
-    past k far (inr none) =
-        let nothing = nothing_done none.0 in
-        (ap (λ (q : Progress). part k q.list) nothing.0, ap (λ (rs : List Record). records_by k rs) nothing.1)
+    past k far a = search (arith, nothing_done)
 
     stops_past : (k : ℕ) → s.threads < k → (i : ℕ) → i < length team.threads.items → suc i ≢ k
     stops_past k far i lt is = omega (arith, far, threads_are, lt, is)
 
+    -- No record is of an actor behind the keepers.
     silent : (k : ℕ) → s.threads + s.keepers < k → records_by k all ≡ []
-    silent k far = by_sweeps k (did.turns.leaves.silent k (λ is. omega (arith, is, far)) (stops_past k (omega (arith, far)))) ∙ (past k far at.workers.guarded).1
+    silent k far =
+        by_sweeps k (did.turns.leaves.silent k (λ is. omega (arith, is, far)) (stops_past k (omega (arith, far)))) ∙ (past k far at.workers.guarded).1
 
     none_of_scavenger : records_by 0 all ≡ []
     none_of_scavenger = by_sweeps 0 did.none ∙ low.silent 0 (apart 0 (omega arith))
@@ -281,14 +250,14 @@ module _ {region : SharedRegion} {s : Session} {team : Team} {p : Progress} (sto
         let paid = all_paid f (planned s) s.threads [] all team.threads.items [] p reached s.threads (λ i lt.
         let less : i < length team.threads.items = omega (arith, lt, threads_are) in
         let within : i < length stopped = omega (arith, less, many) in
-        let d = some_worker team.threads.items i less in
+        let d = some_item team.threads.items i less in
         let keeper = s.threads + suc i in
         let due = (did.turns.stand i d less).paid in
         let out = ap (λ (o : Records). length (records_in o)) (low.each i d within).but.out in
-        let size = ap (λ (rs : List Record). length rs) (said_by_one i d less) in
+        let size = ap length (said_by_one i d less) in
         let owes = same_owed f between reached (suc i) (low.parts (suc i) (apart (suc i) (omega (arith, lt)))) (ap (λ (cs : Caches). cs (suc i)) low.caches) in
         let kept = (low.each i d within).paid in
-        let by_keeper = ap (λ (rs : List Record). length rs) (of_keeper i) in
+        let by_keeper = ap length (of_keeper i) in
         let had = ap (λ (o : Option Keeper). owed_kept f keeper o between) ((did.turns.told i d less).keeper ∙ sym (keeper_is team.threads.items i d less))
         ∙ owed_still f keeper (keeper_at team.threads.items i) p between (did.turns.leaves.parts keeper (no_keeper i)) in
         omega (arith, due, out, size, owes, kept, by_keeper, had)) in
@@ -299,8 +268,7 @@ module _ {region : SharedRegion} {s : Session} {team : Team} {p : Progress} (sto
       -- There is room for what the threads said at the close.
       pub room_at_close : length (records_in out) + length (said_by_all lowered) ≤ room_of out
       room_at_close =
-          let size = ap (λ (rs : List Record). length rs) said_are in
-          omega (arith, room, said_few, size)
+          search (arith, said_are, said_few)
 
     module _ {gathered : List Worker} {out out2 : Records} (g : OwnGathered lowered gathered out out2) where
       guarded_then : AreGuarded s.keepers gathered
@@ -310,24 +278,17 @@ module _ {region : SharedRegion} {s : Session} {team : Team} {p : Progress} (sto
           let mid = (get_or stopped i d).keeper in
           let swept = (get_or lowered i d).keeper in
           let new = (get_or gathered i d).keeper in
-          let last = alike_same swept new (g.each i d (omega (arith, within, same))).keeper in
+          let last = alike_same (g.each i d (omega (arith, within, same))).keeper in
           alike_both old mid new (alike_stopped i d lt) (alike_both mid swept new (alike_pushed (s.threads + suc i) low.said mid swept (low.each i d within).told) last)) at.workers.guarded
 
       kept_are : said_by_keepers gathered ≡ by_actors (s.threads + 1) s.keepers all
       kept_are =
-          kept_in_order s.threads gathered all guarded_then
-          (λ i d lt. ap said_by_keeper (g.each i d (omega (arith, lt, g.many))).keeper ∙ kept_by_one i d (omega (arith, lt, g.many, same, many)))
+          search (arith, kept_in_order, guarded_then, kept_by_one)
 
       -- There is room for what the keepers say at the close behind what was written before it.
       pub room_for_keepers : HasRoom s [] 0 team.threads.items out p → length (records_in out2) + length (said_by_keepers gathered) ≤ room_of out2
       room_for_keepers room =
-          let own = ap (λ (rs : List Record). length rs) said_are in
-          let all_kept = ap (λ (rs : List Record). length rs) kept_are in
-          let most = kept_few s.threads gathered all guarded_then in
-          let count = ap (λ (n : ℕ). length (by_actors (s.threads + 1) n all)) (g.many ∙ threads_is) in
-          let long = ap (λ (rs : List Record). length rs) g.added in
-          let sum = length-append (records_in out) (said_by_all lowered) in
-          omega (arith, room, said_few, own, all_kept, most, count, long, sum, g.size)
+          search (arith, said_are, kept_are, kept_few, guarded_then, threads_is, length-append, said_few)
 
       module _ {kept : List Worker} {out3 : Records} (h : KeptGathered gathered kept out2 out3) where
         written_so : AreMarked s p.records (records_in out) → AreWritten s reached.records (records_in out3)
@@ -343,13 +304,15 @@ module _ {region : SharedRegion} {s : Session} {team : Team} {p : Progress} (sto
               said = all;
               marked = marked;
               spoken = spoken_both did.turns.came.said low.said did.spoken low.spoken;
-              records_are = low.records_are ∙ ap (λ (rs : List Record). rs ++ low.said) did.turns.came.records_are ∙ append_assoc p.records did.turns.came.said low.said;
+              records_are = low.records_are ∙ ap (λ rs. rs ++ low.said) did.turns.came.records_are ∙ append_assoc p.records did.turns.came.said low.said;
               written_are = cc (append_assoc written own its, said_are, kept_are);
             }
 
+        -- There are as many workers as before.
         sized : length kept ≡ length team.threads.items
         sized = h.many ∙ g.many ∙ same ∙ many
 
+        -- Each worker's records were gathered.
         clear : (i : ℕ) (d : Worker) → i < length team.threads.items → IsCleared (get_or lowered i d) (get_or kept i d)
         clear i d lt =
             cleared (g.each i d (omega (arith, lt, same, many))) (h.each i d (omega (arith, lt, g.many, same, many)))
@@ -370,16 +333,17 @@ module _ {region : SharedRegion} {s : Session} {team : Team} {p : Progress} (sto
             let room : room_of (get_or kept i d).out ≡ room_of (get_or stopped i d).out = c.room ∙ ap room_of but.out in
             let requests : (get_or kept i d).requests ≡ (get_or team.threads.items i d).requests =
             (h.each i d (omega (arith, lt, same2))).but.requests ∙ (g.each i d (omega (arith, lt, same1, same2))).requests ∙ but.requests ∙ (did.turns.told i d within).requests in
-            let noted = ap (λ (r : Requests). room_for r) requests in
+            let noted = ap room_for requests in
             rests_clear has (c.pass ∙ but.pass) (c.cache ∙ but.cache) c.none (omega arith) (omega (arith, has.rests.spare, owed, room))
-            (ap (λ (r : Requests). requests_in r) requests ∙ was.asked) (omega (arith, was.requests, noted))
+            (ap requests_in requests ∙ was.asked) (omega (arith, was.requests, noted))
 
         all_closed : AreClosed region s kept reached
         all_closed = record {
           rest = record {
             many = sized ∙ threads_are;
             threads = thread_rests;
-            guarded = guarded_alike gathered kept h.many (λ i d lt. alike_said (get_or gathered i d).keeper (get_or kept i d).keeper (h.each i d lt).keeper) guarded_then;
+            guarded = guarded_alike gathered kept h.many
+                (λ i d lt. alike_said (get_or gathered i d).keeper (get_or kept i d).keeper (h.each i d lt).keeper) guarded_then;
             kept = λ i d lt.
                 let within : i < length team.threads.items = omega (arith, lt, sized) in
                 let one = low.each i d (omega (arith, within, many)) in
@@ -404,7 +368,7 @@ module _ {region : SharedRegion} {s : Session} {team : Team} {p : Progress} (sto
         -- The close is done once threads are stopped, guards are lowered and all that was said is gathered.
         pub has_closed : {after : Team} → after.threads.items ≡ kept → after.scavenger ≡ team.scavenger → after.book ≡ team.book → HasPlaces s.threads after
             → AreMarked s p.records (records_in out) → {first last_seen : Whole}
-            → WentBy s (one_by_one (map Ends (numbers_from 1 s.threads) ++ map Lowers (numbers_from (s.threads + 1) s.keepers))) p reached first last_seen
+            → WentBy s (one_by_one (close_rest s.threads s.keepers)) p reached first last_seen
             → CloseDone region s after (records_in out3) first last_seen p
         has_closed {after} threads scavenger book places marked went =
             let then : AreClosed region s after.threads.items reached = subst (λ (ws : List Worker). AreClosed region s ws reached) (sym threads) all_closed in
@@ -416,7 +380,8 @@ module _ {region : SharedRegion} {s : Session} {team : Team} {p : Progress} (sto
               team_at = record {
                 fit = at.fit;
                 workers = then.rest;
-                scavenger = subst (λ (x : Scavenger). ScavengerRests region f x (own_records (planned s) 0 (all_ops [])) reached) (sym scavenger) (scavenger_rests still at.scavenger);
+                scavenger = subst (λ x. ScavengerRests region f x (own_records (planned s) 0 (all_ops [])) reached) (sym scavenger)
+                    (scavenger_rests still at.scavenger);
                 nobody = λ k far. (past k far at.workers.guarded).0 ∙ did.turns.leaves.parts k (stops_past k (omega (arith, far))) ∙ at.nobody k far;
                 names = subst (λ (b : NameBook). NamesAt f (all_ops []) b reached) (sym book) (names_at (low.names ∙ did.turns.leaves.names) at.names);
                 frees = tt;
@@ -435,18 +400,17 @@ stages_left threads keepers zero phases = stages_of threads keepers phases
 stages_left threads keepers (suc n) phases = stages_from threads keepers (suc n + 1) phases
 
 close_stages : (threads keepers n : ℕ) → stages_left threads keepers n [] ≡ one_by_one (close_acts threads keepers)
-close_stages threads keepers zero = refl
-close_stages threads keepers (suc n) = refl
+-- At the first place and at the others.
+close_stages threads keepers a = search arith
 
 left_stages : (threads keepers n : ℕ) (phases : List (List Op)) → 1 ≤ n → stages_left threads keepers n phases ≡ stages_from threads keepers (n + 1) phases
-left_stages threads keepers zero phases some = absurd (omega (arith, some))
-left_stages threads keepers (suc n) phases some = refl
+-- At the first place and at the others.
+left_stages threads keepers a phases b = search arith
 
 -- the first phase, which has no mark, and another one
 first_stages : (threads keepers n : ℕ) (phase : List Op) (phases : List (List Op)) → n ≡ 0
     → stages_left threads keepers n (phase ∷ phases) ≡ phase_stages threads phase ++ stages_left threads keepers (n + 1) phases
-first_stages threads keepers zero phase phases is = refl
-first_stages threads keepers (suc n) phase phases is = absurd (omega (arith, is))
+first_stages threads keepers a phase phases is = search arith
 
 other_stages : (threads keepers n : ℕ) (phase : List Op) (phases : List (List Op)) → 1 ≤ n
     → stages_left threads keepers n (phase ∷ phases)
@@ -464,7 +428,8 @@ pub record Leads (s : Session) (all : List (List Op)) (acts : List Act) (stages 
 -- by these acts and stages, which are those told otherwise
 leads_as : {s : Session} {all : List (List Op)} {acts acts' : List Act} {stages stages' : List Stage} {p : Progress} {so_far : Whole} → acts ≡ acts'
     → stages ≡ stages' → Leads s all acts stages p so_far → Leads s all acts' stages' p so_far
-leads_as {s} {all} {acts} {acts'} {stages} {stages'} {p} {so_far} one two leads = subst (λ (ss : List Stage). Leads s all acts' ss p so_far) two (subst (λ (xs : List Act). Leads s all xs stages p so_far) one leads)
+leads_as {s} {all} {acts} {acts'} {stages} {stages'} {p} {so_far} one two leads =
+    subst (λ ss. Leads s all acts' ss p so_far) two (subst (λ xs. Leads s all xs stages p so_far) one leads)
 
 -- After n phases of all: these are left. There is room for a mark before each of them, and for that of the close. Before the first phase there is no
 -- record. The steps so far stand in the ledger.
@@ -492,7 +457,7 @@ no_phase {region} {s} {all} {team} {so_far} {out} {marks} nothing empty is at ro
     in_phases = λ whole first of q is so. so;
     by_stages = λ q l went. subst (λ (m : Whole). WentBy s (stages_of s.threads s.keepers all) at_start q m l) nothing went;
   };
-  stand = λ k le. ap (λ (l : Whole). part k l) nothing;
+  stand = λ k le. ap (part k) nothing;
 }
 
 -- what is left begins with the next phase, or is nothing
@@ -502,8 +467,7 @@ pub as_next : {region : SharedRegion} {s : Session} {all : List (List Op)} {team
     → AfterPhases region s all i (map ops_of (drop i phases)) team so_far out
     → AfterPhases region s all i (ops ∷ map ops_of (drop (i + 1) phases)) team so_far out
 as_next {region} {s} {all} {team} {so_far} {out} phases i item ops lt is same so =
-    let first : ops_of (slice_index_or phases i item) ≡ ops = ap ops_of (sym is) ∙ sym same in
-    rw (drop_more phases i item lt, first) at so
+    search (arith, drop_more)
 
 -- After the last phase no operations are left.
 pub as_last : {region : SharedRegion} {s : Session} {all : List (List Op)} {team : Team} {so_far : Whole} {out : Records} (phases : List Phase) (i : ℕ)
@@ -522,7 +486,8 @@ module _ {region : SharedRegion} {s : Session} {all : List (List Op)} {n : ℕ} 
     {out : Records} (so : AfterPhases region s all n (ops ∷ rest) team so_far out) where
   one_more : (out' : Records) (q : Progress) → HasRoom s (ops ∷ rest) (length (ops ∷ rest) + 1) team.threads.items out' q
       → HasRoom s (ops ∷ rest) (length rest + 1 + 1) team.threads.items out' q
-  one_more out' q room = subst (λ (m : ℕ). HasRoom s (ops ∷ rest) m team.threads.items out' q) (let e : length (ops ∷ rest) + 1 ≡ length rest + 1 + 1 = omega arith in e) room
+  one_more out' q room =
+      subst (λ m. HasRoom s (ops ∷ rest) m team.threads.items out' q) (let e : length (ops ∷ rest) + 1 ≡ length rest + 1 + 1 = omega arith in e) room
 
   -- there is room for a mark
   pub spare_for_mark : length (records_in out) < room_of out
@@ -530,12 +495,7 @@ module _ {region : SharedRegion} {s : Session} {all : List (List Op)} {n : ℕ} 
 
   -- The first phase begins where the replay stands, without a mark.
   pub first_begins : n ≡ 0 → BeforePhase region s all n ops rest team so_far out
-  first_begins is = record {
-    p = so.p;
-    at = record { team_at = so.team_at; marked = are_none s (so.none is).0 (so.none is).1; room = room_without_mark s (ops ∷ rest) (length rest + 1) team.threads.items out so.p (one_more out so.p so.room) };
-    leads = leads_as (first_phase s.threads s.keepers n ops rest is) (first_stages s.threads s.keepers n ops rest is) so.leads;
-    stand = so.stand;
-  }
+  first_begins is = search (arith, are_none, room_without_mark, one_more, leads_as, first_phase, first_stages)
 
   -- Each later phase begins once its mark is among the records.
   pub other_begins : {out' : Records} → 1 ≤ n → records_in out' ≡ records_in out ++ Record.Phase (n + 1) ∷ [] → room_of out' ≡ room_of out
@@ -548,13 +508,15 @@ module _ {region : SharedRegion} {s : Session} {all : List (List Op)} {n : ℕ} 
         at = record {
           team_at = team_at_records (Record.Phase (n + 1) ∷ []) so.team_at;
           marked = as_marked s (so.p.records ++ Record.Phase (n + 1) ∷ []) pushed (phase_marked (n + 1) so.written);
-          room = room_after_mark s (ops ∷ rest) (length rest + 1) team.threads.items out out' so.p (Record.Phase (n + 1)) pushed size (one_more out so.p so.room);
+          room = room_after_mark s (ops ∷ rest) (length rest + 1) team.threads.items out out' so.p (Record.Phase (n + 1)) pushed size
+              (one_more out so.p so.room);
         };
         leads = record {
           reaches = λ q reaches. all_led.reaches q (after, refl, reaches);
-          in_phases = λ whole first of q is then. all_led.in_phases whole first of q (after, refl, is) (stand_first so.team_at so_far whole so.stand first of, then);
+          in_phases = λ whole first of q is then.
+              all_led.in_phases whole first of q (after, refl, is) (stand_first so.team_at so_far whole so.stand first of, then);
           by_stages = λ q l went. all_led.by_stages q l
-              (went_both (stage (MarksPhase (n + 1) ∷ []) itself ∷ []) (phase_stages s.threads ops ++ stages_left s.threads s.keepers (n + 1) rest) (went_mark s (MarksPhase (n + 1) ∷ []) (after, refl, refl) refl so.team_at.nobody so.stand) went);
+              (went_both (went_mark s (MarksPhase (n + 1) ∷ []) (after, refl, refl) refl so.team_at.nobody so.stand) went);
         };
         stand = so.stand;
       }
@@ -572,10 +534,11 @@ phase_ends {region} {s} {all} {n} {ops} {rest} {team} {team'} {so_far} {so_far'}
   leads = record {
     reaches = λ q reaches. so.leads.reaches q (reach_both s.profile (phase_acts s.threads ops) (acts_left s.threads s.keepers (n + 1) rest) so.p did.reached q did.reaches reaches);
     in_phases = λ whole first of q is then.
-        so.leads.in_phases whole (earlier_both did.went.earlier first) of q (reach_both s.profile (phase_acts s.threads ops) (acts_left s.threads s.keepers (n + 1) rest) so.p did.reached q did.reaches is)
+        so.leads.in_phases whole (earlier_both did.went.earlier first) of q
+        (reach_both s.profile (phase_acts s.threads ops) (acts_left s.threads s.keepers (n + 1) rest) so.p did.reached q did.reaches is)
         (in_both s.profile (phase_acts s.threads ops) (acts_left s.threads s.keepers (n + 1) rest) so.p did.reached q did.reaches is whole
         (unmarked s.profile (phase_acts s.threads ops) so.p did.reached did.reaches whole (phase_unmarked s.threads ops)) then);
-    by_stages = λ q l went. so.leads.by_stages q l (went_both (phase_stages s.threads ops) (stages_left s.threads s.keepers (n + 1) rest) did.went went);
+    by_stages = λ q l went. so.leads.by_stages q l (went_both did.went went);
   };
   stand = did.went.stand;
 }
@@ -587,7 +550,7 @@ pub record BeforeClose (region : SharedRegion) (s : Session) (all : List (List O
   pub team_at : TeamAt region s [] team p
   pub marked : AreMarked s p.records (records_in out)
   pub room : HasRoom s [] 0 team.threads.items out p
-  pub leads : Leads s all (map Ends (numbers_from 1 s.threads) ++ map Lowers (numbers_from (s.threads + 1) s.keepers)) (one_by_one (map Ends (numbers_from 1 s.threads) ++ map Lowers (numbers_from (s.threads + 1) s.keepers))) p so_far
+  pub leads : Leads s all (close_rest s.threads s.keepers) (one_by_one (close_rest s.threads s.keepers)) p so_far
   pub stand : StandSo s so_far p.list
 
 module _ {region : SharedRegion} {s : Session} {all : List (List Op)} {n : ℕ} {team : Team} {so_far : Whole} {out : Records}
@@ -606,9 +569,10 @@ module _ {region : SharedRegion} {s : Session} {all : List (List Op)} {n : ℕ} 
     room = room_after_mark s [] 0 team.threads.items out out' so.p Record.Close pushed size so.room;
     leads = record {
       reaches = λ q reaches. all_led.reaches q (after, refl, reaches);
-      in_phases = λ whole first of q is then. all_led.in_phases whole first of q (after, refl, is) (stand_first so.team_at so_far whole so.stand first of, then);
+      in_phases = λ whole first of q is then.
+          all_led.in_phases whole first of q (after, refl, is) (stand_first so.team_at so_far whole so.stand first of, then);
       by_stages = λ q l went. all_led.by_stages q l
-          (went_both (one_by_one (MarksClose ∷ [])) (one_by_one (map Ends (numbers_from 1 s.threads) ++ map Lowers (numbers_from (s.threads + 1) s.keepers))) (went_mark s (MarksClose ∷ []) (after, refl, refl) refl so.team_at.nobody so.stand) went);
+          (went_both (went_mark s (MarksClose ∷ []) (after, refl, refl) refl so.team_at.nobody so.stand) went);
     };
     stand = so.stand;
   }
@@ -622,7 +586,7 @@ close_ends {region} {s} {all} {team} {team'} {so_far} {so_far'} {out} {written} 
   answers = so.leads.reaches did.reached did.reaches;
   went = so.leads.by_stages did.reached so_far' did.went;
   in_phases = λ whole first of. so.leads.in_phases whole (earlier_both did.went.earlier first) of did.reached did.reaches
-      (unmarked s.profile (map Ends (numbers_from 1 s.threads) ++ map Lowers (numbers_from (s.threads + 1) s.keepers)) so.p did.reached did.reaches whole (close_unmarked s.threads s.keepers));
+      (unmarked s.profile (close_rest s.threads s.keepers) so.p did.reached did.reaches whole (close_unmarked s.threads s.keepers));
   stands = did.team_at;
   written_are = written_whole did.written_so;
   empty = did.empty;

@@ -1,6 +1,6 @@
 -- The acts of the scavenger's worker at its bench, and the stops of the threads that are lent to it.
-use Rattle.std.proofs.Common.{◌≡◌, ◌≢◌, ℕ, ◌+◌, ◌<◌, ◌≤◌, Bool, true, false, List, [], ◌∷◌, ◌++◌, length, drop, set, get_or, refl, ap, sym, ◌∙◌, subst, arith}
-use Rattle.std.proofs.Common.{length-append, drop_of_length-le, zero, suc, if◌then◌else◌, eq-eqb, ne_eqb}
+use Rattle.std.proofs.Common.{◌≡◌, ◌≢◌, ℕ, ◌+◌, ◌<◌, ◌≤◌, Bool, List, [], ◌∷◌, ◌++◌, length, drop, set, get_or, refl, ap, sym, ◌∙◌, subst, arith, length-append}
+use Rattle.std.proofs.Common.{drop_of_length-le, zero, suc, eq-eqb, ne_eqb}
 use Rattle.std.proofs.lemmas.List.{drop_more}
 use Rattle.pas_profile.specs.declared.profile.Profile.{Profile}
 use Rattle.pas_report.specs.Rooms.{records_in, Records}
@@ -8,8 +8,8 @@ use Rattle.pas_report.specs.declared.record.Record.{Record}
 use Rattle.pas_shared.specs.Benches.{row_on, StandsOver}
 use Rattle.pas_shared.specs.declared.{bench.Bench.Bench, bench_desk.BenchDesk.BenchDesk, bench_desk.BenchHome.BenchHome}
 use Rattle.pas_shared.proofs.Benching.{row_tells}
-use Rattle.pas_trace.specs.Acts.{Act, StopsIdle, idle_stops, ReadsEpoch, acts_of_chore, acts_of_work, acts_of_op, scavenger_acts}
-use Rattle.pas_answers.specs.{Answers.Progress, Answers.Caches, Ways.EachOf, Ways.records_by, Fit.costs_of, Fit.cost_of_act, Fit.unbacks_of_act}
+use Rattle.pas_trace.specs.Acts.{Act, StopsIdle, idle_stops, ReadsEpoch, acts_of_chore, scavenger_acts}
+use Rattle.pas_answers.specs.{Answers.Progress, Ways.EachOf, Ways.records_by, Fit.costs_of, Fit.cost_of_act, Fit.unbacks_of_act}
 use Rattle.pas_answers.proofs.OwnRecords.{records_both, none_by, all_by}
 use Rattle.pas_steps.specs.{Lists.Whole, Lists.part, Desks.Standing}
 use Rattle.pas_steps.proofs.Parts.{part_of_others}
@@ -31,12 +31,11 @@ use Rattle.pas_threads.proofs.CrewSits.{lent_stays}
 -- ---- what is said of one thread's stop
 -- that it was stopped says the scavenger
 told_own : (stopped : Bool) (k : ℕ) → EachOf 0 (told_if stopped k)
-told_own true k = (λ j. refl, tt)
-told_own false k = tt
+told_own a k = search arith
 
 told_one : (stopped : Bool) (k : ℕ) → length (told_if stopped k) ≤ 1
-told_one true k = omega arith
-told_one false k = omega arith
+-- By both values of the test.
+told_one a k = search arith
 
 -- ---- the next of the lent threads
 stops : {h : BenchHome} {s : Shift} {acts : List Act} {bench bench' : Bench} {old now : List Worker} {out out1 out2 : Records} {p : Progress} (n i : ℕ)
@@ -49,10 +48,11 @@ stops {h} {s} {acts} {bench} {bench'} {old} {now} {out} {out1} {out2} {p} n i d 
     let x = t.does in
     let told = told_if t.stopped k in
     let theirs = told_own t.stopped k in
-    let apart : AreDistinct (number_in s) (length old) = subst (λ (n : ℕ). AreDistinct (number_in s) n) (sym size) s.distinct in
+    let apart : AreDistinct (number_in s) (length old) = subst (AreDistinct (number_in s)) (sym size) s.distinct in
     let by = by_scavenger k x.own told x.each (apart.threads i lt) in
-    let both = ap (λ (rs : List Record). length rs) (records_both 0 so.did.turns.came.said (x.own ++ told)) ∙ length-append (records_by 0 so.did.turns.came.said) (records_by 0 (x.own ++ told)) in
-    let long = ap (λ (rs : List Record). length rs) (by ∙ all_by 0 told theirs) in
+    let both = ap length (records_both 0 so.did.turns.came.said (x.own ++ told))
+    ∙ length-append (records_by 0 so.did.turns.came.said) (records_by 0 (x.own ++ told)) in
+    let long = ap length (by ∙ all_by 0 told theirs) in
     let few = so.did.few in
     let one = told_one t.stopped k in
     record {
@@ -67,7 +67,8 @@ stops {h} {s} {acts} {bench} {bench'} {old} {now} {out} {out1} {out2} {p} n i d 
 -- ---- all of them
 -- the stops of the lent threads before this place were done
 abbrev pub StopsSoFar : BenchHome → Shift → ℕ → Bench → List Worker → List Worker → Records → Records → ℕ → Progress → Type 0
-StopsSoFar h s n bench old now out out1 i p = SoFar (idle_stops n s.idle) (idle_stops n (drop i s.idle)) (λ acts. StoppedLent h s acts bench old now out out1 i p)
+StopsSoFar h s n bench old now out out1 i p =
+    SoFar (idle_stops n s.idle) (idle_stops n (drop i s.idle)) (λ acts. StoppedLent h s acts bench old now out out1 i p)
 
 -- Before the first idle thread is stopped, the stops so far are none.
 pub stops_begin : {h : BenchHome} {s : Shift} {desk : BenchDesk} {lent : List Worker} {out : Records} {p : Progress} (n : ℕ) → IsDeskAt h desk p
@@ -80,7 +81,7 @@ pub stops_go_on : {h : BenchHome} {s : Shift} {bench bench' : Bench} {old now : 
     → StopsLent h s.profile (number_in s i) n bench bench' (get_or now i d) w out1 out2 (s.lends i) so.done.did.turns.came.reached
     → StopsSoFar h s n bench' old (set now i w) out out2 (i + 1) p
 stops_go_on {s = s} n i d w size so lt many t =
-    goes_on (StopsIdle (number_in s i) n ∷ []) (ap (λ (ks : List ℕ). idle_stops n ks) (drop_more s.idle i 0 (omega (arith, lt, size)))) so (stops n i d w size so.done lt many t)
+    goes_on (StopsIdle (number_in s i) n ∷ []) (ap (idle_stops n) (drop_more s.idle i 0 (omega (arith, lt, size)))) so (stops n i d w size so.done lt many t)
 
 -- Once each lent worker had its turn, all the stops of the idle threads were done.
 pub stops_end : {h : BenchHome} {s : Shift} {bench : Bench} {old now : List Worker} {out out1 : Records} {p : Progress} (n i : ℕ) → length old ≡ length s.idle
@@ -88,7 +89,8 @@ pub stops_end : {h : BenchHome} {s : Shift} {bench : Bench} {old now : List Work
     → StoppedLent h s (idle_stops n s.idle) bench old now out out1 (length old) p
 stops_end {h} {s} {bench} {old} {now} {out} {out1} {p} n i size le ge so =
     let count : i ≡ length old = omega (arith, le, ge) in
-    subst (λ (m : ℕ). StoppedLent h s (idle_stops n s.idle) bench old now out out1 m p) count (at_last (ap (λ (ks : List ℕ). idle_stops n ks) (drop_of_length-le s.idle (omega (arith, le, size)))) so)
+    subst (λ m. StoppedLent h s (idle_stops n s.idle) bench old now out out1 m p) count
+    (at_last (ap (idle_stops n) (drop_of_length-le s.idle (omega (arith, le, size)))) so)
 
 -- ---- the scavenger's own act
 -- there is room for it, beside the acts that are left
@@ -98,7 +100,8 @@ room_for_act less at = let spare = at.stands.spare in record { sits = sits_for a
 
 module _ {Lends : ℕ → Worker → Progress → Type 0} {s : Shift} {act : Act} {next : List Act} {σ σ' : Standing} {places : ℕ} {out out' : Records}
     {lent : List Worker} {p : Progress}
-    (stays : Stays (number_in s) Lends) (at : CrewStands Lends s (act ∷ next) (crew σ lent places out) p) (did : ScavengerActs s.profile act σ σ' out out' (and_left s.profile next s.own) p) where
+    (stays : Stays (number_in s) Lends) (at : CrewStands Lends s (act ∷ next) (crew σ lent places out) p)
+    (did : ScavengerActs s.profile act σ σ' out out' (and_left s.profile next s.own) p) where
   -- it leaves the lent threads where they are
   pub still_lent : AreBeside Lends s lent did.reached
   still_lent = record {
@@ -106,7 +109,7 @@ module _ {Lends : ℕ → Worker → Progress → Type 0} {s : Shift} {act : Act
     each = λ i d lt.
         let many = at.lent.many in
         let k = number_in s i in
-        stays i (get_or lent i d) p did.reached (ap (λ (l : Whole). part k l) did.moves.list_is ∙ part_of_others k 0 did.moves.steps p.list (s.distinct.threads i (omega (arith, lt, many)))) (ap (λ (cs : Caches). cs k) did.caches) did.names
+        stays i (get_or lent i d) p did.reached (ap (part k) did.moves.list_is ∙ part_of_others k 0 did.moves.steps p.list (s.distinct.threads i (omega (arith, lt, many)))) (ap (λ cs. cs k) did.caches) did.names
         (at.lent.each i d lt);
   }
 
@@ -114,13 +117,14 @@ module _ {Lends : ℕ → Worker → Progress → Type 0} {s : Shift} {act : Act
   came = record { reached = did.reached; reaches = did.reaches; said = did.says.said; records_are = did.says.records_are }
 
   own_told : Pushed 0 did.says.said out out'
-  own_told = record { added = did.says.pushed ∙ ap (λ (rs : List Record). records_in out ++ rs) (sym (all_by 0 did.says.said did.says.each)); room = did.says.room }
+  own_told = record { added = did.says.pushed ∙ ap (λ rs. records_in out ++ rs) (sym (all_by 0 did.says.said did.says.each)); room = did.says.room }
 
   lent_told : (i : ℕ) (d : Worker) → i < length lent → Told (number_in s i) did.says.said (get_or lent i d) (get_or lent i d)
   lent_told i d lt = told_none (none_by (number_in s i) 0 did.says.said did.says.each (s.distinct.threads i (omega (arith, lt, at.lent.many))))
 
   leaves_alone : (k : ℕ) → 0 ≢ k → TookNoPart k did.says.said p did.reached
-  leaves_alone k some = record { part_is = ap (λ (l : Whole). part k l) did.moves.list_is ∙ part_of_others k 0 did.moves.steps p.list some; silent = none_by k 0 did.says.said did.says.each some }
+  leaves_alone k some =
+      record { part_is = ap (part k) did.moves.list_is ∙ part_of_others k 0 did.moves.steps p.list some; silent = none_by k 0 did.says.said did.says.each some }
 
   -- An act of the scavenger alone is one that its crew did, the lent threads being as they were.
   pub did_alone : {places' : ℕ} → places' ≡ places → CrewDoes Lends s (act ∷ []) next (crew σ lent places out) (crew σ' lent places' out') p
@@ -150,14 +154,15 @@ did_idle {h} {s} {next} {σ} {σ'} {places} {out} {out'} {old} {new} {p} n desk 
     let costs = costs_stops s.profile n s.idle next in
     let many = at.lent.many in
     let spare = read.stands.spare in
-    let longer = ap (λ (rs : List Record). length rs) stops.told.added ∙ length-append (records_in out) (records_by 0 stops.turns.came.said) in
+    let longer = ap length stops.told.added ∙ length-append (records_in out) (records_by 0 stops.turns.came.said) in
     let own_part = stops.turns.leaves.parts 0 (λ i lt same. s.distinct.threads i (omega (arith, lt, many)) (sym same)) in
     record {
       came = came_both (came stays at read) stops.turns.came;
       stands = record {
         stands = record {
           stands = record {
-            sits = sits_still (λ v. costs_of s.profile next + s.own.events) (stood_still desk seat stopped.over) own_part (sits_for read.stands.sits (omega (arith, costs)));
+            sits = sits_still (λ v. costs_of s.profile next + s.own.events) (stood_still desk seat stopped.over) own_part
+                (sits_for read.stands.sits (omega (arith, costs)));
             spare = omega (arith, longer, stops.few, spare, costs, many, stops.told.room);
           };
           has_places = at.stands.has_places;
@@ -190,8 +195,7 @@ sound_at f asked (op ∷ ops) (suc i) d sound lt = sound_at f (asked_after op.wh
 
 -- all but a chore is of a thread
 not_first : (f : Profile) (work : Work) (k : ℕ) → IsActorBy f work k → ((chore : Chore) → work ≡ Work.Chore chore → ⊥) → k ≡ 0 → ⊥
-not_first f (Work.Own task) k of not same = omega (arith, of.0, same)
-not_first f (Work.Chore chore) k of not same = not chore refl
+not_first f a k of not same = search arith
 
 -- by what it asks for: a chore is the scavenger's, and all else is a thread's
 module _ (f : Profile) (asked : List ℕ) (ops : List Op) (i : ℕ) (d : Op) (sound : AreSound f asked ops) (lt : i < length ops) (work : Work)
@@ -201,25 +205,21 @@ module _ (f : Profile) (asked : List ℕ) (ops : List Op) (i : ℕ) (d : Op) (so
 
   -- The chore of an operation of a sound phase is sound.
   pub chore_sound : (chore : Chore) → work ≡ Work.Chore chore → IsSoundWork f [] (Work.Chore chore)
-  chore_sound chore is = let one = (sound_at f asked ops i d sound lt).1 in subst (λ (w : Work). IsSoundWork f one.0 w) (sym asks ∙ is) one.1
+  chore_sound chore is = let one = (sound_at f asked ops i d sound lt).1 in subst (IsSoundWork f one.0) (sym asks ∙ is) one.1
 
   -- The acts of the scavenger from an operation on are those of its chore and of the later operations.
   pub next_acts : (idle : List ℕ) (chore : Chore) → work ≡ Work.Chore chore
       → scavenger_acts idle (drop i ops) ≡ acts_of_chore idle chore ++ scavenger_acts idle (drop (i + 1) ops)
-  next_acts idle chore is = ap (λ (xs : List Op). scavenger_acts idle xs) (drop_more ops i d lt)
-      ∙ ap (λ (t : Bool). if t then acts_of_op idle (get_or ops i d) ++ scavenger_acts idle (drop (i + 1) ops) else scavenger_acts idle (drop (i + 1) ops))
-      (eq-eqb (get_or ops i d).actor 0 (subst (λ (w : Work). IsActorBy f w (get_or ops i d).actor) is of_actor))
-      ∙ ap (λ (w : Work). acts_of_work idle (get_or ops i d) w ++ scavenger_acts idle (drop (i + 1) ops)) (sym asks ∙ is)
+  next_acts idle chore is = search (arith, drop_more, eq-eqb, of_actor)
 
   -- An operation that is no chore adds nothing to the acts of the scavenger.
   pub skip_acts : (idle : List ℕ) → ((chore : Chore) → work ≡ Work.Chore chore → ⊥) → scavenger_acts idle (drop i ops) ≡ scavenger_acts idle (drop (i + 1) ops)
-  skip_acts idle not = ap (λ (xs : List Op). scavenger_acts idle xs) (drop_more ops i d lt)
-      ∙ ap (λ (t : Bool). if t then acts_of_op idle (get_or ops i d) ++ scavenger_acts idle (drop (i + 1) ops) else scavenger_acts idle (drop (i + 1) ops))
-      (ne_eqb (get_or ops i d).actor 0 (not_first f work (get_or ops i d).actor of_actor not))
+  skip_acts idle not = search (arith, drop_more, ne_eqb, not_first, of_actor)
 
 -- so far, the scavenger's operations before this place were done
 abbrev pub CrewSoFar : (ℕ → Worker → Progress → Type 0) → Shift → List Op → ℕ → Crew → Crew → Progress → Type 0
-CrewSoFar Lends s ops i has0 has p = SoFar (scavenger_acts s.idle ops) (scavenger_acts s.idle (drop i ops)) (λ acts. CrewDoes Lends s acts (scavenger_acts s.idle (drop i ops)) has0 has p)
+CrewSoFar Lends s ops i has0 has p =
+    SoFar (scavenger_acts s.idle ops) (scavenger_acts s.idle (drop i ops)) (λ acts. CrewDoes Lends s acts (scavenger_acts s.idle (drop i ops)) has0 has p)
 
 -- Before the first operation of a phase its crew did no acts.
 pub crew_begins : {Lends : ℕ → Worker → Progress → Type 0} {s : Shift} (ops : List Op) {has : Crew} {p : Progress}
@@ -228,7 +228,8 @@ crew_begins {s = s} ops {has} {p} at = at_first (record { came = came_none s.pro
 
 -- the next one is this chore
 module _ {Lends : ℕ → Worker → Progress → Type 0} {s : Shift} (ops : List Op) (i : ℕ) {has0 has : Crew} {p : Progress} (chore : Chore)
-    (next : scavenger_acts s.idle (drop i ops) ≡ acts_of_chore s.idle chore ++ scavenger_acts s.idle (drop (i + 1) ops)) (so : CrewSoFar Lends s ops i has0 has p) where
+    (next : scavenger_acts s.idle (drop i ops) ≡ acts_of_chore s.idle chore ++ scavenger_acts s.idle (drop (i + 1) ops))
+    (so : CrewSoFar Lends s ops i has0 has p) where
   -- Before a chore the crew stands where its acts come next.
   pub crew_before : CrewStands Lends s (acts_of_chore s.idle chore ++ scavenger_acts s.idle (drop (i + 1) ops)) has so.done.came.reached
   crew_before = subst (λ (acts : List Act). CrewStands Lends s acts has so.done.came.reached) next so.done.stands
@@ -260,5 +261,5 @@ crew_skips {Lends} {s} ops i {has0} {has} {p} same so =
 pub crew_ends : {Lends : ℕ → Worker → Progress → Type 0} {s : Shift} (ops : List Op) {i : ℕ} {has0 has : Crew} {p : Progress} → length ops ≤ i
     → CrewSoFar Lends s ops i has0 has p → CrewDoes Lends s (scavenger_acts s.idle ops) [] has0 has p
 crew_ends {Lends} {s} ops {i} {has0} {has} {p} le so =
-    let none : scavenger_acts s.idle (drop i ops) ≡ [] = ap (λ (xs : List Op). scavenger_acts s.idle xs) (drop_of_length-le ops le) in
+    let none : scavenger_acts s.idle (drop i ops) ≡ [] = ap (scavenger_acts s.idle) (drop_of_length-le ops le) in
     subst (λ (left : List Act). CrewDoes Lends s (scavenger_acts s.idle ops) left has0 has p) none (at_last none so)

@@ -1,14 +1,13 @@
 -- The scavenger's worker with the lent threads on one bench: they sit down, take their places at its desk, and leave.
-use Rattle.std.proofs.Common.{◌≡◌, ◌≢◌, ◌==◌, ◌⊎◌, inl, inr, ⊎_elim, ℕ, ◌+◌, ◌<◌, ◌≤◌, Bool, true, false, if◌then◌else◌, List, [], ◌∷◌, ◌++◌, length, set}
-use Rattle.std.proofs.Common.{get_or, Some, refl, ap, sym, ◌∙◌, subst, arith, true≢false, eqb-true, eq-eqb, ne_eqb, zero, suc, append-nil, get_or-set_other}
+use Rattle.std.proofs.Common.{◌≡◌, ◌≢◌, ◌⊎◌, inl, inr, ⊎_elim, ℕ, ◌+◌, ◌<◌, ◌≤◌, Bool, true, false, if◌then◌else◌, List, [], ◌∷◌, ◌++◌, length, set, get_or}
+use Rattle.std.proofs.Common.{Some, refl, ap, sym, ◌∙◌, subst, arith, true≢false, eq-eqb, ne_eqb, zero, suc, append-nil, get_or-set_other}
 use Rattle.std.proofs.lemmas.{Bool.cases_eq, Option.same_Some, List.get_or_default}
 use Rattle.pas_profile.specs.declared.profile.Profile.{Profile}
 use Rattle.pas_steps.specs.{Noted.AreNotesOf, Desks.Standing, Lists.Whole, Lists.part, Views.View}
-use Rattle.pas_steps.specs.declared.notes.Notes.{Notes}
 use Rattle.pas_report.specs.Rooms.{Records}
 use Rattle.pas_cache.specs.Caches.{Cached, cached}
 use Rattle.pas_core.proofs.Choosing.{steps_by_same}
-use Rattle.pas_shared.specs.Ruled.{among, made_in, all_actors, HasRow, only, only_this, isnt, rows_of, rows_of_only, steps_of, IsRowOf, AreRowsOf}
+use Rattle.pas_shared.specs.Ruled.{among, made_in, all_actors, only, only_this, isnt, rows_of, rows_of_only, steps_of, IsRowOf, AreRowsOf}
 use Rattle.pas_shared.specs.Benches.{empty_row, first_row, row_on, rows_on, seat_of_member, standing_on, HasLooked, IsBenchOf, IsFreshRow, IsMemberOf}
 use Rattle.pas_shared.specs.Benches.{SitsInRow, MaySitOn, StandsOver}
 use Rattle.pas_shared.specs.{Ledgers.part_of, Passes.seat_of, Passes.view_of, Passes.IsPassOf}
@@ -26,27 +25,10 @@ use Rattle.pas_threads.specs.Lent.{Shift, number_in, IsLent, AreLent, SitsAmong,
 use Rattle.pas_threads.specs.Lent.{IsButPlace, HasSeat, AreSeated, IsDeskAt, StopsLent, MayLeave, HasLeave, MayLeaveAll, HaveLeave}
 use Rattle.pas_threads.specs.Crews.{crew, CrewAt, CrewSits, CrewActs, CrewSat, CrewMayRise, CrewRose}
 use Rattle.pas_threads.specs.declared.workers.Worker.{Worker}
-use Rattle.pas_threads.proofs.Benched.{seated, row_part, rows_part, has_seat, member_seat, sits_as, keeps_order}
+use Rattle.pas_threads.proofs.Benched.{among_cases, among_here, among_later, seated, row_part, rows_part, has_seat, member_seat, sits_as, keeps_order}
 use Rattle.pas_threads.proofs.TakingTurns.{Stays, set_each}
 
 -- ---- who is among some actors
-among_cases : (n k : ℕ) (ns : List ℕ) → among (n ∷ ns) k ≡ true → (n ≡ k) ⊎ (among ns k ≡ true)
-among_cases n k ns h = at (n == k) refl
-  where
-    at : (b : Bool) → (n == k) ≡ b → (n ≡ k) ⊎ (among ns k ≡ true)
-    at true e = inl (eqb-true n k e)
-    at false e = inr (sym (ap (λ (b : Bool). if b then true else among ns k) e) ∙ h)
-
-among_here : (n k : ℕ) (ns : List ℕ) → n ≡ k → among (n ∷ ns) k ≡ true
-among_here n k ns e = ap (λ (b : Bool). if b then true else among ns k) (eq-eqb n k e)
-
-among_later : (n k : ℕ) (ns : List ℕ) → among ns k ≡ true → among (n ∷ ns) k ≡ true
-among_later n k ns h = at (n == k) refl
-  where
-    at : (b : Bool) → (n == k) ≡ b → among (n ∷ ns) k ≡ true
-    at true e = ap (λ (b : Bool). if b then true else among ns k) e
-    at false e = ap (λ (b : Bool). if b then true else among ns k) e ∙ h
-
 among_at : (ks : List ℕ) (i : ℕ) → i < length ks → among ks (get_or ks i 0) ≡ true
 among_at [] i lt = absurd (let bad : i < 0 = lt in omega (arith, bad))
 among_at (k ∷ ks) zero lt = among_here k k ks refl
@@ -54,16 +36,16 @@ among_at (k ∷ ks) (suc i) lt = among_later k (get_or ks i 0) ks (among_at ks i
 
 among_place : (ks : List ℕ) (k : ℕ) → among ks k ≡ true → (i : ℕ) × (i < length ks) × (get_or ks i 0 ≡ k)
 among_place [] k h = absurd (true≢false (sym h))
-among_place (n ∷ ks) k h = ⊎_elim (λ is. (0, omega arith, is)) (λ more. let rest = among_place ks k more in (suc rest.0, omega (arith, rest.1), rest.2)) (among_cases n k ks h)
+among_place (n ∷ ks) k h =
+    ⊎_elim (λ is. (0, omega arith, is)) (λ more. let rest = among_place ks k more in (suc rest.0, omega (arith, rest.1), rest.2)) (among_cases n k ks h)
 
 nobody_among : (ks : List ℕ) → ((k : ℕ) → among ks k ≡ true → ⊥) → ks ≡ []
 nobody_among [] none = refl
 nobody_among (n ∷ ks) none = absurd (none n (among_here n n ks refl))
 
 both_true : (a b : Bool) → (a ≡ true → b ≡ true) → (b ≡ true → a ≡ true) → a ≡ b
-both_true true b to from = sym (to refl)
-both_true false true to from = from refl
-both_true false false to from = refl
+-- By both values of the test.
+both_true a b to from = search arith
 
 isnt_other : (j k : ℕ) → k ≢ j → isnt (only_this j) k ≡ true
 isnt_other j k ne = ap (λ (b : Bool). if b then false else true) (ne_eqb k j ne)
@@ -73,25 +55,18 @@ isnt_itself j k h same = true≢false (sym h ∙ ap (λ (b : Bool). if b then fa
 
 -- all of the crew, and nobody else
 crew_among : {s : Shift} {actors : List ℕ} → AreOfCrew s 0 (length s.idle) actors → (k : ℕ) → among actors k ≡ crew_in s.idle k
-crew_among {s} {actors} crew k = both_true (among actors k) (crew_in s.idle k)
-    (λ its. ⊎_elim
-    (λ own. among_here 0 k s.idle (sym own))
-    (λ (t : (i : ℕ) × (0 ≤ i) × (i < length s.idle) × (number_in s i ≡ k)). among_later 0 k s.idle (subst (λ (j : ℕ). among s.idle j ≡ true) t.3 (among_at s.idle t.0 t.2)))
-    (crew.only k its))
-    (λ its. ⊎_elim
-    (λ own. subst (λ (j : ℕ). among actors j ≡ true) own crew.own)
-    (λ lent. let at = among_place s.idle k lent in subst (λ (j : ℕ). among actors j ≡ true) at.2 (crew.lent at.0 (omega arith) at.1))
-    (among_cases 0 k s.idle its))
+crew_among {s} {actors} crew k = search (arith, both_true, among_here, among_later, among_at, among_place, among_cases)
 
 -- ---- a worker on the bench
 -- it stands for what it noted, whatever others do
 still_among : (region : SharedRegion) (actors : List ℕ) (member : Member) (l m : Whole)
     → StandsStill (standing_among region actors member) (standing_among region actors member) l m
-still_among region actors member l m = record { seat_is = refl; stands = λ at same. subst (λ (v : View). SitsAmong region actors member v) (sym same) at }
+still_among region actors member l m = record { seat_is = refl; stands = λ at same. subst (SitsAmong region actors member) (sym same) at }
 
 -- A lent worker on a bench stays as it stands where others act and it takes no part.
 pub lent_stays : (region : SharedRegion) (actors : List ℕ) (s : Shift) → Stays (number_in s) (SitsLent region actors s)
-lent_stays region actors s i w q r parts caches names at = record { member = at.member; present = at.present; rests = rests_still (still_among region actors at.member q.list r.list) parts caches at.rests }
+lent_stays region actors s i w q r parts caches names at =
+    record { member = at.member; present = at.present; rests = rests_still (still_among region actors at.member q.list r.list) parts caches at.rests }
 
 -- .. at another desk with the same seat, where that one stands too
 rests_as : {f : Profile} {k : ℕ} {σ τ : Standing} {c : Cached} {out : Records} {later : Later} {p : Progress} → τ.seat ≡ σ.seat
@@ -107,17 +82,14 @@ same_worker {f} {k} {σ} {old} {new} {later} {p} but at =
 -- among more actors
 sits_wider : {region : SharedRegion} {one more : List ℕ} {f : Profile} {k : ℕ} {worker : Worker} {later : Later} {p : Progress}
     → ((j : ℕ) → among one j ≡ true → among more j ≡ true) → WorkerSits region one f k worker later p → WorkerSits region more f k worker later p
-sits_wider wider at = record {
-  member = at.member;
-  present = at.present;
-  rests = rests_as refl (λ stood. record { profile = stood.profile; among_them = wider at.member.actor stood.among_them; noted = stood.noted }) at.rests;
-}
+sits_wider wider at = search arith
 
 -- ---- sitting down
 -- the notes of a pass are its member's
 noted_by : {pass : SharedPass} {member : Member} {v : View} → IsMemberOf pass member → view_of pass ≡ v → AreNotesOf member.actor v member.notes
 noted_by {pass} {member} {v} is view =
-    subst (λ (n : Notes). AreNotesOf member.actor v n) (sym is.notes) (subst (λ (j : ℕ). AreNotesOf j v pass.notes) (sym is.actor) (subst (λ (w : View). AreNotesOf pass.place.actor w pass.notes) view pass.noted))
+    subst (AreNotesOf member.actor v) (sym is.notes)
+    (subst (λ j. AreNotesOf j v pass.notes) (sym is.actor) (subst (λ w. AreNotesOf pass.place.actor w pass.notes) view pass.noted))
 
 sits_down : {region : SharedRegion} {f : Profile} {k : ℕ} {old new : Worker} {rows rows' : List Row} {later : Later} {p : Progress}
     → WorkerHas region f k old later p → HasSeat region old new rows rows' → WorkerSits region (all_actors rows') f k new later p
@@ -131,7 +103,8 @@ sits_down {region} {f} {k} {old} {new} {rows} {rows'} {later} {p} was seat =
       rests = same_worker seat.but (rests_as (member_seat seat.is)
           (λ stood. record {
             profile = seat.is.profile ∙ seat.has.of.1;
-            among_them = ap (λ (rs : List Row). among (all_actors rs) member.actor) seat.rows_are ∙ among_here pass.place.actor member.actor (all_actors rows) (sym seat.is.actor);
+            among_them = ap (λ rs. among (all_actors rs) member.actor) seat.rows_are
+                ∙ among_here pass.place.actor member.actor (all_actors rows) (sym seat.is.actor);
             noted = noted_by seat.is stood;
           }) rests);
     }
@@ -139,10 +112,7 @@ sits_down {region} {f} {k} {old} {new} {rows} {rows'} {later} {p} was seat =
 -- the rows with one more say what the list tells, too
 tell_more : (pass : SharedPass) (rows rows' : List Row) (l : Whole) → rows' ≡ rows_of (part_of pass ∷ []) ++ rows → view_of pass ≡ part pass.place.actor l
     → TellAs rows l → TellAs rows' l
-tell_more pass rows rows' l is view tell k its = subst (λ (rs : List Row). HasRow rs k (part k l)) (sym is) (⊎_elim
-    (λ (same : pass.place.actor ≡ k). subst (λ (j : ℕ). HasRow (rows_of (part_of pass ∷ []) ++ rows) j (part j l)) same (subst (λ (v : View). HasRow (rows_of (part_of pass ∷ []) ++ rows) pass.place.actor v) view (has_seat pass rows)))
-    (λ more. inr (tell k more))
-    (among_cases pass.place.actor k (all_actors rows) (sym (ap (λ (rs : List Row). among (all_actors rs) k) is) ∙ its)))
+tell_more pass rows rows' l is view tell k its = search (arith, has_seat, among_cases)
 
 -- the first ones sat down, up to this place
 pub record SeatedSoFar (region : SharedRegion) (s : Shift) (i : ℕ) (old now : List Worker) (rows : List Row) (p : Progress) : Type 0 where
@@ -160,20 +130,10 @@ seats_begin old crew tell = record { each = λ j d less within. absurd (omega (a
 -- the next one has its pass still
 seats_next : {region : SharedRegion} {s : Shift} {i : ℕ} {old now : List Worker} {rows : List Row} {p : Progress} (d : Worker) → i < length old
     → AreLent region s old p → SeatedSoFar region s i old now rows p → IsLent region s i (get_or now i d) p
-seats_next {region} {s} {i} {old} {now} {rows} {p} d lt lent so = subst (λ (w : Worker). IsLent region s i w p) (sym (so.left i d (omega arith))) (lent.each i d lt)
+seats_next {region} {s} {i} {old} {now} {rows} {p} d lt lent so = subst (λ w. IsLent region s i w p) (sym (so.left i d (omega arith))) (lent.each i d lt)
 
 crew_more : {s : Shift} {i : ℕ} {actors : List ℕ} (a : ℕ) → a ≡ number_in s i → AreOfCrew s 0 i actors → AreOfCrew s 0 (i + 1) (a ∷ actors)
-crew_more {s} {i} {actors} a is crew = record {
-  own = among_later a 0 actors crew.own;
-  lent = λ j from to. elim (cases_at j) [
-    | inl same ↦ among_here a (number_in s j) actors (is ∙ ap (number_in s) (sym same))
-    | inr other ↦ among_later a (number_in s j) actors (crew.lent j from (omega (arith, to, other)))
-  ];
-  only = λ k its. ⊎_elim
-      (λ (same : a ≡ k). inr (i, omega arith, omega arith, sym is ∙ same))
-      (λ more. ⊎_elim inl (λ (t : (j : ℕ) × (0 ≤ j) × (j < i) × (number_in s j ≡ k)). inr (t.0, t.1, omega (arith, t.2), t.3)) (crew.only k more))
-      (among_cases a k actors its);
-}
+crew_more {s} {i} {actors} a is crew = search (arith, among_later, among_here, among_cases)
   where
     cases_at : (j : ℕ) → (j ≡ i) ⊎ (j ≢ i)
     cases_at j = cases_eq j i
@@ -191,8 +151,8 @@ seats_go_on {region} {s} {i} {old} {now} {rows} {rows'} {p} d w lt many lent so 
     λ k its. ap (λ (rs : List Row). among (all_actors rs) k) seat.rows_are ∙ among_later seat.has.pass.place.actor k (all_actors rows) its
     in
     record {
-      each = λ j e less within. set_each (λ (m : ℕ) (x : Worker). SitsLent region (all_actors rows') s m x p × IsButPlace (get_or old m e) x) now i w e j (omega (arith, lt, many))
-          (sits, subst (λ (x : Worker). IsButPlace x w) (so.left i d (omega arith) ∙ get_or_default old i d e lt) seat.but)
+      each = λ j e less within. set_each (λ (m : ℕ) (x : Worker). SitsLent region (all_actors rows') s m x p × IsButPlace (get_or old m e) x) now i w e j
+          (omega (arith, lt, many)) (sits, subst (λ (x : Worker). IsButPlace x w) (so.left i d (omega arith) ∙ get_or_default old i d e lt) seat.but)
           (λ ne. let one = so.each j e (omega (arith, less, ne)) within in (sits_wider wider one.0, one.1));
       left = λ j e from. let ne : j ≢ i = λ (is : j ≡ i). omega (arith, is, from) in get_or-set_other now i j w e ne ∙ so.left j e (omega (arith, from));
       crew = subst (λ (rs : List Row). AreOfCrew s 0 (i + 1) (all_actors rs)) (sym seat.rows_are) (crew_more seat.has.pass.place.actor actor so.crew);
@@ -223,13 +183,16 @@ may_sit {h} {desk} {f} {k} {worker} {later} {p} at w = search (arith, at_home, t
 rests_there : {h : BenchHome} {desk : BenchDesk} {f : Profile} {k : ℕ} {worker : Worker} {later : Later} {p : Progress} → IsDeskAt h desk p
     → (w : WorkerSits h.region h.row.actors f k worker later p)
     → RestsAt f k (standing_on desk.place.bench w.member) (cached worker.cache) worker.out later p
-rests_there {h} {desk} {f} {k} {worker} {later} {p} at w =
-    rests_as refl (λ stood. (sym (tells_of at w.member.actor (at_home desk at.home w.member.actor ∙ stood.among_them)) ∙ ap (λ (j : ℕ). part j p.list) w.rests.sits.actor, at.over)) w.rests
+rests_there {h} {desk} {f} {k} {worker} {later} {p} at w = rests_as refl (λ stood. (
+  sym
+      (tells_of at w.member.actor (at_home desk at.home w.member.actor ∙ stood.among_them)) ∙ ap (λ j. part j p.list) w.rests.sits.actor,
+  at.over,
+)) w.rests
 
 -- what is so of the bench and the member is so of the desk
 at_desk : (At : Standing → Type 0) (desk : BenchDesk) {bench : Bench} {member : Member} → desk.place.bench ≡ bench → desk.place.member ≡ member
     → At (standing_on bench member) → At (standing_at desk)
-at_desk At desk {bench} {member} b m at = subst (λ (x : Bench). At (standing_on x desk.place.member)) (sym b) (subst (λ (y : Member). At (standing_on bench y)) (sym m) at)
+at_desk At desk {bench} {member} b m at = subst (λ (x : Bench). At (standing_on x desk.place.member)) (sym b) (subst (λ y. At (standing_on bench y)) (sym m) at)
 
 -- A lent worker that has the desk rests there with its cache.
 pub rests_at : {h : BenchHome} {desk : BenchDesk} {f : Profile} {k : ℕ} {worker : Worker} {later : Later} {p : Progress} (now : BenchDesk) {member : Member}
@@ -284,7 +247,8 @@ was_stopped {h} {f} {k} {n} {bench} {bench'} {old} {new} {out} {out'} {later} {p
       keeper = keeper;
       told = did.2;
     } in
-    subst (λ (x : Bench). StopsLent h f k n bench x old new out out' later p) (sym b2) (subst (λ (x : Bench). StopsLent h f k n x mid.place.bench old new out out' later p) b at_mid)
+    subst (λ x. StopsLent h f k n bench x old new out out' later p) (sym b2)
+    (subst (λ x. StopsLent h f k n x mid.place.bench old new out out' later p) b at_mid)
 
 -- ---- all sat down
 module _ {region : SharedRegion} {s : Shift} {old new : List Worker} {p : Progress} {rows : List Row} (bench : Bench) (looked : HasLooked rows (rows_on bench))
@@ -308,34 +272,20 @@ module _ {region : SharedRegion} {s : Shift} {old new : List Worker} {p : Progre
   pub first_sits : {pass : SharedPass} {member : Member} → IsPassOf region pass → IsMemberOf pass member → IsBenchOf region bench → pass.place.actor ≡ 0
       → view_of pass ≡ part 0 p.list → MaySitOn region bench member
   first_sits {pass} {member} of is at scavenger view =
-      let own : among (all_actors rows) member.actor ≡ true = subst (λ (j : ℕ). among (all_actors rows) j ≡ true) (sym (is.actor ∙ scavenger)) all.crew.own in
-      let made : view_of pass ≡ made_in (row_on bench) member.actor = view ∙ ap (λ (j : ℕ). part j p.list) (sym (is.actor ∙ scavenger)) ∙ sym (made_seen member.actor own) in
-      record {
-        of = at;
-        profile = is.profile ∙ of.1;
-        one = looked.is ∙ ap (λ (r : Row). r ∷ []) (sym row_is);
-        sits = record {
-          among_them = is_among member.actor ∙ own;
-          noted = noted_by is made;
-        };
-      }
+      search (arith, made_seen, row_is, is_among, noted_by)
 
 -- the scavenger sits there alone at first
 pub first_crew : {s : Shift} {rows rows0 : List Row} (pass : SharedPass) → rows ≡ rows_of (part_of pass ∷ []) ++ rows0 → rows0 ≡ empty_row ∷ []
     → pass.place.actor ≡ 0 → AreOfCrew s 0 0 (all_actors rows)
 first_crew {s} {rows} {rows0} pass is none scavenger =
-    let actors : all_actors rows ≡ pass.place.actor ∷ [] = ap (λ (rs : List Row). all_actors rs) is ∙ ap (λ (rs : List Row). all_actors (rows_of (part_of pass ∷ []) ++ rs)) none in
-    subst (λ (ks : List ℕ). AreOfCrew s 0 0 ks) (sym actors) record {
-      own = among_here pass.place.actor 0 [] scavenger;
-      lent = λ i from to. absurd (omega (arith, to));
-      only = λ k its. inl (⊎_elim (λ same. sym same ∙ scavenger) (λ (more : among [] k ≡ true). absurd (true≢false (sym more))) (among_cases pass.place.actor k [] its));
-    }
+    search (arith, among_here, true≢false, among_cases)
 
 -- The row of the scavenger's pass, with an empty one behind, tells of its actor what the list does.
 pub first_tell : {rows rows0 : List Row} (l : Whole) (pass : SharedPass) → rows ≡ rows_of (part_of pass ∷ []) ++ rows0 → rows0 ≡ empty_row ∷ []
     → pass.place.actor ≡ 0 → view_of pass ≡ part 0 l → TellAs rows l
 first_tell {rows} {rows0} l pass is none scavenger view =
-    tell_more pass rows0 rows l is (view ∙ ap (λ (k : ℕ). part k l) (sym scavenger)) (λ k its. absurd (true≢false (sym its ∙ ap (λ (rs : List Row). among (all_actors rs) k) none)))
+    tell_more pass rows0 rows l is (view ∙ ap (λ k. part k l) (sym scavenger))
+    (λ k its. absurd (true≢false (sym its ∙ ap (λ rs. among (all_actors rs) k) none)))
 
 -- .. with the lent threads beside it
 pub all_sat : {region : SharedRegion} {s : Shift} {old new : List Worker} {p : Progress} {rows : List Row} {pass : SharedPass} (desk : BenchDesk)
@@ -353,26 +303,18 @@ all_sat {region} {s} {old} {new} {p} {rows} {pass} desk looked all is scavenger 
     record {
       seat = member_seat is;
       stands = (
-        made_seen bench looked all member.actor (subst (λ (j : ℕ). among (all_actors rows) j ≡ true) (sym actor) all.crew.own) ∙ ap (λ (j : ℕ). part j p.list) actor,
+        made_seen bench looked all member.actor (subst (λ j. among (all_actors rows) j ≡ true) (sym actor) all.crew.own) ∙ ap (λ (j : ℕ). part j p.list) actor,
         stands_first row p.list (ap (λ (r : Row). r.made) first) seen,
       );
       lent = record { many = all.lent.many; each = λ i d lt. sits_wider (λ k its. is_among bench looked all k ∙ its) (all.lent.each i d lt) };
-      crew = subst (λ (ks : List ℕ). AreOfCrew s 0 (length s.idle) ks) (sym (ap (λ (r : Row). r.actors) first)) all.crew;
+      crew = subst (AreOfCrew s 0 (length s.idle)) (sym (ap (λ (r : Row). r.actors) first)) all.crew;
       tell = seen;
       but = all.but;
     }
 
 -- the order of the same actors
 order_as : {one other : ℕ → Bool} {told told' seen : Whole} → ((k : ℕ) → one k ≡ other k) → KeepsOrder one told told' seen → KeepsOrder other told told' seen
-order_as {one} {other} same o = record {
-  made = o.made;
-  told_is = o.told_is;
-  since = o.since;
-  before = o.before;
-  seen_is = o.seen_is;
-  parts = λ k its. o.parts k (same k ∙ its);
-  order = sym (steps_by_same one other o.since same) ∙ (o.order ∙ steps_by_same one other o.made same);
-}
+order_as {one} {other} same o = search (arith, steps_by_same)
 
 -- ---- leaving
 -- the first ones left, up to this place
@@ -425,7 +367,7 @@ module _ {region : SharedRegion} {s : Shift} {all : List ℕ} {base : List Entry
   has_again {w} left =
       let member = left.may.member in
       let same : next_sits.member ≡ member = same_Some _ _ (sym next_sits.present ∙ left.may.present) in
-      let rests = subst (λ (m : Member). RestsAt s.profile (number_in s i) (standing_among region all m) (cached (get_or now i d).cache) (get_or now i d).out (s.lends i) p) same next_sits.rests in
+      let rests = subst (λ m. RestsAt s.profile (number_in s i) (standing_among region all m) (cached (get_or now i d).cache) (get_or now i d).out (s.lends i) p) same next_sits.rests in
       record { has = left.has; rests = same_worker left.but (rests_as left.is.seat (λ stood. left.is.view ∙ row_says member rests.sits.actor) rests) }
 
   -- After one more lent worker left with its pass, one more has left.
@@ -442,7 +384,7 @@ module _ {region : SharedRegion} {s : Shift} {all : List ℕ} {base : List Entry
             (λ ne. so.each j e (omega (arith, less, ne)) within);
         left = λ j e from. let ne : j ≢ i = λ (is : j ≡ i). omega (arith, is, from) in get_or-set_other now i j w e ne ∙ so.left j e (omega (arith, from));
         actors = only test so.actors;
-        fresh = left.rows_are ∙ ap (λ (rs : List Row). rows_of_only test rs) so.fresh;
+        fresh = left.rows_are ∙ ap (rows_of_only test) so.fresh;
         crew = record {
           own = among_picked test so.actors 0 so.crew.own (isnt_other a 0 (λ same. s.distinct.threads i (omega (arith, lt, may.lent.many)) (same ∙ mine)));
           lent = λ j from to. among_picked test so.actors (number_in s j) (so.crew.lent j (omega (arith, from)) to)
@@ -459,7 +401,8 @@ module _ {region : SharedRegion} {s : Shift} {all : List ℕ} {base : List Entry
 -- whichever member it is called
 pub member_leaves : {region : SharedRegion} {rows : List Row} {worker : Worker} (member : Member) → worker.member ≡ Some member → MayLeave region rows worker
     → (member.profile ≡ region.profile) × SitsInRow (first_row rows) member
-member_leaves {region} {rows} member is may = subst (λ (m : Member). (m.profile ≡ region.profile) × SitsInRow (first_row rows) m) (same_Some _ _ (sym may.present ∙ is)) (may.profile, may.sits)
+member_leaves {region} {rows} member is may =
+    subst (λ (m : Member). (m.profile ≡ region.profile) × SitsInRow (first_row rows) m) (same_Some _ _ (sym may.present ∙ is)) (may.profile, may.sits)
 
 -- Once each lent worker had its turn, only the scavenger still sits on the bench.
 pub leaves_end : {region : SharedRegion} {s : Shift} {all : List ℕ} {base : List Entry} {i : ℕ} {old now : List Worker} {rows0 rows : List Row} {p : Progress}
@@ -489,7 +432,7 @@ module _ {region : SharedRegion} {s : Shift} {lent : List Worker} {p : Progress}
   pub all_may_leave : (bench : Bench) (looked : HasLooked (rows_on desk.place.bench) (rows_on bench))
       → MayLeaveAll region s lent row.actors looked.base (rows_on bench) p
   all_may_leave bench looked =
-      let same : all_actors (rows_on desk.place.bench) ≡ row.actors = ap (λ (rs : List Row). all_actors rs) desk.place.one ∙ append-nil row.actors in
+      let same : all_actors (rows_on desk.place.bench) ≡ row.actors = ap all_actors desk.place.one ∙ append-nil row.actors in
       record {
         lent = may.lent;
         crew = may.crew;
@@ -505,10 +448,7 @@ module _ {region : SharedRegion} {s : Shift} {lent : List Worker} {p : Progress}
 
     -- The scavenger still sits in the row once all that were lent left it.
     pub own_sits : SitsInRow (first_row (rows_on left)) desk.place.member
-    own_sits = record {
-      among_them = ap (λ (rs : List Row). among (first_row rs).actors desk.place.member.actor) have.fresh ∙ subst (λ (j : ℕ). among have.actors j ≡ true) (sym may.own) have.own;
-      noted = subst (λ (v : View). AreNotesOf desk.place.member.actor v desk.place.member.notes) (sym own_made) desk.place.sits.noted;
-    }
+    own_sits = search (arith, own_made)
 
     -- The row is fresh once all that were lent left it.
     pub fresh_row : IsFreshRow (rows_on left)
@@ -520,7 +460,8 @@ module _ {region : SharedRegion} {s : Shift} {lent : List Worker} {p : Progress}
         → rows_on end ≡ rows_of_only (isnt (only_this desk.place.member.actor)) (rows_on left) → CrewRose region s desk pass end lent now p
     all_rose {end} {pass} of pass_of seat view rows =
         let test = isnt (only_this desk.place.member.actor) in
-        let none : only test have.actors ≡ [] = nobody_among (only test have.actors) (λ k its. let both = among_only test have.actors k its in isnt_itself desk.place.member.actor k both.1 (have.only k both.0 ∙ sym may.own)) in
+        let none : only test have.actors ≡ [] = nobody_among (only test have.actors)
+        (λ k its. let both = among_only test have.actors k its in isnt_itself desk.place.member.actor k both.1 (have.only k both.0 ∙ sym may.own)) in
         record {
           is = record { of = pass_of; seat = seat; view = view ∙ own_made };
           lent = have.lent;
@@ -545,7 +486,8 @@ told_between {k} {said} one told two = search arith
 
 module _ {region : SharedRegion} {s : Shift} {acts : List Act} {pass : SharedPass} {lent sat1 sat2 : List Worker} {places places' : ℕ} {out out' : Records}
     {p : Progress} (desk now : BenchDesk) (is : desk.region.now ≡ region) (home : home_at now ≡ home_at desk)
-    (sat : CrewSat region s pass desk lent sat1 p) (did : CrewActs (home_at desk) s acts [] (crew (standing_at desk) sat1 places out) (crew (standing_at now) sat2 places' out') p) where
+    (sat : CrewSat region s pass desk lent sat1 p)
+    (did : CrewActs (home_at desk) s acts [] (crew (standing_at desk) sat1 places out) (crew (standing_at now) sat2 places' out') p) where
   actors_same : (row_on now.place.bench).actors ≡ (row_on desk.place.bench).actors
   actors_same = ap (λ (h : BenchHome). h.row.actors) home
 

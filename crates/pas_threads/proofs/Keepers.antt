@@ -1,55 +1,250 @@
--- The keepers of workers: how they stand on while others act, what is gathered of them, and their last sweeps.
-use Rattle.std.proofs.Common.{◌≡◌, ◌≢◌, ℕ, suc, ◌+◌, ◌-◌, ◌<◌, ◌≤◌, ◌==◌, Bool, true, false, if◌then◌else◌, inl, inr, List, [], ◌∷◌, ◌++◌, length, set, get_or}
-use Rattle.std.proofs.Common.{map, Option, Some, None, refl, ap, sym, ◌∙◌, subst, arith, append_assoc, eq-eqb, ne_eqb, append-nil, get_or-set_other}
-use Rattle.std.proofs.lemmas.{Bool.cases_eq, List.get_or-map, List.get_or_default}
+-- The keepers of workers: how those of a plan are made, how they stand on while others act and over a phase, what is gathered of them, and their last sweeps.
+use Rattle.std.proofs.Common.{◌≡◌, ℕ, zero, suc, ◌+◌, ◌*◌, ◌<◌, ◌≤◌, ◌==◌, min, Bool, true, false, if◌then◌else◌, List, [], ◌∷◌, ◌++◌, length, set, get_or}
+use Rattle.std.proofs.Common.{slice_index, All, inl, inr, Option, Some, refl, ap, sym, ◌∙◌, subst, arith, ◌-◌, ◌^◌, eq-eqb, ne_eqb, get_or-set_same}
+use Rattle.std.proofs.Common.{get_or-set_other, ◌≢◌, map, None, append_assoc, append-nil}
+use Rattle.std.specs.List.{AllByRecursion}
+use Rattle.std.proofs.{Math.Nat.le-min, Math.Nat.mul-le-mul, lemmas.Bool.cases_lt, lemmas.Bool.cases_eq}
+use Rattle.std.proofs.lemmas.List.{get_or_append_left, get_or_push, get_or_at, get_or-map, get_or_default}
 use Rattle.pas_profile.specs.declared.profile.Profile.{Profile}
-use Rattle.pas_steps.specs.{Lists.Whole, Lists.part, Views.View}
+use Rattle.pas_trace.specs.{Asked.work_of, Asked.keeper_in, Plans.IsPlanOf, Plans.bounds_of, Reasons.cost_of_size, Reasons.actors_by}
+use Rattle.pas_trace.specs.EveryPlan.{kept_of_work, kept_records, records_of_what, records_of_ops, operations_of}
+use Rattle.pas_trace.specs.declared.plan.{Op.Op, Plan.Plan, What.What}
+use Rattle.pas_trace.proofs.{Costs.small_cost, Costs.large_cost, EveryPlan.every_plan, EveryPlan.threads_among, Keepers.keepers_few}
+use Rattle.pas_guard.specs.Books.{guards_in, size_of_book}
+use Rattle.pas_guard.specs.declared.book.GuardBook.{GuardBook}
+use Rattle.pas_shared.specs.declared.{pass.SharedPass.SharedPass, region.SharedRegion.SharedRegion}
+use Rattle.pas_answers.specs.{Replays.threads_of, Replays.keepers_of, Answers.Progress, Ways.is_of, Ways.records_by}
+use Rattle.pas_acts.specs.{PlanKeepers.one_guarded, PlanKeepers.guarded_of, PlanKeepers.AreBooks, Shares.owner_in}
+use Rattle.pas_acts.proofs.{PlanFacts.is_guarded, AtDesk.keeper_still, ActsLeft.number_next, ActsLeft.number_last, PhaseActs.own_thread, PhaseActs.kept_thread}
+use Rattle.pas_acts.proofs.{PhaseActs.owner_of}
+use Rattle.pas_threads.specs.Kits.{IsEquipped, AreEquipped, IsKeeperWith, AreKeepers, IsAlone, HasRoomForKeeper, HaveKeepers, with_keeper}
+use Rattle.pas_threads.specs.Pairs.{AreGuarded, IsButKeeper, kept_by_worker, IsKeeperOf, IsSilent, no_more, owed_kept, keeper_at, IsLow, KeptSo, Lowered}
+use Rattle.pas_threads.specs.Pairs.{MayLower, KeeperStands, KeeperLowered, KeeperRests, said_by_keeper}
+use Rattle.pas_threads.specs.declared.{keeper.Keeper.Keeper, workers.Worker.Worker}
+use Rattle.pas_steps.specs.Lists.{part}
 use Rattle.pas_steps.proofs.Parts.{part_of_others}
 use Rattle.pas_report.specs.Rooms.{records_in, room_of}
 use Rattle.pas_report.specs.declared.record.Record.{Record}
-use Rattle.pas_guard.specs.Books.{guards_in}
-use Rattle.pas_guard.specs.declared.book.GuardBook.{GuardBook}
-use Rattle.pas_shared.specs.Passes.{IsPassOf}
-use Rattle.pas_shared.specs.declared.{region.SharedRegion.SharedRegion, pass.SharedPass.SharedPass}
-use Rattle.pas_trace.specs.Asked.{keeper_in}
 use Rattle.pas_trace.specs.Acts.{Act, Settles, Lowers, act_kept, numbers_from, own_acts}
-use Rattle.pas_trace.specs.declared.plan.Op.{Op}
-use Rattle.pas_answers.specs.{Answers.Progress, Keeping.owed_by_keeper, Ways.is_of, Ways.records_by}
 use Rattle.pas_answers.proofs.OwnRecords.{records_both, all_by, none_by, spoken_piece, spoken_both}
 use Rattle.pas_answers.proofs.{Reached.reach_both, EachAct.all_front, EachAct.all_back}
-use Rattle.pas_acts.specs.Keepers.{LaterKept, Keeping, NoKeeper, OneKeeper, KeeperAt, KeeperLowers, HasStill, keeper_has}
-use Rattle.pas_acts.specs.Pairs.{for_guard, for_guards, IsTriedBy, AreTriedBy, IsUnguarded, AreUnguarded, KeeperWaits, EachOfTwo, KeptPushed, KeptStill}
-use Rattle.pas_acts.specs.Pairs.{owed_of}
-use Rattle.pas_acts.proofs.{Keeping.keeper_still, ActsLeft.number_next, ActsLeft.number_last}
-use Rattle.pas_threads.specs.{Hands.standing_of_pass, Turns.HasSaid}
-use Rattle.pas_threads.specs.Pairs.{kept_by_worker, IsKeeperOf, IsSilent, no_more, owed_kept, keeper_at, AreGuarded, IsLow, IsButKeeper, KeptSo, Lowered}
-use Rattle.pas_threads.specs.Pairs.{MayLower, KeeperStands, KeeperLowered}
-use Rattle.pas_threads.specs.declared.{keeper.Keeper.Keeper, workers.Worker.Worker}
-use Rattle.pas_threads.proofs.TakingTurns.{set_each, pass_still}
+use Rattle.pas_acts.specs.Keepers.{LaterKept, Keeping, NoKeeper, OneKeeper, KeeperAt, KeeperLowers, keeper_has}
+use Rattle.pas_acts.specs.Pairs.{for_guard, for_guards, AreTriedBy, AreUnguarded, KeeperWaits, EachOfTwo, KeptPushed, KeptStill, owed_of}
+use Rattle.pas_threads.specs.{Hands.standing_of_pass, Turns.HasSaid, Performing.Round, Performing.ThreadDone}
+use Rattle.pas_threads.proofs.{TakingTurns.set_each, Dealt.some_item}
+
+-- ---- what they may say
+two_least : (size : ℕ) → 2 ≤ cost_of_size size
+two_least size = search (arith, cases_lt, large_cost, small_cost)
+
+paid_one : (t : Bool) (what : What) (guards events : ℕ) → 2 * guards ≤ events
+    → 2 * ((if t then one_guarded (keeper_in what) else 0) + guards) ≤ (if t then kept_of_work (work_of what) else 0) + events
+paid_one a what guards events le = search (arith, two_least)
+
+-- a keeper's events for guarded requests pay for two records of each
+guards_paid : (k : ℕ) (ops : List Op) → 2 * guarded_of k ops ≤ kept_records k ops
+guards_paid k [] = omega arith
+guards_paid k (op ∷ ops) = paid_one (op.actor == k) op.what (guarded_of k ops) (kept_records k ops) (guards_paid k ops)
+
+said_one : (f : Profile) (t : Bool) (what : What) (guards events records : ℕ) → events + 2 * guards ≤ records
+    → (if t then kept_of_work (work_of what) else 0) + events + 2 * ((if t then one_guarded (keeper_in what) else 0) + guards) ≤ records_of_what f what + records
+-- By both values of the test.
+said_one f a what guards events records le = search arith
+
+-- .. and all that it may say is counted among the plan's records
+guards_said : (f : Profile) (k : ℕ) (ops : List Op) → kept_records k ops + 2 * guarded_of k ops ≤ records_of_ops f ops
+guards_said f k [] = omega arith
+guards_said f k (op ∷ ops) = said_one f (op.actor == k) op.what (guarded_of k ops) (kept_records k ops) (records_of_ops f ops) (guards_said f k ops)
+
+-- so twice its bound suffices for it, and where that can't be counted in 32 bits, what can be counted does
+pub keeper_room : {text : List ℕ} {plan : Plan} (i room : ℕ) → IsPlanOf text plan → i < keepers_of plan → plan.total < 2 ^ 32
+    → room ≡ min (slice_index (bounds_of plan.bounds) (threads_of plan + suc i) * 2) (2 ^ 32 - 1)
+    → slice_index (bounds_of plan.bounds) (threads_of plan + suc i) + 2 * guarded_of (suc i) (operations_of plan) ≤ room
+keeper_room {text} {plan} i room read lt few is =
+    let sound = every_plan read in
+    let most = keepers_few plan in
+    let among = threads_among plan.guard plan.profile.threads in
+    let bound = sound.kept (suc i) (is_guarded plan (omega (arith, lt))) (omega arith) (omega (arith, lt, most)) in
+    let paid = guards_paid (suc i) (operations_of plan) in
+    let said = guards_said plan.profile (suc i) (operations_of plan) in
+    let some : 1 ≤ actors_by plan.guard plan.profile.threads = omega (arith, lt, most, among) in
+    let same : plan.profile.pages ≤ plan.profile.pages = omega arith in
+    let pages : 1 * plan.profile.pages ≤ actors_by plan.guard plan.profile.threads * plan.profile.pages = mul-le-mul some same in
+    let needs = slice_index (bounds_of plan.bounds) (threads_of plan + suc i) + 2 * guarded_of (suc i) (operations_of plan) in
+    let twice : needs ≤ slice_index (bounds_of plan.bounds) (threads_of plan + suc i) * 2 = omega (arith, bound, paid) in
+    let counted : needs ≤ 2 ^ 32 - 1 = omega (arith, bound, said, sound.total, pages, few) in
+    subst (λ (n : ℕ). needs ≤ n) (sym is) (le-min twice counted)
+
+-- with one keeper's room more
+pub rooms_more : (plan : Plan) (room after : List ℕ) (n x : ℕ) → after ≡ room ++ x ∷ [] → length room + 1 ≡ n
+    → slice_index (bounds_of plan.bounds) (threads_of plan + suc (length room)) + 2 * guarded_of (suc (length room)) (operations_of plan) ≤ x
+    → ((i : ℕ) → i + 1 < n → HasRoomForKeeper plan room i) → (i : ℕ) → i + 1 < n + 1 → HasRoomForKeeper plan after i
+rooms_more plan room after n x is many enough have i lt = search (arith, cases_lt, get_or_append_left, get_or_push)
+
+-- ---- their passes and books
+pub keepers_more : (bounds : List ℕ) (i n : ℕ) (passes : List SharedPass) (books : List GuardBook) (keepers : List Keeper) (pass : SharedPass)
+    (book : GuardBook) (keeper : Keeper)
+    → AreKeepers bounds i passes books keepers → n ≡ i + length keepers
+    → IsKeeperWith pass book (slice_index bounds n) keeper → AreKeepers bounds i (passes ++ pass ∷ []) (books ++ book ∷ []) (keepers ++ keeper ∷ [])
+keepers_more bounds i n [] [] [] pass book keeper are at new = (subst (λ m. IsKeeperWith pass book (slice_index bounds m) keeper) (omega (arith, at)) new, tt)
+keepers_more bounds i n (p ∷ passes) (b ∷ books) (k ∷ keepers) pass book keeper are at new =
+    (are.0, keepers_more bounds (i + 1) n passes books keepers pass book keeper are.1 (omega (arith, at)) new)
+keepers_more bounds i n passes books keepers pass book keeper are at new = absurd are
+
+-- There are as many keepers as passes for them.
+pub keepers_many : (bounds : List ℕ) (i : ℕ) (passes : List SharedPass) (books : List GuardBook) (keepers : List Keeper)
+    → AreKeepers bounds i passes books keepers → length keepers ≡ length passes
+keepers_many bounds i [] [] [] are = refl
+keepers_many bounds i (p ∷ passes) (b ∷ books) (k ∷ keepers) are = ap suc (keepers_many bounds (i + 1) passes books keepers are.1)
+keepers_many bounds i passes books keepers are = absurd are
+
+keeper_with : (bounds : List ℕ) (i : ℕ) (passes : List SharedPass) (books : List GuardBook) (keepers : List Keeper) (j : ℕ) (p : SharedPass) (b : GuardBook)
+    (k : Keeper)
+    → AreKeepers bounds i passes books keepers → j < length passes
+    → IsKeeperWith (get_or passes j p) (get_or books j b) (slice_index bounds (i + j)) (get_or keepers j k)
+keeper_with bounds i [] books keepers j p b k are lt = absurd (let bad : j < 0 = lt in omega (arith, bad))
+keeper_with bounds i (pass ∷ passes) (book ∷ books) (keeper ∷ keepers) zero p b k are lt =
+    subst (λ m. IsKeeperWith pass book (slice_index bounds m) keeper) (let is : i ≡ i + 0 = omega arith in is) are.0
+keeper_with bounds i (pass ∷ passes) (book ∷ books) (keeper ∷ keepers) (suc j) p b k are lt =
+    subst (λ m. IsKeeperWith (get_or passes j p) (get_or books j b) (slice_index bounds m) (get_or keepers j k))
+    (let is : i + 1 + j ≡ i + suc j = omega arith in is) (keeper_with bounds (i + 1) passes books keepers j p b k are.1 (omega (arith, lt)))
+keeper_with bounds i passes books keepers j p b k are lt = absurd are
+
+-- ---- who has them
+-- a worker that differs in its keeper alone is as well equipped
+equipped_but : (pass : SharedPass) (bound : ℕ) (old new : Worker) → IsButKeeper old new → IsEquipped pass bound old → IsEquipped pass bound new
+-- All of the equipment is what the keeper leaves as it was.
+equipped_but pass bound old new but has = search arith
+
+equipped_still : (bounds : List ℕ) (k : ℕ) (passes : List SharedPass) (old new : List Worker) → length new ≡ length old
+    → ((i : ℕ) (d : Worker) → i < length old → IsButKeeper (get_or old i d) (get_or new i d)) → AreEquipped bounds k passes old
+    → AreEquipped bounds k passes new
+equipped_still bounds k [] [] [] many but are = tt
+equipped_still bounds k [] [] (w ∷ new) many but are = absurd (let bad : suc (length new) ≡ 0 = many in omega (arith, bad))
+equipped_still bounds k (p ∷ passes) (v ∷ old) [] many but are = absurd (let bad : 0 ≡ suc (length old) = many in omega (arith, bad))
+equipped_still bounds k (p ∷ passes) (v ∷ old) (w ∷ new) many but are = (
+  equipped_but p (slice_index bounds k) v w (but 0 v (omega arith)) are.0,
+  equipped_still bounds (k + 1) passes old new (omega (arith, many)) (λ i d lt. but (suc i) d (omega (arith, lt))) are.1,
+)
+equipped_still bounds k passes old new many but are = absurd are
+
+but_so : (w v : Worker) (o : Option Keeper) → v ≡ with_keeper w o → IsButKeeper w v
+but_so w v o is = subst (IsButKeeper w) (sym is) (record { pass = refl; cache = refl; requests = refl; out = refl })
+
+but_same : (w v : Worker) → v ≡ w → IsButKeeper w v
+but_same w v is = subst (IsButKeeper w) (sym is) (record { pass = refl; cache = refl; requests = refl; out = refl })
+
+-- each of the first workers was given its keeper, in order, and the others are as they were
+pub record AreGiven (old new : List Worker) (keepers : List Keeper) : Type 0 where
+  pub many : length new ≡ length old
+  pub given : (i : ℕ) (d : Worker) (e : Keeper) → i < length keepers → get_or new i d ≡ with_keeper (get_or old i d) (Some (get_or keepers i e))
+  pub others : (i : ℕ) (d : Worker) → length keepers ≤ i → get_or new i d ≡ get_or old i d
+
+but_keepers : {old new : List Worker} {keepers : List Keeper} → AreGiven old new keepers → (i : ℕ) (d : Worker) → IsButKeeper (get_or old i d) (get_or new i d)
+but_keepers {old} {new} {keepers} are i d = elim (cases_lt i (length keepers)) [
+  | inl lt ↦ let e = some_item keepers i lt in but_so (get_or old i d) (get_or new i d) (Some (get_or keepers i e)) (are.given i d e lt)
+  | inr ge ↦ but_same (get_or old i d) (get_or new i d) (are.others i d ge)
+]
+
+-- Workers that were given keepers are equipped as they were before.
+pub equipped_with : (bounds : List ℕ) (k : ℕ) (passes : List SharedPass) {old new : List Worker} {keepers : List Keeper} → AreGiven old new keepers
+    → AreEquipped bounds k passes old → AreEquipped bounds k passes new
+equipped_with bounds k passes {old} {new} {keepers} are have = equipped_still bounds k passes old new are.many (λ i d lt. but_keepers are i d) have
+
+-- all workers of a guarded plan have a keeper, and none of another one
+guarded_so : (plan : Plan) {old new : List Worker} {keepers : List Keeper} → AreGiven old new keepers → length keepers ≡ keepers_of plan
+    → length old ≡ threads_of plan → All IsAlone old → AreGuarded (keepers_of plan) new
+guarded_so plan {old} {new} {keepers} are count threads alone =
+    elim (cases_eq plan.guard 0) [
+      | inl is ↦
+          let zero_of : keepers_of plan ≡ 0 = ap (λ (t : Bool). if t then 0 else threads_of plan) (eq-eqb plan.guard 0 is) in
+          inr (zero_of, λ i d lt. ap (λ (w : Worker). w.keeper) (are.others i d (omega (arith, count, zero_of))) ∙ alone i d (omega (arith, lt, are.many)))
+      | inr other ↦
+          let all : keepers_of plan ≡ threads_of plan = ap (λ (t : Bool). if t then 0 else threads_of plan) (ne_eqb plan.guard 0 other) in
+          inl (
+            omega (arith, all, threads, are.many),
+            λ i d lt.
+                let within : i < length keepers = omega (arith, lt, are.many, threads, all, count) in
+                let e = some_item keepers i within in
+                (get_or keepers i e, ap (λ (w : Worker). w.keeper) (are.given i d e within)),
+          )
+    ]
+
+-- The workers of a guarded plan have the keepers of the plan, each with its pass, its empty book and room.
+pub have_keepers : (plan : Plan) (kept : List SharedPass) (books : List GuardBook) {old new : List Worker} {keepers : List Keeper} (room : List ℕ)
+    → AreGiven old new keepers → AreKeepers room 0 kept books keepers → AreBooks plan books → length kept ≡ keepers_of plan
+    → length old ≡ threads_of plan → All IsAlone old → ((i : ℕ) → i < keepers_of plan → HasRoomForKeeper plan room i) → HaveKeepers plan kept new
+have_keepers plan kept books {old} {new} {keepers} room are having made size threads alone enough =
+    let same = keepers_many room 0 kept books keepers having in
+    let count = made.many in (
+      size,
+      guarded_so plan are (omega (arith, same, size)) threads alone,
+      λ i d e lt.
+          let within : i < length keepers = omega (arith, lt, same, size) in
+          let k = some_item keepers i within in
+          let b = some_item books i (omega (arith, lt, count)) in
+          let it = keeper_with room 0 kept books keepers i d b k having (omega (arith, lt, size)) in
+          let records = it.records in
+          let needs = enough i lt in
+          let first : slice_index room (0 + i) ≡ slice_index room i = ap (slice_index room) (let is : 0 + i ≡ i = omega arith in is) in
+          record {
+            there = get_or keepers i k;
+            present = ap (λ (w : Worker). w.keeper) (are.given i e k within);
+            pass_is = it.pass_is;
+            empty = ap guards_in it.book_is ∙ made.empty i b lt;
+            places = ap size_of_book it.book_is ∙ made.places i b lt ∙ ap (λ n. guarded_of n (operations_of plan)) (let is : i + 1 ≡ suc i = omega arith in is);
+            said = it.said;
+            records = omega (arith, records, needs, first);
+          },
+    )
+
+-- ---- workers without one
+pub alone_more : (workers : List Worker) (worker : Worker) → IsAlone worker → AllByRecursion IsAlone workers → AllByRecursion IsAlone (workers ++ worker ∷ [])
+alone_more [] worker this alone = (this, tt)
+alone_more (w ∷ workers) worker this alone = (alone.0, alone_more workers worker this alone.1)
+
+alone_at : (workers : List Worker) (i : ℕ) (d : Worker) → AllByRecursion IsAlone workers → i < length workers → IsAlone (get_or workers i d)
+alone_at [] i d alone lt = absurd (let bad : i < 0 = lt in omega (arith, bad))
+alone_at (w ∷ workers) zero d alone lt = alone.0
+alone_at (w ∷ workers) (suc i) d alone lt = alone_at workers i d alone.1 (omega (arith, lt))
+
+-- Workers each of which has no keeper are all alone.
+pub all_alone : (workers : List Worker) → AllByRecursion IsAlone workers → All IsAlone workers
+all_alone workers alone = λ i d lt. alone_at workers i d alone lt
+
+-- ---- giving them
+-- with one worker more that has its keeper
+pub first_given : (old now : List Worker) (keepers given rest : List Keeper) (place : ℕ) (w : Worker) (keeper : Keeper) → given ++ keeper ∷ rest ≡ keepers
+    → length given ≡ place → place < length now
+    → ((d : Worker) → w ≡ with_keeper (get_or now place d) (Some keeper)) → ((d : Worker) → get_or now place d ≡ get_or old place d)
+    → ((i : ℕ) (d : Worker) (e : Keeper) → i < place → get_or now i d ≡ with_keeper (get_or old i d) (Some (get_or keepers i e)))
+    → (i : ℕ) (d : Worker) (e : Keeper) → i < place + 1 → get_or (set now place w) i d ≡ with_keeper (get_or old i d) (Some (get_or keepers i e))
+first_given old now keepers given rest place w keeper all many here is left first i d e lt =
+    search (arith, cases_lt, get_or-set_other, get_or-set_same, get_or_at)
 
 -- ---- the acts of a thread
 own_if : (t : Bool) (op : Op) (xs ys : List Act)
     → (if t then act_kept (keeper_in op.what) op ∷ (Settles op.actor ∷ (xs ++ ys)) else xs ++ ys)
     ≡ (if t then act_kept (keeper_in op.what) op ∷ (Settles op.actor ∷ xs) else xs) ++ ys
-own_if true op xs ys = refl
-own_if false op xs ys = refl
+-- By both values of the test.
+own_if a op xs ys = search arith
 
 -- A thread's own acts of operations and later ones are those of both, one after the other.
-pub own_acts_both : (k : ℕ) (ops left : List Op) → own_acts k (ops ++ left) ≡ own_acts k ops ++ own_acts k left
+own_acts_both : (k : ℕ) (ops left : List Op) → own_acts k (ops ++ left) ≡ own_acts k ops ++ own_acts k left
 own_acts_both k [] left = refl
 own_acts_both k (op ∷ ops) left =
-    ap (λ (acts : List Act). if op.actor == k then act_kept (keeper_in op.what) op ∷ (Settles op.actor ∷ acts) else acts) (own_acts_both k ops left) ∙ own_if (op.actor == k) op (own_acts k ops) (own_acts k left)
+    ap (λ acts. if op.actor == k then act_kept (keeper_in op.what) op ∷ (Settles op.actor ∷ acts) else acts) (own_acts_both k ops left)
+    ∙ own_if (op.actor == k) op (own_acts k ops) (own_acts k left)
 
 guards_both : (xs ys : List Act) (later : LaterKept) → for_guards (xs ++ ys) later ≡ for_guards xs (for_guards ys later)
 guards_both [] ys later = refl
-guards_both (x ∷ xs) ys later = ap (λ (l : LaterKept). for_guard x l) (guards_both xs ys later)
+guards_both (x ∷ xs) ys later = ap (for_guard x) (guards_both xs ys later)
 
 -- ---- a keeper that waits
 -- for the first acts, with room for the others
-pub waits_front : (f : Profile) (k : ℕ) (xs ys : List Act) (kept : Keeping) (later : LaterKept) (p : Progress) → KeeperWaits f k (xs ++ ys) kept later p
+waits_front : (f : Profile) (k : ℕ) (xs ys : List Act) (kept : Keeping) (later : LaterKept) (p : Progress) → KeeperWaits f k (xs ++ ys) kept later p
     → KeeperWaits f k xs kept (for_guards ys later) p
-waits_front f k xs ys NoKeeper later p waits = all_front IsUnguarded xs ys waits
-waits_front f k xs ys (OneKeeper has) later p waits = (all_front (IsTriedBy k) xs ys waits.0, subst (λ (l : LaterKept). KeeperAt f k has l p) (guards_both xs ys later) waits.1)
+waits_front f k xs ys a later p waits = search (arith, all_front, guards_both)
 
 -- .. for which it waits then
 abbrev pub WillWait : ℕ → List Act → Keeping → Type 0
@@ -57,49 +252,38 @@ WillWait k ys NoKeeper = AreUnguarded ys
 WillWait k ys (OneKeeper has) = AreTriedBy k ys
 
 -- A keeper that waits for two lists of acts will wait for the second, too.
-pub will_wait : (f : Profile) (k : ℕ) (xs ys : List Act) (kept : Keeping) (later : LaterKept) (p : Progress) → KeeperWaits f k (xs ++ ys) kept later p
+will_wait : (f : Profile) (k : ℕ) (xs ys : List Act) (kept : Keeping) (later : LaterKept) (p : Progress) → KeeperWaits f k (xs ++ ys) kept later p
     → WillWait k ys kept
-will_wait f k xs ys NoKeeper later p waits = all_back IsUnguarded xs ys waits
-will_wait f k xs ys (OneKeeper has) later p waits = all_back (IsTriedBy k) xs ys waits.0
+will_wait f k xs ys a later p waits = search (arith, all_back)
 
 -- A keeper that will wait for some acts still will once what it said is among its records.
 pub will_wait_then : (k : ℕ) (said : List Record) (ys : List Act) (kept kept' : Keeping) → KeptPushed k said kept kept' → WillWait k ys kept
     → WillWait k ys kept'
-will_wait_then k said ys NoKeeper NoKeeper pushed will = will
-will_wait_then k said ys NoKeeper (OneKeeper new) pushed will = absurd pushed
-will_wait_then k said ys (OneKeeper old) NoKeeper pushed will = absurd pushed
-will_wait_then k said ys (OneKeeper old) (OneKeeper new) pushed will = will
+will_wait_then k said ys a b pushed will = search arith
 
 -- A keeper that waits for no acts with room for later guarded requests waits for those, if it tries them.
 pub waits_next : (f : Profile) (k : ℕ) (ys : List Act) (kept : Keeping) (later : LaterKept) (q : Progress) → WillWait k ys kept
     → KeeperWaits f k [] kept (for_guards ys later) q → KeeperWaits f k ys kept later q
-waits_next f k ys NoKeeper later q will waits = will
-waits_next f k ys (OneKeeper has) later q will waits = (will, waits.1)
+waits_next f k ys a later q will waits = search arith
 
 -- it waits at each progress at which it has the same in hand
 pub waits_still : (f : Profile) (k : ℕ) (acts : List Act) (o : Option Keeper) (later : LaterKept) (p q : Progress) → part k q.list ≡ part k p.list
     → q.books k ≡ p.books k → KeeperWaits f k acts (kept_by_worker o) later p → KeeperWaits f k acts (kept_by_worker o) later q
-waits_still f k acts None later p q parts books waits = waits
-waits_still f k acts (Some keeper) later p q parts books waits =
-    let has = keeper_has (standing_of_pass keeper.pass) keeper.book keeper.out in
-    let still : HasStill has has p.list q.list = record { desk = pass_still keeper.pass; book = refl; out = refl } in
-    (waits.0, keeper_still still parts books waits.1)
+waits_still f k acts a later p q parts books waits = search (arith, keeper_still)
 
 -- Where a worker has no keeper, that actor made no step, as its part of the list is the same.
 pub still_same : (k : ℕ) (kept : Keeping) (p q : Progress) → part k q.list ≡ part k p.list → KeptStill k kept p q
-still_same k NoKeeper p q parts = parts
-still_same k (OneKeeper has) p q parts = tt
+still_same k a p q parts = search arith
 
 -- ---- what it owes
 pub owed_same : (f : Profile) (k : ℕ) (keeper : Option Keeper) (p : Progress) → owed_of f (kept_by_worker keeper) (part k p.list) ≡ owed_kept f k keeper p
-owed_same f k None p = refl
-owed_same f k (Some keeper) p = refl
+-- With one and without one.
+owed_same f k a p = search arith
 
 -- A keeper whose part of the list is the same owes the same.
 pub owed_still : (f : Profile) (k : ℕ) (keeper : Option Keeper) (p q : Progress) → part k q.list ≡ part k p.list
     → owed_kept f k keeper q ≡ owed_kept f k keeper p
-owed_still f k None p q parts = refl
-owed_still f k (Some keeper) p q parts = ap (λ (v : View). owed_by_keeper f (guards_in keeper.book) v) parts
+owed_still f k a p q parts = search arith
 
 -- The keeper at a place is the one of the worker there.
 pub keeper_is : (workers : List Worker) (i : ℕ) (d : Worker) → i < length workers → keeper_at workers i ≡ (get_or workers i d).keeper
@@ -134,12 +318,12 @@ two_counted k keeper (r ∷ rs) apart each =
     let rest = two_counted k keeper rs apart each.1 in
     elim each.0 [
       | inl of ↦
-          let one = ap (λ (xs : List Record). length xs) (first_of_two k r rs true (of k ∙ eq-eqb k k refl)) in
-          let two = ap (λ (xs : List Record). length xs) (first_of_two keeper r rs false (of keeper ∙ ne_eqb k keeper apart)) in
+          let one = ap length (first_of_two k r rs true (of k ∙ eq-eqb k k refl)) in
+          let two = ap length (first_of_two keeper r rs false (of keeper ∙ ne_eqb k keeper apart)) in
           omega (arith, rest, one, two)
       | inr of ↦
-          let one = ap (λ (xs : List Record). length xs) (first_of_two k r rs false (of k ∙ ne_eqb keeper k (λ (is : keeper ≡ k). apart (sym is)))) in
-          let two = ap (λ (xs : List Record). length xs) (first_of_two keeper r rs true (of keeper ∙ eq-eqb keeper keeper refl)) in
+          let one = ap length (first_of_two k r rs false (of k ∙ ne_eqb keeper k (λ (is : keeper ≡ k). apart (sym is)))) in
+          let two = ap length (first_of_two keeper r rs true (of keeper ∙ eq-eqb keeper keeper refl)) in
           omega (arith, rest, one, two)
     ]
 
@@ -149,45 +333,28 @@ at_gathered : {f : Profile} {k : ℕ} {later : LaterKept} {p : Progress} (old ne
     → KeeperAt f k (keeper_has (standing_of_pass old.pass) old.book old.out) later p
     → KeeperAt f k (keeper_has (standing_of_pass new.pass) new.book new.out) later p
 at_gathered {f} {k} {later} {p} old new pass book none room at =
-    let size = ap (λ (rs : List Record). length rs) none in
-    let spare = at.spare in
-    rw (pass, book) (record { sits = at.sits; book = at.book; spare = omega (arith, size, spare, room); places = at.places })
+    search arith
 
 -- A keeper waits for the same acts after what it said was gathered.
 pub waits_gathered : (f : Profile) (k : ℕ) (acts : List Act) (later : LaterKept) (p : Progress) (old new : Option Keeper) → HasSaid old new
     → KeeperWaits f k acts (kept_by_worker old) later p → KeeperWaits f k acts (kept_by_worker new) later p
-waits_gathered f k acts later p None None said waits = waits
-waits_gathered f k acts later p None (Some new) said waits = absurd said
-waits_gathered f k acts later p (Some old) None said waits = absurd said
-waits_gathered f k acts later p (Some old) (Some new) said waits = (waits.0, at_gathered old new said.0 said.1 said.2 said.3 waits.1)
+waits_gathered f k acts later p a b said waits = search (arith, at_gathered)
 
 -- A keeper is of the region still after what it said was gathered.
 pub of_gathered : (region : SharedRegion) (old new : Option Keeper) → HasSaid old new → IsKeeperOf region old → IsKeeperOf region new
-of_gathered region None None said of = tt
-of_gathered region None (Some new) said of = absurd said
-of_gathered region (Some old) None said of = tt
-of_gathered region (Some old) (Some new) said of = subst (λ (x : SharedPass). IsPassOf region x) (sym said.0) of
+of_gathered region a b said of = search arith
 
 -- After what it said was gathered, a keeper is silent.
 pub silent_gathered : (old new : Option Keeper) → HasSaid old new → IsSilent new
-silent_gathered None None said = tt
-silent_gathered None (Some new) said = absurd said
-silent_gathered (Some old) None said = tt
-silent_gathered (Some old) (Some new) said = said.2
+silent_gathered a b said = search arith
 
 -- A keeper owes the same after what it said was gathered.
 pub owed_gathered : (f : Profile) (k : ℕ) (old new : Option Keeper) (p : Progress) → HasSaid old new → owed_kept f k new p ≡ owed_kept f k old p
-owed_gathered f k None None p said = refl
-owed_gathered f k None (Some new) p said = absurd said
-owed_gathered f k (Some old) None p said = absurd said
-owed_gathered f k (Some old) (Some new) p said = ap (λ (b : GuardBook). owed_by_keeper f (guards_in b) (part k p.list)) said.1
+owed_gathered f k a b p said = search arith
 
 -- A keeper has no guard up still after what it said was gathered.
 pub low_gathered : (old new : Option Keeper) → HasSaid old new → IsLow old → IsLow new
-low_gathered None None said low = tt
-low_gathered None (Some new) said low = absurd said
-low_gathered (Some old) None said low = tt
-low_gathered (Some old) (Some new) said low = ap guards_in said.1 ∙ low
+low_gathered a b said low = search arith
 
 -- ---- the last sweeps
 -- those of the keepers from place i of so many on
@@ -218,7 +385,7 @@ lower_begins {threads = threads} {old = old} {p} may = record {
 
 -- a worker without a keeper: there is no keeper at all
 pub none_left : (threads keepers i : ℕ) → keepers ≡ 0 → lowers_from threads keepers i ≡ []
-none_left threads keepers i none = ap (λ (ks : List ℕ). map Lowers ks) (number_last (threads + 1 + i) (keepers - i) (omega (arith, none)))
+none_left threads keepers i none = ap (map Lowers) (number_last (threads + 1 + i) (keepers - i) (omega (arith, none)))
 
 -- Where one worker has no keeper, the replay has none.
 pub has_none : {keepers : ℕ} (old : List Worker) (i : ℕ) (d : Worker) → i < length old → AreGuarded keepers old → (get_or old i d).keeper ≡ None → keepers ≡ 0
@@ -238,7 +405,7 @@ lower_passes {region} {f} {threads} {acts} {old} {now} {p} i d lt many none x = 
   low = λ j e less within. elim (cases_eq j i) [
     | inl is ↦
         subst (λ (m : ℕ). IsLow (get_or now m e).keeper) (sym is)
-        (subst (λ (o : Option Keeper). IsLow o) (sym (ap (λ (w : Worker). w.keeper) (get_or_default now i e d (omega (arith, lt, many))) ∙ none)) tt)
+        (subst IsLow (sym (ap (λ (w : Worker). w.keeper) (get_or_default now i e d (omega (arith, lt, many))) ∙ none)) tt)
     | inr other ↦ x.low j e (omega (arith, less, other)) within
   ];
   left = λ j e from within. x.left j e (omega (arith, from)) within;
@@ -252,27 +419,22 @@ lower_passes {region} {f} {threads} {acts} {old} {now} {p} i d lt many none x = 
 -- a worker with one, which lowers its guards
 pub lower_next : (threads keepers i : ℕ) → i < keepers → lowers_from threads keepers i ≡ Lowers (threads + suc i) ∷ lowers_from threads keepers (i + 1)
 lower_next threads keepers i lt =
-    ap (λ (ks : List ℕ). map Lowers ks) (number_next (threads + 1 + i) (keepers - i) (keepers - (i + 1)) (omega (arith, lt)))
-    ∙ ap (λ (k : ℕ). Lowers k ∷ map Lowers (numbers_from (threads + 1 + i + 1) (keepers - (i + 1)))) (let is : threads + 1 + i ≡ threads + suc i = omega arith in is)
-    ∙ ap (λ (k : ℕ). Lowers (threads + suc i) ∷ map Lowers (numbers_from k (keepers - (i + 1)))) (let is : threads + 1 + i + 1 ≡ threads + 1 + (i + 1) = omega arith in is)
+    search (arith, number_next)
 
 -- Where one worker has a keeper, there are as many keepers as workers.
 pub has_all : {keepers : ℕ} (old : List Worker) (i : ℕ) (d : Worker) (keeper : Keeper) → i < length old → AreGuarded keepers old
     → (get_or old i d).keeper ≡ Some keeper → keepers ≡ length old
-has_all old i d keeper lt (inl all) is = all.0
-has_all old i d keeper lt (inr none) is = absurd (let bad : None ≡ Some keeper = sym (none.1 i d lt) ∙ is in cc)
+has_all old i d keeper lt a is = search arith
 
 -- A worker's keeper that waits for nothing more stands with its pass of the region.
 pub stands_for : {region : SharedRegion} {f : Profile} {k : ℕ} {later : LaterKept} {p : Progress} (o : Option Keeper) (keeper : Keeper) → o ≡ Some keeper
     → IsKeeperOf region o → KeeperWaits f k [] (kept_by_worker o) later p → KeeperStands region f k keeper later p
-stands_for {region} {f} {k} {later} {p} o keeper is of waits = record {
-  of = subst (λ (x : Option Keeper). IsKeeperOf region x) is of;
-  at = (subst (λ (x : Option Keeper). KeeperWaits f k [] (kept_by_worker x) later p) is waits).1;
-}
+stands_for {region} {f} {k} {later} {p} o keeper is of waits = search arith
 
 module _ {region : SharedRegion} {f : Profile} {threads : ℕ} {acts : List Act} {old now : List Worker} {p : Progress} (i : ℕ) (d w : Worker)
     (keeper after : Keeper) (lt : i < length old) (many : length now ≡ length old)
-    (before : (get_or now i d).keeper ≡ Some keeper) (but : IsButKeeper (get_or now i d) w) (lowered : w.keeper ≡ Some after) (x : Lowered region f threads acts i old now p)
+    (before : (get_or now i d).keeper ≡ Some keeper) (but : IsButKeeper (get_or now i d) w) (lowered : w.keeper ≡ Some after)
+    (x : Lowered region f threads acts i old now p)
     (did : KeeperLowered region f (threads + suc i) keeper after no_more x.reached) where
   abbrev k : ℕ
   k = threads + suc i
@@ -302,7 +464,7 @@ module _ {region : SharedRegion} {f : Profile} {threads : ℕ} {acts : List Act}
 
   -- Another actor's part of the list is as it was before this sweep.
   pub parts_other : (j : ℕ) → j ≢ k → part j y.reached.list ≡ part j x.reached.list
-  parts_other j ne = ap (λ (l : Whole). part j l) y.moves.list_is ∙ part_of_others j k y.moves.steps x.reached.list (λ (is : k ≡ j). ne (sym is))
+  parts_other j ne = ap (part j) y.moves.list_is ∙ part_of_others j k y.moves.steps x.reached.list (λ (is : k ≡ j). ne (sym is))
 
   -- The worker of the keeper that swept stands, with what its keeper said paid for.
   pub this_one : (e : Worker) → KeptSo region f threads (suc i) (x.said ++ y.said) (get_or old i e) w p y.reached
@@ -310,12 +472,12 @@ module _ {region : SharedRegion} {f : Profile} {threads : ℕ} {acts : List Act}
       let had = x.each i e lt in
       let same : get_or now i e ≡ get_or old i e = x.left i e (omega arith) lt in
       let changed : IsButKeeper (get_or now i e) w = subst (λ (v : Worker). IsButKeeper v w) (get_or_default now i d e here) but in
-      let size = ap (λ (rs : List Record). length rs) said_own in
+      let size = ap length said_own in
       let owed = ap (λ (o : Option Keeper). owed_kept f k o p) (ap (λ (v : Worker). v.keeper) (sym same) ∙ was e) in
-      let pushed : KeptPushed k y.said (kept_by_worker (Some keeper)) (kept_by_worker (Some after)) = (y.pushed ∙ ap (λ (rs : List Record). records_in keeper.out ++ rs) (sym (all_by k y.said y.each)), y.room, y.size) in
+      let pushed : KeptPushed k y.said (kept_by_worker (Some keeper)) (kept_by_worker (Some after)) = (y.pushed ∙ ap (λ rs. records_in keeper.out ++ rs) (sym (all_by k y.said y.each)), y.room, y.size) in
       record {
         but = record { pass = changed.pass ∙ had.but.pass; cache = changed.cache ∙ had.but.cache; requests = changed.requests ∙ had.but.requests; out = changed.out ∙ had.but.out };
-        of = subst (λ (o : Option Keeper). IsKeeperOf region o) (sym lowered) did.of;
+        of = subst (IsKeeperOf region) (sym lowered) did.of;
         waits = subst (λ (o : Option Keeper). KeeperWaits f k [] (kept_by_worker o) no_more y.reached) (sym lowered) (tt, y.stands);
         told = kept_both k x.said y.said (kept_by_worker (get_or old i e).keeper) (kept_by_worker (get_or now i e).keeper) (kept_by_worker w.keeper) had.told
             (rw (was, lowered) pushed);
@@ -326,18 +488,7 @@ module _ {region : SharedRegion} {f : Profile} {threads : ℕ} {acts : List Act}
   pub other_one : (j : ℕ) (e : Worker) → j < length old → j ≢ i
       → KeptSo region f threads (suc j) (x.said ++ y.said) (get_or old j e) (get_or now j e) p y.reached
   other_one j e less ne =
-      let had = x.each j e less in
-      let apart : threads + suc j ≢ k = λ (is : threads + suc j ≡ k). ne (omega (arith, is)) in
-      let size = ap (λ (rs : List Record). length rs) (said_other (threads + suc j) apart) in
-      let paid = had.paid in
-      let now_kept = kept_by_worker (get_or now j e).keeper in
-      record {
-        but = had.but;
-        of = had.of;
-        waits = waits_still f (threads + suc j) [] (get_or now j e).keeper no_more x.reached y.reached (parts_other (threads + suc j) apart) (y.books (threads + suc j) apart) had.waits;
-        told = kept_both (threads + suc j) x.said y.said (kept_by_worker (get_or old j e).keeper) now_kept now_kept had.told (kept_none (threads + suc j) y.said now_kept (none_by (threads + suc j) k y.said y.each (λ (is : k ≡ threads + suc j). apart (sym is))));
-        paid = omega (arith, size, paid);
-      }
+      search (arith, said_other, waits_still, parts_other, kept_both, kept_none, none_by)
 
   -- of an actor that is none of those that lowered theirs so far, with this one
   pub past : (j : ℕ) → ((m : ℕ) → m < i + 1 → threads + suc m ≢ j) → j ≢ k
@@ -351,7 +502,7 @@ module _ {region : SharedRegion} {f : Profile} {threads : ℕ} {acts : List Act}
     records_are = y.records_are ∙ ap (λ (rs : List Record). rs ++ y.said) x.records_are ∙ append_assoc p.records x.said y.said;
     spoken = spoken_both x.said y.said x.spoken (spoken_piece k y.said y.each);
     each = λ j e less. set_each (λ (m : ℕ) (v : Worker). KeptSo region f threads (suc m) (x.said ++ y.said) (get_or old m e) v p y.reached) now i w e j here (this_one e) (other_one j e less);
-    low = λ j e less within. set_each (λ (m : ℕ) (v : Worker). IsLow v.keeper) now i w e j here (subst (λ (o : Option Keeper). IsLow o) (sym lowered) y.none) (λ ne. x.low j e (omega (arith, less, ne)) within);
+    low = λ j e less within. set_each (λ (m : ℕ) (v : Worker). IsLow v.keeper) now i w e j here (subst IsLow (sym lowered) y.none) (λ ne. x.low j e (omega (arith, less, ne)) within);
     left = λ j e from within. get_or-set_other now i j w e (λ is. omega (arith, is, from)) ∙ x.left j e (omega (arith, from)) within;
     parts = λ j other. parts_other j (past j other) ∙ x.parts j (λ m less. other m (omega (arith, less)));
     books = λ j other. y.books j (past j other) ∙ x.books j (λ m less. other m (omega (arith, less)));
@@ -362,5 +513,100 @@ module _ {region : SharedRegion} {f : Profile} {threads : ℕ} {acts : List Act}
 
 -- There are no more keepers than workers.
 pub most_keepers : {keepers : ℕ} (old : List Worker) → AreGuarded keepers old → keepers ≤ length old
-most_keepers old (inl all) = omega (arith, all.0)
-most_keepers old (inr none) = omega (arith, none.0)
+most_keepers old a = search arith
+
+-- ---- whose hands a keeper is in
+pub kept_hands : (threads : ℕ) (ops : List Op) (i : ℕ) → suc i ≤ threads → owner_in threads ops (threads + suc i) ≡ owner_in threads ops (suc i)
+kept_hands threads ops i most = owner_of threads ops (threads + suc i) (suc i) (kept_thread threads (suc i) (omega arith)) ∙ sym (owner_of threads ops (suc i) (suc i) (own_thread threads (suc i) most))
+
+-- ---- there is a keeper still, or there is none
+abbrev pub AreAlike : Option Keeper → Option Keeper → Type 0
+AreAlike None None = Unit {0}
+AreAlike None (Some new) = ⊥
+AreAlike (Some old) None = ⊥
+AreAlike (Some old) (Some new) = Unit {0}
+
+alike_itself : (o : Option Keeper) → AreAlike o o
+-- With one and without one.
+alike_itself a = search arith
+
+-- Keepers of which one is the other with more said are alike: both or neither is there.
+pub alike_pushed : (k : ℕ) (said : List Record) (old new : Option Keeper) → KeptPushed k said (kept_by_worker old) (kept_by_worker new) → AreAlike old new
+alike_pushed k said a b pushed = search arith
+
+-- Keepers of which one is the other after it was gathered are alike.
+pub alike_said : (old new : Option Keeper) → HasSaid old new → AreAlike old new
+alike_said a b said = search arith
+
+-- A keeper that is as it was is alike to itself.
+pub alike_same : {old new : Option Keeper} → new ≡ old → AreAlike old new
+alike_same {old} same = subst (AreAlike old) (sym same) (alike_itself old)
+
+-- Keepers that are alike to the same one are alike.
+pub alike_both : (a b c : Option Keeper) → AreAlike a b → AreAlike b c → AreAlike a c
+alike_both d e c one two = search arith
+
+has_alike : (old new : Option Keeper) → AreAlike old new → (keeper : Keeper) × (old ≡ Some keeper) → (keeper : Keeper) × (new ≡ Some keeper)
+has_alike None new alike has = absurd (let bad : None ≡ Some has.0 = has.1 in cc)
+has_alike (Some old) None alike has = absurd alike
+has_alike (Some old) (Some new) alike has = (new, refl)
+
+none_alike : (old new : Option Keeper) → AreAlike old new → old ≡ None → new ≡ None
+-- With one and without one.
+none_alike a new alike b = search arith
+
+-- Workers whose keepers are alike are guarded where the others were.
+pub guarded_alike : {keepers : ℕ} (old new : List Worker) → length new ≡ length old
+    → ((i : ℕ) (d : Worker) → i < length old → AreAlike (get_or old i d).keeper (get_or new i d).keeper) → AreGuarded keepers old → AreGuarded keepers new
+guarded_alike old new many alike (inl all) = inl (
+  all.0 ∙ sym many,
+  λ i d lt. let here : i < length old = omega (arith, lt, many) in
+      has_alike (get_or old i d).keeper (get_or new i d).keeper (alike i d here) (all.1 i d here),
+)
+guarded_alike old new many alike (inr none) = inr (
+  none.0,
+  λ i d lt. let here : i < length old = omega (arith, lt, many) in
+      none_alike (get_or old i d).keeper (get_or new i d).keeper (alike i d here) (none.1 i d here),
+)
+
+-- ---- what it said in all
+pub said_then : (k : ℕ) (said : List Record) (old new : Option Keeper) → KeptPushed k said (kept_by_worker old) (kept_by_worker new) → IsSilent old
+    → said_by_keeper new ≡ records_by k said
+-- With one and without one.
+said_then k said a b pushed silent = search arith
+
+-- A keeper that waits for some acts still does once what it said is gathered.
+pub will_gathered : (k : ℕ) (ys : List Act) (old new : Option Keeper) → HasSaid old new → WillWait k ys (kept_by_worker old)
+    → WillWait k ys (kept_by_worker new)
+will_gathered k ys a b said will = search arith
+
+-- ---- before the phase: it waits for the requests of the phase, with room for the others
+pub kept_waits : {region : SharedRegion} {f : Profile} {keeper : ℕ} (k : ℕ) (ops left : List Op) (o : Option Keeper) {p : Progress}
+    → KeeperRests region f keeper (own_acts k (ops ++ left)) o p
+    → KeeperWaits f keeper (own_acts k ops) (kept_by_worker o) (for_guards (own_acts k left) no_more) p
+kept_waits {f = f} {keeper} k ops left o {p} rests =
+    waits_front f keeper (own_acts k ops) (own_acts k left) (kept_by_worker o) no_more p
+    (subst (λ acts. KeeperWaits f keeper acts (kept_by_worker o) no_more p) (own_acts_both k ops left) rests.waits)
+
+-- A keeper that rests will wait for the requests of the phases that are left.
+pub kept_will : {region : SharedRegion} {f : Profile} {keeper : ℕ} (k : ℕ) (ops left : List Op) (o : Option Keeper) {p : Progress}
+    → KeeperRests region f keeper (own_acts k (ops ++ left)) o p → WillWait keeper (own_acts k left) (kept_by_worker o)
+kept_will {f = f} {keeper} k ops left o {p} rests =
+    will_wait f keeper (own_acts k ops) (own_acts k left) (kept_by_worker o) no_more p
+    (subst (λ acts. KeeperWaits f keeper acts (kept_by_worker o) no_more p) (own_acts_both k ops left) rests.waits)
+
+-- .. at another progress at which it has the same in hand
+pub kept_still : {region : SharedRegion} {f : Profile} {keeper : ℕ} {acts : List Act} {old new : Option Keeper} {p q : Progress} → new ≡ old
+    → part keeper q.list ≡ part keeper p.list → q.books keeper ≡ p.books keeper
+    → KeeperRests region f keeper acts old p → KeeperRests region f keeper acts new q
+kept_still {region} {f} {keeper} {acts} {old} {new} {p} {q} same parts books rests = search (arith, waits_still)
+
+-- ---- after the phase
+pushed_nothing : (k : ℕ) (said : List Record) (new : Keeping) → KeptPushed k said NoKeeper new → records_by k said ≡ []
+-- Case by case.
+pushed_nothing k said a pushed = search arith
+
+-- where there is no keeper, that actor took no part
+pub kept_nobody : {region : SharedRegion} {r : Round} {k : ℕ} {old new : Worker} {said : List Record} {own : Progress} → ThreadDone region r k old new said own
+    → old.keeper ≡ None → (part (r.threads + k) own.list ≡ part (r.threads + k) r.start.list) × (records_by (r.threads + k) said ≡ [])
+kept_nobody {r = r} {k} {old} {new} {said} {own} done none = search (arith, pushed_nothing)

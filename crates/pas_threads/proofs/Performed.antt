@@ -1,30 +1,310 @@
--- What each hand did for the threads in its hands, and that all hands together did the operations of a phase.
-use Rattle.std.proofs.Common.{◌≡◌, ◌≢◌, ℕ, zero, suc, ◌+◌, ◌-◌, ◌<◌, ◌≤◌, ◌==◌, Bool, true, false, if◌then◌else◌, inl, inr, All, List, [], ◌∷◌, ◌++◌, length}
-use Rattle.std.proofs.Common.{get_or, Option, refl, ap, sym, ◌∙◌, subst, arith, vec_capacity, append-nil, true≢false, le-leb, ne_eqb}
+-- What hands did in a phase, and what the names are after it.
+use Rattle.std.proofs.Common.{◌≡◌, ℕ, ◌+◌, ◌<◌, ◌==◌, ◌||◌, ◌⊎◌, inl, inr, Bool, true, false, if◌then◌else◌, List, [], ◌∷◌, set, length, get_or, Option, Some}
+use Rattle.std.proofs.Common.{None, refl, ap, sym, ◌∙◌, subst, arith, ◌≤◌, ◌++◌, eq-eqb, ◌≢◌, zero, suc, ◌-◌, All, vec_capacity, append-nil, true≢false, le-leb}
+use Rattle.std.proofs.Common.{ne_eqb}
 use Rattle.std.proofs.lemmas.List.{get_or_default}
-use Rattle.std.proofs.lemmas.Bool.{or_parts, cases_Bool, cases_lt, not-true, not_from_false}
-use Rattle.pas_bits.specs.Masks.{is_set}
-use Rattle.pas_bits.specs.declared.mask.Mask4.{Mask4}
-use Rattle.pas_profile.specs.declared.profile.Profile.{Profile}
-use Rattle.pas_trace.specs.declared.plan.Op.{Op}
-use Rattle.pas_shared.specs.declared.region.SharedRegion.{SharedRegion}
-use Rattle.pas_trace.specs.Acts.{Act, is_active, numbers_from, acts_of_op, acts_of_ops, own_acts, scavenger_acts}
-use Rattle.pas_answers.specs.{Answers.Progress, Reaching.Reaches, Answers.Books}
-use Rattle.pas_acts.specs.Shares.{owner_in, actor_of_act, acts_by, AreInHand}
-use Rattle.pas_acts.specs.NameBooks.{requests_in, room_for, names_of, names_asked}
-use Rattle.pas_acts.specs.{Works.Later, Pairs.KeeperWaits, Pairs.KeptPushed}
-use Rattle.pas_threads.specs.Dealing.{picked, count_of, is_in, is_out}
-use Rattle.pas_threads.specs.{Hands.WorkerAt, Hands.Did, Sessions.WorkerHas, Turns.Came, Turns.Told, Turns.TookNoPart, Crews.Crew, Crews.CrewDid}
-use Rattle.pas_threads.specs.{Scavengers.crew_of, Scavengers.ScavengerStands, Scavengers.DidScavenge, Left.pair_in, Left.HasLeft, Lent.Shift, Lent.IsLent}
-use Rattle.pas_threads.specs.{Lent.AreLent}
-use Rattle.pas_threads.specs.Performing.{Round, idle_in, IsReady, PaysFor, ThreadDone, ScavengerDone, PieceLeft}
+use Rattle.std.proofs.lemmas.Bool.{cases_eq, false≢true, or_right, or_cases, or_parts, cases_Bool, cases_lt, not-true, not_from_false}
+use Rattle.pas_profile.specs.declared.{name.Block.Block, profile.Profile.Profile}
+use Rattle.pas_trace.specs.EveryPlan.{is_asked, asked_with, asked_after, asked_by, AreSound, IsActorOf}
+use Rattle.pas_answers.specs.{Answers.Named, Answers.standing_for, Answers.Progress, Names.block_named, Names.names_held, Fit.IsBelow, Fit.AreBelow}
+use Rattle.pas_answers.specs.{Fit.KeepsAbove, Reaching.Reaches}
+use Rattle.pas_answers.proofs.EachAct.{all_back}
+use Rattle.pas_acts.specs.NameBooks.{requests_in, room_for, names_of, came_to, known_in, Requests, name_asked, names_asked, AreWithin, NamesAt}
 use Rattle.pas_acts.specs.declared.names.NameBook.{NameBook}
 use Rattle.pas_threads.specs.declared.{workers.Worker.Worker, scavenger.Scavenger.Scavenger, phases.Team.Team, keeper.Keeper.Keeper}
-use Rattle.pas_acts.proofs.{AtDesk.sits_for, PhaseActs.none_own, PhaseActs.acts_are_shared}
+use Rattle.pas_threads.specs.Taken.{HasRequest, IsEmptied, HasTaken, HandsOver}
+use Rattle.pas_threads.proofs.TakingTurns.{set_each, came_none, pushed_none}
+use Rattle.pas_threads.proofs.Dealt.{some_item, picked_many, picked_at, picked_pairs, number_at, numbers_many, idle_picked, idle_distinct, idle_within}
+use Rattle.pas_steps.specs.Desks.{Standing}
+use Rattle.pas_trace.specs.Asked.{work_of, of_task, request_of}
+use Rattle.pas_trace.specs.declared.{plan.What.What, item.Request.Request, plan.Chore.Chore, plan.Work.Work, plan.Op.Op}
+use Rattle.pas_trace.specs.Acts.{Act, act_kept, operation_in, asked_after_operation, is_active, idle_threads, idle_stops, acts_of_chore, acts_of_work}
+use Rattle.pas_trace.specs.Acts.{acts_of_op, acts_of_ops, own_acts, numbers_from, scavenger_acts}
+use Rattle.pas_answers.specs.Calls.{block_behind, MayStand, AreKnown, OnlyAsked}
+use Rattle.pas_answers.specs.declared.names.Names.{Names}
+use Rattle.pas_trace.proofs.EveryPlan.{kept_with}
+use Rattle.pas_acts.proofs.{ActsOfPlan.back_below, Naming.are_known, Noting.asks, Noting.asks_more, Naming.sound_front, Naming.sound_back, AtDesk.sits_for}
+use Rattle.pas_acts.proofs.{PhaseActs.none_own, PhaseActs.acts_are_shared}
+use Rattle.pas_acts.specs.Shares.{owner_in, IsWoven, AreAmong, IsRequestOf, NoneAsks, asked_after_act, asked_after_acts, actor_of_act, acts_by, AreInHand}
+use Rattle.pas_acts.specs.{Works.Later, Keepers.Keeping, Keepers.LaterKept, Pairs.PairWorks, Pairs.KeeperWaits, Pairs.KeptPushed}
+use Rattle.pas_threads.specs.{Hands.kept_by, Hands.WorkerAt, Hands.Did, Sessions.WorkerHas, Turns.Came, Turns.Told, Turns.TookNoPart, Crews.Crew, Crews.CrewDid}
+use Rattle.pas_threads.specs.{Scavengers.crew_of, Scavengers.ScavengerStands, Scavengers.DidScavenge, Left.pair_in, Left.HasLeft, Lent.Shift, Lent.IsLent}
+use Rattle.pas_threads.specs.{Lent.AreLent}
+use Rattle.pas_bits.specs.Masks.{is_set}
+use Rattle.pas_bits.specs.declared.mask.Mask4.{Mask4}
+use Rattle.pas_shared.specs.declared.region.SharedRegion.{SharedRegion}
+use Rattle.pas_threads.specs.Dealing.{picked, count_of, is_in, is_out}
+use Rattle.pas_threads.specs.Performing.{Round, idle_in, IsReady, PaysFor, ThreadDone, ScavengerDone, PieceLeft}
 use Rattle.pas_threads.specs.Pairs.{kept_by_worker, IsKeeperOf, owed_kept, PairStands, PairDid, MayDoPhase, DidPhase}
 use Rattle.pas_threads.proofs.Keepers.{two_counted, owed_same, owed_still, kept_none, still_same, waits_still}
-use Rattle.pas_threads.proofs.{NamesOfPhases.hands_over, NamesOfPhases.hands_nothing, TakingTurns.came_none, TakingTurns.pushed_none}
-use Rattle.pas_threads.proofs.Dealt.{picked_many, picked_at, picked_pairs, number_at, numbers_many, idle_picked, idle_distinct, idle_within, some_worker}
+
+-- ---- all workers, one after the other
+-- a request of these has the name, and what it came to is the same whatever else is said; or none has it
+either_if : (t : Bool) (b : Option Block) (s : Bool) (o : Option (Option Block))
+    → ((s ≡ true) × ((x y : Option Block) → came_to o x ≡ came_to o y)) ⊎ ((s ≡ false) × (o ≡ None))
+    → ((t || s ≡ true) × ((x y : Option Block) → came_to (if t then Some b else o) x ≡ came_to (if t then Some b else o) y))
+    ⊎ ((t || s ≡ false) × ((if t then Some b else o) ≡ None))
+either_if a b s o rest = search arith
+
+has_or_not : (rs : List Named) (n : ℕ)
+    → ((is_asked (names_of rs) n ≡ true) × ((x y : Option Block) → came_to (standing_for rs n) x ≡ came_to (standing_for rs n) y))
+    ⊎ ((is_asked (names_of rs) n ≡ false) × (standing_for rs n ≡ None))
+has_or_not [] n = inr (refl, refl)
+has_or_not (r ∷ rs) n = either_if (r.name == n) r.block (is_asked (names_of rs) n) (standing_for rs n) (has_or_not rs n)
+
+-- .. as far as the workers before this place
+abbrev pub TakenUpTo : NameBook → NameBook → List Worker → ℕ → ℕ → Type 0
+TakenUpTo before after workers many n =
+    ((i : ℕ) × (i < many) × ((d : Worker) → HasRequest (get_or workers i d) n × (block_named after.names n ≡ known_in before (get_or workers i d).requests n)))
+    ⊎ (((i : ℕ) (d : Worker) → i < many → HasRequest (get_or workers i d) n → ⊥) × (block_named after.names n ≡ block_named before.names n))
+
+-- A name of one worker's requests that the book took is taken of one worker more.
+pub taken_more : (before now after : NameBook) (workers : List Worker) (i n : ℕ) (w : Worker) → i < length workers → ((d : Worker) → w ≡ get_or workers i d)
+    → block_named after.names n ≡ known_in now w.requests n
+    → TakenUpTo before now workers i n → TakenUpTo before after workers (i + 1) n
+taken_more before now after workers i n w lt is takes so = elim (has_or_not (requests_in w.requests) n) [
+  | inl has ↦ inl (
+    i,
+    omega arith,
+    λ d. (subst (λ x. HasRequest x n) (is d) has.0, takes ∙ has.1 (block_named now.names n) (block_named before.names n) ∙ ap (λ (x : Worker). known_in before x.requests n) (is d)),
+  )
+  | inr none ↦
+      let same : block_named after.names n ≡ block_named now.names n = takes ∙ ap (λ (o : Option (Option Block)). came_to o (block_named now.names n)) none.1 in
+      elim so [
+        | inl one ↦ inl (one.0, omega (arith, one.1), λ d. ((one.2 d).0, same ∙ (one.2 d).1))
+        | inr all ↦ inr (
+          λ j d low has. elim (cases_eq j i) [
+            | inl here ↦ false≢true (sym none.0 ∙ subst (λ x. HasRequest x n) (sym (is d)) (subst (λ (m : ℕ). HasRequest (get_or workers m d) n) here has))
+            | inr other ↦ all.0 j d (omega (arith, low, other)) has
+          ],
+          same ∙ all.1,
+        )
+      ]
+]
+
+-- the worker with these requests
+abbrev pub with_requests : Worker → Requests → Worker
+with_requests w rs = record { pass = w.pass; cache = w.cache; requests = rs; out = w.out; keeper = w.keeper; member = w.member; bench = w.bench }
+
+-- The worker whose requests were taken is emptied, as those before it.
+pub emptied_more : (old now : List Worker) (i : ℕ) (e : Worker) (rs : Requests) → i < length now → get_or now i e ≡ get_or old i e → i < length old
+    → requests_in rs ≡ [] → room_for rs ≡ room_for (get_or now i e).requests
+    → ((j : ℕ) (d : Worker) → j < i → IsEmptied (get_or old j d) (get_or now j d)) → (j : ℕ) (d : Worker) → j < i + 1
+    → IsEmptied (get_or old j d) (get_or (set now i (with_requests (get_or now i e) rs)) j d)
+emptied_more old now i e rs lt left lt' none room so j d low =
+    let was = left ∙ get_or_default old i e d lt' in
+    set_each (λ (m : ℕ) (w : Worker). IsEmptied (get_or old m d) w) now i (with_requests (get_or now i e) rs) d j lt
+    (record {
+      pass = ap (λ (w : Worker). w.pass) was;
+      cache = ap (λ (w : Worker). w.cache) was;
+      out = ap (λ (w : Worker). w.out) was;
+      keeper = ap (λ (w : Worker). w.keeper) was;
+      empty = none;
+      room = room ∙ ap (λ (w : Worker). room_for w.requests) was;
+    })
+    (λ ne. so j d (omega (arith, low, ne)))
+
+-- ---- what acts ask for
+
+-- a name that was asked for stays so
+kept_after : (o : Option Op) (asked : List ℕ) (n : ℕ) → is_asked asked n ≡ true → is_asked (asked_after_operation o asked) n ≡ true
+kept_after a asked n is = search (arith, kept_with)
+
+kept_acts : (acts : List Act) (asked : List ℕ) (n : ℕ) → is_asked asked n ≡ true → is_asked (asked_after_acts acts asked) n ≡ true
+kept_acts [] asked n is = is
+kept_acts (act ∷ acts) asked n is = kept_acts acts (asked_after_act act asked) n (kept_after (operation_in act) asked n is)
+
+-- the names that acts ask for were asked for after them
+new_with : (request : Option Request) (asked ns : List ℕ) (n : ℕ) → is_asked (asked_with request [] ++ ns) n ≡ true
+    → (is_asked (asked_with request asked) n ≡ true) ⊎ (is_asked ns n ≡ true)
+new_with a asked ns n is = search (arith, or_cases)
+
+new_after : (o : Option Op) (asked ns : List ℕ) (n : ℕ) → is_asked (asked_after_operation o [] ++ ns) n ≡ true
+    → (is_asked (asked_after_operation o asked) n ≡ true) ⊎ (is_asked ns n ≡ true)
+new_after a asked ns n is = search (arith, new_with)
+
+asked_then : (acts : List Act) (asked : List ℕ) (n : ℕ) → is_asked (names_asked acts) n ≡ true → is_asked (asked_after_acts acts asked) n ≡ true
+asked_then [] asked n is = absurd (false≢true is)
+asked_then (act ∷ acts) asked n is = elim (new_after (operation_in act) asked (names_asked acts) n is) [
+  | inl here ↦ kept_acts acts (asked_after_act act asked) n here
+  | inr later ↦ asked_then acts (asked_after_act act asked) n later
+]
+
+-- ---- the acts of a phase
+after_both : (xs ys : List Act) (asked : List ℕ) → asked_after_acts (xs ++ ys) asked ≡ asked_after_acts ys (asked_after_acts xs asked)
+after_both [] ys asked = refl
+after_both (x ∷ xs) ys asked = after_both xs ys (asked_after_act x asked)
+
+after_stops : (m : ℕ) (idle asked : List ℕ) → asked_after_acts (idle_stops m idle) asked ≡ asked
+after_stops m [] asked = refl
+after_stops m (k ∷ idle) asked = after_stops m idle asked
+
+after_chore : (idle : List ℕ) (chore : Chore) (asked : List ℕ) → asked_after_acts (acts_of_chore idle chore) asked ≡ asked
+after_chore idle a asked = search (arith, after_stops)
+
+-- an operation that is tried first is asked for as any other
+operation_kept : (o : Option ℕ) (op : Op) → operation_in (act_kept o op) ≡ Some op
+operation_kept a op = search arith
+
+after_work : (idle : List ℕ) (op : Op) (work : Work) (asked : List ℕ) → work_of op.what ≡ work
+    → asked_after_acts (acts_of_work idle op work) asked ≡ asked_with (of_task request_of work) asked
+after_work idle op a asked is = search (arith, operation_kept, after_chore)
+
+after_ops : (idle : List ℕ) (ops : List Op) (asked : List ℕ) → asked_after_acts (acts_of_ops idle ops) asked ≡ asked_by asked ops
+after_ops idle [] asked = refl
+after_ops idle (op ∷ ops) asked = let rest = after_ops idle ops (asked_after op.what asked) in grind (arith, rest, after_both, after_work)
+
+-- ---- none of them asks for a name that no thread asks for
+none_both : (n : ℕ) (xs ys : List Act) → NoneAsks n xs → NoneAsks n ys → NoneAsks n (xs ++ ys)
+none_both n [] ys one two = two
+none_both n (x ∷ xs) ys one two = (one.0, none_both n xs ys one.1 two)
+
+none_stops : (n m : ℕ) (idle : List ℕ) → NoneAsks n (idle_stops m idle)
+none_stops n m [] = tt
+none_stops n m (k ∷ idle) = (λ bad. bad, none_stops n m idle)
+
+none_chore : (n : ℕ) (idle : List ℕ) (chore : Chore) → NoneAsks n (acts_of_chore idle chore)
+none_chore n idle (Chore.Tick epoch) = (λ bad. bad, tt)
+none_chore n idle Chore.Pass = (λ bad. bad, tt)
+none_chore n idle (Chore.Idle m) = (λ bad. bad, none_stops n m idle)
+
+none_work : (n : ℕ) (idle : List ℕ) (op : Op) (work : Work) → (IsRequestOf n op.what → ⊥) → NoneAsks n (acts_of_work idle op work)
+none_work n idle op (Work.Own task) none = search (arith, operation_kept)
+none_work n idle op (Work.Chore chore) none = none_chore n idle chore
+
+-- who asks for a name is a thread, and has it among its own
+asks_own : (f : Profile) (n k : ℕ) (what : What) → IsActorOf f what k → IsRequestOf n what → (1 ≤ k) × (is_asked (name_asked what) n ≡ true)
+asks_own f n k what actor is = search (arith, eq-eqb)
+
+front_asked : (ms ns : List ℕ) (n : ℕ) → is_asked ms n ≡ true → is_asked (ms ++ ns) n ≡ true
+front_asked [] ns n is = absurd (false≢true is)
+front_asked (m ∷ ms) ns n is = elim (or_cases (m == n) (is_asked ms n) is) [
+  | inl here ↦ ap (λ (t : Bool). t || is_asked (ms ++ ns) n) here
+  | inr later ↦ or_right (m == n) (is_asked (ms ++ ns) n) (front_asked ms ns n later)
+]
+
+back_asked : (ms ns : List ℕ) (n : ℕ) → is_asked ns n ≡ true → is_asked (ms ++ ns) n ≡ true
+back_asked [] ns n is = is
+back_asked (m ∷ ms) ns n is = or_right (m == n) (is_asked (ms ++ ns) n) (back_asked ms ns n is)
+
+none_ask : (f : Profile) (n : ℕ) (idle asked : List ℕ) (ops : List Op) → AreSound f asked ops → ((k : ℕ) → 1 ≤ k → is_asked (asks k ops) n ≡ true → ⊥)
+    → NoneAsks n (acts_of_ops idle ops)
+none_ask f n idle asked [] sound none = tt
+none_ask f n idle asked (op ∷ ops) sound none =
+    let first = λ (k : ℕ). if op.actor == k then name_asked op.what else [] in
+    none_both n (acts_of_op idle op) (acts_of_ops idle ops)
+    (none_work n idle op (work_of op.what) (λ is.
+    let k = op.actor in
+    let own = asks_own f n k op.what sound.0 is in
+    let mine = ap (λ (t : Bool). if t then name_asked op.what else []) (eq-eqb k k refl) in
+    none k own.0 (ap (λ ns. is_asked ns n) (asks_more k op ops ∙ ap (λ ns. ns ++ asks k ops) mine) ∙ front_asked (name_asked op.what) (asks k ops) n own.1)))
+    (none_ask f n idle (asked_after op.what asked) ops sound.2 (λ k some is. none k some (ap (λ ns. is_asked ns n) (asks_more k op ops) ∙ back_asked (first k) (asks k ops) n is)))
+
+-- a thread that asks for a name has an operation in the phase
+active_if : (t s : Bool) (ms ns : List ℕ) (n : ℕ) → (is_asked ns n ≡ true → s ≡ true) → is_asked ((if t then ms else []) ++ ns) n ≡ true → t || s ≡ true
+active_if a s ms ns n rest is = search arith
+
+active_asks : (k : ℕ) (ops : List Op) (n : ℕ) → is_asked (asks k ops) n ≡ true → is_active ops k ≡ true
+active_asks k [] n is = absurd (false≢true is)
+active_asks k (op ∷ ops) n is = active_if (op.actor == k) (is_active ops k) (name_asked op.what) (asks k ops) n (active_asks k ops n) (ap (λ ns. is_asked ns n) (sym (asks_more k op ops)) ∙ is)
+
+-- ---- what a worker hands over
+hands_over : {f : Profile} {phase : List Op} {book : NameBook} {k keeper : ℕ} {σ σ' : Standing} {kept kept' : Keeping} {later : Later} {more : LaterKept}
+    {p : Progress} (old new : Worker) (names : List Named)
+    → (did : PairWorks f k keeper (own_acts k phase) [] σ σ' (kept_by book old) (kept_by book new) kept kept' later more p)
+    → requests_in old.requests ≡ [] → AreAmong did.reached.names names → HandsOver f phase book k new names
+hands_over {f} {phase} {book} {k} {p = p} old new names did none among =
+    let noted = did.noted ∙ ap (λ (rs : List Named). names_of rs ++ names_asked (own_acts k phase)) none in
+    let knows = did.stands.thread.names in
+    record {
+      noted = noted;
+      says = λ n has.
+          let mine = ap (λ (ns : List ℕ). is_asked ns n) (sym noted) ∙ has in
+          let known = are_known f (own_acts k phase) [] p did.reached did.reaches (λ m is. absurd (false≢true is)) n
+          (asked_then (own_acts k phase) [] n mine) in
+          let block = knows.tells n ∙ ap block_behind known.1 in
+          (known.0, among n known.0 known.1, block, subst (MayStand f) block (knows.stand n));
+    }
+
+-- a worker with no operation in the phase hands over nothing
+hands_nothing : {f : Profile} {phase : List Op} {book : NameBook} {k : ℕ} (worker : Worker) (names : List Named) → requests_in worker.requests ≡ []
+    → own_acts k phase ≡ [] → HandsOver f phase book k worker names
+hands_nothing {f} {phase} {book} {k} worker names none idle = search (arith, false≢true)
+
+-- the names of its requests are below the limit
+within_if : (t : Bool) (limit : ℕ) (what : What) (ns : List ℕ) → IsBelow limit what → AreWithin limit ns
+    → AreWithin limit ((if t then name_asked what else []) ++ ns)
+within_if a limit what ns below within = search arith
+
+-- The names for which a thread asks in a phase are below the bound of all names of the phase.
+pub names_within : (limit k : ℕ) (phase : List Op) → AreBelow limit phase → AreWithin limit (names_asked (own_acts k phase))
+names_within limit k [] below = tt
+names_within limit k (op ∷ ops) below =
+    subst (AreWithin limit) (sym (asks_more k op ops)) (within_if (op.actor == k) limit op.what (asks k ops) below.0 (names_within limit k ops below.1))
+
+-- ---- after a phase
+
+-- Each worker handed over, and each thread with an operation in the phase has one.
+module _ {f : Profile} {book : NameBook} {p q : Progress} {own : ℕ → Progress} (threads : ℕ) (phase rest : List Op) (book1 book2 : NameBook) (numbers : List ℕ)
+    (workers : List Worker) (at : NamesAt f (phase ++ rest) book p) (are : q.names ≡ p.names)
+    (woven : IsWoven f (owner_in threads phase) (acts_of_ops (idle_threads threads phase) phase) at.asked q own) (noted : book1.names ≡ book.names)
+    (each : (i : ℕ) (d : Worker) → i < length workers → HandsOver f phase book1 (get_or numbers i 0) (get_or workers i d) woven.reached.names)
+    (all : (k : ℕ) → 1 ≤ k → is_active phase k ≡ true → (i : ℕ) × (i < length workers) × (get_or numbers i 0 ≡ k)) (taken : HasTaken book1 book2 workers) where
+  abbrev after : List Named
+  after = woven.reached.names
+
+  -- what no request was for stands for what it did
+  stays : (n : ℕ) → ((i : ℕ) (d : Worker) → i < length workers → HasRequest (get_or workers i d) n → ⊥) → standing_for after n ≡ standing_for p.names n
+  stays n none = woven.same_names n (none_ask f n (idle_threads threads phase) at.asked phase (sound_front f at.asked phase rest at.sound) (λ k some is.
+      let who = all k some (active_asks k phase n is) in
+      let d = some_item workers who.0 who.1 in
+      none who.0 d who.1 (ap (λ (ns : List ℕ). is_asked ns n) ((each who.0 d who.1).noted ∙ ap (λ (j : ℕ). names_asked (own_acts j phase)) who.2) ∙ is)))
+      ∙ ap (λ (ns : List Named). standing_for ns n) are
+
+  was : (n : ℕ) → block_named book1.names n ≡ block_named book.names n
+  was n = ap (λ (t : Names). block_named t n) noted
+
+  book_tells : (n : ℕ) → block_named book2.names n ≡ block_behind (standing_for after n)
+  book_tells n = elim (taken n) [
+    | inl one ↦
+        let d = some_item workers one.0 one.1 in
+        let has = one.2 d in
+        let says = (each one.0 d one.1).says n has.0 in
+        has.1 ∙ says.2 ∙ sym (ap block_behind says.1)
+    | inr none ↦ none.1 ∙ was n ∙ at.tells n ∙ ap block_behind (sym (stays n none.0))
+  ]
+
+  book_stands : (n : ℕ) → MayStand f (block_named book2.names n)
+  book_stands n = elim (taken n) [
+    | inl one ↦
+        let d = some_item workers one.0 one.1 in
+        let has = one.2 d in
+        let says = (each one.0 d one.1).says n has.0 in
+        subst (MayStand f) (sym (has.1 ∙ says.2)) says.3
+    | inr none ↦ subst (MayStand f) (sym (none.1 ∙ was n)) (at.stand n)
+  ]
+
+  asked_is : asked_after_acts (acts_of_ops (idle_threads threads phase) phase) at.asked ≡ asked_by at.asked phase
+  asked_is = after_ops (idle_threads threads phase) phase at.asked
+
+  -- After a phase the book says of each name what it stands for in the woven replay.
+  pub names_after : names_held book2.names ≡ names_held book1.names → NamesAt f rest book2 woven.reached
+  names_after held = record {
+    asked = asked_by at.asked phase;
+    sound = sound_back f at.asked phase rest at.sound;
+    above = all_back (KeepsAbove f) phase rest at.above;
+    below = subst (λ (limit : ℕ). AreBelow limit rest) (sym (held ∙ ap names_held noted)) (back_below (names_held book.names) phase rest at.below);
+    tells = book_tells;
+    stand = book_stands;
+    known = subst (λ (ns : List ℕ). AreKnown ns after) asked_is
+        (are_known f (acts_of_ops (idle_threads threads phase) phase) at.asked q woven.reached woven.reaches (subst (AreKnown at.asked) (sym are) at.known));
+    only = subst (λ (ns : List ℕ). OnlyAsked ns after) asked_is woven.only_asked;
+  }
+
+  -- .. and these were asked for then
+  pub names_then : names_held book2.names ≡ names_held book1.names → (names : NamesAt f rest book2 woven.reached) × (names.asked ≡ asked_by at.asked phase)
+  unfolding names_after
+  names_then held = (names_after held, refl)
 
 -- a thread none of whose acts is left has its pass, and rests with it
 has_left : {region : SharedRegion} {book : NameBook} {f : Profile} {k : ℕ} {worker : Worker} {later : Later} {p : Progress}
@@ -115,18 +395,20 @@ lent_done {region} {r} {acts} {has} {has'} k n old new some off stood did lt lt'
     let kept = kept_by_worker old.keeper in
     let at : IsLent region (shift_of r) n (get_or has'.lent n new) q = did.stands.lent.each n new lt' in
     let told : Told k said old new = rw (is old, was old, number) at (did.lent n old lt) in
-    let apart : TookNoPart keeper said r.start q = did.others keeper (λ same. omega (arith, same, some)) (λ i within same. (let most = idle_within r.threads r.ops i within in omega (arith, most, same, some))) in
+    let apart : TookNoPart keeper said r.start q = did.others keeper (λ same. omega (arith, same, some))
+    (λ i within same. (let most = idle_within r.threads r.ops i within in omega (arith, most, same, some))) in
     let acts_none = none_own k r.ops off in
-    let waits : KeeperWaits r.profile keeper [] kept (r.more k) q = waits_still r.profile keeper [] old.keeper (r.more k) r.start q apart.part_is (ap (λ (books : Books). books keeper) did.books) (subst (λ (xs : List Act). KeeperWaits r.profile keeper xs kept (r.more k) r.start) acts_none stood.waits) in
+    let waits : KeeperWaits r.profile keeper [] kept (r.more k) q = waits_still r.profile keeper [] old.keeper (r.more k) r.start q apart.part_is
+    (ap (λ books. books keeper) did.books) (subst (λ xs. KeeperWaits r.profile keeper xs kept (r.more k) r.start) acts_none stood.waits) in
     let same = sym told.keeper in
     record {
       stands = subst (λ (j : ℕ). WorkerHas region r.profile j new (r.later j) q) number (subst (λ (w : Worker). IsLent region (shift_of r) n w q) (is new) at);
-      of = subst (λ (o : Option Keeper). IsKeeperOf region o) same stood.of;
+      of = subst (IsKeeperOf region) same stood.of;
       waits = subst (λ (o : Option Keeper). KeeperWaits r.profile keeper [] (kept_by_worker o) (r.more k) q) same waits;
       told = told.out;
       kept_told = subst (λ (o : Option Keeper). KeptPushed keeper said kept (kept_by_worker o)) same (kept_none keeper said kept apart.silent);
       still = still_same keeper kept r.start q apart.part_is;
-      paid = inr (apart.silent, ap (λ (o : Option Keeper). owed_kept r.profile keeper o q) (sym same) ∙ owed_still r.profile keeper old.keeper r.start q apart.part_is);
+      paid = inr (apart.silent, ap (λ o. owed_kept r.profile keeper o q) (sym same) ∙ owed_still r.profile keeper old.keeper r.start q apart.part_is);
       noted = idle_noted k r.ops old new off told.requests;
       room_noted = ap room_for told.requests;
       hands_over = λ empty names among. hands_nothing new names (ap requests_in told.requests ∙ empty) acts_none;
@@ -152,17 +434,12 @@ none_scavenged idle (op ∷ ops) off =
 -- ---- all hands together
 -- a thread in the hands of a thread is that thread, and has an operation
 own_hands : (threads : ℕ) (ops : List Op) (k : ℕ) → k ≤ threads → owner_in threads ops k ≡ (if is_active ops k then k else 0)
-own_hands threads ops k most = ap (λ (t : Bool). if is_active ops (if t then k else k - threads) then (if t then k else k - threads) else 0) (le-leb k threads most)
+own_hands threads ops k most = ap (λ t. if is_active ops (if t then k else k - threads) then (if t then k else k - threads) else 0) (le-leb k threads most)
 
 -- A thread in the scavenger's hands has no operation, and one in a worker's hands is that worker's own, with one.
 pub owned_by : (threads : ℕ) (ops : List Op) (k : ℕ) (t : Bool) → is_active ops k ≡ t → 1 ≤ k → k ≤ threads
     → (owner_in threads ops k ≡ 0 → is_active ops k ≡ false) × ((w : ℕ) → owner_in threads ops k ≡ w → 1 ≤ w → (k ≡ w) × (is_active ops k ≡ true))
-owned_by threads ops k true is some most =
-    let own : owner_in threads ops k ≡ k = own_hands threads ops k most ∙ ap (λ (t : Bool). if t then k else 0) is in
-    (λ none. absurd (omega (arith, own, none, some)), λ w whose one. (sym own ∙ whose, is))
-owned_by threads ops k false is some most =
-    let own : owner_in threads ops k ≡ 0 = own_hands threads ops k most ∙ ap (λ (t : Bool). if t then k else 0) is in
-    (λ none. is, λ w whose one. absurd (omega (arith, own, whose, one)))
+owned_by threads ops k a is b most = search (arith, own_hands)
 
 -- nobody past the threads has anything in hand
 owner_few : (threads : ℕ) (ops : List Op) (k w : ℕ) → ((j : ℕ) → is_active ops j ≡ true → j ≤ threads) → threads < w → owner_in threads ops k ≢ w
@@ -171,11 +448,12 @@ owner_few threads ops k w within past is = search (arith, cases_Bool)
 none_in_hand : (owner : ℕ → ℕ) (w : ℕ) (acts : List Act) → ((k : ℕ) → owner k ≢ w) → acts_by owner w acts ≡ []
 none_in_hand owner w [] none = refl
 none_in_hand owner w (act ∷ acts) none =
-    ap (λ (t : Bool). if t then act ∷ acts_by owner w acts else acts_by owner w acts) (ne_eqb (owner (actor_of_act act)) w (none (actor_of_act act))) ∙ none_in_hand owner w acts none
+    ap (λ t. if t then act ∷ acts_by owner w acts else acts_by owner w acts) (ne_eqb (owner (actor_of_act act)) w (none (actor_of_act act)))
+    ∙ none_in_hand owner w acts none
 
 -- by these acts, which are those told otherwise
 abbrev came_as : {f : Profile} {acts acts' : List Act} {p : Progress} → acts' ≡ acts → Came f acts p → Came f acts' p
-came_as {f} {p = p} is own = record { reached = own.reached; reaches = subst (λ (acts : List Act). Reaches f acts p own.reached) (sym is) own.reaches; said = own.said; records_are = own.records_are }
+came_as {f} {p = p} is own = record { reached = own.reached; reaches = subst (λ acts. Reaches f acts p own.reached) (sym is) own.reaches; said = own.said; records_are = own.records_are }
 
 module _ {region : SharedRegion} {r : Round} {team : Team} (ready : IsReady region r team) (awake : Mask4) (same : (k : ℕ) → is_set awake k ≡ is_active r.ops k)
   where
@@ -186,7 +464,7 @@ module _ {region : SharedRegion} {r : Round} {team : Team} (ready : IsReady regi
     outside = picked (is_out awake) 1 team.threads.items
 
     its_bit : (i : ℕ) → is_set awake (1 + i) ≡ is_active r.ops (suc i)
-    its_bit i = ap (λ (k : ℕ). is_set awake k) (let one : 1 + i ≡ suc i = omega arith in one) ∙ same (suc i)
+    its_bit i = ap (is_set awake) (let one : 1 + i ≡ suc i = omega arith in one) ∙ same (suc i)
 
     idle_are : idle_in r ≡ picked (is_out awake) 1 (numbers_from 1 r.threads)
     idle_are = idle_picked awake r.ops r.threads same
@@ -211,8 +489,7 @@ module _ {region : SharedRegion} {r : Round} {team : Team} (ready : IsReady regi
         (λ i e less on. record { profile = r.profile; threads = r.threads; thread = suc i; later = r.later (suc i); more = r.more (suc i); progress = r.start; some = some_thread i less; stands = ready.workers i e less }) j d lt
 
     lent_many : length outside ≡ length (idle_in r)
-    lent_many = picked_many (is_out awake) 1 team.threads.items ∙ ap (λ (n : ℕ). count_of (is_out awake) 1 n) (ready.many ∙ sym (numbers_many 1 r.threads))
-        ∙ sym (picked_many (is_out awake) 1 (numbers_from 1 r.threads)) ∙ ap (λ (ks : List ℕ). length ks) (sym idle_are)
+    lent_many = search (arith, picked_many, numbers_many, idle_are)
 
     -- a worker that was lent is that of an idle thread
     lent_stands : (j : ℕ) (d : Worker) → j < length outside → IsLent region (shift_of r) j (get_or outside j d) r.start
@@ -220,11 +497,11 @@ module _ {region : SharedRegion} {r : Round} {team : Team} (ready : IsReady regi
         subst (λ (ks : List ℕ). WorkerHas region r.profile (get_or ks j 0) (get_or outside j d) (r.later (get_or ks j 0)) r.start) (sym idle_are)
         (picked_pairs (λ (k : ℕ) (w : Worker). WorkerHas region r.profile k w (r.later k) r.start) (is_out awake) 0 1 (numbers_from 1 r.threads) team.threads.items (numbers_many 1 r.threads ∙ sym ready.many)
         (λ i e less off.
-        let many = ready.many in
-        let number : suc i ≡ get_or (numbers_from 1 r.threads) i 0 = (let one : suc i ≡ 1 + i = omega arith in one) ∙ sym (number_at 1 r.threads i (omega (arith, less, many))) in
+        let number : suc i ≡ get_or (numbers_from 1 r.threads) i 0 = (let one : suc i ≡ 1 + i = omega arith in one)
+        ∙ sym (number_at 1 r.threads i (omega (arith, less, ready.many))) in
         let none = none_own (suc i) r.ops (sym (its_bit i) ∙ not-true (is_set awake (1 + i)) off) in
         subst (λ (k : ℕ). WorkerHas region r.profile k (get_or team.threads.items i e) (r.later k) r.start) number
-        (has_left (subst (λ (acts : List Act). WorkerAt region r.book r.profile (suc i) acts (get_or team.threads.items i e) (r.later (suc i)) r.start) none (ready.workers i e less).thread))) j d lt)
+        (has_left (subst (λ acts. WorkerAt region r.book r.profile (suc i) acts (get_or team.threads.items i e) (r.later (suc i)) r.start) none (ready.workers i e less).thread))) j d lt)
 
     -- The scavenger with the idle threads lent to it stands before its operations of the phase.
     pub may_scavenge : (scavenger : Scavenger) → scavenger.pass ≡ team.scavenger.pass → scavenger.outcomes ≡ team.scavenger.outcomes
@@ -250,19 +527,17 @@ module _ {region : SharedRegion} {r : Round} {team : Team} (ready : IsReady regi
         | inl on ↦
             let crew = (did on).did (shift_of r) ready.asked r.start ready.sound stands in
             crew.did.does.stands.lent.many ∙ sym lent_many
-        | inr off ↦ ap (λ (s : Scavenger). length s.lent.items) (stayed off) ∙ ap (λ (ws : List Worker). length ws) lent_is
+        | inr off ↦ ap (λ (s : Scavenger). length s.lent.items) (stayed off) ∙ ap length lent_is
       ]
 
       -- .. in a vector with as many places
       pub lent_places : vec_capacity scav1.lent ≡ vec_capacity scav0.lent
-      lent_places = elim (cases_Bool (is_active r.ops 0)) [
-        | inl on ↦ (did on).places
-        | inr off ↦ ap (λ (s : Scavenger). vec_capacity s.lent) (stayed off)
-      ]
+      lent_places = search (arith, cases_Bool)
 
       -- ---- after
       module _ (own1 new : List Worker) (each : (i : ℕ) (d : Worker) → i < length inside → DidPhase region r.book r.ops (get_or inside i d) (get_or own1 i d))
-          (own_is : own1 ≡ picked (is_in awake) 1 new) (back : scav1.lent.items ≡ picked (is_out awake) 1 new) (size : length new ≡ length team.threads.items) where
+          (own_is : own1 ≡ picked (is_in awake) 1 new) (back : scav1.lent.items ≡ picked (is_out awake) 1 new)
+          (size : length new ≡ length team.threads.items) where
         abbrev PieceOf : ℕ → Type 0
         PieceOf w = PieceLeft region r team.threads.items new scav0 scav1 w
 
@@ -273,8 +548,9 @@ module _ {region : SharedRegion} {r : Round} {team : Team} (ready : IsReady regi
           piece = record {
             own = came_as none (came_none r.profile r.start);
             threads = λ j d lt whose.
-                let mine = (owned_by r.threads r.ops (suc j) (is_active r.ops (suc j)) refl (omega arith) (within_threads j lt)).1 (suc i) whose (omega arith) in
-                absurd (true≢false (sym mine.1 ∙ ap (λ (k : ℕ). is_active r.ops k) mine.0 ∙ off));
+                let mine = (owned_by r.threads r.ops (suc j) (is_active r.ops (suc j)) refl (omega arith) (within_threads j lt)).1 (suc i) whose
+                (omega arith) in
+                absurd (true≢false (sym mine.1 ∙ ap (is_active r.ops) mine.0 ∙ off));
             scavenger = λ bad. absurd (omega (arith, bad));
             still = λ away. refl;
           };
@@ -284,19 +560,16 @@ module _ {region : SharedRegion} {r : Round} {team : Team} (ready : IsReady regi
 
         -- (nobody past the threads has anything in hand)
         nobody_acts : (i : ℕ) → is_active r.ops (suc i) ≡ false → acts_by (owner_in r.threads r.ops) (suc i) (acts_of_ops (idle_in r) r.ops) ≡ []
-        nobody_acts i off = elim (cases_lt r.threads (suc i)) [
-          | inl past ↦ none_in_hand (owner_in r.threads r.ops) (suc i) (acts_of_ops (idle_in r) r.ops) (λ k. owner_few r.threads r.ops k (suc i) ready.within past)
-          | inr within ↦ shared.2 (suc i) (omega arith) (omega (arith, within)) off
-        ]
+        nobody_acts i off = search (arith, cases_lt, none_in_hand, owner_few)
 
         -- a thread's
         thread_piece : (i : ℕ) → i < length team.threads.items → is_active r.ops (suc i) ≡ true → PieceOf (suc i)
         thread_piece i lt on =
             let n = count_of (is_in awake) 1 i in
-            let d = some_worker team.threads.items i lt in
+            let d = some_item team.threads.items i lt in
             let before = picked_at (is_in awake) 1 team.threads.items i d lt (its_bit i ∙ on) in
             let after = picked_at (is_in awake) 1 new i d (omega (arith, lt, size)) (its_bit i ∙ on) in
-            let phase = subst (λ (w : Worker). DidPhase region r.book r.ops (get_or team.threads.items i d) w) (ap (λ (ws : List Worker). get_or ws n d) own_is ∙ after.1)
+            let phase = subst (DidPhase region r.book r.ops (get_or team.threads.items i d)) (ap (λ (ws : List Worker). get_or ws n d) own_is ∙ after.1)
             (subst (λ (w : Worker). DidPhase region r.book r.ops w (get_or own1 n d)) before.1 (each n d before.0))
             in
             let done = active_done {r = r} (suc i) (get_or team.threads.items i d) (get_or new i d) (ready.workers i d lt) (some_thread i lt) phase in
@@ -304,17 +577,18 @@ module _ {region : SharedRegion} {r : Round} {team : Team} (ready : IsReady regi
               piece = record {
                 own = came_as (shared.1 (suc i) (omega arith) (within_threads i lt) on) done.0;
                 threads = λ j e lt' whose.
-                    let mine = (owned_by r.threads r.ops (suc j) (is_active r.ops (suc j)) refl (omega arith) (within_threads j lt')).1 (suc i) whose (omega arith) in
+                    let mine = (owned_by r.threads r.ops (suc j) (is_active r.ops (suc j)) refl (omega arith) (within_threads j lt')).1 (suc i) whose
+                    (omega arith) in
                     let at : i ≡ j = (omega (arith, mine.0)) in
                     subst (λ (k : ℕ). ThreadDone region r (suc k) (get_or team.threads.items k e) (get_or new k e) done.0.said done.0.reached) at
-                    (subst (λ (w : Worker). ThreadDone region r (suc i) w (get_or new i e) done.0.said done.0.reached) (get_or_default team.threads.items i d e lt)
-                    (subst (λ (w : Worker). ThreadDone region r (suc i) (get_or team.threads.items i d) w done.0.said done.0.reached) (get_or_default new i d e (omega (arith, size, lt))) done.1));
+                    (subst (λ w. ThreadDone region r (suc i) w (get_or new i e) done.0.said done.0.reached) (get_or_default team.threads.items i d e lt)
+                    (subst (λ w. ThreadDone region r (suc i) (get_or team.threads.items i d) w done.0.said done.0.reached) (get_or_default new i d e (omega (arith, size, lt))) done.1));
                 scavenger = λ bad. absurd (omega (arith, bad));
                 still = λ away. absurd (true≢false (sym on ∙ away));
               };
               left = λ j e is lt' awake_too.
                   let at : i ≡ j = (omega (arith, is)) in
-                  subst (λ (k : ℕ). HasLeft region (get_or new k e).bench (pair_in r.threads (suc i) (get_or team.threads.items k e).keeper) r.start.list done.0.reached.list) at
+                  subst (λ k. HasLeft region (get_or new k e).bench (pair_in r.threads (suc i) (get_or team.threads.items k e).keeper) r.start.list done.0.reached.list) at
                   (subst (λ (w : Worker). HasLeft region (get_or new i e).bench (pair_in r.threads (suc i) w.keeper) r.start.list done.0.reached.list) (get_or_default team.threads.items i d e lt)
                   (subst (λ (w : Worker). HasLeft region w.bench (pair_in r.threads (suc i) (get_or team.threads.items i d).keeper) r.start.list done.0.reached.list) (get_or_default new i d e (omega (arith, size, lt))) done.2));
               crew_left = λ bad. absurd (omega (arith, bad));
@@ -326,10 +600,7 @@ module _ {region : SharedRegion} {r : Round} {team : Team} (ready : IsReady regi
 
         at_rank : (j : ℕ) → j < length team.threads.items → is_active r.ops (suc j) ≡ false → get_or (idle_in r) (rank j) 0 ≡ suc j
         at_rank j lt off =
-            let many = ready.many in
-            let numbers = numbers_many 1 r.threads in
-            ap (λ (ks : List ℕ). get_or ks (rank j) 0) idle_are ∙ (picked_at (is_out awake) 1 (numbers_from 1 r.threads) j 0 (omega (arith, lt, many, numbers)) (not_from_false (is_set awake (1 + j)) (its_bit j ∙ off))).1
-            ∙ number_at 1 r.threads j (omega (arith, lt, many)) ∙ (let one : 1 + j ≡ suc j = omega arith in one)
+            search (arith, numbers_many, idle_are, picked_at, not_from_false, its_bit, number_at)
 
         lent_at : (all lent : List Worker) → lent ≡ picked (is_out awake) 1 all → (j : ℕ) (d : Worker) → j < length all → is_active r.ops (suc j) ≡ false
             → (rank j < length lent) × ((e : Worker) → get_or lent (rank j) e ≡ get_or all j d)
@@ -388,7 +659,4 @@ module _ {region : SharedRegion} {r : Round} {team : Team} (ready : IsReady regi
           | inl on ↦ scavenger_piece on
           | inr off ↦ idle_piece off
         ]
-        piece (suc i) = elim (cases_Bool (is_active r.ops (suc i))) [
-          | inl on ↦ thread_piece i (let within = ready.within (suc i) on in omega (arith, within, ready.many)) on
-          | inr off ↦ nobody_piece i off (nobody_acts i off)
-        ]
+        piece (suc i) = search (arith, cases_Bool, thread_piece, nobody_piece, nobody_acts)

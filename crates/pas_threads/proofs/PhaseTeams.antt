@@ -1,45 +1,243 @@
--- A phase of the team: what all its workers did and said is put together, gathered and taken over, and then the team stands before the phases that are left.
-use Rattle.std.proofs.Common.{◌≡◌, ℕ, zero, suc, ◌+◌, ◌-◌, ◌<◌, ◌≤◌, Bool, true, false, if◌then◌else◌, inl, inr, List, [], ◌∷◌, ◌++◌, length, get_or, Option}
-use Rattle.std.proofs.Common.{refl, ap, sym, ◌∙◌, subst, arith, All, map, append_assoc, length-append, MatchOption, append-nil, eqb-true, eq-eqb, ◌⊎◌}
-use Rattle.std.proofs.lemmas.Bool.{false_from_ne_true, cases_Bool, cases_lt}
+-- A phase of the team: what each worker's share of it is, what all workers did and said is put together, gathered and taken over, and then the team stands
+-- before the phases that are left.
+use Rattle.std.proofs.Common.{◌≡◌, ℕ, zero, ◌+◌, ◌-◌, ◌<◌, ◌≤◌, true, inl, inr, List, [], ◌++◌, length, None, refl, ap, sym, ◌∙◌, subst, arith, append-nil, suc}
+use Rattle.std.proofs.Common.{Bool, false, ◌∷◌, get_or, Option, All, map, append_assoc, length-append, MatchOption, eqb-true, eq-eqb, ◌⊎◌}
+use Rattle.std.proofs.lemmas.{List.append_cancel_left, Bool.false_from_ne_true, Bool.cases_Bool, Bool.cases_lt}
 use Rattle.pas_profile.specs.declared.profile.Profile.{Profile}
-use Rattle.pas_bits.specs.Masks.{is_set}
-use Rattle.pas_bits.specs.declared.mask.Mask4.{Mask4}
-use Rattle.pas_steps.specs.Lists.{Whole, part}
-use Rattle.pas_shared.specs.{Ruled.steps_of, Ruled.IsEarlier, Ruled.AreEarlier, Ledgers.looks_of}
-use Rattle.pas_shared.specs.declared.{ledger.Ledger.Ledger, region.SharedRegion.SharedRegion}
-use Rattle.pas_core.specs.Orders.{steps_by}
-use Rattle.pas_answers.specs.Stages.{in_hands, itself, stage, phase_stages}
-use Rattle.pas_trace.specs.{Asked.keeper_in, EveryPhase.FreeTheirOwn, EveryPlan.records_of_ops, EveryPlan.own_records, EveryPlan.all_ops}
+use Rattle.pas_steps.specs.{Lists.part, Views.View, Lists.Whole}
+use Rattle.pas_shared.specs.declared.{region.SharedRegion.SharedRegion, ledger.Ledger.Ledger}
+use Rattle.pas_trace.specs.EveryPlan.{own_records, is_asked, records_of_ops, all_ops}
 use Rattle.pas_trace.specs.declared.plan.Op.{Op}
-use Rattle.pas_trace.proofs.OperationsOfItems.{records_both}
+use Rattle.pas_trace.proofs.EveryPlan.{own_both, records_both}
 use Rattle.pas_report.specs.Rooms.{records_in, room_of, Records}
 use Rattle.pas_report.specs.declared.record.Record.{Record}
-use Rattle.pas_trace.specs.Acts.{Act, own_acts, idle_threads, acts_of_ops, Wakes, is_active, numbers_from, active_threads, phase_acts}
-use Rattle.pas_answers.specs.{Answers.Progress, Fit.own_costs_of, Names.names_held, Reaching.Reaches, Ways.records_by, Ways.by_actors}
-use Rattle.pas_answers.proofs.{Reached.reach_both, EachAct.all_back}
-use Rattle.pas_acts.specs.Awake.{awake_in}
-use Rattle.pas_acts.proofs.{ActsLeft.threads_alike, NamesBefore.below_front, PhaseActs.kept_thread, PhaseActs.owner_of}
-use Rattle.pas_acts.specs.Shares.{acts_by, owner_in, thread_in, IsWoven}
-use Rattle.pas_acts.specs.NameBooks.{requests_in, room_for, names_of, AreWithin}
+use Rattle.pas_trace.specs.Acts.{Act, own_acts, scavenger_acts, idle_threads, acts_of_ops, is_active, Wakes, numbers_from, active_threads, phase_acts}
+use Rattle.pas_cache.specs.Caches.{Cached, cached}
+use Rattle.pas_utility.specs.Outcomes.{places_of}
+use Rattle.pas_answers.specs.{Answers.Progress, Answers.Named, Calls.owed_events, Calls.OnlyAsked, Fit.costs_of, Fit.own_costs_of, Fit.AreFit, Names.names_held}
+use Rattle.pas_answers.specs.{Reaching.Reaches, Ways.records_by, Ways.by_actors, Stages.in_hands, Stages.phase_stages}
+use Rattle.pas_answers.proofs.{OwnRecords.records_both as said_both, Reached.reach_both, EachAct.all_back}
+use Rattle.pas_acts.specs.{Pairs.for_guards, Awake.awake_in}
+use Rattle.pas_acts.proofs.{ActsOfPlan.idle_few, ActsOfPlan.ops_fit, Weaving.weave, AtDesk.rests_still, AtDesk.sits_still, AtDesk.sits_for, Naming.sound_front}
+use Rattle.pas_acts.proofs.{ActsLeft.threads_alike, Naming.below_front}
+use Rattle.pas_acts.specs.Shares.{Owners, acts_by, owner_in, AreKeptBehind, IsShareOf, IsWoven}
+use Rattle.pas_acts.proofs.PhaseActs.{acts_are_shared, zero_own, own_thread, owner_of, kept_thread}
+use Rattle.pas_acts.specs.NameBooks.{NamesAt, requests_in, room_for, names_of, known_in, Requests, AreWithin}
 use Rattle.pas_acts.specs.declared.names.NameBook.{NameBook}
-use Rattle.pas_threads.specs.{Left.pair_in, Left.crew_in, Taken.HandsOver, Taken.HasTaken, Taken.IsWithin}
-use Rattle.pas_threads.specs.Pairs.{said_by_keeper, owed_kept, keeper_at, owed_by_keepers, AreGuarded}
-use Rattle.pas_threads.specs.Performing.{Round, IsDone, HeardOrder, IsHeard}
-use Rattle.pas_threads.specs.Sessions.{Session, planned, owed_by, ScavengerRests, HasPlaces, TeamAt, AreMarked, AreWritten, HasRoom, PhaseAt, PhaseDone}
-use Rattle.pas_threads.specs.Sessions.{IsOfActors, StandSo, WentBy, WorkersRest}
-use Rattle.pas_threads.proofs.{Dealt.number_at, Dealt.some_worker, Keepers.keeper_is, Keepers.owed_still, NamesOfPhases.names_then, NamesOfPhases.names_within}
+use Rattle.pas_threads.specs.Pairs.{no_more, KeeperRests, said_by_keeper, owed_kept, keeper_at, owed_by_keepers, AreGuarded}
+use Rattle.pas_threads.specs.Performing.{Round, idle_in, ThreadDone, ScavengerDone, IsDone, HeardOrder, IsHeard}
+use Rattle.pas_threads.specs.Sessions.{WorkerRests, ScavengerRests, WorkerHas, Session, planned, owed_by, HasPlaces, TeamAt, AreMarked, AreWritten, HasRoom}
+use Rattle.pas_threads.specs.Sessions.{PhaseAt, PhaseDone, IsOfActors, StandSo, WentBy, WorkersRest}
+use Rattle.pas_threads.specs.{Taken.HandsOver, Left.pair_in, Left.crew_in, Taken.HasTaken, Taken.IsWithin}
+use Rattle.pas_threads.specs.Turns.{owed_at, Came, TookNoPart, said_own, said_by_all, said_by_keepers}
+use Rattle.pas_threads.proofs.TakingTurns.{IsCleared, IsScavengerCleared, OwnGathered, KeptGathered, WereTaken, cleared, cleared_then, pass_still, same_owed}
+use Rattle.pas_threads.proofs.TakingTurns.{rests_clear}
+use Rattle.pas_threads.proofs.{Dealt.number_at, Dealt.some_item, Performed.names_then, Performed.names_within}
+use Rattle.pas_threads.proofs.ReadyPhases.{own_costs, scavenger_costs, own_all, all_paid, owed_less, kept_less, said_in_order, kept_in_order, kept_few, by_all}
+use Rattle.pas_threads.proofs.ReadyPhases.{HasBegun, round_of, room_is, active_front, active_back}
+use Rattle.pas_threads.proofs.Keepers.{owed_still, will_wait_then, waits_next, waits_still, waits_gathered, of_gathered, silent_gathered, owed_gathered}
+use Rattle.pas_threads.proofs.Keepers.{keeper_is, AreAlike, alike_pushed, alike_both, kept_nobody, will_gathered, kept_will, said_then, alike_said, kept_hands}
+use Rattle.pas_threads.proofs.Keepers.{alike_same, guarded_alike}
+use Rattle.pas_threads.specs.declared.{scavenger.Scavenger.Scavenger, workers.Worker.Worker, keeper.Keeper.Keeper, phases.Team.Team}
+use Rattle.pas_bits.specs.Masks.{is_set}
+use Rattle.pas_bits.specs.declared.mask.Mask4.{Mask4}
+use Rattle.pas_shared.specs.{Ruled.steps_of, Ruled.IsEarlier, Ruled.AreEarlier, Ledgers.looks_of}
+use Rattle.pas_core.specs.Orders.{steps_by}
+use Rattle.pas_trace.specs.{Asked.keeper_in, EveryPhase.FreeTheirOwn}
 use Rattle.pas_threads.proofs.InHands.{in_pair, pair_within, pair_has, pair_keeps, in_crew, crew_within}
 use Rattle.pas_threads.proofs.Staging.{stand_all, of_first, went_both, went_alone, went_sorted, sorted_still, sorted_seen}
-use Rattle.pas_threads.specs.Turns.{owed_at, said_own, said_by_all, said_by_keepers, TookNoPart}
-use Rattle.pas_threads.specs.declared.{keeper.Keeper.Keeper, phases.Team.Team, scavenger.Scavenger.Scavenger, workers.Worker.Worker}
-use Rattle.pas_threads.proofs.KeptPhases.{kept_hands, alike_same, alike_pushed, alike_both, guarded_alike, kept_nobody}
-use Rattle.pas_threads.proofs.PhaseSums.{own_all, all_paid, owed_less, kept_less, said_in_order, kept_in_order, kept_few, by_all}
-use Rattle.pas_threads.proofs.Gathered.{OwnGathered, KeptGathered, WereTaken, IsCleared, IsScavengerCleared, cleared, cleared_then}
-use Rattle.pas_threads.proofs.ReadyPhases.{HasBegun, round_of, room_is, active_front, active_back}
-use Rattle.pas_threads.proofs.PhaseShares.{WorkerShare, ScavengerShare, same_part, phase_woven, has_said, kept_said, pair_paid, kept_away, rests_after}
-use Rattle.pas_threads.proofs.PhaseShares.{kept_rests, kept_alike, kept_owes, handed, scavenger_said, scavenger_paid, scavenger_after, nobody_after}
-use Rattle.pas_threads.proofs.PhaseShares.{scavenger_own}
+
+-- ---- the whole phase
+whole_share : (owner : Owners) (w : ℕ) (p : Progress) → IsShareOf owner w p p
+whole_share owner w p = record { steps = refl; parts = λ k is. refl; caches = λ k is. refl; books = λ k is. refl; records = λ k is. refl; epoch = λ is. refl; names = λ n block is. is }
+
+-- All acts were answered, if each worker answered its own
+phase_woven : {f : Profile} {book : NameBook} {p : Progress} (threads : ℕ) (ops left : List Op) (at : NamesAt f (ops ++ left) book p)
+    → AreKeptBehind threads ops → ((k : ℕ) → is_active ops k ≡ true → k ≤ threads) → (q : Progress) (own : ℕ → Progress) → q.names ≡ p.names
+    → ((w : ℕ) → Reaches f (acts_by (owner_in threads ops) w (acts_of_ops (idle_threads threads ops) ops)) q (own w))
+    → IsWoven f (owner_in threads ops) (acts_of_ops (idle_threads threads ops) ops) at.asked q own
+phase_woven {f} {book} {p} threads ops left at behind within q own same reaches =
+    let limit = names_held book.names in
+    let acts = acts_of_ops (idle_threads threads ops) ops in
+    let fit = ops_fit f limit (idle_threads threads ops) ops left [] at.below (λ asked sound above. tt) at.asked at.sound at.above in
+    let owner = owner_in threads ops in
+    weave f owner limit at.asked acts q (λ w. q) own (subst (AreFit f limit at.asked) (append-nil acts) fit)
+    (acts_are_shared f threads at.asked ops (sound_front f at.asked ops left at.sound) behind within).0
+    (subst (OnlyAsked at.asked) (sym same) at.only) (λ w. whole_share owner w q) reaches
+
+-- what an actor did is the same in both
+pub record HasSamePart (k : ℕ) (own p : Progress) : Type 0 where
+  pub parts : part k own.list ≡ part k p.list
+  pub caches : own.caches k ≡ p.caches k
+  pub books : own.books k ≡ p.books k
+  pub records : records_by k own.records ≡ records_by k p.records
+
+-- A worker's share has the part of each actor in its hands.
+same_part : {owner : Owners} {w : ℕ} {own p : Progress} → IsShareOf owner w own p → (k : ℕ) → owner k ≡ w → HasSamePart k own p
+same_part share k is = record { parts = share.parts k is; caches = share.caches k is; books = share.books k is; records = share.records k is }
+
+-- What an actor said for itself is what it said in all, where its records are the same.
+said_alike : {f : Profile} {acts : List Act} {k : ℕ} {q reached : Progress} (own : Came f acts q) (said : List Record) → HasSamePart k own.reached reached
+    → reached.records ≡ q.records ++ said → records_by k own.said ≡ records_by k said
+said_alike {k = k} {q} own said same records =
+    search (arith, said_both, append_cancel_left)
+
+-- the profile with just the threads, by which a plan's operations are counted
+abbrev pub planned_in : Round → Profile
+planned_in r = record r.profile { threads = r.threads }
+
+-- ---- a thread and its keeper
+-- Both rested before the phase, and did their operations of it, as their worker's share of the whole phase has them.
+pub record WorkerShare (region : SharedRegion) (r : Round) (k : ℕ) (old new : Worker) (left : List Op) (said : List Record) (reached : Progress) : Type 0 where
+  pub acts : List Act
+  pub own : Came r.profile acts r.start
+  pub rests : WorkerRests region r.profile k old (own_records (planned_in r) k (r.ops ++ left)) r.start
+  pub kept : KeeperRests region r.profile (r.threads + k) (own_acts k (r.ops ++ left)) old.keeper r.start
+  pub done : ThreadDone region r k old new own.said own.reached
+  pub same : HasSamePart k own.reached reached
+  pub same_kept : HasSamePart (r.threads + k) own.reached reached
+  pub records_are : reached.records ≡ r.start.records ++ said
+  pub events : (r.later k).events ≡ own_records (planned_in r) k left
+  pub spare : (r.later k).records ≡ room_of old.out - (owed_at r.profile k r.start + own_costs_of k (own_acts k r.ops))
+  pub more : r.more k ≡ for_guards (own_acts k left) no_more
+
+module _ {region : SharedRegion} {r : Round} {k : ℕ} {old new : Worker} {left : List Op} {said : List Record} {reached : Progress}
+    (x : WorkerShare region r k old new left said reached) where
+  abbrev keeper : ℕ
+  keeper = r.threads + k
+
+  -- What the worker said for its thread in the phase are its own records of what was said.
+  has_said : records_in new.out ≡ records_by k said
+  has_said = x.done.told.added ∙ ap (λ (rs : List Record). rs ++ records_by k x.own.said) x.rests.said ∙ said_alike x.own said x.same x.records_are
+
+  -- What it said for its keeper are the keeper's.
+  kept_said : said_by_keeper new.keeper ≡ records_by keeper said
+  kept_said = said_then keeper x.own.said old.keeper new.keeper x.done.kept_told x.kept.silent ∙ said_alike x.own said x.same_kept x.records_are
+
+  owed_before : owed_at r.profile k r.start ≡ owed_events r.profile (cached old.cache) (part k r.start.list)
+  owed_before = ap (λ (c : Cached). owed_events r.profile c (part k r.start.list)) x.rests.here.rests.cache
+
+  -- it rests where the whole phase came to
+  has_then : WorkerHas region r.profile k new (r.later k) reached
+  has_then = record {
+    has = x.done.stands.has;
+    rests = rests_still (pass_still x.done.stands.has.pass) (sym x.same.parts) (sym x.same.caches) x.done.stands.rests;
+  }
+
+  -- what it owed before and its operations pay for what it said, and for what it owes afterwards
+  has_paid : length (records_by k said) + owed_at r.profile k reached ≤ owed_at r.profile k r.start + own_records (planned_in r) k r.ops
+  has_paid =
+      search (arith, has_said, has_then, own_costs, own_both, owed_before)
+
+  -- So it is of the thread and its keeper together, whichever of the two took part.
+  pair_paid : length (records_by k said) + length (records_by keeper said) + (owed_at r.profile k reached + owed_kept r.profile keeper new.keeper reached)
+      ≤ owed_at r.profile k r.start + owed_kept r.profile keeper old.keeper r.start + own_records (planned_in r) k r.ops
+  pair_paid =
+      let mine = ap length (said_alike x.own said x.same x.records_are) in
+      let its = ap length (said_alike x.own said x.same_kept x.records_are) in
+      let owes = same_owed r.profile x.own.reached reached k (sym x.same.parts) (sym x.same.caches) in
+      let owed = owed_still r.profile keeper new.keeper x.own.reached reached (sym x.same_kept.parts) in
+      let cost = own_costs (planned_in r) k r.ops in
+      elim x.done.paid [
+        | inl both ↦ omega (arith, mine, its, owes, owed, cost, both)
+        | inr idle ↦
+            let none = ap length idle.0 in
+            omega (arith, its, owed, none, idle.1, has_paid)
+      ]
+
+  -- Where the worker has no keeper, that actor took no part.
+  kept_away : old.keeper ≡ None → TookNoPart keeper said r.start reached
+  kept_away none =
+      let away = kept_nobody {r = r} x.done none in
+      record { part_is = sym x.same_kept.parts ∙ away.0; silent = sym (said_alike x.own said x.same_kept x.records_are) ∙ away.1 }
+
+  -- ---- once all that it said is gathered and its requests were taken over
+  module _ {emptied : Worker} (c : IsCleared new emptied) where
+    -- The worker rests then.
+    rests_after : requests_in emptied.requests ≡ [] → room_for emptied.requests ≡ room_for new.requests
+        → WorkerRests region r.profile k emptied (own_records (planned_in r) k left) reached
+    rests_after empty same =
+        let room : room_of emptied.out ≡ room_of old.out = c.room ∙ x.done.told.room in
+        let noted : room_for emptied.requests ≡ room_for old.requests = same ∙ x.done.room_noted in
+        let both = own_both (planned_in r) k r.ops left in
+        rests_clear has_then c.pass c.cache c.none (omega (arith, x.events)) (omega (arith, room, has_paid, owed_before, x.rests.here.rests.spare, both)) empty
+        (omega (arith, noted, x.rests.requests, both))
+
+    -- Its keeper rests then with room for the guarded requests that are left.
+    kept_rests : KeeperRests region r.profile keeper (own_acts k left) emptied.keeper reached
+    kept_rests =
+        search (arith, will_wait_then, kept_will, waits_still, of_gathered, waits_next, will_gathered, waits_gathered, silent_gathered)
+
+    -- After a phase and its gathering a worker has a keeper exactly where it had one.
+    kept_alike : AreAlike old.keeper emptied.keeper
+    kept_alike = alike_both old.keeper new.keeper emptied.keeper (alike_pushed keeper x.own.said old.keeper new.keeper x.done.kept_told) (alike_said new.keeper emptied.keeper c.keeper)
+
+    -- After the gathering a keeper owes what it owed at the end of the phase.
+    kept_owes : owed_kept r.profile keeper emptied.keeper reached ≡ owed_kept r.profile keeper new.keeper reached
+    kept_owes = owed_gathered r.profile keeper new.keeper emptied.keeper reached c.keeper
+
+-- What a worker hands over is about its requests.
+handed : {f : Profile} {ops : List Op} {book : NameBook} {k : ℕ} {new gathered : Worker} {names : List Named} → gathered.requests ≡ new.requests
+    → HandsOver f ops book k new names → HandsOver f ops book k gathered names
+handed {f} {ops} {book} {k} {new} {gathered} {names} same over = record {
+  noted = ap (λ (rs : Requests). names_of (requests_in rs)) same ∙ over.noted;
+  says = λ n has.
+      let says = over.says n (ap (λ (rs : Requests). is_asked (names_of (requests_in rs)) n) (sym same) ∙ has) in
+      (says.0, says.1, ap (λ (rs : Requests). known_in book rs n) same ∙ says.2, says.3);
+}
+
+-- ---- the scavenger
+-- It rested before the phase, and did its operations of it, as its worker's share of the whole phase has them.
+pub record ScavengerShare (region : SharedRegion) (r : Round) (old new : Scavenger) (p : Progress) (left : List Op) (said : List Record) (reached : Progress) : Type 0 where
+  pub acts : List Act
+  pub own : Came r.profile acts r.start
+  pub rests : ScavengerRests region r.profile old (own_records (planned_in r) 0 (r.ops ++ left)) p
+  pub done : ScavengerDone region r old new own.said own.reached
+  pub same : HasSamePart 0 own.reached reached
+  pub records_are : reached.records ≡ r.start.records ++ said
+  pub events : (r.later 0).events ≡ own_records (planned_in r) 0 left
+  pub spare : (r.later 0).records ≡ room_of old.out - costs_of r.profile (scavenger_acts (idle_in r) r.ops)
+
+module _ {region : SharedRegion} {r : Round} {old new : Scavenger} {p : Progress} {left : List Op} {said : List Record} {reached : Progress}
+    (x : ScavengerShare region r old new p left said reached) where
+  -- What the scavenger said in the phase are its own records of what was said.
+  scavenger_said : records_in new.out ≡ records_by 0 said
+  scavenger_said = x.done.2.added ∙ ap (λ (rs : List Record). rs ++ records_by 0 x.own.said) x.rests.said ∙ said_alike x.own said x.same x.records_are
+
+  -- Its operations pay for that.
+  scavenger_paid : length (records_by 0 said) ≤ own_records (planned_in r) 0 r.ops
+  scavenger_paid =
+      search (arith, scavenger_said, idle_few, scavenger_costs, own_both)
+
+  -- Once what it said is gathered it rests.
+  scavenger_after : {after : Scavenger} → IsScavengerCleared new after → ScavengerRests region r.profile after (own_records (planned_in r) 0 left) reached
+  scavenger_after c =
+      let both = own_both (planned_in r) 0 r.ops left in
+      let nothing = ap length c.empty in
+      record {
+        has = record { pass = x.done.0.pass; present = c.pass ∙ x.done.0.present; of = x.done.0.of };
+        at = record {
+          stands = record {
+            sits = sits_still (λ (v : View). costs_of r.profile [] + own_records (planned_in r) 0 left) (pass_still x.done.0.pass) (sym x.same.parts)
+                (sits_for x.done.1.stands.sits (omega (arith, x.events)));
+            spare = omega (arith, x.done.2.room, x.rests.at.stands.spare, both, nothing, c.size);
+          };
+          has_places = ap places_of c.outcomes ∙ x.done.1.has_places;
+        };
+        said = c.empty;
+        none = c.none;
+      }
+
+  -- Nobody past the threads whom its worker has in hand made a step or said anything.
+  nobody_after : (k : ℕ) → r.threads < k → HasSamePart k x.own.reached reached → TookNoPart k said r.start reached
+  nobody_after k far same = record {
+    part_is = sym same.parts ∙ (x.done.3 k far).part_is;
+    silent = sym (said_alike x.own said same x.records_are) ∙ (x.done.3 k far).silent;
+  }
+
+-- The scavenger is in its own hands.
+scavenger_own : (threads : ℕ) (ops : List Op) → owner_in threads ops 0 ≡ 0
+scavenger_own threads ops = owner_of threads ops 0 0 (own_thread threads 0 (omega arith)) ∙ zero_own (is_active ops 0)
 
 in_four : (a b c d : List Record) → ((a ++ b) ++ c) ++ d ≡ a ++ (b ++ (c ++ d))
 in_four a b c d = append_assoc (a ++ b) c d ∙ append_assoc a b (c ++ d)
@@ -71,6 +269,7 @@ module _ {region : SharedRegion} {s : Session} {awake : Mask4} {team team1 team2
   abbrev said : List Record
   said = woven.said
 
+  -- There is a worker for each thread.
   counted : length team1.threads.items ≡ s.threads
   counted = begun.workers.many
 
@@ -112,10 +311,7 @@ module _ {region : SharedRegion} {s : Session} {awake : Mask4} {team team1 team2
   -- .. and past the keepers, if there are as many as threads
   its_hands : (k : ℕ) → s.threads + s.threads < k → owner_in s.threads ops k ≡ 0
   its_hands k far =
-      let off = false_from_ne_true (is_active ops (k - s.threads)) (λ on. let le = begun.ready.within (k - s.threads) on in omega (arith, le, far)) in
-      let back : s.threads + (k - s.threads) ≡ k = omega (arith, far) in
-      let thread = ap (λ (j : ℕ). thread_in s.threads j) (sym back) ∙ kept_thread s.threads (k - s.threads) (omega (arith, far)) in
-      owner_of s.threads ops k (k - s.threads) thread ∙ ap (λ (t : Bool). if t then k - s.threads else 0) off
+      search (arith, false_from_ne_true, kept_thread, owner_of)
 
   -- nobody past the threads and the keepers has an operation, nor a part in the phase
   nobody_kept : (i : ℕ) (d : Worker) → i < length team1.threads.items → s.threads + s.keepers < s.threads + suc i → AreGuarded s.keepers team1.threads.items
@@ -123,6 +319,7 @@ module _ {region : SharedRegion} {s : Session} {awake : Mask4} {team team1 team2
   nobody_kept i d lt far (inl all) = absurd (omega (arith, all.0, far, lt))
   nobody_kept i d lt far (inr none) = kept_away (share i d lt) (none.1 i d lt)
 
+  -- Nobody else is left at the bench once the actor and its keeper rose.
   nobody : (k : ℕ) → s.threads + s.keepers < k → TookNoPart k said start reached
   unfolding crew_share
   nobody k far = elim (cases_lt (s.threads + s.threads) k) [
@@ -131,7 +328,8 @@ module _ {region : SharedRegion} {s : Session} {awake : Mask4} {team team1 team2
         let i = k - s.threads - 1 in
         let back : s.threads + suc i ≡ k = omega (arith, far) in
         let lt : i < length team1.threads.items = omega (arith, counted, back, within) in
-        subst (λ (j : ℕ). TookNoPart j said start reached) back (nobody_kept i (some_worker team1.threads.items i lt) lt (omega (arith, far, back)) begun.workers.guarded)
+        subst (λ j. TookNoPart j said start reached) back
+        (nobody_kept i (some_item team1.threads.items i lt) lt (omega (arith, far, back)) begun.workers.guarded)
   ]
 
   -- ---- what is gathered
@@ -148,32 +346,35 @@ module _ {region : SharedRegion} {s : Session} {awake : Mask4} {team team1 team2
   began_with i lt =
       let less : i < length team.threads.items = omega (arith, lt, at.workers.many) in
       let here : i < length team1.threads.items = omega (arith, lt, counted) in
-      let d = some_worker team.threads.items i less in
+      let d = some_item team.threads.items i less in
       let keeper = s.threads + suc i in
       let due = (begun.woke.turns.stand i d less).paid in
       let same = keeper_is team1.threads.items i d here ∙ (begun.woke.turns.told i d less).keeper ∙ sym (keeper_is team.threads.items i d less) in
       let parts = begun.woke.turns.leaves.parts keeper (λ j before same. omega (arith, before, same, at.workers.many)) in
       (omega (arith, due), ap (λ (o : Option Keeper). owed_kept f keeper o start) same ∙ owed_still f keeper (keeper_at team.threads.items i) p start parts)
 
+  -- The records that were said and those still owed fit the room.
   paid : length (records_by 0 said) + length (by_actors 1 s.threads said) + length (by_actors (s.threads + 1) s.threads said)
       + (owed_by f reached s.threads + owed_by_keepers f s.threads team2.threads.items reached s.threads)
       ≤ owed_by f p s.threads + owed_by_keepers f s.threads team.threads.items p s.threads + records_of_ops (planned s) ops
   paid =
       let threads = all_paid f (planned s) s.threads ops said team1.threads.items team2.threads.items start reached s.threads (λ i lt.
       let less : i < length team1.threads.items = omega (arith, lt, counted) in
-      let d = some_worker team1.threads.items i less in
+      let d = some_item team1.threads.items i less in
       let before = ap (λ (o : Option Keeper). owed_kept f (s.threads + suc i) o start) (keeper_is team1.threads.items i d less) in
       let after = ap (λ (o : Option Keeper). owed_kept f (s.threads + suc i) o reached) (keeper_is team2.threads.items i d (omega (arith, less, done.many))) in
       let one = pair_paid (share i d less) in
       omega (arith, before, after, one)) in
       let own = own_all (planned s) ops s.threads in
       let owed = owed_less f p start s.threads (λ i lt. (began_with i lt).0) in
-      let kept = kept_less f s.threads team.threads.items team1.threads.items p start s.threads (λ i lt. let same = (began_with i lt).1 in omega (arith, same)) in
+      let kept = kept_less f s.threads team.threads.items team1.threads.items p start s.threads
+      (λ i lt. let same = (began_with i lt).1 in omega (arith, same)) in
       let few = scavenger_paid crew_share in
       omega (arith, threads, own, owed, kept, few)
 
   -- ---- the workers, once what they said for their threads is gathered, and then what they said for their keepers
   module _ {gathered : List Worker} {out1 out2 : Records} (g : OwnGathered team2.threads.items gathered out1 out2) where
+    -- There are as many workers as before.
     sized : length gathered ≡ length team1.threads.items
     sized = g.many ∙ done.many
 
@@ -183,19 +384,16 @@ module _ {region : SharedRegion} {s : Session} {awake : Mask4} {team team1 team2
         let mid = (get_or team2.threads.items i d).keeper in
         let new = (get_or gathered i d).keeper in
         let x = share i d lt in
-        alike_both old mid new (alike_pushed (s.threads + suc i) x.own.said old mid x.done.kept_told) (alike_same mid new (g.each i d (omega (arith, lt, done.many))).keeper)) begun.workers.guarded
+        alike_both old mid new (alike_pushed (s.threads + suc i) x.own.said old mid x.done.kept_told) (alike_same (g.each i d (omega (arith, lt, done.many))).keeper)) begun.workers.guarded
 
     kept_all : said_by_keepers gathered ≡ by_actors (s.threads + 1) s.keepers said
     kept_all =
-        let many = g.many in
-        kept_in_order s.threads gathered said guarded_then (λ i d lt. ap said_by_keeper (g.each i d (omega (arith, lt, many))).keeper ∙ kept_said (share i d (omega (arith, lt, sized))))
+        kept_in_order s.threads gathered said guarded_then
+        (λ i d lt. ap said_by_keeper (g.each i d (omega (arith, lt, g.many))).keeper ∙ kept_said (share i d (omega (arith, lt, sized))))
 
     kept_most : length (said_by_keepers gathered) ≤ length (by_actors (s.threads + 1) s.threads said)
     kept_most =
-        let all = ap (λ (rs : List Record). length rs) kept_all in
-        let few = kept_few s.threads gathered said guarded_then in
-        let same = ap (λ (n : ℕ). length (by_actors (s.threads + 1) n said)) (sized ∙ counted) in
-        omega (arith, all, few, same)
+        search (arith, kept_all, kept_few, guarded_then, sized)
 
     module _ {kept : List Worker} {out3 : Records} (h : KeptGathered gathered kept out2 out3) where
       sized_kept : length kept ≡ length team1.threads.items
@@ -216,20 +414,21 @@ module _ {region : SharedRegion} {s : Session} {awake : Mask4} {team team1 team2
           let limit : held ≡ names_held team2.book.names = ap names_held (sym (ap (λ (b : NameBook). b.names) done.book ∙ begun.names)) in
           let within = names_within held (suc i) ops (below_front held ops left at.names.below) in
           record {
-            within = subst (λ (n : ℕ). AreWithin n (names_of (requests_in (get_or kept i d).requests))) limit (subst (AreWithin held) (sym (hands i d lt).noted) within);
+            within = subst (λ n. AreWithin n (names_of (requests_in (get_or kept i d).requests))) limit
+                (subst (AreWithin held) (sym (hands i d lt).noted) within);
           }
 
       module _ (team3 : Team) (t : WereTaken kept team3.threads.items team2.book team3.book) where
+        -- Each worker's records were gathered.
         clear : (i : ℕ) (d : Worker) → i < length team1.threads.items → IsCleared (get_or team2.threads.items i d) (get_or team3.threads.items i d)
         clear i d lt =
-            let here : i < length gathered = omega (arith, lt, sized) in
-            cleared_then (cleared (g.each i d (omega (arith, here, g.many))) (h.each i d here)) (t.each i d (omega (arith, here, h.many)))
+            search (arith, sized, cleared_then, cleared)
 
         -- each keeper owes what it did before it was gathered
         kept_owed : owed_by_keepers f s.threads team3.threads.items reached s.threads ≤ owed_by_keepers f s.threads team2.threads.items reached s.threads
         kept_owed = kept_less f s.threads team2.threads.items team3.threads.items reached reached s.threads (λ i lt.
             let less : i < length team1.threads.items = omega (arith, lt, counted) in
-            let d = some_worker team1.threads.items i less in
+            let d = some_item team1.threads.items i less in
             let owed = λ (o : Option Keeper). owed_kept f (s.threads + suc i) o reached in
             let after = ap owed (keeper_is team3.threads.items i d (omega (arith, less, sized_kept, t.many))) in
             let before = ap owed (keeper_is team2.threads.items i d (omega (arith, less, done.many))) in
@@ -259,7 +458,7 @@ module _ {region : SharedRegion} {s : Session} {awake : Mask4} {team team1 team2
             let names = names_then s.threads ops left team1.book team3.book (numbers_from 1 s.threads) kept at.names begun.woke.turns.leaves.names woven begun.names
             (λ i d lt.
             let first : suc i ≡ 1 + i = omega arith in
-            subst (λ (k : ℕ). HandsOver f ops team1.book k (get_or kept i d) reached.names) (first ∙ sym (number_at 1 s.threads i (omega (arith, lt, sized_kept, counted)))) (hands i d lt))
+            subst (λ k. HandsOver f ops team1.book k (get_or kept i d) reached.names) (first ∙ sym (number_at 1 s.threads i (omega (arith, lt, sized_kept, counted)))) (hands i d lt))
             (λ k some on.
             let le = at.fit.within k (active_front k ops left on) in
             let back : 1 + (k - 1) ≡ k = omega (arith, some) in
@@ -288,32 +487,29 @@ module _ {region : SharedRegion} {s : Session} {awake : Mask4} {team team1 team2
     -- There is room for what the scavenger said in the phase behind the records.
     pub may_append : length (records_in out) + length (records_in team2.scavenger.out) ≤ room_of out
     may_append =
-        let own = ap (λ (rs : List Record). length rs) (scavenger_said crew_share) in
+        let own = ap length (scavenger_said crew_share) in
         let both = records_both (planned s) ops left in
         omega (arith, own, paid, both, room)
 
     module _ (out1 : Records) (added : records_in out1 ≡ records_in out ++ records_in team2.scavenger.out) (same : room_of out1 ≡ room_of out) where
       counted_own : length (records_in out1) ≡ length (records_in out) + length (records_by 0 said)
       counted_own =
-          let both = ap (λ (rs : List Record). length rs) added in
+          let both = ap length added in
           let sum = length-append (records_in out) (records_in team2.scavenger.out) in
-          let own = ap (λ (rs : List Record). length rs) (scavenger_said crew_share) in
+          let own = ap length (scavenger_said crew_share) in
           omega (arith, both, sum, own)
 
       -- There is room for what all threads said in the phase behind that.
       pub may_gather : length (records_in out1) + length (said_by_all team2.threads.items) ≤ room_of out1
       may_gather =
-          let all = ap (λ (rs : List Record). length rs) all_said in
+          let all = ap length all_said in
           let both = records_both (planned s) ops left in
           omega (arith, counted_own, all, paid, both, room, same)
 
       module _ {gathered : List Worker} {out2 : Records} (g : OwnGathered team2.threads.items gathered out1 out2) where
         counted_all : length (records_in out2) ≡ length (records_in out) + length (records_by 0 said) + length (by_actors 1 s.threads said)
         counted_all =
-            let now = ap (λ (rs : List Record). length rs) g.added in
-            let sum = length-append (records_in out1) (said_by_all team2.threads.items) in
-            let all = ap (λ (rs : List Record). length rs) all_said in
-            omega (arith, counted_own, now, sum, all)
+            search (arith, length-append, all_said, counted_own)
 
         -- There is room for what all keepers said in the phase behind that.
         pub may_gather_kept : length (records_in out2) + length (said_by_keepers gathered) ≤ room_of out2
@@ -325,13 +521,14 @@ module _ {region : SharedRegion} {s : Session} {awake : Mask4} {team team1 team2
         module _ {kept : List Worker} {out3 : Records} (h : KeptGathered gathered kept out2 out3) where
           room_left : (team3 : Team) → WereTaken kept team3.threads.items team2.book team3.book → HasRoom s rest marks team3.threads.items out3 reached
           room_left team3 t =
-              let now = ap (λ (rs : List Record). length rs) h.added in
+              let now = ap length h.added in
               let sum = length-append (records_in out2) (said_by_keepers gathered) in
               let few = kept_most g in
               let owed = kept_owed g h team3 t in
               let both = records_both (planned s) ops left in
               omega (arith, counted_all, now, sum, few, owed, paid, both, room, same, g.size, h.size)
 
+          -- What was marked is what the records hold.
           written : AreMarked s p.records (records_in out) → AreWritten s reached.records (records_in out3)
           written marked = record {
             before = p.records;
@@ -359,8 +556,10 @@ module _ {region : SharedRegion} {s : Session} {awake : Mask4} {team team1 team2
   reaches : ((k : ℕ) → is_set awake k ≡ is_active ops k) → Reaches f (phase_acts s.threads ops) p reached
   reaches alike =
       let threads = length team.threads.items in
-      let wakes : awake_in awake threads ≡ active_threads s.threads ops = threads_alike (is_set awake) (is_active ops) threads alike ∙ ap (λ (n : ℕ). active_threads n ops) at.workers.many in
-      reach_both f (map Wakes (active_threads s.threads ops)) (acts_of_ops (idle_threads s.threads ops) ops) p start reached (subst (λ (ks : List ℕ). Reaches f (map Wakes ks) p start) wakes begun.woke.turns.came.reaches) woven.reaches
+      let wakes : awake_in awake threads ≡ active_threads s.threads ops = threads_alike (is_set awake) (is_active ops) threads alike
+      ∙ ap (λ n. active_threads n ops) at.workers.many in
+      reach_both f (map Wakes (active_threads s.threads ops)) (acts_of_ops (idle_threads s.threads ops) ops) p start reached
+      (subst (λ ks. Reaches f (map Wakes ks) p start) wakes begun.woke.turns.came.reaches) woven.reaches
 
 -- ---- the stages of the phase
 module _ {region : SharedRegion} {s : Session} {awake : Mask4} {team team1 team2 : Team} {p : Progress} (ops : List Op) (rest : List (List Op))
@@ -398,59 +597,45 @@ module _ {region : SharedRegion} {s : Session} {awake : Mask4} {team team1 team2
   module _ (since before made : Whole) (told : end_at.list ≡ made ++ begin_at.list) (behind : (k : ℕ) → part k before ≡ part k begin_at.list)
       (all : (k : ℕ) → part k (since ++ before) ≡ part k end_at.list) (each : AreEarlier (looks_of ledger) (since ++ before)) where
     all_told : (k : ℕ) → part k (since ++ before) ≡ part k (made ++ begin_at.list)
-    all_told k = all k ∙ ap (λ (l : Whole). part k l) told
+    all_told k = all k ∙ ap (part k) told
 
     idle_sorted : (w : ℕ) → is_active ops w ≡ false → steps_by (in_hands owner w) since ≡ steps_by (in_hands owner w) made
     idle_sorted w off = sorted_still (in_hands owner w) since before made begin_at.list behind all_told
-        (λ k its. ap (λ (l : Whole). part k l) (sym told) ∙ sym (own_part w k (in_its_hands w k its)) ∙ ap (λ (l : Whole). part k l) ((heard.done.pieces w).still off))
+        (λ k its. ap (part k) (sym told) ∙ sym (own_part w k (in_its_hands w k its)) ∙ ap (part k) ((heard.done.pieces w).still off))
 
     busy_sorted : (w : ℕ) (sat : ℕ → Bool) → HeardOrder ledger sat begin_at.list (own_list w) → ((k : ℕ) → sat k ≡ true → owner k ≡ w)
         → ((k : ℕ) → owner k ≡ w → (sat k ≡ true) ⊎ (part k (own_list w) ≡ part k begin_at.list))
         → steps_by (in_hands owner w) since ≡ steps_by (in_hands owner w) made
     busy_sorted w sat order within others = sorted_seen (in_hands owner w) since before made begin_at.list behind all_told sat (own_list w) (steps_of order.base) order.order (order.first (since ++ before) each)
-        (λ k its. eq-eqb (owner k) w (within k its)) (own_order w ∙ ap (λ (l : Whole). steps_by (in_hands owner w) l) told) (λ k its. own_part w k (in_its_hands w k its) ∙ ap (λ (l : Whole). part k l) told)
+        (λ k its. eq-eqb (owner k) w (within k its)) (own_order w ∙ ap (steps_by (in_hands owner w)) told)
+        (λ k its. own_part w k (in_its_hands w k its) ∙ ap (part k) told)
         (λ k its. others k (in_its_hands w k its))
 
     -- a thread, and its keeper, which did nothing where there is none
     pair_others : (i : ℕ) (d : Worker) (lt : i < length team1.threads.items) → is_active ops (suc i) ≡ true → (k : ℕ) → owner k ≡ suc i
         → (pair_in s.threads (suc i) (get_or team1.threads.items i d).keeper k ≡ true) ⊎ (part k (own_list (suc i)) ≡ part k begin_at.list)
     pair_others i d lt on k is =
-        let o = (get_or team1.threads.items i d).keeper in
-        let most : suc i ≤ s.threads = omega (arith, lt, begun.workers.many) in
-        let mine = pair_within s.threads ops i o most on (suc i) (pair_has s.threads i o) in
-        elim (in_pair s.threads ops k i is) [
-          | inl thread ↦ inl (ap (λ (j : ℕ). pair_in s.threads (suc i) o j) thread ∙ pair_has s.threads i o)
-          | inr keeper ↦ elim (pair_keeps s.threads i o) [
-            | inl its ↦ inl (ap (λ (j : ℕ). pair_in s.threads (suc i) o j) keeper ∙ its)
-            | inr none ↦ inr (ap (λ (j : ℕ). part j (own_list (suc i))) keeper
-                ∙ (kept_nobody {r = round_of s ops rest team1 begin_at} ((heard.done.pieces (suc i)).threads i d lt mine) none).0
-                ∙ ap (λ (j : ℕ). part j begin_at.list) (sym keeper))
-          ]
-        ]
+        search (arith, pair_within, pair_has, in_pair, pair_keeps, kept_nobody)
 
     thread_sorted : (i : ℕ) → i < length team1.threads.items → is_active ops (suc i) ≡ true
         → steps_by (in_hands owner (suc i)) since ≡ steps_by (in_hands owner (suc i)) made
     thread_sorted i lt on =
-        let d = some_worker team1.threads.items i lt in
+        let d = some_item team1.threads.items i lt in
         let o = (get_or team1.threads.items i d).keeper in
-        busy_sorted (suc i) (pair_in s.threads (suc i) o) (heard.threads i d lt on) (pair_within s.threads ops i o (omega (arith, lt, begun.workers.many)) on) (pair_others i d lt on)
+        busy_sorted (suc i) (pair_in s.threads (suc i) o) (heard.threads i d lt on) (pair_within s.threads ops i o (omega (arith, lt, begun.workers.many)) on)
+        (pair_others i d lt on)
 
     -- the scavenger, and the threads that are idle
     crew_others : (k : ℕ) → owner k ≡ 0 → (crew_in (idle_threads s.threads ops) k ≡ true) ⊎ (part k (own_list 0) ≡ part k begin_at.list)
-    crew_others k is = elim (cases_lt s.threads k) [
-      | inl past ↦ inr (let none = (heard.done.pieces 0).scavenger refl in (none.3 k past).part_is)
-      | inr within ↦ inl (in_crew s.threads ops k is within)
-    ]
+    crew_others k is = search (arith, cases_lt, in_crew)
 
     hand_sorted : (w : ℕ) → is_active ops w ≡ true → steps_by (in_hands owner w) since ≡ steps_by (in_hands owner w) made
     hand_sorted zero on = busy_sorted 0 (crew_in (idle_threads s.threads ops)) (heard.scavenger on) (λ k its. crew_within s.threads ops k (scavenger_own s.threads ops) its) crew_others
     hand_sorted (suc i) on = thread_sorted i (let le = begun.ready.within (suc i) on in omega (arith, le, begun.workers.many)) on
 
+    -- Each pair's steps are the same in both lists.
     sorted : (w : ℕ) → steps_by (in_hands owner w) since ≡ steps_by (in_hands owner w) made
-    sorted w = elim (cases_Bool (is_active ops w)) [
-      | inl on ↦ hand_sorted w on
-      | inr off ↦ idle_sorted w off
-    ]
+    sorted w = search (arith, cases_Bool, hand_sorted, idle_sorted)
 
   -- its threads read the epoch, and then its operations were performed: where the ledger was settled between both and after them
   pub phase_went : ((k : ℕ) → is_set awake k ≡ is_active ops k) → {before mid after : Whole} → IsEarlier before mid → IsEarlier mid after
@@ -459,13 +644,15 @@ module _ {region : SharedRegion} {s : Session} {awake : Mask4} {team team1 team2
   phase_went alike {before} {mid} {after} first second stood midway stand each =
       let f = s.profile in
       let threads = length team.threads.items in
-      let wakes : awake_in awake threads ≡ active_threads s.threads ops = threads_alike (is_set awake) (is_active ops) threads alike ∙ ap (λ (n : ℕ). active_threads n ops) at.workers.many in
+      let wakes : awake_in awake threads ≡ active_threads s.threads ops = threads_alike (is_set awake) (is_active ops) threads alike
+      ∙ ap (λ n. active_threads n ops) at.workers.many in
       let woke = subst (λ (ks : List ℕ). Reaches f (map Wakes ks) p begin_at) wakes begun.woke.turns.came.reaches in
       let one = went_alone s (map Wakes (active_threads s.threads ops)) woke first at.nobody nobody_before stood midway in
       let two = went_sorted s (acts_of_ops (idle_threads s.threads ops) ops) owner (woven ops rest at begun heard.done).reaches second nobody_after_all stand
-      (λ made told of. sorted second.0 mid made told (stand_all s mid begin_at.list midway nobody_before (of_first s second of)) (λ k. ap (λ (l : Whole). part k l) (sym second.1) ∙ stand_all s after end_at.list stand nobody_after_all of k) (subst (AreEarlier (looks_of ledger)) second.1 each))
+      (λ made told of. sorted second.0 mid made told (stand_all s mid begin_at.list midway nobody_before (of_first s second of))
+      (λ k. ap (part k) (sym second.1) ∙ stand_all s after end_at.list stand nobody_after_all of k) (subst (AreEarlier (looks_of ledger)) second.1 each))
       in
-      went_both (stage (map Wakes (active_threads s.threads ops)) itself ∷ []) (stage (acts_of_ops (idle_threads s.threads ops) ops) owner ∷ []) one two
+      went_both one two
 
 -- ---- all together
 -- A phase whose operations are all done, gathered and taken is done, with the team before the phases left.

@@ -1,32 +1,202 @@
--- What a phase of the team begins with: what its acts cost; its threads read the epoch, its names are noted, and all hands are ready.
-use Rattle.std.proofs.Common.{◌≡◌, ℕ, zero, suc, ◌+◌, ◌-◌, ◌<◌, ◌≤◌, ◌==◌, true, inl, inr, List, [], ◌∷◌, ◌++◌, length, get_or, refl, ap, sym, ◌∙◌, subst}
-use Rattle.std.proofs.Common.{arith, MatchOption, vec_capacity}
-use Rattle.std.specs.Vec.{with_items}
-use Rattle.std.proofs.lemmas.Bool.{false≢true, or_cases, or_left, or_right}
-use Rattle.std.proofs.lemmas.List.{with_items_is}
+-- What a phase of the team begins with: what its acts cost, owe and say in all; its threads read the epoch, its names are noted, and all hands are ready.
+use Rattle.std.proofs.Common.{◌≡◌, ◌≢◌, ℕ, zero, suc, ◌+◌, ◌<◌, ◌≤◌, ◌==◌, Bool, true, if◌then◌else◌, inl, inr, List, [], ◌∷◌, ◌++◌, length, get_or, Option}
+use Rattle.std.proofs.Common.{None, refl, ap, sym, ◌∙◌, arith, append_assoc, length-append, eq-eqb, ne_eqb, ◌-◌, subst, MatchOption, vec_capacity}
+use Rattle.std.proofs.lemmas.Bool.{cases_eq, false≢true, or_cases, or_left, or_right}
 use Rattle.pas_profile.specs.declared.profile.Profile.{Profile}
+use Rattle.pas_trace.specs.{Asked.keeper_in, EveryPhase.FreesItsOwn}
+use Rattle.pas_trace.specs.EveryPlan.{records_of_work, records_of_what, records_of_ops, own_records, all_ops}
+use Rattle.pas_trace.specs.declared.plan.{Work.Work, Op.Op}
+use Rattle.pas_report.specs.declared.record.Record.{Record}
+use Rattle.pas_trace.specs.Acts.{Act, Settles, act_kept, acts_of_op, own_acts, scavenger_acts, idle_threads, is_active}
+use Rattle.pas_answers.specs.{Answers.Progress, Ways.records_by, Ways.by_actors, Answers.Books, Calls.owed_events}
+use Rattle.pas_answers.specs.Fit.{cost_of_work, cost_of_what, cost_of_act, costs_of, own_cost_of_act, own_costs_of}
+use Rattle.pas_answers.proofs.{SingleActs.sum_both, EachAct.all_front}
+use Rattle.pas_acts.proofs.{ActsOfPlan.work_costs, ActsOfPlan.idle_few, AtDesk.sits_still, AtDesk.sits_for, Naming.names_before, Naming.sound_front}
+use Rattle.pas_threads.specs.Pairs.{said_by_keeper, owed_kept, keeper_at, owed_by_keepers, AreGuarded, no_more}
+use Rattle.pas_threads.specs.Sessions.{owed_by, Session, planned, WorkerRests, AreResting, ScavengerRests, HasPlaces, TeamAt, WorkersRest}
+use Rattle.pas_threads.specs.Turns.{owed_at, said_by, said_kept, said_by_keepers, WokeAll}
+use Rattle.pas_threads.specs.declared.{workers.Worker.Worker, phases.Team.Team, scavenger.Scavenger.Scavenger}
+use Rattle.std.specs.Vec.{with_items}
+use Rattle.std.proofs.lemmas.List.{with_items_is}
 use Rattle.pas_bits.specs.declared.mask.Mask4.{Mask4}
 use Rattle.pas_steps.specs.{Lists.Whole, Lists.part, Views.View}
 use Rattle.pas_shared.specs.declared.region.SharedRegion.{SharedRegion}
-use Rattle.pas_trace.specs.{Asked.keeper_in, EveryPhase.FreesItsOwn, EveryPlan.own_records, EveryPlan.all_ops}
-use Rattle.pas_trace.specs.declared.plan.Op.{Op}
-use Rattle.pas_trace.proofs.OperationsOfItems.{own_both}
+use Rattle.pas_trace.proofs.EveryPlan.{own_both}
 use Rattle.pas_report.specs.Rooms.{room_of}
-use Rattle.pas_report.specs.declared.record.Record.{Record}
-use Rattle.pas_trace.specs.Acts.{own_acts, scavenger_acts, idle_threads, is_active}
 use Rattle.pas_cache.specs.Caches.{Cached, cached}
-use Rattle.pas_answers.specs.{Answers.Books, Answers.Progress, Calls.owed_events, Fit.costs_of, Fit.own_costs_of}
 use Rattle.pas_acts.specs.{Keepers.LaterKept, Pairs.for_guards, Works.Later, NameBooks.NamesAt, NameBooks.ArePlaced, NameBooks.names_asked}
-use Rattle.pas_acts.proofs.{ActsOfPlan.idle_few, AtDesk.sits_still, AtDesk.sits_for, NamesBefore.names_before, NamesBefore.sound_front}
 use Rattle.pas_acts.specs.declared.names.NameBook.{NameBook}
-use Rattle.pas_threads.specs.{Hands.WorkerAt, Settling.ActorsStand, Pairs.no_more, Turns.owed_at, Turns.WokeAll}
+use Rattle.pas_threads.specs.{Hands.WorkerAt, Settling.ActorsStand}
 use Rattle.pas_threads.specs.Performing.{Round, round, ScavengerHas, IsReady}
-use Rattle.pas_threads.specs.Sessions.{Session, planned, WorkerRests, AreResting, ScavengerRests, HasPlaces, TeamAt, WorkersRest}
-use Rattle.pas_threads.proofs.{Closing.turns_stand, InPhases.team_stands, TakingTurns.pass_still, TakingTurns.woke_rest, PhaseSums.own_costs}
-use Rattle.pas_threads.proofs.{PhaseSums.scavenger_costs}
-use Rattle.pas_threads.specs.declared.{phases.Team.Team, scavenger.Scavenger.Scavenger, workers.Worker.Worker}
-use Rattle.pas_threads.proofs.KeptPhases.{alike_same, guarded_alike, kept_waits, kept_still}
-use Rattle.pas_answers.proofs.EachAct.{all_front}
+use Rattle.pas_threads.proofs.{Closing.turns_stand, Staging.team_stands, TakingTurns.pass_still, TakingTurns.woke_rest}
+use Rattle.pas_threads.proofs.Keepers.{alike_same, guarded_alike, kept_waits, kept_still}
+
+-- ---- a thread
+cost_le : (f : Profile) (work : Work) → cost_of_work work ≤ records_of_work f work
+-- Case by case.
+cost_le f a = search arith
+
+own_kept : (o : Option ℕ) (k : ℕ) (op : Op) → own_cost_of_act k (act_kept o op) ≡ (if op.actor == k then cost_of_what op.what else 0)
+-- With one and without one.
+own_kept a k op = search arith
+
+own_if : (t : Bool) (o : Option ℕ) (f : Profile) (k : ℕ) (op : Op) (acts : List Act) (most : ℕ) → (op.actor == k) ≡ t → own_costs_of k acts ≤ most
+    → own_costs_of k (if t then act_kept o op ∷ (Settles op.actor ∷ acts) else acts) ≤ (if t then records_of_what f op.what else 0) + most
+own_if a o f k op acts most is few = search (arith, own_kept, cost_le)
+
+-- its acts cost no more than its operations
+pub own_costs : (f : Profile) (k : ℕ) (ops : List Op) → own_costs_of k (own_acts k ops) ≤ own_records f k ops
+own_costs f k [] = omega arith
+own_costs f k (op ∷ ops) = own_if (op.actor == k) (keeper_in op.what) f k op (own_acts k ops) (own_records f k ops) refl (own_costs f k ops)
+
+-- ---- the scavenger
+-- (what an act costs does not depend on how many threads there are)
+cost_alike : (f : Profile) (threads : ℕ) (act : Act) → cost_of_act (record f { threads = threads }) act ≡ cost_of_act f act
+cost_alike f threads act = search arith
+
+costs_alike : (f : Profile) (threads : ℕ) (acts : List Act) → costs_of (record f { threads = threads }) acts ≡ costs_of f acts
+costs_alike f threads [] = refl
+costs_alike f threads (act ∷ acts) =
+    let rest = costs_alike f threads acts in grind (arith, rest, cost_alike)
+
+scavenger_if : (t : Bool) (f : Profile) (idle : List ℕ) (op : Op) (acts : List Act) (most : ℕ) → length idle ≤ f.threads → costs_of f acts ≤ most
+    → costs_of f (if t then acts_of_op idle op ++ acts else acts) ≤ (if t then records_of_what f op.what else 0) + most
+scavenger_if a f idle op acts most few rest = search (arith, sum_both, work_costs)
+
+all_scavenged : (f : Profile) (idle : List ℕ) (ops : List Op) → length idle ≤ f.threads → costs_of f (scavenger_acts idle ops) ≤ own_records f 0 ops
+all_scavenged f idle [] few = omega arith
+all_scavenged f idle (op ∷ ops) few = scavenger_if (op.actor == 0) f idle op (scavenger_acts idle ops) (own_records f 0 ops) few (all_scavenged f idle ops few)
+
+-- What the scavenger's acts of a phase cost is at most the records that its operations are counted for.
+pub scavenger_costs : (f : Profile) (threads : ℕ) (idle : List ℕ) (ops : List Op) → length idle ≤ threads
+    → costs_of f (scavenger_acts idle ops) ≤ own_records (record f { threads = threads }) 0 ops
+scavenger_costs f threads idle ops few =
+    search (arith, all_scavenged, costs_alike)
+
+-- ---- all actors
+-- what the operations of the first n threads make
+abbrev pub own_by : Profile → List Op → ℕ → ℕ
+own_by f ops zero = 0
+own_by f ops (suc n) = own_records f (suc n) ops + own_by f ops n
+
+-- so many of one actor's, counted for the first n threads
+abbrev those_of : ℕ → ℕ → ℕ → ℕ
+those_of actor count zero = 0
+those_of actor count (suc n) = (if actor == suc n then count else 0) + those_of actor count n
+
+one_more : (f : Profile) (op : Op) (ops : List Op) (n : ℕ) → own_by f (op ∷ ops) n ≡ those_of op.actor (records_of_what f op.what) n + own_by f ops n
+one_more f op ops zero = omega arith
+one_more f op ops (suc n) = let rest = one_more f op ops n in omega (arith, rest)
+
+not_it : (actor k count : ℕ) → actor ≢ k → (if actor == k then count else 0) ≡ 0
+not_it actor k count other = ap (λ (t : Bool). if t then count else 0) (ne_eqb actor k other)
+
+it_is : (actor k count : ℕ) → actor ≡ k → (if actor == k then count else 0) ≡ count
+it_is actor k count same = ap (λ (t : Bool). if t then count else 0) (eq-eqb actor k same)
+
+none_of_them : (actor count n : ℕ) → n < actor → (if actor == 0 then count else 0) + those_of actor count n ≡ 0
+none_of_them actor count zero far = let zero_not = not_it actor 0 count (λ (is : actor ≡ 0). omega (arith, is, far)) in omega (arith, zero_not)
+none_of_them actor count (suc n) far =
+    let here = not_it actor (suc n) count (λ (is : actor ≡ suc n). omega (arith, is, far)) in
+    let rest = none_of_them actor count n (omega (arith, far)) in
+    omega (arith, here, rest)
+
+one_at_most : (actor count n : ℕ) → (if actor == 0 then count else 0) + those_of actor count n ≤ count
+one_at_most actor count zero = search (arith, cases_eq, it_is, not_it)
+one_at_most actor count (suc n) = let rest = one_at_most actor count n in grind (arith, rest, cases_eq, it_is, none_of_them, not_it)
+
+own_none : (f : Profile) (n : ℕ) → own_by f [] n ≡ 0
+own_none f zero = refl
+own_none f (suc n) = let rest = own_none f n in omega (arith, rest)
+
+-- all actors' operations are among all
+pub own_all : (f : Profile) (ops : List Op) (n : ℕ) → own_records f 0 ops + own_by f ops n ≤ records_of_ops f ops
+own_all f [] n = let none = own_none f n in omega (arith, none)
+own_all f (op ∷ ops) n =
+    let rest = own_all f ops n in grind (arith, rest, one_more, one_at_most)
+
+-- ---- what they said
+by_last : (k n : ℕ) (rs : List Record) → length (by_actors k (suc n) rs) ≡ length (by_actors k n rs) + length (records_by (k + n) rs)
+by_last k zero rs =
+    search (arith, length-append)
+by_last k (suc n) rs =
+    let rest = by_last (k + 1) n rs in grind (arith, rest, length-append)
+
+-- Each thread and its keeper said no more than what they owed before, and the thread's operations, pay for, with what they owe afterwards: so all did.
+pub all_paid : (f planned : Profile) (threads : ℕ) (ops : List Op) (said : List Record) (old new : List Worker) (p q : Progress) (n : ℕ)
+    → ((i : ℕ) → i < n → length (records_by (suc i) said) + length (records_by (threads + suc i) said) + (owed_at f (suc i) q + owed_kept f (threads + suc i) (keeper_at new i) q)
+    ≤ owed_at f (suc i) p + owed_kept f (threads + suc i) (keeper_at old i) p + own_records planned (suc i) ops)
+    → length (by_actors 1 n said) + length (by_actors (threads + 1) n said) + (owed_by f q n + owed_by_keepers f threads new q n) ≤ owed_by f p n + owed_by_keepers f threads old p n + own_by planned ops n
+all_paid f planned threads ops said old new p q zero few = omega arith
+all_paid f planned threads ops said old new p q (suc n) few =
+    let rest = all_paid f planned threads ops said old new p q n in grind (arith, rest, by_last)
+
+-- Where each thread owes at most what it owed, all together do.
+pub owed_less : (f : Profile) (p q : Progress) (n : ℕ) → ((i : ℕ) → i < n → owed_at f (suc i) q ≤ owed_at f (suc i) p) → owed_by f q n ≤ owed_by f p n
+owed_less f p q zero less = omega arith
+owed_less f p q (suc n) less =
+    let rest = owed_less f p q n in grind (arith, rest)
+
+-- Where each keeper owes at most what it owed, all together do.
+pub kept_less : (f : Profile) (threads : ℕ) (old new : List Worker) (p q : Progress) (n : ℕ)
+    → ((i : ℕ) → i < n → owed_kept f (threads + suc i) (keeper_at new i) q ≤ owed_kept f (threads + suc i) (keeper_at old i) p)
+    → owed_by_keepers f threads new q n ≤ owed_by_keepers f threads old p n
+kept_less f threads old new p q zero less = omega arith
+kept_less f threads old new p q (suc n) less =
+    let rest = kept_less f threads old new p q n in grind (arith, rest)
+
+-- ---- workers that said what is theirs
+pub said_in_order : (says : Worker → List Record) (k : ℕ) (workers : List Worker) (said : List Record)
+    → ((i : ℕ) (d : Worker) → i < length workers → says (get_or workers i d) ≡ records_by (k + i) said)
+    → said_by says workers ≡ by_actors k (length workers) said
+said_in_order says k [] said each = refl
+said_in_order says k (w ∷ ws) said each =
+    let same : k + 0 ≡ k = omega arith in
+    ap (λ (rs : List Record). rs ++ said_by says ws) (each 0 w (omega arith) ∙ ap (λ (j : ℕ). records_by j said) same)
+    ∙ ap (λ (rs : List Record). records_by k said ++ rs)
+    (said_in_order says (k + 1) ws said (λ i d lt. each (suc i) d (omega (arith, lt)) ∙ ap (λ j. records_by j said) (let is : k + suc i ≡ k + 1 + i = omega arith in is)))
+
+none_said : (workers : List Worker) → ((i : ℕ) (d : Worker) → i < length workers → (get_or workers i d).keeper ≡ None) → said_by_keepers workers ≡ []
+none_said [] none = refl
+none_said (w ∷ ws) none =
+    ap (λ o. said_by_keeper o ++ said_by_keepers ws) (none 0 w (omega arith)) ∙ none_said ws (λ i d lt. none (suc i) d (omega (arith, lt)))
+
+-- .. for their keepers, of which there may be none
+pub kept_in_order : (threads : ℕ) {keepers : ℕ} (workers : List Worker) (said : List Record) → AreGuarded keepers workers
+    → ((i : ℕ) (d : Worker) → i < length workers → said_kept (get_or workers i d) ≡ records_by (threads + suc i) said)
+    → said_by_keepers workers ≡ by_actors (threads + 1) keepers said
+kept_in_order threads workers said a each = search (arith, said_in_order, none_said)
+
+-- what the keepers said is not more than what so many actors behind the threads said
+pub kept_few : (threads : ℕ) {keepers : ℕ} (workers : List Worker) (said : List Record) → AreGuarded keepers workers
+    → length (by_actors (threads + 1) keepers said) ≤ length (by_actors (threads + 1) (length workers) said)
+kept_few threads workers said a = search arith
+
+-- those of so many actors are those of more, where none of the others said anything
+by_fewer : (k n m : ℕ) (said : List Record) → n ≤ m → ((j : ℕ) → k + n ≤ j → records_by j said ≡ []) → by_actors k m said ≡ by_actors k n said
+by_fewer k zero zero said le none = refl
+by_fewer k zero (suc m) said le none =
+    ap (λ rs. rs ++ by_actors (k + 1) m said) (none k (omega arith)) ∙ by_fewer (k + 1) zero m said (omega arith) (λ j far. none j (omega (arith, far)))
+by_fewer k (suc n) zero said bad none = absurd (omega (arith, bad))
+by_fewer k (suc n) (suc m) said le none =
+    ap (λ rs. records_by k said ++ rs) (by_fewer (k + 1) n m said (omega (arith, le)) (λ j far. none j (omega (arith, far))))
+
+-- those of some and then of others
+by_both : (k n m : ℕ) (said : List Record) → by_actors k (n + m) said ≡ by_actors k n said ++ by_actors (k + n) m said
+by_both k zero m said =
+    ap (λ l. by_actors k l said) (let is : 0 + m ≡ m = omega arith in is) ∙ ap (λ j. by_actors j m said) (let is : k ≡ k + 0 = omega arith in is)
+by_both k (suc n) m said =
+    ap (λ (l : ℕ). by_actors k l said) (let is : suc n + m ≡ suc (n + m) = omega arith in is)
+    ∙ ap (λ rs. records_by k said ++ rs) (by_both (k + 1) n m said ∙ ap (λ j. by_actors (k + 1) n said ++ by_actors j m said) (let is : k + 1 + n ≡ k + suc n = omega arith in is))
+    ∙ sym (append_assoc (records_by k said) (by_actors (k + 1) n said) (by_actors (k + suc n) m said))
+
+-- all that was said: by the scavenger, by the threads, and by the keepers behind them
+pub by_all : (threads keepers most : ℕ) (said : List Record) → threads + keepers ≤ most → ((k : ℕ) → threads + keepers < k → records_by k said ≡ [])
+    → by_actors 0 (most + 1) said ≡ records_by 0 said ++ (by_actors 1 threads said ++ by_actors (threads + 1) keepers said)
+by_all threads keepers most said le none =
+    ap (λ (l : ℕ). by_actors 0 l said) (let is : most + 1 ≡ suc most = omega arith in is)
+    ∙ ap (λ rs. records_by 0 said ++ rs) (by_fewer 1 (threads + keepers) most said le (λ j far. none j (omega (arith, far))) ∙ by_both 1 threads keepers said
+    ∙ ap (λ (k : ℕ). by_actors 1 threads said ++ by_actors k keepers said) (let is : 1 + threads ≡ threads + 1 = omega arith in is))
 
 -- ---- rooms
 -- what the worker at this place has room for
@@ -83,7 +253,7 @@ module _ {region : SharedRegion} {f : Profile} {k : ℕ} {worker : Worker} {q : 
       let few = own_costs g k ops in
       let both = own_both g k ops left in
       let spare = rests.here.rests.spare in
-      let none = ap (λ (rs : List Record). length rs) rests.said in
+      let none = ap length rests.said in
       record {
         has = rests.here.has;
         stands = record {
@@ -105,13 +275,14 @@ scavenger_ready s book ops left later rests parts events records =
     let idle = idle_few s.threads ops in
     let few = scavenger_costs f s.threads (idle_threads s.threads ops) ops idle in
     let both = own_both (planned s) 0 ops left in
-    let none = ap (λ (rs : List Record). length rs) rests.said in
+    let none = ap length rests.said in
     let spare = rests.at.stands.spare in
     record {
       has = rests.has;
       at = record {
         stands = record {
-          sits = sits_still (λ (v : View). costs_of f (scavenger_acts (idle_threads s.threads ops) ops) + (later 0).events) (pass_still rests.has.pass) parts (sits_for rests.at.stands.sits (omega (arith, few, both, events)));
+          sits = sits_still (λ (v : View). costs_of f (scavenger_acts (idle_threads s.threads ops) ops) + (later 0).events) (pass_still rests.has.pass) parts
+              (sits_for rests.at.stands.sits (omega (arith, few, both, events)));
           spare = omega (arith, few, both, none, spare, records);
         };
         has_places = rests.at.has_places;
@@ -128,7 +299,7 @@ woke_workers {s = s} awake {workers} {now} ops at many woke = record {
   many = many ∙ at.many;
   threads = woke_rest many at.threads woke;
   guarded = guarded_alike workers now many
-      (λ i d lt. alike_same (get_or workers i d).keeper (get_or now i d).keeper (woke.turns.told i d lt).keeper) at.guarded;
+      (λ i d lt. alike_same (woke.turns.told i d lt).keeper) at.guarded;
   kept = λ i d lt.
       let here : i < length workers = omega (arith, lt, many) in
       let others = woke.turns.leaves.parts (s.threads + suc i) (λ j less same. omega (arith, less, same, at.many)) in
@@ -207,11 +378,11 @@ begun_as {region} {s} {awake} {team} {p} {given} {now} {given2} {again} {scaveng
     let left = all_ops (ops ∷ rest) in
     let team1 = settled_team team now again scavenger book in
     let items : team1.threads.items ≡ now =
-    with_items_is (with_items team.threads now) again (ap (λ (ws : List Worker). length ws) same ∙ len2) ∙ same ∙ value2 ∙ with_items_is team.threads now (many ∙ len) in
+    with_items_is (with_items team.threads now) again (ap length same ∙ len2) ∙ same ∙ value2 ∙ with_items_is team.threads now (many ∙ len) in
     let woke : WokeAll region s.profile awake team.threads.items team1.threads.items (λ k. own_records (planned s) k left) p =
     subst (λ (ws : List Worker). WokeAll region s.profile awake team.threads.items ws (λ k. own_records (planned s) k left) p) (sym items)
     (woke_then s awake left at.workers value wakes) in
-    let all = ap (λ (ws : List Worker). length ws) items ∙ many ∙ ap (λ (ws : List Worker). length ws) value in
+    let all = ap length items ∙ many ∙ ap length value in
     let workers = woke_workers awake left at.workers all woke in
     let lent = subst (λ (v : Scavenger). s.threads ≤ vec_capacity v.lent) (sym same_scavenger) at.places.lent in
     record {
@@ -237,4 +408,4 @@ pub woke_stands : {region : SharedRegion} {s : Session} (awake : Mask4) {team : 
     → (l : Whole) × ActorsStand region s team.scavenger.pass now l
 woke_stands {s = s} awake ops rest at value wakes many =
     let woke = woke_then s awake (all_ops (ops ∷ rest)) at.workers value wakes in
-    (woke.turns.came.reached.list, turns_stand (team_stands at) woke.turns (many ∙ ap (λ (ws : List Worker). length ws) value))
+    (woke.turns.came.reached.list, turns_stand (team_stands at) woke.turns (many ∙ ap length value))

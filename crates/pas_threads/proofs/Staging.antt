@@ -1,32 +1,200 @@
--- How the stages of a replay follow each other, and what a stage shows in the list of all steps.
-use Rattle.std.proofs.Common.{◌≡◌, ℕ, ◌+◌, Bool, true, if◌then◌else◌, inl, inr, ◌⊎◌, List, [], ◌∷◌, ◌++◌, length, refl, ap, sym, ◌∙◌, subst, arith, take}
-use Rattle.std.proofs.Common.{length-append, eq-eqb, true≢false, take_at}
-use Rattle.std.proofs.lemmas.{Bool.cases_lt, Bool.cases_Bool, List.map-append}
-use Rattle.pas_steps.specs.{Lists.Triple, Lists.Whole, Lists.part, Views.View, Desks.triples}
+-- The phases of a replay: acts without a mark, acts after one another, how stages follow each other, and what a settled ledger has of a team.
+use Rattle.std.proofs.Common.{◌≡◌, ℕ, zero, suc, ◌+◌, ◌-◌, ◌<◌, ◌==◌, Bool, true, if◌then◌else◌, inl, inr, List, [], ◌∷◌, ◌++◌, length, map, get_or, Option}
+use Rattle.std.proofs.Common.{Some, refl, ap, sym, ◌∙◌, subst, arith, append_assoc, ◌⊎◌, take, length-append, eq-eqb, true≢false, take_at}
+use Rattle.std.specs.List.{AllByRecursion}
+use Rattle.std.proofs.lemmas.{Bool.cases_lt, Option.same_Some, Bool.cases_Bool, List.map-append}
+use Rattle.pas_profile.specs.declared.profile.Profile.{Profile}
+use Rattle.pas_profile.proofs.Lists.{all_both}
+use Rattle.pas_steps.specs.{Lists.Whole, Lists.part, Views.View, Lists.Triple, Desks.triples}
+use Rattle.pas_steps.specs.declared.step.Made.{Made}
+use Rattle.pas_trace.specs.Acts.{Act, MarksPhase, MarksClose, Wakes, Ends, Lowers, active_threads, idle_threads, numbers_from, own_acts, act_kept, acts_of_work}
+use Rattle.pas_trace.specs.Acts.{acts_of_ops, phase_acts}
+use Rattle.pas_trace.specs.{Asked.work_of, EveryPlan.all_ops}
+use Rattle.pas_trace.specs.declared.plan.{Op.Op, Work.Work}
+use Rattle.pas_shared.specs.{Ruled.IsEarlier, Passes.seat_of, Passes.view_of, Passes.IsPassOf}
+use Rattle.pas_shared.specs.declared.{region.SharedRegion.SharedRegion, pass.SharedPass.SharedPass}
+use Rattle.pas_acts.specs.Pairs.{KeeperWaits}
+use Rattle.pas_answers.specs.{Answers.Progress, Reaching.Reaches, Phases.StandFirst, Phases.AtMark, Phases.AreInPhases}
+use Rattle.pas_answers.proofs.Reached.{reach_both, goes_on, both_by_stages}
+use Rattle.pas_threads.specs.{Hands.HasPass, Settling.StandsIn, Settling.PassStands, Settling.ActorsStand, Left.KeepsOrder}
+use Rattle.pas_threads.specs.Pairs.{no_more, kept_by_worker, AreGuarded, IsKeeperOf}
+use Rattle.pas_threads.specs.Sessions.{Session, TeamAt, IsOfActors, StandSo, WentBy}
+use Rattle.pas_threads.specs.declared.{keeper.Keeper.Keeper, phases.Team.Team, workers.Worker.Worker}
+use Rattle.pas_threads.proofs.Dealt.{some_item}
 use Rattle.pas_core.specs.Orders.{steps_by}
 use Rattle.pas_core.proofs.Choosing.{steps_by_both, part_of_chosen, Within, steps_by_one, no_steps_by, as_many_steps}
-use Rattle.pas_trace.specs.Acts.{Act}
-use Rattle.pas_shared.specs.Ruled.{IsEarlier}
-use Rattle.pas_answers.specs.{Answers.Progress, Reaching.Reaches}
 use Rattle.pas_answers.specs.Stages.{Owners, itself, in_hands, AreSorted, Stage, stage, one_by_one}
-use Rattle.pas_answers.proofs.Reached.{goes_on, both_by_stages}
-use Rattle.pas_threads.specs.Left.{KeepsOrder}
-use Rattle.pas_threads.specs.Sessions.{Session, IsOfActors, StandSo, WentBy}
-use Rattle.pas_threads.proofs.InPhases.{earlier_both, none_first}
 use Rattle.pas_guard.proofs.Keepers.{part_both}
+
+-- ---- acts without a mark
+abbrev HasNoMark : Act → Type 0
+HasNoMark (MarksPhase n) = ⊥
+HasNoMark MarksClose = ⊥
+HasNoMark act = Unit {0}
+
+abbrev pub AreUnmarked : List Act → Type 0
+AreUnmarked = AllByRecursion HasNoMark
+
+at_no_mark : (act : Act) (So : Type 0) → HasNoMark act → AtMark act So
+-- Case by case.
+at_no_mark act a b = search arith
+
+-- Acts without a mark stand at no mark of a phase, whatever the list.
+pub unmarked : (f : Profile) (acts : List Act) (p q : Progress) (is : Reaches f acts p q) (whole : Whole) → AreUnmarked acts → AreInPhases f acts p q is whole
+unmarked f [] p q is whole none = tt
+unmarked f (act ∷ acts) p q is whole none = (at_no_mark act (StandFirst p.list whole) none.0, unmarked f acts is.0 q is.2 whole none.1)
+
+unmarked_each : (of : ℕ → Act) → ((k : ℕ) → HasNoMark (of k)) → (ks : List ℕ) → AreUnmarked (map of ks)
+unmarked_each of none [] = tt
+unmarked_each of none (k ∷ ks) = (none k, unmarked_each of none ks)
+
+unmarked_kept : (o : Option ℕ) (op : Op) → HasNoMark (act_kept o op)
+-- With one and without one.
+unmarked_kept a op = search arith
+
+unmarked_work : (idle : List ℕ) (op : Op) (w : Work) → AreUnmarked (acts_of_work idle op w)
+unmarked_work idle op a = search (arith, unmarked_kept, unmarked_each)
+
+unmarked_ops : (idle : List ℕ) (ops : List Op) → AreUnmarked (acts_of_ops idle ops)
+unmarked_ops idle [] = tt
+unmarked_ops idle (op ∷ ops) =
+    all_both HasNoMark (acts_of_work idle op (work_of op.what)) (acts_of_ops idle ops) (unmarked_work idle op (work_of op.what)) (unmarked_ops idle ops)
+
+-- The acts of one phase have no mark among them.
+pub phase_unmarked : (threads : ℕ) (ops : List Op) → AreUnmarked (phase_acts threads ops)
+phase_unmarked threads ops = all_both HasNoMark (map Wakes (active_threads threads ops)) (acts_of_ops (idle_threads threads ops) ops)
+    (unmarked_each Wakes (λ k. tt) (active_threads threads ops)) (unmarked_ops (idle_threads threads ops) ops)
+
+-- the acts of the close behind its mark
+abbrev pub close_rest : ℕ → ℕ → List Act
+close_rest threads keepers = map Ends (numbers_from 1 threads) ++ map Lowers (numbers_from (threads + 1) keepers)
+
+-- They have no mark among them.
+pub close_unmarked : (threads keepers : ℕ) → AreUnmarked (close_rest threads keepers)
+close_unmarked threads keepers = all_both HasNoMark (map Ends (numbers_from 1 threads)) (map Lowers (numbers_from (threads + 1) keepers))
+    (unmarked_each Ends (λ k. tt) (numbers_from 1 threads)) (unmarked_each Lowers (λ k. tt) (numbers_from (threads + 1) keepers))
+
+-- ---- acts after one another
+pub in_both : (f : Profile) (xs ys : List Act) (p q r : Progress) (one : Reaches f xs p q) (two : Reaches f ys q r) (whole : Whole)
+    → AreInPhases f xs p q one whole → AreInPhases f ys q r two whole → AreInPhases f (xs ++ ys) p r (reach_both f xs ys p q r one two) whole
+in_both f [] ys p q r one two whole first second = (subst (λ (s : Progress). (is : Reaches f ys s r) × AreInPhases f ys s r is whole) one (two, second)).1
+in_both f (x ∷ xs) ys p q r one two whole first second = (first.0, in_both f xs ys one.0 q r one.2 two whole first.1 second)
+
+-- ---- the first steps of a list
+pub earlier_both : {a b c : Whole} → IsEarlier a b → IsEarlier b c → IsEarlier a c
+earlier_both {a} {b} {c} one two = (two.0 ++ one.0, two.1 ∙ ap (λ (l : Whole). two.0 ++ l) one.1 ∙ sym (append_assoc two.0 one.0 a))
+
+none_more : (b : Bool) (m : Made) (v : View) → (if b then m ∷ v else v) ≡ [] → v ≡ []
+-- By both values of the test.
+none_more a m v is = search arith
+
+-- who has no part in a list has none in its first steps
+none_first : (k : ℕ) (since l : Whole) → part k (since ++ l) ≡ [] → part k l ≡ []
+none_first k [] l is = is
+none_first k (t ∷ since) l is = none_first k since l (none_more (t.actor == k) t.made (part k (since ++ l)) is)
+
+-- ---- all actors at rest
+-- where an actor has the same part it stands
+pub still_at : {region : SharedRegion} {k : ℕ} {l l' : Whole} {slot : Option SharedPass} → part k l' ≡ part k l → PassStands region k l slot
+    → PassStands region k l' slot
+still_at same at = record { pass = at.pass; present = at.present; of = at.of; actor = at.actor; made = at.made ∙ sym same }
+
+-- with this pass
+pub stands_with : {region : SharedRegion} {k : ℕ} {l : Whole} {slot : Option SharedPass} (pass : SharedPass) → slot ≡ Some pass → PassStands region k l slot
+    → IsPassOf region pass × ((seat_of pass).actor ≡ k) × (view_of pass ≡ part k l)
+stands_with {region} {k} {l} pass is at =
+    subst (λ x. IsPassOf region x × ((seat_of x).actor ≡ k) × (view_of x ≡ part k l)) (same_Some at.pass pass (sym at.present ∙ is)) (at.of, at.actor, at.made)
+
+-- a list that has the steps of an actor's pass has its part
+pub stands_so : {region : SharedRegion} {k : ℕ} {told : Whole} {slot : Option SharedPass} (l : Whole) (pass : SharedPass) → slot ≡ Some pass
+    → PassStands region k told slot → StandsIn l pass → part k l ≡ part k told
+stands_so l pass is at stands = let its = stands_with pass is at in ap (λ (n : ℕ). part n l) (sym its.1) ∙ stands ∙ its.2
+
+module _ {region : SharedRegion} {s : Session} {slot : Option SharedPass} {workers : List Worker} {told : Whole} (at : ActorsStand region s slot workers told)
+  where
+    -- all their passes are of the region
+    pub thread_back : (i : ℕ) (d : Worker) → i < length workers → HasPass region (get_or workers i d).pass
+    thread_back i d lt = let here = at.threads i d lt in record { pass = here.pass; present = here.present; of = here.of }
+
+    of_region : (o : Option Keeper) → ((keeper : Keeper) → o ≡ Some keeper → IsPassOf region keeper.pass) → IsKeeperOf region o
+    -- With one and without one.
+    of_region a each = search arith
+
+    -- The keeper of each worker has a pass of the region where all actors stand.
+    pub keeper_back : (i : ℕ) (d : Worker) → i < length workers → IsKeeperOf region (get_or workers i d).keeper
+    keeper_back i d lt = of_region (get_or workers i d).keeper (λ keeper is. (stands_with keeper.pass refl (at.keepers i d keeper lt is)).0)
+
+    -- a list that has the steps of all passes has the part of each actor
+    module _ (l : Whole) (scavenger : (pass : SharedPass) → slot ≡ Some pass → StandsIn l pass)
+        (threads : (i : ℕ) (d : Worker) (pass : SharedPass) → i < length workers → (get_or workers i d).pass ≡ Some pass → StandsIn l pass)
+        (keepers : (i : ℕ) (d : Worker) (keeper : Keeper) → i < length workers → (get_or workers i d).keeper ≡ Some keeper → StandsIn l keeper.pass) where
+      stand_thread : (i : ℕ) → i < s.threads → part (suc i) l ≡ part (suc i) told
+      stand_thread i lt =
+          let below : i < length workers = omega (arith, lt, at.many) in
+          let d = some_item workers i below in
+          let here = at.threads i d below in
+          stands_so l here.pass here.present here (threads i d here.pass below here.present)
+
+      stand_keeper : (j : ℕ) → j < s.keepers → AreGuarded s.keepers workers → part (s.threads + suc j) l ≡ part (s.threads + suc j) told
+      stand_keeper j lt (inr none) = absurd (omega (arith, none.0, lt))
+      stand_keeper j lt (inl all) =
+          let below : j < length workers = omega (arith, lt, all.0) in
+          let w = some_item workers j below in
+          let has = all.1 j w below in
+          stands_so l has.0.pass refl (at.keepers j w has.0 below has.1) (keepers j w has.0 below has.1)
+
+      -- A list in which each pass stands has of all actors what is told of them.
+      pub all_stand : StandSo s l told
+      all_stand zero le = stands_so l at.scavenger.pass at.scavenger.present at.scavenger (scavenger at.scavenger.pass at.scavenger.present)
+      all_stand (suc i) le = elim (cases_lt i s.threads) [
+        | inl within ↦ stand_thread i within
+        | inr past ↦
+            let place : s.threads + suc (i - s.threads) ≡ suc i = omega (arith, past) in
+            subst (λ (k : ℕ). part k l ≡ part k told) place (stand_keeper (i - s.threads) (omega (arith, past, le)) at.guarded)
+      ]
+
+-- a team at rest stands so
+pub team_stands : {region : SharedRegion} {s : Session} {phases : List (List Op)} {team : Team} {p : Progress} → TeamAt region s phases team p
+    → ActorsStand region s team.scavenger.pass team.threads.items p.list
+team_stands {region} {s} {phases} {team} {p} at = record {
+  many = at.workers.many;
+  guarded = at.workers.guarded;
+  scavenger = let has = at.scavenger.has in let sits = at.scavenger.at.stands.sits in record { pass = has.pass; present = has.present; of = has.of; actor = sits.actor; made = sits.stood };
+  threads = λ i d lt. let here = (at.workers.threads i d lt).here in record { pass = here.has.pass; present = here.has.present; of = here.has.of; actor = here.rests.sits.actor; made = here.rests.sits.stood };
+  keepers = λ i d keeper lt is.
+      let rests = at.workers.kept i d lt in
+      let k = s.threads + suc i in
+      let sits = (subst (λ x. KeeperWaits s.profile k (own_acts (suc i) (all_ops phases)) (kept_by_worker x) no_more p) is rests.waits).1.sits in
+      record { pass = keeper.pass; present = refl; of = subst (IsKeeperOf region) is rests.of; actor = sits.actor; made = sits.stood };
+  nobody = at.nobody;
+}
+
+-- they are the first steps of each list of these actors that begins with it
+pub stand_first : {region : SharedRegion} {s : Session} {phases : List (List Op)} {team : Team} {p : Progress} → TeamAt region s phases team p
+    → (l whole : Whole) → StandSo s l p.list
+    → IsEarlier l whole → IsOfActors s whole → StandFirst p.list whole
+stand_first {region} {s} {phases} {team} {p} at l whole stands first of = record {
+  since = first.0;
+  so_far = l;
+  whole_is = first.1;
+  parts_are = λ k. elim (cases_lt (s.threads + s.keepers) k) [
+    | inl past ↦ none_first k first.0 l (ap (part k) (sym first.1) ∙ of k past) ∙ sym (at.nobody k past)
+    | inr within ↦ stands k within
+  ];
+}
 
 -- ---- parts of lists one behind the other
 -- fronts are the same where lists are, and what is behind them is as long
 cut_fronts : {A : Type 0} (a b c d : List A) → a ++ b ≡ c ++ d → length b ≡ length d → a ≡ c
 cut_fronts {A} a b c d e many =
-    let all = ap (λ (xs : List A). length xs) e in
+    let all = ap length e in
     let one = length-append a b in
     let two = length-append c d in
-    sym (take_at a b (length a) refl) ∙ ap (λ (xs : List A). take (length a) xs) e ∙ take_at c d (length a) (omega (arith, all, one, two, many))
+    sym (take_at a b (length a) refl) ∙ ap (take (length a)) e ∙ take_at c d (length a) (omega (arith, all, one, two, many))
 
 -- so the parts of fronts are, where those of the lists and of what is behind are
 front_same : (k : ℕ) (a b c d : Whole) → part k (a ++ b) ≡ part k (c ++ d) → part k b ≡ part k d → part k a ≡ part k c
-front_same k a b c d all behind = cut_fronts (part k a) (part k b) (part k c) (part k d) (sym (part_both k a b) ∙ all ∙ part_both k c d) (ap (λ (v : View). length v) behind)
+front_same k a b c d all behind = cut_fronts (part k a) (part k b) (part k c) (part k d) (sym (part_both k a b) ∙ all ∙ part_both k c d) (ap length behind)
 
 front_none : (k : ℕ) (a b : Whole) → part k (a ++ b) ≡ part k b → part k a ≡ []
 front_none k a b all = front_same k a b [] b all refl
@@ -34,9 +202,7 @@ front_none k a b all = front_same k a b [] b all refl
 -- a list in which nobody has a part is empty
 has_step : (t : Triple) (l : Whole) → part t.actor (t ∷ l) ≡ [] → ⊥
 has_step t l none =
-    let one = sym (ap (λ (b : Bool). if b then t.made ∷ part t.actor l else part t.actor l) (eq-eqb t.actor t.actor refl)) ∙ none in
-    let size = ap (λ (v : View). length v) one in
-    omega (arith, size)
+    search (arith, eq-eqb)
 
 nobody_nothing : (l : Whole) → ((k : ℕ) → part k l ≡ []) → l ≡ []
 nobody_nothing [] none = refl
@@ -45,19 +211,16 @@ nobody_nothing (t ∷ l) none = absurd (has_step t l (none t.actor))
 -- ---- all actors
 -- what stands of the actors stands of everybody, where nobody else has a part
 pub stand_all : (s : Session) (l told : Whole) → StandSo s l told → IsOfActors s told → IsOfActors s l → (k : ℕ) → part k l ≡ part k told
-stand_all s l told stand nobody of k = elim (cases_lt (s.threads + s.keepers) k) [
-  | inl past ↦ of k past ∙ sym (nobody k past)
-  | inr within ↦ stand k within
-]
+stand_all s l told stand nobody of k = search (arith, cases_lt)
 
 -- who has no part in a list has none in its first steps
 pub of_first : (s : Session) {before after : Whole} → IsEarlier before after → IsOfActors s after → IsOfActors s before
-of_first s {before} {after} earlier of k past = none_first k earlier.0 before (ap (λ (l : Whole). part k l) (sym earlier.1) ∙ of k past)
+of_first s {before} {after} earlier of k past = none_first k earlier.0 before (ap (part k) (sym earlier.1) ∙ of k past)
 
 -- a list that goes on from another one, and has the same part of everybody, is that one
 pub nothing_since : {before after : Whole} → IsEarlier before after → ((k : ℕ) → part k after ≡ part k before) → after ≡ before
 nothing_since {before} {after} earlier same =
-    let none = nobody_nothing earlier.0 (λ k. front_none k earlier.0 before (ap (λ (l : Whole). part k l) (sym earlier.1) ∙ same k)) in
+    let none = nobody_nothing earlier.0 (λ k. front_none k earlier.0 before (ap (part k) (sym earlier.1) ∙ same k)) in
     earlier.1 ∙ ap (λ (l : Whole). l ++ before) none
 
 -- ---- stages one after the other
@@ -65,8 +228,8 @@ pub went_none : (s : Session) {p : Progress} {l : Whole} → StandSo s l p.list 
 went_none s stand nobody = record { earlier = ([], refl); stand = stand; nobody = nobody; by_stages = λ of. (refl, refl) }
 
 -- Acts that went by stages, and then others that did, went by the stages of both.
-pub went_both : {s : Session} (xs ys : List Stage) {p q r : Progress} {a b c : Whole} → WentBy s xs p q a b → WentBy s ys q r b c → WentBy s (xs ++ ys) p r a c
-went_both {s} xs ys {p} {q} {r} {a} {b} {c} one two = record {
+pub went_both : {s : Session} {xs ys : List Stage} {p q r : Progress} {a b c : Whole} → WentBy s xs p q a b → WentBy s ys q r b c → WentBy s (xs ++ ys) p r a c
+went_both {s} {xs} {ys} {p} {q} {r} {a} {b} {c} one two = record {
   earlier = earlier_both one.earlier two.earlier;
   stand = two.stand;
   nobody = two.nobody;
@@ -76,7 +239,8 @@ went_both {s} xs ys {p} {q} {r} {a} {b} {c} one two = record {
 -- ---- one stage
 -- each actor is its own worker: its part is all that there is to sort
 sorted_alone : (since made : Whole) → ((k : ℕ) → part k since ≡ part k made) → AreSorted itself since made
-sorted_alone since made same w = steps_by_one (in_hands itself w) w since (λ j. refl) ∙ ap (λ (v : View). triples w v) (same w) ∙ sym (steps_by_one (in_hands itself w) w made (λ j. refl))
+sorted_alone since made same w =
+    steps_by_one (in_hands itself w) w since (λ j. refl) ∙ ap (triples w) (same w) ∙ sym (steps_by_one (in_hands itself w) w made (λ j. refl))
 
 -- Acts in order, behind which the ledger is settled, went by one stage of their own.
 pub went_alone : (s : Session) (acts : List Act) {p q : Progress} {before after : Whole} → Reaches s.profile acts p q → IsEarlier before after
@@ -89,14 +253,15 @@ went_alone s acts {p} {q} {before} {after} reaches earlier none nobody stood sta
   by_stages = λ of.
       let on = goes_on s.profile acts p q reaches in
       let sorted = sorted_alone earlier.0 on.0 (λ k. front_same k earlier.0 before on.0 p.list
-      (ap (λ (l : Whole). part k l) (sym earlier.1) ∙ stand_all s after q.list stand nobody of k ∙ ap (λ (l : Whole). part k l) on.1) (stand_all s before p.list stood none (of_first s earlier of) k)) in
+      (ap (part k) (sym earlier.1) ∙ stand_all s after q.list stand nobody of k ∙ ap (part k) on.1) (stand_all s before p.list stood none (of_first s earlier of) k)) in
       (record { next = q; reaches = reaches; made = on.0; told = on.1; since = earlier.0; sorted = sorted }, (refl, earlier.1));
 }
 
 -- .. a mark, at which nothing is done
 pub went_mark : (s : Session) (acts : List Act) {p q : Progress} {l : Whole} → Reaches s.profile acts p q → q.list ≡ p.list → IsOfActors s p.list
     → StandSo s l p.list → WentBy s (stage acts itself ∷ []) p q l l
-went_mark s acts {p} {q} {l} reaches same none stood = went_alone s acts reaches ([], refl) none (subst (IsOfActors s) (sym same) none) stood (subst (StandSo s l) (sym same) stood)
+went_mark s acts {p} {q} {l} reaches same none stood =
+    went_alone s acts reaches ([], refl) none (subst (IsOfActors s) (sym same) none) stood (subst (StandSo s l) (sym same) stood)
 
 -- Two lists of acts one by one are the stages of both, one after the other.
 pub one_by_one_both : (xs ys : List Act) → one_by_one (xs ++ ys) ≡ one_by_one xs ++ one_by_one ys
@@ -120,9 +285,7 @@ went_sorted s acts owner {p} {q} {before} {after} reaches earlier nobody stand s
 steps_by_but : (one other : ℕ → Bool) (l : Whole) → ((k : ℕ) → (one k ≡ other k) ⊎ (part k l ≡ [])) → steps_by one l ≡ steps_by other l
 steps_by_but one other [] alike = refl
 steps_by_but one other (t ∷ l) alike =
-    let again = steps_by_but one other l (λ k. elim (alike k) [ inl same ↦ inl same | inr none ↦ inr (none_first k (t ∷ []) l none) ]) in
-    let same : one t.actor ≡ other t.actor = elim (alike t.actor) [ inl same ↦ same | inr none ↦ absurd (has_step t l none) ] in
-    ap (λ (b : Bool). if b then t ∷ steps_by one l else steps_by one l) same ∙ ap (λ (m : Whole). if other t.actor then t ∷ m else m) again
+    let rest = steps_by_but one other l in grind (arith, rest, none_first, has_step)
 
 -- what these actors did is sorted: in the list of all it stands in front of `before`, and it is told of in front of `told`
 module _ (chosen : ℕ → Bool) (since before made told : Whole) (behind : (k : ℕ) → part k before ≡ part k told)
@@ -130,26 +293,27 @@ module _ (chosen : ℕ → Bool) (since before made told : Whole) (behind : (k :
   -- they did nothing
   pub sorted_still : ((k : ℕ) → chosen k ≡ true → part k (made ++ told) ≡ part k told) → steps_by chosen since ≡ steps_by chosen made
   sorted_still still =
-      no_steps_by chosen since (λ k its. front_none k since before (all k ∙ still k its ∙ sym (behind k)))
-      ∙ sym (no_steps_by chosen made (λ k its. front_none k made told (still k its)))
+      search (arith, no_steps_by, front_none)
 
   -- a bench, at which some of them sat and the others did nothing, saw in which order they did it
   module _ (sat : ℕ → Bool) (own seen : Whole) (keeps : KeepsOrder sat told own seen) (first : IsEarlier seen (since ++ before)) (within : Within sat chosen)
       (shared : steps_by chosen own ≡ steps_by chosen (made ++ told))
-      (parts : (k : ℕ) → chosen k ≡ true → part k own ≡ part k (made ++ told)) (others : (k : ℕ) → chosen k ≡ true → (sat k ≡ true) ⊎ (part k own ≡ part k told)) where
+      (parts : (k : ℕ) → chosen k ≡ true → part k own ≡ part k (made ++ told))
+      (others : (k : ℕ) → chosen k ≡ true → (sat k ≡ true) ⊎ (part k own ≡ part k told)) where
     -- each one's new steps are those that the bench saw
     new_parts : (k : ℕ) → sat k ≡ true → part k keeps.since ≡ part k keeps.made
-    new_parts k its = sym (part_of_chosen sat k keeps.since its) ∙ ap (λ (l : Whole). part k l) keeps.order ∙ part_of_chosen sat k keeps.made its
+    new_parts k its = sym (part_of_chosen sat k keeps.since its) ∙ ap (part k) keeps.order ∙ part_of_chosen sat k keeps.made its
 
     seen_parts : (k : ℕ) → sat k ≡ true → part k seen ≡ part k own
     seen_parts k its =
-        ap (λ (l : Whole). part k l) keeps.seen_is ∙ part_both k keeps.since keeps.before ∙ ap (λ (v : View). v ++ part k keeps.before) (new_parts k its)
-        ∙ ap (λ (v : View). part k keeps.made ++ v) (keeps.parts k its) ∙ sym (part_both k keeps.made told) ∙ ap (λ (l : Whole). part k l) (sym keeps.told_is)
+        search (arith, part_both, new_parts)
 
     -- nothing of them came later
     none_later : steps_by sat first.0 ≡ []
-    none_later = no_steps_by sat first.0 (λ k its. front_none k first.0 seen (ap (λ (l : Whole). part k l) (sym first.1) ∙ all k ∙ sym (parts k (within k its)) ∙ sym (seen_parts k its)))
+    none_later =
+        no_steps_by sat first.0 (λ k its. front_none k first.0 seen (ap (part k) (sym first.1) ∙ all k ∙ sym (parts k (within k its)) ∙ sym (seen_parts k its)))
 
+    -- The steps of those that sat are the same however the list is cut.
     lists : steps_by sat since ++ steps_by sat before ≡ steps_by sat keeps.since ++ steps_by sat keeps.before
     lists =
         cc (steps_by_both sat since before, steps_by_both sat first.0 seen, none_later, steps_by_both sat keeps.since keeps.before)
@@ -158,16 +322,13 @@ module _ (chosen : ℕ → Bool) (since before made told : Whole) (behind : (k :
     sat_sorted = cut_fronts _ _ _ _ lists (as_many_steps sat before keeps.before (λ k its. behind k ∙ sym (keeps.parts k its))) ∙ keeps.order
 
     made_same : steps_by chosen keeps.made ≡ steps_by chosen made
-    made_same = cut_fronts _ _ _ _ (sym (steps_by_both chosen keeps.made told) ∙ ap (λ (l : Whole). steps_by chosen l) (sym keeps.told_is) ∙ shared ∙ steps_by_both chosen made told) refl
+    made_same = cut_fronts _ _ _ _ (sym (steps_by_both chosen keeps.made told) ∙ ap (steps_by chosen) (sym keeps.told_is) ∙ shared ∙ steps_by_both chosen made told) refl
 
     -- chosen and sat differ in those alone that did nothing
     differ : (l : Whole) → ((k : ℕ) → part k own ≡ part k told → chosen k ≡ true → part k l ≡ []) → (k : ℕ) → (chosen k ≡ sat k) ⊎ (part k l ≡ [])
-    differ l none k = elim (cases_Bool (chosen k)) [
-      | inl on ↦ elim (others k on) [ inl its ↦ inl (on ∙ sym its) | inr still ↦ inr (none k still on) ]
-      | inr off ↦ elim (cases_Bool (sat k)) [ inl its ↦ absurd (true≢false (sym (within k its) ∙ off)) | inr out ↦ inl (off ∙ sym out) ]
-    ]
+    differ l none k = search (arith, cases_Bool, true≢false)
 
     -- The steps of a worker's actors stand in the list of all in the order in which they are told.
     pub sorted_seen : steps_by chosen since ≡ steps_by chosen made
     sorted_seen =
-        cc (steps_by_but chosen sat since (differ since (λ k still on. front_none k since before (all k ∙ sym (parts k on) ∙ still ∙ sym (behind k)))), sat_sorted, steps_by_but chosen sat keeps.made (differ keeps.made (λ k still on. front_none k keeps.made told (ap (λ (l : Whole). part k l) (sym keeps.told_is) ∙ still))), made_same)
+        cc (steps_by_but chosen sat since (differ since (λ k still on. front_none k since before (all k ∙ sym (parts k on) ∙ still ∙ sym (behind k)))), sat_sorted, steps_by_but chosen sat keeps.made (differ keeps.made (λ k still on. front_none k keeps.made told (ap (part k) (sym keeps.told_is) ∙ still))), made_same)

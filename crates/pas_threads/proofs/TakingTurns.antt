@@ -1,28 +1,101 @@
--- Workers in a row that take turns: threads read the epoch before a phase and are stopped at the close, one after the other; and what they said is gathered.
-use Rattle.std.proofs.Common.{◌≡◌, ◌≢◌, ℕ, ◌<◌, inl, inr, List, [], ◌∷◌, ◌++◌, length, set, get_or, refl, ap, sym, ◌∙◌, subst, arith, append_assoc, suc, ◌+◌}
-use Rattle.std.proofs.Common.{◌-◌, ◌≤◌, true, false, map, length-append, drop, drop_of_length-le, append-nil, get_or-set_other}
+-- Workers in a row that take turns: threads read the epoch before a phase and are stopped at the close, one after the other; what they said is gathered, and
+-- what a ledger heard of each, and of the benches that the hands of a phase left.
+use Rattle.std.proofs.Common.{arith, ◌≡◌, ℕ, ◌<◌, List, [], ◌++◌, length, get_or, sym, ◌∙◌, subst, ◌≢◌, inl, inr, ◌∷◌, set, refl, ap, append_assoc, suc, ◌+◌}
+use Rattle.std.proofs.Common.{◌-◌, ◌≤◌, true, false, map, length-append, drop, drop_of_length-le, append-nil, get_or-set_other, Option, true≢false, Bool}
+use Rattle.pas_report.specs.Rooms.{records_in, room_of, Records}
+use Rattle.pas_report.specs.declared.record.Record.{Record}
+use Rattle.pas_answers.specs.{Names.names_held, Answers.Progress, Ways.EachOf, Ways.records_by, Calls.owed_events, Fit.own_cost_of_act}
+use Rattle.pas_acts.specs.declared.names.NameBook.{NameBook}
+use Rattle.pas_threads.specs.{Taken.IsEmptied, Taken.HasTaken, Hands.standing_of_pass, Left.HasLeft}
+use Rattle.pas_threads.specs.Turns.{said_by, said_own, said_kept, HasSaid, IsGathered, IsKeptGathered, AreDistinct, Came, Pushed, Told, TookNoPart, Turn}
+use Rattle.pas_threads.specs.Turns.{TookTurns, owed_at, IsDue, Woke, WokeAll, Stopped}
+use Rattle.pas_threads.specs.declared.{scavenger.Scavenger.Scavenger, workers.Worker.Worker, phases.Team.Team}
 use Rattle.std.proofs.lemmas.{List.get_or_default, List.drop_more, Grind.get_or-set_at, Bool.cases_eq}
 use Rattle.pas_profile.specs.declared.profile.Profile.{Profile}
-use Rattle.pas_steps.specs.{Lists.Whole, Lists.part, Views.View, Desks.Standing}
-use Rattle.pas_report.specs.Rooms.{records_in, Records, room_of}
-use Rattle.pas_report.specs.declared.record.Record.{Record}
-use Rattle.pas_trace.specs.Acts.{Act, Wakes, Ends, numbers_from}
-use Rattle.pas_answers.specs.{Answers.Progress, Ways.EachOf, Ways.records_by, Calls.owed_events, Fit.own_cost_of_act}
+use Rattle.pas_steps.specs.{Lists.Whole, Lists.part, Desks.Standing}
+use Rattle.pas_trace.specs.Acts.{Act, Wakes, Ends, numbers_from, is_active}
 use Rattle.pas_answers.proofs.OwnRecords.{records_both, none_by, all_by, spoken_piece, spoken_both}
 use Rattle.pas_acts.specs.{Keepers.StandsStill, Works.Later, Works.Sits, NameBooks.requests_in, NameBooks.room_for, Awake.awake_in, AtDesks.here}
 use Rattle.pas_acts.specs.{AtDesks.ThreadActs}
 use Rattle.pas_acts.proofs.AtDesk.{leaves_rest, sits_for, rests_still}
-use Rattle.pas_shared.specs.declared.{region.SharedRegion.SharedRegion, pass.SharedPass.SharedPass}
+use Rattle.pas_shared.specs.declared.{region.SharedRegion.SharedRegion, pass.SharedPass.SharedPass, bench.Bench.Bench, ledger.Ledger.Ledger, rule.Entry.Entry}
+use Rattle.pas_shared.specs.declared.{rule.Row.Row}
 use Rattle.pas_answers.proofs.Reached.{reach_both}
-use Rattle.pas_threads.specs.Turns.{AreDistinct, Came, Pushed, Told, TookNoPart, Turn, TookTurns, owed_at, IsDue, Woke, WokeAll, Stopped, said_by}
-use Rattle.pas_threads.specs.declared.workers.Worker.{Worker}
 use Rattle.std.specs.List.{filter}
 use Rattle.pas_bits.specs.Masks.{is_set}
 use Rattle.pas_bits.specs.declared.mask.Mask4.{Mask4}
 use Rattle.pas_cache.specs.Caches.{Cached, cached, AtRest}
 use Rattle.pas_acts.proofs.ActsLeft.{acts_there, next_chosen, next_passed, none_left}
-use Rattle.pas_threads.specs.Hands.{standing_of_pass}
-use Rattle.pas_threads.specs.Sessions.{evenly, WorkerHas, WorkerRests, AreResting}
+use Rattle.pas_threads.specs.Sessions.{evenly, WorkerHas, WorkerRests, AreResting, HasPlaces}
+use Rattle.pas_shared.specs.Ruled.{IsEarlier, AreEarlier, first_look, bases_in}
+use Rattle.pas_threads.specs.Settling.{SawMore, HasHeard, HasBench, with_bench, IsButBench}
+use Rattle.pas_threads.specs.Performing.{Round, ThreadDone, ScavengerDone, HaveActed, HeardOrder, IsHeard}
+
+-- What these workers said, where each says so, came to the end of the records, and so each became another.
+pub record WereGathered (says : Worker → List Record) (Is : Worker → Worker → Type 0) (old new : List Worker) (out out' : Records) : Type 0 where
+  pub added : records_in out' ≡ records_in out ++ said_by says old
+  pub size : room_of out' ≡ room_of out
+  pub each : (i : ℕ) (d : Worker) → i < length old → Is (get_or old i d) (get_or new i d)
+  pub many : length new ≡ length old
+
+-- .. for their threads, and for their keepers
+abbrev pub OwnGathered : List Worker → List Worker → Records → Records → Type 0
+OwnGathered = WereGathered said_own IsGathered
+
+abbrev pub KeptGathered : List Worker → List Worker → Records → Records → Type 0
+KeptGathered = WereGathered said_kept IsKeptGathered
+
+-- What was gathered of these workers was gathered of those that they are.
+pub were_gathered : (says : Worker → List Record) (Is : Worker → Worker → Type 0) {given old : List Worker} (new : List Worker) (out out' : Records)
+    → given ≡ old → records_in out' ≡ records_in out ++ said_by says given → room_of out' ≡ room_of out
+    → ((i : ℕ) (d : Worker) → i < length given → Is (get_or given i d) (get_or new i d)) → length new ≡ length given
+    → WereGathered says Is old new out out'
+were_gathered says Is new out out' value added size each many =
+    subst (λ (ws : List Worker). WereGathered says Is ws new out out') value (record { added = added; size = size; each = each; many = many })
+
+-- the book took over what these workers asked for
+pub record WereTaken (old new : List Worker) (book book' : NameBook) : Type 0 where
+  pub taken : HasTaken book book' old
+  pub held : names_held book'.names ≡ names_held book.names
+  pub each : (i : ℕ) (d : Worker) → i < length old → IsEmptied (get_or old i d) (get_or new i d)
+  pub many : length new ≡ length old
+
+-- all that the worker said was gathered, and nothing else of it changed but what it asked for
+pub record IsCleared (old new : Worker) : Type 0 where
+  pub pass : new.pass ≡ old.pass
+  pub cache : new.cache ≡ old.cache
+  pub none : records_in new.out ≡ []
+  pub room : room_of new.out ≡ room_of old.out
+  pub keeper : HasSaid old.keeper new.keeper
+
+-- A worker of which both were gathered is cleared.
+pub cleared : {old mid new : Worker} → IsGathered old mid → IsKeptGathered mid new → IsCleared old new
+-- All of these are as the first left them, or as the second did.
+cleared {new = new} g h = search arith
+
+-- A cleared worker whose requests were taken over is cleared.
+pub cleared_then : {old mid new : Worker} → IsCleared old mid → IsEmptied mid new → IsCleared old new
+-- Taking requests over leaves all of these as they were.
+cleared_then {old} c e = search arith
+
+-- what the scavenger said was gathered, and it is otherwise as it was, with no thread lent to it
+pub record IsScavengerCleared (old new : Scavenger) : Type 0 where
+  pub pass : new.pass ≡ old.pass
+  pub outcomes : new.outcomes ≡ old.outcomes
+  pub none : new.lent.items ≡ []
+  pub empty : records_in new.out ≡ []
+  pub size : room_of new.out ≡ room_of old.out
+
+-- .. and so of those that they are then
+pub taken_as : {old new now : List Worker} {book book' : NameBook} → now ≡ new → WereTaken old new book book' → WereTaken old now book book'
+taken_as {old} {book = book} {book'} is t = subst (λ (ws : List Worker). WereTaken old ws book book') (sym is) t
+
+-- What was taken over from these workers was taken over from those that they are.
+pub were_taken : {given old new : List Worker} {book book' : NameBook} → given ≡ old → HasTaken book book' given
+    → names_held book'.names ≡ names_held book.names
+    → ((i : ℕ) (d : Worker) → i < length given → IsEmptied (get_or given i d) (get_or new i d)) → length new ≡ length given → WereTaken old new book book'
+were_taken {new = new} {book} {book'} value taken held each many =
+    subst (λ (ws : List Worker). WereTaken ws new book book') value (record { taken = taken; held = held; each = each; many = many })
 
 -- ---- acts one after the other
 abbrev pub came_none : (f : Profile) (p : Progress) → Came f [] p
@@ -38,7 +111,7 @@ came_both {f} {xs} {ys} {p} one two = record {
 
 -- An actor that said nothing of it leaves its records as they were.
 pub pushed_none : {k : ℕ} {said : List Record} {out : Records} → records_by k said ≡ [] → Pushed k said out out
-pushed_none {k} {said} {out} none = record { added = sym (append-nil (records_in out)) ∙ ap (λ (rs : List Record). records_in out ++ rs) (sym none); room = refl }
+pushed_none {k} {said} {out} none = record { added = sym (append-nil (records_in out)) ∙ ap (λ rs. records_in out ++ rs) (sym none); room = refl }
 
 -- What an actor said of two parts, one after the other, came to the end of its records.
 pub pushed_both : {k : ℕ} {xs ys : List Record} {a b c : Records} → Pushed k xs a b → Pushed k ys b c → Pushed k (xs ++ ys) a c
@@ -58,7 +131,8 @@ told_both one two = record { out = pushed_both one.out two.out; requests = two.r
 
 -- An actor that took part in neither of two parts took no part in both.
 pub no_part_both : {k : ℕ} {xs ys : List Record} {p q r : Progress} → TookNoPart k xs p q → TookNoPart k ys q r → TookNoPart k (xs ++ ys) p r
-no_part_both {k} {xs} {ys} one two = record { part_is = two.part_is ∙ one.part_is; silent = records_both k xs ys ∙ ap (λ (rs : List Record). rs ++ records_by k ys) one.silent ∙ two.silent }
+no_part_both {k} {xs} {ys} one two =
+    record { part_is = two.part_is ∙ one.part_is; silent = records_both k xs ys ∙ ap (λ rs. rs ++ records_by k ys) one.silent ∙ two.silent }
 
 -- ---- which acts are left of all
 -- the first ones were done so, and these are left
@@ -90,10 +164,7 @@ at_last {Done = Done} none so = subst Done (sym (append-nil so.acts) ∙ ap (λ 
 -- ---- one of the row becomes another
 pub set_each : {A : Type 0} (Is : ℕ → A → Type 0) (now : List A) (i : ℕ) (w e : A) (j : ℕ) → i < length now → Is i w → (j ≢ i → Is j (get_or now j e))
     → Is j (get_or (set now i w) j e)
-set_each {A} Is now i w e j lt this others = elim (cases_eq j i) [
-  | inl same ↦ subst (λ (x : A). Is j x) (sym (get_or-set_at now i j w e same lt)) (subst (λ (m : ℕ). Is m w) (sym same) this)
-  | inr other ↦ subst (λ (x : A). Is j x) (sym (get_or-set_other now i j w e other)) (others other)
-]
+set_each {A} Is now i w e j lt this others = search (arith, cases_eq, get_or-set_at, get_or-set_other)
 
 -- ---- a turn
 -- who stands does so at each progress at which it has the same in hand
@@ -114,7 +185,7 @@ by_scavenger k mine told one ne = records_both 0 mine told ∙ ap (λ (xs : List
 
 -- What one thread and the scavenger say has nothing of another actor.
 pub by_other : (j k : ℕ) (mine told : List Record) → EachOf k mine → EachOf 0 told → k ≢ j → 0 ≢ j → records_by j (mine ++ told) ≡ []
-by_other j k mine told one two ne zero = records_both j mine told ∙ ap (λ (xs : List Record). xs ++ records_by j told) (none_by j k mine one ne) ∙ none_by j 0 told two zero
+by_other j k mine told one two ne zero = records_both j mine told ∙ ap (λ xs. xs ++ records_by j told) (none_by j k mine one ne) ∙ none_by j 0 told two zero
 
 -- the worker at this place acted, and the others stand as they did
 abbrev pub acts_in_turn : {f : Profile} {number : ℕ → ℕ} {Stands : ℕ → Worker → Progress → Type 0} {acts : List Act} {act : Act} {told : List Record}
@@ -131,7 +202,7 @@ acts_in_turn {f} {number} {Stands} {act = act} {told} {old} {now} stays apart th
     let place : i < length now = omega (arith, lt, many) in
     let others : (j : ℕ) → 0 ≢ j → k ≢ j → records_by j (x.own ++ told) ≡ [] = λ j some ne. by_other j k x.own told x.each theirs ne some in
     let mine : Told k (x.own ++ told) (get_or now i d) w = record {
-      out = record { added = x.pushed ∙ ap (λ (rs : List Record). records_in (get_or now i d).out ++ rs) (sym (by_own k x.own told x.each theirs (apart.threads i lt))); room = x.room };
+      out = record { added = x.pushed ∙ ap (λ rs. records_in (get_or now i d).out ++ rs) (sym (by_own k x.own told x.each theirs (apart.threads i lt))); room = x.room };
       requests = requests;
       keeper = keeper;
     } in
@@ -144,7 +215,7 @@ acts_in_turn {f} {number} {Stands} {act = act} {told} {old} {now} stays apart th
           (λ ne. told_both (so.told j e less) (told_none (others (number j) (apart.threads j less) (apart.apart i j lt less (λ is. ne (sym is))))));
       leaves = record {
         parts = λ j other. leaves.parts j (λ (same : j ≡ k). other i lt (sym same)) ∙ so.leaves.parts j other;
-        silent = λ j some other. records_both j so.came.said (x.own ++ told) ∙ ap (λ (rs : List Record). rs ++ records_by j (x.own ++ told)) (so.leaves.silent j some other) ∙ others j some (other i lt);
+        silent = λ j some other. records_both j so.came.said (x.own ++ told) ∙ ap (λ rs. rs ++ records_by j (x.own ++ told)) (so.leaves.silent j some other) ∙ others j some (other i lt);
         names = leaves.names ∙ so.leaves.names;
         books = x.books ∙ so.leaves.books;
         epoch = leaves.epoch ∙ so.leaves.epoch;
@@ -167,13 +238,14 @@ pub rests_clear : {region : SharedRegion} {f : Profile} {k n : ℕ} {later : Lat
     → owed_at f k p + n ≤ room_of new.out → requests_in new.requests ≡ [] → n ≤ room_for new.requests → WorkerRests region f k new n p
 rests_clear {region} {f} {k} {n} {later} {w} {new} {p} at pass cache none events spare asked requests =
     let same : cached w.cache ≡ cached new.cache = ap cached (sym cache) in
-    let size = ap (λ (rs : List Record). length rs) none in
+    let size = ap length none in
     let owed = ap (λ (c : Cached). owed_events f c (part k p.list)) (at.rests.cache ∙ same) in
     record {
       here = record {
         has = record { pass = at.has.pass; present = pass ∙ at.has.present; of = at.has.of };
         rests = record {
-          sits = subst (λ (c : Cached). Sits f k (AtRest f c) (standing_of_pass at.has.pass) p.list (owed_events f c (part k p.list) + n)) same (sits_for at.rests.sits (omega (arith, events)));
+          sits = subst (λ c. Sits f k (AtRest f c) (standing_of_pass at.has.pass) p.list (owed_events f c (part k p.list) + n)) same
+              (sits_for at.rests.sits (omega (arith, events)));
           cache = at.rests.cache ∙ same;
           spare = omega (arith, size, owed, spare);
         };
@@ -185,7 +257,7 @@ rests_clear {region} {f} {k} {n} {later} {w} {new} {p} at pass cache none events
 
 -- A thread with the same part of the list and the same cache owes the same.
 pub same_owed : (f : Profile) (p q : Progress) (k : ℕ) → part k q.list ≡ part k p.list → q.caches k ≡ p.caches k → owed_at f k q ≡ owed_at f k p
-same_owed f p q k parts caches = ap (λ (v : View). owed_events f (q.caches k) v) parts ∙ ap (λ (c : Cached). owed_events f c (part k p.list)) caches
+same_owed f p q k parts caches = ap (owed_events f (q.caches k)) parts ∙ ap (λ (c : Cached). owed_events f c (part k p.list)) caches
 
 -- A thread's worker that takes no part in what others do is due as it was.
 pub due_stays : {region : SharedRegion} {f : Profile} {later : ℕ → ℕ} {p : Progress} → Stays suc (IsDue region f later p)
@@ -201,7 +273,7 @@ threads_distinct places = record { threads = λ i lt same. omega (arith, same); 
 -- before the first turn
 pub none_took : {region : SharedRegion} {f : Profile} (old : List Worker) {later : ℕ → ℕ} {p : Progress} → AreResting region f old later p
     → (i : ℕ) (d : Worker) → i < length old → IsDue region f later p i (get_or old i d) p
-none_took old at i d lt = let none = ap (λ (rs : List Record). length rs) (at i d lt).said in record { here = (at i d lt).here; paid = omega (arith, none) }
+none_took old at i d lt = let none = ap length (at i d lt).said in record { here = (at i d lt).here; paid = omega (arith, none) }
 
 -- the next worker takes its turn, by an act that costs it nothing
 abbrev turn_taken : {region : SharedRegion} {f : Profile} {acts : List Act} {act : Act} {old now : List Worker} {later : ℕ → ℕ} {p : Progress} (i : ℕ)
@@ -213,12 +285,14 @@ turn_taken {f = f} {old = old} {now} i d w free lt many so t =
     let k = suc i in
     let x = t.did.does in
     let was = so.stand i d lt in
-    let longer = ap (λ (rs : List Record). length rs) x.pushed ∙ length-append (records_in (get_or now i d).out) x.own in
-    let then : owed_at f k x.reached ≡ owed_events f (cached w.cache) (part k x.reached.list) = ap (λ (c : Cached). owed_events f c (part k x.reached.list)) x.stands.cache in
-    let before : owed_at f k so.came.reached ≡ owed_events f (cached (get_or now i d).cache) (part k so.came.reached.list) = ap (λ (c : Cached). owed_events f c (part k so.came.reached.list)) was.here.rests.cache in
+    let longer = ap length x.pushed ∙ length-append (records_in (get_or now i d).out) x.own in
+    let then : owed_at f k x.reached ≡ owed_events f (cached w.cache) (part k x.reached.list) = ap
+    (λ c. owed_events f c (part k x.reached.list)) x.stands.cache in
+    let before : owed_at f k so.came.reached ≡ owed_events f (cached (get_or now i d).cache) (part k so.came.reached.list) = ap
+    (λ c. owed_events f c (part k so.came.reached.list)) was.here.rests.cache in
     let paid = x.paid in
-    let had = was.paid in
-    acts_in_turn due_stays (threads_distinct (length old)) tt i d w lt many so x t.requests t.keeper (record { here = record { has = t.did.after; rests = x.stands }; paid = omega (arith, longer, then, before, paid, had, free) })
+    acts_in_turn due_stays (threads_distinct (length old)) tt i d w lt many so x t.requests t.keeper
+    (record { here = record { has = t.did.after; rests = x.stands }; paid = omega (arith, longer, then, before, paid, was.paid, free) })
 
 -- ---- before a phase
 -- those of the mask before this place read the epoch
@@ -231,12 +305,13 @@ pub wakes_begin : (awake : Mask4) {region : SharedRegion} {f : Profile} {old : L
     → WokeSoFar region f awake 0 old old later p
 wakes_begin awake {old = old} at = at_first (record { turns = no_turn (none_took old at); silent = refl })
 
+-- One more worker woke.
 wakes : {region : SharedRegion} {f : Profile} {acts : List Act} {old now : List Worker} {later : ℕ → ℕ} {p : Progress} (i : ℕ) (d w : Worker)
     (so : Woke region f acts old now later p)
     → i < length old → length now ≡ length old
     → (t : Turn region f (suc i) (Wakes (suc i)) [] (get_or now i d) w (evenly (later (suc i))) so.turns.came.reached) → t.did.does.own ≡ []
     → Woke region f (acts ++ (Wakes (suc i) ∷ [])) old (set now i w) later p
-wakes i d w so lt many t none = record { turns = turn_taken i d w refl lt many so.turns t; silent = ap (λ (rs : List Record). so.turns.came.said ++ (rs ++ [])) none ∙ append-nil so.turns.came.said ∙ so.silent }
+wakes i d w so lt many t none = record { turns = turn_taken i d w refl lt many so.turns t; silent = ap (λ rs. so.turns.came.said ++ (rs ++ [])) none ∙ append-nil so.turns.came.said ∙ so.silent }
 
 -- After one more thread of the mask read the epoch, one more did.
 pub wakes_go_on : (awake : Mask4) {region : SharedRegion} {f : Profile} {old now : List Worker} {later : ℕ → ℕ} {p : Progress} (i : ℕ) (d w : Worker)
@@ -245,7 +320,7 @@ pub wakes_go_on : (awake : Mask4) {region : SharedRegion} {f : Profile} {old now
     → WokeSoFar region f awake (i + 1) old (set now i w) later p
 wakes_go_on awake {region} {f} {old} {now} {later} {p} i d w on so lt many t none =
     goes_on (Wakes (i + 1) ∷ []) (next_chosen Wakes (is_set awake) i (length old) [] lt on) so
-    (subst (λ (m : ℕ). Woke region f (so.acts ++ (Wakes m ∷ [])) old (set now i w) later p) (let is : suc i ≡ i + 1 = omega arith in is) (wakes i d w so.done lt many t none))
+    (subst (λ m. Woke region f (so.acts ++ (Wakes m ∷ [])) old (set now i w) later p) (let is : suc i ≡ i + 1 = omega arith in is) (wakes i d w so.done lt many t none))
 
 -- A thread that isn't in the mask is passed over.
 pub wakes_pass : (awake : Mask4) {region : SharedRegion} {f : Profile} {old now : List Worker} {later : ℕ → ℕ} {p : Progress} (i : ℕ)
@@ -258,7 +333,8 @@ pub wakes_end : (awake : Mask4) {region : SharedRegion} {f : Profile} {old now :
 wakes_end awake {region} {f} {old} {now} {later} {p} i le so =
     let n = length old in
     let all : acts_there Wakes (is_set awake) 0 n [] ≡ map Wakes (awake_in awake n) =
-    append-nil (map Wakes (filter (is_set awake) (numbers_from 1 (n - 0)))) ∙ ap (λ (m : ℕ). map Wakes (filter (is_set awake) (numbers_from 1 m))) (let whole : n - 0 ≡ n = omega arith in whole)
+    append-nil (map Wakes (filter (is_set awake) (numbers_from 1 (n - 0))))
+    ∙ ap (λ m. map Wakes (filter (is_set awake) (numbers_from 1 m))) (let whole : n - 0 ≡ n = omega arith in whole)
     in
     subst (λ (acts : List Act). Woke region f acts old now later p) all (at_last (none_left Wakes (is_set awake) i n [] le) so)
 
@@ -272,7 +348,8 @@ woke_rest {old = old} {now} many at woke i d lt =
     let size = ap room_for told.requests in
     record {
       here = (woke.turns.stand i d less).here;
-      said = told.out.added ∙ ap (λ (rs : List Record). records_in (get_or old i d).out ++ records_by (suc i) rs) woke.silent ∙ append-nil (records_in (get_or old i d).out) ∙ was.said;
+      said = told.out.added ∙ ap (λ rs. records_in (get_or old i d).out ++ records_by (suc i) rs) woke.silent ∙ append-nil (records_in (get_or old i d).out)
+          ∙ was.said;
       asked = ap requests_in told.requests ∙ was.asked;
       requests = omega (arith, was.requests, size);
     }
@@ -296,7 +373,8 @@ ends {now = now} i d w so lt many t none =
     record {
       turns = turn_taken i d w refl lt many so.turns t;
       spoken = spoken_both so.turns.came.said (x.own ++ []) so.spoken (spoken_both x.own [] (spoken_piece (suc i) x.own x.each) tt);
-      none = records_both 0 so.turns.came.said (x.own ++ []) ∙ ap (λ (rs : List Record). rs ++ records_by 0 (x.own ++ [])) so.none ∙ by_scavenger (suc i) x.own [] x.each (λ (is : 0 ≡ suc i). omega (arith, is));
+      none = records_both 0 so.turns.came.said (x.own ++ []) ∙ ap (λ rs. rs ++ records_by 0 (x.own ++ [])) so.none
+          ∙ by_scavenger (suc i) x.own [] x.each (λ (is : 0 ≡ suc i). omega (arith, is));
       empty = λ j e less. set_each (λ (m : ℕ) (y : Worker). (cached y.cache).locals ≡ []) now i w e j (omega (arith, lt, many)) none (λ ne. so.empty j e (omega (arith, less, ne)));
     }
 
@@ -316,8 +394,7 @@ module _ (says : Worker → List Record) (Is : Worker → Worker → Type 0) whe
   next_said : (i : ℕ) (old now : List Worker) (before said : List Record) (d : Worker) → i < length old → AreGathered says Is i old now before said
       → said ++ (says (get_or now i d) ++ said_by says (drop (i + 1) old)) ≡ before ++ said_by says old
   next_said i old now before said d lt so =
-      ap (λ (w : Worker). said ++ (says w ++ said_by says (drop (i + 1) old))) (so.left i d (omega arith))
-      ∙ ap (λ (ws : List Worker). said ++ said_by says ws) (sym (drop_more old i d lt)) ∙ so.said_are
+      search (arith, drop_more)
 
   -- After one more worker what it said stands behind the records.
   pub gather_goes_on : {i : ℕ} {old now : List Worker} {before said said' : List Record} (d w : Worker) → i < length old → length now ≡ length old
@@ -336,7 +413,7 @@ module _ (says : Worker → List Record) (Is : Worker → Worker → Type 0) whe
   next_fits i old now before said d lt so fits =
       let mine = says (get_or now i d) in
       let rest = said_by says (drop (i + 1) old) in
-      let all = ap (λ (rs : List Record). length rs) (next_said i old now before said d lt so) in
+      let all = ap length (next_said i old now before said d lt so) in
       let one = length-append said (mine ++ rest) in
       let two = length-append mine rest in
       let three = length-append before (said_by says old) in
@@ -347,3 +424,120 @@ module _ (says : Worker → List Record) (Is : Worker → Worker → Type 0) whe
       → said ≡ before ++ said_by says old
   gather_ends {i} {old} {now} {before} {said} le so =
       sym (append-nil said) ∙ ap (λ (ws : List Worker). said ++ said_by says ws) (sym (drop_of_length-le old le)) ∙ so.said_are
+
+-- what was seen before, and what came to it
+pub looks_apart : (es ds : List (List Entry)) (l : Whole) → AreEarlier (es ++ ds) l → AreEarlier es l × AreEarlier ds l
+looks_apart [] ds l all = (tt, all)
+looks_apart (e ∷ es) ds l all = let rest = looks_apart es ds l all.1 in ((all.0, rest.0), rest.1)
+
+-- so what stands in a ledger are the first steps of such a list
+pub first_of : (looks : List (List Entry)) (l : Whole) → AreEarlier looks l → IsEarlier (first_look looks) l
+first_of [] l all = (l, sym (append-nil l))
+first_of (e ∷ looks) l all = all.0
+
+-- the workers of the mask before this place are heard, and no bench of a later one is gone
+pub record HeardSoFar (awake : Mask4) (i : ℕ) (old now : List Worker) (first ledger : Ledger) : Type 0 where
+  pub saw : SawMore first ledger
+  pub heard : (j : ℕ) (d : Worker) → j < i → j < length old → is_set awake (suc j) ≡ true → HasHeard ledger (get_or old j d).bench
+  pub same : (j : ℕ) (d : Worker) → j < length old → IsButBench (get_or old j d) (get_or now j d)
+  pub left : (j : ℕ) (d : Worker) → i ≤ j → get_or now j d ≡ get_or old j d
+
+-- Before any bench the ledger heard of none.
+pub hears_first : (awake : Mask4) (old : List Worker) (ledger : Ledger) → HeardSoFar awake 0 old old ledger ledger
+hears_first awake old ledger = record { saw = λ l first. first; heard = λ j d less. absurd (omega (arith, less)); same = λ j d lt. refl; left = λ j d le. refl }
+
+-- .. and of the next one, too
+pub hears_next : {awake : Mask4} {i : ℕ} {old now : List Worker} {first ledger ledger' : Ledger} (d : Worker) (gone : Option Bench) → i < length old
+    → length now ≡ length old → HeardSoFar awake i old now first ledger → SawMore ledger ledger' → HasHeard ledger' (get_or now i d).bench
+    → HeardSoFar awake (i + 1) old (set now i (with_bench (get_or now i d) gone)) first ledger'
+hears_next {awake} {i} {old} {now} {first} {ledger} {ledger'} d gone lt many so saw heard = record {
+  saw = λ l begins. so.saw l (saw l begins);
+  heard = λ j e less within on. elim (cases_eq j i) [
+    | inl same ↦
+        subst (λ (m : ℕ). HasHeard ledger' (get_or old m e).bench) (sym same)
+        (subst (λ (w : Worker). HasHeard ledger' w.bench) (so.left i d (omega arith) ∙ get_or_default old i d e lt) heard)
+    | inr other ↦ λ bench is l begins. so.heard j e (omega (arith, less, other)) within on bench is l (saw l begins)
+  ];
+  same = λ j e less. set_each (λ (m : ℕ) (w : Worker). IsButBench (get_or old m e) w) now i (with_bench (get_or now i d) gone) e j (omega (arith, lt, many))
+      (ap (λ (w : Worker). with_bench w gone) (so.left i d (omega arith) ∙ get_or_default old i d e lt)) (λ ne. so.same j e less);
+  left = λ j e le. let ne : j ≢ i = λ (is : j ≡ i). omega (arith, is, le) in get_or-set_other now i j (with_bench (get_or now i d) gone) e ne ∙ so.left j e (omega (arith, le));
+}
+
+-- .. where that one is none of the mask
+pub hears_pass : {awake : Mask4} {i : ℕ} {old now : List Worker} {first ledger : Ledger} → is_set awake (i + 1) ≡ false
+    → HeardSoFar awake i old now first ledger → HeardSoFar awake (i + 1) old now first ledger
+hears_pass {awake} {i} {old} off so = search (arith, true≢false)
+
+-- the next one has its bench still
+pub bench_next : {region : SharedRegion} {awake : Mask4} {i : ℕ} {old now : List Worker} {first ledger : Ledger} (d : Worker) → i < length old
+    → HeardSoFar awake i old now first ledger → is_set awake (i + 1) ≡ true
+    → ((j : ℕ) (e : Worker) → j < length old → is_set awake (suc j) ≡ true → HasBench region (get_or old j e).bench) → HasBench region (get_or now i d).bench
+bench_next {region} {awake} {i} d lt so on has =
+    subst (λ (w : Worker). HasBench region w.bench) (sym (so.left i d (omega arith)))
+    (has i d lt (ap (is_set awake) (let is : suc i ≡ i + 1 = omega arith in is) ∙ on))
+
+-- ---- the ledger heard of the benches that the hands of a phase left
+-- A bench was left in its slot, of the same region.
+pub bench_left : {region : SharedRegion} {slot : Option Bench} {chosen : ℕ → Bool} {told told' : Whole} → HasLeft region slot chosen told told'
+    → HasBench region slot
+bench_left left = record { bench = left.bench; present = left.present; of = left.of }
+
+-- .. so it heard the order in which its actors made their steps
+heard_order : {region : SharedRegion} {ledger : Ledger} {slot : Option Bench} {chosen : ℕ → Bool} {told told' : Whole} → HasLeft region slot chosen told told'
+    → HasHeard ledger slot → HeardOrder ledger chosen told told'
+heard_order left heard = record {
+  base = left.base;
+  order = left.order;
+  first = λ l begins. (subst (λ (rs : List Row). AreEarlier (bases_in rs) l) left.rows (heard left.bench left.present l begins)).0;
+}
+
+-- A ledger that saw more has heard of each bench of which it heard before.
+pub heard_still : (old new : Ledger) {slot : Option Bench} → SawMore old new → HasHeard old slot → HasHeard new slot
+heard_still old new saw heard bench is l begins = heard bench is l (saw l begins)
+
+-- nothing that a thread did is about its bench
+thread_but : {region : SharedRegion} {r : Round} {k : ℕ} {old new new' : Worker} {said : List Record} {q : Progress} → IsButBench new new'
+    → ThreadDone region r k old new said q → ThreadDone region r k old new' said q
+thread_but {region} {r} {k} {old} {new} {new'} {said} {q} same done =
+    subst (λ (w : Worker). ThreadDone region r k old w said q) (sym same) (record {
+      stands = record { has = done.stands.has; rests = done.stands.rests };
+      of = done.of;
+      waits = done.waits;
+      told = done.told;
+      kept_told = done.kept_told;
+      still = done.still;
+      paid = done.paid;
+      noted = done.noted;
+      room_noted = done.room_noted;
+      hands_over = λ none names among. let over = done.hands_over none names among in record { noted = over.noted; says = over.says };
+    })
+
+-- the scavenger with this in place of its bench
+abbrev pub scavenger_with : Scavenger → Option Bench → Scavenger
+scavenger_with v bench = record { pass = v.pass; outcomes = v.outcomes; out = v.out; lent = v.lent; bench = bench }
+
+-- Once the ledger heard of each bench that was left, all operations of the phase are done in an order that it knows.
+pub is_heard : {region : SharedRegion} {ledger : Ledger} {r : Round} {old new : Team} (new' : Team) (freed : Option Bench) (acted : HaveActed region r old new)
+    → ((i : ℕ) (d : Worker) → i < length new.threads.items → IsButBench (get_or new.threads.items i d) (get_or new'.threads.items i d))
+    → length new'.threads.items ≡ length new.threads.items → new'.scavenger ≡ scavenger_with new.scavenger freed → new'.book ≡ new.book
+    → HasPlaces r.threads new'
+    → ((i : ℕ) (d : Worker) → i < length new.threads.items → is_active r.ops (suc i) ≡ true → HasHeard ledger (get_or new.threads.items i d).bench)
+    → (is_active r.ops 0 ≡ true → HasHeard ledger new.scavenger.bench) → IsHeard region ledger r old new'
+is_heard {region} {ledger} {r} {old} {new} new' freed acted same many scavenger book places threads own = record {
+  done = record {
+    pieces = λ w.
+        let p = (acted.pieces w).piece in
+        record {
+          own = p.own;
+          threads = λ i d lt whose. thread_but (same i d (omega (arith, lt, acted.many))) (p.threads i d lt whose);
+          scavenger = λ is. subst (λ (v : Scavenger). ScavengerDone region r old.scavenger v p.own.said p.own.reached) (sym scavenger) (p.scavenger is);
+          still = p.still;
+        };
+    many = many ∙ acted.many;
+    none = ap (λ (v : Scavenger). v.lent.items) scavenger ∙ acted.none;
+    book = book ∙ acted.book;
+    places = places;
+  };
+  threads = λ i d lt on. heard_order ((acted.pieces (suc i)).left i d refl lt on) (threads i d (omega (arith, lt, acted.many)) on);
+  scavenger = λ on. heard_order ((acted.pieces 0).crew_left refl on) (own on);
+}

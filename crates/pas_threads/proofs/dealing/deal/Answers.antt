@@ -1,17 +1,17 @@
-use Rattle.std.proofs.Common.{◌≡◌, ◌∙◌, ◌+◌, ◌++◌, [], ◌∷◌, ap, sym, refl, arith, map, reverse, List, length, length-append, drop_of_length-le}
+use Rattle.std.proofs.Common.{◌≡◌, ◌∙◌, ◌+◌, ◌++◌, [], ◌∷◌, ap, sym, refl, arith, map, reverse, length, length-append, drop_of_length-le}
 use Rattle.std.proofs.lemmas.{Bool.not_from_true, Bool.not_from_false, List.map_push, List.reverse-reverse}
 use Rattle.pas_threads.specs.Dealing.{picked, is_in, is_out}
-use Rattle.pas_threads.specs.declared.{workers.Worker.Worker, hands.Hand.Hand, hands.Hand.TheVariants.Thread}
+use Rattle.pas_threads.specs.declared.hands.Hand.TheVariants.{Thread}
 use Rattle.pas_threads.proofs.Dealt.{pile_grows, pile_stays, pile_whole, last_left}
 use Rattle.pas_threads.proofs.dealing.deal.Goals as goal
 
 pub loop-worker-init : goal.loop-worker-init
 loop-worker-init c =
-    let none = ap (λ (hs : List Hand). length hs) c.requires.hands.0 in
-    let nobody = ap (λ (ws : List Worker). length ws) c.requires.lent.0 in
-    let all = ap (λ (ws : List Worker). reverse ws) c.reverse.ensures.items ∙ reverse-reverse c.args.threads.now.items in
+    let none = ap length c.requires.hands.0 in
+    let nobody = ap length c.requires.lent.0 in
+    let all = ap reverse c.reverse.ensures.items ∙ reverse-reverse c.args.threads.now.items in
     record {
-      inside = ([], c.requires.hands.0, ap (λ (ws : List Worker). picked (is_in c.args.awake) 1 ws) all);
+      inside = ([], c.requires.hands.0, ap (picked (is_in c.args.awake) 1) all);
       outside = simp (c.requires.lent.0, all);
       count = omega (arith, c.reverse.ensures.len);
       in_hands = omega (arith, none);
@@ -27,17 +27,19 @@ loop-worker-preserved-then-get c =
     let count = i.count in
     let in_hands = i.in_hands in
     let in_lent = i.in_lent in
-    let one = ap (λ (hs : List Hand). length hs) c.push_reserved.ensures.items ∙ length-append c.loop-worker.hands.items _ in
+    let one = ap length c.push_reserved.ensures.items ∙ length-append c.loop-worker.hands.items _ in
     let w = c.in-Some.worker in
     let on = sym c.get.ensures ∙ c.if-get.true in
     let last = last_left c.loop-worker.threads.items c.pop.new.self.items w c.in-Some.ensures.items in
     record {
       inside = (
         i.inside.0 ++ w ∷ [],
-        c.push_reserved.ensures.items ∙ ap (λ (hs : List Hand). hs ++ Thread w ∷ []) i.inside.1 ∙ sym (map_push Thread i.inside.0 w),
-        pile_grows (is_in c.args.awake) (c.loop-worker.actor + 1) i.inside.0 (reverse c.loop-worker.threads.items) i.inside.2 w (reverse c.pop.new.self.items) on last,
+        c.push_reserved.ensures.items ∙ ap (λ hs. hs ++ Thread w ∷ []) i.inside.1 ∙ sym (map_push Thread i.inside.0 w),
+        pile_grows (is_in c.args.awake) (c.loop-worker.actor + 1) i.inside.0 (reverse c.loop-worker.threads.items) i.inside.2 w
+            (reverse c.pop.new.self.items) on last,
       );
-      outside = pile_stays (is_out c.args.awake) (c.loop-worker.actor + 1) c.loop-worker.lent.items (reverse c.loop-worker.threads.items) i.outside w (reverse c.pop.new.self.items) (not_from_true _ on) last;
+      outside = pile_stays (is_out c.args.awake) (c.loop-worker.actor + 1) c.loop-worker.lent.items (reverse c.loop-worker.threads.items) i.outside w
+          (reverse c.pop.new.self.items) (not_from_true _ on) last;
       count = omega (arith, count, c.in-Some.ensures.len);
       in_hands = omega (arith, in_hands, one);
       in_lent = omega (arith, in_lent);
@@ -52,7 +54,7 @@ loop-worker-preserved c =
     let count = i.count in
     let in_hands = i.in_hands in
     let in_lent = i.in_lent in
-    let one = ap (λ (ws : List Worker). length ws) c.push_reserved-else-get.ensures.items ∙ length-append c.loop-worker.lent.items _ in
+    let one = ap length c.push_reserved-else-get.ensures.items ∙ length-append c.loop-worker.lent.items _ in
     let w = c.in-Some.worker in
     let off = sym c.get.ensures ∙ c.if-get.false in
     let last = last_left c.loop-worker.threads.items c.pop.new.self.items w c.in-Some.ensures.items in
@@ -71,5 +73,7 @@ pub returns-clause-dealt : goal.returns-clause-dealt
 returns-clause-dealt c =
     let i = c.loop-worker.invariant in
     let none : c.loop-worker.threads.items ≡ [] = drop_of_length-le c.loop-worker.threads.items {i = 0} (omega (arith, c.in_default.ensures.cases)) in
-    let left = ap (λ (ws : List Worker). reverse ws) none in
-    (i.inside.1 ∙ ap (λ (ws : List Worker). map Thread ws) (pile_whole (is_in c.args.awake) (c.loop-worker.actor + 1) i.inside.0 (reverse c.loop-worker.threads.items) i.inside.2 left), pile_whole (is_out c.args.awake) (c.loop-worker.actor + 1) c.loop-worker.lent.items (reverse c.loop-worker.threads.items) i.outside left)
+    let left = ap reverse none in (
+      i.inside.1 ∙ ap (map Thread) (pile_whole (is_in c.args.awake) (c.loop-worker.actor + 1) i.inside.0 (reverse c.loop-worker.threads.items) i.inside.2 left),
+      pile_whole (is_out c.args.awake) (c.loop-worker.actor + 1) c.loop-worker.lent.items (reverse c.loop-worker.threads.items) i.outside left,
+    )

@@ -22,7 +22,8 @@ loop-index-preserved c =
     record {
       of = c.seat_one.ensures.of;
       left = λ j e from. let ne : j ≢ i = λ (is : j ≡ i). omega (arith, is, from) in get_or-set_other _ i j w e ne ∙ inv.left j e (omega (arith, from));
-      far = λ s p lent crew tell. seats_go_on c.index-lent-index.result w c.loop-index-test.true c.loop-index.auto.lent lent (inv.far s p lent crew tell) c.seat_one.ensures.seated;
+      far = λ s p lent crew tell.
+          seats_go_on c.index-lent-index.result w c.loop-index-test.true c.loop-index.auto.lent lent (inv.far s p lent crew tell) c.seat_one.ensures.seated;
     }
 
 pub returns-clause-seated : goal.returns-clause-seated

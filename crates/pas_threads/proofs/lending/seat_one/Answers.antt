@@ -1,20 +1,19 @@
 use Rattle.std.proofs.Common.{◌∙◌, refl, sym, subst}
 use Rattle.std.proofs.lemmas.Option.{same_Some}
 use Rattle.pas_shared.specs.Passes.{IsPassOf}
-use Rattle.pas_shared.specs.declared.pass.SharedPass.{SharedPass}
 use Rattle.pas_threads.proofs.lending.seat_one.Goals as goal
 
 pub seat-requires-clause-pass : goal.seat-requires-clause-pass
 seat-requires-clause-pass c =
     let has = c.requires.has in
-    subst (λ (x : SharedPass). IsPassOf c.args.region.now x) (same_Some _ _ (sym has.present ∙ (sym c.take.ensures.value ∙ c.in-Some.is))) has.of
+    subst (IsPassOf c.args.region.now) (same_Some _ _ (sym has.present ∙ (sym c.take.ensures.value ∙ c.in-Some.is))) has.of
 
 pub returns-clause-seated : goal.returns-clause-seated
 returns-clause-seated c =
     let has = c.requires.has in
     let is = sym c.take.ensures.value ∙ c.in-Some.is in
     record {
-      has = record { pass = c.in-Some.pass; present = is; of = subst (λ (x : SharedPass). IsPassOf c.args.region.now x) (same_Some _ _ (sym has.present ∙ is)) has.of };
+      has = record { pass = c.in-Some.pass; present = is; of = subst (IsPassOf c.args.region.now) (same_Some _ _ (sym has.present ∙ is)) has.of };
       member = c.seat.result;
       present = refl;
       is = c.seat.ensures.member;

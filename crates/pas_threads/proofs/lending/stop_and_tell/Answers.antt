@@ -1,4 +1,4 @@
-use Rattle.std.proofs.Common.{◌∙◌, ◌++◌, ◌∷◌, [], ℕ, true, false, refl, ap}
+use Rattle.std.proofs.Common.{◌∙◌, ◌++◌, ◌∷◌, [], true, false, refl, ap}
 use Rattle.pas_steps.specs.Desks.{Seat}
 use Rattle.pas_report.specs.Rooms.{records_in}
 use Rattle.pas_report.specs.declared.record.{Record.Record, Said.Said}
@@ -12,7 +12,7 @@ pub returns-then-stop_if_idle-clause-stops : goal.returns-then-stop_if_idle-clau
 returns-then-stop_if_idle-clause-stops g c = λ f k later p at read.
     let did = c.if-stop_if_idle.ensures.stops f k later p at read in
     let mine = c.actor.ensures ∙ ap (λ (s : Seat). s.actor) did.moves.calls.adds.seat_is ∙ at.sits.actor in
-    (true, did, record { added = c.push.ensures.added ∙ ap (λ (j : ℕ). records_in c.args.out.now ++ Record.Said 0 (Said.Stopped j) ∷ []) mine; room = c.push.ensures.size })
+    (true, did, record { added = c.push.ensures.added ∙ ap (λ j. records_in c.args.out.now ++ Record.Said 0 (Said.Stopped j) ∷ []) mine; room = c.push.ensures.size })
 
 pub returns-else-stop_if_idle-clause-stops : goal.returns-else-stop_if_idle-clause-stops
 returns-else-stop_if_idle-clause-stops g c = λ f k later p at read. (false, c.if-stop_if_idle.ensures.stops f k later p at read, pushed_none refl)

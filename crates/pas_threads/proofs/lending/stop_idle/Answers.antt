@@ -1,6 +1,5 @@
-use Rattle.std.proofs.Common.{◌∙◌, List, length, refl, ap, sym, arith, length-append}
+use Rattle.std.proofs.Common.{◌∙◌, length, refl, ap, sym, arith, length-append}
 use Rattle.pas_report.specs.Rooms.{records_in}
-use Rattle.pas_report.specs.declared.record.Record.{Record}
 use Rattle.pas_shared.specs.declared.bench.Member.{Member}
 use Rattle.pas_answers.specs.Ways.{records_by}
 use Rattle.pas_threads.specs.Lent.{number_in}
@@ -34,7 +33,7 @@ pub stop_lent-requires-clause-room : goal.stop_lent-requires-clause-room
 stop_lent-requires-clause-room c =
     let r = c.requires.lent in
     let so = c.loop-index.invariant.far r.0 r.1 r.2 r.3 r.4 r.6 in
-    let longer = ap (λ (rs : List Record). length rs) so.done.did.told.added ∙ length-append (records_in c.args.out.now) (records_by 0 so.done.did.turns.came.said) in
+    let longer = ap length so.done.did.told.added ∙ length-append (records_in c.args.out.now) (records_by 0 so.done.did.turns.came.said) in
     omega (arith, longer, so.done.did.few, so.done.did.told.room, c.requires.room, c.loop-index-test.true)
 
 pub loop-index-preserved : goal.loop-index-preserved

@@ -1,7 +1,6 @@
 use Rattle.std.proofs.Common.{◌∙◌, Some, refl, ap, sym, subst}
 use Rattle.std.proofs.lemmas.Option.{same_Some}
 use Rattle.pas_shared.specs.Benches.{MaySitOn}
-use Rattle.pas_shared.specs.declared.bench.Member.{Member}
 use Rattle.pas_acts.proofs.AtDesk.{leaves_rest}
 use Rattle.pas_threads.proofs.CrewSits.{may_sit, may_again, rests_at, home_moved, was_stopped}
 use Rattle.pas_threads.proofs.lending.stop_lent.Goals as goal
@@ -10,7 +9,7 @@ pub replace-risen-requires : goal.replace-risen-requires
 replace-risen-requires c =
     let r = c.requires.may in
     let desk = c.args.desk.now in
-    subst (λ (m : Member). MaySitOn desk.region.now desk.place.bench m) (same_Some _ _ (sym r.6.present ∙ (sym c.take.ensures.value ∙ c.in-Some.is))) (may_sit r.5 r.6)
+    subst (MaySitOn desk.region.now desk.place.bench) (same_Some _ _ (sym r.6.present ∙ (sym c.take.ensures.value ∙ c.in-Some.is))) (may_sit r.5 r.6)
 
 pub stop_and_tell-requires-clause-rests : goal.stop_and_tell-requires-clause-rests
 stop_and_tell-requires-clause-rests c =
@@ -22,13 +21,16 @@ pub replace-requires : goal.replace-requires
 replace-requires c =
     let r = c.requires.may in
     let sat = c.replace-risen.ensures in
-    let did = c.stop_and_tell.ensures.stops r.1 r.2 r.3 r.4 (rests_at c.replace-risen.new.self (sym c.take.ensures.value ∙ c.in-Some.is) sat.bench sat.member r.5 r.6) r.8 in
+    let did = c.stop_and_tell.ensures.stops r.1 r.2 r.3 r.4
+    (rests_at c.replace-risen.new.self (sym c.take.ensures.value ∙ c.in-Some.is) sat.bench sat.member r.5 r.6) r.8 in
     let home = c.stop_and_tell.ensures.home ∙ (home_moved c.args.desk.now c.replace-risen.new.self sat.region sat.bench ∙ r.5.home) in
-    may_again c.stop_and_tell.new.desk did.1.reached c.replace-risen.result sat.risen r.5 home did.1.stands.sits.stood.1 ((leaves_rest did.1).parts c.args.desk.now.place.member.actor r.7)
+    may_again c.stop_and_tell.new.desk did.1.reached c.replace-risen.result sat.risen r.5 home did.1.stands.sits.stood.1
+    ((leaves_rest did.1).parts c.args.desk.now.place.member.actor r.7)
 
 pub returns-clause-stops : goal.returns-clause-stops
 returns-clause-stops c = λ h f k later p at w read.
     let sat = c.replace-risen.ensures in
-    let did = c.stop_and_tell.ensures.stops f k later p (rests_at c.replace-risen.new.self (sym c.take.ensures.value ∙ c.in-Some.is) sat.bench sat.member at w) read in
+    let did = c.stop_and_tell.ensures.stops f k later p
+    (rests_at c.replace-risen.new.self (sym c.take.ensures.value ∙ c.in-Some.is) sat.bench sat.member at w) read in
     let home = c.stop_and_tell.ensures.home ∙ (home_moved c.args.desk.now c.replace-risen.new.self sat.region sat.bench ∙ at.home) in
     was_stopped c.replace-risen.new.self c.stop_and_tell.new.desk sat.bench home c.replace.ensures.bench (ap Some c.replace.ensures.risen) refl refl did

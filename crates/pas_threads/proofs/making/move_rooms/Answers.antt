@@ -1,7 +1,7 @@
 use Rattle.std.proofs.Common.{◌≡◌, ◌<◌, [], length, arith, length-set}
 use Rattle.std.proofs.lemmas.List.Elements.{All-set}
 use Rattle.pas_profile.specs.Rooms.{shown, EventRoom}
-use Rattle.pas_threads.proofs.Start.{one_moved}
+use Rattle.pas_threads.proofs.StartAndEnd.{one_moved}
 use Rattle.pas_threads.proofs.making.move_rooms.Goals as goal
 
 pub loop-other-preserved : goal.loop-other-preserved

@@ -1,9 +1,9 @@
-use Rattle.std.proofs.Common.{◌≡◌, ◌∙◌, ℕ, true, false, ap, sym, refl, arith, List, length}
+use Rattle.std.proofs.Common.{◌≡◌, ◌∙◌, true, false, ap, sym, refl, arith, length}
 use Rattle.std.proofs.lemmas.List.{length-map}
 use Rattle.pas_trace.specs.Acts.{is_active}
 use Rattle.pas_threads.specs.Dealing.{picked, count_of, is_in, is_out}
 use Rattle.pas_threads.specs.Performing.{round}
-use Rattle.pas_threads.specs.declared.{hands.Hand.Hand, scavenger.Scavenger.Scavenger}
+use Rattle.pas_threads.specs.declared.scavenger.Scavenger.{Scavenger}
 use Rattle.pas_threads.proofs.Dealt.{picked_many, count_most, threads_same}
 use Rattle.pas_threads.proofs.Performed.{shift_of, own_may, may_scavenge, piece, lent_same, lent_places}
 use Rattle.pas_threads.proofs.phases.perform_all.Goals as goal
@@ -29,7 +29,7 @@ act_with-scavenger-requires-clause-place g c =
     let ready = c.requires.ready.4 in
     let inside = picked_many (is_in c.args.awake) 1 c.args.team.threads.items in
     let most = count_most (is_in c.args.awake) 1 (length c.args.team.threads.items) in
-    let long = ap (λ (hs : List Hand). length hs) c.deal.ensures.dealt.0 ∙ length-map (picked (is_in c.args.awake) 1 c.args.team.threads.items) _ in
+    let long = ap length c.deal.ensures.dealt.0 ∙ length-map (picked (is_in c.args.awake) 1 c.args.team.threads.items) _ in
     omega (arith, most, inside, ready.many, ready.places.hands, c.deal.ensures.places.1, long)
 
 pub take_back-requires-clause-sized : goal.take_back-requires-clause-sized
@@ -40,11 +40,12 @@ take_back-requires-clause-sized g c =
     let each = c.act_with-scavenger.ensures.threads (picked (is_in c.args.awake) 1 ws) dealt.0 in
     let count : c.len-count.result ≡ length ws = (omega (arith, c.args.team.threads.ok.0, c.len-count.ensures)) in
     let lent = lent_same ready c.args.awake c.requires.awake _ c.act_with-scavenger.result (may_scavenge ready c.args.awake c.requires.awake _ refl refl refl dealt.1) dealt.1
-    (λ on. c.act_with-scavenger.ensures.did (c.get-busy.ensures ∙ c.requires.awake 0 ∙ on)) (λ off. c.act_with-scavenger.ensures.stayed (c.get-busy.ensures ∙ c.requires.awake 0 ∙ off)) in (
+    (λ on. c.act_with-scavenger.ensures.did (c.get-busy.ensures ∙ c.requires.awake 0 ∙ on))
+    (λ off. c.act_with-scavenger.ensures.stayed (c.get-busy.ensures ∙ c.requires.awake 0 ∙ off)) in (
       each.after,
       each.hands_are,
-      each.many ∙ picked_many (is_in c.args.awake) 1 ws ∙ ap (λ (n : ℕ). count_of (is_in c.args.awake) 1 n) (sym count),
-      lent ∙ picked_many (is_out c.args.awake) 1 ws ∙ ap (λ (n : ℕ). count_of (is_out c.args.awake) 1 n) (sym count),
+      each.many ∙ picked_many (is_in c.args.awake) 1 ws ∙ ap (count_of (is_in c.args.awake) 1) (sym count),
+      lent ∙ picked_many (is_out c.args.awake) 1 ws ∙ ap (count_of (is_out c.args.awake) 1) (sym count),
     )
 
 pub returns : goal.returns

@@ -1,15 +1,14 @@
-use Rattle.std.proofs.Common.{◌∙◌, suc, List, length, get_or, refl, ap, sym, subst, arith}
+use Rattle.std.proofs.Common.{◌∙◌, suc, length, get_or, refl, ap, sym, subst, arith}
 use Rattle.std.proofs.lemmas.List.{with_items_is}
 use Rattle.pas_threads.specs.Settling.{HasHeard, HasBench, IsButBench}
-use Rattle.pas_threads.specs.declared.workers.Worker.{Worker}
-use Rattle.pas_threads.proofs.Hearing.{bench_left, heard_still, is_heard}
+use Rattle.pas_threads.proofs.TakingTurns.{bench_left, heard_still, is_heard}
 use Rattle.pas_threads.proofs.phases.perform_and_hear.Goals as goal
 
 pub hear_all-requires-clause-few : goal.hear_all-requires-clause-few
 hear_all-requires-clause-few g c =
     let r = c.requires.ready in
     let acted = c.perform_all-team.ensures.done r.0 r.1 r.2 r.3 r.4 in
-    let size = ap (λ (ws : List Worker). length ws) c.deref_mut.ensures.value in
+    let size = ap length c.deref_mut.ensures.value in
     omega (arith, size, acted.many, r.4.many, r.4.few)
 
 pub hear_all-requires-clause-left : goal.hear_all-requires-clause-left
@@ -17,8 +16,9 @@ hear_all-requires-clause-left g c = λ i d lt on.
     let r = c.requires.ready in
     let acted = c.perform_all-team.ensures.done r.0 r.1 r.2 r.3 r.4 in
     let value = c.deref_mut.ensures.value in
-    let size = ap (λ (ws : List Worker). length ws) value in
-    subst (λ (ws : List Worker). HasBench c.args.region.now (get_or ws i d).bench) (sym value) (bench_left ((acted.pieces (suc i)).left i d refl (omega (arith, lt, size, acted.many)) (sym (c.requires.awake (suc i)) ∙ on)))
+    let size = ap length value in
+    subst (λ ws. HasBench c.args.region.now (get_or ws i d).bench) (sym value)
+    (bench_left ((acted.pieces (suc i)).left i d refl (omega (arith, lt, size, acted.many)) (sym (c.requires.awake (suc i)) ∙ on)))
 
 pub hear_if-requires-clause-bench : goal.hear_if-requires-clause-bench
 hear_if-requires-clause-bench g c = λ on.
@@ -35,10 +35,11 @@ returns-clause-done g c = λ s later more p ready.
     let team = c.perform_all-team.result in
     let value = c.deref_mut.ensures.value in
     let now = with_items_is team.threads c.hear_all.new.workers (c.hear_all.ensures.many ∙ c.deref_mut.ensures.len) in
-    let size = ap (λ (ws : List Worker). length ws) value in
+    let size = ap length value in
     is_heard _ c.hear_if.new.left acted
-    (λ i d lt. subst (λ (ws : List Worker). IsButBench (get_or team.threads.items i d) (get_or ws i d)) (sym now) (subst (λ (ws : List Worker). IsButBench (get_or ws i d) (get_or c.hear_all.new.workers i d)) value (c.hear_all.ensures.same i d (omega (arith, lt, size)))))
-    (ap (λ (ws : List Worker). length ws) now ∙ c.hear_all.ensures.many ∙ size) refl refl
+    (λ i d lt. subst (λ ws. IsButBench (get_or team.threads.items i d) (get_or ws i d)) (sym now)
+    (subst (λ ws. IsButBench (get_or ws i d) (get_or c.hear_all.new.workers i d)) value (c.hear_all.ensures.same i d (omega (arith, lt, size)))))
+    (ap length now ∙ c.hear_all.ensures.many ∙ size) refl refl
     (record { workers = acted.places.workers; hands = acted.places.hands; lent = acted.places.lent; free = acted.places.free })
-    (λ i d lt on. heard_still c.hear_all.new.ledger c.hear_if.new.ledger c.hear_if.ensures.saw (subst (λ (ws : List Worker). HasHeard c.hear_all.new.ledger (get_or ws i d).bench) value (c.hear_all.ensures.heard i d (omega (arith, lt, size)) (c.requires.awake (suc i) ∙ on))))
+    (λ i d lt on. heard_still c.hear_all.new.ledger c.hear_if.new.ledger c.hear_if.ensures.saw (subst (λ ws. HasHeard c.hear_all.new.ledger (get_or ws i d).bench) value (c.hear_all.ensures.heard i d (omega (arith, lt, size)) (c.requires.awake (suc i) ∙ on))))
     (λ on. c.hear_if.ensures.heard (c.get-busy.ensures ∙ c.requires.awake 0 ∙ on))

@@ -9,10 +9,10 @@ use Rattle.pas_answers.specs.{Answers.Progress, Names.names_held}
 use Rattle.pas_threads.specs.Sessions.{planned, Session, AreResting, HasPlaces, TeamAt}
 use Rattle.pas_threads.specs.{Settling.ActorsStand, Taken.IsWithin}
 use Rattle.pas_threads.specs.Turns.{said_own, said_by_all, said_kept, said_by_keepers, IsGathered, IsKeptGathered}
-use Rattle.pas_threads.specs.declared.{phases.Team.Team, scavenger.Scavenger.Scavenger, workers.Worker.Worker}
-use Rattle.pas_acts.proofs.NamesBefore.{sound_front, below_front}
-use Rattle.pas_threads.proofs.{Hearing.first_of, InPhases.team_stands, phases.perform_phase.Given.Over}
-use Rattle.pas_threads.proofs.Gathered.{OwnGathered, KeptGathered, WereTaken, IsScavengerCleared, were_gathered, were_taken, taken_as}
+use Rattle.pas_threads.specs.declared.{phases.Team.Team, scavenger.Scavenger.Scavenger}
+use Rattle.pas_acts.proofs.Naming.{sound_front, below_front}
+use Rattle.pas_threads.proofs.TakingTurns.{first_of, OwnGathered, KeptGathered, WereTaken, IsScavengerCleared, were_gathered, were_taken, taken_as}
+use Rattle.pas_threads.proofs.{Staging.team_stands, phases.perform_phase.Given.Over}
 use Rattle.pas_threads.proofs.ReadyPhases.{HasBegun, settled_team, begun_as, begun_stands, woke_stands}
 use Rattle.pas_threads.proofs.PhaseTeams.{may_append, may_gather, may_gather_kept, may_take, reached, phase_team, phase_went, phase_done}
 use Rattle.pas_threads.proofs.phases.perform_phase.Goals as goal
@@ -22,7 +22,7 @@ pub wake_all-requires-clause-rest : goal.wake_all-requires-clause-rest
 wake_all-requires-clause-rest g c =
     let m = c.requires.may in
     let later : ℕ → ℕ = λ k. own_records (planned m.0) k (all_ops (c.args.ops.now ∷ m.1)) in
-    let rest = subst (λ (ws : List Worker). AreResting c.args.region.now m.0.profile ws later m.3) (sym c.deref_mut.ensures.value) m.4.team_at.workers.threads in
+    let rest = subst (λ ws. AreResting c.args.region.now m.0.profile ws later m.3) (sym c.deref_mut.ensures.value) m.4.team_at.workers.threads in
     (m.0.profile, later, m.3, rest)
 
 pub settle-requires-clause-stand : goal.settle-requires-clause-stand
@@ -30,7 +30,7 @@ settle-requires-clause-stand g c =
     let m = c.requires.may in
     let stands = woke_stands c.active-awake.result c.args.ops.now m.1 m.4.team_at c.deref_mut.ensures.value c.wake_all.ensures.woke c.wake_all.ensures.many in
     let again = c.deref_mut-2.ensures.value ∙ with_items_is c.args.team.threads c.wake_all.new.threads (c.wake_all.ensures.many ∙ c.deref_mut.ensures.len) in
-    (m.0, stands.0, subst (λ (ws : List Worker). ActorsStand c.args.region.now m.0 c.args.team.scavenger.pass ws stands.0) (sym again) stands.1)
+    (m.0, stands.0, subst (λ ws. ActorsStand c.args.region.now m.0 c.args.team.scavenger.pass ws stands.0) (sym again) stands.1)
 
 pub note-requires-clause-below : goal.note-requires-clause-below
 note-requires-clause-below g c = let m = c.requires.may in below_front _ c.args.ops.now (all_ops m.1) m.4.team_at.names.below
@@ -75,15 +75,17 @@ gather-requires g c =
     let begun = begun g (goal.at.gather-requires g c).After-note m.4.team_at in
     let heard = c.perform_and_hear-team.ensures.done m.0 _ _ begun.woke.turns.came.reached begun.ready in
     record {
-      room = subst (λ (ws : List Worker). length (records_in out) + length (said_by_all ws) ≤ room_of out) (sym c.deref_mut-3.ensures.value)
+      room = subst (λ ws. length (records_in out) + length (said_by_all ws) ≤ room_of out) (sym c.deref_mut-3.ensures.value)
           (may_gather c.args.ops.now m.1 m.4.team_at begun heard.done m.2 c.args.out.now m.4.room out c.append.ensures.added c.append.ensures.size);
     }
 
 module _ (g : Over) (c : After-gather g) where
+  -- The records of the threads were gathered.
   own : OwnGathered c.perform_and_hear-team.result.threads.items c.gather.new.threads c.append.new.self c.gather.new.out
   own = were_gathered said_own IsGathered c.gather.new.threads c.append.new.self c.gather.new.out c.deref_mut-3.ensures.value c.gather.ensures.added c.gather.ensures.room
       c.gather.ensures.gathered c.gather.ensures.many
 
+  -- The workers once these were gathered.
   given : (with_items c.perform_and_hear-team.result.threads c.gather.new.threads).items ≡ c.gather.new.threads
   given = with_items_is c.perform_and_hear-team.result.threads c.gather.new.threads (c.gather.ensures.many ∙ c.deref_mut-3.ensures.len)
 
@@ -95,15 +97,17 @@ gather_kept-requires g c =
     let begun = begun g at.After-note m.4.team_at in
     let heard = c.perform_and_hear-team.ensures.done m.0 _ _ begun.woke.turns.came.reached begun.ready in
     record {
-      room = subst (λ (ws : List Worker). length (records_in out) + length (said_by_keepers ws) ≤ room_of out) (sym (c.deref_mut-4.ensures.value ∙ given g at.After-gather))
+      room = subst (λ ws. length (records_in out) + length (said_by_keepers ws) ≤ room_of out) (sym (c.deref_mut-4.ensures.value ∙ given g at.After-gather))
           (may_gather_kept c.args.ops.now m.1 m.4.team_at begun heard.done m.2 c.args.out.now m.4.room c.append.new.self c.append.ensures.added c.append.ensures.size (own g at.After-gather));
     }
 
 module _ (g : Over) (c : After-gather_kept g) (is : (with_items c.perform_and_hear-team.result.threads c.gather.new.threads).items ≡ c.gather.new.threads) where
+  -- The records of the keepers were gathered.
   its : KeptGathered c.gather.new.threads c.gather_kept.new.threads c.gather.new.out c.gather_kept.new.out
-  its = were_gathered said_kept IsKeptGathered c.gather_kept.new.threads c.gather.new.out c.gather_kept.new.out (c.deref_mut-4.ensures.value ∙ is) c.gather_kept.ensures.added
-      c.gather_kept.ensures.room c.gather_kept.ensures.gathered c.gather_kept.ensures.many
+  its = were_gathered said_kept IsKeptGathered c.gather_kept.new.threads c.gather.new.out c.gather_kept.new.out
+      (c.deref_mut-4.ensures.value ∙ is) c.gather_kept.ensures.added c.gather_kept.ensures.room c.gather_kept.ensures.gathered c.gather_kept.ensures.many
 
+  -- The workers once those were gathered.
   left : (with_items (with_items c.perform_and_hear-team.result.threads c.gather.new.threads) c.gather_kept.new.threads).items ≡ c.gather_kept.new.threads
   left = with_items_is (with_items c.perform_and_hear-team.result.threads c.gather.new.threads) c.gather_kept.new.threads (c.gather_kept.ensures.many ∙ c.deref_mut-4.ensures.len)
 
@@ -116,7 +120,7 @@ take_all-requires g c =
     let is = given g at.After-gather in
     let here = sym (c.deref_mut-5.ensures.value ∙ left g at.After-gather_kept is) in
     record {
-      within = subst (λ (ws : List Worker). All (IsWithin (names_held c.perform_and_hear-team.result.book.names)) ws) here
+      within = subst (All (IsWithin (names_held c.perform_and_hear-team.result.book.names))) here
           (may_take c.args.ops.now m.1 m.4.team_at begun heard.done (own g at.After-gather) (its g at.After-gather_kept is));
     }
 
@@ -133,12 +137,15 @@ module _ (g : Over) (c : After-take_all g)
     book = c.take_all.new.book;
   }
 
+  -- The workers once their blocks were taken over.
   last : team3.threads.items ≡ c.take_all.new.workers
   last = with_items_is (with_items (with_items team2.threads c.gather.new.threads) c.gather_kept.new.threads) c.take_all.new.workers (c.take_all.ensures.many ∙ c.deref_mut-5.ensures.len)
 
+  -- The blocks of all workers were taken over into the book.
   taken : WereTaken c.gather_kept.new.threads c.take_all.new.workers team2.book team3.book
   taken = were_taken (c.deref_mut-5.ensures.value ∙ left) c.take_all.ensures.taken c.take_all.ensures.room c.take_all.ensures.emptied c.take_all.ensures.many
 
+  -- The scavenger lends nobody, and its records were gathered.
   cleared : team2.scavenger.lent.items ≡ [] → IsScavengerCleared team2.scavenger team3.scavenger
   cleared none = record { pass = refl; outcomes = refl; none = none; empty = c.append.ensures.none; size = c.append.ensures.other_size }
 
@@ -153,10 +160,11 @@ settle-requires-2-clause-stand g c =
     let d = at.After-take_all in
     let last = last g d left in
     let places : HasPlaces m.0.threads (team3 g d left) = record { workers = done.places.workers; hands = done.places.hands; lent = done.places.lent; free = done.places.free } in
-    let then = phase_team c.args.ops.now m.1 m.4.team_at begun done (own g at.After-gather) (its g at.After-gather_kept is) (team3 g d left) (taken_as last (taken g d left)) (cleared g d left done.none) places in
+    let then = phase_team c.args.ops.now m.1 m.4.team_at begun done (own g at.After-gather) (its g at.After-gather_kept is) (team3 g d left)
+    (taken_as last (taken g d left)) (cleared g d left done.none) places in
     let end = reached c.args.ops.now m.1 m.4.team_at begun done in
     let same = sym c.deref_mut-6.ensures.value in
-    (m.0, end.list, subst (λ (ws : List Worker). ActorsStand c.args.region.now m.0 (team3 g d left).scavenger.pass ws end.list) same (team_stands then))
+    (m.0, end.list, subst (λ ws. ActorsStand c.args.region.now m.0 (team3 g d left).scavenger.pass ws end.list) same (team_stands then))
 
 pub returns : goal.returns
 returns g c =
@@ -183,18 +191,20 @@ returns g c =
           let places : HasPlaces s.threads team3 = record { workers = done.places.workers; hands = done.places.hands; lent = done.places.lent; free = done.places.free } in
           let clear = cleared g d left done.none in
           let then = phase_team ops rest at begun done own its team3 (taken_as last taken) clear places in
-          let settled = with_items_is (with_items c.args.team.threads c.wake_all.new.threads) c.settle.new.threads (ap (λ (ws : List Worker). length ws) c.settle.ensures.same ∙ c.deref_mut-2.ensures.len) ∙ c.settle.ensures.same in
-          let midway = c.settle.ensures.stand s q.list (subst (λ (ws : List Worker). ActorsStand region s c.args.team.scavenger.pass ws q.list) settled (begun_stands ops rest at begun)) in
-          let again = subst (λ (ws : List Worker). ActorsStand region s team3.scavenger.pass ws end.list) (sym c.deref_mut-6.ensures.value) (team_stands then) in
+          let settled = with_items_is (with_items c.args.team.threads c.wake_all.new.threads) c.settle.new.threads (ap length c.settle.ensures.same ∙ c.deref_mut-2.ensures.len) ∙ c.settle.ensures.same in
+          let midway = c.settle.ensures.stand s q.list
+          (subst (λ ws. ActorsStand region s c.args.team.scavenger.pass ws q.list) settled (begun_stands ops rest at begun)) in
+          let again = subst (λ ws. ActorsStand region s team3.scavenger.pass ws end.list) (sym c.deref_mut-6.ensures.value) (team_stands then) in
           let stand = c.settle-2.ensures.stand s end.list again in
           let each = c.settle-2.ensures.settled.each in
-          let second = first_of (looks_of c.settle.new.ledger) (so_far c.settle-2.new.ledger) (c.perform_and_hear-team.ensures.saw (so_far c.settle-2.new.ledger) each) in
+          let second = first_of (looks_of c.settle.new.ledger) (so_far c.settle-2.new.ledger)
+          (c.perform_and_hear-team.ensures.saw (so_far c.settle-2.new.ledger) each) in
           let went = phase_went ops rest at begun heard c.active-awake.ensures c.settle.ensures.settled.earlier second stood midway stand each in
           let same = c.settle-2.ensures.scavenger in
-          let many = ap (λ (ws : List Worker). length ws) c.settle-2.ensures.same ∙ c.deref_mut-6.ensures.len in
+          let many = ap length c.settle-2.ensures.same ∙ c.deref_mut-6.ensures.len in
           let back = with_items_is team3.threads c.settle-2.new.threads many ∙ c.settle-2.ensures.same ∙ c.deref_mut-6.ensures.value ∙ last in
           let lent = subst (λ (v : Scavenger). s.threads ≤ vec_capacity v.lent) (sym same) places.lent in
           phase_done ops rest whole begun done c.active-awake.ensures c.append.ensures.added c.append.ensures.size own its _ (taken_as back taken)
-          (subst (λ (v : Scavenger). IsScavengerCleared c.perform_and_hear-team.result.scavenger v) (sym same) clear)
+          (subst (IsScavengerCleared c.perform_and_hear-team.result.scavenger) (sym same) clear)
           (record { workers = places.workers; hands = places.hands; lent = lent; free = places.free }) went;
     }

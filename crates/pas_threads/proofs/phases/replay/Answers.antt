@@ -1,4 +1,4 @@
-use Rattle.std.proofs.Common.{◌≡◌, ◌+◌, ◌++◌, ◌∙◌, ℕ, List, [], ◌∷◌, length, drop, refl, sym, ap, arith, map}
+use Rattle.std.proofs.Common.{◌≡◌, ◌+◌, ◌++◌, ◌∙◌, List, [], ◌∷◌, length, drop, refl, sym, ap, arith, map}
 use Rattle.std.proofs.lemmas.List.{length-map}
 use Rattle.pas_trace.specs.Plans.{ops_of}
 use Rattle.pas_trace.specs.declared.plan.Op.{Op}
@@ -15,7 +15,7 @@ use Rattle.pas_threads.proofs.phases.replay.Goals.{then-number-gt-UNMARKED, else
 
 pub loop-phase-init : goal.loop-phase-init
 loop-phase-init g c = record {
-  far = λ s at room. no_phase c.requires.ledger.1 c.requires.empty (ap (λ (n : ℕ). n + 1) (sym (length-map c.args.phases.now ops_of))) at room;
+  far = λ s at room. no_phase c.requires.ledger.1 c.requires.empty (ap (λ n. n + 1) (sym (length-map c.args.phases.now ops_of))) at room;
   ledger = c.requires.ledger.0;
   count = refl;
 }
@@ -32,15 +32,17 @@ module _ (g : Over) (c : After-as_slice g) (s : Session) (at : TeamAt c.args.reg
   abbrev rest : List (List Op)
   rest = map ops_of (drop (c.loop-phase.phase-index + 1) c.args.phases.now)
 
+  -- What stands after the phase.
   next : AfterPhases c.args.region.now s (map ops_of c.args.phases.now) c.loop-phase.phase-index (c.as_slice.result.now ∷ rest) c.loop-phase.team (so_far c.loop-phase.ledger) c.loop-phase.out
   next = as_next c.args.phases.now c.loop-phase.phase-index c.phase-item.result c.as_slice.result.now c.loop-phase-test.true c.phase-item.is c.as_slice.ensures (c.loop-phase.invariant.far s at room)
 
+  -- What stands before the phase.
   begun : BeforePhase c.args.region.now s (map ops_of c.args.phases.now) c.loop-phase.phase-index c.as_slice.result.now rest c.loop-phase.team (so_far c.loop-phase.ledger) c.if-number-gt-UNMARKED.out
   begun =
       elim c.if-number-gt-UNMARKED.branch [
         | then-number-gt-UNMARKED w ↦
             let number : c.loop-phase.number + 1 ≡ c.loop-phase.phase-index + 1 = omega (arith, c.loop-phase.invariant.count) in
-            let pushed = w.push.ensures.added ∙ ap (λ (n : ℕ). records_in c.loop-phase.out ++ Record.Phase n ∷ []) number in
+            let pushed = w.push.ensures.added ∙ ap (λ n. records_in c.loop-phase.out ++ Record.Phase n ∷ []) number in
             rw (w.out-is) (other_begins next (omega (arith, c.loop-phase.invariant.count, w.if-number-gt-UNMARKED.true)) pushed w.push.ensures.size)
         | else-number-gt-UNMARKED w ↦ rw (w.out-is) (first_begins next (omega (arith, c.loop-phase.invariant.count, w.if-number-gt-UNMARKED.false)))
       ]
@@ -60,7 +62,7 @@ loop-phase-preserved g c =
           let before = begun g d s at room in
           phase_ends before (c.perform_phase-team.ensures.done s (rest g d s at room) (length (rest g d s at room) + 1) before.p before.at before.stand);
       ledger = c.perform_phase-team.ensures.ledger;
-      count = ap (λ (n : ℕ). n + 1) c.loop-phase.invariant.count;
+      count = ap (λ n. n + 1) c.loop-phase.invariant.count;
     }
 
 pub push-requires-2 : goal.push-requires-2

@@ -1,18 +1,16 @@
-use Rattle.std.proofs.Common.{◌∙◌, List, refl, sym, subst}
+use Rattle.std.proofs.Common.{◌∙◌, refl, sym, subst}
 use Rattle.std.proofs.lemmas.{List.with_items_is, Option.same_Some}
 use Rattle.pas_utility.specs.Outcomes.{places_of}
 use Rattle.pas_shared.specs.Passes.{IsPassOf}
-use Rattle.pas_shared.specs.declared.pass.SharedPass.{SharedPass}
 use Rattle.pas_trace.specs.Acts.{scavenger_acts}
 use Rattle.pas_threads.specs.{Hands.standing_of_pass, Crews.crew, Crews.CrewAt, Scavengers.crew_of, Scavengers.CrewHasLeft}
-use Rattle.pas_threads.specs.declared.workers.Worker.{Worker}
 use Rattle.pas_threads.proofs.Benched.{seated}
 use Rattle.pas_threads.proofs.scavenger.keep_up.Goals as goal
 
 pub scavenge_seated-pass-requires-clause-pass : goal.scavenge_seated-pass-requires-clause-pass
 scavenge_seated-pass-requires-clause-pass g c =
     let has = c.requires.may.stands.has in
-    subst (λ (x : SharedPass). IsPassOf c.args.region.now x) (same_Some _ _ (sym has.present ∙ (sym c.take.ensures.value ∙ c.in-Some.is))) has.of
+    subst (IsPassOf c.args.region.now) (same_Some _ _ (sym has.present ∙ (sym c.take.ensures.value ∙ c.in-Some.is))) has.of
 
 pub scavenge_seated-pass-requires-clause-may : goal.scavenge_seated-pass-requires-clause-may
 scavenge_seated-pass-requires-clause-may g c =
@@ -26,7 +24,7 @@ scavenge_seated-pass-requires-clause-may g c =
       may.asked,
       may.progress,
       may.sound,
-      subst (λ (ws : List Worker). CrewAt c.args.region.now s acts (crew (standing_of_pass pass) ws (places_of old.outcomes) old.out) may.progress)
+      subst (λ ws. CrewAt c.args.region.now s acts (crew (standing_of_pass pass) ws (places_of old.outcomes) old.out) may.progress)
           (sym c.deref_mut.ensures.value) (seated (λ σ. CrewAt c.args.region.now s acts (crew_of σ old) may.progress) pass is may.stands.has may.stands.at),
     )
 
@@ -44,19 +42,19 @@ returns g c = record {
         let lent = c.scavenge_seated-pass.new.lent in
         let places = places_of c.scavenge_seated-pass.new.outcomes in
         let out = c.scavenge_seated-pass.new.out in
-        let at = subst (λ (ws : List Worker). CrewAt region s acts (crew (standing_of_pass pass) ws (places_of old.outcomes) old.out) p) (sym c.deref_mut.ensures.value)
+        let at = subst (λ ws. CrewAt region s acts (crew (standing_of_pass pass) ws (places_of old.outcomes) old.out) p) (sym c.deref_mut.ensures.value)
         (seated (λ σ. CrewAt region s acts (crew_of σ old) p) pass is stands.has stands.at)
         in
-        let first = subst (λ (ws : List Worker). CrewHasLeft region s acts after bench (crew (standing_of_pass pass) ws (places_of old.outcomes) old.out) (crew (standing_of_pass after) lent places out) p) c.deref_mut.ensures.value
+        let first = subst (λ ws. CrewHasLeft region s acts after bench (crew (standing_of_pass pass) ws (places_of old.outcomes) old.out) (crew (standing_of_pass after) lent places out) p) c.deref_mut.ensures.value
         (c.scavenge_seated-pass.ensures.did s asked p sound at)
         in
-        let left = subst (λ (ws : List Worker). CrewHasLeft region s acts after bench (crew_of (standing_of_pass pass) old) (crew (standing_of_pass after) ws places out) p)
+        let left = subst (λ ws. CrewHasLeft region s acts after bench (crew_of (standing_of_pass pass) old) (crew (standing_of_pass after) ws places out) p)
         (sym (with_items_is old.lent lent (c.scavenge_seated-pass.ensures.many ∙ c.deref_mut.ensures.len))) first
         in
         let has = stands.has in
         record {
           did = record {
-            before = record { pass = pass; present = is; of = subst (λ (x : SharedPass). IsPassOf region x) (same_Some _ _ (sym has.present ∙ is)) has.of };
+            before = record { pass = pass; present = is; of = subst (IsPassOf region) (same_Some _ _ (sym has.present ∙ is)) has.of };
             after = record { pass = after; present = refl; of = left.of };
             does = left.did;
           };

@@ -1,27 +1,28 @@
-use Rattle.std.proofs.Common.{◌≡◌, ◌∙◌, sym, subst}
+use Rattle.std.proofs.Common.{◌≡◌, sym, subst}
 use Rattle.pas_shared.specs.Ruled.{made_in, only_this, isnt, rows_of_only}
 use Rattle.pas_shared.specs.Passes.{seat_of, view_of}
 use Rattle.pas_shared.specs.Benches.{first_row, rows_on, seat_of_member, HasLooked, IsBenchOf, SitsInRow}
-use Rattle.pas_shared.specs.declared.{bench.Bench.Bench, bench.Member.Member, region.SharedRegion.SharedRegion}
+use Rattle.pas_shared.specs.declared.bench.Member.{Member}
 use Rattle.pas_threads.proofs.CrewSits.{all_may_leave, own_sits, fresh_row, all_rose}
 use Rattle.pas_threads.proofs.scavenger.rise.Goals as goal
 
 pub look-requires : goal.look-requires
 look-requires c =
     let desk = c.args.desk in
-    record { of = subst (λ (b : Bench). IsBenchOf c.args.region.now b) (sym c.into_parts-bench.ensures.bench) (subst (λ (r : SharedRegion). IsBenchOf r desk.place.bench) c.requires.region desk.of) }
+    record { of = subst (IsBenchOf c.args.region.now) (sym c.into_parts-bench.ensures.bench) (subst (λ r. IsBenchOf r desk.place.bench) c.requires.region desk.of) }
 
 pub let_lent_leave-requires-clause-may : goal.let_lent_leave-requires-clause-may
 let_lent_leave-requires-clause-may c =
     let m = c.requires.may in
-    let looked = subst (λ (b : Bench). HasLooked (rows_on b) (rows_on c.look.new.self)) c.into_parts-bench.ensures.bench c.look.ensures.looked in
+    let looked = subst (λ b. HasLooked (rows_on b) (rows_on c.look.new.self)) c.into_parts-bench.ensures.bench c.look.ensures.looked in
     (m.0, _, _, m.1, all_may_leave c.args.desk m.2 c.look.new.self looked)
 
 pub leave-pass-requires-clause-fresh : goal.leave-pass-requires-clause-fresh
 leave-pass-requires-clause-fresh c =
     let m = c.requires.may in
-    let looked = subst (λ (b : Bench). HasLooked (rows_on b) (rows_on c.look.new.self)) c.into_parts-bench.ensures.bench c.look.ensures.looked in
-    fresh_row c.args.desk m.2 c.look.new.self c.let_lent_leave.new.bench looked (c.let_lent_leave.ensures.left m.0 _ _ m.1 (all_may_leave c.args.desk m.2 c.look.new.self looked))
+    let looked = subst (λ b. HasLooked (rows_on b) (rows_on c.look.new.self)) c.into_parts-bench.ensures.bench c.look.ensures.looked in
+    fresh_row c.args.desk m.2 c.look.new.self c.let_lent_leave.new.bench looked
+    (c.let_lent_leave.ensures.left m.0 _ _ m.1 (all_may_leave c.args.desk m.2 c.look.new.self looked))
 
 pub leave-pass-requires-clause-profile : goal.leave-pass-requires-clause-profile
 leave-pass-requires-clause-profile c = cc
@@ -29,19 +30,19 @@ leave-pass-requires-clause-profile c = cc
 pub leave-pass-requires-clause-sits : goal.leave-pass-requires-clause-sits
 leave-pass-requires-clause-sits c =
     let m = c.requires.may in
-    let looked = subst (λ (b : Bench). HasLooked (rows_on b) (rows_on c.look.new.self)) c.into_parts-bench.ensures.bench c.look.ensures.looked in
-    subst (λ (x : Member). SitsInRow (first_row (rows_on c.let_lent_leave.new.bench)) x) (sym c.into_parts-bench.ensures.member)
+    let looked = subst (λ b. HasLooked (rows_on b) (rows_on c.look.new.self)) c.into_parts-bench.ensures.bench c.look.ensures.looked in
+    subst (SitsInRow (first_row (rows_on c.let_lent_leave.new.bench))) (sym c.into_parts-bench.ensures.member)
     (own_sits c.args.desk m.2 c.look.new.self c.let_lent_leave.new.bench looked (c.let_lent_leave.ensures.left m.0 _ _ m.1 (all_may_leave c.args.desk m.2 c.look.new.self looked)))
 
 pub returns-clause-rose : goal.returns-clause-rose
 returns-clause-rose c = λ s p may.
     let desk = c.args.desk in
-    let looked = subst (λ (b : Bench). HasLooked (rows_on b) (rows_on c.look.new.self)) c.into_parts-bench.ensures.bench c.look.ensures.looked in
+    let looked = subst (λ b. HasLooked (rows_on b) (rows_on c.look.new.self)) c.into_parts-bench.ensures.bench c.look.ensures.looked in
     let have = c.let_lent_leave.ensures.left s _ _ p (all_may_leave desk may c.look.new.self looked) in
     let left = c.let_lent_leave.new.bench in
     let mine = c.into_parts-bench.ensures.member in
     let out = c.leave-pass.ensures in
     all_rose desk may c.look.new.self left looked have out.of out.pass
-    (subst (λ (x : Member). seat_of c.leave-pass.result ≡ seat_of_member x) mine out.seat)
+    (subst (λ x. seat_of c.leave-pass.result ≡ seat_of_member x) mine out.seat)
     (subst (λ (x : Member). view_of c.leave-pass.result ≡ made_in (first_row (rows_on left)) x.actor) mine out.view)
     (subst (λ (x : Member). rows_on c.leave-pass.new.self ≡ rows_of_only (isnt (only_this x.actor)) (rows_on left)) mine out.left)

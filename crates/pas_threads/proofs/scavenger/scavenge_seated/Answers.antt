@@ -40,4 +40,5 @@ returns-clause-did g c = λ s asked p sound at.
     let sits = at.stands.stands.sits in
     let sat = c.sit_down-desk.ensures.sat s p at.lent sits.actor sits.stood in
     let did = c.scavenge.ensures.did (home_at desk) s asked p refl sound (crew_sits desk is at sat) in
-    crew_left desk now is home sat did c.sit_down-desk.ensures.many c.scavenge.ensures.many (c.rise.ensures.rose s did.came.reached (crew_may_rise desk now is home sat did))
+    crew_left desk now is home sat did c.sit_down-desk.ensures.many c.scavenge.ensures.many
+    (c.rise.ensures.rose s did.came.reached (crew_may_rise desk now is home sat did))

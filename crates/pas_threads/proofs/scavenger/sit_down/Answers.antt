@@ -1,6 +1,5 @@
 use Rattle.std.proofs.Common.{sym, subst}
 use Rattle.pas_shared.specs.Benches.{rows_on, HasLooked, IsMemberOf}
-use Rattle.pas_shared.specs.declared.bench.{Bench.Bench, Member.Member}
 use Rattle.pas_threads.proofs.CrewSits.{first_crew, first_tell, first_sits, all_sat}
 use Rattle.pas_threads.proofs.scavenger.sit_down.Goals as goal
 
@@ -22,5 +21,5 @@ returns-clause-sat c = λ s p lent scavenger view.
     let rows = c.seat-member.ensures.rows in
     let none = c.open-bench.ensures.rows in
     let all = c.seat_lent.ensures.seated s p lent (first_crew pass rows none scavenger) (first_tell p.list pass rows none scavenger view) in
-    all_sat c.bench_desk.result (subst (λ (b : Bench). HasLooked (rows_on c.seat_lent.new.bench) (rows_on b)) (sym c.bench_desk.ensures.bench) c.look.ensures.looked) all
-    (subst (λ (x : Member). IsMemberOf pass x) (sym c.bench_desk.ensures.member) c.seat-member.ensures.member) scavenger
+    all_sat c.bench_desk.result (subst (λ b. HasLooked (rows_on c.seat_lent.new.bench) (rows_on b)) (sym c.bench_desk.ensures.bench) c.look.ensures.looked) all
+    (subst (IsMemberOf pass) (sym c.bench_desk.ensures.member) c.seat-member.ensures.member) scavenger

@@ -1,10 +1,10 @@
-use Rattle.std.proofs.Common.{◌≡◌, ℕ, ◌<◌, length, get_or, Option, Some, refl, sym, ap, ◌∙◌, subst, arith, length-set, get_or-set_other}
+use Rattle.std.proofs.Common.{◌≡◌, ℕ, ◌<◌, length, get_or, Some, refl, sym, ap, ◌∙◌, subst, arith, length-set, get_or-set_other}
 use Rattle.std.proofs.lemmas.{List.get_or_default, Option.same_Some}
 use Rattle.pas_shared.specs.{Passes.IsPassOf, Ledgers.so_far, Ledgers.actors_in}
 use Rattle.pas_shared.specs.declared.pass.SharedPass.{SharedPass}
 use Rattle.pas_threads.specs.{Pairs.IsKeeperOf, Settling.StandsIn, Settling.Settled}
-use Rattle.pas_threads.specs.declared.{keeper.Keeper.Keeper, workers.Worker.Worker}
-use Rattle.pas_threads.proofs.SettledTeams.{gives, settled_with, stands_still, with_pass, pass_back, kept_at, passes_at, here_or_later}
+use Rattle.pas_threads.specs.declared.workers.Worker.{Worker}
+use Rattle.pas_threads.proofs.Closing.{gives, settled_with, stands_still, with_pass, pass_back, kept_at, passes_at, here_or_later}
 use Rattle.pas_threads.proofs.settling.+settle_threads.Goals as goal
 use Rattle.pas_threads.proofs.settling.+settle_threads.Goals.{After-settle_threads, After-give_back-pass}
 
@@ -22,39 +22,45 @@ settle_threads-requires t c =
         c.take_in-rest.ensures.same.table ∙ c.requires.of,
         (
           passes_at ws at mid c.requires.threads,
-          λ i d less. subst (λ (o : Option Keeper). IsKeeperOf c.args.region.now o) (sym (kept_at ws at i mid e d there refl (omega (arith, less, size)))) (c.requires.keepers i d (omega (arith, less, size))),
+          λ i d less. subst (IsKeeperOf c.args.region.now) (sym (kept_at ws at i mid e d there refl (omega (arith, less, size)))) (c.requires.keepers i d (omega (arith, less, size))),
         ),
       ),
     )
 
 -- the pass that was taken in is one of the region
 module _ (t : ℕ) (c : After-settle_threads t) where
+  -- The pass is one of the region.
   of : IsPassOf c.args.region.now c.in-Some.pass
   of =
       let has = c.requires.threads c.args.at c.index-workers-at.result (omega arith) (omega (arith, c.if-at-workers.false)) in
       let same = same_Some has.pass c.in-Some.pass (sym has.present ∙ sym c.take.ensures.value ∙ c.in-Some.is) in
-      subst (λ (p : SharedPass). IsPassOf c.args.region.now p) same has.of
+      subst (IsPassOf c.args.region.now) same has.of
 
 -- its steps stand in the ledger, which was settled with it
 module _ (t : ℕ) (c : After-give_back-pass t) (of : IsPassOf c.args.region.now c.in-Some.pass) where
+  -- The ledger has what the pass brought, and the pass stands in it.
   settled : Settled c.args.ledger.now c.give_back-pass.new.self × StandsIn (so_far c.give_back-pass.new.self) c.in-Some.pass
   settled =
       let all = c.settle_threads.ensures.settled in
-      let back = c.give_back-pass.ensures.back c.in-Some.pass (actors_in c.args.ledger.now) of c.take_in-rest.ensures.rest (all.actors ∙ c.take_in-rest.ensures.taken) in
+      let back = c.give_back-pass.ensures.back c.in-Some.pass (actors_in c.args.ledger.now) of c.take_in-rest.ensures.rest
+      (all.actors ∙ c.take_in-rest.ensures.taken) in
       settled_with c.in-Some.pass c.args.ledger.now c.take_in-rest.new.self c.settle_threads.new.ledger c.give_back-pass.new.self c.take_in-rest.ensures.same c.take_in-rest.ensures.taken all
       c.give_back-pass.ensures.same back.1
 
 pub give_back-pass-requires-clause-last : goal.give_back-pass-requires-clause-last
 give_back-pass-requires-clause-last t c =
-    gives c.args.region.now c.in-Some.pass c.take_in-rest.result c.args.ledger.now c.take_in-rest.new.self c.settle_threads.new.ledger (of t (goal.at.give_back-pass-requires-clause-last t c).After-settle_threads)
+    gives c.args.region.now c.in-Some.pass c.take_in-rest.result c.args.ledger.now c.take_in-rest.new.self c.settle_threads.new.ledger
+    (of t (goal.at.give_back-pass-requires-clause-last t c).After-settle_threads)
     c.take_in-rest.ensures.rest c.take_in-rest.ensures.taken c.settle_threads.ensures.settled
 
 pub returns-clause-same : goal.returns-clause-same
 returns-clause-same t c =
     let of = of t (goal.at.returns-clause-same t c).After-settle_threads in
-    let back = c.give_back-pass.ensures.back c.in-Some.pass (actors_in c.args.ledger.now) of c.take_in-rest.ensures.rest (c.settle_threads.ensures.settled.actors ∙ c.take_in-rest.ensures.taken) in
-    let given = ap (λ (p : SharedPass). Some p) back.0 ∙ sym c.in-Some.is ∙ c.take.ensures.value in
-    pass_back c.args.workers.now c.settle_threads.new.workers c.args.at c.index-workers-at.result c.index-workers-at-2.result c.take.new.self _ (omega (arith, c.if-at-workers.false))
+    let back = c.give_back-pass.ensures.back c.in-Some.pass (actors_in c.args.ledger.now) of c.take_in-rest.ensures.rest
+    (c.settle_threads.ensures.settled.actors ∙ c.take_in-rest.ensures.taken) in
+    let given = ap Some back.0 ∙ sym c.in-Some.is ∙ c.take.ensures.value in
+    pass_back c.args.workers.now c.settle_threads.new.workers c.args.at c.index-workers-at.result c.index-workers-at-2.result c.take.new.self _
+    (omega (arith, c.if-at-workers.false))
     c.settle_threads.ensures.same given
 
 pub returns-clause-settled : goal.returns-clause-settled

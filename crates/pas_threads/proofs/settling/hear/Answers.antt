@@ -1,19 +1,19 @@
-use Rattle.std.proofs.Common.{◌∙◌, List, sym, subst}
+use Rattle.std.proofs.Common.{◌∙◌, sym, subst}
 use Rattle.std.proofs.lemmas.Option.{same_Some}
 use Rattle.pas_shared.specs.{Ruled.AreEarlier, Ruled.bases_in, Benches.rows_on, Benches.IsBenchOf, Ledgers.looks_of}
-use Rattle.pas_shared.specs.declared.{bench.Bench.Bench, rule.Entry.Entry}
-use Rattle.pas_threads.proofs.Hearing.{looks_apart}
+use Rattle.pas_threads.proofs.TakingTurns.{looks_apart}
 use Rattle.pas_threads.proofs.settling.hear.Goals as goal
 
 pub hear-requires-clause-bench : goal.hear-requires-clause-bench
 hear-requires-clause-bench c =
     let has = c.requires.bench in
-    subst (λ (b : Bench). IsBenchOf c.args.region.now b) (same_Some has.bench c.in-Some.bench (sym has.present ∙ sym c.take.ensures.value ∙ c.in-Some.is)) has.of
+    subst (IsBenchOf c.args.region.now) (same_Some has.bench c.in-Some.bench (sym has.present ∙ sym c.take.ensures.value ∙ c.in-Some.is)) has.of
 
 pub returns-clause-saw : goal.returns-clause-saw
-returns-clause-saw c = λ l first. (looks_apart (looks_of c.args.ledger.now) (bases_in (rows_on c.in-Some.bench)) l (subst (λ (ls : List (List Entry)). AreEarlier ls l) c.hear.ensures.heard first)).0
+returns-clause-saw c =
+    λ l first. (looks_apart (looks_of c.args.ledger.now) (bases_in (rows_on c.in-Some.bench)) l (subst (λ ls. AreEarlier ls l) c.hear.ensures.heard first)).0
 
 pub returns-clause-heard : goal.returns-clause-heard
 returns-clause-heard c = λ bench is l first.
-    subst (λ (b : Bench). AreEarlier (bases_in (rows_on b)) l) (same_Some c.in-Some.bench bench (sym c.in-Some.is ∙ c.take.ensures.value ∙ is))
-    (looks_apart (looks_of c.args.ledger.now) (bases_in (rows_on c.in-Some.bench)) l (subst (λ (ls : List (List Entry)). AreEarlier ls l) c.hear.ensures.heard first)).1
+    subst (λ b. AreEarlier (bases_in (rows_on b)) l) (same_Some c.in-Some.bench bench (sym c.in-Some.is ∙ c.take.ensures.value ∙ is))
+    (looks_apart (looks_of c.args.ledger.now) (bases_in (rows_on c.in-Some.bench)) l (subst (λ ls. AreEarlier ls l) c.hear.ensures.heard first)).1

@@ -1,6 +1,6 @@
 use Rattle.std.proofs.Common.{◌≡◌, ◌+◌, ◌∙◌, true, false, sym, arith}
 use Rattle.pas_bits.specs.Masks.{is_set}
-use Rattle.pas_threads.proofs.Hearing.{hears_first, hears_next, hears_pass, bench_next}
+use Rattle.pas_threads.proofs.TakingTurns.{hears_first, hears_next, hears_pass, bench_next}
 use Rattle.pas_threads.proofs.settling.hear_all.Goals as goal
 use Rattle.pas_threads.proofs.settling.hear_all.Goals.{then-get, else-get}
 

@@ -1,6 +1,6 @@
 -- the benches of the workers of the mask before this place were heard of
 use Rattle.pas_shared.specs.Ledgers.{IsLedgerOf}
-use Rattle.pas_threads.proofs.Hearing.{HeardSoFar}
+use Rattle.pas_threads.proofs.TakingTurns.{HeardSoFar}
 use Rattle.pas_threads.proofs.settling.hear_all.Given as goal
 
 abbrev pub invariant-loop-index : goal.invariant-loop-index

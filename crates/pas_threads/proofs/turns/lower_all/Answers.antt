@@ -18,7 +18,8 @@ did : {region : SharedRegion} {s : Session} {slot : Option SharedPass} {old now 
     → ((f : Profile) (actor : ℕ) (later : LaterKept) (q : Progress) → KeeperStands region f actor keeper later q
     → KeeperLowered region f actor keeper low later q)
     → KeeperLowered region s.profile (s.threads + suc i) keeper low no_more so.done.lowered.reached
-did {s = s} {now = now} i d keeper so lt is lowers = let had = so.done.lowered.each i d lt in lowers s.profile (s.threads + suc i) no_more so.done.lowered.reached (stands_for (get_or now i d).keeper keeper is had.of had.waits)
+did {s = s} {now = now} i d keeper so lt is lowers = let had = so.done.lowered.each i d lt in
+    lowers s.profile (s.threads + suc i) no_more so.done.lowered.reached (stands_for (get_or now i d).keeper keeper is had.of had.waits)
 
 pub loop-index-init : goal.loop-index-init
 loop-index-init c = record { of = c.requires.of; same = refl; low = λ s p may stand stood. lowers_begin may stand stood }
@@ -46,7 +47,8 @@ settle-requires-clause-stand c =
     let its = did {low = one.0} i d has.0 so lt has.1 one.2 in (
       r.0,
       its.did.reached.list,
-      subst (λ (v : Scavenger). ActorsStand c.args.region.now r.0 v.pass (set c.loop-index.threads i c.lower_one.new.worker) its.did.reached.list) (sym c.loop-index.invariant.same)
+      subst (λ (v : Scavenger). ActorsStand c.args.region.now r.0 v.pass (set c.loop-index.threads i c.lower_one.new.worker) its.did.reached.list)
+          (sym c.loop-index.invariant.same)
           (sweep_stands i d c.lower_one.new.worker has.0 one.0 so lt c.loop-index.auto.threads has.1 c.lower_one.ensures.but one.1 its),
     )
 
@@ -66,8 +68,9 @@ loop-index-preserved c = elim c.if-lower_one.branch [
             let so = c.loop-index.invariant.low s p may stand stood in
             let its = did {low = one.0} i d has.0 so lt has.1 one.2 in
             let stands = sweep_stands i d now has.0 one.0 so lt c.loop-index.auto.threads has.1 c.lower_one.ensures.but one.1 its in
-            let settled = w.settle.ensures.stand s its.did.reached.list (subst (λ (v : Scavenger). ActorsStand c.args.region.now s v.pass (set c.loop-index.threads i now) its.did.reached.list) (sym c.loop-index.invariant.same) stands) in
-            subst (λ (ws : List Worker). LowersSoFar c.args.region.now s c.args.scavenger.now.pass (i + 1) c.args.threads.now ws (so_far c.args.ledger.now) (so_far w.settle.new.ledger) p) (sym w.settle.ensures.same)
+            let settled = w.settle.ensures.stand s its.did.reached.list (subst (λ (v : Scavenger). ActorsStand c.args.region.now s v.pass
+            (set c.loop-index.threads i now) its.did.reached.list) (sym c.loop-index.invariant.same) stands) in
+            subst (λ ws. LowersSoFar c.args.region.now s c.args.scavenger.now.pass (i + 1) c.args.threads.now ws (so_far c.args.ledger.now) (so_far w.settle.new.ledger) p) (sym w.settle.ensures.same)
             (lowers_go_on i d now has.0 one.0 so lt c.loop-index.auto.threads has.1 c.lower_one.ensures.but one.1 its may w.settle.ensures.settled.earlier settled);
       })))
   | else-lower_one w ↦

@@ -1,7 +1,6 @@
-use Rattle.std.proofs.Common.{◌≡◌, ◌∙◌, Option, Some, None, refl, ap, sym, subst}
+use Rattle.std.proofs.Common.{◌≡◌, ◌∙◌, Some, None, refl, ap, sym, subst}
 use Rattle.std.proofs.lemmas.{Bool.false≢true, Option.same_Some}
 use Rattle.pas_threads.specs.{Pairs.no_more, Pairs.KeeperStands, Pairs.KeeperLowered, Kits.with_keeper}
-use Rattle.pas_threads.specs.declared.keeper.Keeper.{Keeper}
 use Rattle.pas_threads.proofs.Keepers.{stands_for}
 use Rattle.pas_threads.proofs.turns.lower_one.Goals as goal
 
@@ -21,8 +20,8 @@ returns-in-Some-clause-one c keeper is =
     let same = same_Some keeper c.in-Some.keeper (sym is ∙ sym c.in-Some.ensures.value) in (
       c.lower.result,
       refl,
-      λ f actor later p at. subst (λ (k : Keeper). KeeperLowered c.args.region.now f actor k c.lower.result later p) (sym same)
-          (c.lower.ensures.lowered f actor later p (subst (λ (k : Keeper). KeeperStands c.args.region.now f actor k later p) same at)),
+      λ f actor later p at. subst (λ k. KeeperLowered c.args.region.now f actor k c.lower.result later p) (sym same)
+          (c.lower.ensures.lowered f actor later p (subst (λ k. KeeperStands c.args.region.now f actor k later p) same at)),
     )
 
 pub returns-in-None-clause-one : goal.returns-in-None-clause-one
@@ -32,4 +31,4 @@ pub returns-in-None-clause-has : goal.returns-in-None-clause-has
 returns-in-None-clause-has c on = absurd (false≢true on)
 
 pub returns-in-None-clause-none : goal.returns-in-None-clause-none
-returns-in-None-clause-none c off = (sym c.in-None.ensures.value, ap (λ (o : Option Keeper). with_keeper c.args.worker.now o) (c.take.ensures.after ∙ c.in-None.ensures.value))
+returns-in-None-clause-none c off = (sym c.in-None.ensures.value, ap (with_keeper c.args.worker.now) (c.take.ensures.after ∙ c.in-None.ensures.value))

@@ -1,4 +1,4 @@
-use Rattle.std.proofs.Common.{◌+◌, ◌∙◌, suc, set, refl, sym, subst}
+use Rattle.std.proofs.Common.{◌∙◌, suc, set, refl, sym, subst}
 use Rattle.pas_threads.specs.{Sessions.evenly, Settling.ActorsStand}
 use Rattle.pas_threads.specs.declared.scavenger.Scavenger.{Scavenger}
 use Rattle.pas_threads.proofs.Closing.{stops_begin, next_stands, stops_next, stops_go_on, stops_end}
@@ -23,7 +23,8 @@ settle-requires-clause-stand c =
     let so = c.loop-index.invariant.rests r.0 r.1 r.2 r.3 r.4 r.5 in
     let i = c.loop-index.index in
     let d = c.index-threads-index.result in
-    let t = c.stop.ensures.stopped r.0.profile (suc i) (evenly (r.1 (suc i))) so.done.stopped.turns.came.reached (so.done.stopped.turns.stand i d c.loop-index-test.true).here in (
+    let t = c.stop.ensures.stopped r.0.profile (suc i) (evenly (r.1 (suc i))) so.done.stopped.turns.came.reached
+    (so.done.stopped.turns.stand i d c.loop-index-test.true).here in (
       r.0,
       t.did.does.reached.list,
       rw c.loop-index.invariant.same (next_stands i d c.stop.new.worker so.done r.4 c.loop-index-test.true c.loop-index.auto.threads t c.stop.ensures.empty),
@@ -39,9 +40,11 @@ loop-index-preserved c = record {
       let test = c.loop-index-test.true in
       let d = c.index-threads-index.result in
       let w = c.stop.new.worker in
-      let t = c.stop.ensures.stopped s.profile (suc i) (evenly (later (suc i))) so.done.stopped.turns.came.reached (so.done.stopped.turns.stand i d test).here in
+      let t = c.stop.ensures.stopped s.profile (suc i) (evenly (later (suc i))) so.done.stopped.turns.came.reached
+      (so.done.stopped.turns.stand i d test).here in
       let stands = next_stands i d w so.done stand test c.loop-index.auto.threads t c.stop.ensures.empty in
-      let settled = c.settle.ensures.stand s t.did.does.reached.list (subst (λ (v : Scavenger). ActorsStand c.args.region.now s v.pass (set c.loop-index.threads i w) t.did.does.reached.list) (sym c.loop-index.invariant.same) stands) in
+      let settled = c.settle.ensures.stand s t.did.does.reached.list (subst (λ (v : Scavenger). ActorsStand c.args.region.now s v.pass
+      (set c.loop-index.threads i w) t.did.does.reached.list) (sym c.loop-index.invariant.same) stands) in
       let next = stops_next i d w so.done stand test c.loop-index.auto.threads t c.stop.ensures.empty c.settle.ensures.settled.earlier settled in
       rw c.settle.ensures.same (stops_go_on i so test next);
 }

@@ -1,7 +1,6 @@
 use Rattle.std.proofs.Common.{◌≡◌, ◌∙◌, [], ◌∷◌, Some, refl, ap, sym, subst}
 use Rattle.pas_cache.specs.Caches.{cached}
 use Rattle.pas_shared.specs.Passes.{IsPassOf}
-use Rattle.pas_shared.specs.declared.region.SharedRegion.{SharedRegion}
 use Rattle.pas_trace.specs.Acts.{Wakes}
 use Rattle.pas_acts.specs.{AtDesks.here, AtDesks.ThreadActs, Turns.RestsAt}
 use Rattle.pas_threads.proofs.Benched.{seated, rose}
@@ -20,8 +19,9 @@ returns c = record {
       let old = c.args.worker.now in
       let pass = c.desk-desk.result.pass in
       let is = sym c.take.ensures.value ∙ c.in-Some.is ∙ ap Some (sym c.desk-desk.ensures.pass) in
-      let did = rose (λ σ σ'. (x : ThreadActs f k (Wakes k ∷ []) [] [] (here σ (cached old.cache) old.out) (here σ' (cached c.begin.new.cache) old.out) later p) × (x.own ≡ [])) pass c.begin.new.desk.pass c.into_pass.result is at.has c.into_pass.ensures.pass
-      (subst (λ (r : SharedRegion). IsPassOf r c.into_pass.result) (c.begin.ensures.home ∙ c.desk-desk.ensures.region) c.into_pass.ensures.of)
+      let did = rose (λ σ σ'. (x : ThreadActs f k (Wakes k ∷ []) [] [] (here σ (cached old.cache) old.out)
+      (here σ' (cached c.begin.new.cache) old.out) later p) × (x.own ≡ [])) pass c.begin.new.desk.pass c.into_pass.result is at.has c.into_pass.ensures.pass
+      (subst (λ r. IsPassOf r c.into_pass.result) (c.begin.ensures.home ∙ c.desk-desk.ensures.region) c.into_pass.ensures.of)
       (c.begin.ensures.begins f k old.out later p (seated (λ σ. RestsAt f k σ (cached old.cache) old.out later p) pass is at.has at.rests))
       in (
         record { did = record { before = did.before; after = did.after; does = did.does.0 }; requests = refl; keeper = refl },

@@ -30,7 +30,8 @@ loop-index-preserved c = elim c.if-get.branch [
       })
   | else-get w ↦
       let off : is_set c.args.awake (c.loop-index.index + 1) ≡ false = sym c.get.ensures ∙ w.if-get.false in
-      rw (w.threads-is) (record { far = λ f later p at. wakes_pass c.args.awake c.loop-index.index off c.loop-index-test.true (c.loop-index.invariant.far f later p at) })
+      rw (w.threads-is)
+      (record { far = λ f later p at. wakes_pass c.args.awake c.loop-index.index off c.loop-index-test.true (c.loop-index.invariant.far f later p at) })
 ]
 
 pub returns-clause-woke : goal.returns-clause-woke

@@ -1,9 +1,8 @@
-use Rattle.std.proofs.Common.{◌+◌, ◌++◌, List, Option, drop, length, get_or, length-set, ap, ◌∙◌, arith, get_or-set_other, length-append}
+use Rattle.std.proofs.Common.{◌+◌, drop, length, get_or, length-set, ap, ◌∙◌, arith, get_or-set_other, length-append}
 use Rattle.std.proofs.lemmas.List.{drop_all, get_or_default}
-use Rattle.pas_shared.specs.declared.pass.SharedPass.{SharedPass}
 use Rattle.pas_threads.specs.Kits.{kept_pass, kept_passes}
 use Rattle.pas_threads.specs.declared.workers.Worker.{Worker}
-use Rattle.pas_threads.proofs.End.{as_many, out_more, out_all, kept_next}
+use Rattle.pas_threads.proofs.StartAndEnd.{as_many, out_more, out_all, kept_next}
 use Rattle.pas_threads.proofs.whole.add_kept_passes.Goals as goal
 
 pub add_kept_pass-requires : goal.add_kept_pass-requires
@@ -15,7 +14,7 @@ add_kept_pass-requires c =
     let lt = c.loop-place-test.true in
     let own = get_or workers place e in
     let count = as_many c.args.passes.now.items c.loop-place.passes.items (kept_passes (drop place workers)) (kept_passes workers) i.added in
-    let next = ap (λ (ss : List (Option SharedPass)). length ss) (kept_next workers place own lt (get_or_default workers place e own lt)) in
+    let next = ap length (kept_next workers place own lt (get_or_default workers place e own lt)) in
     let both = length-append (kept_pass own.keeper) (kept_passes (drop (place + 1) workers)) in
     let left = ap (λ (v : Worker). length (kept_pass v.keeper)) (i.left place e (omega arith)) in
     record { places = omega (arith, count, next, both, left, i.places, c.requires.places) }

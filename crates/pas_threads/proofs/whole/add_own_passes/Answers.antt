@@ -1,8 +1,7 @@
-use Rattle.std.proofs.Common.{◌≡◌, ◌<◌, ◌+◌, ◌∷◌, [], ℕ, Option, drop, length, get_or, length-set, ap, sym, ◌∙◌, arith, get_or-set_other, length-drop}
+use Rattle.std.proofs.Common.{◌≡◌, ◌<◌, ◌+◌, ◌∷◌, [], ℕ, drop, length, get_or, length-set, ap, sym, ◌∙◌, arith, get_or-set_other, length-drop}
 use Rattle.std.proofs.lemmas.List.{drop_all, get_or_default, length-map}
-use Rattle.pas_shared.specs.declared.pass.SharedPass.{SharedPass}
 use Rattle.pas_threads.specs.declared.workers.Worker.{Worker}
-use Rattle.pas_threads.proofs.End.{own_slots, as_many, out_more, out_all, own_next}
+use Rattle.pas_threads.proofs.StartAndEnd.{own_slots, as_many, out_more, out_all, own_next}
 use Rattle.pas_threads.proofs.TakingTurns.{set_each}
 use Rattle.pas_threads.proofs.whole.add_own_passes.Goals as goal
 
@@ -40,8 +39,9 @@ loop-place-preserved c =
     let takes = c.take.ensures.value ∙ ap (λ (v : Worker). v.pass) (i.left place e (omega arith)) in
     let next = own_slots (drop (place + 1) workers) in
     record {
-      added = out_more c.loop-place.passes.items c.add_pass.new.passes.items (c.take.result ∷ []) (own_slots (drop place workers)) next _ c.add_pass.ensures.added
-          (own_next workers place own lt (get_or_default workers place e own lt) ∙ ap (λ (o : Option SharedPass). o ∷ next) (sym takes)) i.added;
+      added =
+          out_more c.loop-place.passes.items c.add_pass.new.passes.items (c.take.result ∷ []) (own_slots (drop place workers)) next _ c.add_pass.ensures.added
+          (own_next workers place own lt (get_or_default workers place e own lt) ∙ ap (λ o. o ∷ next) (sym takes)) i.added;
       places = c.add_pass.ensures.places ∙ i.places;
       many = length-set now place w ∙ many;
       left = λ j d le. get_or-set_other now place j w d (λ is. omega (arith, is, le)) ∙ i.left j d (omega (arith, le));
@@ -52,4 +52,5 @@ loop-place-preserved c =
 pub returns-clause-added : goal.returns-clause-added
 returns-clause-added c =
     let workers = c.args.workers.now in
-    out_all c.loop-place.passes.items (own_slots (drop c.loop-place.place workers)) _ (ap own_slots (drop_all c.loop-place.place workers c.loop-place-test.false)) c.loop-place.invariant.added
+    out_all c.loop-place.passes.items (own_slots (drop c.loop-place.place workers)) _
+    (ap own_slots (drop_all c.loop-place.place workers c.loop-place-test.false)) c.loop-place.invariant.added

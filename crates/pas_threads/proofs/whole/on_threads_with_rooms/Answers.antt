@@ -1,18 +1,16 @@
-use Rattle.std.proofs.Common.{List, length, map, ap, arith}
+use Rattle.std.proofs.Common.{length, map, ap, arith}
 use Rattle.std.proofs.lemmas.List.{length-map}
 use Rattle.pas_trace.specs.Plans.{ops_of}
-use Rattle.pas_trace.specs.declared.plan.Phase.{Phase}
 use Rattle.pas_trace.proofs.Keepers.{plan_actors}
 use Rattle.pas_acts.proofs.PlanFacts.{plan_phases, plan_valid, plan_operate}
-use Rattle.pas_threads.proofs.Start.{session_of, handed}
-use Rattle.pas_threads.proofs.End.{all_back, all_slots, all_of_region, shows, replayed_so}
+use Rattle.pas_threads.proofs.StartAndEnd.{session_of, handed, all_back, all_slots, all_of_region, shows, replayed_so}
 use Rattle.pas_threads.proofs.whole.on_threads_with_rooms.Goals as goal
 
 pub replay-team-requires-clause-phases : goal.replay-team-requires-clause-phases
 replay-team-requires-clause-phases g c =
-    let n = ap (λ (ps : List Phase). length ps) c.as_slice.ensures in
+    let n = ap length c.as_slice.ensures in
     let m = length-map c.as_slice.result.now ops_of in
-    let k = ap (λ (ps : List Phase). length (map ops_of ps)) c.as_slice.ensures in
+    let k = ap (λ ps. length (map ops_of ps)) c.as_slice.ensures in
     let few = plan_phases c.requires.plan.2 c.requires.plan.1 in
     omega (arith, m, k, few)
 
@@ -36,10 +34,13 @@ passes_of-passes-requires-clause-back g c =
 pub close_settled-requires-clause-passes : goal.close_settled-requires-clause-passes
 close_settled-requires-clause-passes g c =
     let start = handed c.args.out.now c.as_slice.result.now c.requires.plan.2 c.requires.kit c.as_slice.ensures c.requires.empty c.requires.room in
-    all_of_region (c.replay-team.ensures.replayed (session_of c.args.plan.now) start.0 start.1).stands c.passes_of-passes.result.items c.passes_of-passes.ensures
+    all_of_region
+    (c.replay-team.ensures.replayed (session_of c.args.plan.now) start.0 start.1).stands c.passes_of-passes.result.items c.passes_of-passes.ensures
 
 pub returns : goal.returns
 returns g c =
     let start = handed c.args.out.now c.as_slice.result.now c.requires.plan.2 c.requires.kit c.as_slice.ensures c.requires.empty c.requires.room in
-    let replayed = replayed_so c.args.plan.now c.as_slice.result.now c.as_slice.ensures (c.replay-team.ensures.replayed (session_of c.args.plan.now) start.0 start.1) in
-    shows {plan = c.args.plan.now} c.passes_of-passes.result.items (plan_valid c.requires.plan.2) (plan_operate c.requires.plan.2) c.requires.kit.profile replayed c.passes_of-passes.ensures c.close_settled.ensures
+    let replayed = replayed_so c.args.plan.now c.as_slice.result.now c.as_slice.ensures
+    (c.replay-team.ensures.replayed (session_of c.args.plan.now) start.0 start.1) in
+    shows {plan = c.args.plan.now} c.passes_of-passes.result.items (plan_valid c.requires.plan.2)
+    (plan_operate c.requires.plan.2) c.requires.kit.profile replayed c.passes_of-passes.ensures c.close_settled.ensures

@@ -3,12 +3,13 @@ use Rattle.pas_shared.specs.Benches.{row_on}
 use Rattle.pas_shared.specs.declared.{bench.Bench.Bench, bench.Member.Member, bench_desk.BenchHome.BenchHome, region.SharedRegion.SharedRegion}
 use Rattle.pas_threads.specs.Pairs.{MayDoPhase}
 use Rattle.pas_threads.specs.Seats.{seated_actors, IsAnother, KeeperSits, PairRose, PairSits}
-use Rattle.pas_threads.proofs.Pairs.{sat_at, begins, keeper_may, keeper_other, actors_are, pair_did}
+use Rattle.pas_threads.proofs.Benched.{sat_at, begins, keeper_may, keeper_other, actors_are, pair_did}
 use Rattle.pas_threads.proofs.workers.perform.{Given.Over, Goals.After-bench_desk-desk}
 use Rattle.pas_threads.proofs.workers.perform.Goals as goal
 
 -- both sit at the desk, as they sat down on its bench
 module _ (g : Over) (c : After-bench_desk-desk g) where
+  -- The thread and its keeper sit at their bench.
   sits : PairSits c.bench_desk-desk.result.region.now c.in-Some.pass c.take-2.result c.bench_desk-desk.result.place.bench c.bench_desk-desk.result.place.member
       c.sit_down-bench.result.keeper
   sits = sat_at c.bench_desk-desk.result c.bench_desk-desk.ensures.region c.bench_desk-desk.ensures.bench c.bench_desk-desk.ensures.member c.sit_down-bench.ensures.sits
@@ -53,7 +54,8 @@ rise-bench-requires-clause-actors g c =
     let there = c.work.new.keeper.keeper in
     let start = begins desk (has_pass g d) c.take-2.ensures.value (sits g d) m in
     let works = c.work.ensures.works m.profile (m.threads + m.thread) m.later m.more m.progress start in
-    subst (λ (z : Bench × Member). (row_on z.0).actors ≡ z.1.actor ∷ seated_actors there) (λ i. (sym c.into_parts-bench.ensures.bench i, sym c.into_parts-bench.ensures.member i))
+    subst (λ (z : Bench × Member). (row_on z.0).actors ≡ z.1.actor ∷ seated_actors there)
+    (λ i. (sym c.into_parts-bench.ensures.bench i, sym c.into_parts-bench.ensures.member i))
     (actors_are desk (has_pass g d) c.take-2.ensures.value (sits g d) m c.work.new.desk _ there works c.work.ensures.home)
 
 pub returns : goal.returns
@@ -68,7 +70,8 @@ returns g c = record {
         let out = c.rise-bench.result in
         let start = begins desk (has_pass g d) c.take-2.ensures.value (sits g d) m in
         let works = c.work.ensures.works f (threads + k) later more p start in
-        let rose = subst (λ (z : Bench × Member). PairRose c.args.region.now z.0 z.1 there out.0 out.1 out.2) (λ i. (c.into_parts-bench.ensures.bench i, c.into_parts-bench.ensures.member i)) c.rise-bench.ensures.rose in
+        let rose = subst (λ (z : Bench × Member). PairRose c.args.region.now z.0 z.1 there out.0 out.1 out.2)
+        (λ i. (c.into_parts-bench.ensures.bench i, c.into_parts-bench.ensures.member i)) c.rise-bench.ensures.rose in
         let did = pair_did desk (has_pass g d) c.take-2.ensures.value (sits g d) m c.work.new.desk _ there works c.work.ensures.home out.0 out.1 out.2 rose in
         record { did = did.0; of = did.1; left = did.2 };
   };

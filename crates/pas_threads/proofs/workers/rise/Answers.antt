@@ -1,5 +1,4 @@
-use Rattle.pas_threads.proofs.Benched.{looked_fresh}
-use Rattle.pas_threads.proofs.Pairs.{may_leave_first, fresh_then, sits_then, pair_rose}
+use Rattle.pas_threads.proofs.Benched.{looked_fresh, may_leave_first, fresh_then, sits_then, pair_rose}
 use Rattle.pas_threads.proofs.workers.rise.Goals as goal
 
 pub let_keeper_leave-keeper-requires-clause-fresh : goal.let_keeper_leave-keeper-requires-clause-fresh

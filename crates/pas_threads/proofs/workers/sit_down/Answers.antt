@@ -1,14 +1,13 @@
-use Rattle.std.proofs.Common.{◌∙◌, ◌++◌, ◌∷◌, [], List, ap}
+use Rattle.std.proofs.Common.{◌∙◌, ◌++◌, ◌∷◌, [], ap}
 use Rattle.pas_shared.specs.{Ruled.rows_of, Ledgers.part_of}
-use Rattle.pas_shared.specs.declared.rule.Row.{Row}
 use Rattle.pas_threads.specs.Seats.{keeper_parts}
-use Rattle.pas_threads.proofs.{Benched.sat, Pairs.pair_sat, Pairs.has_thread}
+use Rattle.pas_threads.proofs.Benched.{sat, pair_sat, has_thread}
 use Rattle.pas_threads.proofs.workers.sit_down.Goals as goal
 
 pub returns : goal.returns
 returns c =
-    let kept = c.seat_keeper-keeper.ensures.rows ∙ ap (λ (rs : List Row). rows_of (keeper_parts c.args.keeper) ++ rs) c.open-bench.ensures.rows in
-    let rows = c.seat-member.ensures.rows ∙ ap (λ (rs : List Row). rows_of (part_of c.args.pass ∷ []) ++ rs) kept in
+    let kept = c.seat_keeper-keeper.ensures.rows ∙ ap (λ rs. rows_of (keeper_parts c.args.keeper) ++ rs) c.open-bench.ensures.rows in
+    let rows = c.seat-member.ensures.rows ∙ ap (λ rs. rows_of (part_of c.args.pass ∷ []) ++ rs) kept in
     record {
       sits = pair_sat c.args.pass c.args.keeper c.seat-member.result c.seat_keeper-keeper.result c.seat-member.new.self c.look.new.self c.requires.pass c.requires.keeper c.seat_keeper-keeper.ensures.seated rows
           (sat c.seat-member.new.self c.look.new.self c.args.pass c.seat-member.result c.requires.pass c.seat-member.ensures.member c.look.ensures.of c.look.ensures.looked (has_thread c.args.pass c.seat-member.new.self _ rows))

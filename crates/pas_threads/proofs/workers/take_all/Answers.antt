@@ -1,9 +1,9 @@
-use Rattle.std.proofs.Common.{◌≡◌, ℕ, length, get_or, inr, refl, sym, ◌∙◌, subst, arith, length-set, get_or-set_other}
+use Rattle.std.proofs.Common.{◌≡◌, length, get_or, inr, refl, sym, ◌∙◌, subst, arith, length-set, get_or-set_other}
 use Rattle.std.proofs.lemmas.List.{get_or_default}
 use Rattle.pas_answers.specs.Names.{names_held, block_named}
 use Rattle.pas_acts.specs.NameBooks.{requests_in, names_of, known_in, AreWithin}
 use Rattle.pas_threads.specs.declared.workers.Worker.{Worker}
-use Rattle.pas_threads.proofs.NamesOfPhases.{TakenUpTo, taken_more, with_requests, emptied_more}
+use Rattle.pas_threads.proofs.Performed.{TakenUpTo, taken_more, with_requests, emptied_more}
 use Rattle.pas_threads.proofs.workers.take_all.Goals as goal
 
 pub loop-index-init : goal.loop-index-init
@@ -22,7 +22,7 @@ take-requires c =
     let lt = c.loop-index-test.true in
     record {
       within = subst (λ (w : Worker). AreWithin (names_held c.loop-index.book.names) (names_of (requests_in w.requests))) (sym (c.loop-index.invariant.left i e (omega arith)))
-          (subst (λ (m : ℕ). AreWithin m (names_of (requests_in (get_or c.args.workers.now i e).requests))) (sym c.loop-index.invariant.room) (c.requires.within i e lt).within);
+          (subst (λ m. AreWithin m (names_of (requests_in (get_or c.args.workers.now i e).requests))) (sym c.loop-index.invariant.room) (c.requires.within i e lt).within);
     }
 
 pub loop-index-preserved : goal.loop-index-preserved
@@ -40,14 +40,15 @@ loop-index-preserved c =
       room = c.take.ensures.room ∙ c.loop-index.invariant.room;
       taken = λ n. taken_more c.args.book.now c.loop-index.book c.take.new.self old i n (get_or old i e) lt (λ d. get_or_default old i e d lt)
           (subst (λ (w : Worker). block_named c.take.new.self.names n ≡ known_in c.loop-index.book w.requests n) left (c.take.ensures.names n)) (c.loop-index.invariant.taken n);
-      emptied = emptied_more old now i e c.take.new.requests (omega (arith, lt, many)) left lt c.take.ensures.empty c.take.ensures.bound c.loop-index.invariant.emptied;
+      emptied = emptied_more old now i e c.take.new.requests
+          (omega (arith, lt, many)) left lt c.take.ensures.empty c.take.ensures.bound c.loop-index.invariant.emptied;
       left = λ j d le. get_or-set_other now i j new d (λ is. omega (arith, le, is)) ∙ c.loop-index.invariant.left j d (omega (arith, le));
     }
 
 pub returns-clause-taken : goal.returns-clause-taken
 returns-clause-taken c = λ n.
     let all : c.loop-index.index ≡ length c.args.workers.now = omega (arith, c.loop-index-test.false, c.loop-index.auto.index-end) in
-    subst (λ (m : ℕ). TakenUpTo c.args.book.now c.loop-index.book c.args.workers.now m n) all (c.loop-index.invariant.taken n)
+    subst (λ m. TakenUpTo c.args.book.now c.loop-index.book c.args.workers.now m n) all (c.loop-index.invariant.taken n)
 
 pub returns-clause-emptied : goal.returns-clause-emptied
 returns-clause-emptied c = λ i d lt.

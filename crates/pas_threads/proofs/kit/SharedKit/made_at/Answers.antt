@@ -1,18 +1,17 @@
-use Rattle.std.proofs.Common.{◌+◌, ◌∷◌, ℕ, List, Some, length, slice_index, ap, sym, ◌∙◌, subst, arith}
+use Rattle.std.proofs.Common.{◌+◌, ◌∷◌, Some, length, slice_index, ap, sym, ◌∙◌, subst, arith}
 use Rattle.std.proofs.lemmas.Option.{same_Some}
 use Rattle.pas_profile.specs.declared.profile.Profile.{Profile}
 use Rattle.pas_trace.specs.Plans.{bounds_of}
 use Rattle.pas_trace.proofs.Keepers.{plan_actors}
-use Rattle.pas_shared.specs.declared.pass.SharedPass.{SharedPass}
 use Rattle.pas_shared.proofs.Opened.{fresh_many}
 use Rattle.pas_acts.proofs.PlanFacts.{plan_bounds}
 use Rattle.pas_threads.specs.Kits.{AreNew}
-use Rattle.pas_threads.proofs.Start.{fresh_new, first_taken}
+use Rattle.pas_threads.proofs.StartAndEnd.{fresh_new, first_taken}
 use Rattle.pas_threads.proofs.kit.SharedKit.made_at.Goals as goal
 
 pub try_new-requires : goal.try_new-requires
 try_new-requires c = record {
-  bounds = ap (λ (bs : List ℕ). length bs) c.as_slice-bounds.ensures ∙ plan_bounds c.requires.plan.1 ∙ ap (λ (f : Profile). f.threads + 1) (sym c.region_of-profile.ensures.region);
+  bounds = ap length c.as_slice-bounds.ensures ∙ plan_bounds c.requires.plan.1 ∙ ap (λ (f : Profile). f.threads + 1) (sym c.region_of-profile.ensures.region);
 }
 
 pub rooms_of-requires-clause-left : goal.rooms_of-requires-clause-left
@@ -61,11 +60,11 @@ returns c =
       others = team.0;
       kept = team.1;
       many = team.3;
-      unused = subst (λ (ps : List SharedPass). AreNew region bounds 0 ps)
-          (first_taken c.in_ok-region.others.items c.remove-first.new.self.items first (omega (arith, many, same)) c.remove-first.ensures.value c.remove-first.ensures.items ∙ ap (λ (ps : List SharedPass). first ∷ ps) team.2)
+      unused = subst (AreNew region bounds 0) (first_taken c.in_ok-region.others.items c.remove-first.new.self.items first
+          (omega (arith, many, same)) c.remove-first.ensures.value c.remove-first.ensures.items ∙ ap (λ ps. first ∷ ps) team.2)
           (fresh_new region bounds 0 c.move_rooms.new.rooms.items c.in_ok-region.others.items fresh
-          (λ i d lt. same_Some _ _ (sym (rooms.each i d (omega (arith, lt, many))) ∙ c.in_ok-utility.ensures.rooms i (omega (arith, lt, many)) ∙ ap (λ (bs : List ℕ). Some (slice_index bs i)) c.as_slice-bounds.ensures)
-          ∙ ap (λ (n : ℕ). slice_index bounds n) (omega arith)));
+          (λ i d lt. same_Some _ _ (sym (rooms.each i d (omega (arith, lt, many))) ∙ c.in_ok-utility.ensures.rooms i (omega (arith, lt, many)) ∙ ap (λ bs. Some (slice_index bs i)) c.as_slice-bounds.ensures)
+          ∙ ap (slice_index bounds) (omega arith)));
       team = team.4;
       none = c.in-Ok.ensures.items;
       place = omega (arith, place, threads);
