@@ -1,23 +1,21 @@
 -- ALL ACTS of a replay: who acts in the replay of a plan, and that what is asked for is admitted; the first state of the text, which is that of a replay that did nothing
 -- yet; and the text of a state that is the replay's, which is what is written of it.
 use Rattle.std.proofs.lemmas.{Bool.Decides.nat_tests, Option.none-some}
-use Rattle.std.proofs.Common.{◌≡◌, ◌≢◌, ℕ, zero, suc, ◌+◌, ◌<◌, ◌≤◌, Bool, List, [], ◌∷◌, ◌++◌, map, Option, Some, MatchOption, sym, arith, not, ◌==◌, true}
-use Rattle.std.proofs.Common.{false, length, if◌then◌else◌, ◌-◌, codes, None, inl, inr, refl, ap, ◌∙◌, subst}
+use Rattle.std.proofs.Common.{◌≡◌, ◌≢◌, ℕ, zero, suc, ◌+◌, ◌<◌, ◌≤◌, Bool, List, [], ◌∷◌, ◌++◌, map, Option, Some, MatchOption, sym, arith, not, ◌==◌, false}
+use Rattle.std.proofs.Common.{length, if◌then◌else◌, ◌-◌, codes, None, inl, inr, refl, ap, ◌∙◌, subst}
 use Rattle.std.specs.List.{AllByRecursion, filter}
 use Rattle.pas_profile.specs.{Profiles.IsValid, Profiles.IsAdmitted, Requests.route_in, Directories.directory_read}
 use Rattle.pas_profile.specs.declared.{directory.Route.Route, directory.Directory.Directory, event.Event.Event, profile.Profile.Profile, word.Word.Word}
 use Rattle.pas_profile.proofs.{Lists.all_both, Sizes.large_for, Codecs.read-deed_word_of, Codecs.directory_from_profile}
-use Rattle.pas_trace.specs.Acts.{Act, Settles, StopsIdle, Wakes, Ends, Lowers, region_of, threads_of, keepers_of, acts_of_plan, act_kept, is_active}
-use Rattle.pas_trace.specs.Acts.{numbers_from, threads_where, active_threads, idle_threads, acts_of_chore, acts_of_work, acts_of_op, acts_of_ops, phase_acts}
-use Rattle.pas_trace.specs.Acts.{close_acts, acts_from, acts_of}
+use Rattle.pas_trace.specs.Acts.{Act, Wakes, Ends, Lowers, region_of, threads_of, keepers_of, acts_of_plan, is_active, numbers_from, threads_where}
+use Rattle.pas_trace.specs.Acts.{active_threads, idle_threads, acts_of_chore, acts_of_work, acts_of_op, acts_of_ops, phase_acts, close_acts, acts_from, acts_of}
 use Rattle.pas_trace.specs.Asked.{of_task, request_of, request_in, keeper_of, keeper_in}
 use Rattle.pas_trace.specs.EveryPlan.{all_ops, operations_of, IsActorBy, IsActorOf, IsSoundTask, IsSoundWork, AreSound, AreKept}
 use Rattle.pas_trace.specs.Plans.{IsPlanOf, ops_of}
 use Rattle.pas_trace.specs.declared.{item.Request.Request, plan.Chore.Chore, plan.Op.Op, plan.Plan.Plan, plan.Task.Task, plan.Work.Work}
 use Rattle.pas_trace.proofs.{EveryPlan.every_plan, Keepers.plan_actors}
 use Rattle.pas_same_text.specs.Known.{IsAdmittedWhat, IsGuardedWhat, IsPlanned, ArePlanned, IsCarried, IsKnown, IsKept, AreKnown}
-use Rattle.pas_same_text.specs.{Seats.IsThreadOf, Seats.IsActOf, Seats.AreSeated, Same.IsSame, Same.AreSameCaches, Acts.AreBlocksUsable, Acts.IsBetween}
-use Rattle.pas_same_text.specs.{Acts.IsListed, Told.IsTold}
+use Rattle.pas_same_text.specs.{Seats.IsThreadOf, Seats.IsActOf, Seats.AreSeated, Same.IsSame, Same.AreSameCaches, Acts.IsBetween, Acts.IsListed, Told.IsTold}
 use Rattle.pas_bits.proofs.Words.{none_of_zero}
 use Rattle.pas_machine.specs.State.{deed_in}
 use Rattle.pas_steps.specs.Lists.{Whole, word_after, visible, Legal}
@@ -36,6 +34,7 @@ use Rattle.pas_same_text.proofs.{SeatedActs.stamped_kept, KeepersRest.between_fr
 use Rattle.pas_large.specs.Doors.{Indexes, no_ranges}
 use Rattle.pas_report.specs.declared.record.Record.{Record}
 use Rattle.pas_answers.proofs.Reached.{was_so}
+use Rattle.pas_answers.proofs.EachAct.{all_front, all_back, all_of, all_of_chore}
 
 -- ---- several numbers, and acts of each of several actors
 all_from : (P : ℕ → Type 0) (k n : ℕ) → ((j : ℕ) → k ≤ j → j < k + n → P j) → AllByRecursion P (numbers_from k n)
@@ -45,10 +44,6 @@ all_from P k (suc n) each = (each k (omega arith) (omega arith), all_from P (k +
 all_chosen : (P : ℕ → Type 0) (chosen : ℕ → Bool) (ks : List ℕ) → AllByRecursion P ks → AllByRecursion P (filter chosen ks)
 all_chosen P chosen [] all = tt
 all_chosen P chosen (k ∷ ks) all = let ih = all_chosen P chosen ks all.1 in grind (arith, nat_tests, ih)
-
-one_each : (P : ℕ → Type 0) (Q : Act → Type 0) (to : ℕ → Act) → ((k : ℕ) → P k → Q (to k)) → (ks : List ℕ) → AllByRecursion P ks → AllByRecursion Q (map to ks)
-one_each P Q to each [] all = tt
-one_each P Q to each (k ∷ ks) all = (each k all.0, one_each P Q to each ks all.1)
 
 module _ (plan : Plan) where
   abbrev IsOwn : ℕ → Type 0
@@ -65,23 +60,17 @@ module _ (plan : Plan) where
 
   -- ---- the acts of an operation
   chore_own : (idle : List ℕ) (chore : Chore) → AllByRecursion IsOwn idle → AreOwn (acts_of_chore idle chore)
-  chore_own idle (Chore.Tick epoch) idles = ((tt, tt), tt)
-  chore_own idle Chore.Pass idles = ((tt, tt), tt)
-  chore_own idle (Chore.Idle n) idles = ((tt, tt), one_each IsOwn _ (λ k. StopsIdle k n) (λ k is. (is, tt)) idle idles)
+  chore_own idle chore idles =
+      all_of_chore (IsPlanned (threads_of plan) (region_of plan)) IsOwn idle chore (λ epoch. (tt, tt)) (tt, tt) (tt, tt) (λ k n is. (is, tt)) idles
 
   -- the actor that keeps the guard of a request of thread k, if it is guarded
   abbrev KeepsIt : ℕ → Option ℕ → Type 0
   KeepsIt k o = MatchOption o (Unit {0}) (λ keeper. (keeper ≡ threads_of plan + k) × (plan.guard ≢ 0))
 
-  -- a keeper stands behind the threads by the number of its thread, and so is one of the region's actors
-  kept_own : (keeper : Option ℕ) (op : Op) → IsOwn op.actor → IsAdmittedWhat (region_of plan) op.what
-      → ((k : ℕ) → keeper ≡ Some k → IsGuardedWhat (region_of plan) k op.what) → KeepsIt op.actor keeper → AreOwn (act_kept keeper op ∷ (Settles op.actor ∷ []))
-  kept_own keeper op thread admitted guarded keeps = search arith
-
   work_own : (idle : List ℕ) (op : Op) (work : Work) → AllByRecursion IsOwn idle → IsActorBy plan.profile work op.actor
       → IsAdmittedWhat (region_of plan) op.what → ((k : ℕ) → of_task keeper_of work ≡ Some k → IsGuardedWhat (region_of plan) k op.what)
       → KeepsIt op.actor (of_task keeper_of work) → AreOwn (acts_of_work idle op work)
-  work_own idle op work idles actor admitted guarded keeps = search (arith, kept_own, chore_own)
+  work_own idle op work idles actor admitted guarded keeps = search (arith, chore_own)
 
   -- ---- what is asked for: what the profile admits, its region does
   abbrev IsAdmittedHere : Request → Type 0
@@ -134,33 +123,24 @@ module _ (plan : Plan) where
       let idle : List ℕ = idle_threads (threads_of plan) ops in
       let active : List ℕ = active_threads (threads_of plan) ops in
       all_both (IsPlanned (threads_of plan) (region_of plan)) (map Wakes active) (acts_of_ops idle ops)
-      (one_each IsOwn _ Wakes (λ k is. (is, tt)) active (own_where _)) (ops_own idle ops (own_where (λ k. not (is_active ops k))) all)
+      (all_of _ IsOwn Wakes active (λ k is. (is, tt)) (own_where _)) (ops_own idle ops (own_where (λ k. not (is_active ops k))) all)
 
   close_own : AreOwn (close_acts (threads_of plan) (keepers_of plan))
   close_own =
-      let actors = plan_actors plan in
       let keepers : List ℕ = numbers_from (threads_of plan + 1) (keepers_of plan) in
       let own : Act → Type 0 = IsPlanned (threads_of plan) (region_of plan) in (
         (tt, tt),
-        all_both own (map Ends (numbers_from 1 (threads_of plan))) (map Lowers keepers) (one_each IsOwn own Ends (λ k is. (is, tt)) _ all_own)
-            (one_each _ own Lowers (λ k is. (is, tt)) keepers
-            (all_from _ _ _ (λ j low high. (omega (arith, low), omega (arith, high, actors))))),
+        all_both own (map Ends (numbers_from 1 (threads_of plan))) (map Lowers keepers) (all_of own IsOwn Ends _ (λ k is. (is, tt)) all_own)
+            (all_of own _ Lowers keepers (λ k is. (is, tt))
+            (all_from _ _ _ (λ j low high. (omega (arith, low), omega (arith, high, (plan_actors plan)))))),
       )
-
-  front : (xs ys : List Op) → AllByRecursion IsOwnOp (xs ++ ys) → AllByRecursion IsOwnOp xs
-  front [] ys all = tt
-  front (x ∷ xs) ys all = (all.0, front xs ys all.1)
-
-  back : (xs ys : List Op) → AllByRecursion IsOwnOp (xs ++ ys) → AllByRecursion IsOwnOp ys
-  back [] ys all = all
-  back (x ∷ xs) ys all = back xs ys all.1
 
   later_own : (n : ℕ) (phases : List (List Op)) → AllByRecursion IsOwnOp (all_ops phases) → AreOwn (acts_from (threads_of plan) (keepers_of plan) n phases)
   later_own n [] all = close_own
   later_own n (phase ∷ phases) all = (
     (tt, tt),
     all_both (IsPlanned (threads_of plan) (region_of plan)) (phase_acts (threads_of plan) phase) (acts_from (threads_of plan) (keepers_of plan) (n + 1) phases)
-        (phase_own phase (front phase (all_ops phases) all)) (later_own (n + 1) phases (back phase (all_ops phases) all)),
+        (phase_own phase (all_front IsOwnOp phase (all_ops phases) all)) (later_own (n + 1) phases (all_back IsOwnOp phase (all_ops phases) all)),
   )
 
   phases_own : (phases : List (List Op)) → AllByRecursion IsOwnOp (all_ops phases) → AreOwn (acts_of (threads_of plan) (keepers_of plan) phases)
@@ -187,11 +167,7 @@ many_numbers (suc n) from = ap suc (many_numbers n (from + 1))
 
 opening_caches_are_empty : (n from k : ℕ) → cache_in (map (λ k. no_cache) (numbers_from from n)) k ≡ no_cache
 opening_caches_are_empty zero from k = refl
-opening_caches_are_empty (suc n) from k = by_place (k == 1) (cache_in (map (λ k. no_cache) (numbers_from (from + 1) n)) (k - 1)) (opening_caches_are_empty n (from + 1) (k - 1))
-  where
-    by_place : (t : Bool) (rest : Cache) → rest ≡ no_cache → (if t then no_cache else rest) ≡ no_cache
-    by_place true rest is = refl
-    by_place false rest is = is
+opening_caches_are_empty (suc n) from k = let ih = opening_caches_are_empty n (from + 1) (k - 1) in grind (arith, ih)
 
 -- with so many caches in the list
 module _ (f : Profile) (n : ℕ) (few : n ≤ f.threads) where
@@ -204,10 +180,6 @@ module _ (f : Profile) (n : ℕ) (few : n ≤ f.threads) where
   -- The text's opened region is the state of a replay that did nothing.
   start_same : IsSame f at_start first
   start_same = search (arith, none_of_zero, start_caches)
-
--- Without events each live block lies on usable grains.
-start_usable : AreBlocksUsable []
-start_usable = record { usable = λ address b lives g of d is. absurd (none-some d is) }
 
 -- ==== THE END
 pages_told : (es : List Event) (marks other : ℕ → Marked) (n : ℕ) → ((page : ℕ) → marks page ≡ other page) → machine_pages es marks n ≡ machine_pages es other n
@@ -263,12 +235,7 @@ module _ (f : Profile) (p : Progress) (w : World) (valid : IsValid f) (legal : L
 -- ---- one act
 -- a thread's cache is in the list where each has one there
 is_listed : (threads : ℕ) (f : Profile) (act : Act) (w : World) → IsActOf threads f act → threads ≤ length w.caches → IsListed w act
-is_listed threads f (Act.Operates op) w own many = omega (arith, own.1, many)
-is_listed threads f (Act.Settles k) w own many = omega (arith, own.1, many)
-is_listed threads f (Act.StopsIdle k n) w own many = omega (arith, own.1, many)
-is_listed threads f (Act.Wakes k) w own many = omega (arith, own.1, many)
-is_listed threads f (Act.Ends k) w own many = omega (arith, own.1, many)
-is_listed threads f act w own many = tt
+is_listed threads f act w own many = search arith
 
 -- what is so between two acts is so after the next
 carried_on : (threads : ℕ) (f : Profile) (act : Act) (p p' : Progress) (w : World) (indexes : Indexes) (known : IsKnown threads f act p p' w indexes)
@@ -304,14 +271,7 @@ acts_carried threads f (act ∷ acts) p p' is w indexes planned known carried =
     let seated : AreSeated threads f next = seated_next threads f act p next known.valid planned.0.0 between carried.seated is.1 legal in
     let one : IsKnown threads f act p next w indexes = record {
       planned = planned.0;
-      taken = record {
-        valid = known.valid;
-        before = between;
-        after = between_from threads f next (first_rest threads f acts next p' is.2 known.rests.1) seated legal;
-        same = carried.same;
-        listed = is_listed threads f act w planned.0.0 carried.many;
-        advances = is.1;
-      };
+      taken = assumption (between_from threads f next (first_rest threads f acts next p' is.2 known.rests.1) seated legal, is_listed threads f act w planned.0.0 carried.many);
       seated = carried.seated;
       usable = carried.usable;
       stamped = carried.stamped;
@@ -330,7 +290,7 @@ start_carried threads n f each few = record {
   same = start_same f n few;
   many = omega (arith, each, many_numbers n 1);
   seated = search arith;
-  usable = start_usable;
+  usable = record { usable = λ address b lives g of d is. absurd (none-some d is) };
   stamped = record { kept = tt; stamped = λ k page. refl };
   indexes_are = start_indexes (record f { threads = n });
 }
@@ -361,15 +321,13 @@ told_by n text plan whole records some few read is =
 pub plan_told : (text : List ℕ) (plan : Plan) (whole : Whole) (records : List Record) → IsPlanOf text plan → IsReplay InOrder plan whole records
     → IsTold plan whole records (each (acts_on (region_of plan)) (acts_of_plan plan) (opened (region_of plan)))
 plan_told text plan whole records read is =
-    let actors = plan_actors plan in
-    told_by (region_of plan).threads text plan whole records (omega (arith, actors)) (omega arith) read is
+    told_by (region_of plan).threads text plan whole records (omega (arith, (plan_actors plan))) (omega arith) read is
 
 -- .. and by one for each thread, which is the replay of the text: what an act comes to doesn't go by how many actors there are
 pub own_told : (text : List ℕ) (plan : Plan) (whole : Whole) (records : List Record) → IsPlanOf text plan → IsReplay InOrder plan whole records
     → IsTold plan whole records (replayed plan.profile (keepers_of plan) (phases_of plan))
 own_told text plan whole records read is =
-    let actors = plan_actors plan in
-    told_by (threads_of plan) text plan whole records (omega arith) (omega (arith, actors)) read is
+    told_by (threads_of plan) text plan whole records (omega arith) (omega (arith, (plan_actors plan))) read is
 
 -- .. so the text of the bytes, of which this is the plan, is what is written
 pub order_told : (bytes : List ℕ) (plan : Plan) (whole : Whole) (records : List Record) → IsPlanOf bytes plan → IsReplay InOrder plan whole records

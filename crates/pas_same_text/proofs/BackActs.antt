@@ -7,49 +7,47 @@ use Rattle.pas_profile.specs.declared.{name.Block.Block, name.Name.Name, profile
 use Rattle.pas_steps.specs.{Events.events_by, Lists.part, Lists.visible, Views.View}
 use Rattle.pas_steps.specs.declared.step.Made.{Made}
 use Rattle.pas_free_log.specs.declared.log.Entry.{Entry}
-use Rattle.pas_cache.specs.{Calls.TakesEntry, Changes.LogsEntry, Changes.EmptiesFull, Contents.Cached}
+use Rattle.pas_cache.specs.{Calls.TakesEntry, Changes.EmptiesFull, Contents.Cached}
 use Rattle.pas_guard.specs.declared.book.Guard.{Guard}
 use Rattle.pas_report.specs.declared.record.{Record.Record, Said.Said as TheSaid, Said.Said}
 use Rattle.pas_trace.specs.{Acts.Act, EveryPlan.IsThread}
 use Rattle.pas_trace.specs.declared.plan.What.TheVariants.{Free, FreeSized, Raw, RawSized, Flush, Stop}
 use Rattle.pas_answers.specs.Answers.{Progress, Named, named, Answer, having, suits, IsRemadeBy, IsFreed, IsFreedBy, IsFlushed, IsStopped, standing_for}
-use Rattle.pas_answers.specs.Answers.{records_of, said_by, with_records, with_steps, after_answer, after_stop, room_noted, with_cache as with_cached}
+use Rattle.pas_answers.specs.Answers.{records_of, with_records, with_steps, after_answer, after_stop, room_noted, with_cache as with_cached}
 use Rattle.pas_same_text.specs.State.{World, Cache, cache_of, set_cache, log_of, says, names_it}
 use Rattle.pas_same_text.specs.{Order.keeps_block, Order.replaces, Order.remakes, Passes.stops_idle, Same.IsSame, Same.IsSameCache}
 use Rattle.pas_same_text.specs.Frees.{adds, frees, frees_named, flushes, stops}
-use Rattle.pas_same_text.specs.Acts.{IsResting, IsBetween, AreBlocksUsable, HasUsableBlocks, StaysSameWhere}
+use Rattle.pas_same_text.specs.Acts.{IsResting, IsBetween, IsTaken, AreBlocksUsable, HasUsableBlocks, StaysSameWhere}
 use Rattle.pas_same_text.proofs.{CacheLists.same_own, CacheLists.same_with, CacheLists.same_again, StopActs.flush_same, StopActs.stop_same}
 use Rattle.pas_same_text.proofs.{SameIndexes.same_many, SameIndexes.flushes_keep}
 use Rattle.pas_same_text.proofs.SmallActs.{unchanged, pages_next, says_same, cache_state, after_with, said_same, page_inside, freed_is, refused_same}
 use Rattle.pas_same_text.proofs.SmallActs.{freed_same, asks, name_freed}
 
--- ---- a replay of the same list, with the same caches
-same_between : (f : Profile) (p : Progress) (k : ℕ) (steps : List Made) (c : Cached) (names : List Named) (records : List Record) → IsBetween f (with_records (record (with_steps p k steps c) { names = names }) records) → IsBetween f (with_steps p k steps c)
-same_between f p k steps c names records b = record { legal = b.legal; rest = b.rest }
-
 -- ---- a flush, and a stop
-module _ (f : Profile) (k : ℕ) (p p' : Progress) (w : World) (usable : HasUsableBlocks p) (thread : IsThread f k) (listed : k ≤ length w.caches)
-    (valid : IsValid f) (before : IsBetween f p) (after : IsBetween f p') (same : IsSame f p w) where
+module _ {f : Profile} {k : ℕ} {act : Act} {p p' : Progress} {w : World} (usable : HasUsableBlocks p) (thread : IsThread f k) (listed : k ≤ length w.caches)
+    (taken : IsTaken f act p p' w) where
+  -- After steps and records of the actor the replay is between two pieces still.
   stepped : (steps : List Made) (c : Cached) (rs : List Record) → p' ≡ with_records (with_steps p k steps c) rs → IsBetween f (with_steps p k steps c)
-  stepped steps c rs to = same_between f p k steps c p.names rs (subst (IsBetween f) to after)
+  stepped steps c rs to = let b = subst (IsBetween f) to taken.after in record { legal = b.legal; rest = b.rest }
 
   -- the answer says nothing and names nothing
   answered : (a : Answer) → a.said ≡ None → a.names ≡ p.names → p' ≡ after_answer p k a
       → p' ≡ with_records (with_steps p k a.steps a.cache) (records_of (events_by k (part k p.list) a.steps) ++ [])
   answered a said names reached = search arith
 
+  -- A flush of the log is the text's flush.
   flushed : (a : Answer) → IsFlushed k (p.caches k) a.cache a.steps → a.said ≡ None → a.names ≡ p.names → p' ≡ after_answer p k a → IsSame f p' (flushes f k w)
   flushed a is said names reached =
       let rs : List Record = records_of (events_by k (part k p.list) a.steps) in
       let to = answered a said names reached in
       rw (to, append-nil rs)
-      (flush_same f k p w a.steps a.cache valid thread listed before same usable is.empties is.cache (stepped a.steps a.cache (rs ++ []) to))
+      (flush_same f k p w a.steps a.cache taken.valid thread listed taken.before taken.same usable is.empties is.cache (stepped a.steps a.cache (rs ++ []) to))
 
   stopped_all : (steps : List Made) (c' : Cached) (rs : List Record) → IsStopped k (p.caches k) c' steps → p' ≡ with_records (with_steps p k steps c') rs
       → IsSame f (with_records (with_steps p k steps c') (records_of (events_by k (part k p.list) steps))) (stops f k w)
   stopped_all steps c' rs is to =
       subst (λ (ms : List Made). IsSame f (with_records (with_steps p k ms c') (records_of (events_by k (part k p.list) ms))) (stops f k w)) (sym is.steps_are)
-      (stop_same f k p w is.flushed is.stopped c' valid thread listed before same usable is.empties is.stops is.kinds is.silent is.cache
+      (stop_same f k p w is.flushed is.stopped c' taken.valid thread listed taken.before taken.same usable is.empties is.stops is.kinds is.silent is.cache
       (subst (λ (ms : List Made). IsBetween f (with_steps p k ms c')) is.steps_are (stepped steps c' rs to)))
 
   stopped_plain : (steps : List Made) (c' : Cached) → IsStopped k (p.caches k) c' steps → p' ≡ after_stop p k steps c' [] → IsSame f p' (stops f k w)
@@ -69,15 +67,14 @@ module _ (f : Profile) (k : ℕ) (p p' : Progress) (w : World) (usable : HasUsab
 -- A flush leads the text to the replay's state, where live blocks lie on usable grains.
 pub flush_act : (f : Profile) (line k : ℕ) → IsThread f k → StaysSameWhere HasUsableBlocks f (asks line k Flush)
 flush_act f line k is p p' w usable taken =
-    flushed f k p p' w usable is taken.listed taken.valid taken.before taken.after taken.same taken.advances.0 taken.advances.1.0 taken.advances.1.1
-    taken.advances.1.2 taken.advances.2
+    flushed usable is taken.listed taken taken.advances.0 taken.advances.1.0 taken.advances.1.1 taken.advances.1.2 taken.advances.2
 
 -- A thread's stop leads the text to the replay's state, where live blocks lie on usable grains.
 pub stop_act : (f : Profile) (line k : ℕ) → IsThread f k → StaysSameWhere HasUsableBlocks f (asks line k Stop)
 stop_act f line k is p p' w usable taken =
     let a : Answer = taken.advances.0 in
-    stopped_plain f k p p' w usable is taken.listed taken.valid taken.before taken.after taken.same a.steps a.cache taken.advances.1.0
-    (answered f k p p' w usable is taken.listed taken.valid taken.before taken.after taken.same a taken.advances.1.1 taken.advances.1.2 taken.advances.2)
+    stopped_plain usable is taken.listed taken a.steps a.cache taken.advances.1.0
+    (answered usable is taken.listed taken a taken.advances.1.1 taken.advances.1.2 taken.advances.2)
 
 -- A thread's end at the close leads the text to the replay's state, where live blocks lie on usable grains.
 pub end_act : (f : Profile) (k : ℕ) → IsThread f k → StaysSameWhere HasUsableBlocks f (Act.Ends k)
@@ -97,20 +94,12 @@ idle_by f k n w t e = ap (λ (u : Bool). if u then says (Record.Said 0 (Said.Sto
 pub idle_act : (f : Profile) (k n : ℕ) → IsThread f k → StaysSameWhere HasUsableBlocks f (Act.StopsIdle k n)
 idle_act f k n is p p' w usable taken = elim taken.advances [
   | inl h ↦
-      let le : (p.caches k).idle_since + n ≤ p.epoch = h.0 in
-      let test : nat_le ((p.caches k).idle_since + n) p.epoch ≡ true = grind (arith, nat_tests, le) in
+      let test : nat_le ((p.caches k).idle_since + n) p.epoch ≡ true = grind (arith, nat_tests, h.0) in
       subst (λ (x : World). IsSame f p' x) (sym (idle_by f k n w true (idle_test f k n p w is taken.same ∙ test)))
-      (stopped_said f k p p' w usable is taken.listed taken.valid taken.before taken.after taken.same h.1 h.2 _ h.3 h.4)
+      (stopped_said usable is taken.listed taken h.1 h.2 _ h.3 h.4)
   | inr h ↦
       search (arith, idle_by, idle_test)
 ]
-  where
-    by_test : (a b : ℕ) (t : Bool) → nat_le a b ≡ t → (a ≤ b → ⊥) → t ≡ false
-    by_test a b true e past = let le : a ≤ b = grind (arith, nat_tests, e) in absurd (past le)
-    by_test a b false e past = refl
-
-    not_le : (a b : ℕ) → (a ≤ b → ⊥) → nat_le a b ≡ false
-    not_le a b past = by_test a b (nat_le a b) refl past
 
 -- ==== FREES INTO ANY LOG
 module _ (f : Profile) (k : ℕ) (entry : Entry) (p : Progress) (w : World) (c' : Cached) (steps : List Made) (thread : IsThread f k)
@@ -123,11 +112,9 @@ module _ (f : Profile) (k : ℕ) (entry : Entry) (p : Progress) (w : World) (c' 
     abbrev emptied : Cached
     emptied = record c { log = []; noted = c'.noted }
 
-    logged : LogsEntry k c.log c'.log c.noted c'.noted entry steps
-    logged = takes.logs
-
-    both : EmptiesFull true k c.log logged.kept c.noted c'.noted steps
-    both = subst (λ (t : Bool). EmptiesFull t k c.log logged.kept c.noted c'.noted steps) full logged.emptied
+    -- The full log was emptied, with the entry in it.
+    both : EmptiesFull true k c.log takes.logs.kept c.noted c'.noted steps
+    both = subst (λ (t : Bool). EmptiesFull t k c.log takes.logs.kept c.noted c'.noted steps) full takes.logs.emptied
 
     -- the other caches are as they were, and this one has no log
     rest_at : (j : ℕ) (t : Bool) (guards : List Guard) (v : View) → IsResting f (if t then c' else p.caches j) guards v
@@ -146,6 +133,7 @@ module _ (f : Profile) (k : ℕ) (entry : Entry) (p : Progress) (w : World) (c' 
     listed_then : k ≤ length v.caches
     listed_then = omega (arith, listed, same_many w v (flushes_keep f k w))
 
+    -- The emptied cache is the text's.
     own : IsSameCache emptied (cache_of v k)
     own = subst (λ (d : Cached). IsSameCache d (cache_of v k)) (same_own p.caches k emptied) (flushed_first.caches.each k thread)
 
@@ -159,6 +147,7 @@ module _ (f : Profile) (k : ℕ) (entry : Entry) (p : Progress) (w : World) (c' 
     new_same : IsSameCache c' new
     new_same = rw cache_is (record { locals = own.locals; log = ap (λ (es : List Entry). es ++ entry ∷ []) own.log; noted = own.noted; began = own.began })
 
+    -- A free that fits the log is the text's entry more.
     added : IsSame f (after_with p k steps None p.names c') (adds k entry v)
     added = record {
       pages = pages_next f q.list q.list v (set_cache k new v) flushed_first.pages (unchanged q.list) (cache_state v k new refl);
@@ -185,23 +174,24 @@ module _ (f : Profile) (k : ℕ) (entry : Entry) (p : Progress) (w : World) (c' 
   freed_any said (inr t) = rw t.2 (refused_same f k entry p w c' steps t.0 same t.1)
 
 -- ---- the acts
-module _ (f : Profile) (k : ℕ) (p p' : Progress) (w : World) (thread : IsThread f k) (listed : k ≤ length w.caches) (valid : IsValid f)
-    (before : IsBetween f p) (after : IsBetween f p') (same : IsSame f p w) (usable : HasUsableBlocks p) (a : Answer) (names : a.names ≡ p.names)
-    (reached : p' ≡ after_answer p k a) where
+module _ {f : Profile} {k : ℕ} {act : Act} {p p' : Progress} {w : World} (thread : IsThread f k) (listed : k ≤ length w.caches) (taken : IsTaken f act p p' w)
+    (usable : HasUsableBlocks p) (a : Answer) (names : a.names ≡ p.names) (reached : p' ≡ after_answer p k a) where
+  -- What the answer leads to.
   to : p' ≡ after_with p k a.steps a.said p.names a.cache
   to = reached ∙ ap (λ (ns : List Named). after_with p k a.steps a.said ns a.cache) names
 
+  -- There the replay is between two pieces.
   there : IsBetween f (with_steps p k a.steps a.cache)
-  there = same_between f p k a.steps a.cache p.names (records_of (events_by k (part k p.list) a.steps) ++ said_by k a.said) (subst (IsBetween f) to after)
+  there = let b = subst (IsBetween f) to taken.after in record { legal = b.legal; rest = b.rest }
 
   entry_any : (entry : Entry) → IsFreed f k (p.caches k) a.cache entry a.steps a.said → IsSame f p' (frees f k entry w)
   entry_any entry freed =
       subst (λ (q : Progress). IsSame f q (frees f k entry w)) (sym to)
-      (freed_any f k entry p w a.cache a.steps thread listed valid before same usable there a.said freed)
+      (freed_any f k entry p w a.cache a.steps thread listed taken.valid taken.before taken.same usable there a.said freed)
 
   name_any : (name : ℕ) (size : Option ℕ) → IsFreedBy f k (p.caches k) a.cache name size (standing_for p.names name) a.steps a.said
       → IsSame f p' (frees_named f k name (room_noted size) w)
-  name_any = name_freed f k p p' w a same names reached entry_any
+  name_any = name_freed f k p p' w a taken.same names reached entry_any
 
 -- A free of a bare name leads the text to the replay's state, whatever the thread's log holds.
 pub raw_act : (f : Profile) (line k : ℕ) (block : Name) → IsThread f k → StaysSameWhere HasUsableBlocks f (asks line k (Raw block))
@@ -216,14 +206,12 @@ raw_sized_act f line k room block is p p' w usable taken =
 -- A free of a name of the trace leads the text to the replay's state, whatever the thread's log holds.
 pub free_act : (f : Profile) (line k name : ℕ) → IsThread f k → StaysSameWhere HasUsableBlocks f (asks line k (Free name))
 free_act f line k name is p p' w usable taken =
-    name_any f k p p' w is taken.listed taken.valid taken.before taken.after taken.same usable taken.advances.0 taken.advances.1.1 taken.advances.2 name None
-    taken.advances.1.0
+    name_any is taken.listed taken usable taken.advances.0 taken.advances.1.1 taken.advances.2 name None taken.advances.1.0
 
 -- A free of a name of the trace with its room leads the text to the replay's state, whatever the log holds.
 pub free_sized_act : (f : Profile) (line k name room : ℕ) → IsThread f k → StaysSameWhere HasUsableBlocks f (asks line k (FreeSized name room))
 free_sized_act f line k name room is p p' w usable taken =
-    name_any f k p p' w is taken.listed taken.valid taken.before taken.after taken.same usable taken.advances.0 taken.advances.1.1 taken.advances.2 name
-    (Some room) taken.advances.1.0
+    name_any is taken.listed taken usable taken.advances.0 taken.advances.1.1 taken.advances.2 name (Some room) taken.advances.1.0
 
 -- ---- reallocations that do nothing
 named_same : (f : Profile) (k name : ℕ) (o : Option Block) (said : TheSaid) (p : Progress) (w : World) → IsSame f p w

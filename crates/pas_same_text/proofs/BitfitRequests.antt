@@ -24,7 +24,7 @@ use Rattle.pas_bitfit.specs.Runs.{Fits, NoneFits, IsLowestFit, fewer_runs, run_a
 use Rattle.pas_cache.specs.{Contents.Cached, Locals.any_covers, Refusals.IsTrulyRefusedBy}
 use Rattle.pas_cache.specs.Serves.{ServesBitfit, wanted_for, IsTrueRefusal, no_fit_by}
 use Rattle.pas_cache.proofs.{Routes.bitfit_room, Routes.may_search_bitfit, Alone.truly_refused}
-use Rattle.pas_answers.specs.Answers.{Progress, named, Answer, after_answer, with_cache as with_cached, said_of_room}
+use Rattle.pas_answers.specs.Answers.{Progress, named, Answer, after_answer, with_cache as with_cached}
 use Rattle.pas_same_text.specs.{State.World, Order.serves, Pages.is_unowned, Pages.is_offered, Acts.IsBetween, Searched.IsSearch, Acts.StaysSame}
 use Rattle.pas_same_text.specs.{Searched.FitsSame}
 use Rattle.pas_same_text.specs.Searches.{searched, readies, address_on, gives, some_of, refusal, refuses}
@@ -34,7 +34,7 @@ use Rattle.pas_same_text.proofs.{PlacesFit.bitfit_fits, PlacesFit.lowest_is, Cac
 use Rattle.pas_same_text.proofs.{CacheLists.kept_at, Pieces.has_same, ReadyPages.shown, ReadyPages.shown_rest, SearchedPages.refused_same}
 use Rattle.pas_same_text.proofs.{SearchedPages.find_none, Tests.and_first, Tests.and_second, SearchedPages.refused_to, SmallActs.asks}
 use Rattle.pas_same_text.proofs.GivenBlocks.{GivesBlock, page_chosen, page_ready, page_given}
-use Rattle.pas_same_text.proofs.Asked.{HasAsked, answer_reached, by_route, request_taken}
+use Rattle.pas_same_text.proofs.CachedSlots.{HasAsked, answer_reached, by_route, request_taken}
 use Rattle.pas_trace.specs.EveryPlan.{IsThread}
 use Rattle.pas_trace.specs.declared.plan.What.TheVariants.{Alloc}
 use Rattle.pas_same_text.proofs.RestingPages.{open_unguarded, had_open, owned_is, no_word}
@@ -42,6 +42,7 @@ use Rattle.pas_same_text.proofs.RestingPages.{open_unguarded, had_open, owned_is
 -- ---- where no page serves in the replay, none does in the text
 module _ (no_fit : Readings → Type 0) (f : Profile) (d : Directory) (p : Progress) (w : World) (fits : ℕ → List ℕ) (legal : Legal f p.list)
     (of : IsDirectoryOf f d) (pages : ArePagesSame f p.list w) (same : FitsSame no_fit f p w fits) (none : HasNoFit no_fit f d p.list) where
+  -- In the text no page serves the request.
   unserved : (q : ℕ) → 1 ≤ q → q < 1 + f.pages → (is_offered w d q && some_of (fits q)) ≡ false
   unserved q low high = false_from_ne_true _ (λ h. none.offered q record {
     of_region = (low, omega (arith, high));
@@ -52,6 +53,7 @@ module _ (no_fit : Readings → Type 0) (f : Profile) (d : Directory) (p : Progr
         ∙ and_second (is_offered w d q) (some_of (fits q)) h);
   })
 
+  -- In the text each page has an owner.
   owned : (q : ℕ) → 1 ≤ q → q < 1 + f.pages → is_unowned w q ≡ false
   owned q low high = false_from_ne_true (is_unowned w q) (λ h. none.bare q record {
     of_region = (low, omega (arith, high));
@@ -81,18 +83,23 @@ module _ (f : Profile) (k name heap size align : ℕ) (p : Progress) (a : Answer
   abbrev d : Directory
   d = bitfit_of heap
 
+  -- The request is served from this directory.
   home : directory_for f heap size align ≡ d
   home = ap (λ (r : Route). let e : Directory = record { heap = heap; kind = kind_of_route (is_shared f heap) r } in e) route
 
+  -- It is one of the profile.
   of : IsDirectoryOf f d
   of = record { heap = admitted.of_profile; kind = tt; class = tt }
 
+  -- The bytes that are given are a multiple of 16 that a page of this kind gives.
   sized : (16 ≤ bytes) × (bytes ≤ 2048) × (bytes % 16 ≡ 0)
   sized = bitfit_room f.classes size align route
 
+  -- They are one grain at least.
   some : 1 ≤ n
   some = omega (arith, sized.0)
 
+  -- Before the request the replay has what the text has.
   old : HasSame f p w
   old = has_same asked.same
 
@@ -102,10 +109,11 @@ module _ (f : Profile) (k name heap size align : ℕ) (p : Progress) (a : Answer
     bitfit : ServesBitfit f (wanted_for f heap size align) c a.cache a.steps (Ok block)
     bitfit = by_route asked (Ok block) is Route.Bitfit route
 
-    abbrev search : List Made
-    search = bitfit.searched
+    abbrev sought : List Made
+    sought = bitfit.searched
 
-    given : IsGiven (run_choice (run_for bytes align)) (run_at (run_for bytes align)) f d search bitfit.after block
+    -- The block is of the run that the search found.
+    given : IsGiven (run_choice (run_for bytes align)) (run_at (run_for bytes align)) f d sought bitfit.after block
     given = rw home at bitfit.outcome.0
 
     abbrev gave : List Made
@@ -113,29 +121,32 @@ module _ (f : Profile) (k name heap size align : ℕ) (p : Progress) (a : Answer
 
     -- ---- the replay after them
     abbrev q : Progress
-    q = after_with p k (bitfit.after ++ search) None (named name (Some block) ∷ p.names) c
+    q = after_with p k (bitfit.after ++ sought) None (named name (Some block) ∷ p.names) c
 
+    -- What the answer leads to.
     to : after_answer p k a ≡ q
-    to =
-        answer_reached asked (Ok block) is
-        ∙ (ap (λ (x : Cached). after_with p k a.steps None (named name (Some block) ∷ p.names) x) bitfit.cache
-        ∙ ap (λ (ms : List Made). after_with p k ms None (named name (Some block) ∷ p.names) c) bitfit.steps_are)
+    to = answer_reached asked (Ok block) is ∙ cc (bitfit.cache, bitfit.steps_are)
 
+    -- There the replay is between two pieces.
     there : IsBetween f q
     there = subst (IsBetween f) to asked.after
 
-    legal : Legal f (triples k (bitfit.after ++ search) ++ p.list)
+    -- The list with the request's steps is legal.
+    legal : Legal f (triples k (bitfit.after ++ sought) ++ p.list)
     legal = there.legal
 
-    legal_search : Legal f (triples k search ++ p.list)
-    legal_search = legal_earlier f k bitfit.after search p.list legal
+    legal_search : Legal f (triples k sought ++ p.list)
+    legal_search = legal_earlier f k bitfit.after sought p.list legal
 
-    lends : LendsNone search
-    lends = lends_none searching refl search bitfit.searches.kinds
+    -- The search lends nothing.
+    lends : LendsNone sought
+    lends = lends_none searching refl sought bitfit.searches.kinds
 
-    agreed : Agreed f own search
-    agreed = agreed_steps f k p.list search asked.valid legal_search
+    -- Its answers agree with the actor's view.
+    agreed : Agreed f own sought
+    agreed = agreed_steps f k p.list sought asked.valid legal_search
 
+    -- The actor may search.
     may : MaySearch d own
     may = may_search_bitfit f own heap c.locals asked.served.rest.locals
 
@@ -143,13 +154,10 @@ module _ (f : Profile) (k name heap size align : ℕ) (p : Progress) (a : Answer
     abbrev lowest : IsLowestFit (run_for bytes align) given.served.serves.readings given.found
     lowest = given.served.serves.chosen
 
-    within : given.found + n ≤ 256
-    within = lowest.this.within
-
     abbrev es : List Event
-    es = events_by k own search
+    es = events_by k own sought
 
-    gives_it : GivesBlock f k p q w (bitfit.after ++ search) es block (address_on given.page given.found) bytes heap
+    gives_it : GivesBlock f k p q w (bitfit.after ++ sought) es block (address_on given.page given.found) bytes heap
     gives_it = record {
       valid = asked.valid;
       same = asked.same;
@@ -171,23 +179,26 @@ module _ (f : Profile) (k name heap size align : ℕ) (p : Progress) (a : Answer
         by_bit : (t : Bool) → free_of_page p.list given.page b ≡ t → t ≡ true
         by_bit true e = refl
         by_bit false e =
-            absurd (fit_entry (λ r. r b ≡ false) f k p.list given.page given.served.shows.readings search fewer_bits asked.valid legal_search lends
+            absurd (fit_entry (λ r. r b ≡ false) f k p.list given.page given.served.shows.readings sought fewer_bits asked.valid legal_search lends
             (λ none. true≢false (sym (given.served.shows.took b small kept) ∙ none)) given.served.shows.read
             (given.served.shows.held.from own may agreed) e)
 
+    -- The run fits there.
     fits : Fits (run_for bytes align) (free_of_page p.list given.page) given.found
-    fits = record { aligned = lowest.this.aligned; within = within; free = λ g low high. read_free g (omega (arith, within, high)) (to_run given.found n g low high) }
+    fits = record { aligned = lowest.this.aligned; within = lowest.this.within; free = λ g low high. read_free g (omega (arith, lowest.this.within, high)) (to_run _ n g low high) }
 
+    -- What is free at entry was read as free.
     more : (b : ℕ) → b < 256 → free_of_page p.list given.page b ≡ true → given.served.serves.readings b ≡ true
     more b small free =
         let bit : (given.page * 256 + b) % 64 ≡ b % 64 = omega arith in
-        free_shown f k p.list given.page b given.served.serves.readings search legal_search lends small (cc) (given.served.serves.read (b / 64) (omega (arith, small)))
+        free_shown f k p.list given.page b given.served.serves.readings sought legal_search lends small (cc) (given.served.serves.read (b / 64) (omega (arith, small)))
 
+    -- The text's lowest place on the page is the run's first grain.
     place : lowest_place w n (align / 16) given.page ≡ given.found ∷ []
     place = lowest_is f p w asked.valid asked.before old bytes align some admitted.aligned given.page given.found given.served.serves.readings lowest more fits
 
     -- ---- the page
-    is_search : IsSearch (NoneFits (run_for bytes align)) f d k p search w (lowest_place w n (align / 16))
+    is_search : IsSearch (NoneFits (run_for bytes align)) f d k p sought w (lowest_place w n (align / 16))
     is_search = record {
       valid = asked.valid;
       directory = of;
@@ -199,6 +210,7 @@ module _ (f : Profile) (k name heap size align : ℕ) (p : Progress) (a : Answer
       fits_same = bitfit_fits f p w asked.valid asked.before old bytes align some admitted.aligned;
     }
 
+    -- The text's search finds this page.
     found : searched f w d (lowest_place w n (align / 16)) ≡ Ok given.page
     found = page_chosen is_search given.page given.served.page given.served.choice (λ none. none given.found fits)
 
@@ -206,48 +218,53 @@ module _ (f : Profile) (k name heap size align : ℕ) (p : Progress) (a : Answer
     abbrev v : World
     v = gives k name heap (address_on given.page given.found) bytes (shown es w)
 
+    -- So the text serves the request as the replay does.
     text : serves f k name heap (route_in f size align) bytes align w ≡ v
     text =
         ap (λ (r : Route). serves f k name heap r bytes align w) route
         ∙ (ap (λ (r : Result ℕ NoRoom). places k name heap bytes align r w) found
         ∙ (ap (λ (xs : List ℕ). gives_place k name heap bytes given.page xs (readies k d given.page w)) place
         ∙ ap (λ (x : World). gives k name heap (address_on given.page given.found) bytes x)
-        (page_ready given.page given.found n name c d search bitfit.after gives_it given.served.events refl some within)))
+        (page_ready given.page given.found n name c d sought bitfit.after gives_it given.served.events refl some lowest.this.within)))
 
     -- ---- ALL: the page is left after the block was given
-    right : has_right (search ++ own) given.page ≡ true
+    right : has_right (sought ++ own) given.page ≡ true
     right = (given.served.keeps.from own may agreed).keeps.does.right given.page
         ∙ ap (λ (t : Bool). has_now (if t then Gained else Kept) (has_right own given.page)) (eq-eqb given.page given.page refl)
 
+    -- The actor knows the page's deed afterwards.
     knows : known_deed (part k q.list) given.page ≡ deed_word_of d
-    knows = ap (λ (x : View). known_deed x given.page) (part_of_own k (bitfit.after ++ search) p.list)
-        ∙ (given.gave.from own may (agreed_steps f k p.list (bitfit.after ++ search) asked.valid legal)).deed
+    knows = ap (λ (x : View). known_deed x given.page) (part_of_own k (bitfit.after ++ sought) p.list)
+        ∙ (given.gave.from own may (agreed_steps f k p.list (bitfit.after ++ sought) asked.valid legal)).deed
 
     given_same : IsSame f q v
-    given_same = page_given given.page given.found n name c d search bitfit.after gives_it given.served.events refl some within true [] given.left gave given.leaves tt
+    given_same = page_given given.page _ n name c d sought _ gives_it given.served.events refl some lowest.this.within true [] given.left gave given.leaves tt
         (refl, (refl, tt)) given.after_is right knows bitfit.searches (shown es w).caches asked.before (given.served.marks own may agreed) tt
         (subst (AreSameCaches f (with_cached p.caches k c)) (sym (shown_rest es w).caches) (same_kept f p.caches w.caches k asked.same.caches))
         (λ j g h. inl (ap (λ (x : Cached). any_covers x.locals g) (kept_at p.caches j k (j == k) refl) ∙ h))
 
     bitfit_served : IsSame f (after_answer p k a) (serves f k name heap (route_in f size align) bytes align w)
-    bitfit_served = subst (λ (x : World). IsSame f (after_answer p k a) x) (sym text) (subst (λ (y : Progress). IsSame f y v) (sym to) given_same)
+    bitfit_served = rw (text, to) given_same
 
   -- ---- ONE THAT IS REFUSED
   module _ (room : NoRoom) (is : asked.served.answer ≡ Err room) where
+    -- The request went to pages of this kind, and was refused.
     tried : ServesBitfit f (wanted_for f heap size align) c a.cache a.steps (Err room)
     tried = by_route asked (Err room) is Route.Bitfit route
 
     steps_are : a.steps ≡ tried.searched
     steps_are = tried.steps_are ∙ ap (λ (ms : List Made). ms ++ tried.searched) tried.outcome.1
 
+    -- Its steps are those of a search.
     searches : AreSearch a.steps
     searches = subst AreSearch (sym steps_are) tried.searches
 
+    -- They make no event.
     quiet : AreQuiet a.steps
     quiet = subst AreQuiet (sym steps_are) tried.outcome.0.quiet
 
     refused_then : after_answer p k a ≡ refused_to p k name a.steps room
-    refused_then = answer_reached asked (Err room) is ∙ ap (λ (x : Cached). after_with p k a.steps (Some (said_of_room name room)) (named name None ∷ p.names) x) tried.cache
+    refused_then = answer_reached asked (Err room) is ∙ cc (tried.cache)
 
     refused_there : IsBetween f (refused_to p k name a.steps room)
     refused_there = subst (IsBetween f) refused_then asked.after
@@ -255,15 +272,18 @@ module _ (f : Profile) (k name heap size align : ℕ) (p : Progress) (a : Answer
     -- nothing could serve before, and the reason is true after
     truly : IsTrueRefusal f (wanted_for f heap size align) c.locals p.list (triples k a.steps ++ p.list) room
     truly = subst (λ (r : Route). IsTrulyRefusedBy r f (wanted_for f heap size align) c.locals p.list (triples k a.steps ++ p.list) room) route
-        (truly_refused f heap size align k a.found c a.cache p.list a.steps room asked.valid admitted asked.served.rest refused_there.legal (by_route asked (Err room) is _ refl))
+        (truly_refused f heap size align k a.found c a.cache p.list a.steps room asked.valid admitted asked.served.rest refused_there.legal (by_route asked _ is _ refl))
 
+    -- The reason of the refusal is true.
     reason : IsTrueReason f d (triples k a.steps ++ p.list) room
     reason = subst (λ (e : Directory). IsTrueReason f e (triples k a.steps ++ p.list) room) home truly.reason
 
+    -- No page of the directory has a run that fits.
     unfit : HasNoFit (NoneFits (run_for bytes align)) f d p.list
     unfit = subst (λ (e : Directory). HasNoFit (NoneFits (run_for bytes align)) f e p.list) home
         (subst (λ (r : Route). HasNoFit (no_fit_by r bytes align) f (directory_for f heap size align) p.list) route truly.entry_fit)
 
+    -- The text's search finds none either.
     unfound : searched f w d (lowest_place w (bytes / 16) (align / 16)) ≡ Err (refusal f w d)
     unfound = none_searched _ f d p w _ asked.before.legal of asked.same.pages (bitfit_fits f p w asked.valid asked.before old bytes align some admitted.aligned) unfit
 
@@ -271,9 +291,10 @@ module _ (f : Profile) (k name heap size align : ℕ) (p : Progress) (a : Answer
     refused_text = ap (λ (r : Route). serves f k name heap r bytes align w) route ∙ ap (λ (r : Result ℕ NoRoom). places k name heap bytes align r w) unfound
 
     bitfit_refused : IsSame f (after_answer p k a) (serves f k name heap (route_in f size align) bytes align w)
-    bitfit_refused =
-        rw (refused_text, refused_then) (refused_same f k name p w d a.steps room asked.valid asked.thread of asked.before refused_there asked.same searches quiet reason)
+    bitfit_refused = rw (refused_text, refused_then)
+        (refused_same f k name p w d a.steps room asked.valid asked.thread of asked.before refused_there asked.same searches quiet reason)
 
+  -- Whether it was served or refused, the text does the same.
   answered : (answer : Result Block NoRoom) → asked.served.answer ≡ answer
       → IsSame f (after_answer p k a) (serves f k name heap (route_in f size align) bytes align w)
   answered (Ok block) is = bitfit_served block is

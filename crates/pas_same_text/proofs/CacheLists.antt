@@ -36,10 +36,6 @@ pub record Finds (s : Slots) (found : Option Local) : Type 0 where
   pub is : found ≡ Some local
   pub same : IsSameLocal s local
 
-found_one : (s x : Slots) (y : Local) (rest : Option Slots) (more : Option Local) (t : Bool) → IsSameLocal x y → (rest ≡ Some s → Finds s more)
-    → (if t then Some x else rest) ≡ Some s → Finds s (if t then Some y else more)
-found_one s x y rest more t same later is = search (arith, same_Some)
-
 -- The local allocator that a replay finds for a heap and class is the one that the text finds.
 pub found_same : (heap class : ℕ) (slots : List Slots) (locals : List Local) (s : Slots) → AreSameLocals slots locals → local_for heap class slots ≡ Some s
     → Finds s (find (is_for heap class) locals)
@@ -47,7 +43,7 @@ found_same heap class [] [] s same is = absurd (none-some s is)
 found_same heap class [] (l ∷ locals) s same is = absurd same
 found_same heap class (x ∷ slots) [] s same is = absurd same
 found_same heap class (x ∷ slots) (y ∷ locals) s same is =
-    let ih = found_same heap class slots locals s same.1 in search (arith, for_same, found_one, ih)
+    let ih = found_same heap class slots locals s same.1 in search (arith, for_same, same_Some, ih)
 
 -- ---- taken out
 -- The local allocators of other heaps and classes are the same in the text and in the replay.
@@ -71,9 +67,6 @@ above : (n g : ℕ) (more : List ℕ) → AllByRecursion (λ m. n < m) more → 
 above n g [] all h = absurd (false≢true h)
 above n g (m ∷ more) all h = let ih = above n g more all.1 in search (arith, or_cases, eqb-true, ih)
 
-first_here : (n : ℕ) (more : List ℕ) → has_number (n ∷ more) n ≡ true
-first_here n more = or_left (n == n) (has_number more n) (eq-eqb n n refl)
-
 -- the head of the list is the lowest bit that is set
 head_lowest : (s : Slots) (n start : ℕ) (more : List ℕ) → ((g : ℕ) → has_number (n ∷ more) g ≡ is_set s.starts g) → IsRising (n ∷ more)
     → IsLowestSet s.starts 0 start → n ≡ start
@@ -81,7 +74,7 @@ head_lowest s n start more slots rising lowest = elim (or_cases (n == start) (ha
   | inl here ↦ eqb-true n start here
   | inr later ↦
       let lt : n < start = above n start more rising.0 later in
-      absurd (false≢true (sym (lowest.lowest n (omega arith) lt) ∙ (sym (slots n) ∙ first_here n more)))
+      absurd (false≢true (sym (lowest.lowest n (omega arith) lt) ∙ (sym (slots n) ∙ or_left (n == n) (has_number more n) (eq-eqb n n refl))))
 ]
 
 rest_at : (n g : ℕ) (more : List ℕ) (t : Bool) → (n == g) ≡ t → AllByRecursion (λ m. n < m) more
@@ -225,10 +218,8 @@ module _ (s : Slots) (l : Local) (b : ℕ) (same : IsSameLocal s l) (is : IsClas
   slot_set h =
       let o : IsFound l.slots (λ x. in_run x (class_grains l.class) b) = found (λ x. in_run x (class_grains l.class) b) l.slots h in
       let set : is_set s.starts o.number ≡ true = sym (same.slots o.number) ∙ o.there in
-      let run : in_run o.number (class_grains s.class) b ≡ true = sym (ap (λ (c : ℕ). in_run o.number (class_grains c) b) same.class) ∙ o.so in
-      let ends = run_of o.number (class_grains s.class) b run in
-      let at : start_of s.class b ≡ o.number = start_at s.class o.number b (starts o.number set) ends.0 ends.1 in
-      ap (is_set s.starts) at ∙ set
+      let ends = run_of o.number (class_grains s.class) b (sym (ap (λ (c : ℕ). in_run o.number (class_grains c) b) same.class) ∙ o.so) in
+      ap (is_set s.starts) (start_at s.class o.number b (starts o.number set) ends.0 ends.1) ∙ set
 
   set_slot : is_set s.starts (start_of s.class b) ≡ true → list_any (λ x. in_run x (class_grains l.class) b) l.slots ≡ true
   set_slot h = search (arith, start_below, to_run, passed)
@@ -270,18 +261,12 @@ of_cache_at c cs p rest (inr so) =
 -- A local allocator among those of all caches is one of some thread's cache.
 pub of_cache : (cs : List Cache) (p : Local → Bool) → list_any p (all_locals cs) ≡ true → IsOfCache cs p
 of_cache [] p h = absurd (false≢true h)
-of_cache (c ∷ cs) p h = of_cache_at c cs p (of_cache cs p) (or_cases (list_any p c.locals) (list_any p (all_locals cs)) (sym (list_any-append p c.locals (all_locals cs)) ∙ h))
-
-in_all_at : (c : Cache) (cs : List Cache) (k : ℕ) (p : Local → Bool) (t : Bool) → (k == 1) ≡ t
-    → (t ≡ false → list_any p (cache_in cs (k - 1)).locals ≡ true → list_any p (all_locals cs) ≡ true)
-    → list_any p (if t then c else cache_in cs (k - 1)).locals ≡ true → list_any p (c.locals ++ all_locals cs) ≡ true
-in_all_at c cs k p true e rest so = list_any-append p c.locals (all_locals cs) ∙ or_left (list_any p c.locals) (list_any p (all_locals cs)) so
-in_all_at c cs k p false e rest so = list_any-append p c.locals (all_locals cs) ∙ or_right (list_any p c.locals) (list_any p (all_locals cs)) (rest refl so)
+of_cache (c ∷ cs) p h = of_cache_at c cs p (of_cache cs p) (or_cases _ _ (sym (list_any-append p c.locals (all_locals cs)) ∙ h))
 
 -- A local allocator of a thread's cache is among those of all caches.
 pub in_all : (cs : List Cache) (k : ℕ) (p : Local → Bool) → list_any p (cache_in cs k).locals ≡ true → list_any p (all_locals cs) ≡ true
 in_all [] k p so = so
-in_all (c ∷ cs) k p so = in_all_at c cs k p (k == 1) refl (λ e. in_all cs (k - 1) p) so
+in_all (c ∷ cs) k p so = let ih = in_all cs (k - 1) p in search (arith, list_any-append, or_left, or_right, ih)
 
 -- ---- of a page
 -- the caches have the grain of the page, where a local allocator in them does

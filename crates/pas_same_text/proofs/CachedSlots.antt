@@ -1,42 +1,74 @@
--- A request of a class for which the thread's cache has a slot.
-use Rattle.std.proofs.Common.{◌≤◌, length, ◌≡◌, ℕ, ◌+◌, ◌*◌, ◌<◌, ◌==◌, Bool, true, not, ◌&&◌, List, [], ◌∷◌, ◌++◌, None, Some, refl, ap, sym, ◌∙◌, subst}
-use Rattle.std.proofs.Common.{arith, eqb-true}
+-- A REQUEST THAT IS ASKED in a replay: what it comes to by its route, and the replay after it.
+use Rattle.std.proofs.Common.{arith, ◌≡◌, ℕ, ◌∷◌, Result, ◌≤◌, length, ◌+◌, ◌*◌, ◌<◌, ◌==◌, true, List, [], ◌++◌, None, Some, refl, ap, sym, ◌∙◌, subst}
+use Rattle.std.proofs.Common.{eqb-true}
+use Rattle.pas_profile.specs.{Profiles.IsValid, Requests.route_in, Requests.room_in, Blocks.address_of, Classes.class_size, Directories.number_of}
+use Rattle.pas_profile.specs.{Profiles.IsDirectoryOf, Requests.directory_for}
+use Rattle.pas_profile.specs.declared.{directory.Route.Route, event.NoRoom.NoRoom, name.Block.Block, profile.Profile.Profile, directory.Directory.Directory}
+use Rattle.pas_profile.specs.declared.{event.Event.Event, word.Word.Word}
+use Rattle.pas_steps.specs.{Lists.part, Desks.made}
+use Rattle.pas_cache.specs.Serves.{ServesBy, wanted_for, ServesClass, IsObtained, filling_in}
+use Rattle.pas_trace.specs.EveryPlan.{IsThread}
+use Rattle.pas_trace.specs.declared.{plan.What.TheVariants.Alloc, item.Request.Request}
+use Rattle.pas_answers.specs.Answers.{Progress, Answer, named, having, IsServed, after_answer, said_of_request, block_of as block_answered, Named}
+use Rattle.pas_same_text.specs.State.{World, Local, cache_of, locals_of}
+use Rattle.pas_same_text.specs.{Order.serves, Requests.IsAsked, Searches.address_on, Pages.is_free, Pages.is_offered}
+use Rattle.pas_same_text.specs.Same.{IsSame, HasSame, IsSameCache, IsSameLocal, has_number}
+use Rattle.pas_same_text.specs.Acts.{IsBetween, IsTaken, StaysSameWhere, HasCachedSlot}
+use Rattle.pas_same_text.proofs.{SmallActs.after_with, SmallActs.asks, FreeGrains.free_same, GivenBack.each_same, SmallActs.records_next, Tests.and_first}
+use Rattle.pas_same_text.proofs.{Tests.and_second}
 use Rattle.std.proofs.lemmas.{Bool.false≢true, Option.none-some}
 use Rattle.std.specs.List.{find}
 use Rattle.pas_bits.specs.Masks.{HasMember, IsLowestSet}
-use Rattle.pas_profile.specs.{Blocks.address_of, Classes.class_size, Directories.number_of, Profiles.IsValid, Profiles.IsDirectoryOf, Requests.route_in}
-use Rattle.pas_profile.specs.{Requests.room_in, Requests.directory_for}
-use Rattle.pas_profile.specs.declared.{directory.Directory.Directory, directory.Route.Route, event.Event.Event, name.Block.Block, profile.Profile.Profile}
-use Rattle.pas_profile.specs.declared.{word.Word.Word}
-use Rattle.pas_machine.specs.{State.gives_in, Machine.Run}
-use Rattle.pas_steps.specs.{Desks.made, Lists.part, Lists.visible, Views.usable_by_kind}
+use Rattle.pas_machine.specs.State.{gives_in}
 use Rattle.pas_steps.specs.declared.step.{Made.Made, Step.TheVariants.Look, Step.TheVariants.Give}
 use Rattle.pas_core.specs.Rights.{eligible_bit}
 use Rattle.pas_core.proofs.MachineRuns.{runs}
 use Rattle.pas_segregated.specs.declared.slots.Slots.{Slots}
 use Rattle.pas_cache.specs.{Changes.GivesSlot, Changes.IsWithoutSlot, Contents.Cached, Locals.local_for, Locals.others_than, Locals.is_for as is_for_slots}
-use Rattle.pas_cache.specs.{Serves.ServesClass, Serves.IsObtained, Serves.filling_in}
 use Rattle.pas_report.specs.declared.record.Record.{Record}
-use Rattle.pas_trace.specs.EveryPlan.{IsThread}
-use Rattle.pas_trace.specs.declared.plan.What.TheVariants.{Alloc}
-use Rattle.pas_answers.specs.Answers.{Progress, Named, named, Answer, having, IsServed, after_answer}
-use Rattle.pas_same_text.specs.State.{Local, World, cache_of, locals_of}
 use Rattle.pas_same_text.specs.Classes.{is_for, others, gives_first, serves_class}
-use Rattle.pas_same_text.specs.Pages.{is_free, is_guarded, has_room, is_offered}
-use Rattle.pas_same_text.specs.{Searches.address_on, Order.serves, Acts.IsBetween, Acts.StaysSameWhere, Acts.HasCachedSlot}
-use Rattle.pas_same_text.specs.Same.{IsSame, HasSame, IsSameCache, IsSameLocal, has_number}
 use Rattle.pas_same_text.proofs.CacheLists.{same_with, Finds, found_same, others_same, last_same, slot_given}
-use Rattle.pas_same_text.proofs.{FreeGrains.free_same, GivenBack.each_same, SmallActs.after_with, SmallActs.records_next, Tests.and_first, Tests.and_second}
-use Rattle.pas_same_text.proofs.{Asked.HasAsked, Asked.by_route, Asked.request_taken, SmallActs.asks}
 use Rattle.pas_same_text.proofs.RestingPages.{is_open, had_open, bit_offered, offered_bit}
 use Rattle.pas_steps.proofs.Sets.{same_truth}
 
--- a page has room where it had, if its grains are free where they were
-room_same : (w w' : World) (d : Directory) (page : ℕ) → ((b : ℕ) → b < 256 → is_free w' page b ≡ is_free w page b) → has_room w' d page ≡ has_room w d page
-room_same w w' d page free =
-    ap (λ (t : Bool). not t) (each_same 256 0 (λ b. not (usable_by_kind d.kind b && is_free w' page b)) (λ b. not (usable_by_kind d.kind b && is_free w page b))
-    (λ b low small. ap (λ (t : Bool). not (usable_by_kind d.kind b && t)) (free b small)))
+-- Thread k asks for r after p, where the text's state is w, and is answered by a. All actors are at rest before and after it.
+pub record HasAsked (f : Profile) (k : ℕ) (r : Request) (p : Progress) (a : Answer) (w : World) : Type 0 where
+  pub valid : IsValid f
+  pub thread : IsThread f k
+  pub before : IsBetween f p
+  pub after : IsBetween f (after_answer p k a)
+  pub same : IsSame f p w
+  pub served : IsServed f k r (having p.names (part k p.list) (p.caches k)) a
 
+module _ {f : Profile} {k : ℕ} {r : Request} {p : Progress} {a : Answer} {w : World} (asked : HasAsked f k r p a w) (answer : Result Block NoRoom)
+    (is : asked.served.answer ≡ answer) where
+  -- The cache answers it by its route.
+  -- by the route and the answer that were given
+  pub by_route : (route : Route) → route_in f r.size r.align ≡ route
+      → ServesBy route f (wanted_for f r.heap r.size r.align) a.found (p.caches k) a.cache a.steps answer
+  by_route route by = search arith
+
+  -- The replay after it says what the answer says, and the name stands for what was given.
+  -- by what is said and named for the answer
+  pub answer_reached : after_answer p k a ≡ after_with p k a.steps (said_of_request r.name answer) (named r.name (block_answered answer) ∷ p.names) a.cache
+  answer_reached =
+      search arith
+
+-- So much is known where all is.
+pub has_asked : {f : Profile} {k : ℕ} {r : Request} {p : Progress} {a : Answer} {w : World} → IsAsked f k r p a w → HasAsked f k r p a w
+has_asked asked = record { valid = asked.valid; thread = asked.thread; before = asked.before; after = asked.after; same = asked.same; served = asked.served }
+
+-- An operation that asks for a block leads the text to the replay's state where its answer does.
+-- the act's replay is the one after the answer
+pub request_taken : (f : Profile) (line k name heap size align : ℕ) → IsThread f k → (p p' : Progress) (w : World)
+    → (taken : IsTaken f (asks line k (Alloc name heap size align)) p p' w)
+    → (HasAsked f k (record { name = name; heap = heap; size = size; align = align }) p taken.advances.0 w
+    → IsSame f (after_answer p k taken.advances.0) (serves f k name heap (route_in f size align) (room_in f size align) align w))
+    → IsSame f p' (serves f k name heap (route_in f size align) (room_in f size align) align w)
+request_taken f line k name heap size align thread p p' w taken answers =
+    search arith
+
+-- ==== A request of a class for which the thread's cache has a slot.
 -- ---- blocks by their parts
 abbrev pub block_of : ℕ → ℕ → ℕ → ℕ → Block
 block_of address turn room heap = record { name = record { address = record { 0 = address }; turn = turn }; room = room; heap = heap }
@@ -92,25 +124,21 @@ module _ (f : Profile) (k name : ℕ) (p : Progress) (w : World) (s s' : Slots) 
   cache_same = search (arith, last_same, others_same, given_slot)
 
   -- ---- the block, whose turn the machine tells
-  given_run : Run f (Event.Give k block ∷ visible p.list)
-  given_run = runs f (given_to p k name block answer page start word c').list g.valid g.after.legal
-
   address_is : address_of block.name ≡ address_on l.page n
   address_is = search (arith, given_slot)
 
   block_is : block ≡ text_block w l n
-  block_is = search (arith, block_same, address_is, given_run)
+  block_is = search (arith, block_same, address_is, (runs f (given_to p k name block answer page start word c').list g.valid g.after.legal))
 
   abbrev to : World
   to = gives_first k name l (n ∷ more) w
 
   has_same : HasSame f (given_to p k name block answer page start word c') to
-  has_same = record {
-    events = ap (λ (b : Block). Event.Give k b ∷ w.events) (sym block_is) ∙ ap (λ (es : List Event). Event.Give k block ∷ es) g.same.pages.events;
-    live = ap (λ (bs : List Block). text_block w l n ∷ bs) g.same.pages.live;
-    caches = same_with f p.caches w.caches k c' (record (cache_of w k) { locals = text_locals w k l more }) g.thread g.listed g.same.caches cache_same;
-    guards = g.same.guards;
-  }
+  has_same = assumption (
+    ap (λ (b : Block). Event.Give k b ∷ w.events) (sym block_is) ∙ ap (λ (es : List Event). Event.Give k block ∷ es) g.same.pages.events,
+    ap (λ (bs : List Block). text_block w l n ∷ bs) g.same.pages.live,
+    same_with f p.caches w.caches k c' (record (cache_of w k) { locals = text_locals w k l more }) g.thread g.listed g.same.caches cache_same,
+  )
 
   before_same : HasSame f p w
   before_same = record { events = g.same.pages.events; live = g.same.pages.live; caches = g.same.caches; guards = g.same.guards }
@@ -121,7 +149,7 @@ module _ (f : Profile) (k name : ℕ) (p : Progress) (w : World) (s s' : Slots) 
       ∙ sym (free_same f p w g.valid g.between before_same q b small)
 
   open_kept : (d : Directory) (q : ℕ) → is_open to d q ≡ is_open w d q
-  open_kept d q = ap (λ (t : Bool). not (is_guarded w q) && t) (room_same w to d q (free_kept q))
+  open_kept d q = search (arith, free_kept, each_same)
 
   offered_kept : (q : ℕ) (d : Directory) → IsDirectoryOf f d
       → is_offered to d q ≡ eligible_bit (given_to p k name block answer page start word c').list (number_of d) q
@@ -185,9 +213,8 @@ to_given f k name heap class p p' w s valid is listed between after same there m
     let of_heap : s.heap ≡ heap = eqb-true s.heap heap (and_first (s.heap == heap) (s.class == class) passes) in
     let of_class : s.class ≡ class = eqb-true s.class class (and_second (s.heap == heap) (s.class == class) passes) in
     let g = o.gives in
-    let steps_are : o.steps ≡ give_steps o.block g.answer s.page g.start g.word = g.steps_are in
     let reached : p' ≡ given_to p k name o.block g.answer s.page g.start g.word o.cache =
-    o.after ∙ ap (λ (ms : List Made). after_with p k ms None (named name (Some o.block) ∷ p.names) o.cache) steps_are in
+    o.after ∙ ap (λ (ms : List Made). after_with p k ms None (named name (Some o.block) ∷ p.names) o.cache) g.steps_are in
     let kept : o.cache ≡ record (p.caches k) { locals = others_than s.heap s.class (p.caches k).locals ++ o.rest ∷ [] } =
     cc in
     let given : Given f k name p w s o.rest l h.head h.more o.block g.answer s.page g.start g.word o.cache = assumption (subst (IsBetween f) reached after) in

@@ -14,7 +14,7 @@ use Rattle.pas_rights.specs.{Returns.ReofferSteps, Returns.ReturnSteps, Words.on
 use Rattle.pas_rights.specs.declared.reading.Used.{Used}
 use Rattle.pas_rights.proofs.{Orders.until_only, Orders.return_returns, Puts.puts_kinds}
 use Rattle.pas_same_text.proofs.StepMarks.{hint_step, hints_none, IsMarked, marked_parts, none_marked, returns_marked}
-use Rattle.pas_answers.proofs.Tidy.{first_page}
+use Rattle.pas_answers.proofs.Consequences.{first_page}
 use Rattle.pas_bits.specs.Runs.{meets_page}
 use Rattle.pas_profile.specs.{Blocks.address_of, Blocks.grain_of, Blocks.length_of, Directories.directory_read, Directories.deed_word_of, Lives.live_word}
 use Rattle.pas_profile.specs.{Profiles.IsValid}
@@ -146,9 +146,11 @@ module _ (f : Profile) (k epoch : ℕ) (s : Settled) (piece : List Made) (l : Wh
   abbrev first : List Made
   first = is.order.before ++ first_look s.entry.name is.order.deed
 
+  -- The steps before the end are idle.
   idle : AreIdle first
   idle = idle_before (is_sized s.entry) s.entry is.order.deed (guess_by (directory_read is.order.deed)) is.order.guess is.order.before is.order.tries
 
+  -- A free with a size ends the block by this size.
   guessed : is_sized s.entry ≡ true → is.order.guess ≡ s.entry.room / 16
   guessed = guess_is (is_sized s.entry) s.entry (guess_by (directory_read is.order.deed)) is.order.guess is.order.before is.order.tries
 
@@ -161,6 +163,7 @@ module _ (f : Profile) (k epoch : ℕ) (s : Settled) (piece : List Made) (l : Wh
   answer_is : is.order.answer ≡ word_after lm (life_word_at (grain_of s.entry.name))
   answer_is = search (arith, ends_legal)
 
+  -- The name and the length that is looked for fit the region.
   within : IsEndIn f s.entry.name is.order.guess
   within = search (arith, guessed, ends_legal)
 
@@ -174,6 +177,7 @@ module _ (f : Profile) (k epoch : ℕ) (s : Settled) (piece : List Made) (l : Wh
   abbrev word : ℕ
   word = word_after lm (life_word_at g)
 
+  -- The life word that the end reads is that of the events.
   life : IsLifeOf f g word (live_in (visible lm) (16 * g)) (gives_in (visible lm) (16 * g)) (ends_in (visible lm) (16 * g))
   life = life_of f lm valid ends_legal.1 g
 
@@ -188,8 +192,7 @@ module _ (f : Profile) (k epoch : ℕ) (s : Settled) (piece : List Made) (l : Wh
       (ends_in (visible lm) (16 * g)) s.entry.name.turn is.order.guess life turn (sym answer_is ∙ hit) in
       let b : Live = o.0 in
       let alive : IsLifeOfLive f g word b (gives_in (visible lm) (16 * g)) (ends_in (visible lm) (16 * g)) = rw o.1 at life in
-      let same : live_word s.entry.name.turn is.order.guess ≡ live_word (ends_in (visible lm) (16 * g)) (length_of b.block) = sym hit ∙ (answer_is ∙ alive.word_is) in
-      let long : length_of b.block ≡ is.order.guess = omega (arith, same, o.3) in
+      let long : length_of b.block ≡ is.order.guess = omega (arith, (sym hit ∙ (answer_is ∙ alive.word_is)), o.3) in
       let some : 1 ≤ is.order.guess = within.3 in
       search (arith, same_events, room_at)
 
@@ -211,12 +214,14 @@ module _ (f : Profile) (k epoch : ℕ) (s : Settled) (piece : List Made) (l : Wh
   after_kinds : (o : Outcome) → AfterEnd s.entry.name o is.after → Only putting_back is.after
   after_kinds o h = search (arith, run_kinds)
 
-  ends_kinds : Only ending is.ends
-  ends_kinds = subst (Only ending) (sym is.order.steps_are) (ap (is_in ending) last.kind, only_within trying ending first refl idle.kinds)
+  ends_trying : Only trying is.ends
+  ends_trying = subst (Only trying) (sym is.order.steps_are) (ap (is_in trying) last.kind, idle.kinds)
 
   -- The steps for one logged free are of the ending kinds alone.
   pub entry_kinds : Only ending piece
-  entry_kinds = rw is.steps_are (only_both ending is.after is.ends (only_within putting_back ending is.after refl (after_kinds s.outcome is.returns)) ends_kinds)
+  entry_kinds = rw is.steps_are
+      (only_both ending is.after is.ends (only_within putting_back ending is.after refl (after_kinds s.outcome is.returns))
+      (only_within trying ending is.ends refl ends_trying))
 
   -- The steps for one logged free show one event, that of its outcome.
   pub entry_events : visible (triples k piece ++ l) ≡ event_for k epoch s.entry s.outcome ∷ visible l
@@ -226,9 +231,6 @@ module _ (f : Profile) (k epoch : ℕ) (s : Settled) (piece : List Made) (l : Wh
       (ap (events_by k (part k l)) is.steps_are ∙ (events_same putting_back refl k (part k l) is.after is.ends (after_kinds s.outcome is.returns) ∙ ends_event))
 
   -- ---- its hints
-  ends_trying : Only trying is.ends
-  ends_trying = subst (Only trying) (sym is.order.steps_are) (ap (is_in trying) last.kind, idle.kinds)
-
   -- The steps for one logged free hint only pages that they read as backed and empty.
   pub entry_hints : Always HintsEmpty piece
   entry_hints = search (arith, hints_both, hints_none, ends_trying, run_hints)

@@ -5,11 +5,11 @@ use Rattle.std.proofs.Common.{Result, refl, ap, sym, ◌∙◌, subst, append-ni
 use Rattle.std.proofs.lemmas.{Bool.false_from_ne_true, Bool.Decides.nat_tests, List.Elements.All-head, List.Elements.All-tail}
 use Rattle.std.specs.List.{find}
 use Rattle.pas_bits.specs.Masks.{is_set, IsEmpty}
-use Rattle.pas_profile.specs.{Classes.IsClass, Classes.IsSlotStart, Directories.IsKind, Profiles.IsValid, Profiles.IsDirectoryOf, Profiles.IsAdmitted}
-use Rattle.pas_profile.specs.Requests.{class_home, kind_of_class, is_shared, route_in, room_in}
+use Rattle.pas_profile.specs.{Classes.IsClass, Directories.IsKind, Profiles.IsValid, Profiles.IsDirectoryOf, Profiles.IsAdmitted}
+use Rattle.pas_profile.specs.Requests.{class_home, kind_of_class, route_in, room_in}
 use Rattle.pas_profile.specs.declared.{event.Event.Event, event.NoRoom.NoRoom, profile.Profile.Profile, word.Word.Word, directory.Directory.Directory}
 use Rattle.pas_profile.specs.declared.{directory.Route.Route}
-use Rattle.pas_profile.proofs.ClassFacts.{class_grains_positive, usable_grains_le, class_known, class_suits}
+use Rattle.pas_profile.proofs.Sizes.{class_grains_positive, usable_grains_le, class_known, class_suits}
 use Rattle.pas_steps.specs.{Desks.triples, Events.events_by, Views.View, Views.KnowsDeed}
 use Rattle.pas_steps.specs.Lists.{Whole, part, word_after, Legal}
 use Rattle.pas_steps.specs.declared.step.Made.{Made}
@@ -26,15 +26,15 @@ use Rattle.pas_trace.specs.EveryPlan.{IsThread}
 use Rattle.pas_answers.specs.Answers.{Progress, Named, records_of, said_by, Caches, named, Answer, after_answer, said_of_room}
 use Rattle.pas_same_text.specs.{State.Local, State.World, State.locals_of, Searches.some_of, Searches.refusal, Searches.refuses, Acts.AreResting}
 use Rattle.pas_same_text.specs.{Acts.IsBetween, Order.serves}
-use Rattle.pas_same_text.specs.Classes.{is_for, fetches, serves_class_by, serves_class, slots_for, takes_page}
-use Rattle.pas_same_text.specs.Same.{IsSame, IsSameLocal, AreSameLocals, ArePagesSame, has_number, HasSame}
+use Rattle.pas_same_text.specs.Classes.{is_for, fetches, serves_class_by, serves_class, takes_page}
+use Rattle.pas_same_text.specs.Same.{IsSame, IsSameLocal, AreSameLocals, ArePagesSame, has_number}
 use Rattle.pas_same_text.proofs.CacheLists.{same_own, same_again, Finds, found_same}
 use Rattle.pas_same_text.proofs.{SmallActs.after_with, SeatedActs.cached_again, SeatedActs.middle_rest, OneUp.up_to, SameIndexes.same_many}
-use Rattle.pas_same_text.proofs.{SameIndexes.given_up_keeps, SameIndexes.first_up_keeps, BitfitRequests.none_searched, PlacesFit.class_fits}
-use Rattle.pas_same_text.proofs.{SearchedPages.refused_to, SearchedPages.refused_same, Asked.HasAsked, Asked.answer_reached}
+use Rattle.pas_same_text.proofs.{SameIndexes.given_up_keeps, SameIndexes.first_up_keeps, BitfitRequests.none_searched, PlacesFit.class_fits, Pieces.has_same}
+use Rattle.pas_same_text.proofs.{SearchedPages.refused_to, SearchedPages.refused_same, CachedSlots.HasAsked, CachedSlots.answer_reached}
 use Rattle.pas_same_text.proofs.MadePlace.{placed_by, place_made, none_same, most_left, known_found}
 use Rattle.pas_core.specs.Fits.{HasNoFit}
-use Rattle.pas_search.proofs.Alone.{refused_told}
+use Rattle.pas_search.proofs.FindingAPage.{refused_told}
 
 -- the text once place was made for a local allocator of the heap and class
 abbrev pub with_place : ℕ → ℕ → ℕ → World → World
@@ -136,6 +136,7 @@ module _ (f : Profile) (k heap class : ℕ) (p : Progress) (w : World) (found : 
   abbrev w1 : World
   w1 = with_place k heap class w
 
+  -- The thread is at rest before the fetch.
   own : AtRest f c (part k p.list)
   own = o.rest
 
@@ -152,15 +153,14 @@ module _ (f : Profile) (k heap class : ℕ) (p : Progress) (w : World) (found : 
   own_rest : AtRest f c1 (part k p1.list)
   own_rest = let few = place_left in record { locals = rests; few = omega (arith, few); entries = own.entries; few_entries = own.few_entries }
 
+  -- Once the old local allocator is gone the replay is between two pieces.
   middle : IsBetween f p1
   middle = record {
     legal = legal_middle;
     rest = middle_rest f p k c1 xs o.valid o.thread o.before own legal_middle own_rest;
   }
 
-  own_is : p1.caches k ≡ c1
-  own_is = same_own p.caches k c1
-
+  -- And it is where the text is.
   placed : IsSame f p1 w1
   placed = place_made f k heap class p w fewer xs o.valid o.thread o.listed o.before o.same o.fetch.place o.fetch.gives_back middle
 
@@ -173,7 +173,7 @@ module _ (f : Profile) (k heap class : ℕ) (p : Progress) (w : World) (found : 
 
   -- Once place was made in a cache, it has place for a local allocator of the heap and class.
   pub place_fetched : HasPlace f k heap class p1 w1
-  place_fetched = search (arith, many_placed, middle, own_is, own_rest, placed, none_left, place_left)
+  place_fetched = search (arith, many_placed, middle, (same_own p.caches k c1), own_rest, placed, none_left, place_left)
 
   -- ---- the text makes it too
   both_same : AreSameLocals c.locals (locals_of w k)
@@ -182,9 +182,8 @@ module _ (f : Profile) (k heap class : ℕ) (p : Progress) (w : World) (found : 
   -- a local allocator without a slot has none in the text
   no_slots : (s : Slots) (l : Local) → IsSameLocal s l → IsLocal f (part k p.list) s → IsEmpty s.starts → some_of l.slots ≡ false
   no_slots s l is known empty = none_some l.slots (λ g. is.slots g ∙ false_from_ne_true (is_set s.starts g) (λ set.
-      let slot : IsSlotStart s.class g = known.starts g set in
       let some = class_grains_positive s.class known.class in
-      true≢false (sym set ∙ empty g (omega (arith, slot.within, usable_grains_le s.class known.class, some)))))
+      true≢false (sym set ∙ empty g (omega (arith, (known.starts g set).within, usable_grains_le s.class known.class, some)))))
 
   module _ (name : ℕ) where
     abbrev served_as : Option Local → World
@@ -200,9 +199,7 @@ module _ (f : Profile) (k heap class : ℕ) (p : Progress) (w : World) (found : 
         ap served_as is ∙ ap fetched_as (sym is)
     by_found (Some s) there left =
         let found : Finds s (find (is_for heap class) (locals_of w k)) = found_same heap class c.locals (locals_of w k) s both_same there in
-        let l : Local = found.local in
-        let known = known_found (IsLocal f (part k p.list)) heap class c.locals s own.locals.known there in
-        cc (no_slots s l found.same known left.0)
+        cc (no_slots s found.local found.same (known_found (IsLocal f (part k p.list)) heap class c.locals s own.locals.known there) left.0)
 
     -- The text serves such a request of a class as a fetch from the state in which place was made.
     pub text_fetched : serves_class f k name heap class w ≡ fetches f k name heap class w1
@@ -238,15 +235,12 @@ module _ (f : Profile) (k heap class : ℕ) (p : Progress) (w : World) (found : 
 
     -- A state of the text that is that of the fetch told by itself is that of the whole request.
     pub fetch_carried : (v : World) → IsSame f q1 v → IsSame f q v
-    fetch_carried v ended = record {
-      pages = subst (λ (l : Whole). ArePagesSame f l v) (sym list_is) ended.pages;
-      caches = same_again f p.caches v.caches k c1 new ended.caches;
-      guards = ended.guards;
-      names = ended.names;
-      records = ap (λ (es : List Event). p.records ++ (records_of es ++ said_by k said)) events_are ∙ ended.records;
-      epoch = ended.epoch ∙ ap (λ (l : Whole). word_after l Word.Epoch) (sym list_is);
-      read = ended.read;
-    }
+    fetch_carried v ended = assumption (
+      subst (λ (l : Whole). ArePagesSame f l v) (sym list_is) ended.pages,
+      same_again f p.caches v.caches k c1 new ended.caches,
+      ap (λ (es : List Event). p.records ++ (records_of es ++ said_by k said)) events_are ∙ ended.records,
+      ended.epoch ∙ ap (λ (l : Whole). word_after l Word.Epoch) (sym list_is),
+    )
 
 -- ==== A REQUEST OF A CLASS THAT IS REFUSED: place is made for a local allocator, and then no page serves, in the text either.
 -- ---- the fetch as a request of its own
@@ -258,25 +252,25 @@ module _ (f : Profile) (k name heap class : ℕ) (p : Progress) (w : World) (roo
   searched_are : refill.searched ≡ steps
   searched_are = sym (refill.steps_are ∙ ap (λ (ms : List Made). ms ++ refill.searched) refill.outcome.1)
 
+  -- The steps are those of a search.
   searches : AreSearch steps
   searches = subst AreSearch searched_are refill.searches
 
+  -- The search was refused.
   refused : IsRefused (NoSlot class) f d steps room
   refused = subst (λ (ms : List Made). IsRefused (NoSlot class) f d ms room) searched_are refill.outcome.0
 
   -- nothing could serve before, and the reason is true after
   told : HasNoFit (NoSlot class) f d p.list × HasNoFit (NoSlot class) f d (triples k steps ++ p.list) × IsTrueReason f d (triples k steps ++ p.list) room
-  told = refused_told (NoSlot class) f d k p.list steps has.valid has.directory (fewer_slots class) after.legal searches (may_fetch f k heap class p w has) room refused
+  told = refused_told _ f d k p.list steps has.valid has.directory (fewer_slots class) after.legal searches (may_fetch f k heap class p w has) room refused
 
-  old : HasSame f p w
-  old = record { events = has.same.pages.events; live = has.same.pages.live; caches = has.same.caches; guards = has.same.guards }
-
+  -- The text refuses it, too.
   text : fetches f k name heap class w ≡ refuses k name (refusal f w d) w
-  text = ap (λ (r : Result ℕ NoRoom). takes_page f k name heap class r w)
-      (none_searched (NoSlot class) f d p w (slots_for (is_shared f heap) w class) has.between.legal has.directory has.same.pages (class_fits f p w has.valid has.between old class has.known (is_shared f heap)) told.0)
+  text = ap (λ (r : Result ℕ NoRoom). takes_page f k name heap class r w) (none_searched _ f d p w _ has.between.legal has.directory has.same.pages
+      (class_fits f p w has.valid has.between (has_same has.same) class has.known _) told.0)
 
   fetch_refused : IsSame f (refused_to p k name steps room) (fetches f k name heap class w)
-  fetch_refused = subst (IsSame f (refused_to p k name steps room)) (sym text) (refused_same f k name p w d steps room has.valid has.thread has.directory has.between after has.same searches refused.quiet told.2)
+  fetch_refused = rw text (refused_same f k name p w d steps room has.valid has.thread has.directory has.between after has.same searches refused.quiet told.2)
 
 -- ---- the pages of a request of a class
 -- A request's class is one of the classes.
@@ -296,7 +290,8 @@ class_served_by f k name heap size align class p a w route asked = search arith
 
 -- ---- the request
 module _ (f : Profile) (k name heap size align class : ℕ) (p : Progress) (a : Answer) (w : World) (listed : k ≤ length w.caches)
-    (admitted : IsAdmitted f size align heap) (route : route_in f size align ≡ Route.Class class) (asked : HasAsked f k (record { name = name; heap = heap; size = size; align = align }) p a w) where
+    (admitted : IsAdmitted f size align heap) (route : route_in f size align ≡ Route.Class class)
+    (asked : HasAsked f k (record { name = name; heap = heap; size = size; align = align }) p a w) where
   abbrev mine : Cached
   mine = p.caches k
 
@@ -308,7 +303,7 @@ module _ (f : Profile) (k name heap size align class : ℕ) (p : Progress) (a : 
 
   -- what was made before the last of its steps came onto a legal list
   legal_fetch : (given steps : List Made) → a.steps ≡ given ++ steps → Legal f (triples k steps ++ p.list)
-  legal_fetch given steps steps_are = legal_earlier f k given steps p.list (subst (λ (ms : List Made). Legal f (triples k ms ++ p.list)) steps_are asked.after.legal)
+  legal_fetch given steps steps_are = legal_earlier f k given steps p.list (rw steps_are at asked.after.legal)
 
   -- slots were fetched, or none were found
   pub fetched_so : (found : Result Slots NoRoom) (fewer : List Slots) (steps given : List Made) → a.steps ≡ given ++ steps
@@ -317,7 +312,8 @@ module _ (f : Profile) (k name heap size align class : ℕ) (p : Progress) (a : 
 
   -- ---- none were found
   module _ (room : NoRoom) (is : asked.served.answer ≡ Err room) where
-    by_fetch : (fewer : List Slots) (steps : List Made) → a.cache ≡ record mine { locals = fewer } → a.steps ≡ steps → IsFetched f k heap class p w (Err room) fewer steps → IsSame f (after_answer p k a) (serves_class f k name heap class w)
+    by_fetch : (fewer : List Slots) (steps : List Made) → a.cache ≡ record mine { locals = fewer } → a.steps ≡ steps
+        → IsFetched f k heap class p w (Err room) fewer steps → IsSame f (after_answer p k a) (serves_class f k name heap class w)
     by_fetch fewer steps cache steps_are o =
         let p1 : Progress = up_to p k o.fetch.before fewer in
         let w1 : World = with_place k heap class w in
@@ -325,13 +321,16 @@ module _ (f : Profile) (k name heap size align class : ℕ) (p : Progress) (a : 
         let names : List Named = named name None ∷ p.names in
         let to : after_answer p k a ≡ after_with p k steps said names (p1.caches k) =
         answer_reached asked (Err room) is ∙ cc (same_own p.caches k (record mine { locals = fewer })) in
-        let end : IsBetween f (refused_to p1 k name o.fetch.searched room) = fetch_between f k heap class p w (Err room) fewer steps o [] said names (p1.caches k) (subst (IsBetween f) to asked.after) in
+        let end : IsBetween f (refused_to p1 k name o.fetch.searched room) =
+        fetch_between f k heap class p w (Err room) fewer steps o [] said names (p1.caches k) (subst (IsBetween f) to asked.after) in
         let ended : IsSame f (refused_to p1 k name o.fetch.searched room) (fetches f k name heap class w1) =
         fetch_refused f k name heap class p1 w1 room o.fetch.searched (place_fetched f k heap class p w (Err room) fewer steps o) o.fetch.refill end in
         rw (text_fetched f k heap class p w (Err room) fewer steps o name, to)
         (fetch_carried f k heap class p w (Err room) fewer steps o [] said names (p1.caches k) (fetches f k name heap class w1) ended)
 
-    obtained : (fewer : List Slots) (steps : List Made) → a.cache ≡ record mine { locals = fewer } → a.steps ≡ steps → IsObtained (filling_in home class) f mine.locals fewer steps (Err room) → IsSame f (after_answer p k a) (serves_class f k name heap class w)
+    -- A refusal of the search is one of the request.
+    obtained : (fewer : List Slots) (steps : List Made) → a.cache ≡ record mine { locals = fewer } → a.steps ≡ steps
+        → IsObtained (filling_in home class) f mine.locals fewer steps (Err room) → IsSame f (after_answer p k a) (serves_class f k name heap class w)
     obtained fewer steps cache steps_are (inl cached) = absurd (let bad : Err room ≡ Ok cached.0 = cached.1 in cc)
     obtained fewer steps cache steps_are (inr fetch) = by_fetch fewer steps cache steps_are (fetched_so (Err room) fewer steps [] steps_are fetch)
 
@@ -339,8 +338,8 @@ module _ (f : Profile) (k name heap size align class : ℕ) (p : Progress) (a : 
         → IsObtained (filling_in home class) f mine.locals fewer early found → IsAnswered fewer a.cache.locals given found (Err room)
         → IsSame f (after_answer p k a) (serves_class f k name heap class w)
     ends_so (Ok slots) fewer early given steps_are how ends = absurd ends
-    ends_so (Err why) fewer early given steps_are how ends =
-        obtained fewer early (by_class.cache ∙ ap (λ (ss : List Slots). record mine { locals = ss }) ends.1) (steps_are ∙ ap (λ (ms : List Made). ms ++ early) ends.2)
+    ends_so (Err why) fewer early given steps_are how ends = obtained fewer early
+        (by_class.cache ∙ ap (λ (ss : List Slots). record mine { locals = ss }) ends.1) (steps_are ∙ ap (λ (ms : List Made). ms ++ early) ends.2)
         (subst (λ (r : NoRoom). IsObtained (filling_in home class) f mine.locals fewer early (Err r)) (sym ends.0) how)
 
     -- A request of a class that is refused leads the text to the replay's state.

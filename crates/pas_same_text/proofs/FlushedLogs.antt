@@ -52,6 +52,7 @@ pub record IsEndedOn (es es' : List Event) (pages : List ℕ) (q : ℕ) : Type 0
 
 -- the blocks after some events lived before them
 pub record OnlyFewer (es es' : List Event) : Type 0 where
+  -- The block lives in the text, too.
   pub lives : (a : ℕ) (b : Live) → live_in es' a ≡ Some b → live_in es a ≡ Some b
   pub deeds : (page : ℕ) → deed_in es' page ≡ deed_in es page
 
@@ -63,9 +64,6 @@ still_gone k epoch entry o es a h = search arith
 -- no event of an entry gives a block
 fewer_one : (k epoch : ℕ) (entry : Entry) (o : Outcome) (es : List Event) → OnlyFewer es (event_for k epoch entry o ∷ es)
 fewer_one k epoch entry o es = search arith
-
-fewer_then : (es fs gs : List Event) → OnlyFewer es fs → OnlyFewer fs gs → OnlyFewer es gs
-fewer_then es fs gs a b = record { lives = λ at l h. a.lives at l (b.lives at l h); deeds = λ page. b.deeds page ∙ a.deeds page }
 
 -- ==== HOW FAR A FLUSH IS: from the state w and the list l on, these entries took effect by these steps, and the text is at v
 pub record IsFlushedTo (f : Profile) (k e : ℕ) (l : Whole) (w : World) (c : Cached) (caches : Caches) (settled : List Settled) (steps : List Made) (v : World) : Type 0 where
@@ -107,32 +105,35 @@ module _ (f : Profile) (k epoch : ℕ) (s : Settled) (piece : List Made) (l : Wh
       subst (Run f) (entry_events f k epoch s piece l valid legal is known ∙ ap (λ (es : List Event). event_for k epoch s.entry s.outcome ∷ es) (sym events))
       (runs f (triples k piece ++ l) valid legal)
 
-  run : Run f v.events
-  run = run_after.1
-
   -- what is known where the block of the name ended
   module _ (grains : ℕ) (outcome : s.outcome ≡ Ended grains) where
+    -- The end of the entry's block came.
     came : IsEndOf s.entry is.order.guess is.order.answer (Ended grains)
     came = subst (IsEndOf s.entry is.order.guess is.order.answer) outcome is.order.comes_to
 
+    -- It is the end of a block that lives.
     found : IsEndOfBlock f l s.entry is.order.guess
     found = found_block f k epoch s piece l valid legal is known came.0
 
     lives : live_in v.events (address_of s.entry.name) ≡ Some found.block
     lives = ap (λ (es : List Event). live_in es (address_of s.entry.name)) events ∙ found.lives
 
+    -- The block stands where the entry says.
     at : address_of found.block.block.name ≡ address_of s.entry.name
-    at = lives_where f v.events run (address_of s.entry.name) found.block lives
+    at = lives_where f v.events run_after.1 (address_of s.entry.name) found.block lives
 
+    -- Its name is the entry's.
     named : found.block.block.name ≡ s.entry.name
     named = name_same found.block.block.name s.entry.name at found.turn
 
+    -- It has as many grains as were put back.
     long : length_of found.block.block ≡ grains
     long = found.long ∙ sym came.1
 
     abbrev y : World
     y = ends_block f k s.entry.name found.block.block v
 
+    -- The text comes to the same.
     text : x ≡ y
     text = end_text f k s.entry v live found.block lives found.turn found.room
 
@@ -148,16 +149,17 @@ module _ (f : Profile) (k epoch : ℕ) (s : Settled) (piece : List Made) (l : Wh
         ∙ ap (λ (d : Option Directory). large_run s.entry.name grains d)
         (ap (λ (es : List Event). deed_in es (address_of s.entry.name / 4096)) events ∙ sym (read_directory f k epoch s piece l valid legal is known)))
 
-    noted_same : noted_then f k s.entry.name found.block v run live lives ≡ noted_of v k ++ take (64 - length (noted_of v k)) (noted_for s)
+    noted_same : noted_then f k s.entry.name found.block v run_after.1 live lives ≡ noted_of v k ++ take (64 - length (noted_of v k)) (noted_for s)
     noted_same = search (arith, room_for, run_same)
 
+    -- Only pages of the block are marked.
     marked : (q : ℕ) → IsPage f q → IsMarked q piece → IsEndedOn v.events y.events (pages_of f found.block.block) q
     marked q of mark =
         let after : IsMarked q is.after = after_marked f k epoch s piece l valid legal is known q mark in
         let returns : AfterEnd s.entry.name (Ended grains) is.after = subst (λ (o : Outcome). AfterEnd s.entry.name o is.after) outcome is.returns in
         let some : 1 ≤ grains = subst (λ (m : ℕ). 1 ≤ m) (sym came.1) found.some in
         let met : meets_page (grain_of s.entry.name) grains q ≡ true = block_marked _ grains q is.after some returns after in
-        let own : meets_page (grain_of s.entry.name) (length_of found.block.block) q ≡ true = ap (λ (m : ℕ). meets_page (grain_of s.entry.name) m q) long ∙ met in
+        let own : meets_page (grain_of s.entry.name) (length_of found.block.block) q ≡ true = rw long met in
         record {
           address = address_of s.entry.name;
           block = found.block;
@@ -173,8 +175,8 @@ module _ (f : Profile) (k epoch : ℕ) (s : Settled) (piece : List Made) (l : Wh
     ended_taken : IsTakenBy f k s piece v x (own_then s v k)
     ended_taken = subst (λ (w : World). IsTakenBy f k s piece v w (own_then s v k)) (sym text) (record {
       pages = pages_of f found.block.block;
-      returns = ended_returns f k s.entry.name found.block v run live lives;
-      caches = cc (ended_caches f k s.entry.name found.block v run live lives, noted_same);
+      returns = ended_returns f k s.entry.name found.block v run_after.1 live lives;
+      caches = cc (ended_caches f k s.entry.name found.block v run_after.1 live lives, noted_same);
       marks = marked;
     })
 
@@ -183,10 +185,10 @@ module _ (f : Profile) (k epoch : ℕ) (s : Settled) (piece : List Made) (l : Wh
     run_rejected = subst (λ (o : Outcome). Run f (event_for k epoch s.entry o ∷ v.events)) outcome run_after
 
     rejected_text : x ≡ rejects k s.entry.name (reason_for s.entry read) v
-    rejected_text = reject_text f k s.entry v live (reason_for s.entry read) run run_rejected.0.1 (reason_is s.entry read)
+    rejected_text = reject_text f k s.entry v live (reason_for s.entry read) run_after.1 run_rejected.0.1 (reason_is s.entry read)
 
     rejected_shown : IsShown (Event.Reject k s.entry.name (reason_for s.entry read)) v x
-    rejected_shown = reject_shown f k s.entry v live (reason_for s.entry read) run run_rejected.0.1 (reason_is s.entry read)
+    rejected_shown = reject_shown f k s.entry v live (reason_for s.entry read) run_after.1 run_rejected.0.1 (reason_is s.entry read)
 
     no_mark : (q : ℕ) → IsMarked q piece → ⊥
     no_mark q mark = search (arith, after_marked)
@@ -244,7 +246,7 @@ module _ (f : Profile) (k epoch : ℕ) (l : Whole) (w : World) (c : Cached) (cac
         many = ap (λ (cs : List Cache). length cs) taken.caches ∙ (many_with v.caches k (own_then s v k) ∙ was.many);
         pages = was.pages ++ taken.pages;
         returns = returns_then f was.pages taken.pages w v x was.returns taken.returns;
-        fewer = fewer_then w.events v.events x.events was.fewer less;
+        fewer = record { lives = λ at l h. was.fewer.lives at l (less.lives at l h); deeds = λ page. less.deeds page ∙ was.fewer.deeds page };
         marks = λ q of mark. elim (marked_parts q piece steps mark) [
           | inl here ↦ ended_since w.events v.events x.events was.pages taken.pages q was.fewer (taken.marks q of here)
           | inr earlier ↦ still_ended w.events v.events x.events was.pages taken.pages q stays (was.marks q of earlier)
@@ -292,9 +294,8 @@ module _ (f : Profile) (k epoch : ℕ) (l : Whole) (w : World) (c : Cached) (cac
       let rest : List Made = h.1 ++ look ∷ [] in
       let all : steps ++ look ∷ [] ≡ h.0 ++ rest = ap (λ (ms : List Made). ms ++ look ∷ []) h.4 ∙ append_assoc h.0 h.1 (look ∷ []) in
       let whole : Legal f (triples k (h.0 ++ rest) ++ l) = subst (λ (ms : List Made). Legal f (triples k ms ++ l)) all legal in
-      let before : Legal f (triples k rest ++ l) = legal_earlier f k h.0 rest l whole in
       let v : World = each (ends f k) (reverse (map (λ s. s.entry) settled)) (set_log k [] w) in
-      let was : IsFlushedTo f k epoch l w c caches settled rest v = flushed_all settled h.1 h.3 before start in
+      let was : IsFlushedTo f k epoch l w c caches settled rest v = flushed_all settled h.1 h.3 (legal_earlier f k h.0 rest l whole) start in
       let next : IsFlushedTo f k epoch l w c caches (s ∷ settled) (h.0 ++ rest) (ends f k s.entry v) =
       next_flushed s settled h.0 rest v (subst (Legal f) (sym (triples_append k h.0 rest l)) whole) h.2 was in
       let text : each (ends f k) (reverse (s.entry ∷ map (λ s. s.entry) settled)) (set_log k [] w) ≡ ends f k s.entry v =

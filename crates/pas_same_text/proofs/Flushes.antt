@@ -57,6 +57,7 @@ ended_now e w k b x only = search arith
 block_here : (w : World) (a : ℕ) (o : Option Live) → w.live ≡ lives_in w.events → live_in w.events a ≡ o → block_at w a ≡ block_of_live o
 block_here w a o live is = ap (find (is_at a)) live ∙ (found_is w.events a ∙ ap block_of_live is)
 
+-- An entry behind which no such block lives is rejected by the text, too.
 rejected : (f : Profile) (k : ℕ) (entry : Entry) (w : World) (o : Option Live) → w.live ≡ lives_in w.events → live_in w.events (address_of entry.name) ≡ o
     → ((b : Live) → o ≡ Some b → (b.block.name.turn == entry.name.turn) ≡ false) → ends f k entry w ≡ rejects k entry.name (reason w entry.name) w
 rejected f k entry w o live is other = search (arith, block_here)
@@ -178,6 +179,7 @@ entries_of settled = map (λ s. s.entry) settled
 abbrev outcomes_of : List Settled → List Outcome
 outcomes_of settled = map (λ s. s.outcome) settled
 
+-- Entries and outcomes stand side by side.
 paired : (settled : List Settled) → HaveOutcomes (entries_of settled) (outcomes_of settled)
 paired [] = tt
 paired (s ∷ settled) = paired settled
@@ -230,7 +232,7 @@ module _ (f : Profile) (k : ℕ) (logged : List Entry) (noted noted' : List Ende
   shown_are es =
       ap (λ (evs : List Event). onto evs es) (events_are k is.empties.epoch in_order)
       ∙ (onto_is (map (shown_for k is.empties.epoch) in_order) es
-      ∙ ap (λ (evs : List Event). evs ++ es) (ap reverse (map_reverse _ is.empties.settled) ∙ reverse-reverse (map (shown_for k is.empties.epoch) is.empties.settled)))
+      ∙ ap (λ (evs : List Event). evs ++ es) (ap reverse (map_reverse _ is.empties.settled) ∙ reverse-reverse _))
 
   all_shown : visible (triples k steps ++ l) ≡ onto shown w.events
   all_shown = search (arith, visible_steps, shown_are)

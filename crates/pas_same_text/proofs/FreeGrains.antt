@@ -2,7 +2,7 @@
 -- actors are at rest. Before that: the live blocks in a list, and those that the machine has by their addresses.
 use Rattle.std.proofs.{lemmas.Option.same_Some, lemmas.Option.none-some, Math.Bool.and-false, Math.Bool.or-false, Math.Bool.and_comm}
 use Rattle.std.proofs.Common.{arith, ◌≡◌, ℕ, ◌/◌, ◌<◌, ◌≢◌, ◌==◌, Bool, true, false, not, ◌&&◌, ◌||◌, if◌then◌else◌, List, [], ◌∷◌, Option, Some, None, ◌⊎◌}
-use Rattle.std.proofs.Common.{inl, inr, refl, ap, sym, ◌∙◌, eq-eqb, ne_eqb, true≢false, map, subst, ◌+◌, ◌*◌, ◌≤◌, length, eqb-true}
+use Rattle.std.proofs.Common.{inl, inr, refl, ap, sym, ◌∙◌, eq-eqb, ne_eqb, true≢false, map, subst, ◌+◌, ◌*◌, eqb-true}
 use Rattle.std.proofs.lemmas.Bool.{eqb-false, false≢true, or_cases, or_left, not-true, and_from, or_right, false_from_ne_true, cases_lt}
 use Rattle.std.specs.List.{list_any, filter}
 use Rattle.pas_bits.specs.Runs.{in_run, meets_page}
@@ -57,16 +57,17 @@ elsewhere : (f : Profile) (es : List Event) (block : Block) (p : Block → Bool)
 elsewhere f es block p o may some same =
     let first : ℕ = o.address / 16 in
     let own : in_run (o.address / 16) (length_of o.live.block) first ≡ true = first_of_run first (length_of o.live.block) o.some in
-    let clear : in_run (grain_of block.name) (length_of block) first ≡ false = may.clear o.address o.live o.lives first own in
     let meets : in_run (grain_of block.name) (length_of block) (grain_of block.name) ≡ true = first_of_run (grain_of block.name) (length_of block) some in
     let is : grain_of block.name ≡ first = ap (λ (a : ℕ). a / 16) same in
-    true≢false (sym meets ∙ (ap (in_run (grain_of block.name) (length_of block)) is ∙ clear))
+    true≢false (sym meets ∙ (ap (in_run (grain_of block.name) (length_of block)) is ∙ (may.clear o.address o.live o.lives first own)))
 
+-- A block lives on after the give of another.
 there : (k : ℕ) (block : Block) (es : List Event) (p : Block → Bool) (o : LivesSo es p) → address_of block.name ≢ o.address
     → LivesSo (Event.Give k block ∷ es) p
 there k block es p o ne =
     search (arith, ne_eqb)
 
+-- A block lives on after the end of another.
 ended : (k : ℕ) (name : Name) (e : ℕ) (es : List Event) (p : Block → Bool) (o : LivesSo es (λ x. not (is_at (address_of name) x) && p x))
     → LivesSo (Event.End k name e ∷ es) p
 ended k name e es p o =
@@ -152,13 +153,9 @@ module _ (books : Books) (w : World) (same : AreSameGuards books w.guards) where
 pub guards_as : (books : Books) (w v : World) → v.guards ≡ w.guards → AreSameGuards books w.guards → AreSameGuards books v.guards
 guards_as books w v is same = subst (AreSameGuards books) (sym is) same
 
--- With the same guards up, the same pages are guarded.
-guarded_as : (w v : World) (page : ℕ) → v.guards ≡ w.guards → is_guarded v page ≡ is_guarded w page
-guarded_as w v page is = ap (λ (gs : List Guard). list_any (has_outer page) gs) is
-
 -- With the same guards up, an unguarded page stays so.
 pub still_unguarded : (w v : World) (page : ℕ) → v.guards ≡ w.guards → is_guarded w page ≡ false → is_guarded v page ≡ false
-still_unguarded w v page is none = guarded_as w v page is ∙ none
+still_unguarded w v page is none = ap (λ (gs : List Guard). list_any (has_outer page) gs) is ∙ none
 
 -- ==== A grain is free in the text exactly where its bit is set or a guard has its page, and a page is kept exactly where an actor has its right: whenever all
 -- actors are at rest.
@@ -175,22 +172,12 @@ bit_read l page b =
 
 -- a free grain is held by nobody, and no live block has it
 pub free_unheld : (f : Profile) (l : Whole) → IsValid f → Legal f l → (g : ℕ) → free_bit l g ≡ true → (k : ℕ) → holds (part k l) g ≡ false
-free_unheld f l valid legal g free k = by_place (in_one_place f l valid legal g)
-  where
-    by_place : IsInOnePlace l g → holds (part k l) g ≡ false
-    by_place (inl o) = o.nobody k
-    by_place (inr (inl o)) = absurd (true≢false (sym free ∙ o.not_free))
-    by_place (inr (inr o)) = absurd (true≢false (sym free ∙ o.not_free))
+free_unheld f l valid legal g free k = search (arith, in_one_place, true≢false)
 
 -- A grain whose free bit is set is no part of a live block.
 pub free_uncovered : (f : Profile) (l : Whole) → IsValid f → Legal f l → (g : ℕ) → free_bit l g ≡ true → (address : ℕ) (b : Live)
     → live_in (visible l) address ≡ Some b → IsPartOf g address b → ⊥
-free_uncovered f l valid legal g free address b lives of = by_place (in_one_place f l valid legal g)
-  where
-    by_place : IsInOnePlace l g → ⊥
-    by_place (inl o) = o.no_block address b lives of
-    by_place (inr (inl o)) = true≢false (sym free ∙ o.not_free)
-    by_place (inr (inr o)) = true≢false (sym free ∙ o.not_free)
+free_uncovered f l valid legal g free address b lives of = search (arith, in_one_place, true≢false)
 
 module _ (f : Profile) (p : Progress) (between : IsBetween f p) where
   outer_thread : (k page : ℕ) → is_outer (p.books k) page ≡ true → IsThread f k
@@ -244,9 +231,6 @@ module _ (f : Profile) (p : Progress) (w : World) (valid : IsValid f) (between :
       (λ zero. false≢true (sym (between.rest.scavenger.rights page) ∙ (ap (λ (j : ℕ). has_right (part j p.list) page) (sym zero) ∙ h)))
       (λ past. false≢true (ap (λ (v : View). has_right v page) (sym (no_other_actor f p.list between.legal k past)) ∙ h))
 
-  thread_in : (cs : ℕ) (k : ℕ) → cs ≤ f.threads → 1 ≤ k → k ≤ cs → IsThread f k
-  thread_in cs k fewer some few = (some, omega (arith, fewer, few))
-
   -- ---- live blocks
   live_is : w.live ≡ lives_in (visible p.list)
   live_is = same.live ∙ ap lives_in same.events
@@ -280,7 +264,7 @@ module _ (f : Profile) (p : Progress) (w : World) (valid : IsValid f) (between :
       → is_cached (locals_on w page) b ≡ false
   cached_none page b small nobody = false_from_ne_true (is_cached (locals_on w page) b) (λ h.
       let o : IsOfCache w.caches (has_grain page b) = of_cache w.caches (has_grain page b) (cached_any w.caches page b h) in
-      let is : IsThread f o.k = thread_in (length w.caches) o.k same.caches.few o.first o.last in
+      let is : IsThread f o.k = (o.first, omega (arith, same.caches.few, o.last)) in
       nobody o.k (sym (cache_grains o.k page b small is) ∙ o.so) is)
 
   cached_some : (k page b : ℕ) → b < 256 → IsThread f k → any_covers (p.caches k).locals (256 * page + b) ≡ true → is_cached (locals_on w page) b ≡ true
@@ -309,7 +293,7 @@ module _ (f : Profile) (p : Progress) (w : World) (valid : IsValid f) (between :
       in_cache cached =
           let is : IsThread f held.actor = holder_thread f p between held.actor _ (held.holder held.actor ∙ eq-eqb held.actor held.actor refl) in
           let unguarded : is_guarded w page ≡ false = false_from_ne_true (is_guarded w page) (λ h.
-          let o = guarded_held page b small h in never_both f p between held.actor _ page cached (ap (λ (j : ℕ). is_outer (p.books j) page) (alone o.0 o.2) ∙ o.1)) in
+          let o = guarded_held page b small h in never_both f p between held.actor _ page cached (rw (alone o.0 o.2) o.1)) in
           cc (cached_some held.actor page b small is cached, and-false (not (is_covered (blocks_on w page) (256 * page + b))))
 
       in_book : is_outer (p.books held.actor) page ≡ true → is_free w page b ≡ (free_bit p.list (256 * page + b) || is_guarded w page)
@@ -319,7 +303,7 @@ module _ (f : Profile) (p : Progress) (w : World) (valid : IsValid f) (between :
           never_both f p between k _ page has (ap (λ (j : ℕ). is_outer (p.books j) page) (sym (alone k (cached_held f p between k _ is has))) ∙ outer)))
           ∙ sym (ap (λ (t : Bool). t || is_guarded w page) held.not_free ∙ outer_guarded p.books w same.guards held.actor page outer))
   free_here page b small (inr (inr covered)) =
-      let unguarded : is_guarded w page ≡ false = false_from_ne_true _ (λ h. let o = guarded_held page b small h in false≢true (sym (covered.nobody o.0) ∙ o.2)) in
+      let unguarded = false_from_ne_true _ (λ h. let o = guarded_held page b small h in false≢true (sym (covered.nobody o.0) ∙ o.2)) in
       cc (covered_some page (256 * page + b) covered.address covered.block (on_page page b small) covered.lives covered.covered)
 
   -- A grain is free in the text exactly where its bit is set in the replay or a guard has its page.
@@ -362,8 +346,7 @@ module _ (f : Profile) (p : Progress) (w : World) (valid : IsValid f) (between :
   pub keeper : (page : ℕ) → is_kept w page ≡ true → (k : ℕ) × (has_right (part k p.list) page ≡ true)
   keeper page h =
       let o : IsOfCache w.caches (keeps_page page) = of_cache w.caches _ (any_filtered (λ l. l.keeps) (λ l. l.page == page) _ h) in
-      let is : IsThread f o.k = (o.first, omega (arith, o.last, same.caches.few)) in
-      (o.k, sym (cache_keeps o.k page is) ∙ o.so)
+      (o.k, sym (cache_keeps o.k page ((o.first, omega (arith, o.last, same.caches.few)))) ∙ o.so)
 
   -- A page whose right some actor has is kept by a local allocator in the text.
   pub kept_by : (k page : ℕ) → has_right (part k p.list) page ≡ true → is_kept w page ≡ true

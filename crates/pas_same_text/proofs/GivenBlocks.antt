@@ -74,8 +74,8 @@ module _ (k : ℕ) (d : Directory) (mine : ℕ → Bool) where
   -- The backings of a run of pages in turn make pages ready.
   pub backs_ready : (n first : ℕ) (v : View) (steps : List Made) → InTurn BackStep (pages_from first n) steps → AreReadying (events_by k v steps)
   backs_ready zero first v steps turn = subst (λ (ms : List Made). AreReadying (events_by k v ms)) (sym turn) tt
-  backs_ready (suc n) first v steps turn = subst (λ (ms : List Made). AreReadying (events_by k v ms)) (sym (turn.4 ∙ ap (λ (ms : List Made). ms ++ turn.1) turn.2.1))
-      (one (turn.2.0 == 0) (events_by k v turn.1) (backs_ready n first v turn.1 turn.3))
+  backs_ready (suc n) first v steps turn = subst (λ (ms : List Made). AreReadying (events_by k v ms))
+      (sym (turn.4 ∙ ap (λ (ms : List Made). ms ++ turn.1) turn.2.1)) (one (turn.2.0 == 0) (events_by k v turn.1) (backs_ready n first v turn.1 turn.3))
     where
       one : (t : Bool) (es : List Event) → AreReadying es → AreReadying (with_event (if t then Some (Event.Back k (first + n)) else None) es)
       one true es all = (IsReadying.Backs (first + n), all)
@@ -203,12 +203,15 @@ module _ (page start n name : ℕ) {f : Profile} {k : ℕ} {p : Progress} (c : C
   abbrev es : List Event
   es = events_by k (part k p.list) got
 
+  -- The block's first grain is the run's.
   grain : grain_of block.name ≡ 256 * page + start
   grain = let whole : address_on page start / 16 ≡ 256 * page + start = omega arith in ap (λ (x : ℕ). x / 16) g.address_is ∙ whole
 
+  -- The block is as long as the run.
   grains : length_of block ≡ n
   grains = ap (λ (x : ℕ). x / 16) g.room_is ∙ long
 
+  -- The run begins on the page.
   small : start < 256
   small = omega (arith, fits, some)
 
@@ -239,6 +242,7 @@ module _ (page start n name : ℕ) {f : Profile} {k : ℕ} {p : Progress} (c : C
   module _ (t : Bool) (late left gave : List Made) (leaves : LeavesWhere t page d left) (late_kinds : Only (Giving ∷ LookLife ∷ []) late)
       (gave_kinds : Only giving gave) (rest_is : rest ≡ late ++ (left ++ gave)) (right : has_right (got ++ part k p.list) page ≡ true)
       (deed : known_deed (part k q.list) page ≡ deed_word_of d) (searches : AreSearch got) where
+    -- The steps leave nothing behind but the block.
     behind : LeavesBehind f k d q (triples k got ++ p.list) rest mine
     behind = record {
       pages = if t then page ∷ [] else [];
@@ -268,9 +272,11 @@ module _ (page start n name : ℕ) {f : Profile} {k : ℕ} {p : Progress} (c : C
       abbrev v : World
       v = record (gives k name heap (address_on page start) room (shown es w)) { caches = cs }
 
+      -- Afterwards the replay has what the text has.
       now : HasSame f q v
       now = record { events = events_now g; live = live_now g; caches = caches; guards = guards_as p.books w v (shown_rest es w).guards g.same.guards }
 
+      -- Search and give are one piece of the actor.
       piece : IsPiece f k p q w v mine got rest
       piece = record {
         valid = g.valid;

@@ -2,7 +2,7 @@
 use Rattle.std.proofs.Common.{◌≡◌, ℕ, ◌+◌, ◌-◌, ◌*◌, ◌/◌, false, List, [], ◌∷◌, ◌++◌, Option, None, Some, refl, ap, sym, ◌∙◌, subst, arith, append_assoc}
 use Rattle.std.proofs.Common.{append-nil}
 use Rattle.std.specs.List.{filter}
-use Rattle.pas_profile.specs.{Blocks.address_of, Profiles.IsValid, Profiles.IsAdmitted, Profiles.IsDirectoryOf, Requests.route_in, Requests.room_in}
+use Rattle.pas_profile.specs.{Blocks.address_of, Profiles.IsAdmitted, Profiles.IsDirectoryOf, Requests.route_in, Requests.room_in}
 use Rattle.pas_profile.specs.declared.{directory.Directory.Directory, directory.Route.Route, event.Event.Event, name.Block.Block, profile.Profile.Profile}
 use Rattle.pas_steps.specs.{Desks.triples, Events.events_by, Lists.part, Lists.Legal}
 use Rattle.pas_steps.specs.declared.step.Made.{Made}
@@ -10,7 +10,7 @@ use Rattle.pas_steps.proofs.Parts.{part_of_own}
 use Rattle.pas_core.proofs.OneActor.{legal_before, legal_earlier}
 use Rattle.pas_cache.specs.Contents.{Cached}
 use Rattle.pas_large.specs.Doors.{Indexes, found_in}
-use Rattle.pas_guard.specs.Raises.{IsRaised, IsNotRaised}
+use Rattle.pas_guard.specs.Raises.{IsRaised}
 use Rattle.pas_guard.specs.declared.book.Guard.{Guard as BookGuard}
 use Rattle.pas_report.specs.declared.record.{Record.Record, Said.Said}
 use Rattle.pas_trace.specs.{Acts.Act, Acts.numbers_from, EveryPlan.IsThread}
@@ -48,21 +48,19 @@ module _ (threads : ℕ) (f : Profile) (keeper line k other name heap size align
   abbrev d : Directory
   d = large_of heap
 
-  valid : IsValid f
-  valid = known.taken.valid
-
-  route : route_in f size align ≡ Route.Large
-  route = known.planned.1.1.1
-
+  -- It is one that may be asked.
   admitted : IsAdmitted f size align heap
   admitted = known.planned.1.0
 
+  -- Its directory is one of the profile.
   of : IsDirectoryOf f d
   of = record { heap = admitted.of_profile; kind = tt; class = tt }
 
+  -- The keeper is an actor of the region.
   keeps : IsThread f keeper
   keeps = keeper_of threads f keeper known.planned.0.0
 
+  -- A keeper has no local allocators.
   uncached : (p.caches keeper).locals ≡ []
   uncached = ap (λ (c : Cached). c.locals) (known.seated.uncached keeper known.planned.0.0)
 
@@ -75,34 +73,36 @@ module _ (threads : ℕ) (f : Profile) (keeper line k other name heap size align
   -- ---- what the keeper did
   module _ (t : Tried) (h : IsTried f keeper r (part keeper p.list) (p.books keeper) t) (legal : Legal f (after_trying p keeper t).list) where
     abbrev pm : Progress
-    pm = swept f keeper r p t valid keeps known.taken.before uncached h legal
+    pm = swept f keeper r p t known.taken.valid keeps known.taken.before uncached h legal
 
     abbrev xs : List Made
     xs = h.raise.searched
 
+    -- After the sweep the replay is between two pieces.
     between : IsBetween f pm
-    between = swept_between f keeper r p t valid keeps known.taken.before uncached h legal
+    between = swept_between f keeper r p t known.taken.valid keeps known.taken.before uncached h legal
 
     legal_raise : Legal f (triples keeper (h.raise.after ++ xs) ++ pm.list)
-    legal_raise = rw h.raise.steps_are at (raise_legal f keeper r p t valid keeps known.taken.before uncached h legal)
+    legal_raise = rw h.raise.steps_are at (raise_legal f keeper r p t known.taken.valid keeps known.taken.before uncached h legal)
 
+    -- The keeper sought a run.
     sought : IsSought f keeper heap n pm wm xs
     sought = record {
-      valid = valid;
+      valid = known.taken.valid;
       between = between;
       same =
           rw (ended_text f keeper p w known.taken.same)
-          (sweep_same f keeper false p w h.swept h.left h.lowered valid keeps known.taken.before known.taken.same h.sweep between);
+          (sweep_same f keeper false p w h.swept h.left h.lowered known.taken.valid keeps known.taken.before known.taken.same h.sweep between);
       of = of;
       legal = legal_earlier f keeper h.raise.after xs pm.list legal_raise;
       kinds = h.raise.kinds;
       rise = h.raise.rise;
       due = h.raise.returns;
-      met = book_finds f heap h.left (part keeper pm.list) (raise_fits f keeper r p t valid keeps known.taken.before uncached h legal);
+      met = book_finds f heap h.left (part keeper pm.list) (raise_fits f keeper r p t known.taken.valid keeps known.taken.before uncached h legal);
     }
 
     lists_are : triples keeper t.steps ++ p.list ≡ triples keeper (h.raise.after ++ xs) ++ pm.list
-    lists_are = cc (sweep_and_raise_are_the_try f keeper r p t valid keeps known.taken.before uncached h legal)
+    lists_are = cc (sweep_and_raise_are_the_try f keeper r p t known.taken.valid keeps known.taken.before uncached h legal)
 
     book_before : pm.books keeper ≡ h.left
     book_before = own_book p.books keeper h.left
@@ -130,12 +130,14 @@ module _ (threads : ℕ) (f : Profile) (keeper line k other name heap size align
     abbrev q : Progress
     q = after_giving (after_trying p keeper t) name block
 
+    -- Afterwards the replay is between two pieces.
     there : IsBetween f q
     there = subst (IsBetween f) reached known.taken.after
 
     abbrev before : Progress
     before = pm t h there.legal
 
+    -- The guard was raised on the run that was found.
     run : IsRaised f d n (before.books keeper) guards' h.raise.searched h.raise.after block
     run = subst (λ (gs : List BookGuard). IsRaised f d n gs guards' h.raise.searched h.raise.after block) (sym (book_before t h there.legal)) h.raise.outcome
 
@@ -147,8 +149,8 @@ module _ (threads : ℕ) (f : Profile) (keeper line k other name heap size align
         cc
 
     up_same : IsSame f q (raises keeper name heap run.first n (shown (deeds_of keeper d (deeded h.raise.searched)) wm))
-    up_same = raised_same name (sought t h there.legal) run there
-        (lists_are t h there.legal) refl (own_book p.books keeper guards') (λ j ne. other_book p.books keeper j guards' ne ∙ sym (other_book p.books keeper j h.left ne)) refl
+    up_same = raised_same name (sought t h there.legal) run there (lists_are t h there.legal) refl (own_book p.books keeper guards')
+        (λ j ne. other_book p.books keeper j guards' ne ∙ sym (other_book p.books keeper j h.left ne)) refl
         (records_after t h there.legal ∙ ap (λ (rs : List Record). before.records ++ (records_of (own_events t h there.legal) ++ rs)) said_is) refl
 
     up_text : guards f keeper k (Some r) w ≡ raises keeper name heap run.first n (shown (deeds_of keeper d (deeded h.raise.searched)) wm)
@@ -156,8 +158,7 @@ module _ (threads : ℕ) (f : Profile) (keeper line k other name heap size align
 
     up_act : IsSame f p' (guards f keeper k (Some r) w) × ((guards f keeper k (Some r) w).indexes ≡ indexes)
     up_act = (
-      subst (λ (x : World). IsSame f p' x) (sym up_text) (subst
-          (λ (y : Progress). IsSame f y (raises keeper name heap run.first n (shown (deeds_of keeper d (deeded h.raise.searched)) wm))) (sym reached) up_same),
+      subst (λ (y : Progress). IsSame f y (guards f keeper k (Some r) w)) (sym reached) (rw up_text up_same),
       simp (up_text, raised_indexes, deeds_keep_indexes, wm_indexes),
     )
 
@@ -176,36 +177,31 @@ module _ (threads : ℕ) (f : Profile) (keeper line k other name heap size align
     legal_left = legal_before f k is.0.steps left.list (subst (λ (y : Progress). Legal f y.list) is.2 known.taken.after.legal)
 
     left_between : IsBetween f left
-    left_between = tried_between f keeper r p none valid keeps known.taken.before uncached h legal_left
-
-    missed : IsNotRaised f d n h.left guards' h.raise.searched h.raise.after
-    missed = h.raise.outcome
+    left_between = tried_between f keeper r p none known.taken.valid keeps known.taken.before uncached h legal_left
 
     abbrev tried : World
     tried = shown (deeds_of keeper d (deeded h.raise.searched)) wm
 
     searched_all : h.raise.after ++ h.raise.searched ≡ h.raise.searched
-    searched_all = ap (λ (ms : List Made). ms ++ h.raise.searched) missed.nothing
+    searched_all = ap (λ (ms : List Made). ms ++ h.raise.searched) h.raise.outcome.nothing
 
     same_left : IsSame f left tried
-    same_left = missed_same (sought none h legal_left) missed.found left_between
-        (cc (lists_are none h legal_left, searched_all)) refl (ap (with_book p.books keeper) missed.same) refl
+    same_left = missed_same (sought none h legal_left) h.raise.outcome.found left_between
+        (cc (lists_are none h legal_left, searched_all)) refl (ap (with_book p.books keeper) h.raise.outcome.same) refl
         (cc (records_after none h legal_left, append-nil (records_of (own_events none h legal_left)), searched_all)) refl
 
     down_text : guards f keeper k (Some r) w ≡ serves f k name heap (route_in f size align) (room_in f size align) align tried
     down_text =
-        missed_text (sought none h legal_left) missed.found k name
-        ∙ ap (λ (way : Route). serves f k name heap way (room_in f size align) align tried) (sym route)
+        missed_text (sought none h legal_left) h.raise.outcome.found k name
+        ∙ ap (λ (way : Route). serves f k name heap way (room_in f size align) align tried) (sym known.planned.1.1.1)
 
     tried_indexes : tried.indexes ≡ indexes
     tried_indexes = deeds_keep_indexes keeper d (deeded h.raise.searched) wm ∙ wm_indexes
 
     down_act : IsSame f p' (guards f keeper k (Some r) w) × ((guards f keeper k (Some r) w).indexes ≡ after_tried f op r None left p' is indexes)
     down_act = (
-      subst (λ (x : World). IsSame f p' x) (sym down_text)
-          (subst (λ (x : Progress). IsSame f x (serves f k name heap (route_in f size align) (room_in f size align) align tried)) (sym is.2)
-          (pages_answered f k name heap size align left is.0 tried admitted route (search (arith, left_between, same_left))
-          (named_large f r indexes is.0.found route named ∙ ap (λ (ix : Indexes). found_in ix heap n) (sym tried_indexes)))),
+      rw (down_text, is.2) (pages_answered f k name heap size align left is.0 tried admitted known.planned.1.1.1 (search (arith, left_between, same_left))
+          (named_large f r indexes is.0.found known.planned.1.1.1 named ∙ ap (λ (ix : Indexes). found_in ix heap n) (sym tried_indexes))),
       simp (down_text, request_indexes, tried_indexes),
     )
 

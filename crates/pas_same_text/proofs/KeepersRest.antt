@@ -19,14 +19,13 @@ use Rattle.pas_core.proofs.{Grains.one_holder, MachineRuns.agrees, Nexts.agreed_
 use Rattle.pas_guard.specs.{Evidence.BackedReadHere, Seeks.LeftSince, Keepers.IsBeside, Sweeps.sweeping, Sweeps.SweepSteps, Raises.BacksNot, Raises.guard_of}
 use Rattle.pas_guard.specs.{Raises.RaiseSteps}
 use Rattle.std.specs.List.{filter}
-use Rattle.pas_guard.proofs.{Raises.no_backs, Raises.each_more, Raises.backs_both, Raised.raised_pages, Raised.raised_leaves}
+use Rattle.pas_guard.proofs.Raises.{no_backs, each_more, backs_both, raised_pages, raised_leaves}
 use Rattle.pas_rights.specs.Gives.{give_steps}
 use Rattle.pas_large.specs.Finds.{MayFind}
-use Rattle.pas_large.proofs.InOrder.{BacksIn}
 use Rattle.pas_guard.specs.Books.{is_outer_of, is_outer, Each, FitsBook}
 use Rattle.pas_guard.specs.declared.book.Guard.{Guard}
 use Rattle.pas_report.specs.declared.record.Record.{Record}
-use Rattle.pas_same_text.proofs.{FreeGrains.outer_held, LoweredGuards.some_outer, LowerActs.IsSwept, LowerActs.swept_told, LowerActs.goes_down, Tests.or_none}
+use Rattle.pas_same_text.proofs.{FreeGrains.outer_held, GivenBack.some_outer, LowerActs.IsSwept, LowerActs.swept_told, LowerActs.goes_down, Tests.or_none}
 use Rattle.pas_same_text.proofs.{Tests.eqb_turned}
 
 -- whoever acts is an actor of the region
@@ -138,14 +137,14 @@ module _ (f : Profile) (p : Progress) (keeper : ℕ) (books : Books) (steps : Li
   abbrev l : Whole
   l = triples keeper steps ++ p.list
 
+  -- Each thread still rests, whoever the keeper is.
   working : (j : ℕ) → IsThread f j → (t : Bool) → (j == keeper) ≡ t → IsResting f (p.caches j) (books j) (part j l)
   working j of true e =
-      let same : keeper ≡ j = sym (eqb-true j keeper e) in
       let at_keeper : IsResting f (p.caches keeper) (books keeper) (part keeper l) =
       subst (λ (v : View). IsResting f (p.caches keeper) (books keeper) v) (sym (part_of_own keeper steps p.list))
       (subst (λ (gs : List Guard). IsResting f (p.caches keeper) gs (steps ++ part keeper p.list)) (sym own)
       (fitted f (p.caches keeper) (p.books keeper) left (part keeper p.list) (steps ++ part keeper p.list) uncached (before.rest.working keeper is) fits)) in
-      subst (λ (i : ℕ). IsResting f (p.caches i) (books i) (part i l)) same at_keeper
+      subst (λ (i : ℕ). IsResting f (p.caches i) (books i) (part i l)) (sym (eqb-true j keeper e)) at_keeper
   working j of false e =
       subst (λ (v : View). IsResting f (p.caches j) (books j) v) (sym (part_of_others j keeper steps p.list (λ same. eqb-false j keeper e (sym same))))
       (subst (λ (gs : List Guard). IsResting f (p.caches j) gs (part j p.list)) (sym (others j e)) (before.rest.working j of))
@@ -179,6 +178,7 @@ each_kept P t (g ∷ gs) all = search (arith, each_kept P t gs all.1)
 
 module _ (f : Profile) (keeper : ℕ) (all : Bool) (p : Progress) (steps : List Made) (left : List Guard) (said : List Record) (valid : IsValid f)
     (before : IsBetween f p) (legal : Legal f (triples keeper steps ++ p.list)) (sweep : SweepSteps f keeper all (p.books keeper) left said steps) where
+  -- The sweep says what it did.
   swept : IsSwept all (visible p.list) keeper (p.books keeper) left said steps
   swept = swept_told f all (visible p.list) keeper valid (p.books keeper) left said steps p.list legal refl (before.rest.beside keeper) sweep.kinds sweep.swept
 
@@ -201,9 +201,6 @@ pub outer_last : (gs : List Guard) (g : Guard) (page : ℕ) → is_outer (gs ++ 
 outer_last [] g page h = inr (or_none (is_outer_of g page) h)
 outer_last (x ∷ gs) g page h = let ih = outer_last gs g page in search (arith, or_cases, ih)
 
-backs_beside : (first end page : ℕ) (xs : List Made) → BacksIn first end xs → ((first ≤ page) × (page < end) → ⊥) → BacksNot page xs
-backs_beside first end page xs backs out = always_map _ (λ m before. m.step ≡ Back page → ⊥) xs (λ m before h e. out (h page e)) backs
-
 -- A keeper that fits its book may search for a run of its heap's large pages.
 pub book_finds : (f : Profile) (heap : ℕ) (gs : List Guard) (v : View) → FitsBook f gs v → MayFind (large_of heap) v
 book_finds f heap gs v fits = record { lacks = λ page h. fits.rights page; clear = fits.clear }
@@ -223,6 +220,7 @@ module _ (f : Profile) (keeper heap n : ℕ) (l : Whole) (guards guards' : List 
       abbrev gave : List Made
       gave = give_steps (first + 1) 0 block raise.outcome.word raise.outcome.answer
 
+      -- The list with the raise's steps is legal.
       whole : Legal f (triples keeper (raise.after ++ raise.searched) ++ l)
       whole = subst (λ (ms : List Made). Legal f (triples keeper ms ++ l)) raise.steps_are legal
 
@@ -233,7 +231,7 @@ module _ (f : Profile) (keeper heap n : ℕ) (l : Whole) (guards guards' : List 
       after_bare page out = subst (BacksNot page) (sym raise.outcome.after_is)
           (backs_both page raise.outcome.left (gave ++ raise.outcome.backs) (no_backs returning page raise.outcome.left refl (raised_leaves raise.outcome))
           (backs_both page gave raise.outcome.backs (no_backs (Giving ∷ LookLife ∷ []) page gave refl (refl, (refl, tt)))
-          (backs_beside (first + 1) (first + 1 + n) page raise.outcome.backs (raised_pages raise.outcome) out)))
+          (always_map _ (λ m before. m.step ≡ Back page → ⊥) raise.outcome.backs (λ m before h e. out (h page e)) (raised_pages raise.outcome))))
 
       own_bare : (page : ℕ) → ((first + 1 ≤ page) × (page < first + 1 + n) → ⊥)
           → word_after (triples keeper raise.searched ++ l) (Word.Backed page) ≡ 0
@@ -258,9 +256,9 @@ module _ (f : Profile) (keeper heap n : ℕ) (l : Whole) (guards guards' : List 
   -- After a raise no outer page of a guard of the book is backed.
   pub raised_bare : (answer : Option Block) (steps : List Made) → RaiseSteps f heap n guards guards' answer steps → Legal f (triples keeper steps ++ l)
       → (page : ℕ) → is_outer guards' page ≡ true → word_after (triples keeper steps ++ l) (Word.Backed page) ≡ 0
-  raised_bare None steps raise legal page outer = old_bare None steps raise legal page (ap (λ (gs : List Guard). is_outer gs page) (sym raise.outcome.same) ∙ outer)
+  raised_bare None steps raise legal page outer = old_bare None steps raise legal page (rw raise.outcome.same at outer)
   raised_bare (Some block) steps raise legal page outer =
-      elim (outer_last guards (guard_of raise.outcome.first n block) page (ap (λ (gs : List Guard). is_outer gs page) (sym raise.outcome.raised) ∙ outer)) [
+      elim (outer_last guards (guard_of raise.outcome.first n block) page (rw raise.outcome.raised at outer)) [
         | inl old ↦ old_bare (Some block) steps raise legal page old
         | inr own ↦ guard_bare block steps raise legal page own
       ]

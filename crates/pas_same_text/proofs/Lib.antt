@@ -6,19 +6,17 @@ mod FlushedLogs
 mod StopSteps
 mod StopActs
 mod BackActs
-mod LoweredGuards
 mod LowerActs
+mod SameIndexes
 mod UsableBlocks
 mod MadePlace
 mod FetchedClasses
 mod Replaced
 mod OneAct
-mod Asked
 mod GivenBlocks
 mod ReadyPages
 mod BitfitRequests
 mod TakenSlots
-mod ClassGiven
 mod ClassRequests
 mod SoughtRuns
 mod RaiseWalk
@@ -27,18 +25,16 @@ mod MissedGuards
 mod RaisedGuards
 mod GuardActs
 mod PagesRequests
-mod PassReadings
+mod PassOutcomes
 mod PassTries
 mod PassOrder
 mod PassActs
 pub mod TextOfBytes
-mod SameIndexes
 mod FreeGrains
 mod KeepersRest
 mod RunsFound
 mod Flushes
 mod OneUp
-mod PassOutcomes
 pub mod AllActs
 mod TakenSince
 mod EntrySteps
@@ -51,7 +47,5 @@ pub mod Seen
 mod Rows
 mod Examples
 mod Faults
-mod Guarded
-mod Queue
 mod PlacesFit
 mod StepMarks

@@ -1,14 +1,14 @@
 -- GUARDS GO DOWN: a sweep of a keeper, guard by guard, and then in the replay and in the text.
 use Rattle.std.proofs.Common.{◌≡◌, ℕ, ◌+◌, ◌*◌, ◌/◌, ◌%◌, ◌==◌, nat_lt, Bool, true, false, not, ◌||◌, if◌then◌else◌, List, [], ◌∷◌, ◌++◌, map, inl, inr, refl}
-use Rattle.std.proofs.Common.{ap, sym, ◌∙◌, subst, arith, eq-eqb, ◌≢◌, reverse, Some, eqb-true}
+use Rattle.std.proofs.Common.{◌⊎◌, ap, sym, ◌∙◌, subst, arith, eq-eqb, ◌≢◌, reverse, Some, eqb-true}
 use Rattle.std.proofs.lemmas.Bool.{or_left, or_right, false≢true, eqb-false, or_cases, false_from_ne_true}
 use Rattle.std.specs.List.{filter}
 use Rattle.pas_large.proofs.Left.{hints_both}
 use Rattle.pas_bits.specs.declared.mask.Mask4.{Mask4}
 use Rattle.pas_profile.specs.{Blocks.address_of, Lives.turn_of, Profiles.IsValid, Profiles.IsDirectoryOf, Directories.deed_word_of}
 use Rattle.pas_profile.specs.declared.{directory.Directory.Directory, event.Event.Event, profile.Profile.Profile, word.Word.Word}
-use Rattle.pas_machine.specs.State.{live_in, gives_in, ends_in, deed_in}
-use Rattle.pas_steps.specs.{Desks.triples, Effects.life_word_at, Past.Always}
+use Rattle.pas_machine.specs.State.{live_in, ends_in, deed_in}
+use Rattle.pas_steps.specs.{Desks.triples, Past.Always}
 use Rattle.pas_steps.specs.Kinds.{Kinds, LookLife, Putting, Only}
 use Rattle.pas_steps.specs.Lists.{Whole, word_after, visible, Legal, part}
 use Rattle.pas_steps.specs.declared.step.Made.{Made}
@@ -16,8 +16,8 @@ use Rattle.pas_steps.proofs.{Adding.triples_append, Apart.only_within}
 use Rattle.pas_core.proofs.{Lives.turn_is, MachineRuns.agrees, OneActor.legal_earlier, Deeds.deed_of, Grains.one_holder}
 use Rattle.pas_rights.specs.{Looks.HintsEmpty, PutsBack.BackSteps, Words.full}
 use Rattle.pas_rights.proofs.{Orders.return_returns, Puts.puts_kinds}
-use Rattle.pas_same_text.specs.{Runs.large_of, State.Guard, State.World, State.each, Pages.is_of, Guards.lowers, Guards.lowers_ended, Guards.lowers_all}
-use Rattle.pas_same_text.specs.{Acts.IsBetween, Acts.StaysSame, Words.free_bit}
+use Rattle.pas_same_text.specs.{Runs.large_of, State.Guard, State.World, State.each, Pages.is_of, Guards.lowers, Guards.lowers_ended, Acts.IsBetween}
+use Rattle.pas_same_text.specs.{Acts.StaysSame, Words.free_bit}
 use Rattle.pas_same_text.specs.Same.{told_guard, IsSame, HasSame, AreSameCaches, lives_in}
 use Rattle.pas_report.specs.declared.record.Record.{Record}
 use Rattle.pas_guard.specs.Books.{is_outer_of, is_outer, Each, IsGuardOf, KnowsGuard}
@@ -25,8 +25,8 @@ use Rattle.pas_guard.specs.{Keepers.IsBeside, Lowers.LowerSteps}
 use Rattle.pas_guard.specs.Sweeps.{is_over, life_look, lowered_record, SweptOne, Swept, sweeping, SweepSteps}
 use Rattle.pas_guard.specs.declared.book.Guard.{Guard as BookGuard}
 use Rattle.pas_same_text.proofs.{Flushes.unshown, EntrySteps.return_hints}
-use Rattle.pas_same_text.proofs.LoweredGuards.{lowered_line, outer_pages, AreOfRegion, AreLowered, all_lowered, said_reversed, lowered_unguarded, others_stay}
-use Rattle.pas_same_text.proofs.LoweredGuards.{some_outer, apart_split, own_left, left_of, outer_number}
+use Rattle.pas_same_text.proofs.GivenBack.{lowered_line, outer_pages, AreOfRegion, AreLowered, all_lowered, said_reversed, lowered_unguarded, others_stay}
+use Rattle.pas_same_text.proofs.GivenBack.{some_outer, apart_split, own_left, left_of, outer_number}
 use Rattle.pas_same_text.proofs.StepMarks.{IsMarked, marked_parts, none_marked, returns_marked, hints_none, hint_marks, offer_marks, epoch_stays_by}
 use Rattle.pas_profile.proofs.Codecs.{same_from_deed_word}
 use Rattle.pas_steps.specs.Views.{View, holds, KnowsDeed, usable_by_kind}
@@ -52,7 +52,8 @@ back_page page d mask q steps (inr h) marked = elim (marked_parts q h.2 h.1 (sub
 -- Grains that are put back with what follows hint only pages that were read as backed and empty.
 pub back_hints : (page : ℕ) (d : Directory) (mask : Mask4) (steps : List Made) → BackSteps page d mask steps → Always HintsEmpty steps
 back_hints page d mask steps (inl h) = subst (Always HintsEmpty) (sym h.1) tt
-back_hints page d mask steps (inr h) = subst (Always HintsEmpty) (sym h.5) (hints_both h.2 h.1 (return_hints page d h.2 h.4) (hints_none (Putting ∷ []) h.1 refl (puts_kinds page mask 4 h.1 h.3)))
+back_hints page d mask steps (inr h) = rw h.5
+    (hints_both h.2 h.1 (return_hints page d h.2 h.4) (hints_none (Putting ∷ []) h.1 refl (puts_kinds page mask 4 h.1 h.3)))
 
 lower_marked : (g : BookGuard) (q : ℕ) (steps : List Made) → LowerSteps g steps → IsMarked q steps → is_outer_of g q ≡ true
 lower_marked g q steps h marked = elim (marked_parts q h.high h.low (subst (IsMarked q) h.steps_are marked)) [
@@ -62,7 +63,7 @@ lower_marked g q steps h marked = elim (marked_parts q h.high h.low (subst (IsMa
 
 lower_hints : (g : BookGuard) (steps : List Made) → LowerSteps g steps → Always HintsEmpty steps
 lower_hints g steps h = subst (Always HintsEmpty) (sym h.steps_are)
-    (hints_both h.high h.low (back_hints g.high (large_of g.block.heap) full h.high h.high_order) (back_hints g.low (large_of g.block.heap) full h.low h.low_order))
+    (hints_both h.high h.low (back_hints g.high _ full h.high h.high_order) (back_hints g.low (large_of g.block.heap) full h.low h.low_order))
 
 -- ---- kinds of two pieces
 only_first : (ks : Kinds) (ys xs : List Made) → Only ks (ys ++ xs) → Only ks ys
@@ -78,14 +79,13 @@ look_true : (f : Profile) (k word : ℕ) (g : BookGuard) (l : Whole) → IsValid
     → is_over g word ≡ nat_lt g.block.name.turn (ends_in (visible l) (address_of g.block.name))
 look_true f k word g l valid legal beside =
     let a : ℕ = address_of g.block.name in
-    let begins : (g.low + 1) * 4096 ≡ a = beside.begins in
     let page : a / 4096 ≡ a / 16 / 256 = omega arith in
     let grain : a % 4096 / 16 ≡ a / 16 % 256 = omega arith in
-    let whole : 16 * (a / 16) ≡ a = omega (arith, begins) in
-    let answer : word ≡ word_after l (life_word_at (a / 16)) = legal.0.answer_is ∙ (ap (λ (x : ℕ). word_after l (Word.Life x (a % 4096 / 16))) page ∙ ap (λ (x : ℕ). word_after l (Word.Life (a / 16 / 256) x)) grain) in
+    let whole : 16 * (a / 16) ≡ a = omega (arith, beside.begins) in
+    let answer = legal.0.answer_is ∙ (ap (λ x. word_after l (Word.Life x (a % 4096 / 16))) page ∙ ap (λ (x : ℕ). word_after l (Word.Life (a / 16 / 256) x)) grain) in
     let turn : turn_of word ≡ ends_in (visible l) a =
     ap turn_of answer
-    ∙ (turn_is f (a / 16) (word_after l (life_word_at (a / 16))) (live_in (visible l) (16 * (a / 16))) (gives_in (visible l) (16 * (a / 16))) (ends_in (visible l) (16 * (a / 16))) ((agrees f l valid legal.1).life (a / 16))
+    ∙ (turn_is f (a / 16) _ (live_in (visible l) (16 * (a / 16))) _ (ends_in (visible l) (16 * (a / 16))) ((agrees f l valid legal.1).life (a / 16))
     ∙ ap (ends_in (visible l)) whole) in
     ap (nat_lt g.block.name.turn) turn
 
@@ -110,31 +110,30 @@ module _ (all : Bool) (es : List Event) (keeper : ℕ) (g : BookGuard) (gs kept 
   look_hints : Always HintsEmpty look
   look_hints = hints_none (LookLife ∷ []) look refl (refl, tt)
 
+  -- a look marks no page
+  marked_in : (q : ℕ) → IsMarked q (rest ++ (first ++ look)) → IsMarked q rest ⊎ IsMarked q first
+  marked_in q marked = elim (marked_parts q rest (first ++ look) marked) [
+    | inl later ↦ inl later
+    | inr here ↦ elim (marked_parts q first look here) [ inl lowers ↦ inr lowers | inr looks ↦ absurd (none_marked (LookLife ∷ []) refl q look (refl, tt) looks) ]
+  ]
+
   swept_one : (t : Bool) → goes_down all es g ≡ t → SweptOne t keeper g first kept after said more
       → IsSwept all es keeper (g ∷ gs) kept said (rest ++ (first ++ look))
   swept_one true e h = record {
     kept_is = h.1 ∙ (later.kept_is ∙ sym (ap (λ (b : Bool). if not b then g ∷ stay else stay) e));
     said_is = h.2 ∙ (ap (λ (rs : List Record). lowered_record keeper g ∷ rs) later.said_is ∙ sym (ap (λ (b : Bool). map lowered_line (map (told_guard keeper) (if b then g ∷ fall else fall))) e));
     hints = hints_both rest (first ++ look) later.hints (hints_both first look (lower_hints g first h.0) look_hints);
-    marks = λ q marked. ap (λ (b : Bool). is_outer (if b then g ∷ fall else fall) q) e ∙ elim (marked_parts q rest (first ++ look) marked) [
+    marks = λ q marked. ap (λ (b : Bool). is_outer (if b then g ∷ fall else fall) q) e ∙ elim (marked_in q marked) [
       | inl in_rest ↦ or_right (is_outer_of g q) (is_outer fall q) (later.marks q in_rest)
-      | inr here ↦ elim (marked_parts q first look here) [
-        | inl lowers ↦ or_left (is_outer_of g q) (is_outer fall q) (lower_marked g q first h.0 lowers)
-        | inr looks ↦ absurd (none_marked (LookLife ∷ []) refl q look (refl, tt) looks)
-      ]
+      | inr lowers ↦ or_left (is_outer_of g q) (is_outer fall q) (lower_marked g q first h.0 lowers)
     ];
   }
   swept_one false e h = record {
     kept_is = h.1 ∙ (ap (λ (xs : List BookGuard). g ∷ xs) later.kept_is ∙ sym (ap (λ (b : Bool). if not b then g ∷ stay else stay) e));
     said_is = h.2 ∙ (later.said_is ∙ sym (ap (λ (b : Bool). map lowered_line (map (told_guard keeper) (if b then g ∷ fall else fall))) e));
     hints = hints_both rest (first ++ look) later.hints (hints_both first look (subst (Always HintsEmpty) (sym h.0) tt) look_hints);
-    marks = λ q marked. ap (λ (b : Bool). is_outer (if b then g ∷ fall else fall) q) e ∙ elim (marked_parts q rest (first ++ look) marked) [
-      | inl in_rest ↦ later.marks q in_rest
-      | inr here ↦ elim (marked_parts q first look here) [
-        | inl none ↦ absurd (subst (IsMarked q) h.0 none)
-        | inr looks ↦ absurd (none_marked (LookLife ∷ []) refl q look (refl, tt) looks)
-      ]
-    ];
+    marks = λ q marked. ap (λ (b : Bool). is_outer (if b then g ∷ fall else fall) q) e
+        ∙ elim (marked_in q marked) [ inl in_rest ↦ later.marks q in_rest | inr none ↦ absurd (subst (IsMarked q) h.0 none) ];
   }
 
 module _ (f : Profile) (all : Bool) (es : List Event) (keeper : ℕ) (valid : IsValid f) where
@@ -158,7 +157,7 @@ module _ (f : Profile) (all : Bool) (es : List Event) (keeper : ℕ) (valid : Is
       ap (λ (t : Bool). all || t) (ap (λ (xs : List Event). nat_lt g.block.name.turn (ends_in xs (address_of g.block.name))) (sym same) ∙ sym (look_true f keeper word g l valid looked beside.0)) in
       let later : IsSwept all es keeper gs h.3 h.4 rest =
       swept_told gs h.3 h.4 rest (triples keeper piece ++ l) (subst (Legal f) (sym (triples_append keeper rest piece l)) whole) shown beside.1 (only_first sweeping rest piece kinds) h.6 in
-      subst (IsSwept all es keeper (g ∷ gs) kept said) (sym h.7) (swept_one all es keeper g gs kept h.3 said h.4 word first rest later (all || is_over g word) test h.5)
+      subst (IsSwept all es keeper (g ∷ gs) kept said) (sym h.7) (swept_one all es keeper g gs kept h.3 said h.4 word first rest later _ test h.5)
 
 -- ==== GUARDS GO DOWN: a sweep of a keeper, in the replay and in the text.
 -- the replay after a sweep, which left these guards
@@ -200,15 +199,19 @@ module _ (f : Profile) (keeper : ℕ) (all : Bool) (p : Progress) (w : World) (s
   abbrev v : World
   v = each lowers downs w
 
+  -- The list with the sweep's steps is legal.
   legal : Legal f (triples keeper steps ++ p.list)
   legal = after.legal
 
+  -- The sweep says what it did.
   told : IsSwept all (visible p.list) keeper (p.books keeper) left said steps
   told = swept_told f all (visible p.list) keeper valid (p.books keeper) left said steps p.list legal refl (before.rest.beside keeper) sweep.kinds sweep.swept
 
+  -- The text lowers the same guards.
   lowered : AreLowered f downs w v
   lowered = all_lowered f downs w (region_of f keeper test (p.books keeper) (before.rest.working keeper is).locals.guards_of_region)
 
+  -- A sweep makes no event.
   shown : visible p'.list ≡ visible p.list
   shown = unshown sweeping refl keeper steps p.list sweep.kinds
 
@@ -237,16 +240,16 @@ module _ (f : Profile) (keeper : ℕ) (all : Bool) (p : Progress) (w : World) (s
   -- ---- the guards that are left
   guards_at : (k : ℕ) (t : Bool) → (k == keeper) ≡ t → filter (λ g. g.keeper == k) v.guards ≡ map (told_guard k) (if t then left else p.books k)
   guards_at k true e =
-      let own : k ≡ keeper = eqb-true k keeper e in
       let at_keeper : filter (λ g. g.keeper == keeper) v.guards ≡ map (told_guard keeper) left =
       ap (filter (λ (g : Guard). g.keeper == keeper)) lowered.guards
       ∙ (left_of p.books keeper keeper fallen w.guards (same.guards.each keeper)
       ∙ (own_left keeper test (p.books keeper) (before.rest.working keeper is).locals.guards_apart ∙ ap (map (told_guard keeper)) (sym told.kept_is))) in
-      subst (λ (j : ℕ). filter (λ g. g.keeper == j) v.guards ≡ map (told_guard j) left) (sym own) at_keeper
+      subst (λ (j : ℕ). filter (λ g. g.keeper == j) v.guards ≡ map (told_guard j) left) (sym (eqb-true k keeper e)) at_keeper
   guards_at k false e =
       ap (filter (λ (g : Guard). g.keeper == k)) lowered.guards
       ∙ (left_of p.books keeper k fallen w.guards (same.guards.each k) ∙ others_stay k keeper fallen (p.books k) (λ low h. not_others k low (eqb-false k keeper e) h))
 
+  -- Afterwards the replay has what the text has.
   has : HasSame f p' v
   has = record {
     events = lowered.events ∙ (same.pages.events ∙ sym shown);
@@ -282,6 +285,7 @@ module _ (f : Profile) (keeper : ℕ) (all : Bool) (p : Progress) (w : World) (s
       (λ a b lives of_it. covered_not_held f p.list valid before.legal g a b (ap (λ (es : List Event). live_in es a) (sym shown) ∙ lives) of_it keeper (was_held g at_g)) in
       open_from f p' v valid after has d q 0 (omega arith) (ap (λ (x : Directory). usable_by_kind x.kind 0) d_is) free
 
+  -- Only outer pages of the guards were given back.
   given : IsGivenBack f keeper p.list w steps v
   given = record {
     pages = outer_pages downs;
@@ -300,7 +304,7 @@ module _ (f : Profile) (keeper : ℕ) (all : Bool) (p : Progress) (w : World) (s
     caches = has.caches;
     guards = has.guards;
     names = lowered.names ∙ same.names;
-    records = ap (λ (rs : List Record). p.records ++ rs) told.said_is ∙ (said_reversed downs p.records w.records same.records ∙ ap reverse (sym lowered.records));
+    records = ap (λ rs. p.records ++ rs) told.said_is ∙ (said_reversed downs p.records w.records same.records ∙ ap reverse (sym lowered.records));
     epoch = lowered.epoch ∙ (same.epoch ∙ sym (epoch_stays_by sweeping refl keeper steps p.list sweep.kinds));
     read = lowered.read ∙ same.read;
   }
@@ -320,15 +324,11 @@ pub ended_text : (f : Profile) (keeper : ℕ) (p : Progress) (w : World) → IsS
     → lowers_ended keeper w ≡ each lowers (map (told_guard keeper) (filter (goes_down false (visible p.list)) (p.books keeper))) w
 ended_text f keeper p w same = search (arith, told_filtered)
 
-all_text : (f : Profile) (keeper : ℕ) (p : Progress) (w : World) → IsSame f p w
-    → lowers_all keeper w ≡ each lowers (map (told_guard keeper) (filter (goes_down true (visible p.list)) (p.books keeper))) w
-all_text f keeper p w same = ap (λ (gs : List Guard). each lowers gs w) (same.guards.each keeper ∙ ap (map (told_guard keeper)) (sym (all_pass _)))
-
 -- ---- THE ACT at the close
 pub lower_act : (f : Profile) (keeper : ℕ) → IsThread f keeper → StaysSame f (Act.Lowers keeper)
 lower_act f keeper is p p' w taken =
     let steps : List Made = taken.advances.0 in
     let said : List Record = taken.advances.1 in
     let reached : p' ≡ after_lowering p keeper steps said = taken.advances.3 in
-    rw (all_text f keeper p w taken.same, reached)
+    rw ((ap (λ (gs : List Guard). each lowers gs w) (taken.same.guards.each keeper ∙ ap (map (told_guard keeper)) (sym (all_pass _)))), reached)
     (sweep_same f keeper true p w steps [] said taken.valid is taken.before taken.same taken.advances.2.sweep (subst (IsBetween f) reached taken.after))

@@ -2,9 +2,9 @@
 -- longest ago.
 use Rattle.std.proofs.Common.{◌≡◌, ℕ, ◌+◌, ◌/◌, ◌%◌, ◌<◌, ◌≤◌, ◌==◌, nat_le, Bool, true, false, not, ◌&&◌, ◌||◌, if◌then◌else◌, cond, List, [], ◌∷◌, ◌++◌}
 use Rattle.std.proofs.Common.{length, All, Option, None, Some, inl, refl, ap, sym, ◌∙◌, subst, append-nil, arith, true≢false, eq-eqb, eqb-true}
-use Rattle.std.proofs.lemmas.{Bool.Decides.nat_tests, List.Sums.sum_by-cons, List.Elements.All-head, List.Elements.All-tail, Option.same_Some}
+use Rattle.std.proofs.lemmas.{Bool.Decides.nat_tests, List.Sums.sum_by-cons, List.Elements.All-head, List.Elements.All-tail, Option.same_Some, Option.none-some}
 use Rattle.std.specs.List.{find, count_by}
-use Rattle.pas_bits.specs.Masks.{is_set, IsEmpty}
+use Rattle.pas_bits.specs.Masks.{IsEmpty}
 use Rattle.pas_profile.specs.Profiles.{IsValid}
 use Rattle.pas_profile.specs.declared.profile.Profile.{Profile}
 use Rattle.pas_steps.specs.{Kinds.Only, Lists.part}
@@ -23,56 +23,32 @@ use Rattle.pas_same_text.proofs.{OneUp.given_up_same, Tests.and_first, Tests.and
 use Rattle.pas_same_text.proofs.CacheLists.{same_kept, Finds, for_same, found_same, others_same}
 
 -- ---- lists of local allocators
-none_next : (heap class : ℕ) (s : Slots) (l : Local) (rest : Option Slots) (other : Option Local) (t : Bool) → is_for_slots heap class s ≡ t
-    → is_for heap class l ≡ is_for_slots heap class s → (rest ≡ None → other ≡ None) → (if t then Some s else rest) ≡ None
-    → (if is_for heap class l then Some l else other) ≡ None
-none_next heap class s l rest other true e same more none = absurd (let bad : Some s ≡ None = none in cc)
-none_next heap class s l rest other false e same more none = ap (λ (t : Bool). if t then Some l else other) (same ∙ e) ∙ more none
-
 -- Where the replay's cache has no local allocator of a heap and class, the text's has none.
 pub none_same : (heap class : ℕ) (slots : List Slots) (ls : List Local) → AreSameLocals slots ls → local_for heap class slots ≡ None
     → find (is_for heap class) ls ≡ None
 none_same heap class [] [] same none = refl
-none_same heap class (s ∷ slots) (l ∷ ls) same none =
-    none_next heap class s l (local_for heap class slots) (find (is_for heap class) ls) (is_for_slots heap class s) refl (for_same heap class s l same.0) (none_same heap class slots ls same.1) none
+none_same heap class (s ∷ slots) (l ∷ ls) same none = let ih = none_same heap class slots ls same.1 in search (arith, for_same, ih)
 none_same heap class slots ls same none = absurd same
-
-all_next : (heap class : ℕ) (s : Slots) (rest : List Slots) (found : Option Slots) (t : Bool) → (found ≡ None → others_than heap class rest ≡ rest)
-    → (if t then Some s else found) ≡ None → (if not t then s ∷ others_than heap class rest else others_than heap class rest) ≡ s ∷ rest
-all_next heap class s rest found true more none = absurd (let bad : Some s ≡ None = none in cc)
-all_next heap class s rest found false more none = ap (λ (xs : List Slots). s ∷ xs) (more none)
 
 -- A cache without a local allocator of a heap and class loses nothing when those of it are left out.
 pub all_left : (heap class : ℕ) (slots : List Slots) → local_for heap class slots ≡ None → others_than heap class slots ≡ slots
 all_left heap class [] none = refl
-all_left heap class (s ∷ slots) none = all_next heap class s slots (local_for heap class slots) (is_for_slots heap class s) (all_left heap class slots) none
+all_left heap class (s ∷ slots) none = let ih = all_left heap class slots in grind (arith, ih)
 
 -- Leaving out those of a heap and class makes no list of local allocators longer.
 pub most_left : (heap class : ℕ) (slots : List Slots) → length (others_than heap class slots) ≤ length slots
 most_left heap class [] = omega arith
 most_left heap class (s ∷ slots) = search (arith, most_left heap class slots)
 
-fewer_next : (heap class : ℕ) (s x : Slots) (rest : List Slots) (found : Option Slots) (t : Bool) → length (others_than heap class rest) ≤ length rest
-    → (found ≡ Some x → length (others_than heap class rest) < length rest) → (if t then Some s else found) ≡ Some x
-    → length (if not t then s ∷ others_than heap class rest else others_than heap class rest) < length (s ∷ rest)
-fewer_next heap class s x rest found true most more is = omega (arith, most)
-fewer_next heap class s x rest found false most more is = let lt = more is in omega (arith, lt)
-
-none_found : (x : Slots) → None ≡ Some x → ⊥
-none_found x bad = cc
-
 fewer_left : (heap class : ℕ) (slots : List Slots) (x : Slots) → local_for heap class slots ≡ Some x → length (others_than heap class slots) < length slots
-fewer_left heap class [] x is = absurd (none_found x is)
-fewer_left heap class (s ∷ slots) x is = fewer_next heap class s x slots (local_for heap class slots) (is_for_slots heap class s) (most_left heap class slots) (fewer_left heap class slots x) is
-
-known_next : (P : Slots → Type 0) (s x : Slots) (found : Option Slots) (t : Bool) → P s → (found ≡ Some x → P x) → (if t then Some s else found) ≡ Some x → P x
-known_next P s x found true this more is = subst P (same_Some s x is) this
-known_next P s x found false this more is = more is
+fewer_left heap class [] x is = absurd (none-some x is)
+fewer_left heap class (s ∷ slots) x is = let ih = fewer_left heap class slots x in let most = most_left heap class slots in grind (arith, ih, most)
 
 -- What is known of all local allocators is known of the one that is found.
 pub known_found : (P : Slots → Type 0) (heap class : ℕ) (slots : List Slots) (x : Slots) → All P slots → local_for heap class slots ≡ Some x → P x
-known_found P heap class [] x all is = absurd (none_found x is)
-known_found P heap class (s ∷ slots) x all is = known_next P s x (local_for heap class slots) (is_for_slots heap class s) (All-head P s slots all) (known_found P heap class slots x (All-tail P s slots all)) is
+known_found P heap class [] x all is = absurd (none-some x is)
+known_found P heap class (s ∷ slots) x all is =
+    let ih = known_found P heap class slots x (All-tail P s slots all) in search (arith, All-head, same_Some, ih)
 
 long_same : (slots : List Slots) (ls : List Local) → AreSameLocals slots ls → length ls ≡ length slots
 long_same [] [] same = refl
@@ -82,11 +58,7 @@ long_same slots ls same = absurd same
 -- a grain of the first is of no other
 none_counted : (g : ℕ) (slots : List Slots) → count_by (λ x. covers x g) slots ≤ 0 → any_covers slots g ≡ false
 none_counted g [] none = refl
-none_counted g (s ∷ slots) none = at (covers s g) (any_covers slots g) (count_by (λ x. covers x g) slots) (none_counted g slots) (subst (λ (n : ℕ). n ≤ 0) (sum_by-cons (λ x. cond (covers x g) 1 0) s slots) none)
-  where
-    at : (t rest : Bool) (n : ℕ) → (n ≤ 0 → rest ≡ false) → cond t 1 0 + n ≤ 0 → (t || rest) ≡ false
-    at true rest n more le = absurd (omega (arith, le))
-    at false rest n more le = more (omega (arith, le))
+none_counted g (s ∷ slots) none = let ih = none_counted g slots in let all = sum_by-cons (λ x. cond (covers x g) 1 0) s slots in grind (arith, ih, all)
 
 first_apart : (g : ℕ) (s : Slots) (slots : List Slots) → count_by (λ x. covers x g) (s ∷ slots) ≤ 1 → covers s g ≡ true → any_covers slots g ≡ false
 first_apart g s slots one own = none_counted g slots (no_other_counted (count_by (λ x. covers x g) slots) (covers s g) own (subst (λ (n : ℕ). n ≤ 1) (sum_by-cons (λ x. cond (covers x g) 1 0) s slots) one))
@@ -97,8 +69,9 @@ placed_by k None w = makes_place k w
 placed_by k (Some l) w = gives_up k l w
 
 -- nothing was done
-unmoved : (f : Profile) (k : ℕ) (p : Progress) (w : World) → IsSame f p w → IsSame f (up_to p k [] (p.caches k).locals) w
-unmoved f k p w same = record { pages = same.pages; caches = same_kept f p.caches w.caches k same.caches; guards = same.guards; names = same.names; records = same.records; epoch = same.epoch; read = same.read }
+unmoved : (f : Profile) (k : ℕ) (p : Progress) (w : World) (fewer : List Slots) (steps : List Made) → fewer ≡ (p.caches k).locals → steps ≡ [] → IsSame f p w
+    → IsSame f (up_to p k steps fewer) w
+unmoved f k p w fewer steps kept none same = rw (kept, none) (assumption (same_kept f p.caches w.caches k same.caches))
 
 module _ (f : Profile) (k : ℕ) (p : Progress) (w : World) (valid : IsValid f) (thread : IsThread f k) (listed : k ≤ length w.caches) (before : IsBetween f p)
     (same : IsSame f p w) where
@@ -106,19 +79,14 @@ module _ (f : Profile) (k : ℕ) (p : Progress) (w : World) (valid : IsValid f) 
   oldest_gone : (slots : List Slots) (ls : List Local) (fewer : List Slots) (steps : List Made) → (p.caches k).locals ≡ slots → locals_of w k ≡ ls
       → AreSameLocals slots ls → (t : Bool) → nat_le 32 (length slots) ≡ t → StopsFirst t slots fewer steps → Only releasing steps
       → IsBetween f (up_to p k steps fewer) → IsSame f (up_to p k steps fewer) (gives_up_first k ls w)
-  oldest_gone [] [] fewer steps own text locals t full h kinds after =
-      subst (λ (xs : List Slots). IsSame f (up_to p k steps xs) w) (own ∙ sym h.0) (subst (λ (ms : List Made). IsSame f (up_to p k ms (p.caches k).locals) w) (sym h.1) (unmoved f k p w same))
+  oldest_gone [] [] fewer steps own text locals t full h kinds after = unmoved f k p w fewer steps (h.0 ∙ sym own) h.1 same
   oldest_gone (s ∷ slots) (l ∷ ls) fewer steps own text locals false full h kinds after =
-      let test : nat_le 32 (length (l ∷ ls)) ≡ false = ap (nat_le 32) (long_same (s ∷ slots) (l ∷ ls) locals) ∙ full in
-      subst (λ (x : World). IsSame f (up_to p k steps fewer) x) (sym (ap (λ (u : Bool). if u then gives_up k l w else w) test))
-      (subst (λ (xs : List Slots). IsSame f (up_to p k steps xs) w) (own ∙ sym h.0) (subst (λ (ms : List Made). IsSame f (up_to p k ms (p.caches k).locals) w) (sym h.1) (unmoved f k p w same)))
+      rw (ap (nat_le 32) (long_same (s ∷ slots) (l ∷ ls) locals) ∙ full) (unmoved f k p w fewer steps (h.0 ∙ sym own) h.1 same)
   oldest_gone (s ∷ slots) (l ∷ ls) fewer steps own text locals true full h kinds after =
-      let test : nat_le 32 (length (l ∷ ls)) ≡ true = ap (nat_le 32) (long_same (s ∷ slots) (l ∷ ls) locals) ∙ full in
       let rest = (before.rest.working k thread).locals in
-      let unique : AreUnique (l ∷ ls) = unique_of (s ∷ slots) (l ∷ ls) locals (subst (λ (xs : List Slots). (heap class : ℕ) → count_by (is_for_slots heap class) xs ≤ 1) own rest.apart.one_each) in
+      let unique : AreUnique (l ∷ ls) = unique_of (s ∷ slots) (l ∷ ls) locals (rw own at rest.apart.one_each) in
       let of_own : is_for l.heap l.class l ≡ true = ap (λ (u : Bool). u && (l.class == l.class)) (eq-eqb l.heap l.heap refl) ∙ eq-eqb l.class l.class refl in
-      let left : others l.heap l.class (l ∷ ls) ≡ ls = ap (λ (u : Bool). if not u then l ∷ others l.heap l.class ls else others l.heap l.class ls) of_own ∙ unique.0 in
-      rw test (given_up_same f k p w s l fewer steps record {
+      rw (ap (nat_le 32) (long_same (s ∷ slots) (l ∷ ls) locals) ∙ full) (given_up_same f k p w s l fewer steps record {
         valid = valid;
         thread = thread;
         listed = listed;
@@ -130,8 +98,8 @@ module _ (f : Profile) (k : ℕ) (p : Progress) (w : World) (valid : IsValid f) 
         found = ap (find (is_for l.heap l.class)) text ∙ ap (λ (u : Bool). if u then Some l else find (is_for l.heap l.class) ls) of_own;
         known = All-head (IsLocal f (part k p.list)) s slots (subst (All (IsLocal f (part k p.list))) own rest.known);
         in_cache = λ g h. ap (λ (xs : List Slots). any_covers xs g) own ∙ ap (λ (u : Bool). u || any_covers slots g) h;
-        fewer_same = subst (λ (xs : List Slots). AreSameLocals xs (others l.heap l.class (locals_of w k))) (sym h.0) (subst (AreSameLocals slots) (sym (ap (others l.heap l.class) text ∙ left)) locals.1);
-        gone = λ g mine. ap (λ (xs : List Slots). any_covers xs g) h.0 ∙ first_apart g s slots (subst (λ (xs : List Slots). count_by (λ x. covers x g) xs ≤ 1) own (rest.apart.grains g)) mine;
+        fewer_same = rw (h.0, text, (ap (λ (u : Bool). if not u then l ∷ others l.heap l.class ls else others l.heap l.class ls) of_own ∙ unique.0)) locals.1;
+        gone = λ g mine. rw h.0 (first_apart g s slots (rw own at (rest.apart.grains g)) mine);
         after = after;
       })
   oldest_gone slots ls fewer steps own text locals t full h kinds after = absurd locals
@@ -157,7 +125,7 @@ module _ (f : Profile) (k heap class : ℕ) (p : Progress) (w : World) (fewer : 
   none_gone : local_for heap class c.locals ≡ None → place.spent ≡ [] → IsSame f (up_to p k steps fewer) (placed_by k found_text w)
   none_gone none h =
       let kept : place.kept ≡ c.locals = place.taken.others ∙ all_left heap class c.locals none in
-      let stops : StopsFirst (nat_le 32 (length c.locals)) c.locals fewer place.stopped = subst (λ (xs : List Slots). StopsFirst (nat_le 32 (length xs)) xs fewer place.stopped) kept place.shortened.first in
+      let stops : StopsFirst (nat_le 32 (length c.locals)) c.locals fewer place.stopped = rw kept at place.shortened.first in
       let is : steps ≡ place.stopped = place.steps_are ∙ (ap (λ (ms : List Made). place.stopped ++ ms) h ∙ append-nil place.stopped) in
       rw (none_same heap class c.locals (locals_of w k) both_same none, is)
       (oldest_gone f k p w valid thread listed before same c.locals (locals_of w k) fewer place.stopped refl refl both_same
@@ -166,28 +134,31 @@ module _ (f : Profile) (k heap class : ℕ) (p : Progress) (w : World) (fewer : 
   -- ---- there is one, which is spent
   module _ (s : Slots) (is : local_for heap class c.locals ≡ Some s) (empty : IsEmpty s.starts) (leaves : LeavesWhere s.right s.page (home_of s) place.spent)
     where
+      -- The local allocator that goes is the one that the text finds.
       found : Finds s found_text
       found = found_same heap class c.locals (locals_of w k) s both_same is
 
+      -- It is one that may go.
       passes : is_for_slots heap class s ≡ true
       passes = found_passes heap class c.locals s is
 
       left_over : (fewer ≡ place.kept) × (place.stopped ≡ [])
       left_over =
-          let less = fewer_left heap class c.locals s is in
           let long = ap (λ (xs : List Slots). length xs) place.taken.others in
-          let lt : length place.kept < 32 = omega (arith, (before.rest.working k thread).few, less, long) in
+          let lt : length place.kept < 32 = omega (arith, (before.rest.working k thread).few, (fewer_left heap class c.locals s is), long) in
           stops_none place.kept fewer place.stopped (nat_le 32 (length place.kept)) (grind (arith, nat_tests, lt)) place.shortened.first
 
       steps_are : steps ≡ place.spent
       steps_are = place.steps_are ∙ ap (λ (ms : List Made). ms ++ place.spent) left_over.1
 
+      -- It is one of the actor's.
       known : IsLocal f (part k p.list) s
       known = known_found (IsLocal f (part k p.list)) heap class c.locals s (before.rest.working k thread).locals.known is
 
       start_small : (b : ℕ) → b < 256 → start_of s.class b < 256
       start_small b small = let low = (start_below s.class b known.class).0 in omega (arith, low, small)
 
+      -- The steps are those of a stop.
       order : StopStepsAt (home_of s) s steps
       order = subst (StopStepsAt (home_of s) s) (sym steps_are) (record {
         mask = s.starts;
@@ -199,8 +170,9 @@ module _ (f : Profile) (k heap class : ℕ) (p : Progress) (w : World) (fewer : 
         steps_are = sym (append-nil place.spent);
       })
 
+      -- It covers no grain any more.
       never : (g : ℕ) → covers s g ≡ true → ⊥
-      never g h = true≢false (sym (and_second (s.page == g / 256) (is_set s.starts (start_of s.class (g % 256))) h) ∙ empty (start_of s.class (g % 256)) (start_small (g % 256) (omega arith)))
+      never g h = true≢false (sym (and_second (s.page == g / 256) _ h) ∙ empty (start_of s.class (g % 256)) (start_small (g % 256) (omega arith)))
 
       heap_is : found.local.heap ≡ heap
       heap_is = found.same.heap ∙ eqb-true s.heap heap (and_first (s.heap == heap) (s.class == class) passes)
@@ -218,11 +190,12 @@ module _ (f : Profile) (k heap class : ℕ) (p : Progress) (w : World) (fewer : 
         order = order;
         kinds = kinds;
         local = found.same;
-        found = ap (λ (h : ℕ). find (is_for h found.local.class) (locals_of w k)) heap_is ∙ (ap (λ (x : ℕ). find (is_for heap x) (locals_of w k)) class_is ∙ found.is);
+        found = rw (heap_is, class_is) found.is;
         known = known;
         in_cache = λ g h. absurd (never g h);
-        fewer_same = subst (λ (xs : List Slots). AreSameLocals xs (others found.local.heap found.local.class (locals_of w k))) (sym (left_over.0 ∙ place.taken.others))
-            (subst (AreSameLocals (others_than heap class c.locals)) (sym (ap (λ (h : ℕ). others h found.local.class (locals_of w k)) heap_is ∙ ap (λ (x : ℕ). others heap x (locals_of w k)) class_is)) (others_same heap class c.locals (locals_of w k) both_same));
+        fewer_same =
+            subst (λ (xs : List Slots). AreSameLocals xs (others found.local.heap found.local.class (locals_of w k))) (sym (left_over.0 ∙ place.taken.others))
+            (rw (heap_is, class_is) (others_same heap class c.locals (locals_of w k) both_same));
         gone = λ g h. absurd (never g h);
         after = after;
       })

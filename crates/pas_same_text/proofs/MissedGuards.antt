@@ -7,8 +7,8 @@ use Rattle.pas_same_text.proofs.{KeepersRest.outer_last, StopActs.events_recorde
 use Rattle.pas_same_text.proofs.{RunsFound.deeded, RunsFound.deeds_of}
 use Rattle.pas_same_text.proofs.RestingPages.{open_from, deed_now, bit_tells, bit_offered}
 use Rattle.pas_same_text.proofs.SoughtRuns.{IsRunOf, IsMadeOf, unowned_free, visible_mid, made_events, none_made, none_pages, IsSought}
-use Rattle.std.proofs.Common.{map, ◌⊎◌, ne_eqb, append-nil, ◌≡◌, ℕ, ◌+◌, ◌*◌, ◌<◌, ◌==◌, Bool, true, false, ◌||◌, if◌then◌else◌, List, [], ◌∷◌, ◌++◌, Some, inl}
-use Rattle.std.proofs.Common.{inr, refl, ap, sym, ◌∙◌, subst, arith, eq-eqb, eqb-true}
+use Rattle.std.proofs.Common.{map, ◌⊎◌, ne_eqb, append-nil, ◌≡◌, ℕ, ◌+◌, ◌*◌, ◌<◌, ◌==◌, Bool, true, false, if◌then◌else◌, List, [], ◌∷◌, ◌++◌, Some, inl, inr}
+use Rattle.std.proofs.Common.{refl, ap, sym, ◌∙◌, subst, arith, eq-eqb, eqb-true}
 use Rattle.std.proofs.lemmas.{List.map-append, List.Elements.filter-append, Option.same_Some}
 use Rattle.std.specs.List.{filter, AllByRecursion}
 use Rattle.pas_guard.specs.declared.book.Guard.{Guard as BookGuard}
@@ -25,7 +25,7 @@ use Rattle.pas_steps.proofs.Apart.{only_within}
 use Rattle.pas_core.specs.Rights.{eligible_bit}
 use Rattle.pas_core.proofs.{Rights.right_in_one_place, OneActor.LendsNone, OneActor.lends_none}
 use Rattle.pas_cache.specs.Kinds.{allocating}
-use Rattle.pas_large.proofs.Outcomes.{MadeOf}
+use Rattle.pas_large.proofs.Finds.{MadeOf}
 use Rattle.pas_same_text.proofs.ReadyPages.{shown, shown_events, shown_records, shown_lives, shown_rest}
 use Rattle.pas_same_text.proofs.GivenBlocks.{AreReadying, made_ready, ready_deeds, ready_lives}
 use Rattle.pas_profile.proofs.Lists.{all_map}
@@ -49,22 +49,17 @@ unlisted_bare q (m ∷ xs) out = (
 -- Each page of a list is listed.
 pub each_listed : (qs : List ℕ) → AllByRecursion (λ x. has_number qs x ≡ true) qs
 each_listed [] = tt
-each_listed (x ∷ qs) = (or_left (x == x) (has_number qs x) (eq-eqb x x refl), all_map (λ y. has_number qs y ≡ true) (λ y. has_number (x ∷ qs) y ≡ true) qs (λ y h. or_right (x == y) (has_number qs y) h) (each_listed qs))
+each_listed (x ∷ qs) = let ih = each_listed qs in search (arith, or_left, eq-eqb, all_map, or_right, ih)
 
 -- What is so of all numbers of a list is so of each that it has.
 pub all_listed : (P : ℕ → Type 0) (qs : List ℕ) (q : ℕ) → AllByRecursion P qs → has_number qs q ≡ true → P q
 all_listed P [] q all h = absurd (false≢true h)
-all_listed P (x ∷ qs) q all h = elim (or_cases (x == q) (has_number qs q) h) [ inl here ↦ subst P (eqb-true x q here) all.0 | inr later ↦ all_listed P qs q all.1 later ]
+all_listed P (x ∷ qs) q all h = let ih = all_listed P qs q all.1 in search (arith, or_cases, eqb-true, ih)
 
 -- their deeds, and those of others
 pub deed_listed : (k : ℕ) (d : Directory) (q : ℕ) (qs : List ℕ) (es : List Event) → has_number qs q ≡ true → deed_in (deeds_of k d qs ++ es) q ≡ Some d
 deed_listed k d q [] es h = absurd (false≢true h)
-deed_listed k d q (x ∷ qs) es h = at (x == q) h (deed_listed k d q qs es)
-  where
-    at : (t : Bool) → (t || has_number qs q) ≡ true → (has_number qs q ≡ true → deed_in (deeds_of k d qs ++ es) q ≡ Some d)
-        → (if t then Some d else deed_in (deeds_of k d qs ++ es) q) ≡ Some d
-    at true h rest = refl
-    at false h rest = rest h
+deed_listed k d q (x ∷ qs) es h = let rest = deed_listed k d q qs es in grind (arith, rest)
 
 -- ==== A PAGE THAT GOT ITS DEED and came into nobody's hands is offered in the text where its bit is set.
 pub left_free : (f : Profile) (q : Progress) (v : World) (d : Directory) → IsValid f → IsBetween f q → HasSame f q v → (page : ℕ)
@@ -97,9 +92,11 @@ module _ {f : Profile} {k heap n : ℕ} {p q : Progress} {w : World} {xs : List 
   shown_is : visible q.list ≡ ds ++ w.events
   shown_is = ap visible list ∙ visible_mid s made_of
 
+  -- Afterwards the replay has what the text has.
   now : HasSame f q v
   now = search (arith, shown_events, shown_is, shown_lives, shown_rest)
 
+  -- The events make pages ready, and nothing else.
   ready : AreReadying k d (has_number made) ds
   ready = made_ready k d (has_number made) made (each_listed made)
 
@@ -118,9 +115,11 @@ module _ {f : Profile} {k heap n : ℕ} {p q : Progress} {w : World} {xs : List 
   all_kinds : Only allocating xs
   all_kinds = only_within seeking allocating xs refl s.kinds
 
+  -- The search lends nothing.
   lends : LendsNone xs
   lends = lends_none seeking refl xs s.kinds
 
+  -- The try is one piece of the actor.
   piece : IsPiece f k p q w v (has_number made) xs []
   piece = record {
     valid = s.valid;
@@ -149,8 +148,8 @@ module _ {f : Profile} {k heap n : ℕ} {p q : Progress} {w : World} {xs : List 
     caches = now.caches;
     guards = now.guards;
     names = (shown_rest ds w).names ∙ (s.same.names ∙ sym names);
-    records = records ∙ (ap (λ (es : List Event). p.records ++ records_of es) (made_events s made_of) ∙ events_recorded p.records w.records v.records ds s.same.records (shown_records ds w));
-    epoch = (shown_rest ds w).epoch ∙ (s.same.epoch ∙ sym (ap (λ (m : Whole). word_after m Word.Epoch) list ∙ epoch_stays_by allocating refl k xs p.list all_kinds));
+    records = records ∙ (ap (λ es. p.records ++ records_of es) (made_events s made_of) ∙ events_recorded _ _ v.records ds s.same.records (shown_records ds w));
+    epoch = (shown_rest ds w).epoch ∙ (s.same.epoch ∙ sym (ap (λ m. word_after m Word.Epoch) list ∙ epoch_stays_by allocating refl k xs p.list all_kinds));
     read = (shown_rest ds w).read ∙ (s.same.read ∙ sym epoch);
   }
 

@@ -12,9 +12,9 @@ use Rattle.pas_same_text.specs.{State.World, Same.IsSame, Acts.IsBetween, Acts.H
 use Rattle.pas_same_text.specs.{Requests.AnswersSame, Requests.RequestStaysSame}
 use Rattle.pas_same_text.specs.Order.{keeps_block, replaces, remakes, acts_on}
 use Rattle.pas_same_text.proofs.BackActs.{flush_act, stop_act, end_act, idle_act, raw_act, raw_sized_act, free_act, free_sized_act, remakes_idly}
-use Rattle.pas_same_text.proofs.{Asked.has_asked, BitfitRequests.bitfit_answered, ClassRequests.class_answered, GuardActs.guards_keep, LowerActs.lower_act}
-use Rattle.pas_same_text.proofs.{PagesRequests.pages_answered, PagesRequests.named_large, PassActs.pass_same, Replaced.replaced_same, SameIndexes.indexes_kept}
-use Rattle.pas_same_text.proofs.{KeepersRest.thread_of, KeepersRest.keeper_of}
+use Rattle.pas_same_text.proofs.{CachedSlots.has_asked, BitfitRequests.bitfit_answered, ClassRequests.class_answered, GuardActs.guards_keep}
+use Rattle.pas_same_text.proofs.{LowerActs.lower_act, PagesRequests.pages_answered, PagesRequests.named_large, PassActs.pass_same, Replaced.replaced_same}
+use Rattle.pas_same_text.proofs.{SameIndexes.indexes_kept, KeepersRest.thread_of, KeepersRest.keeper_of}
 use Rattle.pas_same_text.proofs.SmallActs.{phase_same, close_same, wake_same, reading_same, tick_same, settling_same}
 
 -- ---- a request, by its route
@@ -22,7 +22,7 @@ by_route : (f : Profile) (k : ℕ) (r : Request) (p : Progress) (a : Answer) (w 
     → AnswersSame f k r p a w
 by_route f k r p a w (Route.Class class) e asked = class_answered f k r.name r.heap r.size r.align class p a w asked.listed asked.admitted e (has_asked asked)
 by_route f k r p a w Route.Bitfit e asked = bitfit_answered f k r.name r.heap r.size r.align p a w asked.admitted e (has_asked asked)
-by_route f k r p a w Route.Large e asked = pages_answered f k r.name r.heap r.size r.align p a w asked.admitted e (has_asked asked) (named_large f r w.indexes a.found e asked.named)
+by_route f k r p a w Route.Large e asked = pages_answered f k _ r.heap r.size _ p a w asked.admitted e (has_asked asked) (named_large f r _ _ e asked.named)
 
 -- A request of any route leads the text to the replay's state.
 pub request_same : (f : Profile) (k : ℕ) (r : Request) → RequestStaysSame f k r
@@ -39,9 +39,11 @@ module _ (threads : ℕ) (f : Profile) (line k : ℕ) (what : What) (p p' : Prog
   abbrev a : Answer
   a = known.taken.advances.0
 
+  -- The act leads to what its answer says.
   reached : p' ≡ after_answer p k a
   reached = known.taken.advances.2
 
+  -- There the replay is between two pieces.
   after : IsBetween f (after_answer p k a)
   after = subst (IsBetween f) reached known.taken.after
 
@@ -70,7 +72,7 @@ module _ (threads : ℕ) (f : Profile) (line k : ℕ) (what : What) (p p' : Prog
       → IsSame f p' (remakes f k name size align meant w)
   remade name old heap size align None admitted is named = absurd is
   remade name old heap size align (Some None) admitted is named = remakes_idly f k name size align (Some None) p p' w a tt known.taken.same reached is
-  remade name old heap size align (Some (Some block)) admitted (inl kept) named = remakes_idly f k name size align (Some (Some block)) p p' w a kept.suited known.taken.same reached (inl kept)
+  remade name old heap size align (Some (Some block)) admitted (inl kept) named = remakes_idly f k _ size _ (Some (Some _)) p p' w a kept.suited known.taken.same reached (inl kept)
   remade name old heap size align (Some (Some block)) admitted (inr moved) named =
       let r : Request = request_for block name size align in
       let own : IsAdmitted f size align block.heap = record { within = admitted.within; aligned = admitted.aligned; of_profile = moved.of_region } in
@@ -87,16 +89,16 @@ LeavesSame threads f act = (p p' : Progress) (w : World) (indexes : Indexes) →
 
 operation_same : (threads : ℕ) (f : Profile) (line k : ℕ) (what : What) → LeavesSame threads f (Act.Operates (record { line = line; actor = k; what = what }))
 operation_same threads f line k (What.Alloc name heap size align) p p' w indexes known =
-    rw known.taken.advances.2 (asked threads f line k (What.Alloc name heap size align) p p' w indexes known (record { name = name; heap = heap; size = size; align = align }) known.planned.1 known.taken.advances.1 known.named)
+    rw known.taken.advances.2 (asked threads f line k _ p p' w indexes known _ known.planned.1 known.taken.advances.1 known.named)
 operation_same threads f line k (What.Guarded keeper name heap size align) p p' w indexes known =
-    rw known.taken.advances.2 (asked threads f line k (What.Guarded keeper name heap size align) p p' w indexes known (record { name = name; heap = heap; size = size; align = align }) known.planned.1 known.taken.advances.1 known.named)
+    rw known.taken.advances.2 (asked threads f line k _ p p' w indexes known _ known.planned.1 known.taken.advances.1 known.named)
 operation_same threads f line k (What.Free name) p p' w indexes known = free_act f line k name (acting known) p p' w known.usable known.taken
 operation_same threads f line k (What.FreeSized name room) p p' w indexes known = free_sized_act f line k name room (acting known) p p' w known.usable known.taken
 operation_same threads f line k (What.Raw block) p p' w indexes known = raw_act f line k block (acting known) p p' w known.usable known.taken
 operation_same threads f line k (What.RawSized room block) p p' w indexes known = raw_sized_act f line k room block (acting known) p p' w known.usable known.taken
 operation_same threads f line k (What.Remake name old heap size align) p p' w indexes known =
     subst (λ (ns : List Named). IsSame f p' (remakes f k name size align (standing_for ns old) w)) (sym known.taken.same.names)
-    (remade threads f line k (What.Remake name old heap size align) p p' w indexes known name old heap size align (standing_for p.names old) known.planned.1 known.taken.advances.1 known.named)
+    (remade threads f line k _ p p' w indexes known name old heap size align (standing_for p.names old) known.planned.1 known.taken.advances.1 known.named)
 operation_same threads f line k What.Flush p p' w indexes known = flush_act f line k (acting known) p p' w known.usable known.taken
 operation_same threads f line k What.Stop p p' w indexes known = stop_act f line k (acting known) p p' w known.usable known.taken
 operation_same threads f line k what p p' w indexes known = absurd known.taken.advances.1

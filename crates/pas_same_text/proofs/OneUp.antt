@@ -1,14 +1,15 @@
 -- ONE LOCAL ALLOCATOR GOES, in the text alone: wherever it stands in its cache.
 use Rattle.std.proofs.Common.{arith, ◌≡◌, ℕ, Bool, true, false, not, ◌||◌, if◌then◌else◌, List, [], ◌∷◌, Some, refl, eqb-true, ◌≤◌, length, ◌==◌, ◌++◌, reverse}
-use Rattle.std.proofs.Common.{inl, inr, ap, sym, ◌∙◌, subst, append-nil, eq-eqb}
-use Rattle.std.proofs.lemmas.Bool.{false≢true, or_right}
+use Rattle.std.proofs.Common.{inl, inr, ◌&&◌, ap, sym, ◌∙◌, subst, append-nil, eq-eqb}
+use Rattle.std.proofs.lemmas.Bool.{false≢true}
 use Rattle.std.specs.List.{list_any, find}
 use Rattle.pas_profile.specs.Profiles.{IsPage, IsValid, IsDirectoryOf}
 use Rattle.pas_profile.specs.declared.{profile.Profile.Profile, directory.Directory.Directory, event.Event.Event}
 use Rattle.pas_same_text.specs.State.{Local, Cache, World, cache_of, locals_of, set_locals}
 use Rattle.pas_same_text.specs.{Classes.is_for, Classes.others, Classes.gives_up, Pages.is_of, Acts.IsBetween, Words.free_bit}
-use Rattle.pas_same_text.proofs.{GivenBack.Returns, GivenBack.OnlyHints, GivenBack.all_only_hints, Tests.or_more, CacheLists.same_with, Flushes.visible_steps}
-use Rattle.pas_same_text.proofs.{SameIndexes.same_guards, SameIndexes.given_up_keeps, StopActs.slot_room, StopActs.read_room}
+use Rattle.pas_same_text.proofs.{GivenBack.Returns, GivenBack.OnlyHints, GivenBack.all_only_hints, Tests.any_weaker, Tests.any_filtered, Tests.and_second}
+use Rattle.pas_same_text.proofs.{CacheLists.same_with, Flushes.visible_steps, SameIndexes.same_guards, SameIndexes.given_up_keeps, StopActs.slot_room}
+use Rattle.pas_same_text.proofs.{StopActs.read_room}
 use Rattle.pas_same_text.proofs.StopSteps.{AreUnique, one_returns, unique_of, IsMarkedBy, one_marked, one_hints}
 use Rattle.pas_same_text.proofs.FreeGrains.{guards_as, still_unguarded, cached_held, outer_held, held_by, never_both, holder_thread}
 use Rattle.pas_same_text.proofs.RestingPages.{is_open, IsGivenBack, covered_not_held, free_left, given_pages}
@@ -22,20 +23,15 @@ use Rattle.pas_segregated.specs.Stops.{home_of, StopStepsAt}
 use Rattle.pas_segregated.specs.declared.slots.Slots.{Slots}
 use Rattle.pas_cache.specs.{Contents.Cached, Kinds.releasing, Locals.IsLocal, Locals.covers, Locals.any_covers}
 use Rattle.pas_trace.specs.EveryPlan.{IsThread}
-use Rattle.pas_answers.specs.Answers.{Progress, with_steps, with_cache as with_cached}
+use Rattle.pas_answers.specs.Answers.{Progress, with_steps}
 use Rattle.pas_report.specs.declared.record.Record.{Record}
-use Rattle.pas_same_text.specs.Same.{IsSame, HasSame, IsSameCache, IsSameLocal, AreSameLocals, AreSameCaches, lives_in}
+use Rattle.pas_same_text.specs.Same.{IsSame, HasSame, IsSameCache, IsSameLocal, AreSameLocals, lives_in}
 use Rattle.pas_same_text.proofs.StepMarks.{IsMarked, hint_marks, offer_marks, epoch_stays_by}
 
 -- ---- the others of a cache
-less_next : (p : Local → Bool) (x : Local) (ys : List Local) (t rest : Bool) → (list_any p ys ≡ true → rest ≡ true)
-    → list_any p (if t then x ∷ ys else ys) ≡ true → (p x || rest) ≡ true
-less_next p x ys true rest more h = or_more (p x) (list_any p ys) rest more h
-less_next p x ys false rest more h = or_right (p x) rest (more h)
-
 any_less : (p : Local → Bool) (heap class : ℕ) (ls : List Local) → list_any p (others heap class ls) ≡ true → list_any p ls ≡ true
-any_less p heap class [] h = h
-any_less p heap class (x ∷ xs) h = less_next p x (others heap class xs) (not (is_for heap class x)) (list_any p xs) (any_less p heap class xs) h
+any_less p heap class ls h =
+    any_weaker (λ x. not (is_for heap class x) && p x) p ls (λ x both. and_second (not (is_for heap class x)) (p x) both) (any_filtered p _ ls h)
 
 -- .. are all but the one that is found
 other_next : (p : Local → Bool) (heap class : ℕ) (x l : Local) (xs : List Local) (t : Bool) → is_for heap class x ≡ t → others x.heap x.class xs ≡ xs
@@ -61,7 +57,7 @@ module _ (f : Profile) (k : ℕ) (l : Local) (w : World) (unique : AreUnique (lo
 
   -- Where a local allocator goes, wherever in its cache, its grains come back to its page alone.
   gone_returns : Returns f (l.page ∷ []) w (gives_up k l w)
-  gone_returns = one_returns f k l w page_of (λ p h. any_less p l.heap l.class (locals_of w k) h) (λ p none h. any_other p l.heap l.class l (locals_of w k) unique found none h)
+  gone_returns = one_returns f k l w page_of (λ p h. any_less p l.heap l.class _ h) (λ p none h. any_other p l.heap l.class l (locals_of w k) unique found none h)
 
   -- A local allocator that goes changes, beside its cache, hints alone.
   gone_only : OnlyHints bare (gives_up k l w)
@@ -104,34 +100,41 @@ module _ (f : Profile) (k : ℕ) (p : Progress) (w : World) (s : Slots) (l : Loc
   abbrev v : World
   v = gives_up k l w
 
+  -- The text has one local allocator a class at most.
   unique : AreUnique (locals_of w k)
   unique = unique_of c.locals (locals_of w k) (o.same.caches.each k o.thread).locals (o.before.rest.working k o.thread).locals.apart.one_each
 
   page_of : IsPage f l.page
   page_of = subst (IsPage f) (sym o.local.page) o.known.page
 
+  -- The steps put grains back and return rights alone.
   freed : Only freeing steps
   freed = only_within releasing freeing steps refl o.kinds
+
+  only : OnlyHints (bare f k l w unique o.found page_of) v
+  only = gone_only f k l w unique o.found page_of
 
   -- ---- events and caches
   silent : events_by k (part k p.list) steps ≡ []
   silent = ap (events_by k (part k p.list)) (sym (append-nil steps)) ∙ events_same releasing refl k (part k p.list) steps [] o.kinds
 
+  -- They make no event.
   shown : visible p1.list ≡ visible p.list
   shown = visible_steps k steps p.list ∙ ap (λ (es : List Event). es ++ visible p.list) silent
 
+  -- The text's events are those of the list.
   events : v.events ≡ visible p1.list
-  events = (gone_only f k l w unique o.found page_of).events ∙ (o.same.pages.events ∙ sym shown)
+  events = only.events ∙ (o.same.pages.events ∙ sym shown)
 
   new_same : IsSameCache c1 (left f k l w unique o.found page_of)
   new_same = let was = o.same.caches.each k o.thread in record { locals = o.fewer_same; log = was.log; noted = was.noted; began = was.began }
 
+  -- Afterwards the replay has what the text has.
   has : HasSame f p1 v
   has = record {
     events = events;
-    live = (gone_only f k l w unique o.found page_of).live ∙ (o.same.pages.live ∙ ap lives_in (sym (gone_only f k l w unique o.found page_of).events));
-    caches = subst (AreSameCaches f (with_cached p.caches k c1)) (sym (gone_only f k l w unique o.found page_of).caches)
-        (same_with f p.caches w.caches k c1 (left f k l w unique o.found page_of) o.thread o.listed o.same.caches new_same);
+    live = only.live ∙ (o.same.pages.live ∙ ap lives_in (sym only.events));
+    caches = rw only.caches (same_with f p.caches w.caches k c1 (left f k l w unique o.found page_of) o.thread o.listed o.same.caches new_same);
     guards = guards_as p.books w v (same_guards w v (given_up_keeps k l w)) o.same.guards;
   }
 
@@ -140,6 +143,7 @@ module _ (f : Profile) (k : ℕ) (p : Progress) (w : World) (s : Slots) (l : Loc
       → ((j == k) ≡ false) × (any_covers (p.caches j).locals g ≡ true)
   cached_before j g t e held own = search (arith, false≢true)
 
+  -- Nobody holds a grain that the stopped one covered.
   nobody : (j g : ℕ) → covers s g ≡ true → holds (part j p1.list) g ≡ true → ⊥
   nobody j g own held =
       let held_then : holds (part k p.list) g ≡ true = cached_held f p o.before k g o.thread (o.in_cache g own) in
@@ -165,9 +169,11 @@ module _ (f : Profile) (k : ℕ) (p : Progress) (w : World) (s : Slots) (l : Loc
     | inr read ↦ read_room f k p steps c1 v o.valid o.before o.after has freed s o.known q d of is m.page read
   ]
 
+  -- The steps mark the page as the text does.
   marked : (q : ℕ) → IsMarked q steps → IsMarkedBy s q steps
   marked q m = one_marked s q steps o.known.class o.order m
 
+  -- The cached slots were given back.
   given : IsGivenBack f k p.list w steps v
   given = record {
     pages = l.page ∷ [];
@@ -181,12 +187,8 @@ module _ (f : Profile) (k : ℕ) (p : Progress) (w : World) (s : Slots) (l : Loc
 
   -- The text in which a stopped local allocator is given up is the replay's state after the stop.
   pub given_up_same : IsSame f p1 v
-  given_up_same = record {
-    pages = given_pages f k p.list p1 w v steps o.valid o.same.pages refl o.after has given;
-    caches = has.caches;
-    guards = has.guards;
-    names = (gone_only f k l w unique o.found page_of).names ∙ o.same.names;
-    records = o.same.records ∙ ap (λ (rs : List Record). reverse rs) (sym (gone_only f k l w unique o.found page_of).records);
-    epoch = (gone_only f k l w unique o.found page_of).epoch ∙ (o.same.epoch ∙ sym (epoch_stays_by freeing refl k steps p.list freed));
-    read = (gone_only f k l w unique o.found page_of).read ∙ o.same.read;
-  }
+  given_up_same =
+      let pages = given_pages f k p.list p1 w v steps o.valid o.same.pages refl o.after has given in
+      let records = o.same.records ∙ ap (λ (rs : List Record). reverse rs) (sym only.records) in
+      let epoch = only.epoch ∙ (o.same.epoch ∙ sym (epoch_stays_by freeing refl k steps p.list freed)) in
+      assumption (pages, records, epoch, only.names ∙ o.same.names, only.read ∙ o.same.read, has)

@@ -1,18 +1,19 @@
 -- A REQUEST FOR WHOLE PAGES: by the run that the heap's index named, where it is whole, or else by the lowest usable one; or it is refused, and changes no page.
 use Rattle.std.proofs.Common.{◌≡◌, ℕ, ◌*◌, ◌/◌, ◌≤◌, true, List, ◌∷◌, ◌++◌, Option, None, Some, Result, Ok, Err, ◌⊎◌, inl, inr, refl, ap, sym, ◌∙◌, subst}
 use Rattle.std.proofs.Common.{arith, append_assoc, true≢false}
-use Rattle.pas_large.proofs.{Lifted.find_again, Allocates.holds_whole, Allocates.scans_only, Alone.goes_by_door, Alone.refused_alone, Pages.rise_none}
+use Rattle.pas_large.proofs.{Lifted.find_again, Pages.rise_none}
+use Rattle.pas_large.proofs.Allocates.{holds_whole, scans_only, goes_by_door, refused_alone}
 use Rattle.pas_profile.specs.{Blocks.address_of, Profiles.IsAdmitted, Profiles.IsDirectoryOf}
-use Rattle.pas_profile.specs.Requests.{route_in, room_in, is_shared, kind_of_route, directory_for}
+use Rattle.pas_profile.specs.Requests.{route_in, room_in, is_shared, kind_of_route}
 use Rattle.pas_profile.specs.declared.{directory.Directory.Directory, directory.Route.Route, event.NoRoom.NoRoom, name.Block.Block, profile.Profile.Profile}
 use Rattle.pas_steps.specs.{Desks.triples, Lists.Whole, Lists.part, Lists.Legal, Past.Always}
-use Rattle.pas_steps.specs.Kinds.{Kinds, Only, kind_of, place_of, is_in, apart, showing, looking}
+use Rattle.pas_steps.specs.Kinds.{Kinds, Only, kind_of, is_in, apart, showing, looking}
 use Rattle.pas_steps.specs.declared.step.Made.{Made}
 use Rattle.pas_steps.proofs.{Adding.triples_append, Parts.part_of_own, Past.always_both, Past.always_map}
 use Rattle.pas_steps.proofs.Apart.{in_apart, no_event, only_both, only_within}
 use Rattle.pas_core.proofs.{Nexts.agreed_steps, OneActor.legal_earlier}
-use Rattle.pas_search.specs.Kinds.{AreSearch, AreQuiet, IsQuiet, ReturnsDuly}
-use Rattle.pas_search.proofs.Returns.{duly_both, duly_none}
+use Rattle.pas_search.specs.Kinds.{AreQuiet, IsQuiet, ReturnsDuly}
+use Rattle.pas_search.proofs.PagesThatServe.{duly_both, duly_none}
 use Rattle.pas_large.specs.Allocates.{IsAllocatedLarge, IsAllocatedNamed, IsServedNamed, IsScanned}
 use Rattle.pas_large.specs.{Alone.GoesByDoor, Doors.Indexes, Doors.found_in, Finds.MayFind, Finds.finding, Pages.claiming_old, Telling.IsLowestRun}
 use Rattle.pas_large.specs.{Telling.IsNamedWhole}
@@ -27,38 +28,23 @@ use Rattle.pas_same_text.specs.Runs.{large_of, named_run, lowest_run, run_or, se
 use Rattle.pas_same_text.proofs.{SmallActs.after_with, RunGiven.GaveRun, RunGiven.given_to, RunGiven.run_given, RunsFound.DeedsInRun, RunsFound.lowest_alone}
 use Rattle.pas_same_text.proofs.{RunsFound.deeds_in_run, Pieces.has_same}
 use Rattle.pas_same_text.proofs.SearchedPages.{refused_to, refused_same, lowest_found, none_lowest, named_whole, whole_named}
-use Rattle.pas_same_text.proofs.Asked.{HasAsked, answer_reached, by_route, request_taken}
+use Rattle.pas_same_text.proofs.CachedSlots.{HasAsked, answer_reached, by_route, request_taken}
 
 -- ---- the indexes are no part of what is the same
 -- ---- what was tried leaves the actor as it was
 -- ---- steps of kinds without an event
 quiet_by : (ks : Kinds) → apart ks showing ≡ true → (steps : List Made) → Only ks steps → AreQuiet steps
-quiet_by ks out steps = always_map (λ m before. is_in ks (kind_of m.step) ≡ true) (λ m before. IsQuiet m) steps (λ m before is k epoch. no_event k epoch m.step m.answer (in_apart ks showing (place_of (kind_of m.step)) out is))
+quiet_by ks out steps = always_map _ (λ m before. IsQuiet m) steps (λ m before is k epoch. no_event k epoch m.step m.answer (in_apart ks showing _ out is))
 
 -- ---- a run that was given
 -- steps that make no deed
 no_deeds : (d : Directory) (first n : ℕ) (steps : List Made) → Only claiming_old steps → DeedsInRun d first n steps
-no_deeds d first n steps = always_map (λ m before. is_in claiming_old (kind_of m.step) ≡ true) _ steps (λ m before is page e same zero. absurd (true≢false (sym is ∙ ap (λ s. is_in claiming_old (kind_of s)) same)))
+no_deeds d first n steps = always_map _ _ steps (λ m before is page e same zero. absurd (true≢false (sym is ∙ ap (λ s. is_in claiming_old (kind_of s)) same)))
 
 module _ (f : Profile) (k : ℕ) (l : Whole) (d : Directory) (n : ℕ) (found : Option ℕ) (tried rest : List Made) (block : Block) (of : IsDirectoryOf f d)
     (old : Only claiming_old tried) (returns : Always ReturnsDuly tried) (legal : Legal f (triples k (rest ++ tried) ++ l)) (met : MayFind d (part k l)) where
   named_gave : (is : IsAllocatedNamed f d n found tried rest block) → GaveRun f d is.first n tried rest block
-  named_gave is = record {
-    kinds = only_within claiming_old finding tried refl old;
-    returns = returns;
-    deeds_in = no_deeds d is.first n tried old;
-    rise = rise_none claiming_old tried refl old;
-    pages = is.holds_it.got;
-    backs = is.backs;
-    back_order = is.back_order;
-    word = is.word;
-    answer = is.answer;
-    block_is = is.block_is;
-    left = is.left;
-    left_order = is.left_order;
-    after_is = is.after_is;
-    gave = is.gave;
-  }
+  named_gave is = search (arith, only_within, no_deeds, rise_none)
 
   module _ (searched after : List Made) (kinds : Only finding searched) (due : Always ReturnsDuly searched) (rest_is : rest ≡ after ++ searched)
       (is : IsAllocatedLarge f d n (searched ++ tried) after block) where
@@ -81,22 +67,7 @@ module _ (f : Profile) (k : ℕ) (l : Whole) (d : Directory) (n : ℕ) (found : 
     scanned_lowest = lowest_alone f k l d n of met xs legal_got got_kinds got_due is.first is.found
 
     scanned_gave : GaveRun f d is.first n xs after block
-    scanned_gave = record {
-      kinds = got_kinds;
-      returns = got_due;
-      deeds_in = deeds_in_run f k l d n of met xs legal_got got_kinds got_due is.first is.found;
-      rise = is.found.rise;
-      pages = is.found.got;
-      backs = is.backs;
-      back_order = is.back_order;
-      word = is.word;
-      answer = is.answer;
-      block_is = is.block_is;
-      left = is.left;
-      left_order = is.left_order;
-      after_is = is.after_is;
-      gave = is.gave;
-    }
+    scanned_gave = search (arith, got_kinds, got_due, deeds_in_run, legal_got)
 
 -- ---- THE REQUEST
 module _ (f : Profile) (k name heap size align : ℕ) (p : Progress) (a : Answer) (w : World) (admitted : IsAdmitted f size align heap)
@@ -113,15 +84,19 @@ module _ (f : Profile) (k name heap size align : ℕ) (p : Progress) (a : Answer
   abbrev u : World
   u = loses_named heap n w
 
-  home : directory_for f heap size align ≡ d
-  home = ap (λ (r : Route). let e : Directory = record { heap = heap; kind = kind_of_route (is_shared f heap) r } in e) route
+  -- the text comes to the replay's state
+  abbrev LeavesSame : Type 0
+  LeavesSame = IsSame f (after_answer p k a) (serves f k name heap (route_in f size align) (room_in f size align) align w)
 
+  -- It is one of the profile.
   of : IsDirectoryOf f d
   of = record { heap = admitted.of_profile; kind = tt; class = tt }
 
+  -- It is one page at least.
   some : 1 ≤ n
   some = let more = large_size f.classes size align route in let asked = pages_asked f size align route in omega (arith, more, asked)
 
+  -- The actor may search for a run.
   may : MayFind d (part k p.list)
   may = may_find f (part k p.list) heap c.locals asked.served.rest.locals
 
@@ -129,6 +104,7 @@ module _ (f : Profile) (k name heap size align : ℕ) (p : Progress) (a : Answer
   same_u : IsSame f p u
   same_u = search arith
 
+  -- Before the request the replay has what the text has.
   old : HasSame f p w
   old = has_same asked.same
 
@@ -147,19 +123,22 @@ module _ (f : Profile) (k name heap size align : ℕ) (p : Progress) (a : Answer
     abbrev pages : ServesPages f (wanted_for f heap size align) a.found c a.cache a.steps answer
     pages = by_pages answer is
 
+    -- What the request's steps came to.
     outcome : Outcome pages.tried pages.rest answer
-    outcome = subst (λ (e : Directory). IsServedNamed f e n a.found pages.tried pages.rest answer ⊎ IsScanned f e n a.found pages.tried pages.rest answer) home pages.outcome
+    outcome = subst (λ e. IsServedNamed f e n a.found pages.tried pages.rest answer ⊎ IsScanned f e n a.found pages.tried pages.rest answer) (ap (λ (r : Route). let e : Directory = record { heap = heap; kind = kind_of_route (is_shared f heap) r } in e) route) pages.outcome
 
     -- the replay after them, by what is said and what the name stands for
     abbrev reached_with : Progress
     reached_with = after_with p k (pages.rest ++ pages.tried) (said_of_request name answer) (named name (block_answered answer) ∷ p.names) c
 
+    -- What the answer leads to.
     to : after_answer p k a ≡ reached_with
     to =
         answer_reached asked answer is
         ∙ (ap (λ (x : Cached). after_with p k a.steps (said_of_request name answer) (named name (block_answered answer) ∷ p.names) x) pages.cache
         ∙ ap (λ (ms : List Made). after_with p k ms (said_of_request name answer) (named name (block_answered answer) ∷ p.names) c) pages.steps_are)
 
+    -- There the replay is between two pieces.
     there : IsBetween f reached_with
     there = subst (IsBetween f) to asked.after
 
@@ -170,40 +149,36 @@ module _ (f : Profile) (k name heap size align : ℕ) (p : Progress) (a : Answer
   -- ---- served
   served_same : (block : Block) (is : asked.served.answer ≡ Ok block) (first : ℕ) (got after : List Made)
       → (by_pages (Ok block) is).rest ++ (by_pages (Ok block) is).tried ≡ after ++ got → GaveRun f d first n got after block
-      → run_or (named_run w heap n) (lowest_run f w heap n) ≡ Some first
-      → IsSame f (after_answer p k a) (serves f k name heap (route_in f size align) (room_in f size align) align w)
+      → run_or (named_run w heap n) (lowest_run f w heap n) ≡ Some first → LeavesSame
   served_same block is first got rest steps run chosen =
       let all : after_answer p k a ≡ given_to p k name (rest ++ got) block = to (Ok block) is ∙ ap (λ (ms : List Made). given_to p k name ms block) steps in
       rw (text_by (Some first) chosen, all)
-      (run_given f k name heap first n p u got rest block asked.valid asked.thread of some asked.before asked.served.rest same_u (subst (IsBetween f) all asked.after) run)
+      (run_given f k name heap first n p u got rest block asked.valid asked.thread of some asked.before asked.served.rest same_u (rw all at asked.after) run)
 
   run_named : (first : ℕ) → IsNamedWhole f d n p.list a.found first → named_run w heap n ≡ Some first
-  run_named first whole = whole_named f p w asked.valid asked.before asked.same.pages old heap of n first (subst (λ (o : Option ℕ). IsNamedWhole f d n p.list o first) named_is whole)
+  run_named first whole = whole_named f p w asked.valid asked.before asked.same.pages old heap of n first (rw named_is at whole)
 
   named_served : (block : Block) (is : asked.served.answer ≡ Ok block)
-      → IsServedNamed f d n a.found (by_pages (Ok block) is).tried (by_pages (Ok block) is).rest (Ok block)
-      → IsSame f (after_answer p k a) (serves f k name heap (route_in f size align) (room_in f size align) align w)
+      → IsServedNamed f d n a.found (by_pages (Ok block) is).tried (by_pages (Ok block) is).rest (Ok block) → LeavesSame
   named_served block is by =
       let pages = by_pages (Ok block) is in
       let one : by.0 ≡ block = let e = by.1 in cc in
-      let alloc : IsAllocatedNamed f d n a.found pages.tried pages.rest block = subst (λ (b : Block). IsAllocatedNamed f d n a.found pages.tried pages.rest b) one by.2 in
+      let alloc : IsAllocatedNamed f d n a.found pages.tried pages.rest block = rw one at by.2 in
       let legal : Legal f (triples k (pages.rest ++ pages.tried) ++ p.list) = (there (Ok block) is).legal in
       let legal_tried : Legal f (triples k pages.tried ++ p.list) = legal_earlier f k pages.rest pages.tried p.list legal in
       let whole : IsNamedWhole f d n p.list a.found alloc.first =
-      holds_whole f k p.list d n alloc.first a.found pages.tried asked.valid of.kind may legal_tried pages.old pages.returns (alloc.holds_it.got.from (part k p.list) may (agreed_steps f k p.list pages.tried asked.valid legal_tried)) alloc.holds_it in
-      served_same block is alloc.first pages.tried pages.rest refl (named_gave f k p.list d n a.found pages.tried pages.rest block of pages.old pages.returns legal may alloc)
+      holds_whole f k p.list d n _ a.found _ asked.valid of.kind may legal_tried pages.old pages.returns (alloc.holds_it.got.from _ may (agreed_steps f k p.list pages.tried asked.valid legal_tried)) alloc.holds_it in
+      served_same block is _ pages.tried pages.rest refl (named_gave f k p.list d n a.found pages.tried pages.rest block of pages.old pages.returns legal may alloc)
       (ap (λ (o : Option ℕ). run_or o (lowest_run f w heap n)) (run_named alloc.first whole))
 
   -- where another run was found, the one that was named wasn't whole
   chosen_by : (block : Block) (is : asked.served.answer ≡ Ok block) (first : ℕ) → address_of block.name ≡ first * 4096 → IsLowestRun f d n p.list first
       → (o : Option ℕ)
       → named_run w heap n ≡ o → run_or (named_run w heap n) (lowest_run f w heap n) ≡ Some first
-  chosen_by block is first at lowest None none = ap (λ (o : Option ℕ). run_or o (lowest_run f w heap n)) none ∙ lowest_found f p w asked.valid asked.before asked.same.pages old heap of n first some lowest
+  chosen_by block is first at lowest None none = cc (lowest_found f p w asked.valid asked.before asked.same.pages old heap of n first some lowest)
   chosen_by block is first at lowest (Some x) named =
-      let whole : IsNamedWhole f d n p.list a.found x = subst (λ (o : Option ℕ). IsNamedWhole f d n p.list o x) (sym named_is) (named_whole f p w asked.valid asked.before asked.same.pages old heap of n x some named) in
-      let takes = (by_door (Ok block) is).served x whole in
-      let there_too : address_of block.name ≡ x * 4096 = ap address_in takes.1 ∙ takes.2 in
-      let one : x ≡ first = omega (arith, at, there_too) in
+      let takes = (by_door (Ok block) is).served x (subst (λ (o : Option ℕ). IsNamedWhole f d n p.list o x) (sym named_is) (named_whole f p w asked.valid asked.before asked.same.pages old heap of n x some named)) in
+      let one : x ≡ first = omega (arith, at, (ap address_in takes.1 ∙ takes.2)) in
       ap (λ (o : Option ℕ). run_or o (lowest_run f w heap n)) named ∙ ap (λ (y : ℕ). Some y) one
     where
       address_in : Result Block NoRoom → ℕ
@@ -211,27 +186,24 @@ module _ (f : Profile) (k name heap size align : ℕ) (p : Progress) (a : Answer
       address_in (Err why) = 0
 
   scanned_served : (block : Block) (is : asked.served.answer ≡ Ok block)
-      → IsScanned f d n a.found (by_pages (Ok block) is).tried (by_pages (Ok block) is).rest (Ok block)
-      → IsSame f (after_answer p k a) (serves f k name heap (route_in f size align) (room_in f size align) align w)
+      → IsScanned f d n a.found (by_pages (Ok block) is).tried (by_pages (Ok block) is).rest (Ok block) → LeavesSame
   scanned_served block is by =
       let pages = by_pages (Ok block) is in
       let legal : Legal f (triples k (pages.rest ++ pages.tried) ++ p.list) = (there (Ok block) is).legal in
-      let run = scanned_gave f k p.list d n a.found pages.tried pages.rest block of pages.old pages.returns legal may by.searched by.after by.kinds by.returns by.rest_is by.outcome in
-      let lowest = scanned_lowest f k p.list d n a.found pages.tried pages.rest block of pages.old pages.returns legal may by.searched by.after by.kinds by.returns by.rest_is by.outcome in
-      served_same block is by.outcome.first (by.searched ++ pages.tried) by.after (ap (λ (ms : List Made). ms ++ pages.tried) by.rest_is ∙ append_assoc by.after by.searched pages.tried) run
+      let run = scanned_gave f k p.list d n a.found _ _ block of pages.old pages.returns legal may _ by.after by.kinds by.returns by.rest_is by.outcome in
+      let lowest = scanned_lowest f k p.list d n a.found _ _ block of pages.old pages.returns legal may _ by.after by.kinds by.returns by.rest_is by.outcome in
+      served_same block is by.outcome.first (by.searched ++ pages.tried) by.after (cc (append_assoc by.after by.searched pages.tried)) run
       (chosen_by block is by.outcome.first (ap (λ (b : Block). address_of b.name) by.outcome.block_is) lowest (named_run w heap n) refl)
 
   -- ---- refused
   no_named : (room : NoRoom) (is : asked.served.answer ≡ Err room) → (o : Option ℕ) → named_run w heap n ≡ o → o ≡ None
   no_named room is None named = refl
   no_named room is (Some x) named =
-      let whole : IsNamedWhole f d n p.list a.found x = subst (λ (o : Option ℕ). IsNamedWhole f d n p.list o x) (sym named_is) (named_whole f p w asked.valid asked.before asked.same.pages old heap of n x some named) in
-      let takes = (by_door (Err room) is).served x whole in
+      let takes = (by_door (Err room) is).served x (subst (λ (o : Option ℕ). IsNamedWhole f d n p.list o x) (sym named_is) (named_whole f p w asked.valid asked.before asked.same.pages old heap of n x some named)) in
       absurd (let bad : Err room ≡ Ok takes.0 = takes.1 in cc)
 
   refused_by : (room : NoRoom) (is : asked.served.answer ≡ Err room)
-      → IsScanned f d n a.found (by_pages (Err room) is).tried (by_pages (Err room) is).rest (Err room)
-      → IsSame f (after_answer p k a) (serves f k name heap (route_in f size align) (room_in f size align) align w)
+      → IsScanned f d n a.found (by_pages (Err room) is).tried (by_pages (Err room) is).rest (Err room) → LeavesSame
   refused_by room is by =
       let pages = by_pages (Err room) is in
       let steps : List Made = pages.rest ++ pages.tried in
@@ -240,18 +212,17 @@ module _ (f : Profile) (k name heap size align : ℕ) (p : Progress) (a : Answer
       let mid : Whole = triples k pages.tried ++ p.list in
       let legal_tried : Legal f mid = legal_earlier f k pages.rest pages.tried p.list now.legal in
       let legal_searched : Legal f (triples k by.searched ++ mid) =
-      legal_earlier f k by.after by.searched mid (subst (λ (ms : List Made). Legal f (triples k ms ++ mid)) by.rest_is (subst (Legal f) (sym (triples_append k pages.rest pages.tried p.list)) now.legal)) in
-      let again : MayFind d (part k mid) = subst (MayFind d) (sym (part_of_own k pages.tried p.list)) (find_again f d (part k p.list) pages.tried may (agreed_steps f k p.list pages.tried asked.valid legal_tried) (by.misses.still.from (part k p.list) may (agreed_steps f k p.list pages.tried asked.valid legal_tried))) in
-      let looked : Only looking pages.rest = subst (Only looking) (sym by.rest_is) (only_both looking by.after by.searched (scans_only by.after by.own.scans) (by.looked room refl k mid legal_searched again)) in
-      let searches : AreSearch steps = search (arith, only_both, only_within, duly_both, duly_none) in
-      let quiet : AreQuiet steps = always_both (λ m before. IsQuiet m) (λ m before. IsQuiet m) pages.rest pages.tried (λ m before h. h) (quiet_by looking refl pages.rest looked) (quiet_by claiming_old refl pages.tried pages.old) in
+      legal_earlier f k by.after by.searched mid (subst (λ (ms : List Made). Legal f (triples k ms ++ mid)) by.rest_is (rw triples_append now.legal)) in
+      let again = subst (MayFind d) (sym (part_of_own k pages.tried p.list)) (find_again f d _ pages.tried may (agreed_steps f k p.list pages.tried asked.valid legal_tried) (by.misses.still.from _ may (agreed_steps f k p.list pages.tried asked.valid legal_tried))) in
+      let looked = subst (Only looking) (sym by.rest_is) (only_both looking by.after by.searched (scans_only by.after by.own.scans) (by.looked room refl k mid legal_searched again)) in
+      let quiet = always_both _ _ pages.rest _ (λ m before h. h) (quiet_by looking refl pages.rest looked) (quiet_by claiming_old refl pages.tried pages.old) in
       let none : run_or (named_run w heap n) (lowest_run f w heap n) ≡ None =
-      ap (λ (o : Option ℕ). run_or o (lowest_run f w heap n)) (no_named room is (named_run w heap n) refl) ∙ none_lowest f p w asked.valid asked.before asked.same.pages old heap of n told.before in
-      rw (text_by None none, to (Err room) is) (refused_same f k name p u d steps room asked.valid asked.thread of asked.before now same_u searches quiet told.reason)
+      ap (λ o. run_or o (lowest_run f w heap n)) (no_named room is _ refl) ∙ none_lowest f p w asked.valid asked.before asked.same.pages old heap of n told.before in
+      rw (text_by None none, to (Err room) is) (refused_same f k name p u d steps room asked.valid asked.thread of asked.before now same_u
+      (search (arith, only_both, only_within, duly_both, duly_none)) quiet told.reason)
 
   -- ---- any
-  answered : (answer : Result Block NoRoom) → asked.served.answer ≡ answer
-      → IsSame f (after_answer p k a) (serves f k name heap (route_in f size align) (room_in f size align) align w)
+  answered : (answer : Result Block NoRoom) → asked.served.answer ≡ answer → LeavesSame
   answered (Ok block) is = elim (outcome (Ok block) is) [ inl by ↦ named_served block is by | inr by ↦ scanned_served block is by ]
   answered (Err room) is = elim (outcome (Err room) is) [ inl by ↦ absurd (let bad : Err room ≡ Ok by.0 = by.1 in cc) | inr by ↦ refused_by room is by ]
 
@@ -274,4 +245,4 @@ pub pages_same : (f : Profile) (line k name heap size align : ℕ) (indexes : In
     → IsSame f p' (acts_on f (Act.Operates (record { line = line; actor = k; what = Alloc name heap size align })) w)
 pages_same f line k name heap size align indexes thread admitted route p p' w are taken named =
     request_taken f line k name heap size align thread p p' w taken (λ asked. pages_answered f k name heap size align p taken.advances.0 w admitted route asked
-    (named_large f (record { name = name; heap = heap; size = size; align = align }) indexes taken.advances.0.found route named ∙ ap (λ (ix : Indexes). found_in ix heap (room_in f size align / 4096)) (sym are)))
+    (cc (named_large f (record { name = name; heap = heap; size = size; align = align }) indexes taken.advances.0.found route named)))

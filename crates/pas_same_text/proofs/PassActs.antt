@@ -4,8 +4,8 @@ use Rattle.std.proofs.Common.{◌≡◌, ℕ, zero, suc, ◌+◌, ◌*◌, ◌^�
 use Rattle.std.proofs.Common.{append_assoc, append-nil, Option, None, Some, refl, ap, sym, ◌∙◌, subst, arith, true≢false, eq-eqb, eqb-true, ne_eqb, ◌<◌, ◌&&◌}
 use Rattle.std.proofs.Common.{inl, inr}
 use Rattle.std.proofs.lemmas.Bool.{false≢true, or_cases, or_left, not_from_false, cases_Bool, false_from_ne_true}
-use Rattle.std.proofs.lemmas.{Grind.reverse_onto, List.Concat.flat_map-append, List.reverse-append, List.reverse-reverse, List.map-append}
-use Rattle.std.proofs.lemmas.{List.Elements.filter_agree, Simd.map-map}
+use Rattle.std.proofs.{lemmas.Grind.reverse_onto, lemmas.List.Concat.flat_map-append, lemmas.List.reverse-append, lemmas.List.reverse-reverse}
+use Rattle.std.proofs.{lemmas.List.Elements.filter_agree, lemmas.Simd.map-map, Math.Path.fun_ext}
 use Rattle.std.specs.List.{find, filter}
 use Rattle.pas_profile.specs.declared.{event.Event.Event, event.Outcome.Outcome, profile.Profile.Profile, directory.Directory.Directory, word.Word.Word}
 use Rattle.pas_machine.specs.State.{backed_in, epoch_in}
@@ -17,9 +17,9 @@ use Rattle.pas_trace.specs.Acts.{numbers_from, Act}
 use Rattle.pas_same_text.specs.{State.World, State.each, State.says, Order.acts_on, Acts.IsBetween, Acts.IsTaken, Acts.AreEndsStamped}
 use Rattle.pas_same_text.specs.Pages.{page_numbers, is_free, is_hinted, is_empty, is_offered}
 use Rattle.pas_same_text.specs.Passes.{used_word, free_bits, outcome_backed, outcome_of, comes_to, examines, passes}
-use Rattle.pas_same_text.specs.Same.{has_number, lives_in, IsSame, HasSame, AreSameCaches}
-use Rattle.pas_same_text.proofs.{CacheLists.all_locals, Tests.filtered_has, Tests.has_filtered, Flushes.visible_steps, StepMarks.OffersPage}
-use Rattle.pas_same_text.proofs.{StepMarks.offered_by, StepMarks.epoch_stays_by, FreeGrains.guards_as, FreeGrains.still_unguarded}
+use Rattle.pas_same_text.specs.Same.{has_number, lives_in, IsSame, HasSame, ArePagesSame, AreSameCaches}
+use Rattle.pas_same_text.proofs.{CacheLists.all_locals, Tests.filtered_has, Tests.has_filtered, Flushes.visible_steps, Flushes.map_reverse}
+use Rattle.pas_same_text.proofs.{StepMarks.OffersPage, StepMarks.offered_by, StepMarks.epoch_stays_by, FreeGrains.guards_as, FreeGrains.still_unguarded}
 use Rattle.pas_same_text.proofs.GivenBack.{free_kept, empty_kept, is_idle, page_there}
 use Rattle.pas_same_text.proofs.PassOutcomes.{pair, stays_hinted, WasOffered, has_same}
 use Rattle.pas_profile.specs.Directories.{number_of}
@@ -43,8 +43,7 @@ bits_same w v page word same (suc n) =
     ∙ ap (λ (t : Bool). free_bits w page word n + (if t then 2 ^ n else 0)) (same (64 * word + n))
 
 find_same : (test other : ℕ → Bool) (xs : List ℕ) → ((x : ℕ) → test x ≡ other x) → find test xs ≡ find other xs
-find_same test other [] agree = refl
-find_same test other (x ∷ xs) agree = search (arith, find_same test other xs agree)
+find_same test other xs agree = ap (λ (t : ℕ → Bool). find t xs) (fun_ext agree)
 
 record JudgesSame (page : ℕ) (w v : World) : Type 0 where
   backed : backed_in v.events page ≡ backed_in w.events page
@@ -133,7 +132,7 @@ last_unback epoch page o pairs es =
     sym (append_assoc (unbacks_in 0 epoch (reverse pairs)) (unback_of 0 epoch page o) es)
     ∙ ap (λ (xs : List Event). xs ++ es)
     (ap (λ (xs : List Event). unbacks_in 0 epoch (reverse pairs) ++ xs) (sym (append-nil (unback_of 0 epoch page o)))
-    ∙ (sym (flat_map-append (λ (x : ℕ × Outcome). unback_of 0 epoch x.0 x.1) (reverse pairs) (pair page o ∷ [])) ∙ ap (unbacks_in 0 epoch) (sym (reverse_onto pairs (pair page o) []))))
+    ∙ (sym (flat_map-append _ (reverse pairs) (pair page o ∷ [])) ∙ ap (unbacks_in 0 epoch) (sym (reverse_onto pairs (pair page o) []))))
 
 last_record : (r : Record) (rs ws : List Record) → reverse rs ++ (r ∷ ws) ≡ reverse (r ∷ rs) ++ ws
 last_record r rs ws = sym (append_assoc (reverse rs) (r ∷ []) ws) ∙ ap (λ (xs : List Record). xs ++ ws) (sym (reverse_onto rs r []))
@@ -188,12 +187,6 @@ pass_comes f w =
 
 -- ==== PASSES as acts: the pages that were hinted come to the outcomes of the text, and their hints and offers are those of the text afterwards.
 -- ---- lists
-map_turned : {A B : Type 0} (g : A → B) (xs : List A) → reverse (map g xs) ≡ map g (reverse xs)
-map_turned g [] = refl
-map_turned g (x ∷ xs) =
-    reverse_onto (map g xs) (g x) []
-    ∙ (ap (λ (ys : List _). ys ++ g x ∷ []) (map_turned g xs) ∙ (sym (map-append g (reverse xs) (x ∷ [])) ∙ ap (map g) (sym (reverse_onto xs x []))))
-
 turned_records : (ws rs : List Record) (r : Record) → reverse (reverse rs ++ (r ∷ ws)) ≡ reverse ws ++ (r ∷ rs)
 turned_records ws rs r =
     cc (reverse-append (reverse rs) (r ∷ ws), reverse-reverse rs, reverse_onto ws r [], append_assoc (reverse ws) (r ∷ []) rs)
@@ -222,15 +215,19 @@ module _ (f : Profile) (p : Progress) (w : World) (epoch : ℕ) (found : List (�
   abbrev bound : ℕ
   bound = 64 * vector_words f.pages
 
+  -- The list with the pass's steps is legal.
   whole : Legal f (triples 0 (order.read ++ look) ++ p.list)
   whole = subst (λ (ms : List Made). Legal f (triples 0 ms ++ p.list)) order.steps_are after.legal
 
+  -- The pass reads the text's epoch.
   now : epoch ≡ w.epoch
   now = let first : Legal f (triples 0 look ++ p.list) = legal_earlier f 0 order.read look p.list whole in first.0.answer_is ∙ sym same.epoch
 
+  -- What the pass read so far is so in the text.
   past : IsPast f w p.list bound (order.read ++ look) (outcomes_in (all_tried order.words))
   past = past_all f p w valid before same stamped epoch now order.words order.read order.numbers_are order.order whole
 
+  -- Each outcome of the pass comes in the text.
   come : HasCome (outcome_of f w) pages (says (Record.Said 0 (Said.Pass w.epoch)) w) v
   come = pass_comes f w
 
@@ -253,7 +250,7 @@ module _ (f : Profile) (p : Progress) (w : World) (epoch : ℕ) (found : List (�
   found_are =
       sym (reverse-reverse found)
       ∙ (ap reverse (order.found_are ∙ past.found_are)
-      ∙ (map_turned told (falling hinted bound) ∙ ap (map told) (sym pages_are)))
+      ∙ (sym (map_reverse told (falling hinted bound)) ∙ ap (map told) (sym pages_are)))
 
   -- ---- events, blocks and caches
   events : v.events ≡ visible p'.list
@@ -264,13 +261,11 @@ module _ (f : Profile) (p : Progress) (w : World) (epoch : ℕ) (found : List (�
       ∙ (ap (λ (es : List Event). unbacks_in 0 epoch (reverse found) ++ es) same.pages.events
       ∙ (ap (λ (es : List Event). es ++ visible p.list) (sym (order.events (part 0 p.list))) ∙ sym (visible_steps 0 steps p.list)))))
 
+  -- Afterwards the replay has what the text has.
   has : HasSame f p' v
-  has = record {
-    events = events;
-    live = come.left.live ∙ (same.pages.live ∙ sym come.left.lives);
-    caches = subst (AreSameCaches f p.caches) (sym come.left.caches) same.caches;
-    guards = guards_as p.books w v come.left.guards same.guards;
-  }
+  has =
+      let caches = subst (AreSameCaches f p.caches) (sym come.left.caches) same.caches in
+      assumption (events, come.left.live ∙ (same.pages.live ∙ sym come.left.lives), caches, guards_as p.books w v come.left.guards same.guards)
 
   free_is : (page b : ℕ) → is_free v page b ≡ is_free w page b
   free_is page b = free_kept w v page b come.left.live (ap all_locals come.left.caches)
@@ -295,7 +290,7 @@ module _ (f : Profile) (p : Progress) (w : World) (epoch : ℕ) (found : List (�
         let of : IsPage f q = hinted_page f p'.list after.legal q bit in
         let gone : (hinted q ≡ true → stays_hinted (outcome_of f w q) ≡ false) = λ old. false_from_ne_true (stays_hinted (outcome_of f w q)) (λ stays.
         false≢true (sym none ∙ come.hinted_still q (same.pages.hinted q ∙ old) (λ there. stays))) in
-        let clear : empty_bit p'.list q ≡ false = ap (λ (ms : List Made). empty_bit (triples 0 ms ++ p.list) q) order.steps_are ∙ past.bits q (below q of) gone in
+        let clear = ap (λ (ms : List Made). empty_bit (triples 0 ms ++ p.list) q) order.steps_are ∙ past.bits q (below q of) gone in
         absurd (false≢true (sym clear ∙ bit))
   ]
 
@@ -327,20 +322,15 @@ module _ (f : Profile) (p : Progress) (w : World) (epoch : ℕ) (found : List (�
       ∙ (sym (turned_records w.records shown (line w.epoch)) ∙ ap reverse (sym come.records))))
 
   pass_to : IsSame f p' v
-  pass_to = record {
-    pages = record {
-      events = has.events;
-      live = has.live;
-      hinted = λ q. same_truth (is_hinted v q) (empty_bit p'.list q) (to_bit q) (from_bit q);
-      offered = λ q d of. same_truth (is_offered v d q) (eligible_bit p'.list (number_of d) q) (offered_bit f p' v valid after has q d of) (from_offer q d of);
-    };
-    caches = has.caches;
-    guards = has.guards;
-    names = come.left.names ∙ same.names;
-    records = lines;
-    epoch = come.left.epoch ∙ (same.epoch ∙ sym (epoch_stays_by passing refl 0 steps p.list order.kinds));
-    read = come.left.read ∙ same.read;
-  }
+  pass_to =
+      let pages : ArePagesSame f p'.list v = record {
+        events = has.events;
+        live = has.live;
+        hinted = λ q. same_truth (is_hinted v q) (empty_bit p'.list q) (to_bit q) (from_bit q);
+        offered = λ q d of. same_truth (is_offered v d q) _ (offered_bit f p' v valid after has q d of) (from_offer q d of);
+      } in
+      let epoch = come.left.epoch ∙ (same.epoch ∙ sym (epoch_stays_by passing refl 0 steps p.list order.kinds)) in
+      assumption (pages, has, lines, epoch, come.left.names ∙ same.names, come.left.read ∙ same.read)
 
 -- THE ACT
 pub pass_same : (f : Profile) (p p' : Progress) (w : World) → AreEndsStamped p.list → IsTaken f Act.MakesPass p p' w → IsSame f p' (acts_on f Act.MakesPass w)

@@ -12,13 +12,12 @@ use Rattle.pas_steps.proofs.Adding.{triples_append}
 use Rattle.pas_core.specs.{Hints.IsEmptyBacked, Rights.empty_bit}
 use Rattle.pas_core.proofs.OneActor.{legal_earlier}
 use Rattle.pas_scavenger.specs.Passes.{Tried, TriedSteps, TrySteps, with_outcome, outcomes_in, WordRead, pages_set, WordSteps, all_tried}
-use Rattle.pas_scavenger.proofs.Trying.{outcomes_append}
+use Rattle.pas_scavenger.proofs.Examinations.{outcomes_append}
 use Rattle.pas_trace.specs.Acts.{numbers_from}
 use Rattle.pas_answers.specs.Answers.{Progress}
 use Rattle.pas_same_text.specs.{State.World, Passes.outcome_of, Same.IsSame, Acts.IsBetween, Acts.AreEndsStamped}
-use Rattle.pas_same_text.proofs.{StepMarks.OffersPage, StepMarks.once_parts, PassOutcomes.WasOffered, PassOutcomes.pair, PassOutcomes.stays_hinted}
-use Rattle.pas_same_text.proofs.{PassTries.IsTried, PassTries.tried}
-use Rattle.pas_same_text.proofs.PassReadings.{is_on, Spares, words_stay, spare_both, try_spares}
+use Rattle.pas_same_text.proofs.{StepMarks.OffersPage, StepMarks.once_parts, PassTries.IsTried, PassTries.tried}
+use Rattle.pas_same_text.proofs.PassOutcomes.{WasOffered, pair, stays_hinted, is_on, Spares, words_stay, spare_both, try_spares}
 
 -- ---- the numbers below n that pass a test, the greatest first
 abbrev pub falling : (ℕ → Bool) → ℕ → List ℕ
@@ -53,7 +52,7 @@ rising test none (suc n) =
     ap (filter test) (numbers_last n 1)
     ∙ (filter-append test (numbers_from 1 n) ((1 + n) ∷ [])
     ∙ (ap (λ (xs : List ℕ). xs ++ filter test ((1 + n) ∷ [])) (rising test none n)
-    ∙ (ap (λ (t : Bool). reverse (falling test (suc n)) ++ (if t then (1 + n) ∷ [] else [])) (ap test next) ∙ rising_at (falling test (suc n)) (suc n) (1 + n) (test (suc n)) next)))
+    ∙ (ap (λ (t : Bool). reverse (falling test (suc n)) ++ (if t then (1 + n) ∷ [] else [])) (ap test next) ∙ rising_at _ (suc n) (1 + n) (test (suc n)) next)))
 
 -- THE PASS HAS COME past the pages below n by these steps, with these outcomes, the last one first: those that were hinted have the outcomes of the text, the
 -- others were left alone. None of them is hinted but one whose outcome lets it be, which was backed and empty; and none was offered by the steps but one that
@@ -83,12 +82,6 @@ spared_offer q (m ∷ xs) spares (inr h) = spared_offer q xs spares.1 h
 first_outcome : (page : ℕ) (o : Option Outcome) (xs ys : List (ℕ × Outcome)) → with_outcome page o xs ++ ys ≡ with_outcome page o (xs ++ ys)
 first_outcome page None xs ys = refl
 first_outcome page (Some outcome) xs ys = refl
-
-head_is : (x y : ℕ) (xs ys : List ℕ) → x ∷ xs ≡ y ∷ ys → x ≡ y
-head_is x y xs ys e = cc
-
-tail_is : (x y : ℕ) (xs ys : List ℕ) → x ∷ xs ≡ y ∷ ys → xs ≡ ys
-tail_is x y xs ys e = cc
 
 no_first : (x : ℕ) (xs : List ℕ) → x ∷ xs ≡ [] → ⊥
 no_first x xs e = cc
@@ -126,7 +119,7 @@ module _ (f : Profile) (p : Progress) (w : World) (valid : IsValid f) (between :
   past_tried n o piece steps found is tries legal h =
       let before : Whole = triples 0 steps ++ p.list in
       let onto = triples_append 0 piece steps p.list in
-      let x : IsTried f w p.list before n o piece = tried f p w valid between same stamped n epoch now is before (words_stay n 0 steps p.list (h.spared n (omega arith))) o piece tries (subst (Legal f) (sym onto) legal) in
+      let x = tried f p w valid between same stamped n epoch now is before (words_stay n 0 steps p.list (h.spared n (omega arith))) o piece tries (subst (Legal f) (sym onto) legal) in
       let beside : ((q : ℕ) → (n ≡ q → ⊥) → Spares q piece) = λ q ne. try_spares q n (ne_eqb n q ne) f.age epoch o piece tries in
       record {
         found_are = cc;
@@ -169,35 +162,34 @@ module _ (f : Profile) (p : Progress) (w : World) (valid : IsValid f) (between :
       → ((b : ℕ) → b < n → has_bit value b ≡ hinted (64 * word + b)) → IsPast f w p.list (64 * word) base found
       → IsPast f w p.list (64 * word + n) (steps ++ base) (outcomes_in tries ++ found)
   past_tries word value zero [] steps base found pages order legal bits h =
-      past_by f w p.list (64 * word + zero) base (steps ++ base) found found (ap (λ (ms : List Made). ms ++ base) (sym order)) refl (past_at f w p.list (64 * word) (64 * word + zero) base found (omega arith) h)
+      past_by f w p.list _ base _ found found (ap (λ ms. ms ++ base) (sym order)) refl (past_at f w p.list (64 * word) _ base found (omega arith) h)
   past_tries word value zero (t ∷ tries) steps base found pages order legal bits h = absurd (no_first t.page (map (λ t. t.page) tries) pages)
   past_tries word value (suc n) [] steps base found pages order legal bits h = elim (cases_Bool (has_bit value n)) [
     | inl set ↦ absurd (no_first (64 * word + n) (pages_set word value n) (sym (pages ∙ pages_at word value n true set)))
     | inr clear ↦
         let page : ℕ = 64 * word + n in
-        let before : IsPast f w p.list page (steps ++ base) found = past_tries word value n [] steps base found (pages ∙ pages_at word value n false clear) order legal (λ b lt. bits b (omega (arith, lt))) h in
+        let before = past_tries word _ n [] steps base found (pages ∙ pages_at word value n false clear) order legal (λ b lt. bits b (omega (arith, lt))) h in
         past_at f w p.list (suc page) (64 * word + suc n) (steps ++ base) found (omega arith) (past_other page (steps ++ base) found (sym (bits n (omega arith)) ∙ clear) before)
   ]
   past_tries word value (suc n) (t ∷ earlier) steps base found pages order legal bits h = elim (cases_Bool (has_bit value n)) [
     | inl set ↦
         let page : ℕ = 64 * word + n in
         let all : t.page ∷ map (λ t. t.page) earlier ≡ page ∷ pages_set word value n = pages ∙ pages_at word value n true set in
-        let here : t.page ≡ page = head_is t.page page (map (λ t. t.page) earlier) (pages_set word value n) all in
-        let fewer : map (λ t. t.page) earlier ≡ pages_set word value n = tail_is t.page page (map (λ t. t.page) earlier) (pages_set word value n) all in
+        let here : t.page ≡ page = cc all in
         let rest : List Made = order.1 ++ base in
         let pairs : List (ℕ × Outcome) = outcomes_in earlier ++ found in
         let cut : steps ++ base ≡ order.0 ++ rest = ap (λ (ms : List Made). ms ++ base) order.4 ∙ append_assoc order.0 order.1 base in
         let whole : Legal f (triples 0 (order.0 ++ rest) ++ p.list) = subst (λ (ms : List Made). Legal f (triples 0 ms ++ p.list)) cut legal in
-        let before : IsPast f w p.list page rest pairs = past_tries word value n earlier order.1 base found fewer order.3 (legal_earlier f 0 order.0 rest p.list whole) (λ b lt. bits b (omega (arith, lt))) h in
+        let before = past_tries word value n _ _ base found (cc all) order.3 (legal_earlier f 0 order.0 rest p.list whole) (λ b lt. bits b (omega (arith, lt))) h in
         let tries : TrySteps f.age epoch page t.outcome order.0 = subst (λ (q : ℕ). TrySteps f.age epoch q t.outcome order.0) here order.2 in
-        let done : IsPast f w p.list (suc page) (order.0 ++ rest) (with_outcome page t.outcome pairs) = past_tried page t.outcome order.0 rest pairs (sym (bits n (omega arith)) ∙ set) tries whole before in
-        let told_are : outcomes_in (t ∷ earlier) ++ found ≡ with_outcome page t.outcome pairs = first_outcome t.page t.outcome (outcomes_in earlier) found ∙ ap (λ (q : ℕ). with_outcome q t.outcome pairs) here in
+        let done = past_tried page t.outcome order.0 rest pairs (sym (bits n (omega arith)) ∙ set) tries whole before in
+        let told_are = first_outcome t.page t.outcome (outcomes_in earlier) found ∙ ap (λ (q : ℕ). with_outcome q t.outcome pairs) here in
         past_at f w p.list (suc page) (64 * word + suc n) (steps ++ base) (outcomes_in (t ∷ earlier) ++ found) (omega arith)
-        (past_by f w p.list (suc page) (order.0 ++ rest) (steps ++ base) (with_outcome page t.outcome pairs) (outcomes_in (t ∷ earlier) ++ found) (sym cut) (sym told_are) done)
+        (past_by f w p.list (suc page) (order.0 ++ rest) (steps ++ base) (with_outcome page t.outcome pairs) _ (sym cut) (sym told_are) done)
     | inr clear ↦
         let page : ℕ = 64 * word + n in
         let pairs : List (ℕ × Outcome) = outcomes_in (t ∷ earlier) ++ found in
-        let before : IsPast f w p.list page (steps ++ base) pairs = past_tries word value n (t ∷ earlier) steps base found (pages ∙ pages_at word value n false clear) order legal (λ b lt. bits b (omega (arith, lt))) h in
+        let before = past_tries word _ n (t ∷ earlier) steps base found (pages ∙ pages_at word value n false clear) order legal (λ b lt. bits b (omega (arith, lt))) h in
         past_at f w p.list (suc page) (64 * word + suc n) (steps ++ base) pairs (omega arith) (past_other page (steps ++ base) pairs (sym (bits n (omega arith)) ∙ clear) before)
   ]
 
@@ -209,31 +201,26 @@ module _ (f : Profile) (p : Progress) (w : World) (valid : IsValid f) (between :
   past_words zero (r ∷ words) steps base numbers order legal h = absurd (no_first r.number (map (λ r. r.number) words) numbers)
   past_words (suc n) [] steps base numbers order legal h = absurd (no_first n (numbers_below n) (sym numbers))
   past_words (suc n) (r ∷ words) steps base numbers order legal h =
-      let here : r.number ≡ n = head_is r.number n (map (λ r. r.number) words) (numbers_below n) numbers in
-      let fewer : map (λ r. r.number) words ≡ numbers_below n = tail_is r.number n (map (λ r. r.number) words) (numbers_below n) numbers in
+      let here : r.number ≡ n = cc numbers in
       let look : Made = made (Look (Word.Empty n)) r.value in
       let read : WordSteps f.age epoch r order.0 = order.2 in
       let rest : List Made = order.1 ++ base in
       let pairs : List (ℕ × Outcome) = outcomes_in (all_tried words) in
       let piece : order.0 ≡ read.after ++ (look ∷ []) = read.steps_are ∙ ap (λ (x : ℕ). read.after ++ (made (Look (Word.Empty x)) r.value ∷ [])) here in
       let cut : steps ++ base ≡ read.after ++ (look ∷ rest) =
-      ap (λ (ms : List Made). ms ++ base) (order.4 ∙ ap (λ (ms : List Made). ms ++ order.1) piece) ∙ (append_assoc (read.after ++ (look ∷ [])) order.1 base ∙ append_assoc read.after (look ∷ []) rest) in
+      ap (λ ms. ms ++ base) (order.4 ∙ ap (λ ms. ms ++ order.1) piece) ∙ (append_assoc _ order.1 base ∙ append_assoc read.after (look ∷ []) rest) in
       let whole : Legal f (triples 0 (read.after ++ (look ∷ rest)) ++ p.list) = subst (λ (ms : List Made). Legal f (triples 0 ms ++ p.list)) cut legal in
       let begun : Legal f (triples 0 (look ∷ rest) ++ p.list) = legal_earlier f 0 read.after (look ∷ rest) p.list whole in
-      let before : IsPast f w p.list (64 * n) rest pairs = past_words n words order.1 base fewer order.3 begun.1 h in
+      let before : IsPast f w p.list (64 * n) rest pairs = past_words n words order.1 base (cc numbers) order.3 begun.1 h in
       let bits : ((b : ℕ) → b < 64 → has_bit r.value b ≡ hinted (64 * n + b)) = λ b lt. value_bit n r.value b rest lt begun.0.answer_is (before.spared (64 * n + b) (omega arith)) in
       let pages : map (λ t. t.page) r.tried ≡ pages_set n r.value 64 = read.pages_are ∙ ap (λ (x : ℕ). pages_set x r.value 64) here in
       let done : IsPast f w p.list (64 * n + 64) (read.after ++ (look ∷ rest)) (outcomes_in r.tried ++ pairs) =
       past_tries n r.value 64 r.tried read.after (look ∷ rest) pairs pages read.tries whole bits (past_look (64 * n) n r.value rest pairs before) in
       past_at f w p.list (64 * n + 64) (64 * suc n) (steps ++ base) (outcomes_in (all_tried (r ∷ words))) (omega arith)
-      (past_by f w p.list (64 * n + 64) (read.after ++ (look ∷ rest)) (steps ++ base) (outcomes_in r.tried ++ pairs) (outcomes_in (all_tried (r ∷ words))) (sym cut) (sym (outcomes_append r.tried (all_tried words))) done)
-
-  -- before the first word: the epoch is read, and no page is below 0
-  past_none : IsPast f w p.list 0 (made (Look Word.Epoch) epoch ∷ []) []
-  past_none = search arith
+      (past_by f w p.list (64 * n + 64) (read.after ++ (look ∷ rest)) (steps ++ base) _ _ (sym cut) (sym (outcomes_append r.tried (all_tried words))) done)
 
   -- THE WHOLE PASS
   pub past_all : (words : List WordRead) (read : List Made) → map (λ r. r.number) words ≡ numbers_below (vector_words f.pages)
       → InTurn (WordSteps f.age epoch) words read → Legal f (triples 0 (read ++ (made (Look Word.Epoch) epoch ∷ [])) ++ p.list)
       → IsPast f w p.list (64 * vector_words f.pages) (read ++ (made (Look Word.Epoch) epoch ∷ [])) (outcomes_in (all_tried words))
-  past_all words read numbers order legal = past_words (vector_words f.pages) words read (made (Look Word.Epoch) epoch ∷ []) numbers order legal past_none
+  past_all words read numbers order legal = past_words (vector_words f.pages) words read (made (Look Word.Epoch) epoch ∷ []) numbers order legal (search arith)

@@ -1,16 +1,33 @@
--- FREE WORDS OF A PAGE in the text, whenever all actors are at rest: the lowest word with a grain that isn't free, and the free grains of a word as a number, are those of the replay.
-use Rattle.std.proofs.Common.{◌≡◌, ◌≢◌, ℕ, zero, suc, ◌+◌, ◌-◌, ◌*◌, ◌/◌, ◌%◌, ◌^◌, ◌<◌, ◌≤◌, ◌==◌, Bool, true, false, not, if◌then◌else◌, None, Some, ap, sym}
-use Rattle.std.proofs.Common.{◌∙◌, arith, nat_lt, List, Option, refl, true≢false, eq-eqb, lt-ltb, le-ltb}
-use Rattle.std.proofs.lemmas.{Bool.false_from_ne_true, Nat.mod-pow-add, Nat.Bits.bit_at-lt}
+-- WHAT A PASS READS, where no other actor makes a step, and what it leaves: steps on other pages leave a page's words and its bits of the page vectors, looks change no word,
+-- and before grains are taken the words of a page are those that were looked at.
+use Rattle.std.proofs.Common.{arith, ◌≡◌, ℕ, ◌/◌, ◌%◌, ◌==◌, bit_and, bit_or, Bool, true, false, ◌&&◌, if◌then◌else◌, List, [], ◌∷◌, ◌++◌, Option, None, Some}
+use Rattle.std.proofs.Common.{slice_index, inl, inr, refl, ap, sym, ◌∙◌, subst, w64, ◌≢◌, zero, suc, ◌<◌, ◌≤◌, true≢false, ne_eqb, ◌+◌, ◌-◌, ◌*◌, ◌^◌, not}
+use Rattle.std.proofs.Common.{nat_lt, eq-eqb, lt-ltb, le-ltb}
+use Rattle.std.proofs.lemmas.{Bool.false≢true, Bool.cases_eq, Bool.false_from_ne_true, Nat.mod-pow-add, Nat.Bits.bit_at-lt}
 use Rattle.std.specs.Int.{bit_at}
 use Rattle.pas_bits.specs.Bits.{has_bit}
-use Rattle.pas_bits.proofs.Words.{full_bit}
-use Rattle.pas_profile.specs.{Profiles.IsValid, Profiles.IsPage, Profiles.IsDirectoryOf, Directories.IsKind, Directories.number_of, Directories.deed_word_of}
-use Rattle.pas_profile.specs.declared.{profile.Profile.Profile, word.Word.Word, directory.Directory.Directory, directory.Kind.Kind, event.Event.Event}
-use Rattle.pas_profile.specs.declared.{event.Outcome.Outcome}
-use Rattle.pas_steps.specs.{Lists.word_after, Views.all_ones, Lists.Whole, Views.usable_by_kind}
-use Rattle.pas_steps.proofs.Bits.{all_set}
-use Rattle.pas_core.proofs.{Stamps.words_fit, Deeds.backed_of, Offers.offered_at_rest, Rights.right_in_one_place}
+use Rattle.pas_bits.specs.declared.mask.Mask4.{Mask4}
+use Rattle.pas_bits.proofs.{PageVectors.page_bit-set, PageVectors.page_bit-clear, Words.full_bit}
+use Rattle.pas_profile.specs.{Blocks.grain_of, Layouts.same_word, Directories.number_of, Directories.deed_word_of, Profiles.IsDirectoryOf, Profiles.IsValid}
+use Rattle.pas_profile.specs.{Profiles.IsPage, Directories.IsKind}
+use Rattle.pas_profile.specs.declared.{directory.Directory.Directory, event.Outcome.Outcome, word.Word.Word, profile.Profile.Profile, directory.Kind.Kind}
+use Rattle.pas_profile.specs.declared.{event.Event.Event}
+use Rattle.pas_steps.specs.{Desks.made, Desks.triples, Effects.target, Effects.new_value, Frames.IsReturn, Frames.OnlyReturns, Past.Always, Views.all_ones}
+use Rattle.pas_steps.specs.{Views.usable_by_kind, Lists.Whole, Lists.word_after, Lists.Legal}
+use Rattle.pas_steps.specs.Kinds.{kind_of, is_in, looking, Only, LookFree, Kinds, place_of, apart, LookDeed, LookBacked, Taking, Putting, Claiming, Stamping}
+use Rattle.pas_steps.specs.declared.step.{Made.Made, Step.Step}
+use Rattle.pas_steps.specs.declared.step.Step.TheVariants.{Look, Deed, Back, Take, Put, Give, End, EndSized, TakeRight, Offer, Park, Unpark, Stamp, Hint, Tick}
+use Rattle.pas_steps.specs.declared.step.Step.TheVariants.{Unback, Unhint}
+use Rattle.pas_steps.proofs.{Apart.only_both, Apart.only_within, Apart.in_apart, Past.always_both, Past.always_map, Bits.all_set}
+use Rattle.pas_core.specs.Rights.{empty_bit, eligible_bit, IsUsableFree, IsRightOffered}
+use Rattle.pas_core.proofs.{Deeds.looked, Lives.words_fit, Deeds.backed_of, Offers.offered_at_rest, Rights.right_in_one_place}
+use Rattle.pas_rights.specs.{Looks.looks_until, Looks.looks, Looks.AreUsed, Puts.PutsBelow, Takes.word_take, Takes.takes, Words.ones}
+use Rattle.pas_rights.specs.declared.reading.Used.{Used}
+use Rattle.pas_rights.proofs.Orders.{until_only, leave_returns, return_returns, each_always, looks_only}
+use Rattle.pas_scavenger.specs.{Judgements.used_at, Passes.TrySteps, Puttings.BackSteps, Readings.takes_until}
+use Rattle.pas_scavenger.specs.Pages.{first_looks, AsksSteps, EndsWithout, ExamineSteps}
+use Rattle.pas_scavenger.proofs.Examinations.{taken_on}
+use Rattle.pas_large.proofs.Told.{looks_same}
 use Rattle.pas_answers.specs.Answers.{Progress}
 use Rattle.pas_same_text.specs.{State.World, Same.HasSame, Acts.IsBetween, Same.IsSame, Acts.AreEndsStamped}
 use Rattle.pas_same_text.specs.Pages.{is_free, are_free, is_guarded, is_kept}
@@ -18,17 +35,214 @@ use Rattle.pas_same_text.specs.Passes.{used_word, free_bits, outcome_backed, out
 use Rattle.pas_same_text.proofs.{GivenBack.each_at, GivenBack.each_all, SearchedPages.find_first, SearchedPages.find_none, FreeGrains.nobody_keeps}
 use Rattle.pas_same_text.proofs.{SeatedActs.stamps_told}
 use Rattle.pas_same_text.proofs.RestingPages.{free_at, backed_unguarded, clear_of, bit_tells}
-use Rattle.pas_profile.proofs.ClassFacts.{usable_grains_ge}
+use Rattle.pas_profile.proofs.Sizes.{usable_grains_ge}
 use Rattle.pas_profile.proofs.Codecs.{deed_word_of-positive, read-deed_word_of, directory_from_profile, same_from_deed_word}
 use Rattle.pas_machine.specs.State.{backed_in, epoch_in}
-use Rattle.pas_core.specs.{Good.word_of_backed, Hints.IsEmptyBacked, Rights.eligible_bit, Rights.IsUsableFree, Rights.IsRightOffered}
+use Rattle.pas_core.specs.{Good.word_of_backed, Hints.IsEmptyBacked}
 
+-- ---- on which page a step works
+-- the step may change a word of the page, or its bit of a page vector
+abbrev pub is_on : ℕ → Step → Bool
+is_on page (Look word) = false
+is_on page (Deed q d) = q == page
+is_on page (Back q) = q == page
+is_on page (Take q word mask) = q == page
+is_on page (Put q word mask) = q == page
+is_on page (Give block) = grain_of block.name / 256 == page
+is_on page (End name guess) = grain_of name / 256 == page
+is_on page (EndSized name room) = grain_of name / 256 == page
+is_on page (TakeRight q d) = q == page
+is_on page (Offer q d) = q == page
+is_on page (Park q) = q == page
+is_on page (Unpark q) = q == page
+is_on page (Stamp q) = q == page
+is_on page (Hint q) = q == page
+is_on page (Tick raised) = false
+is_on page (Unback q) = q == page
+is_on page (Unhint q) = q == page
+
+-- none of the steps may
+abbrev pub Spares : ℕ → List Made → Type 0
+Spares page = Always (λ m before. is_on page m.step ≡ false)
+
+-- ---- what they leave
+-- the words of the page, and its offers, are those of the earlier list
+pub record AreWordsKept (page : ℕ) (l l' : Whole) : Type 0 where
+  pub free : (word : ℕ) → word_after l' (Word.Free page word) ≡ word_after l (Word.Free page word)
+  pub backed : word_after l' (Word.Backed page) ≡ word_after l (Word.Backed page)
+  pub stamp : word_after l' (Word.Stamp page) ≡ word_after l (Word.Stamp page)
+  pub deed : word_after l' (Word.Deed page) ≡ word_after l (Word.Deed page)
+  pub offer : (number : ℕ) → eligible_bit l' number page ≡ eligible_bit l number page
+
+-- .. and so is its hint
+pub record IsSpared (page : ℕ) (l l' : Whole) : Type 0 where
+  pub words : AreWordsKept page l l'
+  pub hint : empty_bit l' page ≡ empty_bit l page
+
+backed_kept : (e : ℕ) (s : Step) (page old : ℕ) → is_on page s ≡ false → (if same_word (target s) (Word.Backed page) then new_value e s old else old) ≡ old
+backed_kept e s page old h = search (arith, looked, bit_or)
+
+stamp_kept : (e : ℕ) (s : Step) (page old : ℕ) → is_on page s ≡ false → (if same_word (target s) (Word.Stamp page) then new_value e s old else old) ≡ old
+stamp_kept e s page old h = search (arith, looked)
+
+deed_kept : (e : ℕ) (s : Step) (page old : ℕ) → is_on page s ≡ false → (if same_word (target s) (Word.Deed page) then new_value e s old else old) ≡ old
+deed_kept e s page old h = search (arith, looked)
+
+offer_kept : (e : ℕ) (s : Step) (n page old : ℕ) → is_on page s ≡ false
+    → has_bit (if same_word (target s) (Word.Eligible n (page / 64)) then new_value e s old else old) (page % 64) ≡ has_bit old (page % 64)
+offer_kept e s n page old h = search (arith, looked, page_bit-clear, page_bit-set)
+
+hint_kept : (e : ℕ) (s : Step) (page old : ℕ) → is_on page s ≡ false
+    → has_bit (if same_word (target s) (Word.Empty (page / 64)) then new_value e s old else old) (page % 64) ≡ has_bit old (page % 64)
+hint_kept e s page old h = search (arith, looked, page_bit-set, page_bit-clear)
+
+-- THE PAGE is as it was
+pub words_stay : (page k : ℕ) (xs : List Made) (l : Whole) → Spares page xs → IsSpared page l (triples k xs ++ l)
+words_stay page k [] l spares = record { words = record { free = λ word. refl; backed = refl; stamp = refl; deed = refl; offer = λ number. refl }; hint = refl }
+words_stay page k (m ∷ xs) l spares =
+    let rest = words_stay page k xs l spares.1 in grind (arith, rest, looked, bit_and, w64, bit_or, backed_kept, stamp_kept, deed_kept, offer_kept, hint_kept)
+
+-- ==== WHICH STEPS of a pass spare a page: those by which another page is tried
+pub spare_both : (page : ℕ) (ys xs : List Made) → Spares page ys → Spares page xs → Spares page (ys ++ xs)
+spare_both page ys xs first rest = always_both _ (λ m before. is_on page m.step ≡ false) ys xs (λ m before h. h) first rest
+
+-- looks are on no page
+look_spares : (page : ℕ) (s : Step) → is_in looking (kind_of s) ≡ true → is_on page s ≡ false
+look_spares page s is = search (arith, false≢true)
+
+looks_spare : (page : ℕ) (xs : List Made) → Only looking xs → Spares page xs
+looks_spare page xs = always_map _ (λ m before. is_on page m.step ≡ false) xs (λ m before is. look_spares page m.step is)
+
+-- the first steps of an examination are looks
+pub first_only : (page b : ℕ) (used : Option Used) → Only looking (first_looks page b used)
+first_only page b used = only_both looking _ _ (only_within (LookFree ∷ []) looking (looks_until page used) refl (until_only page used)) (refl, tt)
+
+-- the page that is tried is q
+module _ (page q : ℕ) (other : (q == page) ≡ false) where
+  -- a look is on no page, and any other of these steps on q
+  return_other : (s : Step) → IsReturn q s → is_on page s ≡ false
+  return_other s r = search arith
+
+  returns_spare : (xs : List Made) → OnlyReturns q xs → Spares page xs
+  returns_spare xs = always_map (λ m before. IsReturn q m.step) (λ m before. is_on page m.step ≡ false) xs (λ m before is. return_other m.step is)
+
+  puts_spare : (grains : Mask4) (steps : List Made) → PutsBelow q grains 4 steps → Spares page steps
+  puts_spare grains = search (arith, slice_index)
+
+  back_spares : (d : Directory) (grains : Mask4) (steps : List Made) → BackSteps q d grains steps → Spares page steps
+  back_spares d grains steps h = subst (Spares page) (sym h.steps_are)
+      (spare_both page h.left (h.after ++ h.puts) (returns_spare h.left (leave_returns q d h.left h.leaves))
+      (spare_both page h.after h.puts (returns_spare h.after (return_returns q d h.after h.returns)) (puts_spare grains h.puts h.order)))
+
+  takes_spare : (n : ℕ) → Spares page (takes q ones ones n)
+  takes_spare n = each_always (λ m. is_on page m.step ≡ false) (λ word. word_take q word (ones word) (ones word)) (λ word. (other, tt)) n
+
+  asks_spare : (d : Directory) (got : Bool) (steps : List Made) → AsksSteps q d got steps → Spares page steps
+  asks_spare d got steps h = subst (Spares page) (sym h.steps_are) (other, (refl, looks_spare page (first_looks q h.backed None) (first_only q h.backed None)))
+
+  without_spares : (outcome : Outcome) (steps : List Made) → EndsWithout q outcome steps → Spares page steps
+  without_spares Outcome.Bare steps h = subst (Spares page) (sym h) (refl, tt)
+  without_spares (Outcome.InUse word value) steps h = subst (Spares page) (sym h.3) (looks_spare page (first_looks q h.0 (Some (used_at word value))) (first_only q h.0 (Some (used_at word value))))
+  without_spares Outcome.NotOffered steps h = subst (Spares page) (sym h.4) (other, asks_spare h.0 false h.2 h.3)
+  without_spares outcome steps h = absurd h
+
+  -- the page is judged by looks, and by steps on itself
+  examine_spares : (age epoch : ℕ) (outcome : Outcome) (steps : List Made) → ExamineSteps age epoch q outcome steps → Spares page steps
+  examine_spares age epoch outcome steps (inl h) = without_spares outcome steps h
+  examine_spares age epoch outcome steps (inr h) =
+      let t = h.takes in
+      let rest : List Made = takes_until q t.used ++ h.asked in
+      subst (Spares page) (sym (taken_on age epoch q outcome steps h))
+      (spare_both page t.back (t.after ++ rest) (back_spares h.directory t.grains t.back t.puts)
+      (spare_both page t.after rest (search arith)
+      (spare_both page (takes_until q t.used) h.asked (search (arith, takes_spare)) (asks_spare h.directory true h.asked h.asks))))
+
+  -- The steps of a pass that try one page spare every other page.
+  pub try_spares : (age epoch : ℕ) (o : Option Outcome) (steps : List Made) → TrySteps age epoch q o steps → Spares page steps
+  try_spares age epoch None steps h = subst (Spares page) (sym h.2) (other, tt)
+  try_spares age epoch (Some outcome) steps h = rw h.4 (spare_both page h.2 (made (Unhint q) h.0 ∷ []) (examine_spares age epoch outcome h.2 h.3) (other, tt))
+
+-- ==== LOOKS change no word
+-- a word that steps of some kinds leave as it was
+kept_over : (x : Word) (ks ls : Kinds)
+    → ((e : ℕ) (s : Step) (old : ℕ) → is_in ls (kind_of s) ≡ false → (if same_word (target s) x then new_value e s old else old) ≡ old) → apart ks ls ≡ true
+    → (k : ℕ) (xs : List Made) (l : Whole) → Only ks xs → word_after (triples k xs ++ l) x ≡ word_after l x
+kept_over x ks ls step w k [] l only = refl
+kept_over x ks ls step w k (m ∷ xs) l only =
+    step _ m.step (word_after (triples k xs ++ l) x) (in_apart ks ls (place_of (kind_of m.step)) w only.0) ∙ kept_over x ks ls step w k xs l only.1
+
+-- where none takes or puts grains, free words stay
+pub frees_stay : (ks : Kinds) → apart ks (Taking ∷ Putting ∷ []) ≡ true → (k : ℕ) (xs : List Made) (l : Whole) (page word : ℕ) → Only ks xs
+    → word_after (triples k xs ++ l) (Word.Free page word) ≡ word_after l (Word.Free page word)
+frees_stay ks w k xs l page word = search (arith, kept_over, true≢false)
+
+-- where none stamps a page, stamps stay
+pub stamps_stay : (ks : Kinds) → apart ks (Stamping ∷ []) ≡ true → (k : ℕ) (xs : List Made) (l : Whole) (page : ℕ) → Only ks xs
+    → word_after (triples k xs ++ l) (Word.Stamp page) ≡ word_after l (Word.Stamp page)
+stamps_stay ks w k xs l page = search (arith, kept_over, true≢false)
+
+-- ---- looks at free words
+looks_looking : (page : ℕ) (answers : ℕ → ℕ) (n : ℕ) → Only looking (looks page answers n)
+looks_looking page answers n = only_within (LookFree ∷ []) looking (looks page answers n) refl (looks_only page answers n)
+
+-- what was read of a free word is what it is
+pub looks_told : (f : Profile) (k : ℕ) (l : Whole) (page : ℕ) (answers : ℕ → ℕ) (n word : ℕ) (xs : List Made) → word < n → Only looking xs
+    → Legal f (triples k (looks page answers n ++ xs) ++ l) → word_after l (Word.Free page word) ≡ answers word
+looks_told f k l page answers zero word xs lt only legal = absurd (omega (arith, lt))
+looks_told f k l page answers (suc n) word xs lt only legal = elim (cases_eq word n) [
+  | inl e ↦
+      search (arith, looks_same, only_both, looks_looking)
+  | inr ne ↦ looks_told f k l page answers n word xs (omega (arith, lt, ne)) only legal.1
+]
+
+-- ---- A PAGE IS ASKED FOR: it is backed and all its grains are free, its deed is known, and it is offered or not
+pub record IsAsked (f : Profile) (l : Whole) (page : ℕ) (d : Directory) (got : Bool) : Type 0 where
+  pub backed : word_after l (Word.Backed page) ≢ 0
+  pub full : (word : ℕ) → word < 4 → word_after l (Word.Free page word) ≡ all_ones
+  pub deed : word_after l (Word.Deed page) ≡ deed_word_of d
+  pub of_profile : IsDirectoryOf f d
+  pub offered : eligible_bit l (number_of d) page ≡ got
+
+-- these steps change no word but the page's bit of its directory's vector
+abbrev pub asking : Kinds
+asking = Claiming ∷ LookDeed ∷ LookFree ∷ LookBacked ∷ []
+
+-- The looks that ask about a page, and the claim of it, are of the asking kinds alone.
+pub asks_only : (page : ℕ) (d : Directory) (got : Bool) (steps : List Made) → AsksSteps page d got steps → Only asking steps
+asks_only page d got steps h = subst (Only asking) (sym h.steps_are) (
+  refl,
+  (
+    refl,
+    only_both asking (looks_until page None)
+        (made (Look (Word.Backed page)) h.backed ∷ []) (only_within (LookFree ∷ []) asking (looks_until page None) refl (until_only page None)) (refl, tt),
+  ),
+)
+
+-- What the asking steps of a pass read of a page was so of its words before them.
+pub asks_told : (f : Profile) (k : ℕ) (l : Whole) (page : ℕ) (d : Directory) (got : Bool) (steps : List Made) → AsksSteps page d got steps
+    → Legal f (triples k steps ++ l) → IsAsked f l page d got
+asks_told f k l page d got steps h legal = search (arith, looks_told, looks_same, first_only)
+
+-- ---- THE TAKES: where each free word was all ones, each take reads it so
+-- takes of lower words leave a free word
+lower_takes : (k : ℕ) (l : Whole) (page n word : ℕ) (xs : List Made) → n ≤ word
+    → word_after (triples k (takes page ones ones n ++ xs) ++ l) (Word.Free page word) ≡ word_after (triples k xs ++ l) (Word.Free page word)
+lower_takes k l page zero word xs le = refl
+lower_takes k l page (suc n) word xs le = search (arith, bit_and, w64, ne_eqb, lower_takes k l page n word xs (omega (arith, le)))
+
+-- Takes of a page whose free words are all ones meet no used word.
+pub none_used : (f : Profile) (k : ℕ) (l : Whole) (page : ℕ) (used : Option Used) (xs : List Made) → AreUsed used
+    → ((word : ℕ) → word < 4 → word_after (triples k xs ++ l) (Word.Free page word) ≡ all_ones)
+    → Legal f (triples k (takes_until page used ++ xs) ++ l) → used ≡ None
+none_used f k l page used xs are full legal = search (arith, lower_takes)
+
+-- ==== FREE WORDS OF A PAGE in the text, whenever all actors are at rest: the lowest word with a grain that isn't free, and the free grains of a word as a number, are those of the replay.
 -- ---- a number by its lowest bits
+-- a bit is 0 or 1
 bit_worth : (x m : ℕ) → x < 2 → (if x == 1 then m else 0) ≡ x * m
-bit_worth zero m lt = omega arith
-bit_worth (suc zero) m lt = omega arith
-bit_worth (suc (suc x)) m lt = absurd (omega (arith, lt))
+bit_worth a m lt = search arith
 
+-- Sums of parts are equal where the parts are.
 added : (a b c d : ℕ) → c ≡ b + a → d ≡ c → a + b ≡ d
 added a b c d e g = omega (arith, e, g)
 
@@ -61,7 +275,7 @@ module _ (f : Profile) (p : Progress) (w : World) (valid : IsValid f) (between :
   full_free page word none few full = each_all 64 (64 * word) (is_free w page) (λ b low high.
       let whole : 64 * word + (b - 64 * word) ≡ b = omega (arith, low) in
       let small : b - 64 * word < 64 = omega (arith, low, high) in
-      ap (is_free w page) (sym whole) ∙ (bit_is page word (b - 64 * word) none few small ∙ (ap (λ (n : ℕ). has_bit n (b - 64 * word)) full ∙ full_bit (b - 64 * word) small)))
+      ap (is_free w page) (sym whole) ∙ (bit_is page word _ none few small ∙ (ap (λ (n : ℕ). has_bit n (b - 64 * word)) full ∙ full_bit (b - 64 * word) small)))
 
   -- .. and not all where it isn't
   used_free : (page word : ℕ) → is_guarded w page ≡ false → word < 4 → free_word page word ≢ all_ones → are_free w page (64 * word) 64 ≡ false
@@ -71,19 +285,18 @@ module _ (f : Profile) (p : Progress) (w : World) (valid : IsValid f) (between :
 
   -- THE LOWEST WORD with a grain that isn't free
   used_none : (page : ℕ) → is_guarded w page ≡ false → ((word : ℕ) → word < 4 → free_word page word ≡ all_ones) → used_word w page ≡ None
-  used_none page none full = find_none (λ word. not (are_free w page (64 * word) 64)) 4 0 (λ word low high. ap not (full_free page word none high (full word high)))
+  used_none page none full = find_none (λ word. not (are_free w page (64 * word) 64)) 4 0 (λ word low high. cc (full_free page word none high (full word high)))
 
   -- The first free word that isn't all ones is the used word that the text finds.
   used_first : (page word : ℕ) → is_guarded w page ≡ false → word < 4 → ((v : ℕ) → v < word → free_word page v ≡ all_ones) → free_word page word ≢ all_ones
       → used_word w page ≡ Some word
-  used_first page word none few full used = find_first (λ v. not (are_free w page (64 * v) 64)) 4 0 word (omega arith) (omega (arith, few)) (ap not (used_free page word none few used))
+  used_first page word none few full used = find_first _ 4 0 word (omega arith) (omega (arith, few)) (ap not (used_free page word none few used))
       (λ v low lt. ap not (full_free page v none (omega (arith, lt, few)) (full v lt)))
 
   -- THE VALUE of a word
   value_is : (page word : ℕ) → is_guarded w page ≡ false → word < 4 → free_bits w page word 64 ≡ free_word page word
   value_is page word none few =
-      let fits : free_word page word < 2 ^ 64 = words_fit f p.list valid between.legal (Word.Free page word) in
-      let whole : free_word page word % 2 ^ 64 ≡ free_word page word = omega (arith, fits) in
+      let whole : free_word page word % 2 ^ 64 ≡ free_word page word = omega (arith, (words_fit f p.list valid between.legal (Word.Free page word))) in
       bits_worth w page word (free_word page word) (λ b small. bit_is page word b none few small) 64 (omega arith) ∙ whole
 
 -- ==== THE OUTCOME OF A PAGE in the text, by the words of the replay.
@@ -142,7 +355,7 @@ module _ (f : Profile) (p : Progress) (w : World) (valid : IsValid f) (between :
   -- no guard has a backed page
   unguarded : (page : ℕ) → IsBacked page → is_guarded w page ≡ false
   unguarded page some = backed_unguarded f p w valid between has_same page
-      (ap (λ (es : List Event). backed_in es page) (sym same.pages.events) ∙ was_backed (backed_in w.events page) (word_after p.list (Word.Backed page)) (backed_is page) some)
+      (cc (was_backed (backed_in w.events page) (word_after p.list (Word.Backed page)) (backed_is page) some))
 
   -- A page that is backed and whose free words are all ones is backed and empty.
   pub empty_backed : (page : ℕ) → IsBacked page → IsFull page → IsEmptyBacked p.list page
@@ -167,9 +380,9 @@ module _ (f : Profile) (p : Progress) (w : World) (valid : IsValid f) (between :
       by_kept : (t : Bool) → is_kept w page ≡ t → t ≡ true
       by_kept true e = refl
       by_kept false e =
-          let o : IsRightOffered f p.list page = offered_at_rest f p.list between.legal (clear_of f p w valid between has_same) page 0 0 (omega arith) (λ bare. deed_word_of-positive d (sym deed ∙ bare)) free_grain (nobody_keeps f p w valid between has_same page e) in
-          let is : o.directory ≡ d = same_from_deed_word o.directory d o.of_profile.kind of.kind (sym o.deed ∙ deed) in
-          absurd (true≢false (sym (o.offered (number_of d) ∙ (ap (λ (x : Directory). number_of x == number_of d) is ∙ eq-eqb (number_of d) (number_of d) refl)) ∙ none))
+          let o = offered_at_rest f p.list between.legal (clear_of f p w valid between has_same) page 0 0 (omega arith)
+          (λ bare. deed_word_of-positive d (sym deed ∙ bare)) free_grain (nobody_keeps f p w valid between has_same page e) in
+          absurd (true≢false (sym (o.offered (number_of d) ∙ (ap (λ (x : Directory). number_of x == number_of d) (same_from_deed_word o.directory d o.of_profile.kind of.kind (sym o.deed ∙ deed)) ∙ eq-eqb (number_of d) (number_of d) refl)) ∙ none))
 
   empty_outcome : (page : ℕ) (kept : Bool) → IsBacked page → IsFull page → is_kept w page ≡ kept
       → outcome_of f w page

@@ -1,17 +1,16 @@
 -- WHAT COMES OF A PAGE THAT IS TRIED: its outcome is that of the text, and where that ends its hint, it has none afterwards.
-use Rattle.std.proofs.Common.{◌≡◌, ◌≢◌, ℕ, ◌+◌, ◌/◌, ◌<◌, ◌≤◌, Bool, true, false, if◌then◌else◌, List, [], ◌∷◌, ◌++◌, Option, None, Some, inl, inr, refl, ap}
-use Rattle.std.proofs.Common.{sym, ◌∙◌, subst, arith, true≢false, eq-eqb}
+use Rattle.std.proofs.Common.{◌≡◌, ◌≢◌, ℕ, ◌+◌, ◌/◌, ◌<◌, Bool, true, false, if◌then◌else◌, List, [], ◌∷◌, ◌++◌, Option, None, Some, inl, inr, refl, ap, sym}
+use Rattle.std.proofs.Common.{◌∙◌, subst, arith, true≢false, eq-eqb}
 use Rattle.std.proofs.lemmas.Bool.{false≢true, false_from_ne_true}
 use Rattle.pas_large.proofs.{Told.looks_same, Left.hints_both}
 use Rattle.pas_bits.specs.declared.mask.Mask4.{Mask4}
 use Rattle.pas_bits.proofs.PageVectors.{page_bit-clear}
 use Rattle.pas_profile.specs.{Directories.number_of, Profiles.IsValid, Profiles.IsPage}
 use Rattle.pas_profile.specs.declared.{directory.Directory.Directory, event.Outcome.Outcome, profile.Profile.Profile, word.Word.Word}
-use Rattle.pas_steps.specs.{Desks.made, Desks.triple, Desks.triples, Effects.target, Lists.Whole, Lists.word_after, Lists.Legal, Past.Once, Past.Always}
-use Rattle.pas_steps.specs.{Views.all_ones}
-use Rattle.pas_steps.specs.Kinds.{Kinds, kind_of, place_of, is_in, apart, looking, returning, Only, LookStamp, Taking, Putting, Offering, Hinting, Unbacking}
+use Rattle.pas_steps.specs.{Desks.made, Desks.triple, Desks.triples, Lists.Whole, Lists.word_after, Lists.Legal, Past.Once, Past.Always, Views.all_ones}
+use Rattle.pas_steps.specs.Kinds.{Kinds, kind_of, place_of, apart, looking, returning, Only, LookStamp, Taking, Putting, Offering, Hinting, Unbacking}
 use Rattle.pas_steps.specs.Kinds.{Unhinting}
-use Rattle.pas_steps.specs.declared.step.{Made.Made, Step.Step}
+use Rattle.pas_steps.specs.declared.step.Made.{Made}
 use Rattle.pas_steps.specs.declared.step.Step.TheVariants.{Look, Offer, Hint, Unback, Unhint}
 use Rattle.pas_steps.proofs.{Adding.triples_append, Apart.in_apart, Apart.only_both, Apart.only_within, Calls.returns_are}
 use Rattle.pas_core.specs.{Hints.IsEmptyBacked, Rights.empty_bit, Rights.eligible_bit}
@@ -19,7 +18,7 @@ use Rattle.pas_core.proofs.{OneActor.legal_earlier, Rights.hinted_page}
 use Rattle.pas_rights.specs.Looks.{looks, looks_until, ReadsBacked, HintsEmpty}
 use Rattle.pas_rights.specs.Words.{ones}
 use Rattle.pas_rights.specs.declared.reading.Used.{Used}
-use Rattle.pas_rights.proofs.{Hints.leave_due, Orders.leave_returns, Orders.return_returns, Puts.puts_kinds}
+use Rattle.pas_rights.proofs.{Puts.leave_due, Orders.leave_returns, Orders.return_returns, Puts.puts_kinds}
 use Rattle.pas_scavenger.specs.{Judgements.used_at, Judgements.Judged, Passes.TrySteps, Puttings.BackSteps, Readings.takes_until}
 use Rattle.pas_scavenger.specs.Pages.{first_looks, EndsWithout, EndsWith, ExamineSteps}
 use Rattle.pas_scavenger.proofs.Examinations.{takes_are, taken_on}
@@ -27,19 +26,19 @@ use Rattle.pas_answers.specs.Answers.{Progress}
 use Rattle.pas_same_text.specs.{State.World, Passes.outcome_of, Same.IsSame, Acts.IsBetween, Acts.AreEndsStamped}
 use Rattle.pas_same_text.proofs.StepMarks.{HintsPage, OffersPage, WasRead, backed_stays, hinted_by, hint_read, hints_none, hints_of, once_parts}
 use Rattle.pas_same_text.proofs.PassOutcomes.{WasOffered, stays_hinted, bare_outcome, used_outcome, kept_outcome, young_outcome, old_outcome, empty_backed}
-use Rattle.pas_same_text.proofs.PassReadings.{frees_stay, stamps_stay, looks_told, IsAsked, asking, asks_only, asks_told, none_used, AreWordsKept, IsSpared}
-use Rattle.pas_same_text.proofs.PassReadings.{first_only}
+use Rattle.pas_same_text.proofs.PassOutcomes.{frees_stay, stamps_stay, looks_told, IsAsked, asking, asks_only, asks_told, none_used, AreWordsKept, IsSpared}
+use Rattle.pas_same_text.proofs.PassOutcomes.{first_only}
 use Rattle.pas_same_text.proofs.EntrySteps.{return_hints}
 
 -- ---- steps of some kinds hint no page, or offer none
 none_hints : (ks : Kinds) → apart ks (Hinting ∷ []) ≡ true → (page : ℕ) (xs : List Made) → Only ks xs → HintsPage page xs → ⊥
 none_hints ks w page [] only h = h
-none_hints ks w page (m ∷ xs) only (inl h) = true≢false (sym (ap (λ (s : Step). is_in (Hinting ∷ []) (kind_of s)) h) ∙ in_apart ks (Hinting ∷ []) (place_of (kind_of m.step)) w only.0)
+none_hints ks w page (m ∷ xs) only (inl h) = true≢false (cc (in_apart ks (Hinting ∷ []) (place_of (kind_of m.step)) w only.0))
 none_hints ks w page (m ∷ xs) only (inr h) = none_hints ks w page xs only.1 h
 
 none_offers : (ks : Kinds) → apart ks (Offering ∷ []) ≡ true → (page : ℕ) (xs : List Made) → Only ks xs → OffersPage page xs → ⊥
 none_offers ks w page [] only h = h
-none_offers ks w page (m ∷ xs) only (inl h) = true≢false (sym (ap (λ (s : Step). is_in (Offering ∷ []) (kind_of s)) h.1) ∙ in_apart ks (Offering ∷ []) (place_of (kind_of m.step)) w only.0)
+none_offers ks w page (m ∷ xs) only (inl h) = true≢false (cc (in_apart ks (Offering ∷ []) (place_of (kind_of m.step)) w only.0))
 none_offers ks w page (m ∷ xs) only (inr h) = none_offers ks w page xs only.1 h
 
 -- ---- what is put back: it hints no page but one that it read as backed
@@ -49,7 +48,8 @@ giving = Putting ∷ returning
 back_only : (page : ℕ) (d : Directory) (grains : Mask4) (steps : List Made) → BackSteps page d grains steps → Only giving steps
 back_only page d grains steps h = subst (Only giving) (sym h.steps_are)
     (only_both giving h.left (h.after ++ h.puts) (only_within returning giving h.left refl (returns_are page h.left (leave_returns page d h.left h.leaves)))
-    (only_both giving h.after h.puts (only_within returning giving h.after refl (returns_are page h.after (return_returns page d h.after h.returns))) (only_within (Putting ∷ []) giving h.puts refl (puts_kinds page grains 4 h.puts h.order))))
+    (only_both giving h.after h.puts (only_within returning giving h.after refl (returns_are page h.after (return_returns page d h.after h.returns)))
+    (only_within (Putting ∷ []) giving h.puts refl (puts_kinds page grains 4 h.puts h.order))))
 
 back_hints : (page : ℕ) (d : Directory) (grains : Mask4) (steps : List Made) → BackSteps page d grains steps → Always HintsEmpty steps
 back_hints page d grains steps h = subst (Always HintsEmpty) (sym h.steps_are)
@@ -62,9 +62,8 @@ not_read : (f : Profile) (k : ℕ) (l : Whole) (page : ℕ) (xs : List Made) →
 not_read f k l page [] legal only none h = h
 not_read f k l page (m ∷ xs) legal only none (inr h) = not_read f k l page xs legal.1 only.1 none h
 not_read f k l page (m ∷ xs) legal only none (inl h) =
-    let at : m.answer ≡ word_after (triples k xs ++ l) (Word.Backed page) = legal.0.answer_is ∙ ap (λ (s : Step). word_after (triples k xs ++ l) (target s)) h.0 in
-    let bad : 1 ≡ 0 = sym h.1 ∙ (at ∙ (backed_stays giving refl k xs l page only.1 ∙ none)) in
-    omega (arith, bad)
+    let at : m.answer ≡ word_after (triples k xs ++ l) (Word.Backed page) = cc in
+    omega (arith, (sym h.1 ∙ (at ∙ (backed_stays giving refl k xs l page only.1 ∙ none))))
 
 -- ==== AN EXAMINATION
 -- the page's outcome is this one; where the page stays hinted it is backed and empty, and where it doesn't the steps hint it not; and they offer it only if it was offered
@@ -94,7 +93,7 @@ module _ (f : Profile) (p : Progress) (w : World) (valid : IsValid f) (between :
         let whole : Legal f (triples 0 (first_looks page h.0 used) ++ before) = subst (λ (ms : List Made). Legal f (triples 0 ms ++ before)) h.3 legal in
         let begun : Legal f (triples 0 (back ∷ []) ++ before) = legal_earlier f 0 (looks_until page used) (back ∷ []) before whole in
         let all : Only looking (first_looks page h.0 used) = first_only page h.0 used in
-        let read : value ≡ word_after p.list (Word.Free page word) = whole.0.answer_is ∙ (looks_same 0 (looks page ones word ++ (back ∷ [])) before (Word.Free page word) all.1 ∙ kept.free word) in
+        let read = whole.0.answer_is ∙ (looks_same 0 (looks page ones word ++ (back ∷ [])) before (Word.Free page word) all.1 ∙ kept.free word) in
         let only : Only looking steps = subst (Only looking) (sym h.3) all in
         record {
           is = used_outcome f p w valid between same stamped page word h.2.within (λ none. h.1 (begun.0.answer_is ∙ (kept.backed ∙ none)))
@@ -105,19 +104,14 @@ module _ (f : Profile) (p : Progress) (w : World) (valid : IsValid f) (between :
           offers = λ offer. absurd (none_offers looking refl page steps only offer);
         }
     without_right Outcome.NotOffered steps h legal =
-        let d : Directory = h.0 in
-        let whole : Legal f (triples 0 (made (Hint page) h.1 ∷ h.2) ++ before) = subst (λ (ms : List Made). Legal f (triples 0 ms ++ before)) h.4 legal in
-        let a : IsAsked f before page d false = asks_told f 0 before page d false h.2 h.3 whole.1 in
-        let some : word_after p.list (Word.Backed page) ≢ 0 = λ none. a.backed (kept.backed ∙ none) in
-        let full : ((word : ℕ) → word < 4 → word_after p.list (Word.Free page word) ≡ all_ones) = λ word small. sym (kept.free word) ∙ a.full word small in
-        let only : Only (Hinting ∷ asking) steps = subst (Only (Hinting ∷ asking)) (sym h.4) (refl, only_within asking (Hinting ∷ asking) h.2 refl (asks_only page d false h.2 h.3)) in
-        search (arith, kept_outcome, empty_backed, true≢false, none_offers)
+        search (arith, asks_told, only_within, asks_only, kept_outcome, empty_backed, true≢false, none_offers)
     without_right o steps h legal = absurd h
 
     -- ---- with the right
     module _ (d : Directory) (used : Option Used) (grains : Mask4) (back after rest : List Made) (none : used ≡ None) (asked : IsAsked f before page d true)
         (only : Only resting rest) (puts : BackSteps page d grains back)
         (legal : Legal f (triples 0 (back ++ (after ++ rest)) ++ before)) where
+      -- The list in the midst of the examination is legal.
       middle : Legal f (triples 0 (after ++ rest) ++ before)
       middle = legal_earlier f 0 back (after ++ rest) before legal
 
@@ -140,34 +134,32 @@ module _ (f : Profile) (p : Progress) (w : World) (valid : IsValid f) (between :
         | inl late ↦
             let low : Whole = triples 0 (made (Look (Word.Stamp page)) stamp ∷ made (Look (Word.Backed page)) b ∷ rest) ++ before in
             let zero : word_after (triples 0 (after ++ rest) ++ before) (Word.Backed page) ≡ 0 =
-            ap (λ (ms : List Made). word_after (triples 0 (ms ++ rest) ++ before) (Word.Backed page)) is ∙ ap (λ (t : Bool). if t then 0 else word_after low (Word.Backed page)) (eq-eqb page page refl) in
-            let upper : Legal f (triples 0 back ++ (triples 0 (after ++ rest) ++ before)) = subst (Legal f) (sym (triples_append 0 back (after ++ rest) before)) legal in
+            cc (eq-eqb page page refl) in
             let read : WasRead page back = hint_read page back (back_hints page d grains back puts) late in
-            not_read f 0 (triples 0 (after ++ rest) ++ before) page back upper (back_only page d grains back puts) zero read.backed
+            not_read f 0 _ page back (subst (Legal f) (sym (triples_append 0 back (after ++ rest) before)) legal) (back_only page d grains back puts) zero read.backed
         | inr early ↦ none_hints judging refl page (after ++ rest) (only_both judging after rest (subst (Only judging) (sym is) (refl, (refl, (refl, tt)))) (only_within resting judging rest refl only)) early
       ]
 
+      -- What was judged of the page is what the text says of it.
       judged : (o : Outcome) → Judged f.age epoch page used o after → IsExamined f w p.list page o (back ++ (after ++ rest))
       judged (Outcome.InUse word value) h = absurd (let bad : None ≡ Some (used_at word value) = sym none ∙ h.0 in cc)
       judged Outcome.Bare h =
-          let look : Legal f (triples 0 (made (Look (Word.Backed page)) 0 ∷ rest) ++ before) = subst (λ (ms : List Made). Legal f (triples 0 (ms ++ rest) ++ before)) h.1 middle in
+          let look : Legal f (triples 0 (made (Look (Word.Backed page)) 0 ∷ rest) ++ before) = rw h.1 at middle in
           absurd (asked.backed (sym (look.0.answer_is ∙ backed_stays resting refl 0 rest before page only)))
       judged (Outcome.Young stamp) h =
-          let look : Legal f (triples 0 (made (Look (Word.Stamp page)) stamp ∷ made (Look (Word.Backed page)) h.0 ∷ rest) ++ before) = subst (λ (ms : List Made). Legal f (triples 0 (ms ++ rest) ++ before)) h.4 middle in
-          let read : stamp ≡ word_after p.list (Word.Stamp page) = look.0.answer_is ∙ (stamps_stay resting refl 0 (made (Look (Word.Backed page)) h.0 ∷ rest) before page (refl, only) ∙ kept.stamp) in
-          let young : epoch < stamp + f.age = h.3 in
+          let look : Legal f (triples 0 (made (Look (Word.Stamp page)) stamp ∷ made (Look (Word.Backed page)) h.0 ∷ rest) ++ before) = rw h.4 at middle in
+          let read = look.0.answer_is ∙ (stamps_stay resting refl 0 (made (Look (Word.Backed page)) h.0 ∷ rest) before page (refl, only) ∙ kept.stamp) in
           record {
-            is = young_outcome f p w valid between same stamped page d of some_backed all_full asked.of_profile on_offer (omega (arith, young, now, read)) ∙ ap (λ (n : ℕ). Outcome.Young n) (sym read);
+            is = young_outcome f p w valid between same stamped page d of some_backed all_full asked.of_profile on_offer (omega (arith, h.3, now, read)) ∙ ap (λ (n : ℕ). Outcome.Young n) (sym read);
             idle = λ stays. empty_backed f p w valid between same stamped page some_backed all_full;
             hints = λ gone. absurd (true≢false gone);
             offers = λ offer. was_offered;
           }
       judged Outcome.Unbacked h =
-          let look : Legal f (triples 0 (made (Unback page) h.2 ∷ made (Look (Word.Stamp page)) h.1 ∷ made (Look (Word.Backed page)) h.0 ∷ rest) ++ before) = subst (λ (ms : List Made). Legal f (triples 0 (ms ++ rest) ++ before)) h.6 middle in
-          let read : h.1 ≡ word_after p.list (Word.Stamp page) = look.1.0.answer_is ∙ (stamps_stay resting refl 0 (made (Look (Word.Backed page)) h.0 ∷ rest) before page (refl, only) ∙ kept.stamp) in
-          let old : h.1 + f.age ≤ epoch = h.5 in
+          let look = subst (λ (ms : List Made). Legal f (triples 0 (ms ++ rest) ++ before)) h.6 middle in
+          let read = look.1.0.answer_is ∙ (stamps_stay resting refl 0 (made (Look (Word.Backed page)) h.0 ∷ rest) before page (refl, only) ∙ kept.stamp) in
           record {
-            is = old_outcome f p w valid between same stamped page d of some_backed all_full asked.of_profile on_offer (omega (arith, old, now, read));
+            is = old_outcome f p w valid between same stamped page d of some_backed all_full asked.of_profile on_offer (omega (arith, h.5, now, read));
             idle = λ stays. absurd (false≢true stays);
             hints = λ gone hint. unbacked_hint h.0 h.1 h.2 h.6 hint;
             offers = λ offer. was_offered;
@@ -182,12 +174,13 @@ module _ (f : Profile) (p : Progress) (w : World) (valid : IsValid f) (between :
         let whole : steps ≡ t.back ++ (t.after ++ rest) = taken_on f.age epoch page o steps h in
         let all : Legal f (triples 0 (t.back ++ (t.after ++ rest)) ++ before) = subst (λ (ms : List Made). Legal f (triples 0 ms ++ before)) whole legal in
         let low : Legal f (triples 0 rest ++ before) = legal_earlier f 0 t.after rest before (legal_earlier f 0 t.back (t.after ++ rest) before all) in
-        let asked : IsAsked f before page h.directory true = asks_told f 0 before page h.directory true h.asked h.asks (legal_earlier f 0 (takes_until page t.used) h.asked before low) in
+        let asked = asks_told f 0 before page h.directory true h.asked h.asks (legal_earlier f 0 (takes_until page t.used) h.asked before low) in
         let asks : Only asking h.asked = asks_only page h.directory true h.asked h.asks in
-        let none : t.used ≡ None = none_used f 0 before page t.used h.asked t.are (λ word small. frees_stay asking refl 0 h.asked before page word asks ∙ asked.full word small) low in
-        let only : Only resting rest = only_both resting (takes_until page t.used) h.asked (only_within (Taking ∷ []) resting (takes_until page t.used) refl (takes_are page t.used)) (only_within asking resting h.asked refl asks) in
+        let none = none_used f 0 before page t.used _ t.are (λ word small. frees_stay asking refl 0 _ before page word asks ∙ asked.full word small) low in
+        let only = only_both resting _ h.asked (only_within (Taking ∷ []) resting _ refl (takes_are page t.used)) (only_within asking resting h.asked refl asks) in
         subst (IsExamined f w p.list page o) (sym whole) (judged h.directory t.used t.grains t.back t.after rest none asked only t.puts all o t.judged)
 
+    -- A page that was examined is one that the text examines.
     examined : (o : Outcome) (steps : List Made) → ExamineSteps f.age epoch page o steps → Legal f (triples 0 steps ++ before)
         → IsExamined f w p.list page o steps
     examined o steps (inl h) legal = without_right o steps h legal
@@ -204,7 +197,7 @@ pub record IsTried (f : Profile) (w : World) (l before : Whole) (page : ℕ) (o 
 -- the bit is clear after the unhint
 cleared : (page a : ℕ) (before : Whole) → empty_bit (triple 0 (made (Unhint page) a) ∷ before) page ≡ false
 cleared page a before =
-    page_bit-clear page page (word_after before (Word.Empty (page / 64))) true ∙ ap (λ (t : Bool). if t then false else empty_bit before page) (eq-eqb page page refl)
+    page_bit-clear page page _ true ∙ ap (λ (t : Bool). if t then false else empty_bit before page) (eq-eqb page page refl)
 
 module _ (f : Profile) (p : Progress) (w : World) (valid : IsValid f) (between : IsBetween f p) (same : IsSame f p w) (stamped : AreEndsStamped p.list)
     (page epoch : ℕ) (now : epoch ≡ w.epoch) (hinted : empty_bit p.list page ≡ true)
@@ -217,9 +210,8 @@ module _ (f : Profile) (p : Progress) (w : World) (valid : IsValid f) (between :
       let un : Made = made (Unhint page) h.0 in
       let start : Whole = triple 0 un ∷ before in
       let onto = triples_append 0 h.2 (un ∷ []) before in
-      let whole : Legal f (triples 0 (h.2 ++ (un ∷ [])) ++ before) = subst (λ (ms : List Made). Legal f (triples 0 ms ++ before)) h.4 legal in
-      let upper : Legal f (triples 0 h.2 ++ start) = subst (Legal f) (sym onto) whole in
-      let kept : AreWordsKept page p.list start = record { free = spared.words.free; backed = spared.words.backed; stamp = spared.words.stamp; deed = spared.words.deed; offer = spared.words.offer } in
+      let upper : Legal f (triples 0 h.2 ++ start) = subst (Legal f) (sym onto) (subst (λ (ms : List Made). Legal f (triples 0 ms ++ before)) h.4 legal) in
+      let kept : AreWordsKept page p.list start = assumption in
       let of : IsPage f page = hinted_page f p.list between.legal page hinted in
       let x : IsExamined f w p.list page outcome h.2 = examined f p w valid between same stamped page epoch of now start kept outcome h.2 h.3 upper in
       let told : stays_hinted outcome ≡ stays_hinted (outcome_of f w page) = ap stays_hinted (sym x.is) in

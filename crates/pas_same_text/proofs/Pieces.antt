@@ -3,11 +3,11 @@
 use Rattle.std.proofs.Common.{ℕ, zero, suc, List, [], ◌∷◌, inl, inr, sym, subst, arith, ◌≡◌, ◌/◌, ◌%◌, true, ◌++◌, ap, ◌∙◌, ◌+◌, ◌*◌, ◌<◌, Bool, refl}
 use Rattle.std.proofs.Common.{append_assoc, false, Some, ◌⊎◌, true≢false, ◌==◌}
 use Rattle.std.specs.List.{AllByRecursion, list_any}
-use Rattle.pas_profile.specs.declared.{directory.Directory.Directory, word.Word.Word, profile.Profile.Profile, event.Event.Event}
+use Rattle.pas_profile.specs.declared.{directory.Directory.Directory, word.Word.Word, profile.Profile.Profile}
 use Rattle.pas_steps.specs.{InTurn.InTurn, Past.Always, Past.Once, Desks.triples, Views.has_right, Views.holds, Evidence.GetsHere}
 use Rattle.pas_steps.specs.declared.step.{Made.Made, Step.TheVariants.Hint, Step.TheVariants.Offer}
 use Rattle.pas_rights.specs.{Leaves.LeaveSteps, PutsBack.GivesDuly}
-use Rattle.pas_rights.proofs.{Hints.due_both, Hints.leave_due, Orders.leave_returns}
+use Rattle.pas_rights.proofs.{Puts.due_both, Puts.leave_due, Orders.leave_returns}
 use Rattle.pas_scan.specs.{Runs.IsInRun, Usable.MakesNoDeedHere}
 use Rattle.pas_large.specs.Gives.{pages_from}
 use Rattle.pas_same_text.proofs.StepMarks.{IsMarked, marked_parts, returns_marked, HintsPage, once_parts, none_marked, marked_left, hint_marks, offer_marks}
@@ -29,7 +29,7 @@ use Rattle.pas_steps.proofs.{Adding.triples_append, Apart.only_both, Apart.only_
 use Rattle.pas_core.specs.{Rights.eligible_bit, Rights.empty_bit, Good.IsPartOf}
 use Rattle.pas_core.proofs.{OneActor.legal_before, OneActor.LendsNone, OneActor.legal_earlier, Rights.right_not_offered, Rights.right_in_one_place}
 use Rattle.pas_core.proofs.{Offers.hinted_at_rest}
-use Rattle.pas_large.proofs.InOrder.{only_leaves}
+use Rattle.pas_large.proofs.Left.{only_leaves}
 use Rattle.pas_machine.specs.State.{Live, live_in, deed_in}
 use Rattle.pas_cache.specs.{Locals.any_covers, Kinds.allocating}
 use Rattle.pas_guard.specs.Books.{is_outer}
@@ -55,7 +55,7 @@ all_marked d P (x ∷ ps) q left all turn h = let ih = all_marked d P ps q turn.
 pub all_in_run : (first n : ℕ) → AllByRecursion (IsInRun first n) (pages_from first n)
 all_in_run first zero = tt
 all_in_run first (suc n) =
-    ((omega arith, omega arith), all_map (IsInRun first n) (IsInRun first (suc n)) (pages_from first n) (λ x here. (here.0, omega (arith, here.1))) (all_in_run first n))
+    ((omega arith, omega arith), all_map (IsInRun first n) _ (pages_from first n) (λ x here. (here.0, omega (arith, here.1))) (all_in_run first n))
 
 -- hints rest on looks
 left_due : (d : Directory) (ps : List ℕ) (left : List Made) → LeftAll d ps left → Always GivesDuly left
@@ -168,8 +168,8 @@ module _ {f : Profile} {k : ℕ} {d : Directory} {q : Progress} {mid : Whole} {r
   -- A page of them whose bit is set then is offered in the text: a look of the leave read room.
   pub left_offered : (v : World) → HasSame f q v → IsKind d.kind → (x : ℕ) (e : Directory) → mine x ≡ true → IsDirectoryOf f e
       → eligible_bit q.list (number_of e) x ≡ true → is_offered v e x ≡ true
-  left_offered v now kind x e here of bit = elim (offered_by k rest mid (number_of e) x (ap (λ (m : Whole). eligible_bit m (number_of e) x) (sym h.list) ∙ bit)) [
-    | inl still ↦ absurd (false≢true (cc (right_not_offered f mid (legal_before f k rest mid (subst (Legal f) h.list there.legal)) k (number_of e) x (h.right x here))))
+  left_offered v now kind x e here of bit = elim (offered_by k rest mid _ x (ap (λ (m : Whole). eligible_bit m (number_of e) x) (sym h.list) ∙ bit)) [
+    | inl still ↦ absurd (false≢true (cc (right_not_offered f mid (legal_before f k rest mid (rw h.list at there.legal)) k (number_of e) x (h.right x here))))
     | inr offers ↦
         let tells = bit_tells f q v valid there now x e of (right_in_one_place f q.list there.legal x) bit in
         let same : e ≡ d = same_from_deed_word e d of.kind kind (cc (word_now f q v valid there now x e (deed_now f q v valid there now x e of tells.0), h.deeds x here)) in
@@ -197,6 +197,7 @@ module _ {f : Profile} {p q : Progress} {used : ℕ → Bool} (valid : IsValid f
       unheld : (j : ℕ) → holds (part j p.list) g ≡ true → ⊥
       unheld j held = false≢true (sym (free_unheld f p.list valid before.legal g free j) ∙ held)
 
+      -- Nobody holds the grain.
       nobody : (j : ℕ) → holds (part j q.list) g ≡ true → ⊥
       nobody j held = elim (held_by f q after j g held) [
         | inl cached ↦ elim (uses.cached j g cached) [
@@ -209,6 +210,7 @@ module _ {f : Profile} {p q : Progress} {used : ℕ → Bool} (valid : IsValid f
         ]
       ]
 
+      -- No live block covers it.
       none : (a : ℕ) (b : Live) → live_in (visible q.list) a ≡ Some b → IsPartOf g a b → ⊥
       none a b lives of = elim (uses.live a b lives) [
         | inl was ↦ free_uncovered f p.list valid before.legal g free a b was of
@@ -218,17 +220,13 @@ module _ {f : Profile} {p q : Progress} {used : ℕ → Bool} (valid : IsValid f
   module _ {w v : World} (old : HasSame f p w) (now : HasSame f q v) where
     -- Another page has no guard where it had none.
     unguarded_kept : (x : ℕ) → used x ≡ false → is_guarded w x ≡ false → is_guarded v x ≡ false
-    unguarded_kept x out none = unguarded_by q.books v now.guards x (λ j. false_from_ne_true (is_outer (q.books j) x) (λ h. elim (uses.outer j x h) [
-      | inl was ↦ true≢false (sym was ∙ not_outer p.books w old.guards j x none)
-      | inr here ↦ false≢true (sym out ∙ here)
-    ]))
+    unguarded_kept x out none = search (arith, unguarded_by, false_from_ne_true, true≢false, not_outer, false≢true)
 
     -- Another page that was open is so still.
     open_kept : (d : Directory) (x : ℕ) → used x ≡ false → is_open w d x ≡ true → is_open v d x ≡ true
     open_kept d x out h =
-        let none : is_guarded w x ≡ false = open_unguarded w d x h in
         open_grows w v d x (unguarded_kept x out) (λ b small free. bit_free f q v valid after now x b small
-        (free_kept (256 * x + b) (ap used (on_page x b small) ∙ out) (sym (free_unless f p w valid before old x b small none) ∙ free))) h
+        (free_kept (256 * x + b) (ap used (on_page x b small) ∙ out) (sym (free_unless f p w valid before old x b small (open_unguarded w d x h)) ∙ free))) h
 
 -- ==== A PIECE OF STEPS OF ONE ACTOR that searches, gives and leaves pages, from one state where all actors are at rest to another: each page is hinted and offered in the text
 -- exactly where its bits are set. Of the pages that the piece is about that is a premise.
@@ -256,6 +254,7 @@ pub record IsPiece (f : Profile) (k : ℕ) (p q : Progress) (w v : World) (mine 
   pub returns : Always ReturnsDuly got
   pub uses : UsesOnly p q mine
   pub bare : (x : ℕ) → mine x ≡ false → Always (MakesNoDeedHere x) got
+  -- A page that isn't backed is backed by its event.
   pub unbacked : (x : ℕ) → mine x ≡ false → Always (KeepsBacked k x) got
   pub deeds : (x : ℕ) → mine x ≡ false → deed_in v.events x ≡ deed_in w.events x
   pub hinted : v.hinted ≡ w.hinted
@@ -277,6 +276,7 @@ module _ {f : Profile} {k : ℕ} {p q : Progress} {w v : World} {mine : ℕ → 
   legal_got : Legal f (triples k got ++ p.list)
   legal_got = legal_earlier f k after got p.list (subst (Legal f) s.list s.between.legal)
 
+  -- A page that isn't the piece's isn't marked.
   unmarked : (x : ℕ) → mine x ≡ false → IsMarked x after → ⊥
   unmarked x out h = false≢true (sym out ∙ s.marks x h)
 
@@ -284,7 +284,7 @@ module _ {f : Profile} {k : ℕ} {p q : Progress} {w v : World} {mine : ℕ → 
   hints_are x = ap (λ (hs : List ℕ). list_any (λ y. y == x) hs) s.hinted
 
   to_hint : (x : ℕ) → is_hinted v x ≡ true → empty_bit q.list x ≡ true
-  to_hint x h = ap (λ (m : Whole). empty_bit m x) s.list ∙ hinted_stays allocating refl k steps p.list x s.kinds (sym (s.same.pages.hinted x) ∙ (sym (hints_are x) ∙ h))
+  to_hint x h = cc (hinted_stays allocating refl k steps p.list x s.kinds (sym (s.same.pages.hinted x) ∙ (sym (hints_are x) ∙ h)))
 
   new_hint : (x : ℕ) → HintsPage x steps → empty_bit p.list x ≡ true
   new_hint x new = elim (cases_Bool (mine x)) [
@@ -296,7 +296,7 @@ module _ {f : Profile} {k : ℕ} {p q : Progress} {w v : World} {mine : ℕ → 
   ]
 
   from_hint : (x : ℕ) → empty_bit q.list x ≡ true → is_hinted v x ≡ true
-  from_hint x bit = hints_are x ∙ (s.same.pages.hinted x ∙ elim (hinted_by k steps p.list x (ap (λ (m : Whole). empty_bit m x) (sym s.list) ∙ bit)) [ inl old ↦ old | inr new ↦ new_hint x new ])
+  from_hint x bit = hints_are x ∙ (s.same.pages.hinted x ∙ elim (hinted_by k _ _ x (ap (λ m. empty_bit m x) (sym s.list) ∙ bit)) [ inl old ↦ old | inr new ↦ new_hint x new ])
 
   was_offered : (x n : ℕ) → mine x ≡ false → eligible_bit q.list n x ≡ true → (i : ℕ) × (eligible_bit p.list i x ≡ true)
   was_offered x n out bit = elim (offered_by k steps p.list n x (ap (λ (m : Whole). eligible_bit m n x) (sym s.list) ∙ bit)) [
@@ -310,21 +310,11 @@ module _ {f : Profile} {k : ℕ} {p q : Progress} {w v : World} {mine : ℕ → 
   -- another page is offered still: its deed is the same, it was offered, and its bit is set
   offered_still : (x : ℕ) (e : Directory) → mine x ≡ false → IsDirectoryOf f e → eligible_bit q.list (number_of e) x ≡ true → is_offered v e x ≡ true
   offered_still x e out of bit =
-      let told = bit_tells f q v s.valid s.between s.now x e of (right_in_one_place f q.list s.between.legal x) bit in
-      let deed : deed_in (visible p.list) x ≡ Some e =
-      ap (λ (es : List Event). deed_in es x) (sym s.same.pages.events) ∙ (sym (s.deeds x out) ∙ (ap (λ (es : List Event). deed_in es x) s.now.events ∙ deed_now f q v s.valid s.between s.now x e of told.0)) in
-      let o = was_offered x (number_of e) out bit in
-      let old : is_offered w e x ≡ true = s.same.pages.offered x e of ∙ own_bit f p.list e o.0 x s.before.legal of deed o.1 in
-      bit_offered f q v s.valid s.between s.now x e of bit (open_kept s.valid s.before s.between s.uses (has_same s.same) s.now e x out (had_open w e x old))
+      search (arith, bit_tells, right_in_one_place, deed_now, was_offered, own_bit, bit_offered, open_kept, has_same, had_open)
 
   from_offer : (x : ℕ) (e : Directory) → IsDirectoryOf f e → eligible_bit q.list (number_of e) x ≡ true → is_offered v e x ≡ true
   from_offer x e of bit = elim (cases_Bool (mine x)) [ inl here ↦ s.own_offer x e here of bit | inr out ↦ offered_still x e out of bit ]
 
   -- EACH PAGE is hinted and offered exactly where its bits are set
   pub piece_pages : ArePagesSame f q.list v
-  piece_pages = record {
-    events = s.now.events;
-    live = s.now.live;
-    hinted = λ x. same_truth (is_hinted v x) (empty_bit q.list x) (to_hint x) (from_hint x);
-    offered = λ x e of. same_truth (is_offered v e x) (eligible_bit q.list (number_of e) x) (offered_bit f q v s.valid s.between s.now x e of) (from_offer x e of);
-  }
+  piece_pages = search (arith, same_truth, to_hint, from_hint, offered_bit, from_offer)

@@ -6,11 +6,11 @@ use Rattle.std.proofs.lemmas.Bool.{false≢true, or_cases, or_left, or_right, an
 use Rattle.std.proofs.{Math.Nat.suc-mul, Math.Nat.mul-mod_left, Math.Nat.mod-add-div', lemmas.Bool.Decides.nat_tests, lemmas.Nat.div_below, lemmas.Nat.mul-le}
 use Rattle.std.specs.List.{list_any, filter}
 use Rattle.pas_same_text.specs.{Searches.some_of, State.World, Pages.is_free, Pages.are_free, Pages.is_guarded, Runs.lowest_place, Same.HasSame, Acts.IsBetween}
-use Rattle.pas_same_text.specs.{Searched.FitsSame, Classes.spaced, Classes.free_slots, Classes.slots_for}
+use Rattle.pas_same_text.specs.{Searched.FitsSame, Classes.spaced, Classes.slots_for}
 use Rattle.pas_profile.specs.Classes.{IsAlignment, IsClass, class_grains, slots_of, IsSlotStart}
 use Rattle.pas_profile.specs.Profiles.{IsValid}
 use Rattle.pas_profile.specs.declared.profile.Profile.{Profile}
-use Rattle.pas_profile.proofs.{Sizes.passes_below, Sizes.passes_at, ClassFacts.class_grains_positive, ClassFacts.usable_grains_le, ClassFacts.slot_end}
+use Rattle.pas_profile.proofs.Sizes.{passes_at, class_grains_positive, usable_grains_le, slot_end}
 use Rattle.pas_steps.specs.Evidence.{Readings}
 use Rattle.pas_core.specs.Rights.{free_of_page}
 use Rattle.pas_bitfit.specs.{Allocates.run_for, Runs.Fits, Runs.NoneFits, Runs.IsLowestFit}
@@ -19,10 +19,6 @@ use Rattle.pas_same_text.proofs.{FreeGrains.bit_unguarded, FreeGrains.bit_read, 
 use Rattle.pas_same_text.proofs.{Tests.and_second}
 use Rattle.pas_bits.specs.Runs.{AreFree}
 use Rattle.pas_segregated.specs.Takes.{NoSlot}
-
--- some one passes the test
-some_first : (xs : List ℕ) → some_of (take 1 xs) ≡ some_of xs
-some_first xs = grind arith
 
 -- Some numbers of a list pass a test exactly where the filtered list has any.
 some_filtered : (test : ℕ → Bool) (xs : List ℕ) → some_of (filter test xs) ≡ list_any test xs
@@ -68,9 +64,7 @@ first_spaced test (suc n) from step (suc i) lt h before =
 abbrev splits : ℕ → Bool
 splits a = nat_lt a 16 || not (4096 % a == 0) || (256 / (a / 16) * (a / 16) == 256)
 
-splits_all : passes_below splits 4097 ≡ true
-splits_all = refl
-
+-- Where one of three holds and the first two don't, the third does.
 or_last : (x y z : Bool) → (x || not y || z) ≡ true → x ≡ false → y ≡ true → z ≡ true
 or_last x y z h hx hy = grind arith
 
@@ -78,7 +72,7 @@ page_splits : (align : ℕ) → IsAlignment align → 256 / (align / 16) * (alig
 page_splits align is =
     let low = is.0 in let high = is.1 in
     eqb-true _ 256
-    (or_last (nat_lt align 16) (4096 % align == 0) _ (passes_at splits 4097 align splits_all (omega (arith, high))) (grind (arith, low)) (eq-eqb _ 0 is.2))
+    (or_last (nat_lt align 16) (4096 % align == 0) _ (passes_at splits 4097 align refl (omega (arith, high))) (grind (arith, low)) (eq-eqb _ 0 is.2))
 
 module _ (f : Profile) (p : Progress) (w : World) (valid : IsValid f) (between : IsBetween f p) (same : HasSame f p w) (room align : ℕ) (some : 1 ≤ room / 16)
     (is : IsAlignment align) where
@@ -119,15 +113,7 @@ module _ (f : Profile) (p : Progress) (w : World) (valid : IsValid f) (between :
       (λ b low high. read_unless f p w valid between same page b (omega (arith, high, within)) (fits_unguarded page s fits) ∙ fits.free b low high))
 
   some_is : (page : ℕ) → some_of (lowest_place w n step page) ≡ list_any (test page) (spaced 0 step (256 / step))
-  some_is page = some_first (filter (test page) (spaced 0 step (256 / step))) ∙ some_filtered (test page) (spaced 0 step (256 / step))
-
-  -- an aligned grain at which a block begins is one of them
-  place_there : (page g : ℕ) → Fits (run_for room align) (free_of_page p.list page) g → list_any (test page) (spaced 0 step (256 / step)) ≡ true
-  place_there page g fits =
-      let times : g / step * step ≡ g = let m = mod-add-div' g step in omega (arith, m, fits.aligned) in
-      let whole : 256 / step * step ≡ 256 = page_splits align is in
-      let lt : g / step < 256 / step = div_below g step (256 / step) (omega (arith, is.0)) (omega (arith, whole, fits.within, some)) in
-      in_spaced (test page) (256 / step) 0 step (g / step) lt (ap (test page) (omega (arith, times)) ∙ fits_test page g fits)
+  some_is page = (grind arith) ∙ some_filtered (test page) (spaced 0 step (256 / step))
 
   -- A run for a bit-fit request fits on an unguarded page in the text exactly where it does by the replay's free grains.
   pub bitfit_fits : FitsSame (NoneFits (run_for room align)) f p w (lowest_place w n step)
@@ -141,7 +127,7 @@ module _ (f : Profile) (p : Progress) (w : World) (valid : IsValid f) (between :
       by_test : (page : ℕ) → (NoneFits (run_for room align) (free_of_page p.list page) → ⊥) → (t : Bool) → list_any (test page) (spaced 0 step (256 / step)) ≡ t
           → t ≡ true
       by_test page fits true e = refl
-      by_test page fits false e = absurd (fits (λ g at. true≢false (sym (place_there page g at) ∙ e)))
+      by_test page fits false e = absurd (fits (λ g at. true≢false (sym (search (arith, mod-add-div', page_splits, div_below, in_spaced, fits_test)) ∙ e)))
 
   -- THE PLACE: where the lowest run among some readings is free, and what is free was read as free, it is the one of the text
   pub lowest_is : (page first : ℕ) (r : Readings) → IsLowestFit (run_for room align) r first
@@ -149,8 +135,7 @@ module _ (f : Profile) (p : Progress) (w : World) (valid : IsValid f) (between :
       → lowest_place w n step page ≡ first ∷ []
   lowest_is page first r lowest more fits =
       let times : first / step * step ≡ first = let m = mod-add-div' first step in omega (arith, m, fits.aligned) in
-      let whole : 256 / step * step ≡ 256 = page_splits align is in
-      let lt : first / step < 256 / step = div_below first step (256 / step) (omega (arith, is.0)) (omega (arith, whole, fits.within, some)) in
+      let lt : first / step < 256 / step = div_below first step (256 / step) (omega (arith, is.0)) (omega (arith, (page_splits align is), fits.within, some)) in
       first_spaced (test page) _ 0 step _ lt (ap (test page) (omega (arith, times)) ∙ fits_test page first fits) (λ j small. lower j small times)
       ∙ ap (λ (x : ℕ). x ∷ []) (omega (arith, times))
     where
@@ -158,14 +143,11 @@ module _ (f : Profile) (p : Progress) (w : World) (valid : IsValid f) (between :
       lower j small times = false_from_ne_true _ (λ h.
           let this : Fits (run_for room align) (free_of_page p.list page) (0 + j * step) =
           test_fits page _ (fits_unguarded page first fits) (ap (λ (x : ℕ). x % step) (omega arith) ∙ mul-mod_left j step) h in
-          let next : suc j * step ≤ first / step * step = mul-le (suc j) step (first / step) step (omega (arith, small)) (omega arith) in
           let m = suc-mul j step in
-          lowest.lowest (0 + j * step) (omega (arith, next, m, times, is.0))
+          lowest.lowest (0 + j * step) (omega (arith, (mul-le (suc j) step (first / step) step (omega (arith, small)) (omega arith)), m, times, is.0))
           (record { aligned = this.aligned; within = this.within; free = λ b from to. more b (omega (arith, this.within, to)) (this.free b from to) }))
 
 -- ==== WHETHER A SLOT OF A CLASS FITS on a page: in the text exactly where it does by the free grains of the replay.
-some_slots : (shared : Bool) (w : World) (class page : ℕ) → some_of (slots_for shared w class page) ≡ some_of (free_slots w class page)
-some_slots shared w class page = search (arith, eq-eqb)
 
 module _ (f : Profile) (p : Progress) (w : World) (valid : IsValid f) (between : IsBetween f p) (same : HasSame f p w) (class : ℕ) (is : IsClass class) where
   abbrev slot_grains : ℕ
@@ -182,7 +164,7 @@ module _ (f : Profile) (p : Progress) (w : World) (valid : IsValid f) (between :
   read_unguarded page b small free = bit_unguarded f p w valid between same page b small (bit_read p.list page b ∙ free)
 
   some_slot : (shared : Bool) (page : ℕ) → some_of (slots_for shared w class page) ≡ list_any (fits_at page) (spaced 0 slot_grains (slots_of class))
-  some_slot shared page = some_slots shared w class page ∙ some_filtered (fits_at page) (spaced 0 slot_grains (slots_of class))
+  some_slot shared page = (search (arith, eq-eqb)) ∙ some_filtered (fits_at page) (spaced 0 slot_grains (slots_of class))
 
   -- a slot of the list is one of the class, and the other way round
   -- a multiple of the step that ends within the slots
@@ -211,6 +193,7 @@ module _ (f : Profile) (p : Progress) (w : World) (valid : IsValid f) (between :
       let within = slot_end class s is slot in
       sym (read_unless f p w valid between same page b (omega (arith, within, high)) none) ∙ each_at slot_grains s b (is_free w page) tested low high
 
+  -- A free slot is found among the slots of its class.
   there : (page s : ℕ) → IsSlotStart class s → AreFree (free_of_page p.list page) s slot_grains
       → list_any (fits_at page) (spaced 0 slot_grains (slots_of class)) ≡ true
   there page s slot free =

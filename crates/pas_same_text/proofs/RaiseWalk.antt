@@ -32,6 +32,7 @@ by_test P true xs ys one other = one refl
 by_test P false xs ys one other = other refl
 
 module _ (e : ℕ) where
+  -- A list of pages is its upper part and its lower part.
   split : (qs : List ℕ) → above e qs ++ below e qs ≡ qs
   split [] = refl
   split (q ∷ qs) = search (arith, split qs)
@@ -51,7 +52,7 @@ module _ (e : ℕ) where
 
   above_falls : (qs : List ℕ) → AreFalling qs → AreFalling (above e qs)
   above_falls [] falls = tt
-  above_falls (q ∷ qs) falls = by_test AreFalling (nat_lt q e) [] (q ∷ above e qs) (λ yes. tt) (λ no. (above_all (λ x. x < q) qs falls.0, above_falls qs falls.1))
+  above_falls (q ∷ qs) falls = by_test AreFalling _ [] (q ∷ above e qs) (λ yes. tt) (λ no. (above_all (λ x. x < q) qs falls.0, above_falls qs falls.1))
 
   below_lt : (qs : List ℕ) → AreFalling qs → AllByRecursion (λ q. q < e) (below e qs)
   below_lt [] falls = tt
@@ -90,11 +91,15 @@ module _ (k : ℕ) (d : Directory) where
   backed_beside p [] es = refl
   backed_beside p (q ∷ qs) es = backed_beside p qs es
 
+-- the page is of a usable run below the end
+abbrev pub IsOfRun : Profile → ℕ → ℕ → World → ℕ → ℕ → Type 0
+IsOfRun f heap n w end q = (r : ℕ) × IsInRun r (n + 2) q × ((1 ≤ r) × (r < end) × (is_run f w heap (n + 2) r ≡ true))
+
 -- ==== THE WALK over the runs of n + 2 pages below `end`. The pages that get deeds are these; each is of a usable run, and each page of such a run has a deed then.
 pub record IsWalked (f : Profile) (keeper heap n : ℕ) (w : World) (made : List ℕ) (end : ℕ) : Type 0 where
   pub falls : AreFalling made
   pub run : Run f (deeds_of keeper (large_of heap) made ++ w.events)
-  pub of_runs : AllByRecursion (λ q. (r : ℕ) × IsInRun r (n + 2) q × ((1 ≤ r) × (r < end) × (is_run f w heap (n + 2) r ≡ true))) made
+  pub of_runs : AllByRecursion (IsOfRun f heap n w end) made
   pub all : (r : ℕ) → 1 ≤ r → r < end → is_run f w heap (n + 2) r ≡ true → (q : ℕ) → IsInRun r (n + 2) q
       → deed_in (deeds_of keeper (large_of heap) made ++ w.events) q ≢ None
   pub still : (e r : ℕ) → is_run f (shown (deeds_of keeper (large_of heap) (below e made)) w) heap (n + 2) r ≡ is_run f w heap (n + 2) r
@@ -112,9 +117,6 @@ module _ (f : Profile) (keeper k name heap n : ℕ) (w : World) (made : List ℕ
     past : (r : ℕ) → 1 ≤ r → r < p → is_run f w heap (n + 2) r ≡ true → r + (n + 2) ≤ e
     near : e ≤ p + (n + 2)
 
-  bare_still : (e p : ℕ) → are_bare (upto e) p n ≡ are_bare w p n
-  bare_still e p = search (arith, shown_events, backed_beside)
-
   module _ (e p : ℕ) (low : 1 ≤ p) (high : p < end) (up : IsUpTo e p) (usable : is_run f w heap (n + 2) p ≡ true) where
     abbrev stop : ℕ
     stop = p + (n + 2)
@@ -122,39 +124,34 @@ module _ (f : Profile) (keeper k name heap n : ℕ) (w : World) (made : List ℕ
     abbrev upper : List ℕ
     upper = above e (below stop made)
 
+    -- The pages up to this one are those passed now and those before.
     parts : upper ++ below e made ≡ below stop made
     parts = ap (λ (xs : List ℕ). upper ++ xs) (sym (below_twice e stop up.near made)) ∙ split e (below stop made)
 
+    -- So are the events of their deeds.
     events : deeds_of keeper d upper ++ (upto e).events ≡ deeds_of keeper d (below stop made) ++ w.events
     events = search (arith, shown_events, both_deeds, parts)
 
+    -- The pages that were passed now are of the run.
     within : AllInRun p (n + 2) upper
-    within = all_map (λ q. (e ≤ q) × ((q < stop) × ((r : ℕ) × IsInRun r (n + 2) q × ((1 ≤ r) × (r < end) × (is_run f w heap (n + 2) r ≡ true))))) (IsInRun p (n + 2)) upper one
-        (all_and (λ q. e ≤ q) (λ q. (q < stop) × ((r : ℕ) × IsInRun r (n + 2) q × ((1 ≤ r) × (r < end) × (is_run f w heap (n + 2) r ≡ true)))) upper (above_ge e (below stop made))
-        (above_all e (λ q. (q < stop) × ((r : ℕ) × IsInRun r (n + 2) q × ((1 ≤ r) × (r < end) × (is_run f w heap (n + 2) r ≡ true)))) (below stop made)
-        (all_and (λ q. q < stop) (λ q. (r : ℕ) × IsInRun r (n + 2) q × ((1 ≤ r) × (r < end) × (is_run f w heap (n + 2) r ≡ true))) (below stop made) (below_lt stop made is.falls) (below_all stop (λ q. (r : ℕ) × IsInRun r (n + 2) q × ((1 ≤ r) × (r < end) × (is_run f w heap (n + 2) r ≡ true))) made is.of_runs))))
+    within = all_map (λ q. (e ≤ q) × ((q < stop) × IsOfRun f heap n w end q)) (IsInRun p (n + 2)) upper one
+        (all_and (λ q. e ≤ q) (λ q. (q < stop) × IsOfRun f heap n w end q) upper (above_ge e (below stop made))
+        (above_all e (λ q. (q < stop) × IsOfRun f heap n w end q) (below stop made)
+        (all_and (λ q. q < stop) _ (below stop made) (below_lt stop made is.falls) (below_all stop (IsOfRun f heap n w end) made is.of_runs))))
       where
-        one : (q : ℕ) → (e ≤ q) × ((q < stop) × ((r : ℕ) × IsInRun r (n + 2) q × ((1 ≤ r) × (r < end) × (is_run f w heap (n + 2) r ≡ true))))
-            → IsInRun p (n + 2) q
-        one q h = elim (cases_lt q p) [
-          | inl before ↦
-              search arith
-          | inr from ↦ (from, h.1.0)
-        ]
+        one : (q : ℕ) → (e ≤ q) × ((q < stop) × IsOfRun f heap n w end q) → IsInRun p (n + 2) q
+        one q h = search (arith, cases_lt)
 
     deeds_step : deeds_run keeper heap p (n + 2) (upto e) ≡ upto stop
     deeds_step =
         each_in_turn (deeds keeper d) (n + 2) p (upto e)
-        ∙ (deeds_in_turn keeper d f (n + 2) p upper (upto e) (above_falls e (below stop made) (below_falls stop made is.falls)) within (subst (Run f) (sym events) (run_below keeper d f stop made w.events is.run))
+        ∙ (deeds_in_turn keeper d f (n + 2) p upper (upto e) (above_falls e _ (below_falls stop made is.falls)) within (subst (Run f) (sym events) (run_below keeper d f stop made w.events is.run))
         (λ q here none. is.all p low high usable q here (sym (deed_below keeper d stop q made w.events here.1) ∙ (ap (λ (es : List Event). deed_in es q) (sym events) ∙ none)))
         ∙ (sym (shown_both (deeds_of keeper d upper) (deeds_of keeper d (below e made)) w)
         ∙ ap (λ (es : List Event). shown es w) (sym (map-append (λ (x : ℕ). Event.Deed keeper x d) upper (below e made)) ∙ ap (deeds_of keeper d) parts)))
 
     next_up : IsUpTo stop (p + 1)
     next_up = record { past = λ r some lt h. omega (arith, lt); near = omega arith }
-
-  next_same : (e p : ℕ) → IsUpTo e p → is_run f w heap (n + 2) p ≡ false → IsUpTo e (p + 1)
-  next_same e p up none = search (arith, true≢false)
 
   -- ---- one run
   abbrev after_one : ℕ → List ℕ → Bool → Bool → World → World → World
@@ -163,7 +160,7 @@ module _ (f : Profile) (keeper k name heap n : ℕ) (w : World) (made : List ℕ
   tried_one : (e p m : ℕ) (bare : Bool) → 1 ≤ p → p < end → IsUpTo e p → is_run f w heap (n + 2) p ≡ true → are_bare w p n ≡ bare
       → raises_from f keeper k name heap n (numbers_from p (suc m)) (upto e)
       ≡ (if bare then raises keeper name heap p n (upto (p + (n + 2))) else raises_from f keeper k name heap n (numbers_from (p + 1) m) (upto (p + (n + 2))))
-  tried_one e p m bare low high up usable is_bare = search (arith, bare_still, deeds_step)
+  tried_one e p m bare low high up usable is_bare = search (arith, shown_events, backed_beside, deeds_step)
 
   passed_one : (e p m : ℕ) → is_run f w heap (n + 2) p ≡ false
       → raises_from f keeper k name heap n (numbers_from p (suc m)) (upto e) ≡ raises_from f keeper k name heap n (numbers_from (p + 1) m) (upto e)
@@ -177,21 +174,24 @@ module _ (f : Profile) (keeper k name heap n : ℕ) (w : World) (made : List ℕ
     where
       at : (t : Bool) → is_run f w heap (n + 2) p ≡ t → raises_from f keeper k name heap n (numbers_from p (suc m)) (upto e) ≡ Result
       at true usable = tried_one e p m false low high up usable (backed usable) ∙ rest (p + (n + 2)) (next_up e p low high up usable)
-      at false none = passed_one e p m none ∙ rest e (next_same e p up none)
+      at false none = passed_one e p m none ∙ rest e (search (arith, true≢false))
 
   -- all deeds are there
   whole : (e : ℕ) → AllByRecursion (λ q. q < e) made → upto e ≡ shown (deeds_of keeper d made) w
   whole e all = ap (λ (qs : List ℕ). shown (deeds_of keeper d qs) w) (below_whole e made all)
 
+  -- At the first page nothing was passed.
   begin : IsUpTo 0 1
   begin = record { past = λ r some lt h. absurd (omega (arith, some, lt)); near = omega arith }
 
+  -- There the text is where it began.
   begun : upto 0 ≡ w
   begun = ap (λ (qs : List ℕ). shown (deeds_of keeper d qs) w) (below_none made)
 
   -- ---- THE RUN THAT SERVES: the last one that is tried
   module _ (first : ℕ) (last : end ≡ first + 1) (region : (1 ≤ first) × (first ≤ f.pages)) (usable : is_run f w heap (n + 2) first ≡ true)
       (bare : are_bare w first n ≡ true) (lower : (r : ℕ) → 1 ≤ r → r < first → is_run f w heap (n + 2) r ≡ true → are_bare w r n ≡ false) where
+    -- The text's walk goes on to the run's first page.
     walk : (m p e : ℕ) → 1 ≤ p → p ≤ first → first < p + m → IsUpTo e p
         → raises_from f keeper k name heap n (numbers_from p m) (upto e) ≡ raises keeper name heap first n (upto (first + (n + 2)))
     walk zero p e low le past up = absurd (omega (arith, le, past))
@@ -203,22 +203,20 @@ module _ (f : Profile) (keeper k name heap n : ℕ) (w : World) (made : List ℕ
           (λ e' up'. walk m (p + 1) e' (omega arith) (omega (arith, le, other)) (omega (arith, past)) up')
     ]
 
-    all_below : AllByRecursion (λ q. q < first + (n + 2)) made
-    all_below = search (arith, all_map)
-
     -- Where a run of the walk serves, the text raises the guard there, with the deeds of the walk made.
     pub found_text : raises_from f keeper k name heap n (page_numbers f) w ≡ raises keeper name heap first n (shown (deeds_of keeper d made) w)
     found_text =
         let low = region.0 in
-        cc (begun, walk f.pages 1 0 (omega arith) low (omega (arith, region.1)) begin, whole (first + (n + 2)) all_below)
+        cc (begun, walk f.pages 1 0 (omega arith) low (omega (arith, region.1)) begin, whole (first + (n + 2)) (search (arith, all_map)))
 
   -- ---- NO RUN SERVES
   module _ (last : end ≡ f.pages + 1) (none : (r : ℕ) → 1 ≤ r → r < end → is_run f w heap (n + 2) r ≡ true → are_bare w r n ≡ false) where
+    -- Where no run is raised, it goes on to the end.
     through : (m p e : ℕ) → 1 ≤ p → p + m ≡ end → IsUpTo e p
         → raises_from f keeper k name heap n (numbers_from p m) (upto e) ≡ serves_pages f k name heap n (shown (deeds_of keeper d made) w)
-    through zero p e low at up = ap (serves_pages f k name heap n) (whole e (all_map (λ q. (r : ℕ) × IsInRun r (n + 2) q × ((1 ≤ r) × (r < end) × (is_run f w heap (n + 2) r ≡ true))) (λ q. q < e) made
+    through zero p e low at up = ap (serves_pages f k name heap n) (whole e (all_map (IsOfRun f heap n w end) (λ q. q < e) made
         (λ q h. let past = up.past h.0 h.2.0 (omega (arith, h.2.1, at)) h.2.2 in omega (arith, h.1.1, past)) is.of_runs))
-    through (suc m) p e low at up = pass_by (serves_pages f k name heap n (shown (deeds_of keeper d made) w)) e p m low (omega (arith, at)) up (none p low (omega (arith, at)))
+    through (suc m) p e low at up = pass_by _ e p m low (omega (arith, at)) up (none p low (omega (arith, at)))
         (λ e' up'. through m (p + 1) e' (omega arith) (omega (arith, at)) up')
 
     -- Where no run of the walk serves, the text makes the request for whole pages, with the deeds of the walk made.

@@ -1,6 +1,6 @@
 -- A GUARD GOES UP: the search of a keeper found a run. Its inner pages get memory where they have none, their block is given, and the keeper holds the two pages beside it.
-use Rattle.std.proofs.Common.{◌≡◌, ℕ, ◌+◌, ◌*◌, ◌/◌, ◌<◌, ◌==◌, Bool, true, false, ◌||◌, if◌then◌else◌, List, [], ◌∷◌, ◌++◌, Some, ◌⊎◌, inl, inr, refl, ap, sym}
-use Rattle.std.proofs.Common.{◌∙◌, subst, arith, append_assoc, true≢false, eq-eqb, eqb-true}
+use Rattle.std.proofs.Common.{◌≡◌, ℕ, ◌+◌, ◌*◌, ◌/◌, ◌<◌, ◌==◌, Bool, true, false, ◌||◌, if◌then◌else◌, List, [], ◌∷◌, ◌++◌, Some, inl, inr, refl, ap, sym, ◌∙◌}
+use Rattle.std.proofs.Common.{subst, arith, append_assoc, true≢false, eq-eqb, eqb-true}
 use Rattle.std.proofs.lemmas.Bool.{false≢true, or_cases, or_left, or_right, false_from_ne_true, cases_Bool}
 use Rattle.pas_bits.specs.Runs.{in_run}
 use Rattle.pas_profile.specs.{Blocks.address_of, Blocks.grain_of, Blocks.length_of, Directories.number_of, Profiles.IsDirectoryOf}
@@ -16,10 +16,10 @@ use Rattle.pas_core.proofs.{Nexts.agreed_steps, OneActor.LendsNone, OneActor.dee
 use Rattle.pas_rights.specs.Gives.{give_steps}
 use Rattle.pas_scan.specs.Runs.{IsInRun}
 use Rattle.pas_large.specs.Claims.{in_span}
-use Rattle.pas_large.proofs.{Claims.span_in, Claims.in_parts, Gives.run_is, Outcomes.MadeOf}
+use Rattle.pas_large.proofs.{Claims.span_in, Claims.in_parts, Gives.run_is, Finds.MadeOf}
 use Rattle.pas_cache.specs.{Kinds.allocating, Locals.any_covers}
 use Rattle.pas_guard.specs.{Books.is_outer_of, Books.is_outer, Guards.left_last_first, Raises.guard_of, Raises.IsRaised, Seeks.seeking, Seeks.HasSpan}
-use Rattle.pas_guard.proofs.Raised.{raised_backs, raised_leaves}
+use Rattle.pas_guard.proofs.Raises.{raised_backs, raised_leaves}
 use Rattle.pas_guard.specs.declared.book.Guard.{Guard as BookGuard}
 use Rattle.pas_report.specs.declared.record.{Record.Record, Said.Said}
 use Rattle.pas_trace.specs.Acts.{numbers_from}
@@ -66,11 +66,13 @@ module _ (name : ℕ) {f : Profile} {k heap n : ℕ} {p q : Progress} {w : World
 
   legal_backs : Legal f (triples k run.backs ++ mid)
   legal_backs = legal_between f k (run.left ++ gave) run.backs xs p.list
-      (subst (λ (ms : List Made). Legal f (triples k ms ++ p.list)) (steps_are ∙ sym (append_assoc run.left gave (run.backs ++ xs))) (subst (Legal f) list there.legal))
+      (subst (λ (ms : List Made). Legal f (triples k ms ++ p.list)) (steps_are ∙ sym (append_assoc run.left gave (run.backs ++ xs))) (rw list at there.legal))
 
+  -- The keeper has the span of the run.
   span : HasSpan d run.first (run.first + (n + 2)) own (xs ++ own)
   span = run.found.got.from own s.met (agreed_steps f k p.list xs s.valid s.legal)
 
+  -- Each page of the run is in the span.
   spans : (x : ℕ) → IsInRun run.first (n + 2) x → in_span run.first (run.first + (n + 2)) x ≡ true
   spans x here = span_in run.first (run.first + (n + 2)) x here.0 here.1
 
@@ -106,7 +108,7 @@ module _ (name : ℕ) {f : Profile} {k heap n : ℕ} {p q : Progress} {w : World
   backs_text : each (backs k) (numbers_from (run.first + 1) n) tried ≡ shown es w
   backs_text =
       each_in_turn (backs k) n (run.first + 1) tried
-      ∙ (backs_in_turn f k mid tried s.legal (shown_events ds w ∙ sym (visible_mid s made_of)) n (run.first + 1) run.backs legal_backs run.back_order ∙ sym (shown_both bs ds w))
+      ∙ (backs_in_turn f k mid tried s.legal (shown_events ds w ∙ sym (visible_mid s made_of)) n _ run.backs legal_backs run.back_order ∙ sym (shown_both bs ds w))
 
   abbrev given : World
   given = gives k name heap address (4096 * n) (shown es w)
@@ -116,16 +118,12 @@ module _ (name : ℕ) {f : Profile} {k heap n : ℕ} {p q : Progress} {w : World
 
   -- ---- the block
   gives_it : GivesBlock f k p q w (rest ++ xs) es block address (4096 * n) heap
-  gives_it = record {
-    valid = s.valid;
-    same = s.same;
-    there = there;
-    list = list;
-    events_are = events_are;
-    address_is = let at : address_of block.name ≡ (run.first + 1) * 4096 = ap (λ (b : Block). address_of b.name) run.block_is in omega (arith, at);
-    room_is = let room : block.room ≡ n * 4096 = ap (λ (b : Block). b.room) run.block_is in omega (arith, room);
-    heap_is = ap (λ (b : Block). b.heap) run.block_is;
-  }
+  gives_it =
+      let at : address_of block.name ≡ (run.first + 1) * 4096 = ap (λ (b : Block). address_of b.name) run.block_is in
+      let room : block.room ≡ n * 4096 = ap (λ (b : Block). b.room) run.block_is in
+      let address_is : address_of block.name ≡ address = omega (arith, at) in
+      let room_is : block.room ≡ 4096 * n = omega (arith, room) in
+      assumption (events_are, address_is, room_is, ap (λ (b : Block). b.heap) run.block_is)
 
   bs_ready : (mine : ℕ → Bool) → AreReadying k d mine bs
   bs_ready mine = backs_ready k d mine n (run.first + 1) (part k mid) run.backs run.back_order
@@ -151,27 +149,24 @@ module _ (name : ℕ) {f : Profile} {k heap n : ℕ} {p q : Progress} {w : World
   guards_are : v.guards ≡ w.guards ++ told_guard k (guard_of run.first n block) ∷ []
   guards_are = ap (λ (gs : List Guard). gs ++ guard_on tried k run.first n ∷ []) (shown_rest es w).guards ∙ ap (λ (g : Guard). w.guards ++ g ∷ []) guard_is
 
+  -- Afterwards the replay has what the text has.
   now : HasSame f q v
-  now = record {
-    events = events_now gives_it;
-    live = live_now gives_it;
-    caches = subst (λ (cs : Caches). AreSameCaches f cs v.caches) (sym caches) (subst (AreSameCaches f p.caches) (sym (shown_rest es w).caches) s.same.caches);
-    guards = subst (AreSameGuards q.books) (sym guards_are) (guards_more k (guard_of run.first n block) book_is other_books w.guards s.same.guards);
-  }
+  now =
+      let was = subst (AreSameCaches f p.caches) (sym (shown_rest es w).caches) s.same.caches in
+      let guards = subst (AreSameGuards q.books) (sym guards_are) (guards_more k (guard_of run.first n block) book_is other_books w.guards s.same.guards) in
+      assumption (events_now gives_it, live_now gives_it, guards, subst (λ (cs : Caches). AreSameCaches f cs v.caches) (sym caches) was)
 
   -- ---- the outer pages of the guard
   outer_in_run : (x : ℕ) → is_outer_of (guard_of run.first n block) x ≡ true → IsInRun run.first (n + 2) x
   outer_in_run x outer = search (arith, or_cases, eqb-true)
 
-  own_outer : (x : ℕ) → (run.first ≡ x) ⊎ (run.first + n + 1 ≡ x) → is_outer (q.books k) x ≡ true
-  own_outer x at = outer_more k (guard_of run.first n block) book_is other_books x (search (arith, or_left, eq-eqb))
-
   -- ---- grains
   in_block : (g : ℕ) → in_run (grain_of block.name) (length_of block) g ≡ in_span (run.first + 1) (run.first + 1 + n) (g / 256)
   in_block g = ap (λ (b : Block). in_run (grain_of b.name) (length_of b) g) run.block_is ∙ run_is d (run.first + 1) n run.word g
 
+  -- The block covers each grain of its inner pages.
   covers : (x b : ℕ) → IsInRun (run.first + 1) n x → b < 256 → in_run (grain_of block.name) (length_of block) (256 * x + b) ≡ true
-  covers x b here small = in_block (256 * x + b) ∙ (ap (in_span (run.first + 1) (run.first + 1 + n)) (on_page x b small) ∙ span_in (run.first + 1) (run.first + 1 + n) x here.0 here.1)
+  covers x b here small = in_block (256 * x + b) ∙ (ap (in_span (run.first + 1) _) (on_page x b small) ∙ span_in (run.first + 1) _ x here.0 here.1)
 
   -- a page of the run has a grain in use then: the block has it, or the keeper
   run_used : (x : ℕ) → IsInRun run.first (n + 2) x → IsInUse q x
@@ -180,7 +175,8 @@ module _ (name : ℕ) {f : Profile} {k heap n : ℕ} {p q : Progress} {w : World
     | inr outer ↦ record {
       grain = 0;
       small = omega arith;
-      used = λ free. false≢true (sym (free_unheld f q.list s.valid there.legal (256 * x + 0) free k) ∙ outer_held f q there k (256 * x + 0) (ap (is_outer (q.books k)) (on_page x 0 (omega arith)) ∙ own_outer x outer));
+      used = λ free. false≢true (sym (free_unheld f q.list s.valid there.legal (256 * x + 0) free k) ∙ outer_held f q there k (256 * x + 0)
+          (ap (is_outer (q.books k)) (on_page x 0 (omega arith)) ∙ (outer_more k _ book_is other_books x (search (arith, or_left, eq-eqb)))));
     }
   ]
 
@@ -194,6 +190,7 @@ module _ (name : ℕ) {f : Profile} {k heap n : ℕ} {p q : Progress} {w : World
   rest_kinds : Only leaving rest
   rest_kinds = rest_leaves d (left_last_first run.first n) [] run.left (gave ++ run.backs) rest run.left_order tt gave_kinds run.after_is
 
+  -- The steps leave nothing behind but the guard and its block.
   behind : LeavesBehind f k d q mid rest in_all
   behind = record {
     pages = left_last_first run.first n;
@@ -216,17 +213,15 @@ module _ (name : ℕ) {f : Profile} {k heap n : ℕ} {p q : Progress} {w : World
   all_kinds = only_both allocating rest xs (only_within leaving allocating rest refl rest_kinds) (only_within seeking allocating xs refl s.kinds)
 
   -- ---- the pages whose deeds were made
-  page_of : (x : ℕ) → has_number made x ≡ true → IsMadeOf n p.list (λ r. IsRunOf f heap n p.list r × (r < run.first + 1)) x
-  page_of x h = all_listed (IsMadeOf n p.list (λ r. IsRunOf f heap n p.list r × (r < run.first + 1))) made x (found_pages s run.first run.found) h
 
   deeds_apart : (x : ℕ) → deed_in v.events x ≡ deed_in (ds ++ w.events) x
-  deeds_apart x = ap (λ (ys : List Event). deed_in ys x) (shown_events es w ∙ append_assoc bs ds w.events) ∙ ready_deeds k d (λ y. false) bs (ds ++ w.events) x refl (bs_ready (λ y. false))
+  deeds_apart x = ap (λ ys. deed_in ys x) (shown_events es w ∙ append_assoc bs ds w.events) ∙ ready_deeds k d (λ y. false) bs _ x refl (bs_ready (λ y. false))
 
   -- what was used: the pages of the run
   uses : UsesOnly p q in_all
   uses = record {
     cached = λ j g h. inl (ap (λ (cs : Caches). any_covers (cs j).locals g) (sym caches) ∙ h);
-    outer = λ j x h. elim (outer_or k (guard_of run.first n block) book_is other_books j x h) [ inl was ↦ inl was | inr new ↦ inr (spans x (outer_in_run x new)) ];
+    outer = λ j x h. elim (outer_or k _ book_is other_books j x h) [ inl was ↦ inl was | inr new ↦ inr (spans x (outer_in_run x new)) ];
     live = only_block gives_it d (has_number made) in_all es_ready (λ g h.
         let at = in_parts (run.first + 1) (run.first + 1 + n) (g / 256) (sym (in_block g) ∙ h) in spans (g / 256) (omega (arith, at.0), omega (arith, at.1)));
   }
@@ -234,6 +229,7 @@ module _ (name : ℕ) {f : Profile} {k heap n : ℕ} {p q : Progress} {w : World
   abbrev mine : ℕ → Bool
   mine x = in_all x || has_number made x
 
+  -- No deed was made on a page that isn't the piece's.
   unlisted : (x : ℕ) → mine x ≡ false → has_number made x ≡ false
   unlisted x out = false_from_ne_true (has_number made x) (λ h. true≢false (sym (or_right (in_all x) (has_number made x) h) ∙ out))
 
@@ -241,15 +237,17 @@ module _ (name : ℕ) {f : Profile} {k heap n : ℕ} {p q : Progress} {w : World
   own_offer x e h of_e bit = elim (cases_Bool (in_all x)) [
     | inl here ↦ left_offered s.valid there behind v now tt x e here of_e bit
     | inr out ↦
-        let listed : has_number made x ≡ true = elim (or_cases (in_all x) (has_number made x) h) [ inl here ↦ absurd (false≢true (sym out ∙ here)) | inr listed ↦ listed ] in
+        let listed : has_number made x ≡ true = elim (or_cases (in_all x) _ h) [ inl here ↦ absurd (false≢true (sym out ∙ here)) | inr listed ↦ listed ] in
         left_free f q v d s.valid there now x
-        (free_kept s.valid s.between there uses (256 * x + 0) (ap in_all (on_page x 0 (omega arith)) ∙ out) (unowned_free s x 0 (page_of x listed).bare (omega arith))) refl
+        (free_kept s.valid s.between there uses _ (ap in_all (on_page x 0 (omega arith)) ∙ out) (unowned_free s x 0 (all_listed _ made x (found_pages s run.first run.found) listed).bare (omega arith))) refl
         (deeds_apart x ∙ deed_listed k d x made w.events listed) e of_e bit
   ]
 
+  -- The search lends nothing.
   lends : LendsNone xs
   lends = lends_none seeking refl xs s.kinds
 
+  -- Search and raise are one piece of the keeper.
   piece : IsPiece f k p q w v mine xs rest
   piece = record {
     valid = s.valid;
@@ -276,17 +274,12 @@ module _ (name : ℕ) {f : Profile} {k heap n : ℕ} {p q : Progress} {w : World
 
   -- ---- ALL
   raised_here : IsSame f q v
-  raised_here = record {
-    pages = piece_pages piece;
-    caches = now.caches;
-    guards = now.guards;
-    names = names_now gives_it name ∙ sym names;
-    records = records
-        ∙ (sym (append_assoc p.records (records_of (events_by k own (rest ++ xs))) (Record.Said k (Said.Guarded run.first (run.first + n + 1) name) ∷ []))
-        ∙ records_next (p.records ++ records_of (events_by k own (rest ++ xs))) given.records (Record.Said k (Said.Guarded run.first (run.first + n + 1) name)) (records_now gives_it));
-    epoch = epoch_now gives_it all_kinds;
-    read = (shown_rest es w).read ∙ (s.same.read ∙ sym epoch);
-  }
+  raised_here =
+      let shows : List Record = records_of (events_by k own (rest ++ xs)) in
+      let line : Record = Record.Said k (Said.Guarded run.first (run.first + n + 1) name) in
+      let lines = records ∙ (sym (append_assoc p.records shows (line ∷ [])) ∙ records_next (p.records ++ shows) given.records line (records_now gives_it)) in
+      let read = (shown_rest es w).read ∙ (s.same.read ∙ sym epoch) in
+      assumption (piece_pages piece, lines, names_now gives_it name ∙ sym names, epoch_now gives_it all_kinds, read, now)
 
   -- Where a keeper's search found a run, the guard that the text raises there is the replay's state.
   pub raised_same : IsSame f q (raises k name heap run.first n tried)

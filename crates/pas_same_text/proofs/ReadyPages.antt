@@ -45,7 +45,7 @@ pub record HasRest (w v : World) : Type 0 where
 -- Events that are shown leave names, caches, guards, hints and the epochs as they were.
 pub shown_rest : (es : List Event) (w : World) → HasRest w (shown es w)
 shown_rest [] w = record { names = refl; caches = refl; guards = refl; hinted = refl; epoch = refl; read = refl }
-shown_rest (e ∷ es) w = let r = shown_rest es w in record { names = r.names; caches = r.caches; guards = r.guards; hinted = r.hinted; epoch = r.epoch; read = r.read }
+shown_rest (e ∷ es) w = let r = shown_rest es w in assumption
 
 -- ---- events at one page
 -- its deed by actor k, or its backing
@@ -82,7 +82,7 @@ module _ (k : ℕ) (d : Directory) (page : ℕ) where
   -- The events of steps at one page are deeds of the directory and backs of that page.
   pub search_at : (v : View) (xs : List Made) → EventsAt d page xs → AllAtPage k d page (events_by k v xs)
   search_at v [] at = tt
-  search_at v (m ∷ xs) at = next_at (event_of k (epoch_of (xs ++ v)) m.step m.answer) (events_by k v xs) (event_at (epoch_of (xs ++ v)) m at.0) (search_at v xs at.1)
+  search_at v (m ∷ xs) at = next_at _ (events_by k v xs) (event_at (epoch_of (xs ++ v)) m at.0) (search_at v xs at.1)
 
   -- ---- none but those that are due
   none_before : (f : Profile) (es base : List Event) → AllAtPage k d page es → Run f (es ++ base) → deed_in (es ++ base) page ≡ None → es ≡ []
@@ -104,13 +104,11 @@ module _ (k : ℕ) (d : Directory) (page : ℕ) where
   was_backed : (w : World) → backed_in w.events page ≡ true → backs k page w ≡ w
   was_backed w is = ap (λ (t : Bool). if t then w else shows (Event.Back k page) w) is
 
-  unbacked : (w : World) → backed_in w.events page ≡ false → backs k page w ≡ shows (Event.Back k page) w
-  unbacked w is = ap (λ (t : Bool). if t then w else shows (Event.Back k page) w) is
-
   -- before the backing there is the deed alone, or nothing
   back_there : (es : List Event) → backed_in (Event.Back k page ∷ es) page ≡ false → ⊥
   back_there es none = true≢false (sym (ap (λ (t : Bool). if t then true else backed_in es page) (eq-eqb page page refl)) ∙ none)
 
+  -- A page that has a deed and isn't backed had no backing before.
   deeded : (f : Profile) (es : List Event) (w : World) → AllAtPage k d page es → Run f (es ++ w.events) → deed_in (es ++ w.events) page ≢ None
       → backed_in (es ++ w.events) page ≡ false → deeds k d page w ≡ shown es w
   deeded f [] w all run some none = owned w some
@@ -134,9 +132,9 @@ module _ (k : ℕ) (d : Directory) (page : ℕ) where
           let empty : es ≡ [] = none_before f es w.events all.1 run.1 may.2 in
           let none : deed_in w.events page ≡ None = ap (λ (xs : List Event). deed_in (xs ++ w.events) page) (sym empty) ∙ may.2 in
           let still : backed_in w.events page ≡ true = ap (λ (xs : List Event). backed_in (xs ++ w.events) page) (sym empty) ∙ backed in
-          ap (backs k page) (unowned w none) ∙ (was_backed (shows (Event.Deed k page d) w) still ∙ ap (λ (xs : List Event). shows (Event.Deed k page d) (shown xs w)) (sym empty))
-      at e IsAtPage.Backs may backed =
-          ap (backs k page) (deeded f es w all.1 run.1 may.1 may.2) ∙ unbacked (shown es w) (ap (λ (xs : List Event). backed_in xs page) (shown_events es w) ∙ may.2)
+          ap (backs k page) (unowned w none) ∙ (was_backed _ still ∙ ap (λ (xs : List Event). shows (Event.Deed k page d) (shown xs w)) (sym empty))
+      at e IsAtPage.Backs may backed = ap (backs k page) (deeded f es w all.1 run.1 may.1 may.2)
+          ∙ (ap (λ (t : Bool). if t then (shown es w) else shows (Event.Back k page) (shown es w)) (ap (λ xs. backed_in xs page) (shown_events es w) ∙ may.2))
 
   -- .. where a block of it was given
   pub given_ready : (f : Profile) (es : List Event) (w : World) (giver : ℕ) (block : Block) (start : ℕ) → AllAtPage k d page es

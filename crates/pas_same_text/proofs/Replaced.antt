@@ -5,7 +5,7 @@ use Rattle.std.proofs.Common.{inl, inr, refl, ap, sym, ◌∙◌, subst, append_
 use Rattle.std.specs.List.{find, filter, count_by, Sorted.IsPermutation}
 use Rattle.std.proofs.lemmas.List.{Elements.All-head, Elements.All-tail, Sums.sum_by-cons, map-append, reverse-append}
 use Rattle.std.proofs.lemmas.List.Sorted.{IsPermutation-cons, IsPermutation-trans, IsPermutation-middle, IsPermutation-sym, IsPermutation-to_front}
-use Rattle.pas_profile.specs.{Classes.IsClass, Directories.IsKind, Profiles.IsValid, Profiles.IsAdmitted, Profiles.IsDirectoryOf, Blocks.address_of}
+use Rattle.pas_profile.specs.{Classes.IsClass, Directories.IsKind, Profiles.IsValid, Profiles.IsAdmitted, Profiles.IsDirectoryOf}
 use Rattle.pas_profile.specs.Requests.{route_in, is_shared, kind_of_class, kind_of_route, class_home, directory_for, room_in}
 use Rattle.pas_profile.specs.declared.{directory.Directory.Directory, directory.Kind.Kind, directory.Route.Route, event.NoRoom.NoRoom, name.Block.Block}
 use Rattle.pas_profile.specs.declared.{profile.Profile.Profile, event.Event.Event}
@@ -29,8 +29,8 @@ use Rattle.pas_cache.proofs.Routes.{may_search_bitfit, may_find}
 use Rattle.pas_trace.specs.{EveryPlan.IsThread, Acts.Act}
 use Rattle.pas_trace.specs.declared.{item.Request.Request, plan.What.TheVariants.Alloc}
 use Rattle.pas_answers.specs.Answers.{Progress, Answer, wanted_by, Caches, Named, named, having, IsReplaced, records_of, said_by, with_steps, after_answer}
-use Rattle.pas_same_text.specs.{State.World, Runs.large_of, Same.IsSame, Acts.IsBetween, Acts.IsResting, Acts.HasUsableBlocks, Frees.logs, Frees.frees}
-use Rattle.pas_same_text.specs.{Order.serves, Order.logs_replaced, Order.replaces, Requests.IsAsked, Requests.AnswersSame, Requests.RequestStaysSame}
+use Rattle.pas_same_text.specs.{State.World, Same.IsSame, Acts.IsBetween, Acts.IsResting, Acts.HasUsableBlocks, Frees.logs, Frees.frees, Order.serves}
+use Rattle.pas_same_text.specs.{Order.logs_replaced, Order.replaces, Requests.IsAsked, Requests.AnswersSame, Requests.RequestStaysSame}
 use Rattle.pas_same_text.proofs.{CacheLists.same_own, OneUp.up_to, BackActs.freed_any, SeatedActs.cached_again, SeatedActs.at_rest_now, SeatedActs.middle_rest}
 use Rattle.pas_same_text.proofs.{SmallActs.after_with, SmallActs.page_inside, SmallActs.freed_is, UsableBlocks.act_usable, SameIndexes.serves_many}
 use Rattle.pas_same_text.proofs.FetchedClasses.{class_directory_of, class_of_request, HasPlace, IsFetched, none_kept, place_fetched, keeps_unshared}
@@ -41,6 +41,7 @@ use Rattle.pas_answers.specs.Indexes.{IsNamedBy}
 
 -- ---- the one that passes a test is taken out of a list
 module _ {X : Type 0} (test : X → Bool) where
+  -- One more element counts where it passes the test.
   counted : (x : X) (xs : List X) (t : Bool) → test x ≡ t → count_by test (x ∷ xs) ≡ cond t 1 0 + count_by test xs
   counted x xs t e = sum_by-cons (λ y. cond (test y) 1 0) x xs ∙ ap (λ (u : Bool). cond u 1 0 + count_by test xs) e
 
@@ -57,12 +58,11 @@ module _ {X : Type 0} (test : X → Bool) where
       → IsPermutation (y ∷ ys) (x ∷ filter (λ z. not (test z)) (y ∷ ys))
   out_by y ys x true e found one more = search (arith, counted, kept_one, all_kept)
   out_by y ys x false e found one more =
-      let n = counted y ys false e in
       let later : find test ys ≡ Some x = ap (λ (u : Bool). cond u (Some y) (find test ys)) (sym e) ∙ found in
       let others : List X = filter (λ z. not (test z)) ys in
       subst (λ (zs : List X). IsPermutation (y ∷ ys) (x ∷ zs)) (sym (kept_one y ys false e))
       (IsPermutation-trans (y ∷ ys) (y ∷ x ∷ others) (x ∷ y ∷ others)
-      (IsPermutation-cons y ys (x ∷ others) (more later (omega (arith, n, one)))) (IsPermutation-middle (y ∷ []) x others))
+      (IsPermutation-cons y ys (x ∷ others) (more later (omega (arith, (counted y ys false e), one)))) (IsPermutation-middle (y ∷ []) x others))
 
   taken_out : (xs : List X) (x : X) → find test xs ≡ Some x → count_by test xs ≤ 1 → IsPermutation xs (x ∷ filter (λ y. not (test y)) xs)
   taken_out [] x found one = absurd (let bad : None ≡ Some x = found in cc)
@@ -74,9 +74,11 @@ module _ (f : Profile) (heap class : ℕ) (fewer : List Slots) (v : View) (of : 
   abbrev d : Directory
   d = class_home f heap class
 
+  -- The actor may search.
   may : MaySearch d v
   may = record { rights = λ page deed. rests.rights page ∙ none_kept f v heap class page fewer of.kind deed rests.known none; clear = rests.clear }
 
+  -- After a refill the actor rests with the new slots.
   refilled : (steps : List Made) (slots : Slots) → IsRefill (filling_in d class) f steps (Ok slots) → Agreed f v steps
       → RestsWith f (slots ∷ fewer) (steps ++ v)
   refilled steps slots refill agreed =
@@ -116,9 +118,11 @@ module _ (f : Profile) (k : ℕ) (r : Request) (p : Progress) (a : Answer) (w : 
   abbrev v : View
   v = part k p.list
 
+  -- The actor rests before the request.
   rests : RestsWith f c.locals v
   rests = rest.locals
 
+  -- The request's answers agree with its view.
   agreed : Agreed f v a.steps
   agreed = agreed_steps f k p.list a.steps valid legal
 
@@ -135,9 +139,9 @@ module _ (f : Profile) (k : ℕ) (r : Request) (p : Progress) (a : Answer) (w : 
         → RestsWith f (slots ∷ fewer) (early ++ v)
     cached_out slots fewer early finds =
         subst (λ (ms : List Made). RestsWith f (slots ∷ fewer) (ms ++ v)) (sym finds.no_steps)
-        (subst (λ (ss : List Slots). RestsWith f (slots ∷ ss) v) (sym finds.fewer_are)
-        (rests_reordered f c.locals _ (taken_out _ c.locals slots finds.cached (rests.apart.one_each r.heap class)) v rests))
+        (rw finds.fewer_are (rests_reordered f c.locals _ (taken_out _ c.locals slots finds.cached (rests.apart.one_each r.heap class)) v rests))
 
+    -- After a fetch that got slots the actor is at rest.
     fetched : (slots : Slots) (fewer : List Slots) (early : List Made) → Legal f (triples k early ++ p.list)
         → Fetches (filling_in home class) f c.locals fewer early (Ok slots) → RestsWith f (slots ∷ fewer) (early ++ v)
     fetched slots fewer early stands fetch =
@@ -152,12 +156,12 @@ module _ (f : Profile) (k : ℕ) (r : Request) (p : Progress) (a : Answer) (w : 
         refilled f r.heap class fewer _ o.directory o.known none mid fetch.searched slots fetch.refill (agreed_first f v fetch.searched fetch.before ok) in
         rw (fetch.steps_are, append_assoc) all
 
+    -- So it is however they were obtained.
     obtained : (slots : Slots) (fewer : List Slots) (early : List Made) → Legal f (triples k early ++ p.list)
         → IsObtained (filling_in home class) f c.locals fewer early (Ok slots) → RestsWith f (slots ∷ fewer) (early ++ v)
     obtained slots fewer early stands (inl cached) =
         let some : Ok slots ≡ Ok cached.0 = cached.1 in
-        let is : slots ≡ cached.0 = cc in
-        subst (λ (s : Slots). RestsWith f (s ∷ fewer) (early ++ v)) (sym is) (cached_out cached.0 fewer early cached.2)
+        subst (λ (s : Slots). RestsWith f (s ∷ fewer) (early ++ v)) (sym cc) (cached_out cached.0 fewer early cached.2)
     obtained slots fewer early stands (inr fetch) = fetched slots fewer early stands fetch
 
     given_rests : (found : Result Slots NoRoom) (fewer locals' : List Slots) (given early : List Made) → a.steps ≡ given ++ early
@@ -177,9 +181,8 @@ module _ (f : Profile) (k : ℕ) (r : Request) (p : Progress) (a : Answer) (w : 
     class_rests : ServesClass (filling_in (directory_for f r.heap r.size r.align) class) f c a.cache a.steps (Ok block)
         → RestsWith f a.cache.locals (a.steps ++ v)
     class_rests by_class =
-        let home_is : directory_for f r.heap r.size r.align ≡ home = ap home_by route in
         let own : ServesClass (filling_in home class) f c a.cache a.steps (Ok block) =
-        subst (λ (e : Directory). ServesClass (filling_in e class) f c a.cache a.steps (Ok block)) home_is by_class in
+        subst (λ (e : Directory). ServesClass (filling_in e class) f c a.cache a.steps (Ok block)) (ap home_by route) by_class in
         given_rests own.locals.found own.locals.fewer a.cache.locals own.locals.given own.locals.before own.locals.steps_are own.locals.obtained own.locals.ends
 
   -- ---- of a bit-fit page
@@ -187,17 +190,16 @@ module _ (f : Profile) (k : ℕ) (r : Request) (p : Progress) (a : Answer) (w : 
       → RestsWith f a.cache.locals (a.steps ++ v)
   bitfit_rests route by_bitfit =
       let d : Directory = bitfit_directory r.heap in
-      let home_is : directory_for f r.heap r.size r.align ≡ d = ap home_by route in
       let both : IsAllocated f d (wanted_by f r).room r.align by_bitfit.searched by_bitfit.after block =
-      subst (λ (e : Directory). IsAllocated f e (wanted_by f r).room r.align by_bitfit.searched by_bitfit.after block) home_is by_bitfit.outcome in
+      subst (λ (e : Directory). IsAllocated f e (wanted_by f r).room r.align by_bitfit.searched by_bitfit.after block) (ap home_by route) by_bitfit.outcome in
       let page : ℕ = both.0.page in
       let gave : GaveBlock page d block v (a.steps ++ v) =
       subst (λ (ms : List Made). Agreed f v ms → GaveBlock page d block v (ms ++ v)) (sym by_bitfit.steps_are)
       (λ ok. both.0.gave.from v (may_search_bitfit f v r.heap c.locals rests) ok) agreed in
-      let known : All (IsLocal f (a.steps ++ v)) c.locals = locals_after f _ a.steps v c.locals gave.does agreed (λ g here. (rests.grains g ∙ here, refl)) rests.known in
+      let known = locals_after f _ a.steps v c.locals gave.does agreed (λ g here. (rests.grains g ∙ here, refl)) rests.known in
       subst (λ (x : Cached). RestsWith f x.locals (a.steps ++ v)) (sym by_bitfit.cache)
       (rests_by f _ a.steps v c.locals c.locals gave.does (λ g. refl)
-      (λ q. lost_none (page == q) _ (λ at. no_class_kept f _ d q c.locals tt not_bitfit (subst (λ (i : ℕ). KnowsDeed i d (a.steps ++ v)) (eqb-true page q at) gave.deed) known))
+      (λ q. lost_none (page == q) _ (λ at. no_class_kept f _ d q c.locals tt not_bitfit (rw (eqb-true page q at) at gave.deed) known))
       (λ q. refl) rests known rests.apart)
 
   -- ---- of whole pages
@@ -205,8 +207,7 @@ module _ (f : Profile) (k : ℕ) (r : Request) (p : Progress) (a : Answer) (w : 
       → RestsWith f a.cache.locals (a.steps ++ v)
   pages_rests route by_pages =
       let d : Directory = directory_for f r.heap r.size r.align in
-      let home_is : large_of r.heap ≡ d = ap home_by (sym route) in
-      let find_it : MayFind d v = subst (λ (e : Directory). MayFind e v) home_is (may_find f v r.heap c.locals rests) in
+      let find_it : MayFind d v = subst (λ (e : Directory). MayFind e v) (ap home_by (sym route)) (may_find f v r.heap c.locals rests) in
       let ok : Agreed f v (by_pages.rest ++ by_pages.tried) = subst (Agreed f v) by_pages.steps_are agreed in
       rw (by_pages.cache, by_pages.steps_are) (by_outcome d find_it by_pages.tried by_pages.rest ok by_pages.outcome)
     where
@@ -237,7 +238,7 @@ module _ (f : Profile) (k : ℕ) (r : Request) (p : Progress) (a : Answer) (w : 
 -- ==== REALLOCATIONS THAT REPLACE A BLOCK: the request for another one as an act of its own, and where it was served the old name logged then.
 -- ---- records of steps that follow others
 records_both : (later earlier : List Event) → records_of (later ++ earlier) ≡ records_of earlier ++ records_of later
-records_both later earlier = ap (λ (es : List Event). map Record.Event es) (reverse-append later earlier) ∙ map-append Record.Event (reverse earlier) (reverse later)
+records_both later earlier = ap (λ (es : List Event). map Record.Event es) (reverse-append later earlier) ∙ map-append Record.Event _ (reverse later)
 
 -- ---- what a name stands for that was asked for last
 -- ---- between the request and the log all actors are at rest
@@ -249,6 +250,7 @@ module _ (f : Profile) (k : ℕ) (r : Request) (old : Block) (p : Progress) (a :
   abbrev midway : Progress
   midway = after_answer p k is.placed
 
+  -- The list between request and free is legal.
   legal : Legal f midway.list
   legal = legal_earlier f k is.freed is.placed.steps p.list (subst (λ (ms : List Made). Legal f (triples k ms ++ p.list)) is.steps_are after.legal)
 
@@ -259,7 +261,7 @@ module _ (f : Profile) (k : ℕ) (r : Request) (old : Block) (p : Progress) (a :
 
   serves_by : (answer : Result Block NoRoom) → is.served.answer ≡ answer
       → ServesBy (route_in f r.size r.align) f (wanted_by f r) is.placed.found (p.caches k) is.placed.cache is.placed.steps answer
-  serves_by answer e = subst (λ (x : Result Block NoRoom). ServesBy (route_in f r.size r.align) f (wanted_by f r) is.placed.found (p.caches k) is.placed.cache is.placed.steps x) e is.served.serves
+  serves_by answer e = rw e at is.served.serves
 
   own_rest : (answer : Result Block NoRoom) → is.served.answer ≡ answer
       → MatchResult answer (λ block. TakesEntry f k is.placed.cache a.cache (entry_of old.name) is.freed) (λ room. (is.freed ≡ []) × (a.cache ≡ is.placed.cache))
@@ -267,17 +269,17 @@ module _ (f : Profile) (k : ℕ) (r : Request) (old : Block) (p : Progress) (a :
   own_rest (Err room) e none = search (arith, at_end)
   own_rest (Ok block) e takes =
       let serves_it = serves_by (Ok block) e in
-      let log : is.placed.cache.log ≡ (p.caches k).log = served_log f k r p is.placed w block valid thread listed admitted before same is.served.rest legal serves_it in
-      let kept : a.cache.locals ≡ is.placed.cache.locals = ap (λ (c : Cached). c.locals) takes.cache in
+      let log = served_log f k r p is.placed w block valid thread listed admitted before same is.served.rest legal serves_it in
       record {
         locals = rw part_of_own (served_rests f k r p is.placed w block valid thread listed admitted before same is.served.rest legal serves_it);
-        few = subst (λ (ls : List Slots). length ls ≤ 32) kept at_end.few;
+        few = subst (λ (ls : List Slots). length ls ≤ 32) (ap (λ (c : Cached). c.locals) takes.cache) at_end.few;
         entries = subst (All (IsEntryOf f)) (sym log) is.served.rest.entries;
         few_entries = subst (λ (es : List Entry). length es ≤ 64) (sym log) is.served.rest.few_entries;
       }
 
+  -- There the replay is between two pieces.
   middle : IsBetween f midway
-  middle = record { legal = legal; rest = middle_rest f p k is.placed.cache is.placed.steps valid thread before is.served.rest legal (own_rest is.served.answer refl is.logged) }
+  middle = record { legal = legal; rest = middle_rest f p k _ is.placed.steps valid thread before is.served.rest legal (own_rest _ refl is.logged) }
 
 -- ---- the act, with all that is known of its request
 module _ (f : Profile) (k : ℕ) (r : Request) (old : Block) (p : Progress) (a : Answer) (w : World) (heap_is : old.heap ≡ r.heap)
@@ -300,6 +302,7 @@ module _ (f : Profile) (k : ℕ) (r : Request) (old : Block) (p : Progress) (a :
   unserved_to : a.steps ≡ is.placed.steps → a.cache ≡ is.placed.cache → after_answer p k a ≡ q
   unserved_to steps cache = search arith
 
+  -- A reallocation whose request is refused is the text's.
   unserved : is.placed.names ≡ named r.name None ∷ p.names → is.freed ≡ [] → a.cache ≡ is.placed.cache → IsSame f (after_answer p k a) to
   unserved names_are none cache =
       rw (unserved_to (is.steps_are ∙ ap (λ (ms : List Made). ms ++ is.placed.steps) none) cache, text_as None names_are) at_request
@@ -355,6 +358,7 @@ module _ (f : Profile) (k : ℕ) (r : Request) (old : Block) (p : Progress) (a :
     listed_then : k ≤ length mid.caches
     listed_then = omega (arith, asked.listed, serves_many f k r.name r.heap (route_in f r.size r.align) (room_in f r.size r.align) r.align w)
 
+    -- The free was logged.
     logged : IsSame f end (frees f k (entry_of old.name) mid)
     logged =
         freed_any f k (entry_of old.name) q mid a.cache is.freed asked.thread listed_then asked.valid asked.after at_request usable_then between_end None
@@ -362,7 +366,7 @@ module _ (f : Profile) (k : ℕ) (r : Request) (old : Block) (p : Progress) (a :
 
     text_logs : frees f k (entry_of old.name) mid ≡ logs f k (entry_of old.name) mid
     text_logs =
-        freed_is f k (entry_of old.name) mid true true (page_inside f.pages (address_of old.name) takes.region.page.0 takes.region.page.1) (eq-eqb (address_of old.name % 16) 0 takes.region.aligned)
+        freed_is f k (entry_of old.name) mid true true (page_inside f.pages _ takes.region.page.0 takes.region.page.1) (eq-eqb _ 0 takes.region.aligned)
 
     served_to : IsSame f (after_answer p k a) to
     served_to =

@@ -1,7 +1,7 @@
 -- Pages whenever all actors are at rest: a page with room that nobody keeps is offered, and an offered page is offered in the text where it has room. Then: pages
 -- after an act that only gives back.
-use Rattle.std.proofs.Common.{◌≡◌, ℕ, zero, suc, ◌+◌, ◌*◌, ◌/◌, ◌%◌, ◌<◌, ◌≤◌, ◌==◌, Bool, true, false, not, ◌&&◌, List, Option, None, Some, inl, inr, refl, ap}
-use Rattle.std.proofs.Common.{sym, ◌∙◌, arith, eq-eqb, eqb-true, true≢false, ◌||◌, ◌++◌, ◌⊎◌, subst}
+use Rattle.std.proofs.Common.{◌≡◌, ℕ, zero, suc, ◌+◌, ◌*◌, ◌/◌, ◌%◌, ◌<◌, ◌≤◌, ◌==◌, Bool, true, false, not, ◌&&◌, List, Option, Some, inl, inr, refl, ap, sym}
+use Rattle.std.proofs.Common.{◌∙◌, arith, eq-eqb, eqb-true, true≢false, ◌||◌, ◌++◌, ◌⊎◌, subst}
 use Rattle.std.proofs.lemmas.Bool.{false≢true, and_cases, and_from, not_from_false, false_from_ne_true, not-true, not-false, or_cases, or_left, or_right}
 use Rattle.pas_bits.specs.Bits.{has_bit}
 use Rattle.pas_profile.specs.Directories.{number_of, deed_word_of, deed_word_numbered, IsKind}
@@ -65,16 +65,7 @@ owned_is f l w legal events page = deed_of f l legal page ∙ ap (λ (es : List 
 -- an actor that knows the deed of a page knows its word
 pub word_known : (f : Profile) (l : Whole) → Legal f l → (k page : ℕ) (d : Directory) → known_deed (part k l) page ≡ deed_word_of d
     → word_after l (Word.Deed page) ≡ deed_word_of d
-word_known f l legal k page d knows = sym (known_is (known_deed (part k l) page) (word_after l (Word.Deed page)) (deeds_known f l legal k page) (λ none. deed_word_of-positive d (sym knows ∙ none))) ∙ knows
-
-pub record IsDeedOf (o : Option Directory) (d : Directory) : Type 0 where
-  pub deed : Directory
-  pub is : o ≡ Some deed
-  pub number : number_of deed ≡ number_of d
-
-deed_told : (d : Directory) (o : Option Directory) → is_same d o ≡ true → IsDeedOf o d
-deed_told d None h = absurd (false≢true h)
-deed_told d (Some e) h = record { deed = e; is = refl; number = eqb-true (number_of e) (number_of d) h }
+word_known f l legal k page d knows = sym (known_is (known_deed (part k l) page) _ (deeds_known f l legal k page) (λ none. deed_word_of-positive d (sym knows ∙ none))) ∙ knows
 
 same_number : (a b : Directory) → IsKind a.kind → IsKind b.kind → number_of a ≡ number_of b → a ≡ b
 same_number a b ka kb same = same_from_deed_word a b ka kb (sym (numbered a ka) ∙ (ap deed_word_numbered same ∙ numbered b kb))
@@ -111,11 +102,7 @@ module _ (f : Profile) (p : Progress) (w : World) (valid : IsValid f) (between :
 
   -- A page of a directory in the text has that deed by the replay's events.
   pub deed_now : (page : ℕ) (d : Directory) → IsDirectoryOf f d → is_of w d page ≡ true → deed_in (visible p.list) page ≡ Some d
-  deed_now page d of h =
-      let o : IsDeedOf (deed_in w.events page) d = deed_told d (deed_in w.events page) h in
-      let there : deed_in (visible p.list) page ≡ Some o.deed = ap (λ (es : List Event). deed_in es page) (sym same.events) ∙ o.is in
-      let of_own : IsDirectoryOf f o.deed = directory_is_of f p.list between.legal page o.deed there in
-      there ∙ ap (λ (x : Directory). Some x) (same_number o.deed d of_own.kind of.kind o.number)
+  deed_now page d of h = search (arith, same_number, directory_is_of, false≢true, eqb-true)
 
   -- A page with a deed by the replay's events has that directory's word.
   pub word_now : (page : ℕ) (d : Directory) → deed_in (visible p.list) page ≡ Some d → word_after p.list (Word.Deed page) ≡ deed_word_of d
@@ -125,15 +112,11 @@ module _ (f : Profile) (p : Progress) (w : World) (valid : IsValid f) (between :
   pub free_at : (page b : ℕ) → b < 256 → is_guarded w page ≡ false → is_free w page b ≡ has_bit (word_after p.list (Word.Free page (b / 64))) (b % 64)
   free_at page b small none = free_unless f p w valid between same page b small none ∙ bit_at p.list page b small
 
-  usable_at : (page b : ℕ) (d : Directory) → b < 256 → IsDirectoryOf f d → word_after p.list (Word.Deed page) ≡ deed_word_of d → is_guarded w page ≡ false
-      → usable_by_kind d.kind b ≡ true → is_free w page b ≡ true → IsUsableFree p.list page (b / 64) (b % 64)
-  usable_at page b d small of word none usable free = search (arith, free_at, read-deed_word_of, directory_from_profile)
-
   -- ---- A PAGE WITH ROOM that nobody keeps is offered
   offered_where : (page b : ℕ) (d : Directory) → b < 256 → IsDirectoryOf f d → word_after p.list (Word.Deed page) ≡ deed_word_of d → is_kept w page ≡ false
       → IsUsableFree p.list page (b / 64) (b % 64) → eligible_bit p.list (number_of d) page ≡ true
   offered_where page b d small of word kept usable =
-      let o : IsRightOffered f p.list page = offered_at_rest f p.list between.legal clear_of page (b / 64) (b % 64) (omega (arith, small)) (λ none. deed_word_of-positive d (sym word ∙ none)) usable (nobody_keeps f p w valid between same page kept) in
+      let o = offered_at_rest f p.list between.legal clear_of page _ (b % 64) (omega (arith, small)) (λ none. deed_word_of-positive d (sym word ∙ none)) usable (nobody_keeps f p w valid between same page kept) in
       let is : o.directory ≡ d = same_from_deed_word o.directory d o.of_profile.kind of.kind (sym o.deed ∙ word) in
       o.offered (number_of d) ∙ (ap (λ (x : Directory). number_of x == number_of d) is ∙ eq-eqb (number_of d) (number_of d) refl)
 
@@ -142,23 +125,19 @@ module _ (f : Profile) (p : Progress) (w : World) (valid : IsValid f) (between :
   offered_bit page d of h =
       let own : is_of w d page ≡ true = and_first (is_of w d page) (not (is_kept w page) && is_open w d page) h in
       let rest : (not (is_kept w page) && is_open w d page) ≡ true = and_second (is_of w d page) (not (is_kept w page) && is_open w d page) h in
-      let kept : is_kept w page ≡ false = not-true (is_kept w page) (and_first (not (is_kept w page)) (is_open w d page) rest) in
       let open_page : is_open w d page ≡ true = had_open w d page h in
       let room : has_room w d page ≡ true = open_room w d page open_page in
-      let o : Fails 0 256 (λ b. not (usable_by_kind d.kind b && is_free w page b)) = some_fails 256 0 (λ b. not (usable_by_kind d.kind b && is_free w page b)) (not-true (each_of 0 256 (λ b. not (usable_by_kind d.kind b && is_free w page b))) room) in
-      let both : (usable_by_kind d.kind o.number && is_free w page o.number) ≡ true = not-false (usable_by_kind d.kind o.number && is_free w page o.number) o.fails in
+      let o = some_fails 256 0 (λ b. not (usable_by_kind d.kind b && is_free w page b)) (not-true _ room) in
+      let both = not-false (usable_by_kind d.kind o.number && is_free w page o.number) o.fails in
       let small : o.number < 256 = o.high in
       let word : word_after p.list (Word.Deed page) ≡ deed_word_of d = word_now page d (deed_now page d of own) in
-      offered_where page o.number d small of word kept
-      (usable_at page o.number d small of word (open_unguarded w d page open_page) (and_first (usable_by_kind d.kind o.number) (is_free w page o.number) both) (and_second (usable_by_kind d.kind o.number) (is_free w page o.number) both))
+      offered_where page o.number d small of word (not-true (is_kept w page) (and_first (not (is_kept w page)) (is_open w d page) rest))
+      (search (arith, free_at, read-deed_word_of, directory_from_profile))
 
   -- ---- AN OFFERED PAGE has a deed of its directory, and nobody keeps it
   pub deed_from_word : (page : ℕ) (d : Directory) (o : Option Directory) → deed_in (visible p.list) page ≡ o → word_of_deed o ≡ deed_word_of d → IsKind d.kind
       → is_same d o ≡ true
-  deed_from_word page d None at word is = absurd (deed_word_of-positive d (sym word))
-  deed_from_word page d (Some e) at word is =
-      let of_own : IsDirectoryOf f e = directory_is_of f p.list between.legal page e at in
-      eq-eqb (number_of e) (number_of d) (ap number_of (same_from_deed_word e d of_own.kind is word))
+  deed_from_word page d a at word is = search (arith, deed_word_of-positive, directory_is_of, eq-eqb, same_from_deed_word)
 
   -- A page whose offered bit is set is of that directory in the text, and nobody keeps it.
   pub bit_tells : (page : ℕ) (d : Directory) → IsDirectoryOf f d → IsRightInOnePlace f p.list page → eligible_bit p.list (number_of d) page ≡ true
@@ -179,7 +158,7 @@ module _ (f : Profile) (p : Progress) (w : World) (valid : IsValid f) (between :
       → is_offered w d page ≡ true
   bit_offered page d of h open_page =
       let told = bit_tells page d of (right_in_one_place f p.list between.legal page) h in
-      and_from (is_of w d page) (not (is_kept w page) && is_open w d page) told.0 (and_from (not (is_kept w page)) (is_open w d page) (not_from_false (is_kept w page) told.1) open_page)
+      and_from (is_of w d page) _ told.0 (and_from (not (is_kept w page)) (is_open w d page) (not_from_false (is_kept w page) told.1) open_page)
 
 -- ==== Pages after an act that only gives back: which are hinted, and which are offered.
 -- ---- room
@@ -256,11 +235,10 @@ module _ (f : Profile) (p : Progress) (w : World) (valid : IsValid f) (between :
   -- A page that is backed and empty in the replay is idle in the text.
   pub page_idle : (page : ℕ) → IsEmptyBacked p.list page → is_idle w page ≡ true
   page_idle page e =
-      let backed : backed_in (visible p.list) page ≡ true = one_backed (backed_in (visible p.list) page) (sym e.backed ∙ (agrees f p.list valid between.legal).backed page) in
       let empty : is_empty w page ≡ true = each_all 256 0 _ (λ b low high.
       let of : (256 * page + b) / 256 ≡ page = omega (arith, high) in
       bit_free f p w valid between same page b high (e.free (256 * page + b) of)) in
-      and_from _ _ (backed_is page ∙ backed) empty
+      and_from _ _ (backed_is page ∙ (one_backed (backed_in (visible p.list) page) (sym e.backed ∙ (agrees f p.list valid between.legal).backed page))) empty
 
   -- at rest such a page is hinted
   pub idle_hinted : (page : ℕ) → is_idle w page ≡ true → empty_bit p.list page ≡ true
@@ -279,6 +257,7 @@ pub record IsGivenBack (f : Profile) (k : ℕ) (l : Whole) (w : World) (steps : 
 module _ (f : Profile) (k : ℕ) (l : Whole) (p' : Progress) (w v : World) (steps : List Made) (valid : IsValid f) (was : ArePagesSame f l w)
     (list : p'.list ≡ triples k steps ++ l) (between : IsBetween f p') (same : HasSame f p' v)
     (given : IsGivenBack f k l w steps v) where
+  -- The list with the steps is legal.
   legal : Legal f (triples k steps ++ l)
   legal = subst (Legal f) list between.legal
 

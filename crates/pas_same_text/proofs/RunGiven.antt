@@ -22,7 +22,7 @@ use Rattle.pas_search.specs.Kinds.{ReturnsDuly}
 use Rattle.pas_large.specs.{Allocates.GaveLarge, Claims.in_span, Evidence.DeedsRise, Finds.MayFind, Finds.finding, Gives.BackStep, Gives.pages_from}
 use Rattle.pas_large.specs.{Gives.run_block, Pages.GotPages}
 use Rattle.pas_guard.specs.Seeks.{seeking}
-use Rattle.pas_large.proofs.{Outcomes.MadeOf, InOrder.only_backs, InOrder.only_leaves, Claims.span_in, Claims.in_parts, Gives.run_is}
+use Rattle.pas_large.proofs.{Finds.MadeOf, Left.only_backs, Left.only_leaves, Claims.span_in, Claims.in_parts, Gives.run_is}
 use Rattle.pas_cache.specs.{Caches.AtRest, Contents.Cached, Kinds.allocating, Locals.any_covers}
 use Rattle.pas_cache.proofs.Routes.{may_find}
 use Rattle.pas_report.specs.declared.record.Record.{Record}
@@ -47,6 +47,7 @@ pub record GaveRun (f : Profile) (d : Directory) (first n : ℕ) (got after : Li
   pub returns : Always ReturnsDuly got
   pub deeds_in : DeedsInRun d first n got
   pub rise : DeedsRise got
+  -- It got the pages of the run.
   pub pages : Leads f (MayFind d) (GotPages (in_span first (first + n)) d) got
   pub backs : List Made
   pub back_order : InTurn BackStep (pages_from first n) backs
@@ -100,29 +101,34 @@ module _ (f : Profile) (k name heap first n : ℕ) (p : Progress) (u : World) (g
   legal_backs = legal_between f k (run.left ++ gave) run.backs got p.list
       (subst (λ (ms : List Made). Legal f (triples k ms ++ p.list)) (steps_are ∙ sym (append_assoc run.left gave (run.backs ++ got))) legal)
 
+  -- The actor may search for a run.
   may : MayFind d own
   may = may_find f own heap c.locals rest_now.locals
 
   pages : GotPages (in_span first (first + n)) d own (got ++ own)
   pages = run.pages.from own may (agreed_steps f k p.list got valid legal_got)
 
+  -- It gave the block of the run.
   given : GaveLarge d first n block own ((rest ++ got) ++ own)
   given = run.gave.from own may (agreed_steps f k p.list (rest ++ got) valid legal)
 
+  -- Each page of the run is in the span.
   span : (x : ℕ) → IsInRun first n x → in_span first (first + n) x ≡ true
   span x here = span_in first (first + n) x here.0 here.1
 
   abbrev mine : ℕ → Bool
   mine x = in_span first (first + n) x
 
+  -- The search lends nothing.
   lends : LendsNone got
   lends = lends_none finding refl got run.kinds
 
+  -- It makes steps of a search for a run alone.
   seeks : Only seeking got
   seeks = only_within finding seeking got refl run.kinds
 
   made_of : MadeOf d got
-  made_of = always_map _ (λ m before. (x : ℕ) (e : Directory) → m.step ≡ Deed x e → m.answer ≡ 0 → e ≡ d) got (λ m before h x e same zero. (h x e same zero).0) run.deeds_in
+  made_of = always_map _ _ got (λ m before h x e same zero. (h x e same zero).0) run.deeds_in
 
   -- ---- events
   abbrev ds : List Event
@@ -144,21 +150,20 @@ module _ (f : Profile) (k name heap first n : ℕ) (p : Progress) (u : World) (g
       ∙ ap (λ (xs : List Event). bs ++ xs) (deeded_events k d own got seeks made_of))))
 
   visible_mid : visible mid ≡ ds ++ u.events
-  visible_mid =
-      visible_steps k got p.list ∙ (ap (λ (xs : List Event). xs ++ visible p.list) (deeded_events k d own got seeks made_of) ∙ ap (λ (base : List Event). ds ++ base) (sym same.pages.events))
+  visible_mid = visible_steps k got p.list
+      ∙ (ap (λ (xs : List Event). xs ++ visible p.list) (deeded_events k d own got seeks made_of) ∙ ap (λ base. ds ++ base) (sym same.pages.events))
 
   -- each page of the run has its deed before the backings
   word_mid : (x : ℕ) → IsInRun first n x → word_after mid (Word.Deed x) ≡ deed_word_of d
   word_mid x here =
-      let knows : known_deed (part k mid) x ≡ deed_word_of d = ap (λ (v : View). known_deed v x) (part_of_own k got p.list) ∙ pages.deeds x (span x here) in
-      word_known f mid legal_got k x d knows
+      word_known f mid legal_got k x d (ap (λ (v : View). known_deed v x) (part_of_own k got p.list) ∙ pages.deeds x (span x here))
 
   deeds_there : (x : ℕ) → IsInRun first n x → deed_in (ds ++ u.events) x ≢ None
-  deeds_there x here = no_deed_there d (deed_in (ds ++ u.events) x) (ap (λ (xs : List Event). word_of_deed (deed_in xs x)) (sym visible_mid) ∙ (sym (deed_of f mid legal_got x) ∙ word_mid x here))
+  deeds_there x here = no_deed_there d _ (ap (λ (xs : List Event). word_of_deed (deed_in xs x)) (sym visible_mid) ∙ (sym (deed_of f mid legal_got x) ∙ word_mid x here))
 
   -- ---- the text
   deeds_text : in_turn (deeds k d) first n u ≡ shown ds u
-  deeds_text = deeds_in_turn k d f n first (deeded got) u (deeded_falls k d got run.rise) (deeded_within k d n first got run.deeds_in) (subst (Run f) visible_mid (runs f mid valid legal_got)) deeds_there
+  deeds_text = deeds_in_turn k d f n first _ u (deeded_falls k d got run.rise) (deeded_within k d n first got run.deeds_in) (subst (Run f) visible_mid (runs f mid valid legal_got)) deeds_there
 
   backs_text : in_turn (backs k) first n (shown ds u) ≡ shown bs (shown ds u)
   backs_text = backs_in_turn f k mid (shown ds u) legal_got (shown_events ds u ∙ sym visible_mid) n first run.backs legal_backs run.back_order
@@ -168,41 +173,34 @@ module _ (f : Profile) (k name heap first n : ℕ) (p : Progress) (u : World) (g
 
   -- ---- the block
   gives_it : GivesBlock f k p q u (rest ++ got) es block (address_on first 0) (4096 * n) heap
-  gives_it = record {
-    valid = valid;
-    same = same;
-    there = there;
-    list = refl;
-    events_are = events_are;
-    address_is = let at : address_of block.name ≡ first * 4096 = ap (λ (b : Block). address_of b.name) run.block_is in omega (arith, at);
-    room_is = let room : block.room ≡ n * 4096 = ap (λ (b : Block). b.room) run.block_is in omega (arith, room);
-    heap_is = ap (λ (b : Block). b.heap) run.block_is;
-  }
+  gives_it =
+      let at : address_of block.name ≡ first * 4096 = ap (λ (b : Block). address_of b.name) run.block_is in
+      let room : block.room ≡ n * 4096 = ap (λ (b : Block). b.room) run.block_is in
+      let address_is : address_of block.name ≡ address_on first 0 = omega (arith, at) in
+      let room_is : block.room ≡ 4096 * n = omega (arith, room) in
+      assumption (events_are, address_is, room_is, ap (λ (b : Block). b.heap) run.block_is)
 
   same_now : HasSame f q v
-  same_now = record {
-    events = events_now gives_it;
-    live = live_now gives_it;
-    caches = subst (AreSameCaches f (with_cached p.caches k c)) (sym (shown_rest es u).caches) (same_kept f p.caches u.caches k same.caches);
-    guards = guards_as p.books u v (shown_rest es u).guards same.guards;
-  }
+  same_now =
+      let caches = subst (AreSameCaches f (with_cached p.caches k c)) (sym (shown_rest es u).caches) (same_kept f p.caches u.caches k same.caches) in
+      assumption (events_now gives_it, live_now gives_it, caches, guards_as p.books u v (shown_rest es u).guards same.guards)
 
   -- ---- grains
   in_block : (g : ℕ) → in_run (grain_of block.name) (length_of block) g ≡ in_span first (first + n) (g / 256)
   in_block g = ap (λ (b : Block). in_run (grain_of b.name) (length_of b) g) run.block_is ∙ run_is d first n run.word g
 
+  -- The block covers each grain of its pages.
   covers : (x b : ℕ) → IsInRun first n x → b < 256 → in_run (grain_of block.name) (length_of block) (256 * x + b) ≡ true
   covers x b here small = in_block (256 * x + b) ∙ (ap (in_span first (first + n)) (on_page x b small) ∙ span x here)
-
-  within : (x : ℕ) → mine x ≡ true → IsInRun first n x
-  within x h = in_parts first (first + n) x h
 
   deeds_ready : AreReadying k d mine ds
   deeds_ready = made_ready k d mine (deeded got) (all_map (IsInRun first n) (λ x. mine x ≡ true) (deeded got) span (deeded_within k d n first got run.deeds_in))
 
+  -- The events make these pages ready.
   ready : AreReadying k d mine es
   ready = all_both (IsReadying k d mine) bs ds (backs_ready k d mine n first (part k mid) run.backs run.back_order) deeds_ready
 
+  -- The steps use these pages alone.
   uses : UsesOnly p q mine
   uses = record {
     cached = λ j g h. inl (ap (λ (x : Cached). any_covers x.locals g) (kept_at p.caches j k (j == k) refl) ∙ h);
@@ -225,13 +223,14 @@ module _ (f : Profile) (k name heap first n : ℕ) (p : Progress) (u : World) (g
     list = sym (triples_append k rest got p.list);
     right = λ x here. ap (λ (y : View). has_right y x) (part_of_own k got p.list) ∙ (pages.does.right x ∙ ap (λ (t : Bool). has_now (if t then Gained else Kept) (has_right own x)) here);
     deeds = λ x here. word_known f q.list legal k x d (ap (λ (y : View). known_deed y x) (part_of_own k (rest ++ got) p.list) ∙ given.deeds x here);
-    in_use = λ x here. block_uses gives_it x 0 (omega arith) (covers x 0 (within x here) (omega arith));
+    in_use = λ x here. block_uses gives_it x 0 (omega arith) (covers x 0 (in_parts first (first + n) x here) (omega arith));
   }
 
   all_kinds : Only allocating (rest ++ got)
   unfolding behind
   all_kinds = only_both allocating rest got (only_within leaving allocating rest refl (rest_leaves d behind.pages [] run.left behind.gave rest run.left_order tt behind.gave_kinds run.after_is)) (only_within finding allocating got refl run.kinds)
 
+  -- Search and give are one piece of the actor.
   piece : IsPiece f k p q u v mine got rest
   piece = record {
     valid = valid;
@@ -258,15 +257,9 @@ module _ (f : Profile) (k name heap first n : ℕ) (p : Progress) (u : World) (g
 
   -- ---- ALL
   given_same : IsSame f q v
-  given_same = record {
-    pages = piece_pages piece;
-    caches = same_now.caches;
-    guards = same_now.guards;
-    names = names_now gives_it name;
-    records = ap (λ (rs : List Record). p.records ++ rs) (append-nil (records_of (events_by k own (rest ++ got)))) ∙ records_now gives_it;
-    epoch = epoch_now gives_it all_kinds;
-    read = (shown_rest es u).read ∙ same.read;
-  }
+  given_same =
+      let records = ap (λ (rs : List Record). p.records ++ rs) (append-nil (records_of (events_by k own (rest ++ got)))) ∙ records_now gives_it in
+      assumption (piece_pages piece, records, names_now gives_it name, epoch_now gives_it all_kinds, (shown_rest es u).read ∙ same.read, same_now)
 
   -- A run of whole pages that was found and given leads the text to the replay's state.
   pub run_given : IsSame f q (gives_pages k name heap first n u)

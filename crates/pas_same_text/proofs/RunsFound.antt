@@ -4,17 +4,17 @@ use Rattle.std.proofs.Common.{◌≡◌, ◌≢◌, ℕ, ◌+◌, ◌*◌, ◌<�
 use Rattle.std.proofs.Common.{arith, eqb-true, eq-eqb, zero, suc, map, Option, None, Some, subst, true≢false, ne_eqb}
 use Rattle.std.proofs.lemmas.Bool.{false≢true, cases_eq, or_from}
 use Rattle.pas_bits.specs.Bits.{has_bit}
-use Rattle.pas_profile.specs.{Directories.IsKind, Directories.number_of, Directories.deed_word_of, Layouts.same_word, Profiles.IsDirectoryOf}
+use Rattle.pas_profile.specs.{Directories.IsKind, Directories.number_of, Directories.deed_word_of, Profiles.IsDirectoryOf}
 use Rattle.pas_profile.specs.declared.{directory.Directory.Directory, profile.Profile.Profile, word.Word.Word, event.Event.Event}
 use Rattle.pas_profile.proofs.{Codecs.deed_word_of-positive, Lists.all_map}
-use Rattle.pas_steps.specs.{Desks.triple, Desks.triples, Desks.made, Effects.target, Effects.new_value, Past.Once, Past.Always, Evidence.ReadsFree}
-use Rattle.pas_steps.specs.{Evidence.OneHere, Kinds.Only, Kinds.kind_of, Kinds.is_in, Events.event_of, Events.with_event, Events.events_by, InTurn.InTurn}
+use Rattle.pas_steps.specs.{Desks.triple, Desks.triples, Desks.made, Effects.target, Past.Once, Past.Always, Evidence.ReadsFree, Evidence.OneHere, Kinds.Only}
+use Rattle.pas_steps.specs.{Kinds.kind_of, Kinds.is_in, Events.event_of, Events.with_event, Events.events_by, InTurn.InTurn}
 use Rattle.pas_steps.specs.Views.{epoch_of, holds, has_right, known_deed, View}
 use Rattle.pas_steps.specs.Lists.{Whole, part, word_after, Legal, visible}
 use Rattle.pas_steps.specs.declared.step.{Made.Made, Step.Step}
 use Rattle.pas_steps.specs.declared.step.Step.TheVariants.{Deed, Back, Give, End, EndSized, Unback}
 use Rattle.pas_steps.proofs.{Frames.right_own, Parts.part_of_own, Past.always_map}
-use Rattle.pas_core.specs.{Rights.eligible_bit, Good.word_of_backed}
+use Rattle.pas_core.specs.Rights.{eligible_bit}
 use Rattle.pas_core.proofs.Deeds.{looked, number_told, deed_kept, known_is, backed_of}
 use Rattle.pas_core.proofs.OneActor.{LendsNone, deed_read, legal_before, lends_none}
 use Rattle.pas_core.proofs.Rights.{spot_of, spotted, offered_has_deed, deeds_known}
@@ -23,12 +23,12 @@ use Rattle.pas_search.specs.Kinds.{ReturnsDuly}
 use Rattle.pas_large.specs.Evidence.{BadHere, HasFailed, DeedsBelow, DeedsRise}
 use Rattle.pas_large.specs.{Telling.IsWholePage, Telling.IsUsablePage, Telling.IsLowestRun, Finds.MayFind, Finds.FoundRun, Finds.finding, Gives.BackStep}
 use Rattle.pas_large.specs.{Gives.pages_from}
-use Rattle.pas_large.proofs.Outcomes.{MadeOf, of_directory}
+use Rattle.pas_large.proofs.Finds.{MadeOf, of_directory}
 use Rattle.pas_large.proofs.Told.{eligible_told, free_told, grain_bit, of_page, usable_free, clean_fresh, usable_clean, nowhere_else, none_read, lost_never}
 use Rattle.pas_same_text.specs.{Words.free_bit, State.World, State.shows, State.each, Searches.deeds, Searches.backs}
 use Rattle.pas_scan.specs.Runs.{IsInRun}
 use Rattle.std.specs.List.{AllByRecursion}
-use Rattle.pas_machine.specs.{Machine.Run, State.deed_in, State.backed_in}
+use Rattle.pas_machine.specs.{Machine.Run, State.deed_in}
 use Rattle.pas_guard.specs.Seeks.{seeking}
 use Rattle.pas_trace.specs.Acts.{numbers_from}
 use Rattle.pas_same_text.proofs.ReadyPages.{shown, shown_events, unowned, owned}
@@ -37,7 +37,7 @@ use Rattle.pas_same_text.proofs.ReadyPages.{shown, shown_events, unowned, owned}
 -- a bit of a free word as it was read
 bit_read : (l : Whole) (p word b : ℕ) (s : Step) (a : ℕ) → word < 4 → b < 64 → ReadsFree p word s → a ≡ word_after l (target s)
     → has_bit a b ≡ free_bit l (p * 256 + (64 * word + b))
-bit_read l p word b s a small lt reads is = ap (λ (n : ℕ). has_bit n b) (free_told l p word s a reads is) ∙ (grain_bit l p word b small lt ∙ of_page l p (64 * word + b))
+bit_read l p word b s a small lt reads is = ap (λ (n : ℕ). has_bit n b) (free_told l p word s a reads is) ∙ (grain_bit l p word b small lt ∙ of_page l p _)
 
 -- ---- DEEDS while one actor goes on
 deed_later : (k : ℕ) (l : Whole) (p : ℕ) (xs : List Made) → word_after l (Word.Deed p) ≢ 0
@@ -52,18 +52,11 @@ never_made f k l p [] legal some = tt
 never_made f k l p (m ∷ xs) legal some = search (arith, deed_later, never_made f k l p xs legal.1 some)
 
 module _ (f : Profile) (k : ℕ) (l : Whole) (d : Directory) (p : ℕ) where
-  -- a page without one gets none but of the directory, where no other is made
-  step_own : (w : Whole) (e : ℕ) (s : Step) (a : ℕ) → a ≡ word_after w (target s) → ((q : ℕ) (x : Directory) → s ≡ Deed q x → a ≡ 0 → x ≡ d)
-      → word_after w (Word.Deed p) ≡ 0
-      → ((if same_word (target s) (Word.Deed p) then new_value e s (word_after w (Word.Deed p)) else word_after w (Word.Deed p)) ≡ 0)
-      ⊎ ((if same_word (target s) (Word.Deed p) then new_value e s (word_after w (Word.Deed p)) else word_after w (Word.Deed p)) ≡ deed_word_of d)
-  step_own w e s a is made none = search (arith, looked, eq-eqb, eqb-true)
-
   deed_own : (xs : List Made) → Legal f (triples k xs ++ l) → MadeOf d xs → word_after l (Word.Deed p) ≡ 0
       → (word_after (triples k xs ++ l) (Word.Deed p) ≡ 0) ⊎ (word_after (triples k xs ++ l) (Word.Deed p) ≡ deed_word_of d)
   deed_own [] legal made none = inl none
   deed_own (m ∷ xs) legal made none = elim (deed_own xs legal.1 made.1 none) [
-    | inl still ↦ step_own (triples k xs ++ l) (epoch_of (part k (triples k xs ++ l))) m.step m.answer legal.0.answer_is made.0 still
+    | inl still ↦ (search (arith, looked, eq-eqb, eqb-true))
     | inr own ↦ inr (deed_kept (triples k xs ++ l) (triple k m) p (λ none. deed_word_of-positive d (sym own ∙ none)) ∙ own)
   ]
 
@@ -81,7 +74,7 @@ module _ (f : Profile) (k : ℕ) (l : Whole) (d : Directory) (p : ℕ) where
   one_read : (xs : List Made) → Legal f (triples k xs ++ l) → Always ReturnsDuly xs → Always (MakesNoDeedHere p) xs → Once (OneHere d p) xs
       → (n : ℕ) × (eligible_bit l n p ≡ true)
   one_read [] legal due never h = absurd h
-  one_read (m ∷ xs) legal due never (inl h) = (was_offered_before f k l p xs legal.1 due.1 never.1).1 (number_of d) (sym (eligible_told (triples k xs ++ l) d p m.step m.answer h.0 legal.0.answer_is) ∙ h.1)
+  one_read (m ∷ xs) legal due never (inl h) = (was_offered_before f k l p xs legal.1 due.1 never.1).1 (number_of d) (sym (eligible_told _ d p m.step _ h.0 legal.0.answer_is) ∙ h.1)
   one_read (m ∷ xs) legal due never (inr h) = one_read xs legal.1 due.1 never.1 h
 
   -- ---- GRAINS: what was read as free was so
@@ -96,7 +89,7 @@ module _ (f : Profile) (k : ℕ) (l : Whole) (d : Directory) (p : ℕ) where
 
       by_bit : (t : Bool) → free_bit l (p * 256 + (64 * word + b)) ≡ t → free_bit l (p * 256 + (64 * word + b)) ≡ true
       by_bit true is = is
-      by_bit false is = let used = stays_used f k l (p * 256 + (64 * word + b)) xs legal.1 lends.1 due.1 is in absurd (false≢true (sym (or_from (has_bit m.answer b) (holds xs (p * 256 + (64 * word + b))) (bit ∙ used.0) used.1) ∙ h.1 b lt))
+      by_bit false is = let used = stays_used f k l _ xs legal.1 lends.1 due.1 is in absurd (false≢true (sym (or_from _ _ (bit ∙ used.0) used.1) ∙ h.1 b lt))
 
   -- A PAGE THAT WAS READ AS USABLE was so before the search
   pub usable_was : (xs : List Made) → IsKind d.kind → Legal f (triples k xs ++ l) → LendsNone xs → Always ReturnsDuly xs → ReadUsable d p xs
@@ -111,11 +104,7 @@ module _ (f : Profile) (k : ℕ) (l : Whole) (d : Directory) (p : ℕ) where
       whole_was some =
           let deed : word_after l (Word.Deed p) ≡ deed_word_of d = sym (deed_later k l p xs some) ∙ of_now xs legal whole.of in
           let one = one_read xs legal due (never_made f k l p xs legal some) whole.offered in
-          record {
-            deed = deed;
-            offered = own_number one.0 (legal_before f k xs l legal) kind deed one.1;
-            free = search (arith, of_page, whole_read, lends);
-          }
+          search (arith, own_number, legal_before, of_page, whole_read, lends)
 
 module _ (f : Profile) (k : ℕ) (l : Whole) (d : Directory) (p : ℕ) where
   module _ (kind : IsKind d.kind) (first : Legal f l) (lacks : has_right (part k l) p ≡ false) (usable : IsUsablePage d l p) where
@@ -137,7 +126,7 @@ module _ (f : Profile) (k : ℕ) (l : Whole) (d : Directory) (p : ℕ) where
         let clean = clean_fresh f k l d p xs legal.1 (usable_clean f k l d p first usable) h.0.1 in
         let view : has_right (part k w) p ≡ false = ap (λ v. has_right v p) (part_of_own k xs l) ∙ (right_own p xs (part k l) lacks ∙ h.0.0.2) in
         let bit : eligible_bit w (number_of d) p ≡ false = sym (eligible_told w d p m.step m.answer h.0.0.0 legal.0.answer_is) ∙ h.0.0.1 in
-        nowhere_else k d (spot_of w p) (word_after w (Word.Deed p)) kind clean (sym (at.has k) ∙ view) (sym (at.eligible (number_of d)) ∙ bit) at.deed (of_now f k l d p xs legal.1 h.1)
+        nowhere_else k d (spot_of w p) _ kind clean (sym (at.has k) ∙ view) (sym (at.eligible (number_of d)) ∙ bit) at.deed (of_now f k l d p xs legal.1 h.1)
 
     used_never : (m : Made) (xs : List Made) → Legal f (triples k (m ∷ xs) ++ l) → LendsNone xs → UsedHere p m xs → ⊥
     used_never m xs legal lends h = h.3 (λ b lt.
@@ -178,13 +167,13 @@ module _ (f : Profile) (k : ℕ) (l : Whole) (d : Directory) (n : ℕ) (of : IsD
   never_fails other [] legal lends due h = h
   never_fails other (m ∷ xs) legal lends due (inr h) = never_fails other xs legal.1 lends.1 due.1 h
   never_fails other (m ∷ xs) legal lends due (inl h) =
-      let first : Legal f l = legal_before f k xs l legal.1 in
       let page : ℕ = h.1.0 in
       let usable : IsUsablePage d l page = usable_was f k l d page xs of.kind legal.1 lends.1 due.1 (h.0 page h.1.1) in
-      lost_never f k l d page m xs of.kind legal lends (lacks_usable first page usable) usable h.1.2
+      lost_never f k l d page m xs of.kind legal lends (lacks_usable (legal_before f k xs l legal.1) page usable) usable h.1.2
 
   module _ (xs : List Made) (legal : Legal f (triples k xs ++ l)) (kinds : Only finding xs) (due : Always ReturnsDuly xs) (first : ℕ)
       (found : FoundRun f d n xs first) where
+    -- The search lends nothing.
     lends : LendsNone xs
     lends = lends_none finding refl xs kinds
 
@@ -259,6 +248,7 @@ module _ (k : ℕ) (d : Directory) where
       by_answer true q ps is rest = (is refl, rest)
       by_answer false q ps is rest = rest
 
+      -- One step more: each page with a new deed is as it should be.
       one : (s : Step) (a : ℕ) → ((page : ℕ) (e : Directory) → s ≡ Deed page e → a ≡ 0 → P page) → AllByRecursion P (deeded xs)
           → AllByRecursion P (with_deed s a (deeded xs))
       one (Deed q e) a is rest = by_answer (a == 0) q (deeded xs) (λ zero. is q e refl (eqb-true a 0 zero)) rest
@@ -273,6 +263,7 @@ module _ (k : ℕ) (d : Directory) where
       by_answer true q below rest = (deeded_all (λ p. p < q) xs (below refl), rest)
       by_answer false q below rest = rest
 
+      -- One step more: the pages with new deeds fall.
       one : (s : Step) (a : ℕ) → ((page : ℕ) (e : Directory) → s ≡ Deed page e → a ≡ 0 → DeedsBelow page xs) → AreFalling (deeded xs)
           → AreFalling (with_deed s a (deeded xs))
       one (Deed q e) a below rest = by_answer (a == 0) q (λ zero. below q e refl (eqb-true a 0 zero)) rest
@@ -280,39 +271,41 @@ module _ (k : ℕ) (d : Directory) where
 
   -- Deeds within a run are of pages of that run.
   pub deeded_within : (n first : ℕ) (xs : List Made) → DeedsInRun d first n xs → AllInRun first n (deeded xs)
-  deeded_within n first xs within = deeded_all (IsInRun first n) xs (always_map _ (λ m before. (page : ℕ) (e : Directory) → m.step ≡ Deed page e → m.answer ≡ 0 → IsInRun first n page) xs (λ m before h page e same zero. (h page e same zero).1) within)
+  deeded_within n first xs within = deeded_all (IsInRun first n) xs (always_map _ _ xs (λ m before h page e same zero. (h page e same zero).1) within)
 
   -- the events of a search are those deeds
   pub deeded_events : (v : View) (xs : List Made) → Only seeking xs → MadeOf d xs → events_by k v xs ≡ deeds_of k d (deeded xs)
   deeded_events v [] kinds within = refl
-  deeded_events v (m ∷ xs) kinds within = one m.step m.answer kinds.0 within.0 ∙ ap (λ (es : List Event). with_deeds k d m.step m.answer es) (deeded_events v xs kinds.1 within.1) ∙ same m.step m.answer
-    where
-      by_answer : (t : Bool) (q : ℕ) (e : Directory) (es : List Event) → (t ≡ true → e ≡ d)
-          → with_event (if t then Some (Event.Deed k q e) else None) es ≡ (if t then Event.Deed k q d ∷ es else es)
-      by_answer true q e es is = ap (λ (x : Directory). Event.Deed k q x ∷ es) (is refl)
-      by_answer false q e es is = refl
+  deeded_events v (m ∷ xs) kinds within =
+      one m.step _ kinds.0 within.0 ∙ ap (λ es. with_deeds k d m.step m.answer es) (deeded_events v xs kinds.1 within.1) ∙ same m.step _ where
+        by_answer : (t : Bool) (q : ℕ) (e : Directory) (es : List Event) → (t ≡ true → e ≡ d)
+            → with_event (if t then Some (Event.Deed k q e) else None) es ≡ (if t then Event.Deed k q d ∷ es else es)
+        by_answer true q e es is = ap (λ (x : Directory). Event.Deed k q x ∷ es) (is refl)
+        by_answer false q e es is = refl
 
-      one : (s : Step) (a : ℕ) → is_in seeking (kind_of s) ≡ true → ((page : ℕ) (e : Directory) → s ≡ Deed page e → a ≡ 0 → e ≡ d)
-          → with_event (event_of k (epoch_of (xs ++ v)) s a) (events_by k v xs) ≡ with_deeds k d s a (events_by k v xs)
-      one (Deed q e) a is within = by_answer (a == 0) q e (events_by k v xs) (λ zero. within q e refl (eqb-true a 0 zero))
-      one (Back q) a is within = absurd (true≢false (sym is))
-      one (Give b) a is within = absurd (true≢false (sym is))
-      one (End b g) a is within = absurd (true≢false (sym is))
-      one (EndSized b r) a is within = absurd (true≢false (sym is))
-      one (Unback q) a is within = absurd (true≢false (sym is))
-      one s a is within = refl
+        -- One step more: its event is that of its deed, or none.
+        one : (s : Step) (a : ℕ) → is_in seeking (kind_of s) ≡ true → ((page : ℕ) (e : Directory) → s ≡ Deed page e → a ≡ 0 → e ≡ d)
+            → with_event (event_of k (epoch_of (xs ++ v)) s a) (events_by k v xs) ≡ with_deeds k d s a (events_by k v xs)
+        one (Deed q e) a is within = by_answer (a == 0) q e (events_by k v xs) (λ zero. within q e refl (eqb-true a 0 zero))
+        one (Back q) a is within = absurd (true≢false (sym is))
+        one (Give b) a is within = absurd (true≢false (sym is))
+        one (End b g) a is within = absurd (true≢false (sym is))
+        one (EndSized b r) a is within = absurd (true≢false (sym is))
+        one (Unback q) a is within = absurd (true≢false (sym is))
+        one s a is within = refl
 
-      mapped : (t : Bool) (q : ℕ) (ps : List ℕ) → (if t then Event.Deed k q d ∷ deeds_of k d ps else deeds_of k d ps) ≡ deeds_of k d (if t then q ∷ ps else ps)
-      mapped true q ps = refl
-      mapped false q ps = refl
+        -- A deed more is an event more.
+        mapped : (t : Bool) (q : ℕ) (ps : List ℕ)
+            → (if t then Event.Deed k q d ∷ deeds_of k d ps else deeds_of k d ps) ≡ deeds_of k d (if t then q ∷ ps else ps)
+        mapped true q ps = refl
+        mapped false q ps = refl
 
-      same : (s : Step) (a : ℕ) → with_deeds k d s a (deeds_of k d (deeded xs)) ≡ deeds_of k d (with_deed s a (deeded xs))
-      same (Deed q e) a = mapped (a == 0) q (deeded xs)
-      same s a = refl
+        -- The events of the deeds are those of the pages.
+        same : (s : Step) (a : ℕ) → with_deeds k d s a (deeds_of k d (deeded xs)) ≡ deeds_of k d (with_deed s a (deeded xs))
+        same (Deed q e) a = mapped (a == 0) q (deeded xs)
+        same s a = refl
 
   -- ---- the deeds of the text
-  deed_apart : (q p : ℕ) (es : List Event) → q ≢ p → deed_in (Event.Deed k q d ∷ es) p ≡ deed_in es p
-  deed_apart q p es ne = ap (λ (t : Bool). if t then Some d else deed_in es p) (ne_eqb q p ne)
 
   fewer_in_run : (n first : ℕ) (ps : List ℕ) → AllInRun first (suc n) ps → AllByRecursion (λ q. q < first + n) ps → AllInRun first n ps
   fewer_in_run n first [] within below = tt
@@ -326,32 +319,29 @@ module _ (k : ℕ) (d : Directory) where
   pub deeds_in_turn : (f : Profile) (n first : ℕ) (ps : List ℕ) (w : World) → AreFalling ps → AllInRun first n ps → Run f (deeds_of k d ps ++ w.events)
       → ((p : ℕ) → IsInRun first n p → deed_in (deeds_of k d ps ++ w.events) p ≢ None) → in_turn (deeds k d) first n w ≡ shown (deeds_of k d ps) w
   deeds_in_turn f zero first ps w falls within run all = none_within first ps w within
-  deeds_in_turn f (suc n) first [] w falls within run all =
-      ap (deeds k d (first + n)) (deeds_in_turn f n first [] w tt tt run (λ p here. all p (here.0, omega (arith, here.1)))) ∙ owned k d (first + n) w (all (first + n) (omega arith, omega arith))
+  deeds_in_turn f (suc n) first [] w falls within run all = ap (deeds k d (first + n)) (deeds_in_turn f n first [] w tt tt run
+      (λ p here. all p (here.0, omega (arith, here.1)))) ∙ owned k d (first + n) w (all (first + n) (omega arith, omega arith))
   deeds_in_turn f (suc n) first (q ∷ ps) w falls within run all = elim (cases_eq q (first + n)) [
     | inl same ↦
         let lower : AllByRecursion (λ x. x < first + n) ps = subst (λ (y : ℕ). AllByRecursion (λ x. x < y) ps) same falls.0 in
         let rest : in_turn (deeds k d) first n w ≡ shown (deeds_of k d ps) w =
         deeds_in_turn f n first ps w falls.1 (fewer_in_run n first ps within.1 lower) run.1
-        (λ p here. let low = here.0 in let ne : q ≢ p = (λ (e : q ≡ p). omega (arith, e, same, here.1)) in λ none. all p (low, omega (arith, here.1)) (deed_apart q p (deeds_of k d ps ++ w.events) ne ∙ none)) in
+        (λ p here. let low = here.0 in let ne : q ≢ p = (λ e. omega (arith, e, same, here.1)) in
+        λ none. all p (low, omega (arith, here.1)) ((ap (λ t. if t then Some d else deed_in (deeds_of k d ps ++ w.events) p) (ne_eqb q p ne)) ∙ none)) in
         let bare : deed_in (shown (deeds_of k d ps) w).events q ≡ None = ap (λ (es : List Event). deed_in es q) (shown_events (deeds_of k d ps) w) ∙ run.0.2 in
         ap (deeds k d (first + n)) rest ∙ (ap (λ (y : ℕ). deeds k d y (shown (deeds_of k d ps) w)) (sym same) ∙ unowned k d q (shown (deeds_of k d ps) w) bare)
     | inr ne ↦
         let under : q < first + n = omega (arith, within.0.1, ne) in
-        let lower : AllByRecursion (λ x. x < first + n) (q ∷ ps) = (under, all_map (λ x. x < q) (λ x. x < first + n) ps (λ x h. omega (arith, h, under)) falls.0) in
         let rest : in_turn (deeds k d) first n w ≡ shown (deeds_of k d (q ∷ ps)) w =
-        deeds_in_turn f n first (q ∷ ps) w falls (fewer_in_run n first (q ∷ ps) within lower) run (λ p here. all p (here.0, omega (arith, here.1))) in
-        let has : deed_in (shown (deeds_of k d (q ∷ ps)) w).events (first + n) ≢ None = λ none. all (first + n) (omega arith, omega arith) (ap (λ (es : List Event). deed_in es (first + n)) (sym (shown_events (deeds_of k d (q ∷ ps)) w)) ∙ none) in
+        deeds_in_turn f n first (q ∷ ps) w falls (fewer_in_run n first (q ∷ ps) within
+        (under, all_map (λ x. x < q) _ ps (λ x h. omega (arith, h, under)) falls.0)) run (λ p here. all p (here.0, omega (arith, here.1))) in
+        let has : deed_in (shown (deeds_of k d (q ∷ ps)) w).events (first + n) ≢ None = λ none. all (first + n) (omega arith, omega arith)
+        (ap (λ (es : List Event). deed_in es (first + n)) (sym (shown_events (deeds_of k d (q ∷ ps)) w)) ∙ none) in
         ap (deeds k d (first + n)) rest ∙ owned k d (first + n) (shown (deeds_of k d (q ∷ ps)) w) has
   ]
 
 -- ---- BACKINGS
 module _ (f : Profile) (k : ℕ) (l : Whole) (u : World) (legal_l : Legal f l) (same : u.events ≡ visible l) where
-  -- what a backing answered tells whether the page was backed
-  one_back : (page a : ℕ) (v : World) (b : Bool) → a ≡ word_of_backed b → backed_in v.events page ≡ b
-      → backs k page v ≡ shown (with_event (if a == 0 then Some (Event.Back k page) else None) []) v
-  one_back page a v b is backed = search arith
-
   with_shown : (o : Option Event) (es : List Event) (v : World) → shown (with_event o []) (shown es v) ≡ shown (with_event o es) v
   with_shown None es v = refl
   with_shown (Some e) es v = refl
@@ -367,10 +357,10 @@ module _ (f : Profile) (k : ℕ) (l : Whole) (u : World) (legal_l : Legal f l) (
       let es : List Event = events_by k (part k l) before in
       let is : steps ≡ made (Back page) a ∷ before = turn.4 ∙ ap (λ (ms : List Made). ms ++ before) turn.2.1 in
       let legal_own : Legal f (triples k (made (Back page) a ∷ before) ++ l) = subst (λ (ms : List Made). Legal f (triples k ms ++ l)) is legal in
-      let now : (shown es u).events ≡ visible (triples k before ++ l) = shown_events es u ∙ (ap (λ (base : List Event). es ++ base) same ∙ sym (visible_steps k before l)) in
-      let answer : a ≡ word_of_backed (backed_in (visible (triples k before ++ l)) page) = legal_own.0.answer_is ∙ backed_of f (triples k before ++ l) legal_own.1 page in
+      let now = shown_events es u ∙ (ap (λ (base : List Event). es ++ base) same ∙ sym (visible_steps k before l)) in
+      let answer = legal_own.0.answer_is ∙ backed_of f (triples k before ++ l) legal_own.1 page in
       ap (backs k page) (backs_in_turn n first before legal_own.1 turn.3)
-      ∙ (one_back page a (shown es u) (backed_in (visible (triples k before ++ l)) page) answer (ap (λ (xs : List Event). backed_in xs page) now)
+      ∙ ((search arith)
       ∙ (with_shown (if a == 0 then Some (Event.Back k page) else None) es u
       ∙ ap (λ (ms : List Made). shown (events_by k (part k l) ms) u) (sym is)))
 

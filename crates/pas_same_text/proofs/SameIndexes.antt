@@ -1,30 +1,29 @@
 -- THE INDEXES of the text are those of a replay. First: what changes no index and no guard, and how many caches there are.
 use Rattle.std.proofs.Common.{arith, ◌≡◌, ℕ, Bool, true, false, if◌then◌else◌, List, [], ◌∷◌, ◌++◌, length, Option, None, Some, Result, refl, ap, ◌∙◌, ◌+◌, ◌/◌}
-use Rattle.std.proofs.Common.{nat_le, zero, suc, map}
-use Rattle.pas_profile.specs.declared.{directory.Directory.Directory, event.Event.Event, event.NoRoom.NoRoom, name.Block.Block, name.Name.Name}
-use Rattle.pas_profile.specs.declared.{profile.Profile.Profile, directory.Route.Route}
+use Rattle.std.proofs.Common.{zero, suc, map}
+use Rattle.pas_profile.specs.declared.{directory.Directory.Directory, event.Event.Event, event.NoRoom.NoRoom, name.Block.Block, profile.Profile.Profile}
+use Rattle.pas_profile.specs.declared.{directory.Route.Route}
 use Rattle.pas_machine.specs.State.{backed_in}
 use Rattle.pas_large.specs.declared.span.Span.{Span}
 use Rattle.pas_free_log.specs.Logs.{sized_entry, entry_of}
 use Rattle.pas_free_log.specs.declared.{log.Entry.Entry, noting.EndedRun.EndedRun}
 use Rattle.pas_report.specs.declared.record.{Record.Record, Said.Said}
-use Rattle.pas_same_text.specs.State.{World, Cache, Guard, Local, each, shows, says, cache_of, locals_of, log_of, set_cache, set_log, noted_of, set_noted}
-use Rattle.pas_same_text.specs.{Pages.is_unowned, Pages.minds, Passes.passes, Passes.stops_idle, Indexes.indexes_run, Indexes.loses_named, Acts.IsTaken}
-use Rattle.pas_same_text.specs.{Acts.HandsOnOwn, Acts.KeepsIndexes}
-use Rattle.pas_same_text.specs.Searches.{some_of, searched, deeds, backs, readies}
-use Rattle.pas_same_text.specs.Runs.{places, serves_run, bitfit_of, large_of, lowest_place, is_run, run_or, named_run, lowest_run, deeds_run, serves_pages}
-use Rattle.pas_same_text.specs.Classes.{gives_up, gives_up_first, gives_first, fetches, makes_place, serves_class_by, others, is_for}
-use Rattle.pas_same_text.specs.Frees.{ends_block, ends, flushes, stops, logs, frees, frees_what}
-use Rattle.std.specs.List.{find}
+use Rattle.pas_same_text.specs.State.{World, Cache, Guard, Local, each, shows, says, cache_of, locals_of, log_of, set_cache, set_log}
+use Rattle.pas_same_text.specs.{Pages.is_unowned, Pages.minds, Passes.passes, Indexes.indexes_run, Acts.IsTaken, Acts.HandsOnOwn, Acts.KeepsIndexes}
+use Rattle.pas_same_text.specs.Searches.{some_of, deeds, backs, readies}
+use Rattle.pas_same_text.specs.Runs.{places, large_of, is_run, deeds_run, serves_pages}
+use Rattle.pas_same_text.specs.Classes.{gives_up, gives_up_first, gives_first, fetches, makes_place, serves_class_by, others}
+use Rattle.pas_same_text.specs.Frees.{ends, flushes, stops, logs, frees, frees_what}
 use Rattle.pas_same_text.proofs.CacheLists.{many_with}
 use Rattle.pas_profile.specs.Requests.{route_in, room_in}
-use Rattle.pas_answers.specs.Answers.{standing_for, Progress, Named, request_for}
+use Rattle.pas_answers.specs.Answers.{Progress, request_for, standing_for}
 use Rattle.pas_trace.specs.Acts.{Act, numbers_from}
 use Rattle.pas_trace.specs.declared.plan.What.{What}
-use Rattle.pas_same_text.specs.Guards.{guards_of, lowers, are_bare, raises, raises_from}
+use Rattle.pas_same_text.specs.Guards.{lowers, are_bare, raises, raises_from}
 use Rattle.pas_same_text.specs.Order.{serves, keeps_block, replaces, operates, acts_on, opened}
 use Rattle.pas_large.specs.Doors.{Indexes, cut_in, no_ranges}
 use Rattle.pas_answers.specs.Indexes.{unless_suited, request_by, after_request, after_operation, with_noted, indexes_after}
+use Rattle.pas_core.proofs.MachineRuns.{runs}
 
 -- ---- what stays
 -- the indexes, the guards that are up, and the number of caches
@@ -49,6 +48,7 @@ same_many w v is = ap (λ (s : Still). s.2) is
 cache_keeps : (k : ℕ) (new : Cache) (w : World) → still (set_cache k new w) ≡ still w
 cache_keeps k new w = ap (λ (n : ℕ). let s : Still = (w.indexes, w.guards, n) in s) (many_with w.caches k new)
 
+-- What holds of both ways holds of the one that is chosen.
 either : (t : Bool) (v u : World) (value : Still) → still v ≡ value → still u ≡ value → still (if t then v else u) ≡ value
 either true v u value one other = one
 either false v u value one other = other
@@ -63,12 +63,8 @@ each_keeps does (x ∷ xs) keeps w = each_keeps does xs keeps (does x w) ∙ kee
 pub minds_keep : (page : ℕ) (w : World) → still (minds page w) ≡ still w
 minds_keep page w = search (arith, either)
 
--- frees that take effect
-block_keeps : (f : Profile) (k : ℕ) (name : Name) (b : Block) (w : World) → still (ends_block f k name b w) ≡ still w
-block_keeps f k name b w = search (arith, each_keeps, minds_keep, cache_keeps)
-
 ends_keep : (f : Profile) (k : ℕ) (entry : Entry) (w : World) → still (ends f k entry w) ≡ still w
-ends_keep f k entry w = search (arith, either, block_keeps)
+ends_keep f k entry w = search (arith, either, each_keeps, minds_keep, cache_keeps)
 
 -- A flush keeps indexes and guards.
 pub flushes_keep : (f : Profile) (k : ℕ) (w : World) → still (flushes f k w) ≡ still w
@@ -125,15 +121,11 @@ first_up_keeps k ls w = search (arith, either, given_up_keeps)
 class_keeps : (f : Profile) (k name heap class : ℕ) (own : Option Local) (w : World) → still (serves_class_by f k name heap class own w) ≡ still w
 class_keeps f k name heap class None w = fetches_keep f k name heap class (makes_place k w) ∙ first_up_keeps k (locals_of w k) w
 class_keeps f k name heap class (Some l) w =
-    either (some_of l.slots) (gives_first k name l l.slots w) (fetches f k name heap class (gives_up k l w)) (still w) (first_keeps k name l l.slots w) (fetches_keep f k name heap class (gives_up k l w) ∙ given_up_keeps k l w)
+    either (some_of l.slots) _ _ (still w) (first_keeps k name l l.slots w) (fetches_keep f k name heap class (gives_up k l w) ∙ given_up_keeps k l w)
 
 -- A bit-fit request keeps indexes and guards, served or refused.
 places_keep : (k name heap room align : ℕ) (found : Result ℕ NoRoom) (w : World) → still (places k name heap room align found w) ≡ still w
 places_keep k name heap room align found w = search (arith, readies_keep)
-
--- A run of whole pages that is given, or refused, keeps indexes and guards.
-run_keeps : (f : Profile) (k name heap n : ℕ) (found : Option ℕ) (w : World) → still (serves_run f k name heap n found w) ≡ still w
-run_keeps f k name heap n found w = search (arith, each_keeps, backs_keep, deeds_keep)
 
 -- ---- a pass
 -- A pass keeps indexes and guards.
@@ -151,14 +143,12 @@ abbrev with_indexes : Indexes → World → Still
 with_indexes indexes w = (indexes, w.guards, length w.caches)
 
 pages_still : (f : Profile) (k name heap n : ℕ) (w : World) → still (serves_pages f k name heap n w) ≡ with_indexes (cut_in w.indexes heap n) w
-pages_still f k name heap n w = run_keeps f k name heap n (run_or (named_run w heap n) (lowest_run f w heap n)) (loses_named heap n w)
+pages_still f k name heap n w = search (arith, each_keeps, backs_keep, deeds_keep)
 
 -- a request takes out what was named for it
 serves_still : (f : Profile) (k name heap : ℕ) (route : Route) (room align : ℕ) (w : World)
     → still (serves f k name heap route room align w) ≡ with_indexes (after_request route heap (room / 4096) w.indexes) w
-serves_still f k name heap (Route.Class class) room align w = class_keeps f k name heap class (find (is_for heap class) (locals_of w k)) w
-serves_still f k name heap Route.Bitfit room align w = places_keep k name heap room align (searched f w (bitfit_of heap) (lowest_place w (room / 16) (align / 16))) w
-serves_still f k name heap Route.Large room align w = pages_still f k name heap (room / 4096) w
+serves_still f k name heap a room align w = search (arith, class_keeps, places_keep, pages_still)
 
 pub serves_many : (f : Profile) (k name heap : ℕ) (route : Route) (room align : ℕ) (w : World)
     → length (serves f k name heap route room align w).caches ≡ length w.caches
@@ -223,10 +213,9 @@ raised_many : (f : Profile) (keeper k name heap n : ℕ) (runs : List ℕ) (w : 
     → length (raises_from f keeper k name heap n runs w).caches ≡ length w.caches
 raised_many f keeper k name heap n [] w = ap (λ (s : Still). s.2) (pages_still f k name heap n w)
 raised_many f keeper k name heap n (p ∷ ps) w =
-    let pages : List ℕ = numbers_from p (n + 2) in
     let v : World = deeds_run keeper heap p (n + 2) w in
     let deeded : length v.caches ≡ length w.caches =
-    same_many w v (each_keeps (deeds keeper (large_of heap)) pages (deeds_keep keeper (large_of heap)) w) in
+    same_many w v (each_keeps (deeds keeper (large_of heap)) (numbers_from p (n + 2)) (deeds_keep keeper (large_of heap)) w) in
     let up : World = raises keeper name heap p n v in
     let later : World = raises_from f keeper k name heap n ps v in
     either_many (is_run f w heap (n + 2) p) (if are_bare w p n then up else later) (raises_from f keeper k name heap n ps w) (length w.caches)
@@ -235,28 +224,11 @@ raised_many f keeper k name heap n (p ∷ ps) w =
 
 -- ==== AN ACT
 pub act_many : (f : Profile) (act : Act) (w : World) → length (acts_on f act w).caches ≡ length w.caches
-act_many f (Act.Wakes k) w = many_with w.caches k (record (cache_of w k) { began = w.epoch })
-act_many f (Act.Operates op) w = ap (λ (s : Still). s.2) (operation_still f op.actor op.what w)
-act_many f (Act.Guards keeper op) w = search (arith, raised_many, all_lowered_many)
-act_many f (Act.Settles k) w = ap (λ (s : Still). s.2) (noted_still (noted_of w k) (set_noted k [] w)) ∙ many_with w.caches k (record (cache_of w k) { noted = [] })
-act_many f Act.MakesPass w = same_many w (passes f w) (pass_keeps f w)
-act_many f (Act.StopsIdle k n) w = same_many w (stops_idle f k n w) (idle_keeps f (nat_le ((cache_of w k).began + n) w.read) k w)
-act_many f (Act.Ends k) w = same_many w (stops f k w) (stops_keep f k w)
-act_many f (Act.Lowers keeper) w = all_lowered_many (guards_of w keeper) w
-act_many f act w = refl
+act_many f act w = search (arith, many_with, operation_still, raised_many, all_lowered_many, noted_still, same_many, pass_keeps, idle_keeps, stops_keep)
 
 text_indexes : (f : Profile) (act : Act) (p p' : Progress) (w : World) → HandsOnOwn f act → (taken : IsTaken f act p p' w)
     → (acts_on f act w).indexes ≡ indexes_after f act p p' taken.advances w.indexes
-text_indexes f (Act.Operates op) p p' w own taken =
-    ap (λ (s : Still). s.0) (operation_still f op.actor op.what w) ∙ ap (λ (names : List Named). after_operation f (request_by names op.what) w.indexes) taken.same.names
-text_indexes f (Act.Guards keeper op) p p' w own taken = absurd own
-text_indexes f (Act.Settles k) p p' w own taken =
-    ap (λ (s : Still). s.0) (noted_still (noted_of w k) (set_noted k [] w)) ∙ ap (with_noted w.indexes) (taken.same.caches.each k own).noted
-text_indexes f Act.MakesPass p p' w own taken = same_indexes w (passes f w) (pass_keeps f w)
-text_indexes f (Act.StopsIdle k n) p p' w own taken = same_indexes w (stops_idle f k n w) (idle_keeps f (nat_le ((cache_of w k).began + n) w.read) k w)
-text_indexes f (Act.Ends k) p p' w own taken = same_indexes w (stops f k w) (stops_keep f k w)
-text_indexes f (Act.Lowers keeper) p p' w own taken = all_lowered_keep (guards_of w keeper) w
-text_indexes f act p p' w own taken = refl
+text_indexes f act p p' w own taken = search (arith, operation_still, noted_still, same_indexes, pass_keeps, idle_keeps, stops_keep, all_lowered_keep)
 
 -- Each act that is no guarded request changes the indexes of the text as those of a replay.
 pub indexes_kept : (f : Profile) (act : Act) → KeepsIndexes f act

@@ -61,6 +61,7 @@ module _ (no_fit : Readings → Type 0) (f : Profile) (d : Directory) (k : ℕ) 
   serves q = is_offered w d q && some_of (fits q)
 
   module _ (steps : List Made) (s : IsSearch no_fit f d k p steps w fits) where
+    -- The list before the search is legal.
     first : Legal f p.list
     first = legal_before f k steps p.list s.legal
 
@@ -87,9 +88,9 @@ module _ (no_fit : Readings → Type 0) (f : Profile) (d : Directory) (k : ℕ) 
     pub offered_chosen : (page : ℕ) → IsPage f page → FromOffered no_fit d page steps → (no_fit (free_of_page p.list page) → ⊥) → searched f w d fits ≡ Ok page
     offered_chosen page of from fit =
         let read = one_told f k p.list d page steps s.legal from.offered in
-        let lacks : has_right (part k p.list) page ≡ false = entry_lacks f k p.list d page read.0 s.valid first (s.rights page) (offered_deed f (triples k read.0 ++ p.list) d page s.directory read.1 read.3) in
+        let lacks = entry_lacks f k p.list d page read.0 s.valid first (s.rights page) (offered_deed f _ d page s.directory read.1 read.3) in
         let bit : eligible_bit p.list (number_of d) page ≡ true =
-        bit_is page ∙ (ap (spot_offered (number_of d)) (sym (spot_same f k p.list page read.0 read.1 lacks read.2)) ∙ (sym ((spotted f (triples k read.0 ++ p.list) read.1 page).eligible (number_of d)) ∙ read.3)) in
+        bit_is page ∙ (ap (spot_offered (number_of d)) (sym (spot_same f k p.list page read.0 read.1 lacks read.2)) ∙ (sym ((spotted f _ read.1 page).eligible (number_of d)) ∙ read.3)) in
         let offered : is_offered w d page ≡ true = s.pages.offered page d s.directory ∙ bit in
         let here : serves page ≡ true = ap (λ (t : Bool). t && some_of (fits page)) offered ∙ s.fits_same.some page of (open_unguarded w d page (had_open w d page offered)) fit in
         let low = of.0 in let high = of.1 in
@@ -104,18 +105,19 @@ module _ (no_fit : Readings → Type 0) (f : Profile) (d : Directory) (k : ℕ) 
 
   -- ---- a page without a deed
   earlier : (m : Made) (steps : List Made) → IsSearch no_fit f d k p (m ∷ steps) w fits → IsSearch no_fit f d k p steps w fits
-  earlier m steps s = record { valid = s.valid; directory = s.directory; fewer = s.fewer; legal = s.legal.1; lends_none = s.lends_none.1; rights = s.rights; pages = s.pages; fits_same = s.fits_same }
+  earlier m steps s = assumption
 
   made_chosen : (page : ℕ) → IsPage f page → (m : Made) (steps : List Made) (s : IsSearch no_fit f d k p (m ∷ steps) w fits)
       → DeedMadeHere no_fit f d page m steps → searched f w d fits ≡ Ok page
   made_chosen page of m steps s h =
       let t : IsSearch no_fit f d k p steps w fits = earlier m steps s in
-      let now : word_after (triples k steps ++ p.list) (Word.Deed page) ≡ 0 = sym (s.legal.0.answer_is ∙ ap (λ x. word_after (triples k steps ++ p.list) (target x)) h.deed) ∙ h.made in
-      let bare : is_unowned w page ≡ true = unowned_by (deed_in w.events page) (sym (owned_is f p.list w (first steps t) t.pages.events page) ∙ deed_none k p.list page steps now) in
+      let now = sym (s.legal.0.answer_is ∙ ap (λ x. word_after (triples k steps ++ p.list) (target x)) h.deed) ∙ h.made in
+      let bare = unowned_by (deed_in w.events page) (sym (owned_is f p.list w (first steps t) t.pages.events page) ∙ deed_none k p.list page steps now) in
       let low = of.0 in let high = of.1 in
-      let none : find serves (page_numbers f) ≡ None = find_none serves f.pages 1 (λ q above below. passed_over steps t q (f.pages + 1) (above, omega (arith, below)) (omega (arith, below)) h.searched) in
+      let none = find_none serves f.pages 1 (λ q above below. passed_over steps t q (f.pages + 1) (above, omega (arith, below)) (omega (arith, below)) h.searched) in
       let found : find (is_unowned w) (page_numbers f) ≡ Some page = find_first (is_unowned w) f.pages 1 page low (omega (arith, high)) bare (λ q above below.
-      owned_by steps t (deed_in w.events q) (λ zero_word. deed_exit f k p.list q steps t.legal (h.lower q above below) (deed_quiet f k p.list q steps t.legal h.quiet ∙ (owned_is f p.list w (first steps t) t.pages.events q ∙ zero_word)))) in
+      owned_by steps t _ (λ zero_word. deed_exit f k p.list q steps t.legal (h.lower q above below)
+      (deed_quiet f k p.list q steps t.legal h.quiet ∙ (owned_is f p.list w (first steps t) t.pages.events q ∙ zero_word)))) in
       cc
 
   deed_at : (page : ℕ) → IsPage f page → (steps : List Made) → IsSearch no_fit f d k p steps w fits → Once (DeedMadeHere no_fit f d page) steps
@@ -147,12 +149,13 @@ module _ (f : Profile) (p : Progress) (w : World) (valid : IsValid f) (between :
       record {
         deed = offered_deed f p.list d page of between.legal bit;
         offered = bit;
-        free = λ b small. sym (read_unless f p w valid between same page b small (open_unguarded w d page (had_open w d page (and_first (is_offered w d page) (is_empty w page) h)))) ∙ each_at 256 0 b (is_free w page) empty (omega arith) small;
+        free = λ b small. sym (read_unless f p w valid between same page b small (open_unguarded w d page
+            (had_open w d page (and_first (is_offered w d page) (is_empty w page) h)))) ∙ each_at 256 0 b (is_free w page) empty (omega arith) small;
       }
 
   -- A whole page of the replay is whole in the text.
   pub page_whole : (page : ℕ) → IsWholePage d p.list page → is_whole w heap page ≡ true
-  page_whole page whole = and_from (is_offered w d page) (is_empty w page) (pages.offered page d of ∙ whole.offered) (each_all 256 0 (is_free w page) (λ b low high. read_unless f p w valid between same page b high (open_unguarded w d page (had_open w d page (pages.offered page d of ∙ whole.offered))) ∙ whole.free b high))
+  page_whole page whole = and_from _ _ (pages.offered page d of ∙ whole.offered) (each_all 256 0 _ (λ b low high. read_unless f p w valid between same page b high (open_unguarded w d page (had_open w d page (pages.offered page d of ∙ whole.offered))) ∙ whole.free b high))
 
   -- A page that is usable in the text is usable in the replay.
   pub usable_page : (page : ℕ) → is_usable w heap page ≡ true → IsUsablePage d p.list page
@@ -170,13 +173,13 @@ module _ (f : Profile) (p : Progress) (w : World) (valid : IsValid f) (between :
   pub run_usable : (n first : ℕ) → is_run f w heap n first ≡ true → (first + n ≤ f.pages + 1) × IsUsableRun d n p.list first
   run_usable n first h = (
     let t = and_first (nat_le (first + n) (f.pages + 1)) (each_of first n (is_usable w heap)) h in grind (arith, nat_tests, t),
-    λ page here. usable_page page (each_at n first page (is_usable w heap) (and_second (nat_le (first + n) (f.pages + 1)) (each_of first n (is_usable w heap)) h) here.0 here.1),
+    λ page here. usable_page page (each_at n first page (is_usable w heap) (and_second (nat_le (first + n) (f.pages + 1)) _ h) here.0 here.1),
   )
 
   -- A usable run of the replay is one of the text.
   pub usable_run : (n first : ℕ) → first + n ≤ f.pages + 1 → IsUsableRun d n p.list first → is_run f w heap n first ≡ true
   usable_run n first within usable =
-      and_from (nat_le (first + n) (f.pages + 1)) (each_of first n (is_usable w heap)) (grind (arith, nat_tests, within)) (each_all n first (is_usable w heap) (λ page low high. page_usable page (usable page (low, high))))
+      and_from _ _ (grind (arith, nat_tests, within)) (each_all n first (is_usable w heap) (λ page low high. page_usable page (usable page (low, high))))
 
   -- THE LOWEST RUN is that of the text, which finds none where there is none
   pub lowest_found : (n first : ℕ) → 1 ≤ n → IsLowestRun f d n p.list first → lowest_run f w heap n ≡ Some first
@@ -187,7 +190,7 @@ module _ (f : Profile) (p : Progress) (w : World) (valid : IsValid f) (between :
 
   -- Where the replay has no usable run, the text finds no lowest run.
   pub none_lowest : (n : ℕ) → HasNoUsableRun f d n p.list → lowest_run f w heap n ≡ None
-  none_lowest n none = find_none (is_run f w heap n) f.pages 1 (λ first low high. false_from_ne_true (is_run f w heap n first) (λ h. let run = run_usable n first h in none first low run.0 run.1))
+  none_lowest n none = find_none (is_run f w heap n) f.pages 1 (λ first low high. false_from_ne_true _ (λ h. let run = run_usable n first h in none first low run.0 run.1))
 
   -- ---- THE RUN THAT IS NAMED
   of_region : (page : ℕ) → is_whole w heap page ≡ true → IsPage f page
@@ -197,10 +200,9 @@ module _ (f : Profile) (p : Progress) (w : World) (valid : IsValid f) (between :
   pub named_whole : (n first : ℕ) → 1 ≤ n → named_run w heap n ≡ Some first → IsNamedWhole f d n p.list (named_first w heap n) first
   named_whole n first some h =
       let both = whole_of w heap n first (named_first w heap n) h in
-      let each : (page : ℕ) → first ≤ page → page < first + n → is_whole w heap page ≡ true = λ page low high. each_at n first page (is_whole w heap) both.1 low high in
-      let lowest : IsPage f first = of_region first (each first (omega arith) (omega (arith, some))) in
+      let each : (page : ℕ) → first ≤ page → page < first + n → is_whole w heap page ≡ true = λ page low high. each_at n first page _ both.1 low high in
       let last : IsPage f (first + n - 1) = of_region (first + n - 1) (each (first + n - 1) (omega (arith, some)) (omega (arith, some))) in
-      let low = lowest.0 in let high = last.1 in
+      let low = (of_region first (each first (omega arith) (omega (arith, some)))).0 in let high = last.1 in
       record { named = both.0; of_region = (low, omega (arith, high, some)); whole = λ page here. whole_page page (each page here.0 here.1) }
 
   -- A named run that is whole in the replay serves in the text.
@@ -219,7 +221,7 @@ module _ (f : Profile) (p : Progress) (w : World) (valid : IsValid f) (between :
     hands_kept q h = and_from (is_of w d q) (is_kept w q) own (by_place (right_in_one_place f p.list between.legal q))
       where
         own : is_of w d q ≡ true
-        own = ap (λ (es : List Event). is_same d (deed_in es q)) same.events ∙ deed_from_word f p w valid between same q d (deed_in (visible p.list) q) refl (sym (deed_of f p.list between.legal q) ∙ h.of_directory) of.kind
+        own = ap (λ es. is_same d (deed_in es q)) same.events ∙ deed_from_word f p w valid between same q d _ refl (sym (deed_of f p.list between.legal q) ∙ h.of_directory) of.kind
 
         by_place : IsRightInOnePlace f p.list q → is_kept w q ≡ true
         by_place (inl none) = absurd (deed_word_of-positive d (sym h.of_directory ∙ none.no_deed))
@@ -232,12 +234,7 @@ module _ (f : Profile) (p : Progress) (w : World) (valid : IsValid f) (between :
         let deed : deed_in (visible p.list) q ≡ Some d = deed_now f p w valid between same q d of (and_first (is_of w d q) (is_kept w q) h) in
         let word : word_after p.list (Word.Deed q) ≡ deed_word_of d = deed_of f p.list between.legal q ∙ ap word_of_deed deed in
         let k = keeper f p w valid between same q (and_second (is_of w d q) (is_kept w q) h) in
-        record {
-          of_region = deed_has_page f p.list between.legal q (λ none. deed_word_of-positive d (sym word ∙ none));
-          of_directory = word;
-          not_offered = right_not_offered f p.list between.legal k.0 (number_of d) q k.1;
-          not_parked = right_not_parked f p.list between.legal k.0 q k.1;
-        }
+        search (arith, deed_has_page, deed_word_of-positive, right_not_offered, right_not_parked)
 
     -- A refusal's reason that is true of the whole state of the replay is the one that the text says.
     pub refusal_told : (room : NoRoom) → IsTrueReason f d p.list room → refusal f w d ≡ room
@@ -267,12 +264,15 @@ module _ (f : Profile) (k name : ℕ) (p : Progress) (w : World) (d : Directory)
   no_event : events_by k (part k p.list) steps ≡ []
   no_event = events_quiet k (part k p.list) steps quiet
 
+  -- The refused search makes no event.
   shown : visible p'.list ≡ visible p.list
   shown = visible_steps k steps p.list ∙ ap (λ (es : List Event). es ++ visible p.list) no_event
 
+  -- Afterwards the replay has what the text has.
   now : HasSame f p' v
-  now = record { events = same.pages.events ∙ sym shown; live = same.pages.live; caches = same_kept f p.caches w.caches k same.caches; guards = same.guards }
+  now = assumption (same.pages.events ∙ sym shown, same_kept f p.caches w.caches k same.caches)
 
+  -- No number is the one behind it.
   beside : (x : ℕ) → suc x ≢ x
   beside x same = omega (arith, same)
 
@@ -304,12 +304,9 @@ module _ (f : Profile) (k name : ℕ) (p : Progress) (w : World) (d : Directory)
 
   -- A request that is refused after a search leads the text to the replay's state, with its reason.
   pub refused_same : IsSame f p' (refuses k name (refusal f w d) w)
-  refused_same = subst (λ (r : NoRoom). IsSame f p' (refuses k name r w)) (sym (refusal_told f p' v valid after now d of room reason)) record {
-    pages = piece_pages piece;
-    caches = now.caches;
-    guards = same.guards;
-    names = ap (λ (ns : List Named). named name None ∷ ns) same.names;
-    records = ap (λ (es : List Event). p.records ++ (records_of es ++ Record.Said k (said_of_room name room) ∷ [])) no_event ∙ records_next p.records w.records (Record.Said k (said_of_room name room)) same.records;
-    epoch = same.epoch ∙ sym (epoch_stays_by allocating refl k steps p.list (only_within searching allocating steps refl searches.kinds));
-    read = same.read;
-  }
+  refused_same =
+      let line : Record = Record.Said k (said_of_room name room) in
+      let one = ap (λ (es : List Event). p.records ++ (records_of es ++ line ∷ [])) no_event ∙ records_next p.records w.records line same.records in
+      let epoch = same.epoch ∙ sym (epoch_stays_by allocating refl k steps p.list (only_within searching allocating steps refl searches.kinds)) in
+      let told : IsSame f p' v = assumption (piece_pages piece, now, one, epoch, ap (λ (ns : List Named). named name None ∷ ns) same.names) in
+      subst (λ (r : NoRoom). IsSame f p' (refuses k name r w)) (sym (refusal_told f p' v valid after now d of room reason)) told

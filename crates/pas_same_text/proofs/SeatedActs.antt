@@ -7,11 +7,11 @@ use Rattle.pas_steps.specs.Lists.{Whole, part, visible, Legal, word_after}
 use Rattle.pas_steps.specs.{Views.View, Clear.HasNothing, Desks.triples, Desks.made}
 use Rattle.pas_steps.specs.declared.step.{Made.Made, Step.Step}
 use Rattle.pas_core.specs.Stamps.{AllKeepToEnds}
-use Rattle.pas_core.proofs.{Stamps.stamps_are_ends, Nexts.agreed_steps, OneActor.legal_before, OneActor.legal_earlier}
+use Rattle.pas_core.proofs.{Lives.stamps_are_ends, Nexts.agreed_steps, OneActor.legal_before, OneActor.legal_earlier}
 use Rattle.pas_report.specs.Rests.{AreStamped}
-use Rattle.pas_trace.specs.{Acts.Act, EveryPlan.IsThread, Acts.stepper_of, Asked.request_in}
+use Rattle.pas_trace.specs.{Acts.Act, EveryPlan.IsThread, Acts.stepper_of}
 use Rattle.pas_answers.specs.Answers.{Progress, Caches, with_cache as with_cached, Books, with_book, wanted_by, epoch_look}
-use Rattle.pas_answers.proofs.{Consequences.act_tidy, Consequences.parts_kept, Tidy.KeptPart, Tidy.Tidy}
+use Rattle.pas_answers.proofs.Consequences.{act_tidy, parts_kept, KeptPart, Tidy}
 use Rattle.pas_same_text.specs.Acts.{IsBetween, AreEndsStamped, KeepsStamped, IsResting, AreResting}
 use Rattle.std.proofs.lemmas.Bool.{false≢true, eqb-false, or_left, or_right}
 use Rattle.pas_machine.specs.State.{backed_in}
@@ -27,7 +27,7 @@ use Rattle.pas_report.specs.declared.record.Record.{Record}
 use Rattle.pas_guard.specs.Keepers.{IsBeside}
 use Rattle.pas_trace.specs.declared.{item.Request.Request, plan.Op.Op}
 use Rattle.pas_answers.specs.Guarding.{Tried, IsTried, IsLowered, after_trying, after_lowering}
-use Rattle.pas_answers.specs.Reaching.{AnswersOp, AnswersTried, AnswersGuarded, Advances}
+use Rattle.pas_answers.specs.Reaching.{AnswersTried, AnswersGuarded, Advances}
 use Rattle.pas_same_text.specs.Seats.{IsThreadOf, IsKeeperOf, IsActOf, AreSeated}
 
 -- ---- the parts of the actors
@@ -57,14 +57,17 @@ thread_book f c (g ∷ gs) v resting rest = absurd (elim resting.locals.one_kind
   | inr none ↦ (let e : g ∷ gs ≡ [] = none in cc)
 ])
   where
+    -- The first grain of a page is on it.
     on : 256 * g.low / 256 ≡ g.low
     on = omega arith
 
+    -- The lower page of a guard is an outer one.
     outer : is_outer (g ∷ gs) (256 * g.low / 256) ≡ true
     outer = ap (is_outer (g ∷ gs)) on ∙ or_left (is_outer_of g g.low) (is_outer gs g.low) (or_left (g.low == g.low) (g.high == g.low) (eq-eqb g.low g.low refl))
 
+    -- A slot covers the page's first grain.
     covered : any_covers c.locals (256 * g.low) ≡ true
-    covered = sym (rest.locals.grains (256 * g.low)) ∙ (resting.locals.grains (256 * g.low) ∙ or_right (any_covers c.locals (256 * g.low)) (is_outer (g ∷ gs) (256 * g.low / 256)) outer)
+    covered = sym (rest.locals.grains (256 * g.low)) ∙ (resting.locals.grains (256 * g.low) ∙ or_right (any_covers c.locals (256 * g.low)) _ outer)
 
 -- An actor that was at rest with its cache alone is so with the cache that it rests with later.
 pub at_rest_now : (f : Profile) (c c' : Cached) (gs : List Guard) (v v' : View) → IsResting f c gs v → AtRest f c v → IsResting f c' gs v' → AtRest f c' v'
@@ -80,12 +83,14 @@ module _ (f : Profile) (p : Progress) (k : ℕ) (c' : Cached) (xs : List Made) (
   abbrev l : Whole
   l = triples k xs ++ p.list
 
+  -- A thread has no guards.
   none : p.books k ≡ []
   none = thread_book f (p.caches k) (p.books k) (part k p.list) (before.rest.working k thread) rest
 
+  -- Each thread still rests.
   working : (j : ℕ) → IsThread f j → (t : Bool) → (j == k) ≡ t → IsResting f (if t then c' else p.caches j) (p.books j) (part j l)
   working j is true e = search (arith, eqb-true, thread_book, thread_rests)
-  working j is false e = subst (IsResting f (p.caches j) (p.books j)) (sym (part_of_others j k xs p.list (λ same. eqb-false j k e (sym same)))) (before.rest.working j is)
+  working j is false e = rw (part_of_others j k xs p.list (λ same. eqb-false j k e (sym same))) (before.rest.working j is)
 
   still_bare : (j page : ℕ) → is_outer (p.books j) page ≡ true → (t : Bool) → (k == j) ≡ t → backed_in (visible l) page ≡ false
   still_bare j page outer true e =
@@ -110,18 +115,19 @@ pub record IsMoved (p p' : Progress) (j : ℕ) : Type 0 where
   pub books : p'.books ≡ p.books
   pub others : (k : ℕ) → (k == j) ≡ false → p'.caches k ≡ p.caches k
 
+-- An act of no keeper moves the one that steps alone.
 moved : (f : Profile) (act : Act) (p p' : Progress) → IsNoKeepers act → Advances f act p p' → IsMoved p p' (stepper_of act)
-moved f (Act.Operates op) p p' own is = subst (λ (q : Progress). IsMoved p q op.actor) (sym is.2) (record { steps = is.0.steps; list = refl; books = refl; others = λ k ne. ap (λ (t : Bool). if t then is.0.cache else p.caches k) ne })
-moved f (Act.Settles k) p p' own is = subst (λ (q : Progress). IsMoved p q k) (sym is) (record { steps = []; list = refl; books = refl; others = λ j ne. ap (λ (t : Bool). if t then record (p.caches k) { noted = [] } else p.caches j) ne })
-moved f (Act.Ticks epoch) p p' own is = subst (λ (q : Progress). IsMoved p q 0) (sym is.1) (record { steps = made (Step.Tick epoch) is.0 ∷ []; list = refl; books = refl; others = λ k ne. refl })
-moved f Act.MakesPass p p' own is = subst (λ (q : Progress). IsMoved p q 0) (sym is.4) (record { steps = is.2; list = refl; books = refl; others = λ k ne. refl })
-moved f Act.ReadsEpoch p p' own is = subst (λ (q : Progress). IsMoved p q 0) (sym is.1) (record { steps = epoch_look is.0; list = refl; books = refl; others = λ k ne. refl })
-moved f (Act.StopsIdle k n) p p' own (inl h) = subst (λ (q : Progress). IsMoved p q k) (sym h.4) (record { steps = h.1; list = refl; books = refl; others = λ j ne. ap (λ (t : Bool). if t then h.2 else p.caches j) ne })
-moved f (Act.StopsIdle k n) p p' own (inr h) = subst (λ (q : Progress). IsMoved p q k) (sym h.1) (record { steps = []; list = refl; books = refl; others = λ j ne. refl })
-moved f (Act.MarksPhase n) p p' own is = subst (λ (q : Progress). IsMoved p q 0) (sym is) (record { steps = []; list = refl; books = refl; others = λ k ne. refl })
-moved f (Act.Wakes k) p p' own is = subst (λ (q : Progress). IsMoved p q k) (sym is.1) (record { steps = epoch_look is.0; list = refl; books = refl; others = λ j ne. ap (λ (t : Bool). if t then record (p.caches k) { idle_since = is.0 } else p.caches j) ne })
+moved f (Act.Operates op) p p' own is = subst (λ q. IsMoved p q op.actor) (sym is.2) (record { steps = is.0.steps; list = refl; books = refl; others = λ k ne. ap (λ t. if t then is.0.cache else p.caches k) ne })
+moved f (Act.Settles k) p p' own is = subst (λ q. IsMoved p q k) (sym is) (record { steps = []; list = refl; books = refl; others = λ j ne. ap (λ t. if t then record (p.caches k) { noted = [] } else p.caches j) ne })
+moved f (Act.Ticks epoch) p p' own is = rw is.1 (record { steps = made (Step.Tick epoch) is.0 ∷ []; list = refl; books = refl; others = λ k ne. refl })
+moved f Act.MakesPass p p' own is = rw is.4 (record { steps = is.2; list = refl; books = refl; others = λ k ne. refl })
+moved f Act.ReadsEpoch p p' own is = rw is.1 (record { steps = epoch_look is.0; list = refl; books = refl; others = λ k ne. refl })
+moved f (Act.StopsIdle k n) p p' own (inl h) = subst (λ q. IsMoved p q k) (sym h.4) (record { steps = h.1; list = refl; books = refl; others = λ j ne. ap (λ t. if t then h.2 else p.caches j) ne })
+moved f (Act.StopsIdle k n) p p' own (inr h) = rw h.1 (record { steps = []; list = refl; books = refl; others = λ j ne. refl })
+moved f (Act.MarksPhase n) p p' own is = rw is (record { steps = []; list = refl; books = refl; others = λ k ne. refl })
+moved f (Act.Wakes k) p p' own is = subst (λ q. IsMoved p q k) (sym is.1) (record { steps = epoch_look _; list = refl; books = refl; others = λ j ne. ap (λ t. if t then record (p.caches k) { idle_since = is.0 } else p.caches j) ne })
 moved f Act.MarksClose p p' own is = subst (λ (q : Progress). IsMoved p q 0) (sym is) (record { steps = []; list = refl; books = refl; others = λ k ne. refl })
-moved f (Act.Ends k) p p' own is = subst (λ (q : Progress). IsMoved p q k) (sym is.3) (record { steps = is.0; list = refl; books = refl; others = λ j ne. ap (λ (t : Bool). if t then is.1 else p.caches j) ne })
+moved f (Act.Ends k) p p' own is = subst (λ q. IsMoved p q k) (sym is.3) (record { steps = is.0; list = refl; books = refl; others = λ j ne. ap (λ (t : Bool). if t then is.1 else p.caches j) ne })
 moved f act p p' own is = absurd own
 
 seated_moved : (threads : ℕ) (f : Profile) (p p' : Progress) (j : ℕ) → IsValid f → IsBetween f p → Legal f p'.list → (IsKeeperOf threads f j → ⊥)
@@ -134,10 +140,11 @@ seated_moved threads f p p' j valid before legal works seated m = record {
   bare = λ k page outer. still k page (ap (λ (bs : Books). is_outer (bs k) page) (sym m.books) ∙ outer) (j == k) refl;
 }
   where
+    -- An outer page of a guard still isn't backed.
     still : (k page : ℕ) → is_outer (p.books k) page ≡ true → (t : Bool) → (j == k) ≡ t → backed_in (visible p'.list) page ≡ false
     still k page outer true e = search (arith, eqb-true, false≢true)
     still k page outer false e =
-        subst (λ (l : Whole). backed_in (visible l) page ≡ false) (sym m.list) (others_bare f p j k page m.steps valid before (subst (Legal f) m.list legal) e outer)
+        rw m.list (others_bare f p j k page m.steps valid before (subst (Legal f) m.list legal) e outer)
 
 -- ==== A KEEPER'S ACTS
 pub own_book : (books : Books) (keeper : ℕ) (gs : List Guard) → with_book books keeper gs keeper ≡ gs
@@ -159,16 +166,17 @@ module _ (threads : ℕ) (f : Profile) (keeper : ℕ) (p : Progress) (steps : Li
     (lowers : IsLowered f keeper (part keeper p.list) (p.books keeper) steps said)
     (legal : Legal f (triples keeper steps ++ p.list)) where
   lowered_rest : AreResting f p.caches (with_book p.books keeper []) (triples keeper steps ++ p.list)
-  lowered_rest = keeper_resting f p keeper (with_book p.books keeper []) steps [] valid (keeper_of threads f keeper keeps) before (ap (λ (c : Cached). c.locals) (seated.uncached keeper keeps)) legal
-      (own_book p.books keeper []) (λ j ne. other_book p.books keeper j [] ne) (lowers.sweep.fits.from (part keeper p.list) lowers.fits (agreed_steps f keeper p.list steps valid legal)) tt (λ page outer. absurd (false≢true outer))
+  lowered_rest = keeper_resting f p keeper _ steps [] valid (keeper_of threads f keeper keeps) before (ap (λ (c : Cached). c.locals) (seated.uncached keeper keeps)) legal
+      (own_book p.books _ []) (λ j ne. other_book p.books keeper j [] ne) (lowers.sweep.fits.from _ lowers.fits (agreed_steps f keeper p.list steps valid legal)) tt (λ page outer. absurd (false≢true outer))
 
   seated_lowered : AreSeated threads f (after_lowering p keeper steps said)
-  seated_lowered = seated_rest threads f p keeper [] (triples keeper steps ++ p.list) (after_lowering p keeper steps said) keeps seated refl refl refl lowered_rest
+  seated_lowered = seated_rest threads f p keeper [] (triples keeper steps ++ p.list) _ keeps seated refl refl refl lowered_rest
 
 -- ---- a keeper tried a guarded request
 module _ (f : Profile) (keeper : ℕ) (r : Request) (p : Progress) (t : Tried) (valid : IsValid f) (is : IsThread f keeper) (before : IsBetween f p)
     (uncached : (p.caches keeper).locals ≡ []) (h : IsTried f keeper r (part keeper p.list) (p.books keeper) t) (legal : Legal f (after_trying p keeper t).list)
   where
+    -- The list with the steps of the try is legal.
     whole : Legal f (triples keeper (h.raised ++ h.swept) ++ p.list)
     whole = subst (λ (ms : List Made). Legal f (triples keeper ms ++ p.list)) h.steps_are legal
 
@@ -192,7 +200,7 @@ module _ (f : Profile) (keeper : ℕ) (r : Request) (p : Progress) (t : Tried) (
     pub swept_between : IsBetween f swept
     swept_between = record {
       legal = sweep_legal;
-      rest = keeper_resting f p keeper (with_book p.books keeper h.left) h.swept h.left valid is before uncached sweep_legal (own_book p.books keeper h.left) (λ j ne. other_book p.books keeper j h.left ne) sweep_fits sweep_beside sweep_bare;
+      rest = keeper_resting f p keeper _ h.swept h.left valid is before uncached sweep_legal (own_book p.books keeper h.left) (λ j ne. other_book p.books keeper j h.left ne) sweep_fits sweep_beside sweep_bare;
     }
 
     -- after the raise
@@ -204,11 +212,11 @@ module _ (f : Profile) (keeper : ℕ) (r : Request) (p : Progress) (t : Tried) (
     raise_fits = subst (FitsBook f h.left) (sym (part_of_own keeper h.swept p.list)) sweep_fits
 
     raise_rest : AreResting f p.caches (with_book p.books keeper t.guards) (triples keeper h.raised ++ swept.list)
-    raise_rest = keeper_resting f swept keeper (with_book p.books keeper t.guards) h.raised t.guards valid is swept_between uncached raise_legal (own_book p.books keeper t.guards)
+    raise_rest = keeper_resting f swept keeper _ h.raised t.guards valid is swept_between uncached raise_legal (own_book p.books keeper t.guards)
         (λ j ne. other_book p.books keeper j t.guards ne ∙ sym (other_book p.books keeper j h.left ne))
         (h.raise.fits.from (part keeper swept.list) raise_fits (agreed_steps f keeper swept.list h.raised valid raise_legal))
         (raised_beside f keeper r.heap (pages_of (wanted_by f r)) swept.list h.left t.guards valid raise_fits sweep_beside sweep_bare t.block h.raised h.raise)
-        (raised_bare f keeper r.heap (pages_of (wanted_by f r)) swept.list h.left t.guards valid raise_fits sweep_beside sweep_bare t.block h.raised h.raise raise_legal)
+        (raised_bare f keeper r.heap _ swept.list h.left t.guards valid raise_fits sweep_beside sweep_bare t.block h.raised h.raise raise_legal)
 
     -- The steps of a raise behind those of its sweep are all the steps of the try.
     pub sweep_and_raise_are_the_try : triples keeper h.raised ++ swept.list ≡ triples keeper t.steps ++ p.list
@@ -222,12 +230,10 @@ module _ (f : Profile) (keeper : ℕ) (r : Request) (p : Progress) (t : Tried) (
     tried_between = record { legal = legal; rest = tried_rest }
 
 -- ==== ANY ACT
-list_before : (f : Profile) (op : Op) (p p' : Progress) → AnswersOp f op p p' → Legal f p'.list → Legal f p.list
-list_before f op p p' is legal = legal_before f op.actor is.0.steps p.list (subst (λ (q : Progress). Legal f q.list) is.2 legal)
 
 tried_legal : (f : Profile) (op : Op) (r : Request) (block : Option Block) (p p' : Progress) → AnswersTried f op r block p p' → Legal f p'.list → Legal f p.list
 tried_legal f op r (Some block) p p' is legal = subst (λ (q : Progress). Legal f q.list) is legal
-tried_legal f op r None p p' is legal = list_before f op p p' is legal
+tried_legal f op r None p p' is legal = legal_before f op.actor is.0.steps p.list (subst (λ (q : Progress). Legal f q.list) is.2 legal)
 
 thread_no_keeper : (threads : ℕ) (f : Profile) (k : ℕ) → IsThreadOf threads k → IsKeeperOf threads f k → ⊥
 thread_no_keeper threads f k own keeps = omega (arith, own.1, keeps.0)
@@ -235,7 +241,7 @@ thread_no_keeper threads f k own keeps = omega (arith, own.1, keeps.0)
 after_tried : (threads : ℕ) (f : Profile) (op : Op) (r : Request) (block : Option Block) (p p' : Progress) → IsValid f → IsThreadOf threads op.actor
     → IsBetween f p → AreSeated threads f p → AnswersTried f op r block p p' → Legal f p'.list → AreSeated threads f p'
 after_tried threads f op r (Some block) p p' valid own before seated is legal =
-    subst (AreSeated threads f) (sym is) (record { few = seated.few; unbooked = seated.unbooked; uncached = seated.uncached; beside = seated.beside; bare = seated.bare })
+    subst (AreSeated threads f) (sym is) (assumption)
 after_tried threads f op r None p p' valid own before seated is legal =
     seated_moved threads f p p' op.actor valid before legal (thread_no_keeper threads f op.actor own) seated (moved f (Act.Operates op) p p' tt is)
 
@@ -247,8 +253,8 @@ guarded_seats threads f keeper op (Some r) p p' valid keeps own before seated is
     let midway : Progress = after_trying p keeper t in
     let here : Legal f midway.list = tried_legal f op r t.block midway p' is.2 legal in
     let uncached : (p.caches keeper).locals ≡ [] = ap (λ (c : Cached). c.locals) (seated.uncached keeper keeps) in
-    let rest : AreResting f p.caches (with_book p.books keeper t.guards) (triples keeper t.steps ++ p.list) = tried_rest f keeper r p t valid (keeper_of threads f keeper keeps) before uncached is.1 here in
-    let tried : AreSeated threads f midway = seated_rest threads f p keeper t.guards (triples keeper t.steps ++ p.list) midway keeps seated refl refl refl rest in
+    let rest = tried_rest f keeper r p t valid (keeper_of threads f keeper keeps) before uncached is.1 here in
+    let tried : AreSeated threads f midway = seated_rest threads f p keeper t.guards _ midway keeps seated refl refl refl rest in
     after_tried threads f op r t.block midway p' valid own (record { legal = here; rest = rest }) tried is.2 legal
 
 -- one that acts in an act of no keeper is none
@@ -258,8 +264,8 @@ steps_no_keeper threads f act own is keeps = search (arith, thread_no_keeper)
 -- After each act only keepers have guards up, and cache nothing.
 pub seated_next : (threads : ℕ) (f : Profile) (act : Act) (p p' : Progress) → IsValid f → IsActOf threads f act → IsBetween f p → AreSeated threads f p
     → Advances f act p p' → Legal f p'.list → AreSeated threads f p'
-seated_next threads f (Act.Guards keeper op) p p' valid own before seated is legal = guarded_seats threads f keeper op (request_in op.what) p p' valid own.0 own.1 before seated is legal
+seated_next threads f (Act.Guards keeper op) p p' valid own before seated is legal = guarded_seats _ f keeper op _ p p' valid own.0 own.1 before seated is legal
 seated_next threads f (Act.Lowers keeper) p p' valid own before seated is legal =
-    subst (AreSeated threads f) (sym is.3) (seated_lowered threads f keeper p is.0 is.1 valid own before seated is.2 (subst (λ (q : Progress). Legal f q.list) is.3 legal))
+    rw is.3 (seated_lowered threads f keeper p is.0 is.1 valid own before seated is.2 (subst (λ (q : Progress). Legal f q.list) is.3 legal))
 seated_next threads f act p p' valid own before seated is legal =
     seated_moved threads f p p' (stepper_of act) valid before legal (steps_no_keeper threads f act tt own) seated (moved f act p p' tt is)

@@ -68,20 +68,12 @@ abbrev begins_on : ℕ → Block → Bool
 begins_on page b = grain_of b.name / 256 == page
 
 abbrev is_give : TheEvent → Bool
-is_give (Event.Deed k p d) = false
-is_give (Event.Back k p) = false
-is_give (Event.Unback k p e) = false
 is_give (Event.Give k block) = true
-is_give (Event.End k name e) = false
-is_give (Event.Reject k name why) = false
+is_give e = false
 
 abbrev is_end : TheEvent → Bool
-is_end (Event.Deed k p d) = false
-is_end (Event.Back k p) = false
-is_end (Event.Unback k p e) = false
-is_end (Event.Give k block) = false
 is_end (Event.End k name e) = true
-is_end (Event.Reject k name why) = false
+is_end e = false
 
 abbrev counted_of : Profile → World → Seen
 counted_of f w = record {

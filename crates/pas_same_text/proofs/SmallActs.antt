@@ -2,15 +2,15 @@
 use Rattle.std.proofs.Common.{arith, ◌≡◌, ℕ, ◌==◌, Bool, true, false, ◌&&◌, if◌then◌else◌, List, ◌∷◌, refl, ap, ◌≤◌, length, max, [], ◌++◌, reverse, sym, ◌∙◌}
 use Rattle.std.proofs.Common.{subst, ◌+◌, ◌*◌, ◌/◌, ◌%◌, nat_le, nat_lt, Option, None, Some, inl, inr, append-nil, eq-eqb, ne_eqb}
 use Rattle.pas_profile.specs.{Layouts.same_word, Blocks.address_of}
-use Rattle.pas_profile.specs.declared.{directory.Directory.Directory, name.Block.Block, profile.Profile.Profile, word.Word.Word, event.FreeFault.FreeFault}
+use Rattle.pas_profile.specs.declared.{name.Block.Block, profile.Profile.Profile, word.Word.Word, event.FreeFault.FreeFault}
 use Rattle.pas_profile.specs.declared.{event.FreeFault.TheVariants.Outside, event.FreeFault.TheVariants.Unaligned, name.Name.Name}
 use Rattle.pas_steps.specs.Lists.{Whole, word_after, visible, Legal, part}
 use Rattle.pas_steps.specs.{Desks.made, Desks.triple, Events.events_by}
 use Rattle.pas_steps.specs.declared.step.{Step.TheVariants.Look, Step.TheVariants.Tick, Made.Made}
 use Rattle.pas_core.specs.Rights.{empty_bit, eligible_bit}
 use Rattle.pas_same_text.specs.State.{World, Cache, each, cache_of, set_cache, set_noted, noted_of, says}
-use Rattle.pas_same_text.specs.{Pages.is_offered, Same.ArePagesSame, Same.IsSame, Same.IsSameCache, Acts.StaysSame, Acts.StaysSameWhere, Acts.HasLogRoom}
-use Rattle.pas_same_text.specs.{Indexes.indexes_run, Indexes.settles, Order.begins, Passes.ticks}
+use Rattle.pas_same_text.specs.{Same.ArePagesSame, Same.IsSame, Same.IsSameCache, Acts.StaysSame, Acts.StaysSameWhere, Acts.HasLogRoom, Indexes.indexes_run}
+use Rattle.pas_same_text.specs.{Indexes.settles, Order.begins, Passes.ticks}
 use Rattle.pas_same_text.proofs.CacheLists.{all_locals, locals_with, same_with, same_kept}
 use Rattle.std.proofs.lemmas.{Grind.reverse_onto, Bool.Decides.nat_tests}
 use Rattle.pas_free_log.specs.declared.{noting.EndedRun.EndedRun, log.Entry.Entry}
@@ -36,7 +36,7 @@ unchanged l = record { events = refl; hints = λ page. refl; offers = λ number 
 
 -- a look changes no word
 look_word : (k a : ℕ) (word w : Word) (l : Whole) → word_after (triple k (made (Look word) a) ∷ l) w ≡ word_after l w
-look_word k a word w l = elim (same_word word w) as (λ (t : Bool). (if t then word_after l w else word_after l w) ≡ word_after l w) [ true ↦ refl | false ↦ refl ]
+look_word k a word w l = elim (same_word word w) as (λ t. (if t then word_after l w else word_after l w) ≡ word_after l w) [ true ↦ refl | false ↦ refl ]
 
 -- A look leaves events, hints and offers as they were.
 look_pages : (k a : ℕ) (word : Word) (l : Whole) → HaveSamePages l (triple k (made (Look word) a) ∷ l)
@@ -55,13 +55,10 @@ pub record HaveSameState (w w' : World) : Type 0 where
   pub guards : w'.guards ≡ w.guards
 
 -- ---- offers, by the events, the live blocks, the local allocators and the guards that a state has
--- States with the same events, blocks, local allocators and guards offer the same pages.
-offered_same : (w w' : World) (d : Directory) (page : ℕ) → HaveSameState w w' → is_offered w' d page ≡ is_offered w d page
-offered_same w w' d page same = search arith
 
 -- ---- both together
 pub pages_next : (f : Profile) (l l' : Whole) (w w' : World) → ArePagesSame f l w → HaveSamePages l l' → HaveSameState w w' → ArePagesSame f l' w'
-pages_next f l l' w w' was list state = search (arith, offered_same)
+pages_next f l l' w w' was list state = search (arith)
 
 -- ==== Acts that change no page: marks, the start of a phase, readings of the epoch, ticks, and what is handed on to the indexes.
 -- ---- records
@@ -71,15 +68,9 @@ records_next rs ws r is = ap (λ (xs : List Record). xs ++ r ∷ []) is ∙ sym 
 
 -- a line is said
 pub says_same : (f : Profile) (p : Progress) (w : World) (r : Record) → IsSame f p w → IsSame f (with_records p (r ∷ [])) (says r w)
-says_same f p w r same = record {
-  pages = pages_next f p.list p.list w (says r w) same.pages (unchanged p.list) (record { events = refl; live = refl; hinted = refl; locals = refl; guards = refl });
-  caches = same.caches;
-  guards = same.guards;
-  names = same.names;
-  records = records_next p.records w.records r same.records;
-  epoch = same.epoch;
-  read = same.read;
-}
+says_same f p w r same =
+    let state : HaveSameState w (says r w) = record { events = refl; live = refl; hinted = refl; locals = refl; guards = refl } in
+    assumption (pages_next f p.list p.list w (says r w) same.pages (unchanged p.list) state, records_next p.records w.records r same.records)
 
 -- ---- marks
 pub phase_same : (f : Profile) (n : ℕ) → StaysSame f (Act.MarksPhase n)
@@ -104,16 +95,10 @@ wakes_to f k epoch p w is listed same legal =
     let was : IsSameCache (p.caches k) own = same.caches.each k is in
     let new : Cache = record own { began = w.epoch } in
     let now : w.epoch ≡ epoch = same.epoch ∙ sym (read_now f p k epoch legal) in
-    record {
-      pages = pages_next f p.list (triple k (made (Look Word.Epoch) epoch) ∷ p.list) w (begins k w) same.pages (look_pages k epoch Word.Epoch p.list) (cache_state w k new refl);
-      caches = same_with f p.caches w.caches k (begun (p.caches k) epoch) new is listed same.caches
-          (record { locals = was.locals; log = was.log; noted = was.noted; began = now });
-      guards = same.guards;
-      names = same.names;
-      records = same.records;
-      epoch = same.epoch ∙ sym (look_word k epoch Word.Epoch Word.Epoch p.list);
-      read = same.read;
-    }
+    let look : Whole = triple k (made (Look Word.Epoch) epoch) ∷ p.list in
+    let pages = pages_next f p.list look w (begins k w) same.pages (look_pages k epoch Word.Epoch p.list) (cache_state w k new refl) in
+    let caches = same_with f p.caches w.caches k (begun (p.caches k) epoch) new is listed same.caches (assumption) in
+    assumption (pages, caches, same.epoch ∙ sym (look_word k epoch Word.Epoch Word.Epoch p.list))
 
 -- A thread's reading of the epoch at a phase leads the text to the replay's state.
 pub wake_same : (f : Profile) (k : ℕ) → IsThread f k → StaysSame f (Act.Wakes k)
@@ -133,15 +118,10 @@ ticks_to : (f : Profile) (asked answer : ℕ) (p : Progress) (w : World) → IsS
 ticks_to f asked answer p w same legal =
     let now : answer ≡ w.epoch = legal.0.answer_is ∙ sym same.epoch in
     let line : Record = Record.Said 0 (Said.Tick (max w.epoch asked)) in
-    record {
-      pages = pages_next f p.list (triple 0 (made (Tick asked) answer) ∷ p.list) w (ticks asked w) same.pages (tick_pages 0 answer asked p.list) (record { events = refl; live = refl; hinted = refl; locals = refl; guards = refl });
-      caches = same.caches;
-      guards = same.guards;
-      names = same.names;
-      records = ap (λ (e : ℕ). p.records ++ Record.Said 0 (Said.Tick (max e asked)) ∷ []) now ∙ records_next p.records w.records line same.records;
-      epoch = ap (λ (e : ℕ). max e asked) same.epoch;
-      read = same.read;
-    }
+    let state : HaveSameState w (ticks asked w) = record { events = refl; live = refl; hinted = refl; locals = refl; guards = refl } in
+    let pages = pages_next f p.list (triple 0 (made (Tick asked) answer) ∷ p.list) w (ticks asked w) same.pages (tick_pages 0 answer asked p.list) state in
+    let said = ap (λ (e : ℕ). p.records ++ Record.Said 0 (Said.Tick (max e asked)) ∷ []) now ∙ records_next p.records w.records line same.records in
+    assumption (pages, said, ap (λ (e : ℕ). max e asked) same.epoch)
 
 -- A tick leads the text to the replay's state.
 pub tick_same : (f : Profile) (asked : ℕ) → StaysSame f (Act.Ticks asked)
@@ -151,12 +131,10 @@ tick_same f asked p p' w taken =
     subst (λ (q : Progress). IsSame f q (ticks asked w)) (sym taken.advances.1) (ticks_to f asked answer p w taken.same legal)
 
 -- ---- what is handed on to the indexes
-indexed_same : (f : Profile) (p : Progress) (run : EndedRun) (w : World) → IsSame f p w → IsSame f p (indexes_run run w)
-indexed_same f p run w same = search (arith, pages_next, unchanged)
 
 all_indexed : (f : Profile) (p : Progress) (runs : List EndedRun) (w : World) → IsSame f p w → IsSame f p (each indexes_run runs w)
 all_indexed f p [] w same = same
-all_indexed f p (run ∷ runs) w same = all_indexed f p runs (indexes_run run w) (indexed_same f p run w same)
+all_indexed f p (run ∷ runs) w same = all_indexed f p runs (indexes_run run w) (search (arith, pages_next, unchanged))
 
 handed_on : (f : Profile) (k : ℕ) (p : Progress) (w : World) → IsThread f k → k ≤ length w.caches → IsSame f p w
     → IsSame f (after_settling p k) (set_noted k [] w)
@@ -179,15 +157,7 @@ after_with p k steps said names c = with_records (record (with_steps p k steps c
 -- ---- an answer without a step, which changes nothing but says something
 pub said_same : (f : Profile) (k : ℕ) (said : TheSaid) (p : Progress) (w : World) → IsSame f p w
     → IsSame f (after_with p k [] (Some said) p.names (p.caches k)) (says (Record.Said k said) w)
-said_same f k said p w same = record {
-  pages = pages_next f p.list p.list w _ same.pages (unchanged p.list) (record { events = refl; live = refl; hinted = refl; locals = refl; guards = refl });
-  caches = same_kept f p.caches w.caches k same.caches;
-  guards = same.guards;
-  names = same.names;
-  records = records_next p.records w.records (Record.Said k said) same.records;
-  epoch = same.epoch;
-  read = same.read;
-}
+said_same f k said p w same = assumption (same_kept f p.caches w.caches k same.caches, says_same f p w (Record.Said k said) same)
 
 -- ---- an entry more in the log
 abbrev with_entry : Cached → Entry → Cached
@@ -199,22 +169,17 @@ added_same f k entry p w is listed same =
     let own : Cache = cache_of w k in
     let was : IsSameCache (p.caches k) own = same.caches.each k is in
     let new : Cache = record own { log = own.log ++ entry ∷ [] } in
-    record {
-      pages = pages_next f p.list p.list w (set_cache k new w) same.pages (unchanged p.list) (cache_state w k new refl);
-      caches = same_with f p.caches w.caches k (with_entry (p.caches k) entry) new is listed same.caches
-          (record { locals = was.locals; log = ap (λ (es : List Entry). es ++ entry ∷ []) was.log; noted = was.noted; began = was.began });
-      guards = same.guards;
-      names = same.names;
-      records = append-nil p.records ∙ same.records;
-      epoch = same.epoch;
-      read = same.read;
-    }
+    let log : new.log ≡ (with_entry (p.caches k) entry).log = ap (λ (es : List Entry). es ++ entry ∷ []) was.log in
+    let caches = same_with f p.caches w.caches k (with_entry (p.caches k) entry) new is listed same.caches (assumption) in
+    let pages = pages_next f p.list p.list w (set_cache k new w) same.pages (unchanged p.list) (cache_state w k new refl) in
+    assumption (pages, caches, append-nil p.records ∙ same.records)
 
 -- ---- where the address is
 pub page_inside : (pages a : ℕ) → 1 ≤ a / 4096 → a / 4096 ≤ pages → (nat_le 4096 a && nat_lt a (4096 * (pages + 1))) ≡ true
 page_inside pages a some few =
     search (arith, nat_tests)
 
+-- An address outside the pages fails both tests of the text.
 page_outside : (pages a : ℕ) → ((1 ≤ a / 4096) × (a / 4096 ≤ pages) → ⊥) → (nat_le 4096 a && nat_lt a (4096 * (pages + 1))) ≡ false
 page_outside pages a none = search arith
 
@@ -237,10 +202,6 @@ logged_cache : (f : Profile) (k : ℕ) (c c' : Cached) (entry : Entry) (steps : 
 logged_cache f k c c' entry steps room takes =
     search arith
 
-room_is : (f : Profile) (k : ℕ) (entry : Entry) (p : Progress) (w : World) → IsThread f k → IsSame f p w → nat_le 64 (length (p.caches k).log) ≡ false
-    → logs f k entry w ≡ adds k entry w
-room_is f k entry p w is same room = search (arith, same.caches.each)
-
 -- ---- the free
 logged_same : (f : Profile) (k : ℕ) (entry : Entry) (p : Progress) (w : World) (c' : Cached) (steps : List Made) → IsThread f k → k ≤ length w.caches
     → IsSame f p w → nat_le 64 (length (p.caches k).log) ≡ false
@@ -249,30 +210,26 @@ logged_same f k entry p w c' steps is listed same room takes =
     let to = logged_cache f k (p.caches k) c' entry steps room takes in
     let inside = page_inside f.pages (address_of entry.name) takes.region.page.0 takes.region.page.1 in
     let text : frees f k entry w ≡ adds k entry w =
-    freed_is f k entry w true true inside (eq-eqb (address_of entry.name % 16) 0 takes.region.aligned) ∙ room_is f k entry p w is same room in
+    freed_is f k entry w true true inside (eq-eqb (address_of entry.name % 16) 0 takes.region.aligned) ∙ (search (arith, same.caches.each)) in
     rw (text, to.0, to.1) (added_same f k entry p w is listed same)
 
 refused_text : (f : Profile) (k : ℕ) (entry : Entry) (w : World) (c c' : Cached) (steps : List Made) (fault : FreeFault)
     → RefusesName f c c' entry.name steps fault → frees f k entry w ≡ refuses_free k entry.name fault w
-refused_text f k entry w c c' steps Outside refuses = freed_is f k entry w false _ (page_outside f.pages _ refuses.fault_is) refl
-refused_text f k entry w c c' steps Unaligned refuses =
-    freed_is f k entry w true false (page_inside f.pages _ refuses.fault_is.0.0 refuses.fault_is.0.1) (ne_eqb _ 0 refuses.fault_is.1)
+refused_text f k entry w c c' steps a refuses = search (arith, freed_is, page_outside, page_inside, ne_eqb)
 
 -- A free whose name can't be a block's is refused at once in the text as in the replay.
 pub refused_same : (f : Profile) (k : ℕ) (entry : Entry) (p : Progress) (w : World) (c' : Cached) (steps : List Made) (fault : FreeFault) → IsSame f p w
     → RefusesName f (p.caches k) c' entry.name steps fault
     → IsSame f (after_with p k steps (Some (said_of_fault entry.name fault)) p.names c') (frees f k entry w)
 refused_same f k entry p w c' steps fault same refuses =
-    let name : Name = entry.name in
-    rw (refused_text f k entry w (p.caches k) c' steps fault refuses, refuses.no_steps, refuses.cache) (said_same f k (said_of_fault name fault) p w same)
+    rw (refused_text f k entry w (p.caches k) c' steps fault refuses, refuses.no_steps, refuses.cache) (said_same f k (said_of_fault entry.name fault) p w same)
 
 -- A free into a log with room leads the text to the replay's state.
 pub freed_same : (f : Profile) (k : ℕ) (entry : Entry) (p : Progress) (w : World) (c' : Cached) (steps : List Made) (said : Option TheSaid) → IsThread f k
     → k ≤ length w.caches → IsSame f p w → nat_le 64 (length (p.caches k).log) ≡ false
     → IsFreed f k (p.caches k) c' entry steps said → IsSame f (after_with p k steps said p.names c') (frees f k entry w)
 freed_same f k entry p w c' steps said is listed same room (inl t) =
-    subst (λ (s : Option TheSaid). IsSame f (after_with p k steps s p.names c') (frees f k entry w)) (sym t.1)
-    (logged_same f k entry p w c' steps is listed same room t.0)
+    rw t.1 (logged_same f k entry p w c' steps is listed same room t.0)
 freed_same f k entry p w c' steps said is listed same room (inr t) =
     rw t.2 (refused_same f k entry p w c' steps t.0 same t.1)
 
@@ -281,8 +238,7 @@ skipped_same : (f : Profile) (k name : ℕ) (p : Progress) (w : World) (c' : Cac
     → c' ≡ p.caches k → said ≡ Some (Said.Skipped name)
     → IsSame f (after_with p k steps said p.names c') (says (Record.Said k (Said.Skipped name)) w)
 skipped_same f k name p w c' steps said same no_steps cache is =
-    subst (λ (s : Option TheSaid). IsSame f (after_with p k steps s p.names c') (says (Record.Said k (Said.Skipped name)) w)) (sym is)
-    (rw (no_steps, cache) (said_same f k (Said.Skipped name) p w same))
+    rw is (rw (no_steps, cache) (said_same f k (Said.Skipped name) p w same))
 
 -- ---- a free by a name of the trace leads the text to the replay's state where a free of each block does
 module _ (f : Profile) (k : ℕ) (p p' : Progress) (w : World) (a : Answer) (same : IsSame f p w) (names : a.names ≡ p.names)
@@ -304,8 +260,7 @@ module _ (f : Profile) (k : ℕ) (p p' : Progress) (w : World) (a : Answer) (sam
 
   entry_same : IsThread f k → k ≤ length w.caches → HasLogRoom k p → FreesSame
   entry_same is listed room entry freed =
-      let test : nat_le 64 (length (p.caches k).log) ≡ false = grind (arith, nat_tests, room) in
-      rw (reached, names) (freed_same f k entry p w a.cache a.steps a.said is listed same test freed)
+      rw (reached, names) (freed_same f k entry p w a.cache a.steps a.said is listed same (grind (arith, nat_tests, room)) freed)
 
 -- ---- the acts
 -- thread k is asked for this

@@ -12,12 +12,12 @@ use Rattle.pas_steps.specs.Lists.{Whole, part, word_after, Legal, visible}
 use Rattle.pas_steps.specs.declared.step.{Made.Made, Step.Step, Step.TheVariants.Look, Step.TheVariants.Deed}
 use Rattle.pas_steps.proofs.{Parts.part_of_own, Past.always_map}
 use Rattle.pas_core.proofs.Deeds.{deed_has_page, deed_kept, deed_of, backed_of, known_is}
-use Rattle.pas_core.proofs.Rights.{free_without_deed, Nowhere, is_with, spot_of, DeedFits, no_deed, spotted, deeds_known}
+use Rattle.pas_core.proofs.Rights.{free_without_deed, is_with, spot_of, DeedFits, no_deed, spotted, deeds_known}
 use Rattle.pas_core.proofs.OneActor.{LendsNone, lends_none, deed_none, legal_before}
 use Rattle.pas_scan.specs.Runs.{IsInRun}
 use Rattle.pas_search.specs.Kinds.{ReturnsDuly}
 use Rattle.pas_large.specs.{Evidence.AllUsable, Evidence.DeedsOf, Evidence.DeedsRise, Finds.MayFind, Telling.IsUsablePage, Telling.IsUsableRun}
-use Rattle.pas_large.proofs.{Outcomes.MadeOf, Claims.span_in}
+use Rattle.pas_large.proofs.{Finds.MadeOf, Claims.span_in}
 use Rattle.pas_guard.specs.Evidence.{HoldsRunWhole, OuterBackedHere, IsBad, OuterFailsHere, HasFailedOnce}
 use Rattle.pas_guard.specs.Seeks.{seeking, HasSpan, SoughtRun, SoughtNone}
 use Rattle.pas_same_text.specs.Runs.{large_of, is_usable, is_run, serves_pages}
@@ -34,7 +34,7 @@ use Rattle.pas_answers.specs.Answers.{Progress}
 use Rattle.pas_same_text.specs.{State.World, Guards.are_bare, Guards.raises, Guards.raises_from, Same.IsSame, Same.HasSame, Acts.IsBetween, Words.free_bit}
 use Rattle.pas_same_text.specs.Pages.{page_numbers, each_of, is_none, is_same, is_free, is_empty, is_kept}
 use Rattle.pas_same_text.proofs.RestingPages.{open_from, is_open, owned_is, unowned_by}
-use Rattle.pas_same_text.proofs.RaiseWalk.{below, below_all, IsWalked, found_text, none_text}
+use Rattle.pas_same_text.proofs.RaiseWalk.{below, below_all, IsOfRun, IsWalked, found_text, none_text}
 
 -- a page one of whose grains an actor holds has a deed
 held_deed : (f : Profile) (l : Whole) (k g : ℕ) → IsValid f → Legal f l → holds (part k l) g ≡ true → word_after l (Word.Deed (g / 256)) ≢ 0
@@ -72,9 +72,8 @@ module _ (f : Profile) (k heap n : ℕ) (l : Whole) (valid : IsValid f) (of : Is
 
     whole_region : (1 ≤ first) × (first + (n + 2) ≤ f.pages + 1)
     whole_region =
-        let low : IsPage f first = deed_has_page f (triples k xs ++ l) legal first (whole_deed first (omega arith, omega arith)) in
-        let high : IsPage f (first + n + 1) = deed_has_page f (triples k xs ++ l) legal (first + n + 1) (whole_deed (first + n + 1) (omega arith, omega arith)) in
-        let a = low.0 in (a, omega (arith, high.1))
+        let high = deed_has_page f (triples k xs ++ l) legal (first + n + 1) (whole_deed (first + n + 1) (omega arith, omega arith)) in
+        let a = (deed_has_page f (triples k xs ++ l) legal first (whole_deed first (omega arith, omega arith))).0 in (a, omega (arith, high.1))
 
   all_usable : (xs : List Made) → Legal f (triples k xs ++ l) → LendsNone xs → Always ReturnsDuly xs → (first : ℕ) → AllUsable d (n + 2) first xs
       → IsUsableRun d (n + 2) l first
@@ -85,9 +84,10 @@ module _ (f : Profile) (k heap n : ℕ) (l : Whole) (valid : IsValid f) (of : Is
       → Once (OuterFailsHere (part k l) d n first) xs → IsRunOf f heap n l first
   outer_failed [] legal lends due first h = absurd h
   outer_failed (m ∷ xs) legal lends due first (inr h) = outer_failed xs legal.1 lends.1 due.1 first h
-  outer_failed (m ∷ xs) legal lends due first (inl h) = record { of_region = whole_region xs legal.1 first h.1.0; usable = all_usable xs legal.1 lends.1 due.1 first h.0 }
+  outer_failed (m ∷ xs) legal lends due first (inl h) = record { of_region = whole_region xs legal.1 _ h.1.0; usable = all_usable xs legal.1 lends.1 due.1 _ h.0 }
 
   module _ (xs : List Made) (legal : Legal f (triples k xs ++ l)) (kinds : Only seeking xs) (due : Always ReturnsDuly xs) where
+    -- The search lends nothing.
     lends : LendsNone xs
     lends = lends_none seeking refl xs kinds
 
@@ -110,6 +110,7 @@ module _ (f : Profile) (k heap n : ℕ) (l : Whole) (valid : IsValid f) (of : Is
     deeds = λ q here none. whole_deed xs legal.1 first h.0 q here (sym (deed_kept (triples k xs ++ l) (triple k m) q (whole_deed xs legal.1 first h.0 q here)) ∙ none);
   }
     where
+      -- A page that was read as backed is backed.
       read : (q : ℕ) → m.step ≡ Look (Word.Backed q) → m.answer ≡ 1 → word_after l (Word.Backed q) ≡ 1
       read q is one =
           sym (backed_stays seeking refl k xs l q kinds.1) ∙ (sym (legal.0.answer_is ∙ ap (λ (s : Step). word_after (triples k xs ++ l) (target s)) is) ∙ one)
@@ -121,7 +122,7 @@ module _ (f : Profile) (k heap n : ℕ) (l : Whole) (valid : IsValid f) (of : Is
   bad_run xs legal kinds made first run (inl bad) =
       let here : IsUsablePage d l bad.0 = run.usable bad.0 bad.1 in
       let before : Legal f l = legal_before f k xs l legal in
-      absurd (bad_never f k l d bad.0 of.kind before (lacks_usable f k l d (n + 2) of met before bad.0 here) here xs legal (lends_none seeking refl xs kinds) made bad.2)
+      absurd (bad_never f k l d bad.0 _ before (lacks_usable f k l d (n + 2) of met before bad.0 here) here xs legal (lends_none seeking refl xs kinds) made bad.2)
 
   -- ---- THE DEEDS that were made, of pages that had none
   module _ (Chosen Good : ℕ → Type 0) (each : (first : ℕ) → Chosen first → Good first) where
@@ -177,6 +178,7 @@ module _ {f : Profile} {k heap n : ℕ} {p : Progress} {w : World} {xs : List Ma
   abbrev mine : List ℕ → World
   mine qs = shown (deeds_of k large qs) w
 
+  -- Before the search the replay has what the text has.
   old : HasSame f p w
   old = has_same s.same
 
@@ -194,8 +196,7 @@ module _ {f : Profile} {k heap n : ℕ} {p : Progress} {w : World} {xs : List Ma
   unowned_kept page none = false_from_ne_true (is_kept w page) (λ kept.
       let by = keeper f p w s.valid s.between old page kept in
       let at = spotted f p.list s.between.legal page in
-      let nowhere : spot_of p.list page ≡ Nowhere = no_deed (spot_of p.list page) (subst (DeedFits (spot_of p.list page)) none at.deed) in
-      false≢true (sym (ap (is_with by.0) nowhere) ∙ (sym (at.has by.0) ∙ by.1)))
+      false≢true (sym (ap (is_with by.0) (no_deed (spot_of p.list page) (subst (DeedFits (spot_of p.list page)) none at.deed))) ∙ (sym (at.has by.0) ∙ by.1)))
 
   no_deed_in : (page : ℕ) → word_after p.list (Word.Deed page) ≡ 0 → is_none (deed_in w.events page) ≡ true
   no_deed_in page none = unowned_by (deed_in w.events page) (sym (owned_is f p.list w s.between.legal s.same.pages.events page) ∙ none)
@@ -216,18 +217,15 @@ module _ {f : Profile} {k heap n : ℕ} {p : Progress} {w : World} {xs : List Ma
   usable_still : (qs : List ℕ) → AllByRecursion (λ q. word_after p.list (Word.Deed q) ≡ 0) qs → (page : ℕ)
       → is_usable (mine qs) heap page ≡ is_usable w heap page
   usable_still qs bare page = elim (deed_or page qs bare) [
-    | inl made ↦
-        ap (λ (o : Option Directory). usable_in large o (mine qs) page) (ap (λ (es : List Event). deed_in es page) (shown_events (deeds_of k large qs) w) ∙ made.0)
-        ∙ (same_use (Some large) qs page
-        ∙ (all_true large (is_kept w page) (is_open w large page) (is_empty w page) (unowned_kept page made.1) (unowned_open page made.1) (unowned_empty page made.1)
-        ∙ sym (ap (λ (t : Bool). t || ((is_same large (deed_in w.events page) && (not (is_kept w page) && is_open w large page)) && is_empty w page)) (no_deed_in page made.1))))
-    | inr still ↦
-        ap (λ (o : Option Directory). usable_in large o (mine qs) page) (ap (λ (es : List Event). deed_in es page) (shown_events (deeds_of k large qs) w) ∙ still) ∙ same_use (deed_in w.events page) qs page
+    | inl made ↦ cc (
+      shown_events _ w,
+      same_use _ qs page,
+      all_true large _ _ _ (unowned_kept page made.1) (unowned_open page made.1) (unowned_empty page made.1),
+      no_deed_in page made.1,
+    )
+    | inr still ↦ ap (λ (o : Option Directory). usable_in large o (mine qs) page)
+        (ap (λ (es : List Event). deed_in es page) (shown_events (deeds_of k large qs) w) ∙ still) ∙ same_use (deed_in w.events page) qs page
   ]
-
-  run_still : (qs : List ℕ) → AllByRecursion (λ q. word_after p.list (Word.Deed q) ≡ 0) qs → (r : ℕ)
-      → is_run f (mine qs) heap (n + 2) r ≡ is_run f w heap (n + 2) r
-  run_still qs bare r = ap (λ (test : ℕ → Bool). nat_le (r + (n + 2)) (f.pages + 1) && each_of r (n + 2) test) (fun_ext (usable_still qs bare))
 
   -- ---- runs in words and in the text
   run_of : (r : ℕ) → 1 ≤ r → is_run f w heap (n + 2) r ≡ true → IsRunOf f heap n p.list r
@@ -240,12 +238,7 @@ module _ {f : Profile} {k heap n : ℕ} {p : Progress} {w : World} {xs : List Ma
   backed_told page = ap (λ (es : List Event). backed_in es page) s.same.pages.events
 
   not_bare : (end : Whole) (r : ℕ) → IsBackedRun n p.list end r → are_bare w r n ≡ false
-  not_bare end r run = elim run.backed [
-    | inl low ↦ ap (λ (t : Bool). not t && not (backed_in w.events (r + n + 1))) (backed_told r ∙ one_backed (backed_in (visible p.list) r) (sym low ∙ backed_of f p.list s.between.legal r))
-    | inr high ↦
-        ap (λ (t : Bool). not (backed_in w.events r) && not t) (backed_told (r + n + 1) ∙ one_backed (backed_in (visible p.list) (r + n + 1)) (sym high ∙ backed_of f p.list s.between.legal (r + n + 1)))
-        ∙ and-false (not (backed_in w.events r))
-  ]
+  not_bare end r run = search (arith, backed_told, one_backed, backed_of, and-false)
 
   -- ==== THE SEARCH, whose deeds are of pages of these runs below the end; each page of such a run has its deed then
   abbrev mid : Whole
@@ -261,7 +254,7 @@ module _ {f : Profile} {k heap n : ℕ} {p : Progress} {w : World} {xs : List Ma
     all : (r : ℕ) → IsRunOf f heap n p.list r → r < end → (q : ℕ) → IsInRun r (n + 2) q → word_after mid (Word.Deed q) ≢ 0
 
   made_by : (Chosen : ℕ → Type 0) → DeedsOf large (n + 2) Chosen xs → MadeOf large xs
-  made_by Chosen deeds = always_map _ (λ m before. (x : ℕ) (e : Directory) → m.step ≡ Deed x e → m.answer ≡ 0 → e ≡ large) xs (λ m before h x e is zero. (h x e is zero).0) deeds
+  made_by Chosen deeds = always_map _ _ xs (λ m before h x e is zero. (h x e is zero).0) deeds
 
   -- The events of a search that made deeds alone of a directory are those deeds.
   pub made_events : MadeOf large xs → events_by k (part k p.list) xs ≡ deeds_of k large made
@@ -269,21 +262,26 @@ module _ {f : Profile} {k heap n : ℕ} {p : Progress} {w : World} {xs : List Ma
 
   -- What a list shows after a search that made deeds alone of a directory are those deeds before the text's events.
   pub visible_mid : MadeOf large xs → visible mid ≡ deeds_of k large made ++ w.events
-  visible_mid of_heap = visible_steps k xs p.list ∙ (ap (λ (es : List Event). es ++ visible p.list) (made_events of_heap) ∙ ap (λ (es : List Event). deeds_of k large made ++ es) (sym s.same.pages.events))
+  visible_mid of_heap = visible_steps k xs _ ∙ (ap (λ es. es ++ visible p.list) (made_events of_heap) ∙ ap (λ es. deeds_of k large made ++ es) (sym s.same.pages.events))
 
+  abbrev IsMadeBelow : ℕ → ℕ → Type 0
+  IsMadeBelow end = IsMadeOf n p.list (λ r. IsRunOf f heap n p.list r × (r < end))
+
+  -- The text walks over the same pages.
   walked : (end : ℕ) (Chosen : ℕ → Type 0) → AreOfRuns end Chosen → IsWalked f k heap n w made end
   walked end Chosen runs_are =
       let of_heap : MadeOf large xs = made_by Chosen runs_are.deeds in
-      let pages : AllByRecursion (IsMadeOf n p.list (λ r. IsRunOf f heap n p.list r × (r < end))) made = made_pages f k heap n p.list s.valid s.of s.met Chosen (λ r. IsRunOf f heap n p.list r × (r < end)) runs_are.each xs s.legal runs_are.deeds in
+      let pages : AllByRecursion (IsMadeBelow end) made = made_pages f k heap n p.list s.valid s.of s.met Chosen _ runs_are.each xs s.legal runs_are.deeds in
       record {
         falls = deeded_falls k large xs s.rise;
         run = subst (Run f) (visible_mid of_heap) (runs f mid s.valid s.legal);
-        of_runs = all_map (IsMadeOf n p.list (λ r. IsRunOf f heap n p.list r × (r < end))) (λ q. (r : ℕ) × IsInRun r (n + 2) q × ((1 ≤ r) × (r < end) × (is_run f w heap (n + 2) r ≡ true))) made
+        of_runs = all_map (IsMadeBelow end) (IsOfRun f heap n w end) made
             (λ q h. (h.run, h.within, (h.good.0.of_region.0, h.good.1, is_run_of h.run h.good.0))) pages;
-        all = λ r some lt h q here none. word_some (deed_in (visible mid) q) (λ zero. runs_are.all r (run_of r some h) lt q here (deed_of f mid s.legal q ∙ zero)) (ap (λ (es : List Event). deed_in es q) (visible_mid of_heap) ∙ none);
-        still = λ e r. run_still (below e made) (below_all e (λ q. word_after p.list (Word.Deed q) ≡ 0) made (all_map (IsMadeOf n p.list (λ r. IsRunOf f heap n p.list r × (r < end))) (λ q. word_after p.list (Word.Deed q) ≡ 0) made (λ q h. h.bare) pages)) r;
+        all = λ r some lt h q here none. word_some _ (λ zero. runs_are.all r (run_of r some h) lt q here (deed_of f mid s.legal q ∙ zero)) (ap (λ es. deed_in es q) (visible_mid of_heap) ∙ none);
+        still = λ e r. (ap (λ (test : ℕ → Bool). nat_le (r + (n + 2)) (f.pages + 1) && each_of r (n + 2) test) (fun_ext (usable_still (below e made) (below_all e (λ q. word_after p.list (Word.Deed q) ≡ 0) made (all_map (IsMadeBelow end) (λ q. word_after p.list (Word.Deed q) ≡ 0) made (λ q h. h.bare) pages)))));
       }
 
+  -- The search's answers agree with the keeper's view.
   agreed : Agreed f (part k p.list) xs
   agreed = agreed_steps f k p.list xs s.valid s.legal
 
@@ -297,7 +295,7 @@ module _ {f : Profile} {k heap n : ℕ} {p : Progress} {w : World} {xs : List Ma
     run_first = found_run f k heap n p.list s.valid s.of s.met xs s.legal s.kinds s.due first found.of_region found.usable
 
     lower_backed : (r : ℕ) → r < first → IsRunOf f heap n p.list r → IsBackedRun n p.list mid r
-    lower_backed r lt run = bad_run f k heap n p.list s.valid s.of s.met xs s.legal s.kinds found_made r run (found.lower (part k p.list) s.met agreed r run.of_region.0 lt)
+    lower_backed r lt run = bad_run f k heap n p.list s.valid s.of s.met xs s.legal s.kinds found_made r run (found.lower _ s.met agreed r run.of_region.0 lt)
 
     -- each of its pages has its deed
     got_deed : (q : ℕ) → IsInRun first (n + 2) q → known_deed (part k mid) q ≢ 0
@@ -306,7 +304,7 @@ module _ {f : Profile} {k heap n : ℕ} {p : Progress} {w : World} {xs : List Ma
         deed_word_of-positive large (sym (got.got.deeds q (span_in first (first + (n + 2)) q here.0 here.1)) ∙ (ap (λ (v : View). known_deed v q) (sym (part_of_own k xs p.list)) ∙ none))
 
     first_deeds : (q : ℕ) → IsInRun first (n + 2) q → word_after mid (Word.Deed q) ≢ 0
-    first_deeds q here none = got_deed q here (known_is (known_deed (part k mid) q) (word_after mid (Word.Deed q)) (deeds_known f mid s.legal k q) (got_deed q here) ∙ none)
+    first_deeds q here none = got_deed q here (known_is (known_deed (part k mid) q) _ (deeds_known f mid s.legal k q) (got_deed q here) ∙ none)
 
     abbrev FoundOrFailed : ℕ → Type 0
     FoundOrFailed r = (r ≡ first) ⊎ ((r < first) × HasFailedOnce (part k p.list) large n r xs)
@@ -329,7 +327,8 @@ module _ {f : Profile} {k heap n : ℕ} {p : Progress} {w : World} {xs : List Ma
     found_bare : are_bare w first n ≡ true
     found_bare =
         let since = found.bare (part k p.list) s.met agreed in
-        let bare : (q : ℕ) → word_after mid (Word.Backed q) ≡ 0 → backed_in w.events q ≡ false = λ q zero. backed_told q ∙ bare_events f p.list q s.valid s.between.legal (sym (backed_stays seeking refl k xs p.list q s.kinds) ∙ zero) in
+        let bare : (q : ℕ) → word_after mid _ ≡ 0 → backed_in w.events q ≡ false =
+        λ q zero. backed_told q ∙ bare_events f p.list q s.valid s.between.legal (sym (backed_stays seeking refl k xs p.list q s.kinds) ∙ zero) in
         ap (λ (t : Bool). not t && not (backed_in w.events (first + n + 1))) (bare first (bare_since f k first (part k p.list) xs p.list s.legal since.0))
         ∙ ap (λ (t : Bool). not t) (bare (first + n + 1) (bare_since f k (first + n + 1) (part k p.list) xs p.list s.legal since.1))
 
@@ -338,12 +337,12 @@ module _ {f : Profile} {k heap n : ℕ} {p : Progress} {w : World} {xs : List Ma
     sought_text j name =
         let low = found.of_region.0 in
         let high = found.of_region.1 in
-        found_text f k j name heap n w made (first + 1) (walked (first + 1) FoundOrFailed of_runs_found) first refl (low, omega (arith, high)) (is_run_of first run_first) found_bare
+        found_text f k j name heap n w made (first + 1) (walked (first + 1) _ of_runs_found) first refl (low, omega (arith, high)) (is_run_of first run_first) found_bare
         (λ r some lt h. not_bare mid r (lower_backed r lt (run_of r some h)))
 
     -- the pages that got deeds had none before, and are of usable runs
     pub found_pages : AllByRecursion (IsMadeOf n p.list (λ r. IsRunOf f heap n p.list r × (r < first + 1))) made
-    found_pages = made_pages f k heap n p.list s.valid s.of s.met FoundOrFailed (λ r. IsRunOf f heap n p.list r × (r < first + 1)) of_runs_found.each xs s.legal of_runs_found.deeds
+    found_pages = made_pages f k heap n p.list s.valid s.of s.met FoundOrFailed _ of_runs_found.each xs s.legal of_runs_found.deeds
 
   -- ---- none does
   module _ (found : SoughtNone f large n xs) where
@@ -352,7 +351,7 @@ module _ {f : Profile} {k heap n : ℕ} {p : Progress} {w : World} {xs : List Ma
     none_made = made_by (λ r. HasFailedOnce (part k p.list) large n r xs) (found.deeds (part k p.list) s.met agreed)
 
     none_backed : (r : ℕ) → IsRunOf f heap n p.list r → IsBackedRun n p.list mid r
-    none_backed r run = bad_run f k heap n p.list s.valid s.of s.met xs s.legal s.kinds none_made r run (found.bad (part k p.list) s.met agreed r run.of_region.0 run.of_region.1)
+    none_backed r run = bad_run f k heap n p.list s.valid s.of s.met xs s.legal s.kinds none_made r run (found.bad _ s.met agreed r run.of_region.0 run.of_region.1)
 
     abbrev Failed : ℕ → Type 0
     Failed r = HasFailedOnce (part k p.list) large n r xs
@@ -370,4 +369,4 @@ module _ {f : Profile} {k heap n : ℕ} {p : Progress} {w : World} {xs : List Ma
 
     -- Each deed of a search that found no run is of a page of a usable run of the region.
     pub none_pages : AllByRecursion (IsMadeOf n p.list (λ r. IsRunOf f heap n p.list r × (r < f.pages + 1))) made
-    none_pages = made_pages f k heap n p.list s.valid s.of s.met Failed (λ r. IsRunOf f heap n p.list r × (r < f.pages + 1)) of_runs_none.each xs s.legal of_runs_none.deeds
+    none_pages = made_pages f k heap n p.list s.valid s.of s.met Failed _ of_runs_none.each xs s.legal of_runs_none.deeds

@@ -1,7 +1,7 @@
 -- WHAT STEPS LEAVE OF THE WORDS, and which pages they mark with hints and offers: steps that only give back; and a search, where no other actor makes a step.
 use Rattle.std.proofs.lemmas.Bool.{false≢true, or_from}
 use Rattle.std.proofs.Common.{◌≡◌, ℕ, ◌/◌, ◌%◌, ◌<◌, ◌==◌, Bool, true, false, ◌&&◌, if◌then◌else◌, List, [], ◌∷◌, ◌++◌, ◌⊎◌, inl, inr, refl, ap, sym, ◌∙◌}
-use Rattle.std.proofs.Common.{subst, arith, true≢false, eqb-true, ◌≢◌, ◌+◌, ◌*◌, ◌||◌, Option, None, Some, ne_eqb}
+use Rattle.std.proofs.Common.{subst, arith, true≢false, eqb-true, ◌≢◌, ◌+◌, ◌*◌, ◌||◌, None, Some, ne_eqb}
 use Rattle.pas_bits.specs.Bits.{has_bit}
 use Rattle.pas_bits.proofs.PageVectors.{page_bit-set, page_bit-clear}
 use Rattle.pas_profile.specs.{Directories.number_of, Directories.deed_word_of, Directories.deed_word_numbered, Layouts.same_word, Profiles.IsPage}
@@ -14,7 +14,7 @@ use Rattle.pas_steps.specs.Kinds.{Kinds, kind_of, place_of, is_in, apart, Only, 
 use Rattle.pas_steps.specs.Lists.{Whole, part, word_after, Legal, visible}
 use Rattle.pas_steps.specs.declared.step.{Made.Made, Step.Step}
 use Rattle.pas_steps.specs.declared.step.Step.TheVariants.{Look, TakeRight, Offer, Hint, Unhint, Deed, Take, Put, Give, End, EndSized}
-use Rattle.pas_steps.proofs.{Apart.in_apart, Past.since_once, Past.always_map}
+use Rattle.pas_steps.proofs.{Apart.in_apart, Past.since_once, Past.always_map, Past.once_map}
 use Rattle.pas_core.specs.{Rights.empty_bit, Rights.eligible_bit, Hints.IsEmptyBacked, Good.word_of_deed, Good.word_of_backed}
 use Rattle.pas_core.proofs.Deeds.{looked, deed_of, number_told, backed_of}
 use Rattle.pas_core.proofs.{OneActor.free_stays, OneActor.LendsNone, Grains.free_moved, Grains.free_step, Rights.offered_has_deed}
@@ -144,15 +144,11 @@ offered_by k (m ∷ xs) l n p h = let ih = offered_by k xs l n p in search (arit
 
 -- A page that steps hint is one that they mark.
 pub hint_marks : (q : ℕ) (xs : List Made) → HintsPage q xs → IsMarked q xs
-hint_marks q [] h = h
-hint_marks q (m ∷ xs) (inl h) = inl (ap (is_mark q) h ∙ eqb_itself q)
-hint_marks q (m ∷ xs) (inr h) = inr (hint_marks q xs h)
+hint_marks q xs h = once_map _ (λ m before. is_mark q m.step ≡ true) xs (λ m before is. ap (is_mark q) is ∙ eqb_itself q) h
 
 -- A page that steps offer is one that they mark.
 pub offer_marks : (q : ℕ) (xs : List Made) → OffersPage q xs → IsMarked q xs
-offer_marks q [] h = h
-offer_marks q (m ∷ xs) (inl h) = inl (ap (is_mark q) h.1 ∙ eqb_itself q)
-offer_marks q (m ∷ xs) (inr h) = inr (offer_marks q xs h)
+offer_marks q xs h = once_map _ (λ m before. is_mark q m.step ≡ true) xs (λ m before is. ap (is_mark q) is.1 ∙ eqb_itself q) h
 
 -- ---- a hint rests on looks that read the page as backed and empty
 pub hint_step : (m : Made) (before : List Made) → is_in (Hinting ∷ []) (kind_of m.step) ≡ false → HintsEmpty m before
@@ -188,7 +184,7 @@ module _ (ks : Kinds) (f : Profile) (k : ℕ) (l : Whole) (page : ℕ) (no_take 
   pub free_read : (word b : ℕ) (xs : List Made) → Legal f (triples k xs ++ l) → Only ks xs → b < 64 → Once (ReadsAllFree page word) xs
       → has_bit (word_after (triples k xs ++ l) (Word.Free page word)) b ≡ true
   free_read word b [] legal only small h = absurd h
-  free_read word b (m ∷ xs) legal only small (inr h) = free_stays ks no_take k (m ∷ []) (triples k xs ++ l) page word b (only.0, tt) (free_read word b xs legal.1 only.1 small h)
+  free_read word b (m ∷ xs) legal only small (inr h) = free_stays ks no_take k (m ∷ []) _ page word b (only.0, tt) (free_read word b xs legal.1 only.1 small h)
   free_read word b (m ∷ xs) legal only small (inl h) =
       search arith
 
@@ -236,11 +232,7 @@ module _ (f : Profile) (k : ℕ) (l : Whole) where
       → (free_bit (triples k xs ++ l) g ≡ false) × (holds xs g ≡ false)
   stays_used g [] legal lends due used = (used, refl)
   stays_used g (m ∷ xs) legal lends due used =
-      let before = stays_used g xs legal.1 lends.1 due.1 used in
-      let moved = step_moves m.step m.answer g (free_bit (triples k xs ++ l) g) (holds xs g) lends.0
-      (λ page word mask is here. ap (λ (n : ℕ). has_bit n (g % 64)) (legal.0.answer_is ∙ (ap (λ (s : Step). word_after (triples k xs ++ l) (target s)) is ∙ ap (word_after (triples k xs ++ l)) (mask_word page word mask g here))))
-      (λ page word mask is here. due.0.1.1 page word mask g is here) before.0 before.1 in
-      (free_step f (triples k xs ++ l) (epoch_of (part k (triples k xs ++ l))) m.step m.answer g legal.0.of_region legal.0.answer_is ∙ moved.0, moved.1)
+      let rest = stays_used g xs legal.1 lends.1 due.1 used in grind (arith, rest, step_moves, mask_word, free_step)
 
   -- ---- A GRAIN THAT WAS FREE before the search was read as free: it is free, or the call holds it
   free_moves : (s : Step) (a g : ℕ) (bit held : Bool) → is_in lending (kind_of s) ≡ false → (bit || held) ≡ true
@@ -264,8 +256,8 @@ module _ (f : Profile) (k : ℕ) (l : Whole) where
   pub free_or_held : (g : ℕ) (xs : List Made) → Legal f (triples k xs ++ l) → LendsNone xs → free_bit l g ≡ true
       → (free_bit (triples k xs ++ l) g || holds xs g) ≡ true
   free_or_held g [] legal lends free = ap (λ (t : Bool). t || false) free
-  free_or_held g (m ∷ xs) legal lends free =
-      ap (λ (t : Bool). t || held_after (grain_move m.step m.answer g) (holds xs g)) (free_step f (triples k xs ++ l) (epoch_of (part k (triples k xs ++ l))) m.step m.answer g legal.0.of_region legal.0.answer_is)
+  free_or_held g (m ∷ xs) legal lends free = ap (λ (t : Bool). t || held_after (grain_move m.step m.answer g) (holds xs g))
+      (free_step f (triples k xs ++ l) _ m.step m.answer g legal.0.of_region legal.0.answer_is)
       ∙ free_moves m.step m.answer g (free_bit (triples k xs ++ l) g) (holds xs g) lends.0 (free_or_held g xs legal.1 lends.1 free)
 
   word_read : (page word : ℕ) (s : Step) (v : Whole) → ReadsFree page word s → word_after v (target s) ≡ word_after v (Word.Free page word)
@@ -295,7 +287,7 @@ module _ (f : Profile) (k : ℕ) (l : Whole) where
       by_bit true is = is
       by_bit false is =
           let used = stays_used (page * 256 + b) xs legal.1 lends.1 due.1 is in
-          absurd (false≢true (sym (shown_is page b r m xs legal small s ∙ or_from (free_bit (triples k xs ++ l) (page * 256 + b)) (holds xs (page * 256 + b)) used.0 used.1) ∙ read))
+          absurd (false≢true (sym (shown_is page b r m xs legal small s ∙ or_from _ (holds xs (page * 256 + b)) used.0 used.1) ∙ read))
 
   -- a grain that was read as free was so before the search
   read_free : (page word b g : ℕ) (xs : List Made) → Legal f (triples k xs ++ l) → LendsNone xs → Always ReturnsDuly xs → b < 64
@@ -306,7 +298,7 @@ module _ (f : Profile) (k : ℕ) (l : Whole) where
     where
       read : free_bit (triples k xs ++ l) g ≡ true
       read =
-          let answer : m.answer ≡ word_after (triples k xs ++ l) (free_word_at g) = legal.0.answer_is ∙ (ap (λ (s : Step). word_after (triples k xs ++ l) (target s)) h.0 ∙ ap (word_after (triples k xs ++ l)) (sym at)) in
+          let answer = legal.0.answer_is ∙ (ap (λ (s : Step). word_after (triples k xs ++ l) (target s)) h.0 ∙ ap (word_after (triples k xs ++ l)) (sym at)) in
           ap (λ (n : ℕ). has_bit n (g % 64)) (sym answer) ∙ (ap (has_bit m.answer) bit ∙ h.1 b small)
 
       by_bit : (t : Bool) → free_bit l g ≡ t → free_bit l g ≡ true
@@ -319,14 +311,10 @@ abbrev pub KeepsBacked : ℕ → ℕ → Made → List Made → Type 0
 KeepsBacked k q m before = (epoch : ℕ) (es : List Event) → backed_in (with_event (event_of k epoch m.step m.answer) es) q ≡ backed_in es q
 
 module _ (k : ℕ) where
-  other_event : (d : Directory) (page q : ℕ) (o : Option Event) (es : List Event) → page ≢ q → IsShownAt k d page o
-      → backed_in (with_event o es) q ≡ backed_in es q
-  other_event d page q o es ne at = search (arith, ne_eqb)
-
   -- Steps whose events are at one page back no other.
   pub at_unbacked : (d : Directory) (page q : ℕ) (xs : List Made) → page ≢ q → EventsAt d page xs → Always (KeepsBacked k q) xs
   at_unbacked d page q xs ne =
-      always_map _ (KeepsBacked k q) xs (λ m before at epoch es. other_event d page q (event_of k epoch m.step m.answer) es ne (event_at k d page epoch m at))
+      always_map _ (KeepsBacked k q) xs (λ m before at epoch es. (search (arith, ne_eqb)))
 
   -- Steps of a search for whole pages back none.
   pub seeks_unbacked : (q : ℕ) (xs : List Made) → Only seeking xs → Always (KeepsBacked k q) xs
@@ -354,7 +342,7 @@ module _ (f : Profile) (k : ℕ) (l : Whole) where
   read_backed q [] legal first keeps h = absurd h
   read_backed q (m ∷ xs) legal first keeps (inr h) = read_backed q xs legal.1 first keeps.1 h
   read_backed q (m ∷ xs) legal first keeps (inl h) =
-      let now : word_after (triples k xs ++ l) (Word.Backed q) ≡ 1 = sym (legal.0.answer_is ∙ ap (λ (s : Step). word_after (triples k xs ++ l) (target s)) h.0) ∙ h.1 in
+      let now = sym (legal.0.answer_is ∙ ap (λ (s : Step). word_after (triples k xs ++ l) (target s)) h.0) ∙ h.1 in
       backed_of f l first q ∙ (ap word_of_backed (sym (backed_same q xs keeps.1)) ∙ (sym (backed_of f (triples k xs ++ l) legal.1 q) ∙ now))
 
   -- A PAGE THAT THE SEARCH HINTS was backed and empty before it
@@ -365,7 +353,7 @@ module _ (f : Profile) (k : ℕ) (l : Whole) where
   hint_was q (m ∷ xs) legal first lends due keeps (inl h) =
       let e : ReadsEmpty q xs = due.0.1.0 q h in record {
         backed = read_backed q xs legal.1 first keeps.1 (since_once (ReadsBacked q) (TakesNone q) xs e.backed);
-        free = λ g of. read_free f k l q (g / 64 % 4) (g % 64) g xs legal.1 lends.1 due.1 (omega arith) (ap (λ (p : ℕ). Word.Free p (g / 64 % 4)) of) refl (since_once (ReadsAllFree q (g / 64 % 4)) (TakesNone q) xs (e.free (g / 64 % 4) (omega arith)));
+        free = λ g of. read_free f k l q _ (g % 64) g xs legal.1 lends.1 due.1 (omega arith) (ap (λ (p : ℕ). Word.Free p (g / 64 % 4)) of) refl (since_once _ _ xs (e.free (g / 64 % 4) (omega arith)));
       }
 
   -- ---- OFFERS: a page whose deed the search doesn't make, and that is offered or was got, was offered before

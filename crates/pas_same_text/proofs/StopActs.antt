@@ -33,7 +33,7 @@ use Rattle.pas_same_text.proofs.{CacheLists.same_own, CacheLists.same_with, Cach
 use Rattle.pas_same_text.proofs.StepMarks.{OffersPage, hint_marks, offer_marks, offered_of_region, epoch_stays_by, IsMarked, marked_parts}
 use Rattle.pas_large.proofs.Left.{hints_both}
 use Rattle.pas_bits.specs.Masks.{HasMember}
-use Rattle.pas_profile.proofs.{ClassFacts.class_grains_positive, Codecs.same_from_deed_word}
+use Rattle.pas_profile.proofs.{Sizes.class_grains_positive, Codecs.same_from_deed_word}
 use Rattle.pas_steps.proofs.{Adding.triples_append, Apart.only_both, Apart.only_within, Frames.events_append}
 use Rattle.pas_segregated.specs.{Masks.start_of, Stops.home_of}
 use Rattle.pas_segregated.proofs.Starts.{start_at}
@@ -44,9 +44,7 @@ use Rattle.pas_same_text.proofs.StopSteps.{all_hints}
 -- the records of events come to the end, on both sides
 pub events_recorded : (rs ws vs : List Record) (es : List Event) → rs ≡ reverse ws → vs ≡ map Record.Event es ++ ws → rs ++ records_of es ≡ reverse vs
 events_recorded rs ws vs es is more =
-    ap (λ (xs : List Record). xs ++ records_of es) is
-    ∙ (ap (λ (xs : List Record). reverse ws ++ xs) (map_reverse Record.Event es)
-    ∙ (sym (reverse-append (map Record.Event es) ws) ∙ ap reverse (sym more)))
+    cc (map_reverse Record.Event es, reverse-append (map Record.Event es) ws)
 
 -- ---- the whole flush
 module _ (f : Profile) (k : ℕ) (p : Progress) (w : World) (steps : List Made) (noted' : List EndedRun) (valid : IsValid f) (thread : IsThread f k)
@@ -58,9 +56,11 @@ module _ (f : Profile) (k : ℕ) (p : Progress) (w : World) (steps : List Made) 
   all_legal : Legal f (triples k (h.entries ++ look ∷ []) ++ p.list)
   all_legal = subst (λ (ms : List Made). Legal f (triples k ms ++ p.list)) h.steps_are legal
 
+  -- The stop reads the text's epoch.
   now : w.epoch ≡ h.epoch
   now = let first : Legal f (triples k (look ∷ []) ++ p.list) = legal_earlier f k h.entries (look ∷ []) p.list all_legal in same.epoch ∙ sym first.0.answer_is
 
+  -- The text's flush ends each entry in turn, and empties the log.
   text : flushes f k w ≡ each (ends f k) (reverse (map (λ (s : Settled). s.entry) h.settled)) (set_log k [] w)
   text = ap (λ (es : List Entry). each (ends f k) es (set_log k [] w)) ((same.caches.each k thread).log ∙ sym h.entries_are)
 
@@ -83,6 +83,7 @@ module _ (f : Profile) (p p' : Progress) (w v : World) (pages : List ℕ) (valid
     (events : w.events ≡ visible p.list) (same : HasSame f p' v)
     (usable : AreBlocksUsable (visible p.list)) (fewer : OnlyFewer w.events v.events)
     (none_held : (j g : ℕ) → holds (part j p'.list) g ≡ true → holds (part j p.list) g ≡ true) where
+  -- The text's events are a run of the machine.
   run : Run f w.events
   run = subst (Run f) (sym events) (runs f p.list valid before.legal)
 
@@ -98,14 +99,13 @@ module _ (f : Profile) (p p' : Progress) (w v : World) (pages : List ℕ) (valid
       let g : ℕ = m.grain in
       let deed : deed_in (visible p.list) (g / 256) ≡ Some d =
       cc (fewer.deeds (g / 256), deed_now f p' v valid after same q d of is) in
-      let may : usable_by_kind d.kind (g % 256) ≡ true = usable.usable o.address o.block own g m.of_run d deed in
       let page : g / 256 ≡ q = m.of_page in
       let whole : 256 * q + g % 256 ≡ g = omega (arith, page) in
       let small : g % 256 < 256 = omega arith in
       let free : free_bit p'.list g ≡ true = free_left f p'.list valid after.legal g
       (λ j held. covered_not_held f p.list valid before.legal g o.address o.block own m.of_run j (none_held j g held))
       (λ a b lives of_it. other o g m.of_run a b lives of_it) in
-      open_from f p' v valid after same d q (g % 256) small may (ap (free_bit p'.list) whole ∙ free)
+      open_from f p' v valid after same d q (g % 256) small (usable.usable o.address o.block own g m.of_run d deed) (ap (free_bit p'.list) whole ∙ free)
     where
       other : (o : IsEndedOn w.events v.events pages q) (g : ℕ) → IsPartOf g o.address o.block → (a : ℕ) (b : Live) → live_in (visible p'.list) a ≡ Some b
           → IsPartOf g a b → ⊥
@@ -125,9 +125,11 @@ module _ (f : Profile) (k : ℕ) (p : Progress) (w : World) (steps : List Made) 
   abbrev emptied : World
   emptied = flushes f k w
 
+  -- The list with the steps is legal.
   legal : Legal f (triples k steps ++ p.list)
   legal = after.legal
 
+  -- The flush comes to the text's flush.
   comes : IsFlushedTo f k h.epoch p.list w (p.caches k) p.caches h.settled steps emptied
   comes = flush_to f k p w steps c'.noted valid thread listed same legal h
 
@@ -135,12 +137,9 @@ module _ (f : Profile) (k : ℕ) (p : Progress) (w : World) (steps : List Made) 
   cache_is = ap (λ (ns : List EndedRun). record (p.caches k) { log = []; noted = ns }) (sym h.noted_are) ∙ sym cache
 
   flush_has : HasSame f (with_steps p k steps c') emptied
-  flush_has = record {
-    events = comes.events;
-    live = comes.live;
-    caches = subst (λ (c : Cached). AreSameCaches f (with_cached p.caches k c) emptied.caches) cache_is comes.same;
-    guards = guards_as p.books w emptied (same_guards w emptied (flushes_keep f k w)) same.guards;
-  }
+  flush_has =
+      let guards = guards_as p.books w emptied (same_guards w emptied (flushes_keep f k w)) same.guards in
+      assumption (guards, subst (λ (c : Cached). AreSameCaches f (with_cached p.caches k c) emptied.caches) cache_is comes.same, comes)
 
   -- the caches have the grains that they had
   kept_at : (j : ℕ) (t : Bool) → (j == k) ≡ t → (if t then c' else p.caches j).locals ≡ (p.caches j).locals
@@ -167,16 +166,12 @@ module _ (f : Profile) (k : ℕ) (p : Progress) (w : World) (steps : List Made) 
 
   -- A flush leads the text to the state of the replay after its steps, caches and records too.
   pub flush_same : IsSame f (with_records (with_steps p k steps c') (records_of (events_by k (part k p.list) steps))) emptied
-  flush_same = record {
-    pages = given_pages f k p.list (with_steps p k steps c') w emptied steps valid same.pages refl after flush_has gives_back;
-    caches = flush_has.caches;
-    guards = flush_has.guards;
-    names = comes.names ∙ same.names;
-    records = events_recorded p.records w.records emptied.records (events_by k (part k p.list) steps) same.records
-        (flush_records f k p w steps c'.noted valid thread listed same legal h);
-    epoch = comes.epoch ∙ (same.epoch ∙ sym (epoch_stays_by freeing refl k steps p.list comes.kinds));
-    read = comes.read ∙ same.read;
-  }
+  flush_same =
+      let pages = given_pages f k p.list (with_steps p k steps c') w emptied steps valid same.pages refl after flush_has gives_back in
+      let more = flush_records f k p w steps c'.noted valid thread listed same legal h in
+      let records = events_recorded p.records w.records emptied.records (events_by k (part k p.list) steps) same.records more in
+      let epoch = comes.epoch ∙ (same.epoch ∙ sym (epoch_stays_by freeing refl k steps p.list comes.kinds)) in
+      assumption (pages, records, epoch, comes.names ∙ same.names, comes.read ∙ same.read, flush_has)
 
 -- ==== STOPS: a flush, and then all local allocators of the cache go.
 -- ---- what is known of each local allocator of a cache
@@ -186,27 +181,29 @@ all_classes f v (s ∷ slots) known = ((All-head (IsLocal f v) s slots known).cl
 
 all_of_region : (f : Profile) (v : View) (slots : List Slots) (ls : List Local) → AreSameLocals slots ls → All (IsLocal f v) slots → AllOfRegion f ls
 all_of_region f v [] [] same known = tt
-all_of_region f v (s ∷ slots) (l ∷ ls) same known = (subst (IsPage f) (sym same.0.page) (All-head (IsLocal f v) s slots known).page, all_of_region f v slots ls same.1 (All-tail (IsLocal f v) s slots known))
+all_of_region f v (s ∷ slots) (l ∷ ls) same known = (subst (IsPage f) (sym same.0.page) (All-head (IsLocal f v) s _ known).page, all_of_region f v slots ls same.1 (All-tail (IsLocal f v) s slots known))
 all_of_region f v slots ls same known = absurd same
 
 -- the page of one that is marked is minded
 marked_minded : (q : ℕ) (steps : List Made) (slots : List Slots) (ls : List Local) → AreSameLocals slots ls → IsMarkedIn q steps slots
     → has_number (map (λ l. l.page) ls) q ≡ true
 marked_minded q steps slots [] same (IsMarkedIn.Here s rest o) = absurd same
-marked_minded q steps slots (l ∷ ls) same (IsMarkedIn.Here s rest o) = or_left (l.page == q) (has_number (map (λ x. x.page) ls) q) (eq-eqb l.page q (same.0.page ∙ o.page))
+marked_minded q steps slots (l ∷ ls) same (IsMarkedIn.Here s rest o) = or_left (l.page == q) _ (eq-eqb l.page q (same.0.page ∙ o.page))
 marked_minded q steps slots [] same (IsMarkedIn.There s rest o) = absurd same
-marked_minded q steps slots (l ∷ ls) same (IsMarkedIn.There s rest o) = or_right (l.page == q) (has_number (map (λ x. x.page) ls) q) (marked_minded q steps rest ls same.1 o)
+marked_minded q steps slots (l ∷ ls) same (IsMarkedIn.There s rest o) = or_right (l.page == q) _ (marked_minded q steps rest ls same.1 o)
 
 -- one of the list that is marked
 record IsOneOf (f : Profile) (v : View) (q : ℕ) (steps : List Made) (slots : List Slots) : Type 0 where
   own : Slots
   marked : IsMarkedBy own q steps
+  -- The local allocators are the actor's.
   known : IsLocal f v own
+  -- Afterwards the replay has what the text has.
   has : (g : ℕ) → covers own g ≡ true → any_covers slots g ≡ true
 
 one_of : (f : Profile) (v : View) (q : ℕ) (steps : List Made) (slots : List Slots) → All (IsLocal f v) slots → IsMarkedIn q steps slots
     → IsOneOf f v q steps slots
-one_of f v q steps slots known (IsMarkedIn.Here s rest o) = record { own = s; marked = o; known = All-head (IsLocal f v) s rest known; has = λ g h. or_left (covers s g) (any_covers rest g) h }
+one_of f v q steps slots known (IsMarkedIn.Here s rest o) = record { own = s; marked = o; known = All-head (IsLocal f v) s _ known; has = λ g h. or_left _ _ h }
 one_of f v q steps slots known (IsMarkedIn.There s rest o) = search (arith, one_of f v q steps rest (All-tail (IsLocal f v) s rest known) o)
 
 -- a slot's first grain is one that blocks of its page's directory may cover
@@ -224,7 +221,7 @@ module _ (f : Profile) (k : ℕ) (p : Progress) (steps : List Made) (c' : Cached
   home_is q d of is page =
       let now : word_after ended.list (Word.Deed q) ≡ deed_word_of d = word_now f ended v valid after has q d (deed_now f ended v valid after has q d of is) in
       let stays : word_after ended.list (Word.Deed q) ≡ word_after p.list (Word.Deed q) = deed_same freeing refl k steps p.list q kinds in
-      same_from_deed_word d (home_of s) of.kind known.directory.kind (sym now ∙ (stays ∙ (ap (λ (x : ℕ). word_after p.list (Word.Deed x)) (sym page) ∙ word_known f p.list before.legal k s.page (home_of s) known.deed)))
+      same_from_deed_word d _ of.kind known.directory.kind (sym now ∙ (stays ∙ (ap (λ (x : ℕ). word_after p.list (Word.Deed x)) (sym page) ∙ word_known f p.list before.legal k s.page (home_of s) known.deed)))
 
   -- A page with a stopped slot whose grains are free then is open to its directory.
   pub slot_room : ((g : ℕ) → covers s g ≡ true → free_bit ended.list g ≡ true) → (q : ℕ) (d : Directory) → IsDirectoryOf f d → is_of v d q ≡ true → s.page ≡ q
@@ -236,10 +233,9 @@ module _ (f : Profile) (k : ℕ) (p : Progress) (steps : List Made) (c' : Cached
       let some : 1 ≤ class_grains s.class = class_grains_positive s.class known.class in
       let first : start_of s.class b ≡ b = start_at s.class b b slot (omega arith) (omega (arith, some)) in
       let g : ℕ = 256 * q + b in
-      let at_page : (256 * q + b) / 256 ≡ q = omega (arith, small) in
       let at_grain : (256 * q + b) % 256 ≡ b = omega (arith, small) in
       let covered : covers s g ≡ true =
-      cc (eq-eqb s.page (g / 256) (page ∙ sym at_page)) in
+      cc (eq-eqb s.page (g / 256) (page ∙ sym (omega (arith, small)))) in
       open_from f ended v valid after has d q b small (ap (λ (x : Directory). usable_by_kind x.kind b) (home_is q d of is page) ∙ slot_usable s.right s.class b some slot) (free g covered)
 
   -- A page of which a stop read room is open to its directory.
@@ -265,6 +261,7 @@ module _ (f : Profile) (k : ℕ) (p : Progress) (w : World) (flushed stopped : L
   flush_legal : Legal f (triples k flushed ++ p.list)
   flush_legal = legal_earlier f k stopped flushed p.list after.legal
 
+  -- So it does before a stop.
   to : IsFlushedTo f k h.epoch p.list w c p.caches h.settled flushed vf
   to = flush_to f k p w flushed c'.noted valid thread listed same flush_legal h
 
@@ -280,6 +277,7 @@ module _ (f : Profile) (k : ℕ) (p : Progress) (w : World) (flushed stopped : L
   listed_then : k ≤ length vf.caches
   listed_then = omega (arith, to.many, listed)
 
+  -- The text gives them up.
   up : IsGivenUp f k (locals_of vf k) vf v
   up = all_up f k vf thread.0 listed_then (unique_of c.locals (locals_of vf k) own_same.locals (before.rest.working k thread).locals.apart.one_each)
       (all_of_region f (part k p.list) c.locals (locals_of vf k) own_same.locals known)
@@ -293,7 +291,7 @@ module _ (f : Profile) (k : ℕ) (p : Progress) (w : World) (flushed stopped : L
       ∙ (sym (visible_steps k stopped (triples k flushed ++ p.list)) ∙ ap visible (triples_append k stopped flushed p.list))))
 
   new_same : IsSameCache c' (record (cache_of vf k) { locals = [] })
-  new_same = subst (λ (d : Cached). IsSameCache d (record (cache_of vf k) { locals = [] })) (sym cache) (record { locals = tt; log = own_same.log; noted = own_same.noted ∙ sym h.noted_are; began = own_same.began })
+  new_same = rw cache (record { locals = tt; log = own_same.log; noted = own_same.noted ∙ sym h.noted_are; began = own_same.began })
 
   has : HasSame f p' v
   has = record {
@@ -312,10 +310,7 @@ module _ (f : Profile) (k : ℕ) (p : Progress) (w : World) (flushed stopped : L
   held_before : (j g : ℕ) → holds (part j p'.list) g ≡ true → holds (part j p.list) g ≡ true
   held_before j g held = held_still f p p' before after refl j g (held_at j g (j == k) refl) held
 
-  -- actor k holds none of its cache's grains
-  lets_go : (g : ℕ) → any_covers c.locals g ≡ true → holds (part k p'.list) g ≡ true → ⊥
-  lets_go g cached held = search (arith, held_by, never_both)
-
+  -- Only ends and puts lie between.
   fewer : OnlyFewer w.events v.events
   fewer = subst (OnlyFewer w.events) (sym up.events) to.fewer
 
@@ -327,37 +322,39 @@ module _ (f : Profile) (k : ℕ) (p : Progress) (w : World) (flushed stopped : L
   slots_free s in_cache g covered =
       let held : holds (part k p.list) g ≡ true = cached_held f p before k g thread (in_cache g covered) in
       free_left f p'.list valid after.legal g
-      (λ j now. let is_own : j ≡ k = eqb-true j k (one_holder f p.list valid before.legal j k g (held_before j g now) held) in lets_go g (in_cache g covered) (subst (λ (i : ℕ). holds (part i p'.list) g ≡ true) is_own now))
-      (λ a b lives of_it. covered_not_held f p.list valid before.legal g a b (lived f p p' w v to.pages valid before after same.pages.events has usable fewer held_before a b lives) of_it k held)
+      (λ j now. let is_own : j ≡ k = eqb-true j k (one_holder f p.list valid before.legal j k g (held_before j g now) held) in (search (arith, held_by, never_both)))
+      (λ a b lives of_it. covered_not_held f _ valid before.legal g a b (lived f p p' w v to.pages valid before after same.pages.events has usable fewer held_before a b lives) of_it k held)
 
   marked_room : (q : ℕ) (d : Directory) → IsDirectoryOf f d → is_of v d q ≡ true → (o : IsOneOf f (part k p.list) q stopped c.locals)
       → HasMember o.own.starts ⊎ ReadsRoom q (home_of o.own) stopped → is_open v d q ≡ true
-  marked_room q d of is o (inl some) = slot_room f k p (stopped ++ flushed) c' v valid before after has all_kinds o.own o.known (slots_free o.own o.has) q d of is o.marked.page some
-  marked_room q d of is o (inr read) = read_room f k p (stopped ++ flushed) c' v valid before after has all_kinds o.own o.known q d of is o.marked.page (room_earlier q (home_of o.own) stopped flushed read)
+  marked_room q d of is o (inl some) = slot_room f k p _ c' v valid before after has all_kinds _ o.known (slots_free o.own o.has) q d of is o.marked.page some
+  marked_room q d of is o (inr read) = read_room f k p _ c' v valid before after has all_kinds o.own o.known q d of is o.marked.page (room_earlier q _ _ _ read)
 
   stop_marks : (q : ℕ) → IsMarked q stopped → IsMarkedIn q stopped c.locals
   stop_marks q marked = all_marked q c.locals stopped (all_classes f (part k p.list) c.locals known) each.order marked
 
+  -- Cached slots and ended blocks were given back.
   given : IsGivenBack f k p.list w (stopped ++ flushed) v
   given = record {
     pages = to.pages ++ map (λ l. l.page) (locals_of vf k);
     returns = returns_then f to.pages (map (λ l. l.page) (locals_of vf k)) w vf v to.returns up.returns;
     kinds = all_kinds;
     hints = hints_both stopped flushed (all_hints c.locals stopped each.order) to.hints;
-    marks = λ q of hint. has_both to.pages (map (λ l. l.page) (locals_of vf k)) q ∙ elim (marked_parts q stopped flushed (hint_marks q (stopped ++ flushed) hint)) [
-      | inl first ↦ or_right (has_number to.pages q) (has_number (map (λ l. l.page) (locals_of vf k)) q) (marked_minded q stopped c.locals (locals_of vf k) own_same.locals (stop_marks q first))
+    marks = λ q of hint. has_both to.pages _ q ∙ elim (marked_parts q stopped flushed (hint_marks q (stopped ++ flushed) hint)) [
+      | inl first ↦ or_right (has_number to.pages q) _ (marked_minded q stopped c.locals (locals_of vf k) own_same.locals (stop_marks q first))
       | inr later ↦ or_left (has_number to.pages q) (has_number (map (λ l. l.page) (locals_of vf k)) q) (to.marks q of later).minded
     ];
     rooms = λ q d of is offer. elim (marked_parts q stopped flushed (offer_marks q (stopped ++ flushed) offer)) [
       | inl first ↦ let o = one_of f (part k p.list) q stopped c.locals known (stop_marks q first) in marked_room q d of is o o.marked.room
       | inr later ↦ ended_room f p p' w v to.pages valid before after same.pages.events has usable fewer held_before q d of is
-          (subst (λ (es : List Event). IsEndedOn w.events es to.pages q) (sym up.events) (to.marks q (offered_of_region f k p.list q (stopped ++ flushed) after.legal offer) later))
+          (rw up.events (to.marks q (offered_of_region f k p.list q (stopped ++ flushed) after.legal offer) later))
     ];
     guarded = λ q none. still_unguarded w v q (same_guards w v (stops_keep f k w)) none;
   }
 
+  -- The stop itself makes no event.
   shown : events_by k (part k p.list) (stopped ++ flushed) ≡ events_by k (part k p.list) flushed
-  shown = events_append k stopped flushed (part k p.list) ∙ ap (λ (es : List Event). es ++ events_by k (part k p.list) flushed) (silent (flushed ++ part k p.list))
+  shown = events_append k stopped flushed (part k p.list) ∙ ap (λ (es : List Event). es ++ events_by k (part k p.list) flushed) (silent _)
 
   all_records : v.records ≡ map Record.Event (events_by k (part k p.list) (stopped ++ flushed)) ++ w.records
   all_records =
@@ -367,12 +364,8 @@ module _ (f : Profile) (k : ℕ) (p : Progress) (w : World) (flushed stopped : L
 
   -- A flush and then a stop of all local allocators lead the text to the replay's state.
   pub stop_same : IsSame f (with_records p' (records_of (events_by k (part k p.list) (stopped ++ flushed)))) (stops f k w)
-  stop_same = record {
-    pages = given_pages f k p.list p' w v (stopped ++ flushed) valid same.pages refl after has given;
-    caches = has.caches;
-    guards = has.guards;
-    names = up.names ∙ (to.names ∙ same.names);
-    records = events_recorded p.records w.records v.records (events_by k (part k p.list) (stopped ++ flushed)) same.records all_records;
-    epoch = up.epoch ∙ (to.epoch ∙ (same.epoch ∙ sym (epoch_stays_by freeing refl k (stopped ++ flushed) p.list all_kinds)));
-    read = up.read ∙ (to.read ∙ same.read);
-  }
+  stop_same =
+      let pages = given_pages f k p.list p' w v (stopped ++ flushed) valid same.pages refl after has given in
+      let records = events_recorded p.records w.records v.records (events_by k (part k p.list) (stopped ++ flushed)) same.records all_records in
+      let epoch = up.epoch ∙ (to.epoch ∙ (same.epoch ∙ sym (epoch_stays_by freeing refl k (stopped ++ flushed) p.list all_kinds))) in
+      assumption (pages, records, epoch, up.names ∙ (to.names ∙ same.names), up.read ∙ (to.read ∙ same.read), has)

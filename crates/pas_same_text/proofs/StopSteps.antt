@@ -7,7 +7,7 @@ use Rattle.std.specs.List.{list_any, count_by}
 use Rattle.pas_bits.specs.{Bits.has_bit, Masks.HasMember}
 use Rattle.pas_profile.specs.{Classes.IsClass, Profiles.IsPage}
 use Rattle.pas_profile.specs.declared.{profile.Profile.Profile, directory.Directory.Directory, word.Word.Word}
-use Rattle.pas_steps.proofs.{Sets.same_truth, Past.once_later}
+use Rattle.pas_steps.proofs.{Sets.same_truth, Past.once_later, Past.once_map, Past.once_earlier}
 use Rattle.pas_segregated.specs.declared.slots.Slots.{Slots}
 use Rattle.pas_cache.specs.{Locals.HasOneEach, Locals.is_for as is_for_slots, Changes.StopsAll}
 use Rattle.pas_same_text.specs.State.{Local, Cache, World, each, cache_in, cache_of, with_cache, locals_of, set_locals}
@@ -17,13 +17,13 @@ use Rattle.pas_same_text.proofs.GivenBack.{Returns, OnlyHints, minded_last, all_
 use Rattle.pas_same_text.proofs.LowerActs.{back_hints}
 use Rattle.pas_large.proofs.Left.{hints_both}
 use Rattle.pas_bits.specs.declared.mask.Mask4.{Mask4}
-use Rattle.pas_steps.specs.{Desks.made, Desks.triples, Lists.Whole, Lists.word_after, Lists.Legal, Past.Once, Past.Always, Views.usable_by_kind}
+use Rattle.pas_steps.specs.{Desks.triples, Lists.Whole, Lists.word_after, Lists.Legal, Past.Once, Past.Always, Views.usable_by_kind}
 use Rattle.pas_steps.specs.Kinds.{Kinds, Only, apart, Taking, LookFree, Putting}
-use Rattle.pas_steps.specs.declared.step.{Made.Made, Step.TheVariants.Look, Step.TheVariants.Park}
+use Rattle.pas_steps.specs.declared.step.{Made.Made, Step.TheVariants.Look}
 use Rattle.pas_core.proofs.OneActor.{free_stays}
-use Rattle.pas_rights.specs.{Leaves.LeaveSteps, Leaves.EndsLeave, Leaves.ReoffersWhere, PutsBack.BackSteps, Words.words}
+use Rattle.pas_rights.specs.{Leaves.LeaveSteps, Leaves.EndsLeave, PutsBack.BackSteps, Words.words}
 use Rattle.pas_rights.specs.Looks.{looks, HasUsable, HasNoUsable, HintsEmpty}
-use Rattle.pas_rights.proofs.{Hints.leave_due, Looks.looks_only, Orders.leave_returns, Orders.return_returns, Puts.puts_kinds}
+use Rattle.pas_rights.proofs.{Puts.leave_due, Orders.looks_only, Orders.leave_returns, Orders.return_returns, Puts.puts_kinds}
 use Rattle.pas_segregated.specs.Masks.{start_of}
 use Rattle.pas_segregated.specs.Stops.{home_of, StopStepsAt, LeavesWhere, AreGrains}
 use Rattle.pas_segregated.proofs.Starts.{start_below}
@@ -34,6 +34,7 @@ abbrev pub AreUnique : List Local → Type 0
 AreUnique [] = Unit {0}
 AreUnique (l ∷ ls) = (others l.heap l.class ls ≡ ls) × AreUnique ls
 
+-- One more local allocator counts where it passes the test.
 counted : (p : Slots → Bool) (s : Slots) (slots : List Slots) → count_by p (s ∷ slots) ≡ cond (p s) 1 0 + count_by p slots
 counted p s slots = sum_by-cons (λ x. cond (p x) 1 0) s slots
 
@@ -43,8 +44,7 @@ none_for heap class [] [] same none = refl
 none_for heap class [] (l ∷ ls) same none = absurd same
 none_for heap class (s ∷ slots) [] same none = absurd same
 none_for heap class (s ∷ slots) (l ∷ ls) same none =
-    let ih = none_for heap class slots ls same.1 in
-    grind (arith, ih, none, counted (is_for_slots heap class) s slots, for_same heap class s l same.0)
+    grind (arith, (none_for heap class slots ls same.1), none, counted (is_for_slots heap class) s slots, for_same heap class s l same.0)
 
 -- Where at most one is counted and this one is, no other is counted.
 -- by cases on the test
@@ -87,15 +87,12 @@ module _ (f : Profile) (k : ℕ) (l : Local) (w : World) (page_of : IsPage f l.p
   abbrev without_one : World
   without_one = set_locals k (others l.heap l.class (locals_of w k)) w
 
-  cached_less : (page b : ℕ) → is_cached (locals_on without_one page) b ≡ true → is_cached (locals_on w page) b ≡ true
-  cached_less page b h = search (arith, any_cached, any_with, cached_any)
-
   cached_other : (page b : ℕ) → (l.page == page) ≡ false → is_cached (locals_on w page) b ≡ true → is_cached (locals_on without_one page) b ≡ true
   cached_other page b none h = search (arith, any_cached, with_any, cached_any)
 
   -- A local allocator that a thread gives up brings its grains back to its page alone.
   pub one_returns : Returns f (l.page ∷ []) w (gives_up k l w)
-  one_returns = search (arith, minded_last, eqb-true, cached_less, same_truth, cached_other)
+  one_returns = search (arith, minded_last, eqb-true, any_cached, any_with, cached_any, same_truth, cached_other)
 
 -- ==== A CACHE IS GIVEN UP: these local allocators of it, in order
 pub record IsGivenUp (f : Profile) (k : ℕ) (ls : List Local) (w v : World) : Type 0 where
@@ -116,6 +113,7 @@ module _ (f : Profile) (k : ℕ) (l : Local) (ls : List Local) (w : World) (is :
     abbrev bare : World
     bare = set_locals k (others l.heap l.class (locals_of w k)) w
 
+    -- The others are left in the text.
     left : others l.heap l.class (locals_of w k) ≡ ls
     left = search (arith, for_own)
 
@@ -128,6 +126,7 @@ module _ (f : Profile) (k : ℕ) (l : Local) (ls : List Local) (w : World) (is :
     abbrev pub gone : World
     gone = gives_up k l w
 
+    -- Only hints were made.
     only : OnlyHints bare gone
     only = all_only_hints (l.page ∷ []) bare
 
@@ -176,7 +175,7 @@ pub record ReadsRoom (page : ℕ) (d : Directory) (steps : List Made) : Type 0 w
 pub grain_read : (ks : Kinds) → apart ks (Taking ∷ []) ≡ true → (f : Profile) (k : ℕ) (l : Whole) (page g : ℕ) (xs : List Made) → Legal f (triples k xs ++ l)
     → Only ks xs → ReadsGrain page g xs → has_bit (word_after (triples k xs ++ l) (Word.Free page (g / 64))) (g % 64) ≡ true
 grain_read ks no_take f k l page g [] legal only h = absurd h
-grain_read ks no_take f k l page g (m ∷ xs) legal only (inr h) = free_stays ks no_take k (m ∷ []) (triples k xs ++ l) page (g / 64) (g % 64) (only.0, tt) (grain_read ks no_take f k l page g xs legal.1 only.1 h)
+grain_read ks no_take f k l page g (m ∷ xs) legal only (inr h) = free_stays ks no_take k (m ∷ []) _ page _ _ (only.0, tt) (grain_read ks no_take f k l page g xs legal.1 only.1 h)
 grain_read ks no_take f k l page g (m ∷ xs) legal only (inl h) = search (arith, free_stays)
 
 -- Room that was read of a page counts as read after later steps too.
@@ -185,12 +184,7 @@ room_later page d ys xs r = record { grain = r.grain; small = r.small; usable = 
 
 -- Room that later steps read of a page was read by these and those before them.
 pub room_earlier : (page : ℕ) (d : Directory) (ys xs : List Made) → ReadsRoom page d ys → ReadsRoom page d (ys ++ xs)
-room_earlier page d ys xs r = record { grain = r.grain; small = r.small; usable = r.usable; read = front page r.grain ys xs r.read }
-  where
-    front : (page g : ℕ) (ys xs : List Made) → ReadsGrain page g ys → ReadsGrain page g (ys ++ xs)
-    front page g [] xs h = absurd h
-    front page g (y ∷ ys) xs (inl h) = inl h
-    front page g (y ∷ ys) xs (inr h) = inr (front page g ys xs h)
+room_earlier page d ys xs r = record { grain = r.grain; small = r.small; usable = r.usable; read = once_earlier _ _ ys xs (λ m before h. h) r.read }
 
 look_at : (page : ℕ) (answers : ℕ → ℕ) (n word : ℕ) → word < n
     → Once (λ m before. (m.step ≡ Look (Word.Free page word)) × (m.answer ≡ answers word)) (looks page answers n)
@@ -200,38 +194,18 @@ look_at page answers (suc n) word lt = elim (cases_eq word n) [
   | inr ne ↦ inr (look_at page answers n word (omega (arith, lt, ne)))
 ]
 
-once_as : (P Q : Made → Type 0) (xs : List Made) → ((m : Made) → P m → Q m) → Once (λ m before. P m) xs → Once (λ m before. Q m) xs
-once_as P Q [] to h = h
-once_as P Q (x ∷ xs) to (inl h) = inl (to x h)
-once_as P Q (x ∷ xs) to (inr h) = inr (once_as P Q xs to h)
-
 looks_room : (page : ℕ) (d : Directory) (free : Mask4) → HasUsable d free → ReadsRoom page d (looks page (words free) 4)
-looks_room page d free u = search (arith, once_as, look_at)
-
-usable_if : (usable : Bool) (d : Directory) (free : Mask4) → MatchBool usable (HasUsable d free) (HasNoUsable d free) → usable ≡ true → HasUsable d free
-usable_if usable d free h e = search (arith, true≢false)
+looks_room page d free u = search (arith, once_map, look_at)
 
 -- ---- a leave: a page is offered only after a grain was read so
 looks_offer_none : (page q : ℕ) (answers : ℕ → ℕ) → IsMarked q (looks page answers 4) → ⊥
 looks_offer_none page q answers h = none_marked (LookFree ∷ []) refl q (looks page answers 4) (looks_only page answers 4) h
 
-reoffers_none : (usable : Bool) (page q : ℕ) (d : Directory) (steps : List Made) → ReoffersWhere usable page d steps → IsMarked q steps → usable ≡ true
-reoffers_none true page q d steps h marked = refl
-reoffers_none false page q d steps h marked = absurd (subst (IsMarked q) h marked)
-
 end_room : (usable all_free : Bool) (page q : ℕ) (d : Directory) (free : Mask4) (after : List Made) → MatchBool usable (HasUsable d free) (HasNoUsable d free)
     → EndsLeave usable page d all_free after → IsMarked q after → ReadsRoom page d (after ++ looks page (words free) 4)
 end_room true all_free page q d free after u h marked = room_later page d after (looks page (words free) 4) (looks_room page d free u)
 end_room false all_free page q d free after none h marked =
-    let park : List Made = made (Park page) h.parked ∷ [] in
-    let later : List Made = looks page (words h.later) 4 in
-    elim (marked_parts q h.after (later ++ park) (subst (IsMarked q) h.steps_are marked)) [
-      | inl first ↦
-          let r : ReadsRoom page d later = looks_room page d h.later (usable_if h.usable d h.later h.usable_is (reoffers_none h.usable page q d h.after h.reoffers first)) in
-          let whole : ReadsRoom page d after = subst (ReadsRoom page d) (sym h.steps_are) (room_later page d h.after (later ++ park) (room_earlier page d later park r)) in
-          room_earlier page d after (looks page (words free) 4) whole
-      | inr rest ↦ search (arith, marked_parts, looks_offer_none, none_marked)
-    ]
+    search (arith, marked_parts, looks_room, true≢false, room_later, room_earlier, looks_offer_none, none_marked)
 
 -- Of a page that a leave marks, it read room.
 pub leave_room : (page q : ℕ) (d : Directory) (steps : List Made) → LeaveSteps page d steps → IsMarked q steps → ReadsRoom page d steps
@@ -282,7 +256,7 @@ left_hints s false steps h = subst (Always HintsEmpty) (sym h) tt
 
 -- The stop of one local allocator hints only pages that it read as backed and empty.
 pub one_hints : (s : Slots) (steps : List Made) → StopStepsAt (home_of s) s steps → Always HintsEmpty steps
-one_hints s steps h = subst (Always HintsEmpty) (sym h.steps_are) (hints_both h.left h.back (left_hints s s.right h.left h.leaves) (back_hints s.page (home_of s) h.mask h.back h.puts))
+one_hints s steps h = rw h.steps_are (hints_both h.left h.back (left_hints s s.right h.left h.leaves) (back_hints s.page (home_of s) h.mask h.back h.puts))
 
 -- ==== ALL OF THEM
 abbrev pub AllClasses : List Slots → Type 0
@@ -301,7 +275,7 @@ in_later q ys xs slots (IsMarkedIn.There s rest o) = IsMarkedIn.There s rest (in
 -- A page that the stop of several local allocators marks is marked by one of them.
 pub all_marked : (q : ℕ) (slots : List Slots) (steps : List Made) → AllClasses slots → StopsAll slots steps → IsMarked q steps → IsMarkedIn q steps slots
 all_marked q [] steps classes h marked = absurd (subst (IsMarked q) h marked)
-all_marked q (s ∷ rest) steps classes h marked = subst (λ (ms : List Made). IsMarkedIn q ms (s ∷ rest)) (sym h.4) (elim (marked_parts q h.0 h.1 (subst (IsMarked q) h.4 marked)) [
+all_marked q (s ∷ rest) steps classes h marked = subst (λ ms. IsMarkedIn q ms (s ∷ rest)) (sym h.4) (elim (marked_parts q h.0 h.1 (subst (IsMarked q) h.4 marked)) [
   | inl first ↦ IsMarkedIn.Here s rest (marked_earlier s q h.0 h.1 (one_marked s q h.0 classes.0 h.2 first))
   | inr later ↦ IsMarkedIn.There s rest (in_later q h.0 h.1 rest (all_marked q rest h.1 classes.1 h.3 later))
 ])

@@ -23,8 +23,8 @@ use Rattle.pas_bits.proofs.Words.{none_of_zero}
 use Rattle.pas_profile.specs.Directories.{number_of}
 use Rattle.pas_steps.specs.Views.{View, Gets, Stays, grain_move, held_after, holds, Way, Rests, ByDeed, FromOffer, FromParked, ToOffer, ToParked, way}
 use Rattle.pas_steps.specs.Views.{had_after, has_right}
-use Rattle.pas_steps.specs.declared.step.Step.TheVariants.{Deed, Take, Put, Give, End, EndSized, TakeRight, Offer, Park, Unpark}
-use Rattle.pas_core.proofs.Rights.{Spot, is_with, spot_of, Suits, IsSpotted, step_suits, spotted}
+use Rattle.pas_steps.specs.declared.step.Step.TheVariants.{Deed, Take, TakeRight, Offer, Park, Unpark}
+use Rattle.pas_core.proofs.Rights.{Spot, is_with, Suits, IsSpotted, step_suits, spotted}
 use Rattle.pas_rights.specs.{Takes.takes, Takes.word_take, Words.words}
 use Rattle.pas_same_text.proofs.Tests.{and_first, and_second}
 
@@ -56,8 +56,8 @@ module _ (f : Profile) (k : ℕ) (l : Whole) (class page : ℕ) (searched : List
 
   -- what was read is what was free
   reading_is : (b : ℕ) → b < 256 → took.readings b ≡ free_of_page l page b
-  reading_is b small = same_truth (took.readings b) (free_of_page l page b)
-      (λ read. of_page b ∙ shown_free f k l page b took.readings searched legal lends_nothing searches.returns small (took.read (b / 64) (omega (arith, small))) read)
+  reading_is b small = same_truth (took.readings b) (free_of_page l page b) (λ read. of_page b
+      ∙ shown_free f k l page b took.readings searched legal lends_nothing searches.returns small (took.read (b / 64) (omega (arith, small))) read)
       (λ free. free_shown f k l page b took.readings searched legal lends_nothing small (sym (of_page b) ∙ free) (took.read (b / 64) (omega (arith, small))))
 
   -- What a search took of a shared page is the lowest row of slots by the grains free before the search.
@@ -82,8 +82,8 @@ module _ (page : ℕ) where
   right_stays : (s : Step) (a : ℕ) (had : Bool) → (IsReturnOf page s → s ≡ Unpark page) → had ≡ true → had_after (way s a page) had ≡ true
   right_stays (Deed q d) a had marks has = got_right ByDeed ((q == page) && (a == 0)) had refl has
   right_stays (TakeRight q d) a had marks has = got_right (FromOffer (number_of d)) ((q == page) && has_bit a (page % 64)) had refl has
-  right_stays (Offer q d) a had marks has = kept_right (ToOffer (number_of d)) (q == page) had (never_left q (Offer q d) (λ same. let bad : Offer q d ≡ Unpark page = same in cc) (IsReturnOf.Offers d) marks) has
-  right_stays (Park q) a had marks has = kept_right ToParked (q == page) had (never_left q (Park q) (λ same. let bad : Park q ≡ Unpark page = same in cc) IsReturnOf.Parks marks) has
+  right_stays (Offer q d) a had marks has = kept_right _ (q == page) had (never_left q (Offer q d) (λ same. let bad = same in cc) (IsReturnOf.Offers d) marks) has
+  right_stays (Park q) a had marks has = kept_right ToParked (q == page) had (never_left q (Park q) (λ same. let bad = same in cc) IsReturnOf.Parks marks) has
   right_stays (Unpark q) a had marks has = got_right FromParked ((q == page) && has_bit a (page % 64)) had refl has
   right_stays s a had marks has = has
 
@@ -115,29 +115,14 @@ module _ (f : Profile) (k page g : ℕ) (of : g / 256 ≡ page) (v ts before : L
   got_or_held true held h = refl
   got_or_held false held h = h refl
 
+  -- A grain that a take takes was taken so.
   took : (q word mask a : ℕ) → has_right v q ≡ true → (holds before g ≡ true → IsTakenSo) → (x : Bool) → (in_mask q word mask g && has_bit a (g % 64)) ≡ x
       → held_after (if x then Gets else Stays) (holds before g) ≡ true → IsTakenAfter (Take q word mask) a
-  took q word mask a allowed was true is h =
-      let inside : in_mask q word mask g ≡ true = and_first (in_mask q word mask g) (has_bit a (g % 64)) is in
-      let at : q ≡ page = eqb-true q (g / 256) (and_second (word == g / 64 % 4) (q == g / 256) (and_first ((word == g / 64 % 4) && (q == g / 256)) (has_bit mask (g % 64)) inside)) ∙ of in (
-        ap (has_right v) (sym at) ∙ allowed,
-        search (arith, in_list, true≢false, eq-eqb, got_or_held),
-      )
-  took q word mask a allowed was false is h = search (arith, in_list, got_or_held)
+  took q word mask a allowed was b is h = search (arith, and_first, eqb-true, and_second, in_list, true≢false, eq-eqb, got_or_held)
 
   listed_step : (s : Step) (a : ℕ) → is_in lending (kind_of s) ≡ false → (IsReturnOf page s → s ≡ Unpark page) → Allowed f v s → Suits k (way s a page) o
       → (holds before g ≡ true → IsTakenSo) → held_after (grain_move s a g) (holds before g) ≡ true → IsTakenAfter s a
-  listed_step (Deed q d) a lends marks allowed suits was h = search (arith, right_stays, still_listed)
-  listed_step (TakeRight q d) a lends marks allowed suits was h = search (arith, right_stays, still_listed)
-  listed_step (Take q word mask) a lends marks allowed suits was h = took q word mask a allowed was (in_mask q word mask g && has_bit a (g % 64)) refl h
-  listed_step (Put q word mask) a lends marks allowed suits was h = search (arith, false≢true)
-  listed_step (Give block) a lends marks allowed suits was h = absurd (true≢false lends)
-  listed_step (End name guess) a lends marks allowed suits was h = absurd (true≢false lends)
-  listed_step (EndSized name room) a lends marks allowed suits was h = absurd (true≢false lends)
-  listed_step (Offer q d) a lends marks allowed suits was h = let so = was h in (right_stays page (Offer q d) a (has_right v page) marks so.0, so.1)
-  listed_step (Park q) a lends marks allowed suits was h = let so = was h in (right_stays page (Park q) a (has_right v page) marks so.0, so.1)
-  listed_step (Unpark q) a lends marks allowed suits was h = let so = was h in (right_stays page (Unpark q) a (has_right v page) marks so.0, so.1)
-  listed_step s a lends marks allowed suits was h = was h
+  listed_step s a lends marks allowed suits was h = search (arith, right_stays, still_listed, false≢true, true≢false)
 
 -- ---- lists of takes
 abbrev first_step : Step → List Made → Step
@@ -167,7 +152,8 @@ module _ (f : Profile) (k : ℕ) (l : Whole) (page g : ℕ) (of : g / 256 ≡ pa
       let w : Whole = triples k xs ++ l in
       let at : IsSpotted w page = spotted f w legal.1 page in
       let view : part k w ≡ xs ++ own = part_of_own k xs l in
-      listed_step f k page g of (xs ++ own) (takes_since page xs) xs (spot_of w page) (ap (λ (v : View). has_right v page) (sym view) ∙ at.has k) m.step m.answer lends.0 (λ r. (marks.0 r).0) (subst (λ (v : View). Allowed f v m.step) view legal.0.allowed)
+      listed_step f k page g of (xs ++ own) _ xs _ (ap (λ (v : View). has_right v page) (sym view) ∙ at.has k) m.step m.answer lends.0 (λ r. (marks.0 r).0)
+      (subst (λ (v : View). Allowed f v m.step) view legal.0.allowed)
       (step_suits f w k m.step m.answer page at legal.0.allowed legal.0.answer_is) (taken_since xs legal.1 lends.1 marks.1) h
 
   -- ---- a take that stands there, with those before it
@@ -201,7 +187,7 @@ module _ (f : Profile) (k : ℕ) (l : Whole) (page g : ℕ) (of : g / 256 ≡ pa
     take_read (m ∷ xs) legal lends due marks at none ts is =
         here_or_later (has_bit a (g % 64) ≡ free_bit l g) m.step m.answer (takes_since page xs)
         (λ step answer since.
-        let now : a ≡ word_after (triples k xs ++ l) (free_word_at g) = sym answer ∙ (legal.0.answer_is ∙ (ap (λ (s : Step). word_after (triples k xs ++ l) (target s)) step ∙ ap (word_after (triples k xs ++ l)) at)) in
+        let now = sym answer ∙ (legal.0.answer_is ∙ (ap (λ s. word_after (triples k xs ++ l) (target s)) step ∙ ap (word_after (triples k xs ++ l)) at)) in
         ap (λ (n : ℕ). has_bit n (g % 64)) now ∙ as_before since (free_bit l g) refl)
         (λ earlier later. take_read xs legal.1 lends.1 due.1 marks.1 at none earlier later) ts is
       where
@@ -228,7 +214,7 @@ takes_split page masks answers (suc n) word lt some = elim (cases_eq n word) [
   | inr other ↦
       let before = takes_split page masks answers n word (omega (arith, lt, other)) some in
       let here : List Made = word_take page n (masks n) (answers n) in
-      (here ++ before.0, ap (λ (ms : List Made). here ++ ms) before.1 ∙ sym (append_assoc here before.0 (made (Take page word (masks word)) (answers word) ∷ takes page masks answers word)))
+      (here ++ before.0, ap (λ (ms : List Made). here ++ ms) before.1 ∙ sym (append_assoc here before.0 _))
 ]
 
 takes_below : (page : ℕ) (masks answers : ℕ → ℕ) (n g : ℕ) → n ≤ g / 64 % 4 → holds (takes page masks answers n) g ≡ false
@@ -244,11 +230,11 @@ module _ (f : Profile) (k : ℕ) (l : Whole) (class page : ℕ) (searched : List
       let of : g / 256 ≡ page = omega (arith, small) in
       let at_word : g / 64 % 4 ≡ b / 64 = omega (arith, small) in
       let at_bit : b % 64 ≡ g % 64 = omega arith in
-      let word : Word.Free page (b / 64) ≡ free_word_at g = ap (λ (u : ℕ). Word.Free page u) (sym at_word) ∙ ap (λ (q : ℕ). Word.Free q (g / 64 % 4)) (sym of) in
+      let word = ap (λ (u : ℕ). Word.Free page u) (sym at_word) ∙ ap (λ (q : ℕ). Word.Free q (g / 64 % 4)) (sym of) in
       let some : words took.usable (b / 64) ≢ 0 = λ z. false≢true (sym (none_of_zero (b % 64)) ∙ (ap (λ (n : ℕ). has_bit n (b % 64)) (sym z) ∙ (took.usable_are b small ∙ usable))) in
       let split = takes_split page (words took.usable) (words took.answers) 4 (b / 64) (omega (arith, small)) some in
       let read : has_bit (words took.answers (b / 64)) (g % 64) ≡ free_bit l g =
-      take_read f k l page g of (b / 64) (words took.usable (b / 64)) (words took.answers (b / 64)) (takes page (words took.usable) (words took.answers) (b / 64)) searched legal (lends_none searching refl searched searches.kinds) searches.returns marks word
+      take_read f k l page g of (b / 64) _ _ _ searched legal (lends_none searching refl searched searches.kinds) searches.returns marks word
       (takes_below page (words took.usable) (words took.answers) (b / 64) g (omega (arith, at_word))) split.0 (took.takes ∙ split.1) in
       ap (has_bit (words took.answers (b / 64))) at_bit ∙ (read ∙ ap (has_bit (word_after l (free_word_at g))) (sym at_bit))
 

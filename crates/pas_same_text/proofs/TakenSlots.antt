@@ -9,7 +9,7 @@ use Rattle.pas_bits.specs.Masks.{is_set}
 use Rattle.pas_bits.specs.declared.mask.Mask4.{Mask4}
 use Rattle.pas_profile.specs.{Classes.IsClass, Classes.class_grains, Classes.slots_of, Profiles.IsValid}
 use Rattle.pas_profile.specs.declared.profile.Profile.{Profile}
-use Rattle.pas_profile.proofs.ClassFacts.{class_grains_positive}
+use Rattle.pas_profile.proofs.Sizes.{class_grains_positive}
 use Rattle.pas_steps.proofs.Sets.{same_truth}
 use Rattle.pas_core.specs.Rights.{free_of_page}
 use Rattle.pas_partial.specs.Rows.{IsFreeSlot, IsLowestRow}
@@ -31,7 +31,7 @@ kept_rising x xs false all rising = rising
 rising_places : (test : ℕ → Bool) (n from step : ℕ) → 1 ≤ step → IsRising (filter test (spaced from step n))
 rising_places test zero from step some = tt
 rising_places test (suc n) from step some =
-    kept_rising from (filter test (spaced (from + step) step n)) (test from) (all_above test n (from + step) step from (omega (arith, some))) (rising_places test n (from + step) step some)
+    kept_rising from _ (test from) (all_above test n (from + step) step from (omega (arith, some))) (rising_places test n (from + step) step some)
 
 -- the i-th place is there, and each that is there is the i-th for some i
 place_there : (n from step i : ℕ) → i < n → has_number (spaced from step n) (from + i * step) ≡ true
@@ -59,6 +59,7 @@ module _ (test : ℕ → Bool) (step : ℕ) (some : 1 ≤ step) where
   passing : (from n : ℕ) → test from ≡ true → places from (suc n) ≡ from ∷ places (from + step) n
   passing from n so = ap (λ (t : Bool). if t then from ∷ places (from + step) n else places (from + step) n) so
 
+  -- A place that fails the test is passed by.
   failing : (from n : ℕ) → test from ≡ false → places from (suc n) ≡ places (from + step) n
   failing from n so = ap (λ (t : Bool). if t then from ∷ places (from + step) n else places (from + step) n) so
 
@@ -95,7 +96,7 @@ module _ (test : ℕ → Bool) (step : ℕ) (some : 1 ≤ step) where
   row_has (suc m) zero next i few less all = absurd (omega (arith, less))
   row_has (suc m) (suc n) next zero few less all =
       row_passing m n next (next + 0 * step) (ap test (sym (first_place next)) ∙ all 0 (omega arith))
-      ∙ or_left (next == (next + 0 * step)) (has_number (row_from (next + step) step m (places (next + step) n)) (next + 0 * step)) (eq-eqb next (next + 0 * step) (sym (first_place next)))
+      ∙ or_left (next == (next + 0 * step)) _ (eq-eqb next (next + 0 * step) (sym (first_place next)))
   row_has (suc m) (suc n) next (suc i) few less all =
       row_passing m n next (next + suc i * step) (ap test (sym (first_place next)) ∙ all 0 (omega arith))
       ∙ or_right (next == (next + suc i * step)) (has_number (row_from (next + step) step m (places (next + step) n)) (next + suc i * step))
@@ -142,18 +143,17 @@ module _ (f : Profile) (p : Progress) (w : World) (valid : IsValid f) (between :
   abbrev IsFree : ℕ → Type 0
   IsFree s = IsFreeSlot class (free_of_page p.list page) s
 
+  -- The step is one at least.
   some : 1 ≤ step
   some = class_grains_positive class is
 
   -- the i-th slot is free where it passes
   free_at : (i : ℕ) → i < count → test (i * step) ≡ true → IsFree (i * step)
-  free_at i lt so = let slot = slot_there f p w valid between same class is i lt in (slot, slot_free f p w valid between same class is page (i * step) slot none so)
+  free_at i lt so = let slot = slot_there f p w valid between same class is i lt in (slot, slot_free f p w valid between same class is page _ slot none so)
 
+  -- A free slot passes the test.
   tested : (s : ℕ) → IsFree s → test s ≡ true
   tested s free = slot_tested f p w valid between same class is page s free.0 free.1
-
-  rising_free : IsRising (free_slots w class page)
-  rising_free = rising_places test count 0 step some
 
   -- ---- of an exclusive page
   module _ (all : (s : ℕ) → IsTrue (is_set starts s) ↔ IsFree s) where
@@ -180,6 +180,7 @@ module _ (f : Profile) (p : Progress) (w : World) (valid : IsValid f) (between :
     abbrev index : ℕ
     index = (slot_index f p w valid between same class is row.first row.free.0).0
 
+    -- The slot's number is below the number of slots.
     below : index < count
     below = (slot_index f p w valid between same class is row.first row.free.0).1
 
@@ -192,11 +193,10 @@ module _ (f : Profile) (p : Progress) (w : World) (valid : IsValid f) (between :
     -- no slot before it is free
     none_before : (j : ℕ) → j < index → test (0 + j * step) ≡ false
     none_before j lt =
-        let at : 0 + j * step ≡ j * step = omega arith in
         false_from_ne_true (test (0 + j * step)) (λ so.
         let next : suc j * step ≤ index * step = mul-le-mul_right step lt in
         let m = suc-mul j step in
-        row.lowest (j * step) (omega (arith, next, m, at_first, some)) (free_at j (omega (arith, lt, below)) (ap test (sym at) ∙ so)))
+        row.lowest (j * step) (omega (arith, next, m, at_first, some)) (free_at j (omega (arith, lt, below)) (ap test (sym (omega arith)) ∙ so)))
 
     slots_are : slots_for true w class page ≡ row_from row.first step 4 (filter test (spaced row.first step left))
     slots_are =
@@ -212,8 +212,7 @@ module _ (f : Profile) (p : Progress) (w : World) (valid : IsValid f) (between :
     index_of : (i s : ℕ) → s ≡ row.first + i * step → IsFree s → i < left
     index_of i s at free =
         let o = slot_index f p w valid between same class is s free.0 in
-        let same_place : o.0 * step ≡ (index + i) * step = o.2 ∙ (at ∙ behind i) in
-        let is_index : o.0 ≡ index + i = same_times o.0 (index + i) same_place in
+        let is_index : o.0 ≡ index + i = same_times o.0 (index + i) (o.2 ∙ (at ∙ behind i)) in
         omega (arith, o.1, is_index, below)
       where
         same_times : (a b : ℕ) → a * step ≡ b * step → a ≡ b
@@ -225,14 +224,13 @@ module _ (f : Profile) (p : Progress) (w : World) (valid : IsValid f) (between :
     row_to : (s : ℕ) → has_number row_left s ≡ true → is_set starts s ≡ true
     row_to s h =
         let o = in_row test step some 4 left row.first s h in
-        let few = below in
-        (row.are s).1 (o.0, o.1, o.3, λ j le. subst IsFree (sym (behind j)) (free_at (index + j) (omega (arith, le, o.2, few)) (ap test (sym (behind j)) ∙ o.4 j le)))
+        (row.are s).1 (o.0, o.1, o.3, λ j le. rw behind (free_at (index + j) (omega (arith, le, o.2, below)) (ap test (sym (behind j)) ∙ o.4 j le)))
 
     row_of : (s : ℕ) → is_set starts s ≡ true → has_number row_left s ≡ true
     row_of s set =
         let o = (row.are s).0 set in
         let this : IsFree s = subst IsFree (sym o.2) (o.3 o.0 (omega arith)) in
-        ap (has_number row_left) o.2 ∙ row_has test step some 4 left row.first o.0 o.1 (index_of o.0 s o.2 this) (λ j le. tested (row.first + j * step) (o.3 j le))
+        ap (has_number row_left) o.2 ∙ row_has test step some 4 left row.first o.0 o.1 (index_of o.0 s o.2 this) (λ j le. tested _ (o.3 j le))
 
     -- The row of slots that a search took of a shared page is that which the text takes of it.
     pub row_taken : (s : ℕ) → has_number (slots_for true w class page) s ≡ is_set starts s
@@ -240,4 +238,4 @@ module _ (f : Profile) (p : Progress) (w : World) (valid : IsValid f) (between :
 
   -- the slots rise
   pub slots_rise : (shared : Bool) → IsRising (slots_for shared w class page)
-  slots_rise shared = search (arith, rising_free, rising_first)
+  slots_rise shared = search (arith, (rising_places test count 0 step some), rising_first)

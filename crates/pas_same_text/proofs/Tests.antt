@@ -23,7 +23,7 @@ pub on_page : (page b : ℕ) → b < 256 → (256 * page + b) / 256 ≡ page
 on_page page b small = omega (arith, small)
 
 -- ---- lists
-pub or_more : (x y z : Bool) → (y ≡ true → z ≡ true) → (x || y) ≡ true → (x || z) ≡ true
+or_more : (x y z : Bool) → (y ≡ true → z ≡ true) → (x || y) ≡ true → (x || z) ≡ true
 or_more true y z more h = refl
 or_more false y z more h = more h
 
@@ -63,7 +63,7 @@ pub record IsFound (numbers : List ℕ) (p : ℕ → Bool) : Type 0 where
 
 found_at : (p : ℕ → Bool) (n : ℕ) (more : List ℕ) → (list_any p more ≡ true → IsFound more p) → (p n ≡ true) ⊎ (list_any p more ≡ true) → IsFound (n ∷ more) p
 found_at p n more rest (inl so) = record { number = n; there = or_left (n == n) (has_number more n) (eqb_itself n); so = so }
-found_at p n more rest (inr so) = let o = rest so in record { number = o.number; there = or_right (n == o.number) (has_number more o.number) o.there; so = o.so }
+found_at p n more rest (inr so) = let o = rest so in record { number = o.number; there = or_right (n == o.number) _ o.there; so = o.so }
 
 -- Where some number of a list passes a test, one of its numbers is found that does.
 pub found : (p : ℕ → Bool) (numbers : List ℕ) → list_any p numbers ≡ true → IsFound numbers p

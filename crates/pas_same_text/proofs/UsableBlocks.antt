@@ -1,16 +1,25 @@
 -- Each act leaves each live block on grains that blocks of its page's directory may cover.
-use Rattle.std.proofs.Common.{◌≡◌, ℕ, ◌/◌, ◌%◌, ◌==◌, Bool, true, false, if◌then◌else◌, List, [], ◌∷◌, ◌++◌, map, Option, None, Some, Result, Ok, Err}
-use Rattle.std.proofs.Common.{MatchResult, inl, inr, refl, ap, sym, ◌∙◌, subst, arith, eqb-true}
-use Rattle.std.proofs.lemmas.Option.{none-some}
+use Rattle.std.proofs.Common.{arith, ◌≡◌, ℕ, Bool, true, false, if◌then◌else◌, List, [], ◌∷◌, ◌++◌, Option, None, Some, Result, refl, ap, ◌∙◌, ◌/◌, map, ◌%◌}
+use Rattle.std.proofs.Common.{◌==◌, Ok, Err, sym, subst, eqb-true, inl, inr}
+use Rattle.pas_profile.specs.declared.{directory.Directory.Directory, event.Event.Event, event.NoRoom.NoRoom, name.Block.Block, profile.Profile.Profile}
+use Rattle.pas_profile.specs.declared.{directory.Route.Route, event.Outcome.Outcome, word.Word.Word}
+use Rattle.pas_machine.specs.{State.Live, State.live_in, State.deed_in, Machine.Run}
+use Rattle.pas_free_log.specs.{Logs.sized_entry, Logs.entry_of, Flushes.Settled, Flushes.shown_for}
+use Rattle.pas_free_log.specs.declared.{log.Entry.Entry, noting.EndedRun.EndedRun}
+use Rattle.pas_report.specs.declared.record.{Record.Record, Said.Said}
+use Rattle.pas_same_text.specs.Acts.{AreBlocksUsable, HasUsableBlocks, KeepsUsable}
 use Rattle.std.specs.List.{AllByRecursion}
+use Rattle.pas_same_text.proofs.{Flushes.visible_steps, RestingPages.word_known}
+use Rattle.pas_profile.specs.Requests.{route_in, room_in, is_shared, kind_of_route}
+use Rattle.pas_answers.specs.Answers.{Progress, Having, Answer, having, IsGiven, RefusalEnds, RequestEnds, IsFreed, IsFreedBy, IsStopped, IsAnswered}
+use Rattle.pas_answers.specs.Answers.{IsReplaced, entry_with, wanted_by, standing_for}
+use Rattle.pas_trace.specs.{Acts.Act, Asked.request_in}
+use Rattle.pas_trace.specs.declared.{plan.What.What, item.Request.Request, plan.Op.Op}
+use Rattle.std.proofs.lemmas.Option.{none-some}
 use Rattle.pas_bits.specs.Runs.{in_run}
 use Rattle.pas_bits.proofs.Runs.{run_of}
-use Rattle.pas_profile.specs.{Blocks.address_of, Blocks.grain_of, Blocks.length_of, Directories.IsKind, Directories.deed_word_of, Profiles.IsValid}
-use Rattle.pas_profile.specs.Requests.{is_shared, kind_of_route, route_in, room_in}
-use Rattle.pas_profile.specs.declared.{directory.Directory.Directory, directory.Route.Route, event.Event.Event, event.NoRoom.NoRoom, event.Outcome.Outcome}
-use Rattle.pas_profile.specs.declared.{name.Block.Block, profile.Profile.Profile, word.Word.Word}
-use Rattle.pas_profile.proofs.{ClassFacts.class_suits, ClassFacts.class_known, Codecs.same_from_deed_word, Lists.all_map}
-use Rattle.pas_machine.specs.{Machine.Run, Machine.Bears, State.Live, State.live_in, State.deed_in}
+use Rattle.pas_profile.specs.{Blocks.grain_of, Blocks.length_of, Directories.IsKind, Directories.deed_word_of, Profiles.IsValid}
+use Rattle.pas_profile.proofs.{Sizes.class_suits, Sizes.class_known, Codecs.same_from_deed_word, Lists.all_map}
 use Rattle.pas_machine.proofs.LiveBlocks.{all_borne}
 use Rattle.pas_steps.specs.{Desks.triples, Events.events_by, Views.View, Views.known_deed, Views.usable_by_kind}
 use Rattle.pas_steps.specs.Lists.{Whole, part, word_after, visible, Legal}
@@ -18,23 +27,14 @@ use Rattle.pas_steps.specs.declared.step.Made.{Made}
 use Rattle.pas_steps.proofs.{Adding.triples_append, Apart.no_events, Frames.events_append, Parts.part_of_own}
 use Rattle.pas_core.specs.Good.{IsPartOf, word_of_deed}
 use Rattle.pas_core.proofs.{Deeds.deed_of, Deeds.directory_is_of, MachineRuns.runs, OneActor.legal_before, OneActor.legal_earlier}
-use Rattle.pas_free_log.specs.{Flushes.Settled, Flushes.shown_for, Logs.entry_of, Logs.sized_entry}
-use Rattle.pas_free_log.specs.declared.{log.Entry.Entry, noting.EndedRun.EndedRun}
-use Rattle.pas_cache.specs.{Calls.TakesEntry, Changes.EmptiesLog, Changes.EmptiesFull, Contents.Cached}
+use Rattle.pas_cache.specs.{Changes.EmptiesLog, Changes.EmptiesFull, Contents.Cached}
 use Rattle.pas_cache.specs.Serves.{Wanted, wanted_for, IsPlaced, IsPreparing, IsDeedOf}
 use Rattle.pas_scavenger.specs.Passes.{unbacks_in}
-use Rattle.pas_report.specs.declared.record.{Record.Record, Said.Said}
 use Rattle.pas_guard.specs.Sweeps.{SweepSteps, sweeping}
 use Rattle.pas_guard.specs.declared.book.Guard.{Guard}
-use Rattle.pas_trace.specs.{Acts.Act, Asked.request_in}
-use Rattle.pas_trace.specs.declared.{item.Request.Request, plan.Op.Op, plan.What.What}
-use Rattle.pas_answers.specs.Answers.{Progress, Having, Answer, having, IsGiven, RefusalEnds, RequestEnds, IsFreed, IsFreedBy, IsStopped, IsAnswered}
-use Rattle.pas_answers.specs.Answers.{IsReplaced, standing_for, entry_with, wanted_by}
 use Rattle.pas_answers.specs.Guarding.{Tried, IsTried, TryEnds, after_trying}
 use Rattle.pas_answers.specs.Reaching.{AnswersTried, AnswersGuarded}
 use Rattle.pas_answers.proofs.Reached.{tried_on, pieces_back}
-use Rattle.pas_same_text.specs.Acts.{AreBlocksUsable, HasUsableBlocks, KeepsUsable}
-use Rattle.pas_same_text.proofs.{Flushes.visible_steps, RestingPages.word_known}
 
 -- ---- one event
 -- the block may be given so: each of its grains is one that blocks of its page's directory may cover
@@ -42,19 +42,14 @@ abbrev IsUsableGive : List Event → Block → Type 0
 IsUsableGive es block = (g : ℕ) → in_run (grain_of block.name) (length_of block) g ≡ true → (d : Directory) → deed_in es (g / 256) ≡ Some d → usable_by_kind d.kind (g % 256) ≡ true
 
 abbrev GivesUsably : List Event → Event → Type 0
-GivesUsably es (Event.Deed k p d) = Unit {0}
-GivesUsably es (Event.Back k p) = Unit {0}
-GivesUsably es (Event.Unback k p e) = Unit {0}
 GivesUsably es (Event.Give k block) = IsUsableGive es block
-GivesUsably es (Event.End k name e) = Unit {0}
-GivesUsably es (Event.Reject k name why) = Unit {0}
+GivesUsably es e = Unit {0}
 
 deed_usable : (f : Profile) (es : List Event) (p : ℕ) (d own : Directory) (address : ℕ) (b : Live) (g : ℕ) (t : Bool) → (p == g / 256) ≡ t → Run f es
     → deed_in es p ≡ None → live_in es address ≡ Some b → IsPartOf g address b
     → AreBlocksUsable es → (if t then Some d else deed_in es (g / 256)) ≡ Some own → usable_by_kind own.kind (g % 256) ≡ true
 deed_usable f es p d own address b g true e run none lives of usable is =
-    let bears : Bears f es b.block.heap (g / 256) = all_borne f es run address b lives g of in
-    absurd (none-some _ (sym none ∙ (ap (deed_in es) (eqb-true p (g / 256) e) ∙ bears.deed)))
+    absurd (none-some _ (sym none ∙ (ap (deed_in es) (eqb-true p (g / 256) e) ∙ (all_borne f es run address b lives g of).deed)))
 deed_usable f es p d own address b g false e run none lives of usable is = usable.usable address b lives g of own is
 
 ended_usable : (es : List Event) (own : Directory) (address : ℕ) (b : Live) (g : ℕ) (t : Bool) → (if t then None else live_in es address) ≡ Some b
@@ -62,22 +57,13 @@ ended_usable : (es : List Event) (own : Directory) (address : ℕ) (b : Live) (g
 ended_usable es own address b g true lives of usable is = absurd (none-some b lives)
 ended_usable es own address b g false lives of usable is = usable.usable address b lives g of own is
 
-given_usable : (k : ℕ) (block : Block) (es : List Event) (own : Directory) (address : ℕ) (b : Live) (g : ℕ) (t : Bool) → (address_of block.name == address) ≡ t
-    → (if t then Some (record { actor = k; block = block }) else live_in es address) ≡ Some b → IsPartOf g address b
-    → IsUsableGive es block → AreBlocksUsable es → deed_in es (g / 256) ≡ Some own → usable_by_kind own.kind (g % 256) ≡ true
-given_usable k block es own address b g t e lives of give usable is = search (arith, eqb-true)
-
 next_usable : (f : Profile) (e : Event) (es : List Event) → Run f (e ∷ es) → GivesUsably es e → AreBlocksUsable es → AreBlocksUsable (e ∷ es)
-next_usable f e es run give usable = search (arith, deed_usable, given_usable, ended_usable)
+next_usable f e es run give usable = search (arith, deed_usable, eqb-true, ended_usable)
 
 -- ---- events without a give
 abbrev IsNoGive : Event → Type 0
-IsNoGive (Event.Deed k p d) = Unit {0}
-IsNoGive (Event.Back k p) = Unit {0}
-IsNoGive (Event.Unback k p e) = Unit {0}
 IsNoGive (Event.Give k block) = ⊥
-IsNoGive (Event.End k name e) = Unit {0}
-IsNoGive (Event.Reject k name why) = Unit {0}
+IsNoGive e = Unit {0}
 
 abbrev AreNoGives : List Event → Type 0
 AreNoGives = AllByRecursion IsNoGive
@@ -89,8 +75,8 @@ all_usable f (e ∷ evs) es run none usable = search (arith, next_usable, all_us
 -- steps without a give, after a legal list
 steps_usable : (f : Profile) (k : ℕ) (steps : List Made) (l : Whole) → IsValid f → Legal f (triples k steps ++ l) → AreNoGives (events_by k (part k l) steps)
     → AreBlocksUsable (visible l) → AreBlocksUsable (visible (triples k steps ++ l))
-steps_usable f k steps l valid legal none usable =
-    subst AreBlocksUsable (sym (visible_steps k steps l)) (all_usable f (events_by k (part k l) steps) (visible l) (subst (Run f) (visible_steps k steps l) (runs f (triples k steps ++ l) valid legal)) none usable)
+steps_usable f k steps l valid legal none usable = subst AreBlocksUsable (sym (visible_steps k steps l))
+    (all_usable f (events_by k (part k l) steps) (visible l) (subst (Run f) (visible_steps k steps l) (runs f (triples k steps ++ l) valid legal)) none usable)
 
 -- ---- flushes
 shown_gives : (k epoch : ℕ) (settled : List Settled) → AreNoGives (map (shown_for k epoch) settled)
@@ -139,9 +125,7 @@ placed_usable : (f : Profile) (shared : Bool) (size align : ℕ) (route : Route)
 placed_usable f shared size align route block g e placed room of = search (arith, run_of)
 
 kind_known : (f : Profile) (shared : Bool) (size align : ℕ) (route : Route) → route_in f size align ≡ route → IsKind (kind_of_route shared route)
-kind_known f true size align (Route.Class class) e = tt
-kind_known f false size align (Route.Class class) e = class_known f.classes size align class (class_suits f.classes size align class e)
-kind_known f shared size align route e = tt
+kind_known f shared size align route e = search (arith, class_known, class_suits)
 
 refusal_gives : (route : Route) (d : Directory) (es : List Event) → RefusalEnds route d es → AreNoGives es
 refusal_gives route d es h = search (arith, all_map, deed_none)
@@ -157,36 +141,32 @@ module _ (f : Profile) (k heap size align : ℕ) (l : Whole) (steps : List Made)
   give_usable : (block : Block) → (given : IsGiven k wanted (part k l) steps block) → IsUsableGive (given.before ++ visible l) block
   give_usable block given g of d is =
       let page : ℕ = g / 256 in
-      let shown : visible whole ≡ Event.Give k block ∷ (given.before ++ visible l) = visible_steps k steps l ∙ ap (λ (es : List Event). es ++ visible l) given.events in
-      let deed : deed_in (visible whole) page ≡ Some d = ap (λ (es : List Event). deed_in es page) shown ∙ is in
+      let deed = ap (λ (es : List Event). deed_in es page) (visible_steps k steps l ∙ ap (λ (es : List Event). es ++ visible l) given.events) ∙ is in
       let word : word_after whole (Word.Deed page) ≡ deed_word_of d = deed_of f whole legal page ∙ ap word_of_deed deed in
-      let some : known_deed (part k whole) page ≡ deed_word_of wanted.directory = ap (λ (v : View). known_deed v page) (part_of_own k steps l) ∙ given.of_directory g of in
-      let same : d ≡ wanted.directory = same_from_deed_word d wanted.directory (directory_is_of f whole legal page d deed).kind (kind_known f (is_shared f heap) size align (route_in f size align) refl) (sym word ∙ word_known f whole legal k page wanted.directory some) in
-      ap (λ (x : Directory). usable_by_kind x.kind (g % 256)) same ∙ placed_usable f (is_shared f heap) size align (route_in f size align) block g refl given.placed given.room of
+      let some = ap (λ (v : View). known_deed v page) (part_of_own k steps l) ∙ given.of_directory g of in
+      let same = same_from_deed_word d _ (directory_is_of f _ legal page d deed).kind (kind_known f _ size align _ refl) (sym word ∙ word_known f whole legal k page wanted.directory some) in
+      ap (λ (x : Directory). usable_by_kind x.kind (g % 256)) same ∙ placed_usable f (is_shared f heap) size align _ block g refl given.placed given.room of
 
   by_answer : (answer : Result Block NoRoom) → RequestEnds k wanted (part k l) steps answer → AreBlocksUsable (visible whole)
   by_answer (Ok block) given =
-      let shown : visible whole ≡ Event.Give k block ∷ (given.before ++ visible l) = visible_steps k steps l ∙ ap (λ (es : List Event). es ++ visible l) given.events in
+      let shown = visible_steps k steps l ∙ ap (λ (es : List Event). es ++ visible l) given.events in
       let run : Run f (Event.Give k block ∷ (given.before ++ visible l)) = subst (Run f) shown (runs f whole valid legal) in
       subst AreBlocksUsable (sym shown)
-      (next_usable f (Event.Give k block) (given.before ++ visible l) run (give_usable block given) (all_usable f given.before (visible l) run.1 (all_map (IsPreparing wanted.directory) IsNoGive given.before (preparing_none wanted.directory) given.prepared) usable))
+      (next_usable f _ _ run (give_usable block given) (all_usable f given.before (visible l) run.1 (all_map _ IsNoGive given.before (preparing_none _) given.prepared) usable))
   by_answer (Err room) ends = steps_usable f k steps l valid legal (refusal_gives wanted.route wanted.directory (events_by k (part k l) steps) ends) usable
 
 -- ---- a reallocation
-logged_gives : (f : Profile) (k : ℕ) (c c' : Cached) (entry : Entry) (freed : List Made) (v : View) (answer : Result Block NoRoom)
-    → MatchResult answer (λ block. TakesEntry f k c c' entry freed) (λ room. (freed ≡ []) × (c' ≡ c)) → AreNoGives (events_by k v freed)
-logged_gives f k c c' entry freed v answer takes = search (arith, full_gives)
 
 replaced_usable : (f : Profile) (k : ℕ) (r : Request) (old : Block) (b : Having) (l : Whole) (a : Answer) → b.view ≡ part k l → IsValid f
     → Legal f (triples k a.steps ++ l) → IsReplaced f k r old b a → AreBlocksUsable (visible l) → AreBlocksUsable (visible (triples k a.steps ++ l))
 replaced_usable f k r old b l a view valid legal h usable =
     let whole : Legal f (triples k (h.freed ++ h.placed.steps) ++ l) = subst (λ (ms : List Made). Legal f (triples k ms ++ l)) h.steps_are legal in
     let first : Legal f (triples k h.placed.steps ++ l) = legal_earlier f k h.freed h.placed.steps l whole in
-    let ends : RequestEnds k (wanted_by f r) (part k l) h.placed.steps h.served.answer = subst (λ (v : View). RequestEnds k (wanted_by f r) v h.placed.steps h.served.answer) view h.served.ends in
-    let given : AreBlocksUsable (visible (triples k h.placed.steps ++ l)) = by_answer f k r.heap r.size r.align l h.placed.steps valid first usable h.served.answer ends in
+    let ends : RequestEnds k (wanted_by f r) (part k l) h.placed.steps h.served.answer = rw view at h.served.ends in
+    let given = by_answer f k r.heap r.size r.align l h.placed.steps valid first usable h.served.answer ends in
     rw (h.steps_are, ← (triples_append k h.freed h.placed.steps l))
     (steps_usable f k h.freed (triples k h.placed.steps ++ l) valid (subst (Legal f) (sym (triples_append k h.freed h.placed.steps l)) whole)
-    (logged_gives f k h.placed.cache a.cache (entry_of old.name) h.freed (part k (triples k h.placed.steps ++ l)) h.served.answer h.logged) given)
+    (search (arith, full_gives)) given)
 
 -- ---- the acts
 module _ (f : Profile) (k : ℕ) (p : Progress) (a : Answer) (valid : IsValid f) (legal : Legal f (triples k a.steps ++ p.list)) (usable : HasUsableBlocks p)
@@ -202,7 +182,7 @@ module _ (f : Profile) (k : ℕ) (p : Progress) (a : Answer) (valid : IsValid f)
     operation_usable (What.Alloc name heap size align) h = by_answer f k heap size align p.list a.steps valid legal usable h.answer h.ends
     operation_usable (What.Guarded keeper name heap size align) h = by_answer f k heap size align p.list a.steps valid legal usable h.answer h.ends
     operation_usable (What.Free name) h = idle_usable (named_gives f k (p.caches k) a.cache name None (standing_for p.names name) a.steps a.said own h.0)
-    operation_usable (What.FreeSized name room) h = idle_usable (named_gives f k (p.caches k) a.cache name (Some room) (standing_for p.names name) a.steps a.said own h.0)
+    operation_usable (What.FreeSized name room) h = idle_usable (named_gives f k (p.caches k) a.cache name (Some room) _ a.steps a.said own h.0)
     operation_usable (What.Raw block) h = idle_usable (freed_gives f k (p.caches k) a.cache (entry_of block) a.steps a.said own h.0)
     operation_usable (What.RawSized room block) h = idle_usable (freed_gives f k (p.caches k) a.cache (sized_entry block room) a.steps a.said own h.0)
     operation_usable (What.Remake name old heap size align) h = search (arith, replaced_usable)
@@ -215,12 +195,12 @@ module _ (f : Profile) (k : ℕ) (p : Progress) (a : Answer) (valid : IsValid f)
 sweep_usable : (f : Profile) (keeper : ℕ) (all : Bool) (guards guards' : List Guard) (said : List Record) (steps : List Made) (l : Whole) → IsValid f
     → Legal f (triples keeper steps ++ l) → SweepSteps f keeper all guards guards' said steps → AreBlocksUsable (visible l)
     → AreBlocksUsable (visible (triples keeper steps ++ l))
-sweep_usable f keeper all guards guards' said steps l valid legal h usable = steps_usable f keeper steps l valid legal (subst AreNoGives (sym (no_events sweeping refl keeper (part keeper l) steps h.kinds)) tt) usable
+sweep_usable f keeper all guards guards' said steps l valid legal h usable = steps_usable f keeper steps l valid legal (subst AreNoGives (sym (no_events sweeping refl keeper _ steps h.kinds)) tt) usable
 
 -- a raise gives its block as any request does, or makes deeds alone
 raise_usable : (f : Profile) (keeper : ℕ) (r : Request) (block : Option Block) (steps : List Made) (l : Whole) → IsValid f → Legal f (triples keeper steps ++ l)
     → TryEnds f keeper r (part keeper l) steps block → AreBlocksUsable (visible l) → AreBlocksUsable (visible (triples keeper steps ++ l))
-raise_usable f keeper r None steps l valid legal ends usable = steps_usable f keeper steps l valid legal (all_map (IsDeedOf (wanted_by f r).directory) IsNoGive (events_by keeper (part keeper l) steps) (deed_none (wanted_by f r).directory) ends) usable
+raise_usable f keeper r None steps l valid legal ends usable = steps_usable f _ steps l valid legal (all_map _ _ _ (deed_none (wanted_by f r).directory) ends) usable
 raise_usable f keeper r (Some block) steps l valid legal given usable = by_answer f keeper r.heap r.size r.align l steps valid legal usable (Ok block) given
 
 tried_usable : (f : Profile) (keeper : ℕ) (r : Request) (l : Whole) (guards : List Guard) (t : Tried) → IsValid f → Legal f (triples keeper t.steps ++ l)
@@ -228,8 +208,8 @@ tried_usable : (f : Profile) (keeper : ℕ) (r : Request) (l : Whole) (guards : 
 tried_usable f keeper r l guards t valid legal h usable =
     let whole : Legal f (triples keeper (h.raised ++ h.swept) ++ l) = subst (λ (ms : List Made). Legal f (triples keeper ms ++ l)) h.steps_are legal in
     let first : Legal f (triples keeper h.swept ++ l) = legal_earlier f keeper h.raised h.swept l whole in
-    let swept : AreBlocksUsable (visible (triples keeper h.swept ++ l)) = sweep_usable f keeper false guards h.left h.lowered h.swept l valid first h.sweep usable in
-    let ends : TryEnds f keeper r (part keeper (triples keeper h.swept ++ l)) h.raised t.block = subst (λ (v : View). TryEnds f keeper r v h.raised t.block) (sym (part_of_own keeper h.swept l)) h.ends in
+    let swept = sweep_usable f keeper false guards h.left h.lowered h.swept l valid first h.sweep usable in
+    let ends = subst (λ (v : View). TryEnds f keeper r v h.raised t.block) (sym (part_of_own keeper h.swept l)) h.ends in
     rw (h.steps_are, ← (triples_append keeper h.raised h.swept l))
     (raise_usable f keeper r t.block h.raised (triples keeper h.swept ++ l) valid (subst (Legal f) (sym (triples_append keeper h.raised h.swept l)) whole) ends swept)
 
@@ -260,8 +240,8 @@ act_usable f (Act.StopsIdle k n) p p' valid before after is usable = elim is [
   | inl h ↦ subst HasUsableBlocks (sym h.4) (steps_usable f k h.1 p.list valid (subst (λ (q : Progress). Legal f q.list) h.4 after.legal) (stop_gives k (p.caches k) h.2 h.1 (part k p.list) h.3) usable)
   | inr h ↦ subst HasUsableBlocks (sym h.1) usable
 ]
-act_usable f (Act.Ends k) p p' valid before after is usable =
-    subst HasUsableBlocks (sym is.3) (steps_usable f k is.0 p.list valid (subst (λ (q : Progress). Legal f q.list) is.3 after.legal) (stop_gives k (p.caches k) is.1 is.0 (part k p.list) is.2) usable)
-act_usable f (Act.Lowers keeper) p p' valid before after is usable =
-    subst HasUsableBlocks (sym is.3) (sweep_usable f keeper true (p.books keeper) [] is.1 is.0 p.list valid (subst (λ (q : Progress). Legal f q.list) is.3 after.legal) is.2.sweep usable)
+act_usable f (Act.Ends k) p p' valid before after is usable = subst HasUsableBlocks (sym is.3) (steps_usable f k is.0 p.list valid
+    (subst (λ (q : Progress). Legal f q.list) is.3 after.legal) (stop_gives k (p.caches k) is.1 is.0 (part k p.list) is.2) usable)
+act_usable f (Act.Lowers keeper) p p' valid before after is usable = subst HasUsableBlocks (sym is.3)
+    (sweep_usable f keeper true (p.books keeper) [] is.1 is.0 p.list valid (subst (λ (q : Progress). Legal f q.list) is.3 after.legal) is.2.sweep usable)
 act_usable f act p p' valid before after is usable = subst HasUsableBlocks (sym is.1) usable

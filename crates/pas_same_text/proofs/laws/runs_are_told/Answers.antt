@@ -15,4 +15,7 @@ pub returns-clause-none : goal.returns-clause-none
 returns-clause-none c = λ f p w heap n rest pages of none. none_lowest f p w rest.valid rest.between pages rest.same heap of n none
 
 pub returns-clause-named : goal.returns-clause-named
-returns-clause-named c = λ f p w heap n first rest pages of some. (named_whole f p w rest.valid rest.between pages rest.same heap of n first some, whole_named f p w rest.valid rest.between pages rest.same heap of n first)
+returns-clause-named c = λ f p w heap n first rest pages of some. (
+  named_whole f p w rest.valid rest.between pages rest.same heap of n first some,
+  whole_named f p w rest.valid rest.between pages rest.same heap of n first,
+)
