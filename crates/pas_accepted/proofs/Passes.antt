@@ -1,39 +1,47 @@
--- The lines of a pass: what came of its pages.
+-- The lines of a pass: what came of its pages; and those of a sweep, by which a keeper lowers guards.
 use Rattle.std.proofs.Common.{◌≡◌, ◌≢◌, ℕ, ◌-◌, ◌^◌, ◌<◌, Bool, true, false, List, [], ◌∷◌, ◌++◌, Option, Some, None, inl, inr, refl, ap, ◌∙◌, subst, arith}
-use Rattle.std.proofs.Common.{zero, suc, ◌+◌, ◌*◌, ◌≤◌, if◌then◌else◌, sym, append-nil, map, reverse}
-use Rattle.pas_profile.specs.{Directories.deed_word_of, Profiles.IsValid, Profiles.vector_words}
-use Rattle.pas_profile.specs.declared.{directory.Directory.Directory, event.Outcome.Outcome, profile.Profile.Profile, word.Word.Word}
+use Rattle.std.proofs.Common.{zero, suc, ◌+◌, ◌*◌, ◌≤◌, if◌then◌else◌, sym, append-nil, map, reverse, ◌/◌, ◌%◌, ◌||◌, not}
+use Rattle.pas_profile.specs.{Directories.deed_word_of, Profiles.IsValid, Profiles.vector_words, Blocks.address_of, Lives.turn_of}
+use Rattle.pas_profile.specs.declared.{directory.Directory.Directory, event.Outcome.Outcome, profile.Profile.Profile, word.Word.Word, event.Event.Event}
 use Rattle.pas_profile.specs.declared.event.Outcome.TheVariants.{Unbacked, Bare, Young, InUse, NotOffered}
 use Rattle.pas_profile.proofs.Codecs.{deed_word_of-positive}
-use Rattle.pas_machine.specs.{Machine.Run, State.backed_in, State.deed_in, State.epoch_in}
+use Rattle.pas_machine.specs.Machine.{Run}
+use Rattle.pas_machine.specs.State.{backed_in, deed_in, epoch_in, ends_in, gives_in, live_in}
 use Rattle.pas_core.specs.Good.{word_of_backed, word_of_deed}
-use Rattle.pas_core.proofs.{Deeds.backed_of, Deeds.deed_of, MachineRuns.runs, OneActor.legal_earlier, Stamps.stamps_are_ends, Stamps.words_fit}
-use Rattle.pas_steps.specs.{Desks.made, Desks.triples, Desks.triple, Kinds.LookFree, Kinds.Only, Kinds.Taking, Views.all_ones, Views.known_epoch, InTurn.InTurn}
-use Rattle.pas_steps.specs.{InTurn.numbers_below}
+use Rattle.pas_core.proofs.{Deeds.backed_of, Deeds.deed_of, MachineRuns.runs, OneActor.legal_earlier}
+use Rattle.pas_core.proofs.Lives.{stamps_are_ends, words_fit, life_at, turn_is}
+use Rattle.pas_steps.specs.{Desks.made, Desks.triples, Desks.triple, Kinds.Only, Kinds.Taking, Views.all_ones, Views.known_epoch, InTurn.InTurn}
+use Rattle.pas_steps.specs.{InTurn.numbers_below, Effects.life_word_at, Kinds.LookLife}
 use Rattle.pas_steps.specs.Lists.{Legal, Whole, part, visible, word_after}
-use Rattle.pas_steps.specs.declared.step.{Made.Made, Step.TheVariants.Look, Step.TheVariants.Take, Step.TheVariants.Unhint}
+use Rattle.pas_steps.specs.declared.step.{Made.Made, Step.TheVariants.Look, Step.TheVariants.Unhint, Step.TheVariants.Take}
 use Rattle.pas_steps.proofs.Apart.{no_events, only_both, only_within, epoch_same}
-use Rattle.pas_rights.specs.Looks.{AreUsed, IsUsed, looks, looks_until}
-use Rattle.pas_rights.specs.{Takes.takes, Words.ones}
+use Rattle.pas_rights.specs.{Takes.takes, Looks.AreUsed, Looks.IsUsed, Words.ones, PutsBack.giving_back}
 use Rattle.pas_rights.proofs.Orders.{until_only}
-use Rattle.pas_scavenger.specs.{Judgements.used_at, Readings.takes_until}
+use Rattle.pas_scavenger.specs.{Readings.takes_until, Judgements.used_at}
 use Rattle.pas_scavenger.specs.Pages.{EndsWith, EndsWithout, ExamineSteps, first_looks, quiet, unback_of, examining}
-use Rattle.pas_scavenger.proofs.Examinations.{asks_sized, examine_event, taken_on, takes_are, examine_sized}
-use Rattle.pas_answers.proofs.{Consequences.parts_kept, Consequences.tidy_piece, Reached.Each, Tidy.Tidy, Tidy.tidy_over, Tidy.look_tidy}
-use Rattle.pas_check.specs.States.{Examines, Stand, with_due, Does, Task}
+use Rattle.pas_scavenger.proofs.Examinations.{asks_sized, examine_event, taken_on, takes_are, examine_sized, outcomes_append}
+use Rattle.pas_answers.proofs.Consequences.{parts_kept, tidy_piece, Tidy, tidy_over, look_tidy, sweep_tidy}
+use Rattle.pas_answers.proofs.Reached.{Each}
+use Rattle.pas_check.specs.States.{Examines, Stand, with_due, Does, Task, Due}
 use Rattle.pas_check.specs.Takes.{MayCome, after_outcome, record_of as allowed_record}
 use Rattle.pas_accepted.proofs.Telling.{visible_piece, LeadsOn, on_as, on_both, on_line, on_same, lines_both, lines_by, on_past, on_task, Comes, Tells}
+use Rattle.pas_accepted.proofs.Telling.{AreAligned, going, is_down, raised_by, staying, booked_sweep, going_told, guards_of}
 use Rattle.std.proofs.lemmas.List.{map-append, reverse-append, reverse-reverse}
 use Rattle.pas_bits.specs.Bits.{has_bit}
-use Rattle.pas_steps.proofs.Parts.{part_of_own}
-use Rattle.pas_answers.specs.{PassRecords.record_of, PassRecords.records_of_pass, Answers.Progress, Answers.after_pass}
+use Rattle.pas_steps.proofs.{Parts.part_of_own, Adding.triples_append}
+use Rattle.pas_answers.specs.{PassRecords.record_of, PassRecords.records_of_pass, Answers.Progress, Answers.after_pass, Guarding.IsLowered}
+use Rattle.pas_answers.specs.{Guarding.after_lowering}
 use Rattle.pas_report.specs.Lines.{line_of}
 use Rattle.pas_report.specs.declared.record.{Record.Record, Said.Said}
 use Rattle.pas_scavenger.specs.Passes.{TriedSteps, TrySteps, Tried, WordRead, WordSteps, all_tried, outcomes_in, pages_set, trying, with_outcome, PassSteps}
 use Rattle.pas_scavenger.specs.Passes.{passing}
-use Rattle.pas_scavenger.proofs.Trying.{outcomes_append}
-use Rattle.pas_trace.specs.Acts.{MakesPass}
+use Rattle.pas_trace.specs.Acts.{MakesPass, Lowers}
 use Rattle.pas_check.proofs.Ticks.{epoch_kept}
+use Rattle.std.specs.List.{filter}
+use Rattle.pas_check.specs.Begins.{lowered_due, lowered_record, goes_down, sweeping}
+use Rattle.pas_check.specs.declared.guard.Guard.{Guard as Known}
+use Rattle.pas_guard.specs.Sweeps.{Swept, SweptOne, is_over, life_look, lowered_record as lowered_by, sweeping as sweeping_kinds}
+use Rattle.pas_guard.specs.declared.book.Guard.{Guard}
 
 -- ---- What comes of a page in a pass may come there
 -- steps without an event leave what is visible
@@ -42,8 +50,7 @@ quiet_visible steps l only = visible_piece 0 steps l ∙ ap (λ es. es ++ visibl
 
 -- ---- what a word that was read says
 none_backed : (b : Bool) → 0 ≡ word_of_backed b → b ≡ false
-none_backed true is = absurd (omega (arith, is))
-none_backed false is = refl
+none_backed b is = search arith
 
 bare_at : (f : Profile) (l : Whole) (page : ℕ) → Legal f l → 0 ≡ word_after l (Word.Backed page) → backed_in (visible l) page ≡ false
 bare_at f l page legal read = none_backed (backed_in (visible l) page) (read ∙ backed_of f l legal page)
@@ -68,7 +75,7 @@ pub record MayPass (s : Stand) (l : Whole) : Type 0 where
   pub known : known_epoch (part 0 l) ≡ Some s.epoch
 
 first_quiet : (page b : ℕ) → Only quiet (first_looks page b None)
-first_quiet page b = only_both quiet (looks_until page None) (made (Look (Word.Backed page)) b ∷ []) (only_within (LookFree ∷ []) quiet (looks_until page None) refl (until_only page None)) (refl, tt)
+first_quiet page b = search (arith, only_both, only_within, until_only)
 
 module _ (f : Profile) (valid : IsValid f) (s : Stand) (l : Whole) (may : MayPass s l) (page last : ℕ) (after : List Made)
     (legal : Legal f (triples 0 after ++ l)) where
@@ -78,19 +85,15 @@ module _ (f : Profile) (valid : IsValid f) (s : Stand) (l : Whole) (may : MayPas
 
   -- ---- without the page's right
   without : (outcome : Outcome) → EndsWithout page outcome after → MayCome f (at_pass s l last) page outcome
-  without Bare h = let at = since [] (made (Look (Word.Backed page)) 0 ∷ []) h in bare_at f l page at.1 at.0.answer_is
-  without (InUse word value) h =
-      let before : List Made = looks page ones word ++ made (Look (Word.Backed page)) h.0 ∷ [] in
-      let at = since [] (made (Look (Word.Free page word)) value ∷ before) h.3 in
-      (h.2.within, used_small f (triples 0 before ++ l) page word value valid at.1 h.2.some at.0.answer_is)
-  without NotOffered h = search (arith, since, quiet_visible, first_quiet, deed_at)
-  without other h = absurd h
+  without outcome h = search (arith, since, bare_at, used_small, quiet_visible, first_quiet, deed_at)
 
   -- ---- with it
   module _ (outcome : Outcome) (h : EndsWith f.age s.epoch page outcome after) where
     rest_quiet : Only quiet (takes_until page h.takes.used ++ h.asked)
-    rest_quiet = only_both quiet (takes_until page h.takes.used) h.asked (only_within (Taking ∷ []) quiet (takes_until page h.takes.used) refl (takes_are page h.takes.used)) (asks_sized page h.directory true h.asked h.asks).only
+    rest_quiet = only_both quiet (takes_until page h.takes.used) h.asked (only_within (Taking ∷ []) quiet (takes_until page h.takes.used) refl
+        (takes_are page h.takes.used)) (asks_sized page h.directory true h.asked h.asks).only
 
+    -- The steps of an examination, in their parts.
     taken : (judged : List Made) → h.takes.after ≡ judged → after ≡ h.takes.back ++ (judged ++ (takes_until page h.takes.used ++ h.asked))
     taken judged is = taken_on f.age s.epoch page outcome after h ∙ ap (λ ms. h.takes.back ++ (ms ++ (takes_until page h.takes.used ++ h.asked))) is
 
@@ -120,18 +123,17 @@ module _ (f : Profile) (valid : IsValid f) (s : Stand) (l : Whole) (may : MayPas
   with_right NotOffered h run shown = absurd h.takes.judged
 
   -- its event
-  pub outcome_shown : (outcome : Outcome) → ExamineSteps f.age s.epoch page outcome after
+  outcome_shown : (outcome : Outcome) → ExamineSteps f.age s.epoch page outcome after
       → visible (triples 0 after ++ l) ≡ unback_of 0 s.epoch page outcome ++ visible l
   outcome_shown outcome h = visible_piece 0 after l ∙ ap (λ es. es ++ visible l) (examine_event 0 f.age s.epoch page outcome after (part 0 l) h may.known)
 
   -- THE OUTCOME of the page
-  pub outcome_may : (outcome : Outcome) → ExamineSteps f.age s.epoch page outcome after → MayCome f (at_pass s l last) page outcome
-  outcome_may outcome (inl h) = without outcome h
-  outcome_may outcome (inr h) = with_right outcome h (runs f (triples 0 after ++ l) valid legal) (outcome_shown outcome (inr h))
+  outcome_may : (outcome : Outcome) → ExamineSteps f.age s.epoch page outcome after → MayCome f (at_pass s l last) page outcome
+  outcome_may outcome is = search (arith, without, with_right, runs, outcome_shown)
 
 -- ---- The pages of a pass, tried one after the other: their outcomes rise, and each may come
 -- ---- what a pass keeps
-pub both_pieces : (k : ℕ) (ys xs : List Made) (l : Whole) → triples k (ys ++ xs) ++ l ≡ triples k ys ++ (triples k xs ++ l)
+both_pieces : (k : ℕ) (ys xs : List Made) (l : Whole) → triples k (ys ++ xs) ++ l ≡ triples k ys ++ (triples k xs ++ l)
 both_pieces k [] xs l = refl
 both_pieces k (y ∷ ys) xs l = ap (λ (w : Whole). triple k y ∷ w) (both_pieces k ys xs l)
 
@@ -148,7 +150,8 @@ outcome_lines epoch found = lines_by (map (λ p. record_of 0 epoch p.0 p.1) (rev
 outcomes_both : (epoch : ℕ) (xs ys : List (ℕ × Outcome)) → outcome_lines epoch (xs ++ ys) ≡ outcome_lines epoch ys ++ outcome_lines epoch xs
 outcomes_both epoch xs ys =
     let record_by : ℕ × Outcome → Record = λ p. record_of 0 epoch p.0 p.1 in
-    ap (λ ps. lines_by (map record_by ps)) (reverse-append xs ys) ∙ ap lines_by (map-append record_by (reverse ys) (reverse xs)) ∙ lines_both (map record_by (reverse ys)) (map record_by (reverse xs))
+    ap (λ ps. lines_by (map record_by ps)) (reverse-append xs ys) ∙ ap lines_by (map-append record_by (reverse ys) (reverse xs))
+    ∙ lines_both (map record_by (reverse ys)) (map record_by (reverse xs))
 
 outcome_more : (epoch page : ℕ) (o : Option Outcome) (found : List (ℕ × Outcome))
     → outcome_lines epoch (with_outcome page o found) ≡ outcome_lines epoch found ++ outcome_lines epoch (with_outcome page o [])
@@ -165,13 +168,13 @@ record IsTried (f : Profile) (s : Stand) (l : Whole) (page last : ℕ) (o : Opti
   only : Only trying steps
   leads : LeadsOn f (at_pass s l last) (outcome_lines s.epoch (with_outcome page o [])) (at_pass s (triples 0 steps ++ l) (last_after o page last))
 
+-- in each case it computes, or is given
 same_record : (epoch page : ℕ) (o : Outcome) → record_of 0 epoch page o ≡ allowed_record epoch page o
-same_record epoch page Unbacked = refl
-same_record epoch page other = refl
+same_record epoch page o = search arith
 
+-- in each case it computes, or is given
 then_is : (s : Stand) (page : ℕ) (o : Outcome) → after_outcome s page o ≡ record s { events = unback_of 0 s.epoch page o ++ s.events }
-then_is s page Unbacked = refl
-then_is s page other = refl
+then_is s page o = search arith
 
 try_page : (f : Profile) → IsValid f → (s : Stand) (l : Whole) (page last : ℕ) (o : Option Outcome) (steps : List Made) → MayPass s l → (1 ≤ page → last < page)
     → Legal f (triples 0 steps ++ l) → TrySteps f.age s.epoch page o steps
@@ -215,9 +218,9 @@ pub record Passed (f : Profile) (s : Stand) (l : Whole) (first high : ℕ) (foun
   pub only : Only trying steps
   pub leads : LeadsOn f (at_pass s l first) (outcome_lines s.epoch found) (at_pass s (triples 0 steps ++ l) last)
 
+-- in each case it computes, or is given
 below_after : (o : Option Outcome) (page last high : ℕ) → page < high → Below page last → Below high (last_after o page last)
-below_after None page last high lt below x le some = below x (omega (arith, lt, le)) some
-below_after (Some o) page last high lt below x le some = omega (arith, lt, le)
+below_after o page last high lt below x le is = search arith
 
 none_passed : (f : Profile) (s : Stand) (l : Whole) (first high : ℕ) (steps : List Made) → Below high first → steps ≡ [] → Passed f s l first high [] steps
 none_passed f s l first high steps below none = record {
@@ -235,7 +238,8 @@ tries_pass f valid s l first low high (t ∷ earlier) steps may legal le below f
     let piece : List Made = h.0 in
     let before : List Made = h.1 in
     let whole : Legal f (triples 0 (piece ++ before) ++ l) = subst (λ ms. Legal f (triples 0 ms ++ l)) h.4 legal in
-    let old : Passed f s l first t.page (outcomes_in earlier) before = tries_pass f valid s l first low t.page earlier before may (legal_earlier f 0 piece before l whole) falls.0 below falls.2 h.3 in
+    let old : Passed f s l first t.page (outcomes_in earlier) before
+    = tries_pass f valid s l first low t.page earlier before may (legal_earlier f 0 piece before l whole) falls.0 below falls.2 h.3 in
     let l1 : Whole = triples 0 before ++ l in
     let one : IsTried f s l1 t.page old.last t.outcome piece
     = try_page f valid s l1 t.page old.last t.outcome piece (pass_on s l before old.only may) (old.below t.page (omega arith)) (subst (Legal f) (both_pieces 0 piece before l) whole) h.2 in
@@ -255,8 +259,7 @@ raised low high more [] le falls = tt
 raised low high more (x ∷ xs) le falls = (falls.0, (omega (arith, falls.1, le)), falls.2)
 
 set_more : (t : Bool) (n m : ℕ) (xs : List ℕ) → Descends (64 * n) (64 * n + m) xs → Descends (64 * n) (64 * n + suc m) (if t then (64 * n + m) ∷ xs else xs)
-set_more true n m xs falls = (omega arith, omega arith, falls)
-set_more false n m xs falls = raised (64 * n) (64 * n + m) (64 * n + suc m) xs (omega arith) falls
+set_more t n m xs falls = search (arith, raised)
 
 set_falls : (n value m : ℕ) → Descends (64 * n) (64 * n + m) (pages_set n value m)
 set_falls n value zero = tt
@@ -266,7 +269,7 @@ same_head : {A : Type 0} {x y : A} {xs ys : List A} → x ∷ xs ≡ y ∷ ys �
 same_head same = cc
 
 -- The pages of a pass are tried upwards, each once, and each outcome may come.
-pub words_pass : (f : Profile) → IsValid f → (s : Stand) (l : Whole) (n : ℕ) (words : List WordRead) (steps : List Made) → MayPass s l
+words_pass : (f : Profile) → IsValid f → (s : Stand) (l : Whole) (n : ℕ) (words : List WordRead) (steps : List Made) → MayPass s l
     → Legal f (triples 0 steps ++ l) → map (λ w. w.number) words ≡ numbers_below n
     → InTurn (WordSteps f.age s.epoch) words steps → Passed f s l 0 (64 * n) (outcomes_in (all_tried words)) steps
 words_pass f valid s l zero [] steps may legal numbers h = none_passed f s l 0 (64 * 0) steps (λ x le some. some) h
@@ -285,8 +288,10 @@ words_pass f valid s l (suc n) (w ∷ words) steps may legal numbers h =
     let legal2 : Legal f (triples 0 after ++ l2) = subst (Legal f) (both_pieces 0 piece before l ∙ there) whole in
     let may2 : MayPass s l2 = pass_on s l1 look (refl, tt) (pass_on s l before old.only may) in
     let falls : Descends (64 * n) (64 * suc n) (map (λ (t : Tried). t.page) w.tried)
-    = raised (64 * n) (64 * n + 64) (64 * suc n) (map (λ (t : Tried). t.page) w.tried) (omega arith) (subst (Descends (64 * n) (64 * n + 64)) (sym (h.2.pages_are ∙ ap (λ m. pages_set m w.value 64) (same_head numbers))) (set_falls n w.value 64)) in
-    let new : Passed f s l2 old.last (64 * suc n) (outcomes_in w.tried) after = tries_pass f valid s l2 old.last (64 * n) (64 * suc n) w.tried after may2 legal2 (omega arith) old.below falls h.2.tries in
+    = raised (64 * n) (64 * n + 64) (64 * suc n) (map (λ (t : Tried). t.page) w.tried) (omega arith)
+    (subst (Descends (64 * n) (64 * n + 64)) (sym (h.2.pages_are ∙ ap (λ m. pages_set m w.value 64) (same_head numbers))) (set_falls n w.value 64)) in
+    let new : Passed f s l2 old.last (64 * suc n) (outcomes_in w.tried) after
+    = tries_pass f valid s l2 old.last (64 * n) (64 * suc n) w.tried after may2 legal2 (omega arith) old.below falls h.2.tries in
     record {
       last = new.last;
       below = new.below;
@@ -309,7 +314,8 @@ module _ (f : Profile) (valid : IsValid f) (p : Progress) (s : Stand) (ts : List
       let examined : Stand = record s { due = Examines 0 ∷ []; left = ts } in
       let there : triples 0 steps ++ p.list ≡ triples 0 h.read ++ l1 = ap (λ ms. triples 0 ms ++ p.list) h.steps_are ∙ both_pieces 0 h.read look p.list in
       let may : MayPass examined l1 = record { tidy = tidy_piece 0 look p.list tells.tidy (look_tidy Word.Epoch s.epoch (part 0 p.list) refl (tells.tidy 0)); known = refl } in
-      let all : Passed f examined l1 0 (64 * vector_words f.pages) (outcomes_in (all_tried h.words)) h.read = words_pass f valid examined l1 (vector_words f.pages) h.words h.read may (subst (Legal f) there legal) h.numbers_are h.order in
+      let all : Passed f examined l1 0 (64 * vector_words f.pages) (outcomes_in (all_tried h.words)) h.read
+      = words_pass f valid examined l1 (vector_words f.pages) h.words h.read may (subst (Legal f) there legal) h.numbers_are h.order in
       let last : Stand = at_pass examined (triples 0 h.read ++ l1) all.last in
       let end : Stand = with_due last [] in
       let head : List ℕ = line_of (Record.Said 0 (Said.Pass s.epoch)) in
@@ -339,3 +345,108 @@ module _ (f : Profile) (valid : IsValid f) (p : Progress) (s : Stand) (ts : List
   pub pass_comes : (epoch : ℕ) (found : List (ℕ × Outcome)) (steps : List Made) → PassSteps f 0 epoch found steps → Legal f (triples 0 steps ++ p.list)
       → Comes f s (records_of_pass 0 epoch found) (after_pass p epoch found steps) ts
   pass_comes epoch found steps h legal = search (arith, legal_earlier, passed)
+
+-- ---- A keeper's sweep lowers just the guards whose blocks have ended, or all; and it makes no event
+-- ---- their lines
+lowered_lead : (f : Profile) (u : Stand) (guards : List Known) (more : List Due)
+    → LeadsOn f (record u { due = map lowered_due guards ++ more }) (lines_by (map lowered_record guards)) (record u { due = more })
+lowered_lead f u [] more = on_same refl
+lowered_lead f u (guard ∷ guards) more = on_both (on_line (inr (refl, refl))) (lowered_lead f u guards more)
+
+-- the records are those of the check
+lowered_are : (keeper : ℕ) (guards : List Guard) → map (lowered_by keeper) guards ≡ map lowered_record (map (raised_by keeper) guards)
+lowered_are keeper [] = refl
+lowered_are keeper (guard ∷ guards) = ap (λ (rs : List Record). lowered_by keeper guard ∷ rs) (lowered_are keeper guards)
+
+-- ---- what goes down
+-- of a guard that is in both lists or in neither the rest decides
+one_is : (es : List Event) (all t : Bool) (k : ℕ) (guard : Guard) (guards : List Guard) (first : List Made) (kept after : List Guard) (said more : List Record)
+    → t ≡ is_down es all guard → SweptOne t k guard first kept after said more
+    → after ≡ staying es all guards → more ≡ map (lowered_by k) (going es all guards)
+    → (kept ≡ staying es all (guard ∷ guards)) × (said ≡ map (lowered_by k) (going es all (guard ∷ guards)))
+one_is es all t k guard guards first kept after said more down one stay go = search arith
+
+pub record IsSwept (es : List Event) (k : ℕ) (all : Bool) (guards kept : List Guard) (said : List Record) (steps : List Made) (l : Whole) : Type 0 where
+  pub stay : kept ≡ staying es all guards
+  pub go : said ≡ map (lowered_by k) (going es all guards)
+  -- The events so far are those of the list.
+  pub shown : visible (triples k steps ++ l) ≡ es
+
+module _ (f : Profile) (valid : IsValid f) (k : ℕ) where
+  -- the life word of a guard's block tells how many blocks ended at its address
+  word_tells : (l : Whole) (guard : Guard) (word : ℕ) → Legal f (triples k (life_look guard word) ++ l) → address_of guard.block.name % 16 ≡ 0
+      → turn_of word ≡ ends_in (visible l) (address_of guard.block.name)
+  word_tells l guard word legal aligned =
+      let a : ℕ = address_of guard.block.name in
+      let page : a / 4096 ≡ a / 16 / 256 = omega arith in
+      let grain : a % 4096 / 16 ≡ a / 16 % 256 = omega arith in
+      let here : word ≡ word_after l (life_word_at (a / 16)) = legal.0.answer_is ∙ (λ i. word_after l (Word.Life (page i) (grain i))) in
+      ap turn_of here
+      ∙ turn_is f (a / 16) (word_after l (life_word_at (a / 16))) (live_in (visible l) a) (gives_in (visible l) a) (ends_in (visible l) a) (life_at f l valid legal.1 a aligned)
+
+  -- looks and what is given back are no events
+  quiet_one : (t : Bool) (guard : Guard) (first : List Made) (kept after : List Guard) (said more : List Record) (word : ℕ) (l : Whole)
+      → SweptOne t k guard first kept after said more → visible (triples k (first ++ life_look guard word) ++ l) ≡ visible l
+  quiet_one true guard first kept after said more word l one =
+      ap visible (sym (triples_append k first (life_look guard word) l)) ∙ visible_piece k first (triples k (life_look guard word) ++ l)
+      ∙ ap (λ (es : List Event). es ++ visible (triples k (life_look guard word) ++ l)) (no_events giving_back refl k (part k (triples k (life_look guard word) ++ l)) first one.0.kinds)
+      ∙ visible_piece k (life_look guard word) l ∙ ap (λ (es : List Event). es ++ visible l) (no_events (LookLife ∷ []) refl k (part k l) (life_look guard word) (refl, tt))
+  quiet_one false guard first kept after said more word l one = search (arith, visible_piece, no_events)
+
+  -- THE SWEEP
+  pub swept_is : (all : Bool) (guards kept : List Guard) (said : List Record) (steps : List Made) (l : Whole) (es : List Event) → visible l ≡ es
+      → AreAligned guards → Swept all k guards kept said steps → Legal f (triples k steps ++ l)
+      → IsSwept es k all guards kept said steps l
+  swept_is all [] kept said steps l es shown aligned h legal = record { stay = h.0; go = h.1; shown = ap (λ (ms : List Made). visible (triples k ms ++ l)) h.2 ∙ shown }
+  swept_is all (guard ∷ guards) kept said steps l es shown aligned h legal =
+      let word : ℕ = h.0 in
+      let first : List Made = h.1 in
+      let rest : List Made = h.2 in
+      let look : List Made = life_look guard word in
+      let all_legal : Legal f (triples k (rest ++ (first ++ look)) ++ l) = subst (λ (ms : List Made). Legal f (triples k ms ++ l)) h.7 legal in
+      let first_legal : Legal f (triples k (first ++ look) ++ l) = legal_earlier f k rest (first ++ look) l all_legal in
+      let look_legal : Legal f (triples k look ++ l) = legal_earlier f k first look l first_legal in
+      let l2 : Whole = triples k (first ++ look) ++ l in
+      let quiet : visible l2 ≡ es = quiet_one (all || is_over guard word) guard first kept h.3 said h.4 word l h.5 ∙ shown in
+      let more = swept_is all guards h.3 h.4 rest l2 es quiet aligned.1 h.6 (subst (Legal f) (sym (triples_append k rest (first ++ look) l)) all_legal) in
+      search (arith, word_tells, one_is, triples_append)
+
+-- ---- the lines of a sweep
+-- the guards that stay up
+abbrev pub up_after : Stand → ℕ → Bool → List Known
+up_after s keeper all = filter (λ guard. not (goes_down s.events keeper all guard)) s.guards
+
+pub sweep_leads : (f : Profile) (s : Stand) (keeper : ℕ) (all : Bool) (more : List Due) (ts : List Task) (book : List Guard) (said : List Record)
+    → guards_of keeper s.guards ≡ map (raised_by keeper) book
+    → said ≡ map (lowered_by keeper) (going s.events all book)
+    → LeadsOn f (record (sweeping s keeper all more) { left = ts }) (lines_by said) (record s { guards = up_after s keeper all; due = more; left = ts })
+sweep_leads f s keeper all more ts book said told are =
+    let u : Stand = record s { guards = up_after s keeper all; left = ts } in
+    let gone : List Known = filter (goes_down s.events keeper all) s.guards in
+    on_as
+    (ap lines_by (are ∙ lowered_are keeper (going s.events all book))
+    ∙ ap (λ (gs : List Known). lines_by (map lowered_record gs)) (sym (going_told s.events keeper all s.guards book told))) refl
+    (lowered_lead f u gone more)
+
+-- ---- THE CLOSE of a keeper
+module _ (f : Profile) (valid : IsValid f) (p : Progress) (s : Stand) (ts : List Task) (tells : Tells p s) (due : s.due ≡ []) (keeper : ℕ) where
+  -- The lines of the guards that a keeper lowers at the close lead the check to what the act comes to.
+  pub lowered_comes : (steps : List Made) (said : List Record) → IsLowered f keeper (part keeper p.list) (p.books keeper) steps said
+      → Legal f (triples keeper steps ++ p.list) → s.left ≡ Does (Lowers keeper) ∷ ts
+      → Comes f s said (after_lowering p keeper steps said) ts
+  lowered_comes steps said h legal left =
+      let swept = swept_is f valid keeper true (p.books keeper) [] said steps p.list s.events (sym tells.events) (tells.books.aligned keeper) h.sweep.swept legal in
+      let end : Stand = record s { guards = up_after s keeper true; due = []; left = ts } in
+      record {
+        end = end;
+        leads = on_both (on_task due left) (sweep_leads f s keeper true [] ts (p.books keeper) said (tells.books.told keeper) swept.go);
+        tells = record {
+          events = sym swept.shown;
+          names = tells.names;
+          logs = tells.logs;
+          awake = tells.awake;
+          epoch = tells.epoch ∙ sym (epoch_kept sweeping_kinds refl keeper steps p.list h.sweep.kinds);
+          books = booked_sweep p.books s.events keeper true s.guards [] swept.stay tells.books;
+          tidy = tidy_piece keeper steps p.list tells.tidy (sweep_tidy f keeper true (p.books keeper) [] said steps (part keeper p.list) h.sweep (tells.tidy keeper));
+        };
+      }

@@ -5,7 +5,7 @@ use Rattle.std.specs.List.{AllByRecursion, filter}
 use Rattle.pas_profile.specs.{Directories.IsKind, Profiles.IsAdmitted, Profiles.IsValid, Requests.kind_of_route, Routes.IsRouteOf, Routes.room_by}
 use Rattle.pas_profile.specs.{Blocks.address_of}
 use Rattle.pas_profile.specs.declared.{directory.Route.Route, profile.Profile.Profile, event.Event.Event, name.Block.Block}
-use Rattle.pas_profile.proofs.{ClassFacts.class_known, ClassFacts.route_is, Sizes.class_size_le}
+use Rattle.pas_profile.proofs.Sizes.{class_known, route_is, class_size_le}
 use Rattle.pas_trace.specs.Acts.{Act, StopsIdle, Ends, Lowers, act_kept, numbers_from, acts_from, acts_of, acts_of_chore, acts_of_op, acts_of_ops, acts_of_work}
 use Rattle.pas_trace.specs.Acts.{close_acts, phase_acts, threads_where, Operates, Guards, Ticks, MakesPass, MarksPhase, Wakes, MarksClose}
 use Rattle.pas_trace.specs.Asked.{epoch_of, keeper_in, keeper_of, of_task, request_of, work_of, request_in}
@@ -71,7 +71,7 @@ guarding_no_pass : (s : Stand) (keeper k : ℕ) (o : Option Request) → BeginsN
 guarding_no_pass s keeper k o no_pass = search (arith, lowered_no_pass)
 
 -- A task that is begun puts no outcomes of a pass first where none came first.
-pub begins_no_pass : (f : Profile) (s : Stand) (t : ToDo) → BeginsNoPass s.due → BeginsNoPass (begun f s t).due
+begins_no_pass : (f : Profile) (s : Stand) (t : ToDo) → BeginsNoPass s.due → BeginsNoPass (begun f s t).due
 begins_no_pass f s t no_pass = search (arith, what_no_pass, guarding_no_pass, lowered_no_pass, stopping_no_pass, entries_no_pass)
 
 -- ---- what is due then
@@ -99,10 +99,12 @@ module _ (f : Profile) (s : Stand) (t : ToDo) (ts : List ToDo) (due : s.due ≡ 
     done = (λ done. subst (λ (u : Stand). u.due ≡ []) same_ready done, λ done. subst (λ (u : Stand). u.due ≡ []) (sym same_ready) done);
   }
     where
+      -- A line that is taken before the task's end is taken behind it.
       there : (line : List ℕ) (next : Stand) → Takes f s line next → Takes f (after_task f s t ts) line next
       there line next (inl x) = absurd (no_first f s s.due no_pass_before line next x)
       there line next (inr y) = inr (subst (λ (u : Stand). TakesDue f u u.due line next) same_ready y)
 
+      -- And one that is taken behind it is taken before.
       back : (line : List ℕ) (next : Stand) → Takes f (after_task f s t ts) line next → Takes f s line next
       back line next is = search (arith, no_first, no_pass_then, same_ready)
 
@@ -191,9 +193,8 @@ module _ (f : Profile) (limit : ℕ) (valid : IsValid f) (few : limit ≤ 2 ^ 32
 
   kept_fits : (op : Op) (o : Option ℕ) → IsThread op.actor → FitsWhat f op.actor op.what
       → MatchOption o (Unit {0}) (λ keeper. (op.actor < keeper) × (keeper < 2 ^ 8)) → FitsAct f (act_kept o op)
-  kept_fits op None thread fits kept = (thread, fits)
-  kept_fits op (Some keeper) thread fits kept =
-      (thread, fits, (omega (arith, kept.0), kept.1), λ same. absurd (omega (arith, kept.0, same)))
+  -- in each case the bounds are given
+  kept_fits op o thread fits kept = search arith
 
   work_fits : (idle : List ℕ) (op : Op) (work : Work) → AreThreads idle → work_of op.what ≡ work → IsPlanned f limit op → AllFit f (acts_of_work idle op work)
   work_fits idle op work all is planned = search (arith, task_fits, kept_fits, chore_fits)
@@ -220,8 +221,8 @@ module _ (f : Profile) (limit : ℕ) (valid : IsValid f) (few : limit ≤ 2 ^ 32
   later_fits n [] short planned = close_fits
   later_fits n (phase ∷ phases) short planned = (
     omega (arith, short),
-    all_both f (phase_acts f.threads phase) (acts_from f.threads keepers (n + 1) phases) (phase_fits phase (planned_front f limit phase (all_ops phases) planned))
-        (later_fits (n + 1) phases (omega (arith, short)) (planned_back f limit phase (all_ops phases) planned)),
+    all_both f (phase_acts f.threads phase) (acts_from f.threads keepers (n + 1) phases) (phase_fits phase (planned_front f limit phase
+        (all_ops phases) planned)) (later_fits (n + 1) phases (omega (arith, short)) (planned_back f limit phase (all_ops phases) planned)),
   )
 
   -- The numbers of all acts of a plan fit their places.
@@ -263,18 +264,23 @@ lowered_fit : (f : Profile) (es : List Event) (keeper : ℕ) (all : Bool) (guard
     → FitsNext f (map lowered_due (filter (goes_down es keeper all) guards) ++ more)
 lowered_fit f es keeper all [] more thread fits = fits
 lowered_fit f es keeper all (guard ∷ guards) more thread fits =
-    lowered_first f es keeper all guard (filter (goes_down es keeper all) guards) more thread (lowered_fit f es keeper all guards more thread fits) (goes_down es keeper all guard) refl
+    lowered_first f es keeper all guard (filter (goes_down es keeper all) guards) more thread (lowered_fit f es keeper all guards more thread fits)
+    (goes_down es keeper all guard) refl
 
 module _ (f : Profile) (s : Stand) (due : s.due ≡ []) (small : s.epoch < 2 ^ 64) (heaps : HaveHeaps s.names) where
+  -- An act that leaves nothing due is begun well.
   same : IsBegun f s s
   same = record { fits = subst (FitsNext f) (sym due) tt; events = refl; epoch = small; heaps = heaps }
 
+  -- So is one that says a line.
   said : (k : ℕ) (words : Said) → IsThread k → IsBegun f s (tells s k words)
   said k words thread = record { fits = inl thread; events = refl; epoch = small; heaps = heaps }
 
+  -- So is a flush of a log.
   flushes : (k : ℕ) (log : List Entry) (more : List Due) → IsThread k → FitsNext f more → IsBegun f s (flushing s k log more)
   flushes k log more thread fits = record { fits = entries_fit f k (s.logs k) more thread fits; events = refl; epoch = small; heaps = heaps }
 
+  -- So is a free that is logged.
   logs : (full : Bool) (k : ℕ) (entry : Entry) → IsThread k → IsBegun f s (logging full s k entry [])
   logs true k entry thread = flushes k (entry ∷ []) [] thread tt
   logs false k entry thread = record { fits = tt; events = refl; epoch = small; heaps = heaps }
@@ -282,6 +288,7 @@ module _ (f : Profile) (s : Stand) (due : s.due ≡ []) (small : s.epoch < 2 ^ 6
   frees_at : (inside aligned : Bool) (k : ℕ) (entry : Entry) → IsThread k → IsBegun f s (freeing_at inside aligned s k entry)
   frees_at inside aligned k entry thread = search (arith, said, logs)
 
+  -- So is a free.
   frees : (k : ℕ) (entry : Entry) → IsThread k → IsBegun f s (freeing f s k entry)
   frees k entry thread = frees_at (is_page f (address_of entry.name / 4096)) (is_aligned entry.name) k entry thread
 
@@ -292,12 +299,16 @@ module _ (f : Profile) (s : Stand) (due : s.due ≡ []) (small : s.epoch < 2 ^ 6
       → IsBegun f s (remaking suited s k (request_for old name size align) old)
   remakes_as suited k name size align old one thread fits = search (arith, heaps_more, same_Some)
 
+  -- So is a reallocation.
   remakes : (k name heap size align : ℕ) (block : Option (Option Block)) → ((b : Block) → block ≡ Some (Some b) → b.heap < 32) → IsThread k
       → FitsHeaps f k (record { name = name; heap = heap; size = size; align = align }) → IsBegun f s (remaking_named s k name size align block)
   remakes k name heap size align None one thread fits = same
-  remakes k name heap size align (Some None) one thread fits = record { fits = inl thread; events = refl; epoch = small; heaps = heaps_more s.names name None heaps (λ b is. absurd (none-some b is)) }
-  remakes k name heap size align (Some (Some old)) one thread fits = remakes_as (suits old size align) k name size align old (one old refl) thread (fits.1 old.heap (one old refl))
+  remakes k name heap size align (Some None) one thread fits =
+      record { fits = inl thread; events = refl; epoch = small; heaps = heaps_more s.names name None heaps (λ b is. absurd (none-some b is)) }
+  remakes k name heap size align (Some (Some old)) one thread fits =
+      remakes_as (suits old size align) k name size align old (one old refl) thread (fits.1 old.heap (one old refl))
 
+  -- So is each operation of a thread.
   operates : (k : ℕ) (what : What) → IsThread k → FitsWhat f k what → IsBegun f s (begun_what f s k what)
   operates k (Alloc name heap size align) thread fits = record { fits = fits.1 heap fits.0; events = refl; epoch = small; heaps = heaps }
   operates k (Guarded keeper name heap size align) thread fits = record { fits = fits.1 heap fits.0; events = refl; epoch = small; heaps = heaps }
@@ -310,13 +321,17 @@ module _ (f : Profile) (s : Stand) (due : s.due ≡ []) (small : s.epoch < 2 ^ 6
   operates k Stop thread fits = flushes k [] [] thread tt
   operates k other thread fits = same
 
+  -- So is the stop of a thread's cache.
   stops : (idle : Bool) (k : ℕ) → IsThread k → IsBegun f s (stopping idle s k)
-  stops true k thread = flushes k [] (Writes (Record.Said 0 (Said.Stopped k)) ∷ []) thread (inr ((omega arith, thread.1), no_outcome (Record.Said 0 (Said.Stopped k)) (λ e. refl)))
+  stops true k thread = flushes k [] (Writes (Record.Said 0 (Said.Stopped k)) ∷ []) thread
+      (inr ((omega arith, thread.1), no_outcome (Record.Said 0 (Said.Stopped k)) (λ e. refl)))
   stops false k thread = same
 
+  -- So is a sweep of a keeper.
   sweeps : (keeper : ℕ) (all : Bool) (more : List Due) → IsThread keeper → FitsNext f more → IsBegun f s (sweeping s keeper all more)
   sweeps keeper all more thread fits = record { fits = lowered_fit f s.events keeper all s.guards more thread fits; events = refl; epoch = small; heaps = heaps }
 
+  -- So is a guarded try.
   guards : (keeper k : ℕ) (o : Option Request) → MatchOption o (Unit {0}) (FitsHeaps f k) → IsThread keeper → keeper ≢ k → IsBegun f s (guarding s keeper k o)
   guards keeper k None fits thread apart = same
   guards keeper k (Some r) fits thread apart =
@@ -324,6 +339,7 @@ module _ (f : Profile) (s : Stand) (due : s.due ≡ []) (small : s.epoch < 2 ^ 6
       sweeps keeper false (Tries keeper k r false ∷ []) thread
       (record { own = own; kept = record { actor = thread.1; name = own.name; heap = own.heap; kind = own.kind; room = own.room }; apart = apart })
 
+  -- So is each act that fits.
   begins : (act : Act) → FitsAct f act → IsBegun f s (begun_act f s act)
   begins (Operates op) fits = operates op.actor op.what fits.0 fits.1
   begins (Guards keeper op) fits = guards keeper op.actor (request_in op.what) fits.1 fits.2 fits.3

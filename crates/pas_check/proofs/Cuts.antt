@@ -45,7 +45,8 @@ onto_first : (k n : ℕ) (ds rest : List ℕ) → is_line (digits_onto k 10 fals
 onto_first zero n ds rest = refl
 onto_first (suc k) n ds rest =
     let d : ℕ = digit_glyph false (n % 10) in
-    either_first (n / 10 == 0) (d ∷ ds) (digits_onto k 10 false (n / 10) (d ∷ ds)) rest (ds ++ rest) (glyph_first (n % 10) ds rest) (onto_first k (n / 10) (d ∷ ds) rest ∙ glyph_first (n % 10) ds rest)
+    either_first (n / 10 == 0) (d ∷ ds) (digits_onto k 10 false (n / 10) (d ∷ ds)) rest (ds ++ rest) (glyph_first (n % 10) ds rest)
+    (onto_first k (n / 10) (d ∷ ds) rest ∙ glyph_first (n % 10) ds rest)
 
 -- A text with a number in front is a line exactly where it is one without.
 pub number_first : (n : ℕ) (rest : List ℕ) → is_line (decimal n ++ rest) ≡ is_line rest
@@ -54,8 +55,8 @@ number_first n rest = onto_first 64 n [] rest
 
 hex_first : (k n : ℕ) (rest : List ℕ) → is_line (hex_digits k n ++ rest) ≡ is_line rest
 hex_first zero n rest = refl
-hex_first (suc k) n rest =
-    ap (λ (x : Bool). if x then is_nothing (hex_digits k n ++ rest) else is_line (hex_digits k n ++ rest)) (hex_no_newline (n / 16 ^ k % 16)) ∙ hex_first k n rest
+hex_first (suc k) n rest = ap (λ (x : Bool). if x then is_nothing (hex_digits k n ++ rest) else is_line (hex_digits k n ++ rest))
+    (hex_no_newline (n / 16 ^ k % 16)) ∙ hex_first k n rest
 
 name_first : (name : Name) (rest : List ℕ) → is_line (name_text name ++ rest) ≡ is_line rest
 name_first name rest = hex_first 8 (address_of name) (codes " turn " ++ (decimal name.turn ++ rest)) ∙ number_first name.turn rest
@@ -84,6 +85,7 @@ event_line (Event.Reject k name (Why.SizeDiffers room)) =
     number_first k (codes " size-differs" ++ (name_text name ++ (codes " asked " ++ (decimal room ++ codes "\n"))))
     ∙ name_first name (codes " asked " ++ (decimal room ++ codes "\n")) ∙ number_first room (codes "\n")
 
+-- Words between two numbers make a line where the last number does.
 numbered : (k : ℕ) (words : List ℕ) (n : ℕ) → is_line (words ++ (decimal n ++ codes "\n")) ≡ is_line (decimal n ++ codes "\n")
     → is_line (decimal k ++ (words ++ (decimal n ++ codes "\n"))) ≡ true
 numbered k words n passes = number_first k (words ++ (decimal n ++ codes "\n")) ∙ passes ∙ number_first n (codes "\n")
@@ -118,17 +120,13 @@ record_line r = search (arith, event_line, said_line, number_first)
 
 -- .. and that of the totals
 pub totals_end : (deeds backed live given ended : ℕ) → is_line (totals_text deeds backed live given ended) ≡ true
-totals_end deeds backed live given ended =
-    let ends : List ℕ = codes " ended " ++ (decimal ended ++ codes "\n") in
-    let gives : List ℕ = codes " given " ++ (decimal given ++ ends) in
-    let lives : List ℕ = codes " live " ++ (decimal live ++ gives) in
-    number_first deeds (codes " backed " ++ (decimal backed ++ lives)) ∙ number_first backed lives ∙ number_first live gives ∙ number_first given ends ∙ number_first ended (codes "\n")
+totals_end deeds backed live given ended = simp number_first
 
 -- THE LINES of records in front of a text
 pub cut_records : (rs : List Record) (rest : List ℕ) → lines_in (lines_of rs ++ rest) ≡ map line_of rs ++ lines_in rest
 cut_records [] rest = refl
-cut_records (r ∷ rs) rest =
-    ap lines_in (append_assoc (line_of r) (lines_of rs) rest) ∙ cut_line (line_of r) (lines_of rs ++ rest) (record_line r) ∙ ap (λ ls. line_of r ∷ ls) (cut_records rs rest)
+cut_records (r ∷ rs) rest = ap lines_in (append_assoc (line_of r) (lines_of rs) rest) ∙ cut_line (line_of r) (lines_of rs ++ rest) (record_line r)
+    ∙ ap (λ ls. line_of r ∷ ls) (cut_records rs rest)
 
 -- ---- a text that is read byte by byte
 -- no newline stands in these bytes: they are at the front of a line, whatever follows
@@ -141,12 +139,14 @@ front_before text zero none rest = refl
 front_before [] (suc n) none rest = refl
 front_before (b ∷ bs) (suc n) none rest =
     let t : (b == 10) ≡ false = false_from_ne_true (b == 10) (none 0 (omega arith) (omega arith)) in
-    ap (λ (x : Bool). if x then is_nothing (take n bs ++ rest) else is_line (take n bs ++ rest)) t ∙ front_before bs n (λ k low high. none (suc k) (omega arith) (omega (arith, high))) rest
+    ap (λ (x : Bool). if x then is_nothing (take n bs ++ rest) else is_line (take n bs ++ rest)) t
+    ∙ front_before bs n (λ k low high. none (suc k) (omega arith) (omega (arith, high))) rest
 
 -- A text without a line feed, with one behind it, is a line.
 pub front_ends : (xs : List ℕ) (b : ℕ) → IsFront xs → b ≡ 10 → is_line (xs ++ b ∷ []) ≡ true
 front_ends xs b front e = front (b ∷ []) ∙ ap (λ c. is_line (c ∷ [])) e
 
+-- A text with a last byte isn't nothing.
 something : (bs : List ℕ) (c : ℕ) → is_nothing (bs ++ c ∷ []) ≡ false
 something [] c = refl
 something (b ∷ bs) c = refl
@@ -186,8 +186,8 @@ line_some (b ∷ bs) is = omega arith
 -- where the text goes on with it, it is the next line
 pub cut_here : (text wanted : List ℕ) (b : ℕ) → drop b text ≡ wanted ++ drop (length wanted) (drop b text) → is_line wanted ≡ true
     → lines_in (drop b text) ≡ wanted ∷ lines_in (drop (b + length wanted) text)
-cut_here text wanted b starts is =
-    ap lines_in starts ∙ cut_line wanted (drop (length wanted) (drop b text)) is ∙ ap (λ (rest : List ℕ). wanted ∷ lines_in rest) (drop-drop (length wanted) b text)
+cut_here text wanted b starts is = ap lines_in starts ∙ cut_line wanted (drop (length wanted) (drop b text)) is
+    ∙ ap (λ (rest : List ℕ). wanted ∷ lines_in rest) (drop-drop (length wanted) b text)
 
 -- the text goes on with its next line
 pub goes_on_with : (text line : List ℕ) (rest : List (List ℕ)) → lines_in text ≡ line ∷ rest → text ≡ line ++ concat rest

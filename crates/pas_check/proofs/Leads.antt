@@ -64,7 +64,8 @@ seen_go f first s seen far = subst (MayGo f first) (append-nil seen) ((far.go []
 
 take_one : (seen : List (List ℕ)) (line : List ℕ) (rest : List (List ℕ)) → take (length seen + 1) (seen ++ line ∷ rest) ≡ seen ++ line ∷ []
 take_one [] line rest = refl
-take_one (x ∷ seen) line rest = let e : suc (length seen) + 1 ≡ suc (length seen + 1) = omega arith in ap (λ n. take n (x ∷ (seen ++ line ∷ rest))) e ∙ ap (λ ys. x ∷ ys) (take_one seen line rest)
+take_one (x ∷ seen) line rest = let e : suc (length seen) + 1 ≡ suc (length seen + 1) = omega arith in ap (λ n. take n (x ∷ (seen ++ line ∷ rest))) e
+    ∙ ap (λ ys. x ∷ ys) (take_one seen line rest)
 
 -- THE LINE that can't be taken is the first that isn't allowed
 pub refused : (f : Profile) (first s : Stand) (seen : List (List ℕ)) (line : List ℕ) (rest : List (List ℕ)) → SoFar f first seen s

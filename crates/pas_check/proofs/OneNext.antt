@@ -1,26 +1,124 @@
--- A line that may come leads to one state.
-use Rattle.std.proofs.Common.{◌≡◌, ℕ, ◌/◌, ◌%◌, ◌^◌, ◌<◌, ◌≤◌, ◌==◌, ◌||◌, Bool, true, false, if◌then◌else◌, List, [], ◌∷◌, Option, Some, None, inl, inr, refl}
-use Rattle.std.proofs.Common.{ap, sym, subst, ◌∙◌, arith, eqb-true, eq-eqb, ne_eqb, ◌≢◌, suc, ◌⊎◌, ◌++◌, length}
-use Rattle.std.proofs.lemmas.Option.{none-some, same_Some}
-use Rattle.pas_profile.specs.{Profiles.IsPage, Profiles.IsValid, Blocks.address_of, Blocks.grain_of, Blocks.length_of}
+-- The event of an entry of a log. In a run it is the one that the definition names; and there is only one.
+use Rattle.std.proofs.Common.{◌≡◌, ◌≢◌, ℕ, ◌<◌, ◌≤◌, List, Option, Some, None, inl, inr, refl, ap, sym, subst, ◌∙◌, arith, ◌/◌, ◌%◌, ◌^◌, ◌==◌, ◌||◌, Bool}
+use Rattle.std.proofs.Common.{true, false, if◌then◌else◌, [], ◌∷◌, eqb-true, eq-eqb, ne_eqb, suc, ◌⊎◌, ◌++◌, length, Result, is_ok, MatchBool, ◌+◌, ◌*◌, ◌-◌}
+use Rattle.std.proofs.Common.{nat_le, nat_lt, leb-true, ltb-true, le-leb, lt-ltb}
+use Rattle.std.proofs.lemmas.{Option.none-some, Option.same_Some, Bool.and_from, Bool.and_parts, Bool.cases_lt}
+use Rattle.pas_profile.specs.declared.{profile.Profile.Profile, name.Block.Block, name.Name.Name, event.Event.Event, event.Why.Why, event.Why.TheVariants.Ended}
+use Rattle.pas_profile.specs.declared.{event.Why.TheVariants.NoBlock, event.Why.TheVariants.SizeDiffers, directory.Directory.Directory, event.Outcome.Outcome}
+use Rattle.pas_profile.specs.declared.{directory.Route.TheVariants.Class}
+use Rattle.pas_profile.specs.{Blocks.address_of, Profiles.IsPage, Profiles.IsValid, Blocks.grain_of, Blocks.length_of, Directories.IsKind, Classes.IsClass}
+use Rattle.pas_profile.specs.{Requests.kind_of_class, Requests.route_in, Routes.IsRouteOf}
+use Rattle.pas_machine.specs.{Laws.IsCounted, Places.block_of, Places.IsEach}
+use Rattle.pas_machine.specs.Machine.{Run, Admits, IsLive, IsReason, IsPlace}
+use Rattle.pas_machine.specs.State.{Live, live_in, gives_in, ends_in, deed_in}
+use Rattle.pas_machine.proofs.{LiveBlocks.all_counted, Verdicts.never_of}
+use Rattle.pas_check.specs.Calls.{Differs, outcome_in, event_in, IsEventRead, IsRead, IsStepped, EntryTaken, PreparingTaken, GiveTaken, IsGiven, IsWanted}
+use Rattle.pas_check.specs.Calls.{LiesOn, RefusalSeen, RefusesBy, outcome_in_event, outcome_in_said, IsExamined, OutcomeTaken}
+use Rattle.pas_check.specs.States.{Stand, Due, Frees, Serves, Tries, Never, Examines, Shows, with_due, with_one, with_name, Writes, Heads, Totals}
+use Rattle.pas_check.specs.Takes.{MayRefuse, IsEventOf, IsPreparing, IsFor, IsRefusal, directory_of, is_back, serving, MayCome, record_of, after_outcome}
+use Rattle.pas_check.specs.Takes.{TakesRequest, TakesTry, IsOutcome, TakesOutcome, TakesDue, Takes, TakesFirst}
+use Rattle.pas_check.specs.declared.{entry.Entry.Entry, examining.Examined.Examined, serving.Wanted.Wanted}
 use Rattle.pas_bits.proofs.Runs.{first_of_run}
-use Rattle.pas_profile.specs.declared.{directory.Directory.Directory, event.Event.Event, event.Outcome.Outcome, name.Block.Block, name.Name.Name}
-use Rattle.pas_profile.specs.declared.{profile.Profile.Profile, event.Why.Why}
-use Rattle.pas_machine.specs.{Machine.Run, Machine.Admits, State.deed_in}
 use Rattle.pas_steps.specs.Events.{actor_of}
 use Rattle.pas_report.specs.Lines.{line_of, line_of_answer, line_of_event}
 use Rattle.pas_report.specs.declared.record.{Record.Record, Said.Said}
 use Rattle.pas_check.specs.Begins.{has_sides, raising, replacing, past_outcomes, ready}
-use Rattle.pas_check.specs.{Calls.outcome_in, Readings.byte_at, Readings.of_u8, Readings.past_digits}
+use Rattle.pas_check.specs.Readings.{byte_at, of_u8, past_digits}
 use Rattle.pas_check.specs.Ranges.{FitsWhy, FitsEvent, FitsSaid, Fits, FitsEntry}
-use Rattle.pas_check.specs.Bounds.{FitsRequest, FitsFirst, FitsTry, IsSmall, FitsNext, IsOfThread}
+use Rattle.pas_check.specs.Bounds.{FitsRequest, FitsFirst, FitsTry, IsSmall, FitsNext, IsOfThread, IsFew}
 use Rattle.pas_trace.specs.declared.item.Request.{Request}
-use Rattle.pas_check.specs.States.{Due, Frees, Serves, Tries, Never, Examines, Shows, Stand, with_due, with_one, with_name, Writes, Heads, Totals}
-use Rattle.pas_check.specs.Takes.{MayRefuse, IsPreparing, IsFor, IsRefusal, directory_of, is_back, serving, MayCome, record_of, after_outcome, TakesRequest}
-use Rattle.pas_check.specs.Takes.{TakesTry, IsOutcome, TakesOutcome, TakesDue, IsEventOf, Takes, TakesFirst}
-use Rattle.pas_check.specs.declared.{examining.Examined.Examined, entry.Entry.Entry}
-use Rattle.pas_check.proofs.{Entries.one_event, Readings.one_line, Readings.past_number, Readings.u8_back}
+use Rattle.pas_check.proofs.{Readings.one_line, Readings.past_number, Readings.u8_back, Leads.gives_few}
 use Rattle.std.specs.Fmt.{decimal}
+use Rattle.pas_machine.specs.Machines.{IsUncounted, profile_of, StandsFor, Steps}
+use Rattle.pas_machine.specs.declared.{fault.StepFault.StepFault, machine.Machine.Machine}
+use Rattle.pas_bits.specs.Runs.{in_run}
+use Rattle.pas_profile.proofs.Sizes.{class_known, route_is}
+use Rattle.pas_trace.proofs.PassedChecks.{if_some}
+
+-- a live block's turn is the number of ends at its address
+turn_counts : (o : Option Live) (b : Live) (gives ends : ℕ) → o ≡ Some b → IsCounted o gives ends → b.block.name.turn ≡ ends
+turn_counts o b gives ends e h = search arith
+
+live_turn : (f : Profile) (es : List Event) (name : Name) → Run f es → IsLive es name → name.turn ≡ ends_in es (address_of name)
+live_turn f es name run live =
+    sym live.2 ∙ turn_counts (live_in es (address_of name)) live.0 (gives_in es (address_of name)) (ends_in es (address_of name)) live.1
+    (all_counted f es run (address_of name))
+
+-- a name that lives with the room of its entry, if it names one, can't be refused
+no_reason : (f : Profile) (es : List Event) (entry : Entry) → Run f es → IsLive es entry.name → (Differs es entry → ⊥) → (why : Why) → MayRefuse entry why
+    → IsReason es entry.name why → ⊥
+no_reason f es entry run live same why may reason = search (arith, live_turn)
+
+-- THE EVENT of an entry, where it may come next
+pub end_is : (f : Profile) (s : Stand) (k : ℕ) (entry : Entry) → Run f s.events → Admits f s.events (Event.End k entry.name s.epoch)
+    → (Differs s.events entry → ⊥) → IsEventOf s k entry (Event.End k entry.name s.epoch)
+end_is f s k entry run admitted same = inr (no_reason f s.events entry run admitted.1 same, refl)
+
+-- A refusal that the machine admits, for a reason that the entry may have, is the entry's event.
+pub reject_is : (f : Profile) (s : Stand) (k : ℕ) (entry : Entry) (why : Why) → MayRefuse entry why → Admits f s.events (Event.Reject k entry.name why)
+    → IsEventOf s k entry (Event.Reject k entry.name why)
+reject_is f s k entry why may admitted = inl (why, may, admitted.1, refl)
+
+-- there is one
+one_reason : (es : List Event) (entry : Entry) (w v : Why) → MayRefuse entry w → MayRefuse entry v → IsReason es entry.name w → IsReason es entry.name v → w ≡ v
+one_reason es entry w v p q a b = search arith
+
+-- There is just one event of an entry.
+pub one_event : (s : Stand) (k : ℕ) (entry : Entry) (e g : Event) → IsEventOf s k entry e → IsEventOf s k entry g → e ≡ g
+one_event s k entry e g is by = search (arith, one_reason)
+
+-- ---- the true reason, by what lives at the address
+pub block_there : (o : Option Live) (block : Block) → Some block ≡ block_of o → (b : Live) × (o ≡ Some b) × (b.block ≡ block)
+block_there o block e = search (arith, none-some, same_Some)
+
+-- Where the machine tells no block at an address, none lives there.
+pub nothing_there : (o : Option Live) → None ≡ block_of o → o ≡ None
+nothing_there o e = search (arith, none-some)
+
+module _ (f : Profile) (es : List Event) (run : Run f es) (entry : Entry) where
+  -- Where no block lives, as many blocks ended as were given.
+  pub gone : live_in es (address_of entry.name) ≡ None → gives_in es (address_of entry.name) ≡ ends_in es (address_of entry.name)
+  gone none = subst (λ (o : Option Live). IsCounted o (gives_in es (address_of entry.name)) (ends_in es (address_of entry.name))) none
+      (all_counted f es run (address_of entry.name))
+
+  -- Where no block lives, a name whose turn was given has ended.
+  pub gone_ended : live_in es (address_of entry.name) ≡ None → entry.name.turn < gives_in es (address_of entry.name) → IsReason es entry.name Ended
+  gone_ended none turn = omega (arith, gone none, turn)
+
+  -- Where no block lives, a name whose turn wasn't given never had a block.
+  pub never_there : live_in es (address_of entry.name) ≡ None → gives_in es (address_of entry.name) ≤ entry.name.turn → IsReason es entry.name NoBlock
+  never_there none turn = (omega (arith, gone none, turn), λ live. none-some live.0 (sym none ∙ live.1))
+
+  module _ (b : Live) (is : live_in es (address_of entry.name) ≡ Some b) where
+    -- The turn of the block that lives at an address is the number of blocks that ended there.
+    pub counts : b.block.name.turn ≡ ends_in es (address_of entry.name)
+    counts = turn_counts (live_in es (address_of entry.name)) b (gives_in es (address_of entry.name)) (ends_in es (address_of entry.name)) is
+        (all_counted f es run (address_of entry.name))
+
+    it_is : (other : Live) → live_in es (address_of entry.name) ≡ Some other → other ≡ b
+    it_is other has = same_Some other b (sym has ∙ is)
+
+    -- A name of an earlier turn than the live block's has ended.
+    pub ended_before : entry.name.turn < b.block.name.turn → IsReason es entry.name Ended
+    ended_before turn = omega (arith, counts, turn)
+
+    -- A name of a later turn than the live block's never had a block.
+    pub not_yet : b.block.name.turn < entry.name.turn → IsReason es entry.name NoBlock
+    not_yet turn = (
+      (omega (arith, counts, turn)),
+      λ live. let same : b.block.name.turn ≡ entry.name.turn = ap (λ (l : Live). l.block.name.turn) (sym (it_is live.0 live.1)) ∙ live.2 in absurd (omega (arith, same, turn)),
+    )
+
+    -- A name of the live block's turn with another room is refused for that room.
+    pub other_room : entry.name.turn ≡ b.block.name.turn → b.block.room ≢ entry.room → IsReason es entry.name (SizeDiffers entry.room)
+    other_room turn differs = ((omega (arith, counts, turn)), record { block = b; lives = is; turn_is = sym turn; differs = differs })
+
+    -- A name of the live block's turn and room has no reason to be refused.
+    pub may_end : entry.name.turn ≡ b.block.name.turn → (0 < entry.room → b.block.room ≡ entry.room) → (why : Why) → MayRefuse entry why
+        → IsReason es entry.name why → ⊥
+    may_end turn room why may reason = search (arith, counts, it_is)
+
+-- At most one state comes next, whatever the line; and how the lines of entries, requests and passes are taken.
 
 -- ---- A line that may come leads to one state, where it answers what is due
 -- Two records that fit and have the same line are the same.
@@ -31,7 +129,7 @@ small_page : (f : Profile) (page : ℕ) → IsValid f → IsPage f page → page
 small_page f page valid is = omega (arith, is.1, valid.pages)
 
 -- a page with a deed is one of the region
-pub deed_page : (f : Profile) (es : List Event) → Run f es → (page : ℕ) (d : Directory) → deed_in es page ≡ Some d → IsPage f page
+deed_page : (f : Profile) (es : List Event) → Run f es → (page : ℕ) (d : Directory) → deed_in es page ≡ Some d → IsPage f page
 deed_page f [] run page d h = absurd (none-some d h)
 deed_page f (Event.Deed k p g ∷ es) run page d h = made (p == page) (deed_in es page) refl (deed_page f es run.1 page d) h
   where
@@ -42,7 +140,7 @@ deed_page f (other ∷ es) run page d h = deed_page f es run.1 page d h
 
 -- ---- records of outcomes
 -- the outcome is read back from its record
-pub outcome_is : (epoch page : ℕ) (o : Outcome) → outcome_in epoch (record_of epoch page o) ≡ Some record { page = page; outcome = o }
+outcome_is : (epoch page : ℕ) (o : Outcome) → outcome_in epoch (record_of epoch page o) ≡ Some record { page = page; outcome = o }
 outcome_is epoch page o = search (arith, eq-eqb)
 
 -- no outcome is read from the record
@@ -75,8 +173,8 @@ prepared_by : (k : ℕ) (d : Directory) (e : Event) → IsPreparing k d e → ac
 prepared_by k d e is = search arith
 
 -- in each case it computes, or is given
-preparing_none : (k : ℕ) (d : Directory) (e : Event) → IsPreparing k d e → TellsNone (Record.Event e)
-preparing_none k d e is = search arith
+prepares_none : (k : ℕ) (d : Directory) (e : Event) → IsPreparing k d e → TellsNone (Record.Event e)
+prepares_none k d e is = search arith
 
 -- in each case it computes, or is given
 same_both : (t : Bool) (o : Option Examined) → (if t then o else o) ≡ o
@@ -103,7 +201,7 @@ module _ (f : Profile) (s : Stand) (small : IsSmall f s) (k : ℕ) (r : Request)
   prepares_fits e is admitted = search (arith, small_page)
 
   -- A give that the machine admits for a request fits.
-  pub gives_fits : (block : Block) → IsFor f s r block → Admits f s.events (Event.Give k block) → FitsEvent (Event.Give k block)
+  gives_fits : (block : Block) → IsFor f s r block → Admits f s.events (Event.Give k block) → FitsEvent (Event.Give k block)
   gives_fits block is may =
       let some : 0 < block.room = may.some in
       let whole : block.room % 16 ≡ 0 = may.whole in
@@ -115,12 +213,17 @@ module _ (f : Profile) (s : Stand) (small : IsSmall f s) (k : ℕ) (r : Request)
       let turn = may.turn in
       let room : block.room ≡ _ = is.room in
       let heap = is.heap in
-      let fit = fits.room in
-      let fewer = fits.heap in
-      (fits.actor, record { name = record { address = omega (arith, last, most); turn = omega (arith, few, turn) }; room = omega (arith, room, fit); heap = omega (arith, heap, fewer) })
+      let fewer = fits.heap in (
+        fits.actor,
+        record {
+          name = record { address = omega (arith, last, most); turn = omega (arith, few, turn) };
+          room = omega (arith, room, fits.room);
+          heap = omega (arith, heap, fewer);
+        },
+      )
 
   -- A refusal of a request fits.
-  pub refusal_fits : (said : Said) → IsRefusal f s r said → FitsSaid said
+  refusal_fits : (said : Said) → IsRefusal f s r said → FitsSaid said
   refusal_fits said (inl is) = subst FitsSaid (sym is) fits.name
   refusal_fits said (inr is) = subst FitsSaid (sym is.2) (small_page f is.0 small.valid (deed_page f s.events small.run is.0 (directory_of f r) is.1), fits.name)
 
@@ -130,7 +233,7 @@ module _ (f : Profile) (s : Stand) (small : IsSmall f s) (k : ℕ) (r : Request)
     item = Record.Event x.event;
     own = prepared_by k (directory_of f r) x.event x.prepares;
     fits = prepares_fits x.event x.prepares x.admitted;
-    none = preparing_none k (directory_of f r) x.event x.prepares;
+    none = prepares_none k (directory_of f r) x.event x.prepares;
     has = x.line_is;
     next_is = x.next_is ∙ sym (prepared_then s k r replaced more (directory_of f r) x.event x.prepares);
   }
@@ -181,7 +284,7 @@ module _ (f : Profile) (s : Stand) (small : IsSmall f s) (keeper k : ℕ) (r : R
     item = Record.Event x.event;
     own = tt;
     fits = prepares_fits f s small keeper r fits.kept x.event x.prepares x.admitted;
-    none = preparing_none keeper (directory_of f r) x.event x.prepares;
+    none = prepares_none keeper (directory_of f r) x.event x.prepares;
     has = x.line_is;
     next_is = x.next_is ∙ sym (tried_kept x.event (prepared_by keeper (directory_of f r) x.event x.prepares) ∙ kept_then x.event x.prepares);
   }
@@ -202,7 +305,7 @@ same_outcome : (epoch : ℕ) (x y : Examined) → record_of epoch x.page x.outco
 same_outcome epoch x y e = same_Some x y (sym (outcome_is epoch x.page x.outcome) ∙ ap (outcome_in epoch) e ∙ outcome_is epoch y.page y.outcome)
 
 -- An outcome that may come of a page fits.
-pub outcome_fits : (f : Profile) (s : Stand) → IsSmall f s → (page : ℕ) (o : Outcome) → IsPage f page → MayCome f s page o → Fits (record_of s.epoch page o)
+outcome_fits : (f : Profile) (s : Stand) → IsSmall f s → (page : ℕ) (o : Outcome) → IsPage f page → MayCome f s page o → Fits (record_of s.epoch page o)
 outcome_fits f s small page o of may = search (arith, small_page)
 
 -- A line that tells an outcome of a pass leads to one state.
@@ -218,7 +321,8 @@ one_outcome f s small last more line a b x y =
 pub one_next : (f : Profile) (s : Stand) → IsSmall f s → (due : List Due) → FitsFirst f due → (line : List ℕ) (a b : Stand) → TakesDue f s due line a
     → TakesDue f s due line b → a ≡ b
 one_next f s small [] fits line a b x y = absurd x
-one_next f s small (Frees k entry ∷ more) fits line a b x y = x.next_is ∙ ap (λ e. with_due (with_one s e) more) (one_event s k entry x.event y.event x.of_entry y.of_entry) ∙ sym y.next_is
+one_next f s small (Frees k entry ∷ more) fits line a b x y = x.next_is
+    ∙ ap (λ e. with_due (with_one s e) more) (one_event s k entry x.event y.event x.of_entry y.of_entry) ∙ sym y.next_is
 one_next f s small (Serves k r old ∷ more) fits line a b x y =
     one_by (IsOf k) (answered s k r old more) line a b (by_request f s small k r fits old more line a x) (by_request f s small k r fits old more line b y)
 one_next f s small (Tries keeper k r backed ∷ more) fits line a b x y =
@@ -331,3 +435,243 @@ module _ (f : Profile) (s : Stand) (small : IsSmall f s) where
     one_takes line a b (inl x) (inr y) = absurd (first_apart s.due line a b x y)
     one_takes line a b (inr x) (inl y) = absurd (first_apart s.due line b a y x)
     one_takes line a b (inr x) (inr y) = one_next f (ready f s) new (ready f s).due (fits_first f (ready f s).due fits) line a b x y
+
+-- ---- Lines that the machine judges, taken or not
+-- so few events can't have so many gives at an address
+counted : (es : List Event) (e : Event) → IsFew es → IsUncounted es e → ⊥
+counted es e few is = search (arith, gives_few)
+
+-- The machine's step has taken the event where it could come, and nothing otherwise.
+pub stepped : (old new : Machine) (e : Event) (result : Result Unit StepFault) → Steps old new e result → IsStepped old new e (is_ok result)
+stepped old new e result steps = search (arith, never_of, counted)
+
+-- ---- an entry
+-- the event of an entry is of a grain of the region, where it may come
+entry_place : (f : Profile) (s : Stand) (k : ℕ) (entry : Entry) (e : Event) → IsEventOf s k entry e → Admits f s.events e → IsPlace f (address_of entry.name)
+entry_place f s k entry e is admitted = search arith
+
+module _ (k : ℕ) (entry : Entry) (epoch : ℕ) (line : List ℕ) (old : Machine) where
+  -- it isn't of a grain of the region
+  pub entry_outside : (IsPlace (profile_of old) (address_of entry.name) → ⊥) → EntryTaken old old k entry epoch line false
+  entry_outside outside = search (arith, entry_place)
+
+  module _ (e : Event) (of_entry : (s : Stand) → StandsFor old s.events → s.epoch ≡ epoch → IsEventOf s k entry e) where
+    -- another line
+    pub entry_amiss : line ≢ line_of_event e → EntryTaken old old k entry epoch line false
+    entry_amiss other = (
+      refl,
+      λ s more next stands few same takes. other (takes.line_is ∙ ap line_of_event (one_event s k entry takes.event e takes.of_entry (of_entry s stands same))),
+    )
+
+    -- its line, and its event was tried
+    pub entry_stepped : (new : Machine) → line ≡ line_of_event e → (taken : Bool) → IsStepped old new e taken → EntryTaken old new k entry epoch line taken
+    entry_stepped new is true stepped = λ s more stands same.
+        let taken = stepped s.events stands in
+        (e, record { event = e; of_entry = of_entry s stands same; admitted = taken.0; line_is = is; next_is = refl }, taken.1)
+    entry_stepped new is false stepped = (
+      stepped.0,
+      λ s more next stands few same takes.
+          stepped.1 s.events stands few (subst (Admits (profile_of old) s.events) (one_event s k entry takes.event e takes.of_entry (of_entry s stands same))
+          takes.admitted),
+    )
+
+-- ---- the event of a line
+-- The event that is read of a line is that of the record that is.
+pub event_of_read : {line : List ℕ} (item : Record) → IsRead line (Some item) → IsEventRead line (event_in item)
+event_of_read (Record.Event e) read =
+    record { some = read.some; only = λ g fits has. ap event_in (same_Some (Record.Event e) (Record.Event g) (read.only (Record.Event g) fits has)) }
+event_of_read other read =
+    record { some = tt; only = λ g fits has. ap event_in (same_Some other (Record.Event g) (read.only (Record.Event g) fits has)) }
+
+-- ---- deeds and backs
+-- what is admitted is of a page of the region, so its number fits
+fits_preparing : (f : Profile) (es : List Event) (k : ℕ) (d : Directory) (e : Event) → IsValid f → k < 2 ^ 8 → d.heap < 2 ^ 8 → IsKind d.kind
+    → IsPreparing k d e → Admits f es e → FitsEvent e
+fits_preparing f es k d e valid few heap kind is admitted = search arith
+
+module _ (k : ℕ) (d : Directory) (few : k < 2 ^ 8) (heap : d.heap < 2 ^ 8) (kind : IsKind d.kind) (line : List ℕ) (old : Machine)
+    (valid : IsValid (profile_of old)) where
+  preparing_refused : (new : Machine) → new ≡ old
+      → ((e : Event) → FitsEvent e → IsPreparing k d e → line ≡ line_of_event e → (es : List Event) → StandsFor old es → IsFew es
+      → Admits (profile_of old) es e → ⊥) → PreparingTaken old new k d line false
+  preparing_refused new kept none = search (arith, fits_preparing)
+
+  -- A deed or a back for a request is taken exactly where the machine takes it.
+  pub preparing_stepped : (new : Machine) (e : Event) → IsEventRead line (Some e) → IsPreparing k d e → (taken : Bool) → IsStepped old new e taken
+      → PreparingTaken old new k d line taken
+  preparing_stepped new e read may true stepped = λ s r stands same.
+      let taken = stepped s.events stands in
+      (e, record { event = e; prepares = subst (λ x. IsPreparing k x e) (sym same) may; admitted = taken.0; line_is = read.some; next_is = refl }, taken.1)
+  preparing_stepped new e read may false stepped =
+      preparing_refused new stepped.0 (λ g fits other has es stands low admitted.
+      stepped.1 es stands low (subst (Admits (profile_of old) es) (sym (same_Some e g (read.only g fits has))) admitted))
+
+  -- An event that is no deed or back for a request isn't taken as one.
+  pub preparing_other : (e : Event) → IsEventRead line (Some e) → (IsPreparing k d e → ⊥) → PreparingTaken old old k d line false
+  preparing_other e read other = preparing_refused old refl (λ g fits may has es stands low admitted.
+      other (subst (IsPreparing k d) (sym (same_Some e g (read.only g fits has))) may))
+
+  -- A line that reads as no event isn't taken as a deed or a back.
+  pub preparing_none : IsEventRead line None → PreparingTaken old old k d line false
+  preparing_none read = preparing_refused old refl (λ g fits may has es stands low admitted. none-some g (read.only g fits has))
+
+-- ---- Gives and refusals of a request, taken or not
+-- ---- what is wanted
+kind_known : (shared : Bool) (class : ℕ) → IsClass class → IsKind (kind_of_class shared class)
+kind_known shared class known = search arith
+
+-- the kind of the pages for a class that serves a request
+pub class_kind : (shared : Bool) (f : Profile) (size align class : ℕ) → route_in f size align ≡ Class class → IsKind (kind_of_class shared class)
+class_kind shared f size align class is =
+    kind_known shared class (class_known f.classes size align class (subst (IsRouteOf f.classes size align) is (route_is f.classes size align)))
+
+-- ---- the pages under a block
+-- a page that isn't of the region has no deed
+pub no_deed : (machine : Machine) (es : List Event) (page : ℕ) (d : Directory) → StandsFor machine es → (IsPage (profile_of machine) page → ⊥)
+    → deed_in es page ≢ Some d
+no_deed machine es page d stands outside has = outside (deed_page (profile_of machine) es stands.run page d has)
+
+-- the grain where a page meets a run
+grain_there : (g n page : ℕ) → 0 < n → g / 256 ≤ page → page < (g + (n - 1)) / 256 + 1 → (x : ℕ) × (in_run g n x ≡ true) × (x / 256 ≡ page)
+grain_there g n page some low high = elim (cases_lt g (256 * page)) [
+  | inl before ↦ (
+    256 * page,
+    and_from (nat_le g (256 * page)) (nat_lt (256 * page) (g + n)) (le-leb g (256 * page) (omega (arith, before)))
+        (lt-ltb (256 * page) (g + n) (omega (arith, some, high, before))),
+    omega arith,
+  )
+  | inr after ↦ (g, and_from (nat_le g g) (nat_lt g (g + n)) (le-leb g g (omega arith)) (lt-ltb g (g + n) (omega (arith, some))), omega (arith, low, after))
+]
+
+lies_where : (es : List Event) (block : Block) (d : Directory)
+    → IsEach (grain_of block.name / 256) ((grain_of block.name + (length_of block - 1)) / 256 + 1) (λ page. deed_in es page ≡ Some d) → LiesOn es block d
+lies_where es block d each x within = search (arith, leb-true, and_parts, ltb-true)
+
+lies_each : (es : List Event) (block : Block) (d : Directory) → 0 < length_of block → LiesOn es block d
+    → IsEach (grain_of block.name / 256) ((grain_of block.name + (length_of block - 1)) / 256 + 1) (λ page. deed_in es page ≡ Some d)
+lies_each es block d some lies page low high =
+    let there = grain_there (grain_of block.name) (length_of block) page some low high in
+    subst (λ p. deed_in es p ≡ Some d) there.2 (lies there.0 there.1)
+
+-- Each page of a block is of the directory exactly where each grain's page is.
+pub lies_as_pages_do : (es : List Event) (block : Block) (d : Directory) → 0 < length_of block → (each : Bool)
+    → MatchBool each (IsEach (grain_of block.name / 256) ((grain_of block.name + (length_of block - 1)) / 256 + 1) (λ page. deed_in es page ≡ Some d))
+    (IsEach (grain_of block.name / 256) ((grain_of block.name + (length_of block - 1)) / 256 + 1) (λ page. deed_in es page ≡ Some d) → ⊥)
+    → MatchBool each (LiesOn es block d) (LiesOn es block d → ⊥)
+lies_as_pages_do es block d some true all = lies_where es block d all
+lies_as_pages_do es block d some false not_all = λ lies. not_all (lies_each es block d some lies)
+
+-- ---- the line of a give
+module _ (old : Machine) (k : ℕ) (w : Wanted) (line : List ℕ) where
+  -- A line that reads as no event gives no block.
+  pub give_unread : IsEventRead line None → GiveTaken old old k w line None
+  give_unread read = (
+    refl,
+    λ s r replaced more next wants small fits stands few takes.
+        let e = Event.Give k takes.block in
+        none-some e (read.only e (gives_fits (profile_of old) s small k r fits takes.block takes.is_for takes.admitted) takes.line_is),
+  )
+
+  -- A line of an event gives what its event gives, if it is a give for the request.
+  pub give_taken : (new : Machine) (e : Event) → IsEventRead line (Some e) → (found : Option Block) → IsGiven old new k w e found
+      → GiveTaken old new k w line found
+  give_taken new e read (Some block) given = λ s r replaced more wants stands.
+      let g = given s r wants stands in
+      (record { block = block; is_for = g.1; admitted = g.2; line_is = read.some ∙ ap line_of_event g.0; next_is = refl }, g.3)
+  give_taken new e read None given = (
+    given.0,
+    λ s r replaced more next wants small fits stands few takes.
+        let give = Event.Give k takes.block in
+        given.1 s r takes.block wants stands few (same_Some e give (read.only give
+        (gives_fits (profile_of old) s small k r fits takes.block takes.is_for takes.admitted) takes.line_is)) takes.is_for takes.admitted,
+  )
+
+-- ---- a refusal
+module _ (machine : Machine) (k : ℕ) (w : Wanted) (line : List ℕ) (few : k < 2 ^ 8) where
+  -- A line that reads as no record refuses nothing.
+  pub refusal_unread : IsRead line None → RefusalSeen machine k w line false
+  refusal_unread read = λ s r more next wants small fits stands takes.
+      let item = Record.Said k takes.said in
+      none-some item (read.only item (few, refusal_fits (profile_of machine) s small k r fits takes.said takes.refuses) takes.line_is)
+
+  -- A line of a record refuses where that is a refusal of the request.
+  pub refusal_seen : (item : Record) → IsRead line (Some item) → (seen : Bool)
+      → ((s : Stand) (r : Request) → IsWanted (profile_of machine) r w → StandsFor machine s.events
+      → MatchBool seen (RefusesBy (profile_of machine) s k r item) (RefusesBy (profile_of machine) s k r item → ⊥)) → RefusalSeen machine k w line seen
+  refusal_seen item read true refuses = λ s r more wants stands.
+      let is = refuses s r wants stands in
+      record { said = is.0; refuses = is.1; line_is = read.some ∙ ap line_of is.2; next_is = refl }
+  refusal_seen item read false refuses = λ s r more next wants small fits stands takes.
+      let said = Record.Said k takes.said in
+      refuses s r wants stands (
+        takes.said,
+        takes.refuses,
+        same_Some item said (read.only said (few, refusal_fits (profile_of machine) s small k r fits takes.said takes.refuses) takes.line_is),
+      )
+
+-- ---- Outcomes of a pass, taken or not
+-- ---- the outcome of a record
+abbrev record_in : ℕ → Examined → Record
+record_in epoch x = record_of epoch x.page x.outcome
+
+event_is : (epoch : ℕ) (e : Event) (x : Examined) → outcome_in_event epoch e ≡ Some x → Record.Event e ≡ record_in epoch x
+event_is epoch e x h = search (arith, if_some, eqb-true, same_Some, none-some)
+
+said_is : (epoch : ℕ) (said : Said) (x : Examined) → outcome_in_said said ≡ Some x → Record.Said 0 said ≡ record_in epoch x
+said_is epoch said x h = search (arith, same_Some, none-some)
+
+-- A record that tells a page's outcome is the record of just that outcome.
+pub record_is : (epoch : ℕ) (r : Record) (x : Examined) → outcome_in epoch r ≡ Some x → r ≡ record_of epoch x.page x.outcome
+record_is epoch r x h = search (arith, event_is, if_some, eqb-true, said_is, none-some)
+
+-- ---- the line of an outcome
+module _ (old : Machine) (line : List ℕ) (last epoch : ℕ) where
+  abbrev pub IsOnly : Option Examined → Type 0
+  IsOnly found = (page : ℕ) (o : Outcome) → Fits (record_of epoch page o) → line ≡ line_of (record_of epoch page o) → found ≡ Some record { page = page; outcome = o }
+
+  -- The outcome that a line's record tells is the only one of that line.
+  pub found_only : {item : Record} {found : Option Examined} → IsRead line (Some item) → found ≡ outcome_in epoch item → IsOnly found
+  found_only {item = item} read outcome page o fits has =
+      let r = record_of epoch page o in outcome ∙ ap (outcome_in epoch) (same_Some item r (read.only r fits has)) ∙ outcome_is epoch page o
+
+  outcome_refused : (new : Machine) → new ≡ old
+      → ((p : ℕ) (o : Outcome) → last < p → IsPage (profile_of old) p → Fits (record_of epoch p o) → line ≡ line_of (record_of epoch p o)
+      → (s : Stand) → StandsFor old s.events → IsFew s.events → s.epoch ≡ epoch → MayCome (profile_of old) s p o → ⊥)
+      → OutcomeTaken old new last epoch line None
+  outcome_refused new kept none = search (arith, outcome_fits)
+
+  -- no record has the line
+  pub outcome_unread : IsRead line None → OutcomeTaken old old last epoch line None
+  outcome_unread read = outcome_refused old refl (λ p o rises region fits has s stands low same may.
+      none-some (record_of epoch p o) (read.only (record_of epoch p o) fits has))
+
+  -- no outcome has it
+  pub outcome_other : IsOnly None → OutcomeTaken old old last epoch line None
+  outcome_other none = outcome_refused old refl (λ p o rises region fits has s stands low same may. none-some (record { page = p; outcome = o })
+      (none p o fits has))
+
+  -- the outcome is of another page than one that may come
+  pub outcome_amiss : (x : Examined) → IsOnly (Some x) → (last < x.page → IsPage (profile_of old) x.page → ⊥) → OutcomeTaken old old last epoch line None
+  outcome_amiss x only amiss = search (arith, outcome_refused, same_Some)
+
+  -- what came of its page was tried
+  pub outcome_came : (new : Machine) (x : Examined) → line ≡ line_of (record_of epoch x.page x.outcome) → last < x.page → IsPage (profile_of old) x.page
+      → IsExamined old new epoch x true → OutcomeTaken old new last epoch line (Some x.page)
+  outcome_came new x has rises region examined = λ s more stands same.
+      let came = examined s stands same in (
+        after_outcome s x.page x.outcome,
+        record {
+          page = x.page;
+          rises = rises;
+          of_region = region;
+          outcome = x.outcome;
+          may = came.0;
+          line_is = subst (λ e. line ≡ line_of (record_of e x.page x.outcome)) (sym same) has;
+          next_is = refl;
+        },
+        came.1,
+      )
+
+  -- Where the machine refuses the outcome of a line, no outcome is taken.
+  pub outcome_failed : (new : Machine) (x : Examined) → IsOnly (Some x) → IsExamined old new epoch x false → OutcomeTaken old new last epoch line None
+  outcome_failed new x only examined = search (arith, outcome_refused)

@@ -1,7 +1,7 @@
 -- Pages of the report with their marks, and its totals.
 use Rattle.std.proofs.Common.{◌≡◌, ℕ, ◌+◌, ◌-◌, ◌==◌, Bool, true, false, if◌then◌else◌, List, [], ◌∷◌, ◌++◌, refl, ap, sym, ◌∙◌, arith, append_assoc}
-use Rattle.std.proofs.Common.{append-nil, length, take, drop, inl, inr, drop-drop, eq-eqb, ne_eqb, MatchBool, ◌*◌, ◌/◌, ◌%◌, ◌≤◌, nat_le, nat_lt, not, Option}
-use Rattle.std.proofs.Common.{None, Some, subst, eqb-true, leb-true, ◌≢◌, zero, suc, ◌<◌, add-zero, add-suc}
+use Rattle.std.proofs.Common.{append-nil, length, take, drop, drop-drop, eq-eqb, ne_eqb, MatchBool, ◌*◌, ◌/◌, ◌%◌, ◌≤◌, nat_le, nat_lt, not, Option, None, Some}
+use Rattle.std.proofs.Common.{subst, eqb-true, leb-true, ◌≢◌, zero, suc, ◌<◌, add-zero, add-suc}
 use Rattle.std.specs.List.{concat}
 use Rattle.std.proofs.{Math.Seq.take-add, lemmas.List.take_rest, lemmas.Bool.cases_eq, lemmas.Bool.and_parts, lemmas.Option.none-some}
 use Rattle.pas_check.specs.{Lines.put_front, Lines.lines_in, Takes.AreAllowedMarks, Begins.page_due, Begins.pages_due}
@@ -20,7 +20,7 @@ use Rattle.pas_check.specs.States.{Due, Shows, Stand, with_due, Totals}
 use Rattle.pas_check.specs.declared.{cutting.Cursor.Cursor, reporting.Shown.Shown, reporting.Totalled.Totalled}
 use Rattle.pas_check.proofs.Leads.{due_refused, due_taken, just_led, leads_nowhere}
 use Rattle.pas_bits.specs.Bits.{count_below}
-use Rattle.pas_bits.proofs.{Counts.count_add, Counts.count_same, Counts.count_suc, Runs.first_of_run}
+use Rattle.pas_bits.proofs.{Rows.count_add, Rows.count_same, Rows.count_suc, Runs.first_of_run}
 use Rattle.pas_machine.specs.Totals.{address_at, has_block, sum_below, ended_total, given_total, live_total}
 use Rattle.pas_machine.proofs.LiveBlocks.{all_counted}
 
@@ -32,23 +32,18 @@ front_of b lines = search arith
 -- A text's lines one after the other are the text.
 pub all_lines : (text : List ℕ) → concat (lines_in text) ≡ text
 all_lines [] = refl
-all_lines (b ∷ bs) = elim (cases_eq b 10) [
-  | inl e ↦
-      let t : (b == 10) ≡ true = eq-eqb b 10 e in
-      ap (λ (x : Bool). concat (if x then (10 ∷ []) ∷ lines_in bs else put_front b (lines_in bs))) t ∙ ap (λ (ls : List ℕ). 10 ∷ ls) (all_lines bs) ∙ ap (λ (c : ℕ). c ∷ bs) (sym e)
-  | inr ne ↦
-      let t : (b == 10) ≡ false = ne_eqb b 10 ne in
-      ap (λ (x : Bool). concat (if x then (10 ∷ []) ∷ lines_in bs else put_front b (lines_in bs))) t ∙ front_of b (lines_in bs) ∙ ap (λ (ls : List ℕ). b ∷ ls) (all_lines bs)
-]
+all_lines (b ∷ bs) = let rest = all_lines bs in grind (arith, rest, cases_eq, eq-eqb, ne_eqb, front_of)
 
 -- ---- the line from place p on, which is n bytes long
 module _ (input : List ℕ) (p n : ℕ)
     (cut : lines_in (take (length input - p) (drop p input))
     ≡ take n (take (length input - p) (drop p input)) ∷ lines_in (drop n (take (length input - p) (drop p input))))
   where
+    -- The line that was read.
     line : List ℕ
     line = take n (drop p input)
 
+    -- What follows it.
     more : List ℕ
     more = drop (p + n) input
 
@@ -63,9 +58,11 @@ module _ (input : List ℕ) (p n : ℕ)
     unfolding line
     mark_is = ap (λ (m : ℕ). take m (drop p input)) (omega arith)
 
+    -- A mark that was read is the line's.
     marked : is_mark (take (p + n - p) (drop p input)) ≡ true → is_mark line ≡ true
     marked is = ap is_mark (sym mark_is) ∙ is
 
+    -- Where no mark was read the line is none.
     unmarked : is_mark (take (p + n - p) (drop p input)) ≡ false → is_mark line ≡ false
     unmarked is = ap is_mark (sym mark_is) ∙ is
 
@@ -127,6 +124,7 @@ covered_is f es run g false none = search (arith, none_of, not_covering)
 marks_are_for : (shown : Shown) (m : Marked) → m.backed ≡ shown.backed → m.parked ≡ not m.offered → m ≡ marks_for shown m.offered m.hinted
 marks_are_for shown m backed parked = λ t. record { backed = backed t; offered = m.offered; parked = parked t; hinted = m.hinted }
 
+-- No test both passes and fails.
 clash : {A : Type 0} (b : Bool) → b ≡ true → b ≡ false → A
 clash b on off = absurd (cc)
 
@@ -252,8 +250,8 @@ given_counted n es page all = ap (λ m. sum_below m (λ b. gives_in es (16 * (25
 
 module _ (n : ℕ) (all : n ≡ 256) (es : List Event) where
   none_given_of : (f : Profile) → Run f es → (page : ℕ) → deed_in es page ≡ None → given_on es page ≡ 0
-  none_given_of f run page none =
-      sym (given_counted n es page all) ∙ none_summed n _ (λ b low. no_gives f es run (16 * (256 * page + b)) (ap (deed_in es) (omega (arith, low, all)) ∙ none))
+  none_given_of f run page none = sym (given_counted n es page all)
+      ∙ none_summed n _ (λ b low. no_gives f es run (16 * (256 * page + b)) (ap (deed_in es) (omega (arith, low, all)) ∙ none))
 
   none_live_of : (f : Profile) → Run f es → (page : ℕ) → deed_in es page ≡ None → live_on es page ≡ 0
   none_live_of f run page none =
@@ -266,7 +264,8 @@ module _ (n : ℕ) (all : n ≡ 256) (es : List Event) where
       let p : ℕ → Bool = λ i. has_block (live_in es (address_at i)) in
       let e : 256 * (k + 1) ≡ 256 * k + n = omega (arith, all) in
       ap (λ m. count_below m p) e ∙ count_add (256 * k) n p
-      ∙ ap (λ m. count_below (256 * k) p + m) (count_same n (λ b. p (256 * k + b)) (λ b. has_block (live_in es (16 * (256 * (k + 1) + b)))) (λ b low. ap (λ a. has_block (live_in es a)) (omega arith))
+      ∙ ap (λ m. count_below (256 * k) p + m) (count_same n (λ b. p (256 * k + b)) (λ b. has_block (live_in es (16 * (256 * (k + 1) + b))))
+      (λ b low. ap (λ a. has_block (live_in es a)) (omega arith))
       ∙ grains_counted n _ all)
 
   given_more_of : (k : ℕ)
@@ -326,9 +325,7 @@ pages_more es k (suc n) =
 pub pages_are : (es : List Event) (n : ℕ) → pages_due es n ≡ pages_from es 1 n
 pages_are es zero = refl
 pages_are es (suc n) =
-    let e : suc n ≡ 1 + n = omega arith in
-    ap (λ (ds : List Due). ds ++ page_due (suc n) (deed_in es (suc n))) (pages_are es n)
-    ∙ ap (λ (x : ℕ). pages_from es 1 n ++ page_due x (deed_in es x)) e ∙ sym (pages_more es 1 n)
+    let rest = pages_are es n in grind (arith, rest, pages_more)
 
 -- What is due from a page on is that of the page and that from the next page on.
 pub pages_next : (es : List Event) (k n m : ℕ) (more : List Due) (deed : Option Directory) → n ≡ m + 1 → deed_in es k ≡ deed
@@ -345,8 +342,8 @@ counted o gives ends is = search arith
 
 -- As many blocks were given in all as ended and live.
 pub given_is : (f : Profile) (es : List Event) → Run f es → given_total f es ≡ ended_total f es + live_total f es
-given_is f es run =
-    sum_same (256 * f.pages) _ _ (λ i low. counted (live_in es (address_at i)) (gives_in es (address_at i)) (ends_in es (address_at i)) (all_counted f es run (address_at i)))
+given_is f es run = sum_same (256 * f.pages) _ _
+    (λ i low. counted (live_in es (address_at i)) (gives_in es (address_at i)) (ends_in es (address_at i)) (all_counted f es run (address_at i)))
     ∙ sum_and_count (256 * f.pages) (λ i. ends_in es (address_at i)) (λ i. has_block (live_in es (address_at i)))
 
 -- The report's last line is taken where it is just that of the machine's totals, or fails.
@@ -358,4 +355,5 @@ totals_led f text s more totals old new wanted is run tells made due count just 
     let given = given_is f s.events run in
     let sum : totals.ended + totals.live ≡ given_total f s.events = omega (arith, given, tells.live, tells.ended) in
     let same : wanted ≡ total_line f s.events = made ∙ (λ t. totals_text (tells.deeds t) (tells.backed t) (tells.live t) (sum t) (tells.ended t)) in
-    just_led f s Totals more due refl text old (total_line f s.events) (λ line next. (λ x. x, λ x. x)) new count is (subst (λ (l : List ℕ). IsJustLine text old new l is) same just)
+    just_led f s Totals more due refl text old (total_line f s.events) (λ line next. (λ x. x, λ x. x)) new count is
+    (subst (λ (l : List ℕ). IsJustLine text old new l is) same just)

@@ -79,10 +79,7 @@ digits_join v n p =
 hex_value_is : (k v n : ℕ) (rest : List ℕ) → hex_after k v (hex_digits k n ++ rest) ≡ v * 16 ^ k + n % 16 ^ k
 hex_value_is zero v n rest = omega arith
 hex_value_is (suc k) v n rest =
-    let power : 16 ^ suc k ≡ 16 ^ k * 16 = pow-suc 16 k in
-    let one : hex_value (hex_digit (n / 16 ^ k % 16)) % 16 ≡ n / 16 ^ k % 16 = hex_one (n / 16 ^ k % 16) (omega arith) in
-    ap (λ x. hex_after k (16 * v + x) (hex_digits k n ++ rest)) one ∙ hex_value_is k (16 * v + n / 16 ^ k % 16) n rest ∙ digits_join v n (16 ^ k)
-    ∙ (λ i. mul_left_comm 16 v (16 ^ k) i + n % sym power i) ∙ ap (λ x. v * x + n % 16 ^ suc k) (mul_comm 16 (16 ^ k) ∙ sym power)
+    let rest = hex_value_is k (16 * v + n / 16 ^ k % 16) n rest in grind (arith, rest, pow-suc, hex_one, digits_join, mul_left_comm, mul_comm)
 
 -- A number in eight hexadecimal digits is read back.
 hex8_back : (n : ℕ) (rest : List ℕ) → n < 2 ^ 32 → hex_after 8 0 (hex_digits 8 n ++ rest) ≡ n
@@ -247,34 +244,34 @@ by_actor k rest fits =
     ((λ i. word_at (byte_at 1 (past_number k 32 rest (omega (arith, fits)) refl i)) (u8_back k 32 rest fits refl i) (past_number k 32 rest (omega (arith, fits)) refl i))))
 
 read_event : (e : Event) → FitsEvent e → record_at (line_of_event e) ≡ Record.Event e
-read_event (Event.Deed k page d) fits = by_actor k (codes "deed page " ++ (decimal page ++ (codes " heap " ++ (decimal d.heap ++ (codes " " ++ (kind_text d.kind ++ codes "\n")))))) fits.0 ∙ ap Record.Event (deed_is k page d fits)
-read_event (Event.Back k page) fits = by_actor k (codes "back page " ++ (decimal page ++ codes "\n")) fits.0 ∙ ap Record.Event (back_is k page fits.1)
-read_event (Event.Unback k page epoch) fits = by_actor k (codes "unback page " ++ (decimal page ++ (codes " epoch " ++ (decimal epoch ++ codes "\n")))) fits.0 ∙ ap Record.Event (unback_is k page epoch fits.1 fits.2)
-read_event (Event.Give k block) fits = by_actor k (codes "give" ++ (name_text block.name ++ (codes " room " ++ (decimal block.room ++ (codes " heap " ++ (decimal block.heap ++ codes "\n")))))) fits.0 ∙ ap Record.Event (give_is k block fits.1)
-read_event (Event.End k name epoch) fits = by_actor k (codes "freed" ++ (name_text name ++ (codes " epoch " ++ (decimal epoch ++ codes "\n")))) fits.0 ∙ ap Record.Event (freed_is k name epoch fits.1 fits.2)
-read_event (Event.Reject k name Why.Ended) fits = by_actor k (codes "ended" ++ (name_text name ++ codes "\n")) fits.0 ∙ ap (λ n. Record.Event (Event.Reject k n Why.Ended)) (name_is name 10 [] fits.1 refl)
-read_event (Event.Reject k name Why.NoBlock) fits = by_actor k (codes "no-block" ++ (name_text name ++ codes "\n")) fits.0 ∙ ap (λ n. Record.Event (Event.Reject k n Why.NoBlock)) (name_is name 10 [] fits.1 refl)
+read_event (Event.Deed k page d) fits = by_actor k _ fits.0 ∙ ap Record.Event (deed_is k page d fits)
+read_event (Event.Back k page) fits = by_actor k _ fits.0 ∙ ap Record.Event (back_is k page fits.1)
+read_event (Event.Unback k page epoch) fits = by_actor k _ fits.0 ∙ ap Record.Event (unback_is k page epoch fits.1 fits.2)
+read_event (Event.Give k block) fits = by_actor k _ fits.0 ∙ ap Record.Event (give_is k block fits.1)
+read_event (Event.End k name epoch) fits = by_actor k _ fits.0 ∙ ap Record.Event (freed_is k name epoch fits.1 fits.2)
+read_event (Event.Reject k name Why.Ended) fits = by_actor k _ fits.0 ∙ ap (λ n. Record.Event (Event.Reject k n Why.Ended)) (name_is name 10 [] fits.1 refl)
+read_event (Event.Reject k name Why.NoBlock) fits = by_actor k _ fits.0 ∙ ap (λ n. Record.Event (Event.Reject k n Why.NoBlock)) (name_is name 10 [] fits.1 refl)
 read_event (Event.Reject k name (Why.SizeDiffers room)) fits =
-    by_actor k (codes "size-differs" ++ (name_text name ++ (codes " asked " ++ (decimal room ++ codes "\n")))) fits.0 ∙ ap Record.Event (size_differs_is k name room fits.1 fits.2)
+    by_actor k _ fits.0 ∙ ap Record.Event (size_differs_is k name room fits.1 fits.2)
 
 read_said : (k : ℕ) (said : Said) → k < 2 ^ 8 → FitsSaid said → record_at (line_of_answer k said) ≡ Record.Said k said
-read_said k (Said.NoSpace name) few fits = by_actor k (codes "no-space name " ++ (decimal name ++ codes "\n")) few ∙ ap (λ n. Record.Said k (Said.NoSpace n)) (u32_back name 10 [] fits refl)
-read_said k (Said.Held page name) few fits = by_actor k (codes "held " ++ (decimal page ++ (codes " name " ++ (decimal name ++ codes "\n")))) few ∙ ap (Record.Said k) (held_is page name fits.0 fits.1)
-read_said k (Said.Outside block) few fits = by_actor k (codes "outside" ++ (name_text block ++ codes "\n")) few ∙ ap (λ n. Record.Said k (Said.Outside n)) (name_is block 10 [] fits refl)
-read_said k (Said.Unaligned block) few fits = by_actor k (codes "unaligned" ++ (name_text block ++ codes "\n")) few ∙ ap (λ n. Record.Said k (Said.Unaligned n)) (name_is block 10 [] fits refl)
-read_said k (Said.Skipped name) few fits = by_actor k (codes "skipped name " ++ (decimal name ++ codes "\n")) few ∙ ap (λ n. Record.Said k (Said.Skipped n)) (u32_back name 10 [] fits refl)
-read_said k (Said.Kept block name) few fits = by_actor k (codes "kept" ++ (name_text block ++ (codes " name " ++ (decimal name ++ codes "\n")))) few ∙ ap (Record.Said k) (kept_is block name fits.0 fits.1)
-read_said k (Said.Tick epoch) few fits = by_actor k (codes "tick " ++ (decimal epoch ++ codes "\n")) few ∙ ap (λ n. Record.Said k (Said.Tick n)) (number_back epoch 10 [] fits refl)
-read_said k (Said.Pass epoch) few fits = by_actor k (codes "pass " ++ (decimal epoch ++ codes "\n")) few ∙ ap (λ n. Record.Said k (Said.Pass n)) (number_back epoch 10 [] fits refl)
-read_said k (Said.Bare page) few fits = by_actor k (codes "bare page " ++ (decimal page ++ codes "\n")) few ∙ ap (λ n. Record.Said k (Said.Bare n)) (u32_back page 10 [] fits refl)
-read_said k (Said.Young page stamp) few fits = by_actor k (codes "young page " ++ (decimal page ++ (codes " stamp " ++ (decimal stamp ++ codes "\n")))) few ∙ ap (Record.Said k) (young_is page stamp fits.0 fits.1)
+read_said k (Said.NoSpace name) few fits = by_actor k _ few ∙ ap (λ n. Record.Said k (Said.NoSpace n)) (u32_back name 10 [] fits refl)
+read_said k (Said.Held page name) few fits = by_actor k _ few ∙ ap (Record.Said k) (held_is page name fits.0 fits.1)
+read_said k (Said.Outside block) few fits = by_actor k _ few ∙ ap (λ n. Record.Said k (Said.Outside n)) (name_is block 10 [] fits refl)
+read_said k (Said.Unaligned block) few fits = by_actor k _ few ∙ ap (λ n. Record.Said k (Said.Unaligned n)) (name_is block 10 [] fits refl)
+read_said k (Said.Skipped name) few fits = by_actor k _ few ∙ ap (λ n. Record.Said k (Said.Skipped n)) (u32_back name 10 [] fits refl)
+read_said k (Said.Kept block name) few fits = by_actor k _ few ∙ ap (Record.Said k) (kept_is block name fits.0 fits.1)
+read_said k (Said.Tick epoch) few fits = by_actor k _ few ∙ ap (λ n. Record.Said k (Said.Tick n)) (number_back epoch 10 [] fits refl)
+read_said k (Said.Pass epoch) few fits = by_actor k _ few ∙ ap (λ n. Record.Said k (Said.Pass n)) (number_back epoch 10 [] fits refl)
+read_said k (Said.Bare page) few fits = by_actor k _ few ∙ ap (λ n. Record.Said k (Said.Bare n)) (u32_back page 10 [] fits refl)
+read_said k (Said.Young page stamp) few fits = by_actor k _ few ∙ ap (Record.Said k) (young_is page stamp fits.0 fits.1)
 read_said k (Said.InUse page word value) few fits =
-    by_actor k (codes "in-use page " ++ (decimal page ++ (codes " word " ++ (decimal word ++ (codes " value 0x" ++ (hex_digits 16 value ++ codes "\n")))))) few ∙ ap (Record.Said k) (in_use_is page word value fits.0 fits.1 fits.2)
-read_said k (Said.NotOffered page) few fits = by_actor k (codes "not-offered page " ++ (decimal page ++ codes "\n")) few ∙ ap (λ n. Record.Said k (Said.NotOffered n)) (u32_back page 10 [] fits refl)
-read_said k (Said.Stopped thread) few fits = by_actor k (codes "stopped " ++ (decimal thread ++ codes "\n")) few ∙ ap (λ n. Record.Said k (Said.Stopped n)) (u8_back thread 10 [] fits refl)
+    by_actor k _ few ∙ ap (Record.Said k) (in_use_is page word value fits.0 fits.1 fits.2)
+read_said k (Said.NotOffered page) few fits = by_actor k _ few ∙ ap (λ n. Record.Said k (Said.NotOffered n)) (u32_back page 10 [] fits refl)
+read_said k (Said.Stopped thread) few fits = by_actor k _ few ∙ ap (λ n. Record.Said k (Said.Stopped n)) (u8_back thread 10 [] fits refl)
 read_said k (Said.Guarded low high name) few fits =
-    by_actor k (codes "guarded " ++ (decimal low ++ (codes " " ++ (decimal high ++ (codes " name " ++ (decimal name ++ codes "\n")))))) few ∙ ap (Record.Said k) (guarded_is low high name fits.0 fits.1 fits.2)
-read_said k (Said.Lowered low high) few fits = by_actor k (codes "lowered " ++ (decimal low ++ (codes " " ++ (decimal high ++ codes "\n")))) few ∙ ap (Record.Said k) (lowered_is low high fits.0 fits.1)
+    by_actor k _ few ∙ ap (Record.Said k) (guarded_is low high name fits.0 fits.1 fits.2)
+read_said k (Said.Lowered low high) few fits = by_actor k _ few ∙ ap (Record.Said k) (lowered_is low high fits.0 fits.1)
 
 -- THE LINE is read as its record
 read_back : (r : Record) → Fits r → record_at (line_of r) ≡ r

@@ -21,6 +21,6 @@ epoch_stays e s old h = search (arith, same_both)
 pub epoch_kept : (ks : Kinds) → apart ks raising ≡ true → (k : ℕ) (steps : List Made) (l : Whole) → Only ks steps
     → word_after (triples k steps ++ l) Word.Epoch ≡ word_after l Word.Epoch
 epoch_kept ks w k [] l only = refl
-epoch_kept ks w k (m ∷ ms) l only =
-    epoch_stays (epoch_of (part k (triples k ms ++ l))) m.step (word_after (triples k ms ++ l) Word.Epoch) (in_apart ks raising (place_of (kind_of m.step)) w only.0)
+epoch_kept ks w k (m ∷ ms) l only = epoch_stays (epoch_of (part k (triples k ms ++ l))) m.step (word_after (triples k ms ++ l) Word.Epoch)
+    (in_apart ks raising (place_of (kind_of m.step)) w only.0)
     ∙ epoch_kept ks w k ms l only.1

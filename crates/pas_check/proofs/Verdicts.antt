@@ -12,8 +12,7 @@ goes_front : (n : ℕ) (f : Profile) (s : Stand) (lines : List (List ℕ)) → M
 goes_front zero f s lines go = (s, refl)
 goes_front (suc n) f s [] go = go
 goes_front (suc n) f s (line ∷ lines) go =
-    let rest : MayGo f go.1.0 (take n lines) = goes_front n f go.1.0 lines (go.0, go.1.2) in
-    (rest.0, (go.1.0, go.1.1, rest.1))
+    let rest = goes_front n f go.1.0 lines (go.0, go.1.2) in grind (arith, rest)
 
 take-take : (a b : ℕ) (lines : List (List ℕ)) → a ≤ b → take a (take b lines) ≡ take a lines
 take-take zero b lines le = refl
@@ -23,6 +22,7 @@ take-take (suc a) (suc b) (line ∷ lines) le = ap (λ ls. line ∷ ls) (take-ta
 
 -- no fewer than these lines may come
 module _ (f : Profile) (s : Stand) (lines : List (List ℕ)) where
+  -- Where the first lines lead on, so do fewer.
   shorter : (a b : ℕ) → a ≤ b → MayGo f s (take b lines) → MayGo f s (take a lines)
   shorter a b le go = subst (MayGo f s) (take-take a b lines le) (goes_front a f s (take b lines) go)
 

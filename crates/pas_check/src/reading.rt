@@ -76,6 +76,7 @@ fn deed(actor: u8, text: &[u8]) -> Event
     }
 }
 
+/// The event of a line `back`.
 fn back(actor: u8, text: &[u8]) -> Event
     ensures { result ≡ back_at actor text.now }
 {
@@ -85,6 +86,7 @@ fn back(actor: u8, text: &[u8]) -> Event
     }
 }
 
+/// The event of a line `unback`.
 fn unback(actor: u8, text: &[u8]) -> Event
     ensures { result ≡ unback_at actor text.now }
 {
@@ -96,6 +98,7 @@ fn unback(actor: u8, text: &[u8]) -> Event
     }
 }
 
+/// The event of a line `give`.
 fn give(actor: u8, text: &[u8]) -> Event
     ensures { result ≡ give_at actor text.now }
 {
@@ -109,6 +112,7 @@ fn give(actor: u8, text: &[u8]) -> Event
     Event::Give { actor, block }
 }
 
+/// The event of a line `freed`.
 fn freed(actor: u8, text: &[u8]) -> Event
     ensures { result ≡ freed_at actor text.now }
 {
@@ -120,6 +124,7 @@ fn freed(actor: u8, text: &[u8]) -> Event
     }
 }
 
+/// What a line `held` says.
 fn held(text: &[u8]) -> Said
     ensures { result ≡ held_at text.now }
 {
@@ -130,6 +135,7 @@ fn held(text: &[u8]) -> Said
     }
 }
 
+/// What a line `young` says.
 fn young(text: &[u8]) -> Said
     ensures { result ≡ young_at text.now }
 {
@@ -140,6 +146,7 @@ fn young(text: &[u8]) -> Said
     }
 }
 
+/// What a line `in-use` says.
 fn in_use(text: &[u8]) -> Said
     ensures { result ≡ in_use_at text.now }
 {
@@ -152,6 +159,7 @@ fn in_use(text: &[u8]) -> Said
     }
 }
 
+/// The event of a line `size-differs`.
 fn size_differs(actor: u8, text: &[u8]) -> Event
     ensures { result ≡ size_differs_at actor text.now }
 {
@@ -164,6 +172,7 @@ fn size_differs(actor: u8, text: &[u8]) -> Event
     }
 }
 
+/// What a line `kept` says.
 fn kept(text: &[u8]) -> Said
     ensures { result ≡ kept_at text.now }
 {
@@ -174,6 +183,7 @@ fn kept(text: &[u8]) -> Said
     }
 }
 
+/// What a line `guarded` says.
 fn guarded(text: &[u8]) -> Said
     ensures { result ≡ guarded_at text.now }
 {
@@ -186,6 +196,7 @@ fn guarded(text: &[u8]) -> Said
     }
 }
 
+/// What a line `lowered` says.
 fn lowered(text: &[u8]) -> Said
     ensures { result ≡ lowered_at text.now }
 {
@@ -207,6 +218,7 @@ fn begun_by_b(actor: u8, text: &[u8]) -> Record
     }
 }
 
+/// The record of a line whose word begins with `u`.
 fn begun_by_u(actor: u8, text: &[u8]) -> Record
     ensures { result ≡ with_u actor text.now }
 {
@@ -218,6 +230,7 @@ fn begun_by_u(actor: u8, text: &[u8]) -> Record
     }
 }
 
+/// The record of a line whose word begins with `g`.
 fn begun_by_g(actor: u8, text: &[u8]) -> Record
     ensures { result ≡ with_g actor text.now }
 {
@@ -228,6 +241,7 @@ fn begun_by_g(actor: u8, text: &[u8]) -> Record
     }
 }
 
+/// The record of a line whose word begins with `n`.
 fn begun_by_n(actor: u8, text: &[u8]) -> Record
     ensures { result ≡ with_n actor text.now }
 {
@@ -250,6 +264,7 @@ fn begun_by_n(actor: u8, text: &[u8]) -> Record
     }
 }
 
+/// The record of a line whose word begins with `s`.
 fn begun_by_s(actor: u8, text: &[u8]) -> Record
     ensures { result ≡ with_s actor text.now }
 {

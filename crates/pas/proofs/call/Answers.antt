@@ -18,5 +18,6 @@ returns-clause-usage g c =
 pub returns-clause-sink_failed : goal.returns-clause-sink_failed
 returns-clause-sink_failed g c =
     let same : texts_of c.deref.result.now ≡ map string_bytes c.args.words.now = ap texts_of c.deref.ensures.value ∙ c.in_ok-words.ensures in
-    subst (λ (t : List (List ℕ)). c.pas_main.result ≡ 4 → IsCutOff t (g.S.Source.rest c.args.source.now) (g.K.Sink.held c.args.sink.now) (g.K.Sink.held c.pas_main.new.sink) (g.K.Sink.faults c.args.sink.now) (g.K.Sink.faults c.pas_main.new.sink)) same
+    subst (λ (t : List (List ℕ)). c.pas_main.result ≡ 4 → IsCutOff t (g.S.Source.rest c.args.source.now) (g.K.Sink.held c.args.sink.now)
+    (g.K.Sink.held c.pas_main.new.sink) (g.K.Sink.faults c.args.sink.now) (g.K.Sink.faults c.pas_main.new.sink)) same
     c.pas_main.ensures.sink_failed

@@ -5,7 +5,8 @@ use Rattle.pas_check.proofs.acting.serve.Goals as goal
 
 pub returns-in_default-clause-taken : goal.returns-in_default-clause-taken
 returns-in_default-clause-taken c = λ f s r stands wants due.
-    served_amiss wants stands due (fits_wanted wants c.args.k (omega arith) (omega arith) (omega arith) (omega arith) c.requires.kind) c.take_request.new.machine c.in_default.ensures.taken
+    served_amiss wants stands due (fits_wanted wants c.args.k (omega arith) (omega arith) (omega arith) (omega arith) c.requires.kind)
+    c.take_request.new.machine c.in_default.ensures.taken
 
 pub returns-in_default-replaced-clause-taken : goal.returns-in_default-replaced-clause-taken
 returns-in_default-replaced-clause-taken c = λ f s r stands wants due.

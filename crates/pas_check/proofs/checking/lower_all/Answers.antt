@@ -1,7 +1,7 @@
 use Rattle.std.proofs.Common.{◌+◌, refl, arith}
 use Rattle.pas_trace.specs.Acts.{Lowers}
 use Rattle.pas_check.specs.Checks.{threads_in}
-use Rattle.pas_check.proofs.Chains.{nothing_taken, number_taken, numbers_taken, sized_on, stopped}
+use Rattle.pas_check.proofs.Actings.{nothing_taken, number_taken, numbers_taken, sized_on, stopped}
 use Rattle.pas_check.proofs.checking.lower_all.Goals as goal
 
 pub loop-index-init : goal.loop-index-init
@@ -17,7 +17,8 @@ lower-requires c = record { within = c.loop-index.invariant.within }
 
 pub returns-then-not-lower-clause-taken : goal.returns-then-not-lower-clause-taken
 returns-then-not-lower-clause-taken c =
-    stopped (number_taken Lowers c.loop-index.index (threads_in c.args.judge.now + c.args.keepers) (omega (arith, c.loop-index-test.true, c.threads_of-threads.ensures)) c.loop-index.invariant.far
+    stopped (number_taken Lowers c.loop-index.index (threads_in c.args.judge.now + c.args.keepers)
+    (omega (arith, c.loop-index-test.true, c.threads_of-threads.ensures)) c.loop-index.invariant.far
     c.if-not-lower.ensures.taken)
 
 pub loop-index-preserved : goal.loop-index-preserved
@@ -25,10 +26,12 @@ loop-index-preserved c = record {
   sized = sized_on c.loop-index.invariant.sized c.if-not-lower.ensures.sized;
   within = c.if-not-lower.ensures.within;
   after = omega (arith, c.loop-index.invariant.after);
-  far = number_taken Lowers c.loop-index.index (threads_in c.args.judge.now + c.args.keepers) (omega (arith, c.loop-index-test.true, c.threads_of-threads.ensures)) c.loop-index.invariant.far
+  far = number_taken Lowers c.loop-index.index (threads_in c.args.judge.now + c.args.keepers)
+      (omega (arith, c.loop-index-test.true, c.threads_of-threads.ensures)) c.loop-index.invariant.far
       c.if-not-lower.ensures.taken;
 }
 
 pub returns-clause-taken : goal.returns-clause-taken
 returns-clause-taken c =
-    numbers_taken Lowers c.loop-index.index (threads_in c.args.judge.now + c.args.keepers) (omega (arith, c.loop-index-test.false, c.threads_of-threads.ensures)) c.loop-index.invariant.far
+    numbers_taken Lowers c.loop-index.index (threads_in c.args.judge.now + c.args.keepers)
+    (omega (arith, c.loop-index-test.false, c.threads_of-threads.ensures)) c.loop-index.invariant.far

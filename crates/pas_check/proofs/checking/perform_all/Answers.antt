@@ -5,7 +5,7 @@ use Rattle.pas_profile.specs.declared.profile.Profile.{Profile}
 use Rattle.pas_machine.specs.Machines.{profile_of}
 use Rattle.pas_trace.specs.Acts.{acts_of_op, threads_where}
 use Rattle.pas_check.specs.Tables.{names_held}
-use Rattle.pas_check.proofs.Chains.{sized_as_before, sized_on, stopped, taken_for, then_taken, acts_at, one_planned_as, ops_there, past}
+use Rattle.pas_check.proofs.Actings.{sized_as_before, sized_on, stopped, taken_for, then_taken, acts_at, one_planned_as, ops_there, past}
 use Rattle.pas_check.proofs.checking.perform_all.Goals as goal
 
 pub perform-requires-clause-valid : goal.perform-requires-clause-valid
@@ -29,7 +29,8 @@ pub loop-op-preserved : goal.loop-op-preserved
 loop-op-preserved c = record {
   sized = sized_on c.loop-op.invariant.sized c.if-not-perform.ensures.sized;
   within = c.if-not-perform.ensures.within;
-  planned = (ops_there (profile_of c.args.judge.now.machine) (names_held c.args.judge.now.names) c.args.ops.now c.loop-op.op-index c.loop-op-test.true c.loop-op.invariant.planned).1;
+  planned = (ops_there (profile_of c.args.judge.now.machine)
+      (names_held c.args.judge.now.names) c.args.ops.now c.loop-op.op-index c.loop-op-test.true c.loop-op.invariant.planned).1;
   far = then_taken _ (acts_at _ c.args.ops.now c.loop-op.op-index c.loop-op-test.true) c.loop-op.invariant.far
       (taken_for (λ n. acts_of_op (threads_where (λ k. not (is_set c.args.awake k)) n) (get_or c.args.ops.now c.loop-op.op-index past))
       (ap (λ (f : Profile). f.threads) c.loop-op.invariant.sized.profile) c.if-not-perform.ensures.taken);

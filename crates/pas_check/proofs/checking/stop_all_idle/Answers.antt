@@ -2,7 +2,7 @@ use Rattle.std.proofs.Common.{[], not, refl, arith, append-nil}
 use Rattle.pas_bits.specs.Masks.{is_set}
 use Rattle.pas_trace.specs.Acts.{StopsIdle}
 use Rattle.pas_check.specs.Checks.{threads_in}
-use Rattle.pas_check.proofs.Chains.{ahead, idly_taken, nothing_taken, sized_on, stopped, taken_on, then_taken}
+use Rattle.pas_check.proofs.Actings.{ahead, idly_taken, nothing_taken, sized_on, stopped, taken_on, then_taken}
 use Rattle.pas_trace.proofs.ThreadsInOrder.{next_there, none_left}
 use Rattle.pas_check.proofs.checking.stop_all_idle.Goals as goal
 
@@ -26,18 +26,21 @@ stop_unless_awake-requires-clause-known c =
 
 pub returns-then-not-stop_unless_awake-clause-taken : goal.returns-then-not-stop_unless_awake-clause-taken
 returns-then-not-stop_unless_awake-clause-taken c =
-    stopped (then_taken _ (next_there (λ k. StopsIdle k c.args.epochs) (λ k. not (is_set c.args.awake k)) c.loop-index.index (threads_in c.args.judge.now) [] (omega (arith, c.loop-index-test.true, c.threads_of-threads.ensures)))
+    stopped (then_taken _ (next_there (λ k. StopsIdle k c.args.epochs) (λ k. not (is_set c.args.awake k)) c.loop-index.index
+    (threads_in c.args.judge.now) [] (omega (arith, c.loop-index-test.true, c.threads_of-threads.ensures)))
     c.loop-index.invariant.far c.if-not-stop_unless_awake.ensures.taken)
 
 pub loop-index-preserved : goal.loop-index-preserved
 loop-index-preserved c = record {
   sized = sized_on c.loop-index.invariant.sized c.if-not-stop_unless_awake.ensures.sized;
   within = c.if-not-stop_unless_awake.ensures.within;
-  far = then_taken _ (next_there (λ k. StopsIdle k c.args.epochs) (λ k. not (is_set c.args.awake k)) c.loop-index.index (threads_in c.args.judge.now) [] (omega (arith, c.loop-index-test.true, c.threads_of-threads.ensures)))
+  far = then_taken _ (next_there (λ k. StopsIdle k c.args.epochs) (λ k. not (is_set c.args.awake k)) c.loop-index.index
+      (threads_in c.args.judge.now) [] (omega (arith, c.loop-index-test.true, c.threads_of-threads.ensures)))
       c.loop-index.invariant.far c.if-not-stop_unless_awake.ensures.taken;
 }
 
 pub returns-clause-taken : goal.returns-clause-taken
 returns-clause-taken c =
-    rw (none_left (λ k. StopsIdle k c.args.epochs) (λ k. not (is_set c.args.awake k)) c.loop-index.index (threads_in c.args.judge.now) [] (omega (arith, c.loop-index-test.false, c.threads_of-threads.ensures)))
+    rw (none_left (λ k. StopsIdle k c.args.epochs) (λ k. not (is_set c.args.awake k)) c.loop-index.index (threads_in c.args.judge.now) []
+    (omega (arith, c.loop-index-test.false, c.threads_of-threads.ensures)))
     at c.loop-index.invariant.far

@@ -1,6 +1,6 @@
 use Rattle.std.proofs.Common.{◌≡◌, not, true, false, ap, refl, sym, ◌∙◌}
 use Rattle.pas_bits.specs.Masks.{is_set}
-use Rattle.pas_check.proofs.Chains.{act_taken, chosen_alone, nothing_taken}
+use Rattle.pas_check.proofs.Actings.{act_taken, chosen_alone, nothing_taken}
 use Rattle.pas_check.proofs.checking.stop_unless_awake.Goals as goal
 
 pub returns-then-get-clause-taken : goal.returns-then-get-clause-taken

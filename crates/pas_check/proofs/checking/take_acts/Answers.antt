@@ -1,7 +1,7 @@
 use Rattle.std.proofs.Common.{ap}
 use Rattle.pas_profile.specs.declared.profile.Profile.{Profile}
 use Rattle.pas_trace.specs.Acts.{close_acts}
-use Rattle.pas_check.proofs.Chains.{stopped, taken_for, taken_on}
+use Rattle.pas_check.proofs.Actings.{stopped, taken_for, taken_on}
 use Rattle.pas_check.proofs.checking.take_acts.Goals as goal
 
 pub returns-clause-taken : goal.returns-clause-taken

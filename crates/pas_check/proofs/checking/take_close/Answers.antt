@@ -1,7 +1,7 @@
 use Rattle.std.proofs.Common.{◌+◌, map, ap}
 use Rattle.pas_profile.specs.declared.profile.Profile.{Profile}
 use Rattle.pas_trace.specs.Acts.{Lowers, numbers_from}
-use Rattle.pas_check.proofs.Chains.{act_taken, ahead, stopped, taken_for, taken_on}
+use Rattle.pas_check.proofs.Actings.{act_taken, ahead, stopped, taken_for, taken_on}
 use Rattle.pas_check.proofs.checking.take_close.Goals as goal
 
 pub returns-then-not-mark_close-clause-taken : goal.returns-then-not-mark_close-clause-taken

@@ -5,12 +5,13 @@ use Rattle.pas_machine.specs.Machines.{profile_of}
 use Rattle.pas_trace.specs.Plans.{ops_of}
 use Rattle.pas_trace.specs.declared.plan.Op.{Op}
 use Rattle.pas_check.specs.{Checks.ArePlanned, Checks.threads_in, Tables.names_held}
-use Rattle.pas_check.proofs.Chains.{act_taken, sized_as_before, sized_on, stopped, then_taken, phase_at, phase_done, phases_there, planned_as}
+use Rattle.pas_check.proofs.Actings.{act_taken, sized_as_before, sized_on, stopped, then_taken, phase_at, phase_done, phases_there, planned_as}
 use Rattle.pas_check.proofs.checking.take_later.Goals as goal
 
 pub returns-then-not-mark_phase-clause-taken : goal.returns-then-not-mark_phase-clause-taken
 returns-then-not-mark_phase-clause-taken c keepers =
-    stopped (then_taken _ (phase_at (threads_in c.args.judge.now) keepers (c.loop-phase.number + 1) c.args.phases.now c.loop-phase.phase-index c.phase-item.result c.loop-phase-test.true)
+    stopped (then_taken _ (phase_at (threads_in c.args.judge.now) keepers
+    (c.loop-phase.number + 1) c.args.phases.now c.loop-phase.phase-index c.phase-item.result c.loop-phase-test.true)
     (c.loop-phase.invariant.far keepers) (act_taken c.if-not-mark_phase.ensures.taken))
 
 pub take_phase-requires-clause-valid : goal.take_phase-requires-clause-valid
@@ -26,7 +27,8 @@ take_phase-requires-clause-planned c =
     let i = c.loop-phase.phase-index in
     let here = (phases_there (profile_of old.machine) (names_held old.names) c.args.phases.now i d c.loop-phase-test.true c.loop-phase.invariant.planned).0 in
     let is : ops_of (get_or c.args.phases.now i d) ≡ c.as_slice.result.now = ap ops_of (sym c.phase-item.is) ∙ sym c.as_slice.ensures in
-    planned_as old c.loop-phase.judge c.as_slice.result.now c.loop-phase.invariant.sized (subst (λ (os : List Op). ArePlanned (profile_of old.machine) (names_held old.names) os) is here)
+    planned_as old c.loop-phase.judge c.as_slice.result.now c.loop-phase.invariant.sized
+    (subst (λ (os : List Op). ArePlanned (profile_of old.machine) (names_held old.names) os) is here)
 
 pub returns-then-not-take_phase-clause-taken : goal.returns-then-not-take_phase-clause-taken
 returns-then-not-take_phase-clause-taken c keepers =

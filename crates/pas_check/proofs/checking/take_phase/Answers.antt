@@ -1,6 +1,6 @@
 use Rattle.std.proofs.Common.{ap}
 use Rattle.pas_profile.specs.declared.profile.Profile.{Profile}
-use Rattle.pas_check.proofs.Chains.{phase_taken}
+use Rattle.pas_check.proofs.Actings.{phase_taken}
 use Rattle.pas_check.proofs.checking.take_phase.Goals as goal
 
 pub returns-clause-taken : goal.returns-clause-taken

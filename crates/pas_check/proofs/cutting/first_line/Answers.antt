@@ -10,7 +10,8 @@ returns-in-Some-clause-some c =
     let n = c.in-Some.place in
     let at = c.in-Some.ensures in
     let high : n < length w = at.0.high in
-    let ends : is_line (take (n + 1) w) ≡ true = ap is_line (take_more w n 0 high) ∙ front_ends (take n w) (get_or w n 0) (front_before w n at.0.before) (eqb-true (get_or w n 0) 10 at.1) in
+    let ends : is_line (take (n + 1) w) ≡ true = ap is_line (take_more w n 0 high)
+    ∙ front_ends (take n w) (get_or w n 0) (front_before w n at.0.before) (eqb-true (get_or w n 0) 10 at.1) in
     (omega (arith, high), cut_first (n + 1) w ends)
 
 pub returns-in-None-clause-some : goal.returns-in-None-clause-some

@@ -1,6 +1,6 @@
 use Rattle.std.proofs.Common.{◌≡◌, sym, subst, ◌∙◌, arith}
 use Rattle.pas_report.specs.Lines.{line_of}
-use Rattle.pas_check.proofs.LinesTaken.{found_only, outcome_unread, outcome_other, outcome_amiss, outcome_came, outcome_failed, record_is}
+use Rattle.pas_check.proofs.OneNext.{found_only, outcome_unread, outcome_other, outcome_amiss, outcome_came, outcome_failed, record_is}
 use Rattle.pas_check.proofs.examining.take_outcome.Goals as goal
 use Rattle.pas_check.proofs.examining.take_outcome.Goals.{then-examined-last-via-then-examined-last}
 use Rattle.pas_check.proofs.examining.take_outcome.Goals.{then-examined-last-via-else-examined-last+then-not-has_page}
@@ -25,12 +25,14 @@ returns-then-examined-last-clause-taken c =
 pub returns-then-not-examine-clause-taken : goal.returns-then-not-examine-clause-taken
 returns-then-not-examine-clause-taken c =
     let only = found_only c.args.machine.now c.args.line.now c.args.last c.args.epoch (rw c.in-Some.is at c.read.ensures) c.outcome_of.ensures in
-    outcome_failed c.args.machine.now c.args.line.now c.args.last c.args.epoch c.examine.new.machine c.in-Some-outcome_of.examined (rw c.in-Some-outcome_of.is at only) c.if-not-examine.ensures.came
+    outcome_failed c.args.machine.now c.args.line.now c.args.last c.args.epoch c.examine.new.machine c.in-Some-outcome_of.examined
+    (rw c.in-Some-outcome_of.is at only) c.if-not-examine.ensures.came
 
 pub returns-clause-taken : goal.returns-clause-taken
 returns-clause-taken c =
     let x = c.in-Some-outcome_of.examined in
     let is = record_is c.args.epoch c.in-Some.item x (sym c.outcome_of.ensures ∙ c.in-Some-outcome_of.is) in
     let read = rw c.in-Some.is at c.read.ensures in
-    outcome_came c.args.machine.now c.args.line.now c.args.last c.args.epoch c.examine.new.machine x (subst (λ r. c.args.line.now ≡ line_of r) is read.some) (omega (arith, c.if-examined-last.false))
+    outcome_came c.args.machine.now c.args.line.now c.args.last c.args.epoch c.examine.new.machine x (subst (λ r. c.args.line.now ≡ line_of r) is read.some)
+    (omega (arith, c.if-examined-last.false))
     c.if-not-has_page.ensures c.if-not-examine.ensures.came

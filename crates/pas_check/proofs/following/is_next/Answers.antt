@@ -6,4 +6,5 @@ use Rattle.pas_check.proofs.following.is_next.Goals as goal
 
 pub take_line-requires-clause-line : goal.take_line-requires-clause-line
 take_line-requires-clause-line c =
-    ap is_line (c.as_bytes.ensures.value ∙ c.deref.ensures.0 ∙ c.push_record.ensures.bytes ∙ ap (λ bytes. bytes ++ line_of c.args.item.now) c.new-wanted.ensures) ∙ record_line c.args.item.now
+    ap is_line (c.as_bytes.ensures.value ∙ c.deref.ensures.0 ∙ c.push_record.ensures.bytes
+    ∙ ap (λ bytes. bytes ++ line_of c.args.item.now) c.new-wanted.ensures) ∙ record_line c.args.item.now

@@ -3,8 +3,8 @@ use Rattle.pas_profile.specs.Blocks.{address_of}
 use Rattle.pas_profile.specs.declared.name.Block.{Block}
 use Rattle.pas_machine.specs.{Machines.profile_of, State.gives_in, State.live_in}
 use Rattle.pas_check.specs.Begins.{unsized}
-use Rattle.pas_check.proofs.Entries.{block_there, counts, gone, nothing_there}
-use Rattle.pas_check.proofs.Guardings.{no_ends}
+use Rattle.pas_check.proofs.OneNext.{block_there, counts, gone, nothing_there}
+use Rattle.pas_check.proofs.Stretches.{no_ends}
 use Rattle.pas_check.proofs.guarding.has_ended.Goals as goal
 
 pub returns-then-not-is_place : goal.returns-then-not-is_place

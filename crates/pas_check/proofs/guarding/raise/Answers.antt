@@ -1,6 +1,6 @@
 use Rattle.std.proofs.Common.{◌∷◌, [], ap, ◌++◌, ◌∙◌}
 use Rattle.pas_check.specs.declared.guard.Guard.{Guard}
-use Rattle.pas_check.proofs.Guardings.{not_raised, raised}
+use Rattle.pas_check.proofs.Stretches.{not_raised, raised}
 use Rattle.pas_check.proofs.guarding.raise.Goals as goal
 
 pub returns-in_default-clause-taken : goal.returns-in_default-clause-taken

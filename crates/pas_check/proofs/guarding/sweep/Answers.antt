@@ -1,6 +1,6 @@
 use Rattle.std.proofs.Common.{rules}
 use Rattle.std.proofs.lemmas.Fn.{filter_same}
-use Rattle.pas_check.proofs.Guardings.{swept_amiss, swept_on}
+use Rattle.pas_check.proofs.Stretches.{swept_amiss, swept_on}
 use Rattle.pas_check.proofs.guarding.sweep.Goals as goal
 
 pub returns-then-not-take_lowered-clause-taken : goal.returns-then-not-take_lowered-clause-taken

@@ -1,7 +1,7 @@
 use Rattle.std.proofs.Common.{drop_of_length-le}
 use Rattle.std.proofs.lemmas.List.{drop_more}
 use Rattle.pas_check.specs.declared.guard.Guard.{Guard}
-use Rattle.pas_check.proofs.{Guardings.sweep_begins, Guardings.sweep_lowers, Guardings.sweep_stays}
+use Rattle.pas_check.proofs.{Stretches.sweep_begins, Stretches.sweep_lowers, Stretches.sweep_stays}
 use Rattle.pas_check.proofs.{guarding.take_lowered.Goals.else-goes_down-via-then-goes_down+else-not-take_record}
 use Rattle.pas_check.proofs.{guarding.take_lowered.Goals.else-goes_down-via-else-goes_down}
 use Rattle.pas_check.proofs.guarding.take_lowered.Goals as goal

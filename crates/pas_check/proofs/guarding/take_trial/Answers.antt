@@ -1,6 +1,6 @@
 use Rattle.std.proofs.Common.{◌^◌, ◌<◌, refl, sym, subst, ◌∙◌, arith}
 use Rattle.pas_profile.specs.Profiles.{IsValid}
-use Rattle.pas_check.proofs.Guardings.{trial_begins, trial_ends, trial_goes_on, trial_lacks, trial_stays}
+use Rattle.pas_check.proofs.Stretches.{trial_begins, trial_ends, trial_goes_on, trial_lacks, trial_stays}
 use Rattle.pas_check.proofs.guarding.take_trial.Goals as goal
 
 pub lines-init : goal.lines-init
@@ -32,5 +32,6 @@ lines-preserved c =
       profile = c.if-not-take_preparing.ensures.profile ∙ c.lines.invariant.profile;
       within = c.in-Some.ensures.within;
       goes = trial_goes_on c.lines.invariant.goes c.next_line.new.cursor c.next_line.ensures.count c.requires.valid c.lines.invariant.profile low c.in-Some.ensures.some c.take_preparing.new.machine c.in-Some.ensures.within
-          (c.if-not-take_preparing.ensures.taken c.in-Some.line.now c.read-found.ensures) c.has_backed-backed.result (c.has_backed-backed.ensures c.in-Some.line.now c.read-found.ensures);
+          (c.if-not-take_preparing.ensures.taken c.in-Some.line.now c.read-found.ensures) c.has_backed-backed.result
+          (c.has_backed-backed.ensures c.in-Some.line.now c.read-found.ensures);
     }

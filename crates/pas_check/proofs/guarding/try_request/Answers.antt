@@ -1,6 +1,6 @@
 use Rattle.std.proofs.Common.{subst, sym, arith}
 use Rattle.pas_profile.specs.Profiles.{IsValid}
-use Rattle.pas_check.proofs.Guardings.{tried, tried_amiss}
+use Rattle.pas_check.proofs.Stretches.{tried, tried_amiss}
 use Rattle.pas_check.proofs.guarding.try_request.Goals as goal
 
 pub take_tried-requires-clause-valid : goal.take_tried-requires-clause-valid

@@ -1,4 +1,4 @@
-use Rattle.pas_check.proofs.Entries.{one_event, end_is, reject_is}
+use Rattle.pas_check.proofs.OneNext.{one_event, end_is, reject_is}
 use Rattle.pas_check.proofs.laws.entries_have_one_event.Goals as goal
 
 pub returns-clause-one : goal.returns-clause-one

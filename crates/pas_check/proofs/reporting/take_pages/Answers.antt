@@ -12,8 +12,10 @@ loop-page-init c = record {
   led = λ s more stands due.
       let f = profile_of c.args.machine.now in
       let e : f.pages ≡ f.pages + 1 - 1 = omega arith in
-      let is : s.due ≡ pages_from s.events 1 (f.pages + 1 - 1) ++ more = due ∙ ap (λ (ds : List Due). ds ++ more) (pages_are s.events f.pages) ∙ ap (λ (n : ℕ). pages_from s.events 1 n ++ more) e in
-      subst (λ (ds : List Due). Leads f c.args.text.now s c.args.cursor.now (with_due s ds) c.args.cursor.now) is (leads_nowhere f c.args.text.now s c.args.cursor.now c.requires.within);
+      let is : s.due ≡ pages_from s.events 1 (f.pages + 1 - 1) ++ more = due ∙ ap (λ (ds : List Due). ds ++ more) (pages_are s.events f.pages)
+      ∙ ap (λ (n : ℕ). pages_from s.events 1 n ++ more) e in
+      subst (λ (ds : List Due). Leads f c.args.text.now s c.args.cursor.now (with_due s ds) c.args.cursor.now) is
+      (leads_nowhere f c.args.text.now s c.args.cursor.now c.requires.within);
 }
 
 pub returns-then-not-take_next_page-clause-led : goal.returns-then-not-take_next_page-clause-led
@@ -34,12 +36,12 @@ loop-page-preserved c = record {
   led = λ s more stands due.
       let f = profile_of c.args.machine.now in
       let k = c.loop-page.page in
-      let test = c.loop-page-test.true in
       let count = ap (λ (g : Profile). g.pages) c.profile-pages.ensures in
       let rest = pages_from s.events (k + 1) (f.pages + 1 - (k + 1)) ++ more in
       let u = with_due s (page_due k (deed_in s.events k) ++ rest) in
       leads_on (subst (λ (ds : List Due). Leads f c.args.text.now s c.args.cursor.now (with_due s ds) c.loop-page.cursor)
-      (pages_next s.events k (f.pages + 1 - k) (f.pages + 1 - (k + 1)) more (deed_in s.events k) (omega (arith, test, count)) refl) (c.loop-page.invariant.led s more stands due))
+      (pages_next s.events k (f.pages + 1 - k) (f.pages + 1 - (k + 1)) more (deed_in s.events k) (omega (arith, c.loop-page-test.true, count)) refl)
+      (c.loop-page.invariant.led s more stands due))
       (c.if-not-take_next_page.ensures.led f u rest stands refl);
 }
 

@@ -12,7 +12,8 @@ pub returns-then-not-take_pages-clause-led : goal.returns-then-not-take_pages-cl
 returns-then-not-take_pages-clause-led c = λ s stands due.
     let f = profile_of c.args.machine.now in
     let rest = pages_due s.events f.pages ++ Totals ∷ [] in
-    led_on false (with_due s (Totals ∷ [])) c.take_pages.new.cursor (c.if-not-take_head.ensures.led.led f s rest due) (c.if-not-take_pages.ensures.led (with_due s rest) (Totals ∷ []) stands refl)
+    led_on false (with_due s (Totals ∷ [])) c.take_pages.new.cursor (c.if-not-take_head.ensures.led.led f s rest due)
+    (c.if-not-take_pages.ensures.led (with_due s rest) (Totals ∷ []) stands refl)
 
 pub returns-clause-led : goal.returns-clause-led
 returns-clause-led c = λ s stands due.

@@ -7,9 +7,12 @@ use Rattle.pas_check.proofs.reporting.take_totals.Goals as goal
 pub take_line-requires-clause-line : goal.take_line-requires-clause-line
 take_line-requires-clause-line c =
     ap is_line (c.as_bytes.ensures.value ∙ c.deref.ensures.0 ∙ c.shown_totals-wanted.ensures)
-    ∙ totals_end c.total-totals.result.deeds c.total-totals.result.backed c.total-totals.result.live (c.total-totals.result.ended + c.total-totals.result.live) c.total-totals.result.ended
+    ∙ totals_end c.total-totals.result.deeds c.total-totals.result.backed c.total-totals.result.live
+    (c.total-totals.result.ended + c.total-totals.result.live) c.total-totals.result.ended
 
 pub returns-clause-led : goal.returns-clause-led
 returns-clause-led c = λ s more stands due.
-    totals_led (profile_of c.args.machine.now) c.args.text.now s more c.total-totals.result c.args.cursor.now c.take_line.new.cursor c.as_bytes.result.now c.take_line.result stands.run
-    (c.total-totals.ensures.tells s.events stands) (c.as_bytes.ensures.value ∙ c.deref.ensures.0 ∙ c.shown_totals-wanted.ensures) due c.take_line.ensures.count c.take_line.ensures.taken
+    totals_led (profile_of c.args.machine.now)
+    c.args.text.now s more c.total-totals.result c.args.cursor.now c.take_line.new.cursor c.as_bytes.result.now c.take_line.result stands.run
+    (c.total-totals.ensures.tells s.events stands)
+    (c.as_bytes.ensures.value ∙ c.deref.ensures.0 ∙ c.shown_totals-wanted.ensures) due c.take_line.ensures.count c.take_line.ensures.taken

@@ -1,4 +1,4 @@
-use Rattle.pas_check.proofs.LinesTaken.{no_deed}
+use Rattle.pas_check.proofs.OneNext.{no_deed}
 use Rattle.pas_check.proofs.serving.has_deed.Goals as goal
 
 pub returns-then-not-has_page : goal.returns-then-not-has_page

@@ -1,5 +1,5 @@
 use Rattle.std.proofs.Common.{arith}
-use Rattle.pas_check.proofs.LinesTaken.{refusal_unread, refusal_seen}
+use Rattle.pas_check.proofs.OneNext.{refusal_unread, refusal_seen}
 use Rattle.pas_check.proofs.serving.is_refusal.Goals as goal
 
 pub returns-in_default : goal.returns-in_default

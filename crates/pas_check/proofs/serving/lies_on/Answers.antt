@@ -1,5 +1,5 @@
 use Rattle.std.proofs.Common.{arith}
-use Rattle.pas_check.proofs.LinesTaken.{lies_as_pages_do}
+use Rattle.pas_check.proofs.OneNext.{lies_as_pages_do}
 use Rattle.pas_check.proofs.serving.lies_on.Goals as goal
 
 pub returns : goal.returns

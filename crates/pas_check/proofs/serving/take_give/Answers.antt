@@ -1,4 +1,4 @@
-use Rattle.pas_check.proofs.LinesTaken.{give_unread, give_taken}
+use Rattle.pas_check.proofs.OneNext.{give_unread, give_taken}
 use Rattle.pas_check.proofs.serving.take_give.Goals as goal
 
 pub returns-in_default-clause-taken : goal.returns-in_default-clause-taken

@@ -1,5 +1,5 @@
 use Rattle.std.proofs.Common.{arith}
-use Rattle.pas_check.proofs.LinesTaken.{class_kind}
+use Rattle.pas_check.proofs.OneNext.{class_kind}
 use Rattle.pas_check.proofs.serving.wanted_for.Goals as goal
 
 pub returns-clause-kind : goal.returns-clause-kind

@@ -1,7 +1,7 @@
 use Rattle.std.proofs.Common.{◌∙◌, sym}
 use Rattle.std.proofs.lemmas.Option.{none-some}
 use Rattle.pas_report.specs.declared.record.Record.{Record}
-use Rattle.pas_check.proofs.LinesTaken.{event_of_read}
+use Rattle.pas_check.proofs.OneNext.{event_of_read}
 use Rattle.pas_check.proofs.taking.event_read.Goals as goal
 
 pub returns-in_default : goal.returns-in_default

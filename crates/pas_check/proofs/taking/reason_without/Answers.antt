@@ -1,5 +1,5 @@
 use Rattle.std.proofs.Common.{arith}
-use Rattle.pas_check.proofs.Entries.{gone_ended, never_there}
+use Rattle.pas_check.proofs.OneNext.{gone_ended, never_there}
 use Rattle.pas_check.proofs.taking.reason_without.Goals as goal
 
 pub returns-then-entry-gives : goal.returns-then-entry-gives

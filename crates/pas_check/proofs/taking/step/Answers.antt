@@ -1,4 +1,4 @@
-use Rattle.pas_check.proofs.LinesTaken.{stepped}
+use Rattle.pas_check.proofs.OneNext.{stepped}
 use Rattle.pas_check.proofs.taking.step.Goals as goal
 
 pub returns-clause-stepped : goal.returns-clause-stepped

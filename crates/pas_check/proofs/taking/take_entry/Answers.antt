@@ -1,5 +1,5 @@
 use Rattle.std.proofs.Common.{arith}
-use Rattle.pas_check.proofs.LinesTaken.{entry_amiss, entry_outside, entry_stepped}
+use Rattle.pas_check.proofs.OneNext.{entry_amiss, entry_outside, entry_stepped}
 use Rattle.pas_check.proofs.taking.take_entry.Goals as goal
 
 pub returns-then-not-is_place-clause-taken : goal.returns-then-not-is_place-clause-taken

@@ -1,5 +1,5 @@
 use Rattle.std.proofs.Common.{arith}
-use Rattle.pas_check.proofs.LinesTaken.{preparing_none, preparing_other, preparing_stepped}
+use Rattle.pas_check.proofs.OneNext.{preparing_none, preparing_other, preparing_stepped}
 use Rattle.pas_check.proofs.taking.take_preparing.Goals as goal
 
 pub returns-in_default-clause-taken : goal.returns-in_default-clause-taken

@@ -1,5 +1,5 @@
 use Rattle.std.proofs.Common.{arith}
-use Rattle.pas_check.proofs.Entries.{block_there, nothing_there}
+use Rattle.pas_check.proofs.OneNext.{block_there, nothing_there}
 use Rattle.pas_check.proofs.taking.true_reason.Goals as goal
 
 pub returns-in-Some : goal.returns-in-Some

@@ -5,7 +5,7 @@ use Rattle.pas_trace.specs.Acts.{keepers_of}
 use Rattle.pas_trace.specs.declared.plan.Phase.{Phase}
 use Rattle.pas_trace.proofs.{EveryPlan.every_plan, Keepers.keepers_few}
 use Rattle.pas_check.specs.{Begins.report_due, Checks.IsSoFar, States.at_first}
-use Rattle.pas_check.proofs.Chains.{acts_amiss, acts_on, ended_well, goes_on, known, opening_within, plan_few, planned_there, report_amiss, reported}
+use Rattle.pas_check.proofs.Actings.{acts_amiss, acts_on, ended_well, goes_on, known, opening_within, plan_few, planned_there, report_amiss, reported}
 use Rattle.pas_check.proofs.whole.check.Goals as goal
 use Rattle.pas_check.proofs.whole.check.Goals.{Else-not-take_acts}
 
@@ -49,19 +49,22 @@ pub returns-then-not-take_report : goal.returns-then-not-take_report
 returns-then-not-take_report c =
     let d = (goal.at.returns-then-not-take_report c).Else-not-take_acts in
     let so = so_far d in
-    report_amiss c.args.plan.now so c.take_report.new.cursor so.stands.profile (c.if-not-take_report.ensures.led (reported c.args.plan.now so) so.stands.events (sym (reports d)))
+    report_amiss c.args.plan.now so c.take_report.new.cursor so.stands.profile
+    (c.if-not-take_report.ensures.led (reported c.args.plan.now so) so.stands.events (sym (reports d)))
 
 pub returns-in-None : goal.returns-in-None
 returns-in-None c =
     let d = (goal.at.returns-in-None c).Else-not-take_acts in
     let so = so_far d in
-    ended_well c.args.plan.now so c.take_report.new.cursor so.stands.profile (c.if-not-take_report.ensures.led (reported c.args.plan.now so) so.stands.events (sym (reports d))) c.in-None.ensures.none
+    ended_well c.args.plan.now so c.take_report.new.cursor so.stands.profile
+    (c.if-not-take_report.ensures.led (reported c.args.plan.now so) so.stands.events (sym (reports d))) c.in-None.ensures.none
 
 pub returns : goal.returns
 returns c =
     let d = (goal.at.returns c).Else-not-take_acts in
     let so = so_far d in
-    goes_on c.args.plan.now so c.take_report.new.cursor so.stands.profile (c.if-not-take_report.ensures.led (reported c.args.plan.now so) so.stands.events (sym (reports d))) _ c.next_line.new.cursor c.in-Some.ensures.some c.next_line.ensures.count
+    goes_on c.args.plan.now so c.take_report.new.cursor so.stands.profile (c.if-not-take_report.ensures.led
+    (reported c.args.plan.now so) so.stands.events (sym (reports d))) _ c.next_line.new.cursor c.in-Some.ensures.some c.next_line.ensures.count
 
 pub take_acts-requires-clause-kept : goal.take_acts-requires-clause-kept
 take_acts-requires-clause-kept c =

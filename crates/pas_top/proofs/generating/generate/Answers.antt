@@ -4,13 +4,14 @@ use Rattle.pas_report.specs.declared.record.Record.{Record}
 use Rattle.pas_answers.specs.Ways.{InOrder}
 use Rattle.pas_top.specs.{Outcomes.IsOutcome, Generating.IsSummarized}
 use Rattle.pas_telling.specs.Summaries.{summary_text}
-use Rattle.pas_top.proofs.{OneText.summary_told, Summing.summarized}
+use Rattle.pas_top.proofs.{Headline.summary_told, Statuses.summarized}
 use Rattle.pas_top.proofs.generating.generate.Goals as goal
 
 pub returns-in-Ok-Replayed-clause-told : goal.returns-in-Ok-Replayed-clause-told
 returns-in-Ok-Replayed-clause-told g c =
     let job = c.args.job in
-    let text_is = c.as_str.ensures.value ∙ (c.summary_of-summary.ensures ∙ ap (λ (rs : List Record). summary_text job.ops rs (totals_by_words c.in-Ok-Replayed.state)) c.as_slice.ensures) in
+    let text_is = c.as_str.ensures.value
+    ∙ (c.summary_of-summary.ensures ∙ ap (λ (rs : List Record). summary_text job.ops rs (totals_by_words c.in-Ok-Replayed.state)) c.as_slice.ensures) in
     let is : IsSummarized job.seed job.ops job.threads job.pages c.as_str.result.now =
     summarized job.seed job.ops job.threads job.pages c.in-Ok.text.items (records_in c.in-Ok-Replayed.records) c.in-Ok-Replayed.state c.as_str.result.now
     (subst (IsOutcome InOrder c.in-Ok.text.items) c.in-Ok-Replayed.field-0-is c.in-Ok-Replayed.ensures) c.in-Ok.ensures.text text_is

@@ -1,7 +1,7 @@
 use Rattle.std.proofs.Common.{ℕ, List, subst, inr}
 use Rattle.pas_io.specs.Inputs.{IsInput}
 use Rattle.pas_top.specs.{Judgements.IsJudgement, Outputs.most_bytes}
-use Rattle.pas_top.proofs.Checks.{tells_judgement}
+use Rattle.pas_top.proofs.Statuses.{tells_judgement}
 use Rattle.pas_top.proofs.judging.check_input.Goals as goal
 
 pub returns-in-Ok-clause-ends : goal.returns-in-Ok-clause-ends

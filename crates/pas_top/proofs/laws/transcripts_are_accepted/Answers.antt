@@ -1,4 +1,4 @@
-use Rattle.pas_top.proofs.Accepting.{transcript_accepted, transcript_verdict}
+use Rattle.pas_top.proofs.Headline.{transcript_accepted, transcript_verdict}
 use Rattle.pas_top.proofs.laws.transcripts_are_accepted.Goals as goal
 
 pub returns-clause-accepted : goal.returns-clause-accepted

@@ -3,46 +3,47 @@ use Rattle.pas_io.specs.Inputs.{IsInput}
 use Rattle.pas_telling.specs.{Outcomes.outcome_status, Outcomes.outcome_text, Calls.IsCall, Calls.IsMisread}
 use Rattle.pas_telling.specs.declared.manner.Manner.{Manner}
 use Rattle.pas_answers.specs.Ways.{OnThreads}
-use Rattle.pas_top.proofs.Summing.{gen_written, gen_cut_off, gen_sound, gen_summed}
-use Rattle.pas_top.specs.Outputs.{IsReplaying, IsChecking, IsAccepted, IsOutput, most_bytes, texts_of, usage_text, too_long_text}
-use Rattle.pas_top.proofs.Statuses.{cut_off, not_four, sound, written}
-use Rattle.pas_top.proofs.Checks.{ended_status, ended_written, ended_failed, ended_cut_off, ended_sound, ended_long, ended_mistraced, ended_judged}
-use Rattle.pas_top.proofs.Checks.{ended_checked}
-use Rattle.pas_top.proofs.Headline.{can_write, outcome_output, too_long_output, status_not_four}
-use Rattle.pas_top.proofs.{OneText.written_told, Ordering.order_written, Ordering.order_cut_off}
+use Rattle.pas_top.proofs.Statuses.{gen_written, gen_cut_off, gen_sound, gen_summed, cut_off, not_four, sound, written, ended_status, ended_written}
+use Rattle.pas_top.proofs.Statuses.{ended_failed, ended_cut_off, ended_sound, ended_long, ended_mistraced, ended_judged, ended_checked, order_written}
+use Rattle.pas_top.proofs.Statuses.{order_cut_off}
+use Rattle.pas_top.specs.Outputs.{IsReplaying, IsChecking, IsAccepted, IsOutput, most_bytes, texts_of}
+use Rattle.pas_top.proofs.Headline.{can_write, outcome_output, too_long_output, status_not_four, written_told}
 use Rattle.pas_top.proofs.main_call.pas_main.Given as given
 use Rattle.pas_top.proofs.main_call.pas_main.Goals as goal
 
 pub returns-in-Ok-Gen-clause-written : goal.returns-in-Ok-Gen-clause-written
-returns-in-Ok-Gen-clause-written g c = gen_written (texts_of c.args.words.now) _ _ _ _ _ _ _ _ _ c.generate.result
-    (subst (IsCall (texts_of c.args.words.now)) c.in-Ok-Gen.field-0-is c.in-Ok-Gen.ensures.call) c.generate.ensures.told
+returns-in-Ok-Gen-clause-written g c = gen_written c.generate.ensures.told
+    (subst (IsCall (texts_of c.args.words.now)) c.in-Ok-Gen.field-0-is c.in-Ok-Gen.ensures.call)
 
 pub returns-in-Ok-Gen-clause-sink_failed : goal.returns-in-Ok-Gen-clause-sink_failed
-returns-in-Ok-Gen-clause-sink_failed g c = gen_cut_off (texts_of c.args.words.now) _ _ _ _ _ _ _ _ _ c.generate.result
-    (subst (IsCall (texts_of c.args.words.now)) c.in-Ok-Gen.field-0-is c.in-Ok-Gen.ensures.call) c.generate.ensures.told
+returns-in-Ok-Gen-clause-sink_failed g c = gen_cut_off c.generate.ensures.told
+    (subst (IsCall (texts_of c.args.words.now)) c.in-Ok-Gen.field-0-is c.in-Ok-Gen.ensures.call)
 
 pub returns-in-Err-Usage-clause-sink_failed : goal.returns-in-Err-Usage-clause-sink_failed
 returns-in-Err-Usage-clause-sink_failed g c =
     let other : IsAccepted (texts_of c.args.words.now) → ⊥ = subst (IsMisread (texts_of c.args.words.now)) c.in-Err-Usage.field-0-is c.in-Err-Usage.ensures.misread in
-    cut_off _ _ _ _ _ _ usage_text 2 c.tell.result c.tell.ensures (inl (other, refl, refl)) (λ e. omega (arith, e))
+    cut_off c.tell.ensures (inl (other, refl, refl)) (λ e. omega (arith, e))
 
 pub returns-in-Ok-TooLong-clause-sink_failed : goal.returns-in-Ok-TooLong-clause-sink_failed
 returns-in-Ok-TooLong-clause-sink_failed g c =
     let asked : IsReplaying c.in-Ok-Replay.manner (texts_of c.args.words.now) = subst (IsCall (texts_of c.args.words.now)) c.in-Ok-Replay.field-0-is c.in-Ok-Replay.ensures.call in
-    cut_off _ _ _ _ _ _ too_long_text 6 c.tell-in-Ok-TooLong.result c.tell-in-Ok-TooLong.ensures
-    (too_long_output _ _ _ asked (λ bytes told. let input = subst (IsInput most_bytes bytes) c.in-Ok-TooLong.field-0-is (c.in-Ok-TooLong.ensures.input bytes told) in input)) (λ e. omega (arith, e))
+    cut_off c.tell-in-Ok-TooLong.ensures
+    (too_long_output _ _ _ asked (λ bytes told. let input
+    = subst (IsInput most_bytes bytes) c.in-Ok-TooLong.field-0-is (c.in-Ok-TooLong.ensures.input bytes told) in input)) (λ e. omega (arith, e))
 
 -- ---- a replay in the order of the text
 asked_in_order : (g : given.Over) (c : goal.After-order g) → IsReplaying Manner.InOrder (texts_of c.args.words.now)
 asked_in_order g c =
-    subst (λ (m : Manner). IsReplaying m (texts_of c.args.words.now)) c.in-InOrder.is (subst (IsCall (texts_of c.args.words.now)) c.in-Ok-Replay.field-0-is c.in-Ok-Replay.ensures.call)
+    subst (λ (m : Manner). IsReplaying m (texts_of c.args.words.now)) c.in-InOrder.is
+    (subst (IsCall (texts_of c.args.words.now)) c.in-Ok-Replay.field-0-is c.in-Ok-Replay.ensures.call)
 
 pub returns-in-InOrder-clause-written : goal.returns-in-InOrder-clause-written
 returns-in-InOrder-clause-written g c writing = order_written c.order.ensures.told (texts_of c.args.words.now) (g.S.Source.rest c.args.source.now) (asked_in_order g c)
     (λ bytes told. let input = subst (IsInput most_bytes bytes) c.in-Ok-Whole.field-0-is (c.in-Ok-Whole.ensures.input bytes told) in input) writing
 
 pub returns-in-InOrder-clause-text : goal.returns-in-InOrder-clause-text
-returns-in-InOrder-clause-text g c asked bytes told zero = written_told (texts_of c.args.words.now) (g.S.Source.rest c.args.source.now) _ _ c.order.result asked (returns-in-InOrder-clause-written g c (inl zero)) bytes told zero
+returns-in-InOrder-clause-text g c asked bytes told zero = written_told (texts_of c.args.words.now)
+    (g.S.Source.rest c.args.source.now) _ _ c.order.result asked (returns-in-InOrder-clause-written g c (inl zero)) bytes told zero
 
 pub returns-in-InOrder-clause-sink_failed : goal.returns-in-InOrder-clause-sink_failed
 returns-in-InOrder-clause-sink_failed g c four = order_cut_off c.order.ensures.told (texts_of c.args.words.now) (g.S.Source.rest c.args.source.now) (asked_in_order g c)
@@ -56,60 +57,60 @@ output_on_threads : (g : given.Over) (c : goal.After-tell_outcome g)
     → IsOutput (texts_of c.args.words.now) (g.S.Source.rest c.args.source.now) (outcome_status c.in-Ok.outcome) (outcome_text c.in-Ok.outcome)
 output_on_threads g c =
     let asked : IsReplaying Manner.OnThreads (texts_of c.args.words.now) =
-    subst (λ (m : Manner). IsReplaying m (texts_of c.args.words.now)) c.in-OnThreads.is (subst (IsCall (texts_of c.args.words.now)) c.in-Ok-Replay.field-0-is c.in-Ok-Replay.ensures.call) in
+    subst (λ (m : Manner). IsReplaying m (texts_of c.args.words.now)) c.in-OnThreads.is
+    (subst (IsCall (texts_of c.args.words.now)) c.in-Ok-Replay.field-0-is c.in-Ok-Replay.ensures.call) in
     outcome_output (texts_of c.args.words.now) (g.S.Source.rest c.args.source.now) c.in-Ok-Whole.bytes.items Manner.OnThreads c.in-Ok.outcome asked
     (λ bytes told. let input = subst (IsInput most_bytes bytes) c.in-Ok-Whole.field-0-is (c.in-Ok-Whole.ensures.input bytes told) in input)
     c.in-Ok.ensures
 
 pub returns-in-Ok-clause-written : goal.returns-in-Ok-clause-written
-returns-in-Ok-clause-written g c writing = written _ _ _ _ _ _ (outcome_text c.in-Ok.outcome) (outcome_status c.in-Ok.outcome) c.tell_outcome.result c.tell_outcome.ensures
-    (output_on_threads g c) (not_four c.tell_outcome.result writing)
+returns-in-Ok-clause-written g c writing = written c.tell_outcome.ensures (output_on_threads g c) (not_four c.tell_outcome.result writing)
 
 pub returns-in-Ok-clause-sink_failed : goal.returns-in-Ok-clause-sink_failed
 returns-in-Ok-clause-sink_failed g c =
-    cut_off _ _ _ _ _ _ (outcome_text c.in-Ok.outcome) (outcome_status c.in-Ok.outcome) c.tell_outcome.result c.tell_outcome.ensures (output_on_threads g c) (status_not_four c.in-Ok.outcome)
+    cut_off c.tell_outcome.ensures (output_on_threads g c) (status_not_four c.in-Ok.outcome)
 
 -- ---- a summary
 pub returns-in-Ok-Gen-clause-summed : goal.returns-in-Ok-Gen-clause-summed
-returns-in-Ok-Gen-clause-summed g c seed ops threads pages asked never = gen_summed _ _ _ _ _ _ _ _ c.generate.result c.generate.ensures.told never
+returns-in-Ok-Gen-clause-summed g c seed ops threads pages asked never = gen_summed _ _ c.generate.ensures.told never
 
 pub returns-in-Ok-Gen-clause-sink_sound : goal.returns-in-Ok-Gen-clause-sink_sound
-returns-in-Ok-Gen-clause-sink_sound g c whole = gen_sound _ _ _ _ _ _ _ _ c.generate.result c.generate.ensures.told (λ five. ap g.K.Sink.faults (c.generate.ensures.memory five)) whole
+returns-in-Ok-Gen-clause-sink_sound g c whole = gen_sound _ _ c.generate.ensures.told (λ five. ap g.K.Sink.faults (c.generate.ensures.memory five)) whole
 
 pub returns-in-Err-Usage-clause-sink_sound : goal.returns-in-Err-Usage-clause-sink_sound
-returns-in-Err-Usage-clause-sink_sound g c whole = sound _ _ _ _ usage_text 2 c.tell.result c.tell.ensures whole
+returns-in-Err-Usage-clause-sink_sound g c whole = sound _ _ c.tell.ensures whole
 
 pub returns-in-Ok-TooLong-clause-sink_sound : goal.returns-in-Ok-TooLong-clause-sink_sound
-returns-in-Ok-TooLong-clause-sink_sound g c whole = sound _ _ _ _ too_long_text 6 c.tell-in-Ok-TooLong.result c.tell-in-Ok-TooLong.ensures whole
+returns-in-Ok-TooLong-clause-sink_sound g c whole = sound _ _ c.tell-in-Ok-TooLong.ensures whole
 
 -- ---- a check
 pub returns-in-Ok-Check-clause-status : goal.returns-in-Ok-Check-clause-status
-returns-in-Ok-Check-clause-status g c = ended_status _ _ _ _ _ _ _ _ c.check_input.result c.check_input.ensures.ends
+returns-in-Ok-Check-clause-status g c = ended_status c.check_input.ensures.ends
 
 pub returns-in-Ok-Check-clause-written : goal.returns-in-Ok-Check-clause-written
 returns-in-Ok-Check-clause-written g c =
     let asked : IsChecking (texts_of c.args.words.now) = subst (IsCall (texts_of c.args.words.now)) c.in-Ok-Check.field-0-is c.in-Ok-Check.ensures.call in
-    ended_written _ _ _ _ _ _ _ _ c.check_input.result c.check_input.ensures.ends (texts_of c.args.words.now) asked
+    ended_written c.check_input.ensures.ends (texts_of c.args.words.now) asked
 
 pub returns-in-Ok-Check-clause-source_failed : goal.returns-in-Ok-Check-clause-source_failed
-returns-in-Ok-Check-clause-source_failed g c three = (ended_failed _ _ _ _ _ _ _ _ c.check_input.result c.check_input.ensures.ends three, c.check_input.ensures.unheard (inl three))
+returns-in-Ok-Check-clause-source_failed g c three = (ended_failed c.check_input.ensures.ends three, c.check_input.ensures.unheard (inl three))
 
 pub returns-in-Ok-Check-clause-sink_failed : goal.returns-in-Ok-Check-clause-sink_failed
 returns-in-Ok-Check-clause-sink_failed g c =
     let asked : IsChecking (texts_of c.args.words.now) = subst (IsCall (texts_of c.args.words.now)) c.in-Ok-Check.field-0-is c.in-Ok-Check.ensures.call in
-    ended_cut_off _ _ _ _ _ _ _ _ c.check_input.result c.check_input.ensures.ends (texts_of c.args.words.now) asked
+    ended_cut_off c.check_input.ensures.ends (texts_of c.args.words.now) asked
 
 pub returns-in-Ok-Check-clause-sink_sound : goal.returns-in-Ok-Check-clause-sink_sound
-returns-in-Ok-Check-clause-sink_sound g c = ended_sound _ _ _ _ _ _ _ _ c.check_input.result c.check_input.ensures.ends (λ quiet. ap g.K.Sink.faults (c.check_input.ensures.unheard quiet))
+returns-in-Ok-Check-clause-sink_sound g c = ended_sound c.check_input.ensures.ends (λ quiet. ap g.K.Sink.faults (c.check_input.ensures.unheard quiet))
 
 pub returns-in-Ok-Check-clause-too_long : goal.returns-in-Ok-Check-clause-too_long
-returns-in-Ok-Check-clause-too_long g c reads bytes told long = ended_long _ _ _ _ _ _ _ _ c.check_input.result c.check_input.ensures.ends bytes told long
+returns-in-Ok-Check-clause-too_long g c reads = ended_long c.check_input.ensures.ends
 
 pub returns-in-Ok-Check-clause-mistraced : goal.returns-in-Ok-Check-clause-mistraced
-returns-in-Ok-Check-clause-mistraced g c asked bytes told short fault first = ended_mistraced _ _ _ _ _ _ _ _ c.check_input.result c.check_input.ensures.ends bytes told short fault first
+returns-in-Ok-Check-clause-mistraced g c asked = ended_mistraced c.check_input.ensures.ends
 
 pub returns-in-Ok-Check-clause-judged : goal.returns-in-Ok-Check-clause-judged
-returns-in-Ok-Check-clause-judged g c asked bytes told short verdict judged = ended_judged _ _ _ _ _ _ _ _ c.check_input.result c.check_input.ensures.ends bytes told short verdict judged
+returns-in-Ok-Check-clause-judged g c asked = ended_judged c.check_input.ensures.ends
 
 pub returns-in-Ok-Check-clause-checked : goal.returns-in-Ok-Check-clause-checked
-returns-in-Ok-Check-clause-checked g c asked bytes told short plan read never unfailed = ended_checked _ _ _ _ _ _ _ _ c.check_input.result c.check_input.ensures.ends bytes told short plan read never unfailed
+returns-in-Ok-Check-clause-checked g c asked = ended_checked c.check_input.ensures.ends

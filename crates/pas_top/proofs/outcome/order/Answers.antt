@@ -1,5 +1,5 @@
 use Rattle.std.proofs.Common.{inr}
-use Rattle.pas_top.proofs.{Ordering.order_told, Reading.read_plan}
+use Rattle.pas_top.proofs.{Statuses.order_told, Headline.read_plan}
 use Rattle.pas_top.proofs.outcome.order.Goals as goal
 
 pub returns-clause-told : goal.returns-clause-told

@@ -1,4 +1,4 @@
-use Rattle.pas_top.proofs.{Headline.can_show, Ordering.cut_in_lines, Ordering.report_told, Ordering.cut_in_report}
+use Rattle.pas_top.proofs.{Headline.can_show, Statuses.cut_in_lines, Statuses.report_told, Statuses.cut_in_report}
 use Rattle.pas_top.proofs.outcome.write_in_order.Goals as goal
 
 pub returns-then-failed : goal.returns-then-failed

@@ -1,7 +1,7 @@
 use Rattle.std.proofs.Common.{rules, ◌∙◌, ◌++◌, false, sym}
 use Rattle.pas_report.specs.{Lines.lines_of, Rooms.records_in}
 use Rattle.pas_top.specs.Wrote.{Wrote, wrote_lines}
-use Rattle.pas_top.proofs.Ordering.{waiting_shown, wrote_as}
+use Rattle.pas_top.proofs.Statuses.{waiting_shown, wrote_as}
 use Rattle.pas_top.proofs.outcome.write_lines_in_order.Goals as goal
 
 pub write-requires : goal.write-requires
