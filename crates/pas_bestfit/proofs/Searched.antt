@@ -58,6 +58,7 @@ module _ (r : Readings) (n from : ℕ) (run : FreeRun) (next : IsNextRun r from 
     ];
   }
 
+  -- A run that is preferred is the best so far, up to its end.
   pub preferred : (best : Option FreeRun) → IsPreferred run n best → SoFar r n from best → SoFar r n end (Some run)
   preferred None is none = this_best is.0 (λ h m old other far. absurd (none h m old other far))
   preferred (Some b) is so =
@@ -97,6 +98,7 @@ pub room_of : {tells : Bool} {σ σ' : Standing} (heap n : ℕ) (answer : Result
 room_of heap n (Ok block) a = a.outcome.room_is
 room_of heap n (Err why) a = tt
 
+-- What the run's search promises is what an allocation does.
 pub allocated : {tells : Bool} {σ σ' : Standing} (heap bytes n : ℕ) (answer : Result Block NoRoom) → n ≡ grains_for bytes
     → GivesBest heap n tells σ σ' answer → Allocates heap bytes tells σ σ' answer
 allocated {tells} {σ} {σ'} heap bytes n answer is run =

@@ -24,6 +24,7 @@ no_shorter : (g n h m : ℕ) → IsNoBetter g n h m → n ≤ m
 no_shorter g n h m (inl less) = omega (arith, less)
 no_shorter g n h m (inr same) = let e = same.0 in omega (arith, e)
 
+-- The run that best fit chooses is the shortest that is long enough.
 pub shortest : (mask : Mask4) (grains g end : ℕ) → IsBestFit grains (is_set mask) g → IsRunEnd mask g end → IsShortest grains (is_set mask) (end - g)
 shortest mask grains g end fit ends = let at = length_of mask grains g end fit ends in let same : fit.length ≡ end - g = omega (arith, at) in
     subst (IsShortest grains (is_set mask)) same

@@ -26,31 +26,17 @@ pub opens_beside : {desk : PlainDesk} {pass : PlainPass} {room : ℕ} → Opens 
 opens_beside o = record { view = []; whole = []; stood = o.stood; rests = o.rests; other = o.other }
 
 -- ---- the steps of the one actor leave the other at rest
-pub still_beside : {d d' : PlainDesk} {pass : PlainPass} {B : View → Type 0} → Brings (standing_of d) (standing_of d') AnyView B → Beside d pass
-    → Beside d' pass
-still_beside {d} {d'} {pass} {B} brought beside =
-    let same : actor_of d'.pass ≡ actor_of d.pass = ap (λ (s : Seat). s.actor) brought.calls.adds.seat_is in
-    let of : profile_of d'.region ≡ profile_of d.region = ap (λ (s : Seat). s.profile) brought.calls.adds.seat_is in
-    let whole = triples (actor_of d.pass) brought.steps ++ beside.whole in
-    record {
-      view = brought.steps ++ beside.view;
-      whole = whole;
-      stood = brought.calls.adds.added beside.view beside.whole beside.stood tt;
-      rests = subst (λ (f : Profile). PassStands f pass whole) (sym of) (pass_rests (profile_of d.region) pass (actor_of d.pass) brought.steps beside.whole beside.other beside.rests);
-      other = λ e. beside.other (sym same ∙ e);
-    }
-
 module _ {d d' : PlainDesk} {B : View → Type 0} (taken : Steps (standing_of d) (standing_of d') B) (pass : PlainPass) (v : View) (l : Whole)
     (stood : DeskStands d v l) (met : B v) (rests : PassStands (profile_of (region_of d)) pass l) (other : actor_of (pass_of d) ≢ actor_of pass) where
   same_actor : actor_of (pass_of d') ≡ actor_of (pass_of d)
   same_actor = ap (λ (s : Seat). s.actor) taken.adds.seat_is
 
   rests_then : PassStands (profile_of (region_of d')) pass (triples (actor_of (pass_of d)) taken.steps ++ l)
-  rests_then = subst (λ (f : Profile). PassStands f pass (triples (actor_of (pass_of d)) taken.steps ++ l)) (sym (ap (λ (s : Seat). s.profile) taken.adds.seat_is))
-      (pass_rests (profile_of (region_of d)) pass (actor_of (pass_of d)) taken.steps l other rests)
+  rests_then = subst (λ (f : Profile). PassStands f pass (triples (actor_of (pass_of d)) taken.steps ++ l))
+      (sym (ap (λ (s : Seat). s.profile) taken.adds.seat_is)) (pass_rests (profile_of (region_of d)) pass (actor_of (pass_of d)) taken.steps l other rests)
 
   -- After a call at a desk the other actor's pass still rests beside it.
-  pub beside_then : Beside d' pass
+  beside_then : Beside d' pass
   beside_then = record {
     view = taken.steps ++ v;
     whole = triples (actor_of (pass_of d)) taken.steps ++ l;
@@ -60,7 +46,7 @@ module _ {d d' : PlainDesk} {B : View → Type 0} (taken : Steps (standing_of d)
   }
 
   -- After a call of the first actor, one that made no step yet waits beside it with its room.
-  pub waits_then : {room : ℕ} → part (actor_of pass) l ≡ [] → room_of_pass (pass_of d) ≡ room → room_of_pass pass ≡ room → Waits d' pass room
+  waits_then : {room : ℕ} → part (actor_of pass) l ≡ [] → room_of_pass (pass_of d) ≡ room → room_of_pass pass ≡ room → Waits d' pass room
   waits_then {room} none room_of room_of_other = record {
     view = taken.steps ++ v;
     whole = triples (actor_of (pass_of d)) taken.steps ++ l;
@@ -71,6 +57,22 @@ module _ {d d' : PlainDesk} {B : View → Type 0} (taken : Steps (standing_of d)
     room_of = ap (λ (s : Seat). s.room) taken.adds.seat_is ∙ room_of;
     room_of_other = room_of_other;
   }
+
+-- Steps of an actor leave another one at rest beside it.
+pub still_beside : {d d' : PlainDesk} {pass : PlainPass} {B : View → Type 0} → Brings (standing_of d) (standing_of d') AnyView B → Beside d pass
+    → Beside d' pass
+still_beside {pass = pass} brought at =
+    beside_then (record { steps = brought.steps; adds = brought.calls.adds }) pass at.view at.whole at.stood tt at.rests at.other
+
+-- ---- after the first call at a new region
+module _ {d d' : PlainDesk} {pass : PlainPass} {room : ℕ} {B : View → Type 0} (opens : Opens d pass room) (taken : Steps (standing_of d) (standing_of d') B)
+    (met : B []) where
+  pub beside_first : Beside d' pass
+  beside_first = beside_then taken pass [] [] opens.stood met opens.rests opens.other
+
+  -- After the first call at a new region the other actor waits.
+  pub waits_first : Waits d' pass room
+  waits_first = waits_then taken pass [] [] opens.stood met opens.rests opens.other refl opens.room_of opens.room_of_other
 
 -- ---- the other actor takes the seat
 -- it made no step yet
@@ -104,12 +106,19 @@ seated_may_search w next region seat d n fits =
     }
 
 -- the one that rose is at rest beside it
-pub rests_beside : {desk : PlainDesk} {pass : PlainPass} {room : ℕ} (w : Waits desk pass room) (next : PlainDesk) (risen : PlainPass)
+rests_beside : {desk : PlainDesk} {pass : PlainPass} {room : ℕ} (w : Waits desk pass room) (next : PlainDesk) (risen : PlainPass)
     → region_of next ≡ region_of desk → risen ≡ pass_of desk → PassStands (profile_of (region_of next)) risen w.whole
-rests_beside {desk} {pass} {room} w next risen region same =
-    subst (λ (p : PlainPass). PassStands (profile_of (region_of next)) p w.whole) (sym same) (subst (λ (r : PlainRegion). PassStands (profile_of r) (pass_of desk) w.whole) (sym region) w.stood.pass)
+rests_beside {desk} {pass} {room} w next risen region same = subst (λ (p : PlainPass). PassStands (profile_of (region_of next)) p w.whole) (sym same)
+    (subst (λ (r : PlainRegion). PassStands (profile_of r) (pass_of desk) w.whole) (sym region) w.stood.pass)
 
 -- Where two actors change places, the one that rises is another one than the one that sits.
-pub others_then : {desk : PlainDesk} {pass : PlainPass} {room : ℕ} (w : Waits desk pass room) (next : PlainDesk) (risen : PlainPass) → pass_of next ≡ pass
+others_then : {desk : PlainDesk} {pass : PlainPass} {room : ℕ} (w : Waits desk pass room) (next : PlainDesk) (risen : PlainPass) → pass_of next ≡ pass
     → risen ≡ pass_of desk → actor_of (pass_of next) ≢ actor_of risen
 others_then w next risen seat same e = w.other (sym (ap actor_of same) ∙ (sym e ∙ ap actor_of seat))
+
+-- After the first call of the actor that sits then, the one that rose rests beside it.
+pub beside_second : {desk next next' : PlainDesk} {pass risen : PlainPass} {room : ℕ} {B : View → Type 0} (w : Waits desk pass room)
+    → region_of next ≡ region_of desk → pass_of next ≡ pass → risen ≡ pass_of desk → Steps (standing_of next) (standing_of next') B → B []
+    → Beside next' risen
+beside_second {next = next} {risen = risen} w region seat same taken met =
+    beside_then taken risen [] w.whole (seated_then w next region seat) met (rests_beside w next risen region same) (others_then w next risen seat same)

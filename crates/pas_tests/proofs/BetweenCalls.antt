@@ -1,25 +1,31 @@
 -- What a keeper has between its calls in a storm.
 use Rattle.std.proofs.Common.{◌≡◌, ℕ, zero, suc, ◌+◌, ◌<◌, ◌≤◌, false, List, [], ◌∷◌, ◌++◌, length, Option, Some, None, refl, ap, sym, ◌∙◌, subst, arith}
-use Rattle.std.proofs.Common.{length-append, slice_index_or, MatchOption}
+use Rattle.std.proofs.Common.{length-append, slice_index_or, MatchOption, ◌-◌, reverse}
 use Rattle.pas_profile.specs.Profiles.{IsAdmitted}
 use Rattle.pas_profile.specs.declared.{directory.Directory.Directory, event.Event.Event, name.Block.Block, profile.Profile.Profile, word.Word.Word}
 use Rattle.pas_scan.specs.Runs.{large_directory}
-use Rattle.pas_steps.specs.{Calls.nothing, Calls.Does, Events.events_by, Views.View, Views.KnowsDeed}
+use Rattle.pas_steps.specs.{Calls.nothing, Calls.Does, Events.events_by, Views.View, Views.KnowsDeed, Lists.Whole, Unknown.unknown_pages, Clear.HasNothing}
+use Rattle.pas_steps.specs.{Events.events_of, Unknown.unknown_below, Noted.events_noted, Noted.room_of_notes}
 use Rattle.pas_steps.specs.Desks.{Seat, Standing, AnyView, CanCall, Makes, made, triples}
 use Rattle.pas_steps.specs.declared.step.{Made.Made, Step.TheVariants.Look}
 use Rattle.pas_steps.proofs.{Apart.no_events, Apart.only_both, Called.call_none, Called.call_then, Called.call_idly, Calls.does_none, Calls.does_then}
-use Rattle.pas_steps.proofs.{Kept.knows_still, SpareRoom.Spares, SpareRoom.spare_falls, Unknown.unknown_no_more}
-use Rattle.pas_report.specs.Rooms.{records_in, Records}
+use Rattle.pas_steps.proofs.{Frames.knows_still, SpareRoom.Spares, SpareRoom.spare_falls, Unknown.unknown_no_more, Nothing.nothing_yet, Noting.rest_length}
+use Rattle.pas_report.specs.Rooms.{records_in, Records, room_of}
 use Rattle.pas_report.specs.declared.record.Record.{Record}
 use Rattle.pas_trace.specs.declared.item.Request.{Request}
-use Rattle.pas_guard.specs.Books.{Each, IsGuardOf, KnowsGuard, FitsBook, guards_in}
+use Rattle.pas_guard.specs.Books.{Each, IsGuardOf, KnowsGuard, FitsBook, guards_in, size_of_book}
 use Rattle.pas_guard.specs.{Raises.IsRaised, Raises.IsNotRaised, Raises.guard_of, Seeks.backed_looks}
 use Rattle.pas_guard.specs.declared.book.{Guard.Guard, GuardBook.GuardBook}
-use Rattle.pas_cache.specs.Serves.{pages_of}
+use Rattle.pas_cache.specs.{Serves.pages_of, Caches.Cached, Caches.AtRest}
 use Rattle.pas_answers.specs.{Answers.wanted_by, Guarding.Tried, Guarding.IsTried}
 use Rattle.pas_answers.specs.Keeping.{cost_of_try, MayTry, TriesRequest, MayLowerAll, LowersAll}
 use Rattle.pas_answers.proofs.Tries.{swept_count}
-use Rattle.pas_tests.specs.Kept.{MayKeep, Looked}
+use Rattle.pas_tests.specs.Kept.{MayKeep, Looked, guarded_region, Begins}
+use Rattle.pas_trials.proofs.Going.{few_below}
+use Rattle.pas_plain.specs.{Plain.spare_in, Storms.StormStands, Storms.seat_for}
+use Rattle.pas_plain.specs.declared.{pass.PlainPass.PlainPass, region.PlainRegion.PlainRegion}
+use Rattle.pas_shared.specs.Passes.{view_of, seat_of, standing_of}
+use Rattle.pas_shared.specs.declared.desk.SharedDesk.{SharedDesk}
 
 -- ---- looks at backed words
 pub looked_none : {σ : Standing} → Looked σ σ
@@ -61,8 +67,8 @@ each_at P (guard ∷ guards) (suc place) default all lt = each_at P guards place
 -- A guard of the book is one of the region after the looks, too.
 pub its_pages : {σ σ' : Standing} {guards : List Guard} → Looked σ σ' → CanCall σ (FitsBook σ.seat.profile guards)
     → (place : ℕ) (read : Guard) (default : Guard) → read ≡ slice_index_or guards place default → place < length guards → IsGuardOf σ'.seat.profile read
-its_pages {σ} {σ'} {guards} looked can place read default is lt =
-    subst (λ (s : Seat). IsGuardOf s.profile read) (sym looked.calls.adds.seat_is) (subst (IsGuardOf σ.seat.profile) (sym is) (each_at (IsGuardOf σ.seat.profile) guards place default can.met.of_region lt))
+its_pages {σ} {σ'} {guards} looked can place read default is lt = subst (λ (s : Seat). IsGuardOf s.profile read) (sym looked.calls.adds.seat_is)
+    (subst (IsGuardOf σ.seat.profile) (sym is) (each_at (IsGuardOf σ.seat.profile) guards place default can.met.of_region lt))
 
 -- ---- the keeper fits its book still
 each_map : (P Q : Guard → Type 0) (guards : List Guard) → ((guard : Guard) → P guard → Q guard) → Each P guards → Each Q guards
@@ -125,8 +131,7 @@ can_try n m is can =
 
 -- what a try pays for
 few_try : (block : Option Block) → cost_of_try 4096 block ≤ 4
-few_try None = omega arith
-few_try (Some block) = omega arith
+few_try block = grind arith
 
 more_up : (f : Profile) (d : Directory) (k : ℕ) (guards guards' : List Guard) (answer : Option Block) (searched after : List Made)
     → MatchOption answer (IsNotRaised f d k guards guards' searched after) (IsRaised f d k guards guards' searched after)
@@ -198,3 +203,53 @@ nothing_up {σ} {book' = book'} can t =
       stood = t.calls.adds.added v can.whole can.stood fits;
       met = subst (λ (s : Seat). FitsBook s.profile [] (t.steps ++ v)) (sym t.calls.adds.seat_is) (subst (λ (gs : List Guard). FitsBook σ.seat.profile gs (t.steps ++ v)) t.none after);
     }
+
+-- The keeper of a new region may begin its work in a storm.
+
+-- an actor that made no step fits an empty book
+fits_empty : (f : Profile) → FitsBook f [] []
+fits_empty f = record { apart = tt; of_region = tt; knows = tt; held = λ g. refl; rights = λ page. refl; clear = nothing_yet.clear }
+
+-- the storm's desk has the seat of the region's own actor
+pub seat_profile : (σ : Standing) {region : PlainRegion} {own foreign : PlainPass} → Begins region own foreign 12 4000 → σ.seat ≡ seat_for region own
+    → σ.seat.profile ≡ guarded_region 12
+seat_profile σ begins seat = ap (λ (s : Seat). s.profile) seat ∙ begins.profile
+
+-- The keeper of a new region may begin its work there, with a book of four places.
+pub may_begin : (σ : Standing) {region : PlainRegion} {own foreign : PlainPass} → Begins region own foreign 12 4000 → σ.seat ≡ seat_for region own
+    → {spare : ℕ} (book : GuardBook) (out : Records) → guards_in book ≡ [] → size_of_book book ≡ 4 → records_in out ≡ [] → room_of out ≡ 200
+    → spare ≡ spare_in own
+    → ((v : View) (w l : Whole) → StormStands region own foreign v w → σ.stands v l) → CanCall σ (MayKeep σ.seat.profile book out 4 spare)
+may_begin σ {region} {own} {foreign} begins seat {spare} book out empty size none room spare_is stands =
+    let shown = rest_length begins.stands.own_part.shown in
+    let pages : σ.seat.profile.pages ≡ 12 = ap (λ (f : Profile). f.pages) (seat_profile σ begins seat) in
+    let few : unknown_pages σ.seat.profile [] ≤ σ.seat.profile.pages = few_below σ.seat.profile.pages [] in
+    let guards = ap (λ (gs : List Guard). length gs) empty in
+    let records = ap (λ (rs : List Record). length rs) none in
+    record {
+      view = [];
+      whole = [];
+      stood = stands [] [] [] begins.stands;
+      met = record {
+        fits = subst (λ (gs : List Guard). FitsBook σ.seat.profile gs []) (sym empty) (fits_empty σ.seat.profile);
+        places = omega (arith, guards, size);
+        room = omega (arith, spare_is, shown, begins.room_of, few, pages);
+        records = omega (arith, records, guards, few, pages, room);
+      };
+    }
+
+-- The first request at a shared region.
+
+-- a request may be made of an empty cache at a region of one page, with room for four events more
+pub can_borrow : (desk : SharedDesk) (c : Cached) → view_of desk.pass ≡ [] → (seat_of desk.pass).room ≡ 16 → (seat_of desk.pass).profile.pages ≡ 1
+    → ((f : Profile) (v : View) → HasNothing v → AtRest f c v)
+    → CanCall (standing_of desk) (λ v. AtRest (seat_of desk.pass).profile c v
+    × (5 + unknown_pages (seat_of desk.pass).profile v ≤ room_of_notes desk.pass.notes - length (events_noted desk.pass.notes)))
+can_borrow desk c none room pages rest =
+    let view = view_of desk.pass in
+    let k = (seat_of desk.pass).actor in
+    let f = (seat_of desk.pass).profile in
+    let shown : events_noted desk.pass.notes ≡ reverse (events_of k []) = desk.pass.noted.shown ∙ ap (λ (v : View). reverse (events_of k v)) none in
+    let empty : length (events_noted desk.pass.notes) ≡ 0 = ap length shown in
+    let unknown : unknown_below (seat_of desk.pass).profile.pages view ≡ 1 = ap (λ n. unknown_below n view) pages ∙ ap (unknown_below 1) none in
+    record { view = view; whole = []; stood = refl; met = (subst (λ (v : View). AtRest f c v) (sym none) (rest f [] nothing_yet), omega (arith, empty, room, unknown)) }

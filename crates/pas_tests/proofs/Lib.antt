@@ -1,6 +1,3 @@
 mod BetweenCalls
-mod Beginning
 mod Besides
-mod Riding
-mod Sharing
 mod Stormed

@@ -1,10 +1,10 @@
 -- Requests one after another over any desk, for slots and for whole pages, and how far they have come; frees and a stop.
-use Rattle.std.proofs.Common.{◌≡◌, ℕ, ◌+◌, ◌≤◌, [], ◌++◌, length, Bool, None, Result, refl, sym, ◌∙◌, subst, arith, ◌^◌, ◌<◌, nat_le, true, false, List, Ok}
-use Rattle.std.proofs.Common.{Err, ap, length-append, leb-true, MatchResult, Option}
+use Rattle.std.proofs.Common.{◌≡◌, ℕ, ◌+◌, ◌≤◌, [], ◌++◌, length, Bool, None, Result, refl, sym, ◌∙◌, subst, arith, ◌^◌, ◌<◌, nat_le, List, Ok, Err, ap}
+use Rattle.std.proofs.Common.{length-append, leb-true, MatchResult, Option}
 use Rattle.pas_profile.specs.declared.{name.Block.Block, event.NoRoom.NoRoom, profile.Profile.Profile, event.FreeFault.FreeFault, name.Name.Name}
 use Rattle.pas_profile.specs.declared.{event.Event.Event}
-use Rattle.pas_steps.specs.Desks.{Standing, Seat, CanCall, triples}
-use Rattle.pas_steps.specs.{Events.events_of, Lists.Whole, Unknown.unknown_pages, Views.View, Events.events_by, Kinds.Only}
+use Rattle.pas_steps.specs.{Desks.Standing, Desks.CanCall, Desks.triples, Events.events_of, Lists.Whole, Unknown.unknown_pages, Views.View, Events.events_by}
+use Rattle.pas_steps.specs.{Kinds.Only}
 use Rattle.pas_steps.proofs.{Called.call_none, Called.call_then, Adding.can_call, Frames.events_split, Frames.events_append, Unknown.unknown_no_more}
 use Rattle.pas_steps.proofs.{SpareRoom.Spares, SpareRoom.spare_falls}
 use Rattle.pas_cache.specs.{Caches.Cached, Caches.AtRest, Serves.Wanted, Changes.EmptiesFull, Kinds.releasing, Serves.wanted_for, Serves.pages_of}
@@ -15,7 +15,7 @@ use Rattle.pas_profile.specs.Profiles.{IsValid, IsAdmitted}
 use Rattle.pas_steps.specs.declared.step.Made.{Made}
 use Rattle.pas_free_log.specs.declared.{log.Entry.Entry, noting.EndedRun.EndedRun}
 use Rattle.pas_free_log.specs.Logs.{entry_of}
-use Rattle.pas_cache.proofs.{Stops.spare_kept, Routes.is_large, Routes.pages_asked}
+use Rattle.pas_cache.proofs.{Obtained.spare_kept, Routes.is_large, Routes.pages_asked}
 
 -- ==== Requests one after another, and how far they have come.
 
@@ -42,8 +42,7 @@ one_more {σ0} {σ} {σ'} {c0} {c} {c'} {wanted} {answer = answer} {n} {m} {spar
     record {
       borrows = record {
         steps = h.steps ++ so.borrows.steps;
-        rests = call_then (λ v w. AtRest σ0.seat.profile c' w) so.borrows.rests h.calls (λ v met rest. subst (λ (s : Seat). AtRest s.profile c (so.borrows.steps ++ v)) (sym same) rest)
-            (λ v met rest next. subst (λ (s : Seat). AtRest s.profile c' (h.steps ++ (so.borrows.steps ++ v))) same next);
+        rests = call_then (λ v w. AtRest σ0.seat.profile c' w) so.borrows.rests h.calls (λ v met rest. rw same rest) (λ v met rest next. rw same at next);
         log = log_kept σ.seat.profile wanted None c c' h.steps answer wanted.route h.change ∙ so.borrows.log;
       };
       room = budget_left m h (subst (λ x. CanCall σ (HasBudget σ.seat.profile c x spare)) two so.room) law law';
@@ -93,8 +92,7 @@ log_after {σ} {σ'} {c} {c'} {wanted} {tells} {answer} h = log_kept σ.seat.pro
 -- ---- the free of a name into a log that isn't full
 empties_none : (full : Bool) (actor : ℕ) (log kept : List Entry) (noted noted' : List EndedRun) (steps : List Made) → full ≡ nat_le 64 (length log)
     → length log < 64 → EmptiesFull full actor log kept noted noted' steps → (kept ≡ log) × (steps ≡ [])
-empties_none true actor log kept noted noted' steps full few h = let at = leb-true 64 (length log) (sym full) in absurd (omega (arith, at, few))
-empties_none false actor log kept noted noted' steps full few h = (h.1, h.0)
+empties_none full actor log kept noted noted' steps is few h = search (arith, leb-true)
 
 -- no step is made, and at most one name comes to the log
 pub record LogsOne (c c' : Cached) (steps : List Made) : Type 0 where
@@ -103,11 +101,7 @@ pub record LogsOne (c c' : Cached) (steps : List Made) : Type 0 where
 
 logs_one : (f : Profile) (actor : ℕ) (c c' : Cached) (name : Name) (steps : List Made) (answer : Result (Unit {0}) FreeFault) → length c.log < 64
     → MatchResult answer (λ done. TakesEntry f actor c c' (entry_of name) steps) (RefusesName f c c' name steps) → LogsOne c c' steps
-logs_one f actor c c' name steps (Ok done) few h =
-    search (arith, empties_none, length-append)
-logs_one f actor c c' name steps (Err fault) few h =
-    let n : length c'.log ≡ length c.log = ap (λ x. length x.log) h.cache in
-    record { log = omega (arith, n); no_steps = h.no_steps }
+logs_one f actor c c' name steps answer few h = search (arith, empties_none, length-append)
 
 -- A free of one name logs it.
 freed_one : {σ σ' : Standing} {c c' : Cached} {name : Name} {answer : Result (Unit {0}) FreeFault} → length c.log < 64
@@ -127,7 +121,7 @@ one_logged {c = c} none h = let n : length c.log ≡ 0 = ap length none in let o
 pub freed_call : {σ σ' : Standing} {c c' : Cached} {name : Name} {answer : Result (Unit {0}) FreeFault} → Frees (entry_of name) c c' σ σ' answer
     → CanCall σ (AtRest σ.seat.profile c) → CanCall σ' (AtRest σ'.seat.profile c')
 freed_call {σ} {σ'} {c} {c'} h can = can_call {C = AtRest σ.seat.profile c} {D = AtRest σ'.seat.profile c'} h.calls.adds can
-    (λ v l stood met. subst (λ (s : Seat). AtRest s.profile c' (h.steps ++ v)) (sym h.calls.adds.seat_is) (h.calls.leads.from v met (h.calls.adds.agreed v l stood met)))
+    (λ v l stood met. rw h.calls.adds.seat_is (h.calls.leads.from v met (h.calls.adds.agreed v l stood met)))
 
 -- so there is room for its event
 pub stop_room : {σ σ' : Standing} {c c' : Cached} {name : Name} {answer : Result (Unit {0}) FreeFault} {spare spare' : ℕ} → c.log ≡ []
@@ -172,8 +166,7 @@ stopped_budget {σ} {σ'} {c} {c'} {n} {spare} {spare'} one h can law law' =
     let ok = h.calls.adds.agreed v can.whole can.stood can.met.rest in
     let added = h.calls.adds.added v can.whole can.stood can.met.rest in
     let before : spare + length (events_of k v) ≡ σ.seat.room = law v can.whole can.stood in
-    let after : spare' + length (events_of k (steps ++ v)) ≡ σ.seat.room
-    = subst (λ (s : Seat). spare' + length (events_of s.actor (steps ++ v)) ≡ s.room) h.calls.adds.seat_is (law' (steps ++ v) (triples k steps ++ can.whole) added) in
+    let after : spare' + length (events_of k (steps ++ v)) ≡ σ.seat.room = rw h.calls.adds.seat_is at (law' (steps ++ v) (triples k steps ++ can.whole) added) in
     let split : length (events_of k (steps ++ v)) ≡ length (events_by k v steps) + length (events_of k v) = ap length (events_split k steps v) ∙ length-append (events_by k v steps) (events_of k v) in
     let flushed : length (events_by k v steps) ≡ length (events_by k v h.flushed)
     = ap length (events_append k h.stopped h.flushed v ∙ ap (λ (es : List Event). es ++ events_by k v h.flushed) (h.silent k (h.flushed ++ v))) in
@@ -184,8 +177,7 @@ stopped_budget {σ} {σ'} {c} {c'} {n} {spare} {spare'} one h can law law' =
       view = steps ++ v;
       whole = triples k steps ++ can.whole;
       stood = added;
-      met = subst (λ (s : Seat). HasBudget s.profile c' n spare' (steps ++ v)) (sym h.calls.adds.seat_is)
-          (record { rest = (h.calls.leads.from v can.met.rest ok).0; room = omega (arith, before, after, split, flushed, ended, one, unknown, room) });
+      met = rw h.calls.adds.seat_is (record { rest = (h.calls.leads.from v can.met.rest ok).0; room = omega (arith, before, after, split, flushed, ended, one, unknown, room) });
     }
 
 -- After a stop the cache is at rest.
@@ -212,9 +204,9 @@ pub log_as : {σ σ' : Standing} {c c' : Cached} {wanted : Wanted} {found : Opti
     → AllocatesPages wanted found tells c c' σ σ' answer → c'.log ≡ c.log
 log_as {σ} {σ'} {c} {c'} {wanted} {found} {tells} {answer} h = log_kept σ.seat.profile wanted found c c' h.steps answer wanted.route h.change
 
+-- A request makes one event more at most, served or refused.
 few_events : (n : ℕ) (answer : Result Block NoRoom) → most_events n answer ≤ n + 1
-few_events n (Ok block) = omega arith
-few_events n (Err room) = omega arith
+few_events n answer = grind arith
 
 -- what a request for one page leaves
 pub page_asked : {σ σ' : Standing} {c c' : Cached} {found : Option ℕ} {tells : Bool} {answer : Result Block NoRoom} {n spare spare' : ℕ} (m : ℕ) → n ≡ m + 2
@@ -230,12 +222,11 @@ page_asked {σ} {σ'} {c} {c'} {answer = answer} {n} {spare} {spare'} m two h ca
     let few = h.few k v can.met.0 ok in
     let most = few_events (pages_of w) answer in
     let one = pages_asked f 4096 16 (is_large f.classes 4096 16 (omega arith)) in
-    let room = can.met.1 in
     record {
       view = h.steps ++ v;
       whole = triples k h.steps ++ can.whole;
       stood = h.calls.adds.added v can.whole can.stood can.met.0;
-      met = rw h.calls.adds.seat_is (h.calls.leads.from v can.met.0 ok, omega (arith, left, few, most, one, room, two));
+      met = rw h.calls.adds.seat_is (h.calls.leads.from v can.met.0 ok, omega (arith, left, few, most, one, can.met.1, two));
     }
 
 -- what a flush of a log of at most m names leaves

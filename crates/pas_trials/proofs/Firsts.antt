@@ -7,7 +7,7 @@ use Rattle.pas_search.specs.Searches.{MaySearch, SearchRoom}
 use Rattle.pas_shared.specs.Passes.{view_of, seat_of, standing_of}
 use Rattle.pas_shared.specs.declared.{pass.SharedPass.SharedPass, desk.SharedDesk.SharedDesk}
 use Rattle.pas_steps.specs.declared.step.Made.{Made}
-use Rattle.pas_segregated.specs.Refills.{exclusive_slots, GivesSlots}
+use Rattle.pas_segregated.specs.Refills.{Filling, exclusive_slots, GivesSlots}
 use Rattle.pas_segregated.specs.Stops.{class_directory, directory_of, MayStopAt, MayStop}
 use Rattle.pas_segregated.specs.declared.slots.Slots.{Slots}
 
@@ -35,7 +35,13 @@ pub given_directory : {f : Profile} {heap class : ℕ} {searched after : List Ma
     → GivesSlots (exclusive_slots heap class) f searched after slots → directory_of slots ≡ class_directory heap class
 given_directory {heap = heap} {slots = slots} gives = ap (λ h. class_directory h slots.class) (ap (λ d. d.heap) gives.home) ∙ ap (class_directory heap) gives.class_is
 
+-- Slots that a refill gave may be stopped where their directory is that of the refill.
+pub may_stop_where : {fill : Filling} {f : Profile} {d : Directory} {searched after : List Made} {slots : Slots} → d ≡ fill.directory
+    → GivesSlots fill f searched after slots → (v : View) → MaySearch fill.directory v → Agreed f v (after ++ searched)
+    → MayStopAt d slots ((after ++ searched) ++ v)
+may_stop_where same gives v may agreed = rw same (gives.gets.from v may agreed).may_stop
+
 -- Slots that a refill gave may be stopped.
 pub may_stop_then : {f : Profile} {heap class : ℕ} {searched after : List Made} {slots : Slots} → GivesSlots (exclusive_slots heap class) f searched after slots
     → (v : View) → MaySearch (class_directory heap class) v → Agreed f v (after ++ searched) → MayStop slots ((after ++ searched) ++ v)
-may_stop_then {searched = searched} {after = after} {slots = slots} gives v may agreed = subst (λ x. MayStopAt x slots ((after ++ searched) ++ v)) (sym (given_directory gives)) (gives.gets.from v may agreed).may_stop
+may_stop_then gives v may agreed = may_stop_where (given_directory gives) gives v may agreed

@@ -1,5 +1,5 @@
 -- What the searches found, said of the seat in which all of them began.
-use Rattle.std.proofs.Common.{◌≡◌, ℕ, ◌≤◌, Option, None, Some, MatchOption, List, subst}
+use Rattle.std.proofs.Common.{◌≡◌, ℕ, ◌≤◌, Option, None, Some, MatchOption, List}
 use Rattle.pas_profile.specs.declared.{directory.Directory.Directory, event.NoRoom.NoRoom, profile.Profile.Profile}
 use Rattle.pas_steps.specs.{Desks.Standing, Past.Once, Evidence.DeedHere}
 use Rattle.pas_scan.specs.Scan.{NoneOffered, IsFirstOffered, FindsOffered, IsFirstBare, FindsBare, IsVerdict, Judges}
@@ -16,10 +16,9 @@ offered_found {σ} {σ'} {d'} {n} {n'} (Some p) f d ef ed en h =
 -- The page that a search of pages without a deed found, or none, is the first one that was read so.
 pub bare_found : {σ σ' : Standing} {from : ℕ} {o : Option ℕ} (f : Profile) → σ.seat.profile ≡ f → (h : FindsBare from σ σ' o)
     → MatchOption o ((p : ℕ) → from ≤ p → p ≤ f.pages → Once (DeedHere p) h.steps) (IsFirstBare f from h.steps)
-bare_found {σ} {σ'} {from} {o} f ef h = subst (λ (x : Profile). MatchOption o ((p : ℕ) → from ≤ p → p ≤ x.pages → Once (DeedHere p) h.steps) (IsFirstBare x from h.steps)) ef h.outcome
+bare_found f ef h = rw ef at h.outcome
 
 -- The verdict that was found is one of the marks and the readings.
 pub verdict_found : {σ σ' : Standing} {marks : List ℕ} {d' : Directory} {answer : NoRoom} (f : Profile) (d : Directory) → σ.seat.profile ≡ f → d' ≡ d
     → (h : Judges marks d' σ σ' answer) → IsVerdict f marks d h.steps answer
-verdict_found {σ} {σ'} {marks} {d'} {answer} f d ef ed h =
-    subst (λ (x : Directory). IsVerdict f marks x h.steps answer) ed (subst (λ (x : Profile). IsVerdict x marks d' h.steps answer) ef h.verdict)
+verdict_found f d ef ed h = rw (ef, ed) at h.verdict

@@ -1,6 +1,5 @@
 -- Errands of an actor that is at rest with its cache, and what an actor that has nothing did.
-use Rattle.std.proofs.Common.{◌≡◌, ℕ, zero, suc, ◌≤◌, List, [], ◌∷◌, ◌++◌, ◌==◌, Bool, true, false, if◌then◌else◌, Option, None, Result, refl, ap, sym, ◌∙◌}
-use Rattle.std.proofs.Common.{subst, arith}
+use Rattle.std.proofs.Common.{◌≡◌, ℕ, zero, suc, ◌≤◌, List, [], ◌∷◌, ◌++◌, ◌==◌, Bool, if◌then◌else◌, Option, None, Result, refl, ap, sym, ◌∙◌, subst, arith}
 use Rattle.pas_profile.specs.declared.{event.NoRoom.NoRoom, name.Block.Block, profile.Profile.Profile}
 use Rattle.pas_steps.specs.{Calls.Calls, Clear.HasNothing, Kinds.Ticking, Unknown.unknown_here, Unknown.unknown_below, Views.View, Views.known_deed}
 use Rattle.pas_steps.specs.Desks.{Standing, Seat, CanCall, Makes, made}
@@ -19,8 +18,7 @@ use Rattle.pas_trials.specs.{Borrowing.Borrows, SharedStorms.IsWorking}
 
 -- ---- room
 at_most_one : (t : Bool) → (if t then 1 else 0) ≤ 1
-at_most_one true = omega arith
-at_most_one false = omega arith
+at_most_one t = grind arith
 
 few_here : (deed : ℕ) → unknown_here deed ≤ 1
 few_here deed = at_most_one (deed == 0)
@@ -77,8 +75,8 @@ pub stopped_then : {σ σ1 σ2 : Standing} {c c' : Cached} {steps : List Made} �
     → Calls σ1 σ2 HasNothing (λ v w. HasNothing w) steps → Borrows c c' σ σ2
 stopped_then {σ} {σ1} {σ2} {c} {c'} {steps} log h quiet = let f : Profile = σ.seat.profile in record {
   steps = steps ++ (h.stopped ++ h.flushed);
-  rests = call_then (λ v w. AtRest f c' w) h.calls quiet (λ v rest done. done.1)
-      (λ v rest done none. rests_empty f c' (steps ++ ((h.stopped ++ h.flushed) ++ v)) (ap (λ (x : Cached). x.locals) h.cache) (ap (λ (x : Cached). x.log) h.cache) none);
+  rests = call_then (λ v w. AtRest f c' w) h.calls quiet (λ v rest done. done.1) (λ v rest done none. rests_empty f c'
+      (steps ++ ((h.stopped ++ h.flushed) ++ v)) (ap (λ (x : Cached). x.locals) h.cache) (ap (λ (x : Cached). x.log) h.cache) none);
   log = ap (λ (x : Cached). x.log) h.cache ∙ sym log;
 }
 

@@ -1,6 +1,6 @@
 -- A block that one actor hands another: what each of the two did, and how their steps stand in the one list.
 use Rattle.std.proofs.Common.{◌≡◌, ◌≢◌, ℕ, zero, suc, ◌-◌, ◌/◌, ◌<◌, max, Bool, true, false, if◌then◌else◌, List, [], ◌∷◌, ◌++◌, length, reverse, Option, Some}
-use Rattle.std.proofs.Common.{None, Ok, inr, ⊎_elim, refl, sym, ap, ◌∙◌, subst, arith, nat_lt, eq-eqb, append-nil, append_assoc}
+use Rattle.std.proofs.Common.{Ok, inr, ⊎_elim, refl, sym, ap, ◌∙◌, subst, arith, nat_lt, eq-eqb, append-nil, append_assoc}
 use Rattle.std.specs.List.{AllByRecursion}
 use Rattle.std.proofs.lemmas.{Bool.cases_eq, List.append_cancel_right}
 use Rattle.pas_bits.proofs.Runs.{first_of_run}
@@ -8,7 +8,7 @@ use Rattle.pas_profile.specs.{Blocks.address_of, Blocks.grain_of, Blocks.length_
 use Rattle.pas_profile.specs.{Routes.room_by, Routes.IsRouteOf}
 use Rattle.pas_profile.specs.declared.{directory.Directory.Directory, directory.Route.Route, event.Event.Event, event.Why.Why, name.Block.Block, name.Name.Name}
 use Rattle.pas_profile.specs.declared.{profile.Profile.Profile}
-use Rattle.pas_profile.proofs.ClassFacts.{route_is, class_known, class_size_whole}
+use Rattle.pas_profile.proofs.Sizes.{route_is, class_known, class_size_whole}
 use Rattle.pas_steps.specs.{Noted.events_noted, Noted.room_of_notes, Clear.HasNothing, Views.View, Views.epoch_of}
 use Rattle.pas_machine.specs.{Machine.Run, Machine.IsLive, Machine.IsReason, State.live_in, State.ends_in}
 use Rattle.pas_steps.specs.Desks.{Seat, CanCall, triple, triples}
@@ -22,7 +22,7 @@ use Rattle.pas_free_log.specs.declared.ending.Outcome.{Outcome, TheVariants.Ende
 use Rattle.pas_cache.specs.{Caches.Cached, Caches.AtRest, Calls.MayAllocate, Calls.Allocates, Serves.IsPreparing, Serves.wanted_for}
 use Rattle.pas_shared.specs.{Ruled.IsEarlier, Passes.view_of, Passes.seat_of, Passes.standing_of, Pasts.told, Pasts.IsPastOf, Pasts.HasOwn, Ledgers.EndsAfter}
 use Rattle.pas_shared.specs.declared.{desk.SharedDesk.SharedDesk, past.Past.Past, pass.SharedPass.SharedPass, region.SharedRegion.SharedRegion}
-use Rattle.pas_shared.proofs.{Pops.first_is, Pops.others_are, Pasts.part_both}
+use Rattle.pas_shared.proofs.{Pops.first_is, Pops.others_are, Ruling.part_both}
 use Rattle.pas_trials.specs.Handing.{IsFirst, IsOfActor, IsGiftOf, HasFreed, IsHandedOver}
 use Rattle.pas_trials.specs.declared.handing.Gift.{Gift}
 use Rattle.pas_trials.proofs.Firsts.{no_events}
@@ -44,13 +44,11 @@ can_ask desk c none room rest =
       view = view_of desk.pass;
       whole = [];
       stood = refl;
-      met = record { rest = subst (λ (v : View). AtRest f c v) (sym none) (rest f [] nothing_yet); room = (omega (arith, empty, room), inr (omega (arith, empty, room))) };
+      met = record { rest = rw none (rest f [] nothing_yet); room = (omega (arith, empty, room), inr (omega (arith, empty, room))) };
     }
 
 some_grains : (classes size align : ℕ) (route : Route) → IsRouteOf classes size align route → 0 < room_by route (max size 1) / 16
-some_grains classes size align (Route.Class class) is = let whole = class_size_whole class (class_known classes size align class is) in omega (arith, is.suits.room, whole)
-some_grains classes size align Route.Bitfit is = omega arith
-some_grains classes size align Route.Large is = omega arith
+some_grains classes size align route is = search (arith, class_size_whole, class_known)
 
 -- A block that one actor allocated, and whose past it told, is a gift.
 pub gift_of : (region : SharedRegion) (c c' : Cached) (tells : Bool) (d d' : SharedDesk) (pass : SharedPass) (gift : Gift) (block : Block)
@@ -116,6 +114,7 @@ other_part t l j ne = part_of_others j t.actor (t.made ∷ []) l ne
 some_step : (m : Made) (v w : View) → w ≡ m ∷ v → w ≡ [] → ⊥
 some_step m v w is none = subst (λ (u : View). IsNone u) (sym none ∙ is) tt
 
+-- Where no other actor made a step, the list is the one actor's part.
 lone : (k : ℕ) (l : Whole) → ((j : ℕ) → j ≢ k → part j l ≡ []) → l ≡ triples k (part k l)
 lone k [] none = refl
 lone k (t ∷ l) none = ⊎_elim
@@ -153,8 +152,7 @@ but_two P none one more (suc (suc (suc j))) ne = more (suc (suc (suc j))) (omega
 
 -- ---- its events
 event_both : (o : Option Event) (es more : List Event) → with_event o (es ++ more) ≡ with_event o es ++ more
-event_both None es more = refl
-event_both (Some e) es more = refl
+event_both o es more = grind arith
 
 shown_both : (k : ℕ) (xs : List Made) (l : Whole) → visible (triples k xs ++ l) ≡ events_by k (part k l) xs ++ visible l
 shown_both k [] l = refl
@@ -169,9 +167,9 @@ shown_lone k v l none =
 
 -- ==== A run in which the block was given last has no refusal of its name next.
 
+-- What prepares a page ends no block: event by event.
 no_end : (d : Directory) (e : Event) (es : List Event) (a : ℕ) → IsPreparing d e → ends_in (e ∷ es) a ≡ ends_in es a
-no_end d e es a (IsPreparing.Deeds k page) = refl
-no_end d e es a (IsPreparing.Backs k page) = refl
+no_end d e es a is = grind arith
 
 no_ends : (d : Directory) (es : List Event) (a : ℕ) → AllByRecursion (IsPreparing d) es → ends_in es a ≡ 0
 no_ends d [] a all = refl
@@ -205,19 +203,17 @@ handed_over f l first second v w block name d before epoch outcome valid legal t
     let cut : (j : ℕ) → part j l ≡ part j later ++ part j second = λ j. ap (part j) taken.1 ∙ part_both j later second in
     let zero_cut : part 0 later ++ part 0 second ≡ [] = sym (cut 0) ∙ none in
     let more_cut : (j : ℕ) → 2 < j → part j later ++ part j second ≡ [] = λ j beyond. sym (cut j) ∙ nobody f l j legal (omega (arith, threads, beyond)) in
-    let two_later : part 2 later ≡ w = sym (append-nil (part 2 later)) ∙ (ap (λ (x : View). part 2 later ++ x) (sym fresh) ∙ (sym (cut 2) ∙ two)) in
+    let two_later : part 2 later ≡ w = cc (append-nil (part 2 later), fresh, cut 2, two) in
     let mid : Whole = told_before.0 in
-    let one_after : part 1 second ≡ part 1 mid ++ v = ap (part 1) told_before.1 ∙ (part_both 1 mid first ∙ ap (λ (x : View). part 1 mid ++ x) own) in
-    let one_whole : (part 1 later ++ part 1 mid) ++ v ≡ v = append_assoc (part 1 later) (part 1 mid) v ∙ (ap (λ (x : View). part 1 later ++ x) (sym one_after) ∙ (sym (cut 1) ∙ one)) in
+    let one_after : part 1 second ≡ part 1 mid ++ v = ap (part 1) told_before.1 ∙ (part_both 1 mid first ∙ ap (λ x. part 1 mid ++ x) own) in
+    let one_whole : (part 1 later ++ part 1 mid) ++ v ≡ v = cc (append_assoc (part 1 later) (part 1 mid) v, one_after, cut 1, one) in
     let one_later : part 1 later ≡ [] = left_none (part 1 later) (part 1 mid) (append_cancel_right (part 1 later ++ part 1 mid) [] v one_whole) in
-    let one_second : part 1 second ≡ v = ap (λ (x : View). x ++ part 1 second) (sym one_later) ∙ (sym (cut 1) ∙ one) in
+    let one_second : part 1 second ≡ v = cc (one_later, cut 1, one) in
     let second_is : second ≡ triples 1 v = lone 1 second (but_one (λ j. part j second ≡ []) (right_none _ _ zero_cut) fresh (λ j beyond. right_none _ _ (more_cut j beyond))) ∙ ap (triples 1) one_second in
     let later_is : later ≡ triples 2 w = lone 2 later (but_two (λ j. part j later ≡ []) (left_none _ _ zero_cut) one_later (λ j beyond. left_none _ _ (more_cut j beyond))) ∙ ap (triples 2) two_later in
     let whole_is : l ≡ triples 2 w ++ second = taken.1 ∙ ap (λ (x : Whole). x ++ second) later_is in
-    let first_events : visible second ≡ Event.Give 1 block ∷ before =
-    ap visible (second_is ∙ sym (append-nil (triples 1 v))) ∙ (shown_lone 1 v [] refl ∙ (append-nil (events_of 1 v) ∙ gave)) in
-    let all : visible l ≡ event_for 2 epoch (entry_of block.name) outcome ∷ Event.Give 1 block ∷ before =
-    ap visible whole_is ∙ (shown_lone 2 w second fresh ∙ (λ i. (ended ∙ ap (λ (n : Name). event_for 2 epoch (entry_of n) outcome ∷ []) (sym name_is)) i ++ first_events i)) in
+    let first_events : visible second ≡ Event.Give 1 block ∷ before = cc (second_is, append-nil (triples 1 v), shown_lone 1 v [] refl, append-nil (events_of 1 v), gave) in
+    let all : visible l ≡ event_for 2 epoch (entry_of block.name) outcome ∷ Event.Give 1 block ∷ before = cc (whole_is, shown_lone 2 w second fresh, ended, name_is, first_events) in
     rw name_is at (is_end f block d before epoch outcome prepared (subst (Run f) all (runs f l valid legal)))
 
 -- A gift that the second actor freed was handed over.
@@ -230,11 +226,12 @@ pub is_handed_over : (region : SharedRegion) (gift : Gift) (scavenger giver take
 is_handed_over region gift scavenger giver taker past state event threads idle one two given free ends tells =
     let after = ends.ends.after in
     let l : Whole = after.whole in
-    let others = others_are (λ (p : SharedPass). part (seat_of p).actor l ≡ view_of p) (scavenger ∷ giver ∷ taker ∷ []) scavenger (giver ∷ taker ∷ []) refl after.parts in
-    let last = others_are (λ (p : SharedPass). part (seat_of p).actor l ≡ view_of p) (giver ∷ taker ∷ []) giver (taker ∷ []) refl others in
+    let Did : SharedPass → Type 0 = λ p. part (seat_of p).actor l ≡ view_of p in
+    let others = others_are Did (scavenger ∷ giver ∷ taker ∷ []) scavenger (giver ∷ taker ∷ []) refl after.parts in
+    let last = others_are Did (giver ∷ taker ∷ []) giver (taker ∷ []) refl others in
     let none : part 0 l ≡ [] = cc (first_is (λ (p : SharedPass). part (seat_of p).actor l ≡ view_of p) (scavenger ∷ giver ∷ taker ∷ []) scavenger (giver ∷ taker ∷ []) refl after.parts) in
-    let of_giver : part 1 l ≡ view_of giver = ap (λ (k : ℕ). part k l) (sym one.actor) ∙ first_is (λ (p : SharedPass). part (seat_of p).actor l ≡ view_of p) (giver ∷ taker ∷ []) giver (taker ∷ []) refl others in
-    let of_taker : part 2 l ≡ view_of taker = ap (λ (k : ℕ). part k l) (sym two.actor) ∙ first_is (λ (p : SharedPass). part (seat_of p).actor l ≡ view_of p) (taker ∷ []) taker [] refl last in
+    let of_giver : part 1 l ≡ view_of giver = ap (λ (k : ℕ). part k l) (sym one.actor) ∙ first_is Did (giver ∷ taker ∷ []) giver (taker ∷ []) refl others in
+    let of_taker : part 2 l ≡ view_of taker = ap (λ (k : ℕ). part k l) (sym two.actor) ∙ first_is Did (taker ∷ []) taker [] refl last in
     let noted : events_noted taker.notes ≡ event_for 2 free.epoch (entry_of gift.name) free.outcome ∷ [] = taker.noted.shown ∙ ap reverse (ap (λ (k : ℕ). events_of k (view_of taker)) two.actor ∙ free.events) in
     record {
       epoch = free.epoch;

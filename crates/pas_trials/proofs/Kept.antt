@@ -1,5 +1,5 @@
 -- Free grains, usable grains, and what is offered.
-use Rattle.std.proofs.Common.{◌≡◌, ℕ, ◌<◌, ◌≤◌, ◌⊎◌, Bool, true, false, true≢false, length, refl, sym, ◌∙◌, inl, inr}
+use Rattle.std.proofs.Common.{arith, ◌≡◌, ℕ, ◌<◌, ◌≤◌, ◌⊎◌, Bool, true, false, true≢false, length, refl, sym, ◌∙◌, inl, inr}
 use Rattle.std.proofs.lemmas.Bool.{cases_lt}
 use Rattle.pas_bits.specs.Masks.{is_set, AreApart}
 use Rattle.pas_bits.specs.declared.mask.Mask4.{Mask4}
@@ -11,10 +11,11 @@ module _ (free usable : Mask4) (is_free is_usable : ℕ → Bool) (Offered : Typ
   pub kept_full : AreApart free usable → (g : ℕ) → g < 256 → is_usable g ≡ true → is_free g ≡ true → Offered
   kept_full apart g lt may there = absurd (true≢false (sym there ∙ sym (frees g lt) ∙ apart g (usables g lt ∙ may)))
 
+  -- A grain that isn't free is read so.
   apart_at : (t : Bool) (g : ℕ) → is_set free g ≡ t → (is_set free g ≡ true → ⊥) → t ≡ false
-  apart_at true g is isnt = absurd (isnt is)
-  apart_at false g is isnt = refl
+  apart_at t g is isnt = grind arith
 
+  -- A usable grain is below 256.
   within : (g : ℕ) → is_set usable g ≡ true → (g < 256) ⊎ (256 ≤ g) → g < 256
   within g set (inl lt) = lt
   within g set (inr past) = absurd (true≢false (sym set ∙ none_past usable g four past))

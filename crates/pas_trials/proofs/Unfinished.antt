@@ -28,18 +28,16 @@ parked_with_room f l legal page word bit small parked free = (
 -- ---- looks without a hint
 -- the debt is kept by a look that shows each grain as free
 kept : (same full owed : Bool) → full ≡ true → (if same && not full then false else owed) ≡ owed
-kept true true owed is = refl
-kept false true owed is = refl
-kept same false owed is = absurd (true≢false (sym is))
+kept same full owed is = grind arith
 
+-- Looks at a page leave a hint owed that was.
 looked : (page n : ℕ) (v : View) → owes_hint v page ≡ true → owes_hint (looks page ones n ++ v) page ≡ true
 looked page zero v owed = owed
 looked page (suc n) v owed = kept (page == page) (all_ones == all_ones) (owes_hint (looks page ones n ++ v) page) (eq-eqb all_ones all_ones refl) ∙ looked page n v owed
 
 -- .. and by one that shows the page as backed
 backed : (same owed : Bool) → (if same && false then false else owed) ≡ owed
-backed true owed = refl
-backed false owed = refl
+backed same owed = grind arith
 
 -- An actor that owes a page's hint still does after looks alone that showed it as backed and empty.
 pub looking_owes : LookingOwes

@@ -1,15 +1,5 @@
-use Rattle.std.proofs.Common.{[], ◌∷◌, All, List, sym, subst}
-use Rattle.std.proofs.lemmas.List.Elements.{All-nil, All-cons}
-use Rattle.pas_plain.specs.{Plain.profile_of, Plain.PassStands, Seats.ArePassesOf}
-use Rattle.pas_plain.specs.declared.pass.PlainPass.{PlainPass}
+use Rattle.pas_trials.proofs.Opened.{both_passes}
 use Rattle.pas_tests.proofs.beside_tests.closed.Goals as goal
 
 pub close-requires : goal.close-requires
-close-requires c =
-    let stands = c.requires.storm.2 in
-    let Has : PlainPass → Type 0 = λ pass. PassStands (profile_of c.args.calm.region) pass c.requires.storm.1 in
-    subst (λ passes. ArePassesOf c.args.calm.region passes) (sym c.in_ok-vec.ensures.items) (record {
-      whole = c.requires.storm.1;
-      stands = stands.region_stands;
-      parts = All-cons Has c.args.calm.own (c.args.calm.foreign ∷ []) stands.own_part (All-cons Has c.args.calm.foreign [] stands.foreign_part (All-nil Has));
-    })
+close-requires c = let stands = c.requires.storm.2 in both_passes c.in_ok-vec.ensures.items stands.region_stands stands.own_part stands.foreign_part

@@ -6,6 +6,7 @@ use Rattle.pas_free_log.specs.declared.log.Entry.{Entry}
 use Rattle.pas_plain.proofs.Desks.{start, spare}
 use Rattle.pas_tests.proofs.free_log.a_full_log_is_flushed_in_order.Goals as goal
 
+-- An actor without a step is clear.
 clear : IsClear []
 clear = record { on = λ page. record { stamped = refl; owes = record { checks = λ word small. refl; hint = refl }; examined = refl } }
 

@@ -30,7 +30,10 @@ pub loop-round-preserved : goal.loop-round-preserved
 loop-round-preserved g c =
     let lt = c.loop-round-test.true in
     let left = c.args.rounds - (c.loop-round.round + 1) in
-    let tried = keeps_after_try c.loop-round.round (c.args.rounds - c.loop-round.round) left (omega (arith, lt)) c.loop-round.invariant.can c.try_guarded.ensures.tries (g.met.D.Desk.spares c.loop-round.desk) (g.met.D.Desk.spares c.try_guarded.new.desk) in
+    let tried = keeps_after_try c.loop-round.round (c.args.rounds - c.loop-round.round) left (omega (
+      arith,
+      lt,
+    )) c.loop-round.invariant.can c.try_guarded.ensures.tries (g.met.D.Desk.spares c.loop-round.desk) (g.met.D.Desk.spares c.try_guarded.new.desk) in
     let looks = c.are_bare-here.ensures.looks in
     record {
       can = keeps_after_looks left tried looks (g.met.D.Desk.spares c.try_guarded.new.desk) (g.met.D.Desk.spares c.are_bare-here.new.desk);

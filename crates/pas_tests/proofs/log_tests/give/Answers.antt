@@ -5,13 +5,13 @@ use Rattle.std.proofs.lemmas.Bool.{and_parts, cases_eq}
 use Rattle.pas_profile.specs.declared.{directory.Directory.Directory, directory.Kind.TheVariants.Bitfit, name.Block.Block, name.Name.Name}
 use Rattle.pas_profile.specs.declared.{profile.Profile.Profile, word.Word.Word}
 use Rattle.pas_bits.specs.Runs.{in_run}
-use Rattle.pas_steps.specs.{Allowed.Allowed, Allowed.KnowsBearing, Clear.IsClear, Desks.made, Desks.Makes}
+use Rattle.pas_steps.specs.{Allowed.Allowed, Allowed.KnowsBearing, Clear.IsClear, Desks.made}
 use Rattle.pas_steps.specs.Views.{View, any_below, holds, has_right, known_deed, knows_backed, known_life, owes_hint, examines, all_ones}
 use Rattle.pas_steps.specs.declared.step.Step.TheVariants.{Look, Deed, Back, Take, Give}
-use Rattle.pas_steps.specs.declared.step.Step.{Step}
-use Rattle.pas_plain.specs.Seats.{standing_of}
+use Rattle.pas_plain.specs.Plain.{actor_of}
 use Rattle.pas_plain.specs.declared.desk.PlainDesk.{PlainDesk}
 use Rattle.pas_plain.proofs.Desks.{At, start, next, can, told, spare}
+use Rattle.pas_tests.proofs.log_tests.give.Goals.{After-take-2, After-back-2}
 use Rattle.pas_tests.proofs.log_tests.give.Goals as goal
 
 abbrev profile : Profile
@@ -120,77 +120,81 @@ give_both {a1 = a1} {a2 = a2} {a3 = a3} {a4 = a4} {a5 = a5} {a6 = a6} {a7 = a7} 
       few = omega arith;
     }
 
--- ---- the walk
-abbrev Goes : PlainDesk → PlainDesk → Step → ℕ → Type 0
-Goes d d' s a = Makes (standing_of d) (standing_of d') s a
+-- ---- how far the walk is, at a goal
+walk4 : (c : After-take-2) → Walk (actor_of c.args.desk.now.pass) c.take-2.new.self (v4 c.deed.result c.deed-2.result c.take.result c.take-2.result)
+walk4 c =
+    let x = next (next (start c.requires.fresh c.requires.profile c.requires.room) c.deed.ensures.makes tt) c.deed-2.ensures.makes tt in
+    let y = next x c.take.ensures.makes (take_first x) in
+    next y c.take-2.ensures.makes (take_second y)
 
-x2 : {k a1 a2 : ℕ} {d d' d'' : PlainDesk} → Walk k d [] → Goes d d' (Deed 1 directory) a1 → Goes d' d'' (Deed 2 directory) a2 → Walk k d'' (v2 a1 a2)
-x2 x m1 m2 = next (next x m1 tt) m2 tt
-
-x4 : {k a1 a2 a3 a4 : ℕ} {d d' d'' : PlainDesk} → Walk k d (v2 a1 a2) → Goes d d' (Take 1 3 (2 ^ 63)) a3 → Goes d' d'' (Take 2 0 1) a4
-    → Walk k d'' (v4 a1 a2 a3 a4)
-x4 x m3 m4 = let y = next x m3 (take_first x) in next y m4 (take_second y)
-
-x6 : {k a1 a2 a3 a4 a5 a6 : ℕ} {d d' d'' : PlainDesk} → Walk k d (v4 a1 a2 a3 a4) → Goes d d' (Back 1) a5 → Goes d' d'' (Back 2) a6
-    → Walk k d'' (v6 a1 a2 a3 a4 a5 a6)
-x6 x m5 m6 = let y = next x m5 (back_first x) in next y m6 (back_second y)
-
-x8 : {k a1 a2 a3 a4 a5 a6 a7 a8 : ℕ} {d d' d'' : PlainDesk} → Walk k d (v6 a1 a2 a3 a4 a5 a6) → Goes d d' (Look (Word.Life 1 255)) a7
-    → Goes d' d'' (Give block) a8
-    → Walk k d'' (made (Give block) a8 ∷ v7 a1 a2 a3 a4 a5 a6 a7)
-x8 x m7 m8 = let y = next x m7 tt in next y m8 (give_both y)
+walk6 : (c : After-back-2)
+    → Walk (actor_of c.args.desk.now.pass) c.back-2.new.self (v6 c.deed.result c.deed-2.result c.take.result c.take-2.result c.back.result c.back-2.result)
+walk6 c =
+    let x = next (next (start c.requires.fresh c.requires.profile c.requires.room) c.deed.ensures.makes tt) c.deed-2.ensures.makes tt in
+    let y = next x c.take.ensures.makes (take_first x) in
+    let z = next y c.take-2.ensures.makes (take_second y) in
+    let u = next z c.back.ensures.makes (back_first z) in
+    next u c.back-2.ensures.makes (back_second u)
 
 -- ---- the goals
 pub deed-requires-clause-can : goal.deed-requires-clause-can
-deed-requires-clause-can c = can (Deed 1 directory) (start c.requires.fresh c.requires.profile c.requires.room) ((omega arith, omega arith), record { heap = omega arith; kind = tt; class = tt }) tt
+deed-requires-clause-can c =
+    let x = start c.requires.fresh c.requires.profile c.requires.room in
+    can (Deed 1 directory) x ((omega arith, omega arith), record { heap = omega arith; kind = tt; class = tt }) tt
 
 pub deed-requires-clause-room : goal.deed-requires-clause-room
 deed-requires-clause-room c = spare 1 (start c.requires.fresh c.requires.profile c.requires.room) (omega arith)
 
 pub deed-requires-2-clause-can : goal.deed-requires-2-clause-can
-deed-requires-2-clause-can c = can (Deed 2 directory) (next (start c.requires.fresh c.requires.profile c.requires.room) c.deed.ensures.makes tt) ((omega arith, omega arith), record { heap = omega arith; kind = tt; class = tt }) tt
+deed-requires-2-clause-can c =
+    let x = next (start c.requires.fresh c.requires.profile c.requires.room) c.deed.ensures.makes tt in
+    can (Deed 2 directory) x ((omega arith, omega arith), record { heap = omega arith; kind = tt; class = tt }) tt
 
 pub deed-requires-2-clause-room : goal.deed-requires-2-clause-room
 deed-requires-2-clause-room c = spare 1 (next (start c.requires.fresh c.requires.profile c.requires.room) c.deed.ensures.makes tt) (omega arith)
 
 pub take-requires-clause-can : goal.take-requires-clause-can
-take-requires-clause-can c = let x = x2 (start c.requires.fresh c.requires.profile c.requires.room) c.deed.ensures.makes c.deed-2.ensures.makes in can (Take 1 3 (2 ^ 63)) x ((omega arith, omega arith), omega arith, omega arith) (take_first x)
+take-requires-clause-can c =
+    let x = next (next (start c.requires.fresh c.requires.profile c.requires.room) c.deed.ensures.makes tt) c.deed-2.ensures.makes tt in
+    can (Take 1 3 (2 ^ 63)) x ((omega arith, omega arith), omega arith, omega arith) (take_first x)
 
 pub take-requires-2-clause-can : goal.take-requires-2-clause-can
 take-requires-2-clause-can c =
-    let x = x2 (start c.requires.fresh c.requires.profile c.requires.room) c.deed.ensures.makes c.deed-2.ensures.makes in
+    let x = next (next (start c.requires.fresh c.requires.profile c.requires.room) c.deed.ensures.makes tt) c.deed-2.ensures.makes tt in
     let y = next x c.take.ensures.makes (take_first x) in
     can (Take 2 0 1) y ((omega arith, omega arith), omega arith, omega arith) (take_second y)
 
 pub back-requires-clause-can : goal.back-requires-clause-can
 back-requires-clause-can c =
-    let x = x4 (x2 (start c.requires.fresh c.requires.profile c.requires.room) c.deed.ensures.makes c.deed-2.ensures.makes) c.take.ensures.makes c.take-2.ensures.makes in
+    let x = walk4 (goal.at.back-requires-clause-can c).After-take-2 in
     can (Back 1) x (omega arith, omega arith) (back_first x)
 
 pub back-requires-clause-room : goal.back-requires-clause-room
-back-requires-clause-room c = spare 1 (x4 (x2 (start c.requires.fresh c.requires.profile c.requires.room) c.deed.ensures.makes c.deed-2.ensures.makes) c.take.ensures.makes c.take-2.ensures.makes) (omega arith)
+back-requires-clause-room c = spare 1 (walk4 (goal.at.back-requires-clause-room c).After-take-2) (omega arith)
 
 pub back-requires-2-clause-can : goal.back-requires-2-clause-can
 back-requires-2-clause-can c =
-    let x = x4 (x2 (start c.requires.fresh c.requires.profile c.requires.room) c.deed.ensures.makes c.deed-2.ensures.makes) c.take.ensures.makes c.take-2.ensures.makes in
+    let x = walk4 (goal.at.back-requires-2-clause-can c).After-take-2 in
     let y = next x c.back.ensures.makes (back_first x) in
     can (Back 2) y (omega arith, omega arith) (back_second y)
 
 pub back-requires-2-clause-room : goal.back-requires-2-clause-room
-back-requires-2-clause-room c = let x = x4 (x2 (start c.requires.fresh c.requires.profile c.requires.room) c.deed.ensures.makes c.deed-2.ensures.makes) c.take.ensures.makes c.take-2.ensures.makes in spare 1 (next x c.back.ensures.makes (back_first x)) (omega arith)
+back-requires-2-clause-room c =
+    let x = walk4 (goal.at.back-requires-2-clause-room c).After-take-2 in
+    spare 1 (next x c.back.ensures.makes (back_first x)) (omega arith)
 
 pub look-requires-clause-can : goal.look-requires-clause-can
 look-requires-clause-can c =
-    can (Look (Word.Life 1 255)) (x6 (x4 (x2 (start c.requires.fresh c.requires.profile c.requires.room) c.deed.ensures.makes c.deed-2.ensures.makes) c.take.ensures.makes c.take-2.ensures.makes) c.back.ensures.makes c.back-2.ensures.makes) (omega arith, omega arith, omega arith) tt
+    can (Look (Word.Life 1 255)) (walk6 (goal.at.look-requires-clause-can c).After-back-2) (omega arith, omega arith, omega arith) tt
 
 pub give-requires-clause-can : goal.give-requires-clause-can
 give-requires-clause-can c =
-    let x = next (x6 (x4 (x2 (start c.requires.fresh c.requires.profile c.requires.room) c.deed.ensures.makes c.deed-2.ensures.makes) c.take.ensures.makes c.take-2.ensures.makes) c.back.ensures.makes c.back-2.ensures.makes) c.look.ensures.makes tt in
+    let x = next (walk6 (goal.at.give-requires-clause-can c).After-back-2) c.look.ensures.makes tt in
     can (Give block) x (record { first = omega arith; last = omega arith; heap = omega arith; turn = omega arith }) (give_both x)
 
 pub give-requires-clause-room : goal.give-requires-clause-room
 give-requires-clause-room c =
-    spare 1 (next (x6 (x4 (x2 (start c.requires.fresh c.requires.profile c.requires.room) c.deed.ensures.makes c.deed-2.ensures.makes) c.take.ensures.makes c.take-2.ensures.makes) c.back.ensures.makes c.back-2.ensures.makes) c.look.ensures.makes tt) (omega arith)
+    spare 1 (next (walk6 (goal.at.give-requires-clause-room c).After-back-2) c.look.ensures.makes tt) (omega arith)
 
 -- nothing is unstamped, and nothing is owed
 no_hint : (t u owed : Bool) → owed ≡ false → (if t && u then false else owed) ≡ false
@@ -200,21 +204,24 @@ no_hint false u owed h = h
 
 clear : (a1 a2 a3 a4 a5 a6 a7 a8 : ℕ) → IsClear (made (Give block) a8 ∷ v7 a1 a2 a3 a4 a5 a6 a7)
 clear a1 a2 a3 a4 a5 a6 a7 a8 = record {
-  on = λ page. record {
+  on = λ page. let first = no_hint (1 == page) (not (a3 == all_ones) || not (bit_and a3 (2 ^ 63) == 0)) false refl in record {
     stamped = refl;
     owes = record {
       checks = λ word lt. refl;
-      hint = no_hint (2 == page) (not (a4 == all_ones) || not (bit_and a4 1 == 0)) (owes_hint (v3 a1 a2 a3) page) (no_hint (1 == page) (not (a3 == all_ones) || not (bit_and a3 (2 ^ 63) == 0)) false refl);
+      hint = no_hint (2 == page) (not (a4 == all_ones) || not (bit_and a4 1 == 0)) (owes_hint (v3 a1 a2 a3) page) first;
     };
-    examined = no_hint (2 == page) (not (a4 == all_ones) || not (bit_and a4 1 == 0)) (examines (v3 a1 a2 a3) page) (no_hint (1 == page) (not (a3 == all_ones) || not (bit_and a3 (2 ^ 63) == 0)) false refl);
+    examined = no_hint (2 == page) (not (a4 == all_ones) || not (bit_and a4 1 == 0)) (examines (v3 a1 a2 a3) page) first;
   };
 }
 
 pub returns-clause-clear : goal.returns-clause-clear
 returns-clause-clear c =
-    let x = x8 (x6 (x4 (x2 (start c.requires.fresh c.requires.profile c.requires.room) c.deed.ensures.makes c.deed-2.ensures.makes) c.take.ensures.makes c.take-2.ensures.makes) c.back.ensures.makes c.back-2.ensures.makes) c.look.ensures.makes c.give.ensures.makes in
-    record { view = _; whole = _; stood = x.stood; met = clear c.deed.result c.deed-2.result c.take.result c.take-2.result c.back.result c.back-2.result c.look.result c.give.result }
+    let y = next (walk6 (goal.at.returns-clause-clear c).After-back-2) c.look.ensures.makes tt in
+    let x = next y c.give.ensures.makes (give_both y) in
+    let met = clear c.deed.result c.deed-2.result c.take.result c.take-2.result c.back.result c.back-2.result c.look.result c.give.result in
+    record { view = _; whole = _; stood = x.stood; met = met }
 
 pub returns-clause-room : goal.returns-clause-room
 returns-clause-room c =
-    spare 3 (x8 (x6 (x4 (x2 (start c.requires.fresh c.requires.profile c.requires.room) c.deed.ensures.makes c.deed-2.ensures.makes) c.take.ensures.makes c.take-2.ensures.makes) c.back.ensures.makes c.back-2.ensures.makes) c.look.ensures.makes c.give.ensures.makes) (omega arith)
+    let y = next (walk6 (goal.at.returns-clause-room c).After-back-2) c.look.ensures.makes tt in
+    spare 3 (next y c.give.ensures.makes (give_both y)) (omega arith)

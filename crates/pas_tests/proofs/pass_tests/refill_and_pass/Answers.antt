@@ -1,27 +1,23 @@
-use Rattle.std.proofs.Common.{◌≡◌, [], refl, ap, ◌∙◌, arith}
+use Rattle.std.proofs.Common.{◌≡◌, [], ap, ◌∙◌, arith}
 use Rattle.pas_profile.specs.declared.profile.Profile.{Profile}
 use Rattle.pas_steps.specs.Desks.{Seat}
 use Rattle.pas_plain.specs.Plain.{profile_of}
 use Rattle.pas_plain.specs.declared.region.PlainRegion.{PlainRegion}
-use Rattle.pas_segregated.specs.Stops.{class_directory}
 use Rattle.pas_steps.proofs.Nothing.{nothing_yet}
-use Rattle.pas_tests.proofs.Besides.{may_search, whole_room, beside_then, waits_then, seated_then, rests_beside, others_then}
+use Rattle.pas_tests.proofs.Besides.{may_search, whole_room, beside_first, waits_first, seated_then, beside_second}
 use Rattle.pas_tests.proofs.pass_tests.refill_and_pass.Goals as goal
 
 pub change-desk-requires : goal.change-desk-requires
-change-desk-requires c = let o = c.in_ok-desk.ensures.opens in
-    beside_then c.fill.ensures.steps c.in_ok-desk.pass [] [] o.stood (may_search (class_directory 0 0)) o.rests o.other
+change-desk-requires c = beside_first c.in_ok-desk.ensures.opens c.fill.ensures.steps (may_search _)
 
 pub age_and_pass-requires-clause-can : goal.age_and_pass-requires-clause-can
 age_and_pass-requires-clause-can c =
-    let o = c.in_ok-desk.ensures.opens in
-    let w = waits_then c.fill.ensures.steps c.in_ok-desk.pass [] [] o.stood (may_search (class_directory 0 0)) o.rests o.other refl o.room_of o.room_of_other in
+    let w = waits_first c.in_ok-desk.ensures.opens c.fill.ensures.steps (may_search _) in
     record { view = []; whole = w.whole; stood = seated_then w c.change-desk.result.0 c.change-desk.ensures.region c.change-desk.ensures.seated; met = nothing_yet }
 
 pub age_and_pass-requires-clause-room : goal.age_and_pass-requires-clause-room
 age_and_pass-requires-clause-room c =
-    let o = c.in_ok-desk.ensures.opens in
-    let w = waits_then c.fill.ensures.steps c.in_ok-desk.pass [] [] o.stood (may_search (class_directory 0 0)) o.rests o.other refl o.room_of o.room_of_other in
+    let w = waits_first c.in_ok-desk.ensures.opens c.fill.ensures.steps (may_search _) in
     let whole = whole_room w c.change-desk.result.0 c.change-desk.ensures.region c.change-desk.ensures.seated in
     let same = ap (λ (s : Seat). s.profile.pages) c.fill.ensures.steps.adds.seat_is in
     let region = ap (λ (r : PlainRegion). (profile_of r).pages) c.change-desk.ensures.region in
@@ -30,7 +26,5 @@ age_and_pass-requires-clause-room c =
 
 pub close_both-requires : goal.close_both-requires
 close_both-requires c =
-    let o = c.in_ok-desk.ensures.opens in let d = class_directory 0 0 in
-    let w = waits_then c.fill.ensures.steps c.in_ok-desk.pass [] [] o.stood (may_search d) o.rests o.other refl o.room_of o.room_of_other in
-    let next = c.change-desk.result.0 in let risen = c.change-desk.result.1 in let e = c.change-desk.ensures in
-    beside_then c.age_and_pass.ensures.steps risen [] w.whole (seated_then w next e.region e.seated) nothing_yet (rests_beside w next risen e.region e.risen) (others_then w next risen e.seated e.risen)
+    let w = waits_first c.in_ok-desk.ensures.opens c.fill.ensures.steps (may_search _) in let e = c.change-desk.ensures in
+    beside_second w e.region e.seated e.risen c.age_and_pass.ensures.steps nothing_yet

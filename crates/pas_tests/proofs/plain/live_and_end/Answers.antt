@@ -4,13 +4,13 @@ use Rattle.std.proofs.lemmas.Bool.{and_parts}
 use Rattle.pas_profile.specs.declared.{directory.Directory.Directory, directory.Kind.TheVariants.Class, name.Block.Block, name.Name.Name}
 use Rattle.pas_profile.specs.declared.{profile.Profile.Profile, word.Word.Word}
 use Rattle.pas_bits.specs.Runs.{in_run}
-use Rattle.pas_steps.specs.{Allowed.Allowed, Allowed.KnowsBearing, Desks.made, Desks.Makes}
+use Rattle.pas_steps.specs.{Allowed.Allowed, Allowed.KnowsBearing, Desks.made}
 use Rattle.pas_steps.specs.Views.{View, any_below, holds, has_right, known_deed, knows_backed, known_life}
-use Rattle.pas_steps.specs.declared.step.Step.{Step}
 use Rattle.pas_steps.specs.declared.step.Step.TheVariants.{Look, Deed, Back, Take, Give, End}
-use Rattle.pas_plain.specs.Seats.{standing_of}
+use Rattle.pas_plain.specs.Plain.{actor_of}
 use Rattle.pas_plain.specs.declared.desk.PlainDesk.{PlainDesk}
 use Rattle.pas_plain.proofs.Desks.{At, start, next, can, told, spare}
+use Rattle.pas_tests.proofs.plain.live_and_end.Goals.{After-take, After-look-2}
 use Rattle.pas_tests.proofs.plain.live_and_end.Goals as goal
 
 abbrev profile : Profile
@@ -40,9 +40,6 @@ v4 a1 a2 a3 a4 = made (Back 1) a4 ∷ v3 a1 a2 a3
 
 abbrev v5 : ℕ → ℕ → ℕ → ℕ → ℕ → View
 v5 a1 a2 a3 a4 a5 = made (Look (Word.Life 1 0)) a5 ∷ v4 a1 a2 a3 a4
-
-abbrev v6 : ℕ → ℕ → ℕ → ℕ → ℕ → ℕ → View
-v6 a1 a2 a3 a4 a5 a6 = made (Give block) a6 ∷ v5 a1 a2 a3 a4 a5
 
 -- ---- what they allow
 abbrev Walk : ℕ → PlainDesk → View → Type 0
@@ -88,22 +85,18 @@ may_give {a1 = a1} {a2 = a2} {a3 = a3} {a4 = a4} {a5 = a5} x =
       few = omega arith;
     }
 
--- ---- the walk
-abbrev Goes : PlainDesk → PlainDesk → Step → ℕ → Type 0
-Goes d d' s a = Makes (standing_of d) (standing_of d') s a
+-- ---- how far the walk is, at a goal
+walk3 : (c : After-take) → Walk (actor_of c.args.desk.now.pass) c.take.new.self (v3 c.look.result c.deed.result c.take.result)
+walk3 c =
+    let x = next (next (start c.requires.fresh c.requires.profile c.requires.room) c.look.ensures.makes tt) c.deed.ensures.makes tt in
+    next x c.take.ensures.makes (may_take x)
 
-x2 : {k a1 a2 : ℕ} {d d' d'' : PlainDesk} → Walk k d [] → Goes d d' (Look Word.Epoch) a1 → Goes d' d'' (Deed 1 directory) a2 → Walk k d'' (v2 a1 a2)
-x2 x m1 m2 = next (next x m1 tt) m2 tt
-
-x3 : {k a1 a2 a3 : ℕ} {d d' : PlainDesk} → Walk k d (v2 a1 a2) → Goes d d' (Take 1 0 1) a3 → Walk k d' (v3 a1 a2 a3)
-x3 x m = next x m (may_take x)
-
-x5 : {k a1 a2 a3 a4 a5 : ℕ} {d d' d'' : PlainDesk} → Walk k d (v3 a1 a2 a3) → Goes d d' (Back 1) a4 → Goes d' d'' (Look (Word.Life 1 0)) a5
-    → Walk k d'' (v5 a1 a2 a3 a4 a5)
-x5 x m4 m5 = next (next x m4 (may_back x)) m5 tt
-
-x6 : {k a1 a2 a3 a4 a5 a6 : ℕ} {d d' : PlainDesk} → Walk k d (v5 a1 a2 a3 a4 a5) → Goes d d' (Give block) a6 → Walk k d' (v6 a1 a2 a3 a4 a5 a6)
-x6 x m = next x m (may_give x)
+walk5 : (c : After-look-2)
+    → Walk (actor_of c.args.desk.now.pass) c.look-2.new.self (v5 c.look.result c.deed.result c.take.result c.back.result c.look-2.result)
+walk5 c =
+    let x = next (next (start c.requires.fresh c.requires.profile c.requires.room) c.look.ensures.makes tt) c.deed.ensures.makes tt in
+    let y = next x c.take.ensures.makes (may_take x) in
+    next (next y c.back.ensures.makes (may_back y)) c.look-2.ensures.makes tt
 
 -- ---- the goals
 pub deed-requires-clause-can : goal.deed-requires-clause-can
@@ -116,43 +109,41 @@ deed-requires-clause-room c = spare 1 (next (start c.requires.fresh c.requires.p
 
 pub take-requires-clause-can : goal.take-requires-clause-can
 take-requires-clause-can c =
-    let x = x2 (start c.requires.fresh c.requires.profile c.requires.room) c.look.ensures.makes c.deed.ensures.makes in
+    let x = next (next (start c.requires.fresh c.requires.profile c.requires.room) c.look.ensures.makes tt) c.deed.ensures.makes tt in
     can (Take 1 0 1) x ((omega arith, omega arith), omega arith, omega arith) (may_take x)
 
 pub back-requires-clause-can : goal.back-requires-clause-can
 back-requires-clause-can c =
-    let x = x3 (x2 (start c.requires.fresh c.requires.profile c.requires.room) c.look.ensures.makes c.deed.ensures.makes) c.take.ensures.makes in
+    let x = walk3 (goal.at.back-requires-clause-can c).After-take in
     can (Back 1) x (omega arith, omega arith) (may_back x)
 
 pub back-requires-clause-room : goal.back-requires-clause-room
-back-requires-clause-room c = spare 1 (x3 (x2 (start c.requires.fresh c.requires.profile c.requires.room) c.look.ensures.makes c.deed.ensures.makes) c.take.ensures.makes) (omega arith)
+back-requires-clause-room c = spare 1 (walk3 (goal.at.back-requires-clause-room c).After-take) (omega arith)
 
 pub look-requires-2-clause-can : goal.look-requires-2-clause-can
 look-requires-2-clause-can c =
-    let x = x3 (x2 (start c.requires.fresh c.requires.profile c.requires.room) c.look.ensures.makes c.deed.ensures.makes) c.take.ensures.makes in
+    let x = walk3 (goal.at.look-requires-2-clause-can c).After-take in
     can (Look (Word.Life 1 0)) (next x c.back.ensures.makes (may_back x)) (omega arith, omega arith, omega arith) tt
 
 pub give-requires-clause-can : goal.give-requires-clause-can
 give-requires-clause-can c =
-    let x = x5 (x3 (x2 (start c.requires.fresh c.requires.profile c.requires.room) c.look.ensures.makes c.deed.ensures.makes) c.take.ensures.makes) c.back.ensures.makes c.look-2.ensures.makes in
+    let x = walk5 (goal.at.give-requires-clause-can c).After-look-2 in
     can (Give block) x (record { first = omega arith; last = omega arith; heap = omega arith; turn = omega arith }) (may_give x)
 
 pub give-requires-clause-room : goal.give-requires-clause-room
-give-requires-clause-room c =
-    let x = x5 (x3 (x2 (start c.requires.fresh c.requires.profile c.requires.room) c.look.ensures.makes c.deed.ensures.makes) c.take.ensures.makes) c.back.ensures.makes c.look-2.ensures.makes in
-    spare 1 x (omega arith)
+give-requires-clause-room c = spare 1 (walk5 (goal.at.give-requires-clause-room c).After-look-2) (omega arith)
 
 pub end-requires-clause-can : goal.end-requires-clause-can
 end-requires-clause-can c =
-    let x = x5 (x3 (x2 (start c.requires.fresh c.requires.profile c.requires.room) c.look.ensures.makes c.deed.ensures.makes) c.take.ensures.makes) c.back.ensures.makes c.look-2.ensures.makes in
-    can (End name 1) (x6 x c.give.ensures.makes) ((omega arith, omega arith), refl, omega arith, omega arith, omega arith) tt
+    let x = walk5 (goal.at.end-requires-clause-can c).After-look-2 in
+    can (End name 1) (next x c.give.ensures.makes (may_give x)) ((omega arith, omega arith), refl, omega arith, omega arith, omega arith) tt
 
 pub end-requires-clause-room : goal.end-requires-clause-room
 end-requires-clause-room c =
-    let x = x5 (x3 (x2 (start c.requires.fresh c.requires.profile c.requires.room) c.look.ensures.makes c.deed.ensures.makes) c.take.ensures.makes) c.back.ensures.makes c.look-2.ensures.makes in
-    spare 1 (x6 x c.give.ensures.makes) (omega arith)
+    let x = walk5 (goal.at.end-requires-clause-room c).After-look-2 in
+    spare 1 (next x c.give.ensures.makes (may_give x)) (omega arith)
 
 pub returns-clause-stands : goal.returns-clause-stands
 returns-clause-stands c =
-    let x = x5 (x3 (x2 (start c.requires.fresh c.requires.profile c.requires.room) c.look.ensures.makes c.deed.ensures.makes) c.take.ensures.makes) c.back.ensures.makes c.look-2.ensures.makes in
-    (_, _, (next (x6 x c.give.ensures.makes) c.end.ensures.makes tt).stood)
+    let x = walk5 (goal.at.returns-clause-stands c).After-look-2 in
+    (_, _, (next (next x c.give.ensures.makes (may_give x)) c.end.ensures.makes tt).stood)

@@ -1,7 +1,7 @@
 use Rattle.std.proofs.Common.{ap, sym, ◌∙◌, subst}
 use Rattle.pas_cache.specs.Caches.{cached}
 use Rattle.pas_shared.specs.Passes.{IsFreshPass}
-use Rattle.pas_tests.proofs.Sharing.{can_borrow}
+use Rattle.pas_tests.proofs.BetweenCalls.{can_borrow}
 use Rattle.pas_tests.proofs.shared_sizing_tests.a_block_ends_by_its_own_room_alone.Goals as goal
 
 pub borrow_and_end-block-requires-clause-can : goal.borrow_and_end-block-requires-clause-can

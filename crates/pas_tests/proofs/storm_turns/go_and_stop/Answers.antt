@@ -1,4 +1,4 @@
-use Rattle.pas_tests.proofs.Riding.{may_stop_then, gone_and_stopped}
+use Rattle.pas_tests.proofs.Stormed.{may_stop_then, gone_and_stopped}
 use Rattle.pas_tests.proofs.storm_turns.go_and_stop.Goals as goal
 
 pub stop-requires : goal.stop-requires

@@ -1,6 +1,6 @@
 use Rattle.std.proofs.Common.{ap, ◌∙◌}
 use Rattle.pas_steps.specs.Desks.{Seat}
-use Rattle.pas_tests.proofs.Riding.{may_go_beside, rests_then}
+use Rattle.pas_tests.proofs.Stormed.{may_go_beside, rests_then}
 use Rattle.pas_tests.proofs.storm_turns.prepare.Goals as goal
 
 pub go-requires-clause-can : goal.go-requires-clause-can

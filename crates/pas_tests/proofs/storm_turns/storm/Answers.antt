@@ -1,6 +1,6 @@
 use Rattle.std.proofs.Common.{arith}
 use Rattle.pas_steps.proofs.Noting.{rest_length}
-use Rattle.pas_tests.proofs.Riding.{rests_first}
+use Rattle.pas_tests.proofs.Stormed.{rests_first}
 use Rattle.pas_tests.proofs.storm_turns.storm.Goals as goal
 
 pub prepare-requires-clause-rest : goal.prepare-requires-clause-rest

@@ -1,7 +1,7 @@
 use Rattle.std.proofs.Common.{ap, arith}
 use Rattle.pas_profile.specs.declared.profile.Profile.{Profile}
 use Rattle.pas_plain.specs.Storms.{storm_of}
-use Rattle.pas_tests.proofs.Beginning.{seat_profile, may_begin}
+use Rattle.pas_tests.proofs.BetweenCalls.{seat_profile, may_begin}
 use Rattle.pas_tests.proofs.storming.ride.Goals as goal
 
 pub storm-storm-requires : goal.storm-storm-requires

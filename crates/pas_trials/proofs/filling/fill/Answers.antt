@@ -8,8 +8,8 @@ use Rattle.pas_trials.proofs.Firsts.{given_directory, may_stop_then}
 use Rattle.pas_trials.proofs.filling.fill.Goals as goal
 
 pub stop_where-requires-clause-directory : goal.stop_where-requires-clause-directory
-stop_where-requires-clause-directory g c = let r = c.in-Ok.ensures.refills in
-    subst (λ (s : Seat). IsDirectoryOf s.profile (directory_of c.in-Ok.slots)) (sym r.adds.seat_is) (subst (IsDirectoryOf (g.D.Desk.standing c.args.desk.now).seat.profile) (sym (given_directory r.outcome)) c.requires.directory)
+stop_where-requires-clause-directory g c = let r = c.in-Ok.ensures.refills in subst (λ (s : Seat). IsDirectoryOf s.profile (directory_of c.in-Ok.slots))
+    (sym r.adds.seat_is) (subst (IsDirectoryOf (g.D.Desk.standing c.args.desk.now).seat.profile) (sym (given_directory r.outcome)) c.requires.directory)
 
 pub stop_where-requires-clause-can : goal.stop_where-requires-clause-can
 stop_where-requires-clause-can g c = let r = c.in-Ok.ensures.refills in let can = c.requires.can in

@@ -10,6 +10,7 @@ use Rattle.pas_trials.specs.Trials.{MayLeaveIf}
 use Rattle.pas_trials.proofs.Bringing.{deed_gives}
 use Rattle.pas_trials.proofs.holding.occupy.Goals as goal
 
+-- A deed that was made is a call after which the page may be left.
 got : {σ σ' : Standing} (p : ℕ) (d : Directory) {a : ℕ} → Makes σ σ' (Deed p d) a → a ≡ 0 → Calls σ σ' AnyView (λ v w. MayLeave p d w) (made (Deed p d) a ∷ [])
 got p d {a} makes none = call_step (λ v w. MayLeave p d w) (call_none {R = λ v w. AnyView w} (λ v met. tt)) makes (λ v met b. tt) (λ v met b agrees. deed_gives p d a v none)
 

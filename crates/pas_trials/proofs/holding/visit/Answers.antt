@@ -3,7 +3,7 @@ use Rattle.pas_steps.specs.Views.{has_right}
 use Rattle.pas_steps.proofs.Called.{call_then}
 use Rattle.pas_rights.specs.Leaves.{MayLeave}
 use Rattle.pas_trials.specs.Trials.{MayLeaveIf}
-use Rattle.pas_rights.proofs.Debts.{leave_lacks}
+use Rattle.pas_rights.proofs.Orders.{leave_lacks}
 use Rattle.pas_trials.proofs.holding.visit.Goals as goal
 
 pub returns-clause-brings : goal.returns-clause-brings

@@ -1,4 +1,4 @@
-use Rattle.pas_rights.proofs.Looks.{full_mask}
+use Rattle.pas_rights.proofs.Orders.{full_mask}
 use Rattle.pas_trials.proofs.judging.usable_grains.Goals as goal
 
 pub returns-in-Bitfit : goal.returns-in-Bitfit

@@ -15,7 +15,7 @@ loop-done-preserved g c =
     let asked = c.alloc_large.ensures.allocates.2 16 (omega arith, omega arith, refl) (is_large (g.D.Desk.standing c.loop-done.desk).seat.profile.classes 4096 16 (omega arith)) in
     record {
       log = log_as {wanted = wanted_for (g.D.Desk.standing c.loop-done.desk).seat.profile 0 4096 16} asked ∙ c.loop-done.invariant.log;
-      can = page_asked (2 * (c.args.blocks - (c.loop-done.done + 1)) + 5) (omega arith) asked c.loop-done.invariant.can (λ v l s. g.met.D.Desk.spares c.loop-done.desk v l s) (λ v l s. g.met.D.Desk.spares c.alloc_large.new.desk v l s);
+      can = page_asked (2 * (c.args.blocks - (c.loop-done.done + 1)) + 5) (omega arith) asked c.loop-done.invariant.can (g.met.D.Desk.spares c.loop-done.desk) (g.met.D.Desk.spares c.alloc_large.new.desk);
     }
 
 pub returns : goal.returns

@@ -18,8 +18,8 @@ free-requires-2-clause-can g c = freed_call c.free.ensures.frees (rest_call (bud
 pub flush-requires-clause-room : goal.flush-requires-clause-room
 flush-requires-clause-room g c =
     let one = one_logged c.requires.none_logged c.free.ensures.frees in
-    let first = freed_budget (empty_few c.requires.none_logged) c.free.ensures.frees (budget_call c.requires.can) (λ v l s. g.met.D.Desk.spares c.args.desk.now v l s) (λ v l s. g.met.D.Desk.spares c.free.new.desk v l s) in
-    let second = freed_budget (omega (arith, one)) c.free-2.ensures.frees first (λ v l s. g.met.D.Desk.spares c.free.new.desk v l s) (λ v l s. g.met.D.Desk.spares c.free-2.new.desk v l s) in
+    let first = freed_budget (empty_few c.requires.none_logged) c.free.ensures.frees (budget_call c.requires.can) (g.met.D.Desk.spares c.args.desk.now) (g.met.D.Desk.spares c.free.new.desk) in
+    let second = freed_budget (omega (arith, one)) c.free-2.ensures.frees first (g.met.D.Desk.spares c.free.new.desk) (g.met.D.Desk.spares c.free-2.new.desk) in
     let two = two_logged c.requires.none_logged c.free.ensures.frees c.free-2.ensures.frees in
     omega (arith, two, second.met.room)
 
@@ -29,7 +29,7 @@ flush-requires-clause-can g c = freed_call c.free-2.ensures.frees (freed_call c.
 pub returns : goal.returns
 returns g c =
     let one = one_logged c.requires.none_logged c.free.ensures.frees in
-    let first = freed_budget (empty_few c.requires.none_logged) c.free.ensures.frees (budget_call c.requires.can) (λ v l s. g.met.D.Desk.spares c.args.desk.now v l s) (λ v l s. g.met.D.Desk.spares c.free.new.desk v l s) in
-    let second = freed_budget (omega (arith, one)) c.free-2.ensures.frees first (λ v l s. g.met.D.Desk.spares c.free.new.desk v l s) (λ v l s. g.met.D.Desk.spares c.free-2.new.desk v l s) in
+    let first = freed_budget (empty_few c.requires.none_logged) c.free.ensures.frees (budget_call c.requires.can) (g.met.D.Desk.spares c.args.desk.now) (g.met.D.Desk.spares c.free.new.desk) in
+    let second = freed_budget (omega (arith, one)) c.free-2.ensures.frees first (g.met.D.Desk.spares c.free.new.desk) (g.met.D.Desk.spares c.free-2.new.desk) in
     let two = two_logged c.requires.none_logged c.free.ensures.frees c.free-2.ensures.frees in
     record { can = call_budget (settled_budget c.settle.ensures.cache (flushed_budget 3 2 two c.flush.ensures.flushes c.flush.ensures.spare second)) }

@@ -14,10 +14,10 @@ alloc-block-requires-clause-can g c = may_allocate 5 (omega arith) (budget_call 
 
 pub end_by_rooms-requires-clause-can : goal.end_by_rooms-requires-clause-can
 end_by_rooms-requires-clause-can g c =
-    let left = budget_left 3 c.alloc-block.ensures.allocates (budget_call c.requires.can) (λ v l s. g.met.D.Desk.spares c.args.desk.now v l s) (λ v l s. g.met.D.Desk.spares c.alloc-block.new.desk v l s) in
+    let left = budget_left 3 c.alloc-block.ensures.allocates (budget_call c.requires.can) (g.met.D.Desk.spares c.args.desk.now) (g.met.D.Desk.spares c.alloc-block.new.desk) in
     record { view = left.view; whole = left.whole; stood = left.stood; met = tt }
 
 pub end_by_rooms-requires-clause-room : goal.end_by_rooms-requires-clause-room
 end_by_rooms-requires-clause-room g c =
-    let left = budget_left 3 c.alloc-block.ensures.allocates (budget_call c.requires.can) (λ v l s. g.met.D.Desk.spares c.args.desk.now v l s) (λ v l s. g.met.D.Desk.spares c.alloc-block.new.desk v l s) in
+    let left = budget_left 3 c.alloc-block.ensures.allocates (budget_call c.requires.can) (g.met.D.Desk.spares c.args.desk.now) (g.met.D.Desk.spares c.alloc-block.new.desk) in
     omega (arith, left.met.room)

@@ -14,6 +14,6 @@ alloc-requires-clause-can g c = may_allocate _ (omega arith) c.loop-done.invaria
 
 pub loop-done-preserved : goal.loop-done-preserved
 loop-done-preserved g c = (
-  one_more (omega arith) c.loop-done.invariant.0 c.alloc.ensures.allocates (λ v l s. g.met.D.Desk.spares c.loop-done.desk v l s) (λ v l s. g.met.D.Desk.spares c.alloc.new.desk v l s),
+  one_more (omega arith) c.loop-done.invariant.0 c.alloc.ensures.allocates (g.met.D.Desk.spares c.loop-done.desk) (g.met.D.Desk.spares c.alloc.new.desk),
   c.alloc.ensures.home ∙ c.loop-done.invariant.1,
 )

@@ -6,7 +6,7 @@ use Rattle.pas_steps.specs.Desks.{Standing, made, Makes, AnyView}
 use Rattle.pas_steps.specs.Views.{has_right, KnowsDeed, View}
 use Rattle.pas_steps.specs.declared.step.Step.TheVariants.{Look, TakeRight}
 use Rattle.pas_steps.proofs.Called.{call_none, call_step, call_then, next_call}
-use Rattle.pas_steps.proofs.Kept.{knows_still}
+use Rattle.pas_steps.proofs.Frames.{knows_still}
 use Rattle.pas_rights.specs.Claims.{Claims}
 use Rattle.pas_trials.specs.Trials.{Answered}
 use Rattle.pas_trials.proofs.Bringing.{look_reads, look_tells}
@@ -22,12 +22,16 @@ claim_gets : (p : ℕ) (got : Bool) (v w : View) → got ≡ true → has_right 
     → has_right w p ≡ true
 claim_gets p got v w is e = e ∙ ap (λ t. now (if t then (if got then Gained else Kept) else Kept) (has_right v p)) (same_page p) ∙ ap (λ t. now (if t then Gained else Kept) (has_right v p)) is
 
+-- A claim that got the right is a call that answers with it.
 claimed : {σ σ' : Standing} {got : Bool} (p : ℕ) (d : Directory) (h : Claims p d σ σ' got)
     → Calls σ σ' (λ v. KnowsDeed p d v) (λ v w. Answered (Some got) p d w) (made (TakeRight p d) h.answer ∷ [])
 claimed {σ} {got = got} p d h = record {
   adds = h.calls.adds;
   leads = record {
-    from = λ v known agreed. (knows_still σ.seat.profile d p (made (TakeRight p d) h.answer ∷ []) v agreed known, λ is. claim_gets p got v (made (TakeRight p d) h.answer ∷ v) is ((h.calls.leads.from v known agreed).right p));
+    from = λ v known agreed. (
+      knows_still σ.seat.profile d p (made (TakeRight p d) h.answer ∷ []) v agreed known,
+      λ is. claim_gets p got v (made (TakeRight p d) h.answer ∷ v) is ((h.calls.leads.from v known agreed).right p),
+    );
   };
 }
 
