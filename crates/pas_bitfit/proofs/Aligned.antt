@@ -12,14 +12,15 @@ sixteens_all : passes_below is_sixteens 4097 ≡ true
 sixteens_all = refl
 
 -- Where one of three holds and the first two don't, the third does.
-or_last : (x y z : Bool) → (x || not y || z) ≡ true → x ≡ false → y ≡ true → z ≡ true
+pub or_last : (x y z : Bool) → (x || not y || z) ≡ true → x ≡ false → y ≡ true → z ≡ true
 or_last x y z h hx hy = grind arith
 
 -- An alignment is a multiple of 16.
 pub sixteens : (align : ℕ) → IsAlignment align → align % 16 ≡ 0
 sixteens align is =
     let low = is.0 in let high = is.1 in
-    eqb-true (align % 16) 0 (or_last (nat_lt align 16) (4096 % align == 0) (align % 16 == 0) (passes_at is_sixteens 4097 align sixteens_all (omega (arith, high))) (grind (arith, low)) (eq-eqb (4096 % align) 0 is.2))
+    eqb-true (align % 16) 0 (or_last (nat_lt align 16) (4096 % align == 0) (align % 16 == 0)
+    (passes_at is_sixteens 4097 align sixteens_all (omega (arith, high))) (grind (arith, low)) (eq-eqb (4096 % align) 0 is.2))
 
 -- a block at an aligned grain of its page stands at a multiple of the alignment
 pub stands_aligned : (page first align : ℕ) → IsAlignment align → first % (align / 16) ≡ 0 → (page * 4096 + first * 16) % align ≡ 0

@@ -1,6 +1,6 @@
 //! The lowest run of free grains that fits.
 use pas_bits::{Mask4, all_zero};
-use pas_search::{Placing, Run};
+use pas_search::{LeastRun, Placing, Run};
 
 /// The run of free grains that a request wants: so many, 1 to 256, of which the first is a multiple of the alignment, 1 to 256 grains.
 #[derive(Clone, Copy, PartialEq, Eq)]
@@ -23,6 +23,13 @@ impl Placing for Wanted {
         Some(Run {
             first,
             grains: self.grains,
+        })
+    }
+
+    fn least_run(&self) -> Option<LeastRun> {
+        Some(LeastRun {
+            grains: self.grains,
+            align: self.align,
         })
     }
 

@@ -101,7 +101,7 @@ module _ (class : ℕ) (is : IsClass class) (r : Readings) (run : Run) (lowest :
   has_slot i lt = let end = inside i lt in
       (are (run.first + i * k)).1 ((slot i lt).0, λ x low high. to_run run.first run.grains x (omega (arith, low)) (omega (arith, high, end)))
 
-  pub first_set : is_set starts run.first ≡ true
+  first_set : is_set starts run.first ≡ true
   first_set = let none : run.first + 0 * k ≡ run.first = omega arith in subst (λ x. is_set starts x ≡ true) none (has_slot 0 lowest.few.0)
 
   -- a grain of the run is one of its i-th slot
@@ -121,7 +121,7 @@ module _ (class : ℕ) (is : IsClass class) (r : Readings) (run : Run) (lowest :
       )
 
   -- The slots of the run have just its grains.
-  pub covered : (b : ℕ) → b < 256 → in_run run.first run.grains b ≡ in_starts class starts b
+  covered : (b : ℕ) → b < 256 → in_run run.first run.grains b ≡ in_starts class starts b
   covered b lt = same_truth (in_run run.first run.grains b) (in_starts class starts b)
       (λ here. let at = slot_of b here in ap (is_set starts) (start_at class (run.first + at.0 * k) b (slot at.0 at.1).0 at.2 at.3) ∙ has_slot at.0 at.1)
       (λ set. let below = start_below class b is in ((are (start_of class b)).0 set).1 b below.0 below.1)
@@ -141,7 +141,7 @@ module _ (class : ℕ) (is : IsClass class) (r : Readings) (run : Run) (lowest :
   ]
 
   -- The slots of the lowest run are the lowest row.
-  pub lowest_row : IsLowestRow class r starts
+  lowest_row : IsLowestRow class r starts
   lowest_row = record {
     first = run.first;
     free = (lowest.start, λ x low high. (slot 0 lowest.few.0).1 x (omega (arith, low)) (omega (arith, high)));
@@ -225,7 +225,8 @@ module _ (heap class : ℕ) (is : IsClass class) {tells : Bool} {σ σ1 : Standi
         })
 
     -- Slots that a search of shared pages found, once the page was left, are a refill without its right.
-    pub refills_ok : Refills (shared_slots heap class) tells σ σ2 (Ok (record { page = served.page; heap = heap; class = class; starts = starts; right = false }))
+    pub refills_ok : Refills (shared_slots heap class) tells σ σ2
+        (Ok (record { page = served.page; heap = heap; class = class; starts = starts; right = false }))
     refills_ok = record {
       searched = xs;
       searches = searches.searches;

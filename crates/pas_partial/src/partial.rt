@@ -2,7 +2,7 @@
 use pas_bits::Mask4;
 use pas_profile::classes::class_size;
 use pas_profile::limits::GRAIN_BYTES;
-use pas_search::{Placing, Run};
+use pas_search::{LeastRun, Placing, Run};
 
 /// How many slots of a page are taken at once at most.
 const MOST_SLOTS: u16 = 4;
@@ -28,6 +28,14 @@ impl Placing for Partial {
         Some(Run {
             first,
             grains: slots * grains,
+        })
+    }
+
+    fn least_run(&self) -> Option<LeastRun> {
+        let grains = (class_size(self.class) / GRAIN_BYTES) as u16;
+        Some(LeastRun {
+            grains,
+            align: grains,
         })
     }
 

@@ -1,22 +1,25 @@
 -- Desks at a plain region, and their passes.
-use Rattle.std.proofs.Common.{◌≡◌, ◌≢◌, ℕ, zero, suc, ◌+◌, ◌-◌, ◌^◌, ◌≤◌, min, All, List, [], ◌∷◌, ◌++◌, length, refl, ap, sym, ◌∙◌, arith, true, subst, Bool}
-use Rattle.std.proofs.Common.{if◌then◌else◌, length-append, append-nil, reverse}
+use Rattle.std.proofs.Common.{◌≡◌, ◌≢◌, ℕ, zero, suc, ◌+◌, ◌-◌, ◌*◌, ◌/◌, ◌%◌, ◌^◌, ◌<◌, ◌≤◌, min, All, List, [], ◌∷◌, ◌++◌, length, refl, ap, sym, ◌∙◌, arith}
+use Rattle.std.proofs.Common.{true, subst, Bool, if◌then◌else◌, length-append, append-nil, reverse}
 use Rattle.pas_profile.specs.{Rooms.shown, Rooms.EventRoom, Layouts.same_word, Profiles.IsWordOf}
 use Rattle.pas_profile.specs.declared.{profile.Profile.Profile, word.Word.Word, event.Event.Event}
 use Rattle.pas_profile.proofs.Places.{same_word-true}
 use Rattle.pas_steps.specs.{Events.events_of, Events.event_of, Allowed.Allowed, Allowed.IsStepOf, Agreement.Agrees, Calls.nothing, Calls.Does, Calls.Calls}
-use Rattle.pas_steps.specs.{Clear.IsClear, Clear.HasNothing, Effects.target, Effects.new_value, Noted.IsNoted, Noted.ShowsRest}
+use Rattle.pas_steps.specs.{Clear.IsClear, Clear.HasNothing, Effects.target, Effects.new_value, Noted.IsNoted, Noted.ShowsRest, Paged.value_in}
 use Rattle.pas_steps.specs.Lists.{Whole, part, word_after, Legal}
 use Rattle.pas_steps.specs.Views.{known_epoch, View, epoch_of, or_zero, epoch_after}
+use Rattle.pas_steps.specs.Told.{AreShort, StandsLater, StandsStill, TellsWord}
+use Rattle.pas_steps.proofs.{ShortOfGrains.short_alike, Parts.part_of_others, Parts.part_of_own, Frames.with_few, Called.call_none, Called.call_step}
+use Rattle.pas_steps.proofs.{Calls.does_idly, Nothing.nothing_still, Nothing.calls_rest, Running.target_of_region, Noting.rest_noted, Noting.count_next}
+use Rattle.pas_bits.specs.Bits.{has_bit}
+use Rattle.pas_plain.specs.Short.{IsShortPage}
 use Rattle.pas_steps.specs.Desks.{triples, Seat, Standing, made, triple, CanMake, Makes}
 use Rattle.pas_steps.specs.declared.step.{Made.Made, Step.Step}
-use Rattle.pas_steps.proofs.{Parts.part_of_others, Parts.part_of_own, Frames.with_few, Called.call_none, Called.call_step, Calls.does_idly}
-use Rattle.pas_steps.proofs.{Nothing.nothing_still, Nothing.calls_rest, Running.target_of_region, Noting.rest_noted, Noting.count_next}
-use Rattle.pas_plain.specs.Plain.{actor_of, count_of_pass, Forgets, PassStands, pass_for, passes_from, profile_of, room_of_pass, events_shown, forgotten_by}
-use Rattle.pas_plain.specs.Plain.{spare_in, RegionStands, epoch_known, IsExchanged}
+use Rattle.pas_plain.specs.Plain.{actor_of, count_of_pass, CountsMore, word_at, Forgets, PassStands, pass_for, passes_from, profile_of, room_of_pass}
+use Rattle.pas_plain.specs.Plain.{events_shown, forgotten_by, spare_in, RegionStands, epoch_known, IsExchanged}
 use Rattle.pas_plain.specs.declared.{pass.PlainPass.PlainPass, region.PlainRegion.PlainRegion, desk.PlainDesk.PlainDesk}
 use Rattle.pas_steps.specs.Kinds.{Kinds, kind_of, is_in, apart, changing}
-use Rattle.pas_plain.specs.Seats.{region_of, pass_of, DeskStands, standing_of, spare_of_room, IsChanged}
+use Rattle.pas_plain.specs.Seats.{region_of, pass_of, DeskStands, standing_of, shows_rest, spare_of_room, IsChanged}
 use Rattle.pas_plain.specs.Storms.{Acts, StormStands, seat_for, storm_of, own_stands}
 use Rattle.pas_core.proofs.Nexts.{legal_next, agrees_next}
 use Rattle.std.proofs.lemmas.List.{reverse-append}
@@ -332,6 +335,62 @@ desk_forgets old new region pass v l stood = record {
   pass = subst (λ (r : PlainRegion). PassStands (profile_of r) (pass_of new) l) (sym region) (pass.stands (profile_of (region_of old)) l stood.pass);
   part_is = ap (λ (k : ℕ). part k l) pass.actor ∙ stood.part_is;
 }
+
+-- ---- steps that are told
+-- A desk that counted steps which change nothing stands for its lists with them.
+pub told_later : (d new : PlainDesk) (count : ℕ) → region_of new ≡ region_of d → CountsMore count (pass_of d) (pass_of new)
+    → StandsLater count (standing_of d) (standing_of new)
+told_later d new count region counts = record {
+  seat_is = seat_same counts.actor (ap (λ (r : PlainRegion). profile_of r) region) counts.room;
+  stands = λ steps many v l stood idle.
+      let k = actor_of d.pass in let next = triples k steps ++ l in let old = shows_rest d v l stood in
+      let own : part k next ≡ steps ++ v = part_of_own k steps l ∙ ap (λ x. steps ++ x) stood.part_is in
+      let same : part (actor_of new.pass) next ≡ steps ++ v = ap (λ (x : ℕ). part x next) counts.actor ∙ own in
+      let events = sym idle.events ∙ ap (λ (x : ℕ). events_of x (steps ++ v)) (sym counts.actor) ∙ ap (λ x. events_of (actor_of new.pass) x) (sym same) in
+      let long = ap length same ∙ length-append steps v in let before = stood.pass.count ∙ ap (λ x. min (length x) (2 ^ 64 - 1)) stood.part_is in
+      record {
+        region = subst (λ (r : PlainRegion). RegionStands r next) (sym region) (record { legal = idle.legal; ends = λ w of. stood.region.ends w of ∙ sym (idle.words w of) });
+        pass = subst (λ (r : PlainRegion). PassStands (profile_of r) new.pass next) (sym region) (record {
+          actor = subst (λ (x : ℕ). x ≤ (profile_of d.region).threads) (sym counts.actor) stood.pass.actor;
+          shown = record { gone = old.gone; many = old.many ∙ sym counts.forgotten; all = ap (λ es. old.gone ++ es) counts.shown ∙ old.all ∙ ap (λ es. reverse es) events };
+          count = omega (arith, counts.count, before, many, long);
+          epoch = counts.epoch ∙ stood.pass.epoch ∙ ap known_epoch stood.part_is ∙ sym idle.epoch ∙ ap known_epoch (sym same);
+        });
+        part_is = same;
+      };
+}
+
+-- A desk of which only the notes changed stands as before.
+pub noted_still : (d new : PlainDesk) → profile_of new.region ≡ profile_of d.region → new.region.words ≡ d.region.words → new.pass ≡ d.pass
+    → StandsStill (standing_of d) (standing_of new)
+noted_still d new profile words pass = record {
+  seat_is = seat_same (ap (λ (x : PlainPass). actor_of x) pass) profile (ap (λ (x : PlainPass). room_of_pass x) pass);
+  stands = λ v l stood. record {
+    region = record {
+      legal = subst (λ (f : Profile). Legal f l) (sym profile) stood.region.legal;
+      ends = λ w of. ap (λ ws. value_in ws w) words ∙ stood.region.ends w (subst (λ (f : Profile). IsWordOf f w) profile of);
+    };
+    pass = subst (λ (f : Profile). PassStands f new.pass l) (sym profile) (subst (λ (x : PlainPass). PassStands (profile_of d.region) x l) (sym pass) stood.pass);
+    part_is = ap (λ (x : PlainPass). part (actor_of x) l) pass ∙ stood.part_is;
+  };
+}
+
+-- The value of a word is told, since all lists for which a plain desk stands end in its words.
+pub tells_word : (d : PlainDesk) (word : Word) → IsWordOf (profile_of d.region) word → TellsWord true (standing_of d) word (word_at d.region word)
+tells_word d word of = record {
+  tells_all = refl;
+  is = λ v l stood. sym (stood.region.ends word of);
+  one_state = λ v v' l l' a b w of'. sym (a.region.ends w of') ∙ b.region.ends w of';
+  actor = λ v l stood. stood.pass.actor;
+}
+
+-- The pages that its notes have are short by each list for which it stands.
+pub are_short : (d : PlainDesk) (grains align block bits : ℕ)
+    → ((b : ℕ) → b < 64 → has_bit bits b ≡ true → IsShortPage (profile_of d.region).pages d.region.words grains align (64 * block + b))
+    → AreShort (standing_of d) grains align block bits
+are_short d grains align block bits noted b lt bit v l stood =
+    let here = noted b lt bit in short_alike grains align (λ g small. ap (λ n. has_bit n (g % 64))
+    (stood.region.ends (Word.Free (64 * block + b) (g / 64)) (here.of_region.0, here.of_region.1, omega (arith, small)))) here.short
 
 -- The last passes of a region that nobody used yet.
 -- ---- the last one of a list

@@ -1,3 +1,5 @@
+pub mod ShortRows
+pub mod Short
 pub mod Plain
 pub mod Seats
 pub mod Sides

@@ -65,6 +65,15 @@ pub record Forgets (old new : PlainPass) : Type 0 where
   pub count : count_of_pass new ≡ count_of_pass old
   pub stands : (f : Profile) (l : Whole) → PassStands f old l → PassStands f new l
 
+-- The pass once so many steps more were counted, and nothing else of them was noted.
+pub record CountsMore (steps : ℕ) (old new : PlainPass) : Type 0 where
+  pub actor : actor_of new ≡ actor_of old
+  pub shown : events_shown new ≡ events_shown old
+  pub forgotten : forgotten_by new ≡ forgotten_by old
+  pub room : room_of_pass new ≡ room_of_pass old
+  pub count : count_of_pass new ≡ min (count_of_pass old + steps) (2 ^ 64 - 1)
+  pub epoch : epoch_known new ≡ epoch_known old
+
 -- the pass of an actor that made no step
 abbrev pub pass_for : ℕ → EventRoom → PlainPass
 pass_for actor room = record { actor = actor; notes = notes_for room; forgotten = 0; within = omega (arith, room.within) }

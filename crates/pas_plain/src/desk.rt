@@ -168,6 +168,26 @@ impl Desk for PlainDesk {
         self.change(Step::End { name, guess })
     }
 
+    #[inline(always)]
+    fn peek(&self, word: Word) -> Option<u64> {
+        Some(self.region.word(word))
+    }
+
+    #[inline]
+    fn tell(&mut self, count: u64) -> bool {
+        self.pass.count_more(count);
+        true
+    }
+
+    #[inline]
+    fn short_pages(&self, grains: u16, align: u16, block: u32) -> u64 {
+        self.region.short_pages(grains, align, block)
+    }
+
+    fn note_short(&mut self, grains: u16, align: u16, page: u32) {
+        self.region.note_short(grains, align, page);
+    }
+
     ghost valid = { λ desk. desk.region.valid };
 
     ghost limited = { λ desk. desk.pass.notes.room.limited };

@@ -10,6 +10,7 @@ pub mod pass;
 pub mod region;
 pub mod seating;
 pub mod session;
+mod short;
 pub mod storm;
 
 pub use closed::Closed;

@@ -17,7 +17,7 @@ pub struct PlainPass {
 
 impl PlainPass {
     ghost use Rattle.pas_steps.specs.{Events.wants, Ranges.IsRanged, Views.or_zero, Noted.IsNoted};
-    ghost use Rattle.pas_plain.specs.Plain.{pass_for, actor_of, events_shown, forgotten_by, spare_in, count_of_pass, epoch_known, Forgets};
+    ghost use Rattle.pas_plain.specs.Plain.{pass_for, actor_of, events_shown, forgotten_by, spare_in, count_of_pass, epoch_known, Forgets, CountsMore};
 
     /// The pass of an actor that made no step.
     pub(crate) fn new(actor: u8, room: EventRoom) -> PlainPass
@@ -75,6 +75,14 @@ impl PlainPass {
         ensures { result ≡ or_zero (epoch_known self.now) }
     {
         self.notes.epoch()
+    }
+
+    /// Counts steps that made no event and read no epoch.
+    #[inline(always)]
+    pub(crate) fn count_more(&mut self, steps: u64)
+        ensures { CountsMore steps self.old self.new }
+    {
+        self.notes.count_more(steps);
     }
 
     /// Notes a step that the actor made, and its event.

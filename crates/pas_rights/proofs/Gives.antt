@@ -38,7 +38,8 @@ given_fate t g = grind arith
 
 -- ---- the block and its grains
 -- The turn is named otherwise on the two sides, and nothing else is.
-pub block_is : (heap page first n word turn : ℕ) → turn ≡ turn_of word → record { name = record { address = record { 0 = page * 4096 + first * 16 }; turn = turn }; room = n * 16; heap = heap } ≡ block_of heap page first n word
+pub block_is : (heap page first n word turn : ℕ) → turn ≡ turn_of word
+    → record { name = record { address = record { 0 = page * 4096 + first * 16 }; turn = turn }; room = n * 16; heap = heap } ≡ block_of heap page first n word
 block_is heap page first n word turn t = search arith
 
 -- they are those of the run

@@ -16,8 +16,8 @@ use Rattle.pas_steps.specs.declared.step.{Made.Made, Step.Step}
 use Rattle.pas_steps.specs.declared.step.Step.TheVariants.{Look, Offer, Park, TakeRight}
 use Rattle.pas_steps.proofs.Adding.{agreed_first, agreed_later, adds_step, adds_none, adds_call, adds_under}
 use Rattle.pas_steps.proofs.Apart.{in_apart, holds_same, rights_same, deeds_same, unstamped_same}
-use Rattle.pas_steps.proofs.{Frames.rights_stay, Past.always_both, Past.always_map, Bits.all_below-from, Flags.stays_set, Past.once_later, Flags.ends_none}
-use Rattle.pas_steps.proofs.{Frames.examined_on, Frames.returns_on}
+use Rattle.pas_steps.proofs.{Frames.rights_stay, Frames.examined_on, Frames.returns_on, Past.always_both, Past.always_map, Past.once_later, Bits.all_below-from}
+use Rattle.pas_steps.proofs.{Flags.stays_set, Flags.ends_none}
 use Rattle.pas_rights.specs.Words.{each_word, words, full, ones}
 use Rattle.pas_rights.specs.{Puts.masked, Claims.Claims}
 use Rattle.pas_profile.specs.Directories.{IsKind, IsDirectory, deed_word_of, number_of}
@@ -211,7 +211,7 @@ both_false : (x y : Bool) → (x ≡ true → y ≡ false) → (x && y) ≡ fals
 both_false x y h = grind arith
 
 -- Where no free grain is usable, no free word of the page has a usable one.
-pub no_usable_word : (d : Directory) (free : Mask4) → IsDirectory d → HasNoUsable d free → (w : ℕ) → w < 4 → no_usable (deed_word_of d) w (words free w) ≡ true
+no_usable_word : (d : Directory) (free : Mask4) → IsDirectory d → HasNoUsable d free → (w : ℕ) → w < 4 → no_usable (deed_word_of d) w (words free w) ≡ true
 no_usable_word d free is none w small = search (arith, all_below-from, not_from_false, read-deed_word_of, both_false, at_word)
 
 -- the first grain of a page is usable
@@ -223,7 +223,7 @@ pub none_used : (d : Directory) (free : Mask4) → IsDirectory d → HasNoUsable
 none_used d free is none = (0, omega arith, false_from_ne_true _ (λ set. true≢false (sym (first_usable d.kind is.kind) ∙ none 0 (omega arith) set)))
 
 -- A page without a usable grain isn't all free.
-pub unusable_used : (d : Directory) (free : Mask4) (all_free : Bool) → IsDirectory d → HasNoUsable d free → MatchBool all_free (IsAllFree free) (HasUsed free)
+unusable_used : (d : Directory) (free : Mask4) (all_free : Bool) → IsDirectory d → HasNoUsable d free → MatchBool all_free (IsAllFree free) (HasUsed free)
     → all_free ≡ false
 unusable_used d free all_free is none all = grind (arith, none_used, true≢false)
 
@@ -232,7 +232,7 @@ pub match_not : (P Q R S : Type 0) (b : Bool) → MatchBool b P Q → (P → S) 
 match_not P Q R S b h f g = grind arith
 
 -- a word that isn't all ones
-pub used_word : (free : Mask4) → HasUsed free → (w : ℕ) × (w < 4) × (words free w ≢ all_ones)
+used_word : (free : Mask4) → HasUsed free → (w : ℕ) × (w < 4) × (words free w ≢ all_ones)
 used_word free used = search (arith, true≢false, full_bit)
 
 -- What each step of these calls asks, and how their steps stand in order.
@@ -241,15 +241,15 @@ pub until_only : (p : ℕ) (used : Option Used) → Only (LookFree ∷ []) (look
 until_only p used = grind (arith, looks_only)
 
 -- Looks up to the first used word leave each right where it was.
-pub right_until : (p q : ℕ) (used : Option Used) (v : View) → has_right (looks_until p used ++ v) q ≡ has_right v q
+right_until : (p q : ℕ) (used : Option Used) (v : View) → has_right (looks_until p used ++ v) q ≡ has_right v q
 right_until p q used v = rights_same (LookFree ∷ []) refl q (looks_until p used) v (until_only p used)
 
 -- Looks at free words leave each right where it was.
-pub right_looks : (p q : ℕ) (answers : ℕ → ℕ) (n : ℕ) (v : View) → has_right (looks p answers n ++ v) q ≡ has_right v q
+right_looks : (p q : ℕ) (answers : ℕ → ℕ) (n : ℕ) (v : View) → has_right (looks p answers n ++ v) q ≡ has_right v q
 right_looks p q answers n v = rights_same (LookFree ∷ []) refl q (looks p answers n) v (looks_only p answers n)
 
 -- Looks at free words leave what is known of deeds as it was.
-pub deed_looks : (p q : ℕ) (answers : ℕ → ℕ) (n : ℕ) (v : View) → known_deed (looks p answers n ++ v) q ≡ known_deed v q
+deed_looks : (p q : ℕ) (answers : ℕ → ℕ) (n : ℕ) (v : View) → known_deed (looks p answers n ++ v) q ≡ known_deed v q
 deed_looks p q answers n v = deeds_same (LookFree ∷ []) refl q (looks p answers n) v (looks_only p answers n)
 
 -- ---- rights
@@ -266,12 +266,12 @@ pub gets : (p : ℕ) (w : Way) (a : ℕ) (before : Bool) → had_after w before 
 gets p w a before got h = search (arith, same_page)
 
 -- A step that found its page's bit clear leaves the right as it was.
-pub gets_none : (p : ℕ) (w : Way) (a : ℕ) (before : Bool) → has_bit a (p % 64) ≡ false
+gets_none : (p : ℕ) (w : Way) (a : ℕ) (before : Bool) → has_bit a (p % 64) ≡ false
     → had_after (if (p == p) && has_bit a (p % 64) then w else Rests) before ≡ before
 gets_none p w a before h = search (arith, same_page)
 
 -- A step that gives its own page's right up leaves its actor without it.
-pub gives : (p : ℕ) (w : Way) (before : Bool) → had_after w before ≡ false → had_after (if p == p then w else Rests) before ≡ false
+gives : (p : ℕ) (w : Way) (before : Bool) → had_after w before ≡ false → had_after (if p == p then w else Rests) before ≡ false
 gives p w before h = ap (λ t. had_after (if t then w else Rests) before) (same_page p) ∙ h
 
 -- ---- what may be done
@@ -320,21 +320,21 @@ return_returns p d steps h = subst (OnlyReturns p) (sym h.steps_are) (returns_ap
     (returns_append p _ h.first (until_return p h.used) (reoffer_returns p d h.first h.reoffers)))
 
 -- ---- the steps of a leave, on a view or on a list before them
-pub offered_on : (p : ℕ) (d : Directory) (all_free : Bool) (steps : List Made) (v : View) (h : OfferSteps p d all_free steps)
+offered_on : (p : ℕ) (d : Directory) (all_free : Bool) (steps : List Made) (v : View) (h : OfferSteps p d all_free steps)
     → steps ++ v ≡ h.after ++ (made (Offer p d) h.offered ∷ v)
 offered_on p d all_free steps v h = ap (λ s. s ++ v) h.steps_are ∙ append_assoc h.after (made (Offer p d) h.offered ∷ []) v
 
 -- The steps of a park stand in this order: the park, looks, and what follows.
-pub parked_on : (p : ℕ) (d : Directory) (steps : List Made) (v : View) (h : ParkSteps p d steps)
+parked_on : (p : ℕ) (d : Directory) (steps : List Made) (v : View) (h : ParkSteps p d steps)
     → steps ++ v ≡ h.after ++ (looks p (words h.later) 4 ++ (made (Park p) h.parked ∷ v))
 parked_on p d steps v h = search (arith, append_assoc)
 
 -- The steps of a leave stand in this order: looks, and what follows.
-pub left_on : (p : ℕ) (d : Directory) (steps : List Made) (v : View) (h : LeaveSteps p d steps) → steps ++ v ≡ h.after ++ (looks p (words h.free) 4 ++ v)
+left_on : (p : ℕ) (d : Directory) (steps : List Made) (v : View) (h : LeaveSteps p d steps) → steps ++ v ≡ h.after ++ (looks p (words h.free) 4 ++ v)
 left_on p d steps v h = ap (λ s. s ++ v) h.steps_are ∙ append_assoc h.after (looks p (words h.free) 4) v
 
 -- The steps of a return stand in this order: the page is offered again where it was parked, looks, and a hint.
-pub returned_on : (p : ℕ) (d : Directory) (steps : List Made) (v : View) (h : ReturnSteps p d steps)
+returned_on : (p : ℕ) (d : Directory) (steps : List Made) (v : View) (h : ReturnSteps p d steps)
     → steps ++ v ≡ h.after ++ (looks_until p h.used ++ (h.first ++ v))
 returned_on p d steps v h = ap (λ s. s ++ v) h.steps_are ∙ append_assoc h.after _ v ∙ ap (λ s. h.after ++ s) (append_assoc _ h.first v)
 
@@ -346,7 +346,7 @@ end_loses p d false all_free steps before are h = subst (Once (LosesHere p)) (sy
     (once_later (LosesHere p) h.after _ (once_later (LosesHere p) (looks p (words h.later) 4) (made (Park p) h.parked ∷ before) (inl (GivesUp.Parks, are))))
 
 -- the right is given up after looks alone
-pub leave_loses : (p : ℕ) (d : Directory) (steps : List Made) → LeaveSteps p d steps → Once (LosesHere p) steps
+leave_loses : (p : ℕ) (d : Directory) (steps : List Made) → LeaveSteps p d steps → Once (LosesHere p) steps
 leave_loses p d steps h = subst (Once (LosesHere p)) (sym h.steps_are) (end_loses p d h.usable h.all_free h.after _ (looks_are p (words h.free) 4) h.ends)
 
 -- ---- how many steps they are
@@ -495,7 +495,7 @@ leave_hint : (p : ℕ) (free : Mask4) (all_free : Bool) (v : View) → MatchBool
 leave_hint p free all_free v is none = let used = used_word free (MatchBool-at_false _ _ none is) in hint_looks p used.0 (words free) 4 v used.2 used.1
 
 -- After a leave nothing is owed on the page.
-pub leave_owes : (f : Profile) (p : ℕ) (d : Directory) (steps : List Made) (v : View) → IsDirectory d → LeaveSteps p d steps → Agreed f v steps
+leave_owes : (f : Profile) (p : ℕ) (d : Directory) (steps : List Made) (v : View) → IsDirectory d → LeaveSteps p d steps → Agreed f v steps
     → known_deed v p ≡ deed_word_of d → OwesNothing p (steps ++ v)
 leave_owes f p d steps v is h agreed knows = let looked = looks p (words h.free) 4 in subst (OwesNothing p) (sym (left_on p d steps v h))
     (end_owes f p d h.usable h.all_free h.after _ is h.ends (agreed_first f v h.after looked (subst (Agreed f v) h.steps_are agreed)) (deed_looks p p (words h.free) 4 v ∙ knows)
@@ -517,7 +517,7 @@ until_hint : (p : ℕ) (used : Option Used) (v : View) → AreUsed used → is_f
 until_hint p used v are e = grind (arith, true≢false, hint_look)
 
 -- After a return nothing is owed on the page.
-pub return_owes : (f : Profile) (p : ℕ) (d : Directory) (steps : List Made) (v : View) → ReturnSteps p d steps → Agreed f v steps → OwesNothing p (steps ++ v)
+return_owes : (f : Profile) (p : ℕ) (d : Directory) (steps : List Made) (v : View) → ReturnSteps p d steps → Agreed f v steps → OwesNothing p (steps ++ v)
 return_owes f p d steps v h agreed =
     let looked : View = looks_until p h.used ++ (h.first ++ v) in
     let all : Agreed f v (h.after ++ (looks_until p h.used ++ h.first)) = subst (Agreed f v) h.steps_are agreed in
@@ -528,7 +528,7 @@ return_owes f p d steps v h agreed =
     }
 
 -- A return leaves the page's right where it was.
-pub return_right : (f : Profile) (p : ℕ) (d : Directory) (steps : List Made) (v : View) → ReturnSteps p d steps → Agreed f v steps
+return_right : (f : Profile) (p : ℕ) (d : Directory) (steps : List Made) (v : View) → ReturnSteps p d steps → Agreed f v steps
     → has_right (steps ++ v) p ≡ has_right v p
 return_right f p d steps v h agreed =
     let all : Agreed f v (h.after ++ (looks_until p h.used ++ h.first)) = subst (Agreed f v) h.steps_are agreed in
@@ -585,6 +585,25 @@ leaves_by {σ} {σ1} {σ2} usable all_free p d free is reads usable_is all_free_
     let first : Adds σ σ1 (MayLeave p d) (looks p (words free) 4) = adds_under reads (λ v l stood met. tt) in
     leaves p d (after ++ looks p (words free) 4) is (adds_call first adds (λ v l stood met. may_still p d free v met))
     record { free = free; usable = usable; usable_is = usable_is; all_free = all_free; all_free_is = all_free_is; after = after; ends = ends; steps_are = refl }
+
+-- the looks that show a free grain and one that isn't, and the offer
+pub leaves_offered : {σ σ' : Standing} (p : ℕ) (d : Directory) (free : Mask4) (offered : ℕ) → IsDirectory d → HasUsable d free → HasUsed free
+    → Adds σ σ' (MayLeave p d) (made (Offer p d) offered ∷ looks p (words free) 4)
+    → (left : Leaves p d σ σ') × (left.steps ≡ made (Offer p d) offered ∷ looks p (words free) 4)
+unfolding leaves
+leaves_offered p d free offered is usable used adds = (
+  leaves p d (made (Offer p d) offered ∷ looks p (words free) 4) is adds (record {
+    free = free;
+    usable = true;
+    usable_is = usable;
+    all_free = false;
+    all_free_is = used;
+    after = made (Offer p d) offered ∷ [];
+    ends = record { offered = offered; after = []; hints = refl; steps_are = refl };
+    steps_are = refl;
+  }),
+  refl,
+)
 
 -- the deed is known after the parking and the later looks
 pub knows_parked : (p : ℕ) (d : Directory) (k : ℕ) (later : Mask4) (v : View) → KnowsDeed p d v

@@ -34,7 +34,7 @@ use Rattle.pas_rights.specs.Returns.{ReofferSteps, ReturnSteps, Settles, Returne
 use Rattle.pas_rights.specs.declared.reading.Used.{Used}
 
 -- ---- one word
-pub none_in : (page word mask g : ℕ) → mask ≡ 0 → in_mask page word mask g ≡ false
+none_in : (page word mask g : ℕ) → mask ≡ 0 → in_mask page word mask g ≡ false
 none_in page word mask g z = and_right ((word == g / 64 % 4) && (page == g / 256)) (has_bit mask (g % 64)) (ap (λ m. has_bit m (g % 64)) z ∙ none_of_zero _)
 
 -- A word without grains to put leaves the view as it is.
@@ -69,7 +69,7 @@ in_word page mask n g = behind _ _ _ _ (λ e.
     ap (λ w. has_bit (slice_index mask.0 w) (g % 64)) word ∙ ap (has_bit (slice_index mask.0 (g % 256 / 64))) bit)
 
 -- The words below one more are those below it, and that one.
-pub next_word : (w n : ℕ) → nat_lt w (n + 1) ≡ (nat_lt w n || (n == w))
+next_word : (w n : ℕ) → nat_lt w (n + 1) ≡ (nat_lt w n || (n == w))
 next_word w n = grind (arith, nat_tests)
 
 -- What holds holds again.
@@ -77,7 +77,7 @@ or_same : (m t : Bool) → (m || (t && m)) ≡ m
 or_same m t = grind arith
 
 -- What either of two tests lets through a third is what both together let through it.
-pub shared : (s t m : Bool) → ((s && m) || (t && m)) ≡ ((s || t) && m)
+shared : (s t m : Bool) → ((s && m) || (t && m)) ≡ ((s || t) && m)
 shared s t m = grind (arith, or_same)
 
 below_more : (page : ℕ) (mask : Mask4) (n g : ℕ) → (masked_below page mask n g || in_mask page n (slice_index mask.0 n) g) ≡ masked_below page mask (n + 1) g
@@ -125,7 +125,7 @@ held_too : (move : Move) (a b : Bool) → (a ≡ true → b ≡ true) → held_a
 held_too move a b f h = grind arith
 
 -- What the later steps hold is held by them behind others, too.
-pub holds_more : (g : ℕ) (ys xs : List Made) → holds ys g ≡ true → holds (ys ++ xs) g ≡ true
+holds_more : (g : ℕ) (ys xs : List Made) → holds ys g ≡ true → holds (ys ++ xs) g ≡ true
 holds_more g [] xs h = absurd (true≢false (sym h))
 holds_more g (y ∷ ys) xs h = held_too (grain_move y.step y.answer g) (holds ys g) (holds (ys ++ xs) g) (holds_more g ys xs) h
 

@@ -10,4 +10,5 @@ use Rattle.pas_steps.specs.declared.step.Step.TheVariants.{TakeRight}
 pub record Claims (page : ℕ) (directory : Directory) (desk desk' : Standing) (got : Bool) : Type 0 where
   pub answer : ℕ
   pub got_is : got ≡ has_bit answer (page % 64)
-  pub calls : Calls desk desk' (KnowsDeed page directory) (Does (on_page page (if got then Gained else Kept) Kept)) (made (TakeRight page directory) answer ∷ [])
+  pub calls : Calls desk desk' (KnowsDeed page directory) (Does (on_page page (if got then Gained else Kept) Kept))
+      (made (TakeRight page directory) answer ∷ [])

@@ -2,7 +2,7 @@
 use Rattle.std.proofs.Common.{◌≡◌, ◌≢◌, ℕ, suc, length, ◌+◌, ◌*◌, ◌/◌, ◌<◌, ◌≤◌, Bool, false, List, [], ◌∷◌, ◌++◌, ◌⊎◌, inl, inr, refl, ap, sym, ◌∙◌, subst}
 use Rattle.std.proofs.Common.{arith, ◌%◌, ◌^◌, ◌==◌, true, not, ◌&&◌, ◌||◌, if◌then◌else◌, append_assoc, max, min, bit_and, w64, eq-eqb, ne_eqb, eqb-true, ◌-◌}
 use Rattle.std.proofs.Common.{slice_index, slice_set, replicate, true≢false, length-append, get_or-set_same, get_or-set_other, nat_lt, lt-ltb, le-ltb, ltb-true}
-use Rattle.std.proofs.Common.{ltb-false, pow_pos}
+use Rattle.std.proofs.Common.{ltb-false, pow_pos, shr-shr, bit_or}
 use Rattle.std.proofs.lemmas.Bool.{cases_lt, cases_eq, and_parts, or_right, or_cases, not-true, not-false, cases_Bool, false_from_ne_true}
 use Rattle.pas_profile.specs.declared.{profile.Profile.Profile, word.Word.Word as TheWord, word.Word.Word, directory.Directory.Directory}
 use Rattle.pas_steps.specs.Views.{View, has_right, right_after, known_deed, deed_after, KnowsDeed}
@@ -18,10 +18,10 @@ use Rattle.pas_bits.specs.{Bits.has_bit, PageVectors.is_in_word}
 use Rattle.pas_profile.specs.Directories.{deed_word_of, IsKind, number_of, deed_word_numbered}
 use Rattle.pas_profile.specs.Profiles.{IsPage}
 use Rattle.pas_steps.proofs.Apart.{only_both}
-use Rattle.pas_scan.specs.Marks.{is_marked}
-use Rattle.pas_bits.proofs.Words.{bit_cleared, none_of_zero, is_zero, is_one}
-use Rattle.std.proofs.{Math.ListN.set, Math.ListN.get_or, lemmas.List.get_or-replicate, lemmas.List.get_or_past, Math.Pow.pow-lt, lemmas.Nat.Bits.bit_at_ones}
-use Rattle.std.proofs.{lemmas.Nat.Bits.bit_at_above, Math.Bool.and-true}
+use Rattle.pas_scan.specs.Marks.{is_marked, IsHighest}
+use Rattle.pas_bits.proofs.Words.{bit_cleared, bit_of_or, none_of_zero, is_zero, is_one}
+use Rattle.std.proofs.{Math.Bool.or_comm, Math.ListN.set, Math.ListN.get_or, lemmas.List.get_or-replicate, lemmas.List.get_or_past, Math.Pow.pow-lt}
+use Rattle.std.proofs.{lemmas.Nat.Bits.bit_at_ones, lemmas.Nat.Bits.bit_at_above, Math.Bool.and-true}
 use Rattle.pas_profile.proofs.Codecs.{numbered}
 use Rattle.pas_bits.specs.Rows.{is_set, IsEmpty, IsLowestSet, IsWithin}
 use Rattle.pas_bits.proofs.Rows.{none_past}
@@ -297,6 +297,23 @@ pub marked_more : (words : List ℕ) (page n p : ℕ) → page / 64 < length wor
     → is_marked (set words (page / 64) n) p ≡ ((page == p) || is_marked words p)
 marked_more words page n p within added = search (arith, cases_eq, get_or-set_same, get_or-set_other, ne_eqb)
 
+-- the word of a block got these bits
+pub marked_bits : (words : List ℕ) (block bits p : ℕ) → block < length words
+    → is_marked (set words block (bit_or (get_or words block 0) bits)) p ≡ (((p / 64 == block) && has_bit bits (p % 64)) || is_marked words p)
+marked_bits words block bits p within = search (arith, cases_eq, get_or-set_same, get_or-set_other, ne_eqb, eq-eqb, bit_of_or, or_comm)
+
+higher_none : (n from c : ℕ) → n / 2 ^ from ≡ 0 → from ≤ c → has_bit n c ≡ false
+higher_none n from c none le =
+    let whole : c ≡ from + (c - from) = omega (arith, le) in
+    ap (λ m. m == 1) (ap (λ i. n / 2 ^ i % 2) whole ∙ ap (λ m. m % 2) (sym (shr-shr n from (c - from))) ∙ ap (λ m. m / 2 ^ (c - from) % 2) none)
+    ∙ none_of_zero (c - from)
+
+-- What is left of a word from its highest bit on is that bit.
+pub highest_at : (n low : ℕ) → n / 2 ^ low ≢ 0 → n / 2 ^ (low + 1) ≡ 0 → low < 64 → IsHighest n low
+highest_at n low some none lt =
+    let half : n / 2 ^ low / 2 ≡ 0 = shr-shr n low 1 ∙ none in
+    record { within = lt; set = is_one n low (omega (arith, some, half)); highest = λ c less. higher_none n (low + 1) c none (omega (arith, less)) }
+
 zeros : (i : ℕ) → ◌≡◌ {A = ℕ} (get_or (replicate 257 0) i 0) 0
 zeros i = elim (cases_lt i 257) [
   | inl lt ↦ get_or-replicate 257 i 0 0 lt
@@ -353,7 +370,8 @@ pub rest_more : (block word a : ℕ) (row : List ℕ) → block ≤ word → ((b
 rest_more block word a row from rest b low = get_or-set_other row _ _ a 0 (λ e. absurd (omega (arith, e, low, from))) ∙ rest b (omega (arith, low))
 
 -- ---- what a reading of a word shows of its pages
-shown_as : (bit : Bool) (d : Directory) (p a : ℕ) (steps : List Made) → OnlyScans steps → Once (WordReadHere (number_of d) (p / 64) a) steps
+-- A page whose word was read is shown as its bit says.
+pub shown_as : (bit : Bool) (d : Directory) (p a : ℕ) (steps : List Made) → OnlyScans steps → Once (WordReadHere (number_of d) (p / 64) a) steps
     → has_bit a (p % 64) ≡ bit
     → Once (λ m before. ReadsEligible d p m.step × (has_bit m.answer (p % 64) ≡ bit) × (has_right before p ≡ false)) steps
 shown_as bit d p a [] scans h is = absurd h
@@ -411,6 +429,21 @@ row_zeros d next block end stop row steps scans before words none limit p low hi
   | inr ge ↦ shown_as false d p _ steps scans (words (p / 64) (omega (arith, ge)) (omega (arith, high, limit))) (sym (shown_bit row block p ge) ∙ none p low ge high)
 ]
 
+-- the first page that looks show as offered, where each lower one from the next one on was read as not offered
+pub first_one : (f : Profile) (d : Directory) (next from page a : ℕ) (answers : List ℕ) (steps : List Made) (v : View) → IsKind d.kind → Agreed f v steps
+    → steps ≡ eligible_looks (number_of d) from answers → next ≤ page → Once (WordReadHere (number_of d) (page / 64) a) steps → has_bit a (page % 64) ≡ true
+    → ((p : ℕ) → next ≤ p → p < page → Once (ZeroHere d p) steps) → IsFirstOffered f d next steps page
+first_one f d next from page a answers steps v is agreed order low read bit lower =
+    let scans : OnlyScans steps = scans_of _ from answers steps order in
+    record {
+      from_next = low;
+      of_region = (one_page f v _ page a steps scans agreed read bit).0;
+      one = shown_as true d page a steps scans read bit;
+      lower = lower;
+      deed = λ w. ap (λ s. known_deed (s ++ w) page) order ∙ one_deed _ page a from answers w (subst (λ s. Once (WordReadHere (number_of d) (page / 64) a) s) order read) bit ∙ numbered d is;
+      lacks = λ w agreed'. (one_page f w _ page a steps scans agreed' read bit).1;
+    }
+
 -- the lowest page that a row shows, where the rows before it showed none
 pub row_one : (f : Profile) (d : Directory) (next from block end page : ℕ) (row answers : List ℕ) (steps : List Made) (v : View) → IsKind d.kind
     → Agreed f v steps → steps ≡ eligible_looks (number_of d) from answers
@@ -418,19 +451,10 @@ pub row_one : (f : Profile) (d : Directory) (next from block end page : ℕ) (ro
     → ((b : ℕ) → block ≤ b → b < end → Once (WordReadHere (number_of d) b (slice_index row (b - block))) steps)
     → page < 64 * end → IsLowestShown row block next page → IsFirstOffered f d next steps page
 row_one f d next from block end page row answers steps v is agreed order before words within lowest =
-    let a : ℕ = slice_index row (page / 64 - block) in
     let low = lowest.from_block in
-    let scans : OnlyScans steps = scans_of _ from answers steps order in
-    let read : Once (WordReadHere (number_of d) (page / 64) a) steps = words (page / 64) (omega (arith, low)) (omega (arith, within)) in
-    let bit : has_bit a (page % 64) ≡ true = sym (shown_bit row block page low) ∙ lowest.shown in
-    record {
-      from_next = lowest.from_next;
-      of_region = (one_page f v _ page a steps scans agreed read bit).0;
-      one = shown_as true d page a steps scans read bit;
-      lower = row_zeros d next block end page row steps scans before words lowest.lower (omega (arith, within));
-      deed = λ w. ap (λ s. known_deed (s ++ w) page) order ∙ one_deed _ page a from answers w (subst (λ s. Once (WordReadHere (number_of d) (page / 64) a) s) order read) bit ∙ numbered d is;
-      lacks = λ w agreed'. (one_page f w _ page a steps scans agreed' read bit).1;
-    }
+    first_one f d next from page (slice_index row (page / 64 - block)) answers steps v is agreed order lowest.from_next
+    (words (page / 64) (omega (arith, low)) (omega (arith, within))) (sym (shown_bit row block page low) ∙ lowest.shown)
+    (row_zeros d next block end page row steps (scans_of _ from answers steps order) before words lowest.lower (omega (arith, within)))
 
 -- the readings of a row, with the steps before it
 pub words_later : (number block end : ℕ) (row : List ℕ) (ys xs : List Made)

@@ -14,4 +14,5 @@ pub use bare::first_without_deed;
 pub use looked::Looked;
 pub use offered::first_offered;
 pub use parked::verdict;
+pub use row::pages_below;
 pub use runs::{next_run, run_of_pages};

@@ -34,7 +34,7 @@ pub(crate) fn read_row<D: Desk>(
 
 /// The bits of the pages below `next` in the word of this block.
 #[tactic(auto, using(crate::proofs::Reading::low_bits, crate::proofs::Reading::ones_below))]
-fn pages_below(block: u32, next: u32) -> u64
+pub fn pages_below(block: u32, next: u32) -> u64
     requires block { block < 2 ^ 25 }
     requires next { next / 64 ≤ block }
     ensures { (b : ℕ) → b < 64 → has_bit result b ≡ nat_lt (64 * block + b) next }

@@ -8,11 +8,11 @@ use Rattle.pas_steps.specs.declared.step.{Made.Made, Step.Step, Step.TheVariants
 use Rattle.pas_steps.specs.Views.{has_right, KnowsDeed, View, deed_after, known_deed}
 use Rattle.pas_steps.specs.{Past.Once, Past.Always, Past.Since, Frames.OnlyScans, Effects.target, Agreement.Agreed, Clear.IsClear, Events.events_of}
 use Rattle.pas_steps.specs.{Events.events_by, Unknown.HasRoom, Calls.nothing, Calls.Does}
-use Rattle.pas_steps.proofs.Frames.{scans_look, looks_read, deed_stays, right_own, events_append, lacks_now}
+use Rattle.pas_steps.proofs.Frames.{scans_look, looks_read, deed_stays, right_own, right_of_own, events_append}
 use Rattle.pas_steps.proofs.{Past.once_later, Past.once_earlier, Past.once_map, Parts.part_of_own, Unknown.all_known, Calls.still_clear, Evidence.deed_before}
 use Rattle.pas_steps.proofs.{Evidence.unknown, Evidence.deed_known}
 use Rattle.pas_steps.specs.Evidence.{UnfitHere, ZeroHere, DeedHere, ParkedHere, ParkedLater, LeftHere, LacksAfter, MissingHere, HeldHere, Accounted, AllDeeds}
-use Rattle.pas_steps.specs.Evidence.{ReadsDeed, KeptHere, Searched, NoDeedHere, GetsRight, GetsHere, IsAntitone, Readings}
+use Rattle.pas_steps.specs.Evidence.{ReadsDeed, KeptHere, OneHere, GetsRight, GetsHere, IsAntitone, Readings}
 use Rattle.pas_scan.specs.Marks.{is_marked}
 use Rattle.pas_scan.specs.Scan.{IsMember, AllParked, IsVerdict, last_block, Judges}
 use Rattle.pas_search.specs.{Serving.Rule, Serving.ShowsFit, Alone.page_found, Alone.FindsWhatThereIs}
@@ -27,20 +27,14 @@ use Rattle.pas_profile.proofs.Codecs.{deed_word_of-positive}
 use Rattle.pas_steps.specs.Lists.{Whole, part, word_after, Legal}
 use Rattle.pas_steps.specs.Desks.{triples, Seat, Standing, AnyView, made, Adds, CanCall}
 use Rattle.pas_core.proofs.{Deeds.known_is, Deeds.numbered_ne, Nexts.agreed_steps}
-use Rattle.pas_core.proofs.Rights.{is_offered, is_parked, spotted, own_eligible, spot_of, is_with}
-use Rattle.pas_core.specs.{Fits.IsOfferedFit, Fits.HasNoFit, Alone.ShowsNone, Alone.ShowsAnswer, Alone.IsPlainAnswer, Rights.AllRest}
+use Rattle.pas_core.proofs.Rights.{is_offered, is_parked, spotted, own_eligible, is_with}
+use Rattle.pas_core.specs.{Fits.HasNoFit, Alone.ShowsNone, Alone.ShowsAnswer, Alone.IsPlainAnswer, Rights.AllRest, Rights.free_of_page}
 use Rattle.pas_search.specs.Telling.{IsLowestOffered, IsLowestBare, IsInHands, IsTrueReason, IsTold}
 use Rattle.pas_search.specs.declared.serving.Served.{Served}
-use Rattle.pas_core.proofs.OneActor.{spot_same, zero_told, one_told, parked_told, entry_lacks, legal_before, offered_deed, offered_lacks, not_in_hands}
-use Rattle.pas_core.proofs.OneActor.{LendsNone, unfit_entry, unfit_exit, fit_entry, deed_quiet, deed_exit, deed_none, lends_none, plain_answer, legal_earlier}
-use Rattle.pas_core.proofs.OneActor.{in_hands, is_with_own}
+use Rattle.pas_core.proofs.OneActor.{spot_same, zero_told, offer_told, offered_was, parked_told, entry_lacks, legal_before, offered_lacks, not_in_hands}
+use Rattle.pas_core.proofs.OneActor.{LendsNone, unfit_exit, fit_entry, deed_quiet, deed_exit, deed_none, lends_none, plain_answer, legal_earlier, unfit_lacks}
+use Rattle.pas_core.proofs.OneActor.{no_fit_there, none_serves, in_hands, is_with_own}
 use Rattle.pas_steps.proofs.Adding.{adds_call, can_call, legal_after, adds_under}
-
--- the call had the right of a page that didn't fit
-unfit_lacks : {F : Type 0} (rule : Rule F) (p : ℕ) (xs : List Made) → Once (UnfitHere rule.no_fit p) xs → Always (LacksAfter p) xs → ⊥
-unfit_lacks rule p [] h lacks = h
-unfit_lacks rule p (m ∷ more) (inl u) lacks = true≢false (sym u.kept ∙ lacks_now p more lacks.1)
-unfit_lacks rule p (m ∷ more) (inr h) lacks = unfit_lacks rule p more h lacks.1
 
 -- a page that was read as 0 and whose right the call never had
 missing : (d : Directory) (p : ℕ) (xs : List Made) → Once (ZeroHere d p) xs → Always (LacksAfter p) xs → Since (MissingHere d p) (LacksAfter p) xs
@@ -107,26 +101,80 @@ deed_read f v p (m ∷ xs) agreed (inl z) = read_known p m.step m.answer (known_
 deed_read f v p (m ∷ xs) agreed (inr h) =
     let some = deed_read f v p xs agreed.1 h in λ e. some (sym (deed_stays f (m ∷ []) (xs ++ v) p (agreed.0, tt) some) ∙ e)
 
--- ---- a page that was searched in no_fit_there was no fit at entry
-no_fit_there : {F : Type 0} (rule : Rule F) (f : Profile) (k : ℕ) (l : Whole) (d : Directory) (end : ℕ) (xs : List Made) → IsAntitone rule.no_fit
-    → Legal f (triples k xs ++ l) → LendsNone xs → Searched rule.no_fit d end xs → (page : ℕ) → page < end → IsOfferedFit rule.no_fit f d l page → ⊥
-no_fit_there rule f k l d end xs fewer legal searches searched page high fit =
-    let first : Legal f l = legal_before f k xs l legal in
-    elim (searched page fit.of_region.0 high) [
-      | inl u ↦ fit.fits (unfit_entry rule.no_fit f k l page xs fewer legal searches u)
-      | inr z ↦ true≢false (sym fit.offered ∙ (spotted f l first page).eligible (number_of d) ∙ zero_told f k l d page xs legal (offered_lacks f k l _ page first fit.offered) z.0 z.1)
-    ]
-
 -- ---- by a deed
-by_deed : {F : Type 0} (rule : Rule F) (f : Profile) (k : ℕ) (l : Whole) (d : Directory) (page : ℕ) (xs : List Made) → IsAntitone rule.no_fit → IsPage f page
-    → Legal f (triples k xs ++ l) → LendsNone xs → Once (DeedMadeHere rule.no_fit f d page) xs → IsLowestBare rule.no_fit f d l page
-by_deed rule f k l d page [] fewer is legal searches h = absurd h
-by_deed rule f k l d page (m ∷ xs) fewer is legal searches (inr h) = by_deed rule f k l d page xs fewer is legal.1 searches.1 h
-by_deed rule f k l d page (m ∷ xs) fewer is legal searches (inl h) = record {
+-- THE PAGE whose deed was made is the lowest one without a deed, and none that was offered fitted.
+pub by_deed : (no_fit : Readings → Type 0) (f : Profile) (k : ℕ) (l : Whole) (d : Directory) (page : ℕ) (xs : List Made) → IsAntitone no_fit → IsPage f page
+    → Legal f (triples k xs ++ l) → LendsNone xs → Once (DeedMadeHere no_fit f d page) xs → IsLowestBare no_fit f d l page
+by_deed no_fit f k l d page [] fewer is legal searches h = absurd h
+by_deed no_fit f k l d page (m ∷ xs) fewer is legal searches (inr h) = by_deed no_fit f k l d page xs fewer is legal.1 searches.1 h
+by_deed no_fit f k l d page (m ∷ xs) fewer is legal searches (inl h) = record {
   this = record { of_region = is; no_deed = deed_none k l page xs (sym (legal.0.answer_is ∙ ap (λ s. word_after (triples k xs ++ l) (target s)) h.deed) ∙ h.made) };
-  none_offered = λ other fit. no_fit_there rule f k l d (f.pages + 1) xs fewer legal.1 searches.1 h.searched other (omega (arith, fit.of_region.1)) fit;
+  none_offered = λ other fit. no_fit_there no_fit f k l d (f.pages + 1) xs fewer legal.1 searches.1 h.searched other (omega (arith, fit.of_region.1)) fit;
   lowest = λ other bare. not_below page other (λ lt. deed_exit f k l other xs legal.1 (h.lower other bare.of_region.0 lt) (deed_quiet f k l other xs legal.1 h.quiet ∙ bare.no_deed));
 }
+
+-- THE PAGE that was found offered, where something fits on it, is the lowest such one.
+pub lowest_offered : (no_fit : Readings → Type 0) (f : Profile) (k : ℕ) (l : Whole) (d : Directory) (page : ℕ) (xs : List Made) → IsValid f → IsDirectoryOf f d
+    → IsAntitone no_fit → IsPage f page → Legal f (triples k xs ++ l) → LendsNone xs → (KnowsDeed page d (part k l) → has_right (part k l) page ≡ false)
+    → FromOffered no_fit d page xs → (no_fit (free_of_page l page) → ⊥) → IsLowestOffered no_fit f d l page
+lowest_offered no_fit f k l d page xs valid of fewer is legal lends may from fit = record {
+  this = record { of_region = is; offered = offered_was f k l d page xs valid of legal may from.offered; fits = fit };
+  lowest = λ other fits. not_below page other (λ lt. no_fit_there no_fit f k l d page xs fewer legal lends from.searched other lt fits);
+}
+
+-- ---- WHO HAS A PAGE after the steps of an actor alone
+-- the call never had the page's right, or it has it, or it had it once
+lacked_or_had : (p : ℕ) (xs : List Made) → Always (LacksAfter p) xs ⊎ ((has_right xs p ≡ true) ⊎ Once (KeptHere p) xs)
+lacked_or_had p [] = inl tt
+lacked_or_had p (m ∷ xs) = elim (cases_Bool (has_right (m ∷ xs) p)) [
+  | inl has ↦ inr (inl has)
+  | inr none ↦ elim (lacked_or_had p xs) [ inl lacked ↦ inl (none, lacked) | inr (inl has) ↦ inr (inr (inl has)) | inr (inr once) ↦ inr (inr (inr once)) ]
+]
+
+-- what the actor knows of the deed is the word at exit
+pub known_exit : (f : Profile) (k : ℕ) (l : Whole) (xs : List Made) → Legal f (triples k xs ++ l) → (p : ℕ) → known_deed (xs ++ part k l) p ≢ 0
+    → known_deed (xs ++ part k l) p ≡ word_after (triples k xs ++ l) (Word.Deed p)
+known_exit f k l xs legal p some =
+    let w : Whole = triples k xs ++ l in
+    let same : known_deed (part k w) p ≡ known_deed (xs ++ part k l) p = ap (λ v. known_deed v p) (part_of_own k xs l) in
+    sym same ∙ known_is (known_deed (part k w) p) (word_after w (Word.Deed p)) ((spotted f w legal p).known k) (λ z. some (sym same ∙ z))
+
+module _ (f : Profile) (k : ℕ) (l : Whole) (d : Directory) (xs : List Made) (valid : IsValid f) (of : IsDirectoryOf f d) (legal : Legal f (triples k xs ++ l))
+    (may : (p : ℕ) → KnowsDeed p d (part k l) → has_right (part k l) p ≡ false) where
+  -- A page is in nobody's hands that was got and left, or read as parked or as offered, where the actor's right is as it was.
+  pub not_held_there : (p : ℕ) → has_right (xs ++ part k l) p ≡ has_right (part k l) p → Accounted d p xs ⊎ Once (OneHere d p) xs
+      → IsInHands f d (triples k xs ++ l) p → ⊥
+  not_held_there p same account hands =
+      let at = spotted f (triples k xs ++ l) legal p in
+      let none = entry_lacks f k l d p xs valid (legal_before f k xs l legal) (may p) hands.of_directory in
+      let had : Once (KeptHere p) xs → ⊥ = (λ once. not_in_hands f k l d p xs of legal (same ∙ none) once hands.of_directory hands.not_offered hands.not_parked) in
+      elim (lacked_or_had p xs) [
+        | inl lacked ↦
+            let spot = spot_same f k l p xs legal none lacked in
+            elim account [
+              | inl (inl left) ↦ had (once_map (LeftHere p) (KeptHere p) xs (λ m before h. h.1) left)
+              | inl (inr parked) ↦ true≢false (sym (at.parked ∙ (ap is_parked spot
+                  ∙ parked_told f k l p true xs legal none lacked (once_map (ParkedLater d p) (ParkedHere true p) xs (λ m before h. h.0) parked))) ∙ hands.not_parked)
+              | inr offered ↦ true≢false (sym (at.eligible (number_of d) ∙ (ap (is_offered (number_of d)) spot ∙ offer_told f k l d p true xs legal none lacked offered)) ∙ hands.not_offered)
+            ]
+        | inr (inl has) ↦ true≢false (sym (right_of_own p xs (part k l) has) ∙ (same ∙ none))
+        | inr (inr once) ↦ had once
+      ]
+
+  -- A page of the directory whose right the call never had, and which it read as neither offered nor parked, is in some actor's hands.
+  pub held_there : (p : ℕ) → IsPage f p → KnowsDeed p d (xs ++ part k l) → Always (LacksAfter p) xs → Once (ZeroHere d p) xs → Once (ParkedHere false p) xs
+      → IsInHands f d (triples k xs ++ l) p
+  held_there p here known lacked zero_read parked =
+      let at = spotted f (triples k xs ++ l) legal p in
+      let deed = sym (known_exit f k l xs legal p (λ z. deed_word_of-positive d (sym known ∙ z))) ∙ known in
+      let none = entry_lacks f k l d p xs valid (legal_before f k xs l legal) (may p) deed in
+      let spot = spot_same f k l p xs legal none lacked in
+      record {
+        of_region = here;
+        of_directory = deed;
+        not_offered = at.eligible (number_of d) ∙ (ap (is_offered (number_of d)) spot ∙ zero_told f k l d p xs legal none lacked zero_read);
+        not_parked = at.parked ∙ (ap is_parked spot ∙ parked_told f k l p false xs legal none lacked parked);
+      }
 
 module _ {F : Type 0} (rule : Rule F) (f : Profile) (k : ℕ) (l : Whole) (d : Directory) (xs : List Made) (valid : IsValid f) (of : IsDirectoryOf f d)
     (fewer : IsAntitone rule.no_fit)
@@ -139,30 +187,17 @@ module _ {F : Type 0} (rule : Rule F) (f : Profile) (k : ℕ) (l : Whole) (d : D
   first = legal_before f k xs l legal
 
   -- a page that was chosen, and of which this was read with the right
-  pub could_serve : (p : ℕ) (kept : ℕ → Bool) → IsPage f p → FromOffered rule.no_fit d p xs ⊎ ByDeed rule.no_fit f d p xs
+  could_serve : (p : ℕ) (kept : ℕ → Bool) → IsPage f p → FromOffered rule.no_fit d p xs ⊎ ByDeed rule.no_fit f d p xs
       → ShowsFit rule.no_fit kept f p (MaySearch d) xs xs → IsLowestOffered rule.no_fit f d l p ⊎ IsLowestBare rule.no_fit f d l p
   could_serve p kept here choice shows = elim choice [
-    | inl from ↦
-        let read = one_told f k l d p xs legal from.offered in
-        let deed : word_after (triples k read.0 ++ l) (Word.Deed p) ≡ deed_word_of d = offered_deed f (triples k read.0 ++ l) d p of read.1 read.3 in
-        let lacks : has_right (part k l) p ≡ false = entry_lacks f k l d p read.0 valid first (may.rights p) deed in
-        inl (record {
-          this = record {
-            of_region = here;
-            offered = (spotted f l first p).eligible (number_of d) ∙ ap (is_offered _) (sym (spot_same f k l p _ read.1 lacks read.2)) ∙ sym ((spotted f _ read.1 p).eligible (number_of d)) ∙ read.3;
-            fits = fit_entry rule.no_fit f k l p shows.readings xs fewer valid legal searches shows.fits shows.read (shows.held.from (part k l) may agreed);
-          };
-          lowest = λ other fit. not_below p other (λ lt. no_fit_there rule f k l d p xs fewer legal searches from.searched other lt fit);
-        })
-    | inr deed ↦ inr (by_deed rule f k l d p xs fewer here legal searches deed.made_here)
+    | inl from ↦ inl (lowest_offered rule.no_fit f k l d p xs valid of fewer here legal searches (may.rights p) from
+        (fit_entry rule.no_fit f k l p shows.readings xs fewer valid legal searches shows.fits shows.read (shows.held.from (part k l) may agreed)))
+    | inr deed ↦ inr (by_deed rule.no_fit f k l d p xs fewer here legal searches deed.made_here)
   ]
 
   -- ---- a refusal
   entry_none : (room : NoRoom) → IsRefused rule.no_fit f d xs room → HasNoFit rule.no_fit f d l
-  entry_none room is = record {
-    offered = λ page fit. no_fit_there rule f k l d (f.pages + 1) xs fewer legal searches is.searched page (omega (arith, fit.of_region.1)) fit;
-    bare = λ page bare. deed_exit f k l page xs legal (is.deeds page bare.of_region.0 (omega (arith, bare.of_region.1))) (deed_quiet f k l page xs legal is.quiet ∙ bare.no_deed);
-  }
+  entry_none room is = none_serves rule.no_fit f k l d xs fewer legal searches is.searched is.deeds is.quiet
 
   exit_none : (room : NoRoom) → IsRefused rule.no_fit f d xs room → HasNoFit rule.no_fit f d w
   exit_none room is = record {
@@ -176,43 +211,20 @@ module _ {F : Type 0} (rule : Rule F) (f : Profile) (k : ℕ) (l : Whole) (d : D
     bare = λ page bare. deed_exit f k l page xs legal (is.deeds page bare.of_region.0 (omega (arith, bare.of_region.1))) bare.no_deed;
   }
 
-  -- what the actor knows of the deed is the word at exit
-  known_exit : (p : ℕ) → known_deed (xs ++ part k l) p ≢ 0 → known_deed (xs ++ part k l) p ≡ word_after w (Word.Deed p)
-  known_exit p some =
-      let same : known_deed (part k w) p ≡ known_deed (xs ++ part k l) p = ap (λ v. known_deed v p) (part_of_own k xs l) in
-      sym same ∙ known_is (known_deed (part k w) p) (word_after w (Word.Deed p)) ((spotted f w legal p).known k) (λ z. some (sym same ∙ z))
-
   accounted_out : (room : NoRoom) → IsRefused rule.no_fit f d xs room → (p : ℕ) → (KnowsDeed p d (xs ++ part k l) → Accounted d p xs) → IsInHands f d w p → ⊥
   accounted_out room is p account hands =
-      let low = hands.of_region.0 in let high = hands.of_region.1 in
-      let none : has_right (part k l) p ≡ false = entry_lacks f k l d p xs valid first (may.rights p) hands.of_directory in
-      let lacks : has_right (xs ++ part k l) p ≡ false = (is.still.from (part k l) may agreed).right p ∙ none in
-      let some : known_deed (xs ++ part k l) p ≢ 0 = deed_read f (part k l) p xs agreed (is.deeds p low (omega (arith, high))) in
-      elim (account (known_exit p some ∙ hands.of_directory)) [
-        | inl left ↦ not_in_hands f k l d p xs of legal lacks (once_map (LeftHere p) (KeptHere p) xs (λ m before h. h.1) left) hands.of_directory hands.not_offered hands.not_parked
-        | inr parked ↦ elim (is.searched p low (omega (arith, high))) [
-          | inl u ↦ not_in_hands f k l d p xs of legal lacks (once_map _ (KeptHere p) xs (λ m before h. h.kept) u) hands.of_directory hands.not_offered hands.not_parked
-          | inr z ↦ true≢false (sym ((spotted f w legal p).parked ∙ ap is_parked (spot_same f k l p xs legal none z.0)
-              ∙ parked_told f k l p true xs legal none z.0 (once_map (ParkedLater d p) (ParkedHere true p) xs (λ m before h. h.0) parked)) ∙ hands.not_parked)
-        ]
-      ]
+      let some = deed_read f (part k l) p xs agreed (is.deeds p hands.of_region.0 (omega (arith, hands.of_region.1))) in
+      not_held_there f k l d xs valid of legal may.rights p ((is.still.from (part k l) may agreed).right p)
+      (inl (account (known_exit f k l xs legal p some ∙ hands.of_directory))) hands
 
   held_in_hands : (room : NoRoom) → IsRefused rule.no_fit f d xs room → (p : ℕ) → IsHeld f d xs p → IsInHands f d w p
   held_in_hands room is p held =
-      let known : known_deed (xs ++ part k l) p ≡ deed_word_of d = held.of_directory (part k l) agreed in
-      let deed : word_after w (Word.Deed p) ≡ deed_word_of d = sym (known_exit p (λ z. deed_word_of-positive d (sym known ∙ z))) ∙ known in
-      let none : has_right (part k l) p ≡ false = entry_lacks f k l d p xs valid first (may.rights p) deed in
-      let same = spot_same f k l p xs legal none held.lacked in
-      let high = held.page_of.1 in
-      record {
-        of_region = held.page_of;
-        of_directory = deed;
-        not_offered = (spotted f w legal p).eligible (number_of d) ∙ ap (is_offered (number_of d)) same ∙ elim (is.searched p held.page_of.0 (omega (arith, high))) [
-          | inl u ↦ absurd (unfit_lacks rule p xs u held.lacked)
-          | inr z ↦ zero_told f k l d p xs legal none held.lacked z.1
-        ];
-        not_parked = (spotted f w legal p).parked ∙ ap is_parked same ∙ parked_told f k l p _ xs legal none held.lacked (once_map _ _ xs (λ m before h. h.0) held.held);
-      }
+      let read = once_map (HeldHere d p) (ParkedHere false p) xs (λ m before h. h.0) held.held in
+      held_there f k l d xs valid of legal may.rights p held.page_of (held.of_directory (part k l) agreed) held.lacked
+      (elim (is.searched p held.page_of.0 (omega (arith, held.page_of.1))) [
+        | inl u ↦ absurd (unfit_lacks rule.no_fit p xs u held.lacked)
+        | inr z ↦ z.1
+      ]) read
 
   -- The reason of a refusal is true of the state at exit.
   reason : (room : NoRoom) → IsRefused rule.no_fit f d xs room → IsTrueReason f d w room
@@ -220,7 +232,7 @@ module _ {F : Type 0} (rule : Rule F) (f : Profile) (k : ℕ) (l : Whole) (d : D
   reason (Held p) is = (held_in_hands _ is p is.answer, λ other lt hands. accounted_out _ is other (is.answer.lower _ agreed other hands.of_region.0 lt) hands)
 
   -- The answer of a search, served or refused, is told of the states at entry and exit.
-  pub all_told : (answer : Result (Served F) NoRoom) → MatchResult answer (IsServed rule f d xs) (IsRefused rule.no_fit f d xs)
+  all_told : (answer : Result (Served F) NoRoom) → MatchResult answer (IsServed rule f d xs) (IsRefused rule.no_fit f d xs)
       → IsTold (λ (s : Served F). s.page) rule.no_fit f d l w answer
   all_told (Ok served) h = could_serve served.page (rule.kept served.found) h.page h.choice h.shows
   all_told (Err room) h = (entry_none room h, exit_none room h, reason room h)
@@ -449,7 +461,7 @@ pub found_before : {A : Type 0} (no_fit : Readings → Type 0) (f : Profile) (d 
 found_before no_fit f d k l after searched valid of fewer legal searches may = finds_what_there_is _ f d k l _ valid of fewer (legal_earlier f k _ _ l legal) searches may
 
 -- ---- a page that is in some actor's hands
-pub none_in_hands : (f : Profile) (d : Directory) (w : Whole) (p : ℕ) → IsDirectoryOf f d → Legal f w → ((j : ℕ) → has_right (part j w) p ≡ false)
+none_in_hands : (f : Profile) (d : Directory) (w : Whole) (p : ℕ) → IsDirectoryOf f d → Legal f w → ((j : ℕ) → has_right (part j w) p ≡ false)
     → IsInHands f d w p → ⊥
 none_in_hands f d w p of legal none hands =
     let at = spotted f w legal p in

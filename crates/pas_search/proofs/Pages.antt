@@ -24,7 +24,7 @@ use Rattle.pas_steps.proofs.Calls.{does_after_nothing, does_as, does_idly, does_
 use Rattle.pas_steps.proofs.Past.{always_both, always_map, once_later, since_once}
 use Rattle.pas_steps.proofs.Apart.{in_apart, only_within, only_both, holds_same, no_event, no_events, rights_same}
 use Rattle.pas_search.specs.Kinds.{serving, KeepsMarks, AreQuiet}
-use Rattle.pas_search.specs.Serving.{Rule, MayServe, HoldsNone, GotBefore, right_of, Keeps, ReadsNoneHeld, ServesPage, IsJustGot}
+use Rattle.pas_search.specs.Serving.{Rule, MayServe, HoldsNone, GotBefore, right_of, Keeps, ReadsNoneHeld, ServeSteps, ServesPage, IsJustGot}
 use Rattle.pas_search.proofs.{ForBackEnds.unfit_left, PagesThatServe.keeps_marks}
 use Rattle.pas_bits.specs.declared.mask.Mask4.{Mask4}
 use Rattle.pas_bits.specs.{Bits.has_bit, Masks.is_set, Runs.in_run}
@@ -245,6 +245,12 @@ module _ {Found : Type 0} (choice : Choice Found) (page : ℕ) (d : Directory) {
       (λ v met agreed known. unfit.used (λ b lt.
       let g = page * 256 + b in let at : g / 256 ≡ page = omega (arith, lt) in sym (bit_on free page b lt) ∙ looks_free page (words free) σ.seat.profile 4 v agreed g at (omega arith) (known g at)))
       (omega arith) left
+
+  -- These are its steps.
+  pub leaves_steps : {σ2 : Standing} → IsUnfit choice (is_set free) → (left : Leaves page d σ1 σ2)
+      → ServeSteps (choosing choice) σ.seat.profile page d (left.steps ++ looks page (words free) 4) None
+  unfolding leaves_unfit leaves_page looked_at
+  leaves_steps unfit left = (leaves_unfit unfit left).serves
 
   -- ---- this was chosen
   module _ (found : Found) (grains : Mask4) (is : IsChosen choice (is_set free) found grains) where

@@ -5,7 +5,7 @@ use Rattle.std.proofs.Common.{eq-eqb, eqb-true, ne_eqb}
 use Rattle.pas_rights.specs.{Puts.PutsHere, PutsBack.GivesDuly}
 use Rattle.pas_rights.proofs.Puts.{giving, due_later, due_none, unparking}
 use Rattle.pas_steps.specs.Evidence.{GetsHere, GetsRight, LacksAfter, ZeroHere, OneHere, UnfitHere, Searched, ReadsEligible, ReadsDeed, DeedHere, AllDeeds}
-use Rattle.pas_steps.specs.Frames.{IsOnPage, OnlyOn, IsRead, OnlyReads}
+use Rattle.pas_steps.specs.Frames.{IsOnPage, OnlyOn, IsRead, OnlyReads, OnlyScans}
 use Rattle.pas_steps.specs.{Past.Once, Past.Always, Events.events_by, Events.event_of, Events.events_of, Agreement.Agrees, Agreement.Agreed, Clear.IsClear}
 use Rattle.pas_steps.specs.{Lists.Whole}
 use Rattle.pas_steps.specs.Kinds.{Kinds, Offering, Parking, Unparking, Hinting, kind_of, place_of, is_in, apart, Only, look_kind, unbacking, Deeding}
@@ -294,7 +294,8 @@ module _ (f : Profile) (d : Directory) (page : ℕ) (m : Made) (ws : List Made) 
   turns : Rights (λ q. if page == q then Gained else Kept) m
   turns = gets_rights page m.step m.answer gets
 
-  got_right : (v : View) → has_right (m ∷ v) page ≡ true
+  -- A step that gets a page's right has it.
+  pub got_right : (v : View) → has_right (m ∷ v) page ≡ true
   got_right v = search (arith, right_then, turns, eq-eqb)
 
   pub got_before : IsUntouched page ws → GotBefore page (m ∷ ws)
@@ -428,6 +429,24 @@ module _ {F : Type 0} (rule : Rule F) (f : Profile) (d : Directory) (page : ℕ)
         within = omega (arith, within);
         few = few_past rule.steps page f (zs ++ (m ∷ ws)) few;
       }
+
+-- A page that looks show as the first offered one from there on, and that was claimed and left since nothing fits, is passed.
+pub passes_page : {F : Type 0} (rule : Rule F) (f : Profile) (d : Directory) (next page a : ℕ) (marks marks' : List ℕ) (xs looks zs : List Made)
+    → GoesOn rule f d next marks xs → IsFirstOffered f d next looks page → OnlyScans looks → length looks ≡ words_to f next page → has_bit a (page % 64) ≡ true
+    → ((p : ℕ) → is_marked marks' p ≡ ((page == p) || is_marked marks p)) → ServeSteps rule f page d zs None
+    → GoesOn rule f d (page + 1) marks' (zs ++ (made (TakeRight page d) a ∷ (looks ++ xs)))
+passes_page rule f d next page a marks marks' xs looks zs goes first scans count bit more serve =
+    let m = made (TakeRight page d) a in let gets = GetsRight.Claims d a bit in
+    let at : Searching rule.no_fit f d page marks (looks ++ xs) = zeros_searching rule f d next marks page looks xs (reads_vain looks (looks_read looks (scans_look looks scans))) goes.searching
+    (λ p low high. zero_before d p looks xs (goes.searching.untouched p).right (first.lower p low high)) in
+    let deed : (v : View) → KnowsDeed page d ((looks ++ xs) ++ v) = λ v. subst (KnowsDeed page d) (sym (append_assoc looks xs v)) (first.deed (xs ++ v)) in
+    let lacked : (v : View) → MaySearch d v → Agreed f v (looks ++ xs) → has_right v page ≡ false = λ v met agreed. sym
+    ((goes.searching.still.from v met (agreed_later f v looks xs agreed)).right page) ∙ first.lacks (xs ++ v) (agreed_first f v looks xs agreed) in
+    let further = offered_further rule.steps _ {end = row_end f page} first.of_region.0 first.from_next (row_within f page first.of_region.1) in
+    goes_on rule f d page marks m (looks ++ xs) zs gets (λ k e. refl) (IsOnPage.Claims d, tt) serve.only.on
+    (ready f d page m (looks ++ xs) gets (λ v met. met.clear) at.still (λ v agreed. knows_still f d page (m ∷ []) ((looks ++ xs) ++ v) (agreed.0, tt) (deed v)))
+    at marks' more serve lacked (λ p low. goes.rest p (omega (arith, first.from_next, low))) first.of_region.1
+    (omega (arith, goes.few, count, further, serve.short, length-append zs (m ∷ (looks ++ xs)), length-append looks xs))
 
 -- the search of offered pages, so far
 pub record TriesPages {F : Type 0} (rule : Rule F) (d : Directory) (next : ℕ) (marks : List ℕ) (desk desk' : Standing) : Type 0 where

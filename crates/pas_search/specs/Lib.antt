@@ -8,3 +8,4 @@ pub mod Choices
 pub mod Allocates
 pub mod ByRank
 pub mod Placements
+pub mod Passing

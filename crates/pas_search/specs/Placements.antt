@@ -2,9 +2,9 @@
 use Rattle.std.specs.Prelude.{ℕ, ◌+◌, ◌≤◌, ◌≡◌, true}
 use Rattle.pas_bits.specs.Runs.{in_run, AreFree}
 use Rattle.pas_profile.specs.declared.directory.Kind.{Kind}
-use Rattle.pas_steps.specs.Evidence.{Readings, IsAntitone}
+use Rattle.pas_steps.specs.{Evidence.Readings, Evidence.IsAntitone, Told.NoRun, Views.usable_by_kind}
 use Rattle.pas_search.specs.{Choices.Choice, Choices.choosing, Serving.Rule}
-use Rattle.pas_search.specs.declared.placing.Run.{Run}
+use Rattle.pas_search.specs.declared.placing.{LeastRun.LeastRun, Run.Run}
 
 pub record Placement : Type 1 where
   pub asked : Type 0  -- what is asked of the request
@@ -36,6 +36,11 @@ pub record IsPlacement (p : Placement) : Type 0 where
   pub empty : p.asked → p.no_fit (λ g. true) → ⊥
   pub fewer : IsAntitone p.no_fit
   pub is_fit : (r : Readings) (found : p.Found) → p.asked → p.chosen r found → IsFit p.no_fit r (p.run found)
+
+-- where no such run is free nothing fits, and each grain of the pages may be covered
+pub record IsLeastRun (p : Placement) (run : LeastRun) : Type 0 where
+  pub unfit : (r : Readings) → NoRun r run.grains run.align → p.no_fit r
+  pub usable : (g : ℕ) → usable_by_kind p.kind g ≡ true
 
 -- just the run is chosen, by what tells it apart
 abbrev pub placed : (p : Placement) → Choice p.Found

@@ -1,5 +1,5 @@
 //! A page serves a request by a run of its free grains.
-use crate::placing::{Placing, Run};
+use crate::placing::{LeastRun, Placing, Run};
 use crate::serving::Serving;
 use pas_bits::Mask4;
 use pas_profile::Directory;
@@ -28,6 +28,10 @@ impl<P: Placing> Serving for ByPlacement<P> {
         take(desk, page, &Mask4::run(run.first, run.grains));
         desk.back(page);
         Some(run)
+    }
+
+    fn least_run(&self, _directory: Directory) -> Option<LeastRun> {
+        self.0.least_run()
     }
 
     ghost fewer = { λ s. (P.is_placement s.0).fewer };

@@ -1,10 +1,14 @@
 //! What a search finds where no other actor makes a step meanwhile, whatever its desk tells. Each law is the contract of an empty function.
-ghost use Rattle.std.specs.Prelude.{◌++◌, Result};
+ghost use Rattle.std.specs.Prelude.{ℕ, ◌+◌, ◌*◌, ◌/◌, ◌<◌, ◌≡◌, true, ◌||◌, List, ◌++◌, Result};
 ghost use Rattle.pas_profile.specs.Profiles.{IsDirectoryOf};
-ghost use Rattle.pas_profile.specs.declared.{directory.Directory.Directory, event.NoRoom.NoRoom};
-ghost use Rattle.pas_steps.specs.{Agreement.Agreed, Desks.triples, Lists.Whole, Lists.part, Lists.Legal, Views.View};
-ghost use Rattle.pas_core.specs.{Alone.ShowsAnswer, Alone.IsPlainAnswer, Rights.AllRest};
-ghost use Rattle.pas_search.specs.{Alone.page_found, Searches.MaySearch, Searches.Searches, Telling.IsTold};
+ghost use Rattle.pas_profile.specs.declared.{directory.Directory.Directory, event.NoRoom.NoRoom, profile.Profile.Profile, word.Word.Word};
+ghost use Rattle.pas_steps.specs.{Agreement.Agreed, Desks.triples, Past.Once, Past.Always, Views.View, Views.holds};
+ghost use Rattle.pas_steps.specs.Evidence.{Readings, ShowsHere, GetsHere, NoDeedHere};
+ghost use Rattle.pas_steps.specs.Lists.{Whole, part, word_after, Legal};
+ghost use Rattle.pas_steps.specs.declared.step.Made.{Made};
+ghost use Rattle.pas_scan.specs.Usable.{MakesNoDeedHere};
+ghost use Rattle.pas_core.specs.{Alone.ShowsAnswer, Alone.IsPlainAnswer, Rights.AllRest, Rights.eligible_bit, Rights.free_of_page};
+ghost use Rattle.pas_search.specs.{Alone.IsLone, Alone.page_found, Searches.MaySearch, Searches.Searches, Telling.IsTold};
 ghost use Rattle.pas_search.specs.declared.serving.Served.{Served as TheServed};
 
 use crate::serving::Serving;
@@ -27,4 +31,15 @@ pub fn a_lone_search_finds_what_there_is<S: Serving, D: Desk>(serving: &S, desk:
     ensures plain { (d : Directory) (answer : Result (TheServed S.Found) NoRoom) (call : Searches (S.rule serving.now) D.tells d (D.standing desk.now) (D.standing later.now) answer) (l : Whole)
         → IsDirectoryOf (D.standing desk.now).seat.profile d → Legal (D.standing desk.now).seat.profile (triples (D.standing desk.now).seat.actor call.steps ++ l) → MaySearch d (part (D.standing desk.now).seat.actor l)
         → AllRest (D.standing desk.now).seat.profile l → IsPlainAnswer (S.rule serving.now).no_fit (D.standing desk.now).seat.profile d l (page_found answer) }
+{}
+
+/// What the steps of an actor alone read was there before them, where they give and end no block, and give back only what they got. A reading of a free word, made
+/// with the page's right, shows which grains were free, those that the steps had taken counted as free; and so do the words after the steps. A page whose deed
+/// they don't make was offered before them if they got its right, or if it is offered after them. A page that they read as without a deed had none.
+pub fn lone_steps_read_what_there_was()
+    ensures shown { (f : Profile) (k : ℕ) (l : Whole) (steps : List Made) (page b : ℕ) (r : Readings) → IsLone f k l steps → b < 256 → Once (ShowsHere page (b / 64) r) steps → r b ≡ free_of_page l page b }
+    ensures free { (f : Profile) (k : ℕ) (l : Whole) (steps : List Made) (page b : ℕ) → IsLone f k l steps → (free_of_page (triples k steps ++ l) page b || holds steps (page * 256 + b)) ≡ free_of_page l page b }
+    ensures got { (f : Profile) (k : ℕ) (l : Whole) (steps : List Made) (page : ℕ) → IsLone f k l steps → Always (MakesNoDeedHere page) steps → Once (GetsHere page) steps → (n : ℕ) × (eligible_bit l n page ≡ true) }
+    ensures offered { (f : Profile) (k : ℕ) (l : Whole) (steps : List Made) (page m : ℕ) → IsLone f k l steps → Always (MakesNoDeedHere page) steps → eligible_bit (triples k steps ++ l) m page ≡ true → (n : ℕ) × (eligible_bit l n page ≡ true) }
+    ensures bare { (f : Profile) (k : ℕ) (l : Whole) (steps : List Made) (page : ℕ) → IsLone f k l steps → Once (NoDeedHere page) steps → word_after l (Word.Deed page) ≡ 0 }
 {}

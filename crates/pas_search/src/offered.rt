@@ -5,6 +5,7 @@ ghost use Rattle.pas_steps.specs.Desks.{CanCall};
 ghost use Rattle.pas_scan.specs.Marks.{is_marked};
 ghost use Rattle.pas_search.specs.Searches.{MaySearch, SearchesOffered};
 
+use crate::passing::{note_unfit, pass_short};
 use crate::serving::{Served, Serving};
 use pas_rights::claim;
 use pas_scan::{Looked, first_offered};
@@ -12,7 +13,8 @@ use pas_steps::Desk;
 
 /// Tries the offered pages, from the lowest up.
 ///
-/// A page whose right another actor got first is passed by. One whose right was got, and of which nothing fits, is left and marked.
+/// A page whose right another actor got first is passed by. One whose right was got, and of which nothing fits, is left and marked. It is noted as short,
+/// so that a later search passes it by: its visit is told to the desk, and not made.
 pub(crate) fn search_offered<S: Serving, D: Desk>(
     serving: &S,
     desk: &mut D,
@@ -30,6 +32,7 @@ pub(crate) fn search_offered<S: Serving, D: Desk>(
 {
     let directory = looked.directory;
     let pages = desk.profile().pages;
+    pass_short(serving, desk, looked);
     while looked.next <= pages {
         let Some(page) = first_offered(desk, looked) else {
             return None;
@@ -39,6 +42,8 @@ pub(crate) fn search_offered<S: Serving, D: Desk>(
                 return Some(Served { page, found });
             }
             looked.mark_unfit(page);
+            note_unfit(serving, desk, page, directory);
+            pass_short(serving, desk, looked);
         }
     }
     None

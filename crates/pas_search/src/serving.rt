@@ -1,4 +1,5 @@
 //! How a back end serves a request from one page.
+use crate::placing::LeastRun;
 use pas_profile::Directory;
 use pas_steps::Desk;
 
@@ -7,7 +8,7 @@ pub trait Serving {
     ghost use Rattle.std.specs.Prelude.{ℕ, ◌≡◌, ◌≤◌, ◌<◌, true, None, Some, MatchOption, Bool};
     ghost use Rattle.pas_profile.specs.Profiles.{IsPage, IsDirectoryOf};
     ghost use Rattle.pas_steps.specs.{Desks.CanCall, Evidence.Readings, Evidence.IsAntitone};
-    ghost use Rattle.pas_search.specs.Serving.{Rule, MayServe, ServesPage};
+    ghost use Rattle.pas_search.specs.{Serving.Rule, Serving.MayServe, Serving.ServesPage, Passing.PassesBy};
 
     /// What it takes of a page.
     type Found: Copy;
@@ -28,6 +29,16 @@ pub trait Serving {
         requires room { (rule self.now).events ≤ D.spare_of desk.old }
         ensures serves { ServesPage (rule self.now) page directory (D.standing desk.old) (D.standing desk.new) result }
         ensures home { D.home desk.new ≡ D.home desk.old };
+
+    /// A run without which nothing fits. Where there is none, and some grain is free, the steps of `serve` are the looks at the page's free words, the same looks
+    /// again, and its offer.
+    fn least_run(&self, directory: Directory) -> Option<LeastRun>
+        requires { (rule self.now).suits directory }
+        ensures { MatchOption result (Unit {0}) (PassesBy (rule self.now) directory) }
+    {
+        let _ = directory;
+        None
+    }
 
     /// Where some readings show no fit, neither do readings of fewer free grains.
     ghost fewer: { (s : Self) → IsAntitone (rule s).no_fit };

@@ -147,7 +147,7 @@ owes_over ks w p = holds_over (OwesNothing p) opening ks (λ m v other owes. rec
 }) w
 
 -- A page that isn't lost is as clear as it was.
-clear_step : (t : Bool) (p : ℕ) (v w : View) → (t ≡ false → IsClearOn p v → IsClearOn p w) → ClearAfter (if t then Lost else Kept) p v w
+pub clear_step : (t : Bool) (p : ℕ) (v w : View) → (t ≡ false → IsClearOn p v → IsClearOn p w) → ClearAfter (if t then Lost else Kept) p v w
 clear_step t p v w shut = grind arith
 
 -- Only a grain that stays is kept: move by move.

@@ -17,3 +17,4 @@ pub mod Evidence
 pub mod Running
 pub mod Noting
 mod OnPages
+pub mod ShortOfGrains

@@ -36,7 +36,7 @@ none_open words n v e epoch none no_life deeds parked empty eligible (Word.Empty
 none_open words n v e epoch none no_life deeds parked empty eligible (Word.Eligible d j) of = all_zero words.eligible.items e _ eligible
 
 -- ---- as more pages come
-pub past_all : {A : Type 0} (all : List A) (i : ℕ) (opening : A) → length all ≤ i → get_or all i opening ≡ opening
+past_all : {A : Type 0} (all : List A) (i : ℕ) (opening : A) → length all ≤ i → get_or all i opening ≡ opening
 past_all [] i opening past = refl
 past_all (a ∷ all) zero opening past = absurd (omega (arith, past))
 past_all (a ∷ all) (suc i) opening past = past_all all i opening (omega (arith, past))
@@ -47,7 +47,7 @@ life_past words page grain past =
     let few : length words.lives.items ≤ page - 1 = omega (arith, past, words.with_lives, words.lives.ok.0, words.pages.ok.0) in
     ap (λ (lives : List ℕ). slice_index lives grain) (past_all words.lives.items (page - 1) no_lives few) ∙ zero_at 256 grain
 
-pub backed_past : (words : PagedWords) (page : ℕ) → length words.pages.items ≤ page - 1 → value_in words (Word.Backed page) ≡ 0
+backed_past : (words : PagedWords) (page : ℕ) → length words.pages.items ≤ page - 1 → value_in words (Word.Backed page) ≡ 0
 backed_past words page past = ap (λ (p : PageWords). p.backed) (past_all words.pages.items (page - 1) opening_page past)
 
 one_more : {A : Type 0} (all : List A) (i : ℕ) (opening : A) → get_or (all ++ opening ∷ []) i opening ≡ get_or all i opening

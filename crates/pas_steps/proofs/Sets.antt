@@ -1,8 +1,8 @@
 -- Effects on sets of grains and of pages, one after the other.
 use Rattle.std.proofs.Common.{◌≡◌, ℕ, Bool, true, false, ◌||◌, ◌==◌, if◌then◌else◌, inl, refl, ap, sym, subst, arith}
 use Rattle.pas_steps.specs.Calls.{Fate, Kept, Gained, Lost, later, nothing, put, freed, on_page, ClearAfter, Does, now, grain_fate}
-use Rattle.pas_steps.specs.{Clear.IsClearOn, Views.View, Views.Gives, Views.Stays}
-use Rattle.pas_steps.proofs.Calls.{does_then, does_as}
+use Rattle.pas_steps.specs.Views.{View, Gives, Stays}
+use Rattle.pas_steps.proofs.Calls.{does_then, does_as, clear_step}
 use Rattle.std.proofs.Math.Bool.{or_self}
 
 -- Two tests of which each follows from the other are equal.
@@ -31,13 +31,9 @@ put_both {v} {w} {u} a b c page d e grains = search (arith, does_as, does_then, 
 pub put_as : {v w : View} (a b : ℕ → Bool) (page : ℕ) → Does (put a page) v w → ((x : ℕ) → a x ≡ b x) → Does (put b page) v w
 put_as a b page d same = does_as (put b page) d (λ x. inl (ap (λ t. if t then Lost else Kept) (same x))) (λ q. refl) (λ q h. h)
 
--- A page that isn't lost is as clear as it was.
-may_open : (t : Bool) (q : ℕ) (v w : View) → (IsClearOn q v → IsClearOn q w) → ClearAfter (if t then Lost else Kept) q v w
-may_open t q v w h = grind arith
-
 -- A set without grains was put back where nothing was done.
 pub put_nothing : {v w : View} (a : ℕ → Bool) (page : ℕ) → Does nothing v w → ((x : ℕ) → a x ≡ false) → Does (put a page) v w
-put_nothing {v} {w} a page d none = does_as (put a page) d (λ x. inl (ap (λ t. if t then Lost else Kept) (sym (none x)))) (λ q. refl) (λ q h. may_open (page == q) q v w h)
+put_nothing {v} {w} a page d none = does_as (put a page) d (λ x. inl (ap (λ t. if t then Lost else Kept) (sym (none x)))) (λ q. refl) (λ q h. clear_step (page == q) q v w (λ stays. h))
 
 -- ---- the page is clear then
 pub put_freed : {v w u : View} (a pages : ℕ → Bool) (page : ℕ) → Does (put a page) v w → Does (on_page page Kept Gained) w u → ((q : ℕ) → (page == q) ≡ pages q)

@@ -19,3 +19,4 @@ pub mod Calls
 pub mod Unknown
 pub mod Runs
 pub mod Noted
+pub mod Told

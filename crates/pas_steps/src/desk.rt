@@ -1,9 +1,10 @@
 //! One actor's place at a region.
-ghost use Rattle.std.specs.Prelude.{◌≡◌, ◌+◌, ◌-◌, ◌^◌, ◌<◌, ◌≤◌, Bool, ℕ, true, min, length, List};
+ghost use Rattle.std.specs.Prelude.{◌≡◌, ◌+◌, ◌-◌, ◌/◌, ◌^◌, ◌<◌, ◌≤◌, Bool, ℕ, true, min, length, List, MatchOption};
 ghost use Rattle.pas_profile.specs.declared.event.Event.{Event};
-ghost use Rattle.pas_profile.specs.Profiles.{IsValid};
+ghost use Rattle.pas_profile.specs.Profiles.{IsValid, IsPage, IsWordOf};
 ghost use Rattle.pas_steps.specs.{Views.View, Events.events_of, Events.wants, Lists.Whole, Lists.Legal, Lists.part, Desks.Standing, Desks.CanMake, Desks.Makes};
 ghost use Rattle.pas_steps.specs.{Noted.ShowsRest};
+ghost use Rattle.pas_steps.specs.Told.{TellsWord, TookSteps, AreShort, StandsStill};
 
 use crate::step::Step;
 use pas_profile::{Block, Directory, Event, Name, Profile, Word};
@@ -244,6 +245,48 @@ pub trait Desk {
         ensures home { home self.new ≡ home self.old }
     {
         self.make(Step::Unhint { page })
+    }
+
+    /// The value of a word, if the desk tells the whole state and so may say it. No step is made.
+    #[inline(always)]
+    fn peek(&self, word: Word) -> Option<u64>
+        requires { IsWordOf (standing self.now).seat.profile word }
+        ensures { MatchOption result (Unit {0}) (TellsWord tells (standing self.now) word) }
+    {
+        let _ = word;
+        None
+    }
+
+    /// Takes it that the actor made so many steps, if they changed nothing, as steps of which each is known beforehand. True where they are made
+    /// from now on, and false where all is as it was. No step is made one by one.
+    #[inline(always)]
+    fn tell(&mut self, count: u64) -> bool
+        ensures took { TookSteps result count (standing self.old) (standing self.new) }
+        ensures home { home self.new ≡ home self.old }
+    {
+        let _ = count;
+        false
+    }
+
+    /// The pages of the block of this number that are noted as short: some grain of theirs is free, and no run of so many grains from a multiple
+    /// of the alignment on. No step is made.
+    #[inline(always)]
+    fn short_pages(&self, grains: u16, align: u16, block: u32) -> u64
+        requires { block ≤ (standing self.now).seat.profile.pages / 64 }
+        ensures { AreShort (standing self.now) grains align block result }
+    {
+        let _ = (grains, align, block);
+        0
+    }
+
+    /// Notes the page as short, where it is and where the desk keeps such notes. No step is made.
+    #[inline(always)]
+    fn note_short(&mut self, grains: u16, align: u16, page: u32)
+        requires { IsPage (standing self.old).seat.profile page }
+        ensures still { StandsStill (standing self.old) (standing self.new) }
+        ensures home { home self.new ≡ home self.old }
+    {
+        let _ = (grains, align, page);
     }
 
     /// The profile is within the limits.

@@ -29,6 +29,7 @@ fn record(room: &mut EventRoom, event: Option<Event>)
 }
 
 impl Notes {
+    ghost use Rattle.std.specs.Prelude.{◌-◌, min};
     ghost use Rattle.pas_steps.specs.{Events.wants, Ranges.IsRanged, Views.or_zero};
     ghost use Rattle.pas_steps.specs.Noted.{notes_for, IsNoted, events_noted, room_of_notes, count_of_notes, epoch_noted};
 
@@ -90,6 +91,17 @@ impl Notes {
         let events = self.room.as_slice().len() as u32;
         self.room.clear();
         events
+    }
+
+    /// Counts steps that made no event and read no epoch.
+    #[inline(always)]
+    pub fn count_more(&mut self, steps: u64)
+        ensures count { count_of_notes self.new ≡ min (count_of_notes self.old + steps) (2 ^ 64 - 1) }
+        ensures shown { events_noted self.new ≡ events_noted self.old }
+        ensures room { room_of_notes self.new ≡ room_of_notes self.old }
+        ensures epoch { epoch_noted self.new ≡ epoch_noted self.old }
+    {
+        self.count = self.count.saturating_add(steps);
     }
 
     /// Notes a step that the actor made, and its event. The caller leaves room for the event.

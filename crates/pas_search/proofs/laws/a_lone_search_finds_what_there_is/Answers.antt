@@ -7,4 +7,5 @@ returns-clause-told g c = λ d answer call l of legal may.
 
 pub returns-clause-plain : goal.returns-clause-plain
 returns-clause-plain g c = λ d answer call l of legal may rest.
-    plain_alone _ (g.D.Desk.standing _).seat.profile d (g.D.Desk.standing _).seat.actor l call.steps (g.met.D.Desk.valid c.args.desk.now) of (g.met.S.Serving.fewer _) legal call.searches may rest answer call.outcome
+    plain_alone _ (g.D.Desk.standing _).seat.profile d (g.D.Desk.standing _).seat.actor l call.steps (g.met.D.Desk.valid c.args.desk.now) of
+    (g.met.S.Serving.fewer _) legal call.searches may rest answer call.outcome

@@ -1,17 +1,20 @@
 use Rattle.std.proofs.Common.{◌≡◌, ◌∙◌, ◌==◌, ◌||◌, ◌+◌, ap, sym, subst, refl, arith, rules, [], None}
 use Rattle.pas_profile.specs.declared.profile.Profile.{Profile}
 use Rattle.pas_scan.specs.Marks.{is_marked}
-use Rattle.pas_steps.proofs.Adding.{adds_none}
+use Rattle.pas_steps.specs.Desks.{AnyView}
+use Rattle.pas_steps.proofs.Adding.{adds_none, can_call}
 use Rattle.pas_search.specs.Searches.{MaySearch, SearchesOffered}
-use Rattle.pas_search.proofs.ForBackEnds.{room_kept}
+use Rattle.pas_search.proofs.{ForBackEnds.room_kept, ToldVisits.tries_passed, ToldVisits.passes_none, ToldVisits.still_can}
 use Rattle.pas_search.proofs.PagesThatServe.{all_offered, claim_can, none_offered, further, claim_adds, claim_quiet, lost_tries, serve_can, found_there}
-use Rattle.pas_search.proofs.PagesThatServe.{left_tries}
+use Rattle.pas_search.proofs.PagesThatServe.{left_tries, TriesPages}
 use Rattle.pas_search.proofs.offered.search_offered.Goals as goal
 
 pub loop-looked-init : goal.loop-looked-init
 loop-looked-init g c =
-    let first = c.requires.next in
-    record { low = omega (arith, first); directory = refl; tries = record { steps = []; adds = adds_none; goes = record { searching = search rules; rest = λ p low. c.requires.unfit p; within = omega (arith, first); few = omega arith } }; home = refl }
+    let first = c.requires.next in let D = g.D.Desk in let σ = D.standing c.args.desk.now in let l = c.args.looked.now in let passed = c.pass_short.ensures in
+    let start : TriesPages (g.S.Serving.rule c.args.serving.now) l.directory l.next l.unfit σ σ
+    = record { steps = []; adds = adds_none; goes = record { searching = search rules; rest = λ p low. c.requires.unfit p; within = omega (arith, first); few = omega arith } } in
+    record { low = omega (arith, first, passed.next); directory = passed.directory; tries = tries_passed refl start passed.passes; home = passed.home }
 
 pub returns-in_default-clause-found : goal.returns-in_default-clause-found
 returns-in_default-clause-found g c =
@@ -41,15 +44,26 @@ returns-in-Some-serve-clause-found g c =
     let i = c.loop-looked.invariant in let n = c.first_offered.new.looked in let h = c.claim.ensures.claims in
     found_there i.tries i.directory c.in-Some.ensures.found h.calls.adds (sym h.got_is ∙ c.if-claim.true) n.unfit c.in-Some-serve.ensures.serves
 
+pub pass_short-requires-then-claim-clause-can : goal.pass_short-requires-then-claim-clause-can
+pass_short-requires-then-claim-clause-can g c =
+    let i = c.loop-looked.invariant in let h = c.claim.ensures.claims in let marked = c.mark_unfit.new.self in let p = c.in-Some.page in
+    let left = left_tries i.tries i.directory c.in-Some.ensures.found h.calls.adds (sym h.got_is ∙ c.if-claim.true) (c.mark_unfit.ensures.next ∙ further i.tries i.directory c.in-Some.ensures.found)
+    marked.unfit (λ q. c.mark_unfit.ensures.unfit q ∙ ap (λ m. (p == q) || is_marked m q) c.first_offered.ensures.unfit) c.in_default-serve.ensures.serves in
+    still_can c.note_unfit.ensures.still (can_call {C = MaySearch c.args.looked.now.directory} {D = AnyView} left.adds c.requires.can (λ v l stood met. tt))
+
 pub loop-looked-preserved-then-claim : goal.loop-looked-preserved-then-claim
 loop-looked-preserved-then-claim g c =
-    let i = c.loop-looked.invariant in let p = c.in-Some.page in let h = c.claim.ensures.claims in
-    let bit = sym h.got_is ∙ c.if-claim.true in let serves = c.in_default-serve.ensures.serves in let marked = c.mark_unfit.new.self in
-    let next : marked.next ≡ p + 1 = c.mark_unfit.ensures.next ∙ further i.tries i.directory c.in-Some.ensures.found in record {
-      low = omega (arith, next);
-      directory = c.mark_unfit.ensures.directory ∙ c.first_offered.ensures.directory ∙ i.directory;
-      tries = left_tries i.tries i.directory c.in-Some.ensures.found h.calls.adds bit next _ (λ q. c.mark_unfit.ensures.unfit q ∙ ap (λ m. (p == q) || is_marked m q) c.first_offered.ensures.unfit) serves;
-      home = c.serve.ensures.home ∙ c.claim.ensures.home ∙ c.first_offered.ensures.home ∙ i.home;
+    let i = c.loop-looked.invariant in let p = c.in-Some.page in let h = c.claim.ensures.claims in let D = g.D.Desk in let rule = g.S.Serving.rule c.args.serving.now in
+    let bit = sym h.got_is ∙ c.if-claim.true in let serves = c.in_default-serve.ensures.serves in let marked = c.mark_unfit.new.self in let passed = c.pass_short-then-claim.ensures in
+    let next : marked.next ≡ p + 1 = c.mark_unfit.ensures.next ∙ further i.tries i.directory c.in-Some.ensures.found in
+    let directory = c.mark_unfit.ensures.directory ∙ c.first_offered.ensures.directory ∙ i.directory in
+    let left = left_tries i.tries i.directory c.in-Some.ensures.found h.calls.adds bit next marked.unfit
+    (λ q. c.mark_unfit.ensures.unfit q ∙ ap (λ m. (p == q) || is_marked m q) c.first_offered.ensures.unfit) serves in
+    let kept = tries_passed refl left (passes_none rule c.args.looked.now.directory marked.next marked.unfit (D.standing c.serve.new.desk) (D.standing c.note_unfit.new.desk) c.note_unfit.ensures.still) in record {
+      low = omega (arith, next, passed.next);
+      directory = passed.directory ∙ directory;
+      tries = tries_passed directory kept passed.passes;
+      home = passed.home ∙ c.note_unfit.ensures.home ∙ c.serve.ensures.home ∙ c.claim.ensures.home ∙ c.first_offered.ensures.home ∙ i.home;
     }
 
 pub loop-looked-preserved : goal.loop-looked-preserved
