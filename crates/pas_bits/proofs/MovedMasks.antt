@@ -119,7 +119,8 @@ moved_up_is mask a b c d by some few wa wb wc wd g h =
 -- the words of one with those of the other, by an operation that acts on each bit alone
 pub words_are : (op : ℕ → ℕ → ℕ) (bit : Bool → Bool → Bool) → ((m n b : ℕ) → has_bit (op m n) b ≡ bit (has_bit m b) (has_bit n b)) → bit false false ≡ false
     → (m n : Mask4) → length m.0 ≡ 4 → length n.0 ≡ 4 → (g : ℕ)
-    → is_set (four (op (slice_index m.0 0) (slice_index n.0 0)) (op (slice_index m.0 1) (slice_index n.0 1)) (op (slice_index m.0 2) (slice_index n.0 2)) (op (slice_index m.0 3) (slice_index n.0 3))) g
+    → is_set (four (op (slice_index m.0 0) (slice_index n.0 0)) (op (slice_index m.0 1) (slice_index n.0 1)) (op (slice_index m.0 2) (slice_index n.0 2))
+    (op (slice_index m.0 3) (slice_index n.0 3))) g
     ≡ bit (is_set m g) (is_set n g)
 words_are op bit bits none m n long_m long_n g =
     let word = λ (w x : ℕ) (h : x < 64). bits (slice_index m.0 w) (slice_index n.0 w) x

@@ -151,9 +151,11 @@ WordsFit mask = (word : ℕ) → slice_index mask.0 word < 2 ^ 64
 other_bits : (mask : Mask4) (word b : ℕ) → WordsFit mask → b < 64 → has_bit (2 ^ 64 - 1 - slice_index mask.0 word) b ≡ not (is_set mask (64 * word + b))
 other_bits mask word b fits h = bit_of_not (slice_index mask.0 word) b (fits word) h ∙ ap not (sym (at_word mask word b h))
 
+-- the complements of a mask's words
+abbrev pub complements : Mask4 → List ℕ
+complements mask = (2 ^ 64 - 1 - slice_index mask.0 0) ∷ (2 ^ 64 - 1 - slice_index mask.0 1) ∷ (2 ^ 64 - 1 - slice_index mask.0 2) ∷ (2 ^ 64 - 1 - slice_index mask.0 3) ∷ []
+
 -- A mask of the complements of words has just the bits that aren't set.
-pub after_complement : (mask : Mask4) → WordsFit mask → (g : ℕ) → g < 256
-    → has_bit (slice_index ((2 ^ 64 - 1 - slice_index mask.0 0) ∷ (2 ^ 64 - 1 - slice_index mask.0 1) ∷ (2 ^ 64 - 1 - slice_index mask.0 2) ∷ (2 ^ 64 - 1 - slice_index mask.0 3) ∷ []) (g / 64)) (g % 64)
-    ≡ not (is_set mask g)
+pub after_complement : (mask : Mask4) → WordsFit mask → (g : ℕ) → g < 256 → has_bit (slice_index (complements mask) (g / 64)) (g % 64) ≡ not (is_set mask g)
 after_complement mask fits g h =
     search (arith, four_words, other_bits)

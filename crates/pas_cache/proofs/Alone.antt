@@ -1,6 +1,6 @@
 -- A request is answered from the local allocators.
-use Rattle.std.proofs.Common.{◌≡◌, ℕ, ◌+◌, ◌/◌, ◌^◌, ◌<◌, ◌≤◌, Bool, false, List, [], ◌∷◌, ◌++◌, length, Ok, Err, Result, inl, inr, Option, Some, true≢false}
-use Rattle.std.proofs.Common.{refl, ap, sym, ◌∙◌, subst, arith, append_assoc, append-nil, length-append, true, MatchResult, All, ◌%◌, max}
+use Rattle.std.proofs.Common.{◌≡◌, ℕ, ◌+◌, ◌/◌, ◌^◌, ◌<◌, ◌≤◌, Bool, List, [], ◌∷◌, ◌++◌, length, Ok, Err, Result, inl, inr, Option, Some, true≢false, refl, ap}
+use Rattle.std.proofs.Common.{sym, ◌∙◌, subst, arith, append_assoc, append-nil, length-append, MatchResult, All, ◌%◌, max}
 use Rattle.std.proofs.lemmas.List.{Elements.All-weaker, Sorted.IsPermutation-sym, Sorted.IsPermutation-to_front}
 use Rattle.pas_steps.specs.{Calls.Calls, Views.View, Views.has_right, Events.events_by, Agreement.Agreed, Lists.Whole, Lists.part, Lists.Legal}
 use Rattle.pas_steps.specs.{Unknown.unknown_pages, Kinds.returning, Kinds.Only}
@@ -229,12 +229,13 @@ filling_for f size align heap class admitted route =
     record { directory = directory; class = known; home = refl; fewer = fewer_slots class }
 
 -- a request of a class wants pages of the class's home
-pub wanted_is : (f : Profile) (heap class size align : ℕ) → route_in f size align ≡ Route.Class class
+wanted_is : (f : Profile) (heap class size align : ℕ) → route_in f size align ≡ Route.Class class
     → class_wanted (class_home f heap class) class align ≡ wanted_for f heap size align
 wanted_is f heap class size align route = ap (λ r. record { directory = record { heap = heap; kind = kind_of_route (is_shared f heap) r }; route = r; room = room_by r (max size 1); align = align }) (sym route)
 
 -- the directory that the table of heaps tells is that home
-pub home_is : (f : Profile) (table : HeapTable) (heap class : ℕ) (kind : TheKind) → kind ≡ kind_of_class (is_marked table heap) class → marks_of table ≡ f.shared → record { heap = heap; kind = kind } ≡ class_home f heap class
+pub home_is : (f : Profile) (table : HeapTable) (heap class : ℕ) (kind : TheKind) → kind ≡ kind_of_class (is_marked table heap) class
+    → marks_of table ≡ f.shared → record { heap = heap; kind = kind } ≡ class_home f heap class
 home_is f table heap class kind is marks = ap (λ (k : TheKind). record { heap = heap; kind = k }) (is ∙ ap (λ n. kind_of_class (has_bit n heap) class) marks)
 
 -- What is told of the state makes a refusal true; of a served request nothing is to be shown.
@@ -243,7 +244,8 @@ true_refusal : (f : Profile) (d : Directory) (class align : ℕ) (locals : List 
 true_refusal f d class align locals entry exit answer told = grind arith
 
 -- A request of a class that was served from its slots is allocated.
-pub allocates : {σ σ' : Standing} (size align heap class : ℕ) (tells : Bool) (c c' : Cached) (answer : Result Block NoRoom) → IsAdmitted σ.seat.profile size align heap → route_in σ.seat.profile size align ≡ Route.Class class → c' ≡ record c { locals = c'.locals }
+pub allocates : {σ σ' : Standing} (size align heap class : ℕ) (tells : Bool) (c c' : Cached) (answer : Result Block NoRoom)
+    → IsAdmitted σ.seat.profile size align heap → route_in σ.seat.profile size align ≡ Route.Class class → c' ≡ record c { locals = c'.locals }
     → ServesFrom (filling_in (class_home σ.seat.profile heap class) class) tells c.locals c'.locals σ σ' answer
     → Allocates (wanted_for σ.seat.profile heap size align) tells c c' σ σ' answer
 allocates {σ} {σ'} size align heap class tells c c' answer admitted route is h =
@@ -354,6 +356,9 @@ module _ (f : Profile) (heap size align k : ℕ) (found : Option ℕ) (c c' : Ca
   abbrev IsRefusedBy : Route → Wanted → Type 0
   IsRefusedBy r w = IsTrulyRefusedBy r f w c.locals l exit room × OwnLacks k w.directory exit
 
+  of_profile : (r : Route) → route_in f size align ≡ r → IsDirectoryOf f wanted.directory
+  of_profile r route = grind (arith, wanted_is, filling_for, bitfit_wanted, large_home)
+
   class_refused : (class : ℕ) → route_in f size align ≡ Route.Class class → ServesClass (filling_in wanted.directory class) f c c' steps (Err room)
       → IsRefusedBy (Route.Class class) wanted
   class_refused class route serves =
@@ -383,16 +388,13 @@ module _ (f : Profile) (heap size align k : ℕ) (found : Option ℕ) (c c' : Ca
   pages_refused : route_in f size align ≡ Route.Large → ServesPages f wanted found c c' steps (Err room) → IsRefusedBy Route.Large wanted
   pages_refused route serves =
       let stands : Legal f (triples k (serves.rest ++ serves.tried) ++ l) = subst (λ xs. Legal f (triples k xs ++ l)) serves.steps_are legal in
-      let told = refused_alone f k l wanted.directory _ _ serves.tried serves.rest valid (kind_large f _ _ _ route) serves.old serves.returns stands (find_large f _ _ _ c.locals _ route rest.locals) room serves.outcome in
-      subst (λ xs. IsTrulyRefusedBy Route.Large f wanted c.locals l (triples k xs ++ l) room × OwnLacks k wanted.directory (triples k xs ++ l)) (sym serves.steps_are) ((told.before, told.after, told.reason), told.own_lacks)
+      subst (λ xs. IsTrulyRefusedBy Route.Large f wanted c.locals l (triples k xs ++ l) room × OwnLacks k wanted.directory (triples k xs ++ l)) (sym serves.steps_are)
+      (refused_alone f k l wanted.directory _ _ serves.tried serves.rest serves.old serves.returns stands (find_large f _ _ _ c.locals _ route rest.locals) valid (of_profile Route.Large route) room serves.outcome)
 
   by_route : (r : Route) → route_in f size align ≡ r → ServesBy r f wanted found c c' steps (Err room) → IsRefusedBy r wanted
   by_route (Route.Class class) route serves = class_refused class route serves
   by_route Route.Bitfit route serves = bitfit_refused route serves
   by_route Route.Large route serves = pages_refused route serves
-
-  of_profile : (r : Route) → route_in f size align ≡ r → IsDirectoryOf f wanted.directory
-  of_profile r route = grind (arith, wanted_is, filling_for, bitfit_wanted, large_home)
 
   -- By whichever route the request went, its refusal is true.
   true_reason : (r : Route) → IsTrulyRefusedBy r f wanted c.locals l exit room → IsTrueReason f wanted.directory exit room
@@ -420,7 +422,7 @@ module _ (f : Profile) (heap size align k : ℕ) (found : Option ℕ) (c c' : Ca
       let w = wanted_for f heap size align in
       let stands : Legal f (triples k (serves.rest ++ serves.tried) ++ l) = subst (λ xs. Legal f (triples k xs ++ l)) serves.steps_are legal in
       subst (λ xs. GoesByDoor f w.directory (pages_of w) found l xs answer) (sym serves.steps_are)
-      (goes_by_door f k l w.directory _ _ serves.tried serves.rest valid (kind_large f _ _ _ route) serves.old serves.returns stands (find_large f _ _ _ c.locals _ route rest.locals) _ serves.outcome)
+      (goes_by_door f k l w.directory _ _ serves.tried serves.rest serves.old serves.returns stands (find_large f _ _ _ c.locals _ route rest.locals) (kind_large f _ _ _ route) _ serves.outcome)
 
   -- A request whose actor went on alone takes the run that its door named, where that is whole.
   pub takes_named : ServesRequest f (wanted_for f heap size align) found c c' steps answer

@@ -4,7 +4,7 @@ use Rattle.std.proofs.Common.{length-append, All, Ok, Err, le-leb, leb-false}
 use Rattle.std.proofs.lemmas.{List.Elements.All-nil, List.Elements.All-push, List.Elements.All-same, Bool.lt-leb}
 use Rattle.pas_steps.specs.Desks.{Standing, CanCall, Seat, Makes, made}
 use Rattle.pas_cache.specs.{Caches.AtRest, Caches.Cached, Contents.CacheOf, Parts.Releases, Kinds.releasing, Locals.HasOneEach, Locals.IsFormed}
-use Rattle.pas_cache.specs.{Locals.RestsWith}
+use Rattle.pas_cache.specs.{Locals.RestsWith, Contents.with_log, Contents.with_noted_alone}
 use Rattle.pas_cache.specs.Calls.{MayAllocate, Begins, Frees, FlushesLog, StopsCache, SettlesEach}
 use Rattle.pas_segregated.specs.declared.slots.Slots.{Slots}
 use Rattle.pas_profile.specs.declared.{profile.Profile.Profile, event.FreeFault.FreeFault, event.Range.Range, word.Word.Word}
@@ -82,13 +82,14 @@ empties : {σ σ' : Standing} (logged : List Entry) (noted noted' : List EndedRu
 empties logged noted noted' flush = record { epoch = flush.epoch; settled = flush.settled; entries_are = flush.entries_are; noted_are = flush.noted; entries = flush.entries; order = flush.order; steps_are = flush.steps_are; events = flush.events; stamps = flush.stamps; few = flush.few }
 
 -- A flush of a cache's log empties the log, and changes nothing else of the cache but its noted runs.
-pub flushes_log : {σ σ' : Standing} (c c' : Cached) (noted : List EndedRun) → c' ≡ record c { log = []; noted = noted } → Flushes c.log c.noted noted σ σ' → FlushesLog c c' σ σ'
+pub flushes_log : {σ σ' : Standing} (c c' : Cached) (noted : List EndedRun) → c' ≡ with_log c [] noted
+    → Flushes c.log c.noted noted σ σ' → FlushesLog c c' σ σ'
 flushes_log {σ} {σ'} c c' noted is flush =
     subst (λ x. FlushesLog c x σ σ') (sym is) (record {
       steps = flush.steps;
       calls = record {
         adds = adds_under flush.calls.adds (λ v l stood met. met.locals.clear);
-        leads = rests_idle _ c (record c { log = []; noted = noted }) flush.steps refl flush.calls.leads (λ v h. (All-nil (IsEntryOf σ.seat.profile), omega arith));
+        leads = rests_idle _ c (with_log c [] noted) flush.steps refl flush.calls.leads (λ v h. (All-nil (IsEntryOf σ.seat.profile), omega arith));
       };
       empties = empties c.log c.noted noted flush;
       cache = refl;
@@ -105,7 +106,8 @@ pub flushed_call : {σ σ1 : Standing} (c c' : Cached) → FlushesLog c c' σ σ
 flushed_call {σ} {σ1} c c' flush can = next_call flush.calls can (λ v h here. subst (λ (s : Seat). RestsWith s.profile c'.locals (flush.steps ++ v)) (sym flush.calls.adds.seat_is) here.locals)
 
 -- A flush, and then a stop of all local allocators, stop the cache.
-pub stops_cache : {σ σ1 σ2 : Standing} (c c1 c' : Cached) → (flush : FlushesLog c c1 σ σ1) → (stops : Releases (StopsEach c1.locals) c1.locals [] σ1 σ2) → c1 ≡ record c { log = []; noted = c1.noted } → c' ≡ record c { locals = []; log = []; noted = c1.noted } → StopsCache c c' σ σ2
+pub stops_cache : {σ σ1 σ2 : Standing} (c c1 c' : Cached) → (flush : FlushesLog c c1 σ σ1) → (stops : Releases (StopsEach c1.locals) c1.locals [] σ1 σ2)
+    → c1 ≡ with_log c [] c1.noted → c' ≡ with_noted_alone c c1.noted → StopsCache c c' σ σ2
 stops_cache {σ} {σ1} {σ2} c c1 c' flush stops mid is =
     let f : Profile = σ.seat.profile in
     let stop = subst (λ (s : Seat). Calls σ1 σ2 (RestsWith s.profile c1.locals) (λ v w. RestsWith s.profile [] w) stops.steps) flush.calls.adds.seat_is stops.calls in
@@ -120,7 +122,7 @@ stops_cache {σ} {σ1} {σ2} c c1 c' flush stops mid is =
       stops = subst (λ xs. StopsEach xs stops.steps) (ap (λ x. x.locals) mid) stops.change;
       kinds = stops.kinds;
       silent = λ k v. no_events releasing refl k v stops.steps stops.kinds;
-      cache = is ∙ ap (λ xs. record c { locals = []; log = []; noted = xs }) (sym (ap (λ x. x.noted) is));
+      cache = is ∙ ap (with_noted_alone c) (sym (ap (λ x. x.noted) is));
     }
 
 -- ---- names
@@ -151,7 +153,9 @@ logged_names f k log log' noted noted' entry steps logs is names =
     (All-same (IsEntryOf f) log' (logs.kept ++ entry ∷ []) logs.log_is (All-push (IsEntryOf f) logs.kept entry kept.0 is), omega (arith, n, kept.1))
 
 -- A name that may be tried, and was logged, is freed.
-pub frees : {σ σ' : Standing} (c c' : Cached) (entry : Entry) → entry.name.turn < 2 ^ 40 - 1 → (entry.room % 16 ≡ 0) × (entry.room ≤ 4096 * σ.seat.profile.pages) → IsInRegion σ.seat.profile entry.name → LogsInto c.log c'.log c.noted c'.noted entry σ σ' → c' ≡ record c { log = c'.log; noted = c'.noted } → Frees entry c c' σ σ' (Ok tt)
+pub frees : {σ σ' : Standing} (c c' : Cached) (entry : Entry) → entry.name.turn < 2 ^ 40 - 1
+    → (entry.room % 16 ≡ 0) × (entry.room ≤ 4096 * σ.seat.profile.pages) → IsInRegion σ.seat.profile entry.name
+    → LogsInto c.log c'.log c.noted c'.noted entry σ σ' → c' ≡ with_log c c'.log c'.noted → Frees entry c c' σ σ' (Ok tt)
 frees {σ} c c' entry turn size region logs is = record {
   steps = logs.steps;
   calls = record {

@@ -75,7 +75,7 @@ module _ {σ : Standing} {locals : List Slots} {place : ℕ} {slots : Slots} {re
   }
 
 -- Local allocators that were released in some way are released in each weaker one.
-pub releases_as : {σ σ' : Standing} {C D : List Made → Type 0} {locals locals' : List Slots} → Releases C locals locals' σ σ'
+releases_as : {σ σ' : Standing} {C D : List Made → Type 0} {locals locals' : List Slots} → Releases C locals locals' σ σ'
     → ((steps : List Made) → C steps → D steps) → Releases D locals locals' σ σ'
 releases_as r by = record { steps = r.steps; calls = r.calls; change = by r.steps r.change; kinds = r.kinds }
 
@@ -139,7 +139,7 @@ unshared : (shared : Bool) (a b : ℕ) → Kind.Class a ≡ kind_of_class shared
 unshared shared a b h = grind arith
 
 -- The right is kept just where the heap isn't shared, since the kinds of pages differ.
-kept_by : (right shared : Bool) (a b : ℕ) → kind_of_class (not right) a ≡ kind_of_class shared b → right ≡ not shared
+pub kept_by : (right shared : Bool) (a b : ℕ) → kind_of_class (not right) a ≡ kind_of_class shared b → right ≡ not shared
 kept_by right shared a b h = grind arith
 
 -- slots that keep their page's right and are at home in the directory are those for its heap and the class
@@ -169,7 +169,8 @@ no_test (s ∷ rest) = no_test rest
 -- A thread keeps no page of a directory whose kind is that of no class.
 pub no_right_of : (f : Profile) (v : View) (d : Directory) → IsKind d.kind → ((shared : Bool) (class : ℕ) → kind_of_class shared class ≡ d.kind → ⊥)
     → (locals : List Slots) → All (IsLocal f v) locals → (p : ℕ) → KnowsDeed p d v → any_keeps locals p ≡ false
-no_right_of f v d is no_class locals known p of = no_right_in f v d (λ s. false) is (λ slots right home. absurd (no_class (not slots.right) slots.class (ap (λ (h : Directory). h.kind) home))) _ known (no_test locals) p of
+no_right_of f v d is no_class locals known p of = no_right_in f v d (λ s. false) is
+    (λ slots right home. absurd (no_class (not slots.right) slots.class (ap (λ (h : Directory). h.kind) home))) _ known (no_test locals) p of
 
 -- A cache that rests without a local allocator of the heap and class may search the pages of the class's home.
 pub may_search : (f : Profile) (v : View) (fill : Filling) (locals : List Slots) → IsFilling f fill → local_for fill.directory.heap fill.class locals ≡ None
@@ -215,7 +216,8 @@ pub refusal : {fill : Filling} {f : Profile} {steps : List Made} {room : NoRoom}
 refusal {fill} {f} {room = room} h = subst (λ xs. IsRefused fill.no_fit f fill.directory xs room) (refused_steps h) h.outcome.0
 
 -- ---- the actor is at rest with the slots that were found besides
-rests_refilled : (f : Profile) (fill : Filling) (locals : List Slots) → IsFilling f fill → local_for fill.directory.heap fill.class locals ≡ None
+-- A refill leaves its actor at rest with the slots that it found, if any, before the others.
+pub rests_refilled : (f : Profile) (fill : Filling) (locals : List Slots) → IsFilling f fill → local_for fill.directory.heap fill.class locals ≡ None
     → (steps : List Made) (v : View) → RestsWith f locals v → Agreed f v steps
     → (answer : Result Slots NoRoom) → IsRefill fill f steps answer → RestsWith f (cons_option (result_ok answer) locals) (steps ++ v)
 rests_refilled f fill locals is none steps v h agreed (Ok slots) refill =

@@ -48,7 +48,7 @@ module _ {X : Type 0} (test : X → Bool) where
     pub without : count_by test xs ≤ 1 → IsPermutation xs (x ∷ filter (λ y. not (test y)) xs)
 
   -- One more element counts where it passes the test.
-  counted : (x : X) (xs : List X) → count_by test (x ∷ xs) ≡ cond (test x) 1 0 + count_by test xs
+  pub counted : (x : X) (xs : List X) → count_by test (x ∷ xs) ≡ cond (test x) 1 0 + count_by test xs
   counted x xs = sum_by-cons (λ y. cond (test y) 1 0) x xs
 
   counted_is : (x : X) (xs : List X) → test x ≡ true → count_by test (x ∷ xs) ≡ 1 + count_by test xs
@@ -102,18 +102,18 @@ module _ {X : Type 0} (test : X → Bool) where
   found_passes xs x h = elim (passing xs) [ inl none ↦ let found = none.found in cc | inr some ↦ let found = some.1.found in subst (Passes xs) (cc) some.1 ]
 
   -- ---- of a list with one more
-  pub no_other : (x : X) (xs : List X) → count_by test (x ∷ xs) ≤ 1 → test x ≡ true → list_any test xs ≡ false
+  no_other : (x : X) (xs : List X) → count_by test (x ∷ xs) ≤ 1 → test x ≡ true → list_any test xs ≡ false
   no_other x xs one is = let n = counted_is x xs is in (none_count xs (omega (arith, n, one))).any
 
   -- One more in a list, of which none passed if it does, leaves at most one that passes.
-  pub one_more : (x : X) (xs : List X) → (test x ≡ true → list_any test xs ≡ false) → count_by test xs ≤ 1 → count_by test (x ∷ xs) ≤ 1
+  one_more : (x : X) (xs : List X) → (test x ≡ true → list_any test xs ≡ false) → count_by test xs ≤ 1 → count_by test (x ∷ xs) ≤ 1
   one_more x xs other one = elim (cases_Bool _) [
     | inl is ↦ let n = counted_is x xs is in let none = (none_any xs (other is)).count in omega (arith, n, none)
     | inr isnt ↦ let n = counted_not x xs isnt in omega (arith, n, one)
   ]
 
   -- A list of which at most one passes has at most one without its first.
-  pub one_fewer : (x : X) (xs : List X) → count_by test (x ∷ xs) ≤ 1 → count_by test xs ≤ 1
+  one_fewer : (x : X) (xs : List X) → count_by test (x ∷ xs) ≤ 1 → count_by test xs ≤ 1
   one_fewer x xs one = let n = counted x xs in omega (arith, n, one)
 
   -- the one at a place
@@ -286,7 +286,8 @@ rests_by f e steps v xs ys does grains rights clears h known apart = record {
 -- a call that does nothing
 pub rests_kept : (f : Profile) (locals : List Slots) (steps : List Made) (v : View) → Does nothing v (steps ++ v) → Agreed f v steps → RestsWith f locals v
     → RestsWith f locals (steps ++ v)
-rests_kept f locals steps v does agreed h = rests_by f nothing _ v _ _ does (λ g. refl) (λ page. refl) (λ page. refl) h (locals_after f nothing _ v _ does agreed (λ g here. (h.grains g ∙ here, refl)) h.known) h.apart
+rests_kept f locals steps v does agreed h = rests_by f nothing _ v _ _ does (λ g. refl) (λ page. refl) (λ page. refl) h
+    (locals_after f nothing _ v _ does agreed (λ g here. (h.grains g ∙ here, refl)) h.known) h.apart
 
 unless_covered : (t : Bool) (fate : Fate) → (t ≡ true → ⊥) → (if t then fate else Kept) ≡ Kept
 unless_covered t fate isnt = cond-false t fate Kept (false_from_ne_true t isnt)

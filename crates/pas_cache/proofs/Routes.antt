@@ -96,7 +96,8 @@ pages_asked f size align route = search (arith, large_size)
 -- ==== A bit-fit request: the actor is at rest with the cache as it was.
 
 -- ---- no local allocator has a right of a bit-fit page
-not_bitfit : (shared : Bool) (class : ℕ) → kind_of_class shared class ≡ Kind.Bitfit → ⊥
+-- No kind of a class is the bit-fit one.
+pub not_bitfit : (shared : Bool) (class : ℕ) → kind_of_class shared class ≡ Kind.Bitfit → ⊥
 not_bitfit shared class same = grind arith
 
 -- A cache at rest may search the bit-fit pages of each heap.
@@ -106,6 +107,10 @@ may_search_bitfit f v heap locals rest = record { rights = λ p of. rest.rights 
 -- What isn't kept is lost without a change.
 lost_none : (t kept : Bool) → (t ≡ true → kept ≡ false) → now (if t then Lost else Kept) kept ≡ kept
 lost_none t kept none = grind arith
+
+-- ---- what is wanted: bit-fit pages of a heap
+abbrev pub bitfit_request : ℕ → ℕ → ℕ → Wanted
+bitfit_request heap room align = record { directory = bitfit_directory heap; route = Route.Bitfit; room = room; align = align }
 
 -- ---- a block is given, or the request is refused
 abbrev pub BitfitEnds : Profile → ℕ → ℕ → ℕ → List Made → List Made → Result Block NoRoom → Type 0
@@ -124,7 +129,8 @@ module _ (f : Profile) (heap room align : ℕ) (locals : List Slots) (searched a
   refused : after ≡ [] → searched ≡ bitfit_steps
   refused none = ap (λ xs. xs ++ searched) (sym none)
 
-  bitfit_rests : (answer : Result Block NoRoom) → BitfitEnds f heap room align searched after answer → (v : View) → RestsWith f locals v
+  -- A bit-fit request leaves its actor at rest with the same local allocators.
+  pub bitfit_rests : (answer : Result Block NoRoom) → BitfitEnds f heap room align searched after answer → (v : View) → RestsWith f locals v
       → Agreed f v bitfit_steps → RestsWith f locals (bitfit_steps ++ v)
   bitfit_rests (Ok block) both v h agreed =
       let page = both.0.page in
@@ -146,7 +152,8 @@ module _ (f : Profile) (heap room align : ℕ) (locals : List Slots) (searched a
   bitfit_kinds : (answer : Result Block NoRoom) → BitfitEnds f heap room align searched after answer → Only searching searched → Only allocating bitfit_steps
   bitfit_kinds (Ok block) both only = let is = both.0 in
       only_both allocating after searched
-      (subst (Only allocating) (sym is.after_is) (only_both allocating is.left _ (only_within returning allocating is.left refl (returns_are is.page is.left (leave_returns is.page _ is.left is.leaves))) (refl, (refl, tt))))
+      (subst (Only allocating) (sym is.after_is) (only_both allocating is.left _
+      (only_within returning allocating is.left refl (returns_are is.page is.left (leave_returns is.page _ is.left is.leaves))) (refl, (refl, tt))))
       (only_within searching allocating searched refl only)
   bitfit_kinds (Err why) h only = subst (Only allocating) (refused h.1) (only_within searching allocating searched refl only)
 
@@ -157,11 +164,12 @@ module _ (f : Profile) (heap room align : ℕ) (locals : List Slots) (searched a
 
   bitfit_ends : {Meets : View → Type 0} → ((v : View) → Meets v → RestsWith f locals v) → (answer : Result Block NoRoom)
       → BitfitEnds f heap room align searched after answer
-      → MatchResult answer (IsBlockFor f (record { directory = bitfit_directory heap; route = Route.Bitfit; room = room; align = align }) Meets bitfit_steps) (λ why. IsSilent bitfit_steps)
+      → MatchResult answer (IsBlockFor f (bitfit_request heap room align) Meets bitfit_steps) (λ why. IsSilent bitfit_steps)
   bitfit_ends rests (Ok block) both = let is = both.0 in record {
     of_heap = ap (λ (b : Block). b.heap) is.block_is;
     room = both.1.room_is;
-    placed = subst (λ n. n % 4096 + block.room ≤ 4096) (sym (ap (λ (b : Block). address_of b.name) is.block_is)) (omega (arith, is.served.serves.chosen.this.within, ap (λ (b : Block). b.room) is.block_is, both.1.room_is));
+    placed = subst (λ n. n % 4096 + block.room ≤ 4096) (sym (ap (λ (b : Block). address_of b.name) is.block_is))
+        (omega (arith, is.served.serves.chosen.this.within, ap (λ (b : Block). b.room) is.block_is, both.1.room_is));
     aligned = both.1.aligned;
     of_region = λ g inside. subst (IsPage f) (sym (on_page block both g inside)) is.served.page;
     turn = record { from = λ v met agreed. (bitfit_gave block both v (rests v met) agreed).turn };
@@ -178,12 +186,13 @@ bitfit_short f heap room align searched after answer few h = grind (arith, lengt
 -- ---- what it says of the whole state
 bitfit_told : (f : Profile) (heap room align : ℕ) (locals : List Slots) (entry exit : Whole) (answer : Result Block NoRoom)
     → IsTold (λ (b : Block). address_of b.name / 4096) (NoneFits (run_for room align)) f (bitfit_directory heap) entry exit answer
-    → IsToldBy f (record { directory = bitfit_directory heap; route = Route.Bitfit; room = room; align = align }) locals entry exit answer
+    → IsToldBy f (bitfit_request heap room align) locals entry exit answer
 bitfit_told f heap room align locals entry exit answer told = grind arith
 
 -- ---- of a cache
 with_request : (f : Profile) (heap room align : ℕ) (searched after : List Made) (answer : Result Block NoRoom)
-    → MatchResult answer (IsGiven (runs (run_for room align)) (run_at (run_for room align)) f (bitfit_directory heap) searched after) (λ why. IsRefused (NoneFits (run_for room align)) f (bitfit_directory heap) searched why
+    → MatchResult answer (IsGiven (runs (run_for room align)) (run_at (run_for room align)) f (bitfit_directory heap) searched after)
+    (λ why. IsRefused (NoneFits (run_for room align)) f (bitfit_directory heap) searched why
     × (after ≡ []))
     → MatchResult answer (IsOfRequest room align) (λ why. Unit {0}) → BitfitEnds f heap room align searched after answer
 with_request f heap room align searched after answer given fits = grind arith
@@ -194,7 +203,8 @@ pub bitfit_call : {σ : Standing} {c : Cached} {spare : ℕ} (heap : ℕ) → Ca
 bitfit_call {σ} {c} heap can = can_call adds_none can (λ v l stood met. record { may = may_search_bitfit _ v heap c.locals met.rest.locals; room = met.room })
 
 -- What a bit-fit request wants is the bit-fit directory of its heap, and its room and alignment.
-pub bitfit_wanted : (f : Profile) (heap size align : ℕ) → route_in f size align ≡ Route.Bitfit → record { directory = bitfit_directory heap; route = Route.Bitfit; room = room_in f size align; align = align } ≡ wanted_for f heap size align
+pub bitfit_wanted : (f : Profile) (heap size align : ℕ) → route_in f size align ≡ Route.Bitfit
+    → bitfit_request heap (room_in f size align) align ≡ wanted_for f heap size align
 bitfit_wanted f heap size align route = ap (λ r. record { directory = record { heap = heap; kind = kind_of_route (is_shared f heap) r }; route = r; room = room_in f size align; align = align }) (sym route)
 
 -- A bit-fit block that was allocated, or refused, serves the request, and leaves the cache as it is.
@@ -269,14 +279,16 @@ deeds_only d steps kinds deeds k v = each_event _ (λ m before. (is_in finding (
     (λ m before epoch e h is. deed_made d k _ _ e h.0 h.1 (comes_of k epoch _ _ e is)) steps
     (always_pair (λ m before. is_in finding (kind_of m.step) ≡ true) (λ m before. (p : ℕ) (x : Directory) → m.step ≡ Deed p x → m.answer ≡ 0 → x ≡ d) _ kinds deeds)
 
-back_made : (d : Directory) (k : ℕ) (s : Step) (a : ℕ) (e : Event) → is_in (Backing ∷ []) (kind_of s) ≡ true → ComesOf k s a e → IsPreparing d e
+pub back_made : (d : Directory) (k : ℕ) (s : Step) (a : ℕ) (e : Event) → is_in (Backing ∷ []) (kind_of s) ≡ true → ComesOf k s a e → IsPreparing d e
 back_made d k s a (Event.Back j p) is comes = IsPreparing.Backs j p
 back_made d k s a e is comes = absurd (true≢false (sym is ∙ ap (is_in (Backing ∷ [])) comes.kind))
 
-backs_only : (d : Directory) (steps : List Made) → Only (Backing ∷ []) steps → (k : ℕ) (v : View) → AllByRecursion (IsPreparing d) (events_by k v steps)
+-- The events of steps that only back pages prepare a block.
+pub backs_only : (d : Directory) (steps : List Made) → Only (Backing ∷ []) steps → (k : ℕ) (v : View) → AllByRecursion (IsPreparing d) (events_by k v steps)
 backs_only d steps kinds k v = each_event _ (λ m before. is_in (Backing ∷ []) (kind_of m.step) ≡ true) k v (λ m before epoch e h is. back_made d k _ _ e h (comes_of k _ _ _ e is)) _ kinds
 
-deed_prepares : (d : Directory) (e : Event) → IsDeedOf d e → IsPreparing d e
+-- So does a deed of the directory.
+pub deed_prepares : (d : Directory) (e : Event) → IsDeedOf d e → IsPreparing d e
 deed_prepares d e (IsDeedOf.Deeds k page) = IsPreparing.Deeds k page
 
 -- ---- a block is given
@@ -339,7 +351,9 @@ module _ (f : Profile) (heap n : ℕ) (searched after : List Made) where
   -- The call ends as a request for whole pages does.
   ends : {Meets : View → Type 0} (align : ℕ) (locals : List Slots) → IsAlignment align → Only finding searched → ((v : View) → Meets v → RestsWith f locals v)
       → (answer : Result Block NoRoom) → Ends f heap n searched after answer
-      → MatchResult answer (IsBlockFor f (record { directory = large_directory heap; route = Route.Large; room = n * 4096; align = align }) Meets (after ++ searched)) (λ why. MakesDeedsOf (large_directory heap) (after ++ searched))
+      → MatchResult answer
+      (IsBlockFor f (record { directory = large_directory heap; route = Route.Large; room = n * 4096; align = align }) Meets (after ++ searched))
+      (λ why. MakesDeedsOf (large_directory heap) (after ++ searched))
   ends align locals alignment only rests (Ok block) is = record {
     of_heap = ap (λ (b : Block). b.heap) is.block_is;
     room = ap (λ (b : Block). b.room) is.block_is;
@@ -358,7 +372,8 @@ module _ (f : Profile) (heap n : ℕ) (searched after : List Made) where
 
 -- ---- what is asked for
 -- From 1 on the size is its own maximum with 1.
-pages_wanted : (f : Profile) (heap size align n : ℕ) → n ≡ (size + 4096 - 1) / 4096 → 1 ≤ size → route_in f size align ≡ Route.Large → record { directory = large_directory heap; route = Route.Large; room = n * 4096; align = align } ≡ wanted_for f heap size align
+pages_wanted : (f : Profile) (heap size align n : ℕ) → n ≡ (size + 4096 - 1) / 4096 → 1 ≤ size → route_in f size align ≡ Route.Large
+    → record { directory = large_directory heap; route = Route.Large; room = n * 4096; align = align } ≡ wanted_for f heap size align
 pages_wanted f heap size align n is some route = search arith
 
 -- The whole pages of a size are as many as begun pages.
@@ -398,7 +413,8 @@ pages_allocates {σ} {σ'} size align heap n found tells c answer is some alignm
       short = (let missed = ap (missed_steps found) count in omega (arith, a.few, count, missed));
       few = λ k v met agreed.
           subst (λ m. length (events_by k v (a.rest ++ a.tried)) + unknown_pages f ((a.rest ++ a.tried) ++ v) ≤ most_events m answer + unknown_pages f v) (sym count)
-          (subst (λ xs. length (events_by k v xs) + unknown_pages f (xs ++ v) ≤ most_events n answer + unknown_pages f v) (sym same) (few f heap n e.got _ answer e.outcome e.shows k v (subst (Agreed f v) same agreed)));
+          (subst (λ xs. length (events_by k v xs) + unknown_pages f (xs ++ v) ≤ most_events n answer + unknown_pages f v) (sym same)
+          (few f heap n e.got _ answer e.outcome e.shows k v (subst (Agreed f v) same agreed)));
       outcome = subst (λ xs. MatchResult answer (IsBlockFor f (record { directory = large_directory heap; route = Route.Large; room = n * 4096; align = align }) (AtRest f c) xs) (λ why. MakesDeedsOf (large_directory heap) xs)) (sym same)
           (ends f heap n e.got e.after {Meets = AtRest f c} align c.locals alignment e.kinds (λ v met. met.locals) answer e.outcome);
       told = λ t v l stood met. subst (λ k. IsToldByDoor f (large_directory heap) k found l (triples σ.seat.actor (a.rest ++ a.tried) ++ l)

@@ -9,7 +9,7 @@ use Rattle.pas_large.specs.{Named.missed_steps, Telling.IsToldByDoor}
 use Rattle.pas_search.specs.Searches.{search_steps}
 use Rattle.pas_free_log.specs.declared.{noting.EndedRun.EndedRun, log.Entry.Entry}
 use Rattle.pas_cache.specs.{Caches.Cached, Caches.AtRest, Names.IsInRegion, Names.IsFaultOf, Changes.EmptiesLog, Changes.LogsEntry, Changes.StopsEach}
-use Rattle.pas_cache.specs.{Kinds.releasing, Kinds.allocating}
+use Rattle.pas_cache.specs.{Kinds.releasing, Kinds.allocating, Contents.with_log, Contents.with_noted_alone}
 use Rattle.pas_cache.specs.Serves.{Wanted, turn_of, HasCached, ServesRequest, IsBlockFor, pages_of, MakesFew, MakesAtMost, MakesDeedsOf, IsSilent, IsToldBy}
 
 -- an actor at rest with the one cache is at rest with the other after these steps
@@ -117,7 +117,7 @@ pub record RefusesName (f : Profile) (c c' : Cached) (name : Name) (steps : List
 pub record TakesEntry (f : Profile) (actor : ℕ) (c c' : Cached) (entry : Entry) (steps : List Made) : Type 0 where
   pub region : IsInRegion f entry.name
   pub logs : LogsEntry actor c.log c'.log c.noted c'.noted entry steps
-  pub cache : c' ≡ record c { log = c'.log; noted = c'.noted }
+  pub cache : c' ≡ with_log c c'.log c'.noted
 
 pub record Frees (entry : Entry) (c c' : Cached) (desk desk' : Standing) (answer : Result (Unit {0}) FreeFault) : Type 0 where
   pub steps : List Made
@@ -129,7 +129,7 @@ pub record FlushesLog (c c' : Cached) (desk desk' : Standing) : Type 0 where
   pub steps : List Made
   pub calls : Rests c c' desk desk' steps
   pub empties : EmptiesLog desk.seat.actor c.log c.noted c'.noted steps
-  pub cache : c' ≡ record c { log = []; noted = c'.noted }
+  pub cache : c' ≡ with_log c [] c'.noted
 
 -- The log is emptied, and then each local allocator is stopped. The cache is empty then, so the actor holds and has nothing. The stops make no
 -- event and stamp no page.
@@ -141,4 +141,4 @@ pub record StopsCache (c c' : Cached) (desk desk' : Standing) : Type 0 where
   pub stops : StopsEach c.locals stopped
   pub kinds : Only releasing stopped
   pub silent : (k : ℕ) (v : View) → events_by k v stopped ≡ []
-  pub cache : c' ≡ record c { locals = []; log = []; noted = c'.noted }
+  pub cache : c' ≡ with_noted_alone c c'.noted

@@ -1,5 +1,5 @@
 -- What a cache contains.
-use Rattle.std.specs.Prelude.{ℕ, List, All}
+use Rattle.std.specs.Prelude.{ℕ, List, [], All}
 use Rattle.pas_free_log.specs.Noted.{AreRanges}
 use Rattle.pas_free_log.specs.declared.{log.Entry.Entry, noting.EndedRun.EndedRun}
 use Rattle.pas_segregated.specs.declared.slots.Slots.{Slots}
@@ -12,6 +12,13 @@ pub record Cached : Type 0 where
   pub log : List Entry
   pub noted : List EndedRun
   pub idle_since : ℕ
+
+-- the same with this log and these noted runs, and what is left of it after a stop
+abbrev pub with_log : Cached → List Entry → List EndedRun → Cached
+with_log c log noted = record c { log = log; noted = noted }
+
+abbrev pub with_noted_alone : Cached → List EndedRun → Cached
+with_noted_alone c noted = record c { locals = []; log = []; noted = noted }
 
 -- a cache is that of a thread, and contains this
 pub record CacheOf : Type 0 where

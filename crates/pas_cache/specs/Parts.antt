@@ -98,7 +98,8 @@ pub record ServesFrom (fill : Filling) (tells : Bool) (locals locals' : List Slo
   pub change : ServesLocals fill desk.seat.profile locals locals' steps answer
   pub kinds : Only allocating steps
   pub few : MakesFew desk.seat.profile (RestsWith desk.seat.profile locals) 2 steps
-  pub outcome : MatchResult answer (IsBlockFor desk.seat.profile (class_wanted fill.directory fill.class 1) (RestsWith desk.seat.profile locals) steps) (λ room. IsSilent steps)
+  pub outcome : MatchResult answer (IsBlockFor desk.seat.profile (class_wanted fill.directory fill.class 1) (RestsWith desk.seat.profile locals) steps)
+      (λ room. IsSilent steps)
   pub place : length locals' ≤ 32
   pub told : tells ≡ true → (v : View) (l : Whole) → desk.stands v l → RestsWith desk.seat.profile locals v
       → IsToldOf fill desk.seat.profile locals l (triples desk.seat.actor steps ++ l) answer

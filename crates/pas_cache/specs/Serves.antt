@@ -50,7 +50,8 @@ pub record ServesBitfit (f : Profile) (wanted : Wanted) (c c' : Cached) (steps :
   pub searched : List Made
   pub searches : AreSearch searched
   pub after : List Made
-  pub outcome : MatchResult answer (IsAllocated f wanted.directory wanted.room wanted.align searched after) (λ room. IsRefused (NoneFits (run_for wanted.room wanted.align)) f wanted.directory searched room
+  pub outcome : MatchResult answer (IsAllocated f wanted.directory wanted.room wanted.align searched after)
+      (λ room. IsRefused (NoneFits (run_for wanted.room wanted.align)) f wanted.directory searched room
       × (after ≡ []))
   pub steps_are : steps ≡ after ++ searched
 

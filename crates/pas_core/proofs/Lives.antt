@@ -127,7 +127,8 @@ record IsNewAt (f : Profile) (g : ℕ) (block : Block) (ends : ℕ) : Type 0 whe
 -- After a give the word is that of the block at its address, and as it was elsewhere.
 give_life : (x : Bool) (f : Profile) (g word k : ℕ) (block : Block) (live : Option Live) (gives ends : ℕ) → IsLifeOf f g word live gives ends
     → (x ≡ true → live ≡ None) → (x ≡ true → IsNewAt f g block ends)
-    → IsLifeOf f g (if x then live_word block.name.turn (length_of block) else word) (if x then Some record { actor = k; block = block } else live) (if x then gives + 1 else gives) ends
+    → IsLifeOf f g (if x then live_word block.name.turn (length_of block) else word) (if x then Some record { actor = k; block = block } else live)
+    (if x then gives + 1 else gives) ends
 give_life x f g word k block live gives ends was none new = grind arith
 
 -- A live word that ends leaves the word of no block, with the next turn.
@@ -142,7 +143,8 @@ LifeIn f g word es address = IsLifeOf f g word (live_in es address) (gives_in es
 end_life : (x z y : Bool) (f : Profile) (g k ep a word guess : ℕ) (name : Name) (w : Why) (es : List Event) (address : ℕ) → (address_of name == address) ≡ x
     → (x ≡ true → a ≡ word) → (a == live_word name.turn guess) ≡ z → name.turn < 2 ^ 40 - 1
     → LifeIn f g word es address
-    → LifeIn f g (if x then (if word == live_word name.turn guess then name.turn + 1 else word) else word) (with_event (if z then Some (Event.End k name ep) else (if y then None else Some (Event.Reject k name w))) es) address
+    → LifeIn f g (if x then (if word == live_word name.turn guess then name.turn + 1 else word) else word)
+    (with_event (if z then Some (Event.End k name ep) else (if y then None else Some (Event.Reject k name w))) es) address
 end_life x z y f g k ep a word guess name w es address xe is ze small h = grind (arith, eqb-true, ended, eq-eqb, cond_both)
 
 -- a block that may be given at the grain, from its step's conditions
@@ -153,7 +155,8 @@ new_at f l k block g ends valid of allowed turn x = search (arith, eqb-true, som
 life_step : (f : Profile) (l : Whole) (k e : ℕ) (s : Step) (a g : ℕ) → IsValid f → IsStepOf f s → Allowed f (part k l) s → a ≡ word_after l (target s)
     → (holds (part k l) g ≡ true → live_in (visible l) (16 * g) ≡ None) → TellsLife (part k l) g (word_after l (life_word_at g))
     → LifeIn f g (word_after l (life_word_at g)) (visible l) (16 * g)
-    → LifeIn f g (if same_word (target s) (life_word_at g) then new_value e s (word_after l (life_word_at g)) else word_after l (life_word_at g)) (with_event (event_of k e s a) (visible l)) (16 * g)
+    → LifeIn f g (if same_word (target s) (life_word_at g) then new_value e s (word_after l (life_word_at g)) else word_after l (life_word_at g))
+    (with_event (event_of k e s a) (visible l)) (16 * g)
 life_step f l k e s a g valid of allowed is dead tells h = search (arith, event_if, address_same, eqb-true, first_of_run, some_grain, turn_is, as_test, life_same, give_life, new_at, end_life)
 
 -- a grain of a live block is covered
@@ -221,7 +224,8 @@ live_of f l valid legal address b is =
 
 -- the life word at an address
 pub life_at : (f : Profile) (l : Whole) → IsValid f → Legal f l → (address : ℕ) → address % 16 ≡ 0
-    → IsLifeOf f (address / 16) (word_after l (life_word_at (address / 16))) (live_in (visible l) address) (gives_in (visible l) address) (ends_in (visible l) address)
+    → IsLifeOf f (address / 16) (word_after l (life_word_at (address / 16))) (live_in (visible l) address) (gives_in (visible l) address)
+    (ends_in (visible l) address)
 life_at f l valid legal address aligned =
     let e : 16 * (address / 16) ≡ address = omega (arith, aligned) in
     subst (λ x. IsLifeOf f (address / 16) (word_after l (life_word_at (address / 16))) (live_in (visible l) x) (gives_in (visible l) x) (ends_in (visible l) x)) e (life_of f l valid legal _)

@@ -12,7 +12,7 @@ use Rattle.pas_steps.specs.Views.{epoch_of, View, Move, Stays, Gets, Puts, Gives
 use Rattle.pas_steps.specs.Views.{deed_after, known_deed, KnowsDeed}
 use Rattle.pas_steps.specs.Lists.{Whole, part, word_after, Legal}
 use Rattle.pas_steps.specs.Kinds.{Kinds, kind_of, is_in, apart, Only, Taking, Claiming, Deeding, lending}
-use Rattle.pas_steps.specs.declared.step.{Made.Made, Step.Step, Step.TheVariants.Look, Step.TheVariants.Deed}
+use Rattle.pas_steps.specs.declared.step.{Made.Made, Step.Step, Step.TheVariants.Deed}
 use Rattle.pas_steps.proofs.{Apart.in_apart, Past.since_once, Past.always_map, Past.once_map, Parts.part_of_own, Parts.part_of_others, Parts.each_part}
 use Rattle.pas_steps.proofs.{Adding.triples_append}
 use Rattle.pas_steps.proofs.Frames.{right_own, right_of_own, lacks_now, deed_stays}
@@ -24,7 +24,7 @@ use Rattle.pas_core.specs.Rights.{free_of_page, eligible_bit, parked_bit, AllRes
 use Rattle.pas_core.specs.Good.{Place, Held, is_free, is_held_by, IsPlacedOnce}
 use Rattle.pas_core.proofs.Grains.{Fits, free_moved, free_step, step_fits, placed_once, is_held_by-true}
 use Rattle.pas_steps.specs.Evidence.{Readings, IsAntitone, ReadsFree, ReadsDeed, ShowsHere, KeptHere, UnfitHere, DeedHere, ReadsEligible, ReadsParked, ZeroHere}
-use Rattle.pas_steps.specs.Evidence.{OneHere, ParkedHere, LacksAfter, HeldHere}
+use Rattle.pas_steps.specs.Evidence.{OneHere, ParkedHere, LacksAfter, Searched, AllDeeds}
 use Rattle.pas_profile.proofs.Codecs.{deed_word_of-positive, numbered}
 use Rattle.pas_core.proofs.Nexts.{agrees_next}
 use Rattle.pas_core.specs.Fits.{IsOfferedFit, IsBarePage, HasNoFit}
@@ -87,7 +87,8 @@ LendsNone = Always (λ m before. is_in lending (kind_of m.step) ≡ false)
 pub lends_none : (ks : Kinds) → apart ks lending ≡ true → (xs : List Made) → Only ks xs → LendsNone xs
 lends_none ks w xs = search (arith, always_map, in_apart)
 
-abbrev bit_of : Whole → ℕ → Bool
+-- the bit of a grain of the region: it is set where the grain is free
+abbrev pub bit_of : Whole → ℕ → Bool
 bit_of l g = has_bit (word_after l (free_word_at g)) (g % 64)
 
 holds_own : (g : ℕ) (xs : List Made) (v : View) → holds v g ≡ false → holds (xs ++ v) g ≡ holds xs g
@@ -102,7 +103,7 @@ bit_moved f k l g m xs legal = free_step f (triples k xs ++ l) (epoch_of (part k
 free_move : (m : Move) (bit held : Bool) → IsPlain m → (bit || held) ≡ true → (free_moved m bit || held_after m held) ≡ true
 free_move s bit held plain h = grind arith
 
-free_or_held : (f : Profile) (k : ℕ) (l : Whole) (g : ℕ) (xs : List Made) → Legal f (triples k xs ++ l) → LendsNone xs → bit_of l g ≡ true
+pub free_or_held : (f : Profile) (k : ℕ) (l : Whole) (g : ℕ) (xs : List Made) → Legal f (triples k xs ++ l) → LendsNone xs → bit_of l g ≡ true
     → (bit_of (triples k xs ++ l) g || holds xs g) ≡ true
 free_or_held f k l g [] legal lends free = or_left (bit_of l g) false free
 free_or_held f k l g (m ∷ xs) legal lends free =
@@ -143,15 +144,16 @@ word_of_page : (page b : ℕ) → b < 256 → free_word_at (page * 256 + b) ≡ 
 word_of_page page b lt = search arith
 
 -- What a look shows of a grain is its bit at that moment.
-shown : (f : Profile) (k : ℕ) (l : Whole) (page b : ℕ) (r : Readings) (m : Made) (xs : List Made) → Legal f (triples k (m ∷ xs) ++ l) → b < 256
+pub shown : (f : Profile) (k : ℕ) (l : Whole) (page b : ℕ) (r : Readings) (m : Made) (xs : List Made) → Legal f (triples k (m ∷ xs) ++ l) → b < 256
     → ShowsHere page (b / 64) r m xs → r b ≡ (bit_of (triples k xs ++ l) (page * 256 + b) || holds xs (page * 256 + b))
 shown f k l page b r m xs legal lt s = search (arith, free_read, word_of_page)
 
-of_page : (l : Whole) (page b : ℕ) → free_of_page l page b ≡ bit_of l (page * 256 + b)
+-- A grain of a page is free where its bit is set.
+pub of_page : (l : Whole) (page b : ℕ) → free_of_page l page b ≡ bit_of l (page * 256 + b)
 of_page l page b = let bit : b % 64 ≡ (page * 256 + b) % 64 = omega arith in ap (λ n. has_bit (word_after l (free_word_at (page * 256 + b))) n) bit
 
 -- a grain that was free at entry is read as free
-free_shown : (f : Profile) (k : ℕ) (l : Whole) (page b : ℕ) (r : Readings) (xs : List Made) → Legal f (triples k xs ++ l) → LendsNone xs → b < 256
+pub free_shown : (f : Profile) (k : ℕ) (l : Whole) (page b : ℕ) (r : Readings) (xs : List Made) → Legal f (triples k xs ++ l) → LendsNone xs → b < 256
     → bit_of l (page * 256 + b) ≡ true → Once (ShowsHere page (b / 64) r) xs → r b ≡ true
 free_shown f k l page b r [] legal lends lt free h = absurd h
 free_shown f k l page b r (m ∷ xs) legal lends lt free (inr h) = free_shown f k l page b r xs legal.1 lends.1 lt free h
@@ -300,16 +302,23 @@ eligible_read : (d : Directory) (p : ℕ) (s : Step) (w : Whole) → ReadsEligib
     → word_after w (target s) ≡ word_after w (Word.Eligible (number_of d) (p / 64))
 eligible_read d p s w e = grind arith
 
--- A page whose eligible bit an actor alone read as 0, without ever having its right, wasn't offered.
-pub zero_told : (f : Profile) (k : ℕ) (l : Whole) (d : Directory) (p : ℕ) (xs : List Made) → Legal f (triples k xs ++ l) → has_right (part k l) p ≡ false
-    → Always (LacksAfter p) xs → Once (ZeroHere d p) xs → is_offered (number_of d) (spot_of l p) ≡ false
-zero_told f k l d p [] legal none lacks h = absurd h
-zero_told f k l d p (m ∷ xs) legal none lacks (inr h) = zero_told f k l d p xs legal.1 none lacks.1 h
-zero_told f k l d p (m ∷ xs) legal none lacks (inl z) =
+-- An eligible bit that an actor alone read, without ever having the page's right, tells whether the page was offered.
+pub offer_told : (f : Profile) (k : ℕ) (l : Whole) (d : Directory) (p : ℕ) (set : Bool) (xs : List Made) → Legal f (triples k xs ++ l)
+    → has_right (part k l) p ≡ false → Always (LacksAfter p) xs
+    → Once (λ m before. ReadsEligible d p m.step × (has_bit m.answer (p % 64) ≡ set) × (has_right before p ≡ false)) xs
+    → is_offered (number_of d) (spot_of l p) ≡ set
+offer_told f k l d p set [] legal none lacks h = absurd h
+offer_told f k l d p set (m ∷ xs) legal none lacks (inr h) = offer_told f k l d p set xs legal.1 none lacks.1 h
+offer_told f k l d p set (m ∷ xs) legal none lacks (inl z) =
     let w : Whole = triples k xs ++ l in
     let at : IsSpotted w p = spotted f w legal.1 p in
     ap (is_offered (number_of d)) (sym (spot_same f k l p xs legal.1 none lacks.1)) ∙ sym (at.eligible (number_of d))
     ∙ ap (λ n. has_bit n (p % 64)) (sym (eligible_read d p _ w z.0) ∙ sym legal.0.answer_is) ∙ z.1
+
+-- So a page whose bit was read as 0 wasn't offered.
+pub zero_told : (f : Profile) (k : ℕ) (l : Whole) (d : Directory) (p : ℕ) (xs : List Made) → Legal f (triples k xs ++ l) → has_right (part k l) p ≡ false
+    → Always (LacksAfter p) xs → Once (ZeroHere d p) xs → is_offered (number_of d) (spot_of l p) ≡ false
+zero_told f k l d p = offer_told f k l d p false
 
 -- the page was offered when the call read its bit as 1
 pub one_told : (f : Profile) (k : ℕ) (l : Whole) (d : Directory) (p : ℕ) (xs : List Made) → Legal f (triples k xs ++ l)
@@ -331,7 +340,7 @@ parked_told f k l p set (m ∷ xs) legal none lacks (inl z) =
     cc (spot_same f k l p xs legal.1 none lacks.1, (spotted f _ legal.1 p).parked, parked_read p _ _ z.0)
 
 -- ---- the deed word stays, once it is there
-deed_later : (k : ℕ) (l : Whole) (p : ℕ) (xs : List Made) → word_after l (Word.Deed p) ≢ 0
+pub deed_later : (k : ℕ) (l : Whole) (p : ℕ) (xs : List Made) → word_after l (Word.Deed p) ≢ 0
     → word_after (triples k xs ++ l) (Word.Deed p) ≡ word_after l (Word.Deed p)
 deed_later k l p [] some = refl
 deed_later k l p (m ∷ xs) some = let e = deed_later k l p xs some in deed_kept (triples k xs ++ l) (triple k m) p (λ z. some (sym e ∙ z)) ∙ e
@@ -386,6 +395,17 @@ offered_deed f l d p of legal bit = offered_has_deed f l legal (number_of d) p b
 pub offered_lacks : (f : Profile) (k : ℕ) (l : Whole) (n p : ℕ) → Legal f l → eligible_bit l n p ≡ true → has_right (part k l) p ≡ false
 offered_lacks f k l n p legal bit = let at : IsSpotted l p = spotted f l legal p in at.has k ∙ ap (is_with k) (offered_spot l n p at bit)
 
+-- A page that an actor alone read as offered, never having had its right, was offered.
+pub offered_was : (f : Profile) (k : ℕ) (l : Whole) (d : Directory) (p : ℕ) (xs : List Made) → IsValid f → IsDirectoryOf f d → Legal f (triples k xs ++ l)
+    → (KnowsDeed p d (part k l) → has_right (part k l) p ≡ false) → Once (λ m before. OneHere d p m before × Always (LacksAfter p) before) xs
+    → eligible_bit l (number_of d) p ≡ true
+offered_was f k l d p xs valid of legal may once =
+    let first : Legal f l = legal_before f k xs l legal in
+    let read = one_told f k l d p xs legal once in
+    let lacks = entry_lacks f k l d p read.0 valid first may (offered_deed f (triples k read.0 ++ l) d p of read.1 read.3) in
+    (spotted f l first p).eligible (number_of d) ∙ ap (is_offered (number_of d)) (sym (spot_same f k l p read.0 read.1 lacks read.2))
+    ∙ sym ((spotted f (triples k read.0 ++ l) read.1 p).eligible (number_of d)) ∙ read.3
+
 -- ---- a page whose right the call once had is in nobody's hands but the actor's
 had_then : (f : Profile) (k : ℕ) (l : Whole) (p j : ℕ) (xs : List Made) → Legal f (triples k xs ++ l) → k ≢ j → Once (KeptHere p) xs
     → has_right (part j l) p ≡ true → ⊥
@@ -420,7 +440,7 @@ not_in_hands f k l d p xs of legal lacks once deed not_offered not_parked =
 -- ==== One actor alone goes on with one search, after a list at whose end all are at rest.
 
 -- a page that was got and left isn't one whose right the call never had
-unfit_lacks : (no_fit : Readings → Type 0) (p : ℕ) (xs : List Made) → Once (UnfitHere no_fit p) xs → Always (LacksAfter p) xs → ⊥
+pub unfit_lacks : (no_fit : Readings → Type 0) (p : ℕ) (xs : List Made) → Once (UnfitHere no_fit p) xs → Always (LacksAfter p) xs → ⊥
 unfit_lacks no_fit p [] h lacks = h
 unfit_lacks no_fit p (m ∷ more) (inl u) lacks = true≢false (sym u.kept ∙ lacks_now p more lacks.1)
 unfit_lacks no_fit p (m ∷ more) (inr h) lacks = unfit_lacks no_fit p more h lacks.1
@@ -431,6 +451,23 @@ deed_made : (f : Profile) (k : ℕ) (l : Whole) (d : Directory) (p : ℕ) (xs : 
 deed_made f k l d p [] legal h = absurd h
 deed_made f k l d p (m ∷ xs) legal (inl z) = deed_none k l p xs (sym (legal.0.answer_is ∙ ap (λ s. word_after (triples k xs ++ l) (target s)) z.0) ∙ z.1)
 deed_made f k l d p (m ∷ xs) legal (inr h) = deed_made f k l d p xs legal.1 h
+
+-- Of the pages that were searched none was offered and fitted; and where no deed word was read as 0 and no event made, no page could serve.
+pub no_fit_there : (no_fit : Readings → Type 0) (f : Profile) (k : ℕ) (l : Whole) (d : Directory) (end : ℕ) (xs : List Made) → IsAntitone no_fit
+    → Legal f (triples k xs ++ l) → LendsNone xs → Searched no_fit d end xs → (page : ℕ) → page < end → IsOfferedFit no_fit f d l page → ⊥
+no_fit_there no_fit f k l d end xs fewer legal lends searched page high fit =
+    let first : Legal f l = legal_before f k xs l legal in
+    elim (searched page fit.of_region.0 high) [
+      | inl u ↦ fit.fits (unfit_entry no_fit f k l page xs fewer legal lends u)
+      | inr z ↦ true≢false (sym fit.offered ∙ (spotted f l first page).eligible (number_of d) ∙ zero_told f k l d page xs legal (offered_lacks f k l _ page first fit.offered) z.0 z.1)
+    ]
+
+pub none_serves : (no_fit : Readings → Type 0) (f : Profile) (k : ℕ) (l : Whole) (d : Directory) (xs : List Made) → IsAntitone no_fit
+    → Legal f (triples k xs ++ l) → LendsNone xs → Searched no_fit d (f.pages + 1) xs → AllDeeds (f.pages + 1) xs → MakesNoEvent xs → HasNoFit no_fit f d l
+none_serves no_fit f k l d xs fewer legal lends searched deeds quiet = record {
+  offered = λ page fit. no_fit_there no_fit f k l d (f.pages + 1) xs fewer legal lends searched page (omega (arith, fit.of_region.1)) fit;
+  bare = λ page bare. deed_exit f k l page xs legal (deeds page bare.of_region.0 (omega (arith, bare.of_region.1))) (deed_quiet f k l page xs legal quiet ∙ bare.no_deed);
+}
 
 module _ (no_fit : Readings → Type 0) (f : Profile) (d : Directory) (k : ℕ) (l : Whole) (xs : List Made) (valid : IsValid f) (of : IsDirectoryOf f d)
     (fewer : IsAntitone no_fit)
@@ -444,26 +481,14 @@ module _ (no_fit : Readings → Type 0) (f : Profile) (d : Directory) (k : ℕ) 
 
   -- ---- a page that serves could before the search
   offered_fits : (page : ℕ) → ShowsOffered no_fit f d (part k l) page xs → IsOfferedFit no_fit f d l page
-  offered_fits page shows =
-      let read = one_told f k l d page xs legal shows.offered in record {
-        of_region = shows.of_region;
-        offered = (spotted f l first page).eligible (number_of d) ∙ ap (is_offered (number_of d)) (sym (spot_same f k l page read.0 read.1 (rest.rights page k) read.2))
-            ∙ sym ((spotted f _ read.1 page).eligible (number_of d)) ∙ read.3;
-        fits = fit_entry no_fit f k l page shows.readings xs fewer valid legal lends shows.fits shows.read shows.none_held;
-      }
+  offered_fits page shows = record {
+    of_region = shows.of_region;
+    offered = offered_was f k l d page xs valid of legal (λ known. rest.rights page k) shows.offered;
+    fits = fit_entry no_fit f k l page shows.readings xs fewer valid legal lends shows.fits shows.read shows.none_held;
+  }
 
   bare_page : (page : ℕ) → ShowsBare f d page xs → IsBarePage f l page
   bare_page page shows = record { of_region = shows.of_region; no_deed = deed_made f k l d page xs legal shows.made }
-
-  -- ---- where none serves, none could
-  none_serves : ShowsNone no_fit f d xs → HasNoFit no_fit f d l
-  none_serves shows = record {
-    offered = λ page fit. let high = fit.of_region.1 in elim (shows.searched page fit.of_region.0 (omega (arith, high))) [
-      | inl u ↦ fit.fits (unfit_entry no_fit f k l page xs fewer legal lends u)
-      | inr z ↦ true≢false (sym fit.offered ∙ (spotted f l first page).eligible (number_of d) ∙ zero_told f k l d page xs legal (rest.rights page k) z.0 z.1)
-    ];
-    bare = λ page bare. deed_exit f k l page xs legal (shows.deeds page bare.of_region.0 (omega (arith, bare.of_region.1))) (deed_quiet f k l page xs legal shows.quiet ∙ bare.no_deed);
-  }
 
   -- ---- no page is in another's hands
   nobody_holds : (page : ℕ) → ShowsNone no_fit f d xs → ShowsHeld f d (part k l) page xs → ⊥
@@ -483,7 +508,7 @@ module _ (no_fit : Readings → Type 0) (f : Profile) (d : Directory) (k : ℕ) 
   plain : (answer : Result ℕ NoRoom) → ShowsAnswer no_fit f d (part k l) xs answer → IsPlainAnswer no_fit f d l answer
   plain (Ok page) (inl shows) = record { not_held = λ p bad. absurd cc; none_fits = λ bad. absurd cc; no_space = λ none. absurd (none.offered page (offered_fits page shows)) }
   plain (Ok page) (inr shows) = record { not_held = λ p bad. absurd cc; none_fits = λ bad. absurd cc; no_space = λ none. absurd (none.bare page (bare_page page shows)) }
-  plain (Err NoSpace) shows = record { not_held = λ p bad. absurd cc; none_fits = λ is. none_serves shows; no_space = λ none. refl }
+  plain (Err NoSpace) shows = record { not_held = λ p bad. absurd cc; none_fits = λ is. none_serves no_fit f k l d xs fewer legal lends shows.searched shows.deeds shows.quiet; no_space = λ none. refl }
   plain (Err (NoRoom.Held page)) shows = absurd (nobody_holds page shows.0 shows.1)
 
 -- after rest a search alone finds what there is

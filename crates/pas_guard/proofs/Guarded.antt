@@ -1,12 +1,12 @@
 -- A guard that is up stays as it is, step by step.
 use Rattle.std.proofs.Common.{◌≡◌, ℕ, arith, ◌/◌, ◌==◌, Bool, true, false, if◌then◌else◌, List, [], ◌∷◌, ◌++◌, refl, ap, sym, ◌∙◌, subst, true≢false, inl, inr}
-use Rattle.std.proofs.Common.{eqb-true, eq-eqb, bit_or, ◌+◌, ◌<◌, ◌^◌, ◌||◌, length-append, append_assoc, ne_eqb, ◌≤◌, ◌≢◌, length, ◌%◌, ◌&&◌, ◌⊎◌}
+use Rattle.std.proofs.Common.{eqb-true, eq-eqb, bit_or, ◌+◌, ◌<◌, ◌^◌, ◌||◌, length-append, append_assoc, ne_eqb, ◌≤◌, ◌≢◌, ◌%◌, ◌&&◌, ◌⊎◌}
 use Rattle.std.proofs.lemmas.Bool.{cases_Bool, Decides.nat_tests, or_right, cases_lt}
 use Rattle.pas_profile.specs.{Layouts.same_word, Profiles.IsValid, Directories.number_of}
 use Rattle.pas_profile.specs.declared.{directory.Directory.Directory, profile.Profile.Profile, name.Block.Block}
 use Rattle.pas_profile.proofs.Codecs.{deed_word_of-positive}
 use Rattle.pas_steps.specs.{Allowed.Allowed, Effects.target, Effects.new_value, Past.Since, Desks.Standing, Desks.CanCall, Agreement.Agrees, Agreement.Agreed}
-use Rattle.pas_steps.specs.{Evidence.GetsRight, Evidence.GetsHere, Evidence.KeptHere, Past.Once, Past.Always}
+use Rattle.pas_steps.specs.{Evidence.GetsRight, Evidence.GetsHere, Evidence.KeptHere, Past.Once, Past.Always, Kinds.apart}
 use Rattle.pas_steps.specs.Lists.{Triple, Whole, part, word_after, IsNext, Legal}
 use Rattle.pas_steps.specs.Views.{View, Stays, Gives, held_after, grain_move, holds, known_deed, KnowsDeed, has_right, Way, ByDeed, FromOffer, FromParked}
 use Rattle.pas_steps.specs.Views.{ToOffer, ToParked, Rests, had_after, right_after}
@@ -14,28 +14,25 @@ use Rattle.pas_steps.specs.declared.step.{Made.Made, Step.Step}
 use Rattle.pas_steps.specs.declared.step.Step.TheVariants.{Look, Back, Deed, TakeRight, Offer, Park, Unpark}
 use Rattle.pas_core.proofs.{Deeds.looked, Deeds.known_is, Grains.one_holder, Rights.deeds_known}
 use Rattle.pas_large.specs.Claims.{StaysPut, in_span, HasPages, HoldsSpan, Releases}
-use Rattle.pas_large.specs.{Gives.GaveRun, Gives.GivesRun, Pages.of_pages, Pages.GotPages, Evidence.TakenWholeHere, Evidence.DeedsBelow, Evidence.DeedsRise}
-use Rattle.pas_large.specs.{Finds.MayFind, Pages.OnlyDeedsShow}
+use Rattle.pas_large.specs.{Gives.GaveRun, Gives.GivesRun, Pages.of_pages, Pages.GotPages, Evidence.TakenWholeHere, Finds.MayFind}
 use Rattle.pas_guard.specs.{Raises.BacksNot, Evidence.BackedReadHere, Seeks.LeftSince, Guards.given_and_left, Guards.GuardsRun, Books.is_outer_of}
 use Rattle.pas_guard.specs.{Lowers.MayLower, Lowers.lowered, Lowers.Lowers, Seeks.HasSpan}
 use Rattle.pas_guard.specs.Guarded.{StandsGuard, LeavesGuard, KeepsGuard, GivesOn, IsUntouched, AreUntouched}
 use Rattle.pas_rights.specs.{Leaves.MayLeave, Leaves.Leaves, Gives.give_steps, Puts.masked, Words.full}
 use Rattle.pas_steps.specs.Calls.{Calls, Kept, Lost, ClearAfter, Does, on_page, Gained, now, nothing}
 use Rattle.pas_steps.proofs.Called.{call_then, next_call, call_as, call_knows}
-use Rattle.pas_steps.proofs.{Calls.does_as, Calls.does_then, Sets.both_fates, Sets.kept_kept, Apart.only_both, Past.always_map, Apart.no_events}
-use Rattle.pas_steps.proofs.{Unknown.unknown_no_more}
+use Rattle.pas_steps.proofs.{Calls.does_as, Calls.does_then, Sets.both_fates, Sets.kept_kept, Apart.only_both, Past.always_map}
 use Rattle.pas_large.proofs.Claims.{call_knowing, span_in, in_parts, span_none, got_both}
 use Rattle.pas_scan.specs.Runs.{large_directory}
 use Rattle.pas_rights.specs.PutsBack.{giving_back, given_back, MayPutAndReturn, PutsAndReturns, put_and_left, GivesDuly, PutsAndLeaves}
 use Rattle.pas_rights.proofs.{Orders.on_full, Orders.since_kept, Puts.put_and_leave_due}
 use Rattle.pas_guard.specs.declared.book.Guard.{Guard}
 use Rattle.pas_steps.proofs.Frames.{rights_stay, right_on, knows_still, right_own}
-use Rattle.pas_large.proofs.Pages.{shows_both, undone, since_more, below_both, below_none, from_none, rise_none, rise_both}
+use Rattle.pas_large.proofs.Pages.{undone, since_more}
 use Rattle.pas_steps.specs.Frames.{OnlyOn, IsOnPage, GivesUp, KeepsRight}
 use Rattle.pas_search.specs.Kinds.{IsReturnOf, ReturnsDuly}
 use Rattle.pas_bits.specs.Bits.{has_bit}
 use Rattle.pas_scan.proofs.LeftPages.{holds_own}
-use Rattle.pas_steps.specs.Kinds.{Kinds, Deeding, is_in, Only, apart, showing}
 use Rattle.pas_search.proofs.PagesThatServe.{return_page, duly_in}
 use Rattle.pas_profile.specs.declared.word.Word.TheVariants as Words
 
@@ -450,19 +447,6 @@ pub claim_keeps : (f : Profile) (d : Directory) (p : ℕ) (v : View) (zs : List 
 claim_keeps f d p v [] agreed duly knows right = (tt, λ h. h)
 claim_keeps f d p v (m ∷ zs) agreed duly knows right =
     let rest = claim_keeps f d p v zs agreed.1 duly.1 knows right in grind (arith, rest, knows_still, gives_back, not_got_again, rights_stay)
-
--- ---- steps that make no deed
-pub rise_later : (ks : Kinds) (end : ℕ) (ys xs : List Made) → is_in ks Deeding ≡ false → Only ks ys → DeedsBelow end xs → DeedsRise xs → DeedsRise (ys ++ xs)
-rise_later ks end ys xs none only below rise = rise_both end ys xs (rise_none ks ys none only) rise (from_none ks end ys none only) below
-
--- Steps that show no event, after steps of which deeds alone show some, leave it so.
-pub shows_later : (ks : Kinds) → apart ks showing ≡ true → (f : Profile) (ys xs : List Made) → Only ks ys → OnlyDeedsShow f xs → OnlyDeedsShow f (ys ++ xs)
-shows_later ks none f ys xs only = shows_both f ys xs
-    (λ k v agreed. let no = ap (λ es. length es) (no_events ks none k v ys only) in let stays = unknown_no_more f ys v agreed in omega (arith, no, stays))
-
--- Steps without a deed keep all deeds below a page.
-pub below_later : (ks : Kinds) (end : ℕ) (ys xs : List Made) → is_in ks Deeding ≡ false → Only ks ys → DeedsBelow end xs → DeedsBelow end (ys ++ xs)
-below_later ks end ys xs none only below = below_both end ys xs (below_none ks end ys none only) below
 
 -- ---- a right that steps have they got, where they take back only what they got
 by_deed : (p q : ℕ) (d : Directory) (a : ℕ) (had x y : Bool) → (q == p) ≡ x → (a == 0) ≡ y → had_after (if x && y then ByDeed else Rests) had ≡ true

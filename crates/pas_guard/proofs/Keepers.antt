@@ -1,11 +1,10 @@
 -- While a keeper's guard is up, its outer pages stand whole and bare.
 use Rattle.std.proofs.Common.{◌≡◌, ℕ, ◌+◌, ◌/◌, ◌<◌, ◌==◌, Bool, true, false, ◌||◌, if◌then◌else◌, ◌⊎◌, List, [], ◌∷◌, ◌++◌, length, inl, inr, refl, ap, sym}
 use Rattle.std.proofs.Common.{◌∙◌, subst, arith, append_assoc, append-nil, true≢false, Option, Some, None, Contains, slice_index_or, eqb-true, eq-eqb}
-use Rattle.std.proofs.lemmas.Bool.{cases_Bool, Decides.nat_tests, or_right}
+use Rattle.std.proofs.lemmas.Bool.{cases_Bool, or_right, Decides.nat_tests}
 use Rattle.std.proofs.lemmas.List.Elements.{Contains-append_right, Contains-push_cases, Contains-append_left, Contains-push}
 use Rattle.pas_profile.specs.{Profiles.IsValid, Blocks.address_of}
 use Rattle.pas_profile.specs.declared.{directory.Directory.Directory, name.Block.Block, profile.Profile.Profile}
-use Rattle.pas_report.specs.declared.record.Record.{Record}
 use Rattle.pas_scan.specs.Runs.{large_directory}
 use Rattle.pas_steps.specs.{Agreement.Agreed, Effects.in_mask, Past.Once, Past.Always, Clear.IsClear}
 use Rattle.pas_steps.specs.Kinds.{Kinds, Giving, Only, is_in, kind_of, Backing, returning}
@@ -26,6 +25,7 @@ use Rattle.pas_guard.proofs.Guarded.{head_same, stands_on, own_keep, guard_begin
 use Rattle.pas_guard.proofs.Raises.{raised_backs, raised_pages, raised_leaves, kept_steady, no_backs, after_steady, after_unbacked, fits_find}
 use Rattle.pas_rights.specs.{Gives.give_steps, Puts.PutsHere, PutsBack.BackSteps, Words.full}
 use Rattle.pas_rights.proofs.Orders.{full_set, full_word}
+use Rattle.pas_records.specs.declared.record.Record.{Record}
 
 -- ==== The list of all actors, and the steps of one.
 
@@ -92,7 +92,7 @@ agreed_of f (t ∷ l) k (x ∷ xs) v valid legal is = elim (cases_Bool (t.actor 
 -- ==== Steps that leave a page alone.
 
 -- What is so always in a list is so in its older steps.
-pub older_always : (P : Made → List Made → Type 0) (ys xs : List Made) → Always P (ys ++ xs) → Always P xs
+older_always : (P : Made → List Made → Type 0) (ys xs : List Made) → Always P (ys ++ xs) → Always P xs
 older_always P [] xs h = h
 older_always P (y ∷ ys) xs h = older_always P ys xs h.1
 
@@ -127,22 +127,22 @@ at_cases : (g : Guard) (gs : List Guard) (x : Guard) (k : ℕ) → k < length (g
 at_cases g gs x k lt is = search arith
 
 -- A guard that a list contains is its first or one of the others.
-pub first_or_later : (g : Guard) (gs : List Guard) (x : Guard) → Contains (g ∷ gs) x → (g ≡ x) ⊎ Contains gs x
+first_or_later : (g : Guard) (gs : List Guard) (x : Guard) → Contains (g ∷ gs) x → (g ≡ x) ⊎ Contains gs x
 first_or_later g gs x has = at_cases g gs x has.0 has.1 has.2
 
 -- An empty list contains no guard.
-pub none_in : (x : Guard) → Contains [] x → ⊥
+none_in : (x : Guard) → Contains [] x → ⊥
 none_in x has = omega (arith, has.1)
 
 -- The low page of a guard is an outer one of it.
-pub low_outer : (g : Guard) → is_outer_of g g.low ≡ true
+low_outer : (g : Guard) → is_outer_of g g.low ≡ true
 low_outer g = ap (λ t. t || (g.high == g.low)) (eq-eqb g.low g.low refl)
 
 high_outer : (g : Guard) → is_outer_of g g.high ≡ true
 high_outer g = or_right (g.low == g.high) (g.high == g.high) (eq-eqb g.high g.high refl)
 
 -- an outer page of one of them is one of the book
-pub outer_in : (gs : List Guard) (x : Guard) (p : ℕ) → Contains gs x → is_outer_of x p ≡ true → is_outer gs p ≡ true
+outer_in : (gs : List Guard) (x : Guard) (p : ℕ) → Contains gs x → is_outer_of x p ≡ true → is_outer gs p ≡ true
 outer_in [] x p has is = absurd (none_in x has)
 outer_in (g ∷ gs) x p has is = elim (first_or_later g gs x has) [
   | inl same ↦ ap (λ y. is_outer_of y p || is_outer gs p) same ∙ ap (λ t. t || is_outer gs p) is
@@ -195,7 +195,7 @@ module _ {f : Profile} {keeper : ℕ} {guards : List Guard} {l : Whole} {before 
   old_stands guard has = between_on f l keeper guard first before at.valid at.legal begin (book_before.each guard has)
 
 -- ---- the place between two parts of the steps
-pub split_at : (rest first after searched : List Made) → rest ++ first ≡ after ++ searched
+split_at : (rest first after searched : List Made) → rest ++ first ≡ after ++ searched
     → ((x : List Made) × (first ≡ x ++ searched) × (after ≡ rest ++ x)) ⊎ ((y : List Made) × (searched ≡ y ++ first) × (rest ≡ after ++ y))
 split_at [] first after searched e = inl (after, e, refl)
 split_at (r ∷ rest) first [] searched e = inr (r ∷ rest, sym e, refl)
@@ -205,7 +205,7 @@ split_at (r ∷ rest) first (a ∷ after) searched e = let both = head_same r a 
 ]
 
 -- steps of kinds among which a give isn't, as those of a search
-pub none_gives : (ks : Kinds) (guard : Guard) (xs : List Made) → is_in ks Giving ≡ false → Only ks xs → Once (GivesBlockOf guard) xs → ⊥
+none_gives : (ks : Kinds) (guard : Guard) (xs : List Made) → is_in ks Giving ≡ false → Only ks xs → Once (GivesBlockOf guard) xs → ⊥
 none_gives ks guard [] other only h = h
 none_gives ks guard (m ∷ xs) other only (inl h) = true≢false (sym only.0 ∙ ap (λ s. is_in ks (kind_of s)) h ∙ other)
 none_gives ks guard (m ∷ xs) other only (inr h) = none_gives ks guard xs other only.1 h
@@ -244,7 +244,8 @@ module _ {f : Profile} {keeper heap k : ℕ} {guards guards' : List Guard} {answ
 
     own_leaves : (p : ℕ) → in_span (r.first + 1) (r.first + 1 + k) p ≡ false → LeavePage p x
     own_leaves p out = leave_older p rest x (record {
-      stays = λ g on. subst (StaysPut g) (sym r.after_is ∙ after_is) (after_steady d r.first k r.word r.answer block r.block_is r.left r.backs (raised_leaves r) (raised_backs r) g (ap (in_span (r.first + 1) _) on ∙ out));
+      stays = λ g on. subst (StaysPut g) (sym r.after_is ∙ after_is) (after_steady d r.first k r.word r.answer block r.block_is r.left r.backs (raised_leaves r)
+          (raised_backs r) g (ap (in_span (r.first + 1) _) on ∙ out));
       backs = subst (BacksNot p) (sym r.after_is ∙ after_is) (after_unbacked d r.first k r.word r.answer block r.block_is r.left r.backs (raised_leaves r) (raised_pages r) p out);
     })
 
@@ -360,7 +361,7 @@ agreed_all : (f : Profile) (l : Whole) (k : ℕ) → IsValid f → Legal f l →
 agreed_all f l k valid legal = agreed_of f l k (part k l) [] valid legal (sym (append-nil (part k l)))
 
 -- the keeper goes on by the steps `later`
-pub up_stands : (f : Profile) (keeper : ℕ) (guard : Guard) (later : List Made) (l : Whole) → IsValid f → Legal f l → Agreed f [] (later ++ part keeper l)
+up_stands : (f : Profile) (keeper : ℕ) (guard : Guard) (later : List Made) (l : Whole) → IsValid f → Legal f l → Agreed f [] (later ++ part keeper l)
     → IsUp f keeper guard later (part keeper l) → StandsBetween l keeper guard
 up_stands f keeper guard later l valid legal agreed up =
     let steps = up.rest ++ up.first in
@@ -379,7 +380,7 @@ at_the_end keeper guard [] older stands = stands
 at_the_end keeper guard (t ∷ newer) older stands = stands.0
 
 -- it stands on at one place more
-pub one_more : (f : Profile) (keeper : ℕ) (guard : Guard) (t : Triple) (newer older : Whole) → IsValid f → Legal f (t ∷ (newer ++ older))
+one_more : (f : Profile) (keeper : ℕ) (guard : Guard) (t : Triple) (newer older : Whole) → IsValid f → Legal f (t ∷ (newer ++ older))
     → StandsBetween (t ∷ (newer ++ older)) keeper guard → StandsThrough keeper guard newer older
     → StandsThrough keeper guard (t ∷ newer) older
 one_more f keeper guard t newer older valid legal after so_far =

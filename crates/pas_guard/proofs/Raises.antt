@@ -12,8 +12,8 @@ use Rattle.pas_steps.specs.Desks.{Standing, CanCall, Seat, AnyView}
 use Rattle.pas_steps.specs.Agreement.{Agreed}
 use Rattle.pas_steps.specs.Kinds.{Kinds, Backing, Only, is_in, kind_of, returning, LookLife}
 use Rattle.pas_steps.specs.declared.step.{Step.TheVariants.Back, Step.TheVariants.Give, Made.Made}
-use Rattle.pas_steps.proofs.{Past.always_map, Past.always_both, Called.next_call, Calls.leads_at, Frames.knows_still, SpareRoom.Spares, Apart.only_within}
-use Rattle.pas_steps.proofs.{Apart.only_both, Called.call_none, Calls.does_idly}
+use Rattle.pas_steps.proofs.{Past.always_map, Past.always_both, Called.next_call, Called.call_none, Calls.leads_at, Calls.does_idly, Frames.knows_still}
+use Rattle.pas_steps.proofs.{SpareRoom.Spares, Apart.only_within, Apart.only_both}
 use Rattle.pas_large.proofs.Gives.{run_is}
 use Rattle.pas_guard.proofs.Seeks.{steady_kinds}
 use Rattle.pas_steps.specs.Views.{View, Stays, grain_move, holds, has_right, known_deed, KnowsDeed}
@@ -27,8 +27,8 @@ use Rattle.pas_guard.specs.{Guards.left_last_first, Guards.GuardedRun, Guards.Gu
 use Rattle.pas_guard.specs.Raises.{BacksNot, RaiseRoom, guard_of, Raises, IsRaised}
 use Rattle.pas_guard.specs.Seeks.{seeking, HoldsWhole, HasSpan, Seeks}
 use Rattle.pas_guard.specs.declared.book.Guard.{Guard}
-use Rattle.pas_report.specs.declared.record.Record.{Record}
 use Rattle.pas_guard.specs.Sweeps.{is_over, life_look, LooksOver, lowered_record, SweptOne, Swept, sweeping, Sweeps}
+use Rattle.pas_records.specs.declared.record.Record.{Record}
 
 -- ---- books with a guard more
 or_false : (t : Bool) → (t || false) ≡ t
@@ -48,12 +48,12 @@ each_more P [] guard h last = (last, tt)
 each_more P (g ∷ gs) guard h last = (h.0, each_more P gs guard h.1 last)
 
 -- What is so of each guard of a book is so in any weaker form.
-pub each_map : (P Q : Guard → Type 0) (gs : List Guard) → ((g : Guard) → P g → Q g) → Each P gs → Each Q gs
+each_map : (P Q : Guard → Type 0) (gs : List Guard) → ((g : Guard) → P g → Q g) → Each P gs → Each Q gs
 each_map P Q [] f h = tt
 each_map P Q (g ∷ gs) f h = (f g h.0, each_map P Q gs f h.1)
 
 -- Guards whose deeds are known are known where no deed is forgotten.
-pub each_known : (v w : View) (gs : List Guard) → ((p : ℕ) (e : Directory) → KnowsDeed p e v → KnowsDeed p e w) → Each (KnowsGuard v) gs
+each_known : (v w : View) (gs : List Guard) → ((p : ℕ) (e : Directory) → KnowsDeed p e v → KnowsDeed p e w) → Each (KnowsGuard v) gs
     → Each (KnowsGuard w) gs
 each_known v w gs knows = each_map (KnowsGuard v) (KnowsGuard w) gs
     (λ g h. let e = large_directory g.block.heap in record { low = knows g.low e h.low; high = knows g.high e h.high })
@@ -63,7 +63,7 @@ turned : (a b : ℕ) → (a == b) ≡ false → (b == a) ≡ false
 turned a b h = ne_eqb b a (λ e. true≢false (sym (eq-eqb a b (sym e)) ∙ h))
 
 -- the new guard has other pages than this one
-pub other_guard : (a b : Guard) → is_outer_of a b.low ≡ false → is_outer_of a b.high ≡ false → (is_outer_of b a.low ≡ false) × (is_outer_of b a.high ≡ false)
+other_guard : (a b : Guard) → is_outer_of a b.low ≡ false → is_outer_of a b.high ≡ false → (is_outer_of b a.low ≡ false) × (is_outer_of b a.high ≡ false)
 other_guard a b low high = search (arith, or_parts, or_from, turned)
 
 apart_more : (gs : List Guard) (guard : Guard) → AreApart gs → is_outer gs guard.low ≡ false → is_outer gs guard.high ≡ false → AreApart (gs ++ guard ∷ [])
@@ -282,7 +282,8 @@ module _ {σ σ1 : Standing} (heap k first : ℕ) (gs : List Guard) (seek : Seek
           returns = seek.returns;
           shows = seek.shows;
           steady = λ v met agreed x is. let before = agreed_later f_ v after seek.steps agreed in
-              steady_both x after seek.steps (after_steady d_ first k g.word g.answer block g.block_is g.left g.backs left (only_backs (first + 1) k g.backs g.back_order) x (inner (x / 256) (out v met before (x / 256) is)))
+              steady_both x after seek.steps (after_steady d_ first k g.word g.answer block g.block_is g.left g.backs left
+              (only_backs (first + 1) k g.backs g.back_order) x (inner (x / 256) (out v met before (x / 256) is)))
               (seek.steady v (fits_find f_ d_ gs v met) before (x / 256) (whole_outer f_ gs v met (x / 256) is) x refl);
           unbacked = λ v met agreed p is. let apart = inner p (out v met (agreed_later f_ v after seek.steps agreed) p is) in backs_both p after seek.steps
               (after_unbacked d_ first k g.word g.answer block g.block_is g.left g.backs left (backs_in (first + 1) k g.backs g.back_order) p apart)

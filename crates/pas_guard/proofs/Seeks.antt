@@ -2,40 +2,39 @@
 use Rattle.std.proofs.Common.{ℕ, ◌+◌, ◌*◌, ◌/◌, ◌<◌, ◌≤◌, ◌==◌, Bool, true, false, ◌||◌, MatchBool, List, [], ◌∷◌, ◌++◌, refl, ◌∙◌, inl, inr, ◌⊎◌, arith}
 use Rattle.std.proofs.Common.{Option, ◌≡◌, ◌≢◌, Some, None, ap, sym, subst, append_assoc, true≢false, length, length-append, eqb-true, eq-eqb, append-nil}
 use Rattle.std.proofs.lemmas.Bool.{cases_lt, cases_eq, cases_Bool}
-use Rattle.pas_large.proofs.Claims.{narrower, steady_on, steady_both, out_of, span_in, in_parts, span_past, has_got, room_after, alone_on, deeds_below}
-use Rattle.pas_large.proofs.Claims.{deeds_from}
+use Rattle.pas_large.proofs.Claims.{narrower, steady_on, steady_both, out_of, span_in, in_parts, span_past, has_got, room_after, alone_on, orderly_claim}
 use Rattle.pas_bits.specs.Bits.{has_bit}
 use Rattle.pas_profile.specs.declared.{directory.Directory.Directory, profile.Profile.Profile, word.Word.Word}
 use Rattle.pas_rights.specs.{Puts.masked, PutsBack.giving_back, PutsBack.MayPutAndLeave, PutsBack.PutsAndLeaves, Words.full}
 use Rattle.pas_rights.proofs.Orders.{keeps_by}
 use Rattle.pas_scan.specs.Runs.{page_looks, IsFirstRun, HasNoRun, HasUnusable, FindsRun}
-use Rattle.pas_scan.specs.Usable.{ReadUsable, UnusableHere, LeftAlone, ParksNotHere, MakesNoDeedHere, WholeHere}
-use Rattle.pas_scan.proofs.LeftPages.{usable_before, usable_later, unusable_before, left_alone_by, lacks_by, holds_own}
+use Rattle.pas_scan.specs.Usable.{ReadUsable, UnusableHere, WholeHere}
+use Rattle.pas_scan.proofs.LeftPages.{usable_before, usable_later, unusable_before, left_alone_by, lacks_by}
 use Rattle.pas_steps.specs.{Agreement.Agrees, Agreement.Agreed, Evidence.ReadsFree, Frames.KeepsRight, Past.Once, Past.Always, Past.Since}
 use Rattle.pas_steps.specs.{Unknown.unknown_pages}
 use Rattle.pas_steps.specs.Calls.{Calls, Leads, nothing, Does}
 use Rattle.pas_steps.specs.Desks.{Seat, Standing, AnyView, Adds, CanCall, Makes, made}
 use Rattle.pas_steps.specs.declared.step.{Step.Step, Made.Made, Step.TheVariants.Deed, Step.TheVariants.Look}
-use Rattle.pas_steps.specs.Kinds.{Kinds, Deeding, Only, kind_of, is_in, apart, moving, showing, within, changing}
+use Rattle.pas_steps.specs.Kinds.{Kinds, Only, kind_of, is_in, apart, moving, within, changing}
 use Rattle.pas_steps.specs.Views.{View, held_after, holds, has_right, KnowsDeed}
 use Rattle.pas_steps.proofs.Adding.{adds_none, adds_step, adds_call, agreed_first, agreed_later}
-use Rattle.pas_steps.proofs.Apart.{in_apart, grain_same, only_both, only_within, holds_same}
-use Rattle.pas_steps.proofs.{Called.call_then, Called.next_call, Frames.right_own, Frames.right_on, Frames.knows_still, SpareRoom.Spares, Evidence.unknown}
+use Rattle.pas_steps.proofs.{Apart.in_apart, Apart.grain_same, Apart.holds_same, Called.call_then, Called.next_call, Frames.right_own, Frames.right_on}
+use Rattle.pas_steps.proofs.{Frames.knows_still, SpareRoom.Spares, Evidence.unknown}
 use Rattle.pas_steps.proofs.Calls.{does_none, does_idly, leads_none, leads_at}
 use Rattle.pas_steps.proofs.Past.{once_later, once_earlier, once_map, always_both, always_map}
 use Rattle.pas_search.specs.Kinds.{ReturnsDuly}
 use Rattle.pas_search.proofs.PagesThatServe.{duly_both, duly_none}
 use Rattle.pas_large.specs.Claims.{StaysPut, in_span, MayClaimPages, HasRunRoom, AloneFrom, DeedsIn, HasPages, Releases, ClaimsRun, HoldsRun, FailsRun}
 use Rattle.pas_large.specs.Claims.{HoldsSpan}
-use Rattle.pas_large.specs.Evidence.{LostHere, BrokenHere, BadHere, AllUsable, FailsHere, HasFailed, DeedsOf, DeedsBelow, DeedsRise}
-use Rattle.pas_large.specs.{Finds.MayFind, Finds.FindRoom, Pages.OnlyDeedsShow, Pages.claiming}
-use Rattle.pas_large.proofs.Finds.{DeedOf, bad_later, alone_looks, knew, deeds_map, may_find}
-use Rattle.pas_large.proofs.Pages.{shows_both, below_both, below_wider, rise_both}
-use Rattle.pas_guard.proofs.Guarded.{shows_later, no_span, span_kept, span_beside, span_joined, claim_keeps, span_of_none, span_then, span_lost, span_both}
-use Rattle.pas_guard.proofs.Guarded.{out_later, but_first, span_slid, span_has, span_holds, span_spares, rise_later, below_later, release_duly, first_duly}
+use Rattle.pas_large.specs.Evidence.{LostHere, BrokenHere, BadHere, AllUsable, FailsHere, HasFailed, DeedsOf}
+use Rattle.pas_large.specs.Finds.{MayFind, FindRoom}
+use Rattle.pas_large.proofs.Finds.{DeedOf, bad_later, alone_looks, knew, deeds_map, may_find, deeds_later, alone_later}
+use Rattle.pas_guard.proofs.Guarded.{no_span, span_kept, span_beside, span_joined, claim_keeps, span_of_none, span_then, span_lost, span_both, out_later}
+use Rattle.pas_guard.proofs.Guarded.{but_first, span_slid, span_has, span_holds, span_spares, release_duly, first_duly}
 use Rattle.pas_guard.specs.Evidence.{BackedReadHere, HoldsRunWhole, OuterBackedHere, IsBad, OuterFailsHere, HasFailedOnce}
 use Rattle.pas_guard.specs.Guarded.{LeavesGuard}
 use Rattle.pas_guard.specs.Seeks.{LeftSince, backed_looks, ZeroBackedHere, SomeBackedHere, LooksBacked, HoldsWhole, HasSpan, seeking, Seeks}
+use Rattle.pas_large.proofs.Pages.{Orderly, orderly_later, orderly_wider}
 
 -- ---- evidence, and later steps
 bad_more : (v : View) (d : Directory) (k s : ℕ) (ys xs : List Made) → IsBad v d k s xs → IsBad v d k s (ys ++ xs)
@@ -50,11 +49,6 @@ Failed v d k from steps s = (s < from) × HasFailedOnce v d k s steps
 
 abbrev Chosen : View → Directory → ℕ → ℕ → ℕ → List Made → ℕ → Type 0
 Chosen v d k from free steps s = ((s ≡ from) × (free ≡ from + (k + 2))) ⊎ Failed v d k from steps s
-
--- steps that make no deed, after deeds of runs that are chosen in a stronger way
-deeds_later : (ks : Kinds) (d : Directory) (n : ℕ) (P Q : ℕ → Type 0) (ys xs : List Made) → ((s : ℕ) → P s → Q s) → is_in ks Deeding ≡ false → Only ks ys
-    → DeedsOf d n P xs → DeedsOf d n Q (ys ++ xs)
-deeds_later ks d n P Q ys xs more none only deeds = search (arith, always_both, true≢false, deeds_map)
 
 -- an outer page that was looked at while the run was held
 some_is_one : (f : Profile) (v : View) (page : ℕ) (m : Made) → SomeBackedHere page m [] → Agrees f v m.step m.answer → m.answer ≡ 1
@@ -80,17 +74,6 @@ outer_zero v page [] ss only held h = absurd h
 outer_zero v page (m ∷ ls) ss only held (inl h) = inl (h.0, h.1, λ g at. ap (λ s. holds s g) (append_assoc ls ss v) ∙ holds_same backed_looks refl g ls (ss ++ v) only.1 ∙ held g at)
 outer_zero v page (m ∷ ls) ss only held (inr h) = inr (look_leaves page m only.0, outer_zero v page ls ss only.1 held h)
 
--- looks at backed words leave each page alone
-alone_still : (p : ℕ) (ys xs : List Made) → Only backed_looks ys → LeftAlone p xs → LeftAlone p (ys ++ xs)
-alone_still p ys xs looks alone =
-    let own = left_alone_by backed_looks refl refl p ys looks in
-    record {
-      right = right_own p ys xs alone.right ∙ own.right;
-      none = λ g at. holds_own g ys xs (alone.none g at) ∙ own.none g at;
-      parks = always_both (ParksNotHere p) (ParksNotHere p) ys xs (λ m before h. h) own.parks alone.parks;
-      deeds = always_both (MakesNoDeedHere p) (MakesNoDeedHere p) ys xs (λ m before h. h) own.deeds alone.deeds;
-    }
-
 -- ---- pages that were held whole before
 pub steady_kinds : (ks : Kinds) → apart ks moving ≡ true → (g : ℕ) (ys : List Made) → Only ks ys → StaysPut g ys
 steady_kinds ks none g ys only = search (arith, always_map, grain_same, in_apart)
@@ -105,17 +88,6 @@ steady_later ks f d ys xs none only still v met agreed p whole g at = search (ar
 -- each run that begins below this page can't be guarded
 abbrev BadBelow : Profile → Directory → ℕ → ℕ → List Made → Type 0
 BadBelow f d k from steps = (v : View) → MayFind d v → Agreed f v steps → (s : ℕ) → 1 ≤ s → s < from → IsBad v d k s steps
-
--- the steps are of a search's kinds, and their deeds rise, are below this page and alone show events
-pub record Orderly (f : Profile) (end : ℕ) (steps : List Made) : Type 0 where
-  pub kinds : Only seeking steps
-  pub rise : DeedsRise steps
-  pub below : DeedsBelow end steps
-  pub shows : OnlyDeedsShow f steps
-
-orderly_later : (ks : Kinds) {f : Profile} {end : ℕ} (ys xs : List Made) → is_in ks Deeding ≡ false → apart ks showing ≡ true → within ks seeking ≡ true
-    → Only ks ys → Orderly f end xs → Orderly f end (ys ++ xs)
-orderly_later ks {f} {end} ys xs none shows_none within only o = search (arith, only_both, only_within, rise_later, below_later, shows_later)
 
 -- a grain that stays put is held still, and isn't got by the steps
 still_held : (g : ℕ) (ys : List Made) (v : View) → StaysPut g ys → holds (ys ++ v) g ≡ holds v g
@@ -154,7 +126,7 @@ pub record Sought (d : Directory) (k from free next : ℕ) (desk desk' : Standin
   pub steps : List Made
   pub adds : Adds desk desk' (MayFind d) steps
   pub got : Leads desk.seat.profile (MayFind d) (HasSpan d from free) steps
-  pub orderly : Orderly desk.seat.profile free steps
+  pub orderly : Orderly seeking desk.seat.profile free steps
   pub lacks : (p : ℕ) → in_span from free p ≡ false → has_right steps p ≡ false
   pub returns : Always ReturnsDuly steps
   pub low : 1 ≤ from
@@ -260,7 +232,7 @@ module _ {σ σ1 : Standing} {d : Directory} {k from free next : ℕ} (so : Soug
     looked : Calls σ σ2 (MayFind d) (HasSpan d from free) (ys ++ xs)
     looked = idle_call page_looks ys refl find.kinds find.adds
 
-    looked_orderly : Orderly f free (ys ++ xs)
+    looked_orderly : Orderly seeking f free (ys ++ xs)
     looked_orderly = orderly_later page_looks ys xs refl refl refl find.kinds so.orderly
 
     looked_returns : Always ReturnsDuly (ys ++ xs)
@@ -282,7 +254,12 @@ module _ {σ σ1 : Standing} {d : Directory} {k from free next : ℕ} (so : Soug
     bad_here : (v : View) (s other : ℕ) → next ≤ other → s ≤ other → other < s + (k + 2) → HasUnusable d 1 other ys → IsBad v d k s (ys ++ xs)
     bad_here v s other past low high h =
         let at = h.1 in let ge = at.0 in let lt = at.1 in let order = so.order.1 in
-        inl (h.0, (omega (arith, ge, low), omega (arith, lt, high)), once_map (UnusableHere d h.0) (BadHere d h.0) (ys ++ xs) (λ m b x. inl x) (unusable_before d h.0 ys xs (so.alone h.0 (omega (arith, ge, past, order))) h.2))
+        inl (
+          h.0,
+          (omega (arith, ge, low), omega (arith, lt, high)),
+          once_map (UnusableHere d h.0) (BadHere d h.0) (ys ++ xs) (λ m b x. inl x)
+              (unusable_before d h.0 ys xs (so.alone h.0 (omega (arith, ge, past, order))) h.2),
+        )
 
     -- where not all pages of a run are held
     looked_deeds : (rs : List Made) → free < from + (k + 2) → (v : View) (met : MayFind d v) → Agreed f v (ys ++ xs)
@@ -359,8 +336,7 @@ module _ {σ σ1 : Standing} {d : Directory} {k from free next : ℕ} (so : Soug
         steps = rs ++ (ys ++ xs);
         adds = calls.adds;
         got = record { from = λ v met agreed. span_of_none d page (calls.leads.from v met agreed) };
-        orderly = let o = orderly_later giving_back rs (ys ++ xs) refl refl refl r.kinds (looked_orderly find) in
-            record { kinds = o.kinds; rise = o.rise; below = below_wider free page (rs ++ (ys ++ xs)) (omega (arith, order, past)) o.below; shows = o.shows };
+        orderly = orderly_wider free page (rs ++ (ys ++ xs)) (omega (arith, order, past)) (orderly_later giving_back rs (ys ++ xs) refl refl refl r.kinds (looked_orderly find));
         lacks = λ p out. r.lacks (ys ++ xs) p (λ out. looked_lacks find p out);
         returns = release_duly d from free (looked find) can (looked_returns find) r;
         low = omega (arith, low, first, order, past);
@@ -410,13 +386,8 @@ module _ {σ σ1 : Standing} {d : Directory} {k from free next : ℕ} (so : Soug
       claim_adds : Adds σ σ2 (MayFind d) (zs ++ xs)
       claim_adds = adds_call so.adds claim.adds (λ v l stood met. (so_call.leads.from v met (so.adds.agreed v l stood met)).1)
 
-      claim_orderly : (stop : ℕ) → free ≤ stop → DeedsIn d free stop zs → Orderly f stop (zs ++ xs)
-      claim_orderly stop le made = record {
-        kinds = only_both seeking zs xs (only_within claiming seeking zs refl claim.kinds) so.orderly.kinds;
-        rise = rise_both free zs xs claim.rise so.orderly.rise (deeds_from d free next zs claim.made) so.orderly.below;
-        below = below_both stop zs xs (deeds_below d free stop stop zs (omega arith) made) (below_wider free stop xs le so.orderly.below);
-        shows = shows_both f zs xs (subst (λ x. OnlyDeedsShow x zs) same claim.shows) so.orderly.shows;
-      }
+      claim_orderly : (stop : ℕ) → free ≤ stop → DeedsIn d free stop zs → Orderly seeking f stop (zs ++ xs)
+      claim_orderly stop le made = orderly_claim claim xs stop same refl le made so.orderly
 
       claim_returns : Always ReturnsDuly (zs ++ xs)
       claim_returns = duly_both zs xs claim.returns so.returns
@@ -457,7 +428,7 @@ module _ {σ σ1 : Standing} {d : Directory} {k from free next : ℕ} (so : Soug
       pub can_release_lost : CanCall σ (MayFind d) → CanCall σ2 (HasPages d from free)
       can_release_lost can = can_release lost_call can
 
-      lost_orderly : Orderly f (page + 1) (ws ++ xs)
+      lost_orderly : Orderly seeking f (page + 1) (ws ++ xs)
       lost_orderly = claim_orderly claim (page + 1) (omega (arith, fails.in_run.0)) fails.made
 
       lost_lacks : (p : ℕ) → in_span from free p ≡ false → has_right (ws ++ xs) p ≡ false
@@ -570,7 +541,7 @@ module _ {σ σ1 σ2 : Standing} {d : Directory} {k from next : ℕ} (so : Sough
   look_call : Calls σ σ2 (MayFind d) (HasSpan d from next) (ls ++ us)
   look_call = idle_call so backed_looks ls refl looks.kinds looks.adds
 
-  look_orderly : Orderly g_ next (ls ++ us)
+  look_orderly : Orderly seeking g_ next (ls ++ us)
   look_orderly = orderly_later backed_looks ls us refl refl refl looks.kinds so.orderly
 
   look_returns : Always ReturnsDuly (ls ++ us)
@@ -640,7 +611,8 @@ module _ {σ σ1 σ2 : Standing} {d : Directory} {k from next : ℕ} (so : Sough
     outer : (v : View) (met : MayFind d v) → Agreed σ.seat.profile v (ls_ ++ us_) → Once (OuterFailsHere v d k from) (ls_ ++ us_)
     outer v met agreed =
         let f = σ.seat.profile in let before = agreed_later f v ls_ us_ agreed in let had = held_run so _ whole last looks v met before in let R = HeldRun v d k _ in elim looks.outcome [
-          | inl low ↦ once_map _ _ _ (λ m b x. (x.0.0, (x.0.1, inl x.1))) (outer_some f v from R ls_ us_ had looks.kinds agreed (held_page so high whole last looks v met before from (omega arith) (omega (arith, whole))) low)
+          | inl low ↦ once_map _ _ _ (λ m b x. (x.0.0, (x.0.1, inl x.1))) (outer_some f v from R ls_ us_ had looks.kinds agreed
+              (held_page so high whole last looks v met before from (omega arith) (omega (arith, whole))) low)
           | inr up ↦ once_map (λ m b. R b × BackedReadHere v high 1 m b) (OuterFailsHere v d k from) (ls_ ++ us_) (λ m b x. (x.0.0, search (arith, high_is)))
               (outer_some f v high R ls_ us_ had looks.kinds agreed (held_page so high whole last looks v met before high (omega (arith, whole, last)) (omega (arith, last))) up)
         ]
@@ -687,10 +659,11 @@ module _ {σ σ1 σ2 : Standing} {d : Directory} {k from next : ℕ} (so : Sough
           holding = λ v met agreed. let before = agreed_later f v ps (ls_ ++ us_) agreed in
               let held = span_kept from next ls_ us_ (λ p ge lt. keeps_by p backed_looks ls_ refl looks.kinds) (so.holding v met (agreed_later f v ls_ us_ before)) in
               span_beside from _ next ps _ h.on (λ p ge lt e. absurd (omega (arith, e, ge))) (record { right = λ p ge lt. held.right p (omega (arith, ge)) lt; whole = λ p word ge lt small. held.whole p word (omega (arith, ge)) lt small });
-          alone = λ p ge. alone_on from p ps (ls_ ++ us_) h.on (λ e. absurd (omega (arith, e, ge, whole))) (alone_still p ls_ us_ looks.kinds (so.alone p ge));
+          alone = λ p ge. alone_on from p ps (ls_ ++ us_) h.on (λ e. absurd (omega (arith, e, ge, whole))) (alone_later backed_looks p ls_ us_ refl refl looks.kinds (so.alone p ge));
           steady = λ v met agreed p kept_whole g at. let before = agreed_later f v ps (ls_ ++ us_) agreed in
               let out = held_apart so v met (agreed_later f v ls_ us_ before) p kept_whole g at in
-              steady_both g ps (ls_ ++ us_) (steady_on from g ps h.on (out_of from next (g / 256) from out (omega arith) (omega (arith, whole)))) (look_steady so high whole last looks v met before p kept_whole g at);
+              steady_both g ps (ls_ ++ us_) (steady_on from g ps h.on (out_of from next (g / 256) from out (omega arith) (omega (arith, whole))))
+              (look_steady so high whole last looks v met before p kept_whole g at);
           bad = λ v met agreed s one under. let before = agreed_later f v ps (ls_ ++ us_) agreed in bad_more v d k s ps (ls_ ++ us_) (elim (cases_lt s from) [
             | inl below ↦ bad_still so ls_ v met before s one below
             | inr above ↦ (let e : from ≡ s = omega (arith, above, under) in inr (subst (λ x. Once (OuterBackedHere v k x) (ls_ ++ us_)) e (once_map _ _ (ls_ ++ us_) (λ m b x. x.1) (outer v met before))))

@@ -3,7 +3,7 @@
 use Rattle.std.specs.Prelude.{ℕ, ◌+◌, ◌*◌, ◌≡◌, ◌⊎◌, Bool, false, List, [], ◌∷◌, ◌++◌, Contains, Option}
 use Rattle.pas_profile.specs.Blocks.{address_of}
 use Rattle.pas_profile.specs.declared.{name.Block.Block, profile.Profile.Profile}
-use Rattle.pas_report.specs.declared.record.Record.{Record}
+use Rattle.pas_records.specs.declared.record.Record.{Record}
 use Rattle.pas_scan.specs.Runs.{large_directory}
 use Rattle.pas_steps.specs.{Agreement.Agreed, Lists.Triple, Lists.Whole, Lists.part, Past.Once, Past.Always}
 use Rattle.pas_steps.specs.declared.step.{Made.Made, Step.TheVariants.Give, Step.TheVariants.Put}

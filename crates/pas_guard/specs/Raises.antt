@@ -61,7 +61,8 @@ pub record RaiseSteps (f : Profile) (heap k : ℕ) (guards guards' : List Guard)
   pub few : length steps ≤ 71 * f.pages + 12 * k + 26
   pub steady : (v : View) → FitsBook f guards v → Agreed f v steps → (g : ℕ) → is_outer guards (g / 256) ≡ true → StaysPut g steps
   pub unbacked : (v : View) → FitsBook f guards v → Agreed f v steps → (page : ℕ) → is_outer guards page ≡ true → BacksNot page steps
-  pub outcome : MatchOption answer (IsNotRaised f (large_directory heap) k guards guards' searched after) (IsRaised f (large_directory heap) k guards guards' searched after)
+  pub outcome : MatchOption answer (IsNotRaised f (large_directory heap) k guards guards' searched after)
+      (IsRaised f (large_directory heap) k guards guards' searched after)
 
 pub record Raises (heap k : ℕ) (guards guards' : List Guard) (desk desk' : Standing) (answer : Option Block) : Type 0 where
   pub steps : List Made

@@ -2,7 +2,7 @@
 use Rattle.std.specs.Prelude.{ℕ, ◌/◌, ◌%◌, ◌*◌, ◌≤◌, ◌≡◌, nat_lt, Bool, true, false, ◌||◌, List, [], ◌∷◌, ◌++◌, length}
 use Rattle.pas_profile.specs.{Lives.turn_of, Blocks.address_of}
 use Rattle.pas_profile.specs.declared.{profile.Profile.Profile, word.Word.Word as TheWord, word.Word.Word}
-use Rattle.pas_report.specs.declared.record.{Record.Record, Said.Said}
+use Rattle.pas_records.specs.declared.record.{Record.Record, Said.Said}
 use Rattle.pas_rights.specs.PutsBack.{giving_back}
 use Rattle.pas_steps.specs.{Calls.Leads, Kinds.Kinds, Kinds.LookLife, Kinds.Only}
 use Rattle.pas_steps.specs.Desks.{Standing, AnyView, Adds, made}

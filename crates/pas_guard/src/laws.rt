@@ -10,7 +10,7 @@ ghost use Rattle.pas_guard.specs.{Evidence.BackedReadHere, Seeks.LeftSince, Rais
 ghost use Rattle.pas_guard.specs.{Guarded.AreUntouched};
 ghost use Rattle.pas_guard.specs.Books.{is_outer_of, is_outer, AreApart, FitsBook};
 ghost use Rattle.pas_guard.specs.declared.book.Guard.{Guard as TheGuard};
-ghost use Rattle.pas_report.specs.declared.record.Record.{Record};
+ghost use Rattle.pas_records.specs.declared.record.Record.{Record};
 ghost use Rattle.pas_guard.specs.Keepers.{Call, MakesCall, MakesCalls, GivesBlockOf, PutsNoneOf, IsUpIn, IsUpThrough, IsKeeper, IsBeside, GivesGuarded};
 ghost use Rattle.pas_guard.specs.Keepers.{StandsThrough};
 

@@ -1,7 +1,7 @@
 //! Guards whose blocks have ended are lowered.
 ghost use Rattle.std.specs.Prelude.{◌≡◌, ◌≤◌, ◌+◌, ◌/◌, ◌%◌, length};
 ghost use Rattle.pas_profile.specs.{Profiles.IsPage, Blocks.address_of};
-ghost use Rattle.pas_report.specs.Rooms.{records_in, room_of};
+ghost use Rattle.pas_records.specs.Rooms.{records_in, room_of};
 ghost use Rattle.pas_steps.specs.Desks.{AnyView, CanCall};
 ghost use Rattle.pas_guard.specs.{Books.guards_in, Books.size_of_book, Books.FitsBook, Sweeps.LooksOver, Sweeps.Sweeps};
 
@@ -9,7 +9,7 @@ use crate::book::{Guard, GuardBook};
 use crate::lowering::lower;
 use pas_profile::limits::{GRAIN_BYTES, PAGE_BYTES};
 use pas_profile::{Word, read_life};
-use pas_report::{Record, Records, Said};
+use pas_records::{Record, Records, Said};
 use pas_steps::Desk;
 
 /// Whether the guard goes down: its block has ended, by a look at the life word of its first grain, or all are to go.

@@ -16,7 +16,7 @@ use Rattle.pas_scan.specs.{Runs.page_looks, Usable.LeftAlone}
 use Rattle.pas_large.specs.Pages.{of_pages, GotPages, MayClaim, DeedsOn, OnlyDeedsShow, claiming, claiming_old, LosesPage, BreaksPage, WinsPage, ClaimsPage}
 use Rattle.pas_large.specs.Claims.{in_span, MayClaimPages, HasRunRoom, AloneFrom, DeedsIn, HoldsSpan, FailsAt, ClaimsPages, HasPages, Releases, ClaimsRun}
 use Rattle.pas_large.specs.Claims.{LacksAll, StaysPut}
-use Rattle.pas_search.specs.Kinds.{IsReturnOf, ReturnsDuly}
+use Rattle.pas_search.specs.Kinds.{ReturnsDuly}
 use Rattle.pas_search.proofs.PagesThatServe.{duly_both, duly_in, return_page}
 use Rattle.pas_rights.proofs.{Puts.put_and_leave_due, Orders.on_full}
 use Rattle.pas_large.proofs.Pages.{DeedsFrom, from_on, rise_later, rise_both, Orderly, below_both, below_wider, MadeHere, since_more, undone, no_deeds}
@@ -180,11 +180,11 @@ deeds_wider : (d : Directory) (first stop end : ℕ) (xs : List Made) → stop �
 deeds_wider d first stop end xs le = search (arith, always_map)
 
 -- Deeds of pages of a span are of pages below each end behind it.
-pub deeds_below : (d : Directory) (first stop end : ℕ) (xs : List Made) → stop ≤ end → DeedsIn d first stop xs → DeedsBelow end xs
+deeds_below : (d : Directory) (first stop end : ℕ) (xs : List Made) → stop ≤ end → DeedsIn d first stop xs → DeedsBelow end xs
 deeds_below d first stop end xs le = search (arith, always_map)
 
 -- Deeds of pages of a span are of pages from its first one on.
-pub deeds_from : (d : Directory) (first stop : ℕ) (xs : List Made) → DeedsIn d first stop xs → DeedsFrom first xs
+deeds_from : (d : Directory) (first stop : ℕ) (xs : List Made) → DeedsIn d first stop xs → DeedsFrom first xs
 deeds_from d first stop xs = search (arith, always_map)
 
 -- The claim of a run leaves steps in order, where it begins behind their deeds.
@@ -429,9 +429,6 @@ OnSpan first end m before = (p : ℕ) × (in_span first end p ≡ true) × IsOnP
 off_span : (first end p : ℕ) (ys : List Made) → in_span first end p ≡ false → Always (OnSpan first end) ys → OffPage p ys
 off_span first end p ys out = search (arith, always_map, true≢false)
 
-abbrev ReturnsHere : (ℕ → Bool) → Made → List Made → Type 0
-ReturnsHere pages m before = (p : ℕ) → IsReturnOf p m.step → pages p ≡ true
-
 -- A page that was put back and left makes the pages of its run that are left one more.
 pub left_more : {σ σ1 σ2 : Standing} (d : Directory) → IsDirectory d → (first page : ℕ) → first ≤ page → Releases d first page σ σ1
     → PutsAndLeaves page d full σ1 σ2 → Releases d first (page + 1) σ σ2
@@ -515,7 +512,8 @@ module _ {σ σ1 : Standing} {deeds : Bool} {d : Directory} {first end stop : �
         adds = calls.adds;
         kinds = only_both claiming r.steps h.steps (only_within giving_back claiming r.steps refl r.kinds) h.kinds;
         old = λ none. only_both claiming_old r.steps h.steps (only_within giving_back claiming_old r.steps refl r.kinds) (h.old none);
-        returns = duly_in _ r.steps h.steps r.within (r.due h.steps (own_held can) (always_map _ _ h.steps (λ m before is. is.1) h.returns)) (λ p is. let at = in_parts first stop p is in h.gets p at.0 at.1) h.returns;
+        returns = duly_in _ r.steps h.steps r.within (r.due h.steps (own_held can) (always_map _ _ h.steps (λ m before is. is.1) h.returns))
+            (λ p is. let at = in_parts first stop p is in h.gets p at.0 at.1) h.returns;
         made = deeds_wider d first (stop + 1) end (r.steps ++ h.steps) (omega (arith, before_end)) made_below;
         rise = rise_later giving_back (stop + 1) r.steps h.steps refl r.kinds (deeds_below d first _ (stop + 1) h.steps (omega arith) h.made) h.rise;
         shows = shows_both _ r.steps h.steps (shows_taking σ.seat.profile r.steps (only_within giving_back taking_grains r.steps refl r.kinds)) h.shows;

@@ -1,7 +1,7 @@
 -- The search for a run that can be claimed, one run more.
-use Rattle.pas_steps.proofs.{SpareRoom.Spares, Frames.right_own, Apart.only_within, Frames.deed_stays, Evidence.unknown, Apart.only_both}
+use Rattle.pas_steps.proofs.{SpareRoom.Spares, Frames.right_own, Frames.deed_stays, Apart.only_within, Apart.only_both, Evidence.unknown}
 use Rattle.std.proofs.Common.{ℕ, ◌+◌, ◌<◌, ◌≤◌, List, [], ◌++◌, refl, ◌∙◌, inl, inr, ◌⊎◌, arith, Option, ◌≡◌, true, Some, None, ap, sym, subst, append_assoc}
-use Rattle.std.proofs.Common.{true≢false, false, length, ◌*◌, length-append, Bool, append-nil, ◌∷◌, Result, MatchResult, Ok, Err}
+use Rattle.std.proofs.Common.{true≢false, false, length, ◌*◌, length-append, Bool, append-nil, ◌∷◌, Result, MatchResult, Ok, Err, MatchOption}
 use Rattle.std.proofs.lemmas.Bool.{cases_lt, cases_eq}
 use Rattle.pas_profile.specs.declared.{directory.Directory.Directory, profile.Profile.Profile, event.NoRoom.NoRoom, name.Block.Block}
 use Rattle.pas_steps.specs.{Views.View, Views.known_deed, Views.KnowsDeed, Agreement.Agreed, Past.Once, Past.Always, Calls.Leads, Calls.nothing, Calls.Does}
@@ -12,20 +12,19 @@ use Rattle.pas_steps.specs.declared.step.{Made.Made, Step.TheVariants.Deed}
 use Rattle.pas_steps.proofs.Past.{once_later, once_earlier, once_map, always_both, always_map}
 use Rattle.pas_scan.specs.Usable.{DeedReadHere, UnusableHere, LeftAlone, ReadUsable}
 use Rattle.pas_scan.proofs.LeftPages.{usable_before, usable_later, unusable_before, left_alone_by, holds_own, deed_before, lacks_by}
-use Rattle.pas_search.specs.Kinds.{ReturnsDuly}
+use Rattle.pas_search.specs.{Kinds.ReturnsDuly, Alone.IsLone}
 use Rattle.pas_search.proofs.PagesThatServe.{duly_both, duly_none}
 use Rattle.pas_large.specs.Evidence.{LostHere, BrokenHere, BadHere, HasBad, IsVain, AllUsable, FailsHere, HasFailed, DeedsOf}
-use Rattle.pas_large.specs.{Pages.OnceAfter, Telling.IsUsableRun, Telling.IsLowestRun, Gives.pages_from, Gives.run_block, Pages.OnlyDeedsShow}
-use Rattle.pas_large.specs.{Pages.claiming_old}
+use Rattle.pas_large.specs.{Pages.OnceAfter, Pages.OnlyDeedsShow, Pages.claiming_old, Gives.pages_from, Gives.run_block}
 use Rattle.pas_large.specs.Claims.{AloneFrom, DeedsIn, FailsRun, in_span, MayClaimPages, HasRunRoom, LacksAll, ClaimsRun, HoldsRun}
 use Rattle.pas_steps.specs.Desks.{Seat, Standing, Adds, CanCall, triples}
 use Rattle.pas_steps.proofs.Adding.{Tells, adds_none, adds_call, agreed_first, agreed_later, legal_after}
 use Rattle.pas_steps.proofs.Calls.{does_none, leads_none, leads_idly, leads_then, does_then, still_clear}
 use Rattle.pas_profile.specs.{Directories.IsKind, Profiles.IsValid}
 use Rattle.pas_core.proofs.{Nexts.agreed_steps, OneActor.lends_none, OneActor.legal_earlier}
-use Rattle.pas_large.proofs.{Told.usable_told, Told.has_unusable, Told.fails_told, Claims.orderly_claim, Claims.room_after, Claims.got_after}
+use Rattle.pas_large.proofs.{Claims.orderly_claim, Claims.room_after, Claims.got_after, Told.never_fails, Told.lowest_alone, Told.none_alone}
 use Rattle.pas_large.proofs.Left.{parks_both, deeds_both, only_backs, backs_few, only_leaves}
-use Rattle.pas_large.specs.Finds.{MayFind, FindRoom, finding, Finds}
+use Rattle.pas_large.specs.Finds.{MayFind, FindRoom, finding, Finds, FoundRun, FoundNone, LooksAlone, IsToldFind}
 use Rattle.pas_large.proofs.Pages.{Orderly, orderly_later, orderly_wider, known_of, shows_both}
 use Rattle.pas_large.specs.Allocates.{GaveLarge, IsAllocatedLarge, IsRefusedLarge, IsServedNamed, IsScanned}
 use Rattle.pas_rights.specs.Gives.{give_steps}
@@ -71,7 +70,7 @@ abbrev pub LostAfter : List Made → Directory → ℕ → Made → List Made �
 LostAfter xs d page m b = LostHere d page m (b ++ xs) ⊎ BrokenHere page m (b ++ xs)
 
 -- Where it was lost once or broken once, it was one of both.
-pub lost_after : (xs : List Made) (d : Directory) (page : ℕ) (zs : List Made) → OnceAfter xs (LostHere d page) zs ⊎ OnceAfter xs (BrokenHere page) zs
+lost_after : (xs : List Made) (d : Directory) (page : ℕ) (zs : List Made) → OnceAfter xs (LostHere d page) zs ⊎ OnceAfter xs (BrokenHere page) zs
     → Once (LostAfter xs d page) zs
 lost_after xs d page zs lost = search (arith, once_map)
 
@@ -168,13 +167,9 @@ pub record SearchedRuns (d : Directory) (n from next : ℕ) (desk desk' : Standi
   pub vain : VainSoFar d n from next steps
   pub deeds : DeedsOf d n (λ other. HasFailed d n other steps) steps
 
--- nothing was done yet
-abbrev pub IsFirst : ℕ → ℕ → List Made → Type 0
-IsFirst from next steps = (from ≡ 1) × (next ≡ 1) × (steps ≡ [])
-
--- .. where no other actor made a step between these
-abbrev pub IsFirstAlone : Profile → Directory → ℕ → ℕ → List Made → Type 0
-IsFirstAlone f d from next steps = (k : ℕ) (l : Whole) → Legal f (triples k steps ++ l) → MayFind d (part k l) → IsFirst from next steps
+-- nothing was done yet, where no other actor made a step between these
+abbrev pub IsFirstAlone : Profile → Directory → List Made → Type 0
+IsFirstAlone f d steps = (k : ℕ) (l : Whole) → Legal f (triples k steps ++ l) → MayFind d (part k l) → steps ≡ []
 
 -- Before the first run is looked for, the search passed none.
 pub searched_none : {σ : Standing} (d : Directory) (n : ℕ) → 1 ≤ n → SearchedRuns d n 1 1 σ σ
@@ -198,6 +193,18 @@ none_searched σ d n some = refl
 
 abbrev pub may_find : {σ : Standing} {f : Profile} {d : Directory} {n spare : ℕ} → CanCall σ (FindRoom f d n spare) → CanCall σ (MayFind d)
 may_find can = record { view = can.view; whole = can.whole; stood = can.stood; met = can.met.may }
+
+-- On a desk that tells the whole state the steps of a search came onto it with none of another actor between them.
+lone_call : {σ σ' : Standing} (d : Directory) (steps : List Made) → Adds σ σ' (MayFind d) steps → Tells σ' → Only finding steps → Always ReturnsDuly steps
+    → (v : View) (l : Whole) → σ.stands v l → MayFind d v → IsLone σ.seat.profile σ.seat.actor l steps
+lone_call d steps adds tells kinds returns v l stood met = record { legal = legal_after adds tells v l stood met; lends_none = lends_none finding refl steps kinds; returns = returns }
+
+-- What such a search found is told of that state.
+find_told : (f : Profile) (k : ℕ) (l : Whole) (d : Directory) (n : ℕ) (steps : List Made) → IsKind d.kind → MayFind d (part k l) → IsLone f k l steps
+    → (found : Option ℕ) → MatchOption found (FoundNone f d n steps) (FoundRun f d n steps) → (found ≡ None → LooksAlone f d steps)
+    → IsToldFind f d n l steps found
+find_told f k l d n steps kind met lone None none looked = (none_alone f k l d n kind met steps lone none, looked refl k l lone.legal met)
+find_told f k l d n steps kind met lone (Some first) found looked = lowest_alone f k l d n kind met first steps lone found
 
 module _ {σ σ1 : Standing} {d : Directory} {n from next : ℕ} (so_far : SearchedRuns d n from next σ σ1) (low : 1 ≤ from) where
   abbrev f : Profile
@@ -229,42 +236,41 @@ module _ {σ σ1 : Standing} {d : Directory} {n from next : ℕ} (so_far : Searc
     same : σ1.seat.profile ≡ f
     same = ap (λ (s : Seat). s.profile) so_far.adds.seat_is
 
-    -- on a desk that tells the whole state these are the first looks
+    -- where these are the first steps they are looks alone
     looks_alone : xs ≡ [] → Only looking ys
     looks_alone none = only_within page_looks looking ys refl find.kinds
 
     all_alone : xs ≡ [] → ys ++ xs ≡ ys
     all_alone none = ap (λ zs. ys ++ zs) none ∙ append-nil ys
 
-    legal_alone : Tells σ2 → xs ≡ [] → (v : View) (l : Whole) → σ.stands v l → MayFind d v → Legal f (triples σ.seat.actor ys ++ l)
-    legal_alone tells none v l stood met = subst (λ zs. Legal f (triples σ.seat.actor zs ++ l)) (all_alone none) (legal_after look_adds tells v l stood met)
-
   -- the scan found none
-  pub finds_none : {σ2 : Standing} (tells : Bool) → (tells ≡ true → Tells σ2) → (tells ≡ true → (from ≡ 1) × (next ≡ 1) × (xs ≡ []))
-      → IsFirstAlone f d from next xs → FindsRun d from next n σ1 σ2 None → Finds d n tells σ σ2 None
-  finds_none tells laws first alone find = record {
-    told = λ t v l stood met.
-        let at = first t in
-        let legal = legal_alone find (laws t) at.2 v l stood met in
-        let only = looks_alone find at.2 in
-        let none = subst (λ x. HasNoRun x d from next n find.steps) (same find) find.outcome in
-        (λ start low le usable. has_unusable f _ l d n start _ legal only (none.runs start (omega (arith, at.0, low)) le) usable, subst (Only looking) (sym (all_alone find at.2)) only);
-    steps = find.steps ++ xs;
-    adds = look_adds find;
-    kinds = (look_orderly find).kinds;
-    returns = look_returns find;
-    shows = (look_orderly find).shows;
-    few = (let k = length-append find.steps xs in let e = ap (λ x. x.pages) (same find) in omega (arith, k, find.few, so_far.few, so_far.within, e, so_far.vain.order.0));
-    outcome = record {
-      still = look_still find;
-      vain = vain_ends f d n from next find.steps xs low so_far.vain (subst (λ x. HasNoRun x d from next n find.steps) (same find) find.outcome);
-      deeds = deeds_later page_looks d n (λ s. HasFailed d n s xs) (λ s. HasFailed d n s (find.steps ++ xs)) find.steps xs
-          (λ s h. once_later _ find.steps xs h) refl find.kinds so_far.deeds;
-      rise = (look_orderly find).rise;
-      lacks = look_lacks find;
-    };
-    looked = λ none k l legal met. let at = alone k l (legal_earlier f k find.steps xs l legal) met in subst (Only looking) (sym (all_alone find at.2)) (looks_alone find at.2);
-  }
+  pub finds_none : {σ2 : Standing} (tells : Bool) → (tells ≡ true → Tells σ2) → (tells ≡ true → (v : View) (l : Whole) → σ.stands v l → part σ.seat.actor l ≡ v)
+      → IsKind d.kind → IsFirstAlone f d xs → FindsRun d from next n σ1 σ2 None → Finds d n tells σ σ2 None
+  finds_none tells laws parts kind alone find =
+      let steps : List Made = find.steps ++ xs in
+      let kinds : Only finding steps = (look_orderly find).kinds in
+      let looked : LooksAlone f d steps = (λ k l legal met.
+      let none = alone k l (legal_earlier f k find.steps xs l legal) met in subst (Only looking) (sym (all_alone find none)) (looks_alone find none)) in
+      let outcome : FoundNone f d n steps = record {
+        still = look_still find;
+        vain = vain_ends f d n from next find.steps xs low so_far.vain (subst (λ x. HasNoRun x d from next n find.steps) (same find) find.outcome);
+        deeds = deeds_later page_looks d n (λ s. HasFailed d n s xs) (λ s. HasFailed d n s (find.steps ++ xs)) find.steps xs
+            (λ s h. once_later _ find.steps xs h) refl find.kinds so_far.deeds;
+        rise = (look_orderly find).rise;
+        lacks = look_lacks find;
+      } in
+      record {
+        steps = steps;
+        adds = look_adds find;
+        kinds = kinds;
+        returns = look_returns find;
+        shows = (look_orderly find).shows;
+        few = (let k = length-append find.steps xs in let e = ap (λ x. x.pages) (same find) in omega (arith, k, find.few, so_far.few, so_far.within, e, so_far.vain.order.0));
+        outcome = outcome;
+        looked = λ none. looked;
+        told = λ t v l stood met. find_told f _ l d n steps kind (subst (MayFind d) (sym (parts t v l stood)) met)
+            (lone_call d steps (look_adds find) (laws t) kinds (look_returns find) v l stood met) None outcome (λ none. looked);
+      }
 
   -- it found one
   module _ {σ2 : Standing} {first : ℕ} (find : FindsRun d from next n σ1 σ2 (Some first)) where
@@ -319,36 +325,15 @@ module _ {σ σ1 : Standing} {d : Directory} {n from next : ℕ} (so_far : Searc
           (λ m before h p e is z. let at = h p e is z in (at.0, (first, (at.1, at.2), usable_still so_far.vain run_at low find.kinds before, its)))
           claim.made (deeds_later page_looks d n (λ s. HasFailed d n s xs) P find.steps xs more refl find.kinds so_far.deeds)
 
-    -- where no other actor made a step between them all its pages are usable
-    usable_alone : (k : ℕ) (l : Whole) → Legal f (triples k find.steps ++ l) → (from ≡ 1) × (next ≡ 1) × (xs ≡ []) → IsUsableRun d n l first
-    usable_alone k l legal at p here =
-        let ge = run_at.from_there in let one = at.0 in let also = at.1 in let from_first = here.0 in
-        usable_told f k l d p find.steps legal (looks_alone find at.2) (run_at.usable p here (omega (arith, ge, one, also, from_first)))
-
-    lowest_told : (l : Whole) → Legal f (triples σ.seat.actor find.steps ++ l) → (from ≡ 1) × (next ≡ 1) × (xs ≡ []) → IsLowestRun f d n l first
-    lowest_told l legal at = record {
-      of_region = (omega (arith, run_at.from_there, low), run_at.of_region);
-      usable = usable_alone σ.seat.actor l legal at;
-      lowest = λ other some lt u. has_unusable f σ.seat.actor l d n other find.steps legal (looks_alone find at.2) (run_at.lower other (omega (arith, at.0, some)) lt) u;
-    }
-
-    -- and its claim doesn't fail
+    -- where no other actor made a step between these, the claim doesn't fail
     fails_alone : {σ3 : Standing} → IsKind d.kind → IsValid f → (page : ℕ) → (claim : ClaimsRun true d first (first + n) σ2 σ3 (Some page))
-        → (from ≡ 1) × (next ≡ 1) × (xs ≡ [])
         → (k : ℕ) (l : Whole) → Legal f (triples k (claim.steps ++ ls) ++ l) → MayFind d (part k l) → ⊥
-    fails_alone kind valid page claim at k l legal met =
-        let agreed = agreed_steps f k l (claim.steps ++ ls) valid legal in
+    fails_alone kind valid page claim k l legal met =
+        let steps : List Made = claim.steps ++ ls in
         let fails = subst (λ x. FailsRun true x d first (first + n) page claim.steps) (same2 claim) claim.outcome in
-        let looks = subst (λ zs. Legal f (triples k zs ++ l)) (all_alone find at.2) (legal_earlier f k claim.steps ls l legal) in
-        fails_told f k l d n first _ kind legal (lends_none finding refl (claim.steps ++ ls) (claim_orderly claim (first + n) (omega arith) claim.made).kinds)
-        (usable_alone k l looks at)
-        (λ p here. met.lacks p (knew f d p ls (part k l) (agreed_later f (part k l) claim.steps ls agreed) (usable p here)))
-        (run_has_failed so_far.vain run_at low find.kinds page claim.steps fails (part k l) agreed)
-
-    -- on a desk that tells the whole state
-    pub never_fails : {σ3 : Standing} → IsKind d.kind → IsValid f → Tells σ3 → (page : ℕ) → (claim : ClaimsRun true d first (first + n) σ2 σ3 (Some page))
-        → (from ≡ 1) × (next ≡ 1) × (xs ≡ []) → (can : CanCall σ (MayFind d)) → part σ.seat.actor can.whole ≡ can.view → ⊥
-    never_fails kind valid tells page claim at can own = fails_alone kind valid page claim at _ _ (legal_after (claim_adds claim) tells can.view _ can.stood can.met) (subst (MayFind d) (sym own) can.met)
+        let kinds = (claim_orderly claim (first + n) (omega arith) claim.made).kinds in
+        never_fails f k l d n kind met first steps (record { legal = legal; lends_none = lends_none finding refl steps kinds; returns = claim_returns claim })
+        (run_has_failed so_far.vain run_at low find.kinds page claim.steps fails (part k l) (agreed_steps f k l steps valid legal))
 
     -- its claim failed
     pub goes_on : {σ3 : Standing} → CanCall σ (MayFind d) → (page : ℕ) → ClaimsRun true d first (first + n) σ2 σ3 (Some page)
@@ -377,46 +362,47 @@ module _ {σ σ1 : Standing} {d : Directory} {n from next : ℕ} (so_far : Searc
 
     -- so nothing was done before, where no other actor made a step between these
     pub never_alone : {σ3 : Standing} → IsKind d.kind → IsValid f → (can : CanCall σ (MayFind d)) → (page : ℕ)
-        → (claim : ClaimsRun true d first (first + n) σ2 σ3 (Some page)) → IsFirstAlone f d from next xs
-        → IsFirstAlone f d (page + 1) (first + n) (goes_on can page claim).steps
+        → (claim : ClaimsRun true d first (first + n) σ2 σ3 (Some page)) → IsFirstAlone f d (goes_on can page claim).steps
     unfolding goes_on
-    never_alone kind valid can page claim alone k l legal met =
-        let before = legal_earlier f k find.steps xs l (legal_earlier f k claim.steps ls l legal) in
-        absurd (fails_alone kind valid page claim (alone k l before met) k l legal met)
+    never_alone kind valid can page claim k l legal met = absurd (fails_alone kind valid page claim k l legal met)
 
     -- it was claimed
-    pub finds_run : {σ3 : Standing} (tells : Bool) → (tells ≡ true → Tells σ2) → (tells ≡ true → (from ≡ 1) × (next ≡ 1) × (xs ≡ [])) → 1 ≤ n
+    pub finds_run : {σ3 : Standing} (tells : Bool) → (tells ≡ true → Tells σ3)
+        → (tells ≡ true → (v : View) (l : Whole) → σ.stands v l → part σ.seat.actor l ≡ v) → IsKind d.kind
         → ClaimsRun true d first (first + n) σ2 σ3 None → Finds d n tells σ σ3 (Some first)
-    finds_run tells laws alone some claim =
+    finds_run tells laws parts kind claim =
+        let steps : List Made = claim.steps ++ ls in
         let holds_it = subst (λ x. HoldsRun x d first (first + n) claim.steps) (same2 claim) claim.outcome in
         let span = holds_it.holding ls (first_alone so_far.vain run_at low find.kinds) in
         let orderly = claim_orderly claim (first + n) (omega arith) claim.made in
+        let outcome : FoundRun f d n steps first = record {
+          of_region = (omega (arith, run_at.from_there, low), run_at.of_region);
+          got = record {
+            from = λ v met agreed.
+                let before = agreed_later f v claim.steps ls agreed in
+                let does = (look_still find).from v met before in
+                rw (append_assoc claim.steps ls v) (got_after (in_span first (first + n)) d does (holds_it.got.from (ls ++ v) (run_may v met before) (agreed_first f v claim.steps ls agreed)));
+          };
+          taken = record {
+            usable = usable_still so_far.vain run_at low find.kinds claim.steps;
+            right = λ p is. span.right p is.0 is.1;
+            whole = λ p word is lt. span.whole p word is.0 is.1 lt;
+          };
+          lower = lower_bad so_far.vain run_at low find.kinds claim.steps;
+          rise = orderly.rise;
+          deeds = claim_deeds claim _ (inl refl) (λ s h. inr (once_later _ claim.steps ls (once_later _ find.steps xs h)));
+        } in
         record {
-          steps = claim.steps ++ ls;
+          steps = steps;
           adds = claim_adds claim;
-          told = λ t v l stood met. lowest_told l (legal_alone find (laws t) (alone t).2 v l stood met) (alone t);
           looked = λ none. cc;
           kinds = orderly.kinds;
           returns = claim_returns claim;
           shows = orderly.shows;
           few = (let k = length-append claim.steps ls in let j = length-append find.steps xs in omega (arith, k, j, find.few, so_far.few, holds_it.few, run_at.from_there, run_at.of_region));
-          outcome = record {
-            of_region = (omega (arith, run_at.from_there, low), run_at.of_region);
-            got = record {
-              from = λ v met agreed.
-                  let before = agreed_later f v claim.steps ls agreed in
-                  let does = (look_still find).from v met before in
-                  rw (append_assoc claim.steps ls v) (got_after (in_span first (first + n)) d does (holds_it.got.from (ls ++ v) (run_may v met before) (agreed_first f v claim.steps ls agreed)));
-            };
-            taken = record {
-              usable = usable_still so_far.vain run_at low find.kinds claim.steps;
-              right = λ p is. span.right p is.0 is.1;
-              whole = λ p word is lt. span.whole p word is.0 is.1 lt;
-            };
-            lower = lower_bad so_far.vain run_at low find.kinds claim.steps;
-            rise = orderly.rise;
-            deeds = claim_deeds claim _ (inl refl) (λ s h. inr (once_later _ claim.steps ls (once_later _ find.steps xs h)));
-          };
+          outcome = outcome;
+          told = λ t v l stood met. find_told f _ l d n steps kind (subst (MayFind d) (sym (parts t v l stood)) met)
+              (lone_call d steps (claim_adds claim) (laws t) orderly.kinds (claim_returns claim) v l stood met) (Some first) outcome (λ none. cc);
         }
 
 -- A request for whole pages, however its run was found: what its steps did.

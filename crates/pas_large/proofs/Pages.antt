@@ -375,7 +375,7 @@ pub rise_none : (ks : Kinds) (steps : List Made) → is_in ks Deeding ≡ false 
 rise_none ks steps none = search (arith, always_map, true≢false)
 
 -- Steps of kinds without a deed make deeds from any page on only, as they make none.
-pub from_none : (ks : Kinds) (first : ℕ) (steps : List Made) → is_in ks Deeding ≡ false → Only ks steps → DeedsFrom first steps
+from_none : (ks : Kinds) (first : ℕ) (steps : List Made) → is_in ks Deeding ≡ false → Only ks steps → DeedsFrom first steps
 from_none ks first steps none = search (arith, always_map, true≢false)
 
 -- any deed is of a page from the first on
@@ -400,12 +400,12 @@ pub rise_later : (ks : Kinds) (end : ℕ) (ys xs : List Made) → is_in ks Deedi
 rise_later ks end ys xs none only below rise = rise_both end ys xs (rise_none ks ys none only) rise (from_none ks end ys none only) below
 
 -- Steps that show no event, after steps of which deeds alone show some, leave it so.
-pub shows_later : (ks : Kinds) → apart ks showing ≡ true → (f : Profile) (ys xs : List Made) → Only ks ys → OnlyDeedsShow f xs → OnlyDeedsShow f (ys ++ xs)
+shows_later : (ks : Kinds) → apart ks showing ≡ true → (f : Profile) (ys xs : List Made) → Only ks ys → OnlyDeedsShow f xs → OnlyDeedsShow f (ys ++ xs)
 shows_later ks none f ys xs only = shows_both f ys xs
     (λ k v agreed. let no = ap (λ es. length es) (no_events ks none k v ys only) in let stays = unknown_no_more f ys v agreed in omega (arith, no, stays))
 
 -- Steps without a deed keep all deeds below a page.
-pub below_later : (ks : Kinds) (end : ℕ) (ys xs : List Made) → is_in ks Deeding ≡ false → Only ks ys → DeedsBelow end xs → DeedsBelow end (ys ++ xs)
+below_later : (ks : Kinds) (end : ℕ) (ys xs : List Made) → is_in ks Deeding ≡ false → Only ks ys → DeedsBelow end xs → DeedsBelow end (ys ++ xs)
 below_later ks end ys xs none only = below_both end ys xs (below_none ks end ys none only)
 
 -- The steps are of these kinds, and their deeds rise, are below this page and alone show events.

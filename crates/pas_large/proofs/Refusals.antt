@@ -32,12 +32,14 @@ other_word d p n j ne r = ne (read_block d p (Look (Word.Eligible n j)) r n j re
 
 -- A newer look at another word leaves what was read last of a page.
 older : (d : Directory) (p block a : ℕ) (steps : List Made) (t : Bool) → p / 64 < block → MatchBool t (LastOffered d p steps) (Once (ZeroHere d p) steps)
-    → MatchBool t (LastOffered d p (made (Look (Word.Eligible (number_of d) block)) a ∷ steps)) (Once (ZeroHere d p) (made (Look (Word.Eligible (number_of d) block)) a ∷ steps))
+    → MatchBool t (LastOffered d p (made (Look (Word.Eligible (number_of d) block)) a ∷ steps))
+    (Once (ZeroHere d p) (made (Look (Word.Eligible (number_of d) block)) a ∷ steps))
 older d p block a steps t lt h = search (arith, other_word)
 
 -- A look at the page's own word tells whether it was offered.
 newest : (d : Directory) (p block a : ℕ) (steps : List Made) (t : Bool) → block ≡ p / 64 → OnlyScans steps → has_bit a (p % 64) ≡ t
-    → MatchBool t (LastOffered d p (made (Look (Word.Eligible (number_of d) block)) a ∷ steps)) (Once (ZeroHere d p) (made (Look (Word.Eligible (number_of d) block)) a ∷ steps))
+    → MatchBool t (LastOffered d p (made (Look (Word.Eligible (number_of d) block)) a ∷ steps))
+    (Once (ZeroHere d p) (made (Look (Word.Eligible (number_of d) block)) a ∷ steps))
 newest d p block a steps true at scans bit = inl (ReadsEligible.Looks (number_of d) block refl at, bit, scans_lack steps p scans)
 newest d p block a steps false at scans bit = inl (ReadsEligible.Looks (number_of d) block refl at, bit, scans_lack steps p scans)
 

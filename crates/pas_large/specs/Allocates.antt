@@ -52,7 +52,8 @@ pub record AllocatesByScan (heap n : ℕ) (tells : Bool) (desk desk' : Standing)
   pub returns : Always ReturnsDuly searched
   pub shows : OnlyDeedsShow desk.seat.profile searched
   pub few : length (after ++ searched) ≤ 56 * desk.seat.profile.pages + 12 * n + 66
-  pub outcome : MatchResult answer (IsAllocatedLarge desk.seat.profile (large_directory heap) n searched after) (IsRefusedLarge desk.seat.profile (large_directory heap) n searched after)
+  pub outcome : MatchResult answer (IsAllocatedLarge desk.seat.profile (large_directory heap) n searched after)
+      (IsRefusedLarge desk.seat.profile (large_directory heap) n searched after)
   pub looked : (why : NoRoom) → answer ≡ Err why → LooksAlone desk.seat.profile (large_directory heap) searched
   pub told : tells ≡ true → (v : View) (l : Whole) → desk.stands v l → MayFind (large_directory heap) v
       → IsToldLarge desk.seat.profile (large_directory heap) n l (triples desk.seat.actor (after ++ searched) ++ l) answer

@@ -343,7 +343,8 @@ pub unback_young : (f : Profile) (pages : List Page) (places : List Place) (cove
     → IsFirst f es (Event.Unback k page epoch) Illegal.TooYoung
 unback_young f pages places covered es shows k page epoch within p is backed each young = record {
   applies = subst (λ (q : Page). epoch < q.epoch + f.age) is young;
-  others = unback_before f es k page epoch 8 (λ _. not_outside f page within) (λ _. backed_now es page p is backed) (λ _. untouched f pages places covered es shows page within each) (λ lt. absurd (omega (arith, lt)));
+  others = unback_before f es k page epoch 8 (λ _. not_outside f page within) (λ _. backed_now es page p is backed)
+      (λ _. untouched f pages places covered es shows page within each) (λ lt. absurd (omega (arith, lt)));
 }
 
 -- No reason applies to an unback of an empty backed page at an epoch that is late enough.
@@ -563,7 +564,8 @@ give_shows : (f : Profile) (pages : List Page) (places : List Place) (covered co
     → IsEach (grain_of block.name) (grain_of block.name + length_of block) (λ x. get_or covered' x false ≡ true)
     → ((y : ℕ) → y < grain_of block.name → get_or covered' y false ≡ get_or covered y false)
     → ((y : ℕ) → grain_of block.name + length_of block ≤ y → get_or covered' y false ≡ get_or covered y false)
-    → Shows f pages (set places (grain_of block.name) (record { lives = true; heap = block.heap; room = block.room; gives = gives + 1 })) covered' (Event.Give k block ∷ es)
+    → Shows f pages (set places (grain_of block.name) (record { lives = true; heap = block.heap; room = block.room; gives = gives + 1 })) covered'
+    (Event.Give k block ∷ es)
 give_shows f pages places covered covered' es shows k block may gives is low set' below above = record {
   run = (may, shows.run);
   pages_are = shows.pages_are;

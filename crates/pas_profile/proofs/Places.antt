@@ -40,7 +40,8 @@ same_place pages heaps (Word.Backed a) (Word.Backed c) hx hy e = both (Word.Back
 same_place pages heaps (Word.Stamp a) (Word.Stamp c) hx hy e = both (Word.Stamp a) (Word.Stamp c) refl refl (omega (arith, hx, hy, e))
 same_place pages heaps (Word.Parked a) (Word.Parked c) hx hy e = both (Word.Parked a) (Word.Parked c) refl refl (omega (arith, hx, hy, e))
 same_place pages heaps (Word.Empty a) (Word.Empty c) hx hy e = both (Word.Empty a) (Word.Empty c) refl refl (omega (arith, hx, hy, e))
-same_place pages heaps (Word.Eligible a b) (Word.Eligible c d) hx hy e = let s = same_from_place a b c d (vector_words pages) hx.1 hy.1 (omega (arith, e)) in both (Word.Eligible a b) (Word.Eligible c d) refl s.0 s.1
+same_place pages heaps (Word.Eligible a b) (Word.Eligible c d) hx hy e = let s = same_from_place a b c d (vector_words pages) hx.1 hy.1 (omega (arith, e)) in
+    both (Word.Eligible a b) (Word.Eligible c d) refl s.0 s.1
 same_place pages heaps x y hx hy e = absurd (omega (arith, hx, hy, e))
 
 -- distinct words have distinct places

@@ -35,7 +35,7 @@ pub class_passes : (test : ℕ → Bool) → of_each_class test ≡ true → (cl
 class_passes test all class is = passes_at test 20 class all is
 
 -- what has a size is a class
-pub class_from_size : (class : ℕ) → 1 ≤ class_size class → IsClass class
+class_from_size : (class : ℕ) → 1 ≤ class_size class → IsClass class
 class_from_size class some = search (arith, cases_lt, get_or_past)
 
 -- The size of each class is at most 1,024 bytes.
@@ -51,14 +51,14 @@ pub count_of : (pages classes : ℕ) → AreClassesFor pages classes → IsClass
 count_of pages classes is = search (arith, or_cases, or_right, or_left, and_parts)
 
 -- There are at most so many sizes as classes.
-pub sizes_le : (classes : ℕ) → length (sizes_of classes) ≤ classes
+sizes_le : (classes : ℕ) → length (sizes_of classes) ≤ classes
 sizes_le classes = omega (arith, length-take classes class_sizes)
 
 sizes_are : (classes : ℕ) → classes ≤ 20 → length (sizes_of classes) ≡ classes
 sizes_are classes few = length-take-le classes class_sizes few
 
 -- The size in the list at a class is the size of that class.
-pub size_at : (classes class : ℕ) → class < classes → get_or (sizes_of classes) class 0 ≡ class_size class
+size_at : (classes class : ℕ) → class < classes → get_or (sizes_of classes) class 0 ≡ class_size class
 size_at classes class lt = get_or-take classes class_sizes class 0 lt
 
 size_le : (classes class : ℕ) → get_or (sizes_of classes) class 0 ≤ class_size class
@@ -161,8 +161,9 @@ pub route_found : (classes size align class : ℕ) → first_class (sizes_of cla
 route_found classes size align class e = sym (ap (λ o. route_with o (max size 1)) e)
 
 -- past the last class nothing is left to search
-pub after_all : (classes size align class : ℕ) → classes ≤ class →
-    first_class (drop class (sizes_of classes)) class (max size 1) align ≡ first_class (sizes_of classes) 0 (max size 1) align → first_class (sizes_of classes) 0 (max size 1) align ≡ None
+pub after_all : (classes size align class : ℕ) → classes ≤ class
+    → first_class (drop class (sizes_of classes)) class (max size 1) align ≡ first_class (sizes_of classes) 0 (max size 1) align
+    → first_class (sizes_of classes) 0 (max size 1) align ≡ None
 after_all classes size align class h e =
     sym e ∙ ap (λ (cs : List ℕ). first_class cs class (max size 1) align) (drop_all class (sizes_of classes) (omega (arith, h, sizes_le classes)))
 

@@ -140,7 +140,7 @@ at_takes page used v at = at_over (Taking ∷ []) refl refl refl _ v (takes_are 
     (λ q. rights_same (Taking ∷ []) refl q _ v (takes_are page used) ∙ at.rights q)
 
 -- ---- at the beginning and at the end
-pub at_unhint : (page a : ℕ) (v : View) → HasNothing v → IsAt page none false (made (Unhint page) a ∷ v)
+at_unhint : (page a : ℕ) (v : View) → HasNothing v → IsAt page none false (made (Unhint page) a ∷ v)
 at_unhint page a v rests = record {
   held = rests.grains;
   rights = rests.rights;
@@ -159,7 +159,7 @@ is_clear {page} {v = v} at ended = record {
 }
 
 -- An actor that is at a page with nothing, and examines it no longer, has nothing.
-pub rests : {page : ℕ} {v : View} → IsAt page none false v → examines v page ≡ false → HasNothing v
+rests : {page : ℕ} {v : View} → IsAt page none false v → examines v page ≡ false → HasNothing v
 rests at ended = record { grains = at.held; rights = at.rights; clear = is_clear at ended }
 
 -- the same grains in other words
@@ -339,7 +339,7 @@ module _ {σ σ1 : Standing} (page : ℕ) (d : Directory) (grains : Mask4) (puts
 
 -- ---- the calls
 -- steps that were added, with what they lead to
-pub call_by : {σ σ1 : Standing} {B C : View → Type 0} {R : View → View → Type 0} {xs : List Made} → Adds σ σ1 C xs → ((v : View) → B v → C v)
+call_by : {σ σ1 : Standing} {B C : View → Type 0} {R : View → View → Type 0} {xs : List Made} → Adds σ σ1 C xs → ((v : View) → B v → C v)
     → ((v : View) → B v → Agreed σ.seat.profile v xs → R v (xs ++ v)) → Calls σ σ1 B R xs
 call_by adds under from = record { adds = adds_under adds (λ v l stood met. under v met); leads = record { from = from } }
 

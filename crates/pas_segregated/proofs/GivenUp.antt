@@ -191,7 +191,8 @@ module _ (class page : ℕ) (d : Directory) (is : IsClass class) (starts : Mask4
 -- ---- what a search found
 module _ (heap class : ℕ) {tells : Bool} {σ σ' : Standing} (served : Served Mask4)
     (searches : Searches (exclusive class) tells (class_directory heap class) σ σ' (Ok served)) where
-  gets_slots : Leads σ.seat.profile (MaySearch (class_directory heap class)) (GetsSlots (class_directory heap class) (record { page = served.page; heap = heap; class = class; starts = served.found; right = true })) searches.steps
+  gets_slots : Leads σ.seat.profile (MaySearch (class_directory heap class))
+      (GetsSlots (class_directory heap class) (record { page = served.page; heap = heap; class = class; starts = served.found; right = true })) searches.steps
   gets_slots = leads_as (found_call (exclusive class) (class_directory heap class) served searches).leads (λ v met. met) (λ v w met kept. let does = kept.found.keeps.does in record {
     does = record { held = does.held; right = does.right; clear = does.clear; backed = does.backed };
     apart = kept.apart;
@@ -205,7 +206,8 @@ module _ (heap class : ℕ) {tells : Bool} {σ σ' : Standing} (served : Served 
   })
 
   -- Slots that a search of exclusive pages found are a refill with the page's right.
-  pub refills_ok : Refills (exclusive_slots heap class) tells σ σ' (Ok (record { page = served.page; heap = heap; class = class; starts = served.found; right = true }))
+  pub refills_ok : Refills (exclusive_slots heap class) tells σ σ'
+      (Ok (record { page = served.page; heap = heap; class = class; starts = served.found; right = true }))
   refills_ok = record {
     searched = searches.steps;
     searches = searches.searches;

@@ -72,7 +72,8 @@ pub record Refills (fill : Filling) (tells : Bool) (desk desk' : Standing) (answ
   pub few : length searched ≤ search_steps fill.steps desk.seat.profile.pages
   pub after : List Made
   pub adds : Adds desk desk' (MaySearch fill.directory) (after ++ searched)
-  pub outcome : MatchResult answer (GivesSlots fill desk.seat.profile searched after) (λ room. IsRefused fill.no_fit desk.seat.profile fill.directory searched room
+  pub outcome : MatchResult answer (GivesSlots fill desk.seat.profile searched after)
+      (λ room. IsRefused fill.no_fit desk.seat.profile fill.directory searched room
       × (after ≡ []))
   pub told : tells ≡ true → (v : View) (l : Whole) → desk.stands v l → MaySearch fill.directory v
       → IsTold (λ (s : Slots). s.page) fill.no_fit desk.seat.profile fill.directory l (triples desk.seat.actor (after ++ searched) ++ l) answer

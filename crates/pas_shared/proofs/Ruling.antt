@@ -120,7 +120,8 @@ know_set P rosters id w all new i u e = ⊎_elim (λ (t : (i ≡ id) × (w ≡ u
 -- .. where it is so anew of all but the one that changed
 know_others : (P Q : Roster → Type 0) (rosters : List Roster) (id : ℕ) (w : Roster) → ((i : ℕ) (u : Roster) → i ≢ id → get_elem? rosters i ≡ some u → P u → Q u)
     → AllKnow P rosters → Q w → AllKnow Q (set rosters id w)
-know_others P Q rosters id w still all new i u e = ⊎_elim (λ (t : (i ≡ id) × (w ≡ u)). subst Q t.1 new) (λ (t : (i ≢ id) × (get_elem? rosters i ≡ some u)). still i u t.0 t.1 (all i u t.1)) (at_set rosters id i w u e)
+know_others P Q rosters id w still all new i u e = ⊎_elim (λ (t : (i ≡ id) × (w ≡ u)). subst Q t.1 new)
+    (λ (t : (i ≢ id) × (get_elem? rosters i ≡ some u)). still i u t.0 t.1 (all i u t.1)) (at_set rosters id i w u e)
 
 abbrev pub Apart : Roster → Type 0
 Apart u = AreApart (parts_in u)

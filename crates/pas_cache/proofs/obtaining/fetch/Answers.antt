@@ -6,7 +6,8 @@ pub refill-requires-clause-filling : goal.refill-requires-clause-filling
 refill-requires-clause-filling g c = filling_then c.make_place.ensures.makes c.requires.filling
 
 pub refill-requires-clause-can : goal.refill-requires-clause-can
-refill-requires-clause-can g c = search_call _ _ (filling_then c.make_place.ensures.makes c.requires.filling) c.make_place.ensures.none (obtain_after _ _ c.make_place.ensures.makes c.make_place.ensures.spare c.requires.can)
+refill-requires-clause-can g c = search_call _ _ (filling_then c.make_place.ensures.makes c.requires.filling) c.make_place.ensures.none
+    (obtain_after _ _ c.make_place.ensures.makes c.make_place.ensures.spare c.requires.can)
 
 pub returns-in-Ok-clause-obtains : goal.returns-in-Ok-clause-obtains
 returns-in-Ok-clause-obtains g c = let e = c.make_place.ensures in record {

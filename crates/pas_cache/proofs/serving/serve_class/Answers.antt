@@ -19,7 +19,8 @@ pub give_lowest-requires-clause-can : goal.give_lowest-requires-clause-can
 give_lowest-requires-clause-can g c =
     let o = c.in-Ok.ensures.obtains in
     let σ = g.D.Desk.standing c.obtain.new.desk in
-    subst (λ (s : Slots). CanCall σ (MayGiveSlot σ.seat.profile s)) (sym (last_is o.fewer o.slots _ c.deref_mut.ensures.value o.last c.len-last.ensures.value)) (give_call _ g.D.Desk.tells _ _ o.slots o.obtains c.requires.can)
+    subst (λ (s : Slots). CanCall σ (MayGiveSlot σ.seat.profile s)) (sym (last_is o.fewer o.slots _ c.deref_mut.ensures.value o.last c.len-last.ensures.value))
+    (give_call _ g.D.Desk.tells _ _ o.slots o.obtains c.requires.can)
 
 pub give_lowest-requires-clause-room : goal.give_lowest-requires-clause-room
 give_lowest-requires-clause-room g c = room_to_give _ g.D.Desk.tells c.in-Ok.ensures.obtains.obtains c.requires.can

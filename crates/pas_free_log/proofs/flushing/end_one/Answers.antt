@@ -2,7 +2,7 @@ use Rattle.std.proofs.Common.{◌≡◌, List, [], ◌∷◌, ◌++◌, length, 
 use Rattle.pas_steps.proofs.Nothing.{calls_rest, can_go_on}
 use Rattle.pas_free_log.specs.Logs.{entry_of}
 use Rattle.pas_free_log.specs.declared.log.Entry.{Entry}
-use Rattle.pas_free_log.proofs.OneEntry.{ends_name}
+use Rattle.pas_free_log.proofs.AllEntries.{ends_name}
 use Rattle.pas_free_log.proofs.flushing.end_one.Goals as goal
 
 pub returns-clause-ends : goal.returns-clause-ends

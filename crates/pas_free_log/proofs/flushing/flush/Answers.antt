@@ -6,7 +6,7 @@ use Rattle.pas_steps.specs.{Views.View, Views.epoch_of, Events.events_by, Calls.
 use Rattle.pas_steps.proofs.{Apart.only_both, Calls.does_none, Calls.does_then, SpareRoom.spare_falls}
 use Rattle.pas_steps.proofs.Called.{call_none, call_idly, call_then, next_call}
 use Rattle.pas_free_log.specs.{Logs.entry_of, Frames.ending, Flushes.Settled, Flushes.event_for}
-use Rattle.pas_free_log.proofs.OneEntry.{events_more, stamps_more, entries_more, noted_more, noted_none, ranges_more, may_end, flushed}
+use Rattle.pas_free_log.proofs.AllEntries.{events_more, stamps_more, entries_more, noted_more, noted_none, ranges_more, may_end, flushed}
 use Rattle.pas_free_log.proofs.flushing.flush.Goals as goal
 
 pub loop-entry-init : goal.loop-entry-init

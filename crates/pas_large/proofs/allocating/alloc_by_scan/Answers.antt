@@ -12,5 +12,5 @@ pub returns-in-Some-clause-allocates : goal.returns-in-Some-clause-allocates
 returns-in-Some-clause-allocates g c = allocates c.args.heap c.args.pages c.in-Some.first g.D.Desk.tells c.in-Some.ensures.finds _ c.give_run.ensures.gives
 
 pub returns-in-None-clause-allocates : goal.returns-in-None-clause-allocates
-returns-in-None-clause-allocates g c = refuses_large c.args.heap _ _ c.in-None.ensures.finds _ (λ t v l stood. g.met.D.Desk.told _ v l t stood)
+returns-in-None-clause-allocates g c = refuses_large c.args.heap _ _ c.in-None.ensures.finds _ (g.met.D.Desk.valid _) c.requires.heap (λ t v l stood. g.met.D.Desk.told _ v l t stood)
     (λ t v l stood. g.met.D.Desk.told_part _ v l t stood) c.refuse.ensures.refuses

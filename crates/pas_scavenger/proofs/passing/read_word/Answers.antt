@@ -34,7 +34,8 @@ pages-init g c =
 pub try_page-requires-clause-page : goal.try_page-requires-clause-page
 try_page-requires-clause-page g c =
     let i = c.pages.invariant in let can = c.requires.can in let f = (g.D.Desk.standing c.args.desk.now).seat.profile in
-    subst (λ s. IsPage s.profile c.in-Some.page) (sym i.tries.calls.adds.seat_is) (hinted_page f _ _ c.pages.next c.in-Some.page (c.look-hinted.ensures.makes.agrees can.view can.whole can.stood tt) c.in-Some.ensures)
+    subst (λ s. IsPage s.profile c.in-Some.page) (sym i.tries.calls.adds.seat_is)
+    (hinted_page f _ _ c.pages.next c.in-Some.page (c.look-hinted.ensures.makes.agrees can.view can.whole can.stood tt) c.in-Some.ensures)
 
 pub try_page-requires-clause-can : goal.try_page-requires-clause-can
 try_page-requires-clause-can g c = next_call c.pages.invariant.tries.calls c.requires.can (λ v met is. is)

@@ -13,7 +13,8 @@ invariant-pages g l = let D = g.D.Desk in let seat = (D.standing l.fn.desk).seat
   pages_are : map (λ t. t.page) tried ≡ pages_set l.block l.hinted (l.next - 64 * l.block);
   steps : List Made;
   each : InTurn (TriedSteps seat.profile.age l.epoch) tried steps;
-  tries : Tries l.epoch tried (D.standing l.fn.desk) (D.standing l.desk) (pairs_in l.fn.out) (pairs_in l.out) (steps ++ (made (Look (Word.Empty l.block)) l.hinted ∷ []));
+  tries : Tries l.epoch tried (D.standing l.fn.desk) (D.standing l.desk) (pairs_in l.fn.out) (pairs_in l.out)
+      (steps ++ (made (Look (Word.Empty l.block)) l.hinted ∷ []));
   few : length steps ≤ 38 * length tried;
   from : 64 * l.block ≤ l.next;
   to : l.next ≤ 64 * l.block + 64;

@@ -21,6 +21,7 @@ loop-set-preserved c =
     let up = rounded c.in-Some.set c.args.align c.div_ceil.result c.requires.align.0 c.div_ceil.ensures in (
       omega arith,
       none_past c.args.self.now c.args.grains c.args.align c.args.end (c.div_ceil.result * c.args.align) c.run_end-run_end.result c.requires.end (omega arith) (omega arith)
-          (none_to_place c.args.self.now c.args.grains c.args.align c.args.end c.loop-set.from c.in-Some.set (c.div_ceil.result * c.args.align) c.requires.grains.0 up.2 up.1 c.loop-set.invariant.1 c.in-Some.ensures)
+          (none_to_place c.args.self.now c.args.grains c.args.align c.args.end c.loop-set.from c.in-Some.set
+          (c.div_ceil.result * c.args.align) c.requires.grains.0 up.2 up.1 c.loop-set.invariant.1 c.in-Some.ensures)
           c.run_end-run_end.ensures,
     )

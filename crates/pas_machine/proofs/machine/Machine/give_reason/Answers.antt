@@ -27,7 +27,8 @@ returns-then-lacks_backing-clause-verdict c k es shows =
     record {
       applies = some_page shows block is (λ (p : Page). p.backed ≡ false) some;
       others = give_before f es k block 6 (λ _. inside_never f block is) (λ _ h. omega (arith, h, c.if-block-self.false))
-          (λ _ h. h.2 (each_page shows block is (λ (p : Page). IsOfHeap block.heap p.directory) deeds h.0 h.1)) (λ lt. absurd (omega (arith, lt))) (λ lt. absurd (omega (arith, lt))) (λ lt. absurd (omega (arith, lt)));
+          (λ _ h. h.2 (each_page shows block is (λ (p : Page). IsOfHeap block.heap p.directory) deeds h.0 h.1)) (λ lt. absurd (omega (arith, lt)))
+          (λ lt. absurd (omega (arith, lt))) (λ lt. absurd (omega (arith, lt)));
     }
 
 pub returns-then-is_some_covered-clause-verdict : goal.returns-then-is_some_covered-clause-verdict
