@@ -29,10 +29,10 @@ use Rattle.pas_steps.proofs.Apart.{holds_over, only_both, only_within, unstamped
 use Rattle.pas_steps.proofs.{Calls.returns_are, Parts.part_of_own, Parts.part_of_others}
 use Rattle.pas_trace.specs.declared.{plan.What.What, item.Request.Request, plan.Plan.Plan, plan.Op.Op, plan.What.TheVariants.Alloc}
 use Rattle.pas_trace.specs.declared.{plan.What.TheVariants.Guarded, plan.What.TheVariants.Remake}
-use Rattle.pas_report.specs.declared.record.{Said.Said, Record.Record}
+use Rattle.pas_records.specs.declared.record.{Said.Said, Record.Record}
 use Rattle.pas_answers.specs.Answers.{Having, Answer, standing_for, entry_with, IsFreed, IsFreedBy, IsRemadeBy, IsStopped, IsAnswered, wanted_by, records_of}
 use Rattle.pas_answers.specs.Answers.{Progress, having, said_by, stopped, epoch_look, after_stop, request_for, IsReplaced}
-use Rattle.pas_report.proofs.{Showable.AreOfRegion, ReportOfWords.true_marks}
+use Rattle.pas_records.proofs.{Showable.AreOfRegion, MarksAtRest.true_marks}
 use Rattle.pas_answers.proofs.Reached.{of_front, of_back, was_so, tried_on, pieces_back, Each, same_parts, legal_part, of_rest, calls_alone}
 use Rattle.pas_bits.proofs.Runs.{to_meet, met_by}
 use Rattle.pas_large.specs.Named.{missed_steps}
@@ -45,7 +45,7 @@ use Rattle.pas_guard.proofs.Raises.{raised_backs, raised_leaves}
 use Rattle.pas_answers.specs.Guarding.{said_of_guard, Tried, try_steps, guarded_steps, IsTried, after_trying}
 use Rattle.pas_answers.proofs.OwnRecords.{EachShown, shown_both, records_shown, each_arranged, piece_shown, pass_shown, all_shown}
 use Rattle.pas_core.proofs.{Lives.stamps_are_ends, MachineRuns.runs, OneActor.legal_before, OneActor.legal_earlier}
-use Rattle.pas_report.specs.{Lines.CanShow, Rests.AreStamped}
+use Rattle.pas_records.specs.{Lines.CanShow, Rests.AreStamped}
 use Rattle.pas_answers.specs.{Phases.AreInPhases, Stages.GoByStages, Fit.AreOfThreads, Fit.IsFitWhat, Fit.AreFit, Rests.RestBetween}
 use Rattle.pas_answers.specs.Indexes.{GoByIndexes, TakesItsRun, TriedTakesItsRun, GuardedTakesItsRun, AllTakeTheirRuns}
 use Rattle.pas_answers.specs.Refusals.{AreRefusalsTrue, request_in_remade, RefusesTruly, TriedRefusesTruly, GuardedRefusesTruly, AllRefuseTruly}
@@ -607,7 +607,8 @@ module _ (f : Profile) (k name size align : ℕ) (b : Having) (a : Answer) (l : 
   placed_legal old h = legal_earlier f k h.freed h.placed.steps l (subst (λ (ms : List Made). Legal f (triples k ms ++ l)) h.steps_are legal)
 
   remade_refuses : (o : Option (Option Block)) → ((heap : ℕ) → heap < f.heaps → IsAdmitted f size align heap) → (is : IsRemadeBy f k name size align o b a)
-      → MatchOption (request_in_remade f k name size align o b a is) (Unit {0}) (λ s. MatchResult s.served.answer (λ block. Unit {0}) (IsTrulyRefused f (wanted_by f s.request) b.cache.locals l (triples k s.placed.steps ++ l)))
+      → MatchOption (request_in_remade f k name size align o b a is) (Unit {0})
+      (λ s. MatchResult s.served.answer (λ block. Unit {0}) (IsTrulyRefused f (wanted_by f s.request) b.cache.locals l (triples k s.placed.steps ++ l)))
   remade_refuses None admitted is = tt
   remade_refuses (Some None) admitted is = tt
   remade_refuses (Some (Some old)) admitted (inl kept) = tt
@@ -615,7 +616,8 @@ module _ (f : Profile) (k name size align : ℕ) (b : Having) (a : Answer) (l : 
       (subst (AtRest f b.cache) (sym own) h.served.rest) (placed_legal old h) h.served.serves
 
   remade_takes : (o : Option (Option Block)) (is : IsRemadeBy f k name size align o b a)
-      → MatchOption (request_in_remade f k name size align o b a is) (Unit {0}) (λ s. TakesWhatIsNamed f (wanted_by f s.request) s.placed.found l s.placed.steps s.served.answer)
+      → MatchOption (request_in_remade f k name size align o b a is) (Unit {0})
+      (λ s. TakesWhatIsNamed f (wanted_by f s.request) s.placed.found l s.placed.steps s.served.answer)
   remade_takes None is = tt
   remade_takes (Some None) is = tt
   remade_takes (Some (Some old)) (inl kept) = tt
@@ -669,7 +671,8 @@ all_refuse f limit asked (act ∷ acts) p q valid fit legal is = (tt, all_refuse
 takes_run : (f : Profile) (k : ℕ) (what : What) (b : Having) (a : Answer) (l : Whole) → IsValid f → part k l ≡ b.view → Legal f (triples k a.steps ++ l)
     → (is : IsAnswered f k what b a) → TakesItsRun f k what b a is l
 takes_run f k (Alloc name heap size align) b a l valid own legal is = takes_named f heap size align k a.found b.cache a.cache l a.steps is.answer valid (subst (AtRest f b.cache) (sym own) is.rest) legal is.serves
-takes_run f k (Guarded keeper name heap size align) b a l valid own legal is = takes_named f heap size align k a.found b.cache a.cache l a.steps is.answer valid (subst (AtRest f b.cache) (sym own) is.rest) legal is.serves
+takes_run f k (Guarded keeper name heap size align) b a l valid own legal is =
+    takes_named f heap size align k a.found b.cache a.cache l a.steps is.answer valid (subst (AtRest f b.cache) (sym own) is.rest) legal is.serves
 takes_run f k (Remake name old heap size align) b a l valid own legal is = remade_takes f k name size align b a l valid own legal (standing_for b.names old) is
 takes_run f k what b a l valid own legal is = tt
 

@@ -4,7 +4,7 @@ use Rattle.std.proofs.Common.{subst, map, eq-eqb, ne_eqb, arith, zero, suc, ◌+
 use Rattle.pas_profile.specs.declared.{event.Event.Event, event.Outcome.Outcome, event.Outcome.TheVariants.Unbacked, name.Block.Block, profile.Profile.Profile}
 use Rattle.pas_steps.specs.{Events.events_by, Events.actor_of, Views.View}
 use Rattle.pas_steps.specs.declared.step.Made.{Made}
-use Rattle.pas_report.specs.declared.record.{Record.Record, Said.Said}
+use Rattle.pas_records.specs.declared.record.{Record.Record, Said.Said}
 use Rattle.pas_answers.specs.{PassRecords.record_of, PassRecords.records_of_pass, Answers.records_of, Answers.said_by, Answers.wanted_by}
 use Rattle.pas_answers.specs.{Guarding.said_of_guard, Guarding.Tried, Guarding.IsTried}
 use Rattle.pas_trace.specs.declared.item.Request.{Request}
@@ -16,8 +16,8 @@ use Rattle.std.specs.List.{AllByRecursion}
 use Rattle.pas_profile.proofs.Lists.{all_both, all_map, all_reverse}
 use Rattle.pas_steps.proofs.Events.{events_own}
 use Rattle.std.proofs.lemmas.List.Elements.{All-nil, All-push, All-append}
-use Rattle.pas_report.specs.Lines.{CanShow}
-use Rattle.pas_report.proofs.Showable.{AreOfRegion, steps_showable}
+use Rattle.pas_records.specs.Lines.{CanShow}
+use Rattle.pas_records.proofs.Showable.{AreOfRegion, steps_showable}
 
 -- ---- what is so of each record of a piece, by its events and by what is said
 events_all : (P : Record → Type 0) (es : List Event) → AllByRecursion (λ e. P (Record.Event e)) es → AllByRecursion P (map Record.Event es)
@@ -141,7 +141,8 @@ each_actors k (suc n) rs all = shown_both (records_by k rs) (by_actors (k + 1) n
 
 each_phases : (threads : ℕ) (since rs : List Record) → EachShown since → EachShown rs → EachShown (by_phases threads since rs)
 each_phases threads since [] a b = each_actors 0 (threads + 1) since a
-each_phases threads since (Record.Phase n ∷ rs) a b = shown_both (by_actors 0 (threads + 1) since) (Record.Phase n ∷ by_phases threads [] rs) (each_actors 0 (threads + 1) since a) (tt, each_phases threads [] rs tt b.1)
+each_phases threads since (Record.Phase n ∷ rs) a b = shown_both (by_actors 0 (threads + 1) since) (Record.Phase n ∷ by_phases threads [] rs)
+    (each_actors 0 (threads + 1) since a) (tt, each_phases threads [] rs tt b.1)
 each_phases threads since (Record.Close ∷ rs) a b = shown_both (by_actors 0 (threads + 1) since) (Record.Close ∷ by_phases threads [] rs) (each_actors 0 (threads + 1) since a) (tt, each_phases threads [] rs tt b.1)
 each_phases threads since (Record.Event e ∷ rs) a b = each_phases threads (since ++ Record.Event e ∷ []) rs (shown_both since (Record.Event e ∷ []) a (b.0, tt)) b.1
 each_phases threads since (Record.Said k said ∷ rs) a b = each_phases threads (since ++ Record.Said k said ∷ []) rs (shown_both since (Record.Said k said ∷ []) a (b.0, tt)) b.1

@@ -5,7 +5,7 @@ use Rattle.pas_profile.specs.declared.{profile.Profile.Profile, name.Block.Block
 use Rattle.pas_steps.specs.{Views.View, Allowed.IsStepOf, Desks.triples, Desks.made, Agreement.Agrees, Agreement.Agreed}
 use Rattle.pas_steps.specs.Lists.{Whole, part, Legal, Triple}
 use Rattle.pas_steps.specs.declared.step.{Made.Made, Step.TheVariants.Tick}
-use Rattle.pas_report.proofs.Showable.{AreOfRegion}
+use Rattle.pas_records.proofs.Showable.{AreOfRegion}
 use Rattle.pas_answers.specs.Ways.{Way, InOrder, OnThreads, IsOneOrder}
 use Rattle.pas_trace.specs.Acts.{Act, Operates, Guards, Settles, Ticks, MakesPass, ReadsEpoch, StopsIdle, MarksPhase, Wakes, MarksClose, Ends, Lowers}
 use Rattle.pas_trace.specs.Acts.{operation_in, active_threads, idle_threads, acts_of_ops, phase_acts, close_acts, acts_from, acts_of, act_kept, acts_of_work}
@@ -499,7 +499,8 @@ pub is_keeper : (f : Profile) (keeper : ℕ) (later newer older : Whole) (give :
     → Legal f (later ++ (newer ++ (give ∷ older))) → give.actor ≡ keeper
     → MakesCalls f keeper calls guards (part keeper (later ++ (newer ++ (give ∷ older)))) → IsKeeper f keeper (part keeper (later ++ (newer ++ (give ∷ older))))
 is_keeper f keeper later newer older give [] guards valid legal own is =
-    let here : length (part keeper (give ∷ older)) ≡ length (give.made ∷ part keeper older) = ap (λ (b : Bool). length (if b then give.made ∷ part keeper older else part keeper older)) (eq-eqb give.actor keeper own) in
+    let here : length (part keeper (give ∷ older)) ≡ length (give.made ∷ part keeper older) =
+    ap (λ (b : Bool). length (if b then give.made ∷ part keeper older else part keeper older)) (eq-eqb give.actor keeper own) in
     absurd (omega (arith, ap (λ (v : View). length v) is.1, here, longer keeper newer (give ∷ older), longer keeper later (newer ++ (give ∷ older))))
 is_keeper f keeper later newer older give (call ∷ calls) guards valid legal own is = record {
   calls = calls;

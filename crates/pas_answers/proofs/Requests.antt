@@ -42,7 +42,7 @@ use Rattle.pas_steps.proofs.Called.{call_none, call_then, next_call, call_as}
 use Rattle.pas_free_log.specs.Logs.{entry_of}
 use Rattle.pas_cache.specs.declared.moving.Moved.{TheVariants.Kept, TheVariants.New, Moved}
 use Rattle.pas_free_log.specs.declared.{log.Entry.Entry, noting.EndedRun.EndedRun}
-use Rattle.pas_report.specs.declared.record.Said.{Said}
+use Rattle.pas_records.specs.declared.record.Said.{Said}
 use Rattle.pas_answers.proofs.SingleActs.{task_of}
 
 -- ---- what a request asks

@@ -10,7 +10,7 @@ use Rattle.std.proofs.lemmas.{List.length-reverse, List.length-map, List.reverse
 use Rattle.pas_trace.specs.{Acts.Act, EveryPlan.is_asked, EveryPlan.asked_after}
 use Rattle.pas_trace.specs.declared.plan.{What.What, Task.Task, Work.Work}
 use Rattle.pas_trace.specs.declared.plan.What.TheVariants.{Free, FreeSized, Remake, Alloc, Guarded, Raw, RawSized, Flush, Stop}
-use Rattle.pas_report.specs.declared.record.{Record.Record, Said.Said}
+use Rattle.pas_records.specs.declared.record.{Record.Record, Said.Said}
 use Rattle.pas_answers.specs.Calls.{AreKnown, IsKnown, IsBlockOf, MayStand, what_of, block_behind, IsMeant, named_with, named_by, freed_by}
 use Rattle.pas_answers.specs.{Fit.IsFitWhat, Fit.sum_over, TicksAndPasses.ticking, TicksAndPasses.AnswersTick, TicksAndPasses.AnswersPass, Indexes.request_made}
 use Rattle.pas_answers.specs.{Indexes.request_by, Names.IsPackable, Names.MayPack}

@@ -7,12 +7,10 @@ use Rattle.pas_steps.specs.declared.step.{Made.Made, Step.Step, Step.TheVariants
 use Rattle.pas_steps.specs.{Views.View, Views.KnowsDeed, Events.events_of, Events.events_by, Lists.Whole, Noted.ShowsRest, Agreement.Agreed, Calls.Calls}
 use Rattle.pas_steps.specs.{Unknown.unknown_pages}
 use Rattle.pas_steps.specs.Desks.{Standing, triples, CanCall, Adds, Seat}
-use Rattle.pas_steps.proofs.{Frames.events_split, Frames.events_append, Noting.rest_more, Adding.agreed_first, Adding.agreed_later, Apart.no_events}
-use Rattle.pas_steps.proofs.{Apart.events_same, Called.call_then, Called.next_call, Events.ComesOf, Events.comes_of, Events.each_event, Frames.knows_still}
+use Rattle.pas_steps.proofs.{Frames.events_split, Frames.events_append, Frames.knows_still, Noting.rest_more, Adding.agreed_first, Adding.agreed_later}
+use Rattle.pas_steps.proofs.{Apart.no_events, Apart.events_same, Called.call_then, Called.next_call, Events.ComesOf, Events.comes_of, Events.each_event}
 use Rattle.pas_steps.proofs.{Past.always_pair, SpareRoom.Spares, SpareRoom.spare_falls, Unknown.unknown_no_more}
 use Rattle.pas_trace.specs.declared.{plan.What.What, item.Request.Request}
-use Rattle.pas_report.specs.Rooms.{records_in, room_of, Records}
-use Rattle.pas_report.specs.declared.record.{Record.Record, Said.Said}
 use Rattle.pas_cache.specs.Caches.{Cached, AtRest}
 use Rattle.pas_answers.specs.Answers.{records_of, said_by, wanted_by, IsGiven}
 use Rattle.pas_answers.specs.Calls.{PerformsMeant, MayAnswer, AnswersMeant, IsBlockOf, MayStand}
@@ -24,19 +22,21 @@ use Rattle.pas_bitfit.proofs.Aligned.{stands_aligned}
 use Rattle.pas_profile.specs.{Blocks.address_of, Blocks.grain_of, Blocks.length_of, Classes.IsAlignment}
 use Rattle.pas_profile.proofs.Lists.{all_both, all_map}
 use Rattle.pas_scan.specs.Runs.{large_directory}
-use Rattle.pas_steps.specs.Kinds.{Backing, Only, returning, kind_of, is_in}
+use Rattle.pas_steps.specs.Kinds.{Only, returning, kind_of, is_in}
 use Rattle.pas_rights.specs.Gives.{give_steps}
 use Rattle.pas_large.specs.Claims.{in_span}
 use Rattle.pas_trace.specs.Reasons.{cost_of_size}
 use Rattle.pas_trace.proofs.Costs.{large_cost}
 use Rattle.pas_cache.specs.Serves.{Wanted, wanted_for, pages_of, IsPreparing, IsDeedOf}
-use Rattle.pas_cache.proofs.Routes.{is_large, pages_asked}
+use Rattle.pas_cache.proofs.Routes.{is_large, pages_asked, backs_only, deed_prepares}
 use Rattle.pas_guard.specs.{Books.FitsBook, Books.guards_in, Books.size_of_book, Seeks.seeking}
 use Rattle.pas_guard.specs.Raises.{RaiseRoom, RaiseSteps, Raises, IsRaised}
 use Rattle.pas_guard.specs.Sweeps.{is_over, sweeping, SweptOne, Swept, SweepSteps, Sweeps}
 use Rattle.pas_guard.specs.declared.book.{Guard.Guard, GuardBook.GuardBook}
 use Rattle.pas_answers.specs.Guarding.{said_of_guard, TryEnds, try_steps, IsTried}
 use Rattle.pas_answers.specs.Keeping.{owed_by_keeper, MayTry, cost_of_try, TriesRequest, LowersAll}
+use Rattle.pas_records.specs.Rooms.{records_in, room_of, Records}
+use Rattle.pas_records.specs.declared.record.{Record.Record, Said.Said}
 
 -- ---- what the desk shows
 -- the events shown are those of each view, of which n were forgotten
@@ -60,7 +60,8 @@ shown_more {σ} {σ'} {C} {steps} {n} adds old new before after v l stood met =
 shown_new : {σ σ' : Standing} {C : View → Type 0} {steps : List Made} {n : ℕ} → Adds σ σ' C steps → (old new : List Event) → IsShown n σ old
     → IsShown n σ' new
     → (v : View) (l : Whole) → σ.stands v l → C v → drop (length old) new ≡ reverse (events_by σ.seat.actor v steps)
-shown_new {σ} {σ'} {C} {steps} {n} adds old new before after v l stood met = ap (drop (length old)) (shown_more adds old new before after v l stood met) ∙ drop-append_seam old (reverse (events_by σ.seat.actor v steps))
+shown_new {σ} {σ'} {C} {steps} {n} adds old new before after v l stood met =
+    ap (drop (length old)) (shown_more adds old new before after v l stood met) ∙ drop-append_seam old (reverse (events_by σ.seat.actor v steps))
 
 -- After a call a desk has shown no fewer events than before it.
 pub shown_longer : {σ σ' : Standing} {C : View → Type 0} {steps : List Made} {n : ℕ} → Adds σ σ' C steps → (old new : List Event) → IsShown n σ old
@@ -108,7 +109,8 @@ answers_silent {σ} {σ'} {said} {n} Named what meant came c c' out out' old new
     said = said;
     performs = performs;
     pushed = λ v l stood rest. added ∙ ap (λ es. records_in out ++ map Record.Event es) (shown_new performs.calls.adds old new before after v l stood rest)
-        ∙ ap (λ rs. records_in out ++ rs) (sym (append-nil (records_of (events_by σ.seat.actor v performs.steps))) ∙ ap (λ o. records_of (events_by σ.seat.actor v performs.steps) ++ said_by σ.seat.actor o) (sym is));
+        ∙ ap (λ rs. records_in out ++ rs) (sym (append-nil (records_of (events_by σ.seat.actor v performs.steps)))
+        ∙ ap (λ o. records_of (events_by σ.seat.actor v performs.steps) ++ said_by σ.seat.actor o) (sym is));
     room = room;
   },
   named,
@@ -200,17 +202,6 @@ deeds_sought d steps kinds deeds k v = each_event (IsDeedOf d) (λ m before. (is
     (λ m before epoch e h is. deed_sought d k m.step m.answer e h.0 h.1 (comes_of k epoch m.step m.answer e is)) steps
     (always_pair (λ m before. is_in seeking (kind_of m.step) ≡ true) (λ m before. (p : ℕ) (x : Directory) → m.step ≡ Deed p x → m.answer ≡ 0 → x ≡ d) steps kinds deeds)
 
-back_made : (d : Directory) (k : ℕ) (s : Step) (a : ℕ) (e : Event) → is_in (Backing ∷ []) (kind_of s) ≡ true → ComesOf k s a e → IsPreparing d e
-back_made d k s a (Event.Back j p) is comes = IsPreparing.Backs j p
-back_made d k s a e is comes = absurd (true≢false (sym is ∙ ap (is_in (Backing ∷ [])) comes.kind))
-
-backs_only : (d : Directory) (steps : List Made) → Only (Backing ∷ []) steps → (k : ℕ) (v : View) → AllByRecursion (IsPreparing d) (events_by k v steps)
-backs_only d steps kinds k v = each_event (IsPreparing d) (λ m before. is_in (Backing ∷ []) (kind_of m.step) ≡ true) k v
-    (λ m before epoch e h is. back_made d k m.step m.answer e h (comes_of k epoch m.step m.answer e is)) steps kinds
-
-deed_prepares : (d : Directory) (e : Event) → IsDeedOf d e → IsPreparing d e
-deed_prepares d e (IsDeedOf.Deeds k page) = IsPreparing.Deeds k page
-
 -- how many events it makes at most, beside deeds that weren't known
 abbrev cost_of_raise : ℕ → Option Block → ℕ
 cost_of_raise n None = 0
@@ -256,7 +247,8 @@ module _ (f : Profile) (heap n : ℕ) (guards guards' : List Guard) (steps : Lis
     before_give v agreed = agreed_later f v up.left (given ++ is.searched) (subst (Agreed f v) some_is agreed)
 
     events_are : (k : ℕ) (v : View) → events_by k v steps ≡ Event.Give k block ∷ (events_by k (is.searched ++ v) up.backs ++ events_by k v is.searched)
-    events_are k v = ap (events_by k v) some_is ∙ events_same returning refl k v up.left (given ++ is.searched) (raised_leaves up) ∙ ap (λ (es : List Event). Event.Give k block ∷ es) (events_append k up.backs is.searched v)
+    events_are k v = ap (events_by k v) some_is ∙ events_same returning refl k v up.left (given ++ is.searched) (raised_leaves up)
+        ∙ ap (λ (es : List Event). Event.Give k block ∷ es) (events_append k up.backs is.searched v)
 
     turn_small : (v : View) → Agreed f v steps → block.name.turn < 2 ^ 37
     turn_small v agreed =
@@ -315,7 +307,8 @@ module _ (f : Profile) (heap n : ℕ) (guards guards' : List Guard) (steps : Lis
 
 -- ---- what is asked for
 -- a request for whole pages, by how many
-pages_wanted : (f : Profile) (heap size align n : ℕ) → n ≡ (size + 4096 - 1) / 4096 → 2048 < size → record { directory = large_directory heap; route = Route.Large; room = n * 4096; align = align } ≡ wanted_for f heap size align
+pages_wanted : (f : Profile) (heap size align n : ℕ) → n ≡ (size + 4096 - 1) / 4096 → 2048 < size
+    → record { directory = large_directory heap; route = Route.Large; room = n * 4096; align = align } ≡ wanted_for f heap size align
 pages_wanted f heap size align n is large = search (arith, is_large)
 
 count_wanted : (f : Profile) (r : Request) (n : ℕ) → n ≡ (r.size + 4096 - 1) / 4096 → 2048 < r.size → n ≡ pages_of (wanted_by f r)

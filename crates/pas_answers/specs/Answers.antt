@@ -13,7 +13,7 @@ use Rattle.pas_steps.specs.declared.step.{Made.Made, Step.TheVariants.Look, Step
 use Rattle.pas_trace.specs.declared.{plan.What.What, item.Request.Request}
 use Rattle.pas_trace.specs.declared.plan.What.TheVariants.{Alloc, Guarded, Free, FreeSized, Raw, RawSized, Remake, Flush, Stop, Tick, Pass, Idle}
 pub use Rattle.pas_trace.specs.Named.{Named, named, standing_for, suits, request_for}
-use Rattle.pas_report.specs.declared.record.{Record.Record, Said.Said}
+use Rattle.pas_records.specs.declared.record.{Record.Record, Said.Said}
 use Rattle.pas_cache.specs.{Caches.Cached, Caches.AtRest, Changes.EmptiesLog, Changes.StopsEach, Kinds.allocating, Kinds.releasing, Calls.TakesEntry}
 use Rattle.pas_cache.specs.{Calls.RefusesName}
 use Rattle.pas_cache.specs.Serves.{Wanted, wanted_for, ServesRequest, IsPreparing, IsPlaced, IsDeedOf}

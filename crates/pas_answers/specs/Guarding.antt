@@ -6,7 +6,7 @@ use Rattle.pas_profile.specs.declared.{name.Block.Block, profile.Profile.Profile
 use Rattle.pas_steps.specs.{Desks.triples, Events.events_by, Views.View}
 use Rattle.pas_steps.specs.declared.step.Made.{Made}
 use Rattle.pas_trace.specs.declared.item.Request.{Request}
-use Rattle.pas_report.specs.declared.record.{Record.Record, Said.Said}
+use Rattle.pas_records.specs.declared.record.{Record.Record, Said.Said}
 use Rattle.pas_cache.specs.Serves.{IsDeedOf, pages_of}
 use Rattle.pas_guard.specs.{Books.FitsBook, Raises.RaiseSteps, Sweeps.SweepSteps}
 use Rattle.pas_guard.specs.declared.book.Guard.{Guard}

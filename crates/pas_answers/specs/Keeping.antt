@@ -5,11 +5,11 @@ use Rattle.pas_steps.specs.{Agreement.Agreed, Calls.Calls, Desks.Standing, Event
 use Rattle.pas_steps.specs.declared.step.Made.{Made}
 use Rattle.pas_trace.specs.Reasons.{cost_of_size}
 use Rattle.pas_trace.specs.declared.item.Request.{Request}
-use Rattle.pas_report.specs.Rooms.{records_in, room_of, Records}
-use Rattle.pas_report.specs.declared.record.Record.{Record}
 use Rattle.pas_guard.specs.Books.{FitsBook, size_of_book, guards_in}
 use Rattle.pas_guard.specs.declared.book.{Guard.Guard, GuardBook.GuardBook}
 use Rattle.pas_answers.specs.Guarding.{try_steps, IsTried, IsLowered}
+use Rattle.pas_records.specs.Rooms.{records_in, room_of, Records}
+use Rattle.pas_records.specs.declared.record.Record.{Record}
 
 -- ---- what is owed in the end: a keeper may still make a deed of each page that it doesn't know, and says of each guard that it is lowered
 abbrev pub owed_by_keeper : Profile → List Guard → View → ℕ
@@ -40,7 +40,8 @@ pub record TriesRequest (r : Request) (book book' : GuardBook) (out out' : Recor
   pub tried : (v : View) (l : Whole) → desk.stands v l → FitsBook desk.seat.profile (guards_in book) v → (said : List Record)
       × IsTried desk.seat.profile desk.seat.actor r v (guards_in book) (record { steps = steps; records = said; block = block; guards = guards_in book' })
       × (records_in out' ≡ records_in out ++ said)
-      × (length said + owed_by_keeper desk.seat.profile (guards_in book') (steps ++ v) ≤ cost_of_try r.size block + owed_by_keeper desk.seat.profile (guards_in book) v)
+      × (length said + owed_by_keeper desk.seat.profile (guards_in book') (steps ++ v)
+      ≤ cost_of_try r.size block + owed_by_keeper desk.seat.profile (guards_in book) v)
   pub room : room_of out' ≡ room_of out
   pub size : size_of_book book' ≡ size_of_book book
 

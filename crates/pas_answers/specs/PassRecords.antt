@@ -3,7 +3,7 @@ use Rattle.std.specs.Prelude.{ℕ, List, [], ◌∷◌, map}
 use Rattle.std.specs.List.{flat_map}
 use Rattle.pas_profile.specs.declared.event.{Event.Event, Outcome.Outcome}
 use Rattle.pas_profile.specs.declared.event.Outcome.TheVariants.{Unbacked, Bare, Young, InUse, NotOffered}
-use Rattle.pas_report.specs.declared.record.{Record.Record, Said.Said}
+use Rattle.pas_records.specs.declared.record.{Record.Record, Said.Said}
 
 -- The record of what a pass of actor k came to on the page, where the pass read this epoch. A page that was unbacked has the line of its event, and
 -- none of its own.

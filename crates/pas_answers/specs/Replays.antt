@@ -8,8 +8,8 @@ use Rattle.pas_steps.specs.Lists.{Whole, part, word_after, visible, Legal}
 use Rattle.pas_steps.specs.declared.state.State.{State}
 use Rattle.pas_trace.specs.Plans.{ops_of}
 use Rattle.pas_trace.specs.declared.plan.{Op.Op, Plan.Plan}
-use Rattle.pas_report.specs.Rests.{AreStamped, AreTrueMarks}
-use Rattle.pas_report.specs.declared.record.Record.{Record}
+use Rattle.pas_records.specs.Rests.{AreStamped, AreTrueMarks}
+use Rattle.pas_records.specs.declared.record.Record.{Record}
 use Rattle.pas_cache.specs.Caches.{Cached}
 use Rattle.pas_guard.specs.Keepers.{Call, MakesCalls}
 use Rattle.pas_guard.specs.declared.book.Guard.{Guard}

@@ -1,7 +1,7 @@
 -- Which steps and records answer a tick and a pass.
 use Rattle.std.specs.Prelude.{ℕ, ◌+◌, ◌≡◌, List, [], ◌∷◌, ◌++◌, Some, length, reverse}
 use Rattle.pas_profile.specs.declared.event.Outcome.{Outcome}
-use Rattle.pas_report.specs.declared.record.{Record.Record, Said.Said}
+use Rattle.pas_records.specs.declared.record.{Record.Record, Said.Said}
 use Rattle.pas_scavenger.specs.Passes.{Passes, unbacks_in}
 use Rattle.pas_steps.specs.{Calls.Calls, Clear.HasNothing, Desks.Standing, Desks.made, Effects.new_value, Events.events_by, Kinds.Kinds, Kinds.Ticking}
 use Rattle.pas_steps.specs.{Kinds.Only, Views.View, Views.known_epoch}

@@ -1,7 +1,7 @@
 //! One operation of a thread.
 ghost use Rattle.std.specs.Prelude.{◌≡◌, ◌+◌, ◌-◌, ◌^◌, ◌≤◌, ◌<◌, ◌++◌, ℕ, List, Option, None, Some, length, map, drop};
 ghost use Rattle.pas_trace.specs.declared.plan.What.TheVariants as TheWhat;
-ghost use Rattle.pas_report.specs.Rooms.{records_in, room_of};
+ghost use Rattle.pas_records.specs.Rooms.{records_in, room_of};
 ghost use Rattle.pas_steps.specs.Desks.{CanCall};
 ghost use Rattle.pas_cache.specs.{Caches.cached, Calls.Frees};
 ghost use Rattle.pas_trace.specs.EveryPlan.{IsRoomNamed};
@@ -14,7 +14,7 @@ use crate::remaking::Remake;
 use pas_cache::{Moved, ThreadCache};
 use pas_large::Door;
 use pas_profile::{Block, Event, FreeFault, Name, NoRoom};
-use pas_report::{Record, Records, Said};
+use pas_records::{Record, Records, Said};
 use pas_steps::Desk;
 use pas_trace::Task;
 

@@ -9,7 +9,7 @@ use crate::answering::push_events;
 use pas_guard::GuardBook;
 use pas_profile::Block;
 use pas_profile::limits::PAGE_BYTES;
-use pas_report::{Record, Records, Said};
+use pas_records::{Record, Records, Said};
 use pas_steps::Desk;
 
 /// What is said of a guard that went up round a block of so many whole pages.

@@ -3,7 +3,7 @@ ghost use Rattle.std.specs.Prelude.{ℕ, ◌+◌, ◌<◌, ◌≤◌, ◌≡◌,
 ghost use Rattle.pas_profile.specs.Profiles.{IsValid};
 ghost use Rattle.pas_profile.specs.declared.{event.NoRoom.NoRoom, name.Block.Block, profile.Profile.Profile};
 ghost use Rattle.pas_steps.specs.{Lists.Triple, Lists.Whole, Lists.part, Past.Always, Views.View};
-ghost use Rattle.pas_report.specs.declared.record.Record.{Record};
+ghost use Rattle.pas_records.specs.declared.record.Record.{Record};
 ghost use Rattle.pas_trace.specs.declared.{item.Request.Request, plan.Plan.Plan};
 ghost use Rattle.pas_cache.specs.{Caches.Cached, Calls.AllocatesPages};
 ghost use Rattle.pas_guard.specs.Keepers.{PutsNoneOf, GivesGuarded, StandsThrough};

@@ -1,12 +1,12 @@
 //! A pass over the pages that are hinted as empty.
 ghost use Rattle.std.specs.Prelude.{◌≡◌, ◌+◌, ◌≤◌, ◌++◌, length, map};
-ghost use Rattle.pas_report.specs.Rooms.{records_in, room_of};
+ghost use Rattle.pas_records.specs.Rooms.{records_in, room_of};
 ghost use Rattle.pas_steps.specs.{Clear.HasNothing, Desks.CanCall};
 ghost use Rattle.pas_utility.specs.Outcomes.{pairs_in, places_of};
 ghost use Rattle.pas_answers.specs.{TicksAndPasses.AnswersPass, PassRecords.record_of};
 
 use pas_profile::{Event, Outcome};
-use pas_report::{Record, Records, Said};
+use pas_records::{Record, Records, Said};
 use pas_steps::Desk;
 use pas_utility::Outcomes;
 

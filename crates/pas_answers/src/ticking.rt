@@ -1,10 +1,10 @@
 //! A tick: the epoch is raised.
 ghost use Rattle.std.specs.Prelude.{◌≡◌, ◌<◌, ◌^◌, length};
-ghost use Rattle.pas_report.specs.Rooms.{records_in, room_of};
+ghost use Rattle.pas_records.specs.Rooms.{records_in, room_of};
 ghost use Rattle.pas_steps.specs.{Clear.HasNothing, Desks.CanCall};
 ghost use Rattle.pas_answers.specs.TicksAndPasses.{AnswersTick};
 
-use pas_report::{Record, Records, Said};
+use pas_records::{Record, Records, Said};
 use pas_steps::Desk;
 
 /// Raises the epoch to at least this, and says which it is then. One step, and no event.

@@ -1,7 +1,7 @@
 -- The marks of a page as bits of a number.
 use Rattle.std.proofs.Common.{◌≡◌, ℕ, Bool, if◌then◌else◌, ap, ◌∙◌, bit_or, arith}
 use Rattle.bitflags.specs.Sets.{without}
-use Rattle.pas_report.specs.Marks.{Marked, bits_of, marks_of}
+use Rattle.pas_records.specs.Marks.{Marked, bits_of, marks_of}
 
 -- a bit after it was set or cleared
 abbrev pub with_bit : Bool → ℕ → ℕ → ℕ

@@ -1,46 +1,10 @@
--- A text that goes out in pieces.
-use Rattle.std.proofs.Common.{◌≡◌, ℕ, zero, suc, ◌+◌, ◌-◌, ◌≤◌, List, [], ◌++◌, Option, ap, sym, ◌∙◌, subst, append_assoc, append-nil, add-zero, add-suc, arith}
-use Rattle.std.proofs.Common.{codes}
-use Rattle.pas_io.specs.Told.{Writes, WritesFront}
-use Rattle.pas_io.proofs.Telling.{writes_more}
+-- A report that goes out in pieces.
+use Rattle.std.proofs.Common.{◌≡◌, ℕ, zero, suc, ◌+◌, ◌-◌, ◌≤◌, List, [], ◌++◌, Option, ap, sym, ◌∙◌, append_assoc, append-nil, add-zero, add-suc, arith, codes}
+use Rattle.pas_io.specs.Told.{WritesFront}
 use Rattle.pas_steps.specs.declared.state.State.{State}
 use Rattle.pas_report.specs.Counts.{page_by_words, pages_by_words, pages_of, report_by_words, totals_by_words}
-use Rattle.pas_report.specs.Pieces.{IsPutOut}
-
--- a text that was written whole
-pub flushed : (before now after : Option (List ℕ)) (waiting text : List ℕ) → IsPutOut before now waiting text → Writes now after waiting
-    → Writes before after text
-flushed before now after waiting text out wrote = subst (Writes before after) (sym out.text_is) (writes_more before now after out.written waiting out.writes wrote)
-
--- all that waited was written
-pub put_all : (before now after : Option (List ℕ)) (waiting waiting' text : List ℕ) → waiting' ≡ [] → IsPutOut before now waiting text
-    → Writes now after waiting → IsPutOut before after waiting' text
-put_all before now after waiting waiting' text none out wrote = record {
-  written = text;
-  text_is = sym (append-nil text) ∙ ap (λ (t : List ℕ). text ++ t) (sym none);
-  writes = flushed before now after waiting text out wrote;
-}
-
--- a line more waits
-pub put_more : (before now : Option (List ℕ)) (waiting waiting' text line : List ℕ) → waiting' ≡ waiting ++ line → IsPutOut before now waiting text
-    → IsPutOut before now waiting' (text ++ line)
-put_more before now waiting waiting' text line is out = search (arith, append_assoc)
-
--- a failed write
-pub front_out : (before now after : Option (List ℕ)) (waiting text : List ℕ) → IsPutOut before now waiting text → WritesFront now after waiting
-    → WritesFront before after text
-front_out before now after waiting text out (front, back, is, wrote) = (
-  out.written ++ front,
-  back,
-  out.text_is ∙ ap (λ (t : List ℕ). out.written ++ t) is
-      ∙ sym (append_assoc out.written front back),
-  writes_more before now after out.written front out.writes wrote,
-)
-
--- A first part that was written of a text is one of each longer text.
-pub front_longer : (before after : Option (List ℕ)) (text more whole : List ℕ) → whole ≡ text ++ more → WritesFront before after text
-    → WritesFront before after whole
-front_longer before after text more whole longer (front, back, is, wrote) = (front, back ++ more, longer ∙ ap (λ (t : List ℕ). t ++ more) is ∙ append_assoc front back more, wrote)
+use Rattle.pas_records.specs.Pieces.{IsPutOut}
+use Rattle.pas_records.proofs.Pieces.{front_longer}
 
 -- ---- the report so far
 abbrev pub so_far : State → ℕ → List ℕ
@@ -75,7 +39,8 @@ so_far_front state n within =
 -- A first part that was written of the report so far is one of the whole report.
 pub report_front : (state : State) (n : ℕ) (before after : Option (List ℕ)) → n ≤ pages_of state → WritesFront before after (so_far state n)
     → WritesFront before after (report_by_words state)
-report_front state n before after within wrote = front_longer before after (so_far state n) (pages_between state n (pages_of state - n) ++ totals_by_words state) (report_by_words state) (so_far_front state n within) wrote
+report_front state n before after within wrote = front_longer before after (so_far state n)
+    (pages_between state n (pages_of state - n) ++ totals_by_words state) (report_by_words state) (so_far_front state n within) wrote
 
 -- the lines of all pages, and that of the totals
 report_is : (state : State) (n : ℕ) (line : List ℕ) → n ≡ pages_of state → line ≡ totals_by_words state → so_far state n ++ line ≡ report_by_words state

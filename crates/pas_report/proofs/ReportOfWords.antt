@@ -1,31 +1,27 @@
 -- Where the words of a state agree with the machine that the events reach, their totals are the machine's.
 use Rattle.std.proofs.Common.{◌≡◌, ℕ, ◌+◌, ◌^◌, ◌<◌, ◌==◌, not, Bool, true, false, if◌then◌else◌, List, sym, ◌∙◌, arith, le-leb, ◌*◌, ◌/◌, ◌%◌, Option, None}
-use Rattle.std.proofs.Common.{Some, ap, eq-eqb, ne_eqb, zero, suc, ◌≤◌, nat_le, nat_lt, ◌++◌, codes, refl, inl, inr, leb-true, ◌-◌, add-zero, add-suc, ◌≢◌}
-use Rattle.std.proofs.lemmas.Bool.{lt-leb, false≢true, cases_eq, and_parts, or_from, or_left, or_right, false_from_ne_true}
+use Rattle.std.proofs.Common.{Some, ap, eq-eqb, ne_eqb, zero, suc, ◌≤◌, ◌++◌, codes, refl, inl, inr, ◌-◌, add-zero, add-suc}
+use Rattle.std.proofs.lemmas.Bool.{lt-leb}
 use Rattle.pas_profile.specs.{Lives.turn_of, Lives.is_live, Lives.live_word, Blocks.length_of, Profiles.IsValid, Profiles.IsPage, Profiles.IsDirectoryOf}
+use Rattle.pas_profile.specs.{Directories.number_of, Directories.directory_read}
 use Rattle.pas_profile.specs.declared.{event.Event.Event, word.Word.Word, directory.Directory.Directory, profile.Profile.Profile}
 use Rattle.pas_machine.specs.State.{deed_in, backed_in, live_in, gives_in, ends_in, Live, epoch_in}
-use Rattle.pas_machine.specs.Totals.{has_deed, has_block, page_at, address_at, deeds_total, backed_total, live_total, given_total, ended_total, sum_below}
-use Rattle.pas_steps.specs.{States.profile_of, States.word_in, States.IsUnusedAbove, Effects.life_word_at, Effects.free_word_at, Clear.HasNothing}
-use Rattle.pas_steps.specs.{Views.usable_by_kind}
+use Rattle.pas_machine.specs.Totals.{has_deed, has_block, page_at, address_at, sum_below}
+use Rattle.pas_steps.specs.{States.profile_of, States.word_in, States.IsUnusedAbove, Effects.life_word_at}
 use Rattle.pas_steps.specs.declared.state.State.{State}
-use Rattle.pas_report.specs.Reports.{totals_text, total_line, covers, some_below, is_covered, live_on, uncovered_on, page_text, machine_page, machine_pages}
-use Rattle.pas_report.specs.Reports.{report_text}
-use Rattle.pas_report.specs.Counts.{pages_of, grains_in, life_of_grain, deeds_counted, backed_counted, live_counted, ended_counted, given_counted}
-use Rattle.pas_report.specs.Counts.{totals_by_words, IsDeedWord, AreDeedWords, live_counted_on, free_counted_on, offered_by, marked_in, line_by_words}
-use Rattle.pas_report.specs.Counts.{page_by_words, pages_by_words, report_by_words, AreCounted}
+use Rattle.pas_report.specs.Totals.{totals_of, totals_text}
+use Rattle.pas_records.specs.{Marks.offered_after, Marks.marks_after, Covered.is_covered, Rests.HasWords, Rests.AreFreeOrCovered, Rests.AreStamped}
+use Rattle.pas_records.proofs.MarksAtRest.{backed_agrees, deed_read_after}
+use Rattle.pas_report.specs.Reports.{total_line, live_on, uncovered_on, page_text, machine_page, machine_pages, report_text}
+use Rattle.pas_report.specs.Counts.{pages_of, grains_in, life_of_grain, totals_counted, totals_by_words, IsDeedWord, AreDeedWords, live_counted_on}
+use Rattle.pas_report.specs.Counts.{free_counted_on, offered_by, marked_in, line_by_words, page_by_words, pages_by_words, report_by_words, AreCounted}
 use Rattle.pas_report.proofs.Counting.{sum_same, sum_and_count, grains_same}
 use Rattle.pas_bits.proofs.Rows.{count_same, count_suc}
-use Rattle.pas_steps.specs.Lists.{Whole, word_after, visible, Legal, part}
-use Rattle.pas_core.specs.Good.{word_of_deed, word_of_backed, IsLifeOf, AgreesWithWords, IsFreeGrain, IsCoveredByOne, IsInOnePlace}
-use Rattle.pas_report.specs.Rests.{HasWords, AreFreeOrCovered, NobodyHolds, AreStamped, AreTrueMarks, NobodyHasRights}
-use Rattle.pas_bits.specs.{Bits.has_bit, Bits.count_below, Runs.in_run}
-use Rattle.pas_profile.specs.Directories.{number_of, directory_read, IsDirectory, deed_word_of}
-use Rattle.pas_profile.proofs.Codecs.{number_lt, read-deed_word_of, directory_from_profile, deed_word_of-positive, same_from_deed_word}
-use Rattle.pas_core.proofs.{Deeds.deed_of, Deeds.backed_of, Deeds.directory_is_of, Lives.life_of, Lives.live_is_aligned, MachineRuns.agrees}
-use Rattle.pas_core.proofs.{MachineRuns.in_one_place, Offers.offered_at_rest, Offers.hinted_at_rest, Rights.right_in_one_place}
-use Rattle.pas_report.specs.Marks.{offered_after, marks_after}
-use Rattle.pas_core.specs.Rights.{eligible_bit, IsRightInOnePlace, IsRightOffered, IsUsableFree, AllClear}
+use Rattle.pas_steps.specs.Lists.{Whole, word_after, visible, Legal}
+use Rattle.pas_core.specs.Good.{word_of_deed, IsLifeOf, AgreesWithWords}
+use Rattle.pas_bits.specs.Bits.{has_bit, count_below}
+use Rattle.pas_profile.proofs.Codecs.{number_lt}
+use Rattle.pas_core.proofs.{Deeds.deed_of, Deeds.directory_is_of, Lives.life_of, MachineRuns.agrees}
 
 -- what the life word of a grain says of the machine at its address: whether a block lives there, how many ended and how many were given
 pub record IsLifeWord (word : ℕ) (lives : Bool) (gives ends : ℕ) : Type 0 where
@@ -41,27 +37,16 @@ pub record AreTotalled (state : State) (es : List Event) : Type 0 where
       → IsLifeWord (life_of_grain state i) (has_block (live_in es (address_at i))) (gives_in es (address_at i)) (ends_in es (address_at i))
 
 -- ---- the totals
-deeds_totalled : (state : State) (es : List Event) → AreTotalled state es → deeds_counted state ≡ deeds_total (profile_of state) es
-deeds_totalled state es agree = count_same (pages_of state) _ _ agree.deed
-
-backed_totalled : (state : State) (es : List Event) → AreTotalled state es → backed_counted state ≡ backed_total (profile_of state) es
-backed_totalled state es agree = count_same (pages_of state) _ _ agree.backed
-
-live_totalled : (state : State) (es : List Event) → AreTotalled state es → live_counted state ≡ live_total (profile_of state) es
-live_totalled state es agree = count_same (grains_in state) _ _ (λ i h. (agree.life i h).live)
-
-ended_totalled : (state : State) (es : List Event) → AreTotalled state es → ended_counted state ≡ ended_total (profile_of state) es
-ended_totalled state es agree = sum_same (grains_in state) _ _ (λ i h. (agree.life i h).turn)
-
-given_totalled : (state : State) (es : List Event) → AreTotalled state es → given_counted state ≡ given_total (profile_of state) es
-given_totalled state es agree =
-    (λ t. ended_totalled state es agree t + live_totalled state es agree t)
+totals_agree : (state : State) (es : List Event) → AreTotalled state es → totals_counted state ≡ totals_of (profile_of state) es
+totals_agree state es agree =
+    let deeds : (totals_counted state).deeds ≡ (totals_of (profile_of state) es).deeds = count_same (pages_of state) _ _ agree.deed in
+    let backed : (totals_counted state).backed ≡ (totals_of (profile_of state) es).backed = count_same (pages_of state) _ _ agree.backed in
+    let live : (totals_counted state).live ≡ (totals_of (profile_of state) es).live = count_same (grains_in state) _ _ (λ i h. (agree.life i h).live) in
+    let ended : (totals_counted state).ended ≡ (totals_of (profile_of state) es).ended = sum_same (grains_in state) _ _ (λ i h. (agree.life i h).turn) in
+    let given : (totals_counted state).given ≡ (totals_of (profile_of state) es).given = (λ t. ended t + live t)
     ∙ sym (sum_and_count (grains_in state) (λ i. ends_in es (address_at i)) (λ i. has_block (live_in es (address_at i))))
-    ∙ sym (sum_same (grains_in state) _ _ (λ i h. (agree.life i h).given))
-
--- the line
-line_totalled : (state : State) (es : List Event) → AreTotalled state es → totals_by_words state ≡ total_line (profile_of state) es
-line_totalled state es agree = λ t. totals_text (deeds_totalled state es agree t) (backed_totalled state es agree t) (live_totalled state es agree t) (given_totalled state es agree t) (ended_totalled state es agree t)
+    ∙ sym (sum_same (grains_in state) _ _ (λ i h. (agree.life i h).given)) in
+    λ t. record { deeds = deeds t; backed = backed t; live = live t; given = given t; ended = ended t }
 
 -- ---- the words of one page or grain
 -- a word that isn't live is the number of blocks that ended
@@ -80,11 +65,6 @@ deed_agrees : (d : Option Directory) (word : ℕ) → word ≡ word_of_deed d �
 deed_agrees None word e = ap (λ b. not b) (eq-eqb word 0 e)
 deed_agrees (Some d) word e = ap (λ b. not b) (ne_eqb word 0 (λ z. omega arith))
 
--- A backed word is 1 exactly where the page is backed.
-backed_agrees : (b : Bool) (word : ℕ) → word ≡ word_of_backed b → (word == 1) ≡ b
-backed_agrees true word e = eq-eqb word 1 e
-backed_agrees false word e = ne_eqb word 1 (λ z. omega arith)
-
 -- The life word of a grain tells whether a block lives there, and the gives and ends.
 life_agrees : (f : Profile) (g word : ℕ) (b : Option Live) (gives ends : ℕ) → IsLifeOf f g word b gives ends → IsLifeWord word (has_block b) gives ends
 life_agrees f g word None gives ends h = bare_life word gives ends h.word_is h.gives_are h.few
@@ -96,7 +76,8 @@ life_after l i = search arith
 
 module _ (state : State) (l : Whole) (has : HasWords state l) (agree : AgreesWithWords (profile_of state) l) where
   life_totalled : (i : ℕ) → i < grains_in state
-      → IsLifeWord (life_of_grain state i) (has_block (live_in (visible l) (address_at i))) (gives_in (visible l) (address_at i)) (ends_in (visible l) (address_at i))
+      → IsLifeWord (life_of_grain state i) (has_block (live_in (visible l) (address_at i))) (gives_in (visible l) (address_at i))
+      (ends_in (visible l) (address_at i))
   life_totalled i h =
       let word : word_after l (life_word_at (256 + i)) ≡ life_of_grain state i = life_after l i ∙ sym (has.words (Word.Life (page_at (i / 256)) (i % 256)) (omega arith, omega arith, omega arith)) in
       let address : 16 * (256 + i) ≡ address_at i = omega arith in
@@ -107,72 +88,21 @@ module _ (state : State) (l : Whole) (has : HasWords state l) (agree : AgreesWit
 
   -- the line of the totals by the words is that of the machine
   pub line_agrees : totals_by_words state ≡ total_line (profile_of state) (visible l)
-  line_agrees = line_totalled state (visible l) are_totalled
+  line_agrees = ap totals_text (totals_agree state (visible l) are_totalled)
 
 -- ==== The report by the words of a region at rest is that of the machine.
-
--- ---- whether some number passes a test
-pub some_of : (n x : ℕ) (p : ℕ → Bool) → x < n → p x ≡ true → some_below n p ≡ true
-some_of zero x p below is = absurd (omega arith)
-some_of (suc n) x p below is = elim (cases_eq x n) [ inl e ↦ or_left (p n) (some_below n p) (ap p (sym e) ∙ is) | inr ne ↦ or_right (p n) (some_below n p) (some_of n x p (omega arith) is) ]
-
--- Where no number below a bound passes a test, it isn't so that some does.
-pub none_of : (n : ℕ) (p : ℕ → Bool) → ((x : ℕ) → x < n → p x ≡ false) → some_below n p ≡ false
-none_of zero p fails = refl
-none_of (suc n) p fails = or_from (p n) (some_below n p) (fails n (omega arith)) (none_of n p (λ x h. fails x (omega arith)))
-
--- ---- a grain that nobody holds is free, or a live block covers it
-pub not_covering : (o : Option Live) (address g : ℕ) → ((b : Live) → o ≡ Some b → in_run (address / 16) (length_of b.block) g ≡ true → ⊥)
-    → covers o address g ≡ false
-not_covering None address g apart = refl
-not_covering (Some b) address g apart = false_from_ne_true (in_run (address / 16) (length_of b.block) g) (apart b refl)
-
-free_grain : (l : Whole) (g : ℕ) → IsFreeGrain l g → has_bit (word_after l (free_word_at g)) (g % 64) ≡ not (is_covered (visible l) g)
-free_grain l g at = at.free ∙ sym (ap (λ b. not b) (none_of (g + 1) (λ x. covers (live_in (visible l) (16 * x)) (16 * x) g) (λ x h. not_covering (live_in (visible l) (16 * x)) (16 * x) g (at.no_block (16 * x)))))
-
-covered_grain : (f : Profile) (l : Whole) (g : ℕ) → Legal f l → IsCoveredByOne l g
-    → has_bit (word_after l (free_word_at g)) (g % 64) ≡ not (is_covered (visible l) g)
-covered_grain f l g legal at =
-    let aligned = live_is_aligned f l legal at.address at.block at.lives in
-    let e : 16 * (at.address / 16) ≡ at.address = omega arith in
-    let run = and_parts (nat_le (at.address / 16) g) (nat_lt g (at.address / 16 + length_of at.block.block)) at.covered in
-    let first : at.address / 16 ≤ g = leb-true (at.address / 16) g run.0 in
-    let here : covers (live_in (visible l) (16 * (at.address / 16))) (16 * (at.address / 16)) g ≡ true =
-    (λ t. covers (live_in (visible l) (e t)) (e t) g) ∙ ap (λ o. covers o at.address g) at.lives ∙ at.covered in
-    at.not_free ∙ sym (ap (λ b. not b) (some_of (g + 1) (at.address / 16) (λ x. covers (live_in (visible l) (16 * x)) (16 * x) g) (omega arith) here))
-
-free_or_covered : (f : Profile) (l : Whole) (g : ℕ) → Legal f l → NobodyHolds l → IsInOnePlace l g
-    → has_bit (word_after l (free_word_at g)) (g % 64) ≡ not (is_covered (visible l) g)
-free_or_covered f l g legal rests (inl free) = free_grain l g free
-free_or_covered f l g legal rests (inr (inl held)) = absurd (false≢true (sym (rests.nobody held.actor g) ∙ held.holder held.actor ∙ eq-eqb held.actor held.actor refl))
-free_or_covered f l g legal rests (inr (inr covered)) = covered_grain f l g legal covered
-
--- Where nobody holds a grain, each is free or covered by a live block.
-pub nobody_holds : (f : Profile) (l : Whole) → IsValid f → Legal f l → NobodyHolds l → AreFreeOrCovered f l
-nobody_holds f l valid legal rests = record { grain = λ g page. free_or_covered f l g legal rests (in_one_place f l valid legal g) }
 
 -- ---- deed words are read as the machine's deeds
 deed_is_word : (f : Profile) (o : Option Directory) (word : ℕ) → word ≡ word_of_deed o → ((d : Directory) → o ≡ Some d → IsDirectoryOf f d) → IsDeedWord f word
 deed_is_word f None word is of = inl is
 deed_is_word f (Some d) word is of = inr (d, of d refl, is)
 
-deed_is_read : (o : Option Directory) (word : ℕ) → word ≡ word_of_deed o → ((d : Directory) → o ≡ Some d → IsDirectory d) → directory_read word ≡ o
-deed_is_read None word is of = ap directory_read is
-deed_is_read (Some d) word is of = ap directory_read is ∙ read-deed_word_of d (of d refl)
-
--- The deed word of a page reads as its deed by the events.
-deed_read_after : (f : Profile) (l : Whole) → IsValid f → Legal f l → (page : ℕ) → directory_read (word_after l (Word.Deed page)) ≡ deed_in (visible l) page
-deed_read_after f l valid legal page = deed_is_read (deed_in (visible l) page) (word_after l (Word.Deed page)) (deed_of f l legal page) (λ d is. directory_from_profile f d valid (directory_is_of f l legal page d is))
-
--- a page is backed where the machine's is
-pub backed_after : (f : Profile) (l : Whole) → Legal f l → (page : ℕ) → (marks_after l page).backed ≡ backed_in (visible l) page
-backed_after f l legal page = backed_agrees (backed_in (visible l) page) (word_after l (Word.Backed page)) (backed_of f l legal page)
-
 module _ (state : State) (l : Whole) (has : HasWords state l) (valid : IsValid (profile_of state)) (legal : Legal (profile_of state) l) where
   -- The words of a state after a legal list are deed words of its directories.
   pub are_deed_words : AreDeedWords state
   are_deed_words = λ page of.
-      deed_is_word (profile_of state) (deed_in (visible l) page) (word_in state (Word.Deed page)) (has.words (Word.Deed page) of ∙ deed_of (profile_of state) l legal page) (directory_is_of (profile_of state) l legal page)
+      deed_is_word (profile_of state) (deed_in (visible l) page) (word_in state (Word.Deed page))
+      (has.words (Word.Deed page) of ∙ deed_of (profile_of state) l legal page) (directory_is_of (profile_of state) l legal page)
 
   deed_read : (page : ℕ) → IsPage (profile_of state) page → directory_read (word_in state (Word.Deed page)) ≡ deed_in (visible l) page
   deed_read page of = ap directory_read (has.words (Word.Deed page) of) ∙ deed_read_after (profile_of state) l valid legal page
@@ -277,75 +207,3 @@ all_counted state n counted_pages live ended unused most last counted =
       few = omega (arith, counted.few, most, last);
       small = omega (arith, counted.small, most, last);
     }
-
--- ==== What the marks of a page say at rest: where the right of a page with a deed is, which pages have room, and which are empty.
-
--- one of two marks is set where the other isn't
-only_first : (offered parked : Bool) → offered ≡ true → parked ≡ false → parked ≡ not offered
-only_first offered parked set unset = unset ∙ sym (ap (λ b. not b) set)
-
-only_second : (offered parked : Bool) → offered ≡ false → parked ≡ true → parked ≡ not offered
-only_second offered parked unset set = set ∙ sym (ap (λ b. not b) unset)
-
-module _ (f : Profile) (l : Whole) (valid : IsValid f) (legal : Legal f l) where
-  offered_is : (page : ℕ) (d : Directory) → deed_in (visible l) page ≡ Some d → (marks_after l page).offered ≡ eligible_bit l (number_of d) page
-  offered_is page d is = ap (offered_after l page) (deed_read_after f l valid legal page ∙ is)
-
-  -- the directory whose deed word the page has is that of the machine
-  word_is : (page : ℕ) (d : Directory) → deed_in (visible l) page ≡ Some d → word_after l (Word.Deed page) ≡ deed_word_of d
-  word_is page d is = deed_of f l legal page ∙ ap word_of_deed is
-
-  same_directory : (page : ℕ) (d other : Directory) → deed_in (visible l) page ≡ Some d → IsDirectoryOf f other
-      → word_after l (Word.Deed page) ≡ deed_word_of other → other ≡ d
-  same_directory page d other is of word = same_from_deed_word other d of.kind (directory_is_of f l legal page d is).kind (sym word ∙ word_is page d is)
-
-  -- a page whose right is offered is marked so
-  marked_offered : (page : ℕ) (d : Directory) → deed_in (visible l) page ≡ Some d → IsRightOffered f l page → (marks_after l page).offered ≡ true
-  marked_offered page d is offers = search (arith, eq-eqb, same_directory, offered_is)
-
-  -- ---- the place of the right
-  place_shown : (page : ℕ) (d : Directory) → deed_in (visible l) page ≡ Some d → NobodyHasRights l → IsRightInOnePlace f l page
-      → (marks_after l page).parked ≡ not ((marks_after l page).offered)
-  place_shown page d is rests (inl none) = absurd (deed_word_of-positive d (sym (word_is page d is) ∙ none.no_deed))
-  place_shown page d is rests (inr (inl one)) = absurd (false≢true (sym (rests.nobody one.actor page) ∙ one.holder one.actor ∙ eq-eqb one.actor one.actor refl))
-  place_shown page d is rests (inr (inr (inl offers))) = only_first _ _ (marked_offered page d is offers) offers.not_parked
-  place_shown page d is rests (inr (inr (inr parks))) = only_second _ _ (offered_is page d is ∙ parks.not_offered (number_of d)) parks.parked
-
-  with_deed : (page : ℕ) (o : Option Directory) → deed_in (visible l) page ≡ o → o ≢ None → NobodyHasRights l
-      → (marks_after l page).parked ≡ not ((marks_after l page).offered)
-  with_deed page None is some rests = absurd (some refl)
-  with_deed page (Some d) is some rests = place_shown page d is rests (right_in_one_place f l legal page)
-
-  -- EACH PAGE WITH A DEED is marked as one of offered and parked
-  pub rights_shown : NobodyHasRights l → (page : ℕ) → deed_in (visible l) page ≢ None → (marks_after l page).parked ≡ not ((marks_after l page).offered)
-  rights_shown rests page some = with_deed page (deed_in (visible l) page) refl some rests
-
-  -- ---- pages with room
-  -- a grain that no live block covers is free, when nobody holds one: its bit is that of the grain 256 * page + b
-  free_bit : AreFreeOrCovered f l → (page b : ℕ) → IsPage f page → b < 256 → is_covered (visible l) (256 * page + b) ≡ false
-      → has_bit (word_after l (Word.Free page (b / 64))) (b % 64) ≡ true
-  free_bit free page b of small none = search arith
-
-  usable_free : AreFreeOrCovered f l → (page b : ℕ) → IsPage f page → (d : Directory) → deed_in (visible l) page ≡ Some d → b < 256
-      → usable_by_kind d.kind b ≡ true
-      → is_covered (visible l) (256 * page + b) ≡ false → IsUsableFree l page (b / 64) (b % 64)
-  usable_free free page b of d is small usable none = search (arith, free_bit, deed_read_after)
-
-  -- EACH PAGE WITH ROOM is marked as offered
-  pub room_shown : AreFreeOrCovered f l → AllClear f l → NobodyHasRights l → (page : ℕ) → IsPage f page → (d : Directory) → deed_in (visible l) page ≡ Some d
-      → (b : ℕ) → b < 256 → usable_by_kind d.kind b ≡ true → is_covered (visible l) (256 * page + b) ≡ false → (marks_after l page).offered ≡ true
-  room_shown free clear rests page of d is b small usable none = marked_offered page d is (offered_at_rest f l legal clear page (b / 64) (b % 64) (omega arith)
-      (λ z. deed_word_of-positive d (sym (word_is page d is) ∙ z)) (usable_free free page b of d is small usable none) (λ k. rests.nobody k page))
-
-  -- EACH EMPTY PAGE that is backed is marked as hinted
-  pub empty_shown : AreFreeOrCovered f l → AllClear f l → (page : ℕ) → IsPage f page → backed_in (visible l) page ≡ true
-      → ((g : ℕ) → g / 256 ≡ page → is_covered (visible l) g ≡ false) → (marks_after l page).hinted ≡ true
-  empty_shown free clear page of backed none = search (arith, hinted_at_rest, backed_of)
-
-  -- THE MARKS ARE TRUE once no actor has anything
-  pub true_marks : ((k : ℕ) → HasNothing (part k l)) → AreTrueMarks f l
-  true_marks nothing =
-      let free : AreFreeOrCovered f l = nobody_holds f l valid legal (record { nobody = λ k g. (nothing k).grains g }) in
-      let rests : NobodyHasRights l = record { nobody = λ k page. (nothing k).rights page } in
-      let clear : AllClear f l = λ k within. (nothing k).clear in
-      record { backed = backed_after f l legal; offered_or_parked = rights_shown rests; offered = room_shown free clear rests; hinted = empty_shown free clear }

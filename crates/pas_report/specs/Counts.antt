@@ -7,7 +7,9 @@ use Rattle.pas_profile.specs.declared.{profile.Profile.Profile, directory.Direct
 use Rattle.pas_machine.specs.Totals.{sum_below, page_at}
 use Rattle.pas_steps.specs.States.{profile_of, word_in}
 use Rattle.pas_steps.specs.declared.state.State.{State}
-use Rattle.pas_report.specs.{Marks.Marked, Reports.grains_that, Reports.page_text, Reports.totals_text}
+use Rattle.pas_records.specs.Marks.{Marked}
+use Rattle.pas_report.specs.{Reports.grains_that, Reports.page_text, Totals.totals_text}
+use Rattle.pas_report.specs.declared.totals.Totals.{Totals}
 
 -- the pages of the region, and its grains
 abbrev pub pages_of : State → ℕ
@@ -64,20 +66,22 @@ pages_by_words state (suc n) = pages_by_words state n ++ page_by_words state (su
 abbrev pub life_of_grain : State → ℕ → ℕ
 life_of_grain state i = word_in state (Word.Life (page_at (i / 256)) (i % 256))
 
--- the pages whose deed is written, and those whose backed word is 1
-abbrev pub deeds_counted : State → ℕ
-deeds_counted state = count_below (pages_of state) (λ i. not (word_in state (Word.Deed (page_at i)) == 0))
+-- the blocks that ended, as the turn of a grain is the number of those that ended there; and the grains where a block lives
+abbrev ended_counted : State → ℕ
+ended_counted state = sum_below (grains_in state) (λ i. turn_of (life_of_grain state i))
 
-abbrev pub backed_counted : State → ℕ
-backed_counted state = count_below (pages_of state) (λ i. word_in state (Word.Backed (page_at i)) == 1)
-
--- the grains where a block lives
-abbrev pub live_counted : State → ℕ
+abbrev live_counted : State → ℕ
 live_counted state = count_below (grains_in state) (λ i. is_live (life_of_grain state i))
 
--- the blocks that ended: the turn of a grain is the number of those that ended there
-abbrev pub ended_counted : State → ℕ
-ended_counted state = sum_below (grains_in state) (λ i. turn_of (life_of_grain state i))
+-- THE TOTALS by the words: the pages whose deed is written, those whose backed word is 1, and blocks, each of which lives or ended
+abbrev pub totals_counted : State → Totals
+totals_counted state = record {
+  deeds = count_below (pages_of state) (λ i. not (word_in state (Word.Deed (page_at i)) == 0));
+  backed = count_below (pages_of state) (λ i. word_in state (Word.Backed (page_at i)) == 1);
+  live = live_counted state;
+  given = ended_counted state + live_counted state;
+  ended = ended_counted state;
+}
 
 -- so many blocks live at the first n grains, and so many ended there; each grain has one live block at most, and a turn below 2^40
 pub record AreCounted (state : State) (n live ended : ℕ) : Type 0 where
@@ -86,13 +90,9 @@ pub record AreCounted (state : State) (n live ended : ℕ) : Type 0 where
   pub few : live ≤ n
   pub small : ended ≤ n * 2 ^ 40
 
--- each block that was given ended or lives
-abbrev pub given_counted : State → ℕ
-given_counted state = ended_counted state + live_counted state
-
 -- the line of these totals
 abbrev pub totals_by_words : State → List ℕ
-totals_by_words state = totals_text (deeds_counted state) (backed_counted state) (live_counted state) (given_counted state) (ended_counted state)
+totals_by_words state = totals_text (totals_counted state)
 
 -- THE REPORT by the words
 abbrev pub report_by_words : State → List ℕ

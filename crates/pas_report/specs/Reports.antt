@@ -1,27 +1,13 @@
 -- The report: a line for each page with a deed, in order, and the total line.
-use Rattle.std.specs.Prelude.{ℕ, zero, suc, ◌+◌, ◌*◌, ◌/◌, Bool, false, not, ◌||◌, List, [], ◌++◌, Option, None, Some, codes}
+use Rattle.std.specs.Prelude.{ℕ, zero, suc, ◌+◌, ◌*◌, Bool, not, List, [], ◌++◌, Option, None, Some, codes}
 use Rattle.std.specs.Fmt.{decimal}
 use Rattle.pas_profile.specs.declared.{profile.Profile.Profile, directory.Directory.Directory, event.Event.Event}
-use Rattle.pas_bits.specs.{Bits.count_below, Runs.in_run}
-use Rattle.pas_profile.specs.Blocks.{length_of}
-use Rattle.pas_machine.specs.State.{Live, deed_in, live_in, epoch_in}
-use Rattle.pas_machine.specs.Totals.{has_block, deeds_total, backed_total, live_total, given_total, ended_total}
-use Rattle.pas_report.specs.{Lines.kind_text, Marks.Marked, Marks.marks_text}
+use Rattle.pas_bits.specs.Bits.{count_below}
+use Rattle.pas_machine.specs.{State.deed_in, State.live_in, State.epoch_in, Totals.has_block}
+use Rattle.pas_records.specs.{Covered.is_covered, Lines.kind_text, Marks.Marked, Marks.marks_text}
+use Rattle.pas_report.specs.Totals.{totals_of, totals_text}
 
 -- ---- what the machine says of a page
--- the block that lives at an address covers the grain
-abbrev pub covers : Option Live → ℕ → ℕ → Bool
-covers None address g = false
-covers (Some b) address g = in_run (address / 16) (length_of b.block) g
-
-abbrev pub some_below : ℕ → (ℕ → Bool) → Bool
-some_below zero p = false
-some_below (suc n) p = p n || some_below n p
-
--- a live block covers the grain: one that begins there or before
-abbrev pub is_covered : List Event → ℕ → Bool
-is_covered es g = some_below (g + 1) (λ x. covers (live_in es (16 * x)) (16 * x) g)
-
 -- how many of the 256 grains of a page pass the test
 unfoldable pub grains_that : (ℕ → Bool) → ℕ
 grains_that p = count_below 256 p
@@ -38,10 +24,6 @@ abbrev pub page_text : ℕ → Directory → ℕ → ℕ → ℕ → Marked → 
 page_text page d live free stamp marks = codes "page " ++ (decimal page ++ (codes " heap " ++ (decimal d.heap ++ (codes " " ++ (kind_text d.kind ++ (codes " live " ++ (decimal live
     ++ (codes " free " ++ (decimal free ++ (codes " stamp " ++ (decimal stamp ++ (codes " marks " ++ (marks_text marks ++ codes "\n")))))))))))))
 
-abbrev pub totals_text : ℕ → ℕ → ℕ → ℕ → ℕ → List ℕ
-totals_text deeds backed live given ended = codes "total deeds " ++ (decimal deeds ++ (codes " backed " ++ (decimal backed ++ (codes " live " ++ (decimal live
-    ++ (codes " given " ++ (decimal given ++ (codes " ended " ++ (decimal ended ++ codes "\n")))))))))
-
 -- the line of a page of the machine, with these marks; a page without a deed has none
 abbrev pub machine_page : List Event → ℕ → Option Directory → Marked → List ℕ
 machine_page es page None marks = []
@@ -53,7 +35,7 @@ machine_pages es marks zero = []
 machine_pages es marks (suc n) = machine_pages es marks n ++ machine_page es (suc n) (deed_in es (suc n)) (marks (suc n))
 
 abbrev pub total_line : Profile → List Event → List ℕ
-total_line f es = totals_text (deeds_total f es) (backed_total f es) (live_total f es) (given_total f es) (ended_total f es)
+total_line f es = totals_text (totals_of f es)
 
 -- THE REPORT of the machine that the events reach, with marks of pages
 abbrev pub report_text : Profile → List Event → (ℕ → Marked) → List ℕ

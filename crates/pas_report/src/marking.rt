@@ -3,7 +3,8 @@ ghost use Rattle.std.specs.Prelude.{⊤, ◌≡◌, [], ◌∷◌, codes};
 ghost use Rattle.pas_profile.specs.Profiles.{IsPage};
 ghost use Rattle.pas_profile.specs.declared.word.Word.TheVariants as Word;
 ghost use Rattle.pas_steps.specs.States.{profile_of, word_in};
-ghost use Rattle.pas_report.specs.{Counts.IsDeedWord, Counts.marked_in, Marks.bits_of, Marks.marks_of, Marks.marks_text};
+ghost use Rattle.pas_report.specs.Counts.{IsDeedWord, marked_in};
+ghost use Rattle.pas_records.specs.Marks.{bits_of, marks_of, marks_text};
 
 use bitflags::{Flag, Flags, bitflag_items};
 use pas_bits::page_vector::has_page;

@@ -1,17 +1,18 @@
-//! The lines of the report.
-ghost use Rattle.std.specs.Prelude.{◌≡◌, ◌+◌, ◌^◌, ◌<◌, ◌≤◌, ◌++◌};
+//! The lines of pages.
+ghost use Rattle.std.specs.Prelude.{◌≡◌, ◌+◌, ◌≤◌, ◌++◌};
 ghost use Rattle.arrayvec.specs.ArrayString.{array_string_len};
 ghost use Rattle.pas_profile.specs.{Directories.IsKind, Profiles.IsPage};
 ghost use Rattle.pas_profile.specs.declared.word.Word.TheVariants as Word;
 ghost use Rattle.pas_steps.specs.States.{profile_of, word_in};
-ghost use Rattle.pas_report.specs.Counts.{IsDeedWord, free_counted_on, live_counted_on, marked_in, page_by_words, totals_by_words};
-ghost use Rattle.pas_report.specs.{Marks.marks_of, Reports.page_text, Reports.totals_text};
+ghost use Rattle.pas_report.specs.Counts.{IsDeedWord, free_counted_on, live_counted_on, marked_in, page_by_words};
+ghost use Rattle.pas_records.specs.Marks.{marks_of};
+ghost use Rattle.pas_report.specs.Reports.{page_text};
 
-use crate::counts::{Blocks, count_backed, count_blocks, count_deeds, free_on, live_on};
+use crate::counts::{free_on, live_on};
 use crate::marking::{Marks, names_of, page_marks};
-use crate::text::{Line, push_field, push_kind};
 use arrayvec::ArrayString;
 use pas_profile::{Directory, Word, read_deed};
+use pas_records::text::{Line, push_field, push_kind};
 use pas_steps::State;
 
 /// The line of a page whose deed word is 0 or a directory's of the profile; without a deed it is empty. It reads each word of the page
@@ -98,53 +99,5 @@ fn push_shown_page<const C: usize>(
     push_field(text, " stamp ", stamp);
     text.push_str(" marks ");
     text.push_str(names_of(marks));
-    text.push_str("\n");
-}
-
-/// The line of the totals of a region. It reads the life word of each grain once, and takes no memory.
-pub fn total_line(state: &State) -> Line
-    ensures { result.bytes ≡ totals_by_words state.now }
-{
-    let mut line = Line::new();
-    push_totals(&mut line, state);
-    line
-}
-
-/// Adds the line of the totals, of at most 128 bytes.
-pub(crate) fn push_totals<const C: usize>(text: &mut ArrayString<C>, state: &State)
-    requires { array_string_len text.old + 128 ≤ C }
-    ensures { text.new.bytes ≡ text.old.bytes ++ totals_by_words state.now }
-{
-    let Blocks { live, ended } = count_blocks(state);
-    push_shown_totals(text, count_deeds(state), count_backed(state), live, ended);
-}
-
-/// The line of these totals: of pages with a deed and backed pages, of blocks that live and that ended. Each block that was given lives or ended.
-pub fn shown_totals(deeds: u32, backed: u32, live: u64, ended: u64) -> Line
-    requires { ended + live < 2 ^ 63 }
-    ensures { result.bytes ≡ totals_text deeds backed live (ended + live) ended }
-{
-    let mut line = Line::new();
-    push_shown_totals(&mut line, deeds, backed, live, ended);
-    line
-}
-
-/// Adds the line of these totals, of at most 128 bytes.
-fn push_shown_totals<const C: usize>(
-    text: &mut ArrayString<C>,
-    deeds: u32,
-    backed: u32,
-    live: u64,
-    ended: u64,
-)
-    requires fit { ended + live < 2 ^ 63 }
-    requires room { array_string_len text.old + 128 ≤ C }
-    ensures { text.new.bytes ≡ text.old.bytes ++ totals_text deeds backed live (ended + live) ended }
-{
-    push_field(text, "total deeds ", deeds);
-    push_field(text, " backed ", backed);
-    push_field(text, " live ", live);
-    push_field(text, " given ", ended + live);
-    push_field(text, " ended ", ended);
     text.push_str("\n");
 }

@@ -1,15 +1,16 @@
 //! The report of a state, written to a sink.
-ghost use Rattle.std.specs.Prelude.{◌≡◌, ◌≤◌, ◌+◌, ◌↔◌, ℕ, List, Option, IsTrue, OnOk, OnErr};
-ghost use Rattle.arrayvec.specs.ArrayString.{array_string_len};
+ghost use Rattle.std.specs.Prelude.{◌≡◌, ◌≤◌, ◌+◌, ◌↔◌, IsTrue, OnOk, OnErr};
 ghost use Rattle.pas_profile.specs.Profiles.{IsValid, IsDirectoryOf};
 ghost use Rattle.pas_io.specs.Told.{Rose, Writes, WritesFront};
-ghost use Rattle.pas_report.specs.{Counts.AreDeedWords, Counts.IsDeedWord, Counts.report_by_words, Pieces.IsPutOut};
+ghost use Rattle.pas_report.specs.Counts.{AreDeedWords, IsDeedWord, report_by_words};
 
-use crate::pages::{push_page, push_totals};
-use crate::text::{LINE_BYTES, Lines};
+use crate::pages::push_page;
+use crate::totals::push_totals;
 use pas_io::whole::write_all;
 use pas_io::{Failed, Sink};
 use pas_profile::{Directory, Kind, Profile, Word, read_deed};
+use pas_records::Lines;
+use pas_records::transcript::make_room;
 use pas_steps::State;
 
 /// Whether the directory is of the profile: of one of its heaps, and where it is of a class, of one of its classes.
@@ -45,22 +46,6 @@ pub fn has_deed_words(state: &State) -> bool
         }
     }
     true
-}
-
-/// Writes the lines that wait where there is no room for one more.
-pub(crate) fn make_room<K: Sink>(sink: &mut K, lines: &mut Lines) -> Result<(), Failed>
-    ensures keeps { OnOk result ((before : Option (List ℕ)) (text : List ℕ) → IsPutOut before (K.held sink.old) lines.old.bytes text → IsPutOut before (K.held sink.new) lines.new.bytes text) }
-    ensures room { OnOk result (array_string_len lines.new + 128 ≤ 65536) }
-    ensures front { OnErr result ((before : Option (List ℕ)) (text : List ℕ) → IsPutOut before (K.held sink.old) lines.old.bytes text → WritesFront before (K.held sink.new) text) }
-    ensures sound { OnOk result (K.faults sink.new ≡ K.faults sink.old) }
-    ensures failed { OnErr result (Rose (K.faults sink.old) (K.faults sink.new)) }
-    ensures count { K.faults sink.old ≤ K.faults sink.new }
-{
-    if lines.remaining_capacity() < LINE_BYTES {
-        write_all(sink, lines.as_str().as_bytes())?;
-        lines.clear();
-    }
-    Ok(())
 }
 
 /// Writes the report: a line for each page with a deed, in order, and the line of the totals. The deed word of each page must be 0 or a

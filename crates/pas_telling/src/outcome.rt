@@ -1,5 +1,5 @@
 //! What an input comes to.
-use pas_report::Records;
+use pas_records::Records;
 use pas_steps::State;
 use pas_trace::TraceFault;
 

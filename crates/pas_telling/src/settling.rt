@@ -1,14 +1,16 @@
 //! The end of a replay on threads: the report is made, and what is spent is let go, while the lines of the records are written.
 ghost use Rattle.std.specs.Prelude.{◌≡◌, ◌≤◌, All, IfSome, OnOk, OnErr};
 ghost use Rattle.pas_io.specs.{Told.Rose, Told.Writes, Told.WritesFront, Taken.taken};
-ghost use Rattle.pas_report.specs.{Lines.CanShow, Lines.lines_of, Counts.AreDeedWords, Counts.report_by_words, Rooms.records_in};
+ghost use Rattle.pas_records.specs.{Lines.CanShow, Lines.lines_of, Rooms.records_in};
+ghost use Rattle.pas_report.specs.Counts.{AreDeedWords, report_by_words};
 ghost use Rattle.pas_telling.specs.Outcomes.{IsShown, shown_text};
 
 use pas_io::memory::MemorySink;
 use pas_io::whole::write_all;
 use pas_io::{Failed, Sink};
 use pas_profile::NoMemory;
-use pas_report::{LINE_BYTES, Record, Records, Sheets, report, write_lines, write_lines_on};
+use pas_records::{LINE_BYTES, Record, Records, Sheets, write_lines, write_lines_on};
+use pas_report::report;
 use pas_steps::State;
 use std::alloc::Global;
 use std::thread::{Threads, join_mut};

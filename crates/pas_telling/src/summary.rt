@@ -6,8 +6,9 @@ ghost use Rattle.pas_telling.specs.Summaries.{counts, line_text, summary_text};
 
 use arrayvec::ArrayString;
 use pas_profile::{Event, Why};
-use pas_report::text::push_field;
-use pas_report::{Record, Said, total_line};
+use pas_records::text::push_field;
+use pas_records::{Record, Said};
+use pas_report::total_line;
 use pas_steps::State;
 
 /// A sort of lines that a summary counts.

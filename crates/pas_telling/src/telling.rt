@@ -1,7 +1,7 @@
 //! How what an input comes to is written.
 ghost use Rattle.std.specs.Prelude.{◌≡◌, ◌≤◌, OnOk, OnErr, length};
 ghost use Rattle.pas_io.specs.Told.{Rose, Tells, Writes, WritesFront};
-ghost use Rattle.pas_report.specs.Rooms.{records_in};
+ghost use Rattle.pas_records.specs.Rooms.{records_in};
 ghost use Rattle.pas_telling.specs.Faults.{fault_text, reason_text};
 ghost use Rattle.pas_telling.specs.Outcomes.{IsShown, IsWritable, outcome_status, outcome_text, shown_text};
 
@@ -10,8 +10,9 @@ use crate::outcome::Outcome;
 use crate::settling::write_and_settle;
 use pas_io::whole::write_all;
 use pas_io::{Failed, Sink};
-use pas_report::text::push_field;
-use pas_report::{Line, Records, report, write_lines};
+use pas_records::text::push_field;
+use pas_records::{Line, Records, write_lines};
+use pas_report::report;
 use pas_steps::State;
 use pas_trace::{Reason, TraceFault};
 use std::alloc::Global;

@@ -12,7 +12,8 @@ pub stop-requires-clause-can : goal.stop-requires-clause-can
 stop-requires-clause-can g c = can_rest (cached c.args.cache.now) Stop (g.D.Desk.spare_of c.args.desk.now) c.args.out.now c.requires.can
 
 pub push_events-requires-clause-within : goal.push_events-requires-clause-within
-push_events-requires-clause-within g c = shown_longer (performs_stop Task.Stop None (cached c.args.cache.now) (cached c.stop.new.self) refl c.stop.ensures.stops).calls.adds c.shown-before.result.now c.shown.result.now
+push_events-requires-clause-within g c = shown_longer (performs_stop Task.Stop None (cached c.args.cache.now)
+    (cached c.stop.new.self) refl c.stop.ensures.stops).calls.adds c.shown-before.result.now c.shown.result.now
     (is_shown (g.D.Desk.standing c.args.desk.now) c.shown-before.ensures refl (g.met.D.Desk.shows c.args.desk.now))
     (is_shown (g.D.Desk.standing c.stop.new.desk) c.shown.ensures (ap g.D.Desk.forgotten c.stop.ensures.home) (g.met.D.Desk.shows c.stop.new.desk))
     (can_rest (cached c.args.cache.now) Stop (g.D.Desk.spare_of c.args.desk.now) c.args.out.now c.requires.can)

@@ -24,7 +24,8 @@ free-requires-in-FreeRaw-clause-room g c = (fits_task (g.D.Desk.standing c.args.
     (Task.FreeRaw c.in-FreeRaw.block c.in-FreeRaw.room) c.in-FreeRaw.is c.requires.fit.2).1.1
 
 pub free-requires-in-FreeRaw-clause-can : goal.free-requires-in-FreeRaw-clause-can
-free-requires-in-FreeRaw-clause-can g c = can_log (cached c.args.cache.now) (Task.FreeRaw c.in-FreeRaw.block c.in-FreeRaw.room) c.in-FreeRaw.block (g.D.Desk.spare_of c.args.desk.now) c.in-FreeRaw.is refl c.requires.can
+free-requires-in-FreeRaw-clause-can g c = can_log (cached c.args.cache.now) (Task.FreeRaw c.in-FreeRaw.block c.in-FreeRaw.room) c.in-FreeRaw.block
+    (g.D.Desk.spare_of c.args.desk.now) c.in-FreeRaw.is refl c.requires.can
 
 pub returns-in-Request-clause-performs : goal.returns-in-Request-clause-performs
 returns-in-Request-clause-performs g c = rw c.in-Request.is (c.allocate.ensures.performs c.args.meant)
@@ -76,7 +77,8 @@ returns-in-Stop-clause-performs g c =
 -- a reallocation of a block, and of nothing
 pub resize-requires-clause-admitted : goal.resize-requires-clause-admitted
 resize-requires-clause-admitted g c =
-    admitted_there (g.D.Desk.standing c.args.desk.now).seat.profile c.requires.fit.0 c.requires.fit.1 c.in-Some-meant.block c.in-Remake.is c.requires.fit.2 (c.requires.stands c.in-Some-meant.block c.in-Some-meant.is)
+    admitted_there (g.D.Desk.standing c.args.desk.now).seat.profile c.requires.fit.0 c.requires.fit.1 c.in-Some-meant.block c.in-Remake.is c.requires.fit.2
+    (c.requires.stands c.in-Some-meant.block c.in-Some-meant.is)
 
 pub resize-requires-clause-stands : goal.resize-requires-clause-stands
 resize-requires-clause-stands g c = c.requires.stands c.in-Some-meant.block c.in-Some-meant.is

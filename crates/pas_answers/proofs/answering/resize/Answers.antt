@@ -25,7 +25,8 @@ returns-in-Ok-New-clause-performs g c = λ n heap.
 pub returns-in-Ok-New-clause-stands : goal.returns-in-Ok-New-clause-stands
 returns-in-Ok-New-clause-stands g c =
     new_stands (g.D.Desk.standing c.args.desk.now) (g.D.Desk.standing c.remake.new.desk) (cached c.args.cache.now) (cached c.remake.new.cache) c.args.name 0 0 c.args.size c.args.align c.args.old (g.O.Door.answers c.args.door.now c.remake.new.door) (c.remake.new.door ≡ c.args.door.now)
-    (g.D.Desk.spare_of c.args.desk.now) c.in-Ok-New.block (g.met.D.Desk.valid c.args.desk.now) c.requires.admitted (c.requires.can 0 0) (c.in-Ok-New.is ∙ ap (λ moved. Ok moved) c.in-Ok-New.field-0-is) c.remake.ensures.moves
+    (g.D.Desk.spare_of c.args.desk.now) c.in-Ok-New.block (g.met.D.Desk.valid c.args.desk.now) c.requires.admitted (c.requires.can 0 0)
+    (c.in-Ok-New.is ∙ ap (λ moved. Ok moved) c.in-Ok-New.field-0-is) c.remake.ensures.moves
 
 pub returns-in-Err-clause-performs : goal.returns-in-Err-clause-performs
 returns-in-Err-clause-performs g c = λ n heap.

@@ -16,7 +16,8 @@ pub free-requires-clause-room : goal.free-requires-clause-room
 free-requires-clause-room g c = room_to_free c.args.old.heap c.args.size c.args.align (g.D.Desk.spare_of c.args.desk.now) (g.D.Desk.spare_of c.serve.new.desk) (cached c.args.cache.now) (cached c.serve.new.self) c.in-Ok.block c.in-Ok.ensures.allocates c.requires.can (g.met.D.Desk.spares c.args.desk.now) (g.met.D.Desk.spares c.serve.new.desk)
 
 pub free-requires-clause-can : goal.free-requires-clause-can
-free-requires-clause-can g c = can_free c.args.old.heap c.args.size c.args.align (g.D.Desk.spare_of c.args.desk.now) (cached c.args.cache.now) (cached c.serve.new.self) c.in-Ok.block c.in-Ok.ensures.allocates c.requires.can
+free-requires-clause-can g c = can_free c.args.old.heap c.args.size c.args.align (g.D.Desk.spare_of c.args.desk.now) (cached c.args.cache.now)
+    (cached c.serve.new.self) c.in-Ok.block c.in-Ok.ensures.allocates c.requires.can
 
 pub unreachable-requires : goal.unreachable-requires
 unreachable-requires g c = let s = serves (cached c.args.cache.now) (cached c.serve.new.self) c.args.old.heap c.args.size c.args.align c.in-Ok.ensures.allocates in no_fault (g.D.Desk.standing c.serve.new.desk).seat.profile c.args.old.name c.in-Err-free._fault (in_same s c.args.old.name c.requires.region) c.in-Err-free.ensures.frees.outcome.fault_is

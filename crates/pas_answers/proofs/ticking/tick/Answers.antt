@@ -1,4 +1,4 @@
-use Rattle.pas_report.specs.Rooms.{records_in}
+use Rattle.pas_records.specs.Rooms.{records_in}
 use Rattle.pas_answers.proofs.SingleActs.{tick_answered}
 use Rattle.pas_answers.proofs.ticking.tick.Goals as goal
 

@@ -1,4 +1,4 @@
-use Rattle.pas_report.proofs.ReportOfWords.{backed_after}
+use Rattle.pas_records.proofs.MarksAtRest.{backed_after}
 use Rattle.pas_report.proofs.laws.backed_pages_are_shown.Goals as goal
 
 pub returns : goal.returns

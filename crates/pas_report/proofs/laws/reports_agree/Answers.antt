@@ -1,4 +1,5 @@
-use Rattle.pas_report.proofs.ReportOfWords.{are_deed_words, marks_are, nobody_holds, report_agrees}
+use Rattle.pas_report.proofs.ReportOfWords.{are_deed_words, marks_are, report_agrees}
+use Rattle.pas_records.proofs.MarksAtRest.{nobody_holds}
 use Rattle.pas_report.proofs.laws.reports_agree.Goals as goal
 
 pub returns-clause-deeds : goal.returns-clause-deeds

@@ -1,5 +1,5 @@
 use Rattle.std.proofs.Common.{◌≡◌, ◌-◌}
-use Rattle.pas_report.specs.Pieces.{IsPutOut}
+use Rattle.pas_records.specs.Pieces.{IsPutOut}
 use Rattle.pas_report.proofs.Pieces.{so_far}
 use Rattle.pas_report.proofs.reports.report.Given as goal
 

@@ -1,6 +1,0 @@
-use Rattle.std.proofs.Common.{arith}
-use Rattle.pas_report.proofs.Texts.{then_piece, then_field}
-use Rattle.pas_report.proofs.lines.push_freed.Goals as goal
-
-pub returns-clause-bytes : goal.returns-clause-bytes
-returns-clause-bytes g c = search (arith, then_piece, then_field)

@@ -1,6 +1,0 @@
-use Rattle.std.proofs.Common.{◌∙◌}
-use Rattle.pas_report.proofs.Decimals.{digit_at}
-use Rattle.pas_report.proofs.text.digit.Goals as goal
-
-pub returns : goal.returns
-returns c = c.range.ensures.value ∙ digit_at c.args.n c.requires

@@ -1,6 +1,0 @@
-use Rattle.std.proofs.Common.{arith}
-use Rattle.pas_report.proofs.Texts.{then_piece}
-use Rattle.pas_report.proofs.text.push_name.Goals as goal
-
-pub returns-clause-bytes : goal.returns-clause-bytes
-returns-clause-bytes g c = search (arith, then_piece)
