@@ -7,8 +7,8 @@ use Rattle.pas_steps.specs.Desks.{Standing, CanCall, triples, Makes, made}
 use Rattle.pas_steps.specs.declared.step.{Made.Made, Step.TheVariants.Look, Step.TheVariants.Tick}
 use Rattle.pas_steps.proofs.{Frames.events_split, Parts.part_of_own, Called.call_none, Called.call_as, SpareRoom.Spares, Parts.part_of_others}
 use Rattle.pas_steps.proofs.{Unknown.unknown_no_more, Apart.no_events}
-use Rattle.pas_report.specs.Rooms.{records_in, room_of, Records}
-use Rattle.pas_report.specs.declared.record.{Record.Record, Said.Said}
+use Rattle.pas_records.specs.Rooms.{records_in, room_of, Records}
+use Rattle.pas_records.specs.declared.record.{Record.Record, Said.Said}
 use Rattle.pas_cache.specs.{Caches.Cached, Caches.AtRest, Calls.Begins, Calls.SettlesEach}
 use Rattle.pas_answers.specs.Answers.{Progress, having, Answer, answer_of, begun, settled, stopped, epoch_look, after_answer, after_settling, after_wake}
 use Rattle.pas_answers.specs.Answers.{after_stop, IsAnswered, IsStopped, records_of, said_by, Books, with_book, after_tick, after_pass, after_reading}
@@ -164,7 +164,8 @@ own_cost op = if_same (op.actor == op.actor) (cost_of_what op.what) (eq-eqb op.a
 module _ {Door : Type 0} (Answers : Door → Door → ℕ → ℕ → Option ℕ → Type 0) (HandsOn : Door → Door → ℕ → Range → Type 0) (door next door' : Door) where
   -- the operation was answered, with the run that the door named
   abbrev pub AnswersAsking : What → Option Block → Option Block → Cached → Cached → Records → Records → Standing → Standing → Type 0
-  AnswersAsking what meant came c c1 out out' σ σ' = (did : AnswersMeant what meant came c c1 out out' σ σ') × IsNamedFor σ.seat.profile (Answers door next) (next ≡ door) (request_made what meant) did.performs.found
+  AnswersAsking what meant came c c1 out out' σ σ' = (did : AnswersMeant what meant came c c1 out out' σ σ') × IsNamedFor σ.seat.profile (Answers door next)
+      (next ≡ door) (request_made what meant) did.performs.found
 
   -- An operation that was answered, and whose noted runs were handed on, is done, and goes through its door.
   pub has_operated : {f : _} {op : Op} {what meant came σ σ' c c1 c' out out' later p : _}

@@ -1,6 +1,6 @@
 pub mod Noting
 pub mod AtDesk
-mod Working
+pub mod Working
 pub mod ActsOfPlan
 pub mod Naming
 pub mod PlanFacts

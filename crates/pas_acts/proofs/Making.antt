@@ -1,21 +1,25 @@
 -- How the parts of a kit are made, one after the other, and how many guarded requests the books of its keepers are made for.
 use Rattle.std.proofs.Common.{◌≡◌, ℕ, ◌+◌, List, [], ◌∷◌, ◌++◌, length, All, slice_index_or, Option, Some, None, ap, sym, ◌∙◌, subst, arith, length-append}
-use Rattle.std.proofs.Common.{zero, suc, ◌<◌, ◌≤◌, ◌==◌, Bool, if◌then◌else◌, map, drop, get_or, Result, IfOk, eq-eqb, ne_eqb}
+use Rattle.std.proofs.Common.{zero, suc, ◌<◌, ◌≤◌, ◌==◌, Bool, if◌then◌else◌, map, drop, get_or, Result, IfOk, eq-eqb, ne_eqb, refl, ◌||◌}
 use Rattle.std.proofs.{lemmas.Bool.cases_lt, lemmas.List.get_or_append_left, lemmas.List.Elements.All-push, Math.Seq.get_or-append_seam, lemmas.List.drop_more}
+use Rattle.std.proofs.{lemmas.List.map-append}
 use Rattle.pas_profile.specs.Rooms.{shown, size_of_room, EventRoom}
 use Rattle.pas_cache.specs.Caches.{Cached, cached}
 use Rattle.pas_cache.specs.declared.cache.ThreadCache.{ThreadCache}
-use Rattle.pas_acts.specs.{Parts.AreRooms, Parts.AreUnused, PlanKeepers.one_guarded, PlanKeepers.guarded_of, PlanKeepers.AreBooksFor}
+use Rattle.pas_acts.specs.Parts.{AreRooms, AreUnused}
+use Rattle.pas_acts.specs.PlanKeepers.{keepers_by, one_guarded, guarded_of, AreBooksFor}
 use Rattle.pas_answers.specs.Replays.{empty_cache}
 use Rattle.std.specs.{List.AllByRecursion, Global.Vec}
 use Rattle.pas_profile.specs.declared.profile.Profile.{Profile}
 use Rattle.pas_trace.specs.Asked.{work_of, of_task, keeper_of, keeper_in}
-use Rattle.pas_trace.specs.EveryPlan.{all_ops, IsActorBy, records_of_work, records_of_what, records_of_ops}
-use Rattle.pas_trace.specs.Plans.{ops_of}
-use Rattle.pas_trace.specs.declared.plan.{Op.Op, Phase.Phase, Work.Work}
+use Rattle.pas_trace.specs.EveryPlan.{all_ops, operations_of, IsActorBy, records_of_work, records_of_what, records_of_ops}
+use Rattle.pas_trace.specs.{Acts.is_active, Acts.keepers_of, Codes.unlined, Courses.IsCourseOf, Plans.IsPlanOf, Plans.ops_of, Plans.phases_of}
+use Rattle.pas_trace.specs.{Scripts.without_lines}
+use Rattle.pas_trace.specs.declared.{course.Course.Course, plan.Op.Op, plan.Plan.Plan, plan.Work.Work}
+use Rattle.pas_trace.proofs.EveryPlan.{every_plan}
+use Rattle.pas_acts.proofs.{PlanFacts.plan_planned, ActsOfPlan.ArePlanned}
 use Rattle.pas_guard.specs.Books.{guards_in, size_of_book}
 use Rattle.pas_guard.specs.declared.book.GuardBook.{GuardBook}
-use Rattle.pas_acts.proofs.ActsOfPlan.{ArePlanned}
 use Rattle.pas_answers.proofs.EachAct.{all_front, all_back}
 
 -- the element that was put at the end
@@ -77,10 +81,20 @@ pub guarded_next : (k : ℕ) (ops : List Op) (i : ℕ) (d : Op) → i < length o
     → guarded_of k (drop i ops) ≡ guards_of k (get_or ops i d) + guarded_of k (drop (i + 1) ops)
 guarded_next k ops i d lt = ap (λ (xs : List Op). guarded_of k xs) (drop_more ops i d lt)
 
+-- .. which is said but for its line
+pub said_next : (k : ℕ) (said : Op) (ops : List Op) (i : ℕ) → i < length ops → ((d : Op) → unlined said ≡ slice_index_or ops i d)
+    → guarded_of k (drop i ops) ≡ guards_of k said + guarded_of k (drop (i + 1) ops)
+said_next k said ops i lt at = guarded_next k ops i said lt ∙ ap (λ (o : Op). guards_of k o + guarded_of k (drop (i + 1) ops)) (sym (at said))
+
+pub active_next : (k : ℕ) (said : Op) (ops : List Op) (i : ℕ) → i < length ops → ((d : Op) → unlined said ≡ slice_index_or ops i d)
+    → is_active (drop i ops) k ≡ ((said.actor == k) || is_active (drop (i + 1) ops) k)
+active_next k said ops i lt at =
+    ap (λ (os : List Op). is_active os k) (drop_more ops i said lt) ∙ ap (λ (o : Op). (o.actor == k) || is_active (drop (i + 1) ops) k) (sym (at said))
+
 -- .. and of phases with one phase more
-pub phases_next : (k : ℕ) (phases : List Phase) (i : ℕ) (item : Phase) → i < length phases → item ≡ slice_index_or phases i item
-    → guarded_of k (all_ops (map ops_of (drop i phases))) ≡ guarded_of k (ops_of item) + guarded_of k (all_ops (map ops_of (drop (i + 1) phases)))
-phases_next k phases i item lt is = cc (drop_more phases i item lt, guarded_both k (ops_of item) (all_ops (map ops_of (drop (i + 1) phases))))
+pub phases_next : {P : Type 0} (said : P → List Op) (k : ℕ) (phases : List P) (i : ℕ) (item : P) → i < length phases → item ≡ slice_index_or phases i item
+    → guarded_of k (all_ops (map said (drop i phases))) ≡ guarded_of k (said item) + guarded_of k (all_ops (map said (drop (i + 1) phases)))
+phases_next said k phases i item lt is = cc (drop_more phases i item lt, guarded_both k (said item) (all_ops (map said (drop (i + 1) phases))))
 
 -- so many more of one actor
 pub count_more : (a k more : ℕ) (counts : ℕ → ℕ) → (if a == k then counts a + more else counts k) ≡ counts k + (if a == k then more else 0)
@@ -116,11 +130,39 @@ all_at P (x ∷ xs) zero d all lt = all.0
 all_at P (x ∷ xs) (suc i) d all lt = all_at P xs i d all.1 (omega (arith, lt))
 
 -- what is so of all operations is so of those of a phase
-pub phase_at : (P : Op → Type 0) (phases : List Phase) (i : ℕ) (d : Phase) → AllByRecursion P (all_ops (map ops_of phases)) → i < length phases
-    → AllByRecursion P (ops_of (get_or phases i d))
-phase_at P [] i d all lt = absurd (let bad : i < 0 = lt in omega (arith, bad))
-phase_at P (p ∷ phases) zero d all lt = all_front P (ops_of p) (all_ops (map ops_of phases)) all
-phase_at P (p ∷ phases) (suc i) d all lt = phase_at P phases i d (all_back P (ops_of p) (all_ops (map ops_of phases)) all) (omega (arith, lt))
+pub phase_at : {Phase : Type 0} (said : Phase → List Op) (P : Op → Type 0) (phases : List Phase) (i : ℕ) (d : Phase)
+    → AllByRecursion P (all_ops (map said phases)) → i < length phases → AllByRecursion P (said (get_or phases i d))
+phase_at said P [] i d all lt = absurd (let bad : i < 0 = lt in omega (arith, bad))
+phase_at said P (p ∷ phases) zero d all lt = all_front P (said p) (all_ops (map said phases)) all
+phase_at said P (p ∷ phases) (suc i) d all lt = phase_at said P phases i d (all_back P (said p) (all_ops (map said phases)) all) (omega (arith, lt))
+
+-- ---- without their lines
+pub same_guarded : (k : ℕ) (ops : List Op) → guarded_of k (map unlined ops) ≡ guarded_of k ops
+same_guarded k [] = refl
+same_guarded k (op ∷ ops) = ap (λ (n : ℕ). guards_of k op + n) (same_guarded k ops)
+
+still_within : (n : ℕ) (ops : List Op) → AllByRecursion (λ (op : Op). op.actor < n) ops → AllByRecursion (λ (op : Op). op.actor < n) (map unlined ops)
+still_within n [] all = tt
+still_within n (op ∷ ops) all = (all.0, still_within n ops all.1)
+
+all_unlined : (phases : List (List Op)) → all_ops (without_lines phases) ≡ map unlined (all_ops phases)
+all_unlined [] = refl
+all_unlined (phase ∷ phases) = ap (λ (ops : List Op). map unlined phase ++ ops) (all_unlined phases) ∙ sym (map-append unlined phase (all_ops phases))
+
+-- What is said of the operations of a course is so of those of its plan.
+module _ {P : Type 0} {said : P → List Op} {plan : Plan} {course : Course P} (same : IsCourseOf said plan course) where
+  said_all : all_ops (map said course.phases.now) ≡ map unlined (operations_of plan)
+  said_all = ap (λ (phases : List (List Op)). all_ops phases) same.phases ∙ all_unlined (map ops_of (phases_of plan.phases))
+
+  pub course_guarded : (k : ℕ) → guarded_of k (all_ops (map said course.phases.now)) ≡ guarded_of k (operations_of plan)
+  course_guarded k = ap (λ (ops : List Op). guarded_of k ops) said_all ∙ same_guarded k (operations_of plan)
+
+  pub course_within : {text : List ℕ} → IsPlanOf text plan → AllByRecursion (λ (op : Op). op.actor < 17) (all_ops (map said course.phases.now))
+  course_within {text} read = subst (λ (ops : List Op). AllByRecursion (λ (op : Op). op.actor < 17) ops) (sym said_all)
+      (still_within 17 (operations_of plan) (actors_within plan.profile (operations_of plan) (every_plan read).valid.threads (plan_planned read)))
+
+  pub course_keepers : keepers_by course.guard course.profile.threads ≡ keepers_of plan
+  course_keepers = ap (λ (n : ℕ). keepers_by n course.profile.threads) same.guard ∙ ap (λ (f : Profile). keepers_by plan.guard f.threads) same.profile
 
 -- ---- books
 pub no_books : (places : ℕ → ℕ) (books : List GuardBook) → books ≡ [] → AreBooksFor 0 places books

@@ -8,7 +8,7 @@ use Rattle.pas_steps.specs.declared.step.Made.{Made}
 use Rattle.pas_trace.specs.EveryPlan.{is_asked, asked_after, all_ops, asked_with, asked_by, AreSound, IsSoundTask, IsSoundWork, IsActorBy, IsThread}
 use Rattle.pas_trace.specs.declared.{plan.What.What, plan.Op.Op, item.Request.Request, plan.Task.Task, plan.Work.Work}
 use Rattle.pas_trace.specs.declared.plan.What.TheVariants.{Alloc, Guarded, Free, FreeSized, Raw, RawSized, Remake, Flush, Stop}
-use Rattle.pas_report.specs.declared.record.Said.{Said}
+use Rattle.pas_records.specs.declared.record.Said.{Said}
 use Rattle.pas_cache.specs.Caches.{Cached}
 use Rattle.pas_answers.specs.Answers.{Named, named, block_of, standing_for, having, Answer, answer_of, IsFreedBy, IsRemadeBy, IsAnswered, Progress}
 use Rattle.pas_answers.specs.Fit.{IsFitWhat, IsBelow, AreBelow, AllBelow, KeepsAbove, IsFitTask, IsFitWork, AreFit, cost_of_what, own_costs_of}

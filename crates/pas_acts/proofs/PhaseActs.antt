@@ -6,7 +6,7 @@ use Rattle.std.proofs.lemmas.Bool.{lt-leb, false≢true, cases_eq, or_left, or_r
 use Rattle.pas_profile.specs.declared.profile.Profile.{Profile}
 use Rattle.pas_profile.proofs.Lists.{all_both}
 use Rattle.pas_trace.specs.Asked.{work_of, of_task, keeper_of, keeper_in}
-use Rattle.pas_trace.specs.EveryPlan.{AreSound, IsActorBy, asked_after, all_ops, asked_by, AreKept}
+use Rattle.pas_trace.specs.EveryPlan.{AreSound, IsActorBy, asked_after, all_ops, AreKept}
 use Rattle.pas_trace.specs.declared.plan.{Chore.Chore, Work.Work, Op.Op}
 use Rattle.pas_trace.specs.Acts.{Act, Settles, is_active, numbers_from, idle_threads, acts_of_work, acts_of_op, acts_of_ops, own_acts, scavenger_acts, act_kept}
 use Rattle.pas_trace.specs.Acts.{Wakes, Ends, Lowers, close_acts}
@@ -17,6 +17,7 @@ use Rattle.pas_answers.specs.Replays.{at_start, region_of, keepers_of, phases_of
 use Rattle.pas_answers.specs.Stages.{Owners, itself, owner_in, one_by_one, phase_stages, stages_from, stages_of}
 use Rattle.pas_answers.proofs.Reached.{IsHeldBy, AreHeldBy, IsOneHanded, one_handed_list}
 use Rattle.pas_acts.specs.AloneInOrder.{AreOfOneActor, AloneIsInOrder}
+use Rattle.pas_acts.proofs.Naming.{sound_front, sound_back}
 
 -- ---- who owns whom
 -- each operation's actor is its own worker
@@ -256,14 +257,6 @@ phase_held f asked ops sound kept one =
     ((k, wakes_held ops k _ one.own), ((owner k, all_held owner k (acts_of_ops idle ops) hands (are_of f k idle asked ops sound one.own)), tt))
 
 -- ---- the phases of a plan, whose operations follow each other
-sound_front : (f : Profile) (asked : List ℕ) (xs ys : List Op) → AreSound f asked (xs ++ ys) → AreSound f asked xs
-sound_front f asked [] ys sound = tt
-sound_front f asked (x ∷ xs) ys sound = (sound.0, sound.1, sound_front f (asked_after x.what asked) xs ys sound.2)
-
-sound_back : (f : Profile) (asked : List ℕ) (xs ys : List Op) → AreSound f asked (xs ++ ys) → AreSound f (asked_by asked xs) ys
-sound_back f asked [] ys sound = sound
-sound_back f asked (x ∷ xs) ys sound = sound_back f (asked_after x.what asked) xs ys sound.2
-
 -- Where there is a keeper, it stands behind the threads.
 behind_one : (threads actor guard : ℕ) (o : Option ℕ) → MatchOption o (Unit {0}) (λ keeper. (keeper ≡ threads + actor) × (guard ≢ 0))
     → MatchOption o (Unit {0}) (λ keeper. keeper ≡ threads + actor)

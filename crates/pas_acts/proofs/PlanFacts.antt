@@ -25,7 +25,7 @@ use Rattle.pas_steps.specs.Unknown.{unknown_below}
 use Rattle.pas_cache.specs.Locals.{any_covers, any_keeps}
 use Rattle.pas_segregated.specs.declared.slots.Slots.{Slots}
 use Rattle.pas_answers.specs.{Calls.owed_events, Ways.AreSpoken, Ways.by_phases}
-use Rattle.pas_report.specs.declared.record.Record.{Record}
+use Rattle.pas_records.specs.declared.record.Record.{Record}
 
 -- ---- the region, which has a place for each keeper
 -- what is said of a plan's operations in its own profile holds in a region of as many actors or more

@@ -7,7 +7,7 @@ use Rattle.pas_core.specs.Orders.{steps_by}
 use Rattle.pas_core.proofs.Choosing.{step_passed, steps_by_both}
 use Rattle.pas_steps.specs.declared.step.{Made.Made, Step.Step}
 use Rattle.pas_steps.proofs.Parts.{part_of_own, part_of_others}
-use Rattle.pas_report.specs.declared.record.{Record.Record, Said.Said}
+use Rattle.pas_records.specs.declared.record.{Record.Record, Said.Said}
 use Rattle.pas_cache.specs.Caches.{Cached}
 use Rattle.pas_answers.specs.Answers.{Named, Caches, with_cache, Books, with_book, Progress, with_records, named, having, answer_of, standing_for, IsAnswered}
 use Rattle.pas_answers.specs.Answers.{IsStopped, with_steps, after_answer, after_settling, after_wake, after_reading, after_tick, after_pass, after_stop}
@@ -207,7 +207,8 @@ idle_one : (f : Profile) (owner : Owners) (asked : List ℕ) (k n : ℕ) (p befo
 idle_one f owner asked k n p before after mine only share did =
     let same = idle_same owner (owner 0) k n before p mine refl share in
     elim did [
-      | inl so ↦ stops_one f owner asked (StopsIdle k n) k 0 p before after so.1 so.2 (stopped k) mine refl (λ j. refl, tt) only share so.3 so.4 (λ is. inl (subst (λ (A : Type 0). A) same so.0, so.1, so.2, is, refl))
+      | inl so ↦ stops_one f owner asked (StopsIdle k n) k 0 p before after so.1 so.2 (stopped k) mine refl (λ j. refl, tt) only share so.3 so.4
+          (λ is. inl (subst (λ (A : Type 0). A) same so.0, so.1, so.2, is, refl))
       | inr not_so ↦ woven_by p [] only refl (sym (append-nil p.records)) tt not_so.1 share (λ x o other theirs. theirs) (inr (λ idle. not_so.0 (subst (λ (A : Type 0). A) (sym same) idle), refl))
     ]
 

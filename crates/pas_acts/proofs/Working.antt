@@ -9,8 +9,6 @@ use Rattle.pas_trace.specs.Acts.{Act, Operates, Guards, Settles, act_kept, own_a
 use Rattle.pas_trace.specs.Asked.{of_task, request_in, keeper_of, keeper_in}
 use Rattle.pas_trace.specs.{Reasons.cost_of_size, EveryPlan.asked_after}
 use Rattle.pas_trace.specs.declared.{item.Request.Request, plan.Op.Op, plan.Task.Task, plan.What.What, plan.Work.Work, plan.Chore.Chore}
-use Rattle.pas_report.specs.Rooms.{records_in, room_of, Records}
-use Rattle.pas_report.specs.declared.record.Record.{Record}
 use Rattle.pas_cache.specs.Caches.{Cached}
 use Rattle.pas_guard.specs.Books.{guards_in, size_of_book}
 use Rattle.pas_guard.specs.declared.book.GuardBook.{GuardBook}
@@ -32,6 +30,8 @@ use Rattle.std.proofs.lemmas.List.{drop_more}
 use Rattle.pas_acts.specs.NameBooks.{Table, requests_in, room_for, names_of, name_asked, names_asked, ArePlaced, known_in}
 use Rattle.pas_acts.specs.declared.names.NameBook.{NameBook}
 use Rattle.pas_acts.proofs.Noting.{names_both, names_count, asked_both, kept_asks, names_named, placed_both, tells_more, stand_more}
+use Rattle.pas_records.specs.Rooms.{records_in, room_of, Records}
+use Rattle.pas_records.specs.declared.record.Record.{Record}
 
 -- A thread and its keeper: what an operation of the thread comes to for both.
 
@@ -404,7 +404,8 @@ waits_next f keeper more p said op next kept kept' q h i j = grind arith
 pub operated : {f keeper next σ σ' c c' known known' what came out out' kept kept' later more p : _} (op : Op)
     → op.what ≡ what
     → PairAt f op.actor keeper (head_acts op ++ next) σ (keeps c known out) kept later more p
-    → PairActs f op.actor keeper (head_acts op) (named_by op.what came) (here σ c out) (here σ' c' out') kept kept' (with_acts op.actor next later) (for_guards next more) p
+    → PairActs f op.actor keeper (head_acts op) (named_by op.what came) (here σ c out) (here σ' c' out') kept kept' (with_acts op.actor next later)
+    (for_guards next more) p
     → IsKept known known' what came → MayStand f came
     → PairWorks f op.actor keeper (head_acts op) next σ σ' (keeps c known out) (keeps c' known' out') kept kept' later more p
 operated {f} {keeper} {next} {σ} {σ'} {c} {c'} {known} {known'} {what} {came} {out} {out'} {kept} {kept'} {later} {more} {p} op asks at did keeping stands =
@@ -431,7 +432,8 @@ operated {f} {keeper} {next} {σ} {σ'} {c} {c'} {known} {known'} {what} {came} 
     }
 
 -- ---- one after the other
-kept_both : (keeper : ℕ) (xs ys : List Record) (k0 k1 k2 : Keeping) → KeptPushed keeper xs k0 k1 → KeptPushed keeper ys k1 k2
+-- What a keeper said in two parts, one after the other, it said together.
+pub kept_both : (keeper : ℕ) (xs ys : List Record) (k0 k1 k2 : Keeping) → KeptPushed keeper xs k0 k1 → KeptPushed keeper ys k1 k2
     → KeptPushed keeper (xs ++ ys) k0 k2
 kept_both keeper xs ys NoKeeper NoKeeper NoKeeper one two = records_both keeper xs ys ∙ ap (λ (rs : List Record). rs ++ records_by keeper ys) one ∙ two
 kept_both keeper xs ys (OneKeeper h0) (OneKeeper h1) (OneKeeper h2) one two = (

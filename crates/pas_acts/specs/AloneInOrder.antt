@@ -4,7 +4,7 @@ use Rattle.std.specs.List.{AllByRecursion}
 use Rattle.pas_steps.specs.Lists.{Whole}
 use Rattle.pas_trace.specs.Plans.{IsPlanOf}
 use Rattle.pas_trace.specs.declared.plan.{Op.Op, Plan.Plan}
-use Rattle.pas_report.specs.declared.record.Record.{Record}
+use Rattle.pas_records.specs.declared.record.Record.{Record}
 use Rattle.pas_answers.specs.{Replays.IsReplay, Replays.phases_of, Ways.Way, Ways.InOrder, Ways.IsOneOrder}
 
 -- all these operations are of one actor: a thread's, or the scavenger's

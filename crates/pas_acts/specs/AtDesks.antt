@@ -4,8 +4,8 @@ use Rattle.std.specs.Prelude.{ℕ, ◌+◌, ◌≤◌, ◌≡◌, ◌≢◌, Boo
 use Rattle.pas_profile.specs.declared.{profile.Profile.Profile, name.Block.Block, event.Range.Range}
 use Rattle.pas_steps.specs.{Clear.HasNothing, Desks.Standing, Lists.part}
 use Rattle.pas_trace.specs.declared.plan.{What.What, Op.Op}
-use Rattle.pas_report.specs.Rooms.{records_in, room_of, Records}
-use Rattle.pas_report.specs.declared.record.Record.{Record}
+use Rattle.pas_records.specs.Rooms.{records_in, room_of, Records}
+use Rattle.pas_records.specs.declared.record.Record.{Record}
 use Rattle.pas_cache.specs.{Caches.Cached, Caches.AtRest, Calls.SettlesEach}
 use Rattle.pas_trace.specs.Acts.{Act, Operates, Settles}
 use Rattle.pas_answers.specs.{Indexes.request_by, Indexes.IsNamedFor, Answers.Named, Answers.Progress, Answers.stopped, Reaching.Reaches, Ways.EachOf}

@@ -4,8 +4,8 @@ use Rattle.pas_profile.specs.declared.{name.Block.Block, profile.Profile.Profile
 use Rattle.pas_steps.specs.{Desks.Standing, Lists.Whole, Lists.part, Unknown.unknown_pages}
 use Rattle.pas_trace.specs.{Acts.Lowers, Reasons.cost_of_size}
 use Rattle.pas_trace.specs.declared.item.Request.{Request}
-use Rattle.pas_report.specs.Rooms.{records_in, room_of, Records}
-use Rattle.pas_report.specs.declared.record.Record.{Record}
+use Rattle.pas_records.specs.Rooms.{records_in, room_of, Records}
+use Rattle.pas_records.specs.declared.record.Record.{Record}
 use Rattle.pas_guard.specs.Books.{FitsBook, guards_in, size_of_book}
 use Rattle.pas_guard.specs.declared.book.GuardBook.{GuardBook}
 use Rattle.pas_answers.specs.{Answers.Progress, Calls.MayStand, Keeping.owed_by_keeper, Keeping.cost_of_try, Reaching.Reaches, Ways.EachOf}

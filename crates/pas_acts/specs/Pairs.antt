@@ -7,8 +7,8 @@ use Rattle.pas_steps.specs.{Desks.Standing, Lists.part, Views.View}
 use Rattle.pas_trace.specs.Acts.{Act, Guards, Settles, act_kept}
 use Rattle.pas_trace.specs.Asked.{request_in, keeper_in}
 use Rattle.pas_trace.specs.declared.{item.Request.Request, plan.Op.Op, plan.Task.Task}
-use Rattle.pas_report.specs.Rooms.{records_in, room_of}
-use Rattle.pas_report.specs.declared.record.Record.{Record}
+use Rattle.pas_records.specs.Rooms.{records_in, room_of}
+use Rattle.pas_records.specs.declared.record.Record.{Record}
 use Rattle.pas_guard.specs.Books.{guards_in, size_of_book}
 use Rattle.pas_answers.specs.{Answers.Named, Answers.Progress, Calls.owed_events, Fit.own_costs_of, Keeping.owed_by_keeper, Reaching.Reaches, Ways.is_of}
 use Rattle.pas_answers.specs.{Ways.records_by}

@@ -6,6 +6,10 @@ use Rattle.pas_guard.specs.Books.{guards_in, size_of_book}
 use Rattle.pas_guard.specs.declared.book.GuardBook.{GuardBook}
 use Rattle.pas_answers.specs.Replays.{keepers_of}
 
+-- how many keepers a plan has by its `guard` and its threads
+abbrev pub keepers_by : ℕ → ℕ → ℕ
+keepers_by guard threads = if guard == 0 then 0 else threads
+
 -- how many guarded requests of thread k are among these operations
 abbrev pub one_guarded : Option ℕ → ℕ
 one_guarded None = 0

@@ -5,7 +5,7 @@ use Rattle.pas_profile.specs.declared.{profile.Profile.Profile, name.Block.Block
 use Rattle.pas_steps.specs.Lists.{part}
 use Rattle.pas_trace.specs.{Asked.request_in, Asked.keeper_in, EveryPlan.AreSound}
 use Rattle.pas_trace.specs.declared.plan.{What.What, Op.Op}
-use Rattle.pas_report.specs.declared.record.Record.{Record}
+use Rattle.pas_records.specs.declared.record.Record.{Record}
 use Rattle.pas_trace.specs.Acts.{Act, Guards, StopsIdle, MarksPhase, MarksClose, operation_in, stepper_of, is_active, idle_threads, acts_of_ops, own_acts}
 use Rattle.pas_trace.specs.Acts.{scavenger_acts}
 pub use Rattle.pas_trace.specs.Acts.{asked_after_act, asked_after_acts}

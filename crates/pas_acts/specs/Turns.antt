@@ -3,8 +3,8 @@ use Rattle.std.specs.Prelude.{ℕ, ◌+◌, ◌≤◌, ◌≡◌, ◌≢◌, Lis
 use Rattle.pas_profile.specs.declared.profile.Profile.{Profile}
 use Rattle.pas_steps.specs.{Calls.Calls, Desks.Standing, Desks.triples, Lists.part, Views.View}
 use Rattle.pas_steps.specs.declared.step.Made.{Made}
-use Rattle.pas_report.specs.Rooms.{records_in, room_of, Records}
-use Rattle.pas_report.specs.declared.record.Record.{Record}
+use Rattle.pas_records.specs.Rooms.{records_in, room_of, Records}
+use Rattle.pas_records.specs.declared.record.Record.{Record}
 use Rattle.pas_cache.specs.Caches.{Cached, AtRest}
 use Rattle.pas_answers.specs.{Answers.Progress, Calls.owed_events, Ways.EachOf}
 use Rattle.pas_acts.specs.Works.{Later, Sits}

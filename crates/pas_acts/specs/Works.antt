@@ -2,7 +2,7 @@
 use Rattle.std.specs.Prelude.{ℕ, ◌+◌, ◌≤◌, ◌≡◌, List, ◌++◌, length}
 use Rattle.pas_profile.specs.declared.profile.Profile.{Profile}
 use Rattle.pas_steps.specs.{Events.events_of, Lists.Whole, Lists.part, Views.View, Desks.Standing}
-use Rattle.pas_report.specs.Rooms.{records_in, room_of, Records}
+use Rattle.pas_records.specs.Rooms.{records_in, room_of, Records}
 use Rattle.pas_cache.specs.Caches.{Cached, AtRest}
 use Rattle.pas_trace.specs.Acts.{Act}
 use Rattle.pas_answers.specs.{Answers.Named, Answers.standing_for, Answers.Progress, Fit.AreFit, Fit.own_costs_of, Names.names_held}

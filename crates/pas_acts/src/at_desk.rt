@@ -2,7 +2,7 @@
 ghost use Rattle.std.specs.Prelude.{◌≡◌, ◌<◌, ◌^◌, ℕ, [], ◌∷◌};
 ghost use Rattle.pas_profile.specs.declared.profile.Profile.{Profile as TheProfile};
 ghost use Rattle.pas_cache.specs.Caches.{cached};
-ghost use Rattle.pas_report.specs.Rooms.{Records as TheRecords};
+ghost use Rattle.pas_records.specs.Rooms.{Records as TheRecords};
 ghost use Rattle.pas_utility.specs.Outcomes.{places_of};
 ghost use Rattle.pas_trace.specs.Acts.{Operates, Settles, StopsIdle, Ticks, MakesPass, ReadsEpoch};
 ghost use Rattle.pas_answers.specs.{Answers.Progress, Calls.what_of, Calls.MayStand, Calls.named_by};
@@ -14,7 +14,7 @@ use pas_answers::{Remake, answer_meant, answer_stop, is_idle_for};
 use pas_cache::ThreadCache;
 use pas_large::Door;
 use pas_profile::{Block, Word};
-use pas_report::Records;
+use pas_records::Records;
 use pas_steps::Desk;
 use pas_trace::Task;
 use pas_utility::Outcomes;

@@ -4,7 +4,7 @@ ghost use Rattle.pas_bits.specs.Masks.{is_set};
 ghost use Rattle.pas_trace.specs.Acts.{is_active};
 
 use pas_bits::Mask4;
-use pas_trace::Op;
+use pas_trace::{Op, Operations};
 
 /// The threads that have an operation among these, by their numbers.
 pub fn active(ops: &[Op]) -> Mask4
@@ -12,6 +12,20 @@ pub fn active(ops: &[Op]) -> Mask4
 {
     let mut threads = Mask4([0; 4]);
     for op in ops {
+        if !threads.get(op.actor) {
+            threads.set(op.actor);
+        }
+    }
+    threads
+}
+
+/// The threads that have an operation in the phase, by their numbers.
+pub fn active_in<P: Operations>(phase: &P) -> Mask4
+    ensures { (k : ℕ) → is_set result k ≡ is_active (P.ops phase.now) k }
+{
+    let mut threads = Mask4([0; 4]);
+    for place in 0..phase.count() {
+        let op = phase.op(place);
         if !threads.get(op.actor) {
             threads.set(op.actor);
         }

@@ -7,7 +7,7 @@ ghost use Rattle.pas_acts.specs.Keepers.{keeper_has, LaterKept, and_try, KeeperA
 
 use pas_guard::GuardBook;
 use pas_profile::Block;
-use pas_report::Records;
+use pas_records::Records;
 use pas_steps::Desk;
 
 /// The keeper of this desk tries a guarded request of its thread: it lowers the guards whose blocks have ended, and raises one for the request, where it finds a

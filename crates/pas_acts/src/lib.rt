@@ -14,8 +14,8 @@ pub mod parts;
 pub mod plan_keepers;
 pub mod turns;
 
-pub use awake::active;
+pub use awake::{active, active_in};
 pub use gate::{Gate, OpenGate};
 pub use limits::records_for;
 pub use parts::{caches_for, outcomes_from, rooms_of};
-pub use plan_keepers::{books_for, keepers_of, region_of};
+pub use plan_keepers::{books_by, books_for, keepers_of, region_by, region_of};

@@ -1,11 +1,11 @@
 //! How much room what a replay says needs.
 ghost use Rattle.std.specs.Prelude.{◌≡◌, ◌≤◌, ◌+◌, ℕ, List, [], IfOk, length};
 ghost use Rattle.pas_trace.specs.Plans.{IsPlanOf};
-ghost use Rattle.pas_report.specs.Rooms.{records_in, room_of};
+ghost use Rattle.pas_records.specs.Rooms.{records_in, room_of};
 ghost use Rattle.pas_answers.specs.Replays.{phases_of};
 
 use pas_profile::NoMemory;
-use pas_report::{Records, room_for_replay};
+use pas_records::{Records, room_for_replay};
 use pas_trace::Plan;
 use std::alloc::Global;
 

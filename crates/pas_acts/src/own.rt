@@ -16,7 +16,7 @@ use pas_answers::Remake;
 use pas_cache::ThreadCache;
 use pas_large::Door;
 use pas_profile::Block;
-use pas_report::Records;
+use pas_records::Records;
 use pas_steps::Desk;
 use pas_trace::{Op, Task, What, Work};
 

@@ -1,25 +1,29 @@
 //! The keepers of a guarded plan: how many there are, the region that has room for them, and their books.
-ghost use Rattle.std.specs.Prelude.{◌≡◌, ◌==◌, ◌<◌, ◌≤◌, ◌+◌, ◌^◌, ℕ, if◌then◌else◌, List, IfOk, slice_index_or};
+ghost use Rattle.std.specs.Prelude.{◌≡◌, ◌==◌, ◌<◌, ◌≤◌, ◌+◌, ◌^◌, ℕ, if◌then◌else◌, List, IfOk, map, slice_index_or};
 ghost use Rattle.std.specs.List.{AllByRecursion};
 ghost use Rattle.pas_profile.specs.Profiles.{IsValid};
-ghost use Rattle.pas_trace.specs.{Asked.keeper_in, Plans.IsPlanOf, EveryPlan.operations_of};
+ghost use Rattle.pas_trace.specs.{Asked.keeper_in, Courses.IsCourse, Courses.IsCourseOf, EveryPlan.all_ops, Plans.IsPlanOf};
+ghost use Rattle.pas_trace.specs.declared.plan.Plan.{Plan as ThePlan};
 ghost use Rattle.pas_answers.specs.Replays.{region_of, keepers_of};
-ghost use Rattle.pas_acts.specs.PlanKeepers.{one_guarded, guarded_of, AreBooksFor, AreBooks};
+ghost use Rattle.pas_acts.specs.PlanKeepers.{keepers_by, one_guarded, guarded_of, AreBooksFor, AreBooks};
 
 use pas_guard::GuardBook;
 use pas_profile::{NoMemory, Profile};
-use pas_trace::{Op, Plan, What};
+use pas_trace::{Course, Op, Operations, Plan, What};
 use std::alloc::Global;
 
 /// How many keepers the plan has: one for each thread in a guarded one, and none in another.
 pub fn keepers_of(plan: &Plan) -> u8
     ensures { result ≡ keepers_of plan.now }
 {
-    if plan.guard == 0 {
-        0
-    } else {
-        plan.profile.threads
-    }
+    keepers_by(plan.guard, plan.profile.threads)
+}
+
+/// .. one with this `guard` and so many threads
+fn keepers_by(guard: u32, threads: u8) -> u8
+    ensures { result ≡ keepers_by guard threads }
+{
+    if guard == 0 { 0 } else { threads }
 }
 
 /// The region that a replay of the plan is opened for: its own, with a place for each keeper.
@@ -28,9 +32,18 @@ pub fn region_of(plan: &Plan) -> Profile
     ensures region { result ≡ region_of plan.now }
     ensures valid { IsValid result }
 {
+    region_by(&plan.course())
+}
+
+/// .. of a plan with this course
+pub fn region_by<P: Operations>(course: &Course<'_, P>) -> Profile
+    requires { IsCourse P.ops course.now }
+    ensures region { (plan : ThePlan) → IsCourseOf P.ops plan course.now → result ≡ region_of plan }
+    ensures valid { IsValid result }
+{
     Profile {
-        threads: plan.profile.threads + keepers_of(plan),
-        ..plan.profile
+        threads: course.profile.threads + keepers_by(course.guard, course.profile.threads),
+        ..course.profile
     }
 }
 
@@ -53,26 +66,27 @@ fn add(counts: &mut [u32; 17], actor: u8, more: u32)
     counts[actor as usize] += more;
 }
 
-/// Adds how many of these operations are guarded requests, by actor. One look at each.
-fn count_guarded(ops: &[Op], counts: &mut [u32; 17])
-    requires actors { AllByRecursion (λ op. op.actor < 17) ops.now }
-    requires few { (k : ℕ) → slice_index_or counts.old k 0 + guarded_of k ops.now < 2 ^ 32 }
-    ensures { (k : ℕ) → slice_index_or counts.new k 0 ≡ slice_index_or counts.old k 0 + guarded_of k ops.now }
+/// Adds how many operations of the phase are guarded requests, by actor. One look at each.
+fn count_guarded<P: Operations>(phase: &P, counts: &mut [u32; 17])
+    requires actors { AllByRecursion (λ op. op.actor < 17) (P.ops phase.now) }
+    requires few { (k : ℕ) → slice_index_or counts.old k 0 + guarded_of k (P.ops phase.now) < 2 ^ 32 }
+    ensures { (k : ℕ) → slice_index_or counts.new k 0 ≡ slice_index_or counts.old k 0 + guarded_of k (P.ops phase.now) }
 {
-    for op in ops {
-        add(counts, op.actor, guarded_in(*op));
+    for place in 0..phase.count() {
+        let op = phase.op(place);
+        add(counts, op.actor, guarded_in(op));
     }
 }
 
-/// How many guarded requests of each thread the plan has, by thread.
-fn guarded_by_thread(plan: &Plan) -> [u32; 17]
-    requires { (text : List ℕ) × IsPlanOf text plan.now }
-    ensures { (k : ℕ) → slice_index_or result k 0 ≡ guarded_of k (operations_of plan.now) }
+/// How many guarded requests of each thread the phases have, by thread.
+fn guarded_by_thread<P: Operations>(phases: &[P]) -> [u32; 17]
+    requires actors { AllByRecursion (λ op. op.actor < 17) (all_ops (map P.ops phases.now)) }
+    requires few { (k : ℕ) → guarded_of k (all_ops (map P.ops phases.now)) < 2 ^ 32 }
+    ensures { (k : ℕ) → slice_index_or result k 0 ≡ guarded_of k (all_ops (map P.ops phases.now)) }
 {
-    let _total = plan.total;
     let mut counts = [0; 17];
-    for phase in plan.phases.as_slice() {
-        count_guarded(phase.as_slice(), &mut counts);
+    for phase in phases {
+        count_guarded(phase, &mut counts);
     }
     counts
 }
@@ -98,9 +112,21 @@ pub fn books_for(alloc: Global, plan: &Plan) -> Result<Vec<GuardBook>, NoMemory>
     requires { (text : List ℕ) × IsPlanOf text plan.now }
     ensures { IfOk result (λ books. AreBooks plan.now books.items) }
 {
-    let keepers = keepers_of(plan);
+    books_by(alloc, &plan.course())
+}
+
+/// .. of a plan with this course
+pub fn books_by<P: Operations>(
+    alloc: Global,
+    course: &Course<'_, P>,
+) -> Result<Vec<GuardBook>, NoMemory>
+    requires { IsCourse P.ops course.now }
+    ensures { (plan : ThePlan) → IsCourseOf P.ops plan course.now → IfOk result (λ books. AreBooks plan books.items) }
+{
+    let keepers = keepers_by(course.guard, course.profile.threads);
     if keepers == 0 {
         return Ok(Vec::new(alloc));
     }
-    books_of(alloc, keepers, &guarded_by_thread(plan))
+    let _total = course.total;
+    books_of(alloc, keepers, &guarded_by_thread(course.phases))
 }

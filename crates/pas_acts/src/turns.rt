@@ -1,7 +1,7 @@
 //! What a thread does alone, at any desk: it reads the epoch as a phase begins, and is stopped at the close.
 ghost use Rattle.std.specs.Prelude.{◌≡◌, ℕ, [], ◌∷◌};
 ghost use Rattle.pas_profile.specs.declared.profile.Profile.{Profile as TheProfile};
-ghost use Rattle.pas_report.specs.Rooms.{Records as TheRecords};
+ghost use Rattle.pas_records.specs.Rooms.{Records as TheRecords};
 ghost use Rattle.pas_cache.specs.Caches.{cached};
 ghost use Rattle.pas_trace.specs.Acts.{Wakes, Ends};
 ghost use Rattle.pas_answers.specs.Answers.{Progress};
@@ -9,7 +9,7 @@ ghost use Rattle.pas_acts.specs.{Works.Later, Turns.RestsAt, AtDesks.here, AtDes
 
 use pas_answers::answer_stop;
 use pas_cache::ThreadCache;
-use pas_report::Records;
+use pas_records::Records;
 use pas_steps::Desk;
 
 /// The thread of this desk reads the epoch, as a phase begins in which it has an operation. One step, and nothing is said.

@@ -7,40 +7,39 @@ use Rattle.pas_free_log.specs.declared.noting.EndedRun.{EndedRun}
 use Rattle.pas_large.specs.Doors.{Indexes, found_in, cut_in, added_in, no_ranges}
 use Rattle.pas_trace.specs.declared.{item.Request.Request, plan.Op.Op, plan.What.What, plan.Task.Task, plan.Work.Work, plan.Chore.Chore}
 use Rattle.pas_cache.specs.{Calls.IsNamed, Calls.SettlesEach, Caches.cached, Caches.Cached}
-use Rattle.pas_trace.specs.Acts.{Operates, Settles, act_kept, acts_of_op, acts_of_work, acts_of_chore, Act, Guards, Lowers}
-use Rattle.pas_acts.specs.{Turns.RestsAt, Tries.tries_of, Tries.AreKeptFor, Works.Sits, Turns.Moves}
+use Rattle.pas_trace.specs.Acts.{Operates, Settles, acts_of_op, acts_of_work, acts_of_chore, Act, Guards, Lowers}
+use Rattle.pas_acts.specs.{Turns.RestsAt, Turns.Moves, Tries.tries_of, Tries.AreKeptFor, Works.Sits}
 use Rattle.pas_acts.specs.AtDesks.{GoesThrough, here, and_for, MayOperate, ThreadActs}
 use Rattle.pas_answers.specs.Answers.{Named, Progress, Caches, settled, after_settling}
-use Rattle.pas_answers.specs.{Reaching.Reaches, Names.block_named, Names.names_held, Replays.at_start, Keeping.owed_by_keeper, Keeping.cost_of_try}
-use Rattle.pas_answers.specs.{Reaching.AnswersTried, Reaching.AnswersGuarded, Rests.AreAtRest}
+use Rattle.pas_answers.specs.{Reaching.Reaches, Reaching.AnswersTried, Reaching.AnswersGuarded, Names.block_named, Names.names_held, Replays.at_start}
+use Rattle.pas_answers.specs.{Keeping.owed_by_keeper, Keeping.cost_of_try, Rests.AreAtRest}
 use Rattle.pas_answers.specs.Indexes.{request_by, IsNamedFor, IsNamedBy, AllAreNamedBy, after_request, after_operation, with_noted, indexes_after_all}
 use Rattle.pas_answers.specs.Indexes.{after_tried, after_guarded, TriedIsNamedBy, GuardedIsNamedBy}
 use Rattle.pas_replay.specs.Operating.{ActsByIndexes}
-use Rattle.pas_trace.specs.{Asked.work_of, Asked.keeper_of, EveryPlan.asked_after, Asked.request_in, Reasons.cost_of_size}
+use Rattle.pas_trace.specs.{Asked.work_of, Asked.request_in, Asked.request_of, EveryPlan.asked_after, Reasons.cost_of_size, Codes.unlined}
 use Rattle.pas_plain.specs.Seats.{standing_of}
-use Rattle.pas_report.specs.Rooms.{records_in, room_of, Records}
 use Rattle.pas_cache.specs.declared.cache.ThreadCache.{ThreadCache}
 use Rattle.pas_answers.specs.Calls.{Tells, AllMayStand, MayStand, IsMeant, named_by, freed_by, AreKnown, what_of, named_with}
 use Rattle.pas_answers.specs.Fit.{AreFit, cost_of_what, cost_of_act, own_cost_of_act, AreOfThreads, kept_cost_of, kept_costs_of}
-use Rattle.pas_answers.proofs.SingleActs.{meant_by, meant_stands, known_more, if_same, known_if, its_cache, other_cache}
+use Rattle.pas_answers.proofs.SingleActs.{meant_by, meant_stands, known_more, if_same, known_if, its_cache, other_cache, named_task}
 use Rattle.pas_answers.proofs.{OwnRecords.EachShown, Consequences.acts_shown, Consequences.tried_shown}
 use Rattle.pas_acts.proofs.AtDesk.{rests_for, sits_for, settled_rest, other_book}
-use Rattle.pas_replay.specs.Sessions.{Hand, IsTaken, TakesSeat, Replay, Left, HasNames, IsAt, SoFar, upon, pass_in, Slots, task_of, asked_by, Session, session}
-use Rattle.pas_replay.specs.Sessions.{SoFarAt, HasTried, rests_as, rests, owes_as, owes, own_events, ActorStands, records_owed_as, owed_of, owed_by, AreCaches}
-use Rattle.pas_replay.specs.Sessions.{GoesBy, HasNamed}
+use Rattle.pas_replay.specs.Sessions.{Hand, IsTaken, TakesSeat, Replay, Left, HasNames, IsAt, SoFar, upon, pass_in, Slots, Session, SoFarAt, HasTried, rests_as}
+use Rattle.pas_replay.specs.Sessions.{rests, owes_as, owes, own_events, ActorStands, records_owed_as, owed_of, owed_by, AreCaches, GoesBy, HasNamed}
+use Rattle.pas_replay.specs.Sessions.{own_acts_of, OnceNamed}
 use Rattle.pas_replay.proofs.Turning.{somewhere, there_is, rest_one, rest_two, hand, still_named, AsksNoIndex, thread_now, later_for, thread_turn, all_rest}
 use Rattle.pas_replay.proofs.Turning.{rest_first, goes_both, OthersKept, set_caches, book_is, place_is, set_books, set_places, still_places, owed_moves}
 use Rattle.pas_replay.proofs.Turning.{owed_at, keeper_owes, SitsAs, MovesAs, sits_now, turn, kept_by_moves, either_less, less_events, less_tries, said_more}
 use Rattle.std.proofs.lemmas.Bool.{cases_eq, lt-leb}
 use Rattle.pas_steps.specs.{Lists.Legal, Lists.part, Unknown.unknown_pages, Views.View}
 use Rattle.pas_plain.specs.declared.{desk.PlainDesk.PlainDesk, pass.PlainPass.PlainPass}
-use Rattle.pas_report.specs.declared.record.Record.{Record}
 use Rattle.pas_guard.specs.Books.{FitsBook, guards_in, size_of_book}
 use Rattle.pas_guard.specs.declared.book.{Guard.Guard, GuardBook.GuardBook}
 use Rattle.pas_answers.specs.Guarding.{Tried, IsTried, after_trying, after_giving}
 use Rattle.pas_answers.specs.declared.names.Names.{Names}
 use Rattle.pas_acts.specs.Keepers.{keeper_has, LaterKept, and_try, KeeperAt, KeeperTries, KeeperLowers}
-use Rattle.pas_replay.specs.declared.seats.Guarded.{Guarded}
+use Rattle.pas_records.specs.Rooms.{records_in, room_of, Records}
+use Rattle.pas_records.specs.declared.record.Record.{Record}
 
 -- doors of which each is to one vector of indexes
 module _ {Door : Type 0} (Kept : Door → Door → Type 0) (held : Door → Indexes) where
@@ -135,7 +134,8 @@ pub act_turn : {r : Replay} {more : Left} {act desk desk1 desk2 passes passes1 c
     → 1 ≤ k → k ≤ length caches → ((limit : ℕ) (asked : List ℕ) → AreFit r.profile limit asked (act ∷ more.acts) → AreFit r.profile limit asked more.acts)
     → AsksNoIndex r.profile act → TakesSeat desk desk1 passes passes1 k → there ≡ get_or caches (k - 1) there
     → IsAt r (upon r (act ∷ []) more) (hand desk passes caches books places indexes table out) p
-    → (did : ThreadActs r.profile k (act ∷ []) [] told (here (standing_of desk1) (cached there) out) (here (standing_of desk2) (cached cache) out1) (later_for r k p more extra) p)
+    → (did : ThreadActs r.profile k (act ∷ []) [] told (here (standing_of desk1) (cached there) out) (here (standing_of desk2) (cached cache) out1)
+    (later_for r k p more extra) p)
     → length told ≤ extra
     → records_in out2 ≡ records_in out1 ++ told → room_of out2 ≡ room_of out1
     → IsTaken desk2 passes1 × IsAt r more (hand desk2 passes1 (set caches (k - 1) cache) books places indexes table out2) did.reached
@@ -170,15 +170,27 @@ may_operate {r} {op} {desk1 = desk1} {caches = caches} {table = table} {out} {p}
       stands = subst (MayStand r.profile) (sym meaning) (meant_stands r.profile (block_named table) op.what at.names.stand);
     }
 
+-- what the table keeps is what the name that the operation asked for came to
+pub has_named : {op : Op} {came kept : Option Block} {before after : Names} (task : Task) → op.what ≡ what_of task → kept ≡ came
+    → names_held after ≡ names_held before
+    → ((known : List Named) → Tells before known → Tells after (named_with (request_of task) kept ++ known))
+    → ((f : Profile) → AllMayStand f before → MayStand f kept → AllMayStand f after) → HasNamed op came before after
+has_named {op} {came} {after = after} task asks is held tells stand = record {
+  held = held;
+  tells = λ known told. subst (λ (ns : List Named). Tells after (ns ++ known))
+      (ap (named_with (request_of task)) is ∙ named_task task came ∙ ap (λ (w : What). named_by w came) (sym asks)) (tells known told);
+  stand = λ f all may. stand f all (subst (MayStand f) (sym is) may);
+}
+
 -- An operation that a thread did at its seat takes the replay on, by what the indexes name.
-pub operate_turn : {r more : _} {op : Op} {what desk desk1 desk2 passes passes1 caches books places indexes indexes' table table' out out' p : _} (k : ℕ)
+pub operate_turn : {r more : _} {op : Op} {desk desk1 desk2 passes passes1 caches books places indexes indexes' table table' out out' p : _} (k : ℕ)
     (came : Option Block) (there cache : ThreadCache)
-    → op.actor ≡ k → op.what ≡ what → 1 ≤ k → k ≤ length caches → TakesSeat desk desk1 passes passes1 k → there ≡ get_or caches (k - 1) there
+    → op.actor ≡ k → 1 ≤ k → k ≤ length caches → TakesSeat desk desk1 passes passes1 k → there ≡ get_or caches (k - 1) there
     → IsAt r (upon r (Operates op ∷ (Settles op.actor ∷ [])) more) (hand desk passes caches books places indexes table out) p
     → ActsByIndexes r.profile op.actor op indexes indexes' (named_by op.what came) (here (standing_of desk1) (cached there) out) (here (standing_of desk2) (cached cache) out') (later_for r op.actor p more 0) p
-    → names_held table' ≡ names_held table → Tells table' (named_by what came ++ p.names) → AllMayStand r.profile table'
+    → HasNamed op came table table' → MayStand r.profile came
     → IsTaken desk2 passes1 × SoFar r more (hand desk2 passes1 (set caches (k - 1) cache) books places indexes' table' out')
-operate_turn {r} {more} {op} {desk1 = desk1} {desk2} {caches = caches} {indexes = indexes} {indexes'} {table = table} {table'} {out} {out'} {p} k came there cache mine asks some within seat is at acted held tells stand =
+operate_turn {r} {more} {op} {desk1 = desk1} {desk2} {caches = caches} {indexes = indexes} {indexes'} {table = table} {table'} {out} {out'} {p} k came there cache mine some within seat is at acted named stands =
     let names = at.names in
     let all = subst (λ (j : ℕ). ActsByIndexes r.profile j op indexes indexes' (named_by op.what came) (here (standing_of desk1) (cached there) out)
     (here (standing_of desk2) (cached cache) out') (later_for r j p more 0) p) mine acted in
@@ -186,9 +198,9 @@ operate_turn {r} {more} {op} {desk1 = desk1} {desk2} {caches = caches} {indexes 
     somewhere (thread_turn k cache some within seat (there_is p.caches caches k there some within at.caches_are is) at did all.named all.left (rest_two r.threads r.profile op p did.reached did.reaches)
     (subst (λ (ns : List Named). HasNames r.profile more.acts table' ns) (sym did.names) record {
       asked = asked_after op.what names.asked;
-      fit = subst (λ (limit : ℕ). AreFit r.profile limit (asked_after op.what names.asked) more.acts) (sym held) names.fit.2;
-      tells = subst (λ (w : What). Tells table' (named_by w came ++ p.names)) (sym asks) tells;
-      stand = stand;
+      fit = subst (λ (limit : ℕ). AreFit r.profile limit (asked_after op.what names.asked) more.acts) (sym named.held) names.fit.2;
+      tells = named.tells p.names names.tells;
+      stand = named.stand r.profile names.stand stands;
       known = known_more op.what came names.asked p.names names.known;
     })
     at.operate.1.1 at.keep.1.1 (omega arith) (sym (append-nil (records_in out'))) refl)
@@ -199,18 +211,20 @@ acts_as_work idle op asks is = ap (λ (w : Work). acts_of_work idle op w) (sym a
 
 -- The acts of a thread's own task are the operation, kept by its keeper if any, and what is handed on behind it.
 pub acts_as_own : (idle : List ℕ) (op : Op) {work : Work} {task : Task} → work ≡ work_of op.what → work ≡ Work.Own task
-    → acts_of_op idle op ≡ act_kept (keeper_of task) op ∷ (Settles op.actor ∷ [])
+    → acts_of_op idle op ≡ own_acts_of task op
 acts_as_own idle op asks is = acts_as_work idle op asks is
 
--- .. with this keeper, or with none
-pub kept_as : (op : Op) {keeper keeper' : Option ℕ} → keeper ≡ keeper'
-    → act_kept keeper op ∷ (Settles op.actor ∷ []) ≡ act_kept keeper' op ∷ (Settles op.actor ∷ [])
-kept_as op is = ap (λ (o : Option ℕ). act_kept o op ∷ (Settles op.actor ∷ [])) is
+-- An operation that is another one but for its line is of the same actor and asks for the same.
+pub same_actor : (op said : Op) → unlined op ≡ unlined said → op.actor ≡ said.actor
+same_actor op said same = ap (λ (o : Op). o.actor) same
+
+pub same_what : (op said : Op) → unlined op ≡ unlined said → op.what ≡ said.what
+same_what op said same = ap (λ (o : Op). o.what) same
 
 -- whose they are
-pub own_actor : (keeper : Option ℕ) (op : Op) {r : Replay} (more : Left) {h : Hand} → SoFar r (upon r (act_kept keeper op ∷ (Settles op.actor ∷ [])) more) h
+pub own_actor : (task : Task) (op : Op) {r : Replay} (more : Left) {h : Hand} → SoFar r (upon r (own_acts_of task op) more) h
     → (1 ≤ op.actor) × (op.actor ≤ r.threads)
-own_actor keeper op more i = grind arith
+own_actor task op more i = grind arith
 
 -- The acts of an operation that is a chore are those of the chore.
 pub acts_as_chore : (idle : List ℕ) (op : Op) {work : Work} {chore chore' : Chore} → work ≡ work_of op.what → work ≡ Work.Chore chore → chore ≡ chore'
@@ -398,8 +412,15 @@ pub record AsksKeeper (k i : ℕ) (op : Op) (request : Request) : Type 0 where
   pub actor : op.actor ≡ i
 
 -- A guarded request of a plan asks the keeper of its own thread.
-pub asks_keeper : {op : Op} (request : Guarded) (i : ℕ) → op.actor ≡ i → op.what ≡ what_of (task_of request) → AsksKeeper request.keeper i op (asked_by request)
-asks_keeper request i mine is = record { request_is = ap request_in is; cost = ap cost_of_what is; actor = mine }
+pub asks_keeper : {op : Op} {k name heap size align : ℕ} (i : ℕ) → op.actor ≡ i → op.what ≡ what_of (Task.Guarded k name heap size align)
+    → AsksKeeper k i op (record { name = name; heap = heap; size = size; align = align })
+asks_keeper i mine is = record { request_is = ap request_in is; cost = ap cost_of_what is; actor = mine }
+
+-- its acts are the try of its keeper, and what is left then
+pub guards_first : {r : Replay} {T : Type 0} {h : Hand} {task : Task} {k name heap size align : ℕ} (op : Op) (more : Left)
+    → task ≡ Task.Guarded k name heap size align → T × SoFar r (upon r (own_acts_of task op) more) h
+    → T × SoFar r (upon r (Guards k op ∷ []) (upon r (Settles op.actor ∷ []) more)) h
+guards_first {r} {T} {h} op more is so = subst (λ (t : Task). T × SoFar r (upon r (own_acts_of t op) more) h) is so
 
 -- it is the one of the keepers that has the thread's place
 pub its_place : {r : Replay} {op : Op} {h : Hand} {p : Progress} (k i : ℕ) (more : Left) → op.actor ≡ i → IsAt r (upon r (Guards k op ∷ []) more) h p
@@ -408,15 +429,12 @@ its_place k i more mine at =
     (omega (arith, at.keep.0.0, mine), omega (arith, mine, at.names.fit.2.0), omega (arith, mine, at.keep.0.1, at.kept))
 
 -- what it came to, by whether it gave a block
-pub has_tried_by : (op : Op) (k : ℕ) (before after : Session) (result : Option Block)
-    → (result ≡ None → (r : Replay) (more : Left) → SoFarAt r (upon r (Guards k op ∷ (Settles op.actor ∷ [])) more) before
-    → SoFarAt r (upon r (Operates op ∷ (Settles op.actor ∷ [])) more) after)
-    → ((block : Block) → result ≡ Some block → (r : Replay) (more : Left) (table : Names) → HasNamed op (Some block) before.table table
-    → SoFarAt r (upon r (Guards k op ∷ (Settles op.actor ∷ [])) more) before
-    → SoFarAt r (upon r (Settles op.actor ∷ []) more) (session after.desk after.actors table after.out))
-    → HasTried op k result before after
-has_tried_by op k before after None left gave = left refl
-has_tried_by op k before after (Some block) left gave = gave block refl
+pub has_tried_by : (op : Op) (acts : List Act) (before after : Session) (result : Option Block)
+    → (result ≡ None → (r : Replay) (more : Left) → SoFarAt r (upon r acts more) before → SoFarAt r (upon r (Operates op ∷ (Settles op.actor ∷ [])) more) after)
+    → ((block : Block) → result ≡ Some block → OnceNamed op (Some block) acts (Settles op.actor ∷ []) before after)
+    → HasTried op acts result before after
+has_tried_by op acts before after None left gave = left refl
+has_tried_by op acts before after (Some block) left gave = gave block refl
 
 -- before it does
 pub keeper_may : {r : Replay} {op request desk0 desk passes0 passes caches books places indexes table out p : _} (k i : ℕ) (there : GuardBook) (more : Left)

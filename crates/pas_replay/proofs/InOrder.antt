@@ -1,22 +1,20 @@
 -- The acts of a replay, one after the other, and what stands between two operations where records are handed on.
 use Rattle.std.proofs.Common.{◌≡◌, ℕ, ◌+◌, ◌-◌, ◌<◌, ◌≤◌, not, List, [], ◌∷◌, ◌++◌, map, length, drop, get_or, refl, ap, sym, ◌∙◌, subst, arith, Option, Bool}
 use Rattle.std.proofs.Common.{true, false, length-append, append_assoc, append-nil, None, Some, MatchOption, All, drop_at, zero, suc, ◌*◌, ◌/◌, nat_le}
-use Rattle.std.proofs.Common.{if◌then◌else◌, inl, inr, slice_index, le-leb, reverse, slice_index_or}
+use Rattle.std.proofs.Common.{if◌then◌else◌, inl, inr, slice_index, le-leb, reverse, slice_index_or, ◌==◌, ◌||◌}
 use Rattle.std.specs.List.{filter}
 use Rattle.pas_steps.specs.Lists.{Legal, Whole, part, word_after}
-use Rattle.std.proofs.{lemmas.List.drop_more, lemmas.List.Elements.All-drop, lemmas.Nat.mul-le, lemmas.Bool.cases_lt, lemmas.Bool.lt-leb, Math.Nat.suc-mul}
-use Rattle.std.proofs.{lemmas.List.get_or-map, lemmas.Option.same_Some}
+use Rattle.std.proofs.{lemmas.List.drop_more, lemmas.List.get_or-map, lemmas.List.length-map, lemmas.List.Elements.All-drop, lemmas.Nat.mul-le}
+use Rattle.std.proofs.{lemmas.Bool.cases_lt, lemmas.Bool.lt-leb, Math.Nat.suc-mul, lemmas.Option.same_Some}
 use Rattle.pas_profile.specs.declared.{profile.Profile.Profile, word.Word.Word}
 use Rattle.pas_trace.specs.declared.plan.{Op.Op, What.TheVariants.Alloc, Plan.Plan}
-use Rattle.pas_report.specs.{Rooms.records_in, Rooms.room_of, Rooms.Records, Lines.CanShow}
-use Rattle.pas_report.specs.declared.record.Record.{Record}
 use Rattle.pas_trace.specs.Acts.{Act, Wakes, Lowers, is_active, numbers_from, acts_of_op, acts_of_ops, phase_acts, MarksPhase, MarksClose, Ends, close_acts}
 use Rattle.pas_trace.specs.Acts.{acts_of}
 use Rattle.pas_answers.specs.{Answers.Progress, Answers.with_records, Reaching.Advances, Names.names_held, Ways.InOrder}
 use Rattle.pas_answers.specs.Fit.{AreFit, cost_of_act, costs_of, AreOfThreads, own_costs_of, kept_costs_of}
 use Rattle.pas_answers.specs.Replays.{at_start, phases_of, region_of, threads_of, keepers_of, acts_of_plan, empty_cache, Shows}
 use Rattle.pas_large.specs.Doors.{Indexes, no_ranges}
-use Rattle.pas_answers.proofs.{OwnRecords.EachShown, SingleActs.sum_both, OwnRecords.all_shown, Reached.in_phases, Reached.plan_by_one_list}
+use Rattle.pas_answers.proofs.{OwnRecords.EachShown, OwnRecords.all_shown, SingleActs.sum_both, Reached.in_phases, Reached.plan_by_one_list}
 use Rattle.pas_answers.proofs.Consequences.{acts_shown, replays, all_refuse, all_take}
 use Rattle.pas_replay.specs.Sessions.{pass_in, HasNames, own_events, ActorStands, Replay, Left, Hand, GoesBy, IsAt, SoFar, costs_and, upon, Session, SoFarAt}
 use Rattle.pas_replay.specs.Sessions.{owed_by, session, telling, SeatStands, rests_as, owes_as, records_owed_as, AreEmpty, AreLowered, hand_of}
@@ -30,7 +28,7 @@ use Rattle.pas_replay.proofs.Turning.{said_more}
 use Rattle.pas_replay.specs.Taking.{dearest, left_between, FewWait, Between, room_for_taker, room_between, Begins}
 use Rattle.pas_profile.specs.{Profiles.IsValid, Profiles.IsWordOf, Rooms.EventRoom}
 use Rattle.pas_steps.specs.{Clear.HasNothing, States.profile_of as the_profile_of, States.word_in, Unknown.unknown_pages, Views.View}
-use Rattle.pas_trace.specs.{EveryPlan.operations_of, Plans.IsPlanOf, Plans.bounds_of}
+use Rattle.pas_trace.specs.{EveryPlan.operations_of, Plans.IsPlanOf, Plans.bounds_of, Codes.unlined, Scripts.without_lines}
 use Rattle.pas_plain.specs.Plain.{profile_of, RegionStands, PassStands, pass_for, passes_from}
 use Rattle.pas_guard.specs.Books.{FitsBook, is_outer}
 use Rattle.pas_guard.specs.declared.book.{Guard.Guard, GuardBook.GuardBook}
@@ -44,6 +42,8 @@ use Rattle.pas_trace.proofs.Keepers.{plan_actors}
 use Rattle.pas_acts.proofs.PlanFacts.{plan_operate, plan_fit, plan_own, plan_scavenger, plan_total, plan_kept_own, plan_tries, plan_keeps, pages_owed_at_first}
 use Rattle.pas_acts.proofs.PlanFacts.{no_slots}
 use Rattle.pas_steps.proofs.Nothing.{nothing_yet}
+use Rattle.pas_records.specs.{Rooms.records_in, Rooms.room_of, Rooms.Records, Lines.CanShow}
+use Rattle.pas_records.specs.declared.record.Record.{Record}
 
 -- ---- marks
 -- no actor has a hand in a mark
@@ -245,17 +245,44 @@ taken_on waits r acts s before told first out parts size less few (taken, (p, at
 -- Where operations from one on come next, there is room for that one.
 pub op_next : (waits : Option ℕ) (r : Replay) (s : Session) (awake : Mask4) (ops : List Op) (more : List Act) (i : ℕ) → i < length ops
     → Between waits r (acts_of_ops (idle_in awake r.threads) (drop i ops) ++ more) s
-    → SoFarAt r (upon r (acts_of_op (idle_in awake r.threads) (get_or ops i past)) (left_between waits r (acts_of_ops (idle_in awake r.threads) (drop (i + 1) ops) ++ more))) s
+    → SoFarAt r (upon r (acts_of_op (idle_in awake r.threads) (get_or ops i past))
+    (left_between waits r (acts_of_ops (idle_in awake r.threads) (drop (i + 1) ops) ++ more))) s
 op_next waits r s awake ops more i lt btw =
     let idle = idle_in awake r.threads in
     let rest = acts_of_ops idle (drop (i + 1) ops) ++ more in
     let now = as_between waits r s (at_next idle more ops i lt) btw in
     may_do waits r s (acts_of_op idle (get_or ops i past)) rest (op_costs awake (get_or ops i past) rest now.0.1.1) now
 
+-- The operation at a place of a phase is the one there of each list that is the phase's but for lines.
+pub said_at : (said : Op) {all : List Op} (ops : List Op) (i : ℕ) → i < length ops → ((d : Op) → unlined said ≡ slice_index_or all i d) → all ≡ map unlined ops
+    → unlined (get_or ops i past) ≡ unlined said
+said_at said ops i lt at is = sym (at past ∙ ap (λ (xs : List Op). slice_index_or xs i past) is ∙ get_or-map unlined ops i past past lt)
+
+pub place_in : {all : List Op} (ops : List Op) {i : ℕ} → i < length all → all ≡ map unlined ops → i < length ops
+place_in ops lt is = omega (arith, lt, ap (λ (xs : List Op). length xs) is, length-map ops unlined)
+
 -- ---- acts that cost nothing
 none_costs : (f : Profile) (to : ℕ → Act) → ((k : ℕ) → cost_of_act f (to k) ≡ 0) → (ks : List ℕ) → costs_of f (map to ks) ≡ 0
 none_costs f to free [] = refl
 none_costs f to free (k ∷ ks) = let first = free k in let rest = none_costs f to free ks in omega (arith, first, rest)
+
+-- ---- the phases of a course
+-- Where each phase has the operations of a list but for their lines, so has the one at a place.
+pub list_at : {P : Type 0} (said : P → List Op) (phases : List P) (lists : List (List Op)) (i : ℕ) (item : P) → map said phases ≡ without_lines lists
+    → i < length phases → item ≡ slice_index_or phases i item → said item ≡ map unlined (get_or lists i [])
+list_at said phases lists i item same lt is =
+    let long : i < length lists = omega (arith, lt, ap (λ (xs : List (List Op)). length xs) same, length-map phases said, length-map lists (λ (ops : List Op). map unlined ops)) in
+    ap said is ∙ sym (get_or-map said phases i item [] lt) ∙ ap (λ (xs : List (List Op)). get_or xs i []) same ∙ get_or-map (λ (ops : List Op). map unlined ops) lists i [] [] long
+
+pub list_in : {P : Type 0} (said : P → List Op) (phases : List P) (lists : List (List Op)) → map said phases ≡ without_lines lists
+    → length lists ≡ length phases
+list_in said phases lists same =
+    sym (length-map lists (λ (ops : List Op). map unlined ops)) ∙ sym (ap (λ (xs : List (List Op)). length xs) same) ∙ length-map phases said
+
+-- A thread is active among operations where it is without their lines.
+pub same_active : (ops : List Op) (k : ℕ) → is_active (map unlined ops) k ≡ is_active ops k
+same_active [] k = refl
+same_active (op ∷ ops) k = ap (λ (b : Bool). (op.actor == k) || b) (same_active ops k)
 
 -- There is room for the threads that wake.
 pub wakes_next : (waits : Option ℕ) (r : Replay) (s : Session) (ks : List ℕ) (more : List Act) → Between waits r (map Wakes ks ++ more) s
@@ -264,7 +291,8 @@ wakes_next waits r s ks more btw = let cost = none_costs r.profile Wakes (λ k. 
 
 -- There is room for the close: its mark, the ends of the threads, and the last sweeps of the keepers.
 pub close_next : (waits : Option ℕ) (r : Replay) (s : Session) → Between waits r (close_acts r.threads r.keepers) s
-    → SoFarAt r (upon r (MarksClose ∷ []) (upon r (map Ends (numbers_from 1 r.threads)) (upon r (map Lowers (numbers_from (r.threads + 1) r.keepers)) (left_between waits r [])))) s
+    → SoFarAt r (upon r (MarksClose ∷ [])
+    (upon r (map Ends (numbers_from 1 r.threads)) (upon r (map Lowers (numbers_from (r.threads + 1) r.keepers)) (left_between waits r [])))) s
 close_next waits r s btw =
     let f = r.profile in
     let ends = map Ends (numbers_from 1 r.threads) in
@@ -304,7 +332,8 @@ StartsAs kind plan k slot =
 
 actor_starts : {text : List ℕ} {plan : Plan} {kit : PlainKit} → IsPlanOf text plan → IsKitOf plan kit → (k : ℕ) → k ≤ (region_of plan).threads
     → ActorStands (threads_of plan) (region_of plan) k at_start (pass_in kit.actors.passes.items k) (acts_of_plan plan)
-actor_starts {text} {plan} {kit} read made zero le = let bound = plan_scavenger read in starts_at plan 0 _ (pass_in kit.actors.passes.items 0) HasNothing nothing_yet (omega (arith, bound)) (made.fresh 0 (omega arith))
+actor_starts {text} {plan} {kit} read made zero le = let bound = plan_scavenger read in
+    starts_at plan 0 _ (pass_in kit.actors.passes.items 0) HasNothing nothing_yet (omega (arith, bound)) (made.fresh 0 (omega arith))
 actor_starts {text} {plan} {kit} read made (suc i) le =
     let f = region_of plan in
     let k = suc i in

@@ -17,7 +17,7 @@ use Rattle.pas_acts.proofs.{ActsOfPlan.ArePlanned, PlanFacts.plan_planned}
 use Rattle.pas_profile.proofs.Lists.{all_both}
 use Rattle.pas_steps.specs.{Events.events_by, Lists.Whole, Lists.part}
 use Rattle.pas_steps.specs.declared.state.State.{State}
-use Rattle.pas_report.specs.declared.record.Record.{Record}
+use Rattle.pas_records.specs.declared.record.Record.{Record}
 use Rattle.pas_answers.specs.{Answers.Progress, Answers.records_of, Reaching.Advances, Reaching.Reaches}
 use Rattle.pas_answers.specs.Ways.{InOrder, OnThreads, is_of, EachOf, records_by, by_actors, by_phases, arranged}
 use Rattle.pas_answers.proofs.OwnRecords.{each_both, piece_of, all_by, none_by}

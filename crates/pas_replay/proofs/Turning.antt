@@ -11,8 +11,8 @@ use Rattle.pas_replay.specs.Sessions.{Slots, pass_in, risen, IsTaken, StandsIn, 
 use Rattle.pas_replay.specs.Sessions.{Hand, IsAt, SoFar, GoesBy, AreCaches, HaveBooks, HavePlaces, records_owed_as, owed_of, owed_by, MaySit, SeatStands}
 use Rattle.pas_replay.specs.Sessions.{owes_as, owes, own_events, ActorStands, HasNames, SoFarAt, session, upon}
 use Rattle.pas_profile.specs.declared.{profile.Profile.Profile, directory.Kind.Kind}
-use Rattle.pas_steps.specs.{Views.View, Lists.part, Views.known_deed, Unknown.unknown_below, Unknown.unknown_here, Unknown.unknown_pages, Events.events_of}
-use Rattle.pas_steps.specs.{Lists.Whole, Lists.Legal, Desks.triples}
+use Rattle.pas_steps.specs.{Views.View, Views.known_deed, Lists.part, Lists.Whole, Lists.Legal, Unknown.unknown_below, Unknown.unknown_here}
+use Rattle.pas_steps.specs.{Unknown.unknown_pages, Events.events_of, Desks.triples}
 use Rattle.pas_guard.specs.Books.{FitsBook, guards_in, size_of_book, AreApart, Each, IsGuardOf, KnowsGuard, is_outer, is_outer_of}
 use Rattle.pas_large.specs.Doors.{Indexes, no_ranges}
 use Rattle.pas_cache.specs.Caches.{Cached, AtRest, cached}
@@ -20,14 +20,14 @@ use Rattle.pas_trace.specs.Acts.{Act, Operates, Settles, act_kept, acts_of_work,
 use Rattle.pas_trace.specs.declared.plan.{Op.Op, Task.Task, Work.Work}
 use Rattle.pas_answers.specs.Answers.{Progress, settled, after_settling, Caches, Books, Named}
 use Rattle.pas_answers.specs.Indexes.{indexes_after, indexes_after_all, AllAreNamedBy, ActIsNamedBy}
-use Rattle.pas_answers.specs.{Reaching.Reaches, Rests.AreAtRest, Rests.AllAtRest, Calls.owed_events, Keeping.owed_by_keeper, Reaching.Advances}
+use Rattle.pas_answers.specs.{Reaching.Reaches, Reaching.Advances, Rests.AreAtRest, Rests.AllAtRest, Calls.owed_events, Keeping.owed_by_keeper}
 use Rattle.pas_answers.specs.{Replays.at_start}
 use Rattle.pas_cache.specs.declared.cache.ThreadCache.{ThreadCache}
 use Rattle.pas_guard.specs.declared.book.{GuardBook.GuardBook, Guard.Guard}
-use Rattle.pas_acts.specs.{Tries.tries_of, Awake.idle_in, Tries.tries_of_act, Tries.AreKeptFor, Works.Later, Works.Sits, Turns.RestsAt, Turns.Moves}
+use Rattle.pas_acts.specs.{Tries.tries_of, Tries.tries_of_act, Tries.AreKeptFor, Awake.idle_in, Works.Later, Works.Sits, Turns.RestsAt, Turns.Moves}
 use Rattle.pas_profile.proofs.Codecs.{deed_word_of-positive}
 use Rattle.pas_bits.specs.declared.mask.Mask4.{Mask4}
-use Rattle.pas_trace.specs.{Asked.work_of, Asked.cost_of_task, EveryPlan.IsSoundTask, Reasons.cost_of_size, EveryPlan.records_of_work}
+use Rattle.pas_trace.specs.{Asked.work_of, Asked.cost_of_task, EveryPlan.IsSoundTask, EveryPlan.records_of_work, Reasons.cost_of_size}
 use Rattle.pas_trace.proofs.{ThreadsInOrder.numbers_count, Costs.large_cost, Costs.small_cost}
 use Rattle.pas_answers.specs.Fit.{AreFit, IsFitWhat, costs_of, AreOfThreads, sum_over, own_cost_of_act, own_costs_of, kept_cost_of_act, kept_costs_of}
 use Rattle.pas_answers.specs.Fit.{unbacks_of_act, unbacks_of}
@@ -36,12 +36,12 @@ use Rattle.pas_acts.proofs.{ActsOfPlan.chosen_few, ActsOfPlan.work_costs, AtDesk
 use Rattle.pas_steps.specs.declared.step.Made.{Made}
 use Rattle.pas_steps.proofs.Parts.{part_of_others}
 use Rattle.pas_plain.proofs.Desks.{pass_rests}
-use Rattle.pas_report.specs.Rooms.{records_in, room_of, Records}
-use Rattle.pas_report.specs.declared.record.Record.{Record}
 use Rattle.pas_answers.specs.declared.names.Names.{Names}
 use Rattle.pas_answers.proofs.{SingleActs.sum_both, OwnRecords.EachShown, Consequences.acts_shown}
 use Rattle.pas_acts.specs.AtDesks.{here, and_for, ThreadActs, for_act, HasRoomAt, ScavengerActs}
 use Rattle.pas_replay.specs.declared.seats.Actors.{Actors}
+use Rattle.pas_records.specs.Rooms.{records_in, room_of, Records}
+use Rattle.pas_records.specs.declared.record.Record.{Record}
 
 -- The one desk of a replay, at which the actors take turns; and how a replay goes on: what all actors have, and what they owe, when one did something.
 
@@ -388,8 +388,8 @@ large_costs pages size within large = omega (arith, within, large_cost size larg
 task_costs : (f : Profile) (asked : List ℕ) (task : Task) → IsSoundTask f asked task → cost_of_task task ≤ f.pages + 3
 task_costs f asked a sound = search (arith, size_costs, large_costs)
 
--- whether it is guarded or not
-kept_fit : (f : Profile) (limit : ℕ) (asked : List ℕ) (o : Option ℕ) (op : Op) (more : List Act) → AreFit f limit asked (act_kept o op ∷ more)
+-- An operation fits, whether it is guarded or not.
+pub kept_fit : (f : Profile) (limit : ℕ) (asked : List ℕ) (o : Option ℕ) (op : Op) (more : List Act) → AreFit f limit asked (act_kept o op ∷ more)
     → IsFitWhat f limit asked op.what
 kept_fit f limit asked a op more fit = search arith
 
@@ -470,7 +470,8 @@ module _ {r : Replay} {left desk0 desk passes0 passes caches books places indexe
   stood_now = search (arith, its_pass)
 
   -- An actor that took its seat sits at the desk as it rested, with room for its acts.
-  pub sits_now : Sits r.profile k (rests r.threads r.profile p k) (standing_of desk) p.list (owes r.threads r.profile p k (part k p.list) + own_events r.threads r.profile k left.acts)
+  pub sits_now : Sits r.profile k (rests r.threads r.profile p k) (standing_of desk) p.list
+      (owes r.threads r.profile p k (part k p.list) + own_events r.threads r.profile k left.acts)
   sits_now = search (arith, stood_now, its_pass)
 
 -- ---- the others
@@ -538,7 +539,8 @@ pub record Turned (r : Replay) (k : ℕ) (acts more : List Act) (indexes indexes
   pub shows : Legal r.profile q.list → EachShown p.records → EachShown q.records
   pub reaches : (s : Progress) → GoesBy r.threads r.profile indexes' more q s → GoesBy r.threads r.profile indexes acts p s
   pub moves : Moves k (rests r.threads r.profile p k) (rests r.threads r.profile q k) (standing_of desk) (standing_of desk') p q
-  pub sits : Sits r.profile k (rests r.threads r.profile q k) (standing_of desk') q.list (owes r.threads r.profile q k (part k q.list) + own_events r.threads r.profile k more)
+  pub sits : Sits r.profile k (rests r.threads r.profile q k) (standing_of desk') q.list
+      (owes r.threads r.profile q k (part k q.list) + own_events r.threads r.profile k more)
   pub kept : OthersKept k p q
   pub free : (j : ℕ) → j ≢ k → own_events r.threads r.profile j more ≤ own_events r.threads r.profile j acts
 
@@ -641,10 +643,15 @@ thread_now {r} {left} {desk0} {desk} {passes0} {passes} {p = p} {c} (suc i) cost
 pub thread_turn : {r : Replay} {first : List Act} {more : Left} {desk0 desk desk' : PlainDesk} {passes0 passes : Slots} {caches : List ThreadCache}
     {books : List GuardBook} {places : ℕ} {indexes indexes' : Indexes} {table table' : Names} {out out1 out2 : Records} {p : Progress} {c : Cached}
     {came : List Named} {told : List Record} {extra : ℕ}
-    (k : ℕ) (cache : ThreadCache) → 1 ≤ k → k ≤ length caches → TakesSeat desk0 desk passes0 passes k → p.caches k ≡ c → IsAt r (upon r first more) (hand desk0 passes0 caches books places indexes table out) p
-    → (did : ThreadActs r.profile k first came told (here (standing_of desk) c out) (here (standing_of desk') (cached cache) out1) (later_for r k p more extra) p) → AllAreNamedBy r.profile indexes first p did.reached did.reaches → indexes' ≡ indexes_after_all r.profile first p did.reached did.reaches indexes
-    → (AreAtRest r.threads r.profile p.caches p.books p.list → AreAtRest r.threads r.profile did.reached.caches did.reached.books did.reached.list → AllAtRest r.threads r.profile first p did.reached did.reaches)
-    → HasNames r.profile more.acts table' did.reached.names → AreOfThreads r.threads more.acts → AreKeptFor r.threads r.keepers more.acts → length told ≤ extra → records_in out2 ≡ records_in out1 ++ told → room_of out2 ≡ room_of out1
+    (k : ℕ) (cache : ThreadCache) → 1 ≤ k → k ≤ length caches → TakesSeat desk0 desk passes0 passes k → p.caches k ≡ c
+    → IsAt r (upon r first more) (hand desk0 passes0 caches books places indexes table out) p
+    → (did : ThreadActs r.profile k first came told (here (standing_of desk) c out) (here (standing_of desk') (cached cache) out1)
+    (later_for r k p more extra) p)
+    → AllAreNamedBy r.profile indexes first p did.reached did.reaches → indexes' ≡ indexes_after_all r.profile first p did.reached did.reaches indexes
+    → (AreAtRest r.threads r.profile p.caches p.books p.list → AreAtRest r.threads r.profile did.reached.caches did.reached.books did.reached.list
+    → AllAtRest r.threads r.profile first p did.reached did.reaches)
+    → HasNames r.profile more.acts table' did.reached.names → AreOfThreads r.threads more.acts → AreKeptFor r.threads r.keepers more.acts
+    → length told ≤ extra → records_in out2 ≡ records_in out1 ++ told → room_of out2 ≡ room_of out1
     → IsTaken desk' passes × IsAt r more (hand desk' passes (set caches (k - 1) cache) books places indexes' table' out2) did.reached
 thread_turn zero cache some most seat was at did named after rested names operate keep few added room = absurd (omega (arith, some))
 thread_turn {r} {first} {more} {desk0} {desk} {desk'} {passes0} {passes} {caches} {books} {places} {indexes} {indexes'} {table} {table'} {out} {out1} {out2} {p} {c} {came} {told} {extra} (suc i) cache some most seat was at did named after rested names operate keep few added room =

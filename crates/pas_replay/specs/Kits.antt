@@ -1,7 +1,9 @@
 -- A kit that nobody used, made for a plan.
-use Rattle.std.specs.Prelude.{ℕ, ◌+◌, ◌<◌, ◌≡◌, [], length, Option, Some, None, slice_index}
-use Rattle.pas_trace.specs.Plans.{bounds_of}
-use Rattle.pas_trace.specs.declared.plan.Plan.{Plan}
+use Rattle.std.specs.Prelude.{ℕ, ◌+◌, ◌<◌, ◌≤◌, ◌≡◌, List, [], length, Option, Some, None, slice_index}
+use Rattle.pas_trace.specs.{Courses.IsCourseOf, Plans.IsPlanOf, Plans.bounds_of}
+use Rattle.pas_trace.specs.declared.{course.Course.Course, plan.Op.Op, plan.Plan.Plan}
+use Rattle.pas_records.specs.Rooms.{Records, room_of}
+use Rattle.pas_replay.specs.{Taking.room_for_taker, Sessions.pass_in, Sessions.Replay}
 use Rattle.pas_plain.specs.Plain.{profile_of, actor_of, room_of_pass, RegionStands, PassStands}
 use Rattle.pas_plain.specs.declared.pass.PlainPass.{PlainPass}
 use Rattle.pas_large.specs.Doors.{no_ranges}
@@ -9,7 +11,6 @@ use Rattle.pas_answers.specs.{Fit.AllBelow, Names.block_named, Names.names_held}
 use Rattle.pas_answers.specs.Replays.{phases_of, region_of, threads_of, keepers_of, acts_of_plan}
 use Rattle.pas_replay.specs.declared.kit.PlainKit.{PlainKit}
 use Rattle.pas_utility.specs.Outcomes.{places_of}
-use Rattle.pas_replay.specs.Sessions.{pass_in, Replay}
 use Rattle.pas_acts.specs.{Parts.AreUnused, PlanKeepers.AreBooks}
 
 -- an actor that did nothing yet: its pass has room for its bound
@@ -37,3 +38,11 @@ pub record IsKitOf (plan : Plan) (kit : PlainKit) : Type 0 where
 -- the replay of the plan, with room for so many records, before any was handed on
 abbrev pub replay_of : Plan → ℕ → Replay
 replay_of plan room = record { profile = region_of plan; threads = threads_of plan; keepers = keepers_of plan; acts = acts_of_plan plan; room = room; told = [] }
+
+-- the course is that of a plan of the text, the kit that of the plan, and there is room for what waits beside such a taker
+pub record MayReplay {P : Type 0} (said : P → List Op) (waits : Option ℕ) (course : Course P) (kit : PlainKit) (text : List ℕ) (plan : Plan) (out : Records) : Type 0 where
+  pub short : length text ≤ 16777216
+  pub read : IsPlanOf text plan
+  pub same : IsCourseOf said plan course
+  pub fits : IsKitOf plan kit
+  pub room : room_for_taker waits plan ≤ room_of out

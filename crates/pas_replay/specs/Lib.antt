@@ -3,3 +3,4 @@ pub mod Kits
 pub mod OneThread
 pub mod Operating
 pub mod Taking
+pub mod Performing

@@ -8,23 +8,24 @@ use Rattle.pas_plain.specs.Plain.{profile_of, actor_of, room_of_pass, RegionStan
 use Rattle.pas_plain.specs.Seats.{region_of, pass_of, IsPassOf}
 use Rattle.pas_plain.specs.declared.{region.PlainRegion.PlainRegion, pass.PlainPass.PlainPass, desk.PlainDesk.PlainDesk}
 use Rattle.std.specs.List.{AllByRecursion}
-use Rattle.pas_report.specs.{Lines.CanShow, Rooms.records_in, Rooms.room_of, Rooms.Records}
-use Rattle.pas_report.specs.declared.record.Record.{Record}
 use Rattle.pas_guard.specs.Books.{FitsBook, guards_in, size_of_book}
 use Rattle.pas_guard.specs.declared.book.{Guard.Guard, GuardBook.GuardBook}
 use Rattle.pas_answers.specs.{Keeping.owed_by_keeper, Names.names_held, Indexes.ReachesBy, Rests.AllAtRest, Replays.at_start}
 use Rattle.pas_cache.specs.Caches.{Cached, cached, AtRest}
 use Rattle.pas_cache.specs.declared.cache.ThreadCache.{ThreadCache}
 use Rattle.pas_utility.specs.Outcomes.{places_of}
-use Rattle.pas_trace.specs.Acts.{Act, Operates, Guards, Settles}
-use Rattle.pas_trace.specs.declared.{plan.Op.Op, item.Request.Request, plan.Task.Task}
+use Rattle.pas_trace.specs.Acts.{Act, Operates, Settles, act_kept}
+use Rattle.pas_trace.specs.Asked.{keeper_of}
+use Rattle.pas_trace.specs.declared.plan.{Op.Op, Task.Task}
 use Rattle.pas_answers.specs.Answers.{Progress, Named, Caches, Books}
 use Rattle.pas_answers.specs.Calls.{Tells, MayStand, AllMayStand, AreKnown, named_by, owed_events}
 use Rattle.pas_answers.specs.Fit.{AreFit, AreOfThreads, cost_of_act, own_costs_of, kept_costs_of, unbacks_of}
 use Rattle.pas_large.specs.Doors.{Indexes, no_ranges}
 use Rattle.pas_acts.specs.Tries.{tries_of, AreKeptFor}
 use Rattle.pas_answers.specs.declared.names.Names.{Names}
-use Rattle.pas_replay.specs.declared.seats.{Actors.Actors, Guarded.Guarded}
+use Rattle.pas_replay.specs.declared.seats.Actors.{Actors}
+use Rattle.pas_records.specs.{Lines.CanShow, Rooms.records_in, Rooms.room_of, Rooms.Records}
+use Rattle.pas_records.specs.declared.record.Record.{Record}
 
 -- ---- passes, by actor; None of the one at the desk
 abbrev pub Slots : Type 0
@@ -278,14 +279,10 @@ MayGoOn acts s = (r : Replay) × (more : Left) × SoFarAt r (upon r (acts r.thre
 abbrev pub GoesOn : (ℕ → List Act) → Session → Session → Type 0
 GoesOn acts before after = (r : Replay) (more : Left) → SoFarAt r (upon r (acts r.threads) more) before → SoFarAt r more after
 
--- ---- a guarded request, whose keeper tries it first
--- the task that asks for it
-abbrev pub task_of : Guarded → Task
-task_of request = Task.Guarded request.keeper request.name request.heap request.size request.align
-
--- .. as a request
-abbrev pub asked_by : Guarded → Request
-asked_by request = record { name = request.name; heap = request.heap; size = request.size; align = request.align }
+-- ---- an operation of a thread
+-- its acts, by the task that it asks for: it is kept by the keeper of a guarded request
+abbrev pub own_acts_of : Task → Op → List Act
+own_acts_of task op = act_kept (keeper_of task) op ∷ (Settles op.actor ∷ [])
 
 -- the table has the name that the operation asked for, with what it came to
 pub record HasNamed (op : Op) (came : Option Block) (before after : Names) : Type 0 where
@@ -293,13 +290,17 @@ pub record HasNamed (op : Op) (came : Option Block) (before after : Names) : Typ
   pub tells : (known : List Named) → Tells before known → Tells after (named_by op.what came ++ known)
   pub stand : (f : Profile) → AllMayStand f before → MayStand f came → AllMayStand f after
 
--- Where it gave no block, the operation is left to its thread, as any. Where it gave one, nothing but what the cache noted is left of it, once its name stands
--- for the block.
-abbrev pub HasTried : Op → ℕ → Option Block → Session → Session → Type 0
-HasTried op keeper None before after = (r : Replay) (more : Left)
-    → SoFarAt r (upon r (Guards keeper op ∷ (Settles op.actor ∷ [])) more) before → SoFarAt r (upon r (Operates op ∷ (Settles op.actor ∷ [])) more) after
-HasTried op keeper (Some block) before after = (r : Replay) (more : Left) (table : Names) → HasNamed op (Some block) before.table table
-    → SoFarAt r (upon r (Guards keeper op ∷ (Settles op.actor ∷ [])) more) before → SoFarAt r (upon r (Settles op.actor ∷ []) more) (session after.desk after.actors table after.out)
+-- once its name stands for what it came to, these of its acts are done, and those are left
+abbrev pub OnceNamed : Op → Option Block → List Act → List Act → Session → Session → Type 0
+OnceNamed op came acts left before after = (r : Replay) (more : Left) (table : Names) → HasNamed op came before.table table
+    → SoFarAt r (upon r acts more) before → SoFarAt r (upon r left more) (session after.desk after.actors table after.out)
+
+-- Where the keeper gave no block, or wasn't asked for one, the operation is left to its thread. Where it gave one, nothing but what the cache noted is left
+-- of it.
+abbrev pub HasTried : Op → List Act → Option Block → Session → Session → Type 0
+HasTried op acts None before after = (r : Replay) (more : Left)
+    → SoFarAt r (upon r acts more) before → SoFarAt r (upon r (Operates op ∷ (Settles op.actor ∷ [])) more) after
+HasTried op acts (Some block) before after = OnceNamed op (Some block) acts (Settles op.actor ∷ []) before after
 
 -- ---- the same, where the scavenger read this epoch last for an idle operation
 abbrev pub HasRead : ℕ → Replay → Left → Session → Type 0

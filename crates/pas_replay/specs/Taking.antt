@@ -3,10 +3,10 @@ use Rattle.std.specs.Prelude.{ℕ, ◌+◌, ◌*◌, ◌≤◌, ◌≡◌, List,
 use Rattle.pas_profile.specs.declared.profile.Profile.{Profile}
 use Rattle.pas_trace.specs.Acts.{Act, acts_of}
 use Rattle.pas_trace.specs.declared.plan.{Op.Op, Plan.Plan}
-use Rattle.pas_report.specs.Rooms.{records_in, Records}
-use Rattle.pas_report.specs.declared.record.Record.{Record}
 use Rattle.pas_answers.specs.{Fit.costs_of, Replays.phases_of, Replays.region_of}
 use Rattle.pas_replay.specs.Sessions.{Replay, Left, Hand, Session, SoFar, SoFarAt, telling}
+use Rattle.pas_records.specs.Rooms.{records_in, Records}
+use Rattle.pas_records.specs.declared.record.Record.{Record}
 
 -- What an operation may say, as a pass of all pages, the stops of all threads or a guarded request for all pages.
 abbrev pub dearest : Profile → ℕ
@@ -42,16 +42,16 @@ Between waits r acts s = SoFarAt r (left_between waits r acts) s × FewWait wait
 abbrev pub MayHandOn : Option ℕ → (ℕ → List Act) → Session → Type 0
 MayHandOn waits acts s = (r : Replay) × (more : List Act) × Between waits r (acts r.threads ++ more) s
 
--- Some records were taken, and in each replay in which these acts come next, those after them are left afterwards.
-abbrev pub HandsOn : Option ℕ → (List Record → Type 0) → (ℕ → List Act) → Session → Session → Type 0
-HandsOn waits Took acts before after = (told : List Record) × Took told
-    × ((r : Replay) (more : List Act) → Between waits r (acts r.threads ++ more) before → Between waits (telling r told) more after)
+-- Some records were taken, and in each replay in which the acts of such operations come next, those after them are left afterwards.
+abbrev pub HandsOn : Option ℕ → (List Record → Type 0) → (List Op → Type 0) → (ℕ → List Op → List Act) → Session → Session → Type 0
+HandsOn waits Took Are acts before after = (told : List Record) × Took told
+    × ((ops : List Op) → Are ops → (r : Replay) (more : List Act) → Between waits r (acts r.threads ops ++ more) before → Between waits (telling r told) more after)
 
 -- all acts of the replay are left, which are those of these phases
 abbrev pub Begins : Option ℕ → List (List Op) → Replay → Hand → Type 0
 Begins waits phases r h = (r.acts ≡ acts_of r.threads r.keepers phases) × SoFar r (left_between waits r r.acts) h × FewWait waits r h.out
 
--- the whole replay of these phases, some records of which were taken
-abbrev pub Replays : Option ℕ → (List Record → Type 0) → List (List Op) → Hand → Hand → Type 0
-Replays waits Took phases before after = (told : List Record) × Took told
-    × ((r : Replay) → Begins waits phases r before → SoFar (telling r told) (left_between waits r []) after)
+-- the whole replay of such phases, some records of which were taken
+abbrev pub Replays : Option ℕ → (List Record → Type 0) → (List (List Op) → Type 0) → Hand → Hand → Type 0
+Replays waits Took Are before after = (told : List Record) × Took told
+    × ((phases : List (List Op)) → Are phases → (r : Replay) → Begins waits phases r before → SoFar (telling r told) (left_between waits r []) after)

@@ -2,14 +2,14 @@
 
 ghost use Rattle.std.specs.Prelude.{◌≡◌, ◌↔◌, ◌≤◌, ◌+◌, ℕ, List, [], length, IsTrue};
 ghost use Rattle.pas_trace.specs.Plans.{IsPlanOf};
-ghost use Rattle.pas_report.specs.Rooms.{records_in, room_of};
+ghost use Rattle.pas_records.specs.Rooms.{records_in, room_of};
 ghost use Rattle.pas_answers.specs.{Replays.phases_of, Replays.Shows, Ways.InOrder, Ways.OnThreads};
 ghost use Rattle.pas_replay.specs.{Kits.IsKitOf, OneThread.IsOfOneThread};
 
 use crate::kit::{PlainKit, in_order};
 use pas_acts::at_desk::SCAVENGER;
 use pas_answers::Remake;
-use pas_report::Records;
+use pas_records::Records;
 use pas_steps::State;
 use pas_trace::Plan;
 

@@ -1,25 +1,26 @@
 //! All that a replay needs, and the replay.
 
 ghost use Rattle.std.specs.Prelude.{◌≡◌, ◌≤◌, ◌<◌, ◌+◌, ◌++◌, ℕ, List, IfOk, Some, [], length, map};
-ghost use Rattle.pas_trace.specs.Plans.{IsPlanOf};
-ghost use Rattle.pas_report.specs.Rooms.{records_in, room_of};
-ghost use Rattle.pas_report.specs.declared.record.Record.{Record as TheRecord};
+ghost use Rattle.pas_trace.specs.{Courses.IsCourse, Courses.IsCourseOf, Plans.IsPlanOf};
+ghost use Rattle.pas_trace.specs.declared.plan.Plan.{Plan as ThePlan};
 ghost use Rattle.pas_answers.specs.{Replays.phases_of, Replays.Shows, Ways.InOrder};
 ghost use Rattle.pas_large.specs.Doors.{no_ranges};
-ghost use Rattle.pas_replay.specs.{Kits.IsKitOf, Taking.room_for_taker};
+ghost use Rattle.pas_replay.specs.{Kits.IsKitOf, Kits.MayReplay, Taking.room_for_taker};
+ghost use Rattle.pas_records.specs.Rooms.{records_in, room_of};
+ghost use Rattle.pas_records.specs.declared.record.Record.{Record as TheRecord};
 
 use crate::order::replay;
 use crate::seats::Actors;
 use crate::taking::{Keeps, Takes};
-use pas_acts::{books_for, caches_for, outcomes_from, region_of, rooms_of};
+use pas_acts::{books_by, caches_for, outcomes_from, region_by, rooms_of};
 use pas_answers::Remake;
 use pas_answers::names::Names;
 use pas_large::LargeIndex;
 use pas_plain::{PlainPass, PlainRegion, close};
 use pas_profile::NoMemory;
-use pas_report::Records;
+use pas_records::Records;
 use pas_steps::State;
-use pas_trace::Plan;
+use pas_trace::{Course, Operations, Plan};
 use pas_utility::Utility;
 use std::alloc::Global;
 
@@ -71,18 +72,29 @@ impl PlainKit {
         requires { (text : List ℕ) × IsPlanOf text plan.now }
         ensures { IfOk result (λ kit. IsKitOf plan.now kit) }
     {
-        let profile = region_of(plan);
-        let mut utility = Utility::try_new(alloc, &profile, plan.bounds.as_slice())?;
+        PlainKit::for_course(alloc, &plan.course())
+    }
+
+    /// The kit of a plan with this course.
+    pub fn for_course<P: Operations>(
+        alloc: Global,
+        course: &Course<'_, P>,
+    ) -> Result<PlainKit, NoMemory>
+        requires { IsCourse P.ops course.now }
+        ensures { IfOk result (λ kit. (text : List ℕ) (plan : ThePlan) → IsPlanOf text plan → IsCourseOf P.ops plan course.now → IsKitOf plan kit) }
+    {
+        let profile = region_by(course);
+        let mut utility = Utility::try_new(alloc, &profile, course.bounds)?;
         let rooms = rooms_of(alloc, &mut utility, profile.threads)?;
         let (region, mut passes) = PlainRegion::try_new(alloc, profile, rooms)?;
         let places = places_for(alloc, &mut passes)?;
-        let caches = caches_for(alloc, &mut utility, plan.profile.threads)?;
-        let names = Names::try_new(alloc, plan.names_limit)?;
-        let indexes = indexes_for(alloc, plan.profile.heaps)?;
+        let caches = caches_for(alloc, &mut utility, course.profile.threads)?;
+        let names = Names::try_new(alloc, course.names_limit)?;
+        let indexes = indexes_for(alloc, course.profile.heaps)?;
         let actors = Actors {
             passes: places,
             caches,
-            books: books_for(alloc, plan)?,
+            books: books_by(alloc, course)?,
             outcomes: outcomes_from(&mut utility),
             indexes,
         };
@@ -105,23 +117,22 @@ pub fn in_order<M: Remake>(plan: &Plan, kit: PlainKit, remake: &M, out: &mut Rec
     requires room { plan.now.total + length (phases_of plan.now) + 1 ≤ room_of out.old }
     ensures { Shows InOrder plan.now (records_in out.new) result }
 {
-    in_order_to(plan, kit, remake, out, &mut Keeps)
+    in_order_to(&plan.course(), kit, remake, out, &mut Keeps)
 }
 
-/// The same, while the taker takes what was said, after each operation: `out` has room for what waits, and keeps at the end what the taker left. What it took, and
-/// then what waits, is what `in_order` says. Takes no memory.
-pub fn in_order_to<M: Remake, T: Takes>(
-    plan: &Plan,
+/// The same of a plan with this course, while the taker takes what was said, after each operation: `out` has room for what waits, and keeps at the end what the
+/// taker left. What it took, and then what waits, is what `in_order` says. Takes no memory.
+pub fn in_order_to<M: Remake, P: Operations, T: Takes>(
+    course: &Course<'_, P>,
     kit: PlainKit,
     remake: &M,
     out: &mut Records,
     taker: &mut T,
 ) -> State
-    requires plan { (text : List ℕ) × (length text ≤ 16777216) × IsPlanOf text plan.now }
-    requires kit { IsKitOf plan.now kit }
+    requires plan { (text : List ℕ) × (plan : ThePlan) × MayReplay P.ops T.waits course.now kit text plan out.old }
     requires empty { records_in out.old ≡ [] }
-    requires room { room_for_taker T.waits plan.now ≤ room_of out.old }
-    ensures { (told : List TheRecord) × T.took taker.old taker.new told × Shows InOrder plan.now (told ++ records_in out.new) result }
+    ensures { (told : List TheRecord) × T.took taker.old taker.new told
+        × ((text : List ℕ) (plan : ThePlan) → MayReplay P.ops T.waits course.now kit text plan out.old → Shows InOrder plan (told ++ records_in out.new) result) }
 {
     let PlainKit {
         region,
@@ -134,7 +145,7 @@ pub fn in_order_to<M: Remake, T: Takes>(
         &mut actors,
         &mut names,
         remake,
-        plan.phases.as_slice(),
+        course.phases,
         out,
         taker,
     );

@@ -1,28 +1,27 @@
 //! The phases of a plan in order, and the close.
-ghost use Rattle.std.specs.Prelude.{◌≡◌, ◌+◌, ◌<◌, ◌≤◌, ◌^◌, map, length, [], ◌∷◌};
-ghost use Rattle.pas_trace.specs.{Asked.keeper_of, Plans.ops_of};
-ghost use Rattle.pas_trace.specs.declared.plan.Op.{Op as TheOp};
-ghost use Rattle.pas_answers.specs.Calls.{what_of};
-ghost use Rattle.pas_trace.specs.Acts.{act_kept, Settles, Wakes, ReadsEpoch, Ends, Lowers, numbers_from, idle_stops, acts_of_op, acts_of_ops};
+ghost use Rattle.std.specs.Prelude.{◌≡◌, ◌+◌, ◌<◌, ◌≤◌, ◌^◌, map, length, ◌∷◌, List};
+ghost use Rattle.pas_trace.specs.Acts.{Wakes, ReadsEpoch, Ends, Lowers, numbers_from, idle_stops, acts_of_ops};
 ghost use Rattle.pas_replay.specs.Sessions.{Replay, Left, SoFarAt, AreEmpty, AreLowered, MayGoOn, GoesOn, hand_of, session, upon};
 ghost use Rattle.pas_replay.specs.Taking.{MayHandOn, HandsOn, Begins, Replays};
 ghost use Rattle.pas_acts.specs.Awake.{awake_in, idle_in};
-ghost use Rattle.pas_report.specs.Rooms.{Records as TheRecords};
 ghost use Rattle.pas_answers.specs.declared.names.Names.{Names as TheNames};
+ghost use Rattle.pas_trace.specs.{Codes.unlined, Scripts.without_lines};
+ghost use Rattle.pas_trace.specs.declared.plan.Op.{Op as TheOp};
+ghost use Rattle.pas_replay.specs.Performing.{MayPerform, Performs};
+ghost use Rattle.pas_records.specs.Rooms.{Records as TheRecords};
 
 use crate::seats::{
-    Actors, Guarded, end, guard, lower, operate, pass, read_epoch, rise, sit, stop_if_idle, tick,
-    wake,
+    Actors, end, lower, operate, pass, read_epoch, rise, sit, stop_if_idle, tick, wake,
 };
 use crate::taking::Takes;
-use pas_acts::active;
+use pas_acts::active_in;
 use pas_acts::at_desk::SCAVENGER;
 use pas_answers::Remake;
 use pas_answers::names::Names;
 use pas_bits::Mask4;
 use pas_plain::{PlainDesk, PlainRegion};
-use pas_report::{Record, Records};
-use pas_trace::{Chore, Op, Phase, Task, What, Work};
+use pas_records::{Record, Records};
+use pas_trace::{Chore, Op, Operations, Task, What, Work};
 
 /// The number of the phase that begins without a mark.
 const UNMARKED: u32 = 1;
@@ -66,32 +65,7 @@ fn stop_idle(
     }
 }
 
-/// The thread of this number does the task: a guarded request with its keeper, and any other alone.
-#[inline(always)]
-fn own<M: Remake>(
-    desk: &mut PlainDesk,
-    actors: &mut Actors,
-    names: &mut Names,
-    remaker: &M,
-    actor: u8,
-    task: Task,
-    out: &mut Records,
-)
-    requires some { 1 ≤ actor }
-    requires thread { actor ≤ length actors.old.caches.items }
-    requires so_far { (op : TheOp) × (op.actor ≡ actor) × (op.what ≡ what_of task)
-        × MayGoOn (λ n. act_kept (keeper_of task) op ∷ (Settles op.actor ∷ [])) (session desk.old actors.old names.old out.old) }
-    ensures threads { length actors.new.caches.items ≡ length actors.old.caches.items }
-    ensures so_far { (op : TheOp) → op.actor ≡ actor → op.what ≡ what_of task
-        → GoesOn (λ n. act_kept (keeper_of task) op ∷ (Settles op.actor ∷ [])) (session desk.old actors.old names.old out.old) (session desk.new actors.new names.new out.new) }
-{
-    match Guarded::of(task) {
-        Some(request) => guard(desk, actors, names, remaker, actor, request, out),
-        None => operate(desk, actors, names, remaker, actor, task, out),
-    }
-}
-
-/// Performs an operation, in a phase in which these threads have one.
+/// Performs an operation, in a phase in which these threads have one. Its line doesn't matter.
 #[inline(always)]
 fn perform<M: Remake>(
     desk: &mut PlainDesk,
@@ -103,12 +77,12 @@ fn perform<M: Remake>(
     out: &mut Records,
 )
     requires few { length actors.old.caches.items < 32 }
-    requires so_far { MayGoOn (λ n. acts_of_op (idle_in awake n) op) (session desk.old actors.old names.old out.old) }
+    requires so_far { MayPerform awake op (session desk.old actors.old names.old out.old) }
     ensures threads { length actors.new.caches.items ≡ length actors.old.caches.items }
-    ensures so_far { GoesOn (λ n. acts_of_op (idle_in awake n) op) (session desk.old actors.old names.old out.old) (session desk.new actors.new names.new out.new) }
+    ensures so_far { Performs awake op (session desk.old actors.old names.old out.old) (session desk.new actors.new names.new out.new) }
 {
     match op.work() {
-        Work::Own(task) => own(desk, actors, names, remaker, op.actor, task, out),
+        Work::Own(task) => operate(desk, actors, names, remaker, op.actor, task, out),
         Work::Chore(Chore::Tick(epoch)) => tick(desk, actors, epoch, out),
         Work::Chore(Chore::Pass) => pass(desk, actors, out),
         Work::Chore(Chore::Idle(epochs)) => stop_idle(desk, actors, awake, epochs, out),
@@ -127,9 +101,9 @@ fn perform_rare<M: Remake>(
     out: &mut Records,
 )
     requires few { length actors.old.caches.items < 32 }
-    requires so_far { MayGoOn (λ n. acts_of_op (idle_in awake n) op) (session desk.old actors.old names.old out.old) }
+    requires so_far { MayPerform awake op (session desk.old actors.old names.old out.old) }
     ensures threads { length actors.new.caches.items ≡ length actors.old.caches.items }
-    ensures so_far { GoesOn (λ n. acts_of_op (idle_in awake n) op) (session desk.old actors.old names.old out.old) (session desk.new actors.new names.new out.new) }
+    ensures so_far { Performs awake op (session desk.old actors.old names.old out.old) (session desk.new actors.new names.new out.new) }
 {
     perform(desk, actors, names, remaker, awake, op, out)
 }
@@ -143,40 +117,41 @@ fn perform_by_kind<M: Remake>(
     names: &mut Names,
     remaker: &M,
     awake: Mask4,
-    op: &Op,
+    op: Op,
     out: &mut Records,
 )
     requires few { length actors.old.caches.items < 32 }
-    requires so_far { MayGoOn (λ n. acts_of_op (idle_in awake n) op.now) (session desk.old actors.old names.old out.old) }
+    requires so_far { MayPerform awake op (session desk.old actors.old names.old out.old) }
     ensures threads { length actors.new.caches.items ≡ length actors.old.caches.items }
-    ensures so_far { GoesOn (λ n. acts_of_op (idle_in awake n) op.now) (session desk.old actors.old names.old out.old) (session desk.new actors.new names.new out.new) }
+    ensures so_far { Performs awake op (session desk.old actors.old names.old out.old) (session desk.new actors.new names.new out.new) }
 {
     match op.what {
-        What::Alloc { .. } => perform(desk, actors, names, remaker, awake, *op, out),
-        What::Free { .. } => perform(desk, actors, names, remaker, awake, *op, out),
-        _ => perform_rare(desk, actors, names, remaker, awake, *op, out),
+        What::Alloc { .. } => perform(desk, actors, names, remaker, awake, op, out),
+        What::Free { .. } => perform(desk, actors, names, remaker, awake, op, out),
+        _ => perform_rare(desk, actors, names, remaker, awake, op, out),
     }
 }
 
 /// Performs the operations of a phase in order. After each the taker may take what was said.
-fn perform_all<M: Remake, T: Takes>(
+fn perform_all<M: Remake, P: Operations, T: Takes>(
     desk: &mut PlainDesk,
     actors: &mut Actors,
     names: &mut Names,
     remaker: &M,
     awake: Mask4,
-    ops: &[Op],
+    phase: &P,
     out: &mut Records,
     taker: &mut T,
 )
     requires few { length actors.old.caches.items < 32 }
-    requires so_far { MayHandOn T.waits (λ n. acts_of_ops (idle_in awake n) ops.now) (session desk.old actors.old names.old out.old) }
+    requires so_far { (ops : List TheOp) × (P.ops phase.now ≡ map unlined ops)
+        × MayHandOn T.waits (λ n. acts_of_ops (idle_in awake n) ops) (session desk.old actors.old names.old out.old) }
     ensures threads { length actors.new.caches.items ≡ length actors.old.caches.items }
-    ensures so_far { HandsOn T.waits (T.took taker.old taker.new) (λ n. acts_of_ops (idle_in awake n) ops.now)
+    ensures so_far { HandsOn T.waits (T.took taker.old taker.new) (λ ops. P.ops phase.now ≡ map unlined ops) (λ n ops. acts_of_ops (idle_in awake n) ops)
         (session desk.old actors.old names.old out.old) (session desk.new actors.new names.new out.new) }
 {
-    for op in ops {
-        perform_by_kind(desk, actors, names, remaker, awake, op, out);
+    for place in 0..phase.count() {
+        perform_by_kind(desk, actors, names, remaker, awake, phase.op(place), out);
         taker.take(out);
     }
 }
@@ -214,20 +189,22 @@ fn lower_all(desk: &mut PlainDesk, actors: &mut Actors, out: &mut Records)
 
 /// Performs the phases in order, with a mark before each from the second on, and closes: a mark, the stop of each thread, and the last sweep of each keeper.
 /// The region stays at one desk, at which the actors take turns. The taker may take what was said after each mark and each operation.
-pub(crate) fn replay<M: Remake, T: Takes>(
+pub(crate) fn replay<M: Remake, P: Operations, T: Takes>(
     region: PlainRegion,
     actors: &mut Actors,
     names: &mut Names,
     remaker: &M,
-    phases: &[Phase],
+    phases: &[P],
     out: &mut Records,
     taker: &mut T,
 ) -> PlainRegion
     requires phases { length phases.now < 2 ^ 32 }
     requires few { length actors.old.caches.items < 32 }
     requires books { length actors.old.books.items ≤ length actors.old.caches.items }
-    requires so_far { (r : Replay) × Begins T.waits (map ops_of phases.now) r (hand_of region actors.old names.old out.old) }
-    ensures so_far { Replays T.waits (T.took taker.old taker.new) (map ops_of phases.now) (hand_of region actors.old names.old out.old) (hand_of result actors.new names.new out.new) }
+    requires so_far { (lists : List (List TheOp)) × (map P.ops phases.now ≡ without_lines lists)
+        × (r : Replay) × Begins T.waits lists r (hand_of region actors.old names.old out.old) }
+    ensures so_far { Replays T.waits (T.took taker.old taker.new) (λ lists. map P.ops phases.now ≡ without_lines lists)
+        (hand_of region actors.old names.old out.old) (hand_of result actors.new names.new out.new) }
     ensures empty { AreEmpty actors.new.caches.items }
     ensures lowered { AreLowered actors.new.books.items }
 {
@@ -238,19 +215,10 @@ pub(crate) fn replay<M: Remake, T: Takes>(
         if number > UNMARKED {
             out.push(Record::Phase(number));
         }
-        let awake = active(phase.as_slice());
+        let awake = active_in(phase);
         taker.take(out);
         wake_all(&mut desk, actors, awake);
-        perform_all(
-            &mut desk,
-            actors,
-            names,
-            remaker,
-            awake,
-            phase.as_slice(),
-            out,
-            taker,
-        );
+        perform_all(&mut desk, actors, names, remaker, awake, phase, out, taker);
     }
     out.push(Record::Close);
     stop_all(&mut desk, actors, out);

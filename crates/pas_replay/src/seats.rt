@@ -1,5 +1,5 @@
 //! The actors' places at the region. One sits at the desk at a time.
-ghost use Rattle.std.specs.Prelude.{◌≡◌, ◌≢◌, ◌<◌, ◌+◌, ◌-◌, ◌≤◌, ◌++◌, ℕ, List, None, [], ◌∷◌, length, MatchOption, option_and_then, slice_set};
+ghost use Rattle.std.specs.Prelude.{◌≡◌, ◌≢◌, ◌<◌, ◌+◌, ◌-◌, ◌≤◌, ◌++◌, ℕ, List, [], ◌∷◌, length, option_and_then, slice_set};
 ghost use Rattle.pas_profile.specs.declared.profile.Profile.{Profile as TheProfile};
 ghost use Rattle.pas_plain.specs.{Plain.actor_of, Seats.pass_of, Seats.standing_of};
 ghost use Rattle.pas_plain.specs.declared.desk.PlainDesk.{PlainDesk as TheDesk};
@@ -7,9 +7,8 @@ ghost use Rattle.pas_cache.specs.Caches.{cached};
 ghost use Rattle.pas_cache.specs.declared.cache.ThreadCache.{ThreadCache as TheCache};
 ghost use Rattle.pas_guard.specs.Books.{guards_in};
 ghost use Rattle.pas_guard.specs.declared.book.GuardBook.{GuardBook as TheBook};
-ghost use Rattle.pas_report.specs.Rooms.{Records as TheRecords};
-ghost use Rattle.pas_trace.specs.Asked.{request_of, freed_of, keeper_of};
-ghost use Rattle.pas_trace.specs.Acts.{Operates, Guards, Settles, Ticks, MakesPass, ReadsEpoch, StopsIdle, Wakes, Ends, Lowers};
+ghost use Rattle.pas_trace.specs.Asked.{request_of, freed_of};
+ghost use Rattle.pas_trace.specs.Acts.{Operates, Settles, Ticks, MakesPass, ReadsEpoch, StopsIdle, Wakes, Ends, Lowers};
 ghost use Rattle.pas_answers.specs.{Answers.Named, Answers.Progress, Answers.settled, Indexes.with_noted, Fit.IsFitWhat, Names.block_named, Names.names_held};
 ghost use Rattle.pas_answers.specs.{Names.MayPack};
 ghost use Rattle.pas_acts.specs.{Works.Later, AtDesks.here, AtDesks.MayOperate};
@@ -18,7 +17,8 @@ ghost use Rattle.pas_answers.specs.Calls.{what_of, Tells, MayStand, AllMayStand,
 ghost use Rattle.pas_trace.specs.declared.plan.Op.{Op as TheOp};
 ghost use Rattle.pas_answers.specs.declared.names.Names.{Names as TheNames};
 ghost use Rattle.pas_replay.specs.Sessions.{Replay, pass_in, hand_of, hand_at, session, IsTaken, MaySit, MayTakeSeat, ChangesSeats, TakesSeat, SoFarAt};
-ghost use Rattle.pas_replay.specs.Sessions.{MayGoOn, GoesOn, HasRead, MayGoOnAt, GoesOnAt, task_of, HasTried, Left, upon};
+ghost use Rattle.pas_replay.specs.Sessions.{MayGoOn, GoesOn, HasRead, MayGoOnAt, GoesOnAt, own_acts_of, OnceNamed, HasTried, Left, upon};
+ghost use Rattle.pas_records.specs.Rooms.{Records as TheRecords};
 
 use pas_acts::at_desk::SCAVENGER;
 use pas_acts::{at_desk, keepers, turns};
@@ -29,7 +29,7 @@ use pas_guard::GuardBook;
 use pas_large::{LargeIndex, PlainDoor};
 use pas_plain::{PlainDesk, PlainPass, PlainRegion};
 use pas_profile::Block;
-use pas_report::{Record, Records, Said};
+use pas_records::{Record, Records, Said};
 use pas_steps::Desk;
 use pas_trace::Task;
 use pas_utility::Outcomes;
@@ -167,106 +167,35 @@ fn operate_by<M: Remake>(
     at_desk::operate(desk, &mut door, cache, remaker, task, meant, out)
 }
 
-/// The thread of this number does the task, and its events and what is said come to the records. A request for whole pages asks the indexes, and they take
-/// the runs of large blocks that its cache noted. This answers each operation of the thread that asks for the task.
+/// The keeper of the thread of this number tries the task, where it is a guarded request: it lowers the guards of blocks that ended, and raises one. The block
+/// that it gave, if any.
 #[inline(always)]
-pub(crate) fn operate<M: Remake>(
+fn tried(
     desk: &mut PlainDesk,
     actors: &mut Actors,
-    names: &mut Names,
-    remaker: &M,
     actor: u8,
     task: Task,
     out: &mut Records,
-)
-    requires some { 1 ≤ actor }
-    requires thread { actor ≤ length actors.old.caches.items }
-    requires so_far { (op : TheOp) × (op.actor ≡ actor) × (op.what ≡ what_of task) × MayGoOn (λ n. Operates op ∷ (Settles op.actor ∷ [])) (session desk.old actors.old names.old out.old) }
-    ensures threads { length actors.new.caches.items ≡ length actors.old.caches.items }
-    ensures so_far { (op : TheOp) → op.actor ≡ actor → op.what ≡ what_of task
-        → GoesOn (λ n. Operates op ∷ (Settles op.actor ∷ [])) (session desk.old actors.old names.old out.old) (session desk.new actors.new names.new out.new) }
-{
-    take_seat(desk, &mut actors.passes, actor);
-    let cache = &mut actors.caches[actor as usize - 1];
-    let meant = freed(names, task);
-    let came = operate_by(desk, &mut actors.indexes, cache, remaker, task, meant, out);
-    keep(names, task, came);
-}
-
-/// A guarded request of a thread, with the number of its keeper.
-#[derive(Clone, Copy, Drop)]
-pub(crate) struct Guarded {
-    keeper: u8,
-    name: u32,
-    heap: u8,
-    size: u32,
-    align: u32,
-}
-
-impl Guarded {
-    /// What is asked for, where the task is a guarded request.
-    #[inline(always)]
-    pub(crate) fn of(task: Task) -> Option<Guarded>
-        ensures { MatchOption result (keeper_of task ≡ None) (λ request. task ≡ task_of request) }
-    {
-        match task {
-            Task::Guarded {
-                keeper,
-                name,
-                heap,
-                size,
-                align,
-            } => Some(Guarded {
-                keeper,
-                name,
-                heap,
-                size,
-                align,
-            }),
-            _ => None,
-        }
-    }
-
-    /// The task that asks for it.
-    fn task(self) -> Task
-        ensures { result ≡ task_of self }
-    {
-        Task::Guarded {
-            keeper: self.keeper,
-            name: self.name,
-            heap: self.heap,
-            size: self.size,
-            align: self.align,
-        }
-    }
-}
-
-/// The keeper of the thread of this number tries its request: it lowers the guards of blocks that ended, and raises one. The block that it gave, if any.
-fn try_by(
-    desk: &mut PlainDesk,
-    actors: &mut Actors,
-    actor: u8,
-    request: Guarded,
-    out: &mut Records,
 ) -> Option<Block>
-    requires so_far { (op : TheOp) × (op.actor ≡ actor) × (op.what ≡ what_of (task_of request)) × (table : TheNames)
-        × MayGoOn (λ n. Guards request.keeper op ∷ (Settles op.actor ∷ [])) (session desk.old actors.old table out.old) }
+    requires so_far { (op : TheOp) × (op.actor ≡ actor) × (op.what ≡ what_of task) × (table : TheNames) × MayGoOn (λ n. own_acts_of task op) (session desk.old actors.old table out.old) }
     ensures threads { length actors.new.caches.items ≡ length actors.old.caches.items }
-    ensures tried { (op : TheOp) (table : TheNames) → op.actor ≡ actor → op.what ≡ what_of (task_of request)
-        → HasTried op request.keeper result (session desk.old actors.old table out.old) (session desk.new actors.new table out.new) }
+    ensures tried { (op : TheOp) (table : TheNames) → op.actor ≡ actor → op.what ≡ what_of task → HasTried op (own_acts_of task op) result (session desk.old actors.old table out.old) (session desk.new actors.new table out.new) }
     ensures packs { MayPack result }
 {
-    take_seat(desk, &mut actors.passes, request.keeper);
-    let book = &mut actors.books[actor as usize - 1];
-    keepers::try_guarded(
-        desk,
-        book,
-        request.name,
-        request.heap,
-        request.size,
-        request.align,
-        out,
-    )
+    match task {
+        Task::Guarded {
+            keeper,
+            name,
+            heap,
+            size,
+            align,
+        } => {
+            take_seat(desk, &mut actors.passes, keeper);
+            let book = &mut actors.books[actor as usize - 1];
+            keepers::try_guarded(desk, book, name, heap, size, align, out)
+        }
+        _ => None,
+    }
 }
 
 /// The indexes take the runs of large blocks that the cache noted.
@@ -289,32 +218,60 @@ fn settle(actors: &mut Actors, actor: u8)
     settle_by(&mut actors.indexes, cache);
 }
 
-/// The thread of this number makes the guarded request: its keeper tries it first, and where that gave no block it is served or refused as any other. In both
-/// ways the indexes take the runs of large blocks that the thread's cache noted.
-pub(crate) fn guard<M: Remake>(
+/// The thread of this number does the task: what its name came to, which is kept after it. A request for whole pages asks the indexes, and they take the runs
+/// of large blocks that its cache noted. This answers each operation of the thread that asks for the task.
+#[inline(always)]
+fn serve<M: Remake>(
+    desk: &mut PlainDesk,
+    actors: &mut Actors,
+    names: &Names,
+    remaker: &M,
+    actor: u8,
+    task: Task,
+    out: &mut Records,
+) -> Option<Block>
+    requires some { 1 ≤ actor }
+    requires thread { actor ≤ length actors.old.caches.items }
+    requires so_far { (op : TheOp) × (op.actor ≡ actor) × (op.what ≡ what_of task) × MayGoOn (λ n. Operates op ∷ (Settles op.actor ∷ [])) (session desk.old actors.old names.now out.old) }
+    ensures threads { length actors.new.caches.items ≡ length actors.old.caches.items }
+    ensures served { (op : TheOp) → op.actor ≡ actor → op.what ≡ what_of task
+        → OnceNamed op result (Operates op ∷ (Settles op.actor ∷ [])) [] (session desk.old actors.old names.now out.old) (session desk.new actors.new names.now out.new) }
+    ensures packs { MayPack result }
+{
+    take_seat(desk, &mut actors.passes, actor);
+    let cache = &mut actors.caches[actor as usize - 1];
+    let meant = freed(names, task);
+    operate_by(desk, &mut actors.indexes, cache, remaker, task, meant, out)
+}
+
+/// The thread of this number does the task, and its events and what is said come to the records. Its keeper tries a guarded request first, and where that gave
+/// no block the thread makes it as any other. In both ways the indexes take the runs of large blocks that its cache noted. This answers each operation of the
+/// thread that asks for the task.
+#[inline(always)]
+pub(crate) fn operate<M: Remake>(
     desk: &mut PlainDesk,
     actors: &mut Actors,
     names: &mut Names,
     remaker: &M,
     actor: u8,
-    request: Guarded,
+    task: Task,
     out: &mut Records,
 )
     requires some { 1 ≤ actor }
     requires thread { actor ≤ length actors.old.caches.items }
-    requires so_far { (op : TheOp) × (op.actor ≡ actor) × (op.what ≡ what_of (task_of request))
-        × MayGoOn (λ n. Guards request.keeper op ∷ (Settles op.actor ∷ [])) (session desk.old actors.old names.old out.old) }
+    requires so_far { (op : TheOp) × (op.actor ≡ actor) × (op.what ≡ what_of task) × MayGoOn (λ n. own_acts_of task op) (session desk.old actors.old names.old out.old) }
     ensures threads { length actors.new.caches.items ≡ length actors.old.caches.items }
-    ensures so_far { (op : TheOp) → op.actor ≡ actor → op.what ≡ what_of (task_of request)
-        → GoesOn (λ n. Guards request.keeper op ∷ (Settles op.actor ∷ [])) (session desk.old actors.old names.old out.old) (session desk.new actors.new names.new out.new) }
+    ensures so_far { (op : TheOp) → op.actor ≡ actor → op.what ≡ what_of task
+        → GoesOn (λ n. own_acts_of task op) (session desk.old actors.old names.old out.old) (session desk.new actors.new names.new out.new) }
 {
-    match try_by(desk, actors, actor, request, out) {
+    let came = match tried(desk, actors, actor, task, out) {
         Some(block) => {
-            keep(names, request.task(), Some(block));
             settle(actors, actor);
+            Some(block)
         }
-        None => operate(desk, actors, names, remaker, actor, request.task(), out),
-    }
+        None => serve(desk, actors, names, remaker, actor, task, out),
+    };
+    keep(names, task, came);
 }
 
 /// The keeper of the thread of this number lowers all its guards, as the replay closes. Its book is empty then.

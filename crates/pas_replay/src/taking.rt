@@ -1,14 +1,15 @@
 //! Who takes what a replay says, while it goes on.
 ghost use Rattle.std.specs.Prelude.{◌≡◌, ◌≤◌, ◌++◌, ℕ, List, [], Option, Some, All, IfOk, MatchOption, length};
-ghost use Rattle.pas_report.specs.{Lines.CanShow, Rooms.records_in, Rooms.room_of};
-ghost use Rattle.pas_report.specs.declared.record.Record.{Record as TheRecord};
-ghost use Rattle.pas_trace.specs.Plans.{IsPlanOf};
+ghost use Rattle.pas_trace.specs.Courses.{IsCourse, IsCourseOf};
+ghost use Rattle.pas_trace.specs.declared.plan.Plan.{Plan as ThePlan};
 ghost use Rattle.pas_replay.specs.Taking.{room_for_taker};
+ghost use Rattle.pas_records.specs.{Lines.CanShow, Rooms.records_in, Rooms.room_of};
+ghost use Rattle.pas_records.specs.declared.record.Record.{Record as TheRecord};
 
-use pas_acts::region_of;
+use pas_acts::region_by;
 use pas_profile::NoMemory;
-use pas_report::Records;
-use pas_trace::Plan;
+use pas_records::Records;
+use pas_trace::{Course, Operations};
 use std::alloc::Global;
 
 /// Takes the records of a replay, in order, while it goes on.
@@ -38,7 +39,7 @@ pub(crate) struct Keeps;
 impl Takes for Keeps {
     ghost use Rattle.std.specs.Prelude.{◌≡◌, ◌++◌, List, [], None};
     ghost use Rattle.std.proofs.Common.{refl, ap, ◌∙◌};
-    ghost use Rattle.pas_report.specs.declared.record.Record.{Record as TheRecord};
+    ghost use Rattle.pas_records.specs.declared.record.Record.{Record as TheRecord};
 
     ghost took = { λ a b first. first ≡ [] };
 
@@ -52,13 +53,17 @@ impl Takes for Keeps {
     fn take(&mut self, out: &mut Records) {}
 }
 
-/// Room for the records of a plan whose taker leaves so many at most: for what one operation says beside them. NoMemory where memory was wanting.
-pub fn records_for_taker(alloc: Global, plan: &Plan, waits: u32) -> Result<Records, NoMemory>
-    requires { (text : List ℕ) × IsPlanOf text plan.now }
+/// Room for the records of a plan with this course whose taker leaves so many at most: for what one operation says beside them. NoMemory where memory was wanting.
+pub fn records_for_taker<P: Operations>(
+    alloc: Global,
+    course: &Course<'_, P>,
+    waits: u32,
+) -> Result<Records, NoMemory>
+    requires { IsCourse P.ops course.now }
     ensures empty { IfOk result (λ out. records_in out ≡ []) }
-    ensures room { IfOk result (λ out. room_of out ≡ room_for_taker (Some waits) plan.now) }
+    ensures room { IfOk result (λ out. (plan : ThePlan) → IsCourseOf P.ops plan course.now → room_of out ≡ room_for_taker (Some waits) plan) }
 {
-    let profile = region_of(plan);
+    let profile = region_by(course);
     let (threads, pages) = (profile.threads as u64, profile.pages as u64);
     let room = waits as u64 + (threads * (pages + 64) + (pages + threads + 3));
     match u32::try_from(room) {

@@ -2,12 +2,10 @@
 use Rattle.std.proofs.Common.{◌≡◌, ℕ, List, [], ◌∷◌, Option, Some, Result, Ok, codes, get_or, inl, inr, refl, ap, sym, subst, ◌∙◌, arith, ◌≤◌, ◌<◌, ◌++◌}
 use Rattle.std.proofs.Common.{length}
 use Rattle.pas_profile.specs.declared.{profile.Profile.Profile, event.Event.Event}
-use Rattle.pas_trace.specs.Plans.{IsPlanOf, Parsed, IsReading}
-use Rattle.pas_trace.specs.declared.{fault.TraceFault.TraceFault, plan.Plan.Plan, fault.ReadFault.ReadFault}
+use Rattle.pas_trace.specs.{Scripts.IsScriptOf, Scripts.IsScripting, Plans.IsPlanOf, Plans.Parsed, Plans.IsReading}
+use Rattle.pas_trace.specs.declared.{script.Script.Script, fault.TraceFault.TraceFault, plan.Plan.Plan, fault.ReadFault.ReadFault}
 use Rattle.pas_generate.specs.Traces.{trace_text}
-use Rattle.pas_report.specs.{Reports.total_line, Counts.report_by_words, Counts.totals_by_words, Lines.lines_of, Marks.marks_after, Reports.report_text}
-use Rattle.pas_report.specs.{Rests.AreStamped, Rests.HasWords, Rooms.records_in}
-use Rattle.pas_report.specs.declared.record.Record.{Record}
+use Rattle.pas_report.specs.{Reports.total_line, Reports.report_text, Counts.report_by_words, Counts.totals_by_words}
 use Rattle.pas_answers.specs.{Replays.keepers_of, Replays.phases_of, Replays.Shows, Ways.Way, Ways.InOrder}
 use Rattle.pas_replay.specs.OneThread.{IsOfOneThread}
 use Rattle.pas_same_text.specs.{State.World, Order.replayed, Told.IsTold}
@@ -21,7 +19,7 @@ use Rattle.pas_profile.specs.Profiles.{IsValid, IsWordOf}
 use Rattle.pas_steps.specs.{Lists.Legal, Lists.visible, States.profile_of}
 use Rattle.pas_steps.specs.declared.state.State.{State}
 use Rattle.pas_core.proofs.MachineRuns.{agrees}
-use Rattle.pas_report.proofs.ReportOfWords.{line_agrees, are_deed_words, nobody_holds, report_agrees}
+use Rattle.pas_report.proofs.ReportOfWords.{line_agrees, are_deed_words, report_agrees}
 use Rattle.pas_acts.proofs.PlanFacts.{plan_valid}
 use Rattle.pas_answers.proofs.Consequences.{can_be_shown}
 use Rattle.pas_telling.specs.Outcomes.{IsShown, IsWritable, outcome_status, outcome_text, shown_text}
@@ -29,6 +27,9 @@ use Rattle.pas_check.specs.Accepted.{IsAccepted, IsVerdict}
 use Rattle.pas_check.specs.declared.verdict.Verdict.{Verdict, TheVariants.Yes}
 use Rattle.pas_check.proofs.Verdicts.{one_verdict}
 use Rattle.pas_accepted.proofs.{OnePlan.same_plan, Whole.replay_accepted}
+use Rattle.pas_records.specs.{Lines.lines_of, Marks.marks_after, Rests.AreStamped, Rests.HasWords, Rooms.records_in}
+use Rattle.pas_records.specs.declared.record.Record.{Record}
+use Rattle.pas_records.proofs.MarksAtRest.{nobody_holds}
 
 -- ---- the text
 text_told : (bytes text : List ℕ) → IsReplayed InOrder bytes text → IsTextOf bytes text
@@ -208,3 +209,8 @@ transcript_verdict bytes text is plan read v verdict = one_verdict plan text v Y
 -- ---- What was read of an input.
 pub read_plan : (bytes text : List ℕ) (read : Result Plan ReadFault) (plan : Plan) → text ≡ bytes → read ≡ Ok plan → IsReading text read → IsPlanOf bytes plan
 read_plan bytes text read plan same is reading = subst (λ b. IsPlanOf b plan) same (subst (IsReading text) is reading)
+
+-- .. as a script
+pub read_as_script : {bytes text : List ℕ} {read : Result Script ReadFault} {script : Script} → text ≡ bytes → read ≡ Ok script → IsScripting text read
+    → IsScriptOf bytes script
+read_as_script {bytes} {text} {read} {script} same is reading = subst (λ b. IsScriptOf b script) same (subst (IsScripting text) is reading)

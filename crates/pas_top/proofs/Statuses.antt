@@ -18,9 +18,10 @@ use Rattle.pas_top.specs.declared.judging.Judgement.{Judgement}
 use Rattle.std.proofs.lemmas.List.Elements.{All-drop}
 use Rattle.pas_steps.specs.declared.state.State.{State}
 use Rattle.pas_io.proofs.Telling.{writes_more}
-use Rattle.pas_report.specs.{Counts.report_by_words, Lines.CanShow, Lines.lines_of, Counts.totals_by_words}
-use Rattle.pas_report.specs.declared.record.Record.{Record}
-use Rattle.pas_report.proofs.Pieces.{front_longer}
+use Rattle.pas_report.specs.Counts.{report_by_words, totals_by_words}
+use Rattle.pas_records.specs.Lines.{CanShow, lines_of}
+use Rattle.pas_records.specs.declared.record.Record.{Record}
+use Rattle.pas_records.proofs.Pieces.{front_longer}
 use Rattle.pas_answers.specs.{Replays.Shows, Ways.InOrder}
 use Rattle.pas_answers.proofs.Consequences.{can_be_shown}
 use Rattle.pas_telling.specs.declared.manner.Manner.{Manner}

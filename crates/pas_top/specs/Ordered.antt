@@ -3,8 +3,8 @@ use Rattle.std.specs.Prelude.{ℕ, ◌≡◌, ◌⊎◌, Bool, false, List, Opti
 use Rattle.pas_steps.specs.declared.state.State.{State}
 use Rattle.pas_trace.specs.declared.plan.Plan.{Plan}
 use Rattle.pas_io.specs.Told.{Tells}
-use Rattle.pas_report.specs.Lines.{lines_of}
-use Rattle.pas_report.specs.declared.record.Record.{Record}
+use Rattle.pas_records.specs.Lines.{lines_of}
+use Rattle.pas_records.specs.declared.record.Record.{Record}
 use Rattle.pas_answers.specs.{Replays.Shows, Ways.InOrder}
 use Rattle.pas_telling.specs.Outcomes.{shown_text}
 use Rattle.pas_top.specs.{Outputs.ComesTo, Outputs.IsReplayStatus, Wrote.Wrote}

@@ -3,8 +3,8 @@ use Rattle.std.specs.Prelude.{ℕ, ◌≡◌, List, Err}
 use Rattle.pas_steps.specs.declared.state.State.{State}
 use Rattle.pas_trace.specs.Plans.{IsPlanOf, parsed}
 use Rattle.pas_trace.specs.declared.plan.Plan.{Plan}
-use Rattle.pas_report.specs.Rooms.{records_in}
-use Rattle.pas_report.specs.declared.record.Record.{Record}
+use Rattle.pas_records.specs.Rooms.{records_in}
+use Rattle.pas_records.specs.declared.record.Record.{Record}
 use Rattle.pas_answers.specs.{Replays.Shows, Ways.Way, Ways.InOrder}
 use Rattle.pas_replay.specs.OneThread.{IsOfOneThread}
 use Rattle.pas_telling.specs.declared.outcome.Outcome.{Outcome, TheVariants.Replayed, TheVariants.Faulty}

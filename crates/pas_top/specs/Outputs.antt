@@ -3,8 +3,9 @@ use Rattle.std.specs.Prelude.{ℕ, ◌<◌, ◌≤◌, ◌≡◌, ◌⊎◌, Lis
 use Rattle.pas_steps.specs.Lists.{Whole, visible}
 use Rattle.pas_trace.specs.Plans.{IsPlanOf, parsed}
 use Rattle.pas_trace.specs.declared.{plan.Plan.Plan, fault.TraceFault.TraceFault}
-use Rattle.pas_report.specs.{Lines.lines_of, Marks.marks_after, Reports.report_text}
-use Rattle.pas_report.specs.declared.record.Record.{Record}
+use Rattle.pas_records.specs.{Lines.lines_of, Marks.marks_after}
+use Rattle.pas_report.specs.Reports.{report_text}
+use Rattle.pas_records.specs.declared.record.Record.{Record}
 use Rattle.pas_answers.specs.{Replays.IsReplay, Ways.Way}
 use Rattle.pas_check.specs.Inputs.{trace_in}
 use Rattle.pas_check.specs.declared.verdict.Verdict.{Verdict}

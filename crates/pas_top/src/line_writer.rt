@@ -1,11 +1,11 @@
 //! The lines of records that are written as they come.
 ghost use Rattle.std.specs.Prelude.{◌≡◌, [], false, All};
-ghost use Rattle.pas_report.specs.{Lines.CanShow, Lines.lines_of, Rooms.records_in, Rooms.room_of};
+ghost use Rattle.pas_records.specs.{Lines.CanShow, Lines.lines_of, Rooms.records_in, Rooms.room_of};
 ghost use Rattle.pas_top.specs.Wrote.{Wrote};
 
 use pas_io::{Failed, Sink};
+use pas_records::{Lines, Records, write_lines_by};
 use pas_replay::Takes;
-use pas_report::{Lines, Records, write_lines_by};
 
 /// As many records wait at most between two operations; where there are more, their lines are written.
 pub(crate) const WAITING: u32 = 1023;
@@ -61,7 +61,7 @@ impl<'a, K: Sink> LineWriter<'a, K> {
 impl<K: Sink> Takes for LineWriter<'_, K> {
     ghost use Rattle.std.specs.Prelude.{◌≡◌, Some};
     ghost use Rattle.std.proofs.Common.{refl, ◌∙◌};
-    ghost use Rattle.pas_report.specs.Lines.{lines_of};
+    ghost use Rattle.pas_records.specs.Lines.{lines_of};
     ghost use Rattle.pas_top.specs.Wrote.{Wrote, wrote_none, wrote_lines};
 
     ghost took = { λ a b first. (b.sink.ghost_name ≡ a.sink.ghost_name)

@@ -1,27 +1,29 @@
 //! What an input comes to.
 ghost use Rattle.std.specs.Prelude.{◌≡◌, ◌≤◌, ◌+◌, ℕ, List, [], Some, IfOk, length};
-ghost use Rattle.pas_trace.specs.Plans.{IsPlanOf};
-ghost use Rattle.pas_report.specs.Rooms.{records_in, room_of};
+ghost use Rattle.pas_trace.specs.{Courses.IsCourseOf, Plans.IsPlanOf};
+ghost use Rattle.pas_trace.specs.declared.plan.Plan.{Plan as ThePlan};
 ghost use Rattle.pas_answers.specs.{Replays.phases_of, Replays.Shows, Ways.InOrder, Ways.OnThreads};
 ghost use Rattle.pas_io.specs.Told.{Tells};
 ghost use Rattle.pas_telling.specs.Outcomes.{IsWritable, outcome_text, outcome_status};
-ghost use Rattle.pas_replay.specs.{Kits.IsKitOf, Taking.room_for_taker};
+ghost use Rattle.pas_replay.specs.Kits.{MayReplay};
 ghost use Rattle.pas_top.specs.{Ordered.Orders, Ordered.TellsLines, Ordered.TellsReplay, Outcomes.IsOutcome, Outcomes.ShowsBy};
+ghost use Rattle.pas_records.specs.Rooms.{records_in, room_of};
 
 use crate::line_writer::{LineWriter, WAITING};
 use crate::opening::{kit_of, read_for_threads};
 use crate::remaking::Reallocation;
 use pas_io::{Failed, Sink};
 use pas_profile::NoMemory;
+use pas_records::Records;
 use pas_replay::{
     PlainKit, by_one_thread, in_order, in_order_to, is_of_one_thread, records_for,
     records_for_taker,
 };
-use pas_report::{Records, report};
+use pas_report::report;
 use pas_steps::State;
 use pas_telling::{Manner, Outcome, fault_line, tell};
 use pas_threads::{Ahead, OpenGate, Rooms, on_threads_with_rooms};
-use pas_trace::{Plan, ReadFault, read_trace};
+use pas_trace::{Course, Operations, Plan, ReadFault, read_script, read_trace};
 use std::alloc::Global;
 use std::sync::Wait;
 use std::thread::Threads;
@@ -40,31 +42,36 @@ pub(crate) fn order<K: Sink>(alloc: Global, bytes: Vec<u8>, sink: &mut K) -> u8
     ensures told { Orders bytes.items (K.held sink.old) (K.held sink.new) (K.faults sink.old) (K.faults sink.new) result }
     ensures memory { result ≡ 5 → sink.new ≡ sink.old }
 {
-    let read = read_trace(alloc, &bytes);
+    let read = read_script(alloc, &bytes);
     drop(bytes);
-    let plan = match read {
-        Ok(plan) => plan,
+    let script = match read {
+        Ok(script) => script,
         Err(ReadFault::Trace(fault)) => return tell(sink, fault_line(fault).as_str(), 1),
         Err(ReadFault::NoMemory) => return 5,
     };
-    let Ok(waiting) = records_for_taker(alloc, &plan, WAITING) else {
+    let course = script.course();
+    let Ok(waiting) = records_for_taker(alloc, &course, WAITING) else {
         return 5;
     };
-    let Ok(kit) = PlainKit::try_new(alloc, &plan) else {
+    let Ok(kit) = PlainKit::for_course(alloc, &course) else {
         return 5;
     };
-    write_in_order(&plan, kit, waiting, sink)
+    write_in_order(&course, kit, waiting, sink)
 }
 
-/// Replays the plan in the order of its text, and writes the lines of what was said as they come, and then the report. Takes no memory.
-fn write_in_order<K: Sink>(plan: &Plan, kit: PlainKit, waiting: Records, sink: &mut K) -> u8
-    requires plan { (text : List ℕ) × (length text ≤ 16777216) × IsPlanOf text plan.now }
-    requires kit { IsKitOf plan.now kit }
+/// Replays the course in the order of its text, and writes the lines of what was said as they come, and then the report. Takes no memory.
+fn write_in_order<P: Operations, K: Sink>(
+    course: &Course<'_, P>,
+    kit: PlainKit,
+    waiting: Records,
+    sink: &mut K,
+) -> u8
+    requires plan { (text : List ℕ) × (plan : ThePlan) × MayReplay P.ops (Some 1023) course.now kit text plan waiting }
     requires empty { records_in waiting ≡ [] }
-    requires room { room_for_taker (Some 1023) plan.now ≤ room_of waiting }
-    ensures { TellsReplay plan.now (K.held sink.old) (K.held sink.new) (K.faults sink.old) (K.faults sink.new) result }
+    ensures { (text : List ℕ) (plan : ThePlan) → MayReplay P.ops (Some 1023) course.now kit text plan waiting
+        → TellsReplay plan (K.held sink.old) (K.held sink.new) (K.faults sink.old) (K.faults sink.new) result }
 {
-    let (state, failed) = write_lines_in_order(plan, kit, waiting, sink);
+    let (state, failed) = write_lines_in_order(course, kit, waiting, sink);
     if failed {
         return 4;
     }
@@ -74,22 +81,21 @@ fn write_in_order<K: Sink>(plan: &Plan, kit: PlainKit, waiting: Records, sink: &
     }
 }
 
-/// Replays the plan in the order of its text to its end, and writes the lines of what was said as they come, until a write fails. Answers the region's state
+/// Replays the course in the order of its text to its end, and writes the lines of what was said as they come, until a write fails. Answers the region's state
 /// afterwards, and whether a write failed.
-fn write_lines_in_order<K: Sink>(
-    plan: &Plan,
+fn write_lines_in_order<P: Operations, K: Sink>(
+    course: &Course<'_, P>,
     kit: PlainKit,
     mut waiting: Records,
     sink: &mut K,
 ) -> (State, bool)
-    requires plan { (text : List ℕ) × (length text ≤ 16777216) × IsPlanOf text plan.now }
-    requires kit { IsKitOf plan.now kit }
+    requires plan { (text : List ℕ) × (plan : ThePlan) × MayReplay P.ops (Some 1023) course.now kit text plan waiting }
     requires empty { records_in waiting ≡ [] }
-    requires room { room_for_taker (Some 1023) plan.now ≤ room_of waiting }
-    ensures { TellsLines plan.now (K.held sink.old) (K.held sink.new) (K.faults sink.old) (K.faults sink.new) result.0 result.1 }
+    ensures { (text : List ℕ) (plan : ThePlan) → MayReplay P.ops (Some 1023) course.now kit text plan waiting
+        → TellsLines plan (K.held sink.old) (K.held sink.new) (K.faults sink.old) (K.faults sink.new) result.0 result.1 }
 {
     let mut writer = LineWriter::new(sink);
-    let state = in_order_to(plan, kit, &Reallocation, &mut waiting, &mut writer);
+    let state = in_order_to(course, kit, &Reallocation, &mut waiting, &mut writer);
     writer.write(&mut waiting);
     let failed = writer.has_failed();
     (state, failed)

@@ -261,7 +261,11 @@ abbrev pub NamesAfter : Reader → Names → Item → Type 0
 NamesAfter old names i =
     (items : List Item) → Tells old items → reason_of old.header.profile items i ≡ None → (n : ℕ) → NameTold (owner_in names n) old.phase (i ∷ items) n
 
-names-taken : (old : Reader) (names : Names) (t : ℕ) (w : Wish) → ((n : ℕ) → owner_in names n ≡ (if is_name (name_made w) n then record { thread = t; heap = heap_made (heap_told old) w; phase = old.phase } else owner_in old.names n)) → NamesAfter old names (Operates t w)
+names-taken : (old : Reader) (names : Names) (t : ℕ) (w : Wish)
+    → ((n : ℕ)
+    → owner_in names n
+    ≡ (if is_name (name_made w) n then record { thread = t; heap = heap_made (heap_told old) w; phase = old.phase } else owner_in old.names n))
+    → NamesAfter old names (Operates t w)
 names-taken old names t w given items told e n = taken-by _ t _ old.phase w items _ _ n
     (heap-by-same _ _ (heap_in w) (name_freed w) (λ m. (told.names m).heap)) refl (own_passed old.header.profile items t w e).thread.0 (given n) (told.names n)
 

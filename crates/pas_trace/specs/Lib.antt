@@ -7,6 +7,7 @@ pub mod Reasons
 pub mod Plans
 pub mod Codes
 pub mod Scripts
+pub mod Courses
 pub mod Gathering
 pub mod Told
 pub mod Lexed

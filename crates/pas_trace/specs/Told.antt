@@ -162,8 +162,10 @@ pub record IsOperated (old new : Reader) (actor : ℕ) (wish : Wish) (cost : ℕ
   pub names : Names
   pub samples : Samples
   pub sampled : IsSampled old.samples samples actor (asks_pages wish) (cost_of_wish 0 wish)
-  pub given : (n : ℕ) → owner_in names n ≡ (if is_name (name_made wish) n then record { thread = actor; heap = heap_made (heap_told old) wish; phase = old.phase } else owner_in old.names n)
-  pub counted : IsCounted (record old { names = names; samples = samples }) new actor (what_wished old.header.profile (heap_told old) (keeper_told old actor wish) wish) cost
+  pub given : (n : ℕ) → owner_in names n
+      ≡ (if is_name (name_made wish) n then record { thread = actor; heap = heap_made (heap_told old) wish; phase = old.phase } else owner_in old.names n)
+  pub counted : IsCounted (record old { names = names; samples = samples }) new actor
+      (what_wished old.header.profile (heap_told old) (keeper_told old actor wish) wish) cost
 
 -- the next phase was begun
 pub record IsNextPhase (old new : Reader) : Type 0 where

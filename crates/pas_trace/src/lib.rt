@@ -3,6 +3,7 @@
 
 pub mod code;
 mod counts;
+pub mod course;
 pub mod fault;
 mod fronts;
 mod gathered;
@@ -25,6 +26,7 @@ pub mod script;
 mod words;
 
 pub use code::Code;
+pub use course::Course;
 pub use fault::{ReadFault, Reason, TraceFault};
 pub use header::header_of_text;
 pub use numbers::number;

@@ -1,25 +1,25 @@
-use Rattle.std.proofs.Common.{◌<◌, Bool, if◌then◌else◌, get_or, refl, ap, arith, drop_of_length-le, eq-eqb}
+use Rattle.std.proofs.Common.{◌<◌, length, Bool, if◌then◌else◌, refl, ap, arith, drop_of_length-le, eq-eqb}
 use Rattle.pas_trace.specs.Asked.{keeper_in}
 use Rattle.pas_trace.specs.declared.plan.{Op.Op, What.TheVariants.Alloc}
 use Rattle.pas_acts.specs.PlanKeepers.{one_guarded}
-use Rattle.pas_acts.proofs.Making.{all_at, guarded_next, count_more}
+use Rattle.pas_acts.proofs.Making.{all_at, said_next, count_more}
 use Rattle.pas_acts.proofs.plan_keepers.count_guarded.Goals as goal
 
-abbrev past : Op
-past = record { line = 0; actor = 0; what = Alloc 0 0 0 0 }
-
 pub add-requires-clause-actor : goal.add-requires-clause-actor
-add-requires-clause-actor c = all_at (λ (op : Op). op.actor < 17) c.args.ops.now c.loop-op.op-index past c.requires.actors c.loop-op-test.true
+add-requires-clause-actor g c =
+    let op = c.op-op.result in
+    let lt : c.loop-place.place < length (g.P.Operations.ops c.args.phase.now) = omega (arith, c.loop-place-test.true, c.count-place-end.ensures) in
+    let actor = ap (λ (o : Op). o.actor) (c.op-op.ensures op) in
+    let below = all_at (λ (o : Op). o.actor < 17) (g.P.Operations.ops c.args.phase.now) c.loop-place.place op c.requires.actors lt in
+    omega (arith, actor, below)
 
 pub add-requires-clause-few : goal.add-requires-clause-few
-add-requires-clause-few c =
-    let op = get_or c.args.ops.now c.loop-op.op-index past in
-    let next = guarded_next op.actor c.args.ops.now c.loop-op.op-index past c.loop-op-test.true in
+add-requires-clause-few g c =
+    let op = c.op-op.result in
+    let ops = g.P.Operations.ops c.args.phase.now in
+    let next = said_next op.actor op ops c.loop-place.place (omega (arith, c.loop-place-test.true, c.count-place-end.ensures)) c.op-op.ensures in
     let one = ap (λ (t : Bool). if t then one_guarded (keeper_in op.what) else 0) (eq-eqb op.actor op.actor refl) in
-    omega (arith, c.loop-op.invariant.counts op.actor, next, one, c.requires.few op.actor, c.guarded_in.ensures)
+    omega (arith, c.loop-place.invariant.counts op.actor, next, one, c.requires.few op.actor, c.guarded_in.ensures)
 
-pub loop-op-preserved : goal.loop-op-preserved
-loop-op-preserved c = search (arith, guarded_next, count_more)
-
-pub returns : goal.returns
-returns c = search (arith, drop_of_length-le)
+pub loop-place-preserved : goal.loop-place-preserved
+loop-place-preserved g c = search (arith, said_next, count_more)

@@ -1,54 +1,70 @@
-use Rattle.std.proofs.Common.{◌∙◌, ◌++◌, List, [], drop_of_length-le, refl, ap}
-use Rattle.pas_trace.specs.Acts.{acts_of_ops}
+use Rattle.std.proofs.Common.{◌<◌, ◌≤◌, ◌∙◌, ◌++◌, List, [], drop_of_length-le, refl, ap, arith, length, get_or}
+use Rattle.std.proofs.lemmas.List.{length-map}
+use Rattle.pas_trace.specs.{Acts.acts_of_ops, Codes.unlined}
 use Rattle.pas_trace.specs.declared.plan.Op.{Op}
 use Rattle.pas_acts.specs.Awake.{idle_in}
 use Rattle.pas_replay.specs.Sessions.{session, telling}
-use Rattle.pas_replay.proofs.InOrder.{as_between, can_show, none_told, op_next, taken_on}
+use Rattle.pas_replay.proofs.InOrder.{as_between, can_show, none_told, op_next, past, place_in, said_at, taken_on}
 use Rattle.pas_replay.proofs.order.perform_all.Goals as goal
 
-pub loop-op-init : goal.loop-op-init
-loop-op-init g c = record {
+pub loop-place-init : goal.loop-place-init
+loop-place-init g c = record {
   told = [];
   took = g.met.T.Takes.nothing c.args.taker.now;
-  far = λ r more btw. none_told g.T.Takes.waits r _ (session c.args.desk.now c.args.actors.now c.args.names.now c.args.out.now) btw;
+  far = λ ops is r more btw. none_told g.T.Takes.waits r _ (session c.args.desk.now c.args.actors.now c.args.names.now c.args.out.now) btw;
   threads = refl;
 }
+
+pub op-requires : goal.op-requires
+op-requires g c = omega (arith, c.loop-place-test.true, c.count-place-end.ensures)
 
 pub perform_by_kind-requires-clause-so_far : goal.perform_by_kind-requires-clause-so_far
 perform_by_kind-requires-clause-so_far g c =
     let so0 = c.requires.so_far in
-    let at = c.loop-op.invariant in
-    let r = telling so0.0 at.told in
-    let s = session c.loop-op.desk c.loop-op.actors c.loop-op.names c.loop-op.out in
-    (r, _, op_next g.T.Takes.waits r s c.args.awake c.args.ops.now so0.1 c.loop-op.op-index c.loop-op-test.true (at.far so0.0 so0.1 so0.2))
+    let at = c.loop-place.invariant in
+    let i = c.loop-place.place in
+    let s = session c.loop-place.desk c.loop-place.actors c.loop-place.names c.loop-place.out in
+    let lt = place_in so0.0 (omega (arith, c.loop-place-test.true, c.count-place-end.ensures)) so0.1 in
+    let r = telling so0.2.0 at.told in
+    (get_or so0.0 i past, said_at c.op.result so0.0 i lt c.op.ensures so0.1, (r, _, op_next g.T.Takes.waits r s c.args.awake so0.0 so0.2.1 i lt (at.far so0.0 so0.1 so0.2.0 so0.2.1 so0.2.2)))
 
 pub take-requires : goal.take-requires
 take-requires g c =
     let so0 = c.requires.so_far in
-    let at = c.loop-op.invariant in
-    let r = telling so0.0 at.told in
-    let s = session c.loop-op.desk c.loop-op.actors c.loop-op.names c.loop-op.out in
-    let so = c.perform_by_kind.ensures.so_far r _ (op_next g.T.Takes.waits r s c.args.awake c.args.ops.now so0.1 c.loop-op.op-index c.loop-op-test.true (at.far so0.0 so0.1 so0.2)) in
+    let at = c.loop-place.invariant in
+    let i = c.loop-place.place in
+    let s = session c.loop-place.desk c.loop-place.actors c.loop-place.names c.loop-place.out in
+    let lt = place_in so0.0 (omega (arith, c.loop-place-test.true, c.count-place-end.ensures)) so0.1 in
+    let r = telling so0.2.0 at.told in
+    let so = c.perform_by_kind.ensures.so_far _ (said_at c.op.result so0.0 i lt c.op.ensures so0.1) r _ (op_next g.T.Takes.waits r s c.args.awake so0.0 so0.2.1 i lt (at.far so0.0 so0.1 so0.2.0 so0.2.1 so0.2.2)) in
     record { shown = can_show so.1 }
 
-pub loop-op-preserved : goal.loop-op-preserved
-loop-op-preserved g c =
-    let at = c.loop-op.invariant in
+pub loop-place-preserved : goal.loop-place-preserved
+loop-place-preserved g c =
+    let at = c.loop-place.invariant in
+    let i = c.loop-place.place in
     let taken = c.take.ensures.taken in
-    let s = session c.loop-op.desk c.loop-op.actors c.loop-op.names c.loop-op.out in
+    let s = session c.loop-place.desk c.loop-place.actors c.loop-place.names c.loop-place.out in
     let after = session c.perform_by_kind.new.desk c.perform_by_kind.new.actors c.perform_by_kind.new.names c.perform_by_kind.new.out in
     record {
       told = at.told ++ taken.0;
       took = g.met.T.Takes.both _ _ _ at.told taken.0 at.took taken.2;
-      far = λ r more btw.
-          let before = at.far r more btw in
-          let so = c.perform_by_kind.ensures.so_far _ _ (op_next g.T.Takes.waits _ s c.args.awake _ more c.loop-op.op-index c.loop-op-test.true before) in
-          taken_on g.T.Takes.waits r _ after c.loop-op.out at.told taken.0 c.take.new.out taken.1 c.take.ensures.size c.take.ensures.few before.1 so;
+      far = λ ops is r more btw.
+          let before = at.far ops is r more btw in
+          let lt = place_in ops (omega (arith, c.loop-place-test.true, c.count-place-end.ensures)) is in
+          let so = c.perform_by_kind.ensures.so_far _ (said_at c.op.result ops i lt c.op.ensures is) _ _ (op_next g.T.Takes.waits _ s c.args.awake ops more i lt before) in
+          taken_on g.T.Takes.waits r _ after c.loop-place.out at.told taken.0 c.take.new.out taken.1 c.take.ensures.size c.take.ensures.few before.1 so;
       threads = c.perform_by_kind.ensures.threads ∙ at.threads;
     }
 
 pub returns-clause-so_far : goal.returns-clause-so_far
 returns-clause-so_far g c =
-    let at = c.loop-op.invariant in
-    let s = session c.loop-op.desk c.loop-op.actors c.loop-op.names c.loop-op.out in
-    (at.told, at.took, λ r more btw. as_between g.T.Takes.waits (telling r at.told) s (ap (λ (ops : List Op). acts_of_ops (idle_in c.args.awake r.threads) ops ++ more) (drop_of_length-le c.args.ops.now c.loop-op-test.false)) (at.far r more btw))
+    let at = c.loop-place.invariant in
+    let s = session c.loop-place.desk c.loop-place.actors c.loop-place.names c.loop-place.out in (
+      at.told,
+      at.took,
+      λ ops is r more btw.
+          let past_all : length ops ≤ c.loop-place.place = omega (arith, c.loop-place-test.false, c.count-place-end.ensures, ap (λ (xs : List Op). length xs) is, length-map ops unlined) in
+          as_between g.T.Takes.waits (telling r at.told) s
+          (ap (λ (xs : List Op). acts_of_ops (idle_in c.args.awake r.threads) xs ++ more) (drop_of_length-le ops past_all)) (at.far ops is r more btw),
+    )

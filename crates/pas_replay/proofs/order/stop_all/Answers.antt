@@ -9,8 +9,15 @@ end-requires-clause-thread c = omega (arith, c.loop-index-test.true, c.loop-inde
 
 pub end-requires-clause-so_far : goal.end-requires-clause-so_far
 end-requires-clause-so_far c =
-    let so0 = c.requires.so_far.1 in
-    (c.requires.so_far.0, (so0.0, _, next_number Ends c.loop-index.index so0.0.threads so0.1 (omega (arith, c.loop-index-test.true, so0.2.1.1.many)) (c.loop-index.invariant.far c.requires.so_far.0 so0.0 so0.1 so0.2)))
+    let so0 = c.requires.so_far.1 in (
+      c.requires.so_far.0,
+      (
+        so0.0,
+        _,
+        next_number Ends c.loop-index.index so0.0.threads so0.1 (omega (arith, c.loop-index-test.true, so0.2.1.1.many))
+            (c.loop-index.invariant.far c.requires.so_far.0 so0.0 so0.1 so0.2),
+      ),
+    )
 
 pub loop-index-preserved : goal.loop-index-preserved
 loop-index-preserved c =

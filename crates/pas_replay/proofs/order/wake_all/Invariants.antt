@@ -2,7 +2,7 @@
 use Rattle.std.proofs.Common.{◌≡◌, ◌+◌, ◌-◌, length, map}
 use Rattle.std.specs.List.{filter}
 use Rattle.pas_bits.specs.Masks.{is_set}
-use Rattle.pas_report.specs.Rooms.{Records}
+use Rattle.pas_records.specs.Rooms.{Records}
 use Rattle.pas_trace.specs.Acts.{Wakes, numbers_from}
 use Rattle.pas_acts.specs.Awake.{awake_in}
 use Rattle.pas_replay.specs.Sessions.{Replay, Left, SoFarAt, session, upon}

@@ -1,35 +1,42 @@
-use Rattle.std.proofs.Common.{◌-◌, ◌++◌, ◌∙◌, subst, arith, length-set}
+use Rattle.std.proofs.Common.{◌∙◌, [], ◌∷◌, ℕ, ap, sym, subst}
+use Rattle.pas_trace.specs.{Acts.Settles, Asked.keeper_of}
 use Rattle.pas_trace.specs.declared.plan.What.{What}
-use Rattle.pas_profile.specs.declared.profile.Profile.{Profile}
-use Rattle.pas_answers.specs.{Calls.Tells, Calls.MayStand, Fit.IsFitWhat, Names.block_named, Names.names_held}
-use Rattle.pas_answers.proofs.SingleActs.{freed_task, named_task, may_pack}
-use Rattle.pas_replay.proofs.{Turning.may_take_seat, ByActors.may_operate, ByActors.operate_turn, ByActors.written_back}
+use Rattle.pas_answers.specs.{Fit.IsFitWhat, Names.names_held, Names.MayPack}
+use Rattle.pas_replay.specs.Sessions.{HasTried, own_acts_of, session}
+use Rattle.pas_replay.proofs.{InOrder.as_first, Turning.kept_fit, ByActors.has_named, seats.operate.Goals.in-Some, seats.operate.Goals.in-None}
 use Rattle.pas_replay.proofs.seats.operate.Goals as goal
 
-pub take_seat-requires : goal.take_seat-requires
-take_seat-requires g c = may_take_seat c.args.desk.now c.args.actors.now c.args.actor (omega (arith, c.requires.thread)) c.requires.so_far.3.2
-
-pub operate_by-came-requires : goal.operate_by-came-requires
-operate_by-came-requires g c =
+pub serve-came-requires-clause-so_far : goal.serve-came-requires-clause-so_far
+serve-came-requires-clause-so_far g c =
     let so = c.requires.so_far in
-    record { stands = (so.3.0.profile, so.0, _, so.3.2.1.0, so.2, may_operate c.args.actor c.index_mut-cache.result.now so.3.1 so.1 so.2 c.requires.some c.requires.thread c.take_seat.ensures c.index_mut-cache.ensures.value (c.freed-meant.ensures ∙ freed_task (block_named c.args.names.now) c.args.task) so.3.2.1.1) }
+    let before = session c.args.desk.now c.args.actors.now c.args.names.now c.args.out.now in
+    let after = session c.tried.new.desk c.tried.new.actors c.args.names.now c.tried.new.out in
+    let left = subst (λ o. HasTried so.0 (own_acts_of c.args.task so.0) o before after) c.in-None.is (c.tried.ensures.tried so.0 c.args.names.now so.1 so.2) in
+    (so.0, so.1, so.2, (so.3.0, so.3.1, left so.3.0 so.3.1 so.3.2))
 
 pub keep-requires-clause-fit : goal.keep-requires-clause-fit
 keep-requires-clause-fit g c =
-    let so0 = c.requires.so_far in
-    let names = so0.3.2.1.1.names in
-    (so0.3.0.profile, names.asked, subst (λ (w : What). IsFitWhat so0.3.0.profile (names_held c.args.names.now) names.asked w) so0.2 names.fit.1)
+    let so = c.requires.so_far in
+    let names = so.3.2.1.1.names in
+    (so.3.0.profile, names.asked, subst (λ (w : What). IsFitWhat so.3.0.profile (names_held c.args.names.now) names.asked w) so.2 (kept_fit so.3.0.profile _ names.asked (keeper_of c.args.task) so.0 _ names.fit))
 
 pub keep-requires-clause-packs : goal.keep-requires-clause-packs
-keep-requires-clause-packs g c = may_pack _ c.operate_by-came.result c.take_seat.new.desk.region.valid c.operate_by-came.ensures.stands
-
-pub returns-clause-threads : goal.returns-clause-threads
-returns-clause-threads g c = length-set c.args.actors.now.caches.items (c.args.actor - 1) c.operate_by-came.new.cache
+keep-requires-clause-packs g c = elim c.match-tried.branch [
+  | in-Some w ↦ subst MayPack (w.in-Some.is ∙ sym w.came-is) c.tried.ensures.packs
+  | in-None w ↦ subst MayPack (sym w.came-is) w.serve-came.ensures.packs
+]
 
 pub returns-clause-so_far : goal.returns-clause-so_far
-returns-clause-so_far g c op mine asks r more (taken, (p, at)) =
-    let may = may_operate c.args.actor c.index_mut-cache.result.now more mine asks c.requires.some c.requires.thread c.take_seat.ensures c.index_mut-cache.ensures.value (c.freed-meant.ensures ∙ freed_task (block_named c.args.names.now) c.args.task) at in
-    let did = c.operate_by-came.ensures.operates r.profile op _ p asks may in
-    let came = subst (λ (f : Profile). MayStand f c.operate_by-came.result) may.rests.sits.profile c.operate_by-came.ensures.stands in
-    let acts = written_back c.args.actors.now.indexes.items c.args.actors.now.indexes.len c.deref_mut.ensures.value c.deref_mut.ensures.len did in
-    operate_turn c.args.actor c.operate_by-came.result c.index_mut-cache.result.now c.operate_by-came.new.cache mine asks c.requires.some c.requires.thread c.take_seat.ensures c.index_mut-cache.ensures.value at acts c.keep.ensures.held (subst (λ ns. Tells c.keep.new.names (ns ++ p.names)) (named_task c.args.task c.operate_by-came.result) (c.keep.ensures.tells p.names at.names.tells)) (c.keep.ensures.stand r.profile at.names.stand came)
+returns-clause-so_far g c =
+    let before = session c.args.desk.now c.args.actors.now c.args.names.now c.args.out.now in
+    let after = session c.tried.new.desk c.tried.new.actors c.args.names.now c.tried.new.out in
+    elim c.match-tried.branch [
+      | in-Some w ↦ rw (w.desk-is, w.actors-is, w.out-is) (λ op mine is r more so.
+          let gave = subst (λ o. HasTried op (own_acts_of c.args.task op) o before after) w.in-Some.is (c.tried.ensures.tried op c.args.names.now mine is) in
+          let named = has_named {before = c.args.names.now} {after = c.keep.new.names} c.args.task is w.came-is c.keep.ensures.held c.keep.ensures.tells c.keep.ensures.stand in
+          w.settle.ensures.so_far _ _ _ r more (as_first more (ap (λ (k : ℕ). Settles k ∷ []) mine) (gave r more _ named so)))
+      | in-None w ↦ rw (w.desk-is, w.actors-is, w.out-is) (λ op mine is r more so.
+          let named = has_named {before = c.args.names.now} {after = c.keep.new.names} c.args.task is w.came-is c.keep.ensures.held c.keep.ensures.tells c.keep.ensures.stand in
+          let left = subst (λ o. HasTried op (own_acts_of c.args.task op) o before after) w.in-None.is (c.tried.ensures.tried op c.args.names.now mine is) in
+          w.serve-came.ensures.served op mine is r more _ named (left r more so))
+    ]

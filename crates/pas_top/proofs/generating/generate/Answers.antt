@@ -1,6 +1,7 @@
 use Rattle.std.proofs.Common.{◌∙◌, List, ap, subst, inr, refl}
-use Rattle.pas_report.specs.{Counts.totals_by_words, Rooms.records_in}
-use Rattle.pas_report.specs.declared.record.Record.{Record}
+use Rattle.pas_report.specs.Counts.{totals_by_words}
+use Rattle.pas_records.specs.Rooms.{records_in}
+use Rattle.pas_records.specs.declared.record.Record.{Record}
 use Rattle.pas_answers.specs.Ways.{InOrder}
 use Rattle.pas_top.specs.{Outcomes.IsOutcome, Generating.IsSummarized}
 use Rattle.pas_telling.specs.Summaries.{summary_text}

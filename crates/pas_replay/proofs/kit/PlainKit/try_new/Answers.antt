@@ -1,55 +1,11 @@
-use Rattle.std.proofs.Common.{◌+◌, List, [], Some, length, slice_index, ap, sym, ◌∙◌, subst, arith, All}
-use Rattle.std.proofs.lemmas.{List.length-map, Option.same_Some}
-use Rattle.pas_profile.specs.declared.profile.Profile.{Profile}
-use Rattle.pas_plain.specs.Plain.{PassStands}
-use Rattle.pas_plain.specs.declared.pass.PlainPass.{PlainPass}
-use Rattle.pas_answers.specs.{Fit.AllBelow, Replays.phases_of}
-use Rattle.pas_replay.proofs.InOrder.{passes_count, fresh_actor}
-use Rattle.pas_acts.proofs.PlanFacts.{plan_bounds, plan_below, plan_threads}
+use Rattle.std.proofs.lemmas.Result.{IfOk-weaker}
+use Rattle.pas_replay.specs.Kits.{IsKitOf}
 use Rattle.pas_replay.proofs.kit.PlainKit.try_new.Goals as goal
 
-pub try_new-requires : goal.try_new-requires
-try_new-requires c = record { bounds = ap (λ bs. length bs) c.as_slice.ensures ∙ plan_bounds c.requires.1 ∙ ap (λ (f : Profile). f.threads + 1) (sym c.region_of-profile.ensures.region) }
-
-pub rooms_of-requires-clause-few : goal.rooms_of-requires-clause-few
-rooms_of-requires-clause-few c = c.region_of-profile.ensures.valid.threads
-
-pub rooms_of-requires-clause-left : goal.rooms_of-requires-clause-left
-rooms_of-requires-clause-left c = λ k le. (slice_index c.as_slice.result.now k, c.in_ok-utility.ensures.rooms k le)
-
-pub caches_for-requires-clause-few : goal.caches_for-requires-clause-few
-caches_for-requires-clause-few c =
-    omega (arith, c.region_of-profile.ensures.valid.threads, ap (λ (f : Profile). f.threads) c.region_of-profile.ensures.region, plan_threads c.args.plan.now)
-
-pub caches_for-requires-clause-threads : goal.caches_for-requires-clause-threads
-caches_for-requires-clause-threads c =
-    search (arith, plan_threads)
-
-pub caches_for-requires-clause-left : goal.caches_for-requires-clause-left
-caches_for-requires-clause-left c = search (arith, plan_threads)
+pub for_course-requires : goal.for_course-requires
+for_course-requires c = record { text = c.requires.0; plan = c.args.plan.now; read = c.requires.1; same = c.course.ensures }
 
 pub returns : goal.returns
 returns c =
     let plan = c.args.plan.now in
-    let profile = c.region_of-profile.result in
-    let region = c.region_of-profile.ensures.region in
-    let threads = ap (λ (f : Profile). f.threads) region in
-    let rooms = c.in_ok-rooms.ensures.rooms in
-    let long = ap (λ (ps : List PlainPass). length ps) c.in_ok-region.ensures.passes ∙ passes_count 0 c.in_ok-rooms.rooms.items in
-    let placed = ap (λ ps. length ps) c.in_ok-places.ensures.places ∙ length-map c.in_ok-region.passes.items (λ p. Some p) in
-    let stand = subst (λ (f : Profile). All (λ (pass : PlainPass). PassStands f pass []) c.in_ok-region.passes.items) region c.in_ok-region.ensures.stand in
-    record {
-      profile = c.in_ok-region.ensures.profile ∙ region;
-      opening = c.in_ok-region.ensures.opening;
-      actors = omega (arith, rooms.many, long, placed, threads);
-      fresh = λ k less. fresh_actor plan _ (profile.threads + 1) c.in_ok-rooms.rooms.items c.in_ok-region.passes.items c.in_ok-places.places.items rooms
-          (λ j lt. c.in_ok-utility.ensures.rooms j (omega (arith, lt)) ∙ ap (λ bs. Some (slice_index bs j)) c.as_slice.ensures)
-          c.in_ok-region.ensures.passes stand c.in_ok-places.ensures.places k (omega (arith, less, threads));
-      unused = c.in_ok-caches.ensures.caches;
-      books = c.in_ok-books_for.ensures;
-      places = same_Some _ _ (sym c.outcomes_from.ensures ∙ c.caches_for.ensures.outcomes ∙ c.rooms_of.ensures.outcomes ∙ c.in_ok-utility.ensures.outcomes) ∙ ap (λ (f : Profile). f.pages) region;
-      indexes = c.in_ok-indexes.ensures;
-      no_name = c.in_ok-names.ensures.empty;
-      names = subst (λ n. AllBelow n (phases_of plan)) (sym c.in_ok-names.ensures.room) (plan_below c.requires.1);
-      none_left = c.in_ok-places.ensures.none;
-    }
+    IfOk-weaker c.for_course.result _ (λ kit. IsKitOf plan kit) (λ kit is. is c.requires.0 plan c.requires.1 c.course.ensures) c.for_course.ensures

@@ -12,7 +12,8 @@ returns-in_ok-give-in-Asks c =
     let a = c.in-Asks in
     let names = c.give.new.self in
     let samples = c.sample-guarded.new.self in
-    let kept = c.request_kept-what.ensures ∙ ap (λ guarded. request_kept (if guarded then Some (old.header.profile.threads + c.args.thread) else None) a.name a.heap a.size a.align) c.sample-guarded.ensures.guarded in
+    let kept = c.request_kept-what.ensures ∙ ap (λ guarded. request_kept
+    (if guarded then Some (old.header.profile.threads + c.args.thread) else None) a.name a.heap a.size a.align) c.sample-guarded.ensures.guarded in
     on_ok_weaker _ (λ h. subst (λ (w : Wish). IsOperated old new c.args.thread w c.args.cost) (sym a.is)
     (named old (record old { names = names; samples = samples }) new names samples c.args.thread a.name a.heap (Wish.Asks a.name a.heap a.size a.align) c.request_kept-what.result c.args.cost refl refl kept refl
     c.sample-guarded.ensures.sampled c.in_ok-give-in-Asks.ensures h)) c.count.ensures
