@@ -12,19 +12,17 @@ use Rattle.pas_shared.specs.Benches.{home_of, standing_on, empty_row}
 use Rattle.pas_shared.specs.{Ledgers.part_of, Passes.seat_of, Passes.view_of, Passes.IsPassOf}
 use Rattle.pas_shared.specs.declared.{bench.Bench.Bench, bench.Member.Member, pass.SharedPass.SharedPass, region.SharedRegion.SharedRegion, rule.Entry.Entry}
 use Rattle.pas_shared.specs.declared.{rule.Row.Row, bench_desk.BenchDesk.BenchDesk}
-use Rattle.pas_shared.proofs.{Benching.among_picked, Benching.row_since, Ruling.part_both, Benching.stands_first}
+use Rattle.pas_shared.proofs.{Benching.among_picked, Benching.row_since, Benching.stands_first, Ruling.part_both}
 use Rattle.pas_acts.specs.Works.{Sits, Later, Keeps, ThreadAt}
 use Rattle.pas_threads.specs.Left.{IsSeated, KeepsOrder, standing_beside, keeper_actors, pair_in, HasLeft}
 use Rattle.pas_threads.specs.Hands.{standing_of_pass, HasPass, Did, kept_by}
 use Rattle.pas_threads.specs.Still.{stays_beside}
 use Rattle.std.proofs.lemmas.{Option.same_Some, Bool.cases_eq}
 use Rattle.pas_trace.specs.declared.{item.Request.Request, plan.Op.Op}
-use Rattle.pas_report.specs.Rooms.{Records}
 use Rattle.pas_guard.specs.declared.book.GuardBook.{GuardBook}
 use Rattle.pas_answers.specs.{Answers.Progress, Guarding.after_trying}
 use Rattle.pas_acts.specs.Keepers.{keeper_has, KeeperAt, KeeperTries, LaterKept, StandsAt, StandsStill, Keeping, OneKeeper}
 use Rattle.pas_threads.specs.declared.{keeper.Seated.Seated, keeper.Keeper.Keeper, workers.Worker.Worker}
-use Rattle.pas_report.specs.declared.record.Record.{Record}
 use Rattle.pas_trace.specs.Acts.{Act, own_acts}
 use Rattle.pas_acts.specs.Pairs.{KeeperWaits, KeptPushed, PairAt, PairWorks}
 use Rattle.pas_acts.specs.declared.names.NameBook.{NameBook}
@@ -32,6 +30,8 @@ use Rattle.pas_threads.specs.Pairs.{IsKeeperOf, kept_by_worker, kept_seated, May
 use Rattle.pas_threads.specs.Seats.{keeper_parts, rows_without_keeper, seated_actors, IsSameKeeper, SitsBeside, KeeperMayLeave, IsPassOfMember, HasRisen}
 use Rattle.pas_threads.specs.Seats.{PairSits, PairRose, IsAnother, KeeperSits}
 use Rattle.pas_answers.proofs.Reached.{goes_on}
+use Rattle.pas_records.specs.Rooms.{Records}
+use Rattle.pas_records.specs.declared.record.Record.{Record}
 
 -- ---- what rows say of a list
 -- of each of its actors the list has what the row says
@@ -242,7 +242,8 @@ module _ {f : Profile} {k : ℕ} {r : Request} {block : Option Block} {later : L
   -- .. and once it does, the keeper stands beside it as before
   pub tried_at : (back : BenchDesk) (risen : Member) → back.region.now ≡ after.region.now → back.place.bench ≡ after.place.bench
       → back.place.member ≡ desk.place.member → risen ≡ after.place.member
-      → (t : KeeperTries f k r block (keeper_has (standing_beside desk.region.now desk.place.bench seated.member) seated.book seated.out) (keeper_has (standing_beside back.region.now back.place.bench risen) book out) later p)
+      → (t : KeeperTries f k r block (keeper_has (standing_beside desk.region.now desk.place.bench seated.member) seated.book seated.out)
+      (keeper_has (standing_beside back.region.now back.place.bench risen) book out) later p)
       × StandsStill (standing_on desk.place.bench desk.place.member) (standing_on back.place.bench back.place.member) p.list (after_trying p k t.tried).list
   tried_at back risen same there again gone = subst (λ (z : SharedRegion × Bench × Member × SharedRegion × Bench × Member × Member).
       (t : KeeperTries f k r block (keeper_has (standing_beside z.0 z.1 z.2) seated.book seated.out) (keeper_has (standing_beside z.3 z.4 z.5) book out) later p)

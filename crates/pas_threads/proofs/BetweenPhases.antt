@@ -7,8 +7,6 @@ use Rattle.pas_steps.specs.{Lists.Whole, Lists.part, Views.View}
 use Rattle.pas_trace.specs.Acts.{Ends, Lowers, MarksPhase, MarksClose, numbers_from, Act, phase_acts, close_acts, acts_of}
 use Rattle.pas_trace.specs.{EveryPlan.all_ops, EveryPlan.own_records, Plans.ops_of}
 use Rattle.pas_trace.specs.declared.plan.{Op.Op, Phase.Phase}
-use Rattle.pas_report.specs.Rooms.{records_in, room_of, Records}
-use Rattle.pas_report.specs.declared.record.Record.{Record}
 use Rattle.pas_cache.specs.Caches.{Cached, cached}
 use Rattle.pas_cache.specs.declared.cache.ThreadCache.{ThreadCache}
 use Rattle.pas_shared.specs.Ruled.{IsEarlier}
@@ -32,6 +30,8 @@ use Rattle.pas_threads.specs.declared.{keeper.Keeper.Keeper, phases.Team.Team, s
 use Rattle.pas_threads.proofs.Dealt.{some_item}
 use Rattle.pas_threads.proofs.Staging.{went_both, went_mark, in_both, unmarked, phase_unmarked, close_unmarked, earlier_both, stand_first, close_rest}
 use Rattle.pas_threads.proofs.ReadyPhases.{owed_less, kept_less, own_all, all_paid, said_in_order, kept_in_order, kept_few, by_all}
+use Rattle.pas_records.specs.Rooms.{records_in, room_of, Records}
+use Rattle.pas_records.specs.declared.record.Record.{Record}
 
 -- ---- another progress
 -- the scavenger rests at each progress of which it has the same part
@@ -479,7 +479,8 @@ as_last {region} {s} {all} {team} {so_far} {out} phases i le so = rw drop_of_len
 pub record BeforePhase (region : SharedRegion) (s : Session) (all : List (List Op)) (n : ℕ) (ops : List Op) (rest : List (List Op)) (team : Team) (so_far : Whole) (out : Records) : Type 0 where
   pub p : Progress
   pub at : PhaseAt region s ops rest (length rest + 1) team out p
-  pub leads : Leads s all (phase_acts s.threads ops ++ acts_left s.threads s.keepers (n + 1) rest) (phase_stages s.threads ops ++ stages_left s.threads s.keepers (n + 1) rest) p so_far
+  pub leads : Leads s all (phase_acts s.threads ops ++ acts_left s.threads s.keepers (n + 1) rest)
+      (phase_stages s.threads ops ++ stages_left s.threads s.keepers (n + 1) rest) p so_far
   pub stand : StandSo s so_far p.list
 
 module _ {region : SharedRegion} {s : Session} {all : List (List Op)} {n : ℕ} {ops : List Op} {rest : List (List Op)} {team : Team} {so_far : Whole}

@@ -3,8 +3,6 @@ use Rattle.std.proofs.Common.{◌≡◌, ◌≢◌, ℕ, ◌+◌, ◌<◌, ◌�
 use Rattle.std.proofs.Common.{drop_of_length-le, zero, suc, eq-eqb, ne_eqb}
 use Rattle.std.proofs.lemmas.List.{drop_more}
 use Rattle.pas_profile.specs.declared.profile.Profile.{Profile}
-use Rattle.pas_report.specs.Rooms.{records_in, Records}
-use Rattle.pas_report.specs.declared.record.Record.{Record}
 use Rattle.pas_shared.specs.Benches.{row_on, StandsOver}
 use Rattle.pas_shared.specs.declared.{bench.Bench.Bench, bench_desk.BenchDesk.BenchDesk, bench_desk.BenchHome.BenchHome}
 use Rattle.pas_shared.proofs.Benching.{row_tells}
@@ -27,6 +25,8 @@ use Rattle.pas_trace.specs.declared.plan.{Op.Op, Chore.Chore, Work.Work}
 use Rattle.pas_threads.specs.Hands.{and_left, ScavengerAt}
 use Rattle.pas_threads.specs.Crews.{Crew, crew, CrewStands, CrewDoes, CrewSits, CrewActs}
 use Rattle.pas_threads.proofs.CrewSits.{lent_stays}
+use Rattle.pas_records.specs.Rooms.{records_in, Records}
+use Rattle.pas_records.specs.declared.record.Record.{Record}
 
 -- ---- what is said of one thread's stop
 -- that it was stopped says the scavenger
@@ -146,7 +146,8 @@ stood_still desk {σ} {l} {m} seat over = record {
 -- The scavenger's reading of the epoch and the stops of the idle threads are acts that its crew did.
 pub did_idle : {h : BenchHome} {s : Shift} {next : List Act} {σ σ' : Standing} {places : ℕ} {out out' : Records} {old new : List Worker} {p : Progress} (n : ℕ)
     (desk : BenchDesk) (at : CrewSits h s (ReadsEpoch ∷ (idle_stops n s.idle ++ next)) (crew σ old places out) p)
-    (read : ScavengerActs s.profile ReadsEpoch σ σ' out out (and_left s.profile (idle_stops n s.idle ++ next) s.own) p) → (standing_at desk).seat ≡ σ'.seat → length new ≡ length old → StoppedLent h s (idle_stops n s.idle) desk.place.bench old new out out' (length old) read.reached
+    (read : ScavengerActs s.profile ReadsEpoch σ σ' out out (and_left s.profile (idle_stops n s.idle ++ next) s.own) p) → (standing_at desk).seat ≡ σ'.seat
+    → length new ≡ length old → StoppedLent h s (idle_stops n s.idle) desk.place.bench old new out out' (length old) read.reached
     → CrewActs h s (ReadsEpoch ∷ idle_stops n s.idle) next (crew σ old places out) (crew (standing_at desk) new places out') p
 did_idle {h} {s} {next} {σ} {σ'} {places} {out} {out'} {old} {new} {p} n desk at read seat size stopped =
     let stops = stopped.did in

@@ -4,7 +4,6 @@ use Rattle.std.proofs.Common.{Some, refl, ap, sym, ◌∙◌, subst, arith, true
 use Rattle.std.proofs.lemmas.{Bool.cases_eq, Option.same_Some, List.get_or_default}
 use Rattle.pas_profile.specs.declared.profile.Profile.{Profile}
 use Rattle.pas_steps.specs.{Noted.AreNotesOf, Desks.Standing, Lists.Whole, Lists.part, Views.View}
-use Rattle.pas_report.specs.Rooms.{Records}
 use Rattle.pas_cache.specs.Caches.{Cached, cached}
 use Rattle.pas_core.proofs.Choosing.{steps_by_same}
 use Rattle.pas_shared.specs.Ruled.{among, made_in, all_actors, only, only_this, isnt, rows_of, rows_of_only, steps_of, IsRowOf, AreRowsOf}
@@ -17,7 +16,6 @@ use Rattle.pas_shared.proofs.Benching.{among_only, among_picked, row_tells, stan
 use Rattle.pas_trace.specs.Acts.{Act, StopsIdle}
 use Rattle.pas_answers.specs.Answers.{Progress}
 use Rattle.pas_answers.proofs.Reached.{goes_on}
-use Rattle.pas_report.specs.declared.record.Record.{Record}
 use Rattle.pas_acts.specs.{Works.Later, Turns.RestsAt, Keepers.StandsStill, AtDesks.here, AtDesks.told_if, AtDesks.ThreadActs}
 use Rattle.pas_acts.proofs.AtDesk.{rests_still}
 use Rattle.pas_threads.specs.{Hands.standing_of_pass, Left.crew_in, Left.KeepsOrder, Sessions.WorkerHas, Scavengers.CrewHasLeft, Turns.Pushed, Turns.Told}
@@ -27,6 +25,8 @@ use Rattle.pas_threads.specs.Crews.{crew, CrewAt, CrewSits, CrewActs, CrewSat, C
 use Rattle.pas_threads.specs.declared.workers.Worker.{Worker}
 use Rattle.pas_threads.proofs.Benched.{among_cases, among_here, among_later, seated, row_part, rows_part, has_seat, member_seat, sits_as, keeps_order}
 use Rattle.pas_threads.proofs.TakingTurns.{Stays, set_each}
+use Rattle.pas_records.specs.Rooms.{Records}
+use Rattle.pas_records.specs.declared.record.Record.{Record}
 
 -- ---- who is among some actors
 among_at : (ks : List ℕ) (i : ℕ) → i < length ks → among ks (get_or ks i 0) ≡ true
@@ -232,7 +232,8 @@ pub was_stopped : {h : BenchHome} {f : Profile} {k n : ℕ} {bench bench' : Benc
     → sat.place.bench ≡ bench → home_at mid ≡ h → bench' ≡ mid.place.bench
     → new.member ≡ Some mid.place.member → new.requests ≡ old.requests → new.keeper ≡ old.keeper
     → ((stopped : Bool)
-    × ThreadActs f k (StopsIdle k n ∷ []) [] (told_if stopped k) (here (standing_at sat) (cached old.cache) old.out) (here (standing_at mid) (cached new.cache) new.out) later p
+    × ThreadActs f k (StopsIdle k n ∷ []) [] (told_if stopped k) (here (standing_at sat) (cached old.cache) old.out)
+    (here (standing_at mid) (cached new.cache) new.out) later p
     × Pushed 0 (told_if stopped k) out out')
     → StopsLent h f k n bench bench' old new out out' later p
 was_stopped {h} {f} {k} {n} {bench} {bench'} {old} {new} {out} {out'} {later} {p} sat mid b home b2 present requests keeper did =

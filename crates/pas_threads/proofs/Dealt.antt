@@ -92,11 +92,6 @@ number_at k zero i bad = absurd (omega (arith, bad))
 number_at k (suc n) zero lt = let is : k ≡ k + 0 = omega arith in is
 number_at k (suc n) (suc i) lt = number_at (k + 1) n i (omega (arith, lt)) ∙ (let is : k + 1 + i ≡ k + suc i = omega arith in is)
 
--- So many numbers from one on are a list of just that length.
-pub numbers_many : (k n : ℕ) → length (numbers_from k n) ≡ n
-numbers_many k zero = refl
-numbers_many k (suc n) = ap suc (numbers_many (k + 1) n)
-
 filter_picked : (chosen : ℕ → Bool) (k n : ℕ) → filter chosen (numbers_from k n) ≡ picked chosen k (numbers_from k n)
 filter_picked chosen k zero = refl
 filter_picked chosen k (suc n) = ap (λ (js : List ℕ). if chosen k then k ∷ js else js) (filter_picked chosen (k + 1) n)

@@ -1,10 +1,9 @@
 -- The keepers of workers: how those of a plan are made, how they stand on while others act and over a phase, what is gathered of them, and their last sweeps.
-use Rattle.std.proofs.Common.{◌≡◌, ℕ, zero, suc, ◌+◌, ◌*◌, ◌<◌, ◌≤◌, ◌==◌, min, Bool, true, false, if◌then◌else◌, List, [], ◌∷◌, ◌++◌, length, set, get_or}
-use Rattle.std.proofs.Common.{slice_index, All, inl, inr, Option, Some, refl, ap, sym, ◌∙◌, subst, arith, ◌-◌, ◌^◌, eq-eqb, ne_eqb, get_or-set_same}
-use Rattle.std.proofs.Common.{get_or-set_other, ◌≢◌, map, None, append_assoc, append-nil}
-use Rattle.std.specs.List.{AllByRecursion}
-use Rattle.std.proofs.{Math.Nat.le-min, Math.Nat.mul-le-mul, lemmas.Bool.cases_lt, lemmas.Bool.cases_eq}
-use Rattle.std.proofs.lemmas.List.{get_or_append_left, get_or_push, get_or_at, get_or-map, get_or_default}
+use Rattle.std.proofs.Common.{◌≡◌, ℕ, suc, ◌+◌, ◌*◌, ◌<◌, ◌≤◌, ◌==◌, min, Bool, true, false, if◌then◌else◌, List, [], ◌∷◌, ◌++◌, length, set, get_or}
+use Rattle.std.proofs.Common.{slice_index, inl, inr, Option, Some, refl, ap, sym, ◌∙◌, subst, arith, ◌-◌, ◌^◌, eq-eqb, ne_eqb, get_or-set_other, ◌≢◌, map, None}
+use Rattle.std.proofs.Common.{append_assoc, append-nil, drop, drop_of_length-le, length-drop}
+use Rattle.std.proofs.{Math.Nat.le-min, Math.Nat.mul-le-mul, lemmas.Bool.cases_lt, lemmas.Bool.cases_eq, lemmas.List.get_or-map, lemmas.List.get_or_default}
+use Rattle.std.proofs.{lemmas.List.drop_more}
 use Rattle.pas_profile.specs.declared.profile.Profile.{Profile}
 use Rattle.pas_trace.specs.{Asked.work_of, Asked.keeper_in, Plans.IsPlanOf, Plans.bounds_of, Reasons.cost_of_size, Reasons.actors_by}
 use Rattle.pas_trace.specs.EveryPlan.{kept_of_work, kept_records, records_of_what, records_of_ops, operations_of}
@@ -16,22 +15,22 @@ use Rattle.pas_shared.specs.declared.{pass.SharedPass.SharedPass, region.SharedR
 use Rattle.pas_answers.specs.{Replays.threads_of, Replays.keepers_of, Answers.Progress, Ways.is_of, Ways.records_by}
 use Rattle.pas_acts.specs.{PlanKeepers.one_guarded, PlanKeepers.guarded_of, PlanKeepers.AreBooks, Shares.owner_in}
 use Rattle.pas_acts.proofs.{PlanFacts.is_guarded, AtDesk.keeper_still, ActsLeft.number_next, ActsLeft.number_last, PhaseActs.own_thread, PhaseActs.kept_thread}
-use Rattle.pas_acts.proofs.{PhaseActs.owner_of}
-use Rattle.pas_threads.specs.Kits.{IsEquipped, AreEquipped, IsKeeperWith, AreKeepers, IsAlone, HasRoomForKeeper, HaveKeepers, with_keeper}
+use Rattle.pas_acts.proofs.{PhaseActs.owner_of, Working.kept_both}
+use Rattle.pas_threads.specs.Kits.{HaveKeepers, TakesKeeper, IsKeptBy, AreKeptBy, most_records}
 use Rattle.pas_threads.specs.Pairs.{AreGuarded, IsButKeeper, kept_by_worker, IsKeeperOf, IsSilent, no_more, owed_kept, keeper_at, IsLow, KeptSo, Lowered}
 use Rattle.pas_threads.specs.Pairs.{MayLower, KeeperStands, KeeperLowered, KeeperRests, said_by_keeper}
 use Rattle.pas_threads.specs.declared.{keeper.Keeper.Keeper, workers.Worker.Worker}
 use Rattle.pas_steps.specs.Lists.{part}
 use Rattle.pas_steps.proofs.Parts.{part_of_others}
-use Rattle.pas_report.specs.Rooms.{records_in, room_of}
-use Rattle.pas_report.specs.declared.record.Record.{Record}
 use Rattle.pas_trace.specs.Acts.{Act, Settles, Lowers, act_kept, numbers_from, own_acts}
 use Rattle.pas_answers.proofs.OwnRecords.{records_both, all_by, none_by, spoken_piece, spoken_both}
 use Rattle.pas_answers.proofs.{Reached.reach_both, EachAct.all_front, EachAct.all_back}
 use Rattle.pas_acts.specs.Keepers.{LaterKept, Keeping, NoKeeper, OneKeeper, KeeperAt, KeeperLowers, keeper_has}
 use Rattle.pas_acts.specs.Pairs.{for_guard, for_guards, AreTriedBy, AreUnguarded, KeeperWaits, EachOfTwo, KeptPushed, KeptStill, owed_of}
 use Rattle.pas_threads.specs.{Hands.standing_of_pass, Turns.HasSaid, Performing.Round, Performing.ThreadDone}
-use Rattle.pas_threads.proofs.{TakingTurns.set_each, Dealt.some_item}
+use Rattle.pas_threads.proofs.{TakingTurns.set_each, TakingTurns.each_pushed, Dealt.some_item}
+use Rattle.pas_records.specs.Rooms.{records_in, room_of}
+use Rattle.pas_records.specs.declared.record.Record.{Record}
 
 -- ---- what they may say
 two_least : (size : ℕ) → 2 ≤ cost_of_size size
@@ -57,7 +56,7 @@ guards_said f k [] = omega arith
 guards_said f k (op ∷ ops) = said_one f (op.actor == k) op.what (guarded_of k ops) (kept_records k ops) (records_of_ops f ops) (guards_said f k ops)
 
 -- so twice its bound suffices for it, and where that can't be counted in 32 bits, what can be counted does
-pub keeper_room : {text : List ℕ} {plan : Plan} (i room : ℕ) → IsPlanOf text plan → i < keepers_of plan → plan.total < 2 ^ 32
+keeper_room : {text : List ℕ} {plan : Plan} (i room : ℕ) → IsPlanOf text plan → i < keepers_of plan → plan.total < 2 ^ 32
     → room ≡ min (slice_index (bounds_of plan.bounds) (threads_of plan + suc i) * 2) (2 ^ 32 - 1)
     → slice_index (bounds_of plan.bounds) (threads_of plan + suc i) + 2 * guarded_of (suc i) (operations_of plan) ≤ room
 keeper_room {text} {plan} i room read lt few is =
@@ -75,152 +74,92 @@ keeper_room {text} {plan} i room read lt few is =
     let counted : needs ≤ 2 ^ 32 - 1 = omega (arith, bound, said, sound.total, pages, few) in
     subst (λ (n : ℕ). needs ≤ n) (sym is) (le-min twice counted)
 
--- with one keeper's room more
-pub rooms_more : (plan : Plan) (room after : List ℕ) (n x : ℕ) → after ≡ room ++ x ∷ [] → length room + 1 ≡ n
-    → slice_index (bounds_of plan.bounds) (threads_of plan + suc (length room)) + 2 * guarded_of (suc (length room)) (operations_of plan) ≤ x
-    → ((i : ℕ) → i + 1 < n → HasRoomForKeeper plan room i) → (i : ℕ) → i + 1 < n + 1 → HasRoomForKeeper plan after i
-rooms_more plan room after n x is many enough have i lt = search (arith, cases_lt, get_or_append_left, get_or_push)
-
 -- ---- their passes and books
-pub keepers_more : (bounds : List ℕ) (i n : ℕ) (passes : List SharedPass) (books : List GuardBook) (keepers : List Keeper) (pass : SharedPass)
-    (book : GuardBook) (keeper : Keeper)
-    → AreKeepers bounds i passes books keepers → n ≡ i + length keepers
-    → IsKeeperWith pass book (slice_index bounds n) keeper → AreKeepers bounds i (passes ++ pass ∷ []) (books ++ book ∷ []) (keepers ++ keeper ∷ [])
-keepers_more bounds i n [] [] [] pass book keeper are at new = (subst (λ m. IsKeeperWith pass book (slice_index bounds m) keeper) (omega (arith, at)) new, tt)
-keepers_more bounds i n (p ∷ passes) (b ∷ books) (k ∷ keepers) pass book keeper are at new =
-    (are.0, keepers_more bounds (i + 1) n passes books keepers pass book keeper are.1 (omega (arith, at)) new)
-keepers_more bounds i n passes books keepers pass book keeper are at new = absurd are
-
--- There are as many keepers as passes for them.
-pub keepers_many : (bounds : List ℕ) (i : ℕ) (passes : List SharedPass) (books : List GuardBook) (keepers : List Keeper)
-    → AreKeepers bounds i passes books keepers → length keepers ≡ length passes
-keepers_many bounds i [] [] [] are = refl
-keepers_many bounds i (p ∷ passes) (b ∷ books) (k ∷ keepers) are = ap suc (keepers_many bounds (i + 1) passes books keepers are.1)
-keepers_many bounds i passes books keepers are = absurd are
-
-keeper_with : (bounds : List ℕ) (i : ℕ) (passes : List SharedPass) (books : List GuardBook) (keepers : List Keeper) (j : ℕ) (p : SharedPass) (b : GuardBook)
-    (k : Keeper)
-    → AreKeepers bounds i passes books keepers → j < length passes
-    → IsKeeperWith (get_or passes j p) (get_or books j b) (slice_index bounds (i + j)) (get_or keepers j k)
-keeper_with bounds i [] books keepers j p b k are lt = absurd (let bad : j < 0 = lt in omega (arith, bad))
-keeper_with bounds i (pass ∷ passes) (book ∷ books) (keeper ∷ keepers) zero p b k are lt =
-    subst (λ m. IsKeeperWith pass book (slice_index bounds m) keeper) (let is : i ≡ i + 0 = omega arith in is) are.0
-keeper_with bounds i (pass ∷ passes) (book ∷ books) (keeper ∷ keepers) (suc j) p b k are lt =
-    subst (λ m. IsKeeperWith (get_or passes j p) (get_or books j b) (slice_index bounds m) (get_or keepers j k))
-    (let is : i + 1 + j ≡ i + suc j = omega arith in is) (keeper_with bounds (i + 1) passes books keepers j p b k are.1 (omega (arith, lt)))
-keeper_with bounds i passes books keepers j p b k are lt = absurd are
-
--- ---- who has them
--- a worker that differs in its keeper alone is as well equipped
-equipped_but : (pass : SharedPass) (bound : ℕ) (old new : Worker) → IsButKeeper old new → IsEquipped pass bound old → IsEquipped pass bound new
--- All of the equipment is what the keeper leaves as it was.
-equipped_but pass bound old new but has = search arith
-
-equipped_still : (bounds : List ℕ) (k : ℕ) (passes : List SharedPass) (old new : List Worker) → length new ≡ length old
-    → ((i : ℕ) (d : Worker) → i < length old → IsButKeeper (get_or old i d) (get_or new i d)) → AreEquipped bounds k passes old
-    → AreEquipped bounds k passes new
-equipped_still bounds k [] [] [] many but are = tt
-equipped_still bounds k [] [] (w ∷ new) many but are = absurd (let bad : suc (length new) ≡ 0 = many in omega (arith, bad))
-equipped_still bounds k (p ∷ passes) (v ∷ old) [] many but are = absurd (let bad : 0 ≡ suc (length old) = many in omega (arith, bad))
-equipped_still bounds k (p ∷ passes) (v ∷ old) (w ∷ new) many but are = (
-  equipped_but p (slice_index bounds k) v w (but 0 v (omega arith)) are.0,
-  equipped_still bounds (k + 1) passes old new (omega (arith, many)) (λ i d lt. but (suc i) d (omega (arith, lt))) are.1,
-)
-equipped_still bounds k passes old new many but are = absurd are
-
-but_so : (w v : Worker) (o : Option Keeper) → v ≡ with_keeper w o → IsButKeeper w v
-but_so w v o is = subst (IsButKeeper w) (sym is) (record { pass = refl; cache = refl; requests = refl; out = refl })
-
-but_same : (w v : Worker) → v ≡ w → IsButKeeper w v
-but_same w v is = subst (IsButKeeper w) (sym is) (record { pass = refl; cache = refl; requests = refl; out = refl })
-
--- each of the first workers was given its keeper, in order, and the others are as they were
-pub record AreGiven (old new : List Worker) (keepers : List Keeper) : Type 0 where
-  pub many : length new ≡ length old
-  pub given : (i : ℕ) (d : Worker) (e : Keeper) → i < length keepers → get_or new i d ≡ with_keeper (get_or old i d) (Some (get_or keepers i e))
-  pub others : (i : ℕ) (d : Worker) → length keepers ≤ i → get_or new i d ≡ get_or old i d
-
-but_keepers : {old new : List Worker} {keepers : List Keeper} → AreGiven old new keepers → (i : ℕ) (d : Worker) → IsButKeeper (get_or old i d) (get_or new i d)
-but_keepers {old} {new} {keepers} are i d = elim (cases_lt i (length keepers)) [
-  | inl lt ↦ let e = some_item keepers i lt in but_so (get_or old i d) (get_or new i d) (Some (get_or keepers i e)) (are.given i d e lt)
-  | inr ge ↦ but_same (get_or old i d) (get_or new i d) (are.others i d ge)
+-- behind the first of those from a place on are those from the next place on
+rest_next : {A : Type 0} (xs rest : List A) (i : ℕ) (x : A) → drop i xs ≡ x ∷ rest → rest ≡ drop (i + 1) xs
+rest_next {A} xs rest i x is = elim (cases_lt i (length xs)) [
+  | inl lt ↦ ap (λ (ys : List A). elim ys [ [] ↦ [] | y ∷ others ↦ others ]) (sym is ∙ drop_more xs i x lt)
+  | inr past ↦ absurd (let some = ap length is in omega (arith, past, some, length-drop i xs))
 ]
 
--- Workers that were given keepers are equipped as they were before.
-pub equipped_with : (bounds : List ℕ) (k : ℕ) (passes : List SharedPass) {old new : List Worker} {keepers : List Keeper} → AreGiven old new keepers
-    → AreEquipped bounds k passes old → AreEquipped bounds k passes new
-equipped_with bounds k passes {old} {new} {keepers} are have = equipped_still bounds k passes old new are.many (λ i d lt. but_keepers are i d) have
+none_next : {A : Type 0} (xs : List A) (i : ℕ) → drop i xs ≡ [] → drop (i + 1) xs ≡ []
+none_next xs i none = drop_of_length-le xs (let none_left = ap length none in omega (arith, none_left, length-drop i xs))
+
+-- A keeper that took the first of those that are left has those at its place.
+pub keeper_next : {left left' : List SharedPass} {more more' : List GuardBook} (passes : List SharedPass) (books : List GuardBook) (bound i : ℕ)
+    (o : Option Keeper) → left ≡ drop i passes → more ≡ drop i books → TakesKeeper left left' more more' bound o
+    → IsKeptBy passes books bound i o × (left' ≡ drop (i + 1) passes) × (more' ≡ drop (i + 1) books)
+keeper_next passes books bound i None one two takes =
+    let pass = sym one ∙ takes.0 in
+    let book = sym two ∙ takes.2 in
+    let last : IsKeptBy passes books bound i None = (pass, none_next passes i pass, book, none_next books i book) in
+    (last, takes.1 ∙ sym last.1, takes.3 ∙ sym last.3)
+keeper_next {left' = left'} {more' = more'} passes books bound i (Some keeper) one two takes =
+    let pass = sym one ∙ takes.0 in
+    let book = sym two ∙ takes.1 in
+    let left = rest_next passes left' i keeper.pass pass in
+    let more = rest_next books more' i keeper.book book in
+    ((pass ∙ ap (λ ps. keeper.pass ∷ ps) left, book ∙ ap (λ bs. keeper.book ∷ bs) more, takes.2, takes.3), left, more)
+
+-- So it is of one worker more.
+pub kept_more : {bounds : List ℕ} {threads : ℕ} {passes : List SharedPass} {books : List GuardBook} {workers after : List Worker} (w : Worker)
+    → after ≡ workers ++ w ∷ [] → AreKeptBy bounds threads passes books workers
+    → IsKeptBy passes books (most_records (slice_index bounds (threads + suc (length workers)))) (length workers) w.keeper
+    → AreKeptBy bounds threads passes books after
+kept_more {bounds} {threads} {passes} {books} {workers} w is are one = record {
+  each = each_pushed (λ (i : ℕ) (v : Worker). IsKeptBy passes books (most_records (slice_index bounds (threads + suc i))) i v.keeper) workers w is one are.each;
+}
+
+-- There is a keeper where there is a pass for it, and none past them.
+kept_some : (passes : List SharedPass) (books : List GuardBook) (bound i : ℕ) (o : Option Keeper) → IsKeptBy passes books bound i o → i < length passes
+    → (keeper : Keeper) × (o ≡ Some keeper)
+kept_some passes books bound i None kept lt = absurd (let none = ap length kept.0 in omega (arith, none, length-drop i passes, lt))
+kept_some passes books bound i (Some keeper) kept lt = (keeper, refl)
+
+kept_past : (passes : List SharedPass) (books : List GuardBook) (bound i : ℕ) (o : Option Keeper) → IsKeptBy passes books bound i o → length passes ≤ i
+    → o ≡ None
+kept_past passes books bound i None kept le = refl
+kept_past passes books bound i (Some keeper) kept le = absurd (let some = ap length kept.0 in omega (arith, some, length-drop i passes, le))
 
 -- all workers of a guarded plan have a keeper, and none of another one
-guarded_so : (plan : Plan) {old new : List Worker} {keepers : List Keeper} → AreGiven old new keepers → length keepers ≡ keepers_of plan
-    → length old ≡ threads_of plan → All IsAlone old → AreGuarded (keepers_of plan) new
-guarded_so plan {old} {new} {keepers} are count threads alone =
+guarded_so : (plan : Plan) {bounds : List ℕ} {passes : List SharedPass} {books : List GuardBook} {workers : List Worker}
+    → AreKeptBy bounds (threads_of plan) passes books workers → length passes ≡ keepers_of plan → length workers ≡ threads_of plan
+    → AreGuarded (keepers_of plan) workers
+guarded_so plan {bounds} {passes} {books} {workers} are size many =
     elim (cases_eq plan.guard 0) [
       | inl is ↦
           let zero_of : keepers_of plan ≡ 0 = ap (λ (t : Bool). if t then 0 else threads_of plan) (eq-eqb plan.guard 0 is) in
-          inr (zero_of, λ i d lt. ap (λ (w : Worker). w.keeper) (are.others i d (omega (arith, count, zero_of))) ∙ alone i d (omega (arith, lt, are.many)))
+          inr (zero_of, λ i d lt. kept_past passes books _ i (get_or workers i d).keeper (are.each i d lt) (omega (arith, size, zero_of)))
       | inr other ↦
           let all : keepers_of plan ≡ threads_of plan = ap (λ (t : Bool). if t then 0 else threads_of plan) (ne_eqb plan.guard 0 other) in
-          inl (
-            omega (arith, all, threads, are.many),
-            λ i d lt.
-                let within : i < length keepers = omega (arith, lt, are.many, threads, all, count) in
-                let e = some_item keepers i within in
-                (get_or keepers i e, ap (λ (w : Worker). w.keeper) (are.given i d e within)),
-          )
+          inl (omega (arith, all, many), λ i d lt. kept_some passes books _ i (get_or workers i d).keeper (are.each i d lt) (omega (arith, lt, many, all, size)))
     ]
 
 -- The workers of a guarded plan have the keepers of the plan, each with its pass, its empty book and room.
-pub have_keepers : (plan : Plan) (kept : List SharedPass) (books : List GuardBook) {old new : List Worker} {keepers : List Keeper} (room : List ℕ)
-    → AreGiven old new keepers → AreKeepers room 0 kept books keepers → AreBooks plan books → length kept ≡ keepers_of plan
-    → length old ≡ threads_of plan → All IsAlone old → ((i : ℕ) → i < keepers_of plan → HasRoomForKeeper plan room i) → HaveKeepers plan kept new
-have_keepers plan kept books {old} {new} {keepers} room are having made size threads alone enough =
-    let same = keepers_many room 0 kept books keepers having in
-    let count = made.many in (
-      size,
-      guarded_so plan are (omega (arith, same, size)) threads alone,
-      λ i d e lt.
-          let within : i < length keepers = omega (arith, lt, same, size) in
-          let k = some_item keepers i within in
-          let b = some_item books i (omega (arith, lt, count)) in
-          let it = keeper_with room 0 kept books keepers i d b k having (omega (arith, lt, size)) in
-          let records = it.records in
-          let needs = enough i lt in
-          let first : slice_index room (0 + i) ≡ slice_index room i = ap (slice_index room) (let is : 0 + i ≡ i = omega arith in is) in
-          record {
-            there = get_or keepers i k;
-            present = ap (λ (w : Worker). w.keeper) (are.given i e k within);
-            pass_is = it.pass_is;
-            empty = ap guards_in it.book_is ∙ made.empty i b lt;
-            places = ap size_of_book it.book_is ∙ made.places i b lt ∙ ap (λ n. guarded_of n (operations_of plan)) (let is : i + 1 ≡ suc i = omega arith in is);
-            said = it.said;
-            records = omega (arith, records, needs, first);
-          },
-    )
-
--- ---- workers without one
-pub alone_more : (workers : List Worker) (worker : Worker) → IsAlone worker → AllByRecursion IsAlone workers → AllByRecursion IsAlone (workers ++ worker ∷ [])
-alone_more [] worker this alone = (this, tt)
-alone_more (w ∷ workers) worker this alone = (alone.0, alone_more workers worker this alone.1)
-
-alone_at : (workers : List Worker) (i : ℕ) (d : Worker) → AllByRecursion IsAlone workers → i < length workers → IsAlone (get_or workers i d)
-alone_at [] i d alone lt = absurd (let bad : i < 0 = lt in omega (arith, bad))
-alone_at (w ∷ workers) zero d alone lt = alone.0
-alone_at (w ∷ workers) (suc i) d alone lt = alone_at workers i d alone.1 (omega (arith, lt))
-
--- Workers each of which has no keeper are all alone.
-pub all_alone : (workers : List Worker) → AllByRecursion IsAlone workers → All IsAlone workers
-all_alone workers alone = λ i d lt. alone_at workers i d alone lt
-
--- ---- giving them
--- with one worker more that has its keeper
-pub first_given : (old now : List Worker) (keepers given rest : List Keeper) (place : ℕ) (w : Worker) (keeper : Keeper) → given ++ keeper ∷ rest ≡ keepers
-    → length given ≡ place → place < length now
-    → ((d : Worker) → w ≡ with_keeper (get_or now place d) (Some keeper)) → ((d : Worker) → get_or now place d ≡ get_or old place d)
-    → ((i : ℕ) (d : Worker) (e : Keeper) → i < place → get_or now i d ≡ with_keeper (get_or old i d) (Some (get_or keepers i e)))
-    → (i : ℕ) (d : Worker) (e : Keeper) → i < place + 1 → get_or (set now place w) i d ≡ with_keeper (get_or old i d) (Some (get_or keepers i e))
-first_given old now keepers given rest place w keeper all many here is left first i d e lt =
-    search (arith, cases_lt, get_or-set_other, get_or-set_same, get_or_at)
+pub have_keepers : {text : List ℕ} {plan : Plan} (passes : List SharedPass) (books : List GuardBook) {workers : List Worker} → IsPlanOf text plan
+    → plan.total < 2 ^ 32 → AreKeptBy (bounds_of plan.bounds) (threads_of plan) passes books workers → AreBooks plan books
+    → length passes ≡ keepers_of plan → length workers ≡ threads_of plan → HaveKeepers plan passes workers
+have_keepers {plan = plan} passes books {workers} read few are made size many = (
+  size,
+  guarded_so plan are size many,
+  λ i d e lt.
+      let kept = are.each i e (omega (arith, lt, many, keepers_few plan)) in
+      let some = kept_some passes books _ i (get_or workers i e).keeper kept (omega (arith, lt, size)) in
+      let by = subst (IsKeptBy passes books (most_records (slice_index (bounds_of plan.bounds) (threads_of plan + suc i))) i) some.1 kept in
+      let count = made.many in
+      let b = some_item books i (omega (arith, lt, count)) in
+      let book_is = ap (λ bs. get_or bs 0 b) (sym by.1 ∙ drop_more books i b (omega (arith, lt, count))) in
+      let needs = keeper_room i _ read lt few refl in
+      record {
+        there = some.0;
+        present = some.1;
+        pass_is = ap (λ ps. get_or ps 0 d) (sym by.0 ∙ drop_more passes i d (omega (arith, lt, size)));
+        empty = ap guards_in book_is ∙ made.empty i b lt;
+        places = ap size_of_book book_is ∙ made.places i b lt ∙ ap (λ n. guarded_of n (operations_of plan)) (let is : i + 1 ≡ suc i = omega arith in is);
+        said = by.2;
+        records = omega (arith, by.3, needs);
+      },
+)
 
 -- ---- the acts of a thread
 own_if : (t : Bool) (op : Op) (xs ys : List Act)
@@ -293,18 +232,6 @@ keeper_is workers i d lt = get_or-map (λ (w : Worker). w.keeper) workers i d No
 pub kept_none : (k : ℕ) (said : List Record) (kept : Keeping) → records_by k said ≡ [] → KeptPushed k said kept kept
 kept_none k said NoKeeper none = none
 kept_none k said (OneKeeper has) none = (sym (append-nil (records_in has.out)) ∙ ap (λ (rs : List Record). records_in has.out ++ rs) (sym none), refl, refl)
-
-kept_both : (k : ℕ) (xs ys : List Record) (a b c : Keeping) → KeptPushed k xs a b → KeptPushed k ys b c → KeptPushed k (xs ++ ys) a c
-kept_both k xs ys NoKeeper NoKeeper NoKeeper one two = records_both k xs ys ∙ ap (λ (rs : List Record). rs ++ records_by k ys) one ∙ two
-kept_both k xs ys NoKeeper NoKeeper (OneKeeper c) one two = absurd two
-kept_both k xs ys NoKeeper (OneKeeper b) c one two = absurd one
-kept_both k xs ys (OneKeeper a) NoKeeper c one two = absurd one
-kept_both k xs ys (OneKeeper a) (OneKeeper b) NoKeeper one two = absurd two
-kept_both k xs ys (OneKeeper a) (OneKeeper b) (OneKeeper c) one two = (
-  simp (two.0, one.0, append_assoc, ← records_both),
-  two.1 ∙ one.1,
-  two.2 ∙ one.2,
-)
 
 -- what two actors said is just what each said
 first_of_two : (k : ℕ) (r : Record) (rs : List Record) (t : Bool) → is_of k r ≡ t → records_by k (r ∷ rs) ≡ (if t then r ∷ records_by k rs else records_by k rs)
@@ -439,7 +366,8 @@ module _ {region : SharedRegion} {f : Profile} {threads : ℕ} {acts : List Act}
   abbrev k : ℕ
   k = threads + suc i
 
-  abbrev y : KeeperLowers f k (keeper_has (standing_of_pass keeper.pass) keeper.book keeper.out) (keeper_has (standing_of_pass after.pass) after.book after.out) no_more x.reached
+  abbrev y : KeeperLowers f k (keeper_has (standing_of_pass keeper.pass) keeper.book keeper.out)
+      (keeper_has (standing_of_pass after.pass) after.book after.out) no_more x.reached
   y = did.did
 
   -- The place of the worker whose keeper lowers its guards is one of the row.

@@ -14,7 +14,7 @@ use Rattle.pas_acts.specs.declared.names.NameBook.{NameBook}
 use Rattle.pas_threads.specs.declared.{workers.Worker.Worker, scavenger.Scavenger.Scavenger, phases.Team.Team, keeper.Keeper.Keeper}
 use Rattle.pas_threads.specs.Taken.{HasRequest, IsEmptied, HasTaken, HandsOver}
 use Rattle.pas_threads.proofs.TakingTurns.{set_each, came_none, pushed_none}
-use Rattle.pas_threads.proofs.Dealt.{some_item, picked_many, picked_at, picked_pairs, number_at, numbers_many, idle_picked, idle_distinct, idle_within}
+use Rattle.pas_threads.proofs.Dealt.{some_item, picked_many, picked_at, picked_pairs, number_at, idle_picked, idle_distinct, idle_within}
 use Rattle.pas_steps.specs.Desks.{Standing}
 use Rattle.pas_trace.specs.Asked.{work_of, of_task, request_of}
 use Rattle.pas_trace.specs.declared.{plan.What.What, item.Request.Request, plan.Chore.Chore, plan.Work.Work, plan.Op.Op}
@@ -22,7 +22,7 @@ use Rattle.pas_trace.specs.Acts.{Act, act_kept, operation_in, asked_after_operat
 use Rattle.pas_trace.specs.Acts.{acts_of_op, acts_of_ops, own_acts, numbers_from, scavenger_acts}
 use Rattle.pas_answers.specs.Calls.{block_behind, MayStand, AreKnown, OnlyAsked}
 use Rattle.pas_answers.specs.declared.names.Names.{Names}
-use Rattle.pas_trace.proofs.EveryPlan.{kept_with}
+use Rattle.pas_trace.proofs.{EveryPlan.kept_with, ThreadsInOrder.numbers_count}
 use Rattle.pas_acts.proofs.{ActsOfPlan.back_below, Naming.are_known, Noting.asks, Noting.asks_more, Naming.sound_front, Naming.sound_back, AtDesk.sits_for}
 use Rattle.pas_acts.proofs.{PhaseActs.none_own, PhaseActs.acts_are_shared}
 use Rattle.pas_acts.specs.Shares.{owner_in, IsWoven, AreAmong, IsRequestOf, NoneAsks, asked_after_act, asked_after_acts, actor_of_act, acts_by, AreInHand}
@@ -489,13 +489,13 @@ module _ {region : SharedRegion} {r : Round} {team : Team} (ready : IsReady regi
         (λ i e less on. record { profile = r.profile; threads = r.threads; thread = suc i; later = r.later (suc i); more = r.more (suc i); progress = r.start; some = some_thread i less; stands = ready.workers i e less }) j d lt
 
     lent_many : length outside ≡ length (idle_in r)
-    lent_many = search (arith, picked_many, numbers_many, idle_are)
+    lent_many = search (arith, picked_many, numbers_count, idle_are)
 
     -- a worker that was lent is that of an idle thread
     lent_stands : (j : ℕ) (d : Worker) → j < length outside → IsLent region (shift_of r) j (get_or outside j d) r.start
     lent_stands j d lt =
         subst (λ (ks : List ℕ). WorkerHas region r.profile (get_or ks j 0) (get_or outside j d) (r.later (get_or ks j 0)) r.start) (sym idle_are)
-        (picked_pairs (λ (k : ℕ) (w : Worker). WorkerHas region r.profile k w (r.later k) r.start) (is_out awake) 0 1 (numbers_from 1 r.threads) team.threads.items (numbers_many 1 r.threads ∙ sym ready.many)
+        (picked_pairs (λ (k : ℕ) (w : Worker). WorkerHas region r.profile k w (r.later k) r.start) (is_out awake) 0 1 (numbers_from 1 r.threads) team.threads.items (numbers_count 1 r.threads ∙ sym ready.many)
         (λ i e less off.
         let number : suc i ≡ get_or (numbers_from 1 r.threads) i 0 = (let one : suc i ≡ 1 + i = omega arith in one)
         ∙ sym (number_at 1 r.threads i (omega (arith, less, ready.many))) in
@@ -600,7 +600,7 @@ module _ {region : SharedRegion} {r : Round} {team : Team} (ready : IsReady regi
 
         at_rank : (j : ℕ) → j < length team.threads.items → is_active r.ops (suc j) ≡ false → get_or (idle_in r) (rank j) 0 ≡ suc j
         at_rank j lt off =
-            search (arith, numbers_many, idle_are, picked_at, not_from_false, its_bit, number_at)
+            search (arith, numbers_count, idle_are, picked_at, not_from_false, its_bit, number_at)
 
         lent_at : (all lent : List Worker) → lent ≡ picked (is_out awake) 1 all → (j : ℕ) (d : Worker) → j < length all → is_active r.ops (suc j) ≡ false
             → (rank j < length lent) × ((e : Worker) → get_or lent (rank j) e ≡ get_or all j d)

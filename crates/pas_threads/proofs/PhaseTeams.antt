@@ -4,13 +4,11 @@ use Rattle.std.proofs.Common.{◌≡◌, ℕ, zero, ◌+◌, ◌-◌, ◌<◌, �
 use Rattle.std.proofs.Common.{Bool, false, ◌∷◌, get_or, Option, All, map, append_assoc, length-append, MatchOption, eqb-true, eq-eqb, ◌⊎◌}
 use Rattle.std.proofs.lemmas.{List.append_cancel_left, Bool.false_from_ne_true, Bool.cases_Bool, Bool.cases_lt}
 use Rattle.pas_profile.specs.declared.profile.Profile.{Profile}
-use Rattle.pas_steps.specs.{Lists.part, Views.View, Lists.Whole}
+use Rattle.pas_steps.specs.{Lists.part, Lists.Whole, Views.View}
 use Rattle.pas_shared.specs.declared.{region.SharedRegion.SharedRegion, ledger.Ledger.Ledger}
 use Rattle.pas_trace.specs.EveryPlan.{own_records, is_asked, records_of_ops, all_ops}
 use Rattle.pas_trace.specs.declared.plan.Op.{Op}
 use Rattle.pas_trace.proofs.EveryPlan.{own_both, records_both}
-use Rattle.pas_report.specs.Rooms.{records_in, room_of, Records}
-use Rattle.pas_report.specs.declared.record.Record.{Record}
 use Rattle.pas_trace.specs.Acts.{Act, own_acts, scavenger_acts, idle_threads, acts_of_ops, is_active, Wakes, numbers_from, active_threads, phase_acts}
 use Rattle.pas_cache.specs.Caches.{Cached, cached}
 use Rattle.pas_utility.specs.Outcomes.{places_of}
@@ -19,7 +17,7 @@ use Rattle.pas_answers.specs.{Reaching.Reaches, Ways.records_by, Ways.by_actors,
 use Rattle.pas_answers.proofs.{OwnRecords.records_both as said_both, Reached.reach_both, EachAct.all_back}
 use Rattle.pas_acts.specs.{Pairs.for_guards, Awake.awake_in}
 use Rattle.pas_acts.proofs.{ActsOfPlan.idle_few, ActsOfPlan.ops_fit, Weaving.weave, AtDesk.rests_still, AtDesk.sits_still, AtDesk.sits_for, Naming.sound_front}
-use Rattle.pas_acts.proofs.{ActsLeft.threads_alike, Naming.below_front}
+use Rattle.pas_acts.proofs.{Naming.below_front, ActsLeft.threads_alike}
 use Rattle.pas_acts.specs.Shares.{Owners, acts_by, owner_in, AreKeptBehind, IsShareOf, IsWoven}
 use Rattle.pas_acts.proofs.PhaseActs.{acts_are_shared, zero_own, own_thread, owner_of, kept_thread}
 use Rattle.pas_acts.specs.NameBooks.{NamesAt, requests_in, room_for, names_of, known_in, Requests, AreWithin}
@@ -28,7 +26,7 @@ use Rattle.pas_threads.specs.Pairs.{no_more, KeeperRests, said_by_keeper, owed_k
 use Rattle.pas_threads.specs.Performing.{Round, idle_in, ThreadDone, ScavengerDone, IsDone, HeardOrder, IsHeard}
 use Rattle.pas_threads.specs.Sessions.{WorkerRests, ScavengerRests, WorkerHas, Session, planned, owed_by, HasPlaces, TeamAt, AreMarked, AreWritten, HasRoom}
 use Rattle.pas_threads.specs.Sessions.{PhaseAt, PhaseDone, IsOfActors, StandSo, WentBy, WorkersRest}
-use Rattle.pas_threads.specs.{Taken.HandsOver, Left.pair_in, Left.crew_in, Taken.HasTaken, Taken.IsWithin}
+use Rattle.pas_threads.specs.{Taken.HandsOver, Taken.HasTaken, Taken.IsWithin, Left.pair_in, Left.crew_in}
 use Rattle.pas_threads.specs.Turns.{owed_at, Came, TookNoPart, said_own, said_by_all, said_by_keepers}
 use Rattle.pas_threads.proofs.TakingTurns.{IsCleared, IsScavengerCleared, OwnGathered, KeptGathered, WereTaken, cleared, cleared_then, pass_still, same_owed}
 use Rattle.pas_threads.proofs.TakingTurns.{rests_clear}
@@ -46,6 +44,8 @@ use Rattle.pas_core.specs.Orders.{steps_by}
 use Rattle.pas_trace.specs.{Asked.keeper_in, EveryPhase.FreeTheirOwn}
 use Rattle.pas_threads.proofs.InHands.{in_pair, pair_within, pair_has, pair_keeps, in_crew, crew_within}
 use Rattle.pas_threads.proofs.Staging.{stand_all, of_first, went_both, went_alone, went_sorted, sorted_still, sorted_seen}
+use Rattle.pas_records.specs.Rooms.{records_in, room_of, Records}
+use Rattle.pas_records.specs.declared.record.Record.{Record}
 
 -- ---- the whole phase
 whole_share : (owner : Owners) (w : ℕ) (p : Progress) → IsShareOf owner w p p
@@ -661,9 +661,11 @@ pub phase_done : {region : SharedRegion} {s : Session} {awake : Mask4} {team tea
     (begun : HasBegun region s awake ops rest team team1 p)
     (done : IsDone region (round_of s ops rest team1 begun.woke.turns.came.reached) team1 team2) → ((k : ℕ) → is_set awake k ≡ is_active ops k)
     → records_in out1 ≡ records_in out ++ records_in team2.scavenger.out → room_of out1 ≡ room_of out
-    → OwnGathered team2.threads.items gathered out1 out2 → KeptGathered gathered kept out2 out3 → (team3 : Team) → WereTaken kept team3.threads.items team2.book team3.book
+    → OwnGathered team2.threads.items gathered out1 out2 → KeptGathered gathered kept out2 out3 → (team3 : Team)
+    → WereTaken kept team3.threads.items team2.book team3.book
     → IsScavengerCleared team2.scavenger team3.scavenger → HasPlaces s.threads team3 → {before after : Whole}
-    → WentBy s (phase_stages s.threads ops) p (reached ops rest at.team_at begun done) before after → PhaseDone region s ops rest marks team3 out out3 before after p
+    → WentBy s (phase_stages s.threads ops) p (reached ops rest at.team_at begun done) before after
+    → PhaseDone region s ops rest marks team3 out out3 before after p
 phase_done {s = s} {out = out} {out1} ops rest at begun done alike added size g h team3 t scavenger places went = record {
   reached = reached ops rest at.team_at begun done;
   reaches = reaches ops rest at.team_at begun done alike;

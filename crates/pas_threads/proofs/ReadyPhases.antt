@@ -6,9 +6,8 @@ use Rattle.pas_profile.specs.declared.profile.Profile.{Profile}
 use Rattle.pas_trace.specs.{Asked.keeper_in, EveryPhase.FreesItsOwn}
 use Rattle.pas_trace.specs.EveryPlan.{records_of_work, records_of_what, records_of_ops, own_records, all_ops}
 use Rattle.pas_trace.specs.declared.plan.{Work.Work, Op.Op}
-use Rattle.pas_report.specs.declared.record.Record.{Record}
 use Rattle.pas_trace.specs.Acts.{Act, Settles, act_kept, acts_of_op, own_acts, scavenger_acts, idle_threads, is_active}
-use Rattle.pas_answers.specs.{Answers.Progress, Ways.records_by, Ways.by_actors, Answers.Books, Calls.owed_events}
+use Rattle.pas_answers.specs.{Answers.Progress, Answers.Books, Ways.records_by, Ways.by_actors, Calls.owed_events}
 use Rattle.pas_answers.specs.Fit.{cost_of_work, cost_of_what, cost_of_act, costs_of, own_cost_of_act, own_costs_of}
 use Rattle.pas_answers.proofs.{SingleActs.sum_both, EachAct.all_front}
 use Rattle.pas_acts.proofs.{ActsOfPlan.work_costs, ActsOfPlan.idle_few, AtDesk.sits_still, AtDesk.sits_for, Naming.names_before, Naming.sound_front}
@@ -22,7 +21,6 @@ use Rattle.pas_bits.specs.declared.mask.Mask4.{Mask4}
 use Rattle.pas_steps.specs.{Lists.Whole, Lists.part, Views.View}
 use Rattle.pas_shared.specs.declared.region.SharedRegion.{SharedRegion}
 use Rattle.pas_trace.proofs.EveryPlan.{own_both}
-use Rattle.pas_report.specs.Rooms.{room_of}
 use Rattle.pas_cache.specs.Caches.{Cached, cached}
 use Rattle.pas_acts.specs.{Keepers.LaterKept, Pairs.for_guards, Works.Later, NameBooks.NamesAt, NameBooks.ArePlaced, NameBooks.names_asked}
 use Rattle.pas_acts.specs.declared.names.NameBook.{NameBook}
@@ -30,6 +28,8 @@ use Rattle.pas_threads.specs.{Hands.WorkerAt, Settling.ActorsStand}
 use Rattle.pas_threads.specs.Performing.{Round, round, ScavengerHas, IsReady}
 use Rattle.pas_threads.proofs.{Closing.turns_stand, Staging.team_stands, TakingTurns.pass_still, TakingTurns.woke_rest}
 use Rattle.pas_threads.proofs.Keepers.{alike_same, guarded_alike, kept_waits, kept_still}
+use Rattle.pas_records.specs.declared.record.Record.{Record}
+use Rattle.pas_records.specs.Rooms.{room_of}
 
 -- ---- a thread
 cost_le : (f : Profile) (work : Work) → cost_of_work work ≤ records_of_work f work
@@ -124,9 +124,11 @@ by_last k (suc n) rs =
 
 -- Each thread and its keeper said no more than what they owed before, and the thread's operations, pay for, with what they owe afterwards: so all did.
 pub all_paid : (f planned : Profile) (threads : ℕ) (ops : List Op) (said : List Record) (old new : List Worker) (p q : Progress) (n : ℕ)
-    → ((i : ℕ) → i < n → length (records_by (suc i) said) + length (records_by (threads + suc i) said) + (owed_at f (suc i) q + owed_kept f (threads + suc i) (keeper_at new i) q)
+    → ((i : ℕ) → i < n → length (records_by (suc i) said) + length (records_by (threads + suc i) said)
+    + (owed_at f (suc i) q + owed_kept f (threads + suc i) (keeper_at new i) q)
     ≤ owed_at f (suc i) p + owed_kept f (threads + suc i) (keeper_at old i) p + own_records planned (suc i) ops)
-    → length (by_actors 1 n said) + length (by_actors (threads + 1) n said) + (owed_by f q n + owed_by_keepers f threads new q n) ≤ owed_by f p n + owed_by_keepers f threads old p n + own_by planned ops n
+    → length (by_actors 1 n said) + length (by_actors (threads + 1) n said) + (owed_by f q n + owed_by_keepers f threads new q n)
+    ≤ owed_by f p n + owed_by_keepers f threads old p n + own_by planned ops n
 all_paid f planned threads ops said old new p q zero few = omega arith
 all_paid f planned threads ops said old new p q (suc n) few =
     let rest = all_paid f planned threads ops said old new p q n in grind (arith, rest, by_last)

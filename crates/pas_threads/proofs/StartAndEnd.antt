@@ -1,11 +1,10 @@
 -- How a kit is made, where its team stands when a replay starts, and what its end gives.
 use Rattle.std.proofs.Common.{◌≡◌, ◌≢◌, ℕ, zero, suc, ◌+◌, ◌*◌, ◌<◌, ◌≤◌, ◌==◌, List, [], ◌∷◌, ◌++◌, length, map, get_or, slice_index, slice_index_or, Bool}
 use Rattle.std.proofs.Common.{if◌then◌else◌, inl, inr, Option, Some, None, refl, ap, sym, ◌∙◌, subst, arith, MatchOption, eq-eqb, ne_eqb, length-set, ◌-◌, ◌/◌}
-use Rattle.std.proofs.Common.{All, length-append, drop, append_assoc, append-nil}
+use Rattle.std.proofs.Common.{All, length-append, drop, append_assoc, append-nil, ◌⊎◌}
 use Rattle.std.specs.List.{remove}
-use Rattle.std.proofs.{Math.ListN.set, Math.Nat.suc-mul, lemmas.Bool.cases_eq, lemmas.List.length-map, lemmas.Bool.cases_lt, lemmas.List.get_or-map}
-use Rattle.std.proofs.{Math.ListN.get_or-append, Math.Seq.get_or-append-add, lemmas.Option.same_Some, lemmas.List.drop_more}
-use Rattle.std.proofs.lemmas.List.Elements.{All-set, All-cons, All-map, All-append}
+use Rattle.std.proofs.{Math.ListN.set, Math.ListN.get_or-append, Math.Nat.suc-mul, lemmas.Bool.cases_eq, lemmas.Bool.cases_lt, lemmas.List.length-map}
+use Rattle.std.proofs.{lemmas.List.drop_more, lemmas.List.get_or_push, Math.Seq.get_or-append-add, lemmas.Option.same_Some, lemmas.List.Elements.All-set}
 use Rattle.pas_profile.specs.{Rooms.shown, Rooms.size_of_room, Rooms.EventRoom, Profiles.IsValid}
 use Rattle.pas_profile.specs.declared.profile.Profile.{Profile}
 use Rattle.pas_trace.specs.Acts.{Act, Settles, act_kept, own_acts}
@@ -14,8 +13,6 @@ use Rattle.pas_trace.specs.EveryPlan.{AreKept, all_ops, own_records, kept_of_wor
 use Rattle.pas_trace.specs.Plans.{IsPlanOf, bounds_of, ops_of, phases_of as the_phases}
 use Rattle.pas_trace.specs.declared.plan.{Op.Op, Phase.Phase, Plan.Plan, What.What}
 use Rattle.pas_trace.proofs.{EveryPlan.every_phase, EveryPlan.every_plan, EveryPlan.few_operations, Keepers.plan_actors}
-use Rattle.pas_report.specs.Rooms.{records_in, room_of, Records}
-use Rattle.pas_report.specs.declared.record.Record.{Record}
 use Rattle.pas_guard.specs.Books.{FitsBook, guards_in, is_outer}
 use Rattle.pas_guard.specs.declared.book.Guard.{Guard}
 use Rattle.pas_cache.specs.Caches.{Cached, cached}
@@ -27,35 +24,37 @@ use Rattle.pas_answers.specs.Replays.{at_start, phases_of, region_of, threads_of
 use Rattle.pas_acts.specs.{PlanKeepers.one_guarded, PlanKeepers.guarded_of, Parts.AreRooms, Shares.AreKeptBehind, Keepers.LaterKept, Keepers.KeeperAt}
 use Rattle.pas_acts.specs.{Keepers.keeper_has, Pairs.for_guards, Pairs.AreTriedBy, Pairs.AreUnguarded}
 use Rattle.pas_acts.proofs.PlanFacts.{is_guarded, pages_owed_at_first, plan_threads, plan_above, wider_sound, no_slots}
-use Rattle.pas_acts.proofs.{Naming.below_all, PhaseActs.active_within, Naming.names_at_start}
+use Rattle.pas_acts.proofs.{Naming.below_all, Naming.names_at_start, PhaseActs.active_within}
 use Rattle.pas_steps.proofs.Nothing.{nothing_yet}
-use Rattle.pas_threads.specs.Hands.{standing_of_pass, HasPass}
-use Rattle.pas_threads.specs.Kits.{IsEquipped, AreEquipped, IsNew, AreNew, IsSupplied, IsKeeperFor, IsKitOf, AreAllBack, slots_of, kept_pass, kept_passes}
+use Rattle.pas_threads.specs.Hands.{standing_of_pass}
+use Rattle.pas_threads.specs.Kits.{IsEquipped, AreEquipped, IsNew, AreNew, IsSupplied, IsKeeperFor, IsKitOf, slots_of, kept_pass, IsBack, passes_in}
 use Rattle.pas_threads.specs.Pairs.{no_more, KeeperRests, owed_kept, keeper_at, owed_by_keepers, AreGuarded, HasKeeper, IsLow, KeeperStands}
 use Rattle.pas_threads.specs.Sessions.{Session, WorkerRests, ScavengerRests, TeamAt, HasRoom, owed_by, IsOfActors, HasReplayed}
 use Rattle.pas_threads.specs.declared.{keeper.Keeper.Keeper, kit.SharedKit.SharedKit, scavenger.Scavenger.Scavenger, workers.Worker.Worker, phases.Team.Team}
-use Rattle.pas_threads.proofs.{Dealt.some_item, Keepers.keeper_is, TakingTurns.set_each, Keepers.stands_for, Staging.nothing_since, Staging.of_first}
-use Rattle.pas_threads.proofs.{Staging.stand_all}
+use Rattle.pas_threads.proofs.{Dealt.some_item, Keepers.keeper_is, Keepers.stands_for, TakingTurns.set_each, TakingTurns.each_pushed, Staging.nothing_since}
+use Rattle.pas_threads.proofs.{Staging.of_first, Staging.stand_all}
 use Rattle.pas_steps.specs.{Clear.HasNothing, Lists.Whole, Lists.part, Lists.Legal}
 use Rattle.pas_steps.specs.declared.state.State.{State}
 use Rattle.pas_shared.specs.Ledgers.{EndsAfter}
 use Rattle.pas_answers.proofs.Consequences.{replays}
+use Rattle.pas_records.specs.Rooms.{records_in, room_of, Records}
+use Rattle.pas_records.specs.declared.record.Record.{Record}
 
 -- ---- equipping
-pub equipped_more : (bounds : List ℕ) (k n : ℕ) (passes : List SharedPass) (workers : List Worker) (pass : SharedPass) (worker : Worker)
-    → AreEquipped bounds k passes workers → n ≡ k + length workers
-    → IsEquipped pass (slice_index bounds n) worker → AreEquipped bounds k (passes ++ pass ∷ []) (workers ++ worker ∷ [])
-equipped_more bounds k n [] [] pass worker are at new = (subst (λ (m : ℕ). IsEquipped pass (slice_index bounds m) worker) (omega (arith, at)) new, tt)
-equipped_more bounds k n (p ∷ passes) (w ∷ workers) pass worker are at new =
-    (are.0, equipped_more bounds (k + 1) n passes workers pass worker are.1 (omega (arith, at)) new)
-equipped_more bounds k n passes workers pass worker are at new = absurd are
-
--- As many workers are equipped as there are passes for them.
-pub equipped_many : (bounds : List ℕ) (k : ℕ) (passes : List SharedPass) (workers : List Worker) → AreEquipped bounds k passes workers
-    → length workers ≡ length passes
-equipped_many bounds k [] [] are = refl
-equipped_many bounds k (p ∷ passes) (w ∷ workers) are = ap suc (equipped_many bounds (k + 1) passes workers are.1)
-equipped_many bounds k passes workers are = absurd are
+pub equipped_more : {bounds : List ℕ} {passes after : List SharedPass} {workers now : List Worker} (pass : SharedPass) (worker : Worker)
+    → after ≡ passes ++ pass ∷ [] → now ≡ workers ++ worker ∷ [] → AreEquipped bounds passes workers
+    → IsEquipped pass (slice_index bounds (suc (length workers))) worker → AreEquipped bounds after now
+equipped_more {bounds} {passes} {after} {workers} {now} pass worker first second are new = record {
+  many =
+      let one = ap length first in
+      let two = ap length second in
+      omega (arith, one, two, length-append passes (pass ∷ []), length-append workers (worker ∷ []), are.many);
+  each = λ i d e lt.
+      each_pushed (λ (m : ℕ) (w : Worker). (p : SharedPass) → IsEquipped (get_or after m p) (slice_index bounds (suc m)) w) workers worker second
+      (λ p. subst (λ q. IsEquipped q (slice_index bounds (suc (length workers))) worker) (sym (ap (λ ps. get_or ps (length workers) p) first ∙ get_or_push passes pass p (length workers) (sym are.many))) new)
+      (λ m f less p. subst (λ q. IsEquipped q (slice_index bounds (suc m)) (get_or workers m f))
+      (sym (ap (λ ps. get_or ps m p) first ∙ get_or-append passes (pass ∷ []) p m (omega (arith, less, are.many)))) (are.each m p f less)) i e lt d;
+}
 
 -- ---- rooms that move
 -- a room of the same size without an event, in the place of one of these
@@ -70,17 +69,26 @@ one_moved sizes count rooms i old new lt is size none are = record {
 }
 
 -- ---- the kit
--- the passes of a region that was just opened are new
-pub fresh_new : (region : SharedRegion) (bounds : List ℕ) (k : ℕ) (rooms : List EventRoom) (passes : List SharedPass)
+fresh_new : (region : SharedRegion) (bounds : List ℕ) (k : ℕ) (rooms : List EventRoom) (passes : List SharedPass)
     → AreFresh region.table.shared.table_id region.profile k rooms passes
-    → ((i : ℕ) (d : EventRoom) → i < length rooms → size_of_room (slice_index_or rooms i d) ≡ slice_index bounds (k + i)) → AreNew region bounds k passes
-fresh_new region bounds k [] [] fresh sizes = tt
-fresh_new region bounds k (room ∷ rooms) (pass ∷ passes) fresh sizes =
-    let one = fresh.0 in (
-      record { of_region = one.of_table; actor = one.actor_is; room = one.room_is ∙ sizes 0 room (omega arith) ∙ ap (slice_index bounds) (omega arith); no_step = one.view_is },
-      fresh_new region bounds (k + 1) rooms passes fresh.1 (λ i d lt. sizes (suc i) d (omega (arith, lt)) ∙ ap (slice_index bounds) (omega arith)),
-    )
-fresh_new region bounds k rooms passes fresh sizes = absurd fresh
+    → ((i : ℕ) (d : EventRoom) → i < length rooms → size_of_room (slice_index_or rooms i d) ≡ slice_index bounds (k + i))
+    → (i : ℕ) (d : SharedPass) → i < length passes → IsNew region (k + i) (slice_index bounds (k + i)) (slice_index_or passes i d)
+fresh_new region bounds k [] [] fresh sizes i d lt = absurd (omega (arith, lt))
+fresh_new region bounds k (room ∷ rooms) (pass ∷ passes) fresh sizes zero d lt =
+    let one = fresh.0 in
+    record { of_region = one.of_table; actor = one.actor_is ∙ omega arith; room = one.room_is ∙ sizes 0 room (omega arith); no_step = one.view_is }
+fresh_new region bounds k (room ∷ rooms) (pass ∷ passes) fresh sizes (suc i) d lt =
+    subst (λ n. IsNew region n (slice_index bounds n) (slice_index_or passes i d)) (let is : k + 1 + i ≡ k + suc i = omega arith in is)
+    (fresh_new region bounds (k + 1) rooms passes fresh.1 (λ j e less. sizes (suc j) e (omega (arith, less)) ∙ ap (slice_index bounds) (omega arith)) i d (omega (arith, lt)))
+fresh_new region bounds k rooms passes fresh sizes i d lt = absurd fresh
+
+-- the passes of a region that was just opened are new
+pub all_new : (region : SharedRegion) (bounds : List ℕ) (rooms : List EventRoom) (passes : List SharedPass)
+    → AreFresh region.table.shared.table_id region.profile 0 rooms passes
+    → ((i : ℕ) (d : EventRoom) → i < length rooms → size_of_room (slice_index_or rooms i d) ≡ slice_index bounds i) → AreNew region bounds passes
+all_new region bounds rooms passes fresh sizes i d lt =
+    subst (λ n. IsNew region n (slice_index bounds n) (slice_index_or passes i d)) (let is : 0 + i ≡ i = omega arith in is)
+    (fresh_new region bounds 0 rooms passes fresh (λ j e less. sizes j e less ∙ ap (slice_index bounds) (omega arith)) i d lt)
 
 -- the first, once it is taken out, and the others
 pub first_taken : {A : Type 0} (all rest : List A) (first : A) → 0 < length all → first ≡ slice_index_or all 0 first → rest ≡ remove all 0 → all ≡ first ∷ rest
@@ -134,7 +142,9 @@ none_more later events guards counted =
     (omega (arith, counted.0), omega (arith, counted.1), omega (arith, counted.2))
 
 guards_one : (t : Bool) (line actor : ℕ) (what : What) (acts : List Act) (events guards : ℕ) → AreCounted (for_guards acts no_more) events guards
-    → AreCounted (for_guards (if t then act_kept (keeper_in what) (record { line = line; actor = actor; what = what }) ∷ (Settles actor ∷ acts) else acts) no_more) ((if t then kept_of_work (work_of what) else 0) + events) ((if t then one_guarded (keeper_in what) else 0) + guards)
+    → AreCounted
+    (for_guards (if t then act_kept (keeper_in what) (record { line = line; actor = actor; what = what }) ∷ (Settles actor ∷ acts) else acts) no_more)
+    ((if t then kept_of_work (work_of what) else 0) + events) ((if t then one_guarded (keeper_in what) else 0) + guards)
 guards_one a line actor what acts events guards counted = search (arith, none_more)
 
 guards_own : (k : ℕ) (ops : List Op) → AreCounted (for_guards (own_acts k ops) no_more) (kept_records k ops) (guarded_of k ops)
@@ -178,20 +188,6 @@ starts_at region f k bound later pass worker of_profile within unused has =
       requests = omega (arith, requests, within);
     }
 
-all_start : (region : SharedRegion) (f : Profile) (bounds : List ℕ) (k : ℕ) (later : ℕ → ℕ) (passes : List SharedPass) (workers : List Worker)
-    → region.profile ≡ f → AreNew region bounds k passes → AreEquipped bounds k passes workers
-    → ((i : ℕ) → i < length workers → f.pages + later (k + i) ≤ slice_index bounds (k + i)) → (i : ℕ) (d : Worker) → i < length workers
-    → WorkerRests region f (k + i) (get_or workers i d) (later (k + i)) at_start
-all_start region f bounds k later [] [] of_profile unused have within i d bad = absurd (omega (arith, bad))
-all_start region f bounds k later (p ∷ passes) (w ∷ workers) of_profile unused have within zero d lt =
-    subst (λ (n : ℕ). WorkerRests region f n w (later n) at_start) (omega arith)
-    (starts_at region f k (slice_index bounds k) (later k) p w of_profile (subst (λ n. f.pages + later n ≤ slice_index bounds n) (omega arith) (within 0 (omega arith))) unused.0 have.0)
-all_start region f bounds k later (p ∷ passes) (w ∷ workers) of_profile unused have within (suc i) d lt =
-    subst (λ (n : ℕ). WorkerRests region f n (get_or workers i d) (later n) at_start) (omega arith)
-    (all_start region f bounds (k + 1) later passes workers of_profile unused.1 have.1
-    (λ j le. subst (λ n. f.pages + later n ≤ slice_index bounds n) (omega arith) (within (suc j) (omega (arith, le)))) i d (omega (arith, lt)))
-all_start region f bounds k later passes workers of_profile unused have within i d lt = absurd have
-
 scavenger_starts : (region : SharedRegion) (f : Profile) (bound later : ℕ) (pass : SharedPass) (scavenger : Scavenger) → region.profile ≡ f → later ≤ bound
     → IsNew region 0 bound pass → IsSupplied f pass bound scavenger
     → ScavengerRests region f scavenger later at_start
@@ -222,25 +218,6 @@ owed_start f (suc n) =
 -- the region of the plan, its threads and its keepers
 abbrev pub session_of : Plan → Session
 session_of plan = record { profile = region_of plan; threads = threads_of plan; keepers = keepers_of plan }
-
--- all but the first, and those behind so many of them
-some_new : (region : SharedRegion) (bounds : List ℕ) (k : ℕ) (xs ys : List SharedPass) → AreNew region bounds k (xs ++ ys) → AreNew region bounds k xs
-some_new region bounds k [] ys unused = tt
-some_new region bounds k (x ∷ xs) ys unused = (unused.0, some_new region bounds (k + 1) xs ys unused.1)
-
-others_new : (region : SharedRegion) (bounds : List ℕ) (k : ℕ) (xs ys : List SharedPass) → AreNew region bounds k (xs ++ ys)
-    → AreNew region bounds (k + length xs) ys
-others_new region bounds k [] ys unused = subst (λ (n : ℕ). AreNew region bounds n ys) (let is : k ≡ k + 0 = omega arith in is) unused
-others_new region bounds k (x ∷ xs) ys unused = subst (λ n. AreNew region bounds n ys) (let is : k + 1 + length xs ≡ k + suc (length xs) = omega arith in is) (others_new region bounds (k + 1) xs ys unused.1)
-
-new_at : (region : SharedRegion) (bounds : List ℕ) (k : ℕ) (passes : List SharedPass) (i : ℕ) (d : SharedPass) → i < length passes
-    → AreNew region bounds k passes → IsNew region (k + i) (slice_index bounds (k + i)) (slice_index_or passes i d)
-new_at region bounds k [] i d lt unused = absurd (omega (arith, lt))
-new_at region bounds k (pass ∷ passes) zero d lt unused =
-    subst (λ n. IsNew region n (slice_index bounds n) pass) (let is : k ≡ k + 0 = omega arith in is) unused.0
-new_at region bounds k (pass ∷ passes) (suc i) d lt unused =
-    subst (λ n. IsNew region n (slice_index bounds n) (slice_index_or passes i d)) (let is : k + 1 + i ≡ k + suc i = omega arith in is)
-    (new_at region bounds (k + 1) passes i d (omega (arith, lt)) unused.1)
 
 -- a keeper that made no step waits for all guarded requests of its thread
 keeper_starts : (region : SharedRegion) (plan : Plan) (k : ℕ) (pass : SharedPass) (o : Option Keeper) → region.profile ≡ region_of plan
@@ -278,15 +255,16 @@ keeper_starts region plan k pass o of_profile tried within unused has =
 -- each keeper of the plan rests, if it has some
 kept_start : {text : List ℕ} {plan : Plan} {kit : SharedKit} → IsPlanOf text plan → IsKitOf plan kit → AreGuarded (keepers_of plan) kit.team.threads.items
     → length kit.team.threads.items ≡ threads_of plan → (i : ℕ) (d : Worker) → i < length kit.team.threads.items
-    → KeeperRests kit.region (region_of plan) (threads_of plan + suc i) (own_acts (suc i) (all_ops (phases_of plan))) (get_or kit.team.threads.items i d).keeper at_start
+    → KeeperRests kit.region (region_of plan) (threads_of plan + suc i) (own_acts (suc i) (all_ops (phases_of plan)))
+    (get_or kit.team.threads.items i d).keeper at_start
 kept_start {text} {plan} {kit} read made (inl all) many i d lt =
     let plans = every_plan read in
     let some = is_guarded plan (omega (arith, all.0, lt)) in
     let had = made.team.keepers in
     let e = some_item made.kept 0 (omega (arith, had.0, all.0, lt)) in
-    let unused = new_at kit.region (bounds_of plan.bounds) (1 + length made.others) made.kept i e (omega (arith, had.0, all.0, lt))
-    (others_new kit.region (bounds_of plan.bounds) 1 made.others made.kept made.unused.1) in
-    let place : 1 + length made.others + i ≡ threads_of plan + suc i = omega (arith, made.many) in
+    let unused = subst (IsNew kit.region (suc (length made.others + i)) (slice_index (bounds_of plan.bounds) (suc (length made.others + i)))) (get_or-append-add made.others made.kept i e)
+    (made.unused (suc (length made.others + i)) e (omega (arith, had.0, all.0, lt, length-append made.others made.kept))) in
+    let place : suc (length made.others + i) ≡ threads_of plan + suc i = omega (arith, made.many) in
     let bound = plans.kept (suc i) some (omega arith) (omega (arith, lt, many)) in
     keeper_starts kit.region plan (suc i) (slice_index_or made.kept i e) (get_or kit.team.threads.items i d).keeper made.profile
     (tried_own plan.profile plan.guard (suc i) (all_ops (phases_of plan)) plans.keepers)
@@ -305,7 +283,7 @@ start {text} {plan} {kit} read made =
     let bounds = bounds_of plan.bounds in
     let ops = all_ops (phases_of plan) in
     let plans = every_plan read in
-    let many = equipped_many bounds 1 made.others kit.team.threads.items made.team.workers ∙ made.many in
+    let many = made.team.workers.many ∙ made.many in
     let scavenger = plans.scavenger in
     let count = few_operations read in
     let actors = plan_actors plan in
@@ -320,14 +298,18 @@ start {text} {plan} {kit} read made =
       };
       workers = record {
         many = many;
-        threads = λ i d lt. subst (λ n. WorkerRests kit.region f n (get_or kit.team.threads.items i d) (own_records plan.profile n ops) at_start) (omega arith)
-            (all_start kit.region f bounds 1 (λ k. own_records plan.profile k ops) made.others kit.team.threads.items made.profile (some_new kit.region bounds 1 made.others made.kept made.unused.1) made.team.workers
-            (λ j le. let own = plans.own (1 + j) (omega arith) (omega (arith, le, many)) in omega (arith, own)) i d lt);
+        threads = λ i d lt.
+            let e = some_item made.others 0 (omega (arith, lt, made.team.workers.many)) in
+            let unused = subst (IsNew kit.region (suc i) (slice_index bounds (suc i))) (get_or-append made.others made.kept e i (omega (arith, lt, made.team.workers.many)))
+            (made.unused (suc i) e (omega (arith, lt, made.team.workers.many, length-append made.others made.kept))) in
+            let own = plans.own (suc i) (omega arith) (omega (arith, lt, many)) in
+            starts_at kit.region f (suc i) (slice_index bounds (suc i)) (own_records plan.profile (suc i) ops) (get_or made.others i e) (get_or kit.team.threads.items i d) made.profile
+            (omega (arith, own)) unused (made.team.workers.each i e d lt);
         guarded = made.team.keepers.1;
         kept = kept_start read made made.team.keepers.1 many;
       };
       scavenger = scavenger_starts kit.region f (slice_index bounds 0) (own_records plan.profile 0 ops) made.first kit.team.scavenger made.profile
-          (omega (arith, scavenger)) made.unused.0 made.team.scavenger;
+          (omega (arith, scavenger)) (made.unused 0 made.first (omega arith)) made.team.scavenger;
       nobody = λ k past. refl;
       names = names_at_start f ops kit.team.book (wider_sound plan.profile f.threads threads [] ops plans.operations) (plan_above read)
           (below_all (names_held kit.team.book.names) (phases_of plan) made.team.book.names) made.team.book.no_name;
@@ -397,7 +379,7 @@ start_room : {text : List ℕ} {plan : Plan} {kit : SharedKit} (out : Records) �
     → HasRoom (session_of plan) (phases_of plan) (length (the_phases plan.phases) + 1) kit.team.threads.items out at_start
 start_room {text} {plan} {kit} out read made empty room =
     let owed = owed_start (region_of plan) (threads_of plan) in
-    let many_workers = equipped_many (bounds_of plan.bounds) 1 made.others kit.team.threads.items made.team.workers ∙ made.many in
+    let many_workers = made.team.workers.many ∙ made.many in
     let kept = kept_owed made made.team.keepers.1 many_workers in
     let total = (every_plan read).total in
     let actors = ap (λ (n : ℕ). n * (region_of plan).pages) (plan_actors plan) in
@@ -415,28 +397,6 @@ handed {text} {plan} {kit} out slice read made is empty room =
     rw is (start read made, start_room out read made empty room)
 
 -- ---- handing back
--- the worker has its pass
-abbrev pub IsBack : Worker → Type 0
-IsBack worker = (pass : SharedPass) × (worker.pass ≡ Some pass)
-
--- Where all passes are back, the scavenger has its pass.
-pub first_back : (team : Team) → AreAllBack team → (pass : SharedPass) × (team.scavenger.pass ≡ Some pass)
-first_back team back = back 0 None (omega arith)
-
--- Where all passes are back, each worker has its pass.
-pub others_back : (team : Team) → AreAllBack team → All IsBack team.threads.items
-others_back team back i d lt =
-    let own = map (λ (w : Worker). w.pass) team.threads.items in
-    let kept = kept_passes team.threads.items in
-    let size = length-map team.threads.items (λ (w : Worker). w.pass) in
-    let both = length-append own kept in
-    let it = back (suc i) None (omega (arith, lt, size, both)) in
-    (it.0, sym (get_or-map (λ (w : Worker). w.pass) team.threads.items i d None lt) ∙ sym (get_or-append own kept None i (omega (arith, lt, size))) ∙ it.1)
-
-some_pass : (passes : List SharedPass) → 1 ≤ length passes → SharedPass
-some_pass [] bad = absurd (omega (arith, bad))
-some_pass (pass ∷ passes) some = pass
-
 -- in a legal list no actor but those of the profile has a part
 nobody_past : (f : Profile) (l : Whole) (k : ℕ) → f.threads < k → Legal f l → part k l ≡ []
 nobody_past f [] k past legal = refl
@@ -450,125 +410,137 @@ record IsOwn (region : SharedRegion) (l : Whole) (k : ℕ) (pass : SharedPass) :
   actor : (seat_of pass).actor ≡ k
   part_is : view_of pass ≡ part k l
 
--- the pass at a slot is the one that it has
-own_at : (region : SharedRegion) (l : Whole) (k : ℕ) (slot : Option SharedPass) (has : HasPass region slot) (pass : SharedPass) → slot ≡ Some pass
-    → (seat_of has.pass).actor ≡ k → view_of has.pass ≡ part k l → IsOwn region l k pass
-own_at region l k slot has pass at actor is =
-    subst (IsOwn region l k) (same_Some has.pass pass (sym has.present ∙ at)) (record { of_region = has.of; actor = actor; part_is = is })
+-- ---- the passes of all actors
+-- this slot is one of these
+abbrev IsAmong : Option SharedPass → List (Option SharedPass) → Type 0
+IsAmong slot [] = ⊥
+IsAmong slot (s ∷ slots) = (s ≡ slot) ⊎ IsAmong slot slots
 
--- there is a pass
-abbrev IsBackAt : Option SharedPass → Type 0
-IsBackAt slot = (pass : SharedPass) × (slot ≡ Some pass)
+among_back : (slot : Option SharedPass) (xs ys : List (Option SharedPass)) → IsAmong slot ys → IsAmong slot (xs ++ ys)
+among_back slot [] ys is = is
+among_back slot (x ∷ xs) ys is = inr (among_back slot xs ys is)
 
--- ---- the passes of the keepers
-no_pass : (workers : List Worker) → ((i : ℕ) (d : Worker) → i < length workers → (get_or workers i d).keeper ≡ None) → kept_passes workers ≡ []
-no_pass [] none = refl
-no_pass (w ∷ ws) none = ap (λ o. kept_pass o ++ kept_passes ws) (none 0 w (omega arith)) ∙ no_pass ws (λ i d lt. none (suc i) d (omega (arith, lt)))
+thread_among : (workers : List Worker) (i : ℕ) (d : Worker) → i < length workers → IsAmong (get_or workers i d).pass (passes_in workers)
+thread_among [] i d lt = absurd (omega (arith, lt))
+thread_among (w ∷ ws) zero d lt = inl refl
+thread_among (w ∷ ws) (suc i) d lt = inr (among_back (get_or ws i d).pass (kept_pass w.keeper) (passes_in ws) (thread_among ws i d (omega (arith, lt))))
 
--- one for each worker
-a_pass : (workers : List Worker) → ((i : ℕ) (d : Worker) → i < length workers → HasKeeper (get_or workers i d)) → length (kept_passes workers) ≡ length workers
-a_pass [] all = refl
-a_pass (w ∷ ws) all =
-    let one = ap (λ (o : Option Keeper). length (kept_pass o ++ kept_passes ws)) (all 0 w (omega arith)).1 in
-    let rest = a_pass ws (λ i d lt. all (suc i) d (omega (arith, lt))) in
+keeper_among : (workers : List Worker) (i : ℕ) (d : Worker) (keeper : Keeper) → i < length workers → (get_or workers i d).keeper ≡ Some keeper
+    → IsAmong (Some keeper.pass) (passes_in workers)
+keeper_among [] i d keeper lt is = absurd (omega (arith, lt))
+keeper_among (w ∷ ws) zero d keeper lt is = inr (subst (λ (o : Option Keeper). IsAmong (Some keeper.pass) (kept_pass o ++ passes_in ws)) (sym is) (inl refl))
+keeper_among (w ∷ ws) (suc i) d keeper lt is =
+    inr (among_back (Some keeper.pass) (kept_pass w.keeper) (passes_in ws) (keeper_among ws i d keeper (omega (arith, lt)) is))
+
+-- of what is so of each slot of a worker
+module _ (Is : Option SharedPass → Type 0) where
+  of_kept : (o : Option Keeper) (ws : List Worker) (slot : Option SharedPass) → ((keeper : Keeper) → o ≡ Some keeper → Is (Some keeper.pass))
+      → (IsAmong slot (passes_in ws) → Is slot) → IsAmong slot (kept_pass o ++ passes_in ws) → Is slot
+  of_kept None ws slot kept rest is = rest is
+  of_kept (Some keeper) ws slot kept rest (inl is) = subst Is is (kept keeper refl)
+  of_kept (Some keeper) ws slot kept rest (inr later) = rest later
+
+  of_each : (workers : List Worker) (slot : Option SharedPass) → ((i : ℕ) (d : Worker) → i < length workers → Is (get_or workers i d).pass)
+      → ((i : ℕ) (d : Worker) (keeper : Keeper) → i < length workers → (get_or workers i d).keeper ≡ Some keeper → Is (Some keeper.pass))
+      → IsAmong slot (passes_in workers) → Is slot
+  of_each [] slot own kept is = absurd is
+  of_each (w ∷ ws) slot own kept (inl is) = subst Is is (own 0 w (omega arith))
+  of_each (w ∷ ws) slot own kept (inr later) = of_kept w.keeper ws slot (λ keeper is. kept 0 w keeper (omega arith) is)
+      (of_each ws slot (λ i d lt. own (suc i) d (omega (arith, lt))) (λ i d keeper lt is. kept (suc i) d keeper (omega (arith, lt)) is)) later
+
+-- a pass that is among these stands at a place of them, and one at a place is among them
+abbrev pub slots_for : List SharedPass → List (Option SharedPass)
+slots_for passes = map (λ (pass : SharedPass). Some pass) passes
+
+place_of : (passes : List SharedPass) (pass : SharedPass) → IsAmong (Some pass) (slots_for passes)
+    → (n : ℕ) × (n < length passes) × ((d : SharedPass) → get_or passes n d ≡ pass)
+place_of [] pass is = absurd is
+place_of (p ∷ passes) pass (inl is) = (0, omega arith, λ d. same_Some p pass is)
+place_of (p ∷ passes) pass (inr later) = let rest = place_of passes pass later in (suc rest.0, omega (arith, rest.1), rest.2)
+
+at_place : (passes : List SharedPass) (n : ℕ) (d : SharedPass) → n < length passes → IsAmong (Some (get_or passes n d)) (slots_for passes)
+at_place [] n d lt = absurd (omega (arith, lt))
+at_place (p ∷ passes) zero d lt = inl refl
+at_place (p ∷ passes) (suc n) d lt = inr (at_place passes n d (omega (arith, lt)))
+
+-- how many they are
+slots_many : (workers : List Worker) → ((i : ℕ) (d : Worker) → i < length workers → HasKeeper (get_or workers i d))
+    → length (passes_in workers) ≡ length workers + length workers
+slots_many [] all = omega arith
+slots_many (w ∷ ws) all =
+    let one = ap (λ (o : Option Keeper). length (kept_pass o ++ passes_in ws)) (all 0 w (omega arith)).1 in
+    let rest = slots_many ws (λ i d lt. all (suc i) d (omega (arith, lt))) in
     omega (arith, one, rest)
 
-pass_at : (workers : List Worker) (i : ℕ) (d : Worker) (keeper : Keeper) → ((j : ℕ) (e : Worker) → j < length workers → HasKeeper (get_or workers j e))
-    → i < length workers → (get_or workers i d).keeper ≡ Some keeper → get_or (kept_passes workers) i None ≡ Some keeper.pass
-pass_at [] i d keeper all lt is = absurd (omega (arith, lt))
-pass_at (w ∷ ws) zero d keeper all lt is = ap (λ (o : Option Keeper). get_or (kept_pass o ++ kept_passes ws) 0 None) is
-pass_at (w ∷ ws) (suc i) d keeper all lt is =
-    let one = (all 0 w (omega arith)).1 in
-    ap (λ o. get_or (kept_pass o ++ kept_passes ws) (suc i) None) one
-    ∙ pass_at ws i d keeper (λ j e less. all (suc j) e (omega (arith, less))) (omega (arith, lt)) is
+slots_few : (workers : List Worker) → ((i : ℕ) (d : Worker) → i < length workers → (get_or workers i d).keeper ≡ None)
+    → length (passes_in workers) ≡ length workers
+slots_few [] none = refl
+slots_few (w ∷ ws) none =
+    let one = ap (λ (o : Option Keeper). length (kept_pass o ++ passes_in ws)) (none 0 w (omega arith)) in
+    let rest = slots_few ws (λ i d lt. none (suc i) d (omega (arith, lt))) in
+    omega (arith, one, rest)
 
-one_back : (o : Option Keeper) → All IsBackAt (kept_pass o)
-one_back None i d lt = absurd (omega (arith, lt))
-one_back (Some keeper) zero d lt = (keeper.pass, refl)
-one_back (Some keeper) (suc i) d lt = absurd (omega (arith, lt))
-
-kept_back : (workers : List Worker) → All IsBackAt (kept_passes workers)
-kept_back [] i d lt = absurd (omega (arith, lt))
-kept_back (w ∷ ws) i d lt = All-append IsBackAt (kept_pass w.keeper) (kept_passes ws) (one_back w.keeper) (kept_back ws) i d lt
-
--- as many as keepers
-kept_count : {keepers : ℕ} (workers : List Worker) → AreGuarded keepers workers → length (kept_passes workers) ≡ keepers
-kept_count workers a = search (arith, a_pass, no_pass)
+slots_count : {keepers : ℕ} (workers : List Worker) → AreGuarded keepers workers → length (passes_in workers) ≡ length workers + keepers
+slots_count workers (inl all) = omega (arith, all.0, slots_many workers all.1)
+slots_count workers (inr none) = omega (arith, none.0, slots_few workers none.1)
 
 module _ {region : SharedRegion} {s : Session} {team : Team} {end : Progress} (stands : TeamAt region s [] team end) where
-  abbrev own_passes : List (Option SharedPass)
-  own_passes = map (λ (w : Worker). w.pass) team.threads.items
-
-  -- all passes are back
-  pub all_back : AreAllBack team
-  all_back = All-cons IsBackAt team.scavenger.pass (own_passes ++ kept_passes team.threads.items) (stands.scavenger.has.pass, stands.scavenger.has.present)
-      (All-append IsBackAt own_passes (kept_passes team.threads.items) (All-map IsBackAt (λ (w : Worker). w.pass) team.threads.items
-      (λ i d lt. let has = (stands.workers.threads i d lt).here.has in (has.pass, has.present))) (kept_back team.threads.items))
-
   -- A team has a slot for the pass of each thread, each keeper and the scavenger.
   pub all_slots : length (slots_of team) ≡ s.threads + s.keepers + 1
-  all_slots =
-      let to = length-map team.threads.items (λ (w : Worker). w.pass) in
-      let both = length-append own_passes (kept_passes team.threads.items) in
-      let kept = kept_count team.threads.items stands.workers.guarded in
-      omega (arith, to, both, kept, stands.workers.many)
+  all_slots = omega (arith, slots_count team.threads.items stands.workers.guarded, stands.workers.many)
 
-  module _ (passes : List SharedPass) (back : map (λ (pass : SharedPass). Some pass) passes ≡ slots_of team) where
-    count : length passes ≡ s.threads + s.keepers + 1
-    count =
-        let same = ap length back in
-        let from = length-map passes (λ (pass : SharedPass). Some pass) in
-        omega (arith, same, from, all_slots)
+  -- Each worker has its pass.
+  pub all_back : All IsBack team.threads.items
+  all_back i d lt = let has = (stands.workers.threads i d lt).here.has in (has.pass, has.present)
 
-    -- the pass at number k is that of actor k
-    slot_is : (k : ℕ) (d : SharedPass) → k < length passes → get_or (slots_of team) k None ≡ Some (get_or passes k d)
-    slot_is k d lt = ap (λ slots. get_or slots k None) (sym back) ∙ get_or-map (λ (pass : SharedPass). Some pass) passes k d None lt
+  -- of the keeper at this place
+  its_keeper : (j : ℕ) (w : Worker) (keeper : Keeper) → j < length team.threads.items → (get_or team.threads.items j w).keeper ≡ Some keeper
+      → KeeperStands region s.profile (s.threads + suc j) keeper no_more end
+  its_keeper j w keeper below is = let rests = stands.workers.kept j w below in stands_for (get_or team.threads.items j w).keeper keeper is rests.of rests.waits
 
-    own_thread : (i : ℕ) (d : SharedPass) → suc i < length passes → i < length team.threads.items → IsOwn region end.list (suc i) (get_or passes (suc i) d)
-    own_thread i d lt below =
+  -- Each actor has a pass of its own in its slot.
+  abbrev OwnPass : ℕ → Type 0
+  OwnPass k = (pass : SharedPass) × IsOwn region end.list k pass × IsAmong (Some pass) (slots_of team)
+
+  own_keeper : (j : ℕ) → j < s.keepers → AreGuarded s.keepers team.threads.items → OwnPass (s.threads + suc j)
+  own_keeper j kept (inr none) = absurd (omega (arith, none.0, kept))
+  own_keeper j kept (inl all) =
+      let below : j < length team.threads.items = omega (arith, kept, all.0) in
+      let w = some_item team.threads.items j below in
+      let has = all.1 j w below in
+      let stood = its_keeper j w has.0 below has.1 in
+      (has.0.pass, record { of_region = stood.of; actor = stood.at.sits.actor; part_is = stood.at.sits.stood }, inr (keeper_among team.threads.items j w has.0 below has.1))
+
+  own_pass : (k : ℕ) → k ≤ s.threads + s.keepers → OwnPass k
+  own_pass zero le =
+      let has = stands.scavenger.has in
+      let sits = stands.scavenger.at.stands.sits in
+      (has.pass, record { of_region = has.of; actor = sits.actor; part_is = sits.stood }, inl has.present)
+  own_pass (suc i) le = elim (cases_lt i s.threads) [
+    | inl within ↦
+        let below : i < length team.threads.items = omega (arith, within, stands.workers.many) in
         let w = some_item team.threads.items i below in
-        let rests = stands.workers.threads i w below in
-        let size = length-map team.threads.items (λ (w : Worker). w.pass) in
-        let at = sym (get_or-map (λ (w : Worker). w.pass) team.threads.items i w None below)
-        ∙ sym (get_or-append own_passes (kept_passes team.threads.items) None i (omega (arith, below, size))) ∙ slot_is (suc i) d lt in
-        own_at region end.list (suc i) (get_or team.threads.items i w).pass rests.here.has
-        (get_or passes (suc i) d) at rests.here.rests.sits.actor rests.here.rests.sits.stood
+        let here = (stands.workers.threads i w below).here in (
+          here.has.pass,
+          record { of_region = here.has.of; actor = here.rests.sits.actor; part_is = here.rests.sits.stood },
+          inr (subst (λ slot. IsAmong slot (passes_in team.threads.items)) here.has.present (thread_among team.threads.items i w below)),
+        )
+    | inr past ↦
+        let place : s.threads + suc (i - s.threads) ≡ suc i = omega (arith, past) in
+        subst OwnPass place (own_keeper (i - s.threads) (omega (arith, past, le)) stands.workers.guarded)
+  ]
 
-    -- (for a keeper, which has its pass at its place behind the threads)
-    own_keeper : (j : ℕ) (d : SharedPass) → s.threads + suc j < length passes → j < s.keepers → AreGuarded s.keepers team.threads.items
-        → IsOwn region end.list (s.threads + suc j) (get_or passes (s.threads + suc j) d)
-    own_keeper j d lt kept (inr none) = absurd (omega (arith, none.0, kept))
-    own_keeper j d lt kept (inl all) =
-        let workers = team.threads.items in
-        let below : j < length workers = omega (arith, kept, all.0) in
-        let w = some_item workers j below in
-        let has = all.1 j w below in
-        let rests = stands.workers.kept j w below in
-        let stood : KeeperStands region s.profile (s.threads + suc j) has.0 no_more end = stands_for
-        (get_or workers j w).keeper has.0 has.1 rests.of rests.waits in
-        let size = length-map workers (λ (w : Worker). w.pass) in
-        let place : s.threads + suc j ≡ suc (length own_passes + j) = omega (arith, stands.workers.many, size) in
-        let at : Some has.0.pass ≡ Some (get_or passes (s.threads + suc j) d) =
-        cc (pass_at workers j w has.0 all.1 below has.1, get_or-append-add own_passes (kept_passes workers) j None, slot_is (s.threads + suc j) d lt) in
-        subst (IsOwn region end.list (s.threads + suc j)) (same_Some has.0.pass (get_or passes (s.threads + suc j) d) at)
-        (record { of_region = stood.of; actor = stood.at.sits.actor; part_is = stood.at.sits.stood })
+  -- what is in a slot is of the region
+  slot_of_region : (slot : Option SharedPass) → IsAmong slot (slots_of team) → (pass : SharedPass) → slot ≡ Some pass → IsPassOf region pass
+  slot_of_region slot (inl is) pass at = let has = stands.scavenger.has in subst (IsPassOf region) (same_Some has.pass pass (sym has.present ∙ is ∙ at)) has.of
+  slot_of_region slot (inr later) pass at = of_each (λ x. (pass : SharedPass) → x ≡ Some pass → IsPassOf region pass) team.threads.items slot
+      (λ i d lt own is. let has = (stands.workers.threads i d lt).here.has in subst (IsPassOf region) (same_Some has.pass own (sym has.present ∙ is)) has.of)
+      (λ i d keeper lt is own its. subst (IsPassOf region) (same_Some keeper.pass own its) (its_keeper i d keeper lt is).of) later pass at
 
-    own : (k : ℕ) (d : SharedPass) → k < length passes → IsOwn region end.list k (get_or passes k d)
-    own zero d lt =
-        let sits = stands.scavenger.at.stands.sits in
-        own_at region end.list 0 team.scavenger.pass stands.scavenger.has (get_or passes 0 d) (slot_is 0 d lt) sits.actor sits.stood
-    own (suc i) d lt =
-        elim (cases_lt i s.threads) [
-          | inl within ↦ own_thread i d lt (omega (arith, within, stands.workers.many))
-          | inr past ↦
-              let place : s.threads + suc (i - s.threads) ≡ suc i = omega (arith, past) in
-              subst (λ k. IsOwn region end.list k (get_or passes k d)) place
-              (own_keeper (i - s.threads) d (omega (arith, place, lt)) (omega (arith, past, lt, count)) stands.workers.guarded)
-        ]
-
+  module _ (passes : List SharedPass) (back : slots_for passes ≡ slots_of team) where
     -- The passes in the slots of a team at the end are all of its region.
     pub all_of_region : All (IsPassOf region) passes
-    all_of_region k d lt = (own k d lt).of_region
+    all_of_region n d lt = slot_of_region (Some (get_or passes n d)) (subst (IsAmong (Some (get_or passes n d))) back (at_place passes n d lt)) (get_or passes n d) refl
 
     -- the list of the closed region has of each actor the same part as that of the pieces
     same_parts : (whole : Whole) → s.profile.threads ≤ s.threads + s.keepers → Legal s.profile whole
@@ -576,10 +548,10 @@ module _ {region : SharedRegion} {s : Session} {team : Team} {end : Progress} (s
     same_parts whole every legal parts k = elim (cases_lt (s.threads + s.keepers) k) [
       | inl past ↦ nobody_past s.profile whole k (omega (arith, past, every)) legal ∙ sym (stands.nobody k past)
       | inr within ↦
-          let below : k < length passes = omega (arith, within, count) in
-          let d = some_pass passes (omega (arith, below)) in
-          let is = own k d below in
-          ap (λ (n : ℕ). part n whole) (sym is.actor) ∙ parts k d below ∙ is.part_is
+          let own = own_pass k within in
+          let at = place_of passes own.0 (subst (IsAmong (Some own.0)) (sym back) own.2) in
+          let its = subst (λ (pass : SharedPass). part (seat_of pass).actor whole ≡ view_of pass) (at.2 own.0) (parts at.0 own.0 at.1) in
+          ap (λ (n : ℕ). part n whole) (sym own.1.actor) ∙ its ∙ own.1.part_is
     ]
 
   -- at the end all actors have nothing, where no cache has a local allocator and no guard is up
@@ -600,10 +572,7 @@ module _ {region : SharedRegion} {s : Session} {team : Team} {end : Progress} (s
       let below : j < length workers = omega (arith, lt, all.0) in
       let w = some_item workers j below in
       let has = all.1 j w below in
-      let rests = stands.workers.kept j w below in
-      let stood : KeeperStands region s.profile (s.threads + suc j) has.0 no_more end = stands_for
-      (get_or workers j w).keeper has.0 has.1 rests.of rests.waits in
-      let fits = stood.at.sits.rest in
+      let fits = (its_keeper j w has.0 below has.1).at.sits.rest in
       let none = subst IsLow has.1 (low j w below) in
       record { grains = λ g. fits.held g ∙ ap (λ (gs : List Guard). is_outer gs (g / 256)) none; rights = fits.rights; clear = fits.clear }
 
@@ -652,12 +621,6 @@ replayed_so plan {region} {so_far} {team} {written} slice is replayed =
     subst (λ ps. HasReplayed region (session_of plan) (map ops_of ps) so_far team written) is replayed
 
 -- ---- how the passes of all actors are taken out, one after the other
-abbrev pub slots_for : List SharedPass → List (Option SharedPass)
-slots_for passes = map (λ (pass : SharedPass). Some pass) passes
-
-abbrev pub own_slots : List Worker → List (Option SharedPass)
-own_slots workers = map (λ (w : Worker). w.pass) workers
-
 -- as many passes as places
 pub as_many : (old now : List SharedPass) (left slots : List (Option SharedPass)) → slots_for now ++ left ≡ slots_for old ++ slots
     → length now + length left ≡ length old + length slots
@@ -679,40 +642,14 @@ out_more now after slots left next whole added is all =
 pub out_all : (now : List SharedPass) (left whole : List (Option SharedPass)) → left ≡ [] → slots_for now ++ left ≡ whole → slots_for now ≡ whole
 out_all now left whole none all = sym (append-nil (slots_for now)) ∙ ap (λ (ss : List (Option SharedPass)). slots_for now ++ ss) (sym none) ∙ all
 
--- the next places: those of the threads, and of the keepers
-pub own_next : (workers : List Worker) (i : ℕ) (w : Worker) → i < length workers → w ≡ get_or workers i w
-    → own_slots (drop i workers) ≡ (w.pass ∷ []) ++ own_slots (drop (i + 1) workers)
-own_next workers i w lt is = ap own_slots (drop_more workers i w lt) ∙ ap (λ (v : Worker). v.pass ∷ own_slots (drop (i + 1) workers)) (sym is)
+-- The places from one on are those of its worker and of those behind it.
+pub passes_next : (workers : List Worker) (i : ℕ) (w : Worker) → i < length workers → w ≡ get_or workers i w
+    → passes_in (drop i workers) ≡ w.pass ∷ (kept_pass w.keeper ++ passes_in (drop (i + 1) workers))
+passes_next workers i w lt is =
+    ap passes_in (drop_more workers i w lt) ∙ ap (λ (v : Worker). v.pass ∷ (kept_pass v.keeper ++ passes_in (drop (i + 1) workers))) (sym is)
 
--- The passes of keepers from a place on are that of its worker and those behind it.
-pub kept_next : (workers : List Worker) (i : ℕ) (w : Worker) → i < length workers → w ≡ get_or workers i w
-    → kept_passes (drop i workers) ≡ kept_pass w.keeper ++ kept_passes (drop (i + 1) workers)
-kept_next workers i w lt is = ap kept_passes (drop_more workers i w lt) ∙ ap (λ (v : Worker). kept_pass v.keeper ++ kept_passes (drop (i + 1) workers)) (sym is)
-
--- workers with the same keepers
-pub kept_same : (old new : List Worker) → length new ≡ length old → ((i : ℕ) (d : Worker) → i < length old → (get_or new i d).keeper ≡ (get_or old i d).keeper)
-    → kept_passes new ≡ kept_passes old
-kept_same [] [] many same = refl
-kept_same [] (w ∷ new) many same = absurd (let bad : suc (length new) ≡ 0 = many in omega (arith, bad))
-kept_same (v ∷ old) [] many same = absurd (let bad : 0 ≡ suc (length old) = many in omega (arith, bad))
-kept_same (v ∷ old) (w ∷ new) many same =
-    ap (λ (o : Option Keeper). kept_pass o ++ kept_passes new) (same 0 v (omega arith))
-    ∙ ap (λ (ss : List (Option SharedPass)). kept_pass v.keeper ++ ss) (kept_same old new (omega (arith, many)) (λ i d lt. same (suc i) d (omega (arith, lt))))
-
--- the scavenger's, then those of the threads, and then those of the keepers
-module _ (team : Team) (none one two : List SharedPass) (empty : none ≡ []) (first : slots_for one ≡ slots_for none ++ team.scavenger.pass ∷ [])
-    (own : slots_for two ≡ slots_for one ++ own_slots team.threads.items) where
-  own_out : slots_for two ≡ team.scavenger.pass ∷ own_slots team.threads.items
-  own_out = cc
-
-  -- There is a place left for each keeper's pass behind those of the scavenger and the threads.
-  pub places_left : length two + length (kept_passes team.threads.items) ≡ length (slots_of team)
-  places_left =
-      let same = ap length own_out in
-      let count = length-map two (λ (pass : SharedPass). Some pass) in
-      let both = length-append (own_slots team.threads.items) (kept_passes team.threads.items) in
-      omega (arith, same, count, both)
-
-  -- Once those of the keepers are out, too, the passes are those of all slots of the team.
-  pub all_out : (three : List SharedPass) → slots_for three ≡ slots_for two ++ kept_passes team.threads.items → slots_for three ≡ slots_of team
-  all_out three kept = kept ∙ ap (λ (ss : List (Option SharedPass)). ss ++ kept_passes team.threads.items) own_out
+-- The scavenger's pass and then those of the workers are those of all slots of the team.
+pub all_out : (team : Team) (none one two : List SharedPass) (slot : Option SharedPass) (workers : List Worker) → none ≡ []
+    → slots_for one ≡ slots_for none ++ slot ∷ [] → slot ≡ team.scavenger.pass → slots_for two ≡ slots_for one ++ passes_in workers
+    → workers ≡ team.threads.items → slots_for two ≡ slots_of team
+all_out team none one two slot workers empty first is own same = cc

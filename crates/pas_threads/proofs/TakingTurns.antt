@@ -2,15 +2,14 @@
 -- what a ledger heard of each, and of the benches that the hands of a phase left.
 use Rattle.std.proofs.Common.{arith, ◌≡◌, ℕ, ◌<◌, List, [], ◌++◌, length, get_or, sym, ◌∙◌, subst, ◌≢◌, inl, inr, ◌∷◌, set, refl, ap, append_assoc, suc, ◌+◌}
 use Rattle.std.proofs.Common.{◌-◌, ◌≤◌, true, false, map, length-append, drop, drop_of_length-le, append-nil, get_or-set_other, Option, true≢false, Bool}
-use Rattle.pas_report.specs.Rooms.{records_in, room_of, Records}
-use Rattle.pas_report.specs.declared.record.Record.{Record}
 use Rattle.pas_answers.specs.{Names.names_held, Answers.Progress, Ways.EachOf, Ways.records_by, Calls.owed_events, Fit.own_cost_of_act}
 use Rattle.pas_acts.specs.declared.names.NameBook.{NameBook}
 use Rattle.pas_threads.specs.{Taken.IsEmptied, Taken.HasTaken, Hands.standing_of_pass, Left.HasLeft}
 use Rattle.pas_threads.specs.Turns.{said_by, said_own, said_kept, HasSaid, IsGathered, IsKeptGathered, AreDistinct, Came, Pushed, Told, TookNoPart, Turn}
 use Rattle.pas_threads.specs.Turns.{TookTurns, owed_at, IsDue, Woke, WokeAll, Stopped}
 use Rattle.pas_threads.specs.declared.{scavenger.Scavenger.Scavenger, workers.Worker.Worker, phases.Team.Team}
-use Rattle.std.proofs.lemmas.{List.get_or_default, List.drop_more, Grind.get_or-set_at, Bool.cases_eq}
+use Rattle.std.proofs.{lemmas.List.get_or_default, lemmas.List.drop_more, lemmas.List.get_or_push, lemmas.Grind.get_or-set_at, lemmas.Bool.cases_eq}
+use Rattle.std.proofs.{lemmas.Bool.cases_lt, Math.ListN.get_or-append}
 use Rattle.pas_profile.specs.declared.profile.Profile.{Profile}
 use Rattle.pas_steps.specs.{Lists.Whole, Lists.part, Desks.Standing}
 use Rattle.pas_trace.specs.Acts.{Act, Wakes, Ends, numbers_from, is_active}
@@ -30,6 +29,8 @@ use Rattle.pas_threads.specs.Sessions.{evenly, WorkerHas, WorkerRests, AreRestin
 use Rattle.pas_shared.specs.Ruled.{IsEarlier, AreEarlier, first_look, bases_in}
 use Rattle.pas_threads.specs.Settling.{SawMore, HasHeard, HasBench, with_bench, IsButBench}
 use Rattle.pas_threads.specs.Performing.{Round, ThreadDone, ScavengerDone, HaveActed, HeardOrder, IsHeard}
+use Rattle.pas_records.specs.Rooms.{records_in, room_of, Records}
+use Rattle.pas_records.specs.declared.record.Record.{Record}
 
 -- What these workers said, where each says so, came to the end of the records, and so each became another.
 pub record WereGathered (says : Worker → List Record) (Is : Worker → Worker → Type 0) (old new : List Worker) (out out' : Records) : Type 0 where
@@ -165,6 +166,19 @@ at_last {Done = Done} none so = subst Done (sym (append-nil so.acts) ∙ ap (λ 
 pub set_each : {A : Type 0} (Is : ℕ → A → Type 0) (now : List A) (i : ℕ) (w e : A) (j : ℕ) → i < length now → Is i w → (j ≢ i → Is j (get_or now j e))
     → Is j (get_or (set now i w) j e)
 set_each {A} Is now i w e j lt this others = search (arith, cases_eq, get_or-set_at, get_or-set_other)
+
+-- .. or one more comes behind it
+pub each_pushed : {A : Type 0} (Is : ℕ → A → Type 0) (old : List A) {new : List A} (w : A) → new ≡ old ++ w ∷ [] → Is (length old) w
+    → ((i : ℕ) (d : A) → i < length old → Is i (get_or old i d)) → (i : ℕ) (d : A) → i < length new → Is i (get_or new i d)
+each_pushed {A} Is old w is this all i d lt =
+    let at = ap (λ (xs : List A). get_or xs i d) is in
+    let long = ap length is ∙ length-append old (w ∷ []) in
+    elim (cases_lt i (length old)) [
+      | inl less ↦ subst (Is i) (sym (at ∙ get_or-append old (w ∷ []) d i less)) (all i d less)
+      | inr past ↦
+          let here : length old ≡ i = omega (arith, past, lt, long) in
+          subst (Is i) (sym (at ∙ get_or_push old w d i here)) (subst (λ (m : ℕ). Is m w) here this)
+    ]
 
 -- ---- a turn
 -- who stands does so at each progress at which it has the same in hand

@@ -1,7 +1,7 @@
 -- The scavenger's worker with the threads that are lent to it: with their passes, and on their bench.
 use Rattle.std.specs.Prelude.{ℕ, ◌<◌, ◌≡◌, ◌≢◌, true, List, [], ◌∷◌, length, get_or}
 use Rattle.pas_steps.specs.{Desks.Standing, Lists.part}
-use Rattle.pas_report.specs.Rooms.{Records}
+use Rattle.pas_records.specs.Rooms.{Records}
 use Rattle.pas_shared.specs.{Passes.seat_of, Ruled.among, Ruled.steps_of, Ruled.IsRowOf}
 use Rattle.pas_shared.specs.Benches.{row_on, rows_on, seat_of_member, IsBenchOf, StandsOver}
 use Rattle.pas_shared.specs.declared.{bench.Bench.Bench, bench_desk.BenchDesk.BenchDesk, bench_desk.BenchHome.BenchHome, pass.SharedPass.SharedPass}

@@ -7,7 +7,7 @@ use Rattle.pas_shared.specs.Passes.{seat_of, view_of, IsPassOf}
 use Rattle.pas_shared.specs.declared.{region.SharedRegion.SharedRegion, pass.SharedPass.SharedPass}
 use Rattle.pas_trace.specs.Acts.{Act}
 use Rattle.pas_answers.specs.{Answers.Progress, Fit.costs_of}
-use Rattle.pas_report.specs.Rooms.{Records}
+use Rattle.pas_records.specs.Rooms.{Records}
 use Rattle.pas_acts.specs.{AtDesks.HasRoomAt, NameBooks.table}
 use Rattle.pas_acts.specs.Works.{Keeps, keeps, Later, ThreadAt}
 use Rattle.pas_acts.specs.declared.names.NameBook.{NameBook}

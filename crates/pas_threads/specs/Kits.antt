@@ -1,10 +1,9 @@
 -- A kit that nobody used, made for a plan, and the passes of a team.
-use Rattle.std.specs.Prelude.{ℕ, suc, ◌+◌, ◌*◌, ◌<◌, ◌≤◌, ◌≡◌, List, [], ◌∷◌, ◌++◌, Option, Some, None, All, map, length, slice_index, slice_index_or, get_or}
-use Rattle.std.specs.Prelude.{vec_capacity}
+use Rattle.std.specs.Prelude.{ℕ, suc, ◌+◌, ◌*◌, ◌<◌, ◌≤◌, ◌≡◌, List, [], ◌∷◌, ◌++◌, Option, Some, None, length, slice_index, slice_index_or, get_or}
+use Rattle.std.specs.Prelude.{vec_capacity, min, drop, ◌^◌, ◌-◌}
 use Rattle.pas_profile.specs.declared.profile.Profile.{Profile}
 use Rattle.pas_trace.specs.{Plans.bounds_of, EveryPlan.operations_of}
 use Rattle.pas_trace.specs.declared.plan.Plan.{Plan}
-use Rattle.pas_report.specs.Rooms.{records_in, room_of}
 use Rattle.pas_utility.specs.Outcomes.{places_of}
 use Rattle.pas_cache.specs.Caches.{cached}
 use Rattle.pas_shared.specs.Passes.{profile_of, seat_of, view_of, IsPassOf}
@@ -17,6 +16,7 @@ use Rattle.pas_acts.specs.{PlanKeepers.guarded_of, NameBooks.requests_in, NameBo
 use Rattle.pas_threads.specs.{Pairs.AreGuarded, Sessions.HasPlaces}
 use Rattle.pas_acts.specs.declared.names.NameBook.{NameBook}
 use Rattle.pas_threads.specs.declared.{keeper.Keeper.Keeper, workers.Worker.Worker, scavenger.Scavenger.Scavenger, phases.Team.Team, kit.SharedKit.SharedKit}
+use Rattle.pas_records.specs.Rooms.{records_in, room_of}
 
 -- ---- the passes
 -- a pass of the region, of actor k, with room for so many events, that made no step
@@ -26,10 +26,9 @@ pub record IsNew (region : SharedRegion) (k bound : ℕ) (pass : SharedPass) : T
   pub room : (seat_of pass).room ≡ bound
   pub no_step : view_of pass ≡ []
 
--- such passes, of the actors from k on, each with room for its actor's bound
-abbrev pub AreNew : SharedRegion → List ℕ → ℕ → List SharedPass → Type 0
-AreNew region bounds k [] = Unit {0}
-AreNew region bounds k (pass ∷ passes) = IsNew region k (slice_index bounds k) pass × AreNew region bounds (k + 1) passes
+-- such passes, of all actors in order, each with room for its actor's bound
+abbrev pub AreNew : SharedRegion → List ℕ → List SharedPass → Type 0
+AreNew region bounds passes = (i : ℕ) (d : SharedPass) → i < length passes → IsNew region i (slice_index bounds i) (slice_index_or passes i d)
 
 -- ---- the team
 -- The worker of a thread has this pass, a cache that nobody used, and room for so many requests and as many records, of which there are none.
@@ -41,12 +40,10 @@ pub record IsEquipped (pass : SharedPass) (bound : ℕ) (worker : Worker) : Type
   pub said : records_in worker.out ≡ []
   pub records : bound ≤ room_of worker.out
 
--- .. each of these workers, of the threads from k on, for its thread's bound
-abbrev pub AreEquipped : List ℕ → ℕ → List SharedPass → List Worker → Type 0
-AreEquipped bounds k [] [] = Unit {0}
-AreEquipped bounds k [] (worker ∷ workers) = ⊥
-AreEquipped bounds k (pass ∷ passes) [] = ⊥
-AreEquipped bounds k (pass ∷ passes) (worker ∷ workers) = IsEquipped pass (slice_index bounds k) worker × AreEquipped bounds (k + 1) passes workers
+-- .. each of these workers, of all threads in order, for its thread's bound
+pub record AreEquipped (bounds : List ℕ) (passes : List SharedPass) (workers : List Worker) : Type 0 where
+  pub many : length workers ≡ length passes
+  pub each : (i : ℕ) (d : SharedPass) (e : Worker) → i < length workers → IsEquipped (get_or passes i d) (slice_index bounds (suc i)) (get_or workers i e)
 
 -- The scavenger has this pass, a place for the outcome of each page, and room for so many records, of which there are none. No thread is lent to it.
 pub record IsSupplied (f : Profile) (pass : SharedPass) (bound : ℕ) (scavenger : Scavenger) : Type 0 where
@@ -71,30 +68,28 @@ pub record IsKeeperFor (plan : Plan) (k : ℕ) (pass : SharedPass) (keeper : Opt
   pub said : records_in there.out ≡ []
   pub records : slice_index (bounds_of plan.bounds) (threads_of plan + k) + 2 * guarded_of k (operations_of plan) ≤ room_of there.out
 
--- the keeper has this pass and this book, and room for so many records, of which there are none
-pub record IsKeeperWith (pass : SharedPass) (book : GuardBook) (bound : ℕ) (keeper : Keeper) : Type 0 where
-  pub pass_is : keeper.pass ≡ pass
-  pub book_is : keeper.book ≡ book
-  pub said : records_in keeper.out ≡ []
-  pub records : bound ≤ room_of keeper.out
+-- how many records a keeper with this bound may make in the end: for its events, and two for each guarded request of its thread, as far as they can be counted
+abbrev pub most_records : ℕ → ℕ
+most_records bound = min (bound * 2) (2 ^ 32 - 1)
 
--- .. each of these, in order, the first of which has its bound at this place
-abbrev pub AreKeepers : List ℕ → ℕ → List SharedPass → List GuardBook → List Keeper → Type 0
-AreKeepers bounds i [] [] [] = Unit {0}
-AreKeepers bounds i (pass ∷ passes) (book ∷ books) (keeper ∷ keepers) = IsKeeperWith pass book (slice_index bounds i) keeper × AreKeepers bounds (i + 1) passes books keepers
-AreKeepers bounds i passes books keepers = ⊥
+-- The keeper has the first of these passes and of these books, and room for so many records, of which there are none. These are left. None where there is no pass.
+abbrev pub TakesKeeper : (passes passes' : List SharedPass) (books books' : List GuardBook) (bound : ℕ) → Option Keeper → Type 0
+TakesKeeper passes passes' books books' bound None = (passes ≡ []) × (passes' ≡ []) × (books ≡ []) × (books' ≡ [])
+TakesKeeper passes passes' books books' bound (Some keeper) =
+    (passes ≡ keeper.pass ∷ passes') × (books ≡ keeper.book ∷ books') × (records_in keeper.out ≡ []) × (bound ≤ room_of keeper.out)
+
+-- .. those at this place
+abbrev pub IsKeptBy : (passes : List SharedPass) (books : List GuardBook) (bound i : ℕ) → Option Keeper → Type 0
+IsKeptBy passes books bound i keeper = TakesKeeper (drop i passes) (drop (i + 1) passes) (drop i books) (drop (i + 1) books) bound keeper
+
+-- so are the keepers of these workers, behind so many threads
+pub record AreKeptBy (bounds : List ℕ) (threads : ℕ) (passes : List SharedPass) (books : List GuardBook) (workers : List Worker) : Type 0 where
+  pub each : (i : ℕ) (d : Worker) → i < length workers
+      → IsKeptBy passes books (most_records (slice_index bounds (threads + suc i))) i (get_or workers i d).keeper
 
 -- the worker with this keeper
 abbrev pub with_keeper : Worker → Option Keeper → Worker
 with_keeper w keeper = record { pass = w.pass; cache = w.cache; requests = w.requests; out = w.out; keeper = keeper; member = w.member; bench = w.bench }
-
--- a worker without one
-abbrev pub IsAlone : Worker → Type 0
-IsAlone worker = worker.keeper ≡ None
-
--- how many records each keeper may make in the end: for its events, and two for each guarded request of its thread
-abbrev pub HasRoomForKeeper : Plan → List ℕ → ℕ → Type 0
-HasRoomForKeeper plan room i = slice_index (bounds_of plan.bounds) (threads_of plan + suc i) + 2 * guarded_of (suc i) (operations_of plan) ≤ slice_index room i
 
 -- each worker has a keeper, by these passes in order; or none has one, and there is no pass
 abbrev pub HaveKeepers : Plan → List SharedPass → List Worker → Type 0
@@ -105,7 +100,7 @@ HaveKeepers plan passes workers =
 -- a team that did nothing yet, whose actors have these passes: the threads, and behind them the keepers
 pub record IsTeamOf (plan : Plan) (first : SharedPass) (others kept : List SharedPass) (team : Team) : Type 0 where
   pub scavenger : IsSupplied (region_of plan) first (slice_index (bounds_of plan.bounds) 0) team.scavenger
-  pub workers : AreEquipped (bounds_of plan.bounds) 1 others team.threads.items
+  pub workers : AreEquipped (bounds_of plan.bounds) others team.threads.items
   pub keepers : HaveKeepers plan kept team.threads.items
   pub book : IsBookOf plan team.book
   pub places : HasPlaces (threads_of plan) team
@@ -117,7 +112,7 @@ pub record IsKitOf (plan : Plan) (kit : SharedKit) : Type 0 where
   pub others : List SharedPass
   pub kept : List SharedPass
   pub many : length others ≡ threads_of plan
-  pub unused : AreNew kit.region (bounds_of plan.bounds) 0 (first ∷ (others ++ kept))
+  pub unused : AreNew kit.region (bounds_of plan.bounds) (first ∷ (others ++ kept))
   pub team : IsTeamOf plan first others kept kit.team
   pub none : kit.passes.items ≡ []
   pub place : (region_of plan).threads < vec_capacity kit.passes
@@ -128,14 +123,15 @@ abbrev pub kept_pass : Option Keeper → List (Option SharedPass)
 kept_pass None = []
 kept_pass (Some keeper) = Some keeper.pass ∷ []
 
-abbrev pub kept_passes : List Worker → List (Option SharedPass)
-kept_passes [] = []
-kept_passes (w ∷ ws) = kept_pass w.keeper ++ kept_passes ws
+-- the places of the passes of these workers: that of each thread, and that of its keeper behind it
+abbrev pub passes_in : List Worker → List (Option SharedPass)
+passes_in [] = []
+passes_in (w ∷ ws) = w.pass ∷ (kept_pass w.keeper ++ passes_in ws)
 
--- the places of the actors' passes, from the scavenger on, those of the keepers last
+-- .. and of all actors, from the scavenger on
 abbrev pub slots_of : Team → List (Option SharedPass)
-slots_of team = team.scavenger.pass ∷ (map (λ worker. worker.pass) team.threads.items ++ kept_passes team.threads.items)
+slots_of team = team.scavenger.pass ∷ passes_in team.threads.items
 
--- there is a pass at each
-abbrev pub AreAllBack : Team → Type 0
-AreAllBack team = All (λ slot. (pass : SharedPass) × (slot ≡ Some pass)) (slots_of team)
+-- the worker has its pass
+abbrev pub IsBack : Worker → Type 0
+IsBack worker = (pass : SharedPass) × (worker.pass ≡ Some pass)

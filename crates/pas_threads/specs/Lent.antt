@@ -3,7 +3,6 @@ use Rattle.std.specs.Prelude.{ℕ, ◌<◌, ◌≤◌, ◌≡◌, ◌⊎◌, Boo
 use Rattle.pas_profile.specs.declared.profile.Profile.{Profile}
 use Rattle.pas_steps.specs.{Desks.Standing, Lists.Whole, Lists.part, Views.View, Noted.AreNotesOf}
 use Rattle.pas_cache.specs.Caches.{cached}
-use Rattle.pas_report.specs.Rooms.{Records}
 use Rattle.pas_shared.specs.Ledgers.{part_of}
 use Rattle.pas_shared.specs.Ruled.{among, all_actors, HasRow, rows_of, rows_of_only, isnt, only_this, steps_of}
 use Rattle.pas_shared.specs.Benches.{row_on, first_row, home_of, seat_of_member, standing_on, IsFreshRow, IsMemberOf, SitsInRow, StandsOver}
@@ -14,6 +13,7 @@ use Rattle.pas_answers.specs.{Answers.Progress, Ways.records_by}
 use Rattle.pas_acts.specs.{Works.Later, Turns.RestsAt, AtDesks.here, AtDesks.told_if, AtDesks.ThreadActs}
 use Rattle.pas_threads.specs.{Hands.HasPass, Sessions.WorkerHas, Seats.IsPassOfMember, Turns.AreDistinct, Turns.Pushed, Turns.TookTurns}
 use Rattle.pas_threads.specs.declared.workers.Worker.{Worker}
+use Rattle.pas_records.specs.Rooms.{Records}
 
 -- What the scavenger's worker goes by in a phase: the profile, which threads are idle, and for how much more there is room in the end, for the scavenger itself
 -- and for each idle thread, by its place among them.
@@ -114,7 +114,8 @@ pub record StopsLent (h : BenchHome) (f : Profile) (k n : ℕ) (bench bench' : B
   pub stopped : Bool
   pub before : Member
   pub after : Member
-  pub does : ThreadActs f k (StopsIdle k n ∷ []) [] (told_if stopped k) (here (standing_on bench before) (cached old.cache) old.out) (here (standing_on bench' after) (cached new.cache) new.out) later p
+  pub does : ThreadActs f k (StopsIdle k n ∷ []) [] (told_if stopped k) (here (standing_on bench before) (cached old.cache) old.out)
+      (here (standing_on bench' after) (cached new.cache) new.out) later p
   pub sits : WorkerSits h.region h.row.actors f k new later does.reached
   pub over : StandsOver (row_on bench') does.reached.list
   pub requests : new.requests ≡ old.requests

@@ -3,8 +3,6 @@
 use Rattle.std.specs.Prelude.{ℕ, zero, suc, map, ◌≢◌, ◌+◌, ◌<◌, ◌≤◌, ◌≡◌, ◌⊎◌, List, [], ◌++◌, length, Option, None, Some, get_or}
 use Rattle.pas_profile.specs.declared.profile.Profile.{Profile}
 use Rattle.pas_steps.specs.Lists.{part}
-use Rattle.pas_report.specs.Rooms.{records_in}
-use Rattle.pas_report.specs.declared.record.Record.{Record}
 use Rattle.pas_guard.specs.Books.{guards_in}
 use Rattle.pas_shared.specs.Passes.{IsPassOf}
 use Rattle.pas_shared.specs.declared.{bench.Bench.Bench, region.SharedRegion.SharedRegion}
@@ -17,6 +15,8 @@ use Rattle.pas_acts.specs.declared.names.NameBook.{NameBook}
 use Rattle.pas_threads.specs.Left.{pair_in, standing_beside, HasLeft}
 use Rattle.pas_threads.specs.Hands.{standing_of_pass, kept_by, WorkerAt, Did}
 use Rattle.pas_threads.specs.declared.{keeper.Keeper.Keeper, keeper.Seated.Seated, keeper.Beside.Beside, workers.Worker.Worker}
+use Rattle.pas_records.specs.Rooms.{records_in}
+use Rattle.pas_records.specs.declared.record.Record.{Record}
 
 -- ---- the keeper of a worker
 -- what it has in hand while it doesn't sit at the region
@@ -55,7 +55,8 @@ pub record PairStands (region : SharedRegion) (book : NameBook) (f : Profile) (t
 
 -- what a worker did with its thread and its keeper, which have their passes again, and the bench that it left
 pub record PairDid (region : SharedRegion) (book : NameBook) (f : Profile) (threads k : ℕ) (acts : List Act) (old new : Worker) (later : Later) (more : LaterKept) (p : Progress) : Type 0 where
-  pub did : Did region old.pass new.pass (λ σ σ'. PairWorks f k (threads + k) acts [] σ σ' (kept_by book old) (kept_by book new) (kept_by_worker old.keeper) (kept_by_worker new.keeper) later more p)
+  pub did : Did region old.pass new.pass (λ σ σ'. PairWorks f k (threads + k) acts [] σ σ' (kept_by book old) (kept_by book new) (kept_by_worker old.keeper)
+      (kept_by_worker new.keeper) later more p)
   pub of : IsKeeperOf region new.keeper
   pub left : HasLeft region new.bench (pair_in threads k old.keeper) p.list did.does.reached.list
 

@@ -4,8 +4,8 @@ use Rattle.pas_profile.specs.declared.profile.Profile.{Profile}
 use Rattle.pas_steps.specs.Lists.{Whole, part}
 use Rattle.pas_trace.specs.{EveryPlan.all_ops, EveryPlan.own_records, EveryPlan.records_of_ops, EveryPhase.FreeTheirOwn}
 use Rattle.pas_trace.specs.declared.plan.Op.{Op}
-use Rattle.pas_report.specs.Rooms.{records_in, room_of, Records}
-use Rattle.pas_report.specs.declared.record.Record.{Record}
+use Rattle.pas_records.specs.Rooms.{records_in, room_of, Records}
+use Rattle.pas_records.specs.declared.record.Record.{Record}
 use Rattle.pas_utility.specs.Outcomes.{places_of}
 use Rattle.pas_cache.specs.Caches.{cached}
 use Rattle.pas_shared.specs.Ruled.{IsEarlier}

@@ -3,8 +3,6 @@ use Rattle.std.specs.Prelude.{ℕ, suc, ◌+◌, ◌<◌, ◌≤◌, ◌≡◌, 
 use Rattle.pas_bits.specs.declared.mask.Mask4.{Mask4}
 use Rattle.pas_profile.specs.declared.profile.Profile.{Profile}
 use Rattle.pas_steps.specs.Lists.{part}
-use Rattle.pas_report.specs.Rooms.{records_in, room_of, Records}
-use Rattle.pas_report.specs.declared.record.Record.{Record}
 use Rattle.pas_cache.specs.Caches.{cached}
 use Rattle.pas_shared.specs.declared.region.SharedRegion.{SharedRegion}
 use Rattle.pas_trace.specs.Acts.{Act, Wakes, Ends, numbers_from}
@@ -12,6 +10,8 @@ use Rattle.pas_answers.specs.{Answers.Progress, Calls.owed_events, Ways.AreSpoke
 use Rattle.pas_acts.specs.{Awake.awake_in, AtDesks.here, AtDesks.ThreadActs, Works.Later}
 use Rattle.pas_threads.specs.{Hands.Did, Sessions.evenly, Sessions.WorkerHas, Pairs.said_by_keeper, Pairs.IsButKeeper}
 use Rattle.pas_threads.specs.declared.{keeper.Keeper.Keeper, workers.Worker.Worker}
+use Rattle.pas_records.specs.Rooms.{records_in, room_of, Records}
+use Rattle.pas_records.specs.declared.record.Record.{Record}
 
 -- ---- what acts come to
 -- how far these acts brought a replay from p, and what was said by them
@@ -39,7 +39,8 @@ pub record TookNoPart (k : ℕ) (said : List Record) (p q : Progress) : Type 0 w
 
 -- the worker did this act of its thread, with its pass, and has it again; `told` is said besides
 pub record Turn (region : SharedRegion) (f : Profile) (k : ℕ) (act : Act) (told : List Record) (old new : Worker) (later : Later) (p : Progress) : Type 0 where
-  pub did : Did region old.pass new.pass (λ σ σ'. ThreadActs f k (act ∷ []) [] told (here σ (cached old.cache) old.out) (here σ' (cached new.cache) new.out) later p)
+  pub did : Did region old.pass new.pass (λ σ σ'. ThreadActs f k (act ∷ []) [] told (here σ (cached old.cache) old.out)
+      (here σ' (cached new.cache) new.out) later p)
   pub requests : new.requests ≡ old.requests
   pub keeper : new.keeper ≡ old.keeper
 

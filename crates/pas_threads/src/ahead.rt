@@ -7,7 +7,7 @@ ghost use Rattle.pas_shared.specs.Passes.{profile_of_opening};
 use crate::estimate::Estimate;
 use pas_acts::names::{NameBook, Request, Requests};
 use pas_profile::{Event, EventRoom, NoMemory, Profile};
-use pas_report::{Record, Records};
+use pas_records::{Record, Records};
 use pas_shared::Opening;
 use std::alloc::Global;
 use std::thread::{Threads, join};

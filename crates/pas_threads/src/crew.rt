@@ -11,7 +11,7 @@ use crate::lending::stop_idle;
 use crate::workers::Worker;
 use pas_acts::at_desk::{SCAVENGER, pass, read_epoch, tick};
 use pas_acts::gate::Gate;
-use pas_report::Records;
+use pas_records::Records;
 use pas_shared::BenchDesk;
 use pas_trace::{Chore, Op, Work};
 use pas_utility::Outcomes;

@@ -11,7 +11,7 @@ ghost use Rattle.pas_threads.specs.Seats.{keeper_parts, rows_without_keeper, IsS
 use pas_acts::keepers::{Tries, lower_all, try_guarded};
 use pas_guard::GuardBook;
 use pas_profile::Block;
-use pas_report::Records;
+use pas_records::Records;
 use pas_shared::{Bench, BenchDesk, Member, SharedPass, SharedRegion};
 
 /// A keeper while it doesn't sit at the region: its pass, its book, and its records. Its thread's worker makes its steps.

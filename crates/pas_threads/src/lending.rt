@@ -1,7 +1,7 @@
 //! The threads that are idle in a phase, and lent to the scavenger's worker: they sit down on its bench, are stopped there, and leave.
 ghost use Rattle.std.specs.Prelude.{◌≡◌, ◌≢◌, ◌+◌, ◌<◌, ◌≤◌, ◌∷◌, [], ℕ, Bool, List, length};
 ghost use Rattle.pas_profile.specs.declared.profile.Profile.{Profile as TheProfile};
-ghost use Rattle.pas_report.specs.Rooms.{records_in, room_of};
+ghost use Rattle.pas_records.specs.Rooms.{records_in, room_of};
 ghost use Rattle.pas_cache.specs.Caches.{cached};
 ghost use Rattle.pas_trace.specs.Acts.{StopsIdle, idle_stops};
 ghost use Rattle.pas_answers.specs.Answers.{Progress};
@@ -15,7 +15,7 @@ ghost use Rattle.pas_threads.specs.Lent.{StoppedLent, MayLeave, HasLeave, MayLea
 use crate::workers::Worker;
 use pas_acts::at_desk::{SCAVENGER, stop_if_idle};
 use pas_cache::ThreadCache;
-use pas_report::{Record, Records, Said};
+use pas_records::{Record, Records, Said};
 use pas_shared::{Bench, BenchDesk, SharedRegion};
 use pas_steps::Desk;
 

@@ -1,17 +1,17 @@
 //! How the parts of a kit are made: in the memory of what was made ahead, where that is large enough, and in new memory otherwise.
-ghost use Rattle.std.specs.Prelude.{◌≡◌, ◌≤◌, ◌<◌, ◌+◌, ◌⊎◌, ℕ, List, Option, IfOk, All, true, Some, None, [], ◌++◌, length, get_or, vec_capacity, false};
+ghost use Rattle.std.specs.Prelude.{◌≡◌, ◌≤◌, ◌<◌, ◌+◌, ◌⊎◌, ℕ, List, Option, IfOk, All, true, Some, None, [], ◌++◌, length, slice_index, vec_capacity, false};
+ghost use Rattle.std.specs.Prelude.{◌^◌};
 ghost use Rattle.pas_profile.specs.Rooms.{shown};
 ghost use Rattle.pas_profile.specs.declared.profile.Profile.{Profile as TheProfile};
 ghost use Rattle.pas_trace.specs.{Plans.IsPlanOf, Acts.is_active};
 ghost use Rattle.pas_utility.specs.{Outcomes.places_of, Pools.threads_of, Pools.has_seat, Pools.outcomes_of};
 ghost use Rattle.pas_cache.specs.Caches.{cached};
-ghost use Rattle.pas_report.specs.Rooms.{records_in, room_of};
 ghost use Rattle.pas_answers.specs.{Names.block_named, Names.names_held, Replays.empty_cache, Replays.threads_of as threads_in};
 ghost use Rattle.pas_answers.specs.{Replays.keepers_of as keepers_in};
 ghost use Rattle.pas_acts.specs.{Parts.AreRooms, NameBooks.requests_in, NameBooks.room_for};
 ghost use Rattle.pas_shared.specs.declared.pass.SharedPass.{SharedPass as ThePass};
-ghost use Rattle.pas_threads.specs.Kits.{AreEquipped, IsSupplied, IsTeamOf, AreKeepers, with_keeper, IsAlone, HasRoomForKeeper};
-ghost use Rattle.pas_threads.specs.declared.{keeper.Keeper.Keeper as TheKeeper, workers.Worker.Worker as TheWorker};
+ghost use Rattle.pas_threads.specs.Kits.{AreEquipped, IsSupplied, IsTeamOf, TakesKeeper, AreKeptBy, most_records};
+ghost use Rattle.pas_records.specs.Rooms.{records_in, room_of};
 
 use crate::ahead::Spare;
 use crate::keeper::Keeper;
@@ -24,7 +24,7 @@ use pas_cache::ThreadCache;
 use pas_guard::GuardBook;
 use pas_large::LargeIndex;
 use pas_profile::{EventRoom, NoMemory};
-use pas_report::{Records, room_for_replay};
+use pas_records::{Records, room_for_replay};
 use pas_shared::SharedPass;
 use pas_trace::{Op, Phase, Plan};
 use pas_utility::{Outcomes, Utility};
@@ -62,6 +62,14 @@ fn first_active(ops: &[Op], threads: u8) -> usize
         }
     }
     1
+}
+
+/// How many records a replay of the plan makes at most, which can be counted.
+fn total_of(plan: &Plan) -> u32
+    ensures total { result ≡ plan.now.total }
+    ensures counted { plan.now.total < 2 ^ 32 }
+{
+    plan.total
 }
 
 /// Each of the first rooms moves into the memory of the other at its place, where that is large enough.
@@ -121,79 +129,50 @@ fn requests_for(
     Ok(requests)
 }
 
-/// The keepers of a guarded plan, which have these passes and books in order, and room for so many records each. None for another plan.
-fn keepers_for(
+/// The keeper of this thread, of so many, which has the first of these passes and of these books. It may make as many records as events, by its bound, and two
+/// for each guarded request of its thread, which is no more than that again. None where no pass is left.
+fn keeper_for(
     alloc: Global,
-    passes: Vec<SharedPass>,
-    mut books: Vec<GuardBook>,
-    room: &[u32],
-) -> Result<Vec<Keeper>, NoMemory>
-    requires books { length books.items ≡ length passes.items }
-    requires room { length room.now ≡ length passes.items }
-    ensures { IfOk result (λ keepers. AreKeepers room.now 0 passes.items books.items keepers.items) }
+    passes: &mut Vec<SharedPass>,
+    books: &mut Vec<GuardBook>,
+    bounds: &[u32],
+    threads: usize,
+    thread: usize,
+) -> Result<Option<Keeper>, NoMemory>
+    requires books { length books.old.items ≡ length passes.old.items }
+    requires bound { 0 < length passes.old.items → threads + thread < length bounds.now }
+    ensures { IfOk result (TakesKeeper passes.old.items passes.new.items books.old.items books.new.items (most_records (slice_index bounds.now (threads + thread)))) }
 {
-    let Ok(mut keepers) = Vec::with_capacity(alloc, passes.len()) else {
-        return Err(NoMemory);
-    };
-    for pass in passes {
-        let book = books.remove(0);
-        let bound = room[keepers.len()];
-        let out = Records::try_new(alloc, bound)?;
-        keepers.push_reserved(Keeper { pass, book, out });
+    if passes.is_empty() {
+        return Ok(None);
     }
-    Ok(keepers)
+    let pass = passes.remove(0);
+    let book = books.remove(0);
+    let out = Records::try_new(alloc, bounds[threads + thread].saturating_mul(2))?;
+    Ok(Some(Keeper { pass, book, out }))
 }
 
-/// How many records each of so many keepers may make: as many as events, by its bound, and two for each guarded request of its thread, which is no more than
-/// that again.
-fn records_of_keepers(alloc: Global, plan: &Plan, keepers: usize) -> Result<Vec<u32>, NoMemory>
-    requires plan { (text : List ℕ) × IsPlanOf text plan.now }
-    requires keepers { keepers ≡ keepers_in plan.now }
-    ensures many { IfOk result (λ room. length room.items ≡ keepers) }
-    ensures room { IfOk result (λ room. (i : ℕ) → i < keepers → HasRoomForKeeper plan.now room.items i) }
-{
-    let bounds = plan.bounds.as_slice();
-    let _total = plan.total;
-    let threads = plan.profile.threads as usize;
-    let Ok(mut room) = Vec::with_capacity(alloc, keepers) else {
-        return Err(NoMemory);
-    };
-    for thread in 1..keepers + 1 {
-        room.push_reserved(bounds[threads + thread].saturating_mul(2));
-    }
-    Ok(room)
-}
-
-/// Gives each of the first workers its keeper, in order.
-fn give_keepers(workers: &mut [Worker], keepers: Vec<Keeper>)
-    requires few { length keepers.items ≤ length workers.old }
-    ensures many { length workers.new ≡ length workers.old }
-    ensures given { (i : ℕ) (d : TheWorker) (e : TheKeeper) → i < length keepers.items → get_or workers.new i d ≡ with_keeper (get_or workers.old i d) (Some (get_or keepers.items i e)) }
-    ensures others { (i : ℕ) (d : TheWorker) → length keepers.items ≤ i → get_or workers.new i d ≡ get_or workers.old i d }
-{
-    let mut place = 0;
-    for keeper in keepers {
-        workers[place].keeper = Some(keeper);
-        place += 1;
-    }
-}
-
-/// The workers of the threads, from thread 1 on, which have these passes and caches in order. The bounds are those of all actors.
+/// The workers of the threads, from thread 1 on, which have these passes and caches in order, and the first of them keepers with these passes and books. The
+/// bounds are those of all actors.
 fn workers_for(
     alloc: Global,
     passes: Vec<SharedPass>,
+    mut kept: Vec<SharedPass>,
+    mut books: Vec<GuardBook>,
     mut caches: Vec<ThreadCache>,
     bounds: &[u32],
     mut whole: WholeRoom,
 ) -> Result<Vec<Worker>, NoMemory>
-    requires bounds { length passes.items < length bounds.now }
+    requires bounds { length passes.items + length kept.items < length bounds.now }
+    requires books { length books.items ≡ length kept.items }
     requires caches { length caches.items ≡ length passes.items }
     requires unused { All (λ cache. cached cache ≡ empty_cache) caches.items }
-    ensures workers { IfOk result (λ workers. AreEquipped bounds.now 1 passes.items workers.items) }
-    ensures alone { IfOk result (λ workers. All IsAlone workers.items) }
+    ensures workers { IfOk result (λ workers. AreEquipped bounds.now passes.items workers.items) }
+    ensures kept { IfOk result (λ workers. AreKeptBy bounds.now (length passes.items) kept.items books.items workers.items) }
     ensures places { IfOk result (λ workers. length passes.items ≤ vec_capacity workers) }
 {
-    let Ok(mut workers) = Vec::with_capacity(alloc, passes.len()) else {
+    let threads = passes.len();
+    let Ok(mut workers) = Vec::with_capacity(alloc, threads) else {
         return Err(NoMemory);
     };
     caches.reverse();
@@ -205,12 +184,13 @@ fn workers_for(
         let bound = bounds[thread];
         let out = records_for(alloc, thread, bound, &mut whole)?;
         let requests = requests_for(alloc, thread, bound, &mut whole)?;
+        let keeper = keeper_for(alloc, &mut kept, &mut books, bounds, threads, thread)?;
         workers.push_reserved(Worker {
             pass: Some(pass),
             cache,
             requests,
             out,
-            keeper: None,
+            keeper,
             member: None,
             bench: None,
         });
@@ -286,6 +266,7 @@ pub(crate) fn team_for(
     let bounds = plan.bounds.as_slice();
     let phases = plan.phases.as_slice();
     let count = plan.profile.threads;
+    let total = total_of(plan);
     let Spare {
         book,
         records,
@@ -294,7 +275,7 @@ pub(crate) fn team_for(
     let caches = caches_for(alloc, utility, count)?;
     let whole = WholeRoom {
         thread: first_active(first_ops(phases), count),
-        total: plan.total,
+        total,
         phases: u32::try_from(phases.len()).unwrap_or(u32::MAX),
         records: Some(records),
         requests: Some(requests),
@@ -304,10 +285,7 @@ pub(crate) fn team_for(
         return Err(NoMemory);
     };
     let books = books_for(alloc, plan)?;
-    let room = records_of_keepers(alloc, plan, books.len())?;
-    let keepers = keepers_for(alloc, kept, books, room.as_slice())?;
-    let mut threads = workers_for(alloc, others, caches, bounds, whole)?;
-    give_keepers(&mut threads, keepers);
+    let threads = workers_for(alloc, others, kept, books, caches, bounds, whole)?;
     let outcomes = outcomes_from(utility);
     let scavenger = scavenger_with(alloc, first, outcomes, bounds[0], count)?;
     let book = book_of(alloc, plan.names_limit, book)?;

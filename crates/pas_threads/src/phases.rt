@@ -3,7 +3,7 @@ ghost use Rattle.std.specs.Prelude.{◌≡◌, ◌+◌, ◌<◌, ◌^◌, ℕ, [
 ghost use Rattle.pas_bits.specs.Masks.{is_set};
 ghost use Rattle.pas_trace.specs.{Plans.ops_of, Acts.is_active};
 ghost use Rattle.pas_trace.specs.declared.plan.Op.{Op as TheOp};
-ghost use Rattle.pas_report.specs.Rooms.{records_in};
+ghost use Rattle.pas_records.specs.Rooms.{records_in};
 ghost use Rattle.pas_answers.specs.{Replays.at_start, Answers.Progress};
 ghost use Rattle.pas_acts.specs.{Works.Later, Keepers.LaterKept};
 ghost use Rattle.pas_threads.specs.Performing.{round, IsReady, HaveActed, IsHeard};
@@ -24,7 +24,7 @@ use pas_acts::names::NameBook;
 use pas_answers::Remake;
 use pas_bits::Mask4;
 use pas_large::LargeIndex;
-use pas_report::{Record, Records};
+use pas_records::{Record, Records};
 use pas_shared::{Ledger, SharedRegion};
 use pas_trace::{Op, Phase};
 use std::sync::{Mutex, Wait};

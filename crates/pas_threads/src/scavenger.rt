@@ -12,7 +12,7 @@ use crate::crew::scavenge;
 use crate::lending::{let_lent_leave, seat_lent};
 use crate::workers::Worker;
 use pas_acts::gate::Gate;
-use pas_report::Records;
+use pas_records::Records;
 use pas_shared::{Bench, BenchDesk, SharedPass, SharedRegion};
 use pas_trace::Op;
 use pas_utility::Outcomes;

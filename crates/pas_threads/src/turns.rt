@@ -2,7 +2,7 @@
 //! gathered of them.
 ghost use Rattle.std.specs.Prelude.{◌≡◌, ◌+◌, ◌<◌, ◌≤◌, ◌++◌, ℕ, [], true, false, None, Some, length, map, get_or};
 ghost use Rattle.pas_profile.specs.declared.profile.Profile.{Profile as TheProfile};
-ghost use Rattle.pas_report.specs.Rooms.{records_in, room_of};
+ghost use Rattle.pas_records.specs.Rooms.{records_in, room_of};
 ghost use Rattle.pas_answers.specs.Answers.{Progress};
 ghost use Rattle.pas_cache.specs.Caches.{cached};
 ghost use Rattle.pas_trace.specs.Acts.{Wakes, Ends, Lowers, numbers_from};
@@ -20,7 +20,7 @@ use crate::settling::settle;
 use crate::workers::Worker;
 use pas_acts::turns::{begin, end};
 use pas_bits::Mask4;
-use pas_report::Records;
+use pas_records::Records;
 use pas_shared::{Ledger, SharedRegion};
 
 /// The thread sits down, reads the epoch, and rises. One step.

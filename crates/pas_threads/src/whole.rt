@@ -1,18 +1,17 @@
 //! The replay of a whole plan on threads, with the kit that was made for it.
-ghost use Rattle.std.specs.Prelude.{◌≡◌, ◌≤◌, ◌<◌, ◌+◌, ℕ, List, Some, All, [], map, length, get_or, vec_capacity, ◌++◌, ◌∷◌};
+ghost use Rattle.std.specs.Prelude.{◌≡◌, ◌≤◌, ◌<◌, ◌+◌, ℕ, List, Some, All, [], map, length, vec_capacity, ◌++◌, ◌∷◌};
 ghost use Rattle.pas_trace.specs.Plans.{IsPlanOf};
-ghost use Rattle.pas_report.specs.Rooms.{records_in, room_of};
 ghost use Rattle.pas_answers.specs.{Replays.phases_of, Replays.Shows, Ways.OnThreads};
 ghost use Rattle.pas_shared.specs.declared.pass.SharedPass.{SharedPass as ThePass};
-ghost use Rattle.pas_threads.specs.Kits.{IsKitOf, kept_pass, kept_passes, slots_of, AreAllBack};
-ghost use Rattle.pas_threads.specs.declared.workers.Worker.{Worker as TheWorker};
+ghost use Rattle.pas_threads.specs.Kits.{IsKitOf, IsBack, kept_pass, passes_in, slots_of};
+ghost use Rattle.pas_records.specs.Rooms.{records_in, room_of};
 
 use crate::kit::SharedKit;
 use crate::phases::{Team, replay};
 use crate::workers::Worker;
 use pas_acts::gate::Gate;
 use pas_answers::Remake;
-use pas_report::Records;
+use pas_records::Records;
 use pas_shared::{Ledger, SharedPass, close_settled};
 use pas_steps::State;
 use pas_trace::Plan;
@@ -30,26 +29,13 @@ fn add_pass(passes: &mut Vec<SharedPass>, slot: Option<SharedPass>)
     requires back { (pass : ThePass) × (slot ≡ Some pass) }
     requires place { length passes.old.items < vec_capacity passes.old }
     ensures added { map Some passes.new.items ≡ map Some passes.old.items ++ slot ∷ [] }
+    ensures many { length passes.new.items ≡ length passes.old.items + 1 }
     ensures places { vec_capacity passes.new ≡ vec_capacity passes.old }
 {
     let Some(pass) = slot else {
         unreachable!();
     };
     passes.push_reserved(pass);
-}
-
-/// Takes the passes of the workers' threads out, to the next places.
-fn add_own_passes(passes: &mut Vec<SharedPass>, workers: &mut [Worker])
-    requires back { All (λ worker. (pass : ThePass) × (worker.pass ≡ Some pass)) workers.old }
-    requires places { length passes.old.items + length workers.old ≤ vec_capacity passes.old }
-    ensures added { map Some passes.new.items ≡ map Some passes.old.items ++ map (λ worker. worker.pass) workers.old }
-    ensures places { vec_capacity passes.new ≡ vec_capacity passes.old }
-    ensures many { length workers.new ≡ length workers.old }
-    ensures keepers { (i : ℕ) (d : TheWorker) → i < length workers.old → (get_or workers.new i d).keeper ≡ (get_or workers.old i d).keeper }
-{
-    for place in 0..workers.len() {
-        add_pass(passes, workers[place].pass.take());
-    }
 }
 
 /// Takes the pass of the worker's keeper out, if it has one.
@@ -63,26 +49,38 @@ fn add_kept_pass(passes: &mut Vec<SharedPass>, worker: &mut Worker)
     }
 }
 
-/// .. those of all workers' keepers.
-fn add_kept_passes(passes: &mut Vec<SharedPass>, workers: &mut [Worker])
-    requires places { length passes.old.items + length (kept_passes workers.old) ≤ vec_capacity passes.old }
-    ensures added { map Some passes.new.items ≡ map Some passes.old.items ++ kept_passes workers.old }
+/// Takes the pass of the worker out, to the next place, and behind it that of its keeper.
+fn add_passes_of(passes: &mut Vec<SharedPass>, worker: &mut Worker)
+    requires back { IsBack worker.old }
+    requires places { length passes.old.items + (1 + length (kept_pass worker.old.keeper)) ≤ vec_capacity passes.old }
+    ensures added { map Some passes.new.items ≡ map Some passes.old.items ++ worker.old.pass ∷ kept_pass worker.old.keeper }
+    ensures places { vec_capacity passes.new ≡ vec_capacity passes.old }
+{
+    add_pass(passes, worker.pass.take());
+    add_kept_pass(passes, worker);
+}
+
+/// .. those of all workers.
+fn add_passes(passes: &mut Vec<SharedPass>, workers: &mut [Worker])
+    requires back { All IsBack workers.old }
+    requires places { length passes.old.items + length (passes_in workers.old) ≤ vec_capacity passes.old }
+    ensures added { map Some passes.new.items ≡ map Some passes.old.items ++ passes_in workers.old }
 {
     for place in 0..workers.len() {
-        add_kept_pass(passes, &mut workers[place]);
+        add_passes_of(passes, &mut workers[place]);
     }
 }
 
-/// Takes the passes of all actors out, from the scavenger on and the keepers last, to the places of this list.
+/// Takes the passes of all actors out, from the scavenger on, to the places of this list.
 fn passes_of(team: &mut Team, mut passes: Vec<SharedPass>) -> Vec<SharedPass>
     requires none { passes.items ≡ [] }
     requires places { length (slots_of team.old) ≤ vec_capacity passes }
-    requires back { AreAllBack team.old }
+    requires first { (pass : ThePass) × (team.old.scavenger.pass ≡ Some pass) }
+    requires back { All IsBack team.old.threads.items }
     ensures { map Some result.items ≡ slots_of team.old }
 {
     add_pass(&mut passes, team.scavenger.pass.take());
-    add_own_passes(&mut passes, &mut team.threads);
-    add_kept_passes(&mut passes, &mut team.threads);
+    add_passes(&mut passes, &mut team.threads);
     passes
 }
 

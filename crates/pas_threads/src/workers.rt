@@ -12,7 +12,7 @@ use pas_acts::own::work;
 use pas_answers::Remake;
 use pas_cache::ThreadCache;
 use pas_large::{LargeIndex, SharedDoor};
-use pas_report::Records;
+use pas_records::Records;
 use pas_shared::{Bench, Member, SharedPass, SharedRegion};
 use pas_trace::Op;
 use std::sync::{Mutex, Wait};

@@ -12,7 +12,8 @@ let_leave-requires-clause-may c =
 pub loop-index-preserved : goal.loop-index-preserved
 loop-index-preserved c = record {
   of = c.let_leave.ensures.of;
-  far = λ s actors base p may. leaves_go_on c.index-lent-index.result c.loop-index-test.true may (c.loop-index.invariant.far s actors base p may) c.let_leave.new.worker c.loop-index.auto.lent c.let_leave.ensures.left;
+  far = λ s actors base p may. leaves_go_on c.index-lent-index.result c.loop-index-test.true may
+      (c.loop-index.invariant.far s actors base p may) c.let_leave.new.worker c.loop-index.auto.lent c.let_leave.ensures.left;
 }
 
 pub returns-clause-left : goal.returns-clause-left

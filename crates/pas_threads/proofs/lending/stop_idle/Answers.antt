@@ -1,5 +1,5 @@
 use Rattle.std.proofs.Common.{◌∙◌, length, refl, ap, sym, arith, length-append}
-use Rattle.pas_report.specs.Rooms.{records_in}
+use Rattle.pas_records.specs.Rooms.{records_in}
 use Rattle.pas_shared.specs.declared.bench.Member.{Member}
 use Rattle.pas_answers.specs.Ways.{records_by}
 use Rattle.pas_threads.specs.Lent.{number_in}

@@ -2,7 +2,7 @@ use Rattle.std.proofs.Common.{◌≡◌, ℕ, ◌+◌, ◌≤◌, List, [], leng
 use Rattle.std.specs.Vec.{with_items}
 use Rattle.std.proofs.lemmas.List.{with_items_is}
 use Rattle.pas_trace.specs.{EveryPlan.all_ops, EveryPlan.own_records, Acts.Ends, Acts.Lowers, Acts.numbers_from}
-use Rattle.pas_report.specs.Rooms.{records_in, room_of}
+use Rattle.pas_records.specs.Rooms.{records_in, room_of}
 use Rattle.pas_steps.specs.Lists.{Whole}
 use Rattle.pas_shared.specs.Ledgers.{so_far}
 use Rattle.pas_shared.specs.declared.{region.SharedRegion.SharedRegion, pass.SharedPass.SharedPass}

@@ -3,7 +3,7 @@ use Rattle.std.specs.Vec.{with_items}
 use Rattle.std.proofs.lemmas.List.{with_items_is}
 use Rattle.pas_trace.specs.EveryPlan.{all_ops, own_records}
 use Rattle.pas_trace.specs.declared.plan.Op.{Op}
-use Rattle.pas_report.specs.Rooms.{records_in, room_of}
+use Rattle.pas_records.specs.Rooms.{records_in, room_of}
 use Rattle.pas_shared.specs.Ledgers.{so_far, looks_of}
 use Rattle.pas_answers.specs.{Answers.Progress, Names.names_held}
 use Rattle.pas_threads.specs.Sessions.{planned, Session, AreResting, HasPlaces, TeamAt}

@@ -2,16 +2,16 @@ use Rattle.std.proofs.Common.{◌≡◌, ◌+◌, ◌++◌, ◌∙◌, List, [],
 use Rattle.std.proofs.lemmas.List.{length-map}
 use Rattle.pas_trace.specs.Plans.{ops_of}
 use Rattle.pas_trace.specs.declared.plan.Op.{Op}
-use Rattle.pas_report.specs.Rooms.{records_in}
-use Rattle.pas_report.specs.declared.record.Record.{Record}
 use Rattle.pas_answers.specs.Replays.{at_start}
 use Rattle.pas_shared.specs.Ledgers.{so_far}
 use Rattle.pas_threads.specs.Sessions.{Session, TeamAt, HasRoom}
 use Rattle.pas_threads.proofs.BetweenPhases.{AfterPhases, BeforePhase, BeforeClose, no_phase, as_next, as_last, spare_for_mark, first_begins, other_begins}
 use Rattle.pas_threads.proofs.BetweenPhases.{phase_ends, spare_for_close, close_begins, close_ends}
-use Rattle.pas_threads.proofs.phases.replay.Goals as goal
 use Rattle.pas_threads.proofs.phases.replay.Given.{Over}
 use Rattle.pas_threads.proofs.phases.replay.Goals.{then-number-gt-UNMARKED, else-number-gt-UNMARKED, After-as_slice, After-push-2}
+use Rattle.pas_records.specs.Rooms.{records_in}
+use Rattle.pas_records.specs.declared.record.Record.{Record}
+use Rattle.pas_threads.proofs.phases.replay.Goals as goal
 
 pub loop-phase-init : goal.loop-phase-init
 loop-phase-init g c = record {
@@ -33,11 +33,13 @@ module _ (g : Over) (c : After-as_slice g) (s : Session) (at : TeamAt c.args.reg
   rest = map ops_of (drop (c.loop-phase.phase-index + 1) c.args.phases.now)
 
   -- What stands after the phase.
-  next : AfterPhases c.args.region.now s (map ops_of c.args.phases.now) c.loop-phase.phase-index (c.as_slice.result.now ∷ rest) c.loop-phase.team (so_far c.loop-phase.ledger) c.loop-phase.out
+  next : AfterPhases c.args.region.now s (map ops_of c.args.phases.now) c.loop-phase.phase-index (c.as_slice.result.now ∷ rest) c.loop-phase.team
+      (so_far c.loop-phase.ledger) c.loop-phase.out
   next = as_next c.args.phases.now c.loop-phase.phase-index c.phase-item.result c.as_slice.result.now c.loop-phase-test.true c.phase-item.is c.as_slice.ensures (c.loop-phase.invariant.far s at room)
 
   -- What stands before the phase.
-  begun : BeforePhase c.args.region.now s (map ops_of c.args.phases.now) c.loop-phase.phase-index c.as_slice.result.now rest c.loop-phase.team (so_far c.loop-phase.ledger) c.if-number-gt-UNMARKED.out
+  begun : BeforePhase c.args.region.now s (map ops_of c.args.phases.now) c.loop-phase.phase-index c.as_slice.result.now rest c.loop-phase.team
+      (so_far c.loop-phase.ledger) c.if-number-gt-UNMARKED.out
   begun =
       elim c.if-number-gt-UNMARKED.branch [
         | then-number-gt-UNMARKED w ↦

@@ -1,5 +1,5 @@
 use Rattle.std.proofs.Common.{◌∙◌, refl, arith}
-use Rattle.pas_report.specs.Rooms.{records_in}
+use Rattle.pas_records.specs.Rooms.{records_in}
 use Rattle.pas_threads.specs.Turns.{said_own, IsGathered}
 use Rattle.pas_threads.proofs.TakingTurns.{gather_begins, next_fits, gather_goes_on, gather_ends}
 use Rattle.pas_threads.proofs.turns.gather.Goals as goal

@@ -1,6 +1,6 @@
 -- what the workers before this place said for their keepers is gathered
 use Rattle.std.proofs.Common.{◌≡◌}
-use Rattle.pas_report.specs.Rooms.{records_in, room_of}
+use Rattle.pas_records.specs.Rooms.{records_in, room_of}
 use Rattle.pas_threads.specs.Turns.{said_kept, IsKeptGathered}
 use Rattle.pas_threads.proofs.TakingTurns.{AreGathered}
 use Rattle.pas_threads.proofs.turns.gather_kept.Given as goal

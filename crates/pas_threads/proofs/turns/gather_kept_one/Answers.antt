@@ -1,5 +1,5 @@
 use Rattle.std.proofs.Common.{◌+◌, ◌≤◌, ◌++◌, ◌∙◌, length, refl, ap, sym, subst, append-nil}
-use Rattle.pas_report.specs.Rooms.{records_in, room_of}
+use Rattle.pas_records.specs.Rooms.{records_in, room_of}
 use Rattle.pas_threads.specs.{Pairs.said_by_keeper, Turns.HasSaid}
 use Rattle.pas_threads.proofs.turns.gather_kept_one.Goals as goal
 

@@ -26,6 +26,12 @@ passes_of-passes-requires-clause-places g c =
     let actors = plan_actors c.args.plan.now in
     omega (arith, many, actors, c.requires.kit.place)
 
+pub passes_of-passes-requires-clause-first : goal.passes_of-passes-requires-clause-first
+passes_of-passes-requires-clause-first g c =
+    let start = handed c.args.out.now c.as_slice.result.now c.requires.plan.2 c.requires.kit c.as_slice.ensures c.requires.empty c.requires.room in
+    let has = (c.replay-team.ensures.replayed (session_of c.args.plan.now) start.0 start.1).stands.scavenger.has in
+    (has.pass, has.present)
+
 pub passes_of-passes-requires-clause-back : goal.passes_of-passes-requires-clause-back
 passes_of-passes-requires-clause-back g c =
     let start = handed c.args.out.now c.as_slice.result.now c.requires.plan.2 c.requires.kit c.as_slice.ensures c.requires.empty c.requires.room in

@@ -6,7 +6,7 @@ use Rattle.pas_trace.proofs.Keepers.{plan_actors}
 use Rattle.pas_shared.proofs.Opened.{fresh_many}
 use Rattle.pas_acts.proofs.PlanFacts.{plan_bounds}
 use Rattle.pas_threads.specs.Kits.{AreNew}
-use Rattle.pas_threads.proofs.StartAndEnd.{fresh_new, first_taken}
+use Rattle.pas_threads.proofs.StartAndEnd.{all_new, first_taken}
 use Rattle.pas_threads.proofs.kit.SharedKit.made_at.Goals as goal
 
 pub try_new-requires : goal.try_new-requires
@@ -60,11 +60,10 @@ returns c =
       others = team.0;
       kept = team.1;
       many = team.3;
-      unused = subst (AreNew region bounds 0) (first_taken c.in_ok-region.others.items c.remove-first.new.self.items first
+      unused = subst (AreNew region bounds) (first_taken c.in_ok-region.others.items c.remove-first.new.self.items first
           (omega (arith, many, same)) c.remove-first.ensures.value c.remove-first.ensures.items ∙ ap (λ ps. first ∷ ps) team.2)
-          (fresh_new region bounds 0 c.move_rooms.new.rooms.items c.in_ok-region.others.items fresh
-          (λ i d lt. same_Some _ _ (sym (rooms.each i d (omega (arith, lt, many))) ∙ c.in_ok-utility.ensures.rooms i (omega (arith, lt, many)) ∙ ap (λ bs. Some (slice_index bs i)) c.as_slice-bounds.ensures)
-          ∙ ap (slice_index bounds) (omega arith)));
+          (all_new region bounds c.move_rooms.new.rooms.items c.in_ok-region.others.items fresh
+          (λ i d lt. same_Some _ _ (sym (rooms.each i d (omega (arith, lt, many))) ∙ c.in_ok-utility.ensures.rooms i (omega (arith, lt, many)) ∙ ap (λ bs. Some (slice_index bs i)) c.as_slice-bounds.ensures)));
       team = team.4;
       none = c.in-Ok.ensures.items;
       place = omega (arith, place, threads);
