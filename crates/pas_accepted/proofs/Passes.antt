@@ -10,8 +10,8 @@ use Rattle.pas_machine.specs.State.{backed_in, deed_in, epoch_in, ends_in, gives
 use Rattle.pas_core.specs.Good.{word_of_backed, word_of_deed}
 use Rattle.pas_core.proofs.{Deeds.backed_of, Deeds.deed_of, MachineRuns.runs, OneActor.legal_earlier}
 use Rattle.pas_core.proofs.Lives.{stamps_are_ends, words_fit, life_at, turn_is}
-use Rattle.pas_steps.specs.{Desks.made, Desks.triples, Desks.triple, Kinds.Only, Kinds.Taking, Views.all_ones, Views.known_epoch, InTurn.InTurn}
-use Rattle.pas_steps.specs.{InTurn.numbers_below, Effects.life_word_at, Kinds.LookLife}
+use Rattle.pas_steps.specs.{Desks.made, Desks.triples, Desks.triple, Kinds.Only, Kinds.Taking, Kinds.LookLife, Views.all_ones, Views.known_epoch, InTurn.InTurn}
+use Rattle.pas_steps.specs.{InTurn.numbers_below, Effects.life_word_at}
 use Rattle.pas_steps.specs.Lists.{Legal, Whole, part, visible, word_after}
 use Rattle.pas_steps.specs.declared.step.{Made.Made, Step.TheVariants.Look, Step.TheVariants.Unhint, Step.TheVariants.Take}
 use Rattle.pas_steps.proofs.Apart.{no_events, only_both, only_within, epoch_same}
@@ -31,8 +31,6 @@ use Rattle.pas_bits.specs.Bits.{has_bit}
 use Rattle.pas_steps.proofs.{Parts.part_of_own, Adding.triples_append}
 use Rattle.pas_answers.specs.{PassRecords.record_of, PassRecords.records_of_pass, Answers.Progress, Answers.after_pass, Guarding.IsLowered}
 use Rattle.pas_answers.specs.{Guarding.after_lowering}
-use Rattle.pas_report.specs.Lines.{line_of}
-use Rattle.pas_report.specs.declared.record.{Record.Record, Said.Said}
 use Rattle.pas_scavenger.specs.Passes.{TriedSteps, TrySteps, Tried, WordRead, WordSteps, all_tried, outcomes_in, pages_set, trying, with_outcome, PassSteps}
 use Rattle.pas_scavenger.specs.Passes.{passing}
 use Rattle.pas_trace.specs.Acts.{MakesPass, Lowers}
@@ -42,6 +40,8 @@ use Rattle.pas_check.specs.Begins.{lowered_due, lowered_record, goes_down, sweep
 use Rattle.pas_check.specs.declared.guard.Guard.{Guard as Known}
 use Rattle.pas_guard.specs.Sweeps.{Swept, SweptOne, is_over, life_look, lowered_record as lowered_by, sweeping as sweeping_kinds}
 use Rattle.pas_guard.specs.declared.book.Guard.{Guard}
+use Rattle.pas_records.specs.Lines.{line_of}
+use Rattle.pas_records.specs.declared.record.{Record.Record, Said.Said}
 
 -- ---- What comes of a page in a pass may come there
 -- steps without an event leave what is visible
@@ -334,7 +334,7 @@ module _ (f : Profile) (valid : IsValid f) (p : Progress) (s : Stand) (ts : List
           events = ap visible (sym there);
           names = tells.names;
           logs = tells.logs;
-          awake = tells.awake;
+          idle_since = tells.idle_since;
           epoch = tells.epoch ∙ sym (epoch_kept passing refl 0 steps p.list h.kinds);
           books = tells.books;
           tidy = tidy_piece 0 steps p.list tells.tidy (tidy_over passing refl steps (part 0 p.list) h.kinds (tells.tidy 0));
@@ -444,7 +444,7 @@ module _ (f : Profile) (valid : IsValid f) (p : Progress) (s : Stand) (ts : List
           events = sym swept.shown;
           names = tells.names;
           logs = tells.logs;
-          awake = tells.awake;
+          idle_since = tells.idle_since;
           epoch = tells.epoch ∙ sym (epoch_kept sweeping_kinds refl keeper steps p.list h.sweep.kinds);
           books = booked_sweep p.books s.events keeper true s.guards [] swept.stay tells.books;
           tidy = tidy_piece keeper steps p.list tells.tidy (sweep_tidy f keeper true (p.books keeper) [] said steps (part keeper p.list) h.sweep (tells.tidy keeper));

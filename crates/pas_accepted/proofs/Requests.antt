@@ -4,8 +4,8 @@ use Rattle.std.proofs.Common.{subst, append-nil, MatchResult, ◌%◌, ◌||◌,
 use Rattle.std.proofs.Common.{MatchOption, ◌+◌, ◌*◌}
 use Rattle.std.specs.List.{AllByRecursion}
 use Rattle.pas_bits.specs.Runs.{in_run}
-use Rattle.pas_profile.specs.{Blocks.grain_of, Blocks.length_of, Directories.IsKind, Directories.deed_word_of, Profiles.IsValid, Requests.is_shared}
-use Rattle.pas_profile.specs.{Requests.kind_of_route, Requests.route_in, Blocks.address_of, Profiles.IsPage}
+use Rattle.pas_profile.specs.{Blocks.grain_of, Blocks.length_of, Blocks.address_of, Directories.IsKind, Directories.deed_word_of, Profiles.IsValid}
+use Rattle.pas_profile.specs.{Profiles.IsPage, Requests.is_shared, Requests.kind_of_route, Requests.route_in}
 use Rattle.pas_profile.specs.declared.{directory.Directory.Directory, directory.Route.Route, event.Event.Event, event.NoRoom.NoRoom}
 use Rattle.pas_profile.specs.declared.{event.NoRoom.TheVariants.Held, event.NoRoom.TheVariants.NoSpace, name.Block.Block, name.Name.Name}
 use Rattle.pas_profile.specs.declared.{profile.Profile.Profile, word.Word.Word, event.FreeFault.FreeFault}
@@ -23,7 +23,6 @@ use Rattle.pas_cache.specs.{Refusals.IsTrulyRefused, Refusals.IsTrulyRefusedBy, 
 use Rattle.pas_cache.specs.{Kinds.allocating}
 use Rattle.pas_cache.specs.Serves.{IsDeedOf, Wanted, IsPreparing as Prepares, ServesBy, pages_of}
 use Rattle.pas_segregated.specs.declared.slots.Slots.{Slots}
-use Rattle.pas_report.specs.declared.record.{Record.Record, Said.Said}
 use Rattle.pas_trace.specs.declared.{item.Request.Request, plan.What.TheVariants.Alloc}
 use Rattle.pas_answers.specs.Answers.{IsGiven, RefusalEnds, RequestEnds, block_of, records_of, said_by, said_of_request, said_of_room, wanted_by, Answer}
 use Rattle.pas_answers.specs.Answers.{IsFreed, IsFreedBy, Progress, after_answer, room_noted, said_of_fault, Caches, IsKept, IsRemadeBy, IsReplaced, IsServed}
@@ -31,12 +30,12 @@ use Rattle.pas_answers.specs.Answers.{having, request_for, with_cache, with_book
 use Rattle.pas_check.specs.Begins.{is_full, logging, replacing, unsized, entry_of as known_entry, freeing, freeing_at, freeing_named, is_aligned, is_page}
 use Rattle.pas_check.specs.Begins.{tells as saying, remaking, remaking_named, suits, guard_of, has_sides, page_above, page_below, raising, sweeping}
 use Rattle.pas_check.specs.{Calls.after_request, Accepted.IsDone, Accepted.IsWhole}
-use Rattle.pas_check.specs.Takes.{IsPreparing, IsRefusal, directory_of, Takes, is_back}
+use Rattle.pas_check.specs.Takes.{IsRefusal, directory_of, Takes, is_back, IsServing, block_in, given_next, kept_next}
 use Rattle.pas_check.specs.States.{Due, Serves, Stand, with_due, with_name, Task, Tries, with_one}
 use Rattle.pas_check.specs.declared.{entry.Entry.Entry, guard.Guard.Guard as Known}
 use Rattle.pas_accepted.proofs.Telling.{LeadsOn, on_as, on_both, on_line, on_same, lines_both, lines_by, lines_more, shown_is, raised_by, flush_only}
 use Rattle.pas_accepted.proofs.Telling.{flush_leads, emptied, logs_with, logged_as, table_same, own_at, put_twice, Comes, Tells, told_after, piece_of}
-use Rattle.pas_accepted.proofs.Telling.{AreBooked, booked_raise, booked_sweep}
+use Rattle.pas_accepted.proofs.Telling.{AreBooked, booked_raise, booked_sweep, after_piece}
 use Rattle.pas_rights.specs.Gives.{give_steps}
 use Rattle.pas_guard.specs.declared.book.Guard.{Guard}
 use Rattle.std.proofs.lemmas.{Bool.and_from, Bool.and_parts, Bool.false_from_ne_true, List.length-map, List.map-append, List.reverse-append}
@@ -48,12 +47,13 @@ use Rattle.pas_cache.proofs.Budget.{log_kept}
 use Rattle.pas_trace.specs.Named.{Named, named}
 use Rattle.pas_answers.specs.Refusals.{request_in_move, request_in_remade}
 use Rattle.pas_scan.specs.Runs.{large_directory}
-use Rattle.pas_report.specs.Lines.{line_of_event}
 use Rattle.pas_guard.specs.Raises.{IsNotRaised, IsRaised, RaiseSteps, guard_of as guard_at}
 use Rattle.pas_guard.specs.Seeks.{seeking}
 use Rattle.pas_guard.proofs.Raises.{raised_backs, raised_leaves}
 use Rattle.pas_answers.specs.Guarding.{IsTried, Tried, TryEnds, after_giving, after_trying, said_of_guard}
 use Rattle.pas_accepted.proofs.Passes.{swept_is, IsSwept, sweep_leads, up_after}
+use Rattle.pas_records.specs.declared.record.{Record.Record, Said.Said}
+use Rattle.pas_records.specs.Lines.{line_of_event}
 
 -- ---- A request: deeds and backs, and then the give of its block or a refusal, which is true
 -- ---- the directory of a request
@@ -84,21 +84,24 @@ abbrev pub serving : Stand → ℕ → Request → Option Name → List Event �
 serving w k r replaced es = record w { events = es; due = Serves k r replaced ∷ [] }
 
 -- in each case it computes, or is given
-prepared_by : (k : ℕ) (d : Directory) (e : Event) → Prepares d e → actor_of e ≡ k → IsPreparing k d e
-prepared_by k d e is own = search arith
+prepared_by : (f : Profile) (s : Stand) (k : ℕ) (r : Request) (e : Event) → Prepares (directory_of f r) e → actor_of e ≡ k
+    → IsServing f s k r e × (block_in e ≡ None)
+prepared_by f s k r e is own = search arith
 
--- Deeds and backs of one directory by one actor prepare its request.
-all_prepared : (k : ℕ) (d : Directory) (es : List Event) → AllByRecursion (Prepares d) es → AllByRecursion (λ e. actor_of e ≡ k) es
-    → AllByRecursion (IsPreparing k d) es
-all_prepared k d [] all own = tt
-all_prepared k d (e ∷ es) all own = (prepared_by k d e all.0 own.0, all_prepared k d es all.1 own.1)
-
+-- Deeds and backs of its directory by its actor lead on with a request.
 prepares_lead : (f : Profile) (w : Stand) (k : ℕ) (r : Request) (replaced : Option Name) (es : List Event)
-    → AllByRecursion (IsPreparing k (directory_of f r)) es → Run f (es ++ w.events)
+    → AllByRecursion (Prepares (directory_of f r)) es → AllByRecursion (λ e. actor_of e ≡ k) es → Run f (es ++ w.events)
     → LeadsOn f (serving w k r replaced w.events) (lines_by (records_of es)) (serving w k r replaced (es ++ w.events))
-prepares_lead f w k r replaced [] all run = on_same refl
-prepares_lead f w k r replaced (e ∷ es) all run =
-    let rest = prepares_lead f w k r replaced es all.1 run.1 in grind (arith, rest, on_as, lines_more, on_both, on_line)
+prepares_lead f w k r replaced [] all own run = on_same refl
+prepares_lead f w k r replaced (e ∷ es) all own run =
+    let s : Stand = serving w k r replaced (es ++ w.events) in
+    let is = prepared_by f s k r e all.0 own.0 in
+    on_as (lines_more e es) refl (on_both (prepares_lead f w k r replaced es all.1 own.1 run.1) (on_line (inr record {
+      item = Record.Event e;
+      may = (is.0, run.0);
+      line_is = refl;
+      next_is = ap (λ o. given_next o (with_one s e) k r replaced []) (sym is.1);
+    })))
 
 -- ---- the end
 deeds_prepare : (d : Directory) (e : Event) → IsDeedOf d e → Prepares d e
@@ -136,7 +139,8 @@ due_apart replaced v k due = search (arith, logged_apart)
 module _ (f : Profile) (valid : IsValid f) (w : Stand) (k : ℕ) (r : Request) (replaced : Option Name) (l : Whole) (steps : List Made)
     (events : w.events ≡ visible l) (legal : Legal f (triples k steps ++ l)) where
   given_leads : (block : Block) → IsGiven k (wanted_by f r) (part k l) steps block
-      → LeadsOn f (serving w k r replaced w.events) (lines_by (records_of (events_by k (part k l) steps) ++ [])) (served w k r replaced (Ok block) (visible (triples k steps ++ l)))
+      → LeadsOn f (serving w k r replaced w.events) (lines_by (records_of (events_by k (part k l) steps) ++ []))
+      (served w k r replaced (Ok block) (visible (triples k steps ++ l)))
   given_leads block h =
       let give : Event = Event.Give k block in
       let before : List Event = h.before in
@@ -150,14 +154,13 @@ module _ (f : Profile) (valid : IsValid f) (w : Stand) (k : ℕ) (r : Request) (
       let next_is = sym (due_apart replaced (with_name (record w { events = (give ∷ before) ++ w.events }) r.name (Some block)) k (Serves k r replaced ∷ [])) in
       on_as (ap lines_by (append-nil (records_of (events_by k (part k l) steps))) ∙ ap (λ es. lines_by (records_of es)) h.events ∙ lines_more give before)
       (ap (served w k r replaced (Ok block)) shown)
-      (on_both (prepares_lead f w k r replaced before (all_prepared k (directory_of f r) before h.prepared own.1) all.1)
-      (on_line (inr (inr (inl record {
-        block = block;
-        is_for = record { heap = h.of_heap; room = h.room; aligned = h.aligned; deeds = deeds };
-        admitted = all.0;
+      (on_both (prepares_lead f w k r replaced before h.prepared own.1 all.1)
+      (on_line (inr record {
+        item = Record.Event give;
+        may = ((refl, record { heap = h.of_heap; room = h.room; aligned = h.aligned; deeds = deeds }), all.0);
         line_is = refl;
         next_is = next_is;
-      })))))
+      })))
 
   -- A true reason is one that the check takes.
   refuses : (room : NoRoom) → IsTrueReason f (directory_of f r) (triples k steps ++ l) room → (es : List Event) → visible (triples k steps ++ l) ≡ es
@@ -180,9 +183,9 @@ module _ (f : Profile) (valid : IsValid f) (w : Stand) (k : ℕ) (r : Request) (
       let shown : visible (triples k steps ++ l) ≡ es ++ w.events = shown_is w k steps l events es refl in
       let said : Said = said_of_room r.name room in
       on_as (lines_both (records_of es) (Record.Said k said ∷ [])) (ap (served w k r replaced (Err room)) shown)
-      (on_both (prepares_lead f w k r replaced es (all_prepared k (directory_of f r) es (refusal_prepares (wanted_by f r).route (directory_of f r) es ends)
-      (events_own k (part k l) steps)) (subst (Run f) shown (runs f (triples k steps ++ l) valid legal)))
-      (on_line (inr (inr (inr record { said = said; refuses = refuses room true_reason (es ++ w.events) shown; line_is = refl; next_is = refl })))))
+      (on_both (prepares_lead f w k r replaced es (refusal_prepares (wanted_by f r).route (directory_of f r) es ends)
+      (events_own k (part k l) steps) (subst (Run f) shown (runs f (triples k steps ++ l) valid legal)))
+      (on_line (inr record { item = Record.Said k said; may = (refl, refuses room true_reason (es ++ w.events) shown); line_is = refl; next_is = refl })))
 
   -- THE REQUEST, as it was answered
   pub request_leads : (locals : List Slots) (answer : Result Block NoRoom) → RequestEnds k (wanted_by f r) (part k l) steps answer
@@ -216,7 +219,8 @@ comes_after f s u q ts before {rs} led come = record {
 module _ (f : Profile) (valid : IsValid f) (p : Progress) (s : Stand) (ts : List Task) (tells : Tells p s) (k : ℕ) (a : Answer) (names : a.names ≡ p.names)
     (tidy : Tidy (a.steps ++ part k p.list)) (legal : Legal f (triples k a.steps ++ p.list)) where
   -- ---- it is only said
-  said_comes : (said : Said) → a.steps ≡ [] → a.cache ≡ p.caches k → a.said ≡ Some said → LeadsOn f s [] (record (saying s k said) { left = ts }) → Comes f s (records_of (events_by k (part k p.list) a.steps) ++ said_by k a.said) (after_answer p k a) ts
+  said_comes : (said : Said) → a.steps ≡ [] → a.cache ≡ p.caches k → a.said ≡ Some said → LeadsOn f s [] (record (saying s k said) { left = ts })
+      → Comes f s (records_of (events_by k (part k p.list) a.steps) ++ said_by k a.said) (after_answer p k a) ts
   said_comes said none cache is begun =
       let t : Stand = record s { due = []; left = ts } in
       record {
@@ -258,12 +262,14 @@ module _ (f : Profile) (valid : IsValid f) (p : Progress) (s : Stand) (ts : List
   full_is : nat_le 64 (length (s.logs k)) ≡ nat_le 64 (length (p.caches k).log)
   full_is = ap (nat_le 64) (sym (ap (λ (es : List LogEntry). length es) (tells.logs k) ∙ length-map (s.logs k) logged_as))
 
-  fault_comes : (entry : Entry) (fault : FreeFault) → RefusesName f (p.caches k) a.cache entry.name a.steps fault → a.said ≡ Some (said_of_fault entry.name fault) → LeadsOn f s [] (record (freeing f s k entry) { left = ts })
+  fault_comes : (entry : Entry) (fault : FreeFault) → RefusesName f (p.caches k) a.cache entry.name a.steps fault
+      → a.said ≡ Some (said_of_fault entry.name fault) → LeadsOn f s [] (record (freeing f s k entry) { left = ts })
       → Comes f s (records_of (events_by k (part k p.list) a.steps) ++ said_by k a.said) (after_answer p k a) ts
   fault_comes entry fault h said begun = search (arith, page_isnt, said_comes, on_as, page_is, ne_eqb)
 
   -- The lines of a free lead the check to what the free comes to.
-  pub free_comes : (entry : Entry) → IsFreed f k (p.caches k) a.cache (logged_as entry) a.steps a.said → LeadsOn f s [] (record (freeing f s k entry) { left = ts })
+  pub free_comes : (entry : Entry) → IsFreed f k (p.caches k) a.cache (logged_as entry) a.steps a.said
+      → LeadsOn f s [] (record (freeing f s k entry) { left = ts })
       → Comes f s (records_of (events_by k (part k p.list) a.steps) ++ said_by k a.said) (after_answer p k a) ts
   free_comes entry (inl h) begun =
       let there = ap (λ x. record (freeing_at x (is_aligned entry.name) s k entry) { left = ts }) (page_is f (address_of entry.name / 4096) h.0.region.page)
@@ -294,7 +300,7 @@ module _ (f : Profile) (p : Progress) (s : Stand) (ts : List Task) (tells : Tell
   asked_then = record s { events = visible (triples k placed.steps ++ p.list); names = record { name = r.name; block = block_of is.answer } ∷ s.names; due = []; left = ts }
 
   -- After a reallocation's request was answered, the check knows what the replay came to.
-  pub asked_tells : (records : List Record) → Tells record { names = placed.names; caches = with_cache p.caches k placed.cache; books = p.books; epoch = p.epoch; list = triples k placed.steps ++ p.list; records = records } asked_then
+  pub asked_tells : (records : List Record) → Tells (after_piece p k placed.steps placed.cache placed.names records) asked_then
   asked_tells records = told_after p s asked_then k placed.steps placed.cache placed.names records tells refl
       (ap (λ ns. record { name = r.name; block = block_of is.answer } ∷ ns) tells.names ∙ sym is.names_are)
       (λ j. table_same (λ (d : Cached). d.log) p.caches k placed.cache
@@ -489,12 +495,21 @@ abbrev pub any_back : List Event → Bool
 any_back [] = false
 any_back (e ∷ es) = any_back es || is_back e
 
-keeping_lead : (f : Profile) (w : Stand) (keeper k : ℕ) (r : Request) (es : List Event) → AllByRecursion (IsPreparing keeper (directory_of f r)) es
-    → Run f (es ++ w.events)
+-- .. and the keeper's lead on with its try
+keeping_lead : (f : Profile) (w : Stand) (keeper k : ℕ) (r : Request) (es : List Event) → AllByRecursion (Prepares (directory_of f r)) es
+    → AllByRecursion (λ e. actor_of e ≡ keeper) es → Run f (es ++ w.events)
     → LeadsOn f (trying w keeper k r false w.events) (lines_by (records_of es)) (trying w keeper k r (any_back es) (es ++ w.events))
-keeping_lead f w keeper k r [] all run = on_same refl
-keeping_lead f w keeper k r (e ∷ es) all run =
-    let rest = keeping_lead f w keeper k r es all.1 run.1 in grind (arith, rest, on_as, lines_more, on_both, on_line)
+keeping_lead f w keeper k r [] all own run = on_same refl
+keeping_lead f w keeper k r (e ∷ es) all own run =
+    let s : Stand = trying w keeper k r (any_back es) (es ++ w.events) in
+    let is = prepared_by f s keeper r e all.0 own.0 in
+    on_as (lines_more e es) refl (on_both (keeping_lead f w keeper k r es all.1 own.1 run.1) (on_line (inr (inl record {
+      event = e;
+      serves = is.0;
+      admitted = run.0;
+      line_is = refl;
+      next_is = ap (λ o. kept_next o f (with_one s e) keeper k r (any_back (e ∷ es)) []) (sym is.1);
+    }))))
 
 deed_backs_none : (d : Directory) (e : Event) → IsDeedOf d e → is_back e ≡ false
 deed_backs_none d e (IsDeedOf.Deeds k page) = refl
@@ -545,28 +560,29 @@ module _ (f : Profile) (valid : IsValid f) (w : Stand) (keeper k : ℕ) (r : Req
       (deed_known f (triples keeper steps ++ l) keeper (x / 256) (directory_of f r) legal (kind_asked f r)
       (subst (KnowsDeed (x / 256) (directory_of f r)) (sym (part_of_own keeper steps l)) (h.of_directory x inside))) in
       let given : LeadsOn f start (lines_by (records_of before) ++ line_of_event give ∷ []) mid
-      = on_both (keeping_lead f w keeper k r before (all_prepared keeper (directory_of f r) before h.prepared own.1) all.1)
-      (on_line (inr (inr (inl record {
-        block = block;
-        is_for = record { heap = h.of_heap; room = h.room; aligned = h.aligned; deeds = deeds };
+      = on_both (keeping_lead f w keeper k r before h.prepared own.1 all.1)
+      (on_line (inr (inl record {
+        event = give;
+        serves = (refl, record { heap = h.of_heap; room = h.room; aligned = h.aligned; deeds = deeds });
         admitted = all.0;
         line_is = refl;
         next_is = ap (λ t. raising t (with_name (with_one old give) r.name (Some block)) keeper r.name block []) (sym sides);
-      })))) in
+      }))) in
       on_as
       (simp (lines_both, h.events, lines_more))
       (ap (guarded w keeper r block) shown_swept)
       (on_both given (on_line (inr (refl, refl))))
 
   tried_leads : AllByRecursion (IsDeedOf (directory_of f r)) (events_by keeper (part keeper l) steps)
-      → LeadsOn f (trying w keeper k r false w.events) (lines_by (records_of (events_by keeper (part keeper l) steps))) (trying w keeper k r false (visible (triples keeper steps ++ l)))
+      → LeadsOn f (trying w keeper k r false w.events) (lines_by (records_of (events_by keeper (part keeper l) steps)))
+      (trying w keeper k r false (visible (triples keeper steps ++ l)))
   tried_leads deeds =
       let es : List Event = events_by keeper (part keeper l) steps in
       let shown_swept : visible (triples keeper steps ++ l) ≡ es ++ w.events = shown_is w keeper steps l events es refl in
       on_as refl
       (λ i. trying w keeper k r (sym (deeds_back_none (directory_of f r) es deeds) i) (shown_swept i))
-      (keeping_lead f w keeper k r es (all_prepared keeper (directory_of f r) es (all_deeds (directory_of f r) es deeds)
-      (events_own keeper (part keeper l) steps)) (subst (Run f) shown_swept (runs f (triples keeper steps ++ l) valid legal)))
+      (keeping_lead f w keeper k r es (all_deeds (directory_of f r) es deeds)
+      (events_own keeper (part keeper l) steps) (subst (Run f) shown_swept (runs f (triples keeper steps ++ l) valid legal)))
 
 -- ---- the pages beside a block that was raised
 module _ (f : Profile) (d : Directory) (keeper n : ℕ) (guards guards' : List Guard) (searched after : List Made) (block : Block)
@@ -678,11 +694,11 @@ module _ (f : Profile) (valid : IsValid f) (p : Progress) (s : Stand) (ts : List
   tried_tells : (names : List Named) (u : Stand) (records : List Record) → u.events ≡ visible list2 → u.names ≡ names → u.logs ≡ s.logs
       → u.idle_since ≡ s.idle_since → u.epoch ≡ s.epoch → AreBooked (with_book p.books keeper t.guards) u.guards
       → Tells record { names = names; caches = p.caches; books = with_book p.books keeper t.guards; epoch = p.epoch; list = list2; records = records } u
-  tried_tells names u records events named_so logs awake epoch books = record {
+  tried_tells names u records events named_so logs since epoch books = record {
     events = events;
     names = named_so;
     logs = λ j. tells.logs j ∙ ap (λ table. map logged_as (table j)) (sym logs);
-    awake = λ j. ap (λ (table : ℕ → ℕ). table j) awake ∙ tells.awake j;
+    idle_since = λ j. ap (λ (table : ℕ → ℕ). table j) since ∙ tells.idle_since j;
     epoch = epoch ∙ tells.epoch ∙ sym tried_epoch;
     books = books;
     tidy = tidy_piece keeper t.steps p.list tells.tidy (try_tidy f keeper r (part keeper p.list) (p.books keeper) t is (tells.tidy keeper));

@@ -12,14 +12,12 @@ use Rattle.pas_profile.proofs.Lists.{all_both}
 use Rattle.std.proofs.lemmas.List.Elements.{filter-append, All-filter, All-from_recursion, recursion_from_All}
 use Rattle.std.proofs.lemmas.Bool.{cases_eq, eqb-false, false≢true, cond_both}
 use Rattle.std.proofs.lemmas.{List.map-append, List.reverse-append, Option.none-some, Option.same_Some}
-use Rattle.pas_steps.specs.{Desks.triples, Events.event_of, Events.events_by, Events.with_event, Views.epoch_of, Desks.made, InTurn.InTurn}
+use Rattle.pas_steps.specs.{Desks.triples, Desks.made, Events.event_of, Events.events_by, Events.with_event, Views.epoch_of, InTurn.InTurn}
 use Rattle.pas_steps.specs.{Effects.life_word_at}
 use Rattle.pas_steps.specs.Lists.{Whole, part, visible, Legal, word_after}
-use Rattle.pas_steps.specs.declared.step.{Made.Made, Step.Step}
-use Rattle.pas_steps.proofs.{Frames.with_append, Parts.part_of_own, Apart.only_both, Apart.only_within, Calls.returns_are, Adding.triples_append}
-use Rattle.pas_steps.proofs.{Frames.events_append}
-use Rattle.pas_report.specs.Lines.{line_of, line_of_event}
-use Rattle.pas_report.specs.declared.record.Record.{Record}
+use Rattle.pas_steps.specs.declared.step.{Made.Made, Step.Step, Step.TheVariants.Look, Step.TheVariants.Stamp, Step.TheVariants.EndSized}
+use Rattle.pas_steps.proofs.{Frames.with_append, Frames.events_append, Parts.part_of_own, Apart.only_both, Apart.only_within, Calls.returns_are}
+use Rattle.pas_steps.proofs.{Adding.triples_append}
 use Rattle.pas_cache.specs.{Caches.Cached, Changes.EmptiesLog, Kinds.releasing}
 use Rattle.pas_answers.specs.Answers.{Caches, records_of, with_cache, Books, with_book, Progress, IsStopped}
 use Rattle.pas_profile.specs.{Blocks.address_of, Blocks.grain_of, Directories.deed_word_of, Lives.live_word, Profiles.IsValid}
@@ -30,16 +28,17 @@ use Rattle.std.specs.List.{AllByRecursion, filter}
 use Rattle.pas_machine.specs.State.{ends_in, Live, gives_in, live_in}
 use Rattle.pas_guard.specs.declared.book.Guard.{Guard}
 use Rattle.pas_trace.specs.Named.{Named}
-use Rattle.pas_report.proofs.Showable.{AreOfRegion}
-use Rattle.pas_answers.proofs.{Consequences.tidy_piece, Reached.Each, Reached.legal_part, Reached.of_front, Consequences.Tidy, Consequences.stop_tidy}
+use Rattle.pas_answers.proofs.{Consequences.tidy_piece, Consequences.Tidy, Consequences.stop_tidy, Reached.Each, Reached.legal_part, Reached.of_front}
 use Rattle.pas_steps.specs.Kinds.{Kinds, Only, Putting, is_in, kind_of, returning}
-use Rattle.pas_steps.specs.declared.step.Step.TheVariants.{Look, Stamp, Deed, EndSized}
 use Rattle.pas_rights.proofs.{Orders.return_returns, Puts.puts_kinds}
 use Rattle.pas_free_log.specs.Flushes.{AfterEnd, EntrySteps, Settled, EntriesSteps, event_for, shown_for}
 use Rattle.pas_free_log.specs.{Frames.freeing, Returns.PageSteps, Returns.count_on, Returns.first_on, Stamps.page_count, Stamps.pages_from, Logs.is_sized}
 use Rattle.pas_machine.specs.Machine.{HasOtherRoom, Admits, Run}
 use Rattle.pas_core.specs.Good.{IsLifeOf, IsLifeOfLive}
 use Rattle.pas_core.proofs.{Lives.block_of_word, Lives.life_at, OneActor.legal_earlier, MachineRuns.runs}
+use Rattle.pas_records.specs.Lines.{line_of, line_of_event}
+use Rattle.pas_records.specs.declared.record.Record.{Record}
+use Rattle.pas_records.proofs.Showable.{AreOfRegion}
 
 -- ---- Lines that lead a check from one state to another
 -- where thread k's log is being emptied, and has these entries afterwards, when this is due
@@ -280,7 +279,7 @@ pub record Tells (p : Progress) (s : Stand) : Type 0 where
   pub events : s.events ≡ visible p.list
   pub names : s.names ≡ p.names
   pub logs : (k : ℕ) → (p.caches k).log ≡ map logged_as (s.logs k)
-  pub awake : (k : ℕ) → s.idle_since k ≡ (p.caches k).idle_since
+  pub idle_since : (k : ℕ) → s.idle_since k ≡ (p.caches k).idle_since
   pub epoch : s.epoch ≡ word_after p.list Word.Epoch
   pub books : AreBooked p.books s.guards
   pub tidy : Each Tidy p.list
@@ -295,14 +294,17 @@ pub record Comes (f : Profile) (s : Stand) (rs : List Record) (q : Progress) (ts
 pub piece_of : (f : Profile) (k : ℕ) (steps : List Made) (l : Whole) → Legal f (triples k steps ++ l) → AreOfRegion f steps
 piece_of f k steps l legal = of_front f steps (part k l) (subst (AreOfRegion f) (part_of_own k steps l) (legal_part f (triples k steps ++ l) k legal))
 
--- after a piece of actor k, whose cache holds c then
+-- what the replay has come to after a piece of actor k, whose cache holds c then
+abbrev pub after_piece : Progress → ℕ → List Made → Cached → List Named → List Record → Progress
+after_piece p k steps c names records = record p { names = names; caches = with_cache p.caches k c; list = triples k steps ++ p.list; records = records }
+
 pub told_after : (p : Progress) (s t : Stand) (k : ℕ) (steps : List Made) (c : Cached) (names : List Named) (records : List Record) → Tells p s
     → t.events ≡ visible (triples k steps ++ p.list) → t.names ≡ names
     → ((j : ℕ) → (with_cache p.caches k c j).log ≡ map logged_as (t.logs j)) → c.idle_since ≡ (p.caches k).idle_since → t.idle_since ≡ s.idle_since
     → t.epoch ≡ s.epoch → t.guards ≡ s.guards
     → word_after (triples k steps ++ p.list) Word.Epoch ≡ word_after p.list Word.Epoch → Tidy (steps ++ part k p.list)
-    → Tells record { names = names; caches = with_cache p.caches k c; books = p.books; epoch = p.epoch; list = triples k steps ++ p.list; records = records } t
-told_after p s t k steps c names records tells events named logs idle awake epoch guards still tidy = search (arith, table_same, booked_as, tidy_piece)
+    → Tells (after_piece p k steps c names records) t
+told_after p s t k steps c names records tells events named logs idle since epoch guards still tidy = search (arith, table_same, booked_as, tidy_piece)
 
 -- ---- The steps of a flush end names, and stamp and put back what they ended: none is a tick
 none_only : (ks : Kinds) (steps : List Made) → steps ≡ [] → Only ks steps
@@ -564,9 +566,9 @@ module _ (f : Profile) (valid : IsValid f) (p : Progress) (s : Stand) (tells : T
   -- After a thread's stop the check knows what the replay came to.
   pub stop_tells : (names : List Named) (records : List Record) (t : Stand) → t.events ≡ visible (triples k steps ++ p.list) → t.names ≡ names
       → t.logs ≡ with_at s.logs k [] → t.idle_since ≡ s.idle_since → t.epoch ≡ s.epoch → t.guards ≡ s.guards
-      → Tells record { names = names; caches = with_cache p.caches k c; books = p.books; epoch = p.epoch; list = triples k steps ++ p.list; records = records } t
-  stop_tells names records t events named logs awake epoch guards =
+      → Tells (after_piece p k steps c names records) t
+  stop_tells names records t events named logs since epoch guards =
       told_after p s t k steps c names records tells events named
       (λ j. logs_with p s k c [] tells (ap (λ (d : Cached). d.log) h.cache) j ∙ ap (λ (table : ℕ → List KnownEntry). map logged_as (table j)) (sym logs))
-      (ap (λ (d : Cached). d.idle_since) h.cache) awake epoch guards (epoch_kept freeing refl k steps p.list (stop_only k (p.caches k) c steps h))
+      (ap (λ (d : Cached). d.idle_since) h.cache) since epoch guards (epoch_kept freeing refl k steps p.list (stop_only k (p.caches k) c steps h))
       (stop_tidy f k (p.caches k) c steps (part k p.list) (piece_of f k steps p.list legal) h (tells.tidy k))

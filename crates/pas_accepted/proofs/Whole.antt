@@ -1,6 +1,6 @@
 -- Each act of a replay in the order of the text, and so the whole: its transcript is accepted, its report line by line.
 use Rattle.std.proofs.Common.{arith, ◌≡◌, ℕ, List, [], ◌∷◌, ◌++◌, None, Some, refl, ap, sym, ◌∙◌, Option, MatchResult, ◌+◌, ◌==◌, max, nat_le, true, false, inl}
-use Rattle.std.proofs.Common.{inr, subst, append-nil, append_assoc, map, le-leb, leb-true, Bool, true≢false, zero, suc, ◌≤◌, codes}
+use Rattle.std.proofs.Common.{inr, subst, append-nil, append_assoc, map, le-leb, leb-true, Bool, true≢false, zero, suc, ◌≤◌, codes, ◌||◌}
 use Rattle.pas_profile.specs.Profiles.{IsValid}
 use Rattle.pas_profile.specs.declared.{profile.Profile.Profile, name.Block.Block, word.Word.Word, event.Event.Event, name.Name.Name}
 use Rattle.pas_profile.specs.declared.{directory.Directory.Directory}
@@ -8,7 +8,6 @@ use Rattle.pas_steps.specs.{Desks.triples, Events.events_by}
 use Rattle.pas_steps.specs.Lists.{Legal, part, visible, word_after, Whole}
 use Rattle.pas_free_log.specs.Frames.{freeing}
 use Rattle.pas_cache.specs.{Caches.Cached, Refusals.IsTrulyRefused}
-use Rattle.pas_report.specs.declared.record.{Record.Record, Said.Said}
 use Rattle.pas_trace.specs.declared.{item.Request.Request, plan.What.What, plan.Op.Op, plan.Chore.Chore, plan.Work.Work, plan.Plan.Plan}
 use Rattle.pas_trace.specs.declared.plan.What.TheVariants.{Alloc, Guarded, Free, FreeSized, Raw, RawSized, Remake, Flush, Stop}
 use Rattle.pas_answers.specs.Answers.{Answer, IsAnswered, IsFreedBy, IsServed, Progress, after_answer, having, records_of, room_noted, said_by, wanted_by}
@@ -20,7 +19,7 @@ use Rattle.pas_answers.specs.{Guarding.IsTried, Guarding.Tried, Guarding.after_t
 use Rattle.pas_answers.proofs.Consequences.{Tidy, answer_tidy, look_tidy, tick_tidy, tidy_piece}
 use Rattle.pas_check.specs.Begins.{begun_what, entry_of as known_entry, freeing_named, remaking_named, unsized, stopping, sweeping, after_task, begun}
 use Rattle.pas_check.specs.Begins.{begun_act, begun_from, past_outcomes, ready, ready_with, page_due, pages_due}
-use Rattle.pas_check.specs.States.{Serves, Stand, Task, Does, Due, Tries, Writes, with_at, Frees, Examines, Reports, at_first, Heads, Shows, Totals}
+use Rattle.pas_check.specs.States.{Serves, Stand, Task, Does, Due, Tries, Writes, with_at, Frees, Examines, Reports, at_first, Heads, Shows, Totals, with_one}
 use Rattle.pas_check.proofs.Ticks.{epoch_kept}
 use Rattle.pas_accepted.proofs.Telling.{flush_only, flush_leads, emptied, logs_with, stop_leads, stop_tells, LeadsOn, on_as, on_both, lines_by, Comes, Tells}
 use Rattle.pas_accepted.proofs.Telling.{piece_of, told_after, on_line, on_done, on_task, emptying, booked_as, logged_as, lines_both, table_at, table_same}
@@ -37,11 +36,13 @@ use Rattle.pas_answers.proofs.Reached.{was_so}
 use Rattle.pas_check.proofs.Cuts.{cut_records, cut_line, kind_first, number_first, totals_end}
 use Rattle.pas_machine.specs.{Machine.Admits, Machine.Bears, State.deed_in}
 use Rattle.pas_check.specs.{Accepted.Goes, Accepted.IsWhole, Accepted.IsAccepted, Lines.lines_in, Lines.is_line}
-use Rattle.pas_check.specs.Takes.{IsFor, Takes, TakesDue, TakesOutcome, TakesRequest, serving, AreAllowedMarks, head_line}
-use Rattle.pas_report.specs.{Lines.lines_of, Marks.Marked, Marks.marks_after, Rests.AreTrueMarks, Marks.marks_text}
+use Rattle.pas_check.specs.Takes.{IsFor, Takes, TakesDue, TakesOutcome, TakesRequest, serving, AreAllowedMarks, head_line, MayServe, block_in, is_back}
+use Rattle.pas_check.specs.Takes.{kept_next}
 use Rattle.pas_report.specs.Reports.{report_text, machine_page, machine_pages, page_text, total_line}
 use Rattle.pas_answers.specs.Replays.{IsReplay, acts_of_plan, at_start, keepers_of, phases_of, region_of, threads_of}
-use Rattle.pas_machine.specs.Totals.{backed_total, deeds_total, ended_total, given_total, live_total}
+use Rattle.pas_records.specs.declared.record.{Record.Record, Said.Said}
+use Rattle.pas_records.specs.{Lines.lines_of, Marks.Marked, Marks.marks_after, Marks.marks_text, Rests.AreTrueMarks}
+use Rattle.pas_report.specs.Totals.{totals_of}
 
 -- ---- A thread's operation, by what it asks for
 module _ (f : Profile) (valid : IsValid f) (p : Progress) (s : Stand) (ts : List Task) (tells : Tells p s) (due : s.due ≡ []) (k : ℕ) (a : Answer)
@@ -74,7 +75,8 @@ module _ (f : Profile) (valid : IsValid f) (p : Progress) (s : Stand) (ts : List
       }
 
   -- THE OPERATION
-  what_comes : (what : What) (is : IsAnswered f k what (having p.names (part k p.list) (p.caches k)) a) → RefusesTruly f k what (having p.names (part k p.list) (p.caches k)) a is p.list → LeadsOn f s [] (record (begun_what f s k what) { left = ts })
+  what_comes : (what : What) (is : IsAnswered f k what (having p.names (part k p.list) (p.caches k)) a)
+      → RefusesTruly f k what (having p.names (part k p.list) (p.caches k)) a is p.list → LeadsOn f s [] (record (begun_what f s k what) { left = ts })
       → Comes f s (records_of (events_by k (part k p.list) a.steps) ++ said_by k a.said) (after_answer p k a) ts
   what_comes (Alloc name heap size align) is truly begun = request_comes (record { name = name; heap = heap; size = size; align = align }) is truly begun
   what_comes (Guarded keeper name heap size align) is truly begun = request_comes (record { name = name; heap = heap; size = size; align = align }) is truly begun
@@ -122,7 +124,7 @@ module _ (f : Profile) (valid : IsValid f) (p : Progress) (s : Stand) (ts : List
   look_tells : (k epoch : ℕ) (t : Stand) (caches : ℕ → Cached) (read : ℕ) → t.events ≡ s.events → t.names ≡ s.names
       → ((j : ℕ) → (caches j).log ≡ map logged_as (t.logs j)) → ((j : ℕ) → t.idle_since j ≡ (caches j).idle_since) → t.epoch ≡ s.epoch → t.guards ≡ s.guards
       → Tells record { names = p.names; caches = caches; books = p.books; epoch = read; list = triples k (epoch_look epoch) ++ p.list; records = p.records } t
-  look_tells k epoch t caches read events names logs awake same guards = search (arith, booked_as, tidy_piece, look_tidy)
+  look_tells k epoch t caches read events names logs since same guards = search (arith, booked_as, tidy_piece, look_tidy)
 
   woken_comes : (k epoch : ℕ) → s.left ≡ Does (Wakes k) ∷ ts → epoch ≡ word_after p.list Word.Epoch → Comes f s [] (after_wake p k epoch) ts
   woken_comes k epoch left is =
@@ -133,13 +135,13 @@ module _ (f : Profile) (valid : IsValid f) (p : Progress) (s : Stand) (ts : List
         tells = look_tells k epoch t (with_cache p.caches k (woken (p.caches k) epoch)) p.epoch refl refl
             (λ j. table_same (λ (d : Cached). d.log) p.caches k (woken (p.caches k) epoch) refl j ∙ tells.logs j)
             (λ j. sym (table_at (λ (d : Cached). d.idle_since) (λ (n : ℕ). n) (j == k) (woken (p.caches k) epoch) (p.caches j) s.epoch
-            (s.idle_since j) (is ∙ sym tells.epoch) (sym (tells.awake j)))) refl refl;
+            (s.idle_since j) (is ∙ sym tells.epoch) (sym (tells.idle_since j)))) refl refl;
       }
 
   read_comes : (epoch : ℕ) → s.left ≡ Does ReadsEpoch ∷ ts → Comes f s [] (after_reading p epoch) ts
   read_comes epoch left =
       let t : Stand = record s { due = []; left = ts } in
-      record { end = t; leads = on_done {t = record s { left = ts }} due (on_task due left); tells = look_tells 0 epoch t p.caches epoch refl refl tells.logs tells.awake refl refl }
+      record { end = t; leads = on_done {t = record s { left = ts }} due (on_task due left); tells = look_tells 0 epoch t p.caches epoch refl refl tells.logs tells.idle_since refl refl }
 
   -- ---- what is handed on
   settled_comes : (k : ℕ) → s.left ≡ Does (Settles k) ∷ ts → Comes f s [] (after_settling p k) ts
@@ -150,8 +152,10 @@ module _ (f : Profile) (valid : IsValid f) (p : Progress) (s : Stand) (ts : List
   }
 
   -- ---- marks and ticks
-  same_tells : (t : Stand) (records : List Record) → t.events ≡ s.events → t.names ≡ s.names → t.logs ≡ s.logs → t.idle_since ≡ s.idle_since → t.epoch ≡ s.epoch → t.guards ≡ s.guards → Tells record { names = p.names; caches = p.caches; books = p.books; epoch = p.epoch; list = p.list; records = records } t
-  same_tells t records events names logs awake epoch guards = search (arith, booked_as)
+  same_tells : (t : Stand) (records : List Record) → t.events ≡ s.events → t.names ≡ s.names → t.logs ≡ s.logs → t.idle_since ≡ s.idle_since → t.epoch ≡ s.epoch
+      → t.guards ≡ s.guards
+      → Tells (record p { records = records }) t
+  same_tells t records events names logs since epoch guards = search (arith, booked_as)
 
   -- one line is written
   wrote : (act : Act) (item : Record) (t : Stand) → s.left ≡ Does act ∷ ts → LeadsOn f s [] (record t { due = Writes item ∷ [] })
@@ -199,7 +203,7 @@ module _ (f : Profile) (valid : IsValid f) (p : Progress) (s : Stand) (ts : List
       }
 
   idle_is : (k n : ℕ) → p.epoch ≡ word_after p.list Word.Epoch → IsIdleFor p k n → nat_le (s.idle_since k + n) s.epoch ≡ true
-  idle_is k n reads idle = le-leb (s.idle_since k + n) s.epoch (omega (arith, idle, tells.awake k, tells.epoch, reads))
+  idle_is k n reads idle = le-leb (s.idle_since k + n) s.epoch (omega (arith, idle, tells.idle_since k, tells.epoch, reads))
 
   idle_isnt : (k n : ℕ) → p.epoch ≡ word_after p.list Word.Epoch → (IsIdleFor p k n → ⊥) → nat_le (s.idle_since k + n) s.epoch ≡ false
   idle_isnt k n reads busy = search (arith, false_from_ne_true, leb-true)
@@ -323,7 +327,7 @@ cut_report : (f : Profile) (es : List Event) (marks : ℕ → Marked) → lines_
 cut_report f es marks =
     let total : List ℕ = total_line f es in
     let last : lines_in total ≡ total ∷ []
-    = ap lines_in (sym (append-nil total)) ∙ cut_line total [] (totals_end (deeds_total f es) (backed_total f es) (live_total f es) (given_total f es) (ended_total f es)) in
+    = ap lines_in (sym (append-nil total)) ∙ cut_line total [] (totals_end (totals_of f es)) in
     cut_line (codes "report\n") (machine_pages es marks f.pages ++ total) refl
     ∙ ap (λ ls. head_line ∷ ls) (cut_pages es marks f.pages total ∙ ap (λ ls. page_lines es marks f.pages ++ ls) last)
 
@@ -499,10 +503,19 @@ module _ (f : Profile) (n : ℕ) where
   is_for : (s : Stand) (r : Request) (block : Block) → IsFor other s r block → IsFor f s r block
   is_for s r block h = record { heap = h.heap; room = h.room; aligned = h.aligned; deeds = h.deeds }
 
-  -- So a line of a request that is taken,
+  -- So is what answers a request,
+  serves : (s : Stand) (k : ℕ) (r : Request) (item : Record) → MayServe other s k r item → MayServe f s k r item
+  serves s k r item may = search (arith, admits, is_for)
+
+  -- a line of a request that is taken,
   request : (s : Stand) (k : ℕ) (r : Request) (old : Option Name) (more : List Due) (line : List ℕ) (next : Stand) → TakesRequest other s k r old more line next
       → TakesRequest f s k r old more line next
-  request s k r old more line next is = search (arith, admits, is_for)
+  request s k r old more line next is = record { item = is.item; may = serves s k r is.item is.may; line_is = is.line_is; next_is = is.next_is }
+
+  -- in each case it computes, or is given
+  kept_same : (o : Option Block) (s : Stand) (keeper k : ℕ) (r : Request) (backed : Bool) (more : List Due)
+      → kept_next o other s keeper k r backed more ≡ kept_next o f s keeper k r backed more
+  kept_same o s keeper k r backed more = search arith
 
   outcome_of : (s : Stand) (last : ℕ) (more : List Due) (line : List ℕ) (next : Stand) → TakesOutcome other s last more line next
       → TakesOutcome f s last more line next
@@ -512,10 +525,11 @@ module _ (f : Profile) (n : ℕ) where
   due_of : (s : Stand) (due : List Due) (line : List ℕ) (next : Stand) → TakesDue other s due line next → TakesDue f s due line next
   due_of s (Frees k entry ∷ more) line next h = search (arith, admits)
   due_of s (Serves k r old ∷ more) line next h = request s k r old more line next h
-  due_of s (Tries keeper k r backed ∷ more) line next (inl h) = search (arith, admits)
-  due_of s (Tries keeper k r backed ∷ more) line next (inr (inl h)) =
-      search (arith, is_for, admits)
-  due_of s (Tries keeper k r backed ∷ more) line next (inr (inr h)) = inr (inr (h.0, request (serving s k r more) k r None more line next h.1))
+  due_of s (Tries keeper k r backed ∷ more) line next (inl h) =
+      let is = serves s keeper r (Record.Event h.event) (h.serves, h.admitted) in
+      let next_is = h.next_is ∙ kept_same (block_in h.event) (with_one s h.event) keeper k r (backed || is_back h.event) more in
+      inl (record { event = h.event; serves = is.0; admitted = is.1; line_is = h.line_is; next_is = next_is })
+  due_of s (Tries keeper k r backed ∷ more) line next (inr h) = inr (h.0, request (serving s k r more) k r None more line next h.1)
   due_of s (Examines page ∷ more) line next h = outcome_of s page more line next h
   due_of s any line next h = h
 

@@ -5,9 +5,8 @@ use Rattle.std.proofs.Common.{eqb-true, is_some, le-leb, leb-true, ne_eqb, ◌-�
 use Rattle.std.proofs.lemmas.Bool.{and_from, and_parts, cases_eq, false_from_ne_true, lt-leb}
 use Rattle.pas_profile.specs.{Directories.IsKind, Profiles.IsPage, Blocks.address_of}
 use Rattle.pas_profile.specs.declared.{name.Block.Block, name.Name.Name, profile.Profile.Profile}
-use Rattle.pas_machine.specs.Machines.{profile_of, StandsFor}
+use Rattle.pas_machine.specs.Machines.{profile_of}
 use Rattle.pas_machine.specs.declared.machine.Machine.{Machine}
-use Rattle.pas_report.specs.declared.record.{Record.Record, Said.Said}
 use Rattle.pas_trace.specs.{Named.standing_for, EveryPlan.all_ops, Plans.ops_of, Plans.IsPlanOf, Plans.phases_of}
 use Rattle.pas_trace.specs.Acts.{Act, MakesPass, StopsIdle, Ticks, Wakes, numbers_from, MarksPhase, Settles, act_kept, acts_from, acts_of, acts_of_chore}
 use Rattle.pas_trace.specs.Acts.{acts_of_op, acts_of_ops, acts_of_work, close_acts, is_active, phase_acts, threads_where, keepers_of}
@@ -34,6 +33,7 @@ use Rattle.std.proofs.lemmas.List.{drop_more, length-map}
 use Rattle.pas_bits.specs.Masks.{is_set}
 use Rattle.pas_bits.specs.declared.mask.Mask4.{Mask4}
 use Rattle.pas_trace.specs.Asked.{work_of, of_task, keeper_of, keeper_in}
+use Rattle.pas_records.specs.declared.record.{Record.Record, Said.Said}
 
 -- ---- Acts, done.
 later : {f : Profile} {j : Judge} {s : Stand} {from : Cursor} (to : Cursor) → from.lines ≤ to.lines → Stands f j s from → Stands f j s to
@@ -122,41 +122,21 @@ pub ticked : {f : Profile} {text : List ℕ} {old : Judge} {from to : Cursor} {e
 ticked {f = f} {old = old} {from = from} {e = e} within n greater few led =
     let same = λ (s : Stand) (stands : Stands f old s from). ap (λ m. max m e) stands.epoch ∙ sym greater in
     act_said within (λ s. record s { epoch = n }) (λ s stands. ap (λ m. tells (record s { epoch = m }) 0 (Said.Tick m)) (same s stands))
-    (λ s stands. record {
-      profile = stands.profile;
-      events = stands.events;
-      names = stands.names;
-      logs = stands.logs;
-      awake = stands.awake;
-      epoch = refl;
-      guards = stands.guards;
-      small = few;
-      kept = record { few = stands.kept.few; kinds = stands.kept.kinds; ends = λ page. (omega (arith, stands.kept.ends page, stands.epoch, greater)) };
-    }) led
+    (λ s stands. let low = stands.kept.ends in search (arith, same, low, greater)) led
 
 -- ---- a thread wakes
-pub woken : (f : Profile) (text : List ℕ) (old new : Judge) (at : Cursor) → IsWithin text at → (k : ℕ) → k < length old.awake.items → new.machine ≡ old.machine
-    → new.names ≡ old.names → new.logs ≡ old.logs → new.epoch ≡ old.epoch → new.guards.items ≡ old.guards.items
-    → new.awake.items ≡ set old.awake.items k old.epoch → ActTaken f text old at new at (Wakes k) true
-woken f text old new at within k held machine names logs epoch guards awake =
+pub woken : (f : Profile) (text : List ℕ) (old new : Judge) (at : Cursor) → IsWithin text at → (k : ℕ) → k < length old.idle_since.items
+    → new.machine ≡ old.machine → new.names ≡ old.names → new.logs ≡ old.logs → new.epoch ≡ old.epoch → new.guards.items ≡ old.guards.items
+    → new.idle_since.items ≡ set old.idle_since.items k old.epoch → ActTaken f text old at new at (Wakes k) true
+woken f text old new at within k held machine names logs epoch guards since =
     act_unsaid within (λ s. record s { idle_since = with_at s.idle_since k s.epoch }) (λ s stands. refl) (λ s. refl)
-    (λ s stands. record {
-      profile = ap (λ (m : Machine). profile_of m) machine ∙ stands.profile;
-      events = subst (λ (m : Machine). StandsFor m s.events) (sym machine) stands.events;
-      names = λ n. stands.names n ∙ ap (λ ns. meant ns n) (sym names);
-      logs = λ j has. stands.logs j (subst (λ (l : Logs). j < logs_held l) logs has) ∙ ap (λ (l : Logs). logged l j) (sym logs);
-      awake = λ j has. idle s stands j has;
-      epoch = stands.epoch ∙ sym epoch;
-      guards = stands.guards ∙ sym guards;
-      small = (omega (arith, epoch, stands.small));
-      kept = kept_same (record s { idle_since = with_at s.idle_since k s.epoch }) s at at refl refl (omega arith) stands.kept;
-    })
+    (λ s stands. search (arith, idle, kept_same, machine, names, logs, guards))
   where
-    here : (s : Stand) (j : ℕ) → s.epoch ≡ old.epoch → j ≡ k → with_at s.idle_since k s.epoch j ≡ get_or new.awake.items j 0
+    here : (s : Stand) (j : ℕ) → s.epoch ≡ old.epoch → j ≡ k → with_at s.idle_since k s.epoch j ≡ get_or new.idle_since.items j 0
     here s j same is = search (arith, eq-eqb, get_or-set_same)
 
     -- A thread that sleeps is idle since the epoch; the others as they were.
-    idle : (s : Stand) → Stands f old s at → (j : ℕ) → j < length new.awake.items → with_at s.idle_since k s.epoch j ≡ get_or new.awake.items j 0
+    idle : (s : Stand) → Stands f old s at → (j : ℕ) → j < length new.idle_since.items → with_at s.idle_since k s.epoch j ≡ get_or new.idle_since.items j 0
     idle s stands j has = elim (cases_eq j k) [
       | inl is ↦ here s j stands.epoch is
       | inr other ↦ search (arith, ne_eqb, length-set, get_or-set_other)
@@ -222,14 +202,14 @@ pub not_idle : {f : Profile} {text : List ℕ} {old : Judge} {from : Cursor} {k 
     → ((s : Stand) → Stands f old s from → nat_le (s.idle_since k + n) s.epoch ≡ false) → ActTaken f text old from old from (StopsIdle k n) true
 not_idle {k = k} within busy = nothing_begun within (λ s stands. ap (λ (x : Bool). stopping x s k) (busy s stands))
 
-module _ {f : Profile} {j : Judge} {at : Cursor} (k n : ℕ) (held : k < length j.awake.items) (s : Stand) (stands : Stands f j s at) where
+module _ {f : Profile} {j : Judge} {at : Cursor} (k n : ℕ) (held : k < length j.idle_since.items) (s : Stand) (stands : Stands f j s at) where
   -- A thread that read the epoch so long ago is idle.
-  pub idle_long : get_or j.awake.items k 0 + n ≤ j.epoch → nat_le (s.idle_since k + n) s.epoch ≡ true
-  idle_long long = let since = stands.awake k held in search (arith, le-leb)
+  pub idle_long : get_or j.idle_since.items k 0 + n ≤ j.epoch → nat_le (s.idle_since k + n) s.epoch ≡ true
+  idle_long long = let since = stands.idle_since k held in search (arith, le-leb)
 
   -- A thread that read the epoch too recently isn't to be stopped.
-  pub idle_short : j.epoch < get_or j.awake.items k 0 + n → nat_le (s.idle_since k + n) s.epoch ≡ false
-  idle_short short = let since = stands.awake k held in search (arith, lt-leb)
+  pub idle_short : j.epoch < get_or j.idle_since.items k 0 + n → nat_le (s.idle_since k + n) s.epoch ≡ false
+  idle_short short = let since = stands.idle_since k held in search (arith, lt-leb)
 
 -- ---- an entry is logged
 logging_is : {f : Profile} {old : Judge} {from : Cursor} (k : ℕ) (entry : Entry) → k < logs_held old.logs → (full : Bool)
@@ -308,7 +288,8 @@ pub after_plain : (v : Stand) (k : ℕ) (r : Request) (found : Option Block) →
 after_plain v k r found = search arith
 
 -- in each case it computes, or is given
-left_kept : (full : Bool) (v : Stand) (k : ℕ) (entry : Entry) (more : List Due) → record (logging full v k entry more) { left = v.left } ≡ logging full v k entry more
+left_kept : (full : Bool) (v : Stand) (k : ℕ) (entry : Entry) (more : List Due)
+    → record (logging full v k entry more) { left = v.left } ≡ logging full v k entry more
 left_kept full v k entry more = search arith
 
 -- in each case it computes, or is given
@@ -439,8 +420,7 @@ said_named {f} {old = old} {from = from} k name found said within says_it names 
         search (arith, kept_same)
 
 suits_it : (block : Block) (size align : ℕ) → IsSuited block size align → suits block size align ≡ true
-suits_it block size align is = and_from (nat_le (max size 1) block.room) (address_of block.name % align == 0) (le-leb (max size 1) block.room is.0)
-    (eq-eqb (address_of block.name % align) 0 is.1)
+suits_it block size align is = search (arith, and_from, le-leb, eq-eqb)
 
 suits_not : (block : Block) (size align : ℕ) → (IsSuited block size align → ⊥) → suits block size align ≡ false
 suits_not block size align never = search (arith, false_from_ne_true, and_parts, leb-true, eqb-true)
@@ -657,7 +637,8 @@ phases_behind_first phases = let long = length-drop 1 phases in take_length (len
 module _ {text : List ℕ} {old : Judge} {from : Cursor} {ops : List Op} (keepers : ℕ) (phases : List Phase) (d : Phase) (some : 0 < length phases)
     (is : ops ≡ ops_of (get_or phases 0 d)) where
   first_ahead : {new : Judge} {to : Cursor} {taken : Bool} → TakenTo text old from new to (phase_acts (threads_in old) ops) [] taken
-      → TakenTo text old from new to (acts_of (threads_in old) keepers (map ops_of phases)) (acts_from (threads_in old) keepers 2 (map ops_of (drop 1 phases))) taken
+      → TakenTo text old from new to (acts_of (threads_in old) keepers (map ops_of phases))
+      (acts_from (threads_in old) keepers 2 (map ops_of (drop 1 phases))) taken
   first_ahead {new} {to} {taken} done =
       let rest : List Act = acts_from (threads_in old) keepers 2 (map ops_of (drop 1 phases)) in
       let same : acts_of (threads_in old) keepers (map ops_of phases) ≡ phase_acts (threads_in old) ops ++ rest = cc (first_phase (threads_in old) keepers phases d some) in

@@ -15,7 +15,7 @@ use Rattle.pas_check.specs.{Bounds.FitsRequest, Bounds.FitsNext, Bounds.HaveHeap
 use Rattle.pas_check.specs.{Takes.TakesDue, Takes.TakesFirst}
 use Rattle.pas_check.specs.Checks.{AllFit, ArePlanned, FitsAct, FitsHeaps, FitsWhat, IsPlanned, IsThread}
 use Rattle.std.proofs.lemmas.{Bool.and_parts, Option.none-some, Option.same_Some}
-use Rattle.pas_report.specs.declared.record.{Record.Record, Said.Said}
+use Rattle.pas_records.specs.declared.record.{Record.Record, Said.Said}
 use Rattle.pas_trace.specs.Named.{Named, standing_for}
 use Rattle.pas_trace.specs.declared.plan.What.TheVariants.{Alloc, Guarded, Free, FreeSized, Raw, RawSized, Remake, Flush, Stop}
 use Rattle.pas_check.specs.Begins.{after_task, begun_act, begun_from, begun_what, entries_due, entry_of, flushing, freeing, freeing_at, freeing_named}

@@ -7,9 +7,10 @@ use Rattle.std.specs.List.{concat}
 use Rattle.memchr.specs.Find.{Nowhere, Passes, is_byte}
 use Rattle.pas_profile.specs.Blocks.{address_of}
 use Rattle.pas_profile.specs.declared.{directory.Kind.Kind, name.Name.Name, event.Event.Event, event.Why.Why}
-use Rattle.pas_report.specs.declared.record.{Said.Said, Record.Record}
-use Rattle.pas_report.specs.Lines.{hex_digit, hex_digits, kind_text, name_text, line_of, lines_of, line_of_event, line_of_answer}
-use Rattle.pas_report.specs.Reports.{totals_text}
+use Rattle.pas_records.specs.declared.record.{Said.Said, Record.Record}
+use Rattle.pas_report.specs.declared.totals.Totals.{Totals}
+use Rattle.pas_records.specs.Lines.{hex_digit, hex_digits, kind_text, name_text, line_of, lines_of, line_of_event, line_of_answer}
+use Rattle.pas_report.specs.Totals.{totals_text}
 use Rattle.pas_check.specs.Lines.{put_front, lines_in, is_line, is_nothing}
 use Rattle.pas_check.proofs.Pages.{all_lines}
 
@@ -119,8 +120,8 @@ pub record_line : (r : Record) → is_line (line_of r) ≡ true
 record_line r = search (arith, event_line, said_line, number_first)
 
 -- .. and that of the totals
-pub totals_end : (deeds backed live given ended : ℕ) → is_line (totals_text deeds backed live given ended) ≡ true
-totals_end deeds backed live given ended = simp number_first
+pub totals_end : (totals : Totals) → is_line (totals_text totals) ≡ true
+totals_end totals = simp number_first
 
 -- THE LINES of records in front of a text
 pub cut_records : (rs : List Record) (rest : List ℕ) → lines_in (lines_of rs ++ rest) ≡ map line_of rs ++ lines_in rest

@@ -363,6 +363,10 @@ gives_few [] a = omega arith
 gives_few (Event.Give k block ∷ es) a = one_more (address_of block.name == a) (gives_in es a) (length es) (gives_few es a)
 gives_few (other ∷ es) a = omega (arith, gives_few es a)
 
+-- A place in a text that is no longer than an input has fewer lines before it.
+pub few_lines : {text : List ℕ} {at : Cursor} → IsWithin text at → at.lines < 2 ^ 32
+few_lines here = omega (arith, here.lines, here.bytes, here.short)
+
 -- Before the 2^32nd line, the numbers of a state are small enough to be read back.
 pub small_of : (f : Profile) (machine : Machine) (s : Stand) (at : Cursor) → profile_of machine ≡ f → IsValid f → StandsFor machine s.events → IsKept s at
     → at.lines < 2 ^ 32 → s.epoch < 2 ^ 64 → IsSmall f s

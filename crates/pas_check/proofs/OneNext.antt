@@ -1,30 +1,26 @@
 -- The event of an entry of a log. In a run it is the one that the definition names; and there is only one.
-use Rattle.std.proofs.Common.{◌≡◌, ◌≢◌, ℕ, ◌<◌, ◌≤◌, List, Option, Some, None, inl, inr, refl, ap, sym, subst, ◌∙◌, arith, ◌/◌, ◌%◌, ◌^◌, ◌==◌, ◌||◌, Bool}
-use Rattle.std.proofs.Common.{true, false, if◌then◌else◌, [], ◌∷◌, eqb-true, eq-eqb, ne_eqb, suc, ◌⊎◌, ◌++◌, length, Result, is_ok, MatchBool, ◌+◌, ◌*◌, ◌-◌}
-use Rattle.std.proofs.Common.{nat_le, nat_lt, leb-true, ltb-true, le-leb, lt-ltb}
+use Rattle.std.proofs.Common.{◌≡◌, ◌≢◌, ℕ, ◌<◌, ◌≤◌, List, Option, Some, None, inl, inr, refl, ap, sym, subst, ◌∙◌, arith, ◌/◌, ◌%◌, ◌^◌, Bool, true, false}
+use Rattle.std.proofs.Common.{if◌then◌else◌, [], ◌∷◌, eqb-true, eq-eqb, suc, ◌⊎◌, ◌++◌, length, Result, is_ok, MatchBool, ◌+◌, ◌*◌, ◌-◌, nat_le, nat_lt}
+use Rattle.std.proofs.Common.{leb-true, ltb-true, le-leb, lt-ltb}
 use Rattle.std.proofs.lemmas.{Option.none-some, Option.same_Some, Bool.and_from, Bool.and_parts, Bool.cases_lt}
 use Rattle.pas_profile.specs.declared.{profile.Profile.Profile, name.Block.Block, name.Name.Name, event.Event.Event, event.Why.Why, event.Why.TheVariants.Ended}
 use Rattle.pas_profile.specs.declared.{event.Why.TheVariants.NoBlock, event.Why.TheVariants.SizeDiffers, directory.Directory.Directory, event.Outcome.Outcome}
 use Rattle.pas_profile.specs.declared.{directory.Route.TheVariants.Class}
-use Rattle.pas_profile.specs.{Blocks.address_of, Profiles.IsPage, Profiles.IsValid, Blocks.grain_of, Blocks.length_of, Directories.IsKind, Classes.IsClass}
+use Rattle.pas_profile.specs.{Blocks.address_of, Blocks.grain_of, Blocks.length_of, Profiles.IsPage, Profiles.IsValid, Directories.IsKind, Classes.IsClass}
 use Rattle.pas_profile.specs.{Requests.kind_of_class, Requests.route_in, Routes.IsRouteOf}
 use Rattle.pas_machine.specs.{Laws.IsCounted, Places.block_of, Places.IsEach}
 use Rattle.pas_machine.specs.Machine.{Run, Admits, IsLive, IsReason, IsPlace}
 use Rattle.pas_machine.specs.State.{Live, live_in, gives_in, ends_in, deed_in}
 use Rattle.pas_machine.proofs.{LiveBlocks.all_counted, Verdicts.never_of}
-use Rattle.pas_check.specs.Calls.{Differs, outcome_in, event_in, IsEventRead, IsRead, IsStepped, EntryTaken, PreparingTaken, GiveTaken, IsGiven, IsWanted}
-use Rattle.pas_check.specs.Calls.{LiesOn, RefusalSeen, RefusesBy, outcome_in_event, outcome_in_said, IsExamined, OutcomeTaken}
-use Rattle.pas_check.specs.States.{Stand, Due, Frees, Serves, Tries, Never, Examines, Shows, with_due, with_one, with_name, Writes, Heads, Totals}
-use Rattle.pas_check.specs.Takes.{MayRefuse, IsEventOf, IsPreparing, IsFor, IsRefusal, directory_of, is_back, serving, MayCome, record_of, after_outcome}
-use Rattle.pas_check.specs.Takes.{TakesRequest, TakesTry, IsOutcome, TakesOutcome, TakesDue, Takes, TakesFirst}
-use Rattle.pas_check.specs.declared.{entry.Entry.Entry, examining.Examined.Examined, serving.Wanted.Wanted}
+use Rattle.pas_check.specs.Calls.{Differs, outcome_in, IsStepped, EntryTaken, LiesOn, RefusesBy, outcome_in_event, outcome_in_said}
+use Rattle.pas_check.specs.States.{Stand, Due, Frees, Serves, Tries, Never, Examines, Shows, with_due, with_one, Writes, Heads, Totals}
+use Rattle.pas_check.specs.Takes.{MayRefuse, IsEventOf, IsServing, IsFor, IsRefusal, directory_of, serving, MayCome, record_of, after_outcome, MayServe}
+use Rattle.pas_check.specs.Takes.{after_record, TakesRequest, TakesTry, IsOutcome, TakesOutcome, TakesDue, Takes, TakesFirst, TakesKeeping, after_keeping}
+use Rattle.pas_check.specs.declared.{entry.Entry.Entry, examining.Examined.Examined}
 use Rattle.pas_bits.proofs.Runs.{first_of_run}
 use Rattle.pas_steps.specs.Events.{actor_of}
-use Rattle.pas_report.specs.Lines.{line_of, line_of_answer, line_of_event}
-use Rattle.pas_report.specs.declared.record.{Record.Record, Said.Said}
-use Rattle.pas_check.specs.Begins.{has_sides, raising, replacing, past_outcomes, ready}
-use Rattle.pas_check.specs.Readings.{byte_at, of_u8, past_digits}
-use Rattle.pas_check.specs.Ranges.{FitsWhy, FitsEvent, FitsSaid, Fits, FitsEntry}
+use Rattle.pas_check.specs.{Begins.past_outcomes, Begins.ready, Readings.byte_at, Readings.of_u8, Readings.past_digits}
+use Rattle.pas_check.specs.Ranges.{FitsWhy, FitsEvent, FitsSaid, Fits, FitsEntry, FitsBlock}
 use Rattle.pas_check.specs.Bounds.{FitsRequest, FitsFirst, FitsTry, IsSmall, FitsNext, IsOfThread, IsFew}
 use Rattle.pas_trace.specs.declared.item.Request.{Request}
 use Rattle.pas_check.proofs.{Readings.one_line, Readings.past_number, Readings.u8_back, Leads.gives_few}
@@ -34,6 +30,8 @@ use Rattle.pas_machine.specs.declared.{fault.StepFault.StepFault, machine.Machin
 use Rattle.pas_bits.specs.Runs.{in_run}
 use Rattle.pas_profile.proofs.Sizes.{class_known, route_is}
 use Rattle.pas_trace.proofs.PassedChecks.{if_some}
+use Rattle.pas_records.specs.Lines.{line_of, line_of_answer, line_of_event}
+use Rattle.pas_records.specs.declared.record.{Record.Record, Said.Said}
 
 -- a live block's turn is the number of ends at its address
 turn_counts : (o : Option Live) (b : Live) (gives ends : ℕ) → o ≡ Some b → IsCounted o gives ends → b.block.name.turn ≡ ends
@@ -104,10 +102,7 @@ module _ (f : Profile) (es : List Event) (run : Run f es) (entry : Entry) where
 
     -- A name of a later turn than the live block's never had a block.
     pub not_yet : b.block.name.turn < entry.name.turn → IsReason es entry.name NoBlock
-    not_yet turn = (
-      (omega (arith, counts, turn)),
-      λ live. let same : b.block.name.turn ≡ entry.name.turn = ap (λ (l : Live). l.block.name.turn) (sym (it_is live.0 live.1)) ∙ live.2 in absurd (omega (arith, same, turn)),
-    )
+    not_yet turn = search (arith, counts, it_is)
 
     -- A name of the live block's turn with another room is refused for that room.
     pub other_room : entry.name.turn ≡ b.block.name.turn → b.block.room ≢ entry.room → IsReason es entry.name (SizeDiffers entry.room)
@@ -131,12 +126,7 @@ small_page f page valid is = omega (arith, is.1, valid.pages)
 -- a page with a deed is one of the region
 deed_page : (f : Profile) (es : List Event) → Run f es → (page : ℕ) (d : Directory) → deed_in es page ≡ Some d → IsPage f page
 deed_page f [] run page d h = absurd (none-some d h)
-deed_page f (Event.Deed k p g ∷ es) run page d h = made (p == page) (deed_in es page) refl (deed_page f es run.1 page d) h
-  where
-    made : (t : Bool) (old : Option Directory) → (p == page) ≡ t → (old ≡ Some d → IsPage f page) → (if t then Some g else old) ≡ Some d → IsPage f page
-    made true old same before is = subst (IsPage f) (eqb-true p page same) run.0.0
-    made false old same before is = before is
-deed_page f (other ∷ es) run page d h = deed_page f es run.1 page d h
+deed_page f (e ∷ es) run page d h = let rest = deed_page f es run.1 page d in grind (arith, rest, eqb-true)
 
 -- ---- records of outcomes
 -- the outcome is read back from its record
@@ -150,59 +140,19 @@ TellsNone item = (epoch : ℕ) → outcome_in epoch item ≡ None
 pub no_outcome : (item : Record) → TellsNone item → IsOutcome item → ⊥
 no_outcome item none out = none-some _ (sym (none out.0) ∙ ap (outcome_in out.0) out.3 ∙ outcome_is out.0 out.1 out.2)
 
--- ---- the record of a line
--- It is a record whose numbers fit, of which this holds, and no outcome; and what follows is by the record alone.
-pub record IsBy (Q : Record → Type 0) (after : Record → Stand) (line : List ℕ) (next : Stand) : Type 0 where
-  pub item : Record
-  pub own : Q item
-  pub fits : Fits item
-  pub none : TellsNone item
-  pub has : line ≡ line_of item
-  pub next_is : next ≡ after item
-
-one_by : (Q : Record → Type 0) (after : Record → Stand) (line : List ℕ) (a b : Stand) → IsBy Q after line a → IsBy Q after line b → a ≡ b
-one_by Q after line a b x y = x.next_is ∙ ap after (same_record line x.item y.item x.fits y.fits x.has y.has) ∙ sym y.next_is
-
--- the actor's, if it is of an event
-abbrev pub IsOf : ℕ → Record → Type 0
-IsOf k (Record.Event e) = actor_of e ≡ k
-IsOf k other = Unit {0}
-
--- in each case it computes, or is given
-prepared_by : (k : ℕ) (d : Directory) (e : Event) → IsPreparing k d e → actor_of e ≡ k
-prepared_by k d e is = search arith
-
--- in each case it computes, or is given
-prepares_none : (k : ℕ) (d : Directory) (e : Event) → IsPreparing k d e → TellsNone (Record.Event e)
-prepares_none k d e is = search arith
-
 -- in each case it computes, or is given
 same_both : (t : Bool) (o : Option Examined) → (if t then o else o) ≡ o
 same_both t o = search arith
 
-refusal_none : (f : Profile) (s : Stand) (k : ℕ) (r : Request) (said : Said) → IsRefusal f s r said → TellsNone (Record.Said k said)
-refusal_none f s k r said is = search (arith, same_both)
+-- no record that answers a request tells an outcome
+serves_none : (f : Profile) (s : Stand) (k : ℕ) (r : Request) (item : Record) → MayServe f s k r item → TellsNone item
+serves_none f s k r item may = search (arith, same_both)
 
 -- ---- the lines of a request
--- what follows from a record that answers it
-abbrev pub answered : Stand → ℕ → Request → Option Name → List Due → Record → Stand
-answered s k r replaced more (Record.Event (Event.Give j block)) = replacing replaced (with_name (with_one s (Event.Give k block)) r.name (Some block)) k more
-answered s k r replaced more (Record.Event e) = with_one s e
-answered s k r replaced more other = with_due (with_name s r.name None) more
-
--- in each case it computes, or is given
-prepared_then : (s : Stand) (k : ℕ) (r : Request) (replaced : Option Name) (more : List Due) (d : Directory) (e : Event) → IsPreparing k d e
-    → answered s k r replaced more (Record.Event e) ≡ with_one s e
-prepared_then s k r replaced more d e is = search arith
-
 module _ (f : Profile) (s : Stand) (small : IsSmall f s) (k : ℕ) (r : Request) (fits : FitsRequest f k r) where
-  -- A deed or a back that the machine admits for a request fits.
-  pub prepares_fits : (e : Event) → IsPreparing k (directory_of f r) e → Admits f s.events e → FitsEvent e
-  prepares_fits e is admitted = search (arith, small_page)
-
-  -- A give that the machine admits for a request fits.
-  gives_fits : (block : Block) → IsFor f s r block → Admits f s.events (Event.Give k block) → FitsEvent (Event.Give k block)
-  gives_fits block is may =
+  -- A block that the machine admits for a request fits.
+  block_fits : (block : Block) → IsFor f s r block → Admits f s.events (Event.Give k block) → FitsBlock block
+  block_fits block is may =
       let some : 0 < block.room = may.some in
       let whole : block.room % 16 ≡ 0 = may.whole in
       let grains : 0 < length_of block = omega (arith, some, whole) in
@@ -213,99 +163,73 @@ module _ (f : Profile) (s : Stand) (small : IsSmall f s) (k : ℕ) (r : Request)
       let turn = may.turn in
       let room : block.room ≡ _ = is.room in
       let heap = is.heap in
-      let fewer = fits.heap in (
-        fits.actor,
-        record {
-          name = record { address = omega (arith, last, most); turn = omega (arith, few, turn) };
-          room = omega (arith, room, fits.room);
-          heap = omega (arith, heap, fewer);
-        },
-      )
+      let fewer = fits.heap in
+      record {
+        name = record { address = omega (arith, last, most); turn = omega (arith, few, turn) };
+        room = omega (arith, room, fits.room);
+        heap = omega (arith, heap, fewer);
+      }
 
   -- A refusal of a request fits.
   refusal_fits : (said : Said) → IsRefusal f s r said → FitsSaid said
   refusal_fits said (inl is) = subst FitsSaid (sym is) fits.name
   refusal_fits said (inr is) = subst FitsSaid (sym is.2) (small_page f is.0 small.valid (deed_page f s.events small.run is.0 (directory_of f r) is.1), fits.name)
 
-  by_request : (replaced : Option Name) (more : List Due) (line : List ℕ) (a : Stand) → TakesRequest f s k r replaced more line a
-      → IsBy (IsOf k) (answered s k r replaced more) line a
-  by_request replaced more line a (inl x) = record {
-    item = Record.Event x.event;
-    own = prepared_by k (directory_of f r) x.event x.prepares;
-    fits = prepares_fits x.event x.prepares x.admitted;
-    none = prepares_none k (directory_of f r) x.event x.prepares;
-    has = x.line_is;
-    next_is = x.next_is ∙ sym (prepared_then s k r replaced more (directory_of f r) x.event x.prepares);
-  }
-  by_request replaced more line a (inr (inl x)) =
-      record {
-        item = Record.Event (Event.Give k x.block);
-        own = refl;
-        fits = gives_fits x.block x.is_for x.admitted;
-        none = λ n. refl;
-        has = x.line_is;
-        next_is = x.next_is;
-      }
-  by_request replaced more line a (inr (inr x)) =
-      let fit : Fits (Record.Said k x.said) = (fits.actor, refusal_fits x.said x.refuses) in
-      record { item = Record.Said k x.said; own = tt; fits = fit; none = refusal_none f s k r x.said x.refuses; has = x.line_is; next_is = x.next_is }
+  -- A record that answers a request fits.
+  pub serves_fits : (item : Record) → MayServe f s k r item → Fits item
+  serves_fits item may = search (arith, small_page, block_fits, refusal_fits)
+
+  -- A line that answers a request leads to one state.
+  one_request : (old : Option Name) (more : List Due) (line : List ℕ) (a b : Stand) → TakesRequest f s k r old more line a
+      → TakesRequest f s k r old more line b → a ≡ b
+  one_request old more line a b x y = x.next_is
+      ∙ ap (after_record s k r old more) (same_record line x.item y.item (serves_fits x.item x.may) (serves_fits y.item y.may) x.line_is y.line_is)
+      ∙ sym y.next_is
 
 -- ---- those of a guarded request
 -- what is due has no part in how small a state is
 small_serving : (f : Profile) (s : Stand) (k : ℕ) (r : Request) (more : List Due) → IsSmall f s → IsSmall f (serving s k r more)
 small_serving f s k r more small = record { valid = small.valid; run = small.run; gives = small.gives; ends = small.ends; epoch = small.epoch }
 
--- what follows from an event of the keeper, and from any record
-abbrev pub kept : Profile → Stand → ℕ → ℕ → Request → Bool → List Due → Event → Stand
-kept f s keeper k r backed more (Event.Give j block) = raising (has_sides f block) (with_name (with_one s (Event.Give keeper block)) r.name (Some block))
-    keeper r.name block more
-kept f s keeper k r backed more e = with_due (with_one s e) (Tries keeper k r (backed || is_back e) ∷ more)
+-- in each case it computes, or is given
+served_by : (f : Profile) (s : Stand) (k : ℕ) (r : Request) (e : Event) → IsServing f s k r e → actor_of e ≡ k
+served_by f s k r e is = search arith
 
-abbrev pub tried : Profile → Stand → ℕ → ℕ → Request → Bool → List Due → Record → Stand
-tried f s keeper k r backed more (Record.Event e) = if actor_of e == keeper then kept f s keeper k r backed more e else answered (serving s k r more) k r
-    None more (Record.Event e)
-tried f s keeper k r backed more other = answered (serving s k r more) k r None more other
+-- two events of one record are one
+same_event : (e g : Event) → Record.Event e ≡ Record.Event g → e ≡ g
+same_event e g is = cc
 
-module _ (f : Profile) (s : Stand) (small : IsSmall f s) (keeper k : ℕ) (r : Request) (fits : FitsTry f keeper k r) (backed : Bool) (more : List Due) where
-  tried_kept : (e : Event) → actor_of e ≡ keeper → tried f s keeper k r backed more (Record.Event e) ≡ kept f s keeper k r backed more e
-  tried_kept e by = ap (λ t. if t then kept f s keeper k r backed more e else answered (serving s k r more) k r None more (Record.Event e))
-      (eq-eqb (actor_of e) keeper by)
+module _ (f : Profile) (s : Stand) (small : IsSmall f s) (keeper k : ℕ) (r : Request) (fits : FitsTry f keeper k r) (backed : Bool) (more : List Due)
+    (line : List ℕ) where
+  -- An event by which the keeper serves the request fits.
+  pub kept_fits : {next : Stand} (x : TakesKeeping f s keeper k r backed more line next) → FitsEvent x.event
+  kept_fits x = serves_fits f s small keeper r fits.kept (Record.Event x.event) (x.serves, x.admitted)
 
-  tried_own : (item : Record) → IsOf k item → tried f s keeper k r backed more item ≡ answered (serving s k r more) k r None more item
-  tried_own item own = search (arith, ne_eqb)
+  -- Its line is none of the thread's: those are of another actor.
+  apart : (a b : Stand) → TakesKeeping f s keeper k r backed more line a → TakesRequest f (serving s k r more) k r None more line b → ⊥
+  apart a b x y =
+      let fit = serves_fits f (serving s k r more) (small_serving f s k r more small) k r fits.own y.item y.may in
+      let same = same_record line (Record.Event x.event) y.item (kept_fits x) fit x.line_is y.line_is in
+      let own = subst (MayServe f (serving s k r more) k r) (sym same) y.may in
+      fits.apart (sym (served_by f s keeper r x.event x.serves) ∙ served_by f (serving s k r more) k r x.event own.0)
 
-  -- in each case it computes, or is given
-  kept_then : (e : Event) → IsPreparing keeper (directory_of f r) e
-      → kept f s keeper k r backed more e ≡ with_due (with_one s e) (Tries keeper k r (backed || is_back e) ∷ more)
-  kept_then e is = search arith
+  one_kept : (a b : Stand) → TakesKeeping f s keeper k r backed more line a → TakesKeeping f s keeper k r backed more line b → a ≡ b
+  one_kept a b x y = x.next_is ∙ ap (after_keeping f s keeper k r backed more) (same_event x.event y.event
+      (same_record line (Record.Event x.event) (Record.Event y.event) (kept_fits x) (kept_fits y) x.line_is y.line_is)) ∙ sym y.next_is
 
-  by_try : (line : List ℕ) (a : Stand) → TakesTry f s keeper k r backed more line a → IsBy (λ item. Unit {0}) (tried f s keeper k r backed more) line a
-  by_try line a (inl x) = record {
-    item = Record.Event x.event;
-    own = tt;
-    fits = prepares_fits f s small keeper r fits.kept x.event x.prepares x.admitted;
-    none = prepares_none keeper (directory_of f r) x.event x.prepares;
-    has = x.line_is;
-    next_is = x.next_is ∙ sym (tried_kept x.event (prepared_by keeper (directory_of f r) x.event x.prepares) ∙ kept_then x.event x.prepares);
-  }
-  by_try line a (inr (inl x)) = record {
-    item = Record.Event (Event.Give keeper x.block);
-    own = tt;
-    fits = gives_fits f s small keeper r fits.kept x.block x.is_for x.admitted;
-    none = λ n. refl;
-    has = x.line_is;
-    next_is = x.next_is ∙ sym (tried_kept (Event.Give keeper x.block) refl);
-  }
-  by_try line a (inr (inr x)) =
-      let by = by_request f (serving s k r more) (small_serving f s k r more small) k r fits.own None more line a x.1 in
-      record { item = by.item; own = tt; fits = by.fits; none = by.none; has = by.has; next_is = by.next_is ∙ sym (tried_own by.item by.own) }
+  -- A line that answers a guarded request leads to one state.
+  one_try : (a b : Stand) → TakesTry f s keeper k r backed more line a → TakesTry f s keeper k r backed more line b → a ≡ b
+  one_try a b (inl x) (inl y) = one_kept a b x y
+  one_try a b (inl x) (inr y) = absurd (apart a b x y.1)
+  one_try a b (inr x) (inl y) = absurd (apart b a y x.1)
+  one_try a b (inr x) (inr y) = one_request f (serving s k r more) (small_serving f s k r more small) k r fits.own None more line a b x.1 y.1
 
 -- ---- an outcome of a pass
 same_outcome : (epoch : ℕ) (x y : Examined) → record_of epoch x.page x.outcome ≡ record_of epoch y.page y.outcome → x ≡ y
 same_outcome epoch x y e = same_Some x y (sym (outcome_is epoch x.page x.outcome) ∙ ap (outcome_in epoch) e ∙ outcome_is epoch y.page y.outcome)
 
 -- An outcome that may come of a page fits.
-outcome_fits : (f : Profile) (s : Stand) → IsSmall f s → (page : ℕ) (o : Outcome) → IsPage f page → MayCome f s page o → Fits (record_of s.epoch page o)
+pub outcome_fits : (f : Profile) (s : Stand) → IsSmall f s → (page : ℕ) (o : Outcome) → IsPage f page → MayCome f s page o → Fits (record_of s.epoch page o)
 outcome_fits f s small page o of may = search (arith, small_page)
 
 -- A line that tells an outcome of a pass leads to one state.
@@ -323,11 +247,8 @@ pub one_next : (f : Profile) (s : Stand) → IsSmall f s → (due : List Due) �
 one_next f s small [] fits line a b x y = absurd x
 one_next f s small (Frees k entry ∷ more) fits line a b x y = x.next_is
     ∙ ap (λ e. with_due (with_one s e) more) (one_event s k entry x.event y.event x.of_entry y.of_entry) ∙ sym y.next_is
-one_next f s small (Serves k r old ∷ more) fits line a b x y =
-    one_by (IsOf k) (answered s k r old more) line a b (by_request f s small k r fits old more line a x) (by_request f s small k r fits old more line b y)
-one_next f s small (Tries keeper k r backed ∷ more) fits line a b x y =
-    one_by (λ item. Unit {0}) (tried f s keeper k r backed more) line a b (by_try f s small keeper k r fits backed more line a x)
-    (by_try f s small keeper k r fits backed more line b y)
+one_next f s small (Serves k r old ∷ more) fits line a b x y = one_request f s small k r fits old more line a b x y
+one_next f s small (Tries keeper k r backed ∷ more) fits line a b x y = one_try f s small keeper k r fits backed more line a b x y
 one_next f s small (Never ∷ more) fits line a b x y = absurd x
 one_next f s small (Examines page ∷ more) fits line a b x y = one_outcome f s small page more line a b x y
 one_next f s small (Shows page d ∷ more) fits line a b x y = x.next_is ∙ sym y.next_is
@@ -404,13 +325,17 @@ module _ (f : Profile) (s : Stand) (small : IsSmall f s) (last : ℕ) (rest : Li
   no_entry_of t k entry e epoch (few, inr fits) is has = no_record (Record.Event e) (entry_fits t k entry e few fits epoch is)
       (no_outcome (Record.Event e) (no_entry t k entry e is)) has
 
+  no_serving : (t : Stand) → IsSmall f t → (k : ℕ) (r : Request) → FitsRequest f k r → (item : Record) → MayServe f t k r item → line ≡ line_of item → ⊥
+  no_serving t new k r fits item may has = no_record item (serves_fits f t new k r fits item may) (no_outcome item (serves_none f t k r item may)) has
+
   outcome_apart : (t : Stand) → IsSmall f t → (due : List Due) → FitsNext f due → past_outcomes due ≡ due → (b : Stand) → TakesDue f t due line b → ⊥
   outcome_apart t new (Writes item ∷ more) fits no_pass b y = no_writing item fits y.0
   outcome_apart t new (Frees k entry ∷ more) fits no_pass b y = no_entry_of t k entry y.event new.epoch fits y.of_entry y.line_is
-  outcome_apart t new (Serves k r old ∷ more) fits no_pass b y =
-      let by = by_request f t new k r fits old more line b y in no_record by.item by.fits (no_outcome by.item by.none) by.has
-  outcome_apart t new (Tries keeper k r backed ∷ more) fits no_pass b y =
-      let by = by_try f t new keeper k r fits backed more line b y in no_record by.item by.fits (no_outcome by.item by.none) by.has
+  outcome_apart t new (Serves k r old ∷ more) fits no_pass b y = no_serving t new k r fits y.item y.may y.line_is
+  outcome_apart t new (Tries keeper k r backed ∷ more) fits no_pass b (inl y) =
+      no_serving t new keeper r fits.kept (Record.Event y.event) (y.serves, y.admitted) y.line_is
+  outcome_apart t new (Tries keeper k r backed ∷ more) fits no_pass b (inr y) =
+      no_serving (serving t k r more) (small_serving f t k r more new) k r fits.own y.1.item y.1.may y.1.line_is
   outcome_apart t new (Examines page ∷ more) fits no_pass b y = let e : length more ≡ suc (length more) = ap length no_pass in absurd (omega (arith, e))
   outcome_apart t new (Heads ∷ more) fits no_pass b y = no_text _ (λ e. omega (arith, e)) y.0
   outcome_apart t new (Shows page d ∷ more) fits no_pass b y = no_text _ (λ e. omega (arith, e)) y.line_is
@@ -447,75 +372,27 @@ stepped old new e result steps = search (arith, never_of, counted)
 
 -- ---- an entry
 -- the event of an entry is of a grain of the region, where it may come
-entry_place : (f : Profile) (s : Stand) (k : ℕ) (entry : Entry) (e : Event) → IsEventOf s k entry e → Admits f s.events e → IsPlace f (address_of entry.name)
+pub entry_place : (f : Profile) (s : Stand) (k : ℕ) (entry : Entry) (e : Event) → IsEventOf s k entry e → Admits f s.events e
+    → IsPlace f (address_of entry.name)
 entry_place f s k entry e is admitted = search arith
 
-module _ (k : ℕ) (entry : Entry) (epoch : ℕ) (line : List ℕ) (old : Machine) where
-  -- it isn't of a grain of the region
-  pub entry_outside : (IsPlace (profile_of old) (address_of entry.name) → ⊥) → EntryTaken old old k entry epoch line false
-  entry_outside outside = search (arith, entry_place)
+-- An entry whose event was tried is taken where the machine took it.
+pub entry_stepped : (k : ℕ) (entry : Entry) (epoch : ℕ) (line : List ℕ) (old new : Machine) (e : Event)
+    → ((s : Stand) → StandsFor old s.events → s.epoch ≡ epoch → IsEventOf s k entry e) → line ≡ line_of_event e → (taken : Bool) → IsStepped old new e taken
+    → EntryTaken (profile_of old) old new k entry epoch line taken
+entry_stepped k entry epoch line old new e of_entry is true stepped = (
+  e,
+  is,
+  λ s stands same.
+      let took = stepped s.events stands in (of_entry s stands same, took.0, took.1),
+)
+entry_stepped k entry epoch line old new e of_entry is false stepped = (
+  stepped.0,
+  λ s g stands few same of may has.
+      stepped.1 s.events stands few (subst (Admits (profile_of old) s.events) (one_event s k entry g e of (of_entry s stands same)) may),
+)
 
-  module _ (e : Event) (of_entry : (s : Stand) → StandsFor old s.events → s.epoch ≡ epoch → IsEventOf s k entry e) where
-    -- another line
-    pub entry_amiss : line ≢ line_of_event e → EntryTaken old old k entry epoch line false
-    entry_amiss other = (
-      refl,
-      λ s more next stands few same takes. other (takes.line_is ∙ ap line_of_event (one_event s k entry takes.event e takes.of_entry (of_entry s stands same))),
-    )
-
-    -- its line, and its event was tried
-    pub entry_stepped : (new : Machine) → line ≡ line_of_event e → (taken : Bool) → IsStepped old new e taken → EntryTaken old new k entry epoch line taken
-    entry_stepped new is true stepped = λ s more stands same.
-        let taken = stepped s.events stands in
-        (e, record { event = e; of_entry = of_entry s stands same; admitted = taken.0; line_is = is; next_is = refl }, taken.1)
-    entry_stepped new is false stepped = (
-      stepped.0,
-      λ s more next stands few same takes.
-          stepped.1 s.events stands few (subst (Admits (profile_of old) s.events) (one_event s k entry takes.event e takes.of_entry (of_entry s stands same))
-          takes.admitted),
-    )
-
--- ---- the event of a line
--- The event that is read of a line is that of the record that is.
-pub event_of_read : {line : List ℕ} (item : Record) → IsRead line (Some item) → IsEventRead line (event_in item)
-event_of_read (Record.Event e) read =
-    record { some = read.some; only = λ g fits has. ap event_in (same_Some (Record.Event e) (Record.Event g) (read.only (Record.Event g) fits has)) }
-event_of_read other read =
-    record { some = tt; only = λ g fits has. ap event_in (same_Some other (Record.Event g) (read.only (Record.Event g) fits has)) }
-
--- ---- deeds and backs
--- what is admitted is of a page of the region, so its number fits
-fits_preparing : (f : Profile) (es : List Event) (k : ℕ) (d : Directory) (e : Event) → IsValid f → k < 2 ^ 8 → d.heap < 2 ^ 8 → IsKind d.kind
-    → IsPreparing k d e → Admits f es e → FitsEvent e
-fits_preparing f es k d e valid few heap kind is admitted = search arith
-
-module _ (k : ℕ) (d : Directory) (few : k < 2 ^ 8) (heap : d.heap < 2 ^ 8) (kind : IsKind d.kind) (line : List ℕ) (old : Machine)
-    (valid : IsValid (profile_of old)) where
-  preparing_refused : (new : Machine) → new ≡ old
-      → ((e : Event) → FitsEvent e → IsPreparing k d e → line ≡ line_of_event e → (es : List Event) → StandsFor old es → IsFew es
-      → Admits (profile_of old) es e → ⊥) → PreparingTaken old new k d line false
-  preparing_refused new kept none = search (arith, fits_preparing)
-
-  -- A deed or a back for a request is taken exactly where the machine takes it.
-  pub preparing_stepped : (new : Machine) (e : Event) → IsEventRead line (Some e) → IsPreparing k d e → (taken : Bool) → IsStepped old new e taken
-      → PreparingTaken old new k d line taken
-  preparing_stepped new e read may true stepped = λ s r stands same.
-      let taken = stepped s.events stands in
-      (e, record { event = e; prepares = subst (λ x. IsPreparing k x e) (sym same) may; admitted = taken.0; line_is = read.some; next_is = refl }, taken.1)
-  preparing_stepped new e read may false stepped =
-      preparing_refused new stepped.0 (λ g fits other has es stands low admitted.
-      stepped.1 es stands low (subst (Admits (profile_of old) es) (sym (same_Some e g (read.only g fits has))) admitted))
-
-  -- An event that is no deed or back for a request isn't taken as one.
-  pub preparing_other : (e : Event) → IsEventRead line (Some e) → (IsPreparing k d e → ⊥) → PreparingTaken old old k d line false
-  preparing_other e read other = preparing_refused old refl (λ g fits may has es stands low admitted.
-      other (subst (IsPreparing k d) (sym (same_Some e g (read.only g fits has))) may))
-
-  -- A line that reads as no event isn't taken as a deed or a back.
-  pub preparing_none : IsEventRead line None → PreparingTaken old old k d line false
-  preparing_none read = preparing_refused old refl (λ g fits may has es stands low admitted. none-some g (read.only g fits has))
-
--- ---- Gives and refusals of a request, taken or not
+-- ---- The lines of a request, taken or not
 -- ---- what is wanted
 kind_known : (shared : Bool) (class : ℕ) → IsClass class → IsKind (kind_of_class shared class)
 kind_known shared class known = search arith
@@ -561,53 +438,11 @@ pub lies_as_pages_do : (es : List Event) (block : Block) (d : Directory) → 0 <
 lies_as_pages_do es block d some true all = lies_where es block d all
 lies_as_pages_do es block d some false not_all = λ lies. not_all (lies_each es block d some lies)
 
--- ---- the line of a give
-module _ (old : Machine) (k : ℕ) (w : Wanted) (line : List ℕ) where
-  -- A line that reads as no event gives no block.
-  pub give_unread : IsEventRead line None → GiveTaken old old k w line None
-  give_unread read = (
-    refl,
-    λ s r replaced more next wants small fits stands few takes.
-        let e = Event.Give k takes.block in
-        none-some e (read.only e (gives_fits (profile_of old) s small k r fits takes.block takes.is_for takes.admitted) takes.line_is),
-  )
-
-  -- A line of an event gives what its event gives, if it is a give for the request.
-  pub give_taken : (new : Machine) (e : Event) → IsEventRead line (Some e) → (found : Option Block) → IsGiven old new k w e found
-      → GiveTaken old new k w line found
-  give_taken new e read (Some block) given = λ s r replaced more wants stands.
-      let g = given s r wants stands in
-      (record { block = block; is_for = g.1; admitted = g.2; line_is = read.some ∙ ap line_of_event g.0; next_is = refl }, g.3)
-  give_taken new e read None given = (
-    given.0,
-    λ s r replaced more next wants small fits stands few takes.
-        let give = Event.Give k takes.block in
-        given.1 s r takes.block wants stands few (same_Some e give (read.only give
-        (gives_fits (profile_of old) s small k r fits takes.block takes.is_for takes.admitted) takes.line_is)) takes.is_for takes.admitted,
-  )
-
--- ---- a refusal
-module _ (machine : Machine) (k : ℕ) (w : Wanted) (line : List ℕ) (few : k < 2 ^ 8) where
-  -- A line that reads as no record refuses nothing.
-  pub refusal_unread : IsRead line None → RefusalSeen machine k w line false
-  refusal_unread read = λ s r more next wants small fits stands takes.
-      let item = Record.Said k takes.said in
-      none-some item (read.only item (few, refusal_fits (profile_of machine) s small k r fits takes.said takes.refuses) takes.line_is)
-
-  -- A line of a record refuses where that is a refusal of the request.
-  pub refusal_seen : (item : Record) → IsRead line (Some item) → (seen : Bool)
-      → ((s : Stand) (r : Request) → IsWanted (profile_of machine) r w → StandsFor machine s.events
-      → MatchBool seen (RefusesBy (profile_of machine) s k r item) (RefusesBy (profile_of machine) s k r item → ⊥)) → RefusalSeen machine k w line seen
-  refusal_seen item read true refuses = λ s r more wants stands.
-      let is = refuses s r wants stands in
-      record { said = is.0; refuses = is.1; line_is = read.some ∙ ap line_of is.2; next_is = refl }
-  refusal_seen item read false refuses = λ s r more next wants small fits stands takes.
-      let said = Record.Said k takes.said in
-      refuses s r wants stands (
-        takes.said,
-        takes.refuses,
-        same_Some item said (read.only said (few, refusal_fits (profile_of machine) s small k r fits takes.said takes.refuses) takes.line_is),
-      )
+-- a record that was read and answers a request is an event that serves it or a refusal
+pub no_answer : (f : Profile) (s : Stand) (k : ℕ) (r : Request) {found : Option Record}
+    → ((e : Event) → found ≡ Some (Record.Event e) → MayServe f s k r (Record.Event e) → ⊥) → (RefusesBy f s k r found → ⊥)
+    → (item : Record) → found ≡ Some item → MayServe f s k r item → ⊥
+no_answer f s k r none unrefused item is may = search arith
 
 -- ---- Outcomes of a pass, taken or not
 -- ---- the outcome of a record
@@ -623,55 +458,3 @@ said_is epoch said x h = search (arith, same_Some, none-some)
 -- A record that tells a page's outcome is the record of just that outcome.
 pub record_is : (epoch : ℕ) (r : Record) (x : Examined) → outcome_in epoch r ≡ Some x → r ≡ record_of epoch x.page x.outcome
 record_is epoch r x h = search (arith, event_is, if_some, eqb-true, said_is, none-some)
-
--- ---- the line of an outcome
-module _ (old : Machine) (line : List ℕ) (last epoch : ℕ) where
-  abbrev pub IsOnly : Option Examined → Type 0
-  IsOnly found = (page : ℕ) (o : Outcome) → Fits (record_of epoch page o) → line ≡ line_of (record_of epoch page o) → found ≡ Some record { page = page; outcome = o }
-
-  -- The outcome that a line's record tells is the only one of that line.
-  pub found_only : {item : Record} {found : Option Examined} → IsRead line (Some item) → found ≡ outcome_in epoch item → IsOnly found
-  found_only {item = item} read outcome page o fits has =
-      let r = record_of epoch page o in outcome ∙ ap (outcome_in epoch) (same_Some item r (read.only r fits has)) ∙ outcome_is epoch page o
-
-  outcome_refused : (new : Machine) → new ≡ old
-      → ((p : ℕ) (o : Outcome) → last < p → IsPage (profile_of old) p → Fits (record_of epoch p o) → line ≡ line_of (record_of epoch p o)
-      → (s : Stand) → StandsFor old s.events → IsFew s.events → s.epoch ≡ epoch → MayCome (profile_of old) s p o → ⊥)
-      → OutcomeTaken old new last epoch line None
-  outcome_refused new kept none = search (arith, outcome_fits)
-
-  -- no record has the line
-  pub outcome_unread : IsRead line None → OutcomeTaken old old last epoch line None
-  outcome_unread read = outcome_refused old refl (λ p o rises region fits has s stands low same may.
-      none-some (record_of epoch p o) (read.only (record_of epoch p o) fits has))
-
-  -- no outcome has it
-  pub outcome_other : IsOnly None → OutcomeTaken old old last epoch line None
-  outcome_other none = outcome_refused old refl (λ p o rises region fits has s stands low same may. none-some (record { page = p; outcome = o })
-      (none p o fits has))
-
-  -- the outcome is of another page than one that may come
-  pub outcome_amiss : (x : Examined) → IsOnly (Some x) → (last < x.page → IsPage (profile_of old) x.page → ⊥) → OutcomeTaken old old last epoch line None
-  outcome_amiss x only amiss = search (arith, outcome_refused, same_Some)
-
-  -- what came of its page was tried
-  pub outcome_came : (new : Machine) (x : Examined) → line ≡ line_of (record_of epoch x.page x.outcome) → last < x.page → IsPage (profile_of old) x.page
-      → IsExamined old new epoch x true → OutcomeTaken old new last epoch line (Some x.page)
-  outcome_came new x has rises region examined = λ s more stands same.
-      let came = examined s stands same in (
-        after_outcome s x.page x.outcome,
-        record {
-          page = x.page;
-          rises = rises;
-          of_region = region;
-          outcome = x.outcome;
-          may = came.0;
-          line_is = subst (λ e. line ≡ line_of (record_of e x.page x.outcome)) (sym same) has;
-          next_is = refl;
-        },
-        came.1,
-      )
-
-  -- Where the machine refuses the outcome of a line, no outcome is taken.
-  pub outcome_failed : (new : Machine) (x : Examined) → IsOnly (Some x) → IsExamined old new epoch x false → OutcomeTaken old new last epoch line None
-  outcome_failed new x only examined = search (arith, outcome_refused)

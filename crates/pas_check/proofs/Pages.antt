@@ -8,20 +8,20 @@ use Rattle.pas_check.specs.{Lines.put_front, Lines.lines_in, Takes.AreAllowedMar
 use Rattle.pas_check.specs.Inputs.{is_mark, before_mark, after_mark, trace_in, transcript_in}
 use Rattle.pas_profile.specs.Blocks.{address_of, length_of, grain_of}
 use Rattle.pas_profile.specs.declared.{directory.Directory.Directory, event.Event.Event, name.Block.Block, profile.Profile.Profile}
-use Rattle.pas_machine.specs.{Machine.Run, Machine.MayGive, Places.IsCovered, Laws.IsCounted}
+use Rattle.pas_machine.specs.{Machine.Run, Machine.MayGive, Places.IsCovered, Laws.IsCounted, Totals.address_at, Totals.has_block, Totals.sum_below}
 use Rattle.pas_machine.specs.State.{Live, live_in, deed_in, ends_in, gives_in}
-use Rattle.pas_report.specs.Marks.{Marked}
-use Rattle.pas_report.specs.Reports.{covers, is_covered, machine_page, page_text, live_on, total_line, totals_text}
-use Rattle.pas_report.proofs.{ReportOfWords.none_of, ReportOfWords.not_covering, ReportOfWords.some_of, Counting.grains_counted, Counting.sum_same}
-use Rattle.pas_report.proofs.{Counting.sum_and_count}
+use Rattle.pas_records.specs.{Marks.Marked, Covered.covers, Covered.is_covered}
+use Rattle.pas_report.specs.Totals.{totals_of}
+use Rattle.pas_report.specs.Reports.{machine_page, page_text, live_on, total_line}
+use Rattle.pas_records.proofs.MarksAtRest.{none_of, not_covering, some_of}
+use Rattle.pas_report.proofs.Counting.{grains_counted, sum_same, sum_and_count}
 use Rattle.pas_check.specs.Leading.{Fails, IsLed, IsWithin, lines_from, IsJustLine, Leads}
-use Rattle.pas_check.specs.Shown.{IsHinted, IsPageLine, IsWith, MayShow, TellsPage, line_with, marks_for, given_on, TellsTotals}
+use Rattle.pas_check.specs.Shown.{IsHinted, IsPageLine, IsWith, MayShow, TellsPage, line_with, marks_for, given_on}
 use Rattle.pas_check.specs.States.{Due, Shows, Stand, with_due, Totals}
-use Rattle.pas_check.specs.declared.{cutting.Cursor.Cursor, reporting.Shown.Shown, reporting.Totalled.Totalled}
+use Rattle.pas_check.specs.declared.{cutting.Cursor.Cursor, reporting.Shown.Shown}
 use Rattle.pas_check.proofs.Leads.{due_refused, due_taken, just_led, leads_nowhere}
 use Rattle.pas_bits.specs.Bits.{count_below}
 use Rattle.pas_bits.proofs.{Rows.count_add, Rows.count_same, Rows.count_suc, Runs.first_of_run}
-use Rattle.pas_machine.specs.Totals.{address_at, has_block, sum_below, ended_total, given_total, live_total}
 use Rattle.pas_machine.proofs.LiveBlocks.{all_counted}
 
 -- ---- What a cut of an input does to its trace and its transcript
@@ -341,19 +341,15 @@ counted : (o : Option Live) (gives ends : ℕ) → IsCounted o gives ends → gi
 counted o gives ends is = search arith
 
 -- As many blocks were given in all as ended and live.
-pub given_is : (f : Profile) (es : List Event) → Run f es → given_total f es ≡ ended_total f es + live_total f es
+pub given_is : (f : Profile) (es : List Event) → Run f es → (totals_of f es).given ≡ (totals_of f es).ended + (totals_of f es).live
 given_is f es run = sum_same (256 * f.pages) _ _
     (λ i low. counted (live_in es (address_at i)) (gives_in es (address_at i)) (ends_in es (address_at i)) (all_counted f es run (address_at i)))
     ∙ sum_and_count (256 * f.pages) (λ i. ends_in es (address_at i)) (λ i. has_block (live_in es (address_at i)))
 
 -- The report's last line is taken where it is just that of the machine's totals, or fails.
-pub totals_led : (f : Profile) (text : List ℕ) (s : Stand) (more : List Due) (totals : Totalled) (old new : Cursor) (wanted : List ℕ) (is : Bool)
-    → Run f s.events → TellsTotals f s.events totals
-    → wanted ≡ totals_text totals.deeds totals.backed totals.live (totals.ended + totals.live) totals.ended → s.due ≡ Totals ∷ more → new.lines ≡ old.lines + 1
+pub totals_led : (f : Profile) (text : List ℕ) (s : Stand) (more : List Due) (old new : Cursor) (wanted : List ℕ) (is : Bool)
+    → wanted ≡ total_line f s.events → s.due ≡ Totals ∷ more → new.lines ≡ old.lines + 1
     → IsJustLine text old new wanted is → IsLed f text s old (with_due s more) new is
-totals_led f text s more totals old new wanted is run tells made due count just =
-    let given = given_is f s.events run in
-    let sum : totals.ended + totals.live ≡ given_total f s.events = omega (arith, given, tells.live, tells.ended) in
-    let same : wanted ≡ total_line f s.events = made ∙ (λ t. totals_text (tells.deeds t) (tells.backed t) (tells.live t) (sum t) (tells.ended t)) in
+totals_led f text s more old new wanted is same due count just =
     just_led f s Totals more due refl text old (total_line f s.events) (λ line next. (λ x. x, λ x. x)) new count is
     (subst (λ (l : List ℕ). IsJustLine text old new l is) same just)

@@ -1,34 +1,32 @@
 -- Stretches of lines: of a log that is emptied, of a request, of a pass, and of requests that are guarded.
-use Rattle.std.proofs.Common.{◌≡◌, ℕ, ◌+◌, ◌^◌, ◌<◌, true, false, List, [], ◌∷◌, ◌++◌, inl, inr, refl, ap, sym, subst, ◌∙◌, arith, ◌⊎◌, Option, None, Some, ◌↔◌}
-use Rattle.std.proofs.Common.{Bool, ◌≢◌, ◌==◌, if◌then◌else◌, cond, map, eqb-true}
-use Rattle.pas_profile.specs.declared.{event.Event.Event, directory.Directory.Directory, name.Block.Block, name.Name.Name, event.Outcome.Outcome}
-use Rattle.pas_profile.specs.declared.{profile.Profile.Profile}
+use Rattle.std.proofs.Common.{◌≡◌, ℕ, ◌+◌, ◌^◌, ◌<◌, true, false, List, [], ◌∷◌, ◌++◌, inl, inr, refl, ap, sym, subst, ◌∙◌, arith, Option, None, Some, ◌↔◌}
+use Rattle.std.proofs.Common.{Bool, ◌≢◌, ◌==◌, if◌then◌else◌, cond, map, eqb-true, ◌||◌, IfSome, MatchBool}
+use Rattle.pas_profile.specs.declared.{event.Event.Event, name.Block.Block, name.Name.Name, event.Outcome.Outcome, profile.Profile.Profile}
 use Rattle.pas_machine.specs.{Machines.profile_of, Machines.StandsFor, Machine.IsPlace, Machine.Run, State.ends_in}
 use Rattle.pas_machine.specs.declared.machine.Machine.{Machine}
 use Rattle.pas_check.specs.Begins.{entries_due, replacing, ready, has_sides, raising, goes_down, guard_of, lowered_due, page_above, page_below, sweeping}
-use Rattle.pas_check.specs.Calls.{EntriesTaken, EntryTaken, EndingTaken, IsAsked, IsWanted, PreparingTaken, RequestGoes, RequestTaken, after_request}
-use Rattle.pas_check.specs.Calls.{IsExamining, OutcomeTaken, OutcomesGo, OutcomesTaken, after_pass, BacksBy, GiveTaken, IsTrying, TrialEnded, TrialGoes}
-use Rattle.pas_check.specs.Calls.{TrialStays, TrialTaken, LinesSwept, staying}
+use Rattle.pas_check.specs.Calls.{EntriesTaken, EntryTaken, IsAsked, IsWanted, RequestGoes, RequestTaken, after_request, IsExamining, OutcomeTaken, OutcomesGo}
+use Rattle.pas_check.specs.Calls.{OutcomesTaken, after_pass, IsTrying, TrialGoes, TrialTaken, LinesSwept, staying, EventTaken, IsRead, RefusalSeen, RefusesBy}
 use Rattle.pas_check.specs.Leading.{IsWithin, lines_from, Fails, Leads, IsLineLed}
-use Rattle.pas_check.specs.Takes.{IsEventOf, TakesEntry, IsPreparing, TakesGive, TakesPreparing, TakesRefusal, TakesRequest, directory_of, Takes, TakesOutcome}
-use Rattle.pas_check.specs.Takes.{after_outcome, TakesGuarded, TakesKeeping, TakesTry, serving}
+use Rattle.pas_check.specs.Takes.{IsEventOf, TakesEntry, TakesRequest, directory_of, Takes, TakesOutcome, after_outcome, TakesKeeping, TakesTry, serving}
+use Rattle.pas_check.specs.Takes.{IsServing, MayServe, after_record, block_in, after_keeping, given_next, is_back, kept_next, record_of}
 use Rattle.pas_check.specs.States.{Due, Frees, Stand, with_due, with_one, Serves, with_name, Examines, Tries, Writes, Never}
-use Rattle.pas_check.specs.declared.{cutting.Cursor.Cursor, entry.Entry.Entry, serving.Wanted.Wanted, guarding.Trial.Trial, guarding.Trial.TheVariants.Gives}
+use Rattle.pas_check.specs.declared.{cutting.Cursor.Cursor, entry.Entry.Entry, serving.Wanted.Wanted, guarding.Trial.TheVariants.Gives}
 use Rattle.pas_check.specs.declared.{guarding.Trial.TheVariants.Passes, guarding.Trial.TheVariants.Stops, acting.Judge.Judge, guard.Guard.Guard}
 use Rattle.pas_check.specs.declared.{naming.Names.Names}
-use Rattle.pas_check.proofs.OneNext.{one_event, one_next, one_takes, prepares_fits}
+use Rattle.pas_check.proofs.OneNext.{one_event, one_next, one_takes, kept_fits, no_answer, outcome_fits, serves_fits}
 use Rattle.pas_check.proofs.Leads.{EndsBy, kept_more, reaches_here, kept_same, small_of, then_fails, then_lacks, then_leads, IsSameAt, leads_idly, leads_line}
-use Rattle.pas_check.proofs.Leads.{leads_on, due_takes, takes_due, undone, due_lacks, due_refused, leads_nowhere, led_on}
+use Rattle.pas_check.proofs.Leads.{leads_on, due_takes, takes_due, undone, due_lacks, due_refused, leads_nowhere, led_on, few_lines}
 use Rattle.pas_profile.specs.{Directories.IsKind, Profiles.IsValid, Blocks.address_of}
 use Rattle.pas_trace.specs.declared.item.Request.{Request}
-use Rattle.pas_check.specs.Bounds.{FitsRequest, IsFew, IsSmall, IsKept, FitsTry}
+use Rattle.pas_check.specs.{Bounds.IsSmall, Bounds.IsKept, Bounds.FitsTry, Tables.meant}
 use Rattle.std.proofs.lemmas.Bool.{false≢true}
-use Rattle.pas_check.specs.{Ranges.FitsEvent, Tables.meant}
 use Rattle.std.specs.{List.filter, Global.Vec}
-use Rattle.pas_report.specs.declared.record.{Record.Record, Said.Said}
 use Rattle.pas_trace.specs.Acts.{Act}
 use Rattle.pas_check.specs.Tasks.{ActTaken, AsksKeeper, Comes, GuardsSwept, IsCarried, Stands}
 use Rattle.pas_check.proofs.Actings.{comes_answered, comes_as, comes_led, comes_on, fits_wanted}
+use Rattle.pas_records.specs.Lines.{line_of}
+use Rattle.pas_records.specs.declared.record.{Record.Record, Said.Said}
 
 -- ---- The lines of the entries of a log, one after the other
 ends_by : (s : Stand) (k : ℕ) (entry : Entry) (e : Event) → IsEventOf s k entry e → EndsBy s.epoch e
@@ -51,42 +49,44 @@ module _ {old : Machine} {text : List ℕ} {from : Cursor} {k : ℕ} {log : List
 
     module _ (new : Machine) {line : List ℕ} (same_profile : profile_of mid ≡ profile_of old) (has : lines_from text at ≡ line ∷ lines_from text to) where
       -- it is the entry's
-      pub entries_more : IsWithin text to → EntryTaken mid new k entry epoch line true → EntriesTaken old new text from to k log entries epoch true
+      pub entries_more : IsWithin text to → EntryTaken (profile_of mid) mid new k entry epoch line true
+          → EntriesTaken old new text from to k log entries epoch true
       entries_more within taken = record {
         taken = λ s more stands same kept due.
+            let f = profile_of old in
             let b = before.taken s more stands same kept due in
             let rest : List Due = entries_due k entries ++ more in
             let t : Stand = record s { events = b.events; due = Frees k entry ∷ rest } in
-            let one = taken t rest b.stands same in
-            let next : Stand = with_due (with_one t one.0) rest in
-            let takes : TakesEntry (profile_of old) t k entry rest line next = subst (λ f. TakesEntry f t k entry rest line next) same_profile one.1 in record {
-              events = one.0 ∷ b.events;
+            let e : Event = taken.0 in
+            let is = (subst (λ g. EntryTaken g mid new k entry epoch line true) same_profile taken).2 t b.stands same in
+            let next : Stand = with_due (with_one t e) rest in
+            let takes : TakesEntry f t k entry rest line next
+            = record { event = e; of_entry = is.0; admitted = is.1; line_is = taken.1; next_is = refl } in record {
+              events = e ∷ b.events;
               led = then_leads to b.led (Frees k entry) rest refl refl count has within takes (λ other x. x.next_is
-                  ∙ ap (λ e. with_due (with_one t e) rest) (one_event t k entry x.event takes.event x.of_entry takes.of_entry) ∙ sym takes.next_is);
-              stands = one.2;
-              kept = kept_more next t at to takes.event (ap (λ (u : Stand). u.events) takes.next_is) refl count (ends_by t k entry takes.event takes.of_entry) b.kept;
+                  ∙ ap (λ g. with_due (with_one t g) rest) (one_event t k entry x.event e x.of_entry is.0));
+              stands = is.2;
+              kept = kept_more next t at to e refl refl count (ends_by t k entry e is.0) b.kept;
             };
       }
 
       -- it isn't
-      pub entries_amiss : at.lines < 2 ^ 32 → EntryTaken mid new k entry epoch line false → EntriesTaken old new text from to k log [] epoch false
-      entries_amiss low taken = record {
+      pub entries_amiss : IsWithin text at → EntryTaken (profile_of mid) mid new k entry epoch line false
+          → EntriesTaken old new text from to k log [] epoch false
+      entries_amiss here taken = record {
         taken = λ s more stands same kept due.
             let b = before.taken s more stands same kept due in
             let rest : List Due = entries_due k entries ++ more in
             let t : Stand = record s { events = b.events; due = Frees k entry ∷ rest } in
             then_fails to b.led (Frees k entry) rest refl refl count has
-            (λ next x. taken.1 t rest next b.stands (omega (arith, b.kept.few, low)) same (subst (λ f. TakesEntry f t k entry rest line next) (sym same_profile) x));
+            (λ next x. (subst (λ g. EntryTaken g mid new k entry epoch line false) same_profile taken).1 t x.event b.stands
+            (omega (arith, b.kept.few, few_lines here)) same x.of_entry x.admitted x.line_is);
       }
 
 -- ---- The lines of a request, one after the other
--- A deed or a back is no end, and so keeps epochs small.
-prepares_by : (epoch k : ℕ) (d : Directory) (e : Event) → IsKind d.kind → IsPreparing k d e → EndsBy epoch e
-prepares_by epoch k d e kind is = search arith
-
--- in each case it computes, or is given
-none_of : {A B C : Type 0} → (A → ⊥) → (B → ⊥) → (C → ⊥) → A ⊎ B ⊎ C → ⊥
-none_of a b c is = search arith
+-- An event that serves a request is no end, and its deed's kind is one.
+served_keeps : (f : Profile) (s : Stand) (k : ℕ) (r : Request) (epoch : ℕ) (e : Event) → IsKind (directory_of f r).kind → IsServing f s k r e → EndsBy epoch e
+served_keeps f s k r epoch e kind is = search arith
 
 module _ {old : Machine} {text : List ℕ} {from : Cursor} {k : ℕ} {w : Wanted} where
   -- Before any line, nothing was taken of a request.
@@ -98,11 +98,8 @@ module _ {old : Machine} {text : List ℕ} {from : Cursor} {k : ℕ} {w : Wanted
     pub request_lacks : lines_from text at ≡ [] → RequestTaken old mid text from to k w None
     request_lacks none s r replaced more asked = then_lacks to (before.goes s r replaced more asked).led (Serves k r replaced) more refl refl count none
 
-    module _ {line : List ℕ} (valid : IsValid (profile_of old)) (same : profile_of mid ≡ profile_of old) (low : at.lines < 2 ^ 32)
-        (has : lines_from text at ≡ line ∷ lines_from text to) where
-      wants_mid : (r : Request) → IsWanted (profile_of old) r w → IsWanted (profile_of mid) r w
-      wants_mid r wants = subst (λ g. IsWanted g r w) (sym same) wants
-
+    module _ {line : List ℕ} {found : Option Record} (valid : IsValid (profile_of old)) (same : profile_of mid ≡ profile_of old) (here : IsWithin text at)
+        (has : lines_from text at ≡ line ∷ lines_from text to) (read : IsRead line found) where
       -- where it goes on
       module _ (s : Stand) (r : Request) (replaced : Option Name) (more : List Due) (asked : IsAsked old s from k w r replaced more) where
         abbrev t : Stand
@@ -110,84 +107,93 @@ module _ {old : Machine} {text : List ℕ} {from : Cursor} {k : ℕ} {w : Wanted
 
         -- The state's numbers are small enough.
         small : IsSmall (profile_of old) t
-        small = let b = before.goes s r replaced more asked in small_of (profile_of old) mid t at same valid b.stands b.kept low asked.epoch
+        small = let b = before.goes s r replaced more asked in small_of (profile_of old) mid t at same valid b.stands b.kept (few_lines here) asked.epoch
 
-        leads_to : IsWithin text to → (next : Stand) → TakesRequest (profile_of old) t k r replaced more line next → Leads (profile_of old) text s from next to
-        leads_to within next takes = then_leads to (before.goes s r replaced more asked).led (Serves k r replaced) more refl refl count has within takes
-            (λ other x. one_next (profile_of old) t small (Serves k r replaced ∷ more) asked.fits line other next x takes)
+        -- The record that was read leads to what follows from it, where it answers the request.
+        answers : IsWithin text to → (item : Record) → found ≡ Some item → MayServe (profile_of old) t k r item
+            → Leads (profile_of old) text s from (after_record t k r replaced more item) to
+        answers within item is may =
+            let takes : TakesRequest (profile_of old) t k r replaced more line (after_record t k r replaced more item)
+            = record { item = item; may = may; line_is = subst (λ o. IfSome o (λ q. line ≡ line_of q)) is read.some; next_is = refl } in
+            then_leads to (before.goes s r replaced more asked).led (Serves k r replaced) more refl refl count has within takes
+            (λ other x. one_next (profile_of old) t small (Serves k r replaced ∷ more) asked.fits line other (after_record t k r replaced more item) x takes)
 
-        fails_to : ((next : Stand) → TakesRequest (profile_of old) t k r replaced more line next → ⊥) → Fails (profile_of old) text s from to.lines
-        fails_to never = then_fails to (before.goes s r replaced more asked).led (Serves k r replaced) more refl refl count has never
+        -- Where it is none that does, the line can't be taken.
+        answers_none : ((item : Record) → found ≡ Some item → MayServe (profile_of old) t k r item → ⊥) → Fails (profile_of old) text s from to.lines
+        answers_none never = then_fails to (before.goes s r replaced more asked).led (Serves k r replaced) more refl refl count has
+            (λ next x. never x.item (read.only x.item (serves_fits (profile_of old) t small k r asked.fits x.item x.may) x.line_is) x.may)
 
-      module _ (new : Machine) where
+      -- an event was taken
+      module _ (new : Machine) (e : Event) (taken : EventTaken (profile_of mid) mid new k w found (Some e)) where
+        served : (s : Stand) (r : Request) (replaced : Option Name) (more : List Due) (asked : IsAsked old s from k w r replaced more)
+            → MayServe (profile_of old) (t s r replaced more asked) k r (Record.Event e) × StandsFor new (e ∷ (before.goes s r replaced more asked).events)
+        served s r replaced more asked = (subst (λ f. EventTaken f mid new k w found (Some e)) same taken).1 (t s r replaced more asked) r asked.wants
+            (before.goes s r replaced more asked).stands
+
         -- a deed or a back
-        pub request_goes_on : IsWithin text to → PreparingTaken mid new k w.directory line true → RequestGoes old new text from to k w
-        request_goes_on within taken = record {
+        pub request_goes_on : IsWithin text to → block_in e ≡ None → RequestGoes old new text from to k w
+        request_goes_on within none = record {
           goes = λ s r replaced more asked.
-              let b = before.goes s r replaced more asked in
               let u = t s r replaced more asked in
-              let got = taken u r b.stands (wants_mid r asked.wants).directory in
-              let next : Stand = with_one u got.0 in
-              let takes : TakesPreparing (profile_of old) u k r line next = subst (λ g. TakesPreparing g u k r line next) same got.1 in record {
-                events = got.0 ∷ b.events;
-                led = leads_to s r replaced more asked within next (inl takes);
-                stands = got.2;
-                kept = kept_more next u at to takes.event (ap (λ (v : Stand). v.events) takes.next_is) refl count
-                    (prepares_by u.epoch k (directory_of (profile_of old) r) takes.event asked.fits.kind takes.prepares) b.kept;
+              let got = served s r replaced more asked in record {
+                events = e ∷ u.events;
+                led = subst (λ o. Leads (profile_of old) text s from (given_next o (with_one u e) k r replaced more) to) none
+                    (answers s r replaced more asked within (Record.Event e) taken.0 got.0);
+                stands = got.1;
+                kept = kept_more (with_one u e) u at to e refl refl count (served_keeps (profile_of old) u k r u.epoch e asked.fits.kind got.0.0)
+                    (before.goes s r replaced more asked).kept;
               };
         }
 
-        -- another line, which ends the request or isn't allowed
-        request_ends_there : IsWithin text to → PreparingTaken mid mid k w.directory line false → (block : Option (Option Block))
-            → EndingTaken mid new k w line block → RequestTaken old new text from to k w block
-        request_ends_there within none (Some (Some block)) ending = λ s r replaced more asked.
-            let b = before.goes s r replaced more asked in
+        -- the give of a block
+        pub request_gives : IsWithin text to → (block : Block) → block_in e ≡ Some block → RequestTaken old new text from to k w (Some (Some block))
+        request_gives within block gives s r replaced more asked =
             let u = t s r replaced more asked in
-            let got = ending u r replaced more (wants_mid r asked.wants) b.stands in
-            let give : Event = Event.Give k block in
-            let next : Stand = replacing replaced (with_name (with_one u give) r.name (Some block)) k more in
-            let takes : TakesGive (profile_of old) u k r replaced more line next = subst (λ g. TakesGive g u k r replaced more line next) same got.0 in
-            let there : next ≡ after_request (record s { events = give ∷ b.events }) k r replaced (Some block) more
-            = ap (λ ds. replacing replaced (with_name (record s { events = give ∷ b.events; due = ds }) r.name (Some block)) k more) (sym asked.due) in (
-              give ∷ b.events,
-              subst (λ (v : Stand). Leads (profile_of old) text s from v to) there (leads_to s r replaced more asked within next (inr (inl takes))),
+            let got = served s r replaced more asked in
+            let there : given_next (block_in e) (with_one u e) k r replaced more ≡ after_request (record s { events = e ∷ u.events }) k r replaced (Some block) more
+            = ap (λ o. given_next o (with_one u e) k r replaced more) gives
+            ∙ ap (λ ds. replacing replaced (with_name (record s { events = e ∷ u.events; due = ds }) r.name (Some block)) k more) (sym asked.due) in (
+              e ∷ u.events,
+              subst (λ (v : Stand). Leads (profile_of old) text s from v to) there (answers s r replaced more asked within (Record.Event e) taken.0 got.0),
               got.1,
-              kept_more (record s { events = give ∷ b.events }) u at to give refl refl count tt b.kept,
+              kept_more (record s { events = e ∷ u.events }) u at to e refl refl count (served_keeps (profile_of old) u k r u.epoch e asked.fits.kind got.0.0)
+                  (before.goes s r replaced more asked).kept,
             )
-        request_ends_there within none (Some None) ending = λ s r replaced more asked.
-            let b = before.goes s r replaced more asked in
-            let u = t s r replaced more asked in
-            let kept : new ≡ mid = ending.0.0 in
-            let wants = subst (λ (m : Machine). IsWanted (profile_of m) r w) (sym kept) (wants_mid r asked.wants) in
-            let new_stands = subst (λ (m : Machine). StandsFor m b.events) (sym kept) b.stands in
-            let next : Stand = with_due (with_name u r.name None) more in
-            let takes : TakesRefusal (profile_of old) u k r more line next =
-            subst (λ g. TakesRefusal g u k r more line next) (ap (λ (m : Machine). profile_of m) kept ∙ same) (ending.1 u r more wants new_stands) in (
-              b.events,
-              leads_to s r replaced more asked within next (inr (inr takes)),
-              new_stands,
-              kept_same (record s { events = b.events }) u at to refl refl (omega (arith, count)) b.kept,
-            )
-        request_ends_there within none None ending = λ s r replaced more asked.
-            let b = before.goes s r replaced more asked in
-            let u = t s r replaced more asked in
-            let kept : new ≡ mid = ending.0.0 in
-            let wants = wants_mid r asked.wants in
-            let few : IsFew b.events = omega (arith, b.kept.few, low) in
-            let small_mid = subst (λ g. IsSmall g u) (sym same) (small s r replaced more asked) in
-            let fits = subst (λ g. FitsRequest g k r) (sym same) asked.fits in
-            let new_is = ap (λ (m : Machine). profile_of m) kept in
-            fails_to s r replaced more asked (λ next takes. none_of
-            (λ x. none.1 u r next b.stands few wants.directory (subst (λ g. TakesPreparing g u k r line next) (sym same) x))
-            (λ x. ending.0.1 u r replaced more next wants small_mid fits b.stands few (subst (λ g. TakesGive g u k r replaced more line next) (sym same) x))
-            (λ x. ending.1 u r more next (subst (λ g. IsWanted g r w) (sym new_is) wants) (subst (λ g. IsSmall g u) (sym new_is) small_mid)
-            (subst (λ g. FitsRequest g k r) (sym new_is) fits)
-            (subst (λ (m : Machine). StandsFor m b.events) (sym kept) b.stands) (subst (λ g. TakesRefusal g u k r more line next) (sym (new_is ∙ same)) x)) takes)
 
-        -- A line that is neither a deed nor a back ends the lines of a request: it gives, refuses or fails.
-        pub request_ends : (stood : Machine) → IsWithin text to → PreparingTaken mid stood k w.directory line false → (block : Option (Option Block))
-            → EndingTaken stood new k w line block → RequestTaken old new text from to k w block
-        request_ends stood within none block ending = request_ends_there within (refl, none.1) block (subst (λ (m : Machine). EndingTaken m new k w line block) none.0 ending)
+      -- no event was taken
+      module _ {stood : Machine} (none : EventTaken (profile_of mid) mid stood k w found None) (s : Stand) (r : Request) (replaced : Option Name)
+          (more : List Due)
+          (asked : IsAsked old s from k w r replaced more) where
+        still_stands : StandsFor stood (t s r replaced more asked).events
+        still_stands = subst (λ (m : Machine). StandsFor m (t s r replaced more asked).events) (sym none.0) (before.goes s r replaced more asked).stands
+
+        seen_here : (is : Bool) → RefusalSeen (profile_of stood) stood k w found is
+            → MatchBool is (RefusesBy (profile_of old) (t s r replaced more asked) k r found) (RefusesBy (profile_of old) (t s r replaced more asked) k r found
+            → ⊥)
+        seen_here is seen = subst (λ f. RefusalSeen f stood k w found is) (ap (λ (m : Machine). profile_of m) none.0 ∙ same) seen
+            (t s r replaced more asked) r asked.wants still_stands
+
+        no_event : (e : Event) → found ≡ Some (Record.Event e) → MayServe (profile_of old) (t s r replaced more asked) k r (Record.Event e) → ⊥
+        no_event e is may = (subst (λ f. EventTaken f mid stood k w found None) same none).1 (t s r replaced more asked) r e asked.wants
+            (before.goes s r replaced more asked).stands (omega (arith, (before.goes s r replaced more asked).kept.few, few_lines here)) is may
+
+      -- A refusal ends the request.
+      pub request_refused : {stood : Machine} → IsWithin text to → EventTaken (profile_of mid) mid stood k w found None
+          → RefusalSeen (profile_of stood) stood k w found true → RequestTaken old stood text from to k w (Some None)
+      request_refused within none seen s r replaced more asked =
+          let u = t s r replaced more asked in
+          let by = seen_here none s r replaced more asked true seen in (
+            u.events,
+            answers s r replaced more asked within (Record.Said k by.0) by.2 (refl, by.1),
+            still_stands none s r replaced more asked,
+            kept_same (record s { events = u.events }) u at to refl refl (omega (arith, count)) (before.goes s r replaced more asked).kept,
+          )
+
+      -- A line that is neither isn't allowed.
+      pub request_fails : {stood : Machine} → EventTaken (profile_of mid) mid stood k w found None
+          → RefusalSeen (profile_of stood) stood k w found false → RequestTaken old stood text from to k w None
+      request_fails none seen s r replaced more asked = answers_none s r replaced more asked
+          (no_answer (profile_of old) (t s r replaced more asked) k r (no_event none s r replaced more asked) (seen_here none s r replaced more asked false seen))
 
 -- ---- The lines of the outcomes of a pass, one after the other
 -- ---- what an outcome changes
@@ -228,18 +234,23 @@ module _ {old : Machine} {text : List ℕ} {from : Cursor} {epoch : ℕ} where
     pub outcomes_lack : IsWithin text at → lines_from text at ≡ [] → OutcomesTaken old mid text from at epoch
     outcomes_lack within none = outcomes_end within (λ s ex. subst (IsSameAt (profile_of old) text (passing s ex) (with_due (passing s ex) []) at) (sym none) tt)
 
-    module _ {line : List ℕ} {rest : List (List ℕ)} (valid : IsValid (profile_of old)) (same : profile_of mid ≡ profile_of old) (low : at.lines < 2 ^ 32)
-        (has : lines_from text at ≡ line ∷ rest) where
+    module _ {line : List ℕ} {rest : List (List ℕ)} {found : Option Record} (valid : IsValid (profile_of old)) (same : profile_of mid ≡ profile_of old)
+        (here : IsWithin text at) (has : lines_from text at ≡ line ∷ rest) (read : IsRead line found) where
       small_passing : (s : Stand) (ex : IsExamining old s from 0 epoch) → IsSmall (profile_of old) (passing s ex)
-      small_passing s ex = let b = before.goes s ex in small_of (profile_of old) mid (passing s ex) at same valid b.stands b.kept low (omega (arith, ex.epoch, ex.small))
+      small_passing s ex = let b = before.goes s ex in small_of (profile_of old) mid (passing s ex) at same valid b.stands b.kept (few_lines here) (omega (arith, ex.epoch, ex.small))
 
       -- another line
-      module _ (new : Machine) (none : OutcomeTaken mid new last epoch line None) where
+      module _ (new : Machine) (none : OutcomeTaken (profile_of mid) mid new last epoch found None) where
         -- A line that is taken while a page is examined is taken with nothing else due.
         there : (s : Stand) (ex : IsExamining old s from 0 epoch) (next : Stand) → Takes (profile_of old) (passing s ex) line next
             → Takes (profile_of old) (with_due (passing s ex) []) line next
-        there s ex next (inl x) = absurd (none.1 (passing s ex) [] next (subst (λ g. IsSmall g (passing s ex)) (sym same) (small_passing s ex)) (before.goes s ex).stands
-            (omega (arith, (before.goes s ex).kept.few, low)) ex.epoch (subst (λ g. TakesOutcome g (passing s ex) last [] line next) (sym same) x))
+        there s ex next (inl x) =
+            let f = profile_of old in
+            let b = before.goes s ex in
+            let of_outcome = read.only (record_of s.epoch x.page x.outcome) (outcome_fits f (passing s ex) (small_passing s ex) x.page x.outcome x.of_region x.may)
+            x.line_is in
+            absurd ((subst (λ g. OutcomeTaken g mid new last epoch found None) same none).1 (passing s ex) x.page x.outcome b.stands
+            (omega (arith, b.kept.few, few_lines here)) ex.epoch (subst (λ e. found ≡ Some (record_of e x.page x.outcome)) ex.epoch of_outcome) x.rises x.of_region x.may)
         there s ex next (inr y) = inr y
 
         -- in each case it computes, or is given
@@ -248,34 +259,43 @@ module _ {old : Machine} {text : List ℕ} {from : Cursor} {epoch : ℕ} where
         back s ex next is = search arith
 
         -- A line that tells no outcome ends those of a pass.
-        pub outcomes_over : IsWithin text at → OutcomesTaken old new text from at epoch
-        outcomes_over within = subst (λ (m : Machine). OutcomesTaken old m text from at epoch) (sym none.0) (outcomes_end within (λ s ex.
+        pub outcomes_over : OutcomesTaken old new text from at epoch
+        outcomes_over = subst (λ (m : Machine). OutcomesTaken old m text from at epoch) (sym none.0) (outcomes_end here (λ s ex.
             subst (IsSameAt (profile_of old) text (passing s ex) (with_due (passing s ex) []) at) (sym has) (λ next. (there s ex next, back s ex next))))
 
       -- an outcome more
       pub outcomes_more : (new : Machine) (to : Cursor) (page : ℕ) → rest ≡ lines_from text to → to.lines ≡ at.lines + 1 → IsWithin text to
-          → OutcomeTaken mid new last epoch line (Some page) → OutcomesGo old new text from to page epoch
+          → OutcomeTaken (profile_of mid) mid new last epoch found (Some page) → OutcomesGo old new text from to page epoch
       outcomes_more new to page is count within taken = record {
         goes = λ s ex.
             let f = profile_of old in
             let b = before.goes s ex in
-            let here = passing s ex in
+            let u = passing s ex in
             let due : List Due = Examines page ∷ [] in
-            let got = taken here [] b.stands ex.epoch in
-            let next : Stand = with_due got.0 due in
-            let takes : TakesOutcome f here last [] line next = subst (λ g. TakesOutcome g here last [] line next) same got.1 in
+            let got = subst (λ g. OutcomeTaken g mid new last epoch found (Some page)) same taken in
+            let o : Outcome = got.0 in
+            let came = got.4 u b.stands ex.epoch in
+            let next : Stand = with_due (after_outcome u page o) due in
+            let of_outcome = got.1 ∙ ap (λ e. Some (record_of e page o)) (sym ex.epoch) in
+            let takes : TakesOutcome f u last [] line next = record {
+              page = page;
+              rises = got.2;
+              of_region = got.3;
+              outcome = o;
+              may = came.0;
+              line_is = subst (λ x. IfSome x (λ q. line ≡ line_of q)) of_outcome read.some;
+              next_is = refl;
+            } in
             let follows = ex.followed in
-            let small_then : IsSmall f (ready f here)
-            = small_as f here (after_pass f s here.events) (follows.events here.events) (follows.epoch here.events) (small_passing s ex) in
-            let one = one_takes f here (small_passing s ex) small_then (follows.fits here.events) (follows.no_pass here.events) line in
-            let events = ap (λ (u : Stand). u.events) takes.next_is in
-            let shape = ap (λ (u : Stand). with_due u due) takes.next_is ∙ ap (λ (u : Stand). with_due u due) (outcome_shape here takes.page takes.outcome)
-            ∙ ap (λ es. record s { events = es; due = due }) (sym events) in record {
-              events = got.0.events;
-              led = subst (λ (u : Stand). Leads f text s from u to) shape (leads_on b.led
-                  (leads_line f text here at next to line (has ∙ ap (λ ls. line ∷ ls) is) count within (inl takes) (λ other x. one other next x (inl takes))));
-              stands = got.2;
-              kept = outcome_kept (record s { events = got.0.events; due = due }) here takes.page takes.outcome at to events refl count b.kept;
+            let small_then : IsSmall f (ready f u)
+            = small_as f u (after_pass f s u.events) (follows.events u.events) (follows.epoch u.events) (small_passing s ex) in
+            let one = one_takes f u (small_passing s ex) small_then (follows.fits u.events) (follows.no_pass u.events) line in
+            let shape = ap (λ (v : Stand). with_due v due) (outcome_shape u page o) in record {
+              events = (after_outcome u page o).events;
+              led = subst (λ (v : Stand). Leads f text s from v to) shape (leads_on b.led
+                  (leads_line f text u at next to line (has ∙ ap (λ ls. line ∷ ls) is) count within (inl takes) (λ other x. one other next x (inl takes))));
+              stands = came.1;
+              kept = outcome_kept (record s { events = (after_outcome u page o).events; due = due }) u page o at to refl refl count b.kept;
             };
       }
 
@@ -296,172 +316,111 @@ module _ {old : Machine} {text : List ℕ} {from : Cursor} {keeper : ℕ} {w : W
     pub trial_lacks : lines_from text at ≡ [] → TrialTaken old mid text from to keeper w Stops
     trial_lacks none s k r more asked = then_lacks to (before.goes s k r more asked).led (Tries keeper k r backed) more refl refl count none
 
-    module _ {line : List ℕ} (valid : IsValid (profile_of old)) (same : profile_of mid ≡ profile_of old) (low : at.lines < 2 ^ 32)
-        (has : lines_from text at ≡ line ∷ lines_from text to) where
-      trial_wants : (r : Request) → IsWanted (profile_of old) r w → IsWanted (profile_of mid) r w
-      trial_wants r wants = subst (λ g. IsWanted g r w) (sym same) wants
-
+    module _ {line : List ℕ} {found : Option Record} (valid : IsValid (profile_of old)) (same : profile_of mid ≡ profile_of old) (here : IsWithin text at)
+        (has : lines_from text at ≡ line ∷ lines_from text to) (read : IsRead line found) where
       module _ (s : Stand) (k : ℕ) (r : Request) (more : List Due) (asked : IsTrying old s from keeper k w r more) where
         abbrev trying : Stand
         trying = record s { events = (before.goes s k r more asked).events; due = Tries keeper k r backed ∷ more }
 
-        trial_few : IsFew trying.events
-        trial_few = omega (arith, (before.goes s k r more asked).kept.few, low)
-
         small_trying : IsSmall (profile_of old) trying
-        small_trying = let b = before.goes s k r more asked in small_of (profile_of old) mid trying at same valid b.stands b.kept low asked.epoch
+        small_trying = let b = before.goes s k r more asked in small_of (profile_of old) mid trying at same valid b.stands b.kept (few_lines here) asked.epoch
 
-        trial_leads : IsWithin text to → (next : Stand) → TakesTry (profile_of old) trying keeper k r backed more line next
-            → Leads (profile_of old) text s from next to
-        trial_leads within next takes = then_leads to (before.goes s k r more asked).led (Tries keeper k r backed) more refl refl count has within takes
-            (λ other x. one_next (profile_of old) trying small_trying (Tries keeper k r backed ∷ more) asked.fits line other next x takes)
+      -- an event was taken
+      module _ (new : Machine) (e : Event) (taken : EventTaken (profile_of mid) mid new keeper w found (Some e)) (within : IsWithin text to)
+          (s : Stand) (k : ℕ) (r : Request) (more : List Due) (asked : IsTrying old s from keeper k w r more) where
+        kept_by : MayServe (profile_of old) (trying s k r more asked) keeper r (Record.Event e) × StandsFor new (e ∷ (trying s k r more asked).events)
+        kept_by = (subst (λ f. EventTaken f mid new keeper w found (Some e)) same taken).1 (trying s k r more asked) r asked.wants (before.goes s k r more asked).stands
 
-        trial_fails : ((next : Stand) → TakesTry (profile_of old) trying keeper k r backed more line next → ⊥) → Fails (profile_of old) text s from to.lines
-        trial_fails never = then_fails to (before.goes s k r more asked).led (Tries keeper k r backed) more refl refl count has never
+        kept_leads : Leads (profile_of old) text s from (after_keeping (profile_of old) (trying s k r more asked) keeper k r backed more e) to
+        kept_leads =
+            let f = profile_of old in
+            let u = trying s k r more asked in
+            let next = after_keeping f u keeper k r backed more e in
+            let is = subst (λ o. IfSome o (λ q. line ≡ line_of q)) taken.0 read.some in
+            let takes : TakesKeeping f u keeper k r backed more line next
+            = record { event = e; serves = kept_by.0.0; admitted = kept_by.0.1; line_is = is; next_is = refl } in
+            then_leads to (before.goes s k r more asked).led (Tries keeper k r backed) more refl refl count has within (inl takes)
+            (λ other x. one_next f u (small_trying s k r more asked) (Tries keeper k r backed ∷ more) asked.fits line other next x (inl takes))
+
+        kept_kept : (u : Stand) → u.events ≡ e ∷ (trying s k r more asked).events → u.epoch ≡ s.epoch → IsKept u to
+        kept_kept u events epoch = kept_more u (trying s k r more asked) at to e events epoch count
+            (served_keeps (profile_of old) (trying s k r more asked) keeper r s.epoch e asked.fits.kept.kind kept_by.0.0) (before.goes s k r more asked).kept
 
       -- a deed or a back
-      pub trial_goes_on : (new : Machine) → IsWithin text to → PreparingTaken mid new keeper w.directory line true → (now : Bool) → BacksBy backed line now
-          → TrialGoes old new text from to keeper w now
-      trial_goes_on new within taken now is = record {
+      pub trial_goes_on : (new : Machine) (e : Event) → EventTaken (profile_of mid) mid new keeper w found (Some e) → IsWithin text to → block_in e ≡ None
+          → (now : Bool) → now ≡ (backed || is_back e) → TrialGoes old new text from to keeper w now
+      trial_goes_on new e taken within none now is = record {
         goes = λ s k r more asked.
-            let f = profile_of old in
-            let b = before.goes s k r more asked in
-            let u = trying s k r more asked in
-            let got = taken u r b.stands (trial_wants r asked.wants).directory in
-            let takes : TakesPreparing f u keeper r line (with_one u got.0) = subst (λ g. TakesPreparing g u keeper r line (with_one u got.0)) same got.1 in
-            let e : Event = takes.event in
-            let fits : FitsEvent e = prepares_fits f u (small_trying s k r more asked) keeper r asked.fits.kept e takes.prepares takes.admitted in
-            let next : Stand = record s { events = e ∷ b.events; due = Tries keeper k r now ∷ more } in
-            let goes : TakesKeeping f u keeper k r backed more line next = record {
-              event = e;
-              prepares = takes.prepares;
-              admitted = takes.admitted;
-              line_is = takes.line_is;
-              next_is = ap (λ back. record s { events = e ∷ b.events; due = Tries keeper k r back ∷ more }) (is e fits takes.line_is);
-            } in record {
-              events = e ∷ b.events;
-              led = trial_leads s k r more asked within next (inl goes);
-              stands = subst (λ (es : List Event). StandsFor new es) (ap (λ (v : Stand). v.events) takes.next_is) got.2;
-              kept = kept_more next u at to e refl refl count (prepares_by u.epoch keeper (directory_of f r) e asked.fits.kept.kind takes.prepares) b.kept;
+            let u = trying s k r more asked in record {
+              events = e ∷ u.events;
+              led = subst (λ (v : Stand). Leads (profile_of old) text s from v to)
+                  (λ i. kept_next (none i) (profile_of old) (with_one u e) keeper k r (sym is i) more) (kept_leads new e taken within s k r more asked);
+              stands = (kept_by new e taken within s k r more asked).1;
+              kept = kept_kept new e taken within s k r more asked (record s { events = e ∷ u.events; due = Tries keeper k r now ∷ more }) refl refl;
             };
       }
 
       -- a give
-      same_block : (es : List Event) (b c : Block) → Event.Give keeper b ∷ es ≡ Event.Give keeper c ∷ es → b ≡ c
-      same_block es b c is = cc
-
-      gives_there : (new : Machine) → IsWithin text to → (block : Block) → GiveTaken mid new keeper w line (Some block)
-          → TrialTaken old new text from to keeper w (Gives block)
-      gives_there new within block taken s k r more asked =
+      pub trial_gives : (new : Machine) (e : Event) → EventTaken (profile_of mid) mid new keeper w found (Some e) → IsWithin text to → (block : Block)
+          → block_in e ≡ Some block → TrialTaken old new text from to keeper w (Gives block)
+      trial_gives new e taken within block gives s k r more asked =
           let f = profile_of old in
-          let b = before.goes s k r more asked in
           let u = trying s k r more asked in
-          let give : Event = Event.Give keeper block in
-          let got = taken u r None more (trial_wants r asked.wants) b.stands in
-          let takes : TakesGive f u keeper r None more line (with_due (with_name (with_one u give) r.name (Some block)) more)
-          = subst (λ g. TakesGive g u keeper r None more line (with_due (with_name (with_one u give) r.name (Some block)) more)) same got.0 in
-          let is : block ≡ takes.block = same_block b.events block takes.block (ap (λ (v : Stand). v.events) takes.next_is) in
-          let v : Stand = with_name (record s { events = give ∷ b.events }) r.name (Some block) in
-          let next : Stand = raising (has_sides f block) (with_due v u.due) keeper r.name block more in
-          let goes : TakesGuarded f u keeper r more line next = record {
-            block = takes.block;
-            is_for = takes.is_for;
-            admitted = takes.admitted;
-            line_is = takes.line_is;
-            next_is = ap (λ (c : Block). raising (has_sides f c) (with_name (with_one u (Event.Give keeper c)) r.name (Some c)) keeper r.name c more) is;
-          } in (
-            give ∷ b.events,
-            subst (λ (x : Stand). Leads f text s from x to) (raise_due (has_sides f block) v u.due keeper r.name block more)
-                (trial_leads s k r more asked within next (inr (inl goes))),
-            got.1,
-            kept_more (record s { events = give ∷ b.events }) u at to give refl refl count tt b.kept,
+          let v : Stand = with_name (record s { events = e ∷ u.events }) r.name (Some block) in (
+            e ∷ u.events,
+            subst (λ (x : Stand). Leads f text s from x to)
+                (ap (λ o. kept_next o f (with_one u e) keeper k r (backed || is_back e) more) gives ∙ raise_due (has_sides f block) v u.due keeper r.name block more)
+                (kept_leads new e taken within s k r more asked),
+            (kept_by new e taken within s k r more asked).1,
+            kept_kept new e taken within s k r more asked (record s { events = e ∷ u.events }) refl refl,
           )
-
-      trial_gives : (stood new : Machine) → IsWithin text to → PreparingTaken mid stood keeper w.directory line false → (block : Block)
-          → GiveTaken stood new keeper w line (Some block)
-          → TrialTaken old new text from to keeper w (Gives block)
-      trial_gives stood new within none block given = gives_there new within block (subst (λ (m : Machine). GiveTaken m new keeper w line (Some block)) none.0 given)
 
       -- neither of them
-      not_kept : (stood new : Machine) → PreparingTaken mid stood keeper w.directory line false → GiveTaken stood new keeper w line None
-          → (s : Stand) (k : ℕ) (r : Request) (more : List Due) (asked : IsTrying old s from keeper k w r more) (next : Stand)
-          → TakesKeeping (profile_of old) (trying s k r more asked) keeper k r backed more line next
-          ⊎ TakesGuarded (profile_of old) (trying s k r more asked) keeper r more line next
-          → ⊥
-      not_kept stood new none given s k r more asked next (inl x) =
-          let u = trying s k r more asked in
-          let takes : TakesPreparing (profile_of old) u keeper r line (with_one u x.event)
-          = record { event = x.event; prepares = x.prepares; admitted = x.admitted; line_is = x.line_is; next_is = refl } in
-          none.1 u r (with_one u x.event) (before.goes s k r more asked).stands (trial_few s k r more asked) (trial_wants r asked.wants).directory
-          (subst (λ g. TakesPreparing g u keeper r line (with_one u x.event)) (sym same) takes)
-      not_kept stood new none given s k r more asked next (inr x) =
-          let u = trying s k r more asked in
-          let after : Stand = with_due (with_name (with_one u (Event.Give keeper x.block)) r.name (Some x.block)) more in
-          let takes : TakesGive (profile_of old) u keeper r None more line after
-          = record { block = x.block; is_for = x.is_for; admitted = x.admitted; line_is = x.line_is; next_is = refl } in
-          let here : GiveTaken mid new keeper w line None = subst (λ (m : Machine). GiveTaken m new keeper w line None) none.0 given in
-          here.1 u r None more after (trial_wants r asked.wants) (subst (λ g. IsSmall g u) (sym same) (small_trying s k r more asked))
-          (subst (λ g. FitsRequest g keeper r) (sym same) asked.fits.kept)
-          (before.goes s k r more asked).stands (trial_few s k r more asked) (subst (λ g. TakesGive g u keeper r None more line after) (sym same) takes)
+      module _ {stood : Machine} (none : EventTaken (profile_of mid) mid stood keeper w found None) where
+        not_kept : (s : Stand) (k : ℕ) (r : Request) (more : List Due) (asked : IsTrying old s from keeper k w r more) (next : Stand)
+            → TakesKeeping (profile_of old) (trying s k r more asked) keeper k r backed more line next → ⊥
+        not_kept s k r more asked next x =
+            let f = profile_of old in
+            let u = trying s k r more asked in
+            let b = before.goes s k r more asked in
+            let is = read.only (Record.Event x.event) (kept_fits f u (small_trying s k r more asked) keeper k r asked.fits backed more line x) x.line_is in
+            (subst (λ g. EventTaken g mid stood keeper w found None) same none).1 u r x.event asked.wants b.stands (omega (arith, b.kept.few, few_lines here)) is (x.serves, x.admitted)
 
-      trial_stops : (stood new : Machine) → PreparingTaken mid stood keeper w.directory line false → GiveTaken stood new keeper w line None → backed ≡ true
-          → TrialTaken old new text from to keeper w Stops
-      trial_stops stood new none given has_backed s k r more asked = trial_fails s k r more asked never
-        where
-          never : (next : Stand) → TakesTry (profile_of old) (trying s k r more asked) keeper k r backed more line next → ⊥
-          never next (inl x) = not_kept stood new none given s k r more asked next (inl x)
-          never next (inr (inl x)) = not_kept stood new none given s k r more asked next (inr x)
-          never next (inr (inr x)) = false≢true (sym x.0 ∙ has_backed)
+        pub trial_stops : backed ≡ true → TrialTaken old stood text from to keeper w Stops
+        trial_stops has_backed s k r more asked = then_fails to (before.goes s k r more asked).led (Tries keeper k r backed) more refl refl count has never
+          where
+            never : (next : Stand) → TakesTry (profile_of old) (trying s k r more asked) keeper k r backed more line next → ⊥
+            never next (inl x) = not_kept s k r more asked next x
+            never next (inr x) = false≢true (sym x.0 ∙ has_backed)
 
-      module _ (stood new : Machine) (none : PreparingTaken mid stood keeper w.directory line false) (given : GiveTaken stood new keeper w line None)
-          (s : Stand) (k : ℕ) (r : Request) (more : List Due) (asked : IsTrying old s from keeper k w r more) (next : Stand) where
-        by_thread : TakesTry (profile_of old) (trying s k r more asked) keeper k r backed more line next
-            → Takes (profile_of old) (serving (trying s k r more asked) k r more) line next
-        by_thread (inl x) = absurd (not_kept stood new none given s k r more asked next (inl x))
-        by_thread (inr (inl x)) = absurd (not_kept stood new none given s k r more asked next (inr x))
-        by_thread (inr (inr x)) = due_takes (profile_of old) (serving (trying s k r more asked) k r more) (Serves k r None) more refl refl line next x.1
+        module _ (none_backed : backed ≡ false) (s : Stand) (k : ℕ) (r : Request) (more : List Due) (asked : IsTrying old s from keeper k w r more)
+            (next : Stand) where
+          by_thread : TakesTry (profile_of old) (trying s k r more asked) keeper k r backed more line next
+              → Takes (profile_of old) (serving (trying s k r more asked) k r more) line next
+          by_thread (inl x) = absurd (not_kept s k r more asked next x)
+          by_thread (inr x) = due_takes (profile_of old) (serving (trying s k r more asked) k r more) (Serves k r None) more refl refl line next x.1
 
-        passes_on : Takes (profile_of old) (trying s k r more asked) line next → Takes (profile_of old) (serving (trying s k r more asked) k r more) line next
-        passes_on x = by_thread (takes_due (profile_of old) (trying s k r more asked) (Tries keeper k r backed) more refl refl line next x)
-
-        passes_back : backed ≡ false → Takes (profile_of old) (serving (trying s k r more asked) k r more) line next
-            → Takes (profile_of old) (trying s k r more asked) line next
-        passes_back none_backed x = due_takes (profile_of old) (trying s k r more asked) (Tries keeper k r backed) more refl refl line next
-            (inr (inr (none_backed, takes_due (profile_of old) (serving (trying s k r more asked) k r more) (Serves k r None) more refl refl line next x)))
-
-      trial_passes : (stood new : Machine) → IsWithin text at → PreparingTaken mid stood keeper w.directory line false → GiveTaken stood new keeper w line None
-          → backed ≡ false
-          → TrialTaken old new text from to keeper w (Passes at)
-      trial_passes stood new within none given none_backed s k r more asked =
-          let f = profile_of old in
-          let b = before.goes s k r more asked in
-          let u = trying s k r more asked in
-          let alike : (next : Stand) → Takes f u line next ↔ Takes f (serving u k r more) line next =
-          λ next. (passes_on stood new none given s k r more asked next, passes_back stood new none given s k r more asked next none_backed) in (
-            b.events,
-            leads_on b.led (leads_idly f text u (serving u k r more) at within (subst (λ (ls : List (List ℕ)). IsSameAt f text u (serving u k r more) at ls)
-                (sym has) alike) (
-                  λ done. absurd (undone f u (Tries keeper k r backed) more refl refl done),
-                  λ done. absurd (undone f (serving u k r more) (Serves k r None) more refl refl done),
-                )),
-            subst (λ (m : Machine). StandsFor m b.events) (sym (given.0 ∙ none.0)) b.stands,
-            kept_same (record s { events = b.events }) u at at refl refl (omega arith) b.kept,
+          alike : Takes (profile_of old) (trying s k r more asked) line next ↔ Takes (profile_of old) (serving (trying s k r more asked) k r more) line next
+          alike = (
+            λ x. by_thread (takes_due (profile_of old) (trying s k r more asked) (Tries keeper k r backed) more refl refl line next x),
+            λ x. due_takes (profile_of old) (trying s k r more asked) (Tries keeper k r backed) more refl refl line next
+                (inr (none_backed, takes_due (profile_of old) (serving (trying s k r more asked) k r more) (Serves k r None) more refl refl line next x)),
           )
 
-      -- either of them
-      pub trial_ends : (stood new : Machine) → IsWithin text at → IsWithin text to → PreparingTaken mid stood keeper w.directory line false → (trial : Trial)
-          → TrialEnded stood new keeper w line backed at trial
-          → TrialTaken old new text from to keeper w trial
-      trial_ends stood new behind within none (Gives block) ended = trial_gives stood new within none block ended
-      trial_ends stood new behind within none (Passes place) ended =
-          subst (λ (p : Cursor). TrialTaken old new text from to keeper w (Passes p)) (sym ended.2) (trial_passes stood new behind none ended.0 ended.1)
-      trial_ends stood new behind within none Stops ended = trial_stops stood new none ended.0 ended.1
-
--- the place behind the lines
-pub trial_stays : (old new : Machine) (text : List ℕ) (keeper : ℕ) (w : Wanted) (line : List ℕ) (backed : Bool) (at to : Cursor) → IsWithin text at
-    → IsWithin text to → (trial : Trial)
-    → TrialEnded old new keeper w line backed at trial → TrialStays text to trial
-trial_stays old new text keeper w line backed at to behind within trial ended = search arith
+        pub trial_passes : backed ≡ false → TrialTaken old stood text from to keeper w (Passes at)
+        trial_passes none_backed s k r more asked =
+            let f = profile_of old in
+            let b = before.goes s k r more asked in
+            let u = trying s k r more asked in (
+              b.events,
+              leads_on b.led (leads_idly f text u (serving u k r more) at here (subst (λ (ls : List (List ℕ)). IsSameAt f text u (serving u k r more) at ls)
+                  (sym has) (alike none_backed s k r more asked)) (
+                    λ done. absurd (undone f u (Tries keeper k r backed) more refl refl done),
+                    λ done. absurd (undone f (serving u k r more) (Serves k r None) more refl refl done),
+                  )),
+              subst (λ (m : Machine). StandsFor m b.events) (sym none.0) b.stands,
+              kept_same (record s { events = b.events }) u at at refl refl (omega arith) b.kept,
+            )
 
 -- ---- Guards that are raised and lowered
 -- ---- nothing ends where no grain of the region is
@@ -624,7 +583,8 @@ module _ {f : Profile} {text : List ℕ} {old : Judge} {from to : Cursor} (keepe
   pub raised : {is : Bool} (names : Names) (guards : Vec Guard) → ((n : ℕ) → meant names n ≡ (if name == n then Some (Some block) else meant old.names n))
       → guards.items ≡ old.guards.items ++ guard_of keeper block ∷ [] → has_sides (profile_of old.machine) block ≡ true
       → IsLineLed text from to (Writes (Record.Said keeper (Said.Guarded (page_below block) (page_above block) name))) is → (s : Stand) → Stands f old s from
-      → IsCarried f text (raising (has_sides f block) (with_name s name (Some block)) keeper name block []) from (record old { names = names; guards = guards }) to is
+      → IsCarried f text (raising (has_sides f block) (with_name s name (Some block)) keeper name block []) from
+      (record old { names = names; guards = guards }) to is
   raised names guards sets added sides led s stands =
       let up : Stand = raising true (with_name s name (Some block)) keeper name block [] in
       let there : Stands f (record old { names = names; guards = guards }) (with_due up []) from = search (arith, kept_same) in

@@ -7,7 +7,7 @@ use Rattle.pas_profile.specs.Blocks.{address_of, grain_of, length_of}
 use Rattle.pas_machine.specs.State.{deed_in, ends_in}
 use Rattle.pas_trace.specs.declared.{plan.What.What, item.Request.Request}
 use Rattle.pas_trace.specs.declared.plan.What.TheVariants.{Alloc, Guarded, Free, FreeSized, Raw, RawSized, Remake, Flush, Stop, Tick, Pass, Idle}
-use Rattle.pas_report.specs.declared.record.{Record.Record, Said.Said}
+use Rattle.pas_records.specs.declared.record.{Record.Record, Said.Said}
 use Rattle.pas_trace.specs.{Asked.request_in, Named.standing_for}
 use Rattle.pas_trace.specs.Acts.{Act, Operates, Guards, Settles, Ticks, MakesPass, ReadsEpoch, StopsIdle, MarksPhase, Wakes, MarksClose, Ends, Lowers}
 pub use Rattle.pas_trace.specs.Named.{suits, request_for}

@@ -1,44 +1,31 @@
 -- What the private functions of the checker promise of a line.
-use Rattle.std.specs.Prelude.{ℕ, ◌^◌, ◌<◌, ◌/◌, ◌%◌, ◌≡◌, ◌==◌, if◌then◌else◌, not, ◌||◌, map, Bool, true, false, List, [], ◌∷◌, ◌++◌, Option, None, Some}
-use Rattle.std.specs.Prelude.{IfSome}
+use Rattle.std.specs.Prelude.{ℕ, ◌^◌, ◌<◌, ◌/◌, ◌%◌, ◌≡◌, ◌==◌, if◌then◌else◌, not, map, Bool, true, false, List, [], ◌∷◌, ◌++◌, Option, None, Some, IfSome}
+use Rattle.std.specs.Prelude.{MatchBool}
 use Rattle.std.specs.List.{filter}
-use Rattle.pas_report.specs.Lines.{line_of, line_of_event}
-use Rattle.pas_report.specs.declared.record.{Record.Record, Said.Said}
-use Rattle.pas_profile.specs.declared.{directory.Directory.Directory, profile.Profile.Profile, event.Event.Event, event.Why.Why, name.Block.Block}
-use Rattle.pas_profile.specs.declared.{name.Name.Name}
+use Rattle.pas_profile.specs.declared.{directory.Directory.Directory, profile.Profile.Profile, event.Event.Event, event.Outcome.Outcome, event.Why.Why}
+use Rattle.pas_profile.specs.declared.{name.Block.Block, name.Name.Name}
 use Rattle.pas_profile.specs.declared.event.Outcome.TheVariants.{Unbacked, Bare, Young, InUse, NotOffered}
-use Rattle.pas_profile.specs.{Requests.room_in, Blocks.address_of, Blocks.grain_of, Blocks.length_of}
+use Rattle.pas_profile.specs.{Profiles.IsPage, Requests.room_in, Blocks.address_of, Blocks.grain_of, Blocks.length_of}
 use Rattle.pas_bits.specs.Runs.{in_run}
 use Rattle.pas_machine.specs.{State.deed_in, Machine.Admits, Machine.HasOtherRoom, Machine.IsReason, Machines.profile_of, Machines.StandsFor}
 use Rattle.pas_machine.specs.declared.machine.Machine.{Machine}
 use Rattle.pas_trace.specs.declared.item.Request.{Request}
 use Rattle.pas_check.specs.Begins.{begun_from, entries_due, goes_down, has_sides, lowered_due, past_outcomes, raising, replacing}
-use Rattle.pas_check.specs.Bounds.{FitsNext, FitsRequest, FitsTry, IsFew, IsKept, IsSmall}
+use Rattle.pas_check.specs.Bounds.{FitsNext, FitsRequest, FitsTry, IsFew, IsKept}
 use Rattle.pas_check.specs.Leading.{Fails, IsLed, IsWithin, Leads}
-use Rattle.pas_check.specs.Ranges.{Fits, FitsEvent}
-use Rattle.pas_check.specs.States.{Due, Examines, Serves, Tries, Stand, with_due, with_name, with_one}
-use Rattle.pas_check.specs.Takes.{IsFor, IsRefusal, MayCome, MayRefuse, TakesEntry, TakesGive, TakesOutcome, TakesPreparing, TakesRefusal, after_outcome}
-use Rattle.pas_check.specs.Takes.{directory_of, is_back}
+use Rattle.pas_check.specs.Ranges.{Fits}
+use Rattle.pas_check.specs.States.{Due, Examines, Serves, Tries, Stand, with_due, with_name}
+use Rattle.pas_check.specs.Takes.{IsEventOf, IsRefusal, MayCome, MayRefuse, MayServe, after_outcome, block_in, directory_of, record_of}
 use Rattle.pas_check.specs.declared.{cutting.Cursor.Cursor, examining.Examined.Examined, entry.Entry.Entry, guard.Guard.Guard, guarding.Trial.Trial}
 use Rattle.pas_check.specs.declared.{guarding.Trial.TheVariants.Gives, guarding.Trial.TheVariants.Passes, guarding.Trial.TheVariants.Stops}
 use Rattle.pas_check.specs.declared.{serving.Wanted.Wanted}
-
--- the event of a record
-abbrev pub event_in : Record → Option Event
-event_in (Record.Event e) = Some e
-event_in (Record.Said k said) = None
-event_in (Record.Phase n) = None
-event_in Record.Close = None
+use Rattle.pas_records.specs.Lines.{line_of, line_of_event}
+use Rattle.pas_records.specs.declared.record.{Record.Record, Said.Said}
 
 -- what was read of a line: the record that has this line, where there is one whose numbers fit their places
 pub record IsRead (line : List ℕ) (found : Option Record) : Type 0 where
   pub some : IfSome found (λ r. line ≡ line_of r)
   pub only : (r : Record) → Fits r → line ≡ line_of r → found ≡ Some r
-
--- .. and its event
-pub record IsEventRead (line : List ℕ) (found : Option Event) : Type 0 where
-  pub some : IfSome found (λ e. line ≡ line_of_event e)
-  pub only : (e : Event) → FitsEvent e → line ≡ line_of_event e → found ≡ Some e
 
 -- the machine took the event, which may come next; or it may not, and the machine is as it was
 abbrev pub IsStepped : Machine → Machine → Event → Bool → Type 0
@@ -55,14 +42,12 @@ IsTrueReason es entry (Some why) = MayRefuse entry why × IsReason es entry.name
 abbrev pub Differs : List Event → Entry → Type 0
 Differs es entry = (0 < entry.room) × HasOtherRoom es entry.name entry.room
 
--- The line is that of the entry, wherever the machine stands for what stood before, and it stands for what stands after it; or no line of the entry is
--- this one, and the machine is as it was.
-abbrev pub EntryTaken : Machine → Machine → ℕ → Entry → ℕ → List ℕ → Bool → Type 0
-EntryTaken old new k entry epoch line true = (s : Stand) (more : List Due) → StandsFor old s.events → s.epoch ≡ epoch
-    → (e : Event) × TakesEntry (profile_of old) s k entry more line (with_due (with_one s e) more) × StandsFor new (e ∷ s.events)
-EntryTaken old new k entry epoch line false = (new ≡ old) × ((s : Stand) (more : List Due) (next : Stand) → StandsFor old s.events → IsFew s.events
-    → s.epoch ≡ epoch
-    → TakesEntry (profile_of old) s k entry more line next → ⊥)
+-- The line is of the entry's event, which may come next, and the machine took it; or it is not, and the machine is as it was.
+abbrev pub EntryTaken : Profile → Machine → Machine → ℕ → Entry → ℕ → List ℕ → Bool → Type 0
+EntryTaken f old new k entry epoch line true = (e : Event) × (line ≡ line_of_event e) × ((s : Stand) → StandsFor old s.events → s.epoch ≡ epoch
+    → IsEventOf s k entry e × Admits f s.events e × StandsFor new (e ∷ s.events))
+EntryTaken f old new k entry epoch line false = (new ≡ old) × ((s : Stand) (e : Event) → StandsFor old s.events → IsFew s.events → s.epoch ≡ epoch
+    → IsEventOf s k entry e → Admits f s.events e → line ≡ line_of_event e → ⊥)
 
 -- The lines lead from here to where the machine stands for the events, and these are due; or one of them can't be taken.
 pub record Reaches (f : Profile) (text : List ℕ) (s : Stand) (from : Cursor) (new : Machine) (to : Cursor) (dues : List Due) : Type 0 where
@@ -79,14 +64,6 @@ ReachesIf f text s from new to due false = Fails f text s from to.lines
 pub record EntriesTaken (old new : Machine) (text : List ℕ) (from to : Cursor) (k : ℕ) (log left : List Entry) (epoch : ℕ) (is : Bool) : Type 0 where
   pub taken : (s : Stand) (more : List Due) → StandsFor old s.events → s.epoch ≡ epoch → IsKept s from → s.due ≡ entries_due k log ++ more
       → ReachesIf (profile_of old) text s from new to (entries_due k left ++ more) is
-
--- ---- deeds and backs of a request
-abbrev pub PreparingTaken : Machine → Machine → ℕ → Directory → List ℕ → Bool → Type 0
-PreparingTaken old new k d line true = (s : Stand) (r : Request) → StandsFor old s.events → directory_of (profile_of old) r ≡ d
-    → (e : Event) × TakesPreparing (profile_of old) s k r line (with_one s e) × StandsFor new (e ∷ s.events)
-PreparingTaken old new k d line false = (new ≡ old) × ((s : Stand) (r : Request) (next : Stand) → StandsFor old s.events → IsFew s.events
-    → directory_of (profile_of old) r ≡ d
-    → TakesPreparing (profile_of old) s k r line next → ⊥)
 
 -- ---- an outcome of a pass
 -- what came of a page by an event of a pass in this epoch
@@ -128,13 +105,12 @@ IsExamined old new epoch x true = (s : Stand) → StandsFor old s.events → s.e
 IsExamined old new epoch x false = (new ≡ old) × ((s : Stand) → StandsFor old s.events → IsFew s.events → s.epoch ≡ epoch
     → MayCome (profile_of old) s x.page x.outcome → ⊥)
 
--- The line is that of an outcome on a page after the last one, and this is the page; or it is none of these, and the machine is as it was.
-abbrev pub OutcomeTaken : Machine → Machine → ℕ → ℕ → List ℕ → Option ℕ → Type 0
-OutcomeTaken old new last epoch line (Some page) = (s : Stand) (more : List Due) → StandsFor old s.events → s.epoch ≡ epoch
-    → (next : Stand) × TakesOutcome (profile_of old) s last more line (with_due next (Examines page ∷ more)) × StandsFor new next.events
-OutcomeTaken old new last epoch line None = (new ≡ old) × ((s : Stand) (more : List Due) (next : Stand) → IsSmall (profile_of old) s → StandsFor old s.events
-    → IsFew s.events → s.epoch ≡ epoch
-    → TakesOutcome (profile_of old) s last more line next → ⊥)
+-- What was read is of an outcome of a page of the region after the last one, this page, and may come; or it is of none of these, and the machine is as it was.
+abbrev pub OutcomeTaken : Profile → Machine → Machine → ℕ → ℕ → Option Record → Option ℕ → Type 0
+OutcomeTaken f old new last epoch found (Some page) = (o : Outcome) × (found ≡ Some (record_of epoch page o)) × (last < page) × IsPage f page
+    × ((s : Stand) → StandsFor old s.events → s.epoch ≡ epoch → MayCome f s page o × StandsFor new (after_outcome s page o).events)
+OutcomeTaken f old new last epoch found None = (new ≡ old) × ((s : Stand) (page : ℕ) (o : Outcome) → StandsFor old s.events → IsFew s.events → s.epoch ≡ epoch
+    → found ≡ Some (record_of epoch page o) → last < page → IsPage f page → MayCome f s page o → ⊥)
 
 -- ---- the end of a request
 -- what the request asks for
@@ -156,39 +132,27 @@ LiesOn es block d = (x : ℕ) → in_run (grain_of block.name) (length_of block)
 abbrev pub IsFitting : Block → Wanted → Type 0
 IsFitting block w = (block.heap ≡ w.directory.heap) × (block.room ≡ w.room) × (address_of block.name % w.align ≡ 0)
 
--- The event was a give of what is wanted, of this block, and was taken; or it is none that may come, and the machine is as it was.
-abbrev pub IsGiven : Machine → Machine → ℕ → Wanted → Event → Option Block → Type 0
-IsGiven old new k w e (Some block) = (s : Stand) (r : Request) → IsWanted (profile_of old) r w → StandsFor old s.events
-    → (e ≡ Event.Give k block) × IsFor (profile_of old) s r block × Admits (profile_of old) s.events (Event.Give k block) × StandsFor new (Event.Give k block ∷ s.events)
-IsGiven old new k w e None = (new ≡ old) × ((s : Stand) (r : Request) (block : Block) → IsWanted (profile_of old) r w → StandsFor old s.events → IsFew s.events
-    → e ≡ Event.Give k block → IsFor (profile_of old) s r block → Admits (profile_of old) s.events (Event.Give k block) → ⊥)
+-- What was read is of an event that serves what is wanted and may come next, and the machine took it; or it is of none, and the machine is as it was.
+abbrev pub EventTaken : Profile → Machine → Machine → ℕ → Wanted → Option Record → Option Event → Type 0
+EventTaken f old new k w found (Some e) = (found ≡ Some (Record.Event e)) × ((s : Stand) (r : Request) → IsWanted f r w → StandsFor old s.events
+    → MayServe f s k r (Record.Event e) × StandsFor new (e ∷ s.events))
+EventTaken f old new k w found None = (new ≡ old) × ((s : Stand) (r : Request) (e : Event) → IsWanted f r w → StandsFor old s.events → IsFew s.events
+    → found ≡ Some (Record.Event e) → MayServe f s k r (Record.Event e) → ⊥)
 
--- The line is that of a give of what is wanted, of this block; or it is none, and the machine is as it was.
-abbrev pub GiveTaken : Machine → Machine → ℕ → Wanted → List ℕ → Option Block → Type 0
-GiveTaken old new k w line (Some block) = (s : Stand) (r : Request) (replaced : Option Name) (more : List Due) → IsWanted (profile_of old) r w → StandsFor old s.events
-    → TakesGive (profile_of old) s k r replaced more line (replacing replaced (with_name (with_one s (Event.Give k block)) r.name (Some block)) k more)
-    × StandsFor new (Event.Give k block ∷ s.events)
-GiveTaken old new k w line None = (new ≡ old) × ((s : Stand) (r : Request) (replaced : Option Name) (more : List Due) (next : Stand) → IsWanted (profile_of old) r w → IsSmall (profile_of old) s
-    → FitsRequest (profile_of old) k r → StandsFor old s.events → IsFew s.events → TakesGive (profile_of old) s k r replaced more line next → ⊥)
+-- a block that an event gives is of the heap
+abbrev pub GivesOf : ℕ → Event → Type 0
+GivesOf heap e = IfSome (block_in e) (λ block. block.heap ≡ heap)
 
--- the record is a refusal of the request
-abbrev pub RefusesBy : Profile → Stand → ℕ → Request → Record → Type 0
-RefusesBy f s k r item = (said : Said) × IsRefusal f s r said × (item ≡ Record.Said k said)
+-- what was read refuses the request
+abbrev pub RefusesBy : Profile → Stand → ℕ → Request → Option Record → Type 0
+RefusesBy f s k r found = (said : Said) × IsRefusal f s r said × (found ≡ Some (Record.Said k said))
 
--- The line is a refusal of what is wanted; or it is none.
-abbrev pub RefusalSeen : Machine → ℕ → Wanted → List ℕ → Bool → Type 0
-RefusalSeen machine k w line true = (s : Stand) (r : Request) (more : List Due) → IsWanted (profile_of machine) r w → StandsFor machine s.events
-    → TakesRefusal (profile_of machine) s k r more line (with_due (with_name s r.name None) more)
-RefusalSeen machine k w line false = (s : Stand) (r : Request) (more : List Due) (next : Stand) → IsWanted (profile_of machine) r w → IsSmall (profile_of machine) s
-    → FitsRequest (profile_of machine) k r → StandsFor machine s.events → TakesRefusal (profile_of machine) s k r more line next → ⊥
+-- .. for what is wanted; or it doesn't
+abbrev pub RefusalSeen : Profile → Machine → ℕ → Wanted → Option Record → Bool → Type 0
+RefusalSeen f machine k w found is = (s : Stand) (r : Request) → IsWanted f r w → StandsFor machine s.events
+    → MatchBool is (RefusesBy f s k r found) (RefusesBy f s k r found → ⊥)
 
 -- ---- the lines of a request
--- the line ends the request: its name stands for the block that was given, or for nothing where it is a refusal; or the line does neither
-abbrev pub EndingTaken : Machine → Machine → ℕ → Wanted → List ℕ → Option (Option Block) → Type 0
-EndingTaken old new k w line (Some (Some block)) = GiveTaken old new k w line (Some block)
-EndingTaken old new k w line (Some None) = GiveTaken old new k w line None × RefusalSeen new k w line true
-EndingTaken old new k w line None = GiveTaken old new k w line None × RefusalSeen new k w line false
-
 -- where the request may stand, and its lines begin
 pub record IsAsked (machine : Machine) (s : Stand) (at : Cursor) (k : ℕ) (w : Wanted) (r : Request) (replaced : Option Name) (more : List Due) : Type 0 where
   pub wants : IsWanted (profile_of machine) r w
@@ -215,21 +179,11 @@ RequestTaken old new text from to k w (Some found) = (s : Stand) (r : Request) (
 RequestTaken old new text from to k w None = (s : Stand) (r : Request) (replaced : Option Name) (more : List Due) → IsAsked old s from k w r replaced more → Fails (profile_of old) text s from to.lines
 
 -- ---- the lines of a keeper
--- whether a page was backed before, or is by the line
-abbrev pub BacksBy : Bool → List ℕ → Bool → Type 0
-BacksBy backed line now = (e : Event) → FitsEvent e → line ≡ line_of_event e → now ≡ (backed || is_back e)
-
 -- a block that was given is of the heap that is wanted
 abbrev pub IsGiftOf : Wanted → Trial → Type 0
 IsGiftOf w (Gives block) = block.heap ≡ w.directory.heap
 IsGiftOf w (Passes place) = Unit {0}
 IsGiftOf w Stops = Unit {0}
-
--- what a line that is neither a deed nor a back comes to, which begins at this place
-abbrev pub TrialEnded : Machine → Machine → ℕ → Wanted → List ℕ → Bool → Cursor → Trial → Type 0
-TrialEnded old new keeper w line backed start (Gives block) = GiveTaken old new keeper w line (Some block)
-TrialEnded old new keeper w line backed start (Passes place) = GiveTaken old new keeper w line None × (backed ≡ false) × (place ≡ start)
-TrialEnded old new keeper w line backed start Stops = GiveTaken old new keeper w line None × (backed ≡ true)
 
 -- where a guarded request may stand, and the lines of its keeper begin
 pub record IsTrying (machine : Machine) (s : Stand) (at : Cursor) (keeper k : ℕ) (w : Wanted) (r : Request) (more : List Due) : Type 0 where

@@ -17,13 +17,13 @@ threads_in judge = (profile_of judge.machine).threads
 -- a log and an epoch for each thread of the region
 pub record IsSized (judge : Judge) : Type 0 where
   pub logs : logs_held judge.logs ≡ threads_in judge + 1
-  pub awake : length judge.awake.items ≡ threads_in judge + 1
+  pub idle_since : length judge.idle_since.items ≡ threads_in judge + 1
 
 -- .. as much as another one, in the same region
 pub record IsSizedAs (old new : Judge) : Type 0 where
   pub profile : profile_of new.machine ≡ profile_of old.machine
   pub logs : logs_held new.logs ≡ logs_held old.logs
-  pub awake : length new.awake.items ≡ length old.awake.items
+  pub idle_since : length new.idle_since.items ≡ length old.idle_since.items
   pub names : names_held new.names ≡ names_held old.names
 
 -- ---- operations of a plan

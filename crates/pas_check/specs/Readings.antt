@@ -4,7 +4,7 @@ use Rattle.std.specs.Prelude.{ℕ, zero, suc, ◌+◌, ◌-◌, ◌*◌, ◌%◌
 use Rattle.pas_profile.specs.{Requests.kind_of_route, Routes.route_of}
 use Rattle.pas_profile.specs.declared.{directory.Kind.Kind, directory.Directory.Directory, name.Name.Name, event.Event.Event, event.Why.Why}
 use Rattle.pas_trace.specs.Numbers.{is_digit, hex_value}
-use Rattle.pas_report.specs.declared.record.{Said.Said, Record.Record}
+use Rattle.pas_records.specs.declared.record.{Said.Said, Record.Record}
 
 -- ---- numbers in front of a text
 -- the value of the digits there, after a value

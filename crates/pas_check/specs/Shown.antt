@@ -1,15 +1,14 @@
 -- What the report tells of a page, and which marks it may have there.
 use Rattle.std.specs.Prelude.{ℕ, ◌+◌, ◌*◌, ◌^◌, ◌<◌, ◌≤◌, ◌≡◌, Bool, true, false, not, List, Some, length, MatchBool}
 use Rattle.pas_profile.specs.Directories.{IsKind}
-use Rattle.pas_profile.specs.declared.{directory.Directory.Directory, directory.Kind.Kind, event.Event.Event, profile.Profile.Profile}
-use Rattle.pas_machine.specs.Machines.{StandsFor}
+use Rattle.pas_profile.specs.declared.{directory.Directory.Directory, directory.Kind.Kind, event.Event.Event}
+use Rattle.pas_machine.specs.{Machines.StandsFor, Totals.sum_below}
 use Rattle.pas_machine.specs.State.{backed_in, deed_in, epoch_in, gives_in}
-use Rattle.pas_machine.specs.Totals.{backed_total, deeds_total, ended_total, live_total, sum_below}
 use Rattle.pas_machine.specs.declared.machine.Machine.{Machine}
 use Rattle.pas_steps.specs.Views.{usable_by_kind}
-use Rattle.pas_report.specs.Marks.{Marked}
-use Rattle.pas_report.specs.Reports.{is_covered, live_on, page_text, uncovered_on}
-use Rattle.pas_check.specs.declared.reporting.{Shown.Shown, Totalled.Totalled}
+use Rattle.pas_records.specs.{Marks.Marked, Covered.is_covered}
+use Rattle.pas_report.specs.Reports.{live_on, page_text, uncovered_on}
+use Rattle.pas_check.specs.declared.reporting.Shown.{Shown}
 
 -- ---- a page
 abbrev pub grain_on : ℕ → ℕ → ℕ
@@ -65,13 +64,6 @@ IsHinted shown line hinted = (offered : Bool) × (shown.room ≡ true → offere
 
 abbrev pub IsPageLine : Shown → List ℕ → Type 0
 IsPageLine shown line = (m : Marked) × MayShow shown m × (line ≡ line_with shown m)
-
--- ---- the totals
-pub record TellsTotals (f : Profile) (es : List Event) (totals : Totalled) : Type 0 where
-  pub deeds : totals.deeds ≡ deeds_total f es
-  pub backed : totals.backed ≡ backed_total f es
-  pub live : totals.live ≡ live_total f es
-  pub ended : totals.ended ≡ ended_total f es
 
 -- ---- what a machine is known to stand for
 -- a run of few events, whose deeds name classes

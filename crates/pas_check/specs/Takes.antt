@@ -7,13 +7,13 @@ use Rattle.pas_profile.specs.{Profiles.IsPage, Requests.room_in, Requests.direct
 use Rattle.pas_bits.specs.Runs.{in_run}
 use Rattle.pas_machine.specs.{Machine.Admits, Machine.IsReason, State.deed_in, State.backed_in, State.epoch_in}
 use Rattle.pas_steps.specs.Views.{usable_by_kind}
-use Rattle.pas_report.specs.{Lines.line_of, Lines.line_of_event, Lines.line_of_answer, Marks.Marked, Reports.is_covered, Reports.machine_page}
-use Rattle.pas_report.specs.{Reports.total_line}
-use Rattle.pas_report.specs.declared.record.{Record.Record, Said.Said}
+use Rattle.pas_report.specs.Reports.{machine_page, total_line}
 use Rattle.pas_trace.specs.declared.item.Request.{Request}
 use Rattle.pas_check.specs.States.{Due, Writes, Frees, Serves, Tries, Never, Examines, Heads, Shows, Totals, Stand, with_due, with_one, with_name}
 use Rattle.pas_check.specs.Begins.{has_sides, raising, ready, replacing}
 use Rattle.pas_check.specs.declared.entry.Entry.{Entry}
+use Rattle.pas_records.specs.{Lines.line_of, Lines.line_of_event, Lines.line_of_answer, Marks.Marked, Covered.is_covered}
+use Rattle.pas_records.specs.declared.record.{Record.Record, Said.Said}
 
 -- ---- an entry of a log
 -- A reason for which the end of an entry may be refused. That the block's room differs is one only where the entry names a room, and it tells that room.
@@ -40,18 +40,6 @@ pub record TakesEntry (f : Profile) (s : Stand) (k : ℕ) (entry : Entry) (more 
 abbrev pub directory_of : Profile → Request → Directory
 directory_of f r = directory_for f r.heap r.size r.align
 
--- a deed of this directory, or a back, by actor k
-abbrev pub IsPreparing : ℕ → Directory → Event → Type 0
-IsPreparing k d e = ((page : ℕ) × (e ≡ Event.Deed k page d)) ⊎ ((page : ℕ) × (e ≡ Event.Back k page))
-
--- the request goes on
-pub record TakesPreparing (f : Profile) (s : Stand) (k : ℕ) (r : Request) (line : List ℕ) (next : Stand) : Type 0 where
-  pub event : Event
-  pub prepares : IsPreparing k (directory_of f r) event
-  pub admitted : Admits f s.events event
-  pub line_is : line ≡ line_of_event event
-  pub next_is : next ≡ with_one s event
-
 -- The block has the request's heap and room, stands at a multiple of its alignment, and each page of its run has a deed of the request's directory.
 pub record IsFor (f : Profile) (s : Stand) (r : Request) (block : Block) : Type 0 where
   pub heap : block.heap ≡ r.heap
@@ -59,30 +47,58 @@ pub record IsFor (f : Profile) (s : Stand) (r : Request) (block : Block) : Type 
   pub aligned : address_of block.name % r.align ≡ 0
   pub deeds : (x : ℕ) → in_run (grain_of block.name) (length_of block) x ≡ true → deed_in s.events (x / 256) ≡ Some (directory_of f r)
 
--- it is given, and the name that it replaces is logged, if there is one
-pub record TakesGive (f : Profile) (s : Stand) (k : ℕ) (r : Request) (old : Option Name) (more : List Due) (line : List ℕ) (next : Stand) : Type 0 where
-  pub block : Block
-  pub is_for : IsFor f s r block
-  pub admitted : Admits f s.events (Event.Give k block)
-  pub line_is : line ≡ line_of_event (Event.Give k block)
-  pub next_is : next ≡ replacing old (with_name (with_one s (Event.Give k block)) r.name (Some block)) k more
+-- Actor k's event serves the request: a deed of its directory, a back, or the give of a block for it.
+abbrev pub IsServing : Profile → Stand → ℕ → Request → Event → Type 0
+IsServing f s k r (Event.Deed j page d) = (j ≡ k) × (d ≡ directory_of f r)
+IsServing f s k r (Event.Back j page) = j ≡ k
+IsServing f s k r (Event.Unback j page epoch) = ⊥
+IsServing f s k r (Event.Give j block) = (j ≡ k) × IsFor f s r block
+IsServing f s k r (Event.End j name epoch) = ⊥
+IsServing f s k r (Event.Reject j name why) = ⊥
 
--- it is refused: no page can serve it, or a page of its directory is in some actor's hands
+-- the block that an event gives
+abbrev pub block_in : Event → Option Block
+block_in (Event.Deed k page d) = None
+block_in (Event.Back k page) = None
+block_in (Event.Unback k page epoch) = None
+block_in (Event.Give k block) = Some block
+block_in (Event.End k name epoch) = None
+block_in (Event.Reject k name why) = None
+
+-- The request is refused: no page can serve it, or a page of its directory is in some actor's hands.
 abbrev pub IsRefusal : Profile → Stand → Request → Said → Type 0
 IsRefusal f s r said =
     (said ≡ Said.NoSpace r.name)
     ⊎ ((page : ℕ) × (deed_in s.events page ≡ Some (directory_of f r)) × (said ≡ Said.Held page r.name))
 
-pub record TakesRefusal (f : Profile) (s : Stand) (k : ℕ) (r : Request) (more : List Due) (line : List ℕ) (next : Stand) : Type 0 where
-  pub said : Said
-  pub refuses : IsRefusal f s r said
-  pub line_is : line ≡ line_of_answer k said
-  pub next_is : next ≡ with_due (with_name s r.name None) more
+-- The record answers the request: it is of an event that serves it and may come next, or of a refusal.
+abbrev pub MayServe : Profile → Stand → ℕ → Request → Record → Type 0
+MayServe f s k r (Record.Event e) = IsServing f s k r e × Admits f s.events e
+MayServe f s k r (Record.Said j said) = (j ≡ k) × IsRefusal f s r said
+MayServe f s k r (Record.Phase n) = ⊥
+MayServe f s k r Record.Close = ⊥
 
-abbrev pub TakesRequest : Profile → Stand → ℕ → Request → Option Name → List Due → List ℕ → Stand → Type 0
-TakesRequest f s k r old more line next = TakesPreparing f s k r line next ⊎ TakesGive f s k r old more line next ⊎ TakesRefusal f s k r more line next
+-- Until a block is given the request goes on. Then its name stands for the block, and the name that it replaces is logged, if there is one.
+abbrev pub given_next : Option Block → Stand → ℕ → Request → Option Name → List Due → Stand
+given_next None s k r old more = s
+given_next (Some block) s k r old more = replacing old (with_name s r.name (Some block)) k more
+
+-- what follows from a record that answers the request
+abbrev pub after_record : Stand → ℕ → Request → Option Name → List Due → Record → Stand
+after_record s k r old more (Record.Event e) = given_next (block_in e) (with_one s e) k r old more
+after_record s k r old more (Record.Said j said) = with_due (with_name s r.name None) more
+after_record s k r old more (Record.Phase n) = s
+after_record s k r old more Record.Close = s
+
+-- THE LINE of a request is that of some record that answers it, and what follows is by the record alone.
+pub record TakesRequest (f : Profile) (s : Stand) (k : ℕ) (r : Request) (old : Option Name) (more : List Due) (line : List ℕ) (next : Stand) : Type 0 where
+  pub item : Record
+  pub may : MayServe f s k r item
+  pub line_is : line ≡ line_of item
+  pub next_is : next ≡ after_record s k r old more item
 
 -- ---- a guarded request
+-- a page is backed by the event
 abbrev pub is_back : Event → Bool
 is_back (Event.Deed k page d) = false
 is_back (Event.Back k page) = true
@@ -91,21 +107,21 @@ is_back (Event.Give k block) = false
 is_back (Event.End k name epoch) = false
 is_back (Event.Reject k name why) = false
 
--- the keeper makes a deed or backs a page, and goes on
+-- the keeper goes on, or it gave the block, which the name stands for, and raises its guard
+abbrev pub kept_next : Option Block → Profile → Stand → ℕ → ℕ → Request → Bool → List Due → Stand
+kept_next None f s keeper k r backed more = with_due s (Tries keeper k r backed ∷ more)
+kept_next (Some block) f s keeper k r backed more = raising (has_sides f block) (with_name s r.name (Some block)) keeper r.name block more
+
+abbrev pub after_keeping : Profile → Stand → ℕ → ℕ → Request → Bool → List Due → Event → Stand
+after_keeping f s keeper k r backed more e = kept_next (block_in e) f (with_one s e) keeper k r (backed || is_back e) more
+
+-- the line is of an event by which the keeper serves the request
 pub record TakesKeeping (f : Profile) (s : Stand) (keeper k : ℕ) (r : Request) (backed : Bool) (more : List Due) (line : List ℕ) (next : Stand) : Type 0 where
   pub event : Event
-  pub prepares : IsPreparing keeper (directory_of f r) event
+  pub serves : IsServing f s keeper r event
   pub admitted : Admits f s.events event
   pub line_is : line ≡ line_of_event event
-  pub next_is : next ≡ with_due (with_one s event) (Tries keeper k r (backed || is_back event) ∷ more)
-
--- the keeper gives the block, which the name stands for, and raises its guard
-pub record TakesGuarded (f : Profile) (s : Stand) (keeper : ℕ) (r : Request) (more : List Due) (line : List ℕ) (next : Stand) : Type 0 where
-  pub block : Block
-  pub is_for : IsFor f s r block
-  pub admitted : Admits f s.events (Event.Give keeper block)
-  pub line_is : line ≡ line_of_event (Event.Give keeper block)
-  pub next_is : next ≡ raising (has_sides f block) (with_name (with_one s (Event.Give keeper block)) r.name (Some block)) keeper r.name block more
+  pub next_is : next ≡ after_keeping f s keeper k r backed more event
 
 -- .. or, where the keeper has backed no page, thread k is served as any request is
 abbrev pub serving : Stand → ℕ → Request → List Due → Stand
@@ -113,7 +129,7 @@ serving s k r more = with_due s (Serves k r None ∷ more)
 
 abbrev pub TakesTry : Profile → Stand → ℕ → ℕ → Request → Bool → List Due → List ℕ → Stand → Type 0
 TakesTry f s keeper k r backed more line next =
-    TakesKeeping f s keeper k r backed more line next ⊎ TakesGuarded f s keeper r more line next ⊎ ((backed ≡ false) × TakesRequest f (serving s k r more) k r None more line next)
+    TakesKeeping f s keeper k r backed more line next ⊎ ((backed ≡ false) × TakesRequest f (serving s k r more) k r None more line next)
 
 -- ---- an outcome of a pass
 -- what may come of a page of the region

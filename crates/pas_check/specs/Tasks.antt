@@ -3,7 +3,6 @@ use Rattle.std.specs.Prelude.{ℕ, ◌%◌, ◌^◌, ◌<◌, ◌≤◌, ◌≡�
 use Rattle.pas_profile.specs.declared.{name.Block.Block, name.Name.Name, profile.Profile.Profile}
 use Rattle.pas_profile.specs.Blocks.{address_of}
 use Rattle.pas_machine.specs.Machines.{profile_of, StandsFor}
-use Rattle.pas_report.specs.declared.record.Said.{Said}
 use Rattle.pas_trace.specs.{Acts.Act, Acts.MakesPass, Named.standing_for}
 use Rattle.pas_trace.specs.declared.item.Request.{Request}
 use Rattle.pas_check.specs.Begins.{begun_act, flushing, freeing, freeing_named, is_full, logging, guarding, remaking, remaking_named, request_for, suits}
@@ -11,6 +10,7 @@ use Rattle.pas_check.specs.Begins.{sweeping, tells}
 use Rattle.pas_check.specs.{Bounds.IsKept, Calls.IsFollowed, Leading.Fails, Leading.Leads, Tables.AreNamed, Tables.logged, Tables.logs_held}
 use Rattle.pas_check.specs.States.{Due, Serves, Task, Does, Stand, with_due, with_name}
 use Rattle.pas_check.specs.declared.{acting.Judge.Judge, cutting.Cursor.Cursor, entry.Entry.Entry}
+use Rattle.pas_records.specs.declared.record.Said.{Said}
 
 -- the judge stands for the state, at the cursor
 pub record Stands (f : Profile) (judge : Judge) (s : Stand) (at : Cursor) : Type 0 where
@@ -18,7 +18,7 @@ pub record Stands (f : Profile) (judge : Judge) (s : Stand) (at : Cursor) : Type
   pub events : StandsFor judge.machine s.events
   pub names : AreNamed judge.names s.names
   pub logs : (k : ℕ) → k < logs_held judge.logs → s.logs k ≡ logged judge.logs k
-  pub awake : (k : ℕ) → k < length judge.awake.items → s.idle_since k ≡ slice_index judge.awake.items k
+  pub idle_since : (k : ℕ) → k < length judge.idle_since.items → s.idle_since k ≡ slice_index judge.idle_since.items k
   pub epoch : s.epoch ≡ judge.epoch
   pub guards : s.guards ≡ judge.guards.items
   pub small : judge.epoch < 2 ^ 64

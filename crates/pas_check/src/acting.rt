@@ -26,7 +26,7 @@ use crate::requesting::take_request;
 use crate::serving::{Wanted, wanted_for};
 use pas_machine::Machine;
 use pas_profile::{Block, Name, NoMemory};
-use pas_report::{Record, Said};
+use pas_records::{Record, Said};
 use pas_trace::{Op, Plan, What};
 use std::alloc::Global;
 
@@ -38,7 +38,7 @@ pub(crate) struct Judge {
     pub machine: Machine,
     pub names: Names,
     pub logs: Logs,
-    pub awake: Vec<u64>,
+    pub idle_since: Vec<u64>,
     pub epoch: u64,
     pub guards: Vec<Guard>,
     pub lacks_memory: bool,
@@ -56,14 +56,14 @@ impl Judge {
         let machine = Machine::try_new(alloc, plan.profile)?;
         let names = Names::try_new(alloc, plan.names_limit)?;
         let logs = Logs::try_new(alloc, count)?;
-        let Ok(awake) = vec![in alloc; 0u64; count as usize] else {
+        let Ok(idle_since) = vec![in alloc; 0u64; count as usize] else {
             return Err(NoMemory);
         };
         Ok(Judge {
             machine,
             names,
             logs,
-            awake,
+            idle_since,
             epoch: 0,
             guards: Vec::new(alloc),
             lacks_memory: false,
@@ -73,11 +73,11 @@ impl Judge {
 
 /// The thread wakes, and reads the epoch. It has no line.
 pub(crate) fn wake(judge: &mut Judge, k: u8)
-    requires { k < length judge.old.awake.items }
+    requires { k < length judge.old.idle_since.items }
     ensures sized { IsSizedAs judge.old judge.new }
     ensures taken { (f : Profile) (text : List ℕ) (at : TheCursor) → IsWithin text at → ActTaken f text judge.old at judge.new at (Wakes k) true }
 {
-    judge.awake[k as usize] = judge.epoch;
+    judge.idle_since[k as usize] = judge.epoch;
 }
 
 /// Takes the mark of a phase from the second on.
@@ -229,10 +229,10 @@ pub(crate) fn flush(judge: &mut Judge, text: &[u8], cursor: &mut Cursor, k: u8) 
 
 /// Whether the thread read the epoch last at least so many epochs ago.
 fn is_idle(judge: &Judge, k: u8, epochs: u64) -> bool
-    requires { k < length judge.now.awake.items }
-    ensures { MatchBool result (slice_index judge.now.awake.items k + epochs ≤ judge.now.epoch) (judge.now.epoch < slice_index judge.now.awake.items k + epochs) }
+    requires { k < length judge.now.idle_since.items }
+    ensures { MatchBool result (slice_index judge.now.idle_since.items k + epochs ≤ judge.now.epoch) (judge.now.epoch < slice_index judge.now.idle_since.items k + epochs) }
 {
-    let since = judge.awake[k as usize];
+    let since = judge.idle_since[k as usize];
     judge.epoch >= epochs && judge.epoch - epochs >= since
 }
 
@@ -246,7 +246,7 @@ pub(crate) fn stop_idle(
 ) -> bool
     requires within { IsWithin text.now cursor.old }
     requires held { k < logs_held judge.old.logs }
-    requires known { k < length judge.old.awake.items }
+    requires known { k < length judge.old.idle_since.items }
     ensures taken { (f : Profile) → ActTaken f text.now judge.old cursor.old judge.new cursor.new (StopsIdle k epochs) result }
     ensures within { StaysWithin text.now cursor.new result }
     ensures sized { IsSizedAs judge.old judge.new }

@@ -52,7 +52,7 @@ fn stop_unless_awake(
 ) -> bool
     requires within { IsWithin text.now cursor.old }
     requires held { thread < logs_held judge.old.logs }
-    requires known { thread < length judge.old.awake.items }
+    requires known { thread < length judge.old.idle_since.items }
     ensures sized { IsSizedAs judge.old judge.new }
     ensures taken { TakenTo text.now judge.old cursor.old judge.new cursor.new
         (idle_stops epochs (filter (λ k. not (is_set awake k)) (thread ∷ []))) [] result }

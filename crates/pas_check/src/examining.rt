@@ -11,7 +11,7 @@ use crate::reading::read;
 use crate::taking::step;
 use pas_machine::Machine;
 use pas_profile::{Event, Outcome};
-use pas_report::{Record, Said};
+use pas_records::{Record, Said};
 
 /// What came of a page.
 #[derive(Clone, Copy, Drop)]
@@ -99,15 +99,21 @@ fn examine(machine: &mut Machine, examined: &Examined, epoch: u64) -> bool
     }
 }
 
-/// Takes the line of an outcome of a pass of this epoch on a page after the last one, and says which page that is; None where the line is none of these.
-pub(crate) fn take_outcome(machine: &mut Machine, line: &[u8], last: u32, epoch: u64) -> Option<u32>
+/// Takes the line of which this was read where it is of an outcome of a pass of this epoch on a page after the last one, and says which page that is; None
+/// where it is none of these.
+pub(crate) fn take_outcome(
+    machine: &mut Machine,
+    found: &Option<Record>,
+    last: u32,
+    epoch: u64,
+) -> Option<u32>
     ensures profile { profile_of machine.new ≡ profile_of machine.old }
-    ensures taken { OutcomeTaken machine.old machine.new last epoch line.now result }
+    ensures taken { OutcomeTaken (profile_of machine.old) machine.old machine.new last epoch found.now result }
 {
-    let Some(item) = read(line) else {
+    let Some(item) = found else {
         return None;
     };
-    let Some(examined) = outcome_of(&item, epoch) else {
+    let Some(examined) = outcome_of(item, epoch) else {
         return None;
     };
     if examined.page <= last || !machine.has_page(examined.page) {
@@ -133,7 +139,7 @@ pub(crate) fn take_outcomes(machine: &mut Machine, text: &[u8], cursor: &mut Cur
         let Some(line) = next_line(text, &mut ahead) else {
             return;
         };
-        match take_outcome(machine, line, last, epoch) {
+        match take_outcome(machine, &read(line), last, epoch) {
             Some(page) => {
                 last = page;
                 *cursor = ahead;

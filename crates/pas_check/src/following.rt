@@ -1,11 +1,11 @@
 //! Lines of which no word is open: what stands before fixes them.
 ghost use Rattle.std.specs.Prelude.{◌≡◌, ◌+◌, ◌≤◌, length};
-ghost use Rattle.pas_report.specs.Lines.{CanShow, line_of};
+ghost use Rattle.pas_records.specs.Lines.{CanShow, line_of};
 ghost use Rattle.pas_check.specs.Leading.{IsJustLine, IsLineLed, IsWithin, StaysWithin};
 ghost use Rattle.pas_check.specs.States.{Heads, Writes};
 
 use crate::cutting::{Cursor, take_line};
-use pas_report::{Line, Record, push_record};
+use pas_records::{Line, Record, push_record};
 
 /// Takes the next line, and says whether it is the record's, which is made where it is compared.
 fn is_next(text: &[u8], cursor: &mut Cursor, item: &Record) -> bool

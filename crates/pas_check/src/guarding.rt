@@ -1,13 +1,14 @@
 //! Guarded requests: the lines of a keeper, and those of guards that are lowered.
-ghost use Rattle.std.specs.Prelude.{ℕ, ◌≡◌, ◌≢◌, ◌<◌, ◌≤◌, ◌∷◌, [], List, None, Some, true, false, length, nat_lt, MatchOption};
+ghost use Rattle.std.specs.Prelude.{ℕ, ◌≡◌, ◌≢◌, ◌<◌, ◌≤◌, ◌∷◌, [], List, None, Some, true, false, length, nat_lt, MatchOption, ◌||◌};
 ghost use Rattle.pas_profile.specs.{Blocks.address_of, Directories.IsKind, Profiles.IsValid};
 ghost use Rattle.pas_profile.specs.declared.{event.Event.Event as TheEvent, profile.Profile.Profile};
 ghost use Rattle.pas_machine.specs.{Machines.profile_of, Machines.StandsFor, State.ends_in};
 ghost use Rattle.pas_trace.specs.Acts.{Act, Lowers};
 ghost use Rattle.pas_trace.specs.declared.item.Request.{Request};
 ghost use Rattle.pas_check.specs.Begins.{goes_down, guard_of, has_sides, lowered_record, raising};
-ghost use Rattle.pas_check.specs.Calls.{BacksBy, IsGiftOf, IsRead, IsWanted, LinesSwept, TrialEnded, TrialStays, TrialTaken};
+ghost use Rattle.pas_check.specs.Calls.{IsGiftOf, IsWanted, LinesSwept, TrialStays, TrialTaken};
 ghost use Rattle.pas_check.specs.{Checks.IsSizedAs, Leading.IsWithin, Leading.StaysWithin, Tables.names_held, States.Stand, States.Tries, States.with_name};
+ghost use Rattle.pas_check.specs.{Takes.is_back};
 ghost use Rattle.pas_check.specs.Tasks.{ActTaken, AsksKeeper, GuardsSwept, IsCarried, Stands};
 
 use crate::acting::{Judge, serve};
@@ -15,11 +16,11 @@ use crate::cutting::{Cursor, next_line};
 use crate::following::take_record;
 use crate::guard::Guard;
 use crate::reading::read;
-use crate::serving::{Wanted, take_give};
-use crate::taking::{event_read, is_place, take_preparing};
+use crate::serving::{Wanted, block_in, take_event};
+use crate::taking::is_place;
 use pas_machine::Machine;
 use pas_profile::{Block, Event, Name};
-use pas_report::{Record, Said};
+use pas_records::{Record, Said};
 
 /// What the lines of a keeper come to: it gave the block; or it backed no page and gave none, so that its thread may be served from this place on; or a line
 /// isn't allowed, or is wanting.
@@ -112,42 +113,16 @@ pub(crate) fn lower(judge: &mut Judge, text: &[u8], cursor: &mut Cursor, keeper:
     sweep(judge, text, cursor, keeper, true)
 }
 
-/// Whether a page was backed before, or is by the line of which this was read.
-fn has_backed(backed: bool, found: &Option<Record>) -> bool
-    ensures { (line : List ℕ) → IsRead line found.now → BacksBy backed line result }
+/// Whether a page was backed before, or is by the event.
+fn has_backed(backed: bool, event: &Event) -> bool
+    ensures { result ≡ (backed || is_back event.now) }
 {
     if backed {
         return true;
     }
-    match event_read(found) {
-        Some(Event::Back { .. }) => true,
+    match *event {
+        Event::Back { .. } => true,
         _ => false,
-    }
-}
-
-/// Takes the line of which this was read where it is that of the keeper's give. What the keeper's lines come to otherwise goes by whether it has backed a page.
-fn end_trial(
-    machine: &mut Machine,
-    found: &Option<Record>,
-    keeper: u8,
-    wanted: &Wanted,
-    backed: bool,
-    start: Cursor,
-) -> Trial
-    requires align { 0 < wanted.now.align }
-    ensures profile { profile_of machine.new ≡ profile_of machine.old }
-    ensures ended { (line : List ℕ) → IsRead line found.now → TrialEnded machine.old machine.new keeper wanted.now line backed start result }
-    ensures heap { IsGiftOf wanted.now result }
-{
-    match take_give(machine, found, keeper, wanted) {
-        Some(block) => Trial::Gives(block),
-        None => {
-            if backed {
-                Trial::Stops
-            } else {
-                Trial::Passes(start)
-            }
-        }
     }
 }
 
@@ -162,7 +137,6 @@ fn take_trial(
 ) -> Trial
     requires within { IsWithin text.now cursor.old }
     requires valid { IsValid (profile_of machine.old) }
-    requires kind { IsKind wanted.now.directory.kind }
     requires align { 0 < wanted.now.align }
     ensures profile { profile_of machine.new ≡ profile_of machine.old }
     ensures taken { TrialTaken machine.old machine.new text.now cursor.old cursor.new keeper wanted.now result }
@@ -175,11 +149,16 @@ fn take_trial(
         let Some(line) = next_line(text, cursor) else {
             return Trial::Stops;
         };
-        let found = read(line);
-        if !take_preparing(machine, &found, keeper, wanted.directory) {
-            return end_trial(machine, &found, keeper, wanted, backed, start);
+        let Some(event) = take_event(machine, &read(line), keeper, wanted) else {
+            if backed {
+                return Trial::Stops;
+            }
+            return Trial::Passes(start);
+        };
+        if let Some(block) = block_in(&event) {
+            return Trial::Gives(block);
         }
-        backed = has_backed(backed, &found);
+        backed = has_backed(backed, &event);
     }
 }
 

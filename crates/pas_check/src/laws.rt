@@ -10,8 +10,8 @@ ghost use Rattle.pas_check.specs.{Lines.lines_in, States.Due, States.Stand, Stat
 ghost use Rattle.pas_check.specs.{Bounds.FitsFirst, Bounds.FitsNext, Bounds.IsSmall, Going.AreAlike, Going.SoFar, Ranges.Fits};
 ghost use Rattle.pas_check.specs.Takes.{MayRefuse, IsEventOf, Takes, TakesDue};
 ghost use Rattle.pas_trace.specs.declared.plan.Plan.{Plan};
-ghost use Rattle.pas_report.specs.Lines.{line_of, lines_of};
-ghost use Rattle.pas_report.specs.declared.record.Record.{Record};
+ghost use Rattle.pas_records.specs.Lines.{line_of, lines_of};
+ghost use Rattle.pas_records.specs.declared.record.Record.{Record};
 ghost use Rattle.pas_check.specs.Accepted.{IsDone, IsStopped, IsVerdict, IsWhole};
 ghost use Rattle.pas_check.specs.declared.{entry.Entry.Entry, verdict.Verdict.Verdict};
 

@@ -3,20 +3,19 @@ ghost use Rattle.std.specs.Prelude.{ℕ, ◌≡◌, ◌+◌, ◌*◌, ◌^◌, �
 ghost use Rattle.pas_profile.specs.{Directories.IsKind, Profiles.IsPage, Profiles.IsValid};
 ghost use Rattle.pas_profile.specs.declared.{event.Event.Event as TheEvent, profile.Profile.Profile as TheProfile};
 ghost use Rattle.pas_machine.specs.{Machines.profile_of, Machines.StandsFor, State.backed_in, State.deed_in};
-ghost use Rattle.pas_machine.specs.Totals.{backed_total, deeds_total, given_total, live_total};
 ghost use Rattle.pas_steps.specs.Views.{usable_by_kind};
-ghost use Rattle.pas_report.specs.{Marks.mark_bit, Marks.marks_of, Reports.is_covered, Reports.live_on as live_on_page, Reports.uncovered_on};
+ghost use Rattle.pas_records.specs.{Marks.mark_bit, Marks.marks_of, Covered.is_covered};
+ghost use Rattle.pas_report.specs.{Reports.live_on as live_on_page, Reports.uncovered_on, Totals.totals_of};
 ghost use Rattle.pas_check.specs.{Begins.page_due, Begins.pages_due, Begins.report_due, Leading.IsLed, Leading.IsWithin, Leading.StaysWithin};
 ghost use Rattle.pas_check.specs.Shown.{given_on as given_on_page, HasNoRoom, HasRoom, IsBare, IsHinted, IsKnown, IsPageLine, IsUsed, IsWith, TellsPage};
-ghost use Rattle.pas_check.specs.Shown.{TellsTotals};
-ghost use Rattle.pas_check.specs.States.{Due, Shows, Stand, Totals, with_due};
+ghost use Rattle.pas_check.specs.States.{Due, Shows, Stand, Totals as DueTotals, with_due};
 
 use crate::cutting::{Cursor, next_line, take_line};
 use crate::following::take_head;
 use pas_machine::Machine;
 use pas_profile::classes::class_size;
 use pas_profile::{Directory, Kind};
-use pas_report::{Marks, shown_page, shown_totals};
+use pas_report::{Marks, Totals, shown_page, shown_totals};
 
 /// What the report tells of a page, and what its marks go by.
 #[derive(Clone, Copy, Drop)]
@@ -31,15 +30,6 @@ pub(crate) struct Shown {
     pub room: bool,
     /// It is backed, and no grain has a block.
     pub empty: bool,
-}
-
-/// What the report tells of the region.
-#[derive(Clone, Copy, Drop)]
-pub(crate) struct Totalled {
-    pub deeds: u32,
-    pub backed: u32,
-    pub live: u64,
-    pub ended: u64,
 }
 
 /// Whether a live block has the grain.
@@ -277,8 +267,8 @@ fn take_pages(machine: &Machine, text: &[u8], cursor: &mut Cursor) -> bool
 /// How many pages have a deed, and how many are backed.
 fn count_pages(machine: &Machine) -> (u32, u32)
     requires { IsValid (profile_of machine.now) }
-    ensures deeds { (es : List TheEvent) → StandsFor machine.now es → result.0 ≡ deeds_total (profile_of machine.now) es }
-    ensures backed { (es : List TheEvent) → StandsFor machine.now es → result.1 ≡ backed_total (profile_of machine.now) es }
+    ensures deeds { (es : List TheEvent) → StandsFor machine.now es → result.0 ≡ (totals_of (profile_of machine.now) es).deeds }
+    ensures backed { (es : List TheEvent) → StandsFor machine.now es → result.1 ≡ (totals_of (profile_of machine.now) es).backed }
 {
     let mut deeds = 0;
     let mut backed = 0;
@@ -305,7 +295,7 @@ fn live_there(machine: &Machine, page: u32) -> u16
 /// How many blocks live. Looks only at grains of pages with a deed.
 fn count_live(machine: &Machine) -> u64
     requires { IsValid (profile_of machine.now) }
-    ensures { (es : List TheEvent) → StandsFor machine.now es → result ≡ live_total (profile_of machine.now) es }
+    ensures { (es : List TheEvent) → StandsFor machine.now es → result ≡ (totals_of (profile_of machine.now) es).live }
 {
     let mut live = 0;
     for before in 0..machine.profile().pages {
@@ -347,7 +337,7 @@ fn given_there(machine: &Machine, page: u32) -> u64
 fn count_given(machine: &Machine) -> u64
     requires valid { IsValid (profile_of machine.now) }
     requires known { IsKnown machine.now }
-    ensures given { (es : List TheEvent) → StandsFor machine.now es → result ≡ given_total (profile_of machine.now) es }
+    ensures given { (es : List TheEvent) → StandsFor machine.now es → result ≡ (totals_of (profile_of machine.now) es).given }
     ensures few { result ≤ 2 ^ 46 }
 {
     let mut given = 0;
@@ -358,19 +348,19 @@ fn count_given(machine: &Machine) -> u64
 }
 
 /// What the report tells of the region.
-fn total(machine: &Machine) -> Totalled
+fn total(machine: &Machine) -> Totals
     requires valid { IsValid (profile_of machine.now) }
     requires known { IsKnown machine.now }
-    ensures tells { (es : List TheEvent) → StandsFor machine.now es → TellsTotals (profile_of machine.now) es result }
-    ensures few { result.ended + result.live < 2 ^ 63 }
+    ensures { (es : List TheEvent) → StandsFor machine.now es → result ≡ totals_of (profile_of machine.now) es }
 {
     let (deeds, backed) = count_pages(machine);
     let live = count_live(machine);
     let given = count_given(machine);
-    Totalled {
+    Totals {
         deeds,
         backed,
         live,
+        given,
         ended: given - live,
     }
 }
@@ -380,12 +370,11 @@ fn take_totals(machine: &Machine, text: &[u8], cursor: &mut Cursor) -> bool
     requires within { IsWithin text.now cursor.old }
     requires valid { IsValid (profile_of machine.now) }
     requires known { IsKnown machine.now }
-    ensures led { (s : Stand) (more : List Due) → StandsFor machine.now s.events → s.due ≡ Totals ∷ more
+    ensures led { (s : Stand) (more : List Due) → StandsFor machine.now s.events → s.due ≡ DueTotals ∷ more
         → IsLed (profile_of machine.now) text.now s cursor.old (with_due s more) cursor.new result }
     ensures within { StaysWithin text.now cursor.new result }
 {
-    let totals = total(machine);
-    let wanted = shown_totals(totals.deeds, totals.backed, totals.live, totals.ended);
+    let wanted = shown_totals(total(machine));
     take_line(text, cursor, wanted.as_bytes())
 }
 

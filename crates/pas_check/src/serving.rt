@@ -1,16 +1,16 @@
-//! Lines that end a request: a give, or a refusal.
+//! Lines of a request: deeds, backs and a give, or a refusal.
 ghost use Rattle.std.specs.Prelude.{ℕ, ◌≡◌, ◌≢◌, ◌*◌, ◌<◌, ◌≤◌, IfSome, List, MatchBool, Some};
 ghost use Rattle.pas_profile.specs.{Directories.IsKind, Classes.IsAlignment, Profiles.IsValid};
 ghost use Rattle.pas_profile.specs.declared.event.Event.{Event as TheEvent};
 ghost use Rattle.pas_machine.specs.{State.deed_in, Places.IsEach, Machines.profile_of, Machines.StandsFor};
 ghost use Rattle.pas_trace.specs.declared.item.Request.{Request};
-ghost use Rattle.pas_check.specs.Calls.{asked_for, GiveTaken, IsFitting, IsGiven, IsRead, IsWanted, LiesOn, RefusalSeen, RefusesBy};
-ghost use Rattle.pas_check.specs.States.{Stand};
+ghost use Rattle.pas_check.specs.Calls.{asked_for, EventTaken, GivesOf, IsFitting, IsWanted, LiesOn, RefusalSeen};
+ghost use Rattle.pas_check.specs.{States.Stand, Takes.block_in, Takes.IsServing};
 
-use crate::taking::{event_read, step};
+use crate::taking::step;
 use pas_machine::Machine;
 use pas_profile::{Block, Directory, Event, Kind, Profile, Route};
-use pas_report::{Record, Said};
+use pas_records::{Record, Said};
 use pas_utility::HeapTable;
 
 /// What a request asks for: a block for this name, of this room, at a multiple of this alignment, on pages of this directory.
@@ -95,69 +95,76 @@ fn fits(block: &Block, wanted: &Wanted) -> bool
         && block.name.address.0 % wanted.align == 0
 }
 
-/// Takes the event where it is a give by the actor of what is wanted, and may come next; and says which block that is. None where it is no such event.
-fn give(machine: &mut Machine, event: &Event, actor: u8, wanted: &Wanted) -> Option<Block>
+/// Whether the event serves what the actor wants: a deed of its directory, a back, or the give of a block for it.
+fn serves(machine: &Machine, event: &Event, actor: u8, wanted: &Wanted) -> bool
     requires align { 0 < wanted.now.align }
-    ensures profile { profile_of machine.new ≡ profile_of machine.old }
-    ensures heap { IfSome result (λ block. block.heap ≡ wanted.now.directory.heap) }
-    ensures given { IsGiven machine.old machine.new actor wanted.now event.now result }
+    ensures serves { (s : Stand) (r : Request) → IsWanted (profile_of machine.now) r wanted.now → StandsFor machine.now s.events
+        → MatchBool result (IsServing (profile_of machine.now) s actor r event.now) (IsServing (profile_of machine.now) s actor r event.now → ⊥) }
+    ensures heap { MatchBool result (GivesOf wanted.now.directory.heap event.now) (Unit {0}) }
 {
-    let Event::Give { actor: k, block } = *event else {
-        return None;
-    };
-    if k != actor || !fits(&block, wanted) || !lies_on(machine, &block, wanted.directory) {
-        return None;
-    }
-    if !step(machine, event) {
-        return None;
-    }
-    Some(block)
-}
-
-/// Takes the line of which this was read where it is that of a give by the actor of what is wanted, and says which block that is. None where it is no
-/// such line.
-pub(crate) fn take_give(
-    machine: &mut Machine,
-    found: &Option<Record>,
-    actor: u8,
-    wanted: &Wanted,
-) -> Option<Block>
-    requires align { 0 < wanted.now.align }
-    ensures profile { profile_of machine.new ≡ profile_of machine.old }
-    ensures heap { IfSome result (λ block. block.heap ≡ wanted.now.directory.heap) }
-    ensures taken { (line : List ℕ) → IsRead line found.now → GiveTaken machine.old machine.new actor wanted.now line result }
-{
-    let Some(event) = event_read(found) else {
-        return None;
-    };
-    give(machine, &event, actor, wanted)
-}
-
-/// Whether the record says that what is wanted can't be had: for want of space, or since a page of its directory is held.
-fn refuses(machine: &Machine, item: &Record, actor: u8, wanted: &Wanted) -> bool
-    ensures { (s : Stand) (r : Request) → IsWanted (profile_of machine.now) r wanted.now → StandsFor machine.now s.events
-        → MatchBool result (RefusesBy (profile_of machine.now) s actor r item.now) (RefusesBy (profile_of machine.now) s actor r item.now → ⊥) }
-{
-    match *item {
-        Record::Said(k, Said::NoSpace { name }) => k == actor && name == wanted.name,
-        Record::Said(k, Said::Held { page, name }) => {
-            k == actor && name == wanted.name && has_deed(machine, page, wanted.directory)
+    match *event {
+        Event::Deed {
+            actor: k,
+            directory,
+            ..
+        } => k == actor && directory == wanted.directory,
+        Event::Back { actor: k, .. } => k == actor,
+        Event::Give { actor: k, block } => {
+            k == actor && fits(&block, wanted) && lies_on(machine, &block, wanted.directory)
         }
         _ => false,
     }
 }
 
-/// Whether the line of which this was read is a refusal of what the actor wants.
+/// Takes the line of which this was read where it is of an event that serves what the actor wants and may come next, and says which event that is. None where
+/// it is no such line.
+pub(crate) fn take_event(
+    machine: &mut Machine,
+    found: &Option<Record>,
+    actor: u8,
+    wanted: &Wanted,
+) -> Option<Event>
+    requires align { 0 < wanted.now.align }
+    ensures profile { profile_of machine.new ≡ profile_of machine.old }
+    ensures heap { IfSome result (λ event. GivesOf wanted.now.directory.heap event) }
+    ensures taken { EventTaken (profile_of machine.old) machine.old machine.new actor wanted.now found.now result }
+{
+    let Some(Record::Event(event)) = *found else {
+        return None;
+    };
+    if !serves(machine, &event, actor, wanted) {
+        return None;
+    }
+    if !step(machine, &event) {
+        return None;
+    }
+    Some(event)
+}
+
+/// The block that the event gives; None where it gives none.
+pub(crate) fn block_in(event: &Event) -> Option<Block>
+    ensures { result ≡ block_in event.now }
+{
+    match *event {
+        Event::Give { block, .. } => Some(block),
+        _ => None,
+    }
+}
+
+/// Whether the line of which this was read says that what the actor wants can't be had: for want of space, or since a page of its directory is held.
 pub(crate) fn is_refusal(
     machine: &Machine,
     found: &Option<Record>,
     actor: u8,
     wanted: &Wanted,
 ) -> bool
-    ensures { (line : List ℕ) → IsRead line found.now → RefusalSeen machine.now actor wanted.now line result }
+    ensures { RefusalSeen (profile_of machine.now) machine.now actor wanted.now found.now result }
 {
-    let Some(item) = found else {
-        return false;
-    };
-    refuses(machine, item, actor, wanted)
+    match *found {
+        Some(Record::Said(k, Said::NoSpace { name })) => k == actor && name == wanted.name,
+        Some(Record::Said(k, Said::Held { page, name })) => {
+            k == actor && name == wanted.name && has_deed(machine, page, wanted.directory)
+        }
+        _ => false,
+    }
 }

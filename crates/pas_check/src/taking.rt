@@ -1,17 +1,16 @@
-//! Lines that the machine judges: those of the entries of a log, and the deeds and backs of a request.
+//! Lines that the machine judges, and those of the entries of a log.
 ghost use Rattle.std.specs.Prelude.{ℕ, ◌≡◌, List, MatchBool, None, Some};
 ghost use Rattle.pas_profile.specs.{Directories.IsKind, Profiles.IsValid, Blocks.address_of};
 ghost use Rattle.pas_profile.specs.declared.{event.Event.Event as TheEvent, profile.Profile.Profile};
 ghost use Rattle.pas_machine.specs.{Machine.IsPlace, Machine.Run, Machines.profile_of, Machines.StandsFor, State.Live, State.gives_in, State.live_in};
-ghost use Rattle.pas_report.specs.Lines.{IsShowable};
-ghost use Rattle.pas_check.specs.Calls.{event_in, IsEventRead, IsRead, IsStepped, IsTrueReason, EntryTaken, PreparingTaken};
-ghost use Rattle.pas_check.specs.{States.Stand, Takes.IsEventOf, Takes.IsPreparing};
+ghost use Rattle.pas_check.specs.{Calls.IsStepped, Calls.IsTrueReason, Calls.EntryTaken, States.Stand, Takes.IsEventOf};
+ghost use Rattle.pas_records.specs.Lines.{IsShowable};
 
 use crate::entry::Entry;
 use crate::reading::is_line;
 use pas_machine::Machine;
 use pas_profile::{Address, Block, Directory, Event, Name, Why};
-use pas_report::Record;
+use pas_records::Record;
 
 /// Takes the event where it may come next, and says whether it may, where there were less than 2^32 before it: the machine counts so many.
 pub(crate) fn step(machine: &mut Machine, event: &Event) -> bool
@@ -19,26 +18,6 @@ pub(crate) fn step(machine: &mut Machine, event: &Event) -> bool
     ensures stepped { IsStepped machine.old machine.new event.now result }
 {
     machine.step(event).is_ok()
-}
-
-/// The event of a record; None where it is of none.
-fn event_of(item: &Record) -> Option<Event>
-    ensures { result ≡ event_in item.now }
-{
-    match *item {
-        Record::Event(event) => Some(event),
-        _ => None,
-    }
-}
-
-/// The event of what was read of a line; None where that is none.
-pub(crate) fn event_read(found: &Option<Record>) -> Option<Event>
-    ensures { (line : List ℕ) → IsRead line found.now → IsEventRead line result }
-{
-    let Some(item) = found else {
-        return None;
-    };
-    event_of(item)
 }
 
 /// Whether the address is that of a grain of the region.
@@ -109,49 +88,13 @@ pub(crate) fn take_entry(
     epoch: u64,
 ) -> bool
     ensures profile { profile_of machine.new ≡ profile_of machine.old }
-    ensures taken { EntryTaken machine.old machine.new actor entry epoch line.now result }
+    ensures taken { EntryTaken (profile_of machine.old) machine.old machine.new actor entry epoch line.now result }
 {
     if !is_place(machine, entry.name.address) {
         return false;
     }
     let event = event_for(machine, actor, entry, epoch);
     if !is_line(line, &Record::Event(event)) {
-        return false;
-    }
-    step(machine, &event)
-}
-
-/// Whether the event is a deed of the directory, or a back, by the actor.
-fn prepares(event: &Event, actor: u8, directory: Directory) -> bool
-    ensures { MatchBool result (IsPreparing actor directory event.now) (IsPreparing actor directory event.now → ⊥) }
-{
-    match *event {
-        Event::Deed {
-            actor: k,
-            directory: d,
-            ..
-        } => k == actor && d == directory,
-        Event::Back { actor: k, .. } => k == actor,
-        _ => false,
-    }
-}
-
-/// Takes the line of which this was read where it is that of a deed of the directory, or of a back, by the actor, and says whether it is.
-pub(crate) fn take_preparing(
-    machine: &mut Machine,
-    found: &Option<Record>,
-    actor: u8,
-    directory: Directory,
-) -> bool
-    requires valid { IsValid (profile_of machine.old) }
-    requires kind { IsKind directory.kind }
-    ensures profile { profile_of machine.new ≡ profile_of machine.old }
-    ensures taken { (line : List ℕ) → IsRead line found.now → PreparingTaken machine.old machine.new actor directory line result }
-{
-    let Some(event) = event_read(found) else {
-        return false;
-    };
-    if !prepares(&event, actor, directory) {
         return false;
     }
     step(machine, &event)

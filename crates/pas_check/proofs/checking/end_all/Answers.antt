@@ -6,7 +6,7 @@ use Rattle.pas_check.proofs.checking.end_all.Goals as goal
 
 pub loop-index-init : goal.loop-index-init
 loop-index-init c = record {
-  sized = record { profile = refl; logs = refl; awake = refl; names = refl };
+  sized = record { profile = refl; logs = refl; idle_since = refl; names = refl };
   within = c.requires.within;
   far = nothing_taken (search arith);
 }

@@ -8,7 +8,7 @@ use Rattle.pas_check.proofs.checking.stop_all_idle.Goals as goal
 
 pub loop-index-init : goal.loop-index-init
 loop-index-init c = record {
-  sized = record { profile = refl; logs = refl; awake = refl; names = refl };
+  sized = record { profile = refl; logs = refl; idle_since = refl; names = refl };
   within = c.requires.within;
   far = taken_on (ahead (idly_taken c.requires.within (λ f s. refl))) (nothing_taken (search (arith, append-nil)));
 }
@@ -22,7 +22,7 @@ stop_unless_awake-requires-clause-held c =
 
 pub stop_unless_awake-requires-clause-known : goal.stop_unless_awake-requires-clause-known
 stop_unless_awake-requires-clause-known c =
-    omega (arith, c.loop-index-test.true, c.threads_of-threads.ensures, c.requires.sized.awake, c.loop-index.invariant.sized.awake)
+    omega (arith, c.loop-index-test.true, c.threads_of-threads.ensures, c.requires.sized.idle_since, c.loop-index.invariant.sized.idle_since)
 
 pub returns-then-not-stop_unless_awake-clause-taken : goal.returns-then-not-stop_unless_awake-clause-taken
 returns-then-not-stop_unless_awake-clause-taken c =

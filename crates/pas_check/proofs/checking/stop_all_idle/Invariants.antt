@@ -10,6 +10,7 @@ abbrev pub invariant-loop-index : goal.invariant-loop-index
 invariant-loop-index l = record {
   sized : IsSizedAs l.fn.judge l.judge;
   within : IsWithin l.text l.cursor;
-  far : TakenTo l.text l.fn.judge l.fn.cursor l.judge l.cursor (ReadsEpoch ∷ idle_stops l.epochs (threads_where (λ k. not (is_set l.awake k)) (threads_in l.fn.judge)))
+  far : TakenTo l.text l.fn.judge l.fn.cursor l.judge l.cursor
+      (ReadsEpoch ∷ idle_stops l.epochs (threads_where (λ k. not (is_set l.awake k)) (threads_in l.fn.judge)))
       (acts_there (λ k. StopsIdle k l.epochs) (λ k. not (is_set l.awake k)) l.index (threads_in l.fn.judge) []) true;
 }

@@ -9,12 +9,12 @@ use Rattle.pas_check.proofs.checking.wake_all.Goals.{then-get, else-get}
 
 pub loop-index-init : goal.loop-index-init
 loop-index-init c = record {
-  sized = record { profile = refl; logs = refl; awake = refl; names = refl };
+  sized = record { profile = refl; logs = refl; idle_since = refl; names = refl };
   far = λ text at within. nothing_taken (search (arith, append-nil));
 }
 
 pub wake-requires : goal.wake-requires
-wake-requires c = omega (arith, c.loop-index-test.true, c.threads_of-threads.ensures, c.requires.sized.awake, c.loop-index.invariant.sized.awake)
+wake-requires c = omega (arith, c.loop-index-test.true, c.threads_of-threads.ensures, c.requires.sized.idle_since, c.loop-index.invariant.sized.idle_since)
 
 pub loop-index-preserved : goal.loop-index-preserved
 loop-index-preserved c =

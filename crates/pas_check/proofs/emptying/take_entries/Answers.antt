@@ -1,4 +1,4 @@
-use Rattle.std.proofs.Common.{arith, refl, ◌∙◌}
+use Rattle.std.proofs.Common.{refl, ◌∙◌}
 use Rattle.std.proofs.lemmas.List.{drop_more}
 use Rattle.pas_check.specs.declared.entry.Entry.{Entry}
 use Rattle.pas_check.proofs.Stretches.{entries_amiss, entries_begin, entries_lack, entries_more}
@@ -19,7 +19,7 @@ pub returns-then-not-take_entry-clause-taken : goal.returns-then-not-take_entry-
 returns-then-not-take_entry-clause-taken c =
     entries_amiss (rw (drop_more c.args.log.now c.loop-entry.entry-index nobody c.loop-entry-test.true) at c.loop-entry.invariant.taken)
     c.next_line.ensures.count c.take_entry.new.machine c.loop-entry.invariant.profile c.in-Some.ensures.some
-    (omega (arith, c.loop-entry.invariant.within.lines, c.loop-entry.invariant.within.bytes, c.requires.within.short)) c.if-not-take_entry.ensures.taken
+    c.loop-entry.invariant.within c.if-not-take_entry.ensures.taken
 
 pub loop-entry-preserved : goal.loop-entry-preserved
 loop-entry-preserved c = record {

@@ -1,4 +1,4 @@
-use Rattle.std.proofs.Common.{◌^◌, ◌<◌, refl, ◌∙◌, arith}
+use Rattle.std.proofs.Common.{refl, ◌∙◌}
 use Rattle.pas_check.proofs.Stretches.{outcomes_begin, outcomes_lack, outcomes_more, outcomes_over}
 use Rattle.pas_check.proofs.examining.take_outcomes.Goals as goal
 
@@ -10,16 +10,13 @@ returns-in_default-clause-taken c = outcomes_lack c.lines.invariant.goes c.lines
 
 pub returns-in-None-clause-taken : goal.returns-in-None-clause-taken
 returns-in-None-clause-taken c =
-    let low : c.lines.cursor.lines < 2 ^ 32 = (omega (arith, c.lines.invariant.within.lines, c.lines.invariant.within.bytes, c.requires.within.short)) in
-    outcomes_over c.lines.invariant.goes c.requires.valid c.lines.invariant.profile low c.in-Some.ensures.some c.take_outcome.new.machine c.in-None.ensures.taken
-    c.lines.invariant.within
+    outcomes_over c.lines.invariant.goes c.requires.valid c.lines.invariant.profile c.lines.invariant.within c.in-Some.ensures.some c.read.ensures
+    c.take_outcome.new.machine c.in-None.ensures.taken
 
 pub lines-preserved : goal.lines-preserved
-lines-preserved c =
-    let low : c.lines.cursor.lines < 2 ^ 32 = (omega (arith, c.lines.invariant.within.lines, c.lines.invariant.within.bytes, c.requires.within.short)) in
-    record {
-      profile = c.in-Some-take_outcome.ensures.profile ∙ c.lines.invariant.profile;
-      within = c.in-Some.ensures.within;
-      goes = outcomes_more c.lines.invariant.goes c.requires.valid c.lines.invariant.profile low c.in-Some.ensures.some
-          c.take_outcome.new.machine c.next_line.new.cursor c.in-Some-take_outcome.page refl c.next_line.ensures.count c.in-Some.ensures.within c.in-Some-take_outcome.ensures.taken;
-    }
+lines-preserved c = record {
+  profile = c.in-Some-take_outcome.ensures.profile ∙ c.lines.invariant.profile;
+  within = c.in-Some.ensures.within;
+  goes = outcomes_more c.lines.invariant.goes c.requires.valid c.lines.invariant.profile c.lines.invariant.within c.in-Some.ensures.some c.read.ensures
+      c.take_outcome.new.machine c.next_line.new.cursor c.in-Some-take_outcome.page refl c.next_line.ensures.count c.in-Some.ensures.within c.in-Some-take_outcome.ensures.taken;
+}

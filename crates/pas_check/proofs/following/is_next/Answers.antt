@@ -1,5 +1,5 @@
 use Rattle.std.proofs.Common.{◌++◌, ap, ◌∙◌}
-use Rattle.pas_report.specs.Lines.{line_of}
+use Rattle.pas_records.specs.Lines.{line_of}
 use Rattle.pas_check.specs.Lines.{is_line}
 use Rattle.pas_check.proofs.Cuts.{record_line}
 use Rattle.pas_check.proofs.following.is_next.Goals as goal

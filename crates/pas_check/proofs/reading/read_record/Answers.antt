@@ -1,5 +1,5 @@
 use Rattle.std.proofs.Common.{◌∙◌, Some, ap, sym, subst}
-use Rattle.pas_report.specs.Lines.{line_of, CanShow}
+use Rattle.pas_records.specs.Lines.{line_of, CanShow}
 use Rattle.pas_check.proofs.Readings.{fits_show, found_is}
 use Rattle.pas_check.proofs.reading.read_record.Goals as goal
 

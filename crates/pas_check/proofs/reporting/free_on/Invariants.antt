@@ -3,7 +3,7 @@ use Rattle.std.proofs.Common.{◌≡◌, ◌+◌, ◌*◌, ◌≤◌, not, List}
 use Rattle.pas_bits.specs.Bits.{count_below}
 use Rattle.pas_profile.specs.declared.event.Event.{Event}
 use Rattle.pas_machine.specs.Machines.{StandsFor}
-use Rattle.pas_report.specs.Reports.{is_covered}
+use Rattle.pas_records.specs.Covered.{is_covered}
 use Rattle.pas_check.proofs.reporting.free_on.Given as goal
 
 abbrev pub invariant-loop-grain : goal.invariant-loop-grain

@@ -2,7 +2,7 @@
 use Rattle.std.proofs.Common.{◌≡◌, ℕ, ◌<◌, true, List}
 use Rattle.pas_profile.specs.declared.event.Event.{Event}
 use Rattle.pas_machine.specs.Machines.{StandsFor}
-use Rattle.pas_report.specs.Reports.{is_covered}
+use Rattle.pas_records.specs.Covered.{is_covered}
 use Rattle.pas_check.specs.Shown.{grain_on}
 use Rattle.pas_check.proofs.reporting.has_room.Given as goal
 
