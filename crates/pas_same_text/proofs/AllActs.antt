@@ -1,40 +1,32 @@
 -- ALL ACTS of a replay: who acts in the replay of a plan, and that what is asked for is admitted; the first state of the text, which is that of a replay that did nothing
 -- yet; and the text of a state that is the replay's, which is what is written of it.
-use Rattle.std.proofs.lemmas.{Bool.Decides.nat_tests, Option.none-some}
-use Rattle.std.proofs.Common.{◌≡◌, ◌≢◌, ℕ, zero, suc, ◌+◌, ◌<◌, ◌≤◌, Bool, List, [], ◌∷◌, ◌++◌, map, Option, Some, MatchOption, sym, arith, not, ◌==◌, false}
-use Rattle.std.proofs.Common.{length, if◌then◌else◌, ◌-◌, codes, None, inl, inr, refl, ap, ◌∙◌, subst}
-use Rattle.std.specs.List.{AllByRecursion, filter}
-use Rattle.pas_profile.specs.{Profiles.IsValid, Profiles.IsAdmitted, Requests.route_in, Directories.directory_read}
-use Rattle.pas_profile.specs.declared.{directory.Route.Route, directory.Directory.Directory, event.Event.Event, profile.Profile.Profile, word.Word.Word}
-use Rattle.pas_profile.proofs.{Lists.all_both, Sizes.large_for, Codecs.read-deed_word_of, Codecs.directory_from_profile}
-use Rattle.pas_trace.specs.Acts.{Act, Wakes, Ends, Lowers, region_of, threads_of, keepers_of, acts_of_plan, is_active, numbers_from, threads_where}
-use Rattle.pas_trace.specs.Acts.{active_threads, idle_threads, acts_of_chore, acts_of_work, acts_of_op, acts_of_ops, phase_acts, close_acts, acts_from, acts_of}
-use Rattle.pas_trace.specs.Asked.{of_task, request_of, request_in, keeper_of, keeper_in}
+use Rattle.pas_same_text.proofs.Common.{nat_tests, none-some, AllByRecursion, filter, IsValid, IsAdmitted, route_in, directory_read, Route, Directory, Event}
+use Rattle.pas_same_text.proofs.Common.{Profile, Word, all_both, read-deed_word_of, directory_from_profile, Act, numbers_from, request_in, IsPlanOf, Request}
+use Rattle.pas_same_text.proofs.Common.{Op, Plan, plan_actors, IsKnown, IsKept, IsThreadOf, IsActOf, AreSeated, IsSame, IsBetween, none_of_zero, deed_in, Whole}
+use Rattle.pas_same_text.proofs.Common.{word_after, visible, Legal, word_of_deed, IsRightInOnePlace, deed_of, directory_is_of, right_in_one_place, legal_before}
+use Rattle.pas_same_text.proofs.Common.{Marked, Progress, indexes_after, AreAtRest, phases_of, region_of, keepers_of, World, cache_in, each, opened, acts_on}
+use Rattle.pas_same_text.proofs.Common.{replayed, order_text, text_of, Indexes, no_ranges, Record}
+use Rattle.std.proofs.Common.{◌≡◌, ◌≢◌, ℕ, zero, suc, ◌+◌, ◌<◌, ◌≤◌, Bool, List, [], ◌∷◌, ◌++◌, map, Option, Some, MatchOption, sym, arith, not, false, length}
+use Rattle.std.proofs.Common.{◌-◌, codes, None, inl, inr, refl, ap, ◌∙◌, subst}
+use Rattle.pas_profile.proofs.Sizes.{large_for}
+use Rattle.pas_trace.specs.Acts.{Wakes, Ends, Lowers, region_of, threads_of, keepers_of, acts_of_plan, is_active, threads_where, active_threads, idle_threads}
+use Rattle.pas_trace.specs.Acts.{acts_of_chore, acts_of_work, acts_of_op, acts_of_ops, phase_acts, close_acts, acts_from, acts_of}
+use Rattle.pas_trace.specs.Asked.{of_task, request_of, keeper_of, keeper_in}
 use Rattle.pas_trace.specs.EveryPlan.{all_ops, operations_of, IsActorBy, IsActorOf, IsSoundTask, IsSoundWork, AreSound, AreKept}
-use Rattle.pas_trace.specs.Plans.{IsPlanOf, ops_of}
-use Rattle.pas_trace.specs.declared.{item.Request.Request, plan.Chore.Chore, plan.Op.Op, plan.Plan.Plan, plan.Task.Task, plan.Work.Work}
-use Rattle.pas_trace.proofs.{EveryPlan.every_plan, Keepers.plan_actors}
-use Rattle.pas_same_text.specs.Known.{IsAdmittedWhat, IsGuardedWhat, IsPlanned, ArePlanned, IsCarried, IsKnown, IsKept, AreKnown}
-use Rattle.pas_same_text.specs.{Seats.IsThreadOf, Seats.IsActOf, Seats.AreSeated, Same.IsSame, Same.AreSameCaches, Acts.IsBetween, Acts.IsListed, Told.IsTold}
-use Rattle.pas_bits.proofs.Words.{none_of_zero}
-use Rattle.pas_machine.specs.State.{deed_in}
-use Rattle.pas_steps.specs.Lists.{Whole, word_after, visible, Legal}
-use Rattle.pas_core.specs.{Good.word_of_deed, Rights.parked_bit, Rights.IsRightInOnePlace}
-use Rattle.pas_core.proofs.{Deeds.deed_of, Deeds.directory_is_of, Rights.right_in_one_place, OneActor.legal_before}
-use Rattle.pas_report.specs.{Lines.lines_of, Marks.Marked, Marks.marks_after, Marks.offered_after, Rests.AreTrueMarks, Reports.machine_pages}
-use Rattle.pas_report.specs.{Reports.report_text}
-use Rattle.pas_answers.specs.{Answers.Progress, Indexes.indexes_after, Indexes.indexes_after_all, Reaching.Reaches, Rests.AreAtRest, Rests.AllAtRest}
-use Rattle.pas_answers.specs.{Ways.InOrder}
-use Rattle.pas_answers.specs.Replays.{at_start, empty_caches, phases_of, region_of, threads_of, keepers_of, acts_of_plan, IsReplay}
-use Rattle.pas_same_text.specs.State.{Cache, World, no_cache, cache_in, each}
-use Rattle.pas_same_text.specs.Order.{opened, acts_on, replayed, order_text}
-use Rattle.pas_same_text.specs.Reports.{offered_by, parked_by, marks_of, text_of}
+use Rattle.pas_trace.specs.Plans.{ops_of}
+use Rattle.pas_trace.specs.declared.plan.{Chore.Chore, Task.Task, Work.Work}
+use Rattle.pas_trace.proofs.EveryPlan.{every_plan}
+use Rattle.pas_same_text.specs.Known.{IsAdmittedWhat, IsGuardedWhat, IsPlanned, ArePlanned, IsCarried, AreKnown}
+use Rattle.pas_same_text.specs.{Acts.IsListed, Told.IsTold, State.no_cache, Reports.offered_by, Reports.parked_by}
+use Rattle.pas_core.specs.Rights.{parked_bit}
+use Rattle.pas_report.specs.Reports.{machine_pages, report_text}
+use Rattle.pas_answers.specs.{Indexes.indexes_after_all, Reaching.Reaches, Rests.AllAtRest, Ways.InOrder}
+use Rattle.pas_answers.specs.Replays.{at_start, threads_of, acts_of_plan, IsReplay}
 use Rattle.pas_same_text.proofs.{EntrySteps.read_deed, SameIndexes.act_many, SameIndexes.start_indexes, OneAct.act_same, SeatedActs.seated_next}
 use Rattle.pas_same_text.proofs.{SeatedActs.stamped_kept, KeepersRest.between_from, UsableBlocks.act_usable, TextOfBytes.bytes_told, TextOfBytes.region_same}
-use Rattle.pas_large.specs.Doors.{Indexes, no_ranges}
-use Rattle.pas_report.specs.declared.record.Record.{Record}
 use Rattle.pas_answers.proofs.Reached.{was_so}
 use Rattle.pas_answers.proofs.EachAct.{all_front, all_back, all_of, all_of_chore}
+use Rattle.pas_records.specs.{Lines.lines_of, Marks.marks_after, Marks.offered_after, Rests.AreTrueMarks}
 
 -- ---- several numbers, and acts of each of several actors
 all_from : (P : ℕ → Type 0) (k n : ℕ) → ((j : ℕ) → k ≤ j → j < k + n → P j) → AllByRecursion P (numbers_from k n)
@@ -76,12 +68,9 @@ module _ (plan : Plan) where
   abbrev IsAdmittedHere : Request → Type 0
   IsAdmittedHere r = IsAdmitted (region_of plan) r.size r.align r.heap
 
-  -- by what a sound task says of the request that it makes
-  task_admitted : (asked : List ℕ) (task : Task) → IsSoundTask plan.profile asked task → MatchOption (request_of task) (Unit {0}) IsAdmittedHere
-  task_admitted asked task sound = search arith
-
+  -- by what sound work says of the request that it makes
   work_admitted : (asked : List ℕ) (work : Work) → IsSoundWork plan.profile asked work → MatchOption (of_task request_of work) (Unit {0}) IsAdmittedHere
-  work_admitted asked work sound = search (arith, task_admitted)
+  work_admitted asked work sound = search arith
 
   -- .. and what is guarded is for whole pages
   abbrev IsLargeHere : Request → Type 0
@@ -174,12 +163,9 @@ module _ (f : Profile) (n : ℕ) (few : n ≤ f.threads) where
   abbrev first : World
   first = opened (record f { threads = n })
 
-  start_caches : AreSameCaches f empty_caches first.caches
-  start_caches = search (arith, many_numbers, opening_caches_are_empty)
-
   -- The text's opened region is the state of a replay that did nothing.
   start_same : IsSame f at_start first
-  start_same = search (arith, none_of_zero, start_caches)
+  start_same = search (arith, none_of_zero, many_numbers, opening_caches_are_empty)
 
 -- ==== THE END
 pages_told : (es : List Event) (marks other : ℕ → Marked) (n : ℕ) → ((page : ℕ) → marks page ≡ other page) → machine_pages es marks n ≡ machine_pages es other n
@@ -221,15 +207,11 @@ module _ (f : Profile) (p : Progress) (w : World) (valid : IsValid f) (legal : L
   parked_told : (page : ℕ) (o : Option Directory) → deed_in (visible p.list) page ≡ o → parked_by w o page ≡ parked_bit p.list page
   parked_told page None at = sym (no_deed_parked page at)
   parked_told page (Some d) at =
-      ap not (sym (ap (λ (o : Option Directory). offered_by w o page) (deed_is page ∙ at)) ∙ offered_same page)
-      ∙ sym (true_marks.offered_or_parked page (λ none. absurd (none-some d (sym none ∙ at))))
-
-  marks_same : (page : ℕ) → marks_of w page ≡ marks_after p.list page
-  marks_same page = search (arith, offered_same, deed_is, parked_told)
+      cc (deed_is page, offered_same page, true_marks.offered_or_parked page (λ none. absurd (none-some d (sym none ∙ at))))
 
   -- The text of a state that is the replay's is what is written of the replay: its lines and its report.
   pub text_told : text_of f w ≡ lines_of p.records ++ report_text f (visible p.list) (marks_after p.list)
-  text_told = search (arith, codes, pages_told, marks_same)
+  text_told = search (arith, codes, pages_told, offered_same, deed_is, parked_told)
 
 -- ==== ACTS ONE AFTER THE OTHER keep the text, and a replay of them comes to what is written of it.
 -- ---- one act
@@ -310,9 +292,7 @@ told_by n text plan whole records some few read is =
     (acts_carried threads f acts at_start is.reached is.answers first _ (plan_acts read) known (start_carried threads n f some few)).same in
     record {
       text =
-          text_told f is.reached end known.valid known.legal (subst (AreTrueMarks f) is.one_order is.marks) same
-          ∙ (ap (λ (rs : List Record). lines_of rs ++ report_text f (visible is.reached.list) (marks_after is.reached.list)) (sym is.records_are)
-          ∙ ap (λ (l : Whole). lines_of records ++ report_text f (visible l) (marks_after l)) (sym is.one_order));
+          cc (text_told f is.reached end known.valid known.legal (subst (AreTrueMarks f) is.one_order is.marks) same);
       records_are = sym same.records ∙ sym is.records_are;
       events_are = same.pages.events ∙ ap visible (sym is.one_order);
     }

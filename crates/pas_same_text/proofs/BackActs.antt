@@ -1,27 +1,19 @@
 -- THE ACTS THAT GIVE BACK: flushes, stops, stops of idle threads, the close, and frees into any log.
 use Rattle.std.proofs.Common.{◌≡◌, ℕ, ◌+◌, ◌≤◌, nat_le, Bool, true, false, if◌then◌else◌, List, [], ◌∷◌, ◌++◌, length, Option, None, Some, inl, inr, refl, ap}
 use Rattle.std.proofs.Common.{sym, ◌∙◌, subst, append_assoc, arith, append-nil, eq-eqb}
-use Rattle.std.proofs.lemmas.Bool.{false≢true, Decides.nat_tests}
-use Rattle.pas_profile.specs.Profiles.{IsValid}
-use Rattle.pas_profile.specs.declared.{name.Block.Block, name.Name.Name, profile.Profile.Profile}
-use Rattle.pas_steps.specs.{Events.events_by, Lists.part, Lists.visible, Views.View}
-use Rattle.pas_steps.specs.declared.step.Made.{Made}
-use Rattle.pas_free_log.specs.declared.log.Entry.{Entry}
-use Rattle.pas_cache.specs.{Calls.TakesEntry, Changes.EmptiesFull, Contents.Cached}
-use Rattle.pas_guard.specs.declared.book.Guard.{Guard}
-use Rattle.pas_report.specs.declared.record.{Record.Record, Said.Said as TheSaid, Said.Said}
-use Rattle.pas_trace.specs.{Acts.Act, EveryPlan.IsThread}
-use Rattle.pas_trace.specs.declared.plan.What.TheVariants.{Free, FreeSized, Raw, RawSized, Flush, Stop}
-use Rattle.pas_answers.specs.Answers.{Progress, Named, named, Answer, having, suits, IsRemadeBy, IsFreed, IsFreedBy, IsFlushed, IsStopped, standing_for}
-use Rattle.pas_answers.specs.Answers.{records_of, with_records, with_steps, after_answer, after_stop, room_noted, with_cache as with_cached}
-use Rattle.pas_same_text.specs.State.{World, Cache, cache_of, set_cache, log_of, says, names_it}
-use Rattle.pas_same_text.specs.{Order.keeps_block, Order.replaces, Order.remakes, Passes.stops_idle, Same.IsSame, Same.IsSameCache}
-use Rattle.pas_same_text.specs.Frees.{adds, frees, frees_named, flushes, stops}
-use Rattle.pas_same_text.specs.Acts.{IsResting, IsBetween, IsTaken, AreBlocksUsable, HasUsableBlocks, StaysSameWhere}
+use Rattle.pas_trace.specs.declared.plan.What.TheVariants.{Flush, Stop}
+use Rattle.pas_answers.specs.Answers.{suits, IsFlushed, after_stop}
+use Rattle.pas_same_text.specs.{State.names_it, Passes.stops_idle}
 use Rattle.pas_same_text.proofs.{CacheLists.same_own, CacheLists.same_with, CacheLists.same_again, StopActs.flush_same, StopActs.stop_same}
 use Rattle.pas_same_text.proofs.{SameIndexes.same_many, SameIndexes.flushes_keep}
 use Rattle.pas_same_text.proofs.SmallActs.{unchanged, pages_next, says_same, cache_state, after_with, said_same, page_inside, freed_is, refused_same}
 use Rattle.pas_same_text.proofs.SmallActs.{freed_same, asks, name_freed}
+use Rattle.pas_same_text.proofs.Common.{false≢true, nat_tests, IsValid, Block, Name, Profile, events_by, part, visible, View, Made, Entry, TakesEntry}
+use Rattle.pas_same_text.proofs.Common.{EmptiesFull, Cached, Guard, Record, Said as TheSaid, Said, Act, IsThread, Free, FreeSized, Raw, RawSized, Progress}
+use Rattle.pas_same_text.proofs.Common.{Named, named, Answer, having, IsRemadeBy, IsFreed, IsFreedBy, IsStopped, standing_for, records_of, with_records}
+use Rattle.pas_same_text.proofs.Common.{with_steps, after_answer, room_noted, with_cache as with_cached, World, Cache, cache_of, set_cache, log_of, says}
+use Rattle.pas_same_text.proofs.Common.{remakes, IsSame, IsSameCache, adds, frees, frees_named, flushes, stops, IsResting, IsBetween, IsTaken, AreBlocksUsable}
+use Rattle.pas_same_text.proofs.Common.{HasUsableBlocks, StaysSameWhere}
 
 -- ---- a flush, and a stop
 module _ {f : Profile} {k : ℕ} {act : Act} {p p' : Progress} {w : World} (usable : HasUsableBlocks p) (thread : IsThread f k) (listed : k ≤ length w.caches)
@@ -78,15 +70,14 @@ stop_act f line k is p p' w usable taken =
 
 -- A thread's end at the close leads the text to the replay's state, where live blocks lie on usable grains.
 pub end_act : (f : Profile) (k : ℕ) → IsThread f k → StaysSameWhere HasUsableBlocks f (Act.Ends k)
-end_act f k is p p' w usable taken =
-    search (arith, stopped_plain)
+end_act f k is p p' w usable taken = search (arith, stopped_plain)
 
 -- ---- a thread that is idle
 idle_test : (f : Profile) (k n : ℕ) (p : Progress) (w : World) → IsThread f k → IsSame f p w
-    → nat_le ((cache_of w k).began + n) w.read ≡ nat_le ((p.caches k).idle_since + n) p.epoch
-idle_test f k n p w is same = cc ((same.caches.each k is).began)
+    → nat_le ((cache_of w k).idle_since + n) w.read ≡ nat_le ((p.caches k).idle_since + n) p.epoch
+idle_test f k n p w is same = cc ((same.caches.each k is).idle_since)
 
-idle_by : (f : Profile) (k n : ℕ) (w : World) (t : Bool) → nat_le ((cache_of w k).began + n) w.read ≡ t
+idle_by : (f : Profile) (k n : ℕ) (w : World) (t : Bool) → nat_le ((cache_of w k).idle_since + n) w.read ≡ t
     → stops_idle f k n w ≡ (if t then says (Record.Said 0 (Said.Stopped k)) (stops f k w) else w)
 idle_by f k n w t e = ap (λ (u : Bool). if u then says (Record.Said 0 (Said.Stopped k)) (stops f k w) else w) e
 
@@ -95,8 +86,7 @@ pub idle_act : (f : Profile) (k n : ℕ) → IsThread f k → StaysSameWhere Has
 idle_act f k n is p p' w usable taken = elim taken.advances [
   | inl h ↦
       let test : nat_le ((p.caches k).idle_since + n) p.epoch ≡ true = grind (arith, nat_tests, h.0) in
-      subst (λ (x : World). IsSame f p' x) (sym (idle_by f k n w true (idle_test f k n p w is taken.same ∙ test)))
-      (stopped_said usable is taken.listed taken h.1 h.2 _ h.3 h.4)
+      rw (idle_by f k n w true (idle_test f k n p w is taken.same ∙ test)) (stopped_said usable is taken.listed taken h.1 h.2 _ h.3 h.4)
   | inr h ↦
       search (arith, idle_by, idle_test)
 ]
@@ -145,20 +135,16 @@ module _ (f : Profile) (k : ℕ) (entry : Entry) (p : Progress) (w : World) (c' 
     cache_is = search arith
 
     new_same : IsSameCache c' new
-    new_same = rw cache_is (record { locals = own.locals; log = ap (λ (es : List Entry). es ++ entry ∷ []) own.log; noted = own.noted; began = own.began })
+    new_same = rw cache_is (record { locals = own.locals; log = ap (λ (es : List Entry). es ++ entry ∷ []) own.log; noted = own.noted; idle_since = own.idle_since })
 
     -- A free that fits the log is the text's entry more.
     added : IsSame f (after_with p k steps None p.names c') (adds k entry v)
-    added = record {
-      pages = pages_next f q.list q.list v (set_cache k new v) flushed_first.pages (unchanged q.list) (cache_state v k new refl);
-      caches = same_again f p.caches (adds k entry v).caches k emptied c'
-          (same_with f (with_cached p.caches k emptied) v.caches k c' new thread listed_then flushed_first.caches new_same);
-      guards = flushed_first.guards;
-      names = flushed_first.names;
-      records = ap (λ (rs : List Record). p.records ++ rs) (append-nil (records_of (events_by k (part k p.list) steps))) ∙ flushed_first.records;
-      epoch = flushed_first.epoch;
-      read = flushed_first.read;
-    }
+    added =
+        let pages = pages_next f q.list q.list v (set_cache k new v) flushed_first.pages (unchanged q.list) (cache_state v k new refl) in
+        let caches = same_again f p.caches (adds k entry v).caches k emptied c'
+        (same_with f (with_cached p.caches k emptied) v.caches k c' new thread listed_then flushed_first.caches new_same) in
+        let records = ap (λ (rs : List Record). p.records ++ rs) (append-nil (records_of (events_by k (part k p.list) steps))) ∙ flushed_first.records in
+        assumption (pages, caches, records, flushed_first)
 
     full_same : IsSame f (after_with p k steps None p.names c') (frees f k entry w)
     full_same = search (arith, added, page_inside, freed_is, eq-eqb)
@@ -186,8 +172,7 @@ module _ {f : Profile} {k : ℕ} {act : Act} {p p' : Progress} {w : World} (thre
 
   entry_any : (entry : Entry) → IsFreed f k (p.caches k) a.cache entry a.steps a.said → IsSame f p' (frees f k entry w)
   entry_any entry freed =
-      subst (λ (q : Progress). IsSame f q (frees f k entry w)) (sym to)
-      (freed_any f k entry p w a.cache a.steps thread listed taken.valid taken.before taken.same usable there a.said freed)
+      rw to (freed_any f k entry p w a.cache a.steps thread listed taken.valid taken.before taken.same usable there a.said freed)
 
   name_any : (name : ℕ) (size : Option ℕ) → IsFreedBy f k (p.caches k) a.cache name size (standing_for p.names name) a.steps a.said
       → IsSame f p' (frees_named f k name (room_noted size) w)
@@ -195,13 +180,11 @@ module _ {f : Profile} {k : ℕ} {act : Act} {p p' : Progress} {w : World} (thre
 
 -- A free of a bare name leads the text to the replay's state, whatever the thread's log holds.
 pub raw_act : (f : Profile) (line k : ℕ) (block : Name) → IsThread f k → StaysSameWhere HasUsableBlocks f (asks line k (Raw block))
-raw_act f line k block is p p' w usable taken =
-    search (arith, entry_any)
+raw_act f line k block is p p' w usable taken = search (arith, entry_any)
 
 -- A free of a bare name with its room leads the text to the replay's state, whatever the thread's log holds.
 pub raw_sized_act : (f : Profile) (line k room : ℕ) (block : Name) → IsThread f k → StaysSameWhere HasUsableBlocks f (asks line k (RawSized room block))
-raw_sized_act f line k room block is p p' w usable taken =
-    search (arith, entry_any)
+raw_sized_act f line k room block is p p' w usable taken = search (arith, entry_any)
 
 -- A free of a name of the trace leads the text to the replay's state, whatever the thread's log holds.
 pub free_act : (f : Profile) (line k name : ℕ) → IsThread f k → StaysSameWhere HasUsableBlocks f (asks line k (Free name))
@@ -217,15 +200,9 @@ free_sized_act f line k name room is p p' w usable taken =
 named_same : (f : Profile) (k name : ℕ) (o : Option Block) (said : TheSaid) (p : Progress) (w : World) → IsSame f p w
     → IsSame f (after_with p k [] (Some said) (named name o ∷ p.names) (p.caches k)) (names_it name o (says (Record.Said k said) w))
 named_same f k name o said p w same =
-    let to : IsSame f (after_with p k [] (Some said) p.names (p.caches k)) (says (Record.Said k said) w) = said_same f k said p w same in record {
-      pages = pages_next f p.list p.list w _ same.pages (unchanged p.list) (record { events = refl; live = refl; hinted = refl; locals = refl; guards = refl });
-      caches = to.caches;
-      guards = to.guards;
-      names = ap (λ (ns : List Named). named name o ∷ ns) same.names;
-      records = to.records;
-      epoch = to.epoch;
-      read = to.read;
-    }
+    let to : IsSame f (after_with p k [] (Some said) p.names (p.caches k)) (says (Record.Said k said) w) = said_same f k said p w same in
+    let pages = pages_next f p.list p.list w (names_it name o (says (Record.Said k said) w)) same.pages (unchanged p.list) assumption in
+    assumption (pages, ap (λ (ns : List Named). named name o ∷ ns) same.names, to)
 
 remade_as : (f : Profile) (k name : ℕ) (o : Option Block) (said : TheSaid) (p p' : Progress) (w : World) (a : Answer) → IsSame f p w → p' ≡ after_answer p k a
     → a.steps ≡ [] → a.cache ≡ p.caches k → a.said ≡ Some said → a.names ≡ named name o ∷ p.names
@@ -248,6 +225,5 @@ pub remakes_idly : (f : Profile) (k name size align : ℕ) (meant : Option (Opti
 remakes_idly f k name size align None p p' w a idle same reached h = absurd h
 remakes_idly f k name size align (Some None) p p' w a idle same reached h = remade_as f k name None (Said.Skipped name) p p' w a same reached h.0 h.1 h.2 h.3
 remakes_idly f k name size align (Some (Some old)) p p' w a idle same reached (inl kept) =
-    subst (λ (t : Bool). IsSame f p' (if t then keeps_block k name old w else replaces f k name old size align w)) (sym idle)
-    (remade_as f k name (Some old) (Said.Kept old.name name) p p' w a same reached kept.no_steps kept.cache kept.said_is kept.names_are)
+    rw idle (remade_as f k name (Some old) (Said.Kept old.name name) p p' w a same reached kept.no_steps kept.cache kept.said_is kept.names_are)
 remakes_idly f k name size align (Some (Some old)) p p' w a idle same reached (inr replaced) = absurd (false≢true (sym replaced.unsuited ∙ idle))

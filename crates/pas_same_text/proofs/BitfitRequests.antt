@@ -1,57 +1,33 @@
 -- A BIT-FIT REQUEST. Where it is served, the page that was searched for gets a deed and memory where it has none, and the lowest place on it is given. One that is refused
 -- changes no page, and nothing fits in the text either.
-use Rattle.std.proofs.Common.{◌≡◌, ℕ, ◌+◌, ◌*◌, ◌/◌, ◌%◌, ◌<◌, ◌≤◌, ◌==◌, Bool, true, false, if◌then◌else◌, List, [], ◌∷◌, ◌++◌, None, Some, Result, Ok, inl}
-use Rattle.std.proofs.Common.{refl, ap, sym, ◌∙◌, subst, arith, true≢false, eq-eqb, ◌&&◌, Err}
-use Rattle.std.proofs.lemmas.Bool.{false_from_ne_true, false≢true}
-use Rattle.pas_bits.specs.Runs.{in_run}
-use Rattle.pas_bits.proofs.Runs.{to_run}
-use Rattle.pas_profile.specs.{Directories.deed_word_of, Profiles.IsAdmitted, Profiles.IsDirectoryOf}
-use Rattle.pas_profile.specs.Requests.{route_in, room_in, is_shared, kind_of_route, directory_for}
-use Rattle.pas_profile.specs.declared.{directory.Directory.Directory, directory.Route.Route, event.Event.Event, event.NoRoom.NoRoom, name.Block.Block}
-use Rattle.pas_profile.specs.declared.{profile.Profile.Profile}
-use Rattle.pas_machine.specs.State.{deed_in}
-use Rattle.pas_steps.specs.{Agreement.Agreed, Desks.triples, Events.events_by, Evidence.Readings, Views.View, Views.has_right, Views.known_deed, Calls.Kept}
-use Rattle.pas_steps.specs.{Calls.Gained, Calls.now as has_now, Lists.part, Lists.Legal}
-use Rattle.pas_steps.specs.declared.step.Made.{Made}
-use Rattle.pas_steps.proofs.Parts.{part_of_own}
-use Rattle.pas_core.specs.{Rights.free_of_page, Fits.HasNoFit}
-use Rattle.pas_core.proofs.Nexts.{agreed_steps}
-use Rattle.pas_core.proofs.OneActor.{LendsNone, lends_none, legal_earlier, fit_entry}
-use Rattle.pas_rights.specs.Gives.{give_steps}
-use Rattle.pas_search.specs.{Kinds.searching, Searches.MaySearch, Allocates.IsGiven, Kinds.AreSearch, Kinds.AreQuiet, Telling.IsTrueReason}
-use Rattle.pas_bitfit.specs.Allocates.{run_for}
-use Rattle.pas_bitfit.specs.Runs.{Fits, NoneFits, IsLowestFit, fewer_runs, run_at, runs as run_choice}
-use Rattle.pas_cache.specs.{Contents.Cached, Locals.any_covers, Refusals.IsTrulyRefusedBy}
-use Rattle.pas_cache.specs.Serves.{ServesBitfit, wanted_for, IsTrueRefusal, no_fit_by}
-use Rattle.pas_cache.proofs.{Routes.bitfit_room, Routes.may_search_bitfit, Alone.truly_refused}
-use Rattle.pas_answers.specs.Answers.{Progress, named, Answer, after_answer, with_cache as with_cached}
-use Rattle.pas_same_text.specs.{State.World, Order.serves, Pages.is_unowned, Pages.is_offered, Acts.IsBetween, Searched.IsSearch, Acts.StaysSame}
-use Rattle.pas_same_text.specs.{Searched.FitsSame}
-use Rattle.pas_same_text.specs.Searches.{searched, readies, address_on, gives, some_of, refusal, refuses}
-use Rattle.pas_same_text.specs.Runs.{bitfit_of, lowest_place, gives_place, places}
-use Rattle.pas_same_text.specs.Same.{IsSame, HasSame, AreSameCaches, ArePagesSame}
-use Rattle.pas_same_text.proofs.{PlacesFit.bitfit_fits, PlacesFit.lowest_is, CacheLists.same_kept, SmallActs.after_with, StepMarks.free_shown}
-use Rattle.pas_same_text.proofs.{CacheLists.kept_at, Pieces.has_same, ReadyPages.shown, ReadyPages.shown_rest, SearchedPages.refused_same}
-use Rattle.pas_same_text.proofs.{SearchedPages.find_none, Tests.and_first, Tests.and_second, SearchedPages.refused_to, SmallActs.asks}
+use Rattle.std.proofs.Common.{◌≡◌, ℕ, ◌+◌, ◌*◌, ◌/◌, ◌%◌, ◌<◌, ◌≤◌, ◌==◌, true, false, List, [], ◌∷◌, ◌++◌, None, Some, Result, Ok, inl, refl, ap, sym, ◌∙◌}
+use Rattle.std.proofs.Common.{subst, arith, true≢false, eq-eqb, ◌&&◌, Err}
+use Rattle.pas_core.proofs.OneActor.{fit_entry, free_shown}
+use Rattle.pas_search.specs.Allocates.{IsGiven}
+use Rattle.pas_bitfit.specs.Runs.{fewer_runs, run_at, runs as run_choice}
+use Rattle.pas_cache.proofs.Routes.{bitfit_room, may_search_bitfit}
+use Rattle.pas_same_text.specs.Runs.{bitfit_of, gives_place, places}
+use Rattle.pas_same_text.proofs.{PlacesFit.bitfit_fits, PlacesFit.lowest_is, CacheLists.same_kept, CacheLists.kept_at, SmallActs.after_with, SmallActs.asks}
+use Rattle.pas_same_text.proofs.{Pieces.has_same, ReadyPages.shown, ReadyPages.shown_rest, SearchedPages.refused_same, SearchedPages.find_none}
+use Rattle.pas_same_text.proofs.{SearchedPages.refused_to}
 use Rattle.pas_same_text.proofs.GivenBlocks.{GivesBlock, page_chosen, page_ready, page_given}
 use Rattle.pas_same_text.proofs.CachedSlots.{HasAsked, answer_reached, by_route, request_taken}
-use Rattle.pas_trace.specs.EveryPlan.{IsThread}
-use Rattle.pas_trace.specs.declared.plan.What.TheVariants.{Alloc}
 use Rattle.pas_same_text.proofs.RestingPages.{open_unguarded, had_open, owned_is, no_word}
+use Rattle.pas_same_text.proofs.Common.{refused_told, IsRefused, true_from_ne_false, address_of, false_from_ne_true, false≢true, in_run, to_run, deed_word_of}
+use Rattle.pas_same_text.proofs.Common.{IsAdmitted, IsDirectoryOf, route_in, room_in, is_shared, kind_of_route, directory_for, Directory, Route, Event, NoRoom}
+use Rattle.pas_same_text.proofs.Common.{Block, Profile, deed_in, Agreed, triples, events_by, Readings, View, has_right, known_deed, part, Legal, Made}
+use Rattle.pas_same_text.proofs.Common.{part_of_own, free_of_page, HasNoFit, agreed_steps, LendsNone, lends_none, legal_earlier, give_steps, searching}
+use Rattle.pas_same_text.proofs.Common.{MaySearch, AreSearch, IsTrueReason, run_for, Fits, NoneFits, IsLowestFit, Cached, any_covers, ServesBitfit, wanted_for}
+use Rattle.pas_same_text.proofs.Common.{Progress, named, Answer, after_answer, with_cache as with_cached, World, serves, is_unowned, is_offered, IsBetween}
+use Rattle.pas_same_text.proofs.Common.{IsSearch, StaysSame, FitsSame, searched, readies, address_on, gives, some_of, refusal, refuses, lowest_place, IsSame}
+use Rattle.pas_same_text.proofs.Common.{HasSame, AreSameCaches, ArePagesSame, IsThread, Alloc}
 
 -- ---- where no page serves in the replay, none does in the text
 module _ (no_fit : Readings → Type 0) (f : Profile) (d : Directory) (p : Progress) (w : World) (fits : ℕ → List ℕ) (legal : Legal f p.list)
     (of : IsDirectoryOf f d) (pages : ArePagesSame f p.list w) (same : FitsSame no_fit f p w fits) (none : HasNoFit no_fit f d p.list) where
   -- In the text no page serves the request.
   unserved : (q : ℕ) → 1 ≤ q → q < 1 + f.pages → (is_offered w d q && some_of (fits q)) ≡ false
-  unserved q low high = false_from_ne_true _ (λ h. none.offered q record {
-    of_region = (low, omega (arith, high));
-    offered = sym (pages.offered q d of) ∙ and_first (is_offered w d q) (some_of (fits q)) h;
-    fits =
-        λ unfit. false≢true
-        (sym (same.none q (low, omega (arith, high)) (open_unguarded w d q (had_open w d q (and_first (is_offered w d q) (some_of (fits q)) h))) unfit)
-        ∙ and_second (is_offered w d q) (some_of (fits q)) h);
-  })
+  unserved q low high = search (arith, false_from_ne_true, false≢true, open_unguarded, had_open)
 
   -- In the text each page has an owner.
   owned : (q : ℕ) → 1 ≤ q → q < 1 + f.pages → is_unowned w q ≡ false
@@ -103,6 +79,10 @@ module _ (f : Profile) (k name heap size align : ℕ) (p : Progress) (a : Answer
   old : HasSame f p w
   old = has_same asked.same
 
+  -- The actor may search.
+  may : MaySearch d own
+  may = may_search_bitfit f own heap c.locals asked.served.rest.locals
+
   -- ---- ONE THAT IS SERVED
   module _ (block : Block) (is : asked.served.answer ≡ Ok block) where
     -- ---- the steps
@@ -146,10 +126,6 @@ module _ (f : Profile) (k name heap size align : ℕ) (p : Progress) (a : Answer
     agreed : Agreed f own sought
     agreed = agreed_steps f k p.list sought asked.valid legal_search
 
-    -- The actor may search.
-    may : MaySearch d own
-    may = may_search_bitfit f own heap c.locals asked.served.rest.locals
-
     -- ---- the block
     abbrev lowest : IsLowestFit (run_for bytes align) given.served.serves.readings given.found
     lowest = given.served.serves.chosen
@@ -158,30 +134,18 @@ module _ (f : Profile) (k name heap size align : ℕ) (p : Progress) (a : Answer
     es = events_by k own sought
 
     gives_it : GivesBlock f k p q w (bitfit.after ++ sought) es block (address_on given.page given.found) bytes heap
-    gives_it = record {
-      valid = asked.valid;
-      same = asked.same;
-      there = there;
-      list = refl;
-      events_are = given.events k own;
-      address_is = omega (arith, given.address_is);
-      room_is = omega (arith, given.room_is, sized.2);
-      heap_is = ap (λ (b : Block). b.heap) given.block_is;
-    }
+    gives_it =
+        let address_is : address_of block.name ≡ address_on given.page given.found = omega (arith, given.address_is) in
+        let room_is : block.room ≡ bytes = omega (arith, given.room_is, sized.2) in
+        assumption (asked, there, given.events k own, address_is, room_is, ap (λ (b : Block). b.heap) given.block_is)
 
     -- ---- what was free
     read_free : (b : ℕ) → b < 256 → in_run given.found n b ≡ true → free_of_page p.list given.page b ≡ true
-    read_free b small kept = by_bit (free_of_page p.list given.page b) refl
-      where
-        fewer_bits : (r fewer : Readings) → ((x : ℕ) → x < 256 → fewer x ≡ true → r x ≡ true) → r b ≡ false → fewer b ≡ false
-        fewer_bits r fewer less none = false_from_ne_true (fewer b) (λ h. true≢false (sym (less b small h) ∙ none))
-
-        by_bit : (t : Bool) → free_of_page p.list given.page b ≡ t → t ≡ true
-        by_bit true e = refl
-        by_bit false e =
-            absurd (fit_entry (λ r. r b ≡ false) f k p.list given.page given.served.shows.readings sought fewer_bits asked.valid legal_search lends
-            (λ none. true≢false (sym (given.served.shows.took b small kept) ∙ none)) given.served.shows.read
-            (given.served.shows.held.from own may agreed) e)
+    read_free b small kept = true_from_ne_false _ (λ e.
+        fit_entry (λ r. r b ≡ false) f k p.list given.page given.served.shows.readings sought
+        (λ r fewer less none. false_from_ne_true (fewer b) (λ h. true≢false (sym (less b small h) ∙ none))) asked.valid legal_search lends
+        (λ none. true≢false (sym (given.served.shows.took b small kept) ∙ none)) given.served.shows.read
+        (given.served.shows.held.from own may agreed) e)
 
     -- The run fits there.
     fits : Fits (run_for bytes align) (free_of_page p.list given.page) given.found
@@ -199,16 +163,9 @@ module _ (f : Profile) (k name heap size align : ℕ) (p : Progress) (a : Answer
 
     -- ---- the page
     is_search : IsSearch (NoneFits (run_for bytes align)) f d k p sought w (lowest_place w n (align / 16))
-    is_search = record {
-      valid = asked.valid;
-      directory = of;
-      fewer = fewer_runs (run_for bytes align);
-      legal = legal_search;
-      lends_none = lends;
-      rights = may.rights;
-      pages = asked.same.pages;
-      fits_same = bitfit_fits f p w asked.valid asked.before old bytes align some admitted.aligned;
-    }
+    is_search =
+        let fits_same = bitfit_fits f p w asked.valid asked.before old bytes align some admitted.aligned in
+        assumption (of, fewer_runs (run_for bytes align), legal_search, lends, may.rights, asked, fits_same)
 
     -- The text's search finds this page.
     found : searched f w d (lowest_place w n (align / 16)) ≡ Ok given.page
@@ -229,8 +186,7 @@ module _ (f : Profile) (k name heap size align : ℕ) (p : Progress) (a : Answer
 
     -- ---- ALL: the page is left after the block was given
     right : has_right (sought ++ own) given.page ≡ true
-    right = (given.served.keeps.from own may agreed).keeps.does.right given.page
-        ∙ ap (λ (t : Bool). has_now (if t then Gained else Kept) (has_right own given.page)) (eq-eqb given.page given.page refl)
+    right = cc ((given.served.keeps.from own may agreed).keeps.does.right given.page, eq-eqb given.page given.page refl)
 
     -- The actor knows the page's deed afterwards.
     knows : known_deed (part k q.list) given.page ≡ deed_word_of d
@@ -259,9 +215,9 @@ module _ (f : Profile) (k name heap size align : ℕ) (p : Progress) (a : Answer
     searches : AreSearch a.steps
     searches = subst AreSearch (sym steps_are) tried.searches
 
-    -- They make no event.
-    quiet : AreQuiet a.steps
-    quiet = subst AreQuiet (sym steps_are) tried.outcome.0.quiet
+    -- The search was refused.
+    refused : IsRefused (NoneFits (run_for bytes align)) f d a.steps room
+    refused = subst (λ (ms : List Made). IsRefused (NoneFits (run_for bytes align)) f d ms room) (sym steps_are) (rw home at tried.outcome.0)
 
     refused_then : after_answer p k a ≡ refused_to p k name a.steps room
     refused_then = answer_reached asked (Err room) is ∙ cc (tried.cache)
@@ -270,29 +226,18 @@ module _ (f : Profile) (k name heap size align : ℕ) (p : Progress) (a : Answer
     refused_there = subst (IsBetween f) refused_then asked.after
 
     -- nothing could serve before, and the reason is true after
-    truly : IsTrueRefusal f (wanted_for f heap size align) c.locals p.list (triples k a.steps ++ p.list) room
-    truly = subst (λ (r : Route). IsTrulyRefusedBy r f (wanted_for f heap size align) c.locals p.list (triples k a.steps ++ p.list) room) route
-        (truly_refused f heap size align k a.found c a.cache p.list a.steps room asked.valid admitted asked.served.rest refused_there.legal (by_route asked _ is _ refl))
+    told : HasNoFit (NoneFits (run_for bytes align)) f d p.list × HasNoFit (NoneFits (run_for bytes align)) f d (triples k a.steps ++ p.list)
+        × IsTrueReason f d (triples k a.steps ++ p.list) room
+    told = refused_told _ f d k p.list a.steps asked.valid of (fewer_runs (run_for bytes align)) refused_there.legal searches may room refused
 
-    -- The reason of the refusal is true.
-    reason : IsTrueReason f d (triples k a.steps ++ p.list) room
-    reason = subst (λ (e : Directory). IsTrueReason f e (triples k a.steps ++ p.list) room) home truly.reason
-
-    -- No page of the directory has a run that fits.
-    unfit : HasNoFit (NoneFits (run_for bytes align)) f d p.list
-    unfit = subst (λ (e : Directory). HasNoFit (NoneFits (run_for bytes align)) f e p.list) home
-        (subst (λ (r : Route). HasNoFit (no_fit_by r bytes align) f (directory_for f heap size align) p.list) route truly.entry_fit)
-
-    -- The text's search finds none either.
-    unfound : searched f w d (lowest_place w (bytes / 16) (align / 16)) ≡ Err (refusal f w d)
-    unfound = none_searched _ f d p w _ asked.before.legal of asked.same.pages (bitfit_fits f p w asked.valid asked.before old bytes align some admitted.aligned) unfit
-
+    -- The text refuses it, too.
     refused_text : serves f k name heap (route_in f size align) bytes align w ≡ refuses k name (refusal f w d) w
-    refused_text = ap (λ (r : Route). serves f k name heap r bytes align w) route ∙ ap (λ (r : Result ℕ NoRoom). places k name heap bytes align r w) unfound
+    refused_text = ap (λ (r : Route). serves f k name heap r bytes align w) route ∙ ap (λ (r : Result ℕ NoRoom). places k name heap bytes align r w)
+        (none_searched _ f d p w _ asked.before.legal of asked.same.pages (bitfit_fits f p w asked.valid asked.before old bytes align some admitted.aligned) told.0)
 
     bitfit_refused : IsSame f (after_answer p k a) (serves f k name heap (route_in f size align) bytes align w)
     bitfit_refused = rw (refused_text, refused_then)
-        (refused_same f k name p w d a.steps room asked.valid asked.thread of asked.before refused_there asked.same searches quiet reason)
+        (refused_same f k name p w d a.steps room asked.valid asked.thread of asked.before refused_there asked.same searches refused.quiet told.2)
 
   -- Whether it was served or refused, the text does the same.
   answered : (answer : Result Block NoRoom) → asked.served.answer ≡ answer

@@ -1,30 +1,17 @@
 -- Local allocators of a cache, in the text and in a replay: one is looked up, taken out, put at the end, and gives its lowest slot; and which grains the caches have.
-use Rattle.std.proofs.lemmas.{Bool.Decides.nat_tests, Option.same_Some, Option.none-some, List.flat_map_more, Grind.reverse_onto, List.Elements.All-head}
-use Rattle.std.proofs.lemmas.{List.Elements.All-tail, List.Folds.list_any-append}
 use Rattle.std.proofs.Common.{◌≡◌, ℕ, ◌<◌, ◌==◌, Bool, true, false, not, ◌&&◌, ◌||◌, if◌then◌else◌, List, [], ◌∷◌, ◌++◌, Option, Some, inl, inr, refl, ap, sym}
-use Rattle.std.proofs.Common.{◌∙◌, subst, arith, eq-eqb, eqb-true, ne_eqb, ◌-◌, ◌≤◌, ◌≢◌, length, None, append-nil, append_assoc, length-append, nat_lt}
-use Rattle.std.proofs.Common.{option_to_list, reverse, suc, take, zero, ◌+◌, ◌*◌, ◌⊎◌, All}
-use Rattle.std.proofs.lemmas.Bool.{eqb-false, false≢true, or_cases, or_left, false_from_ne_true, or_right}
-use Rattle.std.specs.List.{AllByRecursion, find, flat_map, list_any, filter}
-use Rattle.pas_bits.specs.{Masks.is_set, Masks.IsLowestSet, Runs.in_run}
-use Rattle.pas_segregated.specs.declared.slots.Slots.{Slots}
-use Rattle.pas_cache.specs.{Changes.IsWithoutSlot, Contents.Cached}
-use Rattle.pas_cache.specs.Locals.{local_for, others_than, is_for as is_for_slots, IsLocal, any_covers, covers}
-use Rattle.pas_same_text.specs.State.{Local, Cache, cache_in, with_cache}
-use Rattle.pas_same_text.specs.{Classes.is_for, Classes.others, Pages.is_cached}
-use Rattle.pas_same_text.specs.Same.{IsSameLocal, AreSameLocals, has_number, IsRising, IsSameCache, AreSameCaches}
-use Rattle.pas_profile.specs.declared.profile.Profile.{Profile}
-use Rattle.pas_trace.specs.EveryPlan.{IsThread}
-use Rattle.pas_answers.specs.Answers.{Caches, with_cache as with_cached}
-use Rattle.pas_free_log.specs.Flushes.{Settled, noted_after, noted_for}
-use Rattle.pas_free_log.specs.declared.noting.EndedRun.{EndedRun}
-use Rattle.pas_bits.proofs.Runs.{run_of, to_run}
-use Rattle.pas_profile.specs.Classes.{class_grains, IsClass}
-use Rattle.pas_steps.proofs.Sets.{same_truth}
-use Rattle.pas_steps.specs.Views.{View}
-use Rattle.pas_segregated.specs.Masks.{AreStarts, start_of}
-use Rattle.pas_segregated.proofs.Starts.{start_at, start_below}
+use Rattle.std.proofs.Common.{◌∙◌, subst, arith, eq-eqb, eqb-true, ne_eqb, ◌-◌, ◌≤◌, ◌≢◌, length, None, append-nil, nat_lt, option_to_list, suc, take, zero}
+use Rattle.std.proofs.Common.{◌+◌, ◌*◌, ◌⊎◌, All}
+use Rattle.pas_cache.specs.Locals.{is_for as is_for_slots}
+use Rattle.pas_same_text.specs.State.{with_cache}
+use Rattle.pas_segregated.specs.Masks.{AreStarts}
 use Rattle.pas_same_text.proofs.Tests.{IsFound, found, passed, any_filtered, filtered_any, on_page}
+use Rattle.pas_same_text.proofs.Common.{take_none, nat_tests, same_Some, none-some, reverse_onto, All-head, All-tail, list_any-append, eqb-false, false≢true}
+use Rattle.pas_same_text.proofs.Common.{or_cases, or_left, false_from_ne_true, or_right, AllByRecursion, find, flat_map, list_any, filter, is_set, IsLowestSet}
+use Rattle.pas_same_text.proofs.Common.{in_run, Slots, IsWithoutSlot, Cached, local_for, others_than, IsLocal, any_covers, covers, Local, Cache, cache_in}
+use Rattle.pas_same_text.proofs.Common.{is_for, others, is_cached, IsSameLocal, AreSameLocals, has_number, IsRising, IsSameCache, AreSameCaches, Profile}
+use Rattle.pas_same_text.proofs.Common.{IsThread, Caches, with_cache as with_cached, Settled, noted_after, noted_for, EndedRun, run_of, to_run, class_grains}
+use Rattle.pas_same_text.proofs.Common.{IsClass, same_truth, View, start_of, start_at, start_below}
 
 -- ---- looked up
 pub for_same : (heap class : ℕ) (s : Slots) (l : Local) → IsSameLocal s l → is_for heap class l ≡ is_for_slots heap class s
@@ -85,11 +72,6 @@ rest_at n g more true e all =
     none ∙ ap (λ (t : Bool). not t && (true || has_number more g)) (sym (eq-eqb g n (sym is)))
 rest_at n g more false e all = search (arith, eqb-false, ne_eqb)
 
--- what is left without its head has the bits that are left without the lowest
-rest_same : (s s' : Slots) (n start : ℕ) (more : List ℕ) → ((g : ℕ) → has_number (n ∷ more) g ≡ is_set s.starts g) → IsRising (n ∷ more) → n ≡ start
-    → IsWithoutSlot s s' start → (g : ℕ) → has_number more g ≡ is_set s'.starts g
-rest_same s s' n start more slots rising is without g = search (arith, rest_at)
-
 -- its lowest slot is given: the text has it at the head, and the others are left
 pub slot_given : (s s' : Slots) (l : Local) (n start : ℕ) (more : List ℕ) → IsSameLocal s l → l.slots ≡ n ∷ more → IsLowestSet s.starts 0 start
     → IsWithoutSlot s s' start → (n ≡ start) × IsSameLocal s' (record l { slots = more })
@@ -98,7 +80,7 @@ slot_given s s' l n start more same is lowest without =
     let rising : IsRising (n ∷ more) = subst IsRising is same.rising in
     let head : n ≡ start = head_lowest s n start more bits rising lowest in (
       head,
-      search (arith, rest_same),
+      search (arith, rest_at),
     )
 
 -- ==== Lists of caches, of which one becomes another.
@@ -168,31 +150,6 @@ with_own [] k = refl
 with_own (c ∷ cs) k = let ih = with_own cs (k - 1) in grind (arith, ih)
 
 -- ==== WHAT A CACHE NOTES of the runs that ended.
-take_both : {A : Type 0} (k : ℕ) (xs ys : List A) → take k xs ++ take (k - length (take k xs)) ys ≡ take k (xs ++ ys)
-take_both zero xs ys = refl
-take_both (suc k) [] ys = ap (λ n. take n ys) {y = suc k} (omega arith)
-take_both (suc k) (x ∷ xs) ys = ap (λ n. x ∷ take k xs ++ take n ys) (omega arith) ∙ ap (λ zs. x ∷ zs) (take_both k xs ys)
-
--- The runs that were noted for one entry more are those before and its own, as far as there is room.
-pub noted_more : (es : List EndedRun) (s : Settled) (settled : List Settled)
-    → noted_after es (s ∷ settled) ≡ noted_after es settled ++ take (64 - length (noted_after es settled)) (noted_for s)
-noted_more es s settled =
-    let xs : List EndedRun = flat_map noted_for (reverse settled) in
-    let n : ℕ = 64 - length es in
-    ap (λ (ys : List EndedRun). es ++ take n ys) (ap (flat_map noted_for) (reverse_onto settled s []) ∙ sym (flat_map_more noted_for [] (reverse settled) s))
-    ∙ (ap (λ (ys : List EndedRun). es ++ ys) (sym (take_both n xs (noted_for s)))
-    ∙ (sym (append_assoc es (take n xs) (take (n - length (take n xs)) (noted_for s)))
-    ∙ ap (λ (m : ℕ). (es ++ take n xs) ++ take m (noted_for s)) (omega (arith, length-append es (take n xs)))))
-
--- Of no things none are taken.
--- by cases on the number
-pub take_none : {A : Type 0} (n : ℕ) → take {A = A} n [] ≡ []
-take_none n = grind arith
-
--- Without an entry the noted runs are as they were.
-pub noted_start : (es : List EndedRun) → noted_after es [] ≡ es
-noted_start es = ap (λ (xs : List EndedRun). es ++ xs) (take_none (64 - length es)) ∙ append-nil es
-
 -- At most one run is noted where there is room, and none where there is none.
 pub room_for : (noted : List EndedRun) (o : Option EndedRun) (t : Bool) → nat_lt (length noted) 64 ≡ t
     → (if t then noted ++ option_to_list o else noted) ≡ noted ++ take (64 - length noted) (option_to_list o)

@@ -1,35 +1,19 @@
 -- A REQUEST THAT IS ASKED in a replay: what it comes to by its route, and the replay after it.
 use Rattle.std.proofs.Common.{arith, ◌≡◌, ℕ, ◌∷◌, Result, ◌≤◌, length, ◌+◌, ◌*◌, ◌<◌, ◌==◌, true, List, [], ◌++◌, None, Some, refl, ap, sym, ◌∙◌, subst}
 use Rattle.std.proofs.Common.{eqb-true}
-use Rattle.pas_profile.specs.{Profiles.IsValid, Requests.route_in, Requests.room_in, Blocks.address_of, Classes.class_size, Directories.number_of}
-use Rattle.pas_profile.specs.{Profiles.IsDirectoryOf, Requests.directory_for}
-use Rattle.pas_profile.specs.declared.{directory.Route.Route, event.NoRoom.NoRoom, name.Block.Block, profile.Profile.Profile, directory.Directory.Directory}
-use Rattle.pas_profile.specs.declared.{event.Event.Event, word.Word.Word}
-use Rattle.pas_steps.specs.{Lists.part, Desks.made}
-use Rattle.pas_cache.specs.Serves.{ServesBy, wanted_for, ServesClass, IsObtained, filling_in}
-use Rattle.pas_trace.specs.EveryPlan.{IsThread}
-use Rattle.pas_trace.specs.declared.{plan.What.TheVariants.Alloc, item.Request.Request}
-use Rattle.pas_answers.specs.Answers.{Progress, Answer, named, having, IsServed, after_answer, said_of_request, block_of as block_answered, Named}
-use Rattle.pas_same_text.specs.State.{World, Local, cache_of, locals_of}
-use Rattle.pas_same_text.specs.{Order.serves, Requests.IsAsked, Searches.address_on, Pages.is_free, Pages.is_offered}
-use Rattle.pas_same_text.specs.Same.{IsSame, HasSame, IsSameCache, IsSameLocal, has_number}
-use Rattle.pas_same_text.specs.Acts.{IsBetween, IsTaken, StaysSameWhere, HasCachedSlot}
-use Rattle.pas_same_text.proofs.{SmallActs.after_with, SmallActs.asks, FreeGrains.free_same, GivenBack.each_same, SmallActs.records_next, Tests.and_first}
+use Rattle.pas_same_text.proofs.Common.{IsValid, route_in, room_in, address_of, class_size, number_of, IsDirectoryOf, directory_for, Route, NoRoom, Block}
+use Rattle.pas_same_text.proofs.Common.{Profile, Directory, Event, Word, part, made, ServesBy, wanted_for, ServesClass, IsObtained, filling_in, IsThread, Alloc}
+use Rattle.pas_same_text.proofs.Common.{Request, Progress, Answer, named, having, IsServed, after_answer, said_of_request, block_of as block_answered, Named}
+use Rattle.pas_same_text.proofs.Common.{World, Local, cache_of, locals_of, serves, IsAsked, address_on, is_free, is_offered, IsSame, HasSame, IsSameCache}
+use Rattle.pas_same_text.proofs.Common.{IsSameLocal, has_number, IsBetween, IsTaken, StaysSameWhere, false≢true, none-some, find, HasMember, IsLowestSet}
+use Rattle.pas_same_text.proofs.Common.{gives_in, Made, Look, Give, eligible_bit, runs, Slots, GivesSlot, IsWithoutSlot, Cached, local_for, others_than, Record}
+use Rattle.pas_same_text.proofs.Common.{is_for, others, gives_first, serves_class, same_truth}
+use Rattle.pas_same_text.specs.Acts.{HasCachedSlot}
+use Rattle.pas_same_text.proofs.{SmallActs.after_with, SmallActs.asks, SmallActs.records_next, FreeGrains.free_same, GivenBack.each_same, Tests.and_first}
 use Rattle.pas_same_text.proofs.{Tests.and_second}
-use Rattle.std.proofs.lemmas.{Bool.false≢true, Option.none-some}
-use Rattle.std.specs.List.{find}
-use Rattle.pas_bits.specs.Masks.{HasMember, IsLowestSet}
-use Rattle.pas_machine.specs.State.{gives_in}
-use Rattle.pas_steps.specs.declared.step.{Made.Made, Step.TheVariants.Look, Step.TheVariants.Give}
-use Rattle.pas_core.specs.Rights.{eligible_bit}
-use Rattle.pas_core.proofs.MachineRuns.{runs}
-use Rattle.pas_segregated.specs.declared.slots.Slots.{Slots}
-use Rattle.pas_cache.specs.{Changes.GivesSlot, Changes.IsWithoutSlot, Contents.Cached, Locals.local_for, Locals.others_than, Locals.is_for as is_for_slots}
-use Rattle.pas_report.specs.declared.record.Record.{Record}
-use Rattle.pas_same_text.specs.Classes.{is_for, others, gives_first, serves_class}
+use Rattle.pas_cache.specs.Locals.{is_for as is_for_slots}
 use Rattle.pas_same_text.proofs.CacheLists.{same_with, Finds, found_same, others_same, last_same, slot_given}
 use Rattle.pas_same_text.proofs.RestingPages.{is_open, had_open, bit_offered, offered_bit}
-use Rattle.pas_steps.proofs.Sets.{same_truth}
 
 -- Thread k asks for r after p, where the text's state is w, and is answered by a. All actors are at rest before and after it.
 pub record HasAsked (f : Profile) (k : ℕ) (r : Request) (p : Progress) (a : Answer) (w : World) : Type 0 where
@@ -51,8 +35,7 @@ module _ {f : Profile} {k : ℕ} {r : Request} {p : Progress} {a : Answer} {w : 
   -- The replay after it says what the answer says, and the name stands for what was given.
   -- by what is said and named for the answer
   pub answer_reached : after_answer p k a ≡ after_with p k a.steps (said_of_request r.name answer) (named r.name (block_answered answer) ∷ p.names) a.cache
-  answer_reached =
-      search arith
+  answer_reached = search arith
 
 -- So much is known where all is.
 pub has_asked : {f : Profile} {k : ℕ} {r : Request} {p : Progress} {a : Answer} {w : World} → IsAsked f k r p a w → HasAsked f k r p a w
@@ -65,8 +48,7 @@ pub request_taken : (f : Profile) (line k name heap size align : ℕ) → IsThre
     → (HasAsked f k (record { name = name; heap = heap; size = size; align = align }) p taken.advances.0 w
     → IsSame f (after_answer p k taken.advances.0) (serves f k name heap (route_in f size align) (room_in f size align) align w))
     → IsSame f p' (serves f k name heap (route_in f size align) (room_in f size align) align w)
-request_taken f line k name heap size align thread p p' w taken answers =
-    search arith
+request_taken f line k name heap size align thread p p' w taken answers = search arith
 
 -- ==== A request of a class for which the thread's cache has a slot.
 -- ---- blocks by their parts
@@ -77,8 +59,7 @@ block_of address turn room heap = record { name = record { address = record { 0 
 -- by its four parts
 block_same : (block : Block) (address turn room heap : ℕ) → address_of block.name ≡ address → block.name.turn ≡ turn → block.room ≡ room → block.heap ≡ heap
     → block ≡ block_of address turn room heap
-block_same block address turn room heap a t r h =
-    search arith
+block_same block address turn room heap a t r h = search arith
 
 -- ---- the two steps
 abbrev give_steps : Block → ℕ → ℕ → ℕ → ℕ → List Made
@@ -133,12 +114,9 @@ module _ (f : Profile) (k name : ℕ) (p : Progress) (w : World) (s s' : Slots) 
   abbrev to : World
   to = gives_first k name l (n ∷ more) w
 
+  -- the block is one more, and the cache has one slot less, on both sides
   has_same : HasSame f (given_to p k name block answer page start word c') to
-  has_same = assumption (
-    ap (λ (b : Block). Event.Give k b ∷ w.events) (sym block_is) ∙ ap (λ (es : List Event). Event.Give k block ∷ es) g.same.pages.events,
-    ap (λ (bs : List Block). text_block w l n ∷ bs) g.same.pages.live,
-    same_with f p.caches w.caches k c' (record (cache_of w k) { locals = text_locals w k l more }) g.thread g.listed g.same.caches cache_same,
-  )
+  has_same = search (arith, block_is, same_with, cache_same)
 
   before_same : HasSame f p w
   before_same = record { events = g.same.pages.events; live = g.same.pages.live; caches = g.same.caches; guards = g.same.guards }
@@ -158,16 +136,11 @@ module _ (f : Profile) (k name : ℕ) (p : Progress) (w : World) (s s' : Slots) 
       (λ h. bit_offered f _ to g.valid g.after has_same q d of h (open_kept d q ∙ had_open w d q (g.same.pages.offered q d of ∙ h)))
 
   given_same : IsSame f (given_to p k name block answer page start word c') to
-  given_same = record {
-    pages = record { events = has_same.events; live = has_same.live; hinted = g.same.pages.hinted; offered = offered_kept };
-    caches = has_same.caches;
-    guards = g.same.guards;
-    names = ap (λ (b : Block). named name (Some b) ∷ w.names) (sym block_is) ∙ ap (λ (ns : List Named). named name (Some block) ∷ ns) g.same.names;
-    records = ap (λ (b : Block). p.records ++ Record.Event (Event.Give k b) ∷ []) block_is
-        ∙ records_next p.records w.records (Record.Event (Event.Give k (text_block w l n))) g.same.records;
-    epoch = g.same.epoch;
-    read = g.same.read;
-  }
+  given_same =
+      let names = ap (λ (b : Block). named name (Some b) ∷ w.names) (sym block_is) ∙ ap (λ (ns : List Named). named name (Some block) ∷ ns) g.same.names in
+      let records = ap (λ (b : Block). p.records ++ Record.Event (Event.Give k b) ∷ []) block_is
+      ∙ records_next p.records w.records (Record.Event (Event.Give k (text_block w l n))) g.same.records in
+      assumption (has_same, g.same.pages.hinted, offered_kept, names, records, g.same)
 
 -- ---- the request
 -- a list with a number has a first one
@@ -215,8 +188,7 @@ to_given f k name heap class p p' w s valid is listed between after same there m
     let g = o.gives in
     let reached : p' ≡ given_to p k name o.block g.answer s.page g.start g.word o.cache =
     o.after ∙ ap (λ (ms : List Made). after_with p k ms None (named name (Some o.block) ∷ p.names) o.cache) g.steps_are in
-    let kept : o.cache ≡ record (p.caches k) { locals = others_than s.heap s.class (p.caches k).locals ++ o.rest ∷ [] } =
-    cc in
+    let kept : o.cache ≡ record (p.caches k) { locals = others_than s.heap s.class (p.caches k).locals ++ o.rest ∷ [] } = cc in
     let given : Given f k name p w s o.rest l h.head h.more o.block g.answer s.page g.start g.word o.cache = assumption (subst (IsBetween f) reached after) in
     rw (served_text f k name heap class w l h.head h.more found.is h.is, reached)
     (given_same f k name p w s o.rest l h.head h.more o.block g.answer s.page g.start g.word o.cache given)
@@ -242,8 +214,7 @@ cached_answered f k name heap size align class p a w listed route has asked =
     by_route asked asked.served.answer refl (Route.Class class) route in
     let o : Served f k name heap class p (after_answer p k a) w has.0 =
     served_by f k name heap size align class p _ w has.0 has.1 has.2 a asked.served refl sv sv.locals.obtained in
-    subst (λ (r : Route). IsSame f (after_answer p k a) (serves f k name heap r (room_in f size align) align w)) (sym route)
-    (to_given f k name heap class p _ w has.0 asked.valid asked.thread listed asked.before asked.after asked.same has.1 has.2 o)
+    rw route (to_given f k name heap class p _ w has.0 asked.valid asked.thread listed asked.before asked.after asked.same has.1 has.2 o)
 
 -- A request of a class for which the cache has a slot leads the text to the replay's state.
 pub cached_same : (f : Profile) (line k name heap size align class : ℕ) → IsThread f k → route_in f size align ≡ Route.Class class

@@ -2,43 +2,28 @@
 -- slots are taken, the lowest of them is given, and the others are cached.
 use Rattle.std.proofs.Common.{length, ◌≡◌, ℕ, ◌+◌, ◌/◌, ◌%◌, ◌≤◌, ◌==◌, Bool, true, false, not, if◌then◌else◌, List, [], ◌∷◌, ◌++◌, None, Some, Result, Ok, ◌⊎◌}
 use Rattle.std.proofs.Common.{inl, inr, refl, ap, sym, ◌∙◌, subst, append_assoc, arith, append-nil, true≢false, eq-eqb, eqb-true, Err}
-use Rattle.std.proofs.lemmas.{Bool.false≢true, Bool.or_cases, Bool.not-false, List.Folds.list_any-append}
-use Rattle.pas_bits.specs.Masks.{is_set}
-use Rattle.pas_profile.specs.{Classes.class_size, Classes.class_grains, Classes.IsSlotStart, Directories.deed_word_of, Profiles.IsAdmitted}
-use Rattle.pas_profile.specs.Requests.{class_home, is_shared, kind_of_class, route_in, room_in}
-use Rattle.pas_profile.specs.declared.{directory.Directory.Directory, event.Event.Event, event.NoRoom.NoRoom, name.Block.Block, profile.Profile.Profile}
-use Rattle.pas_profile.specs.declared.{directory.Route.Route}
-use Rattle.pas_profile.proofs.Sizes.{class_grains_positive, usable_grains_le, slot_end}
-use Rattle.pas_steps.specs.{Desks.triples, Events.events_by, Evidence.ShowsHere, Past.Once, Past.Always, Views.View, Views.has_right, Views.known_deed}
-use Rattle.pas_steps.specs.{Lists.Whole, Lists.part, Lists.Legal}
-use Rattle.pas_steps.specs.Calls.{Kept, Gained, Lost, now as has_now}
-use Rattle.pas_steps.specs.Kinds.{Only, Giving, LookLife, returning}
-use Rattle.pas_steps.specs.declared.step.Made.{Made}
-use Rattle.pas_steps.proofs.{Frames.right_of_own, Parts.part_of_own, Apart.deeds_same, Apart.events_same}
-use Rattle.pas_core.specs.Rights.{free_of_page}
-use Rattle.pas_core.proofs.{Nexts.agreed_steps, OneActor.lends_none, OneActor.legal_earlier}
-use Rattle.pas_search.specs.{Kinds.KeepsMarks, Kinds.searching, Searches.MaySearch}
-use Rattle.pas_segregated.specs.{Masks.start_of, Refills.GivesSlots, Refills.GetsSlots, Stops.LeavesWhere, Takes.NoSlot, Takes.fewer_slots}
-use Rattle.pas_segregated.specs.declared.slots.Slots.{Slots}
-use Rattle.pas_cache.specs.{Changes.GivesSlot, Contents.Cached, Locals.any_covers, Locals.covers}
-use Rattle.pas_cache.specs.Serves.{filling_in, took_in, IsRefill, IsObtained, IsAnswered, ServesClass}
-use Rattle.pas_answers.specs.Answers.{Progress, named, Named, Answer, after_answer}
-use Rattle.pas_same_text.specs.State.{Cache, World, Local, cache_of}
-use Rattle.pas_partial.specs.Rows.{IsFreeSlot}
-use Rattle.pas_same_text.specs.{Pages.is_guarded, Acts.IsBetween, Searched.IsSearch, Order.serves, Acts.StaysSame}
-use Rattle.pas_same_text.specs.Searches.{some_of, searched, readies, address_on}
-use Rattle.pas_same_text.specs.Classes.{slots_for, gives_first, local_on, takes_page, fetches, serves_class}
-use Rattle.pas_same_text.specs.Same.{IsSame, HasSame, IsSameCache, IsSameLocal, AreSameLocals, AreSameCaches, has_number}
-use Rattle.pas_same_text.proofs.{PlacesFit.class_fits, PlacesFit.read_unguarded, SmallActs.after_with, MadePlace.all_left, TakenSince.shared_row}
-use Rattle.pas_same_text.proofs.{TakenSince.right_kept, TakenSince.exclusive_free, TakenSlots.all_taken, TakenSlots.row_taken, TakenSlots.slots_rise}
-use Rattle.pas_same_text.proofs.{Tests.and_first, Tests.or_none, Pieces.has_same, ReadyPages.shown, ReadyPages.shown_rest, OneUp.up_to, SmallActs.asks}
-use Rattle.pas_same_text.proofs.FetchedClasses.{HasPlace, may_fetch, keeps_unshared, class_served_by, fetched_so, class_refused, IsFetched, with_place}
-use Rattle.pas_same_text.proofs.FetchedClasses.{place_fetched, text_fetched, fetch_between, fetch_carried}
+use Rattle.pas_steps.proofs.Frames.{right_of_own}
+use Rattle.pas_segregated.specs.Refills.{GivesSlots, GetsSlots}
+use Rattle.pas_cache.specs.Serves.{took_in}
+use Rattle.pas_same_text.specs.Classes.{local_on}
+use Rattle.pas_same_text.proofs.{PlacesFit.class_fits, PlacesFit.read_unguarded, SmallActs.after_with, SmallActs.asks, MadePlace.all_left}
+use Rattle.pas_same_text.proofs.{TakenSince.shared_row, TakenSince.right_kept, TakenSince.exclusive_free, TakenSlots.all_taken, TakenSlots.row_taken}
+use Rattle.pas_same_text.proofs.{TakenSlots.slots_rise, Tests.and_first, Tests.or_none, Pieces.has_same, ReadyPages.shown, ReadyPages.shown_rest, OneUp.up_to}
+use Rattle.pas_same_text.proofs.FetchedClasses.{HasPlace, may_fetch, class_served_by, fetched_so, class_refused, IsFetched, with_place, place_fetched}
+use Rattle.pas_same_text.proofs.FetchedClasses.{text_fetched, fetch_between, fetch_carried}
 use Rattle.pas_same_text.proofs.CachedSlots.{text_locals, HasHead, head_of, cached_answered, HasAsked, answer_reached, request_taken}
 use Rattle.pas_same_text.proofs.GivenBlocks.{GivesBlock, page_chosen, page_ready, page_given}
 use Rattle.pas_same_text.proofs.CacheLists.{same_with, others_same, last_same, slot_given, same_own}
-use Rattle.pas_trace.specs.EveryPlan.{IsThread}
-use Rattle.pas_trace.specs.declared.plan.What.TheVariants.{Alloc}
+use Rattle.pas_cache.proofs.Obtained.{kept_by}
+use Rattle.pas_same_text.proofs.Common.{LendsNone, address_of, false≢true, or_cases, not-false, list_any-append, is_set, class_size, class_grains, IsSlotStart}
+use Rattle.pas_same_text.proofs.Common.{deed_word_of, IsAdmitted, class_home, is_shared, kind_of_class, route_in, room_in, Directory, Event, NoRoom, Block}
+use Rattle.pas_same_text.proofs.Common.{Profile, Route, class_grains_positive, usable_grains_le, slot_end, triples, events_by, ShowsHere, Once, Always, View}
+use Rattle.pas_same_text.proofs.Common.{has_right, known_deed, Whole, part, Legal, Only, Giving, LookLife, returning, Made, part_of_own, events_same}
+use Rattle.pas_same_text.proofs.Common.{free_of_page, agreed_steps, lends_none, legal_earlier, KeepsMarks, searching, MaySearch, start_of, LeavesWhere, NoSlot}
+use Rattle.pas_same_text.proofs.Common.{fewer_slots, Slots, GivesSlot, Cached, any_covers, covers, filling_in, IsRefill, IsObtained, IsAnswered, ServesClass}
+use Rattle.pas_same_text.proofs.Common.{Progress, named, Named, Answer, after_answer, Cache, World, Local, cache_of, IsFreeSlot, is_guarded, IsBetween}
+use Rattle.pas_same_text.proofs.Common.{IsSearch, serves, StaysSame, some_of, searched, readies, address_on, slots_for, gives_first, takes_page, fetches}
+use Rattle.pas_same_text.proofs.Common.{serves_class, IsSame, HasSame, IsSameCache, IsSameLocal, AreSameLocals, AreSameCaches, has_number, IsThread, Alloc}
 
 -- the replay after the block was given of slots that were fetched, of which these are left
 abbrev pub fetched_to : Progress → ℕ → ℕ → List Made → Slots → Block → Progress
@@ -114,15 +99,15 @@ module _ (f : Profile) (k name heap class : ℕ) (p : Progress) (w : World) (has
 
   -- The right is kept just where the heap isn't shared.
   kept : slots.right ≡ not shared
-  kept = keeps_unshared slots.right shared slots.class class (ap (λ (e : Directory). e.kind) got.home)
+  kept = kept_by slots.right shared slots.class class (ap (λ (e : Directory). e.kind) got.home)
 
   -- the page has a free slot, so no guard has it
   slot_unguarded : (s : ℕ) → IsFreeSlot class (free_of_page p.list slots.page) s → is_guarded w slots.page ≡ false
   slot_unguarded s free =
       let within = free.0.within in
-      let most = usable_grains_le class has.known in
-      let some = class_grains_positive class has.known in
-      read_unguarded f p w has.valid has.between old class has.known slots.page s (omega (arith, within, most, some)) (free.1 s (omega arith) (omega (arith, some)))
+      let most = usable_grains_le class has.filling.class in
+      let some = class_grains_positive class has.filling.class in
+      read_unguarded f p w has.valid has.between old class has.filling.class slots.page s (omega (arith, within, most, some)) (free.1 s (omega arith) (omega (arith, some)))
 
   unguarded_by : (t : Bool) → took_in (kind_of_class t class) class slots.page sought slots.starts → is_guarded w slots.page ≡ false
   unguarded_by false took =
@@ -135,9 +120,9 @@ module _ (f : Profile) (k name heap class : ℕ) (p : Progress) (w : World) (has
 
   taken_by : (t : Bool) → took_in (kind_of_class t class) class slots.page sought slots.starts → (s : ℕ)
       → has_number (slots_for t w class slots.page) s ≡ is_set slots.starts s
-  taken_by false took = all_taken f p w has.valid has.between old class has.known slots.page slots.starts unguarded
+  taken_by false took = all_taken f p w has.valid has.between old class has.filling.class slots.page slots.starts unguarded
       (exclusive_free f k p.list class slots.page sought slots.starts legal_search refill.searches marks took)
-  taken_by true took = row_taken f p w has.valid has.between old class has.known slots.page slots.starts unguarded
+  taken_by true took = row_taken f p w has.valid has.between old class has.filling.class slots.page slots.starts unguarded
       (shared_row f k p.list class slots.page sought slots.starts legal_search refill.searches took)
 
   abbrev local : Local
@@ -149,7 +134,7 @@ module _ (f : Profile) (k name heap class : ℕ) (p : Progress) (w : World) (has
     sym got.class_is,
     sym kept,
     taken_by shared got.took,
-    slots_rise f p w has.valid has.between old class has.known slots.page slots.starts unguarded shared,
+    slots_rise f p w has.valid has.between old class has.filling.class slots.page slots.starts unguarded shared,
   )
 
   head : HasHead local.slots
@@ -161,16 +146,9 @@ module _ (f : Profile) (k name heap class : ℕ) (p : Progress) (w : World) (has
 
   -- ---- the page
   is_search : IsSearch (NoSlot class) f d k p sought w (slots_for shared w class)
-  is_search = record {
-    valid = has.valid;
-    directory = has.directory;
-    fewer = fewer_slots class;
-    legal = legal_search;
-    lends_none = lends_none searching refl sought refill.searches.kinds;
-    rights = may.rights;
-    pages = has.same.pages;
-    fits_same = class_fits f p w has.valid has.between old class has.known shared;
-  }
+  is_search =
+      let lends : LendsNone sought = lends_none searching refl sought refill.searches.kinds in
+      assumption (has, fewer_slots class, legal_search, lends, may.rights, class_fits f p w has.valid has.between old class has.filling.class shared)
 
   -- The page has a free slot at entry.
   fit : NoSlot class (free_of_page p.list slots.page) → ⊥
@@ -181,29 +159,22 @@ module _ (f : Profile) (k name heap class : ℕ) (p : Progress) (w : World) (has
   es = events_by k own sought
 
   events_are : events_by k own (given ++ ys) ≡ Event.Give k block ∷ es
-  events_are =
-      cc (events_same returning refl k own refill.after sought got.after_kinds)
+  events_are = cc (events_same returning refl k own refill.after sought got.after_kinds)
 
   -- ---- the block
   some : 1 ≤ class_grains class
-  some = class_grains_positive class has.known
+  some = class_grains_positive class has.filling.class
 
   fits_page : head.head + class_grains class ≤ 256
   fits_page =
-      let within = slot_end class gives.start has.known (subst (λ (x : ℕ). IsSlotStart x gives.start) got.class_is (got.starts gives.start gives.lowest.set)) in
+      let within = slot_end class gives.start has.filling.class (subst (λ (x : ℕ). IsSlotStart x gives.start) got.class_is (got.starts gives.start gives.lowest.set)) in
       omega (arith, slot.0, within)
 
   gives_it : GivesBlock f k p q w steps es block (address_on slots.page head.head) (class_size class) heap
-  gives_it = record {
-    valid = has.valid;
-    same = has.same;
-    there = there;
-    list = refl;
-    events_are = ap (events_by k own) (sym steps_are) ∙ events_are;
-    address_is = omega (arith, gives.address, slot.0);
-    room_is = gives.room ∙ ap class_size got.class_is;
-    heap_is = gives.heap ∙ of_heap;
-  }
+  gives_it =
+      let address_is : address_of block.name ≡ address_on slots.page head.head = omega (arith, gives.address, slot.0) in
+      let shown = ap (events_by k own) (sym steps_are) ∙ events_are in
+      assumption (has, there, shown, address_is, gives.room ∙ ap class_size got.class_is, gives.heap ∙ of_heap)
 
   -- ---- the text
   abbrev v : World
@@ -230,23 +201,18 @@ module _ (f : Profile) (k name heap class : ℕ) (p : Progress) (w : World) (has
   own_cache = record (cache_of (shown es w) k) { locals = text_locals (shown es w) k local head.more }
 
   cache_same : IsSameCache new own_cache
-  cache_same = let was = caches_shown.each k has.thread in record { locals = locals_same; log = was.log; noted = was.noted; began = was.began }
+  cache_same = let was = caches_shown.each k has.thread in record { locals = locals_same; log = was.log; noted = was.noted; idle_since = was.idle_since }
 
   -- ---- what was used: the page
   cached_at : (j g : ℕ) (t : Bool) → (j == k) ≡ t → any_covers (if t then new else p.caches j).locals g ≡ true
       → (any_covers (p.caches j).locals g ≡ true) ⊎ ((slots.page == g / 256) ≡ true)
-  cached_at j g true e h = elim (or_cases _ _ (sym (list_any-append (λ s. covers s g) c.locals (rest ∷ [])) ∙ h)) [
-    | inl was ↦ inl (ap (λ (i : ℕ). any_covers (p.caches i).locals g) (eqb-true j k e) ∙ was)
-    | inr own ↦ inr (cc (and_first (rest.page == g / 256) (is_set rest.starts (start_of rest.class (g % 256))) (or_none (covers rest g) own)))
-  ]
+  cached_at j g true e h = grind (arith, or_cases, list_any-append, eqb-true)
   cached_at j g false e h = inl h
 
   -- ---- a shared page is left before the block is given, and an exclusive one is kept
   knows : known_deed (part k q.list) slots.page ≡ deed_word_of d
   knows =
-      ap (λ (u : View). known_deed u slots.page) (part_of_own k steps p.list
-      ∙ (ap (λ (ms : List Made). ms ++ own) (append_assoc given refill.after sought) ∙ append_assoc given (refill.after ++ sought) own))
-      ∙ (deeds_same (Giving ∷ LookLife ∷ []) refl slots.page given ((refill.after ++ sought) ++ own) given_kinds ∙ gains.may_stop.deed)
+      grind (arith, part_of_own, given_kinds, gains)
 
   -- the search kept the right of a shared page
   read_with_right : (t : Bool) → t ≡ true → took_in (kind_of_class t class) class slots.page sought slots.starts
@@ -263,17 +229,14 @@ module _ (f : Profile) (k name heap class : ℕ) (p : Progress) (w : World) (has
   right_then : (t : Bool) → slots.right ≡ t → has_right (sought ++ own) slots.page ≡ true
   right_then true right =
       let none : refill.after ≡ [] = subst (λ (t : Bool). LeavesWhere (not t) slots.page d refill.after) right got.leaves in
-      ap (λ (ms : List Made). has_right ((ms ++ sought) ++ own) slots.page) (sym none)
-      ∙ (gains.does.right slots.page
-      ∙ (ap (λ (t : Bool). has_now (if t then (if slots.right then Gained else Lost) else Kept) (has_right own slots.page)) (eq-eqb slots.page slots.page refl)
-      ∙ ap (λ (t : Bool). has_now (if t then Gained else Lost) (has_right own slots.page)) right))
+      cc (gains.does.right slots.page, eq-eqb slots.page slots.page refl)
   right_then false right = right_of_own slots.page sought own (right_kept slots.page sought marks (read_with_right shared (not-false shared (sym kept ∙ right)) got.took))
 
   -- ---- ALL
   fetched_same : IsSame f q v
   fetched_same = page_given slots.page head.head _ name new d sought _ gives_it got.events refl some fits_page _ given refill.after []
       got.leaves given_kinds tt (ap (λ (ms : List Made). given ++ ms) (sym (append-nil refill.after))) (right_then slots.right refl) knows refill.searches
-      _ has.between marks has.directory.kind
+      _ has.between marks has.filling.directory.kind
       (same_with f p.caches _ k new own_cache has.thread listed_then caches_shown cache_same)
       (λ j g h. cached_at j g (j == k) refl h)
 

@@ -1,38 +1,27 @@
 -- What follows a return of grains hints no page but one that it read as backed and empty.
 use Rattle.std.proofs.Common.{◌≡◌, ℕ, zero, suc, ◌<◌, true, Bool, List, [], ◌∷◌, ◌++◌, Option, None, Some, inl, inr, refl, ap, sym, subst, arith, true≢false}
-use Rattle.std.proofs.Common.{◌+◌, ◌*◌, ◌/◌, ◌%◌, ◌^◌, ◌≤◌, false, ◌∙◌, eq-eqb}
-use Rattle.std.proofs.lemmas.Bool.{cases_eq}
-use Rattle.pas_large.proofs.Left.{hints_both}
-use Rattle.pas_bits.proofs.{Words.full_bit, Runs.to_meet}
-use Rattle.pas_profile.specs.declared.{directory.Directory.Directory, word.Word.Word, event.Event.Event, name.Name.Name, profile.Profile.Profile}
-use Rattle.pas_steps.specs.{Past.Always, Past.Since, Allowed.IsEndIn, Desks.made, Desks.triples, Effects.life_word_at, Events.event_of, Events.events_by}
-use Rattle.pas_steps.specs.{Views.epoch_of}
-use Rattle.pas_steps.specs.Kinds.{LookFree, Unparking, Offering, Only, kind_of, is_in, LookDeed, Putting, Stamping, returning, Kinds}
-use Rattle.pas_steps.specs.declared.step.{Made.Made, Step.TheVariants.Look, Step.TheVariants.Stamp}
-use Rattle.pas_rights.specs.Looks.{looks, looks_until, is_free, HintsWhere, ReadsAllFree, TakesNone, HintsEmpty}
-use Rattle.pas_rights.specs.{Returns.ReofferSteps, Returns.ReturnSteps, Words.ones}
-use Rattle.pas_rights.specs.declared.reading.Used.{Used}
-use Rattle.pas_rights.proofs.{Orders.until_only, Orders.return_returns, Puts.puts_kinds}
+use Rattle.std.proofs.Common.{◌+◌, ◌*◌, ◌/◌, ◌^◌, ◌≤◌, false, ◌∙◌, eq-eqb}
+use Rattle.pas_bits.proofs.Runs.{to_meet}
+use Rattle.pas_steps.specs.{Allowed.IsEndIn, Effects.life_word_at, Kinds.Unparking}
+use Rattle.pas_rights.specs.{Looks.is_free, Looks.HintsWhere, Returns.ReofferSteps, Returns.ReturnSteps}
 use Rattle.pas_same_text.proofs.StepMarks.{hint_step, hints_none, IsMarked, marked_parts, none_marked, returns_marked}
 use Rattle.pas_answers.proofs.Consequences.{first_page}
-use Rattle.pas_bits.specs.Runs.{meets_page}
-use Rattle.pas_profile.specs.{Blocks.address_of, Blocks.grain_of, Blocks.length_of, Directories.directory_read, Directories.deed_word_of, Lives.live_word}
-use Rattle.pas_profile.specs.{Profiles.IsValid}
-use Rattle.pas_profile.proofs.Codecs.{read-deed_word_of, directory_from_profile}
-use Rattle.pas_machine.specs.State.{Live, live_in, deed_in, gives_in, ends_in}
-use Rattle.pas_steps.specs.Lists.{Whole, part, word_after, visible, Legal}
-use Rattle.pas_steps.proofs.Apart.{only_both, only_within, epoch_same, events_same}
-use Rattle.pas_steps.proofs.{Calls.returns_are, Past.in_turn_always}
-use Rattle.pas_core.specs.Good.{IsLifeOf, IsLifeOfLive, word_of_deed}
-use Rattle.pas_core.proofs.{Deeds.deed_of, Deeds.directory_is_of, Lives.life_of, Lives.block_of_word, OneActor.legal_earlier}
-use Rattle.pas_free_log.specs.Endings.{guess_by, TriesBy, last_step, IsEndOf, reason_for}
-use Rattle.pas_free_log.specs.Flushes.{Settled, EntrySteps, AfterEnd, event_for}
-use Rattle.pas_free_log.specs.{Frames.ending, Frames.putting_back, Logs.is_sized, Stamps.pages_from}
+use Rattle.pas_profile.specs.Lives.{live_word}
+use Rattle.pas_steps.proofs.Past.{in_turn_always}
+use Rattle.pas_core.specs.Good.{IsLifeOf, IsLifeOfLive}
+use Rattle.pas_core.proofs.Lives.{life_of, block_of_word}
+use Rattle.pas_free_log.specs.{Endings.guess_by, Endings.last_step, Frames.putting_back, Stamps.pages_from}
 use Rattle.pas_free_log.specs.Returns.{PageSteps, PagesSteps, RunSteps, first_on, count_on}
-use Rattle.pas_free_log.specs.declared.{ending.Outcome.Outcome, ending.Outcome.TheVariants.Ended, ending.Outcome.TheVariants.Refused, log.Entry.Entry}
-use Rattle.pas_free_log.proofs.OneEntry.{first_look, trying, AreIdle, idle_look, tries_idle, EndsWith, last_ends, last_refused, guess_is, not_ended, count_some}
-use Rattle.pas_same_text.specs.Frees.{is_other_room}
+use Rattle.pas_free_log.specs.declared.ending.Outcome.{Outcome}
+use Rattle.pas_free_log.proofs.OneEntry.{first_look, trying, AreIdle, EndsWith, last_ends, last_refused, guess_is, not_ended, count_some, idle_before}
 use Rattle.pas_same_text.proofs.Flushes.{visible_steps}
+use Rattle.pas_same_text.proofs.Common.{cases_eq, hints_both, full_bit, Directory, Word, Event, Name, Profile, Always, Since, made, triples, event_of}
+use Rattle.pas_same_text.proofs.Common.{events_by, epoch_of, LookFree, Offering, Only, kind_of, is_in, LookDeed, Putting, Stamping, returning, Kinds, Made}
+use Rattle.pas_same_text.proofs.Common.{Look, Stamp, looks, looks_until, ReadsAllFree, TakesNone, HintsEmpty, ones, Used, until_only, return_returns}
+use Rattle.pas_same_text.proofs.Common.{puts_kinds, meets_page, address_of, grain_of, length_of, directory_read, deed_word_of, IsValid, read-deed_word_of}
+use Rattle.pas_same_text.proofs.Common.{directory_from_profile, Live, live_in, deed_in, gives_in, ends_in, Whole, part, word_after, visible, Legal, only_both}
+use Rattle.pas_same_text.proofs.Common.{only_within, epoch_same, events_same, returns_are, word_of_deed, deed_of, directory_is_of, legal_earlier, IsEndOf}
+use Rattle.pas_same_text.proofs.Common.{Settled, EntrySteps, AfterEnd, event_for, ending, is_sized, Ended, Refused, Entry, is_other_room}
 
 read_earlier : (P Q : Made → Type 0) (ys xs : List Made) → Since (λ m before. P m) (λ m before. Q m) ys → Since (λ m before. P m) (λ m before. Q m) (ys ++ xs)
 read_earlier P Q [] xs h = absurd h
@@ -86,8 +75,7 @@ module _ (g n : ℕ) (steps : List Made) (h : PageSteps g n steps) where
       (only_within puts putting_back put refl put_kinds))
 
   page_hints : Always HintsEmpty steps
-  page_hints = subst (Always HintsEmpty) (sym h.steps_are)
-      (hints_both h.after put (return_hints (g / 256) h.directory h.after h.returns) (hints_none puts put refl put_kinds))
+  page_hints = rw h.steps_are (hints_both h.after put (return_hints (g / 256) h.directory h.after h.returns) (hints_none puts put refl put_kinds))
 
   page_marks : (q : ℕ) → IsMarked q steps → g / 256 ≡ q
   page_marks q marked = elim (marked_parts q h.after put (subst (IsMarked q) h.steps_are marked)) [
@@ -119,11 +107,6 @@ pub name_same : (a b : Name) → address_of a ≡ address_of b → a.turn ≡ b.
 name_same a b at turn = search (arith, a.turn)
 
 -- ---- the last try
-idle_before : (t : Bool) (entry : Entry) (deed first guess : ℕ) (before : List Made) → TriesBy t entry first guess before
-    → AreIdle (before ++ first_look entry.name deed)
-idle_before true entry deed first guess before tries = subst (λ s. AreIdle (s ++ first_look entry.name deed)) (sym tries.1) (idle_look entry.name deed)
-idle_before false entry deed first guess before tries = tries_idle entry.name deed first guess before tries
-
 -- a deed word is read as the directory that the machine has
 pub read_deed : (f : Profile) (valid : IsValid f) (o : Option Directory) → ((d : Directory) → o ≡ Some d → directory_read (deed_word_of d) ≡ Some d)
     → directory_read (word_of_deed o) ≡ o
@@ -167,9 +150,6 @@ module _ (f : Profile) (k epoch : ℕ) (s : Settled) (piece : List Made) (l : Wh
   within : IsEndIn f s.entry.name is.order.guess
   within = search (arith, guessed, ends_legal)
 
-  same_events : visible lm ≡ visible l
-  same_events = visible_steps k first l ∙ ap (λ (es : List Event). es ++ visible l) (idle.events k (part k l))
-
   -- ---- the block
   abbrev g : ℕ
   g = grain_of s.entry.name
@@ -181,9 +161,6 @@ module _ (f : Profile) (k epoch : ℕ) (s : Settled) (piece : List Made) (l : Wh
   life : IsLifeOf f g word (live_in (visible lm) (16 * g)) (gives_in (visible lm) (16 * g)) (ends_in (visible lm) (16 * g))
   life = life_of f lm valid ends_legal.1 g
 
-  room_at : (b : Live) → length_of b.block ≡ is.order.guess → b.block.room % 16 ≡ 0 → (t : Bool) → is_sized s.entry ≡ t → is_other_room s.entry b.block ≡ false
-  room_at b long whole t sized = search (arith, ends_legal, guessed, eq-eqb, true≢false)
-
   -- An end that was answered by the live word of its turn and length ended the block that lives there, of just that length.
   pub found_block : is.order.answer ≡ live_word s.entry.name.turn is.order.guess → IsEndOfBlock f l s.entry is.order.guess
   found_block hit =
@@ -194,7 +171,7 @@ module _ (f : Profile) (k epoch : ℕ) (s : Settled) (piece : List Made) (l : Wh
       let alive : IsLifeOfLive f g word b (gives_in (visible lm) (16 * g)) (ends_in (visible lm) (16 * g)) = rw o.1 at life in
       let long : length_of b.block ≡ is.order.guess = omega (arith, (sym hit ∙ (answer_is ∙ alive.word_is)), o.3) in
       let some : 1 ≤ is.order.guess = within.3 in
-      search (arith, same_events, room_at)
+      search (arith, visible_steps k first l ∙ ap (λ (es : List Event). es ++ visible l) (idle.events k (part k l)), ends_legal, guessed, eq-eqb, true≢false)
 
   -- ---- its event
   abbrev last : EndsWith s.entry.name is.order.guess (last_step (is_sized s.entry) s.entry is.order.guess)
@@ -204,8 +181,7 @@ module _ (f : Profile) (k epoch : ℕ) (s : Settled) (piece : List Made) (l : Wh
       → event_of k epoch (last_step (is_sized s.entry) s.entry is.order.guess) is.order.answer ≡ Some (event_for k epoch s.entry o)
   end_event (Ended grains) h = last.event k epoch is.order.answer h.0
   end_event (Refused read) h =
-      last_refused _ s.entry is.order.guess k epoch is.order.answer guessed h.0 (not_ended _ s.entry.name is.order.guess is.order.answer within.2 h.0)
-      ∙ ap (λ (n : ℕ). Some (Event.Reject k s.entry.name (reason_for s.entry n))) (sym h.1)
+      cc (last_refused _ s.entry is.order.guess k epoch is.order.answer guessed h.0 (not_ended _ s.entry.name is.order.guess is.order.answer within.2 h.0))
 
   ends_event : events_by k (part k l) is.ends ≡ event_for k epoch s.entry s.outcome ∷ []
   ends_event =
@@ -226,9 +202,7 @@ module _ (f : Profile) (k epoch : ℕ) (s : Settled) (piece : List Made) (l : Wh
   -- The steps for one logged free show one event, that of its outcome.
   pub entry_events : visible (triples k piece ++ l) ≡ event_for k epoch s.entry s.outcome ∷ visible l
   entry_events =
-      visible_steps k piece l
-      ∙ ap (λ (es : List Event). es ++ visible l)
-      (ap (events_by k (part k l)) is.steps_are ∙ (events_same putting_back refl k (part k l) is.after is.ends (after_kinds s.outcome is.returns) ∙ ends_event))
+      cc (visible_steps k piece l, events_same putting_back refl k (part k l) is.after is.ends (after_kinds s.outcome is.returns), ends_event)
 
   -- ---- its hints
   -- The steps for one logged free hint only pages that they read as backed and empty.

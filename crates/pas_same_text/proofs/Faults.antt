@@ -1,8 +1,7 @@
 -- Texts that are no traces, each with the line and the reason of its first fault, by computing.
 use Rattle.std.proofs.Common.{◌≡◌, ℕ, List, [], ◌∷◌, Result, map, take, codes, refl}
 use Rattle.pas_report.specs.Reports.{grains_that}
-use Rattle.pas_trace.specs.Acts.{numbers_from}
-use Rattle.pas_trace.specs.declared.fault.{Reason.Reason, TraceFault.TraceFault}
+use Rattle.pas_same_text.proofs.Common.{numbers_from, Reason, TraceFault}
 use Rattle.pas_same_text.proofs.Seen.{Seen, seen, faulty}
 
 -- a text, and the line and the reason of its first fault

@@ -1,40 +1,23 @@
 -- SLOTS OF A CLASS ARE FETCHED for a request: place is made for a local allocator, in the text too, and from there on the fetch is a request of its own. At the
 -- end: no page serves it, in the text either.
-use Rattle.std.proofs.Common.{◌≡◌, ℕ, ◌≤◌, ◌<◌, nat_le, Bool, true, false, not, ◌||◌, if◌then◌else◌, List, [], ◌∷◌, ◌++◌, length, All, Option, None, Some}
-use Rattle.std.proofs.Common.{Result, refl, ap, sym, ◌∙◌, subst, append-nil, append_assoc, arith, true≢false, eq-eqb, eqb-true, Ok, Err, inl, inr}
-use Rattle.std.proofs.lemmas.{Bool.false_from_ne_true, Bool.Decides.nat_tests, List.Elements.All-head, List.Elements.All-tail}
-use Rattle.std.specs.List.{find}
-use Rattle.pas_bits.specs.Masks.{is_set, IsEmpty}
-use Rattle.pas_profile.specs.{Classes.IsClass, Directories.IsKind, Profiles.IsValid, Profiles.IsDirectoryOf, Profiles.IsAdmitted}
-use Rattle.pas_profile.specs.Requests.{class_home, kind_of_class, route_in, room_in}
-use Rattle.pas_profile.specs.declared.{event.Event.Event, event.NoRoom.NoRoom, profile.Profile.Profile, word.Word.Word, directory.Directory.Directory}
-use Rattle.pas_profile.specs.declared.{directory.Route.Route}
-use Rattle.pas_profile.proofs.Sizes.{class_grains_positive, usable_grains_le, class_known, class_suits}
-use Rattle.pas_steps.specs.{Desks.triples, Events.events_by, Views.View, Views.KnowsDeed}
-use Rattle.pas_steps.specs.Lists.{Whole, part, word_after, Legal}
-use Rattle.pas_steps.specs.declared.step.Made.{Made}
-use Rattle.pas_steps.proofs.{Adding.triples_append, Apart.no_events, Frames.events_append, Parts.part_of_own}
-use Rattle.pas_core.proofs.{Nexts.agreed_steps, OneActor.legal_earlier}
-use Rattle.pas_search.specs.{Searches.MaySearch, Searches.IsRefused, Kinds.AreSearch, Telling.IsTrueReason}
-use Rattle.pas_segregated.specs.{Stops.home_of, Takes.NoSlot, Takes.fewer_slots}
-use Rattle.pas_segregated.specs.declared.slots.Slots.{Slots}
-use Rattle.pas_cache.specs.{Caches.AtRest, Changes.LeavesSpent, Changes.StopsFirst, Contents.Cached, Kinds.releasing}
-use Rattle.pas_cache.specs.Serves.{filling_in, Fetches, IsRefill, IsObtained, IsAnswered, ServesClass}
-use Rattle.pas_cache.specs.Locals.{IsLocal, RestsWith, keeps_right, any_keeps, local_for, others_than, is_for as is_for_slots}
-use Rattle.pas_report.specs.declared.record.Said.{Said as TheSaid}
-use Rattle.pas_trace.specs.EveryPlan.{IsThread}
-use Rattle.pas_answers.specs.Answers.{Progress, Named, records_of, said_by, Caches, named, Answer, after_answer, said_of_room}
-use Rattle.pas_same_text.specs.{State.Local, State.World, State.locals_of, Searches.some_of, Searches.refusal, Searches.refuses, Acts.AreResting}
-use Rattle.pas_same_text.specs.{Acts.IsBetween, Order.serves}
-use Rattle.pas_same_text.specs.Classes.{is_for, fetches, serves_class_by, serves_class, takes_page}
-use Rattle.pas_same_text.specs.Same.{IsSame, IsSameLocal, AreSameLocals, ArePagesSame, has_number}
+use Rattle.pas_cache.specs.{Serves.IsFilling, Changes.LeavesSpent}
+use Rattle.pas_cache.proofs.Obtained.{may_search}
+use Rattle.pas_same_text.proofs.Common.{filling_for, false_from_ne_true, nat_tests, find, is_set, IsEmpty, IsValid, IsAdmitted, class_home, route_in, room_in}
+use Rattle.pas_same_text.proofs.Common.{Event, NoRoom, Profile, Word, Directory, Route, class_grains_positive, usable_grains_le, triples, events_by, View}
+use Rattle.pas_same_text.proofs.Common.{Whole, part, word_after, Legal, Made, triples_append, no_events, events_append, part_of_own, agreed_steps}
+use Rattle.pas_same_text.proofs.Common.{legal_earlier, MaySearch, AreSearch, IsTrueReason, NoSlot, fewer_slots, Slots, AtRest, StopsFirst, Cached, releasing}
+use Rattle.pas_same_text.proofs.Common.{filling_in, Fetches, IsRefill, IsObtained, IsAnswered, ServesClass, IsLocal, RestsWith, local_for, others_than}
+use Rattle.pas_same_text.proofs.Common.{Said as TheSaid, IsThread, Progress, Named, records_of, said_by, Caches, named, Answer, after_answer, said_of_room}
+use Rattle.pas_same_text.proofs.Common.{Local, World, locals_of, some_of, refusal, refuses, AreResting, IsBetween, serves, is_for, fetches, serves_class_by}
+use Rattle.pas_same_text.proofs.Common.{serves_class, takes_page, IsSame, IsSameLocal, AreSameLocals, ArePagesSame, has_number, HasNoFit, IsRefused}
+use Rattle.pas_same_text.proofs.Common.{refused_told}
+use Rattle.std.proofs.Common.{◌≡◌, ℕ, ◌≤◌, ◌<◌, nat_le, Bool, true, false, ◌||◌, List, [], ◌∷◌, ◌++◌, length, Option, None, Some, Result, refl, ap, sym, ◌∙◌}
+use Rattle.std.proofs.Common.{subst, append-nil, append_assoc, arith, true≢false, eq-eqb, Ok, Err, inl, inr}
 use Rattle.pas_same_text.proofs.CacheLists.{same_own, same_again, Finds, found_same}
 use Rattle.pas_same_text.proofs.{SmallActs.after_with, SeatedActs.cached_again, SeatedActs.middle_rest, OneUp.up_to, SameIndexes.same_many}
 use Rattle.pas_same_text.proofs.{SameIndexes.given_up_keeps, SameIndexes.first_up_keeps, BitfitRequests.none_searched, PlacesFit.class_fits, Pieces.has_same}
 use Rattle.pas_same_text.proofs.{SearchedPages.refused_to, SearchedPages.refused_same, CachedSlots.HasAsked, CachedSlots.answer_reached}
 use Rattle.pas_same_text.proofs.MadePlace.{placed_by, place_made, none_same, most_left, known_found}
-use Rattle.pas_core.specs.Fits.{HasNoFit}
-use Rattle.pas_search.proofs.FindingAPage.{refused_told}
 
 -- the text once place was made for a local allocator of the heap and class
 abbrev pub with_place : ℕ → ℕ → ℕ → World → World
@@ -45,8 +28,7 @@ pub record HasPlace (f : Profile) (k heap class : ℕ) (p : Progress) (w : World
   pub valid : IsValid f
   pub thread : IsThread f k
   pub listed : k ≤ length w.caches
-  pub directory : IsDirectoryOf f (class_home f heap class)
-  pub known : IsClass class
+  pub filling : IsFilling f (filling_in (class_home f heap class) class)
   pub between : IsBetween f p
   pub rest : AtRest f (p.caches k) (part k p.list)
   pub same : IsSame f p w
@@ -58,8 +40,7 @@ pub record IsFetched (f : Profile) (k heap class : ℕ) (p : Progress) (w : Worl
   pub valid : IsValid f
   pub thread : IsThread f k
   pub listed : k ≤ length w.caches
-  pub directory : IsDirectoryOf f (class_home f heap class)
-  pub known : IsClass class
+  pub filling : IsFilling f (filling_in (class_home f heap class) class)
   pub before : IsBetween f p
   pub rest : AtRest f (p.caches k) (part k p.list)
   pub same : IsSame f p w
@@ -71,18 +52,10 @@ none_others : (heap class : ℕ) (slots : List Slots) → local_for heap class (
 none_others heap class [] = refl
 none_others heap class (s ∷ slots) = let ih = none_others heap class slots in grind (arith, ih)
 
--- by cases: what is found first is some
-none_behind : (s : Slots) (found : Option Slots) (t : Bool) → (if t then Some s else found) ≡ None → found ≡ None
-none_behind s found t none = search arith
-
--- one that passed would have been found
-none_here : (s : Slots) (found : Option Slots) (t : Bool) → (if t then Some s else found) ≡ None → t ≡ false
-none_here s found t none = search arith
-
 -- where the first is stopped, there is none either of a heap and class of which there was none
 none_stopped : (heap class : ℕ) (kept fewer : List Slots) (stopped : List Made) (t : Bool) → StopsFirst t kept fewer stopped → local_for heap class kept ≡ None
     → local_for heap class fewer ≡ None
-none_stopped heap class kept fewer stopped t h x = search (arith, none_behind)
+none_stopped heap class kept fewer stopped t h x = search arith
 
 -- .. and there is place for one more
 below_full : (n : ℕ) → nat_le 32 n ≡ false → n < 32
@@ -93,27 +66,9 @@ none_some : (xs : List ℕ) → ((g : ℕ) → has_number xs g ≡ false) → so
 none_some [] none = refl
 none_some (x ∷ xs) none = absurd (true≢false (sym (ap (λ (t : Bool). t || has_number xs x) (eq-eqb x x refl)) ∙ none x))
 
--- slots keep the right of their page where the heap isn't shared
-pub keeps_unshared : (right shared : Bool) (a b : ℕ) → kind_of_class (not right) a ≡ kind_of_class shared b → right ≡ not shared
-keeps_unshared right shared a b same = grind arith
-
--- ---- a thread without a local allocator of the heap and class may search for one
-kept_for : (f : Profile) (heap class : ℕ) (s : Slots) → s.right ≡ true → home_of s ≡ class_home f heap class → is_for_slots heap class s ≡ true
-kept_for f heap class s right home = search (arith, eq-eqb)
-
--- A page known to be of a class's home isn't kept by a cache that has no local allocator of the heap and class.
-pub none_kept : (f : Profile) (v : View) (heap class : ℕ) (page : ℕ) (slots : List Slots) → IsKind (class_home f heap class).kind
-    → KnowsDeed page (class_home f heap class) v → All (IsLocal f v) slots → local_for heap class slots ≡ None → any_keeps slots page ≡ false
-none_kept f v heap class page [] kind of all none = refl
-none_kept f v heap class page (s ∷ slots) kind of all none =
-    let own : IsLocal f v s = All-head (IsLocal f v) s slots all in
-    let lost : keeps_right s page ≡ false = search (arith, eqb-true, true≢false, kept_for, none_here) in
-    ap (λ (t : Bool). t || any_keeps slots page) lost
-    ∙ none_kept f v heap class page slots kind of (All-tail (IsLocal f v) s slots all) (none_behind s _ _ none)
-
 -- A thread with place for a local allocator of the heap and class may search the pages of the class's home.
 pub may_fetch : (f : Profile) (k heap class : ℕ) (p : Progress) (w : World) → HasPlace f k heap class p w → MaySearch (class_home f heap class) (part k p.list)
-may_fetch f k heap class p w has = search (arith, none_kept)
+may_fetch f k heap class p w has = may_search f _ (filling_in (class_home f heap class) class) (p.caches k).locals has.filling has.none has.rest.locals
 
 -- ---- place is made
 module _ (f : Profile) (k heap class : ℕ) (p : Progress) (w : World) (found : Result Slots NoRoom) (fewer : List Slots) (steps : List Made)
@@ -262,26 +217,17 @@ module _ (f : Profile) (k name heap class : ℕ) (p : Progress) (w : World) (roo
 
   -- nothing could serve before, and the reason is true after
   told : HasNoFit (NoSlot class) f d p.list × HasNoFit (NoSlot class) f d (triples k steps ++ p.list) × IsTrueReason f d (triples k steps ++ p.list) room
-  told = refused_told _ f d k p.list steps has.valid has.directory (fewer_slots class) after.legal searches (may_fetch f k heap class p w has) room refused
+  told = refused_told _ f d k p.list steps has.valid has.filling.directory (fewer_slots class) after.legal searches (may_fetch f k heap class p w has) room refused
 
   -- The text refuses it, too.
   text : fetches f k name heap class w ≡ refuses k name (refusal f w d) w
-  text = ap (λ (r : Result ℕ NoRoom). takes_page f k name heap class r w) (none_searched _ f d p w _ has.between.legal has.directory has.same.pages
-      (class_fits f p w has.valid has.between (has_same has.same) class has.known _) told.0)
+  text = ap (λ (r : Result ℕ NoRoom). takes_page f k name heap class r w) (none_searched _ f d p w _ has.between.legal has.filling.directory has.same.pages
+      (class_fits f p w has.valid has.between (has_same has.same) class has.filling.class _) told.0)
 
   fetch_refused : IsSame f (refused_to p k name steps room) (fetches f k name heap class w)
-  fetch_refused = rw text (refused_same f k name p w d steps room has.valid has.thread has.directory has.between after has.same searches refused.quiet told.2)
+  fetch_refused = rw text (refused_same f k name p w d steps room has.valid has.thread has.filling.directory has.between after has.same searches refused.quiet told.2)
 
 -- ---- the pages of a request of a class
--- A request's class is one of the classes.
-pub class_of_request : (f : Profile) (size align class : ℕ) → route_in f size align ≡ Route.Class class → IsClass class
-class_of_request f size align class route = class_known f.classes size align class (class_suits f.classes size align class route)
-
--- The directory of a request of a class is one of the region.
-pub class_directory_of : (f : Profile) (heap size align class : ℕ) → IsAdmitted f size align heap → route_in f size align ≡ Route.Class class
-    → IsDirectoryOf f (class_home f heap class)
-class_directory_of f heap size align class admitted route = search (arith, class_of_request, class_suits)
-
 -- How the thread's cache serves it, in these pages: by its route, which is that of the class.
 pub class_served_by : (f : Profile) (k name heap size align class : ℕ) (p : Progress) (a : Answer) (w : World) → route_in f size align ≡ Route.Class class
     → (asked : HasAsked f k (record { name = name; heap = heap; size = size; align = align }) p a w)
@@ -308,7 +254,7 @@ module _ (f : Profile) (k name heap size align class : ℕ) (p : Progress) (a : 
   -- slots were fetched, or none were found
   pub fetched_so : (found : Result Slots NoRoom) (fewer : List Slots) (steps given : List Made) → a.steps ≡ given ++ steps
       → Fetches (filling_in home class) f mine.locals fewer steps found → IsFetched f k heap class p w found fewer steps
-  fetched_so found fewer steps given steps_are fetch = search (arith, class_directory_of, class_of_request, legal_fetch)
+  fetched_so found fewer steps given steps_are fetch = search (arith, filling_for, legal_fetch)
 
   -- ---- none were found
   module _ (room : NoRoom) (is : asked.served.answer ≡ Err room) where

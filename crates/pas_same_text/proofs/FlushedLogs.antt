@@ -1,33 +1,11 @@
 -- A FLUSH, entry by entry: its steps beside what the text does.
 use Rattle.std.proofs.Common.{◌≡◌, ℕ, ◌-◌, ◌/◌, ◌≤◌, Bool, true, if◌then◌else◌, List, [], ◌∷◌, ◌++◌, length, map, reverse, take, Option, None, Some, inl, inr}
 use Rattle.std.proofs.Common.{refl, ap, sym, ◌∙◌, subst, append_assoc, arith, append-nil, eq-eqb}
-use Rattle.std.proofs.lemmas.{Grind.reverse_onto, Option.same_Some}
-use Rattle.pas_large.proofs.Left.{hints_both}
-use Rattle.pas_bits.specs.Runs.{meets_page}
-use Rattle.pas_profile.specs.{Blocks.address_of, Blocks.grain_of, Blocks.length_of, Profiles.IsValid, Profiles.IsPage}
-use Rattle.pas_profile.specs.declared.{directory.Directory.Directory, event.Event.Event, name.Name.Name, profile.Profile.Profile, word.Word.Word}
-use Rattle.pas_machine.specs.{Machine.Run, State.Live, State.live_in, State.deed_in}
-use Rattle.pas_machine.proofs.LiveBlocks.{lives_where}
-use Rattle.pas_steps.specs.{Desks.made, Desks.triples, Kinds.Only, Kinds.LookEpoch, Past.Always, Views.epoch_of}
-use Rattle.pas_steps.specs.Lists.{Whole, part, visible, Legal}
-use Rattle.pas_steps.specs.declared.step.{Made.Made, Step.TheVariants.Look}
-use Rattle.pas_steps.proofs.{Adding.triples_append, Apart.only_both, Apart.only_within, Apart.epoch_same, Parts.part_of_own}
-use Rattle.pas_core.proofs.{MachineRuns.runs, OneActor.legal_earlier}
-use Rattle.pas_rights.specs.Looks.{HintsEmpty}
-use Rattle.pas_free_log.specs.{Endings.IsEndOf, Endings.reason_for, Frames.ending, Frames.freeing, Noted.large_run}
-use Rattle.pas_free_log.specs.Flushes.{Settled, EntrySteps, EntriesSteps, AfterEnd, event_for, shown_for, noted_for, noted_after}
-use Rattle.pas_free_log.specs.declared.{ending.Outcome.Outcome, ending.Outcome.TheVariants.Ended, ending.Outcome.TheVariants.Refused, log.Entry.Entry}
-use Rattle.pas_free_log.specs.declared.{noting.EndedRun.EndedRun}
-use Rattle.pas_cache.specs.Contents.{Cached}
-use Rattle.pas_report.specs.declared.record.Record.{Record}
-use Rattle.pas_trace.specs.EveryPlan.{IsThread}
-use Rattle.pas_answers.specs.Answers.{Caches, with_cache as with_cached}
-use Rattle.pas_same_text.specs.State.{World, Cache, each, cache_of, with_cache, noted_of, set_log, live_after}
-use Rattle.pas_same_text.specs.Frees.{ends, ends_block, rejects, pages_of}
-use Rattle.pas_same_text.specs.Entries.{IsShown}
-use Rattle.pas_same_text.specs.Same.{AreSameCaches, IsSameCache, lives_in, has_number}
-use Rattle.pas_same_text.proofs.CacheLists.{all_locals, many_with, locals_with, same_with, same_own, same_again, with_own, noted_more, take_none, noted_start}
-use Rattle.pas_same_text.proofs.CacheLists.{room_for}
+use Rattle.pas_steps.specs.Kinds.{LookEpoch}
+use Rattle.pas_free_log.specs.{Noted.large_run, Flushes.EntriesSteps}
+use Rattle.pas_free_log.specs.declared.ending.Outcome.{Outcome}
+use Rattle.pas_same_text.specs.State.{with_cache}
+use Rattle.pas_same_text.proofs.CacheLists.{all_locals, many_with, locals_with, same_with, same_own, same_again, with_own, room_for}
 use Rattle.pas_same_text.proofs.GivenBack.{rejected_returns, ended_returns, ended_caches, noted_then, Returns, returns_nothing, returns_then, returns_like}
 use Rattle.pas_same_text.proofs.GivenBack.{has_both, page_there}
 use Rattle.pas_same_text.proofs.Flushes.{reject_text, end_text, reject_shown, end_shown, reason_is}
@@ -35,6 +13,14 @@ use Rattle.pas_same_text.proofs.EntrySteps.{IsEndOfBlock, found_block, block_mar
 use Rattle.pas_same_text.proofs.EntrySteps.{read_directory}
 use Rattle.pas_same_text.proofs.StepMarks.{IsMarked, marked_parts, none_marked, hints_none}
 use Rattle.pas_same_text.proofs.Tests.{has_filtered}
+use Rattle.pas_free_log.proofs.AllEntries.{noted_more, noted_none}
+use Rattle.pas_same_text.proofs.Common.{take_none, reverse_onto, same_Some, hints_both, meets_page, address_of, grain_of, length_of, IsValid, IsPage, Directory}
+use Rattle.pas_same_text.proofs.Common.{Event, Name, Profile, Word, Run, Live, live_in, deed_in, lives_where, made, triples, Only, Always, epoch_of, Whole}
+use Rattle.pas_same_text.proofs.Common.{part, visible, Legal, Made, Look, triples_append, only_both, only_within, epoch_same, part_of_own, runs, legal_earlier}
+use Rattle.pas_same_text.proofs.Common.{HintsEmpty, IsEndOf, reason_for, ending, freeing, Settled, EntrySteps, AfterEnd, event_for, shown_for, noted_for}
+use Rattle.pas_same_text.proofs.Common.{noted_after, Ended, Refused, Entry, EndedRun, Cached, Record, IsThread, Caches, with_cache as with_cached, World, Cache}
+use Rattle.pas_same_text.proofs.Common.{each, cache_of, noted_of, set_log, live_after, ends, ends_block, rejects, pages_of, IsShown, AreSameCaches, IsSameCache}
+use Rattle.pas_same_text.proofs.Common.{lives_in, has_number}
 
 -- ---- lists of entries
 each_last : {A : Type 0} (does : A → World → World) (xs : List A) (x : A) (w : World) → each does (xs ++ x ∷ []) w ≡ does x (each does xs w)
@@ -227,8 +213,8 @@ module _ (f : Profile) (k epoch : ℕ) (l : Whole) (w : World) (c : Cached) (cac
       let own_same : IsSameCache own (cache_of v k) = subst (λ (d : Cached). IsSameCache d (cache_of v k)) (same_own caches k own) (was.same.each k thread) in
       let new : Cached = record c { log = []; noted = noted_after c.noted (s ∷ settled) } in
       let noted : noted_of v k ++ take (64 - length (noted_of v k)) (noted_for s) ≡ noted_after c.noted (s ∷ settled) =
-      ap (λ (ns : List EndedRun). ns ++ take (64 - length ns) (noted_for s)) own_same.noted ∙ sym (noted_more c.noted s settled) in
-      let new_same : IsSameCache new (own_then s v k) = record { locals = own_same.locals; log = own_same.log; noted = noted; began = own_same.began } in
+      ap (λ (ns : List EndedRun). ns ++ take (64 - length ns) (noted_for s)) own_same.noted ∙ noted_more settled s c.noted _ _ _ refl refl refl in
+      let new_same : IsSameCache new (own_then s v k) = record { locals = own_same.locals; log = own_same.log; noted = noted; idle_since = own_same.idle_since } in
       let x : World = ends f k s.entry v in
       let stays : (a : ℕ) → live_in v.events a ≡ None → live_in x.events a ≡ None = λ a h. simp (shown.events, still_gone) in
       let less : OnlyFewer v.events x.events = subst (OnlyFewer v.events) (sym shown.events) (fewer_one k epoch s.entry s.outcome v.events) in
@@ -274,7 +260,7 @@ module _ (f : Profile) (k epoch : ℕ) (l : Whole) (w : World) (c : Cached) (cac
         epoch = refl;
         read = refl;
         same = same_with f caches w.caches k (record c { log = []; noted = noted_after c.noted [] }) new thread listed same
-            (record { locals = own.locals; log = refl; noted = own.noted ∙ sym (noted_start c.noted); began = own.began });
+            (record { locals = own.locals; log = refl; noted = own.noted ∙ noted_none c.noted; idle_since = own.idle_since });
         many = many_with w.caches k new;
         pages = [];
         returns = returns_like f [] w w (set_log k [] w) (returns_nothing f w) refl refl refl locals;

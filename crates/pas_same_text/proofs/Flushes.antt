@@ -1,52 +1,24 @@
 -- What logged frees and flushes show: the events that the machine allows them.
-use Rattle.std.proofs.Common.{◌≡◌, ℕ, ◌<◌, ◌==◌, Bool, true, false, not, if◌then◌else◌, List, [], ◌∷◌, Option, None, Some, refl, ap, sym, ◌∙◌, subst, arith}
-use Rattle.std.proofs.Common.{eq-eqb, ne_eqb, ◌++◌, map, reverse, append_assoc}
-use Rattle.std.proofs.lemmas.{Bool.and_from, Bool.Decides.nat_tests, Bool.not-true, Grind.reverse_onto, List.reverse-reverse, List.map_push}
-use Rattle.std.specs.List.{find, filter}
-use Rattle.pas_profile.specs.Blocks.{address_of}
-use Rattle.pas_profile.specs.declared.{event.Event.Event, event.Why.Why, name.Block.Block, name.Name.Name, profile.Profile.Profile, word.Word.Word}
-use Rattle.pas_machine.specs.Laws.{IsCounted}
-use Rattle.pas_machine.specs.Machine.{Run, IsLive, IsReason, HasOtherRoom}
-use Rattle.pas_machine.specs.State.{Live, live_in, gives_in, ends_in}
+use Rattle.pas_same_text.proofs.{FreeGrains.block_of_live, FreeGrains.found_is, Tests.and_first, Tests.and_second, GivenBack.OnlyHints}
+use Rattle.pas_same_text.proofs.{GivenBack.all_only_hints}
+use Rattle.std.proofs.Common.{◌≡◌, ℕ, ◌<◌, ◌==◌, Bool, true, false, not, if◌then◌else◌, List, [], ◌∷◌, Option, Some, refl, ap, sym, ◌∙◌, subst, arith, eq-eqb}
+use Rattle.std.proofs.Common.{ne_eqb, ◌++◌, map, reverse, append_assoc}
+use Rattle.pas_same_text.proofs.Common.{and_from, nat_tests, not-true, reverse_onto, reverse-reverse, find, address_of, Event, Why, Block, Name, Profile, Word}
+use Rattle.pas_same_text.proofs.Common.{Run, Live, live_in, gives_in, ends_in, Entry, EndedRun, is_sized, event_for, Settled, shown_for, reason_for, World}
+use Rattle.pas_same_text.proofs.Common.{each, is_at, shows, live_after, set_log, notes, lives_in, pages_of, is_other_room, ends_block, rejects, ends, flushes}
+use Rattle.pas_same_text.proofs.Common.{IsShown, made, triple, triples, event_of, events_by, with_event, View, epoch_of, Whole, part, visible, Legal, Made}
+use Rattle.pas_same_text.proofs.Common.{Look, Kinds, Only, apart, showing, triples_append, part_of_own, no_events, runs, legal_earlier}
+use Rattle.std.proofs.lemmas.List.{map_push}
+use Rattle.pas_machine.specs.{Laws.IsCounted, Machine.IsLive, Machine.IsReason, Machine.HasOtherRoom}
 use Rattle.pas_machine.proofs.LiveBlocks.{all_counted}
-use Rattle.pas_free_log.specs.declared.{log.Entry.Entry, ending.Outcome.Outcome, noting.EndedRun.EndedRun}
-use Rattle.pas_free_log.specs.{Logs.is_sized, Endings.reason_by, Flushes.event_for, Flushes.Settled, Flushes.shown_for, Endings.reason_for}
-use Rattle.pas_same_text.specs.State.{World, each, is_at, block_at, shows, live_after, set_log}
-use Rattle.pas_same_text.specs.{Indexes.notes, Same.lives_in}
-use Rattle.pas_same_text.specs.Frees.{pages_of, reason, is_other_room, ends_block, rejects, ends, flushes}
-use Rattle.pas_same_text.specs.Entries.{IsShown, IsEntryReason, IsEntryEvent, HaveOutcomes, are_unsized, onto, events_of_flush, HasShown, IsFlushOf}
-use Rattle.pas_same_text.proofs.{Tests.and_first, Tests.and_second, GivenBack.OnlyHints, GivenBack.all_only_hints}
+use Rattle.pas_free_log.specs.declared.ending.Outcome.{Outcome}
+use Rattle.pas_free_log.specs.Endings.{reason_by}
+use Rattle.pas_same_text.specs.{State.block_at, Frees.reason}
+use Rattle.pas_same_text.specs.Entries.{IsEntryReason, IsEntryEvent, HaveOutcomes, are_unsized, onto, events_of_flush, HasShown, IsFlushOf}
 use Rattle.pas_guard.proofs.Keepers.{older_legal}
-use Rattle.pas_steps.specs.{Desks.made, Desks.triple, Desks.triples, Events.event_of, Events.events_by, Events.with_event, Views.View, Views.epoch_of}
-use Rattle.pas_steps.specs.Lists.{Whole, part, visible, Legal}
-use Rattle.pas_steps.specs.declared.step.{Made.Made, Step.TheVariants.Look}
-use Rattle.pas_steps.specs.Kinds.{Kinds, Only, apart, showing}
-use Rattle.pas_steps.proofs.{Adding.triples_append, Frames.with_append, Parts.part_of_own, Apart.no_events}
-use Rattle.pas_core.proofs.{MachineRuns.runs, OneActor.legal_earlier}
+use Rattle.pas_steps.proofs.Frames.{with_append}
 
 -- ==== What a logged free shows: the event that the machine allows it.
--- ---- the block at an address
-abbrev block_of_live : Option Live → Option Block
-block_of_live None = None
-block_of_live (Some b) = Some b.block
-
-module _ (a c : ℕ) where
-  abbrev nothing : Option Block
-  nothing = None
-
-  found_out : (xs : List Block) → find (is_at a) (filter (λ x. not (is_at c x)) xs) ≡ (if c == a then None else find (is_at a) xs)
-  found_out [] = elim (c == a) as (λ (t : Bool). nothing ≡ (if t then nothing else nothing)) [ true ↦ refl | false ↦ refl ]
-  found_out (x ∷ xs) = let ih = found_out xs in grind (arith, nat_tests, ih)
-
-found_is : (es : List Event) (a : ℕ) → find (is_at a) (lives_in es) ≡ block_of_live (live_in es a)
-found_is [] a = refl
-found_is (Event.Deed k q d ∷ es) a = found_is es a
-found_is (Event.Back k q ∷ es) a = found_is es a
-found_is (Event.Unback k q e ∷ es) a = found_is es a
-found_is (Event.Give k block ∷ es) a = let ih = found_is es a in grind (arith, ih)
-found_is (Event.End k name e ∷ es) a = let ih = found_is es a in let out = found_out a (address_of name) (lives_in es) in grind (arith, ih, out)
-found_is (Event.Reject k name why ∷ es) a = found_is es a
-
 -- ---- what is shown besides nothing
 -- .. where the block is noted and its pages are minded
 -- hints alone differ from the state that shows the end

@@ -1,33 +1,23 @@
 -- A grain is free in the text exactly where its bit is set or a guard has its page, and a page is kept exactly where an actor has its right: whenever all
 -- actors are at rest. Before that: the live blocks in a list, and those that the machine has by their addresses.
-use Rattle.std.proofs.{lemmas.Option.same_Some, lemmas.Option.none-some, Math.Bool.and-false, Math.Bool.or-false, Math.Bool.and_comm}
+use Rattle.pas_same_text.proofs.Common.{nat_tests, find, same_Some, none-some, and-false, or-false, eqb-false, false≢true, or_cases, or_left, not-true}
+use Rattle.pas_same_text.proofs.Common.{and_from, or_right, false_from_ne_true, cases_lt, list_any, filter, in_run, meets_page, address_of, grain_of, length_of}
+use Rattle.pas_same_text.proofs.Common.{grain_of as first_grain, Event, Block, Name, Profile, Live, live_in, Run, is_at, World, cache_in, Local, is_guarded}
+use Rattle.pas_same_text.proofs.Common.{is_free, is_covered, is_cached, blocks_on, locals_on, is_kept, lives_in, told_guard, AreSameGuards, HasSame}
+use Rattle.pas_same_text.proofs.Common.{AreSameLocals, runs, in_one_place, is_outer_of, is_outer, Guard as BookGuard, Books, Progress, IsValid, lives_where}
+use Rattle.pas_same_text.proofs.Common.{part, visible, Whole, Legal, View, holds, has_right, IsPartOf, IsInOnePlace, free_of_page, any_covers, IsThread}
+use Rattle.pas_same_text.proofs.Common.{IsBetween, free_bit, Slots}
+use Rattle.pas_cache.specs.Locals.{any_keeps}
+use Rattle.std.proofs.Math.Bool.{and_comm}
 use Rattle.std.proofs.Common.{arith, ◌≡◌, ℕ, ◌/◌, ◌<◌, ◌≢◌, ◌==◌, Bool, true, false, not, ◌&&◌, ◌||◌, if◌then◌else◌, List, [], ◌∷◌, Option, Some, None, ◌⊎◌}
 use Rattle.std.proofs.Common.{inl, inr, refl, ap, sym, ◌∙◌, eq-eqb, ne_eqb, true≢false, map, subst, ◌+◌, ◌*◌, eqb-true}
-use Rattle.std.proofs.lemmas.Bool.{eqb-false, false≢true, or_cases, or_left, not-true, and_from, or_right, false_from_ne_true, cases_lt}
-use Rattle.std.specs.List.{list_any, filter}
-use Rattle.pas_bits.specs.Runs.{in_run, meets_page}
 use Rattle.pas_bits.proofs.Runs.{first_of_run, run_meets}
-use Rattle.pas_profile.specs.Blocks.{address_of, grain_of, length_of, grain_of as first_grain}
-use Rattle.pas_profile.specs.declared.{event.Event.Event, name.Block.Block, name.Name.Name, profile.Profile.Profile}
-use Rattle.pas_machine.specs.{State.Live, State.live_in, Machine.Run, Machine.MayGive}
-use Rattle.pas_same_text.specs.State.{is_at, Guard, World, cache_in, Local}
-use Rattle.pas_same_text.specs.Pages.{is_guarded, is_free, is_covered, is_cached, blocks_on, locals_on, is_kept}
-use Rattle.pas_same_text.specs.Same.{lives_in, told_guard, AreSameGuards, HasSame, AreSameLocals}
+use Rattle.pas_machine.specs.Machine.{MayGive}
+use Rattle.pas_same_text.specs.State.{Guard}
 use Rattle.pas_same_text.proofs.Tests.{and_first, and_second, any_filtered, filtered_any, any_weaker, on_page}
-use Rattle.pas_core.proofs.{Grains.some_grain, MachineRuns.runs, MachineRuns.in_one_place, Offers.no_other_actor}
-use Rattle.pas_guard.specs.Books.{is_outer_of, is_outer}
-use Rattle.pas_guard.specs.declared.book.Guard.{Guard as BookGuard}
-use Rattle.pas_answers.specs.Answers.{Books, Progress}
-use Rattle.pas_profile.specs.Profiles.{IsValid}
-use Rattle.pas_machine.proofs.LiveBlocks.{lives_where}
-use Rattle.pas_steps.specs.Lists.{part, visible, Whole, Legal}
-use Rattle.pas_steps.specs.Views.{View, holds, has_right}
-use Rattle.pas_core.specs.{Good.IsPartOf, Good.IsInOnePlace, Rights.free_of_page, Rights.NobodyHasRight}
-use Rattle.pas_cache.specs.Locals.{any_covers, any_keeps}
-use Rattle.pas_trace.specs.EveryPlan.{IsThread}
-use Rattle.pas_same_text.specs.{Acts.IsBetween, Words.free_bit}
+use Rattle.pas_core.proofs.{Grains.some_grain, Offers.no_other_actor}
+use Rattle.pas_core.specs.Rights.{NobodyHasRight}
 use Rattle.pas_same_text.proofs.CacheLists.{all_locals, has_grain, grains_same, IsOfCache, of_cache, in_all, cached_any, any_cached}
-use Rattle.pas_segregated.specs.declared.slots.Slots.{Slots}
 
 -- ---- a block that lives after the events, of which this is so
 pub record LivesSo (es : List Event) (p : Block → Bool) : Type 0 where
@@ -64,14 +54,12 @@ elsewhere f es block p o may some same =
 -- A block lives on after the give of another.
 there : (k : ℕ) (block : Block) (es : List Event) (p : Block → Bool) (o : LivesSo es p) → address_of block.name ≢ o.address
     → LivesSo (Event.Give k block ∷ es) p
-there k block es p o ne =
-    search (arith, ne_eqb)
+there k block es p o ne = search (arith, ne_eqb)
 
 -- A block lives on after the end of another.
 ended : (k : ℕ) (name : Name) (e : ℕ) (es : List Event) (p : Block → Bool) (o : LivesSo es (λ x. not (is_at (address_of name) x) && p x))
     → LivesSo (Event.End k name e ∷ es) p
-ended k name e es p o =
-    search (arith, not-true, and_first, eqb-false, ne_eqb, and_second)
+ended k name e es p o = search (arith, not-true, and_first, eqb-false, ne_eqb, and_second)
 
 -- .. after an event that gives and ends none
 still : (e : Event) (es : List Event) (p : Block → Bool) (o : LivesSo es p) → live_in (e ∷ es) o.address ≡ live_in es o.address → LivesSo (e ∷ es) p
@@ -94,21 +82,34 @@ lives_so f (Event.End k name e ∷ es) p run h =
     ended k name e es p (lives_so f es (λ x. not (is_at (address_of name) x) && p x) run.1 (any_filtered p (λ x. not (is_at (address_of name) x)) _ h))
 lives_so f (Event.Reject k name why ∷ es) p run h = still (Event.Reject k name why) es p (lives_so f es p run.1 h) refl
 
--- ---- from the machine to the list
-ended_live : (t : Bool) (old : Option Live) (b : Live) → (if t then None else old) ≡ Some b → (t ≡ false) × (old ≡ Some b)
-ended_live t old b is = search (arith, none-some)
+-- ---- from the machine to the list: the block at an address
+abbrev pub block_of_live : Option Live → Option Block
+block_of_live None = None
+block_of_live (Some b) = Some b.block
 
--- a block that lives at its address is in the list
-lives_listed : (es : List Event) (address : ℕ) (b : Live) (p : Block → Bool) → live_in es address ≡ Some b → address_of b.block.name ≡ address
-    → p b.block ≡ true → list_any p (lives_in es) ≡ true
-lives_listed [] address b p is at so = absurd (none-some b is)
-lives_listed (Event.Deed k q d ∷ es) address b p is at so = lives_listed es address b p is at so
-lives_listed (Event.Back k q ∷ es) address b p is at so = lives_listed es address b p is at so
-lives_listed (Event.Unback k q e ∷ es) address b p is at so = lives_listed es address b p is at so
-lives_listed (Event.Give k block ∷ es) address b p is at so = let ih = lives_listed es address b p in search (arith, same_Some, or_left, ih)
-lives_listed (Event.End k name e ∷ es) address b p is at so =
-    let ih = lives_listed es address b in search (arith, ended_live, eqb-false, ne_eqb, filtered_any, and_from, ih)
-lives_listed (Event.Reject k name why ∷ es) address b p is at so = lives_listed es address b p is at so
+module _ (a c : ℕ) where
+  -- by cases of the two tests
+  found_out : (xs : List Block) → find (is_at a) (filter (λ x. not (is_at c x)) xs) ≡ (if c == a then None else find (is_at a) xs)
+  found_out [] = grind arith
+  found_out (x ∷ xs) = let ih = found_out xs in grind (arith, nat_tests, ih)
+
+-- The first block of the list at an address is the one that lives there.
+pub found_is : (es : List Event) (a : ℕ) → find (is_at a) (lives_in es) ≡ block_of_live (live_in es a)
+found_is [] a = refl
+found_is (Event.Deed k q d ∷ es) a = found_is es a
+found_is (Event.Back k q ∷ es) a = found_is es a
+found_is (Event.Unback k q e ∷ es) a = found_is es a
+found_is (Event.Give k block ∷ es) a = let ih = found_is es a in grind (arith, ih)
+found_is (Event.End k name e ∷ es) a = let ih = found_is es a in let out = found_out a (address_of name) (lives_in es) in grind (arith, ih, out)
+found_is (Event.Reject k name why ∷ es) a = found_is es a
+
+found_any : (p q : Block → Bool) (xs : List Block) (b : Block) → find q xs ≡ Some b → p b ≡ true → list_any p xs ≡ true
+found_any p q [] b is so = absurd (none-some b is)
+found_any p q (x ∷ xs) b is so = let ih = found_any p q xs b in search (arith, same_Some, or_left, or_right, ih)
+
+-- a block that lives at an address is in the list
+lives_listed : (es : List Event) (address : ℕ) (b : Live) (p : Block → Bool) → live_in es address ≡ Some b → p b.block ≡ true → list_any p (lives_in es) ≡ true
+lives_listed es address b p is so = found_any p (is_at address) (lives_in es) b.block (found_is es address ∙ ap block_of_live is) so
 
 -- ==== OUTER PAGES of guards: those of the text are those of the keepers' books.
 -- the page is an outer one of the guard
@@ -167,8 +168,7 @@ thread_or f k some few = search (arith, cases_lt)
 -- the bit of grain b of a page, as one of the words that a search reads
 -- the two orders of one sum
 pub bit_read : (l : Whole) (page b : ℕ) → free_bit l (256 * page + b) ≡ free_of_page l page b
-bit_read l page b =
-    search arith
+bit_read l page b = search arith
 
 -- a free grain is held by nobody, and no live block has it
 pub free_unheld : (f : Profile) (l : Whole) → IsValid f → Legal f l → (g : ℕ) → free_bit l g ≡ true → (k : ℕ) → holds (part k l) g ≡ false
@@ -251,8 +251,7 @@ module _ (f : Profile) (p : Progress) (w : World) (valid : IsValid f) (between :
       let run : has_here g b.block ≡ true = ap (λ (a : ℕ). in_run (a / 16) (length_of b.block) g) at ∙ is in
       let meet : meets page b.block ≡ true =
       ap (meets_page (first_grain b.block.name) (length_of b.block)) (sym on) ∙ run_meets (first_grain b.block.name) (length_of b.block) g run in
-      filtered_any (has_here g) (meets page) w.live (ap (list_any (has_on page g)) live_is
-      ∙ lives_listed (visible p.list) address b (has_on page g) lives at (ap (λ (t : Bool). t && has_here g b.block) meet ∙ run))
+      filtered_any (has_here g) (meets page) w.live (grind (arith, live_is, lives_listed))
 
   -- ---- caches
   cache_grains : (k page b : ℕ) → b < 256 → IsThread f k
@@ -273,8 +272,7 @@ module _ (f : Profile) (p : Progress) (w : World) (valid : IsValid f) (between :
   -- ---- guards: the grains of an outer page are its keeper's
   guarded_held : (page b : ℕ) → b < 256 → is_guarded w page ≡ true
       → (k : ℕ) × (is_outer (p.books k) page ≡ true) × (holds (part k p.list) (256 * page + b) ≡ true)
-  guarded_held page b small h =
-      search (arith, guarded_by, outer_held, on_page)
+  guarded_held page b small h = search (arith, guarded_by, outer_held, on_page)
 
   -- ---- A GRAIN
   free_here : (page b : ℕ) → b < 256 → IsInOnePlace p.list (256 * page + b) → is_free w page b ≡ (free_bit p.list (256 * page + b) || is_guarded w page)
@@ -296,12 +294,10 @@ module _ (f : Profile) (p : Progress) (w : World) (valid : IsValid f) (between :
           let o = guarded_held page b small h in never_both f p between held.actor _ page cached (rw (alone o.0 o.2) o.1)) in
           cc (cached_some held.actor page b small is cached, and-false (not (is_covered (blocks_on w page) (256 * page + b))))
 
+      -- a keeper holds it: no block covers it, no cache has it, and its page is an outer one
       in_book : is_outer (p.books held.actor) page ≡ true → is_free w page b ≡ (free_bit p.list (256 * page + b) || is_guarded w page)
       in_book outer =
-          ap (λ (t : Bool). not t && not (is_cached (locals_on w page) b)) (covered_none page (256 * page + b) held.no_block)
-          ∙ (ap (λ (t : Bool). not t) (cached_none page b small (λ k has is.
-          never_both f p between k _ page has (ap (λ (j : ℕ). is_outer (p.books j) page) (sym (alone k (cached_held f p between k _ is has))) ∙ outer)))
-          ∙ sym (ap (λ (t : Bool). t || is_guarded w page) held.not_free ∙ outer_guarded p.books w same.guards held.actor page outer))
+          grind (arith, covered_none, cached_none, never_both, cached_held, outer_guarded)
   free_here page b small (inr (inr covered)) =
       let unguarded = false_from_ne_true _ (λ h. let o = guarded_held page b small h in false≢true (sym (covered.nobody o.0) ∙ o.2)) in
       cc (covered_some page (256 * page + b) covered.address covered.block (on_page page b small) covered.lives covered.covered)

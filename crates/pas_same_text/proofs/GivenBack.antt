@@ -1,27 +1,17 @@
 -- WHAT THE TEXT DOES WHERE GRAINS COME BACK to pages, and where a block ends: which grains are free then, and which pages are hinted.
-use Rattle.std.proofs.{lemmas.Bool.Decides.nat_tests, lemmas.List.Folds.list_any-append, Math.Bool.or-false}
 use Rattle.std.proofs.Common.{arith, ◌≡◌, ℕ, ◌==◌, Bool, true, false, not, List, [], ◌∷◌, ◌++◌, map, reverse, refl, ap, sym, ◌∙◌, append_assoc, append-nil}
 use Rattle.std.proofs.Common.{true≢false, eq-eqb, eqb-true, zero, suc, ◌+◌, ◌<◌, ◌≤◌, ◌&&◌, ◌||◌, if◌then◌else◌, inl, inr, ◌*◌, nat_lt, length, Some}
-use Rattle.std.proofs.lemmas.Bool.{false≢true, or_cases, or_left, false_from_ne_true, cases_eq, and_from, or_parts}
-use Rattle.std.specs.List.{list_any, filter}
-use Rattle.pas_profile.specs.{Profiles.IsPage, Blocks.grain_of, Blocks.length_of, Blocks.address_of}
-use Rattle.pas_profile.specs.declared.{profile.Profile.Profile, name.Block.Block, event.Event.Event, event.Why.Why, name.Name.Name}
-use Rattle.pas_report.specs.declared.record.{Record.Record, Said.Said}
-use Rattle.pas_guard.specs.Books.{is_outer_of, is_outer, AreApart}
-use Rattle.pas_guard.specs.declared.book.Guard.{Guard as BookGuard}
-use Rattle.pas_same_text.specs.State.{Guard, World, each, Local, is_at, shows, cache_of, noted_of, with_cache}
-use Rattle.pas_same_text.specs.Pages.{is_guarded, minds, each_of, is_free, is_free_of, is_empty, is_hinted, page_numbers, is_covered, is_cached, blocks_on}
-use Rattle.pas_same_text.specs.Pages.{locals_on}
-use Rattle.pas_same_text.specs.{Guards.without_guard, Guards.lowers, Same.told_guard, Same.has_number, Same.lives_in, Indexes.notes, Indexes.run_of}
-use Rattle.pas_same_text.specs.{Frees.pages_of, Frees.ends_block, Frees.rejects}
-use Rattle.pas_same_text.proofs.{FreeGrains.has_outer, SmallActs.records_next, SameIndexes.same_guards, SameIndexes.minds_keep, CacheLists.all_locals}
-use Rattle.pas_same_text.proofs.{CacheLists.locals_with, FreeGrains.LivesSo, FreeGrains.lives_so}
-use Rattle.pas_bits.specs.Runs.{meets_page, in_run}
-use Rattle.pas_machine.specs.{State.backed_in, Machine.Run, State.Live, State.live_in}
-use Rattle.pas_trace.specs.Acts.{numbers_from}
+use Rattle.std.proofs.lemmas.Bool.{or_parts}
+use Rattle.pas_guard.specs.Books.{AreApart}
+use Rattle.pas_same_text.specs.{State.Guard, State.with_cache, Pages.each_of, Pages.is_free_of, Guards.without_guard, Indexes.run_of}
+use Rattle.pas_same_text.proofs.{FreeGrains.has_outer, FreeGrains.LivesSo, FreeGrains.lives_so, SmallActs.records_next, SameIndexes.same_guards}
+use Rattle.pas_same_text.proofs.{SameIndexes.minds_keep, CacheLists.all_locals, CacheLists.locals_with}
 use Rattle.pas_same_text.proofs.Tests.{and_first, and_second, any_filtered, filtered_any, any_weaker, any_split, filtered_has, has_filtered}
-use Rattle.pas_steps.proofs.Sets.{same_truth}
-use Rattle.pas_free_log.specs.declared.noting.EndedRun.{EndedRun}
+use Rattle.pas_same_text.proofs.Common.{nat_tests, list_any-append, or-false, false≢true, or_cases, or_left, false_from_ne_true, cases_eq, and_from, list_any}
+use Rattle.pas_same_text.proofs.Common.{filter, IsPage, grain_of, length_of, address_of, Profile, Block, Event, Why, Name, Record, Said, is_outer_of, is_outer}
+use Rattle.pas_same_text.proofs.Common.{Guard as BookGuard, World, each, Local, is_at, shows, cache_of, noted_of, is_guarded, minds, is_free, is_empty}
+use Rattle.pas_same_text.proofs.Common.{is_hinted, page_numbers, is_covered, is_cached, blocks_on, locals_on, lowers, told_guard, has_number, lives_in, notes}
+use Rattle.pas_same_text.proofs.Common.{pages_of, ends_block, rejects, meets_page, in_run, backed_in, Run, Live, live_in, numbers_from, same_truth, EndedRun}
 
 -- ==== What the text does where grains come back to pages: which grains are free then, and which pages are hinted.
 -- ---- tests of numbers that follow each other
@@ -32,18 +22,14 @@ each_same (suc n) from test other agree =
     ap (λ (t : Bool). t && each_of (from + 1) n test) (agree from (omega arith) (omega arith))
     ∙ ap (λ (t : Bool). other from && t) (each_same n (from + 1) test other (λ b low high. agree b (omega (arith, low)) (omega (arith, high))))
 
-each_more_at : (x y r s : Bool) → (x ≡ true → y ≡ true) → (r ≡ true → s ≡ true) → (x && r) ≡ true → (y && s) ≡ true
-each_more_at x y r s first rest h = search (arith, false≢true)
-
 -- each number passes the one test that passes the other
 each_more : (n from : ℕ) (test other : ℕ → Bool) → ((b : ℕ) → from ≤ b → b < from + n → test b ≡ true → other b ≡ true) → each_of from n test ≡ true
     → each_of from n other ≡ true
 unfolding each_of
 each_more zero from test other more h = refl
 each_more (suc n) from test other more h =
-    each_more_at (test from) (other from) (each_of (from + 1) n test) (each_of (from + 1) n other)
-    (more from (omega arith) (omega arith))
-    (each_more n (from + 1) test other (λ b low high. more b (omega (arith, low)) (omega (arith, high)))) h
+    let own = more from (omega arith) (omega arith) in
+    let ih = each_more n (from + 1) test other (λ b low high. more b (omega (arith, low)) (omega (arith, high))) in search (arith, and_first, and_second, and_from, own, ih)
 
 -- .. at one of them, and at all
 pub each_at : (n from b : ℕ) (test : ℕ → Bool) → each_of from n test ≡ true → from ≤ b → b < from + n → test b ≡ true
@@ -91,33 +77,19 @@ pub record OnlyHints (w v : World) : Type 0 where
 no_hints : (w : World) → OnlyHints w w
 no_hints w = record { events = refl; records = refl; live = refl; caches = refl; indexes = refl; names = refl; epoch = refl; read = refl }
 
--- by cases on the test
-only_if : (w v x : World) (t : Bool) → OnlyHints w v → OnlyHints w x → OnlyHints w (if t then v else x)
-only_if w v x t a b = search arith
-
-only_minds : (w : World) (page : ℕ) → OnlyHints w (minds page w)
-only_minds w page = search (arith, only_if, no_hints)
-
 -- Minding several pages changes nothing of a state but hints.
 pub all_only_hints : (pages : List ℕ) (w : World) → OnlyHints w (each minds pages w)
 all_only_hints [] w = no_hints w
-all_only_hints (page ∷ pages) w = search (arith, only_minds, all_only_hints pages (minds page w))
+all_only_hints (page ∷ pages) w = search (arith, no_hints, all_only_hints pages (minds page w))
 
 -- ---- a page that is backed and empty
 abbrev pub is_idle : World → ℕ → Bool
 is_idle w page = backed_in w.events page && is_empty w page
 
-idle_kept : (w v : World) (page : ℕ) → OnlyHints w v → is_idle v page ≡ is_idle w page
-idle_kept w v page only = search (arith, empty_kept, free_kept)
-
 -- ---- which pages are hinted after pages were minded
-hinted_at : (page q : ℕ) (old : List ℕ) (t h same : Bool) → list_any (λ p. p == page) old ≡ h → (page == q) ≡ same
-    → list_any (λ p. p == q) (if t then (if h then old else page ∷ old) else old) ≡ (list_any (λ p. p == q) old || (same && t))
-hinted_at page q old t h same e is = search (arith, eqb-true)
-
 hinted_all : (pages : List ℕ) (w : World) (q : ℕ) → is_hinted (each minds pages w) q ≡ (is_hinted w q || (has_number pages q && is_idle w q))
 hinted_all [] w q = sym (or-false (is_hinted w q))
-hinted_all (page ∷ pages) w q = search (arith, idle_kept, only_minds, hinted_at, eqb-true, hinted_all pages (minds page w) q)
+hinted_all (page ∷ pages) w q = search (arith, empty_kept, free_kept, no_hints, eqb-true, hinted_all pages (minds page w) q)
 
 -- ==== GRAINS COME BACK to these pages: what was free stays so, on other pages nothing changes, and these pages are hinted where they are idle then
 pub record Returns (f : Profile) (pages : List ℕ) (w v : World) : Type 0 where
@@ -129,17 +101,8 @@ pub record Returns (f : Profile) (pages : List ℕ) (w v : World) : Type 0 where
 
 idle_grows : (f : Profile) (pages : List ℕ) (w v : World) (page : ℕ) → Returns f pages w v → is_idle w page ≡ true → is_idle v page ≡ true
 idle_grows f pages w v page r h =
-    both (backed_in w.events page) (backed_in v.events page) (is_empty w page) (is_empty v page)
-    (sym (r.backed page)) (each_more 256 0 (is_free w page) (is_free v page) (λ b low high. r.grows page b high)) h
-  where
-    both : (x y e g : Bool) → x ≡ y → (e ≡ true → g ≡ true) → (x && e) ≡ true → (y && g) ≡ true
-    both true true e g same more h = more h
-    both true false e g same more h = absurd (true≢false same)
-    both false y e g same more h = absurd (false≢true h)
-
-idle_same : (f : Profile) (pages : List ℕ) (w v : World) (page : ℕ) → Returns f pages w v → IsPage f page → has_number pages page ≡ false
-    → is_idle v page ≡ is_idle w page
-idle_same f pages w v page r of none = search (arith, empty_kept)
+    and_from (backed_in v.events page) (is_empty v page) (r.backed page ∙ and_first (backed_in w.events page) (is_empty w page) h)
+    (each_more 256 0 (is_free w page) (is_free v page) (λ b low high. r.grows page b high) (and_second (backed_in w.events page) (is_empty w page) h))
 
 -- Nothing that came back to no page is a return that leaves the state as it is.
 pub returns_nothing : (f : Profile) (w : World) → Returns f [] w w
@@ -151,20 +114,14 @@ pub returns_like : (f : Profile) (pages : List ℕ) (w v x : World) → Returns 
 returns_like f pages w v x r events live hinted locals = search (arith, free_kept, empty_kept)
 
 -- ---- one after the other
-settled_hint : (h p q b c : Bool) → (b ≡ true → c ≡ true) → (p ≡ true → q ≡ false → c ≡ b) → ((h || (p && b)) || (q && c)) ≡ (h || ((p || q) && c))
-settled_hint h p q b c grows same = search (arith, false≢true)
-
 -- A number is in two lists together where it is in one of them.
 pub has_both : (ps qs : List ℕ) (page : ℕ) → has_number (ps ++ qs) page ≡ (has_number ps page || has_number qs page)
 has_both ps qs page = list_any-append (λ m. m == page) ps qs
 
 module _ (f : Profile) (ps qs : List ℕ) (w v x : World) (a : Returns f ps w v) (b : Returns f qs v x) where
-  within_both : (page : ℕ) → has_number (ps ++ qs) page ≡ true → IsPage f page
-  within_both page h = search (arith, or_cases, has_both)
-
   -- Two returns of grains one after the other are one return to the pages of both.
   pub returns_then : Returns f (ps ++ qs) w x
-  returns_then = search (arith, within_both, or_parts, has_both, settled_hint, idle_grows, idle_same)
+  returns_then = search (arith, or_cases, or_parts, has_both, false≢true, idle_grows, empty_kept)
 
 -- ---- the pages that are minded at the end
 pub minded_last : (f : Profile) (pages : List ℕ) (w v : World) → ((page : ℕ) → has_number pages page ≡ true → IsPage f page)
@@ -172,8 +129,7 @@ pub minded_last : (f : Profile) (pages : List ℕ) (w v : World) → ((page : �
     → ((page b : ℕ) → b < 256 → is_free w page b ≡ true → is_free v page b ≡ true)
     → ((page b : ℕ) → IsPage f page → has_number pages page ≡ false → b < 256 → is_free v page b ≡ is_free w page b) → v.hinted ≡ w.hinted
     → Returns f pages w (each minds pages v)
-minded_last f pages w v within backed grows others hinted =
-    search (arith, all_only_hints, free_kept, hinted_all, idle_kept)
+minded_last f pages w v within backed grows others hinted = search (arith, all_only_hints, free_kept, hinted_all, empty_kept)
 
 -- ---- pages of the region
 numbers_within : (n from page : ℕ) → has_number (numbers_from from n) page ≡ true → (from ≤ page) × (page < from + n)
@@ -253,8 +209,7 @@ module _ (f : Profile) (k : ℕ) (name : Name) (b : Live) (w : World) (run : Run
       (λ page h. page_within f page (filtered_has (meets_page (grain_of b.block.name) (length_of b.block)) (page_numbers f) page h).1)
       (λ page. refl)
       (λ page g small h.
-      ap (λ (t : Bool). not (is_covered (blocks_on after page) (256 * page + g)) && not t) (cached_same page g)
-      ∙ freed_more _ _ _ (fewer page g) h)
+      cc (cached_same page g, freed_more _ _ _ (fewer page g) h))
       (λ page g of none small.
       cc (cached_same page g, same_truth _ _ (fewer page g) (elsewhere page g of none)))
       refl
@@ -402,7 +357,8 @@ own_left k t (g ∷ gs) apart = search (arith, eq-eqb, none_lost, first_stays, n
 -- ---- of all keepers, where these guards of one are lowered
 pub left_of : (books : ℕ → List BookGuard) (keeper k : ℕ) (fallen : List BookGuard) (gs : List Guard)
     → filter (λ g. g.keeper == k) gs ≡ map (told_guard k) (books k)
-    → filter (λ g. g.keeper == k) (without_all (map (told_guard keeper) fallen) gs) ≡ without_all (map (told_guard keeper) fallen) (map (told_guard k) (books k))
+    → filter (λ g. g.keeper == k) (without_all (map (told_guard keeper) fallen) gs)
+    ≡ without_all (map (told_guard keeper) fallen) (map (told_guard k) (books k))
 left_of books keeper k fallen gs is = simp (swapped_all, is)
 
 -- ---- the outer pages, as numbers

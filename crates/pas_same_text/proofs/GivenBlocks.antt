@@ -1,36 +1,19 @@
 -- A BLOCK IS GIVEN after pages were made ready for it: what that is in the text, and which grains are in use then.
+use Rattle.pas_same_text.proofs.Common.{LendsNone, empty_bit, cases_Bool, false≢true, same_Some, eqb-false, AllByRecursion, in_run, address_of, grain_of}
+use Rattle.pas_same_text.proofs.Common.{length_of, IsValid, IsKind, IsPage, deed_word_of, Directory, Event, Block, Profile, Word, Run, Live, live_in, deed_in}
+use Rattle.pas_same_text.proofs.Common.{gives_in, allocating, Cached, any_covers, triples, events_by, with_event, Only, InTurn, View, Always, Giving, LookLife}
+use Rattle.pas_same_text.proofs.Common.{Readings, has_right, known_deed, part, word_after, visible, Made, Hint, Unpark, IsPartOf, free_of_page, runs}
+use Rattle.pas_same_text.proofs.Common.{lends_none, BackStep, pages_from, Record, Progress, named, records_of, World, Cache, IsBetween, IsSearch, IsSame}
+use Rattle.pas_same_text.proofs.Common.{lives_in, HasSame, AreSameCaches, AreSearch, EventsAt, IsReturnOf, KeepsMarks, searching, ByDeed, FromOffered}
+use Rattle.pas_same_text.proofs.Common.{LeavesWhere, address_on, gives, readies, searched, only_both, only_within, part_of_own, triples_append, run_of, to_run}
+use Rattle.pas_same_text.proofs.Pieces.{UsesOnly, IsPiece, piece_pages, IsInUse, LeavesBehind, left_offered, marks_behind, no_hint, LeftAll, giving, leaving}
+use Rattle.pas_same_text.proofs.Pieces.{rest_leaves}
 use Rattle.std.proofs.Common.{◌≡◌, ℕ, ◌+◌, ◌*◌, ◌/◌, ◌<◌, ◌==◌, Bool, true, false, if◌then◌else◌, List, [], ◌∷◌, ◌++◌, reverse, Some, ◌⊎◌, inl, inr, refl, ap}
 use Rattle.std.proofs.Common.{sym, ◌∙◌, subst, eq-eqb, eqb-true, ne_eqb, zero, suc, None, Ok, append-nil, ◌≤◌, arith}
-use Rattle.std.proofs.lemmas.{Bool.false≢true, Option.same_Some, Bool.eqb-false}
-use Rattle.std.specs.List.{AllByRecursion}
-use Rattle.pas_bits.specs.Runs.{in_run}
-use Rattle.pas_profile.specs.{Blocks.address_of, Blocks.grain_of, Blocks.length_of, Profiles.IsValid, Directories.IsKind, Profiles.IsPage}
-use Rattle.pas_profile.specs.{Directories.deed_word_of}
-use Rattle.pas_profile.specs.declared.{directory.Directory.Directory, event.Event.Event, name.Block.Block, profile.Profile.Profile, word.Word.Word}
-use Rattle.pas_machine.specs.Machine.{Run}
-use Rattle.pas_machine.specs.State.{Live, live_in, deed_in, gives_in}
-use Rattle.pas_cache.specs.{Kinds.allocating, Contents.Cached, Locals.any_covers}
-use Rattle.pas_steps.specs.{Desks.triples, Events.events_by, Events.with_event, Kinds.Only, InTurn.InTurn, Views.View, Past.Always, Kinds.Giving}
-use Rattle.pas_steps.specs.{Kinds.LookLife, Evidence.Readings, Views.has_right, Views.known_deed, Lists.part, Lists.word_after, Lists.visible}
-use Rattle.pas_steps.specs.declared.step.{Made.Made, Step.TheVariants.Hint, Step.TheVariants.Unpark}
-use Rattle.pas_core.specs.{Good.IsPartOf, Rights.free_of_page}
-use Rattle.pas_core.proofs.{MachineRuns.runs, OneActor.lends_none}
-use Rattle.pas_large.specs.Gives.{BackStep, pages_from}
-use Rattle.pas_report.specs.declared.record.Record.{Record}
-use Rattle.pas_answers.specs.Answers.{Progress, named, records_of}
-use Rattle.pas_same_text.specs.{State.World, State.Cache, Acts.IsBetween, Searched.IsSearch}
-use Rattle.pas_same_text.specs.Same.{IsSame, lives_in, HasSame, AreSameCaches}
-use Rattle.pas_same_text.proofs.{CachedSlots.block_of, StopActs.events_recorded, Flushes.visible_steps, FreeGrains.free_uncovered, RunsFound.deeds_of}
-use Rattle.pas_same_text.proofs.{SmallActs.after_with, SearchedPages.deed_chosen, FreeGrains.guards_as, SearchedPages.offered_chosen, RestingPages.word_known}
+use Rattle.pas_same_text.proofs.{CachedSlots.block_of, StopActs.events_recorded, Flushes.visible_steps, FreeGrains.free_uncovered, FreeGrains.guards_as}
+use Rattle.pas_same_text.proofs.{RunsFound.deeds_of, SmallActs.after_with, SearchedPages.deed_chosen, SearchedPages.offered_chosen, RestingPages.word_known}
 use Rattle.pas_same_text.proofs.StepMarks.{epoch_stays_by, HintsPage, at_bare, at_unbacked, once_parts}
-use Rattle.pas_same_text.proofs.Pieces.{IsPiece, piece_pages, IsInUse, LeavesBehind, left_offered, marks_behind, no_hint, LeftAll, giving, leaving, rest_leaves}
 use Rattle.pas_same_text.proofs.ReadyPages.{shown, shown_events, shown_records, shown_lives, shown_rest, IsAtPage, AllAtPage, search_at, given_ready}
-use Rattle.pas_search.specs.Kinds.{AreSearch, EventsAt, IsReturnOf, KeepsMarks, searching}
-use Rattle.pas_search.specs.Searches.{ByDeed, FromOffered}
-use Rattle.pas_segregated.specs.Stops.{LeavesWhere}
-use Rattle.pas_same_text.specs.Searches.{address_on, gives, readies, searched}
-use Rattle.pas_steps.proofs.{Apart.only_both, Apart.only_within, Parts.part_of_own, Adding.triples_append}
-use Rattle.pas_bits.proofs.Runs.{run_of, to_run}
 
 -- ---- events that make pages ready
 -- a deed of the directory, of one of these pages, or a backing
@@ -123,8 +106,7 @@ module _ {f : Profile} {k : ℕ} {p q : Progress} {w : World} {steps : List Made
   -- The text's events are those of the replay.
   pub events_now : (Event.Give k told ∷ (shown es w).events) ≡ visible q.list
   events_now =
-      ap (λ (b : Block). Event.Give k b ∷ (shown es w).events) (sym block_is)
-      ∙ (ap (λ (xs : List Event). Event.Give k block ∷ xs) (shown_events es w ∙ ap (λ (base : List Event). es ++ base) g.same.pages.events) ∙ sym visible_are)
+      cc (block_is, shown_events es w, visible_are)
 
   -- Its live blocks are those that live by them.
   pub live_now : (told ∷ (shown es w).live) ≡ lives_in (Event.Give k told ∷ (shown es w).events)
@@ -137,10 +119,8 @@ module _ {f : Profile} {k : ℕ} {p q : Progress} {w : World} {steps : List Made
   -- Its records are those of the replay.
   pub records_now : (p.records ++ records_of (events_by k (part k p.list) steps)) ≡ reverse (Record.Event (Event.Give k told) ∷ (shown es w).records)
   records_now =
-      ap (λ (xs : List Event). p.records ++ records_of xs) g.events_are
-      ∙ events_recorded p.records w.records (Record.Event (Event.Give k told) ∷ (shown es w).records) (Event.Give k block ∷ es) g.same.records
-      (ap (λ (b : Block). Record.Event (Event.Give k b) ∷ (shown es w).records) (sym block_is)
-      ∙ ap (λ (rs : List Record). Record.Event (Event.Give k block) ∷ rs) (shown_records es w))
+      cc (events_recorded p.records w.records (Record.Event (Event.Give k told) ∷ (shown es w).records) (Event.Give k block ∷ es) g.same.records
+      (grind (arith, block_is, shown_records)))
 
   -- Its epoch is that of the replay.
   pub epoch_now : Only allocating steps → (shown es w).epoch ≡ word_after q.list Word.Epoch
@@ -166,14 +146,10 @@ module _ {f : Profile} {k : ℕ} {p q : Progress} {w : World} {steps : List Made
   pub only_block : (d : Directory) (mine used : ℕ → Bool) → AreReadying k d mine es
       → ((g : ℕ) → in_run (grain_of block.name) (length_of block) g ≡ true → used (g / 256) ≡ true) → (a : ℕ) (b : Live)
       → live_in (visible q.list) a ≡ Some b → (live_in (visible p.list) a ≡ Some b) ⊎ ((g : ℕ) → IsPartOf g a b → used (g / 256) ≡ true)
-  only_block d mine used ready within a b lives = by_address (address_of block.name == a) refl
-    where
-      by_address : (t : Bool) → (address_of block.name == a) ≡ t
-          → (live_in (visible p.list) a ≡ Some b) ⊎ ((g : ℕ) → IsPartOf g a b → used (g / 256) ≡ true)
-      by_address true e =
-          let is : live ≡ b = same_Some live b (sym (lives_at a true e) ∙ lives) in
-          inr (λ x of. within x (cc (eqb-true _ a e)))
-      by_address false e = inl (sym (lives_at a false e ∙ ready_lives k d mine es _ a ready) ∙ lives)
+  only_block d mine used ready within a b lives = elim (cases_Bool (address_of block.name == a)) [
+    | inl e ↦ let is : live ≡ b = same_Some live b (sym (lives_at a true e) ∙ lives) in inr (λ x of. within x (cc (eqb-true _ a e)))
+    | inr e ↦ inl (sym (lives_at a false e ∙ ready_lives k d mine es _ a ready) ∙ lives)
+  ]
 
 -- ---- THE PAGE THAT SERVES A SEARCH, of which a block was given
 -- the search doesn't hint it
@@ -278,37 +254,23 @@ module _ (page start n name : ℕ) {f : Profile} {k : ℕ} {p : Progress} (c : C
 
       -- Search and give are one piece of the actor.
       piece : IsPiece f k p q w v mine got rest
-      piece = record {
-        valid = g.valid;
-        before = before;
-        between = g.there;
-        same = g.same;
-        now = now;
-        list = g.list;
-        kinds = kinds;
-        lends = lends_none searching refl got searches.kinds;
-        returns = searches.returns;
-        uses = record { cached = cached; outer = λ j x h. inl h; live = only_block g d mine mine (at_ready k d page es made_ready_at) within_page };
-        bare = λ x out. at_bare k d page x got (eqb-false page x out) at;
-        unbacked = λ x out. at_unbacked k d page x got (eqb-false page x out) at;
-        deeds = λ x out. cc (shown_events es w, ready_deeds k d mine es w.events x out (at_ready k d page es made_ready_at));
-        hinted = (shown_rest es w).hinted;
-        marks = marks_behind g.valid g.there behind;
-        own_hint = λ x here h. absurd (elim (once_parts (λ m. m.step ≡ Hint x) rest got h) [
-          | inl later ↦ no_hint g.valid g.there behind x later
-          | inr early ↦ not_hinted page got marks (subst (λ (y : ℕ). HintsPage y got) (sym (eqb-true page x here)) early)
-        ]);
-        own_offer = left_offered g.valid g.there behind v now kind;
-      }
+      piece =
+          let ready = at_ready k d page es made_ready_at in
+          let uses : UsesOnly p q mine = record { cached = cached; outer = λ j x h. inl h; live = only_block g d mine mine ready within_page } in
+          let bare = λ (x : ℕ) (out : mine x ≡ false). at_bare k d page x got (eqb-false page x out) at in
+          let unbacked = λ (x : ℕ) (out : mine x ≡ false). at_unbacked k d page x got (eqb-false page x out) at in
+          let kept : (x : ℕ) → mine x ≡ false → deed_in v.events x ≡ deed_in w.events x = λ x out. cc (shown_events es w, ready_deeds k d mine es w.events x out ready) in
+          let hint : (x : ℕ) → mine x ≡ true → HintsPage x (rest ++ got) → empty_bit p.list x ≡ true =
+          λ x here h. absurd (elim (once_parts (λ m. m.step ≡ Hint x) rest got h) [
+            | inl later ↦ no_hint g.valid g.there behind x later
+            | inr early ↦ not_hinted page got marks (subst (λ (y : ℕ). HintsPage y got) (sym (eqb-true page x here)) early)
+          ]) in
+          let lends : LendsNone got = lends_none searching refl got searches.kinds in
+          let offer = left_offered g.valid g.there behind v now kind in
+          assumption (uses, bare, unbacked, kept, (shown_rest es w).hinted, marks_behind g.valid g.there behind, hint, offer, now, kinds, lends, searches.returns, g)
 
       -- A block of a page that was searched for leads the text to the replay's state.
       pub page_given : IsSame f q v
-      page_given = record {
-        pages = piece_pages piece;
-        caches = caches;
-        guards = now.guards;
-        names = names_now g name;
-        records = ap (λ (rs : List Record). p.records ++ rs) (append-nil (records_of (events_by k (part k p.list) (rest ++ got)))) ∙ records_now g;
-        epoch = epoch_now g kinds;
-        read = (shown_rest es w).read ∙ g.same.read;
-      }
+      page_given =
+          let records = ap (λ (rs : List Record). p.records ++ rs) (append-nil (records_of (events_by k (part k p.list) (rest ++ got)))) ∙ records_now g in
+          assumption (piece_pages piece, now, names_now g name, records, epoch_now g kinds, (shown_rest es w).read ∙ g.same.read)

@@ -1,28 +1,16 @@
 -- GUARDED REQUESTS: the keeper lowers the guards whose blocks have ended, and tries to raise one; where it raises none, the thread makes the request as any.
 use Rattle.std.proofs.Common.{◌≡◌, ℕ, ◌+◌, ◌-◌, ◌*◌, ◌/◌, false, List, [], ◌∷◌, ◌++◌, Option, None, Some, refl, ap, sym, ◌∙◌, subst, arith, append_assoc}
 use Rattle.std.proofs.Common.{append-nil}
-use Rattle.std.specs.List.{filter}
-use Rattle.pas_profile.specs.{Blocks.address_of, Profiles.IsAdmitted, Profiles.IsDirectoryOf, Requests.route_in, Requests.room_in}
-use Rattle.pas_profile.specs.declared.{directory.Directory.Directory, directory.Route.Route, event.Event.Event, name.Block.Block, profile.Profile.Profile}
-use Rattle.pas_steps.specs.{Desks.triples, Events.events_by, Lists.part, Lists.Legal}
-use Rattle.pas_steps.specs.declared.step.Made.{Made}
-use Rattle.pas_steps.proofs.Parts.{part_of_own}
-use Rattle.pas_core.proofs.OneActor.{legal_before, legal_earlier}
-use Rattle.pas_cache.specs.Contents.{Cached}
-use Rattle.pas_large.specs.Doors.{Indexes, found_in}
-use Rattle.pas_guard.specs.Raises.{IsRaised}
-use Rattle.pas_guard.specs.declared.book.Guard.{Guard as BookGuard}
-use Rattle.pas_report.specs.declared.record.{Record.Record, Said.Said}
-use Rattle.pas_trace.specs.{Acts.Act, Acts.numbers_from, EveryPlan.IsThread}
-use Rattle.pas_trace.specs.declared.{item.Request.Request, plan.Op.Op, plan.What.What}
-use Rattle.pas_answers.specs.{Answers.Progress, Answers.with_book, Answers.records_of, Indexes.after_tried, Indexes.TriedIsNamedBy, Reaching.AnswersTried}
-use Rattle.pas_answers.specs.Guarding.{Tried, IsTried, said_of_guard, after_trying, after_giving}
-use Rattle.pas_same_text.specs.{State.World, State.each, Searches.backs, Runs.large_of, Order.serves, Same.IsSame, Acts.IsBetween, Known.IsKnown, Known.IsKept}
-use Rattle.pas_same_text.specs.{Known.KeepsSame}
-use Rattle.pas_same_text.specs.Guards.{guards_of, lowers_ended, is_over, raises, guards}
-use Rattle.pas_same_text.proofs.{KeepersRest.book_finds, LowerActs.sweep_same, LowerActs.ended_text, MissedGuards.missed_same, PagesRequests.pages_answered}
-use Rattle.pas_same_text.proofs.{PagesRequests.named_large, RaisedGuards.raised_same, ReadyPages.shown, RunsFound.deeded, RunsFound.deeds_of}
-use Rattle.pas_same_text.proofs.{KeepersRest.keeper_of, SoughtRuns.sought_text, SoughtRuns.missed_text, SoughtRuns.IsSought}
+use Rattle.pas_same_text.proofs.Common.{filter, address_of, IsAdmitted, IsDirectoryOf, route_in, room_in, Directory, Event, Block, Profile, triples, events_by}
+use Rattle.pas_same_text.proofs.Common.{part, Legal, Made, part_of_own, legal_before, legal_earlier, Cached, Indexes, found_in, IsRaised, Guard as BookGuard}
+use Rattle.pas_same_text.proofs.Common.{Record, Said, Act, numbers_from, IsThread, Request, Op, What, Progress, with_book, records_of, AnswersTried, Tried}
+use Rattle.pas_same_text.proofs.Common.{IsTried, after_trying, World, each, backs, large_of, serves, IsSame, IsBetween, IsKnown, IsKept, KeepsSame}
+use Rattle.pas_same_text.proofs.Common.{lowers_ended, raises}
+use Rattle.pas_answers.specs.{Indexes.after_tried, Indexes.TriedIsNamedBy, Guarding.said_of_guard, Guarding.after_giving}
+use Rattle.pas_same_text.specs.Guards.{guards_of, is_over, guards}
+use Rattle.pas_same_text.proofs.{KeepersRest.book_finds, KeepersRest.keeper_of, LowerActs.sweep_same, LowerActs.ended_text, MissedGuards.missed_same}
+use Rattle.pas_same_text.proofs.{PagesRequests.pages_answered, PagesRequests.named_large, RaisedGuards.raised_same, ReadyPages.shown, RunsFound.deeded}
+use Rattle.pas_same_text.proofs.{RunsFound.deeds_of, SoughtRuns.sought_text, SoughtRuns.missed_text, SoughtRuns.IsSought}
 use Rattle.pas_same_text.proofs.SameIndexes.{request_indexes, all_lowered_keep, each_keeps, backs_keep, same_indexes}
 use Rattle.pas_same_text.proofs.SeatedActs.{own_book, other_book, swept, swept_between, raise_legal, raise_fits, sweep_and_raise_are_the_try, tried_between}
 
@@ -87,19 +75,11 @@ module _ (threads : ℕ) (f : Profile) (keeper line k other name heap size align
 
     -- The keeper sought a run.
     sought : IsSought f keeper heap n pm wm xs
-    sought = record {
-      valid = known.taken.valid;
-      between = between;
-      same =
-          rw (ended_text f keeper p w known.taken.same)
-          (sweep_same f keeper false p w h.swept h.left h.lowered known.taken.valid keeps known.taken.before known.taken.same h.sweep between);
-      of = of;
-      legal = legal_earlier f keeper h.raise.after xs pm.list legal_raise;
-      kinds = h.raise.kinds;
-      rise = h.raise.rise;
-      due = h.raise.returns;
-      met = book_finds f heap h.left (part keeper pm.list) (raise_fits f keeper r p t known.taken.valid keeps known.taken.before uncached h legal);
-    }
+    sought =
+        let same : IsSame f pm wm = rw (ended_text f keeper p w known.taken.same)
+        (sweep_same f keeper false p w h.swept h.left h.lowered known.taken.valid keeps known.taken.before known.taken.same h.sweep between) in
+        let met = book_finds f heap h.left (part keeper pm.list) (raise_fits f keeper r p t known.taken.valid keeps known.taken.before uncached h legal) in
+        assumption (known.taken.valid, between, same, of, legal_earlier f keeper h.raise.after xs pm.list legal_raise, h.raise, met)
 
     lists_are : triples keeper t.steps ++ p.list ≡ triples keeper (h.raise.after ++ xs) ++ pm.list
     lists_are = cc (sweep_and_raise_are_the_try f keeper r p t known.taken.valid keeps known.taken.before uncached h legal)
@@ -190,10 +170,10 @@ module _ (threads : ℕ) (f : Profile) (keeper line k other name heap size align
         (cc (lists_are none h legal_left, searched_all)) refl (ap (with_book p.books keeper) h.raise.outcome.same) refl
         (cc (records_after none h legal_left, append-nil (records_of (own_events none h legal_left)), searched_all)) refl
 
+    -- the search found no run, so the text makes the request as any other
     down_text : guards f keeper k (Some r) w ≡ serves f k name heap (route_in f size align) (room_in f size align) align tried
     down_text =
-        missed_text (sought none h legal_left) h.raise.outcome.found k name
-        ∙ ap (λ (way : Route). serves f k name heap way (room_in f size align) align tried) (sym known.planned.1.1.1)
+        cc (missed_text (sought none h legal_left) h.raise.outcome.found k name)
 
     tried_indexes : tried.indexes ≡ indexes
     tried_indexes = deeds_keep_indexes keeper d (deeded h.raise.searched) wm ∙ wm_indexes

@@ -1,30 +1,14 @@
 -- WHERE THREADS AND KEEPERS ARE AT REST with their caches and books, all actors of the region rest; and keepers are so after what they do.
-use Rattle.std.proofs.Common.{ℕ, ◌<◌, ◌≤◌, [], ◌⊎◌, inl, inr, ◌∙◌, arith, ◌≡◌, ◌/◌, ◌==◌, Bool, true, false, if◌then◌else◌, List, ◌∷◌, ◌++◌, ap, sym, subst}
-use Rattle.std.proofs.Common.{true≢false, eqb-true, eq-eqb, ◌+◌, not, Option, None, Some, refl}
-use Rattle.std.proofs.lemmas.Bool.{cases_lt, cases_Bool, eqb-false, or_cases}
-use Rattle.pas_profile.specs.declared.{profile.Profile.Profile, word.Word.Word, name.Block.Block}
-use Rattle.pas_steps.specs.Lists.{part, Legal, Whole, word_after, visible}
-use Rattle.pas_steps.specs.{Views.View, Views.holds, Allowed.Allowed, Desks.triples, Effects.target, Effects.new_value, Past.Since, Clear.HasNothing}
-use Rattle.pas_steps.specs.{Kinds.Giving, Kinds.LookLife, Kinds.returning}
-use Rattle.pas_cache.specs.{Caches.AtRest, Contents.Cached}
-use Rattle.pas_trace.specs.{Acts.Act, EveryPlan.IsThread}
-use Rattle.pas_answers.specs.{Answers.Progress, Answers.Books, Rests.AreAtRest}
-use Rattle.pas_same_text.specs.{Acts.IsResting, Acts.AreResting, Acts.IsBetween, Seats.IsThreadOf, Seats.IsKeeperOf, Seats.AreSeated, Runs.large_of}
-use Rattle.pas_profile.specs.{Layouts.same_word, Profiles.IsValid}
-use Rattle.pas_machine.specs.State.{backed_in}
-use Rattle.pas_steps.specs.declared.step.{Made.Made, Step.Step, Step.TheVariants.Back}
-use Rattle.pas_steps.proofs.{Parts.part_of_others, Parts.part_of_own, Adding.triples_append, Past.always_map}
-use Rattle.pas_core.specs.Good.{word_of_backed}
-use Rattle.pas_core.proofs.{Grains.one_holder, MachineRuns.agrees, Nexts.agreed_steps, OneActor.legal_earlier}
-use Rattle.pas_guard.specs.{Evidence.BackedReadHere, Seeks.LeftSince, Keepers.IsBeside, Sweeps.sweeping, Sweeps.SweepSteps, Raises.BacksNot, Raises.guard_of}
-use Rattle.pas_guard.specs.{Raises.RaiseSteps}
-use Rattle.std.specs.List.{filter}
-use Rattle.pas_guard.proofs.Raises.{no_backs, each_more, backs_both, raised_pages, raised_leaves}
-use Rattle.pas_rights.specs.Gives.{give_steps}
-use Rattle.pas_large.specs.Finds.{MayFind}
-use Rattle.pas_guard.specs.Books.{is_outer_of, is_outer, Each, FitsBook}
-use Rattle.pas_guard.specs.declared.book.Guard.{Guard}
-use Rattle.pas_report.specs.declared.record.Record.{Record}
+use Rattle.std.proofs.Common.{ℕ, ◌<◌, ◌≤◌, [], ◌⊎◌, inl, inr, ◌∙◌, arith, ◌≡◌, ◌/◌, ◌==◌, Bool, true, false, List, ◌∷◌, ◌++◌, ap, sym, subst, true≢false}
+use Rattle.std.proofs.Common.{eqb-true, eq-eqb, ◌+◌, not, Option, None, Some, refl}
+use Rattle.pas_same_text.proofs.Common.{cases_lt, cases_Bool, eqb-false, or_cases, Profile, Word, Block, part, Legal, Whole, word_after, visible, View, holds}
+use Rattle.pas_same_text.proofs.Common.{Allowed, triples, Since, HasNothing, Giving, LookLife, returning, AtRest, Cached, Act, IsThread, Progress, Books}
+use Rattle.pas_same_text.proofs.Common.{AreAtRest, IsResting, AreResting, IsBetween, IsThreadOf, IsKeeperOf, AreSeated, large_of, IsValid, backed_in, Made}
+use Rattle.pas_same_text.proofs.Common.{Back, part_of_others, part_of_own, triples_append, always_map, word_of_backed, one_holder, agrees, agreed_steps}
+use Rattle.pas_same_text.proofs.Common.{legal_earlier, IsBeside, sweeping, SweepSteps, guard_of, filter, give_steps, MayFind, is_outer_of, is_outer, Each}
+use Rattle.pas_same_text.proofs.Common.{FitsBook, Guard, Record}
+use Rattle.pas_guard.proofs.Raises.{raised_leaves, no_backs, each_more, backs_both, raised_pages}
+use Rattle.pas_guard.specs.{Evidence.BackedReadHere, Seeks.LeftSince, Raises.BacksNot, Raises.RaiseSteps}
 use Rattle.pas_same_text.proofs.{FreeGrains.outer_held, GivenBack.some_outer, LowerActs.IsSwept, LowerActs.swept_told, LowerActs.goes_down, Tests.or_none}
 use Rattle.pas_same_text.proofs.{Tests.eqb_turned}
 
@@ -71,15 +55,11 @@ IsNoKeepers act = Unit {0}
 
 -- ==== OUTER PAGES STAY BARE: whom nothing lets back a page, and what a keeper does that raises a guard.
 -- ---- one step: only a back makes a page that isn't backed a backed one
-stays_bare : (e : ℕ) (s : Step) (page old : ℕ) → (s ≡ Back page → ⊥) → old ≡ 0
-    → (if same_word (target s) (Word.Backed page) then new_value e s old else old) ≡ 0
-stays_bare e s page old not h = search (arith, cases_Bool, eqb-true)
-
 -- ---- steps of one actor
 pub bare_on : (f : Profile) (k page : ℕ) (xs : List Made) (l : Whole) → Legal f (triples k xs ++ l) → BacksNot page xs → word_after l (Word.Backed page) ≡ 0
     → word_after (triples k xs ++ l) (Word.Backed page) ≡ 0
 bare_on f k page [] l legal backs zero = zero
-bare_on f k page (m ∷ xs) l legal backs zero = search (arith, stays_bare, bare_on f k page xs l legal.1 backs.1 zero)
+bare_on f k page (m ∷ xs) l legal backs zero = search (arith, cases_Bool, eqb-true, bare_on f k page xs l legal.1 backs.1 zero)
 
 -- nobody backs a page all of whose grains another holds
 held_unbacked : (f : Profile) (k j page : ℕ) (xs : List Made) (l : Whole) → IsValid f → Legal f (triples k xs ++ l) → (k == j) ≡ false
@@ -98,8 +78,8 @@ held_unbacked f k j page (m ∷ xs) l valid legal other held = (
 pub bare_since : (f : Profile) (k page : ℕ) (v : View) (xs : List Made) (l : Whole) → Legal f (triples k xs ++ l)
     → Since (BackedReadHere v page 0) (LeftSince page) xs → word_after (triples k xs ++ l) (Word.Backed page) ≡ 0
 bare_since f k page v [] l legal since = absurd since
-bare_since f k page v (m ∷ xs) l legal (inl read) = search (arith, stays_bare)
-bare_since f k page v (m ∷ xs) l legal (inr later) = search (arith, stays_bare, bare_since f k page v xs l legal.1 later.1)
+bare_since f k page v (m ∷ xs) l legal (inl read) = search (arith, cases_Bool, eqb-true)
+bare_since f k page v (m ∷ xs) l legal (inr later) = search (arith, cases_Bool, eqb-true, bare_since f k page v xs l legal.1 later.1)
 
 -- ---- words and events
 none_backed : (b : Bool) → 0 ≡ word_of_backed b → b ≡ false
@@ -115,10 +95,6 @@ bare_word f l page valid legal none = (agrees f l valid legal).backed page ∙ a
 
 -- ==== A KEEPER RESTS after its calls, and so do all others.
 -- ---- an actor without slots rests with its book
--- it holds what its book has, and its cache has no slots
-fitted : (f : Profile) (c : Cached) (old left : List Guard) (v w : View) → c.locals ≡ [] → IsResting f c old v → FitsBook f left w → IsResting f c left w
-fitted f c old left v w none rest fits = search arith
-
 -- ---- a page of another keeper stays bare
 pub others_bare : (f : Profile) (p : Progress) (j k page : ℕ) (xs : List Made) → IsValid f → IsBetween f p → Legal f (triples j xs ++ p.list) → (j == k) ≡ false
     → is_outer (p.books k) page ≡ true → backed_in (visible (triples j xs ++ p.list)) page ≡ false
@@ -140,20 +116,12 @@ module _ (f : Profile) (p : Progress) (keeper : ℕ) (books : Books) (steps : Li
   -- Each thread still rests, whoever the keeper is.
   working : (j : ℕ) → IsThread f j → (t : Bool) → (j == keeper) ≡ t → IsResting f (p.caches j) (books j) (part j l)
   working j of true e =
-      let at_keeper : IsResting f (p.caches keeper) (books keeper) (part keeper l) =
-      subst (λ (v : View). IsResting f (p.caches keeper) (books keeper) v) (sym (part_of_own keeper steps p.list))
-      (subst (λ (gs : List Guard). IsResting f (p.caches keeper) gs (steps ++ part keeper p.list)) (sym own)
-      (fitted f (p.caches keeper) (p.books keeper) left (part keeper p.list) (steps ++ part keeper p.list) uncached (before.rest.working keeper is) fits)) in
-      subst (λ (i : ℕ). IsResting f (p.caches i) (books i) (part i l)) (sym (eqb-true j keeper e)) at_keeper
+      search (arith, part_of_own, eqb-true)
   working j of false e =
-      subst (λ (v : View). IsResting f (p.caches j) (books j) v) (sym (part_of_others j keeper steps p.list (λ same. eqb-false j keeper e (sym same))))
-      (subst (λ (gs : List Guard). IsResting f (p.caches j) gs (part j p.list)) (sym (others j e)) (before.rest.working j of))
+      rw (part_of_others j keeper steps p.list (λ same. eqb-false j keeper e (sym same)), others j e) (before.rest.working j of)
 
   by_others : (P : List Guard → Type 0) (j : ℕ) (t : Bool) → (j == keeper) ≡ t → P left → ((j == keeper) ≡ false → P (p.books j)) → P (books j)
   by_others P j t e at_left rest = search (arith, eqb-true)
-
-  not_scavenger : keeper ≡ 0 → ⊥
-  not_scavenger zero = omega (arith, is.0, zero)
 
   -- After its calls a keeper rests with the guards that are left, and all others rest as before.
   pub keeper_resting : AreResting f p.caches books l
@@ -164,7 +132,7 @@ module _ (f : Profile) (p : Progress) (keeper : ℕ) (books : Books) (steps : Li
     bare = λ j page. by_others (λ (gs : List Guard). is_outer gs page ≡ true → backed_in (visible l) page ≡ false) j _ refl
         (λ outer. bare_events f l page valid legal (bare page outer))
         (λ ne outer. others_bare f p keeper j page steps valid before legal (eqb_turned keeper j ∙ ne) outer);
-    scavenger = subst HasNothing (sym (part_of_others 0 keeper steps p.list (λ same. not_scavenger same))) before.rest.scavenger;
+    scavenger = subst HasNothing (sym (part_of_others 0 keeper steps p.list (λ same. omega (arith, is.0, same)))) before.rest.scavenger;
   }
     where
       by_test : (j : ℕ) → (IsThread f j → ⊥) → (t : Bool) → (j == keeper) ≡ t → t ≡ false

@@ -1,3 +1,4 @@
+mod Common
 mod Tests
 mod RestingPages
 mod CachedSlots
@@ -21,6 +22,7 @@ mod ClassRequests
 mod SoughtRuns
 mod RaiseWalk
 mod RunGiven
+mod GivenRuns
 mod MissedGuards
 mod RaisedGuards
 mod GuardActs

@@ -1,39 +1,24 @@
 -- GUARDS GO DOWN: a sweep of a keeper, guard by guard, and then in the replay and in the text.
 use Rattle.std.proofs.Common.{◌≡◌, ℕ, ◌+◌, ◌*◌, ◌/◌, ◌%◌, ◌==◌, nat_lt, Bool, true, false, not, ◌||◌, if◌then◌else◌, List, [], ◌∷◌, ◌++◌, map, inl, inr, refl}
 use Rattle.std.proofs.Common.{◌⊎◌, ap, sym, ◌∙◌, subst, arith, eq-eqb, ◌≢◌, reverse, Some, eqb-true}
-use Rattle.std.proofs.lemmas.Bool.{or_left, or_right, false≢true, eqb-false, or_cases, false_from_ne_true}
-use Rattle.std.specs.List.{filter}
-use Rattle.pas_large.proofs.Left.{hints_both}
-use Rattle.pas_bits.specs.declared.mask.Mask4.{Mask4}
-use Rattle.pas_profile.specs.{Blocks.address_of, Lives.turn_of, Profiles.IsValid, Profiles.IsDirectoryOf, Directories.deed_word_of}
-use Rattle.pas_profile.specs.declared.{directory.Directory.Directory, event.Event.Event, profile.Profile.Profile, word.Word.Word}
-use Rattle.pas_machine.specs.State.{live_in, ends_in, deed_in}
-use Rattle.pas_steps.specs.{Desks.triples, Past.Always}
-use Rattle.pas_steps.specs.Kinds.{Kinds, LookLife, Putting, Only}
-use Rattle.pas_steps.specs.Lists.{Whole, word_after, visible, Legal, part}
-use Rattle.pas_steps.specs.declared.step.Made.{Made}
-use Rattle.pas_steps.proofs.{Adding.triples_append, Apart.only_within}
-use Rattle.pas_core.proofs.{Lives.turn_is, MachineRuns.agrees, OneActor.legal_earlier, Deeds.deed_of, Grains.one_holder}
-use Rattle.pas_rights.specs.{Looks.HintsEmpty, PutsBack.BackSteps, Words.full}
-use Rattle.pas_rights.proofs.{Orders.return_returns, Puts.puts_kinds}
-use Rattle.pas_same_text.specs.{Runs.large_of, State.Guard, State.World, State.each, Pages.is_of, Guards.lowers, Guards.lowers_ended, Acts.IsBetween}
-use Rattle.pas_same_text.specs.{Acts.StaysSame, Words.free_bit}
-use Rattle.pas_same_text.specs.Same.{told_guard, IsSame, HasSame, AreSameCaches, lives_in}
-use Rattle.pas_report.specs.declared.record.Record.{Record}
-use Rattle.pas_guard.specs.Books.{is_outer_of, is_outer, Each, IsGuardOf, KnowsGuard}
-use Rattle.pas_guard.specs.{Keepers.IsBeside, Lowers.LowerSteps}
-use Rattle.pas_guard.specs.Sweeps.{is_over, life_look, lowered_record, SweptOne, Swept, sweeping, SweepSteps}
-use Rattle.pas_guard.specs.declared.book.Guard.{Guard as BookGuard}
+use Rattle.pas_same_text.proofs.Common.{or_left, or_right, false≢true, eqb-false, or_cases, false_from_ne_true, filter, hints_both, Mask4, address_of, IsValid}
+use Rattle.pas_same_text.proofs.Common.{IsDirectoryOf, deed_word_of, Directory, Event, Profile, Word, live_in, ends_in, deed_in, triples, Always, Kinds}
+use Rattle.pas_same_text.proofs.Common.{LookLife, Putting, Only, Whole, word_after, visible, Legal, part, Made, triples_append, only_within, agrees}
+use Rattle.pas_same_text.proofs.Common.{legal_earlier, deed_of, one_holder, HintsEmpty, BackSteps, return_returns, puts_kinds, large_of, World, each, is_of}
+use Rattle.pas_same_text.proofs.Common.{lowers, lowers_ended, IsBetween, StaysSame, free_bit, told_guard, IsSame, HasSame, AreSameCaches, lives_in, Record}
+use Rattle.pas_same_text.proofs.Common.{is_outer_of, is_outer, Each, IsBeside, sweeping, SweepSteps, Guard as BookGuard, same_from_deed_word, View, holds}
+use Rattle.pas_same_text.proofs.Common.{usable_by_kind, word_of_deed, freeing, Act, IsThread, Progress, with_book, with_records, after_lowering}
+use Rattle.pas_steps.specs.Views.{KnowsDeed}
+use Rattle.pas_profile.specs.Lives.{turn_of}
+use Rattle.pas_core.proofs.Lives.{turn_is}
+use Rattle.pas_rights.specs.Words.{full}
+use Rattle.pas_same_text.specs.State.{Guard}
+use Rattle.pas_guard.specs.{Books.IsGuardOf, Books.KnowsGuard, Lowers.LowerSteps}
+use Rattle.pas_guard.specs.Sweeps.{is_over, life_look, lowered_record, SweptOne, Swept}
 use Rattle.pas_same_text.proofs.{Flushes.unshown, EntrySteps.return_hints}
 use Rattle.pas_same_text.proofs.GivenBack.{lowered_line, outer_pages, AreOfRegion, AreLowered, all_lowered, said_reversed, lowered_unguarded, others_stay}
 use Rattle.pas_same_text.proofs.GivenBack.{some_outer, apart_split, own_left, left_of, outer_number}
 use Rattle.pas_same_text.proofs.StepMarks.{IsMarked, marked_parts, none_marked, returns_marked, hints_none, hint_marks, offer_marks, epoch_stays_by}
-use Rattle.pas_profile.proofs.Codecs.{same_from_deed_word}
-use Rattle.pas_steps.specs.Views.{View, holds, KnowsDeed, usable_by_kind}
-use Rattle.pas_core.specs.Good.{word_of_deed}
-use Rattle.pas_free_log.specs.Frames.{freeing}
-use Rattle.pas_trace.specs.{Acts.Act, EveryPlan.IsThread}
-use Rattle.pas_answers.specs.{Answers.Progress, Answers.with_book, Answers.with_records, Guarding.after_lowering}
 use Rattle.pas_same_text.proofs.RestingPages.{is_open, deed_now, word_known, IsGivenBack, open_from, covered_not_held, free_left, given_pages}
 use Rattle.pas_same_text.proofs.FreeGrains.{cached_held, outer_held, held_by, never_both, holder_thread}
 
@@ -83,10 +68,8 @@ look_true f k word g l valid legal beside =
     let grain : a % 4096 / 16 ≡ a / 16 % 256 = omega arith in
     let whole : 16 * (a / 16) ≡ a = omega (arith, beside.begins) in
     let answer = legal.0.answer_is ∙ (ap (λ x. word_after l (Word.Life x (a % 4096 / 16))) page ∙ ap (λ (x : ℕ). word_after l (Word.Life (a / 16 / 256) x)) grain) in
-    let turn : turn_of word ≡ ends_in (visible l) a =
-    ap turn_of answer
-    ∙ (turn_is f (a / 16) _ (live_in (visible l) (16 * (a / 16))) _ (ends_in (visible l) (16 * (a / 16))) ((agrees f l valid legal.1).life (a / 16))
-    ∙ ap (ends_in (visible l)) whole) in
+    let turn : turn_of word ≡ ends_in (visible l) a = cc (turn_is f (a / 16) _ (live_in (visible l) (16 * (a / 16))) _ (ends_in (visible l) (16 * (a / 16)))
+    ((agrees f l valid legal.1).life (a / 16))) in
     ap (nat_lt g.block.name.turn) turn
 
 -- ==== THE SWEEP: which guards go down follows from the events
@@ -117,6 +100,7 @@ module _ (all : Bool) (es : List Event) (keeper : ℕ) (g : BookGuard) (gs kept 
     | inr here ↦ elim (marked_parts q first look here) [ inl lowers ↦ inr lowers | inr looks ↦ absurd (none_marked (LookLife ∷ []) refl q look (refl, tt) looks) ]
   ]
 
+  -- where it stays, it was only looked at
   swept_one : (t : Bool) → goes_down all es g ≡ t → SweptOne t keeper g first kept after said more
       → IsSwept all es keeper (g ∷ gs) kept said (rest ++ (first ++ look))
   swept_one true e h = record {
@@ -128,13 +112,7 @@ module _ (all : Bool) (es : List Event) (keeper : ℕ) (g : BookGuard) (gs kept 
       | inr lowers ↦ or_left (is_outer_of g q) (is_outer fall q) (lower_marked g q first h.0 lowers)
     ];
   }
-  swept_one false e h = record {
-    kept_is = h.1 ∙ (ap (λ (xs : List BookGuard). g ∷ xs) later.kept_is ∙ sym (ap (λ (b : Bool). if not b then g ∷ stay else stay) e));
-    said_is = h.2 ∙ (later.said_is ∙ sym (ap (λ (b : Bool). map lowered_line (map (told_guard keeper) (if b then g ∷ fall else fall))) e));
-    hints = hints_both rest (first ++ look) later.hints (hints_both first look (subst (Always HintsEmpty) (sym h.0) tt) look_hints);
-    marks = λ q marked. ap (λ (b : Bool). is_outer (if b then g ∷ fall else fall) q) e
-        ∙ elim (marked_in q marked) [ inl in_rest ↦ later.marks q in_rest | inr none ↦ absurd (subst (IsMarked q) h.0 none) ];
-  }
+  swept_one false e h = search (arith, hints_both, look_hints, marked_in)
 
 module _ (f : Profile) (all : Bool) (es : List Event) (keeper : ℕ) (valid : IsValid f) where
   -- A sweep lowers just the guards that go down by the events, and says so of each, in order.
@@ -251,12 +229,10 @@ module _ (f : Profile) (keeper : ℕ) (all : Bool) (p : Progress) (w : World) (s
 
   -- Afterwards the replay has what the text has.
   has : HasSame f p' v
-  has = record {
-    events = lowered.events ∙ (same.pages.events ∙ sym shown);
-    live = lowered.live ∙ (same.pages.live ∙ ap lives_in (sym lowered.events));
-    caches = subst (AreSameCaches f p.caches) (sym lowered.caches) same.caches;
-    guards = record { each = λ k. guards_at k (k == keeper) refl };
-  }
+  has =
+      let live = lowered.live ∙ (same.pages.live ∙ ap lives_in (sym lowered.events)) in
+      let guards = λ (k : ℕ). guards_at k (k == keeper) refl in
+      assumption (lowered.events ∙ (same.pages.events ∙ sym shown), live, subst (AreSameCaches f p.caches) (sym lowered.caches) same.caches, guards)
 
   -- ---- an outer page that came back is open
   no_holder : (j g : ℕ) → is_outer fallen (g / 256) ≡ true → holds (part j p'.list) g ≡ true → ⊥
@@ -299,15 +275,11 @@ module _ (f : Profile) (keeper : ℕ) (all : Bool) (p : Progress) (w : World) (s
 
   -- A keeper's sweep leads the text to the replay's state, with the same guards left.
   pub sweep_same : IsSame f p' v
-  sweep_same = record {
-    pages = given_pages f keeper p.list p' w v steps valid same.pages refl after has given;
-    caches = has.caches;
-    guards = has.guards;
-    names = lowered.names ∙ same.names;
-    records = ap (λ rs. p.records ++ rs) told.said_is ∙ (said_reversed downs p.records w.records same.records ∙ ap reverse (sym lowered.records));
-    epoch = lowered.epoch ∙ (same.epoch ∙ sym (epoch_stays_by sweeping refl keeper steps p.list sweep.kinds));
-    read = lowered.read ∙ same.read;
-  }
+  sweep_same =
+      let pages = given_pages f keeper p.list p' w v steps valid same.pages refl after has given in
+      let records = ap (λ rs. p.records ++ rs) told.said_is ∙ (said_reversed downs p.records w.records same.records ∙ ap reverse (sym lowered.records)) in
+      let epoch = lowered.epoch ∙ (same.epoch ∙ sym (epoch_stays_by sweeping refl keeper steps p.list sweep.kinds)) in
+      assumption (pages, has, lowered.names ∙ same.names, records, epoch, lowered.read ∙ same.read)
 
 -- ---- the text
 all_pass : (gs : List BookGuard) → filter (λ g. true) gs ≡ gs

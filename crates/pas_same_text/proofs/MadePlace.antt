@@ -2,22 +2,11 @@
 -- longest ago.
 use Rattle.std.proofs.Common.{◌≡◌, ℕ, ◌+◌, ◌/◌, ◌%◌, ◌<◌, ◌≤◌, ◌==◌, nat_le, Bool, true, false, not, ◌&&◌, ◌||◌, if◌then◌else◌, cond, List, [], ◌∷◌, ◌++◌}
 use Rattle.std.proofs.Common.{length, All, Option, None, Some, inl, refl, ap, sym, ◌∙◌, subst, append-nil, arith, true≢false, eq-eqb, eqb-true}
-use Rattle.std.proofs.lemmas.{Bool.Decides.nat_tests, List.Sums.sum_by-cons, List.Elements.All-head, List.Elements.All-tail, Option.same_Some, Option.none-some}
-use Rattle.std.specs.List.{find, count_by}
-use Rattle.pas_bits.specs.Masks.{IsEmpty}
-use Rattle.pas_profile.specs.Profiles.{IsValid}
-use Rattle.pas_profile.specs.declared.profile.Profile.{Profile}
-use Rattle.pas_steps.specs.{Kinds.Only, Lists.part}
-use Rattle.pas_steps.specs.declared.step.Made.{Made}
-use Rattle.pas_segregated.specs.{Masks.start_of, Stops.home_of, Stops.LeavesWhere, Stops.StopStepsAt}
-use Rattle.pas_segregated.specs.declared.slots.Slots.{Slots}
-use Rattle.pas_segregated.proofs.Starts.{start_below}
-use Rattle.pas_cache.specs.{Changes.StopsFirst, Contents.Cached, Kinds.releasing, Serves.MakesPlace}
-use Rattle.pas_cache.specs.Locals.{IsLocal, covers, any_covers, local_for, others_than, is_for as is_for_slots}
-use Rattle.pas_trace.specs.EveryPlan.{IsThread}
-use Rattle.pas_answers.specs.Answers.{Progress}
-use Rattle.pas_same_text.specs.{State.Local, State.World, State.locals_of, Same.IsSame, Same.AreSameLocals, Acts.IsBetween}
-use Rattle.pas_same_text.specs.Classes.{is_for, others, gives_up, gives_up_first, makes_place}
+use Rattle.pas_same_text.proofs.Common.{nat_tests, sum_by-cons, All-head, All-tail, same_Some, none-some, find, count_by, IsEmpty, IsValid, Profile, Only, part}
+use Rattle.pas_same_text.proofs.Common.{Made, start_of, home_of, LeavesWhere, StopStepsAt, Slots, start_below, StopsFirst, Cached, releasing, IsLocal, covers}
+use Rattle.pas_same_text.proofs.Common.{any_covers, local_for, others_than, IsThread, Progress, Local, World, locals_of, IsSame, AreSameLocals, IsBetween}
+use Rattle.pas_same_text.proofs.Common.{is_for, others, gives_up, gives_up_first, makes_place}
+use Rattle.pas_cache.specs.{Serves.MakesPlace, Locals.is_for as is_for_slots}
 use Rattle.pas_same_text.proofs.{CachedSlots.found_passes, StopSteps.AreUnique, StopSteps.unique_of, StopSteps.no_other_counted, OneUp.up_to}
 use Rattle.pas_same_text.proofs.{OneUp.given_up_same, Tests.and_first, Tests.and_second}
 use Rattle.pas_same_text.proofs.CacheLists.{same_kept, Finds, for_same, found_same, others_same}
@@ -124,12 +113,7 @@ module _ (f : Profile) (k heap class : ℕ) (p : Progress) (w : World) (fewer : 
   -- ---- there is none of the heap and class
   none_gone : local_for heap class c.locals ≡ None → place.spent ≡ [] → IsSame f (up_to p k steps fewer) (placed_by k found_text w)
   none_gone none h =
-      let kept : place.kept ≡ c.locals = place.taken.others ∙ all_left heap class c.locals none in
-      let stops : StopsFirst (nat_le 32 (length c.locals)) c.locals fewer place.stopped = rw kept at place.shortened.first in
-      let is : steps ≡ place.stopped = place.steps_are ∙ (ap (λ (ms : List Made). place.stopped ++ ms) h ∙ append-nil place.stopped) in
-      rw (none_same heap class c.locals (locals_of w k) both_same none, is)
-      (oldest_gone f k p w valid thread listed before same c.locals (locals_of w k) fewer place.stopped refl refl both_same
-      (nat_le 32 (length c.locals)) refl stops (subst (Only releasing) is kinds) (subst (λ (ms : List Made). IsBetween f (up_to p k ms fewer)) is after))
+      search (arith, all_left, append-nil, none_same, both_same, oldest_gone)
 
   -- ---- there is one, which is spent
   module _ (s : Slots) (is : local_for heap class c.locals ≡ Some s) (empty : IsEmpty s.starts) (leaves : LeavesWhere s.right s.page (home_of s) place.spent)

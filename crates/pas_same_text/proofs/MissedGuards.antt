@@ -1,34 +1,20 @@
 -- NO GUARD GOES UP: the search of a keeper found no run. The pages whose deeds it made are free then, and offered; all else is as it was. At the end: one guard more in a book.
-use Rattle.std.proofs.lemmas.Bool.{cases_lt, eqb-false, false≢true, or_cases, or_left, or_right, false_from_ne_true}
-use Rattle.pas_scan.specs.{Runs.IsInRun, Usable.MakesNoDeedHere}
-use Rattle.pas_guard.specs.{Guards.left_last_first, Books.is_outer_of, Books.is_outer, Seeks.seeking, Seeks.SoughtNone}
+use Rattle.pas_same_text.proofs.Common.{cases_Bool, cases_lt, eqb-false, false≢true, or_cases, or_left, or_right, false_from_ne_true, IsInRun, MakesNoDeedHere}
+use Rattle.pas_same_text.proofs.Common.{left_last_first, is_outer_of, is_outer, seeking, SoughtNone, map-append, filter-append, same_Some, filter}
+use Rattle.pas_same_text.proofs.Common.{AllByRecursion, Guard as BookGuard, Books, Progress, records_of, World, is_offered, large_of, IsBetween, free_bit}
+use Rattle.pas_same_text.proofs.Common.{told_guard, AreSameGuards, has_number, IsSame, HasSame, number_of, IsValid, IsDirectoryOf, Directory, Event, Profile}
+use Rattle.pas_same_text.proofs.Common.{Word, deed_in, triples, events_by, Only, Always, usable_by_kind, part, word_after, visible, Made, Step, Deed}
+use Rattle.pas_same_text.proofs.Common.{only_within, eligible_bit, right_in_one_place, LendsNone, lends_none, allocating, MadeOf, all_map}
+use Rattle.pas_same_text.proofs.StepMarks.{IsMarked, HintsPage, epoch_stays_by, seeks_unbacked}
 use Rattle.pas_same_text.proofs.Pieces.{all_in_run, IsPiece, UsesOnly, free_kept, hinted_before, piece_pages}
-use Rattle.pas_same_text.proofs.{KeepersRest.outer_last, StopActs.events_recorded, StepMarks.epoch_stays_by, StepMarks.seeks_unbacked, RunsFound.with_deed}
-use Rattle.pas_same_text.proofs.{RunsFound.deeded, RunsFound.deeds_of}
+use Rattle.pas_same_text.proofs.{KeepersRest.outer_last, StopActs.events_recorded, RunsFound.with_deed, RunsFound.deeded, RunsFound.deeds_of}
 use Rattle.pas_same_text.proofs.RestingPages.{open_from, deed_now, bit_tells, bit_offered}
 use Rattle.pas_same_text.proofs.SoughtRuns.{IsRunOf, IsMadeOf, unowned_free, visible_mid, made_events, none_made, none_pages, IsSought}
 use Rattle.std.proofs.Common.{map, ◌⊎◌, ne_eqb, append-nil, ◌≡◌, ℕ, ◌+◌, ◌*◌, ◌<◌, ◌==◌, Bool, true, false, if◌then◌else◌, List, [], ◌∷◌, ◌++◌, Some, inl, inr}
 use Rattle.std.proofs.Common.{refl, ap, sym, ◌∙◌, subst, arith, eq-eqb, eqb-true}
-use Rattle.std.proofs.lemmas.{List.map-append, List.Elements.filter-append, Option.same_Some}
-use Rattle.std.specs.List.{filter, AllByRecursion}
-use Rattle.pas_guard.specs.declared.book.Guard.{Guard as BookGuard}
-use Rattle.pas_answers.specs.Answers.{Books, Progress, records_of}
-use Rattle.pas_same_text.specs.{State.Guard, State.World, Pages.is_offered, Runs.large_of, Acts.IsBetween, Words.free_bit}
-use Rattle.pas_same_text.specs.Same.{told_guard, AreSameGuards, has_number, IsSame, HasSame}
-use Rattle.pas_profile.specs.{Directories.number_of, Profiles.IsValid, Profiles.IsDirectoryOf}
-use Rattle.pas_profile.specs.declared.{directory.Directory.Directory, event.Event.Event, profile.Profile.Profile, word.Word.Word}
-use Rattle.pas_machine.specs.State.{deed_in}
-use Rattle.pas_steps.specs.{Desks.triples, Events.events_by, Kinds.Only, Past.Always, Views.usable_by_kind}
-use Rattle.pas_steps.specs.Lists.{Whole, part, word_after, visible}
-use Rattle.pas_steps.specs.declared.step.{Made.Made, Step.Step, Step.TheVariants.Deed}
-use Rattle.pas_steps.proofs.Apart.{only_within}
-use Rattle.pas_core.specs.Rights.{eligible_bit}
-use Rattle.pas_core.proofs.{Rights.right_in_one_place, OneActor.LendsNone, OneActor.lends_none}
-use Rattle.pas_cache.specs.Kinds.{allocating}
-use Rattle.pas_large.proofs.Finds.{MadeOf}
+use Rattle.pas_same_text.specs.State.{Guard}
 use Rattle.pas_same_text.proofs.ReadyPages.{shown, shown_events, shown_records, shown_lives, shown_rest}
 use Rattle.pas_same_text.proofs.GivenBlocks.{AreReadying, made_ready, ready_deeds, ready_lives}
-use Rattle.pas_profile.proofs.Lists.{all_map}
 
 -- ---- the pages whose deeds were made
 -- whether the step made a deed or not, the list only grows
@@ -121,37 +107,23 @@ module _ {f : Profile} {k heap n : ℕ} {p q : Progress} {w : World} {xs : List 
 
   -- The try is one piece of the actor.
   piece : IsPiece f k p q w v (has_number made) xs []
-  piece = record {
-    valid = s.valid;
-    before = s.between;
-    between = there;
-    same = s.same;
-    now = now;
-    list = list;
-    kinds = all_kinds;
-    lends = lends;
-    returns = s.due;
-    uses = uses (has_number made);
-    bare = λ x out. unlisted_bare x xs out;
-    unbacked = λ x out. seeks_unbacked k x xs s.kinds;
-    deeds = λ x out. ap (λ (es : List Event). deed_in es x) (shown_events ds w) ∙ ready_deeds k d (has_number made) ds w.events x out ready;
-    hinted = (shown_rest ds w).hinted;
-    marks = λ x h. absurd h;
-    own_hint = λ x here h. hinted_before k s.valid s.between s.same xs s.legal lends s.due x (seeks_unbacked k x xs s.kinds) h;
-    own_offer = own_offer;
-  }
+  piece =
+      let bare = λ (x : ℕ) (out : has_number made x ≡ false). unlisted_bare x xs out in
+      let unbacked = λ (x : ℕ) (out : has_number made x ≡ false). seeks_unbacked k x xs s.kinds in
+      let kept = λ (x : ℕ) (out : has_number made x ≡ false). ap (λ (es : List Event). deed_in es x) (shown_events ds w)
+      ∙ ready_deeds k d (has_number made) ds w.events x out ready in
+      let marks : (x : ℕ) → IsMarked x [] → has_number made x ≡ true = λ x h. absurd h in
+      let hint = λ (x : ℕ) (here : has_number made x ≡ true) (h : HintsPage x xs).
+      hinted_before k s.valid s.between s.same xs s.legal lends s.due x (seeks_unbacked k x xs s.kinds) h in
+      assumption (uses (has_number made), bare, unbacked, kept, (shown_rest ds w).hinted, marks, hint, own_offer, now, all_kinds, lends, there, list, s)
 
   -- Where a keeper's search found no run, the text with the deeds that it made is the replay's state.
   pub missed_same : IsSame f q v
-  missed_same = record {
-    pages = piece_pages piece;
-    caches = now.caches;
-    guards = now.guards;
-    names = (shown_rest ds w).names ∙ (s.same.names ∙ sym names);
-    records = records ∙ (ap (λ es. p.records ++ records_of es) (made_events s made_of) ∙ events_recorded _ _ v.records ds s.same.records (shown_records ds w));
-    epoch = (shown_rest ds w).epoch ∙ (s.same.epoch ∙ sym (ap (λ m. word_after m Word.Epoch) list ∙ epoch_stays_by allocating refl k xs p.list all_kinds));
-    read = (shown_rest ds w).read ∙ (s.same.read ∙ sym epoch);
-  }
+  missed_same =
+      let o = shown_rest ds w in
+      let lines = records ∙ (ap (λ es. p.records ++ records_of es) (made_events s made_of) ∙ events_recorded _ _ v.records ds s.same.records (shown_records ds w)) in
+      let epochs = o.epoch ∙ (s.same.epoch ∙ sym (ap (λ m. word_after m Word.Epoch) list ∙ epoch_stays_by allocating refl k xs p.list all_kinds)) in
+      assumption (piece_pages piece, now, o.names ∙ (s.same.names ∙ sym names), lines, epochs, o.read ∙ (s.same.read ∙ sym epoch))
 
 -- ==== ONE GUARD MORE, the last one of its keeper's book
 module _ {books books' : Books} (k : ℕ) (g : BookGuard) (own : books' k ≡ books k ++ g ∷ [])
@@ -171,16 +143,15 @@ module _ {books books' : Books} (k : ℕ) (g : BookGuard) (own : books' k ≡ bo
 
   -- An outer page is one that it was before, or one of that guard.
   pub outer_or : (j x : ℕ) → is_outer (books' j) x ≡ true → (is_outer (books j) x ≡ true) ⊎ (is_outer_of g x ≡ true)
-  outer_or j x h = at (j == k) refl
-    where
-      at : (t : Bool) → (j == k) ≡ t → (is_outer (books j) x ≡ true) ⊎ (is_outer_of g x ≡ true)
-      at true e =
-          let here : j ≡ k = eqb-true j k e in
-          elim (outer_last (books k) g x (ap (λ (gs : List BookGuard). is_outer gs x) (sym own) ∙ (ap (λ (i : ℕ). is_outer (books' i) x) (sym here) ∙ h))) [
-            | inl was ↦ inl (ap (λ (i : ℕ). is_outer (books i) x) here ∙ was)
-            | inr new ↦ inr new
-          ]
-      at false e = inl (ap (λ (gs : List BookGuard). is_outer gs x) (sym (others j e)) ∙ h)
+  outer_or j x h = elim (cases_Bool (j == k)) [
+    | inl e ↦
+        let here : j ≡ k = eqb-true j k e in
+        elim (outer_last (books k) g x (ap (λ (gs : List BookGuard). is_outer gs x) (sym own) ∙ (ap (λ (i : ℕ). is_outer (books' i) x) (sym here) ∙ h))) [
+          | inl was ↦ inl (ap (λ (i : ℕ). is_outer (books i) x) here ∙ was)
+          | inr new ↦ inr new
+        ]
+    | inr e ↦ inl (ap (λ (gs : List BookGuard). is_outer gs x) (sym (others j e)) ∙ h)
+  ]
 
   -- The outer pages of that guard are its keeper's.
   pub outer_more : (x : ℕ) → is_outer_of g x ≡ true → is_outer (books' k) x ≡ true

@@ -1,16 +1,9 @@
 -- ONE ACT keeps the text, by all that is known of it.
-use Rattle.std.proofs.Common.{◌≡◌, ℕ, ◌≤◌, Bool, if◌then◌else◌, List, Option, None, Some, inl, inr, refl, sym, subst}
-use Rattle.pas_profile.specs.{Profiles.IsAdmitted, Requests.route_in}
-use Rattle.pas_profile.specs.declared.{directory.Route.Route, name.Block.Block, profile.Profile.Profile}
-use Rattle.pas_steps.specs.Lists.{part}
-use Rattle.pas_large.specs.Doors.{Indexes}
-use Rattle.pas_trace.specs.{Acts.Act, EveryPlan.IsThread}
-use Rattle.pas_trace.specs.declared.{item.Request.Request, plan.What.What}
-use Rattle.pas_answers.specs.Answers.{Progress, Named, Answer, having, standing_for, request_for, IsServed, IsRemadeBy, after_answer}
-use Rattle.pas_answers.specs.{Calls.block_behind, Indexes.unless_suited, Indexes.request_made, Indexes.IsNamedBy}
-use Rattle.pas_same_text.specs.{State.World, Same.IsSame, Acts.IsBetween, Acts.HandsOnOwn, Known.IsKnown, Known.KeepsSame, Seats.IsActOf, Requests.IsAsked}
-use Rattle.pas_same_text.specs.{Requests.AnswersSame, Requests.RequestStaysSame}
-use Rattle.pas_same_text.specs.Order.{keeps_block, replaces, remakes, acts_on}
+use Rattle.std.proofs.Common.{◌≡◌, ℕ, ◌≤◌, Bool, List, Option, None, Some, inl, inr, refl, sym, subst}
+use Rattle.pas_same_text.proofs.Common.{IsAdmitted, route_in, Route, Block, Profile, part, Indexes, Act, IsThread, Request, What, Progress, Named, Answer}
+use Rattle.pas_same_text.proofs.Common.{having, standing_for, IsServed, IsRemadeBy, after_answer, IsNamedBy, World, IsSame, IsBetween, HandsOnOwn, IsKnown}
+use Rattle.pas_same_text.proofs.Common.{KeepsSame, IsActOf, IsAsked, AnswersSame, RequestStaysSame, remakes, acts_on}
+use Rattle.pas_answers.specs.{Answers.request_for, Indexes.unless_suited, Calls.block_behind, Indexes.request_made}
 use Rattle.pas_same_text.proofs.BackActs.{flush_act, stop_act, end_act, idle_act, raw_act, raw_sized_act, free_act, free_sized_act, remakes_idly}
 use Rattle.pas_same_text.proofs.{CachedSlots.has_asked, BitfitRequests.bitfit_answered, ClassRequests.class_answered, GuardActs.guards_keep}
 use Rattle.pas_same_text.proofs.{LowerActs.lower_act, PagesRequests.pages_answered, PagesRequests.named_large, PassActs.pass_same, Replaced.replaced_same}
@@ -53,17 +46,7 @@ module _ (threads : ℕ) (f : Profile) (line k : ℕ) (what : What) (p p' : Prog
   -- one that is a request
   asked : (r : Request) → IsAdmitted f r.size r.align r.heap → IsServed f k r (having p.names (part k p.list) (p.caches k)) a
       → IsNamedBy f indexes (Some r) a.found → AnswersSame f k r p a w
-  asked r admitted served named = request_same f k r p a w record {
-    valid = known.taken.valid;
-    thread = acting known;
-    listed = known.taken.listed;
-    admitted = admitted;
-    before = known.taken.before;
-    after = after;
-    same = known.taken.same;
-    served = served;
-    named = named_in_text r a.found named;
-  }
+  asked r admitted served named = request_same f k r p a w (assumption (acting known, after, named_in_text r a.found named, known.taken))
 
   -- a reallocation. A block that is replaced is of some heap of the region
   remade : (name old heap size align : ℕ) (meant : Option (Option Block)) → IsAdmitted f size align heap
@@ -78,10 +61,9 @@ module _ (threads : ℕ) (f : Profile) (line k : ℕ) (what : What) (p p' : Prog
       let own : IsAdmitted f size align block.heap = record { within = admitted.within; aligned = admitted.aligned; of_profile = moved.of_region } in
       let found : IsNamedBy f indexes (Some r) moved.placed.found =
       subst (λ (o : Option ℕ). IsNamedBy f indexes (Some r) o) moved.found_is (subst (λ (t : Bool). IsNamedBy f indexes (unless_suited t r) a.found) moved.unsuited named) in
-      subst (λ (q : Progress). IsSame f q (remakes f k name size align (Some (Some block)) w)) (sym reached)
-      (subst (λ (t : Bool). IsSame f (after_answer p k a) (if t then keeps_block k name block w else replaces f k name block size align w)) (sym moved.unsuited)
-      (replaced_same f k r block p a w refl known.taken.valid (acting known) known.taken.listed own known.taken.before after known.taken.same known.usable moved
-      (named_in_text r moved.placed.found found) (request_same f k r)))
+      rw (reached, moved.unsuited) (replaced_same f k r block p a w refl known.taken.valid
+      (acting known) known.taken.listed own known.taken.before after known.taken.same known.usable moved (named_in_text r moved.placed.found found)
+      (request_same f k r))
 
 -- the state that it comes to is that of the replay
 abbrev LeavesSame : ℕ → Profile → Act → Type 0

@@ -1,32 +1,18 @@
 -- ONE LOCAL ALLOCATOR GOES, in the text alone: wherever it stands in its cache.
 use Rattle.std.proofs.Common.{arith, ◌≡◌, ℕ, Bool, true, false, not, ◌||◌, if◌then◌else◌, List, [], ◌∷◌, Some, refl, eqb-true, ◌≤◌, length, ◌==◌, ◌++◌, reverse}
 use Rattle.std.proofs.Common.{inl, inr, ◌&&◌, ap, sym, ◌∙◌, subst, append-nil, eq-eqb}
-use Rattle.std.proofs.lemmas.Bool.{false≢true}
-use Rattle.std.specs.List.{list_any, find}
-use Rattle.pas_profile.specs.Profiles.{IsPage, IsValid, IsDirectoryOf}
-use Rattle.pas_profile.specs.declared.{profile.Profile.Profile, directory.Directory.Directory, event.Event.Event}
-use Rattle.pas_same_text.specs.State.{Local, Cache, World, cache_of, locals_of, set_locals}
-use Rattle.pas_same_text.specs.{Classes.is_for, Classes.others, Classes.gives_up, Pages.is_of, Acts.IsBetween, Words.free_bit}
 use Rattle.pas_same_text.proofs.{GivenBack.Returns, GivenBack.OnlyHints, GivenBack.all_only_hints, Tests.any_weaker, Tests.any_filtered, Tests.and_second}
 use Rattle.pas_same_text.proofs.{CacheLists.same_with, Flushes.visible_steps, SameIndexes.same_guards, SameIndexes.given_up_keeps, StopActs.slot_room}
 use Rattle.pas_same_text.proofs.{StopActs.read_room}
 use Rattle.pas_same_text.proofs.StopSteps.{AreUnique, one_returns, unique_of, IsMarkedBy, one_marked, one_hints}
 use Rattle.pas_same_text.proofs.FreeGrains.{guards_as, still_unguarded, cached_held, outer_held, held_by, never_both, holder_thread}
 use Rattle.pas_same_text.proofs.RestingPages.{is_open, IsGivenBack, covered_not_held, free_left, given_pages}
-use Rattle.pas_machine.specs.State.{live_in}
-use Rattle.pas_steps.specs.{Events.events_by, Kinds.Only, Lists.part, Lists.visible, Views.holds}
-use Rattle.pas_steps.specs.declared.step.Made.{Made}
-use Rattle.pas_steps.proofs.Apart.{only_within, events_same}
-use Rattle.pas_core.proofs.Grains.{one_holder}
-use Rattle.pas_free_log.specs.Frames.{freeing}
-use Rattle.pas_segregated.specs.Stops.{home_of, StopStepsAt}
-use Rattle.pas_segregated.specs.declared.slots.Slots.{Slots}
-use Rattle.pas_cache.specs.{Contents.Cached, Kinds.releasing, Locals.IsLocal, Locals.covers, Locals.any_covers}
-use Rattle.pas_trace.specs.EveryPlan.{IsThread}
-use Rattle.pas_answers.specs.Answers.{Progress, with_steps}
-use Rattle.pas_report.specs.declared.record.Record.{Record}
-use Rattle.pas_same_text.specs.Same.{IsSame, HasSame, IsSameCache, IsSameLocal, AreSameLocals, lives_in}
 use Rattle.pas_same_text.proofs.StepMarks.{IsMarked, hint_marks, offer_marks, epoch_stays_by}
+use Rattle.pas_same_text.proofs.Common.{AreSameCaches, false≢true, list_any, find, IsPage, IsValid, IsDirectoryOf, Profile, Directory, Event, Local, Cache}
+use Rattle.pas_same_text.proofs.Common.{World, cache_of, locals_of, set_locals, is_for, others, gives_up, is_of, IsBetween, free_bit, live_in, events_by, Only}
+use Rattle.pas_same_text.proofs.Common.{part, visible, holds, Made, only_within, events_same, one_holder, freeing, home_of, StopStepsAt, Slots, Cached}
+use Rattle.pas_same_text.proofs.Common.{releasing, IsLocal, covers, any_covers, IsThread, Progress, with_steps, Record, IsSame, HasSame, IsSameCache}
+use Rattle.pas_same_text.proofs.Common.{IsSameLocal, AreSameLocals, lives_in}
 
 -- ---- the others of a cache
 any_less : (p : Local → Bool) (heap class : ℕ) (ls : List Local) → list_any p (others heap class ls) ≡ true → list_any p ls ≡ true
@@ -122,21 +108,16 @@ module _ (f : Profile) (k : ℕ) (p : Progress) (w : World) (s : Slots) (l : Loc
   shown : visible p1.list ≡ visible p.list
   shown = visible_steps k steps p.list ∙ ap (λ (es : List Event). es ++ visible p.list) silent
 
-  -- The text's events are those of the list.
-  events : v.events ≡ visible p1.list
-  events = only.events ∙ (o.same.pages.events ∙ sym shown)
-
   new_same : IsSameCache c1 (left f k l w unique o.found page_of)
-  new_same = let was = o.same.caches.each k o.thread in record { locals = o.fewer_same; log = was.log; noted = was.noted; began = was.began }
+  new_same = let was = o.same.caches.each k o.thread in record { locals = o.fewer_same; log = was.log; noted = was.noted; idle_since = was.idle_since }
 
   -- Afterwards the replay has what the text has.
   has : HasSame f p1 v
-  has = record {
-    events = events;
-    live = only.live ∙ (o.same.pages.live ∙ ap lives_in (sym only.events));
-    caches = rw only.caches (same_with f p.caches w.caches k c1 (left f k l w unique o.found page_of) o.thread o.listed o.same.caches new_same);
-    guards = guards_as p.books w v (same_guards w v (given_up_keeps k l w)) o.same.guards;
-  }
+  has =
+      let live = only.live ∙ (o.same.pages.live ∙ ap lives_in (sym only.events)) in
+      let caches : AreSameCaches f p1.caches v.caches =
+      rw only.caches (same_with f p.caches w.caches k c1 (left f k l w unique o.found page_of) o.thread o.listed o.same.caches new_same) in
+      assumption (only.events ∙ (o.same.pages.events ∙ sym shown), live, caches, guards_as p.books w v (same_guards w v (given_up_keeps k l w)) o.same.guards)
 
   -- ---- a grain of it is held by nobody then
   cached_before : (j g : ℕ) (t : Bool) → (j == k) ≡ t → any_covers (if t then c1 else p.caches j).locals g ≡ true → covers s g ≡ true

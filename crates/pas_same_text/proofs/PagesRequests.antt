@@ -2,31 +2,23 @@
 use Rattle.std.proofs.Common.{◌≡◌, ℕ, ◌*◌, ◌/◌, ◌≤◌, true, List, ◌∷◌, ◌++◌, Option, None, Some, Result, Ok, Err, ◌⊎◌, inl, inr, refl, ap, sym, ◌∙◌, subst}
 use Rattle.std.proofs.Common.{arith, append_assoc, true≢false}
 use Rattle.pas_large.proofs.{Lifted.find_again, Pages.rise_none}
-use Rattle.pas_large.proofs.Allocates.{holds_whole, scans_only, goes_by_door, refused_alone}
-use Rattle.pas_profile.specs.{Blocks.address_of, Profiles.IsAdmitted, Profiles.IsDirectoryOf}
-use Rattle.pas_profile.specs.Requests.{route_in, room_in, is_shared, kind_of_route}
-use Rattle.pas_profile.specs.declared.{directory.Directory.Directory, directory.Route.Route, event.NoRoom.NoRoom, name.Block.Block, profile.Profile.Profile}
-use Rattle.pas_steps.specs.{Desks.triples, Lists.Whole, Lists.part, Lists.Legal, Past.Always}
-use Rattle.pas_steps.specs.Kinds.{Kinds, Only, kind_of, is_in, apart, showing, looking}
-use Rattle.pas_steps.specs.declared.step.Made.{Made}
-use Rattle.pas_steps.proofs.{Adding.triples_append, Parts.part_of_own, Past.always_both, Past.always_map}
-use Rattle.pas_steps.proofs.Apart.{in_apart, no_event, only_both, only_within}
-use Rattle.pas_core.proofs.{Nexts.agreed_steps, OneActor.legal_earlier}
-use Rattle.pas_search.specs.Kinds.{AreQuiet, IsQuiet, ReturnsDuly}
+use Rattle.pas_same_text.proofs.Common.{lowest_alone, lends_none, IsLone, address_of, IsAdmitted, IsDirectoryOf, route_in, room_in, is_shared, kind_of_route}
+use Rattle.pas_same_text.proofs.Common.{Directory, Route, NoRoom, Block, Profile, triples, Whole, part, Legal, Always, Kinds, Only, kind_of, is_in, apart}
+use Rattle.pas_same_text.proofs.Common.{showing, looking, Made, triples_append, part_of_own, always_both, always_map, in_apart, only_both, only_within}
+use Rattle.pas_same_text.proofs.Common.{agreed_steps, legal_earlier, AreQuiet, IsQuiet, ReturnsDuly, IsServedNamed, IsScanned, Indexes, found_in, MayFind}
+use Rattle.pas_same_text.proofs.Common.{finding, IsLowestRun, IsNamedWhole, Cached, ServesPages, wanted_for, may_find, Act, IsThread, Request, Alloc, Progress}
+use Rattle.pas_same_text.proofs.Common.{named, Answer, after_answer, said_of_request, block_of as block_answered, IsNamedBy, World, serves, acts_on, IsSame}
+use Rattle.pas_same_text.proofs.Common.{HasSame, IsBetween, IsTaken, large_of, named_run, lowest_run}
+use Rattle.pas_large.proofs.Allocates.{tried_lone, holds_whole, scans_only, goes_by_door, refused_alone}
+use Rattle.pas_steps.proofs.Apart.{no_event}
 use Rattle.pas_search.proofs.PagesThatServe.{duly_both, duly_none}
-use Rattle.pas_large.specs.Allocates.{IsAllocatedLarge, IsAllocatedNamed, IsServedNamed, IsScanned}
-use Rattle.pas_large.specs.{Alone.GoesByDoor, Doors.Indexes, Doors.found_in, Finds.MayFind, Finds.finding, Pages.claiming_old, Telling.IsLowestRun}
-use Rattle.pas_large.specs.{Telling.IsNamedWhole}
-use Rattle.pas_cache.specs.{Contents.Cached, Serves.ServesPages, Serves.wanted_for, Calls.IsNamed}
-use Rattle.pas_cache.proofs.Routes.{large_size, pages_asked, may_find}
-use Rattle.pas_trace.specs.{Acts.Act, EveryPlan.IsThread}
-use Rattle.pas_trace.specs.declared.{item.Request.Request, plan.What.TheVariants.Alloc}
-use Rattle.pas_answers.specs.Answers.{Progress, named, Answer, after_answer, said_of_request, block_of as block_answered}
-use Rattle.pas_answers.specs.Indexes.{IsNamedBy, ActIsNamedBy}
-use Rattle.pas_same_text.specs.{State.World, Indexes.loses_named, Order.serves, Order.acts_on, Same.IsSame, Same.HasSame, Acts.IsBetween, Acts.IsTaken}
-use Rattle.pas_same_text.specs.Runs.{large_of, named_run, lowest_run, run_or, serves_run}
-use Rattle.pas_same_text.proofs.{SmallActs.after_with, RunGiven.GaveRun, RunGiven.given_to, RunGiven.run_given, RunsFound.DeedsInRun, RunsFound.lowest_alone}
-use Rattle.pas_same_text.proofs.{RunsFound.deeds_in_run, Pieces.has_same}
+use Rattle.pas_large.specs.{Allocates.IsAllocatedLarge, Allocates.IsAllocatedNamed, Alone.GoesByDoor, Pages.claiming_old}
+use Rattle.pas_cache.specs.Calls.{IsNamed}
+use Rattle.pas_cache.proofs.Routes.{large_size, pages_asked}
+use Rattle.pas_answers.specs.Indexes.{ActIsNamedBy}
+use Rattle.pas_same_text.specs.{Indexes.loses_named, Runs.run_or, Runs.serves_run}
+use Rattle.pas_same_text.proofs.{SmallActs.after_with, RunGiven.GaveRun, RunGiven.given_to, RunGiven.run_given, RunsFound.DeedsInRun, RunsFound.deeds_in_run}
+use Rattle.pas_same_text.proofs.{Pieces.has_same}
 use Rattle.pas_same_text.proofs.SearchedPages.{refused_to, refused_same, lowest_found, none_lowest, named_whole, whole_named}
 use Rattle.pas_same_text.proofs.CachedSlots.{HasAsked, answer_reached, by_route, request_taken}
 
@@ -63,11 +55,14 @@ module _ (f : Profile) (k : ℕ) (l : Whole) (d : Directory) (n : ℕ) (found : 
     got_due : Always ReturnsDuly xs
     got_due = duly_both searched tried due returns
 
+    got_lone : IsLone f k l xs
+    got_lone = record { legal = legal_got; lends_none = lends_none finding refl xs got_kinds; returns = got_due }
+
     scanned_lowest : IsLowestRun f d n l is.first
-    scanned_lowest = lowest_alone f k l d n of met xs legal_got got_kinds got_due is.first is.found
+    scanned_lowest = lowest_alone f k l d n of.kind met is.first xs got_lone is.found
 
     scanned_gave : GaveRun f d is.first n xs after block
-    scanned_gave = search (arith, got_kinds, got_due, deeds_in_run, legal_got)
+    scanned_gave = let deeds = deeds_in_run f k l d n of.kind met xs got_lone is.first is.found in search (arith, got_kinds, got_due, deeds)
 
 -- ---- THE REQUEST
 module _ (f : Profile) (k name heap size align : ℕ) (p : Progress) (a : Answer) (w : World) (admitted : IsAdmitted f size align heap)
@@ -144,7 +139,7 @@ module _ (f : Profile) (k name heap size align : ℕ) (p : Progress) (a : Answer
 
     -- the run that was named serves where it was whole
     by_door : GoesByDoor f d n a.found p.list (pages.rest ++ pages.tried) answer
-    by_door = goes_by_door f k p.list d n a.found pages.tried pages.rest asked.valid of.kind pages.old pages.returns there.legal may answer outcome
+    by_door = goes_by_door f k p.list d n a.found pages.tried pages.rest pages.old pages.returns there.legal may of.kind answer outcome
 
   -- ---- served
   served_same : (block : Block) (is : asked.served.answer ≡ Ok block) (first : ℕ) (got after : List Made)
@@ -165,9 +160,7 @@ module _ (f : Profile) (k name heap size align : ℕ) (p : Progress) (a : Answer
       let one : by.0 ≡ block = let e = by.1 in cc in
       let alloc : IsAllocatedNamed f d n a.found pages.tried pages.rest block = rw one at by.2 in
       let legal : Legal f (triples k (pages.rest ++ pages.tried) ++ p.list) = (there (Ok block) is).legal in
-      let legal_tried : Legal f (triples k pages.tried ++ p.list) = legal_earlier f k pages.rest pages.tried p.list legal in
-      let whole : IsNamedWhole f d n p.list a.found alloc.first =
-      holds_whole f k p.list d n _ a.found _ asked.valid of.kind may legal_tried pages.old pages.returns (alloc.holds_it.got.from _ may (agreed_steps f k p.list pages.tried asked.valid legal_tried)) alloc.holds_it in
+      let whole = holds_whole f k p.list d n _ a.found _ of.kind (tried_lone f k p.list d n a.found pages.tried pages.rest pages.old pages.returns legal may) alloc.holds_it in
       served_same block is _ pages.tried pages.rest refl (named_gave f k p.list d n a.found pages.tried pages.rest block of pages.old pages.returns legal may alloc)
       (ap (λ (o : Option ℕ). run_or o (lowest_run f w heap n)) (run_named alloc.first whole))
 
@@ -177,7 +170,8 @@ module _ (f : Profile) (k name heap size align : ℕ) (p : Progress) (a : Answer
       → named_run w heap n ≡ o → run_or (named_run w heap n) (lowest_run f w heap n) ≡ Some first
   chosen_by block is first at lowest None none = cc (lowest_found f p w asked.valid asked.before asked.same.pages old heap of n first some lowest)
   chosen_by block is first at lowest (Some x) named =
-      let takes = (by_door (Ok block) is).served x (subst (λ (o : Option ℕ). IsNamedWhole f d n p.list o x) (sym named_is) (named_whole f p w asked.valid asked.before asked.same.pages old heap of n x some named)) in
+      let takes = (by_door (Ok block) is).served x (subst (λ (o : Option ℕ). IsNamedWhole f d n p.list o x) (sym named_is)
+      (named_whole f p w asked.valid asked.before asked.same.pages old heap of n x some named)) in
       let one : x ≡ first = omega (arith, at, (ap address_in takes.1 ∙ takes.2)) in
       ap (λ (o : Option ℕ). run_or o (lowest_run f w heap n)) named ∙ ap (λ (y : ℕ). Some y) one
     where
@@ -199,7 +193,8 @@ module _ (f : Profile) (k name heap size align : ℕ) (p : Progress) (a : Answer
   no_named : (room : NoRoom) (is : asked.served.answer ≡ Err room) → (o : Option ℕ) → named_run w heap n ≡ o → o ≡ None
   no_named room is None named = refl
   no_named room is (Some x) named =
-      let takes = (by_door (Err room) is).served x (subst (λ (o : Option ℕ). IsNamedWhole f d n p.list o x) (sym named_is) (named_whole f p w asked.valid asked.before asked.same.pages old heap of n x some named)) in
+      let takes = (by_door (Err room) is).served x (subst (λ (o : Option ℕ). IsNamedWhole f d n p.list o x) (sym named_is)
+      (named_whole f p w asked.valid asked.before asked.same.pages old heap of n x some named)) in
       absurd (let bad : Err room ≡ Ok takes.0 = takes.1 in cc)
 
   refused_by : (room : NoRoom) (is : asked.served.answer ≡ Err room)
@@ -208,7 +203,7 @@ module _ (f : Profile) (k name heap size align : ℕ) (p : Progress) (a : Answer
       let pages = by_pages (Err room) is in
       let steps : List Made = pages.rest ++ pages.tried in
       let now : IsBetween f (refused_to p k name steps room) = there (Err room) is in
-      let told = refused_alone f k p.list d n a.found pages.tried pages.rest asked.valid of.kind pages.old pages.returns now.legal may room (inr by) in
+      let told = (refused_alone f k p.list d n a.found pages.tried pages.rest pages.old pages.returns now.legal may asked.valid of room (inr by)).0 in
       let mid : Whole = triples k pages.tried ++ p.list in
       let legal_tried : Legal f mid = legal_earlier f k pages.rest pages.tried p.list now.legal in
       let legal_searched : Legal f (triples k by.searched ++ mid) =
@@ -217,9 +212,9 @@ module _ (f : Profile) (k name heap size align : ℕ) (p : Progress) (a : Answer
       let looked = subst (Only looking) (sym by.rest_is) (only_both looking by.after by.searched (scans_only by.after by.own.scans) (by.looked room refl k mid legal_searched again)) in
       let quiet = always_both _ _ pages.rest _ (λ m before h. h) (quiet_by looking refl pages.rest looked) (quiet_by claiming_old refl pages.tried pages.old) in
       let none : run_or (named_run w heap n) (lowest_run f w heap n) ≡ None =
-      ap (λ o. run_or o (lowest_run f w heap n)) (no_named room is _ refl) ∙ none_lowest f p w asked.valid asked.before asked.same.pages old heap of n told.before in
+      ap (λ o. run_or o (lowest_run f w heap n)) (no_named room is _ refl) ∙ none_lowest f p w asked.valid asked.before asked.same.pages old heap of n told.0 in
       rw (text_by None none, to (Err room) is) (refused_same f k name p u d steps room asked.valid asked.thread of asked.before now same_u
-      (search (arith, only_both, only_within, duly_both, duly_none)) quiet told.reason)
+      (search (arith, only_both, only_within, duly_both, duly_none)) quiet told.2)
 
   -- ---- any
   answered : (answer : Result Block NoRoom) → asked.served.answer ≡ answer → LeavesSame

@@ -3,34 +3,21 @@
 use Rattle.std.proofs.Common.{◌≡◌, ℕ, zero, suc, ◌+◌, ◌*◌, ◌^◌, ◌≤◌, ◌==◌, Bool, true, false, not, if◌then◌else◌, List, [], ◌∷◌, ◌++◌, map, reverse}
 use Rattle.std.proofs.Common.{append_assoc, append-nil, Option, None, Some, refl, ap, sym, ◌∙◌, subst, arith, true≢false, eq-eqb, eqb-true, ne_eqb, ◌<◌, ◌&&◌}
 use Rattle.std.proofs.Common.{inl, inr}
-use Rattle.std.proofs.lemmas.Bool.{false≢true, or_cases, or_left, not_from_false, cases_Bool, false_from_ne_true}
-use Rattle.std.proofs.{lemmas.Grind.reverse_onto, lemmas.List.Concat.flat_map-append, lemmas.List.reverse-append, lemmas.List.reverse-reverse}
-use Rattle.std.proofs.{lemmas.List.Elements.filter_agree, lemmas.Simd.map-map, Math.Path.fun_ext}
-use Rattle.std.specs.List.{find, filter}
-use Rattle.pas_profile.specs.declared.{event.Event.Event, event.Outcome.Outcome, profile.Profile.Profile, directory.Directory.Directory, word.Word.Word}
-use Rattle.pas_machine.specs.State.{backed_in, epoch_in}
-use Rattle.pas_scavenger.specs.Pages.{unback_of}
-use Rattle.pas_scavenger.specs.Passes.{unbacks_in, outcomes_in, all_tried, passing, PassSteps}
-use Rattle.pas_answers.specs.{PassRecords.record_of, Answers.Progress, Answers.after_pass}
-use Rattle.pas_report.specs.declared.record.{Record.Record, Said.Said}
-use Rattle.pas_trace.specs.Acts.{numbers_from, Act}
-use Rattle.pas_same_text.specs.{State.World, State.each, State.says, Order.acts_on, Acts.IsBetween, Acts.IsTaken, Acts.AreEndsStamped}
-use Rattle.pas_same_text.specs.Pages.{page_numbers, is_free, is_hinted, is_empty, is_offered}
-use Rattle.pas_same_text.specs.Passes.{used_word, free_bits, outcome_backed, outcome_of, comes_to, examines, passes}
-use Rattle.pas_same_text.specs.Same.{has_number, lives_in, IsSame, HasSame, ArePagesSame, AreSameCaches}
+use Rattle.pas_same_text.proofs.Common.{false≢true, or_cases, or_left, not_from_false, cases_Bool, false_from_ne_true, reverse_onto, reverse-append}
+use Rattle.pas_same_text.proofs.Common.{reverse-reverse, fun_ext, find, filter, Event, Outcome, Profile, Directory, Word, backed_in, epoch_in, unbacks_in}
+use Rattle.pas_same_text.proofs.Common.{outcomes_in, all_tried, Progress, Record, Said, numbers_from, Act, World, each, says, acts_on, IsBetween, IsTaken}
+use Rattle.pas_same_text.proofs.Common.{AreEndsStamped, page_numbers, is_free, is_hinted, is_empty, is_offered, outcome_backed, outcome_of, has_number}
+use Rattle.pas_same_text.proofs.Common.{lives_in, IsSame, HasSame, AreSameCaches, number_of, IsValid, IsPage, IsDirectoryOf, vector_words, same_from_deed_word}
+use Rattle.pas_same_text.proofs.Common.{made, triples, part, word_after, visible, Legal, Made, Look, same_truth, empty_bit, eligible_bit, legal_earlier}
+use Rattle.pas_same_text.proofs.Common.{deed_same, offered_deed, hinted_page}
+use Rattle.pas_same_text.specs.Passes.{passes, free_bits, comes_to, examines}
+use Rattle.std.proofs.lemmas.{List.Concat.flat_map-append, List.Elements.filter_agree, Simd.map-map}
+use Rattle.pas_scavenger.specs.{Pages.unback_of, Passes.passing, Passes.PassSteps}
+use Rattle.pas_answers.specs.{PassRecords.record_of, Answers.after_pass}
 use Rattle.pas_same_text.proofs.{CacheLists.all_locals, Tests.filtered_has, Tests.has_filtered, Flushes.visible_steps, Flushes.map_reverse}
 use Rattle.pas_same_text.proofs.{StepMarks.OffersPage, StepMarks.offered_by, StepMarks.epoch_stays_by, FreeGrains.guards_as, FreeGrains.still_unguarded}
 use Rattle.pas_same_text.proofs.GivenBack.{free_kept, empty_kept, is_idle, page_there}
 use Rattle.pas_same_text.proofs.PassOutcomes.{pair, stays_hinted, WasOffered, has_same}
-use Rattle.pas_profile.specs.Directories.{number_of}
-use Rattle.pas_profile.specs.Profiles.{IsValid, IsPage, IsDirectoryOf, vector_words}
-use Rattle.pas_profile.proofs.Codecs.{same_from_deed_word}
-use Rattle.pas_steps.specs.Desks.{made, triples}
-use Rattle.pas_steps.specs.Lists.{part, word_after, visible, Legal}
-use Rattle.pas_steps.specs.declared.step.{Made.Made, Step.TheVariants.Look}
-use Rattle.pas_steps.proofs.Sets.{same_truth}
-use Rattle.pas_core.specs.Rights.{empty_bit, eligible_bit}
-use Rattle.pas_core.proofs.{OneActor.legal_earlier, OneActor.deed_same, OneActor.offered_deed, Rights.hinted_page}
 use Rattle.pas_same_text.proofs.RestingPages.{open_grows, page_idle, idle_hinted, is_open, had_open, offered_bit, bit_offered}
 use Rattle.pas_same_text.proofs.PassOrder.{IsPast, falling, falling_skips, rising, past_all}
 
@@ -56,16 +43,13 @@ module _ (f : Profile) (page : ℕ) (w v : World) (s : JudgesSame page w v) wher
   free_same : (b : ℕ) → is_free v page b ≡ is_free w page b
   free_same b = free_kept w v page b s.live (ap all_locals s.caches)
 
-  used_same : used_word v page ≡ used_word w page
-  used_same = search (arith, find_same, free_same)
-
   -- both come to the outcome by the same words, and who keeps the page is read of the caches alone
   backed_same : (o : Option ℕ) → outcome_backed f v page o ≡ outcome_backed f w page o
   backed_same (Some word) = ap (λ (n : ℕ). Outcome.InUse word n) (bits_same w v page word free_same 64)
   backed_same None = search arith
 
   outcome_same : outcome_of f v page ≡ outcome_of f w page
-  outcome_same = search (arith, used_same, backed_same)
+  outcome_same = search (arith, find_same, free_same, backed_same)
 
 -- ---- a page comes to an outcome
 come_events : (page : ℕ) (o : Outcome) (w : World) → (comes_to page o w).events ≡ unback_of 0 w.epoch page o ++ w.events
@@ -323,14 +307,11 @@ module _ (f : Profile) (p : Progress) (w : World) (epoch : ℕ) (found : List (�
 
   pass_to : IsSame f p' v
   pass_to =
-      let pages : ArePagesSame f p'.list v = record {
-        events = has.events;
-        live = has.live;
-        hinted = λ q. same_truth (is_hinted v q) (empty_bit p'.list q) (to_bit q) (from_bit q);
-        offered = λ q d of. same_truth (is_offered v d q) _ (offered_bit f p' v valid after has q d of) (from_offer q d of);
-      } in
+      let hinted = λ (q : ℕ). same_truth (is_hinted v q) (empty_bit p'.list q) (to_bit q) (from_bit q) in
+      let offered = λ (q : ℕ) (d : Directory) (of : IsDirectoryOf f d).
+      same_truth (is_offered v d q) (eligible_bit p'.list (number_of d) q) (offered_bit f p' v valid after has q d of) (from_offer q d of) in
       let epoch = come.left.epoch ∙ (same.epoch ∙ sym (epoch_stays_by passing refl 0 steps p.list order.kinds)) in
-      assumption (pages, has, lines, epoch, come.left.names ∙ same.names, come.left.read ∙ same.read)
+      assumption (has, hinted, offered, lines, epoch, come.left.names ∙ same.names, come.left.read ∙ same.read)
 
 -- THE ACT
 pub pass_same : (f : Profile) (p p' : Progress) (w : World) → AreEndsStamped p.list → IsTaken f Act.MakesPass p p' w → IsSame f p' (acts_on f Act.MakesPass w)

@@ -1,22 +1,14 @@
 -- THE PAGES OF A PASS in order: it tries just the pages that were hinted when it began, upwards.
 use Rattle.std.proofs.Common.{◌≡◌, ℕ, zero, suc, ◌+◌, ◌*◌, ◌/◌, ◌%◌, ◌<◌, ◌≤◌, Bool, true, false, if◌then◌else◌, List, [], ◌∷◌, ◌++◌, map, reverse}
 use Rattle.std.proofs.Common.{append_assoc, append-nil, Option, None, Some, inl, inr, refl, ap, sym, ◌∙◌, subst, arith, true≢false, ne_eqb, eq-eqb}
-use Rattle.std.proofs.lemmas.{Bool.cases_Bool, Bool.cases_eq, Grind.reverse_onto, List.Elements.filter-append}
-use Rattle.std.specs.List.{filter}
-use Rattle.pas_bits.specs.Bits.{has_bit}
-use Rattle.pas_profile.specs.Profiles.{IsValid, vector_words}
-use Rattle.pas_profile.specs.declared.{directory.Directory.Directory, event.Outcome.Outcome, profile.Profile.Profile, word.Word.Word}
-use Rattle.pas_steps.specs.{Desks.made, Desks.triples, InTurn.InTurn, InTurn.numbers_below, Lists.Whole, Lists.word_after, Lists.Legal}
-use Rattle.pas_steps.specs.declared.step.{Made.Made, Step.TheVariants.Look, Step.TheVariants.Offer}
-use Rattle.pas_steps.proofs.Adding.{triples_append}
-use Rattle.pas_core.specs.{Hints.IsEmptyBacked, Rights.empty_bit}
-use Rattle.pas_core.proofs.OneActor.{legal_earlier}
-use Rattle.pas_scavenger.specs.Passes.{Tried, TriedSteps, TrySteps, with_outcome, outcomes_in, WordRead, pages_set, WordSteps, all_tried}
+use Rattle.pas_same_text.proofs.Common.{cases_Bool, cases_eq, reverse_onto, filter-append, filter, has_bit, IsValid, vector_words, Directory, Outcome, Profile}
+use Rattle.pas_same_text.proofs.Common.{Word, made, triples, InTurn, Whole, word_after, Legal, Made, Look, Offer, triples_append, IsEmptyBacked, empty_bit}
+use Rattle.pas_same_text.proofs.Common.{legal_earlier, TrySteps, outcomes_in, all_tried, numbers_from, Progress, World, outcome_of, IsSame, IsBetween}
+use Rattle.pas_same_text.proofs.Common.{AreEndsStamped}
+use Rattle.pas_steps.specs.InTurn.{numbers_below}
+use Rattle.pas_scavenger.specs.Passes.{Tried, TriedSteps, with_outcome, WordRead, pages_set, WordSteps}
 use Rattle.pas_scavenger.proofs.Examinations.{outcomes_append}
-use Rattle.pas_trace.specs.Acts.{numbers_from}
-use Rattle.pas_answers.specs.Answers.{Progress}
-use Rattle.pas_same_text.specs.{State.World, Passes.outcome_of, Same.IsSame, Acts.IsBetween, Acts.AreEndsStamped}
-use Rattle.pas_same_text.proofs.{StepMarks.OffersPage, StepMarks.once_parts, PassTries.IsTried, PassTries.tried}
+use Rattle.pas_same_text.proofs.{StepMarks.OffersPage, StepMarks.once_parts, PassTries.tried}
 use Rattle.pas_same_text.proofs.PassOutcomes.{WasOffered, pair, stays_hinted, is_on, Spares, words_stay, spare_both, try_spares}
 
 -- ---- the numbers below n that pass a test, the greatest first

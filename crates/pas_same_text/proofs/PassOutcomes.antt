@@ -1,44 +1,31 @@
 -- WHAT A PASS READS, where no other actor makes a step, and what it leaves: steps on other pages leave a page's words and its bits of the page vectors, looks change no word,
 -- and before grains are taken the words of a page are those that were looked at.
-use Rattle.std.proofs.Common.{arith, ◌≡◌, ℕ, ◌/◌, ◌%◌, ◌==◌, bit_and, bit_or, Bool, true, false, ◌&&◌, if◌then◌else◌, List, [], ◌∷◌, ◌++◌, Option, None, Some}
+use Rattle.pas_same_text.proofs.{StepMarks.kept_over, GivenBack.each_at, GivenBack.each_all, SearchedPages.find_first, SearchedPages.find_none}
+use Rattle.pas_same_text.proofs.{FreeGrains.nobody_keeps, SeatedActs.stamps_told}
+use Rattle.std.proofs.Common.{arith, ◌≡◌, ℕ, ◌/◌, ◌%◌, ◌==◌, bit_and, bit_or, Bool, true, false, if◌then◌else◌, List, [], ◌∷◌, ◌++◌, Option, None, Some}
 use Rattle.std.proofs.Common.{slice_index, inl, inr, refl, ap, sym, ◌∙◌, subst, w64, ◌≢◌, zero, suc, ◌<◌, ◌≤◌, true≢false, ne_eqb, ◌+◌, ◌-◌, ◌*◌, ◌^◌, not}
 use Rattle.std.proofs.Common.{nat_lt, eq-eqb, lt-ltb, le-ltb}
-use Rattle.std.proofs.lemmas.{Bool.false≢true, Bool.cases_eq, Bool.false_from_ne_true, Nat.mod-pow-add, Nat.Bits.bit_at-lt}
+use Rattle.pas_same_text.proofs.Common.{false≢true, cases_eq, false_from_ne_true, has_bit, Mask4, page_bit-set, page_bit-clear, full_bit, grain_of, number_of}
+use Rattle.pas_same_text.proofs.Common.{deed_word_of, IsDirectoryOf, IsValid, IsPage, Directory, Outcome, Word, Profile, Event, made, triples, IsReturn}
+use Rattle.pas_same_text.proofs.Common.{OnlyReturns, Always, all_ones, Whole, word_after, Legal, kind_of, is_in, looking, Only, LookFree, Kinds, apart}
+use Rattle.pas_same_text.proofs.Common.{LookDeed, Taking, Putting, Stamping, Made, Step, Look, Deed, Back, Take, Put, Give, End, EndSized, TakeRight, Offer}
+use Rattle.pas_same_text.proofs.Common.{Park, Unpark, Stamp, Hint, Tick, Unback, Unhint, only_both, only_within, always_both, always_map, empty_bit}
+use Rattle.pas_same_text.proofs.Common.{eligible_bit, IsUsableFree, looked, backed_of, offered_at_rest, right_in_one_place, looks_until, looks, word_take}
+use Rattle.pas_same_text.proofs.Common.{takes, ones, Used, until_only, leave_returns, return_returns, looks_only, used_at, TrySteps, takes_until, first_looks}
+use Rattle.pas_same_text.proofs.Common.{EndsWithout, ExamineSteps, taken_on, looks_same, Progress, World, HasSame, IsBetween, IsSame, AreEndsStamped, is_free}
+use Rattle.pas_same_text.proofs.Common.{are_free, is_guarded, is_kept, outcome_backed, outcome_of, deed_word_of-positive, read-deed_word_of}
+use Rattle.pas_same_text.proofs.Common.{directory_from_profile, same_from_deed_word, backed_in, epoch_in, word_of_backed, IsEmptyBacked}
+use Rattle.pas_same_text.specs.Passes.{used_word, free_bits}
+use Rattle.std.proofs.lemmas.Nat.{mod-pow-add, Bits.bit_at-lt}
 use Rattle.std.specs.Int.{bit_at}
-use Rattle.pas_bits.specs.Bits.{has_bit}
-use Rattle.pas_bits.specs.declared.mask.Mask4.{Mask4}
-use Rattle.pas_bits.proofs.{PageVectors.page_bit-set, PageVectors.page_bit-clear, Words.full_bit}
-use Rattle.pas_profile.specs.{Blocks.grain_of, Layouts.same_word, Directories.number_of, Directories.deed_word_of, Profiles.IsDirectoryOf, Profiles.IsValid}
-use Rattle.pas_profile.specs.{Profiles.IsPage, Directories.IsKind}
-use Rattle.pas_profile.specs.declared.{directory.Directory.Directory, event.Outcome.Outcome, word.Word.Word, profile.Profile.Profile, directory.Kind.Kind}
-use Rattle.pas_profile.specs.declared.{event.Event.Event}
-use Rattle.pas_steps.specs.{Desks.made, Desks.triples, Effects.target, Effects.new_value, Frames.IsReturn, Frames.OnlyReturns, Past.Always, Views.all_ones}
-use Rattle.pas_steps.specs.{Views.usable_by_kind, Lists.Whole, Lists.word_after, Lists.Legal}
-use Rattle.pas_steps.specs.Kinds.{kind_of, is_in, looking, Only, LookFree, Kinds, place_of, apart, LookDeed, LookBacked, Taking, Putting, Claiming, Stamping}
-use Rattle.pas_steps.specs.declared.step.{Made.Made, Step.Step}
-use Rattle.pas_steps.specs.declared.step.Step.TheVariants.{Look, Deed, Back, Take, Put, Give, End, EndSized, TakeRight, Offer, Park, Unpark, Stamp, Hint, Tick}
-use Rattle.pas_steps.specs.declared.step.Step.TheVariants.{Unback, Unhint}
-use Rattle.pas_steps.proofs.{Apart.only_both, Apart.only_within, Apart.in_apart, Past.always_both, Past.always_map, Bits.all_set}
-use Rattle.pas_core.specs.Rights.{empty_bit, eligible_bit, IsUsableFree, IsRightOffered}
-use Rattle.pas_core.proofs.{Deeds.looked, Lives.words_fit, Deeds.backed_of, Offers.offered_at_rest, Rights.right_in_one_place}
-use Rattle.pas_rights.specs.{Looks.looks_until, Looks.looks, Looks.AreUsed, Puts.PutsBelow, Takes.word_take, Takes.takes, Words.ones}
-use Rattle.pas_rights.specs.declared.reading.Used.{Used}
-use Rattle.pas_rights.proofs.Orders.{until_only, leave_returns, return_returns, each_always, looks_only}
-use Rattle.pas_scavenger.specs.{Judgements.used_at, Passes.TrySteps, Puttings.BackSteps, Readings.takes_until}
-use Rattle.pas_scavenger.specs.Pages.{first_looks, AsksSteps, EndsWithout, ExamineSteps}
-use Rattle.pas_scavenger.proofs.Examinations.{taken_on}
-use Rattle.pas_large.proofs.Told.{looks_same}
-use Rattle.pas_answers.specs.Answers.{Progress}
-use Rattle.pas_same_text.specs.{State.World, Same.HasSame, Acts.IsBetween, Same.IsSame, Acts.AreEndsStamped}
-use Rattle.pas_same_text.specs.Pages.{is_free, are_free, is_guarded, is_kept}
-use Rattle.pas_same_text.specs.Passes.{used_word, free_bits, outcome_backed, outcome_of}
-use Rattle.pas_same_text.proofs.{GivenBack.each_at, GivenBack.each_all, SearchedPages.find_first, SearchedPages.find_none, FreeGrains.nobody_keeps}
-use Rattle.pas_same_text.proofs.{SeatedActs.stamps_told}
+use Rattle.pas_steps.specs.Kinds.{LookBacked, Claiming}
+use Rattle.pas_steps.proofs.Bits.{all_set}
+use Rattle.pas_core.proofs.Lives.{words_fit}
+use Rattle.pas_rights.specs.{Looks.AreUsed, Puts.PutsBelow}
+use Rattle.pas_rights.proofs.Orders.{each_always}
+use Rattle.pas_scavenger.specs.{Puttings.BackSteps, Pages.AsksSteps}
 use Rattle.pas_same_text.proofs.RestingPages.{free_at, backed_unguarded, clear_of, bit_tells}
 use Rattle.pas_profile.proofs.Sizes.{usable_grains_ge}
-use Rattle.pas_profile.proofs.Codecs.{deed_word_of-positive, read-deed_word_of, directory_from_profile, same_from_deed_word}
-use Rattle.pas_machine.specs.State.{backed_in, epoch_in}
-use Rattle.pas_core.specs.{Good.word_of_backed, Hints.IsEmptyBacked}
 
 -- ---- on which page a step works
 -- the step may change a word of the page, or its bit of a page vector
@@ -79,28 +66,11 @@ pub record IsSpared (page : ℕ) (l l' : Whole) : Type 0 where
   pub words : AreWordsKept page l l'
   pub hint : empty_bit l' page ≡ empty_bit l page
 
-backed_kept : (e : ℕ) (s : Step) (page old : ℕ) → is_on page s ≡ false → (if same_word (target s) (Word.Backed page) then new_value e s old else old) ≡ old
-backed_kept e s page old h = search (arith, looked, bit_or)
-
-stamp_kept : (e : ℕ) (s : Step) (page old : ℕ) → is_on page s ≡ false → (if same_word (target s) (Word.Stamp page) then new_value e s old else old) ≡ old
-stamp_kept e s page old h = search (arith, looked)
-
-deed_kept : (e : ℕ) (s : Step) (page old : ℕ) → is_on page s ≡ false → (if same_word (target s) (Word.Deed page) then new_value e s old else old) ≡ old
-deed_kept e s page old h = search (arith, looked)
-
-offer_kept : (e : ℕ) (s : Step) (n page old : ℕ) → is_on page s ≡ false
-    → has_bit (if same_word (target s) (Word.Eligible n (page / 64)) then new_value e s old else old) (page % 64) ≡ has_bit old (page % 64)
-offer_kept e s n page old h = search (arith, looked, page_bit-clear, page_bit-set)
-
-hint_kept : (e : ℕ) (s : Step) (page old : ℕ) → is_on page s ≡ false
-    → has_bit (if same_word (target s) (Word.Empty (page / 64)) then new_value e s old else old) (page % 64) ≡ has_bit old (page % 64)
-hint_kept e s page old h = search (arith, looked, page_bit-set, page_bit-clear)
-
--- THE PAGE is as it was
+-- THE PAGE is as it was: of each word and bit by cases of the step
 pub words_stay : (page k : ℕ) (xs : List Made) (l : Whole) → Spares page xs → IsSpared page l (triples k xs ++ l)
 words_stay page k [] l spares = record { words = record { free = λ word. refl; backed = refl; stamp = refl; deed = refl; offer = λ number. refl }; hint = refl }
 words_stay page k (m ∷ xs) l spares =
-    let rest = words_stay page k xs l spares.1 in grind (arith, rest, looked, bit_and, w64, bit_or, backed_kept, stamp_kept, deed_kept, offer_kept, hint_kept)
+    let rest = words_stay page k xs l spares.1 in grind (arith, rest, looked, bit_and, w64, bit_or, page_bit-clear, page_bit-set)
 
 -- ==== WHICH STEPS of a pass spare a page: those by which another page is tried
 pub spare_both : (page : ℕ) (ys xs : List Made) → Spares page ys → Spares page xs → Spares page (ys ++ xs)
@@ -130,8 +100,7 @@ module _ (page q : ℕ) (other : (q == page) ≡ false) where
   puts_spare grains = search (arith, slice_index)
 
   back_spares : (d : Directory) (grains : Mask4) (steps : List Made) → BackSteps q d grains steps → Spares page steps
-  back_spares d grains steps h = subst (Spares page) (sym h.steps_are)
-      (spare_both page h.left (h.after ++ h.puts) (returns_spare h.left (leave_returns q d h.left h.leaves))
+  back_spares d grains steps h = rw h.steps_are (spare_both page h.left (h.after ++ h.puts) (returns_spare h.left (leave_returns q d h.left h.leaves))
       (spare_both page h.after h.puts (returns_spare h.after (return_returns q d h.after h.returns)) (puts_spare grains h.puts h.order)))
 
   takes_spare : (n : ℕ) → Spares page (takes q ones ones n)
@@ -152,10 +121,9 @@ module _ (page q : ℕ) (other : (q == page) ≡ false) where
   examine_spares age epoch outcome steps (inr h) =
       let t = h.takes in
       let rest : List Made = takes_until q t.used ++ h.asked in
-      subst (Spares page) (sym (taken_on age epoch q outcome steps h))
-      (spare_both page t.back (t.after ++ rest) (back_spares h.directory t.grains t.back t.puts)
-      (spare_both page t.after rest (search arith)
-      (spare_both page (takes_until q t.used) h.asked (search (arith, takes_spare)) (asks_spare h.directory true h.asked h.asks))))
+      rw (taken_on age epoch q outcome steps h) (spare_both page t.back (t.after ++ rest) (back_spares h.directory t.grains t.back t.puts)
+      (spare_both page t.after rest (search arith) (spare_both page (takes_until q t.used) h.asked (search (arith, takes_spare))
+      (asks_spare h.directory true h.asked h.asks))))
 
   -- The steps of a pass that try one page spare every other page.
   pub try_spares : (age epoch : ℕ) (o : Option Outcome) (steps : List Made) → TrySteps age epoch q o steps → Spares page steps
@@ -163,14 +131,6 @@ module _ (page q : ℕ) (other : (q == page) ≡ false) where
   try_spares age epoch (Some outcome) steps h = rw h.4 (spare_both page h.2 (made (Unhint q) h.0 ∷ []) (examine_spares age epoch outcome h.2 h.3) (other, tt))
 
 -- ==== LOOKS change no word
--- a word that steps of some kinds leave as it was
-kept_over : (x : Word) (ks ls : Kinds)
-    → ((e : ℕ) (s : Step) (old : ℕ) → is_in ls (kind_of s) ≡ false → (if same_word (target s) x then new_value e s old else old) ≡ old) → apart ks ls ≡ true
-    → (k : ℕ) (xs : List Made) (l : Whole) → Only ks xs → word_after (triples k xs ++ l) x ≡ word_after l x
-kept_over x ks ls step w k [] l only = refl
-kept_over x ks ls step w k (m ∷ xs) l only =
-    step _ m.step (word_after (triples k xs ++ l) x) (in_apart ks ls (place_of (kind_of m.step)) w only.0) ∙ kept_over x ks ls step w k xs l only.1
-
 -- where none takes or puts grains, free words stay
 pub frees_stay : (ks : Kinds) → apart ks (Taking ∷ Putting ∷ []) ≡ true → (k : ℕ) (xs : List Made) (l : Whole) (page word : ℕ) → Only ks xs
     → word_after (triples k xs ++ l) (Word.Free page word) ≡ word_after l (Word.Free page word)
@@ -209,14 +169,7 @@ asking = Claiming ∷ LookDeed ∷ LookFree ∷ LookBacked ∷ []
 
 -- The looks that ask about a page, and the claim of it, are of the asking kinds alone.
 pub asks_only : (page : ℕ) (d : Directory) (got : Bool) (steps : List Made) → AsksSteps page d got steps → Only asking steps
-asks_only page d got steps h = subst (Only asking) (sym h.steps_are) (
-  refl,
-  (
-    refl,
-    only_both asking (looks_until page None)
-        (made (Look (Word.Backed page)) h.backed ∷ []) (only_within (LookFree ∷ []) asking (looks_until page None) refl (until_only page None)) (refl, tt),
-  ),
-)
+asks_only page d got steps h = search (arith, only_both, only_within, until_only)
 
 -- What the asking steps of a pass read of a page was so of its words before them.
 pub asks_told : (f : Profile) (k : ℕ) (l : Whole) (page : ℕ) (d : Directory) (got : Bool) (steps : List Made) → AsksSteps page d got steps
@@ -242,10 +195,6 @@ none_used f k l page used xs are full legal = search (arith, lower_takes)
 bit_worth : (x m : ℕ) → x < 2 → (if x == 1 then m else 0) ≡ x * m
 bit_worth a m lt = search arith
 
--- Sums of parts are equal where the parts are.
-added : (a b c d : ℕ) → c ≡ b + a → d ≡ c → a + b ≡ d
-added a b c d e g = omega (arith, e, g)
-
 -- the free grains of a word are the bits of this number
 bits_worth : (w : World) (page word value : ℕ) → ((b : ℕ) → b < 64 → is_free w page (64 * word + b) ≡ has_bit value b) → (n : ℕ) → n ≤ 64
     → free_bits w page word n ≡ value % 2 ^ n
@@ -258,7 +207,7 @@ bits_worth w page word value agree (suc n) le =
     let next : suc n ≡ 1 + n = omega arith in
     ap (λ (x : ℕ). x + (if is_free w page (64 * word + n) then 2 ^ n else 0)) before
     ∙ (ap (λ (x : ℕ). value % 2 ^ n + x) here
-    ∙ added (value % 2 ^ n) (bit_at value n * 2 ^ n) (value % 2 ^ (1 + n)) (value % 2 ^ suc n) (mod-pow-add value 1 n) (ap (λ (x : ℕ). value % 2 ^ x) next))
+    ∙ omega (arith, mod-pow-add value 1 n, ap (λ (x : ℕ). value % 2 ^ x) next))
 
 module _ (f : Profile) (p : Progress) (w : World) (valid : IsValid f) (between : IsBetween f p) (same : HasSame f p w) where
   abbrev free_word : ℕ → ℕ → ℕ
@@ -323,10 +272,6 @@ was_backed : (b : Bool) (n : ℕ) → n ≡ word_of_backed b → n ≢ 0 → b �
 was_backed true n is some = refl
 was_backed false n is some = absurd (some is)
 
--- the first grain of a page is one that blocks of its directory may cover
-first_usable : (k : Kind) → IsKind k → usable_by_kind k 0 ≡ true
-first_usable k is = search (arith, usable_grains_ge, lt-ltb)
-
 module _ (f : Profile) (p : Progress) (w : World) (valid : IsValid f) (between : IsBetween f p) (same : IsSame f p w) (stamped : AreEndsStamped p.list) where
   -- the words of the page show that it is backed; all its grains are free
   abbrev IsBacked : ℕ → Type 0
@@ -366,8 +311,7 @@ module _ (f : Profile) (p : Progress) (w : World) (valid : IsValid f) (between :
       → word_after p.list (Word.Free page word) ≢ all_ones
       → outcome_of f w page ≡ Outcome.InUse word (word_after p.list (Word.Free page word))
   used_outcome page word few some full used =
-      backed_outcome page (Some word) some (used_first f p w valid between has_same page word (unguarded page some) few full used)
-      ∙ ap (λ (n : ℕ). Outcome.InUse word n) (value_is f p w valid between has_same page word (unguarded page some) few)
+      grind (arith, backed_outcome, used_first, has_same, unguarded, value_is)
 
   -- ---- empty, and kept by a cache: it has room, and nobody offers it
   kept_page : (page : ℕ) (d : Directory) → IsDirectoryOf f d → word_after p.list (Word.Deed page) ≡ deed_word_of d → IsFull page
@@ -375,7 +319,7 @@ module _ (f : Profile) (p : Progress) (w : World) (valid : IsValid f) (between :
   kept_page page d of deed full none = by_kept (is_kept w page) refl
     where
       free_grain : IsUsableFree p.list page 0 0
-      free_grain = search (arith, full_bit, read-deed_word_of, directory_from_profile, first_usable)
+      free_grain = search (arith, full_bit, read-deed_word_of, directory_from_profile, usable_grains_ge, lt-ltb)
 
       by_kept : (t : Bool) → is_kept w page ≡ t → t ≡ true
       by_kept true e = refl

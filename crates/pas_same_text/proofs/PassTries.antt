@@ -1,30 +1,17 @@
 -- WHAT COMES OF A PAGE THAT IS TRIED: its outcome is that of the text, and where that ends its hint, it has none afterwards.
-use Rattle.std.proofs.Common.{◌≡◌, ◌≢◌, ℕ, ◌+◌, ◌/◌, ◌<◌, Bool, true, false, if◌then◌else◌, List, [], ◌∷◌, ◌++◌, Option, None, Some, inl, inr, refl, ap, sym}
-use Rattle.std.proofs.Common.{◌∙◌, subst, arith, true≢false, eq-eqb}
-use Rattle.std.proofs.lemmas.Bool.{false≢true, false_from_ne_true}
-use Rattle.pas_large.proofs.{Told.looks_same, Left.hints_both}
-use Rattle.pas_bits.specs.declared.mask.Mask4.{Mask4}
-use Rattle.pas_bits.proofs.PageVectors.{page_bit-clear}
-use Rattle.pas_profile.specs.{Directories.number_of, Profiles.IsValid, Profiles.IsPage}
-use Rattle.pas_profile.specs.declared.{directory.Directory.Directory, event.Outcome.Outcome, profile.Profile.Profile, word.Word.Word}
-use Rattle.pas_steps.specs.{Desks.made, Desks.triple, Desks.triples, Lists.Whole, Lists.word_after, Lists.Legal, Past.Once, Past.Always, Views.all_ones}
-use Rattle.pas_steps.specs.Kinds.{Kinds, kind_of, place_of, apart, looking, returning, Only, LookStamp, Taking, Putting, Offering, Hinting, Unbacking}
-use Rattle.pas_steps.specs.Kinds.{Unhinting}
-use Rattle.pas_steps.specs.declared.step.Made.{Made}
-use Rattle.pas_steps.specs.declared.step.Step.TheVariants.{Look, Offer, Hint, Unback, Unhint}
-use Rattle.pas_steps.proofs.{Adding.triples_append, Apart.in_apart, Apart.only_both, Apart.only_within, Calls.returns_are}
-use Rattle.pas_core.specs.{Hints.IsEmptyBacked, Rights.empty_bit, Rights.eligible_bit}
-use Rattle.pas_core.proofs.{OneActor.legal_earlier, Rights.hinted_page}
-use Rattle.pas_rights.specs.Looks.{looks, looks_until, ReadsBacked, HintsEmpty}
-use Rattle.pas_rights.specs.Words.{ones}
-use Rattle.pas_rights.specs.declared.reading.Used.{Used}
-use Rattle.pas_rights.proofs.{Puts.leave_due, Orders.leave_returns, Orders.return_returns, Puts.puts_kinds}
-use Rattle.pas_scavenger.specs.{Judgements.used_at, Judgements.Judged, Passes.TrySteps, Puttings.BackSteps, Readings.takes_until}
-use Rattle.pas_scavenger.specs.Pages.{first_looks, EndsWithout, EndsWith, ExamineSteps}
-use Rattle.pas_scavenger.proofs.Examinations.{takes_are, taken_on}
-use Rattle.pas_answers.specs.Answers.{Progress}
-use Rattle.pas_same_text.specs.{State.World, Passes.outcome_of, Same.IsSame, Acts.IsBetween, Acts.AreEndsStamped}
-use Rattle.pas_same_text.proofs.StepMarks.{HintsPage, OffersPage, WasRead, backed_stays, hinted_by, hint_read, hints_none, hints_of, once_parts}
+use Rattle.pas_same_text.proofs.StepMarks.{backed_read, HintsPage, OffersPage, WasRead, backed_stays, hinted_by, hint_read, hints_none, hints_of, once_parts}
+use Rattle.std.proofs.Common.{◌≡◌, ◌≢◌, ℕ, ◌+◌, ◌<◌, Bool, true, false, if◌then◌else◌, List, [], ◌∷◌, ◌++◌, Option, None, Some, inl, inr, refl, ap, sym, ◌∙◌}
+use Rattle.std.proofs.Common.{subst, arith, true≢false, eq-eqb}
+use Rattle.pas_same_text.proofs.Common.{false≢true, false_from_ne_true, looks_same, hints_both, Mask4, page_bit-clear, number_of, IsValid, IsPage, Directory}
+use Rattle.pas_same_text.proofs.Common.{Outcome, Profile, Word, made, triple, triples, Whole, word_after, Legal, Once, Always, all_ones, Kinds, kind_of}
+use Rattle.pas_same_text.proofs.Common.{place_of, apart, looking, returning, Only, Taking, Putting, Offering, Hinting, Unbacking, Unhinting, Made, Look, Offer}
+use Rattle.pas_same_text.proofs.Common.{Hint, Unback, Unhint, triples_append, in_apart, only_both, only_within, returns_are, IsEmptyBacked, empty_bit}
+use Rattle.pas_same_text.proofs.Common.{eligible_bit, legal_earlier, hinted_page, looks, looks_until, ReadsBacked, HintsEmpty, ones, Used, leave_due}
+use Rattle.pas_same_text.proofs.Common.{leave_returns, return_returns, puts_kinds, used_at, TrySteps, takes_until, first_looks, EndsWithout, ExamineSteps}
+use Rattle.pas_same_text.proofs.Common.{taken_on, Progress, World, outcome_of, IsSame, IsBetween, AreEndsStamped}
+use Rattle.pas_steps.specs.Kinds.{LookStamp}
+use Rattle.pas_scavenger.specs.{Judgements.Judged, Puttings.BackSteps, Pages.EndsWith}
+use Rattle.pas_scavenger.proofs.Examinations.{takes_are}
 use Rattle.pas_same_text.proofs.PassOutcomes.{WasOffered, stays_hinted, bare_outcome, used_outcome, kept_outcome, young_outcome, old_outcome, empty_backed}
 use Rattle.pas_same_text.proofs.PassOutcomes.{frees_stay, stamps_stay, looks_told, IsAsked, asking, asks_only, asks_told, none_used, AreWordsKept, IsSpared}
 use Rattle.pas_same_text.proofs.PassOutcomes.{first_only}
@@ -52,18 +39,14 @@ back_only page d grains steps h = subst (Only giving) (sym h.steps_are)
     (only_within (Putting ∷ []) giving h.puts refl (puts_kinds page grains 4 h.puts h.order))))
 
 back_hints : (page : ℕ) (d : Directory) (grains : Mask4) (steps : List Made) → BackSteps page d grains steps → Always HintsEmpty steps
-back_hints page d grains steps h = subst (Always HintsEmpty) (sym h.steps_are)
-    (hints_both h.left (h.after ++ h.puts) (hints_of h.left (leave_due page d h.left h.leaves))
+back_hints page d grains steps h = rw h.steps_are (hints_both h.left (h.after ++ h.puts) (hints_of h.left (leave_due page d h.left h.leaves))
     (hints_both h.after h.puts (return_hints page d h.after h.returns) (hints_none (Putting ∷ []) h.puts refl (puts_kinds page grains 4 h.puts h.order))))
 
 -- a page without memory isn't read as backed
 not_read : (f : Profile) (k : ℕ) (l : Whole) (page : ℕ) (xs : List Made) → Legal f (triples k xs ++ l) → Only giving xs → word_after l (Word.Backed page) ≡ 0
     → Once (ReadsBacked page) xs → ⊥
-not_read f k l page [] legal only none h = h
-not_read f k l page (m ∷ xs) legal only none (inr h) = not_read f k l page xs legal.1 only.1 none h
-not_read f k l page (m ∷ xs) legal only none (inl h) =
-    let at : m.answer ≡ word_after (triples k xs ++ l) (Word.Backed page) = cc in
-    omega (arith, (sym h.1 ∙ (at ∙ (backed_stays giving refl k xs l page only.1 ∙ none))))
+not_read f k l page xs legal only none read =
+    omega (arith, backed_read giving f k l page refl refl xs legal only read, backed_stays giving refl k xs l page only, none)
 
 -- ==== AN EXAMINATION
 -- the page's outcome is this one; where the page stays hinted it is backed and empty, and where it doesn't the steps hint it not; and they offer it only if it was offered
@@ -96,9 +79,8 @@ module _ (f : Profile) (p : Progress) (w : World) (valid : IsValid f) (between :
         let read = whole.0.answer_is ∙ (looks_same 0 (looks page ones word ++ (back ∷ [])) before (Word.Free page word) all.1 ∙ kept.free word) in
         let only : Only looking steps = subst (Only looking) (sym h.3) all in
         record {
-          is = used_outcome f p w valid between same stamped page word h.2.within (λ none. h.1 (begun.0.answer_is ∙ (kept.backed ∙ none)))
-              (λ v lt. sym (kept.free v) ∙ looks_told f 0 before page ones word v (back ∷ []) lt (refl, tt) whole.1) (λ full. h.2.some (read ∙ full))
-              ∙ ap (λ (n : ℕ). Outcome.InUse word n) (sym read);
+          is = cc (used_outcome f p w valid between same stamped page word h.2.within (λ none. h.1 (begun.0.answer_is ∙ (kept.backed ∙ none)))
+              (λ v lt. sym (kept.free v) ∙ looks_told f 0 before page ones word v (back ∷ []) lt (refl, tt) whole.1) (λ full. h.2.some (read ∙ full)));
           idle = λ stays. absurd (false≢true stays);
           hints = λ gone hint. none_hints looking refl page steps only hint;
           offers = λ offer. absurd (none_offers looking refl page steps only offer);

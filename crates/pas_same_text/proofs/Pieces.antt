@@ -2,41 +2,24 @@
 -- other pages is so still.
 use Rattle.std.proofs.Common.{ℕ, zero, suc, List, [], ◌∷◌, inl, inr, sym, subst, arith, ◌≡◌, ◌/◌, ◌%◌, true, ◌++◌, ap, ◌∙◌, ◌+◌, ◌*◌, ◌<◌, Bool, refl}
 use Rattle.std.proofs.Common.{append_assoc, false, Some, ◌⊎◌, true≢false, ◌==◌}
-use Rattle.std.specs.List.{AllByRecursion, list_any}
-use Rattle.pas_profile.specs.declared.{directory.Directory.Directory, word.Word.Word, profile.Profile.Profile}
-use Rattle.pas_steps.specs.{InTurn.InTurn, Past.Always, Past.Once, Desks.triples, Views.has_right, Views.holds, Evidence.GetsHere}
-use Rattle.pas_steps.specs.declared.step.{Made.Made, Step.TheVariants.Hint, Step.TheVariants.Offer}
-use Rattle.pas_rights.specs.{Leaves.LeaveSteps, PutsBack.GivesDuly}
-use Rattle.pas_rights.proofs.{Puts.due_both, Puts.leave_due, Orders.leave_returns}
-use Rattle.pas_scan.specs.{Runs.IsInRun, Usable.MakesNoDeedHere}
-use Rattle.pas_large.specs.Gives.{pages_from}
+use Rattle.pas_rights.proofs.Puts.{due_both}
 use Rattle.pas_same_text.proofs.StepMarks.{IsMarked, marked_parts, returns_marked, HintsPage, once_parts, none_marked, marked_left, hint_marks, offer_marks}
-use Rattle.pas_same_text.proofs.StepMarks.{offered_by, hints_of, hint_read, free_read, OffersPage, hinted_stays, hinted_by, was_offered_before, KeepsBacked}
-use Rattle.pas_same_text.proofs.StepMarks.{hint_was, own_bit}
+use Rattle.pas_same_text.proofs.StepMarks.{offered_by, hints_of, hint_read, free_read, OffersPage, hinted_stays, hinted_by, KeepsBacked, hint_was, own_bit}
+use Rattle.pas_search.proofs.LoneSteps.{was_offered_before}
 use Rattle.pas_same_text.proofs.StopSteps.{ReadsRoom, leave_room, room_earlier, room_later, grain_read}
-use Rattle.pas_profile.proofs.{Lists.all_map, Codecs.same_from_deed_word}
-use Rattle.pas_bits.specs.Bits.{has_bit}
-use Rattle.pas_profile.specs.{Profiles.IsValid, Profiles.IsDirectoryOf, Directories.number_of, Directories.deed_word_of, Directories.IsKind}
-use Rattle.pas_steps.specs.Lists.{Whole, word_after, Legal, part, visible}
-use Rattle.pas_steps.specs.Kinds.{Kinds, Only, apart, Taking, Giving, LookLife, Backing, returning}
-use Rattle.pas_answers.specs.Answers.{Progress}
-use Rattle.pas_same_text.specs.{State.World, Pages.is_offered, Pages.is_guarded, Pages.is_hinted, Same.HasSame, Same.IsSame, Same.ArePagesSame, Acts.IsBetween}
-use Rattle.pas_same_text.specs.{Words.free_bit}
 use Rattle.pas_same_text.proofs.RestingPages.{open_from, free_left, open_grows, bit_at, is_open, bit_tells, bit_offered, deed_now, word_now, open_unguarded}
 use Rattle.pas_same_text.proofs.RestingPages.{had_open, clear_of, offered_bit}
-use Rattle.std.proofs.lemmas.Bool.{false≢true, false_from_ne_true, cases_Bool}
-use Rattle.pas_steps.proofs.{Adding.triples_append, Apart.only_both, Apart.only_within, Past.once_later, Sets.same_truth}
-use Rattle.pas_core.specs.{Rights.eligible_bit, Rights.empty_bit, Good.IsPartOf}
-use Rattle.pas_core.proofs.{OneActor.legal_before, OneActor.LendsNone, OneActor.legal_earlier, Rights.right_not_offered, Rights.right_in_one_place}
-use Rattle.pas_core.proofs.{Offers.hinted_at_rest}
-use Rattle.pas_large.proofs.Left.{only_leaves}
-use Rattle.pas_machine.specs.State.{Live, live_in, deed_in}
-use Rattle.pas_cache.specs.{Locals.any_covers, Kinds.allocating}
-use Rattle.pas_guard.specs.Books.{is_outer}
 use Rattle.pas_same_text.proofs.FreeGrains.{not_outer, unguarded_by, bit_free, cached_held, free_uncovered, free_unheld, free_unless, held_by, holder_thread}
 use Rattle.pas_same_text.proofs.FreeGrains.{outer_held}
 use Rattle.pas_same_text.proofs.Tests.{on_page}
-use Rattle.pas_search.specs.Kinds.{IsReturnOf, ReturnsDuly}
+use Rattle.pas_same_text.proofs.Common.{AllByRecursion, list_any, Directory, Word, Profile, InTurn, Always, Once, triples, has_right, holds, GetsHere, Made}
+use Rattle.pas_same_text.proofs.Common.{Hint, Offer, LeaveSteps, GivesDuly, leave_due, leave_returns, IsInRun, MakesNoDeedHere, pages_from, all_map}
+use Rattle.pas_same_text.proofs.Common.{same_from_deed_word, has_bit, IsValid, IsDirectoryOf, number_of, deed_word_of, IsKind, Whole, word_after, Legal, part}
+use Rattle.pas_same_text.proofs.Common.{visible, Kinds, Only, apart, Taking, Giving, LookLife, Backing, returning, Progress, World, is_offered, is_guarded}
+use Rattle.pas_same_text.proofs.Common.{is_hinted, HasSame, IsSame, ArePagesSame, IsBetween, free_bit, false≢true, false_from_ne_true, cases_Bool}
+use Rattle.pas_same_text.proofs.Common.{triples_append, only_both, only_within, once_later, same_truth, eligible_bit, empty_bit, IsPartOf, legal_before}
+use Rattle.pas_same_text.proofs.Common.{LendsNone, legal_earlier, right_not_offered, right_in_one_place, hinted_at_rest, only_leaves, Live, live_in, deed_in}
+use Rattle.pas_same_text.proofs.Common.{any_covers, allocating, is_outer, IsReturnOf, ReturnsDuly}
 
 -- each of the pages is left, the one that was left last first
 abbrev pub LeftAll : Directory → List ℕ → List Made → Type 0
@@ -78,8 +61,7 @@ module _ (f : Profile) (p : Progress) (w : World) (valid : IsValid f) (between :
       (only : Only ks steps) where
     -- A page of which a look read room, and of which no step took since, is open in the text.
     pub read_open : (page : ℕ) (d e : Directory) → d ≡ e → ReadsRoom page e steps → is_open w d page ≡ true
-    read_open page d e is r =
-        search (arith, grain_read, open_from, bit_at)
+    read_open page d e is r = search (arith, grain_read, open_from, bit_at)
 
 -- ==== PAGES THAT ARE LEFT after a block of theirs was given: which pages that marks, that it hints none, and that those that it offers are offered in the text.
 -- a grain of the page isn't free

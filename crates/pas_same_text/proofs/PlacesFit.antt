@@ -2,23 +2,17 @@
 -- grains of the replay.
 use Rattle.std.proofs.Common.{◌≡◌, ℕ, zero, suc, ◌+◌, ◌*◌, ◌<◌, Bool, true, false, ◌||◌, if◌then◌else◌, List, [], ◌∷◌, take, inl, inr, refl, ap, ◌∙◌, arith}
 use Rattle.std.proofs.Common.{◌/◌, ◌%◌, ◌≤◌, ◌==◌, nat_le, nat_lt, not, ◌&&◌, sym, true≢false, eq-eqb, eqb-true}
-use Rattle.std.proofs.lemmas.Bool.{false≢true, or_cases, or_left, or_right, and_from, false_from_ne_true}
-use Rattle.std.proofs.{Math.Nat.suc-mul, Math.Nat.mul-mod_left, Math.Nat.mod-add-div', lemmas.Bool.Decides.nat_tests, lemmas.Nat.div_below, lemmas.Nat.mul-le}
-use Rattle.std.specs.List.{list_any, filter}
-use Rattle.pas_same_text.specs.{Searches.some_of, State.World, Pages.is_free, Pages.are_free, Pages.is_guarded, Runs.lowest_place, Same.HasSame, Acts.IsBetween}
-use Rattle.pas_same_text.specs.{Searched.FitsSame, Classes.spaced, Classes.slots_for}
-use Rattle.pas_profile.specs.Classes.{IsAlignment, IsClass, class_grains, slots_of, IsSlotStart}
-use Rattle.pas_profile.specs.Profiles.{IsValid}
-use Rattle.pas_profile.specs.declared.profile.Profile.{Profile}
-use Rattle.pas_profile.proofs.Sizes.{passes_at, class_grains_positive, usable_grains_le, slot_end}
-use Rattle.pas_steps.specs.Evidence.{Readings}
-use Rattle.pas_core.specs.Rights.{free_of_page}
-use Rattle.pas_bitfit.specs.{Allocates.run_for, Runs.Fits, Runs.NoneFits, Runs.IsLowestFit}
-use Rattle.pas_answers.specs.Answers.{Progress}
+use Rattle.std.proofs.{Math.Nat.mul-mod_left, Math.Nat.mod-add-div', lemmas.Nat.div_below, lemmas.Nat.mul-le}
+use Rattle.pas_profile.specs.Classes.{IsAlignment}
+use Rattle.pas_profile.proofs.Sizes.{passes_at}
 use Rattle.pas_same_text.proofs.{FreeGrains.bit_unguarded, FreeGrains.bit_read, FreeGrains.read_unless, GivenBack.each_at, GivenBack.each_all, Tests.and_first}
 use Rattle.pas_same_text.proofs.{Tests.and_second}
 use Rattle.pas_bits.specs.Runs.{AreFree}
-use Rattle.pas_segregated.specs.Takes.{NoSlot}
+use Rattle.pas_bitfit.proofs.Aligned.{or_last}
+use Rattle.pas_same_text.proofs.Common.{false≢true, or_cases, or_left, or_right, and_from, false_from_ne_true, suc-mul, nat_tests, list_any, filter, some_of}
+use Rattle.pas_same_text.proofs.Common.{World, is_free, are_free, is_guarded, lowest_place, HasSame, IsBetween, FitsSame, spaced, slots_for, IsClass}
+use Rattle.pas_same_text.proofs.Common.{class_grains, slots_of, IsSlotStart, IsValid, Profile, class_grains_positive, usable_grains_le, slot_end, Readings}
+use Rattle.pas_same_text.proofs.Common.{free_of_page, run_for, Fits, NoneFits, IsLowestFit, Progress, NoSlot}
 
 -- Some numbers of a list pass a test exactly where the filtered list has any.
 some_filtered : (test : ℕ → Bool) (xs : List ℕ) → some_of (filter test xs) ≡ list_any test xs
@@ -50,8 +44,7 @@ from_spaced test (suc n) from step h = elim (or_cases (test from) (list_any test
 first_spaced : (test : ℕ → Bool) (n from step i : ℕ) → i < n → test (from + i * step) ≡ true → ((j : ℕ) → j < i → test (from + j * step) ≡ false)
     → take 1 (filter test (spaced from step n)) ≡ (from + i * step) ∷ []
 first_spaced test zero from step i lt h before = absurd (omega (arith, lt))
-first_spaced test (suc n) from step zero lt h before =
-    search arith
+first_spaced test (suc n) from step zero lt h before = search arith
 first_spaced test (suc n) from step (suc i) lt h before =
     ap (λ (t : Bool). take 1 (if t then from ∷ filter test (spaced (from + step) step n) else filter test (spaced (from + step) step n)))
     (ap test (omega arith) ∙ before 0 (omega arith))
@@ -63,10 +56,6 @@ first_spaced test (suc n) from step (suc i) lt h before =
 -- ---- an alignment splits a page
 abbrev splits : ℕ → Bool
 splits a = nat_lt a 16 || not (4096 % a == 0) || (256 / (a / 16) * (a / 16) == 256)
-
--- Where one of three holds and the first two don't, the third does.
-or_last : (x y z : Bool) → (x || not y || z) ≡ true → x ≡ false → y ≡ true → z ≡ true
-or_last x y z h hx hy = grind arith
 
 page_splits : (align : ℕ) → IsAlignment align → 256 / (align / 16) * (align / 16) ≡ 256
 page_splits align is =
@@ -169,8 +158,7 @@ module _ (f : Profile) (p : Progress) (w : World) (valid : IsValid f) (between :
   -- a slot of the list is one of the class, and the other way round
   -- a multiple of the step that ends within the slots
   pub slot_there : (i : ℕ) → i < slots_of class → IsSlotStart class (i * slot_grains)
-  slot_there i lt =
-      search arith
+  slot_there i lt = search arith
 
   -- The start of a slot is a number of whole steps of its class, below the number of slots.
   pub slot_index : (s : ℕ) → IsSlotStart class s → (i : ℕ) × (i < slots_of class) × (i * slot_grains ≡ s)

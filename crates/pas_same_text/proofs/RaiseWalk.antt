@@ -1,17 +1,11 @@
 -- THE RUNS THAT A KEEPER TRIES, in the text: one after the other from the lowest up, all pages of each that is usable get deeds, until one serves.
 use Rattle.std.proofs.Common.{◌≡◌, ◌≢◌, ℕ, zero, suc, ◌+◌, ◌<◌, ◌≤◌, nat_lt, Bool, true, false, if◌then◌else◌, List, [], ◌∷◌, ◌++◌, None, inl, inr, refl, ap}
 use Rattle.std.proofs.Common.{sym, ◌∙◌, subst, arith, append_assoc, true≢false, ne_eqb, lt-ltb, ltb-true}
-use Rattle.std.proofs.lemmas.{Bool.cases_eq, Bool.cases_lt, List.map-append}
-use Rattle.std.specs.List.{AllByRecursion}
-use Rattle.pas_profile.specs.declared.{directory.Directory.Directory, event.Event.Event, profile.Profile.Profile}
-use Rattle.pas_machine.specs.{Machine.Run, State.deed_in, State.backed_in}
-use Rattle.pas_scan.specs.Runs.{IsInRun}
-use Rattle.pas_trace.specs.Acts.{numbers_from}
-use Rattle.pas_same_text.specs.{State.World, Pages.page_numbers, Searches.deeds, Guards.are_bare, Guards.raises, Guards.raises_from}
-use Rattle.pas_same_text.specs.Runs.{large_of, is_run, deeds_run, serves_pages}
+use Rattle.pas_same_text.proofs.Common.{cases_eq, cases_lt, map-append, AllByRecursion, Directory, Event, Profile, Run, deed_in, backed_in, IsInRun}
+use Rattle.pas_same_text.proofs.Common.{numbers_from, World, page_numbers, deeds, are_bare, raises, raises_from, large_of, is_run, deeds_run, serves_pages}
+use Rattle.pas_same_text.proofs.Common.{all_map}
 use Rattle.pas_same_text.proofs.ReadyPages.{shown, shown_events}
 use Rattle.pas_same_text.proofs.RunsFound.{each_in_turn, shown_both, deeds_of, AreFalling, AllInRun, deeds_in_turn}
-use Rattle.pas_profile.proofs.Lists.{all_map}
 
 -- ==== PAGES FROM THE HIGHEST DOWN: those below a page, and the others
 abbrev pub below : ℕ → List ℕ → List ℕ

@@ -1,17 +1,11 @@
 -- A PAGE IS MADE READY for a block: the events of a search before a give are those of the text, by the machine's rules alone.
 use Rattle.std.proofs.Common.{◌≡◌, ◌≢◌, ℕ, ◌==◌, Bool, true, false, if◌then◌else◌, List, [], ◌∷◌, ◌++◌, map, Option, None, Some, MatchOption, ◌⊎◌, inl, inr}
 use Rattle.std.proofs.Common.{refl, ap, sym, ◌∙◌, subst, ◌+◌, ◌*◌, ◌/◌, ◌<◌, ◌≤◌, arith, true≢false, eq-eqb}
-use Rattle.std.proofs.lemmas.Option.{none-some}
-use Rattle.pas_profile.specs.declared.{directory.Directory.Directory, event.Event.Event, profile.Profile.Profile, name.Block.Block}
-use Rattle.pas_profile.specs.Blocks.{grain_of, length_of}
-use Rattle.pas_machine.specs.{Machine.Admits, Machine.Run, Machine.Bears, State.deed_in, State.backed_in}
-use Rattle.pas_steps.specs.{Events.event_of, Events.with_event, Events.events_by, Views.View, Views.epoch_of}
-use Rattle.pas_steps.specs.declared.step.{Made.Made, Step.Step}
-use Rattle.pas_search.specs.Kinds.{IsQuiet, IsDeedOrBack, EventsAt}
-use Rattle.pas_report.specs.declared.record.Record.{Record}
-use Rattle.pas_same_text.specs.{State.World, State.shows, State.live_after, Pages.is_none, Searches.deeds, Searches.backs, Searches.readies, Same.lives_in}
+use Rattle.pas_same_text.proofs.Common.{none-some, Directory, Event, Profile, Block, grain_of, length_of, Run, deed_in, backed_in, event_of, with_event}
+use Rattle.pas_same_text.proofs.Common.{events_by, View, epoch_of, Made, Step, IsQuiet, IsDeedOrBack, EventsAt, Record, World, shows, live_after, is_none}
+use Rattle.pas_same_text.proofs.Common.{deeds, backs, readies, lives_in, to_run}
+use Rattle.pas_machine.specs.Machine.{Admits, Bears}
 use Rattle.pas_same_text.proofs.Tests.{eqb_itself}
-use Rattle.pas_bits.proofs.Runs.{to_run}
 
 -- ---- events that are shown
 abbrev pub shown : List Event → World → World
@@ -133,8 +127,7 @@ module _ (k : ℕ) (d : Directory) (page : ℕ) where
           let none : deed_in w.events page ≡ None = ap (λ (xs : List Event). deed_in (xs ++ w.events) page) (sym empty) ∙ may.2 in
           let still : backed_in w.events page ≡ true = ap (λ (xs : List Event). backed_in (xs ++ w.events) page) (sym empty) ∙ backed in
           ap (backs k page) (unowned w none) ∙ (was_backed _ still ∙ ap (λ (xs : List Event). shows (Event.Deed k page d) (shown xs w)) (sym empty))
-      at e IsAtPage.Backs may backed = ap (backs k page) (deeded f es w all.1 run.1 may.1 may.2)
-          ∙ (ap (λ (t : Bool). if t then (shown es w) else shows (Event.Back k page) (shown es w)) (ap (λ xs. backed_in xs page) (shown_events es w) ∙ may.2))
+      at e IsAtPage.Backs may backed = cc (deeded f es w all.1 run.1 may.1 may.2, shown_events es w)
 
   -- .. where a block of it was given
   pub given_ready : (f : Profile) (es : List Event) (w : World) (giver : ℕ) (block : Block) (start : ℕ) → AllAtPage k d page es

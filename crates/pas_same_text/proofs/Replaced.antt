@@ -1,112 +1,26 @@
 -- REALLOCATIONS THAT REPLACE A BLOCK: after a request that was served its thread is at rest with its cache again, by what the request's steps show; so the request for
 -- another block is an act of its own, and where it was served the old name is logged then.
-use Rattle.std.proofs.Common.{length, ◌≡◌, ℕ, ◌+◌, ◌≤◌, ◌==◌, Bool, true, false, not, ◌||◌, cond, List, [], ◌∷◌, ◌++◌, All, None, Some, Result, Ok, Err, ◌⊎◌}
-use Rattle.std.proofs.Common.{inl, inr, refl, ap, sym, ◌∙◌, subst, append_assoc, arith, eqb-true, ◌%◌, map, reverse, Option, MatchResult, append-nil, eq-eqb}
-use Rattle.std.specs.List.{find, filter, count_by, Sorted.IsPermutation}
-use Rattle.std.proofs.lemmas.List.{Elements.All-head, Elements.All-tail, Sums.sum_by-cons, map-append, reverse-append}
-use Rattle.std.proofs.lemmas.List.Sorted.{IsPermutation-cons, IsPermutation-trans, IsPermutation-middle, IsPermutation-sym, IsPermutation-to_front}
-use Rattle.pas_profile.specs.{Classes.IsClass, Directories.IsKind, Profiles.IsValid, Profiles.IsAdmitted, Profiles.IsDirectoryOf}
-use Rattle.pas_profile.specs.Requests.{route_in, is_shared, kind_of_class, kind_of_route, class_home, directory_for, room_in}
-use Rattle.pas_profile.specs.declared.{directory.Directory.Directory, directory.Kind.Kind, directory.Route.Route, event.NoRoom.NoRoom, name.Block.Block}
-use Rattle.pas_profile.specs.declared.{profile.Profile.Profile, event.Event.Event}
-use Rattle.pas_profile.proofs.Codecs.{same_from_deed_word}
-use Rattle.pas_steps.specs.{Agreement.Agreed, Calls.Kept, Calls.Lost, Calls.now, Desks.triples, Lists.part, Lists.Legal, Lists.Whole, Views.View}
-use Rattle.pas_steps.specs.{Views.KnowsDeed, Events.events_by}
-use Rattle.pas_steps.specs.declared.step.Made.{Made}
-use Rattle.pas_steps.proofs.{Adding.agreed_first, Adding.agreed_later, Adding.triples_append, Frames.events_append, Parts.part_of_own}
-use Rattle.pas_core.proofs.{Nexts.agreed_steps, OneActor.legal_earlier}
-use Rattle.pas_search.specs.{Searches.MaySearch, Allocates.GaveBlock}
+use Rattle.std.proofs.Common.{length, ◌≡◌, ℕ, ◌+◌, ◌≤◌, Bool, true, false, cond, List, [], ◌∷◌, ◌++◌, All, None, Some, Result, Ok, Err, ◌⊎◌, inl, inr, refl, ap}
+use Rattle.std.proofs.Common.{sym, ◌∙◌, subst, append_assoc, arith, map, reverse, Option, MatchResult, append-nil, eq-eqb}
+use Rattle.std.proofs.lemmas.List.Sorted.{IsPermutation-sym, IsPermutation-to_front}
+use Rattle.pas_steps.proofs.Adding.{agreed_first, agreed_later}
 use Rattle.pas_bitfit.specs.Allocates.{bitfit_directory, IsAllocated}
-use Rattle.pas_large.specs.{Allocates.IsServedNamed, Allocates.IsScanned, Finds.MayFind}
-use Rattle.pas_segregated.specs.Refills.{GetsSlots}
-use Rattle.pas_segregated.specs.declared.slots.Slots.{Slots}
-use Rattle.pas_cache.specs.{Caches.AtRest, Contents.Cached, Calls.TakesEntry}
-use Rattle.pas_cache.specs.Locals.{IsLocal, RestsWith, keeps_right, any_keeps, local_for}
-use Rattle.pas_cache.specs.Serves.{filling_in, FindsCached, IsRefill, Fetches, IsObtained, ServesClass, ServesBitfit, ServesPages, ServesBy, pages_of}
-use Rattle.pas_cache.specs.Serves.{IsAnswered as IsAnsweredBy}
-use Rattle.pas_cache.proofs.Resting.{locals_after, rests_by, rests_kept, rests_reordered, rests_gained, rests_given}
-use Rattle.pas_cache.proofs.Routes.{may_search_bitfit, may_find}
-use Rattle.pas_trace.specs.{EveryPlan.IsThread, Acts.Act}
-use Rattle.pas_trace.specs.declared.{item.Request.Request, plan.What.TheVariants.Alloc}
-use Rattle.pas_answers.specs.Answers.{Progress, Answer, wanted_by, Caches, Named, named, having, IsReplaced, records_of, said_by, with_steps, after_answer}
-use Rattle.pas_same_text.specs.{State.World, Same.IsSame, Acts.IsBetween, Acts.IsResting, Acts.HasUsableBlocks, Frees.logs, Frees.frees, Order.serves}
-use Rattle.pas_same_text.specs.{Order.logs_replaced, Order.replaces, Requests.IsAsked, Requests.AnswersSame, Requests.RequestStaysSame}
+use Rattle.pas_cache.specs.Serves.{FindsCached, pages_of}
+use Rattle.pas_cache.proofs.Resting.{found_passes, rests_kept, rests_reordered, rests_given}
+use Rattle.pas_cache.proofs.{Routes.not_bitfit, Routes.bitfit_rests, Obtained.rests_refilled}
+use Rattle.pas_same_text.specs.Order.{logs_replaced, replaces}
 use Rattle.pas_same_text.proofs.{CacheLists.same_own, OneUp.up_to, BackActs.freed_any, SeatedActs.cached_again, SeatedActs.at_rest_now, SeatedActs.middle_rest}
 use Rattle.pas_same_text.proofs.{SmallActs.after_with, SmallActs.page_inside, SmallActs.freed_is, UsableBlocks.act_usable, SameIndexes.serves_many}
-use Rattle.pas_same_text.proofs.FetchedClasses.{class_directory_of, class_of_request, HasPlace, IsFetched, none_kept, place_fetched, keeps_unshared}
-use Rattle.pas_free_log.specs.{Conditions.IsEntryOf, Logs.entry_of}
-use Rattle.pas_free_log.specs.declared.log.Entry.{Entry}
-use Rattle.pas_report.specs.declared.record.{Record.Record, Said.Said as TheSaid}
-use Rattle.pas_answers.specs.Indexes.{IsNamedBy}
-
--- ---- the one that passes a test is taken out of a list
-module _ {X : Type 0} (test : X → Bool) where
-  -- One more element counts where it passes the test.
-  counted : (x : X) (xs : List X) (t : Bool) → test x ≡ t → count_by test (x ∷ xs) ≡ cond t 1 0 + count_by test xs
-  counted x xs t e = sum_by-cons (λ y. cond (test y) 1 0) x xs ∙ ap (λ (u : Bool). cond u 1 0 + count_by test xs) e
-
-  kept_one : (x : X) (xs : List X) (t : Bool) → test x ≡ t
-      → filter (λ y. not (test y)) (x ∷ xs) ≡ cond (not t) (x ∷ filter (λ y. not (test y)) xs) (filter (λ y. not (test y)) xs)
-  kept_one x xs t e = ap (λ (u : Bool). cond (not u) (x ∷ filter (λ y. not (test y)) xs) (filter (λ y. not (test y)) xs)) e
-
-  all_kept : (xs : List X) → count_by test xs ≡ 0 → filter (λ y. not (test y)) xs ≡ xs
-  all_kept [] none = refl
-  all_kept (x ∷ xs) none = let ih = all_kept xs in grind (arith, ih, none, counted x xs (test x) refl)
-
-  out_by : (y : X) (ys : List X) (x : X) (t : Bool) → test y ≡ t → find test (y ∷ ys) ≡ Some x → count_by test (y ∷ ys) ≤ 1
-      → (find test ys ≡ Some x → count_by test ys ≤ 1 → IsPermutation ys (x ∷ filter (λ z. not (test z)) ys))
-      → IsPermutation (y ∷ ys) (x ∷ filter (λ z. not (test z)) (y ∷ ys))
-  out_by y ys x true e found one more = search (arith, counted, kept_one, all_kept)
-  out_by y ys x false e found one more =
-      let later : find test ys ≡ Some x = ap (λ (u : Bool). cond u (Some y) (find test ys)) (sym e) ∙ found in
-      let others : List X = filter (λ z. not (test z)) ys in
-      subst (λ (zs : List X). IsPermutation (y ∷ ys) (x ∷ zs)) (sym (kept_one y ys false e))
-      (IsPermutation-trans (y ∷ ys) (y ∷ x ∷ others) (x ∷ y ∷ others)
-      (IsPermutation-cons y ys (x ∷ others) (more later (omega (arith, (counted y ys false e), one)))) (IsPermutation-middle (y ∷ []) x others))
-
-  taken_out : (xs : List X) (x : X) → find test xs ≡ Some x → count_by test xs ≤ 1 → IsPermutation xs (x ∷ filter (λ y. not (test y)) xs)
-  taken_out [] x found one = absurd (let bad : None ≡ Some x = found in cc)
-  taken_out (y ∷ ys) x found one = out_by y ys x (test y) refl found one (taken_out ys x)
-
--- ---- the slots of a refill come
-module _ (f : Profile) (heap class : ℕ) (fewer : List Slots) (v : View) (of : IsDirectoryOf f (class_home f heap class)) (known : IsClass class)
-    (none : local_for heap class fewer ≡ None) (rests : RestsWith f fewer v) where
-  abbrev d : Directory
-  d = class_home f heap class
-
-  -- The actor may search.
-  may : MaySearch d v
-  may = record { rights = λ page deed. rests.rights page ∙ none_kept f v heap class page fewer of.kind deed rests.known none; clear = rests.clear }
-
-  -- After a refill the actor rests with the new slots.
-  refilled : (steps : List Made) (slots : Slots) → IsRefill (filling_in d class) f steps (Ok slots) → Agreed f v steps
-      → RestsWith f (slots ∷ fewer) (steps ++ v)
-  refilled steps slots refill agreed =
-      let gives = refill.outcome in
-      let of_heap : slots.heap ≡ heap = ap (λ (e : Directory). e.heap) gives.home in
-      let gets : GetsSlots d slots v (steps ++ v) =
-      subst (λ (ms : List Made). Agreed f v ms → GetsSlots d slots v (ms ++ v)) (sym refill.steps_are) (λ ok. gives.gets.from v may ok) agreed in
-      rests_gained f d slots fewer steps v rests gets agreed
-      (search (arith, keeps_unshared))
-      (ap (λ (h : ℕ). local_for h slots.class fewer) of_heap ∙ (ap (λ (c : ℕ). local_for heap c fewer) gives.class_is ∙ none))
-      (λ later page at. none_kept f _ heap class page fewer of.kind (rw (eqb-true slots.page page at) at gets.may_stop.deed) later none)
-
--- ---- no local allocator keeps a page of a kind that no class has
-no_class_kept : (f : Profile) (v : View) (d : Directory) (page : ℕ) (slots : List Slots) → IsKind d.kind
-    → ((shared : Bool) (class : ℕ) → kind_of_class shared class ≡ d.kind → ⊥) → KnowsDeed page d v → All (IsLocal f v) slots → any_keeps slots page ≡ false
-no_class_kept f v d page [] kind other of all = refl
-no_class_kept f v d page (s ∷ slots) kind other of all =
-    let own : IsLocal f v s = All-head (IsLocal f v) s slots all in
-    let lost : keeps_right s page ≡ false = search (arith, eqb-true, same_from_deed_word) in
-    ap (λ (t : Bool). t || any_keeps slots page) lost ∙ no_class_kept f v d page slots kind other of (All-tail (IsLocal f v) s slots all)
-
--- no kind of a class is the bit-fit one
-not_bitfit : (shared : Bool) (class : ℕ) → kind_of_class shared class ≡ Kind.Bitfit → ⊥
-not_bitfit shared class same = search arith
-
--- by cases: what isn't kept isn't lost
-lost_none : (t kept : Bool) → (t ≡ true → kept ≡ false) → now (cond t Lost Kept) kept ≡ kept
-lost_none t kept none = search arith
+use Rattle.pas_same_text.proofs.{FetchedClasses.HasPlace, FetchedClasses.IsFetched, FetchedClasses.place_fetched}
+use Rattle.pas_free_log.specs.Conditions.{IsEntryOf}
+use Rattle.pas_same_text.proofs.Common.{filling_for, find, filter, count_by, sum_by-cons, map-append, reverse-append, IsValid, IsAdmitted, route_in, is_shared}
+use Rattle.pas_same_text.proofs.Common.{kind_of_route, class_home, directory_for, room_in, Directory, Route, NoRoom, Block, Profile, Event, Agreed, triples}
+use Rattle.pas_same_text.proofs.Common.{part, Legal, Whole, View, events_by, Made, triples_append, events_append, part_of_own, agreed_steps, legal_earlier}
+use Rattle.pas_same_text.proofs.Common.{IsServedNamed, IsScanned, MayFind, Slots, AtRest, Cached, TakesEntry, RestsWith, local_for, filling_in, Fetches}
+use Rattle.pas_same_text.proofs.Common.{IsObtained, ServesClass, ServesBitfit, ServesPages, ServesBy, IsAnswered as IsAnsweredBy, may_find, IsThread, Act}
+use Rattle.pas_same_text.proofs.Common.{Request, Alloc, Progress, Answer, wanted_by, Caches, Named, named, having, IsReplaced, records_of, said_by, with_steps}
+use Rattle.pas_same_text.proofs.Common.{after_answer, World, IsSame, IsBetween, IsResting, HasUsableBlocks, logs, frees, serves, IsAsked, AnswersSame}
+use Rattle.pas_same_text.proofs.Common.{RequestStaysSame, entry_of, Entry, Record, Said as TheSaid, IsNamedBy}
 
 -- ---- a request
 module _ (f : Profile) (k : ℕ) (r : Request) (p : Progress) (a : Answer) (w : World) (block : Block) (valid : IsValid f) (thread : IsThread f k)
@@ -139,21 +53,21 @@ module _ (f : Profile) (k : ℕ) (r : Request) (p : Progress) (a : Answer) (w : 
         → RestsWith f (slots ∷ fewer) (early ++ v)
     cached_out slots fewer early finds =
         subst (λ (ms : List Made). RestsWith f (slots ∷ fewer) (ms ++ v)) (sym finds.no_steps)
-        (rw finds.fewer_are (rests_reordered f c.locals _ (taken_out _ c.locals slots finds.cached (rests.apart.one_each r.heap class)) v rests))
+        (rw finds.fewer_are (rests_reordered f c.locals _ ((found_passes _ c.locals slots finds.cached).without (rests.apart.one_each r.heap class)) v rests))
 
     -- After a fetch that got slots the actor is at rest.
     fetched : (slots : Slots) (fewer : List Slots) (early : List Made) → Legal f (triples k early ++ p.list)
         → Fetches (filling_in home class) f c.locals fewer early (Ok slots) → RestsWith f (slots ∷ fewer) (early ++ v)
     fetched slots fewer early stands fetch =
         let o : IsFetched f k r.heap class p w (Ok slots) fewer early =
-        assumption (class_directory_of f r.heap r.size r.align class admitted route, class_of_request f r.size r.align class route) in
+        assumption (filling_for f r.size r.align r.heap class admitted route) in
         let place : HasPlace f k r.heap class (up_to p k fetch.before fewer) _ = place_fetched f k r.heap class p w (Ok slots) fewer early o in
         let none : local_for r.heap class fewer ≡ None =
         ap (λ (x : Cached). local_for r.heap class x.locals) (sym (same_own p.caches k (record c { locals = fewer }))) ∙ place.none in
         let ok : Agreed f v (fetch.searched ++ fetch.before) = subst (Agreed f v) fetch.steps_are (agreed_steps f k p.list early valid stands) in
         let mid : RestsWith f fewer (fetch.before ++ v) = fetch.rests.from v rests (agreed_later f v fetch.searched fetch.before ok) in
         let all : RestsWith f (slots ∷ fewer) (fetch.searched ++ (fetch.before ++ v)) =
-        refilled f r.heap class fewer _ o.directory o.known none mid fetch.searched slots fetch.refill (agreed_first f v fetch.searched fetch.before ok) in
+        rests_refilled f (filling_in home class) fewer o.filling none fetch.searched _ mid (agreed_first f v fetch.searched fetch.before ok) (Ok slots) fetch.refill in
         rw (fetch.steps_are, append_assoc) all
 
     -- So it is however they were obtained.
@@ -186,21 +100,13 @@ module _ (f : Profile) (k : ℕ) (r : Request) (p : Progress) (a : Answer) (w : 
         given_rests own.locals.found own.locals.fewer a.cache.locals own.locals.given own.locals.before own.locals.steps_are own.locals.obtained own.locals.ends
 
   -- ---- of a bit-fit page
-  bitfit_rests : route_in f r.size r.align ≡ Route.Bitfit → ServesBitfit f (wanted_by f r) c a.cache a.steps (Ok block)
+  bitfit_kept : route_in f r.size r.align ≡ Route.Bitfit → ServesBitfit f (wanted_by f r) c a.cache a.steps (Ok block)
       → RestsWith f a.cache.locals (a.steps ++ v)
-  bitfit_rests route by_bitfit =
-      let d : Directory = bitfit_directory r.heap in
-      let both : IsAllocated f d (wanted_by f r).room r.align by_bitfit.searched by_bitfit.after block =
+  bitfit_kept route by_bitfit =
+      let both : IsAllocated f (bitfit_directory r.heap) (wanted_by f r).room r.align by_bitfit.searched by_bitfit.after block =
       subst (λ (e : Directory). IsAllocated f e (wanted_by f r).room r.align by_bitfit.searched by_bitfit.after block) (ap home_by route) by_bitfit.outcome in
-      let page : ℕ = both.0.page in
-      let gave : GaveBlock page d block v (a.steps ++ v) =
-      subst (λ (ms : List Made). Agreed f v ms → GaveBlock page d block v (ms ++ v)) (sym by_bitfit.steps_are)
-      (λ ok. both.0.gave.from v (may_search_bitfit f v r.heap c.locals rests) ok) agreed in
-      let known = locals_after f _ a.steps v c.locals gave.does agreed (λ g here. (rests.grains g ∙ here, refl)) rests.known in
-      subst (λ (x : Cached). RestsWith f x.locals (a.steps ++ v)) (sym by_bitfit.cache)
-      (rests_by f _ a.steps v c.locals c.locals gave.does (λ g. refl)
-      (λ q. lost_none (page == q) _ (λ at. no_class_kept f _ d q c.locals tt not_bitfit (rw (eqb-true page q at) at gave.deed) known))
-      (λ q. refl) rests known rests.apart)
+      rw (by_bitfit.cache, by_bitfit.steps_are) (bitfit_rests f r.heap (wanted_by f r).room r.align c.locals by_bitfit.searched by_bitfit.after (Ok block) both v rests
+      (subst (Agreed f v) by_bitfit.steps_are agreed))
 
   -- ---- of whole pages
   pages_rests : route_in f r.size r.align ≡ Route.Large → ServesPages f (wanted_by f r) a.found c a.cache a.steps (Ok block)
@@ -224,7 +130,7 @@ module _ (f : Profile) (k : ℕ) (r : Request) (p : Progress) (a : Answer) (w : 
   by_route : (route : Route) → route_in f r.size r.align ≡ route → ServesBy route f (wanted_by f r) a.found c a.cache a.steps (Ok block)
       → RestsWith f a.cache.locals (a.steps ++ v)
   by_route (Route.Class class) is serves = class_rests class is serves
-  by_route Route.Bitfit is serves = bitfit_rests is serves
+  by_route Route.Bitfit is serves = bitfit_kept is serves
   by_route Route.Large is serves = pages_rests is serves
 
   -- A request that was served leaves its thread at rest with the local allocators of the cache in its answer.
@@ -259,16 +165,12 @@ module _ (f : Profile) (k : ℕ) (r : Request) (old : Block) (p : Progress) (a :
   at_end = at_rest_now f (p.caches k) a.cache (p.books k) (part k p.list) (part k (triples k a.steps ++ p.list)) (before.rest.working k thread) is.served.rest
       (subst (λ (c : Cached). IsResting f c (p.books k) (part k (triples k a.steps ++ p.list))) (same_own p.caches k a.cache) (after.rest.working k thread))
 
-  serves_by : (answer : Result Block NoRoom) → is.served.answer ≡ answer
-      → ServesBy (route_in f r.size r.align) f (wanted_by f r) is.placed.found (p.caches k) is.placed.cache is.placed.steps answer
-  serves_by answer e = rw e at is.served.serves
-
   own_rest : (answer : Result Block NoRoom) → is.served.answer ≡ answer
       → MatchResult answer (λ block. TakesEntry f k is.placed.cache a.cache (entry_of old.name) is.freed) (λ room. (is.freed ≡ []) × (a.cache ≡ is.placed.cache))
       → AtRest f is.placed.cache (part k midway.list)
   own_rest (Err room) e none = search (arith, at_end)
   own_rest (Ok block) e takes =
-      let serves_it = serves_by (Ok block) e in
+      let serves_it = rw e at is.served.serves in
       let log = served_log f k r p is.placed w block valid thread listed admitted before same is.served.rest legal serves_it in
       record {
         locals = rw part_of_own (served_rests f k r p is.placed w block valid thread listed admitted before same is.served.rest legal serves_it);
@@ -327,8 +229,7 @@ module _ (f : Profile) (k : ℕ) (r : Request) (old : Block) (p : Progress) (a :
     list_is = ap (λ (ms : List Made). triples k ms ++ p.list) is.steps_are ∙ sym (triples_append k is.freed is.placed.steps p.list)
 
     events_are : events_by k own a.steps ≡ flushed ++ given
-    events_are =
-        simp (is.steps_are, events_append, ← part_of_own)
+    events_are = simp (is.steps_are, events_append, ← part_of_own)
 
     records_are : p.records ++ (records_of (events_by k own a.steps) ++ said_by k a.said) ≡ end.records
     records_are =

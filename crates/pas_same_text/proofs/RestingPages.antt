@@ -1,30 +1,22 @@
 -- Pages whenever all actors are at rest: a page with room that nobody keeps is offered, and an offered page is offered in the text where it has room. Then: pages
 -- after an act that only gives back.
 use Rattle.std.proofs.Common.{◌≡◌, ℕ, zero, suc, ◌+◌, ◌*◌, ◌/◌, ◌%◌, ◌<◌, ◌≤◌, ◌==◌, Bool, true, false, not, ◌&&◌, List, Option, Some, inl, inr, refl, ap, sym}
-use Rattle.std.proofs.Common.{◌∙◌, arith, eq-eqb, eqb-true, true≢false, ◌||◌, ◌++◌, ◌⊎◌, subst}
-use Rattle.std.proofs.lemmas.Bool.{false≢true, and_cases, and_from, not_from_false, false_from_ne_true, not-true, not-false, or_cases, or_left, or_right}
-use Rattle.pas_bits.specs.Bits.{has_bit}
-use Rattle.pas_profile.specs.Directories.{number_of, deed_word_of, deed_word_numbered, IsKind}
-use Rattle.pas_profile.specs.Profiles.{IsValid, IsDirectoryOf, IsPage}
-use Rattle.pas_profile.specs.declared.{directory.Directory.Directory, event.Event.Event, profile.Profile.Profile, word.Word.Word}
-use Rattle.pas_profile.proofs.Codecs.{numbered, deed_word_of-positive, read-deed_word_of, directory_from_profile, same_from_deed_word}
-use Rattle.pas_machine.specs.State.{deed_in, Live, live_in, backed_in}
-use Rattle.pas_steps.specs.{Clear.IsClear, Views.usable_by_kind, Views.known_deed, Views.holds, Desks.triples, Kinds.Only, Past.Always}
-use Rattle.pas_steps.specs.Lists.{Whole, part, word_after, visible, Legal}
-use Rattle.pas_core.specs.Good.{word_of_deed, IsPartOf, IsInOnePlace, word_of_backed}
-use Rattle.pas_core.specs.Rights.{eligible_bit, IsUsableFree, IsRightOffered, IsRightInOnePlace, empty_bit}
-use Rattle.pas_core.proofs.{Deeds.deed_of, Deeds.directory_is_of, Deeds.known_is, Offers.offered_at_rest, Offers.hinted_at_rest, Rights.right_in_one_place}
-use Rattle.pas_core.proofs.{Rights.deeds_known, Rights.hinted_page, MachineRuns.agrees, MachineRuns.in_one_place, MachineRuns.one_backed}
-use Rattle.pas_answers.specs.Answers.{Progress}
-use Rattle.pas_same_text.specs.{State.World, Same.HasSame, Same.ArePagesSame, Same.has_number, Acts.IsBetween, Words.free_bit}
-use Rattle.pas_same_text.specs.Pages.{each_of, is_same, is_of, is_kept, is_guarded, is_free, has_room, is_offered, is_none, is_empty, is_hinted}
+use Rattle.std.proofs.Common.{◌∙◌, arith, eq-eqb, eqb-true, true≢false, ◌++◌, subst}
+use Rattle.pas_same_text.proofs.Common.{false≢true, and_from, not_from_false, false_from_ne_true, not-true, not-false, or_cases, or_left, or_right, has_bit}
+use Rattle.pas_same_text.proofs.Common.{number_of, deed_word_of, deed_word_numbered, IsKind, IsValid, IsDirectoryOf, IsPage, Directory, Event, Profile, Word}
+use Rattle.pas_same_text.proofs.Common.{deed_word_of-positive, read-deed_word_of, directory_from_profile, same_from_deed_word, deed_in, Live, live_in}
+use Rattle.pas_same_text.proofs.Common.{backed_in, usable_by_kind, known_deed, holds, triples, Only, Always, Whole, part, word_after, visible, Legal}
+use Rattle.pas_same_text.proofs.Common.{word_of_deed, IsPartOf, IsInOnePlace, word_of_backed, eligible_bit, IsUsableFree, IsRightInOnePlace, empty_bit, deed_of}
+use Rattle.pas_same_text.proofs.Common.{directory_is_of, known_is, offered_at_rest, hinted_at_rest, right_in_one_place, deeds_known, hinted_page, agrees}
+use Rattle.pas_same_text.proofs.Common.{in_one_place, one_backed, Progress, World, HasSame, ArePagesSame, has_number, IsBetween, free_bit, is_same, is_of}
+use Rattle.pas_same_text.proofs.Common.{is_kept, is_guarded, is_free, is_offered, is_none, is_empty, is_hinted, Made, same_truth, IsEmptyBacked, HintsEmpty}
+use Rattle.pas_same_text.proofs.Common.{freeing}
+use Rattle.std.proofs.lemmas.Bool.{and_cases}
+use Rattle.pas_profile.proofs.Codecs.{numbered}
+use Rattle.pas_steps.specs.Clear.{IsClear}
+use Rattle.pas_same_text.specs.Pages.{each_of, has_room}
 use Rattle.pas_same_text.proofs.FreeGrains.{free_unless, keeper, nobody_keeps, bit_free, bit_unguarded, guarded_by}
 use Rattle.pas_same_text.proofs.Tests.{and_first, and_second}
-use Rattle.pas_steps.specs.declared.step.Made.{Made}
-use Rattle.pas_steps.proofs.Sets.{same_truth}
-use Rattle.pas_core.specs.Hints.{IsEmptyBacked}
-use Rattle.pas_rights.specs.Looks.{HintsEmpty}
-use Rattle.pas_free_log.specs.Frames.{freeing}
 use Rattle.pas_same_text.proofs.GivenBack.{Returns, is_idle, each_at, each_all}
 use Rattle.pas_same_text.proofs.StepMarks.{OffersPage, HintsPage, hinted_stays, hinted_by, offered_by, hinted_empty}
 
@@ -235,10 +227,7 @@ module _ (f : Profile) (p : Progress) (w : World) (valid : IsValid f) (between :
   -- A page that is backed and empty in the replay is idle in the text.
   pub page_idle : (page : ℕ) → IsEmptyBacked p.list page → is_idle w page ≡ true
   page_idle page e =
-      let empty : is_empty w page ≡ true = each_all 256 0 _ (λ b low high.
-      let of : (256 * page + b) / 256 ≡ page = omega (arith, high) in
-      bit_free f p w valid between same page b high (e.free (256 * page + b) of)) in
-      and_from _ _ (backed_is page ∙ (one_backed (backed_in (visible p.list) page) (sym e.backed ∙ (agrees f p.list valid between.legal).backed page))) empty
+      search (arith, each_all, bit_free, and_from, backed_is, one_backed, agrees)
 
   -- at rest such a page is hinted
   pub idle_hinted : (page : ℕ) → is_idle w page ≡ true → empty_bit p.list page ≡ true
@@ -267,26 +256,13 @@ module _ (f : Profile) (k : ℕ) (l : Whole) (p' : Progress) (w v : World) (step
     | inr new ↦ idle_hinted f p' v valid between same page (and_second (has_number given.pages page) (is_idle v page) new)
   ]
 
-  from_bit : (page : ℕ) → empty_bit p'.list page ≡ true → is_hinted v page ≡ true
-  from_bit page bit = given.returns.hinted page ∙ at (hinted_by k steps l page (ap (λ (m : Whole). empty_bit m page) (sym list) ∙ bit))
-    where
-      at : (empty_bit l page ≡ true) ⊎ HintsPage page steps → (is_hinted w page || (has_number given.pages page && is_idle v page)) ≡ true
-      at (inl old) = or_left (is_hinted w page) (has_number given.pages page && is_idle v page) (was.hinted page ∙ old)
-      at (inr new) =
-          let empty : IsEmptyBacked (triples k steps ++ l) page = hinted_empty freeing f k l page refl refl steps legal given.kinds given.hints new in
-          or_right (is_hinted w page) (has_number given.pages page && is_idle v page)
-          (and_from (has_number given.pages page) (is_idle v page) (given.marks page (hinted_page f p'.list between.legal page bit) new)
-          (page_idle f p' v valid between same page (subst (λ (m : Whole). IsEmptyBacked m page) (sym list) empty)))
-
   from_offer : (page : ℕ) (d : Directory) → IsDirectoryOf f d → eligible_bit p'.list (number_of d) page ≡ true → is_offered v d page ≡ true
   from_offer page d of bit =
-      bit_offered f p' v valid between same page d of bit
-      (at (offered_by k steps l (number_of d) page (ap (λ (m : Whole). eligible_bit m (number_of d) page) (sym list) ∙ bit)))
-    where
-      at : (eligible_bit l (number_of d) page ≡ true) ⊎ OffersPage page steps → is_open v d page ≡ true
-      at (inl old) = open_grows w v d page (given.guarded page) (λ b small h. given.returns.grows page b small h) (had_open w d page (was.offered page d of ∙ old))
-      at (inr new) = given.rooms page d of (bit_tells f p' v valid between same page d of (right_in_one_place f p'.list between.legal page) bit).0 new
+      bit_offered f p' v valid between same page d of bit (elim (offered_by k steps l (number_of d) page (ap (λ m. eligible_bit m (number_of d) page) (sym list) ∙ bit)) [
+        | inl old ↦ open_grows w v d page (given.guarded page) (λ b small h. given.returns.grows page b small h) (had_open w d page (was.offered page d of ∙ old))
+        | inr new ↦ given.rooms page d of (bit_tells f p' v valid between same page d of (right_in_one_place f p'.list between.legal page) bit).0 new
+      ])
 
   -- After an act that only gives back, the hints and offers of the text are those of the replay.
   pub given_pages : ArePagesSame f p'.list v
-  given_pages = search (arith, same_truth, to_bit, from_bit, offered_bit, from_offer)
+  given_pages = search (arith, same_truth, to_bit, hinted_by, or_left, hinted_empty, or_right, and_from, hinted_page, page_idle, offered_bit, from_offer)

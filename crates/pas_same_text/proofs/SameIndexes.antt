@@ -1,29 +1,17 @@
 -- THE INDEXES of the text are those of a replay. First: what changes no index and no guard, and how many caches there are.
-use Rattle.std.proofs.Common.{arith, ◌≡◌, ℕ, Bool, true, false, if◌then◌else◌, List, [], ◌∷◌, ◌++◌, length, Option, None, Some, Result, refl, ap, ◌∙◌, ◌+◌, ◌/◌}
-use Rattle.std.proofs.Common.{zero, suc, map}
-use Rattle.pas_profile.specs.declared.{directory.Directory.Directory, event.Event.Event, event.NoRoom.NoRoom, name.Block.Block, profile.Profile.Profile}
-use Rattle.pas_profile.specs.declared.{directory.Route.Route}
-use Rattle.pas_machine.specs.State.{backed_in}
+use Rattle.std.proofs.Common.{arith, ◌≡◌, ℕ, Bool, true, false, if◌then◌else◌, List, [], ◌∷◌, ◌++◌, length, Option, None, Some, refl, ap, ◌∙◌, ◌+◌, ◌/◌, zero}
+use Rattle.std.proofs.Common.{suc, map}
+use Rattle.pas_same_text.proofs.Common.{Directory, Event, Block, Profile, Route, backed_in, sized_entry, entry_of, Entry, EndedRun, Record, Said, World, Cache}
+use Rattle.pas_same_text.proofs.Common.{Local, each, shows, says, cache_of, locals_of, log_of, set_cache, set_log, is_unowned, minds, indexes_run, IsTaken}
+use Rattle.pas_same_text.proofs.Common.{HandsOnOwn, some_of, deeds, backs, readies, large_of, is_run, deeds_run, serves_pages, gives_up, gives_up_first}
+use Rattle.pas_same_text.proofs.Common.{gives_first, fetches, makes_place, serves_class_by, others, ends, flushes, stops, frees, frees_what, route_in, room_in}
+use Rattle.pas_same_text.proofs.Common.{Progress, standing_for, Act, numbers_from, What, lowers, are_bare, raises, raises_from, serves, acts_on, opened}
+use Rattle.pas_same_text.proofs.Common.{Indexes, no_ranges, indexes_after, runs}
+use Rattle.pas_same_text.specs.{Order.operates, State.Guard, Acts.KeepsIndexes}
 use Rattle.pas_large.specs.declared.span.Span.{Span}
-use Rattle.pas_free_log.specs.Logs.{sized_entry, entry_of}
-use Rattle.pas_free_log.specs.declared.{log.Entry.Entry, noting.EndedRun.EndedRun}
-use Rattle.pas_report.specs.declared.record.{Record.Record, Said.Said}
-use Rattle.pas_same_text.specs.State.{World, Cache, Guard, Local, each, shows, says, cache_of, locals_of, log_of, set_cache, set_log}
-use Rattle.pas_same_text.specs.{Pages.is_unowned, Pages.minds, Passes.passes, Indexes.indexes_run, Acts.IsTaken, Acts.HandsOnOwn, Acts.KeepsIndexes}
-use Rattle.pas_same_text.specs.Searches.{some_of, deeds, backs, readies}
-use Rattle.pas_same_text.specs.Runs.{places, large_of, is_run, deeds_run, serves_pages}
-use Rattle.pas_same_text.specs.Classes.{gives_up, gives_up_first, gives_first, fetches, makes_place, serves_class_by, others}
-use Rattle.pas_same_text.specs.Frees.{ends, flushes, stops, logs, frees, frees_what}
 use Rattle.pas_same_text.proofs.CacheLists.{many_with}
-use Rattle.pas_profile.specs.Requests.{route_in, room_in}
-use Rattle.pas_answers.specs.Answers.{Progress, request_for, standing_for}
-use Rattle.pas_trace.specs.Acts.{Act, numbers_from}
-use Rattle.pas_trace.specs.declared.plan.What.{What}
-use Rattle.pas_same_text.specs.Guards.{lowers, are_bare, raises, raises_from}
-use Rattle.pas_same_text.specs.Order.{serves, keeps_block, replaces, operates, acts_on, opened}
-use Rattle.pas_large.specs.Doors.{Indexes, cut_in, no_ranges}
-use Rattle.pas_answers.specs.Indexes.{unless_suited, request_by, after_request, after_operation, with_noted, indexes_after}
-use Rattle.pas_core.proofs.MachineRuns.{runs}
+use Rattle.pas_large.specs.Doors.{cut_in}
+use Rattle.pas_answers.specs.Indexes.{request_by, after_request, after_operation, with_noted}
 
 -- ---- what stays
 -- the indexes, the guards that are up, and the number of caches
@@ -72,8 +60,7 @@ flushes_keep f k w = each_keeps (ends f k) (log_of w k) (ends_keep f k) (set_log
 
 -- stops
 pub given_up_keeps : (k : ℕ) (l : Local) (w : World) → still (gives_up k l w) ≡ still w
-given_up_keeps k l w =
-    simp (minds_keep, cache_keeps)
+given_up_keeps k l w = simp (minds_keep, cache_keeps)
 
 -- A stop keeps indexes and guards.
 pub stops_keep : (f : Profile) (k : ℕ) (w : World) → still (stops f k w) ≡ still w
@@ -83,13 +70,9 @@ stops_keep f k w = each_keeps (gives_up k) (locals_of (flushes f k w) k) (given_
 idle_keeps : (f : Profile) (t : Bool) (k : ℕ) (w : World) → still (if t then says (Record.Said 0 (Said.Stopped k)) (stops f k w) else w) ≡ still w
 idle_keeps f t k w = either t (says (Record.Said 0 (Said.Stopped k)) (stops f k w)) w (still w) (stops_keep f k w) refl
 
--- frees
-logs_keep : (f : Profile) (k : ℕ) (entry : Entry) (w : World) → still (logs f k entry w) ≡ still w
-logs_keep f k entry w = search (arith, cache_keeps, either, flushes_keep)
-
 -- A free keeps indexes and guards.
 frees_keep : (f : Profile) (k : ℕ) (entry : Entry) (w : World) → still (frees f k entry w) ≡ still w
-frees_keep f k entry w = search (arith, either, logs_keep)
+frees_keep f k entry w = search (arith, either, cache_keeps, flushes_keep)
 
 -- A free by a name of the trace keeps indexes and guards, whatever the name stands for.
 what_keeps : (f : Profile) (k name room : ℕ) (meant : Option (Option Block)) (w : World) → still (frees_what f k name room meant w) ≡ still w
@@ -123,15 +106,7 @@ class_keeps f k name heap class None w = fetches_keep f k name heap class (makes
 class_keeps f k name heap class (Some l) w =
     either (some_of l.slots) _ _ (still w) (first_keeps k name l l.slots w) (fetches_keep f k name heap class (gives_up k l w) ∙ given_up_keeps k l w)
 
--- A bit-fit request keeps indexes and guards, served or refused.
-places_keep : (k name heap room align : ℕ) (found : Result ℕ NoRoom) (w : World) → still (places k name heap room align found w) ≡ still w
-places_keep k name heap room align found w = search (arith, readies_keep)
-
 -- ---- a pass
--- A pass keeps indexes and guards.
-pass_keeps : (f : Profile) (w : World) → still (passes f w) ≡ still w
-pass_keeps f w = search (arith, each_keeps)
-
 -- ==== THE INDEXES of a state of the text, which each act changes as it changes those of a replay, and how many caches it has, which no act changes.
 either_many : (t : Bool) (v u : World) (n : ℕ) → length v.caches ≡ n → length u.caches ≡ n → length (if t then v else u).caches ≡ n
 either_many true v u n one other = one
@@ -148,7 +123,7 @@ pages_still f k name heap n w = search (arith, each_keeps, backs_keep, deeds_kee
 -- a request takes out what was named for it
 serves_still : (f : Profile) (k name heap : ℕ) (route : Route) (room align : ℕ) (w : World)
     → still (serves f k name heap route room align w) ≡ with_indexes (after_request route heap (room / 4096) w.indexes) w
-serves_still f k name heap a room align w = search (arith, class_keeps, places_keep, pages_still)
+serves_still f k name heap a room align w = search (arith, class_keeps, readies_keep, pages_still)
 
 pub serves_many : (f : Profile) (k name heap : ℕ) (route : Route) (room align : ℕ) (w : World)
     → length (serves f k name heap route room align w).caches ≡ length w.caches
@@ -160,11 +135,6 @@ pub request_indexes : (f : Profile) (k name heap : ℕ) (route : Route) (room al
 request_indexes f k name heap route room align w = ap (λ (s : Still). s.0) (serves_still f k name heap route room align w)
 
 -- ---- a reallocation
-suited_still : (f : Profile) (k name size align : ℕ) (old : Block) (t : Bool) (w : World)
-    → still (if t then keeps_block k name old w else replaces f k name old size align w)
-    ≡ with_indexes (after_operation f (unless_suited t (request_for old name size align)) w.indexes) w
-suited_still f k name size align old t w = search (arith, serves_still, logs_keep)
-
 -- ---- an operation
 operation_still : (f : Profile) (k : ℕ) (what : What) (w : World)
     → still (operates f k what w) ≡ with_indexes (after_operation f (request_by w.names what) w.indexes) w
@@ -174,7 +144,7 @@ operation_still f k (What.Free name) w = what_keeps f k name 0 (standing_for w.n
 operation_still f k (What.FreeSized name room) w = what_keeps f k name room (standing_for w.names name) w
 operation_still f k (What.Raw block) w = frees_keep f k (entry_of block) w
 operation_still f k (What.RawSized room block) w = frees_keep f k (sized_entry block room) w
-operation_still f k (What.Remake name old heap size align) w = search (arith, suited_still)
+operation_still f k (What.Remake name old heap size align) w = search (arith, serves_still, cache_keeps, either, flushes_keep)
 operation_still f k What.Flush w = flushes_keep f k w
 operation_still f k What.Stop w = stops_keep f k w
 operation_still f k what w = refl
@@ -224,11 +194,11 @@ raised_many f keeper k name heap n (p ∷ ps) w =
 
 -- ==== AN ACT
 pub act_many : (f : Profile) (act : Act) (w : World) → length (acts_on f act w).caches ≡ length w.caches
-act_many f act w = search (arith, many_with, operation_still, raised_many, all_lowered_many, noted_still, same_many, pass_keeps, idle_keeps, stops_keep)
+act_many f act w = search (arith, many_with, operation_still, raised_many, all_lowered_many, noted_still, same_many, each_keeps, idle_keeps, stops_keep)
 
 text_indexes : (f : Profile) (act : Act) (p p' : Progress) (w : World) → HandsOnOwn f act → (taken : IsTaken f act p p' w)
     → (acts_on f act w).indexes ≡ indexes_after f act p p' taken.advances w.indexes
-text_indexes f act p p' w own taken = search (arith, operation_still, noted_still, same_indexes, pass_keeps, idle_keeps, stops_keep, all_lowered_keep)
+text_indexes f act p p' w own taken = search (arith, operation_still, noted_still, same_indexes, each_keeps, idle_keeps, stops_keep, all_lowered_keep)
 
 -- Each act that is no guarded request changes the indexes of the text as those of a replay.
 pub indexes_kept : (f : Profile) (act : Act) → KeepsIndexes f act

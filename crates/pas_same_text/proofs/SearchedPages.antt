@@ -1,38 +1,26 @@
 -- THE PAGE that a search finds is the one that the text finds; and where it finds none, the reason of the refusal is the one that the text says.
 use Rattle.std.proofs.Common.{◌≡◌, ℕ, ◌+◌, ◌-◌, ◌<◌, ◌≤◌, nat_le, Bool, true, if◌then◌else◌, Option, None, Some, inl, inr, ap, sym, ◌∙◌, arith, ◌≢◌, zero, suc}
 use Rattle.std.proofs.Common.{false, ◌&&◌, List, [], ◌∷◌, ◌++◌, Ok, Err, refl, true≢false, eq-eqb, ◌⊎◌, subst, ◌==◌}
-use Rattle.std.proofs.lemmas.Bool.{or_cases, or_left, or_right, and_from, false_from_ne_true, cases_Bool, cases_eq, false≢true}
-use Rattle.std.proofs.lemmas.Bool.Decides.{nat_tests}
-use Rattle.pas_profile.specs.{Directories.number_of, Directories.deed_word_of, Profiles.IsValid, Profiles.IsPage, Profiles.IsDirectoryOf}
-use Rattle.pas_profile.specs.declared.{directory.Directory.Directory, profile.Profile.Profile, word.Word.Word, event.Event.Event, event.NoRoom.NoRoom}
-use Rattle.pas_profile.proofs.Codecs.{deed_word_of-positive, same_from_deed_word}
-use Rattle.pas_machine.specs.State.{deed_in, live_in}
-use Rattle.pas_steps.specs.Lists.{part, word_after, Legal, visible}
-use Rattle.pas_steps.specs.{Desks.triples, Effects.target, Evidence.Readings, Evidence.Searched, Past.Once, Views.has_right, Events.events_by}
-use Rattle.pas_core.specs.{Rights.eligible_bit, Rights.free_of_page, Rights.IsRightInOnePlace, Good.word_of_deed}
-use Rattle.pas_core.proofs.Deeds.{deed_has_page, deed_of}
-use Rattle.pas_core.proofs.OneActor.{offered_deed, unfit_entry, deed_quiet, deed_exit, deed_none, spot_same, zero_told, one_told, entry_lacks, legal_before}
-use Rattle.pas_core.proofs.OneActor.{lends_none}
-use Rattle.pas_large.specs.Telling.{IsWholePage, IsUsablePage, IsUsableRun, HasNoUsableRun, IsLowestRun, IsNamedWhole}
-use Rattle.pas_answers.specs.Answers.{Progress, Named, named, records_of, said_of_room}
-use Rattle.pas_same_text.specs.{State.World, Indexes.named_first, Same.HasSame, Same.ArePagesSame, Same.IsSame, Acts.IsBetween, Searched.IsSearch}
-use Rattle.pas_same_text.specs.Pages.{each_of, is_unowned, is_free, is_empty, is_offered, page_numbers, is_none, is_same, is_of, is_kept}
-use Rattle.pas_same_text.specs.Runs.{large_of, is_whole, is_usable, if_whole, named_run, is_run, lowest_run}
+use Rattle.pas_large.specs.Telling.{HasNoUsableRun}
+use Rattle.pas_same_text.specs.{Indexes.named_first, Runs.is_whole, Runs.if_whole, Searches.page_or, Searches.refusal_by}
 use Rattle.pas_same_text.proofs.{FreeGrains.read_unless, FreeGrains.keeper, FreeGrains.kept_by, GivenBack.each_at, GivenBack.each_all, Tests.and_first}
-use Rattle.pas_same_text.proofs.{Tests.and_second, CacheLists.same_kept, CacheLists.kept_at, Flushes.visible_steps, StepMarks.epoch_stays_by}
-use Rattle.pas_same_text.proofs.{SmallActs.after_with, SmallActs.records_next, Pieces.IsPiece, Pieces.piece_pages, StepMarks.at_bare, StepMarks.at_unbacked}
+use Rattle.pas_same_text.proofs.{Tests.and_second, CacheLists.same_kept, CacheLists.kept_at, Flushes.visible_steps, StepMarks.epoch_stays_by, StepMarks.at_bare}
+use Rattle.pas_same_text.proofs.{StepMarks.at_unbacked, SmallActs.after_with, SmallActs.records_next, Pieces.IsPiece, Pieces.piece_pages}
 use Rattle.pas_same_text.proofs.RestingPages.{open_unguarded, had_open, owned_is, no_word, unowned_by, deed_now, deed_from_word}
-use Rattle.std.specs.List.{find}
-use Rattle.pas_steps.specs.declared.step.Made.{Made}
-use Rattle.pas_core.proofs.Rights.{is_offered as spot_offered, spot_of, spotted, right_not_offered, right_in_one_place, right_not_parked}
-use Rattle.pas_search.specs.{Searches.FromOffered, Searches.ByDeed, Searches.DeedMadeHere, Telling.IsInHands, Telling.IsTrueReason}
-use Rattle.pas_trace.specs.{Acts.numbers_from, EveryPlan.IsThread}
-use Rattle.pas_same_text.specs.Searches.{some_of, page_or, refusal, searched, refusal_by, refuses}
-use Rattle.pas_cache.specs.{Contents.Cached, Kinds.allocating, Locals.any_covers}
-use Rattle.pas_steps.proofs.{Apart.only_within, Past.always_map}
-use Rattle.pas_search.specs.Kinds.{AreSearch, IsQuiet, IsDeedOrBack, AreQuiet, EventsAt, searching}
-use Rattle.pas_search.proofs.ForBackEnds.{events_quiet}
-use Rattle.pas_report.specs.declared.record.Record.{Record}
+use Rattle.pas_core.proofs.Rights.{right_not_parked}
+use Rattle.pas_search.specs.Telling.{IsInHands}
+use Rattle.pas_search.proofs.{ForBackEnds.events_quiet, FindingAPage.by_deed, FindingAPage.lowest_offered}
+use Rattle.pas_same_text.proofs.Common.{or_cases, or_left, or_right, and_from, false_from_ne_true, cases_Bool, cases_eq, false≢true, nat_tests, number_of}
+use Rattle.pas_same_text.proofs.Common.{deed_word_of, IsValid, IsPage, IsDirectoryOf, Directory, Profile, Word, Event, NoRoom, deed_word_of-positive}
+use Rattle.pas_same_text.proofs.Common.{same_from_deed_word, deed_in, live_in, part, word_after, Legal, visible, triples, target, Readings, Once, has_right}
+use Rattle.pas_same_text.proofs.Common.{events_by, eligible_bit, free_of_page, IsRightInOnePlace, word_of_deed, deed_has_page, deed_of, offered_deed, deed_none}
+use Rattle.pas_same_text.proofs.Common.{legal_before, lends_none, IsWholePage, IsUsablePage, IsUsableRun, IsLowestRun, IsNamedWhole, Progress, Named, named}
+use Rattle.pas_same_text.proofs.Common.{records_of, said_of_room, World, HasSame, ArePagesSame, IsSame, IsBetween, IsSearch, each_of, is_unowned, is_free}
+use Rattle.pas_same_text.proofs.Common.{is_empty, is_offered, page_numbers, is_none, is_same, is_of, is_kept, large_of, is_usable, named_run, is_run}
+use Rattle.pas_same_text.proofs.Common.{lowest_run, find, Made, spot_of, spotted, right_not_offered, right_in_one_place, FromOffered, ByDeed, IsTrueReason}
+use Rattle.pas_same_text.proofs.Common.{numbers_from, IsThread, some_of, refusal, searched, refuses, Cached, allocating, any_covers, only_within, always_map}
+use Rattle.pas_same_text.proofs.Common.{AreSearch, IsQuiet, IsDeedOrBack, AreQuiet, EventsAt, searching, Record}
+use Rattle.pas_core.specs.Fits.{IsOfferedFit}
 
 -- ---- the first number that passes a test
 first_at : (test : ℕ → Bool) (from : ℕ) (rest : Option ℕ) (t : Bool) → test from ≡ t → t ≡ false → (if test from then Some from else rest) ≡ rest
@@ -60,76 +48,44 @@ module _ (no_fit : Readings → Type 0) (f : Profile) (d : Directory) (k : ℕ) 
   abbrev serves : ℕ → Bool
   serves q = is_offered w d q && some_of (fits q)
 
-  module _ (steps : List Made) (s : IsSearch no_fit f d k p steps w fits) where
+  module _ (page : ℕ) (of : IsPage f page) (steps : List Made) (s : IsSearch no_fit f d k p steps w fits) where
     -- The list before the search is legal.
     first : Legal f p.list
     first = legal_before f k steps p.list s.legal
 
-    bit_is : (q : ℕ) → eligible_bit p.list (number_of d) q ≡ spot_offered (number_of d) (spot_of p.list q)
-    bit_is q = (spotted f p.list first q).eligible (number_of d)
-
     -- a page on which it doesn't fit doesn't serve; where a guard has it, it isn't offered
     unfit_over : (q : ℕ) → IsPage f q → no_fit (free_of_page p.list q) → (t : Bool) → is_offered w d q ≡ t → serves q ≡ false
-    unfit_over q of unfit h offered = search (arith, open_unguarded, had_open)
+    unfit_over q here unfit h offered = search (arith, open_unguarded, had_open)
 
-    -- a page that didn't fit or was read as not offered serves in the text neither
-    passed_over : (q end : ℕ) → IsPage f q → q < end → Searched no_fit d end steps → serves q ≡ false
-    passed_over q end of lt all = elim (all q of.0 lt) [
-      | inl unfit ↦ unfit_over q of (unfit_entry no_fit f k p.list q steps s.fewer s.legal s.lends_none unfit) (is_offered w d q) refl
-      | inr zero_read ↦
-          let bit : eligible_bit p.list (number_of d) q ≡ false = elim (cases_Bool (has_right (part k p.list) q)) [
-            | inl has ↦ right_not_offered f p.list first k (number_of d) q has
-            | inr lacks ↦ bit_is q ∙ zero_told f k p.list d q steps s.legal lacks zero_read.0 zero_read.1
-          ] in
-          ap (λ (t : Bool). t && some_of (fits q)) (s.pages.offered q d s.directory ∙ bit)
-    ]
+    -- a page that serves in the text is offered in the replay, and fits
+    serving : (q : ℕ) → IsPage f q → serves q ≡ true → IsOfferedFit no_fit f d p.list q
+    serving q here h = record {
+      of_region = here;
+      offered = sym (s.pages.offered q d s.directory) ∙ and_first (is_offered w d q) (some_of (fits q)) h;
+      fits = λ unfit. false≢true (sym (unfit_over q here unfit (is_offered w d q) refl) ∙ h);
+    }
 
-    -- ---- an offered page
-    pub offered_chosen : (page : ℕ) → IsPage f page → FromOffered no_fit d page steps → (no_fit (free_of_page p.list page) → ⊥) → searched f w d fits ≡ Ok page
-    offered_chosen page of from fit =
-        let read = one_told f k p.list d page steps s.legal from.offered in
-        let lacks = entry_lacks f k p.list d page read.0 s.valid first (s.rights page) (offered_deed f _ d page s.directory read.1 read.3) in
-        let bit : eligible_bit p.list (number_of d) page ≡ true =
-        bit_is page ∙ (ap (spot_offered (number_of d)) (sym (spot_same f k p.list page read.0 read.1 lacks read.2)) ∙ (sym ((spotted f _ read.1 page).eligible (number_of d)) ∙ read.3)) in
-        let offered : is_offered w d page ≡ true = s.pages.offered page d s.directory ∙ bit in
+    -- THE PAGE that a search found offered is the one that the text finds.
+    pub offered_chosen : FromOffered no_fit d page steps → (no_fit (free_of_page p.list page) → ⊥) → searched f w d fits ≡ Ok page
+    offered_chosen from fit =
+        let lowest = lowest_offered no_fit f k p.list d page steps s.valid s.directory s.fewer of s.legal s.lends_none (s.rights page) from fit in
+        let offered : is_offered w d page ≡ true = s.pages.offered page d s.directory ∙ lowest.this.offered in
         let here : serves page ≡ true = ap (λ (t : Bool). t && some_of (fits page)) offered ∙ s.fits_same.some page of (open_unguarded w d page (had_open w d page offered)) fit in
-        let low = of.0 in let high = of.1 in
-        let found : find serves (page_numbers f) ≡ Some page =
-        find_first serves f.pages 1 page low (omega (arith, high)) here (λ q above below. passed_over q page (above, omega (arith, below, high)) below from.searched) in
+        let found : find serves (page_numbers f) ≡ Some page = find_first serves f.pages 1 page of.0 (omega (arith, of.1)) here (λ q above below.
+        false_from_ne_true (serves q) (λ h. let least = lowest.lowest q (serving q (above, omega (arith, below, of.1)) h) in omega (arith, least, below))) in
         ap (λ (o : Option ℕ). page_or o (page_or (find (is_unowned w) (page_numbers f)) (Err (refusal f w d)))) found
 
-    -- ---- words of deeds
-    owned_by : (o : Option Directory) → word_of_deed o ≢ 0 → is_none o ≡ false
-    owned_by None ne = absurd (ne refl)
-    owned_by (Some e) ne = refl
-
-  -- ---- a page without a deed
-  earlier : (m : Made) (steps : List Made) → IsSearch no_fit f d k p (m ∷ steps) w fits → IsSearch no_fit f d k p steps w fits
-  earlier m steps s = assumption
-
-  made_chosen : (page : ℕ) → IsPage f page → (m : Made) (steps : List Made) (s : IsSearch no_fit f d k p (m ∷ steps) w fits)
-      → DeedMadeHere no_fit f d page m steps → searched f w d fits ≡ Ok page
-  made_chosen page of m steps s h =
-      let t : IsSearch no_fit f d k p steps w fits = earlier m steps s in
-      let now = sym (s.legal.0.answer_is ∙ ap (λ x. word_after (triples k steps ++ p.list) (target x)) h.deed) ∙ h.made in
-      let bare = unowned_by (deed_in w.events page) (sym (owned_is f p.list w (first steps t) t.pages.events page) ∙ deed_none k p.list page steps now) in
-      let low = of.0 in let high = of.1 in
-      let none = find_none serves f.pages 1 (λ q above below. passed_over steps t q (f.pages + 1) (above, omega (arith, below)) (omega (arith, below)) h.searched) in
-      let found : find (is_unowned w) (page_numbers f) ≡ Some page = find_first (is_unowned w) f.pages 1 page low (omega (arith, high)) bare (λ q above below.
-      owned_by steps t _ (λ zero_word. deed_exit f k p.list q steps t.legal (h.lower q above below)
-      (deed_quiet f k p.list q steps t.legal h.quiet ∙ (owned_is f p.list w (first steps t) t.pages.events q ∙ zero_word)))) in
-      cc
-
-  deed_at : (page : ℕ) → IsPage f page → (steps : List Made) → IsSearch no_fit f d k p steps w fits → Once (DeedMadeHere no_fit f d page) steps
-      → searched f w d fits ≡ Ok page
-  deed_at page of [] s h = absurd h
-  deed_at page of (m ∷ steps) s (inl h) = made_chosen page of m steps s h
-  deed_at page of (m ∷ steps) s (inr h) = deed_at page of steps (earlier m steps s) h
-
-  -- The page that a search found by making its deed is the one that the text finds.
-  pub deed_chosen : (page : ℕ) → IsPage f page → (steps : List Made) → IsSearch no_fit f d k p steps w fits → ByDeed no_fit f d page steps
-      → searched f w d fits ≡ Ok page
-  deed_chosen page of steps s by = deed_at page of steps s by.made_here
+    -- So is the page that a search found by making its deed.
+    pub deed_chosen : ByDeed no_fit f d page steps → searched f w d fits ≡ Ok page
+    deed_chosen by =
+        let lowest = by_deed no_fit f k p.list d page steps s.fewer of s.legal s.lends_none by.made_here in
+        let owned = owned_is f p.list w first s.pages.events in
+        let none = find_none serves f.pages 1 (λ q above below. false_from_ne_true (serves q) (λ h. lowest.none_offered q (serving q (above, omega (arith, below)) h))) in
+        let found : find (is_unowned w) (page_numbers f) ≡ Some page =
+        find_first (is_unowned w) f.pages 1 page of.0 (omega (arith, of.1)) (unowned_by (deed_in w.events page) (sym (owned page) ∙ lowest.this.no_deed)) (λ q above below.
+        false_from_ne_true (is_unowned w q) (λ bare.
+        let least = lowest.lowest q (record { of_region = (above, omega (arith, below, of.1)); no_deed = owned q ∙ no_word (deed_in w.events q) bare }) in omega (arith, least, below))) in
+        cc
 
 -- ==== WHICH PAGES MAY BE ONE OF A RUN, and which run the text gives: those of a replay, whenever all actors are at rest.
 -- where the run that is named is whole, it is the one that is given

@@ -1,34 +1,23 @@
 -- Between two acts each page where a block ended is stamped, so its stamp is the greatest epoch of an end there.
 use Rattle.std.proofs.Common.{◌≡◌, ℕ, ◌==◌, Bool, true, false, if◌then◌else◌, [], ◌∷◌, refl, ap, subst, eqb-true, ◌*◌, ◌/◌, List, ◌++◌, inl, inr, sym, ◌∙◌}
 use Rattle.std.proofs.Common.{arith, eq-eqb, Option, None, Some, ne_eqb}
-use Rattle.pas_profile.specs.Profiles.{IsValid}
-use Rattle.pas_profile.specs.declared.{profile.Profile.Profile, name.Block.Block, word.Word.Word}
-use Rattle.pas_steps.specs.Lists.{Whole, part, visible, Legal, word_after}
-use Rattle.pas_steps.specs.{Views.View, Clear.HasNothing, Desks.triples, Desks.made}
-use Rattle.pas_steps.specs.declared.step.{Made.Made, Step.Step}
+use Rattle.pas_same_text.proofs.Common.{IsValid, Profile, Block, Word, Whole, part, visible, Legal, word_after, View, HasNothing, triples, made, Made, Step}
+use Rattle.pas_same_text.proofs.Common.{agreed_steps, legal_before, legal_earlier, Act, IsThread, Progress, Caches, with_cache as with_cached, Books, with_book}
+use Rattle.pas_same_text.proofs.Common.{wanted_by, IsBetween, AreEndsStamped, IsResting, AreResting, false≢true, eqb-false, or_left, or_right, backed_in}
+use Rattle.pas_same_text.proofs.Common.{part_of_others, triples_append, part_of_own, Slots, AtRest, Cached, any_covers, is_outer_of, is_outer, Each, FitsBook}
+use Rattle.pas_same_text.proofs.Common.{Guard, Record, IsBeside, Request, Op, Tried, IsTried, after_trying, after_lowering, AnswersTried, AnswersGuarded}
+use Rattle.pas_same_text.proofs.Common.{IsThreadOf, IsKeeperOf, IsActOf, AreSeated}
 use Rattle.pas_core.specs.Stamps.{AllKeepToEnds}
-use Rattle.pas_core.proofs.{Lives.stamps_are_ends, Nexts.agreed_steps, OneActor.legal_before, OneActor.legal_earlier}
-use Rattle.pas_report.specs.Rests.{AreStamped}
-use Rattle.pas_trace.specs.{Acts.Act, EveryPlan.IsThread, Acts.stepper_of}
-use Rattle.pas_answers.specs.Answers.{Progress, Caches, with_cache as with_cached, Books, with_book, wanted_by, epoch_look}
+use Rattle.pas_core.proofs.Lives.{stamps_are_ends}
+use Rattle.pas_trace.specs.Acts.{stepper_of}
+use Rattle.pas_answers.specs.{Answers.epoch_look, Guarding.IsLowered, Reaching.Advances}
 use Rattle.pas_answers.proofs.Consequences.{act_tidy, parts_kept, KeptPart, Tidy}
-use Rattle.pas_same_text.specs.Acts.{IsBetween, AreEndsStamped, KeepsStamped, IsResting, AreResting}
-use Rattle.std.proofs.lemmas.Bool.{false≢true, eqb-false, or_left, or_right}
-use Rattle.pas_machine.specs.State.{backed_in}
-use Rattle.pas_steps.proofs.{Parts.part_of_others, Adding.triples_append, Parts.part_of_own}
-use Rattle.pas_segregated.specs.declared.slots.Slots.{Slots}
-use Rattle.pas_cache.specs.{Caches.AtRest, Contents.Cached, Locals.any_covers, Serves.pages_of}
-use Rattle.pas_guard.specs.Books.{is_outer_of, is_outer, Each, FitsBook}
-use Rattle.pas_guard.specs.declared.book.Guard.{Guard}
+use Rattle.pas_same_text.specs.Acts.{KeepsStamped}
+use Rattle.pas_cache.specs.Serves.{pages_of}
 use Rattle.pas_same_text.proofs.{CacheLists.again_at, LowerActs.swept_to}
 use Rattle.pas_same_text.proofs.KeepersRest.{others_bare, keeper_resting, swept_beside, swept_bare, raised_beside, raised_bare, thread_rests, thread_at_rest}
 use Rattle.pas_same_text.proofs.KeepersRest.{keeper_of, IsNoKeepers}
-use Rattle.pas_report.specs.declared.record.Record.{Record}
-use Rattle.pas_guard.specs.Keepers.{IsBeside}
-use Rattle.pas_trace.specs.declared.{item.Request.Request, plan.Op.Op}
-use Rattle.pas_answers.specs.Guarding.{Tried, IsTried, IsLowered, after_trying, after_lowering}
-use Rattle.pas_answers.specs.Reaching.{AnswersTried, AnswersGuarded, Advances}
-use Rattle.pas_same_text.specs.Seats.{IsThreadOf, IsKeeperOf, IsActOf, AreSeated}
+use Rattle.pas_records.specs.Rests.{AreStamped}
 
 -- ---- the parts of the actors
 kept_part : (l : Whole) → AllKeepToEnds l → (k : ℕ) → KeptPart (part k l)
@@ -143,8 +132,7 @@ seated_moved threads f p p' j valid before legal works seated m = record {
     -- An outer page of a guard still isn't backed.
     still : (k page : ℕ) → is_outer (p.books k) page ≡ true → (t : Bool) → (j == k) ≡ t → backed_in (visible p'.list) page ≡ false
     still k page outer true e = search (arith, eqb-true, false≢true)
-    still k page outer false e =
-        rw m.list (others_bare f p j k page m.steps valid before (subst (Legal f) m.list legal) e outer)
+    still k page outer false e = rw m.list (others_bare f p j k page m.steps valid before (subst (Legal f) m.list legal) e outer)
 
 -- ==== A KEEPER'S ACTS
 pub own_book : (books : Books) (keeper : ℕ) (gs : List Guard) → with_book books keeper gs keeper ≡ gs
@@ -198,10 +186,7 @@ module _ (f : Profile) (keeper : ℕ) (r : Request) (p : Progress) (t : Tried) (
 
     -- After a keeper's sweep all actors rest.
     pub swept_between : IsBetween f swept
-    swept_between = record {
-      legal = sweep_legal;
-      rest = keeper_resting f p keeper _ h.swept h.left valid is before uncached sweep_legal (own_book p.books keeper h.left) (λ j ne. other_book p.books keeper j h.left ne) sweep_fits sweep_beside sweep_bare;
-    }
+    swept_between = search (arith, sweep_legal, keeper_resting, own_book, other_book, sweep_fits, sweep_beside, sweep_bare)
 
     -- after the raise
     pub raise_legal : Legal f (triples keeper h.raised ++ swept.list)
@@ -240,8 +225,7 @@ thread_no_keeper threads f k own keeps = omega (arith, own.1, keeps.0)
 
 after_tried : (threads : ℕ) (f : Profile) (op : Op) (r : Request) (block : Option Block) (p p' : Progress) → IsValid f → IsThreadOf threads op.actor
     → IsBetween f p → AreSeated threads f p → AnswersTried f op r block p p' → Legal f p'.list → AreSeated threads f p'
-after_tried threads f op r (Some block) p p' valid own before seated is legal =
-    subst (AreSeated threads f) (sym is) (assumption)
+after_tried threads f op r (Some block) p p' valid own before seated is legal = subst (AreSeated threads f) (sym is) (assumption)
 after_tried threads f op r None p p' valid own before seated is legal =
     seated_moved threads f p p' op.actor valid before legal (thread_no_keeper threads f op.actor own) seated (moved f (Act.Operates op) p p' tt is)
 

@@ -1,18 +1,14 @@
 -- What a transcript tells, so that the kernel can compare it with what the definition comes to: the records of its lines, the rows of its report, and its
 -- totals; or the fault of a text that is no trace. A record and a row stand for their lines, since `line_of` and `report_text` print just these fields.
 use Rattle.std.proofs.Common.{ℕ, ◌+◌, ◌*◌, ◌/◌, ◌==◌, Bool, true, false, not, List, [], ◌∷◌, length, count_by, reverse, Option, None, Some, Result, Ok, Err}
-use Rattle.std.specs.List.{flat_map}
-use Rattle.pas_profile.specs.declared.{directory.Directory.Directory, directory.Kind.Kind as TheKind, event.Event.Event as TheEvent, event.Event.Event}
-use Rattle.pas_profile.specs.declared.{event.Why.Why, name.Block.Block, name.Name.Name, profile.Profile.Profile}
 use Rattle.pas_bits.specs.Bits.{count_below}
-use Rattle.pas_profile.specs.Blocks.{grain_of}
-use Rattle.pas_machine.specs.State.{deed_in, epoch_in}
-use Rattle.pas_machine.specs.Totals.{deeds_total, backed_total, live_total, given_total, ended_total}
-use Rattle.pas_report.specs.{Marks.Marked, Reports.live_on}
-use Rattle.pas_report.specs.declared.record.{Record.Record as TheRecord, Record.Record, Said.Said}
-use Rattle.pas_trace.specs.Plans.{Parsed, parsed, fault_at}
-use Rattle.pas_trace.specs.declared.fault.{Reason.Reason, TraceFault.TraceFault}
-use Rattle.pas_same_text.specs.{State.World, Pages.page_numbers, Pages.blocks_on, Pages.is_covered, Reports.marks_of, Order.region_of, Order.replay_of}
+use Rattle.pas_report.specs.{Reports.live_on, Totals.totals_of}
+use Rattle.pas_trace.specs.Plans.{parsed, fault_at}
+use Rattle.pas_same_text.specs.{Order.region_of, Reports.marks_of}
+use Rattle.pas_same_text.proofs.Common.{flat_map, Directory, Kind as TheKind, Event as TheEvent, Event, Why, Block, Name, Profile, grain_of, deed_in, epoch_in}
+use Rattle.pas_same_text.proofs.Common.{Marked, Record as TheRecord, Record, Said, Parsed, Reason, TraceFault, World, page_numbers, blocks_on, is_covered}
+use Rattle.pas_same_text.proofs.Common.{replay_of}
+use Rattle.pas_report.specs.declared.totals.Totals.{Totals}
 
 -- ---- what is seen
 pub record Row : Type 0 where
@@ -22,13 +18,6 @@ pub record Row : Type 0 where
   pub free : ℕ
   pub stamp : ℕ
   pub marks : Marked
-
-pub record Totals : Type 0 where
-  pub deeds : ℕ
-  pub backed : ℕ
-  pub live : ℕ
-  pub given : ℕ
-  pub ended : ℕ
 
 pub record Seen : Type 0 where
   pub records : List TheRecord
@@ -53,7 +42,7 @@ abbrev seen_of : Profile → World → Seen
 seen_of f w = record {
   records = reverse w.records;
   rows = flat_map (λ page. row_with w page (deed_in w.events page) (live_on w.events page) (free_on w page)) (page_numbers f);
-  totals = record { deeds = deeds_total f w.events; backed = backed_total f w.events; live = live_total f w.events; given = given_total f w.events; ended = ended_total f w.events };
+  totals = totals_of f w.events;
 }
 
 abbrev seen_by : Result Parsed TraceFault → Result Seen TraceFault
@@ -68,18 +57,26 @@ abbrev begins_on : ℕ → Block → Bool
 begins_on page b = grain_of b.name / 256 == page
 
 abbrev is_give : TheEvent → Bool
+is_give (Event.Deed k p d) = false
+is_give (Event.Back k p) = false
+is_give (Event.Unback k p e) = false
 is_give (Event.Give k block) = true
-is_give e = false
+is_give (Event.End k name e) = false
+is_give (Event.Reject k name why) = false
 
 abbrev is_end : TheEvent → Bool
+is_end (Event.Deed k p d) = false
+is_end (Event.Back k p) = false
+is_end (Event.Unback k p e) = false
+is_end (Event.Give k block) = false
 is_end (Event.End k name e) = true
-is_end e = false
+is_end (Event.Reject k name why) = false
 
 abbrev counted_of : Profile → World → Seen
 counted_of f w = record {
   records = reverse w.records;
   rows = flat_map (λ page. row_with w page (deed_in w.events page) (count_by (begins_on page) w.live) (free_on w page)) (page_numbers f);
-  totals = record { deeds = deeds_total f w.events; backed = backed_total f w.events; live = length w.live; given = count_by is_give w.events; ended = count_by is_end w.events };
+  totals = record (totals_of f w.events) { live = length w.live; given = count_by is_give w.events; ended = count_by is_end w.events };
 }
 
 abbrev counted_by : Result Parsed TraceFault → Result Seen TraceFault

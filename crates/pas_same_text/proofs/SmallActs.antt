@@ -1,28 +1,17 @@
 -- ACTS THAT CHANGE NO PAGE: what they keep; frees that are answered at once, and frees into a log with room.
 use Rattle.std.proofs.Common.{arith, ◌≡◌, ℕ, ◌==◌, Bool, true, false, ◌&&◌, if◌then◌else◌, List, ◌∷◌, refl, ap, ◌≤◌, length, max, [], ◌++◌, reverse, sym, ◌∙◌}
 use Rattle.std.proofs.Common.{subst, ◌+◌, ◌*◌, ◌/◌, ◌%◌, nat_le, nat_lt, Option, None, Some, inl, inr, append-nil, eq-eqb, ne_eqb}
-use Rattle.pas_profile.specs.{Layouts.same_word, Blocks.address_of}
-use Rattle.pas_profile.specs.declared.{name.Block.Block, profile.Profile.Profile, word.Word.Word, event.FreeFault.FreeFault}
-use Rattle.pas_profile.specs.declared.{event.FreeFault.TheVariants.Outside, event.FreeFault.TheVariants.Unaligned, name.Name.Name}
-use Rattle.pas_steps.specs.Lists.{Whole, word_after, visible, Legal, part}
-use Rattle.pas_steps.specs.{Desks.made, Desks.triple, Events.events_by}
-use Rattle.pas_steps.specs.declared.step.{Step.TheVariants.Look, Step.TheVariants.Tick, Made.Made}
-use Rattle.pas_core.specs.Rights.{empty_bit, eligible_bit}
-use Rattle.pas_same_text.specs.State.{World, Cache, each, cache_of, set_cache, set_noted, noted_of, says}
-use Rattle.pas_same_text.specs.{Same.ArePagesSame, Same.IsSame, Same.IsSameCache, Acts.StaysSame, Acts.StaysSameWhere, Acts.HasLogRoom, Indexes.indexes_run}
-use Rattle.pas_same_text.specs.{Indexes.settles, Order.begins, Passes.ticks}
+use Rattle.pas_profile.specs.declared.event.FreeFault.{FreeFault, TheVariants.Outside, TheVariants.Unaligned}
+use Rattle.pas_same_text.specs.{State.set_noted, Acts.HasLogRoom, Indexes.settles, Order.begins, Passes.ticks, Frees.refuses_free}
 use Rattle.pas_same_text.proofs.CacheLists.{all_locals, locals_with, same_with, same_kept}
-use Rattle.std.proofs.lemmas.{Grind.reverse_onto, Bool.Decides.nat_tests}
-use Rattle.pas_free_log.specs.declared.{noting.EndedRun.EndedRun, log.Entry.Entry}
-use Rattle.pas_report.specs.declared.record.{Record.Record, Said.Said, Said.Said as TheSaid}
-use Rattle.pas_trace.specs.{Acts.Act, EveryPlan.IsThread}
-use Rattle.pas_answers.specs.Answers.{Progress, with_records, begun, after_settling, after_wake, after_tick, Named, Answer, after_answer, IsFreed, IsFreedBy}
-use Rattle.pas_answers.specs.Answers.{standing_for, with_steps, records_of, said_by, said_of_fault, room_noted}
-use Rattle.pas_free_log.specs.Logs.{entry_of, sized_entry}
-use Rattle.pas_cache.specs.{Calls.TakesEntry, Calls.RefusesName, Contents.Cached}
-use Rattle.pas_trace.specs.declared.plan.What.TheVariants.{Free, FreeSized, Raw, RawSized}
-use Rattle.pas_same_text.specs.Frees.{adds, logs, frees, frees_what, frees_named, refuses_free}
-use Rattle.pas_trace.specs.declared.plan.What.{What}
+use Rattle.pas_answers.specs.Answers.{begun, after_settling, after_wake, after_tick, said_of_fault}
+use Rattle.pas_cache.specs.Calls.{RefusesName}
+use Rattle.pas_same_text.proofs.Common.{same_word, address_of, Block, Profile, Word, Name, Whole, word_after, visible, Legal, part, made, triple, events_by}
+use Rattle.pas_same_text.proofs.Common.{Look, Tick, Made, empty_bit, eligible_bit, World, Cache, each, cache_of, set_cache, noted_of, says, ArePagesSame}
+use Rattle.pas_same_text.proofs.Common.{IsSame, IsSameCache, StaysSame, StaysSameWhere, indexes_run, reverse_onto, nat_tests, EndedRun, Entry, Record, Said}
+use Rattle.pas_same_text.proofs.Common.{Said as TheSaid, Act, IsThread, Progress, with_records, Named, Answer, after_answer, IsFreed, IsFreedBy, standing_for}
+use Rattle.pas_same_text.proofs.Common.{with_steps, records_of, said_by, room_noted, entry_of, sized_entry, TakesEntry, Cached, Free, FreeSized, Raw, RawSized}
+use Rattle.pas_same_text.proofs.Common.{adds, logs, frees, frees_what, frees_named, What}
 
 -- ---- lists of steps with the same events and the same bits of pages
 pub record HaveSamePages (l l' : Whole) : Type 0 where
@@ -93,7 +82,7 @@ wakes_to : (f : Profile) (k epoch : ℕ) (p : Progress) (w : World) → IsThread
 wakes_to f k epoch p w is listed same legal =
     let own : Cache = cache_of w k in
     let was : IsSameCache (p.caches k) own = same.caches.each k is in
-    let new : Cache = record own { began = w.epoch } in
+    let new : Cache = record own { idle_since = w.epoch } in
     let now : w.epoch ≡ epoch = same.epoch ∙ sym (read_now f p k epoch legal) in
     let look : Whole = triple k (made (Look Word.Epoch) epoch) ∷ p.list in
     let pages = pages_next f p.list look w (begins k w) same.pages (look_pages k epoch Word.Epoch p.list) (cache_state w k new refl) in
@@ -176,12 +165,7 @@ added_same f k entry p w is listed same =
 
 -- ---- where the address is
 pub page_inside : (pages a : ℕ) → 1 ≤ a / 4096 → a / 4096 ≤ pages → (nat_le 4096 a && nat_lt a (4096 * (pages + 1))) ≡ true
-page_inside pages a some few =
-    search (arith, nat_tests)
-
--- An address outside the pages fails both tests of the text.
-page_outside : (pages a : ℕ) → ((1 ≤ a / 4096) × (a / 4096 ≤ pages) → ⊥) → (nat_le 4096 a && nat_lt a (4096 * (pages + 1))) ≡ false
-page_outside pages a none = search arith
+page_inside pages a some few = search (arith, nat_tests)
 
 -- what a free comes to, by its two tests
 abbrev freed_by : Profile → ℕ → Entry → World → Bool → Bool → World
@@ -199,8 +183,7 @@ freed_is f k entry w inside aligned e h =
 -- there is room, so that nothing is flushed, and the log has the entry more
 logged_cache : (f : Profile) (k : ℕ) (c c' : Cached) (entry : Entry) (steps : List Made) → nat_le 64 (length c.log) ≡ false → TakesEntry f k c c' entry steps
     → (steps ≡ []) × (c' ≡ with_entry c entry)
-logged_cache f k c c' entry steps room takes =
-    search arith
+logged_cache f k c c' entry steps room takes = search arith
 
 -- ---- the free
 logged_same : (f : Profile) (k : ℕ) (entry : Entry) (p : Progress) (w : World) (c' : Cached) (steps : List Made) → IsThread f k → k ≤ length w.caches
@@ -215,7 +198,7 @@ logged_same f k entry p w c' steps is listed same room takes =
 
 refused_text : (f : Profile) (k : ℕ) (entry : Entry) (w : World) (c c' : Cached) (steps : List Made) (fault : FreeFault)
     → RefusesName f c c' entry.name steps fault → frees f k entry w ≡ refuses_free k entry.name fault w
-refused_text f k entry w c c' steps a refuses = search (arith, freed_is, page_outside, page_inside, ne_eqb)
+refused_text f k entry w c c' steps a refuses = search (arith, freed_is, page_inside, ne_eqb)
 
 -- A free whose name can't be a block's is refused at once in the text as in the replay.
 pub refused_same : (f : Profile) (k : ℕ) (entry : Entry) (p : Progress) (w : World) (c' : Cached) (steps : List Made) (fault : FreeFault) → IsSame f p w
@@ -230,16 +213,9 @@ pub freed_same : (f : Profile) (k : ℕ) (entry : Entry) (p : Progress) (w : Wor
     → IsFreed f k (p.caches k) c' entry steps said → IsSame f (after_with p k steps said p.names c') (frees f k entry w)
 freed_same f k entry p w c' steps said is listed same room (inl t) =
     rw t.1 (logged_same f k entry p w c' steps is listed same room t.0)
-freed_same f k entry p w c' steps said is listed same room (inr t) =
-    rw t.2 (refused_same f k entry p w c' steps t.0 same t.1)
+freed_same f k entry p w c' steps said is listed same room (inr t) = rw t.2 (refused_same f k entry p w c' steps t.0 same t.1)
 
 -- ---- a name that stands for no block
-skipped_same : (f : Profile) (k name : ℕ) (p : Progress) (w : World) (c' : Cached) (steps : List Made) (said : Option TheSaid) → IsSame f p w → steps ≡ []
-    → c' ≡ p.caches k → said ≡ Some (Said.Skipped name)
-    → IsSame f (after_with p k steps said p.names c') (says (Record.Said k (Said.Skipped name)) w)
-skipped_same f k name p w c' steps said same no_steps cache is =
-    rw is (rw (no_steps, cache) (said_same f k (Said.Skipped name) p w same))
-
 -- ---- a free by a name of the trace leads the text to the replay's state where a free of each block does
 module _ (f : Profile) (k : ℕ) (p p' : Progress) (w : World) (a : Answer) (same : IsSame f p w) (names : a.names ≡ p.names)
     (reached : p' ≡ after_answer p k a) where
@@ -249,7 +225,7 @@ module _ (f : Profile) (k : ℕ) (p p' : Progress) (w : World) (a : Answer) (sam
   named_by : FreesSame → (name : ℕ) (size : Option ℕ) (meant : Option (Option Block)) → IsFreedBy f k (p.caches k) a.cache name size meant a.steps a.said
       → IsSame f p' (frees_what f k name (room_noted size) meant w)
   named_by free name size None freed = absurd freed
-  named_by free name size (Some None) freed = rw (reached, names) (skipped_same f k name p w a.cache a.steps a.said same freed.0 freed.1 freed.2)
+  named_by free name size (Some None) freed = rw (reached, names) (rw freed.2 (rw (freed.0, freed.1) (said_same f k (Said.Skipped name) p w same)))
   named_by free name size (Some (Some block)) freed = free (sized_entry block.name (room_noted size)) freed
 
   pub name_freed : FreesSame → (name : ℕ) (size : Option ℕ) → IsFreedBy f k (p.caches k) a.cache name size (standing_for p.names name) a.steps a.said

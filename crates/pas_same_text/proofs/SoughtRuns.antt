@@ -2,37 +2,23 @@
 -- that the text tries the same runs.
 use Rattle.std.proofs.Common.{◌≡◌, ◌≢◌, ℕ, ◌+◌, ◌*◌, ◌/◌, ◌≤◌, ◌==◌, Bool, true, false, if◌then◌else◌, List, [], ◌∷◌, ◌++◌, ◌⊎◌, inl, inr, refl, ap, sym, ◌∙◌}
 use Rattle.std.proofs.Common.{subst, arith, eqb-true, ◌<◌, nat_le, not, ◌&&◌, ◌||◌, Option, None, Some, eq-eqb}
-use Rattle.std.proofs.{lemmas.Bool.false≢true, lemmas.Bool.eqb-false, lemmas.Bool.false_from_ne_true, Math.Path.fun_ext, Math.Bool.and-false}
-use Rattle.std.specs.List.{AllByRecursion}
-use Rattle.pas_profile.specs.{Profiles.IsValid, Profiles.IsPage, Profiles.IsDirectoryOf, Directories.number_of}
-use Rattle.pas_profile.specs.declared.{directory.Directory.Directory, profile.Profile.Profile, word.Word.Word, event.Event.Event}
-use Rattle.pas_steps.specs.{Desks.triple, Desks.triples, Effects.target, Kinds.Only, Past.Once, Past.Always, Views.View, Views.holds, Views.known_deed}
-use Rattle.pas_steps.specs.{Agreement.Agreed, Events.events_by}
-use Rattle.pas_steps.specs.Lists.{Whole, part, word_after, Legal, visible}
-use Rattle.pas_steps.specs.declared.step.{Made.Made, Step.Step, Step.TheVariants.Look, Step.TheVariants.Deed}
-use Rattle.pas_steps.proofs.{Parts.part_of_own, Past.always_map}
-use Rattle.pas_core.proofs.Deeds.{deed_has_page, deed_kept, deed_of, backed_of, known_is}
-use Rattle.pas_core.proofs.Rights.{free_without_deed, is_with, spot_of, DeedFits, no_deed, spotted, deeds_known}
-use Rattle.pas_core.proofs.OneActor.{LendsNone, lends_none, deed_none, legal_before}
-use Rattle.pas_scan.specs.Runs.{IsInRun}
-use Rattle.pas_search.specs.Kinds.{ReturnsDuly}
-use Rattle.pas_large.specs.{Evidence.AllUsable, Evidence.DeedsOf, Evidence.DeedsRise, Finds.MayFind, Telling.IsUsablePage, Telling.IsUsableRun}
-use Rattle.pas_large.proofs.{Finds.MadeOf, Claims.span_in}
+use Rattle.pas_core.proofs.Rights.{free_without_deed, DeedFits, no_deed}
+use Rattle.pas_same_text.proofs.Common.{IsLone, never_fails, fewer, once_lone, false≢true, eqb-false, false_from_ne_true, fun_ext, and-false, AllByRecursion}
+use Rattle.pas_same_text.proofs.Common.{IsValid, IsDirectoryOf, number_of, Directory, Profile, Word, Event, triple, triples, target, Only, Once, Always, View}
+use Rattle.pas_same_text.proofs.Common.{holds, known_deed, Agreed, events_by, Whole, part, word_after, Legal, visible, Made, Step, Look, Deed, part_of_own}
+use Rattle.pas_same_text.proofs.Common.{always_map, deed_has_page, deed_kept, deed_of, backed_of, known_is, is_with, spot_of, spotted, deeds_known, LendsNone}
+use Rattle.pas_same_text.proofs.Common.{lends_none, deed_none, legal_before, IsInRun, ReturnsDuly, DeedsRise, MayFind, IsUsablePage, IsUsableRun, MadeOf}
+use Rattle.pas_same_text.proofs.Common.{span_in, seeking, HasSpan, SoughtNone, large_of, is_usable, is_run, serves_pages, deed_word_of-positive, all_map, Run}
+use Rattle.pas_same_text.proofs.Common.{deed_in, backed_in, word_of_deed, runs, one_backed, agreed_steps, Progress, World, are_bare, raises, raises_from}
+use Rattle.pas_same_text.proofs.Common.{IsSame, HasSame, IsBetween, free_bit, page_numbers, each_of, is_none, is_same, is_free, is_empty, is_kept}
+use Rattle.pas_large.specs.Evidence.{AllUsable, DeedsOf}
+use Rattle.pas_large.proofs.Told.{run_was, bad_run}
 use Rattle.pas_guard.specs.Evidence.{HoldsRunWhole, OuterBackedHere, IsBad, OuterFailsHere, HasFailedOnce}
-use Rattle.pas_guard.specs.Seeks.{seeking, HasSpan, SoughtRun, SoughtNone}
-use Rattle.pas_same_text.specs.Runs.{large_of, is_usable, is_run, serves_pages}
+use Rattle.pas_guard.specs.Seeks.{SoughtRun}
 use Rattle.pas_same_text.proofs.{StepMarks.backed_stays, FreeGrains.free_unheld, FreeGrains.bit_free, FreeGrains.keeper, KeepersRest.bare_since}
 use Rattle.pas_same_text.proofs.{KeepersRest.bare_events, Flushes.visible_steps, GivenBack.each_all, ReadyPages.shown, ReadyPages.shown_events}
 use Rattle.pas_same_text.proofs.{ReadyPages.shown_rest, SearchedPages.run_usable, SearchedPages.usable_run, Pieces.has_same}
-use Rattle.pas_same_text.proofs.RunsFound.{with_deed, deeded, deeds_of, deeded_falls, deeded_events, deeds_live, usable_was, bad_never, lacks_usable}
-use Rattle.pas_same_text.proofs.RunsFound.{never_fails}
-use Rattle.pas_profile.proofs.{Codecs.deed_word_of-positive, Lists.all_map}
-use Rattle.pas_machine.specs.{Machine.Run, State.deed_in, State.backed_in}
-use Rattle.pas_core.specs.Good.{word_of_deed}
-use Rattle.pas_core.proofs.{MachineRuns.runs, MachineRuns.one_backed, Nexts.agreed_steps}
-use Rattle.pas_answers.specs.Answers.{Progress}
-use Rattle.pas_same_text.specs.{State.World, Guards.are_bare, Guards.raises, Guards.raises_from, Same.IsSame, Same.HasSame, Acts.IsBetween, Words.free_bit}
-use Rattle.pas_same_text.specs.Pages.{page_numbers, each_of, is_none, is_same, is_free, is_empty, is_kept}
+use Rattle.pas_same_text.proofs.RunsFound.{with_deed, deeded, deeds_of, deeded_falls, deeded_events, deeds_live}
 use Rattle.pas_same_text.proofs.RestingPages.{open_from, is_open, owned_is, unowned_by}
 use Rattle.pas_same_text.proofs.RaiseWalk.{below, below_all, IsOfRun, IsWalked, found_text, none_text}
 
@@ -75,30 +61,15 @@ module _ (f : Profile) (k heap n : ℕ) (l : Whole) (valid : IsValid f) (of : Is
         let high = deed_has_page f (triples k xs ++ l) legal (first + n + 1) (whole_deed (first + n + 1) (omega arith, omega arith)) in
         let a = (deed_has_page f (triples k xs ++ l) legal first (whole_deed first (omega arith, omega arith))).0 in (a, omega (arith, high.1))
 
-  all_usable : (xs : List Made) → Legal f (triples k xs ++ l) → LendsNone xs → Always ReturnsDuly xs → (first : ℕ) → AllUsable d (n + 2) first xs
-      → IsUsableRun d (n + 2) l first
-  all_usable xs legal lends due first usable q here = usable_was f k l d q xs of.kind legal lends due (usable q here)
-
   -- a run that failed after its pages had been read as usable is one that was usable
-  outer_failed : (xs : List Made) → Legal f (triples k xs ++ l) → LendsNone xs → Always ReturnsDuly xs → (first : ℕ)
-      → Once (OuterFailsHere (part k l) d n first) xs → IsRunOf f heap n l first
-  outer_failed [] legal lends due first h = absurd h
-  outer_failed (m ∷ xs) legal lends due first (inr h) = outer_failed xs legal.1 lends.1 due.1 first h
-  outer_failed (m ∷ xs) legal lends due first (inl h) = record { of_region = whole_region xs legal.1 _ h.1.0; usable = all_usable xs legal.1 lends.1 due.1 _ h.0 }
+  outer_failed : (first : ℕ) (xs : List Made) → IsLone f k l xs → Once (OuterFailsHere (part k l) d n first) xs → IsRunOf f heap n l first
+  outer_failed first = once_lone (OuterFailsHere (part k l) d n first) (IsRunOf f heap n l first) f k l (λ m xs lone h.
+      record { of_region = whole_region xs lone.legal.1 first h.1.0; usable = run_was f k l d (n + 2) of.kind met first xs (fewer lone) h.0 })
 
-  module _ (xs : List Made) (legal : Legal f (triples k xs ++ l)) (kinds : Only seeking xs) (due : Always ReturnsDuly xs) where
-    -- The search lends nothing.
-    lends : LendsNone xs
-    lends = lends_none seeking refl xs kinds
-
-    -- A run that failed in a keeper's search was a usable run of the region before it.
-    failed_run : (first : ℕ) → HasFailedOnce (part k l) d n first xs → IsRunOf f heap n l first
-    failed_run first (inl h) = absurd (never_fails f k l d (n + 2) of met first xs legal lends due h)
-    failed_run first (inr h) = outer_failed xs legal lends due first h
-
-    -- A run of the region that was all read as usable was a usable run before the search.
-    found_run : (first : ℕ) → (1 ≤ first) × (first + (n + 2) ≤ f.pages + 1) → AllUsable d (n + 2) first xs → IsRunOf f heap n l first
-    found_run first region usable = record { of_region = region; usable = all_usable xs legal lends due first usable }
+  -- A run that failed in a keeper's search was a usable run of the region before it.
+  failed_run : (xs : List Made) → IsLone f k l xs → (first : ℕ) → HasFailedOnce (part k l) d n first xs → IsRunOf f heap n l first
+  failed_run xs lone first (inl h) = absurd (never_fails f k l d (n + 2) of.kind met first xs lone h)
+  failed_run xs lone first (inr h) = outer_failed first xs lone h
 
   -- ---- a usable run that served not had a backed outer page
   outer_backed : (xs : List Made) → Legal f (triples k xs ++ l) → Only seeking xs → (first : ℕ) → Once (OuterBackedHere (part k l) n first) xs
@@ -116,13 +87,10 @@ module _ (f : Profile) (k heap n : ℕ) (l : Whole) (valid : IsValid f) (of : Is
           sym (backed_stays seeking refl k xs l q kinds.1) ∙ (sym (legal.0.answer_is ∙ ap (λ (s : Step). word_after (triples k xs ++ l) (target s)) is) ∙ one)
 
   -- A run that a search found bad has a backed outer page, and each of its pages has a deed afterwards.
-  bad_run : (xs : List Made) → Legal f (triples k xs ++ l) → Only seeking xs → MadeOf d xs → (first : ℕ) → IsRunOf f heap n l first
+  backed_run : (Chosen : ℕ → Type 0) (xs : List Made) → IsLone f k l xs → Only seeking xs → DeedsOf d (n + 2) Chosen xs → (first : ℕ) → IsRunOf f heap n l first
       → IsBad (part k l) d n first xs → IsBackedRun n l (triples k xs ++ l) first
-  bad_run xs legal kinds made first run (inr h) = outer_backed xs legal kinds first h
-  bad_run xs legal kinds made first run (inl bad) =
-      let here : IsUsablePage d l bad.0 = run.usable bad.0 bad.1 in
-      let before : Legal f l = legal_before f k xs l legal in
-      absurd (bad_never f k l d bad.0 _ before (lacks_usable f k l d (n + 2) of met before bad.0 here) here xs legal (lends_none seeking refl xs kinds) made bad.2)
+  backed_run Chosen xs lone kinds deeds first run (inr h) = outer_backed xs lone.legal kinds first h
+  backed_run Chosen xs lone kinds deeds first run (inl bad) = absurd (bad_run f k l d (n + 2) of.kind met Chosen first xs lone deeds bad run.usable)
 
   -- ---- THE DEEDS that were made, of pages that had none
   module _ (Chosen Good : ℕ → Type 0) (each : (first : ℕ) → Chosen first → Good first) where
@@ -177,6 +145,10 @@ module _ {f : Profile} {k heap n : ℕ} {p : Progress} {w : World} {xs : List Ma
 
   abbrev mine : List ℕ → World
   mine qs = shown (deeds_of k large qs) w
+
+  -- The search came onto the state of the replay.
+  lone : IsLone f k p.list xs
+  lone = record { legal = s.legal; lends_none = lends_none seeking refl xs s.kinds; returns = s.due }
 
   -- Before the search the replay has what the text has.
   old : HasSame f p w
@@ -287,15 +259,19 @@ module _ {f : Profile} {k heap n : ℕ} {p : Progress} {w : World} {xs : List Ma
 
   -- ---- a run serves
   module _ (first : ℕ) (found : SoughtRun f large n xs first) where
+    abbrev FoundOrFailed : ℕ → Type 0
+    FoundOrFailed r = (r ≡ first) ⊎ ((r < first) × HasFailedOnce (part k p.list) large n r xs)
+
     -- A search that sought a run and found it made deeds of its directory alone.
     pub found_made : MadeOf large xs
-    found_made = made_by (λ r. (r ≡ first) ⊎ ((r < first) × HasFailedOnce (part k p.list) large n r xs)) (found.deeds (part k p.list) s.met agreed)
+    found_made = made_by FoundOrFailed (found.deeds (part k p.list) s.met agreed)
 
     run_first : IsRunOf f heap n p.list first
-    run_first = found_run f k heap n p.list s.valid s.of s.met xs s.legal s.kinds s.due first found.of_region found.usable
+    run_first = record { of_region = found.of_region; usable = run_was f k p.list large (n + 2) s.of.kind s.met first xs lone found.usable }
 
     lower_backed : (r : ℕ) → r < first → IsRunOf f heap n p.list r → IsBackedRun n p.list mid r
-    lower_backed r lt run = bad_run f k heap n p.list s.valid s.of s.met xs s.legal s.kinds found_made r run (found.lower _ s.met agreed r run.of_region.0 lt)
+    lower_backed r lt run =
+        backed_run f k heap n p.list s.valid s.of s.met FoundOrFailed xs lone s.kinds (found.deeds _ s.met agreed) r run (found.lower _ s.met agreed r run.of_region.0 lt)
 
     -- each of its pages has its deed
     got_deed : (q : ℕ) → IsInRun first (n + 2) q → known_deed (part k mid) q ≢ 0
@@ -306,15 +282,12 @@ module _ {f : Profile} {k heap n : ℕ} {p : Progress} {w : World} {xs : List Ma
     first_deeds : (q : ℕ) → IsInRun first (n + 2) q → word_after mid (Word.Deed q) ≢ 0
     first_deeds q here none = got_deed q here (known_is (known_deed (part k mid) q) _ (deeds_known f mid s.legal k q) (got_deed q here) ∙ none)
 
-    abbrev FoundOrFailed : ℕ → Type 0
-    FoundOrFailed r = (r ≡ first) ⊎ ((r < first) × HasFailedOnce (part k p.list) large n r xs)
-
     of_runs_found : AreOfRuns (first + 1) FoundOrFailed
     of_runs_found = record {
       deeds = found.deeds (part k p.list) s.met agreed;
       each = λ r h. elim h [
         | inl this ↦ (subst (IsRunOf f heap n p.list) (sym this) run_first, omega (arith, this))
-        | inr lower ↦ ((failed_run f k heap n p.list s.valid s.of s.met xs s.legal s.kinds s.due r lower.1, omega (arith, lower.0)))
+        | inr lower ↦ (failed_run f k heap n p.list s.valid s.of s.met xs lone r lower.1, omega (arith, lower.0))
       ];
       all = λ r run lt q here. by_place r run q here (r == first) refl (λ ne. omega (arith, lt, ne));
     }
@@ -346,20 +319,21 @@ module _ {f : Profile} {k heap n : ℕ} {p : Progress} {w : World} {xs : List Ma
 
   -- ---- none does
   module _ (found : SoughtNone f large n xs) where
-    -- A search that sought a run and found none made deeds of its directory alone.
-    pub none_made : MadeOf large xs
-    none_made = made_by (λ r. HasFailedOnce (part k p.list) large n r xs) (found.deeds (part k p.list) s.met agreed)
-
-    none_backed : (r : ℕ) → IsRunOf f heap n p.list r → IsBackedRun n p.list mid r
-    none_backed r run = bad_run f k heap n p.list s.valid s.of s.met xs s.legal s.kinds none_made r run (found.bad _ s.met agreed r run.of_region.0 run.of_region.1)
-
     abbrev Failed : ℕ → Type 0
     Failed r = HasFailedOnce (part k p.list) large n r xs
+
+    -- A search that sought a run and found none made deeds of its directory alone.
+    pub none_made : MadeOf large xs
+    none_made = made_by Failed (found.deeds (part k p.list) s.met agreed)
+
+    none_backed : (r : ℕ) → IsRunOf f heap n p.list r → IsBackedRun n p.list mid r
+    none_backed r run =
+        backed_run f k heap n p.list s.valid s.of s.met Failed xs lone s.kinds (found.deeds _ s.met agreed) r run (found.bad _ s.met agreed r run.of_region.0 run.of_region.1)
 
     of_runs_none : AreOfRuns (f.pages + 1) Failed
     of_runs_none = record {
       deeds = found.deeds (part k p.list) s.met agreed;
-      each = λ r h. let run = failed_run f k heap n p.list s.valid s.of s.met xs s.legal s.kinds s.due r h in (run, omega (arith, run.of_region.1));
+      each = λ r h. let run = failed_run f k heap n p.list s.valid s.of s.met xs lone r h in (run, omega (arith, run.of_region.1));
       all = λ r run lt q here. (none_backed r run).deeds q here;
     }
 

@@ -1,32 +1,20 @@
 -- WHAT STEPS LEAVE OF THE WORDS, and which pages they mark with hints and offers: steps that only give back; and a search, where no other actor makes a step.
-use Rattle.std.proofs.lemmas.Bool.{false≢true, or_from}
-use Rattle.std.proofs.Common.{◌≡◌, ℕ, ◌/◌, ◌%◌, ◌<◌, ◌==◌, Bool, true, false, ◌&&◌, if◌then◌else◌, List, [], ◌∷◌, ◌++◌, ◌⊎◌, inl, inr, refl, ap, sym, ◌∙◌}
-use Rattle.std.proofs.Common.{subst, arith, true≢false, eqb-true, ◌≢◌, ◌+◌, ◌*◌, ◌||◌, None, Some, ne_eqb}
-use Rattle.pas_bits.specs.Bits.{has_bit}
-use Rattle.pas_bits.proofs.PageVectors.{page_bit-set, page_bit-clear}
-use Rattle.pas_profile.specs.{Directories.number_of, Directories.deed_word_of, Directories.deed_word_numbered, Layouts.same_word, Profiles.IsPage}
-use Rattle.pas_profile.specs.{Profiles.IsDirectoryOf}
-use Rattle.pas_profile.specs.declared.{directory.Directory.Directory, profile.Profile.Profile, word.Word.Word, event.Event.Event}
-use Rattle.pas_steps.specs.{Allowed.IsStepOf, Desks.triples, Frames.OnlyReturns, Frames.IsReturn, Past.Once, Past.Always, Events.event_of, Events.with_event}
-use Rattle.pas_steps.specs.Effects.{target, new_value, in_mask, free_word_at}
-use Rattle.pas_steps.specs.Views.{epoch_of, Stays, Gets, Puts, grain_move, held_after, holds}
-use Rattle.pas_steps.specs.Kinds.{Kinds, kind_of, place_of, is_in, apart, Only, Taking, Backing, Unbacking, Hinting, Unhinting, Offering, Ticking, lending}
-use Rattle.pas_steps.specs.Lists.{Whole, part, word_after, Legal, visible}
-use Rattle.pas_steps.specs.declared.step.{Made.Made, Step.Step}
-use Rattle.pas_steps.specs.declared.step.Step.TheVariants.{Look, TakeRight, Offer, Hint, Unhint, Deed, Take, Put, Give, End, EndSized}
-use Rattle.pas_steps.proofs.{Apart.in_apart, Past.since_once, Past.always_map, Past.once_map}
-use Rattle.pas_core.specs.{Rights.empty_bit, Rights.eligible_bit, Hints.IsEmptyBacked, Good.word_of_deed, Good.word_of_backed}
-use Rattle.pas_core.proofs.Deeds.{looked, deed_of, number_told, backed_of}
-use Rattle.pas_core.proofs.{OneActor.free_stays, OneActor.LendsNone, Grains.free_moved, Grains.free_step, Rights.offered_has_deed}
-use Rattle.pas_rights.specs.Looks.{ReadsBacked, ReadsAllFree, TakesNone, ReadsEmpty, HintsEmpty}
-use Rattle.pas_rights.specs.PutsBack.{GivesDuly}
+use Rattle.pas_same_text.proofs.Common.{or_left, IsLone, fewer, once_lone, free_same, true_from_ne_false, false≢true, or_from, has_bit, page_bit-set}
+use Rattle.pas_same_text.proofs.Common.{page_bit-clear, number_of, deed_word_of, deed_word_numbered, same_word, IsPage, IsDirectoryOf, Directory, Profile, Word}
+use Rattle.pas_same_text.proofs.Common.{Event, triples, OnlyReturns, IsReturn, Once, Always, event_of, with_event, target, in_mask, free_word_at, epoch_of}
+use Rattle.pas_same_text.proofs.Common.{Stays, Gets, grain_move, held_after, holds, Kinds, kind_of, place_of, is_in, apart, Only, Taking, Backing, Unbacking}
+use Rattle.pas_same_text.proofs.Common.{Hinting, Unhinting, Offering, lending, Whole, part, word_after, Legal, visible, Made, Step, Look, TakeRight, Offer}
+use Rattle.pas_same_text.proofs.Common.{Hint, Unhint, Deed, Take, Put, Give, End, EndSized, in_apart, always_map, once_map, empty_bit, eligible_bit}
+use Rattle.pas_same_text.proofs.Common.{IsEmptyBacked, word_of_deed, word_of_backed, looked, deed_of, number_told, backed_of, free_stays, LendsNone}
+use Rattle.pas_same_text.proofs.Common.{offered_has_deed, ReadsBacked, ReadsAllFree, TakesNone, HintsEmpty, GivesDuly, backed_in, deed_in, Readings, ReadsFree}
+use Rattle.pas_same_text.proofs.Common.{ShowsHere, GetsHere, IsReturnOf, ReturnsDuly, EventsAt, free_bit, MakesNoDeedHere, seeking}
+use Rattle.std.proofs.Common.{◌≡◌, ℕ, ◌/◌, ◌%◌, ◌<◌, ◌==◌, Bool, true, false, if◌then◌else◌, List, [], ◌∷◌, ◌++◌, ◌⊎◌, inl, inr, refl, ap, sym, ◌∙◌, subst}
+use Rattle.std.proofs.Common.{arith, true≢false, eqb-true, ◌≢◌, None, Some, ne_eqb}
+use Rattle.pas_steps.specs.{Allowed.IsStepOf, Kinds.Ticking, Effects.new_value}
+use Rattle.pas_steps.proofs.Past.{since_once}
+use Rattle.pas_rights.specs.Looks.{ReadsEmpty}
 use Rattle.pas_same_text.proofs.{Tests.eqb_itself, ReadyPages.IsAtPage, ReadyPages.IsShownAt, ReadyPages.event_at}
-use Rattle.pas_machine.specs.State.{backed_in, deed_in}
-use Rattle.pas_steps.specs.Evidence.{Readings, ReadsFree, ShowsHere, GetsRight, GetsHere}
-use Rattle.pas_search.specs.Kinds.{IsReturnOf, ReturnsDuly, EventsAt}
-use Rattle.pas_same_text.specs.Words.{free_bit}
-use Rattle.pas_scan.specs.Usable.{MakesNoDeedHere}
-use Rattle.pas_guard.specs.Seeks.{seeking}
+use Rattle.pas_search.proofs.LoneSteps.{offer_one}
 
 -- ---- a word that steps of some kinds leave as it is said
 over : (Q : ℕ → Type 0) (x : Word) (ks ls : Kinds)
@@ -37,6 +25,12 @@ over Q x ks ls step w k (m ∷ xs) l only h =
     step (epoch_of (part k (triples k xs ++ l))) m.step (word_after (triples k xs ++ l) x)
     (in_apart ks ls (place_of (kind_of m.step)) w only.0) (over Q x ks ls step w k xs l only.1 h)
 
+-- A word that steps of some kinds leave as it was stays so.
+pub kept_over : (x : Word) (ks ls : Kinds)
+    → ((e : ℕ) (s : Step) (old : ℕ) → is_in ls (kind_of s) ≡ false → (if same_word (target s) x then new_value e s old else old) ≡ old) → apart ks ls ≡ true
+    → (k : ℕ) (xs : List Made) (l : Whole) → Only ks xs → word_after (triples k xs ++ l) x ≡ word_after l x
+kept_over x ks ls step w k xs l only = over (λ n. n ≡ word_after l x) x ks ls (λ e s old other h. step e s old other ∙ h) w k xs l only refl
+
 backed_kept : (e : ℕ) (s : Step) (p old : ℕ) → is_in (Backing ∷ Unbacking ∷ []) (kind_of s) ≡ false
     → (if same_word (target s) (Word.Backed p) then new_value e s old else old) ≡ old
 backed_kept e s p old is = search (arith, true≢false)
@@ -44,7 +38,7 @@ backed_kept e s p old is = search (arith, true≢false)
 -- where none backs a page or ends its backing, backed words stay
 pub backed_stays : (ks : Kinds) → apart ks (Backing ∷ Unbacking ∷ []) ≡ true → (k : ℕ) (xs : List Made) (l : Whole) (p : ℕ) → Only ks xs
     → word_after (triples k xs ++ l) (Word.Backed p) ≡ word_after l (Word.Backed p)
-backed_stays ks apart k xs l p only = over (λ n. n ≡ word_after l (Word.Backed p)) _ ks _ (λ e s old other h. backed_kept e s p old other ∙ h) apart k xs l only refl
+backed_stays ks apart k xs l p only = kept_over (Word.Backed p) ks _ (λ e s old. backed_kept e s p old) apart k xs l only
 
 hints_kept : (e : ℕ) (s : Step) (p old : ℕ) → is_in (Unhinting ∷ []) (kind_of s) ≡ false → has_bit old (p % 64) ≡ true
     → has_bit (if same_word (target s) (Word.Empty (p / 64)) then new_value e s old else old) (p % 64) ≡ true
@@ -123,20 +117,6 @@ hinted_by k (m ∷ xs) l p h = let ih = hinted_by k xs l p in search (arith, hin
 abbrev pub OffersPage : ℕ → List Made → Type 0
 OffersPage q = Once (λ m before. (d : Directory) × (m.step ≡ Offer q d))
 
--- After a step a page's offered bit was set before, or the step offered the page.
-offer_one : (e : ℕ) (s : Step) (n p old : ℕ) → has_bit (if same_word (target s) (Word.Eligible n (p / 64)) then new_value e s old else old) (p % 64) ≡ true
-    → (has_bit old (p % 64) ≡ true) ⊎ ((d : Directory) × (s ≡ Offer p d))
-offer_one e (Look x) n p old h = inl (ap (λ a. has_bit a (p % 64)) (sym (looked (same_word x (Word.Eligible n (p / 64))) old)) ∙ h)
-offer_one e (TakeRight q d) n p old h = search (arith, page_bit-clear, false≢true)
-offer_one e (Offer q d) n p old h = by_page (number_of d == n) (q == p) refl (sym (page_bit-set q p old (number_of d == n)) ∙ h)
-  where
-    by_page : (x t : Bool) → (q == p) ≡ t → (if x && t then true else has_bit old (p % 64)) ≡ true
-        → (has_bit old (p % 64) ≡ true) ⊎ ((d' : Directory) × (Offer q d ≡ Offer p d'))
-    by_page true true same set = inr (d, ap (λ (x : ℕ). Offer x d) (eqb-true q p same))
-    by_page true false same set = inl set
-    by_page false t same set = inl set
-offer_one e s n p old h = inl h
-
 -- a page that is offered now was so, or one of the steps offered it
 pub offered_by : (k : ℕ) (xs : List Made) (l : Whole) (n p : ℕ) → eligible_bit (triples k xs ++ l) n p ≡ true → (eligible_bit l n p ≡ true) ⊎ OffersPage p xs
 offered_by k [] l n p h = inl h
@@ -156,8 +136,7 @@ hint_step m before other page same = absurd (true≢false (ap (λ s. is_in (Hint
 
 -- steps of other kinds hint nothing
 pub hints_none : (ks : Kinds) (xs : List Made) → apart ks (Hinting ∷ []) ≡ true → Only ks xs → Always HintsEmpty xs
-hints_none ks [] out only = tt
-hints_none ks (m ∷ xs) out only = (hint_step m xs (in_apart ks (Hinting ∷ []) (place_of (kind_of m.step)) out only.0), hints_none ks xs out only.1)
+hints_none ks xs out only = always_map _ HintsEmpty xs (λ m before is. hint_step m before (in_apart ks (Hinting ∷ []) (place_of (kind_of m.step)) out is)) only
 
 -- Steps that give duly hint only pages that they read as backed and empty.
 pub hints_of : (xs : List Made) → Always GivesDuly xs → Always HintsEmpty xs
@@ -185,10 +164,11 @@ module _ (ks : Kinds) (f : Profile) (k : ℕ) (l : Whole) (page : ℕ) (no_take 
       → has_bit (word_after (triples k xs ++ l) (Word.Free page word)) b ≡ true
   free_read word b [] legal only small h = absurd h
   free_read word b (m ∷ xs) legal only small (inr h) = free_stays ks no_take k (m ∷ []) _ page word b (only.0, tt) (free_read word b xs legal.1 only.1 small h)
-  free_read word b (m ∷ xs) legal only small (inl h) =
-      search arith
+  free_read word b (m ∷ xs) legal only small (inl h) = search arith
 
-  backed_read : (xs : List Made) → Legal f (triples k xs ++ l) → Only ks xs → Once (ReadsBacked page) xs → word_after (triples k xs ++ l) (Word.Backed page) ≡ 1
+  -- A page that was read as backed is so still.
+  pub backed_read : (xs : List Made) → Legal f (triples k xs ++ l) → Only ks xs → Once (ReadsBacked page) xs
+      → word_after (triples k xs ++ l) (Word.Backed page) ≡ 1
   backed_read [] legal only h = absurd h
   backed_read (m ∷ xs) legal only (inr h) = backed_stays ks no_back k (m ∷ []) (triples k xs ++ l) page (only.0, tt) ∙ backed_read xs legal.1 only.1 h
   backed_read (m ∷ xs) legal only (inl h) = search (arith, backed_stays)
@@ -212,98 +192,19 @@ epoch_kept e s old is = search (arith, true≢false)
 -- Steps of kinds without a tick leave the epoch as it was.
 pub epoch_stays_by : (ks : Kinds) → apart ks (Ticking ∷ []) ≡ true → (k : ℕ) (xs : List Made) (l : Whole) → Only ks xs
     → word_after (triples k xs ++ l) Word.Epoch ≡ word_after l Word.Epoch
-epoch_stays_by ks apart k xs l only = over (λ n. n ≡ word_after l Word.Epoch) Word.Epoch ks _ (λ e s old other h. epoch_kept e s old other ∙ h) apart k xs l only refl
+epoch_stays_by ks apart k xs l only = kept_over Word.Epoch ks _ epoch_kept apart k xs l only
 
 -- ==== WHAT A SEARCH DOES to hints and offers, where no other actor makes a step: it hints no page but one that was hinted, and offers none but one that was
 -- offered; the page on which it may make a deed, and which it may back, is apart.
--- ---- A GRAIN THAT ISN'T FREE stays so: the steps put only what they took, and they took only what was free
-step_moves : (s : Step) (a g : ℕ) (bit held : Bool) → is_in lending (kind_of s) ≡ false
-    → ((page word mask : ℕ) → s ≡ Take page word mask → in_mask page word mask g ≡ true → has_bit a (g % 64) ≡ bit)
-    → ((page word mask : ℕ) → s ≡ Put page word mask → in_mask page word mask g ≡ true → held ≡ true) → bit ≡ false → held ≡ false
-    → (free_moved (grain_move s a g) bit ≡ false) × (held_after (grain_move s a g) held ≡ false)
-step_moves s a g bit held lends reads took used word = search (arith, true≢false)
-
-mask_word : (page word mask g : ℕ) → in_mask page word mask g ≡ true → Word.Free page word ≡ free_word_at g
-mask_word page word mask g h = search (arith, eqb-true, false≢true)
-
 module _ (f : Profile) (k : ℕ) (l : Whole) where
-  -- A grain that isn't free stays so, and isn't got, by steps that give and end no block and put back only what they took.
-  pub stays_used : (g : ℕ) (xs : List Made) → Legal f (triples k xs ++ l) → LendsNone xs → Always ReturnsDuly xs → free_bit l g ≡ false
-      → (free_bit (triples k xs ++ l) g ≡ false) × (holds xs g ≡ false)
-  stays_used g [] legal lends due used = (used, refl)
-  stays_used g (m ∷ xs) legal lends due used =
-      let rest = stays_used g xs legal.1 lends.1 due.1 used in grind (arith, rest, step_moves, mask_word, free_step)
-
-  -- ---- A GRAIN THAT WAS FREE before the search was read as free: it is free, or the call holds it
-  free_moves : (s : Step) (a g : ℕ) (bit held : Bool) → is_in lending (kind_of s) ≡ false → (bit || held) ≡ true
-      → (free_moved (grain_move s a g) bit || held_after (grain_move s a g) held) ≡ true
-  free_moves (Take page word mask) a g bit held lends h = at (in_mask page word mask g && has_bit a (g % 64))
-    where
-      at : (t : Bool) → (free_moved (if t then Gets else Stays) bit || held_after (if t then Gets else Stays) held) ≡ true
-      at true = refl
-      at false = h
-  free_moves (Put page word mask) a g bit held lends h = at (in_mask page word mask g)
-    where
-      at : (t : Bool) → (free_moved (if t then Puts else Stays) bit || held_after (if t then Puts else Stays) held) ≡ true
-      at true = refl
-      at false = h
-  free_moves (Give block) a g bit held lends h = absurd (true≢false lends)
-  free_moves (End name guess) a g bit held lends h = absurd (true≢false lends)
-  free_moves (EndSized name room) a g bit held lends h = absurd (true≢false lends)
-  free_moves s a g bit held lends h = h
-
-  -- A grain that was free is free or held by its actor, after steps that give and end no block.
-  pub free_or_held : (g : ℕ) (xs : List Made) → Legal f (triples k xs ++ l) → LendsNone xs → free_bit l g ≡ true
-      → (free_bit (triples k xs ++ l) g || holds xs g) ≡ true
-  free_or_held g [] legal lends free = ap (λ (t : Bool). t || false) free
-  free_or_held g (m ∷ xs) legal lends free = ap (λ (t : Bool). t || held_after (grain_move m.step m.answer g) (holds xs g))
-      (free_step f (triples k xs ++ l) _ m.step m.answer g legal.0.of_region legal.0.answer_is)
-      ∙ free_moves m.step m.answer g (free_bit (triples k xs ++ l) g) (holds xs g) lends.0 (free_or_held g xs legal.1 lends.1 free)
-
-  word_read : (page word : ℕ) (s : Step) (v : Whole) → ReadsFree page word s → word_after v (target s) ≡ word_after v (Word.Free page word)
-  word_read page word s v ReadsFree.Looks = refl
-  word_read page word s v (ReadsFree.Takes mask) = refl
-
-  -- a reading is of the grain that is free at that moment, or that the call holds
-  shown_is : (page b : ℕ) (r : Readings) (m : Made) (xs : List Made) → Legal f (triples k (m ∷ xs) ++ l) → b < 256 → ShowsHere page (b / 64) r m xs
-      → r b ≡ (free_bit (triples k xs ++ l) (page * 256 + b) || holds xs (page * 256 + b))
-  shown_is page b r m xs legal small s = search (arith, word_read)
-
-  -- A grain that was free is free in each reading of it by steps that give and end no block.
-  pub free_shown : (page b : ℕ) (r : Readings) (xs : List Made) → Legal f (triples k xs ++ l) → LendsNone xs → b < 256 → free_bit l (page * 256 + b) ≡ true
-      → Once (ShowsHere page (b / 64) r) xs → r b ≡ true
-  free_shown page b r [] legal lends small free h = absurd h
-  free_shown page b r (m ∷ xs) legal lends small free (inr h) = free_shown page b r xs legal.1 lends.1 small free h
-  free_shown page b r (m ∷ xs) legal lends small free (inl s) = shown_is page b r m xs legal small s ∙ free_or_held (page * 256 + b) xs legal.1 lends.1 free
-
-  -- .. and the other way round: what was read as free, or was the call's own, was free before the search
-  pub shown_free : (page b : ℕ) (r : Readings) (xs : List Made) → Legal f (triples k xs ++ l) → LendsNone xs → Always ReturnsDuly xs → b < 256
-      → Once (ShowsHere page (b / 64) r) xs → r b ≡ true → free_bit l (page * 256 + b) ≡ true
-  shown_free page b r [] legal lends due small h read = absurd h
-  shown_free page b r (m ∷ xs) legal lends due small (inr h) read = shown_free page b r xs legal.1 lends.1 due.1 small h read
-  shown_free page b r (m ∷ xs) legal lends due small (inl s) read = by_bit (free_bit l (page * 256 + b)) refl
-    where
-      by_bit : (t : Bool) → free_bit l (page * 256 + b) ≡ t → free_bit l (page * 256 + b) ≡ true
-      by_bit true is = is
-      by_bit false is =
-          let used = stays_used (page * 256 + b) xs legal.1 lends.1 due.1 is in
-          absurd (false≢true (sym (shown_is page b r m xs legal small s ∙ or_from _ (holds xs (page * 256 + b)) used.0 used.1) ∙ read))
-
   -- a grain that was read as free was so before the search
-  read_free : (page word b g : ℕ) (xs : List Made) → Legal f (triples k xs ++ l) → LendsNone xs → Always ReturnsDuly xs → b < 64
-      → free_word_at g ≡ Word.Free page word → g % 64 ≡ b → Once (ReadsAllFree page word) xs → free_bit l g ≡ true
-  read_free page word b g [] legal lends due small at bit h = absurd h
-  read_free page word b g (m ∷ xs) legal lends due small at bit (inr h) = read_free page word b g xs legal.1 lends.1 due.1 small at bit h
-  read_free page word b g (m ∷ xs) legal lends due small at bit (inl h) = by_bit (free_bit l g) refl
-    where
-      read : free_bit (triples k xs ++ l) g ≡ true
-      read =
-          let answer = legal.0.answer_is ∙ (ap (λ (s : Step). word_after (triples k xs ++ l) (target s)) h.0 ∙ ap (word_after (triples k xs ++ l)) (sym at)) in
-          ap (λ (n : ℕ). has_bit n (g % 64)) (sym answer) ∙ (ap (has_bit m.answer) bit ∙ h.1 b small)
-
-      by_bit : (t : Bool) → free_bit l g ≡ t → free_bit l g ≡ true
-      by_bit true is = is
-      by_bit false is = absurd (false≢true (sym (stays_used g xs legal.1 lends.1 due.1 is).0 ∙ read))
+  read_free : (page word b g : ℕ) (xs : List Made) → IsLone f k l xs → b < 64 → free_word_at g ≡ Word.Free page word → g % 64 ≡ b
+      → Once (ReadsAllFree page word) xs → free_bit l g ≡ true
+  read_free page word b g xs lone small at bit = once_lone (ReadsAllFree page word) (free_bit l g ≡ true) f k l (λ m before lone h.
+      let w : Whole = triples k before ++ l in
+      let answer = lone.legal.0.answer_is ∙ (ap (λ (s : Step). word_after w (target s)) h.0 ∙ ap (word_after w) (sym at)) in
+      let read : free_bit w g ≡ true = ap (λ (n : ℕ). has_bit n (g % 64)) (sym answer) ∙ (ap (has_bit m.answer) bit ∙ h.1 b small) in
+      sym (free_same f k l g before (fewer lone)) ∙ or_left _ _ read) xs lone
 
 -- ---- steps that back no page but one, and make no deed but of it
 -- whatever it answers, the step doesn't back the page
@@ -313,8 +214,7 @@ KeepsBacked k q m before = (epoch : ℕ) (es : List Event) → backed_in (with_e
 module _ (k : ℕ) where
   -- Steps whose events are at one page back no other.
   pub at_unbacked : (d : Directory) (page q : ℕ) (xs : List Made) → page ≢ q → EventsAt d page xs → Always (KeepsBacked k q) xs
-  at_unbacked d page q xs ne =
-      always_map _ (KeepsBacked k q) xs (λ m before at epoch es. (search (arith, ne_eqb)))
+  at_unbacked d page q xs ne = always_map _ (KeepsBacked k q) xs (λ m before at epoch es. (search (arith, ne_eqb)))
 
   -- Steps of a search for whole pages back none.
   pub seeks_unbacked : (q : ℕ) (xs : List Made) → Only seeking xs → Always (KeepsBacked k q) xs
@@ -353,28 +253,8 @@ module _ (f : Profile) (k : ℕ) (l : Whole) where
   hint_was q (m ∷ xs) legal first lends due keeps (inl h) =
       let e : ReadsEmpty q xs = due.0.1.0 q h in record {
         backed = read_backed q xs legal.1 first keeps.1 (since_once (ReadsBacked q) (TakesNone q) xs e.backed);
-        free = λ g of. read_free f k l q _ (g % 64) g xs legal.1 lends.1 due.1 (omega arith) (ap (λ (p : ℕ). Word.Free p (g / 64 % 4)) of) refl (since_once _ _ xs (e.free (g / 64 % 4) (omega arith)));
+        free = λ g of. read_free f k l q _ (g % 64) g xs (record { legal = legal.1; lends_none = lends.1; returns = due.1 }) (omega arith) (ap (λ (p : ℕ). Word.Free p (g / 64 % 4)) of) refl (since_once _ _ xs (e.free (g / 64 % 4) (omega arith)));
       }
-
-  -- ---- OFFERS: a page whose deed the search doesn't make, and that is offered or was got, was offered before
-  got_by : (p : ℕ) (w : Whole) (s : Step) (a : ℕ) → a ≡ word_after w (target s) → ((x : Directory) → s ≡ Deed p x → a ≡ 0 → ⊥) → GetsRight p s a
-      → (n : ℕ) × (eligible_bit w n p ≡ true)
-  got_by p w s a answer never (GetsRight.Claims x b set) = (number_of x, ap (λ (n : ℕ). has_bit n (p % 64)) (sym answer) ∙ set)
-  got_by p w s a answer never (GetsRight.Deeds x b zero) = absurd (never x refl zero)
-
-  -- A page without a deed made here was offered before the search if the search got it, or if it is offered afterwards.
-  pub was_offered_before : (p : ℕ) (xs : List Made) → Legal f (triples k xs ++ l) → Always ReturnsDuly xs → Always (MakesNoDeedHere p) xs
-      → (Once (GetsHere p) xs → (n : ℕ) × (eligible_bit l n p ≡ true))
-      × ((m : ℕ) → eligible_bit (triples k xs ++ l) m p ≡ true → (n : ℕ) × (eligible_bit l n p ≡ true))
-  was_offered_before p [] legal due never = (λ got. absurd got, λ n bit. (n, bit))
-  was_offered_before p (m ∷ xs) legal due never =
-      let before = was_offered_before p xs legal.1 due.1 never.1 in (
-        search (arith, got_by),
-        λ n bit. elim (offer_one (epoch_of (part k (triples k xs ++ l))) m.step n p (word_after (triples k xs ++ l) (Word.Eligible n (p / 64))) bit) [
-          | inl was ↦ before.1 n was
-          | inr o ↦ before.0 (due.0.0 p (subst (IsReturnOf p) (sym o.1) (IsReturnOf.Offers o.0)))
-        ],
-      )
 
 -- the bit is that of the page's own directory
 pub own_bit : (f : Profile) (l : Whole) (d : Directory) (n q : ℕ) → Legal f l → IsDirectoryOf f d → deed_in (visible l) q ≡ Some d → eligible_bit l n q ≡ true

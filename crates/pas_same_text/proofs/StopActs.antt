@@ -1,50 +1,31 @@
 -- FLUSHES AND STOPS as acts: a flush leads the text to the state of the replay after it, and so does a stop, by which all local allocators go too.
 use Rattle.std.proofs.Common.{◌≤◌, length, ◌≡◌, ℕ, ◌+◌, ◌*◌, ◌/◌, ◌%◌, ◌<◌, ◌==◌, Bool, true, false, if◌then◌else◌, List, [], ◌∷◌, ◌++◌, map, reverse, Some}
 use Rattle.std.proofs.Common.{refl, ap, sym, ◌∙◌, subst, arith, true≢false, eqb-true, not, ◌⊎◌, inl, inr, All, eq-eqb}
-use Rattle.std.proofs.lemmas.Bool.{eqb-false, false≢true, or_left, or_right}
-use Rattle.std.proofs.lemmas.List.{reverse-append, Elements.All-head, Elements.All-tail}
 use Rattle.pas_bits.proofs.Runs.{IsMet, met}
-use Rattle.pas_profile.specs.{Blocks.length_of, Profiles.IsValid, Profiles.IsPage, Profiles.IsDirectoryOf, Classes.class_grains, Classes.IsSlotStart}
-use Rattle.pas_profile.specs.{Directories.deed_word_of, Requests.kind_of_class}
-use Rattle.pas_profile.specs.declared.{directory.Directory.Directory, event.Event.Event, profile.Profile.Profile, word.Word.Word}
-use Rattle.pas_machine.specs.{Machine.Run, State.Live, State.live_in, State.deed_in}
 use Rattle.pas_machine.proofs.LiveBlocks.{live_apart, live_long}
-use Rattle.pas_steps.specs.{Desks.made, Desks.triples, Events.events_by, Views.holds, Views.usable_by_kind, Views.View, Kinds.Only}
-use Rattle.pas_steps.specs.Lists.{part, visible, Legal, word_after}
-use Rattle.pas_steps.specs.declared.step.{Made.Made, Step.TheVariants.Look}
-use Rattle.pas_core.specs.Good.{IsPartOf}
-use Rattle.pas_core.proofs.{MachineRuns.runs, OneActor.legal_earlier, OneActor.deed_same, Grains.one_holder}
-use Rattle.pas_free_log.specs.{Frames.freeing, Flushes.Settled, Flushes.noted_after}
-use Rattle.pas_free_log.specs.declared.{log.Entry.Entry, noting.EndedRun.EndedRun}
-use Rattle.pas_segregated.specs.declared.slots.Slots.{Slots}
-use Rattle.pas_cache.specs.{Changes.EmptiesLog, Changes.StopsEach, Contents.Cached, Locals.any_covers, Locals.IsLocal, Locals.covers, Kinds.releasing}
-use Rattle.pas_report.specs.declared.record.Record.{Record}
-use Rattle.pas_trace.specs.EveryPlan.{IsThread}
-use Rattle.pas_answers.specs.Answers.{Progress, records_of, with_steps, with_records, with_cache as with_cached}
-use Rattle.pas_same_text.specs.State.{World, each, set_log, Local, cache_of, locals_of}
-use Rattle.pas_same_text.specs.Frees.{ends, flushes, gives_up_all, stops}
-use Rattle.pas_same_text.specs.{Pages.is_of, Acts.IsBetween, Acts.AreBlocksUsable, Words.free_bit}
-use Rattle.pas_same_text.specs.Same.{IsSame, HasSame, AreSameCaches, IsSameCache, AreSameLocals, lives_in, has_number}
+use Rattle.pas_cache.specs.Changes.{StopsEach}
 use Rattle.pas_same_text.proofs.FlushedLogs.{IsFlushedTo, IsEndedOn, OnlyFewer, flushed_start, flushed_all}
 use Rattle.pas_same_text.proofs.FreeGrains.{held_still, cached_held, held_by, never_both, guards_as, still_unguarded}
 use Rattle.pas_same_text.proofs.RestingPages.{is_open, deed_now, word_known, word_now, IsGivenBack, open_from, covered_not_held, free_left, given_pages}
 use Rattle.pas_same_text.proofs.{SameIndexes.same_guards, SameIndexes.flushes_keep, SameIndexes.stops_keep, Flushes.map_reverse, Flushes.visible_steps}
 use Rattle.pas_same_text.proofs.{CacheLists.same_own, CacheLists.same_with, CacheLists.same_again, GivenBack.returns_then, GivenBack.has_both, Pieces.read_open}
-use Rattle.pas_same_text.proofs.StepMarks.{OffersPage, hint_marks, offer_marks, offered_of_region, epoch_stays_by, IsMarked, marked_parts}
-use Rattle.pas_large.proofs.Left.{hints_both}
-use Rattle.pas_bits.specs.Masks.{HasMember}
-use Rattle.pas_profile.proofs.{Sizes.class_grains_positive, Codecs.same_from_deed_word}
-use Rattle.pas_steps.proofs.{Adding.triples_append, Apart.only_both, Apart.only_within, Frames.events_append}
-use Rattle.pas_segregated.specs.{Masks.start_of, Stops.home_of}
-use Rattle.pas_segregated.proofs.Starts.{start_at}
+use Rattle.pas_same_text.proofs.StepMarks.{hint_marks, offer_marks, offered_of_region, epoch_stays_by, IsMarked, marked_parts}
 use Rattle.pas_same_text.proofs.StopSteps.{IsGivenUp, AllOfRegion, unique_of, all_up, IsMarkedBy, IsMarkedIn, AllClasses, ReadsRoom, room_earlier, all_marked}
 use Rattle.pas_same_text.proofs.StopSteps.{all_hints}
+use Rattle.pas_same_text.proofs.Common.{cases_Bool, eqb-false, false≢true, or_left, or_right, reverse-append, All-head, All-tail, length_of, IsValid, IsPage}
+use Rattle.pas_same_text.proofs.Common.{IsDirectoryOf, class_grains, IsSlotStart, deed_word_of, kind_of_class, Directory, Event, Profile, Word, Run, Live}
+use Rattle.pas_same_text.proofs.Common.{live_in, deed_in, made, triples, events_by, holds, usable_by_kind, View, Only, part, visible, Legal, word_after, Made}
+use Rattle.pas_same_text.proofs.Common.{Look, IsPartOf, runs, legal_earlier, deed_same, one_holder, freeing, Settled, noted_after, Entry, EndedRun, Slots}
+use Rattle.pas_same_text.proofs.Common.{EmptiesLog, Cached, any_covers, IsLocal, covers, releasing, Record, IsThread, Progress, records_of, with_steps}
+use Rattle.pas_same_text.proofs.Common.{with_records, with_cache as with_cached, World, each, set_log, Local, cache_of, locals_of, ends, flushes, gives_up_all}
+use Rattle.pas_same_text.proofs.Common.{stops, is_of, IsBetween, AreBlocksUsable, free_bit, IsSame, HasSame, AreSameCaches, IsSameCache, AreSameLocals}
+use Rattle.pas_same_text.proofs.Common.{lives_in, has_number, hints_both, HasMember, class_grains_positive, same_from_deed_word, triples_append, only_both}
+use Rattle.pas_same_text.proofs.Common.{only_within, events_append, start_of, home_of, start_at}
 
 -- ---- records
 -- the records of events come to the end, on both sides
 pub events_recorded : (rs ws vs : List Record) (es : List Event) → rs ≡ reverse ws → vs ≡ map Record.Event es ++ ws → rs ++ records_of es ≡ reverse vs
-events_recorded rs ws vs es is more =
-    cc (map_reverse Record.Event es, reverse-append (map Record.Event es) ws)
+events_recorded rs ws vs es is more = cc (map_reverse Record.Event es, reverse-append (map Record.Event es) ws)
 
 -- ---- the whole flush
 module _ (f : Profile) (k : ℕ) (p : Progress) (w : World) (steps : List Made) (noted' : List EndedRun) (valid : IsValid f) (thread : IsThread f k)
@@ -67,11 +48,8 @@ module _ (f : Profile) (k : ℕ) (p : Progress) (w : World) (steps : List Made) 
   -- A flush in the text does for the entries of the log what its steps do in the replay, one by one.
   flush_to : IsFlushedTo f k h.epoch p.list w (p.caches k) p.caches h.settled steps (flushes f k w)
   flush_to =
-      subst (λ (v : World). IsFlushedTo f k h.epoch p.list w (p.caches k) p.caches h.settled steps v) (sym text)
-      (subst (λ (ms : List Made). IsFlushedTo f k h.epoch p.list w (p.caches k) p.caches h.settled ms
-      (each (ends f k) (reverse (map (λ (s : Settled). s.entry) h.settled)) (set_log k [] w))) (sym h.steps_are)
-      (flushed_all f k h.epoch p.list w _ p.caches valid thread listed now h.settled h.entries h.order all_legal
-      (flushed_start f k h.epoch p.list w _ p.caches valid thread listed now same.pages.events same.pages.live same.caches refl)))
+      rw (text, h.steps_are) (flushed_all f k h.epoch p.list w _ p.caches valid thread listed now h.settled h.entries h.order all_legal
+      (flushed_start f k h.epoch p.list w _ p.caches valid thread listed now same.pages.events same.pages.live same.caches refl))
 
   -- A flush adds the events of its steps to the records, and nothing else.
   flush_records : (flushes f k w).records ≡ map Record.Event (events_by k (part k p.list) steps) ++ w.records
@@ -109,13 +87,12 @@ module _ (f : Profile) (p p' : Progress) (w v : World) (pages : List ℕ) (valid
     where
       other : (o : IsEndedOn w.events v.events pages q) (g : ℕ) → IsPartOf g o.address o.block → (a : ℕ) (b : Live) → live_in (visible p'.list) a ≡ Some b
           → IsPartOf g a b → ⊥
-      other o g of_own a b lives of_it = by_address (o.address == a) refl
-        where
-          by_address : (t : Bool) → (o.address == a) ≡ t → ⊥
-          by_address true e = search (arith, eqb-true)
-          by_address false e =
-              let was : live_in w.events a ≡ Some b = fewer.lives a b (ap (λ (es : List Event). live_in es a) same.events ∙ lives) in
-              true≢false (sym of_it ∙ live_apart f w.events run o.address a o.block b o.lived was (eqb-false o.address a e) g of_own)
+      other o g of_own a b lives of_it = elim (cases_Bool (o.address == a)) [
+        | inl e ↦ search (arith, eqb-true)
+        | inr e ↦
+            let was : live_in w.events a ≡ Some b = fewer.lives a b (ap (λ (es : List Event). live_in es a) same.events ∙ lives) in
+            true≢false (sym of_it ∙ live_apart f w.events run o.address a o.block b o.lived was (eqb-false o.address a e) g of_own)
+      ]
 
 -- ---- the act
 module _ (f : Profile) (k : ℕ) (p : Progress) (w : World) (steps : List Made) (c' : Cached) (valid : IsValid f) (thread : IsThread f k)
@@ -157,12 +134,9 @@ module _ (f : Profile) (k : ℕ) (p : Progress) (w : World) (steps : List Made) 
     marks = λ q of hint. (comes.marks q of (hint_marks q steps hint)).minded;
     rooms = λ q d of is offer.
         ended_room f p (with_steps p k steps c') w emptied comes.pages valid before after same.pages.events flush_has usable comes.fewer still_held q d of is
-        (comes.marks q (page_of q offer) (offer_marks q steps offer));
+        (comes.marks q (offered_of_region f k p.list q steps legal offer) (offer_marks q steps offer));
     guarded = λ q none. still_unguarded w emptied q (same_guards w emptied (flushes_keep f k w)) none;
   }
-    where
-      page_of : (q : ℕ) → OffersPage q steps → IsPage f q
-      page_of q offer = offered_of_region f k p.list q steps legal offer
 
   -- A flush leads the text to the state of the replay after its steps, caches and records too.
   pub flush_same : IsSame f (with_records (with_steps p k steps c') (records_of (events_by k (part k p.list) steps))) emptied
@@ -234,8 +208,7 @@ module _ (f : Profile) (k : ℕ) (p : Progress) (steps : List Made) (c' : Cached
       let first : start_of s.class b ≡ b = start_at s.class b b slot (omega arith) (omega (arith, some)) in
       let g : ℕ = 256 * q + b in
       let at_grain : (256 * q + b) % 256 ≡ b = omega (arith, small) in
-      let covered : covers s g ≡ true =
-      cc (eq-eqb s.page (g / 256) (page ∙ sym (omega (arith, small)))) in
+      let covered : covers s g ≡ true = cc (eq-eqb s.page (g / 256) (page ∙ sym (omega (arith, small)))) in
       open_from f ended v valid after has d q b small (ap (λ (x : Directory). usable_by_kind x.kind b) (home_is q d of is page) ∙ slot_usable s.right s.class b some slot) (free g covered)
 
   -- A page of which a stop read room is open to its directory.
@@ -291,16 +264,14 @@ module _ (f : Profile) (k : ℕ) (p : Progress) (w : World) (flushed stopped : L
       ∙ (sym (visible_steps k stopped (triples k flushed ++ p.list)) ∙ ap visible (triples_append k stopped flushed p.list))))
 
   new_same : IsSameCache c' (record (cache_of vf k) { locals = [] })
-  new_same = rw cache (record { locals = tt; log = own_same.log; noted = own_same.noted ∙ sym h.noted_are; began = own_same.began })
+  new_same = rw cache (record { locals = tt; log = own_same.log; noted = own_same.noted ∙ sym h.noted_are; idle_since = own_same.idle_since })
 
   has : HasSame f p' v
-  has = record {
-    events = events;
-    live = up.live ∙ (to.live ∙ ap lives_in (sym up.events));
-    caches = same_again f p.caches v.caches k own c'
-        (rw up.caches (same_with f (with_cached p.caches k own) vf.caches k c' (record (cache_of vf k) { locals = [] }) thread listed_then to.same new_same));
-    guards = guards_as p.books w v (same_guards w v (stops_keep f k w)) same.guards;
-  }
+  has =
+      let live = up.live ∙ (to.live ∙ ap lives_in (sym up.events)) in
+      let caches = same_again f p.caches v.caches k own c'
+      (rw up.caches (same_with f (with_cached p.caches k own) vf.caches k c' (record (cache_of vf k) { locals = [] }) thread listed_then to.same new_same)) in
+      assumption (events, live, caches, guards_as p.books w v (same_guards w v (stops_keep f k w)) same.guards)
 
   -- ---- grains that an actor holds then
   held_at : (j g : ℕ) (t : Bool) → (j == k) ≡ t → any_covers (if t then c' else p.caches j).locals g ≡ true → any_covers (p.caches j).locals g ≡ true

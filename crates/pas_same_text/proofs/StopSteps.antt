@@ -1,42 +1,28 @@
 -- WHERE LOCAL ALLOCATORS GO: in the text, their slots come back to their pages; and the steps by which they are stopped, the pages that these mark, what a hint rests
 -- on, and why a page is offered.
-use Rattle.std.proofs.lemmas.{Bool.or_right, Bool.cases_eq, List.Folds.list_any-append, List.Sums.sum_by-cons}
 use Rattle.std.proofs.Common.{◌≡◌, ℕ, ◌+◌, ◌-◌, ◌≤◌, ◌==◌, Bool, true, false, ◌&&◌, ◌||◌, cond, List, [], ◌∷◌, ◌++◌, length, map, refl, ap, sym, ◌∙◌, subst}
 use Rattle.std.proofs.Common.{arith, eq-eqb, eqb-true, zero, suc, ◌/◌, ◌%◌, ◌<◌, ◌⊎◌, inl, inr, MatchBool, true≢false}
-use Rattle.std.specs.List.{list_any, count_by}
-use Rattle.pas_bits.specs.{Bits.has_bit, Masks.HasMember}
-use Rattle.pas_profile.specs.{Classes.IsClass, Profiles.IsPage}
-use Rattle.pas_profile.specs.declared.{profile.Profile.Profile, directory.Directory.Directory, word.Word.Word}
-use Rattle.pas_steps.proofs.{Sets.same_truth, Past.once_later, Past.once_map, Past.once_earlier}
-use Rattle.pas_segregated.specs.declared.slots.Slots.{Slots}
+use Rattle.pas_steps.proofs.Past.{once_earlier}
 use Rattle.pas_cache.specs.{Locals.HasOneEach, Locals.is_for as is_for_slots, Changes.StopsAll}
-use Rattle.pas_same_text.specs.State.{Local, Cache, World, each, cache_in, cache_of, with_cache, locals_of, set_locals}
-use Rattle.pas_same_text.specs.{Classes.is_for, Classes.others, Classes.gives_up, Frees.gives_up_all, Pages.is_cached, Pages.locals_on, Same.AreSameLocals}
+use Rattle.pas_same_text.specs.State.{with_cache}
 use Rattle.pas_same_text.proofs.CacheLists.{all_locals, own_with, many_with, with_own, for_same, cached_any, any_cached}
 use Rattle.pas_same_text.proofs.GivenBack.{Returns, OnlyHints, minded_last, all_only_hints, returns_nothing, returns_then}
 use Rattle.pas_same_text.proofs.LowerActs.{back_hints}
-use Rattle.pas_large.proofs.Left.{hints_both}
-use Rattle.pas_bits.specs.declared.mask.Mask4.{Mask4}
-use Rattle.pas_steps.specs.{Desks.triples, Lists.Whole, Lists.word_after, Lists.Legal, Past.Once, Past.Always, Views.usable_by_kind}
-use Rattle.pas_steps.specs.Kinds.{Kinds, Only, apart, Taking, LookFree, Putting}
-use Rattle.pas_steps.specs.declared.step.{Made.Made, Step.TheVariants.Look}
-use Rattle.pas_core.proofs.OneActor.{free_stays}
-use Rattle.pas_rights.specs.{Leaves.LeaveSteps, Leaves.EndsLeave, PutsBack.BackSteps, Words.words}
-use Rattle.pas_rights.specs.Looks.{looks, HasUsable, HasNoUsable, HintsEmpty}
-use Rattle.pas_rights.proofs.{Puts.leave_due, Orders.looks_only, Orders.leave_returns, Orders.return_returns, Puts.puts_kinds}
-use Rattle.pas_segregated.specs.Masks.{start_of}
-use Rattle.pas_segregated.specs.Stops.{home_of, StopStepsAt, LeavesWhere, AreGrains}
-use Rattle.pas_segregated.proofs.Starts.{start_below}
+use Rattle.pas_rights.specs.{Leaves.EndsLeave, Looks.HasUsable, Looks.HasNoUsable}
+use Rattle.pas_segregated.specs.Stops.{AreGrains}
 use Rattle.pas_same_text.proofs.StepMarks.{IsMarked, marked_parts, none_marked, returns_marked, hints_of}
+use Rattle.pas_cache.proofs.Resting.{counted}
+use Rattle.pas_same_text.proofs.Common.{or_right, cases_eq, list_any-append, sum_by-cons, list_any, count_by, has_bit, HasMember, IsClass, IsPage, Profile}
+use Rattle.pas_same_text.proofs.Common.{Directory, Word, same_truth, once_later, once_map, Slots, Local, Cache, World, each, cache_in, cache_of, locals_of}
+use Rattle.pas_same_text.proofs.Common.{set_locals, is_for, others, gives_up, gives_up_all, AreSameLocals, hints_both, Mask4, triples, Whole, word_after, Legal}
+use Rattle.pas_same_text.proofs.Common.{Once, Always, usable_by_kind, Kinds, Only, apart, Taking, LookFree, Putting, Made, Look, free_stays, LeaveSteps}
+use Rattle.pas_same_text.proofs.Common.{BackSteps, words, looks, HintsEmpty, leave_due, looks_only, leave_returns, return_returns, puts_kinds, start_of}
+use Rattle.pas_same_text.proofs.Common.{home_of, StopStepsAt, LeavesWhere, start_below}
 
 -- ---- one local allocator of a heap and class
 abbrev pub AreUnique : List Local → Type 0
 AreUnique [] = Unit {0}
 AreUnique (l ∷ ls) = (others l.heap l.class ls ≡ ls) × AreUnique ls
-
--- One more local allocator counts where it passes the test.
-counted : (p : Slots → Bool) (s : Slots) (slots : List Slots) → count_by p (s ∷ slots) ≡ cond (p s) 1 0 + count_by p slots
-counted p s slots = sum_by-cons (λ x. cond (p x) 1 0) s slots
 
 none_for : (heap class : ℕ) (slots : List Slots) (ls : List Local) → AreSameLocals slots ls → count_by (is_for_slots heap class) slots ≤ 0
     → others heap class ls ≡ ls
@@ -84,15 +70,9 @@ with_twice (c ∷ cs) k a b = let ih = with_twice cs (k - 1) a b in grind (arith
 module _ (f : Profile) (k : ℕ) (l : Local) (w : World) (page_of : IsPage f l.page)
     (less : (p : Local → Bool) → list_any p (others l.heap l.class (locals_of w k)) ≡ true → list_any p (locals_of w k) ≡ true)
     (rest : (p : Local → Bool) → p l ≡ false → list_any p (locals_of w k) ≡ true → list_any p (others l.heap l.class (locals_of w k)) ≡ true) where
-  abbrev without_one : World
-  without_one = set_locals k (others l.heap l.class (locals_of w k)) w
-
-  cached_other : (page b : ℕ) → (l.page == page) ≡ false → is_cached (locals_on w page) b ≡ true → is_cached (locals_on without_one page) b ≡ true
-  cached_other page b none h = search (arith, any_cached, with_any, cached_any)
-
   -- A local allocator that a thread gives up brings its grains back to its page alone.
   pub one_returns : Returns f (l.page ∷ []) w (gives_up k l w)
-  one_returns = search (arith, minded_last, eqb-true, any_cached, any_with, cached_any, same_truth, cached_other)
+  one_returns = search (arith, minded_last, eqb-true, any_cached, any_with, cached_any, same_truth, with_any)
 
 -- ==== A CACHE IS GIVEN UP: these local allocators of it, in order
 pub record IsGivenUp (f : Profile) (k : ℕ) (ls : List Local) (w v : World) : Type 0 where
@@ -150,8 +130,7 @@ each_up f k [] w some few is unique pages =
 each_up f k (l ∷ ls) w some few is unique pages =
     let v : World = gives_up k l w in
     let own : cache_of v k ≡ record (cache_of w k) { locals = ls } = own_gone f k l ls w is unique pages.0 some few in
-    let many : k ≤ length v.caches =
-    subst (λ (n : ℕ). k ≤ n) (cc
+    let many : k ≤ length v.caches = subst (λ (n : ℕ). k ≤ n) (cc
     ((only f k l ls w is unique pages.0).caches, many_with w.caches k (record (cache_of w k) { locals = others l.heap l.class (locals_of w k) }))) few in
     then_up f k l ls w is unique pages.0 some few _ (each_up f k ls v some many (ap (λ (c : Cache). c.locals) own) unique.1 pages.1)
 

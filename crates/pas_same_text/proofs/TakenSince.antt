@@ -1,31 +1,19 @@
 -- THE SLOTS that a search took of a shared page are the lowest free one and those behind it without a break, as it was before the search.
-use Rattle.std.proofs.Common.{◌≡◌, ℕ, ◌+◌, ◌*◌, ◌/◌, ◌%◌, ◌<◌, List, ◌++◌, refl, ap, sym, ◌∙◌, arith, ◌≢◌, zero, suc, ◌≤◌, ◌==◌, Bool, true, false, ◌&&◌}
+use Rattle.std.proofs.Common.{◌||◌, ◌≡◌, ℕ, ◌+◌, ◌*◌, ◌/◌, ◌%◌, ◌<◌, List, ◌++◌, refl, ap, sym, ◌∙◌, arith, ◌≢◌, zero, suc, ◌≤◌, ◌==◌, Bool, true, false, ◌&&◌}
 use Rattle.std.proofs.Common.{if◌then◌else◌, [], ◌∷◌, IsTrue, ◌↔◌, inl, inr, subst, append_assoc, true≢false, eq-eqb, eqb-true, ne_eqb, lt-ltb}
-use Rattle.pas_bits.specs.{Bits.has_bit, Masks.is_set}
-use Rattle.pas_bits.specs.declared.mask.Mask4.{Mask4}
-use Rattle.pas_profile.specs.Classes.{class_grains, usable_grains, is_usable, IsSlotStart}
-use Rattle.pas_profile.specs.declared.{profile.Profile.Profile, word.Word.Word}
-use Rattle.pas_steps.specs.{Desks.triples, Effects.free_word_at, Evidence.Readings, Allowed.Allowed, Desks.made, Effects.target, Effects.in_mask, Kinds.kind_of}
-use Rattle.pas_steps.specs.{Kinds.is_in, Kinds.lending, Past.Once, Past.Always}
-use Rattle.pas_steps.specs.Lists.{Whole, word_after, Legal, part}
-use Rattle.pas_steps.specs.declared.step.{Made.Made, Step.Step}
-use Rattle.pas_steps.proofs.{Sets.same_truth, Parts.part_of_own}
-use Rattle.pas_core.specs.Rights.{free_of_page}
-use Rattle.pas_core.proofs.OneActor.{LendsNone, lends_none}
+use Rattle.pas_profile.specs.Classes.{usable_grains, is_usable}
 use Rattle.pas_search.specs.Choices.{TookChosen}
-use Rattle.pas_search.specs.Kinds.{AreSearch, searching, IsReturnOf, ReturnsDuly, KeepsMarks}
-use Rattle.pas_partial.specs.Rows.{IsInRow, IsFreeSlot, IsLowestRow, rows}
+use Rattle.pas_partial.specs.Rows.{IsInRow, rows}
 use Rattle.pas_segregated.specs.Takes.{slot_within, TookSlots, takes_after, takes_since}
-use Rattle.pas_same_text.specs.Words.{free_bit}
-use Rattle.pas_same_text.proofs.StepMarks.{free_shown, shown_free, stays_used, free_or_held}
-use Rattle.std.proofs.lemmas.Bool.{false≢true, cases_eq, or_cases, false_from_ne_true}
-use Rattle.pas_bits.proofs.Words.{none_of_zero}
-use Rattle.pas_profile.specs.Directories.{number_of}
-use Rattle.pas_steps.specs.Views.{View, Gets, Stays, grain_move, held_after, holds, Way, Rests, ByDeed, FromOffer, FromParked, ToOffer, ToParked, way}
-use Rattle.pas_steps.specs.Views.{had_after, has_right}
-use Rattle.pas_steps.specs.declared.step.Step.TheVariants.{Deed, Take, TakeRight, Offer, Park, Unpark}
-use Rattle.pas_core.proofs.Rights.{Spot, is_with, Suits, IsSpotted, step_suits, spotted}
-use Rattle.pas_rights.specs.{Takes.takes, Takes.word_take, Words.words}
+use Rattle.pas_search.proofs.LoneSteps.{shown_same}
+use Rattle.pas_same_text.proofs.Common.{free_same, or-false, has_bit, is_set, Mask4, class_grains, IsSlotStart, Profile, Word, triples, free_word_at, Readings}
+use Rattle.pas_same_text.proofs.Common.{Allowed, made, target, in_mask, kind_of, is_in, lending, Once, Always, Whole, word_after, Legal, part, Made, Step}
+use Rattle.pas_same_text.proofs.Common.{same_truth, part_of_own, free_of_page, LendsNone, lends_none, AreSearch, searching, IsReturnOf, ReturnsDuly, KeepsMarks}
+use Rattle.pas_same_text.proofs.Common.{IsFreeSlot, IsLowestRow, free_bit, false≢true, cases_eq, or_cases, false_from_ne_true, none_of_zero, number_of, View}
+use Rattle.pas_same_text.proofs.Common.{Gets, Stays, grain_move, held_after, holds, has_right, Deed, Take, TakeRight, Offer, Park, Unpark, is_with, spotted}
+use Rattle.pas_same_text.proofs.Common.{takes, word_take, words}
+use Rattle.pas_steps.specs.Views.{Way, Rests, ByDeed, FromOffer, FromParked, ToParked, way, had_after}
+use Rattle.pas_core.proofs.Rights.{Spot, Suits, IsSpotted, step_suits}
 use Rattle.pas_same_text.proofs.Tests.{and_first, and_second}
 
 -- ---- the same readings show the same slots and rows
@@ -48,17 +36,10 @@ lowest_row_as class r fair starts same row =
 
 module _ (f : Profile) (k : ℕ) (l : Whole) (class page : ℕ) (searched : List Made) (starts : Mask4) (legal : Legal f (triples k searched ++ l))
     (searches : AreSearch searched) (took : TookChosen (rows class) page searched starts) where
-  lends_nothing : LendsNone searched
-  lends_nothing = lends_none searching refl searched searches.kinds
-
-  of_page : (b : ℕ) → free_of_page l page b ≡ free_bit l (page * 256 + b)
-  of_page b = let bit : b % 64 ≡ (page * 256 + b) % 64 = omega arith in ap (has_bit (word_after l (free_word_at (page * 256 + b)))) bit
-
   -- what was read is what was free
   reading_is : (b : ℕ) → b < 256 → took.readings b ≡ free_of_page l page b
-  reading_is b small = same_truth (took.readings b) (free_of_page l page b) (λ read. of_page b
-      ∙ shown_free f k l page b took.readings searched legal lends_nothing searches.returns small (took.read (b / 64) (omega (arith, small))) read)
-      (λ free. free_shown f k l page b took.readings searched legal lends_nothing small (sym (of_page b) ∙ free) (took.read (b / 64) (omega (arith, small))))
+  reading_is b small = shown_same f k l page b took.readings small searched
+      (record { legal = legal; lends_none = lends_none searching refl searched searches.kinds; returns = searches.returns }) (took.read (b / 64) (omega (arith, small)))
 
   -- What a search took of a shared page is the lowest row of slots by the grains free before the search.
   pub shared_row : IsLowestRow class (free_of_page l page) starts
@@ -102,15 +83,6 @@ module _ (f : Profile) (k page g : ℕ) (of : g / 256 ≡ page) (v ts before : L
   abbrev IsTakenAfter : Step → ℕ → Type 0
   IsTakenAfter s a = (had_after (way s a page) (has_right v page) ≡ true) × (holds (takes_after page s a ts) g ≡ true)
 
-  -- the right can't come to who has it
-  still_listed : (x : Way) (t u : Bool) → u ≡ t → Suits k (if t then x else Rests) o → (Suits k x o → is_with k o ≡ false) → IsTakenSo
-      → holds (if u then [] else ts) g ≡ true
-  still_listed x t u same suits nobody so = search (arith, false≢true, true≢false)
-
-  -- a take of the page is one of the list
-  in_list : (m : Made) (t : Bool) → (t ≡ false → holds ts g ≡ true) → holds (m ∷ ts) g ≡ true → holds (if t then m ∷ ts else ts) g ≡ true
-  in_list m t others own = grind arith
-
   got_or_held : (x held : Bool) → (x ≡ false → held ≡ true) → held_after (if x then Gets else Stays) held ≡ true
   got_or_held true held h = refl
   got_or_held false held h = h refl
@@ -118,11 +90,11 @@ module _ (f : Profile) (k page g : ℕ) (of : g / 256 ≡ page) (v ts before : L
   -- A grain that a take takes was taken so.
   took : (q word mask a : ℕ) → has_right v q ≡ true → (holds before g ≡ true → IsTakenSo) → (x : Bool) → (in_mask q word mask g && has_bit a (g % 64)) ≡ x
       → held_after (if x then Gets else Stays) (holds before g) ≡ true → IsTakenAfter (Take q word mask) a
-  took q word mask a allowed was b is h = search (arith, and_first, eqb-true, and_second, in_list, true≢false, eq-eqb, got_or_held)
+  took q word mask a allowed was b is h = search (arith, and_first, eqb-true, and_second, true≢false, eq-eqb, got_or_held)
 
   listed_step : (s : Step) (a : ℕ) → is_in lending (kind_of s) ≡ false → (IsReturnOf page s → s ≡ Unpark page) → Allowed f v s → Suits k (way s a page) o
       → (holds before g ≡ true → IsTakenSo) → held_after (grain_move s a g) (holds before g) ≡ true → IsTakenAfter s a
-  listed_step s a lends marks allowed suits was h = search (arith, right_stays, still_listed, false≢true, true≢false)
+  listed_step s a lends marks allowed suits was h = search (arith, right_stays, false≢true, true≢false)
 
 -- ---- lists of takes
 abbrev first_step : Step → List Made → Step
@@ -188,18 +160,16 @@ module _ (f : Profile) (k : ℕ) (l : Whole) (page g : ℕ) (of : g / 256 ≡ pa
         here_or_later (has_bit a (g % 64) ≡ free_bit l g) m.step m.answer (takes_since page xs)
         (λ step answer since.
         let now = sym answer ∙ (legal.0.answer_is ∙ (ap (λ s. word_after (triples k xs ++ l) (target s)) step ∙ ap (word_after (triples k xs ++ l)) at)) in
-        ap (λ (n : ℕ). has_bit n (g % 64)) now ∙ as_before since (free_bit l g) refl)
+        ap (λ (n : ℕ). has_bit n (g % 64)) now ∙ as_before since)
         (λ earlier later. take_read xs legal.1 lends.1 due.1 marks.1 at none earlier later) ts is
       where
         not_held : takes_since page xs ≡ rest → holds xs g ≡ false
         not_held since = false_from_ne_true (holds xs g) (λ h. false≢true (sym none ∙ (ap (λ (ms : List Made). holds ms g) (sym since) ∙ (taken_since xs legal.1 lends.1 marks.1 h).1)))
 
-        as_before : takes_since page xs ≡ rest → (t : Bool) → free_bit l g ≡ t → free_bit (triples k xs ++ l) g ≡ t
-        as_before since true free = elim (or_cases (free_bit (triples k xs ++ l) g) (holds xs g) (free_or_held f k l g xs legal.1 lends.1 free)) [
-          | inl still ↦ still
-          | inr held ↦ absurd (false≢true (sym (not_held since) ∙ held))
-        ]
-        as_before since false used = (stays_used f k l g xs legal.1 lends.1 due.1 used).0
+        as_before : takes_since page xs ≡ rest → free_bit (triples k xs ++ l) g ≡ free_bit l g
+        as_before since =
+            let bit : Bool = free_bit (triples k xs ++ l) g in
+            sym (ap (λ (t : Bool). bit || t) (not_held since) ∙ or-false bit) ∙ free_same f k l g xs (record { legal = legal.1; lends_none = lends.1; returns = due.1 })
 
 -- ---- takes of all free words
 one_taken : (page word mask a : ℕ) (rest : List Made) → mask ≢ 0 → word_take page word mask a ++ rest ≡ made (Take page word mask) a ∷ rest
@@ -245,7 +215,4 @@ module _ (f : Profile) (k : ℕ) (l : Whole) (class page : ℕ) (searched : List
 
   -- What a search took of an exclusive page are its slots that were free before the search.
   pub exclusive_free : (s : ℕ) → IsTrue (is_set starts s) ↔ IsFreeSlot class (free_of_page l page) s
-  exclusive_free s = (
-    λ set. let both = (took.are s).0 set in (both.0, λ b low high. sym (slot_answer s b both.0 high) ∙ both.1 b low high),
-    λ both. (took.are s).1 (both.0, λ b low high. slot_answer s b both.0 high ∙ both.1 b low high),
-  )
+  exclusive_free s = grind (arith, slot_answer)

@@ -2,20 +2,11 @@
 -- it without a break, four at most.
 use Rattle.std.proofs.Common.{◌≡◌, ℕ, zero, suc, ◌+◌, ◌-◌, ◌*◌, ◌/◌, ◌<◌, ◌≤◌, ◌==◌, Bool, true, false, ◌||◌, if◌then◌else◌, List, [], ◌∷◌, IsTrue, ◌↔◌, inl}
 use Rattle.std.proofs.Common.{inr, refl, ap, sym, ◌∙◌, subst, arith, eq-eqb, eqb-true, ne_eqb}
-use Rattle.std.proofs.lemmas.Bool.{false≢true, or_cases, or_left, or_right, cases_Bool, false_from_ne_true}
-use Rattle.std.proofs.Math.Nat.{suc-mul, add-mul, mul-le-mul_right, mul-div_cancel}
-use Rattle.std.specs.List.{AllByRecursion, filter}
-use Rattle.pas_bits.specs.Masks.{is_set}
-use Rattle.pas_bits.specs.declared.mask.Mask4.{Mask4}
-use Rattle.pas_profile.specs.{Classes.IsClass, Classes.class_grains, Classes.slots_of, Profiles.IsValid}
-use Rattle.pas_profile.specs.declared.profile.Profile.{Profile}
-use Rattle.pas_profile.proofs.Sizes.{class_grains_positive}
-use Rattle.pas_steps.proofs.Sets.{same_truth}
-use Rattle.pas_core.specs.Rights.{free_of_page}
-use Rattle.pas_partial.specs.Rows.{IsFreeSlot, IsLowestRow}
-use Rattle.pas_answers.specs.Answers.{Progress}
-use Rattle.pas_same_text.specs.{State.World, Pages.are_free, Pages.is_guarded, Same.HasSame, Same.IsRising, Same.has_number, Acts.IsBetween}
-use Rattle.pas_same_text.specs.Classes.{spaced, free_slots, row_from, first_row, slots_for}
+use Rattle.pas_same_text.proofs.Common.{false≢true, or_cases, or_left, or_right, cases_Bool, false_from_ne_true, suc-mul, AllByRecursion, filter, is_set, Mask4}
+use Rattle.pas_same_text.proofs.Common.{IsClass, class_grains, slots_of, IsValid, Profile, class_grains_positive, same_truth, free_of_page, IsFreeSlot}
+use Rattle.pas_same_text.proofs.Common.{IsLowestRow, Progress, World, are_free, is_guarded, HasSame, IsRising, has_number, IsBetween, spaced, slots_for}
+use Rattle.std.proofs.Math.Nat.{add-mul, mul-le-mul_right, mul-div_cancel}
+use Rattle.pas_same_text.specs.Classes.{free_slots, row_from, first_row}
 use Rattle.pas_same_text.proofs.PlacesFit.{slot_there, slot_index, slot_tested, slot_free, in_spaced, from_spaced, next_place}
 use Rattle.pas_same_text.proofs.Tests.{filtered_has, has_filtered}
 
@@ -24,14 +15,10 @@ all_above : (test : ℕ → Bool) (n from step low : ℕ) → low < from → All
 all_above test zero from step low lt = tt
 all_above test (suc n) from step low lt = search (arith, all_above test n (from + step) step low (omega (arith, lt)))
 
-kept_rising : (x : ℕ) (xs : List ℕ) (t : Bool) → AllByRecursion (λ m. x < m) xs → IsRising xs → IsRising (if t then x ∷ xs else xs)
-kept_rising x xs true all rising = (all, rising)
-kept_rising x xs false all rising = rising
-
 rising_places : (test : ℕ → Bool) (n from step : ℕ) → 1 ≤ step → IsRising (filter test (spaced from step n))
 rising_places test zero from step some = tt
 rising_places test (suc n) from step some =
-    kept_rising from _ (test from) (all_above test n (from + step) step from (omega (arith, some))) (rising_places test n (from + step) step some)
+    let above = all_above test n (from + step) step from (omega (arith, some)) in let ih = rising_places test n (from + step) step some in search (arith, above, ih)
 
 -- the i-th place is there, and each that is there is the i-th for some i
 place_there : (n from step i : ℕ) → i < n → has_number (spaced from step n) (from + i * step) ≡ true
@@ -124,9 +111,6 @@ all_row P step m next xs all = tt
 rising_row : (step m next : ℕ) (xs : List ℕ) → IsRising xs → IsRising (row_from next step m xs)
 rising_row step (suc m) next (x ∷ xs) rising = search (arith, all_row, rising_row step m (next + step) xs rising.1)
 rising_row step m next xs rising = tt
-
-rising_first : (step : ℕ) (xs : List ℕ) → IsRising xs → IsRising (first_row step xs)
-rising_first step xs rising = search (arith, rising_row)
 
 -- ---- THE SLOTS of the text are the bits of a mask
 module _ (f : Profile) (p : Progress) (w : World) (valid : IsValid f) (between : IsBetween f p) (same : HasSame f p w) (class : ℕ) (is : IsClass class)
@@ -238,4 +222,4 @@ module _ (f : Profile) (p : Progress) (w : World) (valid : IsValid f) (between :
 
   -- the slots rise
   pub slots_rise : (shared : Bool) → IsRising (slots_for shared w class page)
-  slots_rise shared = search (arith, (rising_places test count 0 step some), rising_first)
+  slots_rise shared = search (arith, (rising_places test count 0 step some), rising_row)

@@ -1,10 +1,7 @@
 -- Tests on lists.
-use Rattle.std.proofs.Common.{◌≡◌, ℕ, ◌==◌, Bool, true, false, not, ◌&&◌, ◌||◌, if◌then◌else◌, List, [], ◌∷◌, ◌⊎◌, inl, inr, refl, ap, sym, ◌∙◌, arith, ◌+◌}
-use Rattle.std.proofs.Common.{◌*◌, ◌/◌, ◌<◌, eq-eqb, eqb-true}
-use Rattle.std.proofs.lemmas.Bool.{false≢true, or_cases, or_left, or_right}
-use Rattle.std.proofs.{lemmas.Bool.Decides.nat_tests, Math.Bool.or-false}
-use Rattle.std.specs.List.{list_any, filter}
-use Rattle.pas_same_text.specs.Same.{has_number}
+use Rattle.std.proofs.Common.{◌≡◌, ℕ, ◌==◌, Bool, true, false, not, ◌&&◌, ◌||◌, List, [], ◌∷◌, ◌⊎◌, inl, inr, refl, ap, sym, ◌∙◌, arith, ◌+◌, ◌*◌, ◌/◌, ◌<◌}
+use Rattle.std.proofs.Common.{eq-eqb, eqb-true}
+use Rattle.pas_same_text.proofs.Common.{false≢true, or_cases, or_left, or_right, nat_tests, or-false, list_any, filter, has_number}
 
 -- ---- tests
 pub or_none : (x : Bool) {t : Bool} → (x || false) ≡ t → x ≡ t
@@ -23,10 +20,6 @@ pub on_page : (page b : ℕ) → b < 256 → (256 * page + b) / 256 ≡ page
 on_page page b small = omega (arith, small)
 
 -- ---- lists
-or_more : (x y z : Bool) → (y ≡ true → z ≡ true) → (x || y) ≡ true → (x || z) ≡ true
-or_more true y z more h = refl
-or_more false y z more h = more h
-
 -- Of two tests that both hold, the first holds.
 pub and_first : (x y : Bool) → (x && y) ≡ true → x ≡ true
 and_first true y h = refl
@@ -36,23 +29,17 @@ and_first false y h = h
 pub and_second : (x y : Bool) → (x && y) ≡ true → y ≡ true
 and_second x y h = search (arith, false≢true)
 
-filtered_one : {X : Type 0} (p : X → Bool) (x : X) (ys : List X) (t rest : Bool) → (list_any p ys ≡ true → rest ≡ true)
-    → list_any p (if t then x ∷ ys else ys) ≡ true → ((t && p x) || rest) ≡ true
-filtered_one p x ys t rest more h = search (arith, or_more)
+filtered_same : {X : Type 0} (p q : X → Bool) (xs : List X) → list_any p (filter q xs) ≡ list_any (λ x. q x && p x) xs
+filtered_same p q [] = refl
+filtered_same p q (x ∷ xs) = let ih = filtered_same p q xs in grind (arith, ih)
 
 -- one that is left passes both tests
 pub any_filtered : {X : Type 0} (p q : X → Bool) (xs : List X) → list_any p (filter q xs) ≡ true → list_any (λ x. q x && p x) xs ≡ true
-any_filtered p q [] h = h
-any_filtered p q (x ∷ xs) h = filtered_one p x (filter q xs) (q x) (list_any (λ y. q y && p y) xs) (any_filtered p q xs) h
-
-left_one : {X : Type 0} (p : X → Bool) (x : X) (ys : List X) (t rest : Bool) → (rest ≡ true → list_any p ys ≡ true) → ((t && p x) || rest) ≡ true
-    → list_any p (if t then x ∷ ys else ys) ≡ true
-left_one p x ys t rest more h = search (arith, or_more)
+any_filtered p q xs h = sym (filtered_same p q xs) ∙ h
 
 -- Something that passes both tests passes one among those that pass the other.
 pub filtered_any : {X : Type 0} (p q : X → Bool) (xs : List X) → list_any (λ x. q x && p x) xs ≡ true → list_any p (filter q xs) ≡ true
-filtered_any p q [] h = h
-filtered_any p q (x ∷ xs) h = left_one p x (filter q xs) (q x) (list_any (λ y. q y && p y) xs) (filtered_any p q xs) h
+filtered_any p q xs h = filtered_same p q xs ∙ h
 
 -- ---- numbers
 -- a number of the list that passes the test
@@ -79,13 +66,10 @@ passed p (n ∷ more) m h so = elim (or_cases (n == m) (has_number more m) h) [
 ]
 
 -- ---- tests that follow from others
-weaker_at : (x y r s : Bool) → (x ≡ true → y ≡ true) → (r ≡ true → s ≡ true) → (x || r) ≡ true → (y || s) ≡ true
-weaker_at x y r s here rest h = search (arith, false≢true)
-
 -- Where something passes a test, something passes each weaker one.
 pub any_weaker : {X : Type 0} (p q : X → Bool) (xs : List X) → ((x : X) → p x ≡ true → q x ≡ true) → list_any p xs ≡ true → list_any q xs ≡ true
 any_weaker p q [] more h = h
-any_weaker p q (x ∷ xs) more h = weaker_at (p x) (q x) (list_any p xs) (list_any q xs) (more x) (any_weaker p q xs more) h
+any_weaker p q (x ∷ xs) more h = let ih = any_weaker p q xs more in search (arith, or_cases, or_left, or_right, ih)
 
 -- by cases of the tests
 split_at : (a x r s t : Bool) → (r ≡ true → (s ≡ true) ⊎ (t ≡ true)) → (x || r) ≡ true → (((a && x) || s) ≡ true) ⊎ (((not a && x) || t) ≡ true)

@@ -1,40 +1,22 @@
 -- Each act leaves each live block on grains that blocks of its page's directory may cover.
 use Rattle.std.proofs.Common.{arith, ◌≡◌, ℕ, Bool, true, false, if◌then◌else◌, List, [], ◌∷◌, ◌++◌, Option, None, Some, Result, refl, ap, ◌∙◌, ◌/◌, map, ◌%◌}
 use Rattle.std.proofs.Common.{◌==◌, Ok, Err, sym, subst, eqb-true, inl, inr}
-use Rattle.pas_profile.specs.declared.{directory.Directory.Directory, event.Event.Event, event.NoRoom.NoRoom, name.Block.Block, profile.Profile.Profile}
-use Rattle.pas_profile.specs.declared.{directory.Route.Route, event.Outcome.Outcome, word.Word.Word}
-use Rattle.pas_machine.specs.{State.Live, State.live_in, State.deed_in, Machine.Run}
-use Rattle.pas_free_log.specs.{Logs.sized_entry, Logs.entry_of, Flushes.Settled, Flushes.shown_for}
-use Rattle.pas_free_log.specs.declared.{log.Entry.Entry, noting.EndedRun.EndedRun}
-use Rattle.pas_report.specs.declared.record.{Record.Record, Said.Said}
-use Rattle.pas_same_text.specs.Acts.{AreBlocksUsable, HasUsableBlocks, KeepsUsable}
-use Rattle.std.specs.List.{AllByRecursion}
+use Rattle.pas_same_text.specs.Acts.{KeepsUsable}
 use Rattle.pas_same_text.proofs.{Flushes.visible_steps, RestingPages.word_known}
-use Rattle.pas_profile.specs.Requests.{route_in, room_in, is_shared, kind_of_route}
-use Rattle.pas_answers.specs.Answers.{Progress, Having, Answer, having, IsGiven, RefusalEnds, RequestEnds, IsFreed, IsFreedBy, IsStopped, IsAnswered}
-use Rattle.pas_answers.specs.Answers.{IsReplaced, entry_with, wanted_by, standing_for}
-use Rattle.pas_trace.specs.{Acts.Act, Asked.request_in}
-use Rattle.pas_trace.specs.declared.{plan.What.What, item.Request.Request, plan.Op.Op}
-use Rattle.std.proofs.lemmas.Option.{none-some}
-use Rattle.pas_bits.specs.Runs.{in_run}
-use Rattle.pas_bits.proofs.Runs.{run_of}
-use Rattle.pas_profile.specs.{Blocks.grain_of, Blocks.length_of, Directories.IsKind, Directories.deed_word_of, Profiles.IsValid}
-use Rattle.pas_profile.proofs.{Sizes.class_suits, Sizes.class_known, Codecs.same_from_deed_word, Lists.all_map}
+use Rattle.pas_answers.specs.Answers.{Having, IsGiven, RefusalEnds, RequestEnds, IsAnswered, entry_with}
+use Rattle.pas_profile.proofs.Sizes.{class_suits, class_known}
 use Rattle.pas_machine.proofs.LiveBlocks.{all_borne}
-use Rattle.pas_steps.specs.{Desks.triples, Events.events_by, Views.View, Views.known_deed, Views.usable_by_kind}
-use Rattle.pas_steps.specs.Lists.{Whole, part, word_after, visible, Legal}
-use Rattle.pas_steps.specs.declared.step.Made.{Made}
-use Rattle.pas_steps.proofs.{Adding.triples_append, Apart.no_events, Frames.events_append, Parts.part_of_own}
-use Rattle.pas_core.specs.Good.{IsPartOf, word_of_deed}
-use Rattle.pas_core.proofs.{Deeds.deed_of, Deeds.directory_is_of, MachineRuns.runs, OneActor.legal_before, OneActor.legal_earlier}
-use Rattle.pas_cache.specs.{Changes.EmptiesLog, Changes.EmptiesFull, Contents.Cached}
-use Rattle.pas_cache.specs.Serves.{Wanted, wanted_for, IsPlaced, IsPreparing, IsDeedOf}
-use Rattle.pas_scavenger.specs.Passes.{unbacks_in}
-use Rattle.pas_guard.specs.Sweeps.{SweepSteps, sweeping}
-use Rattle.pas_guard.specs.declared.book.Guard.{Guard}
-use Rattle.pas_answers.specs.Guarding.{Tried, IsTried, TryEnds, after_trying}
-use Rattle.pas_answers.specs.Reaching.{AnswersTried, AnswersGuarded}
+use Rattle.pas_cache.specs.Serves.{Wanted, IsPlaced, IsPreparing, IsDeedOf}
+use Rattle.pas_answers.specs.Guarding.{TryEnds}
 use Rattle.pas_answers.proofs.Reached.{tried_on, pieces_back}
+use Rattle.pas_same_text.proofs.Common.{Directory, Event, NoRoom, Block, Profile, Route, Outcome, Word, Live, live_in, deed_in, Run, sized_entry, entry_of}
+use Rattle.pas_same_text.proofs.Common.{Settled, shown_for, Entry, EndedRun, Record, Said, AreBlocksUsable, HasUsableBlocks, AllByRecursion, route_in, room_in}
+use Rattle.pas_same_text.proofs.Common.{is_shared, kind_of_route, Progress, Answer, having, IsFreed, IsFreedBy, IsStopped, IsReplaced, wanted_by, standing_for}
+use Rattle.pas_same_text.proofs.Common.{Act, request_in, What, Request, Op, none-some, in_run, run_of, grain_of, length_of, IsKind, deed_word_of, IsValid}
+use Rattle.pas_same_text.proofs.Common.{same_from_deed_word, all_map, triples, events_by, View, known_deed, usable_by_kind, Whole, part, word_after, visible}
+use Rattle.pas_same_text.proofs.Common.{Legal, Made, triples_append, no_events, events_append, part_of_own, IsPartOf, word_of_deed, deed_of, directory_is_of}
+use Rattle.pas_same_text.proofs.Common.{runs, legal_before, legal_earlier, EmptiesLog, EmptiesFull, Cached, wanted_for, unbacks_in, SweepSteps, sweeping, Guard}
+use Rattle.pas_same_text.proofs.Common.{Tried, IsTried, after_trying, AnswersTried, AnswersGuarded}
 
 -- ---- one event
 -- the block may be given so: each of its grains is one that blocks of its page's directory may cover
@@ -42,8 +24,12 @@ abbrev IsUsableGive : List Event → Block → Type 0
 IsUsableGive es block = (g : ℕ) → in_run (grain_of block.name) (length_of block) g ≡ true → (d : Directory) → deed_in es (g / 256) ≡ Some d → usable_by_kind d.kind (g % 256) ≡ true
 
 abbrev GivesUsably : List Event → Event → Type 0
+GivesUsably es (Event.Deed k p d) = Unit {0}
+GivesUsably es (Event.Back k p) = Unit {0}
+GivesUsably es (Event.Unback k p e) = Unit {0}
 GivesUsably es (Event.Give k block) = IsUsableGive es block
-GivesUsably es e = Unit {0}
+GivesUsably es (Event.End k name e) = Unit {0}
+GivesUsably es (Event.Reject k name why) = Unit {0}
 
 deed_usable : (f : Profile) (es : List Event) (p : ℕ) (d own : Directory) (address : ℕ) (b : Live) (g : ℕ) (t : Bool) → (p == g / 256) ≡ t → Run f es
     → deed_in es p ≡ None → live_in es address ≡ Some b → IsPartOf g address b
@@ -62,8 +48,12 @@ next_usable f e es run give usable = search (arith, deed_usable, eqb-true, ended
 
 -- ---- events without a give
 abbrev IsNoGive : Event → Type 0
+IsNoGive (Event.Deed k p d) = Unit {0}
+IsNoGive (Event.Back k p) = Unit {0}
+IsNoGive (Event.Unback k p e) = Unit {0}
 IsNoGive (Event.Give k block) = ⊥
-IsNoGive e = Unit {0}
+IsNoGive (Event.End k name e) = Unit {0}
+IsNoGive (Event.Reject k name why) = Unit {0}
 
 abbrev AreNoGives : List Event → Type 0
 AreNoGives = AllByRecursion IsNoGive

@@ -5,7 +5,7 @@ use Rattle.pas_profile.specs.declared.{event.Event.Event, event.Why.Why, profile
 use Rattle.pas_machine.specs.State.{Live, live_in}
 use Rattle.pas_free_log.specs.declared.{log.Entry.Entry, ending.Outcome.Outcome, noting.EndedRun.EndedRun}
 use Rattle.pas_free_log.specs.{Flushes.event_for, Logs.is_sized}
-use Rattle.pas_report.specs.declared.record.Record.{Record}
+use Rattle.pas_records.specs.declared.record.Record.{Record}
 use Rattle.pas_cache.specs.Changes.{EmptiesLog}
 use Rattle.pas_steps.specs.Desks.{triples}
 use Rattle.pas_steps.specs.Lists.{Whole, visible, word_after, Legal}

@@ -7,7 +7,7 @@ use Rattle.pas_profile.specs.declared.{event.Event.Event, event.FreeFault.FreeFa
 use Rattle.pas_machine.specs.State.{ends_in}
 use Rattle.pas_free_log.specs.declared.log.Entry.{Entry}
 use Rattle.pas_free_log.specs.Logs.{sized_entry, is_sized}
-use Rattle.pas_report.specs.declared.record.{Record.Record, Said.Said}
+use Rattle.pas_records.specs.declared.record.{Record.Record, Said.Said}
 use Rattle.pas_answers.specs.Answers.{said_of_fault, standing_for}
 use Rattle.pas_same_text.specs.State.{World, each, block_at, shows, says, locals_of, log_of, set_log}
 use Rattle.pas_same_text.specs.{Indexes.notes, Pages.page_numbers, Pages.minds, Classes.gives_up}

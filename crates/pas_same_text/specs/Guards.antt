@@ -6,7 +6,7 @@ use Rattle.pas_profile.specs.{Blocks.address_of, Requests.room_in}
 use Rattle.pas_profile.specs.declared.profile.Profile.{Profile}
 use Rattle.pas_machine.specs.State.{backed_in, ends_in}
 use Rattle.pas_trace.specs.declared.item.Request.{Request}
-use Rattle.pas_report.specs.declared.record.{Record.Record, Said.Said}
+use Rattle.pas_records.specs.declared.record.{Record.Record, Said.Said}
 use Rattle.pas_same_text.specs.State.{Guard, World, each, says}
 use Rattle.pas_same_text.specs.{Pages.page_numbers, Pages.minds, Searches.address_on, Searches.name_at}
 use Rattle.pas_same_text.specs.Runs.{is_run, deeds_run, gives_run, serves_pages}

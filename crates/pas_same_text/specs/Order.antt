@@ -6,12 +6,12 @@ use Rattle.pas_free_log.specs.Logs.{entry_of, sized_entry}
 use Rattle.pas_trace.specs.declared.{fault.TraceFault.TraceFault, plan.Op.Op, plan.What.What}
 use Rattle.pas_trace.specs.{Asked.request_in, Reasons.guard_in, Acts.Act, Acts.numbers_from, Acts.acts_of}
 use Rattle.pas_trace.specs.Plans.{Parsed, parsed, phases_in, shared_in}
-use Rattle.pas_report.specs.declared.record.{Record.Record, Said.Said}
 use Rattle.pas_answers.specs.Answers.{standing_for, suits}
 use Rattle.pas_same_text.specs.State.{World, each, no_cache, cache_of, set_cache, says, names_it}
 use Rattle.pas_same_text.specs.{Indexes.settles, Classes.serves_class, Runs.serves_bitfit, Runs.serves_pages, Guards.guards, Guards.lowers_all, Reports.text_of}
 use Rattle.pas_same_text.specs.Frees.{flushes, stops, logs, frees, frees_named}
 use Rattle.pas_same_text.specs.Passes.{ticks, passes, reads_epoch, stops_idle}
+use Rattle.pas_records.specs.declared.record.{Record.Record, Said.Said}
 
 -- ---- the operations of thread k; those of the scavenger are acts of their own
 -- a request, by the route of its size and alignment
@@ -63,7 +63,7 @@ operates f k (What.Idle n) w = w
 -- ---- the acts of a replay
 -- a thread begins a phase
 abbrev pub begins : ℕ → World → World
-begins k w = set_cache k (record (cache_of w k) { began = w.epoch }) w
+begins k w = set_cache k (record (cache_of w k) { idle_since = w.epoch }) w
 
 -- AN ACT
 abbrev pub acts_on : Profile → Act → World → World

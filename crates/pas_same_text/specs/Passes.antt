@@ -3,11 +3,11 @@ use Rattle.std.specs.Prelude.{ℕ, zero, suc, ◌+◌, ◌*◌, ◌^◌, nat_le,
 use Rattle.std.specs.List.{find, filter}
 use Rattle.pas_profile.specs.declared.{event.Event.Event, event.Outcome.Outcome, profile.Profile.Profile}
 use Rattle.pas_machine.specs.State.{backed_in, epoch_in}
-use Rattle.pas_report.specs.declared.record.{Record.Record, Said.Said}
 use Rattle.pas_answers.specs.PassRecords.{record_of}
 use Rattle.pas_same_text.specs.State.{World, each, shows, says, cache_of}
 use Rattle.pas_same_text.specs.Pages.{page_numbers, is_free, are_free, is_kept, is_hinted, unhints}
 use Rattle.pas_same_text.specs.Frees.{stops}
+use Rattle.pas_records.specs.declared.record.{Record.Record, Said.Said}
 
 -- ---- a tick: the epoch never falls
 abbrev pub ticks : ℕ → World → World
@@ -66,4 +66,4 @@ reads_epoch w = record w { read = w.epoch }
 
 -- thread k is stopped, and that is said, where it was idle for so long
 abbrev pub stops_idle : Profile → ℕ → ℕ → World → World
-stops_idle f k n w = if nat_le ((cache_of w k).began + n) w.read then says (Record.Said 0 (Said.Stopped k)) (stops f k w) else w
+stops_idle f k n w = if nat_le ((cache_of w k).idle_since + n) w.read then says (Record.Said 0 (Said.Stopped k)) (stops f k w) else w

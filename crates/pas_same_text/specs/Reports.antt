@@ -2,7 +2,8 @@
 use Rattle.std.specs.Prelude.{ℕ, Bool, false, not, List, ◌++◌, reverse, Option, None, Some}
 use Rattle.pas_profile.specs.declared.{directory.Directory.Directory, profile.Profile.Profile}
 use Rattle.pas_machine.specs.State.{deed_in, backed_in}
-use Rattle.pas_report.specs.{Lines.lines_of, Marks.Marked, Reports.report_text}
+use Rattle.pas_records.specs.{Lines.lines_of, Marks.Marked}
+use Rattle.pas_report.specs.Reports.{report_text}
 use Rattle.pas_same_text.specs.{State.World, Pages.is_offered, Pages.is_hinted}
 
 -- a page of a directory is offered, or else parked

@@ -43,7 +43,7 @@ pub record IsSameCache (c : Cached) (own : Cache) : Type 0 where
   pub locals : AreSameLocals c.locals own.locals
   pub log : own.log ≡ c.log
   pub noted : own.noted ≡ c.noted
-  pub began : own.began ≡ c.idle_since
+  pub idle_since : own.idle_since ≡ c.idle_since
 
 -- Each actor of the region has the one that stands at its number. The threads' are in the list; a keeper may be behind its end, and caches nothing then.
 pub record AreSameCaches (f : Profile) (caches : Caches) (own : List Cache) : Type 0 where

@@ -6,8 +6,8 @@ use Rattle.pas_profile.specs.Blocks.{address_of}
 use Rattle.pas_profile.specs.declared.{event.Event.Event, name.Block.Block, name.Name.Name}
 use Rattle.pas_large.specs.declared.span.Span.{Span}
 use Rattle.pas_free_log.specs.declared.{log.Entry.Entry, noting.EndedRun.EndedRun}
-use Rattle.pas_report.specs.declared.record.Record.{Record}
 use Rattle.pas_answers.specs.Answers.{Named, named}
+use Rattle.pas_records.specs.declared.record.Record.{Record}
 
 -- A LOCAL ALLOCATOR: the slots of a class that a thread took of a page and didn't give yet, by their first grains on the page, the lowest first. In a heap
 -- that isn't shared it keeps its page: nobody else takes slots of it as long as it stays.
@@ -25,7 +25,7 @@ pub record Cache : Type 0 where
   pub locals : List Local
   pub log : List Entry
   pub noted : List EndedRun
-  pub began : ℕ
+  pub idle_since : ℕ
 
 -- A GUARD that is up: the actor that keeps it, the pages right before and right behind a block of whole pages, all grains of which that actor has, and the
 -- name of the block
@@ -89,7 +89,7 @@ names_it name block w = record w { names = named name block ∷ w.names }
 -- ---- caches
 -- that of a thread which did nothing yet
 abbrev pub no_cache : Cache
-no_cache = record { locals = []; log = []; noted = []; began = 0 }
+no_cache = record { locals = []; log = []; noted = []; idle_since = 0 }
 
 -- the k-th of some caches, from 1 on; and it has become another
 abbrev pub cache_in : List Cache → ℕ → Cache

@@ -16,11 +16,12 @@ ghost use Rattle.pas_same_text.specs.Known.{ArePlanned, IsCarried, AreKnown, Kee
 ghost use Rattle.pas_answers.specs.{Indexes.ActIsNamedBy, Indexes.indexes_after_all, Reaching.Reaches, Ways.InOrder, Answers.Progress};
 ghost use Rattle.pas_answers.specs.Replays.{IsReplay, at_start, phases_of, region_of, threads_of, keepers_of, acts_of_plan};
 ghost use Rattle.pas_same_text.specs.Order.{acts_on, opened, replayed, order_text};
-ghost use Rattle.pas_report.specs.{Lines.lines_of, Marks.marks_after, Reports.report_text, Rests.AreStamped, Rests.AreTrueMarks};
+ghost use Rattle.pas_records.specs.{Lines.lines_of, Marks.marks_after, Rests.AreStamped, Rests.AreTrueMarks};
+ghost use Rattle.pas_report.specs.Reports.{report_text};
 ghost use Rattle.pas_large.specs.{Doors.Indexes, Doors.no_ranges, Finds.MayFind, Finds.FoundRun, Finds.finding};
 ghost use Rattle.pas_trace.specs.declared.{item.Request.Request, plan.Plan.Plan};
 ghost use Rattle.pas_large.specs.Telling.{IsWholePage, IsUsablePage, HasNoUsableRun, IsLowestRun, IsNamedWhole};
-ghost use Rattle.pas_report.specs.declared.record.Record.{Record};
+ghost use Rattle.pas_records.specs.declared.record.Record.{Record};
 ghost use Rattle.pas_same_text.specs.Entries.{IsShown, IsEntryEvent, HaveOutcomes, events_of_flush, are_unsized, onto, HasShown, IsFlushOf};
 ghost use Rattle.pas_steps.specs.{Kinds.Only, Past.Always, Desks.triples, Views.has_right};
 ghost use Rattle.pas_steps.specs.Lists.{Whole, part, visible, Legal};
