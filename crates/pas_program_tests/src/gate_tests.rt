@@ -3,7 +3,7 @@ ghost use Rattle.std.specs.Prelude.{◌≤◌, length};
 
 use crate::traces::replayed_on_threads;
 use pas_profile::Event;
-use pas_report::Record;
+use pas_records::Record;
 use pas_threads::Gate;
 use std::sync::Wait;
 use std::sync::atomic::Ordering::SeqCst;

@@ -3,7 +3,7 @@
 use crate::traces::{MOST_BYTES, replayed};
 use pas_generate::trace_of;
 use pas_machine::Machine;
-use pas_report::Record;
+use pas_records::Record;
 use std::alloc::Global;
 use std::test::Fail;
 

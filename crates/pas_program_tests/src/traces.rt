@@ -2,8 +2,8 @@
 ghost use Rattle.std.specs.Prelude.{◌≤◌, length};
 
 use itoa::Buffer;
+use pas_records::Records;
 use pas_replay::{PlainKit, in_order, records_for};
-use pas_report::Records;
 use pas_steps::State;
 use pas_threads::{Gate, SharedKit, on_threads};
 use pas_top::Reallocation;

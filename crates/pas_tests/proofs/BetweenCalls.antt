@@ -10,8 +10,8 @@ use Rattle.pas_steps.specs.Desks.{Seat, Standing, AnyView, CanCall, Makes, made,
 use Rattle.pas_steps.specs.declared.step.{Made.Made, Step.TheVariants.Look}
 use Rattle.pas_steps.proofs.{Apart.no_events, Apart.only_both, Called.call_none, Called.call_then, Called.call_idly, Calls.does_none, Calls.does_then}
 use Rattle.pas_steps.proofs.{Frames.knows_still, SpareRoom.Spares, SpareRoom.spare_falls, Unknown.unknown_no_more, Nothing.nothing_yet, Noting.rest_length}
-use Rattle.pas_report.specs.Rooms.{records_in, Records, room_of}
-use Rattle.pas_report.specs.declared.record.Record.{Record}
+use Rattle.pas_records.specs.Rooms.{records_in, Records, room_of}
+use Rattle.pas_records.specs.declared.record.Record.{Record}
 use Rattle.pas_trace.specs.declared.item.Request.{Request}
 use Rattle.pas_guard.specs.Books.{Each, IsGuardOf, KnowsGuard, FitsBook, guards_in, size_of_book}
 use Rattle.pas_guard.specs.{Raises.IsRaised, Raises.IsNotRaised, Raises.guard_of, Seeks.backed_looks}

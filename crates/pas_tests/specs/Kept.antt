@@ -3,7 +3,7 @@ use Rattle.std.specs.Prelude.{ℕ, ◌+◌, ◌*◌, ◌≤◌, ◌≡◌, List,
 use Rattle.pas_profile.specs.declared.profile.Profile.{Profile}
 use Rattle.pas_steps.specs.{Calls.Calls, Calls.nothing, Calls.Does, Desks.Standing, Desks.AnyView, Kinds.Only, Unknown.unknown_pages, Views.View}
 use Rattle.pas_steps.specs.declared.step.Made.{Made}
-use Rattle.pas_report.specs.Rooms.{records_in, room_of, Records}
+use Rattle.pas_records.specs.Rooms.{records_in, room_of, Records}
 use Rattle.pas_guard.specs.{Books.FitsBook, Books.guards_in, Books.size_of_book, Seeks.backed_looks}
 use Rattle.pas_guard.specs.declared.book.GuardBook.{GuardBook}
 use Rattle.pas_answers.specs.Keeping.{owed_by_keeper}

@@ -1,7 +1,7 @@
 //! Lines of worked transcripts, read back.
 use pas_check::read_record;
 use pas_profile::{Address, Block, Directory, Event, Kind, Name, Why};
-use pas_report::{Record, Said};
+use pas_records::{Record, Said};
 
 const NAME: Name = Name {
     address: Address(4096),

@@ -8,7 +8,7 @@ ghost use Rattle.pas_tests.specs.Kept.{MayKeep, Looked};
 use pas_answers::{lower_all, try_guarded};
 use pas_guard::{Guard, GuardBook};
 use pas_profile::Word;
-use pas_report::Records;
+use pas_records::Records;
 use pas_steps::Desk;
 
 /// How many bytes each guarded request asks for: one page.

@@ -80,6 +80,8 @@ mod storms;
 #[cfg(test)]
 mod traces;
 #[cfg(test)]
+mod trading_tests;
+#[cfg(test)]
 mod turn_tests;
 #[cfg(test)]
 mod visiting;

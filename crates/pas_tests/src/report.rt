@@ -1,12 +1,10 @@
 ghost use Rattle.pas_profile.specs.Directories.{IsKind};
-ghost use Rattle.pas_report.specs.Lines.{IsShowable, CanShow};
+ghost use Rattle.pas_records.specs.Lines.{IsShowable, CanShow};
 
 use pas_io::memory::MemorySink;
 use pas_profile::{Address, Block, Directory, Event, Kind, Name, NoMemory, Profile, Why};
-use pas_report::{
-    Record, Said, event_line, has_deed_words, record_line, report, room_for_replay, said_line,
-    total_line,
-};
+use pas_records::{Record, Said, event_line, record_line, room_for_replay, said_line};
+use pas_report::{has_deed_words, report, total_line};
 use pas_steps::State;
 use std::alloc::{AllocError, Global};
 use std::test::Fail;

@@ -1,8 +1,8 @@
 ghost use Rattle.std.specs.Prelude.{All, IfOk};
-ghost use Rattle.pas_report.specs.Lines.{CanShow};
+ghost use Rattle.pas_records.specs.Lines.{CanShow};
 
 use pas_io::memory::MemorySink;
-use pas_report::{Record, Sheets, write_lines, write_lines_on};
+use pas_records::{Record, Sheets, write_lines, write_lines_on};
 use std::alloc::{AllocError, Global};
 use std::thread::Threads;
 

@@ -3,14 +3,14 @@ ghost use Rattle.std.specs.Prelude.{◌≡◌, [], IfOk};
 ghost use Rattle.pas_steps.specs.{Lists.Whole, Views.View};
 ghost use Rattle.pas_plain.specs.Storms.{StormStands};
 ghost use Rattle.pas_guard.specs.Books.{guards_in, size_of_book};
-ghost use Rattle.pas_report.specs.Rooms.{records_in, room_of};
+ghost use Rattle.pas_records.specs.Rooms.{records_in, room_of};
 ghost use Rattle.pas_tests.specs.Kept.{guarded_region, Begins};
 
 use crate::keeping::keep;
 use pas_guard::GuardBook;
 use pas_plain::{PlainPass, PlainRegion, beside, close};
 use pas_profile::{Block, Event, NoMemory, Profile};
-use pas_report::{Record, Records, Said};
+use pas_records::{Record, Records, Said};
 use pas_steps::State;
 use pas_trials::{Fault, Guest, Hands, Visit, judge};
 use pas_utility::Utility;

@@ -246,7 +246,8 @@ flushed_budget {σ} {σ'} {c} {c'} {spare} {spare'} n m few h left can =
     }
 
 -- the runs that a cache noted are no part of its rest
-pub settled_budget : {σ : Standing} {c c' : Cached} {n spare : ℕ} → c' ≡ record c { noted = [] } → CanCall σ (HasBudget σ.seat.profile c n spare) → CanCall σ (HasBudget σ.seat.profile c' n spare)
+pub settled_budget : {σ : Standing} {c c' : Cached} {n spare : ℕ} → c' ≡ record c { noted = [] } → CanCall σ (HasBudget σ.seat.profile c n spare)
+    → CanCall σ (HasBudget σ.seat.profile c' n spare)
 settled_budget {σ} {c} {n = n} {spare = spare} is can =
     let rest = can.met.rest in
     record { view = can.view; whole = can.whole; stood = can.stood; met = rw is (record { rest = record { locals = rest.locals; few = rest.few; entries = rest.entries; few_entries = rest.few_entries }; room = can.met.room }) }

@@ -9,3 +9,4 @@ pub mod Firsts
 pub mod Opened
 mod HandedOver
 pub mod Going
+mod Ended

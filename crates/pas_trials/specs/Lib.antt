@@ -7,3 +7,4 @@ pub mod Unfinished
 pub mod Races
 pub mod SharedStorms
 pub mod Handing
+pub mod Trades

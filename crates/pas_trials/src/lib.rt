@@ -3,7 +3,7 @@
 //! Sessions: one or two actors sit at a plain region after each other. Storms: an actor goes on an errand at a plain
 //! region, and before chosen ones of its steps an intruder goes on an errand for another actor; when all is quiet
 //! again, a judge looks at the words of the region and at the events of both. Threads: they work at one shared region at
-//! once.
+//! once, and two of them hand blocks to each other by channels.
 #![tactic(auto)]
 
 pub mod caching;
@@ -22,6 +22,7 @@ pub mod shared_storm;
 pub mod sharing;
 pub mod sizing;
 pub mod storming;
+mod trading;
 pub mod wanting;
 mod watching;
 pub mod workers;
@@ -41,6 +42,7 @@ pub use shared_storm::Storm;
 pub use sharing::{Allocated, allocate, fill_shared};
 pub use sizing::{borrow_and_end, end_by_rooms};
 pub use storming::{Borrower, Flusher, borrow_many};
+pub use trading::{Traded, trade_blocks};
 pub use wanting::{Findings, ask, want};
 pub use watching::{MOST_WATCHED, Watched};
 pub use workers::{StormWork, Total, gather, run_storm, storm_workers};

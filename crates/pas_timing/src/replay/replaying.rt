@@ -1,11 +1,11 @@
 //! A replay, and how long it took.
 ghost use Rattle.std.specs.Prelude.{◌≡◌, ◌≤◌, ◌+◌, ℕ, List, [], length};
 ghost use Rattle.pas_trace.specs.Plans.{IsPlanOf};
-ghost use Rattle.pas_report.specs.Rooms.{records_in, room_of};
+ghost use Rattle.pas_records.specs.Rooms.{records_in, room_of};
 ghost use Rattle.pas_answers.specs.Replays.{phases_of};
 
+use pas_records::Records;
 use pas_replay::{PlainKit, in_order, records_for};
-use pas_report::Records;
 use pas_threads::{OpenGate, SharedKit, on_threads};
 use pas_top::Reallocation;
 use pas_trace::{Plan, read_trace};

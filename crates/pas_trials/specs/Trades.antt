@@ -7,7 +7,7 @@ use Rattle.pas_free_log.specs.{Flushes.event_for, Logs.entry_of}
 use Rattle.pas_free_log.specs.declared.ending.Outcome.{Outcome}
 use Rattle.pas_shared.specs.Passes.{IsPassOf, seat_of, view_of}
 use Rattle.pas_shared.specs.declared.{desk.SharedDesk.SharedDesk, past.Past.Past, pass.SharedPass.SharedPass, region.SharedRegion.SharedRegion}
-use Rattle.pas_trading.specs.declared.trading.Traded.{Traded}
+use Rattle.pas_trials.specs.declared.trading.Traded.{Traded}
 
 -- ---- regions, by the tables of their words
 abbrev pub table_of : SharedRegion → TableId

@@ -2,10 +2,10 @@
 ghost use Rattle.std.specs.Prelude.{◌≡◌, ◌≤◌};
 ghost use Rattle.pas_steps.specs.States.{profile_of as the_profile_of};
 
-use crate::trading::{Traded, trade_blocks};
 use pas_profile::{Event, NoMemory, Profile, Word};
 use pas_shared::{close, opened_with_room};
 use pas_steps::State;
+use pas_trials::{Traded, trade_blocks};
 use std::test::Fail;
 
 const PROFILE: Profile = Profile {

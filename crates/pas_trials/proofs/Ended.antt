@@ -6,7 +6,7 @@ use Rattle.pas_steps.proofs.Frames.{events_split}
 use Rattle.pas_free_log.specs.{Flushes.EndsName, Flushes.event_for, Logs.entry_of}
 use Rattle.pas_shared.specs.Passes.{seat_of, view_of}
 use Rattle.pas_shared.specs.declared.pass.SharedPass.{SharedPass}
-use Rattle.pas_trading.specs.Trades.{standing_at, HasEnded}
+use Rattle.pas_trials.specs.Trades.{standing_at, HasEnded}
 
 -- the one view of its pass has nothing
 pub has_nothing : (pass : SharedPass) → CanCall (standing_at pass) HasNothing → HasNothing (view_of pass)

@@ -2,8 +2,8 @@ use Rattle.std.proofs.Common.{sym, subst}
 use Rattle.pas_steps.specs.{Clear.HasNothing, Desks.CanCall}
 use Rattle.pas_search.proofs.Sessions.{can_ask, bitfit_of_first}
 use Rattle.pas_shared.specs.declared.pass.SharedPass.{SharedPass}
-use Rattle.pas_trading.specs.Trades.{standing_at}
-use Rattle.pas_trading.proofs.trading.give.Goals as goal
+use Rattle.pas_trials.specs.Trades.{standing_at}
+use Rattle.pas_trials.proofs.trading.give.Goals as goal
 
 pub alloc-answer-requires-clause-directory : goal.alloc-answer-requires-clause-directory
 alloc-answer-requires-clause-directory g c = bitfit_of_first _ c.args.desk.now.pass.valid

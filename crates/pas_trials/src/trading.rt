@@ -3,7 +3,7 @@ ghost use Rattle.std.specs.Prelude.{◌≡◌, ◌≤◌, ◌+◌, IfOk, MatchOp
 ghost use Rattle.pas_steps.specs.{Clear.HasNothing, Desks.CanCall};
 ghost use Rattle.pas_free_log.specs.Flushes.{EndsName};
 ghost use Rattle.pas_shared.specs.Passes.{IsFreshPass, standing_of};
-ghost use Rattle.pas_trading.specs.Trades.{IsPastAt, HasTraded, no_table, spare_of, table_of};
+ghost use Rattle.pas_trials.specs.Trades.{IsPastAt, HasTraded, no_table, spare_of, table_of};
 
 use crossbeam_channel::{Receiver, Sender, bounded};
 use pas_bestfit::alloc;

@@ -1,5 +1,5 @@
-use Rattle.pas_trading.specs.Trades.{table_of}
-use Rattle.pas_trading.proofs.trading.trade_blocks.Given as goal
+use Rattle.pas_trials.specs.Trades.{table_of}
+use Rattle.pas_trials.proofs.trading.trade_blocks.Given as goal
 
 -- gifts are of this region
 abbrev pub ghosts-both : goal.ghosts-both
