@@ -7,7 +7,7 @@ import re
 from collections import defaultdict
 from typing import NamedTuple
 
-from traces import GRAIN, GRAINS, MOST_LOGGED, PAGE, Block, Logged
+from traces import GRAIN, GRAINS, MOST_LOGGED, PAGE, Block, Logged, last_line
 
 ALL_ONES = 2**64 - 1
 
@@ -312,8 +312,7 @@ class Judge:
             if self.lines.peek() not in {front + marks + "\n" for marks in self.marks(page)}:
                 raise Stopped
             self.lines.at += 1
-        live, ended = len(machine.live), sum(machine.ends.values())
-        self.lines.expect(f"total deeds {len(machine.deeds)} backed {len(machine.backed)} live {live} given {live + ended} ended {ended}")
+        self.lines.expect(last_line(machine))
 
     def marks(self, page):
         """The marks that a page may have, joined."""

@@ -21,6 +21,12 @@ def grains_on(address, room, page):
     return (1 << end) - (1 << first)
 
 
+def last_line(machine):
+    """The last line of a report, by the machine of a second reading."""
+    live, ended = len(machine.live), sum(machine.ends.values())
+    return f"total deeds {len(machine.deeds)} backed {len(machine.backed)} live {live} given {live + ended} ended {ended}"
+
+
 class Block(NamedTuple):
     """A block that was given, which a name stands for."""
 

@@ -14,7 +14,7 @@ from accounts import Accounts
 from orders import Undecided, find_order
 from run_lines import Wrong, parts_of
 from run_machine import Machine
-from traces import GRAIN, GRAINS, PAGE, read_trace
+from traces import GRAIN, GRAINS, PAGE, last_line, read_trace
 
 MARKS = ["backed", "offered", "parked", "hinted"]
 
@@ -72,9 +72,7 @@ def check_report(machine, texts):
         if not text.startswith(wanted):
             raise Wrong(f"the report says {text} and not {wanted}..")
         check_marks(machine, page, text[len(wanted):])
-    live, ended = len(machine.live), sum(machine.ends.values())
-    wanted = f"total deeds {len(pages)} backed {len(machine.backed)} live {live} given {live + ended} ended {ended}"
-    if texts[-1] != wanted:
+    if texts[-1] != (wanted := last_line(machine)):
         raise Wrong(f"the report says {texts[-1]} and not {wanted}")
 
 

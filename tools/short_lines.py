@@ -4,9 +4,10 @@
 Of the .antt files of specs/ and proofs/ (or of those named) the lines that state something: what stands behind a name and
 a colon, and the parameters of a `module`. A statement is broken before an arrow, a head between two parameters, so that
 each line holds as many as fit. Where one of them alone is too wide, it is broken at its own arrows, or before a `×`, `⊎`
-or a relation, inside its brackets if need be, two columns further in. What can't be broken so stays as it is, and bodies
-are left alone, but for --bodies N: the N widest lines of bodies that fit into two are broken, behind an `in`, an `=` or a `↦`, or
-before a `∙` or an argument. Records, arms and texts in quotes stay whole.
+or a relation, inside its brackets if need be, two columns further in, or else before its arguments in brackets. What
+can't be broken so stays as it is. Bodies are left alone, but for --bodies N: the N widest lines of bodies that fit into
+two are broken, behind an `in`, an `=` or a `↦`, or before a `∙` or an argument. Records, arms and texts in quotes stay
+whole.
 
 With --check nothing is written. A line tells of each file how many lines were too wide and how many still are. The status
 is 1 where something was, or would be, changed.
@@ -31,6 +32,7 @@ NO_HEAD = set("in = ↦ ∙ let λ then else if → × ⊎ ≡ ≤ < , ; ∷ ++ 
 # How deep in brackets a body is broken at most, and how long the two parts are at least.
 DEEPEST, LEAST_FIRST, LEAST_REST = 2, 24, 12
 PARAMETER = re.compile(r"[({][^\s(){}]+(?: [^\s(){}:]+)* : ")
+RECORD = re.compile(r"record (?:[\w.']+ |\([^(){}]*\) )?\{[^{}]*\}")
 
 
 def parts_of(text: str, joint: str) -> list[str]:
@@ -58,6 +60,26 @@ def parameters_of(text: str) -> list[str]:
             depth += 1
         elif letter in CLOSED:
             depth -= 1
+    return [*parts, text[begin:]]
+
+
+def arguments_of(text: str) -> list[str]:
+    """The text cut before each argument in round brackets, if it has one, or else of the widest application in it that has two."""
+    for first, last in [(-1, len(text)), *(it for it in inside(text) if text[it[0]] == "(")]:
+        parts = bracketed_of(text[first + 1 : last])
+        if len(parts) > (1 if first < 0 else 2):
+            return [text[: first + 1] + parts[0], *parts[1:-1], parts[-1] + text[last:]]
+    return [text]
+
+
+def bracketed_of(text: str) -> list[str]:
+    """The text cut before each argument in round brackets that stands outside brackets."""
+    depth, begin, parts = 0, 0, []
+    for at, letter in enumerate(text):
+        if letter == "(" and depth == 0 and at > begin and text[at - 1] == " ":
+            parts.append(text[begin:at].rstrip())
+            begin = at
+        depth += (letter in OPENED) - (letter in CLOSED)
     return [*parts, text[begin:]]
 
 
@@ -97,7 +119,8 @@ def broken(text: str, indent: str, further: str) -> list[str]:
             if len(parts) > 1:
                 parts[0], parts[-1] = text[: first + 1] + parts[0], parts[-1] + text[last:]
                 return wrapped(parts, indent, f"{further}  ")
-    return [indent + text]
+    parts = arguments_of(text) if '"' not in text else [text]
+    return filled(parts, indent, further) if len(parts) > 1 else [indent + text]
 
 
 def wrapped(parts: list[str], indent: str, further: str) -> list[str]:
@@ -151,7 +174,8 @@ def rewritten(lines: list[str]) -> list[str]:
             told += of_module(line) if len(line) > WIDTH and bare == line else [line]
             in_statement = False
         elif STATED.match(line) and not line.lstrip().startswith(("let ", "record {", "--")) and " = " not in line.split(" : ", 1)[0]:
-            is_field = " = " in bare and not re.search(r"\([^()]* = ", bare)
+            told_of = RECORD.sub("", bare)
+            is_field = " = " in told_of and not re.search(r"\([^()]* = ", told_of)
             told += of_statement(line) if len(line) > WIDTH and bare == line and not is_field else [line]
             in_statement = True
         elif in_statement and re.match(r" +→ ", line):

@@ -32,8 +32,8 @@ TYPES = {
     "What": "pas_trace/src/plan.rt",
     "Act": "pas_trace/specs/Acts.antt",
     "Event": "pas_profile/src/event.rt",
-    "Record": "pas_report/src/record.rt",
-    "Said": "pas_report/src/record.rt",
+    "Record": "pas_records/src/record.rt",
+    "Said": "pas_records/src/record.rt",
     "Kind": "pas_profile/src/directory.rt",
     "Route": "pas_profile/src/directory.rt",
 }
@@ -46,6 +46,7 @@ SIGNATURE = re.compile(r"\s*(?:(?:pub|abbrev|unfoldable) )*([\w'-]+) :(?: |$)")
 FAMILY = re.compile(r"\s*(?:pub )?data ([\w'-]+)\b.* where\s*$")
 USE = re.compile(r"(?m)^use ([\w.]+?)(?: as (\w+)|\.\{([^}]*)\})")
 GROUP = re.compile(r"(?m)^use ([\w.]+)\.\{([^}]*)\}")
+PASSED = re.compile(r"(?m)^use Rattle\.(\w+)\.proofs\.Common\.\{([^}]*)\}$")
 STRING = re.compile(r"""b?'[{}()\[\]]'|"(?:\\.|[^"\\])*\"""", re.S)
 
 
@@ -90,7 +91,21 @@ def text_of(path):
     """A file without its comments and with a line for each import, and code without its strings."""
     mark = "//" if path.suffix == ".rt" else "--"
     text = re.sub(rf"(?m)(?:^|(?<=\s)){mark}.*$", "", path.read_text(encoding="utf-8"))
-    return STRING.sub("_", text) if path.suffix == ".rt" else GROUP.sub(spread, text)
+    return STRING.sub("_", text) if path.suffix == ".rt" else PASSED.sub(declared, GROUP.sub(spread, text))
+
+
+@functools.cache
+def common_of(crate):
+    """Of each name that a crate's own Common passes on: the module that it has it from."""
+    path = CRATES / crate / "proofs/Common.antt"
+    lines = path.read_text(encoding="utf-8").replace("pub use ", "use ") if path.is_file() else ""
+    return {name: module for module, alias, name in USE.findall(GROUP.sub(spread, lines))}
+
+
+def declared(line):
+    """The line that brings a name from its module, for one that brings it from the Common of a crate."""
+    module = common_of(line[1]).get(line[2].partition(" as ")[0])
+    return f"use {module}.{{{line[2]}}}" if module else line[0]
 
 
 def type_of(name):
