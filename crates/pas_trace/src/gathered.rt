@@ -60,8 +60,8 @@ impl Whole {
 }
 
 impl Coded {
-    /// Adds an operation to the present phase.
-    #[inline(never)]
+    /// Adds an operation to the present phase. In line, an operation is coded where it was read, and never stands whole.
+    #[inline(always)]
     fn add(&mut self, op: Op) -> Result<(), AllocError>
         ensures { OnOk result (scripted_phases self.new ≡ add_last (Some (unlined op)) (scripted_phases self.old)) }
     {
