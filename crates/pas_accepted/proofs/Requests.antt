@@ -345,7 +345,8 @@ module _ (f : Profile) (valid : IsValid f) (p : Progress) (s : Stand) (ts : List
 
   module _ (r : Request) (old : Name) (placed : Answer) (is : IsServed f k r (having p.names (part k p.list) (p.caches k)) placed) (freed : List Made)
       (steps_are : a.steps ≡ freed ++ placed.steps)
-      (said_is : a.said ≡ placed.said) (names_are : a.names ≡ placed.names) (begun : LeadsOn f s [] (serving (record s { left = ts }) k r (Some old) s.events)) where
+      (said_is : a.said ≡ placed.said) (names_are : a.names ≡ placed.names)
+      (begun : LeadsOn f s [] (serving (record s { left = ts }) k r (Some old) s.events)) where
     legal_both : Legal f (triples k (freed ++ placed.steps) ++ p.list)
     legal_both = subst (λ ms. Legal f (triples k ms ++ p.list)) steps_are legal
 
@@ -638,7 +639,8 @@ raise_epoch f k heap n guards left answer steps l is =
 -- ---- A GUARDED REQUEST, as its keeper tried it
 module _ (f : Profile) (valid : IsValid f) (p : Progress) (s : Stand) (ts : List Task) (tells : Tells p s) (keeper k : ℕ) (r : Request) (t : Tried)
     (is : IsTried f keeper r (part keeper p.list) (p.books keeper) t)
-    (legal : Legal f (triples keeper t.steps ++ p.list)) (begun : LeadsOn f s [] (record (sweeping s keeper false (Tries keeper k r false ∷ [])) { left = ts })) where
+    (legal : Legal f (triples keeper t.steps ++ p.list))
+    (begun : LeadsOn f s [] (record (sweeping s keeper false (Tries keeper k r false ∷ [])) { left = ts })) where
   abbrev n : ℕ
   n = pages_of (wanted_by f r)
 

@@ -517,6 +517,7 @@ module _ (f : Profile) (n : ℕ) where
       → kept_next o other s keeper k r backed more ≡ kept_next o f s keeper k r backed more
   kept_same o s keeper k r backed more = search arith
 
+  -- an outcome goes by the threads of no profile
   outcome_of : (s : Stand) (last : ℕ) (more : List Due) (line : List ℕ) (next : Stand) → TakesOutcome other s last more line next
       → TakesOutcome f s last more line next
   outcome_of s last more line next h =

@@ -58,7 +58,8 @@ sum_of_ops most (op ∷ ops) = most op + sum_of_ops most ops
 -- each operation's acts cost at most `most` of it, and a mark `mark`
 module _ (f : Profile) (cost : Act → ℕ) (most : Op → ℕ) (mark : ℕ)
     (each : (idle : List ℕ) (op : Op) → length idle ≤ f.threads → IsActorOf f op.what op.actor → sum_over cost (acts_of_op idle op) ≤ most op)
-    (wakes : (k : ℕ) → cost (Wakes k) ≡ 0) (ends : (k : ℕ) → cost (Ends k) ≡ 0) (lowers : (k : ℕ) → cost (Lowers k) ≡ 0) (phase : (n : ℕ) → cost (MarksPhase n) ≡ mark) (close : cost MarksClose ≡ mark) where
+    (wakes : (k : ℕ) → cost (Wakes k) ≡ 0) (ends : (k : ℕ) → cost (Ends k) ≡ 0) (lowers : (k : ℕ) → cost (Lowers k) ≡ 0)
+    (phase : (n : ℕ) → cost (MarksPhase n) ≡ mark) (close : cost MarksClose ≡ mark) where
   of_ops : (idle : List ℕ) (ops : List Op) → length idle ≤ f.threads → ArePlanned f ops → sum_over cost (acts_of_ops idle ops) ≤ sum_of_ops most ops
   of_ops idle [] few all = omega arith
   of_ops idle (op ∷ ops) few all =

@@ -114,7 +114,8 @@ then_others a acts rest = search arith
 
 -- The acts of worker k are `whole` of the operations, where that has the acts of each operation of actor k.
 module _ (f : Profile) (owner : Owners) (k : ℕ) (idle : List ℕ) (whole : List Op → List Act) (none : whole [] ≡ [])
-    (next : (op : Op) (ops : List Op) → IsActorBy f (work_of op.what) op.actor → whole (op ∷ ops) ≡ (if op.actor == k then acts_of_op idle op ++ whole ops else whole ops)) where
+    (next : (op : Op) (ops : List Op) → IsActorBy f (work_of op.what) op.actor → whole (op ∷ ops)
+    ≡ (if op.actor == k then acts_of_op idle op ++ whole ops else whole ops)) where
   of_ops : (asked : List ℕ) (ops : List Op) → OwnThemselves owner ops → AreSound f asked ops → acts_by owner k (acts_of_ops idle ops) ≡ whole ops
   of_ops asked [] own sound = sym none
   of_ops asked (op ∷ ops) own sound =

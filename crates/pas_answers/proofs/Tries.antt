@@ -357,7 +357,8 @@ module _ {σ σ1 : Standing} {said said' : List Record} {guards1 : List Guard} (
 -- ---- what both calls come to
 module _ {σ σ1 σ2 : Standing} (r : Request) (book book1 book2 : GuardBook) (out out1 : Records) (answer : Option Block) (n : ℕ)
     (is : n ≡ (r.size + 4096 - 1) / 4096) (large : 2048 < r.size)
-    (s : Sweeps false (guards_in book) (guards_in book1) (records_in out) (records_in out1) σ σ1) (u : Raises r.heap n (guards_in book1) (guards_in book2) σ1 σ2 answer) where
+    (s : Sweeps false (guards_in book) (guards_in book1) (records_in out) (records_in out1) σ σ1)
+    (u : Raises r.heap n (guards_in book1) (guards_in book2) σ1 σ2 answer) where
   abbrev guards1 : List Guard
   guards1 = guards_in book1
 

@@ -319,7 +319,8 @@ module _ {f : Profile} {text : List ℕ} {old : Judge} {from to : Cursor} {k : �
   served_amiss machine taken = record { come = λ enough. subst (λ g. Fails g text s from to.lines) stands.profile (taken s r replaced [] (asked wants stands due fits)) }
 
   module _ (machine : Machine) (names : Names) (found : Option Block) (profile : profile_of machine ≡ profile_of old.machine)
-      (sets : (n : ℕ) → meant names n ≡ (if w.name == n then Some found else meant old.names n)) (taken : RequestTaken old.machine machine text from to k w (Some found)) where
+      (sets : (n : ℕ) → meant names n ≡ (if w.name == n then Some found else meant old.names n))
+      (taken : RequestTaken old.machine machine text from to k w (Some found)) where
     abbrev made : Stand
     made = record s { events = (taken s r replaced [] (asked wants stands due fits)).0 }
 

@@ -330,6 +330,7 @@ parked_page f l legal p h = deed_has_page f l legal p (parked_has_deed f l legal
 hint_if : (f : Profile) (x was : Bool) (q p : ℕ) → (q == p) ≡ x → IsPage f q → (was ≡ true → IsPage f p) → (if x then true else was) ≡ true → IsPage f p
 hint_if f x was q p e of h set = grind (arith, eqb-true)
 
+-- What is hinted as empty after a step is a page of the region, as what was hinted before it is.
 hint_next : (f : Profile) (e : ℕ) (s : Step) (p old : ℕ) → IsStepOf f s → (has_bit old (p % 64) ≡ true → IsPage f p)
     → has_bit (next_value e s (Word.Empty (p / 64)) old) (p % 64) ≡ true → IsPage f p
 hint_next f e s p old of h set = search (arith, hint_if, page_bit-set, was_set, page_bit-clear)

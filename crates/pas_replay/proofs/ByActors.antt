@@ -187,7 +187,8 @@ pub operate_turn : {r more : _} {op : Op} {desk desk1 desk2 passes passes1 cache
     (came : Option Block) (there cache : ThreadCache)
     → op.actor ≡ k → 1 ≤ k → k ≤ length caches → TakesSeat desk desk1 passes passes1 k → there ≡ get_or caches (k - 1) there
     → IsAt r (upon r (Operates op ∷ (Settles op.actor ∷ [])) more) (hand desk passes caches books places indexes table out) p
-    → ActsByIndexes r.profile op.actor op indexes indexes' (named_by op.what came) (here (standing_of desk1) (cached there) out) (here (standing_of desk2) (cached cache) out') (later_for r op.actor p more 0) p
+    → ActsByIndexes r.profile op.actor op indexes indexes' (named_by op.what came) (here (standing_of desk1) (cached there) out)
+    (here (standing_of desk2) (cached cache) out') (later_for r op.actor p more 0) p
     → HasNamed op came table table' → MayStand r.profile came
     → IsTaken desk2 passes1 × SoFar r more (hand desk2 passes1 (set caches (k - 1) cache) books places indexes' table' out')
 operate_turn {r} {more} {op} {desk1 = desk1} {desk2} {caches = caches} {indexes = indexes} {indexes'} {table = table} {table'} {out} {out'} {p} k came there cache mine some within seat is at acted named stands =

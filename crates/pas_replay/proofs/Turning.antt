@@ -545,7 +545,8 @@ pub record Turned (r : Replay) (k : ℕ) (acts more : List Act) (indexes indexes
   pub free : (j : ℕ) → j ≢ k → own_events r.threads r.profile j more ≤ own_events r.threads r.profile j acts
 
 -- what the actors of the replay have in hand beside desk and passes
-pub record HaveInHand (r : Replay) (more : Left) (caches : List ThreadCache) (books : List GuardBook) (places : ℕ) (table : Names) (out : Records) (q : Progress) : Type 0 where
+pub record HaveInHand (r : Replay) (more : Left) (caches : List ThreadCache) (books : List GuardBook) (places : ℕ) (table : Names) (out : Records)
+    (q : Progress) : Type 0 where
   pub many : length caches ≡ r.threads
   pub kept : length books ≡ r.keepers
   pub operate : AreOfThreads r.threads more.acts

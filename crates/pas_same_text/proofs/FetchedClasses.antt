@@ -36,7 +36,8 @@ pub record HasPlace (f : Profile) (k heap class : ℕ) (p : Progress) (w : World
   pub place : length (p.caches k).locals < 32
 
 -- Thread k, at rest, fetched slots of the class by these steps, which came onto a legal list, or found none. These local allocators are left where place was made.
-pub record IsFetched (f : Profile) (k heap class : ℕ) (p : Progress) (w : World) (found : Result Slots NoRoom) (fewer : List Slots) (steps : List Made) : Type 0 where
+pub record IsFetched (f : Profile) (k heap class : ℕ) (p : Progress) (w : World) (found : Result Slots NoRoom) (fewer : List Slots)
+    (steps : List Made) : Type 0 where
   pub valid : IsValid f
   pub thread : IsThread f k
   pub listed : k ≤ length w.caches

@@ -52,7 +52,8 @@ fewer_one : (k epoch : ℕ) (entry : Entry) (o : Outcome) (es : List Event) → 
 fewer_one k epoch entry o es = search arith
 
 -- ==== HOW FAR A FLUSH IS: from the state w and the list l on, these entries took effect by these steps, and the text is at v
-pub record IsFlushedTo (f : Profile) (k e : ℕ) (l : Whole) (w : World) (c : Cached) (caches : Caches) (settled : List Settled) (steps : List Made) (v : World) : Type 0 where
+pub record IsFlushedTo (f : Profile) (k e : ℕ) (l : Whole) (w : World) (c : Cached) (caches : Caches) (settled : List Settled) (steps : List Made)
+    (v : World) : Type 0 where
   pub events : v.events ≡ visible (triples k steps ++ l)
   pub live : v.live ≡ lives_in v.events
   pub names : v.names ≡ w.names

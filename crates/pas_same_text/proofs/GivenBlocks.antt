@@ -75,7 +75,8 @@ at_ready k d page (e ∷ es) all = (at e all.0, at_ready k d page es all.1)
 
 -- ---- the give
 -- Actor k gave the block with this address, room and heap by the last event of these steps, which lead from p to q. The text's state at p is w.
-pub record GivesBlock (f : Profile) (k : ℕ) (p q : Progress) (w : World) (steps : List Made) (es : List Event) (block : Block) (address room heap : ℕ) : Type 0 where
+pub record GivesBlock (f : Profile) (k : ℕ) (p q : Progress) (w : World) (steps : List Made) (es : List Event) (block : Block)
+    (address room heap : ℕ) : Type 0 where
   pub valid : IsValid f
   pub same : IsSame f p w
   pub there : IsBetween f q

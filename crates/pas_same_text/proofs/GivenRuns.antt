@@ -176,7 +176,8 @@ module _ {f : Profile} {k heap first m low n : ℕ} {p q : Progress} {w : World}
 
     module _ (v : World) (now : HasSame f q v) (uses : UsesOnly p q in_all) (deeds : (x : ℕ) → deed_in v.events x ≡ deed_in (shown es w).events x)
         (hinted : v.hinted ≡ w.hinted)
-        (listed : (x : ℕ) (e : Directory) → in_all x ≡ false → has_number made x ≡ true → IsDirectoryOf f e → eligible_bit q.list (number_of e) x ≡ true → is_offered v e x ≡ true) where
+        (listed : (x : ℕ) (e : Directory) → in_all x ≡ false → has_number made x ≡ true → IsDirectoryOf f e → eligible_bit q.list (number_of e) x ≡ true
+        → is_offered v e x ≡ true) where
       -- No deed was made on a page that isn't the piece's.
       unlisted : (x : ℕ) → mine x ≡ false → has_number made x ≡ false
       unlisted x out = false_from_ne_true (has_number made x) (λ h. true≢false (sym (or_right (in_all x) (has_number made x) h) ∙ out))

@@ -66,7 +66,8 @@ module _ (f : Profile) (k : ℕ) (l : Whole) (d : Directory) (n : ℕ) (found : 
 
 -- ---- THE REQUEST
 module _ (f : Profile) (k name heap size align : ℕ) (p : Progress) (a : Answer) (w : World) (admitted : IsAdmitted f size align heap)
-    (route : route_in f size align ≡ Route.Large) (asked : HasAsked f k (record { name = name; heap = heap; size = size; align = align }) p a w) (named_is : a.found ≡ found_in w.indexes heap (room_in f size align / 4096)) where
+    (route : route_in f size align ≡ Route.Large) (asked : HasAsked f k (record { name = name; heap = heap; size = size; align = align }) p a w)
+    (named_is : a.found ≡ found_in w.indexes heap (room_in f size align / 4096)) where
   abbrev c : Cached
   c = p.caches k
 

@@ -16,9 +16,12 @@ use Rattle.pas_same_text.proofs.MissedGuards.{all_listed, deed_listed, guards_mo
 use Rattle.pas_same_text.proofs.GivenBlocks.{block_is, epoch_now, events_now, live_now, names_now, ready_deeds, ready_gives, records_now}
 
 module _ (name : ℕ) {f : Profile} {k heap n : ℕ} {p q : Progress} {w : World} {xs rest : List Made} {block : Block} {guards' : List BookGuard}
-    (s : IsSought f k heap n p w xs) (run : IsRaised f (large_of heap) n (p.books k) guards' xs rest block) (there : IsBetween f q) (list : q.list ≡ triples k (rest ++ xs) ++ p.list)
-    (caches : q.caches ≡ p.caches) (own_book : q.books k ≡ guards') (other_books : (j : ℕ) → (j == k) ≡ false → q.books j ≡ p.books j) (names : q.names ≡ named name (Some block) ∷ p.names)
-    (records : q.records ≡ p.records ++ (records_of (events_by k (part k p.list) (rest ++ xs)) ++ Record.Said k (Said.Guarded run.first (run.first + n + 1) name) ∷ [])) (epoch : q.epoch ≡ p.epoch) where
+    (s : IsSought f k heap n p w xs) (run : IsRaised f (large_of heap) n (p.books k) guards' xs rest block) (there : IsBetween f q)
+    (list : q.list ≡ triples k (rest ++ xs) ++ p.list)
+    (caches : q.caches ≡ p.caches) (own_book : q.books k ≡ guards') (other_books : (j : ℕ) → (j == k) ≡ false → q.books j ≡ p.books j)
+    (names : q.names ≡ named name (Some block) ∷ p.names)
+    (records : q.records ≡ p.records ++ (records_of (events_by k (part k p.list) (rest ++ xs)) ++ Record.Said k
+    (Said.Guarded run.first (run.first + n + 1) name) ∷ [])) (epoch : q.epoch ≡ p.epoch) where
   abbrev d : Directory
   d = large_of heap
 

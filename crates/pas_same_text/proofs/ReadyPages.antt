@@ -69,6 +69,7 @@ module _ (k : ℕ) (d : Directory) (page : ℕ) where
   event_at epoch m (inl quiet) = subst IsShownAt (sym (quiet k epoch)) tt
   event_at epoch m (inr own) = own_event epoch m.answer m.step own
 
+  -- Where all events are of one page, so are all with one of that page more.
   next_at : (o : Option Event) (es : List Event) → IsShownAt o → AllAtPage k d page es → AllAtPage k d page (with_event o es)
   next_at None es at all = all
   next_at (Some e) es at all = (at, all)

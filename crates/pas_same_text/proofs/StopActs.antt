@@ -217,7 +217,8 @@ module _ (f : Profile) (k : ℕ) (p : Progress) (steps : List Made) (c' : Cached
 
 module _ (f : Profile) (k : ℕ) (p : Progress) (w : World) (flushed stopped : List Made) (c' : Cached) (valid : IsValid f) (thread : IsThread f k)
     (listed : k ≤ length w.caches) (before : IsBetween f p) (same : IsSame f p w) (usable : AreBlocksUsable (visible p.list))
-    (h : EmptiesLog k (p.caches k).log (p.caches k).noted c'.noted flushed) (each : StopsEach (p.caches k).locals stopped) (kinds : Only releasing stopped) (silent : (v : View) → events_by k v stopped ≡ [])
+    (h : EmptiesLog k (p.caches k).log (p.caches k).noted c'.noted flushed) (each : StopsEach (p.caches k).locals stopped) (kinds : Only releasing stopped)
+    (silent : (v : View) → events_by k v stopped ≡ [])
     (cache : c' ≡ record (p.caches k) { locals = []; log = []; noted = c'.noted }) (after : IsBetween f (with_steps p k (stopped ++ flushed) c')) where
   abbrev p' : Progress
   p' = with_steps p k (stopped ++ flushed) c'

@@ -76,7 +76,8 @@ module _ {Found : Type 0} (rule : Rule Found) (page : ℕ) (d : Directory) (r : 
     -- ---- nothing fits, and nothing is held
     module _ (none : (b : ℕ) → b < 256 → kept b ≡ false) (unfit : rule.no_fit r)
         (empty : (before : List Made) → GotBefore page before → HoldsNone page (p.steps ++ before))
-        (not_free : (v : View) → MayServe page d v → Agreed σ.seat.profile v p.steps → ((g : ℕ) → g / 256 ≡ page → known_free v g ≡ true) → ⊥) (short : length p.steps + 11 ≤ rule.steps) {σ2 : Standing} (left : Leaves page d σ1 σ2) where
+        (not_free : (v : View) → MayServe page d v → Agreed σ.seat.profile v p.steps → ((g : ℕ) → g / 256 ≡ page → known_free v g ≡ true) → ⊥)
+        (short : length p.steps + 11 ≤ rule.steps) {σ2 : Standing} (left : Leaves page d σ1 σ2) where
       none_on : (g : ℕ) → on_page page kept g ≡ false
       none_on g = and_right (page == g / 256) (kept (g % 256)) (none (g % 256) (omega arith))
 

@@ -139,6 +139,7 @@ view_in (Listed (p ∷ ps)) = p.made
 view_in (Settled es ps) = []
 view_in (Benched rs) = []
 
+-- the first of the actors that a roster lists, and 0 where it lists none
 abbrev pub actor_in : Roster → ℕ
 actor_in (Unused n) = 0
 actor_in (Listed []) = 0

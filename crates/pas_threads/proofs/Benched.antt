@@ -230,7 +230,8 @@ lent_at {f} {k} {later} {p} desk lent seated bench member at =
 module _ {f : Profile} {k : ℕ} {r : Request} {block : Option Block} {later : LaterKept} {p : Progress} {book : GuardBook} {out : Records}
     (desk lent after : BenchDesk) (seated : Seated)
     (region : lent.region.now ≡ desk.region.now) (bench : lent.place.bench ≡ desk.place.bench) (member : lent.place.member ≡ seated.member)
-    (tries : KeeperTries f k r block (keeper_has (standing_on lent.place.bench lent.place.member) seated.book seated.out) (keeper_has (standing_on after.place.bench after.place.member) book out) later p)
+    (tries : KeeperTries f k r block (keeper_has (standing_on lent.place.bench lent.place.member) seated.book seated.out)
+    (keeper_has (standing_on after.place.bench after.place.member) book out) later p)
     (home : home_of after.region.now (row_on after.place.bench) ≡ home_of lent.region.now (row_on lent.place.bench))
     (stood : StandsAt (standing_on desk.place.bench desk.place.member) p.list) (other : desk.place.member.actor ≢ k) where
   -- the thread may sit down again
@@ -537,7 +538,8 @@ module _ {region : SharedRegion} {book : NameBook} {worker : Worker} {ops : List
   begins = subst (λ n. PairAt f n other (own_acts n ops) (standing_on bench member) (kept_by book worker) kept_before m.later m.more p) (sym here.thread.sits.actor) here
 
   module _ (after : BenchDesk) (has : Keeps) (there : Option Seated)
-      (works : Works member.actor (standing_on bench member) (standing_on after.place.bench after.place.member) has kept_before (kept_seated after.region.now after.place.bench there))
+      (works : Works member.actor (standing_on bench member)
+      (standing_on after.place.bench after.place.member) has kept_before (kept_seated after.region.now after.place.bench there))
       (home : home_of after.region.now (row_on after.place.bench) ≡ home_of desk.region.now (row_on bench)) where
     abbrev kept_after : Keeping
     kept_after = kept_seated after.region.now after.place.bench there

@@ -433,7 +433,8 @@ leads_as {s} {all} {acts} {acts'} {stages} {stages'} {p} {so_far} one two leads 
 
 -- After n phases of all: these are left. There is room for a mark before each of them, and for that of the close. Before the first phase there is no
 -- record. The steps so far stand in the ledger.
-pub record AfterPhases (region : SharedRegion) (s : Session) (all : List (List Op)) (n : ℕ) (left : List (List Op)) (team : Team) (so_far : Whole) (out : Records) : Type 0 where
+pub record AfterPhases (region : SharedRegion) (s : Session) (all : List (List Op)) (n : ℕ) (left : List (List Op)) (team : Team) (so_far : Whole)
+    (out : Records) : Type 0 where
   pub p : Progress
   pub team_at : TeamAt region s left team p
   pub written : AreWritten s p.records (records_in out)
@@ -476,7 +477,8 @@ as_last {region} {s} {all} {team} {so_far} {out} phases i le so = rw drop_of_len
 
 -- ---- a phase
 -- its mark was written, where it has one
-pub record BeforePhase (region : SharedRegion) (s : Session) (all : List (List Op)) (n : ℕ) (ops : List Op) (rest : List (List Op)) (team : Team) (so_far : Whole) (out : Records) : Type 0 where
+pub record BeforePhase (region : SharedRegion) (s : Session) (all : List (List Op)) (n : ℕ) (ops : List Op) (rest : List (List Op)) (team : Team)
+    (so_far : Whole) (out : Records) : Type 0 where
   pub p : Progress
   pub at : PhaseAt region s ops rest (length rest + 1) team out p
   pub leads : Leads s all (phase_acts s.threads ops ++ acts_left s.threads s.keepers (n + 1) rest)

@@ -319,7 +319,8 @@ order_as {one} {other} same o = search (arith, steps_by_same)
 
 -- ---- leaving
 -- the first ones left, up to this place
-pub record LeftSoFar (region : SharedRegion) (s : Shift) (all : List ℕ) (base : List Entry) (i : ℕ) (old now : List Worker) (rows : List Row) (p : Progress) : Type 0 where
+pub record LeftSoFar (region : SharedRegion) (s : Shift) (all : List ℕ) (base : List Entry) (i : ℕ) (old now : List Worker) (rows : List Row)
+    (p : Progress) : Type 0 where
   pub each : (j : ℕ) (d : Worker) → j < i → j < length old → IsLent region s j (get_or now j d) p × IsButPlace (get_or old j d) (get_or now j d)
   pub left : (j : ℕ) (d : Worker) → i ≤ j → get_or now j d ≡ get_or old j d
   pub actors : List ℕ

@@ -188,7 +188,8 @@ handed {f} {ops} {book} {k} {new} {gathered} {names} same over = record {
 
 -- ---- the scavenger
 -- It rested before the phase, and did its operations of it, as its worker's share of the whole phase has them.
-pub record ScavengerShare (region : SharedRegion) (r : Round) (old new : Scavenger) (p : Progress) (left : List Op) (said : List Record) (reached : Progress) : Type 0 where
+pub record ScavengerShare (region : SharedRegion) (r : Round) (old new : Scavenger) (p : Progress) (left : List Op) (said : List Record)
+    (reached : Progress) : Type 0 where
   pub acts : List Act
   pub own : Came r.profile acts r.start
   pub rests : ScavengerRests region r.profile old (own_records (planned_in r) 0 (r.ops ++ left)) p

@@ -345,7 +345,8 @@ team_ready {region} {s} awake {team} {p} ops rest team1 at woke workers scavenge
 
 -- ---- what a phase begins with
 -- its threads read the epoch and its names are noted: all hands are ready
-pub record HasBegun (region : SharedRegion) (s : Session) (awake : Mask4) (ops : List Op) (rest : List (List Op)) (team team1 : Team) (p : Progress) : Type 0 where
+pub record HasBegun (region : SharedRegion) (s : Session) (awake : Mask4) (ops : List Op) (rest : List (List Op)) (team team1 : Team)
+    (p : Progress) : Type 0 where
   pub woke : WokeAll region s.profile awake team.threads.items team1.threads.items (λ k. own_records (planned s) k (all_ops (ops ∷ rest))) p
   pub workers : WorkersRest region s (all_ops (ops ∷ rest)) team1.threads.items woke.turns.came.reached
   pub scavenger : team1.scavenger ≡ team.scavenger

@@ -206,7 +206,8 @@ abbrev pub acts_in_turn : {f : Profile} {number : ℕ → ℕ} {Stands : ℕ →
     {old now : List Worker} {later : Later} {p : Progress} {σ τ : Standing}
     → Stays number Stands → AreDistinct number (length old) → EachOf 0 told
     → (i : ℕ) (d w : Worker) → i < length old → length now ≡ length old → (so : TookTurns f number Stands acts old now p)
-    → (x : ThreadActs f (number i) (act ∷ []) [] told (here σ (cached (get_or now i d).cache) (get_or now i d).out) (here τ (cached w.cache) w.out) later so.came.reached)
+    → (x : ThreadActs f (number i) (act ∷ []) [] told (here σ (cached (get_or now i d).cache) (get_or now i d).out)
+    (here τ (cached w.cache) w.out) later so.came.reached)
     → w.requests ≡ (get_or now i d).requests → w.keeper ≡ (get_or now i d).keeper → Stands i w x.reached
     → TookTurns f number Stands (acts ++ (act ∷ [])) old (set now i w) p
 acts_in_turn {f} {number} {Stands} {act = act} {told} {old} {now} stays apart theirs i d w lt many so x requests keeper stands =

@@ -126,28 +126,29 @@ take_all-requires g c =
 
 -- ---- the team behind it
 module _ (g : Over) (c : After-take_all g)
-    (left : (with_items (with_items c.perform_and_hear-team.result.threads c.gather.new.threads) c.gather_kept.new.threads).items ≡ c.gather_kept.new.threads) where
-  abbrev team2 : Team
-  team2 = c.perform_and_hear-team.result
+    (left : (with_items (with_items c.perform_and_hear-team.result.threads c.gather.new.threads) c.gather_kept.new.threads).items ≡ c.gather_kept.new.threads)
+  where
+    abbrev team2 : Team
+    team2 = c.perform_and_hear-team.result
 
-  abbrev team3 : Team
-  team3 = record team2 {
-    threads = with_items (with_items (with_items team2.threads c.gather.new.threads) c.gather_kept.new.threads) c.take_all.new.workers;
-    scavenger = record team2.scavenger { out = c.append.new.other };
-    book = c.take_all.new.book;
-  }
+    abbrev team3 : Team
+    team3 = record team2 {
+      threads = with_items (with_items (with_items team2.threads c.gather.new.threads) c.gather_kept.new.threads) c.take_all.new.workers;
+      scavenger = record team2.scavenger { out = c.append.new.other };
+      book = c.take_all.new.book;
+    }
 
-  -- The workers once their blocks were taken over.
-  last : team3.threads.items ≡ c.take_all.new.workers
-  last = with_items_is (with_items (with_items team2.threads c.gather.new.threads) c.gather_kept.new.threads) c.take_all.new.workers (c.take_all.ensures.many ∙ c.deref_mut-5.ensures.len)
+    -- The workers once their blocks were taken over.
+    last : team3.threads.items ≡ c.take_all.new.workers
+    last = with_items_is (with_items (with_items team2.threads c.gather.new.threads) c.gather_kept.new.threads) c.take_all.new.workers (c.take_all.ensures.many ∙ c.deref_mut-5.ensures.len)
 
-  -- The blocks of all workers were taken over into the book.
-  taken : WereTaken c.gather_kept.new.threads c.take_all.new.workers team2.book team3.book
-  taken = were_taken (c.deref_mut-5.ensures.value ∙ left) c.take_all.ensures.taken c.take_all.ensures.room c.take_all.ensures.emptied c.take_all.ensures.many
+    -- The blocks of all workers were taken over into the book.
+    taken : WereTaken c.gather_kept.new.threads c.take_all.new.workers team2.book team3.book
+    taken = were_taken (c.deref_mut-5.ensures.value ∙ left) c.take_all.ensures.taken c.take_all.ensures.room c.take_all.ensures.emptied c.take_all.ensures.many
 
-  -- The scavenger lends nobody, and its records were gathered.
-  cleared : team2.scavenger.lent.items ≡ [] → IsScavengerCleared team2.scavenger team3.scavenger
-  cleared none = record { pass = refl; outcomes = refl; none = none; empty = c.append.ensures.none; size = c.append.ensures.other_size }
+    -- The scavenger lends nobody, and its records were gathered.
+    cleared : team2.scavenger.lent.items ≡ [] → IsScavengerCleared team2.scavenger team3.scavenger
+    cleared none = record { pass = refl; outcomes = refl; none = none; empty = c.append.ensures.none; size = c.append.ensures.other_size }
 
 pub settle-requires-2-clause-stand : goal.settle-requires-2-clause-stand
 settle-requires-2-clause-stand g c =

@@ -14,6 +14,7 @@ returns-then-rest-ne0 c =
 pub loop-word-preserved : goal.loop-word-preserved
 loop-word-preserved c = search (arith, none_left)
 
+-- no word was left, and none had a bit from there on
 pub returns : goal.returns
 returns c =
     search arith
