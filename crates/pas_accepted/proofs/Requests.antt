@@ -5,10 +5,10 @@ use Rattle.std.proofs.Common.{MatchOption, ◌+◌, ◌*◌}
 use Rattle.std.specs.List.{AllByRecursion}
 use Rattle.pas_bits.specs.Runs.{in_run}
 use Rattle.pas_profile.specs.{Blocks.grain_of, Blocks.length_of, Blocks.address_of, Directories.IsKind, Directories.deed_word_of, Profiles.IsValid}
-use Rattle.pas_profile.specs.{Profiles.IsPage, Requests.is_shared, Requests.kind_of_route, Requests.route_in}
+use Rattle.pas_profile.specs.{Profiles.IsPage, Requests.is_shared, Requests.kind_of_route, Requests.route_in, Entries.sized_entry, Entries.entry_of}
 use Rattle.pas_profile.specs.declared.{directory.Directory.Directory, directory.Route.Route, event.Event.Event, event.NoRoom.NoRoom}
 use Rattle.pas_profile.specs.declared.{event.NoRoom.TheVariants.Held, event.NoRoom.TheVariants.NoSpace, name.Block.Block, name.Name.Name}
-use Rattle.pas_profile.specs.declared.{profile.Profile.Profile, word.Word.Word, event.FreeFault.FreeFault}
+use Rattle.pas_profile.specs.declared.{profile.Profile.Profile, word.Word.Word, event.FreeFault.FreeFault, entry.Entry.Entry}
 use Rattle.pas_profile.proofs.{Sizes.class_known, Sizes.class_suits, Codecs.deed_word_of-positive, Codecs.same_from_deed_word}
 use Rattle.pas_machine.specs.{Machine.Run, State.deed_in}
 use Rattle.pas_core.specs.Good.{word_of_deed}
@@ -27,20 +27,19 @@ use Rattle.pas_trace.specs.declared.{item.Request.Request, plan.What.TheVariants
 use Rattle.pas_answers.specs.Answers.{IsGiven, RefusalEnds, RequestEnds, block_of, records_of, said_by, said_of_request, said_of_room, wanted_by, Answer}
 use Rattle.pas_answers.specs.Answers.{IsFreed, IsFreedBy, Progress, after_answer, room_noted, said_of_fault, Caches, IsKept, IsRemadeBy, IsReplaced, IsServed}
 use Rattle.pas_answers.specs.Answers.{having, request_for, with_cache, with_book}
-use Rattle.pas_check.specs.Begins.{is_full, logging, replacing, unsized, entry_of as known_entry, freeing, freeing_at, freeing_named, is_aligned, is_page}
-use Rattle.pas_check.specs.Begins.{tells as saying, remaking, remaking_named, suits, guard_of, has_sides, page_above, page_below, raising, sweeping}
+use Rattle.pas_check.specs.Begins.{is_full, logging, replacing, freeing, freeing_at, freeing_named, is_aligned, is_page, tells as saying, remaking}
+use Rattle.pas_check.specs.Begins.{remaking_named, suits, guard_of, has_sides, page_above, page_below, raising, sweeping}
 use Rattle.pas_check.specs.{Calls.after_request, Accepted.IsDone, Accepted.IsWhole}
 use Rattle.pas_check.specs.Takes.{IsRefusal, directory_of, Takes, is_back, IsServing, block_in, given_next, kept_next}
 use Rattle.pas_check.specs.States.{Due, Serves, Stand, with_due, with_name, Task, Tries, with_one}
-use Rattle.pas_check.specs.declared.{entry.Entry.Entry, guard.Guard.Guard as Known}
+use Rattle.pas_check.specs.declared.guard.Guard.{Guard as Known}
 use Rattle.pas_accepted.proofs.Telling.{LeadsOn, on_as, on_both, on_line, on_same, lines_both, lines_by, lines_more, shown_is, raised_by, flush_only}
-use Rattle.pas_accepted.proofs.Telling.{flush_leads, emptied, logs_with, logged_as, table_same, own_at, put_twice, Comes, Tells, told_after, piece_of}
-use Rattle.pas_accepted.proofs.Telling.{AreBooked, booked_raise, booked_sweep, after_piece}
+use Rattle.pas_accepted.proofs.Telling.{flush_leads, emptied, logs_with, table_same, own_at, put_twice, Comes, Tells, told_after, piece_of, AreBooked}
+use Rattle.pas_accepted.proofs.Telling.{booked_raise, booked_sweep, after_piece}
 use Rattle.pas_rights.specs.Gives.{give_steps}
 use Rattle.pas_guard.specs.declared.book.Guard.{Guard}
-use Rattle.std.proofs.lemmas.{Bool.and_from, Bool.and_parts, Bool.false_from_ne_true, List.length-map, List.map-append, List.reverse-append}
-use Rattle.pas_free_log.specs.{Frames.freeing as freeing_kinds, Logs.entry_of}
-use Rattle.pas_free_log.specs.declared.log.Entry.{Entry as LogEntry}
+use Rattle.std.proofs.lemmas.{Bool.and_from, Bool.and_parts, Bool.false_from_ne_true, List.map-append, List.reverse-append}
+use Rattle.pas_free_log.specs.Frames.{freeing as freeing_kinds}
 use Rattle.pas_answers.proofs.Consequences.{Tidy, answer_tidy, tidy_piece, try_tidy}
 use Rattle.pas_check.proofs.Ticks.{epoch_kept}
 use Rattle.pas_cache.proofs.Budget.{log_kept}
@@ -233,8 +232,8 @@ module _ (f : Profile) (valid : IsValid f) (p : Progress) (s : Stand) (ts : List
       }
 
   -- ---- it is logged
-  logged_comes : (full : Bool) (entry : Entry) (kept : List LogEntry) → EmptiesFull full k (p.caches k).log kept (p.caches k).noted a.cache.noted a.steps
-      → a.cache.log ≡ kept ++ logged_as entry ∷ [] → a.cache.idle_since ≡ (p.caches k).idle_since → a.said ≡ None
+  logged_comes : (full : Bool) (entry : Entry) (kept : List Entry) → EmptiesFull full k (p.caches k).log kept (p.caches k).noted a.cache.noted a.steps
+      → a.cache.log ≡ kept ++ entry ∷ [] → a.cache.idle_since ≡ (p.caches k).idle_since → a.said ≡ None
       → Comes f (record (logging full s k entry []) { left = ts }) (records_of (events_by k (part k p.list) a.steps) ++ said_by k a.said) (after_answer p k a) ts
   logged_comes true entry kept h log idle silent =
       let t : Stand = emptied p s k a.steps (entry ∷ []) [] ts in
@@ -243,7 +242,7 @@ module _ (f : Profile) (valid : IsValid f) (p : Progress) (s : Stand) (ts : List
         end = t;
         leads = on_as (silent_lines k a.said rs silent) refl (flush_leads f valid p s tells k (p.caches k).noted a.cache.noted a.steps h.0 legal (entry ∷ []) [] ts);
         tells = told_after p s t k a.steps a.cache a.names _ tells refl (tells.names ∙ sym names)
-            (logs_with p s k a.cache (entry ∷ []) tells (log ∙ ap (λ es. es ++ logged_as entry ∷ []) h.1)) idle refl refl refl
+            (logs_with p s k a.cache (entry ∷ []) tells (log ∙ ap (λ (es : List Entry). es ++ entry ∷ []) h.1)) idle refl refl refl
             (epoch_kept freeing_kinds refl k a.steps p.list (flush_only k (p.caches k).log (p.caches k).noted a.cache.noted a.steps h.0)) tidy;
       }
   logged_comes false entry kept h log idle silent =
@@ -254,13 +253,12 @@ module _ (f : Profile) (valid : IsValid f) (p : Progress) (s : Stand) (ts : List
         end = t;
         leads = on_as (silent_lines k a.said rs silent ∙ ap (λ ms. lines_by (records_of (events_by k (part k p.list) ms))) h.0) refl (on_same refl);
         tells = told_after p s t k a.steps a.cache a.names _ tells (tells.events ∙ ap (λ ms. visible (triples k ms ++ p.list)) (sym h.0))
-            (tells.names ∙ sym names) (logs_with p s k a.cache more tells (log ∙ ap (λ es. es ++ logged_as entry ∷ []) (h.1 ∙ tells.logs k)
-            ∙ sym (map-append logged_as (s.logs k) (entry ∷ [])))) idle refl refl refl (ap (λ ms. word_after (triples k ms ++ p.list) Word.Epoch) h.0) tidy;
+            (tells.names ∙ sym names) (logs_with p s k a.cache more tells (log ∙ ap (λ (es : List Entry). es ++ entry ∷ []) (h.1 ∙ tells.logs k))) idle refl refl refl (ap (λ ms. word_after (triples k ms ++ p.list) Word.Epoch) h.0) tidy;
       }
 
   -- ---- a free of a block
   full_is : nat_le 64 (length (s.logs k)) ≡ nat_le 64 (length (p.caches k).log)
-  full_is = ap (nat_le 64) (sym (ap (λ (es : List LogEntry). length es) (tells.logs k) ∙ length-map (s.logs k) logged_as))
+  full_is = ap (λ (es : List Entry). nat_le 64 (length es)) (sym (tells.logs k))
 
   fault_comes : (entry : Entry) (fault : FreeFault) → RefusesName f (p.caches k) a.cache entry.name a.steps fault
       → a.said ≡ Some (said_of_fault entry.name fault) → LeadsOn f s [] (record (freeing f s k entry) { left = ts })
@@ -268,7 +266,7 @@ module _ (f : Profile) (valid : IsValid f) (p : Progress) (s : Stand) (ts : List
   fault_comes entry fault h said begun = search (arith, page_isnt, said_comes, on_as, page_is, ne_eqb)
 
   -- The lines of a free lead the check to what the free comes to.
-  pub free_comes : (entry : Entry) → IsFreed f k (p.caches k) a.cache (logged_as entry) a.steps a.said
+  pub free_comes : (entry : Entry) → IsFreed f k (p.caches k) a.cache entry a.steps a.said
       → LeadsOn f s [] (record (freeing f s k entry) { left = ts })
       → Comes f s (records_of (events_by k (part k p.list) a.steps) ++ said_by k a.said) (after_answer p k a) ts
   free_comes entry (inl h) begun =
@@ -285,7 +283,7 @@ module _ (f : Profile) (valid : IsValid f) (p : Progress) (s : Stand) (ts : List
       → Comes f s (records_of (events_by k (part k p.list) a.steps) ++ said_by k a.said) (after_answer p k a) ts
   freed_comes name room None h begun = absurd h
   freed_comes name room (Some None) h begun = said_comes (Said.Skipped name) h.0 h.1 h.2 begun
-  freed_comes name room (Some (Some block)) h begun = free_comes (known_entry block.name (room_noted room)) h begun
+  freed_comes name room (Some (Some block)) h begun = free_comes (sized_entry block.name (room_noted room)) h begun
 
 -- ---- Another size for a block: it is kept, which is said; or another one is asked for in its place, and the old name is logged once that is given
 -- no request changes when its thread read the epoch
@@ -405,11 +403,11 @@ module _ (f : Profile) (valid : IsValid f) (p : Progress) (s : Stand) (ts : List
     tells1 = asked_tells f p s ts tells k r placed is legal_placed p1.records
 
     abbrev logging_old : Stand
-    logging_old = record (logging (nat_le 64 (length (p1.caches k).log)) s1 k (unsized old) []) { left = ts }
+    logging_old = record (logging (nat_le 64 (length (p1.caches k).log)) s1 k (entry_of old) []) { left = ts }
 
     logged_old : TakesEntry f k placed.cache a.cache (entry_of old) freed
         → Comes f logging_old (records_of (events_by k (part k p1.list) freed) ++ []) (after_answer p1 k logs_old) ts
-    logged_old takes = logged_comes f valid p1 s1 ts tells1 k logs_old refl tidy_freed legal_freed (nat_le 64 (length (p1.caches k).log)) (unsized old) takes.logs.kept
+    logged_old takes = logged_comes f valid p1 s1 ts tells1 k logs_old refl tidy_freed legal_freed (nat_le 64 (length (p1.caches k).log)) (entry_of old) takes.logs.kept
         (subst (λ (d : Cached). EmptiesFull (nat_le 64 (length d.log)) k d.log takes.logs.kept d.noted a.cache.noted freed) (sym own) takes.logs.emptied)
         takes.logs.log_is (ap (λ (d : Cached). d.idle_since) takes.cache ∙ ap (λ (d : Cached). d.idle_since) (sym own)) refl
 
@@ -437,10 +435,10 @@ module _ (f : Profile) (valid : IsValid f) (p : Progress) (s : Stand) (ts : List
         }
 
     -- THE REQUEST in its place, as it was answered
-    logging_is : (v : Stand) → v.left ≡ ts → record v { due = [] } ≡ s1 → logging (is_full v k) v k (unsized old) [] ≡ logging_old
+    logging_is : (v : Stand) → v.left ≡ ts → record v { due = [] } ≡ s1 → logging (is_full v k) v k (entry_of old) [] ≡ logging_old
     logging_is v left same =
-        sym (logged_state (is_full v k) v k (unsized old)) ∙ (λ i. record (logging (is_full (same i) k) (same i) k (unsized old) []) { left = left i })
-        ∙ ap (λ t. record (logging t s1 k (unsized old) []) { left = ts }) (full_is f valid p1 s1 ts tells1 k logs_old refl tidy_freed legal_freed)
+        sym (logged_state (is_full v k) v k (entry_of old)) ∙ (λ i. record (logging (is_full (same i) k) (same i) k (entry_of old) []) { left = left i })
+        ∙ ap (λ t. record (logging t s1 k (entry_of old) []) { left = ts }) (full_is f valid p1 s1 ts tells1 k logs_old refl tidy_freed legal_freed)
 
     -- Whether the request was served or refused, the rest of the reallocation follows.
     answered : (answer : Result Block NoRoom) → is.answer ≡ answer
@@ -699,7 +697,7 @@ module _ (f : Profile) (valid : IsValid f) (p : Progress) (s : Stand) (ts : List
   tried_tells names u records events named_so logs since epoch books = record {
     events = events;
     names = named_so;
-    logs = λ j. tells.logs j ∙ ap (λ table. map logged_as (table j)) (sym logs);
+    logs = λ j. tells.logs j ∙ ap (λ (table : ℕ → List Entry). table j) (sym logs);
     idle_since = λ j. ap (λ (table : ℕ → ℕ). table j) since ∙ tells.idle_since j;
     epoch = epoch ∙ tells.epoch ∙ sym tried_epoch;
     books = books;

@@ -1,11 +1,11 @@
 -- What a check knows of a replay: lines that lead it on, logs, guards in books; and the lines of a log that is emptied, by a flush or a stop.
 use Rattle.std.proofs.Common.{◌≡◌, ℕ, List, [], ◌∷◌, ◌++◌, inl, inr, refl, ap, sym, subst, append_assoc, arith, Bool, true, false, if◌then◌else◌, ◌∙◌, map}
 use Rattle.std.proofs.Common.{reverse, eq-eqb, ne_eqb, ◌==◌, nat_lt, not, ◌≢◌, ◌%◌, ◌&&◌, ◌||◌, eqb-true, append-nil, ◌/◌, Option, Some, None}
-use Rattle.pas_profile.specs.declared.{profile.Profile.Profile, event.Event.Event, word.Word.Word, name.Name.Name}
+use Rattle.pas_profile.specs.declared.{profile.Profile.Profile, event.Event.Event, word.Word.Word, name.Name.Name, entry.Entry.Entry}
 use Rattle.pas_check.specs.{Accepted.IsDone, Accepted.IsWhole, Calls.Differs}
 use Rattle.pas_check.specs.Takes.{Takes, TakesDue, MayRefuse, IsEventOf}
 use Rattle.pas_check.specs.Begins.{after_task, flushing, past_outcomes, ready, ready_with, goes_down, entries_due}
-use Rattle.pas_check.specs.declared.{entry.Entry.Entry as KnownEntry, guard.Guard.Guard as Known}
+use Rattle.pas_check.specs.declared.guard.Guard.{Guard as Known}
 use Rattle.pas_check.specs.States.{Due, Examines, Stand, Task, with_due, with_at, Frees}
 use Rattle.pas_check.proofs.{ActsOfPlans.begun_alike, Leads.at_first, Leads.by_none, OneNext.end_is, OneNext.reject_is, Ticks.epoch_kept}
 use Rattle.pas_profile.proofs.Lists.{all_both}
@@ -20,10 +20,9 @@ use Rattle.pas_steps.proofs.{Frames.with_append, Frames.events_append, Parts.par
 use Rattle.pas_steps.proofs.{Adding.triples_append}
 use Rattle.pas_cache.specs.{Caches.Cached, Changes.EmptiesLog, Kinds.releasing}
 use Rattle.pas_answers.specs.Answers.{Caches, records_of, with_cache, Books, with_book, Progress, IsStopped}
-use Rattle.pas_profile.specs.{Blocks.address_of, Blocks.grain_of, Directories.deed_word_of, Lives.live_word, Profiles.IsValid}
+use Rattle.pas_profile.specs.{Blocks.address_of, Blocks.grain_of, Directories.deed_word_of, Lives.live_word, Profiles.IsValid, Entries.is_sized}
 use Rattle.pas_free_log.specs.Endings.{reason_for, EndSteps, Tries, TriesBy, last_step}
-use Rattle.pas_free_log.specs.declared.{log.Entry.Entry, ending.Outcome.Outcome, ending.Outcome.TheVariants.Ended, ending.Outcome.TheVariants.Refused}
-use Rattle.pas_free_log.specs.declared.{noting.EndedRun.EndedRun}
+use Rattle.pas_free_log.specs.declared.{ending.Outcome.Outcome, ending.Outcome.TheVariants.Ended, ending.Outcome.TheVariants.Refused, noting.EndedRun.EndedRun}
 use Rattle.std.specs.List.{AllByRecursion, filter}
 use Rattle.pas_machine.specs.State.{ends_in, Live, gives_in, live_in}
 use Rattle.pas_guard.specs.declared.book.Guard.{Guard}
@@ -32,7 +31,7 @@ use Rattle.pas_answers.proofs.{Consequences.tidy_piece, Consequences.Tidy, Conse
 use Rattle.pas_steps.specs.Kinds.{Kinds, Only, Putting, is_in, kind_of, returning}
 use Rattle.pas_rights.proofs.{Orders.return_returns, Puts.puts_kinds}
 use Rattle.pas_free_log.specs.Flushes.{AfterEnd, EntrySteps, Settled, EntriesSteps, event_for, shown_for}
-use Rattle.pas_free_log.specs.{Frames.freeing, Returns.PageSteps, Returns.count_on, Returns.first_on, Stamps.page_count, Stamps.pages_from, Logs.is_sized}
+use Rattle.pas_free_log.specs.{Frames.freeing, Returns.PageSteps, Returns.count_on, Returns.first_on, Stamps.page_count, Stamps.pages_from}
 use Rattle.pas_machine.specs.Machine.{HasOtherRoom, Admits, Run}
 use Rattle.pas_core.specs.Good.{IsLifeOf, IsLifeOfLive}
 use Rattle.pas_core.proofs.{Lives.block_of_word, Lives.life_at, OneActor.legal_earlier, MachineRuns.runs}
@@ -42,7 +41,7 @@ use Rattle.pas_records.proofs.Showable.{AreOfRegion}
 
 -- ---- Lines that lead a check from one state to another
 -- where thread k's log is being emptied, and has these entries afterwards, when this is due
-abbrev pub emptying : Stand → ℕ → List KnownEntry → List Due → List Task → Stand
+abbrev pub emptying : Stand → ℕ → List Entry → List Due → List Task → Stand
 emptying s k log more ts = record (flushing s k log more) { left = ts }
 
 -- The lines lead from one state to the other: whatever is whole from there on is whole with them from here on.
@@ -140,22 +139,9 @@ twice t x y z = search arith
 pub put_twice : {A : Type 0} (table : ℕ → A) (k : ℕ) (x y : A) → with_at (with_at table k x) k y ≡ with_at table k y
 put_twice table k x y = λ i j. twice (j == k) x y (table j) i
 
--- ---- The entries of a log, as a check keeps them and as a replay's cache does
--- that of a replay, and that of a check
-abbrev pub logged_as : KnownEntry → Entry
-logged_as entry = record { name = entry.name; room = entry.room }
-
-abbrev pub known_as : Entry → KnownEntry
-known_as entry = record { name = entry.name; room = entry.room }
-
--- Entries of a log that are logged are known again as they were.
-known_again : (entries : List KnownEntry) → map known_as (map logged_as entries) ≡ entries
-known_again [] = refl
-known_again (entry ∷ entries) = ap (λ (es : List KnownEntry). entry ∷ es) (known_again entries)
-
 -- ---- why an entry may be refused
 -- the reason that a life word tells is one that the entry may have
-reason_may : (entry : Entry) (read : ℕ) → MayRefuse (known_as entry) (reason_for entry read)
+reason_may : (entry : Entry) (read : ℕ) → MayRefuse entry (reason_for entry read)
 reason_may entry read = search (arith, eqb-false)
 
 -- ---- The guards that are up, as a check keeps them, in one list, and as the keepers' books do; and which of them a sweep lowers
@@ -278,7 +264,7 @@ booked_raise books keeper guard guards new booked = search (arith, raised_books,
 pub record Tells (p : Progress) (s : Stand) : Type 0 where
   pub events : s.events ≡ visible p.list
   pub names : s.names ≡ p.names
-  pub logs : (k : ℕ) → (p.caches k).log ≡ map logged_as (s.logs k)
+  pub logs : (k : ℕ) → (p.caches k).log ≡ s.logs k
   pub idle_since : (k : ℕ) → s.idle_since k ≡ (p.caches k).idle_since
   pub epoch : s.epoch ≡ word_after p.list Word.Epoch
   pub books : AreBooked p.books s.guards
@@ -300,7 +286,7 @@ after_piece p k steps c names records = record p { names = names; caches = with_
 
 pub told_after : (p : Progress) (s t : Stand) (k : ℕ) (steps : List Made) (c : Cached) (names : List Named) (records : List Record) → Tells p s
     → t.events ≡ visible (triples k steps ++ p.list) → t.names ≡ names
-    → ((j : ℕ) → (with_cache p.caches k c j).log ≡ map logged_as (t.logs j)) → c.idle_since ≡ (p.caches k).idle_since → t.idle_since ≡ s.idle_since
+    → ((j : ℕ) → (with_cache p.caches k c j).log ≡ t.logs j) → c.idle_since ≡ (p.caches k).idle_since → t.idle_since ≡ s.idle_since
     → t.epoch ≡ s.epoch → t.guards ≡ s.guards
     → word_after (triples k steps ++ p.list) Word.Epoch ≡ word_after p.list Word.Epoch → Tidy (steps ++ part k p.list)
     → Tells (after_piece p k steps c names records) t
@@ -382,7 +368,7 @@ same_length f g word room b gives ends turn life is same whole = search (arith, 
 -- ---- one entry
 -- the block of an entry that was ended had the entry's room, if there is one
 abbrev pub Heeds : List Event → Entry → Outcome → Type 0
-Heeds es entry (Ended grains) = Differs es (known_as entry) → ⊥
+Heeds es entry (Ended grains) = Differs es entry → ⊥
 Heeds es entry (Refused read) = Unit {0}
 
 module _ (f : Profile) (valid : IsValid f) (k : ℕ) (l : Whole) (rest : List Made) (only : Only freeing rest) where
@@ -442,13 +428,13 @@ all_heed f valid k l (x ∷ xs) steps h legal =
 -- ---- the event of an entry
 event_is : (f : Profile) (s : Stand) (k : ℕ) (entry : Entry) (outcome : Outcome) → Heeds s.events entry outcome → Run f s.events
     → Admits f s.events (event_for k s.epoch entry outcome)
-    → IsEventOf s k (known_as entry) (event_for k s.epoch entry outcome)
-event_is f s k entry (Ended grains) heeds run may = end_is f s k (known_as entry) run may heeds
-event_is f s k entry (Refused read) heeds run may = reject_is f s k (known_as entry) (reason_for entry read) (reason_may entry read) may
+    → IsEventOf s k entry (event_for k s.epoch entry outcome)
+event_is f s k entry (Ended grains) heeds run may = end_is f s k entry run may heeds
+event_is f s k entry (Refused read) heeds run may = reject_is f s k entry (reason_for entry read) (reason_may entry read) may
 
 -- ---- entries in turn
-abbrev known_in : List Settled → List KnownEntry
-known_in settled = reverse (map (λ x. known_as x.entry) settled)
+abbrev known_in : List Settled → List Entry
+known_in settled = reverse (map (λ x. x.entry) settled)
 
 abbrev shown_by : ℕ → Stand → List Settled → List Event
 shown_by k s settled = map (shown_for k s.epoch) settled
@@ -457,12 +443,12 @@ shown_by k s settled = map (shown_for k s.epoch) settled
 abbrev settled_in : ℕ → Stand → List Settled → List Due → Stand
 settled_in k s settled more = record s { events = shown_by k s settled ++ s.events; due = more }
 
-due_more : (k : ℕ) (entries : List KnownEntry) (entry : KnownEntry) (more : List Due)
+due_more : (k : ℕ) (entries : List Entry) (entry : Entry) (more : List Due)
     → entries_due k (entries ++ entry ∷ []) ++ more ≡ entries_due k entries ++ Frees k entry ∷ more
 due_more k entries entry more = ap (λ ds. ds ++ more) (map-append (λ e. Frees k e) entries (entry ∷ [])) ∙ append_assoc (entries_due k entries) (Frees k entry ∷ []) more
 
-known_more : (x : Settled) (xs : List Settled) → known_in (x ∷ xs) ≡ known_in xs ++ known_as x.entry ∷ []
-known_more x xs = reverse-append (known_as x.entry ∷ []) (map (λ (y : Settled). known_as y.entry) xs)
+known_more : (x : Settled) (xs : List Settled) → known_in (x ∷ xs) ≡ known_in xs ++ x.entry ∷ []
+known_more x xs = reverse-append (x.entry ∷ []) (map (λ (y : Settled). y.entry) xs)
 
 -- what lives after their events lived before them
 lived_one : (k epoch : ℕ) (entry : Entry) (outcome : Outcome) (es : List Event) (address : ℕ) (b : Live)
@@ -483,32 +469,21 @@ entries_lead : (f : Profile) (k : ℕ) (s : Stand) (settled : List Settled) (mor
     → LeadsOn f s (lines_by (records_of (shown_by k s settled))) (settled_in k s settled more)
 entries_lead f k s [] more heed run due = on_same (ap (with_due s) due)
 entries_lead f k s (x ∷ xs) more heed run due =
-    let old : Stand = settled_in k s xs (Frees k (known_as x.entry) ∷ more) in
+    let old : Stand = settled_in k s xs (Frees k x.entry ∷ more) in
     let event : Event = shown_for k s.epoch x in
     let earlier : LeadsOn f s (lines_by (records_of (shown_by k s xs))) old
-    = entries_lead f k s xs (Frees k (known_as x.entry) ∷ more) heed.1 run.1
-    (due ∙ ap (λ es. entries_due k es ++ more) (known_more x xs) ∙ due_more k (known_in xs) (known_as x.entry) more) in
-    let is : IsEventOf old k (known_as x.entry) event = event_is f old k x.entry x.outcome (still_heeds k s.epoch xs s.events x.entry x.outcome heed.0) run.1 run.0 in
+    = entries_lead f k s xs (Frees k x.entry ∷ more) heed.1 run.1
+    (due ∙ ap (λ es. entries_due k es ++ more) (known_more x xs) ∙ due_more k (known_in xs) x.entry more) in
+    let is : IsEventOf old k x.entry event = event_is f old k x.entry x.outcome (still_heeds k s.epoch xs s.events x.entry x.outcome heed.0) run.1 run.0 in
     let one : LeadsOn f old (line_of_event event ∷ []) (settled_in k s (x ∷ xs) more)
     = on_line (inr record { event = event; of_entry = is; admitted = run.0; line_is = refl; next_is = refl }) in
     on_as (lines_more event (shown_by k s xs)) refl (on_both earlier one)
 
--- ---- which entries a log has
-known_of : (settled : List Settled) → map known_as (reverse (map (λ (x : Settled). x.entry) settled)) ≡ known_in settled
-known_of [] = refl
-known_of (x ∷ xs) =
-    let entries : List Entry = map (λ (y : Settled). y.entry) xs in
-    ap (map known_as) (reverse-append (x.entry ∷ []) entries) ∙ map-append known_as (reverse entries) (x.entry ∷ [])
-    ∙ ap (λ (es : List KnownEntry). es ++ known_as x.entry ∷ []) (known_of xs) ∙ sym (known_more x xs)
-
 -- ---- THE FLUSH of thread k's log
 module _ (f : Profile) (valid : IsValid f) (p : Progress) (s : Stand) (tells : Tells p s) (k : ℕ) (noted noted' : List EndedRun) (steps : List Made)
     (h : EmptiesLog k (p.caches k).log noted noted' steps) (legal : Legal f (triples k steps ++ p.list)) where
-  log_is : reverse (map (λ (x : Settled). x.entry) h.settled) ≡ map logged_as (s.logs k)
-  log_is = h.entries_are ∙ tells.logs k
-
   entries_are : s.logs k ≡ known_in h.settled
-  entries_are = sym (known_again (s.logs k)) ∙ ap (map known_as) (sym log_is) ∙ known_of h.settled
+  entries_are = sym (h.entries_are ∙ tells.logs k)
 
   -- The entries so far heed the events.
   heed : AllHeed s.events h.settled
@@ -527,7 +502,7 @@ module _ (f : Profile) (valid : IsValid f) (p : Progress) (s : Stand) (tells : T
   visible_is = shown_is s k steps p.list tells.events (shown_by k s h.settled) events_are
 
   -- The lines of a log that is emptied lead the check to where its entries aren't due any more.
-  pub flush_leads : (log : List KnownEntry) (more : List Due) (ts : List Task)
+  pub flush_leads : (log : List Entry) (more : List Due) (ts : List Task)
       → LeadsOn f (emptying s k log more ts) (lines_by (records_of (events_by k (part k p.list) steps)))
       (record (emptying s k log more ts) { events = visible (triples k steps ++ p.list); due = more })
   flush_leads log more ts =
@@ -538,13 +513,13 @@ module _ (f : Profile) (valid : IsValid f) (p : Progress) (s : Stand) (tells : T
 
 -- ---- A thread's log is emptied, and its local allocators are stopped without an event
 -- where thread k's log was emptied and has these names
-abbrev pub emptied : Progress → Stand → ℕ → List Made → List KnownEntry → List Due → List Task → Stand
+abbrev pub emptied : Progress → Stand → ℕ → List Made → List Entry → List Due → List Task → Stand
 emptied p s k steps log more ts = record (emptying s k log more ts) { events = visible (triples k steps ++ p.list); due = more }
 
 -- .. its cache has the same log
-pub logs_with : (p : Progress) (s : Stand) (k : ℕ) (c : Cached) (log : List KnownEntry) → Tells p s → c.log ≡ map logged_as log → (j : ℕ)
-    → (with_cache p.caches k c j).log ≡ map logged_as (with_at s.logs k log j)
-logs_with p s k c log tells new j = table_at (λ (d : Cached). d.log) (map logged_as) (j == k) c (p.caches j) log (s.logs j) new (tells.logs j)
+pub logs_with : (p : Progress) (s : Stand) (k : ℕ) (c : Cached) (log : List Entry) → Tells p s → c.log ≡ log → (j : ℕ)
+    → (with_cache p.caches k c j).log ≡ with_at s.logs k log j
+logs_with p s k c log tells new j = table_at (λ (d : Cached). d.log) (λ (es : List Entry). es) (j == k) c (p.caches j) log (s.logs j) new (tells.logs j)
 
 module _ (f : Profile) (valid : IsValid f) (p : Progress) (s : Stand) (tells : Tells p s) (k : ℕ) (c : Cached) (steps : List Made)
     (h : IsStopped k (p.caches k) c steps) (legal : Legal f (triples k steps ++ p.list)) where
@@ -569,6 +544,6 @@ module _ (f : Profile) (valid : IsValid f) (p : Progress) (s : Stand) (tells : T
       → Tells (after_piece p k steps c names records) t
   stop_tells names records t events named logs since epoch guards =
       told_after p s t k steps c names records tells events named
-      (λ j. logs_with p s k c [] tells (ap (λ (d : Cached). d.log) h.cache) j ∙ ap (λ (table : ℕ → List KnownEntry). map logged_as (table j)) (sym logs))
+      (λ j. logs_with p s k c [] tells (ap (λ (d : Cached). d.log) h.cache) j ∙ ap (λ (table : ℕ → List Entry). table j) (sym logs))
       (ap (λ (d : Cached). d.idle_since) h.cache) since epoch guards (epoch_kept freeing refl k steps p.list (stop_only k (p.caches k) c steps h))
       (stop_tidy f k (p.caches k) c steps (part k p.list) (piece_of f k steps p.list legal) h (tells.tidy k))

@@ -1,7 +1,7 @@
 -- Each act of a replay in the order of the text, and so the whole: its transcript is accepted, its report line by line.
 use Rattle.std.proofs.Common.{arith, ◌≡◌, ℕ, List, [], ◌∷◌, ◌++◌, None, Some, refl, ap, sym, ◌∙◌, Option, MatchResult, ◌+◌, ◌==◌, max, nat_le, true, false, inl}
 use Rattle.std.proofs.Common.{inr, subst, append-nil, append_assoc, map, le-leb, leb-true, Bool, true≢false, zero, suc, ◌≤◌, codes, ◌||◌}
-use Rattle.pas_profile.specs.Profiles.{IsValid}
+use Rattle.pas_profile.specs.{Profiles.IsValid, Entries.sized_entry, Entries.entry_of}
 use Rattle.pas_profile.specs.declared.{profile.Profile.Profile, name.Block.Block, word.Word.Word, event.Event.Event, name.Name.Name}
 use Rattle.pas_profile.specs.declared.{directory.Directory.Directory}
 use Rattle.pas_steps.specs.{Desks.triples, Events.events_by}
@@ -17,13 +17,13 @@ use Rattle.pas_trace.specs.{Named.standing_for, Asked.keeper_in, Asked.work_of}
 use Rattle.pas_answers.specs.Refusals.{RefusesTruly, ActRefusesTruly, TriedRefusesTruly, AllRefuseTruly}
 use Rattle.pas_answers.specs.{Guarding.IsTried, Guarding.Tried, Guarding.after_trying, Reaching.Advances, Reaching.AnswersTried, Reaching.Reaches, Ways.InOrder}
 use Rattle.pas_answers.proofs.Consequences.{Tidy, answer_tidy, look_tidy, tick_tidy, tidy_piece}
-use Rattle.pas_check.specs.Begins.{begun_what, entry_of as known_entry, freeing_named, remaking_named, unsized, stopping, sweeping, after_task, begun}
-use Rattle.pas_check.specs.Begins.{begun_act, begun_from, past_outcomes, ready, ready_with, page_due, pages_due}
+use Rattle.pas_check.specs.Begins.{begun_what, freeing_named, remaking_named, stopping, sweeping, after_task, begun, begun_act, begun_from, past_outcomes}
+use Rattle.pas_check.specs.Begins.{ready, ready_with, page_due, pages_due}
 use Rattle.pas_check.specs.States.{Serves, Stand, Task, Does, Due, Tries, Writes, with_at, Frees, Examines, Reports, at_first, Heads, Shows, Totals, with_one}
 use Rattle.pas_check.proofs.Ticks.{epoch_kept}
 use Rattle.pas_accepted.proofs.Telling.{flush_only, flush_leads, emptied, logs_with, stop_leads, stop_tells, LeadsOn, on_as, on_both, lines_by, Comes, Tells}
-use Rattle.pas_accepted.proofs.Telling.{piece_of, told_after, on_line, on_done, on_task, emptying, booked_as, logged_as, lines_both, table_at, table_same}
-use Rattle.pas_accepted.proofs.Telling.{stop_only, on_same}
+use Rattle.pas_accepted.proofs.Telling.{piece_of, told_after, on_line, on_done, on_task, emptying, booked_as, lines_both, table_at, table_same, stop_only}
+use Rattle.pas_accepted.proofs.Telling.{on_same}
 use Rattle.pas_accepted.proofs.Requests.{free_comes, freed_comes, silent_lines, asked_tells, asked_then, remade_comes, request_leads, served_plain, given_comes}
 use Rattle.pas_accepted.proofs.Requests.{thread_comes}
 use Rattle.pas_accepted.proofs.Passes.{pass_comes, lowered_comes}
@@ -82,8 +82,8 @@ module _ (f : Profile) (valid : IsValid f) (p : Progress) (s : Stand) (ts : List
   what_comes (Guarded keeper name heap size align) is truly begun = request_comes (record { name = name; heap = heap; size = size; align = align }) is truly begun
   what_comes (Free name) is truly begun = named_comes name None is.0 is.1 (tidy_of (Free name) is) begun
   what_comes (FreeSized name room) is truly begun = named_comes name (Some room) is.0 is.1 (tidy_of (FreeSized name room) is) begun
-  what_comes (Raw block) is truly begun = free_comes f valid p s ts tells k a is.1 (tidy_of (Raw block) is) legal (unsized block) is.0 begun
-  what_comes (RawSized room block) is truly begun = free_comes f valid p s ts tells k a is.1 (tidy_of (RawSized room block) is) legal (known_entry block room) is.0 begun
+  what_comes (Raw block) is truly begun = free_comes f valid p s ts tells k a is.1 (tidy_of (Raw block) is) legal (entry_of block) is.0 begun
+  what_comes (RawSized room block) is truly begun = free_comes f valid p s ts tells k a is.1 (tidy_of (RawSized room block) is) legal (sized_entry block room) is.0 begun
   what_comes (Remake name old heap size align) is truly begun =
       remade_comes f valid p s ts tells k a (tidy_of (Remake name old heap size align) is) legal name size align (standing_for p.names old) is truly
       (on_as refl (ap (λ x. record (remaking_named s k name size align x) { left = ts }) (sym (ap (λ ns. standing_for ns old) tells.names))) begun)
@@ -122,7 +122,7 @@ IsInPlace act p = Unit {0}
 module _ (f : Profile) (valid : IsValid f) (p : Progress) (s : Stand) (ts : List Task) (tells : Tells p s) (due : s.due ≡ []) where
   -- ---- one look at the epoch
   look_tells : (k epoch : ℕ) (t : Stand) (caches : ℕ → Cached) (read : ℕ) → t.events ≡ s.events → t.names ≡ s.names
-      → ((j : ℕ) → (caches j).log ≡ map logged_as (t.logs j)) → ((j : ℕ) → t.idle_since j ≡ (caches j).idle_since) → t.epoch ≡ s.epoch → t.guards ≡ s.guards
+      → ((j : ℕ) → (caches j).log ≡ t.logs j) → ((j : ℕ) → t.idle_since j ≡ (caches j).idle_since) → t.epoch ≡ s.epoch → t.guards ≡ s.guards
       → Tells record { names = p.names; caches = caches; books = p.books; epoch = read; list = triples k (epoch_look epoch) ++ p.list; records = p.records } t
   look_tells k epoch t caches read events names logs since same guards = search (arith, booked_as, tidy_piece, look_tidy)
 

@@ -5,8 +5,8 @@ use Rattle.std.proofs.Common.{length, Option, Some, None, Result, Ok, Err, Match
 use Rattle.std.proofs.Common.{eq-eqb, ne_eqb, ◌*◌, ◌||◌, length-append, MatchOption, All}
 use Rattle.std.proofs.lemmas.Bool.{eqb-false, false_from_ne_true, cond-false, and_left, cases_eq}
 use Rattle.pas_profile.specs.{Lives.live_word, Directories.directory_read, Directories.deed_word_of, Blocks.address_of, Blocks.grain_of, Profiles.IsValid}
-use Rattle.pas_profile.specs.{Profiles.IsAdmitted}
-use Rattle.pas_profile.specs.declared.{profile.Profile.Profile, event.NoRoom.NoRoom, name.Block.Block, name.Name.Name, word.Word.Word}
+use Rattle.pas_profile.specs.{Profiles.IsAdmitted, Entries.entry_of, Entries.sized_entry, Entries.is_sized}
+use Rattle.pas_profile.specs.declared.{profile.Profile.Profile, event.NoRoom.NoRoom, name.Block.Block, name.Name.Name, word.Word.Word, entry.Entry.Entry}
 use Rattle.pas_bits.specs.Runs.{meets_page}
 use Rattle.pas_steps.specs.{Views.View, Views.is_unstamped, Allowed.IsStepOf, Desks.made, Desks.Standing, Desks.triples, Events.events_by, Clear.HasNothing}
 use Rattle.pas_steps.specs.{Lists.Whole, Lists.part, Lists.Legal}
@@ -15,10 +15,9 @@ use Rattle.pas_steps.specs.declared.step.Step.TheVariants.{Look, EndSized, Stamp
 use Rattle.pas_core.specs.Stamps.{AllStamped, KeepsToEnds, AllKeepToEnds}
 use Rattle.pas_rights.proofs.{Orders.return_returns, Puts.puts_kinds}
 use Rattle.pas_free_log.specs.Endings.{guess_by, Tries, TriesBy, last_step, IsRefusedBy, IsEndOf, EndSteps}
-use Rattle.pas_free_log.specs.{Logs.entry_of, Logs.sized_entry, Logs.is_sized, Stamps.page_count}
+use Rattle.pas_free_log.specs.Stamps.{page_count}
 use Rattle.pas_free_log.specs.Returns.{PageSteps, PagesSteps, first_on, count_on}
-use Rattle.pas_free_log.specs.declared.{log.Entry.Entry, noting.EndedRun.EndedRun, ending.Outcome.Outcome, ending.Outcome.TheVariants.Ended}
-use Rattle.pas_free_log.specs.declared.{ending.Outcome.TheVariants.Refused}
+use Rattle.pas_free_log.specs.declared.{noting.EndedRun.EndedRun, ending.Outcome.Outcome, ending.Outcome.TheVariants.Ended, ending.Outcome.TheVariants.Refused}
 use Rattle.pas_free_log.specs.Flushes.{Settled, AfterEnd, EntrySteps, EntriesSteps}
 use Rattle.pas_free_log.proofs.OneEntry.{count_some, guess_is, not_ended}
 use Rattle.pas_cache.specs.{Caches.Cached, Caches.AtRest, Calls.TakesEntry, Calls.AllocatesPages, Changes.EmptiesLog, Changes.EmptiesFull, Kinds.releasing}

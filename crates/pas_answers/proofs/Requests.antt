@@ -5,14 +5,14 @@ use Rattle.std.proofs.Common.{leb-true}
 use Rattle.std.proofs.{lemmas.Bool.cases_lt, Math.Nat.mul-mod_left, Math.Nat.mod-add-div', Math.Nat.mul_assoc, lemmas.Option.same_Some}
 use Rattle.std.specs.List.{AllByRecursion}
 use Rattle.pas_profile.specs.{Directories.IsDirectory, Directories.deed_word_of, Blocks.address_of, Blocks.grain_of, Blocks.length_of, Classes.IsAlignment}
-use Rattle.pas_profile.specs.{Routes.room_by, Routes.IsRouteOf, Requests.route_in, Requests.room_in}
+use Rattle.pas_profile.specs.{Routes.room_by, Routes.IsRouteOf, Requests.route_in, Requests.room_in, Entries.entry_of}
 use Rattle.pas_profile.specs.Profiles.{IsValid, IsAdmitted, IsPage, IsDirectoryOf}
 use Rattle.pas_profile.proofs.{Sizes.route_is, Sizes.class_known, Sizes.class_size_whole, Codecs.directory_from_profile, Codecs.deed_word_of-positive}
 use Rattle.pas_bits.proofs.Runs.{first_of_run}
 use Rattle.pas_bitfit.proofs.Aligned.{sixteens}
 use Rattle.pas_profile.specs.declared.{profile.Profile.Profile, directory.Directory.Directory, event.Event.Event, event.NoRoom.NoRoom, name.Block.Block}
 use Rattle.pas_profile.specs.declared.{word.Word.Word, directory.Route.Route, event.FreeFault.FreeFault, event.FreeFault.TheVariants.Outside}
-use Rattle.pas_profile.specs.declared.{event.FreeFault.TheVariants.Unaligned, name.Name.Name}
+use Rattle.pas_profile.specs.declared.{event.FreeFault.TheVariants.Unaligned, name.Name.Name, entry.Entry.Entry}
 use Rattle.pas_machine.specs.State.{deed_in}
 use Rattle.pas_core.specs.Good.{word_of_deed}
 use Rattle.pas_core.proofs.{Deeds.known_is, Deeds.deed_of, Deeds.directory_is_of, Rights.deeds_known}
@@ -39,9 +39,8 @@ use Rattle.pas_steps.proofs.Adding.{adds_none, can_call, agreed_first, agreed_la
 use Rattle.pas_steps.proofs.{Unknown.unknown_no_more, Unknown.has_room, Unknown.none_unknown, SpareRoom.Spares, SpareRoom.spare_falls, Frames.events_append}
 use Rattle.pas_cache.proofs.Routes.{is_small, is_large, small_may, small_did, none_named, pages_asked}
 use Rattle.pas_steps.proofs.Called.{call_none, call_then, next_call, call_as}
-use Rattle.pas_free_log.specs.Logs.{entry_of}
 use Rattle.pas_cache.specs.declared.moving.Moved.{TheVariants.Kept, TheVariants.New, Moved}
-use Rattle.pas_free_log.specs.declared.{log.Entry.Entry, noting.EndedRun.EndedRun}
+use Rattle.pas_free_log.specs.declared.noting.EndedRun.{EndedRun}
 use Rattle.pas_records.specs.declared.record.Said.{Said}
 use Rattle.pas_answers.proofs.SingleActs.{task_of}
 

@@ -5,9 +5,9 @@ use Rattle.std.specs.List.{AllByRecursion}
 use Rattle.pas_profile.specs.declared.{directory.Directory.Directory, directory.Route.Route, profile.Profile.Profile, name.Name.Name, name.Block.Block}
 use Rattle.pas_profile.specs.declared.{word.Word.Word, event.Event.Event, event.FreeFault.FreeFault, event.Outcome.Outcome, event.FreeFault.TheVariants.Outside}
 use Rattle.pas_profile.specs.declared.{event.FreeFault.TheVariants.Unaligned, event.NoRoom.NoRoom, event.NoRoom.TheVariants.NoSpace}
-use Rattle.pas_profile.specs.declared.{event.NoRoom.TheVariants.Held}
+use Rattle.pas_profile.specs.declared.{event.NoRoom.TheVariants.Held, entry.Entry.Entry}
 use Rattle.pas_bits.specs.Runs.{in_run}
-use Rattle.pas_profile.specs.Blocks.{address_of, grain_of, length_of}
+use Rattle.pas_profile.specs.{Blocks.address_of, Blocks.grain_of, Blocks.length_of, Entries.entry_of, Entries.sized_entry}
 use Rattle.pas_steps.specs.{Views.View, Views.KnowsDeed, Events.events_by, Lists.Whole, Lists.part, Desks.made, Desks.triples, Kinds.Only}
 use Rattle.pas_steps.specs.declared.step.{Made.Made, Step.TheVariants.Look, Step.Step}
 use Rattle.pas_trace.specs.declared.{plan.What.What, item.Request.Request}
@@ -17,8 +17,6 @@ use Rattle.pas_records.specs.declared.record.{Record.Record, Said.Said}
 use Rattle.pas_cache.specs.{Caches.Cached, Caches.AtRest, Changes.EmptiesLog, Changes.StopsEach, Kinds.allocating, Kinds.releasing, Calls.TakesEntry}
 use Rattle.pas_cache.specs.{Calls.RefusesName}
 use Rattle.pas_cache.specs.Serves.{Wanted, wanted_for, ServesRequest, IsPreparing, IsPlaced, IsDeedOf}
-use Rattle.pas_free_log.specs.declared.log.Entry.{Entry}
-use Rattle.pas_free_log.specs.Logs.{entry_of, sized_entry}
 use Rattle.pas_answers.specs.PassRecords.{records_of_pass}
 use Rattle.pas_guard.specs.declared.book.Guard.{Guard}
 

@@ -1,7 +1,7 @@
 -- What one operation asks and promises.
 use Rattle.std.specs.Prelude.{ℕ, ◌+◌, ◌-◌, ◌^◌, ◌<◌, ◌≤◌, ◌≡◌, true, false, List, [], ◌∷◌, ◌++◌, length, Option, None, Some, MatchOption, option_and_then}
 use Rattle.std.specs.Prelude.{Result, Ok, Err, MatchResult}
-use Rattle.pas_profile.specs.declared.{profile.Profile.Profile, event.NoRoom.NoRoom, name.Block.Block}
+use Rattle.pas_profile.specs.declared.{profile.Profile.Profile, event.NoRoom.NoRoom, name.Block.Block, entry.Entry.Entry}
 use Rattle.pas_steps.specs.{Views.View, Agreement.Agreed, Events.events_by, Lists.Whole, Desks.Standing, Kinds.Only, Unknown.unknown_pages}
 use Rattle.pas_steps.specs.declared.step.Made.{Made}
 use Rattle.pas_trace.specs.{Asked.request_in, Asked.freed_in, EveryPlan.is_asked, EveryPlan.IsRoomNamed}
@@ -9,7 +9,6 @@ use Rattle.pas_trace.specs.declared.{plan.What.What, plan.Task.Task, item.Reques
 use Rattle.pas_trace.specs.declared.plan.What.TheVariants.{Alloc, Guarded, Free, FreeSized, Raw, RawSized, Remake, Flush, Stop}
 use Rattle.pas_records.specs.Rooms.{records_in, room_of, Records}
 use Rattle.pas_records.specs.declared.record.Said.{Said}
-use Rattle.pas_free_log.specs.declared.log.Entry.{Entry}
 use Rattle.pas_cache.specs.{Caches.Cached, Caches.AtRest, Calls.Rests, Names.IsInRegion, Kinds.allocating}
 use Rattle.pas_cache.specs.Serves.{Wanted, ServesRequest, IsBlockFor, MakesAtMost}
 use Rattle.pas_answers.specs.Answers.{having, answer_of, Named, named, standing_for, IsFreed, IsAnswered, RefusalEnds, records_of, said_by}

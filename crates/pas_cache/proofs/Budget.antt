@@ -1,9 +1,9 @@
 -- For callers: the room of one request after another.
 use Rattle.std.proofs.Common.{refl, ◌≡◌, ℕ, ◌+◌, ◌≤◌, ◌++◌, length, sym, subst, arith, Option, Result, Bool, List}
 use Rattle.std.proofs.lemmas.List.{length-map, length-reverse}
-use Rattle.pas_profile.specs.declared.{profile.Profile.Profile, directory.Route.Route, event.NoRoom.NoRoom, name.Block.Block}
+use Rattle.pas_profile.specs.declared.{profile.Profile.Profile, directory.Route.Route, event.NoRoom.NoRoom, name.Block.Block, entry.Entry.Entry}
 use Rattle.pas_cache.specs.{Serves.Wanted, Serves.ServesBy, Changes.EmptiesLog, Caches.Cached, Caches.AtRest, Calls.MayAllocate, Calls.Allocates}
-use Rattle.pas_free_log.specs.declared.{log.Entry.Entry, noting.EndedRun.EndedRun}
+use Rattle.pas_free_log.specs.declared.noting.EndedRun.{EndedRun}
 use Rattle.pas_steps.specs.{Views.View, Events.events_by, Unknown.unknown_pages}
 use Rattle.pas_steps.specs.Desks.{Standing, Seat, CanCall, triples}
 use Rattle.pas_steps.proofs.{Adding.adds_none, Adding.adds_under, Adding.can_call, SpareRoom.Spares, SpareRoom.spare_falls, Unknown.has_room}

@@ -7,13 +7,13 @@ use Rattle.pas_cache.specs.{Caches.AtRest, Caches.Cached, Contents.CacheOf, Part
 use Rattle.pas_cache.specs.{Locals.RestsWith, Contents.with_log, Contents.with_noted_alone}
 use Rattle.pas_cache.specs.Calls.{MayAllocate, Begins, Frees, FlushesLog, StopsCache, SettlesEach}
 use Rattle.pas_segregated.specs.declared.slots.Slots.{Slots}
-use Rattle.pas_profile.specs.declared.{profile.Profile.Profile, event.FreeFault.FreeFault, event.Range.Range, word.Word.Word}
+use Rattle.pas_profile.specs.declared.{profile.Profile.Profile, event.FreeFault.FreeFault, event.Range.Range, word.Word.Word, entry.Entry.Entry}
 use Rattle.pas_steps.specs.{Views.View, Clear.IsClear, Clear.HasNothing, Kinds.looking}
 use Rattle.pas_steps.specs.declared.step.{Made.Made, Step.TheVariants.Look}
 use Rattle.pas_steps.proofs.{Adding.adds_none, Adding.adds_step, Adding.adds_under, Apart.no_events, Called.call_none, Called.call_then, Called.next_call}
 use Rattle.pas_steps.proofs.{Calls.does_none, Calls.does_idly}
 use Rattle.pas_free_log.specs.{Conditions.IsEntryOf, Flushes.Flushes}
-use Rattle.pas_free_log.specs.declared.{log.Entry.Entry, noting.EndedRun.EndedRun}
+use Rattle.pas_free_log.specs.declared.noting.EndedRun.{EndedRun}
 use Rattle.pas_cache.specs.Changes.{EmptiesLog, EmptiesFull, LogsEntry, StopsEach}
 use Rattle.pas_cache.specs.Names.{IsInRegion, IsFaultOf, MayFlush, EmptiesWhere, LogsInto}
 use Rattle.pas_steps.specs.Calls.{Leads, Calls, Does, nothing}

@@ -1,13 +1,13 @@
 -- What the calls of a cache promise.
 use Rattle.std.specs.Prelude.{ℕ, ◌+◌, ◌*◌, ◌≤◌, ◌≡◌, Bool, true, List, [], ◌∷◌, ◌++◌, length, Option, None, Result, Ok, Err, MatchResult}
 use Rattle.pas_profile.specs.declared.{event.FreeFault.FreeFault, event.NoRoom.NoRoom, directory.Route.Route, name.Name.Name, name.Block.Block}
-use Rattle.pas_profile.specs.declared.{profile.Profile.Profile, word.Word.Word, event.Range.Range}
+use Rattle.pas_profile.specs.declared.{profile.Profile.Profile, word.Word.Word, event.Range.Range, entry.Entry.Entry}
 use Rattle.pas_steps.specs.{Views.View, Events.events_by, Lists.Whole, Calls.Calls, Desks.Standing, Desks.triples, Desks.made, Unknown.HasRoom}
 use Rattle.pas_steps.specs.{Unknown.unknown_pages, Clear.HasNothing, Kinds.Only}
 use Rattle.pas_steps.specs.declared.step.{Made.Made, Step.TheVariants.Look}
 use Rattle.pas_large.specs.{Named.missed_steps, Telling.IsToldByDoor}
 use Rattle.pas_search.specs.Searches.{search_steps}
-use Rattle.pas_free_log.specs.declared.{noting.EndedRun.EndedRun, log.Entry.Entry}
+use Rattle.pas_free_log.specs.declared.noting.EndedRun.{EndedRun}
 use Rattle.pas_cache.specs.{Caches.Cached, Caches.AtRest, Names.IsInRegion, Names.IsFaultOf, Changes.EmptiesLog, Changes.LogsEntry, Changes.StopsEach}
 use Rattle.pas_cache.specs.{Kinds.releasing, Kinds.allocating, Contents.with_log, Contents.with_noted_alone}
 use Rattle.pas_cache.specs.Serves.{Wanted, turn_of, HasCached, ServesRequest, IsBlockFor, pages_of, MakesFew, MakesAtMost, MakesDeedsOf, IsSilent, IsToldBy}

@@ -2,10 +2,10 @@
 use Rattle.std.specs.Prelude.{◌/◌, ◌%◌, ◌≡◌, ◌≢◌, Bool, List, All}
 use Rattle.pas_profile.specs.{Profiles.IsPage, Blocks.address_of}
 use Rattle.pas_profile.specs.declared.{event.FreeFault.FreeFault, event.FreeFault.TheVariants.Outside, event.FreeFault.TheVariants.Unaligned, name.Name.Name}
-use Rattle.pas_profile.specs.declared.{profile.Profile.Profile}
+use Rattle.pas_profile.specs.declared.{profile.Profile.Profile, entry.Entry.Entry}
 use Rattle.pas_steps.specs.{Views.View, Calls.Calls, Calls.Does, Calls.nothing, Desks.Standing, Clear.IsClear}
 use Rattle.pas_steps.specs.declared.step.Made.{Made}
-use Rattle.pas_free_log.specs.declared.{log.Entry.Entry, noting.EndedRun.EndedRun}
+use Rattle.pas_free_log.specs.declared.noting.EndedRun.{EndedRun}
 use Rattle.pas_free_log.specs.{Noted.AreRanges, Conditions.IsEntryOf}
 use Rattle.pas_cache.specs.Changes.{EmptiesFull, LogsEntry}
 

@@ -6,9 +6,9 @@ ghost use Rattle.pas_cache.specs.Names.{IsInRegion, IsFaultOf, MayFlush, Empties
 
 use crate::cache::ThreadCache;
 use arrayvec::ArrayVec;
-use pas_free_log::{EndedRun, Entry, FreeLog, flush};
+use pas_free_log::{EndedRun, FreeLog, flush};
 use pas_profile::limits::{GRAIN_BYTES, MOST_LOGGED, PAGE_BYTES};
-use pas_profile::{FreeFault, Name, Profile};
+use pas_profile::{Entry, FreeFault, Name, Profile};
 use pas_steps::Desk;
 
 /// Whether the address is a multiple of 16 on a page of the region.
@@ -56,7 +56,7 @@ fn log_entry<D: Desk>(
 
 impl ThreadCache {
     ghost use Rattle.std.specs.Prelude.{◌≡◌, ◌<◌, ◌≤◌, ◌-◌, ◌*◌, ◌%◌, ◌^◌, ◌+◌, length};
-    ghost use Rattle.pas_free_log.specs.Logs.{entry_of, sized_entry};
+    ghost use Rattle.pas_profile.specs.Entries.{entry_of, sized_entry};
     ghost use Rattle.pas_steps.specs.Desks.{CanCall};
     ghost use Rattle.pas_cache.specs.{Caches.cached, Caches.seat_of, Caches.AtRest, Calls.Frees, Calls.FlushesLog};
 

@@ -3,8 +3,8 @@ use Rattle.std.proofs.Common.{◌≡◌, ◌≢◌, ℕ, ◌+◌, ◌/◌, ◌%�
 use Rattle.std.proofs.Common.{Some, length, get_or, set, inl, inr, refl, ap, sym, subst, ◌∙◌, arith, get_or-set_other, get_or-set_same, length-set, eq-eqb}
 use Rattle.std.proofs.Common.{eqb-true, is_some, le-leb, leb-true, ne_eqb, ◌-◌, map, append_assoc, zero, suc, not, length-drop, drop, take, append-nil}
 use Rattle.std.proofs.lemmas.Bool.{and_from, and_parts, cases_eq, false_from_ne_true, lt-leb}
-use Rattle.pas_profile.specs.{Directories.IsKind, Profiles.IsPage, Blocks.address_of}
-use Rattle.pas_profile.specs.declared.{name.Block.Block, name.Name.Name, profile.Profile.Profile}
+use Rattle.pas_profile.specs.{Directories.IsKind, Profiles.IsPage, Blocks.address_of, Entries.entry_of}
+use Rattle.pas_profile.specs.declared.{name.Block.Block, name.Name.Name, profile.Profile.Profile, entry.Entry.Entry}
 use Rattle.pas_machine.specs.Machines.{profile_of}
 use Rattle.pas_machine.specs.declared.machine.Machine.{Machine}
 use Rattle.pas_trace.specs.{Named.standing_for, EveryPlan.all_ops, Plans.ops_of, Plans.IsPlanOf, Plans.phases_of}
@@ -13,7 +13,7 @@ use Rattle.pas_trace.specs.Acts.{acts_of_op, acts_of_ops, acts_of_work, close_ac
 use Rattle.pas_trace.specs.declared.{item.Request.Request, plan.Chore.Chore, plan.Op.Op, plan.Phase.Phase, plan.Task.Task as AskedTask}
 use Rattle.pas_trace.specs.declared.{plan.What.TheVariants.Alloc, plan.Work.Work, plan.Plan.Plan}
 use Rattle.pas_check.specs.Begins.{after_task, begun_act, entries_due, flushing, freeing_at, freeing_named, is_full, is_page, logging, remaking, remaking_named}
-use Rattle.pas_check.specs.Begins.{request_for, says, stopping, suits, tells, unsized}
+use Rattle.pas_check.specs.Begins.{request_for, says, stopping, suits, tells}
 use Rattle.pas_check.specs.{Bounds.FitsRequest, Bounds.HaveHeaps, Bounds.IsKept, Meanings.heap_in, Meanings.meaning_at, Meanings.meaning_of, Accepted.IsVerdict}
 use Rattle.pas_check.specs.{Accepted.IsWhole, Shown.IsKnown, Takes.Takes}
 use Rattle.pas_check.specs.Tables.{logged, logs_held, meant, names_held}
@@ -22,8 +22,8 @@ use Rattle.pas_check.specs.Leading.{Fails, IsLed, IsLineLed, IsWithin, Leads, St
 use Rattle.pas_check.specs.States.{Due, Writes, Serves, Examines, Task, Does, Stand, with_at, with_due, with_name, Reports, at_first}
 use Rattle.pas_check.specs.Tasks.{ActTaken, Asks, Comes, EntryLogged, FreesEntry, FreesNamed, IsAnswered, IsCarried, IsNext, IsSuited, LogEmptied, PassTaken}
 use Rattle.pas_check.specs.Tasks.{Remakes, Resizes, SaysNamed, Stands}
-use Rattle.pas_check.specs.declared.{acting.Judge.Judge, cutting.Cursor.Cursor, entry.Entry.Entry, logging.Logs.Logs, naming.Meaning.Meaning}
-use Rattle.pas_check.specs.declared.{naming.Names.Names, serving.Wanted.Wanted, verdict.Verdict.TheVariants.Yes, verdict.Verdict.TheVariants.No}
+use Rattle.pas_check.specs.declared.{acting.Judge.Judge, cutting.Cursor.Cursor, logging.Logs.Logs, naming.Meaning.Meaning, naming.Names.Names}
+use Rattle.pas_check.specs.declared.{serving.Wanted.Wanted, verdict.Verdict.TheVariants.Yes, verdict.Verdict.TheVariants.No}
 use Rattle.pas_check.proofs.ActsOfPlans.{begun_alike, is_followed, planned_back, planned_front, acts_fit, all_planned}
 use Rattle.pas_check.proofs.Leads.{kept_same, leads_alike, leads_fails, leads_nowhere, leads_on, fails_line}
 use Rattle.std.specs.List.{filter}
@@ -299,7 +299,7 @@ after_none k r replaced found none v = search arith
 
 -- in each case it computes, or is given
 pub after_some : (k : ℕ) (r : Request) (replaced : Option Name) (name : Name) (found : Option Block) → replaced ≡ Some name → is_some found ≡ true → (v : Stand)
-    → after_request v k r replaced found [] ≡ logging (is_full v k) (with_name v r.name found) k (unsized name) []
+    → after_request v k r replaced found [] ≡ logging (is_full v k) (with_name v r.name found) k (entry_of name) []
 after_some k r replaced name found is some v = search arith
 
 -- A request has the fields of what is wanted, whose bounds are given.
@@ -344,11 +344,11 @@ module _ {f : Profile} {text : List ℕ} {old : Judge} {from to : Cursor} {k : �
 
     -- the name that it replaces is
     pub served_logged : (name : Name) → ((v : Stand) → after_request v k r replaced found [] ≡ logging (is_full v k) (with_name v r.name found) k
-        (unsized name) [])
-        → {new : Judge} {last : Cursor} {is : Bool} → EntryLogged f text (record old { machine = machine; names = names }) to new last k (unsized name) is
+        (entry_of name) [])
+        → {new : Judge} {last : Cursor} {is : Bool} → EntryLogged f text (record old { machine = machine; names = names }) to new last k (entry_of name) is
         → IsCarried f text s from new last is
     served_logged name same logged =
-        comes_on (served_leads (same made ∙ sym (left_kept (is_full named k) named k (unsized name) []))) (logged.answered named [] s.left served_stands)
+        comes_on (served_leads (same made ∙ sym (left_kept (is_full named k) named k (entry_of name) []))) (logged.answered named [] s.left served_stands)
 
 -- An act that only asks is taken where its request is.
 pub asks_taken : {f : Profile} {text : List ℕ} {old new : Judge} {from to : Cursor} {act : Act} {is : Bool} {r : Request} {w : Wanted} (k : ℕ)

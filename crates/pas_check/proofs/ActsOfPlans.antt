@@ -3,8 +3,8 @@ use Rattle.std.proofs.Common.{◌≡◌, ◌≢◌, Option, None, Some, ℕ, zer
 use Rattle.std.proofs.Common.{refl, subst, arith, MatchOption, ◌/◌, ◌==◌, if◌then◌else◌, nat_le, max, inl, inr, sym, ◌∙◌}
 use Rattle.std.specs.List.{AllByRecursion, filter}
 use Rattle.pas_profile.specs.{Directories.IsKind, Profiles.IsAdmitted, Profiles.IsValid, Requests.kind_of_route, Routes.IsRouteOf, Routes.room_by}
-use Rattle.pas_profile.specs.{Blocks.address_of}
-use Rattle.pas_profile.specs.declared.{directory.Route.Route, profile.Profile.Profile, event.Event.Event, name.Block.Block}
+use Rattle.pas_profile.specs.{Blocks.address_of, Entries.sized_entry, Entries.entry_of}
+use Rattle.pas_profile.specs.declared.{directory.Route.Route, profile.Profile.Profile, event.Event.Event, name.Block.Block, entry.Entry.Entry}
 use Rattle.pas_profile.proofs.Sizes.{class_known, route_is, class_size_le}
 use Rattle.pas_trace.specs.Acts.{Act, StopsIdle, Ends, Lowers, act_kept, numbers_from, acts_from, acts_of, acts_of_chore, acts_of_op, acts_of_ops, acts_of_work}
 use Rattle.pas_trace.specs.Acts.{close_acts, phase_acts, threads_where, Operates, Guards, Ticks, MakesPass, MarksPhase, Wakes, MarksClose}
@@ -18,11 +18,11 @@ use Rattle.std.proofs.lemmas.{Bool.and_parts, Option.none-some, Option.same_Some
 use Rattle.pas_records.specs.declared.record.{Record.Record, Said.Said}
 use Rattle.pas_trace.specs.Named.{Named, standing_for}
 use Rattle.pas_trace.specs.declared.plan.What.TheVariants.{Alloc, Guarded, Free, FreeSized, Raw, RawSized, Remake, Flush, Stop}
-use Rattle.pas_check.specs.Begins.{after_task, begun_act, begun_from, begun_what, entries_due, entry_of, flushing, freeing, freeing_at, freeing_named}
-use Rattle.pas_check.specs.Begins.{goes_down, guarding, is_aligned, is_page, logging, lowered_due, past_outcomes, remaking, remaking_named, request_for}
-use Rattle.pas_check.specs.Begins.{settled_with, stopping, suits, sweeping, tells, unsized, begun, ready, ready_with}
+use Rattle.pas_check.specs.Begins.{after_task, begun_act, begun_from, begun_what, entries_due, flushing, freeing, freeing_at, freeing_named, goes_down}
+use Rattle.pas_check.specs.Begins.{guarding, is_aligned, is_page, logging, lowered_due, past_outcomes, remaking, remaking_named, request_for, settled_with}
+use Rattle.pas_check.specs.Begins.{stopping, suits, sweeping, tells, begun, ready, ready_with}
 use Rattle.pas_check.specs.States.{Due, Writes, Tries, Does, Reports, Stand, Task as ToDo}
-use Rattle.pas_check.specs.declared.{entry.Entry.Entry, guard.Guard.Guard}
+use Rattle.pas_check.specs.declared.guard.Guard.{Guard}
 use Rattle.pas_check.proofs.{OneNext.no_outcome, Leads.first_none}
 
 -- ---- A task is begun without a line: what may come then is what might before
@@ -47,7 +47,7 @@ named_no_pass : (f : Profile) (s : Stand) (k name room : ℕ) (block : Option (O
     → BeginsNoPass (freeing_named f s k name room block).due
 named_no_pass f s k name room None no_pass = no_pass
 named_no_pass f s k name room (Some None) no_pass = refl
-named_no_pass f s k name room (Some (Some block)) no_pass = freeing_no_pass f s k (entry_of block.name room) no_pass
+named_no_pass f s k name room (Some (Some block)) no_pass = freeing_no_pass f s k (sized_entry block.name room) no_pass
 
 -- in each case it computes, or is given
 remaking_no_pass : (suited : Bool) (s : Stand) (k : ℕ) (r : Request) (old : Block) → BeginsNoPass (remaking suited s k r old).due
@@ -314,8 +314,8 @@ module _ (f : Profile) (s : Stand) (due : s.due ≡ []) (small : s.epoch < 2 ^ 6
   operates k (Guarded keeper name heap size align) thread fits = record { fits = fits.1 heap fits.0; events = refl; epoch = small; heaps = heaps }
   operates k (Free name) thread fits = frees_named k name 0 (standing_for s.names name) thread
   operates k (FreeSized name room) thread fits = frees_named k name room (standing_for s.names name) thread
-  operates k (Raw block) thread fits = frees k (unsized block) thread
-  operates k (RawSized room block) thread fits = frees k (entry_of block room) thread
+  operates k (Raw block) thread fits = frees k (entry_of block) thread
+  operates k (RawSized room block) thread fits = frees k (sized_entry block room) thread
   operates k (Remake name old heap size align) thread fits = remakes k name heap size align (standing_for s.names old) (heaps old) thread fits
   operates k Flush thread fits = flushes k [] [] thread tt
   operates k Stop thread fits = flushes k [] [] thread tt

@@ -3,7 +3,7 @@ use Rattle.std.proofs.Common.{◌≡◌, ◌≢◌, ℕ, ◌+◌, ◌-◌, ◌*�
 use Rattle.std.proofs.Common.{get_or-set_other, get_or-set_same, drop-set-lt, length-take-le}
 use Rattle.std.proofs.lemmas.{Bool.cases_lt, List.drop-set-add, List.take-set-le, List.take_more_set}
 use Rattle.pas_check.specs.Tables.{log_of}
-use Rattle.pas_check.specs.declared.entry.Entry.{Entry}
+use Rattle.pas_profile.specs.declared.entry.Entry.{Entry}
 
 module _ (entries : List Entry) (counts : List ℕ) (sized : length entries ≡ 64 * length counts) (few : (j : ℕ) → get_or counts j 0 ≤ 64) where
   left_there : (k : ℕ) → k < length counts → 64 ≤ length (drop (64 * k) entries)

@@ -5,7 +5,7 @@ use Rattle.std.proofs.Common.{leb-true, ltb-true, le-leb, lt-ltb}
 use Rattle.std.proofs.lemmas.{Option.none-some, Option.same_Some, Bool.and_from, Bool.and_parts, Bool.cases_lt}
 use Rattle.pas_profile.specs.declared.{profile.Profile.Profile, name.Block.Block, name.Name.Name, event.Event.Event, event.Why.Why, event.Why.TheVariants.Ended}
 use Rattle.pas_profile.specs.declared.{event.Why.TheVariants.NoBlock, event.Why.TheVariants.SizeDiffers, directory.Directory.Directory, event.Outcome.Outcome}
-use Rattle.pas_profile.specs.declared.{directory.Route.TheVariants.Class}
+use Rattle.pas_profile.specs.declared.{directory.Route.TheVariants.Class, entry.Entry.Entry}
 use Rattle.pas_profile.specs.{Blocks.address_of, Blocks.grain_of, Blocks.length_of, Profiles.IsPage, Profiles.IsValid, Directories.IsKind, Classes.IsClass}
 use Rattle.pas_profile.specs.{Requests.kind_of_class, Requests.route_in, Routes.IsRouteOf}
 use Rattle.pas_machine.specs.{Laws.IsCounted, Places.block_of, Places.IsEach}
@@ -16,7 +16,7 @@ use Rattle.pas_check.specs.Calls.{Differs, outcome_in, IsStepped, EntryTaken, Li
 use Rattle.pas_check.specs.States.{Stand, Due, Frees, Serves, Tries, Never, Examines, Shows, with_due, with_one, Writes, Heads, Totals}
 use Rattle.pas_check.specs.Takes.{MayRefuse, IsEventOf, IsServing, IsFor, IsRefusal, directory_of, serving, MayCome, record_of, after_outcome, MayServe}
 use Rattle.pas_check.specs.Takes.{after_record, TakesRequest, TakesTry, IsOutcome, TakesOutcome, TakesDue, Takes, TakesFirst, TakesKeeping, after_keeping}
-use Rattle.pas_check.specs.declared.{entry.Entry.Entry, examining.Examined.Examined}
+use Rattle.pas_check.specs.declared.examining.Examined.{Examined}
 use Rattle.pas_bits.proofs.Runs.{first_of_run}
 use Rattle.pas_steps.specs.Events.{actor_of}
 use Rattle.pas_check.specs.{Begins.past_outcomes, Begins.ready, Readings.byte_at, Readings.of_u8, Readings.past_digits}

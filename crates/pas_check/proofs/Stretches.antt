@@ -1,7 +1,7 @@
 -- Stretches of lines: of a log that is emptied, of a request, of a pass, and of requests that are guarded.
 use Rattle.std.proofs.Common.{◌≡◌, ℕ, ◌+◌, ◌^◌, ◌<◌, true, false, List, [], ◌∷◌, ◌++◌, inl, inr, refl, ap, sym, subst, ◌∙◌, arith, Option, None, Some, ◌↔◌}
 use Rattle.std.proofs.Common.{Bool, ◌≢◌, ◌==◌, if◌then◌else◌, cond, map, eqb-true, ◌||◌, IfSome, MatchBool}
-use Rattle.pas_profile.specs.declared.{event.Event.Event, name.Block.Block, name.Name.Name, event.Outcome.Outcome, profile.Profile.Profile}
+use Rattle.pas_profile.specs.declared.{event.Event.Event, name.Block.Block, name.Name.Name, event.Outcome.Outcome, profile.Profile.Profile, entry.Entry.Entry}
 use Rattle.pas_machine.specs.{Machines.profile_of, Machines.StandsFor, Machine.IsPlace, Machine.Run, State.ends_in}
 use Rattle.pas_machine.specs.declared.machine.Machine.{Machine}
 use Rattle.pas_check.specs.Begins.{entries_due, replacing, ready, has_sides, raising, goes_down, guard_of, lowered_due, page_above, page_below, sweeping}
@@ -11,9 +11,8 @@ use Rattle.pas_check.specs.Leading.{IsWithin, lines_from, Fails, Leads, IsLineLe
 use Rattle.pas_check.specs.Takes.{IsEventOf, TakesEntry, TakesRequest, directory_of, Takes, TakesOutcome, after_outcome, TakesKeeping, TakesTry, serving}
 use Rattle.pas_check.specs.Takes.{IsServing, MayServe, after_record, block_in, after_keeping, given_next, is_back, kept_next, record_of}
 use Rattle.pas_check.specs.States.{Due, Frees, Stand, with_due, with_one, Serves, with_name, Examines, Tries, Writes, Never}
-use Rattle.pas_check.specs.declared.{cutting.Cursor.Cursor, entry.Entry.Entry, serving.Wanted.Wanted, guarding.Trial.TheVariants.Gives}
-use Rattle.pas_check.specs.declared.{guarding.Trial.TheVariants.Passes, guarding.Trial.TheVariants.Stops, acting.Judge.Judge, guard.Guard.Guard}
-use Rattle.pas_check.specs.declared.{naming.Names.Names}
+use Rattle.pas_check.specs.declared.{cutting.Cursor.Cursor, serving.Wanted.Wanted, guarding.Trial.TheVariants.Gives, guarding.Trial.TheVariants.Passes}
+use Rattle.pas_check.specs.declared.{guarding.Trial.TheVariants.Stops, acting.Judge.Judge, guard.Guard.Guard, naming.Names.Names}
 use Rattle.pas_check.proofs.OneNext.{one_event, one_next, one_takes, kept_fits, no_answer, outcome_fits, serves_fits}
 use Rattle.pas_check.proofs.Leads.{EndsBy, kept_more, reaches_here, kept_same, small_of, then_fails, then_lacks, then_leads, IsSameAt, leads_idly, leads_line}
 use Rattle.pas_check.proofs.Leads.{leads_on, due_takes, takes_due, undone, due_lacks, due_refused, leads_nowhere, led_on, few_lines}

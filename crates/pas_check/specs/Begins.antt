@@ -3,7 +3,8 @@ use Rattle.std.specs.Prelude.{ℕ, zero, suc, ◌+◌, ◌-◌, ◌/◌, ◌%◌
 use Rattle.std.specs.Prelude.{Option, None, Some}
 use Rattle.std.specs.List.{filter}
 use Rattle.pas_profile.specs.declared.{directory.Directory.Directory, event.Event.Event, name.Block.Block, name.Name.Name, profile.Profile.Profile}
-use Rattle.pas_profile.specs.Blocks.{address_of, grain_of, length_of}
+use Rattle.pas_profile.specs.declared.{entry.Entry.Entry}
+use Rattle.pas_profile.specs.{Blocks.address_of, Blocks.grain_of, Blocks.length_of, Entries.entry_of, Entries.sized_entry}
 use Rattle.pas_machine.specs.State.{deed_in, ends_in}
 use Rattle.pas_trace.specs.declared.{plan.What.What, item.Request.Request}
 use Rattle.pas_trace.specs.declared.plan.What.TheVariants.{Alloc, Guarded, Free, FreeSized, Raw, RawSized, Remake, Flush, Stop, Tick, Pass, Idle}
@@ -13,7 +14,7 @@ use Rattle.pas_trace.specs.Acts.{Act, Operates, Guards, Settles, Ticks, MakesPas
 pub use Rattle.pas_trace.specs.Named.{suits, request_for}
 use Rattle.pas_check.specs.States.{Due, Writes, Frees, Serves, Tries, Never, Examines, Heads, Shows, Totals, Task, Does, Reports, Stand, with_at, with_due}
 use Rattle.pas_check.specs.States.{with_name}
-use Rattle.pas_check.specs.declared.{entry.Entry.Entry, guard.Guard.Guard}
+use Rattle.pas_check.specs.declared.guard.Guard.{Guard}
 
 -- the line of just this record is due
 abbrev pub says : Stand → Record → Stand
@@ -24,14 +25,6 @@ abbrev pub tells : Stand → ℕ → Said → Stand
 tells s k said = says s (Record.Said k said)
 
 -- ---- logs
--- the entry of a free that names this room
-abbrev pub entry_of : Name → ℕ → Entry
-entry_of name room = record { name = name; room = room }
-
--- .. and of one that names none
-abbrev pub unsized : Name → Entry
-unsized name = entry_of name 0
-
 abbrev pub entries_due : ℕ → List Entry → List Due
 entries_due k log = map (λ entry. Frees k entry) log
 
@@ -66,7 +59,7 @@ freeing f s k entry = freeing_at (is_page f (address_of entry.name / 4096)) (is_
 abbrev pub freeing_named : Profile → Stand → ℕ → ℕ → ℕ → Option (Option Block) → Stand
 freeing_named f s k name room None = s
 freeing_named f s k name room (Some None) = tells s k (Said.Skipped name)
-freeing_named f s k name room (Some (Some block)) = freeing f s k (entry_of block.name room)
+freeing_named f s k name room (Some (Some block)) = freeing f s k (sized_entry block.name room)
 
 -- ---- another size for a block
 -- A block that suits is kept, which is said, and the new name stands for it too. For another one a request is made, which replaces it.
@@ -83,7 +76,7 @@ remaking_named s k name size align (Some (Some old)) = remaking (suits old size 
 -- the name that a request replaces, if there is one, is logged once the request is served. Then these are due
 abbrev pub replacing : Option Name → Stand → ℕ → List Due → Stand
 replacing None s k more = with_due s more
-replacing (Some old) s k more = logging (is_full s k) s k (unsized old) more
+replacing (Some old) s k more = logging (is_full s k) s k (entry_of old) more
 
 -- ---- guards
 -- A guard goes down where its keeper sweeps, if more blocks ended at the address of its block than the block's turn says, or all are to go.
@@ -135,8 +128,8 @@ begun_what f s k (Alloc name heap size align) = with_due s (Serves k record { na
 begun_what f s k (Guarded keeper name heap size align) = with_due s (Serves k record { name = name; heap = heap; size = size; align = align } None ∷ [])
 begun_what f s k (Free name) = freeing_named f s k name 0 (standing_for s.names name)
 begun_what f s k (FreeSized name room) = freeing_named f s k name room (standing_for s.names name)
-begun_what f s k (Raw block) = freeing f s k (unsized block)
-begun_what f s k (RawSized room block) = freeing f s k (entry_of block room)
+begun_what f s k (Raw block) = freeing f s k (entry_of block)
+begun_what f s k (RawSized room block) = freeing f s k (sized_entry block room)
 begun_what f s k (Remake name old heap size align) = remaking_named s k name size align (standing_for s.names old)
 begun_what f s k Flush = flushing s k [] []
 begun_what f s k Stop = flushing s k [] []

@@ -3,7 +3,7 @@ use Rattle.std.specs.Prelude.{ℕ, ◌^◌, ◌<◌, ◌/◌, ◌%◌, ◌≡◌
 use Rattle.std.specs.Prelude.{MatchBool}
 use Rattle.std.specs.List.{filter}
 use Rattle.pas_profile.specs.declared.{directory.Directory.Directory, profile.Profile.Profile, event.Event.Event, event.Outcome.Outcome, event.Why.Why}
-use Rattle.pas_profile.specs.declared.{name.Block.Block, name.Name.Name}
+use Rattle.pas_profile.specs.declared.{name.Block.Block, name.Name.Name, entry.Entry.Entry}
 use Rattle.pas_profile.specs.declared.event.Outcome.TheVariants.{Unbacked, Bare, Young, InUse, NotOffered}
 use Rattle.pas_profile.specs.{Profiles.IsPage, Requests.room_in, Blocks.address_of, Blocks.grain_of, Blocks.length_of}
 use Rattle.pas_bits.specs.Runs.{in_run}
@@ -16,7 +16,7 @@ use Rattle.pas_check.specs.Leading.{Fails, IsLed, IsWithin, Leads}
 use Rattle.pas_check.specs.Ranges.{Fits}
 use Rattle.pas_check.specs.States.{Due, Examines, Serves, Tries, Stand, with_due, with_name}
 use Rattle.pas_check.specs.Takes.{IsEventOf, IsRefusal, MayCome, MayRefuse, MayServe, after_outcome, block_in, directory_of, record_of}
-use Rattle.pas_check.specs.declared.{cutting.Cursor.Cursor, examining.Examined.Examined, entry.Entry.Entry, guard.Guard.Guard, guarding.Trial.Trial}
+use Rattle.pas_check.specs.declared.{cutting.Cursor.Cursor, examining.Examined.Examined, guard.Guard.Guard, guarding.Trial.Trial}
 use Rattle.pas_check.specs.declared.{guarding.Trial.TheVariants.Gives, guarding.Trial.TheVariants.Passes, guarding.Trial.TheVariants.Stops}
 use Rattle.pas_check.specs.declared.{serving.Wanted.Wanted}
 use Rattle.pas_records.specs.Lines.{line_of, line_of_event}

@@ -1,9 +1,8 @@
 -- Records whose numbers fit their places.
 use Rattle.std.specs.Prelude.{◌^◌, ◌<◌, List, [], ◌∷◌}
 use Rattle.pas_profile.specs.{Directories.IsKind, Blocks.address_of}
-use Rattle.pas_profile.specs.declared.{name.Name.Name, name.Block.Block, event.Event.Event, event.Why.Why}
+use Rattle.pas_profile.specs.declared.{name.Name.Name, name.Block.Block, event.Event.Event, event.Why.Why, entry.Entry.Entry}
 use Rattle.pas_records.specs.declared.record.{Said.Said, Record.Record}
-use Rattle.pas_check.specs.declared.entry.Entry.{Entry}
 
 pub record FitsName (name : Name) : Type 0 where
   pub address : address_of name < 2 ^ 32

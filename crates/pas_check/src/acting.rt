@@ -15,7 +15,6 @@ ghost use Rattle.pas_check.specs.declared.cutting.Cursor.{Cursor as TheCursor};
 
 use crate::cutting::Cursor;
 use crate::emptying::take_entries;
-use crate::entry::Entry;
 use crate::examining::take_outcomes;
 use crate::following::take_record;
 use crate::guard::Guard;
@@ -25,7 +24,7 @@ use crate::naming::Names;
 use crate::requesting::take_request;
 use crate::serving::{Wanted, wanted_for};
 use pas_machine::Machine;
-use pas_profile::{Block, Name, NoMemory};
+use pas_profile::{Block, Entry, Name, NoMemory};
 use pas_records::{Record, Said};
 use pas_trace::{Op, Plan, What};
 use std::alloc::Global;

@@ -4,9 +4,9 @@ ghost use Rattle.pas_machine.specs.Machines.{profile_of};
 ghost use Rattle.pas_check.specs.{Calls.EntriesTaken, Leading.IsWithin, Leading.StaysWithin};
 
 use crate::cutting::{Cursor, next_line};
-use crate::entry::Entry;
 use crate::taking::take_entry;
 use pas_machine::Machine;
+use pas_profile::Entry;
 
 /// Takes the lines of the entries of the actor's log, one for each in order, and says whether all are there. After false the cursor has counted the line that
 /// isn't its entry's, or that is wanting.

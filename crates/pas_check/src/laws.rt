@@ -1,6 +1,6 @@
 //! What the definitions of the checker promise. Each law is the contract of an empty function.
 ghost use Rattle.std.specs.Prelude.{List, ℕ, ◌≡◌, ◌+◌, ◌++◌, ◌∷◌, [], length, map, true};
-ghost use Rattle.pas_profile.specs.declared.{event.Event.Event, event.Why.Why, profile.Profile.Profile};
+ghost use Rattle.pas_profile.specs.declared.{event.Event.Event, event.Why.Why, profile.Profile.Profile, entry.Entry.Entry};
 ghost use Rattle.pas_profile.specs.declared.word.Word.TheVariants as Word;
 ghost use Rattle.pas_machine.specs.Machine.{Run, Admits};
 ghost use Rattle.pas_steps.specs.{Desks.triples, Lists.Whole, Lists.word_after};
@@ -13,7 +13,7 @@ ghost use Rattle.pas_trace.specs.declared.plan.Plan.{Plan};
 ghost use Rattle.pas_records.specs.Lines.{line_of, lines_of};
 ghost use Rattle.pas_records.specs.declared.record.Record.{Record};
 ghost use Rattle.pas_check.specs.Accepted.{IsDone, IsStopped, IsVerdict, IsWhole};
-ghost use Rattle.pas_check.specs.declared.{entry.Entry.Entry, verdict.Verdict.Verdict};
+ghost use Rattle.pas_check.specs.declared.verdict.Verdict.{Verdict};
 
 /// No two records whose numbers fit their places have one line. So a line of a transcript says one thing.
 #[tactic(auto, using(crate::proofs::Readings::one_line))]

@@ -6,7 +6,6 @@ mod awake;
 mod checking;
 mod cutting;
 mod emptying;
-pub mod entry;
 mod examining;
 mod following;
 pub mod guard;

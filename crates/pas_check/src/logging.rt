@@ -1,8 +1,7 @@
 //! The logs of the threads.
 ghost use Rattle.std.specs.Prelude.{ℕ, ◌≡◌, ◌≢◌, ◌+◌, ◌*◌, ◌<◌, ◌≤◌, [], ◌∷◌, ◌++◌, length, nat_le, slice_index, vec_len, IfOk};
 
-use crate::entry::Entry;
-use pas_profile::{Address, Name, NoMemory};
+use pas_profile::{Address, Entry, Name, NoMemory};
 use std::alloc::Global;
 
 /// The frees of each thread since its log was emptied last, at most 64, in order. Those of thread k stand from the place 64 k on.

@@ -6,10 +6,9 @@ ghost use Rattle.pas_machine.specs.{Machine.IsPlace, Machine.Run, Machines.profi
 ghost use Rattle.pas_check.specs.{Calls.IsStepped, Calls.IsTrueReason, Calls.EntryTaken, States.Stand, Takes.IsEventOf};
 ghost use Rattle.pas_records.specs.Lines.{IsShowable};
 
-use crate::entry::Entry;
 use crate::reading::is_line;
 use pas_machine::Machine;
-use pas_profile::{Address, Block, Directory, Event, Name, Why};
+use pas_profile::{Address, Block, Directory, Entry, Event, Name, Why};
 use pas_records::Record;
 
 /// Takes the event where it may come next, and says whether it may, where there were less than 2^32 before it: the machine counts so many.

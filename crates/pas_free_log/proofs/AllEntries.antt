@@ -8,12 +8,11 @@ use Rattle.pas_steps.specs.{Kinds.Only, Views.View, Views.epoch_of, Views.known_
 use Rattle.pas_steps.specs.{Calls.Calls, Desks.Standing, Desks.made, Events.events_by}
 use Rattle.pas_steps.proofs.{Apart.only_within, Apart.only_both, Apart.epoch_same, Past.in_turn_length, Frames.events_append, Calls.still_clear}
 use Rattle.pas_free_log.specs.{Stamps.stamps_by, Stamps.pages_met, Stamps.stamps_with, Frames.ending, Frames.freeing, Returns.PageSteps, Returns.first_on}
-use Rattle.pas_free_log.specs.{Returns.count_on, Conditions.MayEnd, Endings.TriesBy, Endings.EndSteps, Logs.entry_of, Noted.IsRange, Noted.AreRanges}
-use Rattle.pas_profile.specs.{Directories.deed_word_of, Blocks.address_of, Blocks.grain_of}
-use Rattle.pas_profile.specs.declared.{word.Word.Word, name.Name.Name}
+use Rattle.pas_free_log.specs.{Returns.count_on, Conditions.MayEnd, Endings.TriesBy, Endings.EndSteps, Noted.IsRange, Noted.AreRanges}
+use Rattle.pas_profile.specs.{Entries.entry_of, Directories.deed_word_of, Blocks.address_of, Blocks.grain_of}
+use Rattle.pas_profile.specs.declared.{word.Word.Word, name.Name.Name, entry.Entry.Entry}
 use Rattle.pas_rights.proofs.{Orders.return_few, Puts.puts_few}
-use Rattle.pas_free_log.specs.declared.{ending.Outcome.Outcome, ending.Outcome.TheVariants.Refused, ending.Outcome.TheVariants.Ended, log.Entry.Entry}
-use Rattle.pas_free_log.specs.declared.{noting.EndedRun.EndedRun}
+use Rattle.pas_free_log.specs.declared.{ending.Outcome.Outcome, ending.Outcome.TheVariants.Refused, ending.Outcome.TheVariants.Ended, noting.EndedRun.EndedRun}
 use Rattle.pas_free_log.specs.Flushes.{event_for, Settled, stamps_by_outcome, stamps_for, AfterEnd, EntriesSteps, shown_for, noted_for, noted_after, Flushes}
 use Rattle.pas_free_log.specs.Flushes.{EndsName}
 use Rattle.std.specs.List.{flat_map}

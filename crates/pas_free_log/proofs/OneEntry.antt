@@ -12,9 +12,9 @@ use Rattle.pas_steps.proofs.Apart.{in_apart, only_within, only_both, deeds_same,
 use Rattle.pas_free_log.specs.Stamps.{stamped_by, stamps_by, page_count, pages_from, pages_met, stamps_with}
 use Rattle.std.proofs.lemmas.Bool.{cases_eq, cases_Bool, eqb-false, not-true, and_parts, and_from, false≢true}
 use Rattle.pas_profile.specs.{Directories.deed_word_of, Directories.directory_read, Directories.IsKind, Profiles.IsValid, Profiles.IsDirectoryOf}
-use Rattle.pas_profile.specs.{Blocks.address_of, Blocks.grain_of}
+use Rattle.pas_profile.specs.{Blocks.address_of, Blocks.grain_of, Entries.entry_of, Entries.is_sized}
 use Rattle.pas_profile.specs.declared.{directory.Directory.Directory, profile.Profile.Profile, word.Word.Word, directory.Kind.Kind, name.Name.Name}
-use Rattle.pas_profile.specs.declared.{event.Event.Event, event.Range.Range}
+use Rattle.pas_profile.specs.declared.{event.Event.Event, event.Range.Range, entry.Entry.Entry}
 use Rattle.pas_bits.specs.{Runs.in_run, Runs.meets_page, Masks.is_set}
 use Rattle.pas_bits.proofs.Runs.{to_run, run_of, run_above, met_by}
 use Rattle.pas_steps.specs.{Allowed.HoldsOn, Allowed.IsEpochKnown, Allowed.IsStepOf, Frames.OnlyReturns, Effects.succeeds}
@@ -35,9 +35,8 @@ use Rattle.pas_profile.specs.Lives.{live_word, is_live, turn_of, grains_of}
 use Rattle.pas_profile.proofs.{Sizes.class_grains_positive, Sizes.class_grains_le, Codecs.read_is, Codecs.is_live-live_word, Codecs.turn_of-live_word}
 use Rattle.pas_free_log.specs.Endings.{guess_by, guess_by_kind, is_of, Tries, TriesBy, IsRefusedBy, last_step, IsEndOf, IsOfRegion, EndsOne, reason_by}
 use Rattle.pas_free_log.specs.Endings.{reason_for}
-use Rattle.pas_free_log.specs.declared.{ending.Outcome.Outcome, ending.Outcome.TheVariants.Refused, ending.Outcome.TheVariants.Ended, log.Entry.Entry}
-use Rattle.pas_free_log.specs.declared.{noting.EndedRun.EndedRun}
-use Rattle.pas_free_log.specs.{Logs.entry_of, Logs.is_sized, Flushes.EndsEntry}
+use Rattle.pas_free_log.specs.declared.{ending.Outcome.Outcome, ending.Outcome.TheVariants.Refused, ending.Outcome.TheVariants.Ended, noting.EndedRun.EndedRun}
+use Rattle.pas_free_log.specs.Flushes.{EndsEntry}
 use Rattle.pas_steps.specs.Events.{events_by, with_event, end_event, reason_of, event_of, sized_reason}
 use Rattle.pas_free_log.specs.Noted.{IsRange, AreRanges, range_of, run_of_kind, run_in, large_run}
 

@@ -1,13 +1,13 @@
 -- The end of one name.
 use Rattle.std.specs.Prelude.{ℕ, ◌/◌, ◌≡◌, ◌≢◌, ◌==◌, Bool, true, false, ◌&&◌, ◌⊎◌, List, [], ◌∷◌, ◌++◌, Option, Some, None}
-use Rattle.pas_profile.specs.{Classes.class_grains, Directories.directory_read, Blocks.address_of, Blocks.grain_of}
+use Rattle.pas_profile.specs.{Classes.class_grains, Directories.directory_read, Blocks.address_of, Blocks.grain_of, Entries.is_sized}
 use Rattle.pas_profile.specs.Lives.{live_word, is_live, turn_of, grains_of}
 use Rattle.pas_profile.specs.declared.{profile.Profile.Profile, directory.Directory.Directory, directory.Kind.Kind, name.Name.Name, word.Word.Word}
-use Rattle.pas_profile.specs.declared.{event.Why.Why}
+use Rattle.pas_profile.specs.declared.{event.Why.Why, entry.Entry.Entry}
 use Rattle.pas_steps.specs.{Desks.Standing, Desks.Adds, Desks.made, Events.reason_of, Events.sized_reason}
 use Rattle.pas_steps.specs.declared.step.{Made.Made, Step.Step, Step.TheVariants.Look, Step.TheVariants.End, Step.TheVariants.EndSized}
-use Rattle.pas_free_log.specs.{Conditions.KnowsEpoch, Conditions.IsRun, Logs.is_sized}
-use Rattle.pas_free_log.specs.declared.{log.Entry.Entry, ending.Outcome.Outcome, ending.Outcome.TheVariants.Ended, ending.Outcome.TheVariants.Refused}
+use Rattle.pas_free_log.specs.Conditions.{KnowsEpoch, IsRun}
+use Rattle.pas_free_log.specs.declared.ending.Outcome.{Outcome, TheVariants.Ended, TheVariants.Refused}
 
 -- ---- guesses
 -- the length of a block that begins on a page of this kind: that of the class, and 1 where blocks differ

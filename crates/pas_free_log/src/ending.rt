@@ -1,14 +1,12 @@
 //! The end of one name.
 ghost use Rattle.std.specs.Prelude.{◌≡◌, ◌≤◌, ◌↔◌, true, false, IfSome, IsTrue, MatchOption};
-ghost use Rattle.pas_profile.specs.{Lives.grains_of, Directories.IsKind};
+ghost use Rattle.pas_profile.specs.{Lives.grains_of, Directories.IsKind, Entries.entry_of, Entries.is_sized};
 ghost use Rattle.pas_steps.specs.Desks.{CanCall};
 ghost use Rattle.pas_free_log.specs.{Conditions.IsNameOf, Conditions.IsEntryOf, Conditions.KnowsEpoch, Endings.guess_by, Endings.is_of, Endings.EndsOne};
-ghost use Rattle.pas_free_log.specs.{Logs.entry_of, Logs.is_sized};
 
-use crate::log::Entry;
 use pas_profile::classes::class_size;
 use pas_profile::limits::{GRAIN_BYTES, PAGE_BYTES};
-use pas_profile::{Directory, Kind, Name, Profile, Word, life_word, read_deed, read_life};
+use pas_profile::{Directory, Entry, Kind, Name, Profile, Word, life_word, read_deed, read_life};
 use pas_steps::Desk;
 
 /// What came of the end of a name.

@@ -5,12 +5,12 @@ ghost use Rattle.pas_free_log.specs.{Logs.entries_in, Conditions.IsEntryOf, Cond
 ghost use Rattle.pas_free_log.specs.{Flushes.EndsName};
 
 use crate::ending::{Outcome, end_logged};
-use crate::log::{Entry, FreeLog};
+use crate::log::FreeLog;
 use crate::noting::{EndedRun, large_run, note};
 use crate::returning::return_run;
 use arrayvec::ArrayVec;
 use pas_profile::limits::{GRAIN_BYTES, MOST_LOGGED};
-use pas_profile::{Name, Word};
+use pas_profile::{Entry, Name, Word};
 use pas_steps::Desk;
 
 /// Ends the block of the entry's name, and stamps its pages and puts its grains back where it ended. Answers the heap and the pages of a large block

@@ -9,5 +9,5 @@ mod returning;
 
 pub use ending::may_end;
 pub use flushing::{end_one, flush};
-pub use log::{Entry, FreeLog};
+pub use log::FreeLog;
 pub use noting::EndedRun;

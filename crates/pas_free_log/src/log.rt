@@ -1,16 +1,9 @@
 //! The log.
 
 use arrayvec::ArrayVec;
-use pas_profile::Name;
 use pas_profile::limits::MOST_LOGGED;
+use pas_profile::{Entry, Name};
 use std::marker::Model;
-
-/// What a log holds of a free: the name of the block, and the room that it was freed with, or 0 where none was named.
-#[derive(Clone, Copy, Default, PartialEq, Eq, Drop)]
-pub struct Entry {
-    pub name: Name,
-    pub room: u32,
-}
 
 /// At most 64 entries of blocks that were freed, in the order in which they came. It takes no memory.
 #[derive(Drop)]
@@ -20,7 +13,7 @@ pub struct FreeLog {
 
 impl Model for FreeLog {
     ghost use Rattle.std.specs.Prelude.{List};
-    ghost use Rattle.pas_free_log.specs.declared.log.Entry.{Entry as TheEntry};
+    ghost use Rattle.pas_profile.specs.declared.entry.Entry.{Entry as TheEntry};
 
     ghost Value = { List TheEntry };
 
@@ -29,7 +22,7 @@ impl Model for FreeLog {
 
 impl FreeLog {
     ghost use Rattle.std.specs.Prelude.{◌≡◌, ◌++◌, ◌∷◌, ◌<◌, ◌↔◌, [], IsTrue, true, false, length};
-    ghost use Rattle.pas_free_log.specs.Logs.{entry_of, sized_entry};
+    ghost use Rattle.pas_profile.specs.Entries.{entry_of, sized_entry};
 
     /// An empty log.
     pub fn new() -> FreeLog

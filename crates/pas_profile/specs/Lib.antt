@@ -6,5 +6,6 @@ pub mod Profiles
 pub mod Layouts
 pub mod Rooms
 pub mod Blocks
+pub mod Entries
 pub mod Refusals
 pub mod Requests

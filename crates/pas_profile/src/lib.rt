@@ -7,6 +7,7 @@
 
 pub mod classes;
 pub mod directory;
+pub mod entry;
 pub mod event;
 pub mod laws;
 pub mod life;
@@ -19,6 +20,7 @@ pub mod word;
 
 pub use classes::slot_mask;
 pub use directory::{Directory, Kind, Route, deed_word, read_deed};
+pub use entry::Entry;
 pub use event::{Event, FreeFault, NoRoom, Outcome, Range, Why};
 pub use life::{life_word, read_life};
 pub use name::{Address, Block, Name};

@@ -24,9 +24,9 @@ pub use Rattle.pas_core.specs.{Fits.HasNoFit, Hints.IsEmptyBacked}
 pub use Rattle.pas_core.specs.Good.{IsInOnePlace, IsPartOf, word_of_backed, word_of_deed}
 pub use Rattle.pas_core.specs.Rights.{IsRightInOnePlace, IsUsableFree, eligible_bit, empty_bit, free_of_page}
 pub use Rattle.pas_free_log.proofs.AllEntries.{take_none}
-pub use Rattle.pas_free_log.specs.{Endings.IsEndOf, Endings.reason_for, Frames.ending, Frames.freeing, Logs.entry_of, Logs.is_sized, Logs.sized_entry}
+pub use Rattle.pas_free_log.specs.{Endings.IsEndOf, Endings.reason_for, Frames.ending, Frames.freeing}
 pub use Rattle.pas_free_log.specs.Flushes.{AfterEnd, EntrySteps, Settled, event_for, noted_after, noted_for, shown_for}
-pub use Rattle.pas_free_log.specs.declared.{ending.Outcome.TheVariants.Ended, ending.Outcome.TheVariants.Refused, log.Entry.Entry, noting.EndedRun.EndedRun}
+pub use Rattle.pas_free_log.specs.declared.{ending.Outcome.TheVariants.Ended, ending.Outcome.TheVariants.Refused, noting.EndedRun.EndedRun}
 pub use Rattle.pas_guard.specs.Books.{Each, FitsBook, is_outer, is_outer_of}
 pub use Rattle.pas_guard.specs.{Guards.left_last_first, Keepers.IsBeside, Raises.IsRaised, Raises.guard_of, Seeks.HasSpan, Seeks.SoughtNone, Seeks.seeking}
 pub use Rattle.pas_guard.specs.{Sweeps.SweepSteps, Sweeps.sweeping}
@@ -41,13 +41,15 @@ pub use Rattle.pas_machine.specs.State.{Live, backed_in, deed_in, ends_in, epoch
 pub use Rattle.pas_partial.specs.Rows.{IsFreeSlot, IsLowestRow}
 pub use Rattle.pas_profile.proofs.Codecs.{deed_word_of-positive, directory_from_profile, read-deed_word_of, same_from_deed_word}
 pub use Rattle.pas_profile.proofs.{Lists.all_both, Lists.all_map, Sizes.class_grains_positive, Sizes.slot_end, Sizes.usable_grains_le}
-pub use Rattle.pas_profile.specs.{Blocks.address_of, Blocks.grain_of, Blocks.length_of, Layouts.same_word}
+pub use Rattle.pas_profile.specs.{Blocks.address_of, Blocks.grain_of, Blocks.length_of, Entries.entry_of, Entries.is_sized, Entries.sized_entry}
+pub use Rattle.pas_profile.specs.{Layouts.same_word}
 pub use Rattle.pas_profile.specs.Classes.{IsClass, IsSlotStart, class_grains, class_size, slots_of}
 pub use Rattle.pas_profile.specs.Directories.{IsKind, deed_word_numbered, deed_word_of, directory_read, number_of}
 pub use Rattle.pas_profile.specs.Profiles.{IsAdmitted, IsDirectoryOf, IsPage, IsValid, vector_words}
 pub use Rattle.pas_profile.specs.Requests.{class_home, directory_for, is_shared, kind_of_class, kind_of_route, room_in, route_in}
-pub use Rattle.pas_profile.specs.declared.{directory.Directory.Directory, directory.Kind.Kind, directory.Route.Route, event.Event.Event, event.NoRoom.NoRoom}
-pub use Rattle.pas_profile.specs.declared.{event.Outcome.Outcome, event.Why.Why, name.Block.Block, name.Name.Name, profile.Profile.Profile, word.Word.Word}
+pub use Rattle.pas_profile.specs.declared.{directory.Directory.Directory, directory.Kind.Kind, directory.Route.Route, entry.Entry.Entry, event.Event.Event}
+pub use Rattle.pas_profile.specs.declared.{event.NoRoom.NoRoom, event.Outcome.Outcome, event.Why.Why, name.Block.Block, name.Name.Name, profile.Profile.Profile}
+pub use Rattle.pas_profile.specs.declared.{word.Word.Word}
 pub use Rattle.pas_records.specs.Marks.{Marked}
 pub use Rattle.pas_records.specs.declared.record.{Record.Record, Said.Said}
 pub use Rattle.pas_rights.proofs.Orders.{leave_returns, looks_only, return_returns, until_only}

@@ -1,10 +1,10 @@
 -- WHAT A LOGGED FREE SHOWS.
 use Rattle.std.specs.Prelude.{ℕ, ◌≡◌, Bool, true, false, not, ◌&&◌, List, [], ◌∷◌, ◌++◌, Some}
-use Rattle.pas_profile.specs.{Blocks.address_of, Profiles.IsValid}
-use Rattle.pas_profile.specs.declared.{event.Event.Event, event.Why.Why, profile.Profile.Profile, word.Word.Word}
+use Rattle.pas_profile.specs.{Blocks.address_of, Profiles.IsValid, Entries.is_sized}
+use Rattle.pas_profile.specs.declared.{event.Event.Event, event.Why.Why, profile.Profile.Profile, word.Word.Word, entry.Entry.Entry}
 use Rattle.pas_machine.specs.State.{Live, live_in}
-use Rattle.pas_free_log.specs.declared.{log.Entry.Entry, ending.Outcome.Outcome, noting.EndedRun.EndedRun}
-use Rattle.pas_free_log.specs.{Flushes.event_for, Logs.is_sized}
+use Rattle.pas_free_log.specs.declared.{ending.Outcome.Outcome, noting.EndedRun.EndedRun}
+use Rattle.pas_free_log.specs.Flushes.{event_for}
 use Rattle.pas_records.specs.declared.record.Record.{Record}
 use Rattle.pas_cache.specs.Changes.{EmptiesLog}
 use Rattle.pas_steps.specs.Desks.{triples}

@@ -1,8 +1,7 @@
 -- THE WHOLE: what `pas order` prints for the bytes of a trace.
 use Rattle.std.specs.Prelude.{ℕ, ◌/◌, ◌==◌, if◌then◌else◌, List, [], map, Option, None, Some, Result, Ok, Err}
 use Rattle.pas_profile.specs.declared.{name.Block.Block, directory.Route.Route, profile.Profile.Profile}
-use Rattle.pas_profile.specs.Requests.{route_in, room_in}
-use Rattle.pas_free_log.specs.Logs.{entry_of, sized_entry}
+use Rattle.pas_profile.specs.{Requests.route_in, Requests.room_in, Entries.entry_of, Entries.sized_entry}
 use Rattle.pas_trace.specs.declared.{fault.TraceFault.TraceFault, plan.Op.Op, plan.What.What}
 use Rattle.pas_trace.specs.{Asked.request_in, Reasons.guard_in, Acts.Act, Acts.numbers_from, Acts.acts_of}
 use Rattle.pas_trace.specs.Plans.{Parsed, parsed, phases_in, shared_in}

@@ -3,9 +3,9 @@
 use Rattle.std.specs.Prelude.{ℕ, ◌-◌, ◌==◌, not, Bool, if◌then◌else◌, List, [], ◌∷◌, Option}
 use Rattle.std.specs.List.{find, filter}
 use Rattle.pas_profile.specs.Blocks.{address_of}
-use Rattle.pas_profile.specs.declared.{event.Event.Event, name.Block.Block, name.Name.Name}
+use Rattle.pas_profile.specs.declared.{event.Event.Event, name.Block.Block, name.Name.Name, entry.Entry.Entry}
 use Rattle.pas_large.specs.declared.span.Span.{Span}
-use Rattle.pas_free_log.specs.declared.{log.Entry.Entry, noting.EndedRun.EndedRun}
+use Rattle.pas_free_log.specs.declared.noting.EndedRun.{EndedRun}
 use Rattle.pas_answers.specs.Answers.{Named, named}
 use Rattle.pas_records.specs.declared.record.Record.{Record}
 

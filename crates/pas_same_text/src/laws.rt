@@ -1,14 +1,14 @@
 //! What each act owes: from a state of the text that is the replay's it leads to one that is. Each law is the contract of an empty function.
 ghost use Rattle.std.specs.Prelude.{ℕ, ◌+◌, ◌*◌, ◌<◌, ◌≤◌, ◌≡◌, ◌↔◌, List, [], ◌∷◌, ◌++◌, length, true, None, Some, Ok, ◌||◌, false};
 ghost use Rattle.pas_profile.specs.declared.{name.Name.Name, profile.Profile.Profile, directory.Route.Route, event.NoRoom.NoRoom};
-ghost use Rattle.pas_profile.specs.declared.{directory.Directory.Directory, event.Event.Event};
+ghost use Rattle.pas_profile.specs.declared.{directory.Directory.Directory, event.Event.Event, entry.Entry.Entry};
 ghost use Rattle.pas_trace.specs.{Acts.Act, EveryPlan.IsThread, Plans.IsPlanOf};
 ghost use Rattle.pas_trace.specs.declared.plan.What.TheVariants.{Alloc, Flush, Free, FreeSized, Raw, RawSized, Stop};
 ghost use Rattle.pas_profile.specs.{Requests.route_in, Directories.number_of};
 ghost use Rattle.pas_profile.specs.Profiles.{IsValid, IsAdmitted, IsPage, IsDirectoryOf};
 ghost use Rattle.pas_search.specs.{Kinds.ReturnsDuly, Telling.IsTrueReason, Searches.FromOffered, Searches.ByDeed};
 ghost use Rattle.pas_machine.specs.Machine.{Run};
-ghost use Rattle.pas_free_log.specs.declared.{ending.Outcome.Outcome, log.Entry.Entry, noting.EndedRun.EndedRun};
+ghost use Rattle.pas_free_log.specs.declared.{ending.Outcome.Outcome, noting.EndedRun.EndedRun};
 ghost use Rattle.pas_same_text.specs.{Frees.ends, Frees.flushes, Searches.refusal, Searches.searched, Reports.text_of, State.World, State.each};
 ghost use Rattle.pas_same_text.specs.{Indexes.named_first, Same.IsSame, Same.lives_in, Same.ArePagesSame, Requests.RequestStaysSame, Told.IsTold};
 ghost use Rattle.pas_same_text.specs.{Searched.IsSearch, Words.free_bit};

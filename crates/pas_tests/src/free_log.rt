@@ -1,6 +1,7 @@
 //! A log that is full, and its flush.
 ghost use Rattle.std.specs.Prelude.{◌<◌, All};
-ghost use Rattle.pas_free_log.specs.{Conditions.IsEntryOf, Logs.entries_in, Logs.entry_of};
+ghost use Rattle.pas_free_log.specs.{Conditions.IsEntryOf, Logs.entries_in};
+ghost use Rattle.pas_profile.specs.Entries.{entry_of};
 
 use crate::plain::PROFILE;
 use arrayvec::ArrayVec;

@@ -2,7 +2,7 @@
 use Rattle.std.proofs.Common.{◌≡◌, ℕ, ◌+◌, ◌≤◌, [], ◌++◌, length, Bool, None, Result, refl, sym, ◌∙◌, subst, arith, ◌^◌, ◌<◌, nat_le, List, Ok, Err, ap}
 use Rattle.std.proofs.Common.{length-append, leb-true, MatchResult, Option}
 use Rattle.pas_profile.specs.declared.{name.Block.Block, event.NoRoom.NoRoom, profile.Profile.Profile, event.FreeFault.FreeFault, name.Name.Name}
-use Rattle.pas_profile.specs.declared.{event.Event.Event}
+use Rattle.pas_profile.specs.declared.{event.Event.Event, entry.Entry.Entry}
 use Rattle.pas_steps.specs.{Desks.Standing, Desks.CanCall, Desks.triples, Events.events_of, Lists.Whole, Unknown.unknown_pages, Views.View, Events.events_by}
 use Rattle.pas_steps.specs.{Kinds.Only}
 use Rattle.pas_steps.proofs.{Called.call_none, Called.call_then, Adding.can_call, Frames.events_split, Frames.events_append, Unknown.unknown_no_more}
@@ -11,10 +11,9 @@ use Rattle.pas_cache.specs.{Caches.Cached, Caches.AtRest, Serves.Wanted, Changes
 use Rattle.pas_cache.specs.Calls.{Allocates, TakesEntry, RefusesName, Frees, StopsCache, MayAllocatePages, AllocatesPages, most_events, FlushesLog}
 use Rattle.pas_cache.proofs.Budget.{HasBudget, budget_left, log_kept, emptied_events}
 use Rattle.pas_trials.specs.Borrowing.{Borrows, RestsWithRoom}
-use Rattle.pas_profile.specs.Profiles.{IsValid, IsAdmitted}
+use Rattle.pas_profile.specs.{Profiles.IsValid, Profiles.IsAdmitted, Entries.entry_of}
 use Rattle.pas_steps.specs.declared.step.Made.{Made}
-use Rattle.pas_free_log.specs.declared.{log.Entry.Entry, noting.EndedRun.EndedRun}
-use Rattle.pas_free_log.specs.Logs.{entry_of}
+use Rattle.pas_free_log.specs.declared.noting.EndedRun.{EndedRun}
 use Rattle.pas_cache.proofs.{Obtained.spare_kept, Routes.is_large, Routes.pages_asked}
 
 -- ==== Requests one after another, and how far they have come.

@@ -3,7 +3,8 @@ use Rattle.std.proofs.Common.{◌≡◌, ℕ, List, [], ◌∷◌, ◌++◌, Opt
 use Rattle.pas_profile.specs.declared.{event.Event.Event, name.Name.Name}
 use Rattle.pas_steps.specs.{Clear.HasNothing, Desks.Seat, Desks.CanCall, Events.events_of, Views.View}
 use Rattle.pas_steps.proofs.Frames.{events_split}
-use Rattle.pas_free_log.specs.{Flushes.EndsName, Flushes.event_for, Logs.entry_of}
+use Rattle.pas_free_log.specs.Flushes.{EndsName, event_for}
+use Rattle.pas_profile.specs.Entries.{entry_of}
 use Rattle.pas_shared.specs.Passes.{seat_of, view_of}
 use Rattle.pas_shared.specs.declared.pass.SharedPass.{SharedPass}
 use Rattle.pas_trials.specs.Trades.{standing_at, HasEnded}

@@ -5,7 +5,7 @@ use Rattle.std.specs.List.{AllByRecursion}
 use Rattle.std.proofs.lemmas.{Bool.cases_eq, List.append_cancel_right}
 use Rattle.pas_bits.proofs.Runs.{first_of_run}
 use Rattle.pas_profile.specs.{Blocks.address_of, Blocks.grain_of, Blocks.length_of, Lives.turn_of, Profiles.IsPage, Profiles.IsValid, Requests.route_in}
-use Rattle.pas_profile.specs.{Routes.room_by, Routes.IsRouteOf}
+use Rattle.pas_profile.specs.{Routes.room_by, Routes.IsRouteOf, Entries.entry_of}
 use Rattle.pas_profile.specs.declared.{directory.Directory.Directory, directory.Route.Route, event.Event.Event, event.Why.Why, name.Block.Block, name.Name.Name}
 use Rattle.pas_profile.specs.declared.{profile.Profile.Profile}
 use Rattle.pas_profile.proofs.Sizes.{route_is, class_known, class_size_whole}
@@ -17,7 +17,7 @@ use Rattle.pas_steps.specs.Lists.{Triple, Whole, Legal, part, visible}
 use Rattle.pas_steps.specs.declared.{state.State.State, step.Made.Made}
 use Rattle.pas_steps.proofs.{Parts.part_of_own, Parts.part_of_others, Nothing.nothing_yet}
 use Rattle.pas_core.proofs.MachineRuns.{runs}
-use Rattle.pas_free_log.specs.{Conditions.IsEntryOf, Logs.entry_of, Flushes.EndsName, Flushes.event_for}
+use Rattle.pas_free_log.specs.{Conditions.IsEntryOf, Flushes.EndsName, Flushes.event_for}
 use Rattle.pas_free_log.specs.declared.ending.Outcome.{Outcome, TheVariants.Ended, TheVariants.Refused}
 use Rattle.pas_cache.specs.{Caches.Cached, Caches.AtRest, Calls.MayAllocate, Calls.Allocates, Serves.IsPreparing, Serves.wanted_for}
 use Rattle.pas_shared.specs.{Ruled.IsEarlier, Passes.view_of, Passes.seat_of, Passes.standing_of, Pasts.told, Pasts.IsPastOf, Pasts.HasOwn, Ledgers.EndsAfter}

@@ -3,7 +3,8 @@ use Rattle.std.specs.Prelude.{◌≡◌, ℕ, List, [], ◌∷◌, Some}
 use Rattle.std.specs.List.{AllByRecursion}
 use Rattle.pas_profile.specs.declared.{directory.Directory.Directory, event.Event.Event, name.Block.Block}
 use Rattle.pas_steps.specs.Events.{events_of}
-use Rattle.pas_free_log.specs.{Conditions.IsEntryOf, Flushes.event_for, Logs.entry_of}
+use Rattle.pas_free_log.specs.{Conditions.IsEntryOf, Flushes.event_for}
+use Rattle.pas_profile.specs.Entries.{entry_of}
 use Rattle.pas_free_log.specs.declared.ending.Outcome.{Outcome}
 use Rattle.pas_cache.specs.Serves.{IsPreparing}
 use Rattle.pas_shared.specs.{Ruled.IsEarlier, Pasts.told, Pasts.IsPastOf, Pasts.HasOwn}

@@ -3,7 +3,8 @@ use Rattle.std.specs.Prelude.{ℕ, ◌-◌, ◌≡◌, List, [], ◌∷◌, leng
 use Rattle.atomic_table.specs.Seated.{TableId}
 use Rattle.pas_profile.specs.declared.{event.Event.Event, name.Name.Name}
 use Rattle.pas_steps.specs.{Clear.HasNothing, Desks.Standing, Events.events_of, Noted.events_noted, Noted.room_of_notes}
-use Rattle.pas_free_log.specs.{Flushes.event_for, Logs.entry_of}
+use Rattle.pas_free_log.specs.Flushes.{event_for}
+use Rattle.pas_profile.specs.Entries.{entry_of}
 use Rattle.pas_free_log.specs.declared.ending.Outcome.{Outcome}
 use Rattle.pas_shared.specs.Passes.{IsPassOf, seat_of, view_of}
 use Rattle.pas_shared.specs.declared.{desk.SharedDesk.SharedDesk, past.Past.Past, pass.SharedPass.SharedPass, region.SharedRegion.SharedRegion}

@@ -1,11 +1,11 @@
 use Rattle.std.proofs.Common.{◌≡◌, [], ◌∷◌, ◌++◌, get_or, refl, sym, ◌∙◌, subst, arith, append_assoc, take_all}
-use Rattle.pas_free_log.specs.declared.log.Entry.{Entry}
-use Rattle.pas_profile.specs.declared.word.Word.{Word}
+use Rattle.pas_profile.specs.declared.{entry.Entry.Entry, word.Word.Word}
 use Rattle.pas_steps.specs.declared.step.Step.TheVariants.{Look}
 use Rattle.pas_steps.specs.{Views.View, Views.epoch_of, Events.events_by, Calls.nothing, Calls.Does, Calls.Calls, Kinds.LookEpoch, Clear.IsClear}
 use Rattle.pas_steps.proofs.{Apart.only_both, Calls.does_none, Calls.does_then, SpareRoom.spare_falls}
 use Rattle.pas_steps.proofs.Called.{call_none, call_idly, call_then, next_call}
-use Rattle.pas_free_log.specs.{Logs.entry_of, Frames.ending, Flushes.Settled, Flushes.event_for}
+use Rattle.pas_free_log.specs.{Frames.ending, Flushes.Settled, Flushes.event_for}
+use Rattle.pas_profile.specs.Entries.{entry_of}
 use Rattle.pas_free_log.proofs.AllEntries.{events_more, stamps_more, entries_more, noted_more, noted_none, ranges_more, may_end, flushed}
 use Rattle.pas_free_log.proofs.flushing.flush.Goals as goal
 

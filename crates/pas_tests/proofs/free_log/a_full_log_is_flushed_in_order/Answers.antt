@@ -1,8 +1,7 @@
 use Rattle.std.proofs.Common.{◌≡◌, All, List, [], refl, sym, subst, arith}
-use Rattle.pas_profile.specs.declared.profile.Profile.{Profile}
+use Rattle.pas_profile.specs.declared.{profile.Profile.Profile, entry.Entry.Entry}
 use Rattle.pas_steps.specs.Clear.{IsClear}
 use Rattle.pas_free_log.specs.{Conditions.IsEntryOf, Logs.entries_in}
-use Rattle.pas_free_log.specs.declared.log.Entry.{Entry}
 use Rattle.pas_plain.proofs.Desks.{start, spare}
 use Rattle.pas_tests.proofs.free_log.a_full_log_is_flushed_in_order.Goals as goal
 
