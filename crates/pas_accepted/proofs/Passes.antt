@@ -1,8 +1,10 @@
 -- The lines of a pass: what came of its pages; and those of a sweep, by which a keeper lowers guards.
 use Rattle.std.proofs.Common.{◌≡◌, ◌≢◌, ℕ, ◌-◌, ◌^◌, ◌<◌, Bool, true, false, List, [], ◌∷◌, ◌++◌, Option, Some, None, inl, inr, refl, ap, ◌∙◌, subst, arith}
 use Rattle.std.proofs.Common.{zero, suc, ◌+◌, ◌*◌, ◌≤◌, if◌then◌else◌, sym, append-nil, map, reverse, ◌/◌, ◌%◌, ◌||◌, not}
-use Rattle.pas_profile.specs.{Directories.deed_word_of, Profiles.IsValid, Profiles.vector_words, Blocks.address_of, Lives.turn_of}
+use Rattle.pas_profile.specs.{Directories.deed_word_of, Profiles.IsValid, Profiles.vector_words, Blocks.address_of, Lives.turn_of, Guards.guards_of}
+use Rattle.pas_profile.specs.{Guards.raised_by}
 use Rattle.pas_profile.specs.declared.{directory.Directory.Directory, event.Outcome.Outcome, profile.Profile.Profile, word.Word.Word, event.Event.Event}
+use Rattle.pas_profile.specs.declared.{guard.Raised.Raised, guard.Guard.Guard}
 use Rattle.pas_profile.specs.declared.event.Outcome.TheVariants.{Unbacked, Bare, Young, InUse, NotOffered}
 use Rattle.pas_profile.proofs.Codecs.{deed_word_of-positive}
 use Rattle.pas_machine.specs.Machine.{Run}
@@ -25,7 +27,7 @@ use Rattle.pas_answers.proofs.Reached.{Each}
 use Rattle.pas_check.specs.States.{Examines, Stand, with_due, Does, Task, Due}
 use Rattle.pas_check.specs.Takes.{MayCome, after_outcome, record_of as allowed_record}
 use Rattle.pas_accepted.proofs.Telling.{visible_piece, LeadsOn, on_as, on_both, on_line, on_same, lines_both, lines_by, on_past, on_task, Comes, Tells}
-use Rattle.pas_accepted.proofs.Telling.{AreAligned, going, is_down, raised_by, staying, booked_sweep, going_told, guards_of}
+use Rattle.pas_accepted.proofs.Telling.{AreAligned, going, is_down, staying, booked_sweep, going_told}
 use Rattle.std.proofs.lemmas.List.{map-append, reverse-append, reverse-reverse}
 use Rattle.pas_bits.specs.Bits.{has_bit}
 use Rattle.pas_steps.proofs.{Parts.part_of_own, Adding.triples_append}
@@ -37,9 +39,7 @@ use Rattle.pas_trace.specs.Acts.{MakesPass, Lowers}
 use Rattle.pas_check.proofs.Ticks.{epoch_kept}
 use Rattle.std.specs.List.{filter}
 use Rattle.pas_check.specs.Begins.{lowered_due, lowered_record, goes_down, sweeping}
-use Rattle.pas_check.specs.declared.guard.Guard.{Guard as Known}
 use Rattle.pas_guard.specs.Sweeps.{Swept, SweptOne, is_over, life_look, lowered_record as lowered_by, sweeping as sweeping_kinds}
-use Rattle.pas_guard.specs.declared.book.Guard.{Guard}
 use Rattle.pas_records.specs.Lines.{line_of}
 use Rattle.pas_records.specs.declared.record.{Record.Record, Said.Said}
 
@@ -348,7 +348,7 @@ module _ (f : Profile) (valid : IsValid f) (p : Progress) (s : Stand) (ts : List
 
 -- ---- A keeper's sweep lowers just the guards whose blocks have ended, or all; and it makes no event
 -- ---- their lines
-lowered_lead : (f : Profile) (u : Stand) (guards : List Known) (more : List Due)
+lowered_lead : (f : Profile) (u : Stand) (guards : List Raised) (more : List Due)
     → LeadsOn f (record u { due = map lowered_due guards ++ more }) (lines_by (map lowered_record guards)) (record u { due = more })
 lowered_lead f u [] more = on_same refl
 lowered_lead f u (guard ∷ guards) more = on_both (on_line (inr (refl, refl))) (lowered_lead f u guards more)
@@ -413,7 +413,7 @@ module _ (f : Profile) (valid : IsValid f) (k : ℕ) where
 
 -- ---- the lines of a sweep
 -- the guards that stay up
-abbrev pub up_after : Stand → ℕ → Bool → List Known
+abbrev pub up_after : Stand → ℕ → Bool → List Raised
 up_after s keeper all = filter (λ guard. not (goes_down s.events keeper all guard)) s.guards
 
 pub sweep_leads : (f : Profile) (s : Stand) (keeper : ℕ) (all : Bool) (more : List Due) (ts : List Task) (book : List Guard) (said : List Record)
@@ -422,10 +422,10 @@ pub sweep_leads : (f : Profile) (s : Stand) (keeper : ℕ) (all : Bool) (more : 
     → LeadsOn f (record (sweeping s keeper all more) { left = ts }) (lines_by said) (record s { guards = up_after s keeper all; due = more; left = ts })
 sweep_leads f s keeper all more ts book said told are =
     let u : Stand = record s { guards = up_after s keeper all; left = ts } in
-    let gone : List Known = filter (goes_down s.events keeper all) s.guards in
+    let gone : List Raised = filter (goes_down s.events keeper all) s.guards in
     on_as
     (ap lines_by (are ∙ lowered_are keeper (going s.events all book))
-    ∙ ap (λ (gs : List Known). lines_by (map lowered_record gs)) (sym (going_told s.events keeper all s.guards book told))) refl
+    ∙ ap (λ (gs : List Raised). lines_by (map lowered_record gs)) (sym (going_told s.events keeper all s.guards book told))) refl
     (lowered_lead f u gone more)
 
 -- ---- THE CLOSE of a keeper

@@ -6,9 +6,11 @@ use Rattle.std.specs.List.{AllByRecursion}
 use Rattle.pas_bits.specs.Runs.{in_run}
 use Rattle.pas_profile.specs.{Blocks.grain_of, Blocks.length_of, Blocks.address_of, Directories.IsKind, Directories.deed_word_of, Profiles.IsValid}
 use Rattle.pas_profile.specs.{Profiles.IsPage, Requests.is_shared, Requests.kind_of_route, Requests.route_in, Entries.sized_entry, Entries.entry_of}
+use Rattle.pas_profile.specs.{Guards.raised_by}
 use Rattle.pas_profile.specs.declared.{directory.Directory.Directory, directory.Route.Route, event.Event.Event, event.NoRoom.NoRoom}
 use Rattle.pas_profile.specs.declared.{event.NoRoom.TheVariants.Held, event.NoRoom.TheVariants.NoSpace, name.Block.Block, name.Name.Name}
-use Rattle.pas_profile.specs.declared.{profile.Profile.Profile, word.Word.Word, event.FreeFault.FreeFault, entry.Entry.Entry}
+use Rattle.pas_profile.specs.declared.{profile.Profile.Profile, word.Word.Word, event.FreeFault.FreeFault, entry.Entry.Entry, guard.Raised.Raised}
+use Rattle.pas_profile.specs.declared.{guard.Guard.Guard}
 use Rattle.pas_profile.proofs.{Sizes.class_known, Sizes.class_suits, Codecs.deed_word_of-positive, Codecs.same_from_deed_word}
 use Rattle.pas_machine.specs.{Machine.Run, State.deed_in}
 use Rattle.pas_core.specs.Good.{word_of_deed}
@@ -32,12 +34,10 @@ use Rattle.pas_check.specs.Begins.{remaking_named, suits, guard_of, has_sides, p
 use Rattle.pas_check.specs.{Calls.after_request, Accepted.IsDone, Accepted.IsWhole}
 use Rattle.pas_check.specs.Takes.{IsRefusal, directory_of, Takes, is_back, IsServing, block_in, given_next, kept_next}
 use Rattle.pas_check.specs.States.{Due, Serves, Stand, with_due, with_name, Task, Tries, with_one}
-use Rattle.pas_check.specs.declared.guard.Guard.{Guard as Known}
-use Rattle.pas_accepted.proofs.Telling.{LeadsOn, on_as, on_both, on_line, on_same, lines_both, lines_by, lines_more, shown_is, raised_by, flush_only}
-use Rattle.pas_accepted.proofs.Telling.{flush_leads, emptied, logs_with, table_same, own_at, put_twice, Comes, Tells, told_after, piece_of, AreBooked}
-use Rattle.pas_accepted.proofs.Telling.{booked_raise, booked_sweep, after_piece}
+use Rattle.pas_accepted.proofs.Telling.{LeadsOn, on_as, on_both, on_line, on_same, lines_both, lines_by, lines_more, shown_is, flush_only, flush_leads, emptied}
+use Rattle.pas_accepted.proofs.Telling.{logs_with, table_same, own_at, put_twice, Comes, Tells, told_after, piece_of, AreBooked, booked_raise, booked_sweep}
+use Rattle.pas_accepted.proofs.Telling.{after_piece}
 use Rattle.pas_rights.specs.Gives.{give_steps}
-use Rattle.pas_guard.specs.declared.book.Guard.{Guard}
 use Rattle.std.proofs.lemmas.{Bool.and_from, Bool.and_parts, Bool.false_from_ne_true, List.map-append, List.reverse-append}
 use Rattle.pas_free_log.specs.Frames.{freeing as freeing_kinds}
 use Rattle.pas_answers.proofs.Consequences.{Tidy, answer_tidy, tidy_piece, try_tidy}
@@ -535,7 +535,7 @@ module _ (f : Profile) (w : Stand) (keeper k : ℕ) (r : Request) (es : List Eve
 
 -- after the give of its block the guard is up
 abbrev pub guarded : Stand → ℕ → Request → Block → List Event → Stand
-guarded w keeper r block es = record w { events = es; names = record { name = r.name; block = Some block } ∷ w.names; guards = w.guards ++ guard_of keeper block ∷ []; due = [] }
+guarded w keeper r block es = record w { events = es; names = record { name = r.name; block = Some block } ∷ w.names; guards = w.guards ++ raised_by keeper (guard_of block) ∷ []; due = [] }
 
 abbrev pub guard_said : ℕ → Request → Block → Record
 guard_said keeper r block = Record.Said keeper (Said.Guarded (page_below block) (page_above block) r.name)
@@ -605,8 +605,8 @@ module _ (f : Profile) (d : Directory) (keeper n : ℕ) (guards guards' : List G
   block_aligned : address_of block.name % 16 ≡ 0
   block_aligned = omega (arith, begins)
 
-  guard_is : guard_of keeper block ≡ raised_by keeper (guard_at h.first n block)
-  guard_is = λ i. record { keeper = keeper; low = below_is i; high = above_is i; name = block.name }
+  guard_is : raised_by keeper (guard_of block) ≡ raised_by keeper (guard_at h.first n block)
+  guard_is = λ i. raised_by keeper record { low = below_is i; high = above_is i; block = block }
 
   said_is : (name : ℕ) → said_of_guard keeper name n (Some block) ≡ Record.Said keeper (Said.Guarded (page_below block) (page_above block) name) ∷ []
   said_is name = search (arith, begins, below_is, above_is)
@@ -671,7 +671,7 @@ module _ (f : Profile) (valid : IsValid f) (p : Progress) (s : Stand) (ts : List
   sweep = swept_is f valid keeper false (p.books keeper) is.left is.lowered is.swept p.list s.events (sym tells.events) (tells.books.aligned keeper) is.sweep.swept swept_legal
 
   -- after the sweep
-  abbrev up : List Known
+  abbrev up : List Raised
   up = up_after s keeper false
 
   abbrev w : Stand

@@ -1,11 +1,13 @@
 -- What a check knows of a replay: lines that lead it on, logs, guards in books; and the lines of a log that is emptied, by a flush or a stop.
 use Rattle.std.proofs.Common.{◌≡◌, ℕ, List, [], ◌∷◌, ◌++◌, inl, inr, refl, ap, sym, subst, append_assoc, arith, Bool, true, false, if◌then◌else◌, ◌∙◌, map}
 use Rattle.std.proofs.Common.{reverse, eq-eqb, ne_eqb, ◌==◌, nat_lt, not, ◌≢◌, ◌%◌, ◌&&◌, ◌||◌, eqb-true, append-nil, ◌/◌, Option, Some, None}
-use Rattle.pas_profile.specs.declared.{profile.Profile.Profile, event.Event.Event, word.Word.Word, name.Name.Name, entry.Entry.Entry}
+use Rattle.pas_profile.specs.declared.{profile.Profile.Profile, event.Event.Event, word.Word.Word, name.Name.Name, entry.Entry.Entry, guard.Raised.Raised}
+use Rattle.pas_profile.specs.declared.{guard.Guard.Guard}
 use Rattle.pas_check.specs.{Accepted.IsDone, Accepted.IsWhole, Calls.Differs}
 use Rattle.pas_check.specs.Takes.{Takes, TakesDue, MayRefuse, IsEventOf}
 use Rattle.pas_check.specs.Begins.{after_task, flushing, past_outcomes, ready, ready_with, goes_down, entries_due}
-use Rattle.pas_check.specs.declared.guard.Guard.{Guard as Known}
+use Rattle.pas_profile.specs.{Guards.guards_of, Guards.raised_by, Blocks.address_of, Blocks.grain_of, Directories.deed_word_of, Lives.live_word}
+use Rattle.pas_profile.specs.{Profiles.IsValid, Entries.is_sized}
 use Rattle.pas_check.specs.States.{Due, Examines, Stand, Task, with_due, with_at, Frees}
 use Rattle.pas_check.proofs.{ActsOfPlans.begun_alike, Leads.at_first, Leads.by_none, OneNext.end_is, OneNext.reject_is, Ticks.epoch_kept}
 use Rattle.pas_profile.proofs.Lists.{all_both}
@@ -20,12 +22,10 @@ use Rattle.pas_steps.proofs.{Frames.with_append, Frames.events_append, Parts.par
 use Rattle.pas_steps.proofs.{Adding.triples_append}
 use Rattle.pas_cache.specs.{Caches.Cached, Changes.EmptiesLog, Kinds.releasing}
 use Rattle.pas_answers.specs.Answers.{Caches, records_of, with_cache, Books, with_book, Progress, IsStopped}
-use Rattle.pas_profile.specs.{Blocks.address_of, Blocks.grain_of, Directories.deed_word_of, Lives.live_word, Profiles.IsValid, Entries.is_sized}
 use Rattle.pas_free_log.specs.Endings.{reason_for, EndSteps, Tries, TriesBy, last_step}
 use Rattle.pas_free_log.specs.declared.{ending.Outcome.Outcome, ending.Outcome.TheVariants.Ended, ending.Outcome.TheVariants.Refused, noting.EndedRun.EndedRun}
 use Rattle.std.specs.List.{AllByRecursion, filter}
 use Rattle.pas_machine.specs.State.{ends_in, Live, gives_in, live_in}
-use Rattle.pas_guard.specs.declared.book.Guard.{Guard}
 use Rattle.pas_trace.specs.Named.{Named}
 use Rattle.pas_answers.proofs.{Consequences.tidy_piece, Consequences.Tidy, Consequences.stop_tidy, Reached.Each, Reached.legal_part, Reached.of_front}
 use Rattle.pas_steps.specs.Kinds.{Kinds, Only, Putting, is_in, kind_of, returning}
@@ -145,13 +145,6 @@ reason_may : (entry : Entry) (read : ℕ) → MayRefuse entry (reason_for entry 
 reason_may entry read = search (arith, eqb-false)
 
 -- ---- The guards that are up, as a check keeps them, in one list, and as the keepers' books do; and which of them a sweep lowers
--- that of a keeper's book, and those of one keeper
-abbrev pub raised_by : ℕ → Guard → Known
-raised_by keeper guard = record { keeper = keeper; low = guard.low; high = guard.high; name = guard.block.name }
-
-abbrev pub guards_of : ℕ → List Known → List Known
-guards_of keeper guards = filter (λ guard. guard.keeper == keeper) guards
-
 -- the block has ended, or all guards are to go down
 abbrev pub is_down : List Event → Bool → Guard → Bool
 is_down es all guard = all || nat_lt guard.block.name.turn (ends_in es (address_of guard.block.name))
@@ -163,26 +156,26 @@ abbrev pub staying : List Event → Bool → List Guard → List Guard
 staying es all guards = filter (λ guard. not (is_down es all guard)) guards
 
 -- ---- filters, one after the other
-module _ (p t : Known → Bool) where
+module _ (p t : Raised → Bool) where
   -- in each case it computes, or is given
-  both_tests : (xs : List Known) → filter (λ x. p x && t x) xs ≡ filter t (filter p xs)
+  both_tests : (xs : List Raised) → filter (λ x. p x && t x) xs ≡ filter t (filter p xs)
   both_tests [] = refl
   both_tests (x ∷ xs) = let rest = both_tests xs in grind (arith, rest)
 
-  rest_tests : (xs : List Known) → filter p (filter (λ x. not (p x && t x)) xs) ≡ filter (λ x. not (t x)) (filter p xs)
+  rest_tests : (xs : List Raised) → filter p (filter (λ x. not (p x && t x)) xs) ≡ filter (λ x. not (t x)) (filter p xs)
   rest_tests [] = refl
   rest_tests (x ∷ xs) = let rest = rest_tests xs in grind (arith, rest)
 
-  other_tests : (q : Known → Bool) → ((x : Known) → q x ≡ true → p x ≡ false) → (xs : List Known) → filter q (filter (λ x. not (p x && t x)) xs) ≡ filter q xs
+  other_tests : (q : Raised → Bool) → ((x : Raised) → q x ≡ true → p x ≡ false) → (xs : List Raised) → filter q (filter (λ x. not (p x && t x)) xs) ≡ filter q xs
   other_tests q apart [] = refl
   other_tests q apart (x ∷ xs) = let rest = other_tests q apart xs in let here = apart x in grind (arith, rest, here)
 
-mapped_filter : (g : Guard → Known) (t : Known → Bool) (xs : List Guard) → filter t (map g xs) ≡ map g (filter (λ x. t (g x)) xs)
+mapped_filter : (g : Guard → Raised) (t : Raised → Bool) (xs : List Guard) → filter t (map g xs) ≡ map g (filter (λ x. t (g x)) xs)
 mapped_filter g t [] = refl
 mapped_filter g t (x ∷ xs) = let rest = mapped_filter g t xs in grind (arith, rest)
 
 -- ---- a sweep of one keeper
-module _ (es : List Event) (keeper : ℕ) (all : Bool) (guards : List Known) (book : List Guard) (told : guards_of keeper guards ≡ map (raised_by keeper) book)
+module _ (es : List Event) (keeper : ℕ) (all : Bool) (guards : List Raised) (book : List Guard) (told : guards_of keeper guards ≡ map (raised_by keeper) book)
   where
     -- those that go down are those of his book
     pub going_told : filter (goes_down es keeper all) guards ≡ map (raised_by keeper) (going es all book)
@@ -194,33 +187,33 @@ module _ (es : List Event) (keeper : ℕ) (all : Bool) (guards : List Known) (bo
         simp (rest_tests, told, mapped_filter)
 
 -- those of the others stay
-others_told : (es : List Event) (keeper j : ℕ) (all : Bool) (guards : List Known) → j ≢ keeper
+others_told : (es : List Event) (keeper j : ℕ) (all : Bool) (guards : List Raised) → j ≢ keeper
     → guards_of j (filter (λ guard. not (goes_down es keeper all guard)) guards) ≡ guards_of j guards
 others_told es keeper j all guards other =
-    other_tests (λ guard. guard.keeper == keeper) (λ guard. all || nat_lt guard.name.turn (ends_in es (address_of guard.name))) (λ guard. guard.keeper == j)
+    other_tests (λ guard. guard.keeper == keeper) (λ raised. all || nat_lt raised.guard.block.name.turn (ends_in es (address_of raised.guard.block.name))) (λ guard. guard.keeper == j)
     (λ guard his. ne_eqb guard.keeper keeper (λ same. other (sym (eqb-true guard.keeper j his) ∙ same))) guards
 
 -- .. so the books are told after it
-book_if : (books : Books) (keeper : ℕ) (book : List Guard) (guards : List Known) (j : ℕ) → (j ≡ keeper → guards_of j guards ≡ map (raised_by j) book)
+book_if : (books : Books) (keeper : ℕ) (book : List Guard) (guards : List Raised) (j : ℕ) → (j ≡ keeper → guards_of j guards ≡ map (raised_by j) book)
     → (j ≢ keeper → guards_of j guards ≡ map (raised_by j) (books j))
     → guards_of j guards ≡ map (raised_by j) (with_book books keeper book j)
 book_if books keeper book guards j his others = search (arith, cases_eq, eq-eqb, ne_eqb)
 
-swept_books : (books : Books) (es : List Event) (keeper : ℕ) (all : Bool) (guards : List Known) → ((j : ℕ) → guards_of j guards ≡ map (raised_by j) (books j))
+swept_books : (books : Books) (es : List Event) (keeper : ℕ) (all : Bool) (guards : List Raised) → ((j : ℕ) → guards_of j guards ≡ map (raised_by j) (books j))
     → (j : ℕ)
     → guards_of j (filter (λ guard. not (goes_down es keeper all guard)) guards) ≡ map (raised_by j) (with_book books keeper (staying es all (books keeper)) j)
 swept_books books es keeper all guards told j = search (arith, book_if, staying_told, others_told)
 
 -- ---- a guard goes up
-raised_books : (books : Books) (keeper : ℕ) (guard : Guard) (guards : List Known) → ((j : ℕ) → guards_of j guards ≡ map (raised_by j) (books j)) → (j : ℕ)
+raised_books : (books : Books) (keeper : ℕ) (guard : Guard) (guards : List Raised) → ((j : ℕ) → guards_of j guards ≡ map (raised_by j) (books j)) → (j : ℕ)
     → guards_of j (guards ++ raised_by keeper guard ∷ []) ≡ map (raised_by j) (with_book books keeper (books keeper ++ guard ∷ []) j)
 raised_books books keeper guard guards told j = book_if books keeper (books keeper ++ guard ∷ []) (guards ++ raised_by keeper guard ∷ []) j
     (λ e.
-    filter-append (λ (x : Known). x.keeper == j) guards (raised_by keeper guard ∷ [])
+    filter-append (λ (x : Raised). x.keeper == j) guards (raised_by keeper guard ∷ [])
     ∙ ap (λ (t : Bool). guards_of j guards ++ (if t then raised_by keeper guard ∷ [] else [])) (eq-eqb keeper j (sym e))
     ∙ (λ i. told j i ++ raised_by (sym e i) guard ∷ []) ∙ ap (λ k. map (raised_by j) (books k) ++ raised_by j guard ∷ []) e ∙ sym (map-append (raised_by j) (books keeper) (guard ∷ [])))
     (λ ne.
-    cc (filter-append (λ (x : Known). x.keeper == j) guards (raised_by keeper guard ∷ []), ne_eqb keeper j (λ e. ne (sym e)), append-nil (guards_of j guards), told j))
+    cc (filter-append (λ (x : Raised). x.keeper == j) guards (raised_by keeper guard ∷ []), ne_eqb keeper j (λ e. ne (sym e)), append-nil (guards_of j guards), told j))
 
 -- ---- what is known of the books: the guards that are up are theirs, and their blocks stand at grains
 abbrev IsAligned : Guard → Type 0
@@ -229,12 +222,12 @@ IsAligned guard = address_of guard.block.name % 16 ≡ 0
 abbrev pub AreAligned : List Guard → Type 0
 AreAligned book = AllByRecursion IsAligned book
 
-pub record AreBooked (books : Books) (guards : List Known) : Type 0 where
+pub record AreBooked (books : Books) (guards : List Raised) : Type 0 where
   pub told : (j : ℕ) → guards_of j guards ≡ map (raised_by j) (books j)
   pub aligned : (j : ℕ) → AreAligned (books j)
 
 -- Guards that are booked in some list are booked in the same list.
-pub booked_as : (books : Books) (guards now : List Known) → now ≡ guards → AreBooked books guards → AreBooked books now
+pub booked_as : (books : Books) (guards now : List Raised) → now ≡ guards → AreBooked books guards → AreBooked books now
 booked_as books guards now same booked = subst (AreBooked books) (sym same) booked
 
 aligned_if : (books : Books) (keeper : ℕ) (book : List Guard) → ((j : ℕ) → AreAligned (books j)) → AreAligned book → (j : ℕ)
@@ -242,7 +235,7 @@ aligned_if : (books : Books) (keeper : ℕ) (book : List Guard) → ((j : ℕ) �
 aligned_if books keeper book are new j = search (arith, cases_eq, eq-eqb, ne_eqb)
 
 -- After a sweep the guards that stay up are those of the keepers' books.
-pub booked_sweep : (books : Books) (es : List Event) (keeper : ℕ) (all : Bool) (guards : List Known) (book : List Guard) → book ≡ staying es all (books keeper)
+pub booked_sweep : (books : Books) (es : List Event) (keeper : ℕ) (all : Bool) (guards : List Raised) (book : List Guard) → book ≡ staying es all (books keeper)
     → AreBooked books guards
     → AreBooked (with_book books keeper book) (filter (λ guard. not (goes_down es keeper all guard)) guards)
 booked_sweep books es keeper all guards book is booked =
@@ -254,7 +247,7 @@ booked_sweep books es keeper all guards book is booked =
     }
 
 -- After a raise the new guard is the last one up, and in its keeper's book.
-pub booked_raise : (books : Books) (keeper : ℕ) (guard : Guard) (guards : List Known) → address_of guard.block.name % 16 ≡ 0 → AreBooked books guards
+pub booked_raise : (books : Books) (keeper : ℕ) (guard : Guard) (guards : List Raised) → address_of guard.block.name % 16 ≡ 0 → AreBooked books guards
     → AreBooked (with_book books keeper (books keeper ++ guard ∷ [])) (guards ++ raised_by keeper guard ∷ [])
 booked_raise books keeper guard guards new booked = search (arith, raised_books, aligned_if, all_both)
 

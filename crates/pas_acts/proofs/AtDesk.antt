@@ -2,6 +2,7 @@
 use Rattle.std.proofs.Common.{◌≡◌, ℕ, ◌+◌, ◌≤◌, List, ◌++◌, length, ap, sym, ◌∙◌, subst, arith, length-append, ◌==◌, if◌then◌else◌, inr, [], ◌∷◌, Option, None}
 use Rattle.std.proofs.Common.{refl, append-nil, eq-eqb, ◌≢◌, Bool, true, Some, ne_eqb, max, reverse}
 use Rattle.pas_profile.specs.declared.{profile.Profile.Profile, name.Block.Block, event.Range.Range, event.Event.Event, event.Outcome.Outcome, word.Word.Word}
+use Rattle.pas_profile.specs.declared.{guard.Guard.Guard}
 use Rattle.pas_steps.specs.{Calls.Calls, Events.events_by, Lists.Whole, Lists.part, Views.View, Agreement.Agreed, Unknown.unknown_pages, Clear.HasNothing}
 use Rattle.pas_steps.specs.Desks.{Standing, CanCall, triples, Makes, made}
 use Rattle.pas_steps.specs.declared.step.{Made.Made, Step.TheVariants.Look, Step.TheVariants.Tick}
@@ -27,7 +28,7 @@ use Rattle.pas_answers.proofs.Tries.{swept_count}
 use Rattle.pas_answers.proofs.OwnRecords.{piece_of, events_of_piece, swept_each, try_each, pass_of}
 use Rattle.pas_trace.specs.{Asked.request_in, Reasons.cost_of_size}
 use Rattle.pas_guard.specs.{Books.FitsBook, Books.guards_in, Raises.RaiseSteps, Sweeps.sweeping}
-use Rattle.pas_guard.specs.declared.book.{Guard.Guard, GuardBook.GuardBook}
+use Rattle.pas_guard.specs.declared.book.GuardBook.{GuardBook}
 use Rattle.pas_answers.specs.Guarding.{Tried, try_steps, IsTried, after_trying, after_giving, IsLowered, after_lowering}
 use Rattle.pas_answers.specs.Keeping.{owed_by_keeper, cost_of_try, MayTry, TriesRequest, MayLowerAll, LowersAll}
 use Rattle.std.proofs.lemmas.List.{length-map, length-reverse}

@@ -12,12 +12,11 @@ use Rattle.pas_cache.specs.Caches.{Cached}
 use Rattle.pas_answers.specs.Answers.{Named, Caches, with_cache, Books, with_book, Progress, with_records, named, having, answer_of, standing_for, IsAnswered}
 use Rattle.pas_answers.specs.Answers.{IsStopped, with_steps, after_answer, after_settling, after_wake, after_reading, after_tick, after_pass, after_stop}
 use Rattle.pas_answers.specs.Answers.{stopped, epoch_look, begun, settled, IsIdleFor, records_of, said_by}
-use Rattle.pas_guard.specs.declared.book.Guard.{Guard}
+use Rattle.pas_profile.specs.declared.{guard.Guard.Guard, profile.Profile.Profile, name.Block.Block}
 use Rattle.pas_answers.specs.{Ways.EachOf, Ways.records_by, PassRecords.records_of_pass, Fit.AreFit, Fit.IsFitWhat, Ways.AreSpoken, Calls.OnlyAsked}
 use Rattle.pas_answers.proofs.OwnRecords.{records_both, none_by, events_of_piece, pass_of, piece_of, spoken_piece, spoken_both, swept_each, try_each}
 use Rattle.pas_acts.specs.Shares.{Owners, in_hands, AreAmong, IsShareOf, actor_of_act, IsInHand, AreInHand, acts_by, Asks, IsRequestOf, asked_after_act}
 use Rattle.pas_acts.specs.Shares.{IsWoven}
-use Rattle.pas_profile.specs.declared.{profile.Profile.Profile, name.Block.Block}
 use Rattle.pas_trace.specs.declared.{plan.Op.Op, item.Request.Request, plan.What.What}
 use Rattle.pas_trace.specs.Acts.{Act, Operates, Guards, Settles, Ticks, MakesPass, ReadsEpoch, StopsIdle, Wakes, Ends, Lowers}
 use Rattle.pas_trace.specs.{Asked.request_in, EveryPlan.asked_with, EveryPlan.is_asked}

@@ -7,6 +7,7 @@ use Rattle.std.proofs.lemmas.Bool.{eqb-false, false_from_ne_true, cond-false, an
 use Rattle.pas_profile.specs.{Lives.live_word, Directories.directory_read, Directories.deed_word_of, Blocks.address_of, Blocks.grain_of, Profiles.IsValid}
 use Rattle.pas_profile.specs.{Profiles.IsAdmitted, Entries.entry_of, Entries.sized_entry, Entries.is_sized}
 use Rattle.pas_profile.specs.declared.{profile.Profile.Profile, event.NoRoom.NoRoom, name.Block.Block, name.Name.Name, word.Word.Word, entry.Entry.Entry}
+use Rattle.pas_profile.specs.declared.{guard.Guard.Guard}
 use Rattle.pas_bits.specs.Runs.{meets_page}
 use Rattle.pas_steps.specs.{Views.View, Views.is_unstamped, Allowed.IsStepOf, Desks.made, Desks.Standing, Desks.triples, Events.events_by, Clear.HasNothing}
 use Rattle.pas_steps.specs.{Lists.Whole, Lists.part, Lists.Legal}
@@ -39,7 +40,6 @@ use Rattle.pas_rights.specs.Gives.{give_steps}
 use Rattle.pas_scan.specs.Runs.{large_directory}
 use Rattle.pas_guard.specs.{Seeks.seeking, Raises.IsRaised, Raises.IsNotRaised, Raises.RaiseSteps, Keepers.MakesCalls}
 use Rattle.pas_guard.specs.Sweeps.{is_over, sweeping, SweptOne, Swept, SweepSteps}
-use Rattle.pas_guard.specs.declared.book.Guard.{Guard}
 use Rattle.pas_guard.proofs.Raises.{raised_backs, raised_leaves}
 use Rattle.pas_answers.specs.Guarding.{said_of_guard, Tried, try_steps, guarded_steps, IsTried, after_trying}
 use Rattle.pas_answers.proofs.OwnRecords.{EachShown, shown_both, records_shown, each_arranged, piece_shown, pass_shown, all_shown}

@@ -2,6 +2,7 @@
 use Rattle.std.proofs.Common.{◌≡◌, ◌≢◌, ℕ, ◌==◌, Bool, true, false, ◌||◌, if◌then◌else◌, List, [], ◌∷◌, ◌++◌, reverse, Option, Some, None, refl, ap, sym, ◌∙◌}
 use Rattle.std.proofs.Common.{subst, map, eq-eqb, ne_eqb, arith, zero, suc, ◌+◌, All}
 use Rattle.pas_profile.specs.declared.{event.Event.Event, event.Outcome.Outcome, event.Outcome.TheVariants.Unbacked, name.Block.Block, profile.Profile.Profile}
+use Rattle.pas_profile.specs.declared.{guard.Guard.Guard}
 use Rattle.pas_steps.specs.{Events.events_by, Events.actor_of, Views.View}
 use Rattle.pas_steps.specs.declared.step.Made.{Made}
 use Rattle.pas_records.specs.declared.record.{Record.Record, Said.Said}
@@ -10,7 +11,6 @@ use Rattle.pas_answers.specs.{Guarding.said_of_guard, Guarding.Tried, Guarding.I
 use Rattle.pas_trace.specs.declared.item.Request.{Request}
 use Rattle.pas_cache.specs.Serves.{pages_of}
 use Rattle.pas_guard.specs.Sweeps.{is_over, SweptOne, Swept}
-use Rattle.pas_guard.specs.declared.book.Guard.{Guard}
 use Rattle.pas_answers.specs.Ways.{is_of, AreSpoken, EachOf, records_by, Way, by_actors, by_phases, arranged}
 use Rattle.std.specs.List.{AllByRecursion}
 use Rattle.pas_profile.proofs.Lists.{all_both, all_map, all_reverse}

@@ -1,7 +1,7 @@
 -- Acts that were answered one after the other, in the whole and stage by stage: what they found on the list stays there, and each actor has its part of it.
 use Rattle.std.proofs.Common.{◌≡◌, ℕ, ◌==◌, Bool, true, false, if◌then◌else◌, List, [], ◌∷◌, ◌++◌, ap, ◌∙◌, refl, inl, inr, Option, Some, None, sym, subst}
 use Rattle.std.proofs.Common.{append_assoc, MatchOption, ◌+◌, append-nil, map, eq-eqb, ◌≢◌, true≢false, length, arith, length-append, ◌<◌, ◌≤◌, ne_eqb}
-use Rattle.pas_profile.specs.declared.{profile.Profile.Profile, name.Block.Block}
+use Rattle.pas_profile.specs.declared.{profile.Profile.Profile, name.Block.Block, guard.Guard.Guard}
 use Rattle.pas_steps.specs.{Views.View, Allowed.IsStepOf, Desks.triples, Desks.made, Agreement.Agrees, Agreement.Agreed}
 use Rattle.pas_steps.specs.Lists.{Whole, part, Legal, Triple}
 use Rattle.pas_steps.specs.declared.step.{Made.Made, Step.TheVariants.Tick}
@@ -24,7 +24,6 @@ use Rattle.pas_answers.proofs.EachAct.{all_any, all_of_chore, all_of_close, all_
 use Rattle.std.proofs.lemmas.Bool.{cases_eq}
 use Rattle.pas_profile.specs.Profiles.{IsValid}
 use Rattle.pas_guard.specs.Keepers.{Call, MakesCalls, IsKeeper}
-use Rattle.pas_guard.specs.declared.book.Guard.{Guard}
 use Rattle.pas_cache.specs.Serves.{pages_of}
 
 -- Two lists that are one order of each actor's steps have the same part of each actor.

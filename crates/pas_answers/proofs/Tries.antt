@@ -3,6 +3,7 @@ use Rattle.std.proofs.Common.{◌≡◌, ℕ, ◌+◌, ◌<◌, ◌≤◌, ◌++
 use Rattle.std.proofs.Common.{append_assoc, append-nil, map, reverse, ◌*◌, ◌/◌, ◌%◌, Bool, true, false, ◌||◌, refl, true≢false, ◌-◌, ◌^◌}
 use Rattle.std.proofs.{lemmas.List.length-reverse, lemmas.List.length-map, Math.Seq.drop-append_seam, lemmas.Option.same_Some, Math.Nat.zero-mod}
 use Rattle.pas_profile.specs.declared.{event.Event.Event, name.Block.Block, directory.Directory.Directory, directory.Route.Route, profile.Profile.Profile}
+use Rattle.pas_profile.specs.declared.{guard.Guard.Guard}
 use Rattle.pas_steps.specs.declared.step.{Made.Made, Step.Step, Step.TheVariants.Deed}
 use Rattle.pas_steps.specs.{Views.View, Views.KnowsDeed, Events.events_of, Events.events_by, Lists.Whole, Noted.ShowsRest, Agreement.Agreed, Calls.Calls}
 use Rattle.pas_steps.specs.{Unknown.unknown_pages}
@@ -32,7 +33,7 @@ use Rattle.pas_cache.proofs.Routes.{is_large, pages_asked, backs_only, deed_prep
 use Rattle.pas_guard.specs.{Books.FitsBook, Books.guards_in, Books.size_of_book, Seeks.seeking}
 use Rattle.pas_guard.specs.Raises.{RaiseRoom, RaiseSteps, Raises, IsRaised}
 use Rattle.pas_guard.specs.Sweeps.{is_over, sweeping, SweptOne, Swept, SweepSteps, Sweeps}
-use Rattle.pas_guard.specs.declared.book.{Guard.Guard, GuardBook.GuardBook}
+use Rattle.pas_guard.specs.declared.book.GuardBook.{GuardBook}
 use Rattle.pas_answers.specs.Guarding.{said_of_guard, TryEnds, try_steps, IsTried}
 use Rattle.pas_answers.specs.Keeping.{owed_by_keeper, MayTry, cost_of_try, TriesRequest, LowersAll}
 use Rattle.pas_records.specs.Rooms.{records_in, room_of, Records}

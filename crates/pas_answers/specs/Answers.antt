@@ -5,7 +5,7 @@ use Rattle.std.specs.List.{AllByRecursion}
 use Rattle.pas_profile.specs.declared.{directory.Directory.Directory, directory.Route.Route, profile.Profile.Profile, name.Name.Name, name.Block.Block}
 use Rattle.pas_profile.specs.declared.{word.Word.Word, event.Event.Event, event.FreeFault.FreeFault, event.Outcome.Outcome, event.FreeFault.TheVariants.Outside}
 use Rattle.pas_profile.specs.declared.{event.FreeFault.TheVariants.Unaligned, event.NoRoom.NoRoom, event.NoRoom.TheVariants.NoSpace}
-use Rattle.pas_profile.specs.declared.{event.NoRoom.TheVariants.Held, entry.Entry.Entry}
+use Rattle.pas_profile.specs.declared.{event.NoRoom.TheVariants.Held, entry.Entry.Entry, guard.Guard.Guard}
 use Rattle.pas_bits.specs.Runs.{in_run}
 use Rattle.pas_profile.specs.{Blocks.address_of, Blocks.grain_of, Blocks.length_of, Entries.entry_of, Entries.sized_entry}
 use Rattle.pas_steps.specs.{Views.View, Views.KnowsDeed, Events.events_by, Lists.Whole, Lists.part, Desks.made, Desks.triples, Kinds.Only}
@@ -18,7 +18,6 @@ use Rattle.pas_cache.specs.{Caches.Cached, Caches.AtRest, Changes.EmptiesLog, Ch
 use Rattle.pas_cache.specs.{Calls.RefusesName}
 use Rattle.pas_cache.specs.Serves.{Wanted, wanted_for, ServesRequest, IsPreparing, IsPlaced, IsDeedOf}
 use Rattle.pas_answers.specs.PassRecords.{records_of_pass}
-use Rattle.pas_guard.specs.declared.book.Guard.{Guard}
 
 -- ---- what the caches hold, by thread
 abbrev pub Caches : Type 0

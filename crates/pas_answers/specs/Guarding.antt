@@ -2,14 +2,13 @@
 use Rattle.std.specs.Prelude.{ℕ, ◌+◌, ◌-◌, ◌*◌, ◌/◌, ◌≡◌, true, false, List, [], ◌∷◌, ◌++◌, length, Option, None, Some}
 use Rattle.std.specs.List.{AllByRecursion}
 use Rattle.pas_profile.specs.Blocks.{address_of}
-use Rattle.pas_profile.specs.declared.{name.Block.Block, profile.Profile.Profile}
+use Rattle.pas_profile.specs.declared.{name.Block.Block, profile.Profile.Profile, guard.Guard.Guard}
 use Rattle.pas_steps.specs.{Desks.triples, Events.events_by, Views.View}
 use Rattle.pas_steps.specs.declared.step.Made.{Made}
 use Rattle.pas_trace.specs.declared.item.Request.{Request}
 use Rattle.pas_records.specs.declared.record.{Record.Record, Said.Said}
 use Rattle.pas_cache.specs.Serves.{IsDeedOf, pages_of}
 use Rattle.pas_guard.specs.{Books.FitsBook, Raises.RaiseSteps, Sweeps.SweepSteps}
-use Rattle.pas_guard.specs.declared.book.Guard.{Guard}
 use Rattle.pas_answers.specs.Answers.{named, records_of, wanted_by, IsGiven, Progress, with_records, with_book}
 
 -- ---- what a keeper did for a request: its steps, its records, the block that it gave, if any, and the guards that it has up then

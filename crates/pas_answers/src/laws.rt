@@ -1,13 +1,12 @@
 //! What follows for the guards of a replay, and for guarded requests.
 ghost use Rattle.std.specs.Prelude.{ℕ, ◌+◌, ◌<◌, ◌≤◌, ◌≡◌, List, ◌∷◌, ◌++◌, length, Option, Result};
 ghost use Rattle.pas_profile.specs.Profiles.{IsValid};
-ghost use Rattle.pas_profile.specs.declared.{event.NoRoom.NoRoom, name.Block.Block, profile.Profile.Profile};
+ghost use Rattle.pas_profile.specs.declared.{event.NoRoom.NoRoom, name.Block.Block, profile.Profile.Profile, guard.Guard.Guard as TheGuard};
 ghost use Rattle.pas_steps.specs.{Lists.Triple, Lists.Whole, Lists.part, Past.Always, Views.View};
 ghost use Rattle.pas_records.specs.declared.record.Record.{Record};
 ghost use Rattle.pas_trace.specs.declared.{item.Request.Request, plan.Plan.Plan};
 ghost use Rattle.pas_cache.specs.{Caches.Cached, Calls.AllocatesPages};
 ghost use Rattle.pas_guard.specs.Keepers.{PutsNoneOf, GivesGuarded, StandsThrough};
-ghost use Rattle.pas_guard.specs.declared.book.Guard.{Guard as TheGuard};
 ghost use Rattle.pas_answers.specs.{Answers.wanted_by, Replays.IsReplay, Replays.region_of, Replays.threads_of, Ways.Way};
 ghost use Rattle.pas_answers.specs.Guarding.{Tried, try_steps, guarded_steps, IsTried};
 

@@ -5,6 +5,7 @@ use Rattle.std.specs.List.{AllByRecursion, filter}
 use Rattle.pas_profile.specs.{Directories.IsKind, Profiles.IsAdmitted, Profiles.IsValid, Requests.kind_of_route, Routes.IsRouteOf, Routes.room_by}
 use Rattle.pas_profile.specs.{Blocks.address_of, Entries.sized_entry, Entries.entry_of}
 use Rattle.pas_profile.specs.declared.{directory.Route.Route, profile.Profile.Profile, event.Event.Event, name.Block.Block, entry.Entry.Entry}
+use Rattle.pas_profile.specs.declared.{guard.Raised.Raised}
 use Rattle.pas_profile.proofs.Sizes.{class_known, route_is, class_size_le}
 use Rattle.pas_trace.specs.Acts.{Act, StopsIdle, Ends, Lowers, act_kept, numbers_from, acts_from, acts_of, acts_of_chore, acts_of_op, acts_of_ops, acts_of_work}
 use Rattle.pas_trace.specs.Acts.{close_acts, phase_acts, threads_where, Operates, Guards, Ticks, MakesPass, MarksPhase, Wakes, MarksClose}
@@ -22,7 +23,6 @@ use Rattle.pas_check.specs.Begins.{after_task, begun_act, begun_from, begun_what
 use Rattle.pas_check.specs.Begins.{guarding, is_aligned, is_page, logging, lowered_due, past_outcomes, remaking, remaking_named, request_for, settled_with}
 use Rattle.pas_check.specs.Begins.{stopping, suits, sweeping, tells, begun, ready, ready_with}
 use Rattle.pas_check.specs.States.{Due, Writes, Tries, Does, Reports, Stand, Task as ToDo}
-use Rattle.pas_check.specs.declared.guard.Guard.{Guard}
 use Rattle.pas_check.proofs.{OneNext.no_outcome, Leads.first_none}
 
 -- ---- A task is begun without a line: what may come then is what might before
@@ -63,7 +63,7 @@ what_no_pass f s k what no_pass = search (arith, named_no_pass, freeing_no_pass,
 stopping_no_pass : (idle : Bool) (s : Stand) (k : ℕ) → BeginsNoPass s.due → BeginsNoPass (stopping idle s k).due
 stopping_no_pass idle s k no_pass = search (arith, entries_no_pass)
 
-lowered_no_pass : (guards : List Guard) (more : List Due) → BeginsNoPass more → BeginsNoPass (map lowered_due guards ++ more)
+lowered_no_pass : (guards : List Raised) (more : List Due) → BeginsNoPass more → BeginsNoPass (map lowered_due guards ++ more)
 lowered_no_pass [] more no_pass = no_pass
 lowered_no_pass (guard ∷ guards) more no_pass = refl
 
@@ -255,12 +255,12 @@ entries_fit f k [] more thread fits = fits
 entries_fit f k (entry ∷ log) more thread fits = (thread.1, inl thread.0)
 
 -- each guard that goes down is of the keeper that sweeps
-lowered_first : (f : Profile) (es : List Event) (keeper : ℕ) (all : Bool) (guard : Guard) (rest : List Guard) (more : List Due) → IsThread keeper
+lowered_first : (f : Profile) (es : List Event) (keeper : ℕ) (all : Bool) (guard : Raised) (rest : List Raised) (more : List Due) → IsThread keeper
     → FitsNext f (map lowered_due rest ++ more)
     → (down : Bool) → goes_down es keeper all guard ≡ down → FitsNext f (map lowered_due (cond down (guard ∷ rest) rest) ++ more)
 lowered_first f es keeper all guard rest more thread fits down is = search (arith, and_parts)
 
-lowered_fit : (f : Profile) (es : List Event) (keeper : ℕ) (all : Bool) (guards : List Guard) (more : List Due) → IsThread keeper → FitsNext f more
+lowered_fit : (f : Profile) (es : List Event) (keeper : ℕ) (all : Bool) (guards : List Raised) (more : List Due) → IsThread keeper → FitsNext f more
     → FitsNext f (map lowered_due (filter (goes_down es keeper all) guards) ++ more)
 lowered_fit f es keeper all [] more thread fits = fits
 lowered_fit f es keeper all (guard ∷ guards) more thread fits =

@@ -1,7 +1,9 @@
 -- Stretches of lines: of a log that is emptied, of a request, of a pass, and of requests that are guarded.
 use Rattle.std.proofs.Common.{◌≡◌, ℕ, ◌+◌, ◌^◌, ◌<◌, true, false, List, [], ◌∷◌, ◌++◌, inl, inr, refl, ap, sym, subst, ◌∙◌, arith, Option, None, Some, ◌↔◌}
 use Rattle.std.proofs.Common.{Bool, ◌≢◌, ◌==◌, if◌then◌else◌, cond, map, eqb-true, ◌||◌, IfSome, MatchBool}
+use Rattle.pas_profile.specs.{Guards.raised_by, Directories.IsKind, Profiles.IsValid, Blocks.address_of}
 use Rattle.pas_profile.specs.declared.{event.Event.Event, name.Block.Block, name.Name.Name, event.Outcome.Outcome, profile.Profile.Profile, entry.Entry.Entry}
+use Rattle.pas_profile.specs.declared.{guard.Raised.Raised}
 use Rattle.pas_machine.specs.{Machines.profile_of, Machines.StandsFor, Machine.IsPlace, Machine.Run, State.ends_in}
 use Rattle.pas_machine.specs.declared.machine.Machine.{Machine}
 use Rattle.pas_check.specs.Begins.{entries_due, replacing, ready, has_sides, raising, goes_down, guard_of, lowered_due, page_above, page_below, sweeping}
@@ -12,11 +14,10 @@ use Rattle.pas_check.specs.Takes.{IsEventOf, TakesEntry, TakesRequest, directory
 use Rattle.pas_check.specs.Takes.{IsServing, MayServe, after_record, block_in, after_keeping, given_next, is_back, kept_next, record_of}
 use Rattle.pas_check.specs.States.{Due, Frees, Stand, with_due, with_one, Serves, with_name, Examines, Tries, Writes, Never}
 use Rattle.pas_check.specs.declared.{cutting.Cursor.Cursor, serving.Wanted.Wanted, guarding.Trial.TheVariants.Gives, guarding.Trial.TheVariants.Passes}
-use Rattle.pas_check.specs.declared.{guarding.Trial.TheVariants.Stops, acting.Judge.Judge, guard.Guard.Guard, naming.Names.Names}
+use Rattle.pas_check.specs.declared.{guarding.Trial.TheVariants.Stops, acting.Judge.Judge, naming.Names.Names}
 use Rattle.pas_check.proofs.OneNext.{one_event, one_next, one_takes, kept_fits, no_answer, outcome_fits, serves_fits}
 use Rattle.pas_check.proofs.Leads.{EndsBy, kept_more, reaches_here, kept_same, small_of, then_fails, then_lacks, then_leads, IsSameAt, leads_idly, leads_line}
 use Rattle.pas_check.proofs.Leads.{leads_on, due_takes, takes_due, undone, due_lacks, due_refused, leads_nowhere, led_on, few_lines}
-use Rattle.pas_profile.specs.{Directories.IsKind, Profiles.IsValid, Blocks.address_of}
 use Rattle.pas_trace.specs.declared.item.Request.{Request}
 use Rattle.pas_check.specs.{Bounds.IsSmall, Bounds.IsKept, Bounds.FitsTry, Tables.meant}
 use Rattle.std.proofs.lemmas.Bool.{false≢true}
@@ -433,14 +434,14 @@ no_ends f (Event.End k name e ∷ es) run a none = no_end f (address_of name == 
 no_ends f (other ∷ es) run a none = no_ends f es run.1 a none
 
 -- ---- the lines of a sweep
-module _ {machine : Machine} {text : List ℕ} {from : Cursor} {guards : List Guard} {keeper : ℕ} {all : Bool} where
+module _ {machine : Machine} {text : List ℕ} {from : Cursor} {guards : List Raised} {keeper : ℕ} {all : Bool} where
   -- Before a sweep's first line all guards are to be judged.
   pub sweep_begins : IsWithin text from → LinesSwept machine text from from guards keeper all guards true
   sweep_begins within = record {
     swept = λ f s more stands due. subst (λ (u : Stand). Leads f text s from u from) (ap (with_due s) due) (leads_nowhere f text s from within);
   }
 
-  module _ {at : Cursor} {guard : Guard} {rest : List Guard} (before : LinesSwept machine text from at guards keeper all (guard ∷ rest) true) where
+  module _ {at : Cursor} {guard : Raised} {rest : List Raised} (before : LinesSwept machine text from at guards keeper all (guard ∷ rest) true) where
     -- the lines so far, with the guard's own where it goes down
     with_own : (down : Bool) → ((es : List Event) → StandsFor machine es → down ≡ goes_down es keeper all guard) → (f : Profile) (s : Stand) (more : List Due)
         → StandsFor machine s.events → s.due ≡ map lowered_due (filter (goes_down s.events keeper all) guards) ++ more
@@ -468,18 +469,18 @@ module _ {machine : Machine} {text : List ℕ} {from : Cursor} {guards : List Gu
 -- ---- a judge's sweep
 swept_due : {f : Profile} {old : Judge} {from : Cursor} (keeper : ℕ) (all : Bool) (s : Stand) (more : List Due) → Stands f old s from
     → (sweeping s keeper all more).due ≡ map lowered_due (filter (goes_down s.events keeper all) old.guards.items) ++ more
-swept_due keeper all s more stands = ap (λ (gs : List Guard). map lowered_due (filter (goes_down s.events keeper all) gs) ++ more) stands.guards
+swept_due keeper all s more stands = ap (λ (gs : List Raised). map lowered_due (filter (goes_down s.events keeper all) gs) ++ more) stands.guards
 
 module _ {f : Profile} {text : List ℕ} {old : Judge} {from to : Cursor} {keeper : ℕ} {all : Bool} where
   -- Once each guard was judged, the sweep is taken with those that are left.
-  pub swept_on : {guards : Vec Guard} → LinesSwept old.machine text from to old.guards.items keeper all [] true
+  pub swept_on : {guards : Vec Raised} → LinesSwept old.machine text from to old.guards.items keeper all [] true
       → ((es : List Event) → StandsFor old.machine es → guards.items ≡ staying es keeper all old.guards.items)
       → GuardsSwept f text old from (record old { guards = guards }) to keeper all true
   swept_on {guards = guards} lines left = record {
     answered = λ s more ts stands.
         let u : Stand = record (sweeping s keeper all more) { left = ts } in
         let stay : staying s.events keeper all s.guards ≡ guards.items
-        = ap (λ (gs : List Guard). staying s.events keeper all gs) stands.guards ∙ sym (left s.events stands.events) in
+        = ap (λ (gs : List Raised). staying s.events keeper all gs) stands.guards ∙ sym (left s.events stands.events) in
         let there : Stands f (record old { guards = guards }) (with_due u more) from = search (arith, kept_same) in
         comes_led (with_due u more) there refl refl (lines.swept f u more stands.events (swept_due keeper all s more stands));
   }
@@ -579,8 +580,8 @@ raised_as {s = s} keeper name block sides stands is =
 
 module _ {f : Profile} {text : List ℕ} {old : Judge} {from to : Cursor} (keeper name : ℕ) (block : Block) where
   -- The guard of a keeper's block is up by the line that says it, or the text fails there.
-  pub raised : {is : Bool} (names : Names) (guards : Vec Guard) → ((n : ℕ) → meant names n ≡ (if name == n then Some (Some block) else meant old.names n))
-      → guards.items ≡ old.guards.items ++ guard_of keeper block ∷ [] → has_sides (profile_of old.machine) block ≡ true
+  pub raised : {is : Bool} (names : Names) (guards : Vec Raised) → ((n : ℕ) → meant names n ≡ (if name == n then Some (Some block) else meant old.names n))
+      → guards.items ≡ old.guards.items ++ raised_by keeper (guard_of block) ∷ [] → has_sides (profile_of old.machine) block ≡ true
       → IsLineLed text from to (Writes (Record.Said keeper (Said.Guarded (page_below block) (page_above block) name))) is → (s : Stand) → Stands f old s from
       → IsCarried f text (raising (has_sides f block) (with_name s name (Some block)) keeper name block []) from
       (record old { names = names; guards = guards }) to is

@@ -3,8 +3,8 @@ use Rattle.std.specs.Prelude.{ℕ, zero, suc, ◌+◌, ◌-◌, ◌/◌, ◌%◌
 use Rattle.std.specs.Prelude.{Option, None, Some}
 use Rattle.std.specs.List.{filter}
 use Rattle.pas_profile.specs.declared.{directory.Directory.Directory, event.Event.Event, name.Block.Block, name.Name.Name, profile.Profile.Profile}
-use Rattle.pas_profile.specs.declared.{entry.Entry.Entry}
-use Rattle.pas_profile.specs.{Blocks.address_of, Blocks.grain_of, Blocks.length_of, Entries.entry_of, Entries.sized_entry}
+use Rattle.pas_profile.specs.declared.{entry.Entry.Entry, guard.Guard.Guard, guard.Raised.Raised}
+use Rattle.pas_profile.specs.{Blocks.address_of, Blocks.grain_of, Blocks.length_of, Entries.entry_of, Entries.sized_entry, Guards.raised_by}
 use Rattle.pas_machine.specs.State.{deed_in, ends_in}
 use Rattle.pas_trace.specs.declared.{plan.What.What, item.Request.Request}
 use Rattle.pas_trace.specs.declared.plan.What.TheVariants.{Alloc, Guarded, Free, FreeSized, Raw, RawSized, Remake, Flush, Stop, Tick, Pass, Idle}
@@ -14,7 +14,6 @@ use Rattle.pas_trace.specs.Acts.{Act, Operates, Guards, Settles, Ticks, MakesPas
 pub use Rattle.pas_trace.specs.Named.{suits, request_for}
 use Rattle.pas_check.specs.States.{Due, Writes, Frees, Serves, Tries, Never, Examines, Heads, Shows, Totals, Task, Does, Reports, Stand, with_at, with_due}
 use Rattle.pas_check.specs.States.{with_name}
-use Rattle.pas_check.specs.declared.guard.Guard.{Guard}
 
 -- the line of just this record is due
 abbrev pub says : Stand → Record → Stand
@@ -80,14 +79,14 @@ replacing (Some old) s k more = logging (is_full s k) s k (entry_of old) more
 
 -- ---- guards
 -- A guard goes down where its keeper sweeps, if more blocks ended at the address of its block than the block's turn says, or all are to go.
-abbrev pub goes_down : List Event → ℕ → Bool → Guard → Bool
-goes_down es keeper all guard = (guard.keeper == keeper) && (all || nat_lt guard.name.turn (ends_in es (address_of guard.name)))
+abbrev pub goes_down : List Event → ℕ → Bool → Raised → Bool
+goes_down es keeper all raised = (raised.keeper == keeper) && (all || nat_lt raised.guard.block.name.turn (ends_in es (address_of raised.guard.block.name)))
 
-abbrev pub lowered_record : Guard → Record
-lowered_record guard = Record.Said guard.keeper (Said.Lowered guard.low guard.high)
+abbrev pub lowered_record : Raised → Record
+lowered_record raised = Record.Said raised.keeper (Said.Lowered raised.guard.low raised.guard.high)
 
-abbrev pub lowered_due : Guard → Due
-lowered_due guard = Writes (lowered_record guard)
+abbrev pub lowered_due : Raised → Due
+lowered_due raised = Writes (lowered_record raised)
 
 -- the keeper sweeps: of each guard that goes down a line is due, in the order in which they went up, and then these. The others stay up
 abbrev pub sweeping : Stand → ℕ → Bool → List Due → Stand
@@ -103,8 +102,8 @@ page_below block = grain_of block.name / 256 - 1
 abbrev pub page_above : Block → ℕ
 page_above block = (grain_of block.name + length_of block - 1) / 256 + 1
 
-abbrev pub guard_of : ℕ → Block → Guard
-guard_of keeper block = record { keeper = keeper; low = page_below block; high = page_above block; name = block.name }
+abbrev pub guard_of : Block → Guard
+guard_of block = record { low = page_below block; high = page_above block; block = block }
 
 abbrev pub has_sides : Profile → Block → Bool
 has_sides f block = is_page f (page_below block) && is_page f (page_above block)
@@ -112,7 +111,7 @@ has_sides f block = is_page f (page_below block) && is_page f (page_above block)
 -- The keeper gave the block for the name: its guard is up, and the line of it is due, and then these. Where there is no page below it or above it, no line can come.
 abbrev pub raising : Bool → Stand → ℕ → ℕ → Block → List Due → Stand
 raising true s keeper name block more = record s {
-  guards = s.guards ++ guard_of keeper block ∷ [];
+  guards = s.guards ++ raised_by keeper (guard_of block) ∷ [];
   due = Writes (Record.Said keeper (Said.Guarded (page_below block) (page_above block) name)) ∷ more;
 }
 raising false s keeper name block more = with_due s (Never ∷ more)

@@ -3,7 +3,7 @@ use Rattle.std.specs.Prelude.{ℕ, ◌^◌, ◌<◌, ◌/◌, ◌%◌, ◌≡◌
 use Rattle.std.specs.Prelude.{MatchBool}
 use Rattle.std.specs.List.{filter}
 use Rattle.pas_profile.specs.declared.{directory.Directory.Directory, profile.Profile.Profile, event.Event.Event, event.Outcome.Outcome, event.Why.Why}
-use Rattle.pas_profile.specs.declared.{name.Block.Block, name.Name.Name, entry.Entry.Entry}
+use Rattle.pas_profile.specs.declared.{name.Block.Block, name.Name.Name, entry.Entry.Entry, guard.Raised.Raised}
 use Rattle.pas_profile.specs.declared.event.Outcome.TheVariants.{Unbacked, Bare, Young, InUse, NotOffered}
 use Rattle.pas_profile.specs.{Profiles.IsPage, Requests.room_in, Blocks.address_of, Blocks.grain_of, Blocks.length_of}
 use Rattle.pas_bits.specs.Runs.{in_run}
@@ -16,9 +16,8 @@ use Rattle.pas_check.specs.Leading.{Fails, IsLed, IsWithin, Leads}
 use Rattle.pas_check.specs.Ranges.{Fits}
 use Rattle.pas_check.specs.States.{Due, Examines, Serves, Tries, Stand, with_due, with_name}
 use Rattle.pas_check.specs.Takes.{IsEventOf, IsRefusal, MayCome, MayRefuse, MayServe, after_outcome, block_in, directory_of, record_of}
-use Rattle.pas_check.specs.declared.{cutting.Cursor.Cursor, examining.Examined.Examined, guard.Guard.Guard, guarding.Trial.Trial}
-use Rattle.pas_check.specs.declared.{guarding.Trial.TheVariants.Gives, guarding.Trial.TheVariants.Passes, guarding.Trial.TheVariants.Stops}
-use Rattle.pas_check.specs.declared.{serving.Wanted.Wanted}
+use Rattle.pas_check.specs.declared.{cutting.Cursor.Cursor, examining.Examined.Examined, guarding.Trial.Trial, guarding.Trial.TheVariants.Gives}
+use Rattle.pas_check.specs.declared.{guarding.Trial.TheVariants.Passes, guarding.Trial.TheVariants.Stops, serving.Wanted.Wanted}
 use Rattle.pas_records.specs.Lines.{line_of, line_of_event}
 use Rattle.pas_records.specs.declared.record.{Record.Record, Said.Said}
 
@@ -216,11 +215,11 @@ TrialStays text at Stops = Unit {0}
 
 -- ---- the lines of a sweep
 -- these guards stay up
-abbrev pub staying : List Event → ℕ → Bool → List Guard → List Guard
+abbrev pub staying : List Event → ℕ → Bool → List Raised → List Raised
 staying es keeper all guards = filter (λ guard. not (goes_down es keeper all guard)) guards
 
 -- The lines of a sweep of these guards lead to where those of the others are due; or one of them can't be taken.
-pub record LinesSwept (machine : Machine) (text : List ℕ) (from to : Cursor) (guards : List Guard) (keeper : ℕ) (all : Bool) (rest : List Guard)
+pub record LinesSwept (machine : Machine) (text : List ℕ) (from to : Cursor) (guards : List Raised) (keeper : ℕ) (all : Bool) (rest : List Raised)
     (is : Bool) : Type 0 where
   pub swept : (f : Profile) (s : Stand) (more : List Due) → StandsFor machine s.events
       → s.due ≡ map lowered_due (filter (goes_down s.events keeper all) guards) ++ more

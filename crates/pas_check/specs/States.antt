@@ -1,10 +1,10 @@
 -- What stands before a line of a transcript, as far as it matters for the line: no words of a region, no views, rights or cached slots.
 use Rattle.std.specs.Prelude.{ℕ, ◌==◌, Bool, if◌then◌else◌, List, [], ◌∷◌, ◌++◌, map, Option}
 use Rattle.pas_profile.specs.declared.{directory.Directory.Directory, event.Event.Event, name.Block.Block, name.Name.Name, entry.Entry.Entry}
+use Rattle.pas_profile.specs.declared.{guard.Raised.Raised}
 use Rattle.pas_records.specs.declared.record.Record.{Record}
 use Rattle.pas_trace.specs.declared.{plan.Plan.Plan, item.Request.Request}
 use Rattle.pas_trace.specs.{Acts.Act, Acts.acts_of_plan, Named.Named}
-use Rattle.pas_check.specs.declared.guard.Guard.{Guard}
 
 -- ---- what is due
 -- What the next lines are to answer. `Writes`: the line of just this record. `Frees`: the line of an entry of thread k's log. `Serves`: those of a request of
@@ -43,7 +43,7 @@ pub record Stand : Type 0 where
   pub logs : ℕ → List Entry
   pub idle_since : ℕ → ℕ
   pub epoch : ℕ
-  pub guards : List Guard
+  pub guards : List Raised
   pub due : List Due
   pub left : List Task
 

@@ -17,14 +17,13 @@ use crate::cutting::Cursor;
 use crate::emptying::take_entries;
 use crate::examining::take_outcomes;
 use crate::following::take_record;
-use crate::guard::Guard;
 use crate::guarding::try_request;
 use crate::logging::Logs;
 use crate::naming::Names;
 use crate::requesting::take_request;
 use crate::serving::{Wanted, wanted_for};
 use pas_machine::Machine;
-use pas_profile::{Block, Entry, Name, NoMemory};
+use pas_profile::{Block, Entry, Name, NoMemory, Raised};
 use pas_records::{Record, Said};
 use pas_trace::{Op, Plan, What};
 use std::alloc::Global;
@@ -39,7 +38,7 @@ pub(crate) struct Judge {
     pub logs: Logs,
     pub idle_since: Vec<u64>,
     pub epoch: u64,
-    pub guards: Vec<Guard>,
+    pub guards: Vec<Raised>,
     pub lacks_memory: bool,
 }
 

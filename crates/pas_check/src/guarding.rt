@@ -14,12 +14,11 @@ ghost use Rattle.pas_check.specs.Tasks.{ActTaken, AsksKeeper, GuardsSwept, IsCar
 use crate::acting::{Judge, serve};
 use crate::cutting::{Cursor, next_line};
 use crate::following::take_record;
-use crate::guard::Guard;
 use crate::reading::read;
 use crate::serving::{Wanted, block_in, take_event};
 use crate::taking::is_place;
 use pas_machine::Machine;
-use pas_profile::{Block, Event, Name};
+use pas_profile::{Block, Event, Guard, Name, Raised};
 use pas_records::{Record, Said};
 
 /// What the lines of a keeper come to: it gave the block; or it backed no page and gave none, so that its thread may be served from this place on; or a line
@@ -46,22 +45,22 @@ fn has_ended(machine: &Machine, name: Name) -> bool
 }
 
 /// Whether the guard goes down where the keeper sweeps.
-fn goes_down(machine: &Machine, guard: &Guard, keeper: u8, all: bool) -> bool
-    ensures { (es : List TheEvent) → StandsFor machine.now es → result ≡ goes_down es keeper all guard.now }
+fn goes_down(machine: &Machine, raised: &Raised, keeper: u8, all: bool) -> bool
+    ensures { (es : List TheEvent) → StandsFor machine.now es → result ≡ goes_down es keeper all raised.now }
 {
-    if guard.keeper != keeper {
+    if raised.keeper != keeper {
         return false;
     }
-    all || has_ended(machine, guard.name)
+    all || has_ended(machine, raised.guard.block.name)
 }
 
 /// What is said of a guard that is lowered.
-fn lowered(guard: &Guard) -> Record
-    ensures { result ≡ lowered_record guard.now }
+fn lowered(raised: &Raised) -> Record
+    ensures { result ≡ lowered_record raised.now }
 {
-    let low = guard.low;
-    let high = guard.high;
-    Record::Said(guard.keeper, Said::Lowered { low, high })
+    let low = raised.guard.low;
+    let high = raised.guard.high;
+    Record::Said(raised.keeper, Said::Lowered { low, high })
 }
 
 /// Takes the lines of the guards that go down where the keeper sweeps, in order, and says whether they are there. After false the cursor has counted the line
@@ -70,7 +69,7 @@ fn take_lowered(
     machine: &Machine,
     text: &[u8],
     cursor: &mut Cursor,
-    guards: &[Guard],
+    guards: &[Raised],
     keeper: u8,
     all: bool,
 ) -> bool
@@ -162,10 +161,10 @@ fn take_trial(
     }
 }
 
-/// The guard of the keeper's block; None where there is no page of the region below it or above it.
-fn guard_for(machine: &Machine, keeper: u8, block: &Block) -> Option<Guard>
+/// The guard of the block; None where there is no page of the region below it or above it.
+fn guard_for(machine: &Machine, block: &Block) -> Option<Guard>
     ensures { MatchOption result (has_sides (profile_of machine.now) block.now ≡ false)
-        (λ guard. (has_sides (profile_of machine.now) block.now ≡ true) × (guard ≡ guard_of keeper block.now)) }
+        (λ guard. (has_sides (profile_of machine.now) block.now ≡ true) × (guard ≡ guard_of block.now)) }
 {
     let grain = block.name.address.0 / 16;
     let low = (grain / 256).saturating_sub(1);
@@ -176,12 +175,10 @@ fn guard_for(machine: &Machine, keeper: u8, block: &Block) -> Option<Guard>
     if !machine.has_page(high) {
         return None;
     }
-    let name = block.name;
     Some(Guard {
-        keeper,
         low,
         high,
-        name,
+        block: *block,
     })
 }
 
@@ -204,11 +201,11 @@ fn raise(
     ensures sized { IsSizedAs judge.old judge.new }
 {
     judge.names.set(name, Some(block));
-    let Some(guard) = guard_for(&judge.machine, keeper, &block) else {
+    let Some(guard) = guard_for(&judge.machine, &block) else {
         let _ = next_line(text, cursor);
         return false;
     };
-    let Ok(()) = judge.guards.push(guard) else {
+    let Ok(()) = judge.guards.push(Raised { keeper, guard }) else {
         judge.lacks_memory = true;
         return false;
     };

@@ -8,7 +8,6 @@ mod cutting;
 mod emptying;
 mod examining;
 mod following;
-pub mod guard;
 mod guarding;
 pub mod laws;
 mod logging;

@@ -3,7 +3,7 @@ use Rattle.std.proofs.Common.{◌≡◌, ℕ, arith, ◌/◌, ◌==◌, Bool, tr
 use Rattle.std.proofs.Common.{eqb-true, eq-eqb, bit_or, ◌+◌, ◌<◌, ◌^◌, ◌||◌, length-append, append_assoc, ne_eqb, ◌≤◌, ◌≢◌, ◌%◌, ◌&&◌, ◌⊎◌}
 use Rattle.std.proofs.lemmas.Bool.{cases_Bool, Decides.nat_tests, or_right, cases_lt}
 use Rattle.pas_profile.specs.{Layouts.same_word, Profiles.IsValid, Directories.number_of}
-use Rattle.pas_profile.specs.declared.{directory.Directory.Directory, profile.Profile.Profile, name.Block.Block}
+use Rattle.pas_profile.specs.declared.{directory.Directory.Directory, profile.Profile.Profile, name.Block.Block, guard.Guard.Guard}
 use Rattle.pas_profile.proofs.Codecs.{deed_word_of-positive}
 use Rattle.pas_steps.specs.{Allowed.Allowed, Effects.target, Effects.new_value, Past.Since, Desks.Standing, Desks.CanCall, Agreement.Agrees, Agreement.Agreed}
 use Rattle.pas_steps.specs.{Evidence.GetsRight, Evidence.GetsHere, Evidence.KeptHere, Past.Once, Past.Always, Kinds.apart}
@@ -26,7 +26,6 @@ use Rattle.pas_large.proofs.Claims.{call_knowing, span_in, in_parts, span_none, 
 use Rattle.pas_scan.specs.Runs.{large_directory}
 use Rattle.pas_rights.specs.PutsBack.{giving_back, given_back, MayPutAndReturn, PutsAndReturns, put_and_left, GivesDuly, PutsAndLeaves}
 use Rattle.pas_rights.proofs.{Orders.on_full, Orders.since_kept, Puts.put_and_leave_due}
-use Rattle.pas_guard.specs.declared.book.Guard.{Guard}
 use Rattle.pas_steps.proofs.Frames.{rights_stay, right_on, knows_still, right_own}
 use Rattle.pas_large.proofs.Pages.{undone, since_more}
 use Rattle.pas_steps.specs.Frames.{OnlyOn, IsOnPage, GivesUp, KeepsRight}

@@ -4,7 +4,7 @@ use Rattle.std.proofs.Common.{◌∙◌, subst, arith, append_assoc, append-nil,
 use Rattle.std.proofs.lemmas.Bool.{cases_Bool, or_right, Decides.nat_tests}
 use Rattle.std.proofs.lemmas.List.Elements.{Contains-append_right, Contains-push_cases, Contains-append_left, Contains-push}
 use Rattle.pas_profile.specs.{Profiles.IsValid, Blocks.address_of}
-use Rattle.pas_profile.specs.declared.{directory.Directory.Directory, name.Block.Block, profile.Profile.Profile}
+use Rattle.pas_profile.specs.declared.{directory.Directory.Directory, name.Block.Block, profile.Profile.Profile, guard.Guard.Guard}
 use Rattle.pas_scan.specs.Runs.{large_directory}
 use Rattle.pas_steps.specs.{Agreement.Agreed, Effects.in_mask, Past.Once, Past.Always, Clear.IsClear}
 use Rattle.pas_steps.specs.Kinds.{Kinds, Giving, Only, is_in, kind_of, Backing, returning}
@@ -20,7 +20,6 @@ use Rattle.pas_guard.specs.Keepers.{Call, MakesCall, MakesCalls, GivesBlockOf, P
 use Rattle.pas_guard.specs.Keepers.{IsBeside, GivesGuarded}
 use Rattle.pas_guard.specs.Raises.{BacksNot, guard_of, IsRaised, RaiseSteps}
 use Rattle.pas_guard.specs.Sweeps.{is_over, SweptOne, Swept, sweeping, SweepSteps, life_look}
-use Rattle.pas_guard.specs.declared.book.Guard.{Guard}
 use Rattle.pas_guard.proofs.Guarded.{head_same, stands_on, own_keep, guard_begins, untouched_between}
 use Rattle.pas_guard.proofs.Raises.{raised_backs, raised_pages, raised_leaves, kept_steady, no_backs, after_steady, after_unbacked, fits_find}
 use Rattle.pas_rights.specs.{Gives.give_steps, Puts.PutsHere, PutsBack.BackSteps, Words.full}

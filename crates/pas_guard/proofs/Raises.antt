@@ -5,7 +5,7 @@ use Rattle.std.proofs.Common.{slice_index_or}
 use Rattle.std.proofs.lemmas.Bool.{cases_Bool, or_from, or_parts, or_right}
 use Rattle.std.proofs.lemmas.Bool.Decides.{nat_tests}
 use Rattle.pas_profile.specs.{Blocks.address_of, Profiles.IsPage}
-use Rattle.pas_profile.specs.declared.{directory.Directory.Directory, name.Block.Block, profile.Profile.Profile}
+use Rattle.pas_profile.specs.declared.{directory.Directory.Directory, name.Block.Block, profile.Profile.Profile, guard.Guard.Guard}
 use Rattle.pas_scan.specs.Runs.{large_directory}
 use Rattle.pas_steps.specs.Calls.{Calls, Kept, Lost, now, nothing, Does, Leads}
 use Rattle.pas_steps.specs.Desks.{Standing, CanCall, Seat, AnyView}
@@ -26,7 +26,6 @@ use Rattle.pas_guard.specs.Books.{is_outer_of, is_outer, AreApart, Each, KnowsGu
 use Rattle.pas_guard.specs.{Guards.left_last_first, Guards.GuardedRun, Guards.GuardsRun, Lowers.MayLower, Lowers.lowered, Lowers.Lowers}
 use Rattle.pas_guard.specs.Raises.{BacksNot, RaiseRoom, guard_of, Raises, IsRaised}
 use Rattle.pas_guard.specs.Seeks.{seeking, HoldsWhole, HasSpan, Seeks}
-use Rattle.pas_guard.specs.declared.book.Guard.{Guard}
 use Rattle.pas_guard.specs.Sweeps.{is_over, life_look, LooksOver, lowered_record, SweptOne, Swept, sweeping, Sweeps}
 use Rattle.pas_records.specs.declared.record.Record.{Record}
 

@@ -2,13 +2,12 @@
 -- guard's two outer pages then.
 use Rattle.std.specs.Prelude.{ℕ, ◌+◌, ◌*◌, ◌≡◌, ◌⊎◌, Bool, false, List, [], ◌∷◌, ◌++◌, Contains, Option}
 use Rattle.pas_profile.specs.Blocks.{address_of}
-use Rattle.pas_profile.specs.declared.{name.Block.Block, profile.Profile.Profile}
+use Rattle.pas_profile.specs.declared.{name.Block.Block, profile.Profile.Profile, guard.Guard.Guard}
 use Rattle.pas_records.specs.declared.record.Record.{Record}
 use Rattle.pas_scan.specs.Runs.{large_directory}
 use Rattle.pas_steps.specs.{Agreement.Agreed, Lists.Triple, Lists.Whole, Lists.part, Past.Once, Past.Always}
 use Rattle.pas_steps.specs.declared.step.{Made.Made, Step.TheVariants.Give, Step.TheVariants.Put}
 use Rattle.pas_guard.specs.{Books.is_outer_of, Guarded.StandsGuard, Guarded.IsUntouched, Raises.RaiseSteps, Sweeps.SweepSteps}
-use Rattle.pas_guard.specs.declared.book.Guard.{Guard}
 
 -- ---- the calls of a keeper
 -- one call: what was asked, and what came of it

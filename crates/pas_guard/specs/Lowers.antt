@@ -1,13 +1,12 @@
 -- A guard is lowered: its outer pages are put back.
 use Rattle.std.specs.Prelude.{ℕ, ◌/◌, ◌≤◌, ◌≡◌, true, if◌then◌else◌, List, ◌++◌, length}
-use Rattle.pas_profile.specs.declared.profile.Profile.{Profile}
+use Rattle.pas_profile.specs.declared.{profile.Profile.Profile, guard.Guard.Guard}
 use Rattle.pas_rights.specs.{PutsBack.giving_back, PutsBack.BackSteps, Words.full}
 use Rattle.pas_scan.specs.Runs.{large_directory}
 use Rattle.pas_steps.specs.Calls.{Calls, Effect, Kept, Lost, Does}
 use Rattle.pas_steps.specs.{Clear.IsClear, Desks.Standing, Frames.OnlyOn, Kinds.Only, Views.View, Views.holds}
 use Rattle.pas_steps.specs.declared.step.Made.{Made}
 use Rattle.pas_guard.specs.Books.{is_outer_of, IsGuardOf, KnowsGuard}
-use Rattle.pas_guard.specs.declared.book.Guard.{Guard}
 
 pub record MayLower (f : Profile) (guard : Guard) (v : View) : Type 0 where
   pub of : IsGuardOf f guard

@@ -1,16 +1,8 @@
 //! The guards that an actor has up.
 ghost use Rattle.std.specs.Prelude.{◌≤◌, vec_len, vec_capacity};
 
-use pas_profile::{Block, NoMemory};
+use pas_profile::{Guard, NoMemory};
 use std::alloc::Global;
-
-/// A block that stands between two pages that aren't backed, which are held whole.
-#[derive(Clone, Copy, PartialEq, Eq, Drop)]
-pub struct Guard {
-    pub low: u32,
-    pub high: u32,
-    pub block: Block,
-}
 
 /// Room for a fixed number of guards, in the order in which they went up. Adding one takes no memory.
 #[derive(Drop)]

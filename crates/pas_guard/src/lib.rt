@@ -10,4 +10,4 @@ mod raising;
 mod seeking;
 mod sweeping;
 
-pub use book::{Guard, GuardBook};
+pub use book::GuardBook;

@@ -3,9 +3,8 @@ ghost use Rattle.std.specs.Prelude.{◌≡◌};
 ghost use Rattle.pas_steps.specs.Desks.{CanCall};
 ghost use Rattle.pas_guard.specs.Lowers.{MayLower, Lowers};
 
-use crate::book::Guard;
 use pas_bits::Mask4;
-use pas_profile::{Directory, Kind};
+use pas_profile::{Directory, Guard, Kind};
 use pas_rights::put_and_return;
 use pas_steps::Desk;
 

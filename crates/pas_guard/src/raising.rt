@@ -3,10 +3,10 @@ ghost use Rattle.std.specs.Prelude.{◌≡◌, ◌≤◌, ◌<◌, ◌+◌, leng
 ghost use Rattle.pas_steps.specs.Desks.{CanCall};
 ghost use Rattle.pas_guard.specs.{Books.guards_in, Books.size_of_book, Raises.RaiseRoom, Raises.Raises};
 
-use crate::book::{Guard, GuardBook};
+use crate::book::GuardBook;
 use crate::guarding::guard_run;
 use crate::seeking::seek_run;
-use pas_profile::{Block, Directory, Kind};
+use pas_profile::{Block, Directory, Guard, Kind};
 use pas_steps::Desk;
 
 impl GuardBook {

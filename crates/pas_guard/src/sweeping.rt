@@ -5,10 +5,10 @@ ghost use Rattle.pas_records.specs.Rooms.{records_in, room_of};
 ghost use Rattle.pas_steps.specs.Desks.{AnyView, CanCall};
 ghost use Rattle.pas_guard.specs.{Books.guards_in, Books.size_of_book, Books.FitsBook, Sweeps.LooksOver, Sweeps.Sweeps};
 
-use crate::book::{Guard, GuardBook};
+use crate::book::GuardBook;
 use crate::lowering::lower;
 use pas_profile::limits::{GRAIN_BYTES, PAGE_BYTES};
-use pas_profile::{Word, read_life};
+use pas_profile::{Guard, Word, read_life};
 use pas_records::{Record, Records, Said};
 use pas_steps::Desk;
 

@@ -7,5 +7,6 @@ pub mod Layouts
 pub mod Rooms
 pub mod Blocks
 pub mod Entries
+pub mod Guards
 pub mod Refusals
 pub mod Requests

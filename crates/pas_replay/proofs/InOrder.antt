@@ -6,7 +6,7 @@ use Rattle.std.specs.List.{filter}
 use Rattle.pas_steps.specs.Lists.{Legal, Whole, part, word_after}
 use Rattle.std.proofs.{lemmas.List.drop_more, lemmas.List.get_or-map, lemmas.List.length-map, lemmas.List.Elements.All-drop, lemmas.Nat.mul-le}
 use Rattle.std.proofs.{lemmas.Bool.cases_lt, lemmas.Bool.lt-leb, Math.Nat.suc-mul, lemmas.Option.same_Some}
-use Rattle.pas_profile.specs.declared.{profile.Profile.Profile, word.Word.Word}
+use Rattle.pas_profile.specs.declared.{profile.Profile.Profile, word.Word.Word, guard.Guard.Guard}
 use Rattle.pas_trace.specs.declared.plan.{Op.Op, What.TheVariants.Alloc, Plan.Plan}
 use Rattle.pas_trace.specs.Acts.{Act, Wakes, Lowers, is_active, numbers_from, acts_of_op, acts_of_ops, phase_acts, MarksPhase, MarksClose, Ends, close_acts}
 use Rattle.pas_trace.specs.Acts.{acts_of}
@@ -31,7 +31,7 @@ use Rattle.pas_steps.specs.{Clear.HasNothing, States.profile_of as the_profile_o
 use Rattle.pas_trace.specs.{EveryPlan.operations_of, Plans.IsPlanOf, Plans.bounds_of, Codes.unlined, Scripts.without_lines}
 use Rattle.pas_plain.specs.Plain.{profile_of, RegionStands, PassStands, pass_for, passes_from}
 use Rattle.pas_guard.specs.Books.{FitsBook, is_outer}
-use Rattle.pas_guard.specs.declared.book.{Guard.Guard, GuardBook.GuardBook}
+use Rattle.pas_guard.specs.declared.book.GuardBook.{GuardBook}
 use Rattle.pas_cache.specs.Caches.{Cached, AtRest}
 use Rattle.pas_cache.specs.declared.cache.ThreadCache.{ThreadCache}
 use Rattle.pas_cache.proofs.FlushesAndFrees.{rests_empty}

@@ -10,7 +10,7 @@ use Rattle.pas_plain.specs.declared.{pass.PlainPass.PlainPass, desk.PlainDesk.Pl
 use Rattle.pas_replay.specs.Sessions.{Slots, pass_in, risen, IsTaken, StandsIn, IsInPlace, MayTakeSeat, ChangesSeats, TakesSeat, rests_as, rests, Replay, Left}
 use Rattle.pas_replay.specs.Sessions.{Hand, IsAt, SoFar, GoesBy, AreCaches, HaveBooks, HavePlaces, records_owed_as, owed_of, owed_by, MaySit, SeatStands}
 use Rattle.pas_replay.specs.Sessions.{owes_as, owes, own_events, ActorStands, HasNames, SoFarAt, session, upon}
-use Rattle.pas_profile.specs.declared.{profile.Profile.Profile, directory.Kind.Kind}
+use Rattle.pas_profile.specs.declared.{profile.Profile.Profile, directory.Kind.Kind, guard.Guard.Guard}
 use Rattle.pas_steps.specs.{Views.View, Views.known_deed, Lists.part, Lists.Whole, Lists.Legal, Unknown.unknown_below, Unknown.unknown_here}
 use Rattle.pas_steps.specs.{Unknown.unknown_pages, Events.events_of, Desks.triples}
 use Rattle.pas_guard.specs.Books.{FitsBook, guards_in, size_of_book, AreApart, Each, IsGuardOf, KnowsGuard, is_outer, is_outer_of}
@@ -23,7 +23,7 @@ use Rattle.pas_answers.specs.Indexes.{indexes_after, indexes_after_all, AllAreNa
 use Rattle.pas_answers.specs.{Reaching.Reaches, Reaching.Advances, Rests.AreAtRest, Rests.AllAtRest, Calls.owed_events, Keeping.owed_by_keeper}
 use Rattle.pas_answers.specs.{Replays.at_start}
 use Rattle.pas_cache.specs.declared.cache.ThreadCache.{ThreadCache}
-use Rattle.pas_guard.specs.declared.book.{GuardBook.GuardBook, Guard.Guard}
+use Rattle.pas_guard.specs.declared.book.GuardBook.{GuardBook}
 use Rattle.pas_acts.specs.{Tries.tries_of, Tries.tries_of_act, Tries.AreKeptFor, Awake.idle_in, Works.Later, Works.Sits, Turns.RestsAt, Turns.Moves}
 use Rattle.pas_profile.proofs.Codecs.{deed_word_of-positive}
 use Rattle.pas_bits.specs.declared.mask.Mask4.{Mask4}

@@ -2,14 +2,14 @@
 -- rest with its cache, each keeper fits its book, and the scavenger has nothing.
 use Rattle.std.specs.Prelude.{ℕ, zero, suc, ◌+◌, ◌<◌, ◌≤◌, ◌≡◌, nat_le, Bool, true, false, if◌then◌else◌, List, [], ◌∷◌, ◌++◌, length, Option, Some, None}
 use Rattle.std.specs.Prelude.{slice_index_or, slice_set}
-use Rattle.pas_profile.specs.declared.{profile.Profile.Profile, name.Block.Block}
+use Rattle.pas_profile.specs.declared.{profile.Profile.Profile, name.Block.Block, guard.Guard.Guard}
 use Rattle.pas_steps.specs.{Clear.HasNothing, Events.events_of, Lists.Whole, Lists.part, Views.View, Unknown.unknown_pages}
 use Rattle.pas_plain.specs.Plain.{profile_of, actor_of, room_of_pass, RegionStands, PassStands}
 use Rattle.pas_plain.specs.Seats.{region_of, pass_of, IsPassOf}
 use Rattle.pas_plain.specs.declared.{region.PlainRegion.PlainRegion, pass.PlainPass.PlainPass, desk.PlainDesk.PlainDesk}
 use Rattle.std.specs.List.{AllByRecursion}
 use Rattle.pas_guard.specs.Books.{FitsBook, guards_in, size_of_book}
-use Rattle.pas_guard.specs.declared.book.{Guard.Guard, GuardBook.GuardBook}
+use Rattle.pas_guard.specs.declared.book.GuardBook.{GuardBook}
 use Rattle.pas_answers.specs.{Keeping.owed_by_keeper, Names.names_held, Indexes.ReachesBy, Rests.AllAtRest, Replays.at_start}
 use Rattle.pas_cache.specs.Caches.{Cached, cached, AtRest}
 use Rattle.pas_cache.specs.declared.cache.ThreadCache.{ThreadCache}

@@ -30,7 +30,6 @@ pub use Rattle.pas_free_log.specs.declared.{ending.Outcome.TheVariants.Ended, en
 pub use Rattle.pas_guard.specs.Books.{Each, FitsBook, is_outer, is_outer_of}
 pub use Rattle.pas_guard.specs.{Guards.left_last_first, Keepers.IsBeside, Raises.IsRaised, Raises.guard_of, Seeks.HasSpan, Seeks.SoughtNone, Seeks.seeking}
 pub use Rattle.pas_guard.specs.{Sweeps.SweepSteps, Sweeps.sweeping}
-pub use Rattle.pas_guard.specs.declared.book.Guard.{Guard}
 pub use Rattle.pas_large.proofs.{Claims.span_in, Finds.MadeOf, Left.hints_both, Left.only_leaves, Told.looks_same, Told.lowest_alone, Told.never_fails}
 pub use Rattle.pas_large.specs.{Allocates.IsScanned, Allocates.IsServedNamed, Claims.in_span, Doors.Indexes, Doors.found_in, Doors.no_ranges}
 pub use Rattle.pas_large.specs.{Evidence.DeedsRise, Finds.MayFind, Finds.finding, Gives.BackStep, Gives.pages_from, Gives.run_block, Pages.GotPages}
@@ -42,14 +41,14 @@ pub use Rattle.pas_partial.specs.Rows.{IsFreeSlot, IsLowestRow}
 pub use Rattle.pas_profile.proofs.Codecs.{deed_word_of-positive, directory_from_profile, read-deed_word_of, same_from_deed_word}
 pub use Rattle.pas_profile.proofs.{Lists.all_both, Lists.all_map, Sizes.class_grains_positive, Sizes.slot_end, Sizes.usable_grains_le}
 pub use Rattle.pas_profile.specs.{Blocks.address_of, Blocks.grain_of, Blocks.length_of, Entries.entry_of, Entries.is_sized, Entries.sized_entry}
-pub use Rattle.pas_profile.specs.{Layouts.same_word}
+pub use Rattle.pas_profile.specs.{Guards.raised_by, Layouts.same_word}
 pub use Rattle.pas_profile.specs.Classes.{IsClass, IsSlotStart, class_grains, class_size, slots_of}
 pub use Rattle.pas_profile.specs.Directories.{IsKind, deed_word_numbered, deed_word_of, directory_read, number_of}
 pub use Rattle.pas_profile.specs.Profiles.{IsAdmitted, IsDirectoryOf, IsPage, IsValid, vector_words}
 pub use Rattle.pas_profile.specs.Requests.{class_home, directory_for, is_shared, kind_of_class, kind_of_route, room_in, route_in}
 pub use Rattle.pas_profile.specs.declared.{directory.Directory.Directory, directory.Kind.Kind, directory.Route.Route, entry.Entry.Entry, event.Event.Event}
-pub use Rattle.pas_profile.specs.declared.{event.NoRoom.NoRoom, event.Outcome.Outcome, event.Why.Why, name.Block.Block, name.Name.Name, profile.Profile.Profile}
-pub use Rattle.pas_profile.specs.declared.{word.Word.Word}
+pub use Rattle.pas_profile.specs.declared.{event.NoRoom.NoRoom, event.Outcome.Outcome, event.Why.Why, guard.Guard.Guard, guard.Raised.Raised, name.Block.Block}
+pub use Rattle.pas_profile.specs.declared.{name.Name.Name, profile.Profile.Profile, word.Word.Word}
 pub use Rattle.pas_records.specs.Marks.{Marked}
 pub use Rattle.pas_records.specs.declared.record.{Record.Record, Said.Said}
 pub use Rattle.pas_rights.proofs.Orders.{leave_returns, looks_only, return_returns, until_only}
@@ -73,7 +72,7 @@ pub use Rattle.pas_same_text.specs.Pages.{are_free, blocks_on, each_of, is_cache
 pub use Rattle.pas_same_text.specs.Pages.{is_of, is_offered, is_same, is_unowned, locals_on, minds, page_numbers}
 pub use Rattle.pas_same_text.specs.Runs.{deeds_run, is_run, is_usable, large_of, lowest_place, lowest_run, named_run, serves_pages}
 pub use Rattle.pas_same_text.specs.Same.{ArePagesSame, AreSameCaches, AreSameGuards, AreSameLocals, HasSame, IsRising, IsSame, IsSameCache, IsSameLocal}
-pub use Rattle.pas_same_text.specs.Same.{has_number, lives_in, told_guard}
+pub use Rattle.pas_same_text.specs.Same.{has_number, lives_in}
 pub use Rattle.pas_same_text.specs.Searches.{address_on, backs, deeds, gives, readies, refusal, refuses, searched, some_of}
 pub use Rattle.pas_same_text.specs.Seats.{AreSeated, IsActOf, IsKeeperOf, IsThreadOf}
 pub use Rattle.pas_same_text.specs.State.{Cache, Local, World, cache_in, cache_of, each, is_at, live_after, locals_of, log_of, noted_of, says, set_cache}

@@ -3,17 +3,16 @@
 use Rattle.pas_same_text.proofs.Common.{nat_tests, find, same_Some, none-some, and-false, or-false, eqb-false, false≢true, or_cases, or_left, not-true}
 use Rattle.pas_same_text.proofs.Common.{and_from, or_right, false_from_ne_true, cases_lt, list_any, filter, in_run, meets_page, address_of, grain_of, length_of}
 use Rattle.pas_same_text.proofs.Common.{grain_of as first_grain, Event, Block, Name, Profile, Live, live_in, Run, is_at, World, cache_in, Local, is_guarded}
-use Rattle.pas_same_text.proofs.Common.{is_free, is_covered, is_cached, blocks_on, locals_on, is_kept, lives_in, told_guard, AreSameGuards, HasSame}
-use Rattle.pas_same_text.proofs.Common.{AreSameLocals, runs, in_one_place, is_outer_of, is_outer, Guard as BookGuard, Books, Progress, IsValid, lives_where}
-use Rattle.pas_same_text.proofs.Common.{part, visible, Whole, Legal, View, holds, has_right, IsPartOf, IsInOnePlace, free_of_page, any_covers, IsThread}
-use Rattle.pas_same_text.proofs.Common.{IsBetween, free_bit, Slots}
+use Rattle.pas_same_text.proofs.Common.{is_free, is_covered, is_cached, blocks_on, locals_on, is_kept, lives_in, raised_by, AreSameGuards, HasSame}
+use Rattle.pas_same_text.proofs.Common.{AreSameLocals, runs, in_one_place, is_outer_of, is_outer, Guard, Books, Progress, IsValid, lives_where, part, visible}
+use Rattle.pas_same_text.proofs.Common.{Whole, Legal, View, holds, has_right, IsPartOf, IsInOnePlace, free_of_page, any_covers, IsThread, IsBetween, free_bit}
+use Rattle.pas_same_text.proofs.Common.{Slots, Raised}
 use Rattle.pas_cache.specs.Locals.{any_keeps}
 use Rattle.std.proofs.Math.Bool.{and_comm}
 use Rattle.std.proofs.Common.{arith, ◌≡◌, ℕ, ◌/◌, ◌<◌, ◌≢◌, ◌==◌, Bool, true, false, not, ◌&&◌, ◌||◌, if◌then◌else◌, List, [], ◌∷◌, Option, Some, None, ◌⊎◌}
 use Rattle.std.proofs.Common.{inl, inr, refl, ap, sym, ◌∙◌, eq-eqb, ne_eqb, true≢false, map, subst, ◌+◌, ◌*◌, eqb-true}
 use Rattle.pas_bits.proofs.Runs.{first_of_run, run_meets}
 use Rattle.pas_machine.specs.Machine.{MayGive}
-use Rattle.pas_same_text.specs.State.{Guard}
 use Rattle.pas_same_text.proofs.Tests.{and_first, and_second, any_filtered, filtered_any, any_weaker, on_page}
 use Rattle.pas_core.proofs.{Grains.some_grain, Offers.no_other_actor}
 use Rattle.pas_core.specs.Rights.{NobodyHasRight}
@@ -113,19 +112,19 @@ lives_listed es address b p is so = found_any p (is_at address) (lives_in es) b.
 
 -- ==== OUTER PAGES of guards: those of the text are those of the keepers' books.
 -- the page is an outer one of the guard
-abbrev pub has_outer : ℕ → Guard → Bool
-has_outer page g = (g.low == page) || (g.high == page)
+abbrev pub has_outer : ℕ → Raised → Bool
+has_outer page r = is_outer_of r.guard page
 
-told_outer : (keeper page : ℕ) (gs : List BookGuard) → list_any (has_outer page) (map (told_guard keeper) gs) ≡ is_outer gs page
+told_outer : (keeper page : ℕ) (gs : List Guard) → list_any (has_outer page) (map (raised_by keeper) gs) ≡ is_outer gs page
 told_outer keeper page [] = refl
 told_outer keeper page (g ∷ gs) = ap (λ (t : Bool). is_outer_of g page || t) (told_outer keeper page gs)
 
 -- a guard that passes a test is some keeper's
-of_keeper : (test : Guard → Bool) (gs : List Guard) → list_any test gs ≡ true → (k : ℕ) × (list_any (λ g. (g.keeper == k) && test g) gs ≡ true)
+of_keeper : (test : Raised → Bool) (gs : List Raised) → list_any test gs ≡ true → (k : ℕ) × (list_any (λ g. (g.keeper == k) && test g) gs ≡ true)
 of_keeper test [] h = absurd (false≢true h)
 of_keeper test (g ∷ gs) h = elim (or_cases (test g) _ h) [
-  | inl here ↦ (g.keeper, or_left _ (list_any (λ (x : Guard). (x.keeper == g.keeper) && test x) gs) (and_from _ (test g) (eq-eqb g.keeper g.keeper refl) here))
-  | inr later ↦ (let o = of_keeper test gs later in (o.0, or_right _ (list_any (λ (x : Guard). (x.keeper == o.0) && test x) gs) o.1))
+  | inl here ↦ (g.keeper, or_left _ (list_any (λ (x : Raised). (x.keeper == g.keeper) && test x) gs) (and_from _ (test g) (eq-eqb g.keeper g.keeper refl) here))
+  | inr later ↦ (let o = of_keeper test gs later in (o.0, or_right _ (list_any (λ (x : Raised). (x.keeper == o.0) && test x) gs) o.1))
 ]
 
 module _ (books : Books) (w : World) (same : AreSameGuards books w.guards) where
@@ -156,7 +155,7 @@ guards_as books w v is same = subst (AreSameGuards books) (sym is) same
 
 -- With the same guards up, an unguarded page stays so.
 pub still_unguarded : (w v : World) (page : ℕ) → v.guards ≡ w.guards → is_guarded w page ≡ false → is_guarded v page ≡ false
-still_unguarded w v page is none = ap (λ (gs : List Guard). list_any (has_outer page) gs) is ∙ none
+still_unguarded w v page is none = ap (λ (gs : List Raised). list_any (has_outer page) gs) is ∙ none
 
 -- ==== A grain is free in the text exactly where its bit is set or a guard has its page, and a page is kept exactly where an actor has its right: whenever all
 -- actors are at rest.

@@ -2,12 +2,12 @@
 use Rattle.std.proofs.Common.{◌≡◌, ℕ, ◌+◌, ◌-◌, ◌*◌, ◌/◌, false, List, [], ◌∷◌, ◌++◌, Option, None, Some, refl, ap, sym, ◌∙◌, subst, arith, append_assoc}
 use Rattle.std.proofs.Common.{append-nil}
 use Rattle.pas_same_text.proofs.Common.{filter, address_of, IsAdmitted, IsDirectoryOf, route_in, room_in, Directory, Event, Block, Profile, triples, events_by}
-use Rattle.pas_same_text.proofs.Common.{part, Legal, Made, part_of_own, legal_before, legal_earlier, Cached, Indexes, found_in, IsRaised, Guard as BookGuard}
-use Rattle.pas_same_text.proofs.Common.{Record, Said, Act, numbers_from, IsThread, Request, Op, What, Progress, with_book, records_of, AnswersTried, Tried}
-use Rattle.pas_same_text.proofs.Common.{IsTried, after_trying, World, each, backs, large_of, serves, IsSame, IsBetween, IsKnown, IsKept, KeepsSame}
-use Rattle.pas_same_text.proofs.Common.{lowers_ended, raises}
+use Rattle.pas_same_text.proofs.Common.{part, Legal, Made, part_of_own, legal_before, legal_earlier, Cached, Indexes, found_in, IsRaised, Guard, Record, Said}
+use Rattle.pas_same_text.proofs.Common.{Act, numbers_from, IsThread, Request, Op, What, Progress, with_book, records_of, AnswersTried, Tried, IsTried}
+use Rattle.pas_same_text.proofs.Common.{after_trying, World, each, backs, large_of, serves, IsSame, IsBetween, IsKnown, IsKept, KeepsSame, lowers_ended, raises}
 use Rattle.pas_answers.specs.{Indexes.after_tried, Indexes.TriedIsNamedBy, Guarding.said_of_guard, Guarding.after_giving}
-use Rattle.pas_same_text.specs.Guards.{guards_of, is_over, guards}
+use Rattle.pas_same_text.specs.Guards.{is_over, guards}
+use Rattle.pas_profile.specs.Guards.{guards_of}
 use Rattle.pas_same_text.proofs.{KeepersRest.book_finds, KeepersRest.keeper_of, LowerActs.sweep_same, LowerActs.ended_text, MissedGuards.missed_same}
 use Rattle.pas_same_text.proofs.{PagesRequests.pages_answered, PagesRequests.named_large, RaisedGuards.raised_same, ReadyPages.shown, RunsFound.deeded}
 use Rattle.pas_same_text.proofs.{RunsFound.deeds_of, SoughtRuns.sought_text, SoughtRuns.missed_text, SoughtRuns.IsSought}
@@ -56,7 +56,7 @@ module _ (threads : ℕ) (f : Profile) (keeper line k other name heap size align
   wm = lowers_ended keeper w
 
   wm_indexes : wm.indexes ≡ indexes
-  wm_indexes = all_lowered_keep (filter (is_over w) (guards_of w keeper)) w ∙ known.indexes_are
+  wm_indexes = all_lowered_keep (filter (is_over w) (guards_of keeper w.guards)) w ∙ known.indexes_are
 
   -- ---- what the keeper did
   module _ (t : Tried) (h : IsTried f keeper r (part keeper p.list) (p.books keeper) t) (legal : Legal f (after_trying p keeper t).list) where
@@ -97,11 +97,11 @@ module _ (threads : ℕ) (f : Profile) (keeper line k other name heap size align
     records_after : p.records ++ t.records ≡ pm.records ++ (records_of own_events ++ said_of_guard keeper name n t.block)
     records_after = search (arith, append_assoc, events_same)
 
-  abbrev tried_by : List Made → List Record → Option Block → List BookGuard → Tried
+  abbrev tried_by : List Made → List Record → Option Block → List Guard → Tried
   tried_by steps records block guards' = record { steps = steps; records = records; block = block; guards = guards' }
 
   -- ==== A GUARD WENT UP
-  module _ (steps : List Made) (records : List Record) (block : Block) (guards' : List BookGuard)
+  module _ (steps : List Made) (records : List Record) (block : Block) (guards' : List Guard)
       (h : IsTried f keeper r (part keeper p.list) (p.books keeper) (tried_by steps records (Some block) guards'))
       (reached : p' ≡ after_giving (after_trying p keeper (tried_by steps records (Some block) guards')) name block) where
     abbrev t : Tried
@@ -119,7 +119,7 @@ module _ (threads : ℕ) (f : Profile) (keeper line k other name heap size align
 
     -- The guard was raised on the run that was found.
     run : IsRaised f d n (before.books keeper) guards' h.raise.searched h.raise.after block
-    run = subst (λ (gs : List BookGuard). IsRaised f d n gs guards' h.raise.searched h.raise.after block) (sym (book_before t h there.legal)) h.raise.outcome
+    run = subst (λ (gs : List Guard). IsRaised f d n gs guards' h.raise.searched h.raise.after block) (sym (book_before t h there.legal)) h.raise.outcome
 
     said_is : said_of_guard keeper name n (Some block) ≡ Record.Said keeper (Said.Guarded run.first (run.first + n + 1) name) ∷ []
     said_is =
@@ -143,7 +143,7 @@ module _ (threads : ℕ) (f : Profile) (keeper line k other name heap size align
     )
 
   -- ==== NONE DID
-  module _ (steps : List Made) (records : List Record) (guards' : List BookGuard)
+  module _ (steps : List Made) (records : List Record) (guards' : List Guard)
       (h : IsTried f keeper r (part keeper p.list) (p.books keeper) (tried_by steps records None guards'))
       (is : AnswersTried f op r None (after_trying p keeper (tried_by steps records None guards')) p')
       (named : TriedIsNamedBy f indexes op r None (after_trying p keeper (tried_by steps records None guards')) p' is) where
@@ -186,7 +186,7 @@ module _ (threads : ℕ) (f : Profile) (keeper line k other name heap size align
     )
 
   -- ==== EITHER
-  either_act : (steps : List Made) (records : List Record) (block : Option Block) (guards' : List BookGuard)
+  either_act : (steps : List Made) (records : List Record) (block : Option Block) (guards' : List Guard)
       → IsTried f keeper r (part keeper p.list) (p.books keeper) (tried_by steps records block guards')
       → (is : AnswersTried f op r block (after_trying p keeper (tried_by steps records block guards')) p')
       → TriedIsNamedBy f indexes op r block (after_trying p keeper (tried_by steps records block guards')) p' is

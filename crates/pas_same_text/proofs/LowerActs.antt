@@ -5,14 +5,13 @@ use Rattle.pas_same_text.proofs.Common.{or_left, or_right, false≢true, eqb-fal
 use Rattle.pas_same_text.proofs.Common.{IsDirectoryOf, deed_word_of, Directory, Event, Profile, Word, live_in, ends_in, deed_in, triples, Always, Kinds}
 use Rattle.pas_same_text.proofs.Common.{LookLife, Putting, Only, Whole, word_after, visible, Legal, part, Made, triples_append, only_within, agrees}
 use Rattle.pas_same_text.proofs.Common.{legal_earlier, deed_of, one_holder, HintsEmpty, BackSteps, return_returns, puts_kinds, large_of, World, each, is_of}
-use Rattle.pas_same_text.proofs.Common.{lowers, lowers_ended, IsBetween, StaysSame, free_bit, told_guard, IsSame, HasSame, AreSameCaches, lives_in, Record}
-use Rattle.pas_same_text.proofs.Common.{is_outer_of, is_outer, Each, IsBeside, sweeping, SweepSteps, Guard as BookGuard, same_from_deed_word, View, holds}
-use Rattle.pas_same_text.proofs.Common.{usable_by_kind, word_of_deed, freeing, Act, IsThread, Progress, with_book, with_records, after_lowering}
+use Rattle.pas_same_text.proofs.Common.{lowers, lowers_ended, IsBetween, StaysSame, free_bit, raised_by, IsSame, HasSame, AreSameCaches, lives_in, Record}
+use Rattle.pas_same_text.proofs.Common.{is_outer_of, is_outer, Each, IsBeside, sweeping, SweepSteps, Guard, same_from_deed_word, View, holds, usable_by_kind}
+use Rattle.pas_same_text.proofs.Common.{word_of_deed, freeing, Act, IsThread, Progress, with_book, with_records, after_lowering, Raised}
 use Rattle.pas_steps.specs.Views.{KnowsDeed}
 use Rattle.pas_profile.specs.Lives.{turn_of}
 use Rattle.pas_core.proofs.Lives.{turn_is}
 use Rattle.pas_rights.specs.Words.{full}
-use Rattle.pas_same_text.specs.State.{Guard}
 use Rattle.pas_guard.specs.{Books.IsGuardOf, Books.KnowsGuard, Lowers.LowerSteps}
 use Rattle.pas_guard.specs.Sweeps.{is_over, life_look, lowered_record, SweptOne, Swept}
 use Rattle.pas_same_text.proofs.{Flushes.unshown, EntrySteps.return_hints}
@@ -23,7 +22,7 @@ use Rattle.pas_same_text.proofs.RestingPages.{is_open, deed_now, word_known, IsG
 use Rattle.pas_same_text.proofs.FreeGrains.{cached_held, outer_held, held_by, never_both, holder_thread}
 
 -- the guard goes down: all do, or its block has ended by these events
-abbrev pub goes_down : Bool → List Event → BookGuard → Bool
+abbrev pub goes_down : Bool → List Event → Guard → Bool
 goes_down all es g = all || nat_lt g.block.name.turn (ends_in es (address_of g.block.name))
 
 -- ---- the steps that lower one guard
@@ -40,13 +39,13 @@ back_hints page d mask steps (inl h) = subst (Always HintsEmpty) (sym h.1) tt
 back_hints page d mask steps (inr h) = rw h.5
     (hints_both h.2 h.1 (return_hints page d h.2 h.4) (hints_none (Putting ∷ []) h.1 refl (puts_kinds page mask 4 h.1 h.3)))
 
-lower_marked : (g : BookGuard) (q : ℕ) (steps : List Made) → LowerSteps g steps → IsMarked q steps → is_outer_of g q ≡ true
+lower_marked : (g : Guard) (q : ℕ) (steps : List Made) → LowerSteps g steps → IsMarked q steps → is_outer_of g q ≡ true
 lower_marked g q steps h marked = elim (marked_parts q h.high h.low (subst (IsMarked q) h.steps_are marked)) [
   | inl first ↦ or_right (g.low == q) (g.high == q) (eq-eqb g.high q (back_page g.high (large_of g.block.heap) full q h.high h.high_order first))
   | inr later ↦ or_left (g.low == q) (g.high == q) (eq-eqb g.low q (back_page g.low (large_of g.block.heap) full q h.low h.low_order later))
 ]
 
-lower_hints : (g : BookGuard) (steps : List Made) → LowerSteps g steps → Always HintsEmpty steps
+lower_hints : (g : Guard) (steps : List Made) → LowerSteps g steps → Always HintsEmpty steps
 lower_hints g steps h = subst (Always HintsEmpty) (sym h.steps_are)
     (hints_both h.high h.low (back_hints g.high _ full h.high h.high_order) (back_hints g.low (large_of g.block.heap) full h.low h.low_order))
 
@@ -60,7 +59,7 @@ only_later ks [] xs only = only
 only_later ks (y ∷ ys) xs only = only_later ks ys xs only.1
 
 -- ---- the look at a life word
-look_true : (f : Profile) (k word : ℕ) (g : BookGuard) (l : Whole) → IsValid f → Legal f (triples k (life_look g word) ++ l) → IsBeside g
+look_true : (f : Profile) (k word : ℕ) (g : Guard) (l : Whole) → IsValid f → Legal f (triples k (life_look g word) ++ l) → IsBeside g
     → is_over g word ≡ nat_lt g.block.name.turn (ends_in (visible l) (address_of g.block.name))
 look_true f k word g l valid legal beside =
     let a : ℕ = address_of g.block.name in
@@ -73,21 +72,21 @@ look_true f k word g l valid legal beside =
     ap (nat_lt g.block.name.turn) turn
 
 -- ==== THE SWEEP: which guards go down follows from the events
-pub record IsSwept (all : Bool) (es : List Event) (keeper : ℕ) (guards kept : List BookGuard) (said : List Record) (steps : List Made) : Type 0 where
+pub record IsSwept (all : Bool) (es : List Event) (keeper : ℕ) (guards kept : List Guard) (said : List Record) (steps : List Made) : Type 0 where
   pub kept_is : kept ≡ filter (λ g. not (goes_down all es g)) guards
-  pub said_is : said ≡ map lowered_line (map (told_guard keeper) (filter (goes_down all es) guards))
+  pub said_is : said ≡ map lowered_line (map (raised_by keeper) (filter (goes_down all es) guards))
   pub hints : Always HintsEmpty steps
   pub marks : (q : ℕ) → IsMarked q steps → is_outer (filter (goes_down all es) guards) q ≡ true
 
-module _ (all : Bool) (es : List Event) (keeper : ℕ) (g : BookGuard) (gs kept after : List BookGuard) (said more : List Record) (word : ℕ)
+module _ (all : Bool) (es : List Event) (keeper : ℕ) (g : Guard) (gs kept after : List Guard) (said more : List Record) (word : ℕ)
     (first rest : List Made) (later : IsSwept all es keeper gs after more rest) where
   abbrev look : List Made
   look = life_look g word
 
-  abbrev stay : List BookGuard
-  stay = filter (λ (x : BookGuard). not (goes_down all es x)) gs
+  abbrev stay : List Guard
+  stay = filter (λ (x : Guard). not (goes_down all es x)) gs
 
-  abbrev fall : List BookGuard
+  abbrev fall : List Guard
   fall = filter (goes_down all es) gs
 
   look_hints : Always HintsEmpty look
@@ -105,7 +104,7 @@ module _ (all : Bool) (es : List Event) (keeper : ℕ) (g : BookGuard) (gs kept 
       → IsSwept all es keeper (g ∷ gs) kept said (rest ++ (first ++ look))
   swept_one true e h = record {
     kept_is = h.1 ∙ (later.kept_is ∙ sym (ap (λ (b : Bool). if not b then g ∷ stay else stay) e));
-    said_is = h.2 ∙ (ap (λ (rs : List Record). lowered_record keeper g ∷ rs) later.said_is ∙ sym (ap (λ (b : Bool). map lowered_line (map (told_guard keeper) (if b then g ∷ fall else fall))) e));
+    said_is = h.2 ∙ (ap (λ (rs : List Record). lowered_record keeper g ∷ rs) later.said_is ∙ sym (ap (λ (b : Bool). map lowered_line (map (raised_by keeper) (if b then g ∷ fall else fall))) e));
     hints = hints_both rest (first ++ look) later.hints (hints_both first look (lower_hints g first h.0) look_hints);
     marks = λ q marked. ap (λ (b : Bool). is_outer (if b then g ∷ fall else fall) q) e ∙ elim (marked_in q marked) [
       | inl in_rest ↦ or_right (is_outer_of g q) (is_outer fall q) (later.marks q in_rest)
@@ -116,7 +115,7 @@ module _ (all : Bool) (es : List Event) (keeper : ℕ) (g : BookGuard) (gs kept 
 
 module _ (f : Profile) (all : Bool) (es : List Event) (keeper : ℕ) (valid : IsValid f) where
   -- A sweep lowers just the guards that go down by the events, and says so of each, in order.
-  pub swept_told : (guards kept : List BookGuard) (said : List Record) (steps : List Made) (l : Whole) → Legal f (triples keeper steps ++ l) → visible l ≡ es
+  pub swept_told : (guards kept : List Guard) (said : List Record) (steps : List Made) (l : Whole) → Legal f (triples keeper steps ++ l) → visible l ≡ es
       → Each IsBeside guards → Only sweeping steps → Swept all keeper guards kept said steps
       → IsSwept all es keeper guards kept said steps
   swept_told [] kept said steps l legal same beside only h = search (arith, h.0, h.1, h.2)
@@ -139,17 +138,17 @@ module _ (f : Profile) (all : Bool) (es : List Event) (keeper : ℕ) (valid : Is
 
 -- ==== GUARDS GO DOWN: a sweep of a keeper, in the replay and in the text.
 -- the replay after a sweep, which left these guards
-abbrev pub swept_to : Progress → ℕ → List BookGuard → List Made → List Record → Progress
+abbrev pub swept_to : Progress → ℕ → List Guard → List Made → List Record → Progress
 swept_to p keeper left steps said = with_records (record p { books = with_book p.books keeper left; list = triples keeper steps ++ p.list }) said
 
 -- ---- guards of a book
-region_of : (f : Profile) (keeper : ℕ) (t : BookGuard → Bool) (gs : List BookGuard) → Each (IsGuardOf f) gs
-    → AreOfRegion f (map (told_guard keeper) (filter t gs))
+region_of : (f : Profile) (keeper : ℕ) (t : Guard → Bool) (gs : List Guard) → Each (IsGuardOf f) gs
+    → AreOfRegion f (map (raised_by keeper) (filter t gs))
 region_of f keeper t [] all = tt
 region_of f keeper t (g ∷ gs) all = search (arith, region_of f keeper t gs all.1)
 
 -- an outer page has a deed for whole pages
-outer_deed : (v : View) (gs : List BookGuard) (page : ℕ) → Each (KnowsGuard v) gs → is_outer gs page ≡ true → (heap : ℕ) × KnowsDeed page (large_of heap) v
+outer_deed : (v : View) (gs : List Guard) (page : ℕ) → Each (KnowsGuard v) gs → is_outer gs page ≡ true → (heap : ℕ) × KnowsDeed page (large_of heap) v
 outer_deed v [] page all h = absurd (false≢true h)
 outer_deed v (g ∷ gs) page all h = elim (or_cases (is_outer_of g page) (is_outer gs page) h) [
   | inl here ↦ elim (or_cases (g.low == page) (g.high == page) here) [
@@ -159,20 +158,20 @@ outer_deed v (g ∷ gs) page all h = elim (or_cases (is_outer_of g page) (is_out
   | inr later ↦ outer_deed v gs page all.1 later
 ]
 
-module _ (f : Profile) (keeper : ℕ) (all : Bool) (p : Progress) (w : World) (steps : List Made) (left : List BookGuard) (said : List Record) (valid : IsValid f)
+module _ (f : Profile) (keeper : ℕ) (all : Bool) (p : Progress) (w : World) (steps : List Made) (left : List Guard) (said : List Record) (valid : IsValid f)
     (is : IsThread f keeper) (before : IsBetween f p) (same : IsSame f p w)
     (sweep : SweepSteps f keeper all (p.books keeper) left said steps) (after : IsBetween f (swept_to p keeper left steps said)) where
   abbrev p' : Progress
   p' = swept_to p keeper left steps said
 
-  abbrev test : BookGuard → Bool
+  abbrev test : Guard → Bool
   test = goes_down all (visible p.list)
 
-  abbrev fallen : List BookGuard
+  abbrev fallen : List Guard
   fallen = filter test (p.books keeper)
 
-  abbrev downs : List Guard
-  downs = map (told_guard keeper) fallen
+  abbrev downs : List Raised
+  downs = map (raised_by keeper) fallen
 
   abbrev v : World
   v = each lowers downs w
@@ -213,18 +212,18 @@ module _ (f : Profile) (keeper : ℕ) (all : Bool) (p : Progress) (w : World) (s
       ne (only_its k (256 * q) (ap (is_outer fallen) (on_first q) ∙ h) (outer_held f p before k (256 * q) (ap (is_outer (p.books k)) (on_first q) ∙ outer))))
 
   not_left : (q : ℕ) → is_outer fallen q ≡ true → is_outer left q ≡ false
-  not_left q h = ap (λ (gs : List BookGuard). is_outer gs q) told.kept_is ∙ apart_split test _ q (before.rest.working keeper is).locals.guards_apart h
+  not_left q h = ap (λ (gs : List Guard). is_outer gs q) told.kept_is ∙ apart_split test _ q (before.rest.working keeper is).locals.guards_apart h
 
   -- ---- the guards that are left
-  guards_at : (k : ℕ) (t : Bool) → (k == keeper) ≡ t → filter (λ g. g.keeper == k) v.guards ≡ map (told_guard k) (if t then left else p.books k)
+  guards_at : (k : ℕ) (t : Bool) → (k == keeper) ≡ t → filter (λ g. g.keeper == k) v.guards ≡ map (raised_by k) (if t then left else p.books k)
   guards_at k true e =
-      let at_keeper : filter (λ g. g.keeper == keeper) v.guards ≡ map (told_guard keeper) left =
-      ap (filter (λ (g : Guard). g.keeper == keeper)) lowered.guards
+      let at_keeper : filter (λ g. g.keeper == keeper) v.guards ≡ map (raised_by keeper) left =
+      ap (filter (λ (g : Raised). g.keeper == keeper)) lowered.guards
       ∙ (left_of p.books keeper keeper fallen w.guards (same.guards.each keeper)
-      ∙ (own_left keeper test (p.books keeper) (before.rest.working keeper is).locals.guards_apart ∙ ap (map (told_guard keeper)) (sym told.kept_is))) in
-      subst (λ (j : ℕ). filter (λ g. g.keeper == j) v.guards ≡ map (told_guard j) left) (sym (eqb-true k keeper e)) at_keeper
+      ∙ (own_left keeper test (p.books keeper) (before.rest.working keeper is).locals.guards_apart ∙ ap (map (raised_by keeper)) (sym told.kept_is))) in
+      subst (λ (j : ℕ). filter (λ g. g.keeper == j) v.guards ≡ map (raised_by j) left) (sym (eqb-true k keeper e)) at_keeper
   guards_at k false e =
-      ap (filter (λ (g : Guard). g.keeper == k)) lowered.guards
+      ap (filter (λ (g : Raised). g.keeper == k)) lowered.guards
       ∙ (left_of p.books keeper k fallen w.guards (same.guards.each k) ∙ others_stay k keeper fallen (p.books k) (λ low h. not_others k low (eqb-false k keeper e) h))
 
   -- Afterwards the replay has what the text has.
@@ -282,18 +281,18 @@ module _ (f : Profile) (keeper : ℕ) (all : Bool) (p : Progress) (w : World) (s
       assumption (pages, has, lowered.names ∙ same.names, records, epoch, lowered.read ∙ same.read)
 
 -- ---- the text
-all_pass : (gs : List BookGuard) → filter (λ g. true) gs ≡ gs
+all_pass : (gs : List Guard) → filter (λ g. true) gs ≡ gs
 all_pass [] = refl
-all_pass (g ∷ gs) = ap (λ (xs : List BookGuard). g ∷ xs) (all_pass gs)
+all_pass (g ∷ gs) = ap (λ (xs : List Guard). g ∷ xs) (all_pass gs)
 
-told_filtered : (keeper : ℕ) (t : BookGuard → Bool) (u : Guard → Bool) (gs : List BookGuard) → ((g : BookGuard) → u (told_guard keeper g) ≡ t g)
-    → filter u (map (told_guard keeper) gs) ≡ map (told_guard keeper) (filter t gs)
+told_filtered : (keeper : ℕ) (t : Guard → Bool) (u : Raised → Bool) (gs : List Guard) → ((g : Guard) → u (raised_by keeper g) ≡ t g)
+    → filter u (map (raised_by keeper) gs) ≡ map (raised_by keeper) (filter t gs)
 told_filtered keeper t u [] same = refl
 told_filtered keeper t u (g ∷ gs) same = let ih = told_filtered keeper t u gs same in let here = same g in grind (arith, ih, here)
 
 -- The guards whose blocks ended by the text are those of the book that go down by the events.
 pub ended_text : (f : Profile) (keeper : ℕ) (p : Progress) (w : World) → IsSame f p w
-    → lowers_ended keeper w ≡ each lowers (map (told_guard keeper) (filter (goes_down false (visible p.list)) (p.books keeper))) w
+    → lowers_ended keeper w ≡ each lowers (map (raised_by keeper) (filter (goes_down false (visible p.list)) (p.books keeper))) w
 ended_text f keeper p w same = search (arith, told_filtered)
 
 -- ---- THE ACT at the close
@@ -302,5 +301,5 @@ lower_act f keeper is p p' w taken =
     let steps : List Made = taken.advances.0 in
     let said : List Record = taken.advances.1 in
     let reached : p' ≡ after_lowering p keeper steps said = taken.advances.3 in
-    rw ((ap (λ (gs : List Guard). each lowers gs w) (taken.same.guards.each keeper ∙ ap (map (told_guard keeper)) (sym (all_pass _)))), reached)
+    rw ((ap (λ (gs : List Raised). each lowers gs w) (taken.same.guards.each keeper ∙ ap (map (raised_by keeper)) (sym (all_pass _)))), reached)
     (sweep_same f keeper true p w steps [] said taken.valid is taken.before taken.same taken.advances.2.sweep (subst (IsBetween f) reached taken.after))

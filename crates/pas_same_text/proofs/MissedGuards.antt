@@ -1,10 +1,10 @@
 -- NO GUARD GOES UP: the search of a keeper found no run. The pages whose deeds it made are free then, and offered; all else is as it was. At the end: one guard more in a book.
 use Rattle.pas_same_text.proofs.Common.{cases_Bool, cases_lt, eqb-false, false≢true, or_cases, or_left, or_right, false_from_ne_true, IsInRun, MakesNoDeedHere}
 use Rattle.pas_same_text.proofs.Common.{left_last_first, is_outer_of, is_outer, seeking, SoughtNone, map-append, filter-append, same_Some, filter}
-use Rattle.pas_same_text.proofs.Common.{AllByRecursion, Guard as BookGuard, Books, Progress, records_of, World, is_offered, large_of, IsBetween, free_bit}
-use Rattle.pas_same_text.proofs.Common.{told_guard, AreSameGuards, has_number, IsSame, HasSame, number_of, IsValid, IsDirectoryOf, Directory, Event, Profile}
-use Rattle.pas_same_text.proofs.Common.{Word, deed_in, triples, events_by, Only, Always, usable_by_kind, part, word_after, visible, Made, Step, Deed}
-use Rattle.pas_same_text.proofs.Common.{only_within, eligible_bit, right_in_one_place, LendsNone, lends_none, allocating, MadeOf, all_map}
+use Rattle.pas_same_text.proofs.Common.{AllByRecursion, Guard, Books, Progress, records_of, World, is_offered, large_of, IsBetween, free_bit, raised_by}
+use Rattle.pas_same_text.proofs.Common.{AreSameGuards, has_number, IsSame, HasSame, number_of, IsValid, IsDirectoryOf, Directory, Event, Profile, Word, deed_in}
+use Rattle.pas_same_text.proofs.Common.{triples, events_by, Only, Always, usable_by_kind, part, word_after, visible, Made, Step, Deed, only_within}
+use Rattle.pas_same_text.proofs.Common.{eligible_bit, right_in_one_place, LendsNone, lends_none, allocating, MadeOf, all_map, Raised}
 use Rattle.pas_same_text.proofs.StepMarks.{IsMarked, HintsPage, epoch_stays_by, seeks_unbacked}
 use Rattle.pas_same_text.proofs.Pieces.{all_in_run, IsPiece, UsesOnly, free_kept, hinted_before, piece_pages}
 use Rattle.pas_same_text.proofs.{KeepersRest.outer_last, StopActs.events_recorded, RunsFound.with_deed, RunsFound.deeded, RunsFound.deeds_of}
@@ -12,7 +12,6 @@ use Rattle.pas_same_text.proofs.RestingPages.{open_from, deed_now, bit_tells, bi
 use Rattle.pas_same_text.proofs.SoughtRuns.{IsRunOf, IsMadeOf, unowned_free, visible_mid, made_events, none_made, none_pages, IsSought}
 use Rattle.std.proofs.Common.{map, ◌⊎◌, ne_eqb, append-nil, ◌≡◌, ℕ, ◌+◌, ◌*◌, ◌<◌, ◌==◌, Bool, true, false, if◌then◌else◌, List, [], ◌∷◌, ◌++◌, Some, inl, inr}
 use Rattle.std.proofs.Common.{refl, ap, sym, ◌∙◌, subst, arith, eq-eqb, eqb-true}
-use Rattle.pas_same_text.specs.State.{Guard}
 use Rattle.pas_same_text.proofs.ReadyPages.{shown, shown_events, shown_records, shown_lives, shown_rest}
 use Rattle.pas_same_text.proofs.GivenBlocks.{AreReadying, made_ready, ready_deeds, ready_lives}
 
@@ -126,19 +125,19 @@ module _ {f : Profile} {k heap n : ℕ} {p q : Progress} {w : World} {xs : List 
       assumption (piece_pages piece, now, o.names ∙ (s.same.names ∙ sym names), lines, epochs, o.read ∙ (s.same.read ∙ sym epoch))
 
 -- ==== ONE GUARD MORE, the last one of its keeper's book
-module _ {books books' : Books} (k : ℕ) (g : BookGuard) (own : books' k ≡ books k ++ g ∷ [])
+module _ {books books' : Books} (k : ℕ) (g : Guard) (own : books' k ≡ books k ++ g ∷ [])
     (others : (j : ℕ) → (j == k) ≡ false → books' j ≡ books j) where
   -- The text's guards with that one behind them are those of the books.
-  pub guards_more : (gs : List Guard) → AreSameGuards books gs → AreSameGuards books' (gs ++ told_guard k g ∷ [])
+  pub guards_more : (gs : List Raised) → AreSameGuards books gs → AreSameGuards books' (gs ++ raised_by k g ∷ [])
   guards_more gs same = record { each = λ j. at j (j == k) refl }
     where
-      at : (j : ℕ) (t : Bool) → (j == k) ≡ t → filter (λ h. h.keeper == j) (gs ++ told_guard k g ∷ []) ≡ map (told_guard j) (books' j)
+      at : (j : ℕ) (t : Bool) → (j == k) ≡ t → filter (λ h. h.keeper == j) (gs ++ raised_by k g ∷ []) ≡ map (raised_by j) (books' j)
       at j true e =
-          subst (λ (i : ℕ). filter (λ h. h.keeper == i) (gs ++ told_guard k g ∷ []) ≡ map (told_guard i) (books' i)) (sym (eqb-true j k e))
-          (filter-append (λ h. h.keeper == k) gs (told_guard k g ∷ [])
-          ∙ (ap (λ (t : Bool). filter (λ h. h.keeper == k) gs ++ (if t then told_guard k g ∷ [] else [])) (eq-eqb k k refl)
-          ∙ (ap (λ (hs : List Guard). hs ++ told_guard k g ∷ []) (same.each k)
-          ∙ (sym (map-append (told_guard k) (books k) (g ∷ [])) ∙ ap (map (told_guard k)) (sym own)))))
+          subst (λ (i : ℕ). filter (λ h. h.keeper == i) (gs ++ raised_by k g ∷ []) ≡ map (raised_by i) (books' i)) (sym (eqb-true j k e))
+          (filter-append (λ h. h.keeper == k) gs (raised_by k g ∷ [])
+          ∙ (ap (λ (t : Bool). filter (λ h. h.keeper == k) gs ++ (if t then raised_by k g ∷ [] else [])) (eq-eqb k k refl)
+          ∙ (ap (λ (hs : List Raised). hs ++ raised_by k g ∷ []) (same.each k)
+          ∙ (sym (map-append (raised_by k) (books k) (g ∷ [])) ∙ ap (map (raised_by k)) (sym own)))))
       at j false e = search (arith, filter-append, ne_eqb, eqb-false, append-nil)
 
   -- An outer page is one that it was before, or one of that guard.
@@ -146,18 +145,18 @@ module _ {books books' : Books} (k : ℕ) (g : BookGuard) (own : books' k ≡ bo
   outer_or j x h = elim (cases_Bool (j == k)) [
     | inl e ↦
         let here : j ≡ k = eqb-true j k e in
-        elim (outer_last (books k) g x (ap (λ (gs : List BookGuard). is_outer gs x) (sym own) ∙ (ap (λ (i : ℕ). is_outer (books' i) x) (sym here) ∙ h))) [
+        elim (outer_last (books k) g x (ap (λ (gs : List Guard). is_outer gs x) (sym own) ∙ (ap (λ (i : ℕ). is_outer (books' i) x) (sym here) ∙ h))) [
           | inl was ↦ inl (ap (λ (i : ℕ). is_outer (books i) x) here ∙ was)
           | inr new ↦ inr new
         ]
-    | inr e ↦ inl (ap (λ (gs : List BookGuard). is_outer gs x) (sym (others j e)) ∙ h)
+    | inr e ↦ inl (ap (λ (gs : List Guard). is_outer gs x) (sym (others j e)) ∙ h)
   ]
 
   -- The outer pages of that guard are its keeper's.
   pub outer_more : (x : ℕ) → is_outer_of g x ≡ true → is_outer (books' k) x ≡ true
-  outer_more x here = ap (λ (gs : List BookGuard). is_outer gs x) own ∙ last (books k)
+  outer_more x here = ap (λ (gs : List Guard). is_outer gs x) own ∙ last (books k)
     where
-      last : (gs : List BookGuard) → is_outer (gs ++ g ∷ []) x ≡ true
+      last : (gs : List Guard) → is_outer (gs ++ g ∷ []) x ≡ true
       last [] = or_left (is_outer_of g x) false here
       last (h ∷ gs) = or_right (is_outer_of h x) (is_outer (gs ++ g ∷ []) x) (last gs)
 

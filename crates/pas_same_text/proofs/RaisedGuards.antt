@@ -4,10 +4,10 @@ use Rattle.std.proofs.Common.{◌≤◌, ◌≡◌, ℕ, ◌+◌, ◌*◌, ◌==
 use Rattle.std.proofs.Common.{append_assoc, eq-eqb, eqb-true}
 use Rattle.pas_same_text.proofs.Common.{false≢true, or_cases, or_left, number_of, IsDirectoryOf, Directory, Event, Block, Profile, deed_in, gives_in, triples}
 use Rattle.pas_same_text.proofs.Common.{events_by, View, part, Made, eligible_bit, agreed_steps, IsInRun, in_span, span_in, any_covers, is_outer_of, is_outer}
-use Rattle.pas_same_text.proofs.Common.{left_last_first, guard_of, IsRaised, HasSpan, Guard as BookGuard, Record, Said, Caches, Progress, named, records_of}
-use Rattle.pas_same_text.proofs.Common.{World, says, is_offered, backs, address_on, gives, large_of, raises, IsBetween, told_guard, has_number, IsSame, HasSame}
-use Rattle.pas_same_text.proofs.Common.{AreSameCaches, AreSameGuards}
-use Rattle.pas_same_text.specs.{State.Guard, Guards.guard_on, Guards.with_guard}
+use Rattle.pas_same_text.proofs.Common.{left_last_first, guard_of, IsRaised, HasSpan, Guard, Record, Said, Caches, Progress, named, records_of, World, says}
+use Rattle.pas_same_text.proofs.Common.{is_offered, backs, address_on, gives, large_of, raises, IsBetween, raised_by, has_number, IsSame, HasSame}
+use Rattle.pas_same_text.proofs.Common.{AreSameCaches, AreSameGuards, Raised}
+use Rattle.pas_same_text.specs.Guards.{guard_on, with_guard}
 use Rattle.pas_same_text.proofs.{FreeGrains.outer_held, FreeGrains.free_unheld, SmallActs.records_next, Tests.on_page, ReadyPages.shown}
 use Rattle.pas_same_text.proofs.{ReadyPages.shown_events, ReadyPages.shown_rest, Pieces.UsesOnly, Pieces.free_kept, Pieces.IsInUse, RunsFound.deeded}
 use Rattle.pas_same_text.proofs.{RunsFound.deeds_of}
@@ -15,7 +15,7 @@ use Rattle.pas_same_text.proofs.SoughtRuns.{unowned_free, found_made, found_page
 use Rattle.pas_same_text.proofs.MissedGuards.{all_listed, deed_listed, guards_more, inner_or, left_free, left_in_run, outer_more, outer_or}
 use Rattle.pas_same_text.proofs.GivenBlocks.{block_is, epoch_now, events_now, live_now, names_now, ready_deeds, ready_gives, records_now}
 
-module _ (name : ℕ) {f : Profile} {k heap n : ℕ} {p q : Progress} {w : World} {xs rest : List Made} {block : Block} {guards' : List BookGuard}
+module _ (name : ℕ) {f : Profile} {k heap n : ℕ} {p q : Progress} {w : World} {xs rest : List Made} {block : Block} {guards' : List Guard}
     (s : IsSought f k heap n p w xs) (run : IsRaised f (large_of heap) n (p.books k) guards' xs rest block) (there : IsBetween f q)
     (list : q.list ≡ triples k (rest ++ xs) ++ p.list)
     (caches : q.caches ≡ p.caches) (own_book : q.books k ≡ guards') (other_books : (j : ℕ) → (j == k) ≡ false → q.books j ≡ p.books j)
@@ -57,7 +57,7 @@ module _ (name : ℕ) {f : Profile} {k heap n : ℕ} {p q : Progress} {w : World
   tried = shown ds w
 
   abbrev v : World
-  v = says (Record.Said k (Said.Guarded run.first (run.first + n + 1) name)) (with_guard (guard_on tried k run.first n) (gives k name heap address (4096 * n) (shown es w)))
+  v = says (Record.Said k (Said.Guarded run.first (run.first + n + 1) name)) (with_guard (raised_by k (guard_on tried heap run.first n)) (gives k name heap address (4096 * n) (shown es w)))
 
   -- The block has its name, as it is before the backings.
   turns : gives_in tried.events address ≡ gives_in (shown es w).events address
@@ -66,15 +66,15 @@ module _ (name : ℕ) {f : Profile} {k heap n : ℕ} {p q : Progress} {w : World
       ∙ (sym (ready_gives k d (has_number made) bs (ds ++ w.events) address (backs_are_ready given (has_number made)))
       ∙ ap (λ (ys : List Event). gives_in ys address) (sym (shown_events es w ∙ append_assoc bs ds w.events)))
 
-  guard_is : guard_on tried k run.first n ≡ told_guard k (guard_of run.first n block)
+  guard_is : guard_on tried heap run.first n ≡ guard_of run.first n block
   guard_is = cc (turns, block_is (gives_it given))
 
   -- ---- the guards that are up
   book_is : q.books k ≡ p.books k ++ guard_of run.first n block ∷ []
   book_is = own_book ∙ run.raised
 
-  guards_are : v.guards ≡ w.guards ++ told_guard k (guard_of run.first n block) ∷ []
-  guards_are = ap (λ (gs : List Guard). gs ++ guard_on tried k run.first n ∷ []) (shown_rest es w).guards ∙ ap (λ (g : Guard). w.guards ++ g ∷ []) guard_is
+  guards_are : v.guards ≡ w.guards ++ raised_by k (guard_of run.first n block) ∷ []
+  guards_are = ap (λ (gs : List Raised). gs ++ raised_by k (guard_on tried heap run.first n) ∷ []) (shown_rest es w).guards ∙ ap (λ (g : Guard). w.guards ++ raised_by k g ∷ []) guard_is
 
   -- Afterwards the replay has what the text has.
   now : HasSame f q v

@@ -6,8 +6,8 @@ use Rattle.pas_same_text.proofs.Common.{Local, each, shows, says, cache_of, loca
 use Rattle.pas_same_text.proofs.Common.{HandsOnOwn, some_of, deeds, backs, readies, large_of, is_run, deeds_run, serves_pages, gives_up, gives_up_first}
 use Rattle.pas_same_text.proofs.Common.{gives_first, fetches, makes_place, serves_class_by, others, ends, flushes, stops, frees, frees_what, route_in, room_in}
 use Rattle.pas_same_text.proofs.Common.{Progress, standing_for, Act, numbers_from, What, lowers, are_bare, raises, raises_from, serves, acts_on, opened}
-use Rattle.pas_same_text.proofs.Common.{Indexes, no_ranges, indexes_after, runs}
-use Rattle.pas_same_text.specs.{Order.operates, State.Guard, Acts.KeepsIndexes}
+use Rattle.pas_same_text.proofs.Common.{Indexes, no_ranges, indexes_after, runs, Raised}
+use Rattle.pas_same_text.specs.{Order.operates, Acts.KeepsIndexes}
 use Rattle.pas_large.specs.declared.span.Span.{Span}
 use Rattle.pas_same_text.proofs.CacheLists.{many_with}
 use Rattle.pas_large.specs.Doors.{cut_in}
@@ -16,7 +16,7 @@ use Rattle.pas_answers.specs.Indexes.{request_by, after_request, after_operation
 -- ---- what stays
 -- the indexes, the guards that are up, and the number of caches
 abbrev pub Still : Type 0
-Still = List (List Span) × List Guard × ℕ
+Still = List (List Span) × List Raised × ℕ
 
 abbrev pub still : World → Still
 still w = (w.indexes, w.guards, length w.caches)
@@ -162,15 +162,15 @@ Held = Indexes × ℕ
 abbrev held : World → Held
 held w = (w.indexes, length w.caches)
 
-all_lowered : (gs : List Guard) (w : World) → held (each lowers gs w) ≡ held w
+all_lowered : (gs : List Raised) (w : World) → held (each lowers gs w) ≡ held w
 all_lowered [] w = refl
 all_lowered (g ∷ gs) w = search (arith, minds_keep, all_lowered gs (lowers g w))
 
 -- Guards that are lowered change no index.
-pub all_lowered_keep : (gs : List Guard) (w : World) → (each lowers gs w).indexes ≡ w.indexes
+pub all_lowered_keep : (gs : List Raised) (w : World) → (each lowers gs w).indexes ≡ w.indexes
 all_lowered_keep gs w = ap (λ (h : Held). h.0) (all_lowered gs w)
 
-all_lowered_many : (gs : List Guard) (w : World) → length (each lowers gs w).caches ≡ length w.caches
+all_lowered_many : (gs : List Raised) (w : World) → length (each lowers gs w).caches ≡ length w.caches
 all_lowered_many gs w = ap (λ (h : Held). h.1) (all_lowered gs w)
 
 -- ---- a guarded request

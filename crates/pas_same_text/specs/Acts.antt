@@ -2,7 +2,7 @@
 use Rattle.std.specs.Prelude.{ℕ, ◌/◌, ◌%◌, ◌<◌, ◌≤◌, ◌≡◌, ◌⊎◌, true, false, ◌||◌, List, [], length, Some, All}
 use Rattle.pas_bits.specs.Masks.{HasMember}
 use Rattle.pas_profile.specs.Profiles.{IsValid}
-use Rattle.pas_profile.specs.declared.{directory.Directory.Directory, event.Event.Event, profile.Profile.Profile}
+use Rattle.pas_profile.specs.declared.{directory.Directory.Directory, event.Event.Event, profile.Profile.Profile, guard.Guard.Guard}
 use Rattle.pas_machine.specs.State.{Live, live_in, deed_in, backed_in}
 use Rattle.pas_core.specs.{Good.IsPartOf, Stamps.AllStamped, Stamps.AllKeepToEnds}
 use Rattle.pas_steps.specs.Clear.{IsClear, HasNothing}
@@ -15,7 +15,6 @@ use Rattle.pas_cache.specs.Contents.{Cached}
 use Rattle.pas_cache.specs.Locals.{local_for, any_covers, any_keeps, IsLocal, AreApart}
 use Rattle.pas_guard.specs.Books.{is_outer, Each, IsGuardOf, KnowsGuard, AreApart as AreGuardsApart}
 use Rattle.pas_guard.specs.Keepers.{IsBeside}
-use Rattle.pas_guard.specs.declared.book.Guard.{Guard}
 use Rattle.pas_trace.specs.{Acts.Act, EveryPlan.IsThread}
 use Rattle.pas_answers.specs.{Answers.Caches, Answers.Books, Answers.Progress, Indexes.indexes_after, Reaching.Advances}
 use Rattle.pas_same_text.specs.{State.World, Order.acts_on, Same.IsSame, Same.HasSame}

@@ -76,7 +76,7 @@ has_room w d page = not (each_of 0 256 (λ b. not (usable_by_kind d.kind b && is
 
 -- GUARDED: the page is an outer one of a guard that is up, whose keeper has all its grains
 abbrev pub is_guarded : World → ℕ → Bool
-is_guarded w page = list_any (λ g. (g.low == page) || (g.high == page)) w.guards
+is_guarded w page = list_any (λ r. (r.guard.low == page) || (r.guard.high == page)) w.guards
 
 -- OFFERED by its directory: nobody keeps the page, no guard has it, and it has room
 abbrev pub is_offered : World → Directory → ℕ → Bool

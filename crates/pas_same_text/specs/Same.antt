@@ -1,17 +1,17 @@
 -- WHEN A STATE OF THE TEXT, which has no words or views, is that of a replay, which has a list of steps.
 use Rattle.std.specs.Prelude.{ℕ, ◌<◌, ◌≤◌, ◌≡◌, ◌==◌, Bool, List, [], ◌∷◌, length, map, reverse}
-use Rattle.std.specs.List.{AllByRecursion, list_any, filter}
+use Rattle.std.specs.List.{AllByRecursion, list_any}
 use Rattle.pas_bits.specs.Masks.{is_set}
-use Rattle.pas_profile.specs.{Directories.number_of, Profiles.IsDirectoryOf}
+use Rattle.pas_profile.specs.{Directories.number_of, Profiles.IsDirectoryOf, Guards.guards_of, Guards.raised_by}
 use Rattle.pas_profile.specs.declared.{directory.Directory.Directory, event.Event.Event, name.Block.Block, profile.Profile.Profile, word.Word.Word}
+use Rattle.pas_profile.specs.declared.{guard.Raised.Raised}
 use Rattle.pas_steps.specs.Lists.{Whole, word_after, visible}
 use Rattle.pas_core.specs.Rights.{empty_bit, eligible_bit}
 use Rattle.pas_segregated.specs.declared.slots.Slots.{Slots}
 use Rattle.pas_cache.specs.Contents.{Cached}
-use Rattle.pas_guard.specs.declared.book.Guard.{Guard as BookGuard}
 use Rattle.pas_trace.specs.EveryPlan.{IsThread}
 use Rattle.pas_answers.specs.Answers.{Caches, Books, Progress}
-use Rattle.pas_same_text.specs.State.{Local, Cache, Guard, World, live_after, cache_in}
+use Rattle.pas_same_text.specs.State.{Local, Cache, World, live_after, cache_in}
 use Rattle.pas_same_text.specs.Pages.{is_offered, is_hinted}
 
 -- ---- caches
@@ -51,13 +51,9 @@ pub record AreSameCaches (f : Profile) (caches : Caches) (own : List Cache) : Ty
   pub each : (k : ℕ) → IsThread f k → IsSameCache (caches k) (cache_in own k)
 
 -- ---- guards
--- a guard of a keeper's book, as the text has it
-abbrev pub told_guard : ℕ → BookGuard → Guard
-told_guard keeper g = record { keeper = keeper; low = g.low; high = g.high; block = g.block.name }
-
 -- those of each keeper are the ones of its book, in the order in which they went up
-pub record AreSameGuards (books : Books) (guards : List Guard) : Type 0 where
-  pub each : (keeper : ℕ) → filter (λ g. g.keeper == keeper) guards ≡ map (told_guard keeper) (books keeper)
+pub record AreSameGuards (books : Books) (guards : List Raised) : Type 0 where
+  pub each : (keeper : ℕ) → guards_of keeper guards ≡ map (raised_by keeper) (books keeper)
 
 -- ---- pages
 -- the blocks that live after the events

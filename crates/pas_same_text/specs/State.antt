@@ -3,7 +3,7 @@
 use Rattle.std.specs.Prelude.{ℕ, ◌-◌, ◌==◌, not, Bool, if◌then◌else◌, List, [], ◌∷◌, Option}
 use Rattle.std.specs.List.{find, filter}
 use Rattle.pas_profile.specs.Blocks.{address_of}
-use Rattle.pas_profile.specs.declared.{event.Event.Event, name.Block.Block, name.Name.Name, entry.Entry.Entry}
+use Rattle.pas_profile.specs.declared.{event.Event.Event, name.Block.Block, entry.Entry.Entry, guard.Raised.Raised}
 use Rattle.pas_large.specs.declared.span.Span.{Span}
 use Rattle.pas_free_log.specs.declared.noting.EndedRun.{EndedRun}
 use Rattle.pas_answers.specs.Answers.{Named, named}
@@ -27,14 +27,6 @@ pub record Cache : Type 0 where
   pub noted : List EndedRun
   pub idle_since : ℕ
 
--- A GUARD that is up: the actor that keeps it, the pages right before and right behind a block of whole pages, all grains of which that actor has, and the
--- name of the block
-pub record Guard : Type 0 where
-  pub keeper : ℕ
-  pub low : ℕ
-  pub high : ℕ
-  pub block : Name
-
 -- THE STATE: the events and the records so far, each with the newest first; the live blocks, which follow from the events; what the names of the trace stand
 -- for; the caches of the threads from 1 on; the guards that are up, in the order in which they went up; the pages that are hinted as empty; the indexes of the
 -- heaps from 0 on, each some ranges of pages, the lowest first; the epoch; and the one that the scavenger read for its last idle operation
@@ -44,7 +36,7 @@ pub record World : Type 0 where
   pub live : List Block
   pub names : List Named
   pub caches : List Cache
-  pub guards : List Guard
+  pub guards : List Raised
   pub hinted : List ℕ
   pub indexes : List (List Span)
   pub epoch : ℕ

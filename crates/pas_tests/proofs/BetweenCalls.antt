@@ -3,6 +3,7 @@ use Rattle.std.proofs.Common.{◌≡◌, ℕ, zero, suc, ◌+◌, ◌<◌, ◌�
 use Rattle.std.proofs.Common.{length-append, slice_index_or, MatchOption, ◌-◌, reverse}
 use Rattle.pas_profile.specs.Profiles.{IsAdmitted}
 use Rattle.pas_profile.specs.declared.{directory.Directory.Directory, event.Event.Event, name.Block.Block, profile.Profile.Profile, word.Word.Word}
+use Rattle.pas_profile.specs.declared.{guard.Guard.Guard}
 use Rattle.pas_scan.specs.Runs.{large_directory}
 use Rattle.pas_steps.specs.{Calls.nothing, Calls.Does, Events.events_by, Views.View, Views.KnowsDeed, Lists.Whole, Unknown.unknown_pages, Clear.HasNothing}
 use Rattle.pas_steps.specs.{Events.events_of, Unknown.unknown_below, Noted.events_noted, Noted.room_of_notes}
@@ -15,7 +16,7 @@ use Rattle.pas_records.specs.declared.record.Record.{Record}
 use Rattle.pas_trace.specs.declared.item.Request.{Request}
 use Rattle.pas_guard.specs.Books.{Each, IsGuardOf, KnowsGuard, FitsBook, guards_in, size_of_book}
 use Rattle.pas_guard.specs.{Raises.IsRaised, Raises.IsNotRaised, Raises.guard_of, Seeks.backed_looks}
-use Rattle.pas_guard.specs.declared.book.{Guard.Guard, GuardBook.GuardBook}
+use Rattle.pas_guard.specs.declared.book.GuardBook.{GuardBook}
 use Rattle.pas_cache.specs.{Serves.pages_of, Caches.Cached, Caches.AtRest}
 use Rattle.pas_answers.specs.{Answers.wanted_by, Guarding.Tried, Guarding.IsTried}
 use Rattle.pas_answers.specs.Keeping.{cost_of_try, MayTry, TriesRequest, MayLowerAll, LowersAll}

@@ -6,8 +6,8 @@ ghost use Rattle.pas_guard.specs.Books.{guards_in, FitsBook};
 ghost use Rattle.pas_tests.specs.Kept.{MayKeep, Looked};
 
 use pas_answers::{lower_all, try_guarded};
-use pas_guard::{Guard, GuardBook};
-use pas_profile::Word;
+use pas_guard::GuardBook;
+use pas_profile::{Guard, Word};
 use pas_records::Records;
 use pas_steps::Desk;
 

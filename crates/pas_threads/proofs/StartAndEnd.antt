@@ -6,7 +6,7 @@ use Rattle.std.specs.List.{remove}
 use Rattle.std.proofs.{Math.ListN.set, Math.ListN.get_or-append, Math.Nat.suc-mul, lemmas.Bool.cases_eq, lemmas.Bool.cases_lt, lemmas.List.length-map}
 use Rattle.std.proofs.{lemmas.List.drop_more, lemmas.List.get_or_push, Math.Seq.get_or-append-add, lemmas.Option.same_Some, lemmas.List.Elements.All-set}
 use Rattle.pas_profile.specs.{Rooms.shown, Rooms.size_of_room, Rooms.EventRoom, Profiles.IsValid}
-use Rattle.pas_profile.specs.declared.profile.Profile.{Profile}
+use Rattle.pas_profile.specs.declared.{profile.Profile.Profile, guard.Guard.Guard}
 use Rattle.pas_trace.specs.Acts.{Act, Settles, act_kept, own_acts}
 use Rattle.pas_trace.specs.Asked.{work_of, keeper_in}
 use Rattle.pas_trace.specs.EveryPlan.{AreKept, all_ops, own_records, kept_of_work, kept_records}
@@ -14,7 +14,6 @@ use Rattle.pas_trace.specs.Plans.{IsPlanOf, bounds_of, ops_of, phases_of as the_
 use Rattle.pas_trace.specs.declared.plan.{Op.Op, Phase.Phase, Plan.Plan, What.What}
 use Rattle.pas_trace.proofs.{EveryPlan.every_phase, EveryPlan.every_plan, EveryPlan.few_operations, Keepers.plan_actors}
 use Rattle.pas_guard.specs.Books.{FitsBook, guards_in, is_outer}
-use Rattle.pas_guard.specs.declared.book.Guard.{Guard}
 use Rattle.pas_cache.specs.Caches.{Cached, cached}
 use Rattle.pas_cache.proofs.FlushesAndFrees.{rests_empty}
 use Rattle.pas_shared.specs.Passes.{AreFresh, IsPassOf, seat_of, view_of}

@@ -1,13 +1,14 @@
 use Rattle.std.proofs.Common.{drop_of_length-le}
 use Rattle.std.proofs.lemmas.List.{drop_more}
-use Rattle.pas_check.specs.declared.guard.Guard.{Guard}
+use Rattle.pas_profile.specs.Guards.{raised_by}
+use Rattle.pas_profile.specs.declared.guard.Raised.{Raised}
 use Rattle.pas_check.proofs.{Stretches.sweep_begins, Stretches.sweep_lowers, Stretches.sweep_stays}
 use Rattle.pas_check.proofs.{guarding.take_lowered.Goals.else-goes_down-via-then-goes_down+else-not-take_record}
 use Rattle.pas_check.proofs.{guarding.take_lowered.Goals.else-goes_down-via-else-goes_down}
 use Rattle.pas_check.proofs.guarding.take_lowered.Goals as goal
 
-abbrev nobody : Guard
-nobody = record { keeper = 0; low = 0; high = 0; name = record { address = record { 0 = 0 }; turn = 0 } }
+abbrev nobody : Raised
+nobody = raised_by 0 record { low = 0; high = 0; block = record { name = record { address = record { 0 = 0 }; turn = 0 }; room = 0; heap = 0 } }
 
 pub loop-guard-init : goal.loop-guard-init
 loop-guard-init c = record { within = c.requires.within; goes = sweep_begins c.requires.within }

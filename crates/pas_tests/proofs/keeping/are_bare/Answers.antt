@@ -1,5 +1,5 @@
 use Rattle.std.proofs.Common.{List, length, refl, ap, ◌∙◌, arith, slice_index_or}
-use Rattle.pas_guard.specs.declared.book.Guard.{Guard}
+use Rattle.pas_profile.specs.declared.guard.Guard.{Guard}
 use Rattle.pas_tests.proofs.BetweenCalls.{looked_none, looked_both, can_look, no_guard, its_pages}
 use Rattle.pas_tests.proofs.keeping.are_bare.Goals as goal
 

@@ -1,7 +1,7 @@
 use Rattle.std.proofs.Common.{◌++◌, ◌∷◌, List, [], length, length-append, refl, ap, ◌∙◌, arith, slice_index_or}
 use Rattle.pas_records.specs.Rooms.{records_in}
 use Rattle.pas_guard.specs.{Books.guards_in, Sweeps.lowered_record}
-use Rattle.pas_guard.specs.declared.book.Guard.{Guard}
+use Rattle.pas_profile.specs.declared.guard.Guard.{Guard}
 use Rattle.pas_guard.proofs.Raises.{swept_none, swept_all, no_guard, its_page, may_look, can_lower_it, it_stays, it_goes, one_less}
 use Rattle.pas_guard.proofs.book.GuardBook.sweep.Goals as goal
 
