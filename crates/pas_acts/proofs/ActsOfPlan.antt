@@ -91,16 +91,16 @@ module _ (f : Profile) (cost : Act → ℕ) (most : Op → ℕ) (mark : ℕ)
 
 -- ---- each operation
 -- records
-chore_costs : (f : Profile) (idle : List ℕ) (chore : Chore) → length idle ≤ f.threads → costs_of f (acts_of_chore idle chore) ≤ records_of_chore f chore
+chore_costs : (f : Profile) (idle : List ℕ) (chore : Chore) → length idle ≤ f.threads → costs_of f.pages (acts_of_chore idle chore) ≤ records_of_chore f chore
 chore_costs f idle chore few = search (arith, one_each)
 
 -- a thread's operation costs the same whether it is guarded or not
-kept_cost : (f : Profile) (keeper : Option ℕ) (op : Op) → costs_of f (act_kept keeper op ∷ (Settles op.actor ∷ [])) ≡ cost_of_what op.what
+kept_cost : (f : Profile) (keeper : Option ℕ) (op : Op) → costs_of f.pages (act_kept keeper op ∷ (Settles op.actor ∷ [])) ≡ cost_of_what op.what
 kept_cost f keeper op = grind arith
 
 -- The acts of an operation's work cost at most the records that the work may make.
 pub work_costs : (f : Profile) (idle : List ℕ) (op : Op) (work : Work) → work_of op.what ≡ work → length idle ≤ f.threads
-    → costs_of f (acts_of_work idle op work) ≤ records_of_work f work
+    → costs_of f.pages (acts_of_work idle op work) ≤ records_of_work f work
 work_costs f idle op work is few = search (arith, kept_cost, chore_costs)
 
 -- events of thread k
@@ -124,11 +124,11 @@ its_own : (t : Bool) (n : ℕ) → t ≡ true → n ≤ (if t then 1 + n else 0)
 its_own t n is = grind arith
 
 -- A guarded request and what settles it end the backing of no page.
-kept_unbacks : (f : Profile) (keeper : Option ℕ) (op : Op) → unbacks_of f (act_kept keeper op ∷ (Settles op.actor ∷ [])) ≤ 0
+kept_unbacks : (f : Profile) (keeper : Option ℕ) (op : Op) → unbacks_of f.pages (act_kept keeper op ∷ (Settles op.actor ∷ [])) ≤ 0
 kept_unbacks f keeper op = grind arith
 
 work_unbacks : (f : Profile) (idle : List ℕ) (op : Op) (work : Work) → IsActorBy f work op.actor
-    → unbacks_of f (acts_of_work idle op work) ≤ (if op.actor == 0 then records_of_work f work else 0)
+    → unbacks_of f.pages (acts_of_work idle op work) ≤ (if op.actor == 0 then records_of_work f work else 0)
 work_unbacks f idle op work h = grind (arith, kept_unbacks, its_own, eq-eqb, free_map)
 
 -- ---- the plan's own sums
@@ -142,9 +142,9 @@ own_sum f k (op ∷ ops) = ap (λ n. (if op.actor == k then records_of_what f op
 
 -- The acts of a plan cost at most the records of its operations, one for each phase and one for the close.
 pub plan_costs : (f : Profile) (keepers : ℕ) (phases : List (List Op)) → ArePlanned f (all_ops phases)
-    → costs_of f (acts_of f.threads keepers phases) ≤ records_of_ops f (all_ops phases) + (length phases + 1)
+    → costs_of f.pages (acts_of f.threads keepers phases) ≤ records_of_ops f (all_ops phases) + (length phases + 1)
 plan_costs f keepers phases all =
-    let most = plan_sums_at_most f (cost_of_act f) (λ op. records_of_what f op.what) 1 (λ idle op few is. work_costs f idle op (work_of op.what) refl few)
+    let most = plan_sums_at_most f (cost_of_act f.pages) (λ op. records_of_what f op.what) 1 (λ idle op few is. work_costs f idle op (work_of op.what) refl few)
     (λ k. refl) (λ k. refl) (λ k. refl) (λ n. refl) refl keepers phases all in
     omega (arith, most, records_sum f (all_ops phases))
 
@@ -158,9 +158,9 @@ plan_owns f keepers k phases all =
 
 -- The acts of a plan unback at most as many pages as the scavenger's operations may make records.
 pub plan_unbacks : (f : Profile) (keepers : ℕ) (phases : List (List Op)) → ArePlanned f (all_ops phases)
-    → unbacks_of f (acts_of f.threads keepers phases) ≤ own_records f 0 (all_ops phases)
+    → unbacks_of f.pages (acts_of f.threads keepers phases) ≤ own_records f 0 (all_ops phases)
 plan_unbacks f keepers phases all =
-    let most = plan_sums_at_most f (unbacks_of_act f) (λ op. if op.actor == 0 then records_of_what f op.what else 0) 0
+    let most = plan_sums_at_most f (unbacks_of_act f.pages) (λ op. if op.actor == 0 then records_of_what f op.what else 0) 0
     (λ idle op few is. work_unbacks f idle op (work_of op.what) is) (λ j. refl) (λ j. refl) (λ j. refl) (λ n. refl) refl keepers phases all in
     omega (arith, most, own_sum f 0 (all_ops phases))
 

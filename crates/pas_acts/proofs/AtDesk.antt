@@ -493,7 +493,7 @@ pass_room {f} {σ} {out} {p} later spare fits at =
 -- there is room again, where the act pays for the events of its steps and for what is said
 room_again : {f : Profile} {σ σ' : Standing} {out out' : Records} {p q : Progress} (act : Act) (later : Later) → HasRoomAt f σ out (for_act f act later) p
     → (moves : Moves 0 HasNothing HasNothing σ σ' p q) → (says : Says 0 out out' p q)
-    → length (events_by 0 (part 0 p.list) moves.steps) ≤ unbacks_of_act f act → length says.said ≤ cost_of_act f act → HasRoomAt f σ' out' later q
+    → length (events_by 0 (part 0 p.list) moves.steps) ≤ unbacks_of_act f.pages act → length says.said ≤ cost_of_act f.pages act → HasRoomAt f σ' out' later q
 room_again {f} {σ} {σ'} {out} {out'} {p} {q} act later at moves says few paid =
     record {
       sits = subst (λ (l : Whole). Sits f 0 HasNothing σ' l later.events) (sym moves.list_is) (sits_after at.sits moves.calls (omega (arith, few)));

@@ -12,8 +12,8 @@ use Rattle.pas_trace.specs.EveryPlan.{all_ops, asked_after, IsThread, IsActorBy,
 use Rattle.pas_trace.specs.EveryPlan.{kept_of_work, kept_records}
 use Rattle.pas_trace.specs.declared.plan.{Op.Op, Task.Task, Work.Work, Plan.Plan, Chore.Chore}
 use Rattle.pas_trace.proofs.{EveryPlan.every_plan, EveryPlan.threads_among, EveryPlan.keepers_among, Keepers.plan_actors, Keepers.keepers_few}
-use Rattle.pas_answers.specs.Fit.{KeepsAbove, AreFit, AreOfThreads, cost_of_act, costs_of, own_costs_of, unbacks_of_act, unbacks_of, AllBelow, sum_over}
-use Rattle.pas_answers.specs.Fit.{kept_cost_of, kept_cost_of_act, kept_costs_of}
+use Rattle.pas_answers.specs.Fit.{KeepsAbove, AreFit, AreOfThreads, costs_of, own_costs_of, unbacks_of, AllBelow, sum_over, kept_cost_of, kept_cost_of_act}
+use Rattle.pas_answers.specs.Fit.{kept_costs_of}
 use Rattle.pas_answers.specs.Replays.{phases_of, region_of, threads_of, keepers_of, acts_of_plan, empty_cache}
 use Rattle.pas_acts.proofs.ActsOfPlan.{ArePlanned, are_planned, plan_costs, plan_owns, plan_unbacks, acts_fit, of_threads, sum_of_ops, plan_sums_at_most}
 use Rattle.pas_acts.proofs.ActsOfPlan.{free_map}
@@ -50,22 +50,6 @@ module _ (f : Profile) (threads : ℕ) (more : f.threads ≤ threads) where
   pub wider_sound : (asked : List ℕ) (ops : List Op) → AreSound f asked ops → AreSound region asked ops
   wider_sound asked [] sound = tt
   wider_sound asked (op ∷ ops) sound = let rest = wider_sound (asked_after op.what asked) ops sound.2 in grind (arith, rest, wider_actor, wider_work)
-
-  -- what acts cost goes by its pages alone
-  same_cost : (act : Act) → cost_of_act region act ≡ cost_of_act f act
-  same_cost act = grind arith
-
-  same_costs : (acts : List Act) → costs_of region acts ≡ costs_of f acts
-  same_costs [] = refl
-  same_costs (act ∷ acts) = ap (λ n. n + costs_of region acts) (same_cost act) ∙ ap (λ n. cost_of_act f act + n) (same_costs acts)
-
-  -- by computing, for each act
-  same_unback : (act : Act) → unbacks_of_act region act ≡ unbacks_of_act f act
-  same_unback act = search arith
-
-  same_unbacks : (acts : List Act) → unbacks_of region acts ≡ unbacks_of f acts
-  same_unbacks [] = refl
-  same_unbacks (act ∷ acts) = ap (λ n. n + unbacks_of region acts) (same_unback act) ∙ ap (λ n. unbacks_of_act f act + n) (same_unbacks acts)
 
 -- the keepers of a guarded plan are actors of its region behind all threads
 above_one : (f : Profile) (guard : ℕ) (actor : ℕ) (o : Option ℕ) → 1 ≤ actor → actor ≤ f.threads
@@ -140,19 +124,17 @@ plan_own {text} {plan} is k some le =
 
 -- .. that of the scavenger for its passes
 pub plan_scavenger : {text : List ℕ} {plan : Plan} → IsPlanOf text plan
-    → unbacks_of (region_of plan) (acts_of_plan plan) ≤ slice_index (bounds_of plan.bounds) 0
+    → unbacks_of (region_of plan).pages (acts_of_plan plan) ≤ slice_index (bounds_of plan.bounds) 0
 plan_scavenger {text} {plan} is =
     let bound = (every_plan is).scavenger in
-    let same = same_unbacks plan.profile (actors_by plan.guard plan.profile.threads) (plan_threads plan) (acts_of_plan plan) in
-    omega (arith, plan_unbacks plan.profile (keepers_of plan) (phases_of plan) (plan_planned is), bound, same)
+    omega (arith, plan_unbacks plan.profile (keepers_of plan) (phases_of plan) (plan_planned is), bound)
 
 -- .. and the total for those of all actors, with a record for each phase and one for the close
 pub plan_total : {text : List ℕ} {plan : Plan} → IsPlanOf text plan
-    → (region_of plan).threads * (region_of plan).pages + costs_of (region_of plan) (acts_of_plan plan) ≤ plan.total + length (phases_of plan) + 1
+    → (region_of plan).threads * (region_of plan).pages + costs_of (region_of plan).pages (acts_of_plan plan) ≤ plan.total + length (phases_of plan) + 1
 plan_total {text} {plan} is =
     let total = (every_plan is).total in
-    let same = same_costs plan.profile (actors_by plan.guard plan.profile.threads) (plan_threads plan) (acts_of_plan plan) in
-    omega (arith, plan_costs plan.profile (keepers_of plan) (phases_of plan) (plan_planned is), total, same)
+    omega (arith, plan_costs plan.profile (keepers_of plan) (phases_of plan) (plan_planned is), total)
 
 -- ---- how many keepers there are
 -- there are as many as threads in a guarded plan, and none in another

@@ -76,7 +76,7 @@ pub record HasRoomAt (f : Profile) (desk : Standing) (out : Records) (later : La
 
 -- room for the act, and for those of `later`
 abbrev pub for_act : Profile → Act → Later → Later
-for_act f act later = record { events = unbacks_of_act f act + later.events; records = cost_of_act f act + later.records }
+for_act f act later = record { events = unbacks_of_act f.pages act + later.events; records = cost_of_act f.pages act + later.records }
 
 -- The scavenger did this act, and has nothing again. Nothing of a thread changed.
 pub record ScavengerActs (f : Profile) (act : Act) (desk desk' : Standing) (out out' : Records) (later : Later) (p : Progress) : Type 0 where

@@ -46,24 +46,24 @@ cost_of_work (Work.Chore chore) = 0
 abbrev pub cost_of_what : What → ℕ
 cost_of_what what = cost_of_work (work_of what)
 
--- how many records an act may make in the end, beside deeds. A pass says its epoch, and then what it came to on each page. A guarded request pays for that its guard went
--- up and is lowered.
-abbrev pub cost_of_act : Profile → Act → ℕ
-cost_of_act f (Operates op) = cost_of_what op.what
-cost_of_act f (Guards keeper op) = cost_of_what op.what
-cost_of_act f (Settles k) = 0
-cost_of_act f (Ticks epoch) = 1
-cost_of_act f MakesPass = 1 + f.pages
-cost_of_act f ReadsEpoch = 0
-cost_of_act f (StopsIdle k n) = 1
-cost_of_act f (MarksPhase n) = 1
-cost_of_act f (Wakes k) = 0
-cost_of_act f MarksClose = 1
-cost_of_act f (Ends k) = 0
-cost_of_act f (Lowers keeper) = 0
+-- how many records an act may make in the end, beside deeds, in a region of so many pages. A pass says its epoch, and then what it came to on each page. A
+-- guarded request pays for that its guard went up and is lowered.
+abbrev pub cost_of_act : ℕ → Act → ℕ
+cost_of_act pages (Operates op) = cost_of_what op.what
+cost_of_act pages (Guards keeper op) = cost_of_what op.what
+cost_of_act pages (Settles k) = 0
+cost_of_act pages (Ticks epoch) = 1
+cost_of_act pages MakesPass = 1 + pages
+cost_of_act pages ReadsEpoch = 0
+cost_of_act pages (StopsIdle k n) = 1
+cost_of_act pages (MarksPhase n) = 1
+cost_of_act pages (Wakes k) = 0
+cost_of_act pages MarksClose = 1
+cost_of_act pages (Ends k) = 0
+cost_of_act pages (Lowers keeper) = 0
 
-abbrev pub costs_of : Profile → List Act → ℕ
-costs_of f acts = sum_over (cost_of_act f) acts
+abbrev pub costs_of : ℕ → List Act → ℕ
+costs_of pages acts = sum_over (cost_of_act pages) acts
 
 -- how many events of thread k an act may make in the end, beside deeds
 abbrev pub own_cost_of : ℕ → Option Op → ℕ
@@ -89,12 +89,12 @@ abbrev pub kept_costs_of : ℕ → List Act → ℕ
 kept_costs_of k acts = sum_over (kept_cost_of_act k) acts
 
 -- .. and how many the scavenger: a pass unbacks each page once at most, and nothing else unbacks one
-abbrev pub unbacks_of_act : Profile → Act → ℕ
-unbacks_of_act f MakesPass = f.pages
-unbacks_of_act f act = 0
+abbrev pub unbacks_of_act : ℕ → Act → ℕ
+unbacks_of_act pages MakesPass = pages
+unbacks_of_act pages act = 0
 
-abbrev pub unbacks_of : Profile → List Act → ℕ
-unbacks_of f acts = sum_over (unbacks_of_act f) acts
+abbrev pub unbacks_of : ℕ → List Act → ℕ
+unbacks_of pages acts = sum_over (unbacks_of_act pages) acts
 
 -- ---- the names of the operations of all phases are below the limit
 abbrev pub AllBelow : ℕ → List (List Op) → Type 0

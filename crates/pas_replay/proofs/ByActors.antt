@@ -122,7 +122,7 @@ written_back {f} {k} {op} {indexes} {indexes'} {p = p} items many is same acts =
 -- ---- an act of a thread for which no name stands: it wakes, it is stopped where it is idle, it ends
 pub rests_now : {r : Replay} {act desk desk1 passes passes1 caches books places indexes table out p k extra there : _} (more : Left)
     → 1 ≤ k → k ≤ length caches → own_cost_of_act k act ≡ 0
-    → cost_of_act r.profile act ≡ extra → TakesSeat desk desk1 passes passes1 k → there ≡ get_or caches (k - 1) there
+    → cost_of_act r.profile.pages act ≡ extra → TakesSeat desk desk1 passes passes1 k → there ≡ get_or caches (k - 1) there
     → IsAt r (upon r (act ∷ []) more) (hand desk passes caches books places indexes table out) p
     → RestsAt r.profile k (standing_of desk1) (cached there) out (later_for r k p more extra) p
 rests_now {caches = caches} {p = p} {k} {extra} {there} more some within own cost seat is at = rests_for (thread_now k 0 extra more some within seat

@@ -55,7 +55,7 @@ still_stands threads f k p acts more mark less st =
 
 -- A mark that was said takes the replay on, and the acts behind it come next.
 pub after_mark : {r : Replay} {more : Left} {act : Act} {T : Type 0} {h : Hand} (out' : Records) (mark : Record) → T × SoFar r (upon r (act ∷ []) more) h
-    → ((p : Progress) → Advances r.profile act p (with_records p (mark ∷ []))) → cost_of_act r.profile act ≡ 1
+    → ((p : Progress) → Advances r.profile act p (with_records p (mark ∷ []))) → cost_of_act r.profile.pages act ≡ 1
     → ((limit : ℕ) (asked : List ℕ) → AreFit r.profile limit asked (act ∷ more.acts) → AreFit r.profile limit asked more.acts) → AsksNoIndex r.profile act
     → records_in out' ≡ records_in h.out ++ mark ∷ [] → room_of out' ≡ room_of h.out → T × SoFar r more (record h { out = out' })
 after_mark {r} {more} {act} {T} {h} out' mark (taken, (p, at)) advances one fit asks pushed room =
@@ -80,13 +80,13 @@ after_mark {r} {more} {act} {T} {h} out' mark (taken, (p, at)) advances one fit 
 
 -- ---- the acts that are left
 -- What acts cost and so many more is the sum.
-costs_then : (f : Profile) (acts : List Act) (more : ℕ) → costs_and f acts more ≡ costs_of f acts + more
+costs_then : (f : Profile) (acts : List Act) (more : ℕ) → costs_and f acts more ≡ costs_of f.pages acts + more
 costs_then f [] more = omega arith
 costs_then f (act ∷ acts) more = omega (arith, costs_then f acts more)
 
 costs_both : (f : Profile) (first more : List Act) (after : ℕ) → costs_and f (first ++ more) after ≡ costs_and f first (costs_and f more after)
 costs_both f [] more after = refl
-costs_both f (act ∷ first) more after = ap (λ (n : ℕ). cost_of_act f act + n) (costs_both f first more after)
+costs_both f (act ∷ first) more after = ap (λ (n : ℕ). cost_of_act f.pages act + n) (costs_both f first more after)
 
 -- field by field
 left_same : {acts acts' : List Act} {room room' : ℕ} → acts ≡ acts' → room ≡ room' → ◌≡◌ {A = Left} record { acts = acts; room = room } record { acts = acts'; room = room' }
@@ -196,11 +196,11 @@ as_so : {r : Replay} {left : Left} {h : Hand} {p : Progress} (told : List Record
 as_so told room out at same size spare = search arith
 
 -- There is room for acts that come next, where they cost no more than the dearest operation.
-may_do : (waits : Option ℕ) (r : Replay) (s : Session) (acts more : List Act) → costs_of r.profile acts ≤ dearest r.profile
+may_do : (waits : Option ℕ) (r : Replay) (s : Session) (acts more : List Act) → costs_of r.profile.pages acts ≤ dearest r.profile
     → Between waits r (acts ++ more) s
     → SoFarAt r (upon r acts (left_between waits r more)) s
 may_do None r s acts more cheap btw =
-    as_left (left_same refl (sum_both (cost_of_act r.profile) acts more ∙ sym (costs_then r.profile acts (costs_of r.profile more)))) btw.0
+    as_left (left_same refl (sum_both (cost_of_act r.profile.pages) acts more ∙ sym (costs_then r.profile acts (costs_of r.profile.pages more)))) btw.0
 may_do (Some most) r s acts more cheap ((taken, (p, at)), few) =
     let f = r.profile in
     let n = r.threads + r.keepers in
@@ -262,7 +262,7 @@ pub place_in : {all : List Op} (ops : List Op) {i : ℕ} → i < length all → 
 place_in ops lt is = omega (arith, lt, ap (λ (xs : List Op). length xs) is, length-map ops unlined)
 
 -- ---- acts that cost nothing
-none_costs : (f : Profile) (to : ℕ → Act) → ((k : ℕ) → cost_of_act f (to k) ≡ 0) → (ks : List ℕ) → costs_of f (map to ks) ≡ 0
+none_costs : (f : Profile) (to : ℕ → Act) → ((k : ℕ) → cost_of_act f.pages (to k) ≡ 0) → (ks : List ℕ) → costs_of f.pages (map to ks) ≡ 0
 none_costs f to free [] = refl
 none_costs f to free (k ∷ ks) = let first = free k in let rest = none_costs f to free ks in omega (arith, first, rest)
 
@@ -300,12 +300,12 @@ close_next waits r s btw =
     let first = none_costs f Ends (λ k. refl) (numbers_from 1 r.threads) in
     let last = none_costs f Lowers (λ k. refl) (numbers_from (r.threads + 1) r.keepers) in
     let now = as_between waits r s (sym (append-nil (MarksClose ∷ (ends ++ lowers)))) btw in
-    let may = may_do waits r s (MarksClose ∷ (ends ++ lowers)) [] (omega (arith, sum_both (cost_of_act f) ends lowers, first, last)) now in
+    let may = may_do waits r s (MarksClose ∷ (ends ++ lowers)) [] (omega (arith, sum_both (cost_of_act f.pages) ends lowers, first, last)) now in
     as_left (ap (λ (left : Left). upon r (MarksClose ∷ []) left) (upon_both r ends lowers (left_between waits r []))) may
 
 -- ---- marks
 -- There is room for a mark that comes next.
-pub mark_next : (waits : Option ℕ) (r : Replay) (s : Session) (more : List Act) (mark : Act) → cost_of_act r.profile mark ≡ 1 → Between waits r (mark ∷ more) s
+pub mark_next : (waits : Option ℕ) (r : Replay) (s : Session) (more : List Act) (mark : Act) → cost_of_act r.profile.pages mark ≡ 1 → Between waits r (mark ∷ more) s
     → SoFarAt r (upon r (mark ∷ []) (left_between waits r more)) s
 mark_next waits r s more mark one btw = may_do waits r s (mark ∷ []) more (omega (arith, one)) btw
 

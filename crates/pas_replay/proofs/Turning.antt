@@ -400,7 +400,7 @@ cheap_work f limit asked idle op a more is fit = search (arith, kept_fit, task_c
 -- No operation that comes next costs more than the dearest.
 pub op_costs : {r : Replay} {h : Hand} {p : Progress} {room : ℕ} (awake : Mask4) (op : Op) (more : List Act)
     → IsAt r (record { acts = acts_of_op (idle_in awake r.threads) op ++ more; room = room }) h p
-    → costs_of r.profile (acts_of_op (idle_in awake r.threads) op) ≤ dearest r.profile
+    → costs_of r.profile.pages (acts_of_op (idle_in awake r.threads) op) ≤ dearest r.profile
 op_costs {r} {h} awake op more at =
     search (arith, chosen_few, not, work_costs, numbers_count, cheap_work)
 
@@ -511,7 +511,7 @@ either_less t a b a' b' h i = grind arith
 
 -- The acts that are left of some make no more events of an actor than all of them.
 pub less_events : (threads : ℕ) (f : Profile) (first more : List Act) (j : ℕ) → own_events threads f j more ≤ own_events threads f j (first ++ more)
-less_events threads f first more zero = behind (unbacks_of_act f) first more
+less_events threads f first more zero = behind (unbacks_of_act f.pages) first more
 less_events threads f first more (suc i) =
     either_less (nat_le (suc i) threads) _ _ _ _ (behind (own_cost_of_act (suc i)) first more) (behind (kept_cost_of_act (suc i)) first more)
 
@@ -695,7 +695,7 @@ thread_turn {r} {first} {more} {desk0} {desk} {desk'} {passes0} {passes} {caches
 
 -- ---- the turn of the scavenger
 abbrev pub later_of : Replay → Progress → Left → Later
-later_of r p more = record { events = unbacks_of r.profile more.acts; records = owed_by r.threads r.profile p (r.threads + r.keepers) + more.room }
+later_of r p more = record { events = unbacks_of r.profile.pages more.acts; records = owed_by r.threads r.profile p (r.threads + r.keepers) + more.room }
 
 -- The scavenger that took its seat has room for its act that comes next.
 pub scavenger_now : {r act desk0 desk passes0 passes caches books places indexes table out p : _} (more : Left) → TakesSeat desk0 desk passes0 passes 0

@@ -110,7 +110,7 @@ owes threads f p (suc i) v = owes_as (nat_le (suc i) threads) f (p.caches (suc i
 
 -- how many events it may make for these acts: the scavenger unbacks each page once in a pass, and a keeper tries requests
 abbrev pub own_events : ℕ → Profile → ℕ → List Act → ℕ
-own_events threads f zero acts = unbacks_of f acts
+own_events threads f zero acts = unbacks_of f.pages acts
 own_events threads f (suc i) acts = if nat_le (suc i) threads then own_costs_of (suc i) acts else kept_costs_of (suc i) acts
 
 -- actor k stands, with room for what it owes and for its acts among those that are left
@@ -172,7 +172,7 @@ pub record Left : Type 0 where
 -- what these acts cost, and so many records more
 abbrev pub costs_and : Profile → List Act → ℕ → ℕ
 costs_and f [] more = more
-costs_and f (act ∷ acts) more = cost_of_act f act + costs_and f acts more
+costs_and f (act ∷ acts) more = cost_of_act f.pages act + costs_and f acts more
 
 -- these acts, for which there is room, and then what is left behind them
 abbrev pub upon : Replay → List Act → Left → Left

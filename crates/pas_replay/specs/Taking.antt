@@ -24,7 +24,7 @@ room_for_taker (Some most) plan = most + room_for_acts (region_of plan)
 
 -- for how many records there is room between two operations, beside those that are owed: for all that are to come where none is taken
 abbrev pub room_between : Option ℕ → Profile → List Act → ℕ
-room_between None f acts = costs_of f acts
+room_between None f acts = costs_of f.pages acts
 room_between (Some most) f acts = 0
 
 abbrev pub left_between : Option ℕ → Replay → List Act → Left

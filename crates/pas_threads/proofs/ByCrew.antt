@@ -95,7 +95,7 @@ stops_end {h} {s} {bench} {old} {now} {out} {out1} {p} n i size le ge so =
 -- ---- the scavenger's own act
 -- there is room for it, beside the acts that are left
 pub room_for_act : {f : Profile} {act : Act} {next : List Act} {σ : Standing} {places : ℕ} {out : Records} {later : Later} {p : Progress}
-    → unbacks_of_act f act ≤ cost_of_act f act → ScavengerAt f (act ∷ next) σ places out later p → HasRoomAt f σ out (for_act f act (and_left f next later)) p
+    → unbacks_of_act f.pages act ≤ cost_of_act f.pages act → ScavengerAt f (act ∷ next) σ places out later p → HasRoomAt f σ out (for_act f act (and_left f next later)) p
 room_for_act less at = let spare = at.stands.spare in record { sits = sits_for at.stands.sits (omega (arith, less)); spare = omega (arith, spare) }
 
 module _ {Lends : ℕ → Worker → Progress → Type 0} {s : Shift} {act : Act} {next : List Act} {σ σ' : Standing} {places : ℕ} {out out' : Records}
@@ -131,7 +131,7 @@ module _ {Lends : ℕ → Worker → Progress → Type 0} {s : Shift} {act : Act
   did_alone same = record { came = came; stands = record { stands = record { stands = did.stands; has_places = same ∙ at.stands.has_places }; lent = still_lent }; told = own_told; lent = lent_told; books = did.books; others = λ k some other. leaves_alone k some }
 
 -- ---- an idle operation
-pub costs_stops : (f : Profile) (n : ℕ) (idle : List ℕ) (next : List Act) → costs_of f (idle_stops n idle ++ next) ≡ length idle + costs_of f next
+pub costs_stops : (f : Profile) (n : ℕ) (idle : List ℕ) (next : List Act) → costs_of f.pages (idle_stops n idle ++ next) ≡ length idle + costs_of f.pages next
 costs_stops f n [] next = omega arith
 costs_stops f n (k ∷ idle) next = let rest = costs_stops f n idle next in omega (arith, rest)
 
@@ -162,7 +162,7 @@ did_idle {h} {s} {next} {σ} {σ'} {places} {out} {out'} {old} {new} {p} n desk 
       stands = record {
         stands = record {
           stands = record {
-            sits = sits_still (λ v. costs_of s.profile next + s.own.events) (stood_still desk seat stopped.over) own_part
+            sits = sits_still (λ v. costs_of s.profile.pages next + s.own.events) (stood_still desk seat stopped.over) own_part
                 (sits_for read.stands.sits (omega (arith, costs)));
             spare = omega (arith, longer, stops.few, spare, costs, many, stops.told.room);
           };

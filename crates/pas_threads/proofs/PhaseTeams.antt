@@ -197,7 +197,7 @@ pub record ScavengerShare (region : SharedRegion) (r : Round) (old new : Scaveng
   pub same : HasSamePart 0 own.reached reached
   pub records_are : reached.records ≡ r.start.records ++ said
   pub events : (r.later 0).events ≡ own_records (planned_in r) 0 left
-  pub spare : (r.later 0).records ≡ room_of old.out - costs_of r.profile (scavenger_acts (idle_in r) r.ops)
+  pub spare : (r.later 0).records ≡ room_of old.out - costs_of r.profile.pages (scavenger_acts (idle_in r) r.ops)
 
 module _ {region : SharedRegion} {r : Round} {old new : Scavenger} {p : Progress} {left : List Op} {said : List Record} {reached : Progress}
     (x : ScavengerShare region r old new p left said reached) where
@@ -219,7 +219,7 @@ module _ {region : SharedRegion} {r : Round} {old new : Scavenger} {p : Progress
         has = record { pass = x.done.0.pass; present = c.pass ∙ x.done.0.present; of = x.done.0.of };
         at = record {
           stands = record {
-            sits = sits_still (λ (v : View). costs_of r.profile [] + own_records (planned_in r) 0 left) (pass_still x.done.0.pass) (sym x.same.parts)
+            sits = sits_still (λ (v : View). costs_of r.profile.pages [] + own_records (planned_in r) 0 left) (pass_still x.done.0.pass) (sym x.same.parts)
                 (sits_for x.done.1.stands.sits (omega (arith, x.events)));
             spare = omega (arith, x.done.2.room, x.rests.at.stands.spare, both, nothing, c.size);
           };

@@ -8,7 +8,7 @@ use Rattle.pas_trace.specs.EveryPlan.{records_of_work, records_of_what, records_
 use Rattle.pas_trace.specs.declared.plan.{Work.Work, Op.Op}
 use Rattle.pas_trace.specs.Acts.{Act, Settles, act_kept, acts_of_op, own_acts, scavenger_acts, idle_threads, is_active}
 use Rattle.pas_answers.specs.{Answers.Progress, Answers.Books, Ways.records_by, Ways.by_actors, Calls.owed_events}
-use Rattle.pas_answers.specs.Fit.{cost_of_work, cost_of_what, cost_of_act, costs_of, own_cost_of_act, own_costs_of}
+use Rattle.pas_answers.specs.Fit.{cost_of_work, cost_of_what, costs_of, own_cost_of_act, own_costs_of}
 use Rattle.pas_answers.proofs.{SingleActs.sum_both, EachAct.all_front}
 use Rattle.pas_acts.proofs.{ActsOfPlan.work_costs, ActsOfPlan.idle_few, AtDesk.sits_still, AtDesk.sits_for, Naming.names_before, Naming.sound_front}
 use Rattle.pas_threads.specs.Pairs.{said_by_keeper, owed_kept, keeper_at, owed_by_keepers, AreGuarded, no_more}
@@ -50,28 +50,18 @@ own_costs f k [] = omega arith
 own_costs f k (op ∷ ops) = own_if (op.actor == k) (keeper_in op.what) f k op (own_acts k ops) (own_records f k ops) refl (own_costs f k ops)
 
 -- ---- the scavenger
--- (what an act costs does not depend on how many threads there are)
-cost_alike : (f : Profile) (threads : ℕ) (act : Act) → cost_of_act (record f { threads = threads }) act ≡ cost_of_act f act
-cost_alike f threads act = search arith
-
-costs_alike : (f : Profile) (threads : ℕ) (acts : List Act) → costs_of (record f { threads = threads }) acts ≡ costs_of f acts
-costs_alike f threads [] = refl
-costs_alike f threads (act ∷ acts) =
-    let rest = costs_alike f threads acts in grind (arith, rest, cost_alike)
-
-scavenger_if : (t : Bool) (f : Profile) (idle : List ℕ) (op : Op) (acts : List Act) (most : ℕ) → length idle ≤ f.threads → costs_of f acts ≤ most
-    → costs_of f (if t then acts_of_op idle op ++ acts else acts) ≤ (if t then records_of_what f op.what else 0) + most
+scavenger_if : (t : Bool) (f : Profile) (idle : List ℕ) (op : Op) (acts : List Act) (most : ℕ) → length idle ≤ f.threads → costs_of f.pages acts ≤ most
+    → costs_of f.pages (if t then acts_of_op idle op ++ acts else acts) ≤ (if t then records_of_what f op.what else 0) + most
 scavenger_if a f idle op acts most few rest = search (arith, sum_both, work_costs)
 
-all_scavenged : (f : Profile) (idle : List ℕ) (ops : List Op) → length idle ≤ f.threads → costs_of f (scavenger_acts idle ops) ≤ own_records f 0 ops
+all_scavenged : (f : Profile) (idle : List ℕ) (ops : List Op) → length idle ≤ f.threads → costs_of f.pages (scavenger_acts idle ops) ≤ own_records f 0 ops
 all_scavenged f idle [] few = omega arith
 all_scavenged f idle (op ∷ ops) few = scavenger_if (op.actor == 0) f idle op (scavenger_acts idle ops) (own_records f 0 ops) few (all_scavenged f idle ops few)
 
 -- What the scavenger's acts of a phase cost is at most the records that its operations are counted for.
 pub scavenger_costs : (f : Profile) (threads : ℕ) (idle : List ℕ) (ops : List Op) → length idle ≤ threads
-    → costs_of f (scavenger_acts idle ops) ≤ own_records (record f { threads = threads }) 0 ops
-scavenger_costs f threads idle ops few =
-    search (arith, all_scavenged, costs_alike)
+    → costs_of f.pages (scavenger_acts idle ops) ≤ own_records (record f { threads = threads }) 0 ops
+scavenger_costs f threads idle ops few = all_scavenged (record f { threads = threads }) idle ops few
 
 -- ---- all actors
 -- what the operations of the first n threads make
@@ -214,7 +204,7 @@ room_is (w ∷ ws) (suc i) d lt = room_is ws i d (omega (arith, lt))
 
 -- for how many records each actor has room, beside those that its acts make in the phase and those that it owes
 abbrev pub spare_beside : Session → List Op → Team → Progress → ℕ → ℕ
-spare_beside s ops team q zero = room_of team.scavenger.out - costs_of s.profile (scavenger_acts (idle_threads s.threads ops) ops)
+spare_beside s ops team q zero = room_of team.scavenger.out - costs_of s.profile.pages (scavenger_acts (idle_threads s.threads ops) ops)
 spare_beside s ops team q (suc i) = room_at team.threads.items i - (owed_at s.profile (suc i) q + own_costs_of (suc i) (own_acts (suc i) ops))
 
 abbrev pub later_beside : Session → List Op → List Op → Team → Progress → ℕ → Later
@@ -270,7 +260,7 @@ module _ {region : SharedRegion} {f : Profile} {k : ℕ} {worker : Worker} {q : 
 scavenger_ready : {region : SharedRegion} (s : Session) (book : NameBook) {scavenger : Scavenger} {p q : Progress} (ops left : List Op) (later : ℕ → Later)
     → ScavengerRests region s.profile scavenger (own_records (planned s) 0 (ops ++ left)) p → part 0 q.list ≡ part 0 p.list
     → (later 0).events ≡ own_records (planned s) 0 left
-    → (later 0).records ≡ room_of scavenger.out - costs_of s.profile (scavenger_acts (idle_threads s.threads ops) ops)
+    → (later 0).records ≡ room_of scavenger.out - costs_of s.profile.pages (scavenger_acts (idle_threads s.threads ops) ops)
     → ScavengerHas region (round s book ops later (more_beside left) q) scavenger
 scavenger_ready s book ops left later rests parts events records =
     let f = s.profile in
@@ -283,7 +273,7 @@ scavenger_ready s book ops left later rests parts events records =
       has = rests.has;
       at = record {
         stands = record {
-          sits = sits_still (λ (v : View). costs_of f (scavenger_acts (idle_threads s.threads ops) ops) + (later 0).events) (pass_still rests.has.pass) parts
+          sits = sits_still (λ (v : View). costs_of f.pages (scavenger_acts (idle_threads s.threads ops) ops) + (later 0).events) (pass_still rests.has.pass) parts
               (sits_for rests.at.stands.sits (omega (arith, few, both, events)));
           spare = omega (arith, few, both, none, spare, records);
         };

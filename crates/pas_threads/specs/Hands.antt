@@ -15,7 +15,7 @@ use Rattle.pas_threads.specs.declared.workers.Worker.{Worker}
 
 -- so many events and records more, beside what these acts cost
 abbrev pub and_left : Profile → List Act → Later → Later
-and_left f acts later = record { events = costs_of f acts + later.events; records = costs_of f acts + later.records }
+and_left f acts later = record { events = costs_of f.pages acts + later.events; records = costs_of f.pages acts + later.records }
 
 -- a pass stands for the view of its actor, and for no other, beside any list
 abbrev pub standing_of_pass : SharedPass → Standing
