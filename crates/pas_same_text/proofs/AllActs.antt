@@ -161,7 +161,7 @@ opening_caches_are_empty (suc n) from k = let ih = opening_caches_are_empty n (f
 -- with so many caches in the list
 module _ (f : Profile) (n : ℕ) (few : n ≤ f.threads) where
   abbrev first : World
-  first = opened (record f { threads = n })
+  first = opened n f.heaps
 
   -- The text's opened region is the state of a replay that did nothing.
   start_same : IsSame f at_start first
@@ -267,25 +267,25 @@ acts_carried threads f (act ∷ acts) p p' is w indexes planned known carried =
 -- .. and before the first, with a cache for each thread, and some for keepers or none
 -- nothing is cached, guarded or shown at the start, so that each fact there computes
 pub start_carried : (threads n : ℕ) (f : Profile) → threads ≤ n → n ≤ f.threads
-    → IsCarried threads f at_start (opened (record f { threads = n })) (no_ranges f.heaps)
+    → IsCarried threads f at_start (opened n f.heaps) (no_ranges f.heaps)
 start_carried threads n f each few = record {
   same = start_same f n few;
   many = omega (arith, each, many_numbers n 1);
   seated = search arith;
   usable = record { usable = λ address b lives g of d is. absurd (none-some d is) };
   stamped = record { kept = tt; stamped = λ k page. refl };
-  indexes_are = start_indexes (record f { threads = n });
+  indexes_are = start_indexes n f.heaps;
 }
 
 -- ---- A REPLAY of a plan, by so many caches: those of its threads at least, and none behind those of its keepers
 told_by : (n : ℕ) (text : List ℕ) (plan : Plan) (whole : Whole) (records : List Record) → threads_of plan ≤ n → n ≤ (region_of plan).threads
     → IsPlanOf text plan → IsReplay InOrder plan whole records
-    → IsTold plan whole records (each (acts_on (region_of plan)) (acts_of_plan plan) (opened (record (region_of plan) { threads = n })))
+    → IsTold plan whole records (each (acts_on (region_of plan)) (acts_of_plan plan) (opened n (region_of plan).heaps))
 told_by n text plan whole records some few read is =
     let f : Profile = region_of plan in
     let threads : ℕ = threads_of plan in
     let acts : List Act = acts_of_plan plan in
-    let first : World = opened (record f { threads = n }) in
+    let first : World = opened n f.heaps in
     let end : World = each (acts_on f) acts first in
     let known : AreKnown threads f acts at_start is.reached is.answers (no_ranges f.heaps) = assumption (plan_region read, subst (Legal f) is.one_order is.legal) in
     let same : IsSame f is.reached end =
@@ -299,7 +299,7 @@ told_by n text plan whole records some few read is =
 
 -- .. by one for each actor of its region
 pub plan_told : (text : List ℕ) (plan : Plan) (whole : Whole) (records : List Record) → IsPlanOf text plan → IsReplay InOrder plan whole records
-    → IsTold plan whole records (each (acts_on (region_of plan)) (acts_of_plan plan) (opened (region_of plan)))
+    → IsTold plan whole records (each (acts_on (region_of plan)) (acts_of_plan plan) (opened (region_of plan).threads (region_of plan).heaps))
 plan_told text plan whole records read is =
     told_by (region_of plan).threads text plan whole records (omega (arith, (plan_actors plan))) (omega arith) read is
 

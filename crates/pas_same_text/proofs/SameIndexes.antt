@@ -210,5 +210,5 @@ none_yet zero from = refl
 none_yet (suc n) from = ap (λ (ix : Indexes). [] ∷ ix) (none_yet n (from + 1))
 
 -- The indexes of the opened region hold nothing, as those of a replay.
-pub start_indexes : (f : Profile) → (opened f).indexes ≡ no_ranges f.heaps
-start_indexes f = none_yet f.heaps 1
+pub start_indexes : (threads heaps : ℕ) → (opened threads heaps).indexes ≡ no_ranges heaps
+start_indexes threads heaps = none_yet heaps 1

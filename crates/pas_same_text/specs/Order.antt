@@ -80,13 +80,24 @@ acts_on f (Act.Ends k) w = stops f k w
 acts_on f (Act.Lowers keeper) w = lowers_all keeper w
 
 -- ---- the replay of phases, from nothing
--- no event yet, empty caches and indexes, no guard, epoch 0
-abbrev pub opened : Profile → World
-opened f = record { events = []; records = []; live = []; names = []; caches = map (λ k. no_cache) (numbers_from 1 f.threads); guards = []; hinted = []; indexes = map (λ h. []) (numbers_from 1 f.heaps); epoch = 0; read = 0 }
+-- no event yet, empty caches of so many threads and indexes of so many heaps, no guard, epoch 0
+abbrev pub opened : ℕ → ℕ → World
+opened threads heaps = record {
+  events = [];
+  records = [];
+  live = [];
+  names = [];
+  caches = map (λ k. no_cache) (numbers_from 1 threads);
+  guards = [];
+  hinted = [];
+  indexes = map (λ h. []) (numbers_from 1 heaps);
+  epoch = 0;
+  read = 0;
+}
 
 -- THE REPLAY: the acts of the phases, one by one, with so many keepers
 abbrev pub replayed : Profile → ℕ → List (List Op) → World
-replayed f keepers phases = each (acts_on f) (acts_of f.threads keepers phases) (opened f)
+replayed f keepers phases = each (acts_on f) (acts_of f.threads keepers phases) (opened f.threads f.heaps)
 
 -- ---- the text
 -- the region of a trace: its header with its shared heaps

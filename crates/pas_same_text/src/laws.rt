@@ -129,7 +129,7 @@ pub fn stamps_are_kept()
 /// The indexes of the text hold nothing at first, and whatever act but a guarded request a replay goes on by, they hold after it what those of the replay do,
 /// where that was so before.
 pub fn indexes_stay_the_same()
-    ensures start { (f : Profile) → (opened f).indexes ≡ no_ranges f.heaps }
+    ensures start { (threads heaps : ℕ) → (opened threads heaps).indexes ≡ no_ranges heaps }
     ensures act { (f : Profile) (act : Act) → KeepsIndexes f act }
 {}
 
@@ -138,7 +138,7 @@ pub fn indexes_stay_the_same()
 /// indexes are those of the text. Before the first act it is so. No act changes how many caches the text has.
 pub fn acts_stay_the_same()
     ensures many { (f : Profile) (act : Act) (w : World) → length (acts_on f act w).caches ≡ length w.caches }
-    ensures start { (threads : ℕ) (f : Profile) → threads ≤ f.threads → IsCarried threads f at_start (opened f) (no_ranges f.heaps) }
+    ensures start { (threads n : ℕ) (f : Profile) → threads ≤ n → n ≤ f.threads → IsCarried threads f at_start (opened n f.heaps) (no_ranges f.heaps) }
     ensures act { (threads : ℕ) (f : Profile) (act : Act) → KeepsSame threads f act }
     ensures acts { (threads : ℕ) (f : Profile) (acts : List Act) (p p' : Progress) (is : Reaches f acts p p') (w : World) (indexes : Indexes) → ArePlanned threads f acts
         → AreKnown threads f acts p p' is indexes → IsCarried threads f p w indexes → IsCarried threads f p' (each (acts_on f) acts w) (indexes_after_all f acts p p' is indexes) }
@@ -156,7 +156,7 @@ pub fn texts_are_told()
 /// are no keepers that is the replay of the phases.
 pub fn replays_are_told()
     ensures acts { (text : List ℕ) (plan : Plan) (whole : Whole) (records : List Record) → IsPlanOf text plan → IsReplay InOrder plan whole records
-        → IsTold plan whole records (each (acts_on (region_of plan)) (acts_of_plan plan) (opened (region_of plan))) }
+        → IsTold plan whole records (each (acts_on (region_of plan)) (acts_of_plan plan) (opened (region_of plan).threads (region_of plan).heaps)) }
     ensures own { (text : List ℕ) (plan : Plan) (whole : Whole) (records : List Record) → IsPlanOf text plan → IsReplay InOrder plan whole records
         → IsTold plan whole records (replayed plan.profile (keepers_of plan) (phases_of plan)) }
     ensures bytes { (bytes : List ℕ) (plan : Plan) (whole : Whole) (records : List Record) → IsPlanOf bytes plan → IsReplay InOrder plan whole records

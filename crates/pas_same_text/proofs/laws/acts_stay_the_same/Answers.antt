@@ -1,5 +1,4 @@
 -- Acts one after the other.
-use Rattle.std.proofs.Common.{arith}
 use Rattle.pas_same_text.proofs.{AllActs.acts_carried, AllActs.start_carried, SameIndexes.act_many, OneAct.act_same}
 use Rattle.pas_same_text.proofs.laws.acts_stay_the_same.Goals as goal
 
@@ -7,7 +6,7 @@ pub returns-clause-many : goal.returns-clause-many
 returns-clause-many c = act_many
 
 pub returns-clause-start : goal.returns-clause-start
-returns-clause-start c = λ threads f few. start_carried threads f.threads f few (omega arith)
+returns-clause-start c = start_carried
 
 pub returns-clause-act : goal.returns-clause-act
 returns-clause-act c = λ threads f act. act_same threads f act
