@@ -113,7 +113,7 @@ lives_listed es address b p is so = found_any p (is_at address) (lives_in es) b.
 -- ==== OUTER PAGES of guards: those of the text are those of the keepers' books.
 -- the page is an outer one of the guard
 abbrev pub has_outer : ℕ → Raised → Bool
-has_outer page r = is_outer_of r.guard page
+has_outer page r = (r.guard.low == page) || (r.guard.high == page)
 
 told_outer : (keeper page : ℕ) (gs : List Guard) → list_any (has_outer page) (map (raised_by keeper) gs) ≡ is_outer gs page
 told_outer keeper page [] = refl
