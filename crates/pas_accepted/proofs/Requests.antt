@@ -253,7 +253,8 @@ module _ (f : Profile) (valid : IsValid f) (p : Progress) (s : Stand) (ts : List
         end = t;
         leads = on_as (silent_lines k a.said rs silent ∙ ap (λ ms. lines_by (records_of (events_by k (part k p.list) ms))) h.0) refl (on_same refl);
         tells = told_after p s t k a.steps a.cache a.names _ tells (tells.events ∙ ap (λ ms. visible (triples k ms ++ p.list)) (sym h.0))
-            (tells.names ∙ sym names) (logs_with p s k a.cache more tells (log ∙ ap (λ (es : List Entry). es ++ entry ∷ []) (h.1 ∙ tells.logs k))) idle refl refl refl (ap (λ ms. word_after (triples k ms ++ p.list) Word.Epoch) h.0) tidy;
+            (tells.names ∙ sym names) (logs_with p s k a.cache more tells (log ∙ ap (λ (es : List Entry). es ++ entry ∷ []) (h.1 ∙ tells.logs k))) idle
+            refl refl refl (ap (λ ms. word_after (triples k ms ++ p.list) Word.Epoch) h.0) tidy;
       }
 
   -- ---- a free of a block

@@ -166,7 +166,8 @@ module _ (p t : Raised → Bool) where
   rest_tests [] = refl
   rest_tests (x ∷ xs) = let rest = rest_tests xs in grind (arith, rest)
 
-  other_tests : (q : Raised → Bool) → ((x : Raised) → q x ≡ true → p x ≡ false) → (xs : List Raised) → filter q (filter (λ x. not (p x && t x)) xs) ≡ filter q xs
+  other_tests : (q : Raised → Bool) → ((x : Raised) → q x ≡ true → p x ≡ false) → (xs : List Raised)
+      → filter q (filter (λ x. not (p x && t x)) xs) ≡ filter q xs
   other_tests q apart [] = refl
   other_tests q apart (x ∷ xs) = let rest = other_tests q apart xs in let here = apart x in grind (arith, rest, here)
 
@@ -190,7 +191,7 @@ module _ (es : List Event) (keeper : ℕ) (all : Bool) (guards : List Raised) (b
 others_told : (es : List Event) (keeper j : ℕ) (all : Bool) (guards : List Raised) → j ≢ keeper
     → guards_of j (filter (λ guard. not (goes_down es keeper all guard)) guards) ≡ guards_of j guards
 others_told es keeper j all guards other =
-    other_tests (λ guard. guard.keeper == keeper) (λ raised. all || nat_lt raised.guard.block.name.turn (ends_in es (address_of raised.guard.block.name))) (λ guard. guard.keeper == j)
+    other_tests (λ r. r.keeper == keeper) (λ r. all || nat_lt r.guard.block.name.turn (ends_in es (address_of r.guard.block.name))) (λ r. r.keeper == j)
     (λ guard his. ne_eqb guard.keeper keeper (λ same. other (sym (eqb-true guard.keeper j his) ∙ same))) guards
 
 -- .. so the books are told after it

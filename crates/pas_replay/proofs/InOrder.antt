@@ -305,7 +305,8 @@ close_next waits r s btw =
 
 -- ---- marks
 -- There is room for a mark that comes next.
-pub mark_next : (waits : Option ℕ) (r : Replay) (s : Session) (more : List Act) (mark : Act) → cost_of_act r.profile.pages mark ≡ 1 → Between waits r (mark ∷ more) s
+pub mark_next : (waits : Option ℕ) (r : Replay) (s : Session) (more : List Act) (mark : Act) → cost_of_act r.profile.pages mark ≡ 1
+    → Between waits r (mark ∷ more) s
     → SoFarAt r (upon r (mark ∷ []) (left_between waits r more)) s
 mark_next waits r s more mark one btw = may_do waits r s (mark ∷ []) more (omega (arith, one)) btw
 

@@ -46,7 +46,8 @@ with_guard r w = record w { guards = w.guards ++ r ∷ [] }
 -- RAISED: the inner pages get memory, their block is given, the guard is up, and that is said
 abbrev pub raises : ℕ → ℕ → ℕ → ℕ → ℕ → World → World
 raises keeper name heap first n w =
-    says (Record.Said keeper (Said.Guarded first (first + n + 1) name)) (with_guard (raised_by keeper (guard_on w heap first n)) (gives_run keeper name heap (first + 1) n w))
+    says (Record.Said keeper (Said.Guarded first (first + n + 1) name))
+    (with_guard (raised_by keeper (guard_on w heap first n)) (gives_run keeper name heap (first + 1) n w))
 
 -- The runs of n + 2 pages are tried from the lowest up: all pages of one that is usable get deeds, and it serves where its outer pages have no memory. Where none
 -- serves, no guard goes up, and thread k makes the request as any other.

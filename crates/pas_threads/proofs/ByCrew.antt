@@ -95,7 +95,8 @@ stops_end {h} {s} {bench} {old} {now} {out} {out1} {p} n i size le ge so =
 -- ---- the scavenger's own act
 -- there is room for it, beside the acts that are left
 pub room_for_act : {f : Profile} {act : Act} {next : List Act} {σ : Standing} {places : ℕ} {out : Records} {later : Later} {p : Progress}
-    → unbacks_of_act f.pages act ≤ cost_of_act f.pages act → ScavengerAt f (act ∷ next) σ places out later p → HasRoomAt f σ out (for_act f act (and_left f next later)) p
+    → unbacks_of_act f.pages act ≤ cost_of_act f.pages act → ScavengerAt f (act ∷ next) σ places out later p
+    → HasRoomAt f σ out (for_act f act (and_left f next later)) p
 room_for_act less at = let spare = at.stands.spare in record { sits = sits_for at.stands.sits (omega (arith, less)); spare = omega (arith, spare) }
 
 module _ {Lends : ℕ → Worker → Progress → Type 0} {s : Shift} {act : Act} {next : List Act} {σ σ' : Standing} {places : ℕ} {out out' : Records}
