@@ -34,14 +34,14 @@ pub loop-page-preserved : goal.loop-page-preserved
 loop-page-preserved g c =
     let i = c.loop-page.invariant in let page = c.loop-page.page in let a = c.look-deed.result in let step : Made = made (Look (Word.Deed page)) a in let looked = c.args.looked.now in
     let span : IsSpan c.args.block (g.D.Desk.standing c.args.desk.now).seat.profile.pages c.max-first.result c.min-end.result = record { first_is = c.max-first.ensures; end_is = c.min-end.ensures ∙ ap (λ f. min (c.args.block * 64 + 64) (f.pages + 1)) c.profile.ensures } in
-    let at : page / 64 ≡ c.args.block = span_block _ (g.D.Desk.standing c.args.desk.now).seat.profile.pages _ _ page span c.loop-page.auto.page c.loop-page-test.true in
+    let at : page / 64 ≡ c.args.block = span_block _ (g.D.Desk.standing c.args.desk.now).seat.profile.pages _ _ page span (omega (arith, i.count)) c.loop-page-test.true in
     record {
       steps = step ∷ i.steps;
       adds = adds_step i.adds c.look-deed.ensures.makes (λ v l stood met. tt);
       deeds = ((page, refl, at), i.deeds);
       single = single_more _ step i.steps i.below (omega arith) i.single;
       below = (omega arith, below_more _ _ i.steps (omega arith) i.below);
-      members = members_more (g.D.Desk.standing c.args.desk.now).seat.profile looked.unfit looked.directory _ _ page c.loop-page.members _ a i.steps i.members at c.loop-page.auto.page
+      members = members_more (g.D.Desk.standing c.args.desk.now).seat.profile looked.unfit looked.directory _ _ page c.loop-page.members _ a i.steps i.members at (omega (arith, i.count))
           (λ p e. elim c.if-is_open.branch [
             | then-is_open w ↦ ap (λ m. is_in_word m p) w.members-is ∙ w.with_page-members.ensures p (e ∙ sym at)
                 ∙ ap (λ o. (o && (page == p)) || is_in_word c.loop-page.members p) (sym w.if-is_open.true ∙ c.is_open.ensures)
@@ -57,7 +57,8 @@ returns-clause-members g c =
     let span : IsSpan c.args.block (g.D.Desk.standing c.args.desk.now).seat.profile.pages c.max-first.result c.min-end.result = record { first_is = c.max-first.ensures; end_is = c.min-end.ensures ∙ ap (λ f. min (c.args.block * 64 + 64) (f.pages + 1)) c.profile.ensures } in
     let f = (g.D.Desk.standing c.args.desk.now).seat.profile in let first = c.max-first.result in let end = c.min-end.result in
     let past : end ≤ page = c.loop-page-test.false in
-    let exact : page ≤ end = c.loop-page.auto.page-end (span_some _ f.pages first end span c.requires.block (g.met.D.Desk.valid c.args.desk.now).some_page) in
+    let some = span_some _ f.pages first end span c.requires.block (g.met.D.Desk.valid c.args.desk.now).some_page in let h = c.pass_deeds-start.ensures.passes in
+    let exact : page ≤ end = c.loop-page.auto.page-end (let at = h.at in let few = h.few in omega (arith, at, few, some)) in
     record {
       steps = i.steps;
       adds = i.adds;

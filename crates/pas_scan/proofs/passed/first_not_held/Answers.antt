@@ -12,9 +12,9 @@ loop-page-preserved g c p low high = elim (cases_lt p c.loop-page.page) [
       let tells = g.D.Desk.tells in let σ = g.D.Desk.standing c.args.desk.now in let page = c.loop-page.page in
       let same : page ≡ p = omega (arith, ge, high) in
       subst (λ q. KnowsHeld tells σ c.args.directory q) same (record {
-        offered = c.in-Some-offered.offered;
+        offered = c.in-Some-peek.offered;
         deed_told = subst (λ a. TellsWord tells σ (Word.Deed page) a) (c.if-known-deed.false ∙ c.deed_word-deed.ensures) c.in-Some.ensures;
-        offered_told = subst (λ n. TellsWord tells σ (Word.Eligible n (page / 64)) c.in-Some-offered.offered) c.number-number.ensures c.in-Some-offered.ensures;
+        offered_told = subst (λ n. TellsWord tells σ (Word.Eligible n (page / 64)) c.in-Some-peek.offered) c.number-number.ensures c.in-Some-peek.ensures;
         not_offered = sym c.has_page.ensures ∙ c.if-has_page.false;
       })
 ]
