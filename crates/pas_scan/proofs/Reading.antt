@@ -12,14 +12,13 @@ use Rattle.pas_steps.specs.Evidence.{ReadsDeed, DeedHere, IsSingle, ReadsParked,
 use Rattle.pas_steps.specs.declared.step.{Step.Step, Made.Made, Step.TheVariants.Look}
 use Rattle.pas_steps.proofs.Past.{always_map, always_both, once_later, once_earlier}
 use Rattle.pas_scan.specs.Rows.{looks_from, eligible_looks, WordReadHere, shows_page, IsLowestShown, ShowsNone}
-use Rattle.pas_scan.specs.Passed.{NoneIs}
+use Rattle.pas_scan.specs.{Passed.NoneIs, Marks.is_marked, Marks.IsHighest}
 use Rattle.pas_scan.specs.Scan.{IsFirstBare, IsMember, AllParked, InBlock, judging, IsFirstOffered, deed_looks}
 use Rattle.std.specs.Int.{bit_not}
 use Rattle.pas_bits.specs.{Bits.has_bit, PageVectors.is_in_word}
 use Rattle.pas_profile.specs.Directories.{deed_word_of, IsKind, number_of, deed_word_numbered}
 use Rattle.pas_profile.specs.Profiles.{IsPage}
 use Rattle.pas_steps.proofs.Apart.{only_both}
-use Rattle.pas_scan.specs.Marks.{is_marked, IsHighest}
 use Rattle.pas_bits.proofs.Words.{bit_cleared, bit_of_or, none_of_zero, is_zero, is_one}
 use Rattle.std.proofs.{Math.Bool.or_comm, Math.ListN.set, Math.ListN.get_or, lemmas.List.get_or-replicate, lemmas.List.get_or_past, Math.Pow.pow-lt}
 use Rattle.std.proofs.{lemmas.Nat.Bits.bit_at_ones, lemmas.Nat.Bits.bit_at_above, Math.Bool.and-true}

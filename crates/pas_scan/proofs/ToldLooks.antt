@@ -1,20 +1,21 @@
 -- Steps that a desk which tells the whole state is told, one after the other: mute ones that are allowed, and looks at words in order.
-use Rattle.std.proofs.Common.{◌≡◌, ◌≢◌, ℕ, zero, suc, ◌+◌, ◌-◌, ◌*◌, ◌/◌, ◌%◌, ◌<◌, ◌≤◌, Bool, if◌then◌else◌, List, [], ◌∷◌, ◌++◌, length, Option, None}
-use Rattle.std.proofs.Common.{refl, ap, sym, ◌∙◌, subst, arith, append-nil}
+use Rattle.std.proofs.Common.{◌≡◌, ◌≢◌, ℕ, zero, suc, ◌+◌, ◌-◌, ◌*◌, ◌/◌, ◌%◌, ◌<◌, ◌≤◌, Bool, if◌then◌else◌, List, [], ◌∷◌, ◌++◌, length, Option, None, refl}
+use Rattle.std.proofs.Common.{ap, sym, ◌∙◌, subst, arith, append-nil}
 use Rattle.pas_bits.specs.Bits.{has_bit}
 use Rattle.pas_profile.specs.{Directories.number_of, Layouts.same_word, Profiles.IsValid, Profiles.IsWordOf, Profiles.IsDirectoryOf}
 use Rattle.pas_profile.specs.declared.{directory.Directory.Directory, profile.Profile.Profile, word.Word.Word}
 use Rattle.pas_profile.proofs.Codecs.{number_lt}
 use Rattle.pas_core.proofs.Nexts.{legal_next, agreed_steps}
 use Rattle.pas_steps.specs.{Agreement.Agreed, Allowed.Allowed, Allowed.IsStepOf, Effects.target, Effects.new_value, Events.event_of, Events.events_of}
-use Rattle.pas_steps.specs.{Events.with_event, Told.StandsLater, Told.StandsStill, Views.View, Views.epoch_of, Views.epoch_after, Views.known_epoch}
+use Rattle.pas_steps.specs.{Events.with_event, Told.StandsLater, Told.StandsStill}
+use Rattle.pas_steps.specs.Views.{View, epoch_of, epoch_after, known_epoch}
 use Rattle.pas_steps.specs.Lists.{Whole, Legal, part, word_after}
 use Rattle.pas_steps.specs.Desks.{Standing, AnyView, Adds, CanCall, made, triples}
 use Rattle.pas_steps.specs.declared.step.{Made.Made, Step.Step, Step.TheVariants.Look}
 use Rattle.pas_steps.proofs.Parts.{part_of_own}
 use Rattle.pas_scan.proofs.Reading.{looks_count}
-use Rattle.pas_scan.specs.{Rows.looks_from, Scan.deed_looks, Passed.KnowsOther, Passed.NoneIs, Passed.PassesDeeds, Passed.KnowsHeld}
-use Rattle.pas_scan.specs.Passed.{PassesHeld, held_looks}
+use Rattle.pas_scan.specs.{Rows.looks_from, Scan.deed_looks}
+use Rattle.pas_scan.specs.Passed.{KnowsOther, NoneIs, PassesDeeds, KnowsHeld, PassesHeld, held_looks}
 
 -- ---- steps that are made one after the other on a list, and change no word in the end
 -- After these steps the words of the region are these. They are legal, make no event, and read no epoch.
@@ -114,9 +115,9 @@ passes_told tells σ σ' valid can deed from end n some within last first others
     let answers : List ℕ = values_from value word from n in let steps : List Made = deed_looks from answers in let many = values_many value word from n in
     let same = λ (v : View) (l : Whole) (stood : σ.stands v l) (w : Word) (of : IsWordOf f w). first.1.one_state v can.view l can.whole stood can.stood w of in
     let told : (v : View) (l : Whole) → σ.stands v l → Told f k l value steps = λ v l stood. subst (λ xs. Told f k l value xs) (append-nil steps)
-        (looks_told f k l (first.1.actor v l stood) value word from n [] (λ j. record { quiet = λ k e a. refl; blind = λ a e. refl; free = λ e old. refl })
-        (λ j low high. (omega (arith, some, low), omega (arith, high, within, last)))
-        (record { legal = legal v l stood; words = same v l stood; events = refl; epoch = refl })) in
+    (looks_told f k l (first.1.actor v l stood) value word from n [] (λ j. record { quiet = λ k e a. refl; blind = λ a e. refl; free = λ e old. refl })
+    (λ j low high. (omega (arith, some, low), omega (arith, high, within, last)))
+    (record { legal = legal v l stood; words = same v l stood; events = refl; epoch = refl })) in
     record {
       steps = steps;
       adds = adds_told σ σ' value steps valid (subst (λ m. StandsLater m σ σ') (sym (looks_count word from n steps answers refl many)) later) own same told;
@@ -173,10 +174,10 @@ held_passed tells σ σ' valid can d of from end n some within last first held l
     let f = σ.seat.profile in let k = σ.seat.actor in let value : Word → ℕ = word_after can.whole in
     let deeds : ℕ → ℕ = λ p. value (Word.Deed p) in let offered : ℕ → ℕ = λ p. value (Word.Eligible (number_of d) (p / 64)) in
     let same = λ (v : View) (l : Whole) (stood : σ.stands v l) (w : Word) (at : IsWordOf f w).
-        first.deed_told.one_state v can.view l can.whole stood can.stood w at in
+    first.deed_told.one_state v can.view l can.whole stood can.stood w at in
     let told : (v : View) (l : Whole) → σ.stands v l → Told f k l value (held_looks d deeds offered from n) = λ v l stood.
-        held_told f k l (first.deed_told.actor v l stood) value d from n (number_lt d f.heaps of.heap of.kind) some (omega (arith, within, last))
-        (record { legal = legal v l stood; words = same v l stood; events = refl; epoch = refl }) in
+    held_told f k l (first.deed_told.actor v l stood) value d from n (number_lt d f.heaps of.heap of.kind) some (omega (arith, within, last))
+    (record { legal = legal v l stood; words = same v l stood; events = refl; epoch = refl }) in
     record {
       deeds = deeds;
       offered = offered;

@@ -4,8 +4,8 @@ ghost use Rattle.pas_profile.specs.Profiles.{IsDirectoryOf};
 ghost use Rattle.pas_steps.specs.Desks.{AnyView, CanCall};
 ghost use Rattle.pas_scan.specs.Scan.{FindsMembers, Judges};
 
-use crate::passed::pass_deeds;
 use crate::looked::Looked;
+use crate::passed::pass_deeds;
 use pas_bits::page_vector::{lowest_page, with_page};
 use pas_profile::{NoRoom, Word, deed_word};
 use pas_steps::Desk;

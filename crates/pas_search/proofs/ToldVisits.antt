@@ -39,8 +39,8 @@ module _ (f : Profile) (k : ℕ) (l : Whole) (actor : k ≤ f.threads) where
       → Told f k l value (looks page (λ i. value (Word.Free page i)) 4 ++ steps)
   page_told {value} page told is =
       let mute : (i : ℕ) → IsMute (Look (Word.Free page i)) = λ i. record { quiet = λ k e a. refl; blind = λ a e. refl; free = λ e old. refl } in
-      let look = look_told f k l actor in
-      look (look (look (look told (Word.Free page 0) (mute 0) (is.0, is.1, omega arith)) (Word.Free page 1) (mute 1) (is.0, is.1, omega arith))
+      look_told f k l actor (look_told f k l actor (look_told f k l actor (look_told f k l actor told
+      (Word.Free page 0) (mute 0) (is.0, is.1, omega arith)) (Word.Free page 1) (mute 1) (is.0, is.1, omega arith))
       (Word.Free page 2) (mute 2) (is.0, is.1, omega arith)) (Word.Free page 3) (mute 3) (is.0, is.1, omega arith)
 
 -- ---- looks at a row

@@ -2,8 +2,7 @@ use Rattle.std.proofs.Common.{◌≡◌, ◌+◌, ◌-◌, ◌++◌, if◌then�
 use Rattle.pas_profile.specs.declared.profile.Profile.{Profile}
 use Rattle.pas_steps.proofs.{Adding.adds_call, Apart.only_both}
 use Rattle.pas_scan.specs.{Runs.large_directory, Runs.page_looks, Passed.held_looks}
-use Rattle.pas_scan.proofs.LeftPages.{left_alone_by, RunSoFar, run_none, run_more, run_found, run_ended, run_past}
-use Rattle.pas_scan.proofs.LeftPages.{held_kinds, kept_after, kept_is}
+use Rattle.pas_scan.proofs.LeftPages.{left_alone_by, RunSoFar, run_none, run_more, run_found, run_ended, run_past, held_kinds, kept_after, kept_is}
 use Rattle.pas_scan.proofs.ToldLooks.{held_many}
 use Rattle.pas_scan.proofs.runs.next_run.Goals as goal
 
@@ -14,7 +13,7 @@ loop-page-init g c =
     let count = held_many d h.deeds h.offered next h.many in let at = h.at in let few = h.few in
     let looks = held_looks d h.deeds h.offered next h.many in let first = c.pass_held-first.result in
     let length_is : c.kept-length.result ≡ kept_after (next - c.args.from) h.many = c.kept-length.ensures
-        ∙ ap (λ p. if nat_lt next p then 0 else next - c.args.from) (sym at) ∙ kept_is next (next - c.args.from) h.many in
+    ∙ ap (λ p. if nat_lt next p then 0 else next - c.args.from) (sym at) ∙ kept_is next (next - c.args.from) h.many in
     record {
       steps = looks;
       adds = h.adds;
