@@ -1,7 +1,7 @@
 -- Visits that are told: a page on which nothing fits is looked for, claimed, read and left, and each word is as it was.
 use Rattle.std.proofs.Common.{◌≡◌, ◌≢◌, ℕ, zero, suc, ◌+◌, ◌-◌, ◌*◌, ◌/◌, ◌%◌, ◌^◌, ◌<◌, ◌≤◌, ◌==◌, nat_lt, Bool, true, false, ◌&&◌, ◌||◌, if◌then◌else◌, ◌⊎◌}
-use Rattle.std.proofs.Common.{inl, inr, List, [], ◌∷◌, ◌++◌, length, Option, None, refl, ap, sym, ◌∙◌, subst, arith, bit_and, bit_or, w64, append_assoc}
-use Rattle.std.proofs.Common.{length-append, slice_index, min, get_or, length-set, lt-ltb, not, eqb-true, eq-eqb, le-ltb, ltb-false, ltb-true}
+use Rattle.std.proofs.Common.{inl, inr, List, [], ◌∷◌, ◌++◌, length, refl, ap, sym, ◌∙◌, subst, arith, bit_and, bit_or, w64, append_assoc, length-append}
+use Rattle.std.proofs.Common.{slice_index, min, get_or, length-set, lt-ltb, not, eqb-true, eq-eqb, le-ltb, ltb-false, ltb-true}
 use Rattle.std.specs.Int.{bit_at, bit_not, trailing_zeros}
 use Rattle.std.proofs.{Math.ListN.set, Math.Nat.suc-mul, Math.Nat.zero-mul, lemmas.Bool.Decides.nat_tests, lemmas.Nat.Bits.same_from_bits_below}
 use Rattle.std.proofs.{lemmas.Nat.Bits.bit_at-lt, lemmas.Nat.or_lt, lemmas.Nat.and_le_l, Math.Bool.and-true, lemmas.Nat.Bits.bit_at-trailing_zeros}
@@ -17,14 +17,12 @@ use Rattle.pas_profile.specs.{Directories.number_of, Directories.IsDirectory, La
 use Rattle.pas_profile.specs.Profiles.{IsPage, IsValid, IsWordOf, IsDirectoryOf}
 use Rattle.pas_profile.specs.declared.{directory.Directory.Directory, profile.Profile.Profile, word.Word.Word}
 use Rattle.pas_profile.proofs.{Codecs.number_lt, Codecs.directory_from_profile, Places.same_word-true}
-use Rattle.pas_core.proofs.Nexts.{legal_next, agreed_steps, agrees_next}
-use Rattle.pas_steps.specs.{Agreement.Agreed, Allowed.Allowed, Allowed.IsStepOf, Effects.target, Effects.new_value, Events.event_of, Events.events_of}
-use Rattle.pas_steps.specs.{Events.with_event, Past.Once, Evidence.GetsRight}
+use Rattle.pas_core.proofs.Nexts.{agreed_steps, agrees_next}
+use Rattle.pas_steps.specs.{Past.Once, Evidence.GetsRight, Views.View, Views.KnowsDeed}
 use Rattle.pas_steps.specs.Lists.{Whole, Legal, part, word_after}
-use Rattle.pas_steps.specs.Views.{View, KnowsDeed, epoch_of, epoch_after, known_epoch}
-use Rattle.pas_steps.specs.Desks.{Seat, Standing, AnyView, CanCall, made, triples}
-use Rattle.pas_steps.specs.declared.step.{Made.Made, Step.Step, Step.TheVariants.Look, Step.TheVariants.TakeRight, Step.TheVariants.Offer}
-use Rattle.pas_steps.proofs.{Parts.part_of_own, Adding.adds_call, Adding.agreed_first, Frames.knows_still, ShortOfGrains.short_alike}
+use Rattle.pas_steps.specs.Desks.{Seat, Standing, AnyView, CanCall, made}
+use Rattle.pas_steps.specs.declared.step.{Made.Made, Step.TheVariants.Look, Step.TheVariants.TakeRight, Step.TheVariants.Offer}
+use Rattle.pas_steps.proofs.{Adding.adds_call, Adding.agreed_first, Frames.knows_still, ShortOfGrains.short_alike}
 use Rattle.pas_rights.specs.Looks.{looks}
 use Rattle.pas_scan.specs.{Marks.is_marked, Marks.IsBehind, Marks.IsHighest, Scan.IsFirstOffered}
 use Rattle.pas_scan.specs.Rows.{eligible_looks, row_end, words_to, WordReadHere}
