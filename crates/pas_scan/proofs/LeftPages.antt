@@ -1,6 +1,6 @@
 -- Readings of pages, and the runs that they show.
 use Rattle.std.proofs.Common.{◌≡◌, ℕ, ◌+◌, ◌*◌, ◌/◌, ◌<◌, true, false, ◌||◌, List, [], ◌∷◌, ◌++◌, inl, inr, refl, ap, sym, ◌∙◌, true≢false, arith, ◌≢◌, ◌-◌}
-use Rattle.std.proofs.Common.{◌≤◌, Bool, if◌then◌else◌, subst, MatchBool, ◌%◌, ◌^◌, length-append}
+use Rattle.std.proofs.Common.{◌≤◌, Bool, if◌then◌else◌, subst, MatchBool, ◌%◌, ◌^◌, length-append, zero, suc, nat_lt, lt-ltb, le-ltb}
 use Rattle.pas_bits.specs.Bits.{has_bit}
 use Rattle.pas_profile.specs.declared.{directory.Directory.Directory, profile.Profile.Profile, word.Word.Word}
 use Rattle.pas_steps.specs.Views.{held_after, grain_move, holds, has_right, all_ones}
@@ -13,6 +13,7 @@ use Rattle.pas_steps.proofs.Past.{once_later, once_earlier, always_map, always_b
 use Rattle.pas_steps.specs.Evidence.{OneHere, NoDeedHere, ReadsEligible, ReadsDeed, ReadsFree}
 use Rattle.pas_scan.specs.Usable.{DeedReadHere, OfHere, IsAllFree, WholeHere, ReadUsable, ParksNotHere, IsFresh, UnusableHere, LeftAlone, UsedHere}
 use Rattle.std.proofs.{lemmas.Bool.cases_lt, Math.Bool.or-false}
+use Rattle.pas_scan.specs.Passed.{held_looks}
 use Rattle.pas_scan.specs.Runs.{HasUnusable, IsFirstRun, HasNoRun, page_looks, FreeLookHere, UsedLookHere, LooksFree, ReadsUsable}
 use Rattle.pas_profile.specs.Directories.{number_of, deed_word_of}
 use Rattle.pas_steps.specs.Desks.{Standing, AnyView, Adds, made}
@@ -258,3 +259,33 @@ reads_by d page a e free adds is bit h = record {
   deed = once_later (DeedReadHere page) h.steps (two_looks d page a e) (inr (deed_read page a));
   outcome = offered_free d page a e free h.steps h.kinds is bit h.outcome;
 }
+
+-- ==== Pages of the directory that aren't offered, one after the other.
+
+-- Looks at them are of the kinds of a search.
+pub held_kinds : (d : Directory) (deeds offered : ℕ → ℕ) (next n : ℕ) → Only page_looks (held_looks d deeds offered next n)
+held_kinds d deeds offered next zero = tt
+held_kinds d deeds offered next (suc n) = (refl, (refl, held_kinds d deeds offered next n))
+
+-- Behind them no run is so far.
+abbrev pub kept_after : ℕ → ℕ → ℕ
+kept_after length zero = length
+kept_after length (suc n) = 0
+
+pub run_past : (d : Directory) (from next n length many : ℕ) (deeds offered : ℕ → ℕ) → from ≤ next → RunSoFar d from next n next length []
+    → ((p : ℕ) → next ≤ p → p < next + many → deeds p ≡ deed_word_of d) → ((p : ℕ) → next ≤ p → p < next + many → has_bit (offered p) (p % 64) ≡ false)
+    → RunSoFar d from next n (next + many) (kept_after length many) (held_looks d deeds offered next many)
+run_past d from next n length zero deeds offered le so_far of held = subst (λ p. RunSoFar d from next n p length []) (omega arith) so_far
+run_past d from next n length (suc many) deeds offered le so_far of held =
+    let page : ℕ = next + many in let xs = held_looks d deeds offered next many in
+    let before = run_past d from next n length many deeds offered le so_far (λ p low high. of p low (omega (arith, high))) (λ p low high. held p low (omega (arith, high))) in
+    let short = before.short in
+    subst (λ p. RunSoFar d from next n p 0 (two_looks d page (deeds page) (offered page) ++ xs)) (omega arith)
+    (run_more d from next n page (kept_after length many) (two_looks d page (deeds page) (offered page)) xs false
+    (left_alone_by page_looks refl refl page xs (held_kinds d deeds offered next many)) (omega (arith, le)) before (inr (deed_read page (deeds page)))
+    (not_offered d page (deeds page) (offered page) (of page (omega arith) (omega arith)) (held page (omega arith) (omega arith))) (omega (arith, short)))
+
+-- The length is kept where no page was passed by.
+pub kept_is : (next length many : ℕ) → (if nat_lt next (next + many) then 0 else length) ≡ kept_after length many
+kept_is next length zero = ap (λ t. if t then 0 else length) (le-ltb next (next + 0) (omega arith))
+kept_is next length (suc many) = ap (λ t. if t then 0 else length) (lt-ltb next (next + suc many) (omega arith))

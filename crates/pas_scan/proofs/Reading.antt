@@ -12,13 +12,13 @@ use Rattle.pas_steps.specs.Evidence.{ReadsDeed, DeedHere, IsSingle, ReadsParked,
 use Rattle.pas_steps.specs.declared.step.{Step.Step, Made.Made, Step.TheVariants.Look}
 use Rattle.pas_steps.proofs.Past.{always_map, always_both, once_later, once_earlier}
 use Rattle.pas_scan.specs.Rows.{looks_from, eligible_looks, WordReadHere, shows_page, IsLowestShown, ShowsNone}
-use Rattle.pas_scan.specs.Scan.{IsFirstBare, IsMember, AllParked, InBlock, judging, IsFirstOffered}
+use Rattle.pas_scan.specs.{Passed.NoneIs, Marks.is_marked, Marks.IsHighest}
+use Rattle.pas_scan.specs.Scan.{IsFirstBare, IsMember, AllParked, InBlock, judging, IsFirstOffered, deed_looks}
 use Rattle.std.specs.Int.{bit_not}
 use Rattle.pas_bits.specs.{Bits.has_bit, PageVectors.is_in_word}
 use Rattle.pas_profile.specs.Directories.{deed_word_of, IsKind, number_of, deed_word_numbered}
 use Rattle.pas_profile.specs.Profiles.{IsPage}
 use Rattle.pas_steps.proofs.Apart.{only_both}
-use Rattle.pas_scan.specs.Marks.{is_marked, IsHighest}
 use Rattle.pas_bits.proofs.Words.{bit_cleared, bit_of_or, none_of_zero, is_zero, is_one}
 use Rattle.std.proofs.{Math.Bool.or_comm, Math.ListN.set, Math.ListN.get_or, lemmas.List.get_or-replicate, lemmas.List.get_or_past, Math.Pow.pow-lt}
 use Rattle.std.proofs.{lemmas.Nat.Bits.bit_at_ones, lemmas.Nat.Bits.bit_at_above, Math.Bool.and-true}
@@ -132,6 +132,12 @@ deed_more from page steps a before ne p low high = elim (cases_lt p page) [
   | inr ge ↦ let same : page ≡ p = omega (arith, high, ge) in inl (subst (λ q. ReadsDeed p (Look (Word.Deed q))) (sym same) ReadsDeed.Looks, ne)
 ]
 
+-- Deed words none of which reads as 0 are deeds.
+pub deeds_read : (from : ℕ) (answers : List ℕ) → NoneIs 0 answers → (p : ℕ) → from ≤ p → p < from + length answers → Once (DeedHere p) (deed_looks from answers)
+deeds_read from [] none p low high = absurd (omega (arith, low, high))
+deeds_read from (a ∷ more) none p low high =
+    deed_more from (from + length more) (deed_looks from more) a (deeds_read from more none.1) none.0 p low (omega (arith, high))
+
 -- A deed word that reads as 0 after those of lower pages that don't is the first bare one.
 pub first_none : (f : Profile) (from page a : ℕ) (steps : List Made) → 1 ≤ from → from ≤ page → page ≤ f.pages → a ≡ 0
     → ((p : ℕ) → from ≤ p → p < page → Once (DeedHere p) steps) → IsFirstBare f from (made (Look (Word.Deed page)) a ∷ steps) page
@@ -188,6 +194,37 @@ members_more f marks d block first page members more a steps before at low bits 
             (old.0, omega (arith, lt), ap (λ t. if t then a else known_deed (steps ++ v) p) (ne_eqb page p (λ h. absurd (omega (arith, h, lt)))) ∙ old.2, old.3)
       ];
     }
+
+-- ---- pages of a block that are passed by, none of which is of the directory
+module _ (block first : ℕ) where
+  abbrev pub AreOf : List ℕ → Type 0
+  AreOf answers = (p : ℕ) → first ≤ p → p < first + length answers → p / 64 ≡ block
+
+  -- Looks at their deed words are in the block ..
+  pub passed_in : (answers : List ℕ) → AreOf answers → InBlock block (deed_looks first answers)
+  passed_in [] at = tt
+  passed_in (a ∷ more) at =
+      ((first + length more, refl, at (first + length more) (omega arith) (omega arith)), passed_in more (λ p low high. at p low (omega (arith, high))))
+
+  -- .. and below the next page's.
+  pub passed_below : (answers : List ℕ) → Below (first + length answers + (first + length answers) / 64) (deed_looks first answers)
+  passed_below [] = tt
+  passed_below (a ∷ more) = (omega arith, below_more _ _ (deed_looks first more) (omega arith) (passed_below more))
+
+  -- None of the pages is a member.
+  pub passed_members : (f : Profile) (marks : List ℕ) (d : Directory) (answers : List ℕ) → NoneIs (deed_word_of d) answers → AreOf answers
+      → Members f marks d block first (first + length answers) 0 (deed_looks first answers)
+  passed_members f marks d [] none at = record {
+    all = λ v p e low high. absurd (omega (arith, low, high));
+    only = λ v p e bit. absurd (true≢false (sym bit ∙ none_of_zero (p % 64)));
+  }
+  passed_members f marks d (a ∷ more) none at =
+      let page : ℕ = first + length more in
+      let next : page + 1 ≡ first + length (a ∷ more) = omega arith in
+      subst (λ n. Members f marks d block first n 0 (deed_looks first (a ∷ more))) next
+      (members_more f marks d block first page 0 0 a (deed_looks first more) (passed_members f marks d more none.1 (λ p low high. at p low (omega (arith, high))))
+      (at page (omega arith) (omega arith)) (omega arith)
+      (λ p e. ap (λ t. ((t && not (is_marked marks page)) && (page == p)) || is_in_word 0 p) (sym (ne_eqb a (deed_word_of d) none.0))))
 
 -- ---- a parked word more
 member_cut : (f : Profile) (marks : List ℕ) (d : Directory) (j a p : ℕ) (ms steps : List Made) (v : View)

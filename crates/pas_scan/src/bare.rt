@@ -3,6 +3,7 @@ ghost use Rattle.std.specs.Prelude.{◌≡◌, ◌≤◌};
 ghost use Rattle.pas_steps.specs.Desks.{AnyView, CanCall};
 ghost use Rattle.pas_scan.specs.Scan.{FindsBare};
 
+use crate::passed::pass_deeds;
 use pas_profile::Word;
 use pas_steps::Desk;
 
@@ -16,7 +17,8 @@ pub fn first_without_deed<D: Desk>(desk: &mut D, from: u32) -> Option<u32>
     ensures home { D.home desk.new ≡ D.home desk.old }
 {
     let end = desk.profile().pages + 1;
-    for page in from..end {
+    let first = pass_deeds(desk, from, end, 0);
+    for page in first..end {
         let deed = desk.look(Word::Deed(page));
         if deed == 0 {
             return Some(page);

@@ -6,6 +6,7 @@ mod bare;
 mod looked;
 mod offered;
 mod parked;
+mod passed;
 mod row;
 mod runs;
 mod usable;

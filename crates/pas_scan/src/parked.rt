@@ -5,8 +5,9 @@ ghost use Rattle.pas_steps.specs.Desks.{AnyView, CanCall};
 ghost use Rattle.pas_scan.specs.Scan.{FindsMembers, Judges};
 
 use crate::looked::Looked;
+use crate::passed::pass_deeds;
 use pas_bits::page_vector::{lowest_page, with_page};
-use pas_profile::{NoRoom, Word};
+use pas_profile::{NoRoom, Word, deed_word};
 use pas_steps::Desk;
 
 /// The pages of word `block` of a page vector that are of the directory and aren't unfit, as that word: the deed word of each of its
@@ -20,8 +21,9 @@ fn members<D: Desk>(desk: &mut D, looked: &Looked, block: u32) -> u64
 {
     let first = (block * 64).max(1);
     let end = (block * 64 + 64).min(desk.profile().pages + 1);
+    let start = pass_deeds(desk, first, end, deed_word(looked.directory));
     let mut members = 0;
-    for page in first..end {
+    for page in start..end {
         let deed = desk.look(Word::Deed(page));
         if looked.is_open(page, deed) {
             members = with_page(members, page);

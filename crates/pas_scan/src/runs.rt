@@ -3,6 +3,7 @@ ghost use Rattle.std.specs.Prelude.{◌≡◌, ◌≤◌, ◌<◌, ◌+◌, ◌-
 ghost use Rattle.pas_steps.specs.Desks.{AnyView, CanCall};
 ghost use Rattle.pas_scan.specs.Runs.{large_directory, FindsRun};
 
+use crate::passed::pass_held;
 use crate::usable::is_usable;
 use pas_profile::{Directory, Kind};
 use pas_steps::Desk;
@@ -13,6 +14,13 @@ fn longer(length: u32, usable: bool) -> u32
     ensures { result ≡ (if usable then length + 1 else 0) }
 {
     if usable { length + 1 } else { 0 }
+}
+
+/// The length, or 0 where pages were passed by behind it.
+fn kept(length: u32, passed: bool) -> u32
+    ensures { result ≡ (if passed then 0 else length) }
+{
+    if passed { 0 } else { length }
 }
 
 /// The first page of the lowest run of so many pages, from page `from` on, that were all read as usable for a large block of the heap. The pages from
@@ -35,8 +43,9 @@ pub fn next_run<D: Desk>(desk: &mut D, heap: u8, from: u32, next: u32, pages: u3
         kind: Kind::Large,
     };
     let end = desk.profile().pages + 1;
-    let mut length = next - from;
-    for page in next..end {
+    let first = pass_held(desk, next, end, directory);
+    let mut length = kept(next - from, first > next);
+    for page in first..end {
         let usable = is_usable(desk, page, directory);
         length = longer(length, usable);
         if length == pages {

@@ -1,13 +1,14 @@
 -- Visits that are told: a page on which nothing fits is looked for, claimed, read and left, and each word is as it was.
 use Rattle.std.proofs.Common.{◌≡◌, ◌≢◌, ℕ, zero, suc, ◌+◌, ◌-◌, ◌*◌, ◌/◌, ◌%◌, ◌^◌, ◌<◌, ◌≤◌, ◌==◌, nat_lt, Bool, true, false, ◌&&◌, ◌||◌, if◌then◌else◌, ◌⊎◌}
-use Rattle.std.proofs.Common.{inl, inr, List, [], ◌∷◌, ◌++◌, length, Option, None, refl, ap, sym, ◌∙◌, subst, arith, bit_and, bit_or, w64, append_assoc}
-use Rattle.std.proofs.Common.{length-append, slice_index, min, get_or, length-set, lt-ltb, not, eqb-true, eq-eqb, le-ltb, ltb-false, ltb-true}
+use Rattle.std.proofs.Common.{inl, inr, List, [], ◌∷◌, ◌++◌, length, refl, ap, sym, ◌∙◌, subst, arith, bit_and, bit_or, w64, append_assoc, length-append}
+use Rattle.std.proofs.Common.{slice_index, min, get_or, length-set, lt-ltb, not, eqb-true, eq-eqb, le-ltb, ltb-false, ltb-true}
 use Rattle.std.specs.Int.{bit_at, bit_not, trailing_zeros}
 use Rattle.std.proofs.{Math.ListN.set, Math.Nat.suc-mul, Math.Nat.zero-mul, lemmas.Bool.Decides.nat_tests, lemmas.Nat.Bits.same_from_bits_below}
 use Rattle.std.proofs.{lemmas.Nat.Bits.bit_at-lt, lemmas.Nat.or_lt, lemmas.Nat.and_le_l, Math.Bool.and-true, lemmas.Nat.Bits.bit_at-trailing_zeros}
 use Rattle.std.proofs.lemmas.Bool.{cases_eq, cases_lt, cases_Bool, false_from_ne_true, and_parts, not-true, not-false}
 use Rattle.pas_bits.proofs.{Words.bit_of_and, Words.bit_cleared, Words.none_of_zero, PageVectors.page_added, PageVectors.page_mask_lt}
 use Rattle.pas_bits.proofs.{PageVectors.page_bit-clear}
+use Rattle.pas_scan.proofs.ToldLooks.{Told, after, IsMute, told_step, told_as, look_told, values_from, values_many, looks_told, adds_told}
 use Rattle.pas_scan.proofs.Reading.{low_bits, ones_below, count_of, first_one, marked_more, scans_of, shown_as}
 use Rattle.pas_steps.specs.Told.{AreShort, TellsWord, free_by, IsShort, StandsLater, StandsStill}
 use Rattle.pas_bits.specs.declared.mask.Mask4.{Mask4}
@@ -16,14 +17,12 @@ use Rattle.pas_profile.specs.{Directories.number_of, Directories.IsDirectory, La
 use Rattle.pas_profile.specs.Profiles.{IsPage, IsValid, IsWordOf, IsDirectoryOf}
 use Rattle.pas_profile.specs.declared.{directory.Directory.Directory, profile.Profile.Profile, word.Word.Word}
 use Rattle.pas_profile.proofs.{Codecs.number_lt, Codecs.directory_from_profile, Places.same_word-true}
-use Rattle.pas_core.proofs.Nexts.{legal_next, agreed_steps, agrees_next}
-use Rattle.pas_steps.specs.{Agreement.Agreed, Allowed.Allowed, Allowed.IsStepOf, Effects.target, Effects.new_value, Events.event_of, Events.events_of}
-use Rattle.pas_steps.specs.{Events.with_event, Past.Once, Evidence.GetsRight}
+use Rattle.pas_core.proofs.Nexts.{agreed_steps, agrees_next}
+use Rattle.pas_steps.specs.{Past.Once, Evidence.GetsRight, Views.View, Views.KnowsDeed}
 use Rattle.pas_steps.specs.Lists.{Whole, Legal, part, word_after}
-use Rattle.pas_steps.specs.Views.{View, KnowsDeed, epoch_of, epoch_after, known_epoch}
-use Rattle.pas_steps.specs.Desks.{Seat, Standing, AnyView, CanCall, made, triples}
-use Rattle.pas_steps.specs.declared.step.{Made.Made, Step.Step, Step.TheVariants.Look, Step.TheVariants.TakeRight, Step.TheVariants.Offer}
-use Rattle.pas_steps.proofs.{Parts.part_of_own, Adding.adds_call, Adding.agreed_first, Frames.knows_still, ShortOfGrains.short_alike}
+use Rattle.pas_steps.specs.Desks.{Seat, Standing, AnyView, CanCall, made}
+use Rattle.pas_steps.specs.declared.step.{Made.Made, Step.TheVariants.Look, Step.TheVariants.TakeRight, Step.TheVariants.Offer}
+use Rattle.pas_steps.proofs.{Adding.adds_call, Adding.agreed_first, Frames.knows_still, ShortOfGrains.short_alike}
 use Rattle.pas_rights.specs.Looks.{looks}
 use Rattle.pas_scan.specs.{Marks.is_marked, Marks.IsBehind, Marks.IsHighest, Scan.IsFirstOffered}
 use Rattle.pas_scan.specs.Rows.{eligible_looks, row_end, words_to, WordReadHere}
@@ -32,65 +31,23 @@ use Rattle.pas_search.specs.{Searches.GoesOn, Serving.Rule}
 use Rattle.pas_search.specs.declared.{passing.Passed.Passed, placing.LeastRun.LeastRun}
 use Rattle.pas_search.proofs.PagesThatServe.{got_right, passes_page, TriesPages}
 
--- ---- steps that are made one after the other on a list, and change no word in the end
--- After these steps the words of the region are these. They are legal, make no event, and read no epoch.
-pub record Told (f : Profile) (k : ℕ) (l : Whole) (value : Word → ℕ) (steps : List Made) : Type 0 where
-  pub legal : Legal f (triples k steps ++ l)
-  pub words : (w : Word) → IsWordOf f w → word_after (triples k steps ++ l) w ≡ value w
-  pub events : events_of k (steps ++ part k l) ≡ events_of k (part k l)
-  pub epoch : known_epoch (steps ++ part k l) ≡ known_epoch (part k l)
-
--- the words after a step that needs no epoch
-abbrev pub after : (Word → ℕ) → Step → Word → ℕ
-after value s w = if same_word (target s) w then new_value 0 s (value w) else value w
-
--- a step that makes no event and reads no epoch, and whose new value needs none
-pub record IsMute (s : Step) : Type 0 where
-  pub quiet : (k e a : ℕ) → event_of k e s a ≡ None
-  pub blind : (a : ℕ) (e : Option ℕ) → epoch_after s a e ≡ e
-  pub free : (e old : ℕ) → new_value e s old ≡ new_value 0 s old
-
 module _ (f : Profile) (k : ℕ) (l : Whole) (actor : k ≤ f.threads) where
-  -- A mute step that is allowed is one told step more.
-  pub told_step : {value : Word → ℕ} {steps : List Made} → Told f k l value steps → (s : Step) → IsMute s → IsStepOf f s → IsWordOf f (target s)
-      → Allowed f (steps ++ part k l) s → Told f k l (after value s) (made s (value (target s)) ∷ steps)
-  told_step {value} {steps} told s mute of at allowed =
-      let whole = triples k steps ++ l in record {
-        legal = legal_next f whole k (steps ++ part k l) s (value (target s)) told.legal actor (part_of_own k steps l) of allowed (sym (told.words (target s) at));
-        words = λ w of'. ap (λ n. if same_word (target s) w then new_value (epoch_of (part k whole)) s n else n) (told.words w of')
-            ∙ ap (λ n. if same_word (target s) w then n else value w) (mute.free (epoch_of (part k whole)) (value w));
-        events = ap (λ e. with_event e (events_of k (steps ++ part k l))) (mute.quiet k _ _) ∙ told.events;
-        epoch = mute.blind _ _ ∙ told.epoch;
-      }
-
-  -- Words that are told again, by equal values.
-  pub told_as : {value same : Word → ℕ} {steps : List Made} → Told f k l value steps → ((w : Word) → IsWordOf f w → value w ≡ same w) → Told f k l same steps
-  told_as told are = record { legal = told.legal; words = λ w of. told.words w of ∙ are w of; events = told.events; epoch = told.epoch }
-
-  same_if : (t : Bool) (n : ℕ) → (if t then n else n) ≡ n
-  same_if t n = grind arith
-
-  -- A look changes no word.
-  look_told : {value : Word → ℕ} {steps : List Made} → Told f k l value steps → (word : Word) → IsMute (Look word) → IsWordOf f word
-      → Told f k l value (made (Look word) (value word) ∷ steps)
-  look_told {value} told word mute of = told_as (told_step told (Look word) mute of of tt) (λ w of'. same_if (same_word word w) (value w))
-
   -- the looks at the free words of a page
   page_told : {value : Word → ℕ} {steps : List Made} (page : ℕ) → Told f k l value steps → IsPage f page
       → Told f k l value (looks page (λ i. value (Word.Free page i)) 4 ++ steps)
   page_told {value} page told is =
       let mute : (i : ℕ) → IsMute (Look (Word.Free page i)) = λ i. record { quiet = λ k e a. refl; blind = λ a e. refl; free = λ e old. refl } in
-      look_told (look_told (look_told (look_told told (Word.Free page 0) (mute 0) (is.0, is.1, omega arith)) (Word.Free page 1) (mute 1) (is.0, is.1, omega arith))
+      look_told f k l actor (look_told f k l actor (look_told f k l actor (look_told f k l actor told
+      (Word.Free page 0) (mute 0) (is.0, is.1, omega arith)) (Word.Free page 1) (mute 1) (is.0, is.1, omega arith))
       (Word.Free page 2) (mute 2) (is.0, is.1, omega arith)) (Word.Free page 3) (mute 3) (is.0, is.1, omega arith)
 
 -- ---- looks at a row
+-- the values of so many words of a page vector from this one on
 abbrev pub answers_from : (Word → ℕ) → ℕ → ℕ → ℕ → List ℕ
-answers_from value number from zero = []
-answers_from value number from (suc n) = value (Word.Eligible number (from + n)) ∷ answers_from value number from n
+answers_from value number from n = values_from value (λ j. Word.Eligible number j) from n
 
-pub answers_many : (value : Word → ℕ) (number from n : ℕ) → length (answers_from value number from n) ≡ n
-answers_many value number from zero = refl
-answers_many value number from (suc n) = ap (λ m. suc m) (answers_many value number from n)
+answers_many : (value : Word → ℕ) (number from n : ℕ) → length (answers_from value number from n) ≡ n
+answers_many value number from n = values_many value (λ j. Word.Eligible number j) from n
 
 -- the looks at so many words of the directory's page vector from this one on
 abbrev pub row_looks : (Word → ℕ) → ℕ → ℕ → ℕ → List Made
@@ -110,12 +67,9 @@ row_read value number from (suc n) b low high = elim (cases_eq b (from + n)) [
 
 row_told : (f : Profile) (k : ℕ) (l : Whole) (actor : k ≤ f.threads) (value : Word → ℕ) (number from n : ℕ) (steps : List Made)
     → number < 23 * f.heaps → from + n ≤ f.pages / 64 + 1 → Told f k l value steps → Told f k l value (row_looks value number from n ++ steps)
-row_told f k l actor value number from zero steps few within told = told
-row_told f k l actor value number from (suc n) steps few within told =
-    let mute : IsMute (Look (Word.Eligible number (from + n))) = record { quiet = λ k e a. refl; blind = λ a e. refl; free = λ e old. refl } in
-    let more = look_told f k l actor (row_told f k l actor value number from n steps few (omega (arith, within)) told) (Word.Eligible number (from + n)) mute (few, omega (arith, within)) in
-    subst (λ m. Told f k l value (made (Look (Word.Eligible number m)) (value (Word.Eligible number (from + n))) ∷ (row_looks value number from n ++ steps)))
-    (ap (λ m. from + m) (sym (answers_many value number from n))) more
+row_told f k l actor value number from n steps few within told =
+    looks_told f k l actor value (λ j. Word.Eligible number j) from n steps (λ j. record { quiet = λ k e a. refl; blind = λ a e. refl; free = λ e old. refl })
+    (λ j low high. (few, omega (arith, within, high))) told
 
 -- ---- a visit
 -- the free words of the page
@@ -481,16 +435,7 @@ module _ {F : Type 0} (rule : Rule F) (σ σ' : Standing) (tells : Bool) (d : Di
       ] in
       record {
         steps = steps_to 64;
-        adds = record {
-          seat_is = later.seat_is;
-          added = λ v l stood met. let t = idle v l stood in later.stands (steps_to 64) many v l stood (record {
-            legal = t.legal;
-            words = λ w of'. t.words w of' ∙ sym ((unchanged v l stood).words w of');
-            events = subst (λ x. events_of σ.seat.actor (steps_to 64 ++ x) ≡ events_of σ.seat.actor x) (own v l stood) t.events;
-            epoch = subst (λ x. known_epoch (steps_to 64 ++ x) ≡ known_epoch x) (own v l stood) t.epoch;
-          });
-          agreed = λ v l stood met. subst (λ x. Agreed region x (steps_to 64)) (own v l stood) (agreed_steps region σ.seat.actor l (steps_to 64) valid (idle v l stood).legal);
-        };
+        adds = adds_told σ σ' value (steps_to 64) valid (subst (λ n. StandsLater n σ σ') (sym many) later) own (λ v l stood w of'. (unchanged v l stood).words w of') idle;
         goes = λ xs goes.
             goes_alike rule region d next' (marks_to rule region valid d of value next passed.block passed.pages may.block.0 may.block.1 marks 64) marks' (steps_to 64 ++ xs) (λ p. marks_are rule region valid d of value next passed.block passed.pages may.block.0 may.block.1 marks long (let b = may.block.1 in let most = valid.pages in omega (arith, b, most)) 64 (omega arith) p
             ∙ ap (λ t. ((p / 64 == passed.block) && (t && has_bit passed.pages (p % 64))) || is_marked marks p) (lt-ltb (p % 64) 64 (omega arith)) ∙ sym (more p))

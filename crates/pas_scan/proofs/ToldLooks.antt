@@ -1,0 +1,203 @@
+-- Steps that a desk which tells the whole state is told, one after the other: mute ones that are allowed, and looks at words in order.
+use Rattle.std.proofs.Common.{◌≡◌, ◌≢◌, ℕ, zero, suc, ◌+◌, ◌-◌, ◌*◌, ◌/◌, ◌%◌, ◌<◌, ◌≤◌, Bool, if◌then◌else◌, List, [], ◌∷◌, ◌++◌, length, Option, None, refl}
+use Rattle.std.proofs.Common.{ap, sym, ◌∙◌, subst, arith, append-nil}
+use Rattle.pas_bits.specs.Bits.{has_bit}
+use Rattle.pas_profile.specs.{Directories.number_of, Layouts.same_word, Profiles.IsValid, Profiles.IsWordOf, Profiles.IsDirectoryOf}
+use Rattle.pas_profile.specs.declared.{directory.Directory.Directory, profile.Profile.Profile, word.Word.Word}
+use Rattle.pas_profile.proofs.Codecs.{number_lt}
+use Rattle.pas_core.proofs.Nexts.{legal_next, agreed_steps}
+use Rattle.pas_steps.specs.{Agreement.Agreed, Allowed.Allowed, Allowed.IsStepOf, Effects.target, Effects.new_value, Events.event_of, Events.events_of}
+use Rattle.pas_steps.specs.{Events.with_event, Told.StandsLater, Told.StandsStill}
+use Rattle.pas_steps.specs.Views.{View, epoch_of, epoch_after, known_epoch}
+use Rattle.pas_steps.specs.Lists.{Whole, Legal, part, word_after}
+use Rattle.pas_steps.specs.Desks.{Standing, AnyView, Adds, CanCall, made, triples}
+use Rattle.pas_steps.specs.declared.step.{Made.Made, Step.Step, Step.TheVariants.Look}
+use Rattle.pas_steps.proofs.Parts.{part_of_own}
+use Rattle.pas_scan.proofs.Reading.{looks_count}
+use Rattle.pas_scan.specs.{Rows.looks_from, Scan.deed_looks}
+use Rattle.pas_scan.specs.Passed.{KnowsOther, NoneIs, PassesDeeds, KnowsHeld, PassesHeld, held_looks}
+
+-- ---- steps that are made one after the other on a list, and change no word in the end
+-- After these steps the words of the region are these. They are legal, make no event, and read no epoch.
+pub record Told (f : Profile) (k : ℕ) (l : Whole) (value : Word → ℕ) (steps : List Made) : Type 0 where
+  pub legal : Legal f (triples k steps ++ l)
+  pub words : (w : Word) → IsWordOf f w → word_after (triples k steps ++ l) w ≡ value w
+  pub events : events_of k (steps ++ part k l) ≡ events_of k (part k l)
+  pub epoch : known_epoch (steps ++ part k l) ≡ known_epoch (part k l)
+
+-- the words after a step that needs no epoch
+abbrev pub after : (Word → ℕ) → Step → Word → ℕ
+after value s w = if same_word (target s) w then new_value 0 s (value w) else value w
+
+-- a step that makes no event and reads no epoch, and whose new value needs none
+pub record IsMute (s : Step) : Type 0 where
+  pub quiet : (k e a : ℕ) → event_of k e s a ≡ None
+  pub blind : (a : ℕ) (e : Option ℕ) → epoch_after s a e ≡ e
+  pub free : (e old : ℕ) → new_value e s old ≡ new_value 0 s old
+
+module _ (f : Profile) (k : ℕ) (l : Whole) (actor : k ≤ f.threads) where
+  -- A mute step that is allowed is one told step more.
+  pub told_step : {value : Word → ℕ} {steps : List Made} → Told f k l value steps → (s : Step) → IsMute s → IsStepOf f s → IsWordOf f (target s)
+      → Allowed f (steps ++ part k l) s → Told f k l (after value s) (made s (value (target s)) ∷ steps)
+  told_step {value} {steps} told s mute of at allowed =
+      let whole = triples k steps ++ l in record {
+        legal = legal_next f whole k (steps ++ part k l) s (value (target s)) told.legal actor (part_of_own k steps l) of allowed (sym (told.words (target s) at));
+        words = λ w of'. ap (λ n. if same_word (target s) w then new_value (epoch_of (part k whole)) s n else n) (told.words w of')
+            ∙ ap (λ n. if same_word (target s) w then n else value w) (mute.free (epoch_of (part k whole)) (value w));
+        events = ap (λ e. with_event e (events_of k (steps ++ part k l))) (mute.quiet k _ _) ∙ told.events;
+        epoch = mute.blind _ _ ∙ told.epoch;
+      }
+
+  -- Words that are told again, by equal values.
+  pub told_as : {value same : Word → ℕ} {steps : List Made} → Told f k l value steps → ((w : Word) → IsWordOf f w → value w ≡ same w) → Told f k l same steps
+  told_as told are = record { legal = told.legal; words = λ w of. told.words w of ∙ are w of; events = told.events; epoch = told.epoch }
+
+  same_if : (t : Bool) (n : ℕ) → (if t then n else n) ≡ n
+  same_if t n = grind arith
+
+  -- A look changes no word.
+  pub look_told : {value : Word → ℕ} {steps : List Made} → Told f k l value steps → (word : Word) → IsMute (Look word) → IsWordOf f word
+      → Told f k l value (made (Look word) (value word) ∷ steps)
+  look_told {value} told word mute of = told_as (told_step told (Look word) mute of of tt) (λ w of'. same_if (same_word word w) (value w))
+
+-- ---- looks at words in order
+-- the values of so many words from this place on
+abbrev pub values_from : (Word → ℕ) → (ℕ → Word) → ℕ → ℕ → List ℕ
+values_from value word from zero = []
+values_from value word from (suc n) = value (word (from + n)) ∷ values_from value word from n
+
+pub values_many : (value : Word → ℕ) (word : ℕ → Word) (from n : ℕ) → length (values_from value word from n) ≡ n
+values_many value word from zero = refl
+values_many value word from (suc n) = ap (λ m. suc m) (values_many value word from n)
+
+-- Looks at words of the region in order are told.
+pub looks_told : (f : Profile) (k : ℕ) (l : Whole) (actor : k ≤ f.threads) (value : Word → ℕ) (word : ℕ → Word) (from n : ℕ) (steps : List Made)
+    → ((j : ℕ) → IsMute (Look (word j))) → ((j : ℕ) → from ≤ j → j < from + n → IsWordOf f (word j)) → Told f k l value steps
+    → Told f k l value (looks_from word from (values_from value word from n) ++ steps)
+looks_told f k l actor value word from zero steps mute of told = told
+looks_told f k l actor value word from (suc n) steps mute of told =
+    let before = looks_told f k l actor value word from n steps mute (λ j low high. of j low (omega (arith, high))) told in
+    let more = look_told f k l actor before (word (from + n)) (mute (from + n)) (of (from + n) (omega arith) (omega arith)) in
+    subst (λ m. Told f k l value (made (Look (word m)) (value (word (from + n))) ∷ (looks_from word from (values_from value word from n) ++ steps)))
+    (ap (λ m. from + m) (sym (values_many value word from n))) more
+
+-- ---- pages that are passed by
+-- Where no page of some has this deed word, none of the answers is it.
+none_is : (value : Word → ℕ) (deed from n : ℕ) → ((p : ℕ) → from ≤ p → p < from + n → value (Word.Deed p) ≢ deed)
+    → NoneIs deed (values_from value (λ p. Word.Deed p) from n)
+none_is value deed from zero others = tt
+none_is value deed from (suc n) others =
+    (others (from + n) (omega arith) (omega arith), none_is value deed from n (λ p low high. others p low (omega (arith, high))))
+
+-- Steps that are told at each list for which a desk stood are added to it.
+pub adds_told : (σ σ' : Standing) (value : Word → ℕ) (steps : List Made) → IsValid σ.seat.profile → StandsLater (length steps) σ σ'
+    → ((v : View) (l : Whole) → σ.stands v l → part σ.seat.actor l ≡ v)
+    → ((v : View) (l : Whole) → σ.stands v l → (w : Word) → IsWordOf σ.seat.profile w → word_after l w ≡ value w)
+    → ((v : View) (l : Whole) → σ.stands v l → Told σ.seat.profile σ.seat.actor l value steps) → Adds σ σ' AnyView steps
+adds_told σ σ' value steps valid later own same told = record {
+  seat_is = later.seat_is;
+  added = λ v l stood met. let t = told v l stood in later.stands steps refl v l stood (record {
+    legal = t.legal;
+    words = λ w of. t.words w of ∙ sym (same v l stood w of);
+    events = subst (λ x. events_of σ.seat.actor (steps ++ x) ≡ events_of σ.seat.actor x) (own v l stood) t.events;
+    epoch = subst (λ x. known_epoch (steps ++ x) ≡ known_epoch x) (own v l stood) t.epoch;
+  });
+  agreed = λ v l stood met. subst (λ x. Agreed σ.seat.profile x steps) (own v l stood) (agreed_steps σ.seat.profile σ.seat.actor l steps valid (told v l stood).legal);
+}
+
+-- Pages whose deed words the desk knows as others are passed by, by looks that it was told.
+pub passes_told : (tells : Bool) (σ σ' : Standing) → IsValid σ.seat.profile → CanCall σ AnyView → (deed from end n : ℕ) → 1 ≤ from → from + n ≤ end
+    → end ≤ σ.seat.profile.pages + 1 → KnowsOther tells σ deed from → ((p : ℕ) → from ≤ p → p < from + n → KnowsOther tells σ deed p)
+    → ((v : View) (l : Whole) → σ.stands v l → Legal σ.seat.profile l) → ((v : View) (l : Whole) → σ.stands v l → part σ.seat.actor l ≡ v)
+    → StandsLater n σ σ' → PassesDeeds deed from end σ σ' (from + n)
+passes_told tells σ σ' valid can deed from end n some within last first others legal own later =
+    let f = σ.seat.profile in let k = σ.seat.actor in let value : Word → ℕ = word_after can.whole in let word : ℕ → Word = λ p. Word.Deed p in
+    let answers : List ℕ = values_from value word from n in let steps : List Made = deed_looks from answers in let many = values_many value word from n in
+    let same = λ (v : View) (l : Whole) (stood : σ.stands v l) (w : Word) (of : IsWordOf f w). first.1.one_state v can.view l can.whole stood can.stood w of in
+    let told : (v : View) (l : Whole) → σ.stands v l → Told f k l value steps = λ v l stood. subst (λ xs. Told f k l value xs) (append-nil steps)
+    (looks_told f k l (first.1.actor v l stood) value word from n [] (λ j. record { quiet = λ k e a. refl; blind = λ a e. refl; free = λ e old. refl })
+    (λ j low high. (omega (arith, some, low), omega (arith, high, within, last)))
+    (record { legal = legal v l stood; words = same v l stood; events = refl; epoch = refl })) in
+    record {
+      steps = steps;
+      adds = adds_told σ σ' value steps valid (subst (λ m. StandsLater m σ σ') (sym (looks_count word from n steps answers refl many)) later) own same told;
+      answers = answers;
+      order = refl;
+      at = ap (λ m. from + m) many;
+      few = omega (arith, many, within);
+      others = none_is value deed from n (λ p low high. let o = others p low high in λ e. o.2 (sym (o.1.is can.view can.whole can.stood) ∙ e));
+    }
+
+-- No page is passed by.
+pub passes_no_deeds : (deed from end : ℕ) (σ σ' : Standing) → StandsStill σ σ' → PassesDeeds deed from end σ σ' from
+passes_no_deeds deed from end σ σ' still = record {
+  steps = [];
+  adds = record { seat_is = still.seat_is; added = λ v l stood met. still.stands v l stood; agreed = λ v l stood met. tt };
+  answers = [];
+  order = refl;
+  at = omega arith;
+  few = omega arith;
+  others = tt;
+}
+
+-- ---- pages of a directory that aren't offered
+-- A look at an eligible word or a deed word is mute.
+mute_looks : (number j page : ℕ) → IsMute (Look (Word.Eligible number j)) × IsMute (Look (Word.Deed page))
+mute_looks number j page = (
+  record { quiet = λ k e a. refl; blind = λ a e. refl; free = λ e old. refl },
+  record { quiet = λ k e a. refl; blind = λ a e. refl; free = λ e old. refl },
+)
+
+-- Looks at their deed words and eligible words are told.
+held_told : (f : Profile) (k : ℕ) (l : Whole) (actor : k ≤ f.threads) (value : Word → ℕ) (d : Directory) (from n : ℕ) → number_of d < 23 * f.heaps → 1 ≤ from
+    → from + n ≤ f.pages + 1 → Told f k l value []
+    → Told f k l value (held_looks d (λ p. value (Word.Deed p)) (λ p. value (Word.Eligible (number_of d) (p / 64))) from n)
+held_told f k l actor value d from zero number some within told = told
+held_told f k l actor value d from (suc n) number some within told =
+    let page : ℕ = from + n in let mute = mute_looks (number_of d) (page / 64) page in
+    let before = held_told f k l actor value d from n number some (omega (arith, within)) told in
+    look_told f k l actor (look_told f k l actor before (Word.Deed page) mute.1 (omega (arith, some), omega (arith, within)))
+    (Word.Eligible (number_of d) (page / 64)) mute.0 (number, omega (arith, within))
+
+-- There are two for each page.
+pub held_many : (d : Directory) (deeds offered : ℕ → ℕ) (from n : ℕ) → length (held_looks d deeds offered from n) ≡ 2 * n
+held_many d deeds offered from zero = omega arith
+held_many d deeds offered from (suc n) = omega (arith, held_many d deeds offered from n)
+
+-- Pages that the desk knows as of the directory and not offered are passed by, by looks that it was told.
+pub held_passed : (tells : Bool) (σ σ' : Standing) → IsValid σ.seat.profile → CanCall σ AnyView → (d : Directory) → IsDirectoryOf σ.seat.profile d
+    → (from end n : ℕ) → 1 ≤ from → from + n ≤ end → end ≤ σ.seat.profile.pages + 1 → KnowsHeld tells σ d from
+    → ((p : ℕ) → from ≤ p → p < from + n → KnowsHeld tells σ d p)
+    → ((v : View) (l : Whole) → σ.stands v l → Legal σ.seat.profile l) → ((v : View) (l : Whole) → σ.stands v l → part σ.seat.actor l ≡ v)
+    → StandsLater (2 * n) σ σ' → PassesHeld d from end σ σ' (from + n)
+held_passed tells σ σ' valid can d of from end n some within last first held legal own later =
+    let f = σ.seat.profile in let k = σ.seat.actor in let value : Word → ℕ = word_after can.whole in
+    let deeds : ℕ → ℕ = λ p. value (Word.Deed p) in let offered : ℕ → ℕ = λ p. value (Word.Eligible (number_of d) (p / 64)) in
+    let same = λ (v : View) (l : Whole) (stood : σ.stands v l) (w : Word) (at : IsWordOf f w).
+    first.deed_told.one_state v can.view l can.whole stood can.stood w at in
+    let told : (v : View) (l : Whole) → σ.stands v l → Told f k l value (held_looks d deeds offered from n) = λ v l stood.
+    held_told f k l (first.deed_told.actor v l stood) value d from n (number_lt d f.heaps of.heap of.kind) some (omega (arith, within, last))
+    (record { legal = legal v l stood; words = same v l stood; events = refl; epoch = refl }) in
+    record {
+      deeds = deeds;
+      offered = offered;
+      many = n;
+      adds = adds_told σ σ' value (held_looks d deeds offered from n) valid (subst (λ m. StandsLater m σ σ') (sym (held_many d deeds offered from n)) later) own same told;
+      at = refl;
+      few = omega (arith, within);
+      of = λ p low high. (held p low high).deed_told.is can.view can.whole can.stood;
+      held = λ p low high. ap (λ m. has_bit m (p % 64)) ((held p low high).offered_told.is can.view can.whole can.stood) ∙ (held p low high).not_offered;
+    }
+
+-- No page is passed by.
+pub passes_none_held : (d : Directory) (from end : ℕ) (σ σ' : Standing) → StandsStill σ σ' → PassesHeld d from end σ σ' from
+passes_none_held d from end σ σ' still = record {
+  deeds = λ p. 0;
+  offered = λ p. 0;
+  many = 0;
+  adds = record { seat_is = still.seat_is; added = λ v l stood met. still.stands v l stood; agreed = λ v l stood met. tt };
+  at = omega arith;
+  few = omega arith;
+  of = λ p low high. absurd (omega (arith, low, high));
+  held = λ p low high. absurd (omega (arith, low, high));
+}

@@ -1,0 +1,7 @@
+use Rattle.std.proofs.Common.{ℕ, ◌≤◌, ◌<◌}
+use Rattle.pas_scan.specs.Passed.{KnowsHeld}
+use Rattle.pas_scan.proofs.passed.first_not_held.Given as goal
+
+-- the desk knows each page below this one as one of the directory that isn't offered
+abbrev pub invariant-loop-page : goal.invariant-loop-page
+invariant-loop-page g l = (p : ℕ) → l.from ≤ p → p < l.page → KnowsHeld g.D.Desk.tells (g.D.Desk.standing l.desk) l.fn.directory p
