@@ -10,7 +10,7 @@ use Rattle.pas_machine.specs.State.{backed_in, deed_in, epoch_in, ends_in, gives
 use Rattle.pas_core.specs.Good.{word_of_backed, word_of_deed}
 use Rattle.pas_core.proofs.{Deeds.backed_of, Deeds.deed_of, MachineRuns.runs, OneActor.legal_earlier}
 use Rattle.pas_core.proofs.Lives.{stamps_are_ends, words_fit, life_at, turn_is}
-use Rattle.pas_steps.specs.{Desks.made, Desks.triples, Desks.triple, Kinds.Only, Kinds.Taking, Kinds.LookLife, Views.all_ones, Views.known_epoch, InTurn.InTurn}
+use Rattle.pas_steps.specs.{Desks.made, Desks.triples, Desks.triple, Kinds.Only, Kinds.Taking, Kinds.LookFree, Kinds.LookLife, Views.all_ones, Views.known_epoch, InTurn.InTurn}
 use Rattle.pas_steps.specs.{InTurn.numbers_below, Effects.life_word_at}
 use Rattle.pas_steps.specs.Lists.{Legal, Whole, part, visible, word_after}
 use Rattle.pas_steps.specs.declared.step.{Made.Made, Step.TheVariants.Look, Step.TheVariants.Unhint, Step.TheVariants.Take}
@@ -42,6 +42,7 @@ use Rattle.pas_guard.specs.Sweeps.{Swept, SweptOne, is_over, life_look, lowered_
 use Rattle.pas_guard.specs.declared.book.Guard.{Guard}
 use Rattle.pas_records.specs.Lines.{line_of}
 use Rattle.pas_records.specs.declared.record.{Record.Record, Said.Said}
+use Rattle.pas_rights.specs.Looks.{looks_until}
 
 -- ---- What comes of a page in a pass may come there
 -- steps without an event leave what is visible
@@ -50,7 +51,8 @@ quiet_visible steps l only = visible_piece 0 steps l ∙ ap (λ es. es ++ visibl
 
 -- ---- what a word that was read says
 none_backed : (b : Bool) → 0 ≡ word_of_backed b → b ≡ false
-none_backed b is = search arith
+none_backed true is = absurd (omega (arith, is))
+none_backed false is = refl
 
 bare_at : (f : Profile) (l : Whole) (page : ℕ) → Legal f l → 0 ≡ word_after l (Word.Backed page) → backed_in (visible l) page ≡ false
 bare_at f l page legal read = none_backed (backed_in (visible l) page) (read ∙ backed_of f l legal page)
@@ -75,7 +77,7 @@ pub record MayPass (s : Stand) (l : Whole) : Type 0 where
   pub known : known_epoch (part 0 l) ≡ Some s.epoch
 
 first_quiet : (page b : ℕ) → Only quiet (first_looks page b None)
-first_quiet page b = search (arith, only_both, only_within, until_only)
+first_quiet page b = only_both quiet (looks_until page None) (made (Look (Word.Backed page)) b ∷ []) (only_within (LookFree ∷ []) quiet (looks_until page None) refl (until_only page None)) (refl, tt)
 
 module _ (f : Profile) (valid : IsValid f) (s : Stand) (l : Whole) (may : MayPass s l) (page last : ℕ) (after : List Made)
     (legal : Legal f (triples 0 after ++ l)) where
@@ -129,7 +131,8 @@ module _ (f : Profile) (valid : IsValid f) (s : Stand) (l : Whole) (may : MayPas
 
   -- THE OUTCOME of the page
   outcome_may : (outcome : Outcome) → ExamineSteps f.age s.epoch page outcome after → MayCome f (at_pass s l last) page outcome
-  outcome_may outcome is = search (arith, without, with_right, runs, outcome_shown)
+  outcome_may outcome (inl h) = without outcome h
+  outcome_may outcome (inr h) = with_right outcome h (runs f (triples 0 after ++ l) valid legal) (outcome_shown outcome (inr h))
 
 -- ---- The pages of a pass, tried one after the other: their outcomes rise, and each may come
 -- ---- what a pass keeps
@@ -170,11 +173,13 @@ record IsTried (f : Profile) (s : Stand) (l : Whole) (page last : ℕ) (o : Opti
 
 -- in each case it computes, or is given
 same_record : (epoch page : ℕ) (o : Outcome) → record_of 0 epoch page o ≡ allowed_record epoch page o
-same_record epoch page o = search arith
+same_record epoch page Unbacked = refl
+same_record epoch page other = refl
 
 -- in each case it computes, or is given
 then_is : (s : Stand) (page : ℕ) (o : Outcome) → after_outcome s page o ≡ record s { events = unback_of 0 s.epoch page o ++ s.events }
-then_is s page o = search arith
+then_is s page Unbacked = refl
+then_is s page other = refl
 
 try_page : (f : Profile) → IsValid f → (s : Stand) (l : Whole) (page last : ℕ) (o : Option Outcome) (steps : List Made) → MayPass s l → (1 ≤ page → last < page)
     → Legal f (triples 0 steps ++ l) → TrySteps f.age s.epoch page o steps
@@ -220,7 +225,8 @@ pub record Passed (f : Profile) (s : Stand) (l : Whole) (first high : ℕ) (foun
 
 -- in each case it computes, or is given
 below_after : (o : Option Outcome) (page last high : ℕ) → page < high → Below page last → Below high (last_after o page last)
-below_after o page last high lt below x le is = search arith
+below_after None page last high lt below x le some = below x (omega (arith, lt, le)) some
+below_after (Some o) page last high lt below x le some = omega (arith, lt, le)
 
 none_passed : (f : Profile) (s : Stand) (l : Whole) (first high : ℕ) (steps : List Made) → Below high first → steps ≡ [] → Passed f s l first high [] steps
 none_passed f s l first high steps below none = record {
@@ -259,7 +265,8 @@ raised low high more [] le falls = tt
 raised low high more (x ∷ xs) le falls = (falls.0, (omega (arith, falls.1, le)), falls.2)
 
 set_more : (t : Bool) (n m : ℕ) (xs : List ℕ) → Descends (64 * n) (64 * n + m) xs → Descends (64 * n) (64 * n + suc m) (if t then (64 * n + m) ∷ xs else xs)
-set_more t n m xs falls = search (arith, raised)
+set_more true n m xs falls = (omega arith, omega arith, falls)
+set_more false n m xs falls = raised (64 * n) (64 * n + m) (64 * n + suc m) xs (omega arith) falls
 
 set_falls : (n value m : ℕ) → Descends (64 * n) (64 * n + m) (pages_set n value m)
 set_falls n value zero = tt
@@ -391,7 +398,9 @@ module _ (f : Profile) (valid : IsValid f) (k : ℕ) where
       ap visible (sym (triples_append k first (life_look guard word) l)) ∙ visible_piece k first (triples k (life_look guard word) ++ l)
       ∙ ap (λ (es : List Event). es ++ visible (triples k (life_look guard word) ++ l)) (no_events giving_back refl k (part k (triples k (life_look guard word) ++ l)) first one.0.kinds)
       ∙ visible_piece k (life_look guard word) l ∙ ap (λ (es : List Event). es ++ visible l) (no_events (LookLife ∷ []) refl k (part k l) (life_look guard word) (refl, tt))
-  quiet_one false guard first kept after said more word l one = search (arith, visible_piece, no_events)
+  quiet_one false guard first kept after said more word l one =
+      ap (λ (ms : List Made). visible (triples k (ms ++ life_look guard word) ++ l)) one.0
+      ∙ visible_piece k (life_look guard word) l ∙ ap (λ (es : List Event). es ++ visible l) (no_events (LookLife ∷ []) refl k (part k l) (life_look guard word) (refl, tt))
 
   -- THE SWEEP
   pub swept_is : (all : Bool) (guards kept : List Guard) (said : List Record) (steps : List Made) (l : Whole) (es : List Event) → visible l ≡ es

@@ -54,6 +54,9 @@ use Rattle.pas_answers.specs.Guarding.{IsTried, Tried, TryEnds, after_giving, af
 use Rattle.pas_accepted.proofs.Passes.{swept_is, IsSwept, sweep_leads, up_after}
 use Rattle.pas_records.specs.declared.record.{Record.Record, Said.Said}
 use Rattle.pas_records.specs.Lines.{line_of_event}
+use Rattle.pas_steps.specs.Views.{known_deed}
+use Rattle.std.proofs.Common.{◌≢◌}
+use Rattle.pas_guard.specs.Sweeps.{sweeping as sweeping_kinds}
 
 -- ---- A request: deeds and backs, and then the give of its block or a refusal, which is true
 -- ---- the directory of a request
@@ -66,17 +69,20 @@ kind_asked f r = kind_routed f r.size r.align (is_shared f r.heap) (route_in f r
 
 directory_told : (o : Option Directory) (d : Directory) → IsKind d.kind → ((x : Directory) → o ≡ Some x → IsKind x.kind) → word_of_deed o ≡ deed_word_of d
     → o ≡ Some d
-directory_told o d is all word = search (arith, deed_word_of-positive, same_from_deed_word)
+directory_told None d is all word = absurd (deed_word_of-positive d (sym word))
+directory_told (Some x) d is all word = ap (λ y. Some y) (same_from_deed_word x d (all x refl) is word)
 
 -- a deed word of this directory is the page's deed
 deed_told : (f : Profile) (l : Whole) (page : ℕ) (d : Directory) → Legal f l → IsKind d.kind → word_after l (Word.Deed page) ≡ deed_word_of d
     → deed_in (visible l) page ≡ Some d
-deed_told f l page d legal is word = search (arith, directory_told, directory_is_of, deed_of)
+deed_told f l page d legal is word = directory_told (deed_in (visible l) page) d is (λ x found. (directory_is_of f l legal page x found).kind) (sym (deed_of f l legal page) ∙ word)
 
 -- A deed that a view knows is the one of the events.
 deed_known : (f : Profile) (l : Whole) (k page : ℕ) (d : Directory) → Legal f l → IsKind d.kind → KnowsDeed page d (part k l)
     → deed_in (visible l) page ≡ Some d
-deed_known f l k page d legal is knows = search (arith, deed_word_of-positive, deed_told, known_is, deeds_known)
+deed_known f l k page d legal is knows =
+    let some : known_deed (part k l) page ≢ 0 = λ none. deed_word_of-positive d (sym knows ∙ none) in
+    deed_told f l page d legal is (sym (known_is (known_deed (part k l) page) (word_after l (Word.Deed page)) (deeds_known f l legal k page) some) ∙ knows)
 
 -- ---- deeds and backs
 -- where the request goes on, after these events
@@ -113,12 +119,14 @@ all_deeds d [] all = tt
 all_deeds d (e ∷ es) all = (deeds_prepare d e all.0, all_deeds d es all.1)
 
 refusal_prepares : (route : Route) (d : Directory) (es : List Event) → RefusalEnds route d es → AllByRecursion (Prepares d) es
-refusal_prepares route d es all = search (arith, all_deeds)
+refusal_prepares Route.Large d es all = all_deeds d es all
+refusal_prepares other d es none = subst (AllByRecursion (Prepares d)) (sym none) tt
 
 -- in each case it computes, or is given
 reason_by : (route : Route) (f : Profile) (w : Wanted) (locals : List Slots) (entry exit : Whole) (room : NoRoom)
     → IsTrulyRefusedBy route f w locals entry exit room → IsTrueReason f w.directory exit room
-reason_by route f w locals entry exit room h = search arith
+reason_by Route.Large f w locals entry exit room h = h.2
+reason_by other f w locals entry exit room h = h.reason
 
 -- after the request
 abbrev pub served : Stand → ℕ → Request → Option Name → Result Block NoRoom → List Event → Stand
@@ -127,14 +135,17 @@ served w k r replaced answer es = after_request (record w { events = es }) k r r
 -- where nothing is replaced, its name stands for the block, or for nothing
 pub served_plain : (w : Stand) (k : ℕ) (r : Request) (answer : Result Block NoRoom) (es : List Event)
     → served w k r None answer es ≡ record w { events = es; names = record { name = r.name; block = block_of answer } ∷ w.names; due = [] }
-served_plain w k r answer es = search arith
+served_plain w k r (Ok block) es = refl
+served_plain w k r (Err room) es = refl
 
 -- what was due before doesn't matter then
 logged_apart : (full : Bool) (v : Stand) (k : ℕ) (entry : Entry) (due : List Due) → logging full (with_due v due) k entry [] ≡ logging full v k entry []
-logged_apart full v k entry due = search arith
+logged_apart true v k entry due = refl
+logged_apart false v k entry due = refl
 
 due_apart : (replaced : Option Name) (v : Stand) (k : ℕ) (due : List Due) → replacing replaced (with_due v due) k [] ≡ replacing replaced v k []
-due_apart replaced v k due = search (arith, logged_apart)
+due_apart None v k due = refl
+due_apart (Some old) v k due = logged_apart (is_full v k) v k (unsized old) due
 
 module _ (f : Profile) (valid : IsValid f) (w : Stand) (k : ℕ) (r : Request) (replaced : Option Name) (l : Whole) (steps : List Made)
     (events : w.events ≡ visible l) (legal : Legal f (triples k steps ++ l)) where
@@ -201,7 +212,8 @@ page_is : (f : Profile) (page : ℕ) → IsPage f page → is_page f page ≡ tr
 page_is f page is = and_from (nat_le 1 page) (nat_le page f.pages) (le-leb 1 page is.0) (le-leb page f.pages is.1)
 
 page_isnt : (f : Profile) (page : ℕ) → (IsPage f page → ⊥) → is_page f page ≡ false
-page_isnt f page isnt = search (arith, false_from_ne_true, and_parts, leb-true)
+page_isnt f page isnt =
+    false_from_ne_true (is_page f page) (λ t. let both = and_parts (nat_le 1 page) (nat_le page f.pages) t in isnt (leb-true 1 page both.0, leb-true page f.pages both.1))
 
 -- nothing is said besides
 pub silent_lines : (k : ℕ) (said : Option Said) (rs : List Record) → said ≡ None → lines_by (rs ++ said_by k said) ≡ lines_by rs
@@ -291,7 +303,8 @@ module _ (f : Profile) (valid : IsValid f) (p : Progress) (s : Stand) (ts : List
 -- no request changes when its thread read the epoch
 idle_kept : (f : Profile) (wanted : Wanted) (found : Option ℕ) (c c' : Cached) (steps : List Made) (answer : Result Block NoRoom) (route : Route)
     → ServesBy route f wanted found c c' steps answer → c'.idle_since ≡ c.idle_since
-idle_kept f wanted found c c' steps answer route h = search arith
+idle_kept f wanted found c c' steps answer (Route.Class class) h = ap (λ (d : Cached). d.idle_since) h.cache
+idle_kept f wanted found c c' steps answer route h = ap (λ (d : Cached). d.idle_since) h.cache
 
 -- ---- what a check knows after a request
 module _ (f : Profile) (p : Progress) (s : Stand) (ts : List Task) (tells : Tells p s) (k : ℕ) (r : Request) (placed : Answer)
@@ -312,7 +325,8 @@ module _ (f : Profile) (p : Progress) (s : Stand) (ts : List Task) (tells : Tell
 -- in each case it computes, or is given
 logged_state : (full : Bool) (v : Stand) (k : ℕ) (entry : Entry)
     → record (logging full (record v { due = [] }) k entry []) { left = v.left } ≡ logging full v k entry []
-logged_state full v k entry = search arith
+logged_state true v k entry = refl
+logged_state false v k entry = refl
 
 records_both : (xs ys : List Event) → records_of (xs ++ ys) ≡ records_of ys ++ records_of xs
 records_both xs ys = ap (λ (es : List Event). map Record.Event es) (reverse-append xs ys) ∙ map-append Record.Event (reverse ys) (reverse xs)
@@ -398,7 +412,7 @@ module _ (f : Profile) (valid : IsValid f) (p : Progress) (s : Stand) (ts : List
     part_is = part_of_own k placed.steps p.list
 
     tidy_freed : Tidy (freed ++ part k p1.list)
-    tidy_freed = search (arith, append_assoc, part_is)
+    tidy_freed = subst Tidy (ap (λ ms. ms ++ part k p.list) steps_are ∙ append_assoc freed placed.steps (part k p.list) ∙ ap (λ (v : List Made). freed ++ v) (sym part_is)) tidy
 
     -- The check's state tells of the replay's after the request.
     tells1 : Tells p1 s1
@@ -526,7 +540,8 @@ module _ (f : Profile) (w : Stand) (keeper k : ℕ) (r : Request) (es : List Eve
 
   -- in each case it computes, or is given
   taken_by : (line : List ℕ) (next : Stand) → Takes f by_thread line next → Takes f (trying w keeper k r false es) line next
-  taken_by line next is = search arith
+  taken_by line next (inl none) = absurd none
+  taken_by line next (inr takes) = inr (inr (inr (refl, takes)))
 
   on_thread : LeadsOn f (trying w keeper k r false es) [] by_thread
   on_thread = record { on = past }
@@ -618,7 +633,7 @@ epoch_both : (k : ℕ) (steps ys xs : List Made) (l : Whole) → steps ≡ ys ++
     → word_after (triples k ys ++ (triples k xs ++ l)) Word.Epoch ≡ word_after (triples k xs ++ l) Word.Epoch
     → word_after (triples k xs ++ l) Word.Epoch ≡ word_after l Word.Epoch
     → word_after (triples k steps ++ l) Word.Epoch ≡ word_after l Word.Epoch
-epoch_both k steps ys xs l are later earlier = search (arith, triples_append)
+epoch_both k steps ys xs l are later earlier = ap (λ ms. word_after (triples k ms ++ l) Word.Epoch) are ∙ ap (λ (x : Whole). word_after x Word.Epoch) (sym (triples_append k ys xs l)) ∙ later ∙ earlier
 
 raised_epoch : (f : Profile) (k heap n : ℕ) (guards left : List Guard) (answer : Option Block) (searched after : List Made) (l : Whole)
     → MatchOption answer (IsNotRaised f (large_directory heap) n guards left searched after) (IsRaised f (large_directory heap) n guards left searched after)
@@ -691,7 +706,7 @@ module _ (f : Profile) (valid : IsValid f) (p : Progress) (s : Stand) (ts : List
   booked = booked_sweep p.books s.events keeper false s.guards is.left sweep.stay tells.books
 
   tried_epoch : word_after list2 Word.Epoch ≡ word_after p.list Word.Epoch
-  tried_epoch = search (arith, epoch_both, raise_epoch, epoch_kept)
+  tried_epoch = epoch_both keeper t.steps is.raised is.swept p.list is.steps_are (raise_epoch f keeper r.heap n is.left t.guards t.block is.raised l1 is.raise) (epoch_kept sweeping_kinds refl keeper is.swept p.list is.sweep.kinds)
 
   tried_tells : (names : List Named) (u : Stand) (records : List Record) → u.events ≡ visible list2 → u.names ≡ names → u.logs ≡ s.logs
       → u.idle_since ≡ s.idle_since → u.epoch ≡ s.epoch → AreBooked (with_book p.books keeper t.guards) u.guards
@@ -750,7 +765,7 @@ module _ (f : Profile) (valid : IsValid f) (p : Progress) (s : Stand) (ts : List
   module _ (none : t.block ≡ None) where
     -- in each case it computes, or is given
     not_raised : IsNotRaised f (large_directory r.heap) n is.left t.guards is.raise.searched is.raise.after
-    not_raised = search arith
+    not_raised = rw none at is.raise.outcome
 
     none_tells : Tells p2 s2
     none_tells = tried_tells p.names s2 p2.records refl tells.names refl refl refl (subst (λ (b : List Guard). AreBooked (with_book p.books keeper b) up) (sym not_raised.same) booked)

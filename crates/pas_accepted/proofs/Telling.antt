@@ -39,6 +39,7 @@ use Rattle.pas_core.proofs.{Lives.block_of_word, Lives.life_at, OneActor.legal_e
 use Rattle.pas_records.specs.Lines.{line_of, line_of_event}
 use Rattle.pas_records.specs.declared.record.Record.{Record}
 use Rattle.pas_records.proofs.Showable.{AreOfRegion}
+use Rattle.pas_profile.specs.Blocks.{length_of}
 
 -- ---- Lines that lead a check from one state to another
 -- where thread k's log is being emptied, and has these entries afterwards, when this is due
@@ -122,7 +123,8 @@ lines_more e es = ap (λ (x : List Event). lines_by (map Record.Event x)) (rever
 -- ---- tables by thread, of which that of one thread became another
 pub table_at : {A B : Type 0} (T : Cached → A) (g : B → A) (t : Bool) (c d : Cached) (b e : B) → T c ≡ g b → T d ≡ g e
     → T (if t then c else d) ≡ g (if t then b else e)
-table_at T g t c d b e new old = search arith
+table_at T g true c d b e new old = new
+table_at T g false c d b e new old = old
 
 -- A table by thread of what a changed cache has as before is the same.
 pub table_same : {A : Type 0} (T : Cached → A) (caches : Caches) (k : ℕ) (c : Cached) → T c ≡ T (caches k) → (j : ℕ)
@@ -223,7 +225,9 @@ book_if books keeper book guards j his others = search (arith, cases_eq, eq-eqb,
 swept_books : (books : Books) (es : List Event) (keeper : ℕ) (all : Bool) (guards : List Known) → ((j : ℕ) → guards_of j guards ≡ map (raised_by j) (books j))
     → (j : ℕ)
     → guards_of j (filter (λ guard. not (goes_down es keeper all guard)) guards) ≡ map (raised_by j) (with_book books keeper (staying es all (books keeper)) j)
-swept_books books es keeper all guards told j = search (arith, book_if, staying_told, others_told)
+swept_books books es keeper all guards told j = book_if books keeper (staying es all (books keeper)) (filter (λ guard. not (goes_down es keeper all guard)) guards) j
+    (λ e. ap (λ i. guards_of i (filter (λ guard. not (goes_down es keeper all guard)) guards)) e ∙ staying_told es keeper all guards (books keeper) (told keeper) ∙ ap (λ i. map (raised_by i) (staying es all (books keeper))) (sym e))
+    (λ ne. others_told es keeper j all guards ne ∙ told j)
 
 -- ---- a guard goes up
 raised_books : (books : Books) (keeper : ℕ) (guard : Guard) (guards : List Known) → ((j : ℕ) → guards_of j guards ≡ map (raised_by j) (books j)) → (j : ℕ)
@@ -333,13 +337,16 @@ after_only name (Refused read) steps h = none_only freeing steps h
 
 -- the end of a name
 last_kind : (t : Bool) (entry : Entry) (guess : ℕ) → is_in freeing (kind_of (last_step t entry guess)) ≡ true
-last_kind t entry guess = search arith
+last_kind true entry guess = refl
+last_kind false entry guess = refl
 
 tries_only : (name : Name) (first guess : ℕ) (before : List Made) → Tries name first guess before → Only freeing before
-tries_only name first guess before is = search (arith, none_only)
+tries_only name first guess before (inl h) = none_only freeing before h.1
+tries_only name first guess before (inr h) = subst (Only freeing) (sym h.4) (refl, tt)
 
 before_only : (t : Bool) (entry : Entry) (first guess : ℕ) (before : List Made) → TriesBy t entry first guess before → Only freeing before
-before_only t entry first guess before h = search (arith, none_only, tries_only)
+before_only true entry first guess before h = none_only freeing before h.1
+before_only false entry first guess before h = tries_only entry.name first guess before h
 
 -- The steps that end a name are freeing ones.
 ends_only : (entry : Entry) (outcome : Outcome) (steps : List Made) → EndSteps entry outcome steps → Only freeing steps
@@ -347,7 +354,7 @@ ends_only entry outcome steps h = search (arith, last_kind, only_both, before_on
 
 -- The steps for an entry of a log are freeing ones.
 entry_only : (entry : Settled) (steps : List Made) → EntrySteps entry steps → Only freeing steps
-entry_only entry steps h = search (arith, only_both, after_only, ends_only)
+entry_only entry steps h = subst (Only freeing) (sym h.steps_are) (only_both freeing h.after h.ends (after_only entry.entry.name entry.outcome h.after h.returns) (ends_only entry.entry entry.outcome h.ends h.order))
 
 -- THE STEPS of a flush
 pub flush_only : (k : ℕ) (logged : List Entry) (noted noted' : List EndedRun) (steps : List Made) → EmptiesLog k logged noted noted' steps → Only freeing steps
@@ -362,7 +369,8 @@ stop_only k c c' steps h = subst (Only freeing) (sym h.steps_are)
 -- ---- A block that a flush ended by an entry with a room had that room
 -- ---- what lives after steps of a flush lived before them
 ended_if : (t : Bool) (old : Option Live) (b : Live) → (if t then None else old) ≡ Some b → old ≡ Some b
-ended_if t old b is = search (arith, none-some)
+ended_if true old b is = absurd (none-some b is)
+ended_if false old b is = is
 
 lived_before : (k e : ℕ) (s : Step) (a : ℕ) (es : List Event) (address : ℕ) (b : Live) → is_in freeing (kind_of s) ≡ true
     → live_in (with_event (event_of k e s a) es) address ≡ Some b → live_in es address ≡ Some b
@@ -377,7 +385,9 @@ lived_then k (m ∷ xs) l address b only is = lived_then k xs l address b only.1
 -- ---- the length that a life word tells is that of the block
 same_length : (f : Profile) (g word room : ℕ) (b : Live) (gives ends turn : ℕ) → IsLifeOfLive f g word b gives ends → word ≡ live_word turn (room / 16)
     → ends ≡ turn → room % 16 ≡ 0 → b.block.room ≡ room
-same_length f g word room b gives ends turn life is same whole = search (arith, life.word_is, life.whole)
+same_length f g word room b gives ends turn life is same whole =
+    let long : length_of b.block ≡ room / 16 = omega (arith, life.word_is, is, same) in
+    omega (arith, long, life.whole, whole)
 
 -- ---- one entry
 -- the block of an entry that was ended had the entry's room, if there is one
@@ -467,7 +477,8 @@ known_more x xs = reverse-append (known_as x.entry ∷ []) (map (λ (y : Settled
 -- what lives after their events lived before them
 lived_one : (k epoch : ℕ) (entry : Entry) (outcome : Outcome) (es : List Event) (address : ℕ) (b : Live)
     → live_in (event_for k epoch entry outcome ∷ es) address ≡ Some b → live_in es address ≡ Some b
-lived_one k epoch entry outcome es address b is = search (arith, ended_if)
+lived_one k epoch entry (Ended grains) es address b is = ended_if (address_of entry.name == address) (live_in es address) b is
+lived_one k epoch entry (Refused read) es address b is = is
 
 lived_all : (k epoch : ℕ) (settled : List Settled) (es : List Event) (address : ℕ) (b : Live) → live_in (map (shown_for k epoch) settled ++ es) address ≡ Some b
     → live_in es address ≡ Some b
@@ -518,7 +529,7 @@ module _ (f : Profile) (valid : IsValid f) (p : Progress) (s : Stand) (tells : T
       (subst (Legal f) (sym (triples_append k h.entries look p.list)) (subst (λ ms. Legal f (triples k ms ++ p.list)) h.steps_are legal)))
 
   epoch_is : h.epoch ≡ s.epoch
-  epoch_is = search (arith, legal_earlier)
+  epoch_is = (legal_earlier f k h.entries (made (Look Word.Epoch) h.epoch ∷ []) p.list (subst (λ ms. Legal f (triples k ms ++ p.list)) h.steps_are legal)).0.answer_is ∙ sym tells.epoch
 
   events_are : events_by k (part k p.list) steps ≡ shown_by k s h.settled
   events_are = h.events (part k p.list) ∙ ap (λ e. map (shown_for k e) h.settled) epoch_is

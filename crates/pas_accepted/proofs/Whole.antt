@@ -43,6 +43,14 @@ use Rattle.pas_answers.specs.Replays.{IsReplay, acts_of_plan, at_start, keepers_
 use Rattle.pas_records.specs.declared.record.{Record.Record, Said.Said}
 use Rattle.pas_records.specs.{Lines.lines_of, Marks.Marked, Marks.marks_after, Marks.marks_text, Rests.AreTrueMarks}
 use Rattle.pas_report.specs.Totals.{totals_of}
+use Rattle.pas_machine.specs.State.{epoch_in}
+use Rattle.pas_report.specs.Reports.{live_on}
+use Rattle.pas_report.specs.Reports.{uncovered_on}
+use Rattle.pas_trace.specs.Asked.{keeper_of}
+use Rattle.pas_trace.specs.Asked.{of_task}
+use Rattle.pas_trace.specs.Acts.{numbers_from}
+use Rattle.pas_check.specs.Begins.{settled_with}
+use Rattle.pas_check.specs.States.{with_due}
 
 -- ---- A thread's operation, by what it asks for
 module _ (f : Profile) (valid : IsValid f) (p : Progress) (s : Stand) (ts : List Task) (tells : Tells p s) (due : s.due ≡ []) (k : ℕ) (a : Answer)
@@ -311,7 +319,8 @@ page_ends page d live free stamp m = search (arith, number_first, kind_first, ma
 
 cut_page : (es : List Event) (page : ℕ) (o : Option Directory) (m : Marked) (rest : List ℕ)
     → lines_in (machine_page es page o m ++ rest) ≡ page_line es page o m ++ lines_in rest
-cut_page es page o m rest = search (arith, cut_line, page_ends)
+cut_page es page None m rest = refl
+cut_page es page (Some d) m rest = cut_line (machine_page es page (Some d) m) rest (page_ends page d (live_on es page) (uncovered_on es page) (epoch_in es page) m)
 
 cut_pages : (es : List Event) (marks : ℕ → Marked) (n : ℕ) (rest : List ℕ)
     → lines_in (machine_pages es marks n ++ rest) ≡ page_lines es marks n ++ lines_in rest
@@ -407,7 +416,7 @@ read_as known p q same read = subst (IsRead known) (sym same) read
 -- What is known of the epoch that the scavenger read stays true after each act.
 still_read : (f : Profile) (known : Bool) (act : Act) (p q : Progress) → Advances f act p q → Legal f q.list → IsRead known p
     → IsRead (read_after known act) q
-still_read f known ReadsEpoch p q did legal read = search arith
+still_read f known ReadsEpoch p q did legal read = λ is. subst (λ (x : Progress). x.epoch ≡ word_after x.list Word.Epoch) (sym did.1) (subst (λ (x : Progress). Legal f x.list) did.1 legal).0.answer_is
 still_read f known (StopsIdle k n) p q (inl so) legal read = read_as known _ q so.4 (λ is. read is ∙ sym (epoch_kept freeing refl k so.1 p.list (stop_only k (p.caches k) so.2 so.1 so.3)))
 still_read f known (StopsIdle k n) p q (inr stays) legal read = read_as known p q stays.1 read
 still_read f known act p q did legal read = never
@@ -421,14 +430,17 @@ stops_on n [] rest on = on true
 stops_on n (k ∷ idle) rest on = (refl, stops_on n idle rest on)
 
 chore_on : (idle : List ℕ) (chore : Chore) (rest : List Act) → Anyhow rest → Anyhow (acts_of_chore idle chore ++ rest)
-chore_on idle chore rest on known = search (arith, stops_on)
+chore_on idle (Chore.Idle n) rest on known = (tt, stops_on n idle rest on)
+chore_on idle other rest on known = (tt, on false)
 
 -- in each case it computes, or is given
 own_on : (keeper : Option ℕ) (op : Op) (rest : List Act) → keeper_in op.what ≡ keeper → Anyhow rest → Anyhow (act_kept keeper op ∷ (Settles op.actor ∷ rest))
-own_on keeper op rest kept on known = search arith
+own_on None op rest kept on known = (tt, (tt, on false))
+own_on (Some keeper) op rest kept on known = (kept, (tt, on false))
 
 work_on : (idle : List ℕ) (op : Op) (work : Work) (rest : List Act) → work_of op.what ≡ work → Anyhow rest → Anyhow (acts_of_work idle op work ++ rest)
-work_on idle op work rest is on known = search (arith, own_on, chore_on)
+work_on idle op (Work.Own task) rest is on known = own_on (keeper_of task) op rest (ap (of_task keeper_of) is) on known
+work_on idle op (Work.Chore chore) rest is on known = chore_on idle chore rest on known
 
 ops_on : (idle : List ℕ) (ops : List Op) (rest : List Act) → Anyhow rest → Anyhow (acts_of_ops idle ops ++ rest)
 ops_on idle [] rest on known = on known
@@ -452,7 +464,7 @@ ends_on [] rest on known = on known
 ends_on (k ∷ ks) rest on known = (tt, ends_on ks rest on false)
 
 close_on : (threads keepers : ℕ) → Anyhow (close_acts threads keepers)
-close_on threads keepers known = search (arith, ends_on, lowers_on)
+close_on threads keepers known = (tt, ends_on (numbers_from 1 threads) (map Lowers (numbers_from (threads + 1) keepers)) (lowers_on (numbers_from (threads + 1) keepers)) false)
 
 from_on : (threads keepers n : ℕ) (phases : List (List Op)) → Anyhow (acts_from threads keepers n phases)
 from_on threads keepers n [] known = close_on threads keepers known
@@ -470,24 +482,29 @@ module _ (f : Profile) (n : ℕ) where
 
   -- ---- what is begun
   named_same : (s : Stand) (k name room : ℕ) (o : Option (Option Block)) → freeing_named other s k name room o ≡ freeing_named f s k name room o
-  named_same s k name room o = search arith
+  named_same s k name room None = refl
+  named_same s k name room any = refl
 
   what_same : (s : Stand) (k : ℕ) (what : What) → begun_what other s k what ≡ begun_what f s k what
   what_same s k what = search (arith, named_same)
 
   act_same : (s : Stand) (act : Act) → begun_act other s act ≡ begun_act f s act
-  act_same s act = search (arith, what_same)
+  act_same s (Operates op) = what_same s op.actor op.what
+  act_same s act = refl
 
   task_same : (s : Stand) (t : Task) → begun other s t ≡ begun f s t
-  task_same s t = search (arith, act_same)
+  task_same s (Does act) = act_same s act
+  task_same s Reports = refl
 
   begun_same : (ts : List Task) (s : Stand) → begun_from other s ts ≡ begun_from f s ts
   begun_same [] s = refl
   begun_same (t ∷ ts) s =
-      let rest = begun_same ts (after_task f s t ts) in grind (arith, rest, task_same)
+      let e : after_task other s t ts ≡ after_task f s t ts = ap (λ (x : Stand). record x { left = ts }) (task_same s t) in
+      (λ i. settled_with (e i).due (e i) (begun_from other (e i) ts)) ∙ ap (settled_with (after_task f s t ts).due (after_task f s t ts)) (begun_same ts (after_task f s t ts))
 
   with_same : (s : Stand) (due : List Due) → ready_with other s due ≡ ready_with f s due
-  with_same s due = search (arith, begun_same)
+  with_same s [] = begun_same s.left (with_due s [])
+  with_same s (d ∷ ds) = refl
 
   ready_same : (s : Stand) → ready other s ≡ ready f s
   ready_same s = with_same s (past_outcomes s.due)
@@ -498,7 +515,8 @@ module _ (f : Profile) (n : ℕ) where
 
   -- What is admitted by one profile is by the other, which says the same.
   admits : (es : List Event) (e : Event) → Admits other es e → Admits f es e
-  admits es e h = search (arith, bears)
+  admits es (Event.Give k block) h = record { aligned = h.aligned; whole = h.whole; some = h.some; bears = λ x inside. bears es block.heap _ (h.bears x inside); clear = h.clear; turn = h.turn }
+  admits es e h = h
 
   is_for : (s : Stand) (r : Request) (block : Block) → IsFor other s r block → IsFor f s r block
   is_for s r block h = record { heap = h.heap; room = h.room; aligned = h.aligned; deeds = h.deeds }
@@ -584,7 +602,7 @@ acts_written f valid (act ∷ acts) known p q s ts tells due left is truly are r
 
 -- ---- before the first act
 first_tells : (plan : Plan) → Tells at_start (at_first plan)
-first_tells plan = search arith
+first_tells plan = record { events = refl; names = refl; logs = λ k. refl; awake = λ k. refl; epoch = refl; books = record { told = λ j. refl; aligned = λ j. tt }; tidy = λ k. record { kept = tt; stamped = λ page. refl } }
 
 acts_of_replay : (plan : Plan) (whole : Whole) (records : List Record) → IsValid (region_of plan) → (is : IsReplay InOrder plan whole records)
     → Written (region_of plan) at_start (at_first plan) is.reached (Reports ∷ [])
