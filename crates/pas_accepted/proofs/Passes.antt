@@ -10,12 +10,13 @@ use Rattle.pas_machine.specs.State.{backed_in, deed_in, epoch_in, ends_in, gives
 use Rattle.pas_core.specs.Good.{word_of_backed, word_of_deed}
 use Rattle.pas_core.proofs.{Deeds.backed_of, Deeds.deed_of, MachineRuns.runs, OneActor.legal_earlier}
 use Rattle.pas_core.proofs.Lives.{stamps_are_ends, words_fit, life_at, turn_is}
-use Rattle.pas_steps.specs.{Desks.made, Desks.triples, Desks.triple, Kinds.Only, Kinds.Taking, Kinds.LookFree, Kinds.LookLife, Views.all_ones, Views.known_epoch, InTurn.InTurn}
-use Rattle.pas_steps.specs.{InTurn.numbers_below, Effects.life_word_at}
+use Rattle.pas_steps.specs.{Desks.made, Desks.triples, Desks.triple, Views.all_ones, Views.known_epoch, InTurn.InTurn, InTurn.numbers_below}
+use Rattle.pas_steps.specs.{Effects.life_word_at}
+use Rattle.pas_steps.specs.Kinds.{Only, Taking, LookFree, LookLife}
 use Rattle.pas_steps.specs.Lists.{Legal, Whole, part, visible, word_after}
 use Rattle.pas_steps.specs.declared.step.{Made.Made, Step.TheVariants.Look, Step.TheVariants.Unhint, Step.TheVariants.Take}
 use Rattle.pas_steps.proofs.Apart.{no_events, only_both, only_within, epoch_same}
-use Rattle.pas_rights.specs.{Takes.takes, Looks.AreUsed, Looks.IsUsed, Words.ones, PutsBack.giving_back}
+use Rattle.pas_rights.specs.{Takes.takes, Looks.AreUsed, Looks.IsUsed, Words.ones, PutsBack.giving_back, Looks.looks_until}
 use Rattle.pas_rights.proofs.Orders.{until_only}
 use Rattle.pas_scavenger.specs.{Readings.takes_until, Judgements.used_at}
 use Rattle.pas_scavenger.specs.Pages.{EndsWith, EndsWithout, ExamineSteps, first_looks, quiet, unback_of, examining}
@@ -42,7 +43,6 @@ use Rattle.pas_guard.specs.Sweeps.{Swept, SweptOne, is_over, life_look, lowered_
 use Rattle.pas_guard.specs.declared.book.Guard.{Guard}
 use Rattle.pas_records.specs.Lines.{line_of}
 use Rattle.pas_records.specs.declared.record.{Record.Record, Said.Said}
-use Rattle.pas_rights.specs.Looks.{looks_until}
 
 -- ---- What comes of a page in a pass may come there
 -- steps without an event leave what is visible

@@ -1,7 +1,7 @@
 -- Requests, frees, blocks that get another size, and requests that are guarded: deeds and backs, and then the give of its block or a refusal, which is true.
 use Rattle.std.proofs.Common.{arith, ◌≡◌, ℕ, ◌/◌, Bool, true, false, List, [], ◌∷◌, ◌++◌, Option, Some, None, Result, Ok, Err, inl, inr, refl, ap, sym, ◌∙◌}
 use Rattle.std.proofs.Common.{subst, append-nil, MatchResult, ◌%◌, ◌||◌, map, nat_le, length, eq-eqb, le-leb, leb-true, ne_eqb, ◌⊎◌, append_assoc, reverse}
-use Rattle.std.proofs.Common.{MatchOption, ◌+◌, ◌*◌}
+use Rattle.std.proofs.Common.{MatchOption, ◌+◌, ◌*◌, ◌≢◌}
 use Rattle.std.specs.List.{AllByRecursion}
 use Rattle.pas_bits.specs.Runs.{in_run}
 use Rattle.pas_profile.specs.{Blocks.grain_of, Blocks.length_of, Blocks.address_of, Directories.IsKind, Directories.deed_word_of, Profiles.IsValid}
@@ -13,7 +13,7 @@ use Rattle.pas_profile.proofs.{Sizes.class_known, Sizes.class_suits, Codecs.deed
 use Rattle.pas_machine.specs.{Machine.Run, State.deed_in}
 use Rattle.pas_core.specs.Good.{word_of_deed}
 use Rattle.pas_core.proofs.{Deeds.deed_of, Deeds.directory_is_of, Deeds.known_is, MachineRuns.runs, Rights.deeds_known, OneActor.legal_earlier}
-use Rattle.pas_steps.specs.{Desks.triples, Events.actor_of, Events.events_by, Views.KnowsDeed}
+use Rattle.pas_steps.specs.{Desks.triples, Events.actor_of, Events.events_by, Views.KnowsDeed, Views.known_deed}
 use Rattle.pas_steps.specs.Kinds.{LookLife, Backing, Giving, returning}
 use Rattle.pas_steps.specs.Lists.{Legal, Whole, part, visible, word_after}
 use Rattle.pas_steps.specs.declared.step.Made.{Made}
@@ -48,15 +48,12 @@ use Rattle.pas_trace.specs.Named.{Named, named}
 use Rattle.pas_answers.specs.Refusals.{request_in_move, request_in_remade}
 use Rattle.pas_scan.specs.Runs.{large_directory}
 use Rattle.pas_guard.specs.Raises.{IsNotRaised, IsRaised, RaiseSteps, guard_of as guard_at}
-use Rattle.pas_guard.specs.Seeks.{seeking}
+use Rattle.pas_guard.specs.{Seeks.seeking, Sweeps.sweeping as sweeping_kinds}
 use Rattle.pas_guard.proofs.Raises.{raised_backs, raised_leaves}
 use Rattle.pas_answers.specs.Guarding.{IsTried, Tried, TryEnds, after_giving, after_trying, said_of_guard}
 use Rattle.pas_accepted.proofs.Passes.{swept_is, IsSwept, sweep_leads, up_after}
 use Rattle.pas_records.specs.declared.record.{Record.Record, Said.Said}
 use Rattle.pas_records.specs.Lines.{line_of_event}
-use Rattle.pas_steps.specs.Views.{known_deed}
-use Rattle.std.proofs.Common.{◌≢◌}
-use Rattle.pas_guard.specs.Sweeps.{sweeping as sweeping_kinds}
 
 -- ---- A request: deeds and backs, and then the give of its block or a refusal, which is true
 -- ---- the directory of a request
@@ -277,7 +274,13 @@ module _ (f : Profile) (valid : IsValid f) (p : Progress) (s : Stand) (ts : List
   fault_comes : (entry : Entry) (fault : FreeFault) → RefusesName f (p.caches k) a.cache entry.name a.steps fault
       → a.said ≡ Some (said_of_fault entry.name fault) → LeadsOn f s [] (record (freeing f s k entry) { left = ts })
       → Comes f s (records_of (events_by k (part k p.list) a.steps) ++ said_by k a.said) (after_answer p k a) ts
-  fault_comes entry fault h said begun = search (arith, page_isnt, said_comes, on_as, page_is, ne_eqb)
+  fault_comes entry FreeFault.Outside h said begun =
+      let there = ap (λ x. record (freeing_at x (is_aligned entry.name) s k entry) { left = ts }) (page_isnt f (address_of entry.name / 4096) h.fault_is) in
+      said_comes (Said.Outside entry.name) h.no_steps h.cache said (on_as refl (sym there) begun)
+  fault_comes entry FreeFault.Unaligned h said begun =
+      let there = ap (λ x. record (freeing_at x (is_aligned entry.name) s k entry) { left = ts }) (page_is f (address_of entry.name / 4096) h.fault_is.0)
+      ∙ ap (λ x. record (freeing_at true x s k entry) { left = ts }) (ne_eqb (address_of entry.name % 16) 0 h.fault_is.1) in
+      said_comes (Said.Unaligned entry.name) h.no_steps h.cache said (on_as refl (sym there) begun)
 
   -- The lines of a free lead the check to what the free comes to.
   pub free_comes : (entry : Entry) → IsFreed f k (p.caches k) a.cache (logged_as entry) a.steps a.said
@@ -541,7 +544,7 @@ module _ (f : Profile) (w : Stand) (keeper k : ℕ) (r : Request) (es : List Eve
   -- in each case it computes, or is given
   taken_by : (line : List ℕ) (next : Stand) → Takes f by_thread line next → Takes f (trying w keeper k r false es) line next
   taken_by line next (inl none) = absurd none
-  taken_by line next (inr takes) = inr (inr (inr (refl, takes)))
+  taken_by line next (inr takes) = inr (inr (refl, takes))
 
   on_thread : LeadsOn f (trying w keeper k r false es) [] by_thread
   on_thread = record { on = past }
@@ -724,7 +727,9 @@ module _ (f : Profile) (valid : IsValid f) (p : Progress) (s : Stand) (ts : List
   -- the lines of its records
   lines_tried : (said : List Record) → said_of_guard keeper r.name n t.block ≡ said
       → lines_by t.records ≡ lines_by is.lowered ++ lines_by (records_of (events_by keeper (part keeper l1) is.raised) ++ said)
-  lines_tried said same = search (arith, lines_both, part_swept)
+  lines_tried said same =
+      ap lines_by is.records_are ∙ lines_both is.lowered (records_of (events_by keeper view is.raised) ++ said_of_guard keeper r.name n t.block)
+      ∙ (λ i. lines_by is.lowered ++ lines_by (records_of (events_by keeper (sym part_swept i) is.raised) ++ same i))
 
   -- ---- it gave the block
   pub given_comes : (block : Block) → t.block ≡ Some block → Comes f s t.records (after_giving (after_trying p keeper t) r.name block) ts
@@ -752,7 +757,8 @@ module _ (f : Profile) (valid : IsValid f) (p : Progress) (s : Stand) (ts : List
             (guarded_leads f valid w keeper k r l1 is.raised shown_swept raised_legal block ends
             (sides_are f (large_directory r.heap) keeper n is.left t.guards is.raise.searched is.raise.after block h)));
         tells = tried_tells (named r.name (Some block) ∷ p.names) end _ refl (ap (λ ns. record { name = r.name; block = Some block } ∷ ns) tells.names) refl refl refl
-            (search (arith, guard_is));
+            (subst (λ (T : Type 0). T) (λ i. AreBooked (same i) (up ++ sym (guard_is f (large_directory r.heap) keeper n is.left t.guards is.raise.searched
+            is.raise.after block h) i ∷ [])) up_now);
       }
 
   -- ---- it gave none, and the thread is served

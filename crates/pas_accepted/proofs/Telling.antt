@@ -20,7 +20,7 @@ use Rattle.pas_steps.proofs.{Frames.with_append, Frames.events_append, Parts.par
 use Rattle.pas_steps.proofs.{Adding.triples_append}
 use Rattle.pas_cache.specs.{Caches.Cached, Changes.EmptiesLog, Kinds.releasing}
 use Rattle.pas_answers.specs.Answers.{Caches, records_of, with_cache, Books, with_book, Progress, IsStopped}
-use Rattle.pas_profile.specs.{Blocks.address_of, Blocks.grain_of, Directories.deed_word_of, Lives.live_word, Profiles.IsValid}
+use Rattle.pas_profile.specs.{Blocks.address_of, Blocks.grain_of, Directories.deed_word_of, Lives.live_word, Profiles.IsValid, Blocks.length_of}
 use Rattle.pas_free_log.specs.Endings.{reason_for, EndSteps, Tries, TriesBy, last_step}
 use Rattle.pas_free_log.specs.declared.{log.Entry.Entry, ending.Outcome.Outcome, ending.Outcome.TheVariants.Ended, ending.Outcome.TheVariants.Refused}
 use Rattle.pas_free_log.specs.declared.{noting.EndedRun.EndedRun}
@@ -39,7 +39,6 @@ use Rattle.pas_core.proofs.{Lives.block_of_word, Lives.life_at, OneActor.legal_e
 use Rattle.pas_records.specs.Lines.{line_of, line_of_event}
 use Rattle.pas_records.specs.declared.record.Record.{Record}
 use Rattle.pas_records.proofs.Showable.{AreOfRegion}
-use Rattle.pas_profile.specs.Blocks.{length_of}
 
 -- ---- Lines that lead a check from one state to another
 -- where thread k's log is being emptied, and has these entries afterwards, when this is due
@@ -100,7 +99,9 @@ module _ (f : Profile) (s : Stand) (last : ℕ) (due : s.due ≡ Examines last �
 pub visible_piece : (k : ℕ) (steps : List Made) (l : Whole) → visible (triples k steps ++ l) ≡ events_by k (part k l) steps ++ visible l
 visible_piece k [] l = refl
 visible_piece k (m ∷ ms) l =
-    let rest = visible_piece k ms l in grind (arith, rest, part_of_own, with_append)
+    ap (λ v. with_event (event_of k (epoch_of v) m.step m.answer) (visible (triples k ms ++ l))) (part_of_own k ms l)
+    ∙ ap (with_event (event_of k (epoch_of (ms ++ part k l)) m.step m.answer)) (visible_piece k ms l)
+    ∙ with_append (event_of k (epoch_of (ms ++ part k l)) m.step m.answer) (events_by k (part k l) ms) (visible l)
 
 -- .. over the events that a check knows before it
 pub shown_is : (s : Stand) (k : ℕ) (steps : List Made) (l : Whole) → s.events ≡ visible l → (es : List Event) → events_by k (part k l) steps ≡ es

@@ -13,13 +13,15 @@ use Rattle.pas_trace.specs.declared.plan.What.TheVariants.{Alloc, Guarded, Free,
 use Rattle.pas_answers.specs.Answers.{Answer, IsAnswered, IsFreedBy, IsServed, Progress, after_answer, having, records_of, room_noted, said_by, wanted_by}
 use Rattle.pas_answers.specs.Answers.{IsIdleFor, IsStopped, after_reading, after_settling, after_stop, after_tick, after_wake, begun as woken, epoch_look}
 use Rattle.pas_answers.specs.Answers.{stopped, with_cache, with_records}
-use Rattle.pas_trace.specs.{Named.standing_for, Asked.keeper_in, Asked.work_of}
+use Rattle.pas_trace.specs.Named.{standing_for}
+use Rattle.pas_trace.specs.Asked.{keeper_in, work_of, keeper_of, of_task}
 use Rattle.pas_answers.specs.Refusals.{RefusesTruly, ActRefusesTruly, TriedRefusesTruly, AllRefuseTruly}
 use Rattle.pas_answers.specs.{Guarding.IsTried, Guarding.Tried, Guarding.after_trying, Reaching.Advances, Reaching.AnswersTried, Reaching.Reaches, Ways.InOrder}
 use Rattle.pas_answers.proofs.Consequences.{Tidy, answer_tidy, look_tidy, tick_tidy, tidy_piece}
 use Rattle.pas_check.specs.Begins.{begun_what, entry_of as known_entry, freeing_named, remaking_named, unsized, stopping, sweeping, after_task, begun}
-use Rattle.pas_check.specs.Begins.{begun_act, begun_from, past_outcomes, ready, ready_with, page_due, pages_due}
+use Rattle.pas_check.specs.Begins.{begun_act, begun_from, past_outcomes, ready, ready_with, page_due, pages_due, settled_with}
 use Rattle.pas_check.specs.States.{Serves, Stand, Task, Does, Due, Tries, Writes, with_at, Frees, Examines, Reports, at_first, Heads, Shows, Totals, with_one}
+use Rattle.pas_check.specs.States.{with_due}
 use Rattle.pas_check.proofs.Ticks.{epoch_kept}
 use Rattle.pas_accepted.proofs.Telling.{flush_only, flush_leads, emptied, logs_with, stop_leads, stop_tells, LeadsOn, on_as, on_both, lines_by, Comes, Tells}
 use Rattle.pas_accepted.proofs.Telling.{piece_of, told_after, on_line, on_done, on_task, emptying, booked_as, logged_as, lines_both, table_at, table_same}
@@ -31,26 +33,18 @@ use Rattle.std.proofs.lemmas.{Bool.false_from_ne_true, Option.none-some}
 use Rattle.pas_core.proofs.OneActor.{legal_before}
 use Rattle.pas_steps.specs.declared.step.Made.{Made}
 use Rattle.pas_trace.specs.Acts.{Act, Operates, Guards, Settles, Ticks, MakesPass, ReadsEpoch, StopsIdle, MarksPhase, Wakes, MarksClose, Ends, Lowers, act_kept}
-use Rattle.pas_trace.specs.Acts.{acts_from, acts_of, acts_of_chore, acts_of_op, acts_of_ops, acts_of_work, close_acts, idle_stops, phase_acts}
+use Rattle.pas_trace.specs.Acts.{acts_from, acts_of, acts_of_chore, acts_of_op, acts_of_ops, acts_of_work, close_acts, idle_stops, phase_acts, numbers_from}
 use Rattle.pas_answers.proofs.Reached.{was_so}
 use Rattle.pas_check.proofs.Cuts.{cut_records, cut_line, kind_first, number_first, totals_end}
-use Rattle.pas_machine.specs.{Machine.Admits, Machine.Bears, State.deed_in}
+use Rattle.pas_machine.specs.{Machine.Admits, Machine.Bears, State.deed_in, State.epoch_in}
 use Rattle.pas_check.specs.{Accepted.Goes, Accepted.IsWhole, Accepted.IsAccepted, Lines.lines_in, Lines.is_line}
 use Rattle.pas_check.specs.Takes.{IsFor, Takes, TakesDue, TakesOutcome, TakesRequest, serving, AreAllowedMarks, head_line, MayServe, block_in, is_back}
 use Rattle.pas_check.specs.Takes.{kept_next}
-use Rattle.pas_report.specs.Reports.{report_text, machine_page, machine_pages, page_text, total_line}
+use Rattle.pas_report.specs.Reports.{report_text, machine_page, machine_pages, page_text, total_line, live_on, uncovered_on}
 use Rattle.pas_answers.specs.Replays.{IsReplay, acts_of_plan, at_start, keepers_of, phases_of, region_of, threads_of}
 use Rattle.pas_records.specs.declared.record.{Record.Record, Said.Said}
 use Rattle.pas_records.specs.{Lines.lines_of, Marks.Marked, Marks.marks_after, Marks.marks_text, Rests.AreTrueMarks}
 use Rattle.pas_report.specs.Totals.{totals_of}
-use Rattle.pas_machine.specs.State.{epoch_in}
-use Rattle.pas_report.specs.Reports.{live_on}
-use Rattle.pas_report.specs.Reports.{uncovered_on}
-use Rattle.pas_trace.specs.Asked.{keeper_of}
-use Rattle.pas_trace.specs.Asked.{of_task}
-use Rattle.pas_trace.specs.Acts.{numbers_from}
-use Rattle.pas_check.specs.Begins.{settled_with}
-use Rattle.pas_check.specs.States.{with_due}
 
 -- ---- A thread's operation, by what it asks for
 module _ (f : Profile) (valid : IsValid f) (p : Progress) (s : Stand) (ts : List Task) (tells : Tells p s) (due : s.due ≡ []) (k : ℕ) (a : Answer)
@@ -602,7 +596,7 @@ acts_written f valid (act ∷ acts) known p q s ts tells due left is truly are r
 
 -- ---- before the first act
 first_tells : (plan : Plan) → Tells at_start (at_first plan)
-first_tells plan = record { events = refl; names = refl; logs = λ k. refl; awake = λ k. refl; epoch = refl; books = record { told = λ j. refl; aligned = λ j. tt }; tidy = λ k. record { kept = tt; stamped = λ page. refl } }
+first_tells plan = record { events = refl; names = refl; logs = λ k. refl; idle_since = λ k. refl; epoch = refl; books = record { told = λ j. refl; aligned = λ j. tt }; tidy = λ k. record { kept = tt; stamped = λ page. refl } }
 
 acts_of_replay : (plan : Plan) (whole : Whole) (records : List Record) → IsValid (region_of plan) → (is : IsReplay InOrder plan whole records)
     → Written (region_of plan) at_start (at_first plan) is.reached (Reports ∷ [])
