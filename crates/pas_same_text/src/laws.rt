@@ -42,7 +42,6 @@ pub fn marks_stay_the_same()
 {}
 
 /// A thread that begins a phase has read the epoch of the text, and so has the scavenger for an idle operation. A tick raises that epoch.
-#[tactic(auto, using(crate::proofs::SmallActs::wake_same, crate::proofs::SmallActs::reading_same, crate::proofs::SmallActs::tick_same))]
 pub fn epochs_stay_the_same()
     ensures wakes { (f : Profile) (k : ℕ) → IsThread f k → StaysSame f (Act.Wakes k) }
     ensures reads { (f : Profile) → StaysSame f Act.ReadsEpoch }
