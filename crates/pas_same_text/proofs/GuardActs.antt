@@ -84,9 +84,6 @@ module _ (threads : ℕ) (f : Profile) (keeper line k other name heap size align
     lists_are : triples keeper t.steps ++ p.list ≡ triples keeper (h.raise.after ++ xs) ++ pm.list
     lists_are = cc (sweep_and_raise_are_the_try f keeper r p t known.taken.valid keeps known.taken.before uncached h legal)
 
-    book_before : pm.books keeper ≡ h.left
-    book_before = own_book p.books keeper h.left
-
     -- the records after those of the sweep
     abbrev own_events : List Event
     own_events = events_by keeper (part keeper pm.list) (h.raise.after ++ xs)
@@ -119,7 +116,7 @@ module _ (threads : ℕ) (f : Profile) (keeper line k other name heap size align
 
     -- The guard was raised on the run that was found.
     run : IsRaised f d n (before.books keeper) guards' h.raise.searched h.raise.after block
-    run = subst (λ (gs : List BookGuard). IsRaised f d n gs guards' h.raise.searched h.raise.after block) (sym (book_before t h there.legal)) h.raise.outcome
+    run = subst (λ (gs : List BookGuard). IsRaised f d n gs guards' h.raise.searched h.raise.after block) (sym (own_book p.books keeper h.left)) h.raise.outcome
 
     said_is : said_of_guard keeper name n (Some block) ≡ Record.Said keeper (Said.Guarded run.first (run.first + n + 1) name) ∷ []
     said_is =
@@ -203,13 +200,9 @@ module _ (threads : ℕ) (f : Profile) (keeper line k other name heap size align
       record { same = both.0; indexes_are = both.1 }
 
 -- ---- THE ACT
--- only a guarded request is planned for a keeper
-by_what : (threads : ℕ) (f : Profile) (keeper line k : ℕ) (what : What)
+-- A guarded request leads the text to the replay's state, with its indexes; no other is planned for a keeper.
+pub by_what : (threads : ℕ) (f : Profile) (keeper line k : ℕ) (what : What)
     → KeepsSame threads f (Act.Guards keeper (record { line = line; actor = k; what = what }))
 by_what threads f keeper line k (What.Guarded other name heap size align) p p' w indexes known =
     guarded_kept threads f keeper line k other name heap size align p p' w indexes known
 by_what threads f keeper line k what p p' w indexes known = search arith
-
--- A guarded request leads the text to the replay's state, with its indexes.
-pub guards_keep : (threads : ℕ) (f : Profile) (keeper : ℕ) (op : Op) → KeepsSame threads f (Act.Guards keeper op)
-guards_keep threads f keeper op = by_what threads f keeper op.line op.actor op.what
