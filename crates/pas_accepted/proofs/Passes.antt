@@ -1,47 +1,65 @@
 -- The lines of a pass: what came of its pages; and those of a sweep, by which a keeper lowers guards.
-use Rattle.std.proofs.Common.{◌≡◌, ◌≢◌, ℕ, ◌-◌, ◌^◌, ◌<◌, Bool, true, false, List, [], ◌∷◌, ◌++◌, Option, Some, None, inl, inr, refl, ap, ◌∙◌, subst, arith}
-use Rattle.std.proofs.Common.{zero, suc, ◌+◌, ◌*◌, ◌≤◌, if◌then◌else◌, sym, append-nil, map, reverse, ◌/◌, ◌%◌, ◌||◌, not}
-use Rattle.pas_profile.specs.{Directories.deed_word_of, Profiles.IsValid, Profiles.vector_words, Blocks.address_of, Lives.turn_of, Guards.guards_of}
-use Rattle.pas_profile.specs.{Guards.raised_by}
-use Rattle.pas_profile.specs.declared.{directory.Directory.Directory, event.Outcome.Outcome, profile.Profile.Profile, word.Word.Word, event.Event.Event}
-use Rattle.pas_profile.specs.declared.{guard.Raised.Raised, guard.Guard.Guard}
+use Rattle.std.proofs.Common.{◌≡◌, ◌≢◌, ℕ, ◌-◌, ◌^◌, ◌<◌, Bool, true, false, List, [], ◌∷◌, ◌++◌, Option, Some, None, inl, inr, refl, ap, ◌∙◌, subst, arith, zero, suc, ◌+◌, ◌*◌, ◌≤◌, if◌then◌else◌, sym, append-nil, map, reverse, ◌/◌, ◌%◌, ◌||◌, not}
+use Rattle.pas_profile.specs.Directories.{deed_word_of}
+use Rattle.pas_profile.specs.Profiles.{IsValid, vector_words}
+use Rattle.pas_profile.specs.Blocks.{address_of}
+use Rattle.pas_profile.specs.Lives.{turn_of}
+use Rattle.pas_profile.specs.Guards.{guards_of, raised_by}
+use Rattle.pas_profile.specs.declared.directory.Directory.{Directory}
+use Rattle.pas_profile.specs.declared.event.Outcome.{Outcome}
+use Rattle.pas_profile.specs.declared.profile.Profile.{Profile}
+use Rattle.pas_profile.specs.declared.word.Word.{Word}
+use Rattle.pas_profile.specs.declared.event.Event.{Event}
+use Rattle.pas_profile.specs.declared.guard.Raised.{Raised}
+use Rattle.pas_profile.specs.declared.guard.Guard.{Guard}
 use Rattle.pas_profile.specs.declared.event.Outcome.TheVariants.{Unbacked, Bare, Young, InUse, NotOffered}
 use Rattle.pas_profile.proofs.Codecs.{deed_word_of-positive}
 use Rattle.pas_machine.specs.Machine.{Run}
 use Rattle.pas_machine.specs.State.{backed_in, deed_in, epoch_in, ends_in, gives_in, live_in}
 use Rattle.pas_core.specs.Good.{word_of_backed, word_of_deed}
-use Rattle.pas_core.proofs.{Deeds.backed_of, Deeds.deed_of, MachineRuns.runs, OneActor.legal_earlier}
+use Rattle.pas_core.proofs.Deeds.{backed_of, deed_of}
+use Rattle.pas_core.proofs.MachineRuns.{runs}
+use Rattle.pas_core.proofs.OneActor.{legal_earlier}
 use Rattle.pas_core.proofs.Lives.{stamps_are_ends, words_fit, life_at, turn_is}
-use Rattle.pas_steps.specs.{Desks.made, Desks.triples, Desks.triple, Kinds.Only, Kinds.Taking, Kinds.LookLife, Views.all_ones, Views.known_epoch, InTurn.InTurn}
-use Rattle.pas_steps.specs.{InTurn.numbers_below, Effects.life_word_at}
+use Rattle.pas_steps.specs.Desks.{made, triples, triple}
+use Rattle.pas_steps.specs.Kinds.{Only, Taking, LookLife, LookFree}
+use Rattle.pas_steps.specs.Views.{all_ones, known_epoch}
+use Rattle.pas_steps.specs.InTurn.{InTurn, numbers_below}
+use Rattle.pas_steps.specs.Effects.{life_word_at}
 use Rattle.pas_steps.specs.Lists.{Legal, Whole, part, visible, word_after}
-use Rattle.pas_steps.specs.declared.step.{Made.Made, Step.TheVariants.Look, Step.TheVariants.Unhint, Step.TheVariants.Take}
+use Rattle.pas_steps.specs.declared.step.Made.{Made}
+use Rattle.pas_steps.specs.declared.step.Step.TheVariants.{Look, Unhint, Take}
 use Rattle.pas_steps.proofs.Apart.{no_events, only_both, only_within, epoch_same}
-use Rattle.pas_rights.specs.{Takes.takes, Looks.AreUsed, Looks.IsUsed, Words.ones, PutsBack.giving_back}
+use Rattle.pas_rights.specs.Takes.{takes}
+use Rattle.pas_rights.specs.Looks.{AreUsed, IsUsed, looks_until}
+use Rattle.pas_rights.specs.Words.{ones}
+use Rattle.pas_rights.specs.PutsBack.{giving_back}
 use Rattle.pas_rights.proofs.Orders.{until_only}
-use Rattle.pas_scavenger.specs.{Readings.takes_until, Judgements.used_at}
+use Rattle.pas_scavenger.specs.Readings.{takes_until}
+use Rattle.pas_scavenger.specs.Judgements.{used_at}
 use Rattle.pas_scavenger.specs.Pages.{EndsWith, EndsWithout, ExamineSteps, first_looks, quiet, unback_of, examining}
 use Rattle.pas_scavenger.proofs.Examinations.{asks_sized, examine_event, taken_on, takes_are, examine_sized, outcomes_append}
 use Rattle.pas_answers.proofs.Consequences.{parts_kept, tidy_piece, Tidy, tidy_over, look_tidy, sweep_tidy}
 use Rattle.pas_answers.proofs.Reached.{Each}
 use Rattle.pas_check.specs.States.{Examines, Stand, with_due, Does, Task, Due}
 use Rattle.pas_check.specs.Takes.{MayCome, after_outcome, record_of as allowed_record}
-use Rattle.pas_accepted.proofs.Telling.{visible_piece, LeadsOn, on_as, on_both, on_line, on_same, lines_both, lines_by, on_past, on_task, Comes, Tells}
-use Rattle.pas_accepted.proofs.Telling.{AreAligned, going, is_down, staying, booked_sweep, going_told}
+use Rattle.pas_accepted.proofs.Telling.{visible_piece, LeadsOn, on_as, on_both, on_line, on_same, lines_both, lines_by, on_past, on_task, Comes, Tells, AreAligned, going, is_down, staying, booked_sweep, going_told}
 use Rattle.std.proofs.lemmas.List.{map-append, reverse-append, reverse-reverse}
 use Rattle.pas_bits.specs.Bits.{has_bit}
-use Rattle.pas_steps.proofs.{Parts.part_of_own, Adding.triples_append}
-use Rattle.pas_answers.specs.{PassRecords.record_of, PassRecords.records_of_pass, Answers.Progress, Answers.after_pass, Guarding.IsLowered}
-use Rattle.pas_answers.specs.{Guarding.after_lowering}
-use Rattle.pas_scavenger.specs.Passes.{TriedSteps, TrySteps, Tried, WordRead, WordSteps, all_tried, outcomes_in, pages_set, trying, with_outcome, PassSteps}
-use Rattle.pas_scavenger.specs.Passes.{passing}
+use Rattle.pas_steps.proofs.Parts.{part_of_own}
+use Rattle.pas_steps.proofs.Adding.{triples_append}
+use Rattle.pas_answers.specs.PassRecords.{record_of, records_of_pass}
+use Rattle.pas_answers.specs.Answers.{Progress, after_pass}
+use Rattle.pas_answers.specs.Guarding.{IsLowered, after_lowering}
+use Rattle.pas_scavenger.specs.Passes.{TriedSteps, TrySteps, Tried, WordRead, WordSteps, all_tried, outcomes_in, pages_set, trying, with_outcome, PassSteps, passing}
 use Rattle.pas_trace.specs.Acts.{MakesPass, Lowers}
 use Rattle.pas_check.proofs.Ticks.{epoch_kept}
 use Rattle.std.specs.List.{filter}
 use Rattle.pas_check.specs.Begins.{lowered_due, lowered_record, goes_down, sweeping}
 use Rattle.pas_guard.specs.Sweeps.{Swept, SweptOne, is_over, life_look, lowered_record as lowered_by, sweeping as sweeping_kinds}
 use Rattle.pas_records.specs.Lines.{line_of}
-use Rattle.pas_records.specs.declared.record.{Record.Record, Said.Said}
+use Rattle.pas_records.specs.declared.record.Record.{Record}
+use Rattle.pas_records.specs.declared.record.Said.{Said}
 
 -- ---- What comes of a page in a pass may come there
 -- steps without an event leave what is visible
@@ -50,7 +68,8 @@ quiet_visible steps l only = visible_piece 0 steps l ∙ ap (λ es. es ++ visibl
 
 -- ---- what a word that was read says
 none_backed : (b : Bool) → 0 ≡ word_of_backed b → b ≡ false
-none_backed b is = search arith
+none_backed true is = absurd (omega (arith, is))
+none_backed false is = refl
 
 bare_at : (f : Profile) (l : Whole) (page : ℕ) → Legal f l → 0 ≡ word_after l (Word.Backed page) → backed_in (visible l) page ≡ false
 bare_at f l page legal read = none_backed (backed_in (visible l) page) (read ∙ backed_of f l legal page)
@@ -75,7 +94,7 @@ pub record MayPass (s : Stand) (l : Whole) : Type 0 where
   pub known : known_epoch (part 0 l) ≡ Some s.epoch
 
 first_quiet : (page b : ℕ) → Only quiet (first_looks page b None)
-first_quiet page b = search (arith, only_both, only_within, until_only)
+first_quiet page b = only_both quiet (looks_until page None) (made (Look (Word.Backed page)) b ∷ []) (only_within (LookFree ∷ []) quiet (looks_until page None) refl (until_only page None)) (refl, tt)
 
 module _ (f : Profile) (valid : IsValid f) (s : Stand) (l : Whole) (may : MayPass s l) (page last : ℕ) (after : List Made)
     (legal : Legal f (triples 0 after ++ l)) where
@@ -129,7 +148,8 @@ module _ (f : Profile) (valid : IsValid f) (s : Stand) (l : Whole) (may : MayPas
 
   -- THE OUTCOME of the page
   outcome_may : (outcome : Outcome) → ExamineSteps f.age s.epoch page outcome after → MayCome f (at_pass s l last) page outcome
-  outcome_may outcome is = search (arith, without, with_right, runs, outcome_shown)
+  outcome_may outcome (inl h) = without outcome h
+  outcome_may outcome (inr h) = with_right outcome h (runs f (triples 0 after ++ l) valid legal) (outcome_shown outcome (inr h))
 
 -- ---- The pages of a pass, tried one after the other: their outcomes rise, and each may come
 -- ---- what a pass keeps
@@ -170,11 +190,13 @@ record IsTried (f : Profile) (s : Stand) (l : Whole) (page last : ℕ) (o : Opti
 
 -- in each case it computes, or is given
 same_record : (epoch page : ℕ) (o : Outcome) → record_of 0 epoch page o ≡ allowed_record epoch page o
-same_record epoch page o = search arith
+same_record epoch page Unbacked = refl
+same_record epoch page other = refl
 
 -- in each case it computes, or is given
 then_is : (s : Stand) (page : ℕ) (o : Outcome) → after_outcome s page o ≡ record s { events = unback_of 0 s.epoch page o ++ s.events }
-then_is s page o = search arith
+then_is s page Unbacked = refl
+then_is s page other = refl
 
 try_page : (f : Profile) → IsValid f → (s : Stand) (l : Whole) (page last : ℕ) (o : Option Outcome) (steps : List Made) → MayPass s l → (1 ≤ page → last < page)
     → Legal f (triples 0 steps ++ l) → TrySteps f.age s.epoch page o steps
@@ -220,7 +242,8 @@ pub record Passed (f : Profile) (s : Stand) (l : Whole) (first high : ℕ) (foun
 
 -- in each case it computes, or is given
 below_after : (o : Option Outcome) (page last high : ℕ) → page < high → Below page last → Below high (last_after o page last)
-below_after o page last high lt below x le is = search arith
+below_after None page last high lt below x le some = below x (omega (arith, lt, le)) some
+below_after (Some o) page last high lt below x le some = omega (arith, lt, le)
 
 none_passed : (f : Profile) (s : Stand) (l : Whole) (first high : ℕ) (steps : List Made) → Below high first → steps ≡ [] → Passed f s l first high [] steps
 none_passed f s l first high steps below none = record {
@@ -259,7 +282,8 @@ raised low high more [] le falls = tt
 raised low high more (x ∷ xs) le falls = (falls.0, (omega (arith, falls.1, le)), falls.2)
 
 set_more : (t : Bool) (n m : ℕ) (xs : List ℕ) → Descends (64 * n) (64 * n + m) xs → Descends (64 * n) (64 * n + suc m) (if t then (64 * n + m) ∷ xs else xs)
-set_more t n m xs falls = search (arith, raised)
+set_more true n m xs falls = (omega arith, omega arith, falls)
+set_more false n m xs falls = raised (64 * n) (64 * n + m) (64 * n + suc m) xs (omega arith) falls
 
 set_falls : (n value m : ℕ) → Descends (64 * n) (64 * n + m) (pages_set n value m)
 set_falls n value zero = tt
@@ -391,7 +415,9 @@ module _ (f : Profile) (valid : IsValid f) (k : ℕ) where
       ap visible (sym (triples_append k first (life_look guard word) l)) ∙ visible_piece k first (triples k (life_look guard word) ++ l)
       ∙ ap (λ (es : List Event). es ++ visible (triples k (life_look guard word) ++ l)) (no_events giving_back refl k (part k (triples k (life_look guard word) ++ l)) first one.0.kinds)
       ∙ visible_piece k (life_look guard word) l ∙ ap (λ (es : List Event). es ++ visible l) (no_events (LookLife ∷ []) refl k (part k l) (life_look guard word) (refl, tt))
-  quiet_one false guard first kept after said more word l one = search (arith, visible_piece, no_events)
+  quiet_one false guard first kept after said more word l one =
+      ap (λ (ms : List Made). visible (triples k (ms ++ life_look guard word) ++ l)) one.0
+      ∙ visible_piece k (life_look guard word) l ∙ ap (λ (es : List Event). es ++ visible l) (no_events (LookLife ∷ []) refl k (part k l) (life_look guard word) (refl, tt))
 
   -- THE SWEEP
   pub swept_is : (all : Bool) (guards kept : List Guard) (said : List Record) (steps : List Made) (l : Whole) (es : List Event) → visible l ≡ es

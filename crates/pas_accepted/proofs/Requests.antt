@@ -1,44 +1,65 @@
 -- Requests, frees, blocks that get another size, and requests that are guarded: deeds and backs, and then the give of its block or a refusal, which is true.
-use Rattle.std.proofs.Common.{arith, ◌≡◌, ℕ, ◌/◌, Bool, true, false, List, [], ◌∷◌, ◌++◌, Option, Some, None, Result, Ok, Err, inl, inr, refl, ap, sym, ◌∙◌}
-use Rattle.std.proofs.Common.{subst, append-nil, MatchResult, ◌%◌, ◌||◌, map, nat_le, length, eq-eqb, le-leb, leb-true, ne_eqb, ◌⊎◌, append_assoc, reverse}
-use Rattle.std.proofs.Common.{MatchOption, ◌+◌, ◌*◌}
+use Rattle.std.proofs.Common.{arith, ◌≡◌, ℕ, ◌/◌, Bool, true, false, List, [], ◌∷◌, ◌++◌, Option, Some, None, Result, Ok, Err, inl, inr, refl, ap, sym, ◌∙◌, subst, append-nil, MatchResult, ◌%◌, ◌||◌, map, nat_le, length, eq-eqb, le-leb, leb-true, ne_eqb, ◌⊎◌, append_assoc, reverse, MatchOption, ◌+◌, ◌*◌, ◌≢◌}
 use Rattle.std.specs.List.{AllByRecursion}
 use Rattle.pas_bits.specs.Runs.{in_run}
-use Rattle.pas_profile.specs.{Blocks.grain_of, Blocks.length_of, Blocks.address_of, Directories.IsKind, Directories.deed_word_of, Profiles.IsValid}
-use Rattle.pas_profile.specs.{Profiles.IsPage, Requests.is_shared, Requests.kind_of_route, Requests.route_in, Entries.sized_entry, Entries.entry_of}
-use Rattle.pas_profile.specs.{Guards.raised_by}
-use Rattle.pas_profile.specs.declared.{directory.Directory.Directory, directory.Route.Route, event.Event.Event, event.NoRoom.NoRoom}
-use Rattle.pas_profile.specs.declared.{event.NoRoom.TheVariants.Held, event.NoRoom.TheVariants.NoSpace, name.Block.Block, name.Name.Name}
-use Rattle.pas_profile.specs.declared.{profile.Profile.Profile, word.Word.Word, event.FreeFault.FreeFault, entry.Entry.Entry, guard.Raised.Raised}
-use Rattle.pas_profile.specs.declared.{guard.Guard.Guard}
-use Rattle.pas_profile.proofs.{Sizes.class_known, Sizes.class_suits, Codecs.deed_word_of-positive, Codecs.same_from_deed_word}
-use Rattle.pas_machine.specs.{Machine.Run, State.deed_in}
+use Rattle.pas_profile.specs.Blocks.{grain_of, length_of, address_of}
+use Rattle.pas_profile.specs.Directories.{IsKind, deed_word_of}
+use Rattle.pas_profile.specs.Profiles.{IsValid, IsPage}
+use Rattle.pas_profile.specs.Requests.{is_shared, kind_of_route, route_in}
+use Rattle.pas_profile.specs.Entries.{sized_entry, entry_of}
+use Rattle.pas_profile.specs.Guards.{raised_by}
+use Rattle.pas_profile.specs.declared.directory.Directory.{Directory}
+use Rattle.pas_profile.specs.declared.directory.Route.{Route}
+use Rattle.pas_profile.specs.declared.event.Event.{Event}
+use Rattle.pas_profile.specs.declared.event.NoRoom.{NoRoom}
+use Rattle.pas_profile.specs.declared.event.NoRoom.TheVariants.{Held, NoSpace}
+use Rattle.pas_profile.specs.declared.name.Block.{Block}
+use Rattle.pas_profile.specs.declared.name.Name.{Name}
+use Rattle.pas_profile.specs.declared.profile.Profile.{Profile}
+use Rattle.pas_profile.specs.declared.word.Word.{Word}
+use Rattle.pas_profile.specs.declared.event.FreeFault.{FreeFault}
+use Rattle.pas_profile.specs.declared.entry.Entry.{Entry}
+use Rattle.pas_profile.specs.declared.guard.Raised.{Raised}
+use Rattle.pas_profile.specs.declared.guard.Guard.{Guard}
+use Rattle.pas_profile.proofs.Sizes.{class_known, class_suits}
+use Rattle.pas_profile.proofs.Codecs.{deed_word_of-positive, same_from_deed_word}
+use Rattle.pas_machine.specs.Machine.{Run}
+use Rattle.pas_machine.specs.State.{deed_in}
 use Rattle.pas_core.specs.Good.{word_of_deed}
-use Rattle.pas_core.proofs.{Deeds.deed_of, Deeds.directory_is_of, Deeds.known_is, MachineRuns.runs, Rights.deeds_known, OneActor.legal_earlier}
-use Rattle.pas_steps.specs.{Desks.triples, Events.actor_of, Events.events_by, Views.KnowsDeed}
+use Rattle.pas_core.proofs.Deeds.{deed_of, directory_is_of, known_is}
+use Rattle.pas_core.proofs.MachineRuns.{runs}
+use Rattle.pas_core.proofs.Rights.{deeds_known}
+use Rattle.pas_core.proofs.OneActor.{legal_earlier}
+use Rattle.pas_steps.specs.Desks.{triples}
+use Rattle.pas_steps.specs.Events.{actor_of, events_by}
+use Rattle.pas_steps.specs.Views.{KnowsDeed, known_deed}
 use Rattle.pas_steps.specs.Kinds.{LookLife, Backing, Giving, returning}
 use Rattle.pas_steps.specs.Lists.{Legal, Whole, part, visible, word_after}
 use Rattle.pas_steps.specs.declared.step.Made.{Made}
-use Rattle.pas_steps.proofs.{Events.events_own, Parts.part_of_own, Adding.triples_append, Frames.events_append}
+use Rattle.pas_steps.proofs.Events.{events_own}
+use Rattle.pas_steps.proofs.Parts.{part_of_own}
+use Rattle.pas_steps.proofs.Adding.{triples_append}
+use Rattle.pas_steps.proofs.Frames.{events_append}
 use Rattle.pas_search.specs.Telling.{IsTrueReason}
-use Rattle.pas_cache.specs.{Refusals.IsTrulyRefused, Refusals.IsTrulyRefusedBy, Caches.Cached, Calls.RefusesName, Calls.TakesEntry, Changes.EmptiesFull}
-use Rattle.pas_cache.specs.{Kinds.allocating}
+use Rattle.pas_cache.specs.Refusals.{IsTrulyRefused, IsTrulyRefusedBy}
+use Rattle.pas_cache.specs.Caches.{Cached}
+use Rattle.pas_cache.specs.Calls.{RefusesName, TakesEntry}
+use Rattle.pas_cache.specs.Changes.{EmptiesFull}
+use Rattle.pas_cache.specs.Kinds.{allocating}
 use Rattle.pas_cache.specs.Serves.{IsDeedOf, Wanted, IsPreparing as Prepares, ServesBy, pages_of}
 use Rattle.pas_segregated.specs.declared.slots.Slots.{Slots}
-use Rattle.pas_trace.specs.declared.{item.Request.Request, plan.What.TheVariants.Alloc}
-use Rattle.pas_answers.specs.Answers.{IsGiven, RefusalEnds, RequestEnds, block_of, records_of, said_by, said_of_request, said_of_room, wanted_by, Answer}
-use Rattle.pas_answers.specs.Answers.{IsFreed, IsFreedBy, Progress, after_answer, room_noted, said_of_fault, Caches, IsKept, IsRemadeBy, IsReplaced, IsServed}
-use Rattle.pas_answers.specs.Answers.{having, request_for, with_cache, with_book}
-use Rattle.pas_check.specs.Begins.{is_full, logging, replacing, freeing, freeing_at, freeing_named, is_aligned, is_page, tells as saying, remaking}
-use Rattle.pas_check.specs.Begins.{remaking_named, suits, guard_of, has_sides, page_above, page_below, raising, sweeping}
-use Rattle.pas_check.specs.{Calls.after_request, Accepted.IsDone, Accepted.IsWhole}
+use Rattle.pas_trace.specs.declared.item.Request.{Request}
+use Rattle.pas_trace.specs.declared.plan.What.TheVariants.{Alloc}
+use Rattle.pas_answers.specs.Answers.{IsGiven, RefusalEnds, RequestEnds, block_of, records_of, said_by, said_of_request, said_of_room, wanted_by, Answer, IsFreed, IsFreedBy, Progress, after_answer, room_noted, said_of_fault, Caches, IsKept, IsRemadeBy, IsReplaced, IsServed, having, request_for, with_cache, with_book}
+use Rattle.pas_check.specs.Begins.{is_full, logging, replacing, freeing, freeing_at, freeing_named, is_aligned, is_page, tells as saying, remaking, remaking_named, suits, guard_of, has_sides, page_above, page_below, raising, sweeping}
+use Rattle.pas_check.specs.Calls.{after_request}
+use Rattle.pas_check.specs.Accepted.{IsDone, IsWhole}
 use Rattle.pas_check.specs.Takes.{IsRefusal, directory_of, Takes, is_back, IsServing, block_in, given_next, kept_next}
 use Rattle.pas_check.specs.States.{Due, Serves, Stand, with_due, with_name, Task, Tries, with_one}
-use Rattle.pas_accepted.proofs.Telling.{LeadsOn, on_as, on_both, on_line, on_same, lines_both, lines_by, lines_more, shown_is, flush_only, flush_leads, emptied}
-use Rattle.pas_accepted.proofs.Telling.{logs_with, table_same, own_at, put_twice, Comes, Tells, told_after, piece_of, AreBooked, booked_raise, booked_sweep}
-use Rattle.pas_accepted.proofs.Telling.{after_piece}
+use Rattle.pas_accepted.proofs.Telling.{LeadsOn, on_as, on_both, on_line, on_same, lines_both, lines_by, lines_more, shown_is, flush_only, flush_leads, emptied, logs_with, table_same, own_at, put_twice, Comes, Tells, told_after, piece_of, AreBooked, booked_raise, booked_sweep, after_piece}
 use Rattle.pas_rights.specs.Gives.{give_steps}
-use Rattle.std.proofs.lemmas.{Bool.and_from, Bool.and_parts, Bool.false_from_ne_true, List.map-append, List.reverse-append}
+use Rattle.std.proofs.lemmas.Bool.{and_from, and_parts, false_from_ne_true}
+use Rattle.std.proofs.lemmas.List.{map-append, reverse-append}
 use Rattle.pas_free_log.specs.Frames.{freeing as freeing_kinds}
 use Rattle.pas_answers.proofs.Consequences.{Tidy, answer_tidy, tidy_piece, try_tidy}
 use Rattle.pas_check.proofs.Ticks.{epoch_kept}
@@ -51,8 +72,10 @@ use Rattle.pas_guard.specs.Seeks.{seeking}
 use Rattle.pas_guard.proofs.Raises.{raised_backs, raised_leaves}
 use Rattle.pas_answers.specs.Guarding.{IsTried, Tried, TryEnds, after_giving, after_trying, said_of_guard}
 use Rattle.pas_accepted.proofs.Passes.{swept_is, IsSwept, sweep_leads, up_after}
-use Rattle.pas_records.specs.declared.record.{Record.Record, Said.Said}
+use Rattle.pas_records.specs.declared.record.Record.{Record}
+use Rattle.pas_records.specs.declared.record.Said.{Said}
 use Rattle.pas_records.specs.Lines.{line_of_event}
+use Rattle.pas_guard.specs.Sweeps.{sweeping as sweeping_kinds}
 
 -- ---- A request: deeds and backs, and then the give of its block or a refusal, which is true
 -- ---- the directory of a request
@@ -65,17 +88,20 @@ kind_asked f r = kind_routed f r.size r.align (is_shared f r.heap) (route_in f r
 
 directory_told : (o : Option Directory) (d : Directory) → IsKind d.kind → ((x : Directory) → o ≡ Some x → IsKind x.kind) → word_of_deed o ≡ deed_word_of d
     → o ≡ Some d
-directory_told o d is all word = search (arith, deed_word_of-positive, same_from_deed_word)
+directory_told None d is all word = absurd (deed_word_of-positive d (sym word))
+directory_told (Some x) d is all word = ap (λ y. Some y) (same_from_deed_word x d (all x refl) is word)
 
 -- a deed word of this directory is the page's deed
 deed_told : (f : Profile) (l : Whole) (page : ℕ) (d : Directory) → Legal f l → IsKind d.kind → word_after l (Word.Deed page) ≡ deed_word_of d
     → deed_in (visible l) page ≡ Some d
-deed_told f l page d legal is word = search (arith, directory_told, directory_is_of, deed_of)
+deed_told f l page d legal is word = directory_told (deed_in (visible l) page) d is (λ x found. (directory_is_of f l legal page x found).kind) (sym (deed_of f l legal page) ∙ word)
 
 -- A deed that a view knows is the one of the events.
 deed_known : (f : Profile) (l : Whole) (k page : ℕ) (d : Directory) → Legal f l → IsKind d.kind → KnowsDeed page d (part k l)
     → deed_in (visible l) page ≡ Some d
-deed_known f l k page d legal is knows = search (arith, deed_word_of-positive, deed_told, known_is, deeds_known)
+deed_known f l k page d legal is knows =
+    let some : known_deed (part k l) page ≢ 0 = λ none. deed_word_of-positive d (sym knows ∙ none) in
+    deed_told f l page d legal is (sym (known_is (known_deed (part k l) page) (word_after l (Word.Deed page)) (deeds_known f l legal k page) some) ∙ knows)
 
 -- ---- deeds and backs
 -- where the request goes on, after these events
@@ -112,12 +138,14 @@ all_deeds d [] all = tt
 all_deeds d (e ∷ es) all = (deeds_prepare d e all.0, all_deeds d es all.1)
 
 refusal_prepares : (route : Route) (d : Directory) (es : List Event) → RefusalEnds route d es → AllByRecursion (Prepares d) es
-refusal_prepares route d es all = search (arith, all_deeds)
+refusal_prepares Route.Large d es all = all_deeds d es all
+refusal_prepares other d es none = subst (AllByRecursion (Prepares d)) (sym none) tt
 
 -- in each case it computes, or is given
 reason_by : (route : Route) (f : Profile) (w : Wanted) (locals : List Slots) (entry exit : Whole) (room : NoRoom)
     → IsTrulyRefusedBy route f w locals entry exit room → IsTrueReason f w.directory exit room
-reason_by route f w locals entry exit room h = search arith
+reason_by Route.Large f w locals entry exit room h = h.2
+reason_by other f w locals entry exit room h = h.reason
 
 -- after the request
 abbrev pub served : Stand → ℕ → Request → Option Name → Result Block NoRoom → List Event → Stand
@@ -126,14 +154,17 @@ served w k r replaced answer es = after_request (record w { events = es }) k r r
 -- where nothing is replaced, its name stands for the block, or for nothing
 pub served_plain : (w : Stand) (k : ℕ) (r : Request) (answer : Result Block NoRoom) (es : List Event)
     → served w k r None answer es ≡ record w { events = es; names = record { name = r.name; block = block_of answer } ∷ w.names; due = [] }
-served_plain w k r answer es = search arith
+served_plain w k r (Ok block) es = refl
+served_plain w k r (Err room) es = refl
 
 -- what was due before doesn't matter then
 logged_apart : (full : Bool) (v : Stand) (k : ℕ) (entry : Entry) (due : List Due) → logging full (with_due v due) k entry [] ≡ logging full v k entry []
-logged_apart full v k entry due = search arith
+logged_apart true v k entry due = refl
+logged_apart false v k entry due = refl
 
 due_apart : (replaced : Option Name) (v : Stand) (k : ℕ) (due : List Due) → replacing replaced (with_due v due) k [] ≡ replacing replaced v k []
-due_apart replaced v k due = search (arith, logged_apart)
+due_apart None v k due = refl
+due_apart (Some old) v k due = logged_apart (is_full v k) v k (unsized old) due
 
 module _ (f : Profile) (valid : IsValid f) (w : Stand) (k : ℕ) (r : Request) (replaced : Option Name) (l : Whole) (steps : List Made)
     (events : w.events ≡ visible l) (legal : Legal f (triples k steps ++ l)) where
@@ -200,7 +231,8 @@ page_is : (f : Profile) (page : ℕ) → IsPage f page → is_page f page ≡ tr
 page_is f page is = and_from (nat_le 1 page) (nat_le page f.pages) (le-leb 1 page is.0) (le-leb page f.pages is.1)
 
 page_isnt : (f : Profile) (page : ℕ) → (IsPage f page → ⊥) → is_page f page ≡ false
-page_isnt f page isnt = search (arith, false_from_ne_true, and_parts, leb-true)
+page_isnt f page isnt =
+    false_from_ne_true (is_page f page) (λ t. let both = and_parts (nat_le 1 page) (nat_le page f.pages) t in isnt (leb-true 1 page both.0, leb-true page f.pages both.1))
 
 -- nothing is said besides
 pub silent_lines : (k : ℕ) (said : Option Said) (rs : List Record) → said ≡ None → lines_by (rs ++ said_by k said) ≡ lines_by rs
@@ -264,7 +296,13 @@ module _ (f : Profile) (valid : IsValid f) (p : Progress) (s : Stand) (ts : List
   fault_comes : (entry : Entry) (fault : FreeFault) → RefusesName f (p.caches k) a.cache entry.name a.steps fault
       → a.said ≡ Some (said_of_fault entry.name fault) → LeadsOn f s [] (record (freeing f s k entry) { left = ts })
       → Comes f s (records_of (events_by k (part k p.list) a.steps) ++ said_by k a.said) (after_answer p k a) ts
-  fault_comes entry fault h said begun = search (arith, page_isnt, said_comes, on_as, page_is, ne_eqb)
+  fault_comes entry FreeFault.Outside h said begun =
+      let there = ap (λ x. record (freeing_at x (is_aligned entry.name) s k entry) { left = ts }) (page_isnt f (address_of entry.name / 4096) h.fault_is) in
+      said_comes (Said.Outside entry.name) h.no_steps h.cache said (on_as refl (sym there) begun)
+  fault_comes entry FreeFault.Unaligned h said begun =
+      let there = ap (λ x. record (freeing_at x (is_aligned entry.name) s k entry) { left = ts }) (page_is f (address_of entry.name / 4096) h.fault_is.0)
+      ∙ ap (λ x. record (freeing_at true x s k entry) { left = ts }) (ne_eqb (address_of entry.name % 16) 0 h.fault_is.1) in
+      said_comes (Said.Unaligned entry.name) h.no_steps h.cache said (on_as refl (sym there) begun)
 
   -- The lines of a free lead the check to what the free comes to.
   pub free_comes : (entry : Entry) → IsFreed f k (p.caches k) a.cache entry a.steps a.said
@@ -290,7 +328,8 @@ module _ (f : Profile) (valid : IsValid f) (p : Progress) (s : Stand) (ts : List
 -- no request changes when its thread read the epoch
 idle_kept : (f : Profile) (wanted : Wanted) (found : Option ℕ) (c c' : Cached) (steps : List Made) (answer : Result Block NoRoom) (route : Route)
     → ServesBy route f wanted found c c' steps answer → c'.idle_since ≡ c.idle_since
-idle_kept f wanted found c c' steps answer route h = search arith
+idle_kept f wanted found c c' steps answer (Route.Class class) h = ap (λ (d : Cached). d.idle_since) h.cache
+idle_kept f wanted found c c' steps answer route h = ap (λ (d : Cached). d.idle_since) h.cache
 
 -- ---- what a check knows after a request
 module _ (f : Profile) (p : Progress) (s : Stand) (ts : List Task) (tells : Tells p s) (k : ℕ) (r : Request) (placed : Answer)
@@ -311,7 +350,8 @@ module _ (f : Profile) (p : Progress) (s : Stand) (ts : List Task) (tells : Tell
 -- in each case it computes, or is given
 logged_state : (full : Bool) (v : Stand) (k : ℕ) (entry : Entry)
     → record (logging full (record v { due = [] }) k entry []) { left = v.left } ≡ logging full v k entry []
-logged_state full v k entry = search arith
+logged_state true v k entry = refl
+logged_state false v k entry = refl
 
 records_both : (xs ys : List Event) → records_of (xs ++ ys) ≡ records_of ys ++ records_of xs
 records_both xs ys = ap (λ (es : List Event). map Record.Event es) (reverse-append xs ys) ∙ map-append Record.Event (reverse ys) (reverse xs)
@@ -397,7 +437,7 @@ module _ (f : Profile) (valid : IsValid f) (p : Progress) (s : Stand) (ts : List
     part_is = part_of_own k placed.steps p.list
 
     tidy_freed : Tidy (freed ++ part k p1.list)
-    tidy_freed = search (arith, append_assoc, part_is)
+    tidy_freed = subst Tidy (ap (λ ms. ms ++ part k p.list) steps_are ∙ append_assoc freed placed.steps (part k p.list) ∙ ap (λ (v : List Made). freed ++ v) (sym part_is)) tidy
 
     -- The check's state tells of the replay's after the request.
     tells1 : Tells p1 s1
@@ -525,7 +565,8 @@ module _ (f : Profile) (w : Stand) (keeper k : ℕ) (r : Request) (es : List Eve
 
   -- in each case it computes, or is given
   taken_by : (line : List ℕ) (next : Stand) → Takes f by_thread line next → Takes f (trying w keeper k r false es) line next
-  taken_by line next is = search arith
+  taken_by line next (inl none) = absurd none
+  taken_by line next (inr takes) = inr (inr (refl, takes))
 
   on_thread : LeadsOn f (trying w keeper k r false es) [] by_thread
   on_thread = record { on = past }
@@ -617,7 +658,7 @@ epoch_both : (k : ℕ) (steps ys xs : List Made) (l : Whole) → steps ≡ ys ++
     → word_after (triples k ys ++ (triples k xs ++ l)) Word.Epoch ≡ word_after (triples k xs ++ l) Word.Epoch
     → word_after (triples k xs ++ l) Word.Epoch ≡ word_after l Word.Epoch
     → word_after (triples k steps ++ l) Word.Epoch ≡ word_after l Word.Epoch
-epoch_both k steps ys xs l are later earlier = search (arith, triples_append)
+epoch_both k steps ys xs l are later earlier = ap (λ ms. word_after (triples k ms ++ l) Word.Epoch) are ∙ ap (λ (x : Whole). word_after x Word.Epoch) (sym (triples_append k ys xs l)) ∙ later ∙ earlier
 
 raised_epoch : (f : Profile) (k heap n : ℕ) (guards left : List Guard) (answer : Option Block) (searched after : List Made) (l : Whole)
     → MatchOption answer (IsNotRaised f (large_directory heap) n guards left searched after) (IsRaised f (large_directory heap) n guards left searched after)
@@ -690,7 +731,7 @@ module _ (f : Profile) (valid : IsValid f) (p : Progress) (s : Stand) (ts : List
   booked = booked_sweep p.books s.events keeper false s.guards is.left sweep.stay tells.books
 
   tried_epoch : word_after list2 Word.Epoch ≡ word_after p.list Word.Epoch
-  tried_epoch = search (arith, epoch_both, raise_epoch, epoch_kept)
+  tried_epoch = epoch_both keeper t.steps is.raised is.swept p.list is.steps_are (raise_epoch f keeper r.heap n is.left t.guards t.block is.raised l1 is.raise) (epoch_kept sweeping_kinds refl keeper is.swept p.list is.sweep.kinds)
 
   tried_tells : (names : List Named) (u : Stand) (records : List Record) → u.events ≡ visible list2 → u.names ≡ names → u.logs ≡ s.logs
       → u.idle_since ≡ s.idle_since → u.epoch ≡ s.epoch → AreBooked (with_book p.books keeper t.guards) u.guards
@@ -708,7 +749,9 @@ module _ (f : Profile) (valid : IsValid f) (p : Progress) (s : Stand) (ts : List
   -- the lines of its records
   lines_tried : (said : List Record) → said_of_guard keeper r.name n t.block ≡ said
       → lines_by t.records ≡ lines_by is.lowered ++ lines_by (records_of (events_by keeper (part keeper l1) is.raised) ++ said)
-  lines_tried said same = search (arith, lines_both, part_swept)
+  lines_tried said same =
+      ap lines_by is.records_are ∙ lines_both is.lowered (records_of (events_by keeper view is.raised) ++ said_of_guard keeper r.name n t.block)
+      ∙ (λ i. lines_by is.lowered ++ lines_by (records_of (events_by keeper (sym part_swept i) is.raised) ++ same i))
 
   -- ---- it gave the block
   pub given_comes : (block : Block) → t.block ≡ Some block → Comes f s t.records (after_giving (after_trying p keeper t) r.name block) ts
@@ -736,7 +779,8 @@ module _ (f : Profile) (valid : IsValid f) (p : Progress) (s : Stand) (ts : List
             (guarded_leads f valid w keeper k r l1 is.raised shown_swept raised_legal block ends
             (sides_are f (large_directory r.heap) keeper n is.left t.guards is.raise.searched is.raise.after block h)));
         tells = tried_tells (named r.name (Some block) ∷ p.names) end _ refl (ap (λ ns. record { name = r.name; block = Some block } ∷ ns) tells.names) refl refl refl
-            (search (arith, guard_is));
+            (subst (λ (T : Type 0). T) (λ i. AreBooked (same i) (up ++ sym (guard_is f (large_directory r.heap) keeper n is.left t.guards is.raise.searched
+            is.raise.after block h) i ∷ [])) up_now);
       }
 
   -- ---- it gave none, and the thread is served
@@ -749,7 +793,7 @@ module _ (f : Profile) (valid : IsValid f) (p : Progress) (s : Stand) (ts : List
   module _ (none : t.block ≡ None) where
     -- in each case it computes, or is given
     not_raised : IsNotRaised f (large_directory r.heap) n is.left t.guards is.raise.searched is.raise.after
-    not_raised = search arith
+    not_raised = rw none at is.raise.outcome
 
     none_tells : Tells p2 s2
     none_tells = tried_tells p.names s2 p2.records refl tells.names refl refl refl (subst (λ (b : List Guard). AreBooked (with_book p.books keeper b) up) (sym not_raised.same) booked)

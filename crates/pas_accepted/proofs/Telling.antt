@@ -1,40 +1,71 @@
 -- What a check knows of a replay: lines that lead it on, logs, guards in books; and the lines of a log that is emptied, by a flush or a stop.
-use Rattle.std.proofs.Common.{◌≡◌, ℕ, List, [], ◌∷◌, ◌++◌, inl, inr, refl, ap, sym, subst, append_assoc, arith, Bool, true, false, if◌then◌else◌, ◌∙◌, map}
-use Rattle.std.proofs.Common.{reverse, eq-eqb, ne_eqb, ◌==◌, nat_lt, not, ◌≢◌, ◌%◌, ◌&&◌, ◌||◌, eqb-true, append-nil, ◌/◌, Option, Some, None}
-use Rattle.pas_profile.specs.declared.{profile.Profile.Profile, event.Event.Event, word.Word.Word, name.Name.Name, entry.Entry.Entry, guard.Raised.Raised}
-use Rattle.pas_profile.specs.declared.{guard.Guard.Guard}
-use Rattle.pas_check.specs.{Accepted.IsDone, Accepted.IsWhole, Calls.Differs}
+use Rattle.std.proofs.Common.{◌≡◌, ℕ, List, [], ◌∷◌, ◌++◌, inl, inr, refl, ap, sym, subst, append_assoc, arith, Bool, true, false, if◌then◌else◌, ◌∙◌, map, reverse, eq-eqb, ne_eqb, ◌==◌, nat_lt, not, ◌≢◌, ◌%◌, ◌&&◌, ◌||◌, eqb-true, append-nil, ◌/◌, Option, Some, None}
+use Rattle.pas_profile.specs.declared.profile.Profile.{Profile}
+use Rattle.pas_profile.specs.declared.event.Event.{Event}
+use Rattle.pas_profile.specs.declared.word.Word.{Word}
+use Rattle.pas_profile.specs.declared.name.Name.{Name}
+use Rattle.pas_profile.specs.declared.entry.Entry.{Entry}
+use Rattle.pas_profile.specs.declared.guard.Raised.{Raised}
+use Rattle.pas_profile.specs.declared.guard.Guard.{Guard}
+use Rattle.pas_check.specs.Accepted.{IsDone, IsWhole}
+use Rattle.pas_check.specs.Calls.{Differs}
 use Rattle.pas_check.specs.Takes.{Takes, TakesDue, MayRefuse, IsEventOf}
 use Rattle.pas_check.specs.Begins.{after_task, flushing, past_outcomes, ready, ready_with, goes_down, entries_due}
-use Rattle.pas_profile.specs.{Guards.guards_of, Guards.raised_by, Blocks.address_of, Blocks.grain_of, Directories.deed_word_of, Lives.live_word}
-use Rattle.pas_profile.specs.{Profiles.IsValid, Entries.is_sized}
+use Rattle.pas_profile.specs.Guards.{guards_of, raised_by}
+use Rattle.pas_profile.specs.Blocks.{address_of, grain_of, length_of}
+use Rattle.pas_profile.specs.Directories.{deed_word_of}
+use Rattle.pas_profile.specs.Lives.{live_word}
+use Rattle.pas_profile.specs.Profiles.{IsValid}
+use Rattle.pas_profile.specs.Entries.{is_sized}
 use Rattle.pas_check.specs.States.{Due, Examines, Stand, Task, with_due, with_at, Frees}
-use Rattle.pas_check.proofs.{ActsOfPlans.begun_alike, Leads.at_first, Leads.by_none, OneNext.end_is, OneNext.reject_is, Ticks.epoch_kept}
+use Rattle.pas_check.proofs.ActsOfPlans.{begun_alike}
+use Rattle.pas_check.proofs.Leads.{at_first, by_none}
+use Rattle.pas_check.proofs.OneNext.{end_is, reject_is}
+use Rattle.pas_check.proofs.Ticks.{epoch_kept}
 use Rattle.pas_profile.proofs.Lists.{all_both}
 use Rattle.std.proofs.lemmas.List.Elements.{filter-append, All-filter, All-from_recursion, recursion_from_All}
 use Rattle.std.proofs.lemmas.Bool.{cases_eq, eqb-false, false≢true, cond_both}
-use Rattle.std.proofs.lemmas.{List.map-append, List.reverse-append, Option.none-some, Option.same_Some}
-use Rattle.pas_steps.specs.{Desks.triples, Desks.made, Events.event_of, Events.events_by, Events.with_event, Views.epoch_of, InTurn.InTurn}
-use Rattle.pas_steps.specs.{Effects.life_word_at}
+use Rattle.std.proofs.lemmas.List.{map-append, reverse-append}
+use Rattle.std.proofs.lemmas.Option.{none-some, same_Some}
+use Rattle.pas_steps.specs.Desks.{triples, made}
+use Rattle.pas_steps.specs.Events.{event_of, events_by, with_event}
+use Rattle.pas_steps.specs.Views.{epoch_of}
+use Rattle.pas_steps.specs.InTurn.{InTurn}
+use Rattle.pas_steps.specs.Effects.{life_word_at}
 use Rattle.pas_steps.specs.Lists.{Whole, part, visible, Legal, word_after}
-use Rattle.pas_steps.specs.declared.step.{Made.Made, Step.Step, Step.TheVariants.Look, Step.TheVariants.Stamp, Step.TheVariants.EndSized}
-use Rattle.pas_steps.proofs.{Frames.with_append, Frames.events_append, Parts.part_of_own, Apart.only_both, Apart.only_within, Calls.returns_are}
-use Rattle.pas_steps.proofs.{Adding.triples_append}
-use Rattle.pas_cache.specs.{Caches.Cached, Changes.EmptiesLog, Kinds.releasing}
+use Rattle.pas_steps.specs.declared.step.Made.{Made}
+use Rattle.pas_steps.specs.declared.step.Step.{Step}
+use Rattle.pas_steps.specs.declared.step.Step.TheVariants.{Look, Stamp, EndSized}
+use Rattle.pas_steps.proofs.Frames.{with_append, events_append}
+use Rattle.pas_steps.proofs.Parts.{part_of_own}
+use Rattle.pas_steps.proofs.Apart.{only_both, only_within}
+use Rattle.pas_steps.proofs.Calls.{returns_are}
+use Rattle.pas_steps.proofs.Adding.{triples_append}
+use Rattle.pas_cache.specs.Caches.{Cached}
+use Rattle.pas_cache.specs.Changes.{EmptiesLog}
+use Rattle.pas_cache.specs.Kinds.{releasing}
 use Rattle.pas_answers.specs.Answers.{Caches, records_of, with_cache, Books, with_book, Progress, IsStopped}
 use Rattle.pas_free_log.specs.Endings.{reason_for, EndSteps, Tries, TriesBy, last_step}
-use Rattle.pas_free_log.specs.declared.{ending.Outcome.Outcome, ending.Outcome.TheVariants.Ended, ending.Outcome.TheVariants.Refused, noting.EndedRun.EndedRun}
+use Rattle.pas_free_log.specs.declared.ending.Outcome.{Outcome}
+use Rattle.pas_free_log.specs.declared.ending.Outcome.TheVariants.{Ended, Refused}
+use Rattle.pas_free_log.specs.declared.noting.EndedRun.{EndedRun}
 use Rattle.std.specs.List.{AllByRecursion, filter}
 use Rattle.pas_machine.specs.State.{ends_in, Live, gives_in, live_in}
 use Rattle.pas_trace.specs.Named.{Named}
-use Rattle.pas_answers.proofs.{Consequences.tidy_piece, Consequences.Tidy, Consequences.stop_tidy, Reached.Each, Reached.legal_part, Reached.of_front}
+use Rattle.pas_answers.proofs.Consequences.{tidy_piece, Tidy, stop_tidy}
+use Rattle.pas_answers.proofs.Reached.{Each, legal_part, of_front}
 use Rattle.pas_steps.specs.Kinds.{Kinds, Only, Putting, is_in, kind_of, returning}
-use Rattle.pas_rights.proofs.{Orders.return_returns, Puts.puts_kinds}
+use Rattle.pas_rights.proofs.Orders.{return_returns}
+use Rattle.pas_rights.proofs.Puts.{puts_kinds}
 use Rattle.pas_free_log.specs.Flushes.{AfterEnd, EntrySteps, Settled, EntriesSteps, event_for, shown_for}
-use Rattle.pas_free_log.specs.{Frames.freeing, Returns.PageSteps, Returns.count_on, Returns.first_on, Stamps.page_count, Stamps.pages_from}
+use Rattle.pas_free_log.specs.Frames.{freeing}
+use Rattle.pas_free_log.specs.Returns.{PageSteps, count_on, first_on}
+use Rattle.pas_free_log.specs.Stamps.{page_count, pages_from}
 use Rattle.pas_machine.specs.Machine.{HasOtherRoom, Admits, Run}
 use Rattle.pas_core.specs.Good.{IsLifeOf, IsLifeOfLive}
-use Rattle.pas_core.proofs.{Lives.block_of_word, Lives.life_at, OneActor.legal_earlier, MachineRuns.runs}
+use Rattle.pas_core.proofs.Lives.{block_of_word, life_at}
+use Rattle.pas_core.proofs.OneActor.{legal_earlier}
+use Rattle.pas_core.proofs.MachineRuns.{runs}
 use Rattle.pas_records.specs.Lines.{line_of, line_of_event}
 use Rattle.pas_records.specs.declared.record.Record.{Record}
 use Rattle.pas_records.proofs.Showable.{AreOfRegion}
@@ -98,7 +129,9 @@ module _ (f : Profile) (s : Stand) (last : ℕ) (due : s.due ≡ Examines last �
 pub visible_piece : (k : ℕ) (steps : List Made) (l : Whole) → visible (triples k steps ++ l) ≡ events_by k (part k l) steps ++ visible l
 visible_piece k [] l = refl
 visible_piece k (m ∷ ms) l =
-    let rest = visible_piece k ms l in grind (arith, rest, part_of_own, with_append)
+    ap (λ v. with_event (event_of k (epoch_of v) m.step m.answer) (visible (triples k ms ++ l))) (part_of_own k ms l)
+    ∙ ap (with_event (event_of k (epoch_of (ms ++ part k l)) m.step m.answer)) (visible_piece k ms l)
+    ∙ with_append (event_of k (epoch_of (ms ++ part k l)) m.step m.answer) (events_by k (part k l) ms) (visible l)
 
 -- .. over the events that a check knows before it
 pub shown_is : (s : Stand) (k : ℕ) (steps : List Made) (l : Whole) → s.events ≡ visible l → (es : List Event) → events_by k (part k l) steps ≡ es
@@ -121,7 +154,8 @@ lines_more e es = ap (λ (x : List Event). lines_by (map Record.Event x)) (rever
 -- ---- tables by thread, of which that of one thread became another
 pub table_at : {A B : Type 0} (T : Cached → A) (g : B → A) (t : Bool) (c d : Cached) (b e : B) → T c ≡ g b → T d ≡ g e
     → T (if t then c else d) ≡ g (if t then b else e)
-table_at T g t c d b e new old = search arith
+table_at T g true c d b e new old = new
+table_at T g false c d b e new old = old
 
 -- A table by thread of what a changed cache has as before is the same.
 pub table_same : {A : Type 0} (T : Cached → A) (caches : Caches) (k : ℕ) (c : Cached) → T c ≡ T (caches k) → (j : ℕ)
@@ -203,7 +237,9 @@ book_if books keeper book guards j his others = search (arith, cases_eq, eq-eqb,
 swept_books : (books : Books) (es : List Event) (keeper : ℕ) (all : Bool) (guards : List Raised) → ((j : ℕ) → guards_of j guards ≡ map (raised_by j) (books j))
     → (j : ℕ)
     → guards_of j (filter (λ guard. not (goes_down es keeper all guard)) guards) ≡ map (raised_by j) (with_book books keeper (staying es all (books keeper)) j)
-swept_books books es keeper all guards told j = search (arith, book_if, staying_told, others_told)
+swept_books books es keeper all guards told j = book_if books keeper (staying es all (books keeper)) (filter (λ guard. not (goes_down es keeper all guard)) guards) j
+    (λ e. ap (λ i. guards_of i (filter (λ guard. not (goes_down es keeper all guard)) guards)) e ∙ staying_told es keeper all guards (books keeper) (told keeper) ∙ ap (λ i. map (raised_by i) (staying es all (books keeper))) (sym e))
+    (λ ne. others_told es keeper j all guards ne ∙ told j)
 
 -- ---- a guard goes up
 raised_books : (books : Books) (keeper : ℕ) (guard : Guard) (guards : List Raised) → ((j : ℕ) → guards_of j guards ≡ map (raised_by j) (books j)) → (j : ℕ)
@@ -313,13 +349,16 @@ after_only name (Refused read) steps h = none_only freeing steps h
 
 -- the end of a name
 last_kind : (t : Bool) (entry : Entry) (guess : ℕ) → is_in freeing (kind_of (last_step t entry guess)) ≡ true
-last_kind t entry guess = search arith
+last_kind true entry guess = refl
+last_kind false entry guess = refl
 
 tries_only : (name : Name) (first guess : ℕ) (before : List Made) → Tries name first guess before → Only freeing before
-tries_only name first guess before is = search (arith, none_only)
+tries_only name first guess before (inl h) = none_only freeing before h.1
+tries_only name first guess before (inr h) = subst (Only freeing) (sym h.4) (refl, tt)
 
 before_only : (t : Bool) (entry : Entry) (first guess : ℕ) (before : List Made) → TriesBy t entry first guess before → Only freeing before
-before_only t entry first guess before h = search (arith, none_only, tries_only)
+before_only true entry first guess before h = none_only freeing before h.1
+before_only false entry first guess before h = tries_only entry.name first guess before h
 
 -- The steps that end a name are freeing ones.
 ends_only : (entry : Entry) (outcome : Outcome) (steps : List Made) → EndSteps entry outcome steps → Only freeing steps
@@ -327,7 +366,7 @@ ends_only entry outcome steps h = search (arith, last_kind, only_both, before_on
 
 -- The steps for an entry of a log are freeing ones.
 entry_only : (entry : Settled) (steps : List Made) → EntrySteps entry steps → Only freeing steps
-entry_only entry steps h = search (arith, only_both, after_only, ends_only)
+entry_only entry steps h = subst (Only freeing) (sym h.steps_are) (only_both freeing h.after h.ends (after_only entry.entry.name entry.outcome h.after h.returns) (ends_only entry.entry entry.outcome h.ends h.order))
 
 -- THE STEPS of a flush
 pub flush_only : (k : ℕ) (logged : List Entry) (noted noted' : List EndedRun) (steps : List Made) → EmptiesLog k logged noted noted' steps → Only freeing steps
@@ -342,7 +381,8 @@ stop_only k c c' steps h = subst (Only freeing) (sym h.steps_are)
 -- ---- A block that a flush ended by an entry with a room had that room
 -- ---- what lives after steps of a flush lived before them
 ended_if : (t : Bool) (old : Option Live) (b : Live) → (if t then None else old) ≡ Some b → old ≡ Some b
-ended_if t old b is = search (arith, none-some)
+ended_if true old b is = absurd (none-some b is)
+ended_if false old b is = is
 
 lived_before : (k e : ℕ) (s : Step) (a : ℕ) (es : List Event) (address : ℕ) (b : Live) → is_in freeing (kind_of s) ≡ true
     → live_in (with_event (event_of k e s a) es) address ≡ Some b → live_in es address ≡ Some b
@@ -357,7 +397,9 @@ lived_then k (m ∷ xs) l address b only is = lived_then k xs l address b only.1
 -- ---- the length that a life word tells is that of the block
 same_length : (f : Profile) (g word room : ℕ) (b : Live) (gives ends turn : ℕ) → IsLifeOfLive f g word b gives ends → word ≡ live_word turn (room / 16)
     → ends ≡ turn → room % 16 ≡ 0 → b.block.room ≡ room
-same_length f g word room b gives ends turn life is same whole = search (arith, life.word_is, life.whole)
+same_length f g word room b gives ends turn life is same whole =
+    let long : length_of b.block ≡ room / 16 = omega (arith, life.word_is, is, same) in
+    omega (arith, long, life.whole, whole)
 
 -- ---- one entry
 -- the block of an entry that was ended had the entry's room, if there is one
@@ -447,7 +489,8 @@ known_more x xs = reverse-append (x.entry ∷ []) (map (λ (y : Settled). y.entr
 -- what lives after their events lived before them
 lived_one : (k epoch : ℕ) (entry : Entry) (outcome : Outcome) (es : List Event) (address : ℕ) (b : Live)
     → live_in (event_for k epoch entry outcome ∷ es) address ≡ Some b → live_in es address ≡ Some b
-lived_one k epoch entry outcome es address b is = search (arith, ended_if)
+lived_one k epoch entry (Ended grains) es address b is = ended_if (address_of entry.name == address) (live_in es address) b is
+lived_one k epoch entry (Refused read) es address b is = is
 
 lived_all : (k epoch : ℕ) (settled : List Settled) (es : List Event) (address : ℕ) (b : Live) → live_in (map (shown_for k epoch) settled ++ es) address ≡ Some b
     → live_in es address ≡ Some b
@@ -487,7 +530,7 @@ module _ (f : Profile) (valid : IsValid f) (p : Progress) (s : Stand) (tells : T
       (subst (Legal f) (sym (triples_append k h.entries look p.list)) (subst (λ ms. Legal f (triples k ms ++ p.list)) h.steps_are legal)))
 
   epoch_is : h.epoch ≡ s.epoch
-  epoch_is = search (arith, legal_earlier)
+  epoch_is = (legal_earlier f k h.entries (made (Look Word.Epoch) h.epoch ∷ []) p.list (subst (λ ms. Legal f (triples k ms ++ p.list)) h.steps_are legal)).0.answer_is ∙ sym tells.epoch
 
   events_are : events_by k (part k p.list) steps ≡ shown_by k s h.settled
   events_are = h.events (part k p.list) ∙ ap (λ e. map (shown_for k e) h.settled) epoch_is

@@ -1,47 +1,59 @@
 -- Each act of a replay in the order of the text, and so the whole: its transcript is accepted, its report line by line.
-use Rattle.std.proofs.Common.{arith, ◌≡◌, ℕ, List, [], ◌∷◌, ◌++◌, None, Some, refl, ap, sym, ◌∙◌, Option, MatchResult, ◌+◌, ◌==◌, max, nat_le, true, false, inl}
-use Rattle.std.proofs.Common.{inr, subst, append-nil, append_assoc, map, le-leb, leb-true, Bool, true≢false, zero, suc, ◌≤◌, codes, ◌||◌}
-use Rattle.pas_profile.specs.{Profiles.IsValid, Entries.sized_entry, Entries.entry_of}
-use Rattle.pas_profile.specs.declared.{profile.Profile.Profile, name.Block.Block, word.Word.Word, event.Event.Event, name.Name.Name}
-use Rattle.pas_profile.specs.declared.{directory.Directory.Directory}
-use Rattle.pas_steps.specs.{Desks.triples, Events.events_by}
+use Rattle.std.proofs.Common.{arith, ◌≡◌, ℕ, List, [], ◌∷◌, ◌++◌, None, Some, refl, ap, sym, ◌∙◌, Option, MatchResult, ◌+◌, ◌==◌, max, nat_le, true, false, inl, inr, subst, append-nil, append_assoc, map, le-leb, leb-true, Bool, true≢false, zero, suc, ◌≤◌, codes, ◌||◌}
+use Rattle.pas_profile.specs.Profiles.{IsValid}
+use Rattle.pas_profile.specs.Entries.{sized_entry, entry_of}
+use Rattle.pas_profile.specs.declared.profile.Profile.{Profile}
+use Rattle.pas_profile.specs.declared.name.Block.{Block}
+use Rattle.pas_profile.specs.declared.word.Word.{Word}
+use Rattle.pas_profile.specs.declared.event.Event.{Event}
+use Rattle.pas_profile.specs.declared.name.Name.{Name}
+use Rattle.pas_profile.specs.declared.directory.Directory.{Directory}
+use Rattle.pas_steps.specs.Desks.{triples}
+use Rattle.pas_steps.specs.Events.{events_by}
 use Rattle.pas_steps.specs.Lists.{Legal, part, visible, word_after, Whole}
 use Rattle.pas_free_log.specs.Frames.{freeing}
-use Rattle.pas_cache.specs.{Caches.Cached, Refusals.IsTrulyRefused}
-use Rattle.pas_trace.specs.declared.{item.Request.Request, plan.What.What, plan.Op.Op, plan.Chore.Chore, plan.Work.Work, plan.Plan.Plan}
+use Rattle.pas_cache.specs.Caches.{Cached}
+use Rattle.pas_cache.specs.Refusals.{IsTrulyRefused}
+use Rattle.pas_trace.specs.declared.item.Request.{Request}
+use Rattle.pas_trace.specs.declared.plan.What.{What}
+use Rattle.pas_trace.specs.declared.plan.Op.{Op}
+use Rattle.pas_trace.specs.declared.plan.Chore.{Chore}
+use Rattle.pas_trace.specs.declared.plan.Work.{Work}
+use Rattle.pas_trace.specs.declared.plan.Plan.{Plan}
 use Rattle.pas_trace.specs.declared.plan.What.TheVariants.{Alloc, Guarded, Free, FreeSized, Raw, RawSized, Remake, Flush, Stop}
-use Rattle.pas_answers.specs.Answers.{Answer, IsAnswered, IsFreedBy, IsServed, Progress, after_answer, having, records_of, room_noted, said_by, wanted_by}
-use Rattle.pas_answers.specs.Answers.{IsIdleFor, IsStopped, after_reading, after_settling, after_stop, after_tick, after_wake, begun as woken, epoch_look}
-use Rattle.pas_answers.specs.Answers.{stopped, with_cache, with_records}
-use Rattle.pas_trace.specs.{Named.standing_for, Asked.keeper_in, Asked.work_of}
+use Rattle.pas_answers.specs.Answers.{Answer, IsAnswered, IsFreedBy, IsServed, Progress, after_answer, having, records_of, room_noted, said_by, wanted_by, IsIdleFor, IsStopped, after_reading, after_settling, after_stop, after_tick, after_wake, begun as woken, epoch_look, stopped, with_cache, with_records}
+use Rattle.pas_trace.specs.Named.{standing_for}
+use Rattle.pas_trace.specs.Asked.{keeper_in, work_of, keeper_of, of_task}
 use Rattle.pas_answers.specs.Refusals.{RefusesTruly, ActRefusesTruly, TriedRefusesTruly, AllRefuseTruly}
-use Rattle.pas_answers.specs.{Guarding.IsTried, Guarding.Tried, Guarding.after_trying, Reaching.Advances, Reaching.AnswersTried, Reaching.Reaches, Ways.InOrder}
+use Rattle.pas_answers.specs.Guarding.{IsTried, Tried, after_trying}
+use Rattle.pas_answers.specs.Reaching.{Advances, AnswersTried, Reaches}
+use Rattle.pas_answers.specs.Ways.{InOrder}
 use Rattle.pas_answers.proofs.Consequences.{Tidy, answer_tidy, look_tidy, tick_tidy, tidy_piece}
-use Rattle.pas_check.specs.Begins.{begun_what, freeing_named, remaking_named, stopping, sweeping, after_task, begun, begun_act, begun_from, past_outcomes}
-use Rattle.pas_check.specs.Begins.{ready, ready_with, page_due, pages_due}
-use Rattle.pas_check.specs.States.{Serves, Stand, Task, Does, Due, Tries, Writes, with_at, Frees, Examines, Reports, at_first, Heads, Shows, Totals, with_one}
+use Rattle.pas_check.specs.Begins.{begun_what, freeing_named, remaking_named, stopping, sweeping, after_task, begun, begun_act, begun_from, past_outcomes, ready, ready_with, page_due, pages_due, settled_with}
+use Rattle.pas_check.specs.States.{Serves, Stand, Task, Does, Due, Tries, Writes, with_at, Frees, Examines, Reports, at_first, Heads, Shows, Totals, with_one, with_due}
 use Rattle.pas_check.proofs.Ticks.{epoch_kept}
-use Rattle.pas_accepted.proofs.Telling.{flush_only, flush_leads, emptied, logs_with, stop_leads, stop_tells, LeadsOn, on_as, on_both, lines_by, Comes, Tells}
-use Rattle.pas_accepted.proofs.Telling.{piece_of, told_after, on_line, on_done, on_task, emptying, booked_as, lines_both, table_at, table_same, stop_only}
-use Rattle.pas_accepted.proofs.Telling.{on_same}
-use Rattle.pas_accepted.proofs.Requests.{free_comes, freed_comes, silent_lines, asked_tells, asked_then, remade_comes, request_leads, served_plain, given_comes}
-use Rattle.pas_accepted.proofs.Requests.{thread_comes}
+use Rattle.pas_accepted.proofs.Telling.{flush_only, flush_leads, emptied, logs_with, stop_leads, stop_tells, LeadsOn, on_as, on_both, lines_by, Comes, Tells, piece_of, told_after, on_line, on_done, on_task, emptying, booked_as, lines_both, table_at, table_same, stop_only, on_same}
+use Rattle.pas_accepted.proofs.Requests.{free_comes, freed_comes, silent_lines, asked_tells, asked_then, remade_comes, request_leads, served_plain, given_comes, thread_comes}
 use Rattle.pas_accepted.proofs.Passes.{pass_comes, lowered_comes}
-use Rattle.std.proofs.lemmas.{Bool.false_from_ne_true, Option.none-some}
+use Rattle.std.proofs.lemmas.Bool.{false_from_ne_true}
+use Rattle.std.proofs.lemmas.Option.{none-some}
 use Rattle.pas_core.proofs.OneActor.{legal_before}
 use Rattle.pas_steps.specs.declared.step.Made.{Made}
-use Rattle.pas_trace.specs.Acts.{Act, Operates, Guards, Settles, Ticks, MakesPass, ReadsEpoch, StopsIdle, MarksPhase, Wakes, MarksClose, Ends, Lowers, act_kept}
-use Rattle.pas_trace.specs.Acts.{acts_from, acts_of, acts_of_chore, acts_of_op, acts_of_ops, acts_of_work, close_acts, idle_stops, phase_acts}
+use Rattle.pas_trace.specs.Acts.{Act, Operates, Guards, Settles, Ticks, MakesPass, ReadsEpoch, StopsIdle, MarksPhase, Wakes, MarksClose, Ends, Lowers, act_kept, acts_from, acts_of, acts_of_chore, acts_of_op, acts_of_ops, acts_of_work, close_acts, idle_stops, phase_acts, numbers_from}
 use Rattle.pas_answers.proofs.Reached.{was_so}
 use Rattle.pas_check.proofs.Cuts.{cut_records, cut_line, kind_first, number_first, totals_end}
-use Rattle.pas_machine.specs.{Machine.Admits, Machine.Bears, State.deed_in}
-use Rattle.pas_check.specs.{Accepted.Goes, Accepted.IsWhole, Accepted.IsAccepted, Lines.lines_in, Lines.is_line}
-use Rattle.pas_check.specs.Takes.{IsFor, Takes, TakesDue, TakesOutcome, TakesRequest, serving, AreAllowedMarks, head_line, MayServe, block_in, is_back}
-use Rattle.pas_check.specs.Takes.{kept_next}
-use Rattle.pas_report.specs.Reports.{report_text, machine_page, machine_pages, page_text, total_line}
+use Rattle.pas_machine.specs.Machine.{Admits, Bears}
+use Rattle.pas_machine.specs.State.{deed_in, epoch_in}
+use Rattle.pas_check.specs.Accepted.{Goes, IsWhole, IsAccepted}
+use Rattle.pas_check.specs.Lines.{lines_in, is_line}
+use Rattle.pas_check.specs.Takes.{IsFor, Takes, TakesDue, TakesOutcome, TakesRequest, serving, AreAllowedMarks, head_line, MayServe, block_in, is_back, kept_next}
+use Rattle.pas_report.specs.Reports.{report_text, machine_page, machine_pages, page_text, total_line, live_on, uncovered_on}
 use Rattle.pas_answers.specs.Replays.{IsReplay, acts_of_plan, at_start, keepers_of, phases_of, region_of, threads_of}
-use Rattle.pas_records.specs.declared.record.{Record.Record, Said.Said}
-use Rattle.pas_records.specs.{Lines.lines_of, Marks.Marked, Marks.marks_after, Marks.marks_text, Rests.AreTrueMarks}
+use Rattle.pas_records.specs.declared.record.Record.{Record}
+use Rattle.pas_records.specs.declared.record.Said.{Said}
+use Rattle.pas_records.specs.Lines.{lines_of}
+use Rattle.pas_records.specs.Marks.{Marked, marks_after, marks_text}
+use Rattle.pas_records.specs.Rests.{AreTrueMarks}
 use Rattle.pas_report.specs.Totals.{totals_of}
 
 -- ---- A thread's operation, by what it asks for
@@ -311,7 +323,8 @@ page_ends page d live free stamp m = search (arith, number_first, kind_first, ma
 
 cut_page : (es : List Event) (page : ℕ) (o : Option Directory) (m : Marked) (rest : List ℕ)
     → lines_in (machine_page es page o m ++ rest) ≡ page_line es page o m ++ lines_in rest
-cut_page es page o m rest = search (arith, cut_line, page_ends)
+cut_page es page None m rest = refl
+cut_page es page (Some d) m rest = cut_line (machine_page es page (Some d) m) rest (page_ends page d (live_on es page) (uncovered_on es page) (epoch_in es page) m)
 
 cut_pages : (es : List Event) (marks : ℕ → Marked) (n : ℕ) (rest : List ℕ)
     → lines_in (machine_pages es marks n ++ rest) ≡ page_lines es marks n ++ lines_in rest
@@ -407,7 +420,7 @@ read_as known p q same read = subst (IsRead known) (sym same) read
 -- What is known of the epoch that the scavenger read stays true after each act.
 still_read : (f : Profile) (known : Bool) (act : Act) (p q : Progress) → Advances f act p q → Legal f q.list → IsRead known p
     → IsRead (read_after known act) q
-still_read f known ReadsEpoch p q did legal read = search arith
+still_read f known ReadsEpoch p q did legal read = λ is. subst (λ (x : Progress). x.epoch ≡ word_after x.list Word.Epoch) (sym did.1) (subst (λ (x : Progress). Legal f x.list) did.1 legal).0.answer_is
 still_read f known (StopsIdle k n) p q (inl so) legal read = read_as known _ q so.4 (λ is. read is ∙ sym (epoch_kept freeing refl k so.1 p.list (stop_only k (p.caches k) so.2 so.1 so.3)))
 still_read f known (StopsIdle k n) p q (inr stays) legal read = read_as known p q stays.1 read
 still_read f known act p q did legal read = never
@@ -421,14 +434,17 @@ stops_on n [] rest on = on true
 stops_on n (k ∷ idle) rest on = (refl, stops_on n idle rest on)
 
 chore_on : (idle : List ℕ) (chore : Chore) (rest : List Act) → Anyhow rest → Anyhow (acts_of_chore idle chore ++ rest)
-chore_on idle chore rest on known = search (arith, stops_on)
+chore_on idle (Chore.Idle n) rest on known = (tt, stops_on n idle rest on)
+chore_on idle other rest on known = (tt, on false)
 
 -- in each case it computes, or is given
 own_on : (keeper : Option ℕ) (op : Op) (rest : List Act) → keeper_in op.what ≡ keeper → Anyhow rest → Anyhow (act_kept keeper op ∷ (Settles op.actor ∷ rest))
-own_on keeper op rest kept on known = search arith
+own_on None op rest kept on known = (tt, (tt, on false))
+own_on (Some keeper) op rest kept on known = (kept, (tt, on false))
 
 work_on : (idle : List ℕ) (op : Op) (work : Work) (rest : List Act) → work_of op.what ≡ work → Anyhow rest → Anyhow (acts_of_work idle op work ++ rest)
-work_on idle op work rest is on known = search (arith, own_on, chore_on)
+work_on idle op (Work.Own task) rest is on known = own_on (keeper_of task) op rest (ap (of_task keeper_of) is) on known
+work_on idle op (Work.Chore chore) rest is on known = chore_on idle chore rest on known
 
 ops_on : (idle : List ℕ) (ops : List Op) (rest : List Act) → Anyhow rest → Anyhow (acts_of_ops idle ops ++ rest)
 ops_on idle [] rest on known = on known
@@ -452,7 +468,7 @@ ends_on [] rest on known = on known
 ends_on (k ∷ ks) rest on known = (tt, ends_on ks rest on false)
 
 close_on : (threads keepers : ℕ) → Anyhow (close_acts threads keepers)
-close_on threads keepers known = search (arith, ends_on, lowers_on)
+close_on threads keepers known = (tt, ends_on (numbers_from 1 threads) (map Lowers (numbers_from (threads + 1) keepers)) (lowers_on (numbers_from (threads + 1) keepers)) false)
 
 from_on : (threads keepers n : ℕ) (phases : List (List Op)) → Anyhow (acts_from threads keepers n phases)
 from_on threads keepers n [] known = close_on threads keepers known
@@ -470,24 +486,29 @@ module _ (f : Profile) (n : ℕ) where
 
   -- ---- what is begun
   named_same : (s : Stand) (k name room : ℕ) (o : Option (Option Block)) → freeing_named other s k name room o ≡ freeing_named f s k name room o
-  named_same s k name room o = search arith
+  named_same s k name room None = refl
+  named_same s k name room any = refl
 
   what_same : (s : Stand) (k : ℕ) (what : What) → begun_what other s k what ≡ begun_what f s k what
   what_same s k what = search (arith, named_same)
 
   act_same : (s : Stand) (act : Act) → begun_act other s act ≡ begun_act f s act
-  act_same s act = search (arith, what_same)
+  act_same s (Operates op) = what_same s op.actor op.what
+  act_same s act = refl
 
   task_same : (s : Stand) (t : Task) → begun other s t ≡ begun f s t
-  task_same s t = search (arith, act_same)
+  task_same s (Does act) = act_same s act
+  task_same s Reports = refl
 
   begun_same : (ts : List Task) (s : Stand) → begun_from other s ts ≡ begun_from f s ts
   begun_same [] s = refl
   begun_same (t ∷ ts) s =
-      let rest = begun_same ts (after_task f s t ts) in grind (arith, rest, task_same)
+      let e : after_task other s t ts ≡ after_task f s t ts = ap (λ (x : Stand). record x { left = ts }) (task_same s t) in
+      (λ i. settled_with (e i).due (e i) (begun_from other (e i) ts)) ∙ ap (settled_with (after_task f s t ts).due (after_task f s t ts)) (begun_same ts (after_task f s t ts))
 
   with_same : (s : Stand) (due : List Due) → ready_with other s due ≡ ready_with f s due
-  with_same s due = search (arith, begun_same)
+  with_same s [] = begun_same s.left (with_due s [])
+  with_same s (d ∷ ds) = refl
 
   ready_same : (s : Stand) → ready other s ≡ ready f s
   ready_same s = with_same s (past_outcomes s.due)
@@ -498,7 +519,8 @@ module _ (f : Profile) (n : ℕ) where
 
   -- What is admitted by one profile is by the other, which says the same.
   admits : (es : List Event) (e : Event) → Admits other es e → Admits f es e
-  admits es e h = search (arith, bears)
+  admits es (Event.Give k block) h = record { aligned = h.aligned; whole = h.whole; some = h.some; bears = λ x inside. bears es block.heap _ (h.bears x inside); clear = h.clear; turn = h.turn }
+  admits es e h = h
 
   is_for : (s : Stand) (r : Request) (block : Block) → IsFor other s r block → IsFor f s r block
   is_for s r block h = record { heap = h.heap; room = h.room; aligned = h.aligned; deeds = h.deeds }
@@ -584,7 +606,7 @@ acts_written f valid (act ∷ acts) known p q s ts tells due left is truly are r
 
 -- ---- before the first act
 first_tells : (plan : Plan) → Tells at_start (at_first plan)
-first_tells plan = search arith
+first_tells plan = record { events = refl; names = refl; logs = λ k. refl; idle_since = λ k. refl; epoch = refl; books = record { told = λ j. refl; aligned = λ j. tt }; tidy = λ k. record { kept = tt; stamped = λ page. refl } }
 
 acts_of_replay : (plan : Plan) (whole : Whole) (records : List Record) → IsValid (region_of plan) → (is : IsReplay InOrder plan whole records)
     → Written (region_of plan) at_start (at_first plan) is.reached (Reports ∷ [])

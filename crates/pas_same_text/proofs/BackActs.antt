@@ -14,6 +14,7 @@ use Rattle.pas_same_text.proofs.Common.{Named, named, Answer, having, IsRemadeBy
 use Rattle.pas_same_text.proofs.Common.{with_steps, after_answer, room_noted, with_cache as with_cached, World, Cache, cache_of, set_cache, log_of, says}
 use Rattle.pas_same_text.proofs.Common.{remakes, IsSame, IsSameCache, adds, frees, frees_named, flushes, stops, IsResting, IsBetween, IsTaken, AreBlocksUsable}
 use Rattle.pas_same_text.proofs.Common.{HasUsableBlocks, StaysSameWhere}
+use Rattle.std.proofs.Common.{◌==◌}
 
 -- ---- a flush, and a stop
 module _ {f : Profile} {k : ℕ} {act : Act} {p p' : Progress} {w : World} (usable : HasUsableBlocks p) (thread : IsThread f k) (listed : k ≤ length w.caches)
@@ -115,7 +116,10 @@ module _ (f : Profile) (k : ℕ) (entry : Entry) (p : Progress) (w : World) (c' 
     q = with_steps p k steps emptied
 
     flushed_first : IsSame f (with_records q (records_of (events_by k (part k p.list) steps))) (flushes f k w)
-    flushed_first = flush_same f k p w steps emptied valid thread listed before same usable both.0 refl (search (arith, rest_at))
+    flushed_first = flush_same f k p w steps emptied valid thread listed before same usable both.0 refl (record { legal = after.legal; rest = record {
+      working = λ j is. rest_at j (j == k) (p.books j) (part j q.list) (after.rest.working j is);
+      none = after.rest.none; beside = after.rest.beside; bare = after.rest.bare; scavenger = after.rest.scavenger;
+    } })
 
     abbrev v : World
     v = flushes f k w
@@ -132,7 +136,7 @@ module _ (f : Profile) (k : ℕ) (entry : Entry) (p : Progress) (w : World) (c' 
 
     -- the fields are those that the answer tells
     cache_is : c' ≡ record c { log = entry ∷ []; noted = c'.noted }
-    cache_is = search arith
+    cache_is = takes.cache ∙ ap (λ (es : List Entry). record c { log = es; noted = c'.noted }) (takes.logs.log_is ∙ ap (λ (es : List Entry). es ++ entry ∷ []) both.1)
 
     new_same : IsSameCache c' new
     new_same = rw cache_is (record { locals = own.locals; log = ap (λ (es : List Entry). es ++ entry ∷ []) own.log; noted = own.noted; idle_since = own.idle_since })

@@ -1,7 +1,7 @@
 -- Local allocators of a cache, in the text and in a replay: one is looked up, taken out, put at the end, and gives its lowest slot; and which grains the caches have.
 use Rattle.std.proofs.Common.{◌≡◌, ℕ, ◌<◌, ◌==◌, Bool, true, false, not, ◌&&◌, ◌||◌, if◌then◌else◌, List, [], ◌∷◌, ◌++◌, Option, Some, inl, inr, refl, ap, sym}
 use Rattle.std.proofs.Common.{◌∙◌, subst, arith, eq-eqb, eqb-true, ne_eqb, ◌-◌, ◌≤◌, ◌≢◌, length, None, append-nil, nat_lt, option_to_list, suc, take, zero}
-use Rattle.std.proofs.Common.{◌+◌, ◌*◌, ◌⊎◌, All}
+use Rattle.std.proofs.Common.{◌+◌, ◌*◌, ◌⊎◌, All, ◌/◌}
 use Rattle.pas_cache.specs.Locals.{is_for as is_for_slots}
 use Rattle.pas_same_text.specs.State.{with_cache}
 use Rattle.pas_segregated.specs.Masks.{AreStarts}
@@ -183,7 +183,11 @@ module _ (s : Slots) (l : Local) (b : ℕ) (same : IsSameLocal s l) (is : IsClas
 
 grain_same : (s : Slots) (l : Local) (page b : ℕ) → b < 256 → IsSameLocal s l → IsClass s.class → AreStarts s.class s.starts
     → has_grain page b l ≡ covers s (256 * page + b)
-grain_same s l page b small same is starts = search (arith, on_page, same_truth, slot_set, set_slot)
+grain_same s l page b small same is starts =
+    let slots = same_truth _ _ (slot_set s l b same is starts) (set_slot s l b same is starts) in
+    ap (λ (q : ℕ). (q == page) && list_any (λ x. in_run x (class_grains l.class) b) l.slots) same.page ∙ ap (λ (t : Bool). (s.page == page) && t) slots
+    ∙ ap (λ (q : ℕ). (s.page == q) && is_set s.starts (start_of s.class b)) (sym (on_page page b small))
+    ∙ ap (λ (x : ℕ). (s.page == (256 * page + b) / 256) && is_set s.starts (start_of s.class x)) (omega (arith, small))
 
 -- ---- those of a cache
 pub grains_same : (f : Profile) (v : View) (slots : List Slots) (locals : List Local) (page b : ℕ) → b < 256 → AreSameLocals slots locals

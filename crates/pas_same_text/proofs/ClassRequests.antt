@@ -2,7 +2,7 @@
 -- slots are taken, the lowest of them is given, and the others are cached.
 use Rattle.std.proofs.Common.{length, ◌≡◌, ℕ, ◌+◌, ◌/◌, ◌%◌, ◌≤◌, ◌==◌, Bool, true, false, not, if◌then◌else◌, List, [], ◌∷◌, ◌++◌, None, Some, Result, Ok, ◌⊎◌}
 use Rattle.std.proofs.Common.{inl, inr, refl, ap, sym, ◌∙◌, subst, append_assoc, arith, append-nil, true≢false, eq-eqb, eqb-true, Err}
-use Rattle.pas_steps.proofs.Frames.{right_of_own}
+use Rattle.pas_steps.proofs.{Frames.right_of_own, Apart.deeds_same}
 use Rattle.pas_segregated.specs.Refills.{GivesSlots, GetsSlots}
 use Rattle.pas_cache.specs.Serves.{took_in}
 use Rattle.pas_same_text.specs.Classes.{local_on}
@@ -206,13 +206,18 @@ module _ (f : Profile) (k name heap class : ℕ) (p : Progress) (w : World) (has
   -- ---- what was used: the page
   cached_at : (j g : ℕ) (t : Bool) → (j == k) ≡ t → any_covers (if t then new else p.caches j).locals g ≡ true
       → (any_covers (p.caches j).locals g ≡ true) ⊎ ((slots.page == g / 256) ≡ true)
-  cached_at j g true e h = grind (arith, or_cases, list_any-append, eqb-true)
+  cached_at j g true e h = elim (or_cases _ _ (sym (list_any-append (λ s. covers s g) c.locals (rest ∷ [])) ∙ h)) [
+    | inl was ↦ inl (ap (λ (i : ℕ). any_covers (p.caches i).locals g) (eqb-true j k e) ∙ was)
+    | inr own ↦ inr (cc (and_first (rest.page == g / 256) (is_set rest.starts (start_of rest.class (g % 256))) (or_none (covers rest g) own)))
+  ]
   cached_at j g false e h = inl h
 
   -- ---- a shared page is left before the block is given, and an exclusive one is kept
   knows : known_deed (part k q.list) slots.page ≡ deed_word_of d
   knows =
-      grind (arith, part_of_own, given_kinds, gains)
+      ap (λ (u : View). known_deed u slots.page) (part_of_own k steps p.list
+      ∙ (ap (λ (ms : List Made). ms ++ own) (append_assoc given refill.after sought) ∙ append_assoc given (refill.after ++ sought) own))
+      ∙ (deeds_same (Giving ∷ LookLife ∷ []) refl slots.page given ((refill.after ++ sought) ++ own) given_kinds ∙ gains.may_stop.deed)
 
   -- the search kept the right of a shared page
   read_with_right : (t : Bool) → t ≡ true → took_in (kind_of_class t class) class slots.page sought slots.starts

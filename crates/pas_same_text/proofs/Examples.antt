@@ -1,10 +1,10 @@
 -- The replays of worked traces with guards, by computing.
 use Rattle.std.proofs.Common.{◌≡◌, true, false, [], ◌∷◌, codes, refl}
-use Rattle.pas_same_text.proofs.Common.{Kind, Reason}
+use Rattle.pas_same_text.proofs.Common.{Kind}
 use Rattle.pas_report.specs.Reports.{grains_that}
 use Rattle.pas_same_text.specs.{Pages.each_of, Passes.free_bits}
 use Rattle.pas_same_text.proofs.Seen.{seen, shown, row_of, marked, totalled, deed_of, back_of, unback_of, give_of, freed_of, no_space_of, guarded_of}
-use Rattle.pas_same_text.proofs.Seen.{lowered_of, tick_of, pass_of, in_use_of, phase_of, closed, faulty, ended_of, no_block_of, size_differs_of, outside_of}
+use Rattle.pas_same_text.proofs.Seen.{lowered_of, tick_of, pass_of, in_use_of, phase_of, closed, ended_of, no_block_of, size_differs_of, outside_of}
 use Rattle.pas_same_text.proofs.Seen.{unaligned_of, held_of, skipped_of, kept_of, young_of, not_offered_of, stopped_of}
 
 row_guard_two : seen
@@ -46,52 +46,6 @@ example_bit_fit : seen
     ≡ shown (deed_of 1 1 0 Kind.Bitfit ∷ back_of 1 1 ∷ give_of 1 4096 0 608 0 ∷ give_of 1 4704 0 1008 0 ∷ give_of 1 5888 0 528 0 ∷ freed_of 1 4096 0 0 ∷ give_of 1 6416 0 640 0 ∷ give_of 1 4096 1 560 0 ∷ closed ∷ []) (row_of 1 0 Kind.Bitfit 4 85 0 (marked true true false false) ∷ []) (totalled 1 1 4 5 1)
 unfolding seen grains_that each_of free_bits
 example_bit_fit = refl
-
-example_fault_bad_align : seen (codes "pas 1 pages 4 threads 2 heaps 1 age 2\na 1 1 0 24 48\n") ≡ faulty 2 Reason.BadAlign
-unfolding seen grains_that
-example_fault_bad_align = refl
-
-example_fault_bad_header : seen (codes "pas 1 pages 5000 threads 2 heaps 1 age 2\na 1 1 0 24 16\n") ≡ faulty 1 Reason.BadHeader
-unfolding seen grains_that
-example_fault_bad_header = refl
-
-example_fault_bad_heap : seen (codes "pas 1 pages 4 threads 2 heaps 1 age 2\na 1 1 1 24 16\n") ≡ faulty 2 Reason.BadHeap
-unfolding seen grains_that
-example_fault_bad_heap = refl
-
-example_fault_bad_number : seen (codes "pas 1 pages 4 threads 2 heaps 1 age 2\na 1 1 0 024 16\n") ≡ faulty 2 Reason.BadNumber
-unfolding seen grains_that
-example_fault_bad_number = refl
-
-example_fault_bad_size : seen (codes "pas 1 pages 4 threads 2 heaps 1 age 2\na 1 1 0 16384 16\na 1 2 0 16385 16\n") ≡ faulty 3 Reason.BadSize
-unfolding seen grains_that
-example_fault_bad_size = refl
-
-example_fault_bad_thread : seen (codes "pas 1 pages 4 threads 2 heaps 1 age 2\na 3 1 0 24 16\n") ≡ faulty 2 Reason.BadThread
-unfolding seen grains_that
-example_fault_bad_thread = refl
-
-example_fault_bad_word : seen (codes "pas 1 pages 4 threads 2 heaps 1 age 2\na 1 1 0 24 16\nfree 1 1\n") ≡ faulty 3 Reason.BadWord
-unfolding seen grains_that
-example_fault_bad_word = refl
-
-example_fault_name_taken : seen (codes "pas 1 pages 4 threads 2 heaps 1 age 2\na 1 1 0 24 16\nf 1 1\na 1 1 0 24 16\n") ≡ faulty 4 Reason.NameTaken
-unfolding seen grains_that
-example_fault_name_taken = refl
-
-example_fault_name_unknown : seen (codes "pas 1 pages 4 threads 1 heaps 1 age 2\na 1 1 0 24 16\nf 1 2\n") ≡ faulty 3 Reason.NameUnknown
-unfolding seen grains_that
-example_fault_name_unknown = refl
-
-example_fault_too_early : seen (codes "pas 1 pages 4 threads 2 heaps 1 age 2\na 1 1 0 24 16\nf 2 1\nphase\nf 2 1\n") ≡ faulty 3 Reason.TooEarly
-unfolding seen grains_that
-example_fault_too_early = refl
-
-example_fault_trace_too_large : seen
-    (codes "pas 1 pages 4096 threads 1 heaps 1 age 2\n# Each pass may bring 4,097 lines, and a transcript may have 2,000,000.\npass\npass\npass\npass\npass\npass\npass\npass\npass\npass\npass\npass\npass\npass\npass\npass\npass\npass\npass\npass\npass\npass\npass\npass\npass\npass\npass\npass\npass\npass\npass\npass\npass\npass\npass\npass\npass\npass\npass\npass\npass\npass\npass\npass\npass\npass\npass\npass\npass\npass\npass\npass\npass\npass\npass\npass\npass\npass\npass\npass\npass\npass\npass\npass\npass\npass\npass\npass\npass\npass\npass\npass\npass\npass\npass\npass\npass\npass\npass\npass\npass\npass\npass\npass\npass\npass\npass\npass\npass\npass\npass\npass\npass\npass\npass\npass\npass\npass\npass\npass\npass\npass\npass\npass\npass\npass\npass\npass\npass\npass\npass\npass\npass\npass\npass\npass\npass\npass\npass\npass\npass\npass\npass\npass\npass\npass\npass\npass\npass\npass\npass\npass\npass\npass\npass\npass\npass\npass\npass\npass\npass\npass\npass\npass\npass\npass\npass\npass\npass\npass\npass\npass\npass\npass\npass\npass\npass\npass\npass\npass\npass\npass\npass\npass\npass\npass\npass\npass\npass\npass\npass\npass\npass\npass\npass\npass\npass\npass\npass\npass\npass\npass\npass\npass\npass\npass\npass\npass\npass\npass\npass\npass\npass\npass\npass\npass\npass\npass\npass\npass\npass\npass\npass\npass\npass\npass\npass\npass\npass\npass\npass\npass\npass\npass\npass\npass\npass\npass\npass\npass\npass\npass\npass\npass\npass\npass\npass\npass\npass\npass\npass\npass\npass\npass\npass\npass\npass\npass\npass\npass\npass\npass\npass\npass\npass\npass\npass\npass\npass\npass\npass\npass\npass\npass\npass\npass\npass\npass\npass\npass\npass\npass\npass\npass\npass\npass\npass\npass\npass\npass\npass\npass\npass\npass\npass\npass\npass\npass\npass\npass\npass\npass\npass\npass\npass\npass\npass\npass\npass\npass\npass\npass\npass\npass\npass\npass\npass\npass\npass\npass\npass\npass\npass\npass\npass\npass\npass\npass\npass\npass\npass\npass\npass\npass\npass\npass\npass\npass\npass\npass\npass\npass\npass\npass\npass\npass\npass\npass\npass\npass\npass\npass\npass\npass\npass\npass\npass\npass\npass\npass\npass\npass\npass\npass\npass\npass\npass\npass\npass\npass\npass\npass\npass\npass\npass\npass\npass\npass\npass\npass\npass\npass\npass\npass\npass\npass\npass\npass\npass\npass\npass\npass\npass\npass\npass\npass\npass\npass\npass\npass\npass\npass\npass\npass\npass\npass\npass\npass\npass\npass\npass\npass\npass\npass\npass\npass\npass\npass\npass\npass\npass\npass\npass\npass\npass\npass\npass\npass\npass\npass\npass\npass\npass\npass\npass\npass\npass\npass\npass\npass\npass\npass\npass\npass\npass\npass\npass\npass\npass\npass\npass\npass\npass\npass\npass\npass\npass\npass\npass\npass\npass\npass\npass\npass\npass\npass\npass\npass\npass\npass\npass\npass\npass\npass\npass\npass\npass\npass\npass\npass\npass\npass\npass\npass\npass\npass\npass\npass\npass\npass\npass\npass\npass\npass\npass\npass\npass\npass\npass\npass\npass\npass\npass\npass\npass\npass\npass\npass\n")
-    ≡ faulty 490 Reason.TraceTooLarge
-unfolding seen grains_that
-example_fault_trace_too_large = refl
 
 example_first : seen
     (codes "pas 1 pages 4 threads 1 heaps 1 age 2\n# The free is logged, and takes effect when the thread's cache is stopped at the close.\na 1 1 0 24 16\nf 1 1\n")
@@ -152,16 +106,6 @@ example_twenty_classes : seen
     ≡ shown (deed_of 1 1 0 (Kind.Class 0) ∷ back_of 1 1 ∷ give_of 1 4096 0 16 0 ∷ deed_of 1 2 0 (Kind.Class 1) ∷ back_of 1 2 ∷ give_of 1 8192 0 32 0 ∷ deed_of 1 3 0 (Kind.Class 2) ∷ back_of 1 3 ∷ give_of 1 12288 0 48 0 ∷ deed_of 1 4 0 (Kind.Class 3) ∷ back_of 1 4 ∷ give_of 1 16384 0 64 0 ∷ deed_of 1 5 0 (Kind.Class 4) ∷ back_of 1 5 ∷ give_of 1 20480 0 80 0 ∷ deed_of 1 6 0 (Kind.Class 5) ∷ back_of 1 6 ∷ give_of 1 24576 0 96 0 ∷ deed_of 1 7 0 (Kind.Class 6) ∷ back_of 1 7 ∷ give_of 1 28672 0 112 0 ∷ deed_of 1 8 0 (Kind.Class 7) ∷ back_of 1 8 ∷ give_of 1 32768 0 128 0 ∷ deed_of 1 9 0 (Kind.Class 8) ∷ back_of 1 9 ∷ give_of 1 36864 0 160 0 ∷ deed_of 1 10 0 (Kind.Class 9) ∷ back_of 1 10 ∷ give_of 1 40960 0 192 0 ∷ deed_of 1 11 0 (Kind.Class 10) ∷ back_of 1 11 ∷ give_of 1 45056 0 224 0 ∷ deed_of 1 12 0 (Kind.Class 11) ∷ back_of 1 12 ∷ give_of 1 49152 0 256 0 ∷ deed_of 1 13 0 (Kind.Class 12) ∷ back_of 1 13 ∷ give_of 1 53248 0 320 0 ∷ deed_of 1 14 0 (Kind.Class 13) ∷ back_of 1 14 ∷ give_of 1 57344 0 384 0 ∷ deed_of 1 15 0 (Kind.Class 14) ∷ back_of 1 15 ∷ give_of 1 61440 0 448 0 ∷ deed_of 1 16 0 (Kind.Class 15) ∷ back_of 1 16 ∷ give_of 1 65536 0 512 0 ∷ deed_of 1 17 0 (Kind.Class 16) ∷ back_of 1 17 ∷ give_of 1 69632 0 640 0 ∷ deed_of 1 18 0 (Kind.Class 17) ∷ back_of 1 18 ∷ give_of 1 73728 0 768 0 ∷ deed_of 1 19 0 (Kind.Class 18) ∷ back_of 1 19 ∷ give_of 1 77824 0 896 0 ∷ deed_of 1 20 0 (Kind.Class 19) ∷ back_of 1 20 ∷ give_of 1 81920 0 1024 0 ∷ give_of 1 70272 0 640 0 ∷ give_of 1 74496 0 768 0 ∷ give_of 1 78720 0 896 0 ∷ give_of 1 82944 0 1024 0 ∷ give_of 1 75264 0 768 0 ∷ give_of 1 83968 0 1024 0 ∷ deed_of 1 21 0 Kind.Bitfit ∷ back_of 1 21 ∷ give_of 1 86016 0 1040 0 ∷ closed ∷ []) (row_of 1 0 (Kind.Class 0) 1 255 0 (marked true true false false) ∷ row_of 2 0 (Kind.Class 1) 1 254 0 (marked true true false false) ∷ row_of 3 0 (Kind.Class 2) 1 253 0 (marked true true false false) ∷ row_of 4 0 (Kind.Class 3) 1 252 0 (marked true true false false) ∷ row_of 5 0 (Kind.Class 4) 1 251 0 (marked true true false false) ∷ row_of 6 0 (Kind.Class 5) 1 250 0 (marked true true false false) ∷ row_of 7 0 (Kind.Class 6) 1 249 0 (marked true true false false) ∷ row_of 8 0 (Kind.Class 7) 1 248 0 (marked true true false false) ∷ row_of 9 0 (Kind.Class 8) 1 246 0 (marked true true false false) ∷ row_of 10 0 (Kind.Class 9) 1 244 0 (marked true true false false) ∷ row_of 11 0 (Kind.Class 10) 1 242 0 (marked true true false false) ∷ row_of 12 0 (Kind.Class 11) 1 240 0 (marked true true false false) ∷ row_of 13 0 (Kind.Class 12) 1 236 0 (marked true true false false) ∷ row_of 14 0 (Kind.Class 13) 1 232 0 (marked true true false false) ∷ row_of 15 0 (Kind.Class 14) 1 228 0 (marked true true false false) ∷ row_of 16 0 (Kind.Class 15) 1 224 0 (marked true true false false) ∷ row_of 17 0 (Kind.Class 16) 2 176 0 (marked true true false false) ∷ row_of 18 0 (Kind.Class 17) 3 112 0 (marked true true false false) ∷ row_of 19 0 (Kind.Class 18) 2 144 0 (marked true true false false) ∷ row_of 20 0 (Kind.Class 19) 3 64 0 (marked true true false false) ∷ row_of 21 0 Kind.Bitfit 1 191 0 (marked true true false false) ∷ []) (totalled 21 21 27 27 0)
 unfolding seen grains_that each_of free_bits
 example_twenty_classes = refl
-
-example_fault_later_word : seen (codes "pas 1 pages 4 threads 1 heaps 1 age 2\na 1 1 0 24 16\n# A free that names a size came with version 2.\nfs 1 1 24 16\n")
-    ≡ faulty 4 Reason.BadWord
-unfolding seen grains_that
-example_fault_later_word = refl
-
-example_fault_large_region : seen (codes "pas 2 pages 4097 threads 1 heaps 1 age 2\n# Regions of more than 4,096 pages came with version 3.\na 1 1 0 24 16\n")
-    ≡ faulty 1 Reason.BadHeader
-unfolding seen grains_that
-example_fault_large_region = refl
 
 example_large_index : seen
     (codes "pas 1 pages 4 threads 2 heaps 1 age 2\na 1 1 0 4096 16\nf 1 1\nphase\na 2 2 0 4096 16\nf 2 2\nflush 2\nphase\nidle 0\nphase\na 2 3 0 4096 16\n")

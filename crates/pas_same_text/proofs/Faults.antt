@@ -1,8 +1,22 @@
--- Texts that are no traces, each with the line and the reason of its first fault, by computing.
+-- Texts that are no traces, each with the line and the reason of its first fault, and the beginnings of a trace, by computing.
 use Rattle.std.proofs.Common.{◌≡◌, ℕ, List, [], ◌∷◌, Result, map, take, codes, refl}
 use Rattle.pas_report.specs.Reports.{grains_that}
 use Rattle.pas_same_text.proofs.Common.{numbers_from, Reason, TraceFault}
 use Rattle.pas_same_text.proofs.Seen.{Seen, seen, faulty}
+use Rattle.pas_same_text.proofs.Common.{Kind}
+use Rattle.pas_same_text.proofs.Seen.{back_of}
+use Rattle.pas_same_text.proofs.Seen.{closed}
+use Rattle.pas_same_text.proofs.Seen.{deed_of}
+use Rattle.pas_same_text.specs.Pages.{each_of}
+use Rattle.std.proofs.Common.{false}
+use Rattle.pas_same_text.specs.Passes.{free_bits}
+use Rattle.pas_same_text.proofs.Seen.{freed_of}
+use Rattle.pas_same_text.proofs.Seen.{give_of}
+use Rattle.pas_same_text.proofs.Seen.{marked}
+use Rattle.pas_same_text.proofs.Seen.{row_of}
+use Rattle.pas_same_text.proofs.Seen.{shown}
+use Rattle.pas_same_text.proofs.Seen.{totalled}
+use Rattle.std.proofs.Common.{true}
 
 -- a text, and the line and the reason of its first fault
 abbrev Text : Type 0
@@ -32,6 +46,33 @@ texts =
     ∷ (codes "pas 4 pages 2 threads 1 heaps 1 age 2\na 1 1 0 24 16\nm 1 2 1 32 16\nm 1 3 9 16 16\n", 4, Reason.NameUnknown)
     ∷ (codes "pas 3 pages 2 threads 1 heaps 1 age 2\na 1 1 0 24 16\nm 1 2 1 32 16\nm 1 3 2 33 16\nm 1 4 3 64 16\nm 1 5 4 16 16\nf 1 3\n", 3, Reason.BadWord)
     ∷ (codes "pas 5 pages 2 threads 1 heaps 1 age 2\na 1 1 0 513 16\n", 1, Reason.BadHeader)
+    -- those of examples/, by their names there
+    -- fault_bad_align
+    ∷ (codes "pas 1 pages 4 threads 2 heaps 1 age 2\na 1 1 0 24 48\n", 2, Reason.BadAlign)
+    -- fault_bad_header
+    ∷ (codes "pas 1 pages 5000 threads 2 heaps 1 age 2\na 1 1 0 24 16\n", 1, Reason.BadHeader)
+    -- fault_bad_heap
+    ∷ (codes "pas 1 pages 4 threads 2 heaps 1 age 2\na 1 1 1 24 16\n", 2, Reason.BadHeap)
+    -- fault_bad_number
+    ∷ (codes "pas 1 pages 4 threads 2 heaps 1 age 2\na 1 1 0 024 16\n", 2, Reason.BadNumber)
+    -- fault_bad_size
+    ∷ (codes "pas 1 pages 4 threads 2 heaps 1 age 2\na 1 1 0 16384 16\na 1 2 0 16385 16\n", 3, Reason.BadSize)
+    -- fault_bad_thread
+    ∷ (codes "pas 1 pages 4 threads 2 heaps 1 age 2\na 3 1 0 24 16\n", 2, Reason.BadThread)
+    -- fault_bad_word
+    ∷ (codes "pas 1 pages 4 threads 2 heaps 1 age 2\na 1 1 0 24 16\nfree 1 1\n", 3, Reason.BadWord)
+    -- fault_name_taken
+    ∷ (codes "pas 1 pages 4 threads 2 heaps 1 age 2\na 1 1 0 24 16\nf 1 1\na 1 1 0 24 16\n", 4, Reason.NameTaken)
+    -- fault_name_unknown
+    ∷ (codes "pas 1 pages 4 threads 1 heaps 1 age 2\na 1 1 0 24 16\nf 1 2\n", 3, Reason.NameUnknown)
+    -- fault_too_early
+    ∷ (codes "pas 1 pages 4 threads 2 heaps 1 age 2\na 1 1 0 24 16\nf 2 1\nphase\nf 2 1\n", 3, Reason.TooEarly)
+    -- fault_trace_too_large
+    ∷ (codes "pas 1 pages 4096 threads 1 heaps 1 age 2\n# Each pass may bring 4,097 lines, and a transcript may have 2,000,000.\npass\npass\npass\npass\npass\npass\npass\npass\npass\npass\npass\npass\npass\npass\npass\npass\npass\npass\npass\npass\npass\npass\npass\npass\npass\npass\npass\npass\npass\npass\npass\npass\npass\npass\npass\npass\npass\npass\npass\npass\npass\npass\npass\npass\npass\npass\npass\npass\npass\npass\npass\npass\npass\npass\npass\npass\npass\npass\npass\npass\npass\npass\npass\npass\npass\npass\npass\npass\npass\npass\npass\npass\npass\npass\npass\npass\npass\npass\npass\npass\npass\npass\npass\npass\npass\npass\npass\npass\npass\npass\npass\npass\npass\npass\npass\npass\npass\npass\npass\npass\npass\npass\npass\npass\npass\npass\npass\npass\npass\npass\npass\npass\npass\npass\npass\npass\npass\npass\npass\npass\npass\npass\npass\npass\npass\npass\npass\npass\npass\npass\npass\npass\npass\npass\npass\npass\npass\npass\npass\npass\npass\npass\npass\npass\npass\npass\npass\npass\npass\npass\npass\npass\npass\npass\npass\npass\npass\npass\npass\npass\npass\npass\npass\npass\npass\npass\npass\npass\npass\npass\npass\npass\npass\npass\npass\npass\npass\npass\npass\npass\npass\npass\npass\npass\npass\npass\npass\npass\npass\npass\npass\npass\npass\npass\npass\npass\npass\npass\npass\npass\npass\npass\npass\npass\npass\npass\npass\npass\npass\npass\npass\npass\npass\npass\npass\npass\npass\npass\npass\npass\npass\npass\npass\npass\npass\npass\npass\npass\npass\npass\npass\npass\npass\npass\npass\npass\npass\npass\npass\npass\npass\npass\npass\npass\npass\npass\npass\npass\npass\npass\npass\npass\npass\npass\npass\npass\npass\npass\npass\npass\npass\npass\npass\npass\npass\npass\npass\npass\npass\npass\npass\npass\npass\npass\npass\npass\npass\npass\npass\npass\npass\npass\npass\npass\npass\npass\npass\npass\npass\npass\npass\npass\npass\npass\npass\npass\npass\npass\npass\npass\npass\npass\npass\npass\npass\npass\npass\npass\npass\npass\npass\npass\npass\npass\npass\npass\npass\npass\npass\npass\npass\npass\npass\npass\npass\npass\npass\npass\npass\npass\npass\npass\npass\npass\npass\npass\npass\npass\npass\npass\npass\npass\npass\npass\npass\npass\npass\npass\npass\npass\npass\npass\npass\npass\npass\npass\npass\npass\npass\npass\npass\npass\npass\npass\npass\npass\npass\npass\npass\npass\npass\npass\npass\npass\npass\npass\npass\npass\npass\npass\npass\npass\npass\npass\npass\npass\npass\npass\npass\npass\npass\npass\npass\npass\npass\npass\npass\npass\npass\npass\npass\npass\npass\npass\npass\npass\npass\npass\npass\npass\npass\npass\npass\npass\npass\npass\npass\npass\npass\npass\npass\npass\npass\npass\npass\npass\npass\npass\npass\npass\npass\npass\npass\npass\npass\npass\npass\npass\npass\npass\npass\npass\npass\npass\npass\npass\npass\npass\npass\npass\npass\npass\npass\npass\npass\npass\npass\npass\npass\npass\npass\npass\npass\npass\npass\npass\npass\npass\npass\npass\npass\npass\npass\npass\npass\npass\npass\npass\npass\npass\npass\npass\npass\npass\npass\npass\npass\npass\n", 490, Reason.TraceTooLarge)
+    -- fault_later_word
+    ∷ (codes "pas 1 pages 4 threads 1 heaps 1 age 2\na 1 1 0 24 16\n# A free that names a size came with version 2.\nfs 1 1 24 16\n", 4, Reason.BadWord)
+    -- fault_large_region
+    ∷ (codes "pas 2 pages 4097 threads 1 heaps 1 age 2\n# Regions of more than 4,096 pages came with version 3.\na 1 1 0 24 16\n", 1, Reason.BadHeader)
     ∷ []
 
 fault_of_each_text : map (λ (t : Text). seen t.0) texts ≡ map (λ (t : Text). faulty t.1 t.2) texts
@@ -60,3 +101,20 @@ fault_cut_in_alignment = refl
 fault_cut_in_free : cuts 53 4 ≡ map (λ n. faulty 3 Reason.BadWord) (numbers_from 53 4)
 unfolding seen grains_that
 fault_cut_in_free = refl
+
+-- ---- those that end before or behind the last byte of a line are traces
+row_cut_at_header : cuts 37 2 ≡ map (λ n. shown (closed ∷ []) ([]) (totalled 0 0 0 0 0)) (numbers_from 37 2)
+unfolding seen grains_that each_of free_bits
+row_cut_at_header = refl
+
+row_cut_at_request : cuts 51 2
+    ≡ map (λ n. shown (deed_of 1 1 0 (Kind.Class 1) ∷ back_of 1 1 ∷ give_of 1 4096 0 32 0 ∷ closed ∷ [])
+    (row_of 1 0 (Kind.Class 1) 1 254 0 (marked true true false false) ∷ []) (totalled 1 1 1 1 0)) (numbers_from 51 2)
+unfolding seen grains_that each_of free_bits
+row_cut_at_request = refl
+
+row_cut_at_free : cuts 57 2
+    ≡ map (λ n. shown (deed_of 1 1 0 (Kind.Class 1) ∷ back_of 1 1 ∷ give_of 1 4096 0 32 0 ∷ closed ∷ freed_of 1 4096 0 0 ∷ [])
+    (row_of 1 0 (Kind.Class 1) 0 256 0 (marked true true false true) ∷ []) (totalled 1 1 0 1 1)) (numbers_from 57 2)
+unfolding seen grains_that each_of free_bits
+row_cut_at_free = refl

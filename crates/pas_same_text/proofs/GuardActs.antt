@@ -1,16 +1,18 @@
 -- GUARDED REQUESTS: the keeper lowers the guards whose blocks have ended, and tries to raise one; where it raises none, the thread makes the request as any.
-use Rattle.std.proofs.Common.{◌≡◌, ℕ, ◌+◌, ◌-◌, ◌*◌, ◌/◌, false, List, [], ◌∷◌, ◌++◌, Option, None, Some, refl, ap, sym, ◌∙◌, subst, arith, append_assoc}
-use Rattle.std.proofs.Common.{append-nil}
-use Rattle.pas_same_text.proofs.Common.{filter, address_of, IsAdmitted, IsDirectoryOf, route_in, room_in, Directory, Event, Block, Profile, triples, events_by}
-use Rattle.pas_same_text.proofs.Common.{part, Legal, Made, part_of_own, legal_before, legal_earlier, Cached, Indexes, found_in, IsRaised, Guard, Record, Said}
-use Rattle.pas_same_text.proofs.Common.{Act, numbers_from, IsThread, Request, Op, What, Progress, with_book, records_of, AnswersTried, Tried, IsTried}
-use Rattle.pas_same_text.proofs.Common.{after_trying, World, each, backs, large_of, serves, IsSame, IsBetween, IsKnown, IsKept, KeepsSame, lowers_ended, raises}
-use Rattle.pas_answers.specs.{Indexes.after_tried, Indexes.TriedIsNamedBy, Guarding.said_of_guard, Guarding.after_giving}
+use Rattle.std.proofs.Common.{◌≡◌, ℕ, ◌+◌, ◌-◌, ◌*◌, ◌/◌, false, List, [], ◌∷◌, ◌++◌, Option, None, Some, refl, ap, sym, ◌∙◌, subst, arith, append_assoc, append-nil}
+use Rattle.pas_same_text.proofs.Common.{filter, address_of, IsAdmitted, IsDirectoryOf, route_in, room_in, Directory, Event, Block, Profile, triples, events_by, part, Legal, Made, part_of_own, legal_before, legal_earlier, Cached, Indexes, found_in, IsRaised, Guard, Record, Said, Act, numbers_from, IsThread, Request, Op, What, Progress, with_book, records_of, AnswersTried, Tried, IsTried, after_trying, World, each, backs, large_of, serves, IsSame, IsBetween, IsKnown, IsKept, KeepsSame, lowers_ended, raises}
+use Rattle.pas_answers.specs.Indexes.{after_tried, TriedIsNamedBy}
+use Rattle.pas_answers.specs.Guarding.{said_of_guard, after_giving}
 use Rattle.pas_same_text.specs.Guards.{is_over, guards}
 use Rattle.pas_profile.specs.Guards.{guards_of}
-use Rattle.pas_same_text.proofs.{KeepersRest.book_finds, KeepersRest.keeper_of, LowerActs.sweep_same, LowerActs.ended_text, MissedGuards.missed_same}
-use Rattle.pas_same_text.proofs.{PagesRequests.pages_answered, PagesRequests.named_large, RaisedGuards.raised_same, ReadyPages.shown, RunsFound.deeded}
-use Rattle.pas_same_text.proofs.{RunsFound.deeds_of, SoughtRuns.sought_text, SoughtRuns.missed_text, SoughtRuns.IsSought}
+use Rattle.pas_same_text.proofs.KeepersRest.{book_finds, keeper_of}
+use Rattle.pas_same_text.proofs.LowerActs.{sweep_same, ended_text}
+use Rattle.pas_same_text.proofs.MissedGuards.{missed_same}
+use Rattle.pas_same_text.proofs.PagesRequests.{pages_answered, named_large}
+use Rattle.pas_same_text.proofs.RaisedGuards.{raised_same}
+use Rattle.pas_same_text.proofs.ReadyPages.{shown}
+use Rattle.pas_same_text.proofs.RunsFound.{deeded, deeds_of}
+use Rattle.pas_same_text.proofs.SoughtRuns.{sought_text, missed_text, IsSought}
 use Rattle.pas_same_text.proofs.SameIndexes.{request_indexes, all_lowered_keep, each_keeps, backs_keep, same_indexes}
 use Rattle.pas_same_text.proofs.SeatedActs.{own_book, other_book, swept, swept_between, raise_legal, raise_fits, sweep_and_raise_are_the_try, tried_between}
 
@@ -84,9 +86,6 @@ module _ (threads : ℕ) (f : Profile) (keeper line k other name heap size align
     lists_are : triples keeper t.steps ++ p.list ≡ triples keeper (h.raise.after ++ xs) ++ pm.list
     lists_are = cc (sweep_and_raise_are_the_try f keeper r p t known.taken.valid keeps known.taken.before uncached h legal)
 
-    book_before : pm.books keeper ≡ h.left
-    book_before = own_book p.books keeper h.left
-
     -- the records after those of the sweep
     abbrev own_events : List Event
     own_events = events_by keeper (part keeper pm.list) (h.raise.after ++ xs)
@@ -119,7 +118,7 @@ module _ (threads : ℕ) (f : Profile) (keeper line k other name heap size align
 
     -- The guard was raised on the run that was found.
     run : IsRaised f d n (before.books keeper) guards' h.raise.searched h.raise.after block
-    run = subst (λ (gs : List Guard). IsRaised f d n gs guards' h.raise.searched h.raise.after block) (sym (book_before t h there.legal)) h.raise.outcome
+    run = subst (λ (gs : List Guard). IsRaised f d n gs guards' h.raise.searched h.raise.after block) (sym (own_book p.books keeper h.left)) h.raise.outcome
 
     said_is : said_of_guard keeper name n (Some block) ≡ Record.Said keeper (Said.Guarded run.first (run.first + n + 1) name) ∷ []
     said_is =
@@ -203,13 +202,9 @@ module _ (threads : ℕ) (f : Profile) (keeper line k other name heap size align
       record { same = both.0; indexes_are = both.1 }
 
 -- ---- THE ACT
--- only a guarded request is planned for a keeper
-by_what : (threads : ℕ) (f : Profile) (keeper line k : ℕ) (what : What)
+-- A guarded request leads the text to the replay's state, with its indexes; no other is planned for a keeper.
+pub by_what : (threads : ℕ) (f : Profile) (keeper line k : ℕ) (what : What)
     → KeepsSame threads f (Act.Guards keeper (record { line = line; actor = k; what = what }))
 by_what threads f keeper line k (What.Guarded other name heap size align) p p' w indexes known =
     guarded_kept threads f keeper line k other name heap size align p p' w indexes known
 by_what threads f keeper line k what p p' w indexes known = search arith
-
--- A guarded request leads the text to the replay's state, with its indexes.
-pub guards_keep : (threads : ℕ) (f : Profile) (keeper : ℕ) (op : Op) → KeepsSame threads f (Act.Guards keeper op)
-guards_keep threads f keeper op = by_what threads f keeper op.line op.actor op.what

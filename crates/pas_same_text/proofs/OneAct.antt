@@ -5,7 +5,7 @@ use Rattle.pas_same_text.proofs.Common.{having, standing_for, IsServed, IsRemade
 use Rattle.pas_same_text.proofs.Common.{KeepsSame, IsActOf, IsAsked, AnswersSame, RequestStaysSame, remakes, acts_on}
 use Rattle.pas_answers.specs.{Answers.request_for, Indexes.unless_suited, Calls.block_behind, Indexes.request_made}
 use Rattle.pas_same_text.proofs.BackActs.{flush_act, stop_act, end_act, idle_act, raw_act, raw_sized_act, free_act, free_sized_act, remakes_idly}
-use Rattle.pas_same_text.proofs.{CachedSlots.has_asked, BitfitRequests.bitfit_answered, ClassRequests.class_answered, GuardActs.guards_keep}
+use Rattle.pas_same_text.proofs.{CachedSlots.has_asked, BitfitRequests.bitfit_answered, ClassRequests.class_answered, GuardActs.by_what}
 use Rattle.pas_same_text.proofs.{LowerActs.lower_act, PagesRequests.pages_answered, PagesRequests.named_large, PassActs.pass_same, Replaced.replaced_same}
 use Rattle.pas_same_text.proofs.{SameIndexes.indexes_kept, KeepersRest.thread_of, KeepersRest.keeper_of}
 use Rattle.pas_same_text.proofs.SmallActs.{phase_same, close_same, wake_same, reading_same, tick_same, settling_same}
@@ -117,5 +117,5 @@ own_kept threads f act own p p' w indexes known = record {
 
 -- ---- AN ACT
 pub act_same : (threads : ℕ) (f : Profile) (act : Act) → KeepsSame threads f act
-act_same threads f (Act.Guards keeper op) = guards_keep threads f keeper op
+act_same threads f (Act.Guards keeper op) = by_what threads f keeper op.line op.actor op.what
 act_same threads f act = own_kept threads f act tt

@@ -70,7 +70,16 @@ pub record IsSpared (page : ℕ) (l l' : Whole) : Type 0 where
 pub words_stay : (page k : ℕ) (xs : List Made) (l : Whole) → Spares page xs → IsSpared page l (triples k xs ++ l)
 words_stay page k [] l spares = record { words = record { free = λ word. refl; backed = refl; stamp = refl; deed = refl; offer = λ number. refl }; hint = refl }
 words_stay page k (m ∷ xs) l spares =
-    let rest = words_stay page k xs l spares.1 in grind (arith, rest, looked, bit_and, w64, bit_or, page_bit-clear, page_bit-set)
+    let rest = words_stay page k xs l spares.1 in record {
+      words = record {
+        free = λ word. grind (arith, rest.words.free word, looked);
+        backed = grind (arith, rest.words.backed, looked);
+        stamp = grind (arith, rest.words.stamp, looked);
+        deed = grind (arith, rest.words.deed, looked);
+        offer = λ number. grind (arith, rest.words.offer number, looked, page_bit-clear, page_bit-set);
+      };
+      hint = grind (arith, rest.hint, looked, page_bit-clear, page_bit-set);
+    }
 
 -- ==== WHICH STEPS of a pass spare a page: those by which another page is tried
 pub spare_both : (page : ℕ) (ys xs : List Made) → Spares page ys → Spares page xs → Spares page (ys ++ xs)

@@ -15,7 +15,7 @@ use Rattle.pas_same_text.proofs.Tests.{on_page}
 use Rattle.pas_same_text.proofs.Common.{AllByRecursion, list_any, Directory, Word, Profile, InTurn, Always, Once, triples, has_right, holds, GetsHere, Made}
 use Rattle.pas_same_text.proofs.Common.{Hint, Offer, LeaveSteps, GivesDuly, leave_due, leave_returns, IsInRun, MakesNoDeedHere, pages_from, all_map}
 use Rattle.pas_same_text.proofs.Common.{same_from_deed_word, has_bit, IsValid, IsDirectoryOf, number_of, deed_word_of, IsKind, Whole, word_after, Legal, part}
-use Rattle.pas_same_text.proofs.Common.{visible, Kinds, Only, apart, Taking, Giving, LookLife, Backing, returning, Progress, World, is_offered, is_guarded}
+use Rattle.pas_same_text.proofs.Common.{Event, visible, Kinds, Only, apart, Taking, Giving, LookLife, Backing, returning, Progress, World, is_offered, is_guarded}
 use Rattle.pas_same_text.proofs.Common.{is_hinted, HasSame, IsSame, ArePagesSame, IsBetween, free_bit, false≢true, false_from_ne_true, cases_Bool}
 use Rattle.pas_same_text.proofs.Common.{triples_append, only_both, only_within, once_later, same_truth, eligible_bit, empty_bit, IsPartOf, legal_before}
 use Rattle.pas_same_text.proofs.Common.{LendsNone, legal_earlier, right_not_offered, right_in_one_place, hinted_at_rest, only_leaves, Live, live_in, deed_in}
@@ -32,7 +32,10 @@ LeftInTurn d first n left = LeftAll d (pages_from first n) left
 -- a page that is marked is one of them
 all_marked : (d : Directory) (P : ℕ → Type 0) (ps : List ℕ) (q : ℕ) (left : List Made) → AllByRecursion P ps → LeftAll d ps left → IsMarked q left → P q
 all_marked d P [] q left all turn h = absurd (subst (IsMarked q) turn h)
-all_marked d P (x ∷ ps) q left all turn h = let ih = all_marked d P ps q turn.1 all.1 turn.3 in search (arith, marked_parts, returns_marked, ih)
+all_marked d P (x ∷ ps) q left all turn h = elim (marked_parts q turn.0 turn.1 (subst (IsMarked q) turn.4 h)) [
+  | inl here ↦ subst P (returns_marked x q turn.0 (leave_returns x d turn.0 turn.2) here) all.0
+  | inr before ↦ all_marked d P ps q turn.1 all.1 turn.3 before
+]
 
 -- Each of n pages in a row from the first is in that run.
 pub all_in_run : (first n : ℕ) → AllByRecursion (IsInRun first n) (pages_from first n)
@@ -292,7 +295,14 @@ module _ {f : Profile} {k : ℕ} {p q : Progress} {w v : World} {mine : ℕ → 
   -- another page is offered still: its deed is the same, it was offered, and its bit is set
   offered_still : (x : ℕ) (e : Directory) → mine x ≡ false → IsDirectoryOf f e → eligible_bit q.list (number_of e) x ≡ true → is_offered v e x ≡ true
   offered_still x e out of bit =
-      search (arith, bit_tells, right_in_one_place, deed_now, was_offered, own_bit, bit_offered, open_kept, has_same, had_open)
+      let told = bit_tells f q v s.valid s.between s.now x e of (right_in_one_place f q.list s.between.legal x) bit in
+      let deed : deed_in (visible p.list) x ≡ Some e =
+      ap (λ (es : List Event). deed_in es x) (sym s.same.pages.events)
+      ∙ (sym (s.deeds x out) ∙ (ap (λ (es : List Event). deed_in es x) s.now.events ∙ deed_now f q v s.valid s.between s.now x e of told.0)) in
+      let o = was_offered x (number_of e) out bit in
+      let old : is_offered w e x ≡ true = s.same.pages.offered x e of ∙ own_bit f p.list e o.0 x s.before.legal of deed o.1 in
+      bit_offered f q v s.valid s.between s.now x e of bit
+      (open_kept s.valid s.before s.between s.uses (has_same s.same) s.now e x out (had_open w e x old))
 
   from_offer : (x : ℕ) (e : Directory) → IsDirectoryOf f e → eligible_bit q.list (number_of e) x ≡ true → is_offered v e x ≡ true
   from_offer x e of bit = elim (cases_Bool (mine x)) [ inl here ↦ s.own_offer x e here of bit | inr out ↦ offered_still x e out of bit ]

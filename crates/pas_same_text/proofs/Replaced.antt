@@ -21,6 +21,8 @@ use Rattle.pas_same_text.proofs.Common.{IsObtained, ServesClass, ServesBitfit, S
 use Rattle.pas_same_text.proofs.Common.{Request, Alloc, Progress, Answer, wanted_by, Caches, Named, named, having, IsReplaced, records_of, said_by, with_steps}
 use Rattle.pas_same_text.proofs.Common.{after_answer, World, IsSame, IsBetween, IsResting, HasUsableBlocks, logs, frees, serves, IsAsked, AnswersSame}
 use Rattle.pas_same_text.proofs.Common.{RequestStaysSame, entry_of, Entry, Record, Said as TheSaid, IsNamedBy}
+use Rattle.pas_same_text.proofs.Common.{said_of_request}
+use Rattle.pas_answers.specs.Answers.{block_of}
 
 -- ---- a request
 module _ (f : Profile) (k : ℕ) (r : Request) (p : Progress) (a : Answer) (w : World) (block : Block) (valid : IsValid f) (thread : IsThread f k)
@@ -274,8 +276,15 @@ module _ (f : Profile) (k : ℕ) (r : Request) (old : Block) (p : Progress) (a :
         subst (λ (x : Progress). IsSame f x to) (sym end_is)
         (subst (λ (x : World). IsSame f end x) (sym (text_as (Some block) names_are ∙ sym text_logs)) logged)
 
+  by_answer : (answer : Result Block NoRoom) → is.served.answer ≡ answer
+      → MatchResult answer (λ block. TakesEntry f k is.placed.cache a.cache (entry_of old.name) is.freed) (λ room. (is.freed ≡ []) × (a.cache ≡ is.placed.cache))
+      → IsSame f (after_answer p k a) to
+  by_answer (Ok block) e takes = served_to block (is.served.names_are ∙ ap (λ (x : Result Block NoRoom). named r.name (block_of x) ∷ p.names) e)
+      (is.served.said_is ∙ ap (said_of_request r.name) e) takes
+  by_answer (Err room) e none = unserved (is.served.names_are ∙ ap (λ (x : Result Block NoRoom). named r.name (block_of x) ∷ p.names) e) none.0 none.1
+
   replaced_asked : IsSame f (after_answer p k a) to
-  replaced_asked = search (arith, served_to, unserved)
+  replaced_asked = by_answer is.served.answer refl is.logged
 
 -- ---- THE ACT, by what is known of it, and what its request comes to
 pub replaced_same : (f : Profile) (k : ℕ) (r : Request) (old : Block) (p : Progress) (a : Answer) (w : World) → old.heap ≡ r.heap → IsValid f → IsThread f k

@@ -18,34 +18,6 @@ row_border_sizes : seen (codes "pas 1 pages 8 threads 1 heaps 1 age 2\na 1 1 0 0
 unfolding seen grains_that each_of free_bits
 row_border_sizes = refl
 
-row_cut_37 : seen (codes "pas 1 pages 4 threads 1 heaps 1 age 2") ≡ shown (closed ∷ []) ([]) (totalled 0 0 0 0 0)
-unfolding seen grains_that each_of free_bits
-row_cut_37 = refl
-
-row_cut_38 : seen (codes "pas 1 pages 4 threads 1 heaps 1 age 2\n") ≡ shown (closed ∷ []) ([]) (totalled 0 0 0 0 0)
-unfolding seen grains_that each_of free_bits
-row_cut_38 = refl
-
-row_cut_51 : seen (codes "pas 1 pages 4 threads 1 heaps 1 age 2\na 1 1 0 24 16")
-    ≡ shown (deed_of 1 1 0 (Kind.Class 1) ∷ back_of 1 1 ∷ give_of 1 4096 0 32 0 ∷ closed ∷ []) (row_of 1 0 (Kind.Class 1) 1 254 0 (marked true true false false) ∷ []) (totalled 1 1 1 1 0)
-unfolding seen grains_that each_of free_bits
-row_cut_51 = refl
-
-row_cut_52 : seen (codes "pas 1 pages 4 threads 1 heaps 1 age 2\na 1 1 0 24 16\n")
-    ≡ shown (deed_of 1 1 0 (Kind.Class 1) ∷ back_of 1 1 ∷ give_of 1 4096 0 32 0 ∷ closed ∷ []) (row_of 1 0 (Kind.Class 1) 1 254 0 (marked true true false false) ∷ []) (totalled 1 1 1 1 0)
-unfolding seen grains_that each_of free_bits
-row_cut_52 = refl
-
-row_cut_57 : seen (codes "pas 1 pages 4 threads 1 heaps 1 age 2\na 1 1 0 24 16\nf 1 1")
-    ≡ shown (deed_of 1 1 0 (Kind.Class 1) ∷ back_of 1 1 ∷ give_of 1 4096 0 32 0 ∷ closed ∷ freed_of 1 4096 0 0 ∷ []) (row_of 1 0 (Kind.Class 1) 0 256 0 (marked true true false true) ∷ []) (totalled 1 1 0 1 1)
-unfolding seen grains_that each_of free_bits
-row_cut_57 = refl
-
-row_cut_58 : seen (codes "pas 1 pages 4 threads 1 heaps 1 age 2\na 1 1 0 24 16\nf 1 1\n")
-    ≡ shown (deed_of 1 1 0 (Kind.Class 1) ∷ back_of 1 1 ∷ give_of 1 4096 0 32 0 ∷ closed ∷ freed_of 1 4096 0 0 ∷ []) (row_of 1 0 (Kind.Class 1) 0 256 0 (marked true true false true) ∷ []) (totalled 1 1 0 1 1)
-unfolding seen grains_that each_of free_bits
-row_cut_58 = refl
-
 row_followed : seen (codes "pas 1 pages 2 threads 1 heaps 1 age 1\na 1 1 0 600 16\nf 1 1\nflush 1\ntick 1\npass\na 1 2 0 100 16\n")
     ≡ shown (deed_of 1 1 0 Kind.Bitfit ∷ back_of 1 1 ∷ give_of 1 4096 0 608 0 ∷ freed_of 1 4096 0 0 ∷ tick_of 1 ∷ pass_of 1 ∷ unback_of 0 1 1 ∷ deed_of 1 2 0 (Kind.Class 6) ∷ back_of 1 2 ∷ give_of 1 8192 0 112 0 ∷ closed ∷ []) (row_of 1 0 Kind.Bitfit 0 256 0 (marked false true false false) ∷ row_of 2 0 (Kind.Class 6) 1 249 0 (marked true true false false) ∷ []) (totalled 2 1 1 2 1)
 unfolding seen grains_that each_of free_bits

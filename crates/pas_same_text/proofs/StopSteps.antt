@@ -8,7 +8,7 @@ use Rattle.pas_same_text.specs.State.{with_cache}
 use Rattle.pas_same_text.proofs.CacheLists.{all_locals, own_with, many_with, with_own, for_same, cached_any, any_cached}
 use Rattle.pas_same_text.proofs.GivenBack.{Returns, OnlyHints, minded_last, all_only_hints, returns_nothing, returns_then}
 use Rattle.pas_same_text.proofs.LowerActs.{back_hints}
-use Rattle.pas_rights.specs.{Leaves.EndsLeave, Looks.HasUsable, Looks.HasNoUsable}
+use Rattle.pas_rights.specs.{Leaves.EndsLeave, Looks.HasUsable, Looks.HasNoUsable, Leaves.ReoffersWhere}
 use Rattle.pas_segregated.specs.Stops.{AreGrains}
 use Rattle.pas_same_text.proofs.StepMarks.{IsMarked, marked_parts, none_marked, returns_marked, hints_of}
 use Rattle.pas_cache.proofs.Resting.{counted}
@@ -17,7 +17,8 @@ use Rattle.pas_same_text.proofs.Common.{Directory, Word, same_truth, once_later,
 use Rattle.pas_same_text.proofs.Common.{set_locals, is_for, others, gives_up, gives_up_all, AreSameLocals, hints_both, Mask4, triples, Whole, word_after, Legal}
 use Rattle.pas_same_text.proofs.Common.{Once, Always, usable_by_kind, Kinds, Only, apart, Taking, LookFree, Putting, Made, Look, free_stays, LeaveSteps}
 use Rattle.pas_same_text.proofs.Common.{BackSteps, words, looks, HintsEmpty, leave_due, looks_only, leave_returns, return_returns, puts_kinds, start_of}
-use Rattle.pas_same_text.proofs.Common.{home_of, StopStepsAt, LeavesWhere, start_below}
+use Rattle.pas_same_text.proofs.Common.{home_of, StopStepsAt, LeavesWhere, start_below, Park, made}
+use Rattle.pas_steps.specs.Kinds.{Parking}
 
 -- ---- one local allocator of a heap and class
 abbrev pub AreUnique : List Local → Type 0
@@ -180,11 +181,28 @@ looks_room page d free u = search (arith, once_map, look_at)
 looks_offer_none : (page q : ℕ) (answers : ℕ → ℕ) → IsMarked q (looks page answers 4) → ⊥
 looks_offer_none page q answers h = none_marked (LookFree ∷ []) refl q (looks page answers 4) (looks_only page answers 4) h
 
+-- a page that was offered again and marked then has room
+reoffered : (usable : Bool) (page q : ℕ) (d : Directory) (free : Mask4) (steps : List Made) → MatchBool usable (HasUsable d free) (HasNoUsable d free)
+    → ReoffersWhere usable page d steps → IsMarked q steps → HasUsable d free
+reoffered true page q d free steps some h marked = some
+reoffered false page q d free steps none h marked = absurd (subst (IsMarked q) h marked)
+
 end_room : (usable all_free : Bool) (page q : ℕ) (d : Directory) (free : Mask4) (after : List Made) → MatchBool usable (HasUsable d free) (HasNoUsable d free)
     → EndsLeave usable page d all_free after → IsMarked q after → ReadsRoom page d (after ++ looks page (words free) 4)
 end_room true all_free page q d free after u h marked = room_later page d after (looks page (words free) 4) (looks_room page d free u)
 end_room false all_free page q d free after none h marked =
-    search (arith, marked_parts, looks_room, true≢false, room_later, room_earlier, looks_offer_none, none_marked)
+    let park : List Made = made (Park page) h.parked ∷ [] in
+    let later : List Made = looks page (words h.later) 4 in
+    elim (marked_parts q h.after (later ++ park) (subst (IsMarked q) h.steps_are marked)) [
+      | inl first ↦
+          let room = looks_room page d h.later (reoffered h.usable page q d h.later h.after h.usable_is h.reoffers first) in
+          let whole = room_later page d h.after (later ++ park) (room_earlier page d later park room) in
+          room_earlier page d after (looks page (words free) 4) (subst (ReadsRoom page d) (sym h.steps_are) whole)
+      | inr rest ↦ elim (marked_parts q later park rest) [
+        | inl look ↦ absurd (looks_offer_none page q (words h.later) look)
+        | inr parks ↦ absurd (none_marked (Parking ∷ []) refl q park (refl, tt) parks)
+      ]
+    ]
 
 -- Of a page that a leave marks, it read room.
 pub leave_room : (page q : ℕ) (d : Directory) (steps : List Made) → LeaveSteps page d steps → IsMarked q steps → ReadsRoom page d steps

@@ -31,7 +31,10 @@ lowest_row_as class r fair starts same row =
       first = row.first;
       free = there row.first row.free;
       lowest = λ s lt free. row.lowest s lt (back s free);
-      are = search (arith, row_as);
+      are = λ s. (
+        λ set. row_as (IsFreeSlot class r) (IsFreeSlot class fair) row.first (class_grains class) 4 s there ((row.are s).0 set),
+        λ here. (row.are s).1 (row_as (IsFreeSlot class fair) (IsFreeSlot class r) row.first (class_grains class) 4 s back here),
+      );
     }
 
 module _ (f : Profile) (k : ℕ) (l : Whole) (class page : ℕ) (searched : List Made) (starts : Mask4) (legal : Legal f (triples k searched ++ l))
@@ -215,4 +218,7 @@ module _ (f : Profile) (k : ℕ) (l : Whole) (class page : ℕ) (searched : List
 
   -- What a search took of an exclusive page are its slots that were free before the search.
   pub exclusive_free : (s : ℕ) → IsTrue (is_set starts s) ↔ IsFreeSlot class (free_of_page l page) s
-  exclusive_free s = grind (arith, slot_answer)
+  exclusive_free s = (
+    λ set. let both = (took.are s).0 set in (both.0, λ b low high. sym (slot_answer s b both.0 high) ∙ both.1 b low high),
+    λ both. (took.are s).1 (both.0, λ b low high. slot_answer s b both.0 high ∙ both.1 b low high),
+  )

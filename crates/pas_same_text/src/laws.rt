@@ -1,36 +1,63 @@
 //! What each act owes: from a state of the text that is the replay's it leads to one that is. Each law is the contract of an empty function.
 ghost use Rattle.std.specs.Prelude.{ℕ, ◌+◌, ◌*◌, ◌<◌, ◌≤◌, ◌≡◌, ◌↔◌, List, [], ◌∷◌, ◌++◌, length, true, None, Some, Ok, ◌||◌, false};
-ghost use Rattle.pas_profile.specs.declared.{name.Name.Name, profile.Profile.Profile, directory.Route.Route, event.NoRoom.NoRoom};
-ghost use Rattle.pas_profile.specs.declared.{directory.Directory.Directory, event.Event.Event, entry.Entry.Entry};
-ghost use Rattle.pas_trace.specs.{Acts.Act, EveryPlan.IsThread, Plans.IsPlanOf};
+ghost use Rattle.pas_profile.specs.declared.name.Name.{Name};
+ghost use Rattle.pas_profile.specs.declared.profile.Profile.{Profile};
+ghost use Rattle.pas_profile.specs.declared.directory.Route.{Route};
+ghost use Rattle.pas_profile.specs.declared.event.NoRoom.{NoRoom};
+ghost use Rattle.pas_profile.specs.declared.directory.Directory.{Directory};
+ghost use Rattle.pas_profile.specs.declared.event.Event.{Event};
+ghost use Rattle.pas_profile.specs.declared.entry.Entry.{Entry};
+ghost use Rattle.pas_trace.specs.Acts.{Act};
+ghost use Rattle.pas_trace.specs.EveryPlan.{IsThread};
+ghost use Rattle.pas_trace.specs.Plans.{IsPlanOf};
 ghost use Rattle.pas_trace.specs.declared.plan.What.TheVariants.{Alloc, Flush, Free, FreeSized, Raw, RawSized, Stop};
-ghost use Rattle.pas_profile.specs.{Requests.route_in, Directories.number_of};
+ghost use Rattle.pas_profile.specs.Requests.{route_in};
+ghost use Rattle.pas_profile.specs.Directories.{number_of};
 ghost use Rattle.pas_profile.specs.Profiles.{IsValid, IsAdmitted, IsPage, IsDirectoryOf};
-ghost use Rattle.pas_search.specs.{Kinds.ReturnsDuly, Telling.IsTrueReason, Searches.FromOffered, Searches.ByDeed};
+ghost use Rattle.pas_search.specs.Kinds.{ReturnsDuly};
+ghost use Rattle.pas_search.specs.Telling.{IsTrueReason};
+ghost use Rattle.pas_search.specs.Searches.{FromOffered, ByDeed};
 ghost use Rattle.pas_machine.specs.Machine.{Run};
-ghost use Rattle.pas_free_log.specs.declared.{ending.Outcome.Outcome, noting.EndedRun.EndedRun};
-ghost use Rattle.pas_same_text.specs.{Frees.ends, Frees.flushes, Searches.refusal, Searches.searched, Reports.text_of, State.World, State.each};
-ghost use Rattle.pas_same_text.specs.{Indexes.named_first, Same.IsSame, Same.lives_in, Same.ArePagesSame, Requests.RequestStaysSame, Told.IsTold};
-ghost use Rattle.pas_same_text.specs.{Searched.IsSearch, Words.free_bit};
+ghost use Rattle.pas_free_log.specs.declared.ending.Outcome.{Outcome};
+ghost use Rattle.pas_free_log.specs.declared.noting.EndedRun.{EndedRun};
+ghost use Rattle.pas_same_text.specs.Frees.{ends, flushes};
+ghost use Rattle.pas_same_text.specs.Searches.{refusal, searched};
+ghost use Rattle.pas_same_text.specs.Reports.{text_of};
+ghost use Rattle.pas_same_text.specs.State.{World, each};
+ghost use Rattle.pas_same_text.specs.Indexes.{named_first};
+ghost use Rattle.pas_same_text.specs.Same.{IsSame, lives_in, ArePagesSame};
+ghost use Rattle.pas_same_text.specs.Requests.{RequestStaysSame};
+ghost use Rattle.pas_same_text.specs.Told.{IsTold};
+ghost use Rattle.pas_same_text.specs.Searched.{IsSearch};
+ghost use Rattle.pas_same_text.specs.Words.{free_bit};
 ghost use Rattle.pas_same_text.specs.Known.{ArePlanned, IsCarried, AreKnown, KeepsSame};
-ghost use Rattle.pas_answers.specs.{Indexes.ActIsNamedBy, Indexes.indexes_after_all, Reaching.Reaches, Ways.InOrder, Answers.Progress};
+ghost use Rattle.pas_answers.specs.Indexes.{ActIsNamedBy, indexes_after_all};
+ghost use Rattle.pas_answers.specs.Reaching.{Reaches};
+ghost use Rattle.pas_answers.specs.Ways.{InOrder};
+ghost use Rattle.pas_answers.specs.Answers.{Progress};
 ghost use Rattle.pas_answers.specs.Replays.{IsReplay, at_start, phases_of, region_of, threads_of, keepers_of, acts_of_plan};
 ghost use Rattle.pas_same_text.specs.Order.{acts_on, opened, replayed, order_text};
-ghost use Rattle.pas_records.specs.{Lines.lines_of, Marks.marks_after, Rests.AreStamped, Rests.AreTrueMarks};
+ghost use Rattle.pas_records.specs.Lines.{lines_of};
+ghost use Rattle.pas_records.specs.Marks.{marks_after};
+ghost use Rattle.pas_records.specs.Rests.{AreStamped, AreTrueMarks};
 ghost use Rattle.pas_report.specs.Reports.{report_text};
-ghost use Rattle.pas_large.specs.{Doors.Indexes, Doors.no_ranges, Finds.MayFind, Finds.FoundRun, Finds.finding};
-ghost use Rattle.pas_trace.specs.declared.{item.Request.Request, plan.Plan.Plan};
+ghost use Rattle.pas_large.specs.Doors.{Indexes, no_ranges};
+ghost use Rattle.pas_large.specs.Finds.{MayFind, FoundRun, finding};
+ghost use Rattle.pas_trace.specs.declared.item.Request.{Request};
+ghost use Rattle.pas_trace.specs.declared.plan.Plan.{Plan};
 ghost use Rattle.pas_large.specs.Telling.{IsWholePage, IsUsablePage, HasNoUsableRun, IsLowestRun, IsNamedWhole};
 ghost use Rattle.pas_records.specs.declared.record.Record.{Record};
 ghost use Rattle.pas_same_text.specs.Entries.{IsShown, IsEntryEvent, HaveOutcomes, events_of_flush, are_unsized, onto, HasShown, IsFlushOf};
-ghost use Rattle.pas_steps.specs.{Kinds.Only, Past.Always, Desks.triples, Views.has_right};
+ghost use Rattle.pas_steps.specs.Kinds.{Only};
+ghost use Rattle.pas_steps.specs.Past.{Always};
+ghost use Rattle.pas_steps.specs.Desks.{triples};
+ghost use Rattle.pas_steps.specs.Views.{has_right};
 ghost use Rattle.pas_steps.specs.Lists.{Whole, part, visible, Legal};
 ghost use Rattle.pas_steps.specs.declared.step.Made.{Made};
 ghost use Rattle.pas_core.specs.Rights.{eligible_bit, free_of_page};
 ghost use Rattle.pas_same_text.specs.Runs.{large_of, is_whole, is_usable, named_run, lowest_run};
 ghost use Rattle.pas_same_text.specs.Pages.{is_free, is_kept, is_offered, has_room, is_guarded};
-ghost use Rattle.pas_same_text.specs.Acts.{IsBetween, IsAtRest, IsTaken, StaysSame, StaysSameWhere, HasUsableBlocks, KeepsUsable, AreEndsStamped, KeepsStamped};
-ghost use Rattle.pas_same_text.specs.Acts.{KeepsIndexes, HasLogRoom, HasCachedSlot};
+ghost use Rattle.pas_same_text.specs.Acts.{IsBetween, IsAtRest, IsTaken, StaysSame, StaysSameWhere, HasUsableBlocks, KeepsUsable, AreEndsStamped, KeepsStamped, KeepsIndexes, HasLogRoom, HasCachedSlot};
 
 use pas_core::laws::Fitting;
 
@@ -42,7 +69,6 @@ pub fn marks_stay_the_same()
 {}
 
 /// A thread that begins a phase has read the epoch of the text, and so has the scavenger for an idle operation. A tick raises that epoch.
-#[tactic(auto, using(crate::proofs::SmallActs::wake_same, crate::proofs::SmallActs::reading_same, crate::proofs::SmallActs::tick_same))]
 pub fn epochs_stay_the_same()
     ensures wakes { (f : Profile) (k : ℕ) → IsThread f k → StaysSame f (Act.Wakes k) }
     ensures reads { (f : Profile) → StaysSame f Act.ReadsEpoch }
