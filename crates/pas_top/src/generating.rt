@@ -2,7 +2,7 @@
 ghost use Rattle.std.specs.Prelude.{◌≡◌};
 ghost use Rattle.pas_top.specs.Generated.{Generates};
 
-use crate::outcome::outcome_in_order;
+use crate::ordering::outcome_in_order;
 use pas_generate::laws::generated_texts_are_read;
 use pas_generate::trace_of;
 use pas_io::Sink;

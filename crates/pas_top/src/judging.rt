@@ -5,7 +5,6 @@ ghost use Rattle.pas_io.specs.declared.reach.Reach.TheVariants as Reach;
 ghost use Rattle.pas_top.specs.{Outputs.most_bytes, Checked.EndsCheck};
 ghost use Rattle.pas_top.specs.Judgements.{IsJudgement, judgement_status, judgement_text, verdict_text};
 
-use crate::TOO_LONG;
 use pas_check::{Verdict, check, split};
 use pas_io::whole::{Input, Stop, read_all};
 use pas_io::{Sink, Source};
@@ -16,6 +15,8 @@ use pas_records::text::push_field;
 use pas_telling::{fault_line, tell};
 use pas_trace::{ReadFault, TraceFault, read_trace};
 use std::alloc::Global;
+
+pub(crate) const TOO_LONG: &str = "input too long\n";
 
 /// What an input comes to under a check.
 #[derive(Clone, Copy, Drop)]

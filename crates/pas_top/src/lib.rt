@@ -7,13 +7,10 @@ pub mod laws;
 mod line_writer;
 pub mod main_call;
 mod opening;
+mod ordering;
 mod outcome;
 mod remaking;
 
 pub use main_call::pas_main;
 pub use pas_telling::manner;
 pub use remaking::Reallocation;
-
-const USAGE: &str = "usage: pas order | pas run | pas check | pas gen SEED OPS THREADS PAGES\n";
-
-const TOO_LONG: &str = "input too long\n";

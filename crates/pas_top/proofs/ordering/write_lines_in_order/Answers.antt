@@ -2,7 +2,7 @@ use Rattle.std.proofs.Common.{rules, ◌∙◌, ◌++◌, false, sym}
 use Rattle.pas_top.specs.Wrote.{Wrote, wrote_lines}
 use Rattle.pas_top.proofs.Statuses.{waiting_shown, wrote_as}
 use Rattle.pas_records.specs.{Lines.lines_of, Rooms.records_in}
-use Rattle.pas_top.proofs.outcome.write_lines_in_order.Goals as goal
+use Rattle.pas_top.proofs.ordering.write_lines_in_order.Goals as goal
 
 pub write-requires : goal.write-requires
 write-requires g c =

@@ -1,5 +1,5 @@
 use Rattle.pas_top.proofs.{Headline.can_show, Statuses.cut_in_lines, Statuses.report_told, Statuses.cut_in_report}
-use Rattle.pas_top.proofs.outcome.write_in_order.Goals as goal
+use Rattle.pas_top.proofs.ordering.write_in_order.Goals as goal
 
 pub returns-then-failed : goal.returns-then-failed
 returns-then-failed g c text plan may = cut_in_lines (c.write_lines_in_order-state.ensures text plan may) c.if-failed.true

@@ -1,5 +1,5 @@
 use Rattle.pas_top.proofs.Headline.{read_plan}
-use Rattle.pas_top.proofs.outcome.outcome_in_order.Goals as goal
+use Rattle.pas_top.proofs.ordering.outcome_in_order.Goals as goal
 
 pub records_for-requires : goal.records_for-requires
 records_for-requires c = (c.args.bytes.items, c.requires, read_plan _ _ _ _ c.deref.ensures.value c.in-Ok.is c.read_trace-read.ensures)

@@ -5,7 +5,7 @@ use Rattle.pas_records.specs.Rooms.{Records, room_of}
 use Rattle.pas_replay.specs.{Kits.IsKitOf, Kits.MayReplay, Taking.room_for_taker}
 use Rattle.pas_replay.specs.declared.kit.PlainKit.{PlainKit}
 use Rattle.pas_top.proofs.{Statuses.order_told, Headline.read_as_script}
-use Rattle.pas_top.proofs.outcome.order.Goals as goal
+use Rattle.pas_top.proofs.ordering.order.Goals as goal
 
 -- A course of a plan of the bytes may be replayed with the plan's kit and as much room as was asked for.
 may_replay : {P : Type 0} {said : P → List Op} {course : Course P} {kit : PlainKit} {bytes : List ℕ} {plan : Plan} {waiting : Records} → length bytes ≤ 16777216
