@@ -7,13 +7,13 @@ ghost use Rattle.pas_trace.specs.declared.{plan.Plan.Plan, fault.TraceFault.Trac
 ghost use Rattle.pas_check.specs.Inputs.{trace_in};
 ghost use Rattle.pas_check.specs.declared.verdict.Verdict.{Verdict};
 ghost use Rattle.pas_telling.specs.declared.manner.Manner.{Manner};
-ghost use Rattle.pas_top.specs.{Judgements.IsJudged, Judgements.verdict_status, OneText.WritesTextOf};
-ghost use Rattle.pas_top.specs.Outputs.{most_bytes, texts_of, IsReplaying, IsChecking, ReadsInput, IsGen, IsAccepted, IsStatus, IsWriting, IsWritten};
-ghost use Rattle.pas_top.specs.Outputs.{HasFailed, IsCutOff};
+ghost use Rattle.pas_calls.specs.{Judgements.IsJudged, Judgements.verdict_status, OneText.WritesTextOf};
+ghost use Rattle.pas_calls.specs.Outputs.{most_bytes, texts_of, IsReplaying, IsChecking, ReadsInput, IsGen, IsAccepted, IsStatus, IsWriting, IsWritten};
+ghost use Rattle.pas_calls.specs.Outputs.{HasFailed, IsCutOff};
 
-use crate::generating::generate;
-use crate::judging::{TOO_LONG, check_input};
-use crate::ordering::order;
+use pas_calls::generating::generate;
+use pas_calls::judging::{TOO_LONG, check_input};
+use pas_calls::ordering::order;
 use crate::outcome::{replayed_on_threads, tell_outcome};
 use pas_io::whole::{Input, Stop, read_all};
 use pas_io::{Sink, Source};
