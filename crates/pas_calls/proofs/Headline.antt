@@ -26,7 +26,7 @@ use Rattle.pas_telling.specs.Outcomes.{IsShown, IsWritable, outcome_status, outc
 use Rattle.pas_check.specs.Accepted.{IsAccepted, IsVerdict}
 use Rattle.pas_check.specs.declared.verdict.Verdict.{Verdict, TheVariants.Yes}
 use Rattle.pas_check.proofs.Verdicts.{one_verdict}
-use Rattle.pas_accepted.proofs.{OnePlan.same_plan, Whole.replay_accepted}
+use Rattle.pas_calls.proofs.{OnePlan.same_plan, Whole.replay_accepted}
 use Rattle.pas_records.specs.{Lines.lines_of, Marks.marks_after, Rests.AreStamped, Rests.HasWords, Rooms.records_in}
 use Rattle.pas_records.specs.declared.record.Record.{Record}
 use Rattle.pas_records.proofs.MarksAtRest.{nobody_holds}

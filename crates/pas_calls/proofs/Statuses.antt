@@ -9,7 +9,7 @@ use Rattle.pas_trace.specs.declared.{plan.Plan.Plan, fault.TraceFault.TraceFault
 use Rattle.pas_check.specs.Inputs.{trace_in, transcript_in}
 use Rattle.pas_check.specs.declared.verdict.Verdict.{Verdict}
 use Rattle.pas_check.proofs.Verdicts.{one_verdict}
-use Rattle.pas_accepted.proofs.OnePlan.{same_verdict}
+use Rattle.pas_calls.proofs.{OnePlan.same_verdict, Headline.order_comes, Headline.order_output, Headline.totals_are}
 use Rattle.pas_telling.specs.{Words.IsChecking, Outcomes.shown_text, Summaries.summary_text}
 use Rattle.pas_calls.specs.{Checked.EndsCheck, Checked.TellsCheck, Wrote.Wrote, Wrote.front_after, Generating.IsSummarized, Generated.Generates}
 use Rattle.pas_calls.specs.{Outcomes.IsShowing}
@@ -26,7 +26,6 @@ use Rattle.pas_answers.specs.{Replays.Shows, Ways.InOrder}
 use Rattle.pas_answers.proofs.Consequences.{can_be_shown}
 use Rattle.pas_telling.specs.declared.manner.Manner.{Manner}
 use Rattle.pas_calls.specs.Ordered.{Orders, TellsLines, TellsReplay, TellsOrder}
-use Rattle.pas_calls.proofs.Headline.{order_comes, order_output, totals_are}
 use Rattle.pas_generate.specs.Traces.{trace_text}
 
 -- ---- a call that read its input whole

@@ -1,6 +1,6 @@
 //! What an input comes to in the order of its text.
 ghost use Rattle.std.specs.Prelude.{◌≡◌, ◌≤◌, ◌+◌, ℕ, List, [], Some, IfOk, length};
-ghost use Rattle.pas_trace.specs.{Plans.IsPlanOf};
+ghost use Rattle.pas_trace.specs.Plans.{IsPlanOf};
 ghost use Rattle.pas_trace.specs.declared.plan.Plan.{Plan as ThePlan};
 ghost use Rattle.pas_answers.specs.{Replays.phases_of, Replays.Shows, Ways.InOrder};
 ghost use Rattle.pas_replay.specs.Kits.{MayReplay};

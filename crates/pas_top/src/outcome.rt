@@ -1,10 +1,10 @@
 //! What an input comes to on threads.
 ghost use Rattle.std.specs.Prelude.{◌≡◌, ◌≤◌, ◌+◌, ℕ, List, [], Some, IfOk, length};
-ghost use Rattle.pas_trace.specs.{Plans.IsPlanOf};
+ghost use Rattle.pas_trace.specs.Plans.{IsPlanOf};
 ghost use Rattle.pas_answers.specs.{Replays.phases_of, Ways.OnThreads};
 ghost use Rattle.pas_io.specs.Told.{Tells};
 ghost use Rattle.pas_telling.specs.Outcomes.{IsWritable, outcome_text, outcome_status};
-ghost use Rattle.pas_calls.specs.{Outcomes.IsOutcome, Outcomes.ShowsBy};
+ghost use Rattle.pas_calls.specs.Outcomes.{IsOutcome, ShowsBy};
 ghost use Rattle.pas_records.specs.Rooms.{records_in, room_of};
 
 use crate::opening::{kit_of, read_for_threads};

@@ -21,12 +21,12 @@ use Rattle.pas_check.specs.Begins.{begun_what, entry_of as known_entry, freeing_
 use Rattle.pas_check.specs.Begins.{begun_act, begun_from, past_outcomes, ready, ready_with, page_due, pages_due}
 use Rattle.pas_check.specs.States.{Serves, Stand, Task, Does, Due, Tries, Writes, with_at, Frees, Examines, Reports, at_first, Heads, Shows, Totals, with_one}
 use Rattle.pas_check.proofs.Ticks.{epoch_kept}
-use Rattle.pas_accepted.proofs.Telling.{flush_only, flush_leads, emptied, logs_with, stop_leads, stop_tells, LeadsOn, on_as, on_both, lines_by, Comes, Tells}
-use Rattle.pas_accepted.proofs.Telling.{piece_of, told_after, on_line, on_done, on_task, emptying, booked_as, logged_as, lines_both, table_at, table_same}
-use Rattle.pas_accepted.proofs.Telling.{stop_only, on_same}
-use Rattle.pas_accepted.proofs.Requests.{free_comes, freed_comes, silent_lines, asked_tells, asked_then, remade_comes, request_leads, served_plain, given_comes}
-use Rattle.pas_accepted.proofs.Requests.{thread_comes}
-use Rattle.pas_accepted.proofs.Passes.{pass_comes, lowered_comes}
+use Rattle.pas_calls.proofs.Telling.{flush_only, flush_leads, emptied, logs_with, stop_leads, stop_tells, LeadsOn, on_as, on_both, lines_by, Comes, Tells}
+use Rattle.pas_calls.proofs.Telling.{piece_of, told_after, on_line, on_done, on_task, emptying, booked_as, logged_as, lines_both, table_at, table_same}
+use Rattle.pas_calls.proofs.Telling.{stop_only, on_same}
+use Rattle.pas_calls.proofs.Requests.{free_comes, freed_comes, silent_lines, asked_tells, asked_then, remade_comes, request_leads, served_plain, given_comes}
+use Rattle.pas_calls.proofs.Requests.{thread_comes}
+use Rattle.pas_calls.proofs.Passes.{pass_comes, lowered_comes}
 use Rattle.std.proofs.lemmas.{Bool.false_from_ne_true, Option.none-some}
 use Rattle.pas_core.proofs.OneActor.{legal_before}
 use Rattle.pas_steps.specs.declared.step.Made.{Made}

@@ -24,8 +24,8 @@ use Rattle.pas_answers.proofs.Consequences.{parts_kept, tidy_piece, Tidy, tidy_o
 use Rattle.pas_answers.proofs.Reached.{Each}
 use Rattle.pas_check.specs.States.{Examines, Stand, with_due, Does, Task, Due}
 use Rattle.pas_check.specs.Takes.{MayCome, after_outcome, record_of as allowed_record}
-use Rattle.pas_accepted.proofs.Telling.{visible_piece, LeadsOn, on_as, on_both, on_line, on_same, lines_both, lines_by, on_past, on_task, Comes, Tells}
-use Rattle.pas_accepted.proofs.Telling.{AreAligned, going, is_down, raised_by, staying, booked_sweep, going_told, guards_of}
+use Rattle.pas_calls.proofs.Telling.{visible_piece, LeadsOn, on_as, on_both, on_line, on_same, lines_both, lines_by, on_past, on_task, Comes, Tells, AreAligned}
+use Rattle.pas_calls.proofs.Telling.{going, is_down, raised_by, staying, booked_sweep, going_told, guards_of}
 use Rattle.std.proofs.lemmas.List.{map-append, reverse-append, reverse-reverse}
 use Rattle.pas_bits.specs.Bits.{has_bit}
 use Rattle.pas_steps.proofs.{Parts.part_of_own, Adding.triples_append}

@@ -33,9 +33,9 @@ use Rattle.pas_check.specs.{Calls.after_request, Accepted.IsDone, Accepted.IsWho
 use Rattle.pas_check.specs.Takes.{IsRefusal, directory_of, Takes, is_back, IsServing, block_in, given_next, kept_next}
 use Rattle.pas_check.specs.States.{Due, Serves, Stand, with_due, with_name, Task, Tries, with_one}
 use Rattle.pas_check.specs.declared.{entry.Entry.Entry, guard.Guard.Guard as Known}
-use Rattle.pas_accepted.proofs.Telling.{LeadsOn, on_as, on_both, on_line, on_same, lines_both, lines_by, lines_more, shown_is, raised_by, flush_only}
-use Rattle.pas_accepted.proofs.Telling.{flush_leads, emptied, logs_with, logged_as, table_same, own_at, put_twice, Comes, Tells, told_after, piece_of}
-use Rattle.pas_accepted.proofs.Telling.{AreBooked, booked_raise, booked_sweep, after_piece}
+use Rattle.pas_calls.proofs.Telling.{LeadsOn, on_as, on_both, on_line, on_same, lines_both, lines_by, lines_more, shown_is, raised_by, flush_only, flush_leads}
+use Rattle.pas_calls.proofs.Telling.{emptied, logs_with, logged_as, table_same, own_at, put_twice, Comes, Tells, told_after, piece_of, AreBooked, booked_raise}
+use Rattle.pas_calls.proofs.Telling.{booked_sweep, after_piece}
 use Rattle.pas_rights.specs.Gives.{give_steps}
 use Rattle.pas_guard.specs.declared.book.Guard.{Guard}
 use Rattle.std.proofs.lemmas.{Bool.and_from, Bool.and_parts, Bool.false_from_ne_true, List.length-map, List.map-append, List.reverse-append}
@@ -51,7 +51,7 @@ use Rattle.pas_guard.specs.Raises.{IsNotRaised, IsRaised, RaiseSteps, guard_of a
 use Rattle.pas_guard.specs.Seeks.{seeking}
 use Rattle.pas_guard.proofs.Raises.{raised_backs, raised_leaves}
 use Rattle.pas_answers.specs.Guarding.{IsTried, Tried, TryEnds, after_giving, after_trying, said_of_guard}
-use Rattle.pas_accepted.proofs.Passes.{swept_is, IsSwept, sweep_leads, up_after}
+use Rattle.pas_calls.proofs.Passes.{swept_is, IsSwept, sweep_leads, up_after}
 use Rattle.pas_records.specs.declared.record.{Record.Record, Said.Said}
 use Rattle.pas_records.specs.Lines.{line_of_event}
 
