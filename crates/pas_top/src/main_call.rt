@@ -11,10 +11,10 @@ ghost use Rattle.pas_calls.specs.{Judgements.IsJudged, Judgements.verdict_status
 ghost use Rattle.pas_calls.specs.Outputs.{most_bytes, texts_of, IsReplaying, IsChecking, ReadsInput, IsGen, IsAccepted, IsStatus, IsWriting, IsWritten};
 ghost use Rattle.pas_calls.specs.Outputs.{HasFailed, IsCutOff};
 
+use crate::outcome::{replayed_on_threads, tell_outcome};
 use pas_calls::generating::generate;
 use pas_calls::judging::{TOO_LONG, check_input};
 use pas_calls::ordering::order;
-use crate::outcome::{replayed_on_threads, tell_outcome};
 use pas_io::whole::{Input, Stop, read_all};
 use pas_io::{Sink, Source};
 use pas_profile::limits::MOST_BYTES;
