@@ -3,7 +3,7 @@
 
 Says which files of crates/ haven't their imports in the one form (tools/fold_imports.py), and tries the tools that
 rewrite proof files on the small texts of their own: that each does what it is to do, and nothing more in a second run.
-The tools that make one crate or one file of several are tried on small trees. The program isn't needed. Ends with status 0 where all is well."""
+The tools that make one crate or one file of several, or two crates of one, are tried on small trees. The program isn't needed. Ends with status 0 where all is well."""
 import subprocess
 import sys
 from pathlib import Path
@@ -17,6 +17,7 @@ RUNS = [
     ("make_private.py", "--self-check"),
     ("merge_crates.py", "--self-check"),
     ("merge_files.py", "--self-check"),
+    ("split_crate.py", "--self-check"),
 ]
 
 

@@ -3,7 +3,8 @@
 
 Tests tools/kit.py, by which tools/prove calls the kit's rt. With kits that are written here: one that is no Python and one that makes the sums of
 crates by other code run as they are, with their words and their status; whether a kit keeps what passed is asked of its help, and tools/prove says so
-only then. With the kit of this machine: each crate's sum is kept as the kit makes it, its files are read once a run, its version is told as rt
+only then. Of tasks of a run, the proofs of the longest chain get more jobs, where no edits are tried beside them, and a program's compilers run side by
+side, with the status that they have one after the other. With the kit of this machine: each crate's sum is kept as the kit makes it, its files are read once a run, its version is told as rt
 tells it, and a library that is marked as built counts as built with rt, until a file of it changes. Where no kit is in PATH that part is skipped, and
 said to be. The program isn't needed. Prints what was checked; the status is 1 where something was wrong."""
 import os
@@ -11,11 +12,14 @@ import shutil
 import subprocess
 import sys
 import tempfile
+import threading
 from pathlib import Path
 
 sys.dont_write_bytecode = True
 from logs import ROOT, called, check, end_checks
 import kit
+import lanes
+import plan
 
 SHELL = '#!/bin/sh\n[ "$1" = help ] && { echo "rt ci [--anew]"; exit 0; }\necho "shell: $*"; exit 7\n'
 OTHER = """#!/usr/bin/env python3
@@ -99,6 +103,52 @@ def test_marks(room):
     print("libraries that are marked as built")
 
 
+def jobs_given(tasks):
+    """The jobs with which the tasks are called, one after the other, where each is given one."""
+    told = {}
+    calls = {key: (after, 1, 1, lambda given, jobs, key=key: told.update({key: jobs})) for key, after in tasks.items()}
+    for _, _, _, call in lanes.with_more_jobs(calls).values():
+        call({}, 1)
+    return told
+
+
+def test_lanes():
+    """Two crates above one: of those the one that takes longer is on the longest chain, and then none is left beside the other."""
+    most, seconds, lanes.most_jobs = lanes.most_jobs, plan.seconds_by_crate, lambda: 3
+    plan.seconds_by_crate = lambda: {"low": 10, "long": 30, "short": 20}
+    low, tests = ("low", "proof"), ("low", "tests")
+    tasks = {low: [], tests: [], ("short", "proof"): [low], ("long", "proof"): [low]}
+    check(lanes.chains({key: (after, 1, 1, None) for key, after in tasks.items()})[low] == 40, "the longest chain isn't of 40 seconds")
+    got = jobs_given(tasks)
+    check(got == {low: 3, tests: 1, ("short", "proof"): 1, ("long", "proof"): 3}, f"jobs: {got}")
+    got = jobs_given(tasks | {("low", "edits", 0): [low]})
+    check(set(got.values()) == {1}, f"jobs beside edits: {got}")
+    lanes.most_jobs, plan.seconds_by_crate = most, seconds
+    check(1 <= lanes.most_jobs() <= plan.MOST_JOBS, f"as many as {lanes.most_jobs()} jobs")
+    print("jobs of the longest chain")
+
+
+class Program:
+    """A program of a kit, whose second compiler waits for the first to have begun, and whose first waits for the second."""
+
+    def __init__(self, statuses):
+        self.folder, self.statuses, self.begun = "program", statuses, {name: threading.Event() for name in statuses}
+
+    def compile_by(self, backend, words, to):
+        self.begun[backend].set()
+        together = all(it.wait(10) for it in self.begun.values())
+        return self.statuses[backend] if together else 9
+
+
+def test_compilers():
+    lanes.compile_at_once(Program)
+    for llvm, own, wanted in ((0, 0, 0), (0, 4, 4), (3, 0, 3), (3, 4, 3)):
+        program = Program({"llvm": llvm, "rattle": own})
+        status = program.compile_by("llvm", [], "") or program.compile_by("rattle", [], "")
+        check(status == wanted, f"compilers that end in {llvm} and {own}: {status}")
+    print("compilers side by side")
+
+
 def main():
     if len(sys.argv) > 2 or sys.argv[1:2] in (["-h"], ["--help"]):
         sys.exit(__doc__)
@@ -106,6 +156,8 @@ def main():
         test_other_kits(Path(room))
     helped = called([sys.executable, str(ROOT / "tools/kit.py"), "--help"])
     check(helped.returncode == 0 and "tools/kit.py WORD.." in helped.stdout, f"--help: {helped.stdout}")
+    test_lanes()
+    test_compilers()
     if shutil.which("rt"):
         test_sums()
         with tempfile.TemporaryDirectory() as room:

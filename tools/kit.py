@@ -1,11 +1,12 @@
 #!/usr/bin/env python3
-"""Runs the kit's `rt` with these words, with the sum of each crate's files made once.
+"""Runs the kit's `rt` with these words, with the sum of each crate's files made once, and its processors kept busy.
 
 For each library `rt` makes a sum of the crate's files and of the sums of those that it stands on, and so reads a crate
 once for each way that leads down to it: for pas_top 9,557 times, which takes half a minute of one processor, twice.
 Here a crate's sum is kept until the command ends. So no file of the crates may change meanwhile: tools/prove runs it on
-a copy. The verdict is the kit's: no code of it but that of the sum is another here, and where the kit makes the sum by
-other code than is known here, or isn't Python, the words go to it as they are.
+a copy. The proofs that the end waits for get more processes, and a program's compilers run side by side (lanes.py). The
+verdict is the kit's: what is checked and how is its code, and where the kit makes the sum, or runs its tasks, by other
+code than is known here, that part is left as it is. Where it isn't Python, the words go to it as they are.
 
     tools/kit.py WORD..    as rt WORD..
 """
@@ -24,10 +25,15 @@ import sys
 from pathlib import Path
 from types import ModuleType
 
+import lanes
+
 # The code by which rattle-kit-13b makes the sum: of the files of the crate and of those below it, which no run writes.
 KNOWN_SUMS = {"bd65806bc231da43"}
 # The code by which rattle-kit-13f builds a library and tells that it is built: by the crate's sum, in a file beside it.
 KNOWN_BUILDS = {"d0ae00b6b66174f0"}
+# The code by which rattle-kit-13f runs its tasks side by side, and that by which it has a program compiled.
+KNOWN_LANES = {"eeec54b828605f7f"}
+KNOWN_COMPILING = {"dff3deaca24f2f18"}
 
 
 def find() -> str:
@@ -65,8 +71,8 @@ def load(path: str) -> ModuleType | None:
         return None
 
 
-def code_sum(of: type, *names: str) -> str:
-    """A sum of the code of these methods, or nothing where one isn't there."""
+def code_sum(of: type | ModuleType, *names: str) -> str:
+    """A sum of the code of these methods or functions, or nothing where one isn't there."""
     found = [getattr(of, name, None) for name in names]
     return hashlib.sha256("".join(map(inspect.getsource, found)).encode()).hexdigest()[:16] if all(found) else ""
 
@@ -109,6 +115,17 @@ def keep_sums(crate: type) -> bool:
     return True
 
 
+def fill_processors(kit: ModuleType) -> bool:
+    """Has the kit's processors kept busy where it runs tasks and compilers by code that is known, and tells of it."""
+    crate = getattr(kit, "Crate", object)
+    known = [code_sum(kit, "in_lanes") in KNOWN_LANES, code_sum(crate, "ci", "compile_by") in KNOWN_COMPILING]
+    if known[0]:
+        lanes.widen(kit)
+    if known[1]:
+        lanes.compile_at_once(crate)
+    return any(known)
+
+
 def main() -> int:
     words = sys.argv[1:]
     if not words or words[0] in ("-h", "--help"):
@@ -116,7 +133,9 @@ def main() -> int:
         return 0 if words else 2
     path = find()
     kit = load(path)
-    if not kit or not hasattr(kit, "main") or not keep_sums(getattr(getattr(kit, "rtlib", None), "Crate", object)):
+    # Both, whichever is known.
+    is_known = kit and [keep_sums(getattr(getattr(kit, "rtlib", None), "Crate", object)), fill_processors(kit)]
+    if not is_known or not any(is_known) or not hasattr(kit, "main"):
         os.execv(path, [path, *words])
     return kit.main(words)
 

@@ -74,21 +74,30 @@ def read_crates(top: str) -> dict[str, Crate]:
     return wanted
 
 
+def table() -> str:
+    """The table of times in docs/GATE.md, and what is said below it of the machine."""
+    text = (ROOT / "docs/GATE.md").read_text()
+    return text.partition("<!-- times by crate -->")[2].partition("<!-- end -->")[0]
+
+
+def seconds_by_crate() -> dict[str, float]:
+    """What the proof of each crate took there."""
+    return {name: float(seconds) for name, seconds in re.findall(r"(?m)^\| `(\w+)` \| (\d+) ", table())}
+
+
 def set_seconds(crates: dict[str, Crate], anew: bool) -> None:
     """Gives each crate its time by the table in docs/GATE.md, as this machine would take it, and that of its chain: from
     nothing, or over the libraries that are built."""
-    text = (ROOT / "docs/GATE.md").read_text()
-    text = text.partition("<!-- times by crate -->")[2].partition("<!-- end -->")[0]
-    there = re.search(r"compares\s+machines\s+takes\s+([\d.]+)\s+seconds", text)
+    there = re.search(r"compares\s+machines\s+takes\s+([\d.]+)\s+seconds", table())
     slower = machine.loop_seconds() / float(there[1]) if there else 1.0
-    times = dict(re.findall(r"(?m)^\| `(\w+)` \| (\d+) ", text))
+    times = seconds_by_crate()
     changed: set[str] = set()
     for crate in crates.values():
         if not anew and crate.is_built() and not crate.below & changed:
             crate.seconds = 1.0
         else:
             changed.add(crate.name)
-            crate.seconds = slower * float(times.get(crate.name) or USUAL_SECONDS)
+            crate.seconds = slower * (times.get(crate.name) or USUAL_SECONDS)
             crate.more = slower * MORE_SECONDS.get(crate.name, 0.0)
     for crate in reversed(list(crates.values())):
         above = [it.chain for it in crates.values() if crate.name in it.below]

@@ -3,7 +3,7 @@
 
 ghost use Rattle.std.specs.Prelude.{◌≡◌, ◌≢◌, ◌⊎◌, IfOk, OnErr, drop, map};
 ghost use Rattle.std.specs.{String.string_bytes, Vec.Iter.into_iter_items};
-ghost use Rattle.pas_top.specs.Outputs.{texts_of, HasFailed, IsAccepted, IsCutOff, IsStatus, IsWriting, IsWritten};
+ghost use Rattle.pas_calls.specs.Outputs.{texts_of, HasFailed, IsAccepted, IsCutOff, IsStatus, IsWriting, IsWritten};
 
 use pas_io::real::{RealSink, RealSource};
 use pas_io::{Sink, Source};

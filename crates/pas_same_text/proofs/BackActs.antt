@@ -1,6 +1,6 @@
 -- THE ACTS THAT GIVE BACK: flushes, stops, stops of idle threads, the close, and frees into any log.
 use Rattle.std.proofs.Common.{◌≡◌, ℕ, ◌+◌, ◌≤◌, nat_le, Bool, true, false, if◌then◌else◌, List, [], ◌∷◌, ◌++◌, length, Option, None, Some, inl, inr, refl, ap}
-use Rattle.std.proofs.Common.{sym, ◌∙◌, subst, append_assoc, arith, append-nil, eq-eqb}
+use Rattle.std.proofs.Common.{sym, ◌∙◌, subst, append_assoc, arith, append-nil, eq-eqb, ◌==◌}
 use Rattle.pas_trace.specs.declared.plan.What.TheVariants.{Flush, Stop}
 use Rattle.pas_answers.specs.Answers.{suits, IsFlushed, after_stop}
 use Rattle.pas_same_text.specs.{State.names_it, Passes.stops_idle}
@@ -14,7 +14,6 @@ use Rattle.pas_same_text.proofs.Common.{Named, named, Answer, having, IsRemadeBy
 use Rattle.pas_same_text.proofs.Common.{with_steps, after_answer, room_noted, with_cache as with_cached, World, Cache, cache_of, set_cache, log_of, says}
 use Rattle.pas_same_text.proofs.Common.{remakes, IsSame, IsSameCache, adds, frees, frees_named, flushes, stops, IsResting, IsBetween, IsTaken, AreBlocksUsable}
 use Rattle.pas_same_text.proofs.Common.{HasUsableBlocks, StaysSameWhere}
-use Rattle.std.proofs.Common.{◌==◌}
 
 -- ---- a flush, and a stop
 module _ {f : Profile} {k : ℕ} {act : Act} {p p' : Progress} {w : World} (usable : HasUsableBlocks p) (thread : IsThread f k) (listed : k ≤ length w.caches)

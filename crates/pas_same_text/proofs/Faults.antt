@@ -1,22 +1,9 @@
 -- Texts that are no traces, each with the line and the reason of its first fault, and the beginnings of a trace, by computing.
-use Rattle.std.proofs.Common.{◌≡◌, ℕ, List, [], ◌∷◌, Result, map, take, codes, refl}
+use Rattle.std.proofs.Common.{◌≡◌, ℕ, List, [], ◌∷◌, Result, map, take, codes, refl, false, true}
 use Rattle.pas_report.specs.Reports.{grains_that}
-use Rattle.pas_same_text.proofs.Common.{numbers_from, Reason, TraceFault}
-use Rattle.pas_same_text.proofs.Seen.{Seen, seen, faulty}
-use Rattle.pas_same_text.proofs.Common.{Kind}
-use Rattle.pas_same_text.proofs.Seen.{back_of}
-use Rattle.pas_same_text.proofs.Seen.{closed}
-use Rattle.pas_same_text.proofs.Seen.{deed_of}
-use Rattle.pas_same_text.specs.Pages.{each_of}
-use Rattle.std.proofs.Common.{false}
-use Rattle.pas_same_text.specs.Passes.{free_bits}
-use Rattle.pas_same_text.proofs.Seen.{freed_of}
-use Rattle.pas_same_text.proofs.Seen.{give_of}
-use Rattle.pas_same_text.proofs.Seen.{marked}
-use Rattle.pas_same_text.proofs.Seen.{row_of}
-use Rattle.pas_same_text.proofs.Seen.{shown}
-use Rattle.pas_same_text.proofs.Seen.{totalled}
-use Rattle.std.proofs.Common.{true}
+use Rattle.pas_same_text.proofs.Common.{numbers_from, Reason, TraceFault, Kind}
+use Rattle.pas_same_text.proofs.Seen.{Seen, seen, faulty, back_of, closed, deed_of, freed_of, give_of, marked, row_of, shown, totalled}
+use Rattle.pas_same_text.specs.{Pages.each_of, Passes.free_bits}
 
 -- a text, and the line and the reason of its first fault
 abbrev Text : Type 0

@@ -1,18 +1,16 @@
 -- GUARDED REQUESTS: the keeper lowers the guards whose blocks have ended, and tries to raise one; where it raises none, the thread makes the request as any.
-use Rattle.std.proofs.Common.{◌≡◌, ℕ, ◌+◌, ◌-◌, ◌*◌, ◌/◌, false, List, [], ◌∷◌, ◌++◌, Option, None, Some, refl, ap, sym, ◌∙◌, subst, arith, append_assoc, append-nil}
-use Rattle.pas_same_text.proofs.Common.{filter, address_of, IsAdmitted, IsDirectoryOf, route_in, room_in, Directory, Event, Block, Profile, triples, events_by, part, Legal, Made, part_of_own, legal_before, legal_earlier, Cached, Indexes, found_in, IsRaised, Guard, Record, Said, Act, numbers_from, IsThread, Request, Op, What, Progress, with_book, records_of, AnswersTried, Tried, IsTried, after_trying, World, each, backs, large_of, serves, IsSame, IsBetween, IsKnown, IsKept, KeepsSame, lowers_ended, raises}
-use Rattle.pas_answers.specs.Indexes.{after_tried, TriedIsNamedBy}
-use Rattle.pas_answers.specs.Guarding.{said_of_guard, after_giving}
+use Rattle.std.proofs.Common.{◌≡◌, ℕ, ◌+◌, ◌-◌, ◌*◌, ◌/◌, false, List, [], ◌∷◌, ◌++◌, Option, None, Some, refl, ap, sym, ◌∙◌, subst, arith, append_assoc}
+use Rattle.std.proofs.Common.{append-nil}
+use Rattle.pas_same_text.proofs.Common.{filter, address_of, IsAdmitted, IsDirectoryOf, route_in, room_in, Directory, Event, Block, Profile, triples, events_by}
+use Rattle.pas_same_text.proofs.Common.{part, Legal, Made, part_of_own, legal_before, legal_earlier, Cached, Indexes, found_in, IsRaised, Guard, Record, Said}
+use Rattle.pas_same_text.proofs.Common.{Act, numbers_from, IsThread, Request, Op, What, Progress, with_book, records_of, AnswersTried, Tried, IsTried}
+use Rattle.pas_same_text.proofs.Common.{after_trying, World, each, backs, large_of, serves, IsSame, IsBetween, IsKnown, IsKept, KeepsSame, lowers_ended, raises}
+use Rattle.pas_answers.specs.{Indexes.after_tried, Indexes.TriedIsNamedBy, Guarding.said_of_guard, Guarding.after_giving}
 use Rattle.pas_same_text.specs.Guards.{is_over, guards}
 use Rattle.pas_profile.specs.Guards.{guards_of}
-use Rattle.pas_same_text.proofs.KeepersRest.{book_finds, keeper_of}
-use Rattle.pas_same_text.proofs.LowerActs.{sweep_same, ended_text}
-use Rattle.pas_same_text.proofs.MissedGuards.{missed_same}
-use Rattle.pas_same_text.proofs.PagesRequests.{pages_answered, named_large}
-use Rattle.pas_same_text.proofs.RaisedGuards.{raised_same}
-use Rattle.pas_same_text.proofs.ReadyPages.{shown}
-use Rattle.pas_same_text.proofs.RunsFound.{deeded, deeds_of}
-use Rattle.pas_same_text.proofs.SoughtRuns.{sought_text, missed_text, IsSought}
+use Rattle.pas_same_text.proofs.{KeepersRest.book_finds, KeepersRest.keeper_of, LowerActs.sweep_same, LowerActs.ended_text, MissedGuards.missed_same}
+use Rattle.pas_same_text.proofs.{PagesRequests.pages_answered, PagesRequests.named_large, RaisedGuards.raised_same, ReadyPages.shown, RunsFound.deeded}
+use Rattle.pas_same_text.proofs.{RunsFound.deeds_of, SoughtRuns.sought_text, SoughtRuns.missed_text, SoughtRuns.IsSought}
 use Rattle.pas_same_text.proofs.SameIndexes.{request_indexes, all_lowered_keep, each_keeps, backs_keep, same_indexes}
 use Rattle.pas_same_text.proofs.SeatedActs.{own_book, other_book, swept, swept_between, raise_legal, raise_fits, sweep_and_raise_are_the_try, tried_between}
 

@@ -15,8 +15,8 @@ use Rattle.pas_same_text.proofs.Tests.{on_page}
 use Rattle.pas_same_text.proofs.Common.{AllByRecursion, list_any, Directory, Word, Profile, InTurn, Always, Once, triples, has_right, holds, GetsHere, Made}
 use Rattle.pas_same_text.proofs.Common.{Hint, Offer, LeaveSteps, GivesDuly, leave_due, leave_returns, IsInRun, MakesNoDeedHere, pages_from, all_map}
 use Rattle.pas_same_text.proofs.Common.{same_from_deed_word, has_bit, IsValid, IsDirectoryOf, number_of, deed_word_of, IsKind, Whole, word_after, Legal, part}
-use Rattle.pas_same_text.proofs.Common.{Event, visible, Kinds, Only, apart, Taking, Giving, LookLife, Backing, returning, Progress, World, is_offered, is_guarded}
-use Rattle.pas_same_text.proofs.Common.{is_hinted, HasSame, IsSame, ArePagesSame, IsBetween, free_bit, false≢true, false_from_ne_true, cases_Bool}
+use Rattle.pas_same_text.proofs.Common.{Event, visible, Kinds, Only, apart, Taking, Giving, LookLife, Backing, returning, Progress, World, is_offered}
+use Rattle.pas_same_text.proofs.Common.{is_guarded, is_hinted, HasSame, IsSame, ArePagesSame, IsBetween, free_bit, false≢true, false_from_ne_true, cases_Bool}
 use Rattle.pas_same_text.proofs.Common.{triples_append, only_both, only_within, once_later, same_truth, eligible_bit, empty_bit, IsPartOf, legal_before}
 use Rattle.pas_same_text.proofs.Common.{LendsNone, legal_earlier, right_not_offered, right_in_one_place, hinted_at_rest, only_leaves, Live, live_in, deed_in}
 use Rattle.pas_same_text.proofs.Common.{any_covers, allocating, is_outer, IsReturnOf, ReturnsDuly}

@@ -20,9 +20,7 @@ use Rattle.pas_same_text.proofs.Common.{IsServedNamed, IsScanned, MayFind, Slots
 use Rattle.pas_same_text.proofs.Common.{IsObtained, ServesClass, ServesBitfit, ServesPages, ServesBy, IsAnswered as IsAnsweredBy, may_find, IsThread, Act}
 use Rattle.pas_same_text.proofs.Common.{Request, Alloc, Progress, Answer, wanted_by, Caches, Named, named, having, IsReplaced, records_of, said_by, with_steps}
 use Rattle.pas_same_text.proofs.Common.{after_answer, World, IsSame, IsBetween, IsResting, HasUsableBlocks, logs, frees, serves, IsAsked, AnswersSame}
-use Rattle.pas_same_text.proofs.Common.{RequestStaysSame, entry_of, Entry, Record, Said as TheSaid, IsNamedBy}
-use Rattle.pas_same_text.proofs.Common.{said_of_request}
-use Rattle.pas_answers.specs.Answers.{block_of}
+use Rattle.pas_same_text.proofs.Common.{RequestStaysSame, entry_of, Entry, Record, Said as TheSaid, IsNamedBy, said_of_request, block_of}
 
 -- ---- a request
 module _ (f : Profile) (k : ℕ) (r : Request) (p : Progress) (a : Answer) (w : World) (block : Block) (valid : IsValid f) (thread : IsThread f k)

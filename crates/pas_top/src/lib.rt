@@ -1,19 +1,11 @@
 //! The top call: from the words and the bytes that come in to the bytes and the status that go out.
 #![tactic(auto)]
 
-mod generating;
-mod judging;
-pub mod laws;
-mod line_writer;
 pub mod main_call;
 mod opening;
 mod outcome;
-mod remaking;
 
 pub use main_call::pas_main;
+pub use pas_calls::laws;
+pub use pas_calls::remaking::Reallocation;
 pub use pas_telling::manner;
-pub use remaking::Reallocation;
-
-const USAGE: &str = "usage: pas order | pas run | pas check | pas gen SEED OPS THREADS PAGES\n";
-
-const TOO_LONG: &str = "input too long\n";

@@ -7,14 +7,14 @@ ghost use Rattle.pas_trace.specs.declared.{plan.Plan.Plan, fault.TraceFault.Trac
 ghost use Rattle.pas_check.specs.Inputs.{trace_in};
 ghost use Rattle.pas_check.specs.declared.verdict.Verdict.{Verdict};
 ghost use Rattle.pas_telling.specs.declared.manner.Manner.{Manner};
-ghost use Rattle.pas_top.specs.{Judgements.IsJudged, Judgements.verdict_status, OneText.WritesTextOf};
-ghost use Rattle.pas_top.specs.Outputs.{most_bytes, texts_of, IsReplaying, IsChecking, ReadsInput, IsGen, IsAccepted, IsStatus, IsWriting, IsWritten};
-ghost use Rattle.pas_top.specs.Outputs.{HasFailed, IsCutOff};
+ghost use Rattle.pas_calls.specs.{Judgements.IsJudged, Judgements.verdict_status, OneText.WritesTextOf};
+ghost use Rattle.pas_calls.specs.Outputs.{most_bytes, texts_of, IsReplaying, IsChecking, ReadsInput, IsGen, IsAccepted, IsStatus, IsWriting, IsWritten};
+ghost use Rattle.pas_calls.specs.Outputs.{HasFailed, IsCutOff};
 
-use crate::generating::generate;
-use crate::judging::check_input;
-use crate::outcome::{order, replayed_on_threads, tell_outcome};
-use crate::{TOO_LONG, USAGE};
+use crate::outcome::{replayed_on_threads, tell_outcome};
+use pas_calls::generating::generate;
+use pas_calls::judging::{TOO_LONG, check_input};
+use pas_calls::ordering::order;
 use pas_io::whole::{Input, Stop, read_all};
 use pas_io::{Sink, Source};
 use pas_profile::limits::MOST_BYTES;
@@ -22,6 +22,8 @@ use pas_telling::{Call, Manner, Misread, call_of, tell};
 use std::alloc::Global;
 use std::sync::Wait;
 use std::thread::Threads;
+
+const USAGE: &str = "usage: pas order | pas run | pas check | pas gen SEED OPS THREADS PAGES\n";
 
 /// Replays the trace that the source gives and writes its transcript and report, where the words are the one word `order` or `run`: in the
 /// order of its text, or with each thread's operations in a thread of their own. With the one word `check` the source gives a trace, then a line that is exactly

@@ -1,6 +1,6 @@
 use Rattle.std.proofs.Common.{◌≡◌, ◌⊎◌, ℕ, List, map, ap, ◌∙◌, subst}
 use Rattle.std.specs.String.{string_bytes}
-use Rattle.pas_top.specs.Outputs.{texts_of, IsAccepted, IsCutOff, IsWriting, IsWritten}
+use Rattle.pas_calls.specs.Outputs.{texts_of, IsAccepted, IsCutOff, IsWriting, IsWritten}
 use Rattle.pas.proofs.call.Goals as goal
 
 pub returns-clause-written : goal.returns-clause-written

@@ -3,11 +3,11 @@ use Rattle.pas_io.specs.Inputs.{IsInput}
 use Rattle.pas_telling.specs.{Outcomes.outcome_status, Outcomes.outcome_text, Calls.IsCall, Calls.IsMisread}
 use Rattle.pas_telling.specs.declared.manner.Manner.{Manner}
 use Rattle.pas_answers.specs.Ways.{OnThreads}
-use Rattle.pas_top.proofs.Statuses.{gen_written, gen_cut_off, gen_sound, gen_summed, cut_off, not_four, sound, written, ended_status, ended_written}
-use Rattle.pas_top.proofs.Statuses.{ended_failed, ended_cut_off, ended_sound, ended_long, ended_mistraced, ended_judged, ended_checked, order_written}
-use Rattle.pas_top.proofs.Statuses.{order_cut_off}
-use Rattle.pas_top.specs.Outputs.{IsReplaying, IsChecking, IsAccepted, IsOutput, most_bytes, texts_of}
-use Rattle.pas_top.proofs.Headline.{can_write, outcome_output, too_long_output, status_not_four, written_told}
+use Rattle.pas_calls.proofs.Statuses.{gen_written, gen_cut_off, gen_sound, gen_summed, cut_off, not_four, sound, written, ended_status, ended_written}
+use Rattle.pas_calls.proofs.Statuses.{ended_failed, ended_cut_off, ended_sound, ended_long, ended_mistraced, ended_judged, ended_checked, order_written}
+use Rattle.pas_calls.proofs.Statuses.{order_cut_off}
+use Rattle.pas_calls.specs.Outputs.{IsReplaying, IsChecking, IsAccepted, IsOutput, most_bytes, texts_of}
+use Rattle.pas_calls.proofs.Headline.{can_write, outcome_output, too_long_output, status_not_four, written_told}
 use Rattle.pas_top.proofs.main_call.pas_main.Given as given
 use Rattle.pas_top.proofs.main_call.pas_main.Goals as goal
 

@@ -1,4 +1,4 @@
-use Rattle.pas_top.proofs.Headline.{read_plan}
+use Rattle.pas_calls.proofs.Headline.{read_plan}
 use Rattle.pas_top.proofs.outcome.replayed_on_threads.Goals as goal
 
 pub records_for-requires : goal.records_for-requires

@@ -1,5 +1,0 @@
-mod Telling
-mod Passes
-mod Requests
-pub mod Whole
-pub mod OnePlan

@@ -1,5 +1,0 @@
-use Rattle.pas_accepted.proofs.Whole.{replay_accepted}
-use Rattle.pas_accepted.proofs.laws.replays_are_accepted.Goals as goal
-
-pub returns : goal.returns
-returns c = replay_accepted

@@ -1,4 +1,0 @@
-//! That a replay in the order of the text is written as a transcript that a check accepts.
-#![tactic(auto)]
-
-pub mod laws;

@@ -1,0 +1,7 @@
+pub mod Statuses
+pub mod Headline
+mod Telling
+mod Passes
+mod Requests
+pub mod Whole
+pub mod OnePlan

@@ -1,2 +1,0 @@
-mod Statuses
-mod Headline
