@@ -115,10 +115,16 @@ module _ (f : Profile) (k : ℕ) (entry : Entry) (p : Progress) (w : World) (c' 
     q = with_steps p k steps emptied
 
     flushed_first : IsSame f (with_records q (records_of (events_by k (part k p.list) steps))) (flushes f k w)
-    flushed_first = flush_same f k p w steps emptied valid thread listed before same usable both.0 refl (record { legal = after.legal; rest = record {
-      working = λ j is. rest_at j (j == k) (p.books j) (part j q.list) (after.rest.working j is);
-      none = after.rest.none; beside = after.rest.beside; bare = after.rest.bare; scavenger = after.rest.scavenger;
-    } })
+    flushed_first = flush_same f k p w steps emptied valid thread listed before same usable both.0 refl (record {
+      legal = after.legal;
+      rest = record {
+        working = λ j is. rest_at j (j == k) (p.books j) (part j q.list) (after.rest.working j is);
+        none = after.rest.none;
+        beside = after.rest.beside;
+        bare = after.rest.bare;
+        scavenger = after.rest.scavenger;
+      };
+    })
 
     abbrev v : World
     v = flushes f k w
