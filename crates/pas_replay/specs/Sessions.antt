@@ -14,8 +14,7 @@ use Rattle.pas_answers.specs.{Keeping.owed_by_keeper, Names.names_held, Indexes.
 use Rattle.pas_cache.specs.Caches.{Cached, cached, AtRest}
 use Rattle.pas_cache.specs.declared.cache.ThreadCache.{ThreadCache}
 use Rattle.pas_utility.specs.Outcomes.{places_of}
-use Rattle.pas_trace.specs.Acts.{Act, Operates, Settles, act_kept}
-use Rattle.pas_trace.specs.Asked.{keeper_of}
+use Rattle.pas_trace.specs.{Acts.Act, Acts.Settles, Acts.act_kept, Asked.keeper_of}
 use Rattle.pas_trace.specs.declared.plan.{Op.Op, Task.Task}
 use Rattle.pas_answers.specs.Answers.{Progress, Named, Caches, Books}
 use Rattle.pas_answers.specs.Calls.{Tells, MayStand, AllMayStand, AreKnown, named_by, owed_events}
@@ -289,18 +288,6 @@ pub record HasNamed (op : Op) (came : Option Block) (before after : Names) : Typ
   pub held : names_held after ≡ names_held before
   pub tells : (known : List Named) → Tells before known → Tells after (named_by op.what came ++ known)
   pub stand : (f : Profile) → AllMayStand f before → MayStand f came → AllMayStand f after
-
--- once its name stands for what it came to, these of its acts are done, and those are left
-abbrev pub OnceNamed : Op → Option Block → List Act → List Act → Session → Session → Type 0
-OnceNamed op came acts left before after = (r : Replay) (more : Left) (table : Names) → HasNamed op came before.table table
-    → SoFarAt r (upon r acts more) before → SoFarAt r (upon r left more) (session after.desk after.actors table after.out)
-
--- Where the keeper gave no block, or wasn't asked for one, the operation is left to its thread. Where it gave one, nothing but what the cache noted is left
--- of it.
-abbrev pub HasTried : Op → List Act → Option Block → Session → Session → Type 0
-HasTried op acts None before after = (r : Replay) (more : Left)
-    → SoFarAt r (upon r acts more) before → SoFarAt r (upon r (Operates op ∷ (Settles op.actor ∷ [])) more) after
-HasTried op acts (Some block) before after = OnceNamed op (Some block) acts (Settles op.actor ∷ []) before after
 
 -- ---- the same, where the scavenger read this epoch last for an idle operation
 abbrev pub HasRead : ℕ → Replay → Left → Session → Type 0
