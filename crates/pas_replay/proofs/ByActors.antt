@@ -1,38 +1,53 @@
 -- What each actor's turn needs and leaves: instances of the turn. What a door to plain indexes tells is said as the definition of a replay says it.
-use Rattle.std.proofs.Common.{arith, ◌≡◌, ℕ, List, [], ◌∷◌, ◌++◌, length, drop, take, Option, ap, sym, ◌∙◌, subst, refl, length-set, take_at, ◌-◌, ◌≤◌, ◌==◌}
-use Rattle.std.proofs.Common.{Bool, true, false, if◌then◌else◌, set, get_or, eq-eqb, append-nil, ◌≢◌, zero, suc, ◌+◌, ◌<◌, nat_le, Some, None, length-append}
+use Rattle.std.proofs.Common.{arith, ◌≡◌, ℕ, List, [], ◌∷◌, ◌++◌, length, drop, take, Option, ap, sym, ◌∙◌, subst, refl, length-set, take_at, ◌-◌, ◌≤◌, ◌==◌, Bool, true, false, if◌then◌else◌, set, get_or, eq-eqb, append-nil, ◌≢◌, zero, suc, ◌+◌, ◌<◌, nat_le, Some, None, length-append}
 use Rattle.pas_large.specs.Spans.{added}
-use Rattle.pas_profile.specs.declared.{directory.Route.Route, event.Range.Range, profile.Profile.Profile, name.Block.Block, guard.Guard.Guard}
+use Rattle.pas_profile.specs.declared.directory.Route.{Route}
+use Rattle.pas_profile.specs.declared.event.Range.{Range}
+use Rattle.pas_profile.specs.declared.profile.Profile.{Profile}
+use Rattle.pas_profile.specs.declared.name.Block.{Block}
+use Rattle.pas_profile.specs.declared.guard.Guard.{Guard}
 use Rattle.pas_free_log.specs.declared.noting.EndedRun.{EndedRun}
 use Rattle.pas_large.specs.Doors.{Indexes, found_in, cut_in, added_in, no_ranges}
-use Rattle.pas_trace.specs.declared.{item.Request.Request, plan.Op.Op, plan.What.What, plan.Task.Task, plan.Work.Work, plan.Chore.Chore}
-use Rattle.pas_cache.specs.{Calls.IsNamed, Calls.SettlesEach, Caches.cached, Caches.Cached}
-use Rattle.pas_trace.specs.Acts.{Operates, Settles, acts_of_op, acts_of_work, acts_of_chore, Act, Guards, Lowers}
-use Rattle.pas_acts.specs.{Turns.RestsAt, Turns.Moves, Tries.tries_of, Tries.AreKeptFor, Works.Sits}
+use Rattle.pas_trace.specs.declared.item.Request.{Request}
+use Rattle.pas_trace.specs.declared.plan.Op.{Op}
+use Rattle.pas_trace.specs.declared.plan.What.{What}
+use Rattle.pas_trace.specs.declared.plan.Task.{Task}
+use Rattle.pas_trace.specs.declared.plan.Work.{Work}
+use Rattle.pas_cache.specs.Calls.{IsNamed, SettlesEach}
+use Rattle.pas_cache.specs.Caches.{cached, Cached}
+use Rattle.pas_trace.specs.Acts.{Operates, Settles, acts_of_op, acts_of_work, Act, Guards, Lowers, act_kept}
+use Rattle.pas_acts.specs.Turns.{RestsAt, Moves}
+use Rattle.pas_acts.specs.Tries.{tries_of, AreKeptFor}
+use Rattle.pas_acts.specs.Works.{Sits}
 use Rattle.pas_acts.specs.AtDesks.{GoesThrough, here, and_for, MayOperate, ThreadActs}
 use Rattle.pas_answers.specs.Answers.{Named, Progress, Caches, settled, after_settling}
-use Rattle.pas_answers.specs.{Reaching.Reaches, Reaching.AnswersTried, Reaching.AnswersGuarded, Names.block_named, Names.names_held, Replays.at_start}
-use Rattle.pas_answers.specs.{Keeping.owed_by_keeper, Keeping.cost_of_try, Rests.AreAtRest}
-use Rattle.pas_answers.specs.Indexes.{request_by, IsNamedFor, IsNamedBy, AllAreNamedBy, after_request, after_operation, with_noted, indexes_after_all}
-use Rattle.pas_answers.specs.Indexes.{after_tried, after_guarded, TriedIsNamedBy, GuardedIsNamedBy}
+use Rattle.pas_answers.specs.Reaching.{Reaches, AnswersTried, AnswersGuarded}
+use Rattle.pas_answers.specs.Names.{block_named, names_held}
+use Rattle.pas_answers.specs.Replays.{at_start}
+use Rattle.pas_answers.specs.Keeping.{owed_by_keeper, cost_of_try}
+use Rattle.pas_answers.specs.Rests.{AreAtRest}
+use Rattle.pas_answers.specs.Indexes.{request_by, IsNamedFor, IsNamedBy, AllAreNamedBy, after_request, after_operation, with_noted, indexes_after_all, after_tried, after_guarded, TriedIsNamedBy, GuardedIsNamedBy}
 use Rattle.pas_replay.specs.Operating.{ActsByIndexes}
-use Rattle.pas_trace.specs.{Asked.work_of, Asked.request_in, Asked.request_of, EveryPlan.asked_after, Reasons.cost_of_size, Codes.unlined}
+use Rattle.pas_trace.specs.Asked.{work_of, request_in, request_of, keeper_of}
+use Rattle.pas_trace.specs.EveryPlan.{asked_after}
+use Rattle.pas_trace.specs.Reasons.{cost_of_size}
+use Rattle.pas_trace.specs.Codes.{unlined}
 use Rattle.pas_plain.specs.Seats.{standing_of}
 use Rattle.pas_cache.specs.declared.cache.ThreadCache.{ThreadCache}
 use Rattle.pas_answers.specs.Calls.{Tells, AllMayStand, MayStand, IsMeant, named_by, freed_by, AreKnown, what_of, named_with}
 use Rattle.pas_answers.specs.Fit.{AreFit, cost_of_what, cost_of_act, own_cost_of_act, AreOfThreads, kept_cost_of, kept_costs_of}
 use Rattle.pas_answers.proofs.SingleActs.{meant_by, meant_stands, known_more, if_same, known_if, its_cache, other_cache, named_task}
-use Rattle.pas_answers.proofs.{OwnRecords.EachShown, Consequences.acts_shown, Consequences.tried_shown}
+use Rattle.pas_answers.proofs.OwnRecords.{EachShown}
+use Rattle.pas_answers.proofs.Consequences.{acts_shown, tried_shown}
 use Rattle.pas_acts.proofs.AtDesk.{rests_for, sits_for, settled_rest, other_book}
-use Rattle.pas_replay.specs.Sessions.{Hand, IsTaken, TakesSeat, Replay, Left, HasNames, IsAt, SoFar, upon, pass_in, Slots, Session, SoFarAt, HasTried, rests_as}
-use Rattle.pas_replay.specs.Sessions.{rests, owes_as, owes, own_events, ActorStands, records_owed_as, owed_of, owed_by, AreCaches, GoesBy, HasNamed}
-use Rattle.pas_replay.specs.Sessions.{own_acts_of, OnceNamed}
-use Rattle.pas_replay.proofs.Turning.{somewhere, there_is, rest_one, rest_two, hand, still_named, AsksNoIndex, thread_now, later_for, thread_turn, all_rest}
-use Rattle.pas_replay.proofs.Turning.{rest_first, goes_both, OthersKept, set_caches, book_is, place_is, set_books, set_places, still_places, owed_moves}
-use Rattle.pas_replay.proofs.Turning.{owed_at, keeper_owes, SitsAs, MovesAs, sits_now, turn, kept_by_moves, either_less, less_events, less_tries, said_more}
+use Rattle.pas_replay.specs.Sessions.{Hand, IsTaken, TakesSeat, Replay, Left, HasNames, IsAt, SoFar, upon, pass_in, Slots, rests_as, rests, owes_as, owes, own_events, ActorStands, records_owed_as, owed_of, owed_by, AreCaches, GoesBy, HasNamed, own_acts_of}
+use Rattle.pas_replay.proofs.Turning.{somewhere, there_is, rest_one, rest_two, hand, still_named, AsksNoIndex, thread_now, later_for, thread_turn, all_rest, rest_first, goes_both, OthersKept, set_caches, book_is, place_is, set_books, set_places, still_places, owed_moves, owed_at, keeper_owes, SitsAs, MovesAs, sits_now, turn, kept_by_moves, either_less, less_events, less_tries, said_more}
 use Rattle.std.proofs.lemmas.Bool.{cases_eq, lt-leb}
-use Rattle.pas_steps.specs.{Lists.Legal, Lists.part, Unknown.unknown_pages, Views.View}
-use Rattle.pas_plain.specs.declared.{desk.PlainDesk.PlainDesk, pass.PlainPass.PlainPass}
+use Rattle.pas_steps.specs.Lists.{Legal, part}
+use Rattle.pas_steps.specs.Unknown.{unknown_pages}
+use Rattle.pas_steps.specs.Views.{View}
+use Rattle.pas_plain.specs.declared.desk.PlainDesk.{PlainDesk}
+use Rattle.pas_plain.specs.declared.pass.PlainPass.{PlainPass}
 use Rattle.pas_guard.specs.Books.{FitsBook, guards_in, size_of_book}
 use Rattle.pas_guard.specs.declared.book.GuardBook.{GuardBook}
 use Rattle.pas_answers.specs.Guarding.{Tried, IsTried, after_trying, after_giving}
@@ -171,16 +186,12 @@ may_operate {r} {op} {desk1 = desk1} {caches = caches} {table = table} {out} {p}
     }
 
 -- what the table keeps is what the name that the operation asked for came to
-pub has_named : {op : Op} {came kept : Option Block} {before after : Names} (task : Task) → op.what ≡ what_of task → kept ≡ came
-    → names_held after ≡ names_held before
-    → ((known : List Named) → Tells before known → Tells after (named_with (request_of task) kept ++ known))
-    → ((f : Profile) → AllMayStand f before → MayStand f kept → AllMayStand f after) → HasNamed op came before after
-has_named {op} {came} {after = after} task asks is held tells stand = record {
-  held = held;
-  tells = λ known told. subst (λ (ns : List Named). Tells after (ns ++ known))
-      (ap (named_with (request_of task)) is ∙ named_task task came ∙ ap (λ (w : What). named_by w came) (sym asks)) (tells known told);
-  stand = λ f all may. stand f all (subst (MayStand f) (sym is) may);
-}
+pub has_named : {op : Op} {before after : Names} (task : Task) (came : Option Block) → op.what ≡ what_of task → names_held after ≡ names_held before
+    → ((known : List Named) → Tells before known → Tells after (named_with (request_of task) came ++ known))
+    → ((f : Profile) → AllMayStand f before → MayStand f came → AllMayStand f after) → HasNamed op came before after
+has_named {op} {after = after} task came asks held tells stand =
+    let same = named_task task came ∙ ap (λ (w : What). named_by w came) (sym asks) in
+    record { held = held; tells = λ known told. subst (λ (ns : List Named). Tells after (ns ++ known)) same (tells known told); stand = stand }
 
 -- An operation that a thread did at its seat takes the replay on, by what the indexes name.
 pub operate_turn : {r more : _} {op : Op} {desk desk1 desk2 passes passes1 caches books places indexes indexes' table table' out out' p : _} (k : ℕ)
@@ -207,30 +218,15 @@ operate_turn {r} {more} {op} {desk1 = desk1} {desk2} {caches = caches} {indexes 
     at.operate.1.1 at.keep.1.1 (omega arith) (sym (append-nil (records_in out'))) refl)
 
 -- ---- the acts of an operation, by what it asks for
-acts_as_work : (idle : List ℕ) (op : Op) {work work' : Work} → work ≡ work_of op.what → work ≡ work' → acts_of_op idle op ≡ acts_of_work idle op work'
-acts_as_work idle op asks is = ap (λ (w : Work). acts_of_work idle op w) (sym asks ∙ is)
-
--- The acts of a thread's own task are the operation, kept by its keeper if any, and what is handed on behind it.
-pub acts_as_own : (idle : List ℕ) (op : Op) {work : Work} {task : Task} → work ≡ work_of op.what → work ≡ Work.Own task
-    → acts_of_op idle op ≡ own_acts_of task op
-acts_as_own idle op asks is = acts_as_work idle op asks is
-
--- An operation that is another one but for its line is of the same actor and asks for the same.
-pub same_actor : (op said : Op) → unlined op ≡ unlined said → op.actor ≡ said.actor
-same_actor op said same = ap (λ (o : Op). o.actor) same
-
-pub same_what : (op said : Op) → unlined op ≡ unlined said → op.what ≡ said.what
-same_what op said same = ap (λ (o : Op). o.what) same
+-- Those of an operation that is another one but for its line are by what that asks for.
+pub acts_by_work : (idle : List ℕ) (op said : Op) {work work' : Work} → unlined op ≡ unlined said → work ≡ work_of said.what → work ≡ work'
+    → acts_of_op idle op ≡ acts_of_work idle op work'
+acts_by_work idle op said same asks is = ap (λ (w : Work). acts_of_work idle op w) (ap (λ (o : Op). work_of o.what) same ∙ sym asks ∙ is)
 
 -- whose they are
 pub own_actor : (task : Task) (op : Op) {r : Replay} (more : Left) {h : Hand} → SoFar r (upon r (own_acts_of task op) more) h
     → (1 ≤ op.actor) × (op.actor ≤ r.threads)
 own_actor task op more i = grind arith
-
--- The acts of an operation that is a chore are those of the chore.
-pub acts_as_chore : (idle : List ℕ) (op : Op) {work : Work} {chore chore' : Chore} → work ≡ work_of op.what → work ≡ Work.Chore chore → chore ≡ chore'
-    → acts_of_op idle op ≡ acts_of_chore idle chore'
-acts_as_chore idle op asks is same = acts_as_work idle op asks is ∙ ap (λ (c : Chore). acts_of_chore idle c) same
 
 -- The turn of a keeper, and what is left of a guarded request after it.
 
@@ -406,104 +402,99 @@ thread_events : (threads : ℕ) (f : Profile) (keeper : ℕ) (op : Op) (more : L
     → own_events threads f j (Operates op ∷ more) ≤ own_events threads f j (Guards keeper op ∷ more)
 thread_events threads f keeper op more j = grind (arith, either_less)
 
--- the operation asks for this, is of the thread at place i, and keeper k tries it
-pub record AsksKeeper (k i : ℕ) (op : Op) (request : Request) : Type 0 where
-  pub request_is : request_in op.what ≡ Some request
-  pub cost : cost_of_what op.what ≡ cost_of_size request.size + 2
-  pub actor : op.actor ≡ i
-
--- A guarded request of a plan asks the keeper of its own thread.
-pub asks_keeper : {op : Op} {k name heap size align : ℕ} (i : ℕ) → op.actor ≡ i → op.what ≡ what_of (Task.Guarded k name heap size align)
-    → AsksKeeper k i op (record { name = name; heap = heap; size = size; align = align })
-asks_keeper i mine is = record { request_is = ap request_in is; cost = ap cost_of_what is; actor = mine }
-
--- its acts are the try of its keeper, and what is left then
+-- the acts of a guarded request are the try of its keeper, and what is left then
 pub guards_first : {r : Replay} {T : Type 0} {h : Hand} {task : Task} {k name heap size align : ℕ} (op : Op) (more : Left)
     → task ≡ Task.Guarded k name heap size align → T × SoFar r (upon r (own_acts_of task op) more) h
     → T × SoFar r (upon r (Guards k op ∷ []) (upon r (Settles op.actor ∷ []) more)) h
 guards_first {r} {T} {h} op more is so = subst (λ (t : Task). T × SoFar r (upon r (own_acts_of t op) more) h) is so
 
--- it is the one of the keepers that has the thread's place
+none_keeps : (task : Task) → ((k name heap size align : ℕ) → task ≡ Task.Guarded k name heap size align → ⊥) → keeper_of task ≡ None
+none_keeps task other = search arith
+
+-- those of another operation are its thread's
+pub not_guarded : (op : Op) (task : Task) → ((k name heap size align : ℕ) → task ≡ Task.Guarded k name heap size align → ⊥)
+    → own_acts_of task op ≡ Operates op ∷ (Settles op.actor ∷ [])
+not_guarded op task other = ap (λ (o : Option ℕ). act_kept o op ∷ (Settles op.actor ∷ [])) (none_keeps task other)
+
+-- Its keeper is the one of the keepers that has the thread's place.
 pub its_place : {r : Replay} {op : Op} {h : Hand} {p : Progress} (k i : ℕ) (more : Left) → op.actor ≡ i → IsAt r (upon r (Guards k op ∷ []) more) h p
     → (k ≡ r.threads + i) × (1 ≤ i) × (i ≤ length h.books)
 its_place k i more mine at =
     (omega (arith, at.keep.0.0, mine), omega (arith, mine, at.names.fit.2.0), omega (arith, mine, at.keep.0.1, at.kept))
 
--- what it came to, by whether it gave a block
-pub has_tried_by : (op : Op) (acts : List Act) (before after : Session) (result : Option Block)
-    → (result ≡ None → (r : Replay) (more : Left) → SoFarAt r (upon r acts more) before → SoFarAt r (upon r (Operates op ∷ (Settles op.actor ∷ [])) more) after)
-    → ((block : Block) → result ≡ Some block → OnceNamed op (Some block) acts (Settles op.actor ∷ []) before after)
-    → HasTried op acts result before after
-has_tried_by op acts before after None left gave = left refl
-has_tried_by op acts before after (Some block) left gave = gave block refl
+-- the keeper of the thread at place i sits at the desk, and the thread's guarded request comes next
+module _ {r : Replay} {desk0 desk passes0 passes caches books places indexes table out p i there : _} {k name heap size align : ℕ} (op : Op) (more : Left)
+    (mine : op.actor ≡ i) (asks : op.what ≡ what_of (Task.Guarded k name heap size align))
+    (seat : TakesSeat desk0 desk passes0 passes k) (is : there ≡ get_or books (i - 1) there)
+    (at : IsAt r (upon r (Guards k op ∷ []) more) (hand desk0 passes0 caches books places indexes table out) p) where
+  abbrev asked : Request
+  asked = record { name = name; heap = heap; size = size; align = align }
 
--- before it does
-pub keeper_may : {r : Replay} {op request desk0 desk passes0 passes caches books places indexes table out p : _} (k i : ℕ) (there : GuardBook) (more : Left)
-    → AsksKeeper k i op request → k ≡ r.threads + i → 1 ≤ i
-    → i ≤ length books → TakesSeat desk0 desk passes0 passes k → there ≡ get_or books (i - 1) there
-    → IsAt r (upon r (Guards k op ∷ []) more) (hand desk0 passes0 caches books places indexes table out) p
-    → KeeperAt r.profile k (keeper_has (standing_of desk) there out) (and_try request.size (later_kept r k p more)) p
-keeper_may {r} {op} {request} {p = p} k i there more asks place some most seat is at =
-    let own = if_same (k == k) (kept_cost_of (request_in op.what)) (eq-eqb k k refl) ∙ ap kept_cost_of asks.request_is in
-    let one = if_same (k == k) 1 (eq-eqb k k refl) in
-    keeper_now k i there (cost_of_size request.size) (cost_of_size request.size + 2) 1 more place some most seat is (omega (arith, own)) (omega (arith, asks.cost)) (omega (arith, one)) at
+  asked_is : request_in op.what ≡ Some asked
+  asked_is = ap request_in asks
 
--- where it gave no block
-pub left_turn : {r : Replay} {op request desk0 desk desk' passes0 passes caches books places indexes table out out' p got : _} (k i : ℕ)
-    (there book : GuardBook) (more : Left)
-    → got ≡ None → AsksKeeper k i op request → k ≡ r.threads + i
-    → 1 ≤ i → i ≤ length books → TakesSeat desk0 desk passes0 passes k → there ≡ get_or books (i - 1) there
-    → IsAt r (upon r (Guards k op ∷ []) more) (hand desk0 passes0 caches books places indexes table out) p
-    → (did : KeeperTries r.profile k request got (keeper_has (standing_of desk) there out) (keeper_has (standing_of desk') book out') (later_kept r k p more) p)
-    → IsTaken desk' passes
-    × IsAt r (upon r (Operates op ∷ []) more) (hand desk' passes caches (set books (i - 1) book) places indexes table out') (after_trying p k did.tried)
-left_turn {r} {op} {request} {desk0} {desk} {desk'} {indexes = indexes} {table} {out} {out'} {p} k i there book more none asks place some most seat is at did =
-    let f = r.profile in
-    let q = after_trying p k did.tried in
-    let turned : KeeperTurned r k (Guards k op ∷ more.acts) (Operates op ∷ more.acts) there book desk desk' p q = search (arith, book_is, thread_events) in
-    let change = owed_then k i there book place some most seat is at turned in
-    let cost = ap (λ (b : Option Block). cost_of_try request.size b) none in
-    let longer = ap (λ (rs : List Record). length rs) did.pushed ∙ length-append (records_in out) did.tried.records in
-    keeper_turn k i there book place some most seat is at turned (tried_shown f k request p did.tried did.is)
-    (λ s rest. tried_first r.threads f k op request p _ indexes _ more.acts did.tried None (all_rest at) did.is asks.request_is (did.block_is ∙ none)
-    (rest.0.0.1, rest.0.1.0, refl) s ((rest.0.0.2, rest.0.1.1), rest.1.1))
-    (still_named (λ limit asked fit. (fit.2, fit.3, fit.4)) refl at.names) at.operate (tt, at.keep.1)
-    (said_more r.told _ _ p.records did.tried.records at.records_are did.pushed) did.room (omega (arith, change, did.paid, cost, longer, did.room, at.spare))
+  there_so : (k ≡ r.threads + i) × (1 ≤ i) × (i ≤ length books)
+  there_so = its_place k i more mine at
 
--- where it gave this block, once the table has it
-pub gave_turn : {r : Replay} {more op request desk0 desk desk' passes0 passes caches books places indexes table out out' p got block : _} (k i : ℕ)
-    (there book : GuardBook) (table' : Names)
-    → got ≡ Some block → AsksKeeper k i op request → k ≡ r.threads + i → 1 ≤ i → i ≤ length books → TakesSeat desk0 desk passes0 passes k
-    → there ≡ get_or books (i - 1) there → IsAt r (upon r (Guards k op ∷ []) more) (hand desk0 passes0 caches books places indexes table out) p
-    → (did : KeeperTries r.profile k request got (keeper_has (standing_of desk) there out) (keeper_has (standing_of desk') book out') (later_kept r k p more) p)
-    → HasNamed op (Some block) table table'
-    → IsTaken desk' passes
-    × IsAt r more (hand desk' passes caches (set books (i - 1) book) places indexes table' out') (after_giving (after_trying p k did.tried) request.name block)
-gave_turn {r} {more} {op} {request} {desk0} {desk} {desk'} {indexes = indexes} {table} {out} {out'} {p} {block = block} k i there book table' gave asks place some most seat is at did named =
-    let f = r.profile in
-    let midway = after_trying p k did.tried in
-    let q = after_giving midway request.name block in
-    let names = at.names in
-    let moves : Moves k (FitsBook f (guards_in there)) (FitsBook f (guards_in book)) (standing_of desk) (standing_of desk') p q
-    = record { steps = did.moves.steps; list_is = did.moves.list_is; calls = did.moves.calls } in
-    let caches : q.caches ≡ p.caches = refl in
-    let books : (j : ℕ) → j ≢ k → q.books j ≡ p.books j = λ j ne. other_book p.books k j did.tried.guards ne in
-    let fewer = less_events r.threads f (Guards k op ∷ []) more.acts in
-    let turned : KeeperTurned r k (Guards k op ∷ more.acts) more.acts there book desk desk' p q
-    = assumption (moves, did.stands.sits, did.stands.book, did.stands.places, caches, books, fewer, less_tries (Guards k op ∷ []) more.acts) in
-    let change = owed_then k i there book place some most seat is at turned in
-    let least = owed_least k i there book place some most seat is at turned in
-    let mine = keeper_was k i there book place some most seat is at turned in
-    keeper_turn k i there book place some most seat is at turned (tried_shown f k request p did.tried did.is)
-    (tried_first r.threads f k op request p q indexes indexes more.acts did.tried _ (all_rest at) did.is asks.request_is (did.block_is ∙ gave) (refl, tt, refl))
-    (record {
-      asked = asked_after op.what names.asked;
-      fit = subst (λ (limit : ℕ). AreFit f limit (asked_after op.what names.asked) more.acts) (sym named.held) names.fit.4;
-      tells = subst (λ (o : Option Request). Tells table' (named_with o (Some block) ++ p.names)) asks.request_is (named.tells p.names names.tells);
-      stand = named.stand f names.stand (subst (λ (b : Option Block). MayStand f b) gave did.given);
-      known = subst (λ (o : Option Request). AreKnown (asked_after op.what names.asked) (named_with o (Some block) ++ p.names)) asks.request_is (known_more op.what (Some block) names.asked p.names names.known);
-    }) at.operate.1 at.keep.1
-    (said_more r.told (records_in out) _ p.records did.tried.records at.records_are did.pushed) did.room (omega (arith, change, least, mine, did.stands.spare))
+  -- The keeper may try it.
+  pub keeper_may : KeeperAt r.profile k (keeper_has (standing_of desk) there out) (and_try size (later_kept r k p more)) p
+  keeper_may =
+      let own = if_same (k == k) (kept_cost_of (request_in op.what)) (eq-eqb k k refl) ∙ ap kept_cost_of asked_is in
+      let cost : cost_of_what op.what ≡ cost_of_size size + 2 = ap cost_of_what asks in
+      let one = if_same (k == k) 1 (eq-eqb k k refl) in
+      keeper_now k i there (cost_of_size size) (cost_of_size size + 2) 1 more there_so.0 there_so.1 there_so.2 seat is (omega (arith, own)) (omega (arith, cost)) (omega (arith, one)) at
+
+  -- it did
+  module _ {desk' out' got : _} {book : GuardBook}
+      (did : KeeperTries r.profile k asked got (keeper_has (standing_of desk) there out) (keeper_has (standing_of desk') book out') (later_kept r k p more) p) where
+    -- It gave no block: the request is left to its thread.
+    pub left_turn : got ≡ None
+        → IsTaken desk' passes
+        × IsAt r (upon r (Operates op ∷ []) more) (hand desk' passes caches (set books (i - 1) book) places indexes table out') (after_trying p k did.tried)
+    left_turn none =
+        let f = r.profile in
+        let q = after_trying p k did.tried in
+        let place : k ≡ r.threads + i = there_so.0 in
+        let some : 1 ≤ i = there_so.1 in
+        let most : i ≤ length books = there_so.2 in
+        let turned : KeeperTurned r k (Guards k op ∷ more.acts) (Operates op ∷ more.acts) there book desk desk' p q = search (arith, book_is, thread_events) in
+        let change = owed_then k i there book place some most seat is at turned in
+        let cost = ap (λ (b : Option Block). cost_of_try size b) none in
+        let longer = ap (λ (rs : List Record). length rs) did.pushed ∙ length-append (records_in out) did.tried.records in
+        keeper_turn k i there book place some most seat is at turned (tried_shown f k asked p did.tried did.is)
+        (λ s rest. tried_first r.threads f k op asked p _ indexes _ more.acts did.tried None (all_rest at) did.is asked_is (did.block_is ∙ none)
+        (rest.0.0.1, rest.0.1.0, refl) s ((rest.0.0.2, rest.0.1.1), rest.1.1))
+        (still_named (λ limit asked fit. (fit.2, fit.3, fit.4)) refl at.names) at.operate (tt, at.keep.1)
+        (said_more r.told _ _ p.records did.tried.records at.records_are did.pushed) did.room (omega (arith, change, did.paid, cost, longer, did.room, at.spare))
+
+    -- It gave this block, and the table has it.
+    pub gave_turn : {block : Block} {table' : Names} → got ≡ Some block → HasNamed op (Some block) table table'
+        → IsTaken desk' passes
+        × IsAt r more (hand desk' passes caches (set books (i - 1) book) places indexes table' out') (after_giving (after_trying p k did.tried) name block)
+    gave_turn {block} {table'} gave named =
+        let f = r.profile in
+        let q = after_giving (after_trying p k did.tried) name block in
+        let names = at.names in
+        let moves : Moves k (FitsBook f (guards_in there)) (FitsBook f (guards_in book)) (standing_of desk) (standing_of desk') p q
+        = record { steps = did.moves.steps; list_is = did.moves.list_is; calls = did.moves.calls } in
+        let caches : q.caches ≡ p.caches = refl in
+        let books : (j : ℕ) → j ≢ k → q.books j ≡ p.books j = λ j ne. other_book p.books k j did.tried.guards ne in
+        let fewer = less_events r.threads f (Guards k op ∷ []) more.acts in
+        let turned : KeeperTurned r k (Guards k op ∷ more.acts) more.acts there book desk desk' p q
+        = assumption (moves, did.stands.sits, did.stands.book, did.stands.places, caches, books, fewer, less_tries (Guards k op ∷ []) more.acts) in
+        let change = owed_then k i there book there_so.0 there_so.1 there_so.2 seat is at turned in
+        let least = owed_least k i there book there_so.0 there_so.1 there_so.2 seat is at turned in
+        let mine_was = keeper_was k i there book there_so.0 there_so.1 there_so.2 seat is at turned in
+        keeper_turn k i there book there_so.0 there_so.1 there_so.2 seat is at turned (tried_shown f k asked p did.tried did.is)
+        (tried_first r.threads f k op asked p q indexes indexes more.acts did.tried _ (all_rest at) did.is asked_is (did.block_is ∙ gave) (refl, tt, refl))
+        (record {
+          asked = asked_after op.what names.asked;
+          fit = subst (λ (limit : ℕ). AreFit f limit (asked_after op.what names.asked) more.acts) (sym named.held) names.fit.4;
+          tells = subst (λ (o : Option Request). Tells table' (named_with o (Some block) ++ p.names)) asked_is (named.tells p.names names.tells);
+          stand = named.stand f names.stand (subst (λ (b : Option Block). MayStand f b) gave did.given);
+          known = subst (λ (o : Option Request). AreKnown (asked_after op.what names.asked) (named_with o (Some block) ++ p.names)) asked_is (known_more op.what (Some block) names.asked p.names names.known);
+        }) at.operate.1 at.keep.1
+        (said_more r.told (records_in out) _ p.records did.tried.records at.records_are did.pushed) did.room (omega (arith, change, least, mine_was, did.stands.spare))
 
 -- ---- what is left then: the runs that its thread's cache noted are handed on, whoever sits at the desk
 settled_as : (f : Profile) (kind : Bool) (c : Cached) (guards : List Guard) (v : View) → rests_as kind f c guards v → rests_as kind f (settled c) guards v

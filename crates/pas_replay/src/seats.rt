@@ -17,7 +17,7 @@ ghost use Rattle.pas_answers.specs.Calls.{what_of, Tells, MayStand, AllMayStand,
 ghost use Rattle.pas_trace.specs.declared.plan.Op.{Op as TheOp};
 ghost use Rattle.pas_answers.specs.declared.names.Names.{Names as TheNames};
 ghost use Rattle.pas_replay.specs.Sessions.{Replay, pass_in, hand_of, hand_at, session, IsTaken, MaySit, MayTakeSeat, ChangesSeats, TakesSeat, SoFarAt};
-ghost use Rattle.pas_replay.specs.Sessions.{MayGoOn, GoesOn, HasRead, MayGoOnAt, GoesOnAt, own_acts_of, OnceNamed, HasTried, Left, upon};
+ghost use Rattle.pas_replay.specs.Sessions.{MayGoOn, GoesOn, HasRead, MayGoOnAt, GoesOnAt, own_acts_of, Left, upon};
 ghost use Rattle.pas_records.specs.Rooms.{Records as TheRecords};
 
 use pas_acts::at_desk::SCAVENGER;
@@ -167,37 +167,6 @@ fn operate_by<M: Remake>(
     at_desk::operate(desk, &mut door, cache, remaker, task, meant, out)
 }
 
-/// The keeper of the thread of this number tries the task, where it is a guarded request: it lowers the guards of blocks that ended, and raises one. The block
-/// that it gave, if any.
-#[inline(always)]
-fn tried(
-    desk: &mut PlainDesk,
-    actors: &mut Actors,
-    actor: u8,
-    task: Task,
-    out: &mut Records,
-) -> Option<Block>
-    requires so_far { (op : TheOp) × (op.actor ≡ actor) × (op.what ≡ what_of task) × (table : TheNames) × MayGoOn (λ n. own_acts_of task op) (session desk.old actors.old table out.old) }
-    ensures threads { length actors.new.caches.items ≡ length actors.old.caches.items }
-    ensures tried { (op : TheOp) (table : TheNames) → op.actor ≡ actor → op.what ≡ what_of task → HasTried op (own_acts_of task op) result (session desk.old actors.old table out.old) (session desk.new actors.new table out.new) }
-    ensures packs { MayPack result }
-{
-    match task {
-        Task::Guarded {
-            keeper,
-            name,
-            heap,
-            size,
-            align,
-        } => {
-            take_seat(desk, &mut actors.passes, keeper);
-            let book = &mut actors.books[actor as usize - 1];
-            keepers::try_guarded(desk, book, name, heap, size, align, out)
-        }
-        _ => None,
-    }
-}
-
 /// The indexes take the runs of large blocks that the cache noted.
 fn settle_by(indexes: &mut [LargeIndex], cache: &mut ThreadCache)
     ensures cache { cached cache.new ≡ settled (cached cache.old) }
@@ -218,35 +187,35 @@ fn settle(actors: &mut Actors, actor: u8)
     settle_by(&mut actors.indexes, cache);
 }
 
-/// The thread of this number does the task: what its name came to, which is kept after it. A request for whole pages asks the indexes, and they take the runs
-/// of large blocks that its cache noted. This answers each operation of the thread that asks for the task.
+/// The thread of this number does the task, and what its name came to is kept. A request for whole pages asks the indexes, and they take the runs of large blocks
+/// that its cache noted. This answers each operation of the thread that asks for the task, and that no keeper answers.
 #[inline(always)]
 fn serve<M: Remake>(
     desk: &mut PlainDesk,
     actors: &mut Actors,
-    names: &Names,
+    names: &mut Names,
     remaker: &M,
     actor: u8,
     task: Task,
     out: &mut Records,
-) -> Option<Block>
+)
     requires some { 1 ≤ actor }
     requires thread { actor ≤ length actors.old.caches.items }
-    requires so_far { (op : TheOp) × (op.actor ≡ actor) × (op.what ≡ what_of task) × MayGoOn (λ n. Operates op ∷ (Settles op.actor ∷ [])) (session desk.old actors.old names.now out.old) }
+    requires so_far { (op : TheOp) × (op.actor ≡ actor) × (op.what ≡ what_of task) × MayGoOn (λ n. Operates op ∷ (Settles op.actor ∷ [])) (session desk.old actors.old names.old out.old) }
     ensures threads { length actors.new.caches.items ≡ length actors.old.caches.items }
-    ensures served { (op : TheOp) → op.actor ≡ actor → op.what ≡ what_of task
-        → OnceNamed op result (Operates op ∷ (Settles op.actor ∷ [])) [] (session desk.old actors.old names.now out.old) (session desk.new actors.new names.now out.new) }
-    ensures packs { MayPack result }
+    ensures so_far { (op : TheOp) → op.actor ≡ actor → op.what ≡ what_of task
+        → GoesOn (λ n. Operates op ∷ (Settles op.actor ∷ [])) (session desk.old actors.old names.old out.old) (session desk.new actors.new names.new out.new) }
 {
     take_seat(desk, &mut actors.passes, actor);
     let cache = &mut actors.caches[actor as usize - 1];
     let meant = freed(names, task);
-    operate_by(desk, &mut actors.indexes, cache, remaker, task, meant, out)
+    let came = operate_by(desk, &mut actors.indexes, cache, remaker, task, meant, out);
+    keep(names, task, came);
 }
 
-/// The thread of this number does the task, and its events and what is said come to the records. Its keeper tries a guarded request first, and where that gave
-/// no block the thread makes it as any other. In both ways the indexes take the runs of large blocks that its cache noted. This answers each operation of the
-/// thread that asks for the task.
+/// The thread of this number does the task, and its events and what is said come to the records. Its keeper tries a guarded request first: it lowers the guards of
+/// blocks that ended, and raises one. Where that gave no block the thread makes it as any other. In both ways the indexes take the runs of large blocks that its
+/// cache noted. This answers each operation of the thread that asks for the task.
 #[inline(always)]
 pub(crate) fn operate<M: Remake>(
     desk: &mut PlainDesk,
@@ -264,14 +233,26 @@ pub(crate) fn operate<M: Remake>(
     ensures so_far { (op : TheOp) → op.actor ≡ actor → op.what ≡ what_of task
         → GoesOn (λ n. own_acts_of task op) (session desk.old actors.old names.old out.old) (session desk.new actors.new names.new out.new) }
 {
-    let came = match tried(desk, actors, actor, task, out) {
-        Some(block) => {
-            settle(actors, actor);
-            Some(block)
+    match task {
+        Task::Guarded {
+            keeper,
+            name,
+            heap,
+            size,
+            align,
+        } => {
+            take_seat(desk, &mut actors.passes, keeper);
+            let book = &mut actors.books[actor as usize - 1];
+            match keepers::try_guarded(desk, book, name, heap, size, align, out) {
+                Some(block) => {
+                    keep(names, task, Some(block));
+                    settle(actors, actor);
+                }
+                None => serve(desk, actors, names, remaker, actor, task, out),
+            }
         }
-        None => serve(desk, actors, names, remaker, actor, task, out),
-    };
-    keep(names, task, came);
+        _ => serve(desk, actors, names, remaker, actor, task, out),
+    }
 }
 
 /// The keeper of the thread of this number lowers all its guards, as the replay closes. Its book is empty then.
