@@ -21,7 +21,7 @@ use pas_answers::names::Names;
 use pas_bits::Mask4;
 use pas_plain::{PlainDesk, PlainRegion};
 use pas_records::{Record, Records};
-use pas_trace::{Chore, Op, Operations, Task, What, Work};
+use pas_trace::{Chore, Op, Operations, Work};
 
 /// The number of the phase that begins without a mark.
 const UNMARKED: u32 = 1;
@@ -65,8 +65,9 @@ fn stop_idle(
     }
 }
 
-/// Performs an operation, in a phase in which these threads have one. Its line doesn't matter.
-#[inline(always)]
+/// Performs an operation, in a phase in which these threads have one. Its line doesn't matter. It stays out of line, and is the one place that
+/// has an operation answered: so what answers it is in line here.
+#[inline(never)]
 fn perform<M: Remake>(
     desk: &mut PlainDesk,
     actors: &mut Actors,
@@ -89,49 +90,6 @@ fn perform<M: Remake>(
     }
 }
 
-/// The same, out of line.
-#[inline(never)]
-fn perform_rare<M: Remake>(
-    desk: &mut PlainDesk,
-    actors: &mut Actors,
-    names: &mut Names,
-    remaker: &M,
-    awake: Mask4,
-    op: Op,
-    out: &mut Records,
-)
-    requires few { length actors.old.caches.items < 32 }
-    requires so_far { MayPerform awake op (session desk.old actors.old names.old out.old) }
-    ensures threads { length actors.new.caches.items ≡ length actors.old.caches.items }
-    ensures so_far { Performs awake op (session desk.old actors.old names.old out.old) (session desk.new actors.new names.new out.new) }
-{
-    perform(desk, actors, names, remaker, awake, op, out)
-}
-
-/// Performs an operation, in a phase in which these threads have one. Requests and frees by name, which are the most by far,
-/// have code of their own, which no longer asks what the operation is.
-#[inline(always)]
-fn perform_by_kind<M: Remake>(
-    desk: &mut PlainDesk,
-    actors: &mut Actors,
-    names: &mut Names,
-    remaker: &M,
-    awake: Mask4,
-    op: Op,
-    out: &mut Records,
-)
-    requires few { length actors.old.caches.items < 32 }
-    requires so_far { MayPerform awake op (session desk.old actors.old names.old out.old) }
-    ensures threads { length actors.new.caches.items ≡ length actors.old.caches.items }
-    ensures so_far { Performs awake op (session desk.old actors.old names.old out.old) (session desk.new actors.new names.new out.new) }
-{
-    match op.what {
-        What::Alloc { .. } => perform(desk, actors, names, remaker, awake, op, out),
-        What::Free { .. } => perform(desk, actors, names, remaker, awake, op, out),
-        _ => perform_rare(desk, actors, names, remaker, awake, op, out),
-    }
-}
-
 /// Performs the operations of a phase in order. After each the taker may take what was said.
 fn perform_all<M: Remake, P: Operations, T: Takes>(
     desk: &mut PlainDesk,
@@ -151,7 +109,7 @@ fn perform_all<M: Remake, P: Operations, T: Takes>(
         (session desk.old actors.old names.old out.old) (session desk.new actors.new names.new out.new) }
 {
     for place in 0..phase.count() {
-        perform_by_kind(desk, actors, names, remaker, awake, phase.op(place), out);
+        perform(desk, actors, names, remaker, awake, phase.op(place), out);
         taker.take(out);
     }
 }

@@ -18,8 +18,8 @@ loop-place-init g c = record {
 pub op-requires : goal.op-requires
 op-requires g c = omega (arith, c.loop-place-test.true, c.count-place-end.ensures)
 
-pub perform_by_kind-requires-clause-so_far : goal.perform_by_kind-requires-clause-so_far
-perform_by_kind-requires-clause-so_far g c =
+pub perform-requires-clause-so_far : goal.perform-requires-clause-so_far
+perform-requires-clause-so_far g c =
     let so0 = c.requires.so_far in
     let at = c.loop-place.invariant in
     let i = c.loop-place.place in
@@ -36,7 +36,7 @@ take-requires g c =
     let s = session c.loop-place.desk c.loop-place.actors c.loop-place.names c.loop-place.out in
     let lt = place_in so0.0 (omega (arith, c.loop-place-test.true, c.count-place-end.ensures)) so0.1 in
     let r = telling so0.2.0 at.told in
-    let so = c.perform_by_kind.ensures.so_far _ (said_at c.op.result so0.0 i lt c.op.ensures so0.1) r _ (op_next g.T.Takes.waits r s c.args.awake so0.0 so0.2.1 i lt (at.far so0.0 so0.1 so0.2.0 so0.2.1 so0.2.2)) in
+    let so = c.perform.ensures.so_far _ (said_at c.op.result so0.0 i lt c.op.ensures so0.1) r _ (op_next g.T.Takes.waits r s c.args.awake so0.0 so0.2.1 i lt (at.far so0.0 so0.1 so0.2.0 so0.2.1 so0.2.2)) in
     record { shown = can_show so.1 }
 
 pub loop-place-preserved : goal.loop-place-preserved
@@ -45,16 +45,16 @@ loop-place-preserved g c =
     let i = c.loop-place.place in
     let taken = c.take.ensures.taken in
     let s = session c.loop-place.desk c.loop-place.actors c.loop-place.names c.loop-place.out in
-    let after = session c.perform_by_kind.new.desk c.perform_by_kind.new.actors c.perform_by_kind.new.names c.perform_by_kind.new.out in
+    let after = session c.perform.new.desk c.perform.new.actors c.perform.new.names c.perform.new.out in
     record {
       told = at.told ++ taken.0;
       took = g.met.T.Takes.both _ _ _ at.told taken.0 at.took taken.2;
       far = λ ops is r more btw.
           let before = at.far ops is r more btw in
           let lt = place_in ops (omega (arith, c.loop-place-test.true, c.count-place-end.ensures)) is in
-          let so = c.perform_by_kind.ensures.so_far _ (said_at c.op.result ops i lt c.op.ensures is) _ _ (op_next g.T.Takes.waits _ s c.args.awake ops more i lt before) in
+          let so = c.perform.ensures.so_far _ (said_at c.op.result ops i lt c.op.ensures is) _ _ (op_next g.T.Takes.waits _ s c.args.awake ops more i lt before) in
           taken_on g.T.Takes.waits r _ after c.loop-place.out at.told taken.0 c.take.new.out taken.1 c.take.ensures.size c.take.ensures.few before.1 so;
-      threads = c.perform_by_kind.ensures.threads ∙ at.threads;
+      threads = c.perform.ensures.threads ∙ at.threads;
     }
 
 pub returns-clause-so_far : goal.returns-clause-so_far
