@@ -1,35 +1,35 @@
 -- How a replay on threads goes from phase to phase, and to its end: what stays so at another progress, the marks between phases, and the close.
-use Rattle.std.proofs.Common.{◌≡◌, ◌≢◌, ℕ, ◌+◌, List, [], ◌∷◌, ◌++◌, length, Option, refl, ap, sym, subst, arith, length-append, zero, suc, ◌∙◌, append_assoc}
-use Rattle.std.proofs.Common.{◌<◌, ◌≤◌, get_or, map, drop, slice_index_or, drop_of_length-le, append-nil}
-use Rattle.std.proofs.lemmas.List.{append_cancel_left, drop_more}
+use Rattle.std.proofs.Common.{◌≡◌, ℕ, ◌+◌, List, [], ◌∷◌, ◌++◌, length, Option, refl, ap, sym, subst, arith, length-append, zero, suc, ◌∙◌, append_assoc, ◌<◌}
+use Rattle.std.proofs.Common.{◌≤◌, ◌⊎◌, inl, inr, get_or, map, drop, take, slice_index_or, drop_of_length-le, append-nil}
+use Rattle.std.proofs.lemmas.List.{drop_more}
 use Rattle.pas_profile.specs.declared.profile.Profile.{Profile}
 use Rattle.pas_steps.specs.{Lists.Whole, Lists.part, Views.View}
-use Rattle.pas_trace.specs.Acts.{Ends, Lowers, MarksPhase, MarksClose, numbers_from, Act, phase_acts, close_acts, acts_of}
+use Rattle.pas_trace.specs.Acts.{MarksPhase, MarksClose, Act, phase_acts, close_acts, acts_of}
 use Rattle.pas_trace.specs.{EveryPlan.all_ops, EveryPlan.own_records, Plans.ops_of}
 use Rattle.pas_trace.specs.declared.plan.{Op.Op, Phase.Phase}
-use Rattle.pas_cache.specs.Caches.{Cached, cached}
+use Rattle.pas_cache.specs.Caches.{cached}
 use Rattle.pas_cache.specs.declared.cache.ThreadCache.{ThreadCache}
 use Rattle.pas_shared.specs.Ruled.{IsEarlier}
 use Rattle.pas_shared.specs.declared.region.SharedRegion.{SharedRegion}
-use Rattle.pas_answers.specs.{Answers.Caches, Answers.Progress, Answers.with_records, Calls.owed_events, Reaching.Reaches, Replays.at_start, Phases.AreInPhases}
+use Rattle.pas_answers.specs.{Answers.Progress, Answers.with_records, Reaching.Reaches, Replays.at_start, Phases.AreInPhases}
 use Rattle.pas_answers.specs.Stages.{itself, Stage, stage, one_by_one, phase_stages, stages_from, stages_of}
 use Rattle.pas_answers.specs.Ways.{OnThreads, AreSpoken, by_actors, arranged, records_by}
-use Rattle.pas_answers.proofs.{OwnRecords.records_both as said_both, OwnRecords.spoken_both, Reached.reach_both}
+use Rattle.pas_answers.proofs.Reached.{reach_both}
 use Rattle.pas_acts.proofs.ActsLeft.{acts_left, close_left, first_phase, other_phase}
-use Rattle.pas_acts.proofs.{PlanFacts.are_arranged, AtDesk.rests_still, AtDesk.sits_still}
+use Rattle.pas_acts.proofs.{PlanFacts.are_arranged, AtDesk.sits_still}
 use Rattle.pas_acts.specs.NameBooks.{NamesAt, requests_in, room_for}
 use Rattle.pas_acts.specs.declared.names.NameBook.{NameBook}
-use Rattle.pas_threads.specs.Pairs.{no_more, KeeperRests, owed_kept, keeper_at, owed_by_keepers, AreGuarded, IsLow, MayLower, LoweredAll}
-use Rattle.pas_threads.specs.Sessions.{planned, Session, evenly, WorkerHas, ScavengerRests, TeamAt, HasPlaces, HasRoom, AreMarked, AreWritten, WorkerRests}
-use Rattle.pas_threads.specs.Sessions.{WorkersRest, CloseDone, owed_by, PhaseAt, PhaseDone, HasReplayed, IsOfActors, StandSo, WentBy}
-use Rattle.pas_threads.proofs.TakingTurns.{OwnGathered, KeptGathered, IsCleared, cleared, pass_still, same_owed, same_rests, rests_clear}
-use Rattle.pas_threads.proofs.Keepers.{AreAlike, alike_same, alike_pushed, alike_said, alike_both, guarded_alike, kept_still, said_then, keeper_is, owed_still}
-use Rattle.pas_threads.proofs.Keepers.{waits_gathered, of_gathered, silent_gathered, low_gathered}
-use Rattle.pas_threads.specs.Turns.{StoppedAll, said_by_all, said_kept, said_by_keepers}
+use Rattle.pas_threads.specs.{Pairs.owed_kept, Pairs.owed_by_keepers, Pairs.IsLow, Closing.ClosedFirst, Turns.TookNoPart, Turns.said_by_all}
+use Rattle.pas_threads.specs.{Turns.said_by_keepers}
+use Rattle.pas_threads.specs.Sessions.{planned, Session, closing_acts, ScavengerRests, TeamAt, HasPlaces, HasRoom, AreMarked, AreWritten, WorkersRest}
+use Rattle.pas_threads.specs.Sessions.{CloseDone, owed_by, PhaseAt, PhaseDone, HasReplayed, IsOfActors, StandSo, WentBy}
+use Rattle.pas_threads.proofs.TakingTurns.{WereGathered, IsCleared, cleared_silent, pass_still, same_rests}
+use Rattle.pas_threads.proofs.{Closing.all_acts, Dealt.some_item}
+use Rattle.pas_threads.proofs.Gathered.{AllTold, may_gather, written, rest_again}
+use Rattle.pas_threads.proofs.Keepers.{kept_still, keeper_is, owed_still, low_gathered, most_keepers}
 use Rattle.pas_threads.specs.declared.{keeper.Keeper.Keeper, phases.Team.Team, scavenger.Scavenger.Scavenger, workers.Worker.Worker}
-use Rattle.pas_threads.proofs.Dealt.{some_item}
-use Rattle.pas_threads.proofs.Staging.{went_both, went_mark, in_both, unmarked, phase_unmarked, close_unmarked, earlier_both, stand_first, close_rest}
-use Rattle.pas_threads.proofs.ReadyPhases.{owed_less, kept_less, own_all, all_paid, said_in_order, kept_in_order, kept_few, by_all}
+use Rattle.pas_threads.proofs.Staging.{went_both, went_mark, in_both, unmarked, phase_unmarked, close_unmarked, earlier_both, stand_first}
+use Rattle.pas_threads.proofs.ReadyPhases.{owed_less, kept_less, own_by, own_all, all_paid}
 use Rattle.pas_records.specs.Rooms.{records_in, room_of, Records}
 use Rattle.pas_records.specs.declared.record.Record.{Record}
 
@@ -139,259 +139,98 @@ written_whole : {s : Session} {records written : List Record} → AreWritten s r
 written_whole {s} so =
     search (arith, are_arranged)
 
--- ---- what is so of the workers at the end
-record AreClosed (region : SharedRegion) (s : Session) (all : List Worker) (q : Progress) : Type 0 where
-  rest : WorkersRest region s [] all q
-  empty : (i : ℕ) (d : Worker) → i < length all → (cached (get_or all i d).cache).locals ≡ []
-  low : (i : ℕ) (d : Worker) → i < length all → IsLow (get_or all i d).keeper
-
 -- ---- the close
--- Each thread was stopped, then each keeper lowered its guards; then what was said for the threads is gathered, and what was said for the keepers.
-module _ {region : SharedRegion} {s : Session} {team : Team} {p : Progress} (stopped : List Worker) (at : TeamAt region s [] team p)
-    (did : StoppedAll region s.profile team.threads.items stopped (λ k. own_records (planned s) k (all_ops [])) p)
-    (many : length stopped ≡ length team.threads.items) where
+-- Each thread was stopped, then each keeper lowered its guards; then all that was said is gathered.
+module _ {region : SharedRegion} {s : Session} {team : Team} {p : Progress} {closed : List Worker} (at : TeamAt region s [] team p)
+    (did : ClosedFirst region s (length team.threads.items + length team.threads.items) team.threads.items closed p)
+    (many : length closed ≡ length team.threads.items) where
   abbrev f : Profile
   f = s.profile
 
-  abbrev between : Progress
-  between = did.turns.came.reached
+  abbrev said : List Record
+  said = did.came.said
+
+  abbrev reached : Progress
+  reached = did.came.reached
 
   threads_are : length team.threads.items ≡ s.threads
   threads_are = at.workers.many
 
-  -- a thread that was stopped is no keeper
-  no_keeper : (i j : ℕ) → j < length team.threads.items → suc j ≢ s.threads + suc i
-  no_keeper i j less same = omega (arith, less, same, threads_are)
+  -- The scavenger, and nobody past the keepers, took part.
+  no_part : (k : ℕ) → (k ≡ 0) ⊎ (s.threads + s.keepers < k) → TookNoPart k said p reached
+  no_part k away = did.others k (λ m less there is. elim away [ inl first ↦ omega (arith, first, is) | inr past ↦ omega (arith, past, is, there) ])
 
-  -- no keeper did anything so far
-  kept_between : (i : ℕ) (d : Worker) → i < length team.threads.items → KeeperRests region f (s.threads + suc i) [] (get_or stopped i d).keeper between
-  kept_between i d lt =
-      search (arith, kept_still, no_keeper)
+  -- what they owed pays for what they said
+  said_few : length (by_actors 1 s.threads said) + length (by_actors (s.threads + 1) s.threads said) + (owed_by f reached s.threads + owed_by_keepers f s.threads [] reached s.threads)
+      ≤ owed_by f p s.threads + owed_by_keepers f s.threads team.threads.items p s.threads + own_by (planned s) [] s.threads
+  said_few = all_paid f (planned s) s.threads [] said team.threads.items [] p reached s.threads (λ i lt.
+      let less : i < length team.threads.items = omega (arith, lt, threads_are) in
+      let d = some_item team.threads.items i less in
+      let one = did.each i d less in
+      let paid = one.paid in
+      let kept = one.kept_paid in
+      let had = ap (λ (o : Option Keeper). owed_kept f (s.threads + suc i) o p) (keeper_is team.threads.items i d less) in
+      omega (arith, paid, kept, had))
 
-  alike_stopped : (i : ℕ) (d : Worker) → i < length team.threads.items → AreAlike (get_or team.threads.items i d).keeper (get_or stopped i d).keeper
-  alike_stopped i d lt = alike_same (did.turns.told i d lt).keeper
-
-  -- Once all threads are stopped at the close, each keeper may lower its guards.
-  pub may_lower : MayLower region f s.threads s.keepers stopped between
-  may_lower = record {
-    guarded = guarded_alike team.threads.items stopped many alike_stopped at.workers.guarded;
-    each = λ i d lt. let rests = kept_between i d (omega (arith, lt, many)) in (rests.of, rests.waits);
+  told : AllTold region s [] [] said team.threads.items closed [] p reached
+  told = record {
+    rest = at.workers;
+    many = many;
+    threads = λ i d lt. (did.each i d lt).thread;
+    keepers = λ i d lt. (did.each i d lt).keeper;
+    places = λ i d lt. ap room_for (did.each i d lt).requests;
+    silent = λ k past. (no_part k (inr past)).silent;
+    spoken = did.spoken;
+    records_are = did.came.records_are;
+    paid = let none = own_all (planned s) [] s.threads in let own = ap length (no_part 0 (inl refl)).silent in omega (arith, said_few, none, own);
   }
 
-  module _ {lowered : List Worker} (low : LoweredAll region f s.threads s.keepers stopped lowered between) (same : length lowered ≡ length stopped) where
-    abbrev all : List Record
-    all = did.turns.came.said ++ low.said
+  nothing_more : (out : Records) → records_in out ≡ records_in out ++ records_by 0 said
+  nothing_more out = sym (append-nil (records_in out)) ∙ ap (λ rs. records_in out ++ rs) (sym (no_part 0 (inl refl)).silent)
 
-    abbrev reached : Progress
-    reached = low.reached
+  -- There is room for what all said at the close.
+  pub room_at_close : (out : Records) → HasRoom s [] 0 team.threads.items out p
+      → length (records_in out) + (length (said_by_all closed) + length (said_by_keepers closed)) ≤ room_of out
+  room_at_close out room = may_gather told 0 out out (nothing_more out) refl room
 
-    threads_is : length lowered ≡ s.threads
-    threads_is = same ∙ many ∙ threads_are
-
-    -- an actor that is no keeper
-    apart : (k : ℕ) → k ≤ s.threads → (j : ℕ) → j < length stopped → s.threads + suc j ≢ k
-    apart k le j lt is = omega (arith, le, is)
-
-    -- what an actor said, where one of both acts told nothing of it
-    of_both : (k : ℕ) → records_by k all ≡ records_by k did.turns.came.said ++ records_by k low.said
-    of_both k = said_both k did.turns.came.said low.said
-
-    by_stops : (k : ℕ) → records_by k low.said ≡ [] → records_by k all ≡ records_by k did.turns.came.said
-    by_stops k none = of_both k ∙ ap (λ (rs : List Record). records_by k did.turns.came.said ++ rs) none ∙ append-nil (records_by k did.turns.came.said)
-
-    by_sweeps : (k : ℕ) → records_by k did.turns.came.said ≡ [] → records_by k all ≡ records_by k low.said
-    by_sweeps k none = of_both k ∙ ap (λ (rs : List Record). rs ++ records_by k low.said) none
-
-    of_keeper : (i : ℕ) → records_by (s.threads + suc i) all ≡ records_by (s.threads + suc i) low.said
-    of_keeper i = by_sweeps (s.threads + suc i) (did.turns.leaves.silent (s.threads + suc i) (λ is. omega (arith, is)) (no_keeper i))
-
-    -- what the worker said for its thread
-    said_by_one : (i : ℕ) (d : Worker) → i < length team.threads.items → records_in (get_or lowered i d).out ≡ records_by (suc i) all
-    said_by_one i d lt =
-        search (arith, threads_are, by_stops)
-
-    said_are : said_by_all lowered ≡ by_actors 1 s.threads all
-    said_are =
-        search (arith, said_in_order, said_by_one, threads_is)
-
-    -- .. and for its keeper
-    kept_by_one : (i : ℕ) (d : Worker) → i < length team.threads.items → said_kept (get_or lowered i d) ≡ records_by (s.threads + suc i) all
-    kept_by_one i d lt =
-        search (arith, said_then, kept_between, of_keeper)
-
-    -- where there are no keepers nothing was done
-    nothing_done : s.keepers ≡ 0 → (reached ≡ between) × (low.said ≡ [])
-    nothing_done none =
-        let acts : map Lowers (numbers_from (s.threads + 1) s.keepers) ≡ [] = ap (λ (n : ℕ). map Lowers (numbers_from (s.threads + 1) n)) none in
-        let is : reached ≡ between = subst (λ (xs : List Act). Reaches f xs between reached) acts low.reaches in
-        let records = sym low.records_are ∙ ap (λ (q : Progress). q.records) is ∙ sym (append-nil between.records) in
-        (is, append_cancel_left between.records low.said [] records)
-
-    -- nobody past the keepers did anything
-    past : (k : ℕ) → s.threads + s.keepers < k → AreGuarded s.keepers team.threads.items
-        → (part k reached.list ≡ part k between.list) × (records_by k low.said ≡ [])
-    past k far a = search (arith, nothing_done)
-
-    stops_past : (k : ℕ) → s.threads < k → (i : ℕ) → i < length team.threads.items → suc i ≢ k
-    stops_past k far i lt is = omega (arith, far, threads_are, lt, is)
-
-    -- No record is of an actor behind the keepers.
-    silent : (k : ℕ) → s.threads + s.keepers < k → records_by k all ≡ []
-    silent k far =
-        by_sweeps k (did.turns.leaves.silent k (λ is. omega (arith, is, far)) (stops_past k (omega (arith, far)))) ∙ (past k far at.workers.guarded).1
-
-    none_of_scavenger : records_by 0 all ≡ []
-    none_of_scavenger = by_sweeps 0 did.none ∙ low.silent 0 (apart 0 (omega arith))
-
-    -- what they owed pays for what they said
-    said_few : length (by_actors 1 s.threads all) + length (by_actors (s.threads + 1) s.threads all)
-        ≤ owed_by f p s.threads + owed_by_keepers f s.threads team.threads.items p s.threads
-    said_few =
-        let paid = all_paid f (planned s) s.threads [] all team.threads.items [] p reached s.threads (λ i lt.
-        let less : i < length team.threads.items = omega (arith, lt, threads_are) in
-        let within : i < length stopped = omega (arith, less, many) in
-        let d = some_item team.threads.items i less in
-        let keeper = s.threads + suc i in
-        let due = (did.turns.stand i d less).paid in
-        let out = ap (λ (o : Records). length (records_in o)) (low.each i d within).but.out in
-        let size = ap length (said_by_one i d less) in
-        let owes = same_owed f between reached (suc i) (low.parts (suc i) (apart (suc i) (omega (arith, lt)))) (ap (λ (cs : Caches). cs (suc i)) low.caches) in
-        let kept = (low.each i d within).paid in
-        let by_keeper = ap length (of_keeper i) in
-        let had = ap (λ (o : Option Keeper). owed_kept f keeper o between) ((did.turns.told i d less).keeper ∙ sym (keeper_is team.threads.items i d less))
-        ∙ owed_still f keeper (keeper_at team.threads.items i) p between (did.turns.leaves.parts keeper (no_keeper i)) in
-        omega (arith, due, out, size, owes, kept, by_keeper, had)) in
-        let none = own_all (planned s) [] s.threads in
-        omega (arith, paid, none)
-
-    module _ (out : Records) (room : HasRoom s [] 0 team.threads.items out p) where
-      -- There is room for what the threads said at the close.
-      pub room_at_close : length (records_in out) + length (said_by_all lowered) ≤ room_of out
-      room_at_close =
-          search (arith, said_are, said_few)
-
-    module _ {gathered : List Worker} {out out2 : Records} (g : OwnGathered lowered gathered out out2) where
-      guarded_then : AreGuarded s.keepers gathered
-      guarded_then = guarded_alike team.threads.items gathered (g.many ∙ same ∙ many) (λ i d lt.
-          let within : i < length stopped = omega (arith, lt, many) in
-          let old = (get_or team.threads.items i d).keeper in
-          let mid = (get_or stopped i d).keeper in
-          let swept = (get_or lowered i d).keeper in
-          let new = (get_or gathered i d).keeper in
-          let last = alike_same (g.each i d (omega (arith, within, same))).keeper in
-          alike_both old mid new (alike_stopped i d lt) (alike_both mid swept new (alike_pushed (s.threads + suc i) low.said mid swept (low.each i d within).told) last)) at.workers.guarded
-
-      kept_are : said_by_keepers gathered ≡ by_actors (s.threads + 1) s.keepers all
-      kept_are =
-          search (arith, kept_in_order, guarded_then, kept_by_one)
-
-      -- There is room for what the keepers say at the close behind what was written before it.
-      pub room_for_keepers : HasRoom s [] 0 team.threads.items out p → length (records_in out2) + length (said_by_keepers gathered) ≤ room_of out2
-      room_for_keepers room =
-          search (arith, said_are, kept_are, kept_few, guarded_then, threads_is, length-append, said_few)
-
-      module _ {kept : List Worker} {out3 : Records} (h : KeptGathered gathered kept out2 out3) where
-        written_so : AreMarked s p.records (records_in out) → AreWritten s reached.records (records_in out3)
-        written_so marked =
-            let written = records_in out in
-            let own = said_by_all lowered in
-            let its = said_by_keepers gathered in
-            let sorted = by_all s.threads s.keepers f.threads all at.fit.fits silent
-            ∙ ap (λ (rs : List Record). rs ++ (by_actors 1 s.threads all ++ by_actors (s.threads + 1) s.keepers all)) none_of_scavenger in
-            record {
-              before = p.records;
-              before_written = written;
-              said = all;
-              marked = marked;
-              spoken = spoken_both did.turns.came.said low.said did.spoken low.spoken;
-              records_are = low.records_are ∙ ap (λ rs. rs ++ low.said) did.turns.came.records_are ∙ append_assoc p.records did.turns.came.said low.said;
-              written_are = cc (append_assoc written own its, said_are, kept_are);
-            }
-
-        -- There are as many workers as before.
-        sized : length kept ≡ length team.threads.items
-        sized = h.many ∙ g.many ∙ same ∙ many
-
-        -- Each worker's records were gathered.
-        clear : (i : ℕ) (d : Worker) → i < length team.threads.items → IsCleared (get_or lowered i d) (get_or kept i d)
-        clear i d lt =
-            cleared (g.each i d (omega (arith, lt, same, many))) (h.each i d (omega (arith, lt, g.many, same, many)))
-
-        thread_rests : (i : ℕ) (d : Worker) → i < length kept → WorkerRests region f (suc i) (get_or kept i d) (own_records (planned s) (suc i) []) reached
-        thread_rests i d lt =
-            let within : i < length team.threads.items = omega (arith, lt, sized) in
-            let same1 = g.many in
-            let same2 = h.many in
-            let was = at.workers.threads i d within in
-            let but = (low.each i d (omega (arith, within, many))).but in
-            let c = clear i d within in
-            let due = (did.turns.stand i d within).here in
-            let parts = low.parts (suc i) (apart (suc i) (omega (arith, within, threads_are))) in
-            let has : WorkerHas region f (suc i) (get_or stopped i d) (evenly (own_records (planned s) (suc i) [])) reached =
-            record { has = due.has; rests = rests_still (pass_still due.has.pass) parts (ap (λ (cs : Caches). cs (suc i)) low.caches) due.rests } in
-            let owed = ap (λ (c : Cached). owed_events f c (part (suc i) reached.list)) has.rests.cache in
-            let room : room_of (get_or kept i d).out ≡ room_of (get_or stopped i d).out = c.room ∙ ap room_of but.out in
-            let requests : (get_or kept i d).requests ≡ (get_or team.threads.items i d).requests =
-            (h.each i d (omega (arith, lt, same2))).but.requests ∙ (g.each i d (omega (arith, lt, same1, same2))).requests ∙ but.requests ∙ (did.turns.told i d within).requests in
-            let noted = ap room_for requests in
-            rests_clear has (c.pass ∙ but.pass) (c.cache ∙ but.cache) c.none (omega arith) (omega (arith, has.rests.spare, owed, room))
-            (ap requests_in requests ∙ was.asked) (omega (arith, was.requests, noted))
-
-        all_closed : AreClosed region s kept reached
-        all_closed = record {
-          rest = record {
-            many = sized ∙ threads_are;
-            threads = thread_rests;
-            guarded = guarded_alike gathered kept h.many
-                (λ i d lt. alike_said (get_or gathered i d).keeper (get_or kept i d).keeper (h.each i d lt).keeper) guarded_then;
-            kept = λ i d lt.
-                let within : i < length team.threads.items = omega (arith, lt, sized) in
-                let one = low.each i d (omega (arith, within, many)) in
-                let said = (clear i d within).keeper in
-                let old = (get_or lowered i d).keeper in
-                let new = (get_or kept i d).keeper in
-                record {
-                  of = of_gathered region old new said one.of;
-                  waits = waits_gathered f (s.threads + suc i) [] no_more reached old new said one.waits;
-                  silent = silent_gathered old new said;
-                };
+  module _ {gathered : List Worker} {out out2 : Records} (g : WereGathered closed gathered out out2) where
+    -- The close is done once threads are stopped, guards are lowered and all that was said is gathered.
+    pub has_closed : {after : Team} → after.threads.items ≡ gathered → after.scavenger ≡ team.scavenger → after.book ≡ team.book → HasPlaces s.threads after
+        → AreMarked s p.records (records_in out) → {first last_seen : Whole}
+        → WentBy s (one_by_one (take (length team.threads.items + length team.threads.items) (closing_acts s.threads s.keepers))) p reached first last_seen
+        → CloseDone region s after (records_in out2) first last_seen p
+    has_closed {after} threads scavenger book places marked {first} {last_seen} went =
+        let acts = all_acts s.threads s.keepers (length team.threads.items + length team.threads.items)
+        (let most = most_keepers team.threads.items at.workers.guarded in omega (arith, most, threads_are)) in
+        let one : (i : ℕ) (d : Worker) → i < length gathered → i < length team.threads.items = λ i d lt. omega (arith, lt, g.many, many) in
+        let clear : (i : ℕ) (d : Worker) → i < length closed → IsCleared (get_or closed i d) (get_or gathered i d) = λ i d lt.
+        let here : i < length team.threads.items = omega (arith, lt, many) in
+        cleared_silent (g.each i d lt) (ap requests_in (did.each i d here).requests ∙ (at.workers.threads i d here).asked) in
+        let rest = rest_again told gathered g.many clear in
+        record {
+          reached = reached;
+          reaches = subst (λ xs. Reaches f xs p reached) acts did.came.reaches;
+          team_at = record {
+            fit = at.fit;
+            workers = subst (λ ws. WorkersRest region s [] ws reached) (sym threads) rest;
+            scavenger = subst (λ x. ScavengerRests region f x (own_records (planned s) 0 (all_ops [])) reached) (sym scavenger)
+                (scavenger_rests (no_part 0 (inl refl)).part_is at.scavenger);
+            nobody = λ k far. (no_part k (inr far)).part_is ∙ at.nobody k far;
+            names = subst (λ (b : NameBook). NamesAt f (all_ops []) b reached) (sym book) (names_at did.names at.names);
+            frees = tt;
+            places = places;
           };
-          empty = λ i d lt.
-              let within : i < length team.threads.items = omega (arith, lt, sized) in
-              let cache = (clear i d within).cache ∙ (low.each i d (omega (arith, within, many))).but.cache in
-              ap (λ (c : ThreadCache). (cached c).locals) cache ∙ did.empty i d within;
-          low = λ i d lt.
-              let here : i < length stopped = omega (arith, lt, sized, many) in
-              low_gathered (get_or lowered i d).keeper (get_or kept i d).keeper (clear i d (omega (arith, lt, sized))).keeper (low.low i d here here);
+          written_so = written told (records_in out) out out2 at.fit.fits marked (nothing_more out) g.added;
+          empty = subst (λ ws. (i : ℕ) (d : Worker) → i < length ws → (cached (get_or ws i d).cache).locals ≡ []) (sym threads)
+              (λ i d lt.
+              let here = one i d lt in
+              ap (λ (c : ThreadCache). (cached c).locals) (clear i d (omega (arith, here, many))).cache ∙ (did.each i d here).empty (omega (arith, here)));
+          low = subst (λ ws. (i : ℕ) (d : Worker) → i < length ws → IsLow (get_or ws i d).keeper) (sym threads)
+              (λ i d lt.
+              let here = one i d lt in
+              low_gathered (get_or closed i d).keeper (get_or gathered i d).keeper (clear i d (omega (arith, here, many))).keeper ((did.each i d here).low (omega (arith, here, threads_are))));
+          went = subst (λ xs. WentBy s (one_by_one xs) p reached first last_seen) acts went;
         }
-
-        -- The close is done once threads are stopped, guards are lowered and all that was said is gathered.
-        pub has_closed : {after : Team} → after.threads.items ≡ kept → after.scavenger ≡ team.scavenger → after.book ≡ team.book → HasPlaces s.threads after
-            → AreMarked s p.records (records_in out) → {first last_seen : Whole}
-            → WentBy s (one_by_one (close_rest s.threads s.keepers)) p reached first last_seen
-            → CloseDone region s after (records_in out3) first last_seen p
-        has_closed {after} threads scavenger book places marked went =
-            let then : AreClosed region s after.threads.items reached = subst (λ (ws : List Worker). AreClosed region s ws reached) (sym threads) all_closed in
-            let still = low.parts 0 (apart 0 (omega arith)) ∙ did.turns.leaves.parts 0 (λ i lt is. omega (arith, is)) in
-            record {
-              reached = reached;
-              reaches = reach_both f (map Ends (numbers_from 1 s.threads)) (map Lowers (numbers_from (s.threads + 1) s.keepers)) p between reached
-                  (subst (λ (n : ℕ). Reaches f (map Ends (numbers_from 1 n)) p between) threads_are did.turns.came.reaches) low.reaches;
-              team_at = record {
-                fit = at.fit;
-                workers = then.rest;
-                scavenger = subst (λ x. ScavengerRests region f x (own_records (planned s) 0 (all_ops [])) reached) (sym scavenger)
-                    (scavenger_rests still at.scavenger);
-                nobody = λ k far. (past k far at.workers.guarded).0 ∙ did.turns.leaves.parts k (stops_past k (omega (arith, far))) ∙ at.nobody k far;
-                names = subst (λ (b : NameBook). NamesAt f (all_ops []) b reached) (sym book) (names_at (low.names ∙ did.turns.leaves.names) at.names);
-                frees = tt;
-                places = places;
-              };
-              written_so = written_so marked;
-              empty = then.empty;
-              low = then.low;
-              went = went;
-            }
 
 -- ---- which stages are left
 -- after so many phases
@@ -553,7 +392,7 @@ pub record BeforeClose (region : SharedRegion) (s : Session) (all : List (List O
   pub team_at : TeamAt region s [] team p
   pub marked : AreMarked s p.records (records_in out)
   pub room : HasRoom s [] 0 team.threads.items out p
-  pub leads : Leads s all (close_rest s.threads s.keepers) (one_by_one (close_rest s.threads s.keepers)) p so_far
+  pub leads : Leads s all (closing_acts s.threads s.keepers) (one_by_one (closing_acts s.threads s.keepers)) p so_far
   pub stand : StandSo s so_far p.list
 
 module _ {region : SharedRegion} {s : Session} {all : List (List Op)} {n : ℕ} {team : Team} {so_far : Whole} {out : Records}
@@ -589,7 +428,7 @@ close_ends {region} {s} {all} {team} {team'} {so_far} {so_far'} {out} {written} 
   answers = so.leads.reaches did.reached did.reaches;
   went = so.leads.by_stages did.reached so_far' did.went;
   in_phases = λ whole first of. so.leads.in_phases whole (earlier_both did.went.earlier first) of did.reached did.reaches
-      (unmarked s.profile (close_rest s.threads s.keepers) so.p did.reached did.reaches whole (close_unmarked s.threads s.keepers));
+      (unmarked s.profile (closing_acts s.threads s.keepers) so.p did.reached did.reaches whole (close_unmarked s.threads s.keepers));
   stands = did.team_at;
   written_are = written_whole did.written_so;
   empty = did.empty;

@@ -1,27 +1,38 @@
 -- The close: thread by thread and keeper by keeper; and behind each of these acts the ledger takes in a pass, is settled, and gives the pass back.
 use Rattle.std.proofs.Common.{◌≡◌, ◌≢◌, ℕ, suc, ◌+◌, ◌-◌, ◌<◌, ◌≤◌, inl, inr, List, [], ◌∷◌, ◌++◌, length, set, get_or, map, Option, Some, None, refl, ap, sym}
-use Rattle.std.proofs.Common.{◌∙◌, subst, arith, length-set, zero, get_or-set_same, get_or-set_other}
-use Rattle.std.proofs.lemmas.{List.set-get_or, Option.same_Some, Bool.cases_lt, Bool.cases_eq, List.get_or_default}
+use Rattle.std.proofs.Common.{◌∙◌, subst, arith, length-set, get_or-set_same, get_or-set_other, length-append, take, take_all, get_or-append-add, set-set}
+use Rattle.std.proofs.Common.{append-nil}
+use Rattle.std.proofs.lemmas.List.{set-get_or, get_or_default, take_more, length-map, get_or-map}
+use Rattle.std.proofs.{lemmas.Bool.cases_lt, lemmas.Bool.cases_eq, Math.ListN.get_or-append}
+use Rattle.pas_profile.specs.declared.profile.Profile.{Profile}
 use Rattle.pas_steps.specs.Lists.{Whole, part}
 use Rattle.pas_steps.proofs.Parts.{part_of_others}
 use Rattle.pas_trace.specs.Acts.{Act, Ends, Lowers, numbers_from}
-use Rattle.pas_cache.specs.Caches.{cached}
+use Rattle.pas_trace.specs.declared.plan.Op.{Op}
+use Rattle.pas_trace.proofs.ThreadsInOrder.{numbers_count}
+use Rattle.pas_cache.specs.Caches.{Cached, cached}
+use Rattle.pas_cache.specs.declared.cache.ThreadCache.{ThreadCache}
 use Rattle.pas_shared.specs.{Ruled.IsEarlier, Ruled.HasPart, Ruled.AreEarlier, Passes.view_of, Passes.IsPassOf}
 use Rattle.pas_shared.specs.declared.{region.SharedRegion.SharedRegion, pass.SharedPass.SharedPass, ledger.Ledger.Ledger, ledger.Rest.Rest, rule.Entry.Entry}
 use Rattle.pas_shared.specs.declared.{rule.Part.Part}
-use Rattle.pas_answers.specs.{Answers.Progress, Stages.Stage}
-use Rattle.pas_acts.proofs.ActsLeft.{number_next, number_last}
-use Rattle.pas_threads.specs.Pairs.{no_more, HasKeeper, AreGuarded, IsButKeeper, KeeperLowered, MayLower}
-use Rattle.pas_threads.specs.Sessions.{Session, evenly, AreResting, StandSo, WentBy}
-use Rattle.pas_threads.specs.Settling.{PassStands, ActorsStand, StoppedSo, LoweredSo, Settled, StandsIn}
-use Rattle.pas_threads.specs.Turns.{Turn, TookTurns, IsDue, Stopped}
+use Rattle.pas_answers.specs.{Answers.Progress, Answers.Caches, Answers.Books, Stages.Stage, Stages.one_by_one, Calls.owed_events, Ways.EachOf, Ways.records_by}
+use Rattle.pas_answers.specs.{Reaching.Reaches}
+use Rattle.pas_answers.proofs.OwnRecords.{records_both, all_by, none_by, spoken_piece, spoken_both}
+use Rattle.pas_acts.specs.{AtDesks.Here, AtDesks.ThreadActs, Keepers.KeeperHas, Keepers.KeeperLowers, Keepers.LaterKept, Pairs.KeptPushed, Works.Later}
+use Rattle.pas_acts.proofs.{AtDesk.leaves_rest, AtDesk.rests_still, Working.kept_both}
+use Rattle.pas_threads.specs.Pairs.{no_more, kept_by_worker, owed_kept, AreGuarded, IsButKeeper, IsKeeperOf, IsLow, KeeperLowered}
+use Rattle.pas_threads.specs.Sessions.{Session, evenly, closing_acts, StandSo, WentBy, WorkersRest}
+use Rattle.pas_threads.specs.{Settling.ActorsStand, Settling.Settled, Settling.StandsIn, Hands.HasPass, Kits.with_keeper}
+use Rattle.pas_threads.specs.Closing.{ThreadTold, KeeperTold, IsClosing, ClosedFirst, ClosesNext, ClosedSo}
+use Rattle.pas_threads.specs.Turns.{Came, Pushed, Turn, TookTurns, IsDue, owed_at}
 use Rattle.pas_threads.specs.declared.{keeper.Keeper.Keeper, workers.Worker.Worker}
-use Rattle.pas_threads.proofs.Staging.{still_at, went_none, went_both, went_alone, one_by_one_both}
-use Rattle.pas_threads.proofs.Keepers.{alike_same, guarded_alike, lowers_from, none_left, has_none, has_all, lower_next, most_keepers, lower_begins}
-use Rattle.pas_threads.proofs.Keepers.{lower_passes, lowers_one}
-use Rattle.pas_threads.proofs.TakingTurns.{SoFar, at_first, goes_on, at_last, set_each, ends_from, ends_begin, ends}
+use Rattle.pas_threads.proofs.Dealt.{number_at, some_item}
+use Rattle.pas_threads.proofs.Staging.{still_at, thread_stands, keeper_stands, went_none, went_both, went_alone, one_by_one_both}
+use Rattle.pas_threads.proofs.Keepers.{alike_same, alike_pushed, guarded_alike, waits_still, kept_none}
+use Rattle.pas_threads.proofs.TakingTurns.{set_each, came_none, came_both, pushed_none, pushed_both, no_part_both, pass_still, same_owed}
 use Rattle.pas_shared.specs.Ledgers.{so_far, looks_of, actors_in, part_of, IsSameLedger, IsRestOf}
-use Rattle.pas_threads.specs.{Hands.HasPass, Kits.with_keeper}
+use Rattle.pas_records.specs.Rooms.{records_in, room_of}
+use Rattle.pas_records.specs.declared.record.Record.{Record}
 
 -- ---- all actors stand after turns of the threads
 pub turns_stand : {region : SharedRegion} {s : Session} {slot : Option SharedPass} {acts : List Act} {old now : List Worker} {later : ℕ → ℕ} {o p : Progress}
@@ -33,180 +44,380 @@ turns_stand {region} {s} {slot} {acts} {old} {now} {later} {o} {p} at turns many
       many = many ∙ at.many;
       guarded = guarded_alike old now many (λ i d lt. alike_same (turns.told i d lt).keeper) at.guarded;
       scavenger = still_at (turns.leaves.parts 0 (λ i lt is. omega (arith, is))) at.scavenger;
-      threads = λ i d lt.
-          let here = (turns.stand i d (omega (arith, lt, many))).here in
-          record { pass = here.has.pass; present = here.has.present; of = here.has.of; actor = here.rests.sits.actor; made = here.rests.sits.stood };
+      threads = λ i d lt. thread_stands (turns.stand i d (omega (arith, lt, many))).here;
       keepers = λ i d keeper lt is.
           let less : i < length old = omega (arith, lt, many) in
           still_at (turns.leaves.parts (s.threads + suc i) (λ j below same. omega (arith, below, same, threads))) (at.keepers i d keeper less (sym (turns.told i d less).keeper ∙ is));
       nobody = λ k past. turns.leaves.parts k (λ i lt same. omega (arith, past, lt, same, threads)) ∙ at.nobody k past;
     }
 
--- ---- .. and after the sweep of a keeper
-module _ {region : SharedRegion} {s : Session} {slot : Option SharedPass} {now : List Worker} {p : Progress} (i : ℕ) (d w : Worker) (keeper after : Keeper)
-    (at : ActorsStand region s slot now p.list) (lt : i < length now) (before : (get_or now i d).keeper ≡ Some keeper)
-    (but : IsButKeeper (get_or now i d) w) (lowered : w.keeper ≡ Some after)
-    (did : KeeperLowered region s.profile (s.threads + suc i) keeper after no_more p) where
-  abbrev k : ℕ
-  k = s.threads + suc i
+-- ---- one actor's act
+-- actor k did this act, and nothing of another actor changed
+record ActorDid (f : Profile) (k : ℕ) (act : Act) (p : Progress) : Type 0 where
+  came : Came f (act ∷ []) p
+  each : EachOf k came.said
+  parts : (j : ℕ) → j ≢ k → part j came.reached.list ≡ part j p.list
+  caches : (j : ℕ) → j ≢ k → came.reached.caches j ≡ p.caches j
+  books : (j : ℕ) → j ≢ k → came.reached.books j ≡ p.books j
+  names : came.reached.names ≡ p.names
 
-  -- The parts of other actors are as they were.
-  others : (j : ℕ) → j ≢ k → part j did.did.reached.list ≡ part j p.list
-  others j ne = ap (part j) did.did.moves.list_is ∙ part_of_others j k did.did.moves.steps p.list (λ (is : k ≡ j). ne (sym is))
+abbrev thread_did : {f : Profile} {k : ℕ} {act : Act} {old new : Here} {later : Later} {p : Progress} → ThreadActs f k (act ∷ []) [] [] old new later p → ActorDid f k act p
+thread_did {p = p} x =
+    let leaves = leaves_rest x in
+    record {
+      came = record { reached = x.reached; reaches = x.reaches; said = x.own; records_are = x.records_are ∙ ap (λ rs. p.records ++ rs) (append-nil x.own) };
+      each = x.each;
+      parts = leaves.parts;
+      caches = leaves.caches;
+      books = λ j ne. ap (λ (books : Books). books j) x.books;
+      names = leaves.names;
+    }
 
-  -- there is a keeper for each thread
-  all_have : AreGuarded s.keepers now → (s.keepers ≡ length now) × ((j : ℕ) (e : Worker) → j < length now → HasKeeper (get_or now j e))
-  all_have (inl all) = all
-  all_have (inr none) = absurd (let bad : None ≡ Some keeper = sym (none.1 i d lt) ∙ before in cc)
+abbrev keeper_did : {f : Profile} {k : ℕ} {old new : KeeperHas} {later : LaterKept} {p : Progress} → KeeperLowers f k old new later p → ActorDid f k (Lowers k) p
+keeper_did {k = k} {p = p} y = record {
+  came = record { reached = y.reached; reaches = y.reaches; said = y.said; records_are = y.records_are };
+  each = y.each;
+  parts = λ j ne. ap (part j) y.moves.list_is ∙ part_of_others j k y.moves.steps p.list (λ (is : k ≡ j). ne (sym is));
+  caches = λ j ne. ap (λ (caches : Caches). caches j) y.caches;
+  books = y.books;
+  names = y.names;
+}
 
-  -- There are as many workers as before.
-  size : length (set now i w) ≡ length now
-  size = length-set now i w
+-- Another actor said nothing, and stands as it did.
+module _ {f : Profile} {k : ℕ} {act : Act} {q : Progress} (x : ActorDid f k act q) where
+  silent : (j : ℕ) → j ≢ k → records_by j x.came.said ≡ []
+  silent j ne = none_by j k x.came.said x.each (λ (is : k ≡ j). ne (sym is))
 
-  its_own : (e : Worker) (x : Keeper) → w.keeper ≡ Some x → PassStands region k did.did.reached.list (Some x.pass)
-  its_own e x is = subst (λ (y : Keeper). PassStands region k did.did.reached.list (Some y.pass)) (same_Some after x (sym lowered ∙ is)) (record { pass = after.pass; present = refl; of = did.of; actor = did.did.stands.sits.actor; made = did.did.stands.sits.stood })
+  said_other : (said : List Record) (j : ℕ) → j ≢ k → records_by j (said ++ x.came.said) ≡ records_by j said
+  said_other said j ne = records_both j said x.came.said ∙ ap (λ rs. records_by j said ++ rs) (silent j ne) ∙ append-nil (records_by j said)
 
-  -- After a keeper lowered its guards, all actors stand, each with the steps that the list has of it.
-  lowered_stands : ActorsStand region s slot (set now i w) did.did.reached.list
-  lowered_stands =
-      let all = all_have at.guarded in
-      let threads = at.many in
-      record {
-        many = size ∙ at.many;
-        guarded = inl (all.0 ∙ sym size, λ j e less. set_each (λ (m : ℕ) (v : Worker). HasKeeper v) now i w e j lt (after, lowered) (λ ne. all.1 j e (omega (arith, less, size))));
-        scavenger = still_at (others 0 (λ is. omega (arith, is))) at.scavenger;
-        threads = λ j e less.
-            let here : j < length now = omega (arith, less, size) in
-            let same = others (suc j) (λ is. omega (arith, is, here, threads)) in
-            still_at same (set_each (λ (m : ℕ) (v : Worker). PassStands region (suc m) p.list v.pass) now i w e j lt
-            (subst (PassStands region (suc i) p.list) (sym but.pass) (at.threads i d lt)) (λ ne. at.threads j e here));
-        keepers = λ j e x less is.
-            let here : j < length now = omega (arith, less, size) in
-            set_each (λ (m : ℕ) (v : Worker). (y : Keeper) → v.keeper ≡ Some y → PassStands region (s.threads + suc m) did.did.reached.list (Some y.pass)) now i w e j lt (λ y own. its_own e y own)
-            (λ ne y own. still_at (others (s.threads + suc j) (λ same. ne (omega (arith, same)))) (at.keepers j e y here own)) x is;
-        nobody = λ j past. others j (λ same. omega (arith, past, same, all.0, lt)) ∙ at.nobody j past;
-      }
-
--- ---- the stops
-abbrev pub StopsSoFar : SharedRegion → Session → Option SharedPass → ℕ → List Worker → List Worker → (ℕ → ℕ) → Whole → Whole → Progress → Type 0
-StopsSoFar region s slot i old now later before after p =
-    SoFar (ends_from 0 (length old)) (ends_from i (length old)) (λ acts. StoppedSo region s slot acts i old now later before after p)
-
--- Before any thread is stopped at the close, the stops so far are none.
-pub stops_begin : {region : SharedRegion} {s : Session} {slot : Option SharedPass} {old : List Worker} {later : ℕ → ℕ} {before : Whole} {p : Progress}
-    → AreResting region s.profile old later p → ActorsStand region s slot old p.list → StandSo s before p.list
-    → StopsSoFar region s slot 0 old old later before before p
-stops_begin {s = s} rest stand stood = at_first (record { stopped = ends_begin rest; stand = stand; went = went_none s stood stand.nobody })
-
-module _ {region : SharedRegion} {s : Session} {slot : Option SharedPass} {acts : List Act} {old now : List Worker} {later : ℕ → ℕ} {before after : Whole}
-    {p : Progress} (i : ℕ) (d w : Worker) (so : StoppedSo region s slot acts i old now later before after p) (first : ActorsStand region s slot old p.list)
-    (lt : i < length old) (many : length now ≡ length old) (t : Turn region s.profile (suc i) (Ends (suc i)) [] (get_or now i d) w
-    (evenly (later (suc i))) so.stopped.turns.came.reached) (none : (cached w.cache).locals ≡ []) where
-  abbrev next_stopped : Stopped region s.profile (acts ++ (Ends (suc i) ∷ [])) (suc i) old (set now i w) later p
-  next_stopped = ends i d w so.stopped lt many t none
-
-  -- After a thread was stopped at the close, all actors stand, each with the steps that the list has of it.
-  pub next_stands : ActorsStand region s slot (set now i w) t.did.does.reached.list
-  next_stands = turns_stand first next_stopped.turns (length-set now i w ∙ many)
-
-  -- once the ledger is settled
-  pub stops_next : {settled : Whole} → IsEarlier after settled → StandSo s settled t.did.does.reached.list
-      → StoppedSo region s slot (acts ++ (Ends (suc i) ∷ [])) (suc i) old (set now i w) later before settled p
-  stops_next {settled} earlier stood = record {
-    stopped = next_stopped;
-    stand = next_stands;
-    went = subst (λ (ss : List Stage). WentBy s ss p t.did.does.reached before settled) (sym (one_by_one_both acts (Ends (suc i) ∷ [])))
-        (went_both so.went (went_alone s (Ends (suc i) ∷ []) t.did.does.reaches earlier so.stand.nobody next_stands.nobody so.went.stand stood));
+module _ {region : SharedRegion} {s : Session} {k : ℕ} {act : Act} {q : Progress} (x : ActorDid s.profile k act q) where
+  thread_stays : {left : List Op} {said : List Record} {old new : Worker} (j : ℕ) → j ≢ k → ThreadTold region s left j said old new q
+      → ThreadTold region s left j (said ++ x.came.said) old new x.came.reached
+  thread_stays j ne t = record {
+    here = record { has = t.here.has; rests = rests_still (pass_still t.here.has.pass) (x.parts j ne) (x.caches j ne) t.here.rests };
+    out = pushed_both t.out (pushed_none (silent x j ne));
   }
 
--- After one more thread was stopped and the ledger settled, the stops so far are one more.
-pub stops_go_on : {region : SharedRegion} {s : Session} {slot : Option SharedPass} {old now now' : List Worker} {later : ℕ → ℕ} {before after settled : Whole}
-    {p : Progress} (i : ℕ) (so : StopsSoFar region s slot i old now later before after p)
-    → i < length old
-    → StoppedSo region s slot (so.acts ++ (Ends (suc i) ∷ [])) (suc i) old now' later before settled p
-    → StopsSoFar region s slot (i + 1) old now' later before settled p
-stops_go_on {region} {s} {slot} {old} {now} {now'} {later} {before} {after} {settled} {p} i so lt next =
-    let n = length old in
-    goes_on (Ends (i + 1) ∷ []) (ap (map Ends) (number_next (i + 1) (n - i) (n - (i + 1)) (omega (arith, lt)))) so
-    (subst (λ (m : ℕ). StoppedSo region s slot (so.acts ++ (Ends m ∷ [])) m old now' later before settled p) (let is : suc i ≡ i + 1 = omega arith in is) next)
+  keeper_stays : {left : List Op} {said : List Record} {old new : Option Keeper} (j : ℕ) → s.threads + j ≢ k → KeeperTold region s left j said old new q
+      → KeeperTold region s left j (said ++ x.came.said) old new x.came.reached
+  keeper_stays {said = said} {old} {new} j ne t = record {
+    of = t.of;
+    waits = waits_still s.profile (s.threads + j) _ new no_more q x.came.reached (x.parts (s.threads + j) ne) (x.books (s.threads + j) ne) t.waits;
+    out = kept_both (s.threads + j) said x.came.said (kept_by_worker old) (kept_by_worker new) (kept_by_worker new) t.out
+        (kept_none (s.threads + j) x.came.said (kept_by_worker new) (silent x (s.threads + j) ne));
+  }
 
--- Once each worker had its turn, all threads are stopped.
-pub stops_end : {region : SharedRegion} {s : Session} {slot : Option SharedPass} {old now : List Worker} {later : ℕ → ℕ} {before after : Whole} {p : Progress}
-    (i : ℕ)
-    → length old ≤ i → i ≤ length old → StopsSoFar region s slot i old now later before after p
-    → StoppedSo region s slot (map Ends (numbers_from 1 (length old))) (length old) old now later before after p
-stops_end {region} {s} {slot} {old} {now} {later} {before} {after} {p} i le ge so =
-    let n = length old in
-    let all : ends_from 0 n ≡ map Ends (numbers_from 1 n) = ap (λ (m : ℕ). map Ends (numbers_from 1 m)) (let whole : n - 0 ≡ n = omega arith in whole) in
-    let at : i ≡ n = omega (arith, le, ge) in
-    rw (all, at) at (at_last (ap (map Ends) (number_last (i + 1) (n - i) (omega (arith, le)))) so)
+-- ---- the acts of the close
+closing_many : (threads keepers : ℕ) → length (closing_acts threads keepers) ≡ threads + keepers
+closing_many threads keepers =
+    let first = length-map (numbers_from 1 threads) Ends ∙ numbers_count 1 threads in
+    let second = length-map (numbers_from (threads + 1) keepers) Lowers ∙ numbers_count (threads + 1) keepers in
+    let both = length-append (map Ends (numbers_from 1 threads)) (map Lowers (numbers_from (threads + 1) keepers)) in
+    omega (arith, first, second, both)
 
--- ---- the sweeps
-abbrev pub LowersSoFar : SharedRegion → Session → Option SharedPass → ℕ → List Worker → List Worker → Whole → Whole → Progress → Type 0
-LowersSoFar region s slot i old now before after p =
-    SoFar (lowers_from s.threads s.keepers 0) (lowers_from s.threads s.keepers i) (λ acts. LoweredSo region s slot acts i old now before after p)
+-- Once each place had its turn all acts are done.
+pub all_acts : (threads keepers i : ℕ) → threads + keepers ≤ i → take i (closing_acts threads keepers) ≡ closing_acts threads keepers
+all_acts threads keepers i past = let many = closing_many threads keepers in take_all i (closing_acts threads keepers) (omega (arith, many, past))
 
--- Before any keeper lowers its guards at the close, those lowered so far are none.
-pub lowers_begin : {region : SharedRegion} {s : Session} {slot : Option SharedPass} {old : List Worker} {before : Whole} {p : Progress}
-    → MayLower region s.profile s.threads s.keepers old p → ActorsStand region s slot old p.list → StandSo s before p.list
-    → LowersSoFar region s slot 0 old old before before p
-lowers_begin {s = s} may stand stood = at_first (record { lowered = lower_begins may; stand = stand; went = went_none s stood stand.nobody })
+thread_act : (threads keepers i : ℕ) → i < threads → take (i + 1) (closing_acts threads keepers) ≡ take i (closing_acts threads keepers) ++ Ends (suc i) ∷ []
+thread_act threads keepers i lt =
+    let ks = numbers_from 1 threads in
+    let many = closing_many threads keepers in
+    let count = numbers_count 1 threads in
+    let size = length-map ks Ends in
+    let is = get_or-append (map Ends ks) (map Lowers (numbers_from (threads + 1) keepers)) (Ends 0) i (omega (arith, lt, count, size))
+    ∙ get_or-map Ends ks i 0 (Ends 0) (omega (arith, lt, count)) ∙ ap Ends (number_at 1 threads i lt ∙ (let one : 1 + i ≡ suc i = omega arith in one)) in
+    take_more (closing_acts threads keepers) i (Ends 0) (omega (arith, lt, many)) ∙ ap (λ act. take i (closing_acts threads keepers) ++ act ∷ []) is
 
--- a worker without a keeper: there is no keeper at all
-pub lowers_pass : {region : SharedRegion} {s : Session} {slot : Option SharedPass} {old now : List Worker} {before after : Whole} {p : Progress} (i : ℕ)
-    (d w : Worker)
-    → MayLower region s.profile s.threads s.keepers old p → i < length old → length now ≡ length old → (get_or now i d).keeper ≡ None → w ≡ get_or now i d
-    → LowersSoFar region s slot i old now before after p → LowersSoFar region s slot (i + 1) old (set now i w) before after p
-lowers_pass {region} {s} {slot} {old} {now} {before} {after} {p} i d w may lt many none same so =
-    let x = so.done.lowered in
-    let no_keepers = has_none old i d lt may.guarded (ap (λ (y : Worker). y.keeper) (sym (x.left i d (omega arith) lt)) ∙ none) in
-    let still : now ≡ set now i w = sym (set-get_or now i d) ∙ ap (set now i) (sym same) in
-    subst (λ (ws : List Worker). LowersSoFar region s slot (i + 1) old ws before after p) still
-    (record {
-      acts = so.acts;
-      whole = ap (λ acts. so.acts ++ acts) (none_left s.threads s.keepers (i + 1) no_keepers ∙ sym (none_left s.threads s.keepers i no_keepers)) ∙ so.whole;
-      done = record { lowered = lower_passes i d lt many none x; stand = so.done.stand; went = so.done.went };
-    })
+keeper_act : (threads keepers j : ℕ) → j < keepers
+    → take (threads + j + 1) (closing_acts threads keepers) ≡ take (threads + j) (closing_acts threads keepers) ++ Lowers (threads + suc j) ∷ []
+keeper_act threads keepers j lt =
+    let ks = numbers_from (threads + 1) keepers in
+    let ends = map Ends (numbers_from 1 threads) in
+    let many = closing_many threads keepers in
+    let count = numbers_count (threads + 1) keepers in
+    let size : length ends ≡ threads = length-map (numbers_from 1 threads) Ends ∙ numbers_count 1 threads in
+    let is = ap (λ n. get_or (closing_acts threads keepers) (n + j) (Ends 0)) (sym size) ∙ get_or-append-add ends (map Lowers ks) j (Ends 0)
+    ∙ get_or-map Lowers ks j 0 (Ends 0) (omega (arith, lt, count))
+    ∙ ap Lowers (number_at (threads + 1) keepers j lt ∙ (let at : threads + 1 + j ≡ threads + suc j = omega arith in at)) in
+    take_more (closing_acts threads keepers) (threads + j) (Ends 0) (omega (arith, lt, many)) ∙ ap (λ act. take (threads + j) (closing_acts threads keepers) ++ act ∷ []) is
 
-module _ {region : SharedRegion} {s : Session} {slot : Option SharedPass} {old now : List Worker} {before after : Whole} {p : Progress} (i : ℕ) (d w : Worker)
-    (keeper low : Keeper) (so : LowersSoFar region s slot i old now before after p) (lt : i < length old) (many : length now ≡ length old)
-    (had : (get_or now i d).keeper ≡ Some keeper) (but : IsButKeeper (get_or now i d) w) (lowered : w.keeper ≡ Some low)
-    (did : KeeperLowered region s.profile (s.threads + suc i) keeper low no_more so.done.lowered.reached) where
-  abbrev keeper_at : ℕ
-  keeper_at = s.threads + suc i
+-- ---- the first actors close
+pub closes_begin : {region : SharedRegion} {s : Session} {old : List Worker} {p : Progress} → WorkersRest region s [] old p → ClosedFirst region s 0 old old p
+closes_begin {s = s} {old} {p} at = record {
+  came = came_none s.profile p;
+  spoken = tt;
+  each = λ j d lt.
+      let kept = at.kept j d lt in
+      record {
+        thread = record { here = (at.threads j d lt).here; out = pushed_none refl };
+        keeper = record { of = kept.of; waits = kept.waits; out = kept_none (s.threads + suc j) [] (kept_by_worker (get_or old j d).keeper) refl };
+        requests = refl;
+        paid = omega arith;
+        kept_paid = omega arith;
+        empty = λ less. absurd (omega (arith, less));
+        low = λ less. absurd (omega (arith, less));
+        left = λ le. refl;
+      };
+  others = λ k other. record { part_is = refl; silent = refl };
+  names = refl;
+}
 
-  -- After one more keeper's sweep all actors stand, each with the steps that the list has of it.
-  pub sweep_stands : ActorsStand region s slot (set now i w) did.did.reached.list
-  sweep_stands = lowered_stands i d w keeper low so.done.stand (omega (arith, lt, many)) had but lowered did
+module _ {region : SharedRegion} {s : Session} {i : ℕ} {old now : List Worker} {p : Progress} (so : ClosedFirst region s i old now p) where
+  abbrev q : Progress
+  q = so.came.reached
 
-  -- After one more sweep, behind which the ledger was settled, the keepers that lowered so far are one more.
-  pub lowers_go_on : {settled : Whole} → MayLower region s.profile s.threads s.keepers old p → IsEarlier after settled → StandSo s settled did.did.reached.list
-      → LowersSoFar region s slot (i + 1) old (set now i w) before settled p
-  lowers_go_on {settled} may earlier stood =
-      let x = so.done.lowered in
-      let all = has_all old i d keeper lt may.guarded (ap (λ (v : Worker). v.keeper) (sym (x.left i d (omega arith) lt)) ∙ had) in
-      let next : LoweredSo region s slot (so.acts ++ (Lowers keeper_at ∷ [])) (i + 1) old (set now i w) before settled p = record {
-        lowered = lowers_one i d w keeper low lt many had but lowered x did;
-        stand = sweep_stands;
-        went = subst (λ (ss : List Stage). WentBy s ss p did.did.reached before settled) (sym (one_by_one_both so.acts (Lowers keeper_at ∷ [])))
-            (went_both so.done.went (went_alone s (Lowers keeper_at ∷ []) did.did.reaches earlier so.done.stand.nobody sweep_stands.nobody so.done.went.stand stood));
+  -- All actors stand then, each with the steps that the list has of it.
+  pub closed_stand : {slot : Option SharedPass} → length now ≡ length old → ActorsStand region s slot old p.list → ActorsStand region s slot now q.list
+  closed_stand many at = record {
+    many = many ∙ at.many;
+    guarded = guarded_alike old now many
+        (λ j d lt. alike_pushed (s.threads + suc j) so.came.said (get_or old j d).keeper (get_or now j d).keeper (so.each j d lt).keeper.out) at.guarded;
+    scavenger = still_at (so.others 0 (λ m less there is. omega (arith, is))).part_is at.scavenger;
+    threads = λ j d lt. thread_stands (so.each j d (omega (arith, lt, many))).thread.here;
+    keepers = λ j d keeper lt is. let told = (so.each j d (omega (arith, lt, many))).keeper in keeper_stands s.profile [] no_more q (get_or now j d).keeper keeper is told.of told.waits;
+    nobody = λ k past. (so.others k (λ m less there is. omega (arith, past, there, is))).part_is ∙ at.nobody k past;
+  }
+
+  -- An actor that isn't there is passed over.
+  pub closes_pass : AreGuarded s.keepers old → length now ≡ length old → s.threads ≡ length old → s.threads ≤ i → s.keepers ≡ 0
+      → ((j : ℕ) (d : Worker) → j < length old → (get_or now j d).keeper ≡ None)
+      → ClosedFirst region s (i + 1) old now p
+  closes_pass guarded many threads le none gone =
+      let acts = all_acts s.threads s.keepers i (omega (arith, le, none)) ∙ sym (all_acts s.threads s.keepers (i + 1) (omega (arith, le, none))) in
+      record {
+        came = record { reached = q; reaches = subst (λ xs. Reaches s.profile xs p q) acts so.came.reaches; said = so.came.said; records_are = so.came.records_are };
+        spoken = so.spoken;
+        each = λ j d lt.
+            let one = so.each j d lt in
+            record {
+              thread = one.thread;
+              keeper = one.keeper;
+              requests = one.requests;
+              paid = one.paid;
+              kept_paid = one.kept_paid;
+              empty = λ less. one.empty (omega (arith, lt, le, threads));
+              low = λ less. subst IsLow (sym (gone j d lt)) tt;
+              left = λ from. one.left (omega (arith, from));
+            };
+        others = λ k other. so.others k (λ m less there. other m (omega (arith, less)) there);
+        names = so.names;
+      }
+
+  -- The actor at place i, which is of the worker at place j, made its act; the worker is w then.
+  module _ {k : ℕ} {act : Act} (x : ActorDid s.profile k act q) (at : k ≡ suc i) (many : length now ≡ length old)
+      (acts : take (i + 1) (closing_acts s.threads s.keepers) ≡ take i (closing_acts s.threads s.keepers) ++ act ∷ []) (there : i < s.threads + s.keepers) where
+    abbrev said : List Record
+    said = so.came.said ++ x.came.said
+
+    other_stays : (j : ℕ) (e : Worker) → j < length old → j ≢ i → s.threads + j ≢ i
+        → IsClosing region s (i + 1) j said (get_or old j e) (get_or now j e) p x.came.reached
+    other_stays j e lt thread keeper =
+        let one = so.each j e lt in
+        let apart : suc j ≢ k = λ is. thread (omega (arith, is, at)) in
+        let away : s.threads + suc j ≢ k = λ is. keeper (omega (arith, is, at)) in
+        let own = ap length (said_other x so.came.said (suc j) apart) in
+        let its = ap length (said_other x so.came.said (s.threads + suc j) away) in
+        let owed = same_owed s.profile q x.came.reached (suc j) (x.parts (suc j) apart) (x.caches (suc j) apart) in
+        let paid = one.paid in
+        let kept_paid = one.kept_paid in
+        record {
+          thread = thread_stays x (suc j) apart one.thread;
+          keeper = keeper_stays x (suc j) away one.keeper;
+          requests = one.requests;
+          paid = omega (arith, own, owed, paid);
+          kept_paid = omega (arith, its, kept_paid);
+          empty = λ less. one.empty (omega (arith, less, thread));
+          low = λ less. one.low (omega (arith, less, keeper));
+          left = λ from. one.left (omega (arith, from));
+        }
+
+    abbrev closes : (j : ℕ) (w : Worker) → j < length old
+        → ((e : Worker) → IsClosing region s (i + 1) j said (get_or old j e) w p x.came.reached)
+        → ((m : ℕ) → m ≢ j → m < length old → (m ≢ i) × (s.threads + m ≢ i)) → ClosedFirst region s (i + 1) old (set now j w) p
+    closes j w lt this apart =
+        let both = came_both so.came x.came in
+        record {
+          came = record { reached = x.came.reached; reaches = subst (λ xs. Reaches s.profile xs p x.came.reached) (sym acts) both.reaches; said = said; records_are = both.records_are };
+          spoken = spoken_both so.came.said x.came.said so.spoken (spoken_piece k x.came.said x.each);
+          each = λ m e less. set_each (λ (n : ℕ) (v : Worker). IsClosing region s (i + 1) n said (get_or old n e) v p x.came.reached) now j w e m (omega (arith, lt, many)) (this e)
+              (λ ne. let away = apart m ne less in other_stays m e less away.0 away.1);
+          others = λ j other.
+              let ne : j ≢ k = λ is. other i (omega arith) there (sym (is ∙ at)) in
+              no_part_both (so.others j (λ m less. other m (omega (arith, less)))) (record { part_is = x.parts j ne; silent = silent x j ne });
+          names = x.names ∙ so.names;
+        }
+
+  -- The thread at this place was stopped.
+  pub thread_closes : (d w : Worker) → s.threads ≡ length old → i < length old → length now ≡ length old
+      → Turn region s.profile (suc i) (Ends (suc i)) [] (get_or now i d) w (evenly 0) q → (cached w.cache).locals ≡ [] → ClosesNext region s i old now (set now i w) p so
+  thread_closes d w threads lt many t none =
+      let x = t.did.does in
+      let did = thread_did x in
+      let place : i < length now = omega (arith, lt, many) in
+      let acts = thread_act s.threads s.keepers i (omega (arith, lt, threads)) in
+      let there : i < s.threads + s.keepers = omega (arith, lt, threads) in
+      let all = so.came.said ++ x.own in
+      let this : (e : Worker) → IsClosing region s (i + 1) i all (get_or old i e) w p x.reached = λ e.
+      let one = so.each i e lt in
+      let same = get_or_default now i d e place in
+      let keeper : w.keeper ≡ (get_or now i e).keeper = t.keeper ∙ ap (λ (v : Worker). v.keeper) same in
+      let away : s.threads + suc i ≢ suc i = λ is. omega (arith, is, lt, threads) in
+      let pushed : Pushed (suc i) x.own (get_or now i d).out w.out =
+      record { added = x.pushed ∙ ap (λ rs. records_in (get_or now i d).out ++ rs) (sym (all_by (suc i) x.own x.each)); room = x.room } in
+      let longer = ap length (records_both (suc i) so.came.said x.own) ∙ length-append (records_by (suc i) so.came.said) (records_by (suc i) x.own) in
+      let mine = ap length (all_by (suc i) x.own x.each) in
+      let then : owed_at s.profile (suc i) x.reached ≡ owed_events s.profile (cached w.cache) (part (suc i) x.reached.list) =
+      ap (λ (c : Cached). owed_events s.profile c (part (suc i) x.reached.list)) x.stands.cache in
+      let before : owed_at s.profile (suc i) q ≡ owed_events s.profile (cached (get_or now i d).cache) (part (suc i) q.list) =
+      ap (λ (c : Cached). owed_events s.profile c (part (suc i) q.list)) (so.each i d lt).thread.here.rests.cache in
+      let paid = x.paid in
+      let had = one.paid in
+      let its = ap length (said_other did so.came.said (s.threads + suc i) away) in
+      let kept_paid = one.kept_paid in
+      record {
+        thread = record {
+          here = record { has = t.did.after; rests = x.stands };
+          out = pushed_both one.thread.out (subst (λ (v : Worker). Pushed (suc i) x.own v.out w.out) same pushed);
+        };
+        keeper = subst (λ (o : Option Keeper). KeeperTold region s [] (suc i) all (get_or old i e).keeper o x.reached) (sym keeper) (keeper_stays did (suc i) away one.keeper);
+        requests = t.requests ∙ ap (λ (v : Worker). v.requests) same ∙ one.requests;
+        paid = omega (arith, longer, mine, then, before, paid, had);
+        kept_paid = omega (arith, its, kept_paid);
+        empty = λ less. none;
+        low = λ less. absurd (omega (arith, less, lt, threads));
+        left = λ from. keeper ∙ one.left (omega (arith, from));
       } in
-      goes_on (Lowers keeper_at ∷ []) (lower_next s.threads s.keepers i (omega (arith, lt, all))) so next
+      record {
+        next = closes did refl many acts there i w lt this (λ m ne less. (ne, λ is. omega (arith, is, lt, less, threads)));
+        act = Ends (suc i);
+        reaches = x.reaches;
+        acts_are = acts;
+      }
 
--- Once each worker had its turn, all keepers have lowered their guards.
-pub lowers_end : {region : SharedRegion} {s : Session} {slot : Option SharedPass} {old now : List Worker} {before after : Whole} {p : Progress} (i : ℕ)
-    → MayLower region s.profile s.threads s.keepers old p → length old ≤ i → i ≤ length old → LowersSoFar region s slot i old now before after p
-    → LoweredSo region s slot (map Lowers (numbers_from (s.threads + 1) s.keepers)) (length old) old now before after p
-lowers_end {region} {s} {slot} {old} {now} {before} {after} {p} i may le ge so =
-    let threads = s.threads in
-    let keepers = s.keepers in
-    let most = most_keepers old may.guarded in
-    let at : i ≡ length old = omega (arith, le, ge) in
-    let all : lowers_from threads keepers 0 ≡ map Lowers (numbers_from (threads + 1) keepers) =
-    ap (λ k. map Lowers (numbers_from k (keepers - 0))) (let first : threads + 1 + 0 ≡ threads + 1 = omega arith in first)
-    ∙ ap (λ n. map Lowers (numbers_from (threads + 1) n)) (let whole : keepers - 0 ≡ keepers = omega arith in whole)
-    in
-    rw (all, at) at (at_last (ap (map Lowers) (number_last (threads + 1 + i) (keepers - i) (omega (arith, most, le)))) so)
+  -- The keeper of the worker at place j lowered its guards.
+  module _ (j : ℕ) (d w : Worker) (keeper after : Keeper) (threads : s.threads ≡ length old) (at : i ≡ s.threads + j) (lt : j < length old) (many : length now ≡ length old)
+      (all : s.keepers ≡ length old)
+      (had : (get_or now j d).keeper ≡ Some keeper) (but : IsButKeeper (get_or now j d) w) (lowered : w.keeper ≡ Some after)
+      (did : KeeperLowered region s.profile (s.threads + suc j) keeper after no_more q) where
+    abbrev k : ℕ
+    k = s.threads + suc j
+
+    abbrev said_then : List Record
+    said_then = so.came.said ++ did.did.said
+
+    place : j < length now
+    place = omega (arith, lt, many)
+
+    its_said : records_by k said_then ≡ did.did.said
+    its_said = records_both k so.came.said did.did.said
+        ∙ ap (λ rs. rs ++ records_by k did.did.said) (so.others k (λ m less there is. omega (arith, less, is, at))).silent ∙ all_by k did.did.said did.did.each
+
+    -- the keeper was there from the start
+    was : (e : Worker) → (get_or now j e).keeper ≡ Some keeper
+    was e = ap (λ (v : Worker). v.keeper) (get_or_default now j e d place) ∙ had
+
+    thread_then : (e : Worker) → ThreadTold region s [] (suc j) said_then (get_or old j e) w did.did.reached
+    thread_then e =
+        let changed : IsButKeeper (get_or now j e) w = subst (λ (v : Worker). IsButKeeper v w) (get_or_default now j d e place) but in
+        let t = thread_stays (keeper_did did.did) (suc j) (λ is. omega (arith, is, lt, threads)) (so.each j e lt).thread in
+        record {
+          here = record { has = record { pass = t.here.has.pass; present = changed.pass ∙ t.here.has.present; of = t.here.has.of }; rests = rw (changed.out, changed.cache) t.here.rests };
+          out = record { added = ap records_in changed.out ∙ t.out.added; room = ap room_of changed.out ∙ t.out.room };
+        }
+
+    keeper_then : (e : Worker) → KeeperTold region s [] (suc j) said_then (get_or old j e).keeper w.keeper did.did.reached
+    keeper_then e =
+        let pushed : KeptPushed k did.did.said (kept_by_worker (Some keeper)) (kept_by_worker (Some after)) =
+        (did.did.pushed ∙ ap (λ rs. records_in keeper.out ++ rs) (sym (all_by k did.did.said did.did.each)), did.did.room, did.did.size) in
+        record {
+          of = subst (IsKeeperOf region) (sym lowered) did.of;
+          waits = rw lowered (tt, did.did.stands);
+          out = kept_both k so.came.said did.did.said (kept_by_worker (get_or old j e).keeper) (kept_by_worker (get_or now j e).keeper) (kept_by_worker w.keeper)
+              (so.each j e lt).keeper.out (rw (was, lowered) pushed);
+        }
+
+    this_keeper : (e : Worker) → IsClosing region s (i + 1) j said_then (get_or old j e) w p did.did.reached
+    this_keeper e =
+        let one = so.each j e lt in
+        let x = keeper_did did.did in
+        let apart : suc j ≢ k = λ is. omega (arith, is, lt, threads) in
+        let changed : IsButKeeper (get_or now j e) w = subst (λ (v : Worker). IsButKeeper v w) (get_or_default now j d e place) but in
+        let own = ap length (said_other x so.came.said (suc j) apart) in
+        let owes = same_owed s.profile q did.did.reached (suc j) (x.parts (suc j) apart) (x.caches (suc j) apart) in
+        let size = ap length its_said in
+        let owed = ap (λ (o : Option Keeper). owed_kept s.profile k o p) (sym (one.left (omega (arith, at))) ∙ was e) in
+        let paid = one.paid in
+        let few = did.did.few in
+        record {
+          thread = thread_then e;
+          keeper = keeper_then e;
+          requests = changed.requests ∙ one.requests;
+          paid = omega (arith, own, owes, paid);
+          kept_paid = omega (arith, few, size, owed);
+          empty = λ less. ap (λ (c : ThreadCache). (cached c).locals) changed.cache ∙ one.empty (omega (arith, lt, threads, at));
+          low = λ less. subst IsLow (sym lowered) did.did.none;
+          left = λ from. absurd (omega (arith, from, at));
+        }
+
+    pub keeper_closes : ClosesNext region s i old now (set now j w) p so
+    keeper_closes =
+        let acts = ap (λ n. take (n + 1) (closing_acts s.threads s.keepers)) at ∙ keeper_act s.threads s.keepers j (omega (arith, lt, all))
+        ∙ ap (λ n. take n (closing_acts s.threads s.keepers) ++ Lowers k ∷ []) (sym at) in
+        record {
+          next = closes (keeper_did did.did) (omega (arith, at)) many acts (omega (arith, at, lt, all)) j w lt this_keeper
+              (λ m ne less. (λ is. omega (arith, is, less, at, threads), λ is. ne (omega (arith, is, at))));
+          act = Lowers k;
+          reaches = did.did.reaches;
+          acts_are = acts;
+        }
+
+-- Where one worker has a keeper, there are as many keepers as workers.
+pub has_all : {keepers : ℕ} (old : List Worker) (i : ℕ) (d : Worker) (keeper : Keeper) → i < length old → AreGuarded keepers old
+    → (get_or old i d).keeper ≡ Some keeper → keepers ≡ length old
+has_all old i d keeper lt a is = search arith
+
+-- ---- .. and the ledger is settled behind each
+-- where one worker has no keeper, none has
+none_has : {keepers : ℕ} (workers : List Worker) (j : ℕ) (d : Worker) → j < length workers → AreGuarded keepers workers → (get_or workers j d).keeper ≡ None
+    → (keepers ≡ 0) × ((i : ℕ) (e : Worker) → i < length workers → (get_or workers i e).keeper ≡ None)
+none_has workers j d lt (inl all) is = let has = all.1 j d lt in absurd (let bad : None ≡ Some has.0 = sym is ∙ has.1 in cc)
+none_has workers j d lt (inr none) is = none
+
+pub settles_begin : {region : SharedRegion} {s : Session} {slot : Option SharedPass} {old : List Worker} {before : Whole} {p : Progress} → WorkersRest region s [] old p
+    → ActorsStand region s slot old p.list → StandSo s before p.list → ClosedSo region s 0 old old before before p
+unfolding closes_begin
+settles_begin {s = s} rest stand stood = record { closing = closes_begin rest; went = went_none s stood stand.nobody }
+
+-- Once it is settled behind one more act, one more stage is behind it.
+pub settles_next : {region : SharedRegion} {s : Session} {slot : Option SharedPass} {i : ℕ} {old now new : List Worker} {before after settled : Whole} {p : Progress}
+    (so : ClosedSo region s i old now before after p) (n : ClosesNext region s i old now new p so.closing) → length now ≡ length old → length new ≡ length old
+    → ActorsStand region s slot old p.list → IsEarlier after settled → StandSo s settled n.next.came.reached.list → ClosedSo region s (i + 1) old new before settled p
+settles_next {s = s} {i = i} {before = before} {settled = settled} {p} so n many many2 at earlier stood = record {
+  closing = n.next;
+  went = subst (λ (ss : List Stage). WentBy s ss p n.next.came.reached before settled)
+      (sym (ap one_by_one n.acts_are ∙ one_by_one_both (take i (closing_acts s.threads s.keepers)) (n.act ∷ [])))
+      (went_both so.went (went_alone s (n.act ∷ []) n.reaches earlier (closed_stand so.closing many at).nobody (closed_stand n.next many2 at).nobody so.went.stand stood));
+}
+
+pub settles_pass : {region : SharedRegion} {s : Session} {i : ℕ} {old now : List Worker} {before after : Whole} {p : Progress} → ClosedSo region s i old now before after p
+    → AreGuarded s.keepers old → length now ≡ length old → s.threads ≡ length old → s.threads ≤ i → i < s.threads + s.threads
+    → ((d : Worker) → (get_or now (i - s.threads) d).keeper ≡ None)
+    → ClosedSo region s (i + 1) old now before after p
+unfolding closes_pass
+settles_pass {s = s} {i} {old} {now} {before} {after} {p} so guarded many threads le lt gone =
+    let j = i - s.threads in
+    let d = some_item old j (omega (arith, lt, le, threads)) in
+    let x = so.closing in
+    let now_guarded = guarded_alike old now many (λ m e less. alike_pushed (s.threads + suc m) x.came.said (get_or old m e).keeper (get_or now m e).keeper (x.each m e less).keeper.out) guarded in
+    let all = none_has now j d (omega (arith, lt, le, threads, many)) now_guarded (gone d) in
+    let none = all.0 in
+    record {
+      closing = closes_pass x guarded many threads le none (λ m e less. all.1 m e (omega (arith, less, many)));
+      went = subst (λ acts. WentBy s (one_by_one acts) p x.came.reached before after)
+          (all_acts s.threads s.keepers i (omega (arith, le, none)) ∙ sym (all_acts s.threads s.keepers (i + 1) (omega (arith, le, none)))) so.went;
+    }
 
 -- the actor that was taken in is the last one, once the ledger was settled with it
 pub gives : (region : SharedRegion) (pass : SharedPass) (rest : Rest) (old taken settled : Ledger) → IsPassOf region pass → IsRestOf pass rest
@@ -234,11 +445,6 @@ pub stands_still : (settled back : Ledger) (pass : SharedPass) → IsSameLedger 
 stands_still settled back pass after stands = ap (part pass.place.actor) after.steps ∙ stands
 
 -- ---- the place of the pass
-set_twice : (ws : List Worker) (i : ℕ) (v w : Worker) → set (set ws i v) i w ≡ set ws i w
-set_twice [] i v w = refl
-set_twice (u ∷ ws) zero v w = refl
-set_twice (u ∷ ws) (suc i) v w = ap (λ (vs : List Worker). u ∷ vs) (set_twice ws i v w)
-
 abbrev pub with_pass : Worker → Option SharedPass → Worker
 with_pass w pass = record { pass = pass; cache = w.cache; requests = w.requests; out = w.out; keeper = w.keeper; member = w.member; bench = w.bench }
 
@@ -249,7 +455,7 @@ keeper_back ws now at e d gone keeper lt is back =
     let w = get_or ws at e in
     let mid = with_keeper w gone in
     let here : get_or now at d ≡ mid = ap (λ (vs : List Worker). get_or vs at d) is ∙ get_or-set_same ws at mid d lt in
-    ap (λ (v : Worker). set now at (with_keeper v keeper)) here ∙ ap (λ vs. set vs at (with_keeper w keeper)) is ∙ set_twice ws at mid (with_keeper w keeper)
+    ap (λ (v : Worker). set now at (with_keeper v keeper)) here ∙ ap (λ vs. set vs at (with_keeper w keeper)) is ∙ set-set ws at mid (with_keeper w keeper)
     ∙ ap (λ (o : Option Keeper). set ws at (with_keeper w o)) back ∙ set-get_or ws at e
 
 -- A pass that was put back into its worker's place leaves all workers as they were.
@@ -259,7 +465,7 @@ pass_back ws now at e d gone pass lt is back =
     let w = get_or ws at e in
     let mid = with_pass w gone in
     let here : get_or now at d ≡ mid = ap (λ (vs : List Worker). get_or vs at d) is ∙ get_or-set_same ws at mid d lt in
-    ap (λ (v : Worker). set now at (with_pass v pass)) here ∙ ap (λ vs. set vs at (with_pass w pass)) is ∙ set_twice ws at mid (with_pass w pass)
+    ap (λ (v : Worker). set now at (with_pass v pass)) here ∙ ap (λ vs. set vs at (with_pass w pass)) is ∙ set-set ws at mid (with_pass w pass)
     ∙ ap (λ (o : Option SharedPass). set ws at (with_pass w o)) back ∙ set-get_or ws at e
 
 -- a worker without its pass has its keeper, and the others are as they were

@@ -1,9 +1,8 @@
 -- The keepers of workers: how those of a plan are made, how they stand on while others act and over a phase, what is gathered of them, and their last sweeps.
-use Rattle.std.proofs.Common.{◌≡◌, ℕ, suc, ◌+◌, ◌*◌, ◌<◌, ◌≤◌, ◌==◌, min, Bool, true, false, if◌then◌else◌, List, [], ◌∷◌, ◌++◌, length, set, get_or}
-use Rattle.std.proofs.Common.{slice_index, inl, inr, Option, Some, refl, ap, sym, ◌∙◌, subst, arith, ◌-◌, ◌^◌, eq-eqb, ne_eqb, get_or-set_other, ◌≢◌, map, None}
-use Rattle.std.proofs.Common.{append_assoc, append-nil, drop, drop_of_length-le, length-drop}
-use Rattle.std.proofs.{Math.Nat.le-min, Math.Nat.mul-le-mul, lemmas.Bool.cases_lt, lemmas.Bool.cases_eq, lemmas.List.get_or-map, lemmas.List.get_or_default}
-use Rattle.std.proofs.{lemmas.List.drop_more}
+use Rattle.std.proofs.Common.{◌≡◌, ℕ, suc, ◌+◌, ◌*◌, ◌<◌, ◌≤◌, ◌==◌, min, Bool, true, false, if◌then◌else◌, List, [], ◌∷◌, ◌++◌, length, get_or, slice_index}
+use Rattle.std.proofs.Common.{inl, inr, Option, Some, refl, ap, sym, ◌∙◌, subst, arith, ◌-◌, ◌^◌, eq-eqb, ne_eqb, ◌≢◌, None, append-nil, drop}
+use Rattle.std.proofs.Common.{drop_of_length-le, length-drop}
+use Rattle.std.proofs.{Math.Nat.le-min, Math.Nat.mul-le-mul, lemmas.Bool.cases_lt, lemmas.Bool.cases_eq, lemmas.List.get_or-map, lemmas.List.drop_more}
 use Rattle.pas_profile.specs.declared.profile.Profile.{Profile}
 use Rattle.pas_trace.specs.{Asked.work_of, Asked.keeper_in, Plans.IsPlanOf, Plans.bounds_of, Reasons.cost_of_size, Reasons.actors_by}
 use Rattle.pas_trace.specs.EveryPlan.{kept_of_work, kept_records, records_of_what, records_of_ops, operations_of}
@@ -14,21 +13,18 @@ use Rattle.pas_guard.specs.declared.book.GuardBook.{GuardBook}
 use Rattle.pas_shared.specs.declared.{pass.SharedPass.SharedPass, region.SharedRegion.SharedRegion}
 use Rattle.pas_answers.specs.{Replays.threads_of, Replays.keepers_of, Answers.Progress, Ways.is_of, Ways.records_by}
 use Rattle.pas_acts.specs.{PlanKeepers.one_guarded, PlanKeepers.guarded_of, PlanKeepers.AreBooks, Shares.owner_in}
-use Rattle.pas_acts.proofs.{PlanFacts.is_guarded, AtDesk.keeper_still, ActsLeft.number_next, ActsLeft.number_last, PhaseActs.own_thread, PhaseActs.kept_thread}
-use Rattle.pas_acts.proofs.{PhaseActs.owner_of, Working.kept_both}
+use Rattle.pas_acts.proofs.{PlanFacts.is_guarded, AtDesk.keeper_still, PhaseActs.own_thread, PhaseActs.kept_thread, PhaseActs.owner_of}
 use Rattle.pas_threads.specs.Kits.{HaveKeepers, TakesKeeper, IsKeptBy, AreKeptBy, most_records}
-use Rattle.pas_threads.specs.Pairs.{AreGuarded, IsButKeeper, kept_by_worker, IsKeeperOf, IsSilent, no_more, owed_kept, keeper_at, IsLow, KeptSo, Lowered}
-use Rattle.pas_threads.specs.Pairs.{MayLower, KeeperStands, KeeperLowered, KeeperRests, said_by_keeper}
+use Rattle.pas_threads.specs.Pairs.{AreGuarded, kept_by_worker, IsKeeperOf, IsSilent, no_more, owed_kept, keeper_at, IsLow, KeeperStands, KeeperRests}
+use Rattle.pas_threads.specs.Pairs.{said_by_keeper}
 use Rattle.pas_threads.specs.declared.{keeper.Keeper.Keeper, workers.Worker.Worker}
 use Rattle.pas_steps.specs.Lists.{part}
-use Rattle.pas_steps.proofs.Parts.{part_of_others}
-use Rattle.pas_trace.specs.Acts.{Act, Settles, Lowers, act_kept, numbers_from, own_acts}
-use Rattle.pas_answers.proofs.OwnRecords.{records_both, all_by, none_by, spoken_piece, spoken_both}
-use Rattle.pas_answers.proofs.{Reached.reach_both, EachAct.all_front, EachAct.all_back}
-use Rattle.pas_acts.specs.Keepers.{LaterKept, Keeping, NoKeeper, OneKeeper, KeeperAt, KeeperLowers, keeper_has}
+use Rattle.pas_trace.specs.Acts.{Act, Settles, act_kept, own_acts}
+use Rattle.pas_answers.proofs.EachAct.{all_front, all_back}
+use Rattle.pas_acts.specs.Keepers.{LaterKept, Keeping, NoKeeper, OneKeeper, KeeperAt, keeper_has}
 use Rattle.pas_acts.specs.Pairs.{for_guard, for_guards, AreTriedBy, AreUnguarded, KeeperWaits, EachOfTwo, KeptPushed, KeptStill, owed_of}
 use Rattle.pas_threads.specs.{Hands.standing_of_pass, Turns.HasSaid, Performing.Round, Performing.ThreadDone}
-use Rattle.pas_threads.proofs.{TakingTurns.set_each, TakingTurns.each_pushed, Dealt.some_item}
+use Rattle.pas_threads.proofs.{TakingTurns.each_pushed, Dealt.some_item}
 use Rattle.pas_records.specs.Rooms.{records_in, room_of}
 use Rattle.pas_records.specs.declared.record.Record.{Record}
 
@@ -283,161 +279,10 @@ owed_gathered f k a b p said = search arith
 pub low_gathered : (old new : Option Keeper) → HasSaid old new → IsLow old → IsLow new
 low_gathered a b said low = search arith
 
--- ---- the last sweeps
--- those of the keepers from place i of so many on
-abbrev pub lowers_from : ℕ → ℕ → ℕ → List Act
-lowers_from threads keepers i = map Lowers (numbers_from (threads + 1 + i) (keepers - i))
-
--- A worker that is as it was differs at most in its keeper.
-pub nothing_changed : (w : Worker) → IsButKeeper w w
-nothing_changed w = record { pass = refl; cache = refl; requests = refl; out = refl }
-
-abbrev pub lower_begins : {region : SharedRegion} {f : Profile} {threads keepers : ℕ} {old : List Worker} {p : Progress}
-    → MayLower region f threads keepers old p → Lowered region f threads [] 0 old old p
-lower_begins {threads = threads} {old = old} {p} may = record {
-  reached = p;
-  reaches = refl;
-  said = [];
-  records_are = sym (append-nil p.records);
-  spoken = tt;
-  each = λ j d lt. record { but = nothing_changed (get_or old j d); of = (may.each j d lt).0; waits = (may.each j d lt).1; told = kept_none (threads + suc j) [] (kept_by_worker (get_or old j d).keeper) refl; paid = omega arith };
-  low = λ j d less lt. absurd (omega (arith, less));
-  left = λ j d from lt. refl;
-  parts = λ k other. refl;
-  books = λ k other. refl;
-  silent = λ k other. refl;
-  caches = refl;
-  names = refl;
-}
-
--- a worker without a keeper: there is no keeper at all
-pub none_left : (threads keepers i : ℕ) → keepers ≡ 0 → lowers_from threads keepers i ≡ []
-none_left threads keepers i none = ap (map Lowers) (number_last (threads + 1 + i) (keepers - i) (omega (arith, none)))
-
--- Where one worker has no keeper, the replay has none.
-pub has_none : {keepers : ℕ} (old : List Worker) (i : ℕ) (d : Worker) → i < length old → AreGuarded keepers old → (get_or old i d).keeper ≡ None → keepers ≡ 0
-has_none old i d lt (inl all) is = let has = all.1 i d lt in absurd (let bad : None ≡ Some has.0 = sym is ∙ has.1 in cc)
-has_none old i d lt (inr none) is = none.0
-
-abbrev pub lower_passes : {region : SharedRegion} {f : Profile} {threads : ℕ} {acts : List Act} {old now : List Worker} {p : Progress} (i : ℕ) (d : Worker)
-    → i < length old → length now ≡ length old → (get_or now i d).keeper ≡ None → Lowered region f threads acts i old now p
-    → Lowered region f threads acts (i + 1) old now p
-lower_passes {region} {f} {threads} {acts} {old} {now} {p} i d lt many none x = record {
-  reached = x.reached;
-  reaches = x.reaches;
-  said = x.said;
-  records_are = x.records_are;
-  spoken = x.spoken;
-  each = x.each;
-  low = λ j e less within. elim (cases_eq j i) [
-    | inl is ↦
-        subst (λ (m : ℕ). IsLow (get_or now m e).keeper) (sym is)
-        (subst IsLow (sym (ap (λ (w : Worker). w.keeper) (get_or_default now i e d (omega (arith, lt, many))) ∙ none)) tt)
-    | inr other ↦ x.low j e (omega (arith, less, other)) within
-  ];
-  left = λ j e from within. x.left j e (omega (arith, from)) within;
-  parts = λ k other. x.parts k (λ j less. other j (omega (arith, less)));
-  books = λ k other. x.books k (λ j less. other j (omega (arith, less)));
-  silent = λ k other. x.silent k (λ j less. other j (omega (arith, less)));
-  caches = x.caches;
-  names = x.names;
-}
-
--- a worker with one, which lowers its guards
-pub lower_next : (threads keepers i : ℕ) → i < keepers → lowers_from threads keepers i ≡ Lowers (threads + suc i) ∷ lowers_from threads keepers (i + 1)
-lower_next threads keepers i lt =
-    search (arith, number_next)
-
--- Where one worker has a keeper, there are as many keepers as workers.
-pub has_all : {keepers : ℕ} (old : List Worker) (i : ℕ) (d : Worker) (keeper : Keeper) → i < length old → AreGuarded keepers old
-    → (get_or old i d).keeper ≡ Some keeper → keepers ≡ length old
-has_all old i d keeper lt a is = search arith
-
 -- A worker's keeper that waits for nothing more stands with its pass of the region.
 pub stands_for : {region : SharedRegion} {f : Profile} {k : ℕ} {later : LaterKept} {p : Progress} (o : Option Keeper) (keeper : Keeper) → o ≡ Some keeper
     → IsKeeperOf region o → KeeperWaits f k [] (kept_by_worker o) later p → KeeperStands region f k keeper later p
 stands_for {region} {f} {k} {later} {p} o keeper is of waits = search arith
-
-module _ {region : SharedRegion} {f : Profile} {threads : ℕ} {acts : List Act} {old now : List Worker} {p : Progress} (i : ℕ) (d w : Worker)
-    (keeper after : Keeper) (lt : i < length old) (many : length now ≡ length old)
-    (before : (get_or now i d).keeper ≡ Some keeper) (but : IsButKeeper (get_or now i d) w) (lowered : w.keeper ≡ Some after)
-    (x : Lowered region f threads acts i old now p)
-    (did : KeeperLowered region f (threads + suc i) keeper after no_more x.reached) where
-  abbrev k : ℕ
-  k = threads + suc i
-
-  abbrev y : KeeperLowers f k (keeper_has (standing_of_pass keeper.pass) keeper.book keeper.out)
-      (keeper_has (standing_of_pass after.pass) after.book after.out) no_more x.reached
-  y = did.did
-
-  -- The place of the worker whose keeper lowers its guards is one of the row.
-  pub here : i < length now
-  here = omega (arith, lt, many)
-
-  -- it is none of those that lowered theirs before
-  first : (j : ℕ) → j < i → threads + suc j ≢ k
-  first j less is = omega (arith, less, is)
-
-  -- The keeper of the worker at that place is the one that it had before.
-  was : (e : Worker) → (get_or now i e).keeper ≡ Some keeper
-  was e = ap (λ (v : Worker). v.keeper) (get_or_default now i e d here) ∙ before
-
-  -- What that keeper says of all sweeps is what it says in its own.
-  said_own : records_by k (x.said ++ y.said) ≡ y.said
-  said_own = records_both k x.said y.said ∙ ap (λ (rs : List Record). rs ++ records_by k y.said) (x.silent k first) ∙ all_by k y.said y.each
-
-  -- What any other actor says of all sweeps is what it said before this one.
-  pub said_other : (j : ℕ) → j ≢ k → records_by j (x.said ++ y.said) ≡ records_by j x.said
-  said_other j ne = cc (records_both j x.said y.said, none_by j k y.said y.each (λ (is : k ≡ j). ne (sym is)), append-nil (records_by j x.said))
-
-  -- Another actor's part of the list is as it was before this sweep.
-  pub parts_other : (j : ℕ) → j ≢ k → part j y.reached.list ≡ part j x.reached.list
-  parts_other j ne = ap (part j) y.moves.list_is ∙ part_of_others j k y.moves.steps x.reached.list (λ (is : k ≡ j). ne (sym is))
-
-  -- The worker of the keeper that swept stands, with what its keeper said paid for.
-  pub this_one : (e : Worker) → KeptSo region f threads (suc i) (x.said ++ y.said) (get_or old i e) w p y.reached
-  this_one e =
-      let had = x.each i e lt in
-      let same : get_or now i e ≡ get_or old i e = x.left i e (omega arith) lt in
-      let changed : IsButKeeper (get_or now i e) w = subst (λ (v : Worker). IsButKeeper v w) (get_or_default now i d e here) but in
-      let size = ap length said_own in
-      let owed = ap (λ (o : Option Keeper). owed_kept f k o p) (ap (λ (v : Worker). v.keeper) (sym same) ∙ was e) in
-      let pushed : KeptPushed k y.said (kept_by_worker (Some keeper)) (kept_by_worker (Some after)) = (y.pushed ∙ ap (λ rs. records_in keeper.out ++ rs) (sym (all_by k y.said y.each)), y.room, y.size) in
-      record {
-        but = record { pass = changed.pass ∙ had.but.pass; cache = changed.cache ∙ had.but.cache; requests = changed.requests ∙ had.but.requests; out = changed.out ∙ had.but.out };
-        of = subst (IsKeeperOf region) (sym lowered) did.of;
-        waits = subst (λ (o : Option Keeper). KeeperWaits f k [] (kept_by_worker o) no_more y.reached) (sym lowered) (tt, y.stands);
-        told = kept_both k x.said y.said (kept_by_worker (get_or old i e).keeper) (kept_by_worker (get_or now i e).keeper) (kept_by_worker w.keeper) had.told
-            (rw (was, lowered) pushed);
-        paid = omega (arith, y.few, size, owed);
-      }
-
-  -- Every other worker stands as it did before this sweep.
-  pub other_one : (j : ℕ) (e : Worker) → j < length old → j ≢ i
-      → KeptSo region f threads (suc j) (x.said ++ y.said) (get_or old j e) (get_or now j e) p y.reached
-  other_one j e less ne =
-      search (arith, said_other, waits_still, parts_other, kept_both, kept_none, none_by)
-
-  -- of an actor that is none of those that lowered theirs so far, with this one
-  pub past : (j : ℕ) → ((m : ℕ) → m < i + 1 → threads + suc m ≢ j) → j ≢ k
-  past j other is = other i (omega arith) (sym is)
-
-  abbrev pub lowers_one : Lowered region f threads (acts ++ (Lowers k ∷ [])) (i + 1) old (set now i w) p
-  lowers_one = record {
-    reached = y.reached;
-    reaches = reach_both f acts (Lowers k ∷ []) p x.reached y.reached x.reaches y.reaches;
-    said = x.said ++ y.said;
-    records_are = y.records_are ∙ ap (λ (rs : List Record). rs ++ y.said) x.records_are ∙ append_assoc p.records x.said y.said;
-    spoken = spoken_both x.said y.said x.spoken (spoken_piece k y.said y.each);
-    each = λ j e less. set_each (λ (m : ℕ) (v : Worker). KeptSo region f threads (suc m) (x.said ++ y.said) (get_or old m e) v p y.reached) now i w e j here (this_one e) (other_one j e less);
-    low = λ j e less within. set_each (λ (m : ℕ) (v : Worker). IsLow v.keeper) now i w e j here (subst IsLow (sym lowered) y.none) (λ ne. x.low j e (omega (arith, less, ne)) within);
-    left = λ j e from within. get_or-set_other now i j w e (λ is. omega (arith, is, from)) ∙ x.left j e (omega (arith, from)) within;
-    parts = λ j other. parts_other j (past j other) ∙ x.parts j (λ m less. other m (omega (arith, less)));
-    books = λ j other. y.books j (past j other) ∙ x.books j (λ m less. other m (omega (arith, less)));
-    silent = λ j other. said_other j (past j other) ∙ x.silent j (λ m less. other m (omega (arith, less)));
-    caches = y.caches ∙ x.caches;
-    names = y.names ∙ x.names;
-  }
 
 -- There are no more keepers than workers.
 pub most_keepers : {keepers : ℕ} (old : List Worker) → AreGuarded keepers old → keepers ≤ length old
@@ -470,10 +315,6 @@ alike_said a b said = search arith
 pub alike_same : {old new : Option Keeper} → new ≡ old → AreAlike old new
 alike_same {old} same = subst (AreAlike old) (sym same) (alike_itself old)
 
--- Keepers that are alike to the same one are alike.
-pub alike_both : (a b c : Option Keeper) → AreAlike a b → AreAlike b c → AreAlike a c
-alike_both d e c one two = search arith
-
 has_alike : (old new : Option Keeper) → AreAlike old new → (keeper : Keeper) × (old ≡ Some keeper) → (keeper : Keeper) × (new ≡ Some keeper)
 has_alike None new alike has = absurd (let bad : None ≡ Some has.0 = has.1 in cc)
 has_alike (Some old) None alike has = absurd alike
@@ -498,15 +339,17 @@ guarded_alike old new many alike (inr none) = inr (
 )
 
 -- ---- what it said in all
+-- What a keeper said is the same where its records are.
+pub pushed_alike : (k : ℕ) (said told : List Record) (old new : Keeping) → records_by k said ≡ records_by k told → KeptPushed k said old new → KeptPushed k told old new
+pushed_alike k said told NoKeeper NoKeeper same pushed = sym same ∙ pushed
+pushed_alike k said told NoKeeper (OneKeeper new) same pushed = pushed
+pushed_alike k said told (OneKeeper old) NoKeeper same pushed = pushed
+pushed_alike k said told (OneKeeper old) (OneKeeper new) same pushed = (pushed.0 ∙ ap (λ rs. records_in old.out ++ rs) same, pushed.1, pushed.2)
+
 pub said_then : (k : ℕ) (said : List Record) (old new : Option Keeper) → KeptPushed k said (kept_by_worker old) (kept_by_worker new) → IsSilent old
     → said_by_keeper new ≡ records_by k said
 -- With one and without one.
 said_then k said a b pushed silent = search arith
-
--- A keeper that waits for some acts still does once what it said is gathered.
-pub will_gathered : (k : ℕ) (ys : List Act) (old new : Option Keeper) → HasSaid old new → WillWait k ys (kept_by_worker old)
-    → WillWait k ys (kept_by_worker new)
-will_gathered k ys a b said will = search arith
 
 -- ---- before the phase: it waits for the requests of the phase, with room for the others
 pub kept_waits : {region : SharedRegion} {f : Profile} {keeper : ℕ} (k : ℕ) (ops left : List Op) (o : Option Keeper) {p : Progress}

@@ -11,4 +11,5 @@ mod Staging
 mod BetweenPhases
 mod ReadyPhases
 mod Closing
+mod Gathered
 mod InHands

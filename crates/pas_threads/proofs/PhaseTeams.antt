@@ -1,51 +1,67 @@
 -- A phase of the team: what each worker's share of it is, what all workers did and said is put together, gathered and taken over, and then the team stands
 -- before the phases that are left.
-use Rattle.std.proofs.Common.{◌≡◌, ℕ, zero, ◌+◌, ◌-◌, ◌<◌, ◌≤◌, true, inl, inr, List, [], ◌++◌, length, None, refl, ap, sym, ◌∙◌, subst, arith, append-nil, suc}
-use Rattle.std.proofs.Common.{Bool, false, ◌∷◌, get_or, Option, All, map, append_assoc, length-append, MatchOption, eqb-true, eq-eqb, ◌⊎◌}
-use Rattle.std.proofs.lemmas.{List.append_cancel_left, Bool.false_from_ne_true, Bool.cases_Bool, Bool.cases_lt}
+use Rattle.std.proofs.Common.{◌≡◌, ℕ, zero, ◌+◌, ◌-◌, ◌<◌, ◌≤◌, true, inl, inr, List, [], ◌++◌, length, None, refl, ap, sym, ◌∙◌, subst, arith, append-nil, suc, Bool, false, ◌∷◌, get_or, Option, All, map, length-append, MatchOption, eqb-true, eq-eqb, ◌⊎◌}
+use Rattle.std.proofs.lemmas.List.{append_cancel_left}
+use Rattle.std.proofs.lemmas.Bool.{false_from_ne_true, cases_Bool, cases_lt}
 use Rattle.pas_profile.specs.declared.profile.Profile.{Profile}
-use Rattle.pas_steps.specs.{Lists.part, Lists.Whole, Views.View}
-use Rattle.pas_shared.specs.declared.{region.SharedRegion.SharedRegion, ledger.Ledger.Ledger}
+use Rattle.pas_steps.specs.Lists.{part, Whole}
+use Rattle.pas_steps.specs.Views.{View}
+use Rattle.pas_shared.specs.declared.region.SharedRegion.{SharedRegion}
+use Rattle.pas_shared.specs.declared.ledger.Ledger.{Ledger}
 use Rattle.pas_trace.specs.EveryPlan.{own_records, is_asked, records_of_ops, all_ops}
 use Rattle.pas_trace.specs.declared.plan.Op.{Op}
 use Rattle.pas_trace.proofs.EveryPlan.{own_both, records_both}
 use Rattle.pas_trace.specs.Acts.{Act, own_acts, scavenger_acts, idle_threads, acts_of_ops, is_active, Wakes, numbers_from, active_threads, phase_acts}
 use Rattle.pas_cache.specs.Caches.{Cached, cached}
 use Rattle.pas_utility.specs.Outcomes.{places_of}
-use Rattle.pas_answers.specs.{Answers.Progress, Answers.Named, Calls.owed_events, Calls.OnlyAsked, Fit.costs_of, Fit.own_costs_of, Fit.AreFit, Names.names_held}
-use Rattle.pas_answers.specs.{Reaching.Reaches, Ways.records_by, Ways.by_actors, Stages.in_hands, Stages.phase_stages}
-use Rattle.pas_answers.proofs.{OwnRecords.records_both as said_both, Reached.reach_both, EachAct.all_back}
-use Rattle.pas_acts.specs.{Pairs.for_guards, Awake.awake_in}
-use Rattle.pas_acts.proofs.{ActsOfPlan.idle_few, ActsOfPlan.ops_fit, Weaving.weave, AtDesk.rests_still, AtDesk.sits_still, AtDesk.sits_for, Naming.sound_front}
-use Rattle.pas_acts.proofs.{Naming.below_front, ActsLeft.threads_alike}
+use Rattle.pas_answers.specs.Answers.{Progress, Named}
+use Rattle.pas_answers.specs.Calls.{owed_events, OnlyAsked}
+use Rattle.pas_answers.specs.Fit.{costs_of, own_costs_of, AreFit}
+use Rattle.pas_answers.specs.Names.{names_held}
+use Rattle.pas_answers.specs.Reaching.{Reaches}
+use Rattle.pas_answers.specs.Ways.{records_by, by_actors}
+use Rattle.pas_answers.specs.Stages.{in_hands, phase_stages}
+use Rattle.pas_answers.proofs.OwnRecords.{records_both as said_both}
+use Rattle.pas_answers.proofs.Reached.{reach_both}
+use Rattle.pas_answers.proofs.EachAct.{all_back}
+use Rattle.pas_acts.specs.Pairs.{for_guards, KeeperWaits, KeptPushed}
+use Rattle.pas_acts.specs.Awake.{awake_in}
+use Rattle.pas_acts.proofs.ActsOfPlan.{idle_few, ops_fit}
+use Rattle.pas_acts.proofs.Weaving.{weave}
+use Rattle.pas_acts.proofs.AtDesk.{rests_still, sits_still, sits_for}
+use Rattle.pas_acts.proofs.Naming.{sound_front, below_front}
+use Rattle.pas_acts.proofs.ActsLeft.{threads_alike}
 use Rattle.pas_acts.specs.Shares.{Owners, acts_by, owner_in, AreKeptBehind, IsShareOf, IsWoven}
 use Rattle.pas_acts.proofs.PhaseActs.{acts_are_shared, zero_own, own_thread, owner_of, kept_thread}
-use Rattle.pas_acts.specs.NameBooks.{NamesAt, requests_in, room_for, names_of, known_in, Requests, AreWithin}
+use Rattle.pas_acts.specs.NameBooks.{NamesAt, requests_in, names_of, known_in, Requests, AreWithin}
 use Rattle.pas_acts.specs.declared.names.NameBook.{NameBook}
-use Rattle.pas_threads.specs.Pairs.{no_more, KeeperRests, said_by_keeper, owed_kept, keeper_at, owed_by_keepers, AreGuarded}
+use Rattle.pas_threads.specs.Pairs.{no_more, KeeperRests, owed_kept, keeper_at, owed_by_keepers, AreGuarded, kept_by_worker}
 use Rattle.pas_threads.specs.Performing.{Round, idle_in, ThreadDone, ScavengerDone, IsDone, HeardOrder, IsHeard}
-use Rattle.pas_threads.specs.Sessions.{WorkerRests, ScavengerRests, WorkerHas, Session, planned, owed_by, HasPlaces, TeamAt, AreMarked, AreWritten, HasRoom}
-use Rattle.pas_threads.specs.Sessions.{PhaseAt, PhaseDone, IsOfActors, StandSo, WentBy, WorkersRest}
-use Rattle.pas_threads.specs.{Taken.HandsOver, Taken.HasTaken, Taken.IsWithin, Left.pair_in, Left.crew_in}
-use Rattle.pas_threads.specs.Turns.{owed_at, Came, TookNoPart, said_own, said_by_all, said_by_keepers}
-use Rattle.pas_threads.proofs.TakingTurns.{IsCleared, IsScavengerCleared, OwnGathered, KeptGathered, WereTaken, cleared, cleared_then, pass_still, same_owed}
-use Rattle.pas_threads.proofs.TakingTurns.{rests_clear}
-use Rattle.pas_threads.proofs.{Dealt.number_at, Dealt.some_item, Performed.names_then, Performed.names_within}
-use Rattle.pas_threads.proofs.ReadyPhases.{own_costs, scavenger_costs, own_all, all_paid, owed_less, kept_less, said_in_order, kept_in_order, kept_few, by_all}
-use Rattle.pas_threads.proofs.ReadyPhases.{HasBegun, round_of, room_is, active_front, active_back}
-use Rattle.pas_threads.proofs.Keepers.{owed_still, will_wait_then, waits_next, waits_still, waits_gathered, of_gathered, silent_gathered, owed_gathered}
-use Rattle.pas_threads.proofs.Keepers.{keeper_is, AreAlike, alike_pushed, alike_both, kept_nobody, will_gathered, kept_will, said_then, alike_said, kept_hands}
-use Rattle.pas_threads.proofs.Keepers.{alike_same, guarded_alike}
-use Rattle.pas_threads.specs.declared.{scavenger.Scavenger.Scavenger, workers.Worker.Worker, keeper.Keeper.Keeper, phases.Team.Team}
+use Rattle.pas_threads.specs.Sessions.{WorkerRests, ScavengerRests, WorkerHas, Session, planned, owed_by, HasPlaces, TeamAt, AreMarked, AreWritten, HasRoom, PhaseAt, PhaseDone, IsOfActors, StandSo, WentBy, evenly}
+use Rattle.pas_threads.specs.Taken.{HandsOver, HasTaken, IsWithin}
+use Rattle.pas_threads.specs.Left.{pair_in, crew_in}
+use Rattle.pas_threads.specs.Turns.{owed_at, Came, TookNoPart, said_by_all, said_by_keepers, Pushed}
+use Rattle.pas_threads.proofs.TakingTurns.{IsCleared, IsScavengerCleared, WereTaken, cleared, pass_still, same_owed, WereGathered}
+use Rattle.pas_threads.proofs.Dealt.{number_at, some_item}
+use Rattle.pas_threads.proofs.Performed.{names_then, names_within}
+use Rattle.pas_threads.proofs.ReadyPhases.{own_costs, scavenger_costs, own_all, all_paid, owed_less, kept_less, HasBegun, round_of, room_is, active_front, active_back}
+use Rattle.pas_threads.proofs.Keepers.{owed_still, will_wait_then, waits_next, waits_still, owed_gathered, keeper_is, kept_nobody, kept_will, kept_hands, pushed_alike}
+use Rattle.pas_threads.specs.declared.scavenger.Scavenger.{Scavenger}
+use Rattle.pas_threads.specs.declared.workers.Worker.{Worker}
+use Rattle.pas_threads.specs.declared.keeper.Keeper.{Keeper}
+use Rattle.pas_threads.specs.declared.phases.Team.{Team}
 use Rattle.pas_bits.specs.Masks.{is_set}
 use Rattle.pas_bits.specs.declared.mask.Mask4.{Mask4}
-use Rattle.pas_shared.specs.{Ruled.steps_of, Ruled.IsEarlier, Ruled.AreEarlier, Ledgers.looks_of}
+use Rattle.pas_shared.specs.Ruled.{steps_of, IsEarlier, AreEarlier}
+use Rattle.pas_shared.specs.Ledgers.{looks_of}
 use Rattle.pas_core.specs.Orders.{steps_by}
-use Rattle.pas_trace.specs.{Asked.keeper_in, EveryPhase.FreeTheirOwn}
+use Rattle.pas_trace.specs.Asked.{keeper_in}
+use Rattle.pas_trace.specs.EveryPhase.{FreeTheirOwn}
 use Rattle.pas_threads.proofs.InHands.{in_pair, pair_within, pair_has, pair_keeps, in_crew, crew_within}
 use Rattle.pas_threads.proofs.Staging.{stand_all, of_first, went_both, went_alone, went_sorted, sorted_still, sorted_seen}
 use Rattle.pas_records.specs.Rooms.{records_in, room_of, Records}
 use Rattle.pas_records.specs.declared.record.Record.{Record}
+use Rattle.pas_threads.proofs.Gathered.{AllTold, may_gather, room_left, written, rest_again}
 
 -- ---- the whole phase
 whole_share : (owner : Owners) (w : ℕ) (p : Progress) → IsShareOf owner w p p
@@ -110,10 +126,6 @@ module _ {region : SharedRegion} {r : Round} {k : ℕ} {old new : Worker} {left 
   has_said : records_in new.out ≡ records_by k said
   has_said = x.done.told.added ∙ ap (λ (rs : List Record). rs ++ records_by k x.own.said) x.rests.said ∙ said_alike x.own said x.same x.records_are
 
-  -- What it said for its keeper are the keeper's.
-  kept_said : said_by_keeper new.keeper ≡ records_by keeper said
-  kept_said = said_then keeper x.own.said old.keeper new.keeper x.done.kept_told x.kept.silent ∙ said_alike x.own said x.same_kept x.records_are
-
   owed_before : owed_at r.profile k r.start ≡ owed_events r.profile (cached old.cache) (part k r.start.list)
   owed_before = ap (λ (c : Cached). owed_events r.profile c (part k r.start.list)) x.rests.here.rests.cache
 
@@ -151,30 +163,30 @@ module _ {region : SharedRegion} {r : Round} {k : ℕ} {old new : Worker} {left 
       let away = kept_nobody {r = r} x.done none in
       record { part_is = sym x.same_kept.parts ∙ away.0; silent = sym (said_alike x.own said x.same_kept x.records_are) ∙ away.1 }
 
-  -- ---- once all that it said is gathered and its requests were taken over
-  module _ {emptied : Worker} (c : IsCleared new emptied) where
-    -- The worker rests then.
-    rests_after : requests_in emptied.requests ≡ [] → room_for emptied.requests ≡ room_for new.requests
-        → WorkerRests region r.profile k emptied (own_records (planned_in r) k left) reached
-    rests_after empty same =
-        let room : room_of emptied.out ≡ room_of old.out = c.room ∙ x.done.told.room in
-        let noted : room_for emptied.requests ≡ room_for old.requests = same ∙ x.done.room_noted in
-        let both = own_both (planned_in r) k r.ops left in
-        rests_clear has_then c.pass c.cache c.none (omega (arith, x.events)) (omega (arith, room, has_paid, owed_before, x.rests.here.rests.spare, both)) empty
-        (omega (arith, noted, x.rests.requests, both))
+  -- What it said for both came to the records of each. Both rest with room for the operations that are left.
+  own_out : Pushed k said old.out new.out
+  own_out = record { added = x.done.told.added ∙ ap (λ (rs : List Record). records_in old.out ++ rs) (said_alike x.own said x.same x.records_are); room = x.done.told.room }
 
-    -- Its keeper rests then with room for the guarded requests that are left.
-    kept_rests : KeeperRests region r.profile keeper (own_acts k left) emptied.keeper reached
-    kept_rests =
-        search (arith, will_wait_then, kept_will, waits_still, of_gathered, waits_next, will_gathered, waits_gathered, silent_gathered)
+  kept_out : KeptPushed keeper said (kept_by_worker old.keeper) (kept_by_worker new.keeper)
+  kept_out = pushed_alike keeper x.own.said said (kept_by_worker old.keeper) (kept_by_worker new.keeper) (said_alike x.own said x.same_kept x.records_are) x.done.kept_told
 
-    -- After a phase and its gathering a worker has a keeper exactly where it had one.
-    kept_alike : AreAlike old.keeper emptied.keeper
-    kept_alike = alike_both old.keeper new.keeper emptied.keeper (alike_pushed keeper x.own.said old.keeper new.keeper x.done.kept_told) (alike_said new.keeper emptied.keeper c.keeper)
+  has_left : WorkerHas region r.profile k new (evenly (own_records (planned_in r) k left)) reached
+  has_left =
+      let room = x.done.told.room in
+      let both = own_both (planned_in r) k r.ops left in
+      let spare = x.rests.here.rests.spare in
+      let owed = ap (λ (c : Cached). owed_events r.profile c (part k reached.list)) has_then.rests.cache in
+      let mine = ap length has_said in
+      let at = has_then.rests in
+      let events = x.events in
+      record { has = has_then.has; rests = record { sits = sits_for at.sits (omega (arith, events)); cache = at.cache; spare = omega (arith, room, both, spare, owed, mine, has_paid, owed_before) } }
 
-    -- After the gathering a keeper owes what it owed at the end of the phase.
-    kept_owes : owed_kept r.profile keeper emptied.keeper reached ≡ owed_kept r.profile keeper new.keeper reached
-    kept_owes = owed_gathered r.profile keeper new.keeper emptied.keeper reached c.keeper
+  kept_left : KeeperWaits r.profile keeper (own_acts k left) (kept_by_worker new.keeper) no_more reached
+  kept_left =
+      let will = will_wait_then keeper x.own.said (own_acts k left) (kept_by_worker old.keeper) (kept_by_worker new.keeper) x.done.kept_told (kept_will k r.ops left old.keeper x.kept) in
+      waits_next r.profile keeper (own_acts k left) (kept_by_worker new.keeper) no_more reached will
+      (waits_still r.profile keeper [] new.keeper (for_guards (own_acts k left) no_more) x.own.reached reached (sym x.same_kept.parts) (sym x.same_kept.books)
+      (subst (λ later. KeeperWaits r.profile keeper [] (kept_by_worker new.keeper) later x.own.reached) x.more x.done.waits))
 
 -- What a worker hands over is about its requests.
 handed : {f : Profile} {ops : List Op} {book : NameBook} {k : ℕ} {new gathered : Worker} {names : List Named} → gathered.requests ≡ new.requests
@@ -239,9 +251,6 @@ module _ {region : SharedRegion} {r : Round} {old new : Scavenger} {p : Progress
 -- The scavenger is in its own hands.
 scavenger_own : (threads : ℕ) (ops : List Op) → owner_in threads ops 0 ≡ 0
 scavenger_own threads ops = owner_of threads ops 0 0 (own_thread threads 0 (omega arith)) ∙ zero_own (is_active ops 0)
-
-in_four : (a b c d : List Record) → ((a ++ b) ++ c) ++ d ≡ a ++ (b ++ (c ++ d))
-in_four a b c d = append_assoc (a ++ b) c d ∙ append_assoc a b (c ++ d)
 
 -- ---- the team, once all hands did their operations
 module _ {region : SharedRegion} {s : Session} {awake : Mask4} {team team1 team2 : Team} {p : Progress} (ops : List Op) (rest : List (List Op))
@@ -334,12 +343,6 @@ module _ {region : SharedRegion} {s : Session} {awake : Mask4} {team team1 team2
   ]
 
   -- ---- what is gathered
-  all_said : said_by_all team2.threads.items ≡ by_actors 1 s.threads said
-  all_said =
-      said_in_order said_own 1 team2.threads.items said
-      (λ i d lt. has_said (share i d (omega (arith, lt, done.many))) ∙ ap (λ (k : ℕ). records_by k said) (let is : suc i ≡ 1 + i = omega arith in is))
-      ∙ ap (λ (n : ℕ). by_actors 1 n said) (done.many ∙ counted)
-
   -- what a thread and its keeper owed before the phase
   began_with : (i : ℕ) → i < s.threads
       → (owed_at f (suc i) start ≤ owed_at f (suc i) p)
@@ -357,7 +360,7 @@ module _ {region : SharedRegion} {s : Session} {awake : Mask4} {team team1 team2
   -- The records that were said and those still owed fit the room.
   paid : length (records_by 0 said) + length (by_actors 1 s.threads said) + length (by_actors (s.threads + 1) s.threads said)
       + (owed_by f reached s.threads + owed_by_keepers f s.threads team2.threads.items reached s.threads)
-      ≤ owed_by f p s.threads + owed_by_keepers f s.threads team.threads.items p s.threads + records_of_ops (planned s) ops
+      ≤ owed_by f start s.threads + owed_by_keepers f s.threads team1.threads.items start s.threads + records_of_ops (planned s) ops
   paid =
       let threads = all_paid f (planned s) s.threads ops said team1.threads.items team2.threads.items start reached s.threads (λ i lt.
       let less : i < length team1.threads.items = omega (arith, lt, counted) in
@@ -367,191 +370,132 @@ module _ {region : SharedRegion} {s : Session} {awake : Mask4} {team team1 team2
       let one = pair_paid (share i d less) in
       omega (arith, before, after, one)) in
       let own = own_all (planned s) ops s.threads in
-      let owed = owed_less f p start s.threads (λ i lt. (began_with i lt).0) in
-      let kept = kept_less f s.threads team.threads.items team1.threads.items p start s.threads
-      (λ i lt. let same = (began_with i lt).1 in omega (arith, same)) in
       let few = scavenger_paid crew_share in
-      omega (arith, threads, own, owed, kept, few)
+      omega (arith, threads, own, few)
 
-  -- ---- the workers, once what they said for their threads is gathered, and then what they said for their keepers
-  module _ {gathered : List Worker} {out1 out2 : Records} (g : OwnGathered team2.threads.items gathered out1 out2) where
+  told : AllTold region s ops left said team1.threads.items team2.threads.items team2.threads.items start reached
+  told = record {
+    rest = begun.workers;
+    many = done.many;
+    threads = λ i d lt. let x = share i d lt in record { here = has_left x; out = own_out x };
+    keepers = λ i d lt. let x = share i d lt in record { of = x.done.of; waits = kept_left x; out = kept_out x };
+    places = λ i d lt. (share i d lt).done.room_noted;
+    silent = λ k far. (nobody k far).silent;
+    spoken = woven.spoken;
+    records_are = woven.records_are;
+    paid = paid;
+  }
+
+  -- ---- the workers, once all that they said is gathered
+  module _ {gathered : List Worker} {out1 out2 : Records} (g : WereGathered team2.threads.items gathered out1 out2) where
     -- There are as many workers as before.
     sized : length gathered ≡ length team1.threads.items
     sized = g.many ∙ done.many
 
-    guarded_then : AreGuarded s.keepers gathered
-    guarded_then = guarded_alike team1.threads.items gathered sized (λ i d lt.
-        let old = (get_or team1.threads.items i d).keeper in
-        let mid = (get_or team2.threads.items i d).keeper in
-        let new = (get_or gathered i d).keeper in
-        let x = share i d lt in
-        alike_both old mid new (alike_pushed (s.threads + suc i) x.own.said old mid x.done.kept_told) (alike_same (g.each i d (omega (arith, lt, done.many))).keeper)) begun.workers.guarded
+    hands : (i : ℕ) (d : Worker) → i < length gathered → HandsOver f ops team1.book (suc i) (get_or gathered i d) reached.names
+    unfolding share
+    hands i d lt =
+        let here : i < length team1.threads.items = omega (arith, lt, sized) in
+        let x = share i d here in
+        handed (g.each i d (omega (arith, lt, g.many))).requests
+        (x.done.hands_over x.rests.asked reached.names (woven.shares (owner_in s.threads ops (suc i))).names)
 
-    kept_all : said_by_keepers gathered ≡ by_actors (s.threads + 1) s.keepers said
-    kept_all =
-        kept_in_order s.threads gathered said guarded_then
-        (λ i d lt. ap said_by_keeper (g.each i d (omega (arith, lt, g.many))).keeper ∙ kept_said (share i d (omega (arith, lt, sized))))
+    -- The names that each worker asked for are ones that the book holds, so it may take them.
+    pub may_take : All (IsWithin (names_held team2.book.names)) gathered
+    may_take i d lt =
+        let held = names_held team.book.names in
+        let limit : held ≡ names_held team2.book.names = ap names_held (sym (ap (λ (b : NameBook). b.names) done.book ∙ begun.names)) in
+        let within = names_within held (suc i) ops (below_front held ops left at.names.below) in
+        record {
+          within = subst (λ n. AreWithin n (names_of (requests_in (get_or gathered i d).requests))) limit
+              (subst (AreWithin held) (sym (hands i d lt).noted) within);
+        }
 
-    kept_most : length (said_by_keepers gathered) ≤ length (by_actors (s.threads + 1) s.threads said)
-    kept_most =
-        search (arith, kept_all, kept_few, guarded_then, sized)
+    module _ (team3 : Team) (t : WereTaken gathered team3.threads.items team2.book team3.book) where
+      clear : (i : ℕ) (d : Worker) → i < length team2.threads.items → IsCleared (get_or team2.threads.items i d) (get_or team3.threads.items i d)
+      clear i d lt = cleared (g.each i d lt) (t.each i d (omega (arith, lt, g.many)))
 
-    module _ {kept : List Worker} {out3 : Records} (h : KeptGathered gathered kept out2 out3) where
-      sized_kept : length kept ≡ length team1.threads.items
-      sized_kept = h.many ∙ sized
+      -- each keeper owes what it did before it was gathered
+      kept_owed : owed_by_keepers f s.threads team3.threads.items reached s.threads ≤ owed_by_keepers f s.threads team2.threads.items reached s.threads
+      kept_owed = kept_less f s.threads team2.threads.items team3.threads.items reached reached s.threads (λ i lt.
+          let less : i < length team2.threads.items = omega (arith, lt, counted, done.many) in
+          let d = some_item team2.threads.items i less in
+          let owed = λ (o : Option Keeper). owed_kept f (s.threads + suc i) o reached in
+          let after = ap owed (keeper_is team3.threads.items i d (omega (arith, less, g.many, t.many))) in
+          let before = ap owed (keeper_is team2.threads.items i d less) in
+          let same = owed_gathered f (s.threads + suc i) (get_or team2.threads.items i d).keeper (get_or team3.threads.items i d).keeper reached (clear i d less).keeper in
+          omega (arith, after, before, same))
 
-      hands : (i : ℕ) (d : Worker) → i < length kept → HandsOver f ops team1.book (suc i) (get_or kept i d) reached.names
-      unfolding share
-      hands i d lt =
-          let here : i < length team1.threads.items = omega (arith, lt, sized_kept) in
-          let requests = (h.each i d (omega (arith, lt, h.many))).but.requests ∙ (g.each i d (omega (arith, lt, g.many, h.many))).requests in
-          let x = share i d here in
-          handed requests (x.done.hands_over x.rests.asked reached.names (woven.shares (owner_in s.threads ops (suc i))).names)
-
-      -- The names that each worker asked for are ones that the book holds, so it may take them.
-      pub may_take : All (IsWithin (names_held team2.book.names)) kept
-      may_take i d lt =
-          let held = names_held team.book.names in
-          let limit : held ≡ names_held team2.book.names = ap names_held (sym (ap (λ (b : NameBook). b.names) done.book ∙ begun.names)) in
-          let within = names_within held (suc i) ops (below_front held ops left at.names.below) in
+      -- The team stands where the whole phase came to.
+      pub phase_team : IsScavengerCleared team2.scavenger team3.scavenger → HasPlaces s.threads team3 → TeamAt region s rest team3 reached
+      phase_team scavenger places =
+          let few = at.fit.few in
+          let both = length-append ops left in
+          let names = names_then s.threads ops left team1.book team3.book (numbers_from 1 s.threads) gathered at.names begun.woke.turns.leaves.names woven begun.names
+          (λ i d lt.
+          let first : suc i ≡ 1 + i = omega arith in
+          subst (λ k. HandsOver f ops team1.book k (get_or gathered i d) reached.names) (first ∙ sym (number_at 1 s.threads i (omega (arith, lt, sized, counted)))) (hands i d lt))
+          (λ k some on.
+          let le = at.fit.within k (active_front k ops left on) in
+          let back : 1 + (k - 1) ≡ k = omega (arith, some) in
+          (k - 1, omega (arith, some, le, sized, counted), number_at 1 s.threads (k - 1) (omega (arith, some, le)) ∙ back))
+          (subst (λ (b : NameBook). HasTaken b team3.book gathered) done.book t.taken) (t.held ∙ ap (λ (b : NameBook). names_held b.names) done.book)
+          in
           record {
-            within = subst (λ n. AreWithin n (names_of (requests_in (get_or kept i d).requests))) limit
-                (subst (AreWithin held) (sym (hands i d lt).noted) within);
+            fit = record {
+              fits = at.fit.fits;
+              few_threads = at.fit.few_threads;
+              few = omega (arith, few, both);
+              within = λ k on. at.fit.within k (active_back k ops left on);
+              behind = all_back (λ op. MatchOption (keeper_in op.what) (Unit {0}) (λ keeper. keeper ≡ s.threads + op.actor)) ops left at.fit.behind;
+            };
+            workers = rest_again told team3.threads.items (t.many ∙ g.many) clear;
+            scavenger = scavenger_after crew_share scavenger;
+            nobody = λ k far.
+                (nobody k far).part_is ∙ begun.woke.turns.leaves.parts k (λ i lt same. omega (arith, far, at.workers.many, lt, same)) ∙ at.nobody k far;
+            names = names.0;
+            frees = subst (λ (ns : List ℕ). FreeTheirOwn ns rest) (sym names.1) at.frees.1;
+            places = places;
           }
-
-      module _ (team3 : Team) (t : WereTaken kept team3.threads.items team2.book team3.book) where
-        -- Each worker's records were gathered.
-        clear : (i : ℕ) (d : Worker) → i < length team1.threads.items → IsCleared (get_or team2.threads.items i d) (get_or team3.threads.items i d)
-        clear i d lt =
-            search (arith, sized, cleared_then, cleared)
-
-        -- each keeper owes what it did before it was gathered
-        kept_owed : owed_by_keepers f s.threads team3.threads.items reached s.threads ≤ owed_by_keepers f s.threads team2.threads.items reached s.threads
-        kept_owed = kept_less f s.threads team2.threads.items team3.threads.items reached reached s.threads (λ i lt.
-            let less : i < length team1.threads.items = omega (arith, lt, counted) in
-            let d = some_item team1.threads.items i less in
-            let owed = λ (o : Option Keeper). owed_kept f (s.threads + suc i) o reached in
-            let after = ap owed (keeper_is team3.threads.items i d (omega (arith, less, sized_kept, t.many))) in
-            let before = ap owed (keeper_is team2.threads.items i d (omega (arith, less, done.many))) in
-            let same = kept_owes (share i d less) (clear i d less) in
-            omega (arith, after, before, same))
-
-        rest_again : WorkersRest region s left team3.threads.items reached
-        rest_again =
-            let many : length team3.threads.items ≡ length team1.threads.items = t.many ∙ sized_kept in
-            record {
-              many = many ∙ counted;
-              threads = λ i d lt.
-                  let here : i < length team1.threads.items = omega (arith, lt, many) in
-                  let less : i < length gathered = omega (arith, here, sized) in
-                  let taken = t.each i d (omega (arith, lt, t.many)) in
-                  let requests = (h.each i d less).but.requests ∙ (g.each i d (omega (arith, here, done.many))).requests in
-                  rests_after (share i d here) (clear i d here) taken.empty (taken.room ∙ ap room_for requests);
-              guarded = guarded_alike team1.threads.items team3.threads.items many (λ i d lt. kept_alike (share i d lt) (clear i d lt)) begun.workers.guarded;
-              kept = λ i d lt. let here : i < length team1.threads.items = omega (arith, lt, many) in kept_rests (share i d here) (clear i d here);
-            }
-
-        -- The team stands where the whole phase came to.
-        pub phase_team : IsScavengerCleared team2.scavenger team3.scavenger → HasPlaces s.threads team3 → TeamAt region s rest team3 reached
-        phase_team scavenger places =
-            let few = at.fit.few in
-            let both = length-append ops left in
-            let names = names_then s.threads ops left team1.book team3.book (numbers_from 1 s.threads) kept at.names begun.woke.turns.leaves.names woven begun.names
-            (λ i d lt.
-            let first : suc i ≡ 1 + i = omega arith in
-            subst (λ k. HandsOver f ops team1.book k (get_or kept i d) reached.names) (first ∙ sym (number_at 1 s.threads i (omega (arith, lt, sized_kept, counted)))) (hands i d lt))
-            (λ k some on.
-            let le = at.fit.within k (active_front k ops left on) in
-            let back : 1 + (k - 1) ≡ k = omega (arith, some) in
-            (k - 1, omega (arith, some, le, sized_kept, counted), number_at 1 s.threads (k - 1) (omega (arith, some, le)) ∙ back))
-            (subst (λ (b : NameBook). HasTaken b team3.book kept) done.book t.taken) (t.held ∙ ap (λ (b : NameBook). names_held b.names) done.book)
-            in
-            record {
-              fit = record {
-                fits = at.fit.fits;
-                few_threads = at.fit.few_threads;
-                few = omega (arith, few, both);
-                within = λ k on. at.fit.within k (active_back k ops left on);
-                behind = all_back (λ op. MatchOption (keeper_in op.what) (Unit {0}) (λ keeper. keeper ≡ s.threads + op.actor)) ops left at.fit.behind;
-              };
-              workers = rest_again;
-              scavenger = scavenger_after crew_share scavenger;
-              nobody = λ k far.
-                  (nobody k far).part_is ∙ begun.woke.turns.leaves.parts k (λ i lt same. omega (arith, far, at.workers.many, lt, same)) ∙ at.nobody k far;
-              names = names.0;
-              frees = subst (λ (ns : List ℕ). FreeTheirOwn ns rest) (sym names.1) at.frees.1;
-              places = places;
-            }
 
   -- ---- the records
   module _ (marks : ℕ) (out : Records) (room : HasRoom s (ops ∷ rest) marks team.threads.items out p) where
+    -- there is still as much room after the reads of the epoch
+    room_begun : HasRoom s (ops ∷ rest) marks team1.threads.items out start
+    room_begun =
+        let owed = owed_less f p start s.threads (λ i lt. (began_with i lt).0) in
+        let kept = kept_less f s.threads team.threads.items team1.threads.items p start s.threads
+        (λ i lt. let same = (began_with i lt).1 in omega (arith, same)) in
+        omega (arith, owed, kept, room)
+
     -- There is room for what the scavenger said in the phase behind the records.
     pub may_append : length (records_in out) + length (records_in team2.scavenger.out) ≤ room_of out
     may_append =
         let own = ap length (scavenger_said crew_share) in
         let both = records_both (planned s) ops left in
-        omega (arith, own, paid, both, room)
+        omega (arith, own, paid, both, room_begun)
 
     module _ (out1 : Records) (added : records_in out1 ≡ records_in out ++ records_in team2.scavenger.out) (same : room_of out1 ≡ room_of out) where
-      counted_own : length (records_in out1) ≡ length (records_in out) + length (records_by 0 said)
-      counted_own =
-          let both = ap length added in
-          let sum = length-append (records_in out) (records_in team2.scavenger.out) in
-          let own = ap length (scavenger_said crew_share) in
-          omega (arith, both, sum, own)
+      added_own : records_in out1 ≡ records_in out ++ records_by 0 said
+      added_own = added ∙ ap (λ (rs : List Record). records_in out ++ rs) (scavenger_said crew_share)
 
-      -- There is room for what all threads said in the phase behind that.
-      pub may_gather : length (records_in out1) + length (said_by_all team2.threads.items) ≤ room_of out1
-      may_gather =
-          let all = ap length all_said in
-          let both = records_both (planned s) ops left in
-          omega (arith, counted_own, all, paid, both, room, same)
+      -- There is room for what all threads and keepers said in the phase behind that.
+      pub gather_fits : length (records_in out1) + (length (said_by_all team2.threads.items) + length (said_by_keepers team2.threads.items)) ≤ room_of out1
+      gather_fits = may_gather told marks out out1 added_own same room_begun
 
-      module _ {gathered : List Worker} {out2 : Records} (g : OwnGathered team2.threads.items gathered out1 out2) where
-        counted_all : length (records_in out2) ≡ length (records_in out) + length (records_by 0 said) + length (by_actors 1 s.threads said)
-        counted_all =
-            search (arith, length-append, all_said, counted_own)
+      module _ {gathered : List Worker} {out2 : Records} (g : WereGathered team2.threads.items gathered out1 out2) where
+        still_room : (team3 : Team) → WereTaken gathered team3.threads.items team2.book team3.book → HasRoom s rest marks team3.threads.items out2 reached
+        still_room team3 t =
+            let owed = kept_owed g team3 t in
+            let rest = room_left told marks out out1 added_own same room_begun out2 g.added g.size in
+            omega (arith, owed, rest)
 
-        -- There is room for what all keepers said in the phase behind that.
-        pub may_gather_kept : length (records_in out2) + length (said_by_keepers gathered) ≤ room_of out2
-        may_gather_kept =
-            let few = kept_most g in
-            let both = records_both (planned s) ops left in
-            omega (arith, counted_all, few, paid, both, room, same, g.size)
-
-        module _ {kept : List Worker} {out3 : Records} (h : KeptGathered gathered kept out2 out3) where
-          room_left : (team3 : Team) → WereTaken kept team3.threads.items team2.book team3.book → HasRoom s rest marks team3.threads.items out3 reached
-          room_left team3 t =
-              let now = ap length h.added in
-              let sum = length-append (records_in out2) (said_by_keepers gathered) in
-              let few = kept_most g in
-              let owed = kept_owed g h team3 t in
-              let both = records_both (planned s) ops left in
-              omega (arith, counted_all, now, sum, few, owed, paid, both, room, same, g.size, h.size)
-
-          -- What was marked is what the records hold.
-          written : AreMarked s p.records (records_in out) → AreWritten s reached.records (records_in out3)
-          written marked = record {
-            before = p.records;
-            before_written = records_in out;
-            said = said;
-            marked = marked;
-            spoken = woven.spoken;
-            records_are = woven.records_are ∙ ap (λ (rs : List Record). rs ++ said)
-                (begun.woke.turns.came.records_are ∙ ap (λ (rs : List Record). p.records ++ rs) begun.woke.silent ∙ append-nil p.records);
-            written_are =
-                let own = records_in out in
-                let its = records_by 0 said in
-                let kept = said_by_keepers gathered in
-                let all = said_by_all team2.threads.items in
-                let sorted = by_all s.threads s.keepers f.threads said at.fit.fits (λ k far. (nobody k far).silent) in
-                h.added ∙ ap (λ (rs : List Record). rs ++ kept) (g.added ∙ ap (λ (rs : List Record). rs ++ all) added)
-                ∙ in_four own (records_in team2.scavenger.out) all kept
-                ∙ ap (λ (rs : List Record). own ++ (rs ++ (all ++ kept))) (scavenger_said crew_share)
-                ∙ ap (λ (rs : List Record). own ++ (its ++ (rs ++ kept))) all_said
-                ∙ ap (λ (rs : List Record). own ++ (its ++ (by_actors 1 s.threads said ++ rs))) (kept_all g)
-                ∙ ap (λ (rs : List Record). own ++ rs) (sym sorted);
-          }
+        -- What was marked is what the records hold.
+        all_written : AreMarked s p.records (records_in out) → AreWritten s reached.records (records_in out2)
+        all_written marked =
+            let records : start.records ≡ p.records =
+            begun.woke.turns.came.records_are ∙ ap (λ (rs : List Record). p.records ++ rs) begun.woke.silent ∙ append-nil p.records in
+            written told (records_in out) out1 out2 at.fit.fits (subst (λ rs. AreMarked s rs (records_in out)) (sym records) marked) added_own g.added
 
   -- ---- the acts
   reaches : ((k : ℕ) → is_set awake k ≡ is_active ops k) → Reaches f (phase_acts s.threads ops) p reached
@@ -657,22 +601,22 @@ module _ {region : SharedRegion} {s : Session} {awake : Mask4} {team team1 team2
 
 -- ---- all together
 -- A phase whose operations are all done, gathered and taken is done, with the team before the phases left.
-pub phase_done : {region : SharedRegion} {s : Session} {awake : Mask4} {team team1 team2 : Team} {p : Progress} {marks : ℕ} {out out1 out2 out3 : Records}
-    {gathered kept : List Worker} (ops : List Op) (rest : List (List Op)) (at : PhaseAt region s ops rest marks team out p)
+pub phase_done : {region : SharedRegion} {s : Session} {awake : Mask4} {team team1 team2 : Team} {p : Progress} {marks : ℕ} {out out1 out2 : Records}
+    {gathered : List Worker} (ops : List Op) (rest : List (List Op)) (at : PhaseAt region s ops rest marks team out p)
     (begun : HasBegun region s awake ops rest team team1 p)
     (done : IsDone region (round_of s ops rest team1 begun.woke.turns.came.reached) team1 team2) → ((k : ℕ) → is_set awake k ≡ is_active ops k)
     → records_in out1 ≡ records_in out ++ records_in team2.scavenger.out → room_of out1 ≡ room_of out
-    → OwnGathered team2.threads.items gathered out1 out2 → KeptGathered gathered kept out2 out3 → (team3 : Team)
-    → WereTaken kept team3.threads.items team2.book team3.book
+    → WereGathered team2.threads.items gathered out1 out2 → (team3 : Team)
+    → WereTaken gathered team3.threads.items team2.book team3.book
     → IsScavengerCleared team2.scavenger team3.scavenger → HasPlaces s.threads team3 → {before after : Whole}
     → WentBy s (phase_stages s.threads ops) p (reached ops rest at.team_at begun done) before after
-    → PhaseDone region s ops rest marks team3 out out3 before after p
-phase_done {s = s} {out = out} {out1} ops rest at begun done alike added size g h team3 t scavenger places went = record {
+    → PhaseDone region s ops rest marks team3 out out2 before after p
+phase_done {s = s} {out = out} {out1} ops rest at begun done alike added size g team3 t scavenger places went = record {
   reached = reached ops rest at.team_at begun done;
   reaches = reaches ops rest at.team_at begun done alike;
-  team_at = phase_team ops rest at.team_at begun done g h team3 t scavenger places;
-  written = written ops rest at.team_at begun done _ out at.room out1 added size g h at.marked;
-  room = room_left ops rest at.team_at begun done _ out at.room out1 added size g h team3 t;
-  size = h.size ∙ g.size ∙ size;
+  team_at = phase_team ops rest at.team_at begun done g team3 t scavenger places;
+  written = all_written ops rest at.team_at begun done _ out at.room out1 added size g at.marked;
+  room = still_room ops rest at.team_at begun done _ out at.room out1 added size g team3 t;
+  size = g.size ∙ size;
   went = went;
 }

@@ -1,6 +1,6 @@
 -- The phases of a replay: acts without a mark, acts after one another, how stages follow each other, and what a settled ledger has of a team.
-use Rattle.std.proofs.Common.{◌≡◌, ℕ, zero, suc, ◌+◌, ◌-◌, ◌<◌, ◌==◌, Bool, true, if◌then◌else◌, inl, inr, List, [], ◌∷◌, ◌++◌, length, map, get_or, Option}
-use Rattle.std.proofs.Common.{Some, refl, ap, sym, ◌∙◌, subst, arith, append_assoc, ◌⊎◌, take, length-append, eq-eqb, true≢false, take_at}
+use Rattle.std.proofs.Common.{◌≡◌, ℕ, zero, suc, ◌+◌, ◌-◌, ◌<◌, ◌≤◌, ◌==◌, Bool, true, if◌then◌else◌, inl, inr, List, [], ◌∷◌, ◌++◌, length, map, get_or}
+use Rattle.std.proofs.Common.{Option, Some, refl, ap, sym, ◌∙◌, subst, arith, append_assoc, ◌⊎◌, take, length-append, eq-eqb, true≢false, take_at}
 use Rattle.std.specs.List.{AllByRecursion}
 use Rattle.std.proofs.lemmas.{Bool.cases_lt, Option.same_Some, Bool.cases_Bool, List.map-append}
 use Rattle.pas_profile.specs.declared.profile.Profile.{Profile}
@@ -13,12 +13,12 @@ use Rattle.pas_trace.specs.{Asked.work_of, EveryPlan.all_ops}
 use Rattle.pas_trace.specs.declared.plan.{Op.Op, Work.Work}
 use Rattle.pas_shared.specs.{Ruled.IsEarlier, Passes.seat_of, Passes.view_of, Passes.IsPassOf}
 use Rattle.pas_shared.specs.declared.{region.SharedRegion.SharedRegion, pass.SharedPass.SharedPass}
-use Rattle.pas_acts.specs.Pairs.{KeeperWaits}
+use Rattle.pas_acts.specs.{Keepers.LaterKept, Pairs.KeeperWaits, Works.Later}
 use Rattle.pas_answers.specs.{Answers.Progress, Reaching.Reaches, Phases.StandFirst, Phases.AtMark, Phases.AreInPhases}
 use Rattle.pas_answers.proofs.Reached.{reach_both, goes_on, both_by_stages}
 use Rattle.pas_threads.specs.{Hands.HasPass, Settling.StandsIn, Settling.PassStands, Settling.ActorsStand, Left.KeepsOrder}
-use Rattle.pas_threads.specs.Pairs.{no_more, kept_by_worker, AreGuarded, IsKeeperOf}
-use Rattle.pas_threads.specs.Sessions.{Session, TeamAt, IsOfActors, StandSo, WentBy}
+use Rattle.pas_threads.specs.Pairs.{no_more, kept_by_worker, AreGuarded, HasKeeper, IsKeeperOf}
+use Rattle.pas_threads.specs.Sessions.{Session, closing_acts, WorkerHas, TeamAt, IsOfActors, StandSo, WentBy}
 use Rattle.pas_threads.specs.declared.{keeper.Keeper.Keeper, phases.Team.Team, workers.Worker.Worker}
 use Rattle.pas_threads.proofs.Dealt.{some_item}
 use Rattle.pas_core.specs.Orders.{steps_by}
@@ -65,12 +65,8 @@ pub phase_unmarked : (threads : ℕ) (ops : List Op) → AreUnmarked (phase_acts
 phase_unmarked threads ops = all_both HasNoMark (map Wakes (active_threads threads ops)) (acts_of_ops (idle_threads threads ops) ops)
     (unmarked_each Wakes (λ k. tt) (active_threads threads ops)) (unmarked_ops (idle_threads threads ops) ops)
 
--- the acts of the close behind its mark
-abbrev pub close_rest : ℕ → ℕ → List Act
-close_rest threads keepers = map Ends (numbers_from 1 threads) ++ map Lowers (numbers_from (threads + 1) keepers)
-
--- They have no mark among them.
-pub close_unmarked : (threads keepers : ℕ) → AreUnmarked (close_rest threads keepers)
+-- The acts of the close behind its mark have no mark among them.
+pub close_unmarked : (threads keepers : ℕ) → AreUnmarked (closing_acts threads keepers)
 close_unmarked threads keepers = all_both HasNoMark (map Ends (numbers_from 1 threads)) (map Lowers (numbers_from (threads + 1) keepers))
     (unmarked_each Ends (λ k. tt) (numbers_from 1 threads)) (unmarked_each Lowers (λ k. tt) (numbers_from (threads + 1) keepers))
 
@@ -92,6 +88,21 @@ none_more a m v is = search arith
 none_first : (k : ℕ) (since l : Whole) → part k (since ++ l) ≡ [] → part k l ≡ []
 none_first k [] l is = is
 none_first k (t ∷ since) l is = none_first k since l (none_more (t.actor == k) t.made (part k (since ++ l)) is)
+
+-- ---- each actor
+-- What is so of the scavenger, of each thread and of each keeper is so of all actors.
+pub of_each_actor : {threads keepers : ℕ} (Is : ℕ → Type 0) → Is 0 → ((i : ℕ) → i < threads → Is (suc i)) → ((j : ℕ) → j < keepers → Is (threads + suc j))
+    → (k : ℕ) → k ≤ threads + keepers → Is k
+of_each_actor Is scavenger thread keeper zero le = scavenger
+of_each_actor {threads} Is scavenger thread keeper (suc i) le = elim (cases_lt i threads) [
+  | inl within ↦ thread i within
+  | inr past ↦ let place : threads + suc (i - threads) ≡ suc i = omega (arith, past) in subst Is place (keeper (i - threads) (omega (arith, past, le)))
+]
+
+-- There are as many workers with a keeper as keepers.
+pub some_keeper : {keepers : ℕ} (workers : List Worker) (j : ℕ) → j < keepers → AreGuarded keepers workers → (w : Worker) × (j < length workers) × HasKeeper (get_or workers j w)
+some_keeper workers j lt (inr none) = absurd (omega (arith, none.0, lt))
+some_keeper workers j lt (inl all) = let below : j < length workers = omega (arith, lt, all.0) in let w = some_item workers j below in (w, below, all.1 j w below)
 
 -- ---- all actors at rest
 -- where an actor has the same part it stands
@@ -135,23 +146,27 @@ module _ {region : SharedRegion} {s : Session} {slot : Option SharedPass} {worke
           let here = at.threads i d below in
           stands_so l here.pass here.present here (threads i d here.pass below here.present)
 
-      stand_keeper : (j : ℕ) → j < s.keepers → AreGuarded s.keepers workers → part (s.threads + suc j) l ≡ part (s.threads + suc j) told
-      stand_keeper j lt (inr none) = absurd (omega (arith, none.0, lt))
-      stand_keeper j lt (inl all) =
-          let below : j < length workers = omega (arith, lt, all.0) in
-          let w = some_item workers j below in
-          let has = all.1 j w below in
-          stands_so l has.0.pass refl (at.keepers j w has.0 below has.1) (keepers j w has.0 below has.1)
+      stand_keeper : (j : ℕ) → j < s.keepers → part (s.threads + suc j) l ≡ part (s.threads + suc j) told
+      stand_keeper j lt =
+          let has = some_keeper workers j lt at.guarded in
+          stands_so l has.2.0.pass refl (at.keepers j has.0 has.2.0 has.1 has.2.1) (keepers j has.0 has.2.0 has.1 has.2.1)
 
       -- A list in which each pass stands has of all actors what is told of them.
       pub all_stand : StandSo s l told
-      all_stand zero le = stands_so l at.scavenger.pass at.scavenger.present at.scavenger (scavenger at.scavenger.pass at.scavenger.present)
-      all_stand (suc i) le = elim (cases_lt i s.threads) [
-        | inl within ↦ stand_thread i within
-        | inr past ↦
-            let place : s.threads + suc (i - s.threads) ≡ suc i = omega (arith, past) in
-            subst (λ (k : ℕ). part k l ≡ part k told) place (stand_keeper (i - s.threads) (omega (arith, past, le)) at.guarded)
-      ]
+      all_stand = of_each_actor (λ (k : ℕ). part k l ≡ part k told)
+          (stands_so l at.scavenger.pass at.scavenger.present at.scavenger (scavenger at.scavenger.pass at.scavenger.present)) stand_thread stand_keeper
+
+-- a thread that rests with its pass stands
+pub thread_stands : {region : SharedRegion} {f : Profile} {k : ℕ} {worker : Worker} {later : Later} {p : Progress} → WorkerHas region f k worker later p
+    → PassStands region k p.list worker.pass
+thread_stands here = record { pass = here.has.pass; present = here.has.present; of = here.has.of; actor = here.rests.sits.actor; made = here.rests.sits.stood }
+
+-- .. and so does a keeper that waits with its own
+pub keeper_stands : {region : SharedRegion} (f : Profile) {k : ℕ} (acts : List Act) (more : LaterKept) (p : Progress) (o : Option Keeper) (keeper : Keeper)
+    → o ≡ Some keeper → IsKeeperOf region o → KeeperWaits f k acts (kept_by_worker o) more p → PassStands region k p.list (Some keeper.pass)
+keeper_stands {region} f {k} acts more p o keeper is of waits =
+    let sits = (subst (λ x. KeeperWaits f k acts (kept_by_worker x) more p) is waits).1.sits in
+    record { pass = keeper.pass; present = refl; of = subst (IsKeeperOf region) is of; actor = sits.actor; made = sits.stood }
 
 -- a team at rest stands so
 pub team_stands : {region : SharedRegion} {s : Session} {phases : List (List Op)} {team : Team} {p : Progress} → TeamAt region s phases team p
@@ -160,12 +175,8 @@ team_stands {region} {s} {phases} {team} {p} at = record {
   many = at.workers.many;
   guarded = at.workers.guarded;
   scavenger = let has = at.scavenger.has in let sits = at.scavenger.at.stands.sits in record { pass = has.pass; present = has.present; of = has.of; actor = sits.actor; made = sits.stood };
-  threads = λ i d lt. let here = (at.workers.threads i d lt).here in record { pass = here.has.pass; present = here.has.present; of = here.has.of; actor = here.rests.sits.actor; made = here.rests.sits.stood };
-  keepers = λ i d keeper lt is.
-      let rests = at.workers.kept i d lt in
-      let k = s.threads + suc i in
-      let sits = (subst (λ x. KeeperWaits s.profile k (own_acts (suc i) (all_ops phases)) (kept_by_worker x) no_more p) is rests.waits).1.sits in
-      record { pass = keeper.pass; present = refl; of = subst (IsKeeperOf region) is rests.of; actor = sits.actor; made = sits.stood };
+  threads = λ i d lt. thread_stands (at.workers.threads i d lt).here;
+  keepers = λ i d keeper lt is. let rests = at.workers.kept i d lt in keeper_stands s.profile (own_acts (suc i) (all_ops phases)) no_more p (get_or team.threads.items i d).keeper keeper is rests.of rests.waits;
   nobody = at.nobody;
 }
 

@@ -1,43 +1,70 @@
 -- How a kit is made, where its team stands when a replay starts, and what its end gives.
-use Rattle.std.proofs.Common.{◌≡◌, ◌≢◌, ℕ, zero, suc, ◌+◌, ◌*◌, ◌<◌, ◌≤◌, ◌==◌, List, [], ◌∷◌, ◌++◌, length, map, get_or, slice_index, slice_index_or, Bool}
-use Rattle.std.proofs.Common.{if◌then◌else◌, inl, inr, Option, Some, None, refl, ap, sym, ◌∙◌, subst, arith, MatchOption, eq-eqb, ne_eqb, length-set, ◌-◌, ◌/◌}
-use Rattle.std.proofs.Common.{All, length-append, drop, append_assoc, append-nil, ◌⊎◌}
+use Rattle.std.proofs.Common.{◌≡◌, ◌≢◌, ℕ, zero, suc, ◌+◌, ◌*◌, ◌<◌, ◌≤◌, ◌==◌, List, [], ◌∷◌, ◌++◌, length, map, get_or, slice_index, slice_index_or, Bool, if◌then◌else◌, inl, inr, Option, Some, None, refl, ap, sym, ◌∙◌, subst, arith, MatchOption, eq-eqb, ne_eqb, length-set, ◌-◌, ◌/◌, All, length-append, drop, append_assoc, append-nil, ◌⊎◌}
 use Rattle.std.specs.List.{remove}
-use Rattle.std.proofs.{Math.ListN.set, Math.ListN.get_or-append, Math.Nat.suc-mul, lemmas.Bool.cases_eq, lemmas.Bool.cases_lt, lemmas.List.length-map}
-use Rattle.std.proofs.{lemmas.List.drop_more, lemmas.List.get_or_push, Math.Seq.get_or-append-add, lemmas.Option.same_Some, lemmas.List.Elements.All-set}
-use Rattle.pas_profile.specs.{Rooms.shown, Rooms.size_of_room, Rooms.EventRoom, Profiles.IsValid}
-use Rattle.pas_profile.specs.declared.{profile.Profile.Profile, guard.Guard.Guard}
+use Rattle.std.proofs.Math.ListN.{set, get_or-append}
+use Rattle.std.proofs.Math.Nat.{suc-mul}
+use Rattle.std.proofs.lemmas.Bool.{cases_eq, cases_lt}
+use Rattle.std.proofs.lemmas.List.{length-map, drop_more, get_or_push}
+use Rattle.std.proofs.Math.Seq.{get_or-append-add}
+use Rattle.std.proofs.lemmas.Option.{same_Some}
+use Rattle.std.proofs.lemmas.List.Elements.{All-set}
+use Rattle.pas_profile.specs.Rooms.{shown, size_of_room, EventRoom}
+use Rattle.pas_profile.specs.Profiles.{IsValid}
+use Rattle.pas_profile.specs.declared.profile.Profile.{Profile}
+use Rattle.pas_profile.specs.declared.guard.Guard.{Guard}
 use Rattle.pas_trace.specs.Acts.{Act, Settles, act_kept, own_acts}
 use Rattle.pas_trace.specs.Asked.{work_of, keeper_in}
 use Rattle.pas_trace.specs.EveryPlan.{AreKept, all_ops, own_records, kept_of_work, kept_records}
 use Rattle.pas_trace.specs.Plans.{IsPlanOf, bounds_of, ops_of, phases_of as the_phases}
-use Rattle.pas_trace.specs.declared.plan.{Op.Op, Phase.Phase, Plan.Plan, What.What}
-use Rattle.pas_trace.proofs.{EveryPlan.every_phase, EveryPlan.every_plan, EveryPlan.few_operations, Keepers.plan_actors}
+use Rattle.pas_trace.specs.declared.plan.Op.{Op}
+use Rattle.pas_trace.specs.declared.plan.Phase.{Phase}
+use Rattle.pas_trace.specs.declared.plan.Plan.{Plan}
+use Rattle.pas_trace.specs.declared.plan.What.{What}
+use Rattle.pas_trace.proofs.EveryPlan.{every_phase, every_plan, few_operations}
+use Rattle.pas_trace.proofs.Keepers.{plan_actors}
 use Rattle.pas_guard.specs.Books.{FitsBook, guards_in, is_outer}
 use Rattle.pas_cache.specs.Caches.{Cached, cached}
 use Rattle.pas_cache.proofs.FlushesAndFrees.{rests_empty}
 use Rattle.pas_shared.specs.Passes.{AreFresh, IsPassOf, seat_of, view_of}
-use Rattle.pas_shared.specs.declared.{pass.SharedPass.SharedPass, region.SharedRegion.SharedRegion}
-use Rattle.pas_answers.specs.{Calls.owed_events, Names.names_held, Answers.Progress, Fit.AreOfThreads, Ways.OnThreads, Stages.stages_of, Stages.GoByStages}
+use Rattle.pas_shared.specs.declared.pass.SharedPass.{SharedPass}
+use Rattle.pas_shared.specs.declared.region.SharedRegion.{SharedRegion}
+use Rattle.pas_answers.specs.Calls.{owed_events}
+use Rattle.pas_answers.specs.Names.{names_held}
+use Rattle.pas_answers.specs.Answers.{Progress}
+use Rattle.pas_answers.specs.Fit.{AreOfThreads}
+use Rattle.pas_answers.specs.Ways.{OnThreads}
+use Rattle.pas_answers.specs.Stages.{stages_of, GoByStages}
 use Rattle.pas_answers.specs.Replays.{at_start, phases_of, region_of, threads_of, keepers_of, acts_of_plan, Shows}
-use Rattle.pas_acts.specs.{PlanKeepers.one_guarded, PlanKeepers.guarded_of, Parts.AreRooms, Shares.AreKeptBehind, Keepers.LaterKept, Keepers.KeeperAt}
-use Rattle.pas_acts.specs.{Keepers.keeper_has, Pairs.for_guards, Pairs.AreTriedBy, Pairs.AreUnguarded}
+use Rattle.pas_acts.specs.PlanKeepers.{one_guarded, guarded_of}
+use Rattle.pas_acts.specs.Parts.{AreRooms}
+use Rattle.pas_acts.specs.Shares.{AreKeptBehind}
+use Rattle.pas_acts.specs.Keepers.{LaterKept, KeeperAt, keeper_has}
+use Rattle.pas_acts.specs.Pairs.{for_guards, AreTriedBy, AreUnguarded}
 use Rattle.pas_acts.proofs.PlanFacts.{is_guarded, pages_owed_at_first, plan_threads, plan_above, wider_sound, no_slots}
-use Rattle.pas_acts.proofs.{Naming.below_all, Naming.names_at_start, PhaseActs.active_within}
+use Rattle.pas_acts.proofs.Naming.{below_all, names_at_start}
+use Rattle.pas_acts.proofs.PhaseActs.{active_within}
 use Rattle.pas_steps.proofs.Nothing.{nothing_yet}
 use Rattle.pas_threads.specs.Hands.{standing_of_pass}
 use Rattle.pas_threads.specs.Kits.{IsEquipped, AreEquipped, IsNew, AreNew, IsSupplied, IsKeeperFor, IsKitOf, slots_of, kept_pass, IsBack, passes_in}
 use Rattle.pas_threads.specs.Pairs.{no_more, KeeperRests, owed_kept, keeper_at, owed_by_keepers, AreGuarded, HasKeeper, IsLow, KeeperStands}
 use Rattle.pas_threads.specs.Sessions.{Session, WorkerRests, ScavengerRests, TeamAt, HasRoom, owed_by, IsOfActors, HasReplayed}
-use Rattle.pas_threads.specs.declared.{keeper.Keeper.Keeper, kit.SharedKit.SharedKit, scavenger.Scavenger.Scavenger, workers.Worker.Worker, phases.Team.Team}
-use Rattle.pas_threads.proofs.{Dealt.some_item, Keepers.keeper_is, Keepers.stands_for, TakingTurns.set_each, TakingTurns.each_pushed, Staging.nothing_since}
-use Rattle.pas_threads.proofs.{Staging.of_first, Staging.stand_all}
-use Rattle.pas_steps.specs.{Clear.HasNothing, Lists.Whole, Lists.part, Lists.Legal}
+use Rattle.pas_threads.specs.declared.keeper.Keeper.{Keeper}
+use Rattle.pas_threads.specs.declared.kit.SharedKit.{SharedKit}
+use Rattle.pas_threads.specs.declared.scavenger.Scavenger.{Scavenger}
+use Rattle.pas_threads.specs.declared.workers.Worker.{Worker}
+use Rattle.pas_threads.specs.declared.phases.Team.{Team}
+use Rattle.pas_threads.proofs.Dealt.{some_item}
+use Rattle.pas_threads.proofs.Keepers.{keeper_is, stands_for}
+use Rattle.pas_threads.proofs.TakingTurns.{set_each, each_pushed}
+use Rattle.pas_threads.proofs.Staging.{nothing_since, of_first, stand_all, of_each_actor, some_keeper, stands_with, team_stands}
+use Rattle.pas_steps.specs.Clear.{HasNothing}
+use Rattle.pas_steps.specs.Lists.{Whole, part, Legal}
 use Rattle.pas_steps.specs.declared.state.State.{State}
 use Rattle.pas_shared.specs.Ledgers.{EndsAfter}
 use Rattle.pas_answers.proofs.Consequences.{replays}
 use Rattle.pas_records.specs.Rooms.{records_in, room_of, Records}
 use Rattle.pas_records.specs.declared.record.Record.{Record}
+use Rattle.pas_threads.specs.Settling.{PassStands, ActorsStand}
 
 -- ---- equipping
 pub equipped_more : {bounds : List ℕ} {passes after : List SharedPass} {workers now : List Worker} (pass : SharedPass) (worker : Worker)
@@ -403,12 +430,6 @@ nobody_past f (t ∷ l) k past legal =
     let most = legal.0.actor in
     ap (λ b. if b then t.made ∷ part k l else part k l) (ne_eqb t.actor k (λ e. absurd (omega (arith, e, most, past)))) ∙ nobody_past f l k past legal.1
 
--- the pass of actor k, which stands for its part of the list
-record IsOwn (region : SharedRegion) (l : Whole) (k : ℕ) (pass : SharedPass) : Type 0 where
-  of_region : IsPassOf region pass
-  actor : (seat_of pass).actor ≡ k
-  part_is : view_of pass ≡ part k l
-
 -- ---- the passes of all actors
 -- this slot is one of these
 abbrev IsAmong : Option SharedPass → List (Option SharedPass) → Type 0
@@ -492,49 +513,28 @@ module _ {region : SharedRegion} {s : Session} {team : Team} {end : Progress} (s
   pub all_back : All IsBack team.threads.items
   all_back i d lt = let has = (stands.workers.threads i d lt).here.has in (has.pass, has.present)
 
-  -- of the keeper at this place
-  its_keeper : (j : ℕ) (w : Worker) (keeper : Keeper) → j < length team.threads.items → (get_or team.threads.items j w).keeper ≡ Some keeper
-      → KeeperStands region s.profile (s.threads + suc j) keeper no_more end
-  its_keeper j w keeper below is = let rests = stands.workers.kept j w below in stands_for (get_or team.threads.items j w).keeper keeper is rests.of rests.waits
+  abbrev at : ActorsStand region s team.scavenger.pass team.threads.items end.list
+  at = team_stands stands
 
   -- Each actor has a pass of its own in its slot.
   abbrev OwnPass : ℕ → Type 0
-  OwnPass k = (pass : SharedPass) × IsOwn region end.list k pass × IsAmong (Some pass) (slots_of team)
-
-  own_keeper : (j : ℕ) → j < s.keepers → AreGuarded s.keepers team.threads.items → OwnPass (s.threads + suc j)
-  own_keeper j kept (inr none) = absurd (omega (arith, none.0, kept))
-  own_keeper j kept (inl all) =
-      let below : j < length team.threads.items = omega (arith, kept, all.0) in
-      let w = some_item team.threads.items j below in
-      let has = all.1 j w below in
-      let stood = its_keeper j w has.0 below has.1 in
-      (has.0.pass, record { of_region = stood.of; actor = stood.at.sits.actor; part_is = stood.at.sits.stood }, inr (keeper_among team.threads.items j w has.0 below has.1))
+  OwnPass k = (slot : Option SharedPass) × PassStands region k end.list slot × IsAmong slot (slots_of team)
 
   own_pass : (k : ℕ) → k ≤ s.threads + s.keepers → OwnPass k
-  own_pass zero le =
-      let has = stands.scavenger.has in
-      let sits = stands.scavenger.at.stands.sits in
-      (has.pass, record { of_region = has.of; actor = sits.actor; part_is = sits.stood }, inl has.present)
-  own_pass (suc i) le = elim (cases_lt i s.threads) [
-    | inl within ↦
-        let below : i < length team.threads.items = omega (arith, within, stands.workers.many) in
-        let w = some_item team.threads.items i below in
-        let here = (stands.workers.threads i w below).here in (
-          here.has.pass,
-          record { of_region = here.has.of; actor = here.rests.sits.actor; part_is = here.rests.sits.stood },
-          inr (subst (λ slot. IsAmong slot (passes_in team.threads.items)) here.has.present (thread_among team.threads.items i w below)),
-        )
-    | inr past ↦
-        let place : s.threads + suc (i - s.threads) ≡ suc i = omega (arith, past) in
-        subst OwnPass place (own_keeper (i - s.threads) (omega (arith, past, le)) stands.workers.guarded)
-  ]
+  own_pass = of_each_actor OwnPass (team.scavenger.pass, at.scavenger, inl refl)
+      (λ i lt.
+      let below : i < length team.threads.items = omega (arith, lt, stands.workers.many) in
+      let w = some_item team.threads.items i below in
+      ((get_or team.threads.items i w).pass, at.threads i w below, inr (thread_among team.threads.items i w below)))
+      (λ j lt.
+      let has = some_keeper team.threads.items j lt stands.workers.guarded in
+      (Some has.2.0.pass, at.keepers j has.0 has.2.0 has.1 has.2.1, inr (keeper_among team.threads.items j has.0 has.2.0 has.1 has.2.1)))
 
   -- what is in a slot is of the region
   slot_of_region : (slot : Option SharedPass) → IsAmong slot (slots_of team) → (pass : SharedPass) → slot ≡ Some pass → IsPassOf region pass
-  slot_of_region slot (inl is) pass at = let has = stands.scavenger.has in subst (IsPassOf region) (same_Some has.pass pass (sym has.present ∙ is ∙ at)) has.of
-  slot_of_region slot (inr later) pass at = of_each (λ x. (pass : SharedPass) → x ≡ Some pass → IsPassOf region pass) team.threads.items slot
-      (λ i d lt own is. let has = (stands.workers.threads i d lt).here.has in subst (IsPassOf region) (same_Some has.pass own (sym has.present ∙ is)) has.of)
-      (λ i d keeper lt is own its. subst (IsPassOf region) (same_Some keeper.pass own its) (its_keeper i d keeper lt is).of) later pass at
+  slot_of_region slot (inl is) pass there = (stands_with pass (is ∙ there) at.scavenger).0
+  slot_of_region slot (inr later) pass there = of_each (λ x. (pass : SharedPass) → x ≡ Some pass → IsPassOf region pass) team.threads.items slot
+      (λ i d lt own is. (stands_with own is (at.threads i d lt)).0) (λ i d keeper lt is own its. (stands_with own its (at.keepers i d keeper lt is)).0) later pass there
 
   module _ (passes : List SharedPass) (back : slots_for passes ≡ slots_of team) where
     -- The passes in the slots of a team at the end are all of its region.
@@ -548,9 +548,10 @@ module _ {region : SharedRegion} {s : Session} {team : Team} {end : Progress} (s
       | inl past ↦ nobody_past s.profile whole k (omega (arith, past, every)) legal ∙ sym (stands.nobody k past)
       | inr within ↦
           let own = own_pass k within in
-          let at = place_of passes own.0 (subst (IsAmong (Some own.0)) (sym back) own.2) in
-          let its = subst (λ (pass : SharedPass). part (seat_of pass).actor whole ≡ view_of pass) (at.2 own.0) (parts at.0 own.0 at.1) in
-          ap (λ (n : ℕ). part n whole) (sym own.1.actor) ∙ its ∙ own.1.part_is
+          let pass = own.1.pass in
+          let at = place_of passes pass (subst (IsAmong (Some pass)) (sym back) (subst (λ slot. IsAmong slot (slots_of team)) own.1.present own.2)) in
+          let its = subst (λ (x : SharedPass). part (seat_of x).actor whole ≡ view_of x) (at.2 pass) (parts at.0 pass at.1) in
+          ap (λ (n : ℕ). part n whole) (sym own.1.actor) ∙ its ∙ own.1.made
     ]
 
   -- at the end all actors have nothing, where no cache has a local allocator and no guard is up
@@ -564,28 +565,21 @@ module _ {region : SharedRegion} {s : Session} {team : Team} {end : Progress} (s
       record { grains = λ g. rest.locals.grains g ∙ (none g).0; rights = λ page. rest.locals.rights page ∙ (none page).1; clear = rest.locals.clear }
 
   keeper_bare : ((i : ℕ) (d : Worker) → i < length team.threads.items → IsLow (get_or team.threads.items i d).keeper) → (j : ℕ) → j < s.keepers
-      → AreGuarded s.keepers team.threads.items → HasNothing (part (s.threads + suc j) end.list)
-  keeper_bare low j lt (inr none) = absurd (omega (arith, none.0, lt))
-  keeper_bare low j lt (inl all) =
-      let workers = team.threads.items in
-      let below : j < length workers = omega (arith, lt, all.0) in
-      let w = some_item workers j below in
-      let has = all.1 j w below in
-      let fits = (its_keeper j w has.0 below has.1).at.sits.rest in
-      let none = subst IsLow has.1 (low j w below) in
+      → HasNothing (part (s.threads + suc j) end.list)
+  keeper_bare low j lt =
+      let has = some_keeper team.threads.items j lt stands.workers.guarded in
+      let rests = stands.workers.kept j has.0 has.1 in
+      let stood : KeeperStands region s.profile (s.threads + suc j) has.2.0 no_more end =
+      stands_for (get_or team.threads.items j has.0).keeper has.2.0 has.2.1 rests.of rests.waits in
+      let fits = stood.at.sits.rest in
+      let none = subst IsLow has.2.1 (low j has.0 has.1) in
       record { grains = λ g. fits.held g ∙ ap (λ (gs : List Guard). is_outer gs (g / 256)) none; rights = fits.rights; clear = fits.clear }
 
   bare_at : ((i : ℕ) (d : Worker) → i < length team.threads.items → (cached (get_or team.threads.items i d).cache).locals ≡ [])
       → ((i : ℕ) (d : Worker) → i < length team.threads.items → IsLow (get_or team.threads.items i d).keeper) → (k : ℕ) → HasNothing (part k end.list)
-  bare_at empty low zero = stands.scavenger.at.stands.sits.rest
-  bare_at empty low (suc i) = elim (cases_lt i s.threads) [
-    | inl within ↦ thread_bare empty i within
-    | inr past ↦ elim (cases_lt i (s.threads + s.keepers)) [
-      | inl kept ↦
-          let place : s.threads + suc (i - s.threads) ≡ suc i = omega (arith, past) in
-          subst (λ (k : ℕ). HasNothing (part k end.list)) place (keeper_bare low (i - s.threads) (omega (arith, past, kept)) stands.workers.guarded)
-      | inr far ↦ subst HasNothing (sym (stands.nobody (suc i) (omega (arith, far)))) nothing_yet
-    ]
+  bare_at empty low k = elim (cases_lt (s.threads + s.keepers) k) [
+    | inl past ↦ subst HasNothing (sym (stands.nobody k past)) nothing_yet
+    | inr within ↦ of_each_actor (λ n. HasNothing (part n end.list)) stands.scavenger.at.stands.sits.rest (thread_bare empty) (keeper_bare low) k within
   ]
 
 -- A whole replay on threads, whose region was closed by all its passes, is what the plan's replay shows.

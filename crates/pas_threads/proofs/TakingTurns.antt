@@ -5,21 +5,20 @@ use Rattle.std.proofs.Common.{◌-◌, ◌≤◌, true, false, map, length-appen
 use Rattle.pas_answers.specs.{Names.names_held, Answers.Progress, Ways.EachOf, Ways.records_by, Calls.owed_events, Fit.own_cost_of_act}
 use Rattle.pas_acts.specs.declared.names.NameBook.{NameBook}
 use Rattle.pas_threads.specs.{Taken.IsEmptied, Taken.HasTaken, Hands.standing_of_pass, Left.HasLeft}
-use Rattle.pas_threads.specs.Turns.{said_by, said_own, said_kept, HasSaid, IsGathered, IsKeptGathered, AreDistinct, Came, Pushed, Told, TookNoPart, Turn}
-use Rattle.pas_threads.specs.Turns.{TookTurns, owed_at, IsDue, Woke, WokeAll, Stopped}
+use Rattle.pas_threads.specs.Turns.{said_by, said_by_all, said_by_keepers, HasSaid, IsOwnGathered, IsKeptGathered, IsGathered, AreDistinct, Came, Pushed, Told}
+use Rattle.pas_threads.specs.Turns.{TookNoPart, Turn, TookTurns, owed_at, IsDue, Woke, WokeAll}
 use Rattle.pas_threads.specs.declared.{scavenger.Scavenger.Scavenger, workers.Worker.Worker, phases.Team.Team}
 use Rattle.std.proofs.{lemmas.List.get_or_default, lemmas.List.drop_more, lemmas.List.get_or_push, lemmas.Grind.get_or-set_at, lemmas.Bool.cases_eq}
 use Rattle.std.proofs.{lemmas.Bool.cases_lt, Math.ListN.get_or-append}
 use Rattle.pas_profile.specs.declared.profile.Profile.{Profile}
 use Rattle.pas_steps.specs.{Lists.Whole, Lists.part, Desks.Standing}
-use Rattle.pas_trace.specs.Acts.{Act, Wakes, Ends, numbers_from, is_active}
-use Rattle.pas_answers.proofs.OwnRecords.{records_both, none_by, all_by, spoken_piece, spoken_both}
+use Rattle.pas_trace.specs.Acts.{Act, Wakes, numbers_from, is_active}
+use Rattle.pas_answers.proofs.{OwnRecords.records_both, OwnRecords.none_by, OwnRecords.all_by, Reached.reach_both}
 use Rattle.pas_acts.specs.{Keepers.StandsStill, Works.Later, Works.Sits, NameBooks.requests_in, NameBooks.room_for, Awake.awake_in, AtDesks.here}
 use Rattle.pas_acts.specs.{AtDesks.ThreadActs}
 use Rattle.pas_acts.proofs.AtDesk.{leaves_rest, sits_for, rests_still}
 use Rattle.pas_shared.specs.declared.{region.SharedRegion.SharedRegion, pass.SharedPass.SharedPass, bench.Bench.Bench, ledger.Ledger.Ledger, rule.Entry.Entry}
 use Rattle.pas_shared.specs.declared.{rule.Row.Row}
-use Rattle.pas_answers.proofs.Reached.{reach_both}
 use Rattle.std.specs.List.{filter}
 use Rattle.pas_bits.specs.Masks.{is_set}
 use Rattle.pas_bits.specs.declared.mask.Mask4.{Mask4}
@@ -32,27 +31,19 @@ use Rattle.pas_threads.specs.Performing.{Round, ThreadDone, ScavengerDone, HaveA
 use Rattle.pas_records.specs.Rooms.{records_in, room_of, Records}
 use Rattle.pas_records.specs.declared.record.Record.{Record}
 
--- What these workers said, where each says so, came to the end of the records, and so each became another.
-pub record WereGathered (says : Worker → List Record) (Is : Worker → Worker → Type 0) (old new : List Worker) (out out' : Records) : Type 0 where
-  pub added : records_in out' ≡ records_in out ++ said_by says old
+-- All that these workers said came to the end of the records, for their threads and then for their keepers.
+pub record WereGathered (old new : List Worker) (out out' : Records) : Type 0 where
+  pub added : records_in out' ≡ records_in out ++ (said_by_all old ++ said_by_keepers old)
   pub size : room_of out' ≡ room_of out
-  pub each : (i : ℕ) (d : Worker) → i < length old → Is (get_or old i d) (get_or new i d)
+  pub each : (i : ℕ) (d : Worker) → i < length old → IsGathered (get_or old i d) (get_or new i d)
   pub many : length new ≡ length old
 
--- .. for their threads, and for their keepers
-abbrev pub OwnGathered : List Worker → List Worker → Records → Records → Type 0
-OwnGathered = WereGathered said_own IsGathered
-
-abbrev pub KeptGathered : List Worker → List Worker → Records → Records → Type 0
-KeptGathered = WereGathered said_kept IsKeptGathered
-
 -- What was gathered of these workers was gathered of those that they are.
-pub were_gathered : (says : Worker → List Record) (Is : Worker → Worker → Type 0) {given old : List Worker} (new : List Worker) (out out' : Records)
-    → given ≡ old → records_in out' ≡ records_in out ++ said_by says given → room_of out' ≡ room_of out
-    → ((i : ℕ) (d : Worker) → i < length given → Is (get_or given i d) (get_or new i d)) → length new ≡ length given
-    → WereGathered says Is old new out out'
-were_gathered says Is new out out' value added size each many =
-    subst (λ (ws : List Worker). WereGathered says Is ws new out out') value (record { added = added; size = size; each = each; many = many })
+pub were_gathered : {given old : List Worker} (new : List Worker) (out out' : Records) → given ≡ old
+    → records_in out' ≡ records_in out ++ (said_by_all given ++ said_by_keepers given) → room_of out' ≡ room_of out
+    → ((i : ℕ) (d : Worker) → i < length given → IsGathered (get_or given i d) (get_or new i d)) → length new ≡ length given → WereGathered old new out out'
+were_gathered new out out' value added size each many =
+    subst (λ (ws : List Worker). WereGathered ws new out out') value (record { added = added; size = size; each = each; many = many })
 
 -- the book took over what these workers asked for
 pub record WereTaken (old new : List Worker) (book book' : NameBook) : Type 0 where
@@ -61,23 +52,32 @@ pub record WereTaken (old new : List Worker) (book book' : NameBook) : Type 0 wh
   pub each : (i : ℕ) (d : Worker) → i < length old → IsEmptied (get_or old i d) (get_or new i d)
   pub many : length new ≡ length old
 
--- all that the worker said was gathered, and nothing else of it changed but what it asked for
+-- all that the worker said was gathered, and it asks for nothing; nothing else of it changed
 pub record IsCleared (old new : Worker) : Type 0 where
   pub pass : new.pass ≡ old.pass
   pub cache : new.cache ≡ old.cache
   pub none : records_in new.out ≡ []
   pub room : room_of new.out ≡ room_of old.out
   pub keeper : HasSaid old.keeper new.keeper
+  pub asked : requests_in new.requests ≡ []
+  pub places : room_for new.requests ≡ room_for old.requests
 
--- A worker of which both were gathered is cleared.
-pub cleared : {old mid new : Worker} → IsGathered old mid → IsKeptGathered mid new → IsCleared old new
+-- A worker that was gathered, and whose requests were taken over, is cleared.
+pub cleared : {old mid new : Worker} → IsGathered old mid → IsEmptied mid new → IsCleared old new
 -- All of these are as the first left them, or as the second did.
-cleared {new = new} g h = search arith
+cleared {new = new} g e = search arith
 
--- A cleared worker whose requests were taken over is cleared.
-pub cleared_then : {old mid new : Worker} → IsCleared old mid → IsEmptied mid new → IsCleared old new
--- Taking requests over leaves all of these as they were.
-cleared_then {old} c e = search arith
+-- So is one that was gathered and asked for nothing.
+pub cleared_silent : {old new : Worker} → IsGathered old new → requests_in old.requests ≡ [] → IsCleared old new
+cleared_silent g none = record {
+  pass = g.pass;
+  cache = g.cache;
+  none = g.none;
+  room = g.room;
+  keeper = g.keeper;
+  asked = ap requests_in g.requests ∙ none;
+  places = ap room_for g.requests;
+}
 
 -- what the scavenger said was gathered, and it is otherwise as it was, with no thread lent to it
 pub record IsScavengerCleared (old new : Scavenger) : Type 0 where
@@ -369,31 +369,22 @@ woke_rest {old = old} {now} many at woke i d lt =
       requests = omega (arith, was.requests, size);
     }
 
--- ---- at the close
--- the stops of the threads from place i of n on
-abbrev pub ends_from : ℕ → ℕ → List Act
-ends_from i n = map Ends (numbers_from (i + 1) (n - i))
-
-abbrev pub ends_begin : {region : SharedRegion} {f : Profile} {old : List Worker} {later : ℕ → ℕ} {p : Progress} → AreResting region f old later p
-    → Stopped region f [] 0 old old later p
-ends_begin {old = old} at = record { turns = no_turn (none_took old at); spoken = tt; none = refl; empty = λ j d less. absurd (omega (arith, less)) }
-
-abbrev pub ends : {region : SharedRegion} {f : Profile} {acts : List Act} {old now : List Worker} {later : ℕ → ℕ} {p : Progress} (i : ℕ) (d w : Worker)
-    (so : Stopped region f acts i old now later p)
-    → i < length old → length now ≡ length old
-    → Turn region f (suc i) (Ends (suc i)) [] (get_or now i d) w (evenly (later (suc i))) so.turns.came.reached → (cached w.cache).locals ≡ []
-    → Stopped region f (acts ++ (Ends (suc i) ∷ [])) (suc i) old (set now i w) later p
-ends {now = now} i d w so lt many t none =
-    let x = t.did.does in
-    record {
-      turns = turn_taken i d w refl lt many so.turns t;
-      spoken = spoken_both so.turns.came.said (x.own ++ []) so.spoken (spoken_both x.own [] (spoken_piece (suc i) x.own x.each) tt);
-      none = records_both 0 so.turns.came.said (x.own ++ []) ∙ ap (λ rs. rs ++ records_by 0 (x.own ++ [])) so.none
-          ∙ by_scavenger (suc i) x.own [] x.each (λ (is : 0 ≡ suc i). omega (arith, is));
-      empty = λ j e less. set_each (λ (m : ℕ) (y : Worker). (cached y.cache).locals ≡ []) now i w e j (omega (arith, lt, many)) none (λ ne. so.empty j e (omega (arith, less, ne)));
-    }
-
 -- ---- what is gathered
+-- a worker that was gathered for its thread and then for its keeper
+pub gathered : {old mid new : Worker} → IsOwnGathered old mid → IsKeptGathered mid new → IsGathered old new
+-- All of these are as the first left them, or as the second did.
+gathered {new = new} g h = search arith
+
+-- Workers say the same where each does.
+pub said_alike : (says : Worker → List Record) (old new : List Worker) → length new ≡ length old
+    → ((i : ℕ) (d : Worker) → i < length old → says (get_or new i d) ≡ says (get_or old i d)) → said_by says new ≡ said_by says old
+said_alike says [] [] many each = refl
+said_alike says [] (v ∷ vs) many each = absurd (omega (arith, many))
+said_alike says (w ∷ ws) [] many each = absurd (omega (arith, many))
+said_alike says (w ∷ ws) (v ∷ vs) many each =
+    ap (λ rs. rs ++ said_by says vs) (each 0 w (omega arith))
+    ∙ ap (λ rs. says w ++ rs) (said_alike says ws vs (omega (arith, many)) (λ i d lt. each (suc i) d (omega (arith, lt))))
+
 -- Of these workers those before place i are gathered, and the others are as they were. What they say still comes after what was gathered.
 pub record AreGathered (says : Worker → List Record) (Is : Worker → Worker → Type 0) (i : ℕ) (old now : List Worker) (before said : List Record) : Type 0 where
   pub said_are : said ++ said_by says (drop i old) ≡ before ++ said_by says old

@@ -10,6 +10,7 @@ pub mod Acting
 pub mod Dealing
 pub mod Sessions
 pub mod Turns
+pub mod Closing
 pub mod Settling
 pub mod Performing
 pub mod Kits

@@ -1,16 +1,16 @@
 -- A worker with two actors: a thread, and in a guarded replay its keeper, which is the actor that stands as far behind all threads as the thread stands among
 -- them.
-use Rattle.std.specs.Prelude.{ℕ, zero, suc, map, ◌≢◌, ◌+◌, ◌<◌, ◌≤◌, ◌≡◌, ◌⊎◌, List, [], ◌++◌, length, Option, None, Some, get_or}
+use Rattle.std.specs.Prelude.{ℕ, zero, suc, map, ◌+◌, ◌<◌, ◌≤◌, ◌≡◌, ◌⊎◌, List, [], length, Option, None, Some, get_or}
 use Rattle.pas_profile.specs.declared.profile.Profile.{Profile}
 use Rattle.pas_steps.specs.Lists.{part}
 use Rattle.pas_guard.specs.Books.{guards_in}
 use Rattle.pas_shared.specs.Passes.{IsPassOf}
 use Rattle.pas_shared.specs.declared.{bench.Bench.Bench, region.SharedRegion.SharedRegion}
-use Rattle.pas_trace.specs.Acts.{Act, Lowers, numbers_from, own_acts}
+use Rattle.pas_trace.specs.Acts.{Act, own_acts}
 use Rattle.pas_trace.specs.declared.plan.Op.{Op}
-use Rattle.pas_answers.specs.{Answers.Progress, Keeping.owed_by_keeper, Reaching.Reaches, Ways.AreSpoken, Ways.records_by}
+use Rattle.pas_answers.specs.{Answers.Progress, Keeping.owed_by_keeper}
 use Rattle.pas_acts.specs.Keepers.{LaterKept, Keeping, NoKeeper, OneKeeper, KeeperAt, KeeperLowers, keeper_has}
-use Rattle.pas_acts.specs.{Pairs.KeeperWaits, Pairs.KeptPushed, Pairs.PairWorks, Works.Later}
+use Rattle.pas_acts.specs.{Pairs.KeeperWaits, Pairs.PairWorks, Works.Later}
 use Rattle.pas_acts.specs.declared.names.NameBook.{NameBook}
 use Rattle.pas_threads.specs.Left.{pair_in, standing_beside, HasLeft}
 use Rattle.pas_threads.specs.Hands.{standing_of_pass, kept_by, WorkerAt, Did}
@@ -130,38 +130,3 @@ pub record IsButKeeper (old new : Worker) : Type 0 where
   pub cache : new.cache ≡ old.cache
   pub requests : new.requests ≡ old.requests
   pub out : new.out ≡ old.out
-
--- The keeper of the worker of thread k stands where the replay came as far as q: it was nothing but it that made steps, and what it said of this came to the end of
--- its records. What it owed pays for that.
-pub record KeptSo (region : SharedRegion) (f : Profile) (threads k : ℕ) (said : List Record) (old new : Worker) (p q : Progress) : Type 0 where
-  pub but : IsButKeeper old new
-  pub of : IsKeeperOf region new.keeper
-  pub waits : KeeperWaits f (threads + k) [] (kept_by_worker new.keeper) no_more q
-  pub told : KeptPushed (threads + k) said (kept_by_worker old.keeper) (kept_by_worker new.keeper)
-  pub paid : length (records_by (threads + k) said) ≤ owed_kept f (threads + k) old.keeper p
-
--- The keepers of the workers before place i lowered all their guards, by these acts, in order. The other workers are as they were.
-pub record Lowered (region : SharedRegion) (f : Profile) (threads : ℕ) (acts : List Act) (i : ℕ) (old new : List Worker) (p : Progress) : Type 0 where
-  pub reached : Progress
-  pub reaches : Reaches f acts p reached
-  pub said : List Record
-  pub records_are : reached.records ≡ p.records ++ said
-  pub spoken : AreSpoken said
-  pub each : (j : ℕ) (d : Worker) → j < length old → KeptSo region f threads (suc j) said (get_or old j d) (get_or new j d) p reached
-  pub low : (j : ℕ) (d : Worker) → j < i → j < length old → IsLow (get_or new j d).keeper
-  pub left : (j : ℕ) (d : Worker) → i ≤ j → j < length old → get_or new j d ≡ get_or old j d
-  pub parts : (k : ℕ) → ((j : ℕ) → j < i → threads + suc j ≢ k) → part k reached.list ≡ part k p.list
-  pub books : (k : ℕ) → ((j : ℕ) → j < i → threads + suc j ≢ k) → reached.books k ≡ p.books k
-  pub silent : (k : ℕ) → ((j : ℕ) → j < i → threads + suc j ≢ k) → records_by k said ≡ []
-  pub caches : reached.caches ≡ p.caches
-  pub names : reached.names ≡ p.names
-
--- .. all of them
-abbrev pub LoweredAll : SharedRegion → Profile → ℕ → ℕ → List Worker → List Worker → Progress → Type 0
-LoweredAll region f threads keepers old new p = Lowered region f threads (map Lowers (numbers_from (threads + 1) keepers)) (length old) old new p
-
--- before that: each keeper stands with its pass
-pub record MayLower (region : SharedRegion) (f : Profile) (threads keepers : ℕ) (workers : List Worker) (p : Progress) : Type 0 where
-  pub guarded : AreGuarded keepers workers
-  pub each : (j : ℕ) (d : Worker) → j < length workers
-      → IsKeeperOf region (get_or workers j d).keeper × KeeperWaits f (threads + suc j) [] (kept_by_worker (get_or workers j d).keeper) no_more p

@@ -10,7 +10,7 @@ use Rattle.pas_utility.specs.Outcomes.{places_of}
 use Rattle.pas_cache.specs.Caches.{cached}
 use Rattle.pas_shared.specs.Ruled.{IsEarlier}
 use Rattle.pas_shared.specs.declared.region.SharedRegion.{SharedRegion}
-use Rattle.pas_trace.specs.Acts.{Ends, Lowers, is_active, numbers_from, own_acts, acts_of, phase_acts}
+use Rattle.pas_trace.specs.Acts.{Act, Ends, Lowers, is_active, numbers_from, own_acts, acts_of, phase_acts}
 use Rattle.pas_answers.specs.{Replays.at_start, Answers.Progress, Calls.owed_events, Reaching.Reaches, Phases.AreInPhases}
 use Rattle.pas_answers.specs.Stages.{Stage, one_by_one, phase_stages, stages_of, GoByStages}
 use Rattle.pas_answers.specs.Ways.{OnThreads, arranged, by_actors, AreSpoken}
@@ -151,16 +151,20 @@ pub record PhaseDone (region : SharedRegion) (s : Session) (ops : List Op) (rest
   pub went : WentBy s (phase_stages s.threads ops) p reached before after
 
 -- ---- the close
+-- its acts behind its mark: of so many threads, and then of so many keepers behind them
+abbrev pub closing_acts : ℕ → ℕ → List Act
+closing_acts threads keepers = map Ends (numbers_from 1 threads) ++ map Lowers (numbers_from (threads + 1) keepers)
+
 -- The threads were stopped and the keepers lowered their guards, after the mark of the close, what they said is written, no cache has a local allocator, and
 -- no guard is up. Each of these acts is a stage.
 pub record CloseDone (region : SharedRegion) (s : Session) (team : Team) (written : List Record) (before after : Whole) (p : Progress) : Type 0 where
   pub reached : Progress
-  pub reaches : Reaches s.profile (map Ends (numbers_from 1 s.threads) ++ map Lowers (numbers_from (s.threads + 1) s.keepers)) p reached
+  pub reaches : Reaches s.profile (closing_acts s.threads s.keepers) p reached
   pub team_at : TeamAt region s [] team reached
   pub written_so : AreWritten s reached.records written
   pub empty : (i : ℕ) (d : Worker) → i < length team.threads.items → (cached (get_or team.threads.items i d).cache).locals ≡ []
   pub low : (i : ℕ) (d : Worker) → i < length team.threads.items → IsLow (get_or team.threads.items i d).keeper
-  pub went : WentBy s (one_by_one (map Ends (numbers_from 1 s.threads) ++ map Lowers (numbers_from (s.threads + 1) s.keepers))) p reached before after
+  pub went : WentBy s (one_by_one (closing_acts s.threads s.keepers)) p reached before after
 
 -- ---- the whole replay
 -- All phases and the close were replayed: their acts are answered, the records are written phase by phase and actor by actor, the team stands at the end, and

@@ -5,9 +5,7 @@ use Rattle.pas_shared.specs.Ruled.{AreEarlier, IsEarlier, HasAllOf, bases_in}
 use Rattle.pas_shared.specs.{Passes.seat_of, Passes.view_of, Passes.IsPassOf, Benches.rows_on, Benches.IsBenchOf, Ledgers.so_far, Ledgers.looks_of}
 use Rattle.pas_shared.specs.{Ledgers.actors_in}
 use Rattle.pas_shared.specs.declared.{bench.Bench.Bench, ledger.Ledger.Ledger, pass.SharedPass.SharedPass, region.SharedRegion.SharedRegion}
-use Rattle.pas_trace.specs.Acts.{Act}
-use Rattle.pas_answers.specs.{Answers.Progress, Stages.one_by_one}
-use Rattle.pas_threads.specs.{Pairs.AreGuarded, Pairs.Lowered, Sessions.Session, Sessions.IsOfActors, Sessions.WentBy, Turns.Stopped}
+use Rattle.pas_threads.specs.{Pairs.AreGuarded, Sessions.Session, Sessions.IsOfActors}
 use Rattle.pas_threads.specs.declared.{keeper.Keeper.Keeper, workers.Worker.Worker}
 
 -- ---- settling
@@ -64,16 +62,3 @@ with_bench w bench = record { pass = w.pass; cache = w.cache; requests = w.reque
 -- nothing of the worker but its bench changed
 abbrev pub IsButBench : Worker → Worker → Type 0
 IsButBench old new = new ≡ with_bench old new.bench
-
--- ---- the close, one act after the other, each of which the ledger is settled behind
--- the threads before place i were stopped
-pub record StoppedSo (region : SharedRegion) (s : Session) (slot : Option SharedPass) (acts : List Act) (i : ℕ) (old new : List Worker) (later : ℕ → ℕ) (before after : Whole) (p : Progress) : Type 0 where
-  pub stopped : Stopped region s.profile acts i old new later p
-  pub stand : ActorsStand region s slot new stopped.turns.came.reached.list
-  pub went : WentBy s (one_by_one acts) p stopped.turns.came.reached before after
-
--- the keepers before place i lowered their guards
-pub record LoweredSo (region : SharedRegion) (s : Session) (slot : Option SharedPass) (acts : List Act) (i : ℕ) (old new : List Worker) (before after : Whole) (p : Progress) : Type 0 where
-  pub lowered : Lowered region s.profile s.threads acts i old new p
-  pub stand : ActorsStand region s slot new lowered.reached.list
-  pub went : WentBy s (one_by_one acts) p lowered.reached before after

@@ -1,12 +1,12 @@
--- How workers take turns, one after the other: threads read the epoch before a phase, and are stopped at the close; and what is gathered of them.
+-- How workers take turns, one after the other: threads read the epoch before a phase; and what is gathered of them.
 use Rattle.std.specs.Prelude.{ℕ, suc, ◌+◌, ◌<◌, ◌≤◌, ◌≡◌, ◌≢◌, List, [], ◌∷◌, ◌++◌, length, get_or, map, Option, None, Some}
 use Rattle.pas_bits.specs.declared.mask.Mask4.{Mask4}
 use Rattle.pas_profile.specs.declared.profile.Profile.{Profile}
 use Rattle.pas_steps.specs.Lists.{part}
 use Rattle.pas_cache.specs.Caches.{cached}
 use Rattle.pas_shared.specs.declared.region.SharedRegion.{SharedRegion}
-use Rattle.pas_trace.specs.Acts.{Act, Wakes, Ends, numbers_from}
-use Rattle.pas_answers.specs.{Answers.Progress, Calls.owed_events, Ways.AreSpoken, Ways.records_by, Reaching.Reaches}
+use Rattle.pas_trace.specs.Acts.{Act, Wakes}
+use Rattle.pas_answers.specs.{Answers.Progress, Calls.owed_events, Ways.records_by, Reaching.Reaches}
 use Rattle.pas_acts.specs.{Awake.awake_in, AtDesks.here, AtDesks.ThreadActs, Works.Later}
 use Rattle.pas_threads.specs.{Hands.Did, Sessions.evenly, Sessions.WorkerHas, Pairs.said_by_keeper, Pairs.IsButKeeper}
 use Rattle.pas_threads.specs.declared.{keeper.Keeper.Keeper, workers.Worker.Worker}
@@ -85,17 +85,6 @@ pub record Woke (region : SharedRegion) (f : Profile) (acts : List Act) (old new
 abbrev pub WokeAll : SharedRegion → Profile → Mask4 → List Worker → List Worker → (ℕ → ℕ) → Progress → Type 0
 WokeAll region f awake old new later p = Woke region f (map Wakes (awake_in awake (length old))) old new later p
 
--- The threads before this place were stopped. What was said is of threads, and no mark is among it. Their caches are empty.
-pub record Stopped (region : SharedRegion) (f : Profile) (acts : List Act) (i : ℕ) (old new : List Worker) (later : ℕ → ℕ) (p : Progress) : Type 0 where
-  pub turns : TookTurns f suc (IsDue region f later p) acts old new p
-  pub spoken : AreSpoken turns.came.said
-  pub none : records_by 0 turns.came.said ≡ []
-  pub empty : (j : ℕ) (d : Worker) → j < i → (cached (get_or new j d).cache).locals ≡ []
-
--- .. all of them, in order
-abbrev pub StoppedAll : SharedRegion → Profile → List Worker → List Worker → (ℕ → ℕ) → Progress → Type 0
-StoppedAll region f old new later p = Stopped region f (map Ends (numbers_from 1 (length old))) (length old) old new later p
-
 -- ---- what is gathered
 -- what these workers said, one after the other, where each says so
 abbrev pub said_by : (Worker → List Record) → List Worker → List Record
@@ -117,7 +106,7 @@ abbrev pub said_by_keepers : List Worker → List Record
 said_by_keepers workers = said_by said_kept workers
 
 -- what the worker said for its thread was gathered, and nothing else of it changed
-pub record IsGathered (old new : Worker) : Type 0 where
+pub record IsOwnGathered (old new : Worker) : Type 0 where
   pub pass : new.pass ≡ old.pass
   pub cache : new.cache ≡ old.cache
   pub requests : new.requests ≡ old.requests
@@ -135,4 +124,13 @@ HasSaid (Some old) (Some new) = (new.pass ≡ old.pass) × (new.book ≡ old.boo
 -- what the worker said for its keeper was gathered, and nothing else of it changed
 pub record IsKeptGathered (old new : Worker) : Type 0 where
   pub but : IsButKeeper old new
+  pub keeper : HasSaid old.keeper new.keeper
+
+-- .. for both
+pub record IsGathered (old new : Worker) : Type 0 where
+  pub pass : new.pass ≡ old.pass
+  pub cache : new.cache ≡ old.cache
+  pub requests : new.requests ≡ old.requests
+  pub none : records_in new.out ≡ []
+  pub room : room_of new.out ≡ room_of old.out
   pub keeper : HasSaid old.keeper new.keeper

@@ -15,7 +15,7 @@ use crate::dealing::{deal, take_back};
 use crate::hands::{Hand, act_with};
 use crate::scavenger::Scavenger;
 use crate::settling::{hear_all, hear_if, settle};
-use crate::turns::{gather, gather_kept, lower_all, stop_all, wake_all};
+use crate::turns::{close_all, gather, wake_all};
 use crate::workers::{Worker, take_all};
 use pas_acts::active;
 use pas_acts::at_desk::SCAVENGER;
@@ -138,7 +138,6 @@ fn perform_phase<R: Threads + Wait + Sync, G: Gate + Sync, M: Remake + Sync>(
     let mut team = perform_and_hear(rt, region, ledger, indexes, team, awake, ops, gate, remaker);
     out.append(&mut team.scavenger.out);
     gather(&mut team.threads, out);
-    gather_kept(&mut team.threads, out);
     take_all(&mut team.book, &mut team.threads);
     settle(region, ledger, &mut team.scavenger, &mut team.threads);
     team
@@ -153,10 +152,8 @@ fn finish(region: &SharedRegion, ledger: &mut Ledger, team: Team, out: &mut Reco
         → CloseDone region.now s result (records_in out.new) (so_far ledger.old) (so_far ledger.new) p }
 {
     let mut team = team;
-    stop_all(region, ledger, &mut team.scavenger, &mut team.threads);
-    lower_all(region, ledger, &mut team.scavenger, &mut team.threads);
+    close_all(region, ledger, &mut team.scavenger, &mut team.threads);
     gather(&mut team.threads, out);
-    gather_kept(&mut team.threads, out);
     team
 }
 

@@ -1,17 +1,17 @@
 //! What threads do one after the other, while nobody else makes a step: the reads of the epoch before a phase, the stops at the close, and what is
 //! gathered of them.
-ghost use Rattle.std.specs.Prelude.{◌≡◌, ◌+◌, ◌<◌, ◌≤◌, ◌++◌, ℕ, [], true, false, None, Some, length, map, get_or};
+ghost use Rattle.std.specs.Prelude.{◌≡◌, ◌+◌, ◌-◌, ◌<◌, ◌≤◌, ◌++◌, ℕ, List, [], true, false, None, Some, length, get_or};
 ghost use Rattle.pas_profile.specs.declared.profile.Profile.{Profile as TheProfile};
 ghost use Rattle.pas_records.specs.Rooms.{records_in, room_of};
 ghost use Rattle.pas_answers.specs.Answers.{Progress};
 ghost use Rattle.pas_cache.specs.Caches.{cached};
-ghost use Rattle.pas_trace.specs.Acts.{Wakes, Ends, Lowers, numbers_from};
+ghost use Rattle.pas_trace.specs.Acts.{Wakes, Ends};
 ghost use Rattle.pas_shared.specs.Ledgers.{IsLedgerOf, so_far};
 ghost use Rattle.pas_acts.specs.{Works.Later, Keepers.LaterKept, Pairs.KeeperWaits};
-ghost use Rattle.pas_threads.specs.Sessions.{Session, StandSo, WorkerHas, AreResting};
-ghost use Rattle.pas_threads.specs.Settling.{ActorsStand, StoppedSo, LoweredSo};
-ghost use Rattle.pas_threads.specs.Pairs.{IsKeeperOf, kept_by_worker, no_more, IsButKeeper, KeeperStands, KeeperLowered, MayLower};
-ghost use Rattle.pas_threads.specs.Turns.{Turn, WokeAll, said_by_all, said_kept, said_by_keepers, IsGathered, IsKeptGathered};
+ghost use Rattle.pas_threads.specs.Sessions.{Session, StandSo, WorkerHas, WorkersRest, AreResting};
+ghost use Rattle.pas_threads.specs.{Settling.ActorsStand, Closing.ClosedFirst, Closing.ClosesNext, Closing.ClosedSo};
+ghost use Rattle.pas_threads.specs.Pairs.{IsKeeperOf, kept_by_worker, no_more, AreGuarded, IsButKeeper, KeeperStands, KeeperLowered};
+ghost use Rattle.pas_threads.specs.Turns.{Turn, WokeAll, said_by_all, said_kept, said_by_keepers, IsOwnGathered, IsKeptGathered, IsGathered};
 ghost use Rattle.pas_threads.specs.declared.{keeper.Keeper.Keeper as TheKeeper, workers.Worker.Worker as TheWorker};
 
 use crate::keeper::lower;
@@ -65,27 +65,6 @@ fn stop(region: &SharedRegion, worker: &mut Worker)
     worker.pass = Some(desk.into_pass());
 }
 
-/// Each thread is stopped, in order, and the ledger is settled after each.
-pub(crate) fn stop_all(
-    region: &SharedRegion,
-    ledger: &mut Ledger,
-    scavenger: &mut Scavenger,
-    threads: &mut [Worker],
-)
-    requires of { IsLedgerOf region.now ledger.old }
-    requires rest { (s : Session) × (later : ℕ → ℕ) × (p : Progress) × AreResting region.now s.profile threads.old later p × ActorsStand region.now s scavenger.old.pass threads.old p.list × StandSo s (so_far ledger.old) p.list }
-    ensures of { IsLedgerOf region.now ledger.new }
-    ensures scavenger { scavenger.new ≡ scavenger.old }
-    ensures stopped { (s : Session) (later : ℕ → ℕ) (p : Progress) → AreResting region.now s.profile threads.old later p → ActorsStand region.now s scavenger.old.pass threads.old p.list → StandSo s (so_far ledger.old) p.list
-        → StoppedSo region.now s scavenger.old.pass (map Ends (numbers_from 1 (length threads.old))) (length threads.old) threads.old threads.new later (so_far ledger.old) (so_far ledger.new) p }
-    ensures many { length threads.new ≡ length threads.old }
-{
-    for index in 0..threads.len() {
-        stop(region, &mut threads[index]);
-        settle(region, ledger, scavenger, threads);
-    }
-}
-
 /// The keeper of the worker lowers all its guards, if it has one. Whether it has.
 fn lower_one(region: &SharedRegion, worker: &mut Worker) -> bool
     requires stands { (f : TheProfile) × (actor : ℕ) × (p : Progress) × IsKeeperOf region.now worker.old.keeper × KeeperWaits f actor [] (kept_by_worker worker.old.keeper) no_more p }
@@ -104,44 +83,62 @@ fn lower_one(region: &SharedRegion, worker: &mut Worker) -> bool
     }
 }
 
-/// The keeper of each thread, in order, lowers all its guards, and the ledger is settled after each. There are none in a replay that isn't guarded.
-pub(crate) fn lower_all(
+/// The actor at this place makes its act of the close: the thread there is stopped, or, behind all threads, the keeper there lowers its guards. Whether there is one.
+fn close_one(region: &SharedRegion, workers: &mut [Worker], place: usize) -> bool
+    requires place { place < length workers.old + length workers.old }
+    requires so_far { (s : Session) × (old : List TheWorker) × (p : Progress) × (s.threads ≡ length workers.old) × (length workers.old ≡ length old) × ClosedFirst region.now s place old workers.old p }
+    ensures none { result ≡ false → (workers.new ≡ workers.old) × (length workers.old ≤ place) × ((d : TheWorker) → (get_or workers.old (place - length workers.old) d).keeper ≡ None) }
+    ensures next { result ≡ true → (s : Session) (old : List TheWorker) (p : Progress) → AreGuarded s.keepers old → s.threads ≡ length old → length workers.old ≡ length old
+        → (so : ClosedFirst region.now s place old workers.old p) → ClosesNext region.now s place old workers.old workers.new p so }
+    ensures many { length workers.new ≡ length workers.old }
+{
+    if place < workers.len() {
+        stop(region, &mut workers[place]);
+        return true;
+    }
+    let behind = place - workers.len();
+    lower_one(region, &mut workers[behind])
+}
+
+/// Each thread is stopped, in order, then the keeper of each lowers all its guards, and the ledger is settled after each. There are no keepers in a replay that isn't guarded.
+pub(crate) fn close_all(
     region: &SharedRegion,
     ledger: &mut Ledger,
     scavenger: &mut Scavenger,
     threads: &mut [Worker],
 )
+    requires few { length threads.old < 32 }
     requires of { IsLedgerOf region.now ledger.old }
-    requires may { (s : Session) × (p : Progress) × MayLower region.now s.profile s.threads s.keepers threads.old p × ActorsStand region.now s scavenger.old.pass threads.old p.list × StandSo s (so_far ledger.old) p.list }
+    requires rest { (s : Session) × (p : Progress) × WorkersRest region.now s [] threads.old p × ActorsStand region.now s scavenger.old.pass threads.old p.list × StandSo s (so_far ledger.old) p.list }
     ensures of { IsLedgerOf region.now ledger.new }
     ensures scavenger { scavenger.new ≡ scavenger.old }
-    ensures lowered { (s : Session) (p : Progress) → MayLower region.now s.profile s.threads s.keepers threads.old p → ActorsStand region.now s scavenger.old.pass threads.old p.list → StandSo s (so_far ledger.old) p.list
-        → LoweredSo region.now s scavenger.old.pass (map Lowers (numbers_from (s.threads + 1) s.keepers)) (length threads.old) threads.old threads.new (so_far ledger.old) (so_far ledger.new) p }
+    ensures closed { (s : Session) (p : Progress) → WorkersRest region.now s [] threads.old p → ActorsStand region.now s scavenger.old.pass threads.old p.list → StandSo s (so_far ledger.old) p.list
+        → ClosedSo region.now s (length threads.old + length threads.old) threads.old threads.new (so_far ledger.old) (so_far ledger.new) p }
     ensures many { length threads.new ≡ length threads.old }
 {
-    for index in 0..threads.len() {
-        if lower_one(region, &mut threads[index]) {
+    for place in 0..threads.len() + threads.len() {
+        if close_one(region, threads, place) {
             settle(region, ledger, scavenger, threads);
         }
     }
 }
 
-/// What the worker said comes to the end of `out`.
+/// What the worker said for its thread comes to the end of `out`.
 fn gather_one(worker: &mut Worker, out: &mut Records)
     requires room { length (records_in out.old) + length (records_in worker.old.out) ≤ room_of out.old }
     ensures added { records_in out.new ≡ records_in out.old ++ records_in worker.old.out }
     ensures room { room_of out.new ≡ room_of out.old }
-    ensures gathered { IsGathered worker.old worker.new }
+    ensures gathered { IsOwnGathered worker.old worker.new }
 {
     out.append(&mut worker.out);
 }
 
 /// What the workers said for their threads comes to the end of `out`, one worker after the other.
-pub(crate) fn gather(threads: &mut [Worker], out: &mut Records)
+fn gather_own(threads: &mut [Worker], out: &mut Records)
     requires room { length (records_in out.old) + length (said_by_all threads.old) ≤ room_of out.old }
     ensures added { records_in out.new ≡ records_in out.old ++ said_by_all threads.old }
     ensures room { room_of out.new ≡ room_of out.old }
-    ensures gathered { (i : ℕ) (d : TheWorker) → i < length threads.old → IsGathered (get_or threads.old i d) (get_or threads.new i d) }
+    ensures gathered { (i : ℕ) (d : TheWorker) → i < length threads.old → IsOwnGathered (get_or threads.old i d) (get_or threads.new i d) }
     ensures many { length threads.new ≡ length threads.old }
 {
     for place in 0..threads.len() {
@@ -163,7 +160,7 @@ fn gather_kept_one(worker: &mut Worker, out: &mut Records)
 }
 
 /// What their keepers said comes to the end of `out`, in the same order.
-pub(crate) fn gather_kept(threads: &mut [Worker], out: &mut Records)
+fn gather_kept(threads: &mut [Worker], out: &mut Records)
     requires room { length (records_in out.old) + length (said_by_keepers threads.old) ≤ room_of out.old }
     ensures added { records_in out.new ≡ records_in out.old ++ said_by_keepers threads.old }
     ensures room { room_of out.new ≡ room_of out.old }
@@ -173,4 +170,16 @@ pub(crate) fn gather_kept(threads: &mut [Worker], out: &mut Records)
     for place in 0..threads.len() {
         gather_kept_one(&mut threads[place], out);
     }
+}
+
+/// All that the workers said comes to the end of `out`: for their threads, one worker after the other, and then for their keepers.
+pub(crate) fn gather(threads: &mut [Worker], out: &mut Records)
+    requires room { length (records_in out.old) + (length (said_by_all threads.old) + length (said_by_keepers threads.old)) ≤ room_of out.old }
+    ensures added { records_in out.new ≡ records_in out.old ++ (said_by_all threads.old ++ said_by_keepers threads.old) }
+    ensures room { room_of out.new ≡ room_of out.old }
+    ensures gathered { (i : ℕ) (d : TheWorker) → i < length threads.old → IsGathered (get_or threads.old i d) (get_or threads.new i d) }
+    ensures many { length threads.new ≡ length threads.old }
+{
+    gather_own(threads, out);
+    gather_kept(threads, out);
 }

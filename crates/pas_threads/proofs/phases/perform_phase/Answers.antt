@@ -7,16 +7,15 @@ use Rattle.pas_records.specs.Rooms.{records_in, room_of}
 use Rattle.pas_shared.specs.Ledgers.{so_far, looks_of}
 use Rattle.pas_answers.specs.{Answers.Progress, Names.names_held}
 use Rattle.pas_threads.specs.Sessions.{planned, Session, AreResting, HasPlaces, TeamAt}
-use Rattle.pas_threads.specs.{Settling.ActorsStand, Taken.IsWithin}
-use Rattle.pas_threads.specs.Turns.{said_own, said_by_all, said_kept, said_by_keepers, IsGathered, IsKeptGathered}
+use Rattle.pas_threads.specs.{Settling.ActorsStand, Taken.IsWithin, Turns.said_by_all, Turns.said_by_keepers}
 use Rattle.pas_threads.specs.declared.{phases.Team.Team, scavenger.Scavenger.Scavenger}
 use Rattle.pas_acts.proofs.Naming.{sound_front, below_front}
-use Rattle.pas_threads.proofs.TakingTurns.{first_of, OwnGathered, KeptGathered, WereTaken, IsScavengerCleared, were_gathered, were_taken, taken_as}
-use Rattle.pas_threads.proofs.{Staging.team_stands, phases.perform_phase.Given.Over}
+use Rattle.pas_threads.proofs.TakingTurns.{first_of, WereGathered, WereTaken, IsScavengerCleared, were_gathered, were_taken, taken_as}
+use Rattle.pas_threads.proofs.{Staging.team_stands, phases.perform_phase.Given.Over, phases.perform_phase.Goals.After-note}
+use Rattle.pas_threads.proofs.{phases.perform_phase.Goals.After-gather, phases.perform_phase.Goals.After-take_all}
 use Rattle.pas_threads.proofs.ReadyPhases.{HasBegun, settled_team, begun_as, begun_stands, woke_stands}
-use Rattle.pas_threads.proofs.PhaseTeams.{may_append, may_gather, may_gather_kept, may_take, reached, phase_team, phase_went, phase_done}
+use Rattle.pas_threads.proofs.PhaseTeams.{may_append, gather_fits, may_take, reached, phase_team, phase_went, phase_done}
 use Rattle.pas_threads.proofs.phases.perform_phase.Goals as goal
-use Rattle.pas_threads.proofs.phases.perform_phase.Goals.{After-note, After-gather, After-gather_kept, After-take_all}
 
 pub wake_all-requires-clause-rest : goal.wake_all-requires-clause-rest
 wake_all-requires-clause-rest g c =
@@ -75,41 +74,19 @@ gather-requires g c =
     let begun = begun g (goal.at.gather-requires g c).After-note m.4.team_at in
     let heard = c.perform_and_hear-team.ensures.done m.0 _ _ begun.woke.turns.came.reached begun.ready in
     record {
-      room = subst (λ ws. length (records_in out) + length (said_by_all ws) ≤ room_of out) (sym c.deref_mut-3.ensures.value)
-          (may_gather c.args.ops.now m.1 m.4.team_at begun heard.done m.2 c.args.out.now m.4.room out c.append.ensures.added c.append.ensures.size);
+      room = subst (λ ws. length (records_in out) + (length (said_by_all ws) + length (said_by_keepers ws)) ≤ room_of out) (sym c.deref_mut-3.ensures.value)
+          (gather_fits c.args.ops.now m.1 m.4.team_at begun heard.done m.2 c.args.out.now m.4.room out c.append.ensures.added c.append.ensures.size);
     }
 
 module _ (g : Over) (c : After-gather g) where
-  -- The records of the threads were gathered.
-  own : OwnGathered c.perform_and_hear-team.result.threads.items c.gather.new.threads c.append.new.self c.gather.new.out
-  own = were_gathered said_own IsGathered c.gather.new.threads c.append.new.self c.gather.new.out c.deref_mut-3.ensures.value c.gather.ensures.added c.gather.ensures.room
+  -- The records of the threads and the keepers were gathered.
+  own : WereGathered c.perform_and_hear-team.result.threads.items c.gather.new.threads c.append.new.self c.gather.new.out
+  own = were_gathered c.gather.new.threads c.append.new.self c.gather.new.out c.deref_mut-3.ensures.value c.gather.ensures.added c.gather.ensures.room
       c.gather.ensures.gathered c.gather.ensures.many
 
   -- The workers once these were gathered.
   given : (with_items c.perform_and_hear-team.result.threads c.gather.new.threads).items ≡ c.gather.new.threads
   given = with_items_is c.perform_and_hear-team.result.threads c.gather.new.threads (c.gather.ensures.many ∙ c.deref_mut-3.ensures.len)
-
-pub gather_kept-requires : goal.gather_kept-requires
-gather_kept-requires g c =
-    let m = c.requires.may in
-    let out = c.gather.new.out in
-    let at = goal.at.gather_kept-requires g c in
-    let begun = begun g at.After-note m.4.team_at in
-    let heard = c.perform_and_hear-team.ensures.done m.0 _ _ begun.woke.turns.came.reached begun.ready in
-    record {
-      room = subst (λ ws. length (records_in out) + length (said_by_keepers ws) ≤ room_of out) (sym (c.deref_mut-4.ensures.value ∙ given g at.After-gather))
-          (may_gather_kept c.args.ops.now m.1 m.4.team_at begun heard.done m.2 c.args.out.now m.4.room c.append.new.self c.append.ensures.added c.append.ensures.size (own g at.After-gather));
-    }
-
-module _ (g : Over) (c : After-gather_kept g) (is : (with_items c.perform_and_hear-team.result.threads c.gather.new.threads).items ≡ c.gather.new.threads) where
-  -- The records of the keepers were gathered.
-  its : KeptGathered c.gather.new.threads c.gather_kept.new.threads c.gather.new.out c.gather_kept.new.out
-  its = were_gathered said_kept IsKeptGathered c.gather_kept.new.threads c.gather.new.out c.gather_kept.new.out
-      (c.deref_mut-4.ensures.value ∙ is) c.gather_kept.ensures.added c.gather_kept.ensures.room c.gather_kept.ensures.gathered c.gather_kept.ensures.many
-
-  -- The workers once those were gathered.
-  left : (with_items (with_items c.perform_and_hear-team.result.threads c.gather.new.threads) c.gather_kept.new.threads).items ≡ c.gather_kept.new.threads
-  left = with_items_is (with_items c.perform_and_hear-team.result.threads c.gather.new.threads) c.gather_kept.new.threads (c.gather_kept.ensures.many ∙ c.deref_mut-4.ensures.len)
 
 pub take_all-requires : goal.take_all-requires
 take_all-requires g c =
@@ -117,38 +94,35 @@ take_all-requires g c =
     let at = goal.at.take_all-requires g c in
     let begun = begun g at.After-note m.4.team_at in
     let heard = c.perform_and_hear-team.ensures.done m.0 _ _ begun.woke.turns.came.reached begun.ready in
-    let is = given g at.After-gather in
-    let here = sym (c.deref_mut-5.ensures.value ∙ left g at.After-gather_kept is) in
+    let here = sym (c.deref_mut-4.ensures.value ∙ given g at.After-gather) in
     record {
       within = subst (All (IsWithin (names_held c.perform_and_hear-team.result.book.names))) here
-          (may_take c.args.ops.now m.1 m.4.team_at begun heard.done (own g at.After-gather) (its g at.After-gather_kept is));
+          (may_take c.args.ops.now m.1 m.4.team_at begun heard.done (own g at.After-gather));
     }
 
 -- ---- the team behind it
-module _ (g : Over) (c : After-take_all g)
-    (left : (with_items (with_items c.perform_and_hear-team.result.threads c.gather.new.threads) c.gather_kept.new.threads).items ≡ c.gather_kept.new.threads)
-  where
-    abbrev team2 : Team
-    team2 = c.perform_and_hear-team.result
+module _ (g : Over) (c : After-take_all g) (given : (with_items c.perform_and_hear-team.result.threads c.gather.new.threads).items ≡ c.gather.new.threads) where
+  abbrev team2 : Team
+  team2 = c.perform_and_hear-team.result
 
-    abbrev team3 : Team
-    team3 = record team2 {
-      threads = with_items (with_items (with_items team2.threads c.gather.new.threads) c.gather_kept.new.threads) c.take_all.new.workers;
-      scavenger = record team2.scavenger { out = c.append.new.other };
-      book = c.take_all.new.book;
-    }
+  abbrev team3 : Team
+  team3 = record team2 {
+    threads = with_items (with_items team2.threads c.gather.new.threads) c.take_all.new.workers;
+    scavenger = record team2.scavenger { out = c.append.new.other };
+    book = c.take_all.new.book;
+  }
 
-    -- The workers once their blocks were taken over.
-    last : team3.threads.items ≡ c.take_all.new.workers
-    last = with_items_is (with_items (with_items team2.threads c.gather.new.threads) c.gather_kept.new.threads) c.take_all.new.workers (c.take_all.ensures.many ∙ c.deref_mut-5.ensures.len)
+  -- The workers once their blocks were taken over.
+  last : team3.threads.items ≡ c.take_all.new.workers
+  last = with_items_is (with_items team2.threads c.gather.new.threads) c.take_all.new.workers (c.take_all.ensures.many ∙ c.deref_mut-4.ensures.len)
 
-    -- The blocks of all workers were taken over into the book.
-    taken : WereTaken c.gather_kept.new.threads c.take_all.new.workers team2.book team3.book
-    taken = were_taken (c.deref_mut-5.ensures.value ∙ left) c.take_all.ensures.taken c.take_all.ensures.room c.take_all.ensures.emptied c.take_all.ensures.many
+  -- The blocks of all workers were taken over into the book.
+  taken : WereTaken c.gather.new.threads c.take_all.new.workers team2.book team3.book
+  taken = were_taken (c.deref_mut-4.ensures.value ∙ given) c.take_all.ensures.taken c.take_all.ensures.room c.take_all.ensures.emptied c.take_all.ensures.many
 
-    -- The scavenger lends nobody, and its records were gathered.
-    cleared : team2.scavenger.lent.items ≡ [] → IsScavengerCleared team2.scavenger team3.scavenger
-    cleared none = record { pass = refl; outcomes = refl; none = none; empty = c.append.ensures.none; size = c.append.ensures.other_size }
+  -- The scavenger lends nobody, and its records were gathered.
+  cleared : team2.scavenger.lent.items ≡ [] → IsScavengerCleared team2.scavenger team3.scavenger
+  cleared none = record { pass = refl; outcomes = refl; none = none; empty = c.append.ensures.none; size = c.append.ensures.other_size }
 
 pub settle-requires-2-clause-stand : goal.settle-requires-2-clause-stand
 settle-requires-2-clause-stand g c =
@@ -157,27 +131,23 @@ settle-requires-2-clause-stand g c =
     let begun = begun g at.After-note m.4.team_at in
     let done = (c.perform_and_hear-team.ensures.done m.0 _ _ begun.woke.turns.came.reached begun.ready).done in
     let is = given g at.After-gather in
-    let left = left g at.After-gather_kept is in
     let d = at.After-take_all in
-    let last = last g d left in
-    let places : HasPlaces m.0.threads (team3 g d left) = record { workers = done.places.workers; hands = done.places.hands; lent = done.places.lent; free = done.places.free } in
-    let then = phase_team c.args.ops.now m.1 m.4.team_at begun done (own g at.After-gather) (its g at.After-gather_kept is) (team3 g d left)
-    (taken_as last (taken g d left)) (cleared g d left done.none) places in
+    let places : HasPlaces m.0.threads (team3 g d is) = record { workers = done.places.workers; hands = done.places.hands; lent = done.places.lent; free = done.places.free } in
+    let then = phase_team c.args.ops.now m.1 m.4.team_at begun done (own g at.After-gather) (team3 g d is)
+    (taken_as (last g d is) (taken g d is)) (cleared g d is done.none) places in
     let end = reached c.args.ops.now m.1 m.4.team_at begun done in
-    let same = sym c.deref_mut-6.ensures.value in
-    (m.0, end.list, subst (λ ws. ActorsStand c.args.region.now m.0 (team3 g d left).scavenger.pass ws end.list) same (team_stands then))
+    let same = sym c.deref_mut-5.ensures.value in
+    (m.0, end.list, subst (λ ws. ActorsStand c.args.region.now m.0 (team3 g d is).scavenger.pass ws end.list) same (team_stands then))
 
 pub returns : goal.returns
 returns g c =
     let a = goal.at.returns g c in
     let is = given g a.After-gather in
-    let left = left g a.After-gather_kept is in
     let d = a.After-take_all in
     let own = own g a.After-gather in
-    let its = its g a.After-gather_kept is in
-    let taken = taken g d left in
-    let team3 = team3 g d left in
-    let last = last g d left in
+    let taken = taken g d is in
+    let team3 = team3 g d is in
+    let last = last g d is in
     record {
       ledger = c.settle-2.ensures.of;
       done = λ s rest marks p whole stood.
@@ -190,22 +160,22 @@ returns g c =
           let done = heard.done in
           let end = reached ops rest at begun done in
           let places : HasPlaces s.threads team3 = record { workers = done.places.workers; hands = done.places.hands; lent = done.places.lent; free = done.places.free } in
-          let clear = cleared g d left done.none in
-          let then = phase_team ops rest at begun done own its team3 (taken_as last taken) clear places in
+          let clear = cleared g d is done.none in
+          let then = phase_team ops rest at begun done own team3 (taken_as last taken) clear places in
           let settled = with_items_is (with_items c.args.team.threads c.wake_all.new.threads) c.settle.new.threads (ap length c.settle.ensures.same ∙ c.deref_mut-2.ensures.len) ∙ c.settle.ensures.same in
           let midway = c.settle.ensures.stand s q.list
           (subst (λ ws. ActorsStand region s c.args.team.scavenger.pass ws q.list) settled (begun_stands ops rest at begun)) in
-          let again = subst (λ ws. ActorsStand region s team3.scavenger.pass ws end.list) (sym c.deref_mut-6.ensures.value) (team_stands then) in
+          let again = subst (λ ws. ActorsStand region s team3.scavenger.pass ws end.list) (sym c.deref_mut-5.ensures.value) (team_stands then) in
           let stand = c.settle-2.ensures.stand s end.list again in
           let each = c.settle-2.ensures.settled.each in
           let second = first_of (looks_of c.settle.new.ledger) (so_far c.settle-2.new.ledger)
           (c.perform_and_hear-team.ensures.saw (so_far c.settle-2.new.ledger) each) in
           let went = phase_went ops rest at begun heard c.active-awake.ensures c.settle.ensures.settled.earlier second stood midway stand each in
           let same = c.settle-2.ensures.scavenger in
-          let many = ap length c.settle-2.ensures.same ∙ c.deref_mut-6.ensures.len in
-          let back = with_items_is team3.threads c.settle-2.new.threads many ∙ c.settle-2.ensures.same ∙ c.deref_mut-6.ensures.value ∙ last in
+          let many = ap length c.settle-2.ensures.same ∙ c.deref_mut-5.ensures.len in
+          let back = with_items_is team3.threads c.settle-2.new.threads many ∙ c.settle-2.ensures.same ∙ c.deref_mut-5.ensures.value ∙ last in
           let lent = subst (λ (v : Scavenger). s.threads ≤ vec_capacity v.lent) (sym same) places.lent in
-          phase_done ops rest whole begun done c.active-awake.ensures c.append.ensures.added c.append.ensures.size own its _ (taken_as back taken)
+          phase_done ops rest whole begun done c.active-awake.ensures c.append.ensures.added c.append.ensures.size own _ (taken_as back taken)
           (subst (IsScavengerCleared c.perform_and_hear-team.result.scavenger) (sym same) clear)
           (record { workers = places.workers; hands = places.hands; lent = lent; free = places.free }) went;
     }

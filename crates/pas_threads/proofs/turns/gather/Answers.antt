@@ -1,27 +1,35 @@
-use Rattle.std.proofs.Common.{◌∙◌, refl, arith}
+use Rattle.std.proofs.Common.{◌≡◌, ◌∙◌, ◌++◌, ap, arith, length, length-append, append_assoc}
 use Rattle.pas_records.specs.Rooms.{records_in}
-use Rattle.pas_threads.specs.Turns.{said_own, IsGathered}
-use Rattle.pas_threads.proofs.TakingTurns.{gather_begins, next_fits, gather_goes_on, gather_ends}
+use Rattle.pas_threads.specs.{Pairs.said_by_keeper, Turns.said_kept, Turns.said_by_all, Turns.said_by_keepers}
+use Rattle.pas_threads.proofs.{TakingTurns.gathered, TakingTurns.said_alike, turns.gather.Goals.After-gather_own}
 use Rattle.pas_threads.proofs.turns.gather.Goals as goal
 
-pub loop-place-init : goal.loop-place-init
-loop-place-init c = record { far = gather_begins said_own IsGathered c.args.threads.now (records_in c.args.out.now); room = refl }
+-- what was gathered for the threads leaves what is said for the keepers
+module _ (c : After-gather_own) where
+  kept : said_by_keepers c.gather_own.new.threads ≡ said_by_keepers c.args.threads.now
+  kept = said_alike said_kept c.args.threads.now c.gather_own.new.threads c.gather_own.ensures.many
+      (λ i d lt. ap said_by_keeper (c.gather_own.ensures.gathered i d lt).keeper)
 
-pub gather_one-requires : goal.gather_one-requires
-gather_one-requires c =
-    let i = c.loop-place.place in
-    let fits = c.requires.room in
-    let room = c.loop-place.invariant.room in
-    record { room = next_fits said_own IsGathered i c.args.threads.now c.loop-place.threads (records_in c.args.out.now) (records_in c.loop-place.out) c.index-threads-place.result c.loop-place-test.true c.loop-place.invariant.far (omega (arith, fits, room)) }
+pub gather_own-requires : goal.gather_own-requires
+gather_own-requires c = let room = c.requires.room in record { room = omega (arith, room) }
 
-pub loop-place-preserved : goal.loop-place-preserved
-loop-place-preserved c = record {
-  far = gather_goes_on said_own IsGathered c.index-threads-place.result c.gather_one.new.worker c.loop-place-test.true c.loop-place.auto.threads c.loop-place.invariant.far c.gather_one.ensures.added c.gather_one.ensures.gathered;
-  room = c.gather_one.ensures.room ∙ c.loop-place.invariant.room;
-}
+pub gather_kept-requires : goal.gather_kept-requires
+gather_kept-requires c =
+    let room = c.requires.room in
+    let same = ap length (kept (goal.at.gather_kept-requires c).After-gather_own) in
+    let added = ap length c.gather_own.ensures.added in
+    let sum = length-append (records_in c.args.out.now) (said_by_all c.args.threads.now) in
+    let size = c.gather_own.ensures.room in
+    record { room = omega (arith, room, same, added, sum, size) }
 
-pub returns-clause-added : goal.returns-clause-added
-returns-clause-added c = gather_ends said_own IsGathered c.loop-place-test.false c.loop-place.invariant.far
-
-pub returns-clause-gathered : goal.returns-clause-gathered
-returns-clause-gathered c = λ i d lt. c.loop-place.invariant.far.done i d (omega (arith, lt, c.loop-place-test.false)) lt
+pub returns : goal.returns
+returns c =
+    let same = kept (goal.at.returns c).After-gather_own in
+    let own = c.gather_own.ensures.added in
+    record {
+      added = c.gather_kept.ensures.added ∙ ap (λ rs. records_in c.gather_own.new.out ++ rs) same ∙ ap (λ rs. rs ++ said_by_keepers c.args.threads.now) own
+          ∙ append_assoc (records_in c.args.out.now) (said_by_all c.args.threads.now) (said_by_keepers c.args.threads.now);
+      room = c.gather_kept.ensures.room ∙ c.gather_own.ensures.room;
+      gathered = λ i d lt. gathered (c.gather_own.ensures.gathered i d lt) (c.gather_kept.ensures.gathered i d (let many = c.gather_own.ensures.many in omega (arith, lt, many)));
+      many = c.gather_kept.ensures.many ∙ c.gather_own.ensures.many;
+    }
