@@ -42,7 +42,7 @@ use Rattle.pas_guard.specs.Sweeps.{Swept, SweptOne, is_over, life_look, lowered_
 use Rattle.pas_records.specs.Lines.{line_of}
 use Rattle.pas_records.specs.declared.record.{Record.Record, Said.Said}
 use Rattle.pas_calls.proofs.Telling.{visible_piece, LeadsOn, on_as, on_both, on_line, on_same, lines_both, lines_by, on_past, on_task, Comes, Tells, AreAligned}
-use Rattle.pas_calls.proofs.Telling.{going, is_down, raised_by, staying, booked_sweep, going_told, guards_of}
+use Rattle.pas_calls.proofs.Telling.{going, is_down, staying, booked_sweep, going_told}
 
 -- ---- What comes of a page in a pass may come there
 -- steps without an event leave what is visible

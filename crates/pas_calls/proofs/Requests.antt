@@ -49,9 +49,9 @@ use Rattle.pas_guard.proofs.Raises.{raised_backs, raised_leaves}
 use Rattle.pas_answers.specs.Guarding.{IsTried, Tried, TryEnds, after_giving, after_trying, said_of_guard}
 use Rattle.pas_records.specs.declared.record.{Record.Record, Said.Said}
 use Rattle.pas_records.specs.Lines.{line_of_event}
-use Rattle.pas_calls.proofs.Telling.{LeadsOn, on_as, on_both, on_line, on_same, lines_both, lines_by, lines_more, shown_is, raised_by, flush_only, flush_leads}
-use Rattle.pas_calls.proofs.Telling.{emptied, logs_with, logged_as, table_same, own_at, put_twice, Comes, Tells, told_after, piece_of, AreBooked, booked_raise}
-use Rattle.pas_calls.proofs.Telling.{booked_sweep, after_piece}
+use Rattle.pas_calls.proofs.Telling.{LeadsOn, on_as, on_both, on_line, on_same, lines_both, lines_by, lines_more, shown_is, flush_only, flush_leads, emptied}
+use Rattle.pas_calls.proofs.Telling.{logs_with, table_same, own_at, put_twice, Comes, Tells, told_after, piece_of, AreBooked, booked_raise, booked_sweep}
+use Rattle.pas_calls.proofs.Telling.{after_piece}
 use Rattle.pas_calls.proofs.Passes.{swept_is, IsSwept, sweep_leads, up_after}
 
 -- ---- A request: deeds and backs, and then the give of its block or a refusal, which is true
@@ -141,7 +141,7 @@ logged_apart false v k entry due = refl
 
 due_apart : (replaced : Option Name) (v : Stand) (k : ℕ) (due : List Due) → replacing replaced (with_due v due) k [] ≡ replacing replaced v k []
 due_apart None v k due = refl
-due_apart (Some old) v k due = logged_apart (is_full v k) v k (unsized old) due
+due_apart (Some old) v k due = logged_apart (is_full v k) v k (entry_of old) due
 
 module _ (f : Profile) (valid : IsValid f) (w : Stand) (k : ℕ) (r : Request) (replaced : Option Name) (l : Whole) (steps : List Made)
     (events : w.events ≡ visible l) (legal : Legal f (triples k steps ++ l)) where

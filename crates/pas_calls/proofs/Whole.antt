@@ -40,8 +40,7 @@ use Rattle.pas_records.specs.declared.record.{Record.Record, Said.Said}
 use Rattle.pas_records.specs.{Lines.lines_of, Marks.Marked, Marks.marks_after, Marks.marks_text, Rests.AreTrueMarks}
 use Rattle.pas_report.specs.Totals.{totals_of}
 use Rattle.pas_calls.proofs.Telling.{flush_only, flush_leads, emptied, logs_with, stop_leads, stop_tells, LeadsOn, on_as, on_both, lines_by, Comes, Tells}
-use Rattle.pas_calls.proofs.Telling.{piece_of, told_after, on_line, on_done, on_task, emptying, booked_as, logged_as, lines_both, table_at, table_same}
-use Rattle.pas_calls.proofs.Telling.{stop_only, on_same}
+use Rattle.pas_calls.proofs.Telling.{piece_of, told_after, on_line, on_done, on_task, emptying, booked_as, lines_both, table_at, table_same, stop_only, on_same}
 use Rattle.pas_calls.proofs.Requests.{free_comes, freed_comes, silent_lines, asked_tells, asked_then, remade_comes, request_leads, served_plain, given_comes}
 use Rattle.pas_calls.proofs.Requests.{thread_comes}
 use Rattle.pas_calls.proofs.Passes.{pass_comes, lowered_comes}
