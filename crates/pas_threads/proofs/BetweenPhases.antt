@@ -161,7 +161,8 @@ module _ {region : SharedRegion} {s : Session} {team : Team} {p : Progress} {clo
   no_part k away = did.others k (λ m less there is. elim away [ inl first ↦ omega (arith, first, is) | inr past ↦ omega (arith, past, is, there) ])
 
   -- what they owed pays for what they said
-  said_few : length (by_actors 1 s.threads said) + length (by_actors (s.threads + 1) s.threads said) + (owed_by f reached s.threads + owed_by_keepers f s.threads [] reached s.threads)
+  said_few : length (by_actors 1 s.threads said) + length (by_actors (s.threads + 1) s.threads said) +
+      (owed_by f reached s.threads + owed_by_keepers f s.threads [] reached s.threads)
       ≤ owed_by f p s.threads + owed_by_keepers f s.threads team.threads.items p s.threads + own_by (planned s) [] s.threads
   said_few = all_paid f (planned s) s.threads [] said team.threads.items [] p reached s.threads (λ i lt.
       let less : i < length team.threads.items = omega (arith, lt, threads_are) in

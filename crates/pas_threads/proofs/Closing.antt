@@ -61,7 +61,8 @@ record ActorDid (f : Profile) (k : ℕ) (act : Act) (p : Progress) : Type 0 wher
   books : (j : ℕ) → j ≢ k → came.reached.books j ≡ p.books j
   names : came.reached.names ≡ p.names
 
-abbrev thread_did : {f : Profile} {k : ℕ} {act : Act} {old new : Here} {later : Later} {p : Progress} → ThreadActs f k (act ∷ []) [] [] old new later p → ActorDid f k act p
+abbrev thread_did : {f : Profile} {k : ℕ} {act : Act} {old new : Here} {later : Later} {p : Progress} → ThreadActs f k (act ∷ []) [] [] old new later p
+    → ActorDid f k act p
 thread_did {p = p} x =
     let leaves = leaves_rest x in
     record {
@@ -73,7 +74,8 @@ thread_did {p = p} x =
       names = leaves.names;
     }
 
-abbrev keeper_did : {f : Profile} {k : ℕ} {old new : KeeperHas} {later : LaterKept} {p : Progress} → KeeperLowers f k old new later p → ActorDid f k (Lowers k) p
+abbrev keeper_did : {f : Profile} {k : ℕ} {old new : KeeperHas} {later : LaterKept} {p : Progress} → KeeperLowers f k old new later p
+    → ActorDid f k (Lowers k) p
 keeper_did {k = k} {p = p} y = record {
   came = record { reached = y.reached; reaches = y.reaches; said = y.said; records_are = y.records_are };
   each = y.each;
@@ -251,7 +253,8 @@ module _ {region : SharedRegion} {s : Session} {i : ℕ} {old now : List Worker}
 
   -- The thread at this place was stopped.
   pub thread_closes : (d w : Worker) → s.threads ≡ length old → i < length old → length now ≡ length old
-      → Turn region s.profile (suc i) (Ends (suc i)) [] (get_or now i d) w (evenly 0) q → (cached w.cache).locals ≡ [] → ClosesNext region s i old now (set now i w) p so
+      → Turn region s.profile (suc i) (Ends (suc i)) [] (get_or now i d) w (evenly 0) q → (cached w.cache).locals ≡ []
+      → ClosesNext region s i old now (set now i w) p so
   thread_closes d w threads lt many t none =
       let x = t.did.does in
       let did = thread_did x in
@@ -297,7 +300,8 @@ module _ {region : SharedRegion} {s : Session} {i : ℕ} {old now : List Worker}
       }
 
   -- The keeper of the worker at place j lowered its guards.
-  module _ (j : ℕ) (d w : Worker) (keeper after : Keeper) (threads : s.threads ≡ length old) (at : i ≡ s.threads + j) (lt : j < length old) (many : length now ≡ length old)
+  module _ (j : ℕ) (d w : Worker) (keeper after : Keeper) (threads : s.threads ≡ length old) (at : i ≡ s.threads + j) (lt : j < length old)
+      (many : length now ≡ length old)
       (all : s.keepers ≡ length old)
       (had : (get_or now j d).keeper ≡ Some keeper) (but : IsButKeeper (get_or now j d) w) (lowered : w.keeper ≡ Some after)
       (did : KeeperLowered region s.profile (s.threads + suc j) keeper after no_more q) where
@@ -385,13 +389,15 @@ none_has : {keepers : ℕ} (workers : List Worker) (j : ℕ) (d : Worker) → j 
 none_has workers j d lt (inl all) is = let has = all.1 j d lt in absurd (let bad : None ≡ Some has.0 = sym is ∙ has.1 in cc)
 none_has workers j d lt (inr none) is = none
 
-pub settles_begin : {region : SharedRegion} {s : Session} {slot : Option SharedPass} {old : List Worker} {before : Whole} {p : Progress} → WorkersRest region s [] old p
+pub settles_begin : {region : SharedRegion} {s : Session} {slot : Option SharedPass} {old : List Worker} {before : Whole} {p : Progress}
+    → WorkersRest region s [] old p
     → ActorsStand region s slot old p.list → StandSo s before p.list → ClosedSo region s 0 old old before before p
 unfolding closes_begin
 settles_begin {s = s} rest stand stood = record { closing = closes_begin rest; went = went_none s stood stand.nobody }
 
 -- Once it is settled behind one more act, one more stage is behind it.
-pub settles_next : {region : SharedRegion} {s : Session} {slot : Option SharedPass} {i : ℕ} {old now new : List Worker} {before after settled : Whole} {p : Progress}
+pub settles_next : {region : SharedRegion} {s : Session} {slot : Option SharedPass} {i : ℕ} {old now new : List Worker} {before after settled : Whole}
+    {p : Progress}
     (so : ClosedSo region s i old now before after p) (n : ClosesNext region s i old now new p so.closing) → length now ≡ length old → length new ≡ length old
     → ActorsStand region s slot old p.list → IsEarlier after settled → StandSo s settled n.next.came.reached.list → ClosedSo region s (i + 1) old new before settled p
 settles_next {s = s} {i = i} {before = before} {settled = settled} {p} so n many many2 at earlier stood = record {
@@ -401,7 +407,8 @@ settles_next {s = s} {i = i} {before = before} {settled = settled} {p} so n many
       (went_both so.went (went_alone s (n.act ∷ []) n.reaches earlier (closed_stand so.closing many at).nobody (closed_stand n.next many2 at).nobody so.went.stand stood));
 }
 
-pub settles_pass : {region : SharedRegion} {s : Session} {i : ℕ} {old now : List Worker} {before after : Whole} {p : Progress} → ClosedSo region s i old now before after p
+pub settles_pass : {region : SharedRegion} {s : Session} {i : ℕ} {old now : List Worker} {before after : Whole} {p : Progress}
+    → ClosedSo region s i old now before after p
     → AreGuarded s.keepers old → length now ≡ length old → s.threads ≡ length old → s.threads ≤ i → i < s.threads + s.threads
     → ((d : Worker) → (get_or now (i - s.threads) d).keeper ≡ None)
     → ClosedSo region s (i + 1) old now before after p

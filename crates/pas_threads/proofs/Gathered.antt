@@ -81,7 +81,9 @@ module _ {region : SharedRegion} {s : Session} {ops left : List Op} {said : List
 
     -- .. and then for what is owed, and the operations and marks that are left
     pub room_left : (out' : Records) → records_in out' ≡ records_in out ++ (said_by_all new ++ said_by_keepers new) → room_of out' ≡ room_of out
-        → length (records_in out') + (owed_by s.profile q s.threads + owed_by_keepers s.profile s.threads owing q s.threads + records_of_ops (planned s) left + marks) ≤ room_of out'
+        → length (records_in out') +
+        (owed_by s.profile q s.threads + owed_by_keepers s.profile s.threads owing q s.threads + records_of_ops (planned s) left + marks)
+        ≤ room_of out'
     room_left out' pushed size =
         let own = ap length own_said in
         let now = ap length pushed ∙ length-append (records_in out) (said_by_all new ++ said_by_keepers new) in

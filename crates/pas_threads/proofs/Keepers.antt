@@ -340,7 +340,8 @@ guarded_alike old new many alike (inr none) = inr (
 
 -- ---- what it said in all
 -- What a keeper said is the same where its records are.
-pub pushed_alike : (k : ℕ) (said told : List Record) (old new : Keeping) → records_by k said ≡ records_by k told → KeptPushed k said old new → KeptPushed k told old new
+pub pushed_alike : (k : ℕ) (said told : List Record) (old new : Keeping) → records_by k said ≡ records_by k told → KeptPushed k said old new
+    → KeptPushed k told old new
 pushed_alike k said told NoKeeper NoKeeper same pushed = sym same ∙ pushed
 pushed_alike k said told NoKeeper (OneKeeper new) same pushed = pushed
 pushed_alike k said told (OneKeeper old) NoKeeper same pushed = pushed

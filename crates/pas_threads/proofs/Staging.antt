@@ -100,7 +100,8 @@ of_each_actor {threads} Is scavenger thread keeper (suc i) le = elim (cases_lt i
 ]
 
 -- There are as many workers with a keeper as keepers.
-pub some_keeper : {keepers : ℕ} (workers : List Worker) (j : ℕ) → j < keepers → AreGuarded keepers workers → (w : Worker) × (j < length workers) × HasKeeper (get_or workers j w)
+pub some_keeper : {keepers : ℕ} (workers : List Worker) (j : ℕ) → j < keepers → AreGuarded keepers workers
+    → (w : Worker) × (j < length workers) × HasKeeper (get_or workers j w)
 some_keeper workers j lt (inr none) = absurd (omega (arith, none.0, lt))
 some_keeper workers j lt (inl all) = let below : j < length workers = omega (arith, lt, all.0) in let w = some_item workers j below in (w, below, all.1 j w below)
 

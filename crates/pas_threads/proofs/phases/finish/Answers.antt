@@ -29,7 +29,8 @@ module _ (c : After-close_all) where
 
   -- All actors made their acts of the close.
   closed : (s : Session) (p : Progress) → TeamAt c.args.region.now s [] c.args.team p → StandSo s (so_far c.args.ledger.now) p.list
-      → ClosedSo c.args.region.now s (length c.args.team.threads.items + length c.args.team.threads.items) c.args.team.threads.items c.close_all.new.threads (so_far c.args.ledger.now) (so_far c.close_all.new.ledger) p
+      → ClosedSo c.args.region.now s (length c.args.team.threads.items + length c.args.team.threads.items) c.args.team.threads.items c.close_all.new.threads
+      (so_far c.args.ledger.now) (so_far c.close_all.new.ledger) p
   closed s p at stood = subst (λ ws. ClosedSo c.args.region.now s (length ws + length ws) ws c.close_all.new.threads (so_far c.args.ledger.now) (so_far c.close_all.new.ledger) p) c.deref_mut.ensures.value
       (c.close_all.ensures.closed s p (rest c.deref_mut.result.now c.deref_mut.ensures.value at) (stand c.deref_mut.result.now c.deref_mut.ensures.value at) stood)
 
