@@ -1,6 +1,7 @@
 pub mod Statuses
 pub mod Headline
 mod Telling
+mod AskedDirectories
 mod Passes
 mod Requests
 pub mod Whole

@@ -1,21 +1,18 @@
 -- Requests, frees, blocks that get another size, and requests that are guarded: deeds and backs, and then the give of its block or a refusal, which is true.
 use Rattle.std.proofs.Common.{arith, ◌≡◌, ℕ, ◌/◌, Bool, true, false, List, [], ◌∷◌, ◌++◌, Option, Some, None, Result, Ok, Err, inl, inr, refl, ap, sym, ◌∙◌}
 use Rattle.std.proofs.Common.{subst, append-nil, MatchResult, ◌%◌, ◌||◌, map, nat_le, length, eq-eqb, le-leb, leb-true, ne_eqb, ◌⊎◌, append_assoc, reverse}
-use Rattle.std.proofs.Common.{MatchOption, ◌+◌, ◌*◌, ◌≢◌}
+use Rattle.std.proofs.Common.{MatchOption, ◌+◌, ◌*◌}
 use Rattle.std.specs.List.{AllByRecursion}
 use Rattle.pas_bits.specs.Runs.{in_run}
-use Rattle.pas_profile.specs.{Blocks.grain_of, Blocks.length_of, Blocks.address_of, Directories.IsKind, Directories.deed_word_of, Profiles.IsValid}
-use Rattle.pas_profile.specs.{Profiles.IsPage, Requests.is_shared, Requests.kind_of_route, Requests.route_in, Entries.sized_entry, Entries.entry_of}
-use Rattle.pas_profile.specs.{Guards.raised_by}
+use Rattle.pas_profile.specs.{Blocks.grain_of, Blocks.length_of, Blocks.address_of, Profiles.IsValid, Profiles.IsPage, Requests.route_in, Entries.sized_entry}
+use Rattle.pas_profile.specs.{Entries.entry_of, Guards.raised_by}
 use Rattle.pas_profile.specs.declared.{directory.Directory.Directory, directory.Route.Route, event.Event.Event, event.NoRoom.NoRoom}
 use Rattle.pas_profile.specs.declared.{event.NoRoom.TheVariants.Held, event.NoRoom.TheVariants.NoSpace, name.Block.Block, name.Name.Name}
 use Rattle.pas_profile.specs.declared.{profile.Profile.Profile, word.Word.Word, event.FreeFault.FreeFault, entry.Entry.Entry, guard.Raised.Raised}
 use Rattle.pas_profile.specs.declared.{guard.Guard.Guard}
-use Rattle.pas_profile.proofs.{Sizes.class_known, Sizes.class_suits, Codecs.deed_word_of-positive, Codecs.same_from_deed_word}
 use Rattle.pas_machine.specs.{Machine.Run, State.deed_in}
-use Rattle.pas_core.specs.Good.{word_of_deed}
-use Rattle.pas_core.proofs.{Deeds.deed_of, Deeds.directory_is_of, Deeds.known_is, MachineRuns.runs, Rights.deeds_known, OneActor.legal_earlier}
-use Rattle.pas_steps.specs.{Desks.triples, Events.actor_of, Events.events_by, Views.KnowsDeed, Views.known_deed}
+use Rattle.pas_core.proofs.{MachineRuns.runs, OneActor.legal_earlier}
+use Rattle.pas_steps.specs.{Desks.triples, Events.actor_of, Events.events_by, Views.KnowsDeed}
 use Rattle.pas_steps.specs.Kinds.{LookLife, Backing, Giving, returning}
 use Rattle.pas_steps.specs.Lists.{Legal, Whole, part, visible, word_after}
 use Rattle.pas_steps.specs.declared.step.Made.{Made}
@@ -53,33 +50,9 @@ use Rattle.pas_calls.proofs.Telling.{LeadsOn, on_as, on_both, on_line, on_same, 
 use Rattle.pas_calls.proofs.Telling.{logs_with, table_same, own_at, put_twice, Comes, Tells, told_after, piece_of, AreBooked, booked_raise, booked_sweep}
 use Rattle.pas_calls.proofs.Telling.{after_piece}
 use Rattle.pas_calls.proofs.Passes.{swept_is, IsSwept, sweep_leads, up_after}
+use Rattle.pas_calls.proofs.AskedDirectories.{kind_asked, deed_told, deed_known}
 
 -- ---- A request: deeds and backs, and then the give of its block or a refusal, which is true
--- ---- the directory of a request
-kind_routed : (f : Profile) (size align : ℕ) (shared : Bool) (route : Route) → route_in f size align ≡ route → IsKind (kind_of_route shared route)
-kind_routed f size align shared route is = search (arith, class_known, class_suits)
-
--- The directory of each request has one of the kinds.
-kind_asked : (f : Profile) (r : Request) → IsKind (directory_of f r).kind
-kind_asked f r = kind_routed f r.size r.align (is_shared f r.heap) (route_in f r.size r.align) refl
-
-directory_told : (o : Option Directory) (d : Directory) → IsKind d.kind → ((x : Directory) → o ≡ Some x → IsKind x.kind) → word_of_deed o ≡ deed_word_of d
-    → o ≡ Some d
-directory_told None d is all word = absurd (deed_word_of-positive d (sym word))
-directory_told (Some x) d is all word = ap (λ y. Some y) (same_from_deed_word x d (all x refl) is word)
-
--- a deed word of this directory is the page's deed
-deed_told : (f : Profile) (l : Whole) (page : ℕ) (d : Directory) → Legal f l → IsKind d.kind → word_after l (Word.Deed page) ≡ deed_word_of d
-    → deed_in (visible l) page ≡ Some d
-deed_told f l page d legal is word = directory_told (deed_in (visible l) page) d is (λ x found. (directory_is_of f l legal page x found).kind) (sym (deed_of f l legal page) ∙ word)
-
--- A deed that a view knows is the one of the events.
-deed_known : (f : Profile) (l : Whole) (k page : ℕ) (d : Directory) → Legal f l → IsKind d.kind → KnowsDeed page d (part k l)
-    → deed_in (visible l) page ≡ Some d
-deed_known f l k page d legal is knows =
-    let some : known_deed (part k l) page ≢ 0 = λ none. deed_word_of-positive d (sym knows ∙ none) in
-    deed_told f l page d legal is (sym (known_is (known_deed (part k l) page) (word_after l (Word.Deed page)) (deeds_known f l legal k page) some) ∙ knows)
-
 -- ---- deeds and backs
 -- where the request goes on, after these events
 abbrev pub serving : Stand → ℕ → Request → Option Name → List Event → Stand
