@@ -65,11 +65,9 @@ module _ (plan : Plan) where
   work_own idle op work idles actor admitted guarded keeps = search (arith, chore_own)
 
   -- ---- what is asked for: what the profile admits, its region does
-  abbrev IsAdmittedHere : Request → Type 0
-  IsAdmittedHere r = IsAdmitted (region_of plan) r.size r.align r.heap
-
   -- by what sound work says of the request that it makes
-  work_admitted : (asked : List ℕ) (work : Work) → IsSoundWork plan.profile asked work → MatchOption (of_task request_of work) (Unit {0}) IsAdmittedHere
+  work_admitted : (asked : List ℕ) (work : Work) → IsSoundWork plan.profile asked work → MatchOption (of_task request_of work) (Unit {0})
+      (λ r. IsAdmitted (region_of plan) r.size r.align r.heap)
   work_admitted asked work sound = search arith
 
   -- .. and what is guarded is for whole pages

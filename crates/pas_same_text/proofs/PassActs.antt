@@ -219,16 +219,12 @@ module _ (f : Profile) (p : Progress) (w : World) (epoch : ℕ) (found : List (�
   below : (q : ℕ) → IsPage f q → q < bound
   below q of = omega (arith, of.1)
 
-  none_past : (q : ℕ) → suc f.pages ≤ q → hinted q ≡ false
-  none_past q low = false_from_ne_true (hinted q) (λ bit. let high = (hinted_page f p.list before.legal q bit).1 in omega (arith, high, low))
-
-  none_first : hinted 0 ≡ false
-  none_first = false_from_ne_true (hinted 0) (λ bit. let low = (hinted_page f p.list before.legal 0 bit).0 in omega (arith, low))
-
   pages_are : pages ≡ reverse (falling hinted bound)
   pages_are =
       filter_agree (is_hinted w) hinted same.pages.hinted (page_numbers f)
-      ∙ (rising hinted none_first f.pages ∙ ap reverse (sym (falling_skips hinted (suc f.pages) bound (omega arith) (λ q low high. none_past q low))))
+      ∙ (rising hinted (false_from_ne_true (hinted 0) (λ bit. let is = hinted_page f p.list before.legal 0 bit in omega (arith, is.0))) f.pages
+      ∙ ap reverse (sym (falling_skips hinted (suc f.pages) bound (omega arith)
+      (λ q low high. false_from_ne_true (hinted q) (λ bit. let is = hinted_page f p.list before.legal q bit in omega (arith, is.1, low))))))
 
   found_are : found ≡ map told pages
   found_are =

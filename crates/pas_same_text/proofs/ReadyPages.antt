@@ -100,9 +100,6 @@ module _ (k : ℕ) (d : Directory) (page : ℕ) where
   was_backed w is = ap (λ (t : Bool). if t then w else shows (Event.Back k page) w) is
 
   -- before the backing there is the deed alone, or nothing
-  back_there : (es : List Event) → backed_in (Event.Back k page ∷ es) page ≡ false → ⊥
-  back_there es none = true≢false (sym (ap (λ (t : Bool). if t then true else backed_in es page) (eq-eqb page page refl)) ∙ none)
-
   -- A page that has a deed and isn't backed had no backing before.
   deeded : (f : Profile) (es : List Event) (w : World) → AllAtPage k d page es → Run f (es ++ w.events) → deed_in (es ++ w.events) page ≢ None
       → backed_in (es ++ w.events) page ≡ false → deeds k d page w ≡ shown es w
@@ -113,7 +110,8 @@ module _ (k : ℕ) (d : Directory) (page : ℕ) where
       at e IsAtPage.Deeds may none =
           let empty : es ≡ [] = none_before f es w.events all.1 run.1 may.2 in
           unowned w (ap (λ (xs : List Event). deed_in (xs ++ w.events) page) (sym empty) ∙ may.2) ∙ ap (λ (xs : List Event). shows (Event.Deed k page d) (shown xs w)) (sym empty)
-      at e IsAtPage.Backs may none = absurd (back_there (es ++ w.events) none)
+      at e IsAtPage.Backs may none = absurd (true≢false
+          (sym (ap (λ (t : Bool). if t then true else backed_in (es ++ w.events) page) (eq-eqb page page refl)) ∙ none))
 
   -- THE PAGE IS READY: it got a deed and memory exactly where it had none
   readied : (f : Profile) (es : List Event) (w : World) → AllAtPage k d page es → Run f (es ++ w.events) → deed_in (es ++ w.events) page ≢ None

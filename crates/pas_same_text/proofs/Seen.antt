@@ -53,9 +53,6 @@ unfoldable pub seen : List ℕ → Result Seen TraceFault
 seen bytes = seen_by (parsed bytes)
 
 -- ---- the same in fewer steps: these numbers are counted in the list of live blocks and in the events
-abbrev begins_on : ℕ → Block → Bool
-begins_on page b = grain_of b.name / 256 == page
-
 abbrev is_give : TheEvent → Bool
 is_give (Event.Deed k p d) = false
 is_give (Event.Back k p) = false
@@ -75,7 +72,7 @@ is_end (Event.Reject k name why) = false
 abbrev counted_of : Profile → World → Seen
 counted_of f w = record {
   records = reverse w.records;
-  rows = flat_map (λ page. row_with w page (deed_in w.events page) (count_by (begins_on page) w.live) (free_on w page)) (page_numbers f);
+  rows = flat_map (λ page. row_with w page (deed_in w.events page) (count_by (λ (b : Block). grain_of b.name / 256 == page) w.live) (free_on w page)) (page_numbers f);
   totals = record (totals_of f w.events) { live = length w.live; given = count_by is_give w.events; ended = count_by is_end w.events };
 }
 
