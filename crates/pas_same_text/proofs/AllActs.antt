@@ -22,7 +22,7 @@ use Rattle.pas_core.specs.Rights.{parked_bit}
 use Rattle.pas_report.specs.Reports.{machine_pages, report_text}
 use Rattle.pas_answers.specs.{Indexes.indexes_after_all, Reaching.Reaches, Rests.AllAtRest, Ways.InOrder}
 use Rattle.pas_answers.specs.Replays.{at_start, threads_of, acts_of_plan, IsReplay}
-use Rattle.pas_same_text.proofs.{EntrySteps.read_deed, SameIndexes.act_many, SameIndexes.start_indexes, OneAct.act_same, SeatedActs.seated_next}
+use Rattle.pas_same_text.proofs.{EntrySteps.read_deed, CacheLists.act_many, CacheLists.start_indexes, OneAct.act_same, SeatedActs.seated_next}
 use Rattle.pas_same_text.proofs.{SeatedActs.stamped_kept, KeepersRest.between_from, UsableBlocks.act_usable, TextOfBytes.bytes_told, TextOfBytes.region_same}
 use Rattle.pas_answers.proofs.Reached.{was_so}
 use Rattle.pas_answers.proofs.EachAct.{all_front, all_back, all_of, all_of_chore}
@@ -78,11 +78,8 @@ module _ (plan : Plan) where
       → MatchOption (request_of task) (Unit {0}) IsLargeHere
   task_large asked (Task.Request name heap size align) sound k is = cc
   task_large asked (Task.Guarded keeper name heap size align) sound k is = sym (large_for (region_of plan).classes size align sound.2)
-  task_large asked (Task.Free name room) sound k is = tt
-  task_large asked (Task.FreeRaw block room) sound k is = tt
   task_large asked (Task.Remake name old heap size align) sound k is = cc
-  task_large asked Task.Flush sound k is = tt
-  task_large asked Task.Stop sound k is = tt
+  task_large asked task sound k is = tt
 
   work_large : (asked : List ℕ) (work : Work) → IsSoundWork plan.profile asked work → (k : ℕ) → of_task keeper_of work ≡ Some k
       → MatchOption (of_task request_of work) (Unit {0}) IsLargeHere

@@ -4,8 +4,8 @@ use Rattle.std.proofs.Common.{sym, ◌∙◌, subst, append_assoc, arith, append
 use Rattle.pas_trace.specs.declared.plan.What.TheVariants.{Flush, Stop}
 use Rattle.pas_answers.specs.Answers.{suits, IsFlushed, after_stop}
 use Rattle.pas_same_text.specs.{State.names_it, Passes.stops_idle}
-use Rattle.pas_same_text.proofs.{CacheLists.same_own, CacheLists.same_with, CacheLists.same_again, StopActs.flush_same, StopActs.stop_same}
-use Rattle.pas_same_text.proofs.{SameIndexes.same_many, SameIndexes.flushes_keep}
+use Rattle.pas_same_text.proofs.CacheLists.{same_own, same_with, same_again, same_many, flushes_keep}
+use Rattle.pas_same_text.proofs.StopActs.{flush_same, stop_same}
 use Rattle.pas_same_text.proofs.SmallActs.{unchanged, pages_next, says_same, cache_state, after_with, said_same, page_inside, freed_is, refused_same}
 use Rattle.pas_same_text.proofs.SmallActs.{freed_same, asks, name_freed}
 use Rattle.pas_same_text.proofs.Common.{false≢true, nat_tests, IsValid, Block, Name, Profile, events_by, part, visible, View, Made, Entry, TakesEntry}
@@ -223,9 +223,8 @@ remade_as f k name o said p p' w a same reached steps cache is names =
 
 -- of reallocations those that do nothing: the block suits as it is, or the old name stands for none
 abbrev pub IsIdleRemake : ℕ → ℕ → Option (Option Block) → Type 0
-IsIdleRemake size align None = Unit {0}
-IsIdleRemake size align (Some None) = Unit {0}
 IsIdleRemake size align (Some (Some old)) = suits old size align ≡ true
+IsIdleRemake size align meant = Unit {0}
 
 -- A reallocation that makes no request, as the block is kept or its name was refused, leads the text to the replay's state.
 pub remakes_idly : (f : Profile) (k name size align : ℕ) (meant : Option (Option Block)) (p p' : Progress) (w : World) (a : Answer)

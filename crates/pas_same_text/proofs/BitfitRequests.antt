@@ -8,7 +8,7 @@ use Rattle.pas_bitfit.specs.Runs.{fewer_runs, run_at, runs as run_choice}
 use Rattle.pas_cache.proofs.Routes.{bitfit_room, may_search_bitfit}
 use Rattle.pas_same_text.specs.Runs.{bitfit_of, gives_place, places}
 use Rattle.pas_same_text.proofs.{PlacesFit.bitfit_fits, PlacesFit.lowest_is, CacheLists.same_kept, CacheLists.kept_at, SmallActs.after_with, SmallActs.asks}
-use Rattle.pas_same_text.proofs.{Pieces.has_same, ReadyPages.shown, ReadyPages.shown_rest, SearchedPages.refused_same, SearchedPages.find_none}
+use Rattle.pas_same_text.proofs.{Pieces.has_same, RunsFound.shown, RunsFound.shown_rest, SearchedPages.refused_same, SearchedPages.find_none}
 use Rattle.pas_same_text.proofs.{SearchedPages.refused_to}
 use Rattle.pas_same_text.proofs.GivenBlocks.{GivesBlock, page_chosen, page_ready, page_given}
 use Rattle.pas_same_text.proofs.CachedSlots.{HasAsked, answer_reached, by_route, request_taken}

@@ -118,13 +118,11 @@ module _ (f : Profile) (k name : ℕ) (p : Progress) (w : World) (s s' : Slots) 
   has_same : HasSame f (given_to p k name block answer page start word c') to
   has_same = search (arith, block_is, same_with, cache_same)
 
-  before_same : HasSame f p w
-  before_same = record { events = g.same.pages.events; live = g.same.pages.live; caches = g.same.caches; guards = g.same.guards }
-
   free_kept : (q b : ℕ) → b < 256 → is_free to q b ≡ is_free w q b
   free_kept q b small =
       free_same f (given_to p k name block answer page start word c') to g.valid g.after has_same q b small
-      ∙ sym (free_same f p w g.valid g.between before_same q b small)
+      ∙ sym (free_same f p w g.valid g.between
+      (record { events = g.same.pages.events; live = g.same.pages.live; caches = g.same.caches; guards = g.same.guards }) q b small)
 
   open_kept : (d : Directory) (q : ℕ) → is_open to d q ≡ is_open w d q
   open_kept d q = search (arith, free_kept, each_same)

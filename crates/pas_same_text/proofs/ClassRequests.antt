@@ -8,7 +8,7 @@ use Rattle.pas_cache.specs.Serves.{took_in}
 use Rattle.pas_same_text.specs.Classes.{local_on}
 use Rattle.pas_same_text.proofs.{PlacesFit.class_fits, PlacesFit.read_unguarded, SmallActs.after_with, SmallActs.asks, MadePlace.all_left}
 use Rattle.pas_same_text.proofs.{TakenSince.shared_row, TakenSince.right_kept, TakenSince.exclusive_free, TakenSlots.all_taken, TakenSlots.row_taken}
-use Rattle.pas_same_text.proofs.{TakenSlots.slots_rise, Tests.and_first, Tests.or_none, Pieces.has_same, ReadyPages.shown, ReadyPages.shown_rest, OneUp.up_to}
+use Rattle.pas_same_text.proofs.{TakenSlots.slots_rise, Tests.and_first, Tests.or_none, Pieces.has_same, RunsFound.shown, RunsFound.shown_rest, MadePlace.up_to}
 use Rattle.pas_same_text.proofs.FetchedClasses.{HasPlace, may_fetch, class_served_by, fetched_so, class_refused, IsFetched, with_place, place_fetched}
 use Rattle.pas_same_text.proofs.FetchedClasses.{text_fetched, fetch_between, fetch_carried}
 use Rattle.pas_same_text.proofs.CachedSlots.{text_locals, HasHead, head_of, cached_answered, HasAsked, answer_reached, request_taken}

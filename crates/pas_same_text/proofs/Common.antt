@@ -28,8 +28,8 @@ pub use Rattle.pas_free_log.specs.{Endings.IsEndOf, Endings.reason_for, Frames.e
 pub use Rattle.pas_free_log.specs.Flushes.{AfterEnd, EntrySteps, Settled, event_for, noted_after, noted_for, shown_for}
 pub use Rattle.pas_free_log.specs.declared.{ending.Outcome.TheVariants.Ended, ending.Outcome.TheVariants.Refused, noting.EndedRun.EndedRun}
 pub use Rattle.pas_guard.specs.Books.{Each, FitsBook, is_outer, is_outer_of}
-pub use Rattle.pas_guard.specs.{Guards.left_last_first, Keepers.IsBeside, Raises.IsRaised, Raises.guard_of, Seeks.HasSpan, Seeks.SoughtNone, Seeks.seeking}
-pub use Rattle.pas_guard.specs.{Sweeps.SweepSteps, Sweeps.sweeping}
+pub use Rattle.pas_guard.specs.{Guards.left_last_first, Keepers.IsBeside, Raises.guard_of, Seeks.HasSpan, Seeks.SoughtNone, Seeks.seeking, Sweeps.SweepSteps}
+pub use Rattle.pas_guard.specs.{Sweeps.sweeping}
 pub use Rattle.pas_large.proofs.{Claims.span_in, Finds.MadeOf, Left.hints_both, Left.only_leaves, Told.looks_same, Told.lowest_alone, Told.never_fails}
 pub use Rattle.pas_large.specs.{Allocates.IsScanned, Allocates.IsServedNamed, Claims.in_span, Doors.Indexes, Doors.found_in, Doors.no_ranges}
 pub use Rattle.pas_large.specs.{Evidence.DeedsRise, Finds.MayFind, Finds.finding, Gives.BackStep, Gives.pages_from, Gives.run_block, Pages.GotPages}

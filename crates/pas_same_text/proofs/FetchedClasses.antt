@@ -13,11 +13,10 @@ use Rattle.pas_same_text.proofs.Common.{serves_class, takes_page, IsSame, IsSame
 use Rattle.pas_same_text.proofs.Common.{refused_told}
 use Rattle.std.proofs.Common.{◌≡◌, ℕ, ◌≤◌, ◌<◌, nat_le, Bool, true, false, ◌||◌, List, [], ◌∷◌, ◌++◌, length, Option, None, Some, Result, refl, ap, sym, ◌∙◌}
 use Rattle.std.proofs.Common.{subst, append-nil, append_assoc, arith, true≢false, eq-eqb, Ok, Err, inl, inr}
-use Rattle.pas_same_text.proofs.CacheLists.{same_own, same_again, Finds, found_same}
-use Rattle.pas_same_text.proofs.{SmallActs.after_with, SeatedActs.cached_again, SeatedActs.middle_rest, OneUp.up_to, SameIndexes.same_many}
-use Rattle.pas_same_text.proofs.{SameIndexes.given_up_keeps, SameIndexes.first_up_keeps, BitfitRequests.none_searched, PlacesFit.class_fits, Pieces.has_same}
-use Rattle.pas_same_text.proofs.{SearchedPages.refused_to, SearchedPages.refused_same, CachedSlots.HasAsked, CachedSlots.answer_reached}
-use Rattle.pas_same_text.proofs.MadePlace.{placed_by, place_made, none_same, most_left, known_found}
+use Rattle.pas_same_text.proofs.CacheLists.{same_own, same_again, Finds, found_same, same_many, given_up_keeps, first_up_keeps}
+use Rattle.pas_same_text.proofs.{SmallActs.after_with, SeatedActs.cached_again, SeatedActs.middle_rest, BitfitRequests.none_searched, PlacesFit.class_fits}
+use Rattle.pas_same_text.proofs.{Pieces.has_same, SearchedPages.refused_to, SearchedPages.refused_same, CachedSlots.HasAsked, CachedSlots.answer_reached}
+use Rattle.pas_same_text.proofs.MadePlace.{up_to, placed_by, place_made, none_same, most_left, known_found}
 
 -- the text once place was made for a local allocator of the heap and class
 abbrev pub with_place : ℕ → ℕ → ℕ → World → World

@@ -174,9 +174,6 @@ module _ (f : Profile) (k epoch : ℕ) (s : Settled) (piece : List Made) (l : Wh
     rejected_text : x ≡ rejects k s.entry.name (reason_for s.entry read) v
     rejected_text = reject_text f k s.entry v live (reason_for s.entry read) run_after.1 run_rejected.0.1 (reason_is s.entry read)
 
-    rejected_shown : IsShown (Event.Reject k s.entry.name (reason_for s.entry read)) v x
-    rejected_shown = reject_shown f k s.entry v live (reason_for s.entry read) run_after.1 run_rejected.0.1 (reason_is s.entry read)
-
     no_mark : (q : ℕ) → IsMarked q piece → ⊥
     no_mark q mark = search (arith, after_marked)
 
@@ -189,7 +186,8 @@ module _ (f : Profile) (k epoch : ℕ) (s : Settled) (piece : List Made) (l : Wh
 
   taken_by : (o : Outcome) → s.outcome ≡ o → IsShown (event_for k epoch s.entry o) v x × IsTakenBy f k s piece v x (own_then s v k)
   taken_by (Ended grains) outcome = (ended_shown grains outcome, ended_taken grains outcome)
-  taken_by (Refused read) outcome = (rejected_shown read outcome, rejected_taken read outcome)
+  taken_by (Refused read) outcome =
+      (reject_shown f k s.entry v live (reason_for s.entry read) run_after.1 (run_rejected read outcome).0.1 (reason_is s.entry read), rejected_taken read outcome)
 
 -- ---- the marks so far
 still_ended : (es fs gs : List Event) (ps qs : List ℕ) (q : ℕ) → ((a : ℕ) → live_in fs a ≡ None → live_in gs a ≡ None) → IsEndedOn es fs ps q

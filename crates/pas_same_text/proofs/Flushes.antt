@@ -85,12 +85,9 @@ module _ (f : Profile) (k : ℕ) (entry : Entry) (w : World) (live : w.live ≡ 
 
   -- A logged free shows in the text just the event that the machine allows it.
   pub entry_shown : (e : Event) → Run f (e ∷ w.events) → IsEntryEvent k entry w e → IsShown e w (ends f k entry w)
-  entry_shown (Event.Deed j q d) run is = absurd is
-  entry_shown (Event.Back j q) run is = absurd is
-  entry_shown (Event.Unback j q e) run is = absurd is
-  entry_shown (Event.Give j block) run is = absurd is
   entry_shown (Event.End j name e) run is = search (arith, end_shown)
   entry_shown (Event.Reject j name why) run is = search (arith, reject_shown)
+  entry_shown e run is = absurd is
 
 -- ==== What a flush shows: one event for each logged free, in the order of the log.
 -- ---- one
@@ -117,8 +114,6 @@ pub flush_shown : (f : Profile) (k epoch : ℕ) (entries : List Entry) (outcomes
     → are_unsized entries ≡ true → w.live ≡ lives_in w.events → w.epoch ≡ epoch
     → Run f (onto (events_of_flush k epoch entries outcomes) w.events) → HasShown (events_of_flush k epoch entries outcomes) w (each (ends f k) entries w)
 flush_shown f k epoch [] [] w pairs unsized live now run = record { events = refl; live = live; names = refl; epoch = refl }
-flush_shown f k epoch [] (o ∷ outcomes) w pairs unsized live now run = absurd pairs
-flush_shown f k epoch (entry ∷ entries) [] w pairs unsized live now run = absurd pairs
 flush_shown f k epoch (entry ∷ entries) (o ∷ outcomes) w pairs unsized live now run =
     let e : Event = event_for k epoch entry o in
     let evs : List Event = events_of_flush k epoch entries outcomes in
@@ -130,6 +125,7 @@ flush_shown f k epoch (entry ∷ entries) (o ∷ outcomes) w pairs unsized live 
     let more : HasShown evs v (each (ends f k) entries v) =
     flush_shown f k epoch entries outcomes v pairs rest alive (one.epoch ∙ now) (subst (λ (es : List Event). Run f (onto evs es)) (sym one.events) run) in
     assumption (more.events ∙ ap (onto evs) one.events, more.names ∙ one.names, more.epoch ∙ one.epoch)
+flush_shown f k epoch entries outcomes w pairs unsized live now run = absurd pairs
 
 -- ==== The events of a flush, by its steps and in the text.
 -- ---- lists

@@ -73,13 +73,10 @@ given_one f k block es p may some older (inr more) = let o = older more in there
 -- a block in the list lives, at its address
 pub lives_so : (f : Profile) (es : List Event) (p : Block → Bool) → Run f es → list_any p (lives_in es) ≡ true → LivesSo es p
 lives_so f [] p run h = absurd (false≢true h)
-lives_so f (Event.Deed k q d ∷ es) p run h = still (Event.Deed k q d) es p (lives_so f es p run.1 h) refl
-lives_so f (Event.Back k q ∷ es) p run h = still (Event.Back k q) es p (lives_so f es p run.1 h) refl
-lives_so f (Event.Unback k q e ∷ es) p run h = still (Event.Unback k q e) es p (lives_so f es p run.1 h) refl
 lives_so f (Event.Give k block ∷ es) p run h = given_one f k block es p run.0 (some_grain block.room run.0.whole run.0.some) (lives_so f es p run.1) (or_cases (p block) _ h)
 lives_so f (Event.End k name e ∷ es) p run h =
     ended k name e es p (lives_so f es (λ x. not (is_at (address_of name) x) && p x) run.1 (any_filtered p (λ x. not (is_at (address_of name) x)) _ h))
-lives_so f (Event.Reject k name why ∷ es) p run h = still (Event.Reject k name why) es p (lives_so f es p run.1 h) refl
+lives_so f (e ∷ es) p run h = still e es p (lives_so f es p run.1 h) refl
 
 -- ---- from the machine to the list: the block at an address
 abbrev pub block_of_live : Option Live → Option Block
@@ -95,12 +92,9 @@ module _ (a c : ℕ) where
 -- The first block of the list at an address is the one that lives there.
 pub found_is : (es : List Event) (a : ℕ) → find (is_at a) (lives_in es) ≡ block_of_live (live_in es a)
 found_is [] a = refl
-found_is (Event.Deed k q d ∷ es) a = found_is es a
-found_is (Event.Back k q ∷ es) a = found_is es a
-found_is (Event.Unback k q e ∷ es) a = found_is es a
 found_is (Event.Give k block ∷ es) a = let ih = found_is es a in grind (arith, ih)
 found_is (Event.End k name e ∷ es) a = let ih = found_is es a in let out = found_out a (address_of name) (lives_in es) in grind (arith, ih, out)
-found_is (Event.Reject k name why ∷ es) a = found_is es a
+found_is (e ∷ es) a = found_is es a
 
 found_any : (p q : Block → Bool) (xs : List Block) (b : Block) → find q xs ≡ Some b → p b ≡ true → list_any p xs ≡ true
 found_any p q [] b is so = absurd (none-some b is)
@@ -329,9 +323,8 @@ keeps_page page l = (l.page == page) && l.keeps
 
 all_kept : (slots : List Slots) (locals : List Local) (page : ℕ) → AreSameLocals slots locals → list_any (keeps_page page) locals ≡ any_keeps slots page
 all_kept [] [] page same = refl
-all_kept [] (l ∷ locals) page same = absurd same
-all_kept (s ∷ slots) [] page same = absurd same
 all_kept (s ∷ slots) (l ∷ locals) page same = search (arith, and_comm, all_kept slots locals page same.1)
+all_kept slots locals page same = absurd same
 
 module _ (f : Profile) (p : Progress) (w : World) (valid : IsValid f) (between : IsBetween f p) (same : HasSame f p w) where
   cache_keeps : (k page : ℕ) → IsThread f k → list_any (keeps_page page) (cache_in w.caches k).locals ≡ has_right (part k p.list) page

@@ -9,8 +9,8 @@ use Rattle.pas_same_text.proofs.Common.{list_any, filter, IsPage, grain_of, leng
 use Rattle.pas_same_text.proofs.Common.{is_outer, Guard, World, each, Local, is_at, shows, cache_of, noted_of, is_guarded, minds, is_free, is_empty, is_hinted}
 use Rattle.pas_same_text.proofs.Common.{page_numbers, is_covered, is_cached, blocks_on, locals_on, lowers, raised_by, has_number, lives_in, notes, pages_of}
 use Rattle.pas_same_text.proofs.Common.{ends_block, rejects, meets_page, in_run, backed_in, Run, Live, live_in, numbers_from, same_truth, EndedRun}
-use Rattle.pas_same_text.proofs.{FreeGrains.has_outer, FreeGrains.LivesSo, FreeGrains.lives_so, SmallActs.records_next, SameIndexes.same_guards}
-use Rattle.pas_same_text.proofs.{SameIndexes.minds_keep, CacheLists.all_locals, CacheLists.locals_with}
+use Rattle.pas_same_text.proofs.{FreeGrains.has_outer, FreeGrains.LivesSo, FreeGrains.lives_so, SmallActs.records_next}
+use Rattle.pas_same_text.proofs.CacheLists.{same_guards, minds_keep, all_locals, locals_with}
 use Rattle.pas_same_text.proofs.Tests.{and_first, and_second, any_filtered, filtered_any, any_weaker, any_split, filtered_has, has_filtered}
 
 -- ==== What the text does where grains come back to pages: which grains are free then, and which pages are hinted.
@@ -52,12 +52,10 @@ each_all (suc n) from test all =
 abbrev pub free_with : List Block → List Local → ℕ → ℕ → Bool
 free_with live locals page b = is_free_of (filter (λ x. meets_page (grain_of x.name) (length_of x) page) live) (filter (λ l. l.page == page) locals) page b
 
-free_is : (w : World) (page b : ℕ) → is_free w page b ≡ free_with w.live (all_locals w.caches) page b
-free_is w page b = refl
-
 -- With the same live blocks and local allocators, the same grains of a page are free.
 pub free_kept : (w v : World) (page b : ℕ) → v.live ≡ w.live → all_locals v.caches ≡ all_locals w.caches → is_free v page b ≡ is_free w page b
-free_kept w v page b live locals = search (arith, free_is)
+free_kept w v page b live locals =
+    ap (λ (bs : List Block). free_with bs (all_locals v.caches) page b) live ∙ ap (λ (ls : List Local). free_with w.live ls page b) locals
 
 -- A page with the same free grains is as empty as before.
 pub empty_kept : (w v : World) (page : ℕ) → ((b : ℕ) → b < 256 → is_free v page b ≡ is_free w page b) → is_empty v page ≡ is_empty w page
@@ -140,10 +138,6 @@ numbers_have : (n from page : ℕ) → from ≤ page → page < from + n → has
 numbers_have zero from page low high = absurd (omega (arith, low, high))
 numbers_have (suc n) from page low high = let ih = numbers_have n (from + 1) page in grind (arith, nat_tests, ih)
 
--- A number among those of the region's pages is a page of the region.
-page_within : (f : Profile) (page : ℕ) → has_number (page_numbers f) page ≡ true → IsPage f page
-page_within f page h = let at = numbers_within f.pages 1 page h in (at.0, omega (arith, at.1))
-
 -- Each page of the region is among the numbers of its pages.
 pub page_there : (f : Profile) (page : ℕ) → IsPage f page → has_number (page_numbers f) page ≡ true
 page_there f page of = numbers_have f.pages 1 page of.0 (omega (arith, of.1))
@@ -206,7 +200,8 @@ module _ (f : Profile) (k : ℕ) (name : Name) (b : Live) (w : World) (run : Run
   -- Where a block ends, its grains come back to its pages, and no other page changes.
   pub ended_returns : Returns f (pages_of f b.block) w (ends_block f k name b.block w)
   ended_returns = minded_last f (pages_of f b.block) w after
-      (λ page h. page_within f page (filtered_has (meets_page (grain_of b.block.name) (length_of b.block)) (page_numbers f) page h).1)
+      (λ page h. let at = numbers_within f.pages 1 page (filtered_has (meets_page (grain_of b.block.name) (length_of b.block)) (page_numbers f) page h).1 in
+      (at.0, omega (arith, at.1)))
       (λ page. refl)
       (λ page g small h.
       cc (cached_same page g, freed_more _ _ _ (fewer page g) h))

@@ -11,9 +11,9 @@ use Rattle.pas_same_text.proofs.Pieces.{rest_leaves}
 use Rattle.std.proofs.Common.{◌≡◌, ℕ, ◌+◌, ◌*◌, ◌/◌, ◌<◌, ◌==◌, Bool, true, false, if◌then◌else◌, List, [], ◌∷◌, ◌++◌, reverse, Some, ◌⊎◌, inl, inr, refl, ap}
 use Rattle.std.proofs.Common.{sym, ◌∙◌, subst, eq-eqb, eqb-true, ne_eqb, zero, suc, None, Ok, append-nil, ◌≤◌, arith}
 use Rattle.pas_same_text.proofs.{CachedSlots.block_of, StopActs.events_recorded, Flushes.visible_steps, FreeGrains.free_uncovered, FreeGrains.guards_as}
-use Rattle.pas_same_text.proofs.{RunsFound.deeds_of, SmallActs.after_with, SearchedPages.deed_chosen, SearchedPages.offered_chosen, RestingPages.word_known}
+use Rattle.pas_same_text.proofs.{SmallActs.after_with, SearchedPages.deed_chosen, SearchedPages.offered_chosen, RestingPages.word_known}
+use Rattle.pas_same_text.proofs.RunsFound.{deeds_of, shown, shown_events, shown_records, shown_lives, shown_rest, IsAtPage, AllAtPage, search_at, given_ready}
 use Rattle.pas_same_text.proofs.StepMarks.{epoch_stays_by, HintsPage, at_bare, at_unbacked, once_parts}
-use Rattle.pas_same_text.proofs.ReadyPages.{shown, shown_events, shown_records, shown_lives, shown_rest, IsAtPage, AllAtPage, search_at, given_ready}
 
 -- ---- events that make pages ready
 -- a deed of the directory, of one of these pages, or a backing

@@ -13,11 +13,11 @@ use Rattle.pas_same_text.proofs.StepMarks.{IsMarked, HintsPage, seeks_unbacked, 
 use Rattle.std.proofs.Common.{[], Some, ◌⊎◌, ◌≤◌, ◌≡◌, ℕ, ◌+◌, ◌*◌, ◌/◌, Bool, true, false, ◌||◌, if◌then◌else◌, List, ◌∷◌, ◌++◌, inl, inr, refl, ap, sym, ◌∙◌}
 use Rattle.std.proofs.Common.{subst, arith, append_assoc, true≢false}
 use Rattle.pas_large.proofs.{Claims.in_parts, Gives.run_is, Left.only_backs}
-use Rattle.pas_same_text.proofs.{Flushes.legal_between, Flushes.visible_steps, Tests.on_page, RestingPages.word_known, ReadyPages.shown}
-use Rattle.pas_same_text.proofs.{ReadyPages.shown_events, MissedGuards.each_listed, MissedGuards.unlisted_bare}
+use Rattle.pas_same_text.proofs.{Flushes.legal_between, Flushes.visible_steps, Tests.on_page, RestingPages.word_known, MissedGuards.each_listed}
+use Rattle.pas_same_text.proofs.{MissedGuards.unlisted_bare}
+use Rattle.pas_same_text.proofs.RunsFound.{shown, shown_events, each_in_turn, shown_both, deeded, deeded_events, deeds_of, backs_in_turn}
 use Rattle.pas_same_text.proofs.Pieces.{IsPiece, UsesOnly, hinted_before, piece_pages, uses_wider, left_offered, IsInUse, LeavesBehind, giving, LeftAll}
 use Rattle.pas_same_text.proofs.Pieces.{leaving, marks_behind, no_hint, rest_leaves}
-use Rattle.pas_same_text.proofs.RunsFound.{each_in_turn, shown_both, deeded, deeded_events, deeds_of, backs_in_turn}
 use Rattle.pas_same_text.proofs.GivenBlocks.{AreReadying, GivesBlock, backs_ready, block_uses, made_ready, only_block, IsReadying, ready_deeds}
 
 -- By the first of these steps actor k got the m pages of a run, by deeds of its directory alone. By the others n of them were backed, the lowest first, their block was given, and

@@ -8,23 +8,19 @@ mod StopSteps
 mod StopActs
 mod BackActs
 mod LowerActs
-mod SameIndexes
 mod UsableBlocks
 mod MadePlace
 mod FetchedClasses
 mod Replaced
 mod OneAct
 mod GivenBlocks
-mod ReadyPages
 mod BitfitRequests
 mod TakenSlots
 mod ClassRequests
 mod SoughtRuns
 mod RaiseWalk
-mod RunGiven
 mod GivenRuns
 mod MissedGuards
-mod RaisedGuards
 mod GuardActs
 mod PagesRequests
 mod PassOutcomes
@@ -36,7 +32,6 @@ mod FreeGrains
 mod KeepersRest
 mod RunsFound
 mod Flushes
-mod OneUp
 pub mod AllActs
 mod TakenSince
 mod EntrySteps
@@ -47,7 +42,5 @@ mod SearchedPages
 mod Pieces
 pub mod Seen
 mod Rows
-mod Examples
-mod Faults
 mod PlacesFit
 mod StepMarks

@@ -6,7 +6,7 @@ use Rattle.pas_same_text.proofs.Common.{KeepsSame, IsActOf, IsAsked, AnswersSame
 use Rattle.pas_answers.specs.{Answers.request_for, Indexes.unless_suited, Calls.block_behind, Indexes.request_made}
 use Rattle.pas_same_text.proofs.BackActs.{flush_act, stop_act, end_act, idle_act, raw_act, raw_sized_act, free_act, free_sized_act, remakes_idly}
 use Rattle.pas_same_text.proofs.{CachedSlots.has_asked, BitfitRequests.bitfit_answered, ClassRequests.class_answered, GuardActs.by_what, LowerActs.lower_act}
-use Rattle.pas_same_text.proofs.{PagesRequests.pages_answered, PagesRequests.named_large, PassActs.pass_same, Replaced.replaced_same, SameIndexes.indexes_kept}
+use Rattle.pas_same_text.proofs.{PagesRequests.pages_answered, PagesRequests.named_large, PassActs.pass_same, Replaced.replaced_same, CacheLists.indexes_kept}
 use Rattle.pas_same_text.proofs.{KeepersRest.thread_of, KeepersRest.keeper_of}
 use Rattle.pas_same_text.proofs.SmallActs.{phase_same, close_same, wake_same, reading_same, tick_same, settling_same}
 

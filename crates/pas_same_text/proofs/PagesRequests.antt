@@ -1,14 +1,25 @@
--- A REQUEST FOR WHOLE PAGES: by the run that the heap's index named, where it is whole, or else by the lowest usable one; or it is refused, and changes no page.
-use Rattle.std.proofs.Common.{◌≡◌, ℕ, ◌*◌, ◌/◌, ◌≤◌, true, List, ◌∷◌, ◌++◌, Option, None, Some, Result, Ok, Err, ◌⊎◌, inl, inr, refl, ap, sym, ◌∙◌, subst}
-use Rattle.std.proofs.Common.{arith, append_assoc, true≢false}
+-- A REQUEST FOR WHOLE PAGES THAT IS SERVED by a run: its pages get deeds and memory where they have none, the lowest first, and their block is given.
+use Rattle.pas_same_text.proofs.GivenRuns.{GivesPages, all_kinds, backs_text, deed_mid, gives_it, lives_within, page_used, run_pages, shown_mid}
+use Rattle.pas_same_text.proofs.{MissedGuards.all_listed, CacheLists.same_kept, CacheLists.kept_at, SmallActs.after_with, FreeGrains.guards_as}
+use Rattle.pas_same_text.proofs.RunsFound.{shown, shown_rest, DeedsInRun, in_turn, each_in_turn, deeded, deeds_of, deeded_falls, deeded_within, deeds_in_turn}
+use Rattle.pas_same_text.proofs.RunsFound.{deeds_in_run}
+use Rattle.pas_same_text.proofs.Pieces.{UsesOnly, LeftInTurn, all_in_run, has_same}
+use Rattle.std.proofs.Common.{false, ◌≡◌, ◌≢◌, ℕ, ◌+◌, ◌*◌, ◌≤◌, ◌==◌, true, List, ◌∷◌, ◌++◌, Option, None, Some, inl, refl, ap, sym, ◌∙◌, subst, arith}
+use Rattle.std.proofs.Common.{append-nil, ◌/◌, Result, Ok, Err, ◌⊎◌, inr, append_assoc, true≢false}
+use Rattle.pas_same_text.proofs.Common.{has_number, false≢true, deed_word_of, IsValid, IsDirectoryOf, Directory, Event, Block, Profile, deed_word_of-positive}
+use Rattle.pas_same_text.proofs.Common.{Run, deed_in, triples, events_by, InTurn, Always, View, Only, part, Legal, Made, only_within, always_map, word_of_deed}
+use Rattle.pas_same_text.proofs.Common.{deed_of, runs, agreed_steps, legal_earlier, give_steps, IsInRun, ReturnsDuly, in_span, DeedsRise, MayFind, finding}
+use Rattle.pas_same_text.proofs.Common.{BackStep, pages_from, seeking, MadeOf, span_in, AtRest, Cached, any_covers, may_find, Record, IsThread, Progress, named}
+use Rattle.pas_same_text.proofs.Common.{records_of, with_cache as with_cached, World, large_of, IsSame, HasSame, AreSameCaches, IsBetween, deeds, backs}
+use Rattle.pas_same_text.proofs.Common.{address_on, gives, run_block, GotPages, lowest_alone, lends_none, IsLone, address_of, IsAdmitted, route_in, room_in}
+use Rattle.pas_same_text.proofs.Common.{is_shared, kind_of_route, Route, NoRoom, Whole, Kinds, kind_of, is_in, apart, showing, looking, triples_append}
+use Rattle.pas_same_text.proofs.Common.{part_of_own, always_both, in_apart, only_both, AreQuiet, IsQuiet, IsServedNamed, IsScanned, Indexes, found_in}
+use Rattle.pas_same_text.proofs.Common.{IsLowestRun, IsNamedWhole, ServesPages, wanted_for, Act, Request, Alloc, Answer, after_answer, said_of_request}
+use Rattle.pas_same_text.proofs.Common.{block_of as block_answered, IsNamedBy, serves, acts_on, IsTaken, named_run, lowest_run}
+use Rattle.pas_steps.specs.Calls.{Leads}
+use Rattle.pas_same_text.specs.{Runs.gives_pages, Indexes.loses_named, Runs.run_or, Runs.serves_run}
+use Rattle.pas_same_text.proofs.GivenBlocks.{epoch_now, events_now, live_now, names_now, records_now}
 use Rattle.pas_large.proofs.{Lifted.find_again, Pages.rise_none}
-use Rattle.pas_same_text.proofs.Common.{lowest_alone, lends_none, IsLone, address_of, IsAdmitted, IsDirectoryOf, route_in, room_in, is_shared, kind_of_route}
-use Rattle.pas_same_text.proofs.Common.{Directory, Route, NoRoom, Block, Profile, triples, Whole, part, Legal, Always, Kinds, Only, kind_of, is_in, apart}
-use Rattle.pas_same_text.proofs.Common.{showing, looking, Made, triples_append, part_of_own, always_both, always_map, in_apart, only_both, only_within}
-use Rattle.pas_same_text.proofs.Common.{agreed_steps, legal_earlier, AreQuiet, IsQuiet, ReturnsDuly, IsServedNamed, IsScanned, Indexes, found_in, MayFind}
-use Rattle.pas_same_text.proofs.Common.{finding, IsLowestRun, IsNamedWhole, Cached, ServesPages, wanted_for, may_find, Act, IsThread, Request, Alloc, Progress}
-use Rattle.pas_same_text.proofs.Common.{named, Answer, after_answer, said_of_request, block_of as block_answered, IsNamedBy, World, serves, acts_on, IsSame}
-use Rattle.pas_same_text.proofs.Common.{HasSame, IsBetween, IsTaken, large_of, named_run, lowest_run}
 use Rattle.pas_large.proofs.Allocates.{tried_lone, holds_whole, scans_only, goes_by_door, refused_alone}
 use Rattle.pas_steps.proofs.Apart.{no_event}
 use Rattle.pas_search.proofs.PagesThatServe.{duly_both, duly_none}
@@ -16,11 +27,108 @@ use Rattle.pas_large.specs.{Allocates.IsAllocatedLarge, Allocates.IsAllocatedNam
 use Rattle.pas_cache.specs.Calls.{IsNamed}
 use Rattle.pas_cache.proofs.Routes.{large_size, pages_asked}
 use Rattle.pas_answers.specs.Indexes.{ActIsNamedBy}
-use Rattle.pas_same_text.specs.{Indexes.loses_named, Runs.run_or, Runs.serves_run}
-use Rattle.pas_same_text.proofs.{SmallActs.after_with, RunGiven.GaveRun, RunGiven.given_to, RunGiven.run_given, RunsFound.DeedsInRun, RunsFound.deeds_in_run}
-use Rattle.pas_same_text.proofs.{Pieces.has_same}
 use Rattle.pas_same_text.proofs.SearchedPages.{refused_to, refused_same, lowest_found, none_lowest, named_whole, whole_named}
 use Rattle.pas_same_text.proofs.CachedSlots.{HasAsked, answer_reached, by_route, request_taken}
+
+-- The n pages from the first one on were got by the first of these steps, which made deeds of pages of this run alone, the lowest first. By the others they were backed, the lowest
+-- first, their block was given, and they were left.
+pub record GaveRun (f : Profile) (large : Directory) (first n : ℕ) (got after : List Made) (block : Block) : Type 0 where
+  pub kinds : Only finding got
+  pub returns : Always ReturnsDuly got
+  pub deeds_in : DeedsInRun large first n got
+  pub rise : DeedsRise got
+  -- It got the pages of the run.
+  pub pages : Leads f (MayFind large) (GotPages (in_span first (first + n)) large) got
+  pub backs : List Made
+  pub back_order : InTurn BackStep (pages_from first n) backs
+  pub word : ℕ
+  pub answer : ℕ
+  pub block_is : block ≡ run_block large first n word
+  pub left : List Made
+  pub left_order : LeftInTurn large first n left
+  pub after_is : after ≡ left ++ (give_steps first 0 block word answer ++ backs)
+
+-- the replay after them
+abbrev pub given_to : Progress → ℕ → ℕ → List Made → Block → Progress
+given_to p k name steps block = after_with p k steps None (named name (Some block) ∷ p.names) (p.caches k)
+
+no_deed_there : (large : Directory) (o : Option Directory) → word_of_deed o ≡ deed_word_of large → o ≢ None
+no_deed_there large o word none = deed_word_of-positive large (sym word ∙ ap word_of_deed none)
+
+module _ (f : Profile) (k name heap first n : ℕ) (p : Progress) (u : World) (got rest : List Made) (block : Block) (valid : IsValid f) (thread : IsThread f k)
+    (of : IsDirectoryOf f (large_of heap)) (some : 1 ≤ n) (before : IsBetween f p) (rest_now : AtRest f (p.caches k) (part k p.list)) (same : IsSame f p u)
+    (there : IsBetween f (given_to p k name (rest ++ got) block)) (run : GaveRun f (large_of heap) first n got rest block) where
+  abbrev large : Directory
+  large = large_of heap
+
+  abbrev own : View
+  own = part k p.list
+
+  abbrev q : Progress
+  q = given_to p k name (rest ++ got) block
+
+  legal_given : Legal f (triples k got ++ p.list)
+  legal_given = legal_earlier f k rest got p.list there.legal
+
+  -- The actor may search for a run, and got the run's pages.
+  pages_got : GotPages (in_span first (first + n)) large own (got ++ own)
+  pages_got = run.pages.from own (may_find f own heap (p.caches k).locals rest_now.locals) (agreed_steps f k p.list got valid legal_given)
+
+  given : GivesPages f k heap first n first n p q u got run.backs run.left rest run.word run.answer (pages_from first n) block
+  given =
+      let made : MadeOf large got = always_map _ _ got (λ m before h x e same zero. (h x e same zero).0) run.deeds_in in
+      let within : (first ≤ first) × (first + n ≤ first + n) = (omega arith, omega arith) in
+      assumption (within, only_within finding seeking got refl run.kinds, made, pages_got, all_in_run first n, run, there, same)
+
+  -- ---- the text
+  abbrev ds : List Event
+  ds = deeds_of k large (deeded got)
+
+  abbrev es : List Event
+  es = events_by k (part k (triples k got ++ p.list)) run.backs ++ ds
+
+  deeds_there : (x : ℕ) → IsInRun first n x → deed_in (ds ++ u.events) x ≢ None
+  deeds_there x here = no_deed_there large _ (cc (shown_mid given, deed_of f (triples k got ++ p.list) legal_given x, deed_mid given x here))
+
+  deeds_text : in_turn (deeds k large) first n u ≡ shown ds u
+  deeds_text = deeds_in_turn k large f n first _ u (deeded_falls k large got run.rise) (deeded_within k large n first got run.deeds_in)
+      (subst (Run f) (shown_mid given) (runs f (triples k got ++ p.list) valid legal_given)) deeds_there
+
+  abbrev v : World
+  v = gives k name heap (address_on first 0) (4096 * n) (shown es u)
+
+  same_now : HasSame f q v
+  same_now =
+      let caches = subst (AreSameCaches f (with_cached p.caches k (p.caches k))) (sym (shown_rest es u).caches) (same_kept f p.caches u.caches k same.caches) in
+      let g = gives_it given in
+      assumption (events_now g, live_now g, caches, guards_as p.books u v (shown_rest es u).guards same.guards)
+
+  -- ---- ALL: all pages of the run are the block's
+  uses : UsesOnly p q (λ x. in_span first (first + n) x)
+  uses = record {
+    cached = λ j g h. inl (ap (λ (x : Cached). any_covers x.locals g) (kept_at p.caches j k (j == k) refl) ∙ h);
+    outer = λ j x h. inl h;
+    live = lives_within given;
+  }
+
+  -- No deed was made of another page.
+  none_listed : (x : ℕ) → in_span first (first + n) x ≡ false → has_number (deeded got) x ≡ true → ⊥
+  none_listed x out made =
+      let here : IsInRun first n x = all_listed (IsInRun first n) (deeded got) x (deeded_within k large n first got run.deeds_in) made in
+      false≢true (sym out ∙ span_in first (first + n) x here.0 here.1)
+
+  given_same : IsSame f q v
+  given_same =
+      let g = gives_it given in
+      let pages_got = run_pages given (page_used given) v same_now uses (λ x. refl) (shown_rest es u).hinted (λ x e out made of bit. absurd (none_listed x out made)) in
+      let records = ap (λ (rs : List Record). p.records ++ rs) (append-nil (records_of (events_by k own (rest ++ got)))) ∙ records_now g in
+      assumption (pages_got, records, names_now g name, epoch_now g (all_kinds given), (shown_rest es u).read ∙ same.read, same_now)
+
+  -- A run of whole pages that was found and given leads the text to the replay's state.
+  run_given : IsSame f q (gives_pages k name heap first n u)
+  run_given = subst (λ (x : World). IsSame f q x) (sym (search (arith, each_in_turn, deeds_text, backs_text given))) given_same
+
+-- A REQUEST FOR WHOLE PAGES: by the run that the heap's index named, where it is whole, or else by the lowest usable one; or it is refused, and changes no page.
 
 -- ---- the indexes are no part of what is the same
 -- ---- what was tried leaves the actor as it was
@@ -151,9 +259,6 @@ module _ (f : Profile) (k name heap size align : ℕ) (p : Progress) (a : Answer
       rw (text_by (Some first) chosen, all)
       (run_given f k name heap first n p u got rest block asked.valid asked.thread of some asked.before asked.served.rest same_u (rw all at asked.after) run)
 
-  run_named : (first : ℕ) → IsNamedWhole f d n p.list a.found first → named_run w heap n ≡ Some first
-  run_named first whole = whole_named f p w asked.valid asked.before asked.same.pages old heap of n first (rw named_is at whole)
-
   named_served : (block : Block) (is : asked.served.answer ≡ Ok block)
       → IsServedNamed f d n a.found (by_pages (Ok block) is).tried (by_pages (Ok block) is).rest (Ok block) → LeavesSame
   named_served block is by =
@@ -163,7 +268,8 @@ module _ (f : Profile) (k name heap size align : ℕ) (p : Progress) (a : Answer
       let legal : Legal f (triples k (pages.rest ++ pages.tried) ++ p.list) = (there (Ok block) is).legal in
       let whole = holds_whole f k p.list d n _ a.found _ of.kind (tried_lone f k p.list d n a.found pages.tried pages.rest pages.old pages.returns legal may) alloc.holds_it in
       served_same block is _ pages.tried pages.rest refl (named_gave f k p.list d n a.found pages.tried pages.rest block of pages.old pages.returns legal may alloc)
-      (ap (λ (o : Option ℕ). run_or o (lowest_run f w heap n)) (run_named alloc.first whole))
+      (ap (λ (o : Option ℕ). run_or o (lowest_run f w heap n))
+      (whole_named f p w asked.valid asked.before asked.same.pages old heap of n alloc.first (rw named_is at whole)))
 
   -- where another run was found, the one that was named wasn't whole
   chosen_by : (block : Block) (is : asked.served.answer ≡ Ok block) (first : ℕ) → address_of block.name ≡ first * 4096 → IsLowestRun f d n p.list first

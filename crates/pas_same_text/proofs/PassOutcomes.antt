@@ -30,7 +30,6 @@ use Rattle.pas_profile.proofs.Sizes.{usable_grains_ge}
 -- ---- on which page a step works
 -- the step may change a word of the page, or its bit of a page vector
 abbrev pub is_on : ℕ → Step → Bool
-is_on page (Look word) = false
 is_on page (Deed q d) = q == page
 is_on page (Back q) = q == page
 is_on page (Take q word mask) = q == page
@@ -44,9 +43,9 @@ is_on page (Park q) = q == page
 is_on page (Unpark q) = q == page
 is_on page (Stamp q) = q == page
 is_on page (Hint q) = q == page
-is_on page (Tick raised) = false
 is_on page (Unback q) = q == page
 is_on page (Unhint q) = q == page
+is_on page s = false
 
 -- none of the steps may
 abbrev pub Spares : ℕ → List Made → Type 0
@@ -270,11 +269,9 @@ pair page outcome = (page, outcome)
 
 -- the page stays hinted with this outcome
 abbrev pub stays_hinted : Outcome → Bool
-stays_hinted Outcome.Unbacked = false
-stays_hinted Outcome.Bare = false
 stays_hinted (Outcome.Young stamp) = true
-stays_hinted (Outcome.InUse word value) = false
 stays_hinted Outcome.NotOffered = true
+stays_hinted outcome = false
 
 -- ---- a backed word is 0 or 1
 was_backed : (b : Bool) (n : ℕ) → n ≡ word_of_backed b → n ≢ 0 → b ≡ true

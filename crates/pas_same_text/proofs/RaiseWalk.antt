@@ -4,8 +4,7 @@ use Rattle.std.proofs.Common.{sym, ◌∙◌, subst, arith, append_assoc, true�
 use Rattle.pas_same_text.proofs.Common.{cases_eq, cases_lt, map-append, AllByRecursion, Directory, Event, Profile, Run, deed_in, backed_in, IsInRun}
 use Rattle.pas_same_text.proofs.Common.{numbers_from, World, page_numbers, deeds, are_bare, raises, raises_from, large_of, is_run, deeds_run, serves_pages}
 use Rattle.pas_same_text.proofs.Common.{all_map}
-use Rattle.pas_same_text.proofs.ReadyPages.{shown, shown_events}
-use Rattle.pas_same_text.proofs.RunsFound.{each_in_turn, shown_both, deeds_of, AreFalling, AllInRun, deeds_in_turn}
+use Rattle.pas_same_text.proofs.RunsFound.{shown, shown_events, each_in_turn, shown_both, deeds_of, AreFalling, AllInRun, deeds_in_turn}
 
 -- ==== PAGES FROM THE HIGHEST DOWN: those below a page, and the others
 abbrev pub below : ℕ → List ℕ → List ℕ
@@ -144,9 +143,6 @@ module _ (f : Profile) (keeper k name heap n : ℕ) (w : World) (made : List ℕ
         ∙ (sym (shown_both (deeds_of keeper d upper) (deeds_of keeper d (below e made)) w)
         ∙ ap (λ (es : List Event). shown es w) (sym (map-append (λ (x : ℕ). Event.Deed keeper x d) upper (below e made)) ∙ ap (deeds_of keeper d) parts)))
 
-    next_up : IsUpTo stop (p + 1)
-    next_up = record { past = λ r some lt h. omega (arith, lt); near = omega arith }
-
   -- ---- one run
   abbrev after_one : ℕ → List ℕ → Bool → Bool → World → World → World
   after_one p ps usable bare tried not_tried = if usable then (if bare then raises keeper name heap p n tried else raises_from f keeper k name heap n ps tried) else raises_from f keeper k name heap n ps not_tried
@@ -167,7 +163,8 @@ module _ (f : Profile) (keeper k name heap n : ℕ) (w : World) (made : List ℕ
   pass_by Result e p m low high up backed rest = at (is_run f w heap (n + 2) p) refl
     where
       at : (t : Bool) → is_run f w heap (n + 2) p ≡ t → raises_from f keeper k name heap n (numbers_from p (suc m)) (upto e) ≡ Result
-      at true usable = tried_one e p m false low high up usable (backed usable) ∙ rest (p + (n + 2)) (next_up e p low high up usable)
+      at true usable = tried_one e p m false low high up usable (backed usable)
+          ∙ rest (p + (n + 2)) (record { past = λ r some lt h. omega (arith, lt); near = omega arith })
       at false none = passed_one e p m none ∙ rest e (search (arith, true≢false))
 
   -- all deeds are there

@@ -9,9 +9,9 @@ use Rattle.pas_cache.specs.Serves.{FindsCached, pages_of}
 use Rattle.pas_cache.proofs.Resting.{found_passes, rests_kept, rests_reordered, rests_given}
 use Rattle.pas_cache.proofs.{Routes.not_bitfit, Routes.bitfit_rests, Obtained.rests_refilled}
 use Rattle.pas_same_text.specs.Order.{logs_replaced, replaces}
-use Rattle.pas_same_text.proofs.{CacheLists.same_own, OneUp.up_to, BackActs.freed_any, SeatedActs.cached_again, SeatedActs.at_rest_now, SeatedActs.middle_rest}
-use Rattle.pas_same_text.proofs.{SmallActs.after_with, SmallActs.page_inside, SmallActs.freed_is, UsableBlocks.act_usable, SameIndexes.serves_many}
-use Rattle.pas_same_text.proofs.{FetchedClasses.HasPlace, FetchedClasses.IsFetched, FetchedClasses.place_fetched}
+use Rattle.pas_same_text.proofs.{CacheLists.same_own, MadePlace.up_to, BackActs.freed_any, SeatedActs.cached_again, SeatedActs.at_rest_now}
+use Rattle.pas_same_text.proofs.{SeatedActs.middle_rest, SmallActs.after_with, SmallActs.page_inside, SmallActs.freed_is, UsableBlocks.act_usable}
+use Rattle.pas_same_text.proofs.{CacheLists.serves_many, FetchedClasses.HasPlace, FetchedClasses.IsFetched, FetchedClasses.place_fetched}
 use Rattle.pas_free_log.specs.Conditions.{IsEntryOf}
 use Rattle.pas_same_text.proofs.Common.{filling_for, find, filter, count_by, sum_by-cons, map-append, reverse-append, IsValid, IsAdmitted, route_in, is_shared}
 use Rattle.pas_same_text.proofs.Common.{kind_of_route, class_home, directory_for, room_in, Directory, Route, NoRoom, Block, Profile, Event, Agreed, triples}

@@ -24,13 +24,11 @@ kept_part : (l : Whole) → AllKeepToEnds l → (k : ℕ) → KeptPart (part k l
 kept_part [] all k = tt
 kept_part (t ∷ l) all k = search (arith, eqb-true, kept_part l all.1 k)
 
-tidy_parts : (l : Whole) → AreEndsStamped l → (k : ℕ) → Tidy (part k l)
-tidy_parts l are k = record { kept = kept_part l are.kept k; stamped = are.stamped k }
-
 -- ---- an act
 pub stamped_kept : (f : Profile) (act : Act) → KeepsStamped f act
 stamped_kept f act p p' valid before after did are =
-    let tidy : (k : ℕ) → Tidy (part k p'.list) = act_tidy f act p p' did after.legal (tidy_parts p.list are) in
+    let tidy : (k : ℕ) → Tidy (part k p'.list) =
+    act_tidy f act p p' did after.legal (λ k. record { kept = kept_part p.list are.kept k; stamped = are.stamped k }) in
     record { kept = parts_kept p'.list (λ k. (tidy k).kept); stamped = λ k. (tidy k).stamped }
 
 -- THE STAMPS

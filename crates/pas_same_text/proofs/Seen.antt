@@ -45,29 +45,21 @@ seen_of f w = record {
   totals = totals_of f w.events;
 }
 
-abbrev seen_by : Result Parsed TraceFault → Result Seen TraceFault
-seen_by (Err fault) = Err fault
-seen_by (Ok p) = Ok (seen_of (region_of p) (replay_of p))
+abbrev seen_by : (Profile → World → Seen) → Result Parsed TraceFault → Result Seen TraceFault
+seen_by of (Err fault) = Err fault
+seen_by of (Ok p) = Ok (of (region_of p) (replay_of p))
 
 unfoldable pub seen : List ℕ → Result Seen TraceFault
-seen bytes = seen_by (parsed bytes)
+seen bytes = seen_by seen_of (parsed bytes)
 
 -- ---- the same in fewer steps: these numbers are counted in the list of live blocks and in the events
 abbrev is_give : TheEvent → Bool
-is_give (Event.Deed k p d) = false
-is_give (Event.Back k p) = false
-is_give (Event.Unback k p e) = false
 is_give (Event.Give k block) = true
-is_give (Event.End k name e) = false
-is_give (Event.Reject k name why) = false
+is_give e = false
 
 abbrev is_end : TheEvent → Bool
-is_end (Event.Deed k p d) = false
-is_end (Event.Back k p) = false
-is_end (Event.Unback k p e) = false
-is_end (Event.Give k block) = false
 is_end (Event.End k name e) = true
-is_end (Event.Reject k name why) = false
+is_end e = false
 
 abbrev counted_of : Profile → World → Seen
 counted_of f w = record {
@@ -76,12 +68,8 @@ counted_of f w = record {
   totals = record (totals_of f w.events) { live = length w.live; given = count_by is_give w.events; ended = count_by is_end w.events };
 }
 
-abbrev counted_by : Result Parsed TraceFault → Result Seen TraceFault
-counted_by (Err fault) = Err fault
-counted_by (Ok p) = Ok (counted_of (region_of p) (replay_of p))
-
 unfoldable pub counted : List ℕ → Result Seen TraceFault
-counted bytes = counted_by (parsed bytes)
+counted bytes = seen_by counted_of (parsed bytes)
 
 -- ---- of a transcript: each line in its own words
 abbrev pub shown : List TheRecord → List Row → Totals → Result Seen TraceFault

@@ -31,10 +31,6 @@ look_word k a word w l = elim (same_word word w) as (λ t. (if t then word_after
 look_pages : (k a : ℕ) (word : Word) (l : Whole) → HaveSamePages l (triple k (made (Look word) a) ∷ l)
 look_pages k a word l = search (arith, look_word)
 
--- a tick changes the epoch alone
-tick_pages : (k a raised : ℕ) (l : Whole) → HaveSamePages l (triple k (made (Tick raised) a) ∷ l)
-tick_pages k a raised l = record { events = refl; hints = λ page. refl; offers = λ number page. refl }
-
 -- ---- states of the text with the same pages
 pub record HaveSameState (w w' : World) : Type 0 where
   pub events : w'.events ≡ w.events
@@ -108,7 +104,8 @@ ticks_to f asked answer p w same legal =
     let now : answer ≡ w.epoch = legal.0.answer_is ∙ sym same.epoch in
     let line : Record = Record.Said 0 (Said.Tick (max w.epoch asked)) in
     let state : HaveSameState w (ticks asked w) = record { events = refl; live = refl; hinted = refl; locals = refl; guards = refl } in
-    let pages = pages_next f p.list (triple 0 (made (Tick asked) answer) ∷ p.list) w (ticks asked w) same.pages (tick_pages 0 answer asked p.list) state in
+    let pages = pages_next f p.list (triple 0 (made (Tick asked) answer) ∷ p.list) w (ticks asked w) same.pages
+    (record { events = refl; hints = λ page. refl; offers = λ number page. refl }) state in
     let said = ap (λ (e : ℕ). p.records ++ Record.Said 0 (Said.Tick (max e asked)) ∷ []) now ∙ records_next p.records w.records line same.records in
     assumption (pages, said, ap (λ (e : ℕ). max e asked) same.epoch)
 

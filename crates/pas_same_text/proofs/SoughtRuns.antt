@@ -16,15 +16,11 @@ use Rattle.pas_large.proofs.Told.{run_was, bad_run}
 use Rattle.pas_guard.specs.Evidence.{HoldsRunWhole, OuterBackedHere, IsBad, OuterFailsHere, HasFailedOnce}
 use Rattle.pas_guard.specs.Seeks.{SoughtRun}
 use Rattle.pas_same_text.proofs.{StepMarks.backed_stays, FreeGrains.free_unheld, FreeGrains.bit_free, FreeGrains.keeper, KeepersRest.bare_since}
-use Rattle.pas_same_text.proofs.{KeepersRest.bare_events, Flushes.visible_steps, GivenBack.each_all, ReadyPages.shown, ReadyPages.shown_events}
-use Rattle.pas_same_text.proofs.{ReadyPages.shown_rest, SearchedPages.run_usable, SearchedPages.usable_run, Pieces.has_same}
-use Rattle.pas_same_text.proofs.RunsFound.{with_deed, deeded, deeds_of, deeded_falls, deeded_events, deeds_live}
+use Rattle.pas_same_text.proofs.{KeepersRest.bare_events, Flushes.visible_steps, GivenBack.each_all, SearchedPages.run_usable, SearchedPages.usable_run}
+use Rattle.pas_same_text.proofs.{Pieces.has_same}
+use Rattle.pas_same_text.proofs.RunsFound.{shown, shown_events, shown_rest, with_deed, deeded, deeds_of, deeded_falls, deeded_events, deeds_live}
 use Rattle.pas_same_text.proofs.RestingPages.{open_from, is_open, owned_is, unowned_by}
 use Rattle.pas_same_text.proofs.RaiseWalk.{below, below_all, IsOfRun, IsWalked, found_text, none_text}
-
--- a page one of whose grains an actor holds has a deed
-held_deed : (f : Profile) (l : Whole) (k g : ℕ) → IsValid f → Legal f l → holds (part k l) g ≡ true → word_after l (Word.Deed (g / 256)) ≢ 0
-held_deed f l k g valid legal held none = false≢true (sym (free_unheld f l valid legal g (free_without_deed f l legal g none) k) ∙ held)
 
 -- ---- runs of n + 2 pages
 -- a run of the region that was usable
@@ -53,8 +49,9 @@ module _ (f : Profile) (k heap n : ℕ) (l : Whole) (valid : IsValid f) (of : Is
     whole_deed : (q : ℕ) → IsInRun first (n + 2) q → word_after (triples k xs ++ l) (Word.Deed q) ≢ 0
     whole_deed q here none =
         let on : 256 * q / 256 ≡ q = omega arith in
-        held_deed f (triples k xs ++ l) k (256 * q) valid legal (ap (λ (v : View). holds v (256 * q)) (part_of_own k xs l) ∙ whole (256 * q) (subst (IsInRun first (n + 2)) (sym on) here))
-        (ap (λ (x : ℕ). word_after (triples k xs ++ l) (Word.Deed x)) on ∙ none)
+        let free = free_without_deed f (triples k xs ++ l) legal (256 * q) (ap (λ (x : ℕ). word_after (triples k xs ++ l) (Word.Deed x)) on ∙ none) in
+        false≢true (sym (free_unheld f (triples k xs ++ l) valid legal (256 * q) free k)
+        ∙ (ap (λ (v : View). holds v (256 * q)) (part_of_own k xs l) ∙ whole (256 * q) (subst (IsInRun first (n + 2)) (sym on) here)))
 
     whole_region : (1 ≤ first) × (first + (n + 2) ≤ f.pages + 1)
     whole_region =
@@ -123,9 +120,6 @@ all_true : (d : Directory) (kept room empty : Bool) → kept ≡ false → room 
     → (false || (((number_of d == number_of d) && (not kept && room)) && empty)) ≡ true
 all_true d kept room empty none some full = search (arith, eq-eqb)
 
-word_some : (o : Option Directory) → word_of_deed o ≢ 0 → o ≢ None
-word_some o some none = some (ap word_of_deed none)
-
 -- A keeper's search for a run of n pages between two guards: actor k went on from rest by these steps, which came onto a legal list, and whose deeds rise. The text's
 -- state was w.
 pub record IsSought (f : Profile) (k heap n : ℕ) (p : Progress) (w : World) (xs : List Made) : Type 0 where
@@ -158,20 +152,11 @@ module _ {f : Profile} {k heap n : ℕ} {p : Progress} {w : World} {xs : List Ma
   pub unowned_free : (page b : ℕ) → word_after p.list (Word.Deed page) ≡ 0 → b < 256 → free_bit p.list (256 * page + b) ≡ true
   unowned_free page b none small = search (arith, free_without_deed)
 
-  unowned_empty : (page : ℕ) → word_after p.list (Word.Deed page) ≡ 0 → is_empty w page ≡ true
-  unowned_empty page none = each_all 256 0 (is_free w page) (λ b low high. bit_free f p w s.valid s.between old page b high (unowned_free page b none high))
-
-  unowned_open : (page : ℕ) → word_after p.list (Word.Deed page) ≡ 0 → is_open w large page ≡ true
-  unowned_open page none = open_from f p w s.valid s.between old large page 0 (omega arith) refl (unowned_free page 0 none (omega arith))
-
   unowned_kept : (page : ℕ) → word_after p.list (Word.Deed page) ≡ 0 → is_kept w page ≡ false
   unowned_kept page none = false_from_ne_true (is_kept w page) (λ kept.
       let by = keeper f p w s.valid s.between old page kept in
       let at = spotted f p.list s.between.legal page in
       false≢true (sym (ap (is_with by.0) (no_deed (spot_of p.list page) (subst (DeedFits (spot_of p.list page)) none at.deed))) ∙ (sym (at.has by.0) ∙ by.1)))
-
-  no_deed_in : (page : ℕ) → word_after p.list (Word.Deed page) ≡ 0 → is_none (deed_in w.events page) ≡ true
-  no_deed_in page none = unowned_by (deed_in w.events page) (sym (owned_is f p.list w s.between.legal s.same.pages.events page) ∙ none)
 
   -- ---- deeds of such pages change no page's use
   same_use : (o : Option Directory) (qs : List ℕ) (page : ℕ) → usable_in large o (mine qs) page ≡ usable_in large o w page
@@ -192,8 +177,10 @@ module _ {f : Profile} {k heap n : ℕ} {p : Progress} {w : World} {xs : List Ma
     | inl made ↦ cc (
       shown_events _ w,
       same_use _ qs page,
-      all_true large _ _ _ (unowned_kept page made.1) (unowned_open page made.1) (unowned_empty page made.1),
-      no_deed_in page made.1,
+      all_true large _ _ _ (unowned_kept page made.1)
+          (open_from f p w s.valid s.between old large page 0 (omega arith) refl (unowned_free page 0 made.1 (omega arith)))
+          (each_all 256 0 (is_free w page) (λ b low high. bit_free f p w s.valid s.between old page b high (unowned_free page b made.1 high))),
+      unowned_by (deed_in w.events page) (sym (owned_is f p.list w s.between.legal s.same.pages.events page) ∙ made.1),
     )
     | inr still ↦ ap (λ (o : Option Directory). usable_in large o (mine qs) page)
         (ap (λ (es : List Event). deed_in es page) (shown_events (deeds_of k large qs) w) ∙ still) ∙ same_use (deed_in w.events page) qs page
@@ -249,7 +236,8 @@ module _ {f : Profile} {k heap n : ℕ} {p : Progress} {w : World} {xs : List Ma
         run = subst (Run f) (visible_mid of_heap) (runs f mid s.valid s.legal);
         of_runs = all_map (IsMadeBelow end) (IsOfRun f heap n w end) made
             (λ q h. (h.run, h.within, (h.good.0.of_region.0, h.good.1, is_run_of h.run h.good.0))) pages;
-        all = λ r some lt h q here none. word_some _ (λ zero. runs_are.all r (run_of r some h) lt q here (deed_of f mid s.legal q ∙ zero)) (ap (λ es. deed_in es q) (visible_mid of_heap) ∙ none);
+        all = λ r some lt h q here none. runs_are.all r (run_of r some h) lt q here
+            (deed_of f mid s.legal q ∙ ap word_of_deed (ap (λ es. deed_in es q) (visible_mid of_heap) ∙ none));
         still = λ e r. (ap (λ (test : ℕ → Bool). nat_le (r + (n + 2)) (f.pages + 1) && each_of r (n + 2) test) (fun_ext (usable_still (below e made) (below_all e (λ q. word_after p.list (Word.Deed q) ≡ 0) made (all_map (IsMadeBelow end) (λ q. word_after p.list (Word.Deed q) ≡ 0) made (λ q h. h.bare) pages)))));
       }
 

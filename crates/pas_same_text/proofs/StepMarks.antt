@@ -13,7 +13,7 @@ use Rattle.std.proofs.Common.{arith, true≢false, eqb-true, ◌≢◌, None, So
 use Rattle.pas_steps.specs.{Allowed.IsStepOf, Kinds.Ticking, Effects.new_value}
 use Rattle.pas_steps.proofs.Past.{since_once}
 use Rattle.pas_rights.specs.Looks.{ReadsEmpty}
-use Rattle.pas_same_text.proofs.{Tests.eqb_itself, ReadyPages.IsAtPage, ReadyPages.IsShownAt, ReadyPages.event_at}
+use Rattle.pas_same_text.proofs.{Tests.eqb_itself, RunsFound.IsAtPage, RunsFound.IsShownAt, RunsFound.event_at}
 use Rattle.pas_search.proofs.LoneSteps.{offer_one}
 
 -- ---- a word that steps of some kinds leave as it is said

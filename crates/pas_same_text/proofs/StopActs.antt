@@ -7,8 +7,8 @@ use Rattle.pas_cache.specs.Changes.{StopsEach}
 use Rattle.pas_same_text.proofs.FlushedLogs.{IsFlushedTo, IsEndedOn, OnlyFewer, flushed_start, flushed_all}
 use Rattle.pas_same_text.proofs.FreeGrains.{held_still, cached_held, held_by, never_both, guards_as, still_unguarded}
 use Rattle.pas_same_text.proofs.RestingPages.{is_open, deed_now, word_known, word_now, IsGivenBack, open_from, covered_not_held, free_left, given_pages}
-use Rattle.pas_same_text.proofs.{SameIndexes.same_guards, SameIndexes.flushes_keep, SameIndexes.stops_keep, Flushes.map_reverse, Flushes.visible_steps}
-use Rattle.pas_same_text.proofs.{CacheLists.same_own, CacheLists.same_with, CacheLists.same_again, GivenBack.returns_then, GivenBack.has_both, Pieces.read_open}
+use Rattle.pas_same_text.proofs.CacheLists.{same_guards, flushes_keep, stops_keep, same_own, same_with, same_again}
+use Rattle.pas_same_text.proofs.{Flushes.map_reverse, Flushes.visible_steps, GivenBack.returns_then, GivenBack.has_both, Pieces.read_open}
 use Rattle.pas_same_text.proofs.StepMarks.{hint_marks, offer_marks, offered_of_region, epoch_stays_by, IsMarked, marked_parts}
 use Rattle.pas_same_text.proofs.StopSteps.{IsGivenUp, AllOfRegion, unique_of, all_up, IsMarkedBy, IsMarkedIn, AllClasses, ReadsRoom, room_earlier, all_marked}
 use Rattle.pas_same_text.proofs.StopSteps.{all_hints}
@@ -122,9 +122,6 @@ module _ (f : Profile) (k : ℕ) (p : Progress) (w : World) (steps : List Made) 
   kept_at : (j : ℕ) (t : Bool) → (j == k) ≡ t → (if t then c' else p.caches j).locals ≡ (p.caches j).locals
   kept_at j t e = search (arith, eqb-true)
 
-  still_held : (j g : ℕ) → holds (part j (with_steps p k steps c').list) g ≡ true → holds (part j p.list) g ≡ true
-  still_held j g held = held_still f p (with_steps p k steps c') before after refl j g (λ h. ap (λ (ls : List Slots). any_covers ls g) (sym (kept_at j (j == k) refl)) ∙ h) held
-
   gives_back : IsGivenBack f k p.list w steps emptied
   gives_back = record {
     pages = comes.pages;
@@ -133,7 +130,8 @@ module _ (f : Profile) (k : ℕ) (p : Progress) (w : World) (steps : List Made) 
     hints = comes.hints;
     marks = λ q of hint. (comes.marks q of (hint_marks q steps hint)).minded;
     rooms = λ q d of is offer.
-        ended_room f p (with_steps p k steps c') w emptied comes.pages valid before after same.pages.events flush_has usable comes.fewer still_held q d of is
+        ended_room f p (with_steps p k steps c') w emptied comes.pages valid before after same.pages.events flush_has usable comes.fewer
+        (λ j g. held_still f p (with_steps p k steps c') before after refl j g (λ h. ap (λ (ls : List Slots). any_covers ls g) (sym (kept_at j (j == k) refl)) ∙ h)) q d of is
         (comes.marks q (offered_of_region f k p.list q steps legal offer) (offer_marks q steps offer));
     guarded = λ q none. still_unguarded w emptied q (same_guards w emptied (flushes_keep f k w)) none;
   }

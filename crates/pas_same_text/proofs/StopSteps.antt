@@ -28,10 +28,9 @@ AreUnique (l ∷ ls) = (others l.heap l.class ls ≡ ls) × AreUnique ls
 none_for : (heap class : ℕ) (slots : List Slots) (ls : List Local) → AreSameLocals slots ls → count_by (is_for_slots heap class) slots ≤ 0
     → others heap class ls ≡ ls
 none_for heap class [] [] same none = refl
-none_for heap class [] (l ∷ ls) same none = absurd same
-none_for heap class (s ∷ slots) [] same none = absurd same
 none_for heap class (s ∷ slots) (l ∷ ls) same none =
     grind (arith, (none_for heap class slots ls same.1), none, counted (is_for_slots heap class) s slots, for_same heap class s l same.0)
+none_for heap class slots ls same none = absurd same
 
 -- Where at most one is counted and this one is, no other is counted.
 -- by cases on the test
@@ -44,13 +43,12 @@ for_own heap class l h c = ap (λ (t : Bool). t && (l.class == class)) (eq-eqb l
 -- A cache with at most one local allocator of each heap and class has no two such in the text.
 pub unique_of : (slots : List Slots) (ls : List Local) → AreSameLocals slots ls → HasOneEach slots → AreUnique ls
 unique_of [] [] same one = tt
-unique_of [] (l ∷ ls) same one = absurd same
-unique_of (s ∷ slots) [] same one = absurd same
 unique_of (s ∷ slots) (l ∷ ls) same one = (
   none_for l.heap l.class slots ls same.1 (no_other_counted _ _
       (sym (for_same l.heap l.class s l same.0) ∙ for_own l.heap l.class l refl refl) (subst (λ (n : ℕ). n ≤ 1) (counted _ s slots) (one l.heap l.class))),
   unique_of slots ls same.1 (λ heap class. let n = one heap class in grind (arith, n, counted (is_for_slots heap class) s slots)),
 )
+unique_of slots ls same one = absurd same
 
 -- ---- a cache that has other local allocators
 any_with : (cs : List Cache) (k : ℕ) (new : Cache) (p : Local → Bool) → (list_any p new.locals ≡ true → list_any p (cache_in cs k).locals ≡ true)

@@ -1,6 +1,6 @@
 -- THE SLOTS that a search took of a shared page are the lowest free one and those behind it without a break, as it was before the search.
 use Rattle.std.proofs.Common.{◌||◌, ◌≡◌, ℕ, ◌+◌, ◌*◌, ◌/◌, ◌%◌, ◌<◌, List, ◌++◌, refl, ap, sym, ◌∙◌, arith, ◌≢◌, zero, suc, ◌≤◌, ◌==◌, Bool, true, false, ◌&&◌}
-use Rattle.std.proofs.Common.{if◌then◌else◌, [], ◌∷◌, IsTrue, ◌↔◌, inl, inr, subst, append_assoc, true≢false, eq-eqb, eqb-true, ne_eqb, lt-ltb}
+use Rattle.std.proofs.Common.{if◌then◌else◌, [], ◌∷◌, IsTrue, ◌↔◌, inl, inr, subst, append_assoc, true≢false, eq-eqb, eqb-true, drop, ne_eqb, lt-ltb}
 use Rattle.pas_profile.specs.Classes.{usable_grains, is_usable}
 use Rattle.pas_search.specs.Choices.{TookChosen}
 use Rattle.pas_partial.specs.Rows.{IsInRow, rows}
@@ -108,10 +108,6 @@ abbrev first_answer : ℕ → List Made → ℕ
 first_answer a [] = a
 first_answer a (m ∷ ms) = m.answer
 
-abbrev all_but_first : List Made → List Made
-all_but_first [] = []
-all_but_first (m ∷ ms) = ms
-
 none_there : (ts : List Made) (m : Made) (rest : List Made) → [] ≡ ts ++ m ∷ rest → ⊥
 none_there [] m rest is = cc
 none_there (t ∷ ts) m rest is = cc
@@ -149,8 +145,8 @@ module _ (f : Profile) (k : ℕ) (l : Whole) (page g : ℕ) (of : g / 256 ≡ pa
     here_or_later C (Take q u m) b since here later ts is = listed (page == q) ts is
       where
         listed : (t : Bool) (ts : List Made) → (if t then made (Take q u m) b ∷ since else since) ≡ ts ++ made (Take page word mask) a ∷ rest → C
-        listed true [] is = here (ap (first_step (Take q u m)) is) (ap (first_answer b) is) (ap all_but_first is)
-        listed true (t ∷ ts) is = later ts (ap all_but_first is)
+        listed true [] is = here (ap (first_step (Take q u m)) is) (ap (first_answer b) is) (ap (drop 1) is)
+        listed true (t ∷ ts) is = later ts (ap (drop 1) is)
         listed false ts is = later ts is
     here_or_later C s b since here later ts is = later ts is
 

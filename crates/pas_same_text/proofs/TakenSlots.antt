@@ -20,13 +20,6 @@ rising_places test zero from step some = tt
 rising_places test (suc n) from step some =
     let above = all_above test n (from + step) step from (omega (arith, some)) in let ih = rising_places test n (from + step) step some in search (arith, above, ih)
 
--- the i-th place is there, and each that is there is the i-th for some i
-place_there : (n from step i : ℕ) → i < n → has_number (spaced from step n) (from + i * step) ≡ true
-place_there n from step i lt = in_spaced (λ m. m == (from + i * step)) n from step i lt (eq-eqb (from + i * step) (from + i * step) refl)
-
-there_place : (n from step s : ℕ) → has_number (spaced from step n) s ≡ true → (i : ℕ) × (i < n) × (from + i * step ≡ s)
-there_place n from step s h = let o = from_spaced (λ m. m == s) n from step h in (o.0, o.1, eqb-true (from + o.0 * step) s o.2)
-
 -- ---- those that follow each other without a break
 no_row : (next step m : ℕ) (xs : List ℕ) → AllByRecursion (λ x. next < x) xs → row_from next step m xs ≡ []
 no_row next step m xs all = search (arith, ne_eqb)
@@ -144,8 +137,8 @@ module _ (f : Profile) (p : Progress) (w : World) (valid : IsValid f) (between :
     all_to : (s : ℕ) → has_number (free_slots w class page) s ≡ true → is_set starts s ≡ true
     all_to s h =
         let o = filtered_has test (spaced 0 step count) s h in
-        let i = there_place count 0 step s o.1 in
-        let at : i.0 * step ≡ s = omega (arith, i.2) in
+        let i = from_spaced (λ m. m == s) count 0 step o.1 in
+        let at : i.0 * step ≡ s = omega (arith, eqb-true (0 + i.0 * step) s i.2) in
         (all s).1 (subst IsFree at (free_at i.0 i.1 (ap test at ∙ o.0)))
 
     all_from : (s : ℕ) → is_set starts s ≡ true → has_number (free_slots w class page) s ≡ true
@@ -153,7 +146,8 @@ module _ (f : Profile) (p : Progress) (w : World) (valid : IsValid f) (between :
         let free = (all s).0 set in
         let i = slot_index f p w valid between same class is s free.0 in
         let at : 0 + i.0 * step ≡ s = omega (arith, i.2) in
-        has_filtered test (spaced 0 step count) s (tested s free) (ap (has_number (spaced 0 step count)) (sym at) ∙ place_there count 0 step i.0 i.1)
+        has_filtered test (spaced 0 step count) s (tested s free) (ap (has_number (spaced 0 step count)) (sym at)
+        ∙ in_spaced (λ m. m == (0 + i.0 * step)) count 0 step i.0 i.1 (eq-eqb (0 + i.0 * step) (0 + i.0 * step) refl))
 
     -- All slots that a search took of an exclusive page are those that the text takes of it.
     pub all_taken : (s : ℕ) → has_number (slots_for false w class page) s ≡ is_set starts s

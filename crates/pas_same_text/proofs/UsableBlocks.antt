@@ -24,12 +24,8 @@ abbrev IsUsableGive : List Event → Block → Type 0
 IsUsableGive es block = (g : ℕ) → in_run (grain_of block.name) (length_of block) g ≡ true → (d : Directory) → deed_in es (g / 256) ≡ Some d → usable_by_kind d.kind (g % 256) ≡ true
 
 abbrev GivesUsably : List Event → Event → Type 0
-GivesUsably es (Event.Deed k p d) = Unit {0}
-GivesUsably es (Event.Back k p) = Unit {0}
-GivesUsably es (Event.Unback k p e) = Unit {0}
 GivesUsably es (Event.Give k block) = IsUsableGive es block
-GivesUsably es (Event.End k name e) = Unit {0}
-GivesUsably es (Event.Reject k name why) = Unit {0}
+GivesUsably es e = Unit {0}
 
 deed_usable : (f : Profile) (es : List Event) (p : ℕ) (d own : Directory) (address : ℕ) (b : Live) (g : ℕ) (t : Bool) → (p == g / 256) ≡ t → Run f es
     → deed_in es p ≡ None → live_in es address ≡ Some b → IsPartOf g address b
@@ -48,12 +44,8 @@ next_usable f e es run give usable = search (arith, deed_usable, eqb-true, ended
 
 -- ---- events without a give
 abbrev IsNoGive : Event → Type 0
-IsNoGive (Event.Deed k p d) = Unit {0}
-IsNoGive (Event.Back k p) = Unit {0}
-IsNoGive (Event.Unback k p e) = Unit {0}
 IsNoGive (Event.Give k block) = ⊥
-IsNoGive (Event.End k name e) = Unit {0}
-IsNoGive (Event.Reject k name why) = Unit {0}
+IsNoGive e = Unit {0}
 
 abbrev AreNoGives : List Event → Type 0
 AreNoGives = AllByRecursion IsNoGive

@@ -1,5 +1,5 @@
 -- Indexes.
-use Rattle.pas_same_text.proofs.SameIndexes.{start_indexes, indexes_kept}
+use Rattle.pas_same_text.proofs.CacheLists.{start_indexes, indexes_kept}
 use Rattle.pas_same_text.proofs.laws.indexes_stay_the_same.Goals as goal
 
 pub returns-clause-start : goal.returns-clause-start
