@@ -407,6 +407,7 @@ pub its_place : {r : Replay} {op : Op} {h : Hand} {p : Progress} (k i : ℕ) (mo
 its_place k i more mine at =
     (omega (arith, at.keep.0.0, mine), omega (arith, mine, at.names.fit.2.0), omega (arith, mine, at.keep.0.1, at.kept))
 
+<<<<<<< ours
 -- the keeper of the thread at place i sits at the desk, and the thread's guarded request comes next
 module _ {r : Replay} {desk0 desk passes0 passes caches books places indexes table out p i there : _} {k name heap size align : ℕ} (op : Op) (more : Left)
     (mine : op.actor ≡ i) (asks : op.what ≡ what_of (Task.Guarded k name heap size align))
@@ -480,6 +481,155 @@ module _ {r : Replay} {desk0 desk passes0 passes caches books places indexes tab
           known = subst (λ (o : Option Request). AreKnown (asked_after op.what names.asked) (named_with o (Some block) ++ p.names)) asked_is (known_more op.what (Some block) names.asked p.names names.known);
         }) at.operate.1 at.keep.1
         (said_more r.told (records_in out) _ p.records did.tried.records at.records_are did.pushed) did.room (omega (arith, change, least, mine_was, did.stands.spare))
+||||||| base
+-- what it came to, by whether it gave a block
+pub has_tried_by : (op : Op) (acts : List Act) (before after : Session) (result : Option Block)
+    → (result ≡ None → (r : Replay) (more : Left) → SoFarAt r (upon r acts more) before → SoFarAt r (upon r (Operates op ∷ (Settles op.actor ∷ [])) more) after)
+    → ((block : Block) → result ≡ Some block → OnceNamed op (Some block) acts (Settles op.actor ∷ []) before after)
+    → HasTried op acts result before after
+has_tried_by op acts before after None left gave = left refl
+has_tried_by op acts before after (Some block) left gave = gave block refl
+
+-- before it does
+pub keeper_may : {r : Replay} {op request desk0 desk passes0 passes caches books places indexes table out p : _} (k i : ℕ) (there : GuardBook) (more : Left)
+    → AsksKeeper k i op request → k ≡ r.threads + i → 1 ≤ i
+    → i ≤ length books → TakesSeat desk0 desk passes0 passes k → there ≡ get_or books (i - 1) there
+    → IsAt r (upon r (Guards k op ∷ []) more) (hand desk0 passes0 caches books places indexes table out) p
+    → KeeperAt r.profile k (keeper_has (standing_of desk) there out) (and_try request.size (later_kept r k p more)) p
+keeper_may {r} {op} {request} {p = p} k i there more asks place some most seat is at =
+    let own = if_same (k == k) (kept_cost_of (request_in op.what)) (eq-eqb k k refl) ∙ ap kept_cost_of asks.request_is in
+    let one = if_same (k == k) 1 (eq-eqb k k refl) in
+    keeper_now k i there (cost_of_size request.size) (cost_of_size request.size + 2) 1 more place some most seat is (omega (arith, own)) (omega (arith, asks.cost)) (omega (arith, one)) at
+
+-- where it gave no block
+pub left_turn : {r : Replay} {op request desk0 desk desk' passes0 passes caches books places indexes table out out' p got : _} (k i : ℕ)
+    (there book : GuardBook) (more : Left)
+    → got ≡ None → AsksKeeper k i op request → k ≡ r.threads + i
+    → 1 ≤ i → i ≤ length books → TakesSeat desk0 desk passes0 passes k → there ≡ get_or books (i - 1) there
+    → IsAt r (upon r (Guards k op ∷ []) more) (hand desk0 passes0 caches books places indexes table out) p
+    → (did : KeeperTries r.profile k request got (keeper_has (standing_of desk) there out) (keeper_has (standing_of desk') book out') (later_kept r k p more) p)
+    → IsTaken desk' passes
+    × IsAt r (upon r (Operates op ∷ []) more) (hand desk' passes caches (set books (i - 1) book) places indexes table out') (after_trying p k did.tried)
+left_turn {r} {op} {request} {desk0} {desk} {desk'} {indexes = indexes} {table} {out} {out'} {p} k i there book more none asks place some most seat is at did =
+    let f = r.profile in
+    let q = after_trying p k did.tried in
+    let turned : KeeperTurned r k (Guards k op ∷ more.acts) (Operates op ∷ more.acts) there book desk desk' p q = search (arith, book_is, thread_events) in
+    let change = owed_then k i there book place some most seat is at turned in
+    let cost = ap (λ (b : Option Block). cost_of_try request.size b) none in
+    let longer = ap (λ (rs : List Record). length rs) did.pushed ∙ length-append (records_in out) did.tried.records in
+    keeper_turn k i there book place some most seat is at turned (tried_shown f k request p did.tried did.is)
+    (λ s rest. tried_first r.threads f k op request p _ indexes _ more.acts did.tried None (all_rest at) did.is asks.request_is (did.block_is ∙ none)
+    (rest.0.0.1, rest.0.1.0, refl) s ((rest.0.0.2, rest.0.1.1), rest.1.1))
+    (still_named (λ limit asked fit. (fit.2, fit.3, fit.4)) refl at.names) at.operate (tt, at.keep.1)
+    (said_more r.told _ _ p.records did.tried.records at.records_are did.pushed) did.room (omega (arith, change, did.paid, cost, longer, did.room, at.spare))
+
+-- where it gave this block, once the table has it
+pub gave_turn : {r : Replay} {more op request desk0 desk desk' passes0 passes caches books places indexes table out out' p got block : _} (k i : ℕ)
+    (there book : GuardBook) (table' : Names)
+    → got ≡ Some block → AsksKeeper k i op request → k ≡ r.threads + i → 1 ≤ i → i ≤ length books → TakesSeat desk0 desk passes0 passes k
+    → there ≡ get_or books (i - 1) there → IsAt r (upon r (Guards k op ∷ []) more) (hand desk0 passes0 caches books places indexes table out) p
+    → (did : KeeperTries r.profile k request got (keeper_has (standing_of desk) there out) (keeper_has (standing_of desk') book out') (later_kept r k p more) p)
+    → HasNamed op (Some block) table table'
+    → IsTaken desk' passes
+    × IsAt r more (hand desk' passes caches (set books (i - 1) book) places indexes table' out') (after_giving (after_trying p k did.tried) request.name block)
+gave_turn {r} {more} {op} {request} {desk0} {desk} {desk'} {indexes = indexes} {table} {out} {out'} {p} {block = block} k i there book table' gave asks place some most seat is at did named =
+    let f = r.profile in
+    let midway = after_trying p k did.tried in
+    let q = after_giving midway request.name block in
+    let names = at.names in
+    let moves : Moves k (FitsBook f (guards_in there)) (FitsBook f (guards_in book)) (standing_of desk) (standing_of desk') p q
+    = record { steps = did.moves.steps; list_is = did.moves.list_is; calls = did.moves.calls } in
+    let caches : q.caches ≡ p.caches = refl in
+    let books : (j : ℕ) → j ≢ k → q.books j ≡ p.books j = λ j ne. other_book p.books k j did.tried.guards ne in
+    let fewer = less_events r.threads f (Guards k op ∷ []) more.acts in
+    let turned : KeeperTurned r k (Guards k op ∷ more.acts) more.acts there book desk desk' p q
+    = assumption (moves, did.stands.sits, did.stands.book, did.stands.places, caches, books, fewer, less_tries (Guards k op ∷ []) more.acts) in
+    let change = owed_then k i there book place some most seat is at turned in
+    let least = owed_least k i there book place some most seat is at turned in
+    let mine = keeper_was k i there book place some most seat is at turned in
+    keeper_turn k i there book place some most seat is at turned (tried_shown f k request p did.tried did.is)
+    (tried_first r.threads f k op request p q indexes indexes more.acts did.tried _ (all_rest at) did.is asks.request_is (did.block_is ∙ gave) (refl, tt, refl))
+    (record {
+      asked = asked_after op.what names.asked;
+      fit = subst (λ (limit : ℕ). AreFit f limit (asked_after op.what names.asked) more.acts) (sym named.held) names.fit.4;
+      tells = subst (λ (o : Option Request). Tells table' (named_with o (Some block) ++ p.names)) asks.request_is (named.tells p.names names.tells);
+      stand = named.stand f names.stand (subst (λ (b : Option Block). MayStand f b) gave did.given);
+      known = subst (λ (o : Option Request). AreKnown (asked_after op.what names.asked) (named_with o (Some block) ++ p.names)) asks.request_is (known_more op.what (Some block) names.asked p.names names.known);
+    }) at.operate.1 at.keep.1
+    (said_more r.told (records_in out) _ p.records did.tried.records at.records_are did.pushed) did.room (omega (arith, change, least, mine, did.stands.spare))
+=======
+-- the keeper of the thread at place i sits at the desk, and the thread's guarded request comes next
+module _ {r : Replay} {more desk0 desk passes0 passes caches books places indexes table out p i there : _} {k name heap size align : ℕ} (op : Op)
+    (mine : op.actor ≡ i) (asks : op.what ≡ what_of (Task.Guarded k name heap size align))
+    (seat : TakesSeat desk0 desk passes0 passes k) (is : there ≡ get_or books (i - 1) there)
+    (at : IsAt r (upon r (Guards k op ∷ []) more) (hand desk0 passes0 caches books places indexes table out) p) where
+  abbrev asked : Request
+  asked = record { name = name; heap = heap; size = size; align = align }
+
+  asked_is : request_in op.what ≡ Some asked
+  asked_is = ap request_in asks
+
+  there_so : (k ≡ r.threads + i) × (1 ≤ i) × (i ≤ length books)
+  there_so = its_place k i more mine at
+
+  -- The keeper may try it.
+  pub keeper_may : KeeperAt r.profile k (keeper_has (standing_of desk) there out) (and_try size (later_kept r k p more)) p
+  keeper_may =
+      let own = if_same (k == k) (kept_cost_of (request_in op.what)) (eq-eqb k k refl) ∙ ap kept_cost_of asked_is in
+      let one = if_same (k == k) 1 (eq-eqb k k refl) in
+      keeper_now k i there (cost_of_size size) (cost_of_size size + 2) 1 more there_so.0 there_so.1 there_so.2 seat is (omega (arith, own)) (omega (arith, ap cost_of_what asks)) (omega (arith, one)) at
+
+  -- it did
+  module _ {desk' out' got : _} {book : GuardBook}
+      (did : KeeperTries r.profile k asked got (keeper_has (standing_of desk) there out) (keeper_has (standing_of desk') book out') (later_kept r k p more) p) where
+    longer : length (records_in out') ≡ length (records_in out) + length did.tried.records
+    longer = ap (λ (rs : List Record). length rs) did.pushed ∙ length-append (records_in out) did.tried.records
+
+    -- It gave no block: the request is left to its thread.
+    pub left_turn : got ≡ None
+        → IsTaken desk' passes
+        × IsAt r (upon r (Operates op ∷ []) more) (hand desk' passes caches (set books (i - 1) book) places indexes table out') (after_trying p k did.tried)
+    left_turn none =
+        let f = r.profile in
+        let q = after_trying p k did.tried in
+        let turned : KeeperTurned r k (Guards k op ∷ more.acts) (Operates op ∷ more.acts) there book desk desk' p q = search (arith, book_is, thread_events) in
+        let change = owed_then k i there book there_so.0 there_so.1 there_so.2 seat is at turned in
+        let cost = ap (λ (b : Option Block). cost_of_try size b) none in
+        keeper_turn k i there book there_so.0 there_so.1 there_so.2 seat is at turned (tried_shown f k asked p did.tried did.is)
+        (λ s rest. tried_first r.threads f k op asked p _ indexes _ more.acts did.tried None (all_rest at) did.is asked_is (did.block_is ∙ none)
+        (rest.0.0.1, rest.0.1.0, refl) s ((rest.0.0.2, rest.0.1.1), rest.1.1))
+        (still_named (λ limit asked fit. (fit.2, fit.3, fit.4)) refl at.names) at.operate (tt, at.keep.1)
+        (said_more r.told _ _ p.records did.tried.records at.records_are did.pushed) did.room (omega (arith, change, did.paid, cost, longer, did.room, at.spare))
+
+    -- It gave this block, and the table has it.
+    pub gave_turn : {block : Block} {table' : Names} → got ≡ Some block → HasNamed op (Some block) table table'
+        → IsTaken desk' passes
+        × IsAt r more (hand desk' passes caches (set books (i - 1) book) places indexes table' out') (after_giving (after_trying p k did.tried) name block)
+    gave_turn {block} {table'} gave named =
+        let f = r.profile in
+        let q = after_giving (after_trying p k did.tried) name block in
+        let names = at.names in
+        let moves : Moves k (FitsBook f (guards_in there)) (FitsBook f (guards_in book)) (standing_of desk) (standing_of desk') p q
+        = record { steps = did.moves.steps; list_is = did.moves.list_is; calls = did.moves.calls } in
+        let caches : q.caches ≡ p.caches = refl in
+        let books : (j : ℕ) → j ≢ k → q.books j ≡ p.books j = λ j ne. other_book p.books k j did.tried.guards ne in
+        let fewer = less_events r.threads f (Guards k op ∷ []) more.acts in
+        let turned : KeeperTurned r k (Guards k op ∷ more.acts) more.acts there book desk desk' p q
+        = assumption (moves, did.stands.sits, did.stands.book, did.stands.places, caches, books, fewer, less_tries (Guards k op ∷ []) more.acts) in
+        let change = owed_then k i there book there_so.0 there_so.1 there_so.2 seat is at turned in
+        let least = owed_least k i there book there_so.0 there_so.1 there_so.2 seat is at turned in
+        let mine_was = keeper_was k i there book there_so.0 there_so.1 there_so.2 seat is at turned in
+        keeper_turn k i there book there_so.0 there_so.1 there_so.2 seat is at turned (tried_shown f k asked p did.tried did.is)
+        (tried_first r.threads f k op asked p q indexes indexes more.acts did.tried _ (all_rest at) did.is asked_is (did.block_is ∙ gave) (refl, tt, refl))
+        (record {
+          asked = asked_after op.what names.asked;
+          fit = subst (λ (limit : ℕ). AreFit f limit (asked_after op.what names.asked) more.acts) (sym named.held) names.fit.4;
+          tells = subst (λ (o : Option Request). Tells table' (named_with o (Some block) ++ p.names)) asked_is (named.tells p.names names.tells);
+          stand = named.stand f names.stand (subst (λ (b : Option Block). MayStand f b) gave did.given);
+          known = subst (λ (o : Option Request). AreKnown (asked_after op.what names.asked) (named_with o (Some block) ++ p.names)) asked_is (known_more op.what (Some block) names.asked p.names names.known);
+        }) at.operate.1 at.keep.1
+        (said_more r.told (records_in out) _ p.records did.tried.records at.records_are did.pushed) did.room (omega (arith, change, least, mine_was, did.stands.spare))
+>>>>>>> theirs
 
 -- ---- what is left then: the runs that its thread's cache noted are handed on, whoever sits at the desk
 settled_as : (f : Profile) (kind : Bool) (c : Cached) (guards : List Guard) (v : View) → rests_as kind f c guards v → rests_as kind f (settled c) guards v
