@@ -263,6 +263,7 @@ module _ {k name heap size align : ℕ} (op : Op) (asks : op.what ≡ what_of (T
       (may_next asked got (for_guards next more) p kept kept' at.apart tries at.may).0)
       → KeptStands kept' kept'' (may_next asked got (for_guards next more) p kept kept' at.apart tries at.may).0.list did.reached.list
       → PairActs f op.actor keeper (head_acts op) (named_by op.what came) (here σ c out) new kept kept'' later (for_guards next more) p
+  unfolding may_next
   pair_left {next = next} came more (OneKeeper h) (OneKeeper h') (OneKeeper h'') none at tries did stands =
       left_acts op at.apart (ap (λ (w : What). request_in w) asks) (its_keeper more (Settles op.actor ∷ next) at.waits) tries.0 came none did stands
   pair_left came more (OneKeeper h) (OneKeeper h') NoKeeper none at tries did stands = absurd stands

@@ -8,7 +8,6 @@ use Rattle.pas_replay.proofs.{InOrder.as_first, Turning.may_take_seat, Turning.s
 use Rattle.pas_replay.proofs.ByActors.{its_place, guards_first, not_guarded, has_named, keeper_may, left_turn, gave_turn}
 use Rattle.pas_replay.proofs.seats.operate.Goals as goal
 
-<<<<<<< ours
 pub take_seat-requires : goal.take_seat-requires
 take_seat-requires g c =
     let so0 = c.requires.so_far in
@@ -21,28 +20,6 @@ try_guarded-requires-clause-stands g c =
     let so0 = c.requires.so_far in
     let so = (guards_first so0.0 so0.3.1 c.in-Guarded.is so0.3.2).1 in
     (so0.3.0.profile, c.in-Guarded.keeper, _, so.0, keeper_may so0.0 (upon so0.3.0 (Settles so0.0.actor ∷ []) so0.3.1) so0.1 (so0.2 ∙ ap what_of c.in-Guarded.is) c.take_seat.ensures c.index_mut-book.ensures.value so.1)
-||||||| base
-pub serve-came-requires-clause-so_far : goal.serve-came-requires-clause-so_far
-serve-came-requires-clause-so_far g c =
-    let so = c.requires.so_far in
-    let before = session c.args.desk.now c.args.actors.now c.args.names.now c.args.out.now in
-    let after = session c.tried.new.desk c.tried.new.actors c.args.names.now c.tried.new.out in
-    let left = subst (λ o. HasTried so.0 (own_acts_of c.args.task so.0) o before after) c.in-None.is (c.tried.ensures.tried so.0 c.args.names.now so.1 so.2) in
-    (so.0, so.1, so.2, (so.3.0, so.3.1, left so.3.0 so.3.1 so.3.2))
-=======
-pub take_seat-requires : goal.take_seat-requires
-take_seat-requires g c =
-    let so0 = c.requires.so_far in
-    let so = guards_first so0.0 so0.3.1 c.in-Guarded.is so0.3.2 in
-    let place = its_place c.in-Guarded.keeper c.args.actor _ so0.1 so.1.1 in
-    may_take_seat c.args.desk.now c.args.actors.now c.in-Guarded.keeper (omega (arith, place.0, place.2, so.1.1.many)) so
-
-pub try_guarded-requires-clause-stands : goal.try_guarded-requires-clause-stands
-try_guarded-requires-clause-stands g c =
-    let so0 = c.requires.so_far in
-    let so = (guards_first so0.0 so0.3.1 c.in-Guarded.is so0.3.2).1 in
-    (so0.3.0.profile, c.in-Guarded.keeper, _, so.0, keeper_may so0.0 so0.1 (so0.2 ∙ ap what_of c.in-Guarded.is) c.take_seat.ensures c.index_mut-book.ensures.value so.1)
->>>>>>> theirs
 
 pub keep-requires-clause-fit : goal.keep-requires-clause-fit
 keep-requires-clause-fit g c =
@@ -52,7 +29,6 @@ keep-requires-clause-fit g c =
     (f, names.asked, subst (λ (w : What). IsFitWhat f (names_held c.args.names.now) names.asked w) (so0.2 ∙ ap what_of c.in-Guarded.is) names.fit.3)
 
 pub keep-requires-clause-packs : goal.keep-requires-clause-packs
-<<<<<<< ours
 keep-requires-clause-packs g c = subst MayPack c.in-Some.is (may_pack _ c.try_guarded.result c.take_seat.new.desk.region.valid c.try_guarded.ensures.stands)
 
 pub serve-requires-clause-so_far : goal.serve-requires-clause-so_far
@@ -88,60 +64,3 @@ returns-in-None-clause-so_far g c op mine is r more so0 =
 pub returns-in_default-clause-so_far : goal.returns-in_default-clause-so_far
 returns-in_default-clause-so_far g c op mine is r more so =
     c.serve-in_default.ensures.so_far op mine is r more (as_first more (not_guarded op c.args.task c.in_default.not-Guarded) so)
-||||||| base
-keep-requires-clause-packs g c = elim c.match-tried.branch [
-  | in-Some w ↦ subst MayPack (w.in-Some.is ∙ sym w.came-is) c.tried.ensures.packs
-  | in-None w ↦ subst MayPack (sym w.came-is) w.serve-came.ensures.packs
-]
-
-pub returns-clause-so_far : goal.returns-clause-so_far
-returns-clause-so_far g c =
-    let before = session c.args.desk.now c.args.actors.now c.args.names.now c.args.out.now in
-    let after = session c.tried.new.desk c.tried.new.actors c.args.names.now c.tried.new.out in
-    elim c.match-tried.branch [
-      | in-Some w ↦ rw (w.desk-is, w.actors-is, w.out-is) (λ op mine is r more so.
-          let gave = subst (λ o. HasTried op (own_acts_of c.args.task op) o before after) w.in-Some.is (c.tried.ensures.tried op c.args.names.now mine is) in
-          let named = has_named {before = c.args.names.now} {after = c.keep.new.names} c.args.task is w.came-is c.keep.ensures.held c.keep.ensures.tells c.keep.ensures.stand in
-          w.settle.ensures.so_far _ _ _ r more (as_first more (ap (λ (k : ℕ). Settles k ∷ []) mine) (gave r more _ named so)))
-      | in-None w ↦ rw (w.desk-is, w.actors-is, w.out-is) (λ op mine is r more so.
-          let named = has_named {before = c.args.names.now} {after = c.keep.new.names} c.args.task is w.came-is c.keep.ensures.held c.keep.ensures.tells c.keep.ensures.stand in
-          let left = subst (λ o. HasTried op (own_acts_of c.args.task op) o before after) w.in-None.is (c.tried.ensures.tried op c.args.names.now mine is) in
-          w.serve-came.ensures.served op mine is r more _ named (left r more so))
-    ]
-=======
-keep-requires-clause-packs g c = subst MayPack c.in-Some.is (may_pack _ c.try_guarded.result c.take_seat.new.desk.region.valid c.try_guarded.ensures.stands)
-
-pub serve-requires-clause-so_far : goal.serve-requires-clause-so_far
-serve-requires-clause-so_far g c =
-    let so0 = c.requires.so_far in
-    let so = (guards_first so0.0 so0.3.1 c.in-Guarded.is so0.3.2).1 in
-    let asks = so0.2 ∙ ap what_of c.in-Guarded.is in
-    let did = c.try_guarded.ensures.tries so0.3.0.profile c.in-Guarded.keeper _ so.0 (keeper_may so0.0 so0.1 asks c.take_seat.ensures c.index_mut-book.ensures.value so.1) in
-    (so0.0, so0.1, asks, (so0.3.0, so0.3.1, somewhere (left_turn so0.0 so0.1 asks c.take_seat.ensures c.index_mut-book.ensures.value so.1 did c.in-None.is)))
-
-pub serve-requires-in_default-clause-so_far : goal.serve-requires-in_default-clause-so_far
-serve-requires-in_default-clause-so_far g c =
-    let so0 = c.requires.so_far in
-    (so0.0, so0.1, so0.2, (so0.3.0, so0.3.1, as_first so0.3.1 (not_guarded so0.0 c.args.task c.in_default.not-Guarded) so0.3.2))
-
-pub returns-in-Some-clause-so_far : goal.returns-in-Some-clause-so_far
-returns-in-Some-clause-so_far g c op mine is r more so0 =
-    let so = (guards_first op more c.in-Guarded.is so0).1 in
-    let asks = is ∙ ap what_of c.in-Guarded.is in
-    let did = c.try_guarded.ensures.tries r.profile c.in-Guarded.keeper _ so.0 (keeper_may op mine asks c.take_seat.ensures c.index_mut-book.ensures.value so.1) in
-    let its_task = Task.Guarded c.in-Guarded.keeper c.in-Guarded.name c.in-Guarded.heap c.in-Guarded.size c.in-Guarded.align in
-    let named = has_named its_task (Some c.in-Some.block) asks c.keep.ensures.held c.keep.ensures.tells c.keep.ensures.stand in
-    let gave = somewhere (gave_turn op mine asks c.take_seat.ensures c.index_mut-book.ensures.value so.1 did c.in-Some.is named) in
-    c.settle.ensures.so_far _ _ _ r more (as_first more (ap (λ (n : ℕ). Settles n ∷ []) mine) gave)
-
-pub returns-in-None-clause-so_far : goal.returns-in-None-clause-so_far
-returns-in-None-clause-so_far g c op mine is r more so0 =
-    let so = (guards_first op more c.in-Guarded.is so0).1 in
-    let asks = is ∙ ap what_of c.in-Guarded.is in
-    let did = c.try_guarded.ensures.tries r.profile c.in-Guarded.keeper _ so.0 (keeper_may op mine asks c.take_seat.ensures c.index_mut-book.ensures.value so.1) in
-    c.serve.ensures.so_far op mine asks r more (somewhere (left_turn op mine asks c.take_seat.ensures c.index_mut-book.ensures.value so.1 did c.in-None.is))
-
-pub returns-in_default-clause-so_far : goal.returns-in_default-clause-so_far
-returns-in_default-clause-so_far g c op mine is r more so =
-    c.serve-in_default.ensures.so_far op mine is r more (as_first more (not_guarded op c.args.task c.in_default.not-Guarded) so)
->>>>>>> theirs
