@@ -1,8 +1,7 @@
 -- Which acts of a plan are left: for threads in order, which the reader's crate has, and after so many phases.
-use Rattle.std.proofs.Common.{◌≡◌, ℕ, zero, suc, ◌+◌, ◌<◌, ◌≤◌, List, [], ◌∷◌, ◌++◌, map, length, drop, get_or, slice_index_or, ap, arith, drop_of_length-le}
+use Rattle.std.proofs.Common.{◌≡◌, ℕ, zero, suc, ◌+◌, ◌<◌, ◌≤◌, List, [], ◌∷◌, ◌++◌, length, drop, get_or, ap, arith, drop_of_length-le}
 use Rattle.std.proofs.lemmas.List.{drop_more}
-use Rattle.pas_trace.specs.Plans.{ops_of}
-use Rattle.pas_trace.specs.declared.plan.{Op.Op, Phase.Phase}
+use Rattle.pas_trace.specs.declared.plan.Op.{Op}
 use Rattle.pas_trace.specs.Acts.{Act, MarksPhase, phase_acts, close_acts, acts_from, acts_of}
 pub use Rattle.pas_trace.proofs.ThreadsInOrder.{number_next, number_last, acts_there, next_chosen, next_passed, none_left, threads_alike}
 
@@ -30,20 +29,11 @@ pub other_phase : (threads keepers n : ℕ) (phase : List Op) (phases : List (Li
 other_phase threads keepers n phase phases some = search (arith, left_is)
 
 -- The acts left from a phase on are those of its operations and of the phases after it.
-pub next_phase : (threads keepers : ℕ) (phases : List Phase) (i : ℕ) (d : Phase) (ops : List Op) → i < length phases → ops_of (slice_index_or phases i d) ≡ ops
-    → acts_left threads keepers i (map ops_of (drop i phases)) ≡ acts_left threads keepers i (ops ∷ map ops_of (drop (i + 1) phases))
-next_phase threads keepers phases i d ops lt is = search (arith, drop_more)
-
--- .. where they are lists
 pub next_list : (threads keepers : ℕ) (lists : List (List Op)) (i : ℕ) → i < length lists
     → acts_left threads keepers i (drop i lists) ≡ acts_left threads keepers i (get_or lists i [] ∷ drop (i + 1) lists)
 next_list threads keepers lists i lt = ap (λ (ps : List (List Op)). acts_left threads keepers i ps) (drop_more lists i [] lt)
 
+-- Past the last phase the acts left are those of the close.
 pub no_list : (threads keepers : ℕ) (lists : List (List Op)) (i : ℕ) → length lists ≤ i
     → acts_left threads keepers i (drop i lists) ≡ close_acts threads keepers
 no_list threads keepers lists i le = search (arith, drop_of_length-le, close_left)
-
--- Past the last phase the acts left are those of the close.
-pub last_phase : (threads keepers : ℕ) (phases : List Phase) (i : ℕ) → length phases ≤ i
-    → acts_left threads keepers i (map ops_of (drop i phases)) ≡ close_acts threads keepers
-last_phase threads keepers phases i le = search (arith, drop_of_length-le, close_left)

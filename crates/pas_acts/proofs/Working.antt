@@ -1,6 +1,7 @@
 -- The operations of one thread in a phase, one after the other.
 use Rattle.std.proofs.Common.{◌≡◌, ◌≢◌, ℕ, ◌+◌, ◌==◌, inl, inr, List, [], ◌∷◌, ◌++◌, length, Option, None, Some, refl, ap, sym, ◌∙◌, subst, arith}
 use Rattle.std.proofs.Common.{length-append, append_assoc, append-nil, ◌<◌, ◌≤◌, drop, get_or, drop_of_length-le, eq-eqb, ne_eqb}
+use Rattle.pas_profile.specs.Profiles.{IsAdmitted}
 use Rattle.pas_profile.specs.declared.{name.Block.Block, profile.Profile.Profile}
 use Rattle.pas_profile.proofs.Lists.{all_both, all_map}
 use Rattle.pas_steps.specs.{Desks.Standing, Lists.Whole, Lists.part, Views.View}
@@ -20,9 +21,9 @@ use Rattle.pas_answers.specs.{Ways.records_by, Names.block_named, Names.names_he
 use Rattle.pas_answers.proofs.SingleActs.{task_of, known_more, meant_by, meant_stands, its_cache, known_if, sum_both}
 use Rattle.pas_answers.proofs.{OwnRecords.all_by, OwnRecords.none_by, OwnRecords.records_both, Reached.reach_both}
 use Rattle.pas_acts.specs.AtDesks.{Here, here, and_for, MayOperate, ThreadActs}
-use Rattle.pas_acts.specs.Keepers.{KeeperHas, LaterKept, KeeperTries, Keeping, NoKeeper, OneKeeper, StandsAt, StandsStill, HasStill, KeptStands}
-use Rattle.pas_acts.specs.Pairs.{head_acts, MayTryTask, TriesTask, for_guards, KeeperWaits, IsOfTwo, EachOfTwo, KeptPushed, KeptStill, owed_of, PairActs}
-use Rattle.pas_acts.specs.Pairs.{PairAt, PairWorks}
+use Rattle.pas_acts.specs.Keepers.{KeeperHas, LaterKept, KeeperTries, Keeping, NoKeeper, OneKeeper, MayTryAt, TriesAt, StandsAt, StandsStill, HasStill}
+use Rattle.pas_acts.specs.Keepers.{KeptStands}
+use Rattle.pas_acts.specs.Pairs.{head_acts, for_guards, KeeperWaits, IsOfTwo, EachOfTwo, KeptPushed, KeptStill, owed_of, PairActs, MayServe, PairAt, PairWorks}
 use Rattle.pas_acts.specs.Turns.{RestsAt}
 use Rattle.pas_acts.specs.Works.{Later, Keeps, keeps, KnowsNames, ThreadAt}
 use Rattle.pas_acts.proofs.AtDesk.{rests_still, stands_at, own_cost, rests_for, settled_rest, sits_for, keeper_still, guarded_by_keeper, guarded_by_thread}
@@ -201,98 +202,97 @@ module _ {f keeper r block h h' more p : _} (op : Op) (apart : op.actor ≢ keep
         paid = omega (arith, tries.paid, did.paid, ap (λ (o : Option Block). cost_of_try r.size o) none, owed, mine, length-append told did.own);
       }
 
--- ---- by the task
--- who keeps its guard, and the request that it makes
-kept_by : (op : Op) (task : Task) → op.what ≡ what_of task → keeper_in op.what ≡ keeper_of task
-kept_by op task asks = ap (λ (w : What). keeper_in w) asks ∙ ap (λ (w : Work). of_task keeper_of w) (task_of task)
+-- ---- a guarded request
+-- the thread may do what it might, where its keeper tried the request
+may_still : {f k keeper r got h h' more what meant σ σ' c out later p : _} (tries : KeeperTries f keeper r got h h' more p) → k ≢ keeper
+    → StandsStill σ σ' p.list (after_trying p keeper tries.tried).list → MayOperate f k what meant (here σ c out) later p
+    → MayOperate f k what meant (here σ' c out) later (after_trying p keeper tries.tried)
+may_still {k = j} {keeper = by} {p = p} tries apart stays may =
+    let parts = part_of_others j by tries.tried.steps p.list (λ e. apart (sym e)) in
+    record { rests = rests_still stays parts refl may.rests; limit = may.limit; asked = may.asked; fit = may.fit; known = may.known; means = may.means; stands = may.stands }
 
--- the keeper that waits is the one that keeps the guard
-its_keeper : {f : Profile} {keeper : ℕ} {p : Progress} {has : KeeperHas} (more : LaterKept) (op : Op) (rest : List Act) (k : ℕ) → keeper_in op.what ≡ Some k
-    → KeeperWaits f keeper (act_kept (keeper_in op.what) op ∷ rest) (OneKeeper has) more p → keeper_in op.what ≡ Some keeper
-its_keeper {keeper = keeper} more op rest k is waits = search arith
-
--- before it
-pub may_try_task : (f : Profile) (keeper limit : ℕ) (asked : List ℕ) (more : LaterKept) (p : Progress) (task : Task) (op : Op) (rest : List Act)
-    (kept : Keeping)
-    → op.what ≡ what_of task → IsFitWhat f limit asked op.what
-    → KeeperWaits f keeper (act_kept (keeper_in op.what) op ∷ rest) kept more p → MayTryTask f keeper task kept (for_guards rest more) p
-may_try_task f keeper limit asked more p task op rest kept asks fit waits = search (arith, kept_by)
-
--- after it, where the keeper gave a block
-pub pair_given : {f keeper p σ σ' c c' out later : _} (b : Block) (more : LaterKept) (task : Task) (op : Op) (rest : List Act) (kept kept' : Keeping)
-    → op.what ≡ what_of task → (keeper_of task ≡ None → Some b ≡ None)
-    → op.actor ≢ keeper → KeeperWaits f keeper (act_kept (keeper_in op.what) op ∷ rest) kept more p
-    → TriesTask f keeper task (Some b) σ σ' kept kept' (for_guards rest more) p → RestsAt f op.actor σ c out (and_for (cost_of_what op.what) later) p
-    → c' ≡ settled c
-    → PairActs f op.actor keeper (head_acts op) (named_by op.what (Some b)) (here σ c out) (here σ' c' out) kept kept' later (for_guards rest more) p
-pair_given b more (Task.Guarded k name heap size align) op rest (OneKeeper h) (OneKeeper h') asks guarded apart waits tries at done =
-    given_acts op apart (ap (λ (w : What). request_in w) asks) (its_keeper more op rest k
-    (kept_by op (Task.Guarded k name heap size align) asks) waits) tries.0 b refl (ap (λ (w : What). cost_of_what w) asks) tries.1 at done
-pair_given b more (Task.Guarded k name heap size align) op rest _ _ asks guarded apart waits tries at done = absurd tries
-pair_given b more task op rest kept kept' asks guarded apart waits tries at done = absurd (let bad = guarded refl in cc)
+pub may_next : {f k keeper what meant σ σ' c out later : _} (r : Request) (got : Option Block) (more : LaterKept) (p : Progress) (kept kept' : Keeping)
+    → k ≢ keeper → TriesAt f keeper r got σ σ' kept kept' more p → MayOperate f k what meant (here σ c out) later p
+    → (q : Progress) × MayOperate f k what meant (here σ' c out) later q
+may_next r got more p (OneKeeper h) (OneKeeper h') apart tries may = (_, may_still tries.0 apart tries.1 may)
+may_next r got more p _ _ apart tries may = absurd tries
 
 -- The block that the keeper gave may stand for a name.
-pub given_stands : (f : Profile) (keeper : ℕ) (σ σ' : Standing) (more : LaterKept) (p : Progress) (b : Block) (task : Task) (kept kept' : Keeping)
-    → (keeper_of task ≡ None → Some b ≡ None) → TriesTask f keeper task (Some b) σ σ' kept kept' more p → MayStand f (Some b)
-given_stands f keeper σ σ' more p b task kept kept' guarded tries = search arith
+pub given_stands : (f : Profile) (keeper : ℕ) (r : Request) (got : Option Block) (σ σ' : Standing) (kept kept' : Keeping) (more : LaterKept) (p : Progress)
+    → TriesAt f keeper r got σ σ' kept kept' more p → MayStand f got
+given_stands f keeper r got σ σ' a b more p tries = search arith
 
--- .. and where it gave none, or the task is no guarded request: the thread does it
+-- its task, where it is one
+module _ {k name heap size align : ℕ} (op : Op) (asks : op.what ≡ what_of (Task.Guarded k name heap size align)) where
+  -- the request that it makes
+  abbrev asked : Request
+  asked = record { name = name; heap = heap; size = size; align = align }
+
+  -- The keeper that waits keeps its guard.
+  its_keeper : {f keeper p has : _} (more : LaterKept) (rest : List Act)
+      → KeeperWaits f keeper (act_kept (keeper_in op.what) op ∷ rest) (OneKeeper has) more p → keeper_in op.what ≡ Some keeper
+  its_keeper more rest waits = let is = ap (λ (w : What). keeper_in w) asks in search arith
+
+  may_try_at : (f : Profile) (keeper limit : ℕ) (known : List ℕ) (more : LaterKept) (p : Progress) (rest : List Act) (kept : Keeping)
+      → IsFitWhat f limit known op.what → KeeperWaits f keeper (act_kept (keeper_in op.what) op ∷ rest) kept more p
+      → IsAdmitted f size align heap × (2048 < size) × MayTryAt f keeper size kept (for_guards rest more) p
+  may_try_at f keeper limit known more p rest a fit waits = search arith
+
+  -- It may try it.
+  pub may_try : {f keeper next meant σ c out later : _} (kept : Keeping) (more : LaterKept) (p : Progress)
+      → MayServe f keeper op next meant (here σ c out) kept later more p
+      → IsAdmitted f size align heap × (2048 < size) × MayTryAt f keeper size kept (for_guards next more) p × StandsAt σ p.list × (σ.seat.actor ≢ keeper)
+  may_try {f} {keeper} {next} kept more p at =
+      let may = may_try_at f keeper at.may.limit at.may.asked more p (Settles op.actor ∷ next) kept at.may.fit at.waits in
+      (may.0, may.1, may.2, stands_at at.may.rests.sits, λ e. at.apart (sym at.may.rests.sits.actor ∙ e))
+
+  -- It gave a block.
+  pub pair_given : {f keeper next p got σ σ' c c' out meant later : _} (b : Block) (more : LaterKept) (kept kept' : Keeping)
+      → got ≡ Some b → MayServe f keeper op next meant (here σ c out) kept later more p → TriesAt f keeper asked got σ σ' kept kept' (for_guards next more) p
+      → c' ≡ settled c
+      → PairActs f op.actor keeper (head_acts op) (named_by op.what (Some b)) (here σ c out) (here σ' c' out) kept kept' later (for_guards next more) p
+  pair_given {next = next} b more (OneKeeper h) (OneKeeper h') gave at tries done =
+      given_acts op at.apart (ap (λ (w : What). request_in w) asks) (its_keeper more (Settles op.actor ∷ next) at.waits) tries.0 b gave (ap (λ (w : What). cost_of_what w) asks) tries.1 at.may.rests done
+  pair_given b more _ _ gave at tries done = absurd tries
+
+  -- It gave none, and the thread made the request.
+  pub pair_left : {f keeper next p got σ σ' c out new later meant : _} (came : Option Block) (more : LaterKept) (kept kept' kept'' : Keeping)
+      → got ≡ None → (at : MayServe f keeper op next meant (here σ c out) kept later more p)
+      (tries : TriesAt f keeper asked got σ σ' kept kept' (for_guards next more) p)
+      → (did : ThreadActs f op.actor (Operates op ∷ (Settles op.actor ∷ [])) (named_by op.what came) [] (here σ' c out) new later
+      (may_next asked got (for_guards next more) p kept kept' at.apart tries at.may).0)
+      → KeptStands kept' kept'' (may_next asked got (for_guards next more) p kept kept' at.apart tries at.may).0.list did.reached.list
+      → PairActs f op.actor keeper (head_acts op) (named_by op.what came) (here σ c out) new kept kept'' later (for_guards next more) p
+  unfolding may_next
+  pair_left {next = next} came more (OneKeeper h) (OneKeeper h') (OneKeeper h'') none at tries did stands =
+      left_acts op at.apart (ap (λ (w : What). request_in w) asks) (its_keeper more (Settles op.actor ∷ next) at.waits) tries.0 came none did stands
+  pair_left came more (OneKeeper h) (OneKeeper h') NoKeeper none at tries did stands = absurd stands
+  pair_left came more _ _ kept'' none at tries did stands = absurd tries
+
+-- ---- an operation that is none
+none_keeps : (task : Task) → ((k name heap size align : ℕ) → task ≡ Task.Guarded k name heap size align → ⊥) → keeper_of task ≡ None
+none_keeps task other = search arith
+
+-- nobody keeps a guard of it
+pub not_kept : (op : Op) (task : Task) → op.what ≡ what_of task → ((k name heap size align : ℕ) → task ≡ Task.Guarded k name heap size align → ⊥)
+    → keeper_in op.what ≡ None
+not_kept op task asks other = ap (λ (w : What). keeper_in w) asks ∙ ap (λ (w : Work). of_task keeper_of w) (task_of task) ∙ none_keeps task other
+
 waits_past : (f : Profile) (keeper : ℕ) (more : LaterKept) (p : Progress) (op : Op) (rest : List Act) (kept : Keeping)
     → KeeperWaits f keeper (act_kept None op ∷ rest) kept more p → KeeperWaits f keeper [] kept (for_guards rest more) p
 waits_past f keeper more p op rest a waits = search arith
 
-may_still : {f k what meant σ σ' c out later : _} {p : Progress} (q : Progress)
-    → StandsStill σ σ' p.list q.list → part k q.list ≡ part k p.list → q.caches k ≡ p.caches k → q.names ≡ p.names
-    → MayOperate f k what meant (here σ c out) later p → MayOperate f k what meant (here σ' c out) later q
-may_still {what = what} {meant = meant} q stays parts caches names may = search (arith, rests_still)
-
--- the thread may do the task then, from where the keeper's try led
-pub may_next : {f k keeper p σ σ' c out what meant later : _} (more : LaterKept) (task : Task) (kept kept' : Keeping)
-    → (keeper_of task ≡ None → (σ' ≡ σ) × (kept' ≡ kept)) → k ≢ keeper
-    → TriesTask f keeper task None σ σ' kept kept' more p → MayOperate f k what meant (here σ c out) later p
-    → (q : Progress) × MayOperate f k what meant (here σ' c out) later q
-may_next more (Task.Guarded keeper name heap size align) NoKeeper kept' same apart tries may = absurd tries
-may_next more (Task.Guarded keeper name heap size align) (OneKeeper h) NoKeeper same apart tries may = absurd tries
-may_next {k = j} {keeper = by} {p = p} more (Task.Guarded keeper name heap size align) (OneKeeper h) (OneKeeper h') same apart tries may =
-    (after_trying p by tries.0.tried, may_still _ tries.1 (part_of_others j by tries.0.tried.steps p.list (λ e. apart (sym e))) refl refl may)
-may_next {f} {k = j} {p = p} {c = c} {out = out} {what = what} {meant = meant} {later = later} more task kept kept' same apart tries may = search arith
-
--- what stands after the thread's acts, beside its desk
-abbrev Law : Standing → Standing → Keeping → Keeping → Type 0
-Law desk desk' kept kept' = (l m : Whole) → StandsAt desk l → StandsAt desk' m → KeptStands kept kept' l m
-
--- What a keeper tried, and its thread did after it, is the operation of the pair.
-pub pair_left : {f : Profile} {keeper : ℕ} {p : Progress} {σ σ' : Standing} {c : Cached} {out : Records} {new : Here} {later : Later} {meant : Option Block}
-    (came : Option Block) (more : LaterKept) (task : Task) (op : Op) (rest : List Act) (kept kept' kept'' : Keeping)
-    → op.what ≡ what_of task
-    → (keeper_of task ≡ None → (σ' ≡ σ) × (kept' ≡ kept)) → op.actor ≢ keeper → KeeperWaits f keeper (act_kept (keeper_in op.what) op ∷ rest) kept more p
-    → TriesTask f keeper task None σ σ' kept kept' (for_guards rest more) p → MayOperate f op.actor op.what meant (here σ c out) later p
-    → ((q : Progress) → MayOperate f op.actor op.what meant (here σ' c out) later q
-    → ThreadActs f op.actor (Operates op ∷ (Settles op.actor ∷ [])) (named_by op.what came) [] (here σ' c out) new later q)
-    → Law σ' new.desk kept' kept''
-    → PairActs f op.actor keeper (head_acts op) (named_by op.what came) (here σ c out) new kept kept'' later (for_guards rest more) p
-pair_left came more (Task.Guarded k name heap size align) op rest NoKeeper kept' kept'' asks same apart waits tries may does law = absurd tries
-pair_left came more (Task.Guarded k name heap size align) op rest (OneKeeper h) NoKeeper kept'' asks same apart waits tries may does law = absurd tries
-pair_left {keeper = keeper} {p = p} {σ' = σ'} {new = new} came more (Task.Guarded k name heap size align) op rest (OneKeeper h) (OneKeeper h') NoKeeper asks same apart waits tries may does law =
-    let q = after_trying p keeper tries.0.tried in
-    let now = may_still q tries.1 (part_of_others op.actor keeper tries.0.tried.steps p.list (λ e. apart (sym e))) refl refl may in
-    absurd (law q.list (does q now).reached.list (stands_at now.rests.sits) (stands_at (does q now).stands.sits))
-pair_left {keeper = keeper} {p = p} {σ' = σ'} {new = new} came more (Task.Guarded k name heap size align) op rest (OneKeeper h) (OneKeeper h') (OneKeeper h'') asks same apart waits tries may does law =
-    let q = after_trying p keeper tries.0.tried in
-    let now = may_still q tries.1 (part_of_others op.actor keeper tries.0.tried.steps p.list (λ e. apart (sym e))) refl refl may in
-    let did = does q now in
-    left_acts op apart (ap (λ (w : What). request_in w) asks) (its_keeper more op rest k (kept_by op (Task.Guarded k name heap size align) asks) waits) tries.0 came refl did
-    (law q.list did.reached.list (stands_at now.rests.sits) (stands_at did.stands.sits))
-pair_left {f} {keeper} {p} {σ} {σ'} {c} {out} {new} {later} {meant} came more task op rest kept kept' kept'' asks same apart waits tries may does law =
-    let none = kept_by op task asks in
-    let waits_so = waits_past f keeper more p op rest kept (subst (λ (o : Option ℕ). KeeperWaits f keeper (act_kept o op ∷ rest) kept more p) none waits) in
-    let now = subst (λ (d : Standing). MayOperate f op.actor op.what meant (here d c out) later p) (sym (same refl).0) may in
-    let did = does p now in
-    let stands = law p.list did.reached.list (stands_at now.rests.sits) (stands_at did.stands.sits) in
-    let acts = alone_acts keeper kept' kept'' (for_guards rest more) apart (subst (λ (o : Keeping). KeeperWaits f keeper [] o (for_guards rest more) p) (sym (same refl).1) waits_so) did stands in
-    subst (λ (o : Keeping). PairActs f op.actor keeper (head_acts op) (named_by op.what came) (here σ c out) new o kept'' later (for_guards rest more) p) (same refl).1
-    (subst (λ (d : Standing). PairActs f op.actor keeper (head_acts op) (named_by op.what came) (here d c out) new kept' kept'' later (for_guards rest more) p) (same refl).0
-    (subst (λ (o : Option ℕ). PairActs f op.actor keeper (act_kept o op ∷ (Settles op.actor ∷ [])) (named_by op.what came) (here σ' c out) new kept' kept'' later (for_guards rest more) p) (sym none) acts))
+-- The thread alone did it.
+pub pair_alone : {f keeper next p meant old new later : _} (came : Option Block) (more : LaterKept) (op : Op) (kept kept' : Keeping)
+    → keeper_in op.what ≡ None → MayServe f keeper op next meant old kept later more p
+    → (did : ThreadActs f op.actor (Operates op ∷ (Settles op.actor ∷ [])) (named_by op.what came) [] old new later p)
+    → KeptStands kept kept' p.list did.reached.list
+    → PairActs f op.actor keeper (head_acts op) (named_by op.what came) old new kept kept' later (for_guards next more) p
+pair_alone {f} {keeper} {next} {p} {old = old} {new} {later} came more op kept kept' none at did stands =
+    let rest = Settles op.actor ∷ next in
+    let waits = waits_past f keeper more p op rest kept (subst (λ (o : Option ℕ). KeeperWaits f keeper (act_kept o op ∷ rest) kept more p) none at.waits) in
+    subst (λ (o : Option ℕ). PairActs f op.actor keeper (act_kept o op ∷ (Settles op.actor ∷ [])) (named_by op.what came) old new kept kept' later (for_guards next more) p)
+    (sym none) (alone_acts keeper kept kept' (for_guards next more) at.apart waits did stands)
 
 -- ---- an operation's acts
 -- the first of them may be guarded: the thread's part of it goes by the operation alone
@@ -334,7 +334,7 @@ pub no_chore : (f : Profile) (limit : ℕ) (asked : List ℕ) {work : Work} {cho
 no_chore f limit asked fit is = subst (λ (w : Work). IsFitWork f limit asked w) is fit
 
 -- A thread before an operation may do it, for what its name stands for.
-pub may_operate : {f next σ c known out later p what meant : _} (op : Op)
+may_operate : {f next σ c known out later p what meant : _} (op : Op)
     → op.what ≡ what → Before f op next σ (keeps c known out) later p → meant ≡ freed_by (known_in known.book known.requests) what
     → MayOperate f op.actor op.what meant (here σ c out) (with_acts op.actor next later) p
 may_operate {f} {next} {σ} {c} {known} {out} {later} {p} op asks at freed = let is = freed ∙ ap (freed_by (known_in known.book known.requests)) (sym asks) in record {
@@ -346,6 +346,12 @@ may_operate {f} {next} {σ} {c} {known} {out} {later} {p} op asks at freed = let
   means = subst (λ (o : Option Block). IsMeant p.names op.what o) (sym is) (meant_by (known_in known.book known.requests) p.names op.what at.names.tells);
   stands = subst (MayStand f) (sym is) (meant_stands f (known_in known.book known.requests) op.what at.names.stand);
 }
+
+-- .. and its keeper may try it first
+pub may_serve : {f keeper next σ c known out kept later more p what meant : _} (op : Op) → op.what ≡ what
+    → PairAt f op.actor keeper (head_acts op ++ next) σ (keeps c known out) kept later more p → meant ≡ freed_by (known_in known.book known.requests) what
+    → MayServe f keeper op next meant (here σ c out) kept (with_acts op.actor next later) more p
+may_serve op asks at freed = record { may = may_operate op asks at.thread freed; apart = at.apart; waits = at.waits }
 
 -- what the freed name stands for, and the room for the asked one
 pub its_own : {known : Table} {f acts names : _} → KnowsNames f acts known names → ArePlaced known.book 0 (names_of (requests_in known.requests))

@@ -1,34 +1,23 @@
 -- A thread of a phase with its keeper, before its acts and after them.
 use Rattle.std.specs.Prelude.{ℕ, ◌+◌, ◌<◌, ◌≤◌, ◌≡◌, ◌≢◌, ◌==◌, ◌⊎◌, List, [], ◌∷◌, ◌++◌, length, Option, None, Some}
 use Rattle.std.specs.List.{AllByRecursion}
-use Rattle.pas_profile.specs.Profiles.{IsAdmitted}
 use Rattle.pas_profile.specs.declared.{name.Block.Block, profile.Profile.Profile}
 use Rattle.pas_steps.specs.{Desks.Standing, Lists.part, Views.View}
 use Rattle.pas_trace.specs.Acts.{Act, Guards, Settles, act_kept}
 use Rattle.pas_trace.specs.Asked.{request_in, keeper_in}
-use Rattle.pas_trace.specs.declared.{item.Request.Request, plan.Op.Op, plan.Task.Task}
+use Rattle.pas_trace.specs.declared.{item.Request.Request, plan.Op.Op}
 use Rattle.pas_records.specs.Rooms.{records_in, room_of}
 use Rattle.pas_records.specs.declared.record.Record.{Record}
 use Rattle.pas_guard.specs.Books.{guards_in, size_of_book}
 use Rattle.pas_answers.specs.{Answers.Named, Answers.Progress, Calls.owed_events, Fit.own_costs_of, Keeping.owed_by_keeper, Reaching.Reaches, Ways.is_of}
 use Rattle.pas_answers.specs.{Ways.records_by}
-use Rattle.pas_acts.specs.{AtDesks.Here, Turns.RestsAt, Works.Later, Works.Keeps, Works.ThreadAt}
-use Rattle.pas_acts.specs.Keepers.{LaterKept, and_try, KeeperAt, Keeping, NoKeeper, OneKeeper, MayTryAt, TriesAt}
+use Rattle.pas_acts.specs.{AtDesks.Here, AtDesks.MayOperate, Turns.RestsAt, Works.Later, Works.Keeps, Works.ThreadAt}
+use Rattle.pas_acts.specs.Keepers.{LaterKept, and_try, KeeperAt, Keeping, NoKeeper, OneKeeper}
 use Rattle.pas_acts.specs.NameBooks.{requests_in, room_for, names_of, names_asked}
 
 -- the acts of a thread's operation
 abbrev pub head_acts : Op → List Act
 head_acts op = act_kept (keeper_in op.what) op ∷ (Settles op.actor ∷ [])
-
--- ---- a task
--- what the keeper has before the task is tried, where it is a guarded request, and what it did
-abbrev pub MayTryTask : Profile → ℕ → Task → Keeping → LaterKept → Progress → Type 0
-MayTryTask f k (Task.Guarded keeper name heap size align) kept later p = IsAdmitted f size align heap × (2048 < size) × MayTryAt f k size kept later p
-MayTryTask f k task kept later p = Unit {0}
-
-abbrev pub TriesTask : Profile → ℕ → Task → Option Block → Standing → Standing → Keeping → Keeping → LaterKept → Progress → Type 0
-TriesTask f k (Task.Guarded keeper name heap size align) block desk desk' kept kept' later p = TriesAt f k (record { name = name; heap = heap; size = size; align = align }) block desk desk' kept kept' later p
-TriesTask f k task block desk desk' kept kept' later p = Unit {0}
 
 -- ---- what acts ask of a keeper
 -- room for the guarded request that an act is, and for those of several
@@ -64,6 +53,14 @@ AreUnguarded acts = AllByRecursion IsUnguarded acts
 abbrev pub KeeperWaits : Profile → ℕ → List Act → Keeping → LaterKept → Progress → Type 0
 KeeperWaits f keeper acts NoKeeper later p = AreUnguarded acts
 KeeperWaits f keeper acts (OneKeeper has) later p = AreTriedBy keeper acts × KeeperAt f keeper has (for_guards acts later) p
+
+-- ---- an operation
+-- Its thread may do it, for what the name that it frees or reallocates stands for, and the keeper, if there is one, waits for it and for the acts behind it.
+pub record MayServe (f : Profile) (keeper : ℕ) (op : Op) (next : List Act) (meant : Option Block) (old : Here) (kept : Keeping) (later : Later)
+    (more : LaterKept) (p : Progress) : Type 0 where
+  pub may : MayOperate f op.actor op.what meant old later p
+  pub apart : op.actor ≢ keeper
+  pub waits : KeeperWaits f keeper (head_acts op ++ next) kept more p
 
 -- ---- what both said
 -- each of these records is of actor j or of actor k, and none is a mark
@@ -133,3 +130,15 @@ pub record PairWorks (f : Profile) (k keeper : ℕ) (acts next : List Act) (desk
   pub room_noted : room_for has'.table.requests ≡ room_for has.table.requests
   pub paid : length said + (owed_events f has'.cache (part k reached.list) + owed_of f kept' (part keeper reached.list))
       ≤ own_costs_of k acts + (owed_events f has.cache (part k p.list) + owed_of f kept (part keeper p.list))
+
+-- ---- an operation among them
+-- for some profile, keeper and acts behind it the pair stands before the operation
+abbrev pub MayWork : Op → Standing → Keeps → Keeping → Type 0
+MayWork op desk has kept = (f : Profile) × (k : ℕ) × (next : List Act) × (later : Later) × (more : LaterKept) × (p : Progress)
+    × PairAt f op.actor k (head_acts op ++ next) desk has kept later more p
+
+-- for each of which it stood before it, it did the operation
+abbrev pub DoesWork : Op → Standing → Standing → Keeps → Keeps → Keeping → Keeping → Type 0
+DoesWork op desk desk' has has' kept kept' = (f : Profile) (k : ℕ) (next : List Act) (later : Later) (more : LaterKept) (p : Progress)
+    → PairAt f op.actor k (head_acts op ++ next) desk has kept later more p
+    → PairWorks f op.actor k (head_acts op) next desk desk' has has' kept kept' later more p

@@ -1,12 +1,14 @@
 //! The operations of one thread in a phase, at any desk.
-ghost use Rattle.std.specs.Prelude.{◌≡◌, ◌≢◌, ◌+◌, ◌<◌, ◌≤◌, ◌^◌, ◌++◌, ℕ, List, [], None, length, option_and_then};
+ghost use Rattle.std.specs.Prelude.{◌≡◌, ◌+◌, ◌<◌, ◌≤◌, ◌^◌, ◌++◌, ℕ, List, [], length, option_and_then};
 ghost use Rattle.pas_profile.specs.declared.profile.Profile.{Profile as TheProfile};
 ghost use Rattle.pas_cache.specs.Caches.{cached};
-ghost use Rattle.pas_trace.specs.{Asked.request_of, Asked.freed_of, Asked.keeper_of, Acts.Act, Acts.own_acts};
-ghost use Rattle.pas_answers.specs.{Answers.Progress, Calls.what_of, Calls.named_with, Names.MayPack};
+ghost use Rattle.pas_trace.specs.{Asked.request_of, Asked.freed_of, Acts.Act, Acts.own_acts};
+ghost use Rattle.pas_trace.specs.declared.plan.Op.{Op as TheOp};
+ghost use Rattle.pas_answers.specs.{Answers.Progress, Names.MayPack};
+ghost use Rattle.pas_answers.specs.Calls.{what_of, named_with, named_by, MayStand};
 ghost use Rattle.pas_acts.specs.NameBooks.{requests_in, room_for, names_of, name_asked, ArePlaced, known_in, table};
-ghost use Rattle.pas_acts.specs.{Works.keeps, Works.Later, Keepers.LaterKept, Keepers.StandsAt};
-ghost use Rattle.pas_acts.specs.Pairs.{head_acts, MayTryTask, TriesTask, PairAt, PairWorks};
+ghost use Rattle.pas_acts.specs.{Works.keeps, Works.Later, Keepers.LaterKept, AtDesks.here};
+ghost use Rattle.pas_acts.specs.Pairs.{head_acts, for_guards, MayServe, MayWork, DoesWork, PairActs, PairAt, PairWorks};
 
 use crate::at_desk;
 use crate::gate::Gate;
@@ -49,14 +51,25 @@ fn keep(requests: &mut Requests, task: Task, came: Option<Block>)
     }
 }
 
-/// The block that the keeper gave, where the task is a guarded request and it gave one.
+/// The desk's thread does the task of an operation: what its name came to. A guarded request is tried by the thread's keeper first, and where that gave no block the
+/// thread makes it as any other.
 #[inline(always)]
-fn tried<D: Desk, K: Tries<D>>(desk: &mut D, keeper: &mut K, task: Task) -> Option<Block>
-    requires stands { (f : TheProfile) × (k : ℕ) × (later : LaterKept) × (p : Progress) × MayTryTask f k task (K.has desk.old keeper.old) later p × StandsAt (D.standing desk.old) p.list × ((D.standing desk.old).seat.actor ≢ k) }
-    ensures tries { (f : TheProfile) (k : ℕ) (later : LaterKept) (p : Progress) → MayTryTask f k task (K.has desk.old keeper.old) later p → StandsAt (D.standing desk.old) p.list → (D.standing desk.old).seat.actor ≢ k
-        → TriesTask f k task result (D.standing desk.old) (D.standing desk.new) (K.has desk.old keeper.old) (K.has desk.new keeper.new) later p }
-    ensures none { keeper_of task ≡ None → result ≡ None }
-    ensures same { keeper_of task ≡ None → (desk.new ≡ desk.old) × (keeper.new ≡ keeper.old) }
+fn serve<D: Desk, O: Door, M: Remake, K: Tries<D>>(
+    desk: &mut D,
+    door: &mut O,
+    cache: &mut ThreadCache,
+    remaker: &M,
+    keeper: &mut K,
+    task: Task,
+    meant: Option<Block>,
+    out: &mut Records,
+) -> Option<Block>
+    requires stands { (f : TheProfile) × (k : ℕ) × (op : TheOp) × (next : List Act) × (later : Later) × (more : LaterKept) × (p : Progress)
+        × (op.what ≡ what_of task) × MayServe f k op next meant (here (D.standing desk.old) (cached cache.old) out.old) (K.has desk.old keeper.old) later more p }
+    ensures serves { (f : TheProfile) (k : ℕ) (op : TheOp) (next : List Act) (later : Later) (more : LaterKept) (p : Progress) → op.what ≡ what_of task
+        → MayServe f k op next meant (here (D.standing desk.old) (cached cache.old) out.old) (K.has desk.old keeper.old) later more p
+        → PairActs f op.actor k (head_acts op) (named_by op.what result) (here (D.standing desk.old) (cached cache.old) out.old)
+        (here (D.standing desk.new) (cached cache.new) out.new) (K.has desk.old keeper.old) (K.has desk.new keeper.new) later (for_guards next more) p × MayStand f result }
     ensures home { D.home desk.new ≡ D.home desk.old }
     ensures keeps_home { K.home keeper.new ≡ K.home keeper.old }
 {
@@ -67,13 +80,18 @@ fn tried<D: Desk, K: Tries<D>>(desk: &mut D, keeper: &mut K, task: Task) -> Opti
             size,
             align,
             ..
-        } => keeper.try_guarded(desk, name, heap, size, align),
-        _ => None,
+        } => match keeper.try_guarded(desk, name, heap, size, align) {
+            Some(block) => {
+                cache.settle(door);
+                Some(block)
+            }
+            None => at_desk::operate(desk, door, cache, remaker, task, meant, out),
+        },
+        _ => at_desk::operate(desk, door, cache, remaker, task, meant, out),
     }
 }
 
-/// Performs an operation of the desk's thread, of which none is a chore. A guarded request is tried by the thread's keeper first, and where that gave no block the thread
-/// makes it as any other. Its name is looked up and kept in book and requests.
+/// Performs an operation of the desk's thread, of which none is a chore. Its name is looked up and kept in book and requests.
 #[inline(always)]
 fn operate<D: Desk, O: Door, M: Remake, K: Tries<D>>(
     desk: &mut D,
@@ -86,25 +104,15 @@ fn operate<D: Desk, O: Door, M: Remake, K: Tries<D>>(
     op: Op,
     out: &mut Records,
 )
-    requires stands { (f : TheProfile) × (k : ℕ) × (next : List Act) × (later : Later) × (more : LaterKept) × (p : Progress)
-        × PairAt f op.actor k (head_acts op ++ next) (D.standing desk.old) (keeps (cached cache.old) (table book.now requests.old) out.old) (K.has desk.old keeper.old) later more p }
-    ensures works { (f : TheProfile) (k : ℕ) (next : List Act) (later : Later) (more : LaterKept) (p : Progress)
-        → PairAt f op.actor k (head_acts op ++ next) (D.standing desk.old) (keeps (cached cache.old) (table book.now requests.old) out.old) (K.has desk.old keeper.old) later more p
-        → PairWorks f op.actor k (head_acts op) next (D.standing desk.old) (D.standing desk.new) (keeps (cached cache.old) (table book.now requests.old) out.old) (keeps (cached cache.new) (table book.now requests.new) out.new) (K.has desk.old keeper.old) (K.has desk.new keeper.new) later more p }
+    requires stands { MayWork op (D.standing desk.old) (keeps (cached cache.old) (table book.now requests.old) out.old) (K.has desk.old keeper.old) }
+    ensures works { DoesWork op (D.standing desk.old) (D.standing desk.new) (keeps (cached cache.old) (table book.now requests.old) out.old)
+        (keeps (cached cache.new) (table book.now requests.new) out.new) (K.has desk.old keeper.old) (K.has desk.new keeper.new) }
     ensures home { D.home desk.new ≡ D.home desk.old }
     ensures keeps_home { K.home keeper.new ≡ K.home keeper.old }
 {
     if let Work::Own(task) = op.work() {
-        let came = match tried(desk, keeper, task) {
-            Some(block) => {
-                cache.settle(door);
-                Some(block)
-            }
-            None => {
-                let meant = freed(book, requests, task);
-                at_desk::operate(desk, door, cache, remaker, task, meant, out)
-            }
-        };
+        let meant = freed(book, requests, task);
+        let came = serve(desk, door, cache, remaker, keeper, task, meant, out);
         keep(requests, task, came);
     }
 }
@@ -122,11 +130,9 @@ fn operate_rare<D: Desk, O: Door, M: Remake, K: Tries<D>>(
     op: Op,
     out: &mut Records,
 )
-    requires stands { (f : TheProfile) × (k : ℕ) × (next : List Act) × (later : Later) × (more : LaterKept) × (p : Progress)
-        × PairAt f op.actor k (head_acts op ++ next) (D.standing desk.old) (keeps (cached cache.old) (table book.now requests.old) out.old) (K.has desk.old keeper.old) later more p }
-    ensures works { (f : TheProfile) (k : ℕ) (next : List Act) (later : Later) (more : LaterKept) (p : Progress)
-        → PairAt f op.actor k (head_acts op ++ next) (D.standing desk.old) (keeps (cached cache.old) (table book.now requests.old) out.old) (K.has desk.old keeper.old) later more p
-        → PairWorks f op.actor k (head_acts op) next (D.standing desk.old) (D.standing desk.new) (keeps (cached cache.old) (table book.now requests.old) out.old) (keeps (cached cache.new) (table book.now requests.new) out.new) (K.has desk.old keeper.old) (K.has desk.new keeper.new) later more p }
+    requires stands { MayWork op (D.standing desk.old) (keeps (cached cache.old) (table book.now requests.old) out.old) (K.has desk.old keeper.old) }
+    ensures works { DoesWork op (D.standing desk.old) (D.standing desk.new) (keeps (cached cache.old) (table book.now requests.old) out.old)
+        (keeps (cached cache.new) (table book.now requests.new) out.new) (K.has desk.old keeper.old) (K.has desk.new keeper.new) }
     ensures home { D.home desk.new ≡ D.home desk.old }
     ensures keeps_home { K.home keeper.new ≡ K.home keeper.old }
 {
@@ -147,11 +153,9 @@ fn operate_by_kind<D: Desk, O: Door, M: Remake, K: Tries<D>>(
     op: &Op,
     out: &mut Records,
 )
-    requires stands { (f : TheProfile) × (k : ℕ) × (next : List Act) × (later : Later) × (more : LaterKept) × (p : Progress)
-        × PairAt f op.now.actor k (head_acts op.now ++ next) (D.standing desk.old) (keeps (cached cache.old) (table book.now requests.old) out.old) (K.has desk.old keeper.old) later more p }
-    ensures works { (f : TheProfile) (k : ℕ) (next : List Act) (later : Later) (more : LaterKept) (p : Progress)
-        → PairAt f op.now.actor k (head_acts op.now ++ next) (D.standing desk.old) (keeps (cached cache.old) (table book.now requests.old) out.old) (K.has desk.old keeper.old) later more p
-        → PairWorks f op.now.actor k (head_acts op.now) next (D.standing desk.old) (D.standing desk.new) (keeps (cached cache.old) (table book.now requests.old) out.old) (keeps (cached cache.new) (table book.now requests.new) out.new) (K.has desk.old keeper.old) (K.has desk.new keeper.new) later more p }
+    requires stands { MayWork op.now (D.standing desk.old) (keeps (cached cache.old) (table book.now requests.old) out.old) (K.has desk.old keeper.old) }
+    ensures works { DoesWork op.now (D.standing desk.old) (D.standing desk.new) (keeps (cached cache.old) (table book.now requests.old) out.old)
+        (keeps (cached cache.new) (table book.now requests.new) out.new) (K.has desk.old keeper.old) (K.has desk.new keeper.new) }
     ensures home { D.home desk.new ≡ D.home desk.old }
     ensures keeps_home { K.home keeper.new ≡ K.home keeper.old }
 {
