@@ -333,6 +333,15 @@ impl Reader {
         self.gathered.add(Op { line, actor, what })
     }
 
+    /// The same, out of line: with a copy of it for each kind of operation `add` would be too large to stand in line itself.
+    #[inline(never)]
+    fn count_rare(&mut self, actor: u8, what: What, cost: u32) -> Result<(), AllocError>
+        requires { IsReady self.old.counts actor cost }
+        ensures { OnOk result (IsCounted self.old self.new actor what cost) }
+    {
+        self.count(actor, what, cost)
+    }
+
     /// Adds an operation of the thread, and gives it the name that the operation makes.
     #[inline(always)]
     fn operate(&mut self, thread: u8, wish: Wish, cost: u32) -> Result<(), AllocError>
@@ -376,7 +385,7 @@ impl Reader {
             Wish::FreesRaw { address, turn } => {
                 let address = Address(address);
                 let block = Name { address, turn };
-                self.count(thread, What::Raw { block }, cost)
+                self.count_rare(thread, What::Raw { block }, cost)
             }
             Wish::FreesRawSized {
                 address,
@@ -387,7 +396,7 @@ impl Reader {
                 let room = self.header.profile.room_for(size as u32, align as u32);
                 let address = Address(address);
                 let block = Name { address, turn };
-                self.count(thread, What::RawSized { block, room }, cost)
+                self.count_rare(thread, What::RawSized { block, room }, cost)
             }
             Wish::Remakes {
                 name,
@@ -410,10 +419,10 @@ impl Reader {
                     size: size as u32,
                     align: align as u32,
                 };
-                self.count(thread, what, cost)
+                self.count_rare(thread, what, cost)
             }
-            Wish::Flushes => self.count(thread, What::Flush, cost),
-            Wish::Stops => self.count(thread, What::Stop, cost),
+            Wish::Flushes => self.count_rare(thread, What::Flush, cost),
+            Wish::Stops => self.count_rare(thread, What::Stop, cost),
         }
     }
 
@@ -464,7 +473,7 @@ impl Reader {
                 Ok(())
             }
             Item::Operates { thread, wish } => self.operate(thread as u8, wish, cost),
-            Item::Scavenges(chore) => self.count(0, chore.what(), cost),
+            Item::Scavenges(chore) => self.count_rare(0, chore.what(), cost),
         }
     }
 

@@ -78,7 +78,11 @@ impl CodedPhase {
     {
         match Code::of(op) {
             Some(code) => self.push(code),
-            None => self.add_rare(op),
+            // Taken apart, so that an operation that has a code need never stand in memory.
+            None => {
+                let Op { line, actor, what } = op;
+                self.add_rare(Op { line, actor, what })
+            }
         }
     }
 }

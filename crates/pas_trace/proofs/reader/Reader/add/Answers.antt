@@ -29,8 +29,8 @@ operate-requires-clause-can c =
 pub operate-requires-clause-fits : goal.operate-requires-clause-fits
 operate-requires-clause-fits c = let p = c.requires.tells in fit_for _ p.0 _ p.1 p.2 c.in-Operates.thread c.in-Operates.wish c.in-Operates.is
 
-pub count-requires : goal.count-requires
-count-requires c =
+pub count_rare-requires : goal.count_rare-requires
+count_rare-requires c =
     let p = c.requires.tells in
     ready_for _ p.0 _ p.1 p.2 0 _ c.requires.cost (ap is_operation c.in-Scavenges.is) (ap actor_of c.in-Scavenges.is) (λ g. ap (λ i. guard_after i g) c.in-Scavenges.is)
 
@@ -38,7 +38,7 @@ pub returns-in-Operates : goal.returns-in-Operates
 returns-in-Operates c = search (arith, on_ok_weaker, added_wish, c.operate.ensures)
 
 pub returns-in-Scavenges : goal.returns-in-Scavenges
-returns-in-Scavenges c = search (arith, on_ok_weaker, added_chore, c.what.ensures, c.count.ensures)
+returns-in-Scavenges c = search (arith, on_ok_weaker, added_chore, c.what.ensures, c.count_rare.ensures)
 
 pub returns-in-NextPhase : goal.returns-in-NextPhase
 returns-in-NextPhase c = search (arith, on_ok_weaker, added_phase, c.next_phase.ensures)

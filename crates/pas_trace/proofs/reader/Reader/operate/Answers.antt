@@ -25,23 +25,23 @@ pub returns-in-FreesSized : goal.returns-in-FreesSized
 returns-in-FreesSized c = search (arith, on_ok_weaker, unnamed, c.room_for-room.ensures, c.count-in-FreesSized.ensures)
 
 pub returns-in-FreesRaw : goal.returns-in-FreesRaw
-returns-in-FreesRaw c = search (arith, on_ok_weaker, unnamed, c.count-in-FreesRaw.ensures)
+returns-in-FreesRaw c = search (arith, on_ok_weaker, unnamed, c.count_rare.ensures)
 
 pub returns-in-FreesRawSized : goal.returns-in-FreesRawSized
-returns-in-FreesRawSized c = search (arith, on_ok_weaker, unnamed, c.room_for-room-in-FreesRawSized.ensures, c.count-in-FreesRawSized.ensures)
+returns-in-FreesRawSized c = search (arith, on_ok_weaker, unnamed, c.room_for-room-in-FreesRawSized.ensures, c.count_rare-in-FreesRawSized.ensures)
 
 pub returns-in_ok-give-in-Remakes : goal.returns-in_ok-give-in-Remakes
 returns-in_ok-give-in-Remakes c =
     let old = c.args.self.now in
-    let new = c.count-in-Remakes.new.self in
+    let new = c.count_rare-in-Remakes.new.self in
     let a = c.in-Remakes in
     let home = ap (λ (o : Owner). o.heap) c.owner-heap.ensures in
     on_ok_weaker _ (λ h. subst (λ (w : Wish). IsOperated old new c.args.thread w c.args.cost) (sym a.is)
     (renamed old (record old { names = c.give-in-Remakes.new.self }) new _ _ a.name _ _
-    _ _ refl home refl (ap (λ heap. What.Remake a.name a.old heap a.size a.align) home) refl c.in_ok-give-in-Remakes.ensures h)) c.count-in-Remakes.ensures
+    _ _ refl home refl (ap (λ heap. What.Remake a.name a.old heap a.size a.align) home) refl c.in_ok-give-in-Remakes.ensures h)) c.count_rare-in-Remakes.ensures
 
 pub returns-in-Flushes : goal.returns-in-Flushes
-returns-in-Flushes c = search (arith, on_ok_weaker, unnamed, c.count-in-Flushes.ensures)
+returns-in-Flushes c = search (arith, on_ok_weaker, unnamed, c.count_rare-in-Flushes.ensures)
 
 pub returns-in-Stops : goal.returns-in-Stops
-returns-in-Stops c = search (arith, on_ok_weaker, unnamed, c.count-in-Stops.ensures)
+returns-in-Stops c = search (arith, on_ok_weaker, unnamed, c.count_rare-in-Stops.ensures)
