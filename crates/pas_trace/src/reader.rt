@@ -716,7 +716,7 @@ impl Reader {
     }
 
     /// .. and their script
-    fn scripted(self) -> Result<Script, ReadFault>
+    pub(crate) fn scripted(self) -> Result<Script, ReadFault>
         requires tells { (items : List Item) × Tells self items }
         requires gathers { is_scripting self.gathered ≡ true }
         ensures { MatchResult result (λ script. (items : List Item) → Tells self items → IsScripted self.header items script) (λ fault. fault ≡ ReadFault.NoMemory) }
