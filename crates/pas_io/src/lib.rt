@@ -5,6 +5,7 @@
 #![tactic(auto)]
 
 pub mod memory;
+pub mod pieces;
 pub mod reach;
 pub mod real;
 mod schedule;

@@ -1,9 +1,10 @@
 //! Reading and writing whole texts.
-ghost use Rattle.std.specs.Prelude.{◌≡◌, ◌<◌, ◌≤◌, ◌+◌, ◌-◌, ◌^◌, ℕ, List, Some, length, IfOk, OnOk, OnErr, IsErrOf};
+ghost use Rattle.std.specs.Prelude.{◌≡◌, ◌<◌, ◌≤◌, ◌+◌, ◌^◌, ℕ, List, Some, IfOk, OnOk, OnErr, IsErrOf};
 ghost use Rattle.pas_io.specs.{Told.Rose, Told.Writes, Told.WritesFront, Reached.StopsAtEnd};
-ghost use Rattle.pas_io.specs.Inputs.{HasRead, IsInput, IsReadOut, IsReadUp, IsShort, Takes};
+ghost use Rattle.pas_io.specs.Inputs.{IsInput, IsReadOut, IsReadUp, IsShort, Takes};
 ghost use Rattle.pas_io.specs.declared.reach.Reach.TheVariants as Reach;
 
+use crate::pieces::fill;
 use crate::{Failed, Sink, Source};
 use std::alloc::Global;
 
@@ -21,34 +22,6 @@ pub fn write_all<K: Sink>(sink: &mut K, bytes: &[u8]) -> Result<(), Failed>
         written += sink.write(&bytes[written..])?;
     }
     Ok(())
-}
-
-/// Fills the buffer from the source, up to the buffer's end or the source's, where the bytes before `start` stand in it already. It
-/// answers how many stand in it then.
-fn fill<S: Source>(source: &mut S, buffer: &mut [u8], start: usize) -> Result<usize, Failed>
-    requires { start ≤ length buffer.old }
-    ensures within { IfOk result (λ n. n ≤ length buffer.old) }
-    ensures reads { IfOk result (λ n. (told : List ℕ) → HasRead told (S.rest source.old) buffer.old start → HasRead told (S.rest source.new) buffer.new n) }
-    ensures all { IfOk result (λ n. n < length buffer.old → (told : List ℕ) → HasRead told (S.rest source.old) buffer.old start → n ≡ length told) }
-    ensures takes { (told : List ℕ) → HasRead told (S.rest source.old) buffer.old start → Takes told (S.rest source.new) (length buffer.old) }
-    ensures stops { S.reach source.old ≡ Reach.Within → StopsAtEnd (S.reach source.new) }
-    ensures goes { IfOk result (λ n. n ≡ length buffer.old → S.reach source.old ≡ Reach.Within → S.reach source.new ≡ Reach.Within) }
-    ensures ends { IfOk result (λ n. n < length buffer.old → S.reach source.old ≡ Reach.Within → S.reach source.new ≡ Reach.AtEnd) }
-    ensures sound { IfOk result (λ n. S.faults source.new ≡ S.faults source.old) }
-    ensures stopped { OnErr result ((told : List ℕ) → HasRead told (S.rest source.old) buffer.old start → Takes told (S.rest source.new) (length buffer.old - 1)) }
-    ensures failed { OnErr result (Rose (S.faults source.old) (S.faults source.new)) }
-    ensures count { S.faults source.old ≤ S.faults source.new }
-    ensures once { S.faults source.new ≤ S.faults source.old + 1 }
-{
-    let mut taken = start;
-    while taken < buffer.len() {
-        let count = source.read(&mut buffer[taken..])?;
-        if count == 0 {
-            return Ok(taken);
-        }
-        taken += count;
-    }
-    Ok(taken)
 }
 
 /// What a source gave.

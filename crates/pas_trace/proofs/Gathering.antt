@@ -4,7 +4,7 @@ use Rattle.std.proofs.Common.{subst, ◌∙◌, inl, inr, get_or-set_same, get_o
 use Rattle.std.proofs.lemmas.Bool.{cases_eq}
 use Rattle.std.proofs.lemmas.List.{map-append, get_or_append_left, get_or_at, length-map}
 use Rattle.pas_trace.specs.Codes.{unlined, is_rare, IsPlaced, nothing, said_by, no_code}
-use Rattle.pas_trace.specs.Plans.{add_last, ops_of, IsReading}
+use Rattle.pas_trace.specs.Plans.{add_last, ops_of, parsed, IsReading}
 use Rattle.pas_trace.specs.Scripts.{without_lines, coded_ops, IsScriptFor, IsScriptOf, IsScripting}
 use Rattle.pas_trace.specs.Gathering.{scripted_phases, HasGathered, Gathers, is_scripting}
 use Rattle.pas_trace.specs.declared.{gathered.Coded.Coded, gathered.Gathered.Gathered, plan.Op.Op, code.Code.Code, header.Header.Header}
@@ -12,7 +12,7 @@ use Rattle.pas_trace.specs.declared.{fault.ReadFault.ReadFault, fault.ReadFault.
 use Rattle.pas_trace.specs.declared.{plan.Phase.Phase, plan.Plan.Plan, reader.Reader.Reader, script.CodedPhase.CodedPhase, script.Script.Script}
 use Rattle.std.specs.Global.{Vec}
 use Rattle.pas_trace.specs.Told.{Tells, IsRead, IsBegun, IsPlanned, IsScripted}
-use Rattle.pas_trace.proofs.LexedLines.{read-planned}
+use Rattle.pas_trace.proofs.LexedLines.{read-planned, plan-read}
 use Rattle.pas_trace.specs.declared.gathered.Gathered.TheVariants as kind
 
 -- an operation goes to the end of the last phase
@@ -136,6 +136,12 @@ pub read-scripted : (for_script : Bool) (text rest : List ℕ) (r new : Reader) 
 read-scripted for_script text rest r new script b h made =
     let p = plan-for new.header h.0 script made in
     record { plan = p.plan; read = read-planned for_script text rest r new p.plan b h p.planned; same = p.same }
+
+-- A text whose items and header are these has the script that is made of them.
+pub text-scripted : (text : List ℕ) (f : Header) (all : List Item) (script : Script) → parsed text ≡ Ok (record { header = f; items = all })
+    → IsScripted f all script → IsScriptOf text script
+text-scripted text f all script read made =
+    let p = plan-for f all script made in record { plan = p.plan; read = plan-read text f all p.plan read p.planned; same = p.same }
 
 -- .. which may want memory
 pub scripted-reading : (text : List ℕ) (reader : Reader) (result : Result Script ReadFault)

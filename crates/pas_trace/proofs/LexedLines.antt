@@ -62,12 +62,13 @@ parsed-items : (text line rest : List ℕ) (f : Header) → lines_of text ≡ li
 parsed-items text line rest f e h = ap parsed_lines e ∙ ap (λ header. with_header header (lines_of rest)) h
 
 -- ---- and to the plan
-planned : (text line rest : List ℕ) (f : Header) (all : List Item) (plan : Plan) → lines_of text ≡ line ∷ lines_of rest → header_of line ≡ Some f
-    → items_from f 2 [] (lines_of rest) ≡ Ok all → IsPlanned f all plan → IsPlanOf text plan
-planned text line rest f all plan e h i p = record {
+-- A text whose items and header are these has a plan that is made of them.
+pub plan-read : (text : List ℕ) (f : Header) (all : List Item) (plan : Plan) → parsed text ≡ Ok (record { header = f; items = all }) → IsPlanned f all plan
+    → IsPlanOf text plan
+plan-read text f all plan read p = record {
   items = all;
   header = f;
-  read = parsed-items text line rest f e h ∙ ap (with_items f) i;
+  read = read;
   version = p.outline.version;
   profile = p.outline.profile;
   guard = p.outline.guard;
@@ -76,6 +77,10 @@ planned text line rest f all plan e h i p = record {
   total = p.outline.total;
   names = p.outline.names;
 }
+
+planned : (text line rest : List ℕ) (f : Header) (all : List Item) (plan : Plan) → lines_of text ≡ line ∷ lines_of rest → header_of line ≡ Some f
+    → items_from f 2 [] (lines_of rest) ≡ Ok all → IsPlanned f all plan → IsPlanOf text plan
+planned text line rest f all plan e h i p = plan-read text f all plan (parsed-items text line rest f e h ∙ ap (with_items f) i) p
 
 from-second : (r : Reader) (rest : List ℕ) → Tells r [] → items_from r.header 2 [] (lines_of rest) ≡ items_from r.header (r.line + 1) [] (lines_of rest)
 from-second r rest t = ap (λ n. items_from r.header n [] (lines_of rest)) (sym (ap (λ n. n + 1) t.line))
@@ -226,7 +231,8 @@ after-more : (n : ℕ) (says : Result Item Reason) (some more : Item → Result 
 after-more n (Ok i) some more all result h e = h i e
 after-more n (Err r) some more all result h e = absurd (cc)
 
-items-more : (f : Header) (told : List Item) (xs ys : List (List ℕ)) (all : List Item) → items_from f (line_of_newest told + 1) told xs ≡ Ok all
+-- Lines that are taken without a fault leave the others to be taken.
+pub items-more : (f : Header) (told : List Item) (xs ys : List (List ℕ)) (all : List Item) → items_from f (line_of_newest told + 1) told xs ≡ Ok all
     → items_from f (line_of_newest told + 1) told (xs ++ ys) ≡ items_from f (line_of_newest all + 1) all ys
 items-more f told [] ys all e = let same : told ≡ all = cc in ap (λ (is : List Item). items_from f (line_of_newest is + 1) is ys) same
 items-more f told (x ∷ xs) ys all e = after-more _ _ _ _ all _ (λ i. items-more f (i ∷ told) xs ys all) e
@@ -236,7 +242,8 @@ after-fault : (n : ℕ) (says : Result Item Reason) (some more : Item → Result
 after-fault n (Ok i) some more fault h e = h i e
 after-fault n (Err r) some more fault h e = e
 
-items-fault : (f : Header) (n : ℕ) (told : List Item) (xs ys : List (List ℕ)) (fault : TraceFault) → items_from f n told xs ≡ Err fault
+-- A fault is the first one whatever lines follow.
+pub items-fault : (f : Header) (n : ℕ) (told : List Item) (xs ys : List (List ℕ)) (fault : TraceFault) → items_from f n told xs ≡ Err fault
     → items_from f n told (xs ++ ys) ≡ Err fault
 items-fault f n told [] ys fault e = absurd (cc)
 items-fault f n told (x ∷ xs) ys fault e = after-fault n (line_says f told x) _ _ fault (λ i. items-fault f (n + 1) (i ∷ told) xs ys fault) e

@@ -6,6 +6,7 @@ pub mod Costs
 pub mod PassedChecks
 mod Telling
 mod LexedLines
+mod TakenLines
 pub mod Rooms
 mod ParsedItems
 pub mod EveryPlan

@@ -1,9 +1,9 @@
 -- Pieces, lines and words against places in the bytes.
 use Rattle.std.proofs.Common.{◌≡◌, ◌≢◌, ℕ, zero, suc, ◌+◌, ◌<◌, ◌≤◌, ◌==◌, Bool, true, false, if◌then◌else◌, List, [], ◌∷◌, take, drop, length, get_or, ◌-◌}
 use Rattle.std.proofs.Common.{refl, sym, ap, subst, ◌∙◌, arith, add-one, add-zero, length-drop, get_or-drop, eq-eqb, ne_eqb, nat_le, ◌++◌, leb-true}
-use Rattle.std.proofs.Common.{take-append-drop, append-nil}
+use Rattle.std.proofs.Common.{take-append-drop, append-nil, append_assoc}
 use Rattle.std.proofs.{Math.Seq.drop-length, lemmas.List.take_rest, lemmas.List.take_more, lemmas.List.drop_more, lemmas.Bool.and_parts}
-use Rattle.pas_trace.specs.Texts.{put_first, pieces, without_empty_end, lines_of, without_empty, words_of}
+use Rattle.pas_trace.specs.Texts.{put_first, pieces, without_empty_end, lines_of, without_empty, words_of, IsWhole}
 use Rattle.pas_trace.specs.Numbers.{is_digit, all_digits}
 
 -- no byte among the first n is the separator
@@ -207,6 +207,21 @@ lines-cut bs n lt found =
     let whole : bs ≡ take n bs ++ 10 ∷ after = sym (take-append-drop n bs) ∙ ap (λ (t : List ℕ). take n bs ++ t) (drop_more bs n 0 lt ∙ ap (λ (b : ℕ). b ∷ after) found) in
     let front : take (n + 1) bs ≡ take n bs ++ 10 ∷ [] = take_more bs n 0 lt ∙ ap (λ (b : ℕ). take n bs ++ b ∷ []) found in
     ap lines_of whole ∙ lines-append (take n bs) after ∙ ap (λ (t : List ℕ). lines_of t ++ lines_of after) (sym front)
+
+-- The front of a text up to the end of a line is whole lines, of which there is one.
+pub whole-at : (bs : List ℕ) (n : ℕ) → n < length bs → get_or bs n 0 ≡ 10 → IsWhole (take (n + 1) bs)
+whole-at bs n lt found rest =
+    let front : take (n + 1) bs ≡ take n bs ++ 10 ∷ [] = take_more bs n 0 lt ∙ ap (λ (b : ℕ). take n bs ++ b ∷ []) found in
+    ap (λ (t : List ℕ). lines_of (t ++ rest)) front ∙ ap lines_of (append_assoc (take n bs) (10 ∷ []) rest) ∙ lines-append (take n bs) rest
+    ∙ ap (λ (t : List ℕ). lines_of t ++ lines_of rest) (sym front)
+
+pub some-at : (bs : List ℕ) (n : ℕ) → n < length bs → get_or bs n 0 ≡ 10 → lines_of (take (n + 1) bs) ≢ []
+some-at bs n lt found none =
+    let front : take (n + 1) bs ≡ take n bs ++ 10 ∷ [] = take_more bs n 0 lt ∙ ap (λ (b : ℕ). take n bs ++ b ∷ []) found in
+    let some = pieces-some 10 (take n bs) in
+    let lines : lines_of (take (n + 1) bs) ≡ some.0 ∷ some.1 = ap lines_of front ∙ lines-ended (take n bs) [] ∙ append-nil (pieces 10 (take n bs)) ∙ some.2 in
+    let both : [] ≡ some.0 ∷ some.1 = sym none ∙ lines in
+    absurd (cc)
 
 -- .. that is the first from a place on
 pub lines-from : (bs : List ℕ) (p n : ℕ) → n ≤ length (take (length bs - p) (drop p bs))

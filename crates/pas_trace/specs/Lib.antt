@@ -11,6 +11,7 @@ pub mod Courses
 pub mod Gathering
 pub mod Told
 pub mod Lexed
+pub mod Streams
 pub mod Asked
 pub mod EveryPlan
 pub mod EveryPhase

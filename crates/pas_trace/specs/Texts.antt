@@ -1,5 +1,5 @@
 -- Lines and words of a text, as functions on its bytes.
-use Rattle.std.specs.Prelude.{ℕ, ◌==◌, if◌then◌else◌, List, [], ◌∷◌}
+use Rattle.std.specs.Prelude.{ℕ, ◌==◌, ◌≡◌, if◌then◌else◌, List, [], ◌∷◌, ◌++◌}
 
 -- the pieces of the bytes between the separators; there is always one
 abbrev pub put_first : ℕ → List (List ℕ) → List (List ℕ)
@@ -20,6 +20,10 @@ without_empty_end (p ∷ q ∷ ps) = p ∷ without_empty_end (q ∷ ps)
 -- the lines of a text
 abbrev pub lines_of : List ℕ → List (List ℕ)
 lines_of text = without_empty_end (pieces 10 text)
+
+-- the text ends behind a line: whatever follows, its lines come first and then those of what follows
+abbrev pub IsWhole : List ℕ → Type 0
+IsWhole text = (rest : List ℕ) → lines_of (text ++ rest) ≡ lines_of text ++ lines_of rest
 
 abbrev pub without_empty : List (List ℕ) → List (List ℕ)
 without_empty [] = []

@@ -23,6 +23,7 @@ mod requests;
 mod rounds;
 mod samples;
 pub mod script;
+mod stream;
 mod words;
 
 pub use code::Code;
@@ -35,3 +36,4 @@ pub use plan::{Bounds, Chore, Op, Phase, Phases, Plan, Task, What, Work};
 pub use reader::{read_script, read_trace};
 pub use rounds::read_trace_on;
 pub use script::{CodedPhase, CodedPhases, Script};
+pub use stream::ScriptReader;

@@ -1,7 +1,7 @@
 use Rattle.std.proofs.Common.{◌≡◌, ◌≤◌, ◌-◌, ℕ, List, length}
 use Rattle.pas_io.specs.Inputs.{HasRead}
 use Rattle.pas_io.specs.declared.reach.Reach.TheVariants.{Within}
-use Rattle.pas_io.proofs.whole.fill.Given as goal
+use Rattle.pas_io.proofs.pieces.fill.Given as goal
 
 abbrev pub invariant-loop-taken : goal.invariant-loop-taken
 invariant-loop-taken g l = record {

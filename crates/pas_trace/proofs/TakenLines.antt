@@ -1,0 +1,143 @@
+-- A text whose lines are taken as its bytes come.
+use Rattle.std.proofs.Common.{arith, ◌≡◌, ◌≢◌, ◌≤◌, ℕ, ◌+◌, ◌++◌, List, [], ◌∷◌, Option, None, Some, Result, Ok, Err, refl, sym, ap, subst, ◌∙◌, length, true}
+use Rattle.std.proofs.Common.{append_assoc, length-append, append-nil, take, Global}
+use Rattle.pas_trace.specs.declared.{header.Header.Header, item.Item.Item, reader.Reader.Reader, fault.TraceFault.TraceFault, script.Script.Script}
+use Rattle.pas_trace.specs.declared.{fault.ReadFault.ReadFault, fault.ReadFault.TheVariants.Trace, fault.ReadFault.TheVariants.NoMemory, stream.Lines.Lines}
+use Rattle.pas_trace.specs.declared.stream.Lines.TheVariants as kind
+use Rattle.pas_trace.specs.{Texts.lines_of, Texts.IsWhole, Scripts.IsScriptOf, Scripts.IsScripting}
+use Rattle.pas_trace.specs.Told.{Tells, AreTaken, IsRead, IsBegun, IsScripted}
+use Rattle.pas_trace.specs.Plans.{IsReading, Parsed, parsed, parsed_lines, with_header, with_items, items_from, line_of_newest}
+use Rattle.pas_trace.specs.Streams.{HasReadText, AreLinesOf, AreLinesAfter, TakesLines}
+use Rattle.pas_trace.proofs.{LexedLines.items-more, LexedLines.items-fault, Gathering.text-scripted}
+
+-- ---- what a text comes to, from what the lines that are left come to
+module _ (P : List ℕ → Result Parsed TraceFault) (r : Reader) (items : List Item) (xs : List (List ℕ)) (tells : Tells r items)
+    (goes : (rest : List ℕ) → P rest ≡ with_items r.header (items_from r.header (r.line + 1) items (xs ++ lines_of rest))) where
+  -- after lines that were taken
+  goes-on : (new : Reader) (t : AreTaken r items xs new (Ok tt)) (rest : List ℕ)
+      → P rest ≡ with_items new.header (items_from new.header (new.line + 1) t.0 (lines_of rest))
+  goes-on new t rest =
+      let line : r.line ≡ line_of_newest items = tells.line in
+      let line' : new.line ≡ line_of_newest t.0 = t.2.line in
+      let taken : items_from r.header (line_of_newest items + 1) items xs ≡ Ok t.0 = ap (λ n. items_from r.header (n + 1) items xs) (sym line) ∙ t.1 in
+      goes rest ∙ ap (λ n. with_items r.header (items_from r.header (n + 1) items (xs ++ lines_of rest))) line
+      ∙ ap (with_items r.header) (items-more r.header items xs (lines_of rest) t.0 taken)
+      ∙ ap (λ n. with_items r.header (items_from r.header (n + 1) t.0 (lines_of rest))) (sym line')
+      ∙ ap (λ (h : Header). with_items h (items_from h (new.line + 1) t.0 (lines_of rest))) (sym t.3)
+
+  -- .. of which one has a fault
+  goes-wrong : (fault : TraceFault) → items_from r.header (r.line + 1) items xs ≡ Err fault → (rest : List ℕ) → P rest ≡ Err fault
+  goes-wrong fault e rest = goes rest ∙ ap (with_items r.header) (items-fault r.header (r.line + 1) items xs (lines_of rest) fault e)
+
+-- ---- the first lines of a text
+with-fault : (h : Header) (read : Result (List Item) TraceFault) (fault : TraceFault) → with_items h read ≡ Err fault → read ≡ Err fault
+with-fault h (Err other) fault e = let same : other ≡ fault = cc in ap Err same
+with-fault h (Ok items) fault e = absurd (cc)
+
+header-fault : (h : Option Header) (lines more : List (List ℕ)) (fault : TraceFault) → with_header h lines ≡ Err fault → with_header h (lines ++ more) ≡ Err fault
+header-fault None lines more fault e = e
+header-fault (Some h) lines more fault e = ap (with_items h) (items-fault h 2 [] lines more fault (with-fault h (items_from h 2 [] lines) fault e))
+
+lines-wrong : (lines more : List (List ℕ)) (fault : TraceFault) → lines ≢ [] → parsed_lines lines ≡ Err fault → parsed_lines (lines ++ more) ≡ Err fault
+lines-wrong [] more fault some e = absurd (some refl)
+lines-wrong (line ∷ lines) more fault some e = header-fault _ lines more fault e
+
+-- A text of whole lines with a fault has it whatever follows.
+pub faulty-front : (text : List ℕ) (fault : ReadFault) → IsWhole text → lines_of text ≢ [] → IsReading text (Err fault) → AreLinesOf text (kind.Faulty fault)
+faulty-front text NoMemory whole some e rest = tt
+faulty-front text (Trace fault) whole some e rest = ap parsed_lines (whole rest) ∙ lines-wrong (lines_of text) (lines_of rest) fault some e
+
+begun-goes : (text : List ℕ) (r : Reader) (left : List ℕ) → IsWhole text → IsBegun true text r left → (rest : List ℕ)
+    → parsed (text ++ rest) ≡ with_items r.header (items_from r.header (r.line + 1) [] (lines_of left ++ lines_of rest))
+begun-goes text r left whole b rest =
+    ap parsed_lines (whole rest ∙ ap (λ ls. ls ++ lines_of rest) b.cut)
+    ∙ ap (λ h. with_header h (lines_of left ++ lines_of rest)) b.header
+    ∙ ap (λ n. with_items r.header (items_from r.header (n + 1) [] (lines_of left ++ lines_of rest))) (sym b.tells.line)
+
+-- The lines after the header are the lines of the text.
+pub begun-lines : (text : List ℕ) (r : Reader) (left : List ℕ) (lines : Lines) → IsWhole text → IsBegun true text r left → AreLinesAfter r left lines
+    → AreLinesOf text lines
+begun-lines text r left (kind.Unread alloc) whole b after = absurd after
+begun-lines text r left (kind.Read new) whole b after =
+    let t = after.0 [] b.tells in
+    record {
+      items = t.0;
+      tells = t.2;
+      scripting = t.4 ∙ b.gathers;
+      few = omega (arith, after.1, b.shorter, b.tells.line);
+      goes = goes-on (λ rest. parsed (text ++ rest)) r [] (lines_of left) b.tells (begun-goes text r left whole b) new t;
+    }
+begun-lines text r left (kind.Faulty NoMemory) whole b after = λ rest. tt
+begun-lines text r left (kind.Faulty (Trace fault)) whole b after =
+    goes-wrong (λ rest. parsed (text ++ rest)) r [] (lines_of left) b.tells (begun-goes text r left whole b) fault (after [] b.tells)
+
+-- ---- the lines after those that were read
+-- What is said of a fault is said of no reader after it.
+pub read-no-more : (r new : Reader) (items : List Item) (text : List ℕ) (fault : ReadFault) → IsRead r items text new (Err fault) → IsRead r items text r (Err fault)
+read-no-more r new items text (Trace fault) h = h
+read-no-more r new items text NoMemory h = tt
+
+more-goes : (before text : List ℕ) (r : Reader) (h : HasReadText before r) → IsWhole text → (rest : List ℕ)
+    → parsed ((before ++ text) ++ rest) ≡ with_items r.header (items_from r.header (r.line + 1) h.items (lines_of text ++ lines_of rest))
+more-goes before text r h whole rest =
+    ap parsed (append_assoc before text rest) ∙ h.goes (text ++ rest)
+    ∙ ap (λ ls. with_items r.header (items_from r.header (r.line + 1) h.items ls)) (whole rest)
+
+-- The lines of a text that follows one that was read are those of both.
+pub more-lines : (before text : List ℕ) (r : Reader) (lines : Lines) → IsWhole text → HasReadText before r → AreLinesAfter r text lines
+    → AreLinesOf (before ++ text) lines
+more-lines before text r (kind.Unread alloc) whole h after = absurd after
+more-lines before text r (kind.Read new) whole h after =
+    let t = after.0 h.items h.tells in
+    record {
+      items = t.0;
+      tells = t.2;
+      scripting = t.4 ∙ h.scripting;
+      few = omega (arith, after.1, h.few, length-append before text);
+      goes = goes-on (λ rest. parsed ((before ++ text) ++ rest)) r h.items (lines_of text) h.tells (more-goes before text r h whole) new t;
+    }
+more-lines before text r (kind.Faulty NoMemory) whole h after = λ rest. tt
+more-lines before text r (kind.Faulty (Trace fault)) whole h after =
+    goes-wrong (λ rest. parsed ((before ++ text) ++ rest)) r h.items (lines_of text) h.tells (more-goes before text r h whole) fault (after h.items h.tells)
+
+-- ---- the rest of a text
+-- A text whose rest was read without a fault has the script of its items.
+pub rest-scripted : (before rest : List ℕ) (r new : Reader) (script : Script) (h : HasReadText before r) (t : IsRead r h.items rest new (Ok tt))
+    → IsScripted new.header t.0 script → IsScriptOf (before ++ rest) script
+rest-scripted before rest r new script h t made =
+    text-scripted (before ++ rest) r.header t.0 script (h.goes rest ∙ ap (with_items r.header) t.1) (subst (λ (f : Header). IsScripted f t.0 script) t.3 made)
+
+-- A text whose rest has a fault has that as its first.
+pub rest-wrong : (before rest : List ℕ) (r : Reader) (fault : TraceFault) (h : HasReadText before r) → items_from r.header (r.line + 1) h.items (lines_of rest) ≡ Err fault
+    → parsed (before ++ rest) ≡ Err fault
+rest-wrong before rest r fault h e = h.goes rest ∙ ap (with_items r.header) e
+
+-- .. which may want memory
+pub rest-failed : (before rest : List ℕ) (r new : Reader) (fault : ReadFault) (h : HasReadText before r) → IsRead r h.items rest new (Err fault)
+    → IsScripting (before ++ rest) (Err fault)
+rest-failed before rest r new (Trace fault) h e = rest-wrong before rest r fault h e
+rest-failed before rest r new NoMemory h e = tt
+
+-- ---- the bytes that come next
+-- Where they have no whole line none is taken.
+pub taken-none : (old : Lines) (text : List ℕ) → TakesLines old text old 0
+taken-none old text = record { within = omega arith; taken = λ before h. subst (λ (t : List ℕ). AreLinesOf t old) (sym (append-nil before)) h }
+
+-- Their whole lines are taken where none was before ..
+pub taken-first : (alloc : Global) (text : List ℕ) (new : Lines) (count : ℕ) → count ≤ length text → AreLinesOf (take count text) new
+    → TakesLines (kind.Unread alloc) text new count
+taken-first alloc text new count fits h =
+    record { within = fits; taken = λ before is. subst (λ (t : List ℕ). AreLinesOf (t ++ take count text) new) (sym is) h }
+
+-- .. and after those that were read.
+pub taken-more : (r : Reader) (text : List ℕ) (new : Lines) (count : ℕ) → count ≤ length text → IsWhole (take count text) → AreLinesAfter r (take count text) new
+    → TakesLines (kind.Read r) text new count
+taken-more r text new count fits whole after = record { within = fits; taken = λ before h. more-lines before (take count text) r new whole h after }
+
+-- Behind a fault all are taken.
+pub taken-faulty : (fault : ReadFault) (text : List ℕ) → TakesLines (kind.Faulty fault) text (kind.Faulty fault) (length text)
+taken-faulty fault text = record {
+  within = omega arith;
+  taken = λ before wrong rest. subst (λ (t : List ℕ). IsScripting t (Err fault)) (sym (append_assoc before (take (length text) text) rest))
+      (wrong (take (length text) text ++ rest));
+}
