@@ -65,9 +65,8 @@ fn stop_idle(
     }
 }
 
-/// Performs an operation, in a phase in which these threads have one. Its line doesn't matter. It stays out of line, and is the one place that
-/// has an operation answered: so what answers it is in line here.
-#[inline(never)]
+/// Performs an operation, in a phase in which these threads have one. Its line doesn't matter.
+#[inline(always)]
 fn perform<M: Remake>(
     desk: &mut PlainDesk,
     actors: &mut Actors,

@@ -188,8 +188,9 @@ fn settle(actors: &mut Actors, actor: u8)
 }
 
 /// The thread of this number does the task, and what its name came to is kept. A request for whole pages asks the indexes, and they take the runs of large blocks
-/// that its cache noted. This answers each operation of the thread that asks for the task, and that no keeper answers.
-#[inline(always)]
+/// that its cache noted. This answers each operation of the thread that asks for the task, and that no keeper answers. It stays out of line, and is the one place
+/// that has an operation answered, whose code stands in line here.
+#[inline(never)]
 fn serve<M: Remake>(
     desk: &mut PlainDesk,
     actors: &mut Actors,
