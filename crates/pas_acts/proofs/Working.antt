@@ -233,6 +233,7 @@ module _ {k name heap size align : ℕ} (op : Op) (asks : op.what ≡ what_of (T
       → KeeperWaits f keeper (act_kept (keeper_in op.what) op ∷ rest) (OneKeeper has) more p → keeper_in op.what ≡ Some keeper
   its_keeper more rest waits = let is = ap (λ (w : What). keeper_in w) asks in search arith
 
+  -- with a keeper, and without one
   may_try_at : (f : Profile) (keeper limit : ℕ) (known : List ℕ) (more : LaterKept) (p : Progress) (rest : List Act) (kept : Keeping)
       → IsFitWhat f limit known op.what → KeeperWaits f keeper (act_kept (keeper_in op.what) op ∷ rest) kept more p
       → IsAdmitted f size align heap × (2048 < size) × MayTryAt f keeper size kept (for_guards rest more) p
@@ -278,6 +279,7 @@ pub not_kept : (op : Op) (task : Task) → op.what ≡ what_of task → ((k name
     → keeper_in op.what ≡ None
 not_kept op task asks other = ap (λ (w : What). keeper_in w) asks ∙ ap (λ (w : Work). of_task keeper_of w) (task_of task) ∙ none_keeps task other
 
+-- With a keeper, and without one.
 waits_past : (f : Profile) (keeper : ℕ) (more : LaterKept) (p : Progress) (op : Op) (rest : List Act) (kept : Keeping)
     → KeeperWaits f keeper (act_kept None op ∷ rest) kept more p → KeeperWaits f keeper [] kept (for_guards rest more) p
 waits_past f keeper more p op rest a waits = search arith

@@ -393,6 +393,7 @@ pub guards_first : {r : Replay} {T : Type 0} {h : Hand} {task : Task} {k name he
     → T × SoFar r (upon r (Guards k op ∷ []) (upon r (Settles op.actor ∷ []) more)) h
 guards_first {r} {T} {h} op more is so = subst (λ (t : Task). T × SoFar r (upon r (own_acts_of t op) more) h) is so
 
+-- Of each kind of task that is left it computes.
 none_keeps : (task : Task) → ((k name heap size align : ℕ) → task ≡ Task.Guarded k name heap size align → ⊥) → keeper_of task ≡ None
 none_keeps task other = search arith
 
