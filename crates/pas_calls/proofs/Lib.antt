@@ -1,7 +1,6 @@
 pub mod Statuses
 pub mod Headline
 mod Telling
-mod AskedDirectories
 mod Passes
 mod Requests
 pub mod Whole

@@ -48,9 +48,8 @@ use Rattle.pas_records.specs.declared.record.{Record.Record, Said.Said}
 use Rattle.pas_records.specs.Lines.{line_of_event}
 use Rattle.pas_calls.proofs.Telling.{LeadsOn, on_as, on_both, on_line, on_same, lines_both, lines_by, lines_more, shown_is, flush_only, flush_leads, emptied}
 use Rattle.pas_calls.proofs.Telling.{logs_with, table_same, own_at, put_twice, Comes, Tells, told_after, piece_of, AreBooked, booked_raise, booked_sweep}
-use Rattle.pas_calls.proofs.Telling.{after_piece}
+use Rattle.pas_calls.proofs.Telling.{after_piece, kind_asked, deed_told, deed_known}
 use Rattle.pas_calls.proofs.Passes.{swept_is, IsSwept, sweep_leads, up_after}
-use Rattle.pas_calls.proofs.AskedDirectories.{kind_asked, deed_told, deed_known}
 
 -- ---- A request: deeds and backs, and then the give of its block or a refusal, which is true
 -- ---- deeds and backs

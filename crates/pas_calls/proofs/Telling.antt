@@ -2,20 +2,21 @@
 use Rattle.std.proofs.Common.{◌≡◌, ℕ, List, [], ◌∷◌, ◌++◌, inl, inr, refl, ap, sym, subst, append_assoc, arith, Bool, true, false, if◌then◌else◌, ◌∙◌, map}
 use Rattle.std.proofs.Common.{reverse, eq-eqb, ne_eqb, ◌==◌, nat_lt, not, ◌≢◌, ◌%◌, ◌&&◌, ◌||◌, eqb-true, append-nil, ◌/◌, Option, Some, None}
 use Rattle.pas_profile.specs.declared.{profile.Profile.Profile, event.Event.Event, word.Word.Word, name.Name.Name, entry.Entry.Entry, guard.Raised.Raised}
-use Rattle.pas_profile.specs.declared.{guard.Guard.Guard}
+use Rattle.pas_profile.specs.declared.{guard.Guard.Guard, directory.Directory.Directory, directory.Route.Route}
 use Rattle.pas_check.specs.{Accepted.IsDone, Accepted.IsWhole, Calls.Differs}
-use Rattle.pas_check.specs.Takes.{Takes, TakesDue, MayRefuse, IsEventOf}
+use Rattle.pas_check.specs.Takes.{Takes, TakesDue, MayRefuse, IsEventOf, directory_of}
 use Rattle.pas_check.specs.Begins.{after_task, flushing, past_outcomes, ready, ready_with, goes_down, entries_due}
 use Rattle.pas_profile.specs.{Guards.guards_of, Guards.raised_by, Blocks.address_of, Blocks.grain_of, Blocks.length_of, Directories.deed_word_of}
-use Rattle.pas_profile.specs.{Lives.live_word, Profiles.IsValid, Entries.is_sized}
+use Rattle.pas_profile.specs.{Lives.live_word, Profiles.IsValid, Entries.is_sized, Directories.IsKind, Requests.is_shared, Requests.kind_of_route}
+use Rattle.pas_profile.specs.{Requests.route_in}
 use Rattle.pas_check.specs.States.{Due, Examines, Stand, Task, with_due, with_at, Frees}
 use Rattle.pas_check.proofs.{ActsOfPlans.begun_alike, Leads.at_first, Leads.by_none, OneNext.end_is, OneNext.reject_is, Ticks.epoch_kept}
-use Rattle.pas_profile.proofs.Lists.{all_both}
+use Rattle.pas_profile.proofs.{Lists.all_both, Sizes.class_known, Sizes.class_suits, Codecs.deed_word_of-positive, Codecs.same_from_deed_word}
 use Rattle.std.proofs.lemmas.List.Elements.{filter-append, All-filter, All-from_recursion, recursion_from_All}
 use Rattle.std.proofs.lemmas.Bool.{cases_eq, eqb-false, false≢true, cond_both}
 use Rattle.std.proofs.lemmas.{List.map-append, List.reverse-append, Option.none-some, Option.same_Some}
 use Rattle.pas_steps.specs.{Desks.triples, Desks.made, Events.event_of, Events.events_by, Events.with_event, Views.epoch_of, InTurn.InTurn}
-use Rattle.pas_steps.specs.{Effects.life_word_at}
+use Rattle.pas_steps.specs.{Effects.life_word_at, Views.KnowsDeed, Views.known_deed}
 use Rattle.pas_steps.specs.Lists.{Whole, part, visible, Legal, word_after}
 use Rattle.pas_steps.specs.declared.step.{Made.Made, Step.Step, Step.TheVariants.Look, Step.TheVariants.Stamp, Step.TheVariants.EndSized}
 use Rattle.pas_steps.proofs.{Frames.with_append, Frames.events_append, Parts.part_of_own, Apart.only_both, Apart.only_within, Calls.returns_are}
@@ -25,7 +26,7 @@ use Rattle.pas_answers.specs.Answers.{Caches, records_of, with_cache, Books, wit
 use Rattle.pas_free_log.specs.Endings.{reason_for, EndSteps, Tries, TriesBy, last_step}
 use Rattle.pas_free_log.specs.declared.{ending.Outcome.Outcome, ending.Outcome.TheVariants.Ended, ending.Outcome.TheVariants.Refused, noting.EndedRun.EndedRun}
 use Rattle.std.specs.List.{AllByRecursion, filter}
-use Rattle.pas_machine.specs.State.{ends_in, Live, gives_in, live_in}
+use Rattle.pas_machine.specs.State.{ends_in, Live, gives_in, live_in, deed_in}
 use Rattle.pas_trace.specs.Named.{Named}
 use Rattle.pas_answers.proofs.{Consequences.tidy_piece, Consequences.Tidy, Consequences.stop_tidy, Reached.Each, Reached.legal_part, Reached.of_front}
 use Rattle.pas_steps.specs.Kinds.{Kinds, Only, Putting, is_in, kind_of, returning}
@@ -33,11 +34,13 @@ use Rattle.pas_rights.proofs.{Orders.return_returns, Puts.puts_kinds}
 use Rattle.pas_free_log.specs.Flushes.{AfterEnd, EntrySteps, Settled, EntriesSteps, event_for, shown_for}
 use Rattle.pas_free_log.specs.{Frames.freeing, Returns.PageSteps, Returns.count_on, Returns.first_on, Stamps.page_count, Stamps.pages_from}
 use Rattle.pas_machine.specs.Machine.{HasOtherRoom, Admits, Run}
-use Rattle.pas_core.specs.Good.{IsLifeOf, IsLifeOfLive}
-use Rattle.pas_core.proofs.{Lives.block_of_word, Lives.life_at, OneActor.legal_earlier, MachineRuns.runs}
+use Rattle.pas_core.specs.Good.{IsLifeOf, IsLifeOfLive, word_of_deed}
+use Rattle.pas_core.proofs.{Lives.block_of_word, Lives.life_at, OneActor.legal_earlier, MachineRuns.runs, Deeds.deed_of, Deeds.directory_is_of, Deeds.known_is}
+use Rattle.pas_core.proofs.{Rights.deeds_known}
 use Rattle.pas_records.specs.Lines.{line_of, line_of_event}
 use Rattle.pas_records.specs.declared.record.Record.{Record}
 use Rattle.pas_records.proofs.Showable.{AreOfRegion}
+use Rattle.pas_trace.specs.declared.item.Request.{Request}
 
 -- ---- Lines that lead a check from one state to another
 -- where thread k's log is being emptied, and has these entries afterwards, when this is due
@@ -553,3 +556,29 @@ module _ (f : Profile) (valid : IsValid f) (p : Progress) (s : Stand) (tells : T
       (λ j. logs_with p s k c [] tells (ap (λ (d : Cached). d.log) h.cache) j ∙ ap (λ (table : ℕ → List Entry). table j) (sym logs))
       (ap (λ (d : Cached). d.idle_since) h.cache) since epoch guards (epoch_kept freeing refl k steps p.list (stop_only k (p.caches k) c steps h))
       (stop_tidy f k (p.caches k) c steps (part k p.list) (piece_of f k steps p.list legal) h (tells.tidy k))
+
+-- The directory of a request, and that a deed which a view knows is the one of the events.
+
+kind_routed : (f : Profile) (size align : ℕ) (shared : Bool) (route : Route) → route_in f size align ≡ route → IsKind (kind_of_route shared route)
+kind_routed f size align shared route is = search (arith, class_known, class_suits)
+
+-- The directory of each request has one of the kinds.
+pub kind_asked : (f : Profile) (r : Request) → IsKind (directory_of f r).kind
+kind_asked f r = kind_routed f r.size r.align (is_shared f r.heap) (route_in f r.size r.align) refl
+
+directory_told : (o : Option Directory) (d : Directory) → IsKind d.kind → ((x : Directory) → o ≡ Some x → IsKind x.kind) → word_of_deed o ≡ deed_word_of d
+    → o ≡ Some d
+directory_told None d is all word = absurd (deed_word_of-positive d (sym word))
+directory_told (Some x) d is all word = ap (λ y. Some y) (same_from_deed_word x d (all x refl) is word)
+
+-- a deed word of this directory is the page's deed
+pub deed_told : (f : Profile) (l : Whole) (page : ℕ) (d : Directory) → Legal f l → IsKind d.kind → word_after l (Word.Deed page) ≡ deed_word_of d
+    → deed_in (visible l) page ≡ Some d
+deed_told f l page d legal is word = directory_told (deed_in (visible l) page) d is (λ x found. (directory_is_of f l legal page x found).kind) (sym (deed_of f l legal page) ∙ word)
+
+-- A deed that a view knows is the one of the events.
+pub deed_known : (f : Profile) (l : Whole) (k page : ℕ) (d : Directory) → Legal f l → IsKind d.kind → KnowsDeed page d (part k l)
+    → deed_in (visible l) page ≡ Some d
+deed_known f l k page d legal is knows =
+    let some : known_deed (part k l) page ≢ 0 = λ none. deed_word_of-positive d (sym knows ∙ none) in
+    deed_told f l page d legal is (sym (known_is (known_deed (part k l) page) (word_after l (Word.Deed page)) (deeds_known f l legal k page) some) ∙ knows)

@@ -11,5 +11,3 @@ mod Staging
 mod BetweenPhases
 mod ReadyPhases
 mod Closing
-mod Gathered
-mod InHands

@@ -29,7 +29,8 @@ use Rattle.pas_threads.specs.Sessions.{PhaseAt, PhaseDone, IsOfActors, StandSo, 
 use Rattle.pas_threads.specs.{Taken.HandsOver, Taken.HasTaken, Taken.IsWithin, Left.pair_in, Left.crew_in}
 use Rattle.pas_threads.specs.Turns.{owed_at, Came, TookNoPart, said_by_all, said_by_keepers, Pushed}
 use Rattle.pas_threads.proofs.TakingTurns.{IsCleared, IsScavengerCleared, WereTaken, cleared, pass_still, same_owed, WereGathered}
-use Rattle.pas_threads.proofs.{Dealt.number_at, Dealt.some_item, Performed.names_then, Performed.names_within}
+use Rattle.pas_threads.proofs.Dealt.{number_at, some_item}
+use Rattle.pas_threads.proofs.Performed.{names_then, names_within, in_pair, pair_within, pair_has, pair_keeps, in_crew, crew_within}
 use Rattle.pas_threads.proofs.ReadyPhases.{own_costs, scavenger_costs, own_all, all_paid, owed_less, kept_less, HasBegun, round_of, room_is, active_front}
 use Rattle.pas_threads.proofs.ReadyPhases.{active_back}
 use Rattle.pas_threads.proofs.Keepers.{owed_still, will_wait_then, waits_next, waits_still, owed_gathered, keeper_is, kept_nobody, kept_will, kept_hands}
@@ -40,11 +41,10 @@ use Rattle.pas_bits.specs.declared.mask.Mask4.{Mask4}
 use Rattle.pas_shared.specs.{Ruled.steps_of, Ruled.IsEarlier, Ruled.AreEarlier, Ledgers.looks_of}
 use Rattle.pas_core.specs.Orders.{steps_by}
 use Rattle.pas_trace.specs.{Asked.keeper_in, EveryPhase.FreeTheirOwn}
-use Rattle.pas_threads.proofs.InHands.{in_pair, pair_within, pair_has, pair_keeps, in_crew, crew_within}
 use Rattle.pas_threads.proofs.Staging.{stand_all, of_first, went_both, went_alone, went_sorted, sorted_still, sorted_seen}
 use Rattle.pas_records.specs.Rooms.{records_in, room_of, Records}
 use Rattle.pas_records.specs.declared.record.Record.{Record}
-use Rattle.pas_threads.proofs.Gathered.{AllTold, may_gather, room_left, written, rest_again}
+use Rattle.pas_threads.proofs.BetweenPhases.{AllTold, may_gather, room_left, written, rest_again}
 
 -- ---- the whole phase
 whole_share : (owner : Owners) (w : ℕ) (p : Progress) → IsShareOf owner w p p
