@@ -1,11 +1,13 @@
-"""More processes for the proofs that the end of `rt ci` waits for.
+"""The order of the proofs of `rt ci`, and more processes for those that the end waits for.
 
-The kit's `rt ci` gives a proof the processors that are idle when it begins, shared with all that is ready then, be it
-tests of a crate that has none. So the crates of the longest chain, beside which others always run, get one process each,
-and where the others have ended, processors have nothing to do. Here the proof of a crate with which the longest chain of
-crates that aren't proved begins gets as many as the machine has, as memory allows: it takes less by the clock, and what
-runs beside it waits less than the chain gains. And a program's two compilers, which the kit calls one after the other,
-run side by side. The verdicts are the kit's: neither changes what is checked, nor what is done with it.
+The kit's `rt ci` begins with the crate behind which most lines wait, and lines tell little of the time that a crate
+takes. Here it begins with the one behind which the longest chain waits, by the seconds that docs/GATE.md has of each.
+It also gives a proof the processors that are idle when it begins, shared with all that is ready then, be it tests of a
+crate that has none. So the crates of the longest chain, beside which others always run, get one process each, and where
+the others have ended, processors have nothing to do. Here the proof of a crate with which the longest chain of crates
+that aren't proved begins gets as many as the machine has, as memory allows: it takes less by the clock, and what runs
+beside it waits less than the chain gains. And a program's two compilers, which the kit calls one after the other, run
+side by side. The verdicts are the kit's: none of this changes what is checked, nor what is done with it.
 """
 
 from __future__ import annotations
@@ -27,12 +29,18 @@ GIGABYTES_LEFT = 4.0
 Key = tuple  # a crate's name, and what is done for it: "proof", "tests", or what has to do with edits
 
 
-def chains(tasks: dict[Key, tuple]) -> dict[Key, float]:
-    """The seconds of the longest chain of proofs that begins with each task. A task comes after those it waits for."""
-    seconds, chain = plan.seconds_by_crate(), dict.fromkeys(tasks, 0.0)
+def seconds_of(tasks: dict[Key, tuple]) -> dict[Key, float]:
+    """The seconds of each proof, by the table of times. Nothing waits for the other tasks."""
+    known, more = plan.seconds_by_crate(), plan.MORE_SECONDS
+    proof = {key[0]: known.get(key[0], plan.USUAL_SECONDS) + more.get(key[0], 0.0) for key in tasks}
+    return {key: proof[key[0]] * (key[1] == "proof") for key in tasks}
+
+
+def chains(tasks: dict[Key, tuple], seconds: dict[Key, float]) -> dict[Key, float]:
+    """The seconds of the longest chain that begins with each task. A task comes after those it waits for."""
+    chain = dict.fromkeys(tasks, 0.0)
     for key in reversed([*tasks]):
-        if key[1] == "proof":
-            chain[key] += seconds.get(key[0], plan.USUAL_SECONDS) + plan.MORE_SECONDS.get(key[0], 0.0)
+        chain[key] += seconds[key]
         for below in tasks[key][0]:
             chain[below] = max(chain[below], chain[key])
     return chain
@@ -45,8 +53,13 @@ def most_jobs() -> int:
 
 
 def with_more_jobs(tasks: dict[Key, tuple]) -> dict[Key, tuple]:
-    """The tasks of a run, in which a proof that the end waits for is called with more jobs than it is given."""
-    chain, left, turn = chains(tasks), set(tasks), threading.Lock()
+    """The tasks of a run, each with its seconds as its work, in which a proof that the end waits for is called with more
+    jobs than it is given."""
+    # Where edits are tried too, no processor is idle.
+    if any(key[1] == "edits" for key in tasks) or os.environ.get("RT_JOBS"):
+        return tasks
+    seconds = seconds_of(tasks)
+    chain, left, turn = chains(tasks, seconds), set(tasks), threading.Lock()
 
     def told(key: Key, call: Callable) -> Callable:
         def run(given: dict, jobs: int) -> object:
@@ -60,10 +73,7 @@ def with_more_jobs(tasks: dict[Key, tuple]) -> dict[Key, tuple]:
 
         return run
 
-    # Where edits are tried too, no processor is idle.
-    if any(key[1] == "edits" for key in tasks) or os.environ.get("RT_JOBS"):
-        return tasks
-    return {key: (after, lines, needs, told(key, call)) for key, (after, lines, needs, call) in tasks.items()}
+    return {key: (after, seconds[key], needs, told(key, call)) for key, (after, _, needs, call) in tasks.items()}
 
 
 def widen(rt: ModuleType) -> None:

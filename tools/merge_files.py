@@ -223,7 +223,7 @@ def main() -> int:
     parser.add_argument("--least", type=int, default=5, help="the import lines that a pair of the plan saves at least (5)")
     parser.add_argument("--self-check", action="store_true", help="try the tool on a small crate of its own")
     words = parser.parse_args()
-    folder = fold.Folder(fold.Kit(fold.kit_of(None)), fold.WIDTH, fold.MOST_BY_PATH)
+    folder = fold.Folder(fold.Kit(fold.kit_of(None)), fold.WIDTH)
     if words.self_check:
         self_check(folder)
     elif words.plan:

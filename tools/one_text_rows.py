@@ -143,7 +143,7 @@ def file_text(comment: str, rows: list[str]) -> str:
     wanted = {KINDS: "Kind." in body, GRAINS: "seen" in used, REASONS: "faulty" in used, COUNTS: "shown" in used}
     uses = "".join(line for line, is_wanted in wanted.items() if is_wanted)
     plain = "true, false, [], ◌∷◌, " if "shown" in used else ""
-    folder = fold_imports.Folder(fold_imports.Kit(None), fold_imports.WIDTH, fold_imports.MOST_BY_PATH)
+    folder = fold_imports.Folder(fold_imports.Kit(None), fold_imports.WIDTH)
     return folder.rewritten(f"-- {comment}\n" + HEADER % (plain, uses, ", ".join(used)) + "\n" + body, is_code=False, is_proof=True)
 
 

@@ -31,6 +31,7 @@ from pathlib import Path
 from typing import Iterator, NamedTuple
 
 sys.dont_write_bytecode = True
+import use_trees
 from merge_crates import CODE, EDITED, LEMMAS, README, ROOT, ROW, Refused
 from merge_crates import brought_once, files_of, root_of, text_of, texts_below, tree_of
 
@@ -66,7 +67,7 @@ class Names:
         self.source, self.into, self.moved = source, into, moved
         self.brought = re.compile(
             rf"(?m)^(?P<head> *(?:ghost |unfoldable |pub )*use )Rattle\.{source}\.(?P<path>[^\s{{;]*?)\.?"
-            r"(?:\{(?P<names>[^}]*)\})(?P<end>;?)"
+            r"(?:\{(?P<names>.*)\})(?P<end>;?)$"
         )
         self.told = re.compile(rf"\bRattle\.{source}\.(?P<path>[^\s{{}}(),;]+)")
         self.grouped = re.compile(rf"(?m)^(?P<head> *(?:pub )?use )(?P<crate>crate|{source})::\{{(?P<names>[^}}]*)\}};")
@@ -78,13 +79,11 @@ class Names:
         """The text with each path of antt's where it is now."""
 
         def group(found: re.Match) -> str:
-            names = [it.strip() for it in found["names"].split(",") if it.strip()]
-            of: dict[str, list[str]] = {}
-            for name in names:
-                of.setdefault(self.crate_of(module_of(f"{found['path']}.{name}".lstrip("."))), []).append(name)
-            path = f".{found['path']}" if found["path"] else ""
-            lines = (f"{found['head']}Rattle.{it}{path}.{{{', '.join(own)}}}{found['end']}" for it, own in of.items())
-            return "\n".join(lines)
+            of: dict[str, list[use_trees.Leaf]] = {}
+            for leaf in use_trees.leaves_in(found["path"], found["names"]):
+                crate = self.crate_of(module_of(f"{leaf.module}.{leaf.name}"))
+                of.setdefault(crate, []).append(leaf._replace(module=f"Rattle.{crate}.{leaf.module}"))
+            return "\n".join(f"{found['head']}{use_trees.told(own)}{found['end']}" for own in of.values())
 
         text = self.brought.sub(group, text)
         return self.told.sub(lambda it: f"Rattle.{self.crate_of(module_of(it['path'].rstrip('.')))}.{it['path']}", text)
@@ -126,9 +125,8 @@ def cited(text: str, source: str, is_own: bool) -> Iterator[tuple[Module, str]]:
     """The modules of this crate that a text of any crate names, each with what it names of it."""
     names = Names(source, source, set())
     for found in names.brought.finditer(text):
-        for name in (it.strip().split(" as ")[0] for it in found["names"].split(",") if it.strip()):
-            path = f"{found['path']}.{name}".lstrip(".")
-            yield module_of(path), path.split(".")[-1]
+        for leaf in use_trees.leaves_in(found["path"], found["names"]):
+            yield module_of(f"{leaf.module}.{leaf.name}"), leaf.name
     for found in names.told.finditer(names.brought.sub("", text)):
         yield module_of(found["path"].rstrip(".")), found["path"].split(".")[-1]
     here = "crate" if is_own else source
@@ -415,14 +413,14 @@ AFTER = {
     "crates/whole/README.md": "# `whole`\n",
     "crates/whole/src/lib.rt": "//! Whole.\n#![tactic(auto)]\n\nmod b;\n\npub use b::beta;\n"
     "pub use parts::a::{alpha, Other};\npub use parts::a;\n",
-    "crates/whole/src/b.rt": "ghost use Rattle.parts.specs.{A.x};\nghost use Rattle.whole.specs.{B.y};\n"
+    "crates/whole/src/b.rt": "ghost use Rattle.parts.specs.A.{x};\nghost use Rattle.whole.specs.B.{y};\n"
     "ghost use Rattle.parts.specs.declared.a.One.{One};\n"
     "use parts::a::{One, alpha};\nuse kit::z;\n",
     "crates/whole/specs/Lib.antt": "pub mod B\n",
     "crates/whole/specs/B.antt": "use Rattle.parts.specs.{A.x, declared.a.One.One as It}\n",
     "crates/whole/proofs/Lib.antt": "mod More\n",
-    "crates/whole/proofs/More.antt": "use Rattle.parts.proofs.{Laws.law}\nuse Rattle.whole.proofs.{More.own}\n",
-    "crates/above/src/lib.rt": "ghost use Rattle.parts.specs.{A.x};\nghost use Rattle.whole.specs.{B.y};\n"
+    "crates/whole/proofs/More.antt": "use Rattle.parts.proofs.Laws.{law}\nuse Rattle.whole.proofs.More.{own}\n",
+    "crates/above/src/lib.rt": "ghost use Rattle.parts.specs.A.{x};\nghost use Rattle.whole.specs.B.{y};\n"
     "use whole::{alpha, beta};\nuse low::y;\n",
     "crates/beside/src/lib.rt": TREE["crates/beside/src/lib.rt"],
     "edits/parts/less.edit": TREE["edits/whole/less.edit"],

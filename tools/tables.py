@@ -20,6 +20,9 @@ import textwrap
 from collections import defaultdict
 from typing import NamedTuple
 
+sys.dont_write_bytecode = True
+import use_trees
+
 TOP = pathlib.Path(__file__).resolve().parent.parent
 CRATES = TOP / "crates"
 PAGE = TOP / "docs/CHANGING.md"
@@ -45,7 +48,7 @@ WORD = re.compile(r"[A-Za-z_][\w'-]*(?:\.[A-Za-z_][\w'-]*)*")
 SIGNATURE = re.compile(r"\s*(?:(?:pub|abbrev|unfoldable) )*([\w'-]+) :(?: |$)")
 FAMILY = re.compile(r"\s*(?:pub )?data ([\w'-]+)\b.* where\s*$")
 USE = re.compile(r"(?m)^use ([\w.]+?)(?: as (\w+)|\.\{([^}]*)\})")
-GROUP = re.compile(r"(?m)^use ([\w.]+)\.\{([^}]*)\}")
+GROUP = re.compile(r"(?m)^use ([\w.]+)\.\{(.*)\}$")
 PASSED = re.compile(r"(?m)^use Rattle\.(\w+)\.proofs\.Common\.\{([^}]*)\}$")
 STRING = re.compile(r"""b?'[{}()\[\]]'|"(?:\\.|[^"\\])*\"""", re.S)
 
@@ -81,9 +84,8 @@ def block_at(text, brace):
 
 
 def spread(group):
-    """A line for each name of a group of imports, behind the module that declares it."""
-    names = [it.strip().rpartition(".") if re.match(r"\w", it.strip()) else ("", "", it.strip()) for it in group[2].split(",")]
-    return "\n".join(f"use {group[1]}{dot}{below}.{{{name}}}" for below, dot, name in names)
+    """A line for each name of an import, behind the module that declares it."""
+    return "\n".join(f"use {use_trees.told([leaf])}" for leaf in use_trees.leaves_in(group[1], group[2]))
 
 
 @functools.cache
