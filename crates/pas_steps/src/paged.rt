@@ -64,7 +64,6 @@ impl PagedWords {
     ghost use Rattle.pas_steps.specs.Paged.{value_in};
 
     /// The words of a region that nobody used yet. One pass over the deeds and the page vectors.
-    #[tactic(auto, using(crate::proofs::OnPages::none_open))]
     pub fn opened(alloc: Global, layout: Layout) -> Result<PagedWords, NoMemory>
         ensures layout { IfOk result (λ words. words.layout ≡ layout) }
         ensures values { IfOk result (λ words. (w : TheWord) → IsWordIn layout.pages layout.heaps w → value_in words w ≡ opening w) }

@@ -17,8 +17,8 @@ loop-taken-preserved g c =
           record {
             within = omega arith;
             left = moves.rest ∙ ap Some (drop-drop count taken told);
-            front = filled_more told buffer c.read.new.buffer taken (length buffer - taken) count (search rules) before.front (search rules) moves.moved;
+            front = filled_more told buffer c.read.new.buffer taken (length buffer - taken) count (omega arith) before.front (search rules) moves.moved;
           };
       reach = λ is. run_on _ _ _ count c.in_ok-count.ensures.ends (omega arith) (c.loop-taken.invariant.reach is);
-      count = search rules;
+      count = c.in_ok-count.ensures.sound ∙ c.loop-taken.invariant.count;
     }

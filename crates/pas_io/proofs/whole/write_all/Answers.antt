@@ -1,4 +1,4 @@
-use Rattle.std.proofs.Common.{rules, ◌-◌, length, drop, arith, length-drop, take_all}
+use Rattle.std.proofs.Common.{rules, ◌-◌, ◌∙◌, length, drop, arith, length-drop, take_all}
 use Rattle.pas_io.proofs.Telling.{writes_on, front_of}
 use Rattle.pas_io.proofs.whole.write_all.Goals as goal
 
@@ -13,5 +13,5 @@ loop-written-preserved g c =
     record {
       within = search rules;
       held = writes_on (g.K.Sink.held c.args.sink.now) (g.K.Sink.held c.loop-written.sink) (g.K.Sink.held c.write.new.self) c.args.bytes.now c.loop-written.written c.in_ok-written.field-0 c.loop-written.invariant.held (rw (← rest) c.in_ok-written.ensures.writes);
-      count = search rules;
+      count = c.in_ok-written.ensures.sound ∙ c.loop-written.invariant.count;
     }

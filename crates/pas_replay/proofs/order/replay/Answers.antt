@@ -237,3 +237,9 @@ returns-clause-so_far g c =
           let stopped = c.stop_all.ensures.so_far c.loop-phase.names (telling r at.told) (sweeping g d lists same r begins) (closes g d lists same r begins) in
           as_hand (c.rise.ensures.hand c.loop-phase.names c.lower_all.new.out) (c.lower_all.ensures.so_far c.loop-phase.names (telling r at.told) _ stopped).1,
     )
+
+pub returns-clause-empty : goal.returns-clause-empty
+returns-clause-empty g c = rw (c.rise.ensures.caches, c.lower_all.ensures.caches) c.stop_all.ensures.empty
+
+pub returns-clause-lowered : goal.returns-clause-lowered
+returns-clause-lowered g c = rw c.rise.ensures.books c.lower_all.ensures.lowered
