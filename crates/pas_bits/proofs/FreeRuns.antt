@@ -116,18 +116,14 @@ lies_in_run is_free g n some within free =
 module _ (mask moved others starts : Mask4) (moved_is : (g : ℕ) → g < 256 → is_set moved g ≡ (nat_le 1 g && is_set mask (g - 1)))
     (others_are : (g : ℕ) → g < 256 → is_set others g ≡ not (is_set moved g))
     (starts_are : (g : ℕ) → is_set starts g ≡ (is_set mask g && is_set others g)) where
-  not_moved : (g : ℕ) → g < 256 → ((x : ℕ) → x + 1 ≡ g → is_set mask x ≡ false) → is_set moved g ≡ false
-  not_moved g small before = search (arith, cases_lt, le-leb, lt-leb)
-
   start_at : (g n : ℕ) → IsFreeRun (is_set mask) g n → is_set starts g ≡ true
   start_at g n run =
-      search (arith, and_from, not_moved)
+      search (arith, and_from, cases_lt, le-leb, lt-leb)
 
   clear_before : (g : ℕ) → g < 256 → is_set starts g ≡ true → (x : ℕ) → x + 1 ≡ g → is_set mask x ≡ false
   clear_before g small start x next =
       let parts = and_parts (is_set mask g) (is_set others g) (sym (starts_are g) ∙ start) in
-      let same : x ≡ g - 1 = omega (arith, next) in
-      ap (is_set mask) same ∙ sym (ap (λ t. t && is_set mask (g - 1)) (le-leb 1 g (omega (arith, next))))
+      ap (is_set mask) (omega (arith, next)) ∙ sym (ap (λ t. t && is_set mask (g - 1)) (le-leb 1 g (omega (arith, next))))
       ∙ sym (moved_is g small) ∙ not-true (is_set moved g) (sym (others_are g small) ∙ parts.1)
 
   pub no_next : (from : ℕ) → AreClear starts from 256 → HasNoRunFrom (is_set mask) from

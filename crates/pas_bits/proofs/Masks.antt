@@ -12,7 +12,7 @@ use Rattle.std.proofs.{Math.Nat.pow-le-pow_right, lemmas.Bool.Decides.nat_tests,
 use Rattle.pas_bits.proofs.Runs.{run_of, to_run, run_below, run_above}
 use Rattle.pas_bits.specs.declared.mask.Mask4.{Mask4}
 use Rattle.pas_bits.specs.Masks.{is_set, AreSet, AreApart, set_count, AllSetBelow, AreClear, IsLowestSet, IsLowestClear, IsEmpty, HasMember, IsRunEnd, IsPlace}
-use Rattle.pas_bits.specs.Masks.{HasNoPlace, IsLowestPlace}
+use Rattle.pas_bits.specs.Masks.{HasNoPlace}
 use Rattle.pas_bits.proofs.Rows.{count_same, count_add, ones_counted}
 
 -- ==== The lowest set bit of a word from a place on.
@@ -34,11 +34,9 @@ pub record IsLowestBit (n low z : ℕ) : Type 0 where
 -- A number whose bits from one on aren't all 0 has its lowest set bit where its trailing zeros end.
 pub lowest_from : (n low : ℕ) → n < 2 ^ 64 → n / 2 ^ low ≢ 0 → IsLowestBit n low (trailing_zeros w64 (n / 2 ^ low))
 lowest_from n low fits some =
-    let s = shr_le n low in
-    let t = bit_at-trailing_zeros w64 (n / 2 ^ low) (omega (arith, some)) (omega (arith, s, fits)) in
+    let t = bit_at-trailing_zeros w64 (n / 2 ^ low) (omega (arith, some)) (omega (arith, shr_le n low, fits)) in
     let z = trailing_zeros w64 (n / 2 ^ low) in
-    let rest : low + trailing_zeros w64 (n / 2 ^ low) - low ≡ trailing_zeros w64 (n / 2 ^ low) = omega arith in
-    let one : bit_at n (low + trailing_zeros w64 (n / 2 ^ low)) ≡ 1 = shifted_bit n low (low + trailing_zeros w64 (n / 2 ^ low)) (omega arith) ∙ ap (λ (i : ℕ). bit_at (n / 2 ^ low) i) rest ∙ t.1 in
+    let one : bit_at n (low + trailing_zeros w64 (n / 2 ^ low)) ≡ 1 = shifted_bit n low (low + trailing_zeros w64 (n / 2 ^ low)) (omega arith) ∙ ap (λ (i : ℕ). bit_at (n / 2 ^ low) i) (omega arith) ∙ t.1 in
     record {
       within = elim (cases_lt (low + trailing_zeros w64 (n / 2 ^ low)) 64) [
         | inl lt ↦ lt
@@ -136,7 +134,6 @@ ones_in mask = count_ones (slice_index mask.0 0) + count_ones (slice_index mask.
 -- The ones of a mask are its set bits.
 counted : (mask : Mask4) (n k : ℕ) → k ≡ 64 → n ≡ k + k + k + k → WordsFit mask → ones_in mask ≡ count_below n (is_set mask)
 counted mask n k width parts fits =
-    let a = count_word mask 0 k 0 width (omega arith) fits in
     let c = count_word mask 2 k (k + k) width (omega (arith, width)) fits in
     let d = count_word mask 3 k (k + k + k) width (omega (arith, width)) fits in
     let first = count_same k (is_set mask) (λ x. is_set mask (0 + x)) (λ x h. let e : x ≡ 0 + x = omega arith in ap (is_set mask) e) in
@@ -144,7 +141,7 @@ counted mask n k width parts fits =
     let three = count_add (k + k) k (is_set mask) in
     let four = count_add (k + k + k) k (is_set mask) in
     let all = ap (λ m. count_below m (is_set mask)) parts in
-    omega (arith, a, count_word mask 1 k k width (omega (arith, width)) fits, c, d, first, two, three, four, all)
+    omega (arith, count_word mask 0 k 0 width (omega arith) fits, count_word mask 1 k k width (omega (arith, width)) fits, c, d, first, two, three, four, all)
 
 set_counted : (mask : Mask4) (n k : ℕ) → k ≡ 64 → n ≡ 256 → WordsFit mask → ones_in mask ≡ set_count mask
 unfolding set_count
@@ -203,8 +200,7 @@ pub rounded : (set align up : ℕ) → 1 ≤ align → up ≡ set / align + min 
 rounded set align up h is =
     let b = div_ceil_times set align h in
     let same : up * align ≡ (set / align + min 1 (set % align)) * align = ap (λ n. n * align) is in
-    let whole : up * align ≡ up * align + 0 = omega arith in
-    (omega (arith, b.0, same), omega (arith, b.1, same), ap (λ n. n % align) whole ∙ mod-mul-add up align 0 h)
+    (omega (arith, b.0, same), omega (arith, b.1, same), ap (λ n. n % align) (omega arith) ∙ mod-mul-add up align 0 h)
 
 -- no place below the number
 abbrev pub NoPlaceBelow : Mask4 → ℕ → ℕ → ℕ → ℕ → Type 0
@@ -214,15 +210,10 @@ NoPlaceBelow mask n align end start = (h : ℕ) → h < start → IsPlace mask n
 own : (mask : Mask4) (n align end h : ℕ) → 1 ≤ n → IsPlace mask n align end h → is_set mask h ≡ true
 own mask n align end h some place = place.set h (omega arith) (omega (arith, some))
 
--- none where no bit is set from `start` on
-none_to : (mask : Mask4) (n align end start stop : ℕ) → 1 ≤ n → NoPlaceBelow mask n align end start → AreClear mask start stop
-    → NoPlaceBelow mask n align end stop
-none_to mask n align end start stop some before bare h lt place = search (arith, cases_lt, own)
-
 -- none between the lowest set bit and the next multiple
 pub none_to_place : (mask : Mask4) (n align end start set place : ℕ) → 1 ≤ n → place % align ≡ 0 → place < set + align → NoPlaceBelow mask n align end start
     → IsLowestSet mask start set → NoPlaceBelow mask n align end place
-none_to_place mask n align end start set place some whole near before low h lt other = search (arith, cases_lt, none_to, next_multiple)
+none_to_place mask n align end start set place some whole near before low h lt other = search (arith, cases_lt, own, next_multiple)
 
 -- none at all where the lowest possible one ends too late
 pub none_within : (mask : Mask4) (n align end place : ℕ) → end < place + n → NoPlaceBelow mask n align end place → HasNoPlace mask n align end
@@ -232,8 +223,3 @@ none_within mask n align end place late before h other = search (arith, cases_lt
 pub none_past : (mask : Mask4) (n align end place stop : ℕ) → end ≤ 256 → place + n ≤ end → stop < place + n → NoPlaceBelow mask n align end place
     → IsRunEnd mask place stop → NoPlaceBelow mask n align end (stop + 1)
 none_past mask n align end place stop small within short before run h lt other = search (arith, cases_lt)
-
--- A place whose run ends late enough, with none below it, is the lowest one.
-pub place_found : (mask : Mask4) (n align end place stop : ℕ) → place % align ≡ 0 → place + n ≤ end → place + n ≤ stop → NoPlaceBelow mask n align end place
-    → IsRunEnd mask place stop → IsLowestPlace mask n align end place
-place_found mask n align end place stop whole within long before run = search arith

@@ -14,14 +14,11 @@ use Rattle.pas_bits.proofs.Words.{is_zero, none_of_zero, bit_of_or, at_word, non
 bit_of_mod : (n w i : ℕ) → i < w → bit_at (n % 2 ^ w) i ≡ bit_at n i
 bit_of_mod n w i h = sym (bit_at_cat_low (n / 2 ^ w) w (n % 2 ^ w) i h) ∙ ap (λ m. bit_at m i) (div-add-mod' n (2 ^ w))
 
-no_more : (m k : ℕ) → m * 2 ^ k ≡ m * 2 ^ k + 0
-no_more m k = omega arith
-
 shifted_below : (m k i : ℕ) → i < 64 → i < k → has_bit (m * 2 ^ k % 2 ^ 64) i ≡ false
-shifted_below m k i h lt = is_zero (m * 2 ^ k % 2 ^ 64) i (bit_of_mod (m * 2 ^ k) 64 i h ∙ ap (λ n. bit_at n i) (no_more m k) ∙ bit_at_cat_low m k 0 i lt ∙ bit_at-zero i)
+shifted_below m k i h lt = is_zero (m * 2 ^ k % 2 ^ 64) i (bit_of_mod (m * 2 ^ k) 64 i h ∙ ap (λ n. bit_at n i) (omega arith) ∙ bit_at_cat_low m k 0 i lt ∙ bit_at-zero i)
 
 shifted_above : (m k i : ℕ) → i < 64 → k ≤ i → has_bit (m * 2 ^ k % 2 ^ 64) i ≡ has_bit m (i - k)
-shifted_above m k i h ge = ap (λ x. x == 1) (bit_of_mod (m * 2 ^ k) 64 i h ∙ ap (λ n. bit_at n i) (no_more m k) ∙ bit_at_cat_high m k 0 i (pow_pos k) ge)
+shifted_above m k i h ge = ap (λ x. x == 1) (bit_of_mod (m * 2 ^ k) 64 i h ∙ ap (λ n. bit_at n i) (omega arith) ∙ bit_at_cat_high m k 0 i (pow_pos k) ge)
 
 shifted_down : (n k i : ℕ) → has_bit (n / 2 ^ k) i ≡ has_bit n (k + i)
 shifted_down n k i = ap (λ m. m % 2 == 1) (shr-shr n k i)
@@ -29,9 +26,6 @@ shifted_down n k i = ap (λ m. m % 2 == 1) (shr-shr n k i)
 -- .. by one place, and by k more
 abbrev shifted_twice : ℕ → ℕ → ℕ
 shifted_twice m k = m * 2 ^ 1 % 2 ^ 64 * 2 ^ k % 2 ^ 64
-
-twice_below : (m k i : ℕ) → i < 64 → i ≤ k → has_bit (shifted_twice m k) i ≡ false
-twice_below m k i h le = search (arith, cases_lt, shifted_below, shifted_above)
 
 twice_above : (m k i : ℕ) → i < 64 → k < i → has_bit (shifted_twice m k) i ≡ has_bit m (i - k - 1)
 twice_above m k i h gt = shifted_above (m * 2 ^ 1 % 2 ^ 64) k i h (omega (arith, gt)) ∙ shifted_above m 1 (i - k) (omega (arith, h)) (omega (arith, gt))
@@ -41,7 +35,7 @@ pub window_bit : (low high from b : ℕ) → low < 2 ^ 64 → from < 64 → b < 
     → has_bit (bit_or (low / 2 ^ from) (shifted_twice high (63 - from))) b ≡ bit_of_two low high (b + from)
 window_bit low high from b fits few h = bit_of_or (low / 2 ^ from) (shifted_twice high (63 - from)) b ∙ elim (cases_lt (b + from) 64) [
   | inl lt ↦
-      ap (λ t. has_bit (low / 2 ^ from) b || t) (twice_below high (63 - from) b h (omega (arith, lt))) ∙ or-false (has_bit (low / 2 ^ from) b)
+      ap (λ t. has_bit (low / 2 ^ from) b || t) (search (arith, cases_lt, shifted_below, shifted_above)) ∙ or-false (has_bit (low / 2 ^ from) b)
       ∙ shifted_down low from b ∙ ap (has_bit low) (omega arith)
       ∙ sym (ap (λ t. if t then has_bit low (b + from) else has_bit high (b + from - 64)) (lt-ltb (b + from) 64 lt))
   | inr ge ↦
@@ -63,10 +57,6 @@ window_of : (mask : Mask4) (r i from to : ℕ) → Window r (slice_index mask.0 
     → 64 * i + (x + from) ≡ to → has_bit r x ≡ is_set mask to
 window_of mask r i from to w few x h e = w x h ∙ two_words mask i (x + from) (omega (arith, h, few)) ∙ ap (is_set mask) e
 
--- the words that a mask hasn't are 0
-no_word : (mask : Mask4) → length mask.0 ≡ 4 → slice_index mask.0 4 ≡ 0
-no_word mask long = get_or_past mask.0 4 0 (omega (arith, long))
-
 abbrev pub four : ℕ → ℕ → ℕ → ℕ → Mask4
 four a b c d = record { 0 = a ∷ b ∷ c ∷ d ∷ [] }
 
@@ -77,7 +67,7 @@ pub moved_down_is : (mask : Mask4) (a b c d by : ℕ) → length mask.0 ≡ 4 �
     → is_set (four a b c d) g ≡ is_set mask (g + by)
 moved_down_is mask a b c d by long few wa wb wc wd g = elim (cases_lt g 256) [
   | inl lt ↦
-      let last : Window d (slice_index mask.0 3) (slice_index mask.0 4) by = subst (λ n. Window d (slice_index mask.0 3) n by) (sym (no_word mask long)) wd in
+      let last : Window d (slice_index mask.0 3) (slice_index mask.0 4) by = subst (λ n. Window d (slice_index mask.0 3) n by) (sym (get_or_past mask.0 4 0 (omega (arith, long)))) wd in
       four_words a b c d (λ x. is_set mask (x + by))
       (λ x h. window_of mask a 0 by (0 + x + by) wa few x h (omega arith))
       (λ x h. window_of mask b 1 by (64 + x + by) wb few x h (omega arith))
@@ -162,6 +152,7 @@ near_longer mask near moved longer n by few all up joined g within = (
     | inl lt ↦ joined g ∙ or_left (is_set near g) (is_set moved g) ((all g within).1 (found.0, found.1, lt, found.3))
     | inr ge ↦
         joined g ∙ or_right (is_set near g) (is_set moved g)
-        (up g within ∙ ap (λ t. t && is_set near (g - by)) (le-leb by g (omega (arith, ge, few))) ∙ (all (g - by) (omega (arith, within))).1 (found.0, omega (arith, ge, few), omega (arith, b, ge), found.3))
+        (up g within ∙ ap (λ t. t && is_set near (g - by)) (le-leb by g (omega (arith, ge, few)))
+        ∙ (all (g - by) (omega (arith, within))).1 (found.0, omega (arith, ge, few), omega (arith, b, ge), found.3))
   ],
 )

@@ -1,6 +1,6 @@
 -- Bits of the words of page vectors.
-use Rattle.std.proofs.Common.{◌≡◌, ◌≢◌, ℕ, ◌+◌, ◌-◌, ◌*◌, ◌/◌, ◌%◌, ◌^◌, ◌<◌, ◌==◌, Bool, true, false, not, ◌&&◌, ◌||◌, if◌then◌else◌, refl, ap, sym, ◌∙◌}
-use Rattle.std.proofs.Common.{arith, bit_and, bit_or, inl, inr, w64, eqb-true, eq-eqb, ne_eqb}
+use Rattle.std.proofs.Common.{◌≡◌, ◌≢◌, ℕ, ◌+◌, ◌-◌, ◌*◌, ◌/◌, ◌%◌, ◌^◌, ◌<◌, ◌==◌, Bool, true, false, not, ◌&&◌, ◌||◌, if◌then◌else◌, ap, sym, ◌∙◌, arith}
+use Rattle.std.proofs.Common.{bit_and, bit_or, inl, inr, w64, eqb-true, eq-eqb, ne_eqb}
 use Rattle.std.specs.Int.{bit_not, trailing_zeros}
 use Rattle.std.proofs.{lemmas.Nat.pow_below, lemmas.Nat.Bits.bit_at-pow_same, lemmas.Nat.Bits.bit_at-pow_other, lemmas.Bool.eqb-false, lemmas.Bool.cases_eq}
 use Rattle.std.proofs.{Math.Bool.or_comm, lemmas.Bool.Decides.nat_tests}
@@ -14,8 +14,7 @@ page_mask_lt q = let lt : 2 ^ (q % 64) < 2 ^ 64 = pow_below (q % 64) 64 (omega a
 
 page_mask_bit : (q b : ℕ) → has_bit (page_mask q) b ≡ (q % 64 == b)
 page_mask_bit q b =
-    let lt : 2 ^ (q % 64) < 2 ^ 64 = pow_below (q % 64) 64 (omega arith) in
-    ap (λ n. has_bit n b) (let is : page_mask q ≡ 2 ^ (q % 64) = omega (arith, lt) in is) ∙ elim (cases_eq (q % 64) b) [
+    ap (λ n. has_bit n b) (let is : page_mask q ≡ 2 ^ (q % 64) = omega (arith, pow_below (q % 64) 64 (omega arith)) in is) ∙ elim (cases_eq (q % 64) b) [
       | inl e ↦ ap (λ n. has_bit (2 ^ n) b) e ∙ ap (λ x. x == 1) (bit_at-pow_same b) ∙ sym (eq-eqb (q % 64) b e)
       | inr ne ↦ ap (λ x. x == 1) (bit_at-pow_other (q % 64) b (λ e. ne (sym e))) ∙ sym (ne_eqb (q % 64) b ne)
     ]
@@ -43,24 +42,16 @@ set_cases f y = grind arith
 other_block : (q p : ℕ) → (q / 64 == p / 64) ≡ false → (q == p) ≡ false
 other_block q p h = ne_eqb q p (λ e. eqb-false (q / 64) (p / 64) h (ap (λ x. x / 64) e))
 
-clear_page : (q p old : ℕ) (x t : Bool) → (q / 64 == p / 64) ≡ t
-    → has_bit (if x && t then bit_and old (bit_not w64 (page_mask q)) else old) (p % 64) ≡ (if x && (q == p) then false else has_bit old (p % 64))
-clear_page q p old a t h = search (arith, bit_cleared, page_mask_lt, block_bit, clear_cases, other_block)
-
-set_page : (q p old : ℕ) (x t : Bool) → (q / 64 == p / 64) ≡ t
-    → has_bit (if x && t then bit_or old (page_mask q) else old) (p % 64) ≡ (if x && (q == p) then true else has_bit old (p % 64))
-set_page q p old x t h = grind (arith, bit_of_or, block_bit, set_cases, other_block)
-
 -- the page's bit after the bit of page q was cleared, or set, where x says that the vector is the same
 pub page_bit-clear : (q p old : ℕ) (x : Bool)
     → has_bit (if x && (q / 64 == p / 64) then bit_and old (bit_not w64 (page_mask q)) else old) (p % 64)
     ≡ (if x && (q == p) then false else has_bit old (p % 64))
-page_bit-clear q p old x = clear_page q p old x (q / 64 == p / 64) refl
+page_bit-clear q p old x = search (arith, bit_cleared, page_mask_lt, block_bit, clear_cases, other_block)
 
 -- A page's bit in a word with the mask of one is set for that page, and is as before for others.
 pub page_bit-set : (q p old : ℕ) (x : Bool)
     → has_bit (if x && (q / 64 == p / 64) then bit_or old (page_mask q) else old) (p % 64) ≡ (if x && (q == p) then true else has_bit old (p % 64))
-page_bit-set q p old x = set_page q p old x (q / 64 == p / 64) refl
+page_bit-set q p old x = grind (arith, bit_of_or, block_bit, set_cases, other_block)
 
 -- ---- the lowest page of a word
 pub no_page : (n number next low : ℕ) → low ≡ next - 64 * number → n / 2 ^ low ≡ 0 → HasNoPage n number next

@@ -47,14 +47,12 @@ ones_counted zero n small = let none : n ≡ 0 = omega arith in ap (λ m. count_
 ones_counted (suc k) n small =
     let power = pow-suc 2 k in
     let some : 0 < 2 ^ k = pow_pos k in
-    let fits = div-lt_iff_lt-mul {k = 2 ^ k} {x = n} {y = 2} some in
-    let high : n / 2 ^ k < 2 = fits.1 (omega arith) in
-    let same : n / 2 ^ k % 2 ≡ n / 2 ^ k = omega arith in
+    let high : n / 2 ^ k < 2 = (div-lt_iff_lt-mul {k = 2 ^ k} {x = n} {y = 2} some).1 (omega arith) in
     let split : n / 2 ^ k * 2 ^ k + n % 2 ^ k ≡ n = shr_split n k in
     let low : n % 2 ^ k < 2 ^ k = mod-lt n some in
     let below : count_below k (has_bit (n % 2 ^ k)) ≡ count_below k (has_bit n) =
     count_same k _ _ (λ i h. ap (λ t. t == 1) (sym (bit_at_cat_low (n / 2 ^ k) k (n % 2 ^ k) i h) ∙ ap (λ m. bit_at m i) split)) in
-    let top : count_ones (n / 2 ^ k) ≡ (if has_bit n k then 1 else 0) = top_ones (n / 2 ^ k) high (has_bit n k) (ap (λ t. t == 1) (sym same)) in
+    let top : count_ones (n / 2 ^ k) ≡ (if has_bit n k then 1 else 0) = top_ones (n / 2 ^ k) high (has_bit n k) (ap (λ t. t == 1) (sym (omega arith))) in
     let ones : count_ones n ≡ count_ones (n / 2 ^ k) + count_ones (n % 2 ^ k) = ap (λ m. count_ones m) (sym split) ∙ ones_cat k (n / 2 ^ k) (n % 2 ^ k) low in
     ones ∙ omega (arith, top, below, ones_counted k (n % 2 ^ k) low, count_suc k (has_bit n) (has_bit n k) refl)
 
@@ -137,16 +135,11 @@ within_more a b start end fits none inside x h is = elim (cases_lt x (64 * start
       ∙ ap (λ n. has_bit n (x % 64)) (none (x / 64) (omega (arith, ge)) (omega (arith, h))) ∙ none_of_zero (x % 64)) is
 ]
 
--- A row within another up to one word is so up to the next where that has no numbers outside.
-pub within_one : (a b : List ℕ) (word : ℕ) → WordsFit b → outside a b word ≡ 0 → IsWithinBelow a b (64 * word) → IsWithinBelow a b (64 * (word + 1))
-within_one a b word fits none = within_more a b word (word + 1) fits (λ k le lt. ap (outside a b) (omega (arith, le, lt)) ∙ none)
-
 -- A row with a word that has bits outside another has a member outside it.
 pub has_outside : (a b : List ℕ) (word : ℕ) → WordsFit a → WordsFit b → outside a b word ≢ 0 → HasMemberOutside a b
 has_outside a b word fits_a fits_b some =
-    let small = and_le_l (slice_index a word) (2 ^ 64 - 1 - slice_index b word) in
     let bit = trailing_zeros w64 (outside a b word) in
-    let low = lowest_bit (outside a b word) some (omega (arith, small, fits_a word)) in
+    let low = lowest_bit (outside a b word) some (omega (arith, and_le_l (slice_index a word) (2 ^ 64 - 1 - slice_index b word), fits_a word)) in
     let parts = only_first (has_bit (slice_index a word) bit) (has_bit (slice_index b word) bit) (sym (outside_bit (slice_index a word) (slice_index b word) bit (fits_b word) low.within) ∙ low.set) in
     (64 * word + bit, at_word a word bit low.within ∙ parts.0, at_word b word bit low.within ∙ parts.1)
 
@@ -186,16 +179,14 @@ group_within a b start n room_a room_b none k le lt =
     let lane : k - start < n = omega (arith, le, lt) in
     let xs = chunk start n a in
     let ys = chunk start n b in
-    let long_a = length-chunk start n a room_a in
     let long_b = length-chunk start n b room_b in
     let not_ys = map (λ y. 2 ^ 64 - 1 - y) ys in
     let long_not = length-map ys (λ (y : ℕ). 2 ^ 64 - 1 - y) in
-    let here = get_or-zip2 bit_and xs not_ys (k - start) 0 0 0 (omega (arith, lane, long_a)) (omega (arith, lane, long_b, long_not)) in
-    let other = get_or-map (λ (y : ℕ). 2 ^ 64 - 1 - y) ys (k - start) 0 0 (omega (arith, lane, long_b)) in
+    let here = get_or-zip2 bit_and xs not_ys (k - start) 0 0 0 (omega (arith, lane, length-chunk start n a room_a)) (omega (arith, lane, long_b, long_not)) in
     let first = get_or-chunk start n a (k - start) 0 lane ∙ ap (slice_index a) at in
     let second = get_or-chunk start n b (k - start) 0 lane ∙ ap (slice_index b) at in
     let whole : slice_index (outside_lanes xs ys) (k - start) ≡ outside a b k =
-    here ∙ ap (λ m. bit_and (slice_index xs (k - start)) m) other ∙ ap (λ m. bit_and m (2 ^ 64 - 1 - slice_index ys (k - start))) first ∙ ap (λ m. bit_and (slice_index a k) (2 ^ 64 - 1 - m)) second in
+    here ∙ ap (λ m. bit_and (slice_index xs (k - start)) m) (get_or-map (λ (y : ℕ). 2 ^ 64 - 1 - y) ys (k - start) 0 0 (omega (arith, lane, long_b))) ∙ ap (λ m. bit_and m (2 ^ 64 - 1 - slice_index ys (k - start))) first ∙ ap (λ m. bit_and (slice_index a k) (2 ^ 64 - 1 - m)) second in
     sym whole ∙ lane_zero (outside_lanes xs ys) (k - start) none
 
 -- ==== How many bits of so many words are set.
@@ -214,13 +205,9 @@ pub whole_before : (words : List ℕ) → count_before words (length words) ≡ 
 unfolding count_before set_count
 whole_before words = refl
 
--- A test counts one at most.
-choice_most : (b : Bool) → (if b then 1 else 0) ≤ 1
-choice_most b = grind arith
-
 count_most : (n : ℕ) (p : ℕ → Bool) → count_below n p ≤ n
 count_most zero p = omega arith
-count_most (suc n) p = omega (arith, count_suc n p (p n) refl, choice_most (p n), count_most n p)
+count_most (suc n) p = grind (arith, count_suc n p (p n) refl, count_most n p)
 
 -- At most 64 numbers are set in each word before one.
 pub before_most : (words : List ℕ) (word : ℕ) → count_before words word ≤ 64 * word
@@ -261,9 +248,8 @@ pub group_more : (words : List ℕ) (start n : ℕ) → start + n ≤ length wor
     → count_before words (start + n) ≡ count_before words start + sum_l (lane_counts (chunk start n words))
 group_more words start zero room fits = ap (count_before words) (add-zero start) ∙ omega arith
 group_more words start (suc n) room fits =
-    let first = group_next words start n (omega (arith, room)) in
     let word = word_more words start fits in
-    let sums : sum_l (lane_counts (chunk start (suc n) words)) ≡ count_ones (slice_index words start) + sum_l (lane_counts (chunk (start + 1) n words)) = ap (λ xs. sum_l (lane_counts xs)) first in
+    let sums : sum_l (lane_counts (chunk start (suc n) words)) ≡ count_ones (slice_index words start) + sum_l (lane_counts (chunk (start + 1) n words)) = ap (λ xs. sum_l (lane_counts xs)) (group_next words start n (omega (arith, room))) in
     let at : start + suc n ≡ start + 1 + n = omega arith in
     ap (count_before words) at ∙ omega (arith, group_more words (start + 1) n (omega (arith, room)) fits, word, sums)
 

@@ -1,10 +1,10 @@
 -- Bits of words, and the words of a mask.
-use Rattle.std.proofs.Common.{◌≡◌, ◌≢◌, ℕ, ◌+◌, ◌-◌, ◌*◌, ◌/◌, ◌%◌, ◌^◌, ◌<◌, ◌≤◌, ◌==◌, ◌&&◌, ◌||◌, not, min, max, Bool, true, false, List, [], ◌∷◌, length}
-use Rattle.std.proofs.Common.{slice_index, slice_set, inl, inr, ap, sym, ◌∙◌, arith, bit_and, bit_or, get_or-set_same, get_or-set_other, w64, eq-eqb, ne_eqb}
+use Rattle.std.proofs.Common.{◌≡◌, ◌≢◌, ℕ, ◌+◌, ◌-◌, ◌*◌, ◌/◌, ◌%◌, ◌^◌, ◌<◌, ◌≤◌, ◌==◌, ◌&&◌, ◌||◌, not, Bool, true, false, List, [], ◌∷◌, length, slice_index}
+use Rattle.std.proofs.Common.{slice_set, inl, inr, ap, sym, ◌∙◌, arith, bit_and, bit_or, get_or-set_same, get_or-set_other, w64, eq-eqb, ne_eqb}
 use Rattle.std.specs.Int.{bit_at, bit_not}
 use Rattle.std.proofs.lemmas.{Bool.cases_lt, Bool.cases_eq, Bool.Decides.nat_tests, List.get_or_past}
-use Rattle.std.proofs.lemmas.Nat.Bits.{bit_at-lt, bit_at-zero, bit_at_and, bit_at_or, bit_at_not, bit_at_ones, bit_at_set_same, bit_at_set_other}
-use Rattle.std.proofs.lemmas.Nat.Bits.{bit_at_clear_same, bit_at_clear_other}
+use Rattle.std.proofs.lemmas.Nat.Bits.{bit_at-zero, bit_at_and, bit_at_or, bit_at_not, bit_at_ones, bit_at_set_same, bit_at_set_other, bit_at_clear_same}
+use Rattle.std.proofs.lemmas.Nat.Bits.{bit_at_clear_other}
 use Rattle.pas_bits.specs.{Bits.has_bit, Masks.is_set}
 use Rattle.pas_bits.specs.declared.mask.Mask4.{Mask4}
 
@@ -22,26 +22,17 @@ is_zero n b h = ap (λ x. x == 1) h
 pub none_of_zero : (b : ℕ) → has_bit 0 b ≡ false
 none_of_zero b = is_zero 0 b (bit_at-zero b)
 
-not_test : (x : ℕ) → x < 2 → (1 - x == 1) ≡ not (x == 1)
-not_test x h = grind (arith, nat_tests)
-
 -- the other bits of a word
 pub bit_of_not : (n b : ℕ) → n < 2 ^ 64 → b < 64 → has_bit (2 ^ 64 - 1 - n) b ≡ not (has_bit n b)
-bit_of_not n b fits h = ap (λ x. x == 1) (bit_at_not w64 n b fits h) ∙ not_test (bit_at n b) (bit_at-lt n b)
-
-min_test : (x y : ℕ) → x < 2 → y < 2 → (min x y == 1) ≡ ((x == 1) && (y == 1))
-min_test x y hx hy = grind (arith, nat_tests)
+bit_of_not n b fits h = ap (λ x. x == 1) (bit_at_not w64 n b fits h) ∙ grind (arith, nat_tests)
 
 -- the bits that two words share
 pub bit_of_and : (m n b : ℕ) → has_bit (bit_and m n) b ≡ (has_bit m b && has_bit n b)
-bit_of_and m n b = ap (λ x. x == 1) (bit_at_and m n b) ∙ min_test (bit_at m b) (bit_at n b) (bit_at-lt m b) (bit_at-lt n b)
-
-max_test : (x y : ℕ) → x < 2 → y < 2 → (max x y == 1) ≡ ((x == 1) || (y == 1))
-max_test x y hx hy = grind (arith, nat_tests)
+bit_of_and m n b = ap (λ x. x == 1) (bit_at_and m n b) ∙ grind (arith, nat_tests)
 
 -- the bits that one of two words has
 pub bit_of_or : (m n b : ℕ) → has_bit (bit_or m n) b ≡ (has_bit m b || has_bit n b)
-bit_of_or m n b = ap (λ x. x == 1) (bit_at_or m n b) ∙ max_test (bit_at m b) (bit_at n b) (bit_at-lt m b) (bit_at-lt n b)
+bit_of_or m n b = ap (λ x. x == 1) (bit_at_or m n b) ∙ grind (arith, nat_tests)
 
 -- a bit after the bits of a mask were cleared
 pub bit_cleared : (n m b : ℕ) → m < 2 ^ 64 → b < 64 → has_bit (bit_and n (bit_not w64 m)) b ≡ (has_bit n b && not (has_bit m b))
@@ -122,8 +113,7 @@ after_set words grain long h g = elim (cases_eq (g / 64) (grain / 64)) [
         | inr place ↦ ap (λ x. x == 1) (bit_at_set_other w64 (slice_index words (grain / 64)) (grain % 64) (omega arith) (g % 64) place) ∙ ap (λ w. has_bit
             (slice_index words w) (g % 64)) (sym word) ∙ ap (λ t. t || has_bit (slice_index words (g / 64)) (g % 64)) (sym (other_place g grain word place))
       ]
-  | inr word ↦ replaced_other words (grain / 64) (one_set (slice_index words (grain / 64)) (grain % 64)) (g / 64) (g % 64) word
-      ∙ ap (λ t. t || has_bit (slice_index words (g / 64)) (g % 64)) (sym (other_word g grain word))
+  | inr word ↦ cc (replaced_other words (grain / 64) (one_set (slice_index words (grain / 64)) (grain % 64)) (g / 64) (g % 64) word, other_word g grain word)
 ]
 
 -- After one grain was cleared, a mask's bits are those before but that one.

@@ -86,10 +86,6 @@ prepared_before : {f : Profile} (fill : Filling) {locals fewer : List Slots} (st
     → IsObtained fill f locals fewer steps (Ok slots) → (k : ℕ) (v : View) → AllByRecursion (IsPreparing fill.directory) (events_by k v steps)
 prepared_before fill steps slots e k v = grind (arith, events_later, refill_events, prepared)
 
-silent_before : {fill : Filling} {f : Profile} {locals fewer : List Slots} (steps : List Made) (room : NoRoom) → IsObtained fill f locals fewer steps (Err room)
-    → IsSilent steps
-silent_before steps room e = grind (arith, events_later, events_quiet, refusal)
-
 -- ---- the give
 give_event : (slots rest : Slots) (block : Block) (steps : List Made) → GivesSlot slots rest block steps → (k : ℕ) (v : View)
     → events_by k v steps ≡ Event.Give k block ∷ []
@@ -162,7 +158,7 @@ serves_none {σ} fill tells locals fewer room one = record {
   change = record { found = Err room; fewer = fewer; before = one.steps; obtained = one.how; given = []; ends = (refl, refl, refl); steps_are = refl };
   kinds = obtained_kinds one.how;
   few = λ k v h agreed. let few = one.few k v h agreed in record { paid = omega (arith, few.paid); most = omega (arith, few.most) };
-  outcome = silent_before one.steps room one.how;
+  outcome = grind (arith, events_later, events_quiet, refusal);
   place = omega (arith, one.place);
   told = one.told;
 }
@@ -175,18 +171,7 @@ given_two fewer locals' given found answer slots is h = grind arith
 spent_empty : (spent : List Made) (local : Option Slots) (slots : Slots) → local ≡ Some slots → LeavesSpent local spent → HasMember slots.starts → ⊥
 spent_empty spent local slots is leaves some = true≢false (sym some.2 ∙ (subst (λ l. LeavesSpent l spent) is leaves).0 some.0 some.1)
 
-cached_two : {fill : Filling} {f : Profile} {locals locals' : List Slots} {steps : List Made} {answer : Result Block NoRoom}
-    → (h : ServesLocals fill f locals locals' steps answer) → (slots : Slots) → local_for fill.directory.heap fill.class locals ≡ Some slots
-    → HasMember slots.starts
-    → length steps ≡ 2
-cached_two {fill = fill} {locals = locals} {locals' = locals'} {answer = answer} h slots is some = search (arith, given_two, length-append, spent_empty)
-
 -- ---- how many steps there are at most
-refill_short : {fill : Filling} {f : Profile} {steps : List Made} {found : Result Slots NoRoom} → IsRefill fill f steps found
-    → length steps ≤ 11 + search_steps fill.steps f.pages
-refill_short {found = Ok slots} h = let n = ap length h.steps_are ∙ length-append h.after h.searched in omega (arith, n, h.few, h.outcome.after_few)
-refill_short {found = Err room} h = let n = ap length (refused_steps h) in omega (arith, n, h.few)
-
 -- A give makes two steps at most, and a refusal none.
 given_few : (fewer locals' : List Slots) (given : List Made) (found : Result Slots NoRoom) (answer : Result Block NoRoom)
     → IsAnswered fewer locals' given found answer → length given ≤ 2
@@ -194,7 +179,7 @@ given_few fewer locals' given found answer h = grind arith
 
 serves_short : {fill : Filling} {f : Profile} {locals locals' : List Slots} {steps : List Made} {answer : Result Block NoRoom}
     → ServesLocals fill f locals locals' steps answer → length steps ≤ 59 + search_steps fill.steps f.pages
-serves_short {locals' = locals'} {answer = answer} h = search (arith, length-append, given_few, refill_short)
+serves_short {locals' = locals'} {answer = answer} h = search (arith, length-append, given_few)
 
 -- ---- of a cache
 for_cache : (f : Profile) (c : Cached) (d : Directory) (class size align : ℕ) (steps : List Made) (answer : Result Block NoRoom) → 4096 % align ≡ 0
@@ -202,14 +187,6 @@ for_cache : (f : Profile) (c : Cached) (d : Directory) (class size align : ℕ) 
     → MatchResult answer (IsBlockFor f (class_wanted d class 1) (RestsWith f c.locals) steps) (λ room. IsSilent steps)
     → MatchResult answer (IsBlockFor f (class_wanted d class align) (AtRest f c) steps) (λ room. IsSilent steps)
 for_cache f c d class size align steps answer whole route h = grind (arith, routed_slot_aligned, leads_as)
-
--- The kind of a class is one, in a shared heap and in another.
-kind_known : (shared : Bool) (class : ℕ) → IsClass class → IsKind (kind_of_class shared class)
-kind_known shared class is = grind arith
-
--- And one of the profile's, where the class is.
-kind_among : (shared : Bool) (classes class : ℕ) → class < classes → IsKindAmong classes (kind_of_class shared class)
-kind_among shared classes class is = grind arith
 
 -- the route by the profile that a desk tells is that in its region
 pub routed : (f told : Profile) (size align : ℕ) (route way : Route) → told ≡ f → route ≡ route_in told size align → route ≡ way → route_in f size align ≡ way
@@ -225,7 +202,7 @@ pub filling_for : (f : Profile) (size align heap class : ℕ) → IsAdmitted f s
 filling_for f size align heap class admitted route =
     let smallest = class_suits f.classes size align class route in
     let known : IsClass class = class_known f.classes size align class smallest in
-    let directory : IsDirectoryOf f (class_home f heap class) = record { heap = admitted.of_profile; kind = kind_known _ _ known; class = kind_among _ f.classes _ smallest.known } in
+    let directory : IsDirectoryOf f (class_home f heap class) = record { heap = admitted.of_profile; kind = grind arith; class = (grind arith) } in
     record { directory = directory; class = known; home = refl; fewer = fewer_slots class }
 
 -- a request of a class wants pages of the class's home
@@ -237,11 +214,6 @@ wanted_is f heap class size align route = ap (λ r. record { directory = record 
 pub home_is : (f : Profile) (table : HeapTable) (heap class : ℕ) (kind : TheKind) → kind ≡ kind_of_class (is_marked table heap) class
     → marks_of table ≡ f.shared → record { heap = heap; kind = kind } ≡ class_home f heap class
 home_is f table heap class kind is marks = ap (λ (k : TheKind). record { heap = heap; kind = k }) (is ∙ ap (λ n. kind_of_class (has_bit n heap) class) marks)
-
--- What is told of the state makes a refusal true; of a served request nothing is to be shown.
-true_refusal : (f : Profile) (d : Directory) (class align : ℕ) (locals : List Slots) (entry exit : Whole) (answer : Result Block NoRoom)
-    → IsToldOf (filling_in d class) f locals entry exit answer → IsToldBy f (class_wanted d class align) locals entry exit answer
-true_refusal f d class align locals entry exit answer told = grind arith
 
 -- A request of a class that was served from its slots is allocated.
 pub allocates : {σ σ' : Standing} (size align heap class : ℕ) (tells : Bool) (c c' : Cached) (answer : Result Block NoRoom)
@@ -256,10 +228,10 @@ allocates {σ} {σ'} size align heap class tells c c' answer admitted route is h
       change = record { locals = h.change; cache = is };
       kinds = h.kinds;
       short = serves_short h.change;
-      two = λ some. cached_two h.change some.0 some.1 some.2;
+      two = λ some. (search (arith, given_two, length-append, spent_empty));
       few = λ k v rest agreed. h.few k v rest.locals agreed;
       outcome = for_cache f c _ class size align h.steps answer admitted.aligned.2 route h.outcome;
-      told = λ t v l stood rest. true_refusal f _ class align c.locals l _ answer (h.told t v l stood rest.locals);
+      told = λ t v l stood rest. (grind arith);
     })
 
 -- A cache that may allocate may obtain slots with room for two events.
@@ -281,9 +253,6 @@ rests_after fill tells locals locals' answer h can = h.calls.leads.from can.view
 -- whole.
 
 -- ---- a request of a class
-spent_none : (heap class : ℕ) (locals : List Slots) (steps : List Made) → LeavesSpent (local_for heap class locals) steps → HasNoneCached heap class locals
-spent_none heap class locals steps left slots found some = let empty = (subst (λ o. LeavesSpent o steps) found left).0 in true≢false (sym some.2 ∙ empty some.0 some.1)
-
 module _ (f : Profile) (k : ℕ) (l : Whole) (valid : IsValid f) (fill : Filling) (is : IsFilling f fill) (locals : List Slots)
     (rest : RestsWith f locals (part k l)) where
   -- the refusal is true, and the actor has no right of a page of the directory afterwards
@@ -305,7 +274,7 @@ module _ (f : Profile) (k : ℕ) (l : Whole) (valid : IsValid f) (fill : Filling
       let still = (refusal fetch.refill).still.from (part k middle) may (agreed_steps f k middle ys valid at_middle) in
       subst (λ zs. IsTrueAfter zs room) (sym fetch.steps_are) (subst (λ z. IsTrueOf fill f locals l z room × OwnLacks k fill.directory z) (triples_append k ys xs l) (
         record {
-          cached = spent_none fill.directory.heap fill.class locals fetch.place.spent fetch.place.taken.left;
+          cached = λ slots found some. let empty = (subst (λ o. LeavesSpent o fetch.place.spent) found fetch.place.taken.left).0 in true≢false (sym some.2 ∙ empty some.0 some.1);
           entry_fit = no_fit_before fill.no_fit f fill.directory k xs l is.fewer fetch.gives_back told.0;
           exit_fit = told.1;
           reason = told.2;
@@ -336,9 +305,6 @@ module _ (f : Profile) (k : ℕ) (l : Whole) (valid : IsValid f) (fill : Filling
 large_home : (f : Profile) (heap size align : ℕ) → route_in f size align ≡ Route.Large → large_directory heap ≡ (wanted_for f heap size align).directory
 large_home f heap size align route = ap (λ (r : Route). record { heap = heap; kind = kind_of_route (is_shared f heap) r }) (sym route)
 
-kind_large : (f : Profile) (heap size align : ℕ) → route_in f size align ≡ Route.Large → IsKind (wanted_for f heap size align).directory.kind
-kind_large f heap size align route = subst (λ (d : Directory). IsKind d.kind) (large_home f heap size align route) tt
-
 find_large : (f : Profile) (heap size align : ℕ) (locals : List Slots) (v : View) → route_in f size align ≡ Route.Large → RestsWith f locals v
     → MayFind (wanted_for f heap size align).directory v
 find_large f heap size align locals v route rest = subst (λ d. MayFind d v) (large_home f heap size align route) (may_find f v heap locals rest)
@@ -355,9 +321,6 @@ module _ (f : Profile) (heap size align k : ℕ) (found : Option ℕ) (c c' : Ca
   -- what is said of the refusal of a request by this route, and what the actor has afterwards
   abbrev IsRefusedBy : Route → Wanted → Type 0
   IsRefusedBy r w = IsTrulyRefusedBy r f w c.locals l exit room × OwnLacks k w.directory exit
-
-  of_profile : (r : Route) → route_in f size align ≡ r → IsDirectoryOf f wanted.directory
-  of_profile r route = grind (arith, wanted_is, filling_for, bitfit_wanted, large_home)
 
   class_refused : (class : ℕ) → route_in f size align ≡ Route.Class class → ServesClass (filling_in wanted.directory class) f c c' steps (Err room)
       → IsRefusedBy (Route.Class class) wanted
@@ -389,16 +352,12 @@ module _ (f : Profile) (heap size align k : ℕ) (found : Option ℕ) (c c' : Ca
   pages_refused route serves =
       let stands : Legal f (triples k (serves.rest ++ serves.tried) ++ l) = subst (λ xs. Legal f (triples k xs ++ l)) serves.steps_are legal in
       subst (λ xs. IsTrulyRefusedBy Route.Large f wanted c.locals l (triples k xs ++ l) room × OwnLacks k wanted.directory (triples k xs ++ l)) (sym serves.steps_are)
-      (refused_alone f k l wanted.directory _ _ serves.tried serves.rest serves.old serves.returns stands (find_large f _ _ _ c.locals _ route rest.locals) valid (of_profile Route.Large route) room serves.outcome)
+      (refused_alone f k l wanted.directory _ _ serves.tried serves.rest serves.old serves.returns stands (find_large f _ _ _ c.locals _ route rest.locals) valid (grind (arith, wanted_is, filling_for, bitfit_wanted, large_home)) room serves.outcome)
 
   by_route : (r : Route) → route_in f size align ≡ r → ServesBy r f wanted found c c' steps (Err room) → IsRefusedBy r wanted
   by_route (Route.Class class) route serves = class_refused class route serves
   by_route Route.Bitfit route serves = bitfit_refused route serves
   by_route Route.Large route serves = pages_refused route serves
-
-  -- By whichever route the request went, its refusal is true.
-  true_reason : (r : Route) → IsTrulyRefusedBy r f wanted c.locals l exit room → IsTrueReason f wanted.directory exit room
-  true_reason r told = grind arith
 
   -- A request that was refused while its actor went on alone was truly refused.
   pub truly_refused : ServesRequest f (wanted_for f heap size align) found c c' steps (Err room)
@@ -409,7 +368,7 @@ module _ (f : Profile) (heap size align k : ℕ) (found : Option ℕ) (c c' : Ca
   pub no_space : OthersHaveNone k l → ServesRequest f (wanted_for f heap size align) found c c' steps (Err room) → room ≡ NoSpace
   no_space others serves =
       let told = by_route _ refl serves in
-      none_held_there f k wanted.directory exit room (of_profile _ refl) legal told.1 (λ j p other. ap (λ v. has_right v p) (part_of_others j k _ l other) ∙ others j p other) (true_reason _ told.0)
+      none_held_there f k wanted.directory exit room (grind (arith, wanted_is, filling_for, bitfit_wanted, large_home)) legal told.1 (λ j p other. ap (λ v. has_right v p) (part_of_others j k _ l other) ∙ others j p other) (grind arith)
 
 -- ---- the run that a door named
 module _ (f : Profile) (heap size align k : ℕ) (found : Option ℕ) (c c' : Cached) (l : Whole) (steps : List Made) (answer : Result Block NoRoom)
@@ -422,7 +381,7 @@ module _ (f : Profile) (heap size align k : ℕ) (found : Option ℕ) (c c' : Ca
       let w = wanted_for f heap size align in
       let stands : Legal f (triples k (serves.rest ++ serves.tried) ++ l) = subst (λ xs. Legal f (triples k xs ++ l)) serves.steps_are legal in
       subst (λ xs. GoesByDoor f w.directory (pages_of w) found l xs answer) (sym serves.steps_are)
-      (goes_by_door f k l w.directory _ _ serves.tried serves.rest serves.old serves.returns stands (find_large f _ _ _ c.locals _ route rest.locals) (kind_large f _ _ _ route) _ serves.outcome)
+      (goes_by_door f k l w.directory _ _ serves.tried serves.rest serves.old serves.returns stands (find_large f _ _ _ c.locals _ route rest.locals) (subst (λ (d : Directory). IsKind d.kind) (large_home f _ _ _ route) tt) _ serves.outcome)
 
   -- A request whose actor went on alone takes the run that its door named, where that is whole.
   pub takes_named : ServesRequest f (wanted_for f heap size align) found c c' steps answer

@@ -42,13 +42,9 @@ none_formed locals none = subst (λ (xs : List Slots). All IsFormed xs) (sym non
 -- ==== Begin, flush, stop and free.
 
 -- ---- an empty cache
--- With no local allocator each fact is one of an actor that has nothing.
-no_locals : (f : Profile) (v : View) → HasNothing v → RestsWith f [] v
-no_locals f v none = search arith
-
 -- A cache without local allocators and with an empty log is at rest where its actor has nothing.
 pub rests_empty : (f : Profile) (c : Cached) (v : View) → c.locals ≡ [] → c.log ≡ [] → HasNothing v → AtRest f c v
-rests_empty f c v locals log none = search (arith, no_locals)
+rests_empty f c v locals log none = search arith
 
 -- ---- at rest after steps that did nothing, with the same local allocators
 rests_idle : (f : Profile) (c c' : Cached) (steps : List Made) → c'.locals ≡ c.locals → Leads f IsClear (Does nothing) steps
@@ -140,15 +136,10 @@ pub logs_into : {σ σ' : Standing} (log kept log' : List Entry) (noted noted' :
     → EmptiesWhere (nat_le 64 (length log)) log kept noted noted' σ σ' → log' ≡ kept ++ entry ∷ [] → LogsInto log log' noted noted' entry σ σ'
 logs_into log kept log' noted noted' entry emptied is = record { steps = emptied.steps; calls = emptied.calls; logs = record { kept = kept; emptied = emptied.empties; log_is = is }; ranges = emptied.ranges }
 
--- the names of a log after one more
-kept_names : (f : Profile) (full : Bool) (k : ℕ) (log kept : List Entry) (noted noted' : List EndedRun) (steps : List Made) → full ≡ nat_le 64 (length log)
-    → EmptiesFull full k log kept noted noted' steps → All (IsEntryOf f) log → All (IsEntryOf f) kept × (length kept < 64)
-kept_names f full k log kept noted noted' steps e h names = grind (arith, leb-false)
-
 logged_names : (f : Profile) (k : ℕ) (log log' : List Entry) (noted noted' : List EndedRun) (entry : Entry) (steps : List Made)
     → LogsEntry k log log' noted noted' entry steps → IsEntryOf f entry → All (IsEntryOf f) log → All (IsEntryOf f) log' × (length log' ≤ 64)
 logged_names f k log log' noted noted' entry steps logs is names =
-    let kept = kept_names f _ k log logs.kept noted noted' steps refl logs.emptied names in
+    let kept : All (IsEntryOf f) logs.kept × (length logs.kept < 64) = grind (arith, leb-false) in
     let n : length log' ≡ length logs.kept + 1 = ap length logs.log_is ∙ length-append logs.kept _ in
     (All-same (IsEntryOf f) log' (logs.kept ++ entry ∷ []) logs.log_is (All-push (IsEntryOf f) logs.kept entry kept.0 is), omega (arith, n, kept.1))
 
@@ -170,11 +161,6 @@ frees {σ} c c' entry turn size region logs is = record {
 pub refuses : {σ : Standing} (c c' : Cached) (entry : Entry) (fault : FreeFault) → IsFaultOf σ.seat.profile entry.name fault → c' ≡ c
     → Frees entry c c' σ σ (Err fault)
 refuses {σ} c c' entry fault is same = search (arith, call_none)
-
--- room for the events of a full log
--- At least 64 and at most 64 is 64.
-pub full_room : (n spare : ℕ) → n ≤ 64 → (n ≡ 64 → 64 ≤ spare) → 64 ≤ n → n ≤ spare
-full_room n spare most room full = search arith
 
 -- A cache at rest may flush its log.
 pub flush_call : {σ : Standing} {c : Cached} → CanCall σ (AtRest σ.seat.profile c) → CanCall σ (MayFlush σ.seat.profile c.log)

@@ -89,18 +89,10 @@ spare_kept {σ} {C = C} {xs} {spare} {spare'} adds can kinds law law' =
     let e = spare_falls {C = C} _ spare' 0 adds can law law' (ap (λ (es : List Event). length es) (no_events releasing refl σ.seat.actor can.view xs kinds)) in omega (arith, e)
 
 -- ---- the first one of a full list
-first_stopped : (locals kept : List Slots) (oldest : Slots) (steps : List Made) → (length locals == 32) ≡ true → oldest ≡ slice_index_or locals 0 oldest
-    → kept ≡ remove locals 0 → StopStepsAt (home_of oldest) oldest steps → StopsFirst (nat_le 32 (length locals)) locals kept steps
-first_stopped locals kept oldest steps full at is stops = grind (arith, true≢false, eqb-true, le-leb)
-
 -- A full list is shortened by a stop of its oldest local allocator.
 pub shortens_full : {σ σ' : Standing} {locals kept : List Slots} → (length locals == 32) ≡ true → StopsPlace 0 locals kept σ σ'
     → Releases (IsShortened locals kept) locals kept σ σ'
-shortens_full {locals = locals} {kept = kept} full h = releases_as h.stops (λ steps one. record { first = first_stopped _ kept h.slots _ full h.at h.fewer one.order; few = one.few })
-
--- A list that isn't full stays as it is when it is to be shortened.
-pub shortens_none : (locals : List Slots) → (length locals == 32) ≡ false → length locals ≤ 32 → IsShortened locals locals []
-shortens_none locals other le = grind (arith, eqb-false)
+shortens_full {locals = locals} {kept = kept} full h = releases_as h.stops (λ steps one. record { first = grind (arith, true≢false, eqb-true, le-leb); few = one.few })
 
 -- ---- one call after another
 module _ {σ σ1 : Standing} {First : List Made → Type 0} (locals kept : List Slots) (one : Releases First locals kept σ σ1) where
@@ -135,9 +127,6 @@ stops_more locals kept rest stopped one h =
 -- ==== Slots come by a refill.
 
 -- ---- homes
-unshared : (shared : Bool) (a b : ℕ) → Kind.Class a ≡ kind_of_class shared b → a ≡ b
-unshared shared a b h = grind arith
-
 -- The right is kept just where the heap isn't shared, since the kinds of pages differ.
 pub kept_by : (right shared : Bool) (a b : ℕ) → kind_of_class (not right) a ≡ kind_of_class shared b → right ≡ not shared
 kept_by right shared a b h = grind arith
@@ -145,7 +134,7 @@ kept_by right shared a b h = grind arith
 -- slots that keep their page's right and are at home in the directory are those for its heap and the class
 is_one : (f : Profile) (fill : Filling) → IsFilling f fill → (slots : Slots) → slots.right ≡ true → home_of slots ≡ fill.directory
     → is_for fill.directory.heap fill.class slots ≡ true
-is_one f fill is slots right home = search (arith, and_from, eq-eqb, unshared)
+is_one f fill is slots right home = search (arith, and_from, eq-eqb)
 
 -- ---- an actor whose local allocators are all of other directories has no right of a page of this one
 no_right_in : (f : Profile) (v : View) (d : Directory) (test : Slots → Bool) → IsKind d.kind
@@ -190,11 +179,6 @@ search_call {σ} fill locals is none can = can_call adds_none can (λ v l stood 
 refill_of : {σ σ' : Standing} (fill : Filling) (tells : Bool) (answer : Result Slots NoRoom) → (h : Refills fill tells σ σ' answer)
     → IsRefill fill σ.seat.profile (h.after ++ h.searched) answer
 refill_of fill tells answer h = record { searched = h.searched; searches = h.searches; few = h.few; after = h.after; outcome = h.outcome; steps_are = refl }
-
--- What a refill served is what it found; of a refusal nothing is to be shown.
-found_by : (fill : Filling) (f : Profile) (steps : List Made) (answer : Result Slots NoRoom) → IsRefill fill f steps answer
-    → MatchResult answer (IsFoundFor fill) (λ room. Unit {0})
-found_by fill f steps answer refill = grind arith
 
 -- the one that is cached for the heap and the class is at home in its directory
 cached_home : (f : Profile) (v : View) (fill : Filling) → IsFilling f fill → (slots : Slots) → IsLocal f v slots
@@ -333,13 +317,9 @@ no_set : (slots : Slots) (g : ℕ) → IsClass slots.class → IsEmpty slots.sta
 no_set slots g is empty lt set =
     true≢false (sym set ∙ empty (start_of slots.class g) (omega (arith, (start_below slots.class g is).0, lt)))
 
-nothing_back : (slots : Slots) (steps : List Made) → IsClass slots.class → IsEmpty slots.starts → (h : StopStepsAt (home_of slots) slots steps)
-    → BackSteps slots.page (home_of slots) h.mask h.back → h.back ≡ []
-nothing_back slots steps is empty h e = grind (arith, no_set)
-
 spent_leaves : (slots : Slots) (steps : List Made) → IsClass slots.class → IsEmpty slots.starts → StopStepsAt (home_of slots) slots steps
     → LeavesWhere slots.right slots.page (home_of slots) steps
-spent_leaves slots steps is empty h = search (arith, nothing_back, append-nil)
+spent_leaves slots steps is empty h = search (arith, no_set, append-nil)
 
 -- The spent local allocator of a heap and class that was stopped is taken out.
 pub leaves_spent : {σ σ1 : Standing} (heap class : ℕ) {locals others : List Slots} {place : ℕ} → IsPlaceOf heap class locals place
@@ -363,11 +343,8 @@ pub none_at_all : (heap class : ℕ) (locals : List Slots) → None ≡ local_fo
 none_at_all heap class locals none other at some = cc
 
 -- ---- and the list is shortened
-none_after : (t : Bool) (x : Slots) (rest : Option Slots) → cond t (Some x) rest ≡ None → rest ≡ None
-none_after t x rest none = grind arith
-
 none_first : (heap class : ℕ) (first : Slots) (rest : List Slots) → local_for heap class (first ∷ rest) ≡ None → local_for heap class rest ≡ None
-none_first heap class first rest none = none_after (is_for heap class first) first (local_for heap class rest) none
+none_first heap class first rest none = grind arith
 
 none_stopped : (heap class : ℕ) (full : Bool) (locals kept : List Slots) (steps : List Made) → StopsFirst full locals kept steps
     → local_for heap class locals ≡ None → local_for heap class kept ≡ None
@@ -435,13 +412,6 @@ obtains_cached {σ} fill tells locals locals' is can fits cached =
       last = cached.last;
     }
 
--- What a refill tells is told of the whole request, served or refused.
-refill_told : (fill : Filling) (f : Profile) (locals : List Slots) (entry middle exit : Whole) (answer : Result Slots NoRoom)
-    → HasNoneCached fill.directory.heap fill.class locals
-    → (HasNoFit fill.no_fit f fill.directory middle → HasNoFit fill.no_fit f fill.directory entry)
-    → IsTold (λ (s : Slots). s.page) fill.no_fit f fill.directory middle exit answer → IsToldOf fill f locals entry exit answer
-refill_told fill f locals entry middle exit answer none back told = grind arith
-
 -- Slots that a refill brings, after place was made for them, are obtained.
 pub obtains_refilled : {σ σ1 σ2 : Standing} (fill : Filling) (tells : Bool) (locals fewer : List Slots) (answer : Result Slots NoRoom)
     → IsFilling σ.seat.profile fill → HasNoneCached fill.directory.heap fill.class locals
@@ -459,7 +429,7 @@ obtains_refilled {σ} {σ1} {σ2} fill tells locals fewer answer is cached one n
       steps = ys ++ xs;
       calls = search (arith, rests_then, adds_under, may_search, rests_refilled, refill_of);
       how = inr (record { before = xs; place = one.change; gives_back = one.kinds; rests = one.calls.leads; searched = ys; refill = refill; steps_are = refl });
-      found_for = found_by fill f ys answer refill;
+      found_for = grind arith;
       place = place;
       few = λ n v h agreed. refill_few _ f ys xs _ refill one.kinds n v (may_search f _ _ fewer is none (one.calls.leads.from v h (agreed_later f v ys xs agreed))) agreed;
       told = λ t v l stood h.
@@ -468,5 +438,5 @@ obtains_refilled {σ} {σ1} {σ2} fill tells locals fewer answer is cached one n
           let told = subst (λ (s : Seat). IsTold (λ (x : Slots). x.page) fill.no_fit s.profile fill.directory middle (triples s.actor ys ++ middle) answer) e
           (two.told t (xs ++ v) middle (one.calls.adds.added v l stood h) may) in
           subst (λ x. IsToldOf fill f locals l x answer) (triples_append k ys xs l)
-          (refill_told fill f locals l middle _ answer cached (no_fit_before fill.no_fit f fill.directory k xs l is.fewer one.kinds) told);
+          (grind (arith, no_fit_before fill.no_fit f fill.directory k xs l is.fewer one.kinds));
     }

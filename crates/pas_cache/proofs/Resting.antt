@@ -57,9 +57,6 @@ module _ {X : Type 0} (test : X → Bool) where
   counted_not : (x : X) (xs : List X) → test x ≡ false → count_by test (x ∷ xs) ≡ count_by test xs
   counted_not x xs isnt = let n = counted x xs in let none = ap one_if isnt in omega (arith, n, none)
 
-  none_passes : (x : X) (xs : List X) → test x ≡ false → NonePasses xs → NonePasses (x ∷ xs)
-  none_passes x xs isnt h = search (arith, counted_not)
-
   first_passes : (x : X) (xs : List X) → test x ≡ true → (count_by test xs ≡ 0 → NonePasses xs) → Passes (x ∷ xs) x
   first_passes x xs is none = search (arith, counted_is)
 
@@ -83,7 +80,7 @@ module _ {X : Type 0} (test : X → Bool) where
   passing [] = inl (record { found = refl; any = refl; count = refl; others = refl })
   passing (x ∷ xs) = elim (cases_Bool _) [
     | inl is ↦ inr (x, first_passes x xs is (λ zero_there. elim (passing xs) [ inl none ↦ none | inr some ↦ absurd (omega (arith, some.1.count, zero_there)) ]))
-    | inr isnt ↦ elim (passing xs) [ inl none ↦ inl (none_passes x xs isnt none) | inr some ↦ inr (some.0, later_passes x xs some.0 isnt some.1) ]
+    | inr isnt ↦ elim (passing xs) [ inl none ↦ inl (search (arith, counted_not)) | inr some ↦ inr (some.0, later_passes x xs some.0 isnt some.1) ]
   ]
 
   -- by what is known of the list
@@ -127,7 +124,10 @@ module _ {X : Type 0} (test : X → Bool) where
       let later = at_place xs place d (omega (arith, lt)) is (one_fewer x xs one) in
       elim (cases_Bool _) [
         | inl passes ↦ let n = counted_is x xs passes in let none = none_count xs (omega (arith, n, one)) in let found = none.found in let other = later.0 in absurd (cc)
-        | inr fails ↦ (ap (λ t. cond t (Some x) (find test xs)) fails ∙ later.0, ap (λ t. cond (not t) (x ∷ filter (λ y. not (test y)) xs) (filter (λ y. not (test y)) xs)) fails ∙ ap (λ ys. x ∷ ys) later.1)
+        | inr fails ↦ (
+          ap (λ t. cond t (Some x) (find test xs)) fails ∙ later.0,
+          ap (λ t. cond (not t) (x ∷ filter (λ y. not (test y)) xs) (filter (λ y. not (test y)) xs)) fails ∙ ap (λ ys. x ∷ ys) later.1,
+        )
       ]
 
   -- those that don't pass
@@ -231,10 +231,6 @@ module _ (slots : Slots) (start : ℕ) (lowest : IsLowestSet slots.starts 0 star
 -- ==== At rest after a call.
 
 -- ---- one local allocator after a call
--- slots of which one is left cover a grain of their page
-some_grain : (f : Profile) (v : View) (t : Slots) → IsLocal f v t → (some : HasMember t.starts) → covers t (first_grain t some.0) ≡ true
-some_grain f v t here some = search (arith, class_grains_positive, slot_covers)
-
 -- one whose grains were all kept is as it was
 local_after : (f : Profile) (e : Effect) (steps : List Made) (v : View) (t : Slots) → Does e v (steps ++ v) → Agreed f v steps
     → ((g : ℕ) → covers t g ≡ true → (holds v g ≡ true) × (e.grains g ≡ Kept)) → IsLocal f v t → IsLocal f (steps ++ v) t
@@ -248,7 +244,7 @@ local_after f e steps v t does agreed stays at = record {
   backed = λ some.
       let g : ℕ = first_grain t some.0 in
       let on : g / 256 ≡ t.page = omega (arith, some.1) in
-      let here = stays g (some_grain f v t at some) in
+      let here = stays g (search (arith, class_grains_positive, slot_covers)) in
       subst (λ p. knows_backed (steps ++ v) p ≡ true) on (does.backed g here.1 (record { held = here.0; backed = subst (λ p. knows_backed v p ≡ true) (sym on) (at.backed some) })).backed;
 }
 
@@ -291,14 +287,6 @@ rests_kept f locals steps v does agreed h = rests_by f nothing _ v _ _ does (λ 
 
 unless_covered : (t : Bool) (fate : Fate) → (t ≡ true → ⊥) → (if t then fate else Kept) ≡ Kept
 unless_covered t fate isnt = cond-false t fate Kept (false_from_ne_true t isnt)
-
--- A right that is lost leaves what the other local allocators keep.
-less : (c r : Bool) → (c ≡ true → r ≡ false) → now (if c then Lost else Kept) (c || r) ≡ r
-less c r away = grind arith
-
--- A right that is gained is kept beside what was.
-more : (c r : Bool) → now (if c then Gained else Kept) r ≡ (c || r)
-more c r = grind arith
 
 -- ---- the first of them
 module _ (f : Profile) (slots : Slots) (rest : List Slots) (v : View) (h : RestsWith f (slots ∷ rest) v) where
@@ -344,12 +332,8 @@ module _ (f : Profile) (slots : Slots) (rest : List Slots) (v : View) (h : Rests
   -- it goes
   pub rests_stopped : (steps : List Made) → Does (of_slots slots Lost) v (steps ++ v) → Agreed f v steps → RestsWith f rest (steps ++ v)
   rests_stopped steps does agreed = rests_by f _ steps v _ rest does
-      (λ g. less _ _ (no_other_grain g)) (λ page. less _ _ (no_other_right page)) (λ page. refl) h
+      (λ g. (grind (arith, no_other_grain g))) (λ page. (grind (arith, no_other_right page))) (λ page. refl) h
       (others_after _ steps does agreed (λ g outside. ap (λ t. if t then Lost else Kept) outside)) fewer_apart
-
--- one comes
-by_page : (t right kept : Bool) → (t ≡ true → kept ≡ false) → now (if t then (if right then Gained else Lost) else Kept) kept ≡ ((right && t) || kept)
-by_page t right kept none = grind arith
 
 -- A cache that rests is at rest with slots more that it got.
 pub rests_gained : (f : Profile) (d : Directory) (slots : Slots) (rest : List Slots) (steps : List Made) (v : View) → RestsWith f rest v
@@ -360,7 +344,7 @@ rests_gained f d slots rest steps v h gains agreed here none no_right =
     let e : Effect = got slots in
     let later : All (IsLocal f (steps ++ v)) rest = locals_after f e _ v _ gains.does agreed
     (λ g there. (h.grains g ∙ there, unless_covered _ Gained (λ mine. true≢false (sym (h.grains g ∙ there) ∙ gains.apart g mine)))) h.known in
-    rests_by f e _ v _ _ gains.does (λ g. more (covers slots g) (any_covers rest g)) (λ page. by_page (slots.page == page) slots.right _ (no_right later page)) (λ page. refl) h
+    rests_by f e _ v _ _ gains.does (λ g. (grind arith)) (λ page. (grind arith)) (λ page. refl) h
     (All-cons (IsLocal f (steps ++ v)) slots rest here later)
     (record {
       one_each = λ heap class. one_more _ slots rest (λ is. let pair = and_parts (slots.heap == heap) (slots.class == class) is in
@@ -388,11 +372,6 @@ give_does f slots rest block steps gives v agreed =
 -- Where no start is on the page, to leave it out changes nothing.
 unless_start : (page at set : Bool) → (page ≡ true → at ≡ true → ⊥) → (page && (not at && set)) ≡ (page && set)
 unless_start page at set h = grind arith
-
--- A run that is lost leaves what the rest has.
-by_run : (inside had left rest : Bool) → (inside ≡ true → (left || rest) ≡ false) → (inside ≡ false → left ≡ had)
-    → now (if inside then Lost else Kept) (had || rest) ≡ (left || rest)
-by_run inside had left rest gone same = grind arith
 
 module _ (f : Profile) (locals : List Slots) (slots rest : Slots) (block : Block) (steps : List Made) (gives : GivesSlot slots rest block steps) (v : View)
     (h : RestsWith f (slots ∷ locals) v) where
@@ -424,9 +403,6 @@ module _ (f : Profile) (locals : List Slots) (slots rest : Slots) (block : Block
   kept : (page : ℕ) → keeps_right rest page ≡ keeps_right slots page
   kept page = ap (λ r. r && (rest.page == page)) gives.rest.right ∙ ap (λ q. slots.right && (q == page)) gives.rest.page
 
-  same_pair : (heap class : ℕ) → is_for heap class rest ≡ is_for heap class slots
-  same_pair heap class = ap (λ x. (x == heap) && (rest.class == class)) gives.rest.heap ∙ ap (λ x. (slots.heap == heap) && (x == class)) gives.rest.class
-
   inside_covered : (g : ℕ) → in_run (grain_of block.name) (length_of block) g ≡ true → covers slots g ≡ true
   inside_covered g inside = slot_covers slots start g slot gives.lowest.set (in_slot slots start g local.class slot (sym (run_is g) ∙ inside))
 
@@ -446,29 +422,20 @@ module _ (f : Profile) (locals : List Slots) (slots rest : Slots) (block : Block
       let s : start_here g ≡ start = eqb-true (start_here g) start at in
       true≢false (sym (to_run _ _ g (omega (arith, low, p, s)) (omega (arith, high, p, s))) ∙ (sym (run_is g) ∙ outside)))
 
-  uncovered_kept : (g : ℕ) → covers slots g ≡ false → (if in_run (grain_of block.name) (length_of block) g then Lost else Kept) ≡ Kept
-  uncovered_kept g outside = unless_covered _ Lost (λ inside. true≢false (sym (inside_covered g inside) ∙ outside))
-
-  rest_kept : (g : ℕ) → covers rest g ≡ true → (if in_run (grain_of block.name) (length_of block) g then Lost else Kept) ≡ Kept
-  rest_kept g of_rest = unless_covered _ Lost (λ inside. true≢false (sym (ap (λ t. t || any_covers locals g) of_rest) ∙ inside_gone g inside))
-
   same_home : home_of rest ≡ home_of slots
   same_home = ap (λ h. home_by h rest.class rest.right) gives.rest.heap ∙ (ap (λ c. home_by slots.heap c rest.right) gives.rest.class ∙ ap (home_by slots.heap slots.class) gives.rest.right)
-
-  rest_before : IsLocal f v rest
-  rest_before = search (arith, local, same_home, and_parts)
 
   -- A cache that rests is at rest after a slot of its first local allocator was given.
   pub rests_given : Agreed f v steps → RestsWith f (rest ∷ locals) (steps ++ v)
   rests_given agreed =
       let does : Does (given block) v (steps ++ v) = give_does f slots rest block steps gives v agreed in
       let fewer : AreApart locals = fewer_apart f slots locals v h in
-      rests_by f _ steps v _ _ does (λ g. by_run _ _ _ _ (inside_gone g) (outside_same g))
+      rests_by f _ steps v _ _ does (λ g. (grind (arith, inside_gone g, outside_same g)))
       (λ page. ap (λ t. t || any_keeps locals page) (sym (kept page))) (λ page. refl) h
       (All-cons (IsLocal f (steps ++ v)) rest locals
-      (local_after f _ _ v _ does agreed (λ g of_rest. (h.grains g ∙ ap (λ t. t || any_covers locals g) (covered g of_rest), rest_kept g of_rest)) rest_before)
-      (others_after f slots locals v h _ steps does agreed uncovered_kept)) (record {
-        one_each = λ heap class. one_more _ rest locals (λ is. no_other _ slots locals (h.apart.one_each heap class) (sym (same_pair heap class) ∙ is)) (fewer.one_each heap class);
+      (local_after f _ _ v _ does agreed (λ g of_rest. (h.grains g ∙ ap (λ t. t || any_covers locals g) (covered g of_rest), (unless_covered _ Lost (λ inside. true≢false (sym (ap (λ t. t || any_covers locals g) of_rest) ∙ inside_gone g inside))))) (search (arith, local, same_home, and_parts)))
+      (others_after f slots locals v h _ steps does agreed (λ g outside. unless_covered _ Lost (λ inside. true≢false (sym (inside_covered g inside) ∙ outside))))) (record {
+        one_each = λ heap class. one_more _ rest locals (λ is. no_other _ slots locals (h.apart.one_each heap class) (sym (ap (λ x. (x == heap) && (rest.class == class)) gives.rest.heap ∙ ap (λ x. (slots.heap == heap) && (x == class)) gives.rest.class) ∙ is)) (fewer.one_each heap class);
         grains = λ g. one_more (λ t. covers t g) rest locals (λ of_rest. no_other_grain f slots locals v h g (covered g of_rest)) (fewer.grains g);
         rights = λ page. one_more (λ t. keeps_right t page) rest locals (λ of_rest. no_other_right f _ _ v h _ (sym (kept page) ∙ of_rest)) (fewer.rights page);
       })

@@ -44,13 +44,9 @@ use Rattle.pas_segregated.specs.Stops.{home_of}
 
 -- ==== The route, by the size, in a region of so many classes.
 
--- of at most 2,048 bytes
-small_with : (o : Option ℕ) (n : ℕ) → n ≤ 2048 → IsSmallRoute (route_with o n)
-small_with o n le = grind (arith, le-leb)
-
 -- A request of at most 2,048 bytes goes by a class or is bit-fit.
 pub is_small : (classes size align : ℕ) → size ≤ 2048 → IsSmallRoute (route_of classes size align)
-is_small classes size align le = small_with (first_class (sizes_of classes) 0 (max size 1) align) (max size 1) (omega (arith, le))
+is_small classes size align le = grind (arith, le-leb)
 
 -- of more
 pub is_large : (classes size align : ℕ) → 2048 < size → route_of classes size align ≡ Route.Large
@@ -157,11 +153,6 @@ module _ (f : Profile) (heap room align : ℕ) (locals : List Slots) (searched a
       (only_within searching allocating searched refl only)
   bitfit_kinds (Err why) h only = subst (Only allocating) (refused h.1) (only_within searching allocating searched refl only)
 
-  -- the block's page
-  on_page : (block : Block) → (both : IsAllocated f (bitfit_directory heap) room align searched after block) → (g : ℕ)
-      → in_run (grain_of block.name) (length_of block) g ≡ true → g / 256 ≡ both.0.page
-  on_page block both g inside = search (arith, run_of, covers)
-
   bitfit_ends : {Meets : View → Type 0} → ((v : View) → Meets v → RestsWith f locals v) → (answer : Result Block NoRoom)
       → BitfitEnds f heap room align searched after answer
       → MatchResult answer (IsBlockFor f (bitfit_request heap room align) Meets bitfit_steps) (λ why. IsSilent bitfit_steps)
@@ -171,18 +162,14 @@ module _ (f : Profile) (heap room align : ℕ) (locals : List Slots) (searched a
     placed = subst (λ n. n % 4096 + block.room ≤ 4096) (sym (ap (λ (b : Block). address_of b.name) is.block_is))
         (omega (arith, is.served.serves.chosen.this.within, ap (λ (b : Block). b.room) is.block_is, both.1.room_is));
     aligned = both.1.aligned;
-    of_region = λ g inside. subst (IsPage f) (sym (on_page block both g inside)) is.served.page;
+    of_region = λ g inside. subst (IsPage f) (sym (search (arith, run_of, covers))) is.served.page;
     turn = record { from = λ v met agreed. (bitfit_gave block both v (rests v met) agreed).turn };
-    deeds = record { from = λ v met agreed g inside. subst (λ p. KnowsDeed p (bitfit_directory heap) (bitfit_steps ++ v)) (sym (on_page _ both g inside)) (bitfit_gave _ both v (rests v met) agreed).deed };
+    deeds = record { from = λ v met agreed g inside. subst (λ p. KnowsDeed p (bitfit_directory heap) (bitfit_steps ++ v)) (sym (search (arith, run_of, covers))) (bitfit_gave _ both v (rests v met) agreed).deed };
     events = λ k v. (events_by k v searched, is.events k v, prepared _ is.page searched is.served.events k v);
   }
   bitfit_ends rests (Err why) h = subst IsSilent (refused h.1) (λ k v. events_quiet k v searched h.0.quiet)
 
 -- ---- how many steps there are at most
-bitfit_short : (f : Profile) (heap room align : ℕ) (searched after : List Made) (answer : Result Block NoRoom) → length searched ≤ search_steps 15 f.pages
-    → BitfitEnds f heap room align searched after answer → length (after ++ searched) ≤ 59 + search_steps 15 f.pages
-bitfit_short f heap room align searched after answer few h = grind (arith, length-append)
-
 -- ---- what it says of the whole state
 bitfit_told : (f : Profile) (heap room align : ℕ) (locals : List Slots) (entry exit : Whole) (answer : Result Block NoRoom)
     → IsTold (λ (b : Block). address_of b.name / 4096) (NoneFits (run_for room align)) f (bitfit_directory heap) entry exit answer
@@ -190,13 +177,6 @@ bitfit_told : (f : Profile) (heap room align : ℕ) (locals : List Slots) (entry
 bitfit_told f heap room align locals entry exit answer told = grind arith
 
 -- ---- of a cache
-with_request : (f : Profile) (heap room align : ℕ) (searched after : List Made) (answer : Result Block NoRoom)
-    → MatchResult answer (IsGiven (runs (run_for room align)) (run_at (run_for room align)) f (bitfit_directory heap) searched after)
-    (λ why. IsRefused (NoneFits (run_for room align)) f (bitfit_directory heap) searched why
-    × (after ≡ []))
-    → MatchResult answer (IsOfRequest room align) (λ why. Unit {0}) → BitfitEnds f heap room align searched after answer
-with_request f heap room align searched after answer given fits = grind arith
-
 -- A cache that may allocate has room for the search of a bit-fit request.
 pub bitfit_call : {σ : Standing} {c : Cached} {spare : ℕ} (heap : ℕ) → CanCall σ (MayAllocate σ.seat.profile c spare)
     → CanCall σ (SearchRoom σ.seat.profile (bitfit_directory heap) 2 spare)
@@ -214,7 +194,7 @@ pub bitfit_allocates : {σ σ' : Standing} (size align heap : ℕ) (tells : Bool
 bitfit_allocates {σ} {σ'} size align heap tells c answer route both =
     let f : Profile = σ.seat.profile in
     let room : ℕ = room_in f size align in let a = both.0 in
-    let outcome = with_request f heap room align a.searched a.after answer a.outcome both.1 in
+    let outcome : BitfitEnds f heap room align a.searched a.after answer = grind arith in
     subst (λ (w : Wanted). Serves w tells c c σ σ' answer) (bitfit_wanted f heap size align route) (record {
       steps = a.after ++ a.searched;
       calls = record {
@@ -223,7 +203,7 @@ bitfit_allocates {σ} {σ'} size align heap tells c answer route both =
       };
       change = record { cache = refl; searched = a.searched; searches = a.searches; after = a.after; outcome = outcome; steps_are = refl };
       kinds = bitfit_kinds f heap room align c.locals a.searched a.after answer outcome a.searches.kinds;
-      short = bitfit_short f heap room align a.searched a.after answer a.few outcome;
+      short = grind (arith, length-append);
       two = λ none. absurd none;
       few = λ k v met agreed. bitfit_few f heap room align c.locals a.searched a.after answer outcome k v met.locals agreed;
       outcome = bitfit_ends f heap room align c.locals a.searched a.after {Meets = AtRest f c} (λ v met. met.locals) answer outcome;
@@ -255,14 +235,11 @@ known_of_local f v p (first ∷ rest) all keeps none = elim (cases_Bool _) [
   | inr other ↦ known_of_local f v p rest (All-tail (IsLocal f v) first rest all) (ap (λ t. t || any_keeps rest p) (sym other) ∙ keeps) none
 ]
 
-lacks_known : (f : Profile) (v : View) (locals : List Slots) (p : ℕ) → All (IsLocal f v) locals → known_deed v p ≡ 0 → any_keeps locals p ≡ false
-lacks_known f v locals p all none = false_from_ne_true (any_keeps locals p) (λ keeps. known_of_local f v p locals all keeps none)
-
 -- A cache at rest may look for a run of whole pages in each heap.
 pub may_find : (f : Profile) (v : View) (heap : ℕ) (locals : List Slots) → RestsWith f locals v → MayFind (large_directory heap) v
 may_find f v heap locals h = record {
   lacks = λ p of. h.rights p ∙ elim of [
-    | inl none ↦ lacks_known f v locals p h.known none
+    | inl none ↦ false_from_ne_true (any_keeps locals p) (λ keeps. known_of_local f v p locals h.known keeps none)
     | inr knows ↦ no_right_of f v _ tt not_large locals h.known p knows
   ];
   clear = h.clear;
@@ -371,11 +348,6 @@ module _ (f : Profile) (heap n : ℕ) (searched after : List Made) where
   ends align locals alignment only rests (Err why) is = λ k v. subst (AllByRecursion (IsDeedOf (large_directory heap))) (sym (silent is k v)) (deeds_only _ searched only is.made k v)
 
 -- ---- what is asked for
--- From 1 on the size is its own maximum with 1.
-pages_wanted : (f : Profile) (heap size align n : ℕ) → n ≡ (size + 4096 - 1) / 4096 → 1 ≤ size → route_in f size align ≡ Route.Large
-    → record { directory = large_directory heap; route = Route.Large; room = n * 4096; align = align } ≡ wanted_for f heap size align
-pages_wanted f heap size align n is some route = search arith
-
 -- The whole pages of a size are as many as begun pages.
 pub whole_pages : (size : ℕ) → size / 4096 + min 1 (size % 4096) ≡ (size + 4096 - 1) / 4096
 whole_pages size = omega arith
@@ -395,7 +367,7 @@ pages_allocates {σ} {σ'} size align heap n found tells c answer is some alignm
     let count : n * 4096 / 4096 ≡ n = omega arith in
     let e : HasEnded σ.seat.profile (large_directory heap) n (a.rest ++ a.tried) answer = ended f d n a.tried a.old a.shows found a.rest answer a.outcome in
     let same : a.rest ++ a.tried ≡ e.after ++ e.got = e.steps_are in
-    subst (λ (w : Wanted). AllocatesPages w found tells c c σ σ' answer) (pages_wanted f heap size align n is (omega (arith, some)) route) (record {
+    subst (λ (w : Wanted). AllocatesPages w found tells c c σ σ' answer) (search arith) (record {
       steps = a.rest ++ a.tried;
       calls = record {
         adds = adds_under a.adds (λ v l stood met. may_find f v heap c.locals met.locals);

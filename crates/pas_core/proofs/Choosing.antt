@@ -212,11 +212,8 @@ as_many_steps chosen (t ∷ l) m same = at (as_many_steps chosen l) (chosen t.ac
         not_so : (j == k) ≡ false → (k == j) ≡ false
         not_so e = ne_eqb k j (λ is. true≢false (sym (eq-eqb j k (sym is)) ∙ e))
 
-    -- A step of no chosen actor changes none of their parts.
-    passed : chosen k ≡ false → (j : ℕ) → chosen j ≡ true → part j l ≡ part j m
-    passed other j chose = sym (part_without j t l (ne_eqb k j (λ is. true≢false (sym chose ∙ (ap chosen (sym is) ∙ other))))) ∙ same j chose
-
     at : ((n : Whole) → ((j : ℕ) → chosen j ≡ true → part j l ≡ part j n) → length (steps_by chosen l) ≡ length (steps_by chosen n)) → (b : Bool) → chosen k ≡ b
         → length (steps_by chosen (t ∷ l)) ≡ length (steps_by chosen m)
-    at again true e = ap length (step_taken chosen t l e) ∙ (ap suc (again (without k m) (λ j chose. taken e j chose (j == k) refl)) ∙ sym (one_fewer chosen k m t.made _ e (sym (same k e) ∙ here)))
-    at again false e = ap length (step_passed chosen t l e) ∙ again m (passed e)
+    at again true e = ap length (step_taken chosen t l e)
+        ∙ (ap suc (again (without k m) (λ j chose. taken e j chose (j == k) refl)) ∙ sym (one_fewer chosen k m t.made _ e (sym (same k e) ∙ here)))
+    at again false e = ap length (step_passed chosen t l e) ∙ again m (λ j chose. sym (part_without j t l (ne_eqb k j (λ is. true≢false (sym chose ∙ (ap chosen (sym is) ∙ e))))) ∙ same j chose)

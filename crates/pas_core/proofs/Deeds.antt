@@ -32,12 +32,9 @@ IsKnown known word = (known ≡ 0) ⊎ (known ≡ word)
 pub known_is : (known word : ℕ) → IsKnown known word → known ≢ 0 → known ≡ word
 known_is known word e ne = grind arith
 
-deed_stays : (x : Bool) (d : Directory) (old known : ℕ) → IsKnown known old → IsKnown known (if x then (if old == 0 then deed_word_of d else old) else old)
-deed_stays x d old known h = grind (arith, cases_eq, ne_eqb)
-
 -- what is known of a deed word stays true
 pub word_stays : (e : ℕ) (s : Step) (p old known : ℕ) → IsKnown known old → IsKnown known (next_value e s (Word.Deed p) old)
-word_stays e s p old known h = grind (arith, looked, deed_stays)
+word_stays e s p old known h = grind (arith, looked, cases_eq, ne_eqb)
 
 -- A deed step leaves what its actor knows of the deed word true.
 pub deed_tells : (x : Bool) (d : Directory) (old a known : ℕ) → (x ≡ true → a ≡ old) → IsKnown known old
@@ -56,34 +53,17 @@ deed_at l a q p is t = is ∙ ap (λ n. word_after l (Word.Deed n)) (eqb-true q 
 pub deed_kept : (l : Whole) (t : Triple) (p : ℕ) → word_after l (Word.Deed p) ≢ 0 → word_after (t ∷ l) (Word.Deed p) ≡ word_after l (Word.Deed p)
 deed_kept l t p ne = search (arith, known_is, word_stays)
 
--- where there is no deed there was none
-pub deed_was_none : (l : Whole) (t : Triple) (p : ℕ) → word_after (t ∷ l) (Word.Deed p) ≡ 0 → word_after l (Word.Deed p) ≡ 0
-deed_was_none l t p gone = search (arith, word_stays)
-
 -- ---- each deed word is that of a directory of the profile
-deed_written : (f : Profile) (x z : Bool) (d : Directory) (old : ℕ) → IsDirectoryOf f d → IsDeedWord f old
-    → IsDeedWord f (if x then (if z then deed_word_of d else old) else old)
-deed_written f x z d old of h = grind arith
-
-deed_word_next : (f : Profile) (e : ℕ) (s : Step) (p old : ℕ) → IsStepOf f s → IsDeedWord f old → IsDeedWord f (next_value e s (Word.Deed p) old)
-deed_word_next f e s p old of h = grind (arith, looked, deed_written)
-
 -- The deed word of each page in a legal list is 0 or that of a directory of the profile.
 pub deed_words : (f : Profile) (l : Whole) → Legal f l → (p : ℕ) → IsDeedWord f (word_after l (Word.Deed p))
 deed_words f [] legal p = λ ne. absurd (ne refl)
-deed_words f (t ∷ l) legal p = search (arith, deed_word_next, deed_words f l legal.1 p)
+deed_words f (t ∷ l) legal p = search (arith, looked, deed_words f l legal.1 p)
 
 -- ---- only pages have deeds
-page_if : (f : Profile) (x : Bool) (q p new old : ℕ) → (q == p) ≡ x → IsPage f q → (old ≢ 0 → IsPage f p) → (if x then new else old) ≢ 0 → IsPage f p
-page_if f x q p new old e of h ne = grind (arith, eqb-true)
-
-deed_page_next : (f : Profile) (e : ℕ) (s : Step) (p old : ℕ) → IsStepOf f s → (old ≢ 0 → IsPage f p) → next_value e s (Word.Deed p) old ≢ 0 → IsPage f p
-deed_page_next f e s p old of h ne = grind (arith, looked, page_if)
-
 -- what has a deed is a page of the profile
 pub deed_has_page : (f : Profile) (l : Whole) → Legal f l → (p : ℕ) → word_after l (Word.Deed p) ≢ 0 → IsPage f p
 deed_has_page f [] legal p ne = absurd (ne refl)
-deed_has_page f (t ∷ l) legal p ne = search (arith, deed_page_next, deed_has_page f l legal.1 p)
+deed_has_page f (t ∷ l) legal p ne = search (arith, looked, eqb-true, deed_has_page f l legal.1 p)
 
 -- ---- the numbers of directories
 pub numbered_ne : (n : ℕ) → deed_word_numbered n ≢ 0
@@ -105,65 +85,34 @@ pub end_event_cases : (P : List Event → Type 0) (z y : Bool) (end reject : Eve
 end_event_cases P z y end reject es ended rejected old = search (arith, cond_both)
 
 -- ---- deeds
-deed_agrees : (x z : Bool) (k q : ℕ) (d : Directory) (p old a : ℕ) (es : List Event) → (q == p) ≡ x → (x ≡ true → a ≡ old) → (a == 0) ≡ z
-    → old ≡ word_of_deed (deed_in es p)
-    → (if x then (if old == 0 then deed_word_of d else old) else old) ≡ word_of_deed (deed_in (with_event (if z then Some (Event.Deed k q d) else None) es) p)
-deed_agrees x z k q d p old a es xe is ze h = grind (arith, eqb-true)
-
-deed_step : (l : Whole) (k e : ℕ) (s : Step) (a p : ℕ) → a ≡ word_after l (target s) → word_after l (Word.Deed p) ≡ word_of_deed (deed_in (visible l) p)
-    → (if same_word (target s) (Word.Deed p) then new_value e s (word_after l (Word.Deed p)) else word_after l (Word.Deed p))
-    ≡ word_of_deed (deed_in (with_event (event_of k e s a) (visible l)) p)
-deed_step l k e s a p is h = search (arith, deed_agrees, eqb-true, event_if, end_event_cases)
-
 -- the deed word of a page records the machine's directory
 pub deed_of : (f : Profile) (l : Whole) → Legal f l → (p : ℕ) → word_after l (Word.Deed p) ≡ word_of_deed (deed_in (visible l) p)
 deed_of f [] legal p = refl
-deed_of f (t ∷ l) legal p = deed_step l t.actor (epoch_of (part t.actor l)) t.made.step t.made.answer p legal.0.answer_is (deed_of f l legal.1 p)
+deed_of f (t ∷ l) legal p = search (arith, eqb-true, event_if, end_event_cases, deed_of f l legal.1 p)
 
 -- ---- each directory of the machine is of the profile
 abbrev AreOf : Profile → List Event → Type 0
 AreOf f es = (p : ℕ) (d : Directory) → deed_in es p ≡ Some d → IsDirectoryOf f d
 
-one_directory : (f : Profile) (x : Bool) (d : Directory) (old : Option Directory) (d' : Directory) → IsDirectoryOf f d → (old ≡ Some d' → IsDirectoryOf f d')
-    → (if x then Some d else old) ≡ Some d' → IsDirectoryOf f d'
-one_directory f x d old d' of rest is = grind (arith, same_Some)
-
 directory_if : (f : Profile) (z : Bool) (k q : ℕ) (d : Directory) (es : List Event) → IsDirectoryOf f d → AreOf f es
     → AreOf f (with_event (if z then Some (Event.Deed k q d) else None) es)
-directory_if f z k q d es of rest p d' is = grind (arith, one_directory)
-
-directory_step : (f : Profile) (k e : ℕ) (s : Step) (a : ℕ) (es : List Event) → IsStepOf f s → AreOf f es → AreOf f (with_event (event_of k e s a) es)
-directory_step f k e (Deed q d) a es of rest = directory_if f (a == 0) k q d es of.1 rest
-directory_step f k e (Back q) a es of rest = λ p d is. rest p d (sym (event_if (λ x. deed_in x p ≡ deed_in es p) (a == 0) (Event.Back k q) es refl refl) ∙ is)
-directory_step f k e s a es of rest = search (arith, end_event_cases)
+directory_if f z k q d es of rest p d' is = grind (arith, same_Some)
 
 -- A page's deed by the events of a legal list is a directory of the profile.
 pub directory_is_of : (f : Profile) (l : Whole) → Legal f l → (p : ℕ) (d : Directory) → deed_in (visible l) p ≡ Some d → IsDirectoryOf f d
 directory_is_of f [] legal p d is = cc
-directory_is_of f (t ∷ l) legal p d is = search (arith, directory_step, directory_is_of f l legal.1)
+directory_is_of f (t ∷ l) legal p d is = search (arith, directory_is_of f l legal.1)
 
 -- ---- backed pages
-or_one : (b : Bool) (old : ℕ) → old ≡ word_of_backed b → bit_or old 1 ≡ 1
-or_one b old h = grind arith
-
 -- A backed word is 0 exactly where the page isn't backed.
 pub is_backed : (z : Bool) (b : Bool) (n : ℕ) → n ≡ word_of_backed b → (n == 0) ≡ z → b ≡ not z
 is_backed z b n h e = grind (arith, nat_tests)
-
-back_agrees : (x z : Bool) (k q p old a : ℕ) (es : List Event) → (q == p) ≡ x → (x ≡ true → a ≡ old) → (a == 0) ≡ z → old ≡ word_of_backed (backed_in es p)
-    → (if x then bit_or old 1 else old) ≡ word_of_backed (backed_in (with_event (if z then Some (Event.Back k q) else None) es) p)
-back_agrees x z k q p old a es xe is ze h = grind (arith, or_one, is_backed)
 
 -- A page whose backing ends is read so: whether it is this one or another.
 unback_agrees : (x : Bool) (old : ℕ) (was : Bool) → old ≡ word_of_backed was → (if x then 0 else old) ≡ word_of_backed (if x then false else was)
 unback_agrees x old was h = grind arith
 
-back_step : (l : Whole) (k e : ℕ) (s : Step) (a p : ℕ) → a ≡ word_after l (target s) → word_after l (Word.Backed p) ≡ word_of_backed (backed_in (visible l) p)
-    → (if same_word (target s) (Word.Backed p) then new_value e s (word_after l (Word.Backed p)) else word_after l (Word.Backed p))
-    ≡ word_of_backed (backed_in (with_event (event_of k e s a) (visible l)) p)
-back_step l k e s a p is h = search (arith, event_if, back_agrees, eqb-true, end_event_cases, unback_agrees)
-
 -- the backed word of a page says whether the machine has it backed
 pub backed_of : (f : Profile) (l : Whole) → Legal f l → (p : ℕ) → word_after l (Word.Backed p) ≡ word_of_backed (backed_in (visible l) p)
 backed_of f [] legal p = refl
-backed_of f (t ∷ l) legal p = back_step l t.actor (epoch_of (part t.actor l)) t.made.step t.made.answer p legal.0.answer_is (backed_of f l legal.1 p)
+backed_of f (t ∷ l) legal p = search (arith, event_if, is_backed, eqb-true, end_event_cases, unback_agrees, backed_of f l legal.1 p)

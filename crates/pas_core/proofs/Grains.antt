@@ -22,11 +22,6 @@ use Rattle.pas_steps.proofs.Running.{guess_fits}
 pub life_same : (c b : ℕ) → same_word (life_word_at c) (life_word_at b) ≡ (c == b)
 life_same c b = grind (arith, nat_tests)
 
--- the free word of a page that a grain stands in
-free_same : (l : Whole) (page word g : ℕ) → ((word == g / 64 % 4) && (page == g / 256)) ≡ true
-    → word_after l (Word.Free page word) ≡ word_after l (free_word_at g)
-free_same l page word g h = search (arith, and_parts, eqb-true)
-
 -- ---- the numbers of a step of a valid profile fit
 pub give_short : (f : Profile) (address room : ℕ) → IsValid f → address + room ≤ 4096 * (f.pages + 1) → room / 16 < 2 ^ 23
 give_short f address room valid h = omega (arith, valid.pages, h)
@@ -46,16 +41,9 @@ Fits j Puts o = o ≡ Held j
 Fits j (Gives a) o = o ≡ Held j
 Fits j (Ends a) o = o ≡ Covered a
 
--- What is told to be free is so: place by place.
-is_free-true : (o : Place) → is_free o ≡ true → o ≡ IsFree
-is_free-true s h = grind arith
-
 -- A grain's place that is held by an actor is in that actor's hands.
 pub is_held_by-true : (k : ℕ) (o : Place) → is_held_by k o ≡ true → o ≡ Held k
 is_held_by-true k s h = grind (arith, eqb-true)
-
-is_covered_by-true : (b : ℕ) (o : Place) → is_covered_by b o ≡ true → o ≡ Covered b
-is_covered_by-true b s h = grind (arith, eqb-true)
 
 -- What an actor holds after its own step is what the place says: by each move from each place.
 own_next : (m : Move) (o : Place) (j k : ℕ) (had : Bool) → had ≡ is_held_by k o → (j == k) ≡ true → held_after m had ≡ is_held_by k (place_after j m o)
@@ -91,20 +79,9 @@ covered_next : (j : ℕ) (m : Move) (b : ℕ) (o : Place) → Fits j m o → cov
 covered_next j s b o h = grind (arith, if_true, if_false)
 
 -- ---- the free words
-take_cases : (x y : Bool) → (x && not y) ≡ free_moved (if y && x then Gets else Stays) x
-take_cases x y = grind arith
-
--- A grain is free after a put where it was, or where it is put.
-put_cases : (x y : Bool) → (x || y) ≡ free_moved (if y then Puts else Stays) x
-put_cases x y = grind arith
-
-take_free : (t : Bool) (old a mask b : ℕ) → (t ≡ true → a ≡ old) → mask < 2 ^ 64 → b < 64
-    → has_bit (if t then bit_and old (bit_not w64 mask) else old) b ≡ free_moved (if (t && has_bit mask b) && has_bit a b then Gets else Stays) (has_bit old b)
-take_free t old a mask b same hm hb = grind (arith, bit_cleared, take_cases)
-
 put_free : (t : Bool) (old mask b : ℕ)
     → has_bit (if t then bit_or old mask else old) b ≡ free_moved (if t && has_bit mask b then Puts else Stays) (has_bit old b)
-put_free t old mask b = grind (arith, bit_of_or, put_cases)
+put_free t old mask b = grind (arith, bit_of_or)
 
 rests_free : (t was : Bool) (m : Move) → free_moved m was ≡ was → was ≡ free_moved (if t then m else Stays) was
 rests_free t was m h = cond_both t m Stays (λ x. was ≡ free_moved x was) (λ here. sym h) (λ other. refl)
@@ -113,7 +90,7 @@ rests_free t was m h = cond_both t m Stays (λ x. was ≡ free_moved x was) (λ 
 pub free_step : (f : Profile) (l : Whole) (e : ℕ) (s : Step) (a g : ℕ) → IsStepOf f s → a ≡ word_after l (target s)
     → has_bit (if same_word (target s) (free_word_at g) then new_value e s (word_after l (free_word_at g)) else word_after l (free_word_at g)) (g % 64)
     ≡ free_moved (grain_move s a g) (has_bit (word_after l (free_word_at g)) (g % 64))
-free_step f l e s a g of is = search (arith, take_free, free_same, put_free, rests_free)
+free_step f l e s a g of is = search (arith, bit_cleared, and_parts, eqb-true, put_free, rests_free)
 
 -- ---- the life words
 pub covers_live : (turn n b g : ℕ) → turn < 2 ^ 40 → n < 2 ^ 23 → covers (live_word turn n) b g ≡ in_run b n g
@@ -122,17 +99,13 @@ covers_live turn n b g ht hn = search (arith, le-leb)
 covers_ended : (turn b g : ℕ) → turn < 2 ^ 40 → covers turn b g ≡ false
 covers_ended turn b g ht = ap (λ t. t && (nat_le b g && nat_lt g (b + turn / 2 ^ 40 % 2 ^ 23))) (lt-leb (2 ^ 63) turn (omega arith))
 
--- a word that doesn't cover its own first grain covers none
-none_covers : (t : Bool) (c g n : ℕ) → (t && (nat_le c c && nat_lt c (c + n))) ≡ false → (t && (nat_le c g && nat_lt g (c + n))) ≡ false
-none_covers t c g n h = grind (arith, nat_tests)
-
 -- a block of some whole grains has one
 pub some_grain : (room : ℕ) → room % 16 ≡ 0 → 0 < room → 0 < room / 16
 some_grain room whole some = omega arith
 
 not_covering : (f : Profile) (l : Whole) (k : ℕ) (block : Block) (g : ℕ) → IsPlacedOnce l (grain_of block.name) → Allowed f (part k l) (Give block)
     → covers (word_after l (life_word_at (grain_of block.name))) (grain_of block.name) g ≡ false
-not_covering f l k block g at allowed = search (arith, is_held_by-true, first_of_run, some_grain, none_covers)
+not_covering f l k block g at allowed = search (arith, is_held_by-true, first_of_run, some_grain, nat_tests)
 
 rests_covered : (t was : Bool) (m : Move) (b : ℕ) → covered_moved m b was ≡ was → was ≡ covered_moved (if t then m else Stays) b was
 rests_covered t was m b h = cond_both t m Stays (λ x. was ≡ covered_moved x b was) (λ here. sym h) (λ other. refl)
@@ -142,11 +115,6 @@ give_covers : (x y : Bool) (c b g turn n old : ℕ) → y ≡ (c == b) → (c ==
     → covers (if y then live_word turn n else old) b g ≡ covered_moved (if r then Gives c else Stays) b (covers old b g)
 give_covers x y c b g turn n old ye e ht hn dead r run = grind (arith, covers_live, eqb-true)
 
-end_covers : (x : Bool) (c b g turn n old a : ℕ) → (c == b) ≡ x → turn < 2 ^ 40 - 1 → n < 2 ^ 23 → (x ≡ true → a ≡ old) → (z : Bool)
-    → (a == live_word turn n) ≡ z → (r : Bool) → in_run c n g ≡ r
-    → covers (if x then (if old == live_word turn n then turn + 1 else old) else old) b g ≡ covered_moved (if z && r then Ends c else Stays) b (covers old b g)
-end_covers x c b g turn n old a e ht hn same z is r run = grind (arith, covers_ended, eqb-true, covers_live)
-
 covered_step : (f : Profile) (l : Whole) (k e : ℕ) (s : Step) (a g b : ℕ) → IsValid f → ((g : ℕ) → IsPlacedOnce l g) → IsStepOf f s → Allowed f (part k l) s
     → a ≡ word_after l (target s)
     → covers (if same_word (target s) (life_word_at b) then new_value e s (word_after l (life_word_at b)) else word_after l (life_word_at b)) b g
@@ -154,7 +122,7 @@ covered_step : (f : Profile) (l : Whole) (k e : ℕ) (s : Step) (a g b : ℕ) �
 covered_step f l k e (Give block) a g b valid placed of allowed is = give_covers _ _ _ b g block.name.turn _ _ (life_same _ b) refl
     of.turn (give_short f _ block.room valid of.last)
     (λ e. ap (λ x. covers (word_after l (life_word_at x)) x g) (sym (eqb-true _ b e)) ∙ not_covering f l k block g (placed (grain_of block.name)) allowed) _ refl
-covered_step f l k e s a g b valid placed of allowed is = search (arith, looked, rests_covered, life_same, end_covers, guess_fits, eqb-true)
+covered_step f l k e s a g b valid placed of allowed is = search (arith, looked, rests_covered, life_same, covers_ended, eqb-true, covers_live, guess_fits)
 
 -- ---- a legal step's move fits
 fits_if : (j : ℕ) (m : Move) (o : Place) (t : Bool) → (t ≡ true → Fits j m o) → Fits j (if t then m else Stays) o
@@ -163,8 +131,8 @@ fits_if j m o t h = cond_both t m Stays (λ x. Fits j x o) h (λ other. tt)
 -- A legal step takes each grain from where it is.
 pub step_fits : (f : Profile) (l : Whole) (k : ℕ) (s : Step) (a g : ℕ) (at : IsPlacedOnce l g) → IsValid f → IsStepOf f s → Allowed f (part k l) s
     → a ≡ word_after l (target s) → Fits k (grain_move s a g) at.place
-step_fits f l k (Take page word mask) a g at valid of allowed is = search (arith, fits_if, and_parts, is_free-true, free_same)
-step_fits f l k s a g at valid of allowed is = search (arith, fits_if, and_parts, is_held_by-true, is_covered_by-true, eqb-true, covers_live, guess_fits)
+step_fits f l k (Take page word mask) a g at valid of allowed is = search (arith, fits_if, and_parts, eqb-true)
+step_fits f l k s a g at valid of allowed is = search (arith, fits_if, and_parts, is_held_by-true, eqb-true, covers_live, guess_fits)
 
 -- ---- the induction
 -- after every legal list each grain is in exactly one place

@@ -45,20 +45,9 @@ give_rests : (x r : Bool) (c g n old new : ℕ) → (c == g) ≡ x → 0 < n →
     → (if x then new else old) ≡ old
 give_rests x r c g n old new xe some re still = grind (arith, false≢true, eqb-true, first_of_run)
 
-end_rests : (x z r : Bool) (c g n old t a : ℕ) → (c == g) ≡ x → (x ≡ true → a ≡ old) → 0 < n → (a == live_word t n) ≡ z → in_run c n g ≡ r
-    → is_still (if z && r then Ends c else Stays) ≡ true
-    → (if x then (if old == live_word t n then t + 1 else old) else old) ≡ old
-end_rests x z r c g n old t a xe is some ze re still = grind (arith, false≢true, eqb-true, first_of_run)
-
 -- the word of a step on the grain's life word
 pub word_is : (l : Whole) (a c g : ℕ) → a ≡ word_after l (life_word_at c) → (c == g) ≡ true → a ≡ word_after l (life_word_at g)
 word_is l a c g is x = is ∙ ap (λ b. word_after l (life_word_at b)) (eqb-true c g x)
-
-life_rests : (f : Profile) (l : Whole) (k e : ℕ) (s : Step) (a g : ℕ) → IsStepOf f s → Allowed f (part k l) s → a ≡ word_after l (target s)
-    → is_still (grain_move s a g) ≡ true
-    → (if same_word (target s) (life_word_at g) then new_value e s (word_after l (life_word_at g)) else word_after l (life_word_at g))
-    ≡ word_after l (life_word_at g)
-life_rests f l k e s a g of allowed is still = search (arith, as_test, life_same, give_rests, some_grain, end_rests)
 
 -- ---- what is known of a life word
 pub look_is : (l : Whole) (s : Step) (a g : ℕ) → a ≡ word_after l (target s) → looks_at_life s g ≡ true → a ≡ word_after l (life_word_at g)
@@ -84,7 +73,7 @@ TellsLife v g word = (w : ℕ) → known_life v g ≡ Some w → (holds v g ≡ 
 -- the life word of a grain that a step doesn't move
 rests_at : (f : Profile) (t : Triple) (l : Whole) (g : ℕ) → Legal f (t ∷ l) → is_still (grain_move t.made.step t.made.answer g) ≡ true
     → word_after (t ∷ l) (life_word_at g) ≡ word_after l (life_word_at g)
-rests_at f t l g legal = life_rests f l t.actor (epoch_of (part t.actor l)) t.made.step t.made.answer g legal.0.of_region legal.0.allowed legal.0.answer_is
+rests_at f t l g legal = λ still. search (arith, as_test, life_same, give_rests, some_grain, false≢true, eqb-true, first_of_run)
 
 -- What a view knows of a life word is the word, and its actor holds the grain.
 pub life_is_known : (f : Profile) (l : Whole) → IsValid f → Legal f l → (k g : ℕ) → TellsLife (part k l) g (word_after l (life_word_at g))
@@ -124,18 +113,6 @@ record IsNewAt (f : Profile) (g : ℕ) (block : Block) (ends : ℕ) : Type 0 whe
   last : g + length_of block ≤ 256 * (f.pages + 1)
   heap : block.heap < f.heaps
 
--- After a give the word is that of the block at its address, and as it was elsewhere.
-give_life : (x : Bool) (f : Profile) (g word k : ℕ) (block : Block) (live : Option Live) (gives ends : ℕ) → IsLifeOf f g word live gives ends
-    → (x ≡ true → live ≡ None) → (x ≡ true → IsNewAt f g block ends)
-    → IsLifeOf f g (if x then live_word block.name.turn (length_of block) else word) (if x then Some record { actor = k; block = block } else live)
-    (if x then gives + 1 else gives) ends
-give_life x f g word k block live gives ends was none new = grind arith
-
--- A live word that ends leaves the word of no block, with the next turn.
-ended : (f : Profile) (g word : ℕ) (live : Option Live) (gives ends t n : ℕ) → IsLifeOf f g word live gives ends → t < 2 ^ 40 - 1 → word ≡ live_word t n
-    → IsLifeOfNone (t + 1) gives (ends + 1)
-ended f g word live gives ends t n h small is = grind arith
-
 -- the machine's life of a grain
 abbrev LifeIn : Profile → ℕ → ℕ → List Event → ℕ → Type 0
 LifeIn f g word es address = IsLifeOf f g word (live_in es address) (gives_in es address) (ends_in es address)
@@ -145,19 +122,14 @@ end_life : (x z y : Bool) (f : Profile) (g k ep a word guess : ℕ) (name : Name
     → LifeIn f g word es address
     → LifeIn f g (if x then (if word == live_word name.turn guess then name.turn + 1 else word) else word)
     (with_event (if z then Some (Event.End k name ep) else (if y then None else Some (Event.Reject k name w))) es) address
-end_life x z y f g k ep a word guess name w es address xe is ze small h = grind (arith, eqb-true, ended, eq-eqb, cond_both)
-
--- a block that may be given at the grain, from its step's conditions
-new_at : (f : Profile) (l : Whole) (k : ℕ) (block : Block) (g ends : ℕ) → IsValid f → IsBlockOf f block → Allowed f (part k l) (Give block)
-    → block.name.turn ≡ ends → (grain_of block.name == g) ≡ true → IsNewAt f g block ends
-new_at f l k block g ends valid of allowed turn x = search (arith, eqb-true, some_grain, give_short)
+end_life x z y f g k ep a word guess name w es address xe is ze small h = grind (arith, eqb-true, eq-eqb, cond_both)
 
 life_step : (f : Profile) (l : Whole) (k e : ℕ) (s : Step) (a g : ℕ) → IsValid f → IsStepOf f s → Allowed f (part k l) s → a ≡ word_after l (target s)
     → (holds (part k l) g ≡ true → live_in (visible l) (16 * g) ≡ None) → TellsLife (part k l) g (word_after l (life_word_at g))
     → LifeIn f g (word_after l (life_word_at g)) (visible l) (16 * g)
     → LifeIn f g (if same_word (target s) (life_word_at g) then new_value e s (word_after l (life_word_at g)) else word_after l (life_word_at g))
     (with_event (event_of k e s a) (visible l)) (16 * g)
-life_step f l k e s a g valid of allowed is dead tells h = search (arith, event_if, address_same, eqb-true, first_of_run, some_grain, turn_is, as_test, life_same, give_life, new_at, end_life)
+life_step f l k e s a g valid of allowed is dead tells h = search (arith, event_if, address_same, eqb-true, first_of_run, some_grain, turn_is, as_test, life_same, give_short, end_life)
 
 -- a grain of a live block is covered
 live_covers : (f : Profile) (g word : ℕ) (b : Live) (gives ends x : ℕ) → IsLifeOfLive f g word b gives ends → in_run g (length_of b.block) x ≡ true
@@ -191,17 +163,9 @@ BareIn es address = IsBare address (live_in es address) (gives_in es address) (e
 other_address : (b address : ℕ) → b % 16 ≡ 0 → address % 16 ≢ 0 → (x : Bool) → (b == address) ≡ x → x ≡ false
 other_address b address h e x k = grind (arith, nat_tests)
 
-bare_give : (x : Bool) (k : ℕ) (block : Block) (address : ℕ) (live : Option Live) (gives ends : ℕ) → x ≡ false → IsBare address live gives ends
-    → IsBare address (if x then Some record { actor = k; block = block } else live) (if x then gives + 1 else gives) ends
-bare_give x k block address live gives ends e h = grind (arith, false≢true)
-
-bare_ended : (x : Bool) (address : ℕ) (live : Option Live) (gives ends : ℕ) → x ≡ false → IsBare address live gives ends
-    → IsBare address (if x then None else live) gives (if x then ends + 1 else ends)
-bare_ended x address live gives ends e h = grind (arith, false≢true)
-
 bare_step : (f : Profile) (v : View) (k e : ℕ) (s : Step) (a : ℕ) (es : List Event) (address : ℕ) → IsStepOf f s → Allowed f v s → address % 16 ≢ 0
     → BareIn es address → BareIn (with_event (event_of k e s a) es) address
-bare_step f v k e s a es address of allowed un h = search (arith, event_if, bare_give, other_address, end_event_cases, bare_ended)
+bare_step f v k e s a es address of allowed un h = search (arith, event_if, false≢true, other_address, end_event_cases)
 
 -- No block ever began at an address that isn't a multiple of 16.
 pub bare_of : (f : Profile) (l : Whole) → Legal f l → (address : ℕ) → address % 16 ≢ 0
@@ -233,19 +197,9 @@ life_at f l valid legal address aligned =
 -- ==== What callers need of the blocks that were given: names keep their blocks, and there are no more gives than events.
 
 -- ---- a block that was given stays so
-given_live : (x : Bool) (live : Option Live) (new : Live) (block : Block) → (x ≡ true → new.block.name.turn ≡ block.name.turn → ⊥)
-    → ((b : Live) → live ≡ Some b → b.block.name.turn ≡ block.name.turn → b.block ≡ block)
-    → (b : Live) → (if x then Some new else live) ≡ Some b → b.block.name.turn ≡ block.name.turn → b.block ≡ block
-given_live x live new block other old b is turn = grind (arith, same_Some)
-
--- After an end the block of this name lives no more: whether it is at this address or not.
-ended_live : (x : Bool) (live : Option Live) (block : Block) → ((b : Live) → live ≡ Some b → b.block.name.turn ≡ block.name.turn → b.block ≡ block) → (b : Live)
-    → (if x then None else live) ≡ Some b → b.block.name.turn ≡ block.name.turn → b.block ≡ block
-ended_live x live block old b is turn = grind arith
-
 -- A block that was given stays so by one event more.
 pub one_more : (f : Profile) (e : Event) (es : List Event) (block : Block) → Admits f es e → WasGiven es block → WasGiven (e ∷ es) block
-one_more f s es block admits given = grind (arith, cond_both, given_live, eqb-true, ended_live)
+one_more f s es block admits given = grind (arith, cond_both, same_Some, eqb-true)
 
 -- a block that was given stays so, whatever comes after it
 pub given_kept : (f : Profile) (more es : List Event) (block : Block) → Run f (more ++ es) → WasGiven es block → WasGiven (more ++ es) block
@@ -272,17 +226,9 @@ gives_few [] address = omega arith
 gives_few (Event.Give k block ∷ es) address = search (arith, cond_both, gives_few es address)
 gives_few (e ∷ es) address = gives_few es address
 
--- each give is an event
-counted_few : (e : Event) (n m : ℕ) → n ≤ m → gives_counted e n ≤ m + 1
-counted_few s n m h = grind arith
-
 counts_few : (es : List Event) → count_gives es ≤ length es
 counts_few [] = omega arith
-counts_few (e ∷ es) = let rest = counted_few e (count_gives es) (length es) (counts_few es) in omega (arith, rest)
-
--- a step adds as many gives as its event is
-count_step : (k e : ℕ) (s : Step) (a : ℕ) (es : List Event) → count_gives (with_event (event_of k e s a) es) ≡ given_after s (count_gives es)
-count_step k e s a es = grind (arith, event_if, end_event_cases)
+counts_few (e ∷ es) = let rest : gives_counted e (count_gives es) ≤ (length es) + 1 = grind (arith, counts_few es) in omega (arith, rest)
 
 -- no address was given more often than there are events
 pub turns_few : (es : List Event) (address : ℕ) → gives_in es address ≤ length es
@@ -291,17 +237,10 @@ turns_few es address = let some = gives_few es address in let few = counts_few e
 -- ==== Turns are small: each actor gives at most 2 ^ 32 blocks.
 
 -- ---- an actor gives at most 2 ^ 32 blocks
-few_next : (f : Profile) (v : View) (s : Step) → Allowed f v s → given_count v ≤ 2 ^ 32 → given_after s (given_count v) ≤ 2 ^ 32
-few_next f v s allowed h = grind arith
-
 given_small : (f : Profile) (l : Whole) → Legal f l → (k : ℕ) → given_count (part k l) ≤ 2 ^ 32
-given_small f = each_part f (λ l k v. given_count v ≤ 2 ^ 32) (λ k. omega arith) (λ t l legal before. few_next f (part t.actor l) t.made.step legal.0.allowed before) (λ t l k legal other before. before)
+given_small f = each_part f (λ l k v. given_count v ≤ 2 ^ 32) (λ k. omega arith) (λ t l legal before. (grind arith)) (λ t l k legal other before. before)
 
 -- ---- all gives are the sum of those of the actors
--- a step adds this many gives
-more_given : (s : Step) (n : ℕ) → given_after s n ≡ n + given_after s 0
-more_given s n = grind arith
-
 sum_grows : (n : ℕ) (v w : ℕ → ℕ) → ((k : ℕ) → v k ≤ w k) → sum_below n v ≤ sum_below n w
 sum_grows zero v w h = omega arith
 sum_grows (suc n) v w h = omega (arith, sum_grows n v w h, h n)
@@ -324,59 +263,36 @@ all_gives : (f : Profile) (l : Whole) → Legal f l → count_gives (visible l) 
 all_gives f [] legal = omega arith
 all_gives f (t ∷ l) legal =
     let actor : t.actor < f.threads + 1 = omega (arith, legal.0.actor) in
-    let is : count_gives (visible (t ∷ l)) ≡ given_after t.made.step (count_gives (visible l)) = count_step t.actor (epoch_of (part t.actor l)) t.made.step t.made.answer (visible l) in
+    let is : count_gives (visible (t ∷ l)) ≡ given_after t.made.step (count_gives (visible l)) = (grind (arith, event_if, end_event_cases)) in
     let rises : sum_below (f.threads + 1) (λ k. given_count (part k l)) + given_after t.made.step 0 ≤ sum_below (f.threads + 1) (λ k. given_count (part k (t ∷ l)))
     = sum_rises (f.threads + 1) _ _ (λ k. given_count (part k l)) (λ k. given_count (part k (t ∷ l))) (λ k. cond_both (t.actor == k) (t.made ∷ part k l)
-    (part k l) (λ v. given_count (part k l) ≤ given_count v) (λ own. omega (arith, more_given t.made.step (given_count (part k l)))) (λ other. omega arith))
+    (part k l) (λ v. given_count (part k l) ≤ given_count v) (λ own. grind arith) (λ other. omega arith))
     (subst (λ b. given_count (part t.actor l) + given_after t.made.step 0 ≤ given_count (if b then t.made ∷ part t.actor l else part t.actor l))
-    (sym (eq-eqb _ _ refl)) (omega (arith, more_given t.made.step (given_count (part t.actor l))))) actor in
-    omega (arith, all_gives f l legal.1, is, more_given t.made.step (count_gives (visible l)), rises)
+    (sym (eq-eqb _ _ refl)) (grind arith)) actor in
+    grind (arith, all_gives f l legal.1, is, rises)
 
 -- ---- turns
--- no address was given more often than all actors give
-gives_small : (f : Profile) (l : Whole) → IsValid f → Legal f l → (address : ℕ) → gives_in (visible l) address < 2 ^ 37
-gives_small f l valid legal address = search (arith, sum_small, given_small, all_gives, gives_few)
-
--- No block ended that wasn't given, whether one lives or none.
-ends_below : (f : Profile) (g word : ℕ) (live : Option Live) (gives ends : ℕ) → IsLifeOf f g word live gives ends → ends ≤ gives
-ends_below f g word live gives ends h = grind arith
-
 -- the turn of each life word is small
 pub turn_small : (f : Profile) (l : Whole) → IsValid f → Legal f l → (g : ℕ) → turn_of (word_after l (life_word_at g)) < 2 ^ 37
 turn_small f l valid legal g =
     let life : IsLifeOf f g (word_after l (life_word_at g)) (live_in (visible l) (16 * g)) (gives_in (visible l) (16 * g)) (ends_in (visible l) (16 * g)) = life_of f l valid legal g in
-    let ends : ends_in (visible l) (16 * g) ≤ gives_in (visible l) (16 * g) = ends_below f g _ _ _ _ life in
-    omega (arith, turn_is f g (word_after l (life_word_at g)) (live_in (visible l) (16 * g)) (gives_in (visible l) (16 * g)) (ends_in (visible l) (16 * g)) life, ends, gives_small f l valid legal (16 * g))
+    let ends : ends_in (visible l) (16 * g) ≤ gives_in (visible l) (16 * g) = (grind arith) in
+    grind (arith, turn_is f g (word_after l (life_word_at g)) (live_in (visible l) (16 * g)) (gives_in (visible l) (16 * g)) (ends_in (visible l) (16 * g)) life, ends, sum_small, given_small, all_gives, gives_few)
 
 -- ==== Epochs, stamps, and the ends that stamps tell of.
 
 -- ==== The epoch only grows, every word fits 64 bits, and epochs and stamps are below 2 ^ 40.
 
 -- ---- the epoch
--- no step lowers the epoch
-epoch_next : (e : ℕ) (s : Step) (old : ℕ) → old ≤ next_value e s Word.Epoch old
-epoch_next e s old = grind (arith, looked)
-
-epoch_grows : (l : Whole) (t : Triple) → word_after l Word.Epoch ≤ word_after (t ∷ l) Word.Epoch
-epoch_grows l t = epoch_next (epoch_of (part t.actor l)) t.made.step (word_after l Word.Epoch)
-
--- an actor learns no epoch but that of the word, and its tick the one that it makes
-epoch_learns : (l : Whole) (e : ℕ) (s : Step) (a : ℕ) (known : Option ℕ) → a ≡ word_after l (target s) → or_zero known ≤ word_after l Word.Epoch
-    → or_zero (epoch_after s a known) ≤ next_value e s Word.Epoch (word_after l Word.Epoch)
-epoch_learns l e s a known is h = grind arith
-
 -- the epoch that a view knows is at most the epoch
 pub epoch_known : (f : Profile) (l : Whole) → Legal f l → (k : ℕ) → epoch_of (part k l) ≤ word_after l Word.Epoch
 epoch_known f = each_part f (λ l k v. epoch_of v ≤ word_after l Word.Epoch) (λ k. omega arith)
-    (λ t l legal before. epoch_learns l (epoch_of (part t.actor l)) t.made.step _ (known_epoch (part t.actor l)) legal.0.answer_is before)
-    (λ t l k legal other before. omega (arith, before, epoch_grows l t))
+    (λ t l legal before. (grind arith))
+    (λ t l k legal other before. grind (arith, before, looked))
 
 -- ---- every word is below 2 ^ 64
 deed_small : (f : Profile) (d : Directory) → IsValid f → IsDirectoryOf f d → deed_word_of d < 2 ^ 64
 deed_small f d valid of = omega (arith, kind_number_lt d.kind of.kind, of.heap, valid.heaps)
-
-live_small : (turn n : ℕ) → turn < 2 ^ 40 → n < 2 ^ 23 → live_word turn n < 2 ^ 64
-live_small turn n ht hn = omega arith
 
 value_small : (f : Profile) (e : ℕ) (s : Step) (old : ℕ) → IsValid f → IsStepOf f s → e < 2 ^ 64 → old < 2 ^ 64 → new_value e s old < 2 ^ 64
 value_small f e (Back q) old valid of he h = or_lt 64 old 1 h (omega arith)
@@ -385,7 +301,7 @@ value_small f e (TakeRight q directory) old valid of he h = omega (arith, and_le
 value_small f e (Unpark q) old valid of he h = omega (arith, and_le_l old (bit_not w64 (page_mask q)))
 value_small f e (Tick raised) old valid of he h = omega (arith, of, h)
 value_small f e (Unhint q) old valid of he h = omega (arith, and_le_l old (bit_not w64 (page_mask q)))
-value_small f e s old valid of he h = search (arith, cond_both, deed_small, or_lt, live_small, give_short, page_mask_lt)
+value_small f e s old valid of he h = search (arith, cond_both, deed_small, or_lt, give_short, page_mask_lt)
 
 -- Each word fits 64 bits at the opening: word by word.
 opening_small : (word : Word) → opening word < 2 ^ 64
@@ -398,21 +314,15 @@ words_fit f (t ∷ l) valid legal word =
     search (arith, epoch_known, cond_both, value_small, words_fit f l valid legal.1 Word.Epoch, words_fit f l valid legal.1 word)
 
 -- ---- the epoch and the stamps are below 2 ^ 40
-epoch_below : (f : Profile) (e : ℕ) (s : Step) (old : ℕ) → IsStepOf f s → old < 2 ^ 40 → next_value e s Word.Epoch old < 2 ^ 40
-epoch_below f e s old of h = grind (arith, looked)
-
 -- the epoch is below 2 ^ 40
 pub epoch_small : (f : Profile) (l : Whole) → Legal f l → word_after l Word.Epoch < 2 ^ 40
 epoch_small f [] legal = omega arith
-epoch_small f (t ∷ l) legal = search (arith, epoch_below, epoch_small f l legal.1)
-
-stamp_below : (e : ℕ) (s : Step) (p old : ℕ) → e < 2 ^ 40 → old < 2 ^ 40 → next_value e s (Word.Stamp p) old < 2 ^ 40
-stamp_below e s p old he h = grind (arith, looked, cond_both)
+epoch_small f (t ∷ l) legal = search (arith, looked, epoch_small f l legal.1)
 
 -- a stamp is an epoch that an actor read, so it is below 2 ^ 40 too
 pub stamp_small : (f : Profile) (l : Whole) → Legal f l → (p : ℕ) → word_after l (Word.Stamp p) < 2 ^ 40
 stamp_small f [] legal p = omega arith
-stamp_small f (t ∷ l) legal p = search (arith, epoch_known, stamp_below, epoch_small, stamp_small f l legal.1 p)
+stamp_small f (t ∷ l) legal p = search (arith, epoch_known, looked, cond_both, epoch_small, stamp_small f l legal.1 p)
 
 -- ==== The block that an end finds.
 
@@ -425,17 +335,10 @@ pub record IsFound (f : Profile) (l : Whole) (name : Name) (guess : ℕ) : Type 
   pub first : 256 ≤ grain_of name
   pub last : grain_of name + guess ≤ 256 * (f.pages + 1)
 
--- The word that an end finds is that of the live block of this name.
-found : (f : Profile) (l : Whole) (name : Name) (word guess gives ends : ℕ) (live : Option Live) → live_in (visible l) (address_of name) ≡ live
-    → IsLifeOf f (grain_of name) word live gives ends
-    → name.turn < 2 ^ 40 → guess < 2 ^ 23 → word ≡ live_word name.turn guess → IsFound f l name guess
-found f l name word guess gives ends live is life turn short h = grind arith
-
 -- An end that is answered by the live word of its turn and length finds that block.
 pub end_finds : (f : Profile) (l : Whole) → IsValid f → Legal f l → (name : Name) (guess a : ℕ) → IsStepOf f (End name guess)
     → a ≡ word_after l (life_word_at (grain_of name)) → a ≡ live_word name.turn guess → IsFound f l name guess
-end_finds f l valid legal name guess a of is hit = found f l name _ guess _ _ _ refl (life_at f l valid legal _ of.1)
-    (omega (arith, of.2)) (guess_fits guess f.pages valid.pages of.4) (sym is ∙ hit)
+end_finds f l valid legal name guess a of is hit = grind (arith, life_at f l valid legal _ of.1)
 
 -- ==== The stamps: what is known of them is true, and the epoch of each end on a page is at most the page's stamp, or the page is unstamped for the
 -- actor that made the end.
@@ -444,9 +347,6 @@ end_finds f l valid legal name guess a of is hit = found f l name _ guess _ _ _ 
 abbrev pub stamps : Step → ℕ → Bool
 stamps (Stamp q) p = q == p
 stamps s p = false
-
-stamp_rests : (e : ℕ) (s : Step) (p old : ℕ) → stamps s p ≡ false → next_value e s (Word.Stamp p) old ≡ old
-stamp_rests e s p old other = grind (arith, looked)
 
 -- whoever stamps a page holds a grain of it
 stamps_held : (f : Profile) (v : View) (s : Step) (p : ℕ) → Allowed f v s → stamps s p ≡ true → HoldsOn v p
@@ -466,43 +366,20 @@ all_held v p g all e =
     let is : p * 256 + g % 256 ≡ g = omega (arith, e) in
     subst (λ x. holds v x ≡ true) is (all_below-at 256 _ (λ b. holds v (p * 256 + b)) all (omega arith))
 
--- A stamp that was read is the word, whether it was read now or before.
-look_stamp : (x : Bool) (a word : ℕ) (known : Option ℕ) (s : ℕ) → (x ≡ true → a ≡ word) → ((s : ℕ) → known ≡ Some s → word ≡ s)
-    → (if x then Some a else known) ≡ Some s → word ≡ s
-look_stamp x a word known s h e k = grind arith
-
 -- A stamp that is known after one was raised is of another page, so its word stands.
 own_stamp : (x : Bool) (e word : ℕ) (known : Option ℕ) (s : ℕ) → ((s : ℕ) → known ≡ Some s → word ≡ s) → (if x then None else known) ≡ Some s
     → (if x then max word e else word) ≡ s
 own_stamp x e word known s h k = grind arith
 
--- an actor's own step tells it the stamp
-stamp_learns : (l : Whole) (e : ℕ) (t : Step) (a p : ℕ) (known : Option ℕ) (s : ℕ) → a ≡ word_after l (target t)
-    → ((s : ℕ) → known ≡ Some s → word_after l (Word.Stamp p) ≡ s) → stamp_after t a p known ≡ Some s
-    → next_value e t (Word.Stamp p) (word_after l (Word.Stamp p)) ≡ s
-stamp_learns l e step a p known s is old h = grind (arith, looked, look_stamp, eqb-true, own_stamp)
-
--- nobody else stamps a page each of whose grains this actor holds
-other_stamps : (f : Profile) (l : Whole) → IsValid f → Legal f l → (t : Triple) (k p : ℕ) → IsNext f l t → (t.actor == k) ≡ false
-    → holds_all (part k l) p ≡ true → stamps t.made.step p ≡ false
-other_stamps f l valid legal t k p next other all = search (arith, false_from_ne_true, stamps_held, false≢true, one_holder, all_held)
-
 -- a stamp that a view knows is the page's
 pub stamp_known : (f : Profile) (l : Whole) → IsValid f → Legal f l → (k p s : ℕ) → known_stamp (part k l) p ≡ Some s → word_after l (Word.Stamp p) ≡ s
 stamp_known f l valid legal k p = each_part f (λ l k v. (s : ℕ) → known_stamp v p ≡ Some s → word_after l (Word.Stamp p) ≡ s) (λ k s told. cc)
-    (λ t l legal before s h. stamp_learns l _ _ _ p _ s legal.0.answer_is before (all_if _ _ s h).1)
-    (λ t l k legal other before s h. stamp_rests _ _ p _ (other_stamps f l valid legal.1 t k p legal.0 other (known_all _ p s h)) ∙ before s h) l legal k
+    (λ t l legal before s h. (grind (arith, looked, eqb-true, own_stamp)))
+    (λ t l k legal other before s h. (grind (arith, looked, false_from_ne_true, stamps_held, false≢true, one_holder, all_held, known_all _ p s h)) ∙ before s h) l legal k
 
 -- ---- an actor holds a grain of each page that is unstamped for it
 pub moved_held : (t held : Bool) (m : Move) → (t ≡ true → held_after m held ≡ true) → held ≡ true → held_after (if t then m else Stays) held ≡ true
 moved_held t held m new h = cond_both t m Stays (λ x. held_after x held ≡ true) new (λ other. h)
-
-put_misses : (v : View) (q w mask p g : ℕ) → MayPutNow v q w mask → is_unstamped v p ≡ true → g / 256 ≡ p → in_mask q w mask g ≡ false
-put_misses v q w mask p g may unstamped e = search (arith, false_from_ne_true, and_parts, eqb-true, false≢true)
-
-give_misses : (f : Profile) (v : View) (block : Block) (p g : ℕ) → MayGiveNow f v block → is_unstamped v p ≡ true → g / 256 ≡ p
-    → in_run (grain_of block.name) (length_of block) g ≡ false
-give_misses f v block p g may unstamped e = search (arith, false_from_ne_true, false≢true)
 
 -- after an end: a page of the block has a grain of it, and another page is as it was
 end_keeps : (v : View) (name : Name) (guess a p : ℕ) → 1 ≤ guess → (is_unstamped v p ≡ true → HoldsOn v p) → (z : Bool) → (a == live_word name.turn guess) ≡ z
@@ -516,7 +393,7 @@ end_keeps v name guess a p some before z ze y ye h = search (arith, moved_held)
 keeps_held : (f : Profile) (v : View) (s : Step) (a p : ℕ) → IsStepOf f s → Allowed f v s → (is_unstamped v p ≡ true → HoldsOn v p)
     → unstamped_after s a p (is_unstamped v p) ≡ true → HoldsOn (made s a ∷ v) p
 keeps_held f v (Stamp q) a p of allowed before h = let was = before (was_set (q == p) (is_unstamped v p) h) in (was.0, was.1, was.2)
-keeps_held f v s a p of allowed before h = search (arith, moved_held, false≢true, put_misses, give_misses, end_keeps)
+keeps_held f v s a p of allowed before h = search (arith, moved_held, false≢true, false_from_ne_true, and_parts, eqb-true, end_keeps)
 
 -- an actor holds a grain of each page that is unstamped for it
 pub unstamped_is_held : (f : Profile) (l : Whole) → Legal f l → (k p : ℕ) → is_unstamped (part k l) p ≡ true → HoldsOn (part k l) p
@@ -524,12 +401,9 @@ unstamped_is_held f l legal k p = each_part f (λ l k v. is_unstamped v p ≡ tr
     (λ t l legal before. keeps_held f (part t.actor l) _ _ p legal.0.of_region legal.0.allowed before) (λ t l k legal other before. before) l legal k
 
 -- ---- the epoch of each end on a page
-so_map : (P Q : ℕ → ℕ → Type 0) (e : Event) (es : List Event) (p : ℕ) → ((k e : ℕ) → P k e → Q k e) → IsSoAtEnd P e es p → IsSoAtEnd Q e es p
-so_map P Q e es p f h = grind arith
-
 ends_map : (P Q : ℕ → ℕ → Type 0) (es : List Event) (p : ℕ) → ((k e : ℕ) → P k e → Q k e) → EachEnd P es p → EachEnd Q es p
 ends_map P Q [] p f h = tt
-ends_map P Q (e ∷ es) p f h = (so_map P Q e es p f h.0, ends_map P Q es p f h.1)
+ends_map P Q (e ∷ es) p f h = ((grind arith), ends_map P Q es p f h.1)
 
 -- a block that ends touches a page just where its run meets it
 end_touches : (f : Profile) (l : Whole) → IsValid f → Legal f l → (name : Name) (guess a p : ℕ) → IsStepOf f (End name guess)
@@ -552,31 +426,11 @@ ends_step f l valid legal P k e s a p of is new h = grind (arith, event_if, end_
 stamp_next : (e : ℕ) (s : Step) (p old : ℕ) → old ≤ next_value e s (Word.Stamp p) old
 stamp_next e s p old = grind (arith, looked, cond_both)
 
--- an actor forgets no epoch
-epoch_rises : (l : Whole) (s : Step) (a : ℕ) (known : Option ℕ) → a ≡ word_after l (target s) → or_zero known ≤ word_after l Word.Epoch
-    → or_zero known ≤ or_zero (epoch_after s a known)
-epoch_rises l s a known is h = grind arith
-
--- what an own step leaves: the page is unstamped still, or is stamped now
-stamped_now : (x was : Bool) (e n old : ℕ) → was ≡ true → n ≤ e → ((if x then false else was) ≡ true) ⊎ (n ≤ (if x then max old e else old))
-stamped_now x was e n old h k = grind arith
-
-own_late : (e : ℕ) (s : Step) (a p : ℕ) (was : Bool) (n old : ℕ) → was ≡ true → n ≤ e
-    → (unstamped_after s a p was ≡ true) ⊎ (n ≤ next_value e s (Word.Stamp p) old)
-own_late e s a p was n old h le = grind (arith, stays_set, stamped_now)
-
 late_next : (f : Profile) (t : Triple) (l : Whole) → Legal f (t ∷ l) → (p k n : ℕ) → IsStampedOr l p k n → IsStampedOr (t ∷ l) p k n
-late_next f t l legal p k n before = search (arith, stamp_next, epoch_known, cond_both, epoch_rises, eqb-true, own_late)
-
--- an end that is made now
-new_unstamped : (s : Step) (a p : ℕ) (was : Bool) → ends_on s a p ≡ true → unstamped_after s a p was ≡ true
-new_unstamped s a p was h = grind (arith, false≢true)
-
-new_epoch : (s : Step) (a p : ℕ) (known : Option ℕ) → ends_on s a p ≡ true → or_zero known ≤ or_zero (epoch_after s a known)
-new_epoch s a p known h = grind (arith, false≢true)
+late_next f t l legal p k n before = search (arith, stamp_next, epoch_known, cond_both, eqb-true, stays_set)
 
 now_late : (t : Triple) (l : Whole) (p : ℕ) → ends_on t.made.step t.made.answer p ≡ true → IsStampedOr (t ∷ l) p t.actor (epoch_of (part t.actor l))
-now_late t l p h = search (arith, eq-eqb, new_unstamped, new_epoch)
+now_late t l p h = search (arith, eq-eqb, false≢true)
 
 -- the epoch of each end on a page is at most the page's stamp, or the page is unstamped for its actor, which knows an epoch as great
 pub ends_stamped : (f : Profile) (l : Whole) → IsValid f → Legal f l → (p : ℕ) → EachEnd (IsStampedOr l p) (visible l) p
@@ -607,12 +461,6 @@ ends_before f l valid legal k p held stamped = ends_bound _ p _ (ends_map _ (λ 
 -- on it, once no page is unstamped.
 
 -- ---- the machine's epoch of a page only grows
-more_epoch : (e : Event) (es : List Event) (p : ℕ) → epoch_in es p ≤ epoch_in (e ∷ es) p
-more_epoch s es p = grind (arith, cond_both)
-
-with_more : (o : Option Event) (es : List Event) (p : ℕ) → epoch_in es p ≤ epoch_in (with_event o es) p
-with_more o es p = grind (arith, more_epoch)
-
 -- a block that an end ended touches each page that its run meets
 touched_by_end : (f : Profile) (l : Whole) → IsValid f → Legal f l → (name : Name) (guess a p : ℕ) → IsStepOf f (End name guess)
     → a ≡ word_after l (life_word_at (grain_of name)) → (a == live_word name.turn guess) ≡ true → meets_page (grain_of name) guess p ≡ true
@@ -622,31 +470,12 @@ touched_by_end f l valid legal name guess a p of is hit meets =
     let first : address_of at.block.block.name / 16 ≡ grain_of name = omega (arith, at.address_is) in
     ap (λ o. touches o p) at.lives ∙ ap (λ n. meets_page (address_of at.block.block.name / 16) n p) at.grains_are ∙ ap (λ g. meets_page g guess p) first ∙ meets
 
-end_reached : (z y : Bool) (k e : ℕ) (name : Name) (reject : Event) (es : List Event) (p : ℕ) → z ≡ true → touches (live_in es (address_of name)) p ≡ true
-    → e ≤ epoch_in (with_event (if z then Some (Event.End k name e) else (if y then None else Some reject)) es) p
-end_reached z y k e name reject es p h on = grind (arith, cond_both, false≢true)
-
-end_reaches : (f : Profile) (l : Whole) → IsValid f → Legal f l → (k e : ℕ) (s : Step) (a p : ℕ) → IsStepOf f s → a ≡ word_after l (target s)
-    → ends_on s a p ≡ true → e ≤ epoch_in (with_event (event_of k e s a) (visible l)) p
-end_reaches f l valid legal k e s a p of is h = grind (arith, and_parts, end_reached, touched_by_end, false≢true)
-
 -- ---- steps
-keeps_unstamped : (v : View) (s : Step) (p : ℕ) → KeepsToEnds v s → stamps s p ≡ true → is_unstamped v p ≡ true
-keeps_unstamped v s p keeps h = grind (arith, eqb-true, false≢true)
-
 stamp_value : (e : ℕ) (s : Step) (p old : ℕ) → next_value e s (Word.Stamp p) old ≤ max old e
 stamp_value e s p old = grind (arith, looked, cond_both)
 
--- while a page is unstamped no epoch is learned
-same_epoch : (v : View) (s : Step) (a p : ℕ) → KeepsToEnds v s → unstamped_after s a p (is_unstamped v p) ≡ true → epoch_of (made s a ∷ v) ≡ epoch_of v
-same_epoch v s a p keeps h = grind (arith, false≢true)
-
--- What is so once a flag was set was so, or is the one that was set.
-ended_or : (x was : Bool) → (if x then true else was) ≡ true → (was ≡ true) ⊎ (x ≡ true)
-ended_or x was h = grind arith
-
 was_or_ends : (s : Step) (a p : ℕ) (was : Bool) → unstamped_after s a p was ≡ true → (was ≡ true) ⊎ (ends_on s a p ≡ true)
-was_or_ends s a p was h = grind (arith, ended_or, was_set)
+was_or_ends s a p was h = grind (arith, was_set)
 
 -- ---- the induction
 -- the stamp is the epoch of some end, and so is what an actor knows while the page is unstamped for it
@@ -663,11 +492,11 @@ exact f (t ∷ l) valid legal keeps p =
     let s = t.made.step in
     let a = t.made.answer in
     let e : ℕ = epoch_of (part t.actor l) in
-    let more : epoch_in (visible l) p ≤ epoch_in (visible (t ∷ l)) p = with_more (event_of t.actor (epoch_of (part t.actor l)) t.made.step t.made.answer) (visible l) p in
+    let more : epoch_in (visible l) p ≤ epoch_in (visible (t ∷ l)) p = (grind (arith, cond_both)) in
     let own : is_unstamped (t.made ∷ part t.actor l) p ≡ true → epoch_of (t.made ∷ part t.actor l) ≤ epoch_in (visible (t ∷ l)) p =
-    search (arith, same_epoch, was_or_ends, end_reaches) in
+    search (arith, false≢true, was_or_ends, and_parts, cond_both, touched_by_end) in
     record {
-      stamp = search (arith, cases_Bool, keeps_unstamped, stamp_value, stamp_rests);
+      stamp = search (arith, cases_Bool, eqb-true, false≢true, stamp_value, looked);
       late = λ k. cond_both (t.actor == k) (t.made ∷ part k l) (part k l) (λ v. is_unstamped v p ≡ true → epoch_of v ≤ epoch_in (visible (t ∷ l)) p)
           (λ here. subst (λ j. is_unstamped (t.made ∷ part j l) p ≡ true → epoch_of (t.made ∷ part j l) ≤ epoch_in (visible (t ∷ l)) p) (eqb-true _ k here) own)
           (λ other h. let le = before.late k h in omega (arith, le, more));

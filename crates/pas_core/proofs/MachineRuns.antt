@@ -64,7 +64,8 @@ bearing : (f : Profile) (l : Whole) → IsValid f → Legal f l → (k heap p : 
 bearing f l valid legal k heap p page knows =
     let some : known_deed (part k l) p ≢ 0 = λ z. absurd (omega (arith, sym knows.deed ∙ z)) in
     let word : known_deed (part k l) p ≡ word_after l (Word.Deed p) = known_is _ _ (deeds_known f l legal k p) some in
-    let has : HasDeed f (deed_in (visible l) p) knows.directory.heap = deed_from f _ knows.directory (directory_is_of f l legal p) knows.of_profile (sym knows.deed ∙ word ∙ deed_of f l legal p) in
+    let has : HasDeed f (deed_in (visible l) p) knows.directory.heap =
+    deed_from f _ knows.directory (directory_is_of f l legal p) knows.of_profile (sym knows.deed ∙ word ∙ deed_of f l legal p) in
     record {
       exists = page;
       directory = has.directory;
@@ -82,21 +83,11 @@ give_turn : (f : Profile) (g word : ℕ) (live : Option Live) (gives ends : ℕ)
 give_turn f g word live gives ends h none = search (arith, turn_is)
 
 -- ---- events of steps
-reason : (x : Bool) (es : List Event) (name : Name) (turn : ℕ) → turn ≡ ends_in es (address_of name) → nat_lt name.turn turn ≡ x → (IsLive es name → ⊥)
-    → IsReason es name (if x then Why.Ended else Why.NoBlock)
-reason x es name turn is e dead = grind (arith, nat_tests)
-
--- no block of the name lives where the word tells of none
-none_lives : (f : Profile) (g word a : ℕ) (name : Name) (es : List Event) → a ≡ word
-    → IsLifeOf f g word (live_in es (address_of name)) (gives_in es (address_of name)) (ends_in es (address_of name))
-    → (is_live a && (turn_of a == name.turn)) ≡ false → IsLive es name → ⊥
-none_lives f g word a name es is life none live = search (arith, turn_is, false≢true, and_from, live_is_live, eq-eqb)
-
 -- such an end is refused by its true reason
 refused : (f : Profile) (g word a : ℕ) (name : Name) (es : List Event) → a ≡ word
     → IsLifeOf f g word (live_in es (address_of name)) (gives_in es (address_of name)) (ends_in es (address_of name))
     → (is_live a && (turn_of a == name.turn)) ≡ false → IsReason es name (reason_of name a)
-refused f g word a name es is life none = search (arith, turn_is, reason, none_lives)
+refused f g word a name es is life none = search (arith, turn_is, nat_tests, false≢true, and_from, live_is_live, eq-eqb)
 
 end_admits : (f : Profile) (z y : Bool) (k ep g a word guess : ℕ) (name : Name) (es : List Event) → Run f es → IsPlace f (address_of name) → a ≡ word
     → name.turn < 2 ^ 40 - 1
@@ -105,18 +96,12 @@ end_admits : (f : Profile) (z y : Bool) (k ep g a word guess : ℕ) (name : Name
     → Run f (with_event (if z then Some (Event.End k name ep) else (if y then None else Some (Event.Reject k name (reason_of name a)))) es)
 end_admits f z y k ep g a word guess name es run of is small life ze ye = grind (arith, block_of_word, eqb-true, refused)
 
--- a block of the name lives, and its room isn't the one that was named
-other_room : (f : Profile) (g word a room : ℕ) (name : Name) (es : List Event) (live : Option Live) → live_in es (address_of name) ≡ live → a ≡ word
-    → IsLifeOf f g word live (gives_in es (address_of name)) (ends_in es (address_of name))
-    → (a == live_word name.turn (room / 16)) ≡ false → is_live a ≡ true → turn_of a ≡ name.turn → IsReason es name (Why.SizeDiffers room)
-other_room f g word a room name es live at is life ne lives turn = grind (arith, nat_tests, turn_is, eqb-false)
-
 sized_admits : (f : Profile) (z y : Bool) (k ep g a word room : ℕ) (name : Name) (es : List Event) → Run f es → IsPlace f (address_of name) → a ≡ word
     → name.turn < 2 ^ 40 - 1
     → IsLifeOf f g word (live_in es (address_of name)) (gives_in es (address_of name)) (ends_in es (address_of name))
     → (a == live_word name.turn (room / 16)) ≡ z → (is_live a && (turn_of a == name.turn)) ≡ y
     → Run f (with_event (if z then Some (Event.End k name ep) else Some (Event.Reject k name (if y then Why.SizeDiffers room else reason_of name a))) es)
-sized_admits f z y k ep g a word room name es run of is small life ze ye = search (arith, end_admits, and_parts, other_room, eqb-true, refused)
+sized_admits f z y k ep g a word room name es run of is small life ze ye = search (arith, end_admits, and_parts, nat_tests, turn_is, eqb-false, eqb-true, refused)
 
 give_admits : (f : Profile) (l : Whole) → IsValid f → Legal f l → (k : ℕ) (block : Block) → IsBlockOf f block → Allowed f (part k l) (Give block)
     → MayGive f (visible l) block
@@ -178,19 +163,10 @@ runs f (t ∷ l) valid legal = let rest = runs f l valid legal.1 in grind (arith
 
 -- ==== Where a grain is, in the machine's words.
 
--- a live block has the grain just where the grain's place says so
-part_is : (f : Profile) (l : Whole) (g : ℕ) → IsValid f → Legal f l → (at : IsPlacedOnce l g) (address : ℕ) (b : Live) → live_in (visible l) address ≡ Some b
-    → in_run (address / 16) (length_of b.block) g ≡ is_covered_by (address / 16) at.place
-part_is f l g valid legal at address b is = search (arith, live_of, covers_live)
-
 -- the block that a live word tells of
 record LivesAt (l : Whole) (a : ℕ) : Type 0 where
   block : Live
   lives : live_in (visible l) (16 * a) ≡ Some block
-
-found_block : (f : Profile) (l : Whole) (a word : ℕ) (live : Option Live) (gives ends : ℕ) → live_in (visible l) (16 * a) ≡ live
-    → IsLifeOf f a word live gives ends → is_live word ≡ true → LivesAt l a
-found_block f l a word live gives ends is life e = grind (arith, leb-true)
 
 in_place : (f : Profile) (l : Whole) (g : ℕ) → Legal f l → (o : Place) → has_bit (word_after l (free_word_at g)) (g % 64) ≡ is_free o
     → ((k : ℕ) → holds (part k l) g ≡ is_held_by k o)
@@ -216,10 +192,10 @@ in_place f l g legal (Covered a) free held parts lives =
 pub in_one_place : (f : Profile) (l : Whole) → IsValid f → Legal f l → (g : ℕ) → IsInOnePlace l g
 in_one_place f l valid legal g =
     let at : IsPlacedOnce l g = placed_once f l valid legal g in
-    in_place f l g legal at.place at.free at.held (part_is f l g valid legal at) (λ a is.
+    in_place f l g legal at.place at.free at.held (λ address b is. search (arith, live_of, covers_live)) (λ a is.
     let covering : covers (word_after l (life_word_at a)) a g ≡ true = at.covered a ∙ ap (is_covered_by a) is ∙ eq-eqb a a refl in
     let live = and_parts (is_live (word_after l (life_word_at a))) (in_run a (grains_of (word_after l (life_word_at a))) g) covering in
-    found_block f l a _ _ _ _ refl (life_of f l valid legal a) live.0)
+    (grind (arith, leb-true, life_of f l valid legal a)))
 
 -- the laws of the machine's runs, for every legal list
 pub lists_borne : (f : Profile) (l : Whole) → IsValid f → Legal f l → AreBorne f (visible l)
@@ -269,14 +245,8 @@ holds_one v h = any_from 256 (λ b. holds v (1 * 256 + b)) 0 (omega arith) (h 25
 holds_each : (v : View) → ((g : ℕ) → g / 256 ≡ 1 → holds v g ≡ true) → holds_all v 1 ≡ true
 holds_each v h = all_below-from 256 (λ b. holds v (1 * 256 + b)) (λ i lt. h (1 * 256 + i) (omega (arith, lt)))
 
-backed_is_known : (age : ℕ) → knows_backed (ticked age) 1 ≡ true
-backed_is_known age = search (arith, holds_one, all_taken, and_from)
-
 stamp_is_known : (age : ℕ) → known_stamp (ticked age) 1 ≡ Some 0
 stamp_is_known age = cc (holds_each (ticked age) all_taken, holds_each looked all_taken)
-
-may_unback : (f : Profile) → MayUnback f (ticked f.age) 1
-may_unback f = search (arith, all_taken, backed_is_known, stamp_is_known)
 
 -- ---- the list
 pub can_unback : (f : Profile) → IsValid f → (l : Whole) × Legal f l × (more : List Event) × (visible l ≡ Event.Unback 0 1 f.age ∷ more)
@@ -290,7 +260,7 @@ can_unback f valid =
     let back : IsNext f (triples 0 (taken)) (triple 0 (made (Back 1) 0)) = record { actor = omega arith; of_region = (omega arith, omega (arith, pages)); allowed = ((256, refl, all_taken 256 refl), λ z. absurd (omega (arith, z))); answer_is = refl } in
     let look : IsNext f (triples 0 (backed)) (triple 0 (made (Look (Word.Stamp 1)) 0)) = record { actor = omega arith; of_region = (omega arith, omega (arith, pages)); allowed = tt; answer_is = refl } in
     let tick : IsNext f (triples 0 (looked)) (triple 0 (made (Tick f.age) 0)) = record { actor = omega arith; of_region = omega (arith, age); allowed = tt; answer_is = refl } in
-    let unback : IsNext f (triples 0 (ticked f.age)) (triple 0 (made (Unback 1) 1)) = record { actor = omega arith; of_region = (omega arith, omega (arith, pages)); allowed = may_unback f; answer_is = refl } in
+    let unback : IsNext f (triples 0 (ticked f.age)) (triple 0 (made (Unback 1) 1)) = record { actor = omega arith; of_region = (omega arith, omega (arith, pages)); allowed = search (arith, all_taken, holds_one, and_from, stamp_is_known); answer_is = refl } in
     let same : max 0 f.age ≡ f.age = omega arith in (
       triples 0 (made (Unback 1) 1 ∷ ticked f.age),
       (unback, (tick, (look, (back, (fourth, (third, (second, (first, (deed, tt))))))))),

@@ -45,11 +45,6 @@ since_once f k P Q told kept (t ∷ l) legal h = search (arith, cond_both, since
 -- ==== The pages of a block that an actor ended: they have deeds, all of one heap, and lie in the region.
 
 -- ---- where it lay
--- a block that ends lies in the region
-end_within : (f : Profile) (l : Whole) → IsValid f → Legal f l → (name : Name) (guess a : ℕ) → IsStepOf f (End name guess)
-    → a ≡ word_after l (life_word_at (grain_of name)) → a ≡ live_word name.turn guess → (256 ≤ grain_of name) × (grain_of name + guess ≤ 256 * (f.pages + 1))
-end_within f l valid legal name guess a of is hit = let at : IsFound f l name guess = end_finds f l valid legal name guess a of is hit in (at.first, at.last)
-
 -- ---- the deeds of its pages
 -- the page has a deed of the heap
 record IsOfHeap (l : Whole) (page heap : ℕ) : Type 0 where
@@ -109,9 +104,6 @@ record AreOfOne (l : Whole) (page other : ℕ) : Type 0 where
   other_deed : word_after l (Word.Deed other) ≢ 0
   heaps_are : heap_recorded (word_after l (Word.Deed page)) ≡ heap_recorded (word_after l (Word.Deed other))
 
-kept_one : (t : Triple) (l : Whole) (page other : ℕ) → AreOfOne l page other → AreOfOne (t ∷ l) page other
-kept_one t l page other h = search (arith, deed_kept)
-
 -- two pages of one block that an actor once ended have deeds of one heap
 ended_has_heap : (f : Profile) (l : Whole) → IsValid f → Legal f l → (k page other : ℕ) → EndedOnBoth (part k l) page other
     → heap_recorded (word_after l (Word.Deed page)) ≡ heap_recorded (word_after l (Word.Deed other))
@@ -123,7 +115,7 @@ ended_has_heap f l valid legal k page other h =
     let p : IsOfHeap l page at.heap = at.pages page h.0 in
     let q : IsOfHeap l other at.heap = at.pages other h.1 in
     record { a_deed = p.a_deed; other_deed = q.a_deed; heaps_are = p.heap_is ∙ sym q.heap_is })
-    (λ t l legal one. kept_one t l page other one) l legal h in
+    (λ t l legal one. (search (arith, deed_kept))) l legal h in
     both.heaps_are
 
 -- ==== What an actor read once of a page or a block is so for good: a page that was backed has a deed, and a block that lived has its length.
@@ -146,10 +138,6 @@ backed_deed f (e ∷ es) run p h = backed_deed f es run.1 p h
 some_deed : (o : Option Directory) → o ≢ None → word_of_deed o ≢ 0
 some_deed o h = grind (arith, deed_word_of-positive)
 
--- the deed word of a page whose backed word is 1
-backed_has_deed : (f : Profile) (l : Whole) → IsValid f → Legal f l → (p : ℕ) → word_after l (Word.Backed p) ≡ 1 → word_after l (Word.Deed p) ≢ 0
-backed_has_deed f l valid legal p h = search (arith, some_deed, backed_deed, runs, one_backed, backed_of, deed_of)
-
 -- ---- a page that was read as backed
 backed_word : (l : Whole) (a q p : ℕ) → a ≡ word_after l (Word.Backed q) → (q == p) ≡ true → a ≡ word_after l (Word.Backed p)
 backed_word l a q p is e = is ∙ ap (λ n. word_after l (Word.Backed n)) (eqb-true q p e)
@@ -161,7 +149,7 @@ backed_read l s a p is h = grind (arith, backed_word, false≢true)
 read_backed : (f : Profile) (l : Whole) → IsValid f → Legal f l → (k p : ℕ) → ReadBacked (part k l) p → word_after l (Word.Deed p) ≢ 0
 read_backed f l valid legal k p =
     since_once f k (λ m before. (reads_backed m.step p ≡ true) × (m.answer ≡ 1)) (λ l. word_after l (Word.Deed p) ≢ 0)
-    (λ t l legal h. let next : IsNext f l t = legal.0 in backed_has_deed f l valid legal.1 p (sym (backed_read l _ _ p next.answer_is h.0) ∙ h.1))
+    (λ t l legal h. let next : IsNext f l t = legal.0 in (search (arith, some_deed, backed_deed, runs, one_backed, backed_of, deed_of)))
     (λ t l legal ne. λ z. ne (sym (deed_kept l t p ne) ∙ z)) l legal
 
 -- ---- a block that was read as live
@@ -201,18 +189,12 @@ was_there f l valid legal k g turn grains =
       given = event_kept f _ _ was.block (runs f (t ∷ l) valid legal) was.given;
     }) l legal
 
-same_grains : (f : Profile) (g word : ℕ) (live : Option Live) (gives ends : ℕ) (block : Block) → IsLifeOf f g word live gives ends
-    → ((b : Live) → live ≡ Some b → b.block.name.turn ≡ block.name.turn → b.block ≡ block)
-    → is_live word ≡ true → turn_of word ≡ block.name.turn → grains_of word ≡ length_of block
-same_grains f g word live gives ends block life same alive t = grind (arith, leb-true)
-
 -- a block that an actor once read as live, and that still lives, has the length that it had then
 read_again : (f : Profile) (l : Whole) → IsValid f → Legal f l → (k g grains : ℕ) → is_live (word_after l (life_word_at g)) ≡ true
     → ReadLive (part k l) g (turn_of (word_after l (life_word_at g))) grains → grains_of (word_after l (life_word_at g)) ≡ grains
 read_again f l valid legal k g grains alive read =
     let was : WasThere l g (turn_of (word_after l (life_word_at g))) grains = was_there f l valid legal k g _ grains read in
-    same_grains f g _ _ _ _ was.block (life_of f l valid legal g)
-    (λ b is turn. was.given.same b (ap (live_in (visible l)) was.address ∙ is) turn) alive (sym was.turn_is) ∙ was.grains_are
+    (grind (arith, leb-true, life_of f l valid legal g)) ∙ was.grains_are
 
 -- ==== The answer of each legal step agrees with its actor's view.
 
@@ -221,9 +203,6 @@ held_place : (l : Whole) (k g : ℕ) (at : IsPlacedOnce l g) → holds (part k l
 held_place l k g at h = is_held_by-true k at.place (sym (at.held k) ∙ h)
 
 -- ---- deed words, free words and backed words
-deed_agrees : (f : Profile) (l : Whole) → IsValid f → Legal f l → (k page a : ℕ) → a ≡ word_after l (Word.Deed page) → AgreesDeed f (part k l) page a
-deed_agrees f l valid legal k page a is = search (arith, deed_words, known_is, deeds_known, read_backed, ended_has_deed, ended_has_heap)
-
 word_at : (l : Whole) (page word a g : ℕ) → a ≡ word_after l (Word.Free page word) → g / 256 ≡ page → g / 64 % 4 ≡ word → a ≡ word_after l (free_word_at g)
 word_at l page word a g is p w = is ∙ ap (λ x. word_after l (Word.Free x word)) (sym p) ∙ ap (λ x. word_after l (Word.Free (g / 256) x)) (sym w)
 
@@ -236,18 +215,10 @@ free_agrees f l valid legal k page word a is = record {
       ap (λ n. has_bit n (g % 64)) (word_at l page word a g is p w) ∙ at.free ∙ ap is_free (held_place l k g at h);
 }
 
-backed_agrees : (f : Profile) (l : Whole) → IsValid f → Legal f l → (k page a : ℕ) → a ≡ word_after l (Word.Backed page) → AgreesBacked (part k l) page a
-backed_agrees f l valid legal k page a is = search (arith, backed_small, backed_known)
-
 -- ---- life words
--- a live block has a length that fits the region
-length_fits : (f : Profile) (g word : ℕ) (live : Option Live) (gives ends : ℕ) → IsLifeOf f g word live gives ends → is_live word ≡ true
-    → (1 ≤ grains_of word) × (grains_of word ≤ 256 * f.pages)
-length_fits f g word live gives ends life h = grind (arith, leb-true)
-
 word_length : (f : Profile) (l : Whole) → IsValid f → Legal f l → (g : ℕ) → is_live (word_after l (life_word_at g)) ≡ true
     → (1 ≤ grains_of (word_after l (life_word_at g))) × (grains_of (word_after l (life_word_at g)) ≤ 256 * f.pages)
-word_length f l valid legal g = length_fits f g _ _ _ _ (life_of f l valid legal g)
+word_length f l valid legal g = λ h. grind (arith, leb-true, life_of f l valid legal g)
 
 -- no grain of a live block is held
 covered_is_free : (f : Profile) (l : Whole) → IsValid f → Legal f l → (k g x : ℕ) → is_live (word_after l (life_word_at g)) ≡ true
@@ -295,42 +266,25 @@ end_agrees : (f : Profile) (l : Whole) → IsValid f → Legal f l → (k : ℕ)
     → a ≡ word_after l (life_word_at (grain_of name)) → AgreesEnd f (part k l) name guess a
 end_agrees f l valid legal k name guess a of is = record {
   life = life_agrees f l valid legal k _ a is;
-  within = end_within f l valid legal name guess a of is;
+  within = λ hit. let at : IsFound f l name guess = end_finds f l valid legal name guess a of is hit in (at.first, at.last);
   apart = end_apart f l valid legal k name guess a of is;
 }
 
--- the grain of a page, by division with 256
-life_at : (l : Whole) (page grain : ℕ) → grain < 256 → word_after l (Word.Life page grain) ≡ word_after l (life_word_at (page * 256 + grain))
-life_at l page grain small = search arith
-
 -- ---- page vectors
--- bit b of word j of a page vector is that of the page, by division with 64
-bit_of_page : (words : ℕ → ℕ) (j b a : ℕ) → b < 64 → a ≡ words j → has_bit a b ≡ has_bit (words ((64 * j + b) / 64)) ((64 * j + b) % 64)
-bit_of_page words j b a small is = search arith
-
-parked_at : (l : Whole) (j b a : ℕ) → b < 64 → a ≡ word_after l (Word.Parked j) → has_bit a b ≡ parked_bit l (64 * j + b)
-parked_at l j b a small is = bit_of_page (λ i. word_after l (Word.Parked i)) j b a small is
-
-empty_at : (l : Whole) (j b a : ℕ) → b < 64 → a ≡ word_after l (Word.Empty j) → has_bit a b ≡ empty_bit l (64 * j + b)
-empty_at l j b a small is = bit_of_page (λ i. word_after l (Word.Empty i)) j b a small is
-
-eligible_at : (l : Whole) (n j b a : ℕ) → b < 64 → a ≡ word_after l (Word.Eligible n j) → has_bit a b ≡ eligible_bit l n (64 * j + b)
-eligible_at l n j b a small is = bit_of_page (λ i. word_after l (Word.Eligible n i)) j b a small is
-
 parked_agrees : (f : Profile) (l : Whole) → Legal f l → (k j a : ℕ) → a ≡ word_after l (Word.Parked j) → AgreesParked f (part k l) j a
 parked_agrees f l legal k j a is = record {
-  page = λ b small set. parked_page f l legal _ (sym (parked_at l j b a small is) ∙ set);
-  right = λ b small has. parked_at l j b a small is ∙ right_not_parked f l legal k _ has;
+  page = λ b small set. parked_page f l legal _ (sym (search arith) ∙ set);
+  right = λ b small has. (search arith) ∙ right_not_parked f l legal k _ has;
 }
 
 empty_agrees : (f : Profile) (l : Whole) → Legal f l → (j a : ℕ) → a ≡ word_after l (Word.Empty j) → AgreesEmpty f j a
-empty_agrees f l legal j a is = record { page = λ b small set. hinted_page f l legal (64 * j + b) (sym (empty_at l j b a small is) ∙ set) }
+empty_agrees f l legal j a is = record { page = λ b small set. hinted_page f l legal (64 * j + b) (sym (search arith) ∙ set) }
 
 eligible_agrees : (f : Profile) (l : Whole) → Legal f l → (k n j a : ℕ) → a ≡ word_after l (Word.Eligible n j) → AgreesEligible f (part k l) n j a
 eligible_agrees f l legal k n j a is = record {
-  page = λ b small set. offered_page f l legal n _ (sym (eligible_at l n j b a small is) ∙ set);
-  right = λ b small has. eligible_at l n j b a small is ∙ right_not_offered f l legal k n _ has;
-  known = λ b small set ne. offered_is_known f l legal k n _ (sym (eligible_at l n j b a small is) ∙ set) ne;
+  page = λ b small set. offered_page f l legal n _ (sym (search arith) ∙ set);
+  right = λ b small has. (search arith) ∙ right_not_offered f l legal k n _ has;
+  known = λ b small set ne. offered_is_known f l legal k n _ (sym (search arith) ∙ set) ne;
 }
 
 -- ---- by kinds
@@ -343,11 +297,28 @@ stamp_agrees f l valid legal k page a is = search (arith, stamp_small, stamp_kno
 -- what an actor reads at a word of the profile agrees with its view
 answer_agrees_at : (f : Profile) (l : Whole) → IsValid f → Legal f l → (k : ℕ) (s : Step) (a : ℕ) → IsStepOf f s → a ≡ word_after l (target s)
     → Agrees f (part k l) s a
-answer_agrees_at f l valid legal k (Look (Word.Life q g)) a of is = life_agrees f l valid legal k (q * 256 + g) a (is ∙ life_at l q g of.2)
+answer_agrees_at f l valid legal k (Look (Word.Life q g)) a of is = life_agrees f l valid legal k (q * 256 + g) a (is ∙ (search arith))
 answer_agrees_at f l valid legal k (End name guess) a of is = end_agrees f l valid legal k name guess a of is
 answer_agrees_at f l valid legal k (EndSized name room) a of is = end_agrees f l valid legal k name (room / 16) a of.0 is
 answer_agrees_at f l valid legal k s a of is =
-    search (arith, free_agrees, life_agrees, deed_agrees, backed_agrees, stamp_agrees, parked_agrees, empty_agrees, eligible_agrees, epoch_agrees)
+    search (
+      arith,
+      free_agrees,
+      life_agrees,
+      deed_words,
+      known_is,
+      deeds_known,
+      read_backed,
+      ended_has_deed,
+      ended_has_heap,
+      backed_small,
+      backed_known,
+      stamp_agrees,
+      parked_agrees,
+      empty_agrees,
+      eligible_agrees,
+      epoch_agrees,
+    )
 
 -- the answer of the next legal step agrees with its actor's view
 pub answer_agrees : (f : Profile) (l : Whole) → IsValid f → Legal f l → (t : Triple) → IsNext f l t → Agrees f (part t.actor l) t.made.step t.made.answer
@@ -357,15 +328,10 @@ answer_agrees f l valid legal t next = answer_agrees_at f l valid legal t.actor 
 
 -- ==== The next step of an actor, for desks: a step that a view allows may come next with its word's value as the answer.
 
--- the step, with this answer, may come next
-is_next : (f : Profile) (l : Whole) (k : ℕ) (v : View) (s : Step) (a : ℕ) → k ≤ f.threads → part k l ≡ v → IsStepOf f s → Allowed f v s
-    → a ≡ word_after l (target s) → IsNext f l (triple k (made s a))
-is_next f l k v s a actor part_is of allowed is = search arith
-
 -- so that the list with it is legal again
 pub legal_next : (f : Profile) (l : Whole) (k : ℕ) (v : View) (s : Step) (a : ℕ) → Legal f l → k ≤ f.threads → part k l ≡ v → IsStepOf f s → Allowed f v s
     → a ≡ word_after l (target s) → Legal f (triple k (made s a) ∷ l)
-legal_next f l k v s a legal actor part_is of allowed is = (is_next f l k v s a actor part_is of allowed is, legal)
+legal_next f l k v s a legal actor part_is of allowed is = ((search arith), legal)
 
 -- and the answer agrees with the view
 pub agrees_next : (f : Profile) (l : Whole) (k : ℕ) (v : View) (s : Step) (a : ℕ) → IsValid f → Legal f l → part k l ≡ v → IsStepOf f s
@@ -405,10 +371,6 @@ with_step_own k m own = ap (λ (b : Bool). if b then m ∷ own k else own k) (eq
 pub with_step_others : (j k : ℕ) (m : Made) (own : ℕ → View) → j ≢ k → with_step k m own j ≡ own j
 with_step_others j k m own ne = ap (λ (b : Bool). if b then m ∷ own j else own j) (ne_eqb j k ne)
 
-order_next_at : (l : Whole) (own : ℕ → View) (k : ℕ) (m : Made) (j : ℕ) → IsOneOrder l own → (same : Bool) → (j == k) ≡ same
-    → part j (triple k m ∷ l) ≡ with_step k m own j
-order_next_at l own k m j order same e = search (arith, part_of_own, with_step_own, eqb-true, false≢true, eq-eqb, part_of_others, with_step_others)
-
 -- the list with the step is one order of the own lists with the step
 pub one_order_next : (l : Whole) (own : ℕ → View) (k : ℕ) (m : Made) → IsOneOrder l own → IsOneOrder (triple k m ∷ l) (with_step k m own)
-one_order_next l own k m order j = order_next_at l own k m j order (j == k) refl
+one_order_next l own k m order j = search (arith, part_of_own, with_step_own, eqb-true, false≢true, eq-eqb, part_of_others, with_step_others)

@@ -26,13 +26,8 @@ use Rattle.pas_core.proofs.Rights.{Spot, InParked, is_with, is_parked, spot_afte
 
 -- ==== A backed page whose grains are all free isn't forgotten: its empty bit is set, or some actor owes its hint, or some actor examines it.
 
--- a bit of a free word is that of a grain, by division
-grain_bit : (l : Whole) (p w b : ℕ) → w < 4 → b < 64
-    → has_bit (word_after l (Word.Free p w)) b ≡ has_bit (word_after l (free_word_at (p * 256 + w * 64 + b))) ((p * 256 + w * 64 + b) % 64)
-grain_bit l p w b hw hb = search arith
-
 free_bits : (l : Whole) (p w b : ℕ) → w < 4 → b < 64 → IsEmptyBacked l p → has_bit (word_after l (Word.Free p w)) b ≡ true
-free_bits l p w b hw hb empty = grain_bit l p w b hw hb ∙ empty.free (p * 256 + w * 64 + b) (omega (arith, hw, hb))
+free_bits l p w b hw hb empty = (search arith) ∙ empty.free (p * 256 + w * 64 + b) (omega (arith, hw, hb))
 
 full_word : (f : Profile) (l : Whole) → IsValid f → Legal f l → (p w : ℕ) → w < 4 → IsEmptyBacked l p → word_after l (Word.Free p w) ≡ all_ones
 full_word f l valid legal p w hw empty = search (arith, all_set, words_fit, free_bits)
@@ -43,19 +38,9 @@ abbrev puts : Step → ℕ → Bool
 puts (Put q w mask) p = q == p
 puts s p = false
 
-clear_was : (t : Bool) (old mask b : ℕ) → mask < 2 ^ 64 → b < 64 → has_bit (if t then bit_and old (bit_not w64 mask) else old) b ≡ true → has_bit old b ≡ true
-clear_was t old mask b hm hb h = grind (arith, and_parts, bit_cleared)
-
 -- A page that is backed by another's step was backed.
 back_was : (x : Bool) (old : ℕ) → (x ≡ true → ⊥) → (if x then bit_or old 1 else old) ≡ 1 → old ≡ 1
 back_was x old never h = grind arith
-
--- A page that is backed after a backing ended was backed.
-unback_was : (x : Bool) (old : ℕ) → (if x then 0 else old) ≡ 1 → old ≡ 1
-unback_was x old h = grind arith
-
-put_misses : (q w p g : ℕ) → (q == p) ≡ false → g / 256 ≡ p → ((w == g / 64 % 4) && (q == g / 256)) ≡ false
-put_misses q w p g other e = search (arith, false_from_ne_true, and_parts, false≢true, eq-eqb, eqb-true)
 
 -- whoever backs a page holds a grain of it, so it isn't empty
 back_not_empty : (f : Profile) (l : Whole) → IsValid f → Legal f l → (j q p : ℕ) → HoldsOn (part j l) q
@@ -67,8 +52,9 @@ back_not_empty f l valid legal j q p on free h =
 
 was_empty : (f : Profile) (l : Whole) → IsValid f → Legal f l → (j : ℕ) (s : Step) (a p : ℕ) → IsStepOf f s → Allowed f (part j l) s → puts s p ≡ false
     → IsEmptyBacked (triple j (made s a) ∷ l) p → IsEmptyBacked l p
-was_empty f l valid legal j (Unback q) a p of allowed other h = record { backed = unback_was (q == p) (word_after l (Word.Backed p)) h.backed; free = h.free }
-was_empty f l valid legal j s a p of allowed other h = search (arith, looked, back_was, back_not_empty, clear_was, put_misses)
+was_empty f l valid legal j (Unback q) a p of allowed other h = record { backed = grind arith; free = h.free }
+was_empty f l valid legal j s a p of allowed other h =
+    search (arith, looked, back_was, back_not_empty, and_parts, bit_cleared, false_from_ne_true, false≢true, eq-eqb, eqb-true)
 
 -- ---- debts and examinations
 -- the debt and the examination stay where the step ends none, and the bit where it stays set
@@ -80,25 +66,15 @@ keeps l j s a p hint examined bit e = grind (arith, cond_both)
 put_owes : (s : Step) (a p : ℕ) (was : Bool) → puts s p ≡ true → hint_after s a p was ≡ true
 put_owes s a p was h = grind (arith, false≢true)
 
--- a look at a free word of the page, or at its backed word, ends nothing
-look_free_keeps : (f : Profile) (l : Whole) → IsValid f → Legal f l → (q w a p : ℕ) → w < 4 → a ≡ word_after l (Word.Free q w) → IsEmptyBacked l p
-    → ((q == p) && not (a == all_ones)) ≡ false
-look_free_keeps f l valid legal q w a p hw is empty = search (arith, false_from_ne_true, and_parts, eqb-true, full_word, false≢true, eq-eqb)
-
-look_backed_keeps : (l : Whole) (q a p : ℕ) → a ≡ word_after l (Word.Backed q) → IsEmptyBacked l p → ((q == p) && (a == 0)) ≡ false
-look_backed_keeps l q a p is empty = search (arith, false_from_ne_true, and_parts, eqb-true)
-
 -- a take that leaves each grain of the page free got none, and read all ones
 take_mask_none : (l : Whole) (j e q w mask a p : ℕ) → w < 4 → mask < 2 ^ 64 → (q == p) ≡ true
     → ((b : ℕ) → b < 64 → has_bit (next_value e (Take q w mask) (Word.Free p w) (word_after l (Word.Free p w))) b ≡ true) → mask ≡ 0
 take_mask_none l j e q w mask a p hw hm here free = none_set mask hm (λ b hb.
     let both : ((w == w) && (q == p)) ≡ true = ap (λ t. t && (q == p)) (eq-eqb w w refl) ∙ here in
     let cleared : (has_bit (word_after l (Word.Free p w)) b && not (has_bit mask b)) ≡ true
-    = sym (bit_cleared _ mask b hm hb) ∙ ap (λ t. has_bit (if t then bit_and (word_after l (Word.Free p w)) (bit_not w64 mask) else word_after l (Word.Free p w)) b) (sym both) ∙ free b hb in
+    = sym (bit_cleared _ mask b hm hb)
+    ∙ ap (λ t. has_bit (if t then bit_and (word_after l (Word.Free p w)) (bit_not w64 mask) else word_after l (Word.Free p w)) b) (sym both) ∙ free b hb in
     not-true _ (and_parts (has_bit (word_after l (Word.Free p w)) b) (not (has_bit mask b)) cleared).1)
-
-and_zero : (a : ℕ) → bit_and a 0 ≡ 0
-and_zero a = let le = and_le_r a 0 in omega (arith, le)
 
 take_keeps : (f : Profile) (l : Whole) → IsValid f → Legal f l → (j q w mask a p : ℕ) → w < 4 → mask < 2 ^ 64 → a ≡ word_after l (Word.Free q w)
     → IsEmptyBacked l p → IsEmptyBacked (triple j (made (Take q w mask) a) ∷ l) p
@@ -107,7 +83,7 @@ take_keeps f l valid legal j q w mask a p hw hm is empty now = false_from_ne_tru
     let parts = and_parts (q == p) (not (a == all_ones) || not (bit_and a mask == 0)) h in
     let full : a ≡ all_ones = is ∙ ap (λ x. word_after l (Word.Free x w)) (eqb-true q p parts.0) ∙ full_word f l valid legal p w hw empty in
     let none : mask ≡ 0 = take_mask_none l j (epoch_of (part j l)) q w mask a p hw hm parts.0 (λ b hb. free_bits _ p w b hw hb now) in
-    let zero : bit_and a mask ≡ 0 = ap (bit_and a) none ∙ and_zero a in
+    let zero : bit_and a mask ≡ 0 = ap (bit_and a) none ∙ (let le = and_le_r a 0 in omega (arith, le)) in
     false≢true (sym (or_from _ _ (ap not (eq-eqb a all_ones full)) (ap not (eq-eqb _ 0 zero))) ∙ parts.1))
 
 -- the empty bit
@@ -126,8 +102,8 @@ unhint_bit l j q a p is false e set = inl (page_bit-clear q p (word_after l (Wor
 -- what a step leaves of a page's hint; a look at hints changes no word, so that what the view said of the page it says still
 minded_step : (f : Profile) (l : Whole) → IsValid f → Legal f l → (j : ℕ) (s : Step) (a p : ℕ) → IsStepOf f s → a ≡ word_after l (target s) → IsEmptyBacked l p
     → IsEmptyBacked (triple j (made s a) ∷ l) p → IsMinded l p → IsMinded (triple j (made s a) ∷ l) p
-minded_step f l valid legal j (Look (Word.Free q w)) a p of is was now h = search (arith, cond-false, look_free_keeps)
-minded_step f l valid legal j (Look (Word.Backed q)) a p of is was now h = search (arith, cond-false, look_backed_keeps)
+minded_step f l valid legal j (Look (Word.Free q w)) a p of is was now h = search (arith, cond-false, false_from_ne_true, and_parts, eqb-true, full_word, false≢true, eq-eqb)
+minded_step f l valid legal j (Look (Word.Backed q)) a p of is was now h = search (arith, cond-false, false_from_ne_true, and_parts, eqb-true)
 minded_step f l valid legal j (Look (Word.Empty i)) a p of is was now h = search arith
 minded_step f l valid legal j (Take q w mask) a p of is was now h = keeps l j (Take q w mask) a p (cond-false _ false true (take_keeps f l valid legal j q w mask a p of.1 of.2 is was now)) (cond-false _ false true (take_keeps f l valid legal j q w mask a p of.1 of.2 is was now)) (λ set. inl set) h
 minded_step f l valid legal j (Put q w mask) a p of is was now h = keeps l j (Put q w mask) a p (stays_set (q == p) true refl) refl (λ set. inl set) h
@@ -174,22 +150,14 @@ look_keeps l q u a p w b k at is_free is = false_from_ne_true _ (λ h.
     let none = and_parts ((u == w) && (q == p) && not (known_deed (part k l) p == 0)) (no_usable (known_deed (part k l) p) w a) h in
     let knows = and_parts ((u == w) && (q == p)) (not (known_deed (part k l) p == 0)) none.0 in
     let here = and_parts (u == w) (q == p) knows.0 in
-    let word : a ≡ word_after l (Word.Free p w) = is ∙ ap (λ x. word_after l (Word.Free q x)) (eqb-true u w here.0) ∙ ap (λ x. word_after l (Word.Free x w)) (eqb-true q p here.1) in
+    let word : a ≡ word_after l (Word.Free p w) =
+    is ∙ ap (λ x. word_after l (Word.Free q x)) (eqb-true u w here.0) ∙ ap (λ x. word_after l (Word.Free x w)) (eqb-true q p here.1) in
     let some : known_deed (part k l) p ≢ 0 = λ z. false≢true (ap not (sym (eq-eqb _ 0 z)) ∙ knows.1) in
     let deed : known_deed (part k l) p ≡ word_after l (Word.Deed p) = known_is _ _ (at.known k) some in
     false≢true (sym (ap not (and_from _ _ (ap (λ n. has_bit n b) word ∙ is_free.free) (ap (λ n. usable_by (directory_read n) (64 * w + b)) deed ∙ is_free.usable)))
     ∙ all_below-at 64 b (λ i. not (has_bit a i && usable_by (directory_read (known_deed (part k l) p)) (64 * w + i))) none.1 is_free.small))
 
 -- ---- what was so before a step
-was_parked : (j : ℕ) (t : Bool) (m : Way) (o : Spot) → (spot_after j m o ≡ InParked → ⊥) → spot_after j (if t then m else Rests) o ≡ InParked
-    → (t ≡ false) × (o ≡ InParked)
-was_parked j t m o never h = grind arith
-
--- a deed that there is stays
-same_deed : (l : Whole) (e : ℕ) (s : Step) (p : ℕ) → IsSpotted l p → spot_of l p ≡ InParked
-    → next_value e s (Word.Deed p) (word_after l (Word.Deed p)) ≡ word_after l (Word.Deed p)
-same_deed l e s p at parked = search (arith, known_is, word_stays)
-
 -- ---- steps
 -- grains that are put into the word of a parked page are owed by who put them, since it hasn't the right
 put_owed : (l : Whole) (j q u mask a p w b : ℕ) → IsSpotted l p → spot_of l p ≡ InParked → (has_bit (word_after l (Word.Free p w)) b ≡ true → IsOwed l p w)
@@ -216,7 +184,7 @@ owed_step f l j e (Look (Word.Free q u)) a p w b small at of is before usable o 
     search (arith, looked, keeps_owed, cond-false, look_keeps)
 owed_step f l j e (Put q u mask) a p w b small at of is before usable o free = put_owed l j q u mask a p w b at o (before o) ((u == w) && (q == p)) refl free
 owed_step f l j e (Park q) a p w b small at of is before usable o free = park_owed l j q a p w (q == p) refl o (λ parked. before parked free)
-owed_step f l j e s a p w b small at of is before usable o free = search (arith, was_parked, keeps_owed, clear_was, cond-false, unpark_other)
+owed_step f l j e s a p w b small at of is before usable o free = search (arith, keeps_owed, and_parts, bit_cleared, cond-false, unpark_other)
 
 -- the induction
 owed_at : (f : Profile) (l : Whole) → Legal f l → (p w b : ℕ) → spot_of l p ≡ InParked → IsUsableFree l p w b → IsOwed l p w
@@ -225,7 +193,7 @@ owed_at f (t ∷ l) legal p w b o free =
     let at : IsSpotted l p = spotted f l legal.1 p in
     let next : IsNext f l t = legal.0 in
     let e : ℕ = epoch_of (part t.actor l) in
-    let was : spot_of l p ≡ InParked → has_bit (word_after l (Word.Free p w)) b ≡ true → IsUsableFree l p w b = search (arith, same_deed) in
+    let was : spot_of l p ≡ InParked → has_bit (word_after l (Word.Free p w)) b ≡ true → IsUsableFree l p w b = search (arith, known_is, word_stays) in
     owed_step f l _ e _ _ p w b free.small at next.of_region next.answer_is (λ parked bit. owed_at f l legal.1 p w b parked (was parked bit)) was o free.free
 
 -- where a parked page has a free usable grain, some actor owes the check of its word
@@ -266,13 +234,10 @@ pub offered_at_rest : (f : Profile) (l : Whole) → Legal f l → AllClear f l �
     → NobodyHasRight l p → IsRightOffered f l p
 offered_at_rest f l legal clear p w b small deed free lacks = free_is_offered f l legal p w b deed free lacks (clear_owes f l legal clear p w small)
 
-nothing_owed : IsClear []
-nothing_owed = record { on = λ page. record { stamped = refl; owes = record { checks = λ word lt. refl; hint = refl }; examined = refl } }
-
 -- so is any actor
 pub each_clear : (f : Profile) (l : Whole) → Legal f l → AllClear f l → (k : ℕ) → IsClear (part k l)
 each_clear f l legal clear k = elim (cases_lt f.threads k) [
-  | inl past ↦ subst IsClear (sym (no_other_actor f l legal k past)) nothing_owed
+  | inl past ↦ subst IsClear (sym (no_other_actor f l legal k past)) (record { on = λ page. record { stamped = refl; owes = record { checks = λ word lt. refl; hint = refl }; examined = refl } })
   | inr within ↦ clear k within
 ]
 

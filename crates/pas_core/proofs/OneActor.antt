@@ -1,5 +1,6 @@
 -- Laws of one actor alone, in a list that is legal as a whole: what its steps leave as it was, which grains are free and where rights are before and
 -- after them, and what its search finds.
+use Rattle.pas_core.proofs.Deeds.{word_stays, looked, deed_kept, known_is, numbered_ne}
 use Rattle.std.proofs.Common.{◌≡◌, ℕ, ◌/◌, true, false, if◌then◌else◌, List, [], ◌∷◌, ◌++◌, refl, ap, ◌∙◌, true≢false, ◌≢◌, ◌+◌, ◌*◌, ◌%◌, ◌<◌, ◌==◌, Bool}
 use Rattle.std.proofs.Common.{◌||◌, sym, arith, inl, inr, None, Some, subst, Result, Ok, Err, eq-eqb, eqb-true}
 use Rattle.pas_bits.specs.Bits.{has_bit}
@@ -16,7 +17,6 @@ use Rattle.pas_steps.specs.declared.step.{Made.Made, Step.Step, Step.TheVariants
 use Rattle.pas_steps.proofs.{Apart.in_apart, Past.since_once, Past.always_map, Past.once_map, Parts.part_of_own, Parts.part_of_others, Parts.each_part}
 use Rattle.pas_steps.proofs.{Adding.triples_append}
 use Rattle.pas_steps.proofs.Frames.{right_own, right_of_own, lacks_now, deed_stays}
-use Rattle.pas_core.proofs.Deeds.{looked, deed_kept, deed_was_none, known_is, numbered_ne}
 use Rattle.pas_core.proofs.Rights.{put_keeps, one_has_right, offered_has_deed, offered_spot, own_eligible, is_on_offer, Spot, With, is_with, is_offered}
 use Rattle.pas_core.proofs.Rights.{is_parked, spot_after, spot_of, Suits, DeedFits, IsSpotted, step_suits, spotted}
 use Rattle.std.proofs.lemmas.Bool.{cases_Bool, cond_both, or_left, or_parts, or_from, cases_eq, false≢true, and_parts}
@@ -39,32 +39,20 @@ over : (Q : ℕ → Type 0) (x : Word) (ks ls : Kinds)
 over Q x ks ls step w k [] l only h = h
 over Q x ks ls step w k (m ∷ xs) l only h = search (arith, in_apart, over Q x ks ls step w k xs l only.1 h)
 
-frees_kept : (e : ℕ) (s : Step) (p w old b : ℕ) → is_in (Taking ∷ []) (kind_of s) ≡ false → has_bit old b ≡ true
-    → has_bit (if same_word (target s) (Word.Free p w) then new_value e s old else old) b ≡ true
-frees_kept e s p w old b is h = grind (arith, looked, put_keeps, true≢false)
-
 -- where none takes, free grains stay free
 pub free_stays : (ks : Kinds) → apart ks (Taking ∷ []) ≡ true → (k : ℕ) (xs : List Made) (l : Whole) (p w b : ℕ) → Only ks xs
     → has_bit (word_after l (Word.Free p w)) b ≡ true → has_bit (word_after (triples k xs ++ l) (Word.Free p w)) b ≡ true
-free_stays ks apart k xs l p w b = over (λ n. has_bit n b ≡ true) _ ks _ (λ e s old other. frees_kept e s p w old b other) apart k xs l
-
-offers_kept : (e : ℕ) (s : Step) (n j old b : ℕ) → is_in (Claiming ∷ []) (kind_of s) ≡ false → has_bit old b ≡ true
-    → has_bit (if same_word (target s) (Word.Eligible n j) then new_value e s old else old) b ≡ true
-offers_kept e s n j old b is h = grind (arith, looked, put_keeps, true≢false)
+free_stays ks apart k xs l p w b = over (λ n. has_bit n b ≡ true) _ ks _ (λ e s old other. (λ h. grind (arith, looked, put_keeps, true≢false))) apart k xs l
 
 -- where none claims, offered pages stay offered
 pub offered_stays : (ks : Kinds) → apart ks (Claiming ∷ []) ≡ true → (k : ℕ) (xs : List Made) (l : Whole) (n j b : ℕ) → Only ks xs
     → has_bit (word_after l (Word.Eligible n j)) b ≡ true → has_bit (word_after (triples k xs ++ l) (Word.Eligible n j)) b ≡ true
-offered_stays ks apart k xs l n j b = over (λ a. has_bit a b ≡ true) _ ks _ (λ e s old other. offers_kept e s n j old b other) apart k xs l
-
-deeds_kept : (e : ℕ) (s : Step) (p old : ℕ) → is_in (Deeding ∷ []) (kind_of s) ≡ false
-    → (if same_word (target s) (Word.Deed p) then new_value e s old else old) ≡ old
-deeds_kept e s p old is = grind (arith, looked, true≢false)
+offered_stays ks apart k xs l n j b = over (λ a. has_bit a b ≡ true) _ ks _ (λ e s old other. (λ h. grind (arith, looked, put_keeps, true≢false))) apart k xs l
 
 -- where none makes a deed, deed words stay
 pub deed_same : (ks : Kinds) → apart ks (Deeding ∷ []) ≡ true → (k : ℕ) (xs : List Made) (l : Whole) (p : ℕ) → Only ks xs
     → word_after (triples k xs ++ l) (Word.Deed p) ≡ word_after l (Word.Deed p)
-deed_same ks apart k xs l p only = over (λ n. n ≡ word_after l (Word.Deed p)) _ ks _ (λ e s old other h. deeds_kept e s p old other ∙ h) apart k xs l only refl
+deed_same ks apart k xs l p only = over (λ n. n ≡ word_after l (Word.Deed p)) _ ks _ (λ e s old other h. (grind (arith, looked, true≢false)) ∙ h) apart k xs l only refl
 
 -- ==== Which grains are free, and which deed words there are, before and after the steps of an actor that gives and ends no block.
 
@@ -100,15 +88,12 @@ bit_moved : (f : Profile) (k : ℕ) (l : Whole) (g : ℕ) (m : Made) (xs : List 
 bit_moved f k l g m xs legal = free_step f (triples k xs ++ l) (epoch_of (part k (triples k xs ++ l))) m.step m.answer g legal.0.of_region legal.0.answer_is
 
 -- ---- a grain that was free at entry is free, or the call holds it
-free_move : (m : Move) (bit held : Bool) → IsPlain m → (bit || held) ≡ true → (free_moved m bit || held_after m held) ≡ true
-free_move s bit held plain h = grind arith
-
 pub free_or_held : (f : Profile) (k : ℕ) (l : Whole) (g : ℕ) (xs : List Made) → Legal f (triples k xs ++ l) → LendsNone xs → bit_of l g ≡ true
     → (bit_of (triples k xs ++ l) g || holds xs g) ≡ true
 free_or_held f k l g [] legal lends free = or_left (bit_of l g) false free
 free_or_held f k l g (m ∷ xs) legal lends free =
     ap (λ x. x || held_after (grain_move m.step m.answer g) (holds xs g)) (bit_moved f k l g m xs legal)
-    ∙ free_move (grain_move m.step m.answer g) (bit_of (triples k xs ++ l) g) (holds xs g) (plain_move m.step m.answer g lends.0) (free_or_held f k l g xs legal.1 lends.1 free)
+    ∙ (grind (arith, plain_move m.step m.answer g lends.0, free_or_held f k l g xs legal.1 lends.1 free))
 
 -- ---- a grain that is neither free nor the actor's stays so
 abbrev pub Used : ℕ → Whole → ℕ → List Made → Type 0
@@ -139,14 +124,10 @@ used_all f k l g (m ∷ xs) valid legal lends used = used_next f k l g m xs vali
 free_read : (page word : ℕ) (s : Step) (w : Whole) → ReadsFree page word s → word_after w (target s) ≡ word_after w (Word.Free page word)
 free_read page word s w e = grind arith
 
--- the page and the word of a grain, by division
-word_of_page : (page b : ℕ) → b < 256 → free_word_at (page * 256 + b) ≡ Word.Free page (b / 64)
-word_of_page page b lt = search arith
-
 -- What a look shows of a grain is its bit at that moment.
 pub shown : (f : Profile) (k : ℕ) (l : Whole) (page b : ℕ) (r : Readings) (m : Made) (xs : List Made) → Legal f (triples k (m ∷ xs) ++ l) → b < 256
     → ShowsHere page (b / 64) r m xs → r b ≡ (bit_of (triples k xs ++ l) (page * 256 + b) || holds xs (page * 256 + b))
-shown f k l page b r m xs legal lt s = search (arith, free_read, word_of_page)
+shown f k l page b r m xs legal lt s = search (arith, free_read)
 
 -- A grain of a page is free where its bit is set.
 pub of_page : (l : Whole) (page b : ℕ) → free_of_page l page b ≡ bit_of l (page * 256 + b)
@@ -275,14 +256,11 @@ deed_exit f k l p (m ∷ xs) legal (inr h) =
 -- where there is no deed there was none
 pub deed_none : (k : ℕ) (l : Whole) (p : ℕ) (xs : List Made) → word_after (triples k xs ++ l) (Word.Deed p) ≡ 0 → word_after l (Word.Deed p) ≡ 0
 deed_none k l p [] h = h
-deed_none k l p (m ∷ xs) h = deed_none k l p xs (deed_was_none (triples k xs ++ l) (triple k m) p h)
+deed_none k l p (m ∷ xs) h = deed_none k l p xs (search (arith, word_stays))
 
 -- ==== Where the right of a page is before and after the steps.
 
 -- ---- a page whose right the call never had stays where it was
-stays_put : (k : ℕ) (w : Way) (o : Spot) → had_after w false ≡ false → Suits k w o → (o ≡ With k → ⊥) → spot_after k w o ≡ o
-stays_put k s o lacks suits not_with = grind (arith, true≢false)
-
 -- A right that is with an actor is with just that actor.
 pub is_with_own : (k : ℕ) → is_with k (With k) ≡ true
 is_with_own k = eq-eqb k k refl
@@ -295,7 +273,7 @@ pub spot_same : (f : Profile) (k : ℕ) (l : Whole) (p : ℕ) (xs : List Made) �
     → Always (LacksAfter p) xs → spot_of (triples k xs ++ l) p ≡ spot_of l p
 spot_same f k l p [] legal none lacks = refl
 spot_same f k l p (m ∷ xs) legal none lacks =
-    search (arith, spotted, lacks_now, part_of_own, right_own, stays_put, step_suits, not_with, spot_same f k l p xs legal.1 none lacks.1)
+    search (arith, spotted, lacks_now, part_of_own, right_own, true≢false, step_suits, not_with, spot_same f k l p xs legal.1 none lacks.1)
 
 -- ---- readings of the page's bits
 eligible_read : (d : Directory) (p : ℕ) (s : Step) (w : Whole) → ReadsEligible d p s
@@ -346,14 +324,8 @@ deed_later k l p [] some = refl
 deed_later k l p (m ∷ xs) some = let e = deed_later k l p xs some in deed_kept (triples k xs ++ l) (triple k m) p (λ z. some (sym e ∙ z)) ∙ e
 
 -- ---- an actor that has a right knows the page's deed
-got_if : (t : Bool) (w : Way) → had_after (if t then w else Rests) false ≡ true → (t ≡ true) × (had_after w false ≡ true)
-got_if t w h = grind (arith, false≢true)
-
-deed_here : (t z : Bool) (d : Directory) (a known : ℕ) → t ≡ true → z ≡ true → (if t then (if z then deed_word_of d else a) else known) ≢ 0
-deed_here t z d a known ht hz e = search (arith, deed_word_of-positive)
-
 gains_known : (f : Profile) (v : View) (s : Step) (a p : ℕ) → Allowed f v s → had_after (way s a p) false ≡ true → deed_after s a p (known_deed v p) ≢ 0
-gains_known f v s a p allowed h = search (arith, and_parts, got_if, deed_here, cond_both, numbered_ne, deed_word_of-positive, eqb-true, false≢true)
+gains_known f v s a p allowed h = search (arith, and_parts, false≢true, deed_word_of-positive, cond_both, numbered_ne, eqb-true)
 
 own_known : (f : Profile) (v : View) (m : Made) (p : ℕ) → Allowed f v m.step → Agrees f v m.step m.answer → (has_right v p ≡ true → known_deed v p ≢ 0)
     → (had : Bool) → has_right v p ≡ had → had_after (way m.step m.answer p) had ≡ true → known_deed (m ∷ v) p ≢ 0
@@ -487,9 +459,6 @@ module _ (no_fit : Readings → Type 0) (f : Profile) (d : Directory) (k : ℕ) 
     fits = fit_entry no_fit f k l page shows.readings xs fewer valid legal lends shows.fits shows.read shows.none_held;
   }
 
-  bare_page : (page : ℕ) → ShowsBare f d page xs → IsBarePage f l page
-  bare_page page shows = record { of_region = shows.of_region; no_deed = deed_made f k l d page xs legal shows.made }
-
   -- ---- no page is in another's hands
   nobody_holds : (page : ℕ) → ShowsNone no_fit f d xs → ShowsHeld f d (part k l) page xs → ⊥
   nobody_holds page none shows =
@@ -507,7 +476,7 @@ module _ (no_fit : Readings → Type 0) (f : Profile) (d : Directory) (k : ℕ) 
   -- An answer that one actor's steps show is true of the state.
   plain : (answer : Result ℕ NoRoom) → ShowsAnswer no_fit f d (part k l) xs answer → IsPlainAnswer no_fit f d l answer
   plain (Ok page) (inl shows) = record { not_held = λ p bad. absurd cc; none_fits = λ bad. absurd cc; no_space = λ none. absurd (none.offered page (offered_fits page shows)) }
-  plain (Ok page) (inr shows) = record { not_held = λ p bad. absurd cc; none_fits = λ bad. absurd cc; no_space = λ none. absurd (none.bare page (bare_page page shows)) }
+  plain (Ok page) (inr shows) = record { not_held = λ p bad. absurd cc; none_fits = λ bad. absurd cc; no_space = λ none. absurd (none.bare page (record { of_region = shows.of_region; no_deed = deed_made f k l d page xs legal shows.made })) }
   plain (Err NoSpace) shows = record { not_held = λ p bad. absurd cc; none_fits = λ is. none_serves no_fit f k l d xs fewer legal lends shows.searched shows.deeds shows.quiet; no_space = λ none. refl }
   plain (Err (NoRoom.Held page)) shows = absurd (nobody_holds page shows.0 shows.1)
 

@@ -85,15 +85,9 @@ pub record IsSpotted (l : Whole) (p : ℕ) : Type 0 where
   pub known : (k : ℕ) → IsKnown (known_deed (part k l) p) (word_after l (Word.Deed p))
 
 -- ---- the spots, from their tests
-is_with-true : (k : ℕ) (o : Spot) → is_with k o ≡ true → o ≡ With k
-is_with-true k s h = grind (arith, eqb-true, false≢true)
-
 -- A right that passes as offered to a directory's number is offered there.
 pub is_offered-true : (n : ℕ) (o : Spot) → is_offered n o ≡ true → o ≡ Offered n
 is_offered-true n s h = grind (arith, eqb-true, false≢true)
-
-is_parked-true : (o : Spot) → is_parked o ≡ true → o ≡ InParked
-is_parked-true s h = grind (arith, false≢true)
 
 -- The right of a page without a deed is nowhere.
 pub no_deed : (o : Spot) → DeedFits o 0 → o ≡ Nowhere
@@ -104,34 +98,17 @@ somewhere : (o : Spot) (word : ℕ) → DeedFits o word → is_nowhere o ≡ fal
 somewhere s word h e = grind (arith, false≢true, numbered_ne)
 
 -- ---- the ways, whatever the step
-own_after : (m : Way) (o : Spot) (j k : ℕ) (had : Bool) → had ≡ is_with k o → (j == k) ≡ true → had_after m had ≡ is_with k (spot_after j m o)
-own_after s o j k had is e = grind arith
-
--- What an actor has that made no step is what the spot says: by each move from each spot.
-other_after : (m : Way) (o : Spot) (j k : ℕ) (had : Bool) → had ≡ is_with k o → Suits j m o → (j == k) ≡ false → had ≡ is_with k (spot_after j m o)
-other_after s o j k had is fits e = grind arith
-
 abbrev parked_moved : Way → Bool → Bool
 parked_moved FromParked was = false
 parked_moved ToParked was = true
 parked_moved s was = was
-
--- So it is for what is parked.
-parked_next : (j : ℕ) (m : Way) (o : Spot) → Suits j m o → parked_moved m (is_parked o) ≡ is_parked (spot_after j m o)
-parked_next j s o h = grind arith
 
 abbrev offered_moved : Way → ℕ → Bool → Bool
 offered_moved (FromOffer m) n was = if m == n then false else was
 offered_moved (ToOffer m) n was = if m == n then true else was
 offered_moved s n was = was
 
-offered_next : (j : ℕ) (m : Way) (n : ℕ) (o : Spot) → Suits j m o → offered_moved m n (is_offered n o) ≡ is_offered n (spot_after j m o)
-offered_next j s n o h = grind (arith, if_false, if_true)
-
 -- ---- the parked words
-unpark_cases : (y g was : Bool) → (y ≡ true → g ≡ was) → (if y then false else was) ≡ parked_moved (if y && g then FromParked else Rests) was
-unpark_cases y g was h = grind arith
-
 -- A page is parked where it was, or where it is parked now.
 park_cases : (y was : Bool) → (if y then true else was) ≡ parked_moved (if y then ToParked else Rests) was
 park_cases y was = grind arith
@@ -139,59 +116,32 @@ park_cases y was = grind arith
 parked_rests : (y was : Bool) (m : Way) → ((b : Bool) → parked_moved m b ≡ b) → was ≡ parked_moved (if y then m else Rests) was
 parked_rests y was m h = cond_both y m Rests (λ x. was ≡ parked_moved x was) (λ here. sym (h was)) (λ other. refl)
 
-parked_step : (l : Whole) (e : ℕ) (s : Step) (a p : ℕ) → a ≡ word_after l (target s)
-    → has_bit (next_value e s (Word.Parked (p / 64)) (word_after l (Word.Parked (p / 64)))) (p % 64) ≡ parked_moved (way s a p) (parked_bit l p)
-parked_step l e s a p is = search (arith, parked_rests, page_bit-set, park_cases, page_bit-clear, unpark_cases, eqb-true)
-
 -- ---- the eligible words
-take_right_cases : (x y g was : Bool) (m n : ℕ) → (m == n) ≡ x → (x ≡ true → y ≡ true → g ≡ was)
-    → (if x && y then false else was) ≡ offered_moved (if y && g then FromOffer m else Rests) n was
-take_right_cases x y g was m n e h = grind arith
-
--- A page is offered where it was, or where it is offered now: of this directory.
-offer_cases : (x y was : Bool) (m n : ℕ) → (m == n) ≡ x → (if x && y then true else was) ≡ offered_moved (if y then ToOffer m else Rests) n was
-offer_cases x y was m n e = grind arith
-
 offered_rests : (y was : Bool) (n : ℕ) (m : Way) → ((b : Bool) → offered_moved m n b ≡ b) → was ≡ offered_moved (if y then m else Rests) n was
 offered_rests y was n m h = cond_both y m Rests (λ x. was ≡ offered_moved x n was) (λ here. sym (h was)) (λ other. refl)
 
-eligible_at : (l : Whole) (a m n q p : ℕ) → a ≡ word_after l (Word.Eligible m (q / 64)) → (m == n) ≡ true → (q == p) ≡ true
-    → has_bit a (p % 64) ≡ eligible_bit l n p
-eligible_at l a m n q p is x y = search (arith, eqb-true)
-
 eligible_step : (l : Whole) (e : ℕ) (s : Step) (a p n : ℕ) → a ≡ word_after l (target s)
     → has_bit (next_value e s (Word.Eligible n (p / 64)) (word_after l (Word.Eligible n (p / 64)))) (p % 64) ≡ offered_moved (way s a p) n (eligible_bit l n p)
-eligible_step l e (TakeRight q d) a p n is = search (arith, page_bit-clear, take_right_cases, eligible_at)
-eligible_step l e (Offer q d) a p n is = search (arith, page_bit-set, offer_cases)
+eligible_step l e (TakeRight q d) a p n is = search (arith, page_bit-clear, eqb-true)
+eligible_step l e (Offer q d) a p n is = search (arith, page_bit-set)
 eligible_step l e s a p n is = search (arith, looked, offered_rests)
 
 -- ---- a legal step's way suits
 suits_if : (j : ℕ) (m : Way) (o : Spot) (t : Bool) → (t ≡ true → Suits j m o) → Suits j (if t then m else Rests) o
 suits_if j m o t h = cond_both t m Rests (λ x. Suits j x o) h (λ other. tt)
 
-offered_here : (l : Whole) (a n j p : ℕ) → IsSpotted l p → a ≡ word_after l (Word.Eligible n j) → j ≡ p / 64 → has_bit a (p % 64) ≡ true
-    → spot_of l p ≡ Offered n
-offered_here l a n j p at is here set = search (arith, is_offered-true)
-
 with_here : (f : Profile) (l : Whole) (j q p : ℕ) → IsSpotted l p → has_right (part j l) q ≡ true → (q == p) ≡ true → spot_of l p ≡ With j
-with_here f l j q p at has h = is_with-true j (spot_of l p) (sym (at.has j) ∙ ap (has_right (part j l)) (sym (eqb-true q p h)) ∙ has)
+with_here f l j q p at has h = grind (arith, eqb-true, false≢true)
 
 -- A legal step finds each right where its move takes it from.
 pub step_suits : (f : Profile) (l : Whole) (j : ℕ) (s : Step) (a p : ℕ) → IsSpotted l p → Allowed f (part j l) s → a ≡ word_after l (target s)
     → Suits j (way s a p) (spot_of l p)
-step_suits f l j s a p at allowed is = search (arith, suits_if, and_parts, eqb-true, offered_here, with_here, is_parked-true)
+step_suits f l j s a p at allowed is = search (arith, suits_if, and_parts, eqb-true, is_offered-true, with_here, false≢true)
 
 suits_then : (j : ℕ) (m : Way) (o : Spot) (t : Bool) → t ≡ true → Suits j (if t then m else Rests) o → Suits j m o
 suits_then j m o t e h = subst (λ b. Suits j (if b then m else Rests) o) e h
 
 -- ---- the deed word at each spot
-deed_ne : (n m : ℕ) → m ≢ 0 → (t : Bool) → (n == 0) ≡ t → (if t then m else n) ≢ 0
-deed_ne n m h t e = grind (arith, nat_tests)
-
-deed_fits : (y z : Bool) (d : Directory) (n j : ℕ) (o : Spot) → (y ≡ true → (n == 0) ≡ z) → DeedFits o n
-    → DeedFits (spot_after j (if y && z then ByDeed else Rests) o) (if y then (if n == 0 then deed_word_of d else n) else n)
-deed_fits y z d n j o h fits = grind (arith, deed_ne, deed_word_of-positive)
-
 moved_fits : (y : Bool) (m : Way) (n j : ℕ) (o : Spot) → (y ≡ true → DeedFits (spot_after j m o) n) → DeedFits o n
     → DeedFits (spot_after j (if y then m else Rests) o) n
 moved_fits y m n j o go fits = cond_both y m Rests (λ x. DeedFits (spot_after j x o) n) go (λ other. fits)
@@ -201,25 +151,11 @@ known_here : (l : Whole) (j q p : ℕ) (d : Directory) → IsSpotted l p → kno
     → word_after l (Word.Deed p) ≡ deed_word_of d
 known_here l j q p d at knows h = search (arith, eqb-true, known_is, deed_word_of-positive)
 
-fits_step : (f : Profile) (l : Whole) (j e : ℕ) (s : Step) (a p : ℕ) → IsSpotted l p → IsStepOf f s → Allowed f (part j l) s → a ≡ word_after l (target s)
-    → Suits j (way s a p) (spot_of l p)
-    → DeedFits (spot_after j (way s a p) (spot_of l p)) (next_value e s (Word.Deed p) (word_after l (Word.Deed p)))
-fits_step f l j e s a p at of allowed is suits = search (arith, deed_fits, eqb-true, moved_fits, somewhere, suits_then, known_here, numbered)
-
 -- ---- what is known of deeds
--- a set bit of an eligible word tells the deed
-eligible_tells : (y : Bool) (word known n : ℕ) → (y ≡ true → word ≡ deed_word_numbered n) → IsKnown known word
-    → IsKnown (if y then deed_word_numbered n else known) word
-eligible_tells y word known n is h = grind arith
-
-offered_deed : (l : Whole) (a n j p : ℕ) → IsSpotted l p → a ≡ word_after l (Word.Eligible n j) → ((j == p / 64) && has_bit a (p % 64)) ≡ true
-    → word_after l (Word.Deed p) ≡ deed_word_numbered n
-offered_deed l a n j p at is h = search (arith, and_parts, offered_here, eqb-true)
-
 -- an actor's own step tells it the word
 deed_learns : (l : Whole) (e : ℕ) (s : Step) (a p known : ℕ) → IsSpotted l p → a ≡ word_after l (target s) → IsKnown known (word_after l (Word.Deed p))
     → IsKnown (deed_after s a p known) (next_value e s (Word.Deed p) (word_after l (Word.Deed p)))
-deed_learns l e s a p known at is h = search (arith, look_tells, deed_at, eligible_tells, offered_deed, deed_tells)
+deed_learns l e s a p known at is h = search (arith, look_tells, deed_at, and_parts, is_offered-true, eqb-true, deed_tells)
 
 -- ---- the induction
 -- the right of each page is at one spot
@@ -234,10 +170,10 @@ spotted f (t ∷ l) legal p =
     let next : IsNext f l t = legal.0 in
     let suits : Suits j (way s a p) (spot_of l p) = step_suits f l j s a p at next.allowed next.answer_is in
     record {
-      has = λ k. cond_both (j == k) (t.made ∷ part k l) (part k l) (λ v. has_right v p ≡ is_with k (spot_of (t ∷ l) p)) (own_after _ _ j k _ (at.has k)) (other_after _ _ j k _ (at.has k) suits);
-      eligible = λ n. eligible_step l e s a p n next.answer_is ∙ ap (offered_moved (way s a p) n) (at.eligible n) ∙ offered_next j _ n _ suits;
-      parked = parked_step l e s a p next.answer_is ∙ ap (parked_moved (way s a p)) at.parked ∙ parked_next j _ _ suits;
-      deed = fits_step f l j e s a p at next.of_region next.allowed next.answer_is suits;
+      has = λ k. cond_both (j == k) (t.made ∷ part k l) (part k l) (λ v. has_right v p ≡ is_with k (spot_of (t ∷ l) p)) (λ e. grind arith) (λ e. grind arith);
+      eligible = λ n. eligible_step l e s a p n next.answer_is ∙ ap (offered_moved (way s a p) n) (at.eligible n) ∙ (grind (arith, if_false, if_true));
+      parked = (search (arith, parked_rests, page_bit-set, park_cases, page_bit-clear, eqb-true)) ∙ ap (parked_moved (way s a p)) at.parked ∙ (grind arith);
+      deed = search (arith, nat_tests, deed_word_of-positive, eqb-true, moved_fits, somewhere, suits_then, known_here, numbered);
       known = λ k. cond_both (j == k) (t.made ∷ part k l) (part k l) (λ v. IsKnown (known_deed v p) (word_after (t ∷ l) (Word.Deed p)))
           (λ own. deed_learns l e s a p _ at next.answer_is (at.known k)) (λ other. word_stays e s p _ _ (at.known k));
     }
@@ -249,12 +185,12 @@ spotted f (t ∷ l) legal p =
 pub one_has_right : (f : Profile) (l : Whole) → Legal f l → (j k p : ℕ) → has_right (part j l) p ≡ true → has_right (part k l) p ≡ true → j ≡ k
 one_has_right f l legal j k p hj hk =
     let at : IsSpotted l p = spotted f l legal p in
-    let there : spot_of l p ≡ With j = is_with-true j _ (sym (at.has j) ∙ hj) in
+    let there : spot_of l p ≡ With j = (grind (arith, eqb-true, false≢true)) in
     eqb-true j k (sym (ap (is_with k) there) ∙ sym (at.has k) ∙ hk)
 
 -- the spot of a right that an actor has, that is offered, or that is parked
 with_spot : (l : Whole) (k p : ℕ) → IsSpotted l p → has_right (part k l) p ≡ true → spot_of l p ≡ With k
-with_spot l k p at h = is_with-true k (spot_of l p) (sym (at.has k) ∙ h)
+with_spot l k p at h = grind (arith, eqb-true, false≢true)
 
 -- A page whose eligible bit is set has its right offered in that directory's vector.
 pub offered_spot : (l : Whole) (n p : ℕ) → IsSpotted l p → eligible_bit l n p ≡ true → spot_of l p ≡ Offered n
@@ -262,7 +198,7 @@ offered_spot l n p at h = is_offered-true n (spot_of l p) (sym (at.eligible n) �
 
 -- A page whose parked bit is set has its right parked.
 pub parked_spot : (l : Whole) (p : ℕ) → IsSpotted l p → parked_bit l p ≡ true → spot_of l p ≡ InParked
-parked_spot l p at h = is_parked-true (spot_of l p) (sym at.parked ∙ h)
+parked_spot l p at h = grind (arith, false≢true)
 
 deed_at_spot : (l : Whole) (p : ℕ) (o : Spot) → IsSpotted l p → spot_of l p ≡ o → DeedFits o (word_after l (Word.Deed p))
 deed_at_spot l p o at is = subst (λ x. DeedFits x (word_after l (Word.Deed p))) is at.deed
@@ -274,10 +210,6 @@ right_has_deed f l legal k p h = let at : IsSpotted l p = spotted f l legal p in
 -- a page that is offered in the vector of a directory's number has the deed of that directory
 pub offered_has_deed : (f : Profile) (l : Whole) → Legal f l → (n p : ℕ) → eligible_bit l n p ≡ true → word_after l (Word.Deed p) ≡ deed_word_numbered n
 offered_has_deed f l legal n p h = let at : IsSpotted l p = spotted f l legal p in deed_at_spot l p (Offered n) at (offered_spot l n p at h)
-
--- a page that is parked has a deed
-parked_has_deed : (f : Profile) (l : Whole) → Legal f l → (p : ℕ) → parked_bit l p ≡ true → word_after l (Word.Deed p) ≢ 0
-parked_has_deed f l legal p h = let at : IsSpotted l p = spotted f l legal p in deed_at_spot l p InParked at (parked_spot l p at h)
 
 -- whoever has a right sees it neither offered nor parked
 pub right_not_offered : (f : Profile) (l : Whole) → Legal f l → (k n p : ℕ) → has_right (part k l) p ≡ true → eligible_bit l n p ≡ false
@@ -325,20 +257,12 @@ offered_page f l legal n p h = deed_has_page f l legal p (λ z. numbered_ne n (s
 
 -- A page whose parked bit is set is one of the region.
 pub parked_page : (f : Profile) (l : Whole) → Legal f l → (p : ℕ) → parked_bit l p ≡ true → IsPage f p
-parked_page f l legal p h = deed_has_page f l legal p (parked_has_deed f l legal p h)
-
-hint_if : (f : Profile) (x was : Bool) (q p : ℕ) → (q == p) ≡ x → IsPage f q → (was ≡ true → IsPage f p) → (if x then true else was) ≡ true → IsPage f p
-hint_if f x was q p e of h set = grind (arith, eqb-true)
-
--- What is hinted as empty after a step is a page of the region, as what was hinted before it is.
-hint_next : (f : Profile) (e : ℕ) (s : Step) (p old : ℕ) → IsStepOf f s → (has_bit old (p % 64) ≡ true → IsPage f p)
-    → has_bit (next_value e s (Word.Empty (p / 64)) old) (p % 64) ≡ true → IsPage f p
-hint_next f e s p old of h set = search (arith, hint_if, page_bit-set, was_set, page_bit-clear)
+parked_page f l legal p h = deed_has_page f l legal p (let at : IsSpotted l p = spotted f l legal p in deed_at_spot l p InParked at (parked_spot l p at h))
 
 -- A page whose empty bit is set is one of the region.
 pub hinted_page : (f : Profile) (l : Whole) → Legal f l → (p : ℕ) → empty_bit l p ≡ true → IsPage f p
 hinted_page f [] legal p h = absurd (false≢true (sym (none_of_zero (p % 64)) ∙ h))
-hinted_page f (t ∷ l) legal p h = search (arith, hint_next, hinted_page f l legal.1 p)
+hinted_page f (t ∷ l) legal p h = search (arith, eqb-true, page_bit-set, was_set, page_bit-clear, hinted_page f l legal.1 p)
 
 -- ---- free grains
 -- the free bit of a grain
@@ -356,34 +280,16 @@ leaves (Offer q d) p = q == p
 leaves (Park q) p = q == p
 leaves s p = false
 
-take_keeps : (x y : Bool) (old mask b : ℕ) → mask < 2 ^ 64 → b < 64 → (x && y && has_bit mask b) ≡ false → has_bit old b ≡ true
-    → has_bit (if x && y then bit_and old (bit_not w64 mask) else old) b ≡ true
-take_keeps x y old mask b hm hb misses h = grind (arith, bit_cleared)
-
 -- A put keeps each free bit that was set.
 pub put_keeps : (x : Bool) (old mask b : ℕ) → has_bit old b ≡ true → has_bit (if x then bit_or old mask else old) b ≡ true
 put_keeps x old mask b h = grind (arith, bit_of_or, or_left)
 
--- a step that doesn't take a free grain leaves it free
-free_stays : (f : Profile) (e : ℕ) (s : Step) (g old : ℕ) → IsStepOf f s → takes s g ≡ false → has_bit old (g % 64) ≡ true
-    → has_bit (next_value e s (free_word_at g) old) (g % 64) ≡ true
-free_stays f e s g old of misses h = grind (arith, looked, take_keeps, put_keeps)
-
 takes_page : (q w mask g : ℕ) → in_mask q w mask g ≡ true → q ≡ g / 256
 takes_page q w mask g h = search (arith, and_parts, eqb-true)
 
--- only the actor that has the right takes
-takes_with : (f : Profile) (l : Whole) (j : ℕ) (s : Step) (g : ℕ) → IsSpotted l (g / 256) → Allowed f (part j l) s → takes s g ≡ true
-    → spot_of l (g / 256) ≡ With j
-takes_with f l j s g at allowed h = grind (arith, is_with-true, takes_page, false≢true)
-
 takes_not : (f : Profile) (l : Whole) (j : ℕ) (s : Step) (g : ℕ) → IsSpotted l (g / 256) → Allowed f (part j l) s → (spot_of l (g / 256) ≡ With j → ⊥)
     → takes s g ≡ false
-takes_not f l j s g at allowed never = false_from_ne_true (takes s g) (λ h. never (takes_with f l j s g at allowed h))
-
--- No step leads nowhere from a spot: by each move.
-was_nowhere : (j : ℕ) (m : Way) (o : Spot) → spot_after j m o ≡ Nowhere → o ≡ Nowhere
-was_nowhere j s o h = grind arith
+takes_not f l j s g at allowed never = false_from_ne_true (takes s g) (λ h. never (grind (arith, eqb-true, false≢true, takes_page)))
 
 with_differs : (j k : ℕ) (o : Spot) → o ≡ With k → (j == k) ≡ false → o ≡ With j → ⊥
 with_differs j k o h ne g = let e : With j ≡ With k = sym g ∙ h in let same : j ≡ k = cc in eqb-false j k ne same
@@ -406,14 +312,6 @@ tells_free (Look (Word.Free q w)) a g right = (w == g / 64 % 4) && (q == g / 256
 tells_free (Deed q d) a g right = (q == g / 256) && (a == 0)
 tells_free s a g right = false
 
--- A step that tells of a thing: it is known where it was, or is this one.
-tells_or : (x known : Bool) → (if x then true else known) ≡ (x || (not false && not false && known))
-tells_or x known = grind arith
-
--- A step that takes a thing: it is known where it was, and isn't this one.
-takes_or : (x known : Bool) → (if x then false else known) ≡ (false || (not x && not false && known))
-takes_or x known = grind arith
-
 -- A step that leaves a thing: it is known where it was, and isn't this one.
 leaves_or : (x known : Bool) → (if x then false else known) ≡ (false || (not false && not x && known))
 leaves_or x known = grind arith
@@ -421,7 +319,7 @@ leaves_or x known = grind arith
 -- a grain is known as free if the step tells so, or if it was, and the step neither takes it nor gives the right away
 free_after-is : (s : Step) (a g : ℕ) (right known : Bool)
     → free_after s a g right known ≡ (tells_free s a g right || (not (takes s g) && not (leaves s (g / 256)) && known))
-free_after-is s a g right known = grind (arith, tells_or, takes_or, leaves_or)
+free_after-is s a g right known = grind (arith, leaves_or)
 
 -- Where both tests fail and the third passes, each is known.
 not_from : (x z y : Bool) → (not x && not z && y) ≡ true → (x ≡ false) × (z ≡ false) × (y ≡ true)
@@ -431,7 +329,7 @@ not_from x z y h = grind arith
 told_free : (f : Profile) (l : Whole) (j e : ℕ) (s : Step) (a g : ℕ) → IsSpotted l (g / 256) → IsClear l g → Allowed f (part j l) s
     → a ≡ word_after l (target s) → tells_free s a g (has_right (part j l) (g / 256)) ≡ true
     → Known j (spot_after j (way s a (g / 256)) (spot_of l (g / 256))) (has_bit (next_value e s (free_word_at g) (word_after l (free_word_at g))) (g % 64))
-told_free f l j e s a g at clear allowed is h = search (arith, and_parts, eqb-true, is_with-true, step_suits, false≢true)
+told_free f l j e s a g at clear allowed is h = search (arith, and_parts, eqb-true, false≢true, step_suits)
 
 -- an actor's own step leaves it a right that it has and doesn't give away
 moved_spot : (j : ℕ) (m : Way) (o : Spot) (x : Bool) → (x ≡ true → spot_after j m o ≡ With j) → o ≡ With j → spot_after j (if x then m else Rests) o ≡ With j
@@ -439,20 +337,6 @@ moved_spot j m o x new old = cond_both x m Rests (λ w. spot_after j w o ≡ Wit
 
 own_spot : (j : ℕ) (s : Step) (a p : ℕ) (o : Spot) → leaves s p ≡ false → o ≡ With j → spot_after j (way s a p) o ≡ With j
 own_spot j s a p o stays h = grind (arith, moved_spot, false≢true)
-
--- what follows for the actor that made the step
-own_free : (f : Profile) (l : Whole) (j e : ℕ) (s : Step) (a g : ℕ) → IsSpotted l (g / 256) → IsClear l g → IsStepOf f s → Allowed f (part j l) s
-    → a ≡ word_after l (target s)
-    → free_after s a g (has_right (part j l) (g / 256)) (known_free (part j l) g) ≡ true
-    → Known j (spot_after j (way s a (g / 256)) (spot_of l (g / 256))) (has_bit (next_value e s (free_word_at g) (word_after l (free_word_at g))) (g % 64))
-own_free f l j e s a g at clear of allowed is h = search (arith, or_cases, free_after-is, told_free, not_from, own_spot, free_stays)
-
--- and for another, whose right stays and whose grains nobody takes
-other_free : (f : Profile) (l : Whole) (j k e : ℕ) (s : Step) (a g : ℕ) → IsSpotted l (g / 256) → IsClear l g → IsStepOf f s → Allowed f (part j l) s
-    → a ≡ word_after l (target s) → (j == k) ≡ false → known_free (part k l) g ≡ true
-    → Known k (spot_after j (way s a (g / 256)) (spot_of l (g / 256))) (has_bit (next_value e s (free_word_at g) (word_after l (free_word_at g))) (g % 64))
-other_free f l j k e s a g at clear of allowed is ne h =
-    search (arith, other_spot, step_suits, free_stays, takes_not, with_differs)
 
 nowhere_not_with : (j : ℕ) (o : Spot) → o ≡ Nowhere → o ≡ With j → ⊥
 nowhere_not_with j o h g = let e : Nowhere ≡ With j = sym h ∙ g in absurd cc
@@ -469,12 +353,12 @@ cleared f (t ∷ l) legal g =
     let j = t.actor in
     let e : ℕ = epoch_of (part t.actor l) in
     record {
-      bare = search (arith, was_nowhere, free_stays, takes_not, nowhere_not_with);
+      bare = search (arith, looked, bit_cleared, put_keeps, takes_not, nowhere_not_with);
       free = λ k. cond_both (j == k) (t.made ∷ part k l) (part k l) (λ v. known_free v g ≡ true → Known k (spot_of (t ∷ l) (g / 256)) (free_bit (t ∷ l) g))
           (λ same h. let e' : j ≡ k = eqb-true j k same in
-          subst (λ i. Known i (spot_of (t ∷ l) (g / 256)) (free_bit (t ∷ l) g)) e' (own_free f l j e s a g at clear next.of_region next.allowed next.answer_is
-          (ap (λ i. free_after s a g (has_right (part i l) (g / 256)) (known_free (part i l) g)) e' ∙ h)))
-          (λ ne h. other_free f l j k e s a g at clear next.of_region next.allowed next.answer_is ne h);
+          subst (λ i. Known i (spot_of (t ∷ l) (g / 256)) (free_bit (t ∷ l) g)) e'
+          (search (arith, or_cases, free_after-is, told_free, not_from, own_spot, looked, bit_cleared, put_keeps)))
+          (λ ne h. (search (arith, other_spot, step_suits, looked, bit_cleared, put_keeps, takes_not, with_differs)));
     }
 
 -- a grain that a view knows as free is free
@@ -502,17 +386,10 @@ deeds_known f l legal k p = let at : IsSpotted l p = spotted f l legal p in at.k
 or_one : (old : ℕ) → old ≤ 1 → bit_or old 1 ≡ 1
 or_one old h = elim (cases_eq old 0) [ inl e ↦ ap (λ n. bit_or n 1) e | inr ne ↦ let one : old ≡ 1 = omega arith in ap (λ n. bit_or n 1) one ]
 
-backed_next : (e : ℕ) (s : Step) (p old : ℕ) → old ≤ 1 → next_value e s (Word.Backed p) old ≤ 1
-backed_next e s p old h = grind (arith, looked, cond_both, or_one)
-
 -- a backed word is 0 or 1
 pub backed_small : (f : Profile) (l : Whole) → Legal f l → (p : ℕ) → word_after l (Word.Backed p) ≤ 1
 backed_small f [] legal p = omega arith
-backed_small f (t ∷ l) legal p = backed_next (epoch_of (part t.actor l)) t.made.step p (word_after l (Word.Backed p)) (backed_small f l legal.1 p)
-
--- a page that is backed stays so, but where the step ends its backing
-backed_stays : (e : ℕ) (s : Step) (p old : ℕ) → unbacks s p ≡ false → old ≡ 1 → next_value e s (Word.Backed p) old ≡ 1
-backed_stays e s p old keep h = grind (arith, looked, cond_both)
+backed_small f (t ∷ l) legal p = grind (arith, looked, cond_both, or_one, backed_small f l legal.1 p)
 
 back_tells : (x known : Bool) (old : ℕ) → old ≤ 1 → (known ≡ true → old ≡ 1) → (if x then true else known) ≡ true → (if x then bit_or old 1 else old) ≡ 1
 back_tells x known old small was told = grind (arith, or_one)
@@ -520,16 +397,6 @@ back_tells x known old small was told = grind (arith, or_one)
 -- A page that is known as backed after a backing ended is another, and its word stands.
 unback_tells : (x known : Bool) (old : ℕ) → (known ≡ true → old ≡ 1) → (if x then false else known) ≡ true → (if x then 0 else old) ≡ 1
 unback_tells x known old h e = grind arith
-
-look_backed : (x known : Bool) (old a : ℕ) → (x ≡ true → a ≡ old) → (known ≡ true → old ≡ 1) → (if x then a == 1 else known) ≡ true
-    → (if x then old else old) ≡ 1
-look_backed x known old a h e k = grind (arith, nat_tests)
-
--- an actor's own step tells it that the page is backed only where it is
-backed_learns : (l : Whole) (e : ℕ) (s : Step) (a p : ℕ) (known : Bool) → a ≡ word_after l (target s) → word_after l (Word.Backed p) ≤ 1
-    → (known ≡ true → word_after l (Word.Backed p) ≡ 1) → backed_after s a p known ≡ true
-    → next_value e s (Word.Backed p) (word_after l (Word.Backed p)) ≡ 1
-backed_learns l e s a p known is small was told = grind (arith, look_backed, eqb-true, back_tells, unback_tells)
 
 -- only an actor that holds each grain of a page ends its backing
 allowed_at : (f : Profile) (v : View) (q p : ℕ) → MayUnback f v q → q ≡ p → (g : ℕ) → g / 256 ≡ p → holds v g ≡ true
@@ -550,6 +417,5 @@ other_unbacks f l valid legal t k p next other held = false_from_ne_true (unback
 -- a page that a view knows as backed is
 pub backed_known : (f : Profile) (l : Whole) → IsValid f → Legal f l → (k p : ℕ) → knows_backed (part k l) p ≡ true → word_after l (Word.Backed p) ≡ 1
 backed_known f l valid legal k p = each_part f (λ l k v. knows_backed v p ≡ true → word_after l (Word.Backed p) ≡ 1) (λ k told. absurd (false≢true told))
-    (λ t l legal before h. backed_learns l _ _ _ p _ legal.0.answer_is (backed_small f l legal.1 p) before
-    (and_parts (backed_after t.made.step t.made.answer p (knows_backed (part t.actor l) p)) (holds_on (t.made ∷ part t.actor l) p) h).0)
-    (λ t l k legal other before h. backed_stays _ _ p _ (other_unbacks f l valid legal.1 t k p legal.0 other (backed_holds (part k l) p h)) (before h)) l legal k
+    (λ t l legal before h. (grind (arith, nat_tests, eqb-true, back_tells, unback_tells, backed_small f l legal.1 p, (and_parts (backed_after t.made.step t.made.answer p (knows_backed (part t.actor l) p)) (holds_on (t.made ∷ part t.actor l) p) h).0)))
+    (λ t l k legal other before h. (grind (arith, looked, cond_both, other_unbacks f l valid legal.1 t k p legal.0 other (backed_holds (part k l) p h)))) l legal k

@@ -35,9 +35,6 @@ use Rattle.pas_search.proofs.{FindingAPage.OwnLacks, FindingAPage.still_lacks, F
 may_claim_named : (d : Directory) (first end : ℕ) (v : View) → MayFind d v → MayClaimPages d first end v
 may_claim_named d first end v met = record { lacks = λ p low high knows. met.lacks p knows; clear = met.clear }
 
-some_none : (first : ℕ) (found : Option ℕ) → found ≡ Some first → found ≡ None → ⊥
-some_none first found named none = cc
-
 -- what may be spent with a run that was named
 named_steps : (n first : ℕ) (found : Option ℕ) → found ≡ Some first → missed_steps found n ≡ 48 * n
 named_steps n first found named = ap (λ o. missed_steps o n) named
@@ -71,7 +68,7 @@ misses_named d n first page found named claim = record {
   returns = claim.returns;
   shows = claim.shows;
   outcome = record {
-    unnamed = λ none. absurd (some_none first found named none);
+    unnamed = λ none. absurd (cc);
     missed = λ other is some within. let same : first ≡ other = let both = sym named ∙ is in cc in (page, subst (λ s. IsInRun s n page) same claim.outcome.in_run, claim.outcome.missed refl);
     still = leads_as claim.outcome.still (λ v met. may_claim_named d first (first + n) v met) (λ v w met does. does);
     lacks = subst LacksAll (append-nil claim.steps) (claim.outcome.lacks [] (λ p. refl));
@@ -96,16 +93,9 @@ module _ {σ σ1 : Standing} {d : Directory} {n first : ℕ} {tells : Bool} (fin
   pub room_to_give_run : (spare spare1 : ℕ) → CanCall σ (FindRoom σ.seat.profile d (n + 1) spare) → Spares σ spare → Spares σ1 spare1 → n + 1 ≤ spare1
   room_to_give_run spare spare1 can law law1 = let room = room_after {spare = spare} {spare' = spare1} (n + 1) find.adds (may_find can) find.shows can.met.room law law1 in omega (arith, room)
 
--- the looks of a refusal change nothing
-scan_kind : (s : Step) → IsScan s → is_in looking (kind_of s) ≡ true
-scan_kind s scans = grind arith
-
 -- Steps that scan are looks alone.
 pub scans_only : (steps : List Made) → OnlyScans steps → Only looking steps
-scans_only steps scans = always_map (λ m before. IsScan m.step) _ steps (λ m before is. scan_kind m.step is) scans
-
-scans_lead : (f : Profile) (steps : List Made) → OnlyScans steps → Leads f AnyView (Does nothing) steps
-scans_lead f steps scans = leads_idly f looking refl steps (scans_only steps scans)
+scans_only steps scans = always_map (λ m before. IsScan m.step) _ steps (λ m before is. (grind arith)) scans
 
 large_of : (f : Profile) (heap : ℕ) → heap < f.heaps → IsDirectoryOf f (large_directory heap)
 large_of f heap lt = record { heap = lt; kind = tt; class = tt }
@@ -186,7 +176,7 @@ refuses_large {σ} {σ1} heap n tells find why valid lt laws parts refused =
       scans = refused.scans;
       few = let e = ap (λ (x : Profile). x.pages) same in omega (arith, refused.few, e);
       reason = subst (λ x. IsReason x d (refused.steps ++ find.steps) why) same (refused.reason find.steps find.outcome.lacks);
-      still = leads_then (Does nothing) find.outcome.still (scans_lead f refused.steps refused.scans) (λ v w met does. tt) (λ v w u a b. does_then a b);
+      still = leads_then (Does nothing) find.outcome.still (leads_idly f looking refl refused.steps (scans_only refused.steps refused.scans)) (λ v w met does. tt) (λ v w u a b. does_then a b);
     } in
     record {
       searched = find.steps;
@@ -482,5 +472,6 @@ request_alone {σ} heap n found tells answer call l valid lt legal met =
       none_usable = λ why is. (refused why is).0.0;
       not_held = λ rest page is.
           let told = refused (Held page) is in
-          let space = none_held_there f k d (triples k steps ++ l) (Held page) of legal told.1 (λ j p ne. ap (λ v. has_right v p) (part_of_others j k steps l ne) ∙ rest.rights p j) told.0.2 in cc;
+          let space = none_held_there f k d (triples k steps ++ l) (Held page) of legal told.1
+          (λ j p ne. ap (λ v. has_right v p) (part_of_others j k steps l ne) ∙ rest.rights p j) told.0.2 in cc;
     }

@@ -60,13 +60,7 @@ span_more first page p low = grind (arith, nat_tests)
 not_in : (first page p : ℕ) → first ≤ page → in_span first (page + 1) p ≡ false → p ≢ page
 not_in first page p low out e = true≢false (sym (span_in first (page + 1) p (omega (arith, e, low)) (omega (arith, e))) ∙ out)
 
-span_apart : (first page p : ℕ) → p ≢ page → in_span first page p ≡ false → in_span first (page + 1) p ≡ false
-span_apart first page p ne out = grind (arith, nat_tests)
-
 -- ---- effects on sets of pages
-got_none : (d : Directory) (pages : ℕ → Bool) (v : View) → ((p : ℕ) → pages p ≡ false) → Does nothing v v → GotPages pages d v v
-got_none d pages v none does = search (arith, does_as, true≢false)
-
 -- Pages that were got one after the other are got together.
 pub got_both : {v w u : View} (d : Directory) (a b c : ℕ → Bool) → ((p : ℕ) → (a p || b p) ≡ c p) → GotPages a d v w → GotPages b d w u
     → ((p : ℕ) → KnowsDeed p d w → KnowsDeed p d u) → GotPages c d v u
@@ -156,7 +150,7 @@ none_claimed deeds d first = record {
     rise = tt;
     shows = λ k v agreed. omega arith;
     span = (omega arith, omega arith);
-    got = record { from = λ v met agreed. got_none d (in_span first first) v (span_none first) (does_none v) };
+    got = record { from = λ v met agreed. (search (arith, does_as, true≢false)) };
     holding = λ before alone. record { right = λ p low high. absurd (omega (arith, low, high)); whole = λ p word low high lt. absurd (omega (arith, low, high)) };
     lacks = λ before none p out. none p;
     alone = λ before alone p ge. alone p (omega (arith, ge));
@@ -331,7 +325,8 @@ module _ {σ σ1 : Standing} {deeds : Bool} {d : Directory} {first page : ℕ} (
           from = λ v met agreed.
               let mine = agreed_later σ.seat.profile v ys xs agreed in let next = agreed_first σ.seat.profile v ys xs agreed in
               let new = wins.leads.from (xs ++ v) (page_may v met mine) next in
-              subst (GotPages _ d v) (sym (all_at v)) (got_both d _ (λ q. page == q) _ (λ p. span_more first page p low) (so_got v met mine) new (λ p knows. knows_still σ.seat.profile d p ys (xs ++ v) next knows));
+              subst (GotPages _ d v) (sym (all_at v)) (got_both d _ (λ q. page == q) _ (λ p. span_more first page p low) (so_got v met mine) new
+              (λ p knows. knows_still σ.seat.profile d p ys (xs ++ v) next knows));
         })
         (λ before free. let rest = others_held before free in let alone = below.alone before free page (omega arith) in record {
           right = search (arith, cases_eq, all_at);
@@ -369,13 +364,10 @@ has_got {v} d first stop clear got = record {
   clear = record { on = λ q. got.does.clear q (clear.on q) };
 }
 
-pages_fewer : (d : Directory) (first stop end : ℕ) → stop ≤ end → (v : View) → HasPages d first end v → HasPages d first stop v
-pages_fewer d first stop end le v met = search (arith, span_wider)
-
 -- A call for the first pages of a run is one for whoever has all its pages.
 pub pages_call : {σ σ1 : Standing} {R : View → View → Type 0} {xs : List Made} (d : Directory) (first stop end : ℕ) → stop ≤ end
     → Calls σ σ1 (HasPages d first stop) R xs → Calls σ σ1 (HasPages d first end) R xs
-pages_call {R = R} d first stop end le c = call_as R c (pages_fewer d first stop end le) (λ v w met r. r)
+pages_call {R = R} d first stop end le c = call_as R c (λ v met. search (arith, span_wider)) (λ v w met r. r)
 
 -- and the deeds of these pages are known still
 pub call_knowing : {σ σ1 : Standing} {B : View → Type 0} {R : View → View → Type 0} {xs : List Made} (d : Directory) (pages : ℕ → Bool) → Calls σ σ1 B R xs
@@ -458,7 +450,7 @@ left_more d directory first page low so_far h =
           steady_holds g so_far.steps before (so_far.steady g (span_past first page (g / 256) (omega (arith, at)))) ∙ held g (span_in first (page + 1) (g / 256) (omega (arith, at, low)) (omega (arith, at))))
           (so_far.due before (λ g is. held g (span_wider first page (page + 1) (g / 256) (omega arith) is)) all) h);
       few = let n = length-append ys so_far.steps in omega (arith, n, h.few, so_far.few, low);
-      lacks = search (arith, append_assoc, cases_eq, right_on, span_apart);
+      lacks = search (arith, append_assoc, cases_eq, right_on, nat_tests);
       alone = λ before p ge alone. rw (append_assoc ys so_far.steps before) (alone_on page p ys (so_far.steps ++ before) h.on (λ e. absurd (omega (arith, e, ge))) (so_far.alone before p (omega (arith, ge)) alone));
       steady = λ g out. steady_both g ys so_far.steps (steady_on page g ys h.on (out_of first (page + 1) (g / 256) page out low (omega arith)))
           (so_far.steady g (narrower first page (page + 1) (g / 256) (omega arith) out));
@@ -497,10 +489,6 @@ module _ {σ σ1 : Standing} {deeds : Bool} {d : Directory} {first end stop : �
   pub release_call : CanCall σ (MayClaimPages d first end) → CanCall σ1 (HasPages d first stop)
   release_call can = next_call got_call can may_release
 
-  -- what was got is held by these steps alone
-  own_held : CanCall σ (MayClaimPages d first end) → (g : ℕ) → in_span first stop (g / 256) ≡ true → holds h.steps g ≡ true
-  own_held can g is = search (arith, holds_own)
-
   -- A claim that failed, after which the pages before were left, fails for the whole run at that page.
   pub run_failed : {σ2 : Standing} → CanCall σ (MayClaimPages d first end) → Releases d first stop σ1 σ2 → ClaimsRun deeds d first end σ σ2 (Some stop)
   run_failed can r =
@@ -512,7 +500,7 @@ module _ {σ σ1 : Standing} {deeds : Bool} {d : Directory} {first end stop : �
         adds = calls.adds;
         kinds = only_both claiming r.steps h.steps (only_within giving_back claiming r.steps refl r.kinds) h.kinds;
         old = λ none. only_both claiming_old r.steps h.steps (only_within giving_back claiming_old r.steps refl r.kinds) (h.old none);
-        returns = duly_in _ r.steps h.steps r.within (r.due h.steps (own_held can) (always_map _ _ h.steps (λ m before is. is.1) h.returns))
+        returns = duly_in _ r.steps h.steps r.within (r.due h.steps (λ g is. search (arith, holds_own)) (always_map _ _ h.steps (λ m before is. is.1) h.returns))
             (λ p is. let at = in_parts first stop p is in h.gets p at.0 at.1) h.returns;
         made = deeds_wider d first (stop + 1) end (r.steps ++ h.steps) (omega (arith, before_end)) made_below;
         rise = rise_later giving_back (stop + 1) r.steps h.steps refl r.kinds (deeds_below d first _ (stop + 1) h.steps (omega arith) h.made) h.rise;

@@ -104,7 +104,8 @@ module _ {σ σ1 : Standing} {d : Directory} {first page : ℕ} (end : ℕ) (so_
   pub backed_more : {σ2 : Standing} → end ≡ page + 1 → (a : ℕ) → Makes σ1 σ2 (Back page) a → BacksRun d first end σ σ2
   backed_more last a makes = record {
     steps = made (Back page) a ∷ xs;
-    calls = call_step (BackedRun first end) so_calls makes may_back (λ v met old agrees. subst (λ q. BackedRun first q v (made (Back page) a ∷ (xs ++ v))) (sym last) (now_backed a v met old agrees));
+    calls = call_step (BackedRun first end) so_calls makes may_back
+        (λ v met old agrees. subst (λ q. BackedRun first q v (made (Back page) a ∷ (xs ++ v))) (sym last) (now_backed a v met old agrees));
     order = more_in_turn BackStep first page end (made (Back page) a ∷ []) xs low last (a, refl) so_far.order;
   }
 
@@ -148,17 +149,10 @@ back_events k v [] = omega arith
 back_events k v (m ∷ more) = let rest = back_events k v more in let one = with_few (event_of k (epoch_of (more ++ v)) m.step m.answer) (events_by k v more) in omega (arith, rest, one)
 
 -- ---- the block of a run is given
--- the grains of a run of pages
-run_span : (first n g : ℕ) → in_run (first * 256 + 0) (n * 256) g ≡ in_span first (first + n) (g / 256)
-run_span first n g = search (arith, run_of, span_in, in_parts, to_run)
-
 -- The block of a run covers just the grains of the run's pages.
 pub run_is : (d : Directory) (first n word g : ℕ)
     → in_run (grain_of (run_block d first n word).name) (length_of (run_block d first n word)) g ≡ in_span first (first + n) (g / 256)
-run_is d first n word g = search (arith, run_span)
-
-is_run_block : (d : Directory) (first n word : ℕ) (block : Block) → block ≡ block_of d.heap first 0 (n * 256) word → block ≡ run_block d first n word
-is_run_block d first n word block is = search (arith, d.heap)
+run_is d first n word g = search (arith, run_of, span_in, in_parts, to_run)
 
 -- ---- a run is given: its pages are backed, the block is given, and the pages are left
 module _ {σ σ1 : Standing} (d : Directory) (first n : ℕ) (backs : BacksRun d first (first + n) σ σ1) where
@@ -173,19 +167,15 @@ module _ {σ σ1 : Standing} (d : Directory) (first n : ℕ) (backs : BacksRun d
   may_give : IsDirectoryOf σ.seat.profile d → (v : View) → HasPages d first (first + n) v → BackedRun first (first + n) v (backs.steps ++ v)
       → MayGive σ1.seat.profile d.heap first 0 (n * 256) (backs.steps ++ v)
   may_give of_profile v met back = record {
-    held = λ g inside. back.does.held g ∙ met.held g (sym (run_span first n g) ∙ inside);
+    held = λ g inside. back.does.held g ∙ met.held g (sym (search (arith, run_of, span_in, in_parts, to_run)) ∙ inside);
     bears = λ g inside.
-        let is = sym (run_span first n g) ∙ inside in let b = back.bears g is in let p = g / 256 in let clear = back.does.clear p (met.clear.on p) in
+        let is = sym (search (arith, run_of, span_in, in_parts, to_run)) ∙ inside in let b = back.bears g is in let p = g / 256 in let clear = back.does.clear p (met.clear.on p) in
         bears_by d p (subst (λ s. IsDirectoryOf s.profile d) (sym backs.calls.adds.seat_is) of_profile) (deeds_same (Backing ∷ []) refl p backs.steps v kinds ∙ met.deeds p is) b.backed clear.stamped;
   }
 
   -- Once the pages of a run are backed, its block may be given.
   pub can_give : IsDirectoryOf σ.seat.profile d → CanCall σ (HasPages d first (first + n)) → CanCall σ1 (MayGive σ1.seat.profile d.heap first 0 (n * 256))
   can_give of_profile can = next_call backs.calls can (may_give of_profile)
-
-  -- The grains of a run within the region end within it.
-  pub gives_within : first + n ≤ σ.seat.profile.pages + 1 → first * 256 + 0 + n * 256 ≤ 256 * (σ1.seat.profile.pages + 1)
-  gives_within region = let high = subst (λ s. first + n ≤ s.profile.pages + 1) (sym backs.calls.adds.seat_is) region in omega (arith, high)
 
   module _ {σ2 : Standing} (of_profile : IsDirectoryOf σ.seat.profile d) (block : Block) (give : GivesBlock d.heap first 0 (n * 256) block σ1 σ2) where
     abbrev gs : List Made
@@ -198,7 +188,7 @@ module _ {σ σ1 : Standing} (d : Directory) (first n : ℕ) (backs : BacksRun d
 
     given_call : Calls σ σ2 (HasPages d first (first + n)) Given (gs ++ backs.steps)
     given_call = call_then Given backs.calls give.calls (may_give of_profile)
-        (λ v met back gave. let does = does_as (given_run first (first + n)) gave.does (λ g. inl (ap (λ t. if t then Lost else Kept) (run_span first n g))) (λ q. refl) (λ q h. h) in record {
+        (λ v met back gave. let does = does_as (given_run first (first + n)) gave.does (λ g. inl (ap (λ t. if t then Lost else Kept) (search (arith, run_of, span_in, in_parts, to_run)))) (λ q. refl) (λ q h. h) in record {
           does = does_after_nothing (given_run first (first + n)) back.does does;
           turn = gave.turn;
           leave = record {
@@ -218,7 +208,7 @@ module _ {σ σ1 : Standing} (d : Directory) (first n : ℕ) (backs : BacksRun d
       back_order = order;
       word = give.word;
       answer = give.answer;
-      block_is = is_run_block d first n give.word block give.block_is;
+      block_is = search (arith, d.heap);
       left = left.steps;
       left_order = run_in_turn (λ page piece. LeaveSteps page d piece) first n left.steps left.order;
       few = let a = length-append left.steps (gs ++ backs.steps) in let b = backs_few first n backs.steps order in omega (arith, a, b, left.few);

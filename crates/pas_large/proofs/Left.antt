@@ -61,21 +61,13 @@ off_holds : (p g : ℕ) (ys xs : List Made) → g / 256 ≡ p → OffPage p ys �
 off_holds p g [] xs at off = refl
 off_holds p g (m ∷ ys) xs at off = holds_on_page off.0.0 g (m ∷ []) (ys ++ xs) (off.0.2, tt) (λ e. off.0.1 (sym at ∙ e)) ∙ off_holds p g ys xs at off.1
 
--- a park is on its own page alone
-not_parked : (q p : ℕ) (s : Step) → p ≢ q → IsOnPage q s → s ≡ Park p → ⊥
-not_parked q p s ne on e = search arith
-
--- .. and so is a deed
-not_deeded : (q p : ℕ) (s : Step) (x : Directory) → p ≢ q → IsOnPage q s → s ≡ Deed p x → ⊥
-not_deeded q p s x ne on e = search arith
-
 -- Steps off a page don't park it.
 pub off_parks : (p : ℕ) (ys : List Made) → OffPage p ys → Always (ParksNotHere p) ys
-off_parks p ys = always_map (λ m before. (q : ℕ) × (p ≢ q) × IsOnPage q m.step) (ParksNotHere p) ys (λ m before off. not_parked off.0 p m.step off.1 off.2)
+off_parks p ys = always_map (λ m before. (q : ℕ) × (p ≢ q) × IsOnPage q m.step) (ParksNotHere p) ys (λ m before off. (λ e. search arith))
 
 -- Steps off a page don't make its deed.
 pub off_deeds : (p : ℕ) (ys : List Made) → OffPage p ys → Always (MakesNoDeedHere p) ys
-off_deeds p ys = always_map _ (MakesNoDeedHere p) ys (λ m before off x e z. not_deeded off.0 p m.step x off.1 off.2 e)
+off_deeds p ys = always_map _ (MakesNoDeedHere p) ys (λ m before off x e z. (search arith))
 
 -- ---- a page that was left alone, or left or broken
 pub left_of_alone : (d : Directory) (p : ℕ) (xs : List Made) → LeftAlone p xs → LeftOrBroken d p xs
@@ -108,9 +100,6 @@ module _ (d : Directory) (p : ℕ) (xs : List Made) (left : LeftOrBroken d p xs)
   pub kept_at : (m : Made) (b : List Made) → KeptHere p m b → KeptHere p m (b ++ xs)
   kept_at m b h = right_at b ∙ h
 
-  shows_at : (word : ℕ) → word < 4 → (r : Readings) (m : Made) (b : List Made) → ShowsHere p word r m b → ShowsHere p word r m (b ++ xs)
-  shows_at word w r m b h = (h.0, right_at b ∙ h.1, λ i lt. h.2 i lt ∙ ap (λ t. has_bit m.answer i || t) (sym (held_at b word i w lt)))
-
   -- A page that later steps broke was broken behind steps that left the page alone.
   pub broken_at : (m : Made) (b : List Made) → BrokenHere p m b → BrokenHere p m (b ++ xs)
   broken_at m b h = record {
@@ -119,7 +108,8 @@ module _ (d : Directory) (p : ℕ) (xs : List Made) (left : LeftOrBroken d p xs)
     got = once_earlier (GetsHere p) (GetsHere p) b xs (λ m c h. h) h.got;
     readings = h.readings;
     none = h.none;
-    read = λ word lt. since_earlier _ (KeptHere p) (ShowsHere p word h.readings) (KeptHere p) b xs (shows_at word lt h.readings) kept_at (h.read word lt);
+    read = λ word lt. since_earlier _ (KeptHere p) (ShowsHere p word h.readings) (KeptHere p) b xs
+        (λ m b h. (h.0, right_at b ∙ h.1, λ i lt'. h.2 i lt' ∙ ap (λ t. has_bit m.answer i || t) (sym (held_at b word i lt lt')))) kept_at (h.read word lt);
   }
 
 -- steps that left it alone stood before
@@ -155,26 +145,15 @@ missed_before d p ys xs alone = once_earlier (MissedHere d p) (MissedHere d p) y
 abbrev taking_up : Kinds
 taking_up = Taking ∷ Giving ∷ Ending ∷ []
 
-not_got : (s : Step) (a g : ℕ) (had : Bool) → is_in taking_up (kind_of s) ≡ false → had ≡ false → held_after (grain_move s a g) had ≡ false
-not_got s a g had h x = search (arith, cond_both)
-
 still_none : (g : ℕ) (steps : List Made) (v : View) → Only giving_back steps → holds v g ≡ false → holds (steps ++ v) g ≡ false
-still_none g = holds_over (λ v. holds v g ≡ false) taking_up giving_back (λ m v h none. not_got m.step m.answer g (holds v g) h none) refl
-
--- at most one put
-word_back : (page word mask : ℕ) (piece : List Made) → WordPut page word mask piece → Only giving_back piece
-word_back page word mask piece put = search arith
-
-word_gone : (page word mask g : ℕ) (piece : List Made) (v : View) → WordPut page word mask piece → in_mask page word mask g ≡ true
-    → holds (piece ++ v) g ≡ false
-word_gone page word mask g piece v h is = search (arith, true≢false)
+still_none g = holds_over (λ v. holds v g ≡ false) taking_up giving_back (λ m v h none. (search (arith, cond_both))) refl
 
 below_gone : (page : ℕ) (mask : Mask4) (g : ℕ) (v : View) → masked page mask g ≡ true → (n : ℕ) (steps : List Made) → PutsBelow page mask n steps
     → g / 64 % 4 < n → holds (steps ++ v) g ≡ false
 below_gone page mask g v is zero steps h lt = absurd (omega (arith, lt))
 below_gone page mask g v is (suc n) steps h lt = ap (λ s. holds (s ++ v) g) h.4 ∙ ap (λ s. holds s g) (append_assoc h.0 h.1 v) ∙ elim (cases_eq n (g / 64 % 4)) [
-  | inl e ↦ word_gone page n _ g h.0 (h.1 ++ v) h.2 (in_word page mask n g ∙ and_from (n == g / 64 % 4) (masked page mask g) (eq-eqb n (g / 64 % 4) e) is)
-  | inr ne ↦ still_none g h.0 (h.1 ++ v) (word_back page n (slice_index mask.0 n) h.0 h.2) (below_gone page mask g v is n h.1 h.3 (omega (arith, lt, ne)))
+  | inl e ↦ search (arith, true≢false)
+  | inr ne ↦ still_none g h.0 (h.1 ++ v) (search arith) (below_gone page mask g v is n h.1 h.3 (omega (arith, lt, ne)))
 ]
 
 -- ---- hints, with steps that stood before
@@ -193,11 +172,9 @@ hints_none steps = always_map _ HintsEmpty steps (λ m before is page same. absu
 
 -- ---- a page that is put back and left
 module _ {σ σ1 : Standing} (page : ℕ) (d : Directory) (mask : Mask4) (h : PutsAndLeaves page d mask σ σ1) where
-  after_only : Only returning h.after
-  after_only = returns_are page h.after (leave_returns page d h.after h.order)
-
   put_gone : (before : List Made) (g : ℕ) → masked page mask g ≡ true → holds (h.after ++ (h.puts ++ before)) g ≡ false
-  put_gone before g is = holds_same returning refl g h.after (h.puts ++ before) after_only ∙ below_gone page mask g before is 4 h.puts h.put_order (omega arith)
+  put_gone before g is = holds_same returning refl g h.after (h.puts ++ before) (returns_are page h.after (leave_returns page d h.after h.order))
+      ∙ below_gone page mask g before is 4 h.puts h.put_order (omega arith)
 
   -- of what is put nothing is held, nor of what wasn't held before
   pub nothing_held : (before : List Made) (g : ℕ) → (masked page mask g ≡ false → holds before g ≡ false) → holds ((h.after ++ h.puts) ++ before) g ≡ false
@@ -209,9 +186,6 @@ module _ {σ σ1 : Standing} (page : ℕ) (d : Directory) (mask : Mask4) (h : Pu
       (leave_due page d h.after h.order)) (hints_none h.puts (puts_kinds page mask 4 h.puts h.put_order))) all
 
 -- ---- .. with all its grains: it was parked only where not all of them were read as free
-hints_park : (all_free : Bool) (page : ℕ) (steps : List Made) → HintsWhere all_free page steps → Always (ParksNotHere page) steps
-hints_park all_free page steps h = search arith
-
 module _ (page : ℕ) (d : Directory) (is : IsDirectory d) (free : Mask4) (xs : List Made) (right : has_right xs page ≡ true) (got : Once (GetsHere page) xs)
     (none : (g : ℕ) → g / 256 ≡ page → holds xs g ≡ false) where
   abbrev first : List Made
@@ -232,7 +206,7 @@ module _ (page : ℕ) (d : Directory) (is : IsDirectory d) (free : Mask4) (xs : 
 
   end_parks : (usable all_free : Bool) (after : List Made) → MatchBool usable (HasUsable d free) (HasNoUsable d free) → EndsLeave usable page d all_free after
       → Always (ParksNotHere page) (after ++ first) ⊎ Once BrokenAfter (after ++ first)
-  end_parks usable all_free after has h = search (arith, parks_both, hints_park, parks_none, looks_only, once_later, park_breaks)
+  end_parks usable all_free after has h = search (arith, parks_both, parks_none, looks_only, once_later, park_breaks)
 
 leave_parks : (page : ℕ) (d : Directory) (is : IsDirectory d) (xs steps : List Made) → has_right xs page ≡ true → Once (GetsHere page) xs
     → ((g : ℕ) → g / 256 ≡ page → holds xs g ≡ false) → LeaveSteps page d steps

@@ -35,10 +35,6 @@ module _ (d : Directory) (p : ℕ) (xs : List Made) (left : LeftOrBroken d p xs)
 
   -- the page wasn't parked
   module _ (parks : Always (ParksNotHere p) xs) where
-    -- The earlier steps left the page alone.
-    alone : LeftAlone p xs
-    alone = record { right = left.right; none = left.none; parks = parks; deeds = left.deeds }
-
     fresh_at : (b : List Made) → IsFresh d p b → IsFresh d p (b ++ xs)
     fresh_at b (inl none) = inl (always_both (ParksNotHere p) (ParksNotHere p) b xs (λ m c h. h) none parks)
     fresh_at b (inr since) = inr (since_earlier (OneHere d p) (ParksNotHere p) (OneHere d p) (ParksNotHere p) b xs one_at (λ m c h. h) since)
@@ -48,7 +44,7 @@ module _ (d : Directory) (p : ℕ) (xs : List Made) (left : LeftOrBroken d p xs)
     lost_at m b (inr h) = inr (h.0, h.1, once_earlier (NoDeedHere p) (NoDeedHere p) b xs (λ m c h. h) h.2, always_both _ _ b xs (λ m c h. h) h.3 left.deeds)
 
     bad_at : (m : Made) (b : List Made) → BadHere d p m b → BadHere d p m (b ++ xs)
-    bad_at m b (inl h) = inl (unusable_here d p xs alone m b h)
+    bad_at m b (inl h) = inl (unusable_here d p xs record { right = left.right; none = left.none; parks = parks; deeds = left.deeds } m b h)
     bad_at m b (inr (inl h)) = inr (inl (lost_at m b h))
     bad_at m b (inr (inr h)) = inr (inr (broken_at d p xs left m b h))
 
@@ -70,9 +66,6 @@ module _ (d : Directory) (p : ℕ) (xs : List Made) (left : LeftOrBroken d p xs)
       let known : KnowsDeed p d (xs ++ v) = known_of f d p xs v (agreed_later f v b xs agreed) of in
       unknown f (xs ++ v) p b (agreed_first f v b xs agreed) bare (λ none. deed_word_of-positive d (sym known ∙ none))
 
-  still_fresh : (b : List Made) → Once (OneHere d p) b → IsFresh d p b → Since (OneHere d p) (ParksNotHere p) b
-  still_fresh b read h = search (arith, once_since)
-
   lost_again : (f : Profile) (v : View) (m : Made) (b : List Made) → Agreed f v (b ++ xs) → Once (OfHere d p) xs → ReadUsable d p b → LostHere d p m b
       → LostHere d p m (b ++ xs)
   lost_again f v m b agreed of (inl bare) h = absurd (not_bare f v b agreed of bare)
@@ -81,7 +74,7 @@ module _ (d : Directory) (p : ℕ) (xs : List Made) (left : LeftOrBroken d p xs)
     h.0,
     h.1,
     right_at d p xs left b ∙ h.2,
-    inr (since_earlier (OneHere d p) (ParksNotHere p) (OneHere d p) (ParksNotHere p) b xs one_at (λ m c h. h) (still_fresh b whole.offered h.3)),
+    inr (since_earlier (OneHere d p) (ParksNotHere p) (OneHere d p) (ParksNotHere p) b xs one_at (λ m c h. h) (search (arith, once_since))),
   )
 
   failed_at : (f : Profile) (v : View) (m : Made) (b : List Made) → Agreed f v (b ++ xs) → ReadUsable d p b → LostHere d p m b ⊎ BrokenHere p m b

@@ -79,17 +79,10 @@ module _ (d : Directory) (page : ℕ) (got : Mask4) {σ σ1 : Standing} (taken :
   set_read : (x : ℕ) → is_set got x ≡ true → is_set taken.answers x ≡ true
   set_read x h = (and_parts (is_set taken.answers x) (is_set full x) (sym (taken.got_is x) ∙ h)).0
 
-  read_set : (x : ℕ) → x < 256 → is_set taken.answers x ≡ true → is_set got x ≡ true
-  read_set x lt h = taken.got_is x ∙ and_from (is_set taken.answers x) (is_set full x) h (full_set x lt)
-
   -- ---- all grains of the page were
   module _ (all : AllSetBelow got 256) where
     on_page : (g : ℕ) → masked page got g ≡ (page == g / 256)
     on_page g = ap (λ t. (page == g / 256) && t) (all (g % 256) (omega arith)) ∙ and-true (page == g / 256)
-
-    whole_here : (word : ℕ) → word < 4 → (m : Made) (before : List Made) → ShowsHere page word (is_set taken.answers) m before
-        → TakenWholeHere page word m before
-    whole_here word small m before h = ((h.0, λ b lt. sym (h.2 b lt) ∙ set_read (64 * word + b) (all (64 * word + b) (omega (arith, small, lt)))), h.1)
 
     -- Grains that were got make the page taken.
     took : (v w : View) → GetsGrains (masked page got) v w → TookPage page v w
@@ -108,7 +101,7 @@ module _ (d : Directory) (page : ℕ) (got : Mask4) {σ σ1 : Standing} (taken :
         few = takes_few page (words full) answers 4;
         leads = record { from = λ v met agreed. took v (ts ++ v) (take_call.leads.from v met agreed) };
         keeps = takes_keep page (words full) answers 4;
-        whole = λ before met word lt. since_map _ (TakenWholeHere page word) (KeptHere page) (ts ++ before) (whole_here word lt) (ts_read before met word lt);
+        whole = λ before met word lt. since_map _ (TakenWholeHere page word) (KeptHere page) (ts ++ before) (λ m before h. ((h.0, λ b lt'. sym (h.2 b lt') ∙ set_read (64 * word + b) (all (64 * word + b) (omega (arith, lt, lt')))), h.1)) (ts_read before met word lt);
       };
     }
 
@@ -149,7 +142,7 @@ module _ (d : Directory) (page : ℕ) (got : Mask4) {σ σ1 : Standing} (taken :
           kept = right_reads page b (back.puts ++ xs) (looks_read b h.1) ∙ kept;
           got = once_later (GetsHere page) b (back.puts ++ xs) (once_later (GetsHere page) back.puts xs (once_later (GetsHere page) ts before met.got));
           readings = is_set taken.answers;
-          none = λ all. true≢false (sym (read_set x clear.within (all x clear.within)) ∙ clear.clear);
+          none = λ all. true≢false (sym (taken.got_is x ∙ and_from (is_set taken.answers x) (is_set full x) (all x clear.within) (full_set x clear.within)) ∙ clear.clear);
           read = λ word lt. let shows = ShowsHere page word (is_set taken.answers) in
               since_more shows (KeptHere page) _ b (back.puts ++ xs) (λ m c is reads. right_reads page c (back.puts ++ xs) reads ∙ kept) (looks_read b h.1)
               (since_more shows (KeptHere page) _ back.puts xs (λ m c is keeps. rights_stay c xs page keeps right) puts_keep (ts_read before met word lt));
@@ -189,10 +182,6 @@ abbrev pub deed_look : ℕ → ℕ → Made
 deed_look page a = made (Look (Word.Deed page)) a
 
 -- ---- both steps
-way_taken : (page : ℕ) (t got had : Bool) (w : Way) → had_after w had ≡ true → t ≡ got
-    → had_after (if (page == page) && t then w else Rests) had ≡ now (if got then Gained else Kept) had
-way_taken page t got had w gains e = search (arith, eq-eqb)
-
 module _ {σ σ1 : Standing} (deeds : Bool) (d : Directory) (page a : ℕ) (m : Made) (adds : Adds σ σ1 AnyView (m ∷ deed_look page a ∷ []))
     (on : IsOnPage page m.step) (kind : is_in getting (kind_of m.step) ≡ true) where
   abbrev pair : List Made
@@ -254,15 +243,12 @@ claim_gets {σ} {σ1} {σ2} deeds d page a is look got h =
     let adds = adds_call {D = KnowsDeed page d} (adds_step adds_none look (λ v l stood met. tt)) h.calls.adds (λ v l stood met. known v) in
     pair_gets deeds d page a m adds (IsOnPage.Claims d) refl got (λ none. (refl, (refl, tt))) (λ none gets. inr (inl (ReadsDeed.Looks, is)))
     ((λ p e same z. cc), tt) (λ k v agreed. let still = unknown_no_more f (m ∷ deed_look page a ∷ []) v agreed in omega (arith, still))
-    (pair_outcome deeds d page a m adds (IsOnPage.Claims d) refl got (λ v. way_taken page _ got (has_right v page) _ refl (sym h.got_is))
-    (λ e v agreed. knows_still f d page (m ∷ []) _ (agreed.0, tt) (known v)) (λ e. GetsRight.Claims d h.answer (sym h.got_is ∙ e)) (λ e x same z. cc) (λ e none. (refl, sym h.got_is ∙ e, refl, inl ((λ x. cc), tt)))
+    (pair_outcome deeds d page a m adds (IsOnPage.Claims d) refl got (λ v. (search (arith, eq-eqb)))
+    (λ e v agreed. knows_still f d page (m ∷ []) _ (agreed.0, tt) (known v)) (λ e. GetsRight.Claims d h.answer (sym h.got_is ∙ e)) (λ e x same z. cc)
+    (λ e none. (refl, sym h.got_is ∙ e, refl, inl ((λ x. cc), tt)))
     (λ e before v alone usable agreed. inl (refl, sym h.got_is ∙ e, alone.right, inl ((λ e. cc), alone.parks))))
 
 -- ---- the deed of a page whose deed word was read as another word
-other_known : (f : Profile) (d : Directory) (page a : ℕ) (before : List Made) (v : View) → a ≢ deed_word_of d → ReadUsable d page before
-    → Agreed f v (deed_look page a ∷ before) → Once (NoDeedHere page) before
-other_known f d page a before v ne h agreed = search (arith, known_of, deed_word_of-positive)
-
 module _ {σ σ1 σ2 : Standing} (d : Directory) (page a b : ℕ) (is : IsPage σ.seat.profile page) (ne : a ≢ deed_word_of d)
     (look : Makes σ σ1 (Look (Word.Deed page)) a) (deed : Makes σ1 σ2 (Deed page d) b) where
   abbrev both : List Made
@@ -271,25 +257,23 @@ module _ {σ σ1 σ2 : Standing} (d : Directory) (page a b : ℕ) (is : IsPage �
   deed_adds : Adds σ σ2 AnyView both
   deed_adds = adds_step (adds_step adds_none look (λ v l stood met. tt)) deed (λ v l stood met. tt)
 
-  knew_none : (v : View) → Agreed σ.seat.profile v both → b ≡ 0 → known_deed v page ≡ 0
-  knew_none v agreed z = search (arith, cases_eq, deed_stays)
-
   deed_shows : OnlyDeedsShow σ.seat.profile both
   deed_shows k v agreed =
       let count = λ (t : Bool) (e : (b == 0) ≡ t). ap (λ x. length (with_event (if x then Some (Event.Deed k page d) else None) [])) e in
       elim (cases_eq b 0) [
         | inl z ↦
             let one : length (events_by k v both) ≡ 1 = count true (eq-eqb b 0 z) in
-            let fewer = unknown_less _ page both v agreed is (knew_none v agreed z) (λ none. deed_word_of-positive d (sym (deed_known page d b (deed_look page a ∷ v) z) ∙ none)) in omega (arith, one, fewer)
+            let fewer = unknown_less _ page both v agreed is (search (arith, cases_eq, deed_stays))
+            (λ none. deed_word_of-positive d (sym (deed_known page d b (deed_look page a ∷ v) z) ∙ none)) in omega (arith, one, fewer)
         | inr some ↦ let none = count false (ne_eqb b 0 some) in let still = unknown_no_more σ.seat.profile both v agreed in omega (arith, none, still)
       ]
 
   -- A deed that is tried on a page without one gets the page exactly where its answer is 0.
   pub deed_gets : GetsPage true d page σ σ2 (b == 0)
   deed_gets = pair_gets true d page a _ deed_adds (IsOnPage.Deeds d) refl _ (λ none. absurd (true≢false none)) (λ none. absurd (true≢false none)) ((λ p e same z. (cc, cc)), tt) deed_shows
-      (pair_outcome true d page a _ deed_adds (IsOnPage.Deeds d) refl (b == 0) (λ v. way_taken page (b == 0) (b == 0) (has_right v page) ByDeed refl refl)
+      (pair_outcome true d page a _ deed_adds (IsOnPage.Deeds d) refl (b == 0) (λ v. (search (arith, eq-eqb)))
       (λ e v agreed. deed_known page d b (deed_look _ a ∷ v) (eqb-true b 0 e)) (λ e. GetsRight.Deeds d b (eqb-true b 0 e)) (λ e x same z. eqb-false b 0 e z) (λ e none. absurd (true≢false none))
-      (λ e before v alone usable agreed. inr (refl, eqb-false b 0 e, inr (other_known _ d page a before v ne usable agreed.1), ((λ x h z. cc), alone.deeds))))
+      (λ e before v alone usable agreed. inr (refl, eqb-false b 0 e, inr (search (arith, known_of, deed_word_of-positive)), ((λ x h z. cc), alone.deeds))))
 
 -- ---- no deed may be made: only its deed word was read
 pub look_gets : {σ σ1 : Standing} (d : Directory) (page a : ℕ) → a ≢ deed_word_of d → Makes σ σ1 (Look (Word.Deed page)) a → GetsPage false d page σ σ1 false
@@ -404,10 +388,6 @@ shows_later : (ks : Kinds) → apart ks showing ≡ true → (f : Profile) (ys x
 shows_later ks none f ys xs only = shows_both f ys xs
     (λ k v agreed. let no = ap (λ es. length es) (no_events ks none k v ys only) in let stays = unknown_no_more f ys v agreed in omega (arith, no, stays))
 
--- Steps without a deed keep all deeds below a page.
-below_later : (ks : Kinds) (end : ℕ) (ys xs : List Made) → is_in ks Deeding ≡ false → Only ks ys → DeedsBelow end xs → DeedsBelow end (ys ++ xs)
-below_later ks end ys xs none only = below_both end ys xs (below_none ks end ys none only)
-
 -- The steps are of these kinds, and their deeds rise, are below this page and alone show events.
 pub record Orderly (ks : Kinds) (f : Profile) (end : ℕ) (steps : List Made) : Type 0 where
   pub kinds : Only ks steps
@@ -425,7 +405,7 @@ pub orderly_later : {ls : Kinds} (ks : Kinds) {f : Profile} {end : ℕ} (ys xs :
 orderly_later {ls} ks {f} {end} ys xs none quiet among only o = record {
   kinds = only_both ls ys xs (only_within ks ls ys among only) o.kinds;
   rise = rise_later ks end ys xs none only o.below o.rise;
-  below = below_later ks end ys xs none only o.below;
+  below = below_both end ys xs (below_none ks end ys none only) o.below;
   shows = shows_later ks quiet f ys xs only o.shows;
 }
 

@@ -24,17 +24,8 @@ use Rattle.pas_scan.specs.Scan.{AllParked, IsVerdict, Judges, judging, last_bloc
 abbrev pub MarkedBelow : Directory → ℕ → List ℕ → List Made → Type 0
 MarkedBelow d block marks steps = (p : ℕ) → p / 64 < block → MatchBool (is_marked marks p) (LastOffered d p steps) (Once (ZeroHere d p) steps)
 
-read_block : (d : Directory) (p : ℕ) (s : Step) → ReadsEligible d p s → (n j : ℕ) → s ≡ Look (Word.Eligible n j) → j ≡ p / 64
-read_block d p s a n j same = search (arith, place_of)
-
 other_word : (d : Directory) (p n j : ℕ) → j ≢ p / 64 → ReadsEligible d p (Look (Word.Eligible n j)) → ⊥
-other_word d p n j ne r = ne (read_block d p (Look (Word.Eligible n j)) r n j refl)
-
--- A newer look at another word leaves what was read last of a page.
-older : (d : Directory) (p block a : ℕ) (steps : List Made) (t : Bool) → p / 64 < block → MatchBool t (LastOffered d p steps) (Once (ZeroHere d p) steps)
-    → MatchBool t (LastOffered d p (made (Look (Word.Eligible (number_of d) block)) a ∷ steps))
-    (Once (ZeroHere d p) (made (Look (Word.Eligible (number_of d) block)) a ∷ steps))
-older d p block a steps t lt h = search (arith, other_word)
+other_word d p n j ne r = ne (search (arith, place_of))
 
 -- A look at the page's own word tells whether it was offered.
 newest : (d : Directory) (p block a : ℕ) (steps : List Made) (t : Bool) → block ≡ p / 64 → OnlyScans steps → has_bit a (p % 64) ≡ t
@@ -50,7 +41,7 @@ marked_more d block a marks steps small scans before p lt = elim (cases_lt (p / 
   | inl low ↦
       let same = ap (λ n. has_bit n (p % 64)) (sym (get_or-set_other marks block (p / 64) a 0 (λ e. absurd (omega (arith, e, low))))) in
       subst (λ t. MatchBool t (LastOffered d p (made (Look (Word.Eligible (number_of d) block)) a ∷ steps)) (Once (ZeroHere d p) (made (Look (Word.Eligible (number_of d) block)) a ∷ steps))) same
-      (older d p block a steps (is_marked marks p) low (before p low))
+      (search (arith, other_word))
   | inr high ↦
       let at : block ≡ p / 64 = omega (arith, lt, high) in
       let here = ap (λ n. has_bit n (p % 64)) (sym (get_or-set_same marks block a 0 small)) ∙ ap (λ i. has_bit (get_or (set marks block a) i 0) (p % 64)) at in
@@ -58,10 +49,6 @@ marked_more d block a marks steps small scans before p lt = elim (cases_lt (p / 
 ]
 
 -- ---- the reason of a refusal: the eligible words, and then the verdict
--- a verdict reads no eligible word
-eligible_kind : (d : Directory) (p : ℕ) (s : Step) → ReadsEligible d p s → is_in judging (kind_of s) ≡ false
-eligible_kind d p s h = grind arith
-
 -- the last word is that of the page which is held, or the last one there is
 last_within : (f : Profile) (room : NoRoom) → ((page : ℕ) → room ≡ Held page → page ≤ f.pages) → last_block f room ≤ f.pages / 64
 last_within f room h = search arith
@@ -76,7 +63,8 @@ missing d p (m ∷ ys) xs scans none (inr h) = inr (right_scans (m ∷ ys) xs p 
 held_from : (d : Directory) (p : ℕ) (ys xs : List Made) → OnlyScans ys → has_right xs p ≡ false → Since (MissingHere d p) (LacksAfter p) xs
     → Once (ParkedHere false p) ys → Once (HeldHere d p) (ys ++ xs)
 held_from d p [] xs scans none since h = absurd h
-held_from d p (m ∷ ys) xs scans none since (inl z) = inl ((z.0, z.1, right_own p ys xs none ∙ z.2), since_more _ _ _ ys xs (λ k c is more. right_scans (k ∷ c) xs p (is, more) ∙ none) scans.1 since)
+held_from d p (m ∷ ys) xs scans none since (inl z) =
+    inl ((z.0, z.1, right_own p ys xs none ∙ z.2), since_more _ _ _ ys xs (λ k c is more. right_scans (k ∷ c) xs p (is, more) ∙ none) scans.1 since)
 held_from d p (m ∷ ys) xs scans none since (inr h) = inr (held_from d p ys xs scans.1 none since h)
 
 module _ (d : Directory) (marks : List ℕ) {σ σ1 σ2 : Standing} (offers : MarksOffered d marks σ σ1) (room : NoRoom) (judges : Judges marks d σ1 σ2 room) where
@@ -94,11 +82,7 @@ module _ (d : Directory) (marks : List ℕ) {σ σ1 σ2 : Standing} (offers : Ma
   same = ap (λ (s : Seat). s.profile) offers.adds.seat_is
 
   reads_none : (p : ℕ) → Always (NotReadHere d p) js
-  reads_none p = always_map _ (NotReadHere d p) js (λ m before is reads. true≢false (sym is ∙ eligible_kind d p m.step reads)) judges.kinds
-
-  -- a verdict names a page of the region
-  held_page : (answer : NoRoom) → IsVerdict f marks d js answer → (page : ℕ) → answer ≡ Held page → page ≤ f.pages
-  held_page answer verdict page e = search arith
+  reads_none p = always_map _ (NotReadHere d p) js (λ m before is reads. true≢false (sym is ∙ (grind arith))) judges.kinds
 
   module _ (before : List Made) (none : (p : ℕ) → has_right before p ≡ false) where
     ms_none : (p : ℕ) → has_right (ms ++ before) p ≡ false
@@ -149,7 +133,7 @@ module _ (d : Directory) (marks : List ℕ) {σ σ1 σ2 : Standing} (offers : Ma
     adds = adds_call offers.adds judges.adds (λ v l stood met. tt);
     scans = scans_append js ms judges.scans offers.scans;
     few = let n = length-append js ms in let a = subst (λ x. length js ≤ 65 * (last_block x room + 1)) same judges.few in
-        let last = last_within f room (held_page room (subst (λ x. IsVerdict x marks d js room) same judges.verdict)) in omega (arith, n, a, offers.few, last);
+        let last = last_within f room (λ page e. search arith) in omega (arith, n, a, offers.few, last);
     reason = λ before none. reason_of before none room (subst (λ x. IsVerdict x marks d js room) same judges.verdict);
   }
 
@@ -161,22 +145,14 @@ refuses_by {σ} {σ1} {σ2} d e h marks ed he offers room judges =
 
 -- ---- a reason, with steps that stood before and have no right any more
 module _ (d : Directory) (xs : List Made) (lacks : (p : ℕ) → has_right xs p ≡ false) where
-  left_at : (p : ℕ) (m : Made) (b : List Made) → LeftHere p m b → LeftHere p m (b ++ xs)
-  left_at p m b h = (h.0, right_own p b xs (lacks p) ∙ h.1, once_earlier (GetsHere p) (GetsHere p) b xs (λ n c x. x) h.2)
-
-  later_at : (p : ℕ) (m : Made) (b : List Made) → ParkedLater d p m b → ParkedLater d p m (b ++ xs)
-  later_at p m b h = search (arith, right_own, zero_before, once_earlier)
-
   accounted_before : (p : ℕ) (ys : List Made) → IsAccounted d p ys → IsAccounted d p (ys ++ xs)
-  accounted_before p ys (inl (inl left)) = inl (inl (once_earlier (LeftHere p) (LeftHere p) ys xs (left_at p) left))
-  accounted_before p ys (inl (inr later)) = inl (inr (once_earlier (ParkedLater d p) (ParkedLater d p) ys xs (later_at p) later))
+  accounted_before p ys (inl (inl left)) = inl (inl (once_earlier (LeftHere p) (LeftHere p) ys xs
+      (λ m b h. (h.0, right_own p b xs (lacks p) ∙ h.1, once_earlier (GetsHere p) (GetsHere p) b xs (λ n c x. x) h.2)) left))
+  accounted_before p ys (inl (inr later)) = inl (inr (once_earlier (ParkedLater d p) (ParkedLater d p) ys xs (λ m b h. search (arith, right_own, zero_before, once_earlier)) later))
   accounted_before p ys (inr offered) = inr (since_earlier (OneHere d p) _ (OneHere d p) (NotReadHere d p) ys xs (λ m b x. (x.0, x.1, right_own p b xs (lacks p) ∙ x.2)) (λ m b x. x) offered)
 
-  missing_at : (p : ℕ) (m : Made) (b : List Made) → MissingHere d p m b → MissingHere d p m (b ++ xs)
-  missing_at p m b missing = search (arith, right_own)
-
   held_at : (p : ℕ) (m : Made) (b : List Made) → HeldHere d p m b → HeldHere d p m (b ++ xs)
-  held_at p m b h = search (arith, right_own, since_earlier, missing_at)
+  held_at p m b h = search (arith, right_own, since_earlier)
 
   module _ (f : Profile) (ys : List Made) where
     all_before : (end : ℕ) → AllAccounted f d end ys → AllAccounted f d end (ys ++ xs)

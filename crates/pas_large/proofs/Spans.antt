@@ -14,17 +14,6 @@ use Rattle.arrayvec.proofs.ArrayVecLemmas.{items-with_items}
 -- ==== Ranges in order: their pages, and what becomes of them with one more.
 
 -- ---- tests
-same_truth : (a b : Bool) → (a ≡ true → b ≡ true) → (b ≡ true → a ≡ true) → a ≡ b
-same_truth a b to from = grind arith
-
--- Of three tests, however they are put in brackets.
-or_assoc : (a b c : Bool) → (a || (b || c)) ≡ ((a || b) || c)
-or_assoc a b c = grind arith
-
--- And in whatever order.
-or_between : (a b c : Bool) → (b || (a || c)) ≡ ((a || b) || c)
-or_between a b c = grind arith
-
 -- ---- one range
 span_parts : (s : Span) (p : ℕ) → in_span s p ≡ true → (s.first ≤ p) × (p < s.end)
 span_parts s p h =
@@ -33,17 +22,8 @@ span_parts s p h =
 span_in : (s : Span) (p : ℕ) → s.first ≤ p → p < s.end → in_span s p ≡ true
 span_in s p low high = grind (arith, nat_tests)
 
-span_below : (s : Span) (p : ℕ) → p < s.first → in_span s p ≡ false
-span_below s p below = grind (arith, nat_tests)
-
 span_past : (s : Span) (p : ℕ) → s.end ≤ p → in_span s p ≡ false
 span_past s p past = grind (arith, nat_tests)
-
-lt_is : (a b : ℕ) → nat_lt a b ≡ true → a < b
-lt_is a b h = grind (arith, nat_tests)
-
-lt_isnt : (a b : ℕ) → nat_lt a b ≡ false → b ≤ a
-lt_isnt a b h = grind (arith, nat_tests)
 
 is_lt : (a b : ℕ) → a < b → nat_lt a b ≡ true
 is_lt a b h = grind (arith, nat_tests)
@@ -51,18 +31,12 @@ is_lt a b h = grind (arith, nat_tests)
 isnt_lt : (a b : ℕ) → b ≤ a → nat_lt a b ≡ false
 isnt_lt a b h = grind (arith, nat_tests)
 
-le_is : (a b : ℕ) → nat_le a b ≡ true → a ≤ b
-le_is a b h = grind (arith, nat_tests)
-
-le_isnt : (a b : ℕ) → nat_le a b ≡ false → b < a
-le_isnt a b h = grind (arith, nat_tests)
-
 -- ---- several
 none_below : (low : ℕ) (spans : List Span) (p : ℕ) → AreApart low spans → p ≤ low → has_page spans p ≡ false
 none_below low [] p h le = refl
 none_below low (s ∷ rest) p h le =
     let a = h.0 in let b = h.1 in
-    or_from (in_span s p) (has_page rest p) (span_below s p (omega (arith, a, le))) (none_below s.end rest p h.3 (omega (arith, a, b, le)))
+    or_from (in_span s p) (has_page rest p) (grind (arith, nat_tests)) (none_below s.end rest p h.3 (omega (arith, a, b, le)))
 
 above_low : (low : ℕ) (spans : List Span) (p : ℕ) → AreApart low spans → has_page spans p ≡ true → low < p
 above_low low spans p h is = elim (cases_lt low p) [ inl above ↦ above | inr below ↦ absurd (true≢false (sym is ∙ none_below low spans p h below)) ]
@@ -79,11 +53,6 @@ joins_later new s rest is = ap (λ t. if t then s ∷ joined new rest else if na
 joins_before : (new s : Span) (rest : List Span) → nat_lt s.end new.first ≡ false → nat_lt new.end s.first ≡ true → joined new (s ∷ rest) ≡ new ∷ s ∷ rest
 joins_before new s rest isnt is = search arith
 
--- .. or that they meet
-joins_into : (new s : Span) (rest : List Span) → nat_lt s.end new.first ≡ false → nat_lt new.end s.first ≡ false
-    → joined new (s ∷ rest) ≡ joined (hull s new) rest
-joins_into new s rest isnt either = search arith
-
 -- Ranges that keep apart still do with one more joined to them.
 pub joined_apart : (low : ℕ) (new : Span) (spans : List Span) → AreApart low spans → low < new.first → new.first < new.end → new.end ≤ 65536
     → AreApart low (joined new spans)
@@ -91,17 +60,17 @@ joined_apart low new [] h above some last = (above, some, last, tt)
 joined_apart low new (s ∷ rest) h above some last =
     let a = h.0 in let b = h.1 in let c = h.2 in
     elim (cases_Bool (nat_lt s.end new.first)) [
-      | inl later ↦ subst (AreApart low) (sym (joins_later new s rest later)) (h.0, h.1, h.2, joined_apart s.end new rest h.3 (lt_is s.end new.first later) some last)
+      | inl later ↦ subst (AreApart low) (sym (joins_later new s rest later)) (h.0, h.1, h.2, joined_apart s.end new rest h.3 (grind (arith, nat_tests)) some last)
       | inr meets ↦ elim (cases_Bool (nat_lt new.end s.first)) [
-        | inl before ↦ subst (AreApart low) (sym (joins_before new s rest meets before)) (above, some, last, (lt_is new.end s.first before, h.1, h.2, h.3))
-        | inr into ↦ subst (AreApart low) (sym (joins_into new s rest meets into)) (joined_apart low (hull s new) rest
+        | inl before ↦ subst (AreApart low) (sym (joins_before new s rest meets before)) (above, some, last, ((grind (arith, nat_tests)), h.1, h.2, h.3))
+        | inr into ↦ subst (AreApart low) (sym (search arith)) (joined_apart low (hull s new) rest
             (apart_from s.end low rest (omega (arith, a, b)) h.3) (omega (arith, a, above)) (omega (arith, b, some)) (omega (arith, c, last)))
       ]
     ]
 
 hull_has : (s new : Span) (p : ℕ) → s.first < s.end → new.first < new.end → new.first ≤ s.end → s.first ≤ new.end
     → in_span (hull s new) p ≡ (in_span s p || in_span new p)
-hull_has s new p some other low high = search (arith, same_truth, span_parts, cases_lt, or_right, span_in, or_left, or_cases)
+hull_has s new p some other low high = search (arith, span_parts, cases_lt, or_right, span_in, or_left, or_cases)
 
 -- Ranges with one more joined have just that one's pages more.
 pub joined_has : (low : ℕ) (new : Span) (spans : List Span) → AreApart low spans → new.first < new.end
@@ -111,27 +80,24 @@ joined_has low new (s ∷ rest) h some p =
     let b = h.1 in
     elim (cases_Bool (nat_lt s.end new.first)) [
       | inl later ↦ ap (λ spans. has_page spans p) (joins_later new s rest later)
-          ∙ (ap (λ t. in_span s p || t) (joined_has s.end new rest h.3 some p) ∙ or_assoc (in_span s p) (has_page rest p) (in_span new p))
+          ∙ (ap (λ t. in_span s p || t) (joined_has s.end new rest h.3 some p) ∙ (grind arith))
       | inr meets ↦ elim (cases_Bool (nat_lt new.end s.first)) [
         | inl before ↦ ap (λ spans. has_page spans p) (joins_before new s rest meets before) ∙ or_comm (in_span new p) (in_span s p || has_page rest p)
-        | inr into ↦ ap (λ spans. has_page spans p) (joins_into new s rest meets into)
+        | inr into ↦ ap (λ spans. has_page spans p) (search arith)
             ∙ (joined_has s.end (hull s new) rest h.3 (omega (arith, b, some)) p
-            ∙ (ap (λ t. has_page rest p || t) (hull_has s new p b some (lt_isnt s.end new.first meets) (lt_isnt new.end s.first into))
-            ∙ or_between (in_span s p) (has_page rest p) (in_span new p)))
+            ∙ (ap (λ t. has_page rest p || t) (hull_has s new p b some (grind (arith, nat_tests)) (grind (arith, nat_tests)))
+            ∙ (grind arith)))
       ]
     ]
 
 -- ---- only one list has just these pages
-same_spans : (s t : Span) → s.first ≡ t.first → s.end ≡ t.end → s ≡ t
-same_spans s t first end = ap (λ f. record { first = f; end = s.end }) first ∙ ap (λ e. record { first = t.first; end = e }) end
-
 begin_same : (low : ℕ) (s t : Span) (xs ys : List Span) → AreApart low (s ∷ xs) → AreApart low (t ∷ ys) → ((p : ℕ) → has_page (s ∷ xs) p ≡ has_page (t ∷ ys) p)
     → s.first ≤ t.first
 begin_same low s t xs ys h k same = elim (cases_lt t.first s.first) [
   | inr le ↦ le
   | inl lt ↦ let a = k.1 in let b = h.1 in
       let there : has_page (t ∷ ys) t.first ≡ true = or_left (in_span t t.first) (has_page ys t.first) (span_in t t.first (omega arith) a) in
-      let not_here = or_from (in_span s t.first) (has_page xs t.first) (span_below s t.first lt) (none_below s.end xs t.first h.3 (omega (arith, b, lt))) in
+      let not_here = or_from (in_span s t.first) (has_page xs t.first) (grind (arith, nat_tests)) (none_below s.end xs t.first h.3 (omega (arith, b, lt))) in
       absurd (true≢false (sym there ∙ (sym (same t.first) ∙ not_here)))
 ]
 
@@ -162,7 +128,7 @@ same_lists_of low (s ∷ xs) (t ∷ ys) h k same =
       | inl past ↦ sym (rest_has s xs p past) ∙ (same p ∙ rest_has t ys p (omega (arith, past, end)))
       | inr within ↦ none_below s.end xs p h.3 within ∙ sym (none_below t.end ys p k.3 (omega (arith, within, end)))
     ] in
-    ap (λ r. r ∷ xs) (same_spans s t first end) ∙ ap (λ r. t ∷ r) (same_lists_of s.end xs ys h.3 (subst (λ e. AreApart e ys) (sym end) k.3) rest)
+    ap (λ r. r ∷ xs) (ap (λ f. record { first = f; end = s.end }) first ∙ ap (λ e. record { first = t.first; end = e }) end) ∙ ap (λ r. t ∷ r) (same_lists_of s.end xs ys h.3 (subst (λ e. AreApart e ys) (sym end) k.3) rest)
 
 -- Ranges that keep apart and have just one range's pages more are those with it joined.
 pub joined_only : (new : Span) (spans others : List Span) → AreApart 0 spans → 1 ≤ new.first → new.first < new.end → new.end ≤ 65536 → AreApart 0 others
@@ -187,7 +153,7 @@ fit_step low s rest n p h fit =
         ];
       })
       | inr differ ↦ elim differ [
-        | inl below ↦ absurd (true≢false (sym fit.begins ∙ or_from (in_span s p) (has_page rest p) (span_below s p below) (none_below s.end rest p h.3 (omega (arith, below, b)))))
+        | inl below ↦ absurd (true≢false (sym fit.begins ∙ or_from (in_span s p) (has_page rest p) (grind (arith, nat_tests)) (none_below s.end rest p h.3 (omega (arith, below, b)))))
         | inr above ↦ elim (cases_lt s.end p) [
           | inr within ↦ absurd (true≢false (sym (or_left (in_span s (p - 1)) (has_page rest (p - 1)) (span_in s (p - 1) (omega (arith, above)) (omega (arith, above, within)))) ∙ fit.before (p - 1) (omega (arith, above))))
           | inl past ↦ inr (record {
@@ -206,10 +172,7 @@ fit_step low s rest n p h fit =
     ]
 
 fit_here : (low : ℕ) (s : Span) (rest : List Span) (n p : ℕ) → AreApart low (s ∷ rest) → IsPlaceOf p n s → FitsAt (has_page (s ∷ rest)) n p
-fit_here low s rest n p h place = search (arith, or_left, span_in, or_from, span_below, none_below)
-
-fit_later : (low : ℕ) (s : Span) (rest : List Span) (n p : ℕ) → AreApart low (s ∷ rest) → FitsAt (has_page rest) n p → FitsAt (has_page (s ∷ rest)) n p
-fit_later low s rest n p h fit = search (arith, above_low, or_right, or_from, span_past)
+fit_here low s rest n p h place = search (arith, or_left, span_in, or_from, nat_tests, none_below)
 
 no_fit : (n p : ℕ) → FitsAt (has_page []) n p → ⊥
 no_fit n p fit = true≢false (sym fit.begins)
@@ -231,7 +194,7 @@ found_later low s rest n h short None none = λ p fit. elim (fit_step low s rest
   | inr later ↦ none p later
 ]
 found_later low s rest n h short (Some first) some = record {
-  fits = fit_later low s rest n first h some.fits;
+  fits = search (arith, above_low, or_right, or_from, span_past);
   lowest = λ p lt fit. elim (fit_step low s rest n p h fit) [
     | inl here ↦ absurd (omega (arith, short, here.long))
     | inr later ↦ some.lowest p lt later
@@ -242,7 +205,7 @@ lowest_found : (low : ℕ) (spans : List Span) (n : ℕ) → AreApart low spans 
 lowest_found low [] n h = λ p fit. no_fit n p fit
 lowest_found low (s ∷ rest) n h =
     elim (cases_Bool (nat_le n (s.end - s.first))) [
-      | inl long ↦ let le = le_is n (s.end - s.first) long in
+      | inl long ↦ let le : n ≤ (s.end - s.first) = grind (arith, nat_tests) in
           subst (IsFound (s ∷ rest) n) (sym (fits_here n s rest long)) (record {
             fits = fit_here low s rest n s.first h (record { begins = refl; long = omega (arith, le, h.1) });
             lowest = λ p lt fit. elim (fit_step low s rest n p h fit) [
@@ -250,7 +213,7 @@ lowest_found low (s ∷ rest) n h =
               | inr later ↦ let past = above_low s.end rest p h.3 later.begins in absurd (omega (arith, past, h.1, lt))
             ];
           })
-      | inr short ↦ subst (IsFound (s ∷ rest) n) (sym (fits_later n s rest short)) (found_later low s rest n h (le_isnt n (s.end - s.first) short) (lowest_fit n rest) (lowest_found s.end rest n h.3))
+      | inr short ↦ subst (IsFound (s ∷ rest) n) (sym (fits_later n s rest short)) (found_later low s rest n h (grind (arith, nat_tests)) (lowest_fit n rest) (lowest_found s.end rest n h.3))
     ]
 
 -- ==== The first pages of a range are taken out.
@@ -280,29 +243,18 @@ cut_apart low first n [] h = tt
 cut_apart low first n (s ∷ rest) h = let rest = cut_apart s.end first n rest h.3 in grind (arith, rest, cases_eq, cuts_here, left_apart, cuts_later)
 
 -- ---- the pages that are left
-within_cases : (a r c : Bool) → (r ≡ true → c ≡ false) → ((a && not c) || r) ≡ ((a || r) && not c)
-within_cases a r c apart = grind arith
-
 within_or : (x a r c : Bool) → x ≡ (a && not c) → (r ≡ true → c ≡ false) → (x || r) ≡ ((a || r) && not c)
-within_or x a r c is apart = ap (λ t. t || r) is ∙ within_cases a r c apart
-
--- What is in front isn't cut off: by whether the page is there.
-front_cases : (a x c : Bool) → (a ≡ true → c ≡ false) → (a || (x && not c)) ≡ ((a || x) && not c)
-front_cases a x c apart = grind arith
+within_or x a r c is apart = ap (λ t. t || r) is ∙ (grind arith)
 
 front_or : (a r x c : Bool) → r ≡ (x && not c) → (a ≡ true → c ≡ false) → (a || r) ≡ ((a || x) && not c)
-front_or a r x c is apart = ap (λ t. a || t) is ∙ front_cases a x c apart
-
-some_left : (n p : ℕ) (s : Span) → n < s.end - s.first
-    → in_span (record { first = s.first + n; end = s.end }) p ≡ (in_span s p && not (in_span (from_to s.first n) p))
-some_left n p s lt = grind (arith, nat_tests)
+front_or a r x c is apart = ap (λ t. a || t) is ∙ (grind arith)
 
 none_left : (n p : ℕ) (s : Span) → s.end ≡ s.first + n → false ≡ (in_span s p && not (in_span (from_to s.first n) p))
 none_left n p s is = grind (arith, nat_tests)
 
 left_has : (low n p : ℕ) (s : Span) (rest : List Span) → AreApart low (s ∷ rest) → s.first + n ≤ s.end
     → has_page (left_of n s ++ rest) p ≡ ((in_span s p || has_page rest p) && not (in_span (from_to s.first n) p))
-left_has low n p s rest h long = search (arith, above_low, span_past, cases_lt, leaves_some, within_or, some_left, leaves_none, none_left)
+left_has low n p s rest h long = search (arith, above_low, span_past, cases_lt, leaves_some, within_or, nat_tests, leaves_none, none_left)
 
 -- Ranges that were cut have just those first pages fewer.
 pub cut_has : (low first n : ℕ) (spans : List Span) → AreApart low spans → FitsAt (has_page spans) n first
@@ -318,25 +270,19 @@ cut_has low first n (s ∷ rest) h fit p =
           ap (λ l. has_page l p) (cuts_later first n s rest (λ is. omega (arith, is, past, h.1)))
           ∙ front_or (in_span s p) (has_page (cut_at first n rest) p) (has_page rest p) (in_span (from_to first n) p) (cut_has s.end first n rest h.3 later p)
           (λ is. elim (cases_lt p first) [
-            | inl below ↦ span_below (from_to first n) p below
+            | inl below ↦ grind (arith, nat_tests)
             | inr above ↦ absurd (true≢false (sym is ∙ span_past s p (omega (arith, past, above))))
           ])
     ]
 
 -- ---- the lowest one that has as many
-some_none : (a : ℕ) → Some a ≡ None → ⊥
-some_none a is = cc
-
-some_same : (a b : ℕ) → Some a ≡ Some b → a ≡ b
-some_same a b is = cc
-
 -- what is found begins behind the low page
 above_fit : (low : ℕ) (spans : List Span) (n first : ℕ) → AreApart low spans → lowest_fit n spans ≡ Some first → low < first
 above_fit low [] n first h is = absurd (cc)
 above_fit low (s ∷ rest) n first h is =
     let a = h.0 in let b = h.1 in
     elim (cases_Bool (nat_le n (s.end - s.first))) [
-      | inl long ↦ let same = some_same s.first first (sym (fits_here n s rest long) ∙ is) in omega (arith, a, same)
+      | inl long ↦ let same : s.first ≡ first = cc in omega (arith, a, same)
       | inr short ↦ let past = above_fit s.end rest n first h.3 (sym (fits_later n s rest short) ∙ is) in omega (arith, a, b, past)
     ]
 
@@ -347,17 +293,18 @@ cut_is_lowest low first n (s ∷ rest) h is =
     let b = h.1 in
     elim (cases_Bool (nat_le n (s.end - s.first))) [
       | inl long ↦ let same : Some s.first ≡ Some first = sym (fits_here n s rest long) ∙ is in
-          cuts_here first n s rest (some_same s.first first same) ∙ sym (ap (λ t. if t then left_of n s ++ rest else s ∷ cut_lowest n rest) long)
+          cuts_here first n s rest (cc) ∙ sym (ap (λ t. if t then left_of n s ++ rest else s ∷ cut_lowest n rest) long)
       | inr short ↦ let later : lowest_fit n rest ≡ Some first = sym (fits_later n s rest short) ∙ is in
           let past = above_fit s.end rest n first h.3 later in
-          cuts_later _ n s rest (λ same. omega (arith, same, past, b)) ∙ (ap (λ l. s ∷ l) (cut_is_lowest _ _ n rest h.3 later) ∙ sym (ap (λ t. if t then left_of n s ++ rest else s ∷ cut_lowest n rest) short))
+          cuts_later _ n s rest (λ same. omega (arith, same, past, b))
+          ∙ (ap (λ l. s ∷ l) (cut_is_lowest _ _ n rest h.3 later) ∙ sym (ap (λ t. if t then left_of n s ++ rest else s ∷ cut_lowest n rest) short))
     ]
 
 -- Where no range is long enough, nothing is cut.
 pub none_cut : (n : ℕ) (spans : List Span) → lowest_fit n spans ≡ None → cut_lowest n spans ≡ spans
 none_cut n [] is = refl
 none_cut n (s ∷ rest) is = elim (cases_Bool (nat_le n (s.end - s.first))) [
-  | inl long ↦ absurd (some_none s.first (sym (fits_here n s rest long) ∙ is))
+  | inl long ↦ absurd (cc)
   | inr short ↦ ap (λ t. if t then left_of n s ++ rest else s ∷ cut_lowest n rest) short ∙ ap (λ l. s ∷ l) (none_cut n rest (sym (fits_later n s rest short) ∙ is))
 ]
 
@@ -408,7 +355,7 @@ pub record Gathers (new whole : Span) (spans : List Span) (place here : ℕ) : T
 -- A range that meets what was gathered so far is gathered, too.
 pub gathers_more : (new whole : Span) (spans : List Span) (place here : ℕ) (d : Span) → AreApart 0 spans → here < length spans
     → (get_or spans here d).first ≤ whole.end → Gathers new whole spans place here → Gathers new (hull (get_or spans here d) whole) spans place (here + 1)
-gathers_more new whole spans place here d h lt meets so_far = search (arith, ends_of, drop_more, joins_into, isnt_lt, ends_later, at_place)
+gathers_more new whole spans place here d h lt meets so_far = search (arith, ends_of, drop_more, isnt_lt, ends_later, at_place)
 
 -- ---- the lowest one that has as many
 -- ---- the range that begins at a page
@@ -446,17 +393,8 @@ looked first n spans i d h lt is so_far =
     ]
 
 -- ---- the list afterwards
-cut_there : (first n : ℕ) (spans : List Span) (i : ℕ) (d : Span) → i < length spans → (get_or spans i d).first ≡ first
-    → cut_at first n spans ≡ take i spans ++ cut_at first n (drop i spans)
-    → cut_at first n spans ≡ take i spans ++ (left_of n (get_or spans i d) ++ drop (i + 1) spans)
-cut_there first n spans i d lt is before = search (arith, drop_more, cuts_here)
-
 one_up : (i : ℕ) → suc i ≡ i + 1
 one_up i = omega arith
-
--- a write through the slice keeps the length
-refill_same : (xs ys : List Span) → length ys ≡ length xs → refill (length xs) xs ys ≡ ys
-refill_same xs ys same = items-with_items (record { items = xs }) ys same
 
 -- A range that is longer than what is cut of it is left shorter at its place.
 pub shortened : (spans : List Span) (i n : ℕ) (s : Span) (ys : List Span) → ys ≡ spans → i < length spans → n < s.end - s.first
@@ -464,7 +402,7 @@ pub shortened : (spans : List Span) (i n : ℕ) (s : Span) (ys : List Span) → 
 shortened spans i n s ys same lt some =
     let new : Span = record { first = s.first + n; end = s.end } in
     ap (λ zs. refill (length spans) spans (set zs i new)) same
-    ∙ (refill_same spans (set spans i new) (length-set spans i new)
+    ∙ ((items-with_items (record { items = spans }) (set spans i new) (length-set spans i new))
     ∙ (set_split spans i new lt
     ∙ (ap (λ k. take i spans ++ new ∷ drop k spans) (one_up i) ∙ ap (λ l. take i spans ++ (l ++ drop (i + 1) spans)) (sym (leaves_some n s some)))))
 
@@ -485,10 +423,4 @@ found_for spans items n found h same is = subst (IsFound spans n) (sym (is ∙ a
 pub cut_is : (first n : ℕ) (spans items ys : List Span) (i : ℕ) → items ≡ spans → i < length items
     → cut_at first n items ≡ take i items ++ cut_at first n (drop i items) → ((d : Span) → IsPlaceOf first n (get_or items i d))
     → ((d : Span) → ys ≡ take i spans ++ (left_of n (get_or spans i d) ++ drop (i + 1) spans)) → ys ≡ cut_at first n spans
-cut_is first n spans items ys i same lt before here is = is blank ∙ sym (cut_there first n spans i blank (subst (λ l. i < length l) same lt) (subst
-    (λ l. (get_or l i blank).first ≡ first) same (here blank).begins) (subst (λ l. cut_at first n l ≡ take i l ++ cut_at first n (drop i l)) same before))
-
--- A list in which one range stands for all that it meets is the ranges with the new one joined.
-pub joined_is : (new whole : Span) (spans one two ys : List Span) (place end : ℕ) → one ≡ spans → two ≡ spans → StandsBehind new.first one place
-    → joined new (drop place two) ≡ whole ∷ drop end two → ys ≡ take place spans ++ whole ∷ drop end spans → ys ≡ joined new spans
-joined_is new whole spans one two ys place end first second before joins is = search arith
+cut_is first n spans items ys i same lt before here is = is blank ∙ sym (search (arith, drop_more, cuts_here))

@@ -35,13 +35,10 @@ use Rattle.pas_large.specs.Refusals.{NotReadHere, IsAccounted, IsHeldLarge, IsRe
 use Rattle.pas_large.proofs.Pages.{known_of}
 
 -- ---- looks change no word
-look_keeps : (s : Step) (e v : ℕ) (w : Word) → is_in looking (kind_of s) ≡ true → (if same_word (target s) w then new_value e s v else v) ≡ v
-look_keeps s e v w is = search (arith, false≢true)
-
 -- Looks leave each word as it was.
 pub looks_same : (k : ℕ) (steps : List Made) (l : Whole) (w : Word) → Only looking steps → word_after (triples k steps ++ l) w ≡ word_after l w
 looks_same k [] l w only = refl
-looks_same k (m ∷ more) l w only = look_keeps m.step _ (word_after (triples k more ++ l) w) w only.0 ∙ looks_same k more l w only.1
+looks_same k (m ∷ more) l w only = (search (arith, false≢true)) ∙ looks_same k more l w only.1
 
 -- ---- readings
 -- A reading of a page's deed word is its word.
@@ -69,14 +66,10 @@ usable_free f d l p legal (inl none) b lt =
 usable_free f d l p legal (inr whole) b lt = whole.free b lt
 
 module _ (f : Profile) (k : ℕ) (l : Whole) (d : Directory) (p : ℕ) (kind : IsKind d.kind) where
-  -- the bit is that of the page's directory
-  own_number : (n : ℕ) → Legal f l → word_after l (Word.Deed p) ≡ deed_word_of d → eligible_bit l n p ≡ true → eligible_bit l (number_of d) p ≡ true
-  own_number n legal deed bit = ap (λ (i : ℕ). eligible_bit l i p) (number_told d n kind (sym deed ∙ offered_has_deed f l legal n p bit)) ∙ bit
-
   -- A page of the directory that was offered, with all grains free, was whole.
   was_whole : Legal f l → word_after l (Word.Deed p) ≡ deed_word_of d → (n : ℕ) × (eligible_bit l n p ≡ true) → ((b : ℕ) → b < 256 → free_of_page l p b ≡ true)
       → IsWholePage d l p
-  was_whole legal deed offered free = record { deed = deed; offered = own_number offered.0 legal deed offered.1; free = free }
+  was_whole legal deed offered free = record { deed = deed; offered = ap (λ (i : ℕ). eligible_bit l i p) (number_told d offered.0 kind (sym deed ∙ offered_has_deed f l legal offered.0 p offered.1)) ∙ offered.1; free = free }
 
   -- Its grains were free where its words were read so.
   words_free : (xs : List Made) → IsLone f k l xs → ((word : ℕ) → word < 4 → Once (WholeHere p word) xs) → (b : ℕ) → b < 256 → free_of_page l p b ≡ true
@@ -114,7 +107,8 @@ module _ (f : Profile) (k : ℕ) (l : Whole) (d : Directory) (p : ℕ) (kind : I
   got_whole xs lone got words =
       let now = of_now f k l d p xs lone.legal got.of in
       let some : word_after l (Word.Deed p) ≢ 0 = (λ none. deed_word_of-positive d (sym now ∙ none_kept f k l p xs lone.legal got.deeds none)) in
-      was_whole (legal_before f k xs l lone.legal) (sym (deed_later k l p xs some) ∙ now) ((was_offered_before f k l p xs lone.legal lone.returns got.deeds).0 got.got)
+      was_whole (legal_before f k xs l lone.legal) (sym (deed_later k l p xs some) ∙ now)
+      ((was_offered_before f k l p xs lone.legal lone.returns got.deeds).0 got.got)
       (words_free xs lone words)
 
 -- ---- no page of a usable run is lost
@@ -150,20 +144,10 @@ clean_since f k l d p (m ∷ more) legal (inl one) =
     clean_after k m.step m.answer p (spot_of w p) (reads_no_park d p m.step one.0) (offered_clean k (number_of d) (spot_of w p) bit)
 clean_since f k l d p (m ∷ more) legal (inr h) = clean_after k m.step m.answer p _ h.0 (clean_since f k l d p more legal.1 h.1)
 
--- A right that is clean for an actor stays so as long as the page is fresh for its steps.
-clean_fresh : (f : Profile) (k : ℕ) (l : Whole) (d : Directory) (p : ℕ) (xs : List Made) → Legal f (triples k xs ++ l) → is_clean k (spot_of l p) ≡ true
-    → IsFresh d p xs → is_clean k (spot_of (triples k xs ++ l) p) ≡ true
-clean_fresh f k l d p xs legal first h = search (arith, clean_own, clean_since)
-
 -- The right of a usable page is clean for each actor.
 usable_clean : (f : Profile) (k : ℕ) (l : Whole) (d : Directory) (p : ℕ) → Legal f l → IsUsablePage d l p → is_clean k (spot_of l p) ≡ true
 usable_clean f k l d p legal (inl none) = ap (is_clean k) (no_deed (spot_of l p) (subst (DeedFits (spot_of l p)) none (spotted f l legal p).deed))
 usable_clean f k l d p legal (inr whole) = offered_clean k (number_of d) (spot_of l p) (sym ((spotted f l legal p).eligible (number_of d)) ∙ whole.offered)
-
--- a page of the directory that is clean, and not the actor's, is offered
-offered_there : (k : ℕ) (d : Directory) (o : Spot) (word : ℕ) → IsKind d.kind → is_clean k o ≡ true → is_with k o ≡ false → DeedFits o word
-    → word ≡ deed_word_of d → is_offered (number_of d) o ≡ true
-offered_there k d o word is clean mine fits deed = search (arith, deed_word_of-positive, true≢false, eq-eqb, number_told)
 
 -- ---- nor broken
 fewer_not_all : (r fewer : ℕ → Bool) → ((b : ℕ) → b < 256 → fewer b ≡ true → r b ≡ true) → NotAll r → NotAll fewer
@@ -178,8 +162,9 @@ module _ (f : Profile) (k : ℕ) (l : Whole) (d : Directory) (p : ℕ) (kind : I
       let w : Whole = triples k xs ++ l in
       let at = spotted f w legal p in
       let view : has_right (part k w) p ≡ false = ap (λ v. has_right v p) (part_of_own k xs l) ∙ (right_own p xs (part k l) lacks ∙ none) in
-      let clean = clean_fresh f k l d p xs legal (usable_clean f k l d p (legal_before f k xs l legal) usable) fresh in
-      at.eligible (number_of d) ∙ offered_there k d (spot_of w p) _ kind clean (sym (at.has k) ∙ view) at.deed deed
+      let clean : is_clean k (spot_of (triples k xs ++ l) p) ≡ true =
+      search (arith, clean_own, clean_since, usable_clean f k l d p (legal_before f k xs l legal) usable) in
+      at.eligible (number_of d) ∙ (search (arith, deed_word_of-positive, true≢false, eq-eqb, number_told))
 
   lost_right : (m : Made) (xs : List Made) → IsLone f k l (m ∷ xs) → LostRightHere d p m xs → ⊥
   lost_right m xs lone lost =

@@ -25,16 +25,7 @@ bears_by d page of_profile deed backed stamped = search arith
 pub may_give_on : {f : Profile} {v : View} (d : Directory) (page first n : ℕ) → IsDirectoryOf f d → first + n ≤ 256
     → ((g : ℕ) → in_piece page first n g → holds v g ≡ true) → KnowsDeed page d v → knows_backed v page ≡ true → is_unstamped v page ≡ false
     → MayGive f d.heap page first n v
-may_give_on {f} {v} d page first n of_profile within held deed backed stamped = record {
-  held = held;
-  bears = λ g inside.
-      let at = run_of _ n g inside in let here : page ≡ g / 256 = omega (arith, at.0, at.1, within) in
-      subst (KnowsBearing f v d.heap) here (bears_by d page of_profile deed backed stamped);
-}
-
--- A grain that is given is lost, and another kept.
-given_fate : (t : Bool) (g : ℕ) → later Kept (grain_fate (if t then Gives g else Stays)) ≡ (if t then Lost else Kept)
-given_fate t g = grind arith
+may_give_on {f} {v} d page first n of_profile within held deed backed stamped = search (arith, run_of, bears_by)
 
 -- ---- the block and its grains
 -- The turn is named otherwise on the two sides, and nothing else is.
@@ -46,8 +37,7 @@ block_is heap page first n word turn t = search arith
 run_is : (heap page first n word g : ℕ)
     → in_run (grain_of (block_of heap page first n word).name) (length_of (block_of heap page first n word)) g ≡ in_run (page * 256 + first) n g
 run_is heap page first n word g =
-    let at : (page * 4096 + first * 16) / 16 ≡ page * 256 + first = omega arith in let long : n * 16 / 16 ≡ n = omega arith in
-    ap (λ x. in_run x (n * 16 / 16) g) at ∙ ap (λ x. in_run (page * 256 + first) x g) long
+    search arith
 
 -- The block of a run covers just the grains of the run.
 pub covers : (heap page first n word : ℕ) (block : Block) → block ≡ block_of heap page first n word → (g : ℕ)
@@ -71,11 +61,8 @@ module _ (heap page first n word : ℕ) where
       abbrev looked : View
       looked = made (Look (Word.Life page first)) word ∷ v
 
-      first_held : holds v (page * 256 + first) ≡ true
-      first_held = may.held (page * 256 + first) (first_of_run (page * 256 + first) n (omega (arith, some)))
-
       life_read : known_life looked (page * 256 + first) ≡ Some word
-      life_read = search (arith, and_from, eq-eqb, first_held)
+      life_read = search (arith, and_from, eq-eqb, may.held (page * 256 + first) (first_of_run (page * 256 + first) n (omega (arith, some))))
 
       -- What is known of a page as bearing the heap's blocks is known after the look.
       bears : (q : ℕ) → KnowsBearing f v heap q → KnowsBearing f looked heap q
@@ -110,7 +97,7 @@ module _ (heap page first n word : ℕ) where
         → GaveRun page first n block v (made (Give block) answer ∷ made (Look (Word.Life page first)) word ∷ v)
     gave answer v agreed = record {
       does = does_as _ (does_then (does_step f _ word v refl agreed.1.0) (does_step f _ answer _ refl agreed.0))
-          (λ g. inl (given_fate _ _ ∙ ap (λ t. if t then Lost else Kept) (run_is heap page first n word g))) (λ q. refl) (λ q h. h);
+          (λ g. inl ((grind arith) ∙ ap (λ t. if t then Lost else Kept) (run_is heap page first n word g))) (λ q. refl) (λ q h. h);
       turn = agreed.1.0.turn;
     }
 
@@ -121,8 +108,5 @@ module _ (heap page first n word : ℕ) where
       word = word;
       answer = answer;
       block_is = refl;
-      calls = record {
-        adds = adds_step {step = Give block} look_adds (subst (λ b. Makes σ1 σ2 (Give b) answer) is give) (λ v l stood met. may_give v met l stood);
-        leads = record { from = λ v met agreed. gave answer v agreed };
-      };
+      calls = search (arith, adds_step, look_adds, may_give, gave);
     })

@@ -56,14 +56,10 @@ each_agreed f steps (suc n) word v lt agreed = elim (cases_eq word n) [
 abbrev giving_up : Kinds
 giving_up = Offering ∷ Parking ∷ []
 
--- A step that gives the right up is of such a kind: step by step.
-up_kind : (page : ℕ) (s : Step) → GivesUp page s → is_in giving_up (kind_of s) ≡ true
-up_kind page s e = grind arith
-
 -- Steps of kinds that give no right up keep the page's right.
 pub keeps_by : (page : ℕ) (ks : Kinds) (steps : List Made) → apart ks giving_up ≡ true → Only ks steps → KeepsRight page steps
 keeps_by page ks steps w = always_map (λ m before. is_in ks (kind_of m.step) ≡ true) (λ m before. GivesUp page m.step → ⊥) steps
-    (λ m before is up. true≢false (sym (up_kind page _ up) ∙ in_apart ks giving_up _ w is))
+    (λ m before is up. true≢false (sym (grind arith) ∙ in_apart ks giving_up _ w is))
 
 -- a reading stands while the right is kept
 pub since_kept : (P : Made → List Made → Type 0) (page : ℕ) (ys xs : List Made) → KeepsRight page ys → has_right xs page ≡ true → Since P (KeptHere page) xs
@@ -118,11 +114,6 @@ looks_are page answers (suc n) = (tt, looks_are page answers n)
 pub looks_few : (page : ℕ) (answers : ℕ → ℕ) (n : ℕ) → length (looks page answers n) ≤ n
 looks_few page answers = each_few (word_look page answers) (λ word. omega arith)
 
--- one look more
-pub more_looks : {σ σ' σ'' : Standing} (page : ℕ) (answers : ℕ → ℕ) (n a : ℕ) → a ≡ answers n → Adds σ σ' AnyView (looks page answers n)
-    → Makes σ' σ'' (Look (Word.Free page n)) a → Adds σ σ'' AnyView (looks page answers (suc n))
-more_looks {σ} {σ'} {σ''} page answers n a e before makes = search (arith, adds_step)
-
 -- ---- on a view
 module _ (page : ℕ) (answers : ℕ → ℕ) where
   -- a grain that is held was read as not free, and one that is known as free as free
@@ -167,65 +158,37 @@ module _ (page : ℕ) (answers : ℕ → ℕ) where
       ))
 
 -- ---- the grains that blocks of a directory may cover
-and_true : (t : Bool) → (t && true) ≡ t
-and_true t = grind arith
-
--- Each of the four words is all ones.
-four_full : (i : ℕ) → i < 4 → slice_index ((2 ^ 64 - 1) ∷ (2 ^ 64 - 1) ∷ (2 ^ 64 - 1) ∷ (2 ^ 64 - 1) ∷ []) i ≡ 2 ^ 64 - 1
-four_full s h = grind arith
-
--- On pages without a class each grain is usable: kind by kind.
-any_kind : (k : Kind) (g : ℕ) → (k ≡ Kind.Bitfit) ⊎ ((k ≡ Kind.Shared) ⊎ (k ≡ Kind.Large)) → usable_by_kind k g ≡ true
-any_kind k g e = grind arith
-
 -- on a page that isn't of a class each grain is usable
 pub full_mask : (k : Kind) (g : ℕ) → g < 256 → (k ≡ Kind.Bitfit) ⊎ ((k ≡ Kind.Shared) ⊎ (k ≡ Kind.Large))
     → has_bit (slice_index ((2 ^ 64 - 1) ∷ (2 ^ 64 - 1) ∷ (2 ^ 64 - 1) ∷ (2 ^ 64 - 1) ∷ []) (g / 64)) (g % 64) ≡ usable_by_kind k g
-full_mask k g h is = ap (λ n. has_bit n (g % 64)) (four_full (g / 64) (omega arith)) ∙ full_bit (g % 64) (omega arith) ∙ sym (any_kind k g is)
+full_mask k g h is = ap (λ n. has_bit n (g % 64)) (grind arith) ∙ full_bit (g % 64) (omega arith) ∙ sym (grind arith)
 
 -- The full mask has each grain of a page.
 pub full_set : (g : ℕ) → g < 256 → is_set full g ≡ true
-full_set g lt = ap (λ n. has_bit n (g % 64)) (four_full (g / 64) (omega (arith, lt))) ∙ full_bit (g % 64) (omega arith)
+full_set g lt = ap (λ n. has_bit n (g % 64)) (grind arith) ∙ full_bit (g % 64) (omega arith)
 
 -- Each word of the full mask has a bit.
 pub full_word : (w : ℕ) → w < 4 → words full w ≢ 0
-full_word w lt z = let all = four_full w lt in omega (arith, all, z)
+full_word w lt z = let all : slice_index ((2 ^ 64 - 1) ∷ (2 ^ 64 - 1) ∷ (2 ^ 64 - 1) ∷ (2 ^ 64 - 1) ∷ []) w ≡ 2 ^ 64 - 1 = grind arith in omega (arith, all, z)
 
 -- The full mask of a page has just the grains of that page.
 pub on_full : (page g : ℕ) → masked page full g ≡ (page == g / 256)
-on_full page g = ap (λ t. (page == g / 256) && t) (full_set (g % 256) (omega arith)) ∙ and_true (page == g / 256)
+on_full page g = ap (λ t. (page == g / 256) && t) (full_set (g % 256) (omega arith)) ∙ (grind arith)
 
 -- some grain of the mask is usable, or none is
 module _ (d : Directory) (free usable both : Mask4) (are : (g : ℕ) → g < 256 → is_set usable g ≡ usable_by_kind d.kind g)
     (both_are : (g : ℕ) → is_set both g ≡ (is_set free g && is_set usable g)) where
-  -- A free grain that is usable makes that there is a usable one.
-  pub usable_some : HasMember both → HasUsable d free
-  usable_some some = search (arith, and_parts)
-
   -- Where no free grain is usable, there is no usable one.
   pub usable_none : IsEmpty both → HasNoUsable d free
   usable_none empty g lt set = false_from_ne_true _ (λ is. true≢false (sym (and_from _ _ set (are g lt ∙ is)) ∙ sym (both_are g) ∙ empty g lt))
 
--- Where one excludes the other, not both hold.
-both_false : (x y : Bool) → (x ≡ true → y ≡ false) → (x && y) ≡ false
-both_false x y h = grind arith
-
 -- Where no free grain is usable, no free word of the page has a usable one.
 no_usable_word : (d : Directory) (free : Mask4) → IsDirectory d → HasNoUsable d free → (w : ℕ) → w < 4 → no_usable (deed_word_of d) w (words free w) ≡ true
-no_usable_word d free is none w small = search (arith, all_below-from, not_from_false, read-deed_word_of, both_false, at_word)
-
--- the first grain of a page is usable
-first_usable : (k : Kind) → IsKind k → usable_by_kind k 0 ≡ true
-first_usable s is = grind (arith, usable_grains_ge, lt-ltb)
+no_usable_word d free is none w small = search (arith, all_below-from, not_from_false, read-deed_word_of, at_word)
 
 -- so some grain isn't free where no usable one is
 pub none_used : (d : Directory) (free : Mask4) → IsDirectory d → HasNoUsable d free → HasUsed free
-none_used d free is none = (0, omega arith, false_from_ne_true _ (λ set. true≢false (sym (first_usable d.kind is.kind) ∙ none 0 (omega arith) set)))
-
--- A page without a usable grain isn't all free.
-unusable_used : (d : Directory) (free : Mask4) (all_free : Bool) → IsDirectory d → HasNoUsable d free → MatchBool all_free (IsAllFree free) (HasUsed free)
-    → all_free ≡ false
-unusable_used d free all_free is none all = grind (arith, none_used, true≢false)
+none_used d free is none = (0, omega arith, false_from_ne_true _ (λ set. true≢false (sym (grind (arith, usable_grains_ge, lt-ltb)) ∙ none 0 (omega arith) set)))
 
 -- The cases of a turned test are those of the test, the other way round.
 pub match_not : (P Q R S : Type 0) (b : Bool) → MatchBool b P Q → (P → S) → (Q → R) → MatchBool (not b) R S
@@ -239,10 +202,6 @@ used_word free used = search (arith, true≢false, full_bit)
 -- ---- what looks at the free words keep
 pub until_only : (p : ℕ) (used : Option Used) → Only (LookFree ∷ []) (looks_until p used)
 until_only p used = grind (arith, looks_only)
-
--- Looks up to the first used word leave each right where it was.
-right_until : (p q : ℕ) (used : Option Used) (v : View) → has_right (looks_until p used ++ v) q ≡ has_right v q
-right_until p q used v = rights_same (LookFree ∷ []) refl q (looks_until p used) v (until_only p used)
 
 -- Looks at free words leave each right where it was.
 right_looks : (p q : ℕ) (answers : ℕ → ℕ) (n : ℕ) (v : View) → has_right (looks p answers n ++ v) q ≡ has_right v q
@@ -264,11 +223,6 @@ ends p before = ap (λ t. if t then false else before) (same_page p)
 pub gets : (p : ℕ) (w : Way) (a : ℕ) (before : Bool) → had_after w before ≡ true → has_bit a (p % 64) ≡ true
     → had_after (if (p == p) && has_bit a (p % 64) then w else Rests) before ≡ true
 gets p w a before got h = search (arith, same_page)
-
--- A step that found its page's bit clear leaves the right as it was.
-gets_none : (p : ℕ) (w : Way) (a : ℕ) (before : Bool) → has_bit a (p % 64) ≡ false
-    → had_after (if (p == p) && has_bit a (p % 64) then w else Rests) before ≡ before
-gets_none p w a before h = search (arith, same_page)
 
 -- A step that gives its own page's right up leaves its actor without it.
 gives : (p : ℕ) (w : Way) (before : Bool) → had_after w before ≡ false → had_after (if p == p then w else Rests) before ≡ false
@@ -303,16 +257,14 @@ reoffers_return p d true steps h = reoffer_returns p d steps h
 reoffers_return p d false steps h = subst (OnlyReturns p) (sym h) tt
 
 end_returns : (p : ℕ) (d : Directory) (usable all_free : Bool) (steps : List Made) → EndsLeave usable p d all_free steps → OnlyReturns p steps
-end_returns p d true all_free steps h = subst (OnlyReturns p) (sym h.steps_are)
-    (returns_append p h.after _ (hints_return p all_free h.after h.hints) (IsReturn.Offers d, tt))
+end_returns p d true all_free steps h = rw h.steps_are (returns_append p h.after _ (hints_return p all_free h.after h.hints) (IsReturn.Offers d, tt))
 end_returns p d false all_free steps h = subst (OnlyReturns p) (sym h.steps_are)
     (returns_append p h.after (looks p (words h.later) 4 ++ (made (Park p) h.parked ∷ [])) (reoffers_return p d h.usable h.after h.reoffers)
     (returns_append p (looks p (words h.later) 4) (made (Park p) h.parked ∷ []) (looks_return p (words h.later) 4) (IsReturn.Parks, tt)))
 
 -- The steps of a leave only return grains to that page.
 pub leave_returns : (p : ℕ) (d : Directory) (steps : List Made) → LeaveSteps p d steps → OnlyReturns p steps
-leave_returns p d steps h = subst (OnlyReturns p) (sym h.steps_are)
-    (returns_append p h.after _ (end_returns p d h.usable h.all_free h.after h.ends) (looks_return p (words h.free) 4))
+leave_returns p d steps h = rw h.steps_are (returns_append p h.after _ (end_returns p d h.usable h.all_free h.after h.ends) (looks_return p (words h.free) 4))
 
 -- The steps of a return only return grains to that page.
 pub return_returns : (p : ℕ) (d : Directory) (steps : List Made) → ReturnSteps p d steps → OnlyReturns p steps
@@ -340,19 +292,11 @@ returned_on p d steps v h = ap (λ s. s ++ v) h.steps_are ∙ append_assoc h.aft
 
 end_loses : (p : ℕ) (d : Directory) (usable all_free : Bool) (steps before : List Made) → AreLooks before → EndsLeave usable p d all_free steps
     → Once (LosesHere p) (steps ++ before)
-end_loses p d true all_free steps before are h = subst (Once (LosesHere p)) (sym (offered_on p d all_free steps before h))
-    (once_later _ h.after _ (inl (GivesUp.Offers d, are)))
+end_loses p d true all_free steps before are h = rw (offered_on p d all_free steps before h) (once_later _ h.after _ (inl (GivesUp.Offers d, are)))
 end_loses p d false all_free steps before are h = subst (Once (LosesHere p)) (sym (parked_on p d steps before h))
     (once_later (LosesHere p) h.after _ (once_later (LosesHere p) (looks p (words h.later) 4) (made (Park p) h.parked ∷ before) (inl (GivesUp.Parks, are))))
 
--- the right is given up after looks alone
-leave_loses : (p : ℕ) (d : Directory) (steps : List Made) → LeaveSteps p d steps → Once (LosesHere p) steps
-leave_loses p d steps h = subst (Once (LosesHere p)) (sym h.steps_are) (end_loses p d h.usable h.all_free h.after _ (looks_are p (words h.free) 4) h.ends)
-
 -- ---- how many steps they are
-hints_few : (p : ℕ) (all_free : Bool) (steps : List Made) → HintsWhere all_free p steps → length steps ≤ 2
-hints_few p all_free steps h = grind arith
-
 -- Two steps at most: the right is taken back and offered, or it isn't had.
 reoffer_few : (p : ℕ) (d : Directory) (steps : List Made) → ReofferSteps p d steps → length steps ≤ 2
 reoffer_few p d steps e = grind arith
@@ -361,7 +305,7 @@ reoffers_few : (p : ℕ) (d : Directory) (usable : Bool) (steps : List Made) →
 reoffers_few p d usable steps h = grind (arith, reoffer_few)
 
 end_few : (p : ℕ) (d : Directory) (usable all_free : Bool) (steps : List Made) → EndsLeave usable p d all_free steps → length steps ≤ 7
-end_few p d usable all_free steps h = grind (arith, length-append, hints_few, reoffers_few)
+end_few p d usable all_free steps h = grind (arith, length-append, reoffers_few)
 
 -- A leave makes at most eleven steps.
 pub leave_few : (p : ℕ) (d : Directory) (steps : List Made) → LeaveSteps p d steps → length steps ≤ 11
@@ -374,13 +318,13 @@ until_few p used are = grind (arith, looks_few)
 
 -- What follows a put makes at most eight steps.
 pub return_few : (p : ℕ) (d : Directory) (steps : List Made) → ReturnSteps p d steps → length steps ≤ 8
-return_few p d steps h = search (arith, length-append, hints_few, until_few, reoffer_few)
+return_few p d steps h = search (arith, length-append, until_few, reoffer_few)
 
 -- ==== What a claim comes to.
 
 claimed_right : (p : ℕ) (d : Directory) (a : ℕ) (got : Bool) (v : View) → got ≡ has_bit a (p % 64)
     → has_right (made (TakeRight p d) a ∷ v) p ≡ now (if got then Gained else Kept) (has_right v p)
-claimed_right p d a got v is = grind (arith, gets, gets_none)
+claimed_right p d a got v is = grind (arith, gets, same_page)
 
 -- A take of a right claims the page exactly where its bit was set.
 pub claims : {σ σ' : Standing} (p : ℕ) (d : Directory) (a : ℕ) (got : Bool) → got ≡ has_bit a (p % 64) → Makes σ σ' (TakeRight p d) a → Claims p d σ σ' got
@@ -415,21 +359,17 @@ check_looks : (p w : ℕ) (d : Directory) (answers : ℕ → ℕ) (n : ℕ) (v :
     → w < n → owes_check (looks p answers n ++ v) p w ≡ false
 check_looks p w d answers zero v knows none lt = absurd (omega (arith, lt))
 check_looks p w d answers (suc n) v knows none lt =
-    let before : View = looks p answers n ++ v in
-    let deed : known_deed before p ≡ deed_word_of d = deed_looks p p answers n v ∙ knows in
+    let deed : known_deed (looks p answers n ++ v) p ≡ deed_word_of d = deed_looks p p answers n v ∙ knows in
     elim (cases_eq n w) [
       | inr ne ↦ ends_none _ _ (check_looks p w d answers n v knows none (omega (arith, lt, ne)))
       | inl same ↦ search (arith, ended, deed_word_of-positive)
     ]
 
 -- ---- a look that shows a used grain ends the hint
-hint_look : (p a : ℕ) (owed : Bool) → a ≢ all_ones → (if (p == p) && not (a == all_ones) then false else owed) ≡ false
-hint_look p a owed ne = search (arith, same_page, ne_eqb)
-
 hint_looks : (p w : ℕ) (answers : ℕ → ℕ) (n : ℕ) (v : View) → answers w ≢ all_ones → w < n → owes_hint (looks p answers n ++ v) p ≡ false
 hint_looks p w answers zero v ne lt = absurd (omega (arith, lt))
 hint_looks p w answers (suc n) v ne lt = elim (cases_eq w n) [
-  | inl same ↦ hint_look p _ _ (λ e. ne (ap answers same ∙ e))
+  | inl same ↦ search (arith, same_page, ne_eqb)
   | inr other ↦ ends_none _ _ (hint_looks p w answers n v ne (omega (arith, lt, other)))
 ]
 
@@ -445,65 +385,49 @@ hints_check p w all_free steps v h = grind arith
 hints_right : (p : ℕ) (all_free : Bool) (steps : List Made) (v : View) → HintsWhere all_free p steps → has_right (steps ++ v) p ≡ has_right v p
 hints_right p all_free steps v h = grind arith
 
--- the hint is settled where each grain was read as free, and wasn't owed otherwise
-hints_end : (f : Profile) (p : ℕ) (all_free : Bool) (steps : List Made) (v : View) → HintsWhere all_free p steps → Agreed f v steps
-    → (all_free ≡ false → owes_hint v p ≡ false) → owes_hint (steps ++ v) p ≡ false
-hints_end f p all_free steps v h agreed rest = grind (arith, hint_ends)
-
 -- ---- a page that is taken back and offered
-reoffer_check : (p w : ℕ) (d : Directory) (steps : List Made) (v : View) → ReofferSteps p d steps → owes_check (steps ++ v) p w ≡ false
-reoffer_check p w d steps v e = grind (arith, ends)
-
 -- An offer once more leaves what hint is owed.
 reoffer_hint : (p : ℕ) (d : Directory) (steps : List Made) (v : View) → ReofferSteps p d steps → owes_hint (steps ++ v) p ≡ owes_hint v p
 reoffer_hint p d steps v e = grind arith
 
 reoffer_lacks : (p : ℕ) (d : Directory) (steps : List Made) (v : View) → ReofferSteps p d steps → has_right v p ≡ false → has_right (steps ++ v) p ≡ false
-reoffer_lacks p d steps v e lacks = grind (arith, gets_none, gives)
+reoffer_lacks p d steps v e lacks = grind (arith, same_page, gives)
 
 -- with the right the parked bit is read as 0
 reoffer_right : (f : Profile) (p : ℕ) (d : Directory) (steps : List Made) (v : View) → ReofferSteps p d steps → Agreed f v steps
     → has_right (steps ++ v) p ≡ has_right v p
-reoffer_right f p d steps v e agreed = grind (arith, gets_none, gives, cases_Bool, true≢false)
-
-lacks_after : (p : ℕ) (d : Directory) (usable : Bool) (steps : List Made) (v : View) → ReoffersWhere usable p d steps → has_right v p ≡ false
-    → has_right (steps ++ v) p ≡ false
-lacks_after p d usable steps v h lacks = grind (arith, reoffer_lacks)
+reoffer_right f p d steps v e agreed = grind (arith, same_page, gives, cases_Bool, true≢false)
 
 -- ---- the two ends of a leave, on the view after the looks
 after_reoffer : (p : ℕ) (d : Directory) (usable : Bool) (steps : List Made) (v : View) → ReoffersWhere usable p d steps
     → ((w : ℕ) → w < 4 → usable ≡ false → owes_check v p w ≡ false) → owes_hint v p ≡ false → OwesNothing p (steps ++ v)
-after_reoffer p d usable steps v h checks hint = grind (arith, reoffer_check, reoffer_hint)
+after_reoffer p d usable steps v h checks hint = grind (arith, ends, reoffer_hint)
 
 end_owes : (f : Profile) (p : ℕ) (d : Directory) (usable all_free : Bool) (steps : List Made) (v : View) → IsDirectory d → EndsLeave usable p d all_free steps
     → Agreed f v steps → known_deed v p ≡ deed_word_of d
     → (usable ≡ false → all_free ≡ false) → (all_free ≡ false → owes_hint v p ≡ false) → OwesNothing p (steps ++ v)
 end_owes f p d true all_free steps v is h agreed knows used hint =
-    search (arith, agreed_first, offered_on, hints_check, ends, hints_end)
+    search (arith, agreed_first, offered_on, hints_check, ends, hint_ends)
 end_owes f p d false all_free steps v is h agreed knows used hint =
     let parked : View = made (Park p) h.parked ∷ v in
-    subst (OwesNothing p) (sym (parked_on p d steps v h)) (after_reoffer p d h.usable h.after _ h.reoffers
-    (λ w lt none. check_looks p w d (words h.later) 4 parked knows (no_usable_word d h.later is (MatchBool-at_false (HasUsable d h.later) _ none h.usable_is) w lt) lt)
-    (hint_kept p (words h.later) 4 parked (hint (used refl))))
+    rw (parked_on p d steps v h) (after_reoffer p d h.usable h.after _ h.reoffers (λ w lt none. check_looks p w d (words h.later) 4 parked knows (no_usable_word d h.later is (MatchBool-at_false (HasUsable d h.later) _ none h.usable_is) w lt) lt) (hint_kept p (words h.later) 4 parked (hint (used refl))))
 
 leave_used : (d : Directory) (free : Mask4) (usable all_free : Bool) → IsDirectory d → MatchBool usable (HasUsable d free) (HasNoUsable d free)
     → MatchBool all_free (IsAllFree free) (HasUsed free) → usable ≡ false → all_free ≡ false
-leave_used d free usable all_free is usable_is all_free_is none = search (arith, unusable_used)
-
-leave_hint : (p : ℕ) (free : Mask4) (all_free : Bool) (v : View) → MatchBool all_free (IsAllFree free) (HasUsed free) → all_free ≡ false
-    → owes_hint (looks p (words free) 4 ++ v) p ≡ false
-leave_hint p free all_free v is none = let used = used_word free (MatchBool-at_false _ _ none is) in hint_looks p used.0 (words free) 4 v used.2 used.1
+leave_used d free usable all_free is usable_is all_free_is none = search (arith, none_used, true≢false)
 
 -- After a leave nothing is owed on the page.
 leave_owes : (f : Profile) (p : ℕ) (d : Directory) (steps : List Made) (v : View) → IsDirectory d → LeaveSteps p d steps → Agreed f v steps
     → known_deed v p ≡ deed_word_of d → OwesNothing p (steps ++ v)
 leave_owes f p d steps v is h agreed knows = let looked = looks p (words h.free) 4 in subst (OwesNothing p) (sym (left_on p d steps v h))
-    (end_owes f p d h.usable h.all_free h.after _ is h.ends (agreed_first f v h.after looked (subst (Agreed f v) h.steps_are agreed)) (deed_looks p p (words h.free) 4 v ∙ knows)
-    (leave_used d h.free h.usable h.all_free is h.usable_is h.all_free_is) (leave_hint p h.free h.all_free v h.all_free_is))
+    (end_owes f p d h.usable h.all_free h.after _ is h.ends (agreed_first f v h.after looked (subst (Agreed f v) h.steps_are agreed))
+    (deed_looks p p (words h.free) 4 v ∙ knows)
+    (leave_used d h.free h.usable h.all_free is h.usable_is h.all_free_is)
+    (λ none. let used = used_word h.free (MatchBool-at_false _ _ none h.all_free_is) in hint_looks p used.0 (words h.free) 4 v used.2 used.1))
 
 end_lacks : (p : ℕ) (d : Directory) (usable all_free : Bool) (steps : List Made) (v : View) → EndsLeave usable p d all_free steps
     → has_right (steps ++ v) p ≡ false
-end_lacks p d a all_free steps v h = search (arith, offered_on, hints_right, parked_on, lacks_after, right_looks)
+end_lacks p d a all_free steps v h = search (arith, offered_on, hints_right, parked_on, reoffer_lacks, right_looks)
 
 -- After a leave its actor hasn't the page's right.
 pub leave_lacks : (p : ℕ) (d : Directory) (steps : List Made) (v : View) → LeaveSteps p d steps → has_right (steps ++ v) p ≡ false
@@ -514,7 +438,7 @@ until_check : (p w : ℕ) (used : Option Used) (v : View) → owes_check v p w �
 until_check p w used v h = grind (arith, check_kept, ends_none)
 
 until_hint : (p : ℕ) (used : Option Used) (v : View) → AreUsed used → is_free used ≡ false → owes_hint (looks_until p used ++ v) p ≡ false
-until_hint p used v are e = grind (arith, true≢false, hint_look)
+until_hint p used v are e = grind (arith, true≢false, same_page, ne_eqb)
 
 -- After a return nothing is owed on the page.
 return_owes : (f : Profile) (p : ℕ) (d : Directory) (steps : List Made) (v : View) → ReturnSteps p d steps → Agreed f v steps → OwesNothing p (steps ++ v)
@@ -523,18 +447,17 @@ return_owes f p d steps v h agreed =
     let all : Agreed f v (h.after ++ (looks_until p h.used ++ h.first)) = subst (Agreed f v) h.steps_are agreed in
     let later : Agreed f looked h.after = subst (λ s. Agreed f s h.after) (append_assoc _ h.first v) (agreed_first f v h.after _ all) in
     subst (OwesNothing p) (sym (returned_on p d steps v h)) record {
-      checks = λ w lt. hints_check p w _ h.after looked h.hints ∙ until_check p w h.used (h.first ++ v) (reoffer_check p w d h.first v h.reoffers);
-      hint = hints_end f p _ h.after looked h.hints later (until_hint p h.used (h.first ++ v) h.are);
+      checks = λ w lt. hints_check p w _ h.after looked h.hints ∙ until_check p w h.used (h.first ++ v) (grind (arith, ends));
+      hint = grind (arith, hint_ends, until_hint p h.used (h.first ++ v) h.are);
     }
 
 -- A return leaves the page's right where it was.
 return_right : (f : Profile) (p : ℕ) (d : Directory) (steps : List Made) (v : View) → ReturnSteps p d steps → Agreed f v steps
     → has_right (steps ++ v) p ≡ has_right v p
 return_right f p d steps v h agreed =
-    let all : Agreed f v (h.after ++ (looks_until p h.used ++ h.first)) = subst (Agreed f v) h.steps_are agreed in
-    let first : Agreed f v h.first = agreed_later f v _ h.first (agreed_later f v h.after _ all) in
+    let first : Agreed f v h.first = agreed_later f v _ h.first (agreed_later f v h.after _ (subst (Agreed f v) h.steps_are agreed)) in
     ap (λ s. has_right s p) (returned_on p d steps v h) ∙ hints_right p _ h.after _ h.hints
-    ∙ right_until p p h.used (h.first ++ v) ∙ reoffer_right f p d h.first v h.reoffers first
+    ∙ (rights_same (LookFree ∷ []) refl p (looks_until p h.used) (h.first ++ v) (until_only p h.used)) ∙ reoffer_right f p d h.first v h.reoffers first
 
 -- ==== The promises of the calls, put together from those of their parts.
 
@@ -546,20 +469,13 @@ may_still p d free v met = record { right = right_looks p p (words free) 4 v ∙
 settles : (f : Profile) (p : ℕ) (r : Fate) (steps : List Made) (v : View) → OnlyReturns p steps → Agreed f v steps
     → has_right (steps ++ v) p ≡ now r (has_right v p) → OwesNothing p (steps ++ v) → Settles p r v (steps ++ v)
 settles f p r steps v only agreed right owes =
-    let clear : is_unstamped v p ≡ false → examines v p ≡ false → IsClearOn p (steps ++ v) = λ stamped examined. record {
-      stamped = unstamped_same returning refl p steps v (returns_are p steps only) ∙ stamped;
-      owes = owes;
-      examined = examined_on p p steps v (returns_on p steps only) examined;
-    } in
+    let clear : is_unstamped v p ≡ false → examines v p ≡ false → IsClearOn p (steps ++ v) = λ stamped examined. assumption
+    (unstamped_same returning refl p steps v (returns_are p steps only) ∙ stamped, examined_on p p steps v (returns_on p steps only) examined) in
     record { does = does_returns f p r Kept steps v only agreed right (λ is. clear is.stamped is.examined); owes = owes; clear = clear }
-
-clear_at : (p q : ℕ) (t : Bool) (v w : View) → (p == q) ≡ t → IsClearOn p w → ClearAfter (if t then Kept else Kept) q v w
-    → ClearAfter (if t then Gained else Kept) q v w
-clear_at p q t v w e here h = grind (arith, eqb-true)
 
 -- a page that was neither unstamped nor examined is clear then
 pub settled_clear : {v w : View} (p : ℕ) (r : Fate) → Settles p r v w → is_unstamped v p ≡ false → examines v p ≡ false → Does (on_page p r Gained) v w
-settled_clear {v} {w} p r s stamped examined = does_as _ s.does (λ x. inl refl) (λ q. refl) (λ q. clear_at p q _ v w refl (s.clear stamped examined))
+settled_clear {v} {w} p r s stamped examined = does_as _ s.does (λ x. inl refl) (λ q. refl) (λ q. (λ h. grind (arith, eqb-true)))
 
 -- The steps of a leave, as one call, are a leave.
 leaves : {σ σ' : Standing} (p : ℕ) (d : Directory) (steps : List Made) → IsDirectory d → Adds σ σ' (MayLeave p d) steps → LeaveSteps p d steps → Leaves p d σ σ'
@@ -573,7 +489,7 @@ leaves {σ} {σ'} p d steps is adds order = record {
   };
   order = order;
   returns = leave_returns p d steps order;
-  left = leave_loses p d steps order;
+  left = subst (Once (LosesHere p)) (sym order.steps_are) (end_loses p d order.usable order.all_free order.after _ (looks_are p (words order.free) 4) order.ends);
   few = leave_few p d steps order;
 }
 
@@ -582,8 +498,7 @@ pub leaves_by : {σ σ1 σ2 : Standing} (usable all_free : Bool) (p : ℕ) (d : 
     → MatchBool usable (HasUsable d free) (HasNoUsable d free) → MatchBool all_free (IsAllFree free) (HasUsed free)
     → (after : List Made) → Adds σ1 σ2 (MayLeave p d) after → EndsLeave usable p d all_free after → Leaves p d σ σ2
 leaves_by {σ} {σ1} {σ2} usable all_free p d free is reads usable_is all_free_is after adds ends =
-    let first : Adds σ σ1 (MayLeave p d) (looks p (words free) 4) = adds_under reads (λ v l stood met. tt) in
-    leaves p d (after ++ looks p (words free) 4) is (adds_call first adds (λ v l stood met. may_still p d free v met))
+    leaves p d (after ++ looks p (words free) 4) is (adds_call (adds_under reads (λ v l stood met. tt)) adds (λ v l stood met. may_still p d free v met))
     record { free = free; usable = usable; usable_is = usable_is; all_free = all_free; all_free_is = all_free_is; after = after; ends = ends; steps_are = refl }
 
 -- the looks that show a free grain and one that isn't, and the offer

@@ -41,106 +41,63 @@ none_in page word mask g z = and_right ((word == g / 64 % 4) && (page == g / 256
 pub word_none : (page word mask : ℕ) (v : View) → mask ≡ 0 → Does (put (in_mask page word mask) page) v v
 word_none page word mask v z = put_nothing (in_mask page word mask) page (does_none v) (λ g. none_in page word mask g z)
 
--- A put of a word, or none, is a put.
-word_kind : (page word mask : ℕ) (steps : List Made) → WordPut page word mask steps → Only (Putting ∷ []) steps
-word_kind page word mask steps e = grind arith
-
 word_on : (page word mask : ℕ) (steps : List Made) → WordPut page word mask steps → OnlyOn page steps
 word_on page word mask steps (inl none) = subst (OnlyOn page) (sym none.1) tt
 word_on page word mask steps (inr some) = subst (OnlyOn page) (sym some.2) (IsOnPage.Puts word mask, tt)
-
--- It is one step at most.
-word_few : (page word mask : ℕ) (steps : List Made) → WordPut page word mask steps → length steps ≤ 1
-word_few page word mask steps e = grind arith
 
 -- ---- the words below n
 abbrev pub masked_below : ℕ → Mask4 → ℕ → ℕ → Bool
 masked_below page mask n g = nat_lt (g / 64 % 4) n && masked page mask g
 
--- a grain of word n is in its mask there, and one of another word isn't
-behind : (s t u v : Bool) → (s ≡ true → u ≡ v) → (s && t && u) ≡ (s && (t && v))
-behind s t u v same = grind arith
-
 -- A grain is in a word of a mask exactly where the mask has it and the word is its own.
 pub in_word : (page : ℕ) (mask : Mask4) (n g : ℕ) → in_mask page n (slice_index mask.0 n) g ≡ ((n == g / 64 % 4) && masked page mask g)
-in_word page mask n g = behind _ _ _ _ (λ e.
-    let word : n ≡ g % 256 / 64 = omega (arith, eqb-true n (g / 64 % 4) e) in
-    let bit : g % 64 ≡ g % 256 % 64 = omega arith in
-    ap (λ w. has_bit (slice_index mask.0 w) (g % 64)) word ∙ ap (has_bit (slice_index mask.0 (g % 256 / 64))) bit)
+in_word page mask n g = grind arith
 
 -- The words below one more are those below it, and that one.
 next_word : (w n : ℕ) → nat_lt w (n + 1) ≡ (nat_lt w n || (n == w))
 next_word w n = grind (arith, nat_tests)
 
--- What holds holds again.
-or_same : (m t : Bool) → (m || (t && m)) ≡ m
-or_same m t = grind arith
-
 -- What either of two tests lets through a third is what both together let through it.
 shared : (s t m : Bool) → ((s && m) || (t && m)) ≡ ((s || t) && m)
-shared s t m = grind (arith, or_same)
-
-below_more : (page : ℕ) (mask : Mask4) (n g : ℕ) → (masked_below page mask n g || in_mask page n (slice_index mask.0 n) g) ≡ masked_below page mask (n + 1) g
-below_more page mask n g =
-    search (arith, in_word, shared, next_word)
-
-none_below : (page : ℕ) (mask : Mask4) (g : ℕ) → masked_below page mask 0 g ≡ false
-none_below page mask g = ap (λ t. t && masked page mask g) (le-ltb (g / 64 % 4) 0 (omega arith))
-
-all_below : (page : ℕ) (mask : Mask4) (g : ℕ) → masked_below page mask 4 g ≡ masked page mask g
-all_below page mask g = ap (λ t. t && masked page mask g) (lt-ltb (g / 64 % 4) 4 (omega arith))
+shared s t m = grind arith
 
 -- The puts of the words of a mask are puts alone.
 pub puts_kinds : (page : ℕ) (mask : Mask4) (n : ℕ) (steps : List Made) → PutsBelow page mask n steps → Only (Putting ∷ []) steps
-puts_kinds page mask n = in_turn_always (λ word piece. WordPut page word (slice_index mask.0 word) piece) (λ m. is_in (Putting ∷ []) (kind_of m.step) ≡ true) (λ word. word_kind page word _) _
+puts_kinds page mask n = in_turn_always (λ word piece. WordPut page word (slice_index mask.0 word) piece) (λ m. is_in (Putting ∷ []) (kind_of m.step) ≡ true) (λ word. (λ steps e. grind arith)) _
 
 puts_on : (page : ℕ) (mask : Mask4) (n : ℕ) (steps : List Made) → PutsBelow page mask n steps → OnlyOn page steps
 puts_on page mask n = in_turn_always (λ word piece. WordPut page word (slice_index mask.0 word) piece) (λ m. IsOnPage page m.step) (λ word. word_on page word _) _
 
 -- The puts of a mask are at most four.
 pub puts_few : (page : ℕ) (mask : Mask4) (steps : List Made) → PutsBelow page mask 4 steps → length steps ≤ 4
-puts_few page mask = in_turn_length (λ word piece. WordPut page word (slice_index mask.0 word) piece) 1 (λ word. word_few page word _) (numbers_below 4)
-
--- a word of the mask that has any grains is put
-word_made : (page word mask : ℕ) (steps : List Made) → WordPut page word mask steps → mask ≢ 0 → Once (PutsHere page) steps
-word_made page word mask steps e some = grind arith
+puts_few page mask = in_turn_length (λ word piece. WordPut page word (slice_index mask.0 word) piece) 1 (λ word. (λ steps e. grind arith)) (numbers_below 4)
 
 made_below : (page : ℕ) (mask : Mask4) (n w : ℕ) (steps : List Made) → PutsBelow page mask n steps → w < n → slice_index mask.0 w ≢ 0
     → Once (PutsHere page) steps
 made_below page mask zero w steps h lt some = absurd (omega (arith, lt))
 made_below page mask (suc n) w steps h lt some = subst (Once (PutsHere page)) (sym h.4) (elim (cases_eq w n) [
-  | inl e ↦ once_earlier _ _ h.0 h.1 (λ m before put. put) (word_made page n _ h.0 h.2 (subst (λ k. slice_index mask.0 k ≢ 0) e some))
+  | inl e ↦ once_earlier _ _ h.0 h.1 (λ m before put. put) (grind arith)
   | inr ne ↦ once_later _ h.0 h.1 (made_below page mask n w h.1 h.3 (omega (arith, lt, ne)) some)
 ])
 
 -- A mask with a grain makes some put on the page.
 pub some_put : (page : ℕ) (mask : Mask4) (steps : List Made) → PutsBelow page mask 4 steps → HasMember mask → Once (PutsHere page) steps
 some_put page mask steps h some =
-    let b = some.0 in let lt = some.1 in
-    made_below page mask 4 _ steps h (omega (arith, lt)) (λ none. true≢false (sym some.2 ∙ ap (λ m. has_bit m (b % 64)) none ∙ none_of_zero _))
+    search (arith, made_below, true≢false, none_of_zero)
 
 -- ---- what is put was held
--- what steps hold they hold whatever stood before
-held_too : (move : Move) (a b : Bool) → (a ≡ true → b ≡ true) → held_after move a ≡ true → held_after move b ≡ true
-held_too move a b f h = grind arith
-
 -- What the later steps hold is held by them behind others, too.
 holds_more : (g : ℕ) (ys xs : List Made) → holds ys g ≡ true → holds (ys ++ xs) g ≡ true
 holds_more g [] xs h = absurd (true≢false (sym h))
-holds_more g (y ∷ ys) xs h = held_too (grain_move y.step y.answer g) (holds ys g) (holds (ys ++ xs) g) (holds_more g ys xs) h
+holds_more g (y ∷ ys) xs h = grind (arith, holds_more g ys xs)
 
 -- the mask's grains of the words from n on are held still, and each that was put was held
 abbrev StillHeld : ℕ → Mask4 → ℕ → List Made → Type 0
 StillHeld page mask n steps = ((g : ℕ) → masked page mask g ≡ true → n ≤ g / 64 % 4 → holds steps g ≡ true) × Always GivesDuly steps
 
-word_held : (page : ℕ) (mask : Mask4) (n : ℕ) (xs : List Made) → StillHeld page mask n xs → (g : ℕ) → in_mask page n (slice_index mask.0 n) g ≡ true
-    → holds xs g ≡ true
-word_held page mask n xs h g here =
-    search (arith, and_parts, in_word, eqb-true)
-
 word_taken : (page : ℕ) (mask : Mask4) (n : ℕ) (piece xs : List Made) → WordPut page n (slice_index mask.0 n) piece → StillHeld page mask n xs
     → StillHeld page mask (suc n) (piece ++ xs)
-word_taken page mask n piece xs e h = grind (arith, in_word, ne_eqb, word_held)
+word_taken page mask n piece xs e h = grind (arith, in_word, ne_eqb, and_parts, eqb-true)
 
 puts_below : (page : ℕ) (mask : Mask4) (xs : List Made) → ((g : ℕ) → masked page mask g ≡ true → holds xs g ≡ true) → Always GivesDuly xs
     → (n : ℕ) (steps : List Made) → PutsBelow page mask n steps → StillHeld page mask n (steps ++ xs)
@@ -163,20 +120,20 @@ may_put_word page mask n steps v order met does = record {
 
 -- Before the first word no grain of a mask was put.
 pub puts_none : (page : ℕ) (mask : Mask4) (v : View) → Does (put (masked_below page mask 0) page) v v
-puts_none page mask v = put_nothing (masked_below page mask 0) page (does_none v) (none_below page mask)
+puts_none page mask v = put_nothing (masked_below page mask 0) page (does_none v) (λ g. ap (λ t. t && masked page mask g) (le-ltb (g / 64 % 4) 0 (omega arith)))
 
 -- After one word more the grains of a mask up to it are put.
 pub puts_more : {σ σ1 σ2 : Standing} (page : ℕ) (mask : Mask4) (n : ℕ) (steps : List Made) → PutsBelow page mask n steps
     → Calls σ σ1 (MayPut page mask) (Does (put (masked_below page mask n) page)) steps
     → (p : PutsWord page n (slice_index mask.0 n) σ1 σ2) → Calls σ σ2 (MayPut page mask) (Does (put (masked_below page mask (n + 1)) page)) (p.steps ++ steps)
-puts_more page mask n steps order calls p = search (arith, call_then, may_put_word, put_both, below_more)
+puts_more page mask n steps order calls p = search (arith, call_then, may_put_word, put_both, in_word, shared, next_word)
 
 -- After all four words all grains of a mask are put.
 pub puts_all : {σ σ1 : Standing} (page : ℕ) (mask : Mask4) (steps : List Made) → PutsBelow page mask 4 steps
     → Calls σ σ1 (MayPut page mask) (Does (put (masked_below page mask 4) page)) steps → PutsMask page mask σ σ1
 puts_all page mask steps order calls = record {
   steps = steps;
-  calls = call_as _ calls (λ v met. met) (λ v w met d. put_as _ _ page d (all_below page mask));
+  calls = call_as _ calls (λ v met. met) (λ v w met d. put_as _ _ page d (λ g. ap (λ t. t && masked page mask g) (lt-ltb (g / 64 % 4) 4 (omega arith))));
   order = order;
   kinds = puts_kinds page mask 4 steps order;
   on = puts_on page mask 4 steps order;
@@ -186,25 +143,6 @@ puts_all page mask steps order calls = record {
 -- ==== Grains of one page, taken word by word.
 
 -- ---- the steps
-word_always : (P : Made → Type 0) (t : Bool) (m : Made) → P m → Always (λ m before. P m) (if t then [] else m ∷ [])
-word_always P t m p = grind arith
-
--- A take is one step at most.
-take_few : (t : Bool) (m : Made) → length (if t then [] else m ∷ []) ≤ 1
-take_few t m = grind arith
-
--- what a grain that is got does to whether it is held
-gets : (t had : Bool) → held_after (if t then Gets else Stays) had ≡ (t || had)
-gets t had = grind arith
-
--- Of three tests, in another order.
-or_move : (a b h : Bool) → (a || (b || h)) ≡ ((b || a) || h)
-or_move a b h = grind arith
-
--- Where the first holds, the others may be put for one another.
-one_test : (s p u a u' a' : Bool) → (s ≡ true → u ≡ u') → (s ≡ true → a ≡ a') → (((s && p) && u) && a) ≡ (s && (p && (u' && a')))
-one_test s p u a u' a' f g = grind arith
-
 -- the grain is got by the take of this word
 abbrev got_word : ℕ → ℕ → ℕ → ℕ → ℕ → Bool
 got_word page word mask a g = in_mask page word mask g && has_bit a (g % 64)
@@ -222,7 +160,7 @@ module _ (page word mask a : ℕ) where
   one t = if t then [] else made (Take page word mask) a ∷ []
 
   word_holds : (t : Bool) (g : ℕ) (v : View) → (mask == 0) ≡ t → holds (one t ++ v) g ≡ (got_word page word mask a g || holds v g)
-  word_holds t g v e = grind (arith, none_in, eqb-true, gets)
+  word_holds t g v e = grind (arith, none_in, eqb-true)
 
   word_does : (f : Profile) (t : Bool) (v : View) → (mask == 0) ≡ t → Agreed f v (one t) → Does (taken (got_word page word mask a)) v (one t ++ v)
   word_does f true v e agreed = search (arith, does_as, does_none, none_in, eqb-true)
@@ -248,7 +186,7 @@ module _ (page : ℕ) (masks answers : ℕ → ℕ) where
   -- What is so of each take of a word is so of the takes of a page.
   pub takes_always : (P : Made → Type 0) → ((word : ℕ) → P (made (Take page word (masks word)) (answers word))) → (n : ℕ)
       → Always (λ m before. P m) (takes page masks answers n)
-  takes_always P each = each_always P (λ word. word_take page word (masks word) (answers word)) (λ word. word_always P _ _ (each word))
+  takes_always P each = each_always P (λ word. word_take page word (masks word) (answers word)) (λ word. (grind arith))
 
   -- The takes of a page are takes alone.
   pub takes_only : (n : ℕ) → Only (Taking ∷ []) (takes page masks answers n)
@@ -264,7 +202,7 @@ module _ (page : ℕ) (masks answers : ℕ → ℕ) where
 
   -- The takes of n words are at most n.
   pub takes_few : (n : ℕ) → length (takes page masks answers n) ≤ n
-  takes_few = each_few (λ word. word_take page word (masks word) (answers word)) (λ word. take_few _ _)
+  takes_few = each_few (λ word. word_take page word (masks word) (answers word)) (λ word. (grind arith))
 
   -- An actor that has a page's right has it after takes.
   pub takes_right : (n : ℕ) (v : View) → has_right v page ≡ true → has_right (takes page masks answers n ++ v) page ≡ true
@@ -272,8 +210,7 @@ module _ (page : ℕ) (masks answers : ℕ → ℕ) where
 
   got_more : (n g : ℕ) → (got_below page masks answers n g || got_word page n (masks n) (answers n) g) ≡ got_below page masks answers (suc n) g
   got_more n g = ap (λ t. got_below page masks answers n g || t)
-      (one_test (n == g / 64 % 4) (page == g / 256) (has_bit (masks n) (g % 64)) (has_bit (answers n) (g % 64)) (has_bit (masks (g / 64 % 4)) (g % 64)) _
-      (λ e. ap (λ w. has_bit (masks w) (g % 64)) (eqb-true n _ e)) (λ e. ap (λ w. has_bit (answers w) (g % 64)) (eqb-true n _ e)))
+      (grind arith)
       ∙ shared (nat_lt (g / 64 % 4) n) (n == g / 64 % 4) (got_in page masks answers g) ∙ ap (λ t. t && got_in page masks answers g) (sym (next_word _ n) ∙ ap (nat_lt (g / 64 % 4)) (add-one n))
 
   none_got_below : (g : ℕ) → got_below page masks answers 0 g ≡ false
@@ -283,7 +220,7 @@ module _ (page : ℕ) (masks answers : ℕ → ℕ) where
   pub takes_hold : (n g : ℕ) (v : View) → holds (takes page masks answers n ++ v) g ≡ (got_below page masks answers n g || holds v g)
   takes_hold zero g v = ap (λ t. t || holds v g) (sym (none_got_below g))
   takes_hold (suc n) g v =
-      let rest = takes_hold n g v in grind (arith, rest, append_assoc, word_holds, or_move, got_more)
+      let rest = takes_hold n g v in grind (arith, rest, append_assoc, word_holds, got_more)
 
   takes_do : (f : Profile) (n : ℕ) (v : View) → Agreed f v (takes page masks answers n)
       → Does (taken (got_below page masks answers n)) v (takes page masks answers n ++ v)
@@ -318,7 +255,7 @@ module _ (page : ℕ) (masks answers : ℕ → ℕ) where
       → ((g : ℕ) → g / 256 ≡ page → holds before g ≡ false)
       → (n word : ℕ) → word < n → word < 4 → masks word ≢ 0 → Since (ShowsHere page word r) (KeptHere page) (takes page masks answers n ++ before)
   takes_read r bits before right none n word lt small some = words_read _ page piece
-      (λ w. keeps_by page (Taking ∷ []) _ refl (word_always (λ m. is_in (Taking ∷ []) (kind_of m.step) ≡ true) _ _ refl)) before right n word lt
+      (λ w. keeps_by page (Taking ∷ []) _ refl (grind arith)) before right n word lt
       (word_shows page word _ _ _ r _ refl some (rights_same (Taking ∷ []) refl page _ before (takes_only word) ∙ right) (bits word) (λ b hb.
       let g = page * 256 + (64 * word + b) in
       takes_hold word g before ∙ or_from _ _ (and_left (nat_lt (g / 64 % 4) word) (got_in page masks answers g) (le-ltb _ word (omega (arith, small, hb)))) (none g (omega (arith, small, hb)))))
@@ -329,22 +266,19 @@ module _ (page : ℕ) (mask answers got : Mask4) (got_is : (g : ℕ) → is_set 
   some_of : (g : ℕ) → is_set mask (g % 256) ≡ true → words mask (g / 64 % 4) ≢ 0
   some_of g set z = true≢false (sym set ∙ sym (bit_of mask (g / 64 % 4) g refl) ∙ ap (λ n. has_bit n (g % 64)) z ∙ none_of_zero (g % 64))
 
-  got_all : (g : ℕ) → got_below page (words mask) (words answers) 4 g ≡ masked page got g
-  got_all g = search (arith, lt-ltb, and_comm, bit_of)
-
   -- a grain that wasn't got is held as before
   pub takes_leave : (g : ℕ) (v : View) → masked page got g ≡ false → holds (takes page (words mask) (words answers) 4 ++ v) g ≡ holds v g
-  takes_leave g v none = takes_hold page (words mask) (words answers) 4 g v ∙ ap (λ t. t || holds v g) (got_all g ∙ none)
+  takes_leave g v none = takes_hold page (words mask) (words answers) 4 g v ∙ ap (λ t. t || holds v g) ((search (arith, lt-ltb, and_comm, bit_of)) ∙ none)
 
   -- and one that was got is held by these steps alone
   pub takes_got : (g : ℕ) → masked page got g ≡ true → holds (takes page (words mask) (words answers) 4) g ≡ true
-  takes_got g is = ap (λ s. holds s g) (sym (append-nil (takes page (words mask) (words answers) 4))) ∙ takes_hold page (words mask) (words answers) 4 g [] ∙ ap (λ t. t || false) (got_all g ∙ is)
+  takes_got g is = ap (λ s. holds s g) (sym (append-nil (takes page (words mask) (words answers) 4))) ∙ takes_hold page (words mask) (words answers) 4 g [] ∙ ap (λ t. t || false) ((search (arith, lt-ltb, and_comm, bit_of)) ∙ is)
 
   -- Takes of a mask get just those of its grains that were read as free.
   pub takes_get : (f : Profile) (v : View) → Agreed f v (takes page (words mask) (words answers) 4)
       → GetsGrains (masked page got) v (takes page (words mask) (words answers) 4 ++ v)
   takes_get f v agreed = record {
-    does = does_as _ (takes_do page (words mask) (words answers) f 4 v agreed) (λ g. inl (ap (λ t. if t then Gained else Kept) (got_all g))) (λ q. refl) (λ q h. h);
+    does = does_as _ (takes_do page (words mask) (words answers) f 4 v agreed) (λ g. inl (ap (λ t. if t then Gained else Kept) (search (arith, lt-ltb, and_comm, bit_of)))) (λ q. refl) (λ q h. h);
     apart = λ g here.
         let at = and_parts (page == g / 256) (is_set got (g % 256)) here in let both = and_parts _ (is_set mask (g % 256)) (sym (got_is (g % 256)) ∙ at.1) in
         false_from_ne_true _ (λ held. true≢false (sym both.0 ∙ sym (bit_of answers _ g refl)
@@ -382,23 +316,13 @@ takes_known {σ} page mask got took = record {
 abbrev settling : Kinds
 settling = LookFree ∷ LookBacked ∷ Unparking ∷ Hinting ∷ []
 
--- A hint, or none, settles what is owed.
-hints_settle : (page : ℕ) (all_free : Bool) (steps : List Made) → HintsWhere all_free page steps → Only settling steps
-hints_settle page all_free steps h = grind arith
-
--- the parked bit of a page whose right the actor has is read as 0
-unparks_only : (f : Profile) (page : ℕ) (d : Directory) (steps : List Made) (v : View) → ReofferSteps page d steps → Agreed f v steps → has_right v page ≡ true
-    → Only settling steps
-unparks_only f page d steps v e agreed right = grind (arith, true≢false)
-
 return_keeps : (f : Profile) (page : ℕ) (d : Directory) (steps : List Made) (v : View) → ReturnSteps page d steps → Agreed f v steps → has_right v page ≡ true
     → KeepsRight page steps
 return_keeps f page d steps v h agreed right =
     let looked = looks_until page h.used in
-    let all : Agreed f v (h.after ++ (looked ++ h.first)) = subst (Agreed f v) h.steps_are agreed in
-    let first : Agreed f v h.first = agreed_later f v looked h.first (agreed_later f v h.after _ all) in
-    keeps_by page settling steps refl (subst (Only settling) (sym h.steps_are) (only_both settling h.after _ (hints_settle page _ h.after h.hints)
-    (only_both settling looked h.first (only_within (LookFree ∷ []) settling looked refl (until_only page h.used)) (unparks_only f page d h.first v h.reoffers first right))))
+    let first : Agreed f v h.first = agreed_later f v looked h.first (agreed_later f v h.after _ (subst (Agreed f v) h.steps_are agreed)) in
+    keeps_by page settling steps refl (subst (Only settling) (sym h.steps_are) (only_both settling h.after _ (grind arith)
+    (only_both settling looked h.first (only_within (LookFree ∷ []) settling looked refl (until_only page h.used)) (grind (arith, true≢false)))))
 
 -- where a grain of the page is held its free words aren't all ones, so the page isn't hinted either
 abbrev pub unparking : Kinds
@@ -417,21 +341,11 @@ pub return_holds : (f : Profile) (page : ℕ) (d : Directory) (steps : List Made
     → has_right v page ≡ true → (g : ℕ) → g / 256 ≡ page → holds v g ≡ true → Only unparking steps
 return_holds f page d steps v h agreed right g at held =
     let looked = looks_until page h.used in
-    let all : Agreed f v (h.after ++ (looked ++ h.first)) = subst (Agreed f v) h.steps_are agreed in
-    let before : Agreed f v (looked ++ h.first) = agreed_later f v h.after _ all in
+    let before : Agreed f v (looked ++ h.first) = agreed_later f v h.after _ (subst (Agreed f v) h.steps_are agreed) in
     let first : Only unparking h.first = unparks_alone f page d h.first v h.reoffers (agreed_later f v looked h.first before) right in
-    let after : Only unparking h.after = hints_not f page g h.used _ _ h.hints (agreed_first f v looked _ before) at (holds_same unparking refl g _ v first ∙ held) in
-    subst (Only unparking) (sym h.steps_are) (only_both unparking h.after _ after (only_both unparking looked h.first (only_within (LookFree ∷ []) unparking looked refl (until_only page h.used)) first))
+    subst (Only unparking) (sym h.steps_are) (only_both unparking h.after _ (hints_not f page g h.used _ _ h.hints (agreed_first f v looked _ before) at (holds_same unparking refl g _ v first ∙ held)) (only_both unparking looked h.first (only_within (LookFree ∷ []) unparking looked refl (until_only page h.used)) first))
 
 -- ---- the page is clear again where it was
-clear_again : (t : Bool) (q : ℕ) (v u : View) → (t ≡ true → IsClearOn q v → IsClearOn q u)
-    → ClearAfter (later (if t then Lost else Kept) (if t then Kept else Kept)) q v u → IsClearOn q v → IsClearOn q u
-clear_again t q v u again h = grind arith
-
--- a mask that has none
-none_masked : (page : ℕ) (mask : Mask4) (g : ℕ) → IsEmpty mask → masked page mask g ≡ false
-none_masked page mask g empty = and_right (page == g / 256) (is_set mask (g % 256)) (empty (g % 256) (omega arith))
-
 -- steps that follow puts, on the same page
 both_on : (page : ℕ) (ys xs : List Made) → OnlyOn page ys → OnlyOn page xs → OnlyOn page (ys ++ xs)
 both_on page ys xs = always_both (λ m before. IsOnPage page m.step) (λ m before. IsOnPage page m.step) ys xs (λ m before h. h)
@@ -440,7 +354,7 @@ both_on page ys xs = always_both (λ m before. IsOnPage page m.step) (λ m befor
 pub puts_nothing : {σ : Standing} (page : ℕ) (d : Directory) (mask : Mask4) → IsEmpty mask → PutsAndReturns page d mask σ σ
 puts_nothing page d mask empty = record {
   steps = [];
-  calls = call_none (λ v met. does_as _ (does_none v) (λ g. inl (ap (λ t. if t then Lost else Kept) (sym (none_masked page mask g empty)))) (λ q. refl) (λ q h. h));
+  calls = call_none (λ v met. does_as _ (does_none v) (λ g. inl (ap (λ t. if t then Lost else Kept) (sym (and_right (page == g / 256) (is_set mask (g % 256)) (empty (g % 256) (omega arith)))))) (λ q. refl) (λ q h. h));
   order = inl (empty, refl);
   kinds = tt;
   on = tt;
@@ -461,10 +375,7 @@ module _ {σ σ1 : Standing} (page : ℕ) (d : Directory) (mask : Mask4) (puts :
 
   clear_after : {r : Fate} (v u : View) → Settles page r (puts.steps ++ v) u → (q : ℕ)
       → ClearAfter (later (if page == q then Lost else Kept) (if page == q then Kept else Kept)) q v u → IsClearOn q v → IsClearOn q u
-  clear_after v u settles q = clear_again (page == q) q v u (λ e. subst (λ p. IsClearOn p v → IsClearOn p u) (eqb-true page q e) (settled v u settles))
-
-  only_back : (ys : List Made) → Only returning ys → Only giving_back (ys ++ puts.steps)
-  only_back ys only = search (arith, only_both, only_within)
+  clear_after v u settles q = λ h. grind arith
 
   -- ---- and what follows every put
   return_call : Calls σ σ1 (MayPutAndReturn page d mask) (λ v w. Does (put (masked page mask) page) v w × KnowsDeed page d w) puts.steps
@@ -491,7 +402,7 @@ module _ {σ σ1 : Standing} (page : ℕ) (d : Directory) (mask : Mask4) (puts :
       steps = ret.steps ++ puts.steps;
       calls = returned_call;
       order = inr (some, puts.steps, ret.steps, puts.order, ret.order, refl);
-      kinds = only_back ret.steps (returns_are page ret.steps ret.returns);
+      kinds = search (arith, only_both, only_within, returns_are page ret.steps ret.returns);
       on = both_on page ret.steps puts.steps (returns_on page ret.steps ret.returns) puts.on;
       few = let all = length-append ret.steps puts.steps in omega (arith, all, ret.few, puts.few);
       keeps = keeps_right;
@@ -517,7 +428,7 @@ module _ {σ σ1 : Standing} (page : ℕ) (d : Directory) (mask : Mask4) (puts :
     calls = call_then _ leave_call left.calls may_leave (λ v met a b. does_as _ (does_then a.0 b.does) (λ g. inl refl)
         (λ q. kept_first (if page == q then Lost else Kept)) (clear_after v (left.steps ++ (puts.steps ++ v)) b));
     on = both_on page left.steps puts.steps (returns_on page left.steps left.returns) puts.on;
-    kinds = only_back left.steps (returns_are page left.steps left.returns);
+    kinds = search (arith, only_both, only_within);
     few = let all = length-append left.steps puts.steps in omega (arith, all, left.few, puts.few);
     put_order = puts.order;
     order = left.order;
@@ -566,27 +477,16 @@ all_read page answers (suc n) word lt all = elim (cases_eq word n) [
   | inr ne ↦ inr ((λ w mask same. cc), all_read page answers n word (omega (arith, lt, ne)) all)
 ]
 
-hint_after : (page : ℕ) (steps xs : List Made) → HintSteps page steps → ((word : ℕ) → word < 4 → Since (ReadsAllFree page word) (TakesNone page) xs)
-    → Always GivesDuly xs → Always GivesDuly (steps ++ xs)
-hint_after page steps xs e read rest = grind (arith, due_step)
-
 hints_where : (all_free : Bool) (page : ℕ) (steps xs : List Made) → HintsWhere all_free page steps
     → (all_free ≡ true → (word : ℕ) → word < 4 → Since (ReadsAllFree page word) (TakesNone page) xs) → Always GivesDuly xs → Always GivesDuly (steps ++ xs)
-hints_where all_free page steps xs h read rest = grind (arith, hint_after)
+hints_where all_free page steps xs h read rest = grind (arith, due_step)
 
 -- ---- what follows puts
-reoffer_due : (page : ℕ) (d : Directory) (steps : List Made) → ReofferSteps page d steps → Always GivesDuly steps
-reoffer_due page d steps e = grind (arith, due_step)
-
-until_read : (page : ℕ) (used : Option Used) → is_free used ≡ true → (xs : List Made) (word : ℕ) → word < 4
-    → Since (ReadsAllFree page word) (TakesNone page) (looks_until page used ++ xs)
-until_read page used free xs word lt = grind (arith, read_earlier, all_read, full_bit, true≢false)
-
 return_due : (page : ℕ) (d : Directory) (steps : List Made) → ReturnSteps page d steps → Always GivesDuly steps
 return_due page d steps h =
     let before = looks_until page h.used ++ h.first in
-    let rest = due_both _ h.first (due_none (LookFree ∷ []) _ refl (until_only page h.used)) (reoffer_due page d h.first h.reoffers) in
-    subst (Always GivesDuly) (sym h.steps_are) (hints_where _ page h.after before h.hints (λ free. until_read page h.used free h.first) rest)
+    let rest = due_both _ h.first (due_none (LookFree ∷ []) _ refl (until_only page h.used)) (grind (arith, due_step)) in
+    subst (Always GivesDuly) (sym h.steps_are) (hints_where _ page h.after before h.hints (λ free. (λ word lt. grind (arith, read_earlier, all_read, full_bit, true≢false))) rest)
 
 -- ---- a leave
 free_word : (all_free : Bool) (free : Mask4) → MatchBool all_free (IsAllFree free) (HasUsed free) → all_free ≡ true → (word : ℕ) → word < 4 → (b : ℕ) → b < 64
@@ -595,7 +495,7 @@ free_word true free all is word lt b small = sym (at_word free word b small) ∙
 free_word false free all is word lt b small = absurd (true≢false (sym is))
 
 reoffers_due : (usable : Bool) (page : ℕ) (d : Directory) (steps : List Made) → ReoffersWhere usable page d steps → Always GivesDuly steps
-reoffers_due usable page d steps h = grind (arith, reoffer_due)
+reoffers_due usable page d steps h = grind (arith, due_step)
 
 looks_due : (page : ℕ) (answers : ℕ → ℕ) → Always GivesDuly (looks page answers 4)
 looks_due page answers = due_none (LookFree ∷ []) (looks page answers 4) refl (looks_only page answers 4)
@@ -611,14 +511,11 @@ leave_due page d steps h = subst (Always GivesDuly) (sym h.steps_are) (end_due h
 -- grains that are held are put back, and what follows that
 module _ (page : ℕ) (d : Directory) (mask : Mask4) (xs : List Made) (held : (g : ℕ) → masked page mask g ≡ true → holds xs g ≡ true) (all : Always GivesDuly xs)
   where
-    put_first : (after puts : List Made) → Always GivesDuly after → PutsBelow page mask 4 puts → Always GivesDuly ((after ++ puts) ++ xs)
-    put_first after puts due order = search (arith, append_assoc, due_both, puts_due)
-
     -- Grains that the call holds are put back, and the page left, duly.
     pub put_and_leave_due : {σ σ' : Standing} (h : PutsAndLeaves page d mask σ σ') → Always GivesDuly ((h.after ++ h.puts) ++ xs)
-    put_and_leave_due h = put_first h.after h.puts (leave_due page d h.after h.order) h.put_order
+    put_and_leave_due h = search (arith, append_assoc, due_both, puts_due, leave_due page d h.after h.order)
 
     -- Grains that the call holds are put back, with what follows, duly.
     pub back_due : (steps : List Made) → BackSteps page d mask steps → Always GivesDuly (steps ++ xs)
     back_due steps (inl h) = subst (λ s. Always GivesDuly (s ++ xs)) (sym h.1) all
-    back_due steps (inr h) = subst (λ s. Always GivesDuly (s ++ xs)) (sym h.5) (put_first h.2 h.1 (return_due page d h.2 h.4) h.3)
+    back_due steps (inr h) = subst (λ s. Always GivesDuly (s ++ xs)) (sym h.5) (search (arith, append_assoc, due_both, puts_due, return_due page d h.2 h.4))

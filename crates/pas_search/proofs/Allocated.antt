@@ -36,16 +36,6 @@ pub room_to_search : {σ : Standing} {f : Profile} {d : Directory} {spare : ℕ}
 room_to_search {f = f} {spare = spare} can =
     record { view = can.view; whole = can.whole; stood = can.stood; met = record { may = can.met.may; room = room_for_one f spare can.view can.met.room } }
 
--- either way at most one
-few_deeds : (m : ℕ) {A B : Type 0} → (A → m ≡ 0) → (B → m ≡ 1) → A ⊎ B → m ≤ 1
-few_deeds m f g either = search arith
-
--- a grain that was taken and given is as it was, since it wasn't held
-taken_given : (t u held : Bool) → t ≡ u → (t ≡ true → held ≡ false)
-    → (later (if t then Gained else Kept) (if u then Lost else Kept) ≡ Kept)
-    ⊎ ((held ≡ false) × (now (later (if t then Gained else Kept) (if u then Lost else Kept)) false ≡ false))
-taken_given t u held e none = search (arith, true≢false)
-
 abbrev pub may_search : {σ : Standing} {d : Directory} {n spare : ℕ} → CanCall σ (SearchRoom σ.seat.profile d n spare) → CanCall σ (MaySearch d)
 may_search can = record { view = can.view; whole = can.whole; stood = can.stood; met = can.met.may }
 
@@ -75,9 +65,6 @@ module _ (p : Placement) (is : IsPlacement p) (asked : p.asked) (d : Directory) 
   new_call : Calls σ σ1 (MaySearch d) (KeepsNew (placing p) d served) xs
   new_call = finds_call (placing p) d served adds finds
 
-  may_give : (v : View) → MaySearch d v → KeepsNew (placing p) d served v (xs ++ v) → MayGive σ1.seat.profile d.heap page first n (xs ++ v)
-  may_give v met kept = search (arith, may_give_on, is_run, in_region)
-
   -- The run that a search found lies within the region.
   pub run_within : served.page * 256 + served.found.first + served.found.grains ≤ 256 * (σ1.seat.profile.pages + 1)
   run_within = search (arith, is_run)
@@ -85,13 +72,12 @@ module _ (p : Placement) (is : IsPlacement p) (asked : p.asked) (d : Directory) 
   -- The block of the run that a search found may be given.
   pub can_give : {spare : ℕ} → CanCall σ (SearchRoom σ.seat.profile d 2 spare)
       → CanCall σ1 (MayGive σ1.seat.profile d.heap served.page served.found.first served.found.grains)
-  can_give can = next_call new_call (may_search can) may_give
+  can_give can = next_call new_call (may_search can) (λ v met kept. search (arith, may_give_on, is_run, in_region))
 
   -- After the search there is room for the event of the give.
   pub room_to_give : {spare spare1 : ℕ} → deeds_made xs ≤ 1 → Spares σ spare → Spares σ1 spare1 → CanCall σ (SearchRoom σ.seat.profile d 2 spare) → 1 ≤ spare1
   room_to_give {spare} {spare1} made law law' can =
       let k : ℕ = σ.seat.actor in
-      let sought : CanCall σ (MaySearch d) = may_search can in
       let now : spare + length (events_of k can.view) ≡ σ.seat.room = law can.view can.whole can.stood in
       let split : length (events_of k (xs ++ can.view)) ≡ length (events_by k can.view xs) + length (events_of k can.view)
       = ap length (events_split k xs can.view) ∙ length-append (events_by k can.view xs) (events_of k can.view) in
@@ -101,7 +87,7 @@ module _ (p : Placement) (is : IsPlacement p) (asked : p.asked) (d : Directory) 
         | inl all ↦ let most = few.1 all in omega (arith, most, two)
         | inr three ↦ omega (arith, few.0, made, three)
       ] in
-      room_left {spare = spare1} 1 adds sought law' (omega (arith, now, split, fits))
+      room_left {spare = spare1} 1 adds (may_search can) law' (omega (arith, now, split, fits))
 
   module _ {σ2 : Standing} (block : Block) (gives : GivesRun d.heap served.page served.found.first served.found.grains block σ1 σ2) where
     abbrev given : List Made
@@ -117,15 +103,16 @@ module _ (p : Placement) (is : IsPlacement p) (asked : p.asked) (d : Directory) 
     give_call = call_knows page d (call_as (GaveRun page first n block) gives.calls (λ v met. met.0) (λ v w met gave. gave)) (λ v met. met.1)
 
     gave_call : Calls σ σ2 (MaySearch d) (λ v w. Gave v w × KnowsDeed page d w) (given ++ xs)
-    gave_call = call_then (λ v w. Gave v w × KnowsDeed page d w) new_call give_call (λ v met kept. (may_give v met kept, kept.found.deed)) (λ v met kept gave. (
-      record {
-        does = does_as (right_of page Gained) (does_then kept.found.keeps.does gave.0.does)
-            (λ g. taken_given _ (in_run (page * 256 + first) n g) (holds v g) (in_region g) (kept.apart g)) (λ q. refl) (λ q h. h);
-        apart = λ g inside. kept.apart g (in_region g ∙ sym (covers d.heap page first n gives.word block gives.block_is g) ∙ inside);
-        turn = gave.0.turn;
-      },
-      gave.1,
-    ))
+    gave_call = call_then (λ v w. Gave v w × KnowsDeed page d w) new_call give_call
+        (λ v met kept. ((search (arith, may_give_on, is_run, in_region)), kept.found.deed)) (λ v met kept gave. (
+          record {
+            does = does_as (right_of page Gained) (does_then kept.found.keeps.does gave.0.does)
+                (λ g. (search (arith, true≢false, in_region g))) (λ q. refl) (λ q h. h);
+            apart = λ g inside. kept.apart g (in_region g ∙ sym (covers d.heap page first n gives.word block gives.block_is g) ∙ inside);
+            turn = gave.0.turn;
+          },
+          gave.1,
+        ))
 
     may_leave : (v : View) → MaySearch d v → Gave v ((given ++ xs) ++ v) × KnowsDeed page d ((given ++ xs) ++ v) → MayLeave page d ((given ++ xs) ++ v)
     may_leave v met gave = search (arith, eq-eqb)
@@ -180,7 +167,7 @@ module _ (p : Placement) (is : IsPlacement p) (asked : p.asked) (d : Directory) 
 -- ---- by a search
 pub one_deed : (p : Placement) (d : Directory) {tells : Bool} {σ σ1 : Standing} (served : Served Run)
     (searches : Searches (placing p) tells d σ σ1 (Ok served)) → deeds_made searches.steps ≤ 1
-one_deed p d {σ = σ} served searches = search (arith, few_deeds)
+one_deed p d {σ = σ} served searches = search arith
 
 -- A run that was found, given and left is allocated.
 pub allocates : (p : Placement) (is : IsPlacement p) (asked : p.asked) (d : Directory) {tells : Bool}
@@ -195,8 +182,7 @@ allocates p is asked d {σ = σ} of_profile served searches block gives left = r
   after = left.steps ++ give_steps served.page served.found.first block gives.word gives.answer;
   adds = given_adds p is asked d of_profile served searches.adds searches.outcome block gives left;
   outcome = given_run p is asked d of_profile served searches.adds searches.outcome block gives left _ searches.outcome.choice;
-  told = λ t v l stood met. subst (λ q. IsLowestOffered p.no_fit σ.seat.profile d l q ⊎ IsLowestBare p.no_fit σ.seat.profile d l q)
-      (sym (page_is p is asked d of_profile served searches.adds searches.outcome block gives left)) (searches.told t v l stood met);
+  told = λ t v l stood met. rw (page_is p is asked d of_profile served searches.adds searches.outcome block gives left) (searches.told t v l stood met);
 }
 
 -- A search that was refused allocates nothing, for its reason.
@@ -231,8 +217,7 @@ allocates_best p is asked d {ranks} {σ = σ} of_profile served tries block give
     after = left.steps ++ give_steps served.page served.found.first block gives.word gives.answer;
     adds = given_adds p is asked d of_profile served tries.adds tries.outcome block gives left;
     given = given_run p is asked d of_profile served tries.adds tries.outcome block gives left (FromSurvey σ.seat.profile ranks d) tries.outcome.choice;
-    told = λ t v l stood met. subst (IsBestOffered p.no_fit σ.seat.profile ranks d l)
-        (sym (page_is p is asked d of_profile served tries.adds tries.outcome block gives left)) (tries.told t v l stood met);
+    told = λ t v l stood met. rw (page_is p is asked d of_profile served tries.adds tries.outcome block gives left) (tries.told t v l stood met);
   },
 )
 
@@ -246,19 +231,9 @@ allocates_then p d {answer = answer} tries a = let seat_is = tries.adds.seat_is 
   few = subst (λ (seat : Seat). length a.searched ≤ search_steps 15 seat.profile.pages) seat_is a.few;
   after = a.after;
   adds = adds_then tries a.adds;
-  outcome = subst (λ (seat : Seat). MatchResult answer (IsGiven (placed p) p.run seat.profile d a.searched a.after)
-      (λ why. IsRefused p.no_fit seat.profile d a.searched why × (a.after ≡ []))) seat_is a.outcome;
-  told = λ t v l b met. subst (λ (seat : Seat). IsTold (λ (block : Block). address_of block.name / 4096) p.no_fit seat.profile d l
-      (triples seat.actor (a.after ++ a.searched) ++ l) answer) seat_is (a.told t v l (stood_then tries v l b) met);
+  outcome = rw seat_is at a.outcome;
+  told = λ t v l b met. rw seat_is at (a.told t v l (stood_then tries v l b) met);
 }))
-
--- A request for a run whose actor alone made steps meanwhile.
--- both cases are parts of what the request promises
-found_or_refused : {Found : Type 0} (choice : Choice Found) (run : Found → Run) (f : Profile) (d : Directory) (searched after : List Made)
-    (answer : Result Block NoRoom)
-    → MatchResult answer (IsGiven choice run f d searched after) (λ why. IsRefused choice.no_fit f d searched why × (after ≡ []))
-    → IsFoundOrRefused choice.no_fit f d searched answer
-found_or_refused choice run f d searched after answer refused = search arith
 
 -- A request for a run whose actor went on alone finds what there is.
 pub run_alone : {Found : Type 0} {σ σ' : Standing} (choice : Choice Found) (run : Found → Run) (d : Directory) (tells : Bool) (answer : Result Block NoRoom)
@@ -266,4 +241,4 @@ pub run_alone : {Found : Type 0} {σ σ' : Standing} (choice : Choice Found) (ru
     → IsValid σ.seat.profile → IsDirectoryOf σ.seat.profile d → IsAntitone choice.no_fit
     → Legal σ.seat.profile (triples σ.seat.actor (call.after ++ call.searched) ++ l) → MaySearch d (part σ.seat.actor l)
     → FindsWhatThereIs choice.no_fit σ.seat.profile d l answer
-run_alone {σ = σ} choice run d tells answer call l valid of fewer legal may = search (arith, found_before, found_or_refused)
+run_alone {σ = σ} choice run d tells answer call l valid of fewer legal may = search (arith, found_before)

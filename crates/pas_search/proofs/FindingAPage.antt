@@ -48,10 +48,6 @@ held_here d p [] xs vain none zero_read lacks h = absurd h
 held_here d p (m ∷ more) xs vain none zero_read lacks (inl k) = search (arith, right_own, missing, once_later, vain_lacks)
 held_here d p (m ∷ more) xs vain none zero_read lacks (inr h) = inr (held_here d p more xs vain.1 none zero_read lacks h)
 
-parked_later : (d : Directory) (p : ℕ) (ys xs : List Made) → has_right xs p ≡ false → Once (ZeroHere d p) xs → Once (ParkedHere true p) ys
-    → Once (ParkedLater d p) (ys ++ xs)
-parked_later d p ys xs none zero_read = once_earlier _ _ ys xs (λ m before k. ((k.0, k.1, right_own p before xs none ∙ k.2), inl (once_later _ _ xs zero_read)))
-
 module _ {F : Type 0} (rule : Rule F) (f : Profile) (d : Directory) (marks : List ℕ) (ys xs : List Made) (scans : OnlyScans ys)
     (s : Searching rule.no_fit f d (f.pages + 1) marks xs) where
   -- The verdict's steps are looks, so they change nothing.
@@ -61,7 +57,7 @@ module _ {F : Type 0} (rule : Rule F) (f : Profile) (d : Directory) (marks : Lis
   all_accounted : (end : ℕ) → end ≤ f.pages + 1 → AllParked f marks d end ys → AllAccounted f d end (ys ++ xs)
   all_accounted end limit all v agreed p low high is = elim (cases_Bool (is_marked marks p)) [
     | inl m ↦ inl (once_later (LeftHere p) ys xs (once_map (UnfitHere rule.no_fit p) (LeftHere p) xs (λ m before u. (u.left, u.kept, u.got)) (s.marked p m)))
-    | inr m ↦ inr (parked_later d p ys xs (s.untouched p).right (s.zeros p low (omega (arith, limit, high)) m)
+    | inr m ↦ inr (once_earlier _ _ ys xs (λ m' before k. ((k.0, k.1, right_own p before xs ((s.untouched p).right) ∙ k.2), inl (once_later _ _ xs (s.zeros p low (omega (arith, limit, high)) m))))
         (all (xs ++ v) p high (record { of_region = (low, omega (arith, limit, high)); of_directory = subst (KnowsDeed p d) (append_assoc ys xs v) is; unmarked = m })))
   ]
 
@@ -153,8 +149,7 @@ module _ (f : Profile) (k : ℕ) (l : Whole) (d : Directory) (xs : List Made) (v
             let spot = spot_same f k l p xs legal none lacked in
             elim account [
               | inl (inl left) ↦ had (once_map (LeftHere p) (KeptHere p) xs (λ m before h. h.1) left)
-              | inl (inr parked) ↦ true≢false (sym (at.parked ∙ (ap is_parked spot
-                  ∙ parked_told f k l p true xs legal none lacked (once_map (ParkedLater d p) (ParkedHere true p) xs (λ m before h. h.0) parked))) ∙ hands.not_parked)
+              | inl (inr parked) ↦ true≢false (cc (parked_told f k l p true xs legal none lacked (once_map (ParkedLater d p) (ParkedHere true p) xs (λ m before h. h.0) parked)))
               | inr offered ↦ true≢false (sym (at.eligible (number_of d) ∙ (ap (is_offered (number_of d)) spot ∙ offer_told f k l d p true xs legal none lacked offered)) ∙ hands.not_offered)
             ]
         | inr (inl has) ↦ true≢false (sym (right_of_own p xs (part k l) has) ∙ (same ∙ none))
@@ -196,9 +191,6 @@ module _ {F : Type 0} (rule : Rule F) (f : Profile) (k : ℕ) (l : Whole) (d : D
   ]
 
   -- ---- a refusal
-  entry_none : (room : NoRoom) → IsRefused rule.no_fit f d xs room → HasNoFit rule.no_fit f d l
-  entry_none room is = none_serves rule.no_fit f k l d xs fewer legal searches is.searched is.deeds is.quiet
-
   exit_none : (room : NoRoom) → IsRefused rule.no_fit f d xs room → HasNoFit rule.no_fit f d w
   exit_none room is = record {
     offered = λ page fit. let high = fit.of_region.1 in elim (is.searched page fit.of_region.0 (omega (arith, high))) [
@@ -219,12 +211,11 @@ module _ {F : Type 0} (rule : Rule F) (f : Profile) (k : ℕ) (l : Whole) (d : D
 
   held_in_hands : (room : NoRoom) → IsRefused rule.no_fit f d xs room → (p : ℕ) → IsHeld f d xs p → IsInHands f d w p
   held_in_hands room is p held =
-      let read = once_map (HeldHere d p) (ParkedHere false p) xs (λ m before h. h.0) held.held in
       held_there f k l d xs valid of legal may.rights p held.page_of (held.of_directory (part k l) agreed) held.lacked
       (elim (is.searched p held.page_of.0 (omega (arith, held.page_of.1))) [
         | inl u ↦ absurd (unfit_lacks rule.no_fit p xs u held.lacked)
         | inr z ↦ z.1
-      ]) read
+      ]) (once_map (HeldHere d p) (ParkedHere false p) xs (λ m before h. h.0) held.held)
 
   -- The reason of a refusal is true of the state at exit.
   reason : (room : NoRoom) → IsRefused rule.no_fit f d xs room → IsTrueReason f d w room
@@ -235,7 +226,7 @@ module _ {F : Type 0} (rule : Rule F) (f : Profile) (k : ℕ) (l : Whole) (d : D
   all_told : (answer : Result (Served F) NoRoom) → MatchResult answer (IsServed rule f d xs) (IsRefused rule.no_fit f d xs)
       → IsTold (λ (s : Served F). s.page) rule.no_fit f d l w answer
   all_told (Ok served) h = could_serve served.page (rule.kept served.found) h.page h.choice h.shows
-  all_told (Err room) h = (entry_none room h, exit_none room h, reason room h)
+  all_told (Err room) h = ((none_serves rule.no_fit f k l d xs fewer legal searches h.searched h.deeds h.quiet), exit_none room h, reason room h)
 
 -- ---- an offered page serves
 -- what a search promises of its steps
@@ -298,11 +289,12 @@ module _ {F : Type 0} (rule : Rule F) (f : Profile) (d : Directory) (marks : Lis
       (ready f d _ m ws (GetsRight.Deeds d 0 refl) (λ v met. met.clear) now.still (λ v agreed. deed_known _ d 0 (ws ++ v) refl)) (now.untouched served.page)
       served.found (λ call. FromOffered rule.no_fit d served.page call ⊎ ByDeed rule.no_fit f d served.page call) bare.serves bare.page (inr deed_made)
       (λ k v agreed.
-      let one : length (events_by k v (m ∷ ws)) ≡ 1 = ap (λ es. suc (length es)) (events_quiet k v ws now.quiet) in
       let some : length (events_by k ((m ∷ ws) ++ v) bare.serve) ≤ rule.events = bare.serves.few k ((m ∷ ws) ++ v) in
       let counts = ap length (events_append k bare.serve (m ∷ ws) v) ∙ length-append (events_by k ((m ∷ ws) ++ v) bare.serve) (events_by k v (m ∷ ws)) in
-      let deed = one_deed in
-      (omega (arith, one, some, counts, deed), λ known. absurd (unknown f v _ call agreed (once_later _ bare.serve (m ∷ ws) (inl (ReadsDeed.Deeds d, refl))) (known _ bare.page))))
+      let deed = one_deed in (
+        omega (arith, ap (λ es. suc (length es)) (events_quiet k v ws now.quiet), some, counts, deed),
+        λ known. absurd (unknown f v _ call agreed (once_later _ bare.serve (m ∷ ws) (inl (ReadsDeed.Deeds d, refl))) (known _ bare.page)),
+      ))
       (inr IsDeedOrBack.Deeds) now.quiet now.searches (λ v agreed got. unknown f (ws ++ v) served.page (m ∷ []) (agreed.0, tt) (inl (ReadsDeed.Deeds d, refl)) (got_known f served.page ws v agreed.1 got)))
 
 -- what the search of offered pages asks
@@ -341,9 +333,6 @@ module _ {F : Type 0} {rule : Rule F} {σ σ1 : Standing} {d' : Directory} (d : 
   }
 
   -- ---- a refusal
-  last_within : (h : Profile) (ys : List Made) (room : NoRoom) → IsVerdict h marks d ys room → last_block h room ≤ h.pages / 64
-  last_within h ys room all = grind arith
-
   -- A search that found neither, and was judged, ends refused for that reason.
   pub ends_refused : {σ2 σ3 : Standing} (room : NoRoom) → SearchesBare rule d σ1 σ2 None → Judges marks d σ2 σ3 room → Ends rule d σ σ3 (Err room)
   ends_refused room bare judged =
@@ -355,7 +344,7 @@ module _ {F : Type 0} {rule : Rule F} {σ σ1 : Standing} {d' : Directory} (d : 
         steps = judged.steps ++ xs;
         adds = adds_call {D = AnyView} (bare_adds bare.adds) judged.adds (λ v l stood met. tt);
         few =
-            let last : last_block f room ≤ f.pages / 64 = last_within f judged.steps room verdict in
+            let last : last_block f room ≤ f.pages / 64 = (grind arith) in
             let short = subst (λ x. length judged.steps ≤ 65 * (last_block x room + 1)) (profile_kept (bare_adds bare.adds)) judged.few in
             omega (arith, last, short, offered.few, bare.few, pages_kept, length-append judged.steps xs, length-append bare.steps offered.steps);
         searches = vain_search judged.steps xs (reads_vain judged.steps (looks_read judged.steps (scans_look judged.steps judged.scans))) s.searches;

@@ -32,22 +32,8 @@ once_lone P C f k l step (m ∷ xs) lone (inl here) = step m xs lone here
 once_lone P C f k l step (m ∷ xs) lone (inr h) = once_lone P C f k l step xs (fewer lone) h
 
 -- ---- GRAINS: one that isn't free stays so, since the steps put only what they took, and took only what was free
-step_moves : (s : Step) (a g : ℕ) (bit held : Bool) → is_in lending (kind_of s) ≡ false
-    → ((page word mask : ℕ) → s ≡ Take page word mask → in_mask page word mask g ≡ true → has_bit a (g % 64) ≡ bit)
-    → ((page word mask : ℕ) → s ≡ Put page word mask → in_mask page word mask g ≡ true → held ≡ true) → bit ≡ false → held ≡ false
-    → (free_moved (grain_move s a g) bit ≡ false) × (held_after (grain_move s a g) held ≡ false)
-step_moves s a g bit held lends reads took used word = search (arith, true≢false)
-
 mask_word : (page word mask g : ℕ) → in_mask page word mask g ≡ true → Word.Free page word ≡ free_word_at g
 mask_word page word mask g h = search (arith, eqb-true, false≢true)
-
--- The free word that was read is that of the state.
-free_told : (w : Whole) (p word : ℕ) (s : Step) (a : ℕ) → ReadsFree p word s → a ≡ word_after w (target s) → a ≡ word_after w (Word.Free p word)
-free_told w p word s a reads is = search arith
-
--- The bit of a grain in it is that of the page.
-grain_bit : (w : Whole) (p word b : ℕ) → word < 4 → b < 64 → has_bit (word_after w (Word.Free p word)) b ≡ free_of_page w p (64 * word + b)
-grain_bit w p word b small lt = search arith
 
 module _ (f : Profile) (k : ℕ) (l : Whole) where
   -- A grain that isn't free stays so, and isn't got, by steps that give and end no block and put back only what they took.
@@ -55,7 +41,7 @@ module _ (f : Profile) (k : ℕ) (l : Whole) where
       → (bit_of (triples k xs ++ l) g ≡ false) × (holds xs g ≡ false)
   stays_used g [] legal lends due used = (used, refl)
   stays_used g (m ∷ xs) legal lends due used =
-      let rest = stays_used g xs legal.1 lends.1 due.1 used in grind (arith, rest, step_moves, mask_word, free_step)
+      let rest = stays_used g xs legal.1 lends.1 due.1 used in grind (arith, rest, true≢false, mask_word, free_step)
 
   -- A grain is free after such steps, or taken by them, exactly where it was free before them.
   pub free_same : (g : ℕ) (xs : List Made) → IsLone f k l xs → (bit_of (triples k xs ++ l) g || holds xs g) ≡ bit_of l g
@@ -70,8 +56,8 @@ module _ (f : Profile) (k : ℕ) (l : Whole) where
   bit_read page word b m xs lone small lt reads =
       let w : Whole = triples k xs ++ l in
       let g : ℕ = page * 256 + (64 * word + b) in
-      let now = free_told w page word m.step m.answer reads lone.legal.0.answer_is in
-      ap (λ (n : ℕ). has_bit n b || holds xs g) now ∙ ap (λ (t : Bool). t || holds xs g) (grain_bit w page word b small lt ∙ of_page w page (64 * word + b))
+      let now : m.answer ≡ word_after w (Word.Free page word) = search arith in
+      ap (λ (n : ℕ). has_bit n b || holds xs g) now ∙ ap (λ (t : Bool). t || holds xs g) ((search arith) ∙ of_page w page (64 * word + b))
       ∙ (free_same g xs (fewer lone) ∙ sym (of_page l page (64 * word + b)))
 
   -- A free word that was read with all grains free had them so.

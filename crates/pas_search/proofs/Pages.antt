@@ -37,11 +37,6 @@ use Rattle.pas_search.specs.declared.placing.Run.{Run}
 pub quiet_by : (steps : List Made) → Only taking_grains steps → AreQuiet steps
 quiet_by steps = search (arith, always_map, no_event, in_apart)
 
--- the right of a page that the actor has is kept
-right_kept : (page q : ℕ) (t : Bool) (v w : View) → (page == q) ≡ t → has_right v page ≡ true → has_right w q ≡ has_right v q
-    → has_right w q ≡ now (if t then Gained else Kept) (has_right v q)
-right_kept page q t v w e right same = grind (arith, eqb-true)
-
 -- the grain, a number of the region, is of the page and one of these of it
 abbrev pub on_page : ℕ → (ℕ → Bool) → ℕ → Bool
 on_page page kept g = (page == g / 256) && kept (g % 256)
@@ -78,15 +73,10 @@ module _ {Found : Type 0} (rule : Rule Found) (page : ℕ) (d : Directory) (r : 
         (empty : (before : List Made) → GotBefore page before → HoldsNone page (p.steps ++ before))
         (not_free : (v : View) → MayServe page d v → Agreed σ.seat.profile v p.steps → ((g : ℕ) → g / 256 ≡ page → known_free v g ≡ true) → ⊥)
         (short : length p.steps + 11 ≤ rule.steps) {σ2 : Standing} (left : Leaves page d σ1 σ2) where
-      none_on : (g : ℕ) → on_page page kept g ≡ false
-      none_on g = and_right (page == g / 256) (kept (g % 256)) (none (g % 256) (omega arith))
-
       left_call : Calls σ σ2 (MayServe page d) (Does (right_of page Lost)) (left.steps ++ p.steps)
       left_call = call_then (Does (right_of page Lost)) prepared left.calls may_leave (λ v met a b. does_as (right_of page Lost) (does_then a.0 b.does)
-          (λ g. inl (ap (λ t. if t then Gained else Kept) (none_on g))) (λ q. kept_first _) (λ q h. subst (λ t. ClearAfter t q v (left.steps ++ (p.steps ++ v))) (kept_kept (page == q)) h))
-
-      left_kinds : Only taking_grains (left.steps ++ p.steps)
-      left_kinds = search (arith, only_both, only_within, returns_are)
+          (λ g. inl (ap (λ t. if t then Gained else Kept) (and_right (page == g / 256) (kept (g % 256)) (none (g % 256) (omega arith))))) (λ q. kept_first _)
+          (λ q h. subst (λ t. ClearAfter t q v (left.steps ++ (p.steps ++ v))) (kept_kept (page == q)) h))
 
       -- A page of which nothing is kept, as nothing fits, was left.
       pub leaves_page : ServesPage rule page d σ σ2 None
@@ -95,16 +85,16 @@ module _ {Found : Type 0} (rule : Rule Found) (page : ℕ) (d : Directory) (r : 
         adds = left_call.adds;
         serves = record {
           only = record {
-            kinds = only_within taking_grains serving (left.steps ++ p.steps) refl left_kinds;
+            kinds = only_within taking_grains serving (left.steps ++ p.steps) refl (search (arith, only_both, only_within, returns_are));
             on = always_both _ (λ m before. IsOnPage page m.step) left.steps p.steps (λ m before h. h) (returns_on page left.steps left.returns) p.on;
           };
           due = due_both left.steps p.steps (leave_due page d left.steps left.order) p.due;
-          few = λ k v. subst (λ es. length es ≤ rule.events) (sym (no_events taking_grains refl k v (left.steps ++ p.steps) left_kinds)) (omega arith);
+          few = λ k v. subst (λ es. length es ≤ rule.events) (sym (no_events taking_grains refl k v (left.steps ++ p.steps) (search (arith, only_both, only_within, returns_are)))) (omega arith);
           short = let all = length-append left.steps p.steps in omega (arith, all, left.few, short);
           outcome = record {
             leaves = left_call.leads;
             left = record { before = p.steps; leave = left.steps; order = left.order; steps_are = refl };
-            quiet = quiet_by (left.steps ++ p.steps) left_kinds;
+            quiet = quiet_by (left.steps ++ p.steps) (search (arith, only_both, only_within, returns_are));
             untouched = search (arith, append_assoc, leave_lacks, holds_same, returns_are);
             unfit = λ before got. subst (Once (UnfitHere rule.no_fit page)) (sym (append_assoc left.steps p.steps before)) (unfit_left _ page _ _ left.left
                 (rights_stay p.steps before page p.keeps got.right) (once_later _ p.steps before got.got) r unfit (p.read before got));
@@ -136,7 +126,7 @@ module _ {Found : Type 0} (rule : Rule Found) (page : ℕ) (d : Directory) (r : 
             let does = does_as (taken (on_page page (rule.kept found))) (does_then after.0 (does_idly σ.seat.profile (Backing ∷ []) refl (made (Back page) a ∷ []) (p.steps ++ v) (refl, tt) (agrees, tt)))
             (λ g. inl (ap (λ t. if (page == g / 256) && t then Gained else Kept) (same (g % 256) (omega arith)))) (λ q. refl) (λ q h. h) in
             record {
-              does = search (arith, right_kept);
+              does = search (arith, eqb-true);
               backed = search (arith, and_from, eq-eqb, any_from, first_held);
             })
 
@@ -163,10 +153,6 @@ module _ {Found : Type 0} (rule : Rule Found) (page : ℕ) (d : Directory) (r : 
         }
 
 -- ---- the grains that steps take
--- what takes nothing takes no grain but these
-idle_keeps : (kept : ℕ → Bool) (page : ℕ) (m : Made) → is_in (LookFree ∷ []) (kind_of m.step) ≡ true → TakesKept kept page m
-idle_keeps kept page m is word mask g same here = let none = sym is ∙ ap (λ s. is_in (LookFree ∷ []) (kind_of s)) same in absurd (true≢false none)
-
 -- takes of these grains alone
 takes_kept : (page : ℕ) (grains : Mask4) (kept : ℕ → Bool) → ((b : ℕ) → b < 256 → is_set grains b ≡ kept b) → (answers : ℕ → ℕ) (n : ℕ)
     → Always (λ m before. TakesKept kept page m) (takes page (words grains) answers n)
@@ -174,8 +160,8 @@ takes_kept page grains kept exactly answers = takes_always page (words grains) a
     let word_is : taken ≡ word = cc in
     let mask_is : words grains taken ≡ mask = cc in
     let at = and_parts ((word == g / 64 % 4) && (page == g / 256)) (has_bit mask (g % 64)) here in
-    let in_word = and_parts (word == g / 64 % 4) (page == g / 256) at.0 in
-    sym (exactly (g % 256) (omega arith)) ∙ sym (bit_of grains taken g (word_is ∙ eqb-true word (g / 64 % 4) in_word.0)) ∙ ap (λ w. has_bit w (g % 64)) mask_is ∙ at.1)
+    sym (exactly (g % 256) (omega arith)) ∙ sym (bit_of grains taken g
+    (word_is ∙ eqb-true word (g / 64 % 4) (and_parts (word == g / 64 % 4) (page == g / 256) at.0).0)) ∙ ap (λ w. has_bit w (g % 64)) mask_is ∙ at.1)
 
 -- what holds of each step since the right was got
 since_got : (P : Made → Type 0) (page : ℕ) (steps before : List Made) → Always (λ m past. P m) steps → IsJustGot page before
@@ -221,14 +207,11 @@ module _ {Found : Type 0} (choice : Choice Found) (page : ℕ) (d : Directory) {
   can_take can = next_call look_call can (λ v met after. after.0.right page ∙ met.right)
 
   -- ---- nothing fits
-  none_got : {v w : View} → Does nothing v w → Does (taken (on_page page (λ b. false))) v w
-  none_got does = search (arith, does_as, and_right)
-
   -- After the looks at a page its free grains are known, and nothing is taken.
   pub looked_at : Prepares page d (is_set free) (λ b. false) σ σ1
   looked_at = record {
     steps = looked;
-    calls = record { adds = look_call.adds; leads = record { from = λ v met agreed. none_got (look_call.leads.from v met agreed).0 } };
+    calls = record { adds = look_call.adds; leads = record { from = λ v met agreed. (search (arith, does_as, and_right, (look_call.leads.from v met agreed).0)) } };
     kinds = only_within (LookFree ∷ []) taking_grains looked refl looked_only;
     on = looks_on page (words free) 4;
     keeps = keeps_by page (LookFree ∷ []) looked refl looked_only;
@@ -255,12 +238,9 @@ module _ {Found : Type 0} (choice : Choice Found) (page : ℕ) (d : Directory) {
 
   -- ---- this was chosen
   module _ (found : Found) (grains : Mask4) (is : IsChosen choice (is_set free) found grains) where
-    chosen_free : (g : ℕ) → masked page grains g ≡ true → masked page free g ≡ true
-    chosen_free g here = search (arith, and_parts, and_from)
-
     may_take : (v : View) → MayServe page d v → Does nothing v (looked ++ v) × ((g : ℕ) → masked page free g ≡ true → known_free (looked ++ v) g ≡ true)
         → MayTakeAll page grains (looked ++ v)
-    may_take v met after = record { right = after.0.right page ∙ met.right; free = λ g here. after.1 g (chosen_free g here) }
+    may_take v met after = record { right = after.0.right page ∙ met.right; free = λ g here. after.1 g (search (arith, and_parts, and_from)) }
 
     module _ {σ2 : Standing} (got : Mask4) (took : TakesMask page grains σ1 σ2 got) where
       abbrev ts : List Made
@@ -268,9 +248,6 @@ module _ {Found : Type 0} (choice : Choice Found) (page : ℕ) (d : Directory) {
 
       ts_only : Only (Taking ∷ []) ts
       ts_only = takes_only page (words grains) (words took.answers) 4
-
-      all_only : Only looking_and_taking (ts ++ looked)
-      all_only = search (arith, only_both, only_within, ts_only, looked_only)
 
       take_call : Calls σ σ2 (MayServe page d) (Does (taken (on_page page (choice.kept found)))) (ts ++ looked)
       take_call = call_then (Does (taken (on_page page (choice.kept found)))) look_call (takes_known page grains got took) may_take (λ v met a b.
@@ -284,17 +261,17 @@ module _ {Found : Type 0} (choice : Choice Found) (page : ℕ) (d : Directory) {
         kinds = only_both taking_grains ts looked (only_within (Taking ∷ []) taking_grains ts refl ts_only) (only_within (LookFree ∷ []) taking_grains looked refl looked_only);
         on = always_both _ _ ts looked (λ m before h. h) (takes_on page (words grains) (words took.answers) 4) (looks_on page (words free) 4);
         keeps = always_both _ _ ts looked (λ m before h. h) (takes_keep page (words grains) (words took.answers) 4) (keeps_by page (LookFree ∷ []) looked refl looked_only);
-        read = λ before got word lt. subst (Since (ShowsHere page word (is_set free)) (KeptHere page)) (sym (append_assoc ts looked before))
-            (since_kept _ page ts _ (takes_keep page (words grains) (words took.answers) 4) (rights_same (LookFree ∷ []) refl page looked before looked_only ∙ got.right) (looked_read before got word lt));
+        read = λ before got word lt. rw append_assoc (since_kept _ page ts _ (takes_keep page (words grains) (words took.answers) 4)
+            (rights_same (LookFree ∷ []) refl page looked before looked_only ∙ got.right) (looked_read before got word lt));
         held = record { from = λ v met agreed. unheld.from v met (agreed_later σ.seat.profile v ts looked agreed) };
-        due = due_none looking_and_taking (ts ++ looked) refl all_only;
-        marks = λ some. keeps_marks looking_and_taking page (ts ++ looked) refl all_only;
+        due = due_none looking_and_taking (ts ++ looked) refl (search (arith, only_both, only_within, ts_only, looked_only));
+        marks = λ some. keeps_marks looking_and_taking page (ts ++ looked) refl (search (arith, only_both, only_within, ts_only, looked_only));
       }
 
       takes_all : Always (λ m before. TakesKept (choice.kept found) page m) (ts ++ looked)
       takes_all = always_both (λ m before. TakesKept (choice.kept found) page m) (λ m before. TakesKept (choice.kept found) page m) ts looked (λ m before h. h)
           (takes_kept page grains (choice.kept found) is.exactly (words took.answers) 4)
-          (always_map _ (λ m before. TakesKept (choice.kept found) page m) looked (λ m before. idle_keeps (choice.kept found) page m) looked_only)
+          (always_map _ (λ m before. TakesKept (choice.kept found) page m) looked (λ m before. (λ is word mask g same here. let none = sym is ∙ ap (λ s. is_in (LookFree ∷ []) (kind_of s)) same in absurd (true≢false none))) looked_only)
 
       -- A page of which the chosen grains were taken, and which was backed, serves and keeps them.
       pub keeps_chosen : {σ3 : Standing} (a : ℕ) → Makes σ2 σ3 (Back page) a → ServesPage (choosing choice) page d σ σ3 (Some found)

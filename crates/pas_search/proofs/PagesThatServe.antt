@@ -35,23 +35,17 @@ use Rattle.pas_core.proofs.OneActor.{no_event_fails_test}
 use Rattle.pas_steps.proofs.Evidence.{zero_before, deed_known, deed_before, unknown}
 
 -- ---- steps of two calls
-duly_later : (m : Made) (before xs : List Made) → ReturnsDuly m before → ReturnsDuly m (before ++ xs)
-duly_later m before xs h = (λ page is. once_earlier (GetsHere page) (GetsHere page) before xs (λ n b gets. gets) (h.0 page is), due_later m before xs h.1)
-
 -- Two lists of steps that return duly do so together.
 pub duly_both : (ys xs : List Made) → Always ReturnsDuly ys → Always ReturnsDuly xs → Always ReturnsDuly (ys ++ xs)
-duly_both ys xs = always_both ReturnsDuly ReturnsDuly ys xs (λ m before h. duly_later m before xs h)
+duly_both ys xs = always_both ReturnsDuly ReturnsDuly ys xs
+    (λ m before h. ((λ page is. once_earlier (GetsHere page) (GetsHere page) before xs (λ n b gets. gets) (h.0 page is), due_later m before xs h.1)))
 
 -- ---- kinds
 abbrev pub turning_back : Kinds
 turning_back = Offering ∷ Parking ∷ Unparking ∷ Hinting ∷ []
 
--- A step that gives a page back is of such a kind: step by step.
-return_kind : (page : ℕ) (s : Step) → IsReturnOf page s → is_in turning_back (kind_of s) ≡ true
-return_kind page s e = grind arith
-
 no_return : (ks : Kinds) (page : ℕ) (s : Step) → apart ks turning_back ≡ true → is_in ks (kind_of s) ≡ true → IsReturnOf page s → ⊥
-no_return ks page s out is returns = true≢false (sym (return_kind page s returns) ∙ in_apart ks turning_back (place_of (kind_of s)) out is)
+no_return ks page s out is returns = true≢false (sym (grind arith) ∙ in_apart ks turning_back (place_of (kind_of s)) out is)
 
 -- steps of other kinds
 pub duly_none : (ks : Kinds) (steps : List Made) → apart ks turning_back ≡ true → apart ks giving ≡ true → Only ks steps → Always ReturnsDuly steps
@@ -158,27 +152,19 @@ does_rights : (f : Profile) (fates : ℕ → Fate) (m : Made) (v : View) → Rig
 does_rights f fates m v h agrees = does_as (righted fates) (does_step f m.step m.answer v (in_apart searching unbacking _ refl h.kind) agrees)
     (λ x. inl (ap grain_fate (h.grains x))) h.rights (λ q c. subst (λ t. ClearAfter (if t then Lost else Kept) q v (m ∷ v)) (h.opens q) c)
 
--- Each look is a step of a search: word by word.
-look_searches : (word : Word) → is_in searching (look_kind word) ≡ true
-look_searches word = grind arith
-
 look_rights : (word : Word) (a : ℕ) → Rights (λ q. Kept) (made (Look word) a)
-look_rights word a = record { grains = λ x. refl; rights = λ q. refl; opens = λ q. refl; kind = look_searches word; returns = λ q h. elim h [ ] }
+look_rights word a = record { grains = λ x. refl; rights = λ q. refl; opens = λ q. refl; kind = grind arith; returns = λ q h. elim h [ ] }
 
 -- a deed or a claim gets the right where this test says so
 abbrev pub gained : Bool → ℕ → ℕ → Fate
 gained got p q = if got && (p == q) then Gained else Kept
 
--- The right is got just where the bit was read: by each test.
-gets_way : (here bit got : Bool) (w : Way) → way_fate w ≡ Gained → (here ≡ true → bit ≡ got)
-    → way_fate (if here && bit then w else Way.Rests) ≡ (if got && here then Gained else Kept)
-gets_way here bit got w h same = grind arith
-
+-- A deed gets the right of its page where it found none, and changes nothing else.
 deed_rights : (p : ℕ) (d : Directory) (a : ℕ) (got : Bool) → (a == 0) ≡ got → Rights (gained got p) (made (Deed p d) a)
-deed_rights p d a got e = search (arith, gets_way)
+deed_rights p d a got e = search arith
 
 pub claim_rights : (p : ℕ) (d : Directory) (a : ℕ) (got : Bool) → has_bit a (p % 64) ≡ got → Rights (gained got p) (made (TakeRight p d) a)
-claim_rights p d a got e = search (arith, gets_way, eqb-true)
+claim_rights p d a got e = search (arith, eqb-true)
 
 -- the right was got
 gets_rights : (p : ℕ) (s : Step) (a : ℕ) → GetsRight p s a → Rights (gained true p) (made s a)
@@ -192,12 +178,9 @@ pub record IsVain (m : Made) : Type 0 where
 abbrev pub AreVain : List Made → Type 0
 AreVain = Always (λ m before. IsVain m)
 
-read_vain : (s : Step) (a : ℕ) → IsRead s a → IsVain (made s a)
-read_vain s a e = grind (arith, look_rights, deed_rights, ne_eqb)
-
 -- Reads alone are steps that a search makes in vain.
 pub reads_vain : (steps : List Made) → OnlyReads steps → AreVain steps
-reads_vain steps = always_map (λ m before. IsRead m.step m.answer) (λ m before. IsVain m) steps (λ m before is. read_vain m.step m.answer is)
+reads_vain steps = always_map (λ m before. IsRead m.step m.answer) (λ m before. IsVain m) steps (λ m before is. (grind (arith, look_rights, deed_rights, ne_eqb)))
 
 vain_leads : (f : Profile) (steps : List Made) → AreVain steps → Leads f AnyView (Does nothing) steps
 vain_leads f [] vain = record { from = λ v met agreed. does_none v }
@@ -210,9 +193,6 @@ vain_right q (m ∷ more) v vain = right_then (λ q. Kept) m (more ++ v) q vain.
 vain_holds : (x : ℕ) (steps : List Made) (v : View) → AreVain steps → holds (steps ++ v) x ≡ holds v x
 vain_holds x [] v vain = refl
 vain_holds x (m ∷ more) v vain = holds_then (λ q. Kept) m (more ++ v) x vain.0.rights ∙ vain_holds x more v vain.1
-
-vain_untouched : (p : ℕ) (ys xs : List Made) → AreVain ys → IsUntouched p xs → IsUntouched p (ys ++ xs)
-vain_untouched p ys xs vain h = record { right = vain_right p ys xs vain ∙ h.right; none = λ g at. vain_holds g ys xs vain ∙ h.none g at }
 
 -- Steps in vain get no right that wasn't there.
 pub vain_lacks : (p : ℕ) (ys xs : List Made) → AreVain ys → has_right xs p ≡ false → Always (LacksAfter p) xs → Always (LacksAfter p) (ys ++ xs)
@@ -257,7 +237,7 @@ module _ {F : Type 0} (rule : Rule F) (f : Profile) (d : Directory) (next : ℕ)
     still = leads_then (Does nothing) s.still (vain_leads f ys vain) (λ v w met a. tt) (λ v w u a b. does_then a b);
     searches = vain_search ys xs vain s.searches;
     quiet = always_both (λ m before. IsQuiet m) (λ m before. IsQuiet m) ys xs (λ m before h. h) (vain_quiet ys vain) s.quiet;
-    untouched = λ p. vain_untouched p ys xs vain (s.untouched p);
+    untouched = λ p. (record { right = vain_right p ys xs vain ∙ (s.untouched p).right; none = λ g at. vain_holds g ys xs vain ∙ (s.untouched p).none g at });
     marked = λ p m. once_later (UnfitHere rule.no_fit p) ys xs (s.marked p m);
     zeros = λ p low high m. elim (cases_lt p next) [ inl lt ↦ once_later (ZeroHere d p) ys xs (s.zeros p low lt m) | inr ge ↦ zeros p ge high ];
     lacked = λ p m. vain_lacks p ys xs vain (s.untouched p).right (s.lacked p m);
@@ -268,13 +248,9 @@ module _ {F : Type 0} (rule : Rule F) (f : Profile) (d : Directory) (next : ℕ)
   vain_searching ys xs vain s = zeros_searching next ys xs vain s (λ p low high. absurd (omega (arith, low, high)))
 
 -- ---- effects, one after the other
-got_first : (t keeps : Bool)
-    → later (if t then Gained else Kept) (if t then (if keeps then Gained else Lost) else Kept) ≡ (if t then (if keeps then Gained else Lost) else Kept)
-got_first t keeps = grind arith
-
 got_served : {F : Type 0} (rule : Rule F) (page : ℕ) (found : F) {v w u : View} → Does (right_of page Gained) v w → Does (served rule page found) w u
     → Does (served rule page found) v u
-got_served rule page found a b = search (arith, does_as, does_then, kept_first, got_first)
+got_served rule page found a b = search (arith, does_as, does_then, kept_first)
 
 pub got_left : (page : ℕ) {v w u : View} → has_right v page ≡ false → Does (right_of page Gained) v w → Does (right_of page Lost) w u → Does nothing v u
 got_left page {v} lacked a b = search (arith, got_lost, eqb-true)
@@ -461,11 +437,6 @@ module _ {F : Type 0} {rule : Rule F} {σ0 σ : Standing} {d : Directory} {next 
   abbrev pub earlier : List Made
   earlier = tries.steps
 
-  -- all pages were searched
-  -- the next page is past the last one, so that the marks are those of all pages
-  pub all_offered : f.pages < next → SearchesOffered rule d σ0 σ marks None
-  all_offered past = search arith
-
   -- no page is offered any more
   pub none_offered : {σ1 : Standing} {d' : Directory} → d' ≡ d → {next' : ℕ} → 1 ≤ next → next ≤ f.pages → FindsOffered d' next σ σ1 next' None
       → SearchesOffered rule d σ0 σ1 marks None
@@ -548,7 +519,8 @@ module _ {F : Type 0} {rule : Rule F} {σ0 σ : Standing} {d : Directory} {next 
 
       module _ (bit : has_bit a (page % 64) ≡ true) where
         got : Leads f (MaySearch d) (IsReady page d) claimed
-        got = ready f d page _ looked (GetsRight.Claims d a bit) (λ v met. met.clear) at_page.still (λ v agreed. knows_still f d page (made (TakeRight page d) a ∷ []) (looked ++ v) (agreed.0, tt) (deed_at v))
+        got = ready f d page _ looked (GetsRight.Claims d a bit) (λ v met. met.clear) at_page.still
+            (λ v agreed. knows_still f d page (made (TakeRight page d) a ∷ []) (looked ++ v) (agreed.0, tt) (deed_at v))
 
         -- A page that was claimed may serve.
         pub serve_can : CanCall σ0 (MaySearch d) → CanCall σ2 (MayServe page d)
@@ -661,10 +633,6 @@ module _ {σ0 σ : Standing} (d : Directory) {from : ℕ} (passes : PassesDeeds 
       pub deed_adds : Adds σ0 σ2 IsClear (tried a)
       deed_adds = adds_step {C = IsClear} {step = Deed page d} reads_adds makes (λ v l stood met. tt)
 
-      -- another actor was first
-      lost_reads : a ≢ 0 → OnlyReads (tried a)
-      lost_reads ne = (IsRead.Reads page d a ne, found_reads)
-
       few_tried : (ys : List Made) → length (ys ++ tried a) + 2 ≤ length ys + 2 * (page + 1)
       few_tried ys = omega (arith, passes.few, find.count, find.outcome.from_there, length-append ys (tried a), length-append find.steps xs)
 
@@ -676,7 +644,7 @@ module _ {σ0 σ : Standing} (d : Directory) {from : ℕ} (passes : PassesDeeds 
 
       -- A deed that came too late passes its page.
       pub lost_passes : a ≢ 0 → PassesDeeds (page + 1) σ0 σ2
-      lost_passes ne = record { steps = tried a; adds = deed_adds; reads = lost_reads ne; deeds = lost_deeds ne; within = omega (arith, of_region.1); few = let most = few_tried [] in omega (arith, most) }
+      lost_passes ne = record { steps = tried a; adds = deed_adds; reads = (IsRead.Reads page d a ne, found_reads); deeds = lost_deeds ne; within = omega (arith, of_region.1); few = let most = few_tried [] in omega (arith, most) }
 
       -- the deed was made
       module _ (made_it : a ≡ 0) where

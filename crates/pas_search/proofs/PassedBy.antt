@@ -40,8 +40,7 @@ module _ (p : Placement) (is : IsPlacement p) (asked : p.asked) (d : Directory) 
         let used = some_below 256 (λ g. not (is_set free g)) (λ none. unfits.used (λ b lt. not-false (is_set free b) (none b lt))) in
         let left = leaves_offered {σ = nowhere f} {σ' = nowhere f} page d free offered of (one.0, one.1, one.2, ap (λ k. usable_by_kind k one.0) kind ∙ least.usable one.0)
         (used.0, used.1, not-true (is_set free used.0) used.2) (nowhere_adds f _) in
-        subst (λ xs. ServeSteps (placing p) f page d (xs ++ looks page (words free) 4) None) left.1
-        (leaves_steps (by_run p) page d free (nowhere_adds f (looks page (words free) 4)) unfits left.0);
+        rw left.1 at (leaves_steps (by_run p) page d free (nowhere_adds f (looks page (words free) 4)) unfits left.0);
   }
 
   -- So does one that says its least run, if any.

@@ -11,9 +11,6 @@ use Rattle.pas_search.proofs.ForBackEnds.{events_quiet}
 use Rattle.pas_search.specs.declared.placing.Run.{Run}
 
 -- ---- before a request
-may_search : (d : Directory) (v : View) → HasNothing v → MaySearch d v
-may_search d v none = record { rights = λ p of. none.rights p; clear = none.clear }
-
 -- an actor that has nothing may ask where there is room for three events, whatever is known of the pages
 -- three events leave room for two and one more
 pub can_ask : {σ : Standing} {spare : ℕ} (d : Directory) → 3 ≤ spare → CanCall σ HasNothing → CanCall σ (SearchRoom σ.seat.profile d 2 spare)
@@ -24,14 +21,10 @@ pub bitfit_of_first : (f : Profile) → IsValid f → IsDirectoryOf f (record { 
 bitfit_of_first f valid = record { heap = omega (arith, valid.some_heap); kind = tt; class = tt }
 
 -- ---- what is left
--- a right that is lost or kept was not there before
-still_none : (here had : Bool) → had ≡ false → now (if here then Lost else Kept) had ≡ false
-still_none here had none = search arith
-
 nothing_left : (page : ℕ) (v w : View) → HasNothing v → Does (right_of page Lost) v w → HasNothing w
 nothing_left page v w none does = record {
   grains = λ g. does.held g ∙ none.grains g;
-  rights = λ q. does.right q ∙ still_none (page == q) (has_right v q) (none.rights q);
+  rights = λ q. does.right q ∙ (search arith);
   clear = record { on = λ q. does.clear q (none.clear.on q) };
 }
 
@@ -45,15 +38,10 @@ module _ {Found : Type 0} {σ σ' : Standing} {tells : Bool} {choice : Choice Fo
       → Agreed σ.seat.profile v (asks.after ++ asks.searched) → HasNothing ((asks.after ++ asks.searched) ++ v)
   leads answer asks v none agreed = search (arith, nothing_left, nothing_still)
 
-  -- A request makes three events at most.
-  few : (answer : Result Block NoRoom) (asks : AllocatesRun choice run d tells σ σ' answer) (k : ℕ) (v : View) → MaySearch d v
-      → Agreed σ.seat.profile v (asks.after ++ asks.searched) → length (events_by k v (asks.after ++ asks.searched)) ≤ 3
-  few answer asks k v may agreed = search (arith, agreed_later, events_quiet)
-
   -- the actor has nothing again, and may go on
   pub can_ask_again : (answer : Result Block NoRoom) → AllocatesRun choice run d tells σ σ' answer → CanCall σ HasNothing → CanCall σ' HasNothing
   can_ask_again answer asks can = can_go_on (record {
-    adds = adds_under asks.adds (λ v l stood none. may_search d v none);
+    adds = adds_under asks.adds (λ v l stood none. (record { rights = λ p of. none.rights p; clear = none.clear }));
     leads = record { from = λ v none agreed. leads answer asks v none agreed };
   }) can
 
@@ -61,7 +49,6 @@ module _ {Found : Type 0} {σ σ' : Standing} {tells : Bool} {choice : Choice Fo
   pub room_left : (answer : Result Block NoRoom) (spare spare' : ℕ) → AllocatesRun choice run d tells σ σ' answer → CanCall σ (MaySearch d)
       → Spares σ spare → Spares σ' spare' → spare ≤ spare' + 3
   room_left answer spare spare' asks can old new =
-      let most = few answer asks σ.seat.actor can.view can.met (asks.adds.agreed can.view can.whole can.stood can.met) in
+      let most : length (events_by σ.seat.actor can.view (asks.after ++ asks.searched)) ≤ 3 = search (arith, agreed_later, events_quiet) in
       let made = length (events_by σ.seat.actor can.view (asks.after ++ asks.searched)) in
-      let falls = spare_falls {C = MaySearch d} spare spare' made asks.adds can old new refl in
-      omega (arith, most, falls)
+      omega (arith, most, spare_falls {C = MaySearch d} spare spare' made asks.adds can old new refl)

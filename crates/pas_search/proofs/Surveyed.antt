@@ -52,17 +52,8 @@ module _ (ranks : Measure) (d : Directory) where
     ranked = ranked;
   }
 
-  -- with later steps
-  ranked_later : (page : ℕ) (rank : Option ℕ) (ys xs : List Made) → IsRanked ranks d page rank xs → IsRanked ranks d page rank (ys ++ xs)
-  ranked_later page rank ys xs is = search (arith, once_later)
-
   seen_later : (Holds : Option ℕ → Type 0) (page : ℕ) (ys xs : List Made) → IsSeen ranks d Holds page xs → IsSeen ranks d Holds page (ys ++ xs)
-  seen_later Holds page ys xs seen = search (arith, once_later, ranked_later)
-
-  -- the same reading serves
-  seen_as : (Holds Also : Option ℕ → Type 0) (page : ℕ) (xs : List Made) → ((rank : Option ℕ) → Holds rank → Also rank) → IsSeen ranks d Holds page xs
-      → IsSeen ranks d Also page xs
-  seen_as Holds Also page xs more seen = search arith
+  seen_later Holds page ys xs seen = search (arith, once_later)
 
   -- the pages from `next` to below `end` were read as not offered
   all_later : (Holds : ℕ → Option ℕ → Type 0) (next end : ℕ) (ys xs : List Made) → ((p : ℕ) → next ≤ p → p < end → Once (ZeroHere d p) (ys ++ xs))
@@ -78,7 +69,7 @@ module _ (ranks : Measure) (d : Directory) where
       → AllSeen ranks d page Holds xs → AllSeen ranks d (page + 1) Also xs
   all_more Holds Also page rank xs more is here all p low high = elim (cases_eq p page) [
     | inl e ↦ subst (λ q. IsSeen ranks d (Also q) q xs) (sym e) (inr (rank, is, here))
-    | inr ne ↦ let lt : p < page = omega (arith, high, ne) in seen_as (Holds p) (Also p) p xs (λ other. more p other lt) (all p low lt)
+    | inr ne ↦ let lt : p < page = omega (arith, high, ne) in search arith
   ]
 
   -- ---- the best page
@@ -89,10 +80,9 @@ module _ (ranks : Measure) (d : Directory) where
     best_later next end (Some best) ys xs le zeros is = record {
       page = is.page;
       below = omega (arith, is.below, le);
-      this = ranked_later best.page (Some best.rank) ys xs is.this;
+      this = search (arith, once_later);
       others = all_later (IsNoBetter best.page best.rank) next end ys xs zeros is.others;
-      deed = λ v agreed. subst (KnowsDeed best.page d) (sym (append_assoc ys xs v))
-          (knows_still f d best.page ys (xs ++ v) (agreed_first f v ys xs agreed) (is.deed v (agreed_later f v ys xs agreed)));
+      deed = λ v agreed. rw append_assoc (knows_still f d best.page ys (xs ++ v) (agreed_first f v ys xs agreed) (is.deed v (agreed_later f v ys xs agreed)));
       lacks = λ v agreed. is.lacks v (agreed_later f v ys xs agreed);
     }
 
@@ -114,19 +104,14 @@ module _ (ranks : Measure) (d : Directory) where
         lacks = lacks;
       }
 
-      old_best : (best : Best) (rank : Option ℕ) → IsRanked ranks d page rank xs → ((n : ℕ) → rank ≡ Some n → best.rank ≤ n)
-          → IsBestBelow f ranks d page best xs → IsBestBelow f ranks d (page + 1) best xs
-      old_best best rank is worse old = search (arith, all_more)
-
       best_more : (best : Option Best) (rank : Option ℕ) (better : Option Best) → IsBetterOf best page rank better → IsRanked ranks d page rank xs
           → IsSurvey f ranks d page xs best → IsSurvey f ranks d (page + 1) xs better
-      best_more None None better so is all = subst (IsSurvey f ranks d (page + 1) xs) (sym (so.old (λ n e. absurd cc)))
-          (all_more HasNone HasNone page None xs (λ p other lt holds. holds) is refl all)
+      best_more None None better so is all = rw (so.old (λ n e. absurd cc)) (all_more HasNone HasNone page None xs (λ p other lt holds. holds) is refl all)
       best_more (Some best) None better so is old =
-          subst (IsSurvey f ranks d (page + 1) xs) (sym (so.old (λ n e. absurd cc))) (old_best best None is (λ n e. absurd cc) old)
+          subst (IsSurvey f ranks d (page + 1) xs) (sym (so.old (λ n e. absurd cc))) (search (arith, all_more))
       best_more None (Some rank) better so is all =
           subst (IsSurvey f ranks d (page + 1) xs) (sym (so.new rank refl tt)) (new_best rank HasNone (λ p other n holds e. absurd cc) is all)
-      best_more (Some best) (Some rank) better so is old = search (arith, cases_lt, new_best, old_best)
+      best_more (Some best) (Some rank) better so is old = search (arith, cases_lt, new_best, all_more)
 
 -- ---- the survey so far
 pub record SurveysTo (ranks : Measure) (d : Directory) (next : ℕ) (best : Option Best) (desk desk' : Standing) : Type 0 where
@@ -200,9 +185,6 @@ module _ {ranks : Measure} {d : Directory} {next : ℕ} {best : Option Best} {σ
     looked_adds : Adds σ0 σ1 AnyView looked
     looked_adds = adds_call {D = AnyView} surveys.adds find.adds (λ v l stood met. tt)
 
-    looked_looks : AreLooks looked
-    looked_looks = looks_both find.steps earlier (scans_look find.steps find.scans) surveys.looks
-
     -- Its bit was read as 1, in the steps with the looks at its grains, too.
     offered : Once (OneHere d page) looked
     offered = search (arith, once_earlier, right_own, looks_lack)
@@ -218,22 +200,19 @@ module _ {ranks : Measure} {d : Directory} {next : ℕ} {best : Option Best} {σ
 
       pub page_surveyed : {best' : Option Best} → IsBetterOf best page rank best' → SurveysTo ranks d next' best' σ0 σ2
       page_surveyed {best'} is =
-          let counted : length find.steps ≡ words_to f next page = subst
-          (λ (s : Seat). length find.steps ≡ words_to s.profile next page) surveys.adds.seat_is find.count in
+          let counted : length find.steps ≡ words_to f next page = search arith in
           let further = offered_further 3 (row_words f.pages) {end = row_end f page} first.of_region.0 first.from_next (row_within f page first.of_region.1) in
           let short = looks_few page (words free) 4 in
           let past : page ≡ next' - 1 = omega (arith, next_is) in record {
             steps = ys ++ looked;
             adds = adds_call {D = AnyView} looked_adds reads (λ v l stood met. tt);
-            looks = looks_both ys looked (looks_are page (words free) 4) looked_looks;
+            looks = looks_both ys looked (looks_are page (words free) 4) (looks_both find.steps earlier (scans_look find.steps find.scans) surveys.looks);
             within = omega (arith, next_is, first.of_region.1);
             few = subst (λ n. length (ys ++ looked) ≤ survey_steps (row_words f.pages) n) past
                 (omega (arith, surveys.few, counted, further, short, length-append ys looked, length-append find.steps earlier));
             outcome = subst (λ n. IsSurvey f ranks d n (ys ++ looked) best') (sym next_is)
                 (best_more ranks d f page (ys ++ looked) first.of_region
-                (λ v agreed. subst (KnowsDeed page d) (sym (append_assoc ys looked v))
-                (knows_still f d page ys (looked ++ v) (agreed_first f v ys looked agreed)
-                (subst (KnowsDeed page d) (sym (append_assoc find.steps earlier v)) (first.deed (earlier ++ v)))))
+                (λ v agreed. search (arith, append_assoc, knows_still, agreed_first))
                 (λ v agreed. sym (right_reads page earlier v (looks_read earlier surveys.looks))
                 ∙ first.lacks (earlier ++ v) (agreed_first f v find.steps earlier (agreed_later f v ys looked agreed)))
                 best rank best' is (page_ranked ranks d page free rank looked ranked offered) at_page);

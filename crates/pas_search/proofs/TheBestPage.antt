@@ -33,21 +33,14 @@ use Rattle.pas_search.proofs.PagesThatServe.{deeds_serves, no_deeds, got_left, e
 use Rattle.pas_search.specs.{Allocates.served_by, Choices.Choice, Choices.TakesKept, Choices.choosing}
 
 -- ---- looks leave each word as it was
-look_keeps : (e : ℕ) (s : Step) (w : Word) (old : ℕ) → IsLook s → (if same_word (target s) w then new_value e s old else old) ≡ old
-look_keeps e s w old is = grind (arith, looked)
-
 words_same : (k : ℕ) (xs : List Made) (l : Whole) (w : Word) → AreLooks xs → word_after (triples k xs ++ l) w ≡ word_after l w
 words_same k [] l w looks = refl
-words_same k (m ∷ xs) l w looks = search (arith, look_keeps, words_same k xs l w looks.1)
+words_same k (m ∷ xs) l w looks = search (arith, looked, words_same k xs l w looks.1)
 
 -- A step that reads the page's eligible bit reads its word: look or claim.
 eligible_read : (d : Directory) (p : ℕ) (s : Step) (w : Whole) → ReadsEligible d p s
     → word_after w (target s) ≡ word_after w (Word.Eligible (number_of d) (p / 64))
 eligible_read d p s w e = grind arith
-
--- the word of a grain is that of its page, by division
-word_of_page : (page b : ℕ) → b < 256 → free_word_at (page * 256 + b) ≡ Word.Free page (b / 64)
-word_of_page page b lt = search arith
 
 -- ---- so what they read is true of the state before them
 module _ (f : Profile) (k : ℕ) (l : Whole) where
@@ -63,7 +56,7 @@ module _ (f : Profile) (k : ℕ) (l : Whole) where
       → r b ≡ free_of_page l page b
   grain_told page b r [] legal looks lt h = absurd h
   grain_told page b r (m ∷ xs) legal looks lt (inr h) = grain_told page b r xs legal.1 looks.1 lt h
-  grain_told page b r (m ∷ xs) legal looks lt (inl z) = search (arith, words_same, word_of_page)
+  grain_told page b r (m ∷ xs) legal looks lt (inl z) = search (arith, words_same)
 
   module _ (ranks : Measure) (alike : IsOfGrains ranks) (d : Directory) where
     -- the rank of a page
@@ -98,12 +91,9 @@ module _ (f : Profile) (k : ℕ) (l : Whole) where
 unmarked : (p : ℕ) → is_marked [] p ≡ false
 unmarked p = none_of_zero (p % 64)
 
-none_searched : (no_fit : Readings → Type 0) (f : Profile) (d : Directory) → Searching no_fit f d 1 [] []
-none_searched no_fit f d = search (arith, leads_none, does_none, true≢false, unmarked)
-
 looked_over : {F : Type 0} (rule : Rule F) (f : Profile) (d : Directory) (ws : List Made) → AreLooks ws → Searching rule.no_fit f d 1 [] ws
 looked_over rule f d ws looks = subst (Searching rule.no_fit f d 1 []) (append-nil ws)
-    (vain_searching rule f d 1 [] ws [] (reads_vain ws (looks_read ws looks)) (none_searched rule.no_fit f d))
+    (vain_searching rule f d 1 [] ws [] (reads_vain ws (looks_read ws looks)) (search (arith, leads_none, does_none, true≢false, unmarked)))
 
 -- what the survey and the claim ask
 pub rank_can : {σ : Standing} {f : Profile} {d : Directory} {n spare : ℕ} → CanCall σ (RankRoom f d n spare) → CanCall σ (MaySearch d)
@@ -246,12 +236,6 @@ module _ {F : Type 0} {rule : Rule F} {ranks : Measure} {tells : Bool} {d : Dire
   abbrev xs : List Made
   xs = tries.steps
 
-  may_again : (v : View) → MayRank d v → Agreed σ.seat.profile v xs → MaySearch d (xs ++ v)
-  may_again v met agreed = search (arith, cases_eq, deed_stays, still_clear)
-
-  profile_kept : σ1.seat.profile ≡ σ.seat.profile
-  profile_kept = ap (λ (seat : Seat). seat.profile) tries.adds.seat_is
-
   -- what the search that follows asks: no event was made, and what was known of deeds is known still
   pub can_go_on : {n spare spare' : ℕ} → CanCall σ (RankRoom σ.seat.profile d n spare)
       → ((v : View) (l : Whole) → σ.stands v l → spare + length (events_of σ.seat.actor v) ≡ σ.seat.room)
@@ -261,8 +245,8 @@ module _ {F : Type 0} {rule : Rule F} {ranks : Measure} {tells : Bool} {d : Dire
       let keep = λ (more : ℕ) (fits : more ≤ spare). room_kept {C = MaySearch d} more tries.adds (rank_can can) tries.outcome.quiet law law' fits in
       can_call {C = RankRoom σ.seat.profile d n spare} (adds_under tries.adds (λ v l stood met. met.may.may)) can (λ v l stood met.
       let agreed = tries.adds.agreed v l stood met.may.may in record {
-        may = may_again v met.may agreed;
-        room = subst (λ x. HasRoom x n spare' (xs ++ v)) (sym profile_kept)
+        may = search (arith, cases_eq, deed_stays, still_clear);
+        room = subst (λ x. HasRoom x n spare' (xs ++ v)) (sym (ap (λ (seat : Seat). seat.profile) tries.adds.seat_is))
             (keep n met.room.0, elim met.room.1 [ inl all ↦ inl (all_known σ.seat.profile xs v agreed all) | inr wide ↦ inr (keep (n + 1) wide) ]);
       })
 
@@ -328,11 +312,7 @@ module _ {A B : Type 0} (choice : Choice A) (chosen : Readings → B → Type 0)
 abbrev pub with_right : (ℕ → Fate) → ℕ → Fate → Effect
 with_right grains page right = record { grains = grains; rights = λ q. if page == q then right else Kept; clears = λ q. Kept }
 
--- What is got and then lost is lost.
-lost_later : (t : Bool) → later (if t then Gained else Kept) (if t then Lost else Kept) ≡ (if t then Lost else Kept)
-lost_later t = grind arith
-
 -- A page that was got with some grains, and left, is the actor's no longer.
 pub left_after : {v w u : View} (grains : ℕ → Fate) (page : ℕ) → Does (with_right grains page Gained) v w → Does (on_page page Lost Kept) w u
     → Does (with_right grains page Lost) v u
-left_after {v} {w} {u} grains page a b = does_as _ (does_then a b) (λ g. inl refl) (λ q. lost_later _) (λ q h. subst (λ t. ClearAfter t q v u) (kept_kept _) h)
+left_after {v} {w} {u} grains page a b = does_as _ (does_then a b) (λ g. inl refl) (λ q. (grind arith)) (λ q h. subst (λ t. ClearAfter t q v u) (kept_kept _) h)

@@ -106,9 +106,7 @@ joined a page p bit false same = refl
 put_back_bit : (a page p : ℕ) → p / 64 ≡ page / 64 → has_bit a (page % 64) ≡ true
     → has_bit (bit_or (bit_and a (bit_not w64 (page_mask page))) (page_mask page)) (p % 64) ≡ has_bit a (p % 64)
 put_back_bit a page p same bit =
-    page_added (bit_and a (bit_not w64 (page_mask page))) page p same
-    ∙ ap (λ t. (page == p) || t) (ap (λ t. has_bit (if t then bit_and a (bit_not w64 (page_mask page)) else a) (p % 64)) (sym (eq-eqb (page / 64) (p / 64) (sym same))) ∙ page_bit-clear page p a true)
-    ∙ joined a page p bit (page == p) refl
+    cc (page_added (bit_and a (bit_not w64 (page_mask page))) page p same, eq-eqb (page / 64) (p / 64) (sym same), page_bit-clear page p a true, joined a page p bit (page == p) refl)
 
 put_back : (a page : ℕ) → a < 2 ^ 64 → has_bit a (page % 64) ≡ true → bit_or (bit_and a (bit_not w64 (page_mask page))) (page_mask page) ≡ a
 put_back a page fits bit =
@@ -151,9 +149,8 @@ module _ (f : Profile) (valid : IsValid f) (k : ℕ) (l : Whole) (actor : k ≤ 
   first_shown next page told is low bit lower =
       let number = number_of d in let m = words_to f next page in let row = row_looks value number (next / 64) m in
       let few = number_lt d f.heaps of.heap of.kind in let answers = answers_from value number (next / 64) m in
-      let told' = row_told f k l actor value number (next / 64) m [] few (omega (arith, low, is.1)) told in
       first_one f d next (next / 64) page (offered_in value d page) answers row (part k l) of.kind
-      (agreed_first f (part k l) row [] (agreed_steps f k l (row ++ []) valid told'.legal)) refl low (row_read value number (next / 64) m (page / 64) (omega (arith, low)) (omega (arith, low, is.1))) bit
+      (agreed_first f (part k l) row [] (agreed_steps f k l (row ++ []) valid (row_told f k l actor value number (next / 64) m [] few (omega (arith, low, is.1)) told).legal)) refl low (row_read value number (next / 64) m (page / 64) (omega (arith, low)) (omega (arith, low, is.1))) bit
       (λ p low' high. shown_as false d p _ row (scans_of number (next / 64) answers row refl)
       (row_read value number (next / 64) m (p / 64) (omega (arith, low')) (omega (arith, low, high, is.1))) (lower p low' high))
 
@@ -198,35 +195,23 @@ module _ {F : Type 0} (rule : Rule F) (f : Profile) (valid : IsValid f) (d : Dir
       ⊎ ((1 ≤ count_below b (has_bit bits)) × (64 * block < next_at b) × (next_at b ≤ page_at b)
       × (length (visits_to b) ≡ (row_end f (64 * block) - next / 64 + 10) + (count_below b (has_bit bits) - 1) * (row_end f (64 * block) - block + 10)))
 
-  no_times : (m : ℕ) → (suc 0 - 1) * m ≡ 0
-  no_times m = let none : suc 0 - 1 ≡ 0 = omega arith in ap (λ x. x * m) none ∙ zero-mul m
-
-  counted_more : (b : ℕ) (t : Bool) → has_bit bits b ≡ t → b < 64 → CountedTo b
-      → ((if t then suc (count_below b (has_bit bits)) else count_below b (has_bit bits)) ≡ 0)
-      × ((if t then page_at b + 1 else next_at b) ≡ next) × (length (if t then visit f value d (next_at b) (page_at b) ++ visits_to b else visits_to b) ≡ 0)
-      ⊎ ((1 ≤ (if t then suc (count_below b (has_bit bits)) else count_below b (has_bit bits))) × (64 * block < (if t then page_at b + 1 else next_at b))
-      × ((if t then page_at b + 1 else next_at b) ≤ page_at (suc b))
-      × (length (if t then visit f value d (next_at b) (page_at b) ++ visits_to b else visits_to b)
-      ≡ (row_end f (64 * block) - next / 64 + 10)
-      + ((if t then suc (count_below b (has_bit bits)) else count_below b (has_bit bits)) - 1) * (row_end f (64 * block) - block + 10)))
-  counted_more b true bit lt (inl none) =
-      let long = visit_long (next_at b) (page_at b) in let all = length-append (visit f value d (next_at b) (page_at b)) (visits_to b) in
-      let from = ap (λ n. n / 64) none.1 in
-      let m = row_end f (64 * block) - block + 10 in let alone : (suc (count_below b (has_bit bits)) - 1) * m ≡ 0 = ap (λ c. (suc c - 1) * m) none.0 ∙ no_times m in
-      inr (omega arith, omega arith, omega arith, omega (arith, alone, none.2, long, all, from, lt))
-  counted_more b true bit lt (inr some) =
-      let long = visit_long (next_at b) (page_at b) in let all = length-append (visit f value d (next_at b) (page_at b)) (visits_to b) in
-      let c = count_below b (has_bit bits) in let m = row_end f (64 * block) - block + 10 in
-      let from : next_at b / 64 ≡ block = omega (arith, some.1, some.2, lt) in
-      let one : c ≡ suc (c - 1) = let low' = some.0 in omega (arith, low') in let times : (suc c - 1) * m ≡ m + (c - 1) * m = let less : suc c - 1 ≡ suc
-      (c - 1) = omega (arith, one) in let turn : (c - 1) * m + m ≡ m + (c - 1) * m = omega arith in ap (λ x. x * m) less ∙ suc-mul (c - 1) m ∙ turn in
-      inr (omega arith, omega arith, omega arith, omega (arith, some.3, long, all, from, times, lt))
-  counted_more b false bit lt (inl none) = inl none
-  counted_more b false bit lt (inr some) = inr (some.0, some.1, omega (arith, some.2), some.3)
-
   counted : (b : ℕ) → b ≤ 64 → CountedTo b
   counted zero le = inl (refl, refl, refl)
-  counted (suc b) le = counted_more b (has_bit bits b) refl (omega (arith, le)) (counted b (omega (arith, le)))
+  counted (suc b) le =
+      let long = visit_long (next_at b) (page_at b) in let all = length-append (visit f value d (next_at b) (page_at b)) (visits_to b) in
+      let c = count_below b (has_bit bits) in let m = row_end f (64 * block) - block + 10 in elim (cases_Bool (has_bit bits b)) [
+        | inl bit ↦ rw bit (elim (counted b (omega (arith, le))) [
+          | inl none ↦
+              let from = ap (λ n. n / 64) none.1 in let alone : (suc c - 1) * m ≡ 0 = ap (λ c. (suc c - 1) * m) none.0 ∙ (let none : suc 0 - 1 ≡ 0 = omega arith in ap (λ x. x * m) none ∙ zero-mul m) in
+              inr (omega arith, omega arith, omega arith, omega (arith, alone, none.2, long, all, from, le))
+          | inr some ↦
+              let from : next_at b / 64 ≡ block = omega (arith, some.1, some.2, le) in let one : c ≡ suc (c - 1) = omega (arith, some.0) in
+              let times : (suc c - 1) * m ≡ m + (c - 1) * m = let less : suc c - 1 ≡ suc (c - 1) = omega (arith, one) in
+              let turn : (c - 1) * m + m ≡ m + (c - 1) * m = omega arith in ap (λ x. x * m) less ∙ suc-mul (c - 1) m ∙ turn in
+              inr (omega arith, omega arith, omega arith, omega (arith, some.3, long, all, from, times, le))
+        ])
+        | inr clear ↦ rw clear (elim (counted b (omega (arith, le))) [ inl none ↦ inl none | inr some ↦ inr (some.0, some.1, omega (arith, some.2), some.3) ])
+      ]
 
   -- ---- where the search goes on
   next_low : {grains align : ℕ} → Passable grains align → (b : ℕ) → b ≤ 64 → next ≤ next_at b
@@ -260,8 +245,7 @@ module _ {F : Type 0} (rule : Rule F) (f : Profile) (valid : IsValid f) (d : Dir
     | inr ge ↦
         let c : ℕ = p % 64 in let at : p / 64 ≡ block = omega (arith, ge, high, lt) in let is : page_at c ≡ p = omega (arith, at) in let less : c < b = omega (arith, is, high) in
         false_from_ne_true _ (λ one.
-        let first = next_low can b (omega (arith, lt)) in
-        let more = next_above b c less (can.lower b c lt bit less (omega (arith, is, first, low')) (ap (λ j. has_bit (value (Word.Eligible (number_of d) j)) c) (sym at) ∙ one)) in
+        let more = next_above b c less (can.lower b c lt bit less (omega (arith, is, next_low can b (omega (arith, lt)), low')) (ap (λ j. has_bit (value (Word.Eligible (number_of d) j)) c) (sym at) ∙ one)) in
         absurd (omega (arith, more, is, low')))
   ]
 
@@ -269,10 +253,8 @@ module _ {F : Type 0} (rule : Rule F) (f : Profile) (valid : IsValid f) (d : Dir
   marks_long : (marks : List ℕ) (b : ℕ) → length (marks_to marks b) ≡ length marks
   marks_long marks zero = refl
   marks_long marks (suc b) = elim (cases_Bool (has_bit bits b)) [
-    | inl e ↦ ap (λ t. length (if t then set (marks_to marks b) (page_at b / 64) (bit_or (get_or (marks_to marks b) (page_at b / 64) 0) (page_mask (page_at b))) else marks_to marks b)) e
-        ∙ length-set (marks_to marks b) (page_at b / 64) _ ∙ marks_long marks b
-    | inr e ↦ ap (λ t. length (if t then set (marks_to marks b) (page_at b / 64) (bit_or (get_or (marks_to marks b) (page_at b / 64) 0) (page_mask (page_at b))) else marks_to marks b)) e
-        ∙ marks_long marks b
+    | inl e ↦ rw e (length-set (marks_to marks b) (page_at b / 64) _ ∙ marks_long marks b)
+    | inr e ↦ rw e (marks_long marks b)
   ]
 
   mark_more : (marks : List ℕ) → length marks ≡ 257 → (b : ℕ) → has_bit bits b ≡ true → b < 64 → block < 257 → (p : ℕ)
@@ -297,30 +279,25 @@ module _ {F : Type 0} (rule : Rule F) (f : Profile) (valid : IsValid f) (d : Dir
   marks_are marks long small (suc b) le p = elim (cases_Bool (has_bit bits b)) [
     | inl e ↦ mark_more marks long b e (omega (arith, le)) small p ∙ ap (λ x. (page_at b == p) || x) (marks_are marks long small b (omega (arith, le)) p)
         ∙ one_more b p true (is_marked marks p) e (omega (arith, le))
-    | inr e ↦ ap (λ t. is_marked (if t then set (marks_to marks b) (page_at b / 64) (bit_or (get_or (marks_to marks b) (page_at b / 64) 0) (page_mask (page_at b))) else marks_to marks b) p) e
-        ∙ marks_are marks long small b (omega (arith, le)) p ∙ one_more b p false (is_marked marks p) e (omega (arith, le))
+    | inr e ↦ rw e (marks_are marks long small b (omega (arith, le)) p ∙ one_more b p false (is_marked marks p) e (omega (arith, le)))
   ]
 
   -- ---- all visits of pages below a bit
-  row_low : (b n : ℕ) → b < 64 → n ≤ page_at b → n / 64 ≤ row_end f (page_at b)
-  row_low b n lt le = omega (arith, lt, le, within)
-
   module _ {grains align : ℕ} (can : Passable grains align) (first : (b : ℕ) → b < 64 → has_bit bits b ≡ true
       → IsFirstOffered f d (next_at b) (row_looks value (number_of d) (next_at b / 64) (words_to f (next_at b) (page_at b))) (page_at b)) where
     block_bit : (b : ℕ) → b < 64 → has_bit bits b ≡ true → has_bit (offered_in value d (page_at b)) (page_at b % 64) ≡ true
     block_bit b lt bit = let major : block ≡ page_at b / 64 = omega (arith, lt) in let minor : b ≡ page_at b % 64 = omega (arith, lt) in
         subst (λ n. has_bit (offered_in value d (page_at b)) n ≡ true) minor (subst (λ n. has_bit (value (Word.Eligible (number_of d) n)) b ≡ true) major (can.offered b lt bit))
 
-    told_more : (k : ℕ) (l : Whole) → k ≤ f.threads → (b : ℕ) (t : Bool) → has_bit bits b ≡ t → b < 64 → Told f k l value (visits_to b)
-        → Told f k l value (if t then visit f value d (next_at b) (page_at b) ++ visits_to b else visits_to b)
-    told_more k l actor b true bit lt told =
-        visit_told f valid k l actor value d of (next_at b) (page_at b) told (can.pages b lt bit) (row_low b (next_at b) lt (first b lt bit).from_next)
-        (let major : block ≡ page_at b / 64 = omega (arith, lt) in subst (λ n. value (Word.Eligible (number_of d) n) < 2 ^ 64) major can.fits) (block_bit b lt bit) (first b lt bit).deed
-    told_more k l actor b false bit lt told = told
-
     told_to : (k : ℕ) (l : Whole) → k ≤ f.threads → Told f k l value [] → (b : ℕ) → b ≤ 64 → Told f k l value (visits_to b)
     told_to k l actor told zero le = told
-    told_to k l actor told (suc b) le = told_more k l actor b (has_bit bits b) refl (omega (arith, le)) (told_to k l actor told b (omega (arith, le)))
+    told_to k l actor told (suc b) le = elim (cases_Bool (has_bit bits b)) [
+      | inl bit ↦
+          let so_far = told_to k l actor told b (omega (arith, le)) in let major : block ≡ page_at b / 64 = omega (arith, le) in let lt : b < 64 = omega (arith, le) in
+          rw bit (visit_told f valid k l actor value d of (next_at b) (page_at b) so_far (can.pages b lt bit) (omega (arith, lt, ((first b lt bit).from_next), within))
+          (subst (λ n. value (Word.Eligible (number_of d) n) < 2 ^ 64) major can.fits) (block_bit b lt bit) (first b lt bit).deed)
+      | inr clear ↦ rw clear (told_to k l actor told b (omega (arith, le)))
+    ]
 
     module _ (run : LeastRun) (grains_are : grains ≡ run.grains) (align_is : align ≡ run.align) (passes : PassesBy rule d run) (marks : List ℕ)
         (long : length marks ≡ 257) (small : block < 257) (xs : List Made) (goes : GoesOn rule f d next marks xs) where
@@ -338,12 +315,8 @@ module _ {F : Type 0} (rule : Rule F) (f : Profile) (valid : IsValid f) (d : Dir
             (leaving_steps p d (free_of value p) (after value (TakeRight p d) (Word.Eligible (number_of d) (p / 64)))) (goes_to b (omega (arith, le))) (first b lt e)
             (scans_of (number_of d) (n / 64) answers row refl) (count_of (number_of d) (n / 64) (words_to f n p) row answers refl (answers_many value (number_of d) (n / 64) (words_to f n p)))
             (block_bit b lt e) (mark_more marks long b e lt small) (passes.steps f p (free_of value p) _ (directory_from_profile f d valid of) (short_at b lt e)) in
-            subst (λ t. GoesOn rule f d (if t then p + 1 else n) (marks_to marks (suc b)) ((if t then visit f value d n p ++ visits_to b else visits_to b) ++ xs)) (sym e)
-            (subst (λ ys. GoesOn rule f d (p + 1) (marks_to marks (suc b)) ys) (sym (append_assoc (visit f value d n p) (visits_to b) xs)) passed)
-        | inr e ↦
-            subst (λ t. GoesOn rule f d (if t then page_at b + 1 else next_at b) (if t then set (marks_to marks b) (page_at b / 64)
-            (bit_or (get_or (marks_to marks b) (page_at b / 64) 0) (page_mask (page_at b))) else marks_to marks b)
-            ((if t then visit f value d (next_at b) (page_at b) ++ visits_to b else visits_to b) ++ xs)) (sym e) (goes_to b (omega (arith, le)))
+            rw e (rw (append_assoc (visit f value d n p) (visits_to b) xs) (rw e at passed))
+        | inr e ↦ rw e (goes_to b (omega (arith, le)))
       ]
 
 -- A search goes on by marks that are alike.
@@ -490,8 +463,7 @@ AreOpen word block next offered = (b : ℕ) → b < 64 → has_bit offered b ≡
 -- A block without an open page has none that is offered.
 pub none_open : (word block next offered p : ℕ) → AreOpen word block next offered → offered ≡ 0 → p / 64 ≡ block → next ≤ p → has_bit word (p % 64) ≡ false
 none_open word block next offered p bits none at low =
-    let past = le-ltb (64 * block + p % 64) next (omega (arith, at, low)) in
-    sym (and-true (has_bit word (p % 64))) ∙ ap (λ t. has_bit word (p % 64) && not t) (sym past) ∙ sym (bits (p % 64) (omega arith)) ∙ ap (λ n. has_bit n (p % 64)) none
+    sym (and-true (has_bit word (p % 64))) ∙ ap (λ t. has_bit word (p % 64) && not t) (sym (le-ltb (64 * block + p % 64) next (omega (arith, at, low)))) ∙ sym (bits (p % 64) (omega arith)) ∙ ap (λ n. has_bit n (p % 64)) none
     ∙ none_of_zero (p % 64)
 
 -- Of the open pages of a block the lowest ones that are short may be passed by.
@@ -515,8 +487,7 @@ module _ (tells : Bool) (σ : Standing) (d : Directory) (next block word offered
     before = before;
     from_next = λ b lt bit. ltb-false (64 * block + b) next (not-true (nat_lt (64 * block + b) next) (open_parts b lt bit).1);
     offered = λ b lt bit. (open_parts b lt bit).0;
-    lower = λ b c lt bit less low one. lowest b c lt bit less (bits c (omega (arith, less, lt))
-        ∙ ap (λ t. t && not (nat_lt (64 * block + c) next)) one ∙ ap (λ t. not t) (le-ltb (64 * block + c) next low));
+    lower = λ b c lt bit less low one. lowest b c lt bit less (cc (bits c (omega (arith, less, lt)), le-ltb (64 * block + c) next low));
     short = λ b lt bit v l stood. are b lt (both b lt bit).1 v l stood;
   }
 

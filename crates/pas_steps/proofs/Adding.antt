@@ -27,8 +27,7 @@ adds_step {σ} {σ'} {σ''} {C} {xs} {step} {a} before makes allowed =
     let may : (v : View) (l : Whole) → σ.stands v l → C v → Allowed _ (xs ++ v) step = λ v l stood met. subst (λ s. Allowed s.profile (xs ++ v) step) (sym before.seat_is) (allowed v l stood met) in
     record {
       seat_is = makes.seat_is ∙ before.seat_is;
-      added = λ v l stood met. subst (λ s. σ''.stands (made step a ∷ (xs ++ v)) (triple s.actor (made step a) ∷ (triples σ.seat.actor xs ++ l))) before.seat_is
-          (makes.added (xs ++ v) (triples σ.seat.actor xs ++ l) (before.added v l stood met) (may v l stood met));
+      added = λ v l stood met. rw before.seat_is at (makes.added (xs ++ v) (triples σ.seat.actor xs ++ l) (before.added v l stood met) (may v l stood met));
       agreed = λ v l stood met. (subst (λ s. Agrees s.profile (xs ++ v) step a) before.seat_is (makes.agrees (xs ++ v) _ (before.added v l stood met) (may v l stood met)), before.agreed v l stood met);
     }
 

@@ -59,29 +59,20 @@ pub holds_same : (ks : Kinds) → apart ks moving ≡ true → (g : ℕ) (steps 
 holds_same ks w g = same_over (λ v. holds v g) moving ks (λ m v h. ap (λ t. held_after t (holds v g)) (grain_same m.step m.answer g h)) w
 
 -- ---- rights
-right_same : (s : Step) (a p : ℕ) (had : Bool) → is_in righting (kind_of s) ≡ false → right_after s a p had ≡ had
-right_same s a p had h = grind arith
-
 -- Steps of kinds that move no right leave each right where it was.
 pub rights_same : (ks : Kinds) → apart ks righting ≡ true → (p : ℕ) (steps : List Made) (v : View) → Only ks steps → has_right (steps ++ v) p ≡ has_right v p
-rights_same ks w p = same_over (λ v. has_right v p) righting ks (λ m v h. right_same m.step m.answer p (has_right v p) h) w
+rights_same ks w p = same_over (λ v. has_right v p) righting ks (λ m v h. (grind arith)) w
 
 -- ---- deeds
-deed_same : (s : Step) (a p known : ℕ) → is_in deed_telling (kind_of s) ≡ false → deed_after s a p known ≡ known
-deed_same s a p known h = grind arith
-
 -- Steps of kinds that tell no deed leave what is known of deeds as it was.
 pub deeds_same : (ks : Kinds) → apart ks deed_telling ≡ true → (p : ℕ) (steps : List Made) (v : View) → Only ks steps
     → known_deed (steps ++ v) p ≡ known_deed v p
-deeds_same ks w p = same_over (λ v. known_deed v p) deed_telling ks (λ m v h. deed_same m.step m.answer p (known_deed v p) h) w
+deeds_same ks w p = same_over (λ v. known_deed v p) deed_telling ks (λ m v h. (grind arith)) w
 
 -- ---- the epoch
-epoch_step_same : (s : Step) (a : ℕ) (known : Option ℕ) → is_in epoch_telling (kind_of s) ≡ false → epoch_after s a known ≡ known
-epoch_step_same s a known h = grind arith
-
 -- Steps of kinds that tell no epoch leave the known epoch as it was.
 pub epoch_same : (ks : Kinds) → apart ks epoch_telling ≡ true → (steps : List Made) (v : View) → Only ks steps → known_epoch (steps ++ v) ≡ known_epoch v
-epoch_same ks w = same_over known_epoch epoch_telling ks (λ m v h. epoch_step_same m.step m.answer (known_epoch v) h) w
+epoch_same ks w = same_over known_epoch epoch_telling ks (λ m v h. (grind arith)) w
 
 -- ---- what is owed
 pub unstamped_step_same : (s : Step) (a p : ℕ) (was : Bool) → is_in unstamping (kind_of s) ≡ false → unstamped_after s a p was ≡ was
@@ -92,13 +83,9 @@ pub unstamped_same : (ks : Kinds) → apart ks unstamping ≡ true → (p : ℕ)
     → is_unstamped (steps ++ v) p ≡ is_unstamped v p
 unstamped_same ks w p = same_over (λ v. is_unstamped v p) unstamping ks (λ m v h. unstamped_step_same m.step m.answer p (is_unstamped v p) h) w
 
--- A step of another kind leaves which page is examined: step by step.
-examined_same : (s : Step) (a p : ℕ) (was : Bool) → is_in examining (kind_of s) ≡ false → examined_after s a p was ≡ was
-examined_same s a p was h = grind arith
-
 -- Steps of kinds that examine nothing leave which pages are examined as it was.
 pub examines_same : (ks : Kinds) → apart ks examining ≡ true → (p : ℕ) (steps : List Made) (v : View) → Only ks steps → examines (steps ++ v) p ≡ examines v p
-examines_same ks e p = same_over (λ v. examines v p) examining ks (λ m v h. examined_same m.step m.answer p (examines v p) h) e
+examines_same ks e p = same_over (λ v. examines v p) examining ks (λ m v h. (grind arith)) e
 
 -- ---- blocks given, and events
 pub no_event : (k e : ℕ) (s : Step) (a : ℕ) → is_in showing (kind_of s) ≡ false → event_of k e s a ≡ None

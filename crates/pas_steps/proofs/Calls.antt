@@ -15,7 +15,7 @@ use Rattle.pas_steps.specs.declared.step.{Made.Made, Step.Step}
 use Rattle.pas_steps.specs.declared.step.Step.TheVariants.{Look, Take, Put, End, Hint, Unhint}
 use Rattle.pas_steps.proofs.{Adding.agreed_first, Adding.agreed_later, Flags.ends_none, Flags.ap_if, Past.always_map}
 use Rattle.pas_steps.proofs.Apart.{in_apart, holds_over, grain_same, holds_same}
-use Rattle.pas_steps.proofs.Frames.{look_check, look_hint, right_on, returns_on, backed_with}
+use Rattle.pas_steps.proofs.Frames.{look_hint, right_on, returns_on, backed_with}
 use Rattle.pas_steps.specs.Frames.{IsReturn, OnlyOn, OnlyReturns, unbacks, IsOnPage}
 use Rattle.pas_steps.specs.Kinds.{Kinds, kind_of, look_kind, place_of, is_in, apart, Only, Unhinting, moving, unbacking, changing, returning, Putting, Ending}
 use Rattle.pas_steps.specs.Kinds.{Parking}
@@ -43,33 +43,22 @@ leads_at {B = B} {R = R} {xs = xs} same leads = subst (λ t. Leads t.profile B R
 pub does_none : (v : View) → Does nothing v v
 does_none v = record { held = λ x. refl; right = λ page. refl; clear = λ page is. is; backed = λ x kept bears. bears }
 
--- Two fates, one after the other: by each pair.
-now_later : (a b : Fate) (had : Bool) → now (later a b) had ≡ now b (now a had)
-now_later a s had = grind arith
-
 -- What is kept by both is kept by each.
 kept_both : (a b : Fate) → later a b ≡ Kept → (a ≡ Kept) × (b ≡ Kept)
 kept_both a s h = grind arith
 
--- A page that is clear after the first call is so after the second: fate by fate.
-clear_kept : (a : Fate) (page : ℕ) (v w u : View) → ClearAfter a page v w → (IsClearOn page w → IsClearOn page u) → ClearAfter a page v u
-clear_kept a page v w u first next = grind arith
-
+-- What is clear after both is so by each pair of fates.
 clear_later : (a b : Fate) (page : ℕ) (v w u : View) → ClearAfter a page v w → ClearAfter b page w u → ClearAfter (later a b) page v u
-clear_later a b page v w u first next = grind (arith, clear_kept)
+clear_later a b page v w u first next = grind arith
 
 -- Two effects one after the other are their effect together.
 pub does_then : {d e : Effect} {v w u : View} → Does d v w → Does e w u → Does (and_then d e) v u
-does_then {d} {e} {v} {w} {u} a b = search (arith, now_later, clear_later, kept_both)
+does_then {d} {e} {v} {w} {u} a b = search (arith, clear_later, kept_both)
 
 -- ---- one effect in the words of another, for an actor with this view
 -- the grain has the same fate, or wasn't held
 abbrev pub SameGrain : Fate → Fate → Bool → Type 0
 SameGrain a b held = (a ≡ b) ⊎ ((held ≡ false) × (now a false ≡ now b false))
-
--- Fates that do the same to a grain leave it held alike.
-same_held : (a b : Fate) (held : Bool) → SameGrain a b held → now a held ≡ now b held
-same_held a b held e = grind arith
 
 was_kept : (a b : Fate) (held : Bool) → SameGrain a b held → b ≡ Kept → held ≡ true → a ≡ Kept
 was_kept a b held e kept h = grind (arith, true≢false)
@@ -78,7 +67,7 @@ was_kept a b held e kept h = grind (arith, true≢false)
 pub does_as : {d : Effect} {v w : View} (e : Effect) → Does d v w → ((x : ℕ) → SameGrain (d.grains x) (e.grains x) (holds v x))
     → ((page : ℕ) → d.rights page ≡ e.rights page)
     → ((page : ℕ) → ClearAfter (d.clears page) page v w → ClearAfter (e.clears page) page v w) → Does e v w
-does_as {d} {v} {w} e does grains rights clears = search (arith, same_held, was_kept)
+does_as {d} {v} {w} e does grains rights clears = search (arith, was_kept)
 
 -- A thing that was kept first has what becomes of it later.
 pub kept_first : (b : Fate) → later Kept b ≡ b
@@ -86,76 +75,49 @@ kept_first s = grind arith
 
 -- after a call that did nothing. That a call does nothing afterwards needs no lemma, since `and_then e nothing` computes to e
 pub does_after_nothing : {v w u : View} (e : Effect) → Does nothing v w → Does e w u → Does e v u
-does_after_nothing {v} {w} {u} e a b = does_as e (does_then a b) (λ x. inl (kept_first (e.grains x))) (λ page. kept_first (e.rights page)) (λ page. subst (λ t. ClearAfter t page v u) (kept_first (e.clears page)))
+does_after_nothing {v} {w} {u} e a b = does_as e (does_then a b) (λ x. inl (kept_first (e.grains x))) (λ page. kept_first (e.rights page))
+    (λ page. subst (λ t. ClearAfter t page v u) (kept_first (e.clears page)))
 
 -- ---- what follows where nothing is lost
 pub still_clear : {v w : View} → Does nothing v w → IsClear v → IsClear w
 still_clear does clear = record { on = λ page. does.clear page (clear.on page) }
 
 -- ---- one step
-fate_is : (m : Move) (had : Bool) → held_after m had ≡ now (grain_fate m) had
-fate_is s had = grind arith
-
--- What becomes of a right is the fate of its way: way by way.
-had_is : (w : Way) (had : Bool) → had_after w had ≡ now (way_fate w) had
-had_is w had = grind arith
-
 -- What a step does to a right is what its fate says.
 pub right_is : (s : Step) (a p : ℕ) (had : Bool) → right_after s a p had ≡ now (right_fate s a p) had
-right_is s a p had = had_is (way s a p) had
+right_is s a p had = grind arith
 
 unstamped_shut : (s : Step) (a p : ℕ) (was : Bool) → opens s a p ≡ false → was ≡ false → unstamped_after s a p was ≡ false
 unstamped_shut s a p was shut h = grind (arith, cond-false, ends_none)
 
 check_shut : (s : Step) (a p w deed : ℕ) (right owed : Bool) → opens s a p ≡ false → owed ≡ false → check_after s a p w right deed owed ≡ false
-check_shut s a p w deed right owed shut h = grind (arith, look_check, cond-false, and_right, ends_none)
+check_shut s a p w deed right owed shut h = grind (arith, ends_none, cond-false, and_right)
 
 hint_shut : (s : Step) (a p : ℕ) (owed : Bool) → opens s a p ≡ false → owed ≡ false → hint_after s a p owed ≡ false
 hint_shut s a p owed shut h = grind (arith, look_hint, ends_none, cond-false)
 
-examined_shut : (s : Step) (a p : ℕ) (was : Bool) → opens s a p ≡ false → was ≡ false → examined_after s a p was ≡ false
-examined_shut (Look word) a p was shut h = look_hint word a p was h
-examined_shut (Take q u m) a p was shut h = hint_shut (Take q u m) a p was shut h
-examined_shut (Hint q) a p was shut h = ends_none (q == p) was h
-examined_shut (Unhint q) a p was shut h = cond-false ((q == p) && has_bit a (p % 64)) true was (and_left (q == p) (has_bit a (p % 64)) shut) ∙ h
-examined_shut s a p was shut h = h
-
--- only an unhint begins to examine a page
-unexamined : (s : Step) (a p : ℕ) (was : Bool) → is_in (Unhinting ∷ []) (kind_of s) ≡ false → was ≡ false → examined_after s a p was ≡ false
-unexamined s a p was other h = grind (arith, look_hint, hint_shut, ends_none, true≢false)
-
 -- Steps of kinds that clear no hint leave a page unexamined that was.
 pub unexamined_over : (ks : Kinds) → apart ks (Unhinting ∷ []) ≡ true → (p : ℕ) (steps : List Made) (v : View) → Only ks steps → examines v p ≡ false
     → examines (steps ++ v) p ≡ false
-unexamined_over ks w p = holds_over (λ v. examines v p ≡ false) (Unhinting ∷ []) ks (λ m v other h. unexamined m.step m.answer p (examines v p) other h) w
+unexamined_over ks w p = holds_over (λ v. examines v p ≡ false) (Unhinting ∷ []) ks (λ m v other h. (grind (arith, look_hint, hint_shut, ends_none, true≢false))) w
 
 clear_shut : (s : Step) (a p : ℕ) (v : View) → opens s a p ≡ false → IsClearOn p v → IsClearOn p (made s a ∷ v)
-clear_shut s a p v shut is = search (arith, unstamped_shut, check_shut, hint_shut, examined_shut)
+clear_shut s a p v shut is = search (arith, unstamped_shut, check_shut, hint_shut)
 
 -- ---- steps that open no page
 abbrev pub opening : Kinds
 opening = Putting ∷ Ending ∷ Parking ∷ Unhinting ∷ []
 
-opens_none : (s : Step) (a p : ℕ) → is_in opening (kind_of s) ≡ false → opens s a p ≡ false
-opens_none s a p other = grind (arith, true≢false)
-
 -- nothing becomes owed on a page
 pub owes_over : (ks : Kinds) → apart ks opening ≡ true → (p : ℕ) (steps : List Made) (v : View) → Only ks steps → OwesNothing p v → OwesNothing p (steps ++ v)
 owes_over ks w p = holds_over (OwesNothing p) opening ks (λ m v other owes. record {
-  checks = λ u lt. check_shut m.step m.answer p u (known_deed v p) (has_right v p) (owes_check v p u) (opens_none m.step m.answer p other) (owes.checks u lt);
-  hint = hint_shut m.step m.answer p (owes_hint v p) (opens_none m.step m.answer p other) owes.hint;
+  checks = λ u lt. check_shut m.step m.answer p u (known_deed v p) (has_right v p) (owes_check v p u) (grind (arith, true≢false)) (owes.checks u lt);
+  hint = hint_shut m.step m.answer p (owes_hint v p) (grind (arith, true≢false)) owes.hint;
 }) w
 
 -- A page that isn't lost is as clear as it was.
 pub clear_step : (t : Bool) (p : ℕ) (v w : View) → (t ≡ false → IsClearOn p v → IsClearOn p w) → ClearAfter (if t then Lost else Kept) p v w
 clear_step t p v w shut = grind arith
-
--- Only a grain that stays is kept: move by move.
-stays_by : (m : Move) → grain_fate m ≡ Kept → m ≡ Stays
-stays_by s h = grind arith
-
-no_unback : (s : Step) (page : ℕ) → is_in unbacking (kind_of s) ≡ false → unbacks s page ≡ false
-no_unback s page h = grind (arith, true≢false)
 
 bears_step : (f : Profile) (s : Step) (a x : ℕ) (v : View) → Agrees f v s a → is_in unbacking (kind_of s) ≡ false → grain_move s a x ≡ Stays → Bears v x
     → Bears (made s a ∷ v) x
@@ -163,25 +125,22 @@ bears_step f s a x v agrees keeps stays bears =
     let at : x / 256 * 256 + x % 256 ≡ x = omega arith in
     record {
       held = ap (λ m. held_after m (holds v x)) stays ∙ bears.held;
-      backed = backed_with f (x / 256) (x % 256) (made s a ∷ []) v (omega arith) (agrees, tt) (no_unback s (x / 256) keeps, tt)
+      backed = backed_with f (x / 256) (x % 256) (made s a ∷ []) v (omega arith) (agrees, tt) ((grind (arith, true≢false)), tt)
           (subst (λ y. grain_move s a y ≡ Stays) (sym at) stays, tt) (subst (λ y. holds v y ≡ true) (sym at) bears.held) bears.backed;
     }
 
 -- any step that ends no page's backing
 pub does_step : (f : Profile) (s : Step) (a : ℕ) (v : View) → is_in unbacking (kind_of s) ≡ false → Agrees f v s a → Does (step_effect s a) v (made s a ∷ v)
 does_step f s a v keeps agrees = record {
-  held = λ x. fate_is (grain_move s a x) (holds v x);
-  right = λ page. had_is (way s a page) (has_right v page);
+  held = λ x. (grind arith);
+  right = λ page. (grind arith);
   clear = λ page. clear_step (opens s a page) page v (made s a ∷ v) (λ shut. clear_shut s a page v shut);
-  backed = λ x kept bears. bears_step f s a x v agrees keeps (stays_by (grain_move s a x) kept) bears;
+  backed = λ x kept bears. bears_step f s a x v agrees keeps (grind arith) bears;
 }
 
 -- ---- steps of kinds that change nothing
-look_keeps : (word : Word) → is_in unbacking (look_kind word) ≡ false
-look_keeps word = grind arith
-
 does_idle : (f : Profile) (s : Step) (a : ℕ) (v : View) → is_in changing (kind_of s) ≡ false → Agrees f v s a → Does nothing v (made s a ∷ v)
-does_idle f s a v h agrees = grind (arith, does_step, look_keeps, true≢false)
+does_idle f s a v h agrees = grind (arith, does_step, true≢false)
 
 -- Steps of kinds that change nothing do nothing.
 pub does_idly : (f : Profile) (ks : Kinds) → apart ks changing ≡ true → (steps : List Made) (v : View) → Only ks steps → Agreed f v steps
@@ -204,10 +163,6 @@ right_at : (p q : ℕ) (t : Bool) (r : Fate) (v w : View) → (p == q) ≡ t →
     → has_right w q ≡ now (if t then r else Kept) (has_right v q)
 right_at p q t r v w e here there = grind (arith, eqb-true, true≢false, eq-eqb)
 
-clear_at : (p q : ℕ) (t : Bool) (c : Fate) (v w : View) → (p == q) ≡ t → ClearAfter c p v w → (q ≢ p → IsClearOn q v → IsClearOn q w)
-    → ClearAfter (if t then c else Kept) q v w
-clear_at p q t c v w e here there = grind (arith, eqb-true, true≢false, eq-eqb)
-
 -- steps on one page open no other
 on_opens : (p q : ℕ) (s : Step) (a : ℕ) → IsOnPage p s → q ≢ p → opens s a q ≡ false
 on_opens p q s a is ne = grind (arith, ne_eqb)
@@ -224,17 +179,13 @@ does_on_page f p r c ks w k steps v only on agreed right clear =
     record {
       held = λ x. holds_same ks w x steps v only;
       right = λ q. right_at p q (p == q) r v (steps ++ v) refl right (λ ne. right_on p q steps v on ne);
-      clear = λ q. clear_at p q (p == q) c v (steps ++ v) refl clear (clear_over p q steps v on);
+      clear = λ q. (grind (arith, eqb-true, true≢false, eq-eqb, clear_over p q steps v on));
       backed = λ x kept bears. bears_over f x ks w k steps v only agreed bears;
     }
 
--- A step that returns is of such a kind: step by step.
-return_kind : (p : ℕ) (s : Step) → IsReturn p s → is_in returning (kind_of s) ≡ true
-return_kind p s is = grind arith
-
 -- Steps that only return grains to a page are of the returning kinds.
 pub returns_are : (p : ℕ) (steps : List Made) → OnlyReturns p steps → Only returning steps
-returns_are p steps = always_map (λ m before. IsReturn p m.step) _ steps (λ m before is. return_kind p m.step is)
+returns_are p steps = always_map (λ m before. IsReturn p m.step) _ steps (λ m before is. (grind arith))
 
 -- steps of a return or a leave
 pub does_returns : (f : Profile) (p : ℕ) (r c : Fate) (steps : List Made) (v : View) → OnlyReturns p steps → Agreed f v steps
@@ -274,18 +225,10 @@ pub leads_put : (f : Profile) (page word mask a : ℕ) → Leads f AnyView (Does
 leads_put f page word mask a = record { from = λ v met agreed. does_as _ (does_step f _ a v refl agreed.0) (λ x. inl (ap_if grain_fate _ Puts Stays)) (λ q. refl) (λ q h. h) }
 
 -- ---- an end whose grains were put back leaves all as it was, since none of them was held
-back_grain : (t held : Bool) (g : ℕ) → (t ≡ true → held ≡ false)
-    → SameGrain (later (grain_fate (if t then Ends g else Stays)) (if t then Lost else Kept)) Kept held
-back_grain t held g none = grind arith
-
-back_clear : (t u : Bool) (page : ℕ) (v w : View) → (t ≡ true → u ≡ true) → ClearAfter (later (if t then Lost else Kept) (if u then Gained else Kept)) page v w
-    → IsClearOn page v → IsClearOn page w
-back_clear t u page v w covers h is = grind (arith, true≢false)
-
 -- A block that was ended, and whose grains were given back on each page, leaves nothing changed.
 pub ends_back : {v w u : View} (g n : ℕ) (pages : ℕ → Bool) → EndsBlock g n v w → Does (freed (in_run g n) pages) w u
     → ((page : ℕ) → meets_page g n page ≡ true → pages page ≡ true) → Does nothing v u
-ends_back {v} {w} {u} g n pages e b covers = does_as nothing (does_then e.does b) (λ x. back_grain _ _ g (e.apart x)) (λ page. refl) (λ page. back_clear _ _ page v u (covers page))
+ends_back {v} {w} {u} g n pages e b covers = does_as nothing (does_then e.does b) (λ x. (grind arith)) (λ page. refl) (λ page. (λ h is. grind (arith, true≢false)))
 
 -- An end after steps that do nothing ends the block from the view before.
 pub end_later : {v w u : View} (g n : ℕ) → Does nothing v w → EndsBlock g n w u → EndsBlock g n v u

@@ -44,18 +44,14 @@ pub comes_of : (k epoch : ℕ) (s : Step) (a : ℕ) (e : Event) → event_of k e
 comes_of k epoch s a e is = grind (arith, chosen, eqb-true, ended, none-some)
 
 -- ---- the events of steps
-with_one : (P : Event → Type 0) (o : Option Event) (es : List Event) → ((e : Event) → o ≡ Some e → P e) → AllByRecursion P es
-    → AllByRecursion P (with_event o es)
-with_one P o es one all = grind arith
-
 -- what holds of the event of each step holds of each event
 pub each_event : (P : Event → Type 0) (Q : Made → List Made → Type 0) (k : ℕ) (v : View)
     → ((m : Made) (before : List Made) (epoch : ℕ) (e : Event) → Q m before → event_of k epoch m.step m.answer ≡ Some e → P e)
     → (steps : List Made) → Always Q steps → AllByRecursion P (events_by k v steps)
 each_event P Q k v one [] all = tt
-each_event P Q k v one (m ∷ more) all = with_one P _ (events_by k v more) (λ e is. one m more _ e all.0 is) (each_event P Q k v one more all.1)
+each_event P Q k v one (m ∷ more) all = grind (arith, each_event P Q k v one more all.1)
 
 -- they are all of the steps' actor
 pub events_own : (k : ℕ) (v : View) (steps : List Made) → AllByRecursion (λ e. actor_of e ≡ k) (events_by k v steps)
 events_own k v [] = tt
-events_own k v (m ∷ more) = with_one (λ e. actor_of e ≡ k) _ (events_by k v more) (λ e is. (comes_of k _ m.step m.answer e is).actor) (events_own k v more)
+events_own k v (m ∷ more) = grind (arith, events_own k v more)

@@ -36,16 +36,13 @@ pub events_split : (k : ℕ) (xs : List Made) (v : View) → events_of k (xs ++ 
 events_split k [] v = refl
 events_split k (m ∷ xs) v = ap (with_event _) (events_split k xs v) ∙ with_append _ (events_by k v xs) (events_of k v)
 
--- One more event, or none, leaves no fewer.
-with_le : (o : Option Event) (es : List Event) (n : ℕ) → n ≤ length es → n ≤ length (with_event o es)
-with_le o es n h = grind arith
-
 -- A step makes the events at most one more.
 pub with_few : (o : Option Event) (es : List Event) → length (with_event o es) ≤ length es + 1
 with_few o es = grind arith
 
+-- A step that gives adds an event, and no other changes the count.
 given_step : (k e : ℕ) (s : Step) (a n : ℕ) (es : List Event) → n ≤ length es → given_after s n ≤ length (with_event (event_of k e s a) es)
-given_step k e s a n es h = grind (arith, with_le)
+given_step k e s a n es h = grind arith
 
 -- each block that was given is an event
 pub given_le : (k : ℕ) (v : View) → given_count v ≤ length (events_of k v)
@@ -78,14 +75,10 @@ pub right_own : (p : ℕ) (ys xs : List Made) → has_right xs p ≡ false → h
 right_own p [] xs h = h
 right_own p (y ∷ ys) xs h = ap (had_after (way y.step y.answer p)) (right_own p ys xs h)
 
--- one that they tell is one of the view
-more_right : (w : Way) (own had : Bool) → (own ≡ true → had ≡ true) → had_after w own ≡ true → had_after w had ≡ true
-more_right s own had more h = grind arith
-
 -- A right that the steps of a call have is had after them.
 pub right_of_own : (p : ℕ) (xs : List Made) (v : View) → has_right xs p ≡ true → has_right (xs ++ v) p ≡ true
 right_of_own p [] v h = absurd (true≢false (sym h))
-right_of_own p (m ∷ xs) v h = more_right (way m.step m.answer p) (has_right xs p) (has_right (xs ++ v) p) (right_of_own p xs v) h
+right_of_own p (m ∷ xs) v h = grind (arith, right_of_own p xs v)
 
 -- Steps that never have a right lack it afterwards.
 pub lacks_now : (p : ℕ) (xs : List Made) → Always (λ m before. has_right (m ∷ before) p ≡ false) xs → has_right xs p ≡ false
@@ -125,10 +118,6 @@ pub holds_on_page : (p g : ℕ) (steps : List Made) (v : View) → OnlyOn p step
 holds_on_page p g [] v h ne = refl
 holds_on_page p g (m ∷ more) v h ne = ap (λ x. held_after x (holds (more ++ v) g)) (on_grain p m.step m.answer g h.0 ne) ∙ holds_on_page p g more v h.1 ne
 
--- looks end checks and hints, and add none
-pub look_check : (word : Word) (a q w deed : ℕ) (right owed : Bool) → owed ≡ false → check_after (Look word) a q w right deed owed ≡ false
-look_check s a q w deed right owed h = grind (arith, ends_none)
-
 -- A look leaves the hint of a page as it was, where none was owed.
 pub look_hint : (word : Word) (a q : ℕ) (owed : Bool) → owed ≡ false → hint_after (Look word) a q owed ≡ false
 look_hint s a q owed h = grind (arith, ends_none)
@@ -149,12 +138,8 @@ told_here known a word t z h e k = grind (arith, nat_tests)
 told_bit : {A : Type 0} (known word : A) (t : Bool) → (t ≡ true → word ≡ known) → (if t then word else known) ≡ known
 told_bit known word t h = grind arith
 
-look_deed : (f : Profile) (v : View) (word : Word) (a p : ℕ) → Agrees f v (Look word) a → known_deed v p ≢ 0
-    → deed_after_look word a p (known_deed v p) ≡ known_deed v p
-look_deed f v s a p agrees ne = grind (arith, told_bit, eqb-true, and_parts)
-
 deed_same : (f : Profile) (v : View) (s : Step) (a p : ℕ) → Agrees f v s a → known_deed v p ≢ 0 → deed_after s a p (known_deed v p) ≡ known_deed v p
-deed_same f v s a p agrees ne = grind (arith, look_deed, told_here, eqb-true)
+deed_same f v s a p agrees ne = grind (arith, told_bit, eqb-true, and_parts, told_here)
 
 -- A known deed stays known.
 pub deed_stays : (f : Profile) (steps : List Made) (v : View) (p : ℕ) → Agreed f v steps → known_deed v p ≢ 0 → known_deed (steps ++ v) p ≡ known_deed v p
@@ -227,13 +212,9 @@ any_from n p i lt h = (any_decides n p).1 (i, lt, h)
 one_read : (a : ℕ) (t known : Bool) → (t ≡ true → a ≡ 1) → known ≡ true → (if t then a == 1 else known) ≡ true
 one_read a t known h e = grind (arith, nat_tests)
 
-look_backed : (f : Profile) (v : View) (w : Word) (a q : ℕ) → Agrees f v (Look w) a → knows_backed v q ≡ true
-    → backed_after_look w a q (knows_backed v q) ≡ true
-look_backed f v s a q agrees h = grind (arith, one_read, eqb-true)
-
 still_backed : (f : Profile) (v : View) (s : Step) (a q : ℕ) → Agrees f v s a → unbacks s q ≡ false → knows_backed v q ≡ true
     → backed_after s a q (knows_backed v q) ≡ true
-still_backed f v s a q agrees keep h = grind (arith, look_backed, stays_set)
+still_backed f v s a q agrees keep h = grind (arith, one_read, eqb-true, stays_set)
 
 -- ---- all steps
 still_held : (x : ℕ) (steps : List Made) (v : View) → Always (λ m before. grain_move m.step m.answer x ≡ Stays) steps → holds v x ≡ true

@@ -31,8 +31,7 @@ rest_length {n} {shown} {es} rest =
 pub rest_more : {n : ℕ} (old new es more : List Event) → ShowsRest n old es → ShowsRest n new (more ++ es) → new ≡ old ++ reverse more
 rest_more {n} old new es more before after =
     let all = after.all ∙ reverse-append more es ∙ ap (λ xs. xs ++ reverse more) (sym before.all) ∙ append_assoc before.gone old (reverse more) in
-    sym (drop-append_seam after.gone new) ∙ ap (drop (length after.gone)) all
-    ∙ ap (λ k. drop k (before.gone ++ (old ++ reverse more))) (after.many ∙ sym before.many) ∙ drop-append_seam before.gone (old ++ reverse more)
+    cc (drop-append_seam after.gone new, drop-append_seam before.gone (old ++ reverse more))
 
 -- The count of one step more is that of a view that is longer by one.
 pub count_next : (c c' n m : ℕ) → m ≡ n + 1 → c' ≡ min (c + 1) (2 ^ 64 - 1) → c ≡ min n (2 ^ 64 - 1) → c' ≡ min m (2 ^ 64 - 1)

@@ -47,9 +47,6 @@ life_past words page grain past =
     let few : length words.lives.items ≤ page - 1 = omega (arith, past, words.with_lives, words.lives.ok.0, words.pages.ok.0) in
     ap (λ (lives : List ℕ). slice_index lives grain) (past_all words.lives.items (page - 1) no_lives few) ∙ zero_at 256 grain
 
-backed_past : (words : PagedWords) (page : ℕ) → length words.pages.items ≤ page - 1 → value_in words (Word.Backed page) ≡ 0
-backed_past words page past = ap (λ (p : PageWords). p.backed) (past_all words.pages.items (page - 1) opening_page past)
-
 one_more : {A : Type 0} (all : List A) (i : ℕ) (opening : A) → get_or (all ++ opening ∷ []) i opening ≡ get_or all i opening
 one_more [] zero opening = refl
 one_more [] (suc i) opening = refl
@@ -80,16 +77,14 @@ in_row : (row : List ℕ) (v heaps d j b i n : ℕ) → length row ≡ 23 * heap
     → slice_index (slice_set row (d * v + j) n) (b * v + i) ≡ (if same then n else slice_index row (b * v + i))
 in_row row v heaps d j b i n sized few low low' true e =
     let same = same_word-true (Word.Eligible d j) (Word.Eligible b i) e in
-    let minor : d ≡ b = ap word_minor same in
     let major : j ≡ i = ap word_major same in
-    ap (λ (z : ℕ × ℕ). slice_index (slice_set row (d * v + j) n) (z.0 * v + z.1)) (λ k. (sym minor k, sym major k))
+    ap (λ (z : ℕ × ℕ). slice_index (slice_set row (d * v + j) n) (z.0 * v + z.1)) (λ k. (sym (ap word_minor same) k, sym major k))
     ∙ get_or-set_same row (d * v + j) n 0 (omega (arith, sized, mul-add-lt d v j (23 * heaps) few low, mul_comm v (23 * heaps)))
 in_row row v heaps d j b i n sized few low low' false e =
     get_or-set_other row (d * v + j) (b * v + i) n 0 (λ same.
     let at = same_from_place b i d j v low' low same in
-    let minor = eq-eqb d b (sym at.0) in
     let major = eq-eqb j i (sym at.1) in
-    let is : same_word (Word.Eligible d j) (Word.Eligible b i) ≡ true = search (arith, and_from, minor, major) in
+    let is : same_word (Word.Eligible d j) (Word.Eligible b i) ≡ true = search (arith, and_from, eq-eqb d b (sym at.0), major) in
     cc)
 
 pub eligible_written : (old new : PagedWords) (d j n : ℕ) → IsWordIn old.layout.pages old.layout.heaps (Word.Eligible d j)
@@ -98,9 +93,7 @@ pub eligible_written : (old new : PagedWords) (d j n : ℕ) → IsWordIn old.lay
     → new.eligible.items ≡ slice_set old.eligible.items (d * vector_words old.layout.pages + j) n
     → (w : Word) → IsWordIn old.layout.pages old.layout.heaps w → value_in new w ≡ (if same_word (Word.Eligible d j) w then n else value_in old w)
 eligible_written old new d j n of layout epoch pages lives deeds parked empty eligible (Word.Eligible b i) of' =
-    ap (λ (l : Layout). slice_index new.eligible.items (b * vector_words l.pages + i)) layout
-    ∙ ap (λ (row : List ℕ). slice_index row (b * vector_words old.layout.pages + i)) eligible
-    ∙ in_row old.eligible.items _ old.layout.heaps d j b i n (omega (arith, old.eligible_sized, old.eligible.ok.0)) of.0 of.1 of'.1 _ refl
+    cc (in_row old.eligible.items _ old.layout.heaps d j b i n (omega (arith, old.eligible_sized, old.eligible.ok.0)) of.0 of.1 of'.1 _ refl)
 eligible_written old new d j n of layout epoch pages lives deeds parked empty eligible w of' = grind arith
 
 -- ---- a region at rest
@@ -110,7 +103,8 @@ unused_paged state words is = record {
   lives = λ page grain past of small.
       ap (λ (k : Kept). kept_value k (Word.Life page grain)) is ∙ life_past words page grain (omega (arith, past, words.pages.ok.0));
   backed = λ page past of.
-      ap (λ (k : Kept). kept_value k (Word.Backed page)) is ∙ backed_past words page (omega (arith, past, words.pages.ok.0));
+      ap (λ (k : Kept). kept_value k (Word.Backed page)) is
+      ∙ (ap (λ (p : PageWords). p.backed) (past_all words.pages.items (page - 1) opening_page (omega (arith, past, words.pages.ok.0))));
 }
 
 -- there are no pages above all

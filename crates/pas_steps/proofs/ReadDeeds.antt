@@ -9,10 +9,7 @@ pub directory_told : (f : Profile) (deed : ℕ) (r : Option Directory) → IsVal
     → ((d : Directory) × (deed ≡ deed_word_of d) × IsDirectoryOf f d) → (d : Directory) × (r ≡ Some d) × (deed ≡ deed_word_of d) × IsDirectoryOf f d
 directory_told f deed r valid read told = (told.0, read ∙ ap directory_read told.1 ∙ read-deed_word_of _ (directory_from_profile f _ valid told.2), told.1, told.2)
 
-some_is : (a b : Directory) → Some a ≡ Some b → a ≡ b
-some_is a b e = cc
-
 -- A deed word that was read as a directory is that directory's word.
 pub directory_is : (f : Profile) (deed : ℕ) (r : Option Directory) (d : Directory)
     → ((d : Directory) × (r ≡ Some d) × (deed ≡ deed_word_of d) × IsDirectoryOf f d) → r ≡ Some d → (deed ≡ deed_word_of d) × IsDirectoryOf f d
-directory_is f deed r d told is = let same = some_is told.0 d (sym told.1 ∙ is) in (told.2 ∙ ap deed_word_of same, subst (IsDirectoryOf f) same told.3)
+directory_is f deed r d told is = let same : told.0 ≡ d = cc in (told.2 ∙ ap deed_word_of same, subst (IsDirectoryOf f) same told.3)

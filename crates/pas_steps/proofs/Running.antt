@@ -16,9 +16,6 @@ use Rattle.pas_steps.specs.Runs.{in_order, CanRun, IsOpening, IsAfter, IsStepped
 
 -- ==== The numbers in a step of a region fit the words that they go into.
 
-grains_fit : (first room pages : ℕ) → pages ≤ 16384 → 4096 ≤ first → first + room ≤ 4096 * (pages + 1) → room / 16 < 2 ^ 23
-grains_fit first room pages few low high = omega arith
-
 -- A length of at most the grains of a region is below 2^23.
 pub guess_fits : (guess pages : ℕ) → pages ≤ 16384 → guess ≤ 256 * pages → guess < 2 ^ 23
 guess_fits guess pages few high = omega arith
@@ -28,7 +25,7 @@ heap_fits heap heaps few low = omega arith
 
 -- the numbers of a step of a valid profile fit
 pub is_ranged : (f : Profile) (s : Step) → IsValid f → IsStepOf f s → IsRanged s
-is_ranged f s valid of = grind (arith, heap_fits, grains_fit, guess_fits)
+is_ranged f s valid of = grind (arith, heap_fits, guess_fits)
 
 -- ==== The word of a step of a region is one of the region.
 
@@ -103,8 +100,7 @@ step_in f (t ∷ l) i d legal lt = elim (cases_eq i (length (in_order l))) [
     made = sym (get_or_at (in_order l) (made_by t) [] d i (sym e));
   }
   | inr ne ↦
-      let more : length (in_order (t ∷ l)) ≡ length (in_order l) + 1 = length_next l t in
-      let less : i < length (in_order l) = omega (arith, lt, ne, more) in
+      let less : i < length (in_order l) = omega (arith, lt, ne, length_next l t) in
       let found : IsStepAt f (in_order l) i (get_or (in_order l) i d) = step_in f l i d legal.1 less in
       record {
         before = found.before;
@@ -118,16 +114,14 @@ step_in f (t ∷ l) i d legal lt = elim (cases_eq i (length (in_order l))) [
 
 -- Each step of a list that can be run is one at its place.
 pub step_at : (f : Profile) (steps : Steps) (i : ℕ) (d : ℕ × Step) → CanRun f steps → i < length steps → IsStepAt f steps i (get_or steps i d)
-step_at f steps i d can lt = subst (λ (xs : Steps). IsStepAt f xs i (get_or xs i d)) can.steps_are
-    (step_in f can.whole i d can.legal (subst (λ (xs : Steps). i < length xs) (sym can.steps_are) lt))
+step_at f steps i d can lt = rw can.steps_are at (step_in f can.whole i d can.legal (subst (λ (xs : Steps). i < length xs) (sym can.steps_are) lt))
 
 -- what the step may rely on
 pub at_actor : (f : Profile) (steps : Steps) (i : ℕ) (x : ℕ × Step) → IsValid f → IsStepAt f steps i x → x.0 < 17
 at_actor f steps i x valid at =
-    let few : at.triple.actor ≤ f.threads = at.next.actor in
     let threads : f.threads ≤ 16 = valid.threads in
     let same : at.triple.actor ≡ x.0 = ap (λ (y : ℕ × Step). y.0) at.made in
-    omega (arith, few, threads, same)
+    omega (arith, at.next.actor, threads, same)
 
 -- The numbers of a step of such a list fit their places.
 pub at_ranged : (f : Profile) (steps : Steps) (i : ℕ) (x : ℕ × Step) → IsValid f → IsStepAt f steps i x → IsRanged x.1
@@ -170,9 +164,8 @@ record IsSplit (steps : Steps) (i : ℕ) (d : ℕ × Step) (l : Whole) (t : Trip
 -- A list that is the first steps in order is cut before the newest one.
 split : (steps : Steps) (i : ℕ) (d : ℕ × Step) (l : Whole) (t : Triple) → i < length steps → in_order (t ∷ l) ≡ take (i + 1) steps → IsSplit steps i d l t
 split steps i d l t lt is =
-    let more : length (in_order (t ∷ l)) ≡ length (in_order l) + 1 = length_next l t in
     let taken : length (take (i + 1) steps) ≡ i + 1 = length-take-le (i + 1) steps (omega (arith, lt)) in
-    let long : length (in_order l) ≡ i = omega (arith, more, taken, ap length is) in
+    let long : length (in_order l) ≡ i = omega (arith, length_next l t, taken, ap length is) in
     record {
       before = sym (take_at (in_order l) (made_by t ∷ []) i long) ∙ ap (take i) is ∙ take-take i (i + 1) steps (omega arith);
       made = sym (get_or_at (in_order l) (made_by t) [] d i long) ∙ ap (λ (xs : Steps). get_or xs i d) is ∙ get_or-take (i + 1) steps i d (omega arith);
@@ -184,8 +177,7 @@ value_next : (old new : State) (l : Whole) (t : Triple) (e : ℕ) (w : Word) →
     → (same : Bool) → same_word (target t.made.step) w ≡ same
     → (if same then new_value e t.made.step (word_in old (target t.made.step)) else word_in old w)
     ≡ (if same then new_value (epoch_of (part t.actor l)) t.made.step (word_after l w) else word_after l w)
-value_next old new l t e w epoch target_is is true same = ap (λ (x : ℕ). new_value x t.made.step (word_in old (target t.made.step))) epoch
-    ∙ ap (new_value (epoch_of (part t.actor l)) t.made.step) (target_is ∙ ap (word_after l) (same_word-true (target t.made.step) w same))
+value_next old new l t e w epoch target_is is true same = cc (same_word-true (target t.made.step) w same)
 value_next old new l t e w epoch target_is is false same = is
 
 -- the epochs after the step
@@ -195,8 +187,7 @@ epoch_next : (l : Whole) (t : Triple) (epochs : List (Option ℕ)) (new : Option
     → get_or (set epochs t.actor new) k None ≡ known_epoch (if same then t.made ∷ part k l else part k l)
 epoch_next l t epochs new k small is new_is true same =
     let e : t.actor ≡ k = eqb-true t.actor k same in
-    ap (λ (i : ℕ). get_or (set epochs t.actor new) i None) (sym e) ∙ get_or-set_same epochs t.actor new None small ∙ new_is
-    ∙ ap (λ (i : ℕ). epoch_after t.made.step t.made.answer (known_epoch (part i l))) e
+    cc (get_or-set_same epochs t.actor new None small)
 epoch_next l t epochs new k small is new_is false same = get_or-set_other epochs t.actor k new None (λ e. eqb-false t.actor k same (sym e)) ∙ is
 
 -- what the step of the loop did, told of the step that the list has there
@@ -210,9 +201,8 @@ next_words : (f : Profile) (steps : Steps) (i : ℕ) (d : ℕ × Step) (old new 
     → IsSoFar f steps i old epochs
     → IsStep f old new epochs known (get_or steps i d) → IsAfter f (take (i + 1) steps) new
 next_words f steps i d old new epochs known lt far did [] legal is w of =
-    let taken : length (take (i + 1) steps) ≡ i + 1 = length-take-le (i + 1) steps (omega (arith, lt)) in
     let none : 0 ≡ length (take (i + 1) steps) = ap length is in
-    absurd (omega (arith, taken, none))
+    absurd (omega (arith, length-take-le (i + 1) steps (omega (arith, lt)), none))
 next_words f steps i d old new epochs known lt far did (t ∷ l) legal is w of =
     let parts : IsSplit steps i d l t = split steps i d l t lt is in
     let here : IsStep f old new epochs known (made_by t) = subst (IsStep f old new epochs known) (sym parts.made) did in
@@ -227,20 +217,18 @@ next_epochs : (f : Profile) (steps : Steps) (i : ℕ) (d : ℕ × Step) (old new
     → get_or (set epochs (get_or steps i d).0 (epoch_after (get_or steps i d).1 (word_in old (target (get_or steps i d).1)) known)) k None
     ≡ known_epoch (part k l)
 next_epochs f steps i d old new epochs known lt far did [] legal is k small =
-    let taken : length (take (i + 1) steps) ≡ i + 1 = length-take-le (i + 1) steps (omega (arith, lt)) in
     let none : 0 ≡ length (take (i + 1) steps) = ap length is in
-    absurd (omega (arith, taken, none))
+    absurd (omega (arith, length-take-le (i + 1) steps (omega (arith, lt)), none))
 next_epochs f steps i d old new epochs known lt far did (t ∷ l) legal is k small =
     let parts : IsSplit steps i d l t = split steps i d l t lt is in
     let here : IsStep f old new epochs known (made_by t) = subst (IsStep f old new epochs known) (sym parts.made) did in
     let at : word_in old (target t.made.step) ≡ word_after l (target t.made.step) = far.words l legal.1 parts.before (target t.made.step) here.of_region in
     let kept : known ≡ known_epoch (part t.actor l) = sym here.known_is ∙ far.epochs_are l legal.1 parts.before t.actor here.actor in
-    let next : IsNext f l t = legal.0 in
     let actors : length epochs ≡ 17 = far.actors in
     let lower : t.actor < 17 = here.actor in
     ap (λ (x : ℕ × Step). get_or (set epochs x.0 (epoch_after x.1 (word_in old (target x.1)) known)) k None) (sym parts.made)
     ∙ epoch_next l t epochs _ k (omega (arith, actors, lower)) (far.epochs_are l legal.1 parts.before k small)
-    (ap (λ (n : ℕ). epoch_after t.made.step n known) (at ∙ sym next.answer_is) ∙ ap (epoch_after t.made.step t.made.answer) kept) (t.actor == k) refl
+    (ap (λ (n : ℕ). epoch_after t.made.step n known) (at ∙ sym legal.0.answer_is) ∙ ap (epoch_after t.made.step t.made.answer) kept) (t.actor == k) refl
 
 -- After one step more a state has the words of the list so far, and the epochs that are known.
 pub so_far_next : (f : Profile) (steps : Steps) (i : ℕ) (d : ℕ × Step) (old new : State) (epochs : List (Option ℕ)) (known told : Option ℕ) → IsValid f

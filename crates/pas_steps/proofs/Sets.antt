@@ -14,10 +14,6 @@ pub both_fates : (fate : Fate) (s t c : Bool) → later fate fate ≡ fate → (
     → later (if s then fate else Kept) (if t then fate else Kept) ≡ (if c then fate else Kept)
 both_fates fate s t c twice e = grind arith
 
--- the page is clear only afterwards
-open_first : (t u : Bool) → t ≡ u → later (if t then Lost else Kept) (if t then Gained else Kept) ≡ (if u then Gained else Kept)
-open_first t u e = grind arith
-
 -- A thing that was kept twice was kept.
 pub kept_kept : (t : Bool) → later Kept (if t then Kept else Kept) ≡ Kept
 kept_kept t = grind arith
@@ -38,7 +34,7 @@ put_nothing {v} {w} a page d none = does_as (put a page) d (λ x. inl (ap (λ t.
 -- ---- the page is clear then
 pub put_freed : {v w u : View} (a pages : ℕ → Bool) (page : ℕ) → Does (put a page) v w → Does (on_page page Kept Gained) w u → ((q : ℕ) → (page == q) ≡ pages q)
     → Does (freed a pages) v u
-put_freed {v} {w} {u} a pages page d e its = does_as _ (does_then d e) (λ x. inl refl) (λ q. kept_kept _) (λ q h. subst (λ t. ClearAfter t q v u) (open_first _ (pages q) (its q)) h)
+put_freed {v} {w} {u} a pages page d e its = does_as _ (does_then d e) (λ x. inl refl) (λ q. kept_kept _) (λ q h. subst (λ t. ClearAfter t q v u) (grind arith) h)
 
 -- Grains that were freed one set after the other were freed together.
 pub freed_both : {v w u : View} (a p b q c r : ℕ → Bool) → Does (freed a p) v w → Does (freed b q) w u → ((x : ℕ) → (a x || b x) ≡ c x)

@@ -30,9 +30,8 @@ unknown_fewer f zero page steps v agreed was now low high = absurd (omega (arith
 unknown_fewer f (suc n) page steps v agreed was now low high = elim (cases_eq page (suc n)) [
   | inl e ↦ search (arith, ne_eqb, unknown_kept)
   | inr ne ↦
-      let here = no_more (known_deed (steps ++ v) (suc n)) (known_deed v (suc n)) _ _ refl refl (λ some z. some (sym (deed_stays f steps v (suc n) agreed some) ∙ z)) in
       let below = unknown_fewer f n page steps v agreed was now low (omega (arith, high, ne)) in
-      omega (arith, here, below)
+      omega (arith, no_more (known_deed (steps ++ v) (suc n)) (known_deed v (suc n)) _ _ refl refl (λ some z. some (sym (deed_stays f steps v (suc n) agreed some) ∙ z)), below)
 ]
 
 -- A deed that is known by now makes the unknown pages one fewer.
@@ -43,8 +42,7 @@ unknown_less f page steps v agreed is was now = unknown_fewer f f.pages page ste
 none_below : (f : Profile) (n : ℕ) (v : View) → KnowsAllDeeds f v → n ≤ f.pages → unknown_below n v ≡ 0
 none_below f zero v all le = refl
 none_below f (suc n) v all le =
-    let below = none_below f n v all (omega (arith, le)) in
-    omega (arith, ap one_if (ne_eqb (known_deed v (suc n)) 0 (all (suc n) (omega arith, le))), below)
+    omega (arith, ap one_if (ne_eqb (known_deed v (suc n)) 0 (all (suc n) (omega arith, le))), none_below f n v all (omega (arith, le)))
 
 -- Where all deeds are known, no page is unknown.
 pub none_unknown : (f : Profile) (v : View) → KnowsAllDeeds f v → unknown_pages f v ≡ 0

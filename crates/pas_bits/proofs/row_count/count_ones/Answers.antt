@@ -44,5 +44,4 @@ loop-word-preserved c =
 
 pub returns : goal.returns
 returns c =
-    let end : c.loop-word.word ≡ length c.args.words.now = omega arith in
-    c.loop-word.invariant ∙ ap (count_before c.args.words.now) end ∙ whole_before c.args.words.now
+    c.loop-word.invariant ∙ ap (count_before c.args.words.now) (omega arith) ∙ whole_before c.args.words.now

@@ -1,5 +1,6 @@
-use Rattle.std.proofs.Common.{sym, ◌∙◌}
-use Rattle.pas_cache.proofs.Obtained.{releases_none, shortens_full, shortens_none}
+use Rattle.std.proofs.lemmas.Bool.{eqb-false}
+use Rattle.std.proofs.Common.{arith, sym, ◌∙◌}
+use Rattle.pas_cache.proofs.Obtained.{releases_none, shortens_full}
 use Rattle.pas_cache.proofs.obtaining.shorten.Goals as goal
 
 pub returns-then-is_full-clause-shortens : goal.returns-then-is_full-clause-shortens
@@ -7,4 +8,4 @@ returns-then-is_full-clause-shortens g c = shortens_full (sym c.is_full.ensures.
 
 pub returns-else-is_full-clause-shortens : goal.returns-else-is_full-clause-shortens
 returns-else-is_full-clause-shortens g c =
-    releases_none _ _ (shortens_none _ (sym c.is_full.ensures.value ∙ c.if-is_full.false) c.is_full.ensures.fits)
+    releases_none _ _ (grind (arith, eqb-false))

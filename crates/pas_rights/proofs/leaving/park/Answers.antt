@@ -1,4 +1,4 @@
-use Rattle.std.proofs.Common.{[], ◌∷◌, ◌++◌, refl, sym, subst}
+use Rattle.std.proofs.Common.{arith, [], ◌∷◌, ◌++◌, refl, sym, subst}
 use Rattle.pas_steps.specs.declared.step.Step.TheVariants.{Park}
 use Rattle.pas_steps.specs.Desks.{made}
 use Rattle.pas_steps.proofs.Adding.{adds_none, adds_step, adds_call, can_call}
@@ -8,8 +8,7 @@ use Rattle.pas_rights.proofs.leaving.park.Goals as goal
 
 pub reoffer-requires-clause-can : goal.reoffer-requires-clause-can
 reoffer-requires-clause-can g c =
-    can_call (adds_call (adds_step adds_none c.park.ensures.makes (λ v l stood met. met.right)) c.read-later.ensures.reads (λ v l stood met. tt)) c.requires.can
-    (λ v l stood met. knows_parked _ c.args.directory c.park.result c.read-later.result v met.deed)
+    search (arith, can_call, adds_call, adds_step, adds_none, knows_parked)
 
 pub returns-then-has_usable-clause-parks : goal.returns-then-has_usable-clause-parks
 returns-then-has_usable-clause-parks g c =
@@ -17,8 +16,7 @@ returns-then-has_usable-clause-parks g c =
     record {
       steps = r.steps ++ (looks p (words later) 4 ++ (made (Park p) c.park.result ∷ []));
       order = record { parked = c.park.result; later = later; usable = c.has_usable.result; usable_is = c.has_usable.ensures; after = r.steps; reoffers = subst (λ t. ReoffersWhere t p d r.steps) (sym c.if-has_usable.true) r.order; steps_are = refl };
-      adds = adds_call (adds_call (adds_step adds_none c.park.ensures.makes (λ v l stood met. met.right)) c.read-later.ensures.reads
-          (λ v l stood met. tt)) r.adds (λ v l stood met. knows_parked p d c.park.result later v met.deed);
+      adds = search (arith, adds_call, adds_step, adds_none, knows_parked);
     }
 
 pub returns-else-has_usable-clause-parks : goal.returns-else-has_usable-clause-parks

@@ -1,6 +1,7 @@
+use Rattle.std.proofs.lemmas.Bool.{and_parts}
 use Rattle.std.proofs.Common.{arith}
-use Rattle.pas_rights.proofs.Orders.{match_not, usable_some, usable_none}
+use Rattle.pas_rights.proofs.Orders.{match_not, usable_none}
 use Rattle.pas_rights.proofs.looking.has_usable.Goals as goal
 
 pub returns : goal.returns
-returns c = search (arith, match_not, usable_none, usable_some)
+returns c = search (arith, match_not, usable_none, and_parts)

@@ -12,8 +12,7 @@ pub put_word-requires-clause-page : goal.put_word-requires-clause-page
 put_word-requires-clause-page g c = subst (λ s. IsPage s.profile c.args.page) (sym c.loop-word.invariant.calls.adds.seat_is) c.requires.page
 
 pub put_word-requires-clause-can : goal.put_word-requires-clause-can
-put_word-requires-clause-can g c = let i = c.loop-word.invariant in
-    next_call i.calls c.requires.can (λ v met d. may_put_word _ _ c.loop-word.word i.steps v i.order met d)
+put_word-requires-clause-can g c = search (arith, next_call, may_put_word)
 
 pub loop-word-preserved : goal.loop-word-preserved
 loop-word-preserved g c = let i = c.loop-word.invariant in let p = c.put_word.ensures.puts in record {

@@ -1,4 +1,4 @@
-use Rattle.std.proofs.Common.{[], ◌∷◌, sym, ◌∙◌, refl, inl, inr}
+use Rattle.std.proofs.Common.{arith, [], ◌∷◌, sym, ◌∙◌, refl, inl, inr}
 use Rattle.pas_steps.specs.{Views.FromParked, Views.has_right, Desks.made}
 use Rattle.pas_steps.specs.declared.step.Step.TheVariants.{Offer, Unpark}
 use Rattle.pas_steps.proofs.Adding.{adds_none, adds_step, can_step}
@@ -7,9 +7,7 @@ use Rattle.pas_rights.proofs.returning.reoffer.Goals as goal
 
 pub offer-requires-clause-can : goal.offer-requires-clause-can
 offer-requires-clause-can g c =
-    let p = c.args.page in let d = c.args.directory in let u = c.unpark-old.result in
-    can_step (adds_step adds_none c.unpark-old.ensures.makes (λ v l stood met. knows_some p d v met)) c.requires.can (c.requires.page, c.requires.directory)
-    (λ v l stood met. (gets p FromParked u (has_right v p) refl (sym c.has_page.ensures ∙ c.if-has_page.true), met))
+    search (arith, can_step, adds_step, adds_none, knows_some)
 
 pub returns-then-has_page-clause-reoffers : goal.returns-then-has_page-clause-reoffers
 returns-then-has_page-clause-reoffers g c =

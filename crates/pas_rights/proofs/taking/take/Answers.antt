@@ -25,8 +25,7 @@ returns-clause-takes g c =
       answers = answers;
       got_is = c.both.ensures;
       calls = record {
-        adds = adds_call (adds_call (adds_call (adds_call adds_none c.take_word.ensures.takes (λ v l stood met. met)) c.take_word-2.ensures.takes (λ v l stood. takes_right page (words mask) (words answers) 1 v))
-            c.take_word-3.ensures.takes (λ v l stood. takes_right page (words mask) (words answers) 2 v)) c.take_word-4.ensures.takes (λ v l stood. takes_right page (words mask) (words answers) 3 v);
+        adds = search (arith, adds_call, adds_none, takes_right);
         leads = record { from = λ v met agreed. takes_get page mask answers _ c.both.ensures (g.D.Desk.standing c.args.desk.now).seat.profile v agreed };
       };
     }

@@ -5,8 +5,8 @@ use Rattle.pas_steps.specs.Desks.{AnyView}
 use Rattle.pas_steps.proofs.Adding.{adds_none, can_call}
 use Rattle.pas_search.specs.Searches.{MaySearch, SearchesOffered}
 use Rattle.pas_search.proofs.{ForBackEnds.room_kept, ToldVisits.tries_passed, ToldVisits.passes_none, ToldVisits.still_can}
-use Rattle.pas_search.proofs.PagesThatServe.{all_offered, claim_can, none_offered, further, claim_adds, claim_quiet, lost_tries, serve_can, found_there}
-use Rattle.pas_search.proofs.PagesThatServe.{left_tries, TriesPages}
+use Rattle.pas_search.proofs.PagesThatServe.{claim_can, none_offered, further, claim_adds, claim_quiet, lost_tries, serve_can, found_there, left_tries}
+use Rattle.pas_search.proofs.PagesThatServe.{TriesPages}
 use Rattle.pas_search.proofs.offered.search_offered.Goals as goal
 
 pub loop-looked-init : goal.loop-looked-init
@@ -19,8 +19,7 @@ loop-looked-init g c =
 pub returns-in_default-clause-found : goal.returns-in_default-clause-found
 returns-in_default-clause-found g c =
     let i = c.loop-looked.invariant in let D = g.D.Desk in let d = c.args.looked.now.directory in
-    subst (λ m. SearchesOffered (g.S.Serving.rule c.args.serving.now) d (D.standing c.args.desk.now) (D.standing c.first_offered.new.desk) m None) (sym c.first_offered.ensures.unfit)
-    (none_offered i.tries i.directory i.low (let pages = ap (λ f. f.pages) c.profile.ensures in omega (arith, pages, c.loop-looked-test.true)) c.in_default.ensures.found)
+    rw c.first_offered.ensures.unfit (none_offered i.tries i.directory i.low (let pages = ap (λ f. f.pages) c.profile.ensures in omega (arith, pages, c.loop-looked-test.true)) c.in_default.ensures.found)
 
 pub claim-requires-clause-can : goal.claim-requires-clause-can
 claim-requires-clause-can g c = let i = c.loop-looked.invariant in claim_can i.tries i.directory c.in-Some.ensures.found c.requires.can
@@ -76,6 +75,7 @@ loop-looked-preserved g c =
       home = c.claim.ensures.home ∙ c.first_offered.ensures.home ∙ i.home;
     }
 
+-- all pages were looked at
 pub returns-clause-found : goal.returns-clause-found
 returns-clause-found g c =
-    all_offered c.loop-looked.invariant.tries (let pages = ap (λ (f : Profile). f.pages) c.profile.ensures in omega (arith, pages, c.loop-looked-test.false))
+    search arith

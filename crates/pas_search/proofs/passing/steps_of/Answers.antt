@@ -9,5 +9,4 @@ overflow_sub-more c = let some = pos_of_ne-zero (λ e. c.requires.some (zero_fro
 pub returns : goal.returns
 returns c =
     let row : c.min-row_end.result ≡ min (8 * (c.args.block / 8 + 1)) (c.args.pages / 64 + 1) = omega (arith, c.min-row_end.ensures) in
-    let ones = ones_counted 64 c.args.passed c.ranges.passed.fits in
-    λ i. (row i - c.args.next / 64 + 10) + (ones i - 1) * (row i - c.args.block + 10)
+    λ i. (row i - c.args.next / 64 + 10) + ((ones_counted 64 c.args.passed c.ranges.passed.fits) i - 1) * (row i - c.args.block + 10)

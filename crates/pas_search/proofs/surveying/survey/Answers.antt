@@ -30,5 +30,4 @@ loop-looked-preserved g c =
 
 pub returns-clause-surveys : goal.returns-clause-surveys
 returns-clause-surveys g c =
-    let pages : c.profile.result.now.pages ≡ (g.D.Desk.standing c.args.desk.now).seat.profile.pages = ap (λ (f : Profile). f.pages) c.profile.ensures in
-    all_surveyed c.loop-looked.invariant.surveys (omega (arith, pages, c.loop-looked-test.false))
+    all_surveyed c.loop-looked.invariant.surveys (omega (arith, ap (λ (f : Profile). f.pages) c.profile.ensures, c.loop-looked-test.false))

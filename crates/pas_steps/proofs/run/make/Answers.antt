@@ -14,9 +14,8 @@ pub returns-clause-stepped : goal.returns-clause-stepped
 returns-clause-stepped c =
     let old : State = c.args.state.now in
     let e : ℕ = or_zero c.args.known in
-    let answer : c.word-answer.result ≡ word_in old (target c.args.step) = c.word-answer.ensures ∙ ap (word_in old) c.target-word.ensures in
     let value : c.new_value.result ≡ new_value e c.args.step (word_in old (target c.args.step)) =
-    c.new_value.ensures ∙ ap (λ (n : ℕ). new_value n c.args.step c.word-answer.result) (c.unwrap_or.ensures ∙ zero_unknown c.args.known) ∙ ap (new_value e c.args.step) answer in
+    c.new_value.ensures ∙ ap (λ (n : ℕ). new_value n c.args.step c.word-answer.result) (c.unwrap_or.ensures ∙ zero_unknown c.args.known) ∙ ap (new_value e c.args.step) (c.word-answer.ensures ∙ ap (word_in old) c.target-word.ensures) in
     record {
       profile = c.set_word.ensures.profile;
       words = λ w of.

@@ -1,13 +1,13 @@
 use Rattle.std.proofs.Common.{arith, ◌≡◌, refl, ap, subst}
 use Rattle.pas_profile.specs.declared.profile.Profile.{Profile}
 use Rattle.pas_cache.specs.{Contents.CacheOf, Names.IsFaultOf}
-use Rattle.pas_cache.proofs.FlushesAndFrees.{full_room, flush_call, frees, refuses, rests_open}
+use Rattle.pas_cache.proofs.FlushesAndFrees.{flush_call, frees, refuses, rests_open}
 use Rattle.pas_cache.proofs.cache.ThreadCache.free_entry.Goals as goal
 
 pub log_entry-requires-clause-room : goal.log_entry-requires-clause-room
 log_entry-requires-clause-room g c =
     let log : c.self.inside.log ≡ c.args.self.now.contents.log = ap (λ (x : CacheOf). x.contents.log) c.self.view_is in
-    rw log (full_room _ _ c.requires.can.met.few_entries c.requires.room)
+    rw log (λ full. search arith)
 
 pub log_entry-requires-clause-can : goal.log_entry-requires-clause-can
 log_entry-requires-clause-can g c = flush_call (rests_open c.self.view_is c.requires.can)

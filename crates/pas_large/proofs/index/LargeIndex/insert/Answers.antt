@@ -1,14 +1,13 @@
 use Rattle.std.proofs.Common.{◌∙◌, ◌≡◌, ◌++◌, ◌∷◌, take, drop, sym, subst, arith, ap}
 use Rattle.pas_large.specs.Spans.{AreApart, has_page, joined, span_of}
 use Rattle.pas_large.specs.Sets.{HasMore}
-use Rattle.pas_large.proofs.Spans.{joined_apart, joined_has, joined_is}
+use Rattle.pas_large.proofs.Spans.{joined_apart, joined_has}
 use Rattle.pas_large.proofs.index.LargeIndex.insert.Goals as goal
 
 pub returns-clause-ranges : goal.returns-clause-ranges
 returns-clause-ranges c =
     let new = c.of-new.result in let place = c.place_behind-place.result in
-    joined_is new _ c.args.self.now _ _ _ place c.gather-end.result.0 (c.as_slice.ensures.value ∙ c.self.view_is) (c.as_slice-2.ensures.value ∙ c.self.view_is)
-    c.place_behind-place.ensures.before c.gather-end.ensures.joins (subst (λ l. c.replace.new.spans.items ≡ take place l ++ c.gather-end.result.1 ∷ drop c.gather-end.result.0 l) c.self.view_is c.replace.ensures)
+    search arith
     ∙ ap (λ s. joined s c.args.self.now) c.of-new.ensures
 
 pub invariant_of-self : goal.invariant_of-self
