@@ -2,3 +2,4 @@ mod Seeks
 mod Guarded
 pub mod Raises
 pub mod Keepers
+mod PassedGuards

@@ -23,7 +23,7 @@ use Rattle.pas_rights.specs.{Gives.give_steps, PutsBack.giving_back}
 use Rattle.pas_large.proofs.Left.{BacksIn, only_backs, backs_in, only_leaves, backs_few}
 use Rattle.pas_large.proofs.Claims.{has_got, room_after, span_in, steady_both, steady_on}
 use Rattle.pas_guard.specs.Books.{is_outer_of, is_outer, AreApart, Each, KnowsGuard, FitsBook, IsGuardOf}
-use Rattle.pas_guard.specs.{Guards.left_last_first, Guards.GuardedRun, Guards.GuardsRun, Lowers.MayLower, Lowers.lowered, Lowers.Lowers}
+use Rattle.pas_guard.specs.{Guards.left_last_first, Guards.GuardedRun, Guards.GuardsRun, Lowers.MayLower, Lowers.lowered, Lowers.Lowers, Passing.no_guard}
 use Rattle.pas_guard.specs.Raises.{BacksNot, RaiseRoom, guard_of, Raises, IsRaised}
 use Rattle.pas_guard.specs.Seeks.{seeking, HoldsWhole, HasSpan, Seeks}
 use Rattle.pas_guard.specs.Sweeps.{is_over, life_look, LooksOver, lowered_record, SweptOne, Swept, sweeping, Sweeps}
@@ -305,9 +305,6 @@ module _ {σ σ1 : Standing} (heap k first : ℕ) (gs : List Guard) (seek : Seek
       }
 
 -- A sweep over the guards that are up, one guard more.
-abbrev pub no_guard : Guard
-no_guard = record { low = 0; high = 0; block = record { name = record { address = record { 0 = 0 }; turn = 0 }; room = 0; heap = 0 } }
-
 -- ---- a list, and the guard at a place of it
 at_place : (ks rs : List Guard) (g d : Guard) → slice_index_or (ks ++ g ∷ rs) (length ks) d ≡ g
 at_place [] rs g d = refl

@@ -7,3 +7,4 @@ pub mod Raises
 pub mod Lowers
 pub mod Sweeps
 pub mod Keepers
+pub mod Passing

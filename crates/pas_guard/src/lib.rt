@@ -6,6 +6,7 @@ mod guarding;
 pub mod laws;
 mod looking;
 mod lowering;
+mod passing;
 mod raising;
 mod seeking;
 mod sweeping;

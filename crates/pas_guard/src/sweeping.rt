@@ -7,8 +7,8 @@ ghost use Rattle.pas_guard.specs.{Books.guards_in, Books.size_of_book, Books.Fit
 
 use crate::book::GuardBook;
 use crate::lowering::lower;
-use pas_profile::limits::{GRAIN_BYTES, PAGE_BYTES};
-use pas_profile::{Guard, Word, read_life};
+use crate::passing::{has_ended, life_word, pass_alive};
+use pas_profile::Guard;
 use pas_records::{Record, Records, Said};
 use pas_steps::Desk;
 
@@ -19,11 +19,8 @@ fn goes_down<D: Desk>(desk: &mut D, guard: Guard, all: bool) -> bool
     ensures looks { LooksOver all guard (D.standing desk.old) (D.standing desk.new) result }
     ensures home { D.home desk.new ≡ D.home desk.old }
 {
-    let name = guard.block.name;
-    let grain = name.address.0 % PAGE_BYTES / GRAIN_BYTES;
-    let word = desk.look(Word::Life(name.address.0 / PAGE_BYTES, grain as u8));
-    let (turn, _, _) = read_life(word);
-    let over = name.turn < turn;
+    let word = desk.look(life_word(guard));
+    let over = has_ended(guard, word);
     all || over
 }
 
@@ -40,7 +37,11 @@ impl GuardBook {
     {
         let actor = desk.actor();
         let mut place = 0;
-        while place < self.guards().len() {
+        loop {
+            place = pass_alive(desk, self.guards(), place, all);
+            if place == self.guards().len() {
+                return;
+            }
             let guard = self.guards()[place];
             if goes_down(desk, guard, all) {
                 lower(desk, guard);

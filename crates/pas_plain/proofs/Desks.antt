@@ -17,7 +17,7 @@ use Rattle.pas_steps.specs.Desks.{triples, Seat, Standing, made, triple, CanMake
 use Rattle.pas_steps.specs.declared.step.{Made.Made, Step.Step}
 use Rattle.pas_plain.specs.Plain.{actor_of, count_of_pass, CountsMore, word_at, Forgets, PassStands, pass_for, passes_from, profile_of, room_of_pass}
 use Rattle.pas_plain.specs.Plain.{events_shown, forgotten_by, spare_in, RegionStands, epoch_known, IsExchanged}
-use Rattle.pas_plain.specs.declared.{pass.PlainPass.PlainPass, region.PlainRegion.PlainRegion, desk.PlainDesk.PlainDesk}
+use Rattle.pas_plain.specs.declared.{near.NearWords.NearWords, pass.PlainPass.PlainPass, region.PlainRegion.PlainRegion, desk.PlainDesk.PlainDesk}
 use Rattle.pas_steps.specs.Kinds.{Kinds, kind_of, is_in, apart, changing}
 use Rattle.pas_plain.specs.Seats.{region_of, pass_of, DeskStands, standing_of, shows_rest, spare_of_room, IsChanged}
 use Rattle.pas_plain.specs.Storms.{Acts, StormStands, seat_for, storm_of, own_stands}
@@ -368,7 +368,7 @@ noted_still d new profile words pass = record {
   stands = λ v l stood. record {
     region = record {
       legal = subst (λ (f : Profile). Legal f l) (sym profile) stood.region.legal;
-      ends = λ w of. ap (λ ws. value_in ws w) words ∙ stood.region.ends w (subst (λ (f : Profile). IsWordOf f w) profile of);
+      ends = λ w of. ap (λ (ws : NearWords). value_in ws.words w) words ∙ stood.region.ends w (subst (λ (f : Profile). IsWordOf f w) profile of);
     };
     pass = subst (λ (f : Profile). PassStands f new.pass l) (sym profile) (subst (λ (x : PlainPass). PassStands (profile_of d.region) x l) (sym pass) stood.pass);
     part_is = ap (λ (x : PlainPass). part (actor_of x) l) pass ∙ stood.part_is;
@@ -386,7 +386,7 @@ tells_word d word of = record {
 
 -- The pages that its notes have are short by each list for which it stands.
 pub are_short : (d : PlainDesk) (grains align block bits : ℕ)
-    → ((b : ℕ) → b < 64 → has_bit bits b ≡ true → IsShortPage (profile_of d.region).pages d.region.words grains align (64 * block + b))
+    → ((b : ℕ) → b < 64 → has_bit bits b ≡ true → IsShortPage (profile_of d.region).pages d.region.words.words grains align (64 * block + b))
     → AreShort (standing_of d) grains align block bits
 are_short d grains align block bits noted b lt bit v l stood =
     let here = noted b lt bit in short_alike grains align (λ g small. ap (λ n. has_bit n (g % 64))

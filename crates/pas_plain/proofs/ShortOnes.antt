@@ -105,7 +105,7 @@ in_range (x ∷ xs) (suc i) d e lt = in_range xs i d e (omega (arith, lt))
 pub row_is : (rows : List ShortRow) (at : ℕ) (row : ShortRow) → at < length rows → row ≡ get_or rows at row → row ≡ row_at rows at
 row_is rows at row lt is = is ∙ in_range rows at row no_row lt
 
-no_page : (n i : ℕ) → slice_index (replicate n 0) i ≡ 0
+pub no_page : (n i : ℕ) → slice_index (replicate n 0) i ≡ 0
 no_page zero i = refl
 no_page (suc n) zero = refl
 no_page (suc n) (suc i) = no_page n i

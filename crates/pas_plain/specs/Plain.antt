@@ -15,7 +15,7 @@ profile_of region = region.profile
 
 -- the value of a word
 abbrev pub word_at : PlainRegion → Word → ℕ
-word_at region word = value_in region.words word
+word_at region word = value_in region.words.words word
 
 -- the region stands for each legal list of steps that ends in its words
 pub record RegionStands (region : PlainRegion) (l : Whole) : Type 0 where

@@ -6,6 +6,7 @@
 
 pub mod closed;
 pub mod desk;
+mod near;
 pub mod pass;
 pub mod region;
 pub mod seating;

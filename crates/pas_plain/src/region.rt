@@ -5,11 +5,12 @@ ghost use Rattle.pas_bits.specs.Masks.{is_set};
 ghost use Rattle.pas_steps.specs.{Paged.value_in, Told.free_by};
 ghost use Rattle.pas_plain.specs.Short.{HasNote, IsShortPage, GotNone};
 
+use crate::near::NearWords;
 use crate::short::ShortPages;
 use pas_bits::Mask4;
 use pas_profile::{Layout, NoMemory, Profile, Word};
 use pas_steps::effect::{new_value, target};
-use pas_steps::{PagedWords, State, Step};
+use pas_steps::{State, Step};
 use std::alloc::Global;
 
 /// A region whose words stand in memory page by page, as they are written. One actor works at it at a time. It keeps notes of pages that are short
@@ -17,18 +18,18 @@ use std::alloc::Global;
 #[derive(Drop)]
 pub struct PlainRegion {
     profile: Profile,
-    words: PagedWords,
+    words: NearWords,
     short: ShortPages,
     ghost valid: { IsValid profile },
-    ghost pages: { words.layout.pages ≡ profile.pages },
-    ghost heaps: { words.layout.heaps ≡ profile.heaps },
-    ghost short_are: { (grains align p : ℕ) → HasNote short grains align p → IsShortPage profile.pages words grains align p },
+    ghost pages: { words.words.layout.pages ≡ profile.pages },
+    ghost heaps: { words.words.layout.heaps ≡ profile.heaps },
+    ghost short_are: { (grains align p : ℕ) → HasNote short grains align p → IsShortPage profile.pages words.words grains align p },
 }
 
 /// The grains of a page that are free.
-fn free_grains(words: &PagedWords, page: u32) -> Mask4
-    requires { (1 ≤ page) × (page ≤ words.now.layout.pages) }
-    ensures { (g : ℕ) → g < 256 → is_set result g ≡ free_by (value_in words.now) page g }
+fn free_grains(words: &NearWords, page: u32) -> Mask4
+    requires { (1 ≤ page) × (page ≤ words.now.words.layout.pages) }
+    ensures { (g : ℕ) → g < 256 → is_set result g ≡ free_by (value_in words.now.words) page g }
 {
     Mask4([
         words.get(Word::Free(page, 0)),
@@ -41,9 +42,9 @@ fn free_grains(words: &PagedWords, page: u32) -> Mask4
 /// Whether a page stays short of what it was short of, where a free word of it had the old value and has the new one: no grain got free, and some
 /// grain is free.
 #[inline(never)]
-fn stays_short(words: &PagedWords, page: u32, old: u64, new: u64) -> bool
-    requires { (1 ≤ page) × (page ≤ words.now.layout.pages) }
-    ensures { IsTrue result → GotNone old new × (((g : ℕ) → g < 256 → free_by (value_in words.now) page g ≡ false) → ⊥) }
+fn stays_short(words: &NearWords, page: u32, old: u64, new: u64) -> bool
+    requires { (1 ≤ page) × (page ≤ words.now.words.layout.pages) }
+    ensures { IsTrue result → GotNone old new × (((g : ℕ) → g < 256 → free_by (value_in words.now.words) page g ≡ false) → ⊥) }
 {
     new & !old == 0 && !free_grains(words, page).is_empty()
 }
@@ -62,7 +63,7 @@ impl PlainRegion {
         ensures profile { IfOk result (λ region. profile_of region ≡ profile) }
         ensures opening { IfOk result (λ region. RegionStands region []) }
     {
-        let words = PagedWords::opened(alloc, Layout::new(&profile))?;
+        let words = NearWords::opened(alloc, Layout::new(&profile))?;
         let short = ShortPages::opened(alloc)?;
         Ok(PlainRegion {
             profile,
@@ -76,7 +77,7 @@ impl PlainRegion {
         ensures profile { the_profile_of result ≡ profile_of self }
         ensures words { (w : TheWord) → word_in result w ≡ word_at self w }
     {
-        State::of_paged(self.profile, self.words)
+        State::of_paged(self.profile, self.words.into_words())
     }
 
     /// The profile of the region.
@@ -119,7 +120,7 @@ impl PlainRegion {
     #[inline]
     pub(crate) fn short_pages(&self, grains: u16, align: u16, block: u32) -> u64
         requires { block ≤ (profile_of self.now).pages / 64 }
-        ensures { (b : ℕ) → b < 64 → has_bit result b ≡ true → IsShortPage (profile_of self.now).pages self.now.words grains align (64 * block + b) }
+        ensures { (b : ℕ) → b < 64 → has_bit result b ≡ true → IsShortPage (profile_of self.now).pages self.now.words.words grains align (64 * block + b) }
     {
         self.short.pages(grains, align, block)
     }

@@ -1,13 +1,14 @@
 -- Steps that a desk which tells the whole state is told, one after the other: mute ones that are allowed, and looks at words in order.
 use Rattle.std.proofs.Common.{◌≡◌, ◌≢◌, ℕ, zero, suc, ◌+◌, ◌-◌, ◌*◌, ◌/◌, ◌%◌, ◌<◌, ◌≤◌, Bool, if◌then◌else◌, List, [], ◌∷◌, ◌++◌, length, Option, None, refl}
-use Rattle.std.proofs.Common.{ap, sym, ◌∙◌, subst, arith, append-nil}
+use Rattle.std.proofs.Common.{ap, sym, ◌∙◌, subst, arith, append-nil, false, inl, inr}
+use Rattle.std.proofs.lemmas.Bool.{cases_lt}
 use Rattle.pas_bits.specs.Bits.{has_bit}
-use Rattle.pas_profile.specs.{Directories.number_of, Layouts.same_word, Profiles.IsValid, Profiles.IsWordOf, Profiles.IsDirectoryOf}
+use Rattle.pas_profile.specs.{Directories.number_of, Directories.deed_word_of, Layouts.same_word, Profiles.IsValid, Profiles.IsWordOf, Profiles.IsDirectoryOf}
 use Rattle.pas_profile.specs.declared.{directory.Directory.Directory, profile.Profile.Profile, word.Word.Word}
 use Rattle.pas_profile.proofs.Codecs.{number_lt}
 use Rattle.pas_core.proofs.Nexts.{legal_next, agreed_steps}
 use Rattle.pas_steps.specs.{Agreement.Agreed, Allowed.Allowed, Allowed.IsStepOf, Effects.target, Effects.new_value, Events.event_of, Events.events_of}
-use Rattle.pas_steps.specs.{Events.with_event, Told.StandsLater, Told.StandsStill}
+use Rattle.pas_steps.specs.{Events.with_event, Told.StandsLater, Told.StandsStill, Told.TellsWord}
 use Rattle.pas_steps.specs.Views.{View, epoch_of, epoch_after, known_epoch}
 use Rattle.pas_steps.specs.Lists.{Whole, Legal, part, word_after}
 use Rattle.pas_steps.specs.Desks.{Standing, AnyView, Adds, CanCall, made, triples}
@@ -15,7 +16,7 @@ use Rattle.pas_steps.specs.declared.step.{Made.Made, Step.Step, Step.TheVariants
 use Rattle.pas_steps.proofs.Parts.{part_of_own}
 use Rattle.pas_scan.proofs.Reading.{looks_count}
 use Rattle.pas_scan.specs.{Rows.looks_from, Scan.deed_looks}
-use Rattle.pas_scan.specs.Passed.{KnowsOther, NoneIs, PassesDeeds, KnowsHeld, PassesHeld, held_looks}
+use Rattle.pas_scan.specs.Passed.{KnowsDeeds, KnowsOther, NoneIs, PassesDeeds, KnowsHeld, PassesHeld, held_looks}
 
 -- ---- steps that are made one after the other on a list, and change no word in the end
 -- After these steps the words of the region are these. They are legal, make no event, and read no epoch.
@@ -147,6 +148,22 @@ mute_looks number j page = (
   record { quiet = λ k e a. refl; blind = λ a e. refl; free = λ e old. refl },
   record { quiet = λ k e a. refl; blind = λ a e. refl; free = λ e old. refl },
 )
+
+-- Pages of one block that aren't offered are known, as far as their deed words are.
+pub held_in_block : (tells : Bool) (σ : Standing) (d : Directory) (offered from page stop other : ℕ)
+    → ((p : ℕ) → from ≤ p → p < page → KnowsHeld tells σ d p) → TellsWord tells σ (Word.Eligible (number_of d) (page / 64)) offered
+    → stop ≤ 64 * (page / 64) + 64 → ((p : ℕ) → page ≤ p → p < stop → has_bit offered (p % 64) ≡ false) → KnowsDeeds tells σ (deed_word_of d) page stop other
+    → (p : ℕ) → from ≤ p → p < other → KnowsHeld tells σ d p
+held_in_block tells σ d offered from page stop other before told block none deeds p low high = elim (cases_lt p page) [
+  | inl lt ↦ before p low lt
+  | inr ge ↦
+      let under : p < stop = let le = deeds.within in omega (arith, high, le) in let same : page / 64 ≡ p / 64 = omega (arith, ge, under, block) in record {
+        offered = offered;
+        deed_told = deeds.of p ge high;
+        offered_told = subst (λ b. TellsWord tells σ (Word.Eligible (number_of d) b) offered) same told;
+        not_offered = none p ge under;
+      }
+]
 
 -- Looks at their deed words and eligible words are told.
 held_told : (f : Profile) (k : ℕ) (l : Whole) (actor : k ≤ f.threads) (value : Word → ℕ) (d : Directory) (from n : ℕ) → number_of d < 23 * f.heaps → 1 ≤ from

@@ -35,6 +35,12 @@ pub record PassesDeeds (deed from end : ℕ) (desk desk' : Standing) (page : ℕ
   pub others : NoneIs deed answers
 
 -- ---- as pages of a directory that aren't offered
+-- the desk tells that each page from this one on to below another, which lies at `end` at most, has this deed word
+pub record KnowsDeeds (tells : Bool) (desk : Standing) (deed from end page : ℕ) : Type 0 where
+  pub from_there : from ≤ page
+  pub within : page ≤ end
+  pub of : (p : ℕ) → from ≤ p → p < page → TellsWord tells desk (Word.Deed p) deed
+
 -- the desk tells that the page is of the directory, and isn't offered
 pub record KnowsHeld (tells : Bool) (desk : Standing) (d : Directory) (page : ℕ) : Type 0 where
   pub offered : ℕ
