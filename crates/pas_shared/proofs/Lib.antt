@@ -3,4 +3,5 @@ pub mod GivingBack
 pub mod Opened
 pub mod Pops
 pub mod Benching
+mod BarePages
 mod FreshPasses
