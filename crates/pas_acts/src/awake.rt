@@ -19,15 +19,20 @@ pub fn active(ops: &[Op]) -> Mask4
     threads
 }
 
-/// The threads that have an operation in the phase, by their numbers.
+/// What stands for the actor before the first one.
+const NOBODY: u16 = 256;
+
+/// The threads that have an operation in the phase, by their numbers. An actor mostly has several operations in a row.
 pub fn active_in<P: Operations>(phase: &P) -> Mask4
     ensures { (k : ℕ) → is_set result k ≡ is_active (P.ops phase.now) k }
 {
     let mut threads = Mask4([0; 4]);
+    let mut last = NOBODY;
     for place in 0..phase.count() {
         let op = phase.op(place);
-        if !threads.get(op.actor) {
+        if op.actor as u16 != last {
             threads.set(op.actor);
+            last = op.actor as u16;
         }
     }
     threads

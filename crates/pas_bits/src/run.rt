@@ -41,6 +41,13 @@ impl Mask4 {
         requires { first + grains ≤ 256 }
         ensures { (g : ℕ) → is_set result g ≡ in_run first grains g }
     {
+        // Most runs are short, so that one word has all of them.
+        if first as u16 % 64 + grains <= 64 {
+            let word = first / 64;
+            let mut words = [0; 4];
+            words[word as usize] = run_word(word, first, grains);
+            return Mask4(words);
+        }
         Mask4([
             run_word(0, first, grains),
             run_word(1, first, grains),

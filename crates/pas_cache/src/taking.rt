@@ -38,12 +38,19 @@ pub(crate) fn place_of(locals: &[Slots], heap: u8, class: u8) -> Option<usize>
     None
 }
 
-/// Moves the one at this place to the end.
+/// Moves the one at this place to the end. It is mostly one of the last, so that those behind it are moved one by one.
+#[inline(always)]
 fn move_to_end(locals: &mut [Slots], place: usize)
     requires { place < length locals.old }
     ensures { (d : Local) → locals.new ≡ remove locals.old place ++ slice_index_or locals.old place d ∷ [] }
 {
-    locals[place..].rotate_left(1);
+    let moved = locals[place];
+    let mut hole = place;
+    while hole + 1 < locals.len() {
+        locals[hole] = locals[hole + 1];
+        hole += 1;
+    }
+    locals[hole] = moved;
 }
 
 /// Brings the local allocator of the heap and the class to the end of the list, where it has a slot. False where none has, and the list is unchanged

@@ -11,7 +11,7 @@ ghost use Rattle.pas_replay.specs.Performing.{MayPerform, Performs};
 ghost use Rattle.pas_records.specs.Rooms.{Records as TheRecords};
 
 use crate::seats::{
-    Actors, end, lower, operate, pass, read_epoch, rise, sit, stop_if_idle, tick, wake,
+    Actors, end, lower, operate, pass, read_epoch, rise, serve, sit, stop_if_idle, tick, wake,
 };
 use crate::taking::Takes;
 use pas_acts::active_in;
@@ -21,7 +21,7 @@ use pas_answers::names::Names;
 use pas_bits::Mask4;
 use pas_plain::{PlainDesk, PlainRegion};
 use pas_records::{Record, Records};
-use pas_trace::{Chore, Op, Operations, Work};
+use pas_trace::{Chore, Op, Operations, Task, What, Work};
 
 /// The number of the phase that begins without a mark.
 const UNMARKED: u32 = 1;
@@ -65,9 +65,9 @@ fn stop_idle(
     }
 }
 
-/// Performs an operation, in a phase in which these threads have one. Its line doesn't matter.
-#[inline(always)]
-fn perform<M: Remake>(
+/// Performs an operation of whatever kind, in a phase in which these threads have one. Its line doesn't matter. It stays out of line: `perform` comes here rarely.
+#[inline(never)]
+fn perform_any<M: Remake>(
     desk: &mut PlainDesk,
     actors: &mut Actors,
     names: &mut Names,
@@ -86,6 +86,46 @@ fn perform<M: Remake>(
         Work::Chore(Chore::Tick(epoch)) => tick(desk, actors, epoch, out),
         Work::Chore(Chore::Pass) => pass(desk, actors, out),
         Work::Chore(Chore::Idle(epochs)) => stop_idle(desk, actors, awake, epochs, out),
+    }
+}
+
+/// Performs an operation as `perform_any` does. Most are requests and frees by name, which are known by their kind at once, so that none of them goes through the
+/// forms that an operation of any kind has.
+#[inline(always)]
+fn perform<M: Remake>(
+    desk: &mut PlainDesk,
+    actors: &mut Actors,
+    names: &mut Names,
+    remaker: &M,
+    awake: Mask4,
+    op: Op,
+    out: &mut Records,
+)
+    requires few { length actors.old.caches.items < 32 }
+    requires so_far { MayPerform awake op (session desk.old actors.old names.old out.old) }
+    ensures threads { length actors.new.caches.items ≡ length actors.old.caches.items }
+    ensures so_far { Performs awake op (session desk.old actors.old names.old out.old) (session desk.new actors.new names.new out.new) }
+{
+    match op.what {
+        What::Alloc {
+            name,
+            heap,
+            size,
+            align,
+        } => {
+            let task = Task::Request {
+                name,
+                heap,
+                size,
+                align,
+            };
+            serve(desk, actors, names, remaker, op.actor, task, out);
+        }
+        What::Free { name } => {
+            let task = Task::Free { name, room: None };
+            serve(desk, actors, names, remaker, op.actor, task, out);
+        }
+        _ => perform_any(desk, actors, names, remaker, awake, op, out),
     }
 }
 

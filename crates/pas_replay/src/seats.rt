@@ -191,7 +191,7 @@ fn settle(actors: &mut Actors, actor: u8)
 /// that its cache noted. This answers each operation of the thread that asks for the task, and that no keeper answers. It stays out of line, and is the one place
 /// that has an operation answered, whose code stands in line here.
 #[inline(never)]
-fn serve<M: Remake>(
+pub(crate) fn serve<M: Remake>(
     desk: &mut PlainDesk,
     actors: &mut Actors,
     names: &mut Names,
