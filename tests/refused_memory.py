@@ -112,6 +112,7 @@ TRACES = {
     "one block that two threads free at once": b"pas 1 pages 1 threads 2 heaps 1 age 2\na 1 1 0 16 16\nphase\nf 1 1\nflush 1\nf 2 1\nflush 2\n",
     "a full log and a full cache, blocks of every kind": full_log_and_cache(),
     "lines that other threads make": many_lines(),
+    "a line that is longer than a piece": b"pas 1 pages 4 threads 1 heaps 1 age 2\na 1 1 0 24 16\n" + b"#" * 300_000 + b"\nf 1 1\n",
     "a fault": b"pas 1 pages 4 threads 1 heaps 1 age 2\nf 1 1\n",
 }
 

@@ -2,9 +2,9 @@
 """tests/statuses.py PROGRAM
 
 Tries what the program `pas` answers with each status: words that are no accepted list, which read nothing (2); sources
-whose first or second read fails (3); sinks that are full at each byte of a text in turn, for texts of each kind (4);
-inputs that are too long (6); the largest block of the largest region; and summaries of generated traces. Ends with status
-0 where all is so."""
+of which a read fails, the first, the second or one in mid-stream (3); sinks that are full at each byte of a text in turn,
+for texts of each kind (4); inputs that are too long (6); the largest block of the largest region; and summaries of
+generated traces. Ends with status 0 where all is so."""
 
 import os
 import resource
@@ -103,9 +103,9 @@ def answer_to_one_read(program, words, text):
     """The same where the read behind this text fails: the other side of the connection is reset then."""
     with socket.create_server(("127.0.0.1", 0)) as server, socket.create_connection(server.getsockname()) as source:
         other, _ = server.accept()
+        child = subprocess.Popen([program, *words], stdin=source, stdout=subprocess.PIPE)
         other.sendall(text)
         other.setsockopt(socket.SOL_SOCKET, socket.SO_LINGER, struct.pack("ii", 1, 0))
-        child = subprocess.Popen([program, *words], stdin=source, stdout=subprocess.PIPE)
         while child.poll() is None and has_bytes(source):
             time.sleep(0.001)
         other.close()
@@ -142,10 +142,13 @@ def other_words(program):
 
 
 def failing_reads(program):
-    """A read that fails, the first or the second one, leaves nothing written."""
+    """A read that fails, the first, the second or one in mid-stream, leaves nothing written, also where there was a fault before it."""
+    long = b"#" * 99 + b"\n"
+    texts = {"one read": b"", "many reads": long * 3000, "a fault": b"f 1 2\n" + long * 3000, "a long line": b"#" * 300_000}
     for word in ("order", "run", "check"):
         yield [word], answer_to_no_read(program, [word]), (3, b"")
-        yield [word, "one read"], answer_to_one_read(program, [word], FREED.encode()), (3, b"")
+        for what, text in texts.items():
+            yield [word, what], answer_to_one_read(program, [word], FREED.encode() + text), (3, b"")
 
 
 def full_sinks(program):

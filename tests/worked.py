@@ -3,9 +3,10 @@
 
 Compares what the program `pas` says with what was worked out by the rules, by hand: the first faults of texts, with each
 of `order`, `run` and `check` (worked_faults.py); the transcripts of traces (worked_traces.py, worked_turns.py,
-worked_threads.py, and those of examples/), which `order` writes, `check` accepts, and `run` writes where threads have no
-choice, also with a second thread that does nothing; where they have one, five transcripts of `run` are judged
-(transcripts.py); and what `check` says of transcripts (worked_verdicts.py). Ends with status 0 where all is so."""
+worked_threads.py, and those of examples/), which `order` writes, also of a text in several pieces, `check` accepts, and
+`run` writes where threads have no choice, also with a second thread that does nothing; where they have one, five
+transcripts of `run` are judged (transcripts.py); and what `check` says of transcripts (worked_verdicts.py). Ends with
+status 0 where all is so."""
 
 import subprocess
 import sys
@@ -17,12 +18,14 @@ from transcripts import judge
 from worked_faults import CUT, CUTS, GROUPS
 from worked_traces import ALONE, PAST_A_LOG, PAST_A_PAGE, Worked
 from worked_turns import IN_TURN
-from worked_verdicts import CALLS, JUDGED
+from worked_verdicts import CALLS, FREED, JUDGED, TRANSCRIPT
 
 MOST_SECONDS = 60
 EXAMPLES = Path(__file__).resolve().parent.parent / "examples"
 # How often a trace is replayed on threads that have a choice.
 TIMES = 5
+# The bytes of a piece of the text that `order` reads.
+PIECE = 65_536
 
 
 class Program:
@@ -118,6 +121,24 @@ def try_long_texts(program):
             continue
         status, transcript = program.says("order", text)
         program.compare("a long text", "run", text, 0, transcript if status == 0 else b"as with order")
+
+
+def comments(size, width):
+    """Comments of so many bytes in all, in lines of at most that many."""
+    return "".join("#" * (min(width, size - at) - 1) + "\n" for at in range(0, size, width))
+
+
+def try_pieces(program):
+    """`order` reads its text in pieces: lines that lie anywhere about the end of one, behind short lines or behind one that is longer than a piece, have the
+    transcript that they have alone, and the fault behind them is the first. A text that ends there without a newline is read whole."""
+    header, lines = FREED.split("\n", 1)
+    for width in (64, 2 * PIECE):
+        for place in range(PIECE - len(lines) - 1, PIECE + 2):
+            text = header + "\n" + comments(place - len(header) - 1, width) + lines
+            program.compare("about the end of a piece", "order", text.encode(), 0, TRANSCRIPT.encode())
+            program.compare("about the end of a piece", "order", text[:-1].encode(), 0, TRANSCRIPT.encode())
+            fault = f"line {text.count(chr(10)) + 1}: NameUnknown\n".encode()
+            program.compare("a fault about the end of a piece", "order", (text + "f 1 2\n" + comments(PIECE, width)).encode(), 1, fault)
 
 
 def try_alone(program, worked):
@@ -224,7 +245,7 @@ def main():
     if len(sys.argv) != 2 or sys.argv[1].startswith("-"):
         sys.exit(__doc__)
     program = Program(sys.argv[1])
-    for part in (try_faults, try_long_texts, try_transcripts, try_full_pages, try_races, try_threads, try_verdicts):
+    for part in (try_faults, try_long_texts, try_pieces, try_transcripts, try_full_pages, try_races, try_threads, try_verdicts):
         part(program)
     for fault in program.faults:
         print(fault)

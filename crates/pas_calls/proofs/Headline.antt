@@ -2,8 +2,8 @@
 use Rattle.std.proofs.Common.{◌≡◌, ℕ, List, [], ◌∷◌, Option, Some, Result, Ok, codes, get_or, inl, inr, refl, ap, sym, subst, ◌∙◌, arith, ◌≤◌, ◌<◌, ◌++◌}
 use Rattle.std.proofs.Common.{length}
 use Rattle.pas_profile.specs.declared.{profile.Profile.Profile, event.Event.Event}
-use Rattle.pas_trace.specs.{Scripts.IsScriptOf, Scripts.IsScripting, Plans.IsPlanOf, Plans.Parsed, Plans.IsReading}
-use Rattle.pas_trace.specs.declared.{script.Script.Script, fault.TraceFault.TraceFault, plan.Plan.Plan, fault.ReadFault.ReadFault}
+use Rattle.pas_trace.specs.Plans.{IsPlanOf, Parsed, IsReading}
+use Rattle.pas_trace.specs.declared.{fault.TraceFault.TraceFault, plan.Plan.Plan, fault.ReadFault.ReadFault}
 use Rattle.pas_generate.specs.Traces.{trace_text}
 use Rattle.pas_report.specs.{Reports.total_line, Reports.report_text, Counts.report_by_words, Counts.totals_by_words}
 use Rattle.pas_answers.specs.{Replays.keepers_of, Replays.phases_of, Replays.Shows, Ways.Way, Ways.InOrder}
@@ -175,17 +175,6 @@ outcome_output words told read manner outcome asked whole is = inr (inl (record 
   comes = λ bytes tells. let input = whole bytes tells in comes_to (way_of manner) bytes outcome input.1 (subst (λ (t : List ℕ). IsOutcome (way_of manner) t outcome) input.0 is);
 }))
 
--- the output of `order`
-pub order_output : (words : List (List ℕ)) (told : Option (List ℕ)) (read : List ℕ) (status : ℕ) (text : List ℕ) → IsReplaying Manner.InOrder words
-    → ((bytes : List ℕ) → told ≡ Some bytes → (read ≡ bytes) × (length bytes ≤ most_bytes)) → IsReplayStatus status → ComesTo InOrder read status text
-    → IsOutput words told status text
-order_output words told read status text asked whole status_is comes = inr (inl (record {
-  manner = Manner.InOrder;
-  asked = asked;
-  status_is = status_is;
-  comes = λ bytes tells. subst (λ (t : List ℕ). ComesTo InOrder t status text) (whole bytes tells).0 comes;
-}))
-
 -- the output of a call whose input was too long
 pub too_long_output : (words : List (List ℕ)) (told : Option (List ℕ)) (manner : Manner) → IsReplaying manner words
     → ((bytes : List ℕ) → told ≡ Some bytes → most_bytes < length bytes) → IsOutput words told 6 too_long_text
@@ -209,8 +198,3 @@ transcript_verdict bytes text is plan read v verdict = one_verdict plan text v Y
 -- ---- What was read of an input.
 pub read_plan : (bytes text : List ℕ) (read : Result Plan ReadFault) (plan : Plan) → text ≡ bytes → read ≡ Ok plan → IsReading text read → IsPlanOf bytes plan
 read_plan bytes text read plan same is reading = subst (λ b. IsPlanOf b plan) same (subst (IsReading text) is reading)
-
--- .. as a script
-pub read_as_script : {bytes text : List ℕ} {read : Result Script ReadFault} {script : Script} → text ≡ bytes → read ≡ Ok script → IsScripting text read
-    → IsScriptOf bytes script
-read_as_script {bytes} {text} {read} {script} same is reading = subst (λ b. IsScriptOf b script) same (subst (IsScripting text) is reading)

@@ -1,4 +1,6 @@
 pub mod Statuses
+pub mod Endings
+mod TextInPieces
 pub mod Headline
 mod Telling
 mod Passes

@@ -3,7 +3,8 @@ pub mod Generating
 pub mod Judgements
 pub mod OneText
 pub mod Outputs
-pub mod Checked
+pub mod Ends
+pub mod Givens
 pub mod Generated
 pub mod Outcomes
 pub mod Wrote

@@ -7,7 +7,7 @@ use Rattle.pas_records.specs.Lines.{lines_of}
 use Rattle.pas_records.specs.declared.record.Record.{Record}
 use Rattle.pas_answers.specs.{Replays.Shows, Ways.InOrder}
 use Rattle.pas_telling.specs.Outcomes.{shown_text}
-use Rattle.pas_calls.specs.{Outputs.ComesTo, Outputs.IsReplayStatus, Wrote.Wrote}
+use Rattle.pas_calls.specs.{Ends.TellsInput, Outputs.ComesTo, Outputs.IsReplayStatus, Wrote.Wrote}
 
 -- the lines of a replay of the plan were told, up to the first write that failed
 pub record TellsLines (plan : Plan) (held held' : Option (List ℕ)) (faults faults' : ℕ) (state : State) (failed : Bool) : Type 0 where
@@ -22,14 +22,6 @@ pub record TellsReplay (plan : Plan) (held held' : Option (List ℕ)) (faults fa
   pub shows : Shows InOrder plan records state
   pub tells : Tells held held' faults faults' (shown_text records state) 0 result
 
--- what the bytes come to was told
-pub record TellsOrder (bytes : List ℕ) (held held' : Option (List ℕ)) (faults faults' result : ℕ) : Type 0 where
-  pub status : ℕ
-  pub text : List ℕ
-  pub status_is : IsReplayStatus status
-  pub comes : ComesTo InOrder bytes status text
-  pub tells : Tells held held' faults faults' text status result
-
--- .. or memory was wanting
-abbrev pub Orders : List ℕ → Option (List ℕ) → Option (List ℕ) → ℕ → ℕ → ℕ → Type 0
-Orders bytes held held' faults faults' result = (result ≡ 5) ⊎ TellsOrder bytes held held' faults faults' result
+-- memory was wanting, or what the input comes to was told
+abbrev pub Orders : Option (List ℕ) → Option (List ℕ) → Option (List ℕ) → ℕ → ℕ → ℕ → Type 0
+Orders rest held held' faults faults' result = (result ≡ 5) ⊎ TellsInput IsReplayStatus (ComesTo InOrder) rest held held' faults faults' result

@@ -8,4 +8,5 @@ pub mod judging;
 pub mod laws;
 mod line_writer;
 pub mod ordering;
+mod reading;
 pub mod remaking;

@@ -14,7 +14,7 @@ ghost use Rattle.pas_calls.specs.Outputs.{HasFailed, IsCutOff};
 use crate::outcome::{replayed_on_threads, tell_outcome};
 use pas_calls::generating::generate;
 use pas_calls::judging::{TOO_LONG, check_input};
-use pas_calls::ordering::order;
+use pas_calls::ordering::order_input;
 use pas_io::whole::{Input, Stop, read_all};
 use pas_io::{Sink, Source};
 use pas_profile::limits::MOST_BYTES;
@@ -95,24 +95,22 @@ pub fn pas_main<R: Threads + Wait + Sync, S: Source, K: Sink>(
         → (Rose (S.faults source.old) (S.faults source.new) → ⊥) → (Rose (K.faults sink.old) (K.faults sink.new) → ⊥)
         → (result ≡ 0) ⊎ (result ≡ 8) ⊎ (result ≡ 5) }
 {
-    let manner = match call_of(alloc, words) {
-        Ok(Call::Replay(manner)) => manner,
+    match call_of(alloc, words) {
+        Ok(Call::Replay(Manner::InOrder)) => return order_input(alloc, source, sink),
+        Ok(Call::Replay(Manner::OnThreads)) => {}
         Ok(Call::Check) => return check_input(alloc, source, sink),
         Ok(Call::Gen(job)) => return generate(alloc, job, sink),
         Err(Misread::Usage) => return tell(sink, USAGE, 2),
         Err(Misread::Memory) => return 5,
-    };
+    }
     let bytes = match read_all(alloc, source, MOST_BYTES) {
         Ok(Input::Whole(bytes)) => bytes,
         Ok(Input::TooLong) => return tell(sink, TOO_LONG, 6),
         Err(Stop::Fault) => return 3,
         Err(Stop::Memory) => return 5,
     };
-    match manner {
-        Manner::InOrder => order(alloc, bytes, sink),
-        Manner::OnThreads => match replayed_on_threads(rt, alloc, bytes) {
-            Ok((outcome, spent)) => tell_outcome(rt, alloc, manner, sink, outcome, spent),
-            Err(_) => 5,
-        },
+    match replayed_on_threads(rt, alloc, bytes) {
+        Ok((outcome, spent)) => tell_outcome(rt, alloc, Manner::OnThreads, sink, outcome, spent),
+        Err(_) => 5,
     }
 }

@@ -1,15 +1,21 @@
-use Rattle.std.proofs.Common.{rules, refl, ap, subst, inl, arith}
+use Rattle.std.proofs.Common.{rules, refl, ap, subst, inl, arith, ◌≡◌, ℕ, List}
 use Rattle.pas_io.specs.Inputs.{IsInput}
 use Rattle.pas_telling.specs.{Outcomes.outcome_status, Outcomes.outcome_text, Calls.IsCall, Calls.IsMisread}
-use Rattle.pas_telling.specs.declared.manner.Manner.{Manner}
+use Rattle.pas_telling.specs.declared.{manner.Manner.Manner, words.Call.Call}
 use Rattle.pas_answers.specs.Ways.{OnThreads}
-use Rattle.pas_calls.proofs.Statuses.{gen_written, gen_cut_off, gen_sound, gen_summed, cut_off, not_four, sound, written, ended_status, ended_written}
-use Rattle.pas_calls.proofs.Statuses.{ended_failed, ended_cut_off, ended_sound, ended_long, ended_mistraced, ended_judged, ended_checked, order_written}
-use Rattle.pas_calls.proofs.Statuses.{order_cut_off}
+use Rattle.pas_calls.proofs.Statuses.{gen_written, gen_cut_off, gen_sound, gen_summed, cut_off, not_four, sound, written}
+use Rattle.pas_calls.proofs.Endings.{check_output, check_sure, comes_faulty, comes_judged, comes_long, ended_cut_off, ended_failed, ended_sound, ended_status}
+use Rattle.pas_calls.proofs.Endings.{ended_sure, ended_with, ended_written, order_faulty, order_long, order_output, order_sure}
+use Rattle.pas_calls.specs.Judgements.{verdict_status}
 use Rattle.pas_calls.specs.Outputs.{IsReplaying, IsChecking, IsAccepted, IsOutput, most_bytes, texts_of}
 use Rattle.pas_calls.proofs.Headline.{can_write, outcome_output, too_long_output, status_not_four, written_told}
 use Rattle.pas_top.proofs.main_call.pas_main.Given as given
 use Rattle.pas_top.proofs.main_call.pas_main.Goals as goal
+
+-- The words of a call for a replay are its manner's.
+asked_for : (words : List (List ℕ)) {call : Call} {given manner : Manner} → call ≡ Call.Replay given → given ≡ manner → IsCall words call
+    → IsReplaying manner words
+asked_for words is same asked = subst (λ (m : Manner). IsReplaying m words) same (subst (IsCall words) is asked)
 
 pub returns-in-Ok-Gen-clause-written : goal.returns-in-Ok-Gen-clause-written
 returns-in-Ok-Gen-clause-written g c = gen_written c.generate.ensures.told
@@ -26,28 +32,50 @@ returns-in-Err-Usage-clause-sink_failed g c =
 
 pub returns-in-Ok-TooLong-clause-sink_failed : goal.returns-in-Ok-TooLong-clause-sink_failed
 returns-in-Ok-TooLong-clause-sink_failed g c =
-    let asked : IsReplaying c.in-Ok-Replay.manner (texts_of c.args.words.now) = subst (IsCall (texts_of c.args.words.now)) c.in-Ok-Replay.field-0-is c.in-Ok-Replay.ensures.call in
+    let asked : IsReplaying Manner.OnThreads (texts_of c.args.words.now) =
+    asked_for _ c.in-Ok-Replay-OnThreads.field-0-is c.in-Ok-Replay-OnThreads.field-0-0-is c.in-Ok-Replay-OnThreads.ensures.call in
     cut_off c.tell-in-Ok-TooLong.ensures
-    (too_long_output _ _ _ asked (λ bytes told. let input
+    (too_long_output _ _ Manner.OnThreads asked (λ bytes told. let input
     = subst (IsInput most_bytes bytes) c.in-Ok-TooLong.field-0-is (c.in-Ok-TooLong.ensures.input bytes told) in input)) (λ e. omega (arith, e))
 
 -- ---- a replay in the order of the text
-asked_in_order : (g : given.Over) (c : goal.After-order g) → IsReplaying Manner.InOrder (texts_of c.args.words.now)
-asked_in_order g c =
-    subst (λ (m : Manner). IsReplaying m (texts_of c.args.words.now)) c.in-InOrder.is
-    (subst (IsCall (texts_of c.args.words.now)) c.in-Ok-Replay.field-0-is c.in-Ok-Replay.ensures.call)
+pub returns-in-Ok-Replay-InOrder-clause-status : goal.returns-in-Ok-Replay-InOrder-clause-status
+returns-in-Ok-Replay-InOrder-clause-status g c = ended_status c.order_input.ensures.ends (λ s is. inl is)
 
-pub returns-in-InOrder-clause-written : goal.returns-in-InOrder-clause-written
-returns-in-InOrder-clause-written g c writing = order_written c.order.ensures.told (texts_of c.args.words.now) (g.S.Source.rest c.args.source.now) (asked_in_order g c)
-    (λ bytes told. let input = subst (IsInput most_bytes bytes) c.in-Ok-Whole.field-0-is (c.in-Ok-Whole.ensures.input bytes told) in input) writing
+pub returns-in-Ok-Replay-InOrder-clause-written : goal.returns-in-Ok-Replay-InOrder-clause-written
+returns-in-Ok-Replay-InOrder-clause-written g c =
+    let asked : IsReplaying Manner.InOrder (texts_of c.args.words.now) =
+    asked_for _ c.in-Ok-Replay-InOrder.field-0-is c.in-Ok-Replay-InOrder.field-0-0-is c.in-Ok-Replay-InOrder.ensures.call in
+    ended_written c.order_input.ensures.ends (λ s is. inl is) (texts_of c.args.words.now) (order_output asked)
 
-pub returns-in-InOrder-clause-text : goal.returns-in-InOrder-clause-text
-returns-in-InOrder-clause-text g c asked bytes told zero = written_told (texts_of c.args.words.now)
-    (g.S.Source.rest c.args.source.now) _ _ c.order.result asked (returns-in-InOrder-clause-written g c (inl zero)) bytes told zero
+pub returns-in-Ok-Replay-InOrder-clause-text : goal.returns-in-Ok-Replay-InOrder-clause-text
+returns-in-Ok-Replay-InOrder-clause-text g c asked bytes told zero = written_told (texts_of c.args.words.now)
+    (g.S.Source.rest c.args.source.now) _ _ c.order_input.result asked (returns-in-Ok-Replay-InOrder-clause-written g c (inl zero)) bytes told zero
 
-pub returns-in-InOrder-clause-sink_failed : goal.returns-in-InOrder-clause-sink_failed
-returns-in-InOrder-clause-sink_failed g c four = order_cut_off c.order.ensures.told (texts_of c.args.words.now) (g.S.Source.rest c.args.source.now) (asked_in_order g c)
-    (λ bytes told. let input = subst (IsInput most_bytes bytes) c.in-Ok-Whole.field-0-is (c.in-Ok-Whole.ensures.input bytes told) in input) four
+pub returns-in-Ok-Replay-InOrder-clause-source_failed : goal.returns-in-Ok-Replay-InOrder-clause-source_failed
+returns-in-Ok-Replay-InOrder-clause-source_failed g c three =
+    (ended_failed c.order_input.ensures.ends (λ s is. inl is) three, c.order_input.ensures.unheard (inl three))
+
+pub returns-in-Ok-Replay-InOrder-clause-sink_failed : goal.returns-in-Ok-Replay-InOrder-clause-sink_failed
+returns-in-Ok-Replay-InOrder-clause-sink_failed g c =
+    let asked : IsReplaying Manner.InOrder (texts_of c.args.words.now) =
+    asked_for _ c.in-Ok-Replay-InOrder.field-0-is c.in-Ok-Replay-InOrder.field-0-0-is c.in-Ok-Replay-InOrder.ensures.call in
+    ended_cut_off c.order_input.ensures.ends (λ s is. inl is) (texts_of c.args.words.now) (order_output asked)
+
+pub returns-in-Ok-Replay-InOrder-clause-sink_sound : goal.returns-in-Ok-Replay-InOrder-clause-sink_sound
+returns-in-Ok-Replay-InOrder-clause-sink_sound g c = ended_sound c.order_input.ensures.ends (λ quiet. ap g.K.Sink.faults (c.order_input.ensures.unheard quiet))
+
+pub returns-in-Ok-Replay-InOrder-clause-too_long : goal.returns-in-Ok-Replay-InOrder-clause-too_long
+returns-in-Ok-Replay-InOrder-clause-too_long g c reads bytes told long =
+    ended_with c.order_input.ensures.ends bytes told 6 (λ status text comes. order_long bytes status text comes long)
+
+pub returns-in-Ok-Replay-InOrder-clause-faulty : goal.returns-in-Ok-Replay-InOrder-clause-faulty
+returns-in-Ok-Replay-InOrder-clause-faulty g c manner asked bytes told short fault first =
+    ended_with c.order_input.ensures.ends bytes told 1 (λ status text comes. order_faulty bytes status text comes short fault first)
+
+pub returns-in-Ok-Replay-InOrder-clause-complete : goal.returns-in-Ok-Replay-InOrder-clause-complete
+returns-in-Ok-Replay-InOrder-clause-complete g c manner asked bytes told short plan read never unfailed =
+    order_sure bytes c.order_input.result short plan read (ended_sure c.order_input.ensures.ends bytes told never unfailed)
 
 -- ---- a replay on threads
 pub tell_outcome-requires-after_bounds : goal.tell_outcome-requires-after_bounds
@@ -57,8 +85,7 @@ output_on_threads : (g : given.Over) (c : goal.After-tell_outcome g)
     → IsOutput (texts_of c.args.words.now) (g.S.Source.rest c.args.source.now) (outcome_status c.in-Ok.outcome) (outcome_text c.in-Ok.outcome)
 output_on_threads g c =
     let asked : IsReplaying Manner.OnThreads (texts_of c.args.words.now) =
-    subst (λ (m : Manner). IsReplaying m (texts_of c.args.words.now)) c.in-OnThreads.is
-    (subst (IsCall (texts_of c.args.words.now)) c.in-Ok-Replay.field-0-is c.in-Ok-Replay.ensures.call) in
+    asked_for _ c.in-Ok-Replay-OnThreads.field-0-is c.in-Ok-Replay-OnThreads.field-0-0-is c.in-Ok-Replay-OnThreads.ensures.call in
     outcome_output (texts_of c.args.words.now) (g.S.Source.rest c.args.source.now) c.in-Ok-Whole.bytes.items Manner.OnThreads c.in-Ok.outcome asked
     (λ bytes told. let input = subst (IsInput most_bytes bytes) c.in-Ok-Whole.field-0-is (c.in-Ok-Whole.ensures.input bytes told) in input)
     c.in-Ok.ensures
@@ -85,32 +112,36 @@ returns-in-Ok-TooLong-clause-sink_sound g c whole = sound _ _ c.tell-in-Ok-TooLo
 
 -- ---- a check
 pub returns-in-Ok-Check-clause-status : goal.returns-in-Ok-Check-clause-status
-returns-in-Ok-Check-clause-status g c = ended_status c.check_input.ensures.ends
+returns-in-Ok-Check-clause-status g c = ended_status c.check_input.ensures.ends (λ s is. is)
 
 pub returns-in-Ok-Check-clause-written : goal.returns-in-Ok-Check-clause-written
 returns-in-Ok-Check-clause-written g c =
     let asked : IsChecking (texts_of c.args.words.now) = subst (IsCall (texts_of c.args.words.now)) c.in-Ok-Check.field-0-is c.in-Ok-Check.ensures.call in
-    ended_written c.check_input.ensures.ends (texts_of c.args.words.now) asked
+    ended_written c.check_input.ensures.ends (λ s is. is) (texts_of c.args.words.now) (check_output asked)
 
 pub returns-in-Ok-Check-clause-source_failed : goal.returns-in-Ok-Check-clause-source_failed
-returns-in-Ok-Check-clause-source_failed g c three = (ended_failed c.check_input.ensures.ends three, c.check_input.ensures.unheard (inl three))
+returns-in-Ok-Check-clause-source_failed g c three = (ended_failed c.check_input.ensures.ends (λ s is. is) three, c.check_input.ensures.unheard (inl three))
 
 pub returns-in-Ok-Check-clause-sink_failed : goal.returns-in-Ok-Check-clause-sink_failed
 returns-in-Ok-Check-clause-sink_failed g c =
     let asked : IsChecking (texts_of c.args.words.now) = subst (IsCall (texts_of c.args.words.now)) c.in-Ok-Check.field-0-is c.in-Ok-Check.ensures.call in
-    ended_cut_off c.check_input.ensures.ends (texts_of c.args.words.now) asked
+    ended_cut_off c.check_input.ensures.ends (λ s is. is) (texts_of c.args.words.now) (check_output asked)
 
 pub returns-in-Ok-Check-clause-sink_sound : goal.returns-in-Ok-Check-clause-sink_sound
 returns-in-Ok-Check-clause-sink_sound g c = ended_sound c.check_input.ensures.ends (λ quiet. ap g.K.Sink.faults (c.check_input.ensures.unheard quiet))
 
 pub returns-in-Ok-Check-clause-too_long : goal.returns-in-Ok-Check-clause-too_long
-returns-in-Ok-Check-clause-too_long g c reads = ended_long c.check_input.ensures.ends
+returns-in-Ok-Check-clause-too_long g c reads bytes told long =
+    ended_with c.check_input.ensures.ends bytes told 6 (λ status text. comes_long bytes status text long)
 
 pub returns-in-Ok-Check-clause-mistraced : goal.returns-in-Ok-Check-clause-mistraced
-returns-in-Ok-Check-clause-mistraced g c asked = ended_mistraced c.check_input.ensures.ends
+returns-in-Ok-Check-clause-mistraced g c asked bytes told short fault first =
+    ended_with c.check_input.ensures.ends bytes told 1 (λ status text. comes_faulty bytes status text short fault first)
 
 pub returns-in-Ok-Check-clause-judged : goal.returns-in-Ok-Check-clause-judged
-returns-in-Ok-Check-clause-judged g c asked = ended_judged c.check_input.ensures.ends
+returns-in-Ok-Check-clause-judged g c asked bytes told short verdict judged =
+    ended_with c.check_input.ensures.ends bytes told (verdict_status verdict) (λ status text. comes_judged bytes status text short verdict judged)
 
 pub returns-in-Ok-Check-clause-checked : goal.returns-in-Ok-Check-clause-checked
-returns-in-Ok-Check-clause-checked g c asked = ended_checked c.check_input.ensures.ends
+returns-in-Ok-Check-clause-checked g c asked bytes told short plan read never unfailed =
+    check_sure bytes c.check_input.result short plan read (ended_sure c.check_input.ensures.ends bytes told never unfailed)
