@@ -1,8 +1,7 @@
 //! The program `pas`: reads standard input, writes standard output, and ends with the status of the call.
 #![tactic(auto)]
 
-ghost use Rattle.std.specs.Prelude.{◌≡◌, ◌≢◌, ◌⊎◌, IfOk, OnErr, drop, map};
-ghost use Rattle.std.specs.{String.string_bytes, Vec.Iter.into_iter_items};
+ghost use Rattle.std.specs.{Prelude.{◌≡◌, ◌≢◌, ◌⊎◌, IfOk, OnErr, drop, map}, String.string_bytes, Vec.Iter.into_iter_items};
 ghost use Rattle.pas_calls.specs.Outputs.{texts_of, HasFailed, IsAccepted, IsCutOff, IsStatus, IsWriting, IsWritten};
 
 use pas_io::real::{RealSink, RealSource};

@@ -1,8 +1,7 @@
 -- Which acts of a plan are left: for threads in order, which the reader's crate has, and after so many phases.
 use Rattle.std.proofs.Common.{◌≡◌, ℕ, zero, suc, ◌+◌, ◌<◌, ◌≤◌, List, [], ◌∷◌, ◌++◌, length, drop, get_or, ap, arith, drop_of_length-le}
 use Rattle.std.proofs.lemmas.List.{drop_more}
-use Rattle.pas_trace.specs.declared.plan.Op.{Op}
-use Rattle.pas_trace.specs.Acts.{Act, MarksPhase, phase_acts, close_acts, acts_from, acts_of}
+use Rattle.pas_trace.specs.{declared.plan.Op.Op, Acts.{Act, MarksPhase, phase_acts, close_acts, acts_from, acts_of}}
 pub use Rattle.pas_trace.proofs.ThreadsInOrder.{number_next, number_last, acts_there, next_chosen, next_passed, none_left, threads_alike}
 
 -- after so many phases

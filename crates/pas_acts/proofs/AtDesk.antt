@@ -1,37 +1,28 @@
 -- The acts of a thread at its desk, and what one actor's acts come to for it: an operation, its stop, and its reading of the epoch.
 use Rattle.std.proofs.Common.{◌≡◌, ℕ, ◌+◌, ◌≤◌, List, ◌++◌, length, ap, sym, ◌∙◌, subst, arith, length-append, ◌==◌, if◌then◌else◌, inr, [], ◌∷◌, Option, None}
-use Rattle.std.proofs.Common.{refl, append-nil, eq-eqb, ◌≢◌, Bool, true, Some, ne_eqb, max, reverse}
-use Rattle.pas_profile.specs.declared.{profile.Profile.Profile, name.Block.Block, event.Range.Range, event.Event.Event, event.Outcome.Outcome, word.Word.Word}
-use Rattle.pas_profile.specs.declared.{guard.Guard.Guard}
-use Rattle.pas_steps.specs.{Calls.Calls, Events.events_by, Lists.Whole, Lists.part, Views.View, Agreement.Agreed, Unknown.unknown_pages, Clear.HasNothing}
-use Rattle.pas_steps.specs.Desks.{Standing, CanCall, triples, Makes, made}
-use Rattle.pas_steps.specs.declared.step.{Made.Made, Step.TheVariants.Look, Step.TheVariants.Tick}
-use Rattle.pas_steps.proofs.{Frames.events_split, Parts.part_of_own, Called.call_none, Called.call_as, SpareRoom.Spares, Parts.part_of_others}
-use Rattle.pas_steps.proofs.{Unknown.unknown_no_more, Apart.no_events}
-use Rattle.pas_records.specs.Rooms.{records_in, room_of, Records}
-use Rattle.pas_records.specs.declared.record.{Record.Record, Said.Said}
-use Rattle.pas_cache.specs.{Caches.Cached, Caches.AtRest, Calls.Begins, Calls.SettlesEach}
+use Rattle.std.proofs.{Common.{refl, append-nil, eq-eqb, ◌≢◌, Bool, true, Some, ne_eqb, max, reverse}, lemmas.List.{length-map, length-reverse}}
+use Rattle.pas_profile.specs.declared.{profile.Profile.Profile, name.Block.Block, event.{Range.Range, Event.Event, Outcome.Outcome}, word.Word.Word}
+use Rattle.pas_profile.specs.declared.guard.Guard.{Guard}
+use Rattle.pas_steps.specs.{Calls.Calls, Events.events_by, Lists.{Whole, part}, Views.View, Agreement.Agreed, Unknown.unknown_pages, Clear.HasNothing}
+use Rattle.pas_steps.specs.{Desks.{Standing, CanCall, triples, Makes, made}, declared.step.{Made.Made, Step.TheVariants.{Look, Tick}}}
+use Rattle.pas_steps.proofs.{Frames.events_split, Parts.{part_of_own, part_of_others}, Called.{call_none, call_as}, SpareRoom.Spares, Unknown.unknown_no_more}
+use Rattle.pas_steps.proofs.Apart.{no_events}
+use Rattle.pas_records.specs.{Rooms.{records_in, room_of, Records}, declared.record.{Record.Record, Said.Said}}
+use Rattle.pas_cache.specs.{Caches.{Cached, AtRest}, Calls.{Begins, SettlesEach}}
 use Rattle.pas_answers.specs.Answers.{Progress, having, Answer, answer_of, begun, settled, stopped, epoch_look, after_answer, after_settling, after_wake}
 use Rattle.pas_answers.specs.Answers.{after_stop, IsAnswered, IsStopped, records_of, said_by, Books, with_book, after_tick, after_pass, after_reading}
-use Rattle.pas_answers.specs.Calls.{owed_events, named_by, MayAnswer, AnswersMeant, MayStand}
-use Rattle.pas_answers.specs.{Indexes.IsNamedFor, Indexes.request_made, Reaching.Reaches, TicksAndPasses.AnswersTick, TicksAndPasses.AnswersPass}
-use Rattle.pas_answers.specs.{PassRecords.record_of, PassRecords.records_of_pass, Reaching.AnswersOp, Reaching.Advances}
-use Rattle.pas_answers.specs.Fit.{IsFitWhat, cost_of_what, cost_of_act, unbacks_of_act}
-use Rattle.pas_acts.specs.Works.{Later, Sits}
-use Rattle.pas_acts.specs.Turns.{RestsAt, Moves, LeavesRest, Says}
-use Rattle.pas_acts.specs.Keepers.{StandsAt, StandsStill, keeper_has, KeeperHas, HasStill, LaterKept, and_try, KeeperAt, KeeperTries, KeeperLowers}
-use Rattle.pas_acts.specs.AtDesks.{and_for, Here, here, MayOperate, ThreadActs, GoesThrough, HasRoomAt, for_act, ScavengerActs}
-use Rattle.pas_trace.specs.declared.{plan.Op.Op, plan.What.What, plan.What.TheVariants.Stop, item.Request.Request}
-use Rattle.pas_trace.specs.Acts.{Act, Operates, Settles, StopsIdle, Wakes, Ends, Guards, Ticks, MakesPass, ReadsEpoch}
-use Rattle.pas_answers.proofs.SingleActs.{none_stands, request_meant, its_cache, other_cache, if_same, records_count, few_unbacks, reads}
-use Rattle.pas_answers.proofs.Tries.{swept_count}
+use Rattle.pas_answers.specs.{Calls.{owed_events, named_by, MayAnswer, AnswersMeant, MayStand}, Indexes.{IsNamedFor, request_made}, Reaching.Reaches}
+use Rattle.pas_answers.specs.{Reaching.{AnswersOp, Advances}, TicksAndPasses.{AnswersTick, AnswersPass}, PassRecords.{record_of, records_of_pass}}
+use Rattle.pas_answers.specs.{Fit.{IsFitWhat, cost_of_what, cost_of_act, unbacks_of_act}, Guarding.{Tried, try_steps, IsTried, after_trying, after_giving}}
+use Rattle.pas_answers.specs.{Guarding.{IsLowered, after_lowering}, Keeping.{owed_by_keeper, cost_of_try, MayTry, TriesRequest, MayLowerAll, LowersAll}}
+use Rattle.pas_answers.proofs.{SingleActs.{none_stands, request_meant, its_cache, other_cache, if_same, records_count, few_unbacks, reads}, Tries.swept_count}
 use Rattle.pas_answers.proofs.OwnRecords.{piece_of, events_of_piece, swept_each, try_each, pass_of}
-use Rattle.pas_trace.specs.{Asked.request_in, Reasons.cost_of_size}
-use Rattle.pas_guard.specs.{Books.FitsBook, Books.guards_in, Raises.RaiseSteps, Sweeps.sweeping}
-use Rattle.pas_guard.specs.declared.book.GuardBook.{GuardBook}
-use Rattle.pas_answers.specs.Guarding.{Tried, try_steps, IsTried, after_trying, after_giving, IsLowered, after_lowering}
-use Rattle.pas_answers.specs.Keeping.{owed_by_keeper, cost_of_try, MayTry, TriesRequest, MayLowerAll, LowersAll}
-use Rattle.std.proofs.lemmas.List.{length-map, length-reverse}
+use Rattle.pas_acts.specs.{Works.{Later, Sits}, Turns.{RestsAt, Moves, LeavesRest, Says}, Keepers.{StandsAt, StandsStill, keeper_has, KeeperHas, HasStill}}
+use Rattle.pas_acts.specs.{Keepers.{LaterKept, and_try, KeeperAt, KeeperTries, KeeperLowers}, AtDesks.{and_for, Here, here, MayOperate, ThreadActs}}
+use Rattle.pas_acts.specs.AtDesks.{GoesThrough, HasRoomAt, for_act, ScavengerActs}
+use Rattle.pas_trace.specs.{declared.{plan.{Op.Op, What.{What, TheVariants.Stop}}, item.Request.Request}, Acts.{Act, Operates, Settles, StopsIdle, Wakes, Ends}}
+use Rattle.pas_trace.specs.{Acts.{Guards, Ticks, MakesPass, ReadsEpoch}, Asked.request_in, Reasons.cost_of_size}
+use Rattle.pas_guard.specs.{Books.{FitsBook, guards_in}, Raises.RaiseSteps, Sweeps.sweeping, declared.book.GuardBook.GuardBook}
 use Rattle.pas_scavenger.specs.Passes.{PassSteps}
 
 -- ---- at the desk

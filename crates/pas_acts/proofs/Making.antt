@@ -1,26 +1,17 @@
 -- How the parts of a kit are made, one after the other, and how many guarded requests the books of its keepers are made for.
 use Rattle.std.proofs.Common.{◌≡◌, ℕ, ◌+◌, List, [], ◌∷◌, ◌++◌, length, All, slice_index_or, Option, Some, None, ap, sym, ◌∙◌, subst, arith, length-append}
 use Rattle.std.proofs.Common.{zero, suc, ◌<◌, ◌≤◌, ◌==◌, Bool, if◌then◌else◌, map, drop, get_or, Result, IfOk, eq-eqb, ne_eqb, refl, ◌||◌}
-use Rattle.std.proofs.{lemmas.Bool.cases_lt, lemmas.List.get_or_append_left, lemmas.List.Elements.All-push, Math.Seq.get_or-append_seam, lemmas.List.drop_more}
-use Rattle.std.proofs.{lemmas.List.map-append}
-use Rattle.pas_profile.specs.Rooms.{shown, size_of_room, EventRoom}
-use Rattle.pas_cache.specs.Caches.{Cached, cached}
-use Rattle.pas_cache.specs.declared.cache.ThreadCache.{ThreadCache}
-use Rattle.pas_acts.specs.Parts.{AreRooms, AreUnused}
-use Rattle.pas_acts.specs.PlanKeepers.{keepers_by, one_guarded, guarded_of, AreBooksFor}
-use Rattle.pas_answers.specs.Replays.{empty_cache}
+use Rattle.std.proofs.{lemmas.{Bool.cases_lt, List.{get_or_append_left, Elements.All-push, drop_more, map-append}}, Math.Seq.get_or-append_seam}
 use Rattle.std.specs.{List.AllByRecursion, Global.Vec}
-use Rattle.pas_profile.specs.declared.profile.Profile.{Profile}
-use Rattle.pas_trace.specs.Asked.{work_of, of_task, keeper_of, keeper_in}
-use Rattle.pas_trace.specs.EveryPlan.{all_ops, operations_of, IsActorBy, records_of_work, records_of_what, records_of_ops}
-use Rattle.pas_trace.specs.{Acts.is_active, Acts.keepers_of, Codes.unlined, Courses.IsCourseOf, Plans.IsPlanOf, Plans.ops_of, Plans.phases_of}
-use Rattle.pas_trace.specs.{Scripts.without_lines}
-use Rattle.pas_trace.specs.declared.{course.Course.Course, plan.Op.Op, plan.Plan.Plan, plan.Work.Work}
-use Rattle.pas_trace.proofs.EveryPlan.{every_plan}
-use Rattle.pas_acts.proofs.{PlanFacts.plan_planned, ActsOfPlan.ArePlanned}
-use Rattle.pas_guard.specs.Books.{guards_in, size_of_book}
-use Rattle.pas_guard.specs.declared.book.GuardBook.{GuardBook}
-use Rattle.pas_answers.proofs.EachAct.{all_front, all_back}
+use Rattle.pas_profile.specs.{Rooms.{shown, size_of_room, EventRoom}, declared.profile.Profile.Profile}
+use Rattle.pas_cache.specs.{Caches.{Cached, cached}, declared.cache.ThreadCache.ThreadCache}
+use Rattle.pas_acts.{specs.{Parts.{AreRooms, AreUnused}, PlanKeepers.{keepers_by, one_guarded, guarded_of, AreBooksFor}}, proofs.PlanFacts.plan_planned}
+use Rattle.pas_acts.proofs.ActsOfPlan.{ArePlanned}
+use Rattle.pas_answers.{specs.Replays.empty_cache, proofs.EachAct.{all_front, all_back}}
+use Rattle.pas_trace.specs.{Asked.{work_of, of_task, keeper_of, keeper_in}, EveryPlan.{all_ops, operations_of, IsActorBy, records_of_work, records_of_what}}
+use Rattle.pas_trace.specs.{EveryPlan.records_of_ops, Acts.{is_active, keepers_of}, Codes.unlined, Courses.IsCourseOf, Plans.{IsPlanOf, ops_of, phases_of}}
+use Rattle.pas_trace.{specs.{Scripts.without_lines, declared.{course.Course.Course, plan.{Op.Op, Plan.Plan, Work.Work}}}, proofs.EveryPlan.every_plan}
+use Rattle.pas_guard.specs.{Books.{guards_in, size_of_book}, declared.book.GuardBook.GuardBook}
 
 -- the element that was put at the end
 at_end : {A : Type 0} (xs : List A) (x d : A) (k : ℕ) → k ≡ length xs → slice_index_or (xs ++ x ∷ []) k d ≡ x

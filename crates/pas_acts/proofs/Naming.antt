@@ -1,32 +1,24 @@
 -- The names of a phase: what they stand for to all and to each worker once it was done, how many there are, and what is known of them afterwards.
 use Rattle.std.proofs.Common.{arith, ◌≡◌, ◌≢◌, ℕ, ◌==◌, ◌||◌, Bool, false, if◌then◌else◌, inl, inr, List, ◌∷◌, Option, Some, None, refl, sym, ◌∙◌, subst}
-use Rattle.std.proofs.Common.{ne_eqb, ◌≤◌, [], ◌++◌, ◌<◌, true, length, ap, length-append, MatchOption, eq-eqb, true≢false}
-use Rattle.std.proofs.lemmas.Bool.{cases_eq, or_parts}
+use Rattle.std.proofs.{Common.{ne_eqb, ◌≤◌, [], ◌++◌, ◌<◌, true, length, ap, length-append, MatchOption, eq-eqb, true≢false}, lemmas.Bool.{cases_eq, or_parts}}
+use Rattle.std.specs.List.{AllByRecursion}
 use Rattle.pas_profile.specs.declared.{profile.Profile.Profile, name.Block.Block}
-use Rattle.pas_steps.specs.Views.{View}
-use Rattle.pas_steps.specs.declared.step.Made.{Made}
+use Rattle.pas_steps.specs.{Views.View, declared.step.Made.Made}
 use Rattle.pas_trace.specs.EveryPlan.{is_asked, asked_after, all_ops, asked_with, asked_by, AreSound, IsSoundTask, IsSoundWork, IsActorBy, IsThread}
-use Rattle.pas_trace.specs.declared.{plan.What.What, plan.Op.Op, item.Request.Request, plan.Task.Task, plan.Work.Work}
-use Rattle.pas_trace.specs.declared.plan.What.TheVariants.{Alloc, Guarded, Free, FreeSized, Raw, RawSized, Remake, Flush, Stop}
+use Rattle.pas_trace.specs.declared.plan.{What.{What, TheVariants.{Alloc, Guarded, Free, FreeSized, Raw, RawSized, Remake, Flush, Stop}}, Op.Op, Task.Task}
+use Rattle.pas_trace.specs.{declared.{plan.Work.Work, item.Request.Request}, Acts.{Act, Operates, Guards, Settles, act_kept, own_acts}, Asked.request_in}
+use Rattle.pas_trace.{specs.{Asked.{work_of, of_task, request_of, freed_of, keeper_in}, EveryPhase.FreesItsOwn}, proofs.EveryPlan.below_front}
+use Rattle.pas_trace.proofs.Costs.{some_cost}
 use Rattle.pas_records.specs.declared.record.Said.{Said}
 use Rattle.pas_cache.specs.Caches.{Cached}
 use Rattle.pas_answers.specs.Answers.{Named, named, block_of, standing_for, having, Answer, answer_of, IsFreedBy, IsRemadeBy, IsAnswered, Progress}
 use Rattle.pas_answers.specs.Fit.{IsFitWhat, IsBelow, AreBelow, AllBelow, KeepsAbove, IsFitTask, IsFitWork, AreFit, cost_of_what, own_costs_of}
-use Rattle.pas_answers.specs.Calls.{OnlyAsked, AreKnown, block_behind, MayStand}
-use Rattle.pas_acts.specs.Shares.{AreAmong, IsRequestOf, asked_after_act, AreKnownAfter}
-use Rattle.pas_trace.proofs.{EveryPlan.below_front, Costs.some_cost}
-use Rattle.pas_acts.proofs.{ActsOfPlan.back_below, Noting.is_same, Noting.not_before, Working.kept_cost, Noting.kept_asks}
-use Rattle.pas_trace.specs.Acts.{Act, Operates, Guards, Settles, act_kept, own_acts}
-use Rattle.pas_trace.specs.Asked.{request_in, work_of, of_task, request_of, freed_of, keeper_in}
-use Rattle.pas_answers.proofs.{SingleActs.known_after, SingleActs.known_named, Reached.put_on}
-use Rattle.pas_answers.specs.Reaching.{AnswersOp, AnswersTried, AnswersGuarded, Advances}
-use Rattle.std.specs.List.{AllByRecursion}
-use Rattle.pas_trace.specs.EveryPhase.{FreesItsOwn}
-use Rattle.pas_answers.specs.{Names.block_named, Names.names_held, Replays.at_start}
-use Rattle.pas_answers.specs.declared.names.Names.{Names}
-use Rattle.pas_acts.specs.NameBooks.{requests_in, room_for, name_asked, names_asked, names_of, ArePlaced, came_to, known_in, table, NamesAt, Requests}
-use Rattle.pas_acts.specs.Works.{KnowsNames}
-use Rattle.pas_acts.specs.declared.names.NameBook.{NameBook}
+use Rattle.pas_answers.specs.{Calls.{OnlyAsked, AreKnown, block_behind, MayStand}, Reaching.{AnswersOp, AnswersTried, AnswersGuarded, Advances}}
+use Rattle.pas_answers.{specs.{Names.{block_named, names_held}, Replays.at_start, declared.names.Names.Names}, proofs.SingleActs.{known_after, known_named}}
+use Rattle.pas_answers.proofs.Reached.{put_on}
+use Rattle.pas_acts.specs.{Shares.{AreAmong, IsRequestOf, asked_after_act, AreKnownAfter}, NameBooks.{requests_in, room_for, name_asked, names_asked, names_of}}
+use Rattle.pas_acts.specs.{NameBooks.{ArePlaced, came_to, known_in, table, NamesAt, Requests}, Works.KnowsNames, declared.names.NameBook.NameBook}
+use Rattle.pas_acts.proofs.{ActsOfPlan.back_below, Noting.{is_same, not_before, kept_asks}, Working.kept_cost}
 pub use Rattle.pas_trace.proofs.EveryPlan.{below_front}
 
 none_some : {b : Option Block} {A : Type 0} → None ≡ Some b → A

@@ -1,30 +1,22 @@
 -- Each plan can be replayed: its operations follow one another, its bounds suffice for their records, and its keepers are asked for no more than they have room for.
 use Rattle.std.proofs.Common.{◌≡◌, ◌≢◌, ◌∷◌, Option, Some, refl, ap, ◌∙◌, ℕ, ◌+◌, ◌*◌, ◌<◌, ◌≤◌, List, [], length, slice_index, arith, ◌^◌, MatchOption, ◌-◌}
-use Rattle.std.proofs.Common.{◌==◌, Bool, if◌then◌else◌, subst, eq-eqb, ne_eqb, zero, suc, false, ◌++◌, sym, append_assoc, append-nil}
-use Rattle.std.proofs.lemmas.{List.length-map, Bool.cases_eq, Bool.false≢true}
-use Rattle.pas_profile.specs.Profiles.{IsValid, IsAdmitted}
-use Rattle.pas_profile.specs.declared.profile.Profile.{Profile}
-use Rattle.std.specs.List.{AllByRecursion}
-use Rattle.pas_trace.specs.{Reasons.actors_by, Plans.IsPlanOf, Plans.bounds_of, Plans.ops_of}
-use Rattle.pas_trace.specs.Acts.{Act, Guards, Settles, act_kept, acts_of_chore, acts_of_work, acts_of}
-use Rattle.pas_trace.specs.Asked.{work_of, of_task, keeper_of, keeper_in, request_of, request_in}
-use Rattle.pas_trace.specs.EveryPlan.{all_ops, asked_after, IsThread, IsActorBy, IsActorOf, IsSoundTask, IsSoundWork, AreSound, AreKept, operations_of, IsKept}
-use Rattle.pas_trace.specs.EveryPlan.{kept_of_work, kept_records}
-use Rattle.pas_trace.specs.declared.plan.{Op.Op, Task.Task, Work.Work, Plan.Plan, Chore.Chore}
-use Rattle.pas_trace.proofs.{EveryPlan.every_plan, EveryPlan.threads_among, EveryPlan.keepers_among, Keepers.plan_actors, Keepers.keepers_few}
+use Rattle.std.proofs.{Common.{◌==◌, Bool, if◌then◌else◌, subst, eq-eqb, ne_eqb, zero, suc, false, ◌++◌, sym, append_assoc, append-nil}, lemmas.List.length-map}
+use Rattle.std.{proofs.lemmas.Bool.{cases_eq, false≢true}, specs.List.AllByRecursion}
+use Rattle.pas_profile.specs.{Profiles.{IsValid, IsAdmitted}, declared.profile.Profile.Profile}
+use Rattle.pas_trace.specs.{Reasons.actors_by, Plans.{IsPlanOf, bounds_of, ops_of}, Acts.{Act, Guards, Settles, act_kept, acts_of_chore, acts_of_work, acts_of}}
+use Rattle.pas_trace.specs.{Asked.{work_of, of_task, keeper_of, keeper_in, request_of, request_in}, EveryPlan.{all_ops, asked_after, IsThread, IsActorBy}}
+use Rattle.pas_trace.specs.EveryPlan.{IsActorOf, IsSoundTask, IsSoundWork, AreSound, AreKept, operations_of, IsKept, kept_of_work, kept_records}
+use Rattle.pas_trace.{specs.declared.plan.{Op.Op, Task.Task, Work.Work, Plan.Plan, Chore.Chore}, proofs.EveryPlan.{every_plan, threads_among, keepers_among}}
+use Rattle.pas_trace.proofs.Keepers.{plan_actors, keepers_few}
 use Rattle.pas_answers.specs.Fit.{KeepsAbove, AreFit, AreOfThreads, costs_of, own_costs_of, unbacks_of, AllBelow, sum_over, kept_cost_of, kept_cost_of_act}
-use Rattle.pas_answers.specs.Fit.{kept_costs_of}
-use Rattle.pas_answers.specs.Replays.{phases_of, region_of, threads_of, keepers_of, acts_of_plan, empty_cache}
+use Rattle.pas_answers.specs.{Fit.kept_costs_of, Replays.{phases_of, region_of, threads_of, keepers_of, acts_of_plan, empty_cache}, Calls.owed_events}
+use Rattle.pas_answers.{specs.Ways.{AreSpoken, by_phases}, proofs.EachAct.{all_any, all_of_chore, all_of_close, all_acts}}
 use Rattle.pas_acts.proofs.ActsOfPlan.{ArePlanned, are_planned, plan_costs, plan_owns, plan_unbacks, acts_fit, of_threads, sum_of_ops, plan_sums_at_most}
-use Rattle.pas_acts.proofs.ActsOfPlan.{free_map}
-use Rattle.pas_answers.proofs.EachAct.{all_any, all_of_chore, all_of_close, all_acts}
-use Rattle.pas_acts.proofs.Naming.{below_all, below_each}
-use Rattle.pas_acts.specs.{PlanKeepers.one_guarded, PlanKeepers.guarded_of, Shares.ArePhasesArranged}
+use Rattle.pas_acts.{proofs.{ActsOfPlan.free_map, Naming.{below_all, below_each}}, specs.{PlanKeepers.{one_guarded, guarded_of}, Shares.ArePhasesArranged}}
 use Rattle.pas_acts.specs.Tries.{tries_of_act, tries_of, IsKeptFor, AreKeptFor}
 use Rattle.pas_steps.specs.Unknown.{unknown_below}
 use Rattle.pas_cache.specs.Locals.{any_covers, any_keeps}
 use Rattle.pas_segregated.specs.declared.slots.Slots.{Slots}
-use Rattle.pas_answers.specs.{Calls.owed_events, Ways.AreSpoken, Ways.by_phases}
 use Rattle.pas_records.specs.declared.record.Record.{Record}
 
 -- ---- the region, which has a place for each keeper

@@ -1,38 +1,25 @@
 -- The operations of one thread in a phase, one after the other.
 use Rattle.std.proofs.Common.{◌≡◌, ◌≢◌, ℕ, ◌+◌, ◌==◌, inl, inr, List, [], ◌∷◌, ◌++◌, length, Option, None, Some, refl, ap, sym, ◌∙◌, subst, arith}
-use Rattle.std.proofs.Common.{length-append, append_assoc, append-nil, ◌<◌, ◌≤◌, drop, get_or, drop_of_length-le, eq-eqb, ne_eqb}
-use Rattle.pas_profile.specs.Profiles.{IsAdmitted}
-use Rattle.pas_profile.specs.declared.{name.Block.Block, profile.Profile.Profile}
-use Rattle.pas_profile.proofs.Lists.{all_both, all_map}
-use Rattle.pas_steps.specs.{Desks.Standing, Lists.Whole, Lists.part, Views.View}
-use Rattle.pas_steps.proofs.Parts.{part_of_others}
-use Rattle.pas_trace.specs.Acts.{Act, Operates, Guards, Settles, act_kept, own_acts}
-use Rattle.pas_trace.specs.Asked.{of_task, request_in, keeper_of, keeper_in}
-use Rattle.pas_trace.specs.{Reasons.cost_of_size, EveryPlan.asked_after}
-use Rattle.pas_trace.specs.declared.{item.Request.Request, plan.Op.Op, plan.Task.Task, plan.What.What, plan.Work.Work, plan.Chore.Chore}
+use Rattle.std.proofs.{Common.{length-append, append_assoc, append-nil, ◌<◌, ◌≤◌, drop, get_or, drop_of_length-le, eq-eqb, ne_eqb}, lemmas.List.drop_more}
+use Rattle.pas_profile.{specs.{Profiles.IsAdmitted, declared.{name.Block.Block, profile.Profile.Profile}}, proofs.Lists.{all_both, all_map}}
+use Rattle.pas_steps.{specs.{Desks.Standing, Lists.{Whole, part}, Views.View}, proofs.Parts.part_of_others}
+use Rattle.pas_trace.specs.{Acts.{Act, Operates, Guards, Settles, act_kept, own_acts}, Asked.{of_task, request_in, keeper_of, keeper_in}, Reasons.cost_of_size}
+use Rattle.pas_trace.specs.{EveryPlan.asked_after, declared.{item.Request.Request, plan.{Op.Op, Task.Task, What.What, Work.Work, Chore.Chore}}}
 use Rattle.pas_cache.specs.Caches.{Cached}
-use Rattle.pas_guard.specs.Books.{guards_in, size_of_book}
-use Rattle.pas_guard.specs.declared.book.GuardBook.{GuardBook}
-use Rattle.pas_answers.specs.Answers.{Named, Books, Progress, settled, after_settling}
-use Rattle.pas_answers.specs.Calls.{what_of, MayStand, named_by, named_with, owed_events, IsMeant, freed_by}
-use Rattle.pas_answers.specs.Fit.{IsFitWhat, cost_of_what, own_cost_of, own_cost_of_act, own_costs_of, IsFitWork, AreFit}
-use Rattle.pas_answers.specs.{Guarding.after_trying, Guarding.after_giving, Keeping.owed_by_keeper, Keeping.cost_of_try, Ways.is_of, Ways.EachOf}
-use Rattle.pas_answers.specs.{Ways.records_by, Names.block_named, Names.names_held}
-use Rattle.pas_answers.proofs.SingleActs.{task_of, known_more, meant_by, meant_stands, its_cache, known_if, sum_both}
-use Rattle.pas_answers.proofs.{OwnRecords.all_by, OwnRecords.none_by, OwnRecords.records_both, Reached.reach_both}
-use Rattle.pas_acts.specs.AtDesks.{Here, here, and_for, MayOperate, ThreadActs}
-use Rattle.pas_acts.specs.Keepers.{KeeperHas, LaterKept, KeeperTries, Keeping, NoKeeper, OneKeeper, MayTryAt, TriesAt, StandsAt, StandsStill, HasStill}
-use Rattle.pas_acts.specs.Keepers.{KeptStands}
-use Rattle.pas_acts.specs.Pairs.{head_acts, for_guards, KeeperWaits, IsOfTwo, EachOfTwo, KeptPushed, KeptStill, owed_of, PairActs, MayServe, PairAt, PairWorks}
-use Rattle.pas_acts.specs.Turns.{RestsAt}
-use Rattle.pas_acts.specs.Works.{Later, Keeps, keeps, KnowsNames, ThreadAt}
-use Rattle.pas_acts.proofs.AtDesk.{rests_still, stands_at, own_cost, rests_for, settled_rest, sits_for, keeper_still, guarded_by_keeper, guarded_by_thread}
-use Rattle.std.proofs.lemmas.List.{drop_more}
-use Rattle.pas_acts.specs.NameBooks.{Table, requests_in, room_for, names_of, name_asked, names_asked, ArePlaced, known_in}
-use Rattle.pas_acts.specs.declared.names.NameBook.{NameBook}
-use Rattle.pas_acts.proofs.Noting.{names_both, names_count, asked_both, kept_asks, names_named, placed_both, tells_more, stand_more}
-use Rattle.pas_records.specs.Rooms.{records_in, room_of, Records}
-use Rattle.pas_records.specs.declared.record.Record.{Record}
+use Rattle.pas_guard.specs.{Books.{guards_in, size_of_book}, declared.book.GuardBook.GuardBook}
+use Rattle.pas_answers.specs.{Answers.{Named, Books, Progress, settled, after_settling}, Calls.{what_of, MayStand, named_by, named_with, owed_events, IsMeant}}
+use Rattle.pas_answers.specs.{Calls.freed_by, Fit.{IsFitWhat, cost_of_what, own_cost_of, own_cost_of_act, own_costs_of, IsFitWork, AreFit}}
+use Rattle.pas_answers.specs.{Guarding.{after_trying, after_giving}, Keeping.{owed_by_keeper, cost_of_try}, Ways.{is_of, EachOf, records_by}, Names.block_named}
+use Rattle.pas_answers.{specs.Names.names_held, proofs.SingleActs.{task_of, known_more, meant_by, meant_stands, its_cache, known_if, sum_both}}
+use Rattle.pas_answers.proofs.{OwnRecords.{all_by, none_by, records_both}, Reached.reach_both}
+use Rattle.pas_acts.specs.{AtDesks.{Here, here, and_for, MayOperate, ThreadActs}, Keepers.{KeeperHas, LaterKept, KeeperTries, Keeping, NoKeeper, OneKeeper}}
+use Rattle.pas_acts.specs.{Keepers.{MayTryAt, TriesAt, StandsAt, StandsStill, HasStill, KeptStands}, Pairs.{head_acts, for_guards, KeeperWaits, IsOfTwo}}
+use Rattle.pas_acts.specs.{Pairs.{EachOfTwo, KeptPushed, KeptStill, owed_of, PairActs, MayServe, PairAt, PairWorks}, Turns.RestsAt, Works.{Later, Keeps, keeps}}
+use Rattle.pas_acts.specs.{Works.{KnowsNames, ThreadAt}, NameBooks.{Table, requests_in, room_for, names_of, name_asked, names_asked, ArePlaced, known_in}}
+use Rattle.pas_acts.{specs.declared.names.NameBook.NameBook, proofs.AtDesk.{rests_still, stands_at, own_cost, rests_for, settled_rest, sits_for, keeper_still}}
+use Rattle.pas_acts.proofs.{AtDesk.{guarded_by_keeper, guarded_by_thread}, Noting.{names_both, names_count, asked_both, kept_asks, names_named, placed_both}}
+use Rattle.pas_acts.proofs.Noting.{tells_more, stand_more}
+use Rattle.pas_records.specs.{Rooms.{records_in, room_of, Records}, declared.record.Record.Record}
 
 -- A thread and its keeper: what an operation of the thread comes to for both.
 

@@ -1,11 +1,9 @@
 -- Plans in which nothing could run at once: in each phase one actor alone has operations.
-use Rattle.std.specs.Prelude.{ℕ, ◌≡◌, List}
-use Rattle.std.specs.List.{AllByRecursion}
+use Rattle.std.specs.{Prelude.{ℕ, ◌≡◌, List}, List.AllByRecursion}
 use Rattle.pas_steps.specs.Lists.{Whole}
-use Rattle.pas_trace.specs.Plans.{IsPlanOf}
-use Rattle.pas_trace.specs.declared.plan.{Op.Op, Plan.Plan}
+use Rattle.pas_trace.specs.{Plans.IsPlanOf, declared.plan.{Op.Op, Plan.Plan}}
 use Rattle.pas_records.specs.declared.record.Record.{Record}
-use Rattle.pas_answers.specs.{Replays.IsReplay, Replays.phases_of, Ways.Way, Ways.InOrder, Ways.IsOneOrder}
+use Rattle.pas_answers.specs.{Replays.{IsReplay, phases_of}, Ways.{Way, InOrder, IsOneOrder}}
 
 -- all these operations are of one actor: a thread's, or the scavenger's
 pub record AreOfOneActor (ops : List Op) : Type 0 where

@@ -3,15 +3,12 @@
 use Rattle.std.specs.Prelude.{ℕ, ◌+◌, ◌≤◌, ◌≡◌, ◌≢◌, Bool, true, false, List, [], ◌∷◌, ◌++◌, length, Option}
 use Rattle.pas_profile.specs.declared.{profile.Profile.Profile, name.Block.Block, event.Range.Range}
 use Rattle.pas_steps.specs.{Clear.HasNothing, Desks.Standing, Lists.part}
-use Rattle.pas_trace.specs.declared.plan.{What.What, Op.Op}
-use Rattle.pas_records.specs.Rooms.{records_in, room_of, Records}
-use Rattle.pas_records.specs.declared.record.Record.{Record}
-use Rattle.pas_cache.specs.{Caches.Cached, Caches.AtRest, Calls.SettlesEach}
-use Rattle.pas_trace.specs.Acts.{Act, Operates, Settles}
-use Rattle.pas_answers.specs.{Indexes.request_by, Indexes.IsNamedFor, Answers.Named, Answers.Progress, Answers.stopped, Reaching.Reaches, Ways.EachOf}
-use Rattle.pas_answers.specs.Calls.{MayStand, IsKnown, IsMeant, owed_events}
-use Rattle.pas_answers.specs.Fit.{IsFitWhat, cost_of_what, cost_of_act, own_costs_of, unbacks_of_act}
-use Rattle.pas_acts.specs.{Works.Later, Works.Sits, Turns.RestsAt, Turns.Moves, Turns.Says}
+use Rattle.pas_trace.specs.{declared.plan.{What.What, Op.Op}, Acts.{Act, Operates, Settles}}
+use Rattle.pas_records.specs.{Rooms.{records_in, room_of, Records}, declared.record.Record.Record}
+use Rattle.pas_cache.specs.{Caches.{Cached, AtRest}, Calls.SettlesEach}
+use Rattle.pas_answers.specs.{Indexes.{request_by, IsNamedFor}, Answers.{Named, Progress, stopped}, Reaching.Reaches, Ways.EachOf, Calls.{MayStand, IsKnown}}
+use Rattle.pas_answers.specs.{Calls.{IsMeant, owed_events}, Fit.{IsFitWhat, cost_of_what, cost_of_act, own_costs_of, unbacks_of_act}}
+use Rattle.pas_acts.specs.{Works.{Later, Sits}, Turns.{RestsAt, Moves, Says}}
 
 -- ---- a thread
 -- what a thread has in hand: its desk, its cache and its records

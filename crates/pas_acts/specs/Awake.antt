@@ -1,7 +1,6 @@
 -- The threads of a phase, by a mask of those that have an operation in it.
 use Rattle.std.specs.Prelude.{ℕ, not, List}
-use Rattle.pas_bits.specs.Masks.{is_set}
-use Rattle.pas_bits.specs.declared.mask.Mask4.{Mask4}
+use Rattle.pas_bits.specs.{Masks.is_set, declared.mask.Mask4.Mask4}
 use Rattle.pas_trace.specs.Acts.{threads_where}
 
 -- of so many, those of the mask, which are awake, and the others, which are idle

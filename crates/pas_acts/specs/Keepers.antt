@@ -1,15 +1,12 @@
 -- What a keeper does at its desk, whatever stands beside it: it tries guarded requests, and lowers all its guards at the close.
 use Rattle.std.specs.Prelude.{ℕ, ◌+◌, ◌≤◌, ◌≡◌, ◌≢◌, List, [], ◌∷◌, ◌++◌, length, Option}
 use Rattle.pas_profile.specs.declared.{name.Block.Block, profile.Profile.Profile}
-use Rattle.pas_steps.specs.{Desks.Standing, Lists.Whole, Lists.part, Unknown.unknown_pages}
-use Rattle.pas_trace.specs.{Acts.Lowers, Reasons.cost_of_size}
-use Rattle.pas_trace.specs.declared.item.Request.{Request}
-use Rattle.pas_records.specs.Rooms.{records_in, room_of, Records}
-use Rattle.pas_records.specs.declared.record.Record.{Record}
-use Rattle.pas_guard.specs.Books.{FitsBook, guards_in, size_of_book}
-use Rattle.pas_guard.specs.declared.book.GuardBook.{GuardBook}
-use Rattle.pas_answers.specs.{Answers.Progress, Calls.MayStand, Keeping.owed_by_keeper, Keeping.cost_of_try, Reaching.Reaches, Ways.EachOf}
-use Rattle.pas_answers.specs.Guarding.{Tried, try_steps, IsTried, after_trying}
+use Rattle.pas_steps.specs.{Desks.Standing, Lists.{Whole, part}, Unknown.unknown_pages}
+use Rattle.pas_trace.specs.{Acts.Lowers, Reasons.cost_of_size, declared.item.Request.Request}
+use Rattle.pas_records.specs.{Rooms.{records_in, room_of, Records}, declared.record.Record.Record}
+use Rattle.pas_guard.specs.{Books.{FitsBook, guards_in, size_of_book}, declared.book.GuardBook.GuardBook}
+use Rattle.pas_answers.specs.{Answers.Progress, Calls.MayStand, Keeping.{owed_by_keeper, cost_of_try}, Reaching.Reaches, Ways.EachOf, Guarding.Tried}
+use Rattle.pas_answers.specs.Guarding.{try_steps, IsTried, after_trying}
 use Rattle.pas_acts.specs.{Works.Sits, Turns.Moves}
 
 -- what a keeper has in hand: its desk, its book and its records

@@ -2,13 +2,10 @@
 -- to in the phase is kept with the thread, and comes to the book after the phase.
 use Rattle.std.specs.Prelude.{ℕ, zero, suc, ◌+◌, ◌<◌, ◌≡◌, ◌==◌, if◌then◌else◌, List, [], ◌∷◌, ◌++◌, map, slice_index_or, Option, None, Some}
 use Rattle.std.specs.List.{AllByRecursion}
-use Rattle.pas_profile.specs.declared.{profile.Profile.Profile, name.Block.Block}
-use Rattle.pas_profile.specs.Rooms.{Holding}
-use Rattle.pas_trace.specs.{EveryPlan.asked_after, EveryPlan.AreSound, Acts.Act, Acts.asked_after_act}
-use Rattle.pas_trace.specs.declared.plan.{What.What, Op.Op}
-use Rattle.pas_answers.specs.Answers.{Named, named, standing_for, Progress}
-use Rattle.pas_answers.specs.Calls.{Tells, AllMayStand, AreKnown, OnlyAsked}
-use Rattle.pas_answers.specs.{Fit.KeepsAbove, Fit.AreBelow, Names.block_in, Names.block_named, Names.names_held}
+use Rattle.pas_profile.specs.{declared.{profile.Profile.Profile, name.Block.Block}, Rooms.Holding}
+use Rattle.pas_trace.specs.{EveryPlan.{asked_after, AreSound}, Acts.{Act, asked_after_act}, declared.plan.{What.What, Op.Op}}
+use Rattle.pas_answers.specs.{Answers.{Named, named, standing_for, Progress}, Calls.{Tells, AllMayStand, AreKnown, OnlyAsked}, Fit.{KeepsAbove, AreBelow}}
+use Rattle.pas_answers.specs.Names.{block_in, block_named, names_held}
 use Rattle.pas_acts.specs.declared.names.{NameBook.NameBook, Request.Request}
 
 -- ---- a thread's own requests

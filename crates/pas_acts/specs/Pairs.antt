@@ -1,19 +1,14 @@
 -- A thread of a phase with its keeper, before its acts and after them.
-use Rattle.std.specs.Prelude.{ℕ, ◌+◌, ◌<◌, ◌≤◌, ◌≡◌, ◌≢◌, ◌==◌, ◌⊎◌, List, [], ◌∷◌, ◌++◌, length, Option, None, Some}
-use Rattle.std.specs.List.{AllByRecursion}
+use Rattle.std.specs.{Prelude.{ℕ, ◌+◌, ◌<◌, ◌≤◌, ◌≡◌, ◌≢◌, ◌==◌, ◌⊎◌, List, [], ◌∷◌, ◌++◌, length, Option, None, Some}, List.AllByRecursion}
 use Rattle.pas_profile.specs.declared.{name.Block.Block, profile.Profile.Profile}
 use Rattle.pas_steps.specs.{Desks.Standing, Lists.part, Views.View}
-use Rattle.pas_trace.specs.Acts.{Act, Guards, Settles, act_kept}
-use Rattle.pas_trace.specs.Asked.{request_in, keeper_in}
-use Rattle.pas_trace.specs.declared.{item.Request.Request, plan.Op.Op}
-use Rattle.pas_records.specs.Rooms.{records_in, room_of}
-use Rattle.pas_records.specs.declared.record.Record.{Record}
+use Rattle.pas_trace.specs.{Acts.{Act, Guards, Settles, act_kept}, Asked.{request_in, keeper_in}, declared.{item.Request.Request, plan.Op.Op}}
+use Rattle.pas_records.specs.{Rooms.{records_in, room_of}, declared.record.Record.Record}
 use Rattle.pas_guard.specs.Books.{guards_in, size_of_book}
-use Rattle.pas_answers.specs.{Answers.Named, Answers.Progress, Calls.owed_events, Fit.own_costs_of, Keeping.owed_by_keeper, Reaching.Reaches, Ways.is_of}
-use Rattle.pas_answers.specs.{Ways.records_by}
-use Rattle.pas_acts.specs.{AtDesks.Here, AtDesks.MayOperate, Turns.RestsAt, Works.Later, Works.Keeps, Works.ThreadAt}
-use Rattle.pas_acts.specs.Keepers.{LaterKept, and_try, KeeperAt, Keeping, NoKeeper, OneKeeper}
-use Rattle.pas_acts.specs.NameBooks.{requests_in, room_for, names_of, names_asked}
+use Rattle.pas_answers.specs.{Answers.{Named, Progress}, Calls.owed_events, Fit.own_costs_of, Keeping.owed_by_keeper, Reaching.Reaches, Ways.is_of}
+use Rattle.pas_answers.specs.Ways.{records_by}
+use Rattle.pas_acts.specs.{AtDesks.{Here, MayOperate}, Turns.RestsAt, Works.{Later, Keeps, ThreadAt}, Keepers.{LaterKept, and_try, KeeperAt, Keeping, NoKeeper}}
+use Rattle.pas_acts.specs.{Keepers.OneKeeper, NameBooks.{requests_in, room_for, names_of, names_asked}}
 
 -- the acts of a thread's operation
 abbrev pub head_acts : Op → List Act

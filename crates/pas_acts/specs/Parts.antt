@@ -1,9 +1,8 @@
 -- What every kit of a plan is made of.
 use Rattle.std.specs.Prelude.{ℕ, ◌<◌, ◌≡◌, List, [], length, Option, Some, All, slice_index_or}
 use Rattle.pas_profile.specs.Rooms.{shown, size_of_room, EventRoom}
-use Rattle.pas_cache.specs.Caches.{cached}
+use Rattle.pas_cache.specs.{Caches.cached, declared.cache.ThreadCache.ThreadCache}
 use Rattle.pas_answers.specs.Replays.{empty_cache}
-use Rattle.pas_cache.specs.declared.cache.ThreadCache.{ThreadCache}
 
 -- a room for each of so many actors, from actor 0 on, of the size that was left for it, with no event
 pub record AreRooms (sizes : ℕ → Option ℕ) (count : ℕ) (rooms : List EventRoom) : Type 0 where

@@ -1,9 +1,7 @@
 -- The books of the keepers of a plan.
 use Rattle.std.specs.Prelude.{ℕ, ◌+◌, ◌<◌, ◌≡◌, ◌==◌, if◌then◌else◌, List, [], ◌∷◌, Option, None, Some, length, slice_index_or}
-use Rattle.pas_trace.specs.{Asked.keeper_in, EveryPlan.operations_of}
-use Rattle.pas_trace.specs.declared.plan.{Op.Op, Plan.Plan}
-use Rattle.pas_guard.specs.Books.{guards_in, size_of_book}
-use Rattle.pas_guard.specs.declared.book.GuardBook.{GuardBook}
+use Rattle.pas_trace.specs.{Asked.keeper_in, EveryPlan.operations_of, declared.plan.{Op.Op, Plan.Plan}}
+use Rattle.pas_guard.specs.{Books.{guards_in, size_of_book}, declared.book.GuardBook.GuardBook}
 use Rattle.pas_answers.specs.Replays.{keepers_of}
 
 -- how many keepers a plan has by its `guard` and its threads

@@ -3,16 +3,14 @@ use Rattle.std.specs.Prelude.{ℕ, ◌+◌, MatchOption, ◌≤◌, ◌≡◌, �
 use Rattle.std.specs.List.{AllByRecursion}
 use Rattle.pas_profile.specs.declared.{profile.Profile.Profile, name.Block.Block}
 use Rattle.pas_steps.specs.Lists.{part}
-use Rattle.pas_trace.specs.{Asked.request_in, Asked.keeper_in, EveryPlan.AreSound}
-use Rattle.pas_trace.specs.declared.plan.{What.What, Op.Op}
+use Rattle.pas_trace.specs.{Asked.{request_in, keeper_in}, EveryPlan.AreSound, declared.plan.{What.What, Op.Op}, Acts.{Act, Guards, StopsIdle, MarksPhase}}
+use Rattle.pas_trace.specs.Acts.{MarksClose, operation_in, stepper_of, is_active, idle_threads, acts_of_ops, own_acts, scavenger_acts}
 use Rattle.pas_records.specs.declared.record.Record.{Record}
-use Rattle.pas_trace.specs.Acts.{Act, Guards, StopsIdle, MarksPhase, MarksClose, operation_in, stepper_of, is_active, idle_threads, acts_of_ops, own_acts}
-use Rattle.pas_trace.specs.Acts.{scavenger_acts}
 pub use Rattle.pas_trace.specs.Acts.{asked_after_act, asked_after_acts}
 pub use Rattle.pas_answers.specs.Stages.{Owners, thread_in, owner_in, in_hands}
 use Rattle.pas_core.specs.Orders.{steps_by}
-use Rattle.pas_answers.specs.{Answers.Named, Answers.standing_for, Answers.Progress, Calls.AreKnown, Calls.OnlyAsked, Reaching.Reaches, Fit.AreFit}
-use Rattle.pas_answers.specs.Ways.{OnThreads, AreSpoken, records_by, by_actors, arranged}
+use Rattle.pas_answers.specs.{Answers.{Named, standing_for, Progress}, Calls.{AreKnown, OnlyAsked}, Reaching.Reaches, Fit.AreFit, Ways.{OnThreads, AreSpoken}}
+use Rattle.pas_answers.specs.Ways.{records_by, by_actors, arranged}
 
 -- ---- workers
 -- the actor whose worker makes the act: the scavenger's stops idle threads, each other act is its stepper's. A mark is of nobody, and stands between

@@ -1,6 +1,5 @@
 -- The guarded requests among acts: whose keeper tries each, and how many each tries.
-use Rattle.std.specs.Prelude.{ℕ, ◌+◌, ◌≤◌, ◌≡◌, ◌==◌, if◌then◌else◌, List}
-use Rattle.std.specs.List.{AllByRecursion}
+use Rattle.std.specs.{Prelude.{ℕ, ◌+◌, ◌≤◌, ◌≡◌, ◌==◌, if◌then◌else◌, List}, List.AllByRecursion}
 use Rattle.pas_trace.specs.Acts.{Act, Guards}
 use Rattle.pas_answers.specs.Fit.{sum_over}
 

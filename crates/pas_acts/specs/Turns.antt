@@ -1,10 +1,8 @@
 -- An actor at its desk, before its acts and after them.
 use Rattle.std.specs.Prelude.{ℕ, ◌+◌, ◌≤◌, ◌≡◌, ◌≢◌, List, ◌++◌, length}
 use Rattle.pas_profile.specs.declared.profile.Profile.{Profile}
-use Rattle.pas_steps.specs.{Calls.Calls, Desks.Standing, Desks.triples, Lists.part, Views.View}
-use Rattle.pas_steps.specs.declared.step.Made.{Made}
-use Rattle.pas_records.specs.Rooms.{records_in, room_of, Records}
-use Rattle.pas_records.specs.declared.record.Record.{Record}
+use Rattle.pas_steps.specs.{Calls.Calls, Desks.{Standing, triples}, Lists.part, Views.View, declared.step.Made.Made}
+use Rattle.pas_records.specs.{Rooms.{records_in, room_of, Records}, declared.record.Record.Record}
 use Rattle.pas_cache.specs.Caches.{Cached, AtRest}
 use Rattle.pas_answers.specs.{Answers.Progress, Calls.owed_events, Ways.EachOf}
 use Rattle.pas_acts.specs.Works.{Later, Sits}

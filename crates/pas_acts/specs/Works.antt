@@ -1,12 +1,12 @@
 -- What a thread's worker has before and after its acts of a phase, at any desk.
 use Rattle.std.specs.Prelude.{ℕ, ◌+◌, ◌≤◌, ◌≡◌, List, ◌++◌, length}
 use Rattle.pas_profile.specs.declared.profile.Profile.{Profile}
-use Rattle.pas_steps.specs.{Events.events_of, Lists.Whole, Lists.part, Views.View, Desks.Standing}
+use Rattle.pas_steps.specs.{Events.events_of, Lists.{Whole, part}, Views.View, Desks.Standing}
 use Rattle.pas_records.specs.Rooms.{records_in, room_of, Records}
 use Rattle.pas_cache.specs.Caches.{Cached, AtRest}
 use Rattle.pas_trace.specs.Acts.{Act}
-use Rattle.pas_answers.specs.{Answers.Named, Answers.standing_for, Answers.Progress, Fit.AreFit, Fit.own_costs_of, Names.names_held}
-use Rattle.pas_answers.specs.Calls.{MayStand, block_behind, AreKnown, owed_events}
+use Rattle.pas_answers.specs.{Answers.{Named, standing_for, Progress}, Fit.{AreFit, own_costs_of}, Names.names_held, Calls.{MayStand, block_behind, AreKnown}}
+use Rattle.pas_answers.specs.Calls.{owed_events}
 use Rattle.pas_acts.specs.NameBooks.{Table, requests_in, room_for, names_of, names_asked, ArePlaced, known_in}
 
 -- for how many events and how many records more there is room in the end

@@ -4,11 +4,9 @@ ghost use Rattle.pas_profile.specs.declared.profile.Profile.{Profile as TheProfi
 ghost use Rattle.pas_cache.specs.Caches.{cached};
 ghost use Rattle.pas_records.specs.Rooms.{Records as TheRecords};
 ghost use Rattle.pas_utility.specs.Outcomes.{places_of};
-ghost use Rattle.pas_trace.specs.Acts.{Operates, Settles, StopsIdle, Ticks, MakesPass, ReadsEpoch};
-ghost use Rattle.pas_answers.specs.{Answers.Progress, Calls.what_of, Calls.MayStand, Calls.named_by};
-ghost use Rattle.pas_trace.specs.declared.plan.Op.{Op as TheOp};
-ghost use Rattle.pas_acts.specs.{Works.Later, Turns.RestsAt};
-ghost use Rattle.pas_acts.specs.AtDesks.{here, told_if, MayOperate, GoesThrough, ThreadActs, for_act, HasRoomAt, ScavengerActs};
+ghost use Rattle.pas_trace.specs.{Acts.{Operates, Settles, StopsIdle, Ticks, MakesPass, ReadsEpoch}, declared.plan.Op.Op as TheOp};
+ghost use Rattle.pas_answers.specs.{Answers.Progress, Calls.{what_of, MayStand, named_by}};
+ghost use Rattle.pas_acts.specs.{Works.Later, Turns.RestsAt, AtDesks.{here, told_if, MayOperate, GoesThrough, ThreadActs, for_act, HasRoomAt, ScavengerActs}};
 
 use pas_answers::{Remake, answer_meant, answer_stop, is_idle_for};
 use pas_cache::ThreadCache;

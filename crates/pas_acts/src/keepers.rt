@@ -1,7 +1,6 @@
 //! What a keeper does at its desk: it tries guarded requests, and lowers all its guards at the close.
 ghost use Rattle.std.specs.Prelude.{◌≡◌, ◌<◌, ℕ};
-ghost use Rattle.pas_profile.specs.Profiles.{IsAdmitted};
-ghost use Rattle.pas_profile.specs.declared.profile.Profile.{Profile as TheProfile};
+ghost use Rattle.pas_profile.specs.{Profiles.IsAdmitted, declared.profile.Profile.Profile as TheProfile};
 ghost use Rattle.pas_answers.specs.{Answers.Progress, Calls.MayStand};
 ghost use Rattle.pas_acts.specs.Keepers.{keeper_has, LaterKept, and_try, KeeperAt, KeeperTries, KeeperLowers};
 
@@ -45,8 +44,7 @@ pub fn lower_all<D: Desk>(desk: &mut D, book: &mut GuardBook, out: &mut Records)
 /// Who tries the guarded requests of a thread: its keeper, whom the thread lends its desk for it. A thread of a plan that isn't guarded has none, and asks nobody.
 pub trait Tries<D: Desk> {
     ghost use Rattle.std.specs.Prelude.{◌≡◌, ◌≢◌, ◌<◌, ℕ};
-    ghost use Rattle.pas_profile.specs.Profiles.{IsAdmitted};
-    ghost use Rattle.pas_profile.specs.declared.profile.Profile.{Profile as TheProfile};
+    ghost use Rattle.pas_profile.specs.{Profiles.IsAdmitted, declared.profile.Profile.Profile as TheProfile};
     ghost use Rattle.pas_steps.specs.Lists.{Whole};
     ghost use Rattle.pas_answers.specs.Answers.{Progress};
     ghost use Rattle.pas_acts.specs.Keepers.{Keeping, LaterKept, MayTryAt, TriesAt, StandsAt, KeptStands};

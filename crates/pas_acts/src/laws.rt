@@ -1,6 +1,5 @@
 //! What holds of workers that each answer their own acts, however their steps interleave. Each law is the contract of an empty function.
-ghost use Rattle.pas_acts.specs.AloneInOrder.{AloneIsInOrder};
-ghost use Rattle.pas_acts.specs.Shares.{AreWoven, AreJoined, AreKnownAfter, ActsAreShared, ArePhasesArranged};
+ghost use Rattle.pas_acts.specs.{AloneInOrder.AloneIsInOrder, Shares.{AreWoven, AreJoined, AreKnownAfter, ActsAreShared, ArePhasesArranged}};
 
 /// What all workers of a phase did, each for itself, answers the acts of the phase in the order of the text.
 pub fn weaving()

@@ -92,7 +92,7 @@ impl NameBook {
     ghost use Rattle.std.specs.Prelude.{◌≡◌, ◌<◌, ◌^◌, ◌==◌, ℕ, List, [], ◌∷◌, None, if◌then◌else◌, IfOk, MatchOption, length};
     ghost use Rattle.pas_profile.specs.declared.profile.Profile.{Profile as TheProfile};
     ghost use Rattle.pas_trace.specs.{EveryPlan.AreSound, Acts.own_acts};
-    ghost use Rattle.pas_answers.specs.{Fit.AreBelow, Names.block_in, Names.block_named, Names.names_held};
+    ghost use Rattle.pas_answers.specs.{Fit.AreBelow, Names.{block_in, block_named, names_held}};
     ghost use Rattle.pas_acts.specs.NameBooks.{requests_in, room_for, names_of, name_asked, names_asked, place_in, ArePlaced, AreWithin, known_in};
 
     /// No name stands for a block. There is room for the names below the limit.

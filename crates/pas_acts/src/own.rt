@@ -2,13 +2,10 @@
 ghost use Rattle.std.specs.Prelude.{◌≡◌, ◌+◌, ◌<◌, ◌≤◌, ◌^◌, ◌++◌, ℕ, List, [], length, option_and_then};
 ghost use Rattle.pas_profile.specs.declared.profile.Profile.{Profile as TheProfile};
 ghost use Rattle.pas_cache.specs.Caches.{cached};
-ghost use Rattle.pas_trace.specs.{Asked.request_of, Asked.freed_of, Acts.Act, Acts.own_acts};
-ghost use Rattle.pas_trace.specs.declared.plan.Op.{Op as TheOp};
-ghost use Rattle.pas_answers.specs.{Answers.Progress, Names.MayPack};
-ghost use Rattle.pas_answers.specs.Calls.{what_of, named_with, named_by, MayStand};
-ghost use Rattle.pas_acts.specs.NameBooks.{requests_in, room_for, names_of, name_asked, ArePlaced, known_in, table};
-ghost use Rattle.pas_acts.specs.{Works.keeps, Works.Later, Keepers.LaterKept, AtDesks.here};
-ghost use Rattle.pas_acts.specs.Pairs.{head_acts, for_guards, MayServe, MayWork, DoesWork, PairActs, PairAt, PairWorks};
+ghost use Rattle.pas_trace.specs.{Asked.{request_of, freed_of}, Acts.{Act, own_acts}, declared.plan.Op.Op as TheOp};
+ghost use Rattle.pas_answers.specs.{Answers.Progress, Names.MayPack, Calls.{what_of, named_with, named_by, MayStand}};
+ghost use Rattle.pas_acts.specs.{NameBooks.{requests_in, room_for, names_of, name_asked, ArePlaced, known_in, table}, Works.{keeps, Later}, Keepers.LaterKept};
+ghost use Rattle.pas_acts.specs.{AtDesks.here, Pairs.{head_acts, for_guards, MayServe, MayWork, DoesWork, PairActs, PairAt, PairWorks}};
 
 use crate::at_desk;
 use crate::gate::Gate;

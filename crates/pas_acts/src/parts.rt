@@ -1,7 +1,6 @@
 //! What every kit of a plan is made of: the rooms of the actors, the caches of the threads, and the list for the outcomes of a pass.
 ghost use Rattle.std.specs.Prelude.{◌≡◌, ◌≤◌, ◌+◌, ℕ, IfOk, true, Some};
-ghost use Rattle.pas_utility.specs.Outcomes.{places_of};
-ghost use Rattle.pas_utility.specs.Pools.{threads_of, room_of as room_for, has_seat, outcomes_of};
+ghost use Rattle.pas_utility.specs.{Outcomes.places_of, Pools.{threads_of, room_of as room_for, has_seat, outcomes_of}};
 ghost use Rattle.pas_acts.specs.Parts.{AreRooms, AreUnused};
 
 use pas_cache::ThreadCache;

@@ -1,9 +1,7 @@
 //! The keepers of a guarded plan: how many there are, the region that has room for them, and their books.
-ghost use Rattle.std.specs.Prelude.{◌≡◌, ◌==◌, ◌<◌, ◌≤◌, ◌+◌, ◌^◌, ℕ, if◌then◌else◌, List, IfOk, map, slice_index_or};
-ghost use Rattle.std.specs.List.{AllByRecursion};
+ghost use Rattle.std.specs.{Prelude.{◌≡◌, ◌==◌, ◌<◌, ◌≤◌, ◌+◌, ◌^◌, ℕ, if◌then◌else◌, List, IfOk, map, slice_index_or}, List.AllByRecursion};
 ghost use Rattle.pas_profile.specs.Profiles.{IsValid};
-ghost use Rattle.pas_trace.specs.{Asked.keeper_in, Courses.IsCourse, Courses.IsCourseOf, EveryPlan.all_ops, Plans.IsPlanOf};
-ghost use Rattle.pas_trace.specs.declared.plan.Plan.{Plan as ThePlan};
+ghost use Rattle.pas_trace.specs.{Asked.keeper_in, Courses.{IsCourse, IsCourseOf}, EveryPlan.all_ops, Plans.IsPlanOf, declared.plan.Plan.Plan as ThePlan};
 ghost use Rattle.pas_answers.specs.Replays.{region_of, keepers_of};
 ghost use Rattle.pas_acts.specs.PlanKeepers.{keepers_by, one_guarded, guarded_of, AreBooksFor, AreBooks};
 

@@ -5,7 +5,7 @@ ghost use Rattle.pas_records.specs.Rooms.{Records as TheRecords};
 ghost use Rattle.pas_cache.specs.Caches.{cached};
 ghost use Rattle.pas_trace.specs.Acts.{Wakes, Ends};
 ghost use Rattle.pas_answers.specs.Answers.{Progress};
-ghost use Rattle.pas_acts.specs.{Works.Later, Turns.RestsAt, AtDesks.here, AtDesks.ThreadActs};
+ghost use Rattle.pas_acts.specs.{Works.Later, Turns.RestsAt, AtDesks.{here, ThreadActs}};
 
 use pas_answers::answer_stop;
 use pas_cache::ThreadCache;

@@ -2,59 +2,45 @@
 -- and at the end none is.
 use Rattle.std.proofs.Common.{◌≡◌, ℕ, zero, suc, ◌+◌, ◌-◌, ◌/◌, ◌^◌, ◌<◌, ◌≤◌, ◌==◌, nat_le, Bool, true, false, ◌&&◌, if◌then◌else◌, List, [], ◌∷◌, ◌++◌}
 use Rattle.std.proofs.Common.{length, Option, Some, None, Result, Ok, Err, MatchResult, inl, inr, refl, ap, sym, ◌∙◌, subst, arith, append_assoc, true≢false}
-use Rattle.std.proofs.Common.{eq-eqb, ne_eqb, ◌*◌, ◌||◌, length-append, MatchOption, All}
-use Rattle.std.proofs.lemmas.Bool.{eqb-false, false_from_ne_true, cond-false, and_left, cases_eq}
-use Rattle.pas_profile.specs.{Lives.live_word, Directories.directory_read, Directories.deed_word_of, Blocks.address_of, Blocks.grain_of, Profiles.IsValid}
-use Rattle.pas_profile.specs.{Profiles.IsAdmitted, Entries.entry_of, Entries.sized_entry, Entries.is_sized}
-use Rattle.pas_profile.specs.declared.{profile.Profile.Profile, event.NoRoom.NoRoom, name.Block.Block, name.Name.Name, word.Word.Word, entry.Entry.Entry}
-use Rattle.pas_profile.specs.declared.{guard.Guard.Guard}
-use Rattle.pas_bits.specs.Runs.{meets_page}
-use Rattle.pas_steps.specs.{Views.View, Views.is_unstamped, Allowed.IsStepOf, Desks.made, Desks.Standing, Desks.triples, Events.events_by, Clear.HasNothing}
-use Rattle.pas_steps.specs.{Lists.Whole, Lists.part, Lists.Legal}
-use Rattle.pas_steps.specs.declared.step.{Made.Made, Step.Step}
-use Rattle.pas_steps.specs.declared.step.Step.TheVariants.{Look, EndSized, Stamp, Tick}
-use Rattle.pas_core.specs.Stamps.{AllStamped, KeepsToEnds, AllKeepToEnds}
-use Rattle.pas_rights.proofs.{Orders.return_returns, Puts.puts_kinds}
-use Rattle.pas_free_log.specs.Endings.{guess_by, Tries, TriesBy, last_step, IsRefusedBy, IsEndOf, EndSteps}
-use Rattle.pas_free_log.specs.Stamps.{page_count}
-use Rattle.pas_free_log.specs.Returns.{PageSteps, PagesSteps, first_on, count_on}
-use Rattle.pas_free_log.specs.declared.{noting.EndedRun.EndedRun, ending.Outcome.Outcome, ending.Outcome.TheVariants.Ended, ending.Outcome.TheVariants.Refused}
-use Rattle.pas_free_log.specs.Flushes.{Settled, AfterEnd, EntrySteps, EntriesSteps}
-use Rattle.pas_free_log.proofs.OneEntry.{count_some, guess_is, not_ended}
-use Rattle.pas_cache.specs.{Caches.Cached, Caches.AtRest, Calls.TakesEntry, Calls.AllocatesPages, Changes.EmptiesLog, Changes.EmptiesFull, Kinds.releasing}
-use Rattle.pas_cache.specs.{Kinds.allocating, Serves.pages_of, Serves.wanted_for, Serves.ServesRequest, Refusals.IsTrulyRefused, Refusals.TakesWhatIsNamed}
-use Rattle.pas_steps.specs.Kinds.{Kinds, Only, kind_of, look_kind, is_in, apart, LookEpoch, Putting, Ending, Stamping, Ticking, looking, returning, place_of}
-use Rattle.pas_steps.specs.Kinds.{unstamping, Backing, Giving, LookLife}
-use Rattle.pas_steps.proofs.Apart.{holds_over, only_both, only_within, unstamped_same, unstamped_step_same, out_within}
-use Rattle.pas_steps.proofs.{Calls.returns_are, Parts.part_of_own, Parts.part_of_others}
-use Rattle.pas_trace.specs.declared.{plan.What.What, item.Request.Request, plan.Plan.Plan, plan.Op.Op, plan.What.TheVariants.Alloc}
-use Rattle.pas_trace.specs.declared.{plan.What.TheVariants.Guarded, plan.What.TheVariants.Remake}
-use Rattle.pas_records.specs.declared.record.{Said.Said, Record.Record}
+use Rattle.std.proofs.{Common.{eq-eqb, ne_eqb, ◌*◌, ◌||◌, length-append, MatchOption, All}, lemmas.Bool.{eqb-false, false_from_ne_true, cond-false, and_left}}
+use Rattle.std.proofs.lemmas.Bool.{cases_eq}
+use Rattle.pas_profile.specs.{Lives.live_word, Directories.{directory_read, deed_word_of}, Blocks.{address_of, grain_of}, Profiles.{IsValid, IsAdmitted}}
+use Rattle.pas_profile.specs.{Entries.{entry_of, sized_entry, is_sized}, declared.{profile.Profile.Profile, event.NoRoom.NoRoom, name.{Block.Block, Name.Name}}}
+use Rattle.pas_profile.specs.declared.{word.Word.Word, entry.Entry.Entry, guard.Guard.Guard}
+use Rattle.pas_bits.{specs.Runs.meets_page, proofs.Runs.{to_meet, met_by}}
+use Rattle.pas_steps.specs.{Views.{View, is_unstamped}, Allowed.IsStepOf, Desks.{made, Standing, triples}, Events.events_by, Clear.HasNothing, Lists.Whole}
+use Rattle.pas_steps.specs.{Lists.{part, Legal}, declared.step.{Made.Made, Step.{Step, TheVariants.{Look, EndSized, Stamp, Tick}}}, Kinds.{Kinds, Only}}
+use Rattle.pas_steps.specs.Kinds.{kind_of, look_kind, is_in, apart, LookEpoch, Putting, Ending, Stamping, Ticking, looking, returning, place_of, unstamping}
+use Rattle.pas_steps.{specs.Kinds.{Backing, Giving, LookLife}, proofs.Apart.{holds_over, only_both, only_within, unstamped_same, unstamped_step_same}}
+use Rattle.pas_steps.proofs.{Apart.out_within, Calls.returns_are, Parts.{part_of_own, part_of_others}}
+use Rattle.pas_core.{specs.Stamps.{AllStamped, KeepsToEnds, AllKeepToEnds}, proofs.{Lives.stamps_are_ends, MachineRuns.runs, OneActor.legal_before}}
+use Rattle.pas_core.proofs.OneActor.{legal_earlier}
+use Rattle.pas_rights.{proofs.{Orders.return_returns, Puts.puts_kinds}, specs.Gives.give_steps}
+use Rattle.pas_free_log.specs.{Endings.{guess_by, Tries, TriesBy, last_step, IsRefusedBy, IsEndOf, EndSteps}, Stamps.page_count, Returns.PageSteps}
+use Rattle.pas_free_log.specs.{Returns.{PagesSteps, first_on, count_on}, declared.{noting.EndedRun.EndedRun, ending.Outcome.{Outcome, TheVariants.Ended}}}
+use Rattle.pas_free_log.{specs.{declared.ending.Outcome.TheVariants.Refused, Flushes.{Settled, AfterEnd, EntrySteps, EntriesSteps}}, proofs.OneEntry.count_some}
+use Rattle.pas_free_log.proofs.OneEntry.{guess_is, not_ended}
+use Rattle.pas_cache.specs.{Caches.{Cached, AtRest}, Calls.{TakesEntry, AllocatesPages}, Changes.{EmptiesLog, EmptiesFull}, Kinds.{releasing, allocating}}
+use Rattle.pas_cache.{specs.{Serves.{pages_of, wanted_for, ServesRequest}, Refusals.{IsTrulyRefused, TakesWhatIsNamed}}, proofs.Alone.truly_refused}
+use Rattle.pas_cache.proofs.Alone.{takes_named}
+use Rattle.pas_trace.specs.{declared.{plan.{What.{What, TheVariants.{Alloc, Guarded, Remake}}, Plan.Plan, Op.Op}, item.Request.Request}, Acts.{Act, Operates}}
+use Rattle.pas_trace.specs.{Acts.{Guards, Settles, Ticks, MakesPass, ReadsEpoch, StopsIdle, MarksPhase, Wakes, MarksClose, Ends, Lowers}, Asked.request_in}
+use Rattle.pas_trace.specs.EveryPlan.{asked_after}
+use Rattle.pas_records.{specs.{declared.record.{Said.Said, Record.Record}, Lines.CanShow, Rests.AreStamped}, proofs.Showable.AreOfRegion}
+use Rattle.pas_records.proofs.MarksAtRest.{true_marks}
 use Rattle.pas_answers.specs.Answers.{Having, Answer, standing_for, entry_with, IsFreed, IsFreedBy, IsRemadeBy, IsStopped, IsAnswered, wanted_by, records_of}
-use Rattle.pas_answers.specs.Answers.{Progress, having, said_by, stopped, epoch_look, after_stop, request_for, IsReplaced}
-use Rattle.pas_records.proofs.{Showable.AreOfRegion, MarksAtRest.true_marks}
-use Rattle.pas_answers.proofs.Reached.{of_front, of_back, was_so, tried_on, pieces_back, Each, same_parts, legal_part, of_rest, calls_alone}
-use Rattle.pas_bits.proofs.Runs.{to_meet, met_by}
-use Rattle.pas_large.specs.Named.{missed_steps}
-use Rattle.pas_rights.specs.Gives.{give_steps}
-use Rattle.pas_scan.specs.Runs.{large_directory}
-use Rattle.pas_guard.specs.{Seeks.seeking, Raises.IsRaised, Raises.IsNotRaised, Raises.RaiseSteps, Keepers.MakesCalls}
-use Rattle.pas_guard.specs.Sweeps.{is_over, sweeping, SweptOne, Swept, SweepSteps}
-use Rattle.pas_guard.proofs.Raises.{raised_backs, raised_leaves}
-use Rattle.pas_answers.specs.Guarding.{said_of_guard, Tried, try_steps, guarded_steps, IsTried, after_trying}
-use Rattle.pas_answers.proofs.OwnRecords.{EachShown, shown_both, records_shown, each_arranged, piece_shown, pass_shown, all_shown}
-use Rattle.pas_core.proofs.{Lives.stamps_are_ends, MachineRuns.runs, OneActor.legal_before, OneActor.legal_earlier}
-use Rattle.pas_records.specs.{Lines.CanShow, Rests.AreStamped}
-use Rattle.pas_answers.specs.{Phases.AreInPhases, Stages.GoByStages, Fit.AreOfThreads, Fit.IsFitWhat, Fit.AreFit, Rests.RestBetween}
-use Rattle.pas_answers.specs.Indexes.{GoByIndexes, TakesItsRun, TriedTakesItsRun, GuardedTakesItsRun, AllTakeTheirRuns}
+use Rattle.pas_answers.specs.{Answers.{Progress, having, said_by, stopped, epoch_look, after_stop, request_for, IsReplaced}, Guarding.{said_of_guard, Tried}}
+use Rattle.pas_answers.specs.{Guarding.{try_steps, guarded_steps, IsTried, after_trying}, Phases.AreInPhases, Stages.GoByStages, Fit.{AreOfThreads, IsFitWhat}}
+use Rattle.pas_answers.specs.{Fit.AreFit, Rests.RestBetween, Indexes.{GoByIndexes, TakesItsRun, TriedTakesItsRun, GuardedTakesItsRun, AllTakeTheirRuns}}
 use Rattle.pas_answers.specs.Refusals.{AreRefusalsTrue, request_in_remade, RefusesTruly, TriedRefusesTruly, GuardedRefusesTruly, AllRefuseTruly}
-use Rattle.pas_answers.specs.Reaching.{AnswersTried, AnswersGuarded, Reaches, AnswersOp, Advances}
-use Rattle.pas_trace.specs.Acts.{Act, Operates, Guards, Settles, Ticks, MakesPass, ReadsEpoch, StopsIdle, MarksPhase, Wakes, MarksClose, Ends, Lowers}
-use Rattle.pas_trace.specs.{Asked.request_in, EveryPlan.asked_after}
-use Rattle.pas_answers.specs.Replays.{at_start, acts_of_plan, threads_of, keepers_of, phases_of, stages_of_plan, IsReplay, region_of}
-use Rattle.pas_answers.specs.Ways.{Way, InOrder, OnThreads, IsOneOrder, arranged}
-use Rattle.pas_answers.proofs.Requests.{known_directory}
-use Rattle.pas_cache.proofs.Alone.{truly_refused, takes_named}
+use Rattle.pas_answers.specs.{Reaching.{AnswersTried, AnswersGuarded, Reaches, AnswersOp, Advances}, Replays.{at_start, acts_of_plan, threads_of, keepers_of}}
+use Rattle.pas_answers.specs.{Replays.{phases_of, stages_of_plan, IsReplay, region_of}, Ways.{Way, InOrder, OnThreads, IsOneOrder, arranged}}
+use Rattle.pas_answers.proofs.Reached.{of_front, of_back, was_so, tried_on, pieces_back, Each, same_parts, legal_part, of_rest, calls_alone}
+use Rattle.pas_answers.proofs.{OwnRecords.{EachShown, shown_both, records_shown, each_arranged, piece_shown, pass_shown, all_shown}, Requests.known_directory}
+use Rattle.pas_large.specs.Named.{missed_steps}
+use Rattle.pas_scan.specs.Runs.{large_directory}
+use Rattle.pas_guard.specs.{Seeks.seeking, Raises.{IsRaised, IsNotRaised, RaiseSteps}, Keepers.MakesCalls, Sweeps.{is_over, sweeping, SweptOne, Swept}}
+use Rattle.pas_guard.{specs.Sweeps.SweepSteps, proofs.Raises.{raised_backs, raised_leaves}}
 
 -- ---- tidy views: all steps kept to ends, and nothing is unstamped
 abbrev pub KeptPart : View → Type 0

@@ -1,12 +1,10 @@
 -- What is so of each act of a plan, by what is so of its operations.
-use Rattle.std.proofs.Common.{ℕ, zero, suc, ◌+◌, ◌≤◌, not, Bool, true, false, if◌then◌else◌, List, [], ◌∷◌, ◌++◌, map, arith}
-use Rattle.std.specs.List.{AllByRecursion, filter}
+use Rattle.std.{proofs.Common.{ℕ, zero, suc, ◌+◌, ◌≤◌, not, Bool, true, false, if◌then◌else◌, List, [], ◌∷◌, ◌++◌, map, arith}, specs.List.AllByRecursion}
+use Rattle.std.specs.List.{filter}
 use Rattle.pas_profile.proofs.Lists.{all_both}
 use Rattle.pas_trace.specs.Acts.{Act, Ticks, MakesPass, ReadsEpoch, StopsIdle, MarksPhase, Wakes, MarksClose, Ends, Lowers, is_active, numbers_from}
 use Rattle.pas_trace.specs.Acts.{threads_where, active_threads, idle_threads, acts_of_chore, acts_of_op, acts_of_ops, phase_acts, close_acts, acts_from}
-use Rattle.pas_trace.specs.Acts.{acts_of}
-use Rattle.pas_trace.specs.EveryPlan.{all_ops}
-use Rattle.pas_trace.specs.declared.plan.{Chore.Chore, Op.Op}
+use Rattle.pas_trace.specs.{Acts.acts_of, EveryPlan.all_ops, declared.plan.{Chore.Chore, Op.Op}}
 
 -- ---- lists
 -- what is so of all is so of the first, and of those that follow

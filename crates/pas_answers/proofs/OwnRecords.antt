@@ -1,23 +1,16 @@
 -- The records of a piece are of its actor, and each can be shown, in whatever order they are written.
 use Rattle.std.proofs.Common.{◌≡◌, ◌≢◌, ℕ, ◌==◌, Bool, true, false, ◌||◌, if◌then◌else◌, List, [], ◌∷◌, ◌++◌, reverse, Option, Some, None, refl, ap, sym, ◌∙◌}
-use Rattle.std.proofs.Common.{subst, map, eq-eqb, ne_eqb, arith, zero, suc, ◌+◌, All}
-use Rattle.pas_profile.specs.declared.{event.Event.Event, event.Outcome.Outcome, event.Outcome.TheVariants.Unbacked, name.Block.Block, profile.Profile.Profile}
-use Rattle.pas_profile.specs.declared.{guard.Guard.Guard}
-use Rattle.pas_steps.specs.{Events.events_by, Events.actor_of, Views.View}
-use Rattle.pas_steps.specs.declared.step.Made.{Made}
-use Rattle.pas_records.specs.declared.record.{Record.Record, Said.Said}
-use Rattle.pas_answers.specs.{PassRecords.record_of, PassRecords.records_of_pass, Answers.records_of, Answers.said_by, Answers.wanted_by}
-use Rattle.pas_answers.specs.{Guarding.said_of_guard, Guarding.Tried, Guarding.IsTried}
+use Rattle.std.proofs.{Common.{subst, map, eq-eqb, ne_eqb, arith, zero, suc, ◌+◌, All}, lemmas.List.Elements.{All-nil, All-push, All-append}}
+use Rattle.std.specs.List.{AllByRecursion}
+use Rattle.pas_profile.specs.declared.{event.{Event.Event, Outcome.{Outcome, TheVariants.Unbacked}}, name.Block.Block, profile.Profile.Profile}
+use Rattle.pas_profile.{specs.declared.guard.Guard.Guard, proofs.Lists.{all_both, all_map, all_reverse}}
+use Rattle.pas_steps.{specs.{Events.{events_by, actor_of}, Views.View, declared.step.Made.Made}, proofs.Events.events_own}
+use Rattle.pas_records.{specs.{declared.record.{Record.Record, Said.Said}, Lines.CanShow}, proofs.Showable.{AreOfRegion, steps_showable}}
+use Rattle.pas_answers.specs.{PassRecords.{record_of, records_of_pass}, Answers.{records_of, said_by, wanted_by}, Guarding.{said_of_guard, Tried, IsTried}}
+use Rattle.pas_answers.specs.Ways.{is_of, AreSpoken, EachOf, records_by, Way, by_actors, by_phases, arranged}
 use Rattle.pas_trace.specs.declared.item.Request.{Request}
 use Rattle.pas_cache.specs.Serves.{pages_of}
 use Rattle.pas_guard.specs.Sweeps.{is_over, SweptOne, Swept}
-use Rattle.pas_answers.specs.Ways.{is_of, AreSpoken, EachOf, records_by, Way, by_actors, by_phases, arranged}
-use Rattle.std.specs.List.{AllByRecursion}
-use Rattle.pas_profile.proofs.Lists.{all_both, all_map, all_reverse}
-use Rattle.pas_steps.proofs.Events.{events_own}
-use Rattle.std.proofs.lemmas.List.Elements.{All-nil, All-push, All-append}
-use Rattle.pas_records.specs.Lines.{CanShow}
-use Rattle.pas_records.proofs.Showable.{AreOfRegion, steps_showable}
 
 -- ---- what is so of each record of a piece, by its events and by what is said
 events_all : (P : Record → Type 0) (es : List Event) → AllByRecursion (λ e. P (Record.Event e)) es → AllByRecursion P (map Record.Event es)

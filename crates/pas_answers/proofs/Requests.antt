@@ -1,48 +1,36 @@
 -- What a request promises.
 use Rattle.std.proofs.Common.{◌≡◌, ◌≢◌, ℕ, ◌+◌, ◌-◌, ◌<◌, ◌≤◌, ◌++◌, Bool, List, [], ◌∷◌, length, Option, Some, None, Result, Ok, Err, inl, inr, refl, ap, sym}
 use Rattle.std.proofs.Common.{◌∙◌, subst, arith, ◌*◌, ◌/◌, ◌%◌, max, MatchResult, true, false, if◌then◌else◌, nat_le, le-leb, length-append, append_assoc}
-use Rattle.std.proofs.Common.{leb-true}
-use Rattle.std.proofs.{lemmas.Bool.cases_lt, Math.Nat.mul-mod_left, Math.Nat.mod-add-div', Math.Nat.mul_assoc, lemmas.Option.same_Some}
-use Rattle.std.specs.List.{AllByRecursion}
-use Rattle.pas_profile.specs.{Directories.IsDirectory, Directories.deed_word_of, Blocks.address_of, Blocks.grain_of, Blocks.length_of, Classes.IsAlignment}
-use Rattle.pas_profile.specs.{Routes.room_by, Routes.IsRouteOf, Requests.route_in, Requests.room_in, Entries.entry_of}
-use Rattle.pas_profile.specs.Profiles.{IsValid, IsAdmitted, IsPage, IsDirectoryOf}
-use Rattle.pas_profile.proofs.{Sizes.route_is, Sizes.class_known, Sizes.class_size_whole, Codecs.directory_from_profile, Codecs.deed_word_of-positive}
+use Rattle.std.{proofs.{Common.leb-true, lemmas.{Bool.cases_lt, Option.same_Some}, Math.Nat.{mul-mod_left, mod-add-div', mul_assoc}}, specs.List.AllByRecursion}
+use Rattle.pas_profile.specs.{Directories.{IsDirectory, deed_word_of}, Blocks.{address_of, grain_of, length_of}, Classes.IsAlignment, Routes.room_by}
+use Rattle.pas_profile.specs.{Routes.IsRouteOf, Requests.{route_in, room_in}, Entries.entry_of, Profiles.{IsValid, IsAdmitted, IsPage, IsDirectoryOf}}
+use Rattle.pas_profile.specs.declared.{profile.Profile.Profile, directory.{Directory.Directory, Route.Route}, event.{Event.Event, NoRoom.NoRoom}}
+use Rattle.pas_profile.specs.declared.{event.FreeFault.{FreeFault, TheVariants.{Outside, Unaligned}}, name.{Block.Block, Name.Name}, word.Word.Word}
+use Rattle.pas_profile.{specs.declared.entry.Entry.Entry, proofs.{Sizes.{route_is, class_known, class_size_whole}, Codecs.directory_from_profile}}
+use Rattle.pas_profile.proofs.Codecs.{deed_word_of-positive}
 use Rattle.pas_bits.proofs.Runs.{first_of_run}
 use Rattle.pas_bitfit.proofs.Aligned.{sixteens}
-use Rattle.pas_profile.specs.declared.{profile.Profile.Profile, directory.Directory.Directory, event.Event.Event, event.NoRoom.NoRoom, name.Block.Block}
-use Rattle.pas_profile.specs.declared.{word.Word.Word, directory.Route.Route, event.FreeFault.FreeFault, event.FreeFault.TheVariants.Outside}
-use Rattle.pas_profile.specs.declared.{event.FreeFault.TheVariants.Unaligned, name.Name.Name, entry.Entry.Entry}
 use Rattle.pas_machine.specs.State.{deed_in}
-use Rattle.pas_core.specs.Good.{word_of_deed}
-use Rattle.pas_core.proofs.{Deeds.known_is, Deeds.deed_of, Deeds.directory_is_of, Rights.deeds_known}
-use Rattle.pas_steps.specs.declared.step.Made.{Made}
-use Rattle.pas_steps.specs.{Views.View, Views.known_deed, Views.KnowsDeed, Agreement.Agreed, Events.events_by, Desks.Standing, Desks.CanCall, Desks.Seat}
-use Rattle.pas_steps.specs.{Unknown.unknown_pages}
-use Rattle.pas_steps.specs.Lists.{Whole, part, word_after, visible, Legal}
-use Rattle.pas_trace.specs.declared.{item.Request.Request, plan.Task.Task, plan.What.What, plan.Work.Work}
-use Rattle.pas_trace.specs.declared.plan.What.TheVariants.{Alloc, Guarded, Free, FreeSized, Raw, RawSized, Remake}
-use Rattle.pas_cache.specs.{Caches.Cached, Caches.AtRest, Names.IsInRegion, Names.IsFaultOf, Changes.EmptiesFull}
-use Rattle.pas_trace.specs.{Reasons.cost_of_size, EveryPlan.IsRoomNamed, Asked.request_of, Asked.cost_of_task}
-use Rattle.pas_trace.proofs.{Costs.small_cost, Costs.large_cost, Costs.some_cost, Rooms.room_named}
-use Rattle.pas_cache.specs.Calls.{Allocates, AllocatesPages, most_events, IsNamed, MayRequestBy, MayRequest, AllocatesBy, AllocatesRequest, MayAllocate}
-use Rattle.pas_cache.specs.Calls.{MayAllocatePages, TakesEntry, Frees, RefusesName, FlushesLog, StopsCache, Rests}
-use Rattle.pas_cache.proofs.Budget.{log_kept, emptied_events}
-use Rattle.pas_cache.specs.Serves.{IsSmallRoute, Wanted, wanted_for, pages_of, IsBlockFor, IsDeedOf, IsSilent, MakesFew, MakesAtMost, MakesDeedsOf}
+use Rattle.pas_core.{specs.Good.word_of_deed, proofs.{Deeds.{known_is, deed_of, directory_is_of}, Rights.deeds_known}}
+use Rattle.pas_steps.specs.{declared.step.Made.Made, Views.{View, known_deed, KnowsDeed}, Agreement.Agreed, Events.events_by, Desks.{Standing, CanCall, Seat}}
+use Rattle.pas_steps.{specs.{Unknown.unknown_pages, Lists.{Whole, part, word_after, visible, Legal}}, proofs.Adding.{adds_none, can_call, agreed_first}}
+use Rattle.pas_steps.proofs.{Adding.agreed_later, Unknown.{unknown_no_more, has_room, none_unknown}, SpareRoom.{Spares, spare_falls}, Frames.events_append}
+use Rattle.pas_steps.proofs.Called.{call_none, call_then, next_call, call_as}
+use Rattle.pas_trace.specs.declared.{item.Request.Request, plan.{Task.Task, What.{What, TheVariants.{Alloc, Guarded, Free, FreeSized, Raw, RawSized, Remake}}}}
+use Rattle.pas_trace.{specs.{declared.plan.Work.Work, Reasons.cost_of_size, EveryPlan.IsRoomNamed, Asked.{request_of, cost_of_task}}, proofs.Costs.small_cost}
+use Rattle.pas_trace.proofs.{Costs.{large_cost, some_cost}, Rooms.room_named}
+use Rattle.pas_cache.specs.{Caches.{Cached, AtRest}, Names.{IsInRegion, IsFaultOf}, Changes.EmptiesFull, Calls.{Allocates, AllocatesPages, most_events}}
+use Rattle.pas_cache.specs.Calls.{IsNamed, MayRequestBy, MayRequest, AllocatesBy, AllocatesRequest, MayAllocate, MayAllocatePages, TakesEntry, Frees}
+use Rattle.pas_cache.specs.{Calls.{RefusesName, FlushesLog, StopsCache, Rests}, Serves.{IsSmallRoute, Wanted, wanted_for, pages_of, IsBlockFor, IsDeedOf}}
+use Rattle.pas_cache.specs.{Serves.{IsSilent, MakesFew, MakesAtMost, MakesDeedsOf}, declared.moving.Moved.{TheVariants.{Kept, New}, Moved}}
+use Rattle.pas_cache.proofs.{Budget.{log_kept, emptied_events}, Routes.{is_small, is_large, small_may, small_did, none_named, pages_asked}}
 use Rattle.pas_answers.specs.Answers.{named as the_name, block_of, said_by, said_of_request, IsGiven, RefusalEnds, RequestEnds, suits, Named, standing_for}
 use Rattle.pas_answers.specs.Answers.{said_of_fault, entry_with, having, Answer, answer_of, request_for, said_of_room, IsRemadeBy, IsAnswered}
-use Rattle.pas_answers.specs.{Indexes.IsNamedFor, Indexes.request_made, Indexes.unless_suited, Moves.flush_of_full, Moves.MayMove, Moves.Moves}
-use Rattle.pas_answers.specs.Fit.{cost_of_what, IsFitTask, IsFitWork, IsFitWhat, cost_of_work}
-use Rattle.pas_answers.specs.Calls.{what_of, IsBlockOf, MayStand, owed_events, MayPerform, Serves, events_for, PerformsMeant, block_behind, FreesOne, IsMeant}
-use Rattle.pas_answers.specs.Calls.{IsKnown, named_by}
-use Rattle.pas_steps.proofs.Adding.{adds_none, can_call, agreed_first, agreed_later}
-use Rattle.pas_steps.proofs.{Unknown.unknown_no_more, Unknown.has_room, Unknown.none_unknown, SpareRoom.Spares, SpareRoom.spare_falls, Frames.events_append}
-use Rattle.pas_cache.proofs.Routes.{is_small, is_large, small_may, small_did, none_named, pages_asked}
-use Rattle.pas_steps.proofs.Called.{call_none, call_then, next_call, call_as}
-use Rattle.pas_cache.specs.declared.moving.Moved.{TheVariants.Kept, TheVariants.New, Moved}
+use Rattle.pas_answers.specs.{Indexes.{IsNamedFor, request_made, unless_suited}, Moves.{flush_of_full, MayMove, Moves}, Fit.{cost_of_what, IsFitTask}}
+use Rattle.pas_answers.specs.{Fit.{IsFitWork, IsFitWhat, cost_of_work}, Calls.{what_of, IsBlockOf, MayStand, owed_events, MayPerform, Serves, events_for}}
+use Rattle.pas_answers.{specs.Calls.{PerformsMeant, block_behind, FreesOne, IsMeant, IsKnown, named_by}, proofs.SingleActs.task_of}
 use Rattle.pas_free_log.specs.declared.noting.EndedRun.{EndedRun}
 use Rattle.pas_records.specs.declared.record.Said.{Said}
-use Rattle.pas_answers.proofs.SingleActs.{task_of}
 
 -- ---- what a request asks
 may_request : (f : Profile) (c : Cached) (heap size align spare : ℕ) (v : View) → AtRest f c v → cost_of_size size + unknown_pages f v ≤ spare

@@ -1,28 +1,21 @@
 -- What a single act changes and shows, whatever region it is done at.
 use Rattle.std.proofs.Common.{◌≡◌, ◌≢◌, ℕ, ◌+◌, ◌≤◌, ◌++◌, Bool, if◌then◌else◌, List, length, refl, ap, ◌∙◌, arith, true, false, [], ◌∷◌, reverse}
 use Rattle.std.proofs.Common.{length-append, eq-eqb, ne_eqb, sym, map, append-nil, Some, append_assoc, max, Option, None, option_and_then, ◌==◌, ◌||◌, subst}
-use Rattle.std.proofs.Common.{◌/◌, ◌%◌, ◌^◌, ◌<◌}
-use Rattle.pas_profile.specs.declared.{profile.Profile.Profile, event.Event.Event, event.Outcome.Outcome, word.Word.Word, name.Block.Block}
+use Rattle.std.proofs.{Common.{◌/◌, ◌%◌, ◌^◌, ◌<◌}, lemmas.{List.{length-reverse, length-map, reverse-append}, Grind.flat_map-append}}
+use Rattle.pas_profile.specs.declared.{profile.Profile.Profile, event.{Event.Event, Outcome.{Outcome, TheVariants.{Unbacked, Bare, Young, InUse, NotOffered}}}}
+use Rattle.pas_profile.specs.{declared.{word.Word.Word, name.Block.Block}, Profiles.IsValid}
 use Rattle.pas_cache.specs.Caches.{Cached}
 use Rattle.pas_answers.specs.Answers.{Caches, with_cache, Named, epoch_look, records_of, standing_for, block_of, Having, having, Answer, answer_of, named}
-use Rattle.pas_answers.specs.Answers.{IsRemadeBy, IsAnswered}
-use Rattle.std.proofs.lemmas.{List.length-reverse, List.length-map, List.reverse-append, Grind.flat_map-append}
-use Rattle.pas_trace.specs.{Acts.Act, EveryPlan.is_asked, EveryPlan.asked_after}
-use Rattle.pas_trace.specs.declared.plan.{What.What, Task.Task, Work.Work}
-use Rattle.pas_trace.specs.declared.plan.What.TheVariants.{Free, FreeSized, Remake, Alloc, Guarded, Raw, RawSized, Flush, Stop}
+use Rattle.pas_answers.specs.{Answers.{IsRemadeBy, IsAnswered}, Calls.{AreKnown, IsKnown, IsBlockOf, MayStand, what_of, block_behind, IsMeant, named_with}}
+use Rattle.pas_answers.specs.{Calls.{named_by, freed_by}, Fit.{IsFitWhat, sum_over}, TicksAndPasses.{ticking, AnswersTick, AnswersPass}, Indexes.request_made}
+use Rattle.pas_answers.specs.{Indexes.request_by, Names.{IsPackable, MayPack}, PassRecords.{record_of, records_of_pass, event_in, events_in}}
+use Rattle.pas_trace.specs.{Acts.Act, EveryPlan.{is_asked, asked_after}, declared.plan.What.{What, TheVariants.{Free, FreeSized, Remake, Alloc, Guarded, Raw}}}
+use Rattle.pas_trace.specs.{declared.plan.{What.TheVariants.{RawSized, Flush, Stop}, Task.Task, Work.Work}, Asked.{work_of, of_task, request_of, freed_of}}
 use Rattle.pas_records.specs.declared.record.{Record.Record, Said.Said}
-use Rattle.pas_answers.specs.Calls.{AreKnown, IsKnown, IsBlockOf, MayStand, what_of, block_behind, IsMeant, named_with, named_by, freed_by}
-use Rattle.pas_answers.specs.{Fit.IsFitWhat, Fit.sum_over, TicksAndPasses.ticking, TicksAndPasses.AnswersTick, TicksAndPasses.AnswersPass, Indexes.request_made}
-use Rattle.pas_answers.specs.{Indexes.request_by, Names.IsPackable, Names.MayPack}
-use Rattle.pas_steps.specs.{Calls.Calls, Clear.HasNothing, Kinds.LookEpoch, Desks.Standing, Desks.Makes, Desks.made, Events.events_by, Views.View}
-use Rattle.pas_steps.specs.declared.step.{Step.TheVariants.Look, Step.TheVariants.Tick, Made.Made}
-use Rattle.pas_steps.proofs.{Called.call_none, Called.call_step, Calls.does_idly, Nothing.nothing_still}
-use Rattle.pas_scavenger.specs.{Pages.unback_of, Passes.unbacks_in, Passes.Passes}
-use Rattle.pas_scavenger.proofs.Examinations.{one_unback}
-use Rattle.pas_profile.specs.declared.event.Outcome.TheVariants.{Unbacked, Bare, Young, InUse, NotOffered}
-use Rattle.pas_answers.specs.PassRecords.{record_of, records_of_pass, event_in, events_in}
-use Rattle.pas_trace.specs.Asked.{work_of, of_task, request_of, freed_of}
-use Rattle.pas_profile.specs.Profiles.{IsValid}
+use Rattle.pas_steps.specs.{Calls.Calls, Clear.HasNothing, Kinds.LookEpoch, Desks.{Standing, Makes, made}, Events.events_by, Views.View}
+use Rattle.pas_steps.{specs.declared.step.{Step.TheVariants.{Look, Tick}, Made.Made}, proofs.{Called.{call_none, call_step}, Calls.does_idly}}
+use Rattle.pas_steps.proofs.Nothing.{nothing_still}
+use Rattle.pas_scavenger.{specs.{Pages.unback_of, Passes.{unbacks_in, Passes}}, proofs.Examinations.one_unback}
 
 -- ---- caches of which that of thread k became another
 pub its_cache : (caches : Caches) (k : ℕ) (c : Cached) → with_cache caches k c k ≡ c

@@ -1,43 +1,28 @@
 -- What an operation adds to the records.
 use Rattle.std.proofs.Common.{◌≡◌, ℕ, ◌+◌, ◌<◌, ◌≤◌, ◌++◌, List, [], ◌∷◌, length, drop, Option, Some, None, ap, sym, ◌∙◌, subst, arith, length-append}
 use Rattle.std.proofs.Common.{append_assoc, append-nil, map, reverse, ◌*◌, ◌/◌, ◌%◌, Bool, true, false, ◌||◌, refl, true≢false, ◌-◌, ◌^◌}
-use Rattle.std.proofs.{lemmas.List.length-reverse, lemmas.List.length-map, Math.Seq.drop-append_seam, lemmas.Option.same_Some, Math.Nat.zero-mod}
-use Rattle.pas_profile.specs.declared.{event.Event.Event, name.Block.Block, directory.Directory.Directory, directory.Route.Route, profile.Profile.Profile}
-use Rattle.pas_profile.specs.declared.{guard.Guard.Guard}
-use Rattle.pas_steps.specs.declared.step.{Made.Made, Step.Step, Step.TheVariants.Deed}
-use Rattle.pas_steps.specs.{Views.View, Views.KnowsDeed, Events.events_of, Events.events_by, Lists.Whole, Noted.ShowsRest, Agreement.Agreed, Calls.Calls}
-use Rattle.pas_steps.specs.{Unknown.unknown_pages}
-use Rattle.pas_steps.specs.Desks.{Standing, triples, CanCall, Adds, Seat}
-use Rattle.pas_steps.proofs.{Frames.events_split, Frames.events_append, Frames.knows_still, Noting.rest_more, Adding.agreed_first, Adding.agreed_later}
-use Rattle.pas_steps.proofs.{Apart.no_events, Apart.events_same, Called.call_then, Called.next_call, Events.ComesOf, Events.comes_of, Events.each_event}
-use Rattle.pas_steps.proofs.{Past.always_pair, SpareRoom.Spares, SpareRoom.spare_falls, Unknown.unknown_no_more}
-use Rattle.pas_trace.specs.declared.{plan.What.What, item.Request.Request}
-use Rattle.pas_cache.specs.Caches.{Cached, AtRest}
-use Rattle.pas_answers.specs.Answers.{records_of, said_by, wanted_by, IsGiven}
-use Rattle.pas_answers.specs.Calls.{PerformsMeant, MayAnswer, AnswersMeant, IsBlockOf, MayStand}
-use Rattle.std.specs.List.{AllByRecursion}
-use Rattle.pas_large.proofs.{Finds.of_directory, Finds.MadeOf, Claims.in_parts, Claims.span_in, Gives.run_is, Gives.back_events}
-use Rattle.pas_guard.proofs.Raises.{fits_find, raised_backs, raised_few, raised_leaves}
+use Rattle.std.{proofs.{lemmas.{List.{length-reverse, length-map}, Option.same_Some}, Math.{Seq.drop-append_seam, Nat.zero-mod}}, specs.List.AllByRecursion}
+use Rattle.pas_profile.specs.declared.{event.Event.Event, name.Block.Block, directory.{Directory.Directory, Route.Route}, profile.Profile.Profile}
+use Rattle.pas_profile.{specs.{declared.guard.Guard.Guard, Blocks.{address_of, grain_of, length_of}, Classes.IsAlignment}, proofs.Lists.{all_both, all_map}}
+use Rattle.pas_steps.specs.{declared.step.{Made.Made, Step.{Step, TheVariants.Deed}}, Views.{View, KnowsDeed}, Events.{events_of, events_by}, Lists.Whole}
+use Rattle.pas_steps.specs.{Noted.ShowsRest, Agreement.Agreed, Calls.Calls, Unknown.unknown_pages, Desks.{Standing, triples, CanCall, Adds, Seat}, Kinds.Only}
+use Rattle.pas_steps.{specs.Kinds.{returning, kind_of, is_in}, proofs.{Frames.{events_split, events_append, knows_still}, Noting.rest_more}}
+use Rattle.pas_steps.proofs.{Adding.{agreed_first, agreed_later}, Apart.{no_events, events_same}, Called.{call_then, next_call}, Events.{ComesOf, comes_of}}
+use Rattle.pas_steps.proofs.{Events.each_event, Past.always_pair, SpareRoom.{Spares, spare_falls}, Unknown.unknown_no_more}
+use Rattle.pas_trace.{specs.{declared.{plan.What.What, item.Request.Request}, Reasons.cost_of_size}, proofs.Costs.large_cost}
+use Rattle.pas_cache.{specs.{Caches.{Cached, AtRest}, Serves.{Wanted, wanted_for, pages_of, IsPreparing, IsDeedOf}}, proofs.Routes.{is_large, pages_asked}}
+use Rattle.pas_cache.proofs.Routes.{backs_only, deed_prepares}
+use Rattle.pas_answers.specs.{Answers.{records_of, said_by, wanted_by, IsGiven}, Calls.{PerformsMeant, MayAnswer, AnswersMeant, IsBlockOf, MayStand}}
+use Rattle.pas_answers.specs.{Guarding.{said_of_guard, TryEnds, try_steps, IsTried}, Keeping.{owed_by_keeper, MayTry, cost_of_try, TriesRequest, LowersAll}}
+use Rattle.pas_large.{proofs.{Finds.{of_directory, MadeOf}, Claims.{in_parts, span_in}, Gives.{run_is, back_events}}, specs.Claims.in_span}
+use Rattle.pas_guard.{proofs.Raises.{fits_find, raised_backs, raised_few, raised_leaves}, specs.{Books.{FitsBook, guards_in, size_of_book}, Seeks.seeking}}
+use Rattle.pas_guard.specs.{Raises.{RaiseRoom, RaiseSteps, Raises, IsRaised}, Sweeps.{is_over, sweeping, SweptOne, Swept, SweepSteps, Sweeps}}
+use Rattle.pas_guard.specs.declared.book.GuardBook.{GuardBook}
 use Rattle.pas_bits.specs.Runs.{in_run}
 use Rattle.pas_bitfit.proofs.Aligned.{stands_aligned}
-use Rattle.pas_profile.specs.{Blocks.address_of, Blocks.grain_of, Blocks.length_of, Classes.IsAlignment}
-use Rattle.pas_profile.proofs.Lists.{all_both, all_map}
 use Rattle.pas_scan.specs.Runs.{large_directory}
-use Rattle.pas_steps.specs.Kinds.{Only, returning, kind_of, is_in}
 use Rattle.pas_rights.specs.Gives.{give_steps}
-use Rattle.pas_large.specs.Claims.{in_span}
-use Rattle.pas_trace.specs.Reasons.{cost_of_size}
-use Rattle.pas_trace.proofs.Costs.{large_cost}
-use Rattle.pas_cache.specs.Serves.{Wanted, wanted_for, pages_of, IsPreparing, IsDeedOf}
-use Rattle.pas_cache.proofs.Routes.{is_large, pages_asked, backs_only, deed_prepares}
-use Rattle.pas_guard.specs.{Books.FitsBook, Books.guards_in, Books.size_of_book, Seeks.seeking}
-use Rattle.pas_guard.specs.Raises.{RaiseRoom, RaiseSteps, Raises, IsRaised}
-use Rattle.pas_guard.specs.Sweeps.{is_over, sweeping, SweptOne, Swept, SweepSteps, Sweeps}
-use Rattle.pas_guard.specs.declared.book.GuardBook.{GuardBook}
-use Rattle.pas_answers.specs.Guarding.{said_of_guard, TryEnds, try_steps, IsTried}
-use Rattle.pas_answers.specs.Keeping.{owed_by_keeper, MayTry, cost_of_try, TriesRequest, LowersAll}
-use Rattle.pas_records.specs.Rooms.{records_in, room_of, Records}
-use Rattle.pas_records.specs.declared.record.{Record.Record, Said.Said}
+use Rattle.pas_records.specs.{Rooms.{records_in, room_of, Records}, declared.record.{Record.Record, Said.Said}}
 
 -- ---- what the desk shows
 -- the events shown are those of each view, of which n were forgotten

@@ -1,21 +1,18 @@
 -- Which steps and records answer an operation, and how far a replay has come after an act.
 use Rattle.std.specs.Prelude.{ℕ, ◌+◌, ◌/◌, ◌%◌, ◌≡◌, ◌<◌, ◌≤◌, ◌==◌, ◌⊎◌, true, false, if◌then◌else◌, List, [], ◌∷◌, ◌++◌, map, max, reverse, Option, None}
-use Rattle.std.specs.Prelude.{Some, Result, Ok, Err, MatchResult}
-use Rattle.std.specs.List.{AllByRecursion}
-use Rattle.pas_profile.specs.declared.{directory.Directory.Directory, directory.Route.Route, profile.Profile.Profile, name.Name.Name, name.Block.Block}
-use Rattle.pas_profile.specs.declared.{word.Word.Word, event.Event.Event, event.FreeFault.FreeFault, event.Outcome.Outcome, event.FreeFault.TheVariants.Outside}
-use Rattle.pas_profile.specs.declared.{event.FreeFault.TheVariants.Unaligned, event.NoRoom.NoRoom, event.NoRoom.TheVariants.NoSpace}
-use Rattle.pas_profile.specs.declared.{event.NoRoom.TheVariants.Held, entry.Entry.Entry, guard.Guard.Guard}
+use Rattle.std.specs.{Prelude.{Some, Result, Ok, Err, MatchResult}, List.AllByRecursion}
+use Rattle.pas_profile.specs.declared.{directory.{Directory.Directory, Route.Route}, profile.Profile.Profile, name.{Name.Name, Block.Block}, word.Word.Word}
+use Rattle.pas_profile.specs.declared.event.{Event.Event, FreeFault.{FreeFault, TheVariants.{Outside, Unaligned}}, Outcome.Outcome, NoRoom.NoRoom}
+use Rattle.pas_profile.specs.{declared.{event.NoRoom.TheVariants.{NoSpace, Held}, entry.Entry.Entry, guard.Guard.Guard}, Blocks.{address_of, grain_of}}
+use Rattle.pas_profile.specs.{Blocks.length_of, Entries.{entry_of, sized_entry}}
 use Rattle.pas_bits.specs.Runs.{in_run}
-use Rattle.pas_profile.specs.{Blocks.address_of, Blocks.grain_of, Blocks.length_of, Entries.entry_of, Entries.sized_entry}
-use Rattle.pas_steps.specs.{Views.View, Views.KnowsDeed, Events.events_by, Lists.Whole, Lists.part, Desks.made, Desks.triples, Kinds.Only}
-use Rattle.pas_steps.specs.declared.step.{Made.Made, Step.TheVariants.Look, Step.Step}
-use Rattle.pas_trace.specs.declared.{plan.What.What, item.Request.Request}
-use Rattle.pas_trace.specs.declared.plan.What.TheVariants.{Alloc, Guarded, Free, FreeSized, Raw, RawSized, Remake, Flush, Stop, Tick, Pass, Idle}
+use Rattle.pas_steps.specs.{Views.{View, KnowsDeed}, Events.events_by, Lists.{Whole, part}, Desks.{made, triples}, Kinds.Only, declared.step.Made.Made}
+use Rattle.pas_steps.specs.declared.step.Step.{TheVariants.Look, Step}
+use Rattle.pas_trace.specs.declared.plan.What.{What, TheVariants.{Alloc, Guarded, Free, FreeSized, Raw, RawSized, Remake, Flush, Stop, Tick, Pass, Idle}}
+use Rattle.pas_trace.specs.declared.item.Request.{Request}
 pub use Rattle.pas_trace.specs.Named.{Named, named, standing_for, suits, request_for}
 use Rattle.pas_records.specs.declared.record.{Record.Record, Said.Said}
-use Rattle.pas_cache.specs.{Caches.Cached, Caches.AtRest, Changes.EmptiesLog, Changes.StopsEach, Kinds.allocating, Kinds.releasing, Calls.TakesEntry}
-use Rattle.pas_cache.specs.{Calls.RefusesName}
+use Rattle.pas_cache.specs.{Caches.{Cached, AtRest}, Changes.{EmptiesLog, StopsEach}, Kinds.{allocating, releasing}, Calls.{TakesEntry, RefusesName}}
 use Rattle.pas_cache.specs.Serves.{Wanted, wanted_for, ServesRequest, IsPreparing, IsPlaced, IsDeedOf}
 use Rattle.pas_answers.specs.PassRecords.{records_of_pass}
 

@@ -4,16 +4,12 @@ use Rattle.std.specs.Prelude.{Result, Ok, Err, MatchResult}
 use Rattle.pas_profile.specs.declared.{profile.Profile.Profile, event.NoRoom.NoRoom, name.Block.Block, entry.Entry.Entry}
 use Rattle.pas_steps.specs.{Views.View, Agreement.Agreed, Events.events_by, Lists.Whole, Desks.Standing, Kinds.Only, Unknown.unknown_pages}
 use Rattle.pas_steps.specs.declared.step.Made.{Made}
-use Rattle.pas_trace.specs.{Asked.request_in, Asked.freed_in, EveryPlan.is_asked, EveryPlan.IsRoomNamed}
-use Rattle.pas_trace.specs.declared.{plan.What.What, plan.Task.Task, item.Request.Request}
-use Rattle.pas_trace.specs.declared.plan.What.TheVariants.{Alloc, Guarded, Free, FreeSized, Raw, RawSized, Remake, Flush, Stop}
-use Rattle.pas_records.specs.Rooms.{records_in, room_of, Records}
-use Rattle.pas_records.specs.declared.record.Said.{Said}
-use Rattle.pas_cache.specs.{Caches.Cached, Caches.AtRest, Calls.Rests, Names.IsInRegion, Kinds.allocating}
-use Rattle.pas_cache.specs.Serves.{Wanted, ServesRequest, IsBlockFor, MakesAtMost}
-use Rattle.pas_answers.specs.Answers.{having, answer_of, Named, named, standing_for, IsFreed, IsAnswered, RefusalEnds, records_of, said_by}
-use Rattle.pas_answers.specs.{Fit.cost_of_what, Names.block_named}
-use Rattle.pas_answers.specs.declared.names.Names.{Names}
+use Rattle.pas_trace.specs.{Asked.{request_in, freed_in}, EveryPlan.{is_asked, IsRoomNamed}, declared.plan.What.{What, TheVariants.{Alloc, Guarded, Free}}}
+use Rattle.pas_trace.specs.declared.{plan.{What.TheVariants.{FreeSized, Raw, RawSized, Remake, Flush, Stop}, Task.Task}, item.Request.Request}
+use Rattle.pas_records.specs.{Rooms.{records_in, room_of, Records}, declared.record.Said.Said}
+use Rattle.pas_cache.specs.{Caches.{Cached, AtRest}, Calls.Rests, Names.IsInRegion, Kinds.allocating, Serves.{Wanted, ServesRequest, IsBlockFor, MakesAtMost}}
+use Rattle.pas_answers.specs.{Answers.{having, answer_of, Named, named, standing_for, IsFreed, IsAnswered, RefusalEnds, records_of, said_by}, Fit.cost_of_what}
+use Rattle.pas_answers.specs.{Names.block_named, declared.names.Names.Names}
 
 -- ---- the operation that asks its thread for this
 abbrev pub what_of : Task → What

@@ -1,12 +1,10 @@
 -- What the acts of a plan keep, one after the other, and how many events and records they may make.
 use Rattle.std.specs.Prelude.{ℕ, ◌+◌, ◌^◌, ◌<◌, ◌≤◌, ◌==◌, if◌then◌else◌, List, [], ◌∷◌, Option, None, Some, MatchOption}
 use Rattle.pas_profile.specs.declared.profile.Profile.{Profile}
-use Rattle.pas_trace.specs.Asked.{work_of, request_of, request_in, keeper_in, cost_of_task}
-use Rattle.pas_trace.specs.{Reasons.cost_of_size, EveryPlan.asked_after, EveryPlan.IsThread, EveryPlan.IsSoundTask}
-use Rattle.pas_trace.specs.declared.{item.Request.Request, plan.What.What, plan.Task.Task, plan.Work.Work, plan.Op.Op}
+use Rattle.pas_trace.specs.{Asked.{work_of, request_of, request_in, keeper_in, cost_of_task}, Reasons.cost_of_size, EveryPlan.{asked_after, IsThread}}
+use Rattle.pas_trace.specs.{EveryPlan.IsSoundTask, declared.{item.Request.Request, plan.{What.What, Task.Task, Work.Work, Op.Op}}, Acts.{Act, Operates, Guards}}
+use Rattle.pas_trace.specs.Acts.{Settles, Ticks, MakesPass, ReadsEpoch, StopsIdle, MarksPhase, Wakes, MarksClose, Ends, Lowers, operation_in}
 pub use Rattle.pas_trace.specs.EveryPlan.{IsBelow, AreBelow}
-use Rattle.pas_trace.specs.Acts.{Act, Operates, Guards, Settles, Ticks, MakesPass, ReadsEpoch, StopsIdle, MarksPhase, Wakes, MarksClose, Ends, Lowers}
-use Rattle.pas_trace.specs.Acts.{operation_in}
 
 -- A thread's operation can be replayed after those that asked for these names: it may follow them, and a name that it asks for is below the limit.
 abbrev pub IsFitTask : Profile → ℕ → List ℕ → Task → Type 0

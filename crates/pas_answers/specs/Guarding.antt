@@ -1,10 +1,7 @@
 -- Guarded requests in a replay: what a keeper does for one, and at the close.
-use Rattle.std.specs.Prelude.{ℕ, ◌+◌, ◌-◌, ◌*◌, ◌/◌, ◌≡◌, true, false, List, [], ◌∷◌, ◌++◌, length, Option, None, Some}
-use Rattle.std.specs.List.{AllByRecursion}
-use Rattle.pas_profile.specs.Blocks.{address_of}
-use Rattle.pas_profile.specs.declared.{name.Block.Block, profile.Profile.Profile, guard.Guard.Guard}
-use Rattle.pas_steps.specs.{Desks.triples, Events.events_by, Views.View}
-use Rattle.pas_steps.specs.declared.step.Made.{Made}
+use Rattle.std.specs.{Prelude.{ℕ, ◌+◌, ◌-◌, ◌*◌, ◌/◌, ◌≡◌, true, false, List, [], ◌∷◌, ◌++◌, length, Option, None, Some}, List.AllByRecursion}
+use Rattle.pas_profile.specs.{Blocks.address_of, declared.{name.Block.Block, profile.Profile.Profile, guard.Guard.Guard}}
+use Rattle.pas_steps.specs.{Desks.triples, Events.events_by, Views.View, declared.step.Made.Made}
 use Rattle.pas_trace.specs.declared.item.Request.{Request}
 use Rattle.pas_records.specs.declared.record.{Record.Record, Said.Said}
 use Rattle.pas_cache.specs.Serves.{IsDeedOf, pages_of}

@@ -1,18 +1,15 @@
 -- The indexes of the heaps in a replay: which runs of pages they name, what they hold after each act, and when what they name serves.
 use Rattle.std.specs.Prelude.{ℕ, ◌≡◌, Bool, true, false, List, [], ◌∷◌, Option, None, Some, MatchOption}
-use Rattle.pas_profile.specs.Requests.{route_in}
-use Rattle.pas_profile.specs.declared.{directory.Route.Route, name.Block.Block, profile.Profile.Profile}
+use Rattle.pas_profile.specs.{Requests.route_in, declared.{directory.Route.Route, name.Block.Block, profile.Profile.Profile}}
 use Rattle.pas_steps.specs.Lists.{Whole, part}
 use Rattle.pas_large.specs.Doors.{Indexes, no_ranges, found_in, cut_in, added_in}
 use Rattle.pas_free_log.specs.declared.noting.EndedRun.{EndedRun}
-use Rattle.pas_trace.specs.declared.{plan.What.What, plan.What.TheVariants.Alloc, plan.What.TheVariants.Guarded, plan.What.TheVariants.Remake}
-use Rattle.pas_trace.specs.declared.{item.Request.Request, plan.Op.Op}
-use Rattle.pas_trace.specs.Acts.{Act, Operates, Guards, Settles}
+use Rattle.pas_trace.specs.{declared.{plan.{What.{What, TheVariants.{Alloc, Guarded, Remake}}, Op.Op}, item.Request.Request}, Acts.{Act, Operates, Guards}}
+use Rattle.pas_trace.specs.{Acts.Settles, Asked.request_in}
 use Rattle.pas_cache.specs.{Calls.IsNamed, Refusals.TakesWhatIsNamed, Serves.pages_of}
-use Rattle.pas_answers.specs.Answers.{Having, having, Answer, Named, standing_for, wanted_by, suits, request_for, IsAnswered, Progress}
-use Rattle.pas_answers.specs.{Calls.block_behind, Calls.freed_by, Guarding.after_trying, Refusals.request_in_answer, Ways.Way, Ways.InOrder, Ways.OnThreads}
-use Rattle.pas_trace.specs.Asked.{request_in}
-use Rattle.pas_answers.specs.Reaching.{AnswersTried, AnswersGuarded, Advances, Reaches}
+use Rattle.pas_answers.specs.{Answers.{Having, having, Answer, Named, standing_for, wanted_by, suits, request_for, IsAnswered, Progress}, Calls.block_behind}
+use Rattle.pas_answers.specs.{Calls.freed_by, Guarding.after_trying, Refusals.request_in_answer, Ways.{Way, InOrder, OnThreads}, Reaching.AnswersTried}
+use Rattle.pas_answers.specs.Reaching.{AnswersGuarded, Advances, Reaches}
 
 -- ---- which requests are made
 -- The request that an operation makes of a heap, where the name that it frees or reallocates stands for this: a reallocation makes one in the heap of the block,

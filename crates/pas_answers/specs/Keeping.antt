@@ -3,13 +3,10 @@ use Rattle.std.specs.Prelude.{ℕ, ◌+◌, ◌≤◌, ◌<◌, ◌≡◌, List,
 use Rattle.pas_profile.specs.declared.{name.Block.Block, profile.Profile.Profile, guard.Guard.Guard}
 use Rattle.pas_steps.specs.{Agreement.Agreed, Calls.Calls, Desks.Standing, Events.events_by, Lists.Whole, Unknown.unknown_pages, Views.View}
 use Rattle.pas_steps.specs.declared.step.Made.{Made}
-use Rattle.pas_trace.specs.Reasons.{cost_of_size}
-use Rattle.pas_trace.specs.declared.item.Request.{Request}
-use Rattle.pas_guard.specs.Books.{FitsBook, size_of_book, guards_in}
-use Rattle.pas_guard.specs.declared.book.GuardBook.{GuardBook}
+use Rattle.pas_trace.specs.{Reasons.cost_of_size, declared.item.Request.Request}
+use Rattle.pas_guard.specs.{Books.{FitsBook, size_of_book, guards_in}, declared.book.GuardBook.GuardBook}
 use Rattle.pas_answers.specs.Guarding.{try_steps, IsTried, IsLowered}
-use Rattle.pas_records.specs.Rooms.{records_in, room_of, Records}
-use Rattle.pas_records.specs.declared.record.Record.{Record}
+use Rattle.pas_records.specs.{Rooms.{records_in, room_of, Records}, declared.record.Record.Record}
 
 -- ---- what is owed in the end: a keeper may still make a deed of each page that it doesn't know, and says of each guard that it is lowered
 abbrev pub owed_by_keeper : Profile → List Guard → View → ℕ

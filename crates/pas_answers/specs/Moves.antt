@@ -1,13 +1,9 @@
 -- How a block gets another size.
 use Rattle.std.specs.Prelude.{ℕ, ◌-◌, ◌≡◌, true, false, nat_le, if◌then◌else◌, List, [], ◌++◌, length, Option, Result, Ok, Err}
-use Rattle.pas_profile.specs.declared.{event.NoRoom.NoRoom, name.Block.Block, profile.Profile.Profile, entry.Entry.Entry}
-use Rattle.pas_steps.specs.{Desks.Standing, Kinds.Only, Views.View, Events.events_by}
-use Rattle.pas_steps.specs.declared.step.Made.{Made}
-use Rattle.pas_cache.specs.{Caches.Cached, Caches.AtRest, Kinds.allocating}
-use Rattle.pas_profile.specs.Entries.{entry_of}
-use Rattle.pas_cache.specs.Calls.{MayRequest, Rests, TakesEntry, IsNamed}
-use Rattle.pas_cache.specs.Serves.{Wanted, ServesRequest, IsBlockFor, MakesAtMost}
-use Rattle.pas_cache.specs.declared.moving.Moved.{Moved, TheVariants.Kept, TheVariants.New}
+use Rattle.pas_profile.specs.{declared.{event.NoRoom.NoRoom, name.Block.Block, profile.Profile.Profile, entry.Entry.Entry}, Entries.entry_of}
+use Rattle.pas_steps.specs.{Desks.Standing, Kinds.Only, Views.View, Events.events_by, declared.step.Made.Made}
+use Rattle.pas_cache.specs.{Caches.{Cached, AtRest}, Kinds.allocating, Calls.{MayRequest, Rests, TakesEntry, IsNamed}, Serves.{Wanted, ServesRequest}}
+use Rattle.pas_cache.specs.{Serves.{IsBlockFor, MakesAtMost}, declared.moving.Moved.{Moved, TheVariants.{Kept, New}}}
 use Rattle.pas_trace.specs.Reasons.{cost_of_size}
 use Rattle.pas_answers.specs.Answers.{suits, RefusalEnds}
 

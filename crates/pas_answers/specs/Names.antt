@@ -1,7 +1,6 @@
 -- What the names of a trace stand for, in the replay's table.
 use Rattle.std.specs.Prelude.{ℕ, ◌+◌, ◌*◌, ◌^◌, ◌%◌, ◌<◌, ◌≤◌, ◌≡◌, ◌==◌, if◌then◌else◌, Option, None, Some, MatchOption, slice_index_or, length}
-use Rattle.pas_profile.specs.Blocks.{address_of}
-use Rattle.pas_profile.specs.declared.name.Block.{Block}
+use Rattle.pas_profile.specs.{Blocks.address_of, declared.name.Block.Block}
 use Rattle.pas_answers.specs.declared.names.{Meaning.Meaning, Names.Names}
 
 -- the block that begins at this grain of the page, where there is such a page; turn and number of grains stand in two parts

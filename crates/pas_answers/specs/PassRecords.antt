@@ -1,8 +1,6 @@
 -- What a pass says, record by record.
-use Rattle.std.specs.Prelude.{ℕ, List, [], ◌∷◌, map}
-use Rattle.std.specs.List.{flat_map}
-use Rattle.pas_profile.specs.declared.event.{Event.Event, Outcome.Outcome}
-use Rattle.pas_profile.specs.declared.event.Outcome.TheVariants.{Unbacked, Bare, Young, InUse, NotOffered}
+use Rattle.std.specs.{Prelude.{ℕ, List, [], ◌∷◌, map}, List.flat_map}
+use Rattle.pas_profile.specs.declared.event.{Event.Event, Outcome.{Outcome, TheVariants.{Unbacked, Bare, Young, InUse, NotOffered}}}
 use Rattle.pas_records.specs.declared.record.{Record.Record, Said.Said}
 
 -- The record of what a pass of actor k came to on the page, where the pass read this epoch. A page that was unbacked has the line of its event, and

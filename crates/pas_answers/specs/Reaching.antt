@@ -1,17 +1,15 @@
 -- A REPLAY: acts that are answered one after the other, from wherever a replay stands.
 use Rattle.std.specs.Prelude.{ℕ, ◌≡◌, ◌⊎◌, List, [], ◌∷◌, Option, None, Some}
 use Rattle.pas_profile.specs.declared.{profile.Profile.Profile, event.Outcome.Outcome, name.Block.Block}
-use Rattle.pas_steps.specs.Lists.{part}
-use Rattle.pas_steps.specs.declared.step.Made.{Made}
+use Rattle.pas_steps.specs.{Lists.part, declared.step.Made.Made}
 use Rattle.pas_records.specs.declared.record.Record.{Record}
 use Rattle.pas_cache.specs.Caches.{Cached}
 use Rattle.pas_scavenger.specs.Passes.{PassSteps}
 use Rattle.pas_trace.specs.Acts.{Act, Operates, Guards, Settles, Ticks, MakesPass, ReadsEpoch, StopsIdle, MarksPhase, Wakes, MarksClose, Ends, Lowers}
-use Rattle.pas_trace.specs.declared.{item.Request.Request, plan.Op.Op}
-use Rattle.pas_trace.specs.Asked.{request_in}
-use Rattle.pas_answers.specs.Guarding.{Tried, IsTried, after_trying, after_giving, IsLowered, after_lowering}
-use Rattle.pas_answers.specs.Answers.{Answer, having, IsAnswered, IsStopped, Progress, with_records, after_answer, after_settling, after_wake, after_reading}
-use Rattle.pas_answers.specs.Answers.{after_tick, after_pass, after_stop, stopped, IsIdleFor}
+use Rattle.pas_trace.specs.{declared.{item.Request.Request, plan.Op.Op}, Asked.request_in}
+use Rattle.pas_answers.specs.{Guarding.{Tried, IsTried, after_trying, after_giving, IsLowered, after_lowering}, Answers.{Answer, having, IsAnswered, IsStopped}}
+use Rattle.pas_answers.specs.Answers.{Progress, with_records, after_answer, after_settling, after_wake, after_reading, after_tick, after_pass, after_stop}
+use Rattle.pas_answers.specs.Answers.{stopped, IsIdleFor}
 
 -- A thread's operation takes a replay from p to p'.
 abbrev pub AnswersOp : Profile → Op → Progress → Progress → Type 0

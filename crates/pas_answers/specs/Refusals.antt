@@ -1,17 +1,14 @@
 -- Refusals in a replay whose pieces stand together in the list of all steps: each is true of the whole state.
-use Rattle.std.specs.Prelude.{ℕ, ◌⊎◌, List, [], ◌∷◌, ◌++◌, Option, None, Some, MatchOption, MatchResult}
-use Rattle.std.proofs.Common.{inl, inr}
+use Rattle.std.{specs.Prelude.{ℕ, ◌⊎◌, List, [], ◌∷◌, ◌++◌, Option, None, Some, MatchOption, MatchResult}, proofs.Common.{inl, inr}}
 use Rattle.pas_profile.specs.declared.{name.Block.Block, profile.Profile.Profile}
-use Rattle.pas_steps.specs.{Desks.triples, Lists.Whole, Lists.part}
-use Rattle.pas_trace.specs.declared.{plan.What.What, item.Request.Request, plan.Op.Op}
-use Rattle.pas_trace.specs.declared.plan.What.TheVariants.{Alloc, Guarded, Free, FreeSized, Raw, RawSized, Remake, Flush, Stop, Tick, Pass, Idle}
+use Rattle.pas_steps.specs.{Desks.triples, Lists.{Whole, part}}
+use Rattle.pas_trace.specs.declared.plan.What.{What, TheVariants.{Alloc, Guarded, Free, FreeSized, Raw, RawSized, Remake, Flush, Stop, Tick, Pass, Idle}}
+use Rattle.pas_trace.specs.{declared.{plan.Op.Op, item.Request.Request}, Acts.{Act, Operates, Guards, Settles, Ticks, MakesPass, ReadsEpoch, StopsIdle}}
+use Rattle.pas_trace.specs.{Acts.{MarksPhase, Wakes, MarksClose, Ends, Lowers}, Asked.request_in}
 use Rattle.pas_cache.specs.Refusals.{IsTrulyRefused}
-use Rattle.pas_trace.specs.Acts.{Act, Operates, Guards, Settles, Ticks, MakesPass, ReadsEpoch, StopsIdle, MarksPhase, Wakes, MarksClose, Ends, Lowers}
 use Rattle.pas_answers.specs.Answers.{Having, having, Answer, standing_for, wanted_by, request_for, IsServed, IsKept, IsReplaced, IsRemadeBy, IsAnswered}
-use Rattle.pas_answers.specs.Answers.{Progress}
-use Rattle.pas_trace.specs.Asked.{request_in}
-use Rattle.pas_answers.specs.{Guarding.after_trying, Ways.Way, Ways.InOrder, Ways.OnThreads}
-use Rattle.pas_answers.specs.Reaching.{AnswersTried, AnswersGuarded, Advances, Reaches}
+use Rattle.pas_answers.specs.{Answers.Progress, Guarding.after_trying, Ways.{Way, InOrder, OnThreads}, Reaching.{AnswersTried, AnswersGuarded, Advances}}
+use Rattle.pas_answers.specs.Reaching.{Reaches}
 
 -- ---- the request in an answer
 -- a request that actor k made for an operation, and how it was answered

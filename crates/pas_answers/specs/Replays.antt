@@ -1,20 +1,17 @@
 -- What a replay shows.
 use Rattle.std.specs.Prelude.{ℕ, ◌<◌, ◌≡◌, List, [], Some, map}
-use Rattle.pas_profile.specs.Profiles.{IsDirectoryOf, IsWordOf}
-use Rattle.pas_profile.specs.declared.{profile.Profile.Profile, word.Word.Word, directory.Directory.Directory, guard.Guard.Guard}
+use Rattle.pas_profile.specs.{Profiles.{IsDirectoryOf, IsWordOf}, declared.{profile.Profile.Profile, word.Word.Word, directory.Directory.Directory}}
+use Rattle.pas_profile.specs.declared.guard.Guard.{Guard}
 use Rattle.pas_machine.specs.{Machine.Run, State.deed_in}
-use Rattle.pas_steps.specs.{Views.KnowsDeed, Clear.HasNothing, States.profile_of, States.word_in}
-use Rattle.pas_steps.specs.Lists.{Whole, part, word_after, visible, Legal}
+use Rattle.pas_steps.specs.{Views.KnowsDeed, Clear.HasNothing, States.{profile_of, word_in}, Lists.{Whole, part, word_after, visible, Legal}}
 use Rattle.pas_steps.specs.declared.state.State.{State}
-use Rattle.pas_trace.specs.Plans.{ops_of}
-use Rattle.pas_trace.specs.declared.plan.{Op.Op, Plan.Plan}
-use Rattle.pas_records.specs.Rests.{AreStamped, AreTrueMarks}
-use Rattle.pas_records.specs.declared.record.Record.{Record}
+use Rattle.pas_trace.specs.{Plans.ops_of, declared.plan.{Op.Op, Plan.Plan}}
+use Rattle.pas_records.specs.{Rests.{AreStamped, AreTrueMarks}, declared.record.Record.Record}
 use Rattle.pas_cache.specs.Caches.{Cached}
 use Rattle.pas_guard.specs.Keepers.{Call, MakesCalls}
 pub use Rattle.pas_trace.specs.Acts.{region_of, threads_of, keepers_of, acts_of_plan}
-use Rattle.pas_answers.specs.{Answers.Caches, Answers.Books, Answers.Progress, Reaching.Reaches, Phases.AreInPhases, Indexes.GoByIndexes, Stages.Stage}
-use Rattle.pas_answers.specs.{Stages.stages_of, Stages.GoByStages, Refusals.AreRefusalsTrue, Rests.RestBetween, Ways.Way, Ways.IsOneOrder, Ways.arranged}
+use Rattle.pas_answers.specs.{Answers.{Caches, Books, Progress}, Reaching.Reaches, Phases.AreInPhases, Indexes.GoByIndexes, Stages.{Stage, stages_of}}
+use Rattle.pas_answers.specs.{Stages.GoByStages, Refusals.AreRefusalsTrue, Rests.RestBetween, Ways.{Way, IsOneOrder, arranged}}
 
 -- the phases of a plan, as lists of operations
 abbrev pub phases_of : Plan → List (List Op)

@@ -1,11 +1,11 @@
 -- ACTORS BETWEEN TWO ACTS: all are at rest.
 use Rattle.std.specs.Prelude.{ℕ, ◌<◌, ◌≤◌, List, [], ◌∷◌}
 use Rattle.pas_profile.specs.declared.profile.Profile.{Profile}
-use Rattle.pas_steps.specs.{Clear.HasNothing, Lists.Whole, Lists.part}
+use Rattle.pas_steps.specs.{Clear.HasNothing, Lists.{Whole, part}}
 use Rattle.pas_guard.specs.Books.{FitsBook}
 use Rattle.pas_cache.specs.Caches.{AtRest}
 use Rattle.pas_trace.specs.Acts.{Act}
-use Rattle.pas_answers.specs.{Answers.Caches, Answers.Books, Answers.Progress, Reaching.Reaches, Ways.Way, Ways.InOrder, Ways.OnThreads}
+use Rattle.pas_answers.specs.{Answers.{Caches, Books, Progress}, Reaching.Reaches, Ways.{Way, InOrder, OnThreads}}
 
 -- Each of so many threads is at rest with its cache. The actors of the region behind them are keepers: each holds exactly the outer pages of the guards that are
 -- up in its book, has no right, and is clear. The scavenger has nothing.

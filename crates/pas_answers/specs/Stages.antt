@@ -4,8 +4,7 @@ use Rattle.std.specs.Prelude.{ℕ, ◌+◌, ◌-◌, nat_le, ◌≡◌, ◌==◌
 use Rattle.pas_profile.specs.declared.profile.Profile.{Profile}
 use Rattle.pas_steps.specs.Lists.{Whole}
 use Rattle.pas_core.specs.Orders.{steps_by}
-use Rattle.pas_trace.specs.Acts.{Act, Wakes, MarksPhase, is_active, active_threads, idle_threads, acts_of_ops, close_acts}
-use Rattle.pas_trace.specs.declared.plan.Op.{Op}
+use Rattle.pas_trace.specs.{Acts.{Act, Wakes, MarksPhase, is_active, active_threads, idle_threads, acts_of_ops, close_acts}, declared.plan.Op.Op}
 use Rattle.pas_answers.specs.{Answers.Progress, Reaching.Reaches}
 
 -- ---- whose hands an actor is in

@@ -3,9 +3,8 @@ use Rattle.std.specs.Prelude.{ℕ, ◌+◌, ◌≡◌, List, [], ◌∷◌, ◌+
 use Rattle.pas_profile.specs.declared.event.Outcome.{Outcome}
 use Rattle.pas_records.specs.declared.record.{Record.Record, Said.Said}
 use Rattle.pas_scavenger.specs.Passes.{Passes, unbacks_in}
-use Rattle.pas_steps.specs.{Calls.Calls, Clear.HasNothing, Desks.Standing, Desks.made, Effects.new_value, Events.events_by, Kinds.Kinds, Kinds.Ticking}
-use Rattle.pas_steps.specs.{Kinds.Only, Views.View, Views.known_epoch}
-use Rattle.pas_steps.specs.declared.step.{Made.Made, Step.TheVariants.Tick}
+use Rattle.pas_steps.specs.{Calls.Calls, Clear.HasNothing, Desks.{Standing, made}, Effects.new_value, Events.events_by, Kinds.{Kinds, Ticking, Only}}
+use Rattle.pas_steps.specs.{Views.{View, known_epoch}, declared.step.{Made.Made, Step.TheVariants.Tick}}
 use Rattle.pas_answers.specs.PassRecords.{records_of_pass, events_in}
 
 abbrev pub ticking : Kinds

@@ -1,9 +1,8 @@
 -- The two ways in which a plan is replayed: in the order of the text, or with each thread's operations in a thread of their own. What answers the
 -- plan is the same in both. They differ in the order of the records in the text, and in what is known of the order of the steps.
-use Rattle.std.specs.Prelude.{ℕ, zero, suc, ◌+◌, ◌≡◌, ◌==◌, Bool, true, false, if◌then◌else◌, List, [], ◌∷◌, ◌++◌}
-use Rattle.std.specs.List.{AllByRecursion}
+use Rattle.std.specs.{Prelude.{ℕ, zero, suc, ◌+◌, ◌≡◌, ◌==◌, Bool, true, false, if◌then◌else◌, List, [], ◌∷◌, ◌++◌}, List.AllByRecursion}
 use Rattle.pas_profile.specs.declared.event.Event.{Event}
-use Rattle.pas_steps.specs.{Lists.Whole, Lists.part, Events.actor_of}
+use Rattle.pas_steps.specs.{Lists.{Whole, part}, Events.actor_of}
 use Rattle.pas_records.specs.declared.record.Record.{Record}
 
 pub data Way : Type 0 where

@@ -5,10 +5,9 @@ ghost use Rattle.pas_records.specs.Rooms.{records_in, room_of};
 ghost use Rattle.pas_steps.specs.Desks.{CanCall};
 ghost use Rattle.pas_cache.specs.{Caches.cached, Calls.Frees};
 ghost use Rattle.pas_trace.specs.EveryPlan.{IsRoomNamed};
-ghost use Rattle.pas_answers.specs.{Answers.said_of_room, Answers.entry_with, Fit.IsFitWhat, Indexes.IsNamedFor, Indexes.request_made};
-ghost use Rattle.pas_profile.specs.Profiles.{IsAdmitted};
-ghost use Rattle.pas_profile.specs.declared.name.Block.{Block as TheBlock};
-ghost use Rattle.pas_answers.specs.Calls.{what_of, IsBlockOf, MayStand, MayPerform, PerformsMeant, FreesOne, MayAnswer, AnswersMeant};
+ghost use Rattle.pas_answers.specs.{Answers.{said_of_room, entry_with}, Fit.IsFitWhat, Indexes.{IsNamedFor, request_made}, Calls.{what_of, IsBlockOf}};
+ghost use Rattle.pas_answers.specs.Calls.{MayStand, MayPerform, PerformsMeant, FreesOne, MayAnswer, AnswersMeant};
+ghost use Rattle.pas_profile.specs.{Profiles.IsAdmitted, declared.name.Block.Block as TheBlock};
 
 use crate::remaking::Remake;
 use pas_cache::{Moved, ThreadCache};

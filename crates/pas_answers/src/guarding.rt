@@ -2,8 +2,7 @@
 ghost use Rattle.std.specs.Prelude.{◌≡◌, ◌≤◌, ◌<◌, ◌+◌, ◌-◌, ◌/◌};
 ghost use Rattle.pas_steps.specs.Desks.{CanCall};
 ghost use Rattle.pas_profile.specs.Profiles.{IsAdmitted};
-ghost use Rattle.pas_answers.specs.Calls.{MayStand};
-ghost use Rattle.pas_answers.specs.Keeping.{MayTry, TriesRequest, MayLowerAll, LowersAll};
+ghost use Rattle.pas_answers.specs.{Calls.MayStand, Keeping.{MayTry, TriesRequest, MayLowerAll, LowersAll}};
 
 use crate::answering::push_events;
 use pas_guard::GuardBook;

@@ -1,14 +1,13 @@
 //! What follows for the guards of a replay, and for guarded requests.
 ghost use Rattle.std.specs.Prelude.{ℕ, ◌+◌, ◌<◌, ◌≤◌, ◌≡◌, List, ◌∷◌, ◌++◌, length, Option, Result};
-ghost use Rattle.pas_profile.specs.Profiles.{IsValid};
-ghost use Rattle.pas_profile.specs.declared.{event.NoRoom.NoRoom, name.Block.Block, profile.Profile.Profile, guard.Guard.Guard as TheGuard};
-ghost use Rattle.pas_steps.specs.{Lists.Triple, Lists.Whole, Lists.part, Past.Always, Views.View};
+ghost use Rattle.pas_profile.specs.{Profiles.IsValid, declared.{event.NoRoom.NoRoom, name.Block.Block, profile.Profile.Profile, guard.Guard.Guard as TheGuard}};
+ghost use Rattle.pas_steps.specs.{Lists.{Triple, Whole, part}, Past.Always, Views.View};
 ghost use Rattle.pas_records.specs.declared.record.Record.{Record};
 ghost use Rattle.pas_trace.specs.declared.{item.Request.Request, plan.Plan.Plan};
 ghost use Rattle.pas_cache.specs.{Caches.Cached, Calls.AllocatesPages};
 ghost use Rattle.pas_guard.specs.Keepers.{PutsNoneOf, GivesGuarded, StandsThrough};
-ghost use Rattle.pas_answers.specs.{Answers.wanted_by, Replays.IsReplay, Replays.region_of, Replays.threads_of, Ways.Way};
-ghost use Rattle.pas_answers.specs.Guarding.{Tried, try_steps, guarded_steps, IsTried};
+ghost use Rattle.pas_answers.specs.{Answers.wanted_by, Replays.{IsReplay, region_of, threads_of}, Ways.Way, Guarding.{Tried, try_steps, guarded_steps}};
+ghost use Rattle.pas_answers.specs.Guarding.{IsTried};
 
 use pas_guard::laws::outer_pages_stay_bare;
 use pas_steps::Desk;

@@ -3,7 +3,7 @@ ghost use Rattle.std.specs.Prelude.{◌≡◌, ◌<◌, ◌+◌, ◌-◌, ◌/�
 ghost use Rattle.pas_profile.specs.Profiles.{IsAdmitted};
 ghost use Rattle.pas_steps.specs.Desks.{CanCall};
 ghost use Rattle.pas_cache.specs.{Caches.cached, Names.IsInRegion, Serves.wanted_for};
-ghost use Rattle.pas_answers.specs.{Answers.suits as is_suited, Moves.MayMove, Moves.Moves};
+ghost use Rattle.pas_answers.specs.{Answers.suits as is_suited, Moves.{MayMove, Moves}};
 
 use pas_cache::{Moved, ThreadCache};
 use pas_large::Door;

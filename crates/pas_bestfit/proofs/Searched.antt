@@ -1,13 +1,10 @@
 -- The search of the free runs of a page for the best one.
 use Rattle.std.proofs.Common.{◌≡◌, ℕ, ◌+◌, ◌*◌, ◌<◌, ◌≤◌, ◌⊎◌, Option, None, Some, MatchOption, Ok, Err, Result, MatchResult, Bool, inl, inr, subst, arith}
 use Rattle.std.proofs.lemmas.Bool.{cases_lt}
-use Rattle.pas_bits.specs.Runs.{IsFreeRun, IsNextRun, HasNoRunFrom}
-use Rattle.pas_bits.specs.declared.free_runs.FreeRun.{FreeRun}
-use Rattle.pas_bits.proofs.FreeRuns.{same_run, lies_in_run}
+use Rattle.pas_bits.{specs.{Runs.{IsFreeRun, IsNextRun, HasNoRunFrom}, declared.free_runs.FreeRun.FreeRun}, proofs.FreeRuns.{same_run, lies_in_run}}
 use Rattle.pas_profile.specs.declared.{event.NoRoom.NoRoom, name.Block.Block}
 use Rattle.pas_steps.specs.{Desks.Standing, Evidence.Readings}
-use Rattle.pas_bestfit.specs.Allocates.{grains_for, GivesBest, Allocates}
-use Rattle.pas_bestfit.specs.Bests.{HasNoRun, IsBetter, IsNoBetter, IsPreferred}
+use Rattle.pas_bestfit.specs.{Allocates.{grains_for, GivesBest, Allocates}, Bests.{HasNoRun, IsBetter, IsNoBetter, IsPreferred}}
 
 -- ---- the policy
 -- a run serves better than all that one serves no worse than, which is worse itself

@@ -1,11 +1,9 @@
 -- The rank of a page, and the block of the best page.
-use Rattle.std.proofs.Common.{◌≡◌, ℕ, ◌+◌, ◌-◌, ◌*◌, ◌≤◌, Result, MatchResult, Bool, inl, inr, sym, ◌∙◌, subst, arith, true≢false}
-use Rattle.std.proofs.lemmas.Bool.{cases_lt}
-use Rattle.pas_bits.specs.declared.mask.Mask4.{Mask4}
-use Rattle.pas_bits.specs.Masks.{is_set, IsRunEnd}
+use Rattle.std.proofs.{Common.{◌≡◌, ℕ, ◌+◌, ◌-◌, ◌*◌, ◌≤◌, Result, MatchResult, Bool, inl, inr, sym, ◌∙◌, subst, arith, true≢false}, lemmas.Bool.cases_lt}
+use Rattle.pas_bits.specs.{declared.mask.Mask4.Mask4, Masks.{is_set, IsRunEnd}}
 use Rattle.pas_profile.specs.declared.{event.NoRoom.NoRoom, name.Block.Block}
 use Rattle.pas_steps.specs.Desks.{Standing}
-use Rattle.pas_bestfit.specs.{Allocates.grains_for, Bests.IsBestFit, Bests.IsNoBetter, Region.AllocatesInRegion, Region.GivesInRegion, Region.IsShortest}
+use Rattle.pas_bestfit.specs.{Allocates.grains_for, Bests.{IsBestFit, IsNoBetter}, Region.{AllocatesInRegion, GivesInRegion, IsShortest}}
 use Rattle.pas_bestfit.proofs.Searched.{room_of}
 
 -- a run ends where the first clear bit comes

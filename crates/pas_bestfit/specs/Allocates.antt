@@ -1,7 +1,7 @@
 -- The allocation of a block at the best place.
 use Rattle.std.specs.Prelude.{ℕ, ◌+◌, ◌*◌, ◌/◌, ◌≡◌, max, Bool, Result, MatchResult}
 use Rattle.pas_search.specs.{Allocates.AllocatesRun, Placements.placed}
-use Rattle.pas_profile.specs.declared.{directory.Directory.Directory, directory.Kind.Kind, event.NoRoom.NoRoom, name.Block.Block}
+use Rattle.pas_profile.specs.declared.{directory.{Directory.Directory, Kind.Kind}, event.NoRoom.NoRoom, name.Block.Block}
 use Rattle.pas_steps.specs.Desks.{Standing}
 use Rattle.pas_bestfit.specs.Bests.{best_fit}
 

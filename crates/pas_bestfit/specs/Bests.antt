@@ -1,8 +1,6 @@
 -- The shortest free run of a page that is long enough.
-use Rattle.std.specs.Prelude.{ℕ, ◌+◌, ◌<◌, ◌≤◌, ◌≡◌, ◌⊎◌, Option, MatchOption, refl}
-use Rattle.std.proofs.Common.{arith}
-use Rattle.pas_bits.specs.Runs.{AreFree, IsFreeRun}
-use Rattle.pas_bits.specs.declared.free_runs.FreeRun.{FreeRun}
+use Rattle.std.{specs.Prelude.{ℕ, ◌+◌, ◌<◌, ◌≤◌, ◌≡◌, ◌⊎◌, Option, MatchOption, refl}, proofs.Common.arith}
+use Rattle.pas_bits.specs.{Runs.{AreFree, IsFreeRun}, declared.free_runs.FreeRun.FreeRun}
 use Rattle.pas_search.specs.Placements.{Placement, IsPlacement, run_of}
 use Rattle.pas_profile.specs.declared.directory.Kind.{Kind}
 use Rattle.pas_steps.specs.Evidence.{Readings}

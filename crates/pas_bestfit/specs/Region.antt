@@ -1,11 +1,10 @@
 -- The shortest free run that is long enough, of all offered pages.
-use Rattle.std.specs.Prelude.{ℕ, ◌+◌, ◌*◌, ◌<◌, ◌≤◌, ◌≡◌, Bool, Option, None, Some, MatchOption, Result, MatchResult}
-use Rattle.std.proofs.Common.{arith, sym, ◌∙◌}
+use Rattle.std.{specs.Prelude.{ℕ, ◌+◌, ◌*◌, ◌<◌, ◌≤◌, ◌≡◌, Bool, Option, None, Some, MatchOption, Result, MatchResult}, proofs.Common.{arith, sym, ◌∙◌}}
 use Rattle.pas_bits.specs.Runs.{IsFreeRun}
-use Rattle.pas_search.specs.{ByRank.AllocatesByRank, Placements.placed, Ranks.Measure, Ranks.IsOfGrains}
+use Rattle.pas_search.specs.{ByRank.AllocatesByRank, Placements.placed, Ranks.{Measure, IsOfGrains}}
 use Rattle.pas_profile.specs.declared.{event.NoRoom.NoRoom, name.Block.Block}
 use Rattle.pas_steps.specs.{Desks.Standing, Evidence.Readings}
-use Rattle.pas_bestfit.specs.{Allocates.bestfit_directory, Allocates.grains_for, Bests.HasNoRun, Bests.best_fit}
+use Rattle.pas_bestfit.specs.{Allocates.{bestfit_directory, grains_for}, Bests.{HasNoRun, best_fit}}
 
 -- some free run of the page has just so many grains, which are enough, and none that is long enough is shorter
 pub record IsShortest (grains : ℕ) (r : Readings) (n : ℕ) : Type 0 where

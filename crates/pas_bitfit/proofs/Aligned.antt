@@ -1,8 +1,7 @@
 -- Where the block of a run stands, and how long it is.
 use Rattle.std.proofs.Common.{◌≡◌, ℕ, ◌+◌, ◌*◌, ◌/◌, ◌%◌, ◌==◌, Bool, true, false, ◌||◌, not, refl, ap, sym, ◌∙◌, arith, nat_lt, eq-eqb, eqb-true}
 use Rattle.std.proofs.Math.Nat.{add-mul-mod_self_right, mul-mod_left, mod-add-div', mul_assoc}
-use Rattle.pas_profile.specs.Classes.{IsAlignment}
-use Rattle.pas_profile.proofs.Sizes.{passes_below, passes_at}
+use Rattle.pas_profile.{specs.Classes.IsAlignment, proofs.Sizes.{passes_below, passes_at}}
 
 -- an alignment is a multiple of 16
 abbrev is_sixteens : ℕ → Bool

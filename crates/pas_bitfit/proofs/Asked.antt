@@ -1,11 +1,9 @@
 -- A block of the room and the alignment that were asked for.
 use Rattle.std.proofs.Common.{◌≡◌, ℕ, ◌%◌, ◌≤◌, Bool, Ok, Err, Result, ap, ◌∙◌, arith, MatchResult}
-use Rattle.pas_profile.specs.Classes.{IsAlignment}
-use Rattle.pas_profile.specs.declared.{event.NoRoom.NoRoom, name.Block.Block}
+use Rattle.pas_profile.specs.{Classes.IsAlignment, declared.{event.NoRoom.NoRoom, name.Block.Block}}
 use Rattle.pas_steps.specs.Desks.{Standing}
 use Rattle.pas_search.specs.Allocates.{AllocatesRun}
-use Rattle.pas_bitfit.specs.{Allocates.bitfit_directory, Allocates.run_for, Allocates.IsOfRequest, Runs.IsWanted, Runs.runs, Runs.run_at}
-use Rattle.pas_bitfit.proofs.Aligned.{stands_aligned}
+use Rattle.pas_bitfit.{specs.{Allocates.{bitfit_directory, run_for, IsOfRequest}, Runs.{IsWanted, runs, run_at}}, proofs.Aligned.stands_aligned}
 
 -- A bit-fit room and an alignment are what a run may be wanted for.
 pub is_wanted : (room align : ℕ) → (16 ≤ room) × (room ≤ 2048) × (room % 16 ≡ 0) → IsAlignment align → IsWanted (run_for room align)

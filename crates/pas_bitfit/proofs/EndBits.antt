@@ -1,9 +1,8 @@
 -- The end of one block more.
-use Rattle.std.proofs.Common.{◌≡◌, ℕ, ◌+◌, ◌↔◌, IsTrue, Bool, true, ◌||◌, ap, sym, ◌∙◌, arith, inl, inr, subst}
-use Rattle.std.proofs.{Math.Bool.or-true, lemmas.Bool.cases_eq, lemmas.Bool.cases_Bool}
+use Rattle.std.proofs.{Common.{◌≡◌, ℕ, ◌+◌, ◌↔◌, IsTrue, Bool, true, ◌||◌, ap, sym, ◌∙◌, arith, inl, inr, subst}, Math.Bool.or-true, lemmas.Bool.cases_eq}
+use Rattle.std.proofs.lemmas.Bool.{cases_Bool}
 use Rattle.pas_profile.specs.declared.word.Word.{Word}
-use Rattle.pas_steps.specs.States.{word_in}
-use Rattle.pas_steps.specs.declared.state.State.{State}
+use Rattle.pas_steps.specs.{States.word_in, declared.state.State.State}
 use Rattle.pas_bitfit.specs.Ends.{ends_with, IsEnd}
 
 -- Whether a block ends at a grain, by the life words of n + 1 grains, is so by the last of them or by those before.

@@ -1,10 +1,8 @@
 -- The lowest place of a mask as the lowest run that fits.
 use Rattle.std.proofs.Common.{ℕ, refl, arith, sym, ◌∙◌, true≢false}
-use Rattle.pas_bits.specs.{Rows.IsEmpty, Masks.is_set, Masks.IsPlace, Masks.IsLowestPlace}
-use Rattle.pas_bits.specs.declared.mask.Mask4.{Mask4}
+use Rattle.pas_bits.specs.{Rows.IsEmpty, Masks.{is_set, IsPlace, IsLowestPlace}, declared.mask.Mask4.Mask4}
 use Rattle.pas_search.specs.Placements.{IsPlaced}
-use Rattle.pas_bitfit.specs.Runs.{IsWanted, Fits, NoneFits, lowest_run, run_at}
-use Rattle.pas_bitfit.specs.declared.wanted.Wanted.{Wanted}
+use Rattle.pas_bitfit.specs.{Runs.{IsWanted, Fits, NoneFits, lowest_run, run_at}, declared.wanted.Wanted.Wanted}
 
 module _ (wanted : Wanted) (free : Mask4) where
   -- a run that fits is a place of the mask

@@ -1,12 +1,10 @@
 -- The allocation of a bit-fit block.
 use Rattle.std.specs.Prelude.{ℕ, ◌/◌, ◌%◌, ◌≡◌, Bool, List, Result, MatchResult}
-use Rattle.pas_profile.specs.Blocks.{address_of}
-use Rattle.pas_profile.specs.declared.{directory.Directory.Directory, directory.Kind.Kind, event.NoRoom.NoRoom, name.Block.Block, profile.Profile.Profile}
-use Rattle.pas_steps.specs.Desks.{Standing}
-use Rattle.pas_steps.specs.declared.step.Made.{Made}
+use Rattle.pas_profile.specs.{Blocks.address_of, declared.{directory.{Directory.Directory, Kind.Kind}, event.NoRoom.NoRoom, name.Block.Block}}
+use Rattle.pas_profile.specs.declared.profile.Profile.{Profile}
+use Rattle.pas_steps.specs.{Desks.Standing, declared.step.Made.Made}
 use Rattle.pas_search.specs.Allocates.{IsGiven, AllocatesRun}
-use Rattle.pas_bitfit.specs.Runs.{runs, run_at}
-use Rattle.pas_bitfit.specs.declared.wanted.Wanted.{Wanted}
+use Rattle.pas_bitfit.specs.{Runs.{runs, run_at}, declared.wanted.Wanted.Wanted}
 
 -- the bit-fit pages of a heap
 abbrev pub bitfit_directory : ℕ → Directory

@@ -1,9 +1,7 @@
 -- Where blocks of a page end.
 use Rattle.std.specs.Prelude.{ℕ, ◌+◌, ◌<◌, ◌≡◌, ◌==◌, nat_le, Bool, true, ◌&&◌}
-use Rattle.pas_profile.specs.Lives.{is_live, grains_of}
-use Rattle.pas_profile.specs.declared.word.Word.{Word}
-use Rattle.pas_steps.specs.States.{word_in}
-use Rattle.pas_steps.specs.declared.state.State.{State}
+use Rattle.pas_profile.specs.{Lives.{is_live, grains_of}, declared.word.Word.Word}
+use Rattle.pas_steps.specs.{States.word_in, declared.state.State.State}
 
 -- by the life word of this grain of a page, a live block begins there and ends with the grain x
 abbrev pub ends_with : ℕ → ℕ → ℕ → Bool

@@ -1,12 +1,9 @@
 -- Runs of free grains of a page.
-use Rattle.std.specs.Prelude.{ℕ, ◌+◌, ◌%◌, ◌<◌, ◌≤◌, ◌≡◌, refl}
-use Rattle.std.proofs.Common.{arith}
+use Rattle.std.{specs.Prelude.{ℕ, ◌+◌, ◌%◌, ◌<◌, ◌≤◌, ◌≡◌, refl}, proofs.Common.arith}
 use Rattle.pas_bits.specs.Runs.{AreFree}
 use Rattle.pas_profile.specs.declared.directory.Kind.{Kind}
 use Rattle.pas_steps.specs.Evidence.{Readings, IsAntitone}
-use Rattle.pas_search.specs.Choices.{Choice}
-use Rattle.pas_search.specs.Placements.{Placement, IsPlacement, placed, run_of}
-use Rattle.pas_search.specs.declared.placing.Run.{Run}
+use Rattle.pas_search.specs.{Choices.Choice, Placements.{Placement, IsPlacement, placed, run_of}, declared.placing.Run.Run}
 use Rattle.pas_bitfit.specs.declared.wanted.Wanted.{Wanted}
 
 pub record IsWanted (wanted : Wanted) : Type 0 where

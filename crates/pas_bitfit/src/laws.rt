@@ -1,10 +1,9 @@
 //! What a bit-fit request finds where no other actor makes a step meanwhile, whatever its desk tells. The law is the contract of an empty function.
 ghost use Rattle.std.specs.Prelude.{ℕ, ◌++◌, Result};
-ghost use Rattle.pas_profile.specs.Profiles.{IsDirectoryOf};
-ghost use Rattle.pas_profile.specs.declared.{event.NoRoom.NoRoom, name.Block.Block};
-ghost use Rattle.pas_steps.specs.{Desks.triples, Lists.Whole, Lists.part, Lists.Legal};
+ghost use Rattle.pas_profile.specs.{Profiles.IsDirectoryOf, declared.{event.NoRoom.NoRoom, name.Block.Block}};
+ghost use Rattle.pas_steps.specs.{Desks.triples, Lists.{Whole, part, Legal}};
 ghost use Rattle.pas_search.specs.{Alone.FindsWhatThereIs, Searches.MaySearch};
-ghost use Rattle.pas_bitfit.specs.{Allocates.bitfit_directory, Allocates.run_for, Allocates.Allocates, Runs.NoneFits};
+ghost use Rattle.pas_bitfit.specs.{Allocates.{bitfit_directory, run_for, Allocates}, Runs.NoneFits};
 
 use pas_steps::Desk;
 

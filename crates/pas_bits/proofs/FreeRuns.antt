@@ -1,10 +1,7 @@
 -- Free runs: those that share a grain are one, so many free grains in a row lie in one, and a mask has the next one.
 use Rattle.std.proofs.Common.{◌≡◌, ℕ, zero, suc, ◌+◌, ◌-◌, ◌<◌, ◌≤◌, ◌&&◌, nat_le, not, Bool, true, false, inl, inr, ap, sym, ◌∙◌, subst, arith, true≢false}
-use Rattle.std.proofs.Common.{le-leb}
-use Rattle.std.proofs.lemmas.Bool.{cases_lt, cases_Bool, and_from, and_parts, not-true, lt-leb}
-use Rattle.pas_bits.specs.declared.mask.Mask4.{Mask4}
-use Rattle.pas_bits.specs.Masks.{is_set, AreClear, IsLowestSet, IsRunEnd}
-use Rattle.pas_bits.specs.Runs.{AreFree, IsFreeRun, IsNextRun, HasNoRunFrom}
+use Rattle.std.proofs.{Common.le-leb, lemmas.Bool.{cases_lt, cases_Bool, and_from, and_parts, not-true, lt-leb}}
+use Rattle.pas_bits.specs.{declared.mask.Mask4.Mask4, Masks.{is_set, AreClear, IsLowestSet, IsRunEnd}, Runs.{AreFree, IsFreeRun, IsNextRun, HasNoRunFrom}}
 
 -- No grain is both free and not.
 clash : {A : Type 0} (is_free : ℕ → Bool) (x : ℕ) → is_free x ≡ true → is_free x ≡ false → A

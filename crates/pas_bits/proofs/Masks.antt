@@ -1,19 +1,14 @@
 -- Set bits of a mask, word by word: the lowest ones, those of runs, how many there are, and places of runs among them.
 use Rattle.std.proofs.Common.{◌≡◌, ◌≢◌, ℕ, ◌+◌, ◌-◌, ◌/◌, ◌%◌, ◌^◌, ◌<◌, ◌≤◌, ◌==◌, true, false, inl, inr, ap, sym, ◌∙◌, arith, ◌*◌, ◌⊎◌, ◌&&◌, ◌↔◌, IsTrue}
 use Rattle.std.proofs.Common.{not, min, Bool, length, slice_index, lit<, bit_and, subst, refl, Option, MatchBool, MatchOption, w64, shr-shr, pow_pos}
-use Rattle.std.proofs.Common.{div-add-mod', count_ones}
-use Rattle.std.specs.{Int.bit_at, Int.trailing_zeros, Option.is_some}
-use Rattle.std.proofs.lemmas.Bool.{cases_lt, and_parts, not-false, not-true}
-use Rattle.std.proofs.lemmas.Nat.{shr_le, and_le_l, same_from_place, mod-mul-add}
-use Rattle.std.proofs.lemmas.Nat.Bits.{bit_at-trailing_zeros, bit_at_above, bit_at_mask_inside, bit_at_mask_below, bit_at_mask_above, ones_shr}
-use Rattle.pas_bits.specs.{Bits.has_bit, Bits.count_below, Runs.in_run}
-use Rattle.pas_bits.proofs.Words.{none_of_zero, is_one, bit_of_and, by_word, at_word, set_within, WordsFit}
-use Rattle.std.proofs.{Math.Nat.pow-le-pow_right, lemmas.Bool.Decides.nat_tests, Math.Bool.and-true, lemmas.Grind.div_ceil_times}
-use Rattle.pas_bits.proofs.Runs.{run_of, to_run, run_below, run_above}
-use Rattle.pas_bits.specs.declared.mask.Mask4.{Mask4}
-use Rattle.pas_bits.specs.Masks.{is_set, AreSet, AreApart, set_count, AllSetBelow, AreClear, IsLowestSet, IsLowestClear, IsEmpty, HasMember, IsRunEnd, IsPlace}
-use Rattle.pas_bits.specs.Masks.{HasNoPlace}
-use Rattle.pas_bits.proofs.Rows.{count_same, count_add, ones_counted}
+use Rattle.std.proofs.{Common.{div-add-mod', count_ones}, lemmas.{Bool.{cases_lt, and_parts, not-false, not-true, Decides.nat_tests}, Nat.{shr_le, and_le_l}}}
+use Rattle.std.proofs.lemmas.Nat.{same_from_place, mod-mul-add, Bits.{bit_at-trailing_zeros, bit_at_above, bit_at_mask_inside, bit_at_mask_below}}
+use Rattle.std.{proofs.{lemmas.{Nat.Bits.{bit_at_mask_above, ones_shr}, Grind.div_ceil_times}, Math.{Nat.pow-le-pow_right, Bool.and-true}}, specs.Int.bit_at}
+use Rattle.std.specs.{Int.trailing_zeros, Option.is_some}
+use Rattle.pas_bits.specs.{Bits.{has_bit, count_below}, Runs.in_run, declared.mask.Mask4.Mask4, Masks.{is_set, AreSet, AreApart, set_count, AllSetBelow}}
+use Rattle.pas_bits.{specs.Masks.{AreClear, IsLowestSet, IsLowestClear, IsEmpty, HasMember, IsRunEnd, IsPlace, HasNoPlace}, proofs.Words.{none_of_zero, is_one}}
+use Rattle.pas_bits.proofs.{Words.{bit_of_and, by_word, at_word, set_within, WordsFit}, Runs.{run_of, to_run, run_below, run_above}, Rows.count_same}
+use Rattle.pas_bits.proofs.Rows.{count_add, ones_counted}
 
 -- ==== The lowest set bit of a word from a place on.
 

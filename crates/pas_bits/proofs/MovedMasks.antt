@@ -1,14 +1,10 @@
 -- Masks that are moved, joined and spread.
 use Rattle.std.proofs.Common.{◌≡◌, ℕ, ◌+◌, ◌-◌, ◌*◌, ◌/◌, ◌%◌, ◌^◌, ◌<◌, ◌≤◌, ◌==◌, ◌↔◌, nat_le, IsTrue, Bool, true, false, ◌&&◌, ◌||◌, if◌then◌else◌, [], ◌∷◌}
 use Rattle.std.proofs.Common.{length, slice_index, refl, ap, sym, ◌∙◌, subst, arith, bit_or, inl, inr, lt-ltb, le-ltb, le-leb, div-add-mod', shr-shr, pow_pos}
-use Rattle.std.specs.Int.{bit_at}
-use Rattle.std.proofs.lemmas.Bool.{cases_lt, cases_Bool, and_parts, lt-leb, or_left, or_right, and_left}
-use Rattle.std.proofs.{lemmas.Bool.Decides.nat_tests, lemmas.List.get_or_past, Math.Bool.or-false}
-use Rattle.std.proofs.lemmas.Nat.Bits.{bit_at-zero, bit_at_above, bit_at_cat_low, bit_at_cat_high}
-use Rattle.pas_bits.specs.Bits.{has_bit}
-use Rattle.pas_bits.specs.declared.mask.Mask4.{Mask4}
-use Rattle.pas_bits.specs.Masks.{is_set, AreSet, IsNear, bit_of_two}
-use Rattle.pas_bits.proofs.Words.{is_zero, none_of_zero, bit_of_or, at_word, none_past, four_words}
+use Rattle.std.proofs.lemmas.{Bool.{cases_lt, cases_Bool, and_parts, lt-leb, or_left, or_right, and_left, Decides.nat_tests}, List.get_or_past}
+use Rattle.std.{proofs.{lemmas.Nat.Bits.{bit_at-zero, bit_at_above, bit_at_cat_low, bit_at_cat_high}, Math.Bool.or-false}, specs.Int.bit_at}
+use Rattle.pas_bits.{specs.{Bits.has_bit, declared.mask.Mask4.Mask4, Masks.{is_set, AreSet, IsNear, bit_of_two}}, proofs.Words.{is_zero, none_of_zero}}
+use Rattle.pas_bits.proofs.Words.{bit_of_or, at_word, none_past, four_words}
 
 -- ---- bits of a word that was moved
 bit_of_mod : (n w i : ℕ) → i < w → bit_at (n % 2 ^ w) i ≡ bit_at n i

@@ -1,12 +1,9 @@
 -- Bits of the words of page vectors.
 use Rattle.std.proofs.Common.{◌≡◌, ◌≢◌, ℕ, ◌+◌, ◌-◌, ◌*◌, ◌/◌, ◌%◌, ◌^◌, ◌<◌, ◌==◌, Bool, true, false, not, ◌&&◌, ◌||◌, if◌then◌else◌, ap, sym, ◌∙◌, arith}
-use Rattle.std.proofs.Common.{bit_and, bit_or, inl, inr, w64, eqb-true, eq-eqb, ne_eqb}
-use Rattle.std.specs.Int.{bit_not, trailing_zeros}
-use Rattle.std.proofs.{lemmas.Nat.pow_below, lemmas.Nat.Bits.bit_at-pow_same, lemmas.Nat.Bits.bit_at-pow_other, lemmas.Bool.eqb-false, lemmas.Bool.cases_eq}
-use Rattle.std.proofs.{Math.Bool.or_comm, lemmas.Bool.Decides.nat_tests}
-use Rattle.pas_bits.specs.Bits.{has_bit}
-use Rattle.pas_bits.specs.PageVectors.{page_mask, is_in_word, HasNoPage, IsLowestPage}
-use Rattle.pas_bits.proofs.{Masks.none_from, Masks.lowest_from, Words.bit_of_or, Words.bit_cleared}
+use Rattle.std.proofs.{Common.{bit_and, bit_or, inl, inr, w64, eqb-true, eq-eqb, ne_eqb}, lemmas.Nat.{pow_below, Bits.{bit_at-pow_same, bit_at-pow_other}}}
+use Rattle.std.{proofs.{lemmas.Bool.{eqb-false, cases_eq, Decides.nat_tests}, Math.Bool.or_comm}, specs.Int.{bit_not, trailing_zeros}}
+use Rattle.pas_bits.{specs.{Bits.has_bit, PageVectors.{page_mask, is_in_word, HasNoPage, IsLowestPage}}, proofs.Masks.{none_from, lowest_from}}
+use Rattle.pas_bits.proofs.Words.{bit_of_or, bit_cleared}
 
 -- ---- the bit of a page
 pub page_mask_lt : (q : ℕ) → page_mask q < 2 ^ 64

@@ -1,16 +1,12 @@
 -- Counts of the numbers below a bound that pass a test, and of the bits of a number.
 use Rattle.std.proofs.Common.{◌≡◌, ℕ, zero, suc, ◌+◌, ◌*◌, ◌/◌, ◌%◌, ◌^◌, ◌<◌, ◌==◌, Bool, if◌then◌else◌, ap, sym, ◌∙◌, refl, arith, add-one, add-zero, add-suc}
 use Rattle.std.proofs.Common.{pow_pos, ◌≢◌, ◌-◌, ◌≤◌, ◌&&◌, not, true, false, List, length, slice_index, inl, inr, bit_and, [], ◌∷◌, map, bit_or, take, drop}
-use Rattle.std.proofs.Common.{subst, w64, count_ones}
-use Rattle.std.proofs.{Math.Nat.pow-suc, Math.Nat.div-lt_iff_lt-mul, Math.Nat.mod-lt, lemmas.Nat.Bits.bit_at_cat_low, lemmas.Bool.cases_lt}
-use Rattle.std.proofs.{lemmas.List.get_or_past, lemmas.List.get_or-map, lemmas.List.length-map, lemmas.Nat.Bits.bit_at-trailing_zeros, lemmas.Simd.get_or-chunk}
-use Rattle.std.proofs.{lemmas.Simd.get_or-zip2, lemmas.Simd.length-chunk, Math.Seq.drop-cons}
-use Rattle.std.proofs.lemmas.Nat.{ones_cat, shr_split, and_le_l, le_or_l, le_or_r}
-use Rattle.std.specs.Int.{bit_at, RustNames.count_ones, trailing_zeros}
-use Rattle.pas_bits.specs.Bits.{has_bit, count_below}
-use Rattle.pas_bits.proofs.Words.{none_of_zero, bit_of_and, bit_of_not}
-use Rattle.pas_bits.specs.Rows.{is_set, IsClearBelow, HasMember, IsLowestSet, IsWithinBelow, HasMemberOutside, set_count}
+use Rattle.std.proofs.{Common.{subst, w64, count_ones}, Math.{Nat.{pow-suc, div-lt_iff_lt-mul, mod-lt}, Seq.drop-cons}, lemmas.Nat.Bits.bit_at_cat_low}
+use Rattle.std.proofs.lemmas.{Nat.{Bits.bit_at-trailing_zeros, ones_cat, shr_split, and_le_l, le_or_l, le_or_r}, Bool.cases_lt, List.{get_or_past, get_or-map}}
+use Rattle.std.{proofs.lemmas.{List.length-map, Simd.{get_or-chunk, get_or-zip2, length-chunk}}, specs.Int.{bit_at, RustNames.count_ones, trailing_zeros}}
 use Rattle.std.specs.Simd.Lanes.{chunk, fold_l, zip2, sum_l}
+use Rattle.pas_bits.specs.{Bits.{has_bit, count_below}, Rows.{is_set, IsClearBelow, HasMember, IsLowestSet, IsWithinBelow, HasMemberOutside, set_count}}
+use Rattle.pas_bits.proofs.Words.{none_of_zero, bit_of_and, bit_of_not}
 
 -- ---- one more
 pub count_suc : (i : ℕ) (p : ℕ → Bool) (b : Bool) → p i ≡ b → count_below (suc i) p ≡ count_below i p + (if b then 1 else 0)

@@ -1,6 +1,5 @@
 -- Membership in a run, and the pages of a run of grains.
-use Rattle.std.proofs.Common.{◌≡◌, ℕ, ◌+◌, ◌*◌, ◌/◌, ◌<◌, ◌≤◌, true, false, arith, inl, inr}
-use Rattle.std.proofs.lemmas.Bool.{cases_lt, Decides.nat_tests}
+use Rattle.std.proofs.{Common.{◌≡◌, ℕ, ◌+◌, ◌*◌, ◌/◌, ◌<◌, ◌≤◌, true, false, arith, inl, inr}, lemmas.Bool.{cases_lt, Decides.nat_tests}}
 use Rattle.pas_bits.specs.Runs.{in_run, meets_page}
 
 -- A grain of a run is at least its first and below its end.

@@ -1,12 +1,9 @@
 -- Bits of words, and the words of a mask.
 use Rattle.std.proofs.Common.{◌≡◌, ◌≢◌, ℕ, ◌+◌, ◌-◌, ◌*◌, ◌/◌, ◌%◌, ◌^◌, ◌<◌, ◌≤◌, ◌==◌, ◌&&◌, ◌||◌, not, Bool, true, false, List, [], ◌∷◌, length, slice_index}
 use Rattle.std.proofs.Common.{slice_set, inl, inr, ap, sym, ◌∙◌, arith, bit_and, bit_or, get_or-set_same, get_or-set_other, w64, eq-eqb, ne_eqb}
-use Rattle.std.specs.Int.{bit_at, bit_not}
-use Rattle.std.proofs.lemmas.{Bool.cases_lt, Bool.cases_eq, Bool.Decides.nat_tests, List.get_or_past}
-use Rattle.std.proofs.lemmas.Nat.Bits.{bit_at-zero, bit_at_and, bit_at_or, bit_at_not, bit_at_ones, bit_at_set_same, bit_at_set_other, bit_at_clear_same}
-use Rattle.std.proofs.lemmas.Nat.Bits.{bit_at_clear_other}
-use Rattle.pas_bits.specs.{Bits.has_bit, Masks.is_set}
-use Rattle.pas_bits.specs.declared.mask.Mask4.{Mask4}
+use Rattle.std.proofs.lemmas.{Bool.{cases_lt, cases_eq, Decides.nat_tests}, List.get_or_past, Nat.Bits.{bit_at-zero, bit_at_and, bit_at_or, bit_at_not}}
+use Rattle.std.{proofs.lemmas.Nat.Bits.{bit_at_ones, bit_at_set_same, bit_at_set_other, bit_at_clear_same, bit_at_clear_other}, specs.Int.{bit_at, bit_not}}
+use Rattle.pas_bits.specs.{Bits.has_bit, Masks.is_set, declared.mask.Mask4.Mask4}
 
 -- ---- bits as numbers and as tests
 

@@ -1,6 +1,5 @@
 -- The bits of a number, and how many numbers pass a test.
-use Rattle.std.specs.Prelude.{ℕ, zero, suc, ◌==◌, Bool, if◌then◌else◌}
-use Rattle.std.specs.Int.{bit_at}
+use Rattle.std.specs.{Prelude.{ℕ, zero, suc, ◌==◌, Bool, if◌then◌else◌}, Int.bit_at}
 
 -- bit b of the number is set
 abbrev pub has_bit : ℕ → ℕ → Bool

@@ -1,7 +1,6 @@
 -- Masks of 256 bits as sets of numbers.
 use Rattle.std.specs.Prelude.{ℕ, ◌+◌, ◌-◌, ◌/◌, ◌%◌, ◌<◌, ◌≤◌, ◌≡◌, nat_lt, Bool, true, false, if◌then◌else◌, slice_index}
-use Rattle.pas_bits.specs.{Bits.has_bit, Bits.count_below, Runs.AreFree}
-use Rattle.pas_bits.specs.declared.mask.Mask4.{Mask4}
+use Rattle.pas_bits.specs.{Bits.{has_bit, count_below}, Runs.AreFree, declared.mask.Mask4.Mask4}
 
 -- bit g of the mask is set. There are no bits from 256 on
 abbrev pub is_set : Mask4 → ℕ → Bool

@@ -1,6 +1,6 @@
 //! The free runs of a page, one after the other.
 ghost use Rattle.std.specs.Prelude.{◌≤◌, MatchOption};
-ghost use Rattle.pas_bits.specs.{Masks.is_set, Runs.HasNoRunFrom, Runs.IsNextRun};
+ghost use Rattle.pas_bits.specs.{Masks.is_set, Runs.{HasNoRunFrom, IsNextRun}};
 
 use crate::mask::Mask4;
 

@@ -1,7 +1,6 @@
 //! Masks that are moved, joined and spread, by whole words.
 ghost use Rattle.std.specs.Prelude.{◌≡◌, ℕ, ◌+◌, ◌-◌, ◌<◌, ◌≤◌, ◌↔◌, ◌&&◌, ◌||◌, nat_le, IsTrue};
-ghost use Rattle.pas_bits.specs.Bits.{has_bit};
-ghost use Rattle.pas_bits.specs.Masks.{is_set, AreSet, IsNear, bit_of_two};
+ghost use Rattle.pas_bits.specs.{Bits.has_bit, Masks.{is_set, AreSet, IsNear, bit_of_two}};
 
 use crate::mask::Mask4;
 

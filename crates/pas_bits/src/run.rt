@@ -1,6 +1,6 @@
 //! Runs of grains as masks, and what masks have in common.
 ghost use Rattle.std.specs.Prelude.{◌≡◌, ℕ, ◌+◌, ◌-◌, ◌*◌, ◌^◌, ◌<◌, ◌≤◌, ◌↔◌, IsTrue, true, false};
-ghost use Rattle.pas_bits.specs.{Bits.has_bit, Masks.is_set, Masks.AreSet, Masks.AreApart, Runs.in_run};
+ghost use Rattle.pas_bits.specs.{Bits.has_bit, Masks.{is_set, AreSet, AreApart}, Runs.in_run};
 
 use crate::mask::Mask4;
 

@@ -1,48 +1,33 @@
 -- A request is answered from the local allocators.
 use Rattle.std.proofs.Common.{◌≡◌, ℕ, ◌+◌, ◌/◌, ◌^◌, ◌<◌, ◌≤◌, Bool, List, [], ◌∷◌, ◌++◌, length, Ok, Err, Result, inl, inr, Option, Some, true≢false, refl, ap}
-use Rattle.std.proofs.Common.{sym, ◌∙◌, subst, arith, append_assoc, append-nil, length-append, MatchResult, All, ◌%◌, max}
-use Rattle.std.proofs.lemmas.List.{Elements.All-weaker, Sorted.IsPermutation-sym, Sorted.IsPermutation-to_front}
-use Rattle.pas_steps.specs.{Calls.Calls, Views.View, Views.has_right, Events.events_by, Agreement.Agreed, Lists.Whole, Lists.part, Lists.Legal}
-use Rattle.pas_steps.specs.{Unknown.unknown_pages, Kinds.returning, Kinds.Only}
-use Rattle.pas_steps.specs.Desks.{Standing, Seat, CanCall, triples}
-use Rattle.pas_steps.proofs.{Called.call_as, Called.next_call, Calls.leads_as, Calls.leads_at, SpareRoom.Spares, SpareRoom.spare_falls, Frames.events_append}
-use Rattle.pas_steps.proofs.{Frames.deed_stays, Apart.no_events, Apart.only_both, Apart.only_within, Unknown.unknown_no_more, Unknown.none_unknown}
-use Rattle.pas_steps.proofs.{Parts.part_of_own, Parts.part_of_others}
-use Rattle.pas_profile.specs.Profiles.{IsAdmitted, IsDirectoryOf, IsPage, IsValid}
-use Rattle.pas_profile.specs.{Routes.room_by, Classes.IsClass, Classes.class_size, Classes.IsSlotStart, Directories.IsKind, Directories.IsKindAmong}
-use Rattle.pas_profile.specs.{Directories.deed_word_of}
-use Rattle.pas_profile.specs.Requests.{is_shared, kind_of_class, kind_of_route, route_in, room_in, class_home}
-use Rattle.pas_profile.specs.declared.{directory.Kind.Kind as TheKind, directory.Route.Route, profile.Profile.Profile, directory.Directory.Directory}
-use Rattle.pas_profile.specs.declared.{event.Event.Event, event.NoRoom.NoRoom, name.Block.Block, event.NoRoom.TheVariants.NoSpace}
-use Rattle.pas_utility.specs.Heaps.{marks_of, is_marked}
-use Rattle.pas_utility.specs.declared.table.HeapTable.{HeapTable}
-use Rattle.pas_profile.proofs.{Sizes.class_suits, Sizes.class_known, Sizes.routed_slot_aligned, Codecs.deed_word_of-positive}
-use Rattle.pas_cache.specs.{Caches.Cached, Caches.AtRest, Calls.MayAllocate, Calls.Allocates, Changes.GivesSlot, Changes.LeavesSpent, Kinds.releasing}
-use Rattle.pas_cache.specs.{Kinds.allocating}
-use Rattle.std.specs.List.{AllByRecursion}
+use Rattle.std.proofs.{Common.{sym, ◌∙◌, subst, arith, append_assoc, append-nil, length-append, MatchResult, All, ◌%◌, max}, lemmas.List.Elements.All-weaker}
+use Rattle.std.{proofs.lemmas.List.Sorted.{IsPermutation-sym, IsPermutation-to_front}, specs.List.AllByRecursion}
+use Rattle.pas_steps.specs.{Calls.Calls, Views.{View, has_right}, Events.events_by, Agreement.Agreed, Lists.{Whole, part, Legal}, Unknown.unknown_pages}
+use Rattle.pas_steps.{specs.{Kinds.{returning, Only}, Desks.{Standing, Seat, CanCall, triples}, declared.step.Made.Made}, proofs.Called.{call_as, next_call}}
+use Rattle.pas_steps.proofs.{Calls.{leads_as, leads_at}, SpareRoom.{Spares, spare_falls}, Frames.{events_append, deed_stays}, Apart.{no_events, only_both}}
+use Rattle.pas_steps.proofs.{Apart.only_within, Unknown.{unknown_no_more, none_unknown}, Parts.{part_of_own, part_of_others}, Adding.{adds_none, adds_call}}
+use Rattle.pas_steps.proofs.Adding.{can_call, agreed_first, agreed_later, triples_append}
+use Rattle.pas_profile.specs.{Profiles.{IsAdmitted, IsDirectoryOf, IsPage, IsValid}, Routes.room_by, Classes.{IsClass, class_size, IsSlotStart}}
+use Rattle.pas_profile.specs.{Directories.{IsKind, IsKindAmong, deed_word_of}, Requests.{is_shared, kind_of_class, kind_of_route, route_in, room_in}}
+use Rattle.pas_profile.specs.{Requests.class_home, declared.{directory.{Kind.Kind as TheKind, Route.Route, Directory.Directory}, profile.Profile.Profile}}
+use Rattle.pas_profile.{specs.declared.{event.{Event.Event, NoRoom.{NoRoom, TheVariants.NoSpace}}, name.Block.Block}, proofs.Sizes.{class_suits, class_known}}
+use Rattle.pas_profile.proofs.{Sizes.routed_slot_aligned, Codecs.deed_word_of-positive}
+use Rattle.pas_utility.specs.{Heaps.{marks_of, is_marked}, declared.table.HeapTable.HeapTable}
+use Rattle.pas_cache.specs.{Caches.{Cached, AtRest}, Calls.{MayAllocate, Allocates}, Changes.{GivesSlot, LeavesSpent}, Kinds.{releasing, allocating}}
+use Rattle.pas_cache.specs.{Locals.{local_for, IsFormed, IsLocal, RestsWith}, Serves.{Wanted, wanted_for, class_wanted, IsFilling, IsRefill, IsObtained}}
+use Rattle.pas_cache.specs.Serves.{IsAnswered, ServesLocals, IsPreparing, IsBlockFor, IsSilent, filling_in, IsToldBy, pages_of, HasNoneCached, Fetches}
+use Rattle.pas_cache.specs.{Serves.{ServesClass, ServesBitfit, ServesPages, ServesBy, ServesRequest}, Parts.{MayGiveSlot, GivesLowest, MayObtain, Obtains}}
+use Rattle.pas_cache.specs.{Parts.{ServesFrom, IsToldOf, IsTrueOf}, Refusals.{IsTrulyRefusedBy, IsTrulyRefused, OthersHaveNone, GoesByDoorOn, TakesWhatIsNamed}}
+use Rattle.pas_cache.proofs.{Resting.{here, may_give_slot, rests_reordered, rests_given, given_page}, Obtained.{obtain_rests, refill_events, prepared}}
+use Rattle.pas_cache.proofs.{Obtained.{refused_steps, refusal, no_fit_before, none_shortened, may_search}, Routes.{may_search_bitfit, bitfit_wanted, may_find}}
 use Rattle.pas_bits.specs.{Bits.has_bit, Masks.HasMember}
-use Rattle.pas_steps.specs.declared.step.Made.{Made}
-use Rattle.pas_steps.proofs.Adding.{adds_none, adds_call, can_call, agreed_first, agreed_later, triples_append}
-use Rattle.pas_search.proofs.ForBackEnds.{events_quiet}
-use Rattle.pas_search.specs.{Searches.search_steps, Searches.IsRefused, Kinds.searching, Kinds.AreSearch, Telling.IsTrueReason}
-use Rattle.pas_segregated.specs.{Refills.Filling, Takes.fewer_slots}
-use Rattle.pas_segregated.specs.declared.slots.Slots.{Slots}
-use Rattle.pas_cache.specs.Locals.{local_for, IsFormed, IsLocal, RestsWith}
-use Rattle.pas_cache.specs.Serves.{Wanted, wanted_for, class_wanted, IsFilling, IsRefill, IsObtained, IsAnswered, ServesLocals, IsPreparing, IsBlockFor}
-use Rattle.pas_cache.specs.Serves.{IsSilent, filling_in, IsToldBy, pages_of, HasNoneCached, Fetches, ServesClass, ServesBitfit, ServesPages, ServesBy}
-use Rattle.pas_cache.specs.Serves.{ServesRequest}
-use Rattle.pas_cache.specs.Parts.{MayGiveSlot, GivesLowest, MayObtain, Obtains, ServesFrom, IsToldOf, IsTrueOf}
-use Rattle.pas_cache.proofs.Resting.{here, may_give_slot, rests_reordered, rests_given, given_page}
-use Rattle.pas_cache.proofs.Obtained.{obtain_rests, refill_events, prepared, refused_steps, refusal, no_fit_before, none_shortened, may_search}
-use Rattle.pas_core.specs.Fits.{HasNoFit}
-use Rattle.pas_core.proofs.{Nexts.agreed_steps, OneActor.legal_earlier}
+use Rattle.pas_search.{proofs.{ForBackEnds.events_quiet, FindingAPage.{refused_told, OwnLacks, still_lacks, none_held_there}}, specs.Searches.search_steps}
+use Rattle.pas_search.specs.{Searches.IsRefused, Kinds.{searching, AreSearch}, Telling.IsTrueReason}
+use Rattle.pas_segregated.specs.{Refills.Filling, Takes.fewer_slots, declared.slots.Slots.Slots}
+use Rattle.pas_core.{specs.Fits.HasNoFit, proofs.{Nexts.agreed_steps, OneActor.legal_earlier}}
 use Rattle.pas_scan.specs.Runs.{large_directory}
-use Rattle.pas_search.proofs.FindingAPage.{refused_told, OwnLacks, still_lacks, none_held_there}
-use Rattle.pas_bitfit.specs.{Allocates.bitfit_directory, Allocates.run_for, Runs.NoneFits, Runs.fewer_runs}
-use Rattle.pas_large.specs.{Finds.MayFind, Alone.GoesByDoor}
-use Rattle.pas_large.proofs.Allocates.{refused_alone, goes_by_door}
-use Rattle.pas_cache.specs.Refusals.{IsTrulyRefusedBy, IsTrulyRefused, OthersHaveNone, GoesByDoorOn, TakesWhatIsNamed}
-use Rattle.pas_cache.proofs.Routes.{may_search_bitfit, bitfit_wanted, may_find}
+use Rattle.pas_bitfit.specs.{Allocates.{bitfit_directory, run_for}, Runs.{NoneFits, fewer_runs}}
+use Rattle.pas_large.{specs.{Finds.MayFind, Alone.GoesByDoor}, proofs.Allocates.{refused_alone, goes_by_door}}
 
 -- ---- room
 pub fewer_room : {σ : Standing} {spare : ℕ} {locals : List Slots} → CanCall σ (MayObtain σ.seat.profile 2 spare locals)

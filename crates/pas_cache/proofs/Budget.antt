@@ -1,13 +1,10 @@
 -- For callers: the room of one request after another.
-use Rattle.std.proofs.Common.{refl, ◌≡◌, ℕ, ◌+◌, ◌≤◌, ◌++◌, length, sym, subst, arith, Option, Result, Bool, List}
-use Rattle.std.proofs.lemmas.List.{length-map, length-reverse}
+use Rattle.std.proofs.{Common.{refl, ◌≡◌, ℕ, ◌+◌, ◌≤◌, ◌++◌, length, sym, subst, arith, Option, Result, Bool, List}, lemmas.List.{length-map, length-reverse}}
 use Rattle.pas_profile.specs.declared.{profile.Profile.Profile, directory.Route.Route, event.NoRoom.NoRoom, name.Block.Block, entry.Entry.Entry}
-use Rattle.pas_cache.specs.{Serves.Wanted, Serves.ServesBy, Changes.EmptiesLog, Caches.Cached, Caches.AtRest, Calls.MayAllocate, Calls.Allocates}
+use Rattle.pas_cache.specs.{Serves.{Wanted, ServesBy}, Changes.EmptiesLog, Caches.{Cached, AtRest}, Calls.{MayAllocate, Allocates}}
 use Rattle.pas_free_log.specs.declared.noting.EndedRun.{EndedRun}
-use Rattle.pas_steps.specs.{Views.View, Events.events_by, Unknown.unknown_pages}
-use Rattle.pas_steps.specs.Desks.{Standing, Seat, CanCall, triples}
-use Rattle.pas_steps.proofs.{Adding.adds_none, Adding.adds_under, Adding.can_call, SpareRoom.Spares, SpareRoom.spare_falls, Unknown.has_room}
-use Rattle.pas_steps.specs.declared.step.Made.{Made}
+use Rattle.pas_steps.specs.{Views.View, Events.events_by, Unknown.unknown_pages, Desks.{Standing, Seat, CanCall, triples}, declared.step.Made.Made}
+use Rattle.pas_steps.proofs.{Adding.{adds_none, adds_under, can_call}, SpareRoom.{Spares, spare_falls}, Unknown.has_room}
 
 -- The actor is at rest, and there is room for n events and for a deed of each page whose deed isn't known.
 pub record HasBudget (f : Profile) (c : Cached) (n spare : ℕ) (v : View) : Type 0 where

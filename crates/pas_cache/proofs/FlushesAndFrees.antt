@@ -1,23 +1,16 @@
 -- An epoch is read, a log is flushed, names are logged, a cache is stopped, and runs are handed on.
 use Rattle.std.proofs.Common.{◌≡◌, ℕ, [], sym, subst, arith, ◌+◌, ◌-◌, ◌*◌, ◌%◌, ◌^◌, ◌<◌, ◌≤◌, nat_le, Bool, List, ◌∷◌, ◌++◌, length, refl, ap, ◌∙◌}
-use Rattle.std.proofs.Common.{length-append, All, Ok, Err, le-leb, leb-false}
-use Rattle.std.proofs.lemmas.{List.Elements.All-nil, List.Elements.All-push, List.Elements.All-same, Bool.lt-leb}
-use Rattle.pas_steps.specs.Desks.{Standing, CanCall, Seat, Makes, made}
-use Rattle.pas_cache.specs.{Caches.AtRest, Caches.Cached, Contents.CacheOf, Parts.Releases, Kinds.releasing, Locals.HasOneEach, Locals.IsFormed}
-use Rattle.pas_cache.specs.{Locals.RestsWith, Contents.with_log, Contents.with_noted_alone}
-use Rattle.pas_cache.specs.Calls.{MayAllocate, Begins, Frees, FlushesLog, StopsCache, SettlesEach}
-use Rattle.pas_segregated.specs.declared.slots.Slots.{Slots}
-use Rattle.pas_profile.specs.declared.{profile.Profile.Profile, event.FreeFault.FreeFault, event.Range.Range, word.Word.Word, entry.Entry.Entry}
-use Rattle.pas_steps.specs.{Views.View, Clear.IsClear, Clear.HasNothing, Kinds.looking}
-use Rattle.pas_steps.specs.declared.step.{Made.Made, Step.TheVariants.Look}
-use Rattle.pas_steps.proofs.{Adding.adds_none, Adding.adds_step, Adding.adds_under, Apart.no_events, Called.call_none, Called.call_then, Called.next_call}
-use Rattle.pas_steps.proofs.{Calls.does_none, Calls.does_idly}
-use Rattle.pas_free_log.specs.{Conditions.IsEntryOf, Flushes.Flushes}
-use Rattle.pas_free_log.specs.declared.noting.EndedRun.{EndedRun}
-use Rattle.pas_cache.specs.Changes.{EmptiesLog, EmptiesFull, LogsEntry, StopsEach}
-use Rattle.pas_cache.specs.Names.{IsInRegion, IsFaultOf, MayFlush, EmptiesWhere, LogsInto}
-use Rattle.pas_steps.specs.Calls.{Leads, Calls, Does, nothing}
+use Rattle.std.proofs.{Common.{length-append, All, Ok, Err, le-leb, leb-false}, lemmas.{List.Elements.{All-nil, All-push, All-same}, Bool.lt-leb}}
+use Rattle.pas_steps.specs.{Desks.{Standing, CanCall, Seat, Makes, made}, Views.View, Clear.{IsClear, HasNothing}, Kinds.looking, declared.step.Made.Made}
+use Rattle.pas_steps.{specs.{declared.step.Step.TheVariants.Look, Calls.{Leads, Calls, Does, nothing}}, proofs.Adding.{adds_none, adds_step, adds_under}}
+use Rattle.pas_steps.proofs.{Apart.no_events, Called.{call_none, call_then, next_call}, Calls.{does_none, does_idly}}
+use Rattle.pas_cache.specs.{Caches.{AtRest, Cached}, Contents.{CacheOf, with_log, with_noted_alone}, Parts.Releases, Kinds.releasing, Locals.HasOneEach}
+use Rattle.pas_cache.specs.{Locals.{IsFormed, RestsWith}, Calls.{MayAllocate, Begins, Frees, FlushesLog, StopsCache, SettlesEach}, Changes.EmptiesLog}
+use Rattle.pas_cache.specs.{Changes.{EmptiesFull, LogsEntry, StopsEach}, Names.{IsInRegion, IsFaultOf, MayFlush, EmptiesWhere, LogsInto}}
 use Rattle.pas_cache.proofs.Resting.{rests_kept}
+use Rattle.pas_segregated.specs.declared.slots.Slots.{Slots}
+use Rattle.pas_profile.specs.declared.{profile.Profile.Profile, event.{FreeFault.FreeFault, Range.Range}, word.Word.Word, entry.Entry.Entry}
+use Rattle.pas_free_log.specs.{Conditions.IsEntryOf, Flushes.Flushes, declared.noting.EndedRun.EndedRun}
 
 -- ==== A cache while its fields are open.
 

@@ -1,144 +1,24 @@
 -- What a test finds in a list of local allocators, and lists with one more or in another order.
-use Rattle.std.proofs.Common.{◌≡◌}
-use Rattle.std.proofs.Common.{ℕ}
-use Rattle.std.proofs.Common.{zero}
-use Rattle.std.proofs.Common.{suc}
-use Rattle.std.proofs.Common.{◌+◌}
-use Rattle.std.proofs.Common.{◌-◌}
-use Rattle.std.proofs.Common.{◌<◌}
-use Rattle.std.proofs.Common.{◌≤◌}
-use Rattle.std.proofs.Common.{Bool}
-use Rattle.std.proofs.Common.{true}
-use Rattle.std.proofs.Common.{false}
-use Rattle.std.proofs.Common.{not}
-use Rattle.std.proofs.Common.{◌||◌}
-use Rattle.std.proofs.Common.{cond}
-use Rattle.std.proofs.Common.{List}
-use Rattle.std.proofs.Common.{[]}
-use Rattle.std.proofs.Common.{◌∷◌}
-use Rattle.std.proofs.Common.{◌++◌}
-use Rattle.std.proofs.Common.{length}
-use Rattle.std.proofs.Common.{get_or}
-use Rattle.std.proofs.Common.{set}
-use Rattle.std.proofs.Common.{length-set}
-use Rattle.std.proofs.Common.{length-append}
-use Rattle.std.proofs.Common.{◌⊎◌}
-use Rattle.std.proofs.Common.{Some}
-use Rattle.std.proofs.Common.{None}
-use Rattle.std.proofs.Common.{inl}
-use Rattle.std.proofs.Common.{inr}
-use Rattle.std.proofs.Common.{refl}
-use Rattle.std.proofs.Common.{ap}
-use Rattle.std.proofs.Common.{sym}
-use Rattle.std.proofs.Common.{◌∙◌}
-use Rattle.std.proofs.Common.{subst}
-use Rattle.std.proofs.Common.{arith}
-use Rattle.std.proofs.Common.{true≢false}
-use Rattle.std.proofs.Common.{◌*◌}
-use Rattle.std.proofs.Common.{◌/◌}
-use Rattle.std.proofs.Common.{◌%◌}
-use Rattle.std.proofs.Common.{◌^◌}
-use Rattle.std.proofs.Common.{◌==◌}
-use Rattle.std.proofs.Common.{if◌then◌else◌}
-use Rattle.std.proofs.Common.{◌&&◌}
-use Rattle.std.proofs.Common.{eq-eqb}
-use Rattle.std.proofs.Common.{eqb-true}
-use Rattle.std.proofs.Common.{All}
-use Rattle.std.specs.List.{list_any}
-use Rattle.std.specs.List.{find}
-use Rattle.std.specs.List.{filter}
-use Rattle.std.specs.List.{count_by}
-use Rattle.std.specs.List.{remove}
-use Rattle.std.specs.List.{refill}
-use Rattle.std.proofs.lemmas.List.{get_or-append_right}
-use Rattle.std.proofs.lemmas.List.{set-append_right}
-use Rattle.std.proofs.lemmas.List.Sums.{sum_by-cons}
-use Rattle.std.proofs.lemmas.List.Elements.{All-head}
-use Rattle.std.proofs.lemmas.List.Elements.{All-tail}
-use Rattle.std.proofs.lemmas.List.Elements.{All-cons}
-use Rattle.std.proofs.lemmas.List.Recursion.{or_at}
-use Rattle.std.proofs.Math.Bool.{and-false}
-use Rattle.std.proofs.lemmas.Bool.{cases_Bool}
-use Rattle.std.proofs.lemmas.Bool.{and_from}
-use Rattle.std.proofs.lemmas.Bool.{and_parts}
-use Rattle.std.proofs.lemmas.Bool.{or_right}
-use Rattle.std.proofs.lemmas.Bool.{false_from_ne_true}
-use Rattle.std.proofs.lemmas.Bool.{cond-false}
-use Rattle.std.proofs.lemmas.List.Sorted.{IsPermutation-cons}
-use Rattle.std.proofs.lemmas.List.Sorted.{IsPermutation-trans}
-use Rattle.std.proofs.lemmas.List.Sorted.{IsPermutation-middle}
-use Rattle.std.proofs.lemmas.List.Sorted.{All-permutation}
-use Rattle.std.proofs.lemmas.List.Sorted.{sum_by-IsPermutation}
-use Rattle.std.proofs.lemmas.List.Sorted.{list_any-IsPermutation}
-use Rattle.arrayvec.proofs.ArrayVecLemmas.{items-with_items}
+use Rattle.std.proofs.Common.{◌≡◌, ℕ, zero, suc, ◌+◌, ◌-◌, ◌<◌, ◌≤◌, Bool, true, false, not, ◌||◌, cond, List, [], ◌∷◌, ◌++◌, length, get_or, set, length-set}
+use Rattle.std.proofs.Common.{length-append, ◌⊎◌, Some, None, inl, inr, refl, ap, sym, ◌∙◌, subst, arith, true≢false, ◌*◌, ◌/◌, ◌%◌, ◌^◌, ◌==◌, if◌then◌else◌}
+use Rattle.std.proofs.{Common.{◌&&◌, eq-eqb, eqb-true, All}, lemmas.List.{get_or-append_right, set-append_right, Sums.sum_by-cons, Elements.All-head}}
+use Rattle.std.proofs.lemmas.List.{Elements.{All-tail, All-cons}, Recursion.or_at, Sorted.{IsPermutation-cons, IsPermutation-trans, IsPermutation-middle}}
+use Rattle.std.proofs.lemmas.{List.Sorted.{All-permutation, sum_by-IsPermutation, list_any-IsPermutation}, Bool.{cases_Bool, and_from, and_parts, or_right}}
+use Rattle.std.{proofs.{lemmas.Bool.{false_from_ne_true, cond-false}, Math.Bool.and-false}, specs.List.{list_any, find, filter, count_by, remove, refill}}
 use Rattle.std.specs.List.Sorted.{IsPermutation}
-use Rattle.pas_profile.specs.Classes.{IsClass}
-use Rattle.pas_profile.specs.Classes.{class_grains}
-use Rattle.pas_profile.specs.Classes.{IsSlotStart}
-use Rattle.pas_profile.specs.Blocks.{grain_of}
-use Rattle.pas_profile.specs.Blocks.{length_of}
-use Rattle.pas_bits.specs.Runs.{in_run}
-use Rattle.pas_bits.specs.Masks.{is_set}
-use Rattle.pas_bits.specs.Masks.{IsLowestSet}
-use Rattle.pas_bits.specs.Masks.{HasMember}
-use Rattle.pas_profile.specs.declared.name.Block.{Block}
-use Rattle.pas_profile.specs.declared.profile.Profile.{Profile}
-use Rattle.pas_profile.specs.declared.directory.Directory.{Directory}
-use Rattle.pas_profile.proofs.Sizes.{class_size_whole}
-use Rattle.pas_profile.proofs.Sizes.{class_grains_positive}
-use Rattle.pas_profile.proofs.Sizes.{slot_end}
+use Rattle.arrayvec.proofs.ArrayVecLemmas.{items-with_items}
+use Rattle.pas_profile.specs.{Classes.{IsClass, class_grains, IsSlotStart}, Blocks.{grain_of, length_of}, declared.{name.Block.Block, profile.Profile.Profile}}
+use Rattle.pas_profile.{specs.declared.directory.Directory.Directory, proofs.Sizes.{class_size_whole, class_grains_positive, slot_end}}
 use Rattle.pas_profile.proofs.Codecs.{deed_word_of-positive}
-use Rattle.pas_bits.proofs.Runs.{run_of}
-use Rattle.pas_bits.proofs.Runs.{to_run}
-use Rattle.pas_rights.specs.Gives.{MayGive}
-use Rattle.pas_rights.specs.Gives.{give_steps}
-use Rattle.pas_rights.specs.Gives.{GivesRun}
-use Rattle.pas_rights.proofs.Gives.{may_give_on}
-use Rattle.pas_steps.specs.Desks.{Standing}
-use Rattle.pas_steps.specs.Desks.{CanCall}
-use Rattle.pas_steps.specs.Agreement.{Agreed}
-use Rattle.pas_steps.specs.Views.{View}
-use Rattle.pas_steps.specs.Views.{holds}
-use Rattle.pas_steps.specs.Views.{knows_backed}
-use Rattle.pas_steps.proofs.Called.{call_as}
-use Rattle.pas_steps.proofs.Frames.{deed_stays}
-use Rattle.pas_steps.proofs.Calls.{does_then}
-use Rattle.pas_steps.proofs.Calls.{does_as}
-use Rattle.pas_steps.proofs.Calls.{does_step}
-use Rattle.pas_steps.proofs.Sets.{given_fate}
-use Rattle.pas_segregated.specs.Stops.{home_of}
-use Rattle.pas_segregated.specs.Stops.{of_slots}
-use Rattle.pas_segregated.specs.Stops.{MayStopAt}
-use Rattle.pas_segregated.specs.Stops.{home_by}
-use Rattle.pas_segregated.specs.declared.slots.Slots.{Slots}
-use Rattle.pas_segregated.proofs.Starts.{start_at}
-use Rattle.pas_segregated.proofs.Starts.{start_below}
-use Rattle.pas_cache.specs.Locals.{covers}
-use Rattle.pas_cache.specs.Locals.{keeps_right}
-use Rattle.pas_cache.specs.Locals.{any_covers}
-use Rattle.pas_cache.specs.Locals.{any_keeps}
-use Rattle.pas_cache.specs.Locals.{is_for}
-use Rattle.pas_cache.specs.Locals.{local_for}
-use Rattle.pas_cache.specs.Locals.{IsLocal}
-use Rattle.pas_cache.specs.Locals.{AreApart}
-use Rattle.pas_cache.specs.Locals.{RestsWith}
-use Rattle.pas_cache.specs.Changes.{IsWithoutSlot}
-use Rattle.pas_cache.specs.Changes.{GivesSlot}
-use Rattle.pas_cache.specs.Parts.{MayGiveSlot}
-use Rattle.pas_cache.specs.Parts.{GivesLowest}
-use Rattle.pas_steps.specs.Calls.{Effect}
-use Rattle.pas_steps.specs.Calls.{Fate}
-use Rattle.pas_steps.specs.Calls.{Kept}
-use Rattle.pas_steps.specs.Calls.{Gained}
-use Rattle.pas_steps.specs.Calls.{Lost}
-use Rattle.pas_steps.specs.Calls.{now}
-use Rattle.pas_steps.specs.Calls.{nothing}
-use Rattle.pas_steps.specs.Calls.{ClearAfter}
-use Rattle.pas_steps.specs.Calls.{Does}
-use Rattle.pas_steps.specs.declared.step.Made.{Made}
-use Rattle.pas_segregated.specs.Refills.{got}
-use Rattle.pas_segregated.specs.Refills.{GetsSlots}
-use Rattle.pas_segregated.specs.Masks.{start_of}
+use Rattle.pas_bits.{specs.{Runs.in_run, Masks.{is_set, IsLowestSet, HasMember}}, proofs.Runs.{run_of, to_run}}
+use Rattle.pas_rights.{specs.Gives.{MayGive, give_steps, GivesRun}, proofs.Gives.may_give_on}
+use Rattle.pas_steps.specs.{Desks.{Standing, CanCall}, Agreement.Agreed, Views.{View, holds, knows_backed}, Calls.{Effect, Fate, Kept, Gained, Lost, now}}
+use Rattle.pas_steps.{specs.{Calls.{nothing, ClearAfter, Does}, declared.step.Made.Made}, proofs.{Called.call_as, Frames.deed_stays, Calls.does_then}}
+use Rattle.pas_steps.proofs.{Calls.{does_as, does_step}, Sets.given_fate}
+use Rattle.pas_segregated.specs.{Stops.{home_of, of_slots, MayStopAt, home_by}, declared.slots.Slots.Slots, Refills.{got, GetsSlots}, Masks.start_of}
+use Rattle.pas_segregated.proofs.Starts.{start_at, start_below}
+use Rattle.pas_cache.specs.{Locals.{covers, keeps_right, any_covers, any_keeps, is_for, local_for, IsLocal, AreApart, RestsWith}, Changes.IsWithoutSlot}
+use Rattle.pas_cache.specs.{Changes.GivesSlot, Parts.{MayGiveSlot, GivesLowest}}
 
 abbrev one_if : Bool → ℕ
 one_if t = cond t 1 0

@@ -1,46 +1,33 @@
 -- By which route a request goes, and what requests for bit-fit pages and for whole pages do.
 use Rattle.std.proofs.Common.{◌≡◌, ℕ, ◌<◌, ◌≤◌, if◌then◌else◌, Option, None, sym, subst, arith, max, ◌+◌, ◌-◌, ◌*◌, ◌/◌, ◌%◌, ◌==◌, Bool, true, false, List, []}
 use Rattle.std.proofs.Common.{◌++◌, length, Ok, Err, Result, refl, ap, ◌∙◌, length-append, ◌||◌, ◌∷◌, ◌⊎◌, inl, inr, append_assoc, true≢false, le-leb, eqb-true}
-use Rattle.std.proofs.Common.{All, MatchResult, min}
-use Rattle.std.proofs.{lemmas.Bool.cases_Bool, lemmas.Bool.and_parts, lemmas.Bool.false_from_ne_true, Math.Nat.le-max_right, Math.Nat.zero-mod}
-use Rattle.std.proofs.{lemmas.List.Elements.All-head, lemmas.List.Elements.All-tail}
-use Rattle.pas_profile.specs.{Classes.sizes_of, Classes.IsAlignment, Profiles.IsPage, Blocks.address_of, Blocks.grain_of, Blocks.length_of}
-use Rattle.pas_profile.specs.Routes.{first_class, route_with, route_of, room_by, room_of, IsRouteOf}
-use Rattle.pas_profile.specs.declared.{directory.Route.Route, directory.Directory.Directory, event.NoRoom.NoRoom, name.Block.Block, profile.Profile.Profile}
-use Rattle.pas_profile.specs.declared.{event.Event.Event, directory.Kind.Kind}
-use Rattle.pas_profile.proofs.{Sizes.large_for, Sizes.bitfit_suits, Sizes.route_is, Codecs.deed_word_of-positive, Lists.all_both, Lists.all_map}
+use Rattle.std.proofs.{Common.{All, MatchResult, min}, lemmas.{Bool.{cases_Bool, and_parts, false_from_ne_true}, List.Elements.{All-head, All-tail}}}
+use Rattle.std.{proofs.Math.Nat.{le-max_right, zero-mod}, specs.List.AllByRecursion}
+use Rattle.pas_profile.specs.{Classes.{sizes_of, IsAlignment}, Profiles.IsPage, Blocks.{address_of, grain_of, length_of}, Routes.{first_class, route_with}}
+use Rattle.pas_profile.specs.{Routes.{route_of, room_by, room_of, IsRouteOf}, declared.directory.{Route.Route, Directory.Directory, Kind.Kind}}
+use Rattle.pas_profile.specs.{declared.{event.{NoRoom.NoRoom, Event.Event}, name.Block.Block, profile.Profile.Profile}, Requests.{is_shared, kind_of_class}}
+use Rattle.pas_profile.{specs.Requests.{kind_of_route, route_in, room_in}, proofs.{Sizes.{large_for, bitfit_suits, route_is}, Codecs.deed_word_of-positive}}
+use Rattle.pas_profile.proofs.Lists.{all_both, all_map}
 use Rattle.pas_cache.specs.Serves.{IsSmallRoute, Wanted, wanted_for, IsBlockFor, IsFew, IsSilent, IsToldBy, IsPreparing, IsDeedOf, MakesDeedsOf}
-use Rattle.pas_profile.specs.Requests.{is_shared, kind_of_class, kind_of_route, route_in, room_in}
-use Rattle.pas_bits.specs.Runs.{in_run}
-use Rattle.pas_bits.proofs.Runs.{run_of}
-use Rattle.pas_steps.specs.{Agreement.Agreed, Calls.Kept, Calls.Lost, Calls.now, Events.events_by, Views.View, Views.KnowsDeed, Views.known_deed, Lists.Whole}
-use Rattle.pas_steps.specs.{Desks.Standing, Desks.CanCall, Desks.triples, Unknown.unknown_pages}
-use Rattle.pas_steps.specs.Kinds.{returning, Only, Backing, looking, kind_of, is_in}
-use Rattle.pas_steps.specs.declared.step.{Made.Made, Step.Step, Step.TheVariants.Deed}
-use Rattle.pas_steps.proofs.Adding.{agreed_later, adds_under, agreed_first, adds_none, can_call}
-use Rattle.pas_steps.proofs.{Apart.only_both, Apart.only_within, Apart.events_same, Calls.returns_are, Frames.events_append, Past.always_pair}
-use Rattle.pas_steps.proofs.{Unknown.unknown_no_more, Events.ComesOf, Events.comes_of, Events.each_event}
-use Rattle.pas_search.proofs.ForBackEnds.{events_quiet}
-use Rattle.pas_search.specs.{Kinds.searching, Telling.IsTold, Allocates.GaveBlock, Allocates.IsGiven}
-use Rattle.pas_search.specs.Searches.{MaySearch, IsRefused, SearchRoom, search_steps}
-use Rattle.pas_segregated.specs.declared.slots.Slots.{Slots}
-use Rattle.pas_bitfit.specs.Allocates.{bitfit_directory, run_for, IsOfRequest, IsAllocated, Allocates}
-use Rattle.pas_bitfit.specs.Runs.{NoneFits, runs, run_at}
-use Rattle.pas_rights.specs.Gives.{give_steps}
-use Rattle.pas_rights.proofs.{Gives.covers, Orders.leave_returns}
-use Rattle.pas_cache.specs.{Caches.Cached, Caches.AtRest, Kinds.allocating, Locals.any_keeps, Locals.IsLocal, Locals.RestsWith}
-use Rattle.pas_cache.specs.Calls.{MayAllocate, Allocates as Serves, MayAllocatePages, AllocatesPages, most_events, IsNamed, MayRequestBy, MayRequest}
-use Rattle.pas_cache.specs.Calls.{AllocatesBy, AllocatesRequest}
-use Rattle.pas_cache.proofs.Obtained.{chosen_few, silent_few, prepared, no_right_of}
-use Rattle.pas_cache.proofs.Resting.{locals_after, rests_by, rests_kept}
-use Rattle.std.specs.List.{AllByRecursion}
+use Rattle.pas_cache.specs.{Caches.{Cached, AtRest}, Kinds.allocating, Locals.{any_keeps, IsLocal, RestsWith}, Calls.{MayAllocate, Allocates as Serves}}
+use Rattle.pas_cache.specs.Calls.{MayAllocatePages, AllocatesPages, most_events, IsNamed, MayRequestBy, MayRequest, AllocatesBy, AllocatesRequest}
+use Rattle.pas_cache.proofs.{Obtained.{chosen_few, silent_few, prepared, no_right_of}, Resting.{locals_after, rests_by, rests_kept}}
+use Rattle.pas_bits.{specs.Runs.in_run, proofs.Runs.run_of}
+use Rattle.pas_steps.specs.{Agreement.Agreed, Calls.{Kept, Lost, now}, Events.events_by, Views.{View, KnowsDeed, known_deed}, Lists.Whole, Desks.Standing}
+use Rattle.pas_steps.specs.{Desks.{CanCall, triples}, Unknown.unknown_pages, Kinds.{returning, Only, Backing, looking, kind_of, is_in}, declared.step.Made.Made}
+use Rattle.pas_steps.{specs.declared.step.Step.{Step, TheVariants.Deed}, proofs.Adding.{agreed_later, adds_under, agreed_first, adds_none, can_call}}
+use Rattle.pas_steps.proofs.{Apart.{only_both, only_within, events_same}, Calls.returns_are, Frames.events_append, Past.always_pair, Unknown.unknown_no_more}
+use Rattle.pas_steps.proofs.Events.{ComesOf, comes_of, each_event}
+use Rattle.pas_search.{proofs.ForBackEnds.events_quiet, specs.{Kinds.searching, Telling.IsTold, Allocates.{GaveBlock, IsGiven}, Searches.MaySearch}}
+use Rattle.pas_search.specs.Searches.{IsRefused, SearchRoom, search_steps}
+use Rattle.pas_segregated.specs.{declared.slots.Slots.Slots, Stops.home_of}
+use Rattle.pas_bitfit.specs.{Allocates.{bitfit_directory, run_for, IsOfRequest, IsAllocated, Allocates}, Runs.{NoneFits, runs, run_at}}
 use Rattle.pas_bitfit.proofs.Aligned.{stands_aligned}
-use Rattle.pas_large.specs.Allocates.{GaveLarge, IsServedNamed, IsScanned, AllocatesLarge}
-use Rattle.pas_large.proofs.Finds.{MadeOf, IsGivenRun, IsRefusedRun, HasEnded, ended}
-use Rattle.pas_large.specs.{Claims.in_span, Finds.MayFind, Finds.FindRoom, Finds.finding, Pages.OnlyDeedsShow, Named.missed_steps, Telling.IsToldByDoor}
-use Rattle.pas_large.proofs.{Claims.in_parts, Gives.run_is, Gives.back_events, Allocates.scans_only}
+use Rattle.pas_rights.{specs.Gives.give_steps, proofs.{Gives.covers, Orders.leave_returns}}
+use Rattle.pas_large.specs.{Allocates.{GaveLarge, IsServedNamed, IsScanned, AllocatesLarge}, Claims.in_span, Finds.{MayFind, FindRoom, finding}}
+use Rattle.pas_large.{specs.{Pages.OnlyDeedsShow, Named.missed_steps, Telling.IsToldByDoor}, proofs.Finds.{MadeOf, IsGivenRun, IsRefusedRun, HasEnded, ended}}
+use Rattle.pas_large.proofs.{Claims.in_parts, Gives.{run_is, back_events}, Allocates.scans_only}
 use Rattle.pas_scan.specs.Runs.{large_directory}
-use Rattle.pas_segregated.specs.Stops.{home_of}
 
 -- ==== The route, by the size, in a region of so many classes.
 

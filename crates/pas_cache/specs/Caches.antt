@@ -3,8 +3,7 @@ use Rattle.std.specs.Prelude.{ℕ, ◌≤◌, length, All}
 use Rattle.pas_profile.specs.declared.profile.Profile.{Profile}
 use Rattle.pas_steps.specs.Views.{View}
 use Rattle.pas_free_log.specs.Conditions.{IsEntryOf}
-use Rattle.pas_cache.specs.Locals.{RestsWith}
-use Rattle.pas_cache.specs.declared.cache.ThreadCache.{ThreadCache}
+use Rattle.pas_cache.specs.{Locals.RestsWith, declared.cache.ThreadCache.ThreadCache}
 pub use Rattle.pas_cache.specs.Contents.{Cached}
 
 -- the thread whose cache it is

@@ -1,16 +1,15 @@
 -- What the calls of a cache promise.
 use Rattle.std.specs.Prelude.{ℕ, ◌+◌, ◌*◌, ◌≤◌, ◌≡◌, Bool, true, List, [], ◌∷◌, ◌++◌, length, Option, None, Result, Ok, Err, MatchResult}
-use Rattle.pas_profile.specs.declared.{event.FreeFault.FreeFault, event.NoRoom.NoRoom, directory.Route.Route, name.Name.Name, name.Block.Block}
-use Rattle.pas_profile.specs.declared.{profile.Profile.Profile, word.Word.Word, event.Range.Range, entry.Entry.Entry}
-use Rattle.pas_steps.specs.{Views.View, Events.events_by, Lists.Whole, Calls.Calls, Desks.Standing, Desks.triples, Desks.made, Unknown.HasRoom}
-use Rattle.pas_steps.specs.{Unknown.unknown_pages, Clear.HasNothing, Kinds.Only}
-use Rattle.pas_steps.specs.declared.step.{Made.Made, Step.TheVariants.Look}
+use Rattle.pas_profile.specs.declared.{event.{FreeFault.FreeFault, NoRoom.NoRoom, Range.Range}, directory.Route.Route, name.{Name.Name, Block.Block}}
+use Rattle.pas_profile.specs.declared.{profile.Profile.Profile, word.Word.Word, entry.Entry.Entry}
+use Rattle.pas_steps.specs.{Views.View, Events.events_by, Lists.Whole, Calls.Calls, Desks.{Standing, triples, made}, Unknown.{HasRoom, unknown_pages}}
+use Rattle.pas_steps.specs.{Clear.HasNothing, Kinds.Only, declared.step.{Made.Made, Step.TheVariants.Look}}
 use Rattle.pas_large.specs.{Named.missed_steps, Telling.IsToldByDoor}
 use Rattle.pas_search.specs.Searches.{search_steps}
 use Rattle.pas_free_log.specs.declared.noting.EndedRun.{EndedRun}
-use Rattle.pas_cache.specs.{Caches.Cached, Caches.AtRest, Names.IsInRegion, Names.IsFaultOf, Changes.EmptiesLog, Changes.LogsEntry, Changes.StopsEach}
-use Rattle.pas_cache.specs.{Kinds.releasing, Kinds.allocating, Contents.with_log, Contents.with_noted_alone}
-use Rattle.pas_cache.specs.Serves.{Wanted, turn_of, HasCached, ServesRequest, IsBlockFor, pages_of, MakesFew, MakesAtMost, MakesDeedsOf, IsSilent, IsToldBy}
+use Rattle.pas_cache.specs.{Caches.{Cached, AtRest}, Names.{IsInRegion, IsFaultOf}, Changes.{EmptiesLog, LogsEntry, StopsEach}, Kinds.{releasing, allocating}}
+use Rattle.pas_cache.specs.{Contents.{with_log, with_noted_alone}, Serves.{Wanted, turn_of, HasCached, ServesRequest, IsBlockFor, pages_of, MakesFew}}
+use Rattle.pas_cache.specs.Serves.{MakesAtMost, MakesDeedsOf, IsSilent, IsToldBy}
 
 -- an actor at rest with the one cache is at rest with the other after these steps
 abbrev pub Rests : Cached → Cached → Standing → Standing → List Made → Type 0

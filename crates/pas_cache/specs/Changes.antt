@@ -1,16 +1,11 @@
 -- How the content of a cache changes, over the steps of a call, the newest first.
 use Rattle.std.specs.Prelude.{ℕ, ◌+◌, ◌*◌, ◌≤◌, ◌≡◌, ◌==◌, nat_le, Bool, true, false, not, ◌&&◌, List, [], ◌∷◌, ◌++◌, length, map, reverse, Option, None, Some}
 use Rattle.std.specs.List.{flat_map}
-use Rattle.pas_profile.specs.{Classes.class_size, Lives.turn_of, Blocks.address_of}
-use Rattle.pas_profile.specs.declared.{name.Block.Block, word.Word.Word, entry.Entry.Entry}
+use Rattle.pas_profile.specs.{Classes.class_size, Lives.turn_of, Blocks.address_of, declared.{name.Block.Block, word.Word.Word, entry.Entry.Entry}}
 use Rattle.pas_bits.specs.Masks.{is_set, IsLowestSet, IsEmpty}
-use Rattle.pas_steps.specs.{Views.View, Events.events_by, Desks.made}
-use Rattle.pas_steps.specs.declared.step.{Made.Made, Step.TheVariants.Look, Step.TheVariants.Give}
-use Rattle.pas_free_log.specs.declared.noting.EndedRun.{EndedRun}
-use Rattle.pas_free_log.specs.Stamps.{stamps_by}
-use Rattle.pas_free_log.specs.Flushes.{Settled, EntriesSteps, shown_for, stamps_for, noted_after}
-use Rattle.pas_segregated.specs.Stops.{home_of, LeavesWhere, StopStepsAt}
-use Rattle.pas_segregated.specs.declared.slots.Slots.{Slots}
+use Rattle.pas_steps.specs.{Views.View, Events.events_by, Desks.made, declared.step.{Made.Made, Step.TheVariants.{Look, Give}}}
+use Rattle.pas_free_log.specs.{declared.noting.EndedRun.EndedRun, Stamps.stamps_by, Flushes.{Settled, EntriesSteps, shown_for, stamps_for, noted_after}}
+use Rattle.pas_segregated.specs.{Stops.{home_of, LeavesWhere, StopStepsAt}, declared.slots.Slots.Slots}
 use Rattle.pas_cache.specs.Locals.{local_for, others_than}
 
 -- ---- a slot is given

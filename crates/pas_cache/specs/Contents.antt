@@ -1,7 +1,6 @@
 -- What a cache contains.
 use Rattle.std.specs.Prelude.{ℕ, List, [], All}
-use Rattle.pas_free_log.specs.Noted.{AreRanges}
-use Rattle.pas_free_log.specs.declared.noting.EndedRun.{EndedRun}
+use Rattle.pas_free_log.specs.{Noted.AreRanges, declared.noting.EndedRun.EndedRun}
 use Rattle.pas_profile.specs.declared.entry.Entry.{Entry}
 use Rattle.pas_segregated.specs.declared.slots.Slots.{Slots}
 use Rattle.pas_cache.specs.Locals.{HasOneEach, IsFormed}

@@ -1,14 +1,11 @@
 -- Local allocators: each is the unused slots of one page that a thread got for a heap and a class. A list of them is in order of last use, the
 -- last used at the end.
-use Rattle.std.specs.Prelude.{ℕ, ◌<◌, ◌≤◌, ◌≡◌, ◌==◌, Bool, true, ◌&&◌, not, List, length, Option, All, slice_index_or}
-use Rattle.std.specs.List.{list_any, find, filter, count_by}
-use Rattle.pas_profile.specs.{Classes.IsClass, Profiles.IsPage, Profiles.IsDirectoryOf, Requests.is_shared}
-use Rattle.pas_profile.specs.declared.profile.Profile.{Profile}
-use Rattle.pas_steps.specs.Views.{View, holds, has_right, knows_backed, KnowsDeed}
-use Rattle.pas_steps.specs.Clear.{IsClear}
-use Rattle.pas_segregated.specs.{Masks.AreStarts, Stops.home_of, Stops.in_slots}
+use Rattle.std.specs.{Prelude.{ℕ, ◌<◌, ◌≤◌, ◌≡◌, ◌==◌, Bool, true, ◌&&◌, not, List, length, Option, All, slice_index_or}, List.{list_any, find, filter}}
+use Rattle.std.specs.List.{count_by}
+use Rattle.pas_profile.specs.{Classes.IsClass, Profiles.{IsPage, IsDirectoryOf}, Requests.is_shared, declared.profile.Profile.Profile}
+use Rattle.pas_steps.specs.{Views.{View, holds, has_right, knows_backed, KnowsDeed}, Clear.IsClear}
+use Rattle.pas_segregated.specs.{Masks.AreStarts, Stops.{home_of, in_slots}, declared.slots.Slots.Slots}
 use Rattle.pas_bits.specs.Masks.{HasMember}
-use Rattle.pas_segregated.specs.declared.slots.Slots.{Slots}
 
 -- ---- what it has
 -- the grain, a number of the region, is of one of its slots

@@ -1,12 +1,9 @@
 -- Names that are logged, and the flush of a full log.
 use Rattle.std.specs.Prelude.{◌/◌, ◌%◌, ◌≡◌, ◌≢◌, Bool, List, All}
-use Rattle.pas_profile.specs.{Profiles.IsPage, Blocks.address_of}
-use Rattle.pas_profile.specs.declared.{event.FreeFault.FreeFault, event.FreeFault.TheVariants.Outside, event.FreeFault.TheVariants.Unaligned, name.Name.Name}
+use Rattle.pas_profile.specs.{Profiles.IsPage, Blocks.address_of, declared.{event.FreeFault.{FreeFault, TheVariants.{Outside, Unaligned}}, name.Name.Name}}
 use Rattle.pas_profile.specs.declared.{profile.Profile.Profile, entry.Entry.Entry}
-use Rattle.pas_steps.specs.{Views.View, Calls.Calls, Calls.Does, Calls.nothing, Desks.Standing, Clear.IsClear}
-use Rattle.pas_steps.specs.declared.step.Made.{Made}
-use Rattle.pas_free_log.specs.declared.noting.EndedRun.{EndedRun}
-use Rattle.pas_free_log.specs.{Noted.AreRanges, Conditions.IsEntryOf}
+use Rattle.pas_steps.specs.{Views.View, Calls.{Calls, Does, nothing}, Desks.Standing, Clear.IsClear, declared.step.Made.Made}
+use Rattle.pas_free_log.specs.{declared.noting.EndedRun.EndedRun, Noted.AreRanges, Conditions.IsEntryOf}
 use Rattle.pas_cache.specs.Changes.{EmptiesFull, LogsEntry}
 
 -- the address is a multiple of 16 on a page of the region

@@ -1,17 +1,15 @@
 -- What the parts of the calls ask and promise.
 use Rattle.std.specs.Prelude.{ℕ, ◌^◌, ◌<◌, ◌≤◌, ◌≡◌, Bool, true, false, List, [], ◌∷◌, ◌++◌, length, remove, slice_index_or, Some, Result, Ok, MatchResult}
-use Rattle.pas_profile.specs.declared.{event.NoRoom.NoRoom, name.Block.Block, profile.Profile.Profile}
-use Rattle.pas_steps.specs.{Views.View, Views.holds, Views.is_unstamped, Lists.Whole, Calls.Calls, Desks.Standing, Desks.triples, Kinds.Only, Unknown.HasRoom}
 use Rattle.std.specs.{List.cons_option, Result.result_ok}
+use Rattle.pas_profile.specs.declared.{event.NoRoom.NoRoom, name.Block.Block, profile.Profile.Profile}
+use Rattle.pas_steps.specs.{Views.{View, holds, is_unstamped}, Lists.Whole, Calls.Calls, Desks.{Standing, triples}, Kinds.Only, Unknown.HasRoom}
 use Rattle.pas_steps.specs.declared.step.Made.{Made}
-use Rattle.pas_cache.specs.{Kinds.releasing, Kinds.allocating, Changes.GivesSlot, Changes.StopsOne}
+use Rattle.pas_cache.specs.{Kinds.{releasing, allocating}, Changes.{GivesSlot, StopsOne}, Locals.{covers, local_for, others_than, IsLocal, RestsWith}}
+use Rattle.pas_cache.specs.Serves.{IsObtained, ServesLocals, class_wanted, IsBlockFor, MakesFew, IsSilent, HasNoneCached}
 use Rattle.pas_bits.specs.Masks.{HasMember}
-use Rattle.pas_segregated.specs.{Stops.home_of, Refills.Filling}
+use Rattle.pas_segregated.specs.{Stops.home_of, Refills.Filling, declared.slots.Slots.Slots}
 use Rattle.pas_core.specs.Fits.{HasNoFit}
 use Rattle.pas_search.specs.Telling.{IsTrueReason}
-use Rattle.pas_segregated.specs.declared.slots.Slots.{Slots}
-use Rattle.pas_cache.specs.Locals.{covers, local_for, others_than, IsLocal, RestsWith}
-use Rattle.pas_cache.specs.Serves.{IsObtained, ServesLocals, class_wanted, IsBlockFor, MakesFew, IsSilent, HasNoneCached}
 
 -- an actor at rest with the one list is at rest with the other after these steps
 abbrev pub Rests : List Slots → List Slots → Standing → Standing → List Made → Type 0

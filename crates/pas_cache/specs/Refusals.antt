@@ -1,9 +1,8 @@
 -- When the refusal of a request is true of the states before and after it, and when what a door named for it serves it.
 use Rattle.std.specs.Prelude.{ℕ, ◌≡◌, ◌≢◌, false, List, Option, Result}
 use Rattle.pas_profile.specs.declared.{directory.Route.Route, event.NoRoom.NoRoom, name.Block.Block, profile.Profile.Profile}
-use Rattle.pas_steps.specs.{Lists.Whole, Lists.part, Views.has_right}
+use Rattle.pas_steps.specs.{Lists.{Whole, part}, Views.has_right, declared.step.Made.Made}
 use Rattle.pas_search.specs.Telling.{IsTrueReason}
-use Rattle.pas_steps.specs.declared.step.Made.{Made}
 use Rattle.pas_large.specs.{Alone.GoesByDoor, Telling.HasNoUsableRun}
 use Rattle.pas_segregated.specs.declared.slots.Slots.{Slots}
 use Rattle.pas_cache.specs.Serves.{Wanted, pages_of, IsTrueRefusal}

@@ -1,25 +1,20 @@
 -- How a request of a class changes a cache, and what its block is.
 use Rattle.std.specs.Prelude.{ℕ, ◌+◌, ◌*◌, ◌/◌, ◌^◌, ◌<◌, ◌≤◌, ◌%◌, ◌≡◌, true, ◌⊎◌, List, [], ◌∷◌, ◌++◌, length, Option, Some, Result, Ok, Err, MatchResult}
 use Rattle.std.specs.List.{AllByRecursion}
-use Rattle.pas_profile.specs.{Profiles.IsPage, Profiles.IsDirectoryOf, Classes.IsClass, Classes.IsSlotStart, Classes.class_size, Blocks.address_of}
-use Rattle.pas_profile.specs.{Blocks.grain_of, Blocks.length_of}
-use Rattle.pas_profile.specs.Requests.{directory_for, is_shared, kind_of_class, route_in, room_in}
-use Rattle.pas_profile.specs.declared.{directory.Directory.Directory, directory.Kind.Kind as TheKind, directory.Kind.Kind, directory.Route.Route}
-use Rattle.pas_profile.specs.declared.{event.Event.Event, event.NoRoom.NoRoom, name.Block.Block, profile.Profile.Profile}
-use Rattle.pas_bits.specs.{Runs.in_run, Masks.HasMember}
-use Rattle.pas_steps.specs.{Views.View, Views.KnowsDeed, Events.events_by, Agreement.Agreed, Lists.Whole, Evidence.Readings, Evidence.IsAntitone, Calls.Leads}
-use Rattle.pas_steps.specs.{Kinds.Only, Past.Always, Unknown.unknown_pages}
-use Rattle.pas_steps.specs.declared.step.Made.{Made}
-use Rattle.pas_search.specs.{Kinds.AreSearch, Kinds.ReturnsDuly, Searches.search_steps, Searches.IsRefused, Telling.IsTrueReason, Choices.TookChosen}
+use Rattle.pas_profile.specs.{Profiles.{IsPage, IsDirectoryOf}, Classes.{IsClass, IsSlotStart, class_size}, Blocks.{address_of, grain_of, length_of}}
+use Rattle.pas_profile.specs.{Requests.{directory_for, is_shared, kind_of_class, route_in, room_in}, declared.directory.Directory.Directory}
+use Rattle.pas_profile.specs.declared.{directory.{Kind.{Kind as TheKind, Kind}, Route.Route}, event.{Event.Event, NoRoom.NoRoom}, name.Block.Block}
+use Rattle.pas_profile.specs.declared.profile.Profile.{Profile}
+use Rattle.pas_bits.specs.{Runs.in_run, Masks.HasMember, declared.mask.Mask4.Mask4}
+use Rattle.pas_steps.specs.{Views.{View, KnowsDeed}, Events.events_by, Agreement.Agreed, Lists.Whole, Evidence.{Readings, IsAntitone}, Calls.Leads, Kinds.Only}
+use Rattle.pas_steps.specs.{Past.Always, Unknown.unknown_pages, declared.step.Made.Made}
+use Rattle.pas_search.specs.{Kinds.{AreSearch, ReturnsDuly}, Searches.{search_steps, IsRefused}, Telling.IsTrueReason, Choices.TookChosen}
 use Rattle.pas_core.specs.Fits.{HasNoFit}
-use Rattle.pas_cache.specs.{Kinds.releasing, Locals.local_for, Locals.others_than, Locals.RestsWith, Caches.Cached, Changes.GivesSlot, Changes.IsTakenOut}
-use Rattle.pas_cache.specs.{Changes.IsShortened}
-use Rattle.pas_segregated.specs.{Takes.NoSlot, Takes.TookSlots, Refills.Filling, Refills.GivesSlots}
+use Rattle.pas_cache.specs.{Kinds.releasing, Locals.{local_for, others_than, RestsWith}, Caches.Cached, Changes.{GivesSlot, IsTakenOut, IsShortened}}
+use Rattle.pas_segregated.specs.{Takes.{NoSlot, TookSlots}, Refills.{Filling, GivesSlots}, declared.slots.Slots.Slots}
 use Rattle.pas_partial.specs.Rows.{rows}
-use Rattle.pas_large.specs.{Allocates.IsServedNamed, Allocates.IsScanned, Pages.claiming_old}
-use Rattle.pas_bitfit.specs.{Allocates.run_for, Allocates.IsAllocated, Runs.NoneFits}
-use Rattle.pas_bits.specs.declared.mask.Mask4.{Mask4}
-use Rattle.pas_segregated.specs.declared.slots.Slots.{Slots}
+use Rattle.pas_large.specs.{Allocates.{IsServedNamed, IsScanned}, Pages.claiming_old}
+use Rattle.pas_bitfit.specs.{Allocates.{run_for, IsAllocated}, Runs.NoneFits}
 
 -- ---- the route
 -- a request is small: its route is a class or bit-fit pages

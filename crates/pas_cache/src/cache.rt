@@ -39,7 +39,7 @@ impl ThreadCache {
     ghost use Rattle.std.specs.Prelude.{◌≡◌, [], length};
     ghost use Rattle.pas_steps.specs.{Desks.CanCall, Clear.HasNothing, Views.View};
     ghost use Rattle.pas_utility.specs.Seats.{thread_of};
-    ghost use Rattle.pas_cache.specs.{Caches.cached, Caches.seat_of, Caches.AtRest, Calls.Begins};
+    ghost use Rattle.pas_cache.specs.{Caches.{cached, seat_of, AtRest}, Calls.Begins};
     ghost use Rattle.pas_profile.specs.declared.profile.Profile.{Profile};
 
     /// An empty cache of the seat's thread. An actor that holds and has nothing is at rest with it.

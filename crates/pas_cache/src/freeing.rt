@@ -58,7 +58,7 @@ impl ThreadCache {
     ghost use Rattle.std.specs.Prelude.{◌≡◌, ◌<◌, ◌≤◌, ◌-◌, ◌*◌, ◌%◌, ◌^◌, ◌+◌, length};
     ghost use Rattle.pas_profile.specs.Entries.{entry_of, sized_entry};
     ghost use Rattle.pas_steps.specs.Desks.{CanCall};
-    ghost use Rattle.pas_cache.specs.{Caches.cached, Caches.seat_of, Caches.AtRest, Calls.Frees, Calls.FlushesLog};
+    ghost use Rattle.pas_cache.specs.{Caches.{cached, seat_of, AtRest}, Calls.{Frees, FlushesLog}};
 
     /// Logs the name of a block that is freed; its block ends at the next flush. A log of 64 names is flushed first, and otherwise no step is
     /// made.

@@ -1,8 +1,8 @@
 //! Slots are given up.
 ghost use Rattle.std.specs.Prelude.{◌≡◌};
-ghost use Rattle.pas_profile.specs.{Classes.IsClass, Profiles.IsPage, Profiles.IsDirectoryOf};
+ghost use Rattle.pas_profile.specs.{Classes.IsClass, Profiles.{IsPage, IsDirectoryOf}};
 ghost use Rattle.pas_steps.specs.Desks.{CanCall};
-ghost use Rattle.pas_segregated.specs.{Masks.AreStarts, Stops.home_of, Stops.MayStopAt, Stops.StopsAt};
+ghost use Rattle.pas_segregated.specs.{Masks.AreStarts, Stops.{home_of, MayStopAt, StopsAt}};
 
 use pas_profile::{Directory, Kind};
 use pas_segregated::{Slots, stop_on};

@@ -12,7 +12,7 @@ impl ThreadCache {
     ghost use Rattle.pas_profile.specs.{Classes.IsAlignment, Requests.route_in};
     ghost use Rattle.pas_profile.specs.declared.directory.Route.TheVariants as TheRoute;
     ghost use Rattle.pas_steps.specs.Desks.{CanCall};
-    ghost use Rattle.pas_cache.specs.{Serves.wanted_for, Caches.cached, Caches.seat_of, Calls.MayAllocatePages, Calls.AllocatesPages, Calls.SettlesEach};
+    ghost use Rattle.pas_cache.specs.{Serves.wanted_for, Caches.{cached, seat_of}, Calls.{MayAllocatePages, AllocatesPages, SettlesEach}};
 
     /// A block of the heap for so many bytes, in whole pages. It begins with a page, so it suits every alignment.
     ///

@@ -1,11 +1,9 @@
 //! What a cache's request comes to where no other actor makes a step meanwhile, whatever its desk tells. Each law is the contract of an empty function.
 ghost use Rattle.std.specs.Prelude.{ℕ, ◌≡◌, List, ◌++◌, Option, Result, Err};
-ghost use Rattle.pas_profile.specs.Profiles.{IsValid, IsAdmitted};
-ghost use Rattle.pas_profile.specs.declared.{event.NoRoom.NoRoom, event.NoRoom.TheVariants.NoSpace, name.Block.Block, profile.Profile.Profile};
-ghost use Rattle.pas_steps.specs.{Desks.triples, Lists.Whole, Lists.part, Lists.Legal};
-ghost use Rattle.pas_steps.specs.declared.step.Made.{Made};
-ghost use Rattle.pas_cache.specs.{Caches.Cached, Caches.AtRest, Refusals.IsTrulyRefused, Refusals.OthersHaveNone, Refusals.TakesWhatIsNamed, Serves.wanted_for};
-ghost use Rattle.pas_cache.specs.{Serves.ServesRequest};
+ghost use Rattle.pas_profile.specs.{Profiles.{IsValid, IsAdmitted}, declared.{event.NoRoom.{NoRoom, TheVariants.NoSpace}, name.Block.Block}};
+ghost use Rattle.pas_profile.specs.declared.profile.Profile.{Profile};
+ghost use Rattle.pas_steps.specs.{Desks.triples, Lists.{Whole, part, Legal}, declared.step.Made.Made};
+ghost use Rattle.pas_cache.specs.{Caches.{Cached, AtRest}, Refusals.{IsTrulyRefused, OthersHaveNone, TakesWhatIsNamed}, Serves.{wanted_for, ServesRequest}};
 
 /// Where the steps by which a request was refused stand together in a legal list, which is so where no other actor made a step meanwhile, the refusal is true,
 /// whatever run a door named for it: no slot was cached, nothing could serve the request before these steps, nothing can after them, and the reason is true

@@ -1,8 +1,7 @@
 //! Slots are obtained for a request.
 ghost use Rattle.std.specs.Prelude.{◌≡◌, ◌<◌, None, Err, MatchResult, length};
 ghost use Rattle.pas_steps.specs.Desks.{CanCall};
-ghost use Rattle.pas_cache.specs.{Locals.local_for, Locals.RestsWith, Changes.IsTakenOut, Changes.IsShortened};
-ghost use Rattle.pas_cache.specs.Parts.{Releases, MayObtain, Obtains, StandsLast};
+ghost use Rattle.pas_cache.specs.{Locals.{local_for, RestsWith}, Changes.{IsTakenOut, IsShortened}, Parts.{Releases, MayObtain, Obtains, StandsLast}};
 ghost use Rattle.pas_cache.specs.Serves.{IsFilling, filling_in, MakesPlace, HasNoneCached};
 
 use crate::refilling::refill;

@@ -3,7 +3,7 @@ ghost use Rattle.std.specs.Prelude.{◌≡◌, ◌≤◌, max};
 ghost use Rattle.pas_profile.specs.Routes.{room_by};
 ghost use Rattle.pas_profile.specs.declared.directory.Route.TheVariants as TheRoute;
 ghost use Rattle.pas_steps.specs.Desks.{CanCall};
-ghost use Rattle.pas_cache.specs.{Serves.IsFilling, Serves.filling_in, Parts.MayObtain, Parts.ServesFrom};
+ghost use Rattle.pas_cache.specs.{Serves.{IsFilling, filling_in}, Parts.{MayObtain, ServesFrom}};
 
 use crate::cache::ThreadCache;
 use crate::giving::give_lowest;
@@ -49,8 +49,8 @@ fn bitfit_room(size: u32) -> u32
 impl ThreadCache {
     ghost use Rattle.std.specs.Prelude.{◌≡◌, ◌+◌, ◌-◌, ◌/◌};
     ghost use Rattle.pas_profile.specs.{Profiles.IsAdmitted, Requests.route_in};
-    ghost use Rattle.pas_cache.specs.{Serves.IsSmallRoute, Serves.wanted_for, Caches.cached, Caches.seat_of};
-    ghost use Rattle.pas_cache.specs.Calls.{MayAllocate, Allocates, MayRequest, AllocatesRequest};
+    ghost use Rattle.pas_cache.specs.{Serves.{IsSmallRoute, wanted_for}, Caches.{cached, seat_of}, Calls.{MayAllocate, Allocates, MayRequest}};
+    ghost use Rattle.pas_cache.specs.Calls.{AllocatesRequest};
 
     /// A block of the heap for so many bytes, at a multiple of the alignment. The request is one that the profile admits.
     ///

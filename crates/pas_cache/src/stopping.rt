@@ -1,7 +1,7 @@
 //! A cache is stopped.
 ghost use Rattle.std.specs.Prelude.{◌≡◌, ◌<◌, ◌+◌, [], length};
 ghost use Rattle.pas_steps.specs.Desks.{CanCall};
-ghost use Rattle.pas_cache.specs.{Locals.RestsWith, Changes.StopsEach, Parts.Releases, Parts.StopsPlace};
+ghost use Rattle.pas_cache.specs.{Locals.RestsWith, Changes.StopsEach, Parts.{Releases, StopsPlace}};
 
 use crate::cache::ThreadCache;
 use crate::giving_up::give_up;
@@ -44,7 +44,7 @@ fn stop_all<D: Desk>(desk: &mut D, locals: &mut ArrayVec<Slots, MOST_LOCALS>)
 impl ThreadCache {
     ghost use Rattle.std.specs.Prelude.{◌≡◌, ◌≤◌, ◌+◌, length};
     ghost use Rattle.pas_steps.specs.Desks.{CanCall};
-    ghost use Rattle.pas_cache.specs.{Caches.cached, Caches.seat_of, Caches.AtRest, Calls.StopsCache};
+    ghost use Rattle.pas_cache.specs.{Caches.{cached, seat_of, AtRest}, Calls.StopsCache};
 
     /// Flushes the log, and stops each local allocator: the grains of its unused slots are put back, and the right of its page is left. The cache
     /// is empty afterwards, so its actor holds and has nothing. At most 23 steps for each local allocator beside those of the flush. There is room for an event for each logged name.

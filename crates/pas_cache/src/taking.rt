@@ -1,9 +1,8 @@
 //! Local allocators are looked for in their list.
-ghost use Rattle.std.specs.Prelude.{◌≡◌, ◌<◌, ◌++◌, ◌∷◌, [], false, MatchBool, MatchOption, length, remove, slice_index_or};
-ghost use Rattle.std.specs.List.{list_any};
+ghost use Rattle.std.specs.{Prelude.{◌≡◌, ◌<◌, ◌++◌, ◌∷◌, [], false, MatchBool, MatchOption, length, remove, slice_index_or}, List.list_any};
 ghost use Rattle.pas_bits.specs.Masks.{HasMember, IsEmpty};
 ghost use Rattle.pas_segregated.specs.declared.slots.Slots.{Slots as Local};
-ghost use Rattle.pas_cache.specs.{Locals.is_for, Locals.HasOneEach, Locals.IsPlaceOf, Parts.BringsCached, Serves.HasNoneCached};
+ghost use Rattle.pas_cache.specs.{Locals.{is_for, HasOneEach, IsPlaceOf}, Parts.BringsCached, Serves.HasNoneCached};
 
 use pas_segregated::Slots;
 

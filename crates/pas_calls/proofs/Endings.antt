@@ -1,21 +1,14 @@
 -- From how a call that read its input ended to what its status says: of a check, and of a replay in the order of the text.
 use Rattle.std.proofs.Common.{◌≡◌, ◌≤◌, ℕ, ◌⊎◌, List, Option, Some, ◌∙◌, sym, subst, inl, inr, arith, ◌<◌, Err, ap, length}
-use Rattle.pas_trace.specs.Plans.{IsPlanOf, parsed}
-use Rattle.pas_trace.specs.declared.{plan.Plan.Plan, fault.TraceFault.TraceFault}
+use Rattle.pas_trace.specs.{Plans.{IsPlanOf, parsed}, declared.{plan.Plan.Plan, fault.TraceFault.TraceFault}}
 use Rattle.pas_io.specs.Told.{Tells, Rose}
 use Rattle.pas_answers.specs.Ways.{InOrder}
-use Rattle.pas_check.specs.Inputs.{trace_in, transcript_in}
-use Rattle.pas_check.specs.declared.verdict.Verdict.{Verdict}
-use Rattle.pas_check.proofs.Verdicts.{one_verdict}
-use Rattle.pas_telling.specs.Words.{IsChecking}
-use Rattle.pas_telling.specs.declared.manner.Manner.{Manner}
-use Rattle.pas_calls.specs.Ends.{Ends, TellsInput}
-use Rattle.pas_calls.specs.Judgements.{IsJudged, IsJudgement, judgement_status, judgement_text, verdict_status}
-use Rattle.pas_calls.specs.Outputs.{ChecksTo, ComesTo, HasFailed, IsCheckStatus, IsCutOff, IsOutput, IsReplayStatus, IsReplaying, IsStatus, IsWriting}
-use Rattle.pas_calls.specs.Outputs.{IsWritten, most_bytes}
-use Rattle.pas_calls.specs.declared.judging.Judgement.{Judgement}
-use Rattle.pas_calls.proofs.OnePlan.{same_verdict}
-use Rattle.pas_calls.proofs.Statuses.{answered, cut_off, not_four, sound, written}
+use Rattle.pas_check.{specs.{Inputs.{trace_in, transcript_in}, declared.verdict.Verdict.Verdict}, proofs.Verdicts.one_verdict}
+use Rattle.pas_telling.specs.{Words.IsChecking, declared.manner.Manner.Manner}
+use Rattle.pas_calls.specs.{Ends.{Ends, TellsInput}, Judgements.{IsJudged, IsJudgement, judgement_status, judgement_text, verdict_status}, Outputs.ChecksTo}
+use Rattle.pas_calls.specs.Outputs.{ComesTo, HasFailed, IsCheckStatus, IsCutOff, IsOutput, IsReplayStatus, IsReplaying, IsStatus, IsWriting, IsWritten}
+use Rattle.pas_calls.{specs.{Outputs.most_bytes, declared.judging.Judgement.Judgement}, proofs.{OnePlan.same_verdict, Statuses.{answered, cut_off, not_four}}}
+use Rattle.pas_calls.proofs.Statuses.{sound, written}
 
 -- ---- what an input comes to is one
 one_judged : (bytes : List ℕ) (v w : Verdict) → IsJudged bytes v → IsJudged bytes w → v ≡ w

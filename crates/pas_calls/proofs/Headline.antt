@@ -1,34 +1,24 @@
 -- From what a replay shows to what is written of it: in the order of the text, the text of the bytes, whose verdict is yes.
 use Rattle.std.proofs.Common.{◌≡◌, ℕ, List, [], ◌∷◌, Option, Some, Result, Ok, codes, get_or, inl, inr, refl, ap, sym, subst, ◌∙◌, arith, ◌≤◌, ◌<◌, ◌++◌}
 use Rattle.std.proofs.Common.{length}
-use Rattle.pas_profile.specs.declared.{profile.Profile.Profile, event.Event.Event}
-use Rattle.pas_trace.specs.Plans.{IsPlanOf, Parsed, IsReading}
-use Rattle.pas_trace.specs.declared.{fault.TraceFault.TraceFault, plan.Plan.Plan, fault.ReadFault.ReadFault}
+use Rattle.pas_profile.specs.{declared.{profile.Profile.Profile, event.Event.Event}, Profiles.{IsValid, IsWordOf}}
+use Rattle.pas_trace.specs.{Plans.{IsPlanOf, Parsed, IsReading}, declared.{fault.{TraceFault.TraceFault, ReadFault.ReadFault}, plan.Plan.Plan}}
 use Rattle.pas_generate.specs.Traces.{trace_text}
-use Rattle.pas_report.specs.{Reports.total_line, Reports.report_text, Counts.report_by_words, Counts.totals_by_words}
-use Rattle.pas_answers.specs.{Replays.keepers_of, Replays.phases_of, Replays.Shows, Ways.Way, Ways.InOrder}
+use Rattle.pas_report.{specs.{Reports.{total_line, report_text}, Counts.{report_by_words, totals_by_words}}, proofs.ReportOfWords.{line_agrees, are_deed_words}}
+use Rattle.pas_report.proofs.ReportOfWords.{report_agrees}
+use Rattle.pas_answers.{specs.{Replays.{keepers_of, phases_of, Shows}, Ways.{Way, InOrder}}, proofs.Consequences.can_be_shown}
 use Rattle.pas_replay.specs.OneThread.{IsOfOneThread}
-use Rattle.pas_same_text.specs.{State.World, Order.replayed, Told.IsTold}
-use Rattle.pas_same_text.proofs.{AllActs.own_told, AllActs.order_told, TextOfBytes.replay_told}
-use Rattle.pas_telling.specs.Summaries.{summary_text}
-use Rattle.pas_calls.specs.{Generating.IsSummarized, Manners.way_of, Outcomes.IsOutcome}
-use Rattle.pas_calls.specs.OneText.{IsTextOf, WritesTextOf, IsOfOne, IsTextBy, summary_of_world, summary_for, IsSummaryOf}
-use Rattle.pas_calls.specs.Outputs.{ComesTo, IsReplaying, IsChecking, IsGen, IsOutput, IsReplayed, IsWritten, most_bytes, too_long_text, IsReplayStatus}
-use Rattle.pas_telling.specs.declared.{manner.Manner.Manner, outcome.Outcome.Outcome, outcome.Outcome.TheVariants.Replayed, outcome.Outcome.TheVariants.Faulty}
-use Rattle.pas_profile.specs.Profiles.{IsValid, IsWordOf}
-use Rattle.pas_steps.specs.{Lists.Legal, Lists.visible, States.profile_of}
-use Rattle.pas_steps.specs.declared.state.State.{State}
-use Rattle.pas_core.proofs.MachineRuns.{agrees}
-use Rattle.pas_report.proofs.ReportOfWords.{line_agrees, are_deed_words, report_agrees}
-use Rattle.pas_acts.proofs.PlanFacts.{plan_valid}
-use Rattle.pas_answers.proofs.Consequences.{can_be_shown}
+use Rattle.pas_same_text.{specs.{State.World, Order.replayed, Told.IsTold}, proofs.{AllActs.{own_told, order_told}, TextOfBytes.replay_told}}
+use Rattle.pas_telling.specs.{Summaries.summary_text, declared.{manner.Manner.Manner, outcome.Outcome.{Outcome, TheVariants.{Replayed, Faulty}}}}
 use Rattle.pas_telling.specs.Outcomes.{IsShown, IsWritable, outcome_status, outcome_text, shown_text}
-use Rattle.pas_check.specs.Accepted.{IsAccepted, IsVerdict}
-use Rattle.pas_check.specs.declared.verdict.Verdict.{Verdict, TheVariants.Yes}
-use Rattle.pas_check.proofs.Verdicts.{one_verdict}
-use Rattle.pas_calls.proofs.{OnePlan.same_plan, Whole.replay_accepted}
-use Rattle.pas_records.specs.{Lines.lines_of, Marks.marks_after, Rests.AreStamped, Rests.HasWords, Rooms.records_in}
-use Rattle.pas_records.specs.declared.record.Record.{Record}
+use Rattle.pas_calls.specs.{Generating.IsSummarized, Manners.way_of, Outcomes.IsOutcome, OneText.{IsTextOf, WritesTextOf, IsOfOne, IsTextBy, summary_of_world}}
+use Rattle.pas_calls.specs.{OneText.{summary_for, IsSummaryOf}, Outputs.{ComesTo, IsReplaying, IsChecking, IsGen, IsOutput, IsReplayed, IsWritten, most_bytes}}
+use Rattle.pas_calls.{specs.Outputs.{too_long_text, IsReplayStatus}, proofs.{OnePlan.same_plan, Whole.replay_accepted}}
+use Rattle.pas_steps.specs.{Lists.{Legal, visible}, States.profile_of, declared.state.State.State}
+use Rattle.pas_core.proofs.MachineRuns.{agrees}
+use Rattle.pas_acts.proofs.PlanFacts.{plan_valid}
+use Rattle.pas_check.{specs.{Accepted.{IsAccepted, IsVerdict}, declared.verdict.Verdict.{Verdict, TheVariants.Yes}}, proofs.Verdicts.one_verdict}
+use Rattle.pas_records.specs.{Lines.lines_of, Marks.marks_after, Rests.{AreStamped, HasWords}, Rooms.records_in, declared.record.Record.Record}
 use Rattle.pas_records.proofs.MarksAtRest.{nobody_holds}
 
 -- ---- the text

@@ -1,12 +1,9 @@
 -- The verdict for one plan of a text is that for each.
 use Rattle.std.proofs.Common.{arith, ◌≡◌, ℕ, ◌==◌, if◌then◌else◌, List, [], ◌∷◌, ◌++◌, Result, Ok, sym, ◌∙◌, map}
 use Rattle.pas_profile.specs.declared.profile.Profile.{Profile}
-use Rattle.pas_trace.specs.Acts.{acts_of}
-use Rattle.pas_trace.specs.Plans.{IsPlanOf, Parsed, ops_of, phases_of}
-use Rattle.pas_trace.specs.declared.{fault.TraceFault.TraceFault, plan.Op.Op, plan.Plan.Plan}
-use Rattle.pas_check.specs.Accepted.{IsAccepted, IsStopped, IsVerdict, IsWhole}
-use Rattle.pas_check.specs.{Lines.lines_in, States.Does, States.Reports, States.Stand}
-use Rattle.pas_check.specs.declared.verdict.Verdict.{Verdict, TheVariants.Yes, TheVariants.No}
+use Rattle.pas_trace.specs.{Acts.acts_of, Plans.{IsPlanOf, Parsed, ops_of, phases_of}, declared.{fault.TraceFault.TraceFault, plan.{Op.Op, Plan.Plan}}}
+use Rattle.pas_check.specs.{Accepted.{IsAccepted, IsStopped, IsVerdict, IsWhole}, Lines.lines_in, States.{Does, Reports, Stand}}
+use Rattle.pas_check.specs.declared.verdict.Verdict.{Verdict, TheVariants.{Yes, No}}
 
 -- a verdict on a transcript for a region and phases of operations
 abbrev first : Profile → ℕ → List (List Op) → Stand

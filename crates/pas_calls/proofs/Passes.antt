@@ -1,46 +1,30 @@
 -- The lines of a pass: what came of its pages; and those of a sweep, by which a keeper lowers guards.
 use Rattle.std.proofs.Common.{◌≡◌, ◌≢◌, ℕ, ◌-◌, ◌^◌, ◌<◌, Bool, true, false, List, [], ◌∷◌, ◌++◌, Option, Some, None, inl, inr, refl, ap, ◌∙◌, subst, arith}
-use Rattle.std.proofs.Common.{zero, suc, ◌+◌, ◌*◌, ◌≤◌, if◌then◌else◌, sym, append-nil, map, reverse, ◌/◌, ◌%◌, ◌||◌, not}
-use Rattle.pas_profile.specs.{Directories.deed_word_of, Profiles.IsValid, Profiles.vector_words, Blocks.address_of, Lives.turn_of, Guards.guards_of}
-use Rattle.pas_profile.specs.{Guards.raised_by}
-use Rattle.pas_profile.specs.declared.{directory.Directory.Directory, event.Outcome.Outcome, profile.Profile.Profile, word.Word.Word, event.Event.Event}
-use Rattle.pas_profile.specs.declared.{guard.Raised.Raised, guard.Guard.Guard}
-use Rattle.pas_profile.specs.declared.event.Outcome.TheVariants.{Unbacked, Bare, Young, InUse, NotOffered}
+use Rattle.std.proofs.{Common.{zero, suc, ◌+◌, ◌*◌, ◌≤◌, if◌then◌else◌, sym, append-nil, map, reverse, ◌/◌, ◌%◌, ◌||◌, not}, lemmas.List.map-append}
+use Rattle.std.{proofs.lemmas.List.{reverse-append, reverse-reverse}, specs.List.filter}
+use Rattle.pas_profile.specs.{Directories.deed_word_of, Profiles.{IsValid, vector_words}, Blocks.address_of, Lives.turn_of, Guards.{guards_of, raised_by}}
+use Rattle.pas_profile.specs.declared.{directory.Directory.Directory, event.Outcome.{Outcome, TheVariants.{Unbacked, Bare, Young, InUse, NotOffered}}}
+use Rattle.pas_profile.specs.declared.{event.Event.Event, profile.Profile.Profile, word.Word.Word, guard.{Raised.Raised, Guard.Guard}}
 use Rattle.pas_profile.proofs.Codecs.{deed_word_of-positive}
-use Rattle.pas_machine.specs.Machine.{Run}
-use Rattle.pas_machine.specs.State.{backed_in, deed_in, epoch_in, ends_in, gives_in, live_in}
-use Rattle.pas_core.specs.Good.{word_of_backed, word_of_deed}
-use Rattle.pas_core.proofs.{Deeds.backed_of, Deeds.deed_of, MachineRuns.runs, OneActor.legal_earlier}
+use Rattle.pas_machine.specs.{Machine.Run, State.{backed_in, deed_in, epoch_in, ends_in, gives_in, live_in}}
+use Rattle.pas_core.{specs.Good.{word_of_backed, word_of_deed}, proofs.{Deeds.{backed_of, deed_of}, MachineRuns.runs, OneActor.legal_earlier}}
 use Rattle.pas_core.proofs.Lives.{stamps_are_ends, words_fit, life_at, turn_is}
-use Rattle.pas_steps.specs.{Desks.made, Desks.triples, Desks.triple, Views.all_ones, Views.known_epoch, InTurn.InTurn, InTurn.numbers_below}
-use Rattle.pas_steps.specs.{Effects.life_word_at}
-use Rattle.pas_steps.specs.Kinds.{Only, Taking, LookLife, LookFree}
-use Rattle.pas_steps.specs.Lists.{Legal, Whole, part, visible, word_after}
-use Rattle.pas_steps.specs.declared.step.{Made.Made, Step.TheVariants.Look, Step.TheVariants.Unhint, Step.TheVariants.Take}
-use Rattle.pas_steps.proofs.Apart.{no_events, only_both, only_within, epoch_same}
-use Rattle.pas_rights.specs.{Takes.takes, Looks.AreUsed, Looks.IsUsed, Looks.looks_until, Words.ones, PutsBack.giving_back}
-use Rattle.pas_rights.proofs.Orders.{until_only}
-use Rattle.pas_scavenger.specs.{Readings.takes_until, Judgements.used_at}
-use Rattle.pas_scavenger.specs.Pages.{EndsWith, EndsWithout, ExamineSteps, first_looks, quiet, unback_of, examining}
-use Rattle.pas_scavenger.proofs.Examinations.{asks_sized, examine_event, taken_on, takes_are, examine_sized, outcomes_append}
-use Rattle.pas_answers.proofs.Consequences.{parts_kept, tidy_piece, Tidy, tidy_over, look_tidy, sweep_tidy}
-use Rattle.pas_answers.proofs.Reached.{Each}
-use Rattle.pas_check.specs.States.{Examines, Stand, with_due, Does, Task, Due}
-use Rattle.pas_check.specs.Takes.{MayCome, after_outcome, record_of as allowed_record}
-use Rattle.std.proofs.lemmas.List.{map-append, reverse-append, reverse-reverse}
-use Rattle.pas_bits.specs.Bits.{has_bit}
+use Rattle.pas_steps.specs.{Desks.{made, triples, triple}, Views.{all_ones, known_epoch}, InTurn.{InTurn, numbers_below}, Effects.life_word_at, Kinds.Only}
+use Rattle.pas_steps.specs.{Kinds.{Taking, LookLife, LookFree}, Lists.{Legal, Whole, part, visible, word_after}, declared.step.Made.Made}
+use Rattle.pas_steps.{specs.declared.step.Step.TheVariants.{Look, Unhint, Take}, proofs.Apart.{no_events, only_both, only_within, epoch_same}}
 use Rattle.pas_steps.proofs.{Parts.part_of_own, Adding.triples_append}
-use Rattle.pas_answers.specs.{PassRecords.record_of, PassRecords.records_of_pass, Answers.Progress, Answers.after_pass, Guarding.IsLowered}
-use Rattle.pas_answers.specs.{Guarding.after_lowering}
+use Rattle.pas_rights.{specs.{Takes.takes, Looks.{AreUsed, IsUsed, looks_until}, Words.ones, PutsBack.giving_back}, proofs.Orders.until_only}
+use Rattle.pas_scavenger.specs.{Readings.takes_until, Judgements.used_at, Pages.{EndsWith, EndsWithout, ExamineSteps, first_looks, quiet, unback_of, examining}}
 use Rattle.pas_scavenger.specs.Passes.{TriedSteps, TrySteps, Tried, WordRead, WordSteps, all_tried, outcomes_in, pages_set, trying, with_outcome, PassSteps}
-use Rattle.pas_scavenger.specs.Passes.{passing}
+use Rattle.pas_scavenger.{specs.Passes.passing, proofs.Examinations.{asks_sized, examine_event, taken_on, takes_are, examine_sized, outcomes_append}}
+use Rattle.pas_answers.{proofs.{Consequences.{parts_kept, tidy_piece, Tidy, tidy_over, look_tidy, sweep_tidy}, Reached.Each}, specs.PassRecords.record_of}
+use Rattle.pas_answers.specs.{PassRecords.records_of_pass, Answers.{Progress, after_pass}, Guarding.{IsLowered, after_lowering}}
+use Rattle.pas_check.specs.{States.{Examines, Stand, with_due, Does, Task, Due}, Takes.{MayCome, after_outcome, record_of as allowed_record}}
+use Rattle.pas_check.{specs.Begins.{lowered_due, lowered_record, goes_down, sweeping}, proofs.Ticks.epoch_kept}
+use Rattle.pas_bits.specs.Bits.{has_bit}
 use Rattle.pas_trace.specs.Acts.{MakesPass, Lowers}
-use Rattle.pas_check.proofs.Ticks.{epoch_kept}
-use Rattle.std.specs.List.{filter}
-use Rattle.pas_check.specs.Begins.{lowered_due, lowered_record, goes_down, sweeping}
 use Rattle.pas_guard.specs.Sweeps.{Swept, SweptOne, is_over, life_look, lowered_record as lowered_by, sweeping as sweeping_kinds}
-use Rattle.pas_records.specs.Lines.{line_of}
-use Rattle.pas_records.specs.declared.record.{Record.Record, Said.Said}
+use Rattle.pas_records.specs.{Lines.line_of, declared.record.{Record.Record, Said.Said}}
 use Rattle.pas_calls.proofs.Telling.{visible_piece, LeadsOn, on_as, on_both, on_line, on_same, lines_both, lines_by, on_past, on_task, Comes, Tells, AreAligned}
 use Rattle.pas_calls.proofs.Telling.{going, is_down, staying, booked_sweep, going_told}
 

@@ -1,55 +1,40 @@
 -- Requests, frees, blocks that get another size, and requests that are guarded: deeds and backs, and then the give of its block or a refusal, which is true.
 use Rattle.std.proofs.Common.{arith, ◌≡◌, ℕ, ◌/◌, Bool, true, false, List, [], ◌∷◌, ◌++◌, Option, Some, None, Result, Ok, Err, inl, inr, refl, ap, sym, ◌∙◌}
 use Rattle.std.proofs.Common.{subst, append-nil, MatchResult, ◌%◌, ◌||◌, map, nat_le, length, eq-eqb, le-leb, leb-true, ne_eqb, ◌⊎◌, append_assoc, reverse}
-use Rattle.std.proofs.Common.{MatchOption, ◌+◌, ◌*◌}
+use Rattle.std.proofs.{Common.{MatchOption, ◌+◌, ◌*◌}, lemmas.{Bool.{and_from, and_parts, false_from_ne_true}, List.{map-append, reverse-append}}}
 use Rattle.std.specs.List.{AllByRecursion}
 use Rattle.pas_bits.specs.Runs.{in_run}
-use Rattle.pas_profile.specs.{Blocks.grain_of, Blocks.length_of, Blocks.address_of, Profiles.IsValid, Profiles.IsPage, Requests.route_in, Entries.sized_entry}
-use Rattle.pas_profile.specs.{Entries.entry_of, Guards.raised_by}
-use Rattle.pas_profile.specs.declared.{directory.Directory.Directory, directory.Route.Route, event.Event.Event, event.NoRoom.NoRoom}
-use Rattle.pas_profile.specs.declared.{event.NoRoom.TheVariants.Held, event.NoRoom.TheVariants.NoSpace, name.Block.Block, name.Name.Name}
-use Rattle.pas_profile.specs.declared.{profile.Profile.Profile, word.Word.Word, event.FreeFault.FreeFault, entry.Entry.Entry, guard.Raised.Raised}
-use Rattle.pas_profile.specs.declared.{guard.Guard.Guard}
+use Rattle.pas_profile.specs.{Blocks.{grain_of, length_of, address_of}, Profiles.{IsValid, IsPage}, Requests.route_in, Entries.{sized_entry, entry_of}}
+use Rattle.pas_profile.specs.{Guards.raised_by, declared.{directory.{Directory.Directory, Route.Route}, event.{Event.Event, NoRoom.{NoRoom, TheVariants.Held}}}}
+use Rattle.pas_profile.specs.declared.{event.{NoRoom.TheVariants.NoSpace, FreeFault.FreeFault}, name.{Block.Block, Name.Name}, profile.Profile.Profile}
+use Rattle.pas_profile.specs.declared.{word.Word.Word, entry.Entry.Entry, guard.{Raised.Raised, Guard.Guard}}
 use Rattle.pas_machine.specs.{Machine.Run, State.deed_in}
 use Rattle.pas_core.proofs.{MachineRuns.runs, OneActor.legal_earlier}
-use Rattle.pas_steps.specs.{Desks.triples, Events.actor_of, Events.events_by, Views.KnowsDeed}
-use Rattle.pas_steps.specs.Kinds.{LookLife, Backing, Giving, returning}
-use Rattle.pas_steps.specs.Lists.{Legal, Whole, part, visible, word_after}
-use Rattle.pas_steps.specs.declared.step.Made.{Made}
-use Rattle.pas_steps.proofs.{Events.events_own, Parts.part_of_own, Adding.triples_append, Frames.events_append}
+use Rattle.pas_steps.specs.{Desks.triples, Events.{actor_of, events_by}, Views.KnowsDeed, Kinds.{LookLife, Backing, Giving, returning}, Lists.{Legal, Whole}}
+use Rattle.pas_steps.{specs.{Lists.{part, visible, word_after}, declared.step.Made.Made}, proofs.{Events.events_own, Parts.part_of_own, Adding.triples_append}}
+use Rattle.pas_steps.proofs.Frames.{events_append}
 use Rattle.pas_search.specs.Telling.{IsTrueReason}
-use Rattle.pas_cache.specs.{Refusals.IsTrulyRefused, Refusals.IsTrulyRefusedBy, Caches.Cached, Calls.RefusesName, Calls.TakesEntry, Changes.EmptiesFull}
-use Rattle.pas_cache.specs.{Kinds.allocating}
-use Rattle.pas_cache.specs.Serves.{IsDeedOf, Wanted, IsPreparing as Prepares, ServesBy, pages_of}
+use Rattle.pas_cache.specs.{Refusals.{IsTrulyRefused, IsTrulyRefusedBy}, Caches.Cached, Calls.{RefusesName, TakesEntry}, Changes.EmptiesFull, Kinds.allocating}
+use Rattle.pas_cache.{specs.Serves.{IsDeedOf, Wanted, IsPreparing as Prepares, ServesBy, pages_of}, proofs.Budget.log_kept}
 use Rattle.pas_segregated.specs.declared.slots.Slots.{Slots}
-use Rattle.pas_trace.specs.declared.{item.Request.Request, plan.What.TheVariants.Alloc}
+use Rattle.pas_trace.specs.{declared.{item.Request.Request, plan.What.TheVariants.Alloc}, Named.{Named, named}}
 use Rattle.pas_answers.specs.Answers.{IsGiven, RefusalEnds, RequestEnds, block_of, records_of, said_by, said_of_request, said_of_room, wanted_by, Answer}
 use Rattle.pas_answers.specs.Answers.{IsFreed, IsFreedBy, Progress, after_answer, room_noted, said_of_fault, Caches, IsKept, IsRemadeBy, IsReplaced, IsServed}
-use Rattle.pas_answers.specs.Answers.{having, request_for, with_cache, with_book}
+use Rattle.pas_answers.specs.{Answers.{having, request_for, with_cache, with_book}, Refusals.{request_in_move, request_in_remade}, Guarding.{IsTried, Tried}}
+use Rattle.pas_answers.{specs.Guarding.{TryEnds, after_giving, after_trying, said_of_guard}, proofs.Consequences.{Tidy, answer_tidy, tidy_piece, try_tidy}}
 use Rattle.pas_check.specs.Begins.{is_full, logging, replacing, freeing, freeing_at, freeing_named, is_aligned, is_page, tells as saying, remaking}
-use Rattle.pas_check.specs.Begins.{remaking_named, suits, guard_of, has_sides, page_above, page_below, raising, sweeping}
-use Rattle.pas_check.specs.{Calls.after_request, Accepted.IsDone, Accepted.IsWhole}
-use Rattle.pas_check.specs.Takes.{IsRefusal, directory_of, Takes, is_back, IsServing, block_in, given_next, kept_next}
-use Rattle.pas_check.specs.States.{Due, Serves, Stand, with_due, with_name, Task, Tries, with_one}
+use Rattle.pas_check.specs.{Begins.{remaking_named, suits, guard_of, has_sides, page_above, page_below, raising, sweeping}, Calls.after_request}
+use Rattle.pas_check.specs.{Accepted.{IsDone, IsWhole}, Takes.{IsRefusal, directory_of, Takes, is_back, IsServing, block_in, given_next, kept_next}, States.Due}
+use Rattle.pas_check.{specs.States.{Serves, Stand, with_due, with_name, Task, Tries, with_one}, proofs.Ticks.epoch_kept}
 use Rattle.pas_rights.specs.Gives.{give_steps}
-use Rattle.std.proofs.lemmas.{Bool.and_from, Bool.and_parts, Bool.false_from_ne_true, List.map-append, List.reverse-append}
 use Rattle.pas_free_log.specs.Frames.{freeing as freeing_kinds}
-use Rattle.pas_answers.proofs.Consequences.{Tidy, answer_tidy, tidy_piece, try_tidy}
-use Rattle.pas_check.proofs.Ticks.{epoch_kept}
-use Rattle.pas_cache.proofs.Budget.{log_kept}
-use Rattle.pas_trace.specs.Named.{Named, named}
-use Rattle.pas_answers.specs.Refusals.{request_in_move, request_in_remade}
 use Rattle.pas_scan.specs.Runs.{large_directory}
-use Rattle.pas_guard.specs.Raises.{IsNotRaised, IsRaised, RaiseSteps, guard_of as guard_at}
-use Rattle.pas_guard.specs.{Seeks.seeking, Sweeps.sweeping as sweeping_kinds}
+use Rattle.pas_guard.specs.{Raises.{IsNotRaised, IsRaised, RaiseSteps, guard_of as guard_at}, Seeks.seeking, Sweeps.sweeping as sweeping_kinds}
 use Rattle.pas_guard.proofs.Raises.{raised_backs, raised_leaves}
-use Rattle.pas_answers.specs.Guarding.{IsTried, Tried, TryEnds, after_giving, after_trying, said_of_guard}
-use Rattle.pas_records.specs.declared.record.{Record.Record, Said.Said}
-use Rattle.pas_records.specs.Lines.{line_of_event}
+use Rattle.pas_records.specs.{declared.record.{Record.Record, Said.Said}, Lines.line_of_event}
 use Rattle.pas_calls.proofs.Telling.{LeadsOn, on_as, on_both, on_line, on_same, lines_both, lines_by, lines_more, shown_is, flush_only, flush_leads, emptied}
 use Rattle.pas_calls.proofs.Telling.{logs_with, table_same, own_at, put_twice, Comes, Tells, told_after, piece_of, AreBooked, booked_raise, booked_sweep}
-use Rattle.pas_calls.proofs.Telling.{after_piece, kind_asked, deed_told, deed_known}
-use Rattle.pas_calls.proofs.Passes.{swept_is, IsSwept, sweep_leads, up_after}
+use Rattle.pas_calls.proofs.{Telling.{after_piece, kind_asked, deed_told, deed_known}, Passes.{swept_is, IsSwept, sweep_leads, up_after}}
 
 -- ---- A request: deeds and backs, and then the give of its block or a refusal, which is true
 -- ---- deeds and backs

@@ -1,22 +1,16 @@
 -- From how a call ended to what its status says: of a check, of a replay in the order of the text, and of a generated trace and its summary.
 use Rattle.std.proofs.Common.{◌≡◌, ◌≤◌, ℕ, ◌⊎◌, List, Option, ◌∙◌, sym, subst, inl, inr, arith, refl, ap, length, Bool, true, false, ◌++◌, All, drop_at}
-use Rattle.pas_io.specs.Told.{Tells, Rose, Writes, WritesFront}
-use Rattle.pas_calls.specs.Outputs.{ComesTo, IsOutput, IsWriting, IsWritten, IsCutOff, IsReplayStatus, GenComesTo, IsGen}
-use Rattle.pas_trace.specs.Plans.{IsPlanOf}
-use Rattle.pas_trace.specs.declared.plan.Plan.{Plan}
-use Rattle.pas_calls.proofs.Headline.{order_comes, totals_are}
-use Rattle.pas_telling.specs.{Outcomes.shown_text, Summaries.summary_text}
-use Rattle.pas_calls.specs.{Ends.TellsInput, Givens.IsAllOf, Wrote.Wrote, Wrote.front_after, Generating.IsSummarized, Generated.Generates, Outcomes.IsShowing}
-use Rattle.pas_calls.specs.{Ordered.TellsLines, Ordered.TellsReplay}
 use Rattle.std.proofs.lemmas.List.Elements.{All-drop}
+use Rattle.pas_io.{specs.Told.{Tells, Rose, Writes, WritesFront}, proofs.Telling.writes_more}
+use Rattle.pas_calls.specs.{Outputs.{ComesTo, IsOutput, IsWriting, IsWritten, IsCutOff, IsReplayStatus, GenComesTo, IsGen}, Ends.TellsInput, Givens.IsAllOf}
+use Rattle.pas_calls.specs.{Wrote.{Wrote, front_after}, Generating.IsSummarized, Generated.Generates, Outcomes.IsShowing, Ordered.{TellsLines, TellsReplay}}
+use Rattle.pas_calls.proofs.Headline.{order_comes, totals_are}
+use Rattle.pas_trace.specs.{Plans.IsPlanOf, declared.plan.Plan.Plan}
+use Rattle.pas_telling.specs.{Outcomes.shown_text, Summaries.summary_text}
 use Rattle.pas_steps.specs.declared.state.State.{State}
-use Rattle.pas_io.proofs.Telling.{writes_more}
 use Rattle.pas_report.specs.Counts.{report_by_words, totals_by_words}
-use Rattle.pas_records.specs.Lines.{CanShow, lines_of}
-use Rattle.pas_records.specs.declared.record.Record.{Record}
-use Rattle.pas_records.proofs.Pieces.{front_longer}
-use Rattle.pas_answers.specs.{Replays.Shows, Ways.InOrder}
-use Rattle.pas_answers.proofs.Consequences.{can_be_shown}
+use Rattle.pas_records.{specs.{Lines.{CanShow, lines_of}, declared.record.Record.Record}, proofs.Pieces.front_longer}
+use Rattle.pas_answers.{specs.{Replays.Shows, Ways.InOrder}, proofs.Consequences.can_be_shown}
 use Rattle.pas_generate.specs.Traces.{trace_text}
 
 -- ---- a call that told a text for a status, which wasn't 4

@@ -1,46 +1,32 @@
 -- What a check knows of a replay: lines that lead it on, logs, guards in books; and the lines of a log that is emptied, by a flush or a stop.
 use Rattle.std.proofs.Common.{◌≡◌, ℕ, List, [], ◌∷◌, ◌++◌, inl, inr, refl, ap, sym, subst, append_assoc, arith, Bool, true, false, if◌then◌else◌, ◌∙◌, map}
 use Rattle.std.proofs.Common.{reverse, eq-eqb, ne_eqb, ◌==◌, nat_lt, not, ◌≢◌, ◌%◌, ◌&&◌, ◌||◌, eqb-true, append-nil, ◌/◌, Option, Some, None}
+use Rattle.std.proofs.lemmas.{List.{Elements.{filter-append, All-filter, All-from_recursion, recursion_from_All}, map-append, reverse-append}, Bool.cases_eq}
+use Rattle.std.{proofs.lemmas.{Bool.{eqb-false, false≢true, cond_both}, Option.{none-some, same_Some}}, specs.List.{AllByRecursion, filter}}
 use Rattle.pas_profile.specs.declared.{profile.Profile.Profile, event.Event.Event, word.Word.Word, name.Name.Name, entry.Entry.Entry, guard.Raised.Raised}
-use Rattle.pas_profile.specs.declared.{guard.Guard.Guard, directory.Directory.Directory, directory.Route.Route}
-use Rattle.pas_check.specs.{Accepted.IsDone, Accepted.IsWhole, Calls.Differs}
-use Rattle.pas_check.specs.Takes.{Takes, TakesDue, MayRefuse, IsEventOf, directory_of}
-use Rattle.pas_check.specs.Begins.{after_task, flushing, past_outcomes, ready, ready_with, goes_down, entries_due}
-use Rattle.pas_profile.specs.{Guards.guards_of, Guards.raised_by, Blocks.address_of, Blocks.grain_of, Blocks.length_of, Directories.deed_word_of}
-use Rattle.pas_profile.specs.{Lives.live_word, Profiles.IsValid, Entries.is_sized, Directories.IsKind, Requests.is_shared, Requests.kind_of_route}
-use Rattle.pas_profile.specs.{Requests.route_in}
-use Rattle.pas_check.specs.States.{Due, Examines, Stand, Task, with_due, with_at, Frees}
-use Rattle.pas_check.proofs.{ActsOfPlans.begun_alike, Leads.at_first, Leads.by_none, OneNext.end_is, OneNext.reject_is, Ticks.epoch_kept}
-use Rattle.pas_profile.proofs.{Lists.all_both, Sizes.class_known, Sizes.class_suits, Codecs.deed_word_of-positive, Codecs.same_from_deed_word}
-use Rattle.std.proofs.lemmas.List.Elements.{filter-append, All-filter, All-from_recursion, recursion_from_All}
-use Rattle.std.proofs.lemmas.Bool.{cases_eq, eqb-false, false≢true, cond_both}
-use Rattle.std.proofs.lemmas.{List.map-append, List.reverse-append, Option.none-some, Option.same_Some}
-use Rattle.pas_steps.specs.{Desks.triples, Desks.made, Events.event_of, Events.events_by, Events.with_event, Views.epoch_of, InTurn.InTurn}
-use Rattle.pas_steps.specs.{Effects.life_word_at, Views.KnowsDeed, Views.known_deed}
-use Rattle.pas_steps.specs.Lists.{Whole, part, visible, Legal, word_after}
-use Rattle.pas_steps.specs.declared.step.{Made.Made, Step.Step, Step.TheVariants.Look, Step.TheVariants.Stamp, Step.TheVariants.EndSized}
-use Rattle.pas_steps.proofs.{Frames.with_append, Frames.events_append, Parts.part_of_own, Apart.only_both, Apart.only_within, Calls.returns_are}
-use Rattle.pas_steps.proofs.{Adding.triples_append}
+use Rattle.pas_profile.specs.{declared.{guard.Guard.Guard, directory.{Directory.Directory, Route.Route}}, Guards.{guards_of, raised_by}, Blocks.address_of}
+use Rattle.pas_profile.specs.{Blocks.{grain_of, length_of}, Directories.{deed_word_of, IsKind}, Lives.live_word, Profiles.IsValid, Entries.is_sized}
+use Rattle.pas_profile.{specs.Requests.{is_shared, kind_of_route, route_in}, proofs.{Lists.all_both, Sizes.{class_known, class_suits}}}
+use Rattle.pas_profile.proofs.Codecs.{deed_word_of-positive, same_from_deed_word}
+use Rattle.pas_check.specs.{Accepted.{IsDone, IsWhole}, Calls.Differs, Takes.{Takes, TakesDue, MayRefuse, IsEventOf, directory_of}, Begins.after_task}
+use Rattle.pas_check.specs.{Begins.{flushing, past_outcomes, ready, ready_with, goes_down, entries_due}, States.{Due, Examines, Stand, Task, with_due, with_at}}
+use Rattle.pas_check.{specs.States.Frees, proofs.{ActsOfPlans.begun_alike, Leads.{at_first, by_none}, OneNext.{end_is, reject_is}, Ticks.epoch_kept}}
+use Rattle.pas_steps.specs.{Desks.{triples, made}, Events.{event_of, events_by, with_event}, Views.{epoch_of, KnowsDeed, known_deed}, InTurn.InTurn}
+use Rattle.pas_steps.specs.{Effects.life_word_at, Lists.{Whole, part, visible, Legal, word_after}, declared.step.{Made.Made, Step.{Step, TheVariants.Look}}}
+use Rattle.pas_steps.specs.{declared.step.Step.TheVariants.{Stamp, EndSized}, Kinds.{Kinds, Only, Putting, is_in, kind_of, returning}}
+use Rattle.pas_steps.proofs.{Frames.{with_append, events_append}, Parts.part_of_own, Apart.{only_both, only_within}, Calls.returns_are, Adding.triples_append}
 use Rattle.pas_cache.specs.{Caches.Cached, Changes.EmptiesLog, Kinds.releasing}
-use Rattle.pas_answers.specs.Answers.{Caches, records_of, with_cache, Books, with_book, Progress, IsStopped}
-use Rattle.pas_free_log.specs.Endings.{reason_for, EndSteps, Tries, TriesBy, last_step}
-use Rattle.pas_free_log.specs.declared.{ending.Outcome.Outcome, ending.Outcome.TheVariants.Ended, ending.Outcome.TheVariants.Refused, noting.EndedRun.EndedRun}
-use Rattle.std.specs.List.{AllByRecursion, filter}
-use Rattle.pas_machine.specs.State.{ends_in, Live, gives_in, live_in, deed_in}
-use Rattle.pas_trace.specs.Named.{Named}
-use Rattle.pas_answers.proofs.{Consequences.tidy_piece, Consequences.Tidy, Consequences.stop_tidy, Reached.Each, Reached.legal_part, Reached.of_front}
-use Rattle.pas_steps.specs.Kinds.{Kinds, Only, Putting, is_in, kind_of, returning}
+use Rattle.pas_answers.{specs.Answers.{Caches, records_of, with_cache, Books, with_book, Progress, IsStopped}, proofs.Consequences.{tidy_piece, Tidy}}
+use Rattle.pas_answers.proofs.{Consequences.stop_tidy, Reached.{Each, legal_part, of_front}}
+use Rattle.pas_free_log.specs.{Endings.{reason_for, EndSteps, Tries, TriesBy, last_step}, declared.ending.Outcome.{Outcome, TheVariants.{Ended, Refused}}}
+use Rattle.pas_free_log.specs.{declared.noting.EndedRun.EndedRun, Flushes.{AfterEnd, EntrySteps, Settled, EntriesSteps, event_for, shown_for}, Frames.freeing}
+use Rattle.pas_free_log.specs.{Returns.{PageSteps, count_on, first_on}, Stamps.{page_count, pages_from}}
+use Rattle.pas_machine.specs.{State.{ends_in, Live, gives_in, live_in, deed_in}, Machine.{HasOtherRoom, Admits, Run}}
+use Rattle.pas_trace.specs.{Named.Named, declared.item.Request.Request}
 use Rattle.pas_rights.proofs.{Orders.return_returns, Puts.puts_kinds}
-use Rattle.pas_free_log.specs.Flushes.{AfterEnd, EntrySteps, Settled, EntriesSteps, event_for, shown_for}
-use Rattle.pas_free_log.specs.{Frames.freeing, Returns.PageSteps, Returns.count_on, Returns.first_on, Stamps.page_count, Stamps.pages_from}
-use Rattle.pas_machine.specs.Machine.{HasOtherRoom, Admits, Run}
-use Rattle.pas_core.specs.Good.{IsLifeOf, IsLifeOfLive, word_of_deed}
-use Rattle.pas_core.proofs.{Lives.block_of_word, Lives.life_at, OneActor.legal_earlier, MachineRuns.runs, Deeds.deed_of, Deeds.directory_is_of, Deeds.known_is}
-use Rattle.pas_core.proofs.{Rights.deeds_known}
-use Rattle.pas_records.specs.Lines.{line_of, line_of_event}
-use Rattle.pas_records.specs.declared.record.Record.{Record}
-use Rattle.pas_records.proofs.Showable.{AreOfRegion}
-use Rattle.pas_trace.specs.declared.item.Request.{Request}
+use Rattle.pas_core.{specs.Good.{IsLifeOf, IsLifeOfLive, word_of_deed}, proofs.{Lives.{block_of_word, life_at}, OneActor.legal_earlier, MachineRuns.runs}}
+use Rattle.pas_core.proofs.{Deeds.{deed_of, directory_is_of, known_is}, Rights.deeds_known}
+use Rattle.pas_records.{specs.{Lines.{line_of, line_of_event}, declared.record.Record.Record}, proofs.Showable.AreOfRegion}
 
 -- ---- Lines that lead a check from one state to another
 -- where thread k's log is being emptied, and has these entries afterwards, when this is due

@@ -1,14 +1,11 @@
 -- A text that is read piece by piece: what the reader of its script has taken of it, and what stands behind that in the buffer.
 use Rattle.std.proofs.Common.{◌≡◌, ◌≤◌, ◌<◌, ◌+◌, ◌-◌, ℕ, List, [], ◌++◌, Option, Some, take, drop, length, refl, ap, sym, subst, Result, Ok, Err, ◌∙◌, arith}
 use Rattle.std.proofs.Common.{append_assoc, length-append, drop-drop, drop_at, length-drop, length-take, take-append-drop, take-take, take_all, IfOk}
-use Rattle.std.proofs.Common.{MatchResult}
-use Rattle.std.proofs.lemmas.List.{drop-take, drop_all}
-use Rattle.pas_io.specs.Inputs.{HasRead, Takes}
-use Rattle.pas_io.specs.declared.whole.Stop.{Stop}
-use Rattle.pas_trace.specs.{Scripts.IsScripting, Streams.HasTaken, Streams.TakesLines}
-use Rattle.pas_trace.specs.declared.{fault.ReadFault.ReadFault, script.Script.Script, stream.ScriptReader.ScriptReader}
-use Rattle.pas_calls.specs.{Givens.IsAllOf, Givens.IsGiven, Givens.IsGivenBy, Outputs.most_bytes}
-use Rattle.pas_calls.specs.declared.reading.Given.{Given, TheVariants.Trace, TheVariants.Faulty, TheVariants.TooLong}
+use Rattle.std.proofs.{Common.MatchResult, lemmas.List.{drop-take, drop_all}}
+use Rattle.pas_io.specs.{Inputs.{HasRead, Takes}, declared.whole.Stop.Stop}
+use Rattle.pas_trace.specs.{Scripts.IsScripting, Streams.{HasTaken, TakesLines}, declared.{fault.ReadFault.ReadFault, script.Script.Script}}
+use Rattle.pas_trace.specs.declared.stream.ScriptReader.{ScriptReader}
+use Rattle.pas_calls.specs.{Givens.{IsAllOf, IsGiven, IsGivenBy}, Outputs.most_bytes, declared.reading.Given.{Given, TheVariants.{Trace, Faulty, TooLong}}}
 
 -- the bytes that were told begin with these; the next ones stand in the buffer's front, and the others are left
 pub record IsBehind (told before : List ℕ) (rest : Option (List ℕ)) (buffer : List ℕ) (kept : ℕ) : Type 0 where

@@ -1,49 +1,36 @@
 -- Each act of a replay in the order of the text, and so the whole: its transcript is accepted, its report line by line.
 use Rattle.std.proofs.Common.{arith, ◌≡◌, ℕ, List, [], ◌∷◌, ◌++◌, None, Some, refl, ap, sym, ◌∙◌, Option, MatchResult, ◌+◌, ◌==◌, max, nat_le, true, false, inl}
 use Rattle.std.proofs.Common.{inr, subst, append-nil, append_assoc, map, le-leb, leb-true, Bool, true≢false, zero, suc, ◌≤◌, codes, ◌||◌}
-use Rattle.pas_profile.specs.{Profiles.IsValid, Entries.sized_entry, Entries.entry_of}
-use Rattle.pas_profile.specs.declared.{profile.Profile.Profile, name.Block.Block, word.Word.Word, event.Event.Event, name.Name.Name}
-use Rattle.pas_profile.specs.declared.{directory.Directory.Directory}
-use Rattle.pas_steps.specs.{Desks.triples, Events.events_by}
-use Rattle.pas_steps.specs.Lists.{Legal, part, visible, word_after, Whole}
+use Rattle.std.proofs.lemmas.{Bool.false_from_ne_true, Option.none-some}
+use Rattle.pas_profile.specs.{Profiles.IsValid, Entries.{sized_entry, entry_of}, declared.{profile.Profile.Profile, name.{Block.Block, Name.Name}}}
+use Rattle.pas_profile.specs.declared.{word.Word.Word, event.Event.Event, directory.Directory.Directory}
+use Rattle.pas_steps.specs.{Desks.triples, Events.events_by, Lists.{Legal, part, visible, word_after, Whole}, declared.step.Made.Made}
 use Rattle.pas_free_log.specs.Frames.{freeing}
 use Rattle.pas_cache.specs.{Caches.Cached, Refusals.IsTrulyRefused}
-use Rattle.pas_trace.specs.declared.{item.Request.Request, plan.What.What, plan.Op.Op, plan.Chore.Chore, plan.Work.Work, plan.Plan.Plan}
-use Rattle.pas_trace.specs.declared.plan.What.TheVariants.{Alloc, Guarded, Free, FreeSized, Raw, RawSized, Remake, Flush, Stop}
-use Rattle.pas_answers.specs.Answers.{Answer, IsAnswered, IsFreedBy, IsServed, Progress, after_answer, having, records_of, room_noted, said_by, wanted_by}
-use Rattle.pas_answers.specs.Answers.{IsIdleFor, IsStopped, after_reading, after_settling, after_stop, after_tick, after_wake, begun as woken, epoch_look}
-use Rattle.pas_answers.specs.Answers.{stopped, with_cache, with_records}
-use Rattle.pas_trace.specs.Named.{standing_for}
-use Rattle.pas_trace.specs.Asked.{keeper_in, work_of, keeper_of, of_task}
-use Rattle.pas_answers.specs.Refusals.{RefusesTruly, ActRefusesTruly, TriedRefusesTruly, AllRefuseTruly}
-use Rattle.pas_answers.specs.{Guarding.IsTried, Guarding.Tried, Guarding.after_trying, Reaching.Advances, Reaching.AnswersTried, Reaching.Reaches, Ways.InOrder}
-use Rattle.pas_answers.proofs.Consequences.{Tidy, answer_tidy, look_tidy, tick_tidy, tidy_piece}
-use Rattle.pas_check.specs.Begins.{begun_what, freeing_named, remaking_named, stopping, sweeping, after_task, begun, begun_act, begun_from, past_outcomes}
-use Rattle.pas_check.specs.Begins.{ready, ready_with, page_due, pages_due, settled_with}
-use Rattle.pas_check.specs.States.{Serves, Stand, Task, Does, Due, Tries, Writes, with_at, Frees, Examines, Reports, at_first, Heads, Shows, Totals, with_one}
-use Rattle.pas_check.specs.States.{with_due}
-use Rattle.pas_check.proofs.Ticks.{epoch_kept}
-use Rattle.std.proofs.lemmas.{Bool.false_from_ne_true, Option.none-some}
-use Rattle.pas_core.proofs.OneActor.{legal_before}
-use Rattle.pas_steps.specs.declared.step.Made.{Made}
+use Rattle.pas_trace.specs.declared.{item.Request.Request, plan.What.{What, TheVariants.{Alloc, Guarded, Free, FreeSized, Raw, RawSized, Remake, Flush, Stop}}}
+use Rattle.pas_trace.specs.{declared.plan.{Op.Op, Chore.Chore, Work.Work, Plan.Plan}, Named.standing_for, Asked.{keeper_in, work_of, keeper_of, of_task}}
 use Rattle.pas_trace.specs.Acts.{Act, Operates, Guards, Settles, Ticks, MakesPass, ReadsEpoch, StopsIdle, MarksPhase, Wakes, MarksClose, Ends, Lowers, act_kept}
 use Rattle.pas_trace.specs.Acts.{acts_from, acts_of, acts_of_chore, acts_of_op, acts_of_ops, acts_of_work, close_acts, idle_stops, phase_acts, numbers_from}
-use Rattle.pas_answers.proofs.Reached.{was_so}
-use Rattle.pas_check.proofs.Cuts.{cut_records, cut_line, kind_first, number_first, totals_end}
-use Rattle.pas_machine.specs.{Machine.Admits, Machine.Bears, State.deed_in, State.epoch_in}
-use Rattle.pas_check.specs.{Accepted.Goes, Accepted.IsWhole, Accepted.IsAccepted, Lines.lines_in, Lines.is_line}
-use Rattle.pas_check.specs.Takes.{IsFor, Takes, TakesDue, TakesOutcome, TakesRequest, serving, AreAllowedMarks, head_line, MayServe, block_in, is_back}
-use Rattle.pas_check.specs.Takes.{kept_next}
-use Rattle.pas_report.specs.Reports.{report_text, machine_page, machine_pages, page_text, total_line, live_on, uncovered_on}
-use Rattle.pas_answers.specs.Replays.{IsReplay, acts_of_plan, at_start, keepers_of, phases_of, region_of, threads_of}
-use Rattle.pas_records.specs.declared.record.{Record.Record, Said.Said}
-use Rattle.pas_records.specs.{Lines.lines_of, Marks.Marked, Marks.marks_after, Marks.marks_text, Rests.AreTrueMarks}
-use Rattle.pas_report.specs.Totals.{totals_of}
+use Rattle.pas_answers.specs.Answers.{Answer, IsAnswered, IsFreedBy, IsServed, Progress, after_answer, having, records_of, room_noted, said_by, wanted_by}
+use Rattle.pas_answers.specs.Answers.{IsIdleFor, IsStopped, after_reading, after_settling, after_stop, after_tick, after_wake, begun as woken, epoch_look}
+use Rattle.pas_answers.specs.{Answers.{stopped, with_cache, with_records}, Refusals.{RefusesTruly, ActRefusesTruly, TriedRefusesTruly, AllRefuseTruly}}
+use Rattle.pas_answers.specs.{Guarding.{IsTried, Tried, after_trying}, Reaching.{Advances, AnswersTried, Reaches}, Ways.InOrder, Replays.IsReplay}
+use Rattle.pas_answers.{specs.Replays.{acts_of_plan, at_start, keepers_of, phases_of, region_of, threads_of}, proofs.Consequences.{Tidy, answer_tidy}}
+use Rattle.pas_answers.proofs.{Consequences.{look_tidy, tick_tidy, tidy_piece}, Reached.was_so}
+use Rattle.pas_check.specs.Begins.{begun_what, freeing_named, remaking_named, stopping, sweeping, after_task, begun, begun_act, begun_from, past_outcomes}
+use Rattle.pas_check.specs.{Begins.{ready, ready_with, page_due, pages_due, settled_with}, States.{Serves, Stand, Task, Does, Due, Tries, Writes, with_at}}
+use Rattle.pas_check.specs.{States.{Frees, Examines, Reports, at_first, Heads, Shows, Totals, with_one, with_due}, Accepted.{Goes, IsWhole, IsAccepted}}
+use Rattle.pas_check.specs.{Lines.{lines_in, is_line}, Takes.{IsFor, Takes, TakesDue, TakesOutcome, TakesRequest, serving, AreAllowedMarks, head_line}}
+use Rattle.pas_check.{specs.Takes.{MayServe, block_in, is_back, kept_next}, proofs.{Ticks.epoch_kept, Cuts.{cut_records, cut_line, kind_first, number_first}}}
+use Rattle.pas_check.proofs.Cuts.{totals_end}
+use Rattle.pas_core.proofs.OneActor.{legal_before}
+use Rattle.pas_machine.specs.{Machine.{Admits, Bears}, State.{deed_in, epoch_in}}
+use Rattle.pas_report.specs.{Reports.{report_text, machine_page, machine_pages, page_text, total_line, live_on, uncovered_on}, Totals.totals_of}
+use Rattle.pas_records.specs.{declared.record.{Record.Record, Said.Said}, Lines.lines_of, Marks.{Marked, marks_after, marks_text}, Rests.AreTrueMarks}
 use Rattle.pas_calls.proofs.Telling.{flush_only, flush_leads, emptied, logs_with, stop_leads, stop_tells, LeadsOn, on_as, on_both, lines_by, Comes, Tells}
 use Rattle.pas_calls.proofs.Telling.{piece_of, told_after, on_line, on_done, on_task, emptying, booked_as, lines_both, table_at, table_same, stop_only, on_same}
 use Rattle.pas_calls.proofs.Requests.{free_comes, freed_comes, silent_lines, asked_tells, asked_then, remade_comes, request_leads, served_plain, given_comes}
-use Rattle.pas_calls.proofs.Requests.{thread_comes}
-use Rattle.pas_calls.proofs.Passes.{pass_comes, lowered_comes}
+use Rattle.pas_calls.proofs.{Requests.thread_comes, Passes.{pass_comes, lowered_comes}}
 
 -- ---- A thread's operation, by what it asks for
 module _ (f : Profile) (valid : IsValid f) (p : Progress) (s : Stand) (ts : List Task) (tells : Tells p s) (due : s.due ≡ []) (k : ℕ) (a : Answer)

@@ -1,8 +1,7 @@
 -- What a generated trace comes to.
 use Rattle.std.specs.Prelude.{ℕ, ◌≡◌, List}
 use Rattle.pas_steps.specs.Lists.{Whole, visible}
-use Rattle.pas_trace.specs.Plans.{IsPlanOf}
-use Rattle.pas_trace.specs.declared.plan.Plan.{Plan}
+use Rattle.pas_trace.specs.{Plans.IsPlanOf, declared.plan.Plan.Plan}
 use Rattle.pas_generate.specs.Traces.{trace_text}
 use Rattle.pas_report.specs.Reports.{total_line}
 use Rattle.pas_records.specs.declared.record.Record.{Record}

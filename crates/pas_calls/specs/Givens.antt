@@ -1,8 +1,7 @@
 -- What is read of a source for the script of its text.
 use Rattle.std.specs.Prelude.{ℕ, ◌<◌, ◌≤◌, ◌≡◌, List, Option, Some, Err, length}
 use Rattle.pas_trace.specs.{Plans.parsed, Scripts.IsScriptOf}
-use Rattle.pas_calls.specs.Outputs.{most_bytes}
-use Rattle.pas_calls.specs.declared.reading.Given.{Given, TheVariants.Trace, TheVariants.Faulty, TheVariants.TooLong}
+use Rattle.pas_calls.specs.{Outputs.most_bytes, declared.reading.Given.{Given, TheVariants.{Trace, Faulty, TooLong}}}
 
 -- an input may be this text; where the source told its bytes, it is all of them
 pub record IsAllOf (rest : Option (List ℕ)) (text : List ℕ) : Type 0 where

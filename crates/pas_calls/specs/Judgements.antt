@@ -1,12 +1,9 @@
 -- What an input comes to under a check: the verdict on its transcript, or the first fault of its trace.
-use Rattle.std.specs.Prelude.{ℕ, ◌≡◌, List, ◌++◌, Err, codes}
-use Rattle.std.specs.Fmt.{decimal}
-use Rattle.pas_trace.specs.Plans.{IsPlanOf, parsed}
-use Rattle.pas_trace.specs.declared.plan.Plan.{Plan}
-use Rattle.pas_check.specs.{Accepted.IsVerdict, Inputs.trace_in, Inputs.transcript_in}
-use Rattle.pas_check.specs.declared.verdict.Verdict.{Verdict, TheVariants.Yes, TheVariants.No}
+use Rattle.std.specs.{Prelude.{ℕ, ◌≡◌, List, ◌++◌, Err, codes}, Fmt.decimal}
+use Rattle.pas_trace.specs.{Plans.{IsPlanOf, parsed}, declared.plan.Plan.Plan}
+use Rattle.pas_check.specs.{Accepted.IsVerdict, Inputs.{trace_in, transcript_in}, declared.verdict.Verdict.{Verdict, TheVariants.{Yes, No}}}
 use Rattle.pas_telling.specs.Faults.{fault_text}
-use Rattle.pas_calls.specs.declared.judging.Judgement.{Judgement, TheVariants.Judged, TheVariants.Faulty}
+use Rattle.pas_calls.specs.declared.judging.Judgement.{Judgement, TheVariants.{Judged, Faulty}}
 
 -- THE VERDICT on the whole input: its trace is read, and this is the verdict on the transcript behind it
 pub record IsJudged (bytes : List ℕ) (verdict : Verdict) : Type 0 where

@@ -1,14 +1,13 @@
 -- THE ONE TEXT: what `order` writes of an input is a function of its bytes, and what `gen` writes one of its numbers.
 use Rattle.std.specs.Prelude.{ℕ, ◌≡◌, List, reverse, Option, None, Some, Result, Ok, Err}
 use Rattle.pas_profile.specs.declared.profile.Profile.{Profile}
-use Rattle.pas_trace.specs.Plans.{IsPlanOf, Parsed, parsed}
-use Rattle.pas_trace.specs.declared.{fault.TraceFault.TraceFault, plan.Plan.Plan}
+use Rattle.pas_trace.specs.{Plans.{IsPlanOf, Parsed, parsed}, declared.{fault.TraceFault.TraceFault, plan.Plan.Plan}}
 use Rattle.pas_generate.specs.Traces.{trace_text}
 use Rattle.pas_io.specs.Told.{Writes}
 use Rattle.pas_report.specs.Reports.{total_line}
 use Rattle.pas_answers.specs.Ways.{Way, InOrder, OnThreads}
 use Rattle.pas_replay.specs.OneThread.{IsOfOneThread}
-use Rattle.pas_same_text.specs.{State.World, Order.order_text, Order.region_of, Order.replay_of}
+use Rattle.pas_same_text.specs.{State.World, Order.{order_text, region_of, replay_of}}
 use Rattle.pas_telling.specs.Summaries.{summary_text}
 
 -- THE TEXT IS THAT OF THE BYTES, as `pas_same_text` says it

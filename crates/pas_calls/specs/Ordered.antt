@@ -3,11 +3,10 @@ use Rattle.std.specs.Prelude.{ℕ, ◌≡◌, ◌⊎◌, Bool, false, List, Opti
 use Rattle.pas_steps.specs.declared.state.State.{State}
 use Rattle.pas_trace.specs.declared.plan.Plan.{Plan}
 use Rattle.pas_io.specs.Told.{Tells}
-use Rattle.pas_records.specs.Lines.{lines_of}
-use Rattle.pas_records.specs.declared.record.Record.{Record}
+use Rattle.pas_records.specs.{Lines.lines_of, declared.record.Record.Record}
 use Rattle.pas_answers.specs.{Replays.Shows, Ways.InOrder}
 use Rattle.pas_telling.specs.Outcomes.{shown_text}
-use Rattle.pas_calls.specs.{Ends.TellsInput, Outputs.ComesTo, Outputs.IsReplayStatus, Wrote.Wrote}
+use Rattle.pas_calls.specs.{Ends.TellsInput, Outputs.{ComesTo, IsReplayStatus}, Wrote.Wrote}
 
 -- the lines of a replay of the plan were told, up to the first write that failed
 pub record TellsLines (plan : Plan) (held held' : Option (List ℕ)) (faults faults' : ℕ) (state : State) (failed : Bool) : Type 0 where

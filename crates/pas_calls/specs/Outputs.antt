@@ -1,19 +1,14 @@
 -- What the top call writes, for each status, and why.
 use Rattle.std.specs.Prelude.{ℕ, ◌<◌, ◌≤◌, ◌≡◌, ◌⊎◌, List, ◌++◌, Option, Some, Err, length, codes}
 use Rattle.pas_steps.specs.Lists.{Whole, visible}
-use Rattle.pas_trace.specs.Plans.{IsPlanOf, parsed}
-use Rattle.pas_trace.specs.declared.{plan.Plan.Plan, fault.TraceFault.TraceFault}
-use Rattle.pas_records.specs.{Lines.lines_of, Marks.marks_after}
+use Rattle.pas_trace.specs.{Plans.{IsPlanOf, parsed}, declared.{plan.Plan.Plan, fault.TraceFault.TraceFault}}
+use Rattle.pas_records.specs.{Lines.lines_of, Marks.marks_after, declared.record.Record.Record}
 use Rattle.pas_report.specs.Reports.{report_text}
-use Rattle.pas_records.specs.declared.record.Record.{Record}
 use Rattle.pas_answers.specs.{Replays.IsReplay, Ways.Way}
-use Rattle.pas_check.specs.Inputs.{trace_in}
-use Rattle.pas_check.specs.declared.verdict.Verdict.{Verdict}
-use Rattle.pas_io.specs.{Inputs.Takes, Told.Rose, Told.Writes, Told.WritesFront}
-use Rattle.pas_telling.specs.Faults.{fault_text}
-use Rattle.pas_calls.specs.{Generating.IsSummarized, Judgements.IsJudged, Judgements.verdict_status, Judgements.verdict_text, Manners.way_of, OneText.IsTextBy}
-use Rattle.pas_calls.specs.{OneText.IsSummaryOf}
-use Rattle.pas_telling.specs.declared.manner.Manner.{Manner}
+use Rattle.pas_check.specs.{Inputs.trace_in, declared.verdict.Verdict.Verdict}
+use Rattle.pas_io.specs.{Inputs.Takes, Told.{Rose, Writes, WritesFront}}
+use Rattle.pas_telling.specs.{Faults.fault_text, declared.manner.Manner.Manner}
+use Rattle.pas_calls.specs.{Generating.IsSummarized, Judgements.{IsJudged, verdict_status, verdict_text}, Manners.way_of, OneText.{IsTextBy, IsSummaryOf}}
 pub use Rattle.pas_telling.specs.Words.{texts_of, IsReplaying, IsChecking, ReadsInput, IsGen, IsAccepted}
 
 -- the most bytes of an input

@@ -1,11 +1,8 @@
 -- What a writer of lines wrote, from one moment to another one.
-use Rattle.std.specs.Prelude.{ℕ, ◌≡◌, Bool, true, false, List, [], ◌∷◌, ◌++◌, Option, None, Some}
-use Rattle.std.proofs.Common.{refl, ap, sym, ◌∙◌, subst, append_assoc, append-nil}
-use Rattle.pas_io.specs.Told.{Rose, Writes, WritesFront}
-use Rattle.pas_io.proofs.Telling.{writes_more}
-use Rattle.pas_records.specs.declared.record.Record.{Record}
-use Rattle.pas_records.specs.Lines.{line_of, lines_of}
-use Rattle.pas_records.proofs.Pieces.{front_longer}
+use Rattle.std.{specs.Prelude.{ℕ, ◌≡◌, Bool, true, false, List, [], ◌∷◌, ◌++◌, Option, None, Some}, proofs.Common.{refl, ap, sym, ◌∙◌, subst, append_assoc}}
+use Rattle.std.proofs.Common.{append-nil}
+use Rattle.pas_io.{specs.Told.{Rose, Writes, WritesFront}, proofs.Telling.writes_more}
+use Rattle.pas_records.{specs.{declared.record.Record.Record, Lines.{line_of, lines_of}}, proofs.Pieces.front_longer}
 
 -- Where no write has failed by then, the text was written whole; where one failed between, a first part of the text was; and once one failed, nothing is written.
 abbrev pub Wrote : Bool → Bool → Option (List ℕ) → Option (List ℕ) → ℕ → ℕ → List ℕ → Type 0

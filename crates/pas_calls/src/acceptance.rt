@@ -3,10 +3,9 @@ ghost use Rattle.std.specs.Prelude.{List, ◌++◌};
 ghost use Rattle.pas_profile.specs.Profiles.{IsValid};
 ghost use Rattle.pas_steps.specs.Lists.{Whole, visible};
 ghost use Rattle.pas_trace.specs.declared.plan.Plan.{Plan};
-ghost use Rattle.pas_records.specs.{Lines.lines_of, Marks.marks_after};
+ghost use Rattle.pas_records.specs.{Lines.lines_of, Marks.marks_after, declared.record.Record.Record};
 ghost use Rattle.pas_report.specs.Reports.{report_text};
-ghost use Rattle.pas_records.specs.declared.record.Record.{Record};
-ghost use Rattle.pas_answers.specs.{Replays.IsReplay, Replays.region_of, Ways.InOrder};
+ghost use Rattle.pas_answers.specs.{Replays.{IsReplay, region_of}, Ways.InOrder};
 ghost use Rattle.pas_check.specs.Accepted.{IsAccepted};
 
 /// The transcript of a replay in the order of the text is accepted: the lines of its records, and then the report of the machine that the visible events of

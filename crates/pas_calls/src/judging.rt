@@ -2,8 +2,7 @@
 ghost use Rattle.std.specs.Prelude.{◌≡◌, ◌≢◌, ◌+◌, ◌≤◌, ◌⊎◌, ℕ, List, [], Some, IfOk, length};
 ghost use Rattle.pas_io.specs.{Inputs.Takes, Told.Tells, Reached.StopsAtEnd};
 ghost use Rattle.pas_io.specs.declared.reach.Reach.TheVariants as Reach;
-ghost use Rattle.pas_calls.specs.{Outputs.most_bytes, Ends.EndsCheck};
-ghost use Rattle.pas_calls.specs.Judgements.{IsJudgement, judgement_status, judgement_text, verdict_text};
+ghost use Rattle.pas_calls.specs.{Outputs.most_bytes, Ends.EndsCheck, Judgements.{IsJudgement, judgement_status, judgement_text, verdict_text}};
 
 use pas_check::{Verdict, check, split};
 use pas_io::whole::{Input, Stop, read_all};

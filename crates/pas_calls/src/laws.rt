@@ -1,10 +1,8 @@
 //! What the transcripts of `order` are to a checker of transcripts. Each law is the contract of an empty function.
 ghost use Rattle.std.specs.Prelude.{ℕ, List, ◌≡◌};
-ghost use Rattle.pas_trace.specs.Plans.{IsPlanOf};
-ghost use Rattle.pas_trace.specs.declared.plan.Plan.{Plan};
+ghost use Rattle.pas_trace.specs.{Plans.IsPlanOf, declared.plan.Plan.Plan};
 ghost use Rattle.pas_answers.specs.Ways.{InOrder};
-ghost use Rattle.pas_check.specs.Accepted.{IsAccepted, IsVerdict};
-ghost use Rattle.pas_check.specs.declared.verdict.Verdict.{Verdict};
+ghost use Rattle.pas_check.specs.{Accepted.{IsAccepted, IsVerdict}, declared.verdict.Verdict.Verdict};
 ghost use Rattle.pas_check.specs.declared.verdict.Verdict.TheVariants as Verdict;
 ghost use Rattle.pas_calls.specs.Outputs.{IsReplayed};
 

@@ -1,6 +1,6 @@
 //! The lines of records that are written as they come.
 ghost use Rattle.std.specs.Prelude.{◌≡◌, [], false, All};
-ghost use Rattle.pas_records.specs.{Lines.CanShow, Lines.lines_of, Rooms.records_in, Rooms.room_of};
+ghost use Rattle.pas_records.specs.{Lines.{CanShow, lines_of}, Rooms.{records_in, room_of}};
 ghost use Rattle.pas_calls.specs.Wrote.{Wrote};
 
 use pas_io::{Failed, Sink};
@@ -59,8 +59,7 @@ impl<'a, K: Sink> LineWriter<'a, K> {
 }
 
 impl<K: Sink> Takes for LineWriter<'_, K> {
-    ghost use Rattle.std.specs.Prelude.{◌≡◌, Some};
-    ghost use Rattle.std.proofs.Common.{refl, ◌∙◌};
+    ghost use Rattle.std.{specs.Prelude.{◌≡◌, Some}, proofs.Common.{refl, ◌∙◌}};
     ghost use Rattle.pas_records.specs.Lines.{lines_of};
     ghost use Rattle.pas_calls.specs.Wrote.{Wrote, wrote_none, wrote_lines};
 

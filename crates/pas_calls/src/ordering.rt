@@ -2,12 +2,10 @@
 ghost use Rattle.std.specs.Prelude.{◌≡◌, ◌≢◌, ◌≤◌, ◌+◌, ◌⊎◌, ℕ, List, [], Option, Some, IfOk, length};
 ghost use Rattle.pas_io.specs.{Inputs.Takes, Reached.StopsAtEnd};
 ghost use Rattle.pas_io.specs.declared.reach.Reach.TheVariants as Reach;
-ghost use Rattle.pas_trace.specs.{Plans.IsPlanOf, Scripts.IsScriptOf};
-ghost use Rattle.pas_trace.specs.declared.plan.Plan.{Plan as ThePlan};
-ghost use Rattle.pas_answers.specs.{Replays.phases_of, Replays.Shows, Ways.InOrder};
+ghost use Rattle.pas_trace.specs.{Plans.IsPlanOf, Scripts.IsScriptOf, declared.plan.Plan.Plan as ThePlan};
+ghost use Rattle.pas_answers.specs.{Replays.{phases_of, Shows}, Ways.InOrder};
 ghost use Rattle.pas_replay.specs.Kits.{MayReplay};
-ghost use Rattle.pas_calls.specs.{Ends.EndsOrder, Givens.IsAllOf, Ordered.Orders, Ordered.TellsLines, Ordered.TellsReplay, Outcomes.IsOutcome};
-ghost use Rattle.pas_calls.specs.{Outputs.most_bytes};
+ghost use Rattle.pas_calls.specs.{Ends.EndsOrder, Givens.IsAllOf, Ordered.{Orders, TellsLines, TellsReplay}, Outcomes.IsOutcome, Outputs.most_bytes};
 ghost use Rattle.pas_records.specs.Rooms.{records_in, room_of};
 
 use crate::judging::TOO_LONG;

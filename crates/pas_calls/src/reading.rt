@@ -3,7 +3,7 @@ ghost use Rattle.std.specs.Prelude.{◌≡◌, ◌+◌, ℕ, List, [], Some, IfO
 ghost use Rattle.pas_io.specs.{Inputs.Takes, Told.Rose, Reached.StopsAtEnd};
 ghost use Rattle.pas_io.specs.declared.reach.Reach.TheVariants as Reach;
 ghost use Rattle.pas_trace.specs.Scripts.{IsScripting};
-ghost use Rattle.pas_calls.specs.{Givens.IsGiven, Givens.IsGivenBy, Givens.IsOver, Outputs.most_bytes};
+ghost use Rattle.pas_calls.specs.{Givens.{IsGiven, IsGivenBy, IsOver}, Outputs.most_bytes};
 
 use pas_io::pieces::{fill, let_go};
 use pas_io::whole::Stop;

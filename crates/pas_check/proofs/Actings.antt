@@ -2,37 +2,28 @@
 use Rattle.std.proofs.Common.{◌≡◌, ◌≢◌, ℕ, ◌+◌, ◌/◌, ◌%◌, ◌^◌, ◌<◌, ◌≤◌, ◌==◌, if◌then◌else◌, nat_le, max, Bool, true, false, List, [], ◌∷◌, ◌++◌, Option, None}
 use Rattle.std.proofs.Common.{Some, length, get_or, set, inl, inr, refl, ap, sym, subst, ◌∙◌, arith, get_or-set_other, get_or-set_same, length-set, eq-eqb}
 use Rattle.std.proofs.Common.{eqb-true, is_some, le-leb, leb-true, ne_eqb, ◌-◌, map, append_assoc, zero, suc, not, length-drop, drop, take, append-nil}
-use Rattle.std.proofs.lemmas.Bool.{and_from, and_parts, cases_eq, false_from_ne_true, lt-leb}
-use Rattle.pas_profile.specs.{Directories.IsKind, Profiles.IsPage, Blocks.address_of, Entries.entry_of}
-use Rattle.pas_profile.specs.declared.{name.Block.Block, name.Name.Name, profile.Profile.Profile, entry.Entry.Entry}
-use Rattle.pas_machine.specs.Machines.{profile_of}
-use Rattle.pas_machine.specs.declared.machine.Machine.{Machine}
-use Rattle.pas_trace.specs.{Named.standing_for, EveryPlan.all_ops, Plans.ops_of, Plans.IsPlanOf, Plans.phases_of}
-use Rattle.pas_trace.specs.Acts.{Act, MakesPass, StopsIdle, Ticks, Wakes, numbers_from, MarksPhase, Settles, act_kept, acts_from, acts_of, acts_of_chore}
-use Rattle.pas_trace.specs.Acts.{acts_of_op, acts_of_ops, acts_of_work, close_acts, is_active, phase_acts, threads_where, keepers_of}
-use Rattle.pas_trace.specs.declared.{item.Request.Request, plan.Chore.Chore, plan.Op.Op, plan.Phase.Phase, plan.Task.Task as AskedTask}
-use Rattle.pas_trace.specs.declared.{plan.What.TheVariants.Alloc, plan.Work.Work, plan.Plan.Plan}
+use Rattle.std.{proofs.lemmas.{Bool.{and_from, and_parts, cases_eq, false_from_ne_true, lt-leb}, List.{drop_more, length-map}}, specs.List.filter}
+use Rattle.pas_profile.specs.{Directories.IsKind, Profiles.IsPage, Blocks.address_of, Entries.entry_of, declared.name.{Block.Block, Name.Name}}
+use Rattle.pas_profile.specs.declared.{profile.Profile.Profile, entry.Entry.Entry}
+use Rattle.pas_machine.specs.{Machines.profile_of, declared.machine.Machine.Machine}
+use Rattle.pas_trace.specs.{Named.standing_for, EveryPlan.all_ops, Plans.{ops_of, IsPlanOf, phases_of}, Acts.{Act, MakesPass, StopsIdle, Ticks, Wakes}}
+use Rattle.pas_trace.specs.Acts.{numbers_from, MarksPhase, Settles, act_kept, acts_from, acts_of, acts_of_chore, acts_of_op, acts_of_ops, acts_of_work}
+use Rattle.pas_trace.specs.{Acts.{close_acts, is_active, phase_acts, threads_where, keepers_of}, declared.{item.Request.Request, plan.{Chore.Chore, Op.Op}}}
+use Rattle.pas_trace.specs.{declared.plan.{Phase.Phase, Task.Task as AskedTask, What.TheVariants.Alloc, Work.Work, Plan.Plan}, Asked.{work_of, of_task}}
+use Rattle.pas_trace.{specs.Asked.{keeper_of, keeper_in}, proofs.{ThreadsInOrder.{number_last, number_next, threads_alike}, EveryPlan.every_plan}}
+use Rattle.pas_trace.proofs.Keepers.{keepers_few}
 use Rattle.pas_check.specs.Begins.{after_task, begun_act, entries_due, flushing, freeing_at, freeing_named, is_full, is_page, logging, remaking, remaking_named}
-use Rattle.pas_check.specs.Begins.{request_for, says, stopping, suits, tells}
-use Rattle.pas_check.specs.{Bounds.FitsRequest, Bounds.HaveHeaps, Bounds.IsKept, Meanings.heap_in, Meanings.meaning_at, Meanings.meaning_of, Accepted.IsVerdict}
-use Rattle.pas_check.specs.{Accepted.IsWhole, Shown.IsKnown, Takes.Takes}
-use Rattle.pas_check.specs.Tables.{logged, logs_held, meant, names_held}
-use Rattle.pas_check.specs.Calls.{EntriesTaken, IsAsked, IsExamining, IsFollowed, IsWanted, OutcomesTaken, RequestTaken, after_request}
-use Rattle.pas_check.specs.Leading.{Fails, IsLed, IsLineLed, IsWithin, Leads, StaysWithin, lines_from}
-use Rattle.pas_check.specs.States.{Due, Writes, Serves, Examines, Task, Does, Stand, with_at, with_due, with_name, Reports, at_first}
-use Rattle.pas_check.specs.Tasks.{ActTaken, Asks, Comes, EntryLogged, FreesEntry, FreesNamed, IsAnswered, IsCarried, IsNext, IsSuited, LogEmptied, PassTaken}
-use Rattle.pas_check.specs.Tasks.{Remakes, Resizes, SaysNamed, Stands}
-use Rattle.pas_check.specs.declared.{acting.Judge.Judge, cutting.Cursor.Cursor, logging.Logs.Logs, naming.Meaning.Meaning, naming.Names.Names}
-use Rattle.pas_check.specs.declared.{serving.Wanted.Wanted, verdict.Verdict.TheVariants.Yes, verdict.Verdict.TheVariants.No}
-use Rattle.pas_check.proofs.ActsOfPlans.{begun_alike, is_followed, planned_back, planned_front, acts_fit, all_planned}
-use Rattle.pas_check.proofs.Leads.{kept_same, leads_alike, leads_fails, leads_nowhere, leads_on, fails_line}
-use Rattle.std.specs.List.{filter}
-use Rattle.pas_check.specs.Checks.{IsSized, IsSizedAs, IsSoFar, SoTaken, TakenTo, ArePlanned, IsPlanned, threads_in, IsOpened, opening}
-use Rattle.pas_trace.proofs.{ThreadsInOrder.number_last, ThreadsInOrder.number_next, ThreadsInOrder.threads_alike, EveryPlan.every_plan, Keepers.keepers_few}
-use Rattle.std.proofs.lemmas.List.{drop_more, length-map}
-use Rattle.pas_bits.specs.Masks.{is_set}
-use Rattle.pas_bits.specs.declared.mask.Mask4.{Mask4}
-use Rattle.pas_trace.specs.Asked.{work_of, of_task, keeper_of, keeper_in}
+use Rattle.pas_check.specs.{Begins.{request_for, says, stopping, suits, tells}, Bounds.{FitsRequest, HaveHeaps, IsKept}, Meanings.{heap_in, meaning_at}}
+use Rattle.pas_check.specs.{Meanings.meaning_of, Accepted.{IsVerdict, IsWhole}, Shown.IsKnown, Takes.Takes, Tables.{logged, logs_held, meant, names_held}}
+use Rattle.pas_check.specs.{Calls.{EntriesTaken, IsAsked, IsExamining, IsFollowed, IsWanted, OutcomesTaken, RequestTaken, after_request}, Leading.Fails}
+use Rattle.pas_check.specs.{Leading.{IsLed, IsLineLed, IsWithin, Leads, StaysWithin, lines_from}, States.{Due, Writes, Serves, Examines, Task, Does, Stand}}
+use Rattle.pas_check.specs.{States.{with_at, with_due, with_name, Reports, at_first}, Tasks.{ActTaken, Asks, Comes, EntryLogged, FreesEntry, FreesNamed}}
+use Rattle.pas_check.specs.Tasks.{IsAnswered, IsCarried, IsNext, IsSuited, LogEmptied, PassTaken, Remakes, Resizes, SaysNamed, Stands}
+use Rattle.pas_check.specs.declared.{acting.Judge.Judge, cutting.Cursor.Cursor, logging.Logs.Logs, naming.{Meaning.Meaning, Names.Names}, serving.Wanted.Wanted}
+use Rattle.pas_check.specs.{declared.verdict.Verdict.TheVariants.{Yes, No}, Checks.{IsSized, IsSizedAs, IsSoFar, SoTaken, TakenTo, ArePlanned, IsPlanned}}
+use Rattle.pas_check.{specs.Checks.{threads_in, IsOpened, opening}, proofs.ActsOfPlans.{begun_alike, is_followed, planned_back, planned_front, acts_fit}}
+use Rattle.pas_check.proofs.{ActsOfPlans.all_planned, Leads.{kept_same, leads_alike, leads_fails, leads_nowhere, leads_on, fails_line}}
+use Rattle.pas_bits.specs.{Masks.is_set, declared.mask.Mask4.Mask4}
 use Rattle.pas_records.specs.declared.record.{Record.Record, Said.Said}
 
 -- ---- Acts, done.

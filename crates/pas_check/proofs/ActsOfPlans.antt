@@ -1,29 +1,23 @@
 -- The acts of a plan: what they begin needs no line by itself, and its numbers and those of what is due after a pass fit their places.
 use Rattle.std.proofs.Common.{◌≡◌, ◌≢◌, Option, None, Some, ℕ, zero, suc, ◌+◌, ◌*◌, ◌^◌, ◌<◌, ◌≤◌, Bool, true, false, cond, List, [], ◌∷◌, ◌++◌, map, length}
-use Rattle.std.proofs.Common.{refl, subst, arith, MatchOption, ◌/◌, ◌==◌, if◌then◌else◌, nat_le, max, inl, inr, sym, ◌∙◌}
-use Rattle.std.specs.List.{AllByRecursion, filter}
-use Rattle.pas_profile.specs.{Directories.IsKind, Profiles.IsAdmitted, Profiles.IsValid, Requests.kind_of_route, Routes.IsRouteOf, Routes.room_by}
-use Rattle.pas_profile.specs.{Blocks.address_of, Entries.sized_entry, Entries.entry_of}
-use Rattle.pas_profile.specs.declared.{directory.Route.Route, profile.Profile.Profile, event.Event.Event, name.Block.Block, entry.Entry.Entry}
-use Rattle.pas_profile.specs.declared.{guard.Raised.Raised}
-use Rattle.pas_profile.proofs.Sizes.{class_known, route_is, class_size_le}
+use Rattle.std.proofs.{Common.{refl, subst, arith, MatchOption, ◌/◌, ◌==◌, if◌then◌else◌, nat_le, max, inl, inr, sym, ◌∙◌}, lemmas.Bool.and_parts}
+use Rattle.std.{proofs.lemmas.Option.{none-some, same_Some}, specs.List.{AllByRecursion, filter}}
+use Rattle.pas_profile.specs.{Directories.IsKind, Profiles.{IsAdmitted, IsValid}, Requests.kind_of_route, Routes.{IsRouteOf, room_by}, Blocks.address_of}
+use Rattle.pas_profile.specs.{Entries.{sized_entry, entry_of}, declared.{directory.Route.Route, profile.Profile.Profile, event.Event.Event, name.Block.Block}}
+use Rattle.pas_profile.{specs.declared.{entry.Entry.Entry, guard.Raised.Raised}, proofs.Sizes.{class_known, route_is, class_size_le}}
 use Rattle.pas_trace.specs.Acts.{Act, StopsIdle, Ends, Lowers, act_kept, numbers_from, acts_from, acts_of, acts_of_chore, acts_of_op, acts_of_ops, acts_of_work}
-use Rattle.pas_trace.specs.Acts.{close_acts, phase_acts, threads_where, Operates, Guards, Ticks, MakesPass, MarksPhase, Wakes, MarksClose}
-use Rattle.pas_trace.specs.Asked.{epoch_of, keeper_in, keeper_of, of_task, request_of, work_of, request_in}
-use Rattle.pas_trace.specs.EveryPlan.{AreBelow, AreKept, AreSound, IsActorBy, IsSoundTask, all_ops, asked_after}
-use Rattle.pas_trace.specs.declared.{plan.Chore.Chore, plan.Op.Op, plan.Task.Task, plan.Work.Work, item.Request.Request, plan.What.What}
-use Rattle.pas_check.specs.{Bounds.FitsRequest, Bounds.FitsNext, Bounds.HaveHeaps, Calls.asked_for, Calls.IsFollowed, Going.AreAlike, Takes.Takes}
-use Rattle.pas_check.specs.{Takes.TakesDue, Takes.TakesFirst}
-use Rattle.pas_check.specs.Checks.{AllFit, ArePlanned, FitsAct, FitsHeaps, FitsWhat, IsPlanned, IsThread}
-use Rattle.std.proofs.lemmas.{Bool.and_parts, Option.none-some, Option.same_Some}
-use Rattle.pas_records.specs.declared.record.{Record.Record, Said.Said}
+use Rattle.pas_trace.specs.{Acts.{close_acts, phase_acts, threads_where, Operates, Guards, Ticks, MakesPass, MarksPhase, Wakes, MarksClose}, Asked.epoch_of}
+use Rattle.pas_trace.specs.{Asked.{keeper_in, keeper_of, of_task, request_of, work_of, request_in}, EveryPlan.{AreBelow, AreKept, AreSound, IsActorBy}}
+use Rattle.pas_trace.specs.{EveryPlan.{IsSoundTask, all_ops, asked_after}, declared.plan.{Chore.Chore, Op.Op, Task.Task, Work.Work, What.What}}
+use Rattle.pas_trace.specs.declared.{plan.What.TheVariants.{Alloc, Guarded, Free, FreeSized, Raw, RawSized, Remake, Flush, Stop}, item.Request.Request}
 use Rattle.pas_trace.specs.Named.{Named, standing_for}
-use Rattle.pas_trace.specs.declared.plan.What.TheVariants.{Alloc, Guarded, Free, FreeSized, Raw, RawSized, Remake, Flush, Stop}
-use Rattle.pas_check.specs.Begins.{after_task, begun_act, begun_from, begun_what, entries_due, flushing, freeing, freeing_at, freeing_named, goes_down}
-use Rattle.pas_check.specs.Begins.{guarding, is_aligned, is_page, logging, lowered_due, past_outcomes, remaking, remaking_named, request_for, settled_with}
-use Rattle.pas_check.specs.Begins.{stopping, suits, sweeping, tells, begun, ready, ready_with}
-use Rattle.pas_check.specs.States.{Due, Writes, Tries, Does, Reports, Stand, Task as ToDo}
-use Rattle.pas_check.proofs.{OneNext.no_outcome, Leads.first_none}
+use Rattle.pas_check.specs.{Bounds.{FitsRequest, FitsNext, HaveHeaps}, Calls.{asked_for, IsFollowed}, Going.AreAlike, Takes.{Takes, TakesDue, TakesFirst}}
+use Rattle.pas_check.specs.{Checks.{AllFit, ArePlanned, FitsAct, FitsHeaps, FitsWhat, IsPlanned, IsThread}, Begins.{after_task, begun_act, begun_from}}
+use Rattle.pas_check.specs.Begins.{begun_what, entries_due, flushing, freeing, freeing_at, freeing_named, goes_down, guarding, is_aligned, is_page, logging}
+use Rattle.pas_check.specs.Begins.{lowered_due, past_outcomes, remaking, remaking_named, request_for, settled_with, stopping, suits, sweeping, tells, begun}
+use Rattle.pas_check.{specs.{Begins.{ready, ready_with}, States.{Due, Writes, Tries, Does, Reports, Stand, Task as ToDo}}, proofs.OneNext.no_outcome}
+use Rattle.pas_check.proofs.Leads.{first_none}
+use Rattle.pas_records.specs.declared.record.{Record.Record, Said.Said}
 
 -- ---- A task is begun without a line: what may come then is what might before
 -- no outcome of a pass is due first

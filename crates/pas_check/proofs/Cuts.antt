@@ -1,18 +1,14 @@
 -- The lines of a text that is made of lines are these.
 use Rattle.std.proofs.Common.{◌≡◌, ℕ, zero, suc, ◌+◌, ◌/◌, ◌%◌, ◌^◌, ◌<◌, ◌==◌, Bool, true, false, if◌then◌else◌, List, [], ◌∷◌, ◌++◌, map, codes, refl, ap}
 use Rattle.std.proofs.Common.{sym, ◌∙◌, arith, append_assoc, inl, inr, length, take, drop, eq-eqb, ne_eqb, take-append-drop, drop-drop}
-use Rattle.std.specs.Fmt.{decimal, digits, digits_onto, digit_glyph}
-use Rattle.std.proofs.lemmas.Bool.{false_from_ne_true, false≢true, cases_eq, Decides.nat_tests}
+use Rattle.std.{proofs.lemmas.Bool.{false_from_ne_true, false≢true, cases_eq, Decides.nat_tests}, specs.Fmt.{decimal, digits, digits_onto, digit_glyph}}
 use Rattle.std.specs.List.{concat}
 use Rattle.memchr.specs.Find.{Nowhere, Passes, is_byte}
-use Rattle.pas_profile.specs.Blocks.{address_of}
-use Rattle.pas_profile.specs.declared.{directory.Kind.Kind, name.Name.Name, event.Event.Event, event.Why.Why}
-use Rattle.pas_records.specs.declared.record.{Said.Said, Record.Record}
-use Rattle.pas_report.specs.declared.totals.Totals.{Totals}
-use Rattle.pas_records.specs.Lines.{hex_digit, hex_digits, kind_text, name_text, line_of, lines_of, line_of_event, line_of_answer}
-use Rattle.pas_report.specs.Totals.{totals_text}
-use Rattle.pas_check.specs.Lines.{put_front, lines_in, is_line, is_nothing}
-use Rattle.pas_check.proofs.Pages.{all_lines}
+use Rattle.pas_profile.specs.{Blocks.address_of, declared.{directory.Kind.Kind, name.Name.Name, event.{Event.Event, Why.Why}}}
+use Rattle.pas_records.specs.{declared.record.{Said.Said, Record.Record}, Lines.{hex_digit, hex_digits, kind_text, name_text, line_of, lines_of, line_of_event}}
+use Rattle.pas_records.specs.Lines.{line_of_answer}
+use Rattle.pas_report.specs.{declared.totals.Totals.Totals, Totals.totals_text}
+use Rattle.pas_check.{specs.Lines.{put_front, lines_in, is_line, is_nothing}, proofs.Pages.all_lines}
 
 -- ---- a line is cut off in front of a text
 cut_at : (b : ℕ) (bs rest : List ℕ) → is_nothing bs ≡ true → lines_in (10 ∷ (bs ++ rest)) ≡ (10 ∷ bs) ∷ lines_in rest

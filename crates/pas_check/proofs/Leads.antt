@@ -1,17 +1,13 @@
 -- How a check goes on, line by line and from place to place, and what every line keeps.
 use Rattle.std.proofs.Common.{◌≡◌, ℕ, zero, suc, ◌+◌, ◌↔◌, Bool, true, false, List, [], ◌∷◌, length, take, inl, inr, refl, ap, sym, subst, ◌∙◌, arith, ◌^◌, ◌<◌}
-use Rattle.std.proofs.Common.{◌≤◌, ◌==◌, max, if◌then◌else◌, Option, Some, ◌++◌, append_assoc, append-nil, length-append}
-use Rattle.pas_profile.specs.declared.{profile.Profile.Profile, directory.Directory.Directory, event.Event.Event}
-use Rattle.pas_check.specs.Accepted.{IsDone, IsWhole, MayGo, IsStopped}
-use Rattle.pas_check.specs.{Begins.past_outcomes, Begins.ready, Begins.ready_with, Going.AreAlike, Bounds.IsKept, Bounds.IsSmall, Calls.Reaches, Going.SoFar}
-use Rattle.pas_check.specs.Leading.{Fails, IsJustLine, IsLed, IsWithin, Leads, lines_from}
-use Rattle.pas_check.specs.States.{Due, Examines, Stand, with_due}
-use Rattle.pas_check.specs.Takes.{IsJust, Takes, TakesDue, TakesFirst}
-use Rattle.pas_check.specs.declared.cutting.Cursor.{Cursor}
-use Rattle.std.proofs.{lemmas.Option.same_Some, Math.Seq.take-append_seam}
-use Rattle.pas_profile.specs.{Directories.IsKind, Profiles.IsValid, Blocks.address_of}
-use Rattle.pas_machine.specs.{Machines.profile_of, Machines.StandsFor, State.deed_in, State.epoch_in, State.gives_in}
-use Rattle.pas_machine.specs.declared.machine.Machine.{Machine}
+use Rattle.std.proofs.{Common.{◌≤◌, ◌==◌, max, if◌then◌else◌, Option, Some, ◌++◌, append_assoc, append-nil, length-append}, lemmas.Option.same_Some}
+use Rattle.std.proofs.Math.Seq.{take-append_seam}
+use Rattle.pas_profile.specs.{declared.{profile.Profile.Profile, directory.Directory.Directory, event.Event.Event}, Directories.IsKind, Profiles.IsValid}
+use Rattle.pas_profile.specs.Blocks.{address_of}
+use Rattle.pas_check.specs.{Accepted.{IsDone, IsWhole, MayGo, IsStopped}, Begins.{past_outcomes, ready, ready_with}, Going.{AreAlike, SoFar}, Bounds.IsKept}
+use Rattle.pas_check.specs.{Bounds.IsSmall, Calls.Reaches, Leading.{Fails, IsJustLine, IsLed, IsWithin, Leads, lines_from}, States.{Due, Examines, Stand}}
+use Rattle.pas_check.specs.{States.with_due, Takes.{IsJust, Takes, TakesDue, TakesFirst}, declared.cutting.Cursor.Cursor}
+use Rattle.pas_machine.specs.{Machines.{profile_of, StandsFor}, State.{deed_in, epoch_in, gives_in}, declared.machine.Machine.Machine}
 
 -- ---- How a check goes on, line by line, and how it ends
 -- before the first line

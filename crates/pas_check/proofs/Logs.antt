@@ -1,7 +1,7 @@
 -- Logs that stand one after the other in one list, 64 places for each.
 use Rattle.std.proofs.Common.{◌≡◌, ◌≢◌, ℕ, ◌+◌, ◌-◌, ◌*◌, ◌<◌, ◌≤◌, List, [], ◌∷◌, ◌++◌, length, take, drop, get_or, set, inl, inr, ap, ◌∙◌, arith, length-drop}
-use Rattle.std.proofs.Common.{get_or-set_other, get_or-set_same, drop-set-lt, length-take-le}
-use Rattle.std.proofs.lemmas.{Bool.cases_lt, List.drop-set-add, List.take-set-le, List.take_more_set}
+use Rattle.std.proofs.{Common.{get_or-set_other, get_or-set_same, drop-set-lt, length-take-le}, lemmas.{Bool.cases_lt, List.{drop-set-add, take-set-le}}}
+use Rattle.std.proofs.lemmas.List.{take_more_set}
 use Rattle.pas_check.specs.Tables.{log_of}
 use Rattle.pas_profile.specs.declared.entry.Entry.{Entry}
 

@@ -1,37 +1,26 @@
 -- The event of an entry of a log. In a run it is the one that the definition names; and there is only one.
 use Rattle.std.proofs.Common.{◌≡◌, ◌≢◌, ℕ, ◌<◌, ◌≤◌, List, Option, Some, None, inl, inr, refl, ap, sym, subst, ◌∙◌, arith, ◌/◌, ◌%◌, ◌^◌, Bool, true, false}
 use Rattle.std.proofs.Common.{if◌then◌else◌, [], ◌∷◌, eqb-true, eq-eqb, suc, ◌⊎◌, ◌++◌, length, Result, is_ok, MatchBool, ◌+◌, ◌*◌, ◌-◌, nat_le, nat_lt}
-use Rattle.std.proofs.Common.{leb-true, ltb-true, le-leb, lt-ltb}
-use Rattle.std.proofs.lemmas.{Option.none-some, Option.same_Some, Bool.and_from, Bool.and_parts, Bool.cases_lt}
-use Rattle.pas_profile.specs.declared.{profile.Profile.Profile, name.Block.Block, name.Name.Name, event.Event.Event, event.Why.Why, event.Why.TheVariants.Ended}
-use Rattle.pas_profile.specs.declared.{event.Why.TheVariants.NoBlock, event.Why.TheVariants.SizeDiffers, directory.Directory.Directory, event.Outcome.Outcome}
-use Rattle.pas_profile.specs.declared.{directory.Route.TheVariants.Class, entry.Entry.Entry}
-use Rattle.pas_profile.specs.{Blocks.address_of, Blocks.grain_of, Blocks.length_of, Profiles.IsPage, Profiles.IsValid, Directories.IsKind, Classes.IsClass}
-use Rattle.pas_profile.specs.{Requests.kind_of_class, Requests.route_in, Routes.IsRouteOf}
-use Rattle.pas_machine.specs.{Laws.IsCounted, Places.block_of, Places.IsEach}
-use Rattle.pas_machine.specs.Machine.{Run, Admits, IsLive, IsReason, IsPlace}
-use Rattle.pas_machine.specs.State.{Live, live_in, gives_in, ends_in, deed_in}
-use Rattle.pas_machine.proofs.{LiveBlocks.all_counted, Verdicts.never_of}
-use Rattle.pas_check.specs.Calls.{Differs, outcome_in, IsStepped, EntryTaken, LiesOn, RefusesBy, outcome_in_event, outcome_in_said}
-use Rattle.pas_check.specs.States.{Stand, Due, Frees, Serves, Tries, Never, Examines, Shows, with_due, with_one, Writes, Heads, Totals}
-use Rattle.pas_check.specs.Takes.{MayRefuse, IsEventOf, IsServing, IsFor, IsRefusal, directory_of, serving, MayCome, record_of, after_outcome, MayServe}
-use Rattle.pas_check.specs.Takes.{after_record, TakesRequest, TakesTry, IsOutcome, TakesOutcome, TakesDue, Takes, TakesFirst, TakesKeeping, after_keeping}
-use Rattle.pas_check.specs.declared.examining.Examined.{Examined}
-use Rattle.pas_bits.proofs.Runs.{first_of_run}
-use Rattle.pas_steps.specs.Events.{actor_of}
-use Rattle.pas_check.specs.{Begins.past_outcomes, Begins.ready, Readings.byte_at, Readings.of_u8, Readings.past_digits}
-use Rattle.pas_check.specs.Ranges.{FitsWhy, FitsEvent, FitsSaid, Fits, FitsEntry, FitsBlock}
-use Rattle.pas_check.specs.Bounds.{FitsRequest, FitsFirst, FitsTry, IsSmall, FitsNext, IsOfThread, IsFew}
-use Rattle.pas_trace.specs.declared.item.Request.{Request}
-use Rattle.pas_check.proofs.{Readings.one_line, Readings.past_number, Readings.u8_back, Leads.gives_few}
+use Rattle.std.proofs.{Common.{leb-true, ltb-true, le-leb, lt-ltb}, lemmas.{Option.{none-some, same_Some}, Bool.{and_from, and_parts, cases_lt}}}
 use Rattle.std.specs.Fmt.{decimal}
-use Rattle.pas_machine.specs.Machines.{IsUncounted, profile_of, StandsFor, Steps}
-use Rattle.pas_machine.specs.declared.{fault.StepFault.StepFault, machine.Machine.Machine}
-use Rattle.pas_bits.specs.Runs.{in_run}
-use Rattle.pas_profile.proofs.Sizes.{class_known, route_is}
-use Rattle.pas_trace.proofs.PassedChecks.{if_some}
-use Rattle.pas_records.specs.Lines.{line_of, line_of_answer, line_of_event}
-use Rattle.pas_records.specs.declared.record.{Record.Record, Said.Said}
+use Rattle.pas_profile.specs.declared.{profile.Profile.Profile, name.{Block.Block, Name.Name}, event.{Event.Event, Why.{Why, TheVariants.{Ended, NoBlock}}}}
+use Rattle.pas_profile.specs.declared.{event.{Why.TheVariants.SizeDiffers, Outcome.Outcome}, directory.{Directory.Directory, Route.TheVariants.Class}}
+use Rattle.pas_profile.specs.{declared.entry.Entry.Entry, Blocks.{address_of, grain_of, length_of}, Profiles.{IsPage, IsValid}, Directories.IsKind}
+use Rattle.pas_profile.{specs.{Classes.IsClass, Requests.{kind_of_class, route_in}, Routes.IsRouteOf}, proofs.Sizes.{class_known, route_is}}
+use Rattle.pas_machine.specs.{Laws.IsCounted, Places.{block_of, IsEach}, Machine.{Run, Admits, IsLive, IsReason, IsPlace}, State.{Live, live_in, gives_in}}
+use Rattle.pas_machine.specs.{State.{ends_in, deed_in}, Machines.{IsUncounted, profile_of, StandsFor, Steps}, declared.fault.StepFault.StepFault}
+use Rattle.pas_machine.{specs.declared.machine.Machine.Machine, proofs.{LiveBlocks.all_counted, Verdicts.never_of}}
+use Rattle.pas_check.specs.{Calls.{Differs, outcome_in, IsStepped, EntryTaken, LiesOn, RefusesBy, outcome_in_event, outcome_in_said}, States.{Stand, Due}}
+use Rattle.pas_check.specs.{States.{Frees, Serves, Tries, Never, Examines, Shows, with_due, with_one, Writes, Heads, Totals}, Takes.{MayRefuse, IsEventOf}}
+use Rattle.pas_check.specs.Takes.{IsServing, IsFor, IsRefusal, directory_of, serving, MayCome, record_of, after_outcome, MayServe, after_record, TakesRequest}
+use Rattle.pas_check.specs.Takes.{TakesTry, IsOutcome, TakesOutcome, TakesDue, Takes, TakesFirst, TakesKeeping, after_keeping}
+use Rattle.pas_check.specs.{declared.examining.Examined.Examined, Begins.{past_outcomes, ready}, Readings.{byte_at, of_u8, past_digits}, Ranges.FitsWhy}
+use Rattle.pas_check.specs.{Ranges.{FitsEvent, FitsSaid, Fits, FitsEntry, FitsBlock}, Bounds.{FitsRequest, FitsFirst, FitsTry, IsSmall, FitsNext, IsOfThread}}
+use Rattle.pas_check.{specs.Bounds.IsFew, proofs.{Readings.{one_line, past_number, u8_back}, Leads.gives_few}}
+use Rattle.pas_bits.{proofs.Runs.first_of_run, specs.Runs.in_run}
+use Rattle.pas_steps.specs.Events.{actor_of}
+use Rattle.pas_trace.{specs.declared.item.Request.Request, proofs.PassedChecks.if_some}
+use Rattle.pas_records.specs.{Lines.{line_of, line_of_answer, line_of_event}, declared.record.{Record.Record, Said.Said}}
 
 -- a live block's turn is the number of ends at its address
 turn_counts : (o : Option Live) (b : Live) (gives ends : ℕ) → o ≡ Some b → IsCounted o gives ends → b.block.name.turn ≡ ends

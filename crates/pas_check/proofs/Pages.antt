@@ -1,28 +1,20 @@
 -- Pages of the report with their marks, and its totals.
 use Rattle.std.proofs.Common.{◌≡◌, ℕ, ◌+◌, ◌-◌, ◌==◌, Bool, true, false, if◌then◌else◌, List, [], ◌∷◌, ◌++◌, refl, ap, sym, ◌∙◌, arith, append_assoc}
 use Rattle.std.proofs.Common.{append-nil, length, take, drop, drop-drop, eq-eqb, ne_eqb, MatchBool, ◌*◌, ◌/◌, ◌%◌, ◌≤◌, nat_le, nat_lt, not, Option, None, Some}
-use Rattle.std.proofs.Common.{subst, eqb-true, leb-true, ◌≢◌, zero, suc, ◌<◌, add-zero, add-suc}
-use Rattle.std.specs.List.{concat}
-use Rattle.std.proofs.{Math.Seq.take-add, lemmas.List.take_rest, lemmas.Bool.cases_eq, lemmas.Bool.and_parts, lemmas.Option.none-some}
-use Rattle.pas_check.specs.{Lines.put_front, Lines.lines_in, Takes.AreAllowedMarks, Begins.page_due, Begins.pages_due}
-use Rattle.pas_check.specs.Inputs.{is_mark, before_mark, after_mark, trace_in, transcript_in}
-use Rattle.pas_profile.specs.Blocks.{address_of, length_of, grain_of}
-use Rattle.pas_profile.specs.declared.{directory.Directory.Directory, event.Event.Event, name.Block.Block, profile.Profile.Profile}
-use Rattle.pas_machine.specs.{Machine.Run, Machine.MayGive, Places.IsCovered, Laws.IsCounted, Totals.address_at, Totals.has_block, Totals.sum_below}
-use Rattle.pas_machine.specs.State.{Live, live_in, deed_in, ends_in, gives_in}
-use Rattle.pas_records.specs.{Marks.Marked, Covered.covers, Covered.is_covered}
-use Rattle.pas_report.specs.Totals.{totals_of}
-use Rattle.pas_report.specs.Reports.{machine_page, page_text, live_on, total_line}
-use Rattle.pas_records.proofs.MarksAtRest.{none_of, not_covering, some_of}
-use Rattle.pas_report.proofs.Counting.{grains_counted, sum_same, sum_and_count}
-use Rattle.pas_check.specs.Leading.{Fails, IsLed, IsWithin, lines_from, IsJustLine, Leads}
-use Rattle.pas_check.specs.Shown.{IsHinted, IsPageLine, IsWith, MayShow, TellsPage, line_with, marks_for, given_on}
-use Rattle.pas_check.specs.States.{Due, Shows, Stand, with_due, Totals}
-use Rattle.pas_check.specs.declared.{cutting.Cursor.Cursor, reporting.Shown.Shown}
-use Rattle.pas_check.proofs.Leads.{due_refused, due_taken, just_led, leads_nowhere}
-use Rattle.pas_bits.specs.Bits.{count_below}
-use Rattle.pas_bits.proofs.{Rows.count_add, Rows.count_same, Rows.count_suc, Runs.first_of_run}
-use Rattle.pas_machine.proofs.LiveBlocks.{all_counted}
+use Rattle.std.proofs.{Common.{subst, eqb-true, leb-true, ◌≢◌, zero, suc, ◌<◌, add-zero, add-suc}, Math.Seq.take-add, lemmas.{List.take_rest, Bool.cases_eq}}
+use Rattle.std.{proofs.lemmas.{Bool.and_parts, Option.none-some}, specs.List.concat}
+use Rattle.pas_check.specs.{Lines.{put_front, lines_in}, Takes.AreAllowedMarks, Begins.{page_due, pages_due}, Inputs.{is_mark, before_mark, after_mark}}
+use Rattle.pas_check.specs.{Inputs.{trace_in, transcript_in}, Leading.{Fails, IsLed, IsWithin, lines_from, IsJustLine, Leads}, Shown.{IsHinted, IsPageLine}}
+use Rattle.pas_check.specs.{Shown.{IsWith, MayShow, TellsPage, line_with, marks_for, given_on}, States.{Due, Shows, Stand, with_due, Totals}}
+use Rattle.pas_check.{specs.declared.{cutting.Cursor.Cursor, reporting.Shown.Shown}, proofs.Leads.{due_refused, due_taken, just_led, leads_nowhere}}
+use Rattle.pas_profile.specs.{Blocks.{address_of, length_of, grain_of}, declared.{directory.Directory.Directory, event.Event.Event, name.Block.Block}}
+use Rattle.pas_profile.specs.declared.profile.Profile.{Profile}
+use Rattle.pas_machine.specs.{Machine.{Run, MayGive}, Places.IsCovered, Laws.IsCounted, Totals.{address_at, has_block, sum_below}, State.{Live, live_in}}
+use Rattle.pas_machine.{specs.State.{deed_in, ends_in, gives_in}, proofs.LiveBlocks.all_counted}
+use Rattle.pas_records.{specs.{Marks.Marked, Covered.{covers, is_covered}}, proofs.MarksAtRest.{none_of, not_covering, some_of}}
+use Rattle.pas_report.{specs.{Totals.totals_of, Reports.{machine_page, page_text, live_on, total_line}}, proofs.Counting.{grains_counted, sum_same}}
+use Rattle.pas_report.proofs.Counting.{sum_and_count}
+use Rattle.pas_bits.{specs.Bits.count_below, proofs.{Rows.{count_add, count_same, count_suc}, Runs.first_of_run}}
 
 -- ---- What a cut of an input does to its trace and its transcript
 -- ---- the lines of a text, one after the other, are the text

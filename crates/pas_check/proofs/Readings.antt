@@ -1,21 +1,18 @@
 -- Digits and words of lines are read back.
 use Rattle.std.proofs.Common.{◌≡◌, ℕ, zero, suc, ◌+◌, ◌-◌, ◌*◌, ◌/◌, ◌%◌, ◌^◌, ◌<◌, ◌≤◌, nat_lt, Bool, true, false, if◌then◌else◌, List, [], ◌∷◌, ◌++◌, refl}
-use Rattle.std.proofs.Common.{ap, sym, ◌∙◌, arith, lt-ltb, le-ltb, ◌==◌, length, drop, codes, eqb-true}
-use Rattle.std.specs.Fmt.{decimal}
-use Rattle.std.proofs.lemmas.{Bool.and_parts, Bool.Decides.nat_tests, Grind.pow_more}
-use Rattle.std.proofs.Math.Nat.{pow-le-pow_right, pow-suc, div-add-mod, div-div-eq-div-mul, mul-add, mul_comm, mul_assoc, mul_left_comm}
-use Rattle.pas_trace.specs.Numbers.{is_digit, all_digits, value_from, hex_value}
-use Rattle.pas_trace.proofs.Digits.{digit-is}
+use Rattle.std.proofs.{Common.{ap, sym, ◌∙◌, arith, lt-ltb, le-ltb, ◌==◌, length, drop, codes, eqb-true}, lemmas.Bool.{and_parts, Decides.nat_tests}}
+use Rattle.std.proofs.{lemmas.Grind.pow_more, Math.Nat.{pow-le-pow_right, pow-suc, div-add-mod, div-div-eq-div-mul, mul-add, mul_comm, mul_assoc}}
+use Rattle.std.{proofs.Math.Nat.mul_left_comm, specs.Fmt.decimal}
+use Rattle.pas_trace.{specs.Numbers.{is_digit, all_digits, value_from, hex_value}, proofs.Digits.digit-is}
 use Rattle.pas_generate.proofs.Digits.{are-digits}
-use Rattle.pas_records.specs.Lines.{hex_digit, hex_digits, kind_text, name_text, line_of, line_of_event, line_of_answer, CanShow}
+use Rattle.pas_records.specs.{Lines.{hex_digit, hex_digits, kind_text, name_text, line_of, line_of_event, line_of_answer, CanShow}, declared.record.Said.Said}
+use Rattle.pas_records.specs.declared.record.Record.{Record}
 use Rattle.pas_check.specs.Readings.{digits_after, past_digits, number_at, hex_after, small, of_u8, of_u32, byte_at, name_at, past_name, kind_at, directory_at}
 use Rattle.pas_check.specs.Readings.{deed_at, back_at, unback_at, give_at, freed_at, held_at, in_use_at, young_at, size_differs_at, kept_at, guarded_at}
-use Rattle.pas_check.specs.Readings.{lowered_at, word_at, record_at}
-use Rattle.pas_profile.specs.{Classes.IsClass, Classes.class_size, Requests.kind_of_route, Routes.route_of, Directories.IsKind, Blocks.address_of}
+use Rattle.pas_check.specs.{Readings.{lowered_at, word_at, record_at}, Ranges.{FitsName, FitsBlock, FitsEvent, FitsSaid, Fits}}
+use Rattle.pas_profile.specs.{Classes.{IsClass, class_size}, Requests.kind_of_route, Routes.route_of, Directories.IsKind, Blocks.address_of}
+use Rattle.pas_profile.specs.declared.{directory.{Kind.Kind, Directory.Directory}, name.{Name.Name, Block.Block}, event.{Event.Event, Why.Why}}
 use Rattle.pas_profile.proofs.Sizes.{class_passes, class_size_le}
-use Rattle.pas_profile.specs.declared.{directory.Kind.Kind, directory.Directory.Directory, name.Name.Name, name.Block.Block, event.Event.Event, event.Why.Why}
-use Rattle.pas_records.specs.declared.record.{Said.Said, Record.Record}
-use Rattle.pas_check.specs.Ranges.{FitsName, FitsBlock, FitsEvent, FitsSaid, Fits}
 
 -- ---- Numbers that stand in front of a text are read back
 -- ---- decimals

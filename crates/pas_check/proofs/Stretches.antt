@@ -1,32 +1,24 @@
 -- Stretches of lines: of a log that is emptied, of a request, of a pass, and of requests that are guarded.
 use Rattle.std.proofs.Common.{◌≡◌, ℕ, ◌+◌, ◌^◌, ◌<◌, true, false, List, [], ◌∷◌, ◌++◌, inl, inr, refl, ap, sym, subst, ◌∙◌, arith, Option, None, Some, ◌↔◌}
-use Rattle.std.proofs.Common.{Bool, ◌≢◌, ◌==◌, if◌then◌else◌, cond, map, eqb-true, ◌||◌, IfSome, MatchBool}
-use Rattle.pas_profile.specs.{Guards.raised_by, Directories.IsKind, Profiles.IsValid, Blocks.address_of}
-use Rattle.pas_profile.specs.declared.{event.Event.Event, name.Block.Block, name.Name.Name, event.Outcome.Outcome, profile.Profile.Profile, entry.Entry.Entry}
-use Rattle.pas_profile.specs.declared.{guard.Raised.Raised}
-use Rattle.pas_machine.specs.{Machines.profile_of, Machines.StandsFor, Machine.IsPlace, Machine.Run, State.ends_in}
-use Rattle.pas_machine.specs.declared.machine.Machine.{Machine}
+use Rattle.std.{proofs.{Common.{Bool, ◌≢◌, ◌==◌, if◌then◌else◌, cond, map, eqb-true, ◌||◌, IfSome, MatchBool}, lemmas.Bool.false≢true}, specs.List.filter}
+use Rattle.std.specs.Global.{Vec}
+use Rattle.pas_profile.specs.{Guards.raised_by, Directories.IsKind, Profiles.IsValid, Blocks.address_of, declared.event.{Event.Event, Outcome.Outcome}}
+use Rattle.pas_profile.specs.declared.{name.{Block.Block, Name.Name}, profile.Profile.Profile, entry.Entry.Entry, guard.Raised.Raised}
+use Rattle.pas_machine.specs.{Machines.{profile_of, StandsFor}, Machine.{IsPlace, Run}, State.ends_in, declared.machine.Machine.Machine}
 use Rattle.pas_check.specs.Begins.{entries_due, replacing, ready, has_sides, raising, goes_down, guard_of, lowered_due, page_above, page_below, sweeping}
 use Rattle.pas_check.specs.Calls.{EntriesTaken, EntryTaken, IsAsked, IsWanted, RequestGoes, RequestTaken, after_request, IsExamining, OutcomeTaken, OutcomesGo}
 use Rattle.pas_check.specs.Calls.{OutcomesTaken, after_pass, IsTrying, TrialGoes, TrialTaken, LinesSwept, staying, EventTaken, IsRead, RefusalSeen, RefusesBy}
-use Rattle.pas_check.specs.Leading.{IsWithin, lines_from, Fails, Leads, IsLineLed}
-use Rattle.pas_check.specs.Takes.{IsEventOf, TakesEntry, TakesRequest, directory_of, Takes, TakesOutcome, after_outcome, TakesKeeping, TakesTry, serving}
-use Rattle.pas_check.specs.Takes.{IsServing, MayServe, after_record, block_in, after_keeping, given_next, is_back, kept_next, record_of}
-use Rattle.pas_check.specs.States.{Due, Frees, Stand, with_due, with_one, Serves, with_name, Examines, Tries, Writes, Never}
-use Rattle.pas_check.specs.declared.{cutting.Cursor.Cursor, serving.Wanted.Wanted, guarding.Trial.TheVariants.Gives, guarding.Trial.TheVariants.Passes}
-use Rattle.pas_check.specs.declared.{guarding.Trial.TheVariants.Stops, acting.Judge.Judge, naming.Names.Names}
-use Rattle.pas_check.proofs.OneNext.{one_event, one_next, one_takes, kept_fits, no_answer, outcome_fits, serves_fits}
-use Rattle.pas_check.proofs.Leads.{EndsBy, kept_more, reaches_here, kept_same, small_of, then_fails, then_lacks, then_leads, IsSameAt, leads_idly, leads_line}
-use Rattle.pas_check.proofs.Leads.{leads_on, due_takes, takes_due, undone, due_lacks, due_refused, leads_nowhere, led_on, few_lines}
-use Rattle.pas_trace.specs.declared.item.Request.{Request}
-use Rattle.pas_check.specs.{Bounds.IsSmall, Bounds.IsKept, Bounds.FitsTry, Tables.meant}
-use Rattle.std.proofs.lemmas.Bool.{false≢true}
-use Rattle.std.specs.{List.filter, Global.Vec}
-use Rattle.pas_trace.specs.Acts.{Act}
-use Rattle.pas_check.specs.Tasks.{ActTaken, AsksKeeper, Comes, GuardsSwept, IsCarried, Stands}
-use Rattle.pas_check.proofs.Actings.{comes_answered, comes_as, comes_led, comes_on, fits_wanted}
-use Rattle.pas_records.specs.Lines.{line_of}
-use Rattle.pas_records.specs.declared.record.{Record.Record, Said.Said}
+use Rattle.pas_check.specs.{Leading.{IsWithin, lines_from, Fails, Leads, IsLineLed}, Takes.{IsEventOf, TakesEntry, TakesRequest, directory_of, Takes}}
+use Rattle.pas_check.specs.Takes.{TakesOutcome, after_outcome, TakesKeeping, TakesTry, serving, IsServing, MayServe, after_record, block_in, after_keeping}
+use Rattle.pas_check.specs.{Takes.{given_next, is_back, kept_next, record_of}, States.{Due, Frees, Stand, with_due, with_one, Serves, with_name, Examines}}
+use Rattle.pas_check.specs.{States.{Tries, Writes, Never}, declared.{cutting.Cursor.Cursor, serving.Wanted.Wanted, guarding.Trial.TheVariants.{Gives, Passes}}}
+use Rattle.pas_check.specs.{declared.{guarding.Trial.TheVariants.Stops, acting.Judge.Judge, naming.Names.Names}, Bounds.{IsSmall, IsKept, FitsTry}}
+use Rattle.pas_check.{specs.{Tables.meant, Tasks.{ActTaken, AsksKeeper, Comes, GuardsSwept, IsCarried, Stands}}, proofs.OneNext.{one_event, one_next}}
+use Rattle.pas_check.proofs.{OneNext.{one_takes, kept_fits, no_answer, outcome_fits, serves_fits}, Leads.{EndsBy, kept_more, reaches_here, kept_same, small_of}}
+use Rattle.pas_check.proofs.Leads.{then_fails, then_lacks, then_leads, IsSameAt, leads_idly, leads_line, leads_on, due_takes, takes_due, undone, due_lacks}
+use Rattle.pas_check.proofs.{Leads.{due_refused, leads_nowhere, led_on, few_lines}, Actings.{comes_answered, comes_as, comes_led, comes_on, fits_wanted}}
+use Rattle.pas_trace.specs.{declared.item.Request.Request, Acts.Act}
+use Rattle.pas_records.specs.{Lines.line_of, declared.record.{Record.Record, Said.Said}}
 
 -- ---- The lines of the entries of a log, one after the other
 ends_by : (s : Stand) (k : ℕ) (entry : Entry) (e : Event) → IsEventOf s k entry e → EndsBy s.epoch e

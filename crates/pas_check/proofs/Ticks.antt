@@ -1,11 +1,8 @@
 -- Steps that aren't ticks leave the epoch as it is.
 use Rattle.std.proofs.Common.{arith, ◌≡◌, ℕ, Bool, true, false, if◌then◌else◌, List, [], ◌∷◌, ◌++◌, refl, ◌∙◌}
-use Rattle.pas_profile.specs.Layouts.{same_word}
-use Rattle.pas_profile.specs.declared.word.Word.{Word}
-use Rattle.pas_steps.specs.{Desks.triples, Effects.target, Effects.new_value, Lists.Whole, Lists.part, Lists.word_after, Views.epoch_of}
-use Rattle.pas_steps.specs.Kinds.{Kinds, Ticking, Only, kind_of, is_in, apart, place_of}
-use Rattle.pas_steps.specs.declared.step.{Made.Made, Step.Step}
-use Rattle.pas_steps.proofs.Apart.{in_apart}
+use Rattle.pas_profile.specs.{Layouts.same_word, declared.word.Word.Word}
+use Rattle.pas_steps.specs.{Desks.triples, Effects.{target, new_value}, Lists.{Whole, part, word_after}, Views.epoch_of, Kinds.{Kinds, Ticking, Only, kind_of}}
+use Rattle.pas_steps.{specs.{Kinds.{is_in, apart, place_of}, declared.step.{Made.Made, Step.Step}}, proofs.Apart.in_apart}
 
 -- in each case it computes, or is given
 same_both : (t : Bool) (x : ℕ) → (if t then x else x) ≡ x

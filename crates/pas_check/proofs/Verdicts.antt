@@ -1,11 +1,8 @@
 -- A transcript has one verdict.
-use Rattle.std.proofs.Common.{◌≡◌, ℕ, zero, suc, ◌+◌, ◌<◌, ◌≤◌, List, [], ◌∷◌, take, inl, inr, refl, ap, subst, arith}
-use Rattle.std.proofs.lemmas.Bool.{cases_lt}
+use Rattle.std.proofs.{Common.{◌≡◌, ℕ, zero, suc, ◌+◌, ◌<◌, ◌≤◌, List, [], ◌∷◌, take, inl, inr, refl, ap, subst, arith}, lemmas.Bool.cases_lt}
 use Rattle.pas_profile.specs.declared.profile.Profile.{Profile}
 use Rattle.pas_trace.specs.declared.plan.Plan.{Plan}
-use Rattle.pas_check.specs.States.{Stand}
-use Rattle.pas_check.specs.Accepted.{MayGo, IsWhole, IsStopped, IsVerdict}
-use Rattle.pas_check.specs.declared.verdict.Verdict.{Verdict}
+use Rattle.pas_check.specs.{States.Stand, Accepted.{MayGo, IsWhole, IsStopped, IsVerdict}, declared.verdict.Verdict.Verdict}
 
 -- where lines may come, a first part of them may
 goes_front : (n : ℕ) (f : Profile) (s : Stand) (lines : List (List ℕ)) → MayGo f s lines → MayGo f s (take n lines)

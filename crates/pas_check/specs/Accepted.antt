@@ -2,8 +2,7 @@
 use Rattle.std.specs.Prelude.{ℕ, ◌+◌, ◌<◌, ◌≡◌, ◌⊎◌, List, [], ◌∷◌, length, take}
 use Rattle.pas_profile.specs.declared.profile.Profile.{Profile}
 use Rattle.pas_trace.specs.declared.plan.Plan.{Plan}
-use Rattle.pas_check.specs.{Lines.lines_in, States.Stand, States.at_first, Begins.ready, Takes.Takes}
-use Rattle.pas_check.specs.declared.verdict.Verdict.{Verdict, TheVariants.Yes, TheVariants.No}
+use Rattle.pas_check.specs.{Lines.lines_in, States.{Stand, at_first}, Begins.ready, Takes.Takes, declared.verdict.Verdict.{Verdict, TheVariants.{Yes, No}}}
 
 -- each of the lines may come after those before it
 abbrev pub Goes : Profile → Stand → List (List ℕ) → Stand → Type 0

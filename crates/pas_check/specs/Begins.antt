@@ -1,16 +1,14 @@
 -- How the acts of a plan are begun: what becomes due, and what changes without a line.
 use Rattle.std.specs.Prelude.{ℕ, zero, suc, ◌+◌, ◌-◌, ◌/◌, ◌%◌, ◌==◌, nat_le, nat_lt, ◌&&◌, ◌||◌, not, Bool, true, false, List, [], ◌∷◌, ◌++◌, length, map, max}
-use Rattle.std.specs.Prelude.{Option, None, Some}
-use Rattle.std.specs.List.{filter}
-use Rattle.pas_profile.specs.declared.{directory.Directory.Directory, event.Event.Event, name.Block.Block, name.Name.Name, profile.Profile.Profile}
-use Rattle.pas_profile.specs.declared.{entry.Entry.Entry, guard.Guard.Guard, guard.Raised.Raised}
-use Rattle.pas_profile.specs.{Blocks.address_of, Blocks.grain_of, Blocks.length_of, Entries.entry_of, Entries.sized_entry, Guards.raised_by}
+use Rattle.std.specs.{Prelude.{Option, None, Some}, List.filter}
+use Rattle.pas_profile.specs.declared.{directory.Directory.Directory, event.Event.Event, name.{Block.Block, Name.Name}, profile.Profile.Profile}
+use Rattle.pas_profile.specs.{declared.{entry.Entry.Entry, guard.{Guard.Guard, Raised.Raised}}, Blocks.{address_of, grain_of, length_of}, Entries.entry_of}
+use Rattle.pas_profile.specs.{Entries.sized_entry, Guards.raised_by}
 use Rattle.pas_machine.specs.State.{deed_in, ends_in}
-use Rattle.pas_trace.specs.declared.{plan.What.What, item.Request.Request}
-use Rattle.pas_trace.specs.declared.plan.What.TheVariants.{Alloc, Guarded, Free, FreeSized, Raw, RawSized, Remake, Flush, Stop, Tick, Pass, Idle}
+use Rattle.pas_trace.specs.declared.plan.What.{What, TheVariants.{Alloc, Guarded, Free, FreeSized, Raw, RawSized, Remake, Flush, Stop, Tick, Pass, Idle}}
+use Rattle.pas_trace.specs.{declared.item.Request.Request, Asked.request_in, Named.standing_for, Acts.{Act, Operates, Guards, Settles, Ticks, MakesPass}}
+use Rattle.pas_trace.specs.Acts.{ReadsEpoch, StopsIdle, MarksPhase, Wakes, MarksClose, Ends, Lowers}
 use Rattle.pas_records.specs.declared.record.{Record.Record, Said.Said}
-use Rattle.pas_trace.specs.{Asked.request_in, Named.standing_for}
-use Rattle.pas_trace.specs.Acts.{Act, Operates, Guards, Settles, Ticks, MakesPass, ReadsEpoch, StopsIdle, MarksPhase, Wakes, MarksClose, Ends, Lowers}
 pub use Rattle.pas_trace.specs.Named.{suits, request_for}
 use Rattle.pas_check.specs.States.{Due, Writes, Frees, Serves, Tries, Never, Examines, Heads, Shows, Totals, Task, Does, Reports, Stand, with_at, with_due}
 use Rattle.pas_check.specs.States.{with_name}

@@ -1,14 +1,12 @@
 -- States whose numbers fit, as those of each check do.
 use Rattle.std.specs.Prelude.{ℕ, ◌^◌, ◌<◌, ◌≤◌, ◌≡◌, ◌≢◌, ◌⊎◌, List, [], ◌∷◌, Some, length}
-use Rattle.pas_profile.specs.{Directories.IsKind, Profiles.IsValid, Requests.room_in}
-use Rattle.pas_profile.specs.declared.{directory.Directory.Directory, event.Event.Event, name.Block.Block, profile.Profile.Profile}
-use Rattle.pas_machine.specs.{Machine.Run, State.deed_in, State.gives_in, State.epoch_in}
+use Rattle.pas_profile.specs.{Directories.IsKind, Profiles.IsValid, Requests.room_in, declared.{directory.Directory.Directory, event.Event.Event}}
+use Rattle.pas_profile.specs.declared.{name.Block.Block, profile.Profile.Profile}
+use Rattle.pas_machine.specs.{Machine.Run, State.{deed_in, gives_in, epoch_in}}
 use Rattle.pas_records.specs.declared.record.Record.{Record}
-use Rattle.pas_trace.specs.declared.item.Request.{Request}
-use Rattle.pas_trace.specs.Named.{Named, standing_for}
-use Rattle.pas_check.specs.States.{Due, Writes, Frees, Serves, Tries, Never, Examines, Heads, Shows, Totals, Stand}
-use Rattle.pas_check.specs.{Ranges.Fits, Ranges.FitsEntry, Takes.IsOutcome, Takes.directory_of}
-use Rattle.pas_check.specs.declared.cutting.Cursor.{Cursor}
+use Rattle.pas_trace.specs.{declared.item.Request.Request, Named.{Named, standing_for}}
+use Rattle.pas_check.specs.{States.{Due, Writes, Frees, Serves, Tries, Never, Examines, Heads, Shows, Totals, Stand}, Ranges.{Fits, FitsEntry}, Takes.IsOutcome}
+use Rattle.pas_check.specs.{Takes.directory_of, declared.cutting.Cursor.Cursor}
 
 pub record FitsRequest (f : Profile) (k : ℕ) (r : Request) : Type 0 where
   pub actor : k < 2 ^ 8

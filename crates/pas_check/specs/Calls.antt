@@ -1,25 +1,18 @@
 -- What the private functions of the checker promise of a line.
 use Rattle.std.specs.Prelude.{ℕ, ◌^◌, ◌<◌, ◌/◌, ◌%◌, ◌≡◌, ◌==◌, if◌then◌else◌, not, map, Bool, true, false, List, [], ◌∷◌, ◌++◌, Option, None, Some, IfSome}
-use Rattle.std.specs.Prelude.{MatchBool}
-use Rattle.std.specs.List.{filter}
-use Rattle.pas_profile.specs.declared.{directory.Directory.Directory, profile.Profile.Profile, event.Event.Event, event.Outcome.Outcome, event.Why.Why}
-use Rattle.pas_profile.specs.declared.{name.Block.Block, name.Name.Name, entry.Entry.Entry, guard.Raised.Raised}
-use Rattle.pas_profile.specs.declared.event.Outcome.TheVariants.{Unbacked, Bare, Young, InUse, NotOffered}
-use Rattle.pas_profile.specs.{Profiles.IsPage, Requests.room_in, Blocks.address_of, Blocks.grain_of, Blocks.length_of}
+use Rattle.std.specs.{Prelude.MatchBool, List.filter}
+use Rattle.pas_profile.specs.declared.{directory.Directory.Directory, profile.Profile.Profile, event.{Event.Event, Outcome.{Outcome, TheVariants.Unbacked}}}
+use Rattle.pas_profile.specs.declared.{event.{Outcome.TheVariants.{Bare, Young, InUse, NotOffered}, Why.Why}, name.{Block.Block, Name.Name}, entry.Entry.Entry}
+use Rattle.pas_profile.specs.{declared.guard.Raised.Raised, Profiles.IsPage, Requests.room_in, Blocks.{address_of, grain_of, length_of}}
 use Rattle.pas_bits.specs.Runs.{in_run}
-use Rattle.pas_machine.specs.{State.deed_in, Machine.Admits, Machine.HasOtherRoom, Machine.IsReason, Machines.profile_of, Machines.StandsFor}
-use Rattle.pas_machine.specs.declared.machine.Machine.{Machine}
+use Rattle.pas_machine.specs.{State.deed_in, Machine.{Admits, HasOtherRoom, IsReason}, Machines.{profile_of, StandsFor}, declared.machine.Machine.Machine}
 use Rattle.pas_trace.specs.declared.item.Request.{Request}
-use Rattle.pas_check.specs.Begins.{begun_from, entries_due, goes_down, has_sides, lowered_due, past_outcomes, raising, replacing}
-use Rattle.pas_check.specs.Bounds.{FitsNext, FitsRequest, FitsTry, IsFew, IsKept}
-use Rattle.pas_check.specs.Leading.{Fails, IsLed, IsWithin, Leads}
-use Rattle.pas_check.specs.Ranges.{Fits}
-use Rattle.pas_check.specs.States.{Due, Examines, Serves, Tries, Stand, with_due, with_name}
-use Rattle.pas_check.specs.Takes.{IsEventOf, IsRefusal, MayCome, MayRefuse, MayServe, after_outcome, block_in, directory_of, record_of}
-use Rattle.pas_check.specs.declared.{cutting.Cursor.Cursor, examining.Examined.Examined, guarding.Trial.Trial, guarding.Trial.TheVariants.Gives}
-use Rattle.pas_check.specs.declared.{guarding.Trial.TheVariants.Passes, guarding.Trial.TheVariants.Stops, serving.Wanted.Wanted}
-use Rattle.pas_records.specs.Lines.{line_of, line_of_event}
-use Rattle.pas_records.specs.declared.record.{Record.Record, Said.Said}
+use Rattle.pas_check.specs.{Begins.{begun_from, entries_due, goes_down, has_sides, lowered_due, past_outcomes, raising, replacing}, Bounds.FitsNext}
+use Rattle.pas_check.specs.{Bounds.{FitsRequest, FitsTry, IsFew, IsKept}, Leading.{Fails, IsLed, IsWithin, Leads}, Ranges.Fits, States.{Due, Examines, Serves}}
+use Rattle.pas_check.specs.{States.{Tries, Stand, with_due, with_name}, Takes.{IsEventOf, IsRefusal, MayCome, MayRefuse, MayServe, after_outcome, block_in}}
+use Rattle.pas_check.specs.{Takes.{directory_of, record_of}, declared.{cutting.Cursor.Cursor, examining.Examined.Examined, guarding.Trial.Trial}}
+use Rattle.pas_check.specs.declared.{guarding.Trial.TheVariants.{Gives, Passes, Stops}, serving.Wanted.Wanted}
+use Rattle.pas_records.specs.{Lines.{line_of, line_of_event}, declared.record.{Record.Record, Said.Said}}
 
 -- what was read of a line: the record that has this line, where there is one whose numbers fit their places
 pub record IsRead (line : List ℕ) (found : Option Record) : Type 0 where

@@ -1,13 +1,11 @@
 -- How far the check of a plan has come, and what its acts do to that.
-use Rattle.std.specs.Prelude.{ℕ, ◌+◌, ◌^◌, ◌<◌, ◌≤◌, ◌≡◌, ◌≢◌, Bool, true, false, List, [], ◌∷◌, ◌++◌, length, map, MatchOption}
-use Rattle.std.specs.List.{AllByRecursion}
+use Rattle.std.specs.{Prelude.{ℕ, ◌+◌, ◌^◌, ◌<◌, ◌≤◌, ◌≡◌, ◌≢◌, Bool, true, false, List, [], ◌∷◌, ◌++◌, length, map, MatchOption}, List.AllByRecursion}
 use Rattle.pas_profile.specs.declared.profile.Profile.{Profile}
 use Rattle.pas_machine.specs.Machines.{profile_of}
 use Rattle.pas_trace.specs.Acts.{Act, Operates, Guards, Settles, Ticks, MakesPass, ReadsEpoch, StopsIdle, MarksPhase, Wakes, MarksClose, Ends, Lowers}
-use Rattle.pas_trace.specs.{Asked.keeper_in, Asked.request_in, EveryPlan.IsActorOf, EveryPlan.IsBelow, EveryPlan.IsSoundWhat}
-use Rattle.pas_trace.specs.declared.{item.Request.Request, plan.Op.Op, plan.Plan.Plan, plan.What.What}
-use Rattle.pas_check.specs.{Bounds.FitsRequest, Leading.Fails, Leading.Leads, Tables.logs_held, Tables.names_held, Tasks.Stands}
-use Rattle.pas_check.specs.States.{Does, Reports, Stand, at_first}
+use Rattle.pas_trace.specs.{Asked.{keeper_in, request_in}, EveryPlan.{IsActorOf, IsBelow, IsSoundWhat}, declared.{item.Request.Request, plan.Op.Op}}
+use Rattle.pas_trace.specs.declared.plan.{Plan.Plan, What.What}
+use Rattle.pas_check.specs.{Bounds.FitsRequest, Leading.{Fails, Leads}, Tables.{logs_held, names_held}, Tasks.Stands, States.{Does, Reports, Stand, at_first}}
 use Rattle.pas_check.specs.declared.{acting.Judge.Judge, cutting.Cursor.Cursor}
 
 -- ---- what a judge has room for

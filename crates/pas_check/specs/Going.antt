@@ -1,7 +1,7 @@
 -- How far a check has come.
 use Rattle.std.specs.Prelude.{ℕ, ◌↔◌, List, ◌++◌}
 use Rattle.pas_profile.specs.declared.profile.Profile.{Profile}
-use Rattle.pas_check.specs.{States.Stand, Accepted.IsDone, Accepted.MayGo, Accepted.IsWhole, Takes.Takes}
+use Rattle.pas_check.specs.{States.Stand, Accepted.{IsDone, MayGo, IsWhole}, Takes.Takes}
 
 -- After these lines it stands here: however the lines go on, they go on from here as from the first, and so they are whole from here as from the first.
 pub record SoFar (f : Profile) (first : Stand) (seen : List (List ℕ)) (s : Stand) : Type 0 where

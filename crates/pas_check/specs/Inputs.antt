@@ -1,6 +1,5 @@
 -- An input of a check: a trace, then a line that is exactly `transcript`, then a transcript.
-use Rattle.std.specs.Prelude.{ℕ, Bool, ◌||◌, if◌then◌else◌, List, [], ◌∷◌, codes, nat_eq}
-use Rattle.std.specs.{Cmp.Lexicographic.pointwise, List.concat}
+use Rattle.std.specs.{Prelude.{ℕ, Bool, ◌||◌, if◌then◌else◌, List, [], ◌∷◌, codes, nat_eq}, Cmp.Lexicographic.pointwise, List.concat}
 use Rattle.pas_check.specs.Lines.{lines_in}
 
 -- the line is exactly `transcript`; the last line of all may lack its newline

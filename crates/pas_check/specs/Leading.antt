@@ -1,8 +1,7 @@
 -- How far a check is in its text, and what it knows there.
 use Rattle.std.specs.Prelude.{ℕ, ◌+◌, ◌≤◌, ◌≡◌, ◌↔◌, Bool, true, false, List, ◌∷◌, length, take, drop}
 use Rattle.pas_profile.specs.declared.profile.Profile.{Profile}
-use Rattle.pas_check.specs.{Accepted.IsStopped, Accepted.IsWhole, Accepted.MayGo, Lines.lines_in, States.Due, States.Stand, States.with_due}
-use Rattle.pas_check.specs.declared.cutting.Cursor.{Cursor}
+use Rattle.pas_check.specs.{Accepted.{IsStopped, IsWhole, MayGo}, Lines.lines_in, States.{Due, Stand, with_due}, declared.cutting.Cursor.Cursor}
 
 -- the lines from the cursor on
 abbrev pub lines_from : List ℕ → Cursor → List (List ℕ)

@@ -1,7 +1,7 @@
 -- What a check keeps of a name.
 use Rattle.std.specs.Prelude.{ℕ, List, Option, None, Some, slice_index_or}
 use Rattle.pas_profile.specs.declared.name.Block.{Block}
-use Rattle.pas_check.specs.declared.naming.Meaning.{Meaning, TheVariants.Unasked, TheVariants.Refused, TheVariants.Given}
+use Rattle.pas_check.specs.declared.naming.Meaning.{Meaning, TheVariants.{Unasked, Refused, Given}}
 
 -- what the name stands for; None where no request had it
 abbrev pub meaning_of : Meaning → Option (Option Block)

@@ -1,7 +1,6 @@
 -- Records whose numbers fit their places.
 use Rattle.std.specs.Prelude.{◌^◌, ◌<◌, List, [], ◌∷◌}
-use Rattle.pas_profile.specs.{Directories.IsKind, Blocks.address_of}
-use Rattle.pas_profile.specs.declared.{name.Name.Name, name.Block.Block, event.Event.Event, event.Why.Why, entry.Entry.Entry}
+use Rattle.pas_profile.specs.{Directories.IsKind, Blocks.address_of, declared.{name.{Name.Name, Block.Block}, event.{Event.Event, Why.Why}, entry.Entry.Entry}}
 use Rattle.pas_records.specs.declared.record.{Said.Said, Record.Record}
 
 pub record FitsName (name : Name) : Type 0 where

@@ -1,8 +1,8 @@
 -- Which record a line may be of. Its numbers are read where they would stand, and what stands between them is hardly looked at: the line of a record is read
 -- as that record, and for any other line this says nothing.
 use Rattle.std.specs.Prelude.{ℕ, zero, suc, ◌+◌, ◌-◌, ◌*◌, ◌%◌, ◌^◌, ◌==◌, false, nat_lt, if◌then◌else◌, List, [], ◌∷◌, drop, get_or}
-use Rattle.pas_profile.specs.{Requests.kind_of_route, Routes.route_of}
-use Rattle.pas_profile.specs.declared.{directory.Kind.Kind, directory.Directory.Directory, name.Name.Name, event.Event.Event, event.Why.Why}
+use Rattle.pas_profile.specs.{Requests.kind_of_route, Routes.route_of, declared.{directory.{Kind.Kind, Directory.Directory}, name.Name.Name, event.Event.Event}}
+use Rattle.pas_profile.specs.declared.event.Why.{Why}
 use Rattle.pas_trace.specs.Numbers.{is_digit, hex_value}
 use Rattle.pas_records.specs.declared.record.{Said.Said, Record.Record}
 

@@ -1,10 +1,7 @@
 -- What the report tells of a page, and which marks it may have there.
 use Rattle.std.specs.Prelude.{ℕ, ◌+◌, ◌*◌, ◌^◌, ◌<◌, ◌≤◌, ◌≡◌, Bool, true, false, not, List, Some, length, MatchBool}
-use Rattle.pas_profile.specs.Directories.{IsKind}
-use Rattle.pas_profile.specs.declared.{directory.Directory.Directory, directory.Kind.Kind, event.Event.Event}
-use Rattle.pas_machine.specs.{Machines.StandsFor, Totals.sum_below}
-use Rattle.pas_machine.specs.State.{backed_in, deed_in, epoch_in, gives_in}
-use Rattle.pas_machine.specs.declared.machine.Machine.{Machine}
+use Rattle.pas_profile.specs.{Directories.IsKind, declared.{directory.{Directory.Directory, Kind.Kind}, event.Event.Event}}
+use Rattle.pas_machine.specs.{Machines.StandsFor, Totals.sum_below, State.{backed_in, deed_in, epoch_in, gives_in}, declared.machine.Machine.Machine}
 use Rattle.pas_steps.specs.Views.{usable_by_kind}
 use Rattle.pas_records.specs.{Marks.Marked, Covered.is_covered}
 use Rattle.pas_report.specs.Reports.{live_on, page_text, uncovered_on}

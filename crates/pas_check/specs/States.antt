@@ -1,10 +1,8 @@
 -- What stands before a line of a transcript, as far as it matters for the line: no words of a region, no views, rights or cached slots.
 use Rattle.std.specs.Prelude.{ℕ, ◌==◌, Bool, if◌then◌else◌, List, [], ◌∷◌, ◌++◌, map, Option}
-use Rattle.pas_profile.specs.declared.{directory.Directory.Directory, event.Event.Event, name.Block.Block, name.Name.Name, entry.Entry.Entry}
-use Rattle.pas_profile.specs.declared.{guard.Raised.Raised}
+use Rattle.pas_profile.specs.declared.{directory.Directory.Directory, event.Event.Event, name.{Block.Block, Name.Name}, entry.Entry.Entry, guard.Raised.Raised}
 use Rattle.pas_records.specs.declared.record.Record.{Record}
-use Rattle.pas_trace.specs.declared.{plan.Plan.Plan, item.Request.Request}
-use Rattle.pas_trace.specs.{Acts.Act, Acts.acts_of_plan, Named.Named}
+use Rattle.pas_trace.specs.{declared.{plan.Plan.Plan, item.Request.Request}, Acts.{Act, acts_of_plan}, Named.Named}
 
 -- ---- what is due
 -- What the next lines are to answer. `Writes`: the line of just this record. `Frees`: the line of an entry of thread k's log. `Serves`: those of a request of

@@ -1,9 +1,8 @@
 -- What a check keeps beside the machine.
 use Rattle.std.specs.Prelude.{ℕ, ◌*◌, ◌≡◌, List, Option, slice_index, length, take, drop}
 use Rattle.pas_profile.specs.declared.{name.Block.Block, entry.Entry.Entry}
-use Rattle.pas_check.specs.Meanings.{meaning_at, meaning_of}
+use Rattle.pas_check.specs.{Meanings.{meaning_at, meaning_of}, declared.{naming.Names.Names, logging.Logs.Logs}}
 use Rattle.pas_trace.specs.Named.{Named, standing_for}
-use Rattle.pas_check.specs.declared.{naming.Names.Names, logging.Logs.Logs}
 
 -- what a name stands for; None where no request had it
 abbrev pub meant : Names → ℕ → Option (Option Block)

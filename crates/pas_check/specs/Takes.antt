@@ -1,18 +1,16 @@
 -- Which line may come next, by what stands before it, and what follows from it.
 use Rattle.std.specs.Prelude.{ℕ, ◌+◌, ◌*◌, ◌-◌, ◌/◌, ◌%◌, ◌^◌, ◌<◌, ◌≡◌, ◌≢◌, ◌⊎◌, Bool, true, false, not, ◌||◌, List, [], ◌∷◌, Option, None, Some, codes}
-use Rattle.pas_profile.specs.declared.{directory.Directory.Directory, event.Event.Event, event.Outcome.Outcome, event.Why.Why, name.Block.Block, name.Name.Name}
-use Rattle.pas_profile.specs.declared.{profile.Profile.Profile, entry.Entry.Entry}
-use Rattle.pas_profile.specs.declared.event.Outcome.TheVariants.{Unbacked, Bare, Young, InUse, NotOffered}
-use Rattle.pas_profile.specs.{Profiles.IsPage, Requests.room_in, Requests.directory_for, Blocks.address_of, Blocks.grain_of, Blocks.length_of}
+use Rattle.pas_profile.specs.declared.{directory.Directory.Directory, event.{Event.Event, Outcome.{Outcome, TheVariants.{Unbacked, Bare, Young, InUse}}}}
+use Rattle.pas_profile.specs.declared.{event.{Outcome.TheVariants.NotOffered, Why.Why}, name.{Block.Block, Name.Name}, profile.Profile.Profile}
+use Rattle.pas_profile.specs.{declared.entry.Entry.Entry, Profiles.IsPage, Requests.{room_in, directory_for}, Blocks.{address_of, grain_of, length_of}}
 use Rattle.pas_bits.specs.Runs.{in_run}
-use Rattle.pas_machine.specs.{Machine.Admits, Machine.IsReason, State.deed_in, State.backed_in, State.epoch_in}
+use Rattle.pas_machine.specs.{Machine.{Admits, IsReason}, State.{deed_in, backed_in, epoch_in}}
 use Rattle.pas_steps.specs.Views.{usable_by_kind}
 use Rattle.pas_report.specs.Reports.{machine_page, total_line}
 use Rattle.pas_trace.specs.declared.item.Request.{Request}
 use Rattle.pas_check.specs.States.{Due, Writes, Frees, Serves, Tries, Never, Examines, Heads, Shows, Totals, Stand, with_due, with_one, with_name}
 use Rattle.pas_check.specs.Begins.{has_sides, raising, ready, replacing}
-use Rattle.pas_records.specs.{Lines.line_of, Lines.line_of_event, Lines.line_of_answer, Marks.Marked, Covered.is_covered}
-use Rattle.pas_records.specs.declared.record.{Record.Record, Said.Said}
+use Rattle.pas_records.specs.{Lines.{line_of, line_of_event, line_of_answer}, Marks.Marked, Covered.is_covered, declared.record.{Record.Record, Said.Said}}
 
 -- ---- an entry of a log
 -- A reason for which the end of an entry may be refused. That the block's room differs is one only where the entry names a room, and it tells that room.

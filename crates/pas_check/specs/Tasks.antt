@@ -1,15 +1,11 @@
 -- What the acts of a replay do to what a check keeps.
 use Rattle.std.specs.Prelude.{ℕ, ◌%◌, ◌^◌, ◌<◌, ◌≤◌, ◌≡◌, max, Bool, true, false, List, [], ◌∷◌, Option, Some, length, slice_index}
-use Rattle.pas_profile.specs.declared.{name.Block.Block, name.Name.Name, profile.Profile.Profile, entry.Entry.Entry}
-use Rattle.pas_profile.specs.Blocks.{address_of}
+use Rattle.pas_profile.specs.{declared.{name.{Block.Block, Name.Name}, profile.Profile.Profile, entry.Entry.Entry}, Blocks.address_of}
 use Rattle.pas_machine.specs.Machines.{profile_of, StandsFor}
-use Rattle.pas_trace.specs.{Acts.Act, Acts.MakesPass, Named.standing_for}
-use Rattle.pas_trace.specs.declared.item.Request.{Request}
+use Rattle.pas_trace.specs.{Acts.{Act, MakesPass}, Named.standing_for, declared.item.Request.Request}
 use Rattle.pas_check.specs.Begins.{begun_act, flushing, freeing, freeing_named, is_full, logging, guarding, remaking, remaking_named, request_for, suits}
-use Rattle.pas_check.specs.Begins.{sweeping, tells}
-use Rattle.pas_check.specs.{Bounds.IsKept, Calls.IsFollowed, Leading.Fails, Leading.Leads, Tables.AreNamed, Tables.logged, Tables.logs_held}
-use Rattle.pas_check.specs.States.{Due, Serves, Task, Does, Stand, with_due, with_name}
-use Rattle.pas_check.specs.declared.{acting.Judge.Judge, cutting.Cursor.Cursor}
+use Rattle.pas_check.specs.{Begins.{sweeping, tells}, Bounds.IsKept, Calls.IsFollowed, Leading.{Fails, Leads}, Tables.{AreNamed, logged, logs_held}, States.Due}
+use Rattle.pas_check.specs.{States.{Serves, Task, Does, Stand, with_due, with_name}, declared.{acting.Judge.Judge, cutting.Cursor.Cursor}}
 use Rattle.pas_records.specs.declared.record.Said.{Said}
 
 -- the judge stands for the state, at the cursor

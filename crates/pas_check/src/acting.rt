@@ -1,17 +1,13 @@
 //! The acts of a replay, each with the lines that answer it.
 ghost use Rattle.std.specs.Prelude.{ℕ, ◌≡◌, ◌≢◌, ◌%◌, ◌+◌, ◌*◌, ◌^◌, ◌<◌, ◌≤◌, true, List, [], ◌∷◌, None, Some, length, slice_index, IfOk, IfSome, MatchBool};
 ghost use Rattle.std.specs.Prelude.{MatchOption};
-ghost use Rattle.pas_profile.specs.{Directories.IsKind, Classes.IsAlignment, Profiles.IsValid, Blocks.address_of};
-ghost use Rattle.pas_profile.specs.declared.profile.Profile.{Profile};
+ghost use Rattle.pas_profile.specs.{Directories.IsKind, Classes.IsAlignment, Profiles.IsValid, Blocks.address_of, declared.profile.Profile.Profile};
 ghost use Rattle.pas_machine.specs.Machines.{profile_of};
-ghost use Rattle.pas_trace.specs.{Asked.keeper_in, EveryPlan.IsBelow, EveryPlan.IsSoundWhat};
-ghost use Rattle.pas_trace.specs.Acts.{Act, act_kept, MarksClose, MarksPhase, Operates, StopsIdle, Ticks, Wakes};
-ghost use Rattle.pas_trace.specs.declared.item.Request.{Request};
-ghost use Rattle.pas_check.specs.{Calls.IsWanted, Checks.IsSizedAs, Leading.IsWithin, Leading.StaysWithin, Tables.logs_held, Tables.names_held, States.Serves};
-ghost use Rattle.pas_check.specs.{States.Stand};
+ghost use Rattle.pas_trace.specs.{Asked.keeper_in, EveryPlan.{IsBelow, IsSoundWhat}, Acts.{Act, act_kept, MarksClose, MarksPhase, Operates, StopsIdle, Ticks}};
+ghost use Rattle.pas_trace.specs.{Acts.Wakes, declared.item.Request.Request};
+ghost use Rattle.pas_check.specs.{Calls.IsWanted, Checks.IsSizedAs, Leading.{IsWithin, StaysWithin}, Tables.{logs_held, names_held}, States.{Serves, Stand}};
 ghost use Rattle.pas_check.specs.Tasks.{ActTaken, EntryLogged, Flushes, FreesEntry, FreesNamed, IsCarried, IsSuited, LogEmptied, PassTaken, Remakes, Resizes};
-ghost use Rattle.pas_check.specs.Tasks.{SaysNamed, Stands};
-ghost use Rattle.pas_check.specs.declared.cutting.Cursor.{Cursor as TheCursor};
+ghost use Rattle.pas_check.specs.{Tasks.{SaysNamed, Stands}, declared.cutting.Cursor.Cursor as TheCursor};
 
 use crate::cutting::Cursor;
 use crate::emptying::take_entries;

@@ -1,15 +1,12 @@
 //! The acts of a plan, in order, and the close.
-ghost use Rattle.std.specs.Prelude.{ℕ, ◌≡◌, ◌+◌, ◌<◌, ◌≤◌, ◌^◌, not, true, List, [], ◌∷◌, ◌++◌, map, length};
-ghost use Rattle.std.specs.List.{filter};
+ghost use Rattle.std.specs.{Prelude.{ℕ, ◌≡◌, ◌+◌, ◌<◌, ◌≤◌, ◌^◌, not, true, List, [], ◌∷◌, ◌++◌, map, length}, List.filter};
 ghost use Rattle.pas_bits.specs.Masks.{is_set};
 ghost use Rattle.pas_profile.specs.Profiles.{IsValid};
 ghost use Rattle.pas_machine.specs.Machines.{profile_of};
 ghost use Rattle.pas_trace.specs.Acts.{Act, Ends, Lowers, MarksClose, MarksPhase, ReadsEpoch, Wakes, acts_from, acts_of, acts_of_op, acts_of_ops, close_acts};
-ghost use Rattle.pas_trace.specs.Acts.{idle_stops, numbers_from, phase_acts, threads_where};
-ghost use Rattle.pas_trace.specs.{EveryPlan.all_ops, Plans.ops_of};
-ghost use Rattle.pas_check.specs.Checks.{TakenTo, ArePlanned, IsPlanned, IsSized, IsSizedAs, threads_in};
-ghost use Rattle.pas_check.specs.{Leading.IsWithin, Leading.StaysWithin, Tables.logs_held, Tables.names_held};
-ghost use Rattle.pas_check.specs.declared.cutting.Cursor.{Cursor as TheCursor};
+ghost use Rattle.pas_trace.specs.{Acts.{idle_stops, numbers_from, phase_acts, threads_where}, EveryPlan.all_ops, Plans.ops_of};
+ghost use Rattle.pas_check.specs.{Checks.{TakenTo, ArePlanned, IsPlanned, IsSized, IsSizedAs, threads_in}, Leading.{IsWithin, StaysWithin}, Tables.logs_held};
+ghost use Rattle.pas_check.specs.{Tables.names_held, declared.cutting.Cursor.Cursor as TheCursor};
 
 use crate::acting::{Judge, flush, mark_close, mark_phase, operate, pass, stop_idle, tick, wake};
 use crate::awake::active;

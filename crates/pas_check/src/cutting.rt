@@ -1,6 +1,6 @@
 //! The lines of a transcript, one by one.
 ghost use Rattle.std.specs.Prelude.{◌≡◌, ◌+◌, ◌<◌, ◌∷◌, [], take, drop, length, ◌≤◌, true, IfSome, IfNone};
-ghost use Rattle.pas_check.specs.{Leading.IsJustLine, Leading.IsWithin, Leading.lines_from, Lines.is_line, Lines.lines_in};
+ghost use Rattle.pas_check.specs.{Leading.{IsJustLine, IsWithin, lines_from}, Lines.{is_line, lines_in}};
 
 use memchr::memchr;
 

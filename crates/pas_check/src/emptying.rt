@@ -1,7 +1,7 @@
 //! The lines of a log that is emptied.
 ghost use Rattle.std.specs.Prelude.{◌≡◌, ◌≤◌, [], length};
 ghost use Rattle.pas_machine.specs.Machines.{profile_of};
-ghost use Rattle.pas_check.specs.{Calls.EntriesTaken, Leading.IsWithin, Leading.StaysWithin};
+ghost use Rattle.pas_check.specs.{Calls.EntriesTaken, Leading.{IsWithin, StaysWithin}};
 
 use crate::cutting::{Cursor, next_line};
 use crate::taking::take_entry;

@@ -3,8 +3,8 @@ ghost use Rattle.std.specs.Prelude.{ℕ, ◌≡◌, ◌≢◌, ◌≤◌, length
 ghost use Rattle.pas_profile.specs.Profiles.{IsPage, IsValid};
 ghost use Rattle.pas_profile.specs.declared.event.Outcome.TheVariants as TheOutcome;
 ghost use Rattle.pas_machine.specs.Machines.{profile_of, StandsFor};
-ghost use Rattle.pas_check.specs.Calls.{outcome_in, outcome_in_event, outcome_in_said, IsExamined, OutcomeTaken, OutcomesTaken};
-ghost use Rattle.pas_check.specs.{Leading.IsWithin, States.Stand, Takes.MayCome};
+ghost use Rattle.pas_check.specs.{Calls.{outcome_in, outcome_in_event, outcome_in_said, IsExamined, OutcomeTaken, OutcomesTaken}, Leading.IsWithin};
+ghost use Rattle.pas_check.specs.{States.Stand, Takes.MayCome};
 
 use crate::cutting::{Cursor, next_line};
 use crate::reading::read;

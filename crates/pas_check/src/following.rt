@@ -1,8 +1,7 @@
 //! Lines of which no word is open: what stands before fixes them.
 ghost use Rattle.std.specs.Prelude.{◌≡◌, ◌+◌, ◌≤◌, length};
 ghost use Rattle.pas_records.specs.Lines.{CanShow, line_of};
-ghost use Rattle.pas_check.specs.Leading.{IsJustLine, IsLineLed, IsWithin, StaysWithin};
-ghost use Rattle.pas_check.specs.States.{Heads, Writes};
+ghost use Rattle.pas_check.specs.{Leading.{IsJustLine, IsLineLed, IsWithin, StaysWithin}, States.{Heads, Writes}};
 
 use crate::cutting::{Cursor, take_line};
 use pas_records::{Line, Record, push_record};

@@ -1,15 +1,11 @@
 //! Guarded requests: the lines of a keeper, and those of guards that are lowered.
 ghost use Rattle.std.specs.Prelude.{ℕ, ◌≡◌, ◌≢◌, ◌<◌, ◌≤◌, ◌∷◌, [], List, None, Some, true, false, length, nat_lt, MatchOption, ◌||◌};
-ghost use Rattle.pas_profile.specs.{Blocks.address_of, Directories.IsKind, Profiles.IsValid};
-ghost use Rattle.pas_profile.specs.declared.{event.Event.Event as TheEvent, profile.Profile.Profile};
-ghost use Rattle.pas_machine.specs.{Machines.profile_of, Machines.StandsFor, State.ends_in};
-ghost use Rattle.pas_trace.specs.Acts.{Act, Lowers};
-ghost use Rattle.pas_trace.specs.declared.item.Request.{Request};
-ghost use Rattle.pas_check.specs.Begins.{goes_down, guard_of, has_sides, lowered_record, raising};
-ghost use Rattle.pas_check.specs.Calls.{IsGiftOf, IsWanted, LinesSwept, TrialStays, TrialTaken};
-ghost use Rattle.pas_check.specs.{Checks.IsSizedAs, Leading.IsWithin, Leading.StaysWithin, Tables.names_held, States.Stand, States.Tries, States.with_name};
-ghost use Rattle.pas_check.specs.{Takes.is_back};
-ghost use Rattle.pas_check.specs.Tasks.{ActTaken, AsksKeeper, GuardsSwept, IsCarried, Stands};
+ghost use Rattle.pas_profile.specs.{Blocks.address_of, Directories.IsKind, Profiles.IsValid, declared.{event.Event.Event as TheEvent, profile.Profile.Profile}};
+ghost use Rattle.pas_machine.specs.{Machines.{profile_of, StandsFor}, State.ends_in};
+ghost use Rattle.pas_trace.specs.{Acts.{Act, Lowers}, declared.item.Request.Request};
+ghost use Rattle.pas_check.specs.{Begins.{goes_down, guard_of, has_sides, lowered_record, raising}, Calls.{IsGiftOf, IsWanted, LinesSwept, TrialStays}};
+ghost use Rattle.pas_check.specs.{Calls.TrialTaken, Checks.IsSizedAs, Leading.{IsWithin, StaysWithin}, Tables.names_held, States.{Stand, Tries, with_name}};
+ghost use Rattle.pas_check.specs.{Takes.is_back, Tasks.{ActTaken, AsksKeeper, GuardsSwept, IsCarried, Stands}};
 
 use crate::acting::{Judge, serve};
 use crate::cutting::{Cursor, next_line};

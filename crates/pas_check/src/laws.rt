@@ -1,19 +1,14 @@
 //! What the definitions of the checker promise. Each law is the contract of an empty function.
 ghost use Rattle.std.specs.Prelude.{List, ℕ, ◌≡◌, ◌+◌, ◌++◌, ◌∷◌, [], length, map, true};
-ghost use Rattle.pas_profile.specs.declared.{event.Event.Event, event.Why.Why, profile.Profile.Profile, entry.Entry.Entry};
+ghost use Rattle.pas_profile.specs.declared.{event.{Event.Event, Why.Why}, profile.Profile.Profile, entry.Entry.Entry};
 ghost use Rattle.pas_profile.specs.declared.word.Word.TheVariants as Word;
 ghost use Rattle.pas_machine.specs.Machine.{Run, Admits};
-ghost use Rattle.pas_steps.specs.{Desks.triples, Lists.Whole, Lists.word_after};
-ghost use Rattle.pas_steps.specs.Kinds.{Kinds, Ticking, Only, apart};
-ghost use Rattle.pas_steps.specs.declared.step.Made.{Made};
-ghost use Rattle.pas_check.specs.{Lines.lines_in, States.Due, States.Stand, States.Task, Calls.Differs, Begins.after_task, Begins.past_outcomes, Begins.ready};
-ghost use Rattle.pas_check.specs.{Bounds.FitsFirst, Bounds.FitsNext, Bounds.IsSmall, Going.AreAlike, Going.SoFar, Ranges.Fits};
-ghost use Rattle.pas_check.specs.Takes.{MayRefuse, IsEventOf, Takes, TakesDue};
+ghost use Rattle.pas_steps.specs.{Desks.triples, Lists.{Whole, word_after}, Kinds.{Kinds, Ticking, Only, apart}, declared.step.Made.Made};
+ghost use Rattle.pas_check.specs.{Lines.lines_in, States.{Due, Stand, Task}, Calls.Differs, Begins.{after_task, past_outcomes, ready}, Bounds.FitsFirst};
+ghost use Rattle.pas_check.specs.{Bounds.{FitsNext, IsSmall}, Going.{AreAlike, SoFar}, Ranges.Fits, Takes.{MayRefuse, IsEventOf, Takes, TakesDue}};
+ghost use Rattle.pas_check.specs.{Accepted.{IsDone, IsStopped, IsVerdict, IsWhole}, declared.verdict.Verdict.Verdict};
 ghost use Rattle.pas_trace.specs.declared.plan.Plan.{Plan};
-ghost use Rattle.pas_records.specs.Lines.{line_of, lines_of};
-ghost use Rattle.pas_records.specs.declared.record.Record.{Record};
-ghost use Rattle.pas_check.specs.Accepted.{IsDone, IsStopped, IsVerdict, IsWhole};
-ghost use Rattle.pas_check.specs.declared.verdict.Verdict.{Verdict};
+ghost use Rattle.pas_records.specs.{Lines.{line_of, lines_of}, declared.record.Record.Record};
 
 /// No two records whose numbers fit their places have one line. So a line of a transcript says one thing.
 #[tactic(auto, using(crate::proofs::Readings::one_line))]

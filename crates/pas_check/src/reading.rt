@@ -1,12 +1,10 @@
 //! The record that a line is: what it may be is read loosely, and then its line is compared.
 ghost use Rattle.std.specs.Prelude.{◌≡◌, ◌≢◌, IfSome, MatchBool, Some, false};
 ghost use Rattle.pas_profile.specs.{Requests.kind_of_route, Routes.route_of};
-ghost use Rattle.pas_records.specs.Lines.{line_of, CanShow};
-ghost use Rattle.pas_records.specs.declared.record.Record.{Record as TheRecord};
-ghost use Rattle.pas_check.specs.{Calls.IsRead, Ranges.Fits};
-ghost use Rattle.pas_check.specs.Readings.{byte_at, of_u8, past_digits as after_digits, name_at, past_name as after_name, kind_at, directory_at, deed_at};
-ghost use Rattle.pas_check.specs.Readings.{back_at, unback_at, give_at, freed_at, held_at, in_use_at, young_at, size_differs_at, guarded_at, kept_at};
-ghost use Rattle.pas_check.specs.Readings.{lowered_at, with_b, with_u, with_g, with_n, with_s, word_at, record_at};
+ghost use Rattle.pas_records.specs.{Lines.{line_of, CanShow}, declared.record.Record.Record as TheRecord};
+ghost use Rattle.pas_check.specs.{Calls.IsRead, Ranges.Fits, Readings.{byte_at, of_u8, past_digits as after_digits, name_at, past_name as after_name, kind_at}};
+ghost use Rattle.pas_check.specs.Readings.{directory_at, deed_at, back_at, unback_at, give_at, freed_at, held_at, in_use_at, young_at, size_differs_at};
+ghost use Rattle.pas_check.specs.Readings.{guarded_at, kept_at, lowered_at, with_b, with_u, with_g, with_n, with_s, word_at, record_at};
 
 use crate::numbers::{byte, hex8, hex16, number, number8, number32, past_digits, skip};
 use pas_profile::limits::MOST_CLASSES;

@@ -1,14 +1,14 @@
 //! The lines of the report.
 ghost use Rattle.std.specs.Prelude.{ℕ, ◌≡◌, ◌+◌, ◌*◌, ◌^◌, ◌<◌, ◌≤◌, nat_lt, true, not, List, [], ◌∷◌, ◌++◌, length, MatchBool};
-ghost use Rattle.pas_profile.specs.{Directories.IsKind, Profiles.IsPage, Profiles.IsValid};
-ghost use Rattle.pas_profile.specs.declared.{event.Event.Event as TheEvent, profile.Profile.Profile as TheProfile};
-ghost use Rattle.pas_machine.specs.{Machines.profile_of, Machines.StandsFor, State.backed_in, State.deed_in};
+ghost use Rattle.pas_profile.specs.{Directories.IsKind, Profiles.{IsPage, IsValid}, declared.event.Event.Event as TheEvent};
+ghost use Rattle.pas_profile.specs.declared.profile.Profile.{Profile as TheProfile};
+ghost use Rattle.pas_machine.specs.{Machines.{profile_of, StandsFor}, State.{backed_in, deed_in}};
 ghost use Rattle.pas_steps.specs.Views.{usable_by_kind};
-ghost use Rattle.pas_records.specs.{Marks.mark_bit, Marks.marks_of, Covered.is_covered};
-ghost use Rattle.pas_report.specs.{Reports.live_on as live_on_page, Reports.uncovered_on, Totals.totals_of};
-ghost use Rattle.pas_check.specs.{Begins.page_due, Begins.pages_due, Begins.report_due, Leading.IsLed, Leading.IsWithin, Leading.StaysWithin};
-ghost use Rattle.pas_check.specs.Shown.{given_on as given_on_page, HasNoRoom, HasRoom, IsBare, IsHinted, IsKnown, IsPageLine, IsUsed, IsWith, TellsPage};
-ghost use Rattle.pas_check.specs.States.{Due, Shows, Stand, Totals as DueTotals, with_due};
+ghost use Rattle.pas_records.specs.{Marks.{mark_bit, marks_of}, Covered.is_covered};
+ghost use Rattle.pas_report.specs.{Reports.{live_on as live_on_page, uncovered_on}, Totals.totals_of};
+ghost use Rattle.pas_check.specs.{Begins.{page_due, pages_due, report_due}, Leading.{IsLed, IsWithin, StaysWithin}, Shown.given_on as given_on_page};
+ghost use Rattle.pas_check.specs.{Shown.{HasNoRoom, HasRoom, IsBare, IsHinted, IsKnown, IsPageLine, IsUsed, IsWith, TellsPage}, States.{Due, Shows, Stand}};
+ghost use Rattle.pas_check.specs.States.{Totals as DueTotals, with_due};
 
 use crate::cutting::{Cursor, next_line, take_line};
 use crate::following::take_head;

@@ -1,11 +1,9 @@
 //! Lines of a request: deeds, backs and a give, or a refusal.
 ghost use Rattle.std.specs.Prelude.{ℕ, ◌≡◌, ◌≢◌, ◌*◌, ◌<◌, ◌≤◌, IfSome, List, MatchBool, Some};
-ghost use Rattle.pas_profile.specs.{Directories.IsKind, Classes.IsAlignment, Profiles.IsValid};
-ghost use Rattle.pas_profile.specs.declared.event.Event.{Event as TheEvent};
-ghost use Rattle.pas_machine.specs.{State.deed_in, Places.IsEach, Machines.profile_of, Machines.StandsFor};
+ghost use Rattle.pas_profile.specs.{Directories.IsKind, Classes.IsAlignment, Profiles.IsValid, declared.event.Event.Event as TheEvent};
+ghost use Rattle.pas_machine.specs.{State.deed_in, Places.IsEach, Machines.{profile_of, StandsFor}};
 ghost use Rattle.pas_trace.specs.declared.item.Request.{Request};
-ghost use Rattle.pas_check.specs.Calls.{asked_for, EventTaken, GivesOf, IsFitting, IsWanted, LiesOn, RefusalSeen};
-ghost use Rattle.pas_check.specs.{States.Stand, Takes.block_in, Takes.IsServing};
+ghost use Rattle.pas_check.specs.{Calls.{asked_for, EventTaken, GivesOf, IsFitting, IsWanted, LiesOn, RefusalSeen}, States.Stand, Takes.{block_in, IsServing}};
 
 use crate::taking::step;
 use pas_machine::Machine;

@@ -1,9 +1,8 @@
 //! Lines that the machine judges, and those of the entries of a log.
 ghost use Rattle.std.specs.Prelude.{ℕ, ◌≡◌, List, MatchBool, None, Some};
-ghost use Rattle.pas_profile.specs.{Directories.IsKind, Profiles.IsValid, Blocks.address_of};
-ghost use Rattle.pas_profile.specs.declared.{event.Event.Event as TheEvent, profile.Profile.Profile};
-ghost use Rattle.pas_machine.specs.{Machine.IsPlace, Machine.Run, Machines.profile_of, Machines.StandsFor, State.Live, State.gives_in, State.live_in};
-ghost use Rattle.pas_check.specs.{Calls.IsStepped, Calls.IsTrueReason, Calls.EntryTaken, States.Stand, Takes.IsEventOf};
+ghost use Rattle.pas_profile.specs.{Directories.IsKind, Profiles.IsValid, Blocks.address_of, declared.{event.Event.Event as TheEvent, profile.Profile.Profile}};
+ghost use Rattle.pas_machine.specs.{Machine.{IsPlace, Run}, Machines.{profile_of, StandsFor}, State.{Live, gives_in, live_in}};
+ghost use Rattle.pas_check.specs.{Calls.{IsStepped, IsTrueReason, EntryTaken}, States.Stand, Takes.IsEventOf};
 ghost use Rattle.pas_records.specs.Lines.{IsShowable};
 
 use crate::reading::is_line;

@@ -1,8 +1,7 @@
 -- The steps of some actors in a list of those of all.
 use Rattle.std.proofs.Common.{ℕ, Bool, true, false, if◌then◌else◌, ◌≡◌, ◌==◌, List, [], ◌∷◌, ◌++◌, length, refl, sym, ap, ◌∙◌, arith, suc, eqb-true, eq-eqb}
 use Rattle.std.proofs.Common.{ne_eqb, true≢false}
-use Rattle.pas_steps.specs.{Desks.triples, Lists.Triple, Lists.Whole, Lists.part}
-use Rattle.pas_steps.specs.declared.step.Made.{Made}
+use Rattle.pas_steps.specs.{Desks.triples, Lists.{Triple, Whole, part}, declared.step.Made.Made}
 use Rattle.pas_core.specs.Orders.{steps_by}
 
 -- ---- one step more

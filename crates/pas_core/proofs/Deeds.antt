@@ -1,15 +1,11 @@
 -- Deed words and backed words: what of them stays, of which directories and pages they are, and that they are those of the machine.
 use Rattle.std.proofs.Common.{◌≡◌, ◌≢◌, ℕ, ◌==◌, Bool, true, false, if◌then◌else◌, [], ◌∷◌, refl, ap, sym, ◌∙◌, arith, ◌⊎◌, not, List, Option, Some, None}
-use Rattle.std.proofs.Common.{bit_or, eqb-true, ne_eqb}
-use Rattle.std.proofs.lemmas.{Bool.cases_eq, Bool.cond_both, Option.same_Some, Bool.Decides.nat_tests}
-use Rattle.pas_profile.specs.Directories.{IsKind, number_of, deed_word_of, deed_word_numbered}
-use Rattle.pas_profile.specs.{Layouts.same_word, Profiles.IsPage, Profiles.IsDirectoryOf}
+use Rattle.std.proofs.{Common.{bit_or, eqb-true, ne_eqb}, lemmas.{Bool.{cases_eq, cond_both, Decides.nat_tests}, Option.same_Some}}
+use Rattle.pas_profile.specs.{Directories.{IsKind, number_of, deed_word_of, deed_word_numbered}, Layouts.same_word, Profiles.{IsPage, IsDirectoryOf}}
 use Rattle.pas_profile.specs.declared.{profile.Profile.Profile, directory.Directory.Directory, word.Word.Word, event.Event.Event}
 use Rattle.pas_profile.proofs.Codecs.{kind_number_lt}
-use Rattle.pas_steps.specs.{Effects.target, Effects.new_value, Views.epoch_of, Allowed.IsStepOf, Agreement.IsDeedWord, Events.event_of, Events.with_event}
-use Rattle.pas_steps.specs.Lists.{Triple, Whole, part, word_after, Legal, visible}
-use Rattle.pas_steps.specs.declared.step.Step.{Step}
-use Rattle.pas_steps.specs.declared.step.Step.TheVariants.{Deed, Back, End, EndSized}
+use Rattle.pas_steps.specs.{Effects.{target, new_value}, Views.epoch_of, Allowed.IsStepOf, Agreement.IsDeedWord, Events.{event_of, with_event}, Lists.Triple}
+use Rattle.pas_steps.specs.{Lists.{Whole, part, word_after, Legal, visible}, declared.step.Step.{Step, TheVariants.{Deed, Back, End, EndSized}}}
 use Rattle.pas_machine.specs.State.{deed_in, backed_in}
 use Rattle.pas_core.specs.Good.{word_of_deed, word_of_backed}
 

@@ -1,21 +1,14 @@
 -- Each grain is in exactly one place: free, held by one actor, or covered by one live block.
 use Rattle.std.proofs.Common.{◌≡◌, ℕ, ◌+◌, ◌-◌, ◌*◌, ◌/◌, ◌%◌, ◌^◌, ◌<◌, ◌≤◌, ◌==◌, nat_lt, nat_le, Bool, true, false, not, ◌&&◌, ◌||◌, if◌then◌else◌, [], ◌∷◌}
-use Rattle.std.proofs.Common.{refl, ap, sym, ◌∙◌, arith, bit_and, bit_or, w64, eqb-true, le-leb}
-use Rattle.std.specs.Int.{bit_not}
-use Rattle.std.proofs.lemmas.{Nat.Bits.bit_at_ones, Bool.and_parts, Bool.lt-leb, Bool.cond_both, Bool.Decides.nat_tests}
-use Rattle.pas_bits.specs.{Bits.has_bit, Runs.in_run}
-use Rattle.pas_profile.specs.{Layouts.same_word, Lives.live_word, Profiles.IsValid, Blocks.address_of, Blocks.grain_of, Blocks.length_of}
-use Rattle.pas_profile.specs.declared.{profile.Profile.Profile, name.Block.Block, word.Word.Word}
-use Rattle.pas_steps.specs.Effects.{free_word_at, life_word_at, in_mask, target, new_value}
-use Rattle.pas_steps.specs.Views.{Move, Stays, Gets, Puts, Gives, Ends, grain_move, held_after, holds, epoch_of}
-use Rattle.pas_steps.specs.Allowed.{Allowed, IsStepOf}
-use Rattle.pas_steps.specs.Lists.{Whole, word_after, part, IsNext, Legal}
-use Rattle.pas_steps.specs.declared.step.Step.{Step}
-use Rattle.pas_steps.specs.declared.step.Step.TheVariants.{Look, Take, Put, Give, End, EndSized}
-use Rattle.pas_core.specs.Good.{Place, IsFree, Held, Covered, is_free, is_held_by, is_covered_by, covers, IsPlacedOnce}
-use Rattle.pas_bits.proofs.{Words.bit_cleared, Words.bit_of_or, Runs.first_of_run}
-use Rattle.pas_core.proofs.Deeds.{looked}
-use Rattle.pas_steps.proofs.Running.{guess_fits}
+use Rattle.std.proofs.{Common.{refl, ap, sym, ◌∙◌, arith, bit_and, bit_or, w64, eqb-true, le-leb}, lemmas.{Nat.Bits.bit_at_ones, Bool.{and_parts, lt-leb}}}
+use Rattle.std.{proofs.lemmas.Bool.{cond_both, Decides.nat_tests}, specs.Int.bit_not}
+use Rattle.pas_bits.{specs.{Bits.has_bit, Runs.in_run}, proofs.{Words.{bit_cleared, bit_of_or}, Runs.first_of_run}}
+use Rattle.pas_profile.specs.{Layouts.same_word, Lives.live_word, Profiles.IsValid, Blocks.{address_of, grain_of, length_of}, declared.profile.Profile.Profile}
+use Rattle.pas_profile.specs.declared.{name.Block.Block, word.Word.Word}
+use Rattle.pas_steps.specs.{Effects.{free_word_at, life_word_at, in_mask, target, new_value}, Views.{Move, Stays, Gets, Puts, Gives, Ends, grain_move}}
+use Rattle.pas_steps.specs.{Views.{held_after, holds, epoch_of}, Allowed.{Allowed, IsStepOf}, Lists.{Whole, word_after, part, IsNext, Legal}}
+use Rattle.pas_steps.{specs.declared.step.Step.{Step, TheVariants.{Look, Take, Put, Give, End, EndSized}}, proofs.Running.guess_fits}
+use Rattle.pas_core.{specs.Good.{Place, IsFree, Held, Covered, is_free, is_held_by, is_covered_by, covers, IsPlacedOnce}, proofs.Deeds.looked}
 
 -- ---- words of grains: one for each grain
 -- two grains have the same life word where they are the same

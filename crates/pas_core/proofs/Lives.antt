@@ -1,34 +1,23 @@
 -- Life words: the blocks that live, those that were given, and their turns.
 use Rattle.std.proofs.Common.{◌≡◌, ◌≢◌, ℕ, ◌+◌, ◌-◌, ◌*◌, ◌/◌, ◌%◌, ◌^◌, ◌<◌, ◌≤◌, ◌==◌, Bool, true, false, ◌&&◌, if◌then◌else◌, List, [], ◌∷◌, Option, Some}
 use Rattle.std.proofs.Common.{None, refl, ap, sym, ◌∙◌, subst, arith, inl, inr, ◌++◌, length, zero, suc, eqb-true, eq-eqb, le-leb, max, ◌⊎◌, w64}
-use Rattle.std.proofs.lemmas.Bool.{false≢true, cases_eq, and_parts, cond_both, eqb-false, and_from, false_from_ne_true, cases_Bool}
-use Rattle.pas_profile.specs.{Layouts.same_word, Layouts.opening, Lives.live_word, Lives.is_live, Lives.turn_of, Profiles.IsValid, Profiles.IsDirectoryOf}
-use Rattle.pas_profile.specs.{Blocks.address_of, Blocks.grain_of, Blocks.length_of, Directories.deed_word_of}
-use Rattle.pas_profile.specs.declared.{profile.Profile.Profile, name.Block.Block, name.Name.Name, event.Event.Event, event.Why.Why}
-use Rattle.pas_profile.specs.declared.{directory.Directory.Directory, word.Word.Word}
-use Rattle.pas_bits.specs.{Runs.in_run, Runs.meets_page, PageVectors.page_mask}
-use Rattle.pas_machine.specs.State.{Live, live_in, gives_in, ends_in, touches, epoch_in}
-use Rattle.pas_steps.specs.Effects.{life_word_at, target, new_value, in_mask}
-use Rattle.pas_steps.specs.Allowed.{Allowed, IsStepOf, IsBlockOf, HoldsOn, MayPutNow, MayGiveNow}
+use Rattle.std.proofs.lemmas.Bool.{false≢true, cases_eq, and_parts, cond_both, eqb-false, and_from, false_from_ne_true, cases_Bool, Decides.nat_tests}
+use Rattle.std.{proofs.lemmas.{Option.{same_Some, none-some}, Nat.{and_le_l, or_lt}}, specs.Int.bit_not}
+use Rattle.pas_profile.specs.{Layouts.{same_word, opening}, Lives.{live_word, is_live, turn_of}, Profiles.{IsValid, IsDirectoryOf}, Blocks.address_of}
+use Rattle.pas_profile.specs.{Blocks.{grain_of, length_of}, Directories.deed_word_of, declared.{profile.Profile.Profile, name.{Block.Block, Name.Name}}}
+use Rattle.pas_profile.{specs.declared.{event.{Event.Event, Why.Why}, directory.Directory.Directory, word.Word.Word}, proofs.Codecs.kind_number_lt}
+use Rattle.pas_bits.{specs.{Runs.{in_run, meets_page}, PageVectors.page_mask}, proofs.{Runs.{first_of_run, IsMet, met}, PageVectors.page_mask_lt}}
+use Rattle.pas_machine.specs.{State.{Live, live_in, gives_in, ends_in, touches, epoch_in}, Machine.{Admits, Run}, Totals.sum_below}
+use Rattle.pas_steps.specs.{Effects.{life_word_at, target, new_value, in_mask}, Allowed.{Allowed, IsStepOf, IsBlockOf, HoldsOn, MayPutNow, MayGiveNow}}
 use Rattle.pas_steps.specs.Views.{View, Move, Stays, Gives, Ends, grain_move, held_after, holds, epoch_of, looks_at_life, life_after, known_life, given_after}
 use Rattle.pas_steps.specs.Views.{given_count, epoch_after, known_epoch, or_zero, holds_all, stamp_after, known_stamp, unstamped_after, is_unstamped, ends_on}
-use Rattle.pas_steps.specs.Events.{event_of, end_event, with_event, reason_of, sized_reason, sized_event}
-use Rattle.pas_steps.specs.Lists.{Whole, word_after, part, visible, IsNext, Legal, Triple}
-use Rattle.pas_steps.specs.declared.step.Step.{Step}
-use Rattle.pas_steps.specs.declared.step.Step.TheVariants.{Look, Deed, Back, Give, End, EndSized, Take, Put, TakeRight, Offer, Park, Unpark, Stamp, Hint, Tick}
-use Rattle.pas_steps.specs.declared.step.Step.TheVariants.{Unhint}
-use Rattle.pas_core.specs.Good.{Place, Held, is_held_by, covers, IsPlacedOnce, IsLifeOf, IsLifeOfNone, IsLifeOfLive, IsBare}
-use Rattle.pas_core.proofs.Grains.{life_same, give_short, Fits, is_held_by-true, covers_live, some_grain, step_fits, placed_once, one_holder}
-use Rattle.std.proofs.lemmas.{Option.same_Some, Option.none-some, Bool.Decides.nat_tests, Nat.and_le_l, Nat.or_lt}
-use Rattle.pas_core.proofs.Deeds.{event_if, end_event_cases, looked, next_value}
-use Rattle.pas_bits.proofs.{Runs.first_of_run, Runs.IsMet, Runs.met, PageVectors.page_mask_lt}
-use Rattle.pas_machine.specs.{Machine.Admits, Machine.Run, Totals.sum_below}
-use Rattle.pas_core.specs.Given.{WasGiven}
-use Rattle.pas_steps.proofs.{Parts.each_part, Running.guess_fits, Bits.all_below-at, Flags.stays_set, Flags.was_set}
-use Rattle.std.specs.Int.{bit_not}
-use Rattle.pas_profile.proofs.Codecs.{kind_number_lt}
-use Rattle.pas_steps.specs.Desks.{made}
-use Rattle.pas_core.specs.Stamps.{IsSoAtEnd, EachEnd, IsStampedOr, KeepsToEnds, AllKeepToEnds}
+use Rattle.pas_steps.specs.{Events.{event_of, end_event, with_event, reason_of, sized_reason, sized_event}, Lists.{Whole, word_after, part, visible, IsNext}}
+use Rattle.pas_steps.specs.{Lists.{Legal, Triple}, declared.step.Step.{Step, TheVariants.{Look, Deed, Back, Give, End, EndSized, Take, Put, TakeRight, Offer}}}
+use Rattle.pas_steps.{specs.{declared.step.Step.TheVariants.{Park, Unpark, Stamp, Hint, Tick, Unhint}, Desks.made}, proofs.Parts.each_part}
+use Rattle.pas_steps.proofs.{Running.guess_fits, Bits.all_below-at, Flags.{stays_set, was_set}}
+use Rattle.pas_core.specs.{Good.{Place, Held, is_held_by, covers, IsPlacedOnce, IsLifeOf, IsLifeOfNone, IsLifeOfLive, IsBare}, Given.WasGiven, Stamps.IsSoAtEnd}
+use Rattle.pas_core.{specs.Stamps.{EachEnd, IsStampedOr, KeepsToEnds, AllKeepToEnds}, proofs.Grains.{life_same, give_short, Fits, is_held_by-true, covers_live}}
+use Rattle.pas_core.proofs.{Grains.{some_grain, step_fits, placed_once, one_holder}, Deeds.{event_if, end_event_cases, looked, next_value}}
 
 -- ==== The life words are those of the machine, and what actors know of them is true.
 

@@ -1,35 +1,24 @@
 -- The machine behind a legal list: its visible events are a run, the words are those of the machine, each grain is in one place in the machine's words,
 -- and in some list a page is unbacked.
 use Rattle.std.proofs.Common.{◌≡◌, ◌≢◌, ℕ, ◌+◌, ◌-◌, ◌*◌, ◌/◌, ◌%◌, ◌^◌, ◌<◌, ◌≤◌, ◌==◌, nat_lt, Bool, true, false, ◌&&◌, if◌then◌else◌, List, [], ◌∷◌, Option}
-use Rattle.std.proofs.Common.{Some, None, refl, ap, sym, ◌∙◌, arith, inl, inr, max, eqb-true, eq-eqb, leb-true}
-use Rattle.std.proofs.lemmas.Bool.{false≢true, eqb-false, and_parts, and_from, cond_both, false_from_ne_true, cases_eq}
-use Rattle.std.proofs.lemmas.{Bool.Decides.nat_tests, Nat.Bits.bit_at_ones}
-use Rattle.pas_profile.specs.{Directories.deed_word_of, Profiles.IsValid, Profiles.IsPage, Profiles.IsDirectoryOf, Blocks.address_of, Blocks.grain_of}
-use Rattle.pas_profile.specs.{Blocks.length_of}
-use Rattle.pas_profile.specs.Lives.{live_word, is_live, turn_of, grains_of}
-use Rattle.pas_profile.specs.declared.{profile.Profile.Profile, directory.Directory.Directory, name.Block.Block, name.Name.Name, word.Word.Word}
-use Rattle.pas_profile.specs.declared.{event.Event.Event, event.Why.Why, directory.Kind.TheVariants.Large}
-use Rattle.pas_bits.specs.{Runs.in_run, Runs.meets_page, Bits.has_bit}
-use Rattle.pas_machine.specs.State.{Live, deed_in, backed_in, live_in, gives_in, ends_in, touches}
-use Rattle.pas_machine.specs.Machine.{IsPlace, Bears, IsClear, IsLive, MayGive, IsReason, Admits, Run}
-use Rattle.pas_steps.specs.Effects.{life_word_at, target, free_word_at, in_mask}
-use Rattle.pas_steps.specs.Views.{holds, epoch_of, known_deed, View, Gets, Stays, held_after, holds_on, holds_all, knows_backed, known_stamp, all_ones}
-use Rattle.pas_steps.specs.{Events.event_of, Events.with_event, Events.reason_of, Desks.made, Desks.triple, Desks.triples}
-use Rattle.pas_steps.specs.Allowed.{Allowed, IsStepOf, IsBlockOf, KnowsBearing, MayUnback}
-use Rattle.pas_steps.specs.Lists.{Whole, word_after, part, visible, Legal, IsNext}
-use Rattle.pas_steps.specs.declared.step.{Step.Step, Made.Made}
-use Rattle.pas_steps.specs.declared.step.Step.TheVariants.{Deed, Back, Give, End, EndSized, Unback, Look, Take, Tick}
-use Rattle.pas_core.specs.Good.{word_of_deed, word_of_backed, IsLifeOf, IsLifeOfLive, AgreesWithWords, Place, IsFree, Held, Covered, is_free, is_held_by}
-use Rattle.pas_core.specs.Good.{is_covered_by, covers, IsPlacedOnce, IsInOnePlace}
-use Rattle.pas_core.proofs.{Grains.some_grain, Grains.placed_once, Grains.covers_live, Rights.deeds_known, Rights.backed_known}
-use Rattle.pas_core.proofs.Lives.{stamp_known, ends_before, moved_held, life_is_known, block_of_word, turn_is, live_is_live, no_block, dead_while_held, life_of}
-use Rattle.pas_core.proofs.Lives.{life_at, bare_of, live_of, live_is_aligned}
-use Rattle.pas_core.proofs.Deeds.{known_is, deed_of, backed_of, directory_is_of, is_backed}
-use Rattle.pas_profile.proofs.Codecs.{kind_number_lt}
-use Rattle.pas_bits.proofs.Runs.{run_of, first_of_run, IsMet, met}
-use Rattle.pas_machine.specs.Laws.{AreBorne, AreApart}
-use Rattle.pas_machine.proofs.LiveBlocks.{all_borne, live_apart}
+use Rattle.std.proofs.{Common.{Some, None, refl, ap, sym, ◌∙◌, arith, inl, inr, max, eqb-true, eq-eqb, leb-true}, lemmas.Bool.{false≢true, eqb-false}}
+use Rattle.std.proofs.lemmas.{Bool.{and_parts, and_from, cond_both, false_from_ne_true, cases_eq, Decides.nat_tests}, Nat.Bits.bit_at_ones}
+use Rattle.pas_profile.specs.{Directories.deed_word_of, Profiles.{IsValid, IsPage, IsDirectoryOf}, Blocks.{address_of, grain_of, length_of}, Lives.live_word}
+use Rattle.pas_profile.specs.{Lives.{is_live, turn_of, grains_of}, declared.{profile.Profile.Profile, directory.{Directory.Directory, Kind.TheVariants.Large}}}
+use Rattle.pas_profile.{specs.declared.{name.{Block.Block, Name.Name}, word.Word.Word, event.{Event.Event, Why.Why}}, proofs.Codecs.kind_number_lt}
+use Rattle.pas_bits.{specs.{Runs.{in_run, meets_page}, Bits.has_bit}, proofs.Runs.{run_of, first_of_run, IsMet, met}}
+use Rattle.pas_machine.specs.{State.{Live, deed_in, backed_in, live_in, gives_in, ends_in, touches}, Machine.{IsPlace, Bears, IsClear, IsLive, MayGive}}
+use Rattle.pas_machine.{specs.{Machine.{IsReason, Admits, Run}, Laws.{AreBorne, AreApart}}, proofs.LiveBlocks.{all_borne, live_apart}}
+use Rattle.pas_steps.specs.{Effects.{life_word_at, target, free_word_at, in_mask}, Views.{holds, epoch_of, known_deed, View, Gets, Stays, held_after, holds_on}}
+use Rattle.pas_steps.specs.{Views.{holds_all, knows_backed, known_stamp, all_ones}, Events.{event_of, with_event, reason_of}, Desks.{made, triple, triples}}
+use Rattle.pas_steps.specs.{Allowed.{Allowed, IsStepOf, IsBlockOf, KnowsBearing, MayUnback}, Lists.{Whole, word_after, part, visible, Legal, IsNext}}
+use Rattle.pas_steps.specs.declared.step.{Step.{Step, TheVariants.{Deed, Back, Give, End, EndSized, Unback, Look, Take, Tick}}, Made.Made}
 use Rattle.pas_steps.proofs.{Frames.any_from, Bits.all_below-from}
+use Rattle.pas_core.specs.Good.{word_of_deed, word_of_backed, IsLifeOf, IsLifeOfLive, AgreesWithWords, Place, IsFree, Held, Covered, is_free, is_held_by}
+use Rattle.pas_core.{specs.Good.{is_covered_by, covers, IsPlacedOnce, IsInOnePlace}, proofs.{Grains.{some_grain, placed_once, covers_live}, Rights.deeds_known}}
+use Rattle.pas_core.proofs.{Rights.backed_known, Lives.{stamp_known, ends_before, moved_held, life_is_known, block_of_word, turn_is, live_is_live, no_block}}
+use Rattle.pas_core.proofs.{Lives.{dead_while_held, life_of, life_at, bare_of, live_of, live_is_aligned}, Deeds.{known_is, deed_of, backed_of, directory_is_of}}
+use Rattle.pas_core.proofs.Deeds.{is_backed}
 
 -- ==== The visible events of every legal list are a run of the machine.
 

@@ -1,37 +1,26 @@
 -- The answer of each legal step agrees with its actor's view, since what an actor read once is so for good.
 use Rattle.std.proofs.Common.{ℕ, ◌==◌, List, [], ◌∷◌, ◌≡◌, ◌≢◌, ◌+◌, ◌*◌, ◌/◌, ◌<◌, ◌≤◌, Bool, true, false, ◌&&◌, Some, refl, ap, sym, ◌∙◌, subst, arith, ◌^◌}
 use Rattle.std.proofs.Common.{if◌then◌else◌, Option, None, ◌%◌, eqb-true, leb-true, length-set, ◌++◌, slice_index, slice_set, eq-eqb, ne_eqb}
-use Rattle.pas_profile.specs.declared.{profile.Profile.Profile, directory.Directory.Directory, name.Name.Name, word.Word.Word, name.Block.Block}
-use Rattle.pas_profile.specs.declared.{event.Event.Event}
-use Rattle.pas_steps.specs.{Past.Once, Allowed.IsStepOf, Allowed.Allowed, Events.event_of, Events.with_event, Desks.made, Desks.triple, Desks.triples}
-use Rattle.pas_steps.specs.Effects.{life_word_at, target, free_word_at, new_value}
-use Rattle.pas_steps.specs.Lists.{Triple, Whole, part, Legal, word_after, visible, IsNext}
-use Rattle.pas_steps.specs.declared.step.{Made.Made, Step.Step}
-use Rattle.std.proofs.lemmas.Bool.{cond_both, false≢true, and_parts, and_from, false_from_ne_true}
-use Rattle.pas_profile.specs.{Directories.number_of, Profiles.IsValid, Profiles.IsWordOf, Blocks.address_of, Blocks.grain_of, Blocks.length_of}
-use Rattle.pas_profile.specs.{Layouts.index_of, Layouts.same_word}
-use Rattle.pas_profile.specs.Lives.{live_word, is_live, turn_of, grains_of}
-use Rattle.pas_profile.proofs.{Codecs.deed_word_of-positive, Codecs.is_live-live_word, Codecs.grains_of-live_word, Places.same_word-true}
-use Rattle.pas_bits.specs.{Runs.in_run, Runs.meets_page, Bits.has_bit}
-use Rattle.pas_machine.specs.State.{Live, live_in, deed_in, backed_in, gives_in, ends_in}
-use Rattle.pas_machine.specs.Machine.{Bears, Run}
-use Rattle.pas_steps.specs.Views.{ends_on, EndedOn, EndedOnBoth, epoch_of, reads_life, IsLiveRead, ReadLive, reads_backed, ReadBacked, holds, View}
-use Rattle.pas_steps.specs.Agreement.{heap_recorded, AgreesDeed, AgreesFree, AgreesLife, AgreesEnd, AgreesBacked, AgreesParked, AgreesEmpty, AgreesEligible}
-use Rattle.pas_steps.specs.Agreement.{AgreesEpoch, AgreesStamp, Agrees, Agreed}
-use Rattle.pas_steps.specs.declared.step.Step.TheVariants.{End, EndSized, Look, Back, Give, Unback, Deed, Take, Put, TakeRight, Offer, Park, Unpark, Stamp}
-use Rattle.pas_steps.specs.declared.step.Step.TheVariants.{Hint, Unhint}
-use Rattle.pas_core.specs.Good.{word_of_deed, IsLifeOf, Held, is_free, is_covered_by, covers, IsPlacedOnce}
-use Rattle.pas_core.proofs.Deeds.{deed_kept, known_is, deed_words, deed_of, directory_is_of, backed_of}
-use Rattle.pas_core.proofs.Lives.{IsFound, end_finds, epoch_known, epoch_small, stamp_small, stamp_known, look_is, word_is, life_of, life_is_known}
-use Rattle.pas_core.proofs.Lives.{live_is_live, one_more, turn_small}
-use Rattle.pas_core.proofs.{MachineRuns.lists_borne, MachineRuns.runs, MachineRuns.one_backed, Grains.is_held_by-true, Grains.placed_once}
-use Rattle.pas_bits.proofs.Runs.{IsMet, met, first_of_run}
-use Rattle.pas_core.specs.{Given.WasGiven, Rights.parked_bit, Rights.empty_bit, Rights.eligible_bit, WordLists.AreWordsAfter, Orders.IsOneOrder}
-use Rattle.pas_core.specs.{Orders.with_step, Orders.ExtendsOnePart}
-use Rattle.std.proofs.lemmas.Option.{same_Some}
-use Rattle.pas_steps.proofs.{Flags.was_set, Running.guess_fits, Running.place_written, Parts.part_of_own, Parts.part_of_others}
-use Rattle.pas_core.proofs.Rights.{deeds_known, backed_small, backed_known, right_not_offered, right_not_parked, offered_is_known, offered_page, parked_page}
-use Rattle.pas_core.proofs.Rights.{hinted_page, free_known}
+use Rattle.std.proofs.lemmas.{Bool.{cond_both, false≢true, and_parts, and_from, false_from_ne_true}, Option.same_Some}
+use Rattle.pas_profile.specs.declared.{profile.Profile.Profile, directory.Directory.Directory, name.{Name.Name, Block.Block}, word.Word.Word, event.Event.Event}
+use Rattle.pas_profile.specs.{Directories.number_of, Profiles.{IsValid, IsWordOf}, Blocks.{address_of, grain_of, length_of}, Layouts.{index_of, same_word}}
+use Rattle.pas_profile.{specs.Lives.{live_word, is_live, turn_of, grains_of}, proofs.Codecs.{deed_word_of-positive, is_live-live_word, grains_of-live_word}}
+use Rattle.pas_profile.proofs.Places.{same_word-true}
+use Rattle.pas_steps.specs.{Past.Once, Allowed.{IsStepOf, Allowed}, Events.{event_of, with_event}, Desks.{made, triple, triples}, Effects.life_word_at}
+use Rattle.pas_steps.specs.{Effects.{target, free_word_at, new_value}, Lists.{Triple, Whole, part, Legal, word_after, visible, IsNext}, declared.step.Made.Made}
+use Rattle.pas_steps.specs.declared.step.Step.{Step, TheVariants.{End, EndSized, Look, Back, Give, Unback, Deed, Take, Put, TakeRight, Offer, Park, Unpark}}
+use Rattle.pas_steps.specs.{declared.step.Step.TheVariants.{Stamp, Hint, Unhint}, Views.{ends_on, EndedOn, EndedOnBoth, epoch_of, reads_life, IsLiveRead}}
+use Rattle.pas_steps.specs.{Views.{ReadLive, reads_backed, ReadBacked, holds, View}, Agreement.{heap_recorded, AgreesDeed, AgreesFree, AgreesLife, AgreesEnd}}
+use Rattle.pas_steps.{specs.Agreement.{AgreesBacked, AgreesParked, AgreesEmpty, AgreesEligible, AgreesEpoch, AgreesStamp, Agrees, Agreed}, proofs.Flags.was_set}
+use Rattle.pas_steps.proofs.{Running.{guess_fits, place_written}, Parts.{part_of_own, part_of_others}}
+use Rattle.pas_bits.{specs.{Runs.{in_run, meets_page}, Bits.has_bit}, proofs.Runs.{IsMet, met, first_of_run}}
+use Rattle.pas_machine.specs.{State.{Live, live_in, deed_in, backed_in, gives_in, ends_in}, Machine.{Bears, Run}}
+use Rattle.pas_core.specs.{Good.{word_of_deed, IsLifeOf, Held, is_free, is_covered_by, covers, IsPlacedOnce}, Given.WasGiven, Rights.{parked_bit, empty_bit}}
+use Rattle.pas_core.{specs.{Rights.eligible_bit, WordLists.AreWordsAfter, Orders.{IsOneOrder, with_step, ExtendsOnePart}}, proofs.Deeds.{deed_kept, known_is}}
+use Rattle.pas_core.proofs.{Deeds.{deed_words, deed_of, directory_is_of, backed_of}, Lives.{IsFound, end_finds, epoch_known, epoch_small, stamp_small}}
+use Rattle.pas_core.proofs.{Lives.{stamp_known, look_is, word_is, life_of, life_is_known, live_is_live, one_more, turn_small}, MachineRuns.{lists_borne, runs}}
+use Rattle.pas_core.proofs.{MachineRuns.one_backed, Grains.{is_held_by-true, placed_once}, Rights.{deeds_known, backed_small, backed_known, right_not_offered}}
+use Rattle.pas_core.proofs.Rights.{right_not_parked, offered_is_known, offered_page, parked_page, hinted_page, free_known}
 
 -- ==== What a step of an actor told once is so for good, where every later step keeps it.
 

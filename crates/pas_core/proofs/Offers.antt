@@ -1,28 +1,19 @@
 -- Nothing is lost: hints, checks and offers of pages.
 use Rattle.std.proofs.Common.{◌≡◌, ℕ, ◌+◌, ◌*◌, ◌/◌, ◌%◌, ◌^◌, ◌<◌, ◌==◌, Bool, true, false, not, ◌&&◌, ◌||◌, if◌then◌else◌, [], ◌∷◌, refl, ap, sym, ◌∙◌, arith}
-use Rattle.std.proofs.Common.{bit_and, bit_or, inl, inr, ◌≢◌, subst, ◌⊎◌, List, ◌++◌, w64, eqb-true, eq-eqb, ne_eqb}
-use Rattle.std.specs.Int.{bit_not}
-use Rattle.std.proofs.lemmas.Bool.{false≢true, and_parts, cases_Bool, false_from_ne_true, cond_both, cond-false, cond-true, not-true, or_from, and_from}
-use Rattle.std.proofs.lemmas.Bool.{cases_lt, cases_eq}
-use Rattle.std.proofs.lemmas.Nat.{and_le_r}
-use Rattle.pas_bits.specs.Bits.{has_bit}
-use Rattle.pas_profile.specs.{Profiles.IsValid, Directories.directory_read}
-use Rattle.pas_profile.specs.declared.{profile.Profile.Profile, word.Word.Word}
-use Rattle.pas_steps.specs.{Effects.free_word_at, Effects.target, Allowed.Allowed, Allowed.IsStepOf, Allowed.HoldsOn, Desks.made, Desks.triple, Desks.triples}
-use Rattle.pas_steps.specs.{Clear.IsClear}
-use Rattle.pas_steps.specs.Views.{all_ones, hint_after, owes_hint, examined_after, examines, epoch_of, way, ToParked, Rests, Way, has_right, known_deed}
-use Rattle.pas_steps.specs.Views.{usable_by, no_usable, check_after, owes_check}
-use Rattle.pas_steps.specs.Lists.{Whole, part, word_after, IsNext, Legal}
-use Rattle.pas_steps.specs.declared.step.{Step.Step, Made.Made}
-use Rattle.pas_steps.specs.declared.step.Step.TheVariants.{Look, Back, Take, Put, Hint, Unback, Unhint, Deed, TakeRight, Offer, Park, Unpark}
-use Rattle.pas_core.specs.{Good.Held, Good.is_free, Good.IsPlacedOnce, Hints.IsEmptyBacked, Hints.IsMinded}
-use Rattle.pas_core.specs.Rights.{empty_bit, parked_bit, IsUsableFree, IsOwed, IsRightInOnePlace, IsRightOffered, IsRightParked, NobodyHasRight, NobodyOwes}
-use Rattle.pas_core.specs.Rights.{AllClear}
-use Rattle.pas_bits.proofs.{Words.bit_cleared, PageVectors.page_bit-clear, PageVectors.page_bit-set}
-use Rattle.pas_core.proofs.Deeds.{next_value, looked, known_is, word_stays}
-use Rattle.pas_core.proofs.{Grains.is_held_by-true, Grains.placed_once, Lives.words_fit}
-use Rattle.pas_steps.proofs.{Flags.stays_set, Bits.none_set, Bits.all_set, Bits.all_below-at, Parts.part_of_others}
-use Rattle.pas_core.proofs.Rights.{Spot, InParked, is_with, is_parked, spot_after, spot_of, IsSpotted, spotted, parked_spot, right_in_one_place}
+use Rattle.std.proofs.{Common.{bit_and, bit_or, inl, inr, ◌≢◌, subst, ◌⊎◌, List, ◌++◌, w64, eqb-true, eq-eqb, ne_eqb}, lemmas.Bool.{false≢true, and_parts}}
+use Rattle.std.proofs.lemmas.Bool.{cases_Bool, false_from_ne_true, cond_both, cond-false, cond-true, not-true, or_from, and_from, cases_lt, cases_eq}
+use Rattle.std.{proofs.lemmas.Nat.and_le_r, specs.Int.bit_not}
+use Rattle.pas_bits.{specs.Bits.has_bit, proofs.{Words.bit_cleared, PageVectors.{page_bit-clear, page_bit-set}}}
+use Rattle.pas_profile.specs.{Profiles.IsValid, Directories.directory_read, declared.{profile.Profile.Profile, word.Word.Word}}
+use Rattle.pas_steps.specs.{Effects.{free_word_at, target}, Allowed.{Allowed, IsStepOf, HoldsOn}, Desks.{made, triple, triples}, Clear.IsClear, Views.all_ones}
+use Rattle.pas_steps.specs.Views.{hint_after, owes_hint, examined_after, examines, epoch_of, way, ToParked, Rests, Way, has_right, known_deed, usable_by}
+use Rattle.pas_steps.specs.{Views.{no_usable, check_after, owes_check}, Lists.{Whole, part, word_after, IsNext, Legal}, declared.step.Step.Step}
+use Rattle.pas_steps.specs.declared.step.{Step.TheVariants.{Look, Back, Take, Put, Hint, Unback, Unhint, Deed, TakeRight, Offer, Park, Unpark}, Made.Made}
+use Rattle.pas_steps.proofs.{Flags.stays_set, Bits.{none_set, all_set, all_below-at}, Parts.part_of_others}
+use Rattle.pas_core.specs.{Good.{Held, is_free, IsPlacedOnce}, Hints.{IsEmptyBacked, IsMinded}, Rights.{empty_bit, parked_bit, IsUsableFree, IsOwed}}
+use Rattle.pas_core.{specs.Rights.{IsRightInOnePlace, IsRightOffered, IsRightParked, NobodyHasRight, NobodyOwes, AllClear}, proofs.Deeds.{next_value, looked}}
+use Rattle.pas_core.proofs.{Deeds.{known_is, word_stays}, Grains.{is_held_by-true, placed_once}, Lives.words_fit, Rights.{Spot, InParked, is_with, is_parked}}
+use Rattle.pas_core.proofs.Rights.{spot_after, spot_of, IsSpotted, spotted, parked_spot, right_in_one_place}
 
 -- ==== A backed page whose grains are all free isn't forgotten: its empty bit is set, or some actor owes its hint, or some actor examines it.
 

@@ -1,34 +1,24 @@
 -- Laws of one actor alone, in a list that is legal as a whole: what its steps leave as it was, which grains are free and where rights are before and
 -- after them, and what its search finds.
-use Rattle.pas_core.proofs.Deeds.{word_stays, looked, deed_kept, known_is, numbered_ne}
+use Rattle.pas_core.proofs.{Deeds.{word_stays, looked, deed_kept, known_is, numbered_ne}, Rights.{put_keeps, one_has_right, offered_has_deed, offered_spot}}
+use Rattle.pas_core.proofs.Rights.{own_eligible, is_on_offer, Spot, With, is_with, is_offered, is_parked, spot_after, spot_of, Suits, DeedFits, IsSpotted}
+use Rattle.pas_core.proofs.{Rights.{step_suits, spotted}, Grains.{Fits, free_moved, free_step, step_fits, placed_once, is_held_by-true}, Nexts.agrees_next}
+use Rattle.pas_core.specs.{Rights.{free_of_page, eligible_bit, parked_bit, AllRest}, Good.{Place, Held, is_free, is_held_by, IsPlacedOnce}, Fits.IsOfferedFit}
+use Rattle.pas_core.specs.{Fits.{IsBarePage, HasNoFit}, Alone.{ShowsOffered, ShowsBare, ShowsNone, ShowsHeld, ShowsAnswer, SearchesAlone, IsPlainAnswer}}
 use Rattle.std.proofs.Common.{◌≡◌, ℕ, ◌/◌, true, false, if◌then◌else◌, List, [], ◌∷◌, ◌++◌, refl, ap, ◌∙◌, true≢false, ◌≢◌, ◌+◌, ◌*◌, ◌%◌, ◌<◌, ◌==◌, Bool}
-use Rattle.std.proofs.Common.{◌||◌, sym, arith, inl, inr, None, Some, subst, Result, Ok, Err, eq-eqb, eqb-true}
+use Rattle.std.proofs.{Common.{◌||◌, sym, arith, inl, inr, None, Some, subst, Result, Ok, Err, eq-eqb, eqb-true}, lemmas.Bool.{cases_Bool, cond_both, or_left}}
+use Rattle.std.proofs.lemmas.Bool.{or_parts, or_from, cases_eq, false≢true, and_parts}
 use Rattle.pas_bits.specs.Bits.{has_bit}
-use Rattle.pas_profile.specs.{Directories.number_of, Directories.deed_word_of, Layouts.same_word, Profiles.IsValid, Profiles.IsDirectoryOf}
-use Rattle.pas_profile.specs.declared.{word.Word.Word, profile.Profile.Profile, event.Event.Event, directory.Directory.Directory, event.NoRoom.NoRoom}
-use Rattle.pas_profile.specs.declared.{event.NoRoom.TheVariants.NoSpace}
-use Rattle.pas_steps.specs.{Effects.target, Effects.new_value, Effects.free_word_at, Desks.triples, Desks.triple, Past.Once, Past.Always, Events.event_of}
-use Rattle.pas_steps.specs.{Allowed.Allowed, Agreement.Agrees}
-use Rattle.pas_steps.specs.Views.{epoch_of, View, Move, Stays, Gets, Puts, Gives, Ends, grain_move, held_after, holds, Way, Rests, way, had_after, has_right}
-use Rattle.pas_steps.specs.Views.{deed_after, known_deed, KnowsDeed}
-use Rattle.pas_steps.specs.Lists.{Whole, part, word_after, Legal}
-use Rattle.pas_steps.specs.Kinds.{Kinds, kind_of, is_in, apart, Only, Taking, Claiming, Deeding, lending}
-use Rattle.pas_steps.specs.declared.step.{Made.Made, Step.Step, Step.TheVariants.Deed}
-use Rattle.pas_steps.proofs.{Apart.in_apart, Past.since_once, Past.always_map, Past.once_map, Parts.part_of_own, Parts.part_of_others, Parts.each_part}
-use Rattle.pas_steps.proofs.{Adding.triples_append}
-use Rattle.pas_steps.proofs.Frames.{right_own, right_of_own, lacks_now, deed_stays}
-use Rattle.pas_core.proofs.Rights.{put_keeps, one_has_right, offered_has_deed, offered_spot, own_eligible, is_on_offer, Spot, With, is_with, is_offered}
-use Rattle.pas_core.proofs.Rights.{is_parked, spot_after, spot_of, Suits, DeedFits, IsSpotted, step_suits, spotted}
-use Rattle.std.proofs.lemmas.Bool.{cases_Bool, cond_both, or_left, or_parts, or_from, cases_eq, false≢true, and_parts}
-use Rattle.pas_core.specs.Rights.{free_of_page, eligible_bit, parked_bit, AllRest}
-use Rattle.pas_core.specs.Good.{Place, Held, is_free, is_held_by, IsPlacedOnce}
-use Rattle.pas_core.proofs.Grains.{Fits, free_moved, free_step, step_fits, placed_once, is_held_by-true}
-use Rattle.pas_steps.specs.Evidence.{Readings, IsAntitone, ReadsFree, ReadsDeed, ShowsHere, KeptHere, UnfitHere, DeedHere, ReadsEligible, ReadsParked, ZeroHere}
-use Rattle.pas_steps.specs.Evidence.{OneHere, ParkedHere, LacksAfter, Searched, AllDeeds}
+use Rattle.pas_profile.specs.{Directories.{number_of, deed_word_of}, Layouts.same_word, Profiles.{IsValid, IsDirectoryOf}, declared.word.Word.Word}
+use Rattle.pas_profile.specs.declared.{profile.Profile.Profile, event.{Event.Event, NoRoom.{NoRoom, TheVariants.NoSpace}}, directory.Directory.Directory}
 use Rattle.pas_profile.proofs.Codecs.{deed_word_of-positive, numbered}
-use Rattle.pas_core.proofs.Nexts.{agrees_next}
-use Rattle.pas_core.specs.Fits.{IsOfferedFit, IsBarePage, HasNoFit}
-use Rattle.pas_core.specs.Alone.{ShowsOffered, ShowsBare, ShowsNone, ShowsHeld, ShowsAnswer, SearchesAlone, IsPlainAnswer}
+use Rattle.pas_steps.specs.{Effects.{target, new_value, free_word_at}, Desks.{triples, triple}, Past.{Once, Always}, Events.event_of, Allowed.Allowed}
+use Rattle.pas_steps.specs.{Agreement.Agrees, Views.{epoch_of, View, Move, Stays, Gets, Puts, Gives, Ends, grain_move, held_after, holds, Way, Rests, way}}
+use Rattle.pas_steps.specs.{Views.{had_after, has_right, deed_after, known_deed, KnowsDeed}, Lists.{Whole, part, word_after, Legal}, Kinds.{Kinds, kind_of}}
+use Rattle.pas_steps.specs.{Kinds.{is_in, apart, Only, Taking, Claiming, Deeding, lending}, declared.step.{Made.Made, Step.{Step, TheVariants.Deed}}}
+use Rattle.pas_steps.specs.Evidence.{Readings, IsAntitone, ReadsFree, ReadsDeed, ShowsHere, KeptHere, UnfitHere, DeedHere, ReadsEligible, ReadsParked, ZeroHere}
+use Rattle.pas_steps.{specs.Evidence.{OneHere, ParkedHere, LacksAfter, Searched, AllDeeds}, proofs.{Apart.in_apart, Past.{since_once, always_map, once_map}}}
+use Rattle.pas_steps.proofs.{Parts.{part_of_own, part_of_others, each_part}, Adding.triples_append, Frames.{right_own, right_of_own, lacks_now, deed_stays}}
 
 -- ==== Bits of free and eligible words, and deed words, that steps of some kinds leave as they were.
 

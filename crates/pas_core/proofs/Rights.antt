@@ -1,28 +1,20 @@
 -- Rights and what views know: where the right of a page is, the bits of page vectors that are set, and that what views know of deeds, of free grains and
 -- of backed pages is true.
 use Rattle.std.proofs.Common.{◌≡◌, ◌≢◌, ℕ, ◌/◌, ◌%◌, ◌==◌, Bool, true, false, ◌&&◌, if◌then◌else◌, [], ◌∷◌, refl, ap, sym, ◌∙◌, subst, inl, inr, arith, ◌^◌}
-use Rattle.std.proofs.Common.{◌<◌, not, ◌||◌, bit_and, bit_or, ◌+◌, ◌*◌, ◌≤◌, eqb-true, eq-eqb, w64}
-use Rattle.std.proofs.lemmas.Bool.{false≢true, and_parts, cond_both, eqb-false, or_left, or_cases, false_from_ne_true, cases_eq}
-use Rattle.pas_bits.specs.Bits.{has_bit}
-use Rattle.pas_profile.specs.Directories.{number_of, deed_word_of, deed_word_numbered, IsKind}
-use Rattle.pas_profile.specs.{Layouts.same_word, Profiles.IsPage, Profiles.IsDirectoryOf, Profiles.IsValid}
-use Rattle.pas_profile.specs.declared.{profile.Profile.Profile, directory.Directory.Directory, word.Word.Word}
-use Rattle.pas_steps.specs.{Effects.target, Effects.free_word_at, Effects.in_mask, Allowed.Allowed, Allowed.IsStepOf, Allowed.MayUnback, Agreement.IsDeedWord}
-use Rattle.pas_steps.specs.{Frames.unbacks}
-use Rattle.pas_steps.specs.Views.{Way, Rests, ByDeed, FromOffer, FromParked, ToOffer, ToParked, way, had_after, has_right, deed_after, known_deed, epoch_of}
-use Rattle.pas_steps.specs.Views.{free_after, known_free, View, holds, holds_on, backed_after, knows_backed}
-use Rattle.pas_steps.specs.Lists.{Whole, part, word_after, IsNext, Legal, Triple}
-use Rattle.pas_steps.specs.declared.step.Step.{Step}
-use Rattle.pas_steps.specs.declared.step.Step.TheVariants.{Look, Deed, TakeRight, Offer, Park, Unpark, Take}
-use Rattle.pas_core.specs.Rights.{parked_bit, eligible_bit, empty_bit, IsRightInOnePlace}
-use Rattle.pas_bits.proofs.{Words.none_of_zero, Words.bit_cleared, Words.bit_of_or, PageVectors.page_bit-clear, PageVectors.page_bit-set}
-use Rattle.pas_core.proofs.Deeds.{next_value, looked, IsKnown, known_is, word_stays, deed_tells, look_tells, deed_at, numbered_ne, deed_words, deed_has_page}
-use Rattle.pas_core.proofs.Deeds.{number_told}
-use Rattle.pas_core.proofs.Grains.{if_true, if_false, one_holder}
-use Rattle.pas_profile.proofs.Codecs.{deed_word_of-positive, numbered}
-use Rattle.std.proofs.lemmas.{Bool.Decides.nat_tests, Nat.Bits.bit_at_ones}
-use Rattle.std.specs.Int.{bit_not}
-use Rattle.pas_steps.proofs.{Flags.was_set, Frames.any_one, Frames.backed_holds, Parts.each_part}
+use Rattle.std.proofs.{Common.{◌<◌, not, ◌||◌, bit_and, bit_or, ◌+◌, ◌*◌, ◌≤◌, eqb-true, eq-eqb, w64}, lemmas.Bool.{false≢true, and_parts, cond_both}}
+use Rattle.std.{proofs.lemmas.{Bool.{eqb-false, or_left, or_cases, false_from_ne_true, cases_eq, Decides.nat_tests}, Nat.Bits.bit_at_ones}, specs.Int.bit_not}
+use Rattle.pas_bits.{specs.Bits.has_bit, proofs.{Words.{none_of_zero, bit_cleared, bit_of_or}, PageVectors.{page_bit-clear, page_bit-set}}}
+use Rattle.pas_profile.specs.{Directories.{number_of, deed_word_of, deed_word_numbered, IsKind}, Layouts.same_word, Profiles.{IsPage, IsDirectoryOf, IsValid}}
+use Rattle.pas_profile.{specs.declared.{profile.Profile.Profile, directory.Directory.Directory, word.Word.Word}, proofs.Codecs.deed_word_of-positive}
+use Rattle.pas_profile.proofs.Codecs.{numbered}
+use Rattle.pas_steps.specs.{Effects.{target, free_word_at, in_mask}, Allowed.{Allowed, IsStepOf, MayUnback}, Agreement.IsDeedWord, Frames.unbacks, Views.Way}
+use Rattle.pas_steps.specs.Views.{Rests, ByDeed, FromOffer, FromParked, ToOffer, ToParked, way, had_after, has_right, deed_after, known_deed, epoch_of}
+use Rattle.pas_steps.specs.{Views.{free_after, known_free, View, holds, holds_on, backed_after, knows_backed}, Lists.{Whole, part, word_after, IsNext, Legal}}
+use Rattle.pas_steps.{specs.{Lists.Triple, declared.step.Step.{Step, TheVariants.{Look, Deed, TakeRight, Offer, Park, Unpark, Take}}}, proofs.Flags.was_set}
+use Rattle.pas_steps.proofs.{Frames.{any_one, backed_holds}, Parts.each_part}
+use Rattle.pas_core.{specs.Rights.{parked_bit, eligible_bit, empty_bit, IsRightInOnePlace}, proofs.Deeds.{next_value, looked, IsKnown, known_is, word_stays}}
+use Rattle.pas_core.proofs.{Deeds.{deed_tells, look_tells, deed_at, numbered_ne, deed_words, deed_has_page, number_told}, Grains.{if_true, if_false}}
+use Rattle.pas_core.proofs.Grains.{one_holder}
 
 -- ==== The right of each page is at one spot after a legal list, and what views know of deeds is true. Each needs the other, so one induction
 -- proves both: an offer goes into the vector of the directory that its actor knows, and a set bit of that vector tells the directory.

@@ -1,12 +1,10 @@
 -- One actor alone goes on with one search for a page that serves a small request, after a list at whose end all are at rest: what the steps of the search
 -- show, and what its answer says of the words before it.
 use Rattle.std.specs.Prelude.{ℕ, ◌+◌, ◌/◌, ◌%◌, ◌<◌, ◌≡◌, ◌⊎◌, true, false, List, ◌++◌, Result, Ok, Err, None}
-use Rattle.pas_profile.specs.Profiles.{IsPage}
-use Rattle.pas_profile.specs.declared.{directory.Directory.Directory, event.NoRoom.NoRoom, event.NoRoom.TheVariants.NoSpace, event.NoRoom.TheVariants.Held}
-use Rattle.pas_profile.specs.declared.{profile.Profile.Profile}
-use Rattle.pas_steps.specs.{Desks.triples, Events.event_of, Kinds.kind_of, Kinds.is_in, Kinds.lending, Lists.Whole, Lists.part, Lists.Legal, Past.Once}
-use Rattle.pas_steps.specs.{Past.Always, Views.View, Views.holds, Views.KnowsDeed}
-use Rattle.pas_steps.specs.Evidence.{Readings, OneHere, LacksAfter, ShowsHere, Searched, AllDeeds, HeldHere}
+use Rattle.pas_profile.specs.{Profiles.IsPage, declared.{directory.Directory.Directory, event.NoRoom.{NoRoom, TheVariants.{NoSpace, Held}}}}
+use Rattle.pas_profile.specs.declared.profile.Profile.{Profile}
+use Rattle.pas_steps.specs.{Desks.triples, Events.event_of, Kinds.{kind_of, is_in, lending}, Lists.{Whole, part, Legal}, Past.{Once, Always}, Views.View}
+use Rattle.pas_steps.specs.{Views.{holds, KnowsDeed}, Evidence.{Readings, OneHere, LacksAfter, ShowsHere, Searched, AllDeeds, HeldHere}}
 use Rattle.pas_steps.specs.declared.step.{Made.Made, Step.TheVariants.Deed}
 use Rattle.pas_core.specs.Fits.{HasNoFit}
 

@@ -1,8 +1,7 @@
 -- Pages that can serve a small request, in a state. What fits is the back end's matter: it says when nothing fits among a page's free grains.
 use Rattle.std.specs.Prelude.{ℕ, ◌≡◌, true}
-use Rattle.pas_profile.specs.{Directories.number_of, Profiles.IsPage}
-use Rattle.pas_profile.specs.declared.{directory.Directory.Directory, profile.Profile.Profile, word.Word.Word}
-use Rattle.pas_steps.specs.{Evidence.Readings, Lists.Whole, Lists.word_after}
+use Rattle.pas_profile.specs.{Directories.number_of, Profiles.IsPage, declared.{directory.Directory.Directory, profile.Profile.Profile, word.Word.Word}}
+use Rattle.pas_steps.specs.{Evidence.Readings, Lists.{Whole, word_after}}
 use Rattle.pas_core.specs.Rights.{eligible_bit, free_of_page}
 
 -- the page is offered to the directory, and fits

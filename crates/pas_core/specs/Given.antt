@@ -1,7 +1,6 @@
 -- Blocks that were given.
 use Rattle.std.specs.Prelude.{◌<◌, ◌≡◌, List, Some}
-use Rattle.pas_profile.specs.declared.{name.Block.Block, event.Event.Event}
-use Rattle.pas_profile.specs.Blocks.{address_of}
+use Rattle.pas_profile.specs.{declared.{name.Block.Block, event.Event.Event}, Blocks.address_of}
 use Rattle.pas_machine.specs.State.{Live, live_in, gives_in}
 
 -- the block was given: its turn is past, and while its name lives it is this block, of this room and heap

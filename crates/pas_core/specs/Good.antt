@@ -1,11 +1,10 @@
 -- What holds after every legal list of steps.
 use Rattle.std.specs.Prelude.{◌≢◌, ◌⊎◌, ℕ, ◌+◌, ◌*◌, ◌/◌, ◌%◌, ◌^◌, ◌<◌, ◌≤◌, ◌≡◌, ◌==◌, Bool, true, false, ◌&&◌, Option, Some, None}
-use Rattle.pas_profile.specs.declared.{directory.Directory.Directory, profile.Profile.Profile, word.Word.Word}
+use Rattle.pas_profile.specs.{declared.{directory.Directory.Directory, profile.Profile.Profile, word.Word.Word}, Directories.deed_word_of, Lives.live_word}
+use Rattle.pas_profile.specs.{Lives.{is_live, grains_of}, Blocks.{address_of, length_of}}
 use Rattle.pas_bits.specs.{Bits.has_bit, Runs.in_run}
-use Rattle.pas_profile.specs.{Directories.deed_word_of, Lives.live_word, Lives.is_live, Lives.grains_of, Blocks.address_of, Blocks.length_of}
 use Rattle.pas_machine.specs.State.{Live, deed_in, backed_in, live_in, gives_in, ends_in}
-use Rattle.pas_steps.specs.{Effects.free_word_at, Effects.life_word_at, Views.holds}
-use Rattle.pas_steps.specs.Lists.{Whole, part, word_after, visible}
+use Rattle.pas_steps.specs.{Effects.{free_word_at, life_word_at}, Views.holds, Lists.{Whole, part, word_after, visible}}
 
 -- ---- where a grain is
 pub data Place : Type 0 where

@@ -2,7 +2,7 @@
 use Rattle.std.specs.Prelude.{ℕ, ◌/◌, ◌%◌, ◌≡◌, ◌⊎◌, true}
 use Rattle.pas_bits.specs.Bits.{has_bit}
 use Rattle.pas_profile.specs.declared.word.Word.{Word}
-use Rattle.pas_steps.specs.{Effects.free_word_at, Views.owes_hint, Views.examines, Lists.Whole, Lists.part, Lists.word_after}
+use Rattle.pas_steps.specs.{Effects.free_word_at, Views.{owes_hint, examines}, Lists.{Whole, part, word_after}}
 use Rattle.pas_core.specs.Rights.{empty_bit}
 
 -- the page is backed, and each of its 256 grains is free

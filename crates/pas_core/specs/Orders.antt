@@ -1,8 +1,7 @@
 -- One order of what several actors did, each by itself.
 use Rattle.std.specs.Prelude.{ℕ, ◌≡◌, ◌≢◌, ◌==◌, Bool, if◌then◌else◌, [], ◌∷◌}
 use Rattle.pas_profile.specs.declared.profile.Profile.{Profile}
-use Rattle.pas_steps.specs.{Views.View, Lists.Whole, Lists.Legal, Lists.part, Desks.triple}
-use Rattle.pas_steps.specs.declared.step.Made.{Made}
+use Rattle.pas_steps.specs.{Views.View, Lists.{Whole, Legal, part}, Desks.triple, declared.step.Made.Made}
 
 -- the part of each actor is that actor's own list
 abbrev pub IsOneOrder : Whole → (ℕ → View) → Type 0

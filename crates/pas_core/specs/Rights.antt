@@ -1,10 +1,9 @@
 -- Where the right of each page is.
 use Rattle.std.specs.Prelude.{ℕ, ◌+◌, ◌*◌, ◌/◌, ◌%◌, ◌<◌, ◌≤◌, ◌≡◌, ◌≢◌, ◌==◌, ◌⊎◌, Bool, true, false}
 use Rattle.pas_bits.specs.Bits.{has_bit}
-use Rattle.pas_profile.specs.{Directories.number_of, Directories.deed_word_of, Directories.directory_read, Profiles.IsDirectoryOf}
-use Rattle.pas_profile.specs.declared.{profile.Profile.Profile, directory.Directory.Directory, word.Word.Word}
-use Rattle.pas_steps.specs.{Views.has_right, Views.usable_by, Views.owes_check, Lists.Whole, Lists.part, Lists.word_after, Clear.IsClear, Effects.free_word_at}
-use Rattle.pas_steps.specs.{Evidence.Readings}
+use Rattle.pas_profile.specs.{Directories.{number_of, deed_word_of, directory_read}, Profiles.IsDirectoryOf, declared.profile.Profile.Profile}
+use Rattle.pas_profile.specs.declared.{directory.Directory.Directory, word.Word.Word}
+use Rattle.pas_steps.specs.{Views.{has_right, usable_by, owes_check}, Lists.{Whole, part, word_after}, Clear.IsClear, Effects.free_word_at, Evidence.Readings}
 
 -- the bit of the page in the parked vector, in the empty vector, and in the eligible vector of the directory of this number
 abbrev pub parked_bit : Whole → ℕ → Bool

@@ -1,10 +1,9 @@
 -- The ends of blocks on a page, and its stamp.
 use Rattle.std.specs.Prelude.{ℕ, ◌≤◌, ◌≡◌, ◌⊎◌, true, false, List, [], ◌∷◌, ◌++◌}
-use Rattle.pas_profile.specs.declared.{event.Event.Event, word.Word.Word}
-use Rattle.pas_profile.specs.Blocks.{address_of}
+use Rattle.pas_profile.specs.{declared.{event.Event.Event, word.Word.Word}, Blocks.address_of}
 use Rattle.pas_machine.specs.State.{live_in, touches}
-use Rattle.pas_steps.specs.{Views.View, Views.is_unstamped, Views.epoch_of, Lists.Whole, Lists.part, Lists.word_after}
-use Rattle.pas_steps.specs.declared.step.{Step.Step, Made.Made, Step.TheVariants.Look, Step.TheVariants.Stamp, Step.TheVariants.Tick}
+use Rattle.pas_steps.specs.{Views.{View, is_unstamped, epoch_of}, Lists.{Whole, part, word_after}, declared.step.Step.{Step, TheVariants.{Look, Stamp, Tick}}}
+use Rattle.pas_steps.specs.declared.step.Made.{Made}
 
 -- if the event, after these, is an end of a block that touches the page, its actor and its epoch are so
 abbrev pub IsSoAtEnd : (ℕ → ℕ → Type 0) → Event → List Event → ℕ → Type 0

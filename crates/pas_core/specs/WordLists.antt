@@ -1,7 +1,6 @@
 -- Words that a region keeps in a row, each at its place.
 use Rattle.std.specs.Prelude.{◌≡◌, ℕ, List, length, slice_index}
-use Rattle.pas_profile.specs.{Layouts.index_of, Layouts.words_of, Profiles.IsWordOf}
-use Rattle.pas_profile.specs.declared.{profile.Profile.Profile, word.Word.Word}
+use Rattle.pas_profile.specs.{Layouts.{index_of, words_of}, Profiles.IsWordOf, declared.{profile.Profile.Profile, word.Word.Word}}
 use Rattle.pas_steps.specs.Lists.{Whole, word_after}
 
 -- each word of the profile is at its place, and has its value after the list

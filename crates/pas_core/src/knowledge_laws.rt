@@ -1,12 +1,10 @@
 //! What an actor may rely on after every legal list of steps, whoever made them. Each law is the contract of an empty function.
 ghost use Rattle.std.specs.Prelude.{ℕ, ◌≡◌, ◌≢◌, ◌≤◌, ◌/◌, ◌%◌, true, Some};
 ghost use Rattle.pas_bits.specs.Bits.{has_bit};
-ghost use Rattle.pas_profile.specs.Profiles.{IsValid};
-ghost use Rattle.pas_profile.specs.declared.profile.Profile.{Profile};
+ghost use Rattle.pas_profile.specs.{Profiles.IsValid, declared.profile.Profile.Profile};
 ghost use Rattle.pas_profile.specs.declared.word.Word.TheVariants as Word;
-ghost use Rattle.pas_steps.specs.{Effects.free_word_at, Effects.life_word_at, Agreement.Agrees};
-ghost use Rattle.pas_steps.specs.Views.{has_right, known_deed, known_free, knows_backed, known_life, known_stamp, epoch_of};
-ghost use Rattle.pas_steps.specs.Lists.{Triple, Whole, part, word_after, IsNext, Legal};
+ghost use Rattle.pas_steps.specs.{Effects.{free_word_at, life_word_at}, Agreement.Agrees, Views.{has_right, known_deed, known_free, knows_backed, known_life}};
+ghost use Rattle.pas_steps.specs.{Views.{known_stamp, epoch_of}, Lists.{Triple, Whole, part, word_after, IsNext, Legal}};
 
 /// The answer of a step that may come next agrees with what its actor holds, has, knows and did: a word that is known is read again, a
 /// grain that is held isn't free and no block lives at it, a page whose right the actor has is neither offered nor parked, and a page

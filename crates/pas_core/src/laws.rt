@@ -1,18 +1,14 @@
 //! What holds after every legal list of steps, whoever made them. Each law is the contract of an empty function.
 ghost use Rattle.std.specs.Prelude.{ℕ, ◌<◌, ◌≤◌, ◌≡◌, ◌≢◌, ◌/◌, true, false, List, ◌∷◌, ◌++◌, length, ◌⊎◌, []};
-ghost use Rattle.pas_profile.specs.Profiles.{IsValid, IsPage};
-ghost use Rattle.pas_profile.specs.declared.{profile.Profile.Profile, name.Block.Block, event.Event.Event};
+ghost use Rattle.pas_profile.specs.{Profiles.{IsValid, IsPage}, declared.{profile.Profile.Profile, name.Block.Block, event.Event.Event}};
 ghost use Rattle.pas_profile.specs.declared.event.Event.TheVariants as Event;
-ghost use Rattle.pas_machine.specs.{Machine.Admits, Machine.Run, Laws.AreApart, Laws.AreBorne, State.gives_in, State.epoch_in};
+ghost use Rattle.pas_machine.specs.{Machine.{Admits, Run}, Laws.{AreApart, AreBorne}, State.{gives_in, epoch_in}};
 ghost use Rattle.pas_profile.specs.declared.word.Word.TheVariants as Word;
-ghost use Rattle.pas_steps.specs.{Allowed.HoldsOn, Events.events_of, Desks.triples};
-ghost use Rattle.pas_steps.specs.Views.{View, holds, has_right, is_unstamped, given_count};
-ghost use Rattle.pas_steps.specs.Lists.{Whole, Legal, part, visible, word_after};
-ghost use Rattle.pas_core.specs.{Good.AgreesWithWords, Good.IsInOnePlace, Good.IsPlacedOnce, Given.WasGiven, Stamps.EachEnd, Stamps.IsStampedOr};
-ghost use Rattle.pas_core.specs.{Stamps.AllKeepToEnds, Hints.IsEmptyBacked, Hints.IsMinded};
-ghost use Rattle.pas_core.specs.Rights.{parked_bit, empty_bit, eligible_bit, IsRightInOnePlace, IsRightOffered, IsUsableFree, IsOwed, IsRightParked};
-ghost use Rattle.pas_core.specs.Rights.{NobodyHasRight, NobodyOwes, AllClear};
-ghost use Rattle.pas_steps.specs.declared.step.Made.{Made};
+ghost use Rattle.pas_steps.specs.{Allowed.HoldsOn, Events.events_of, Desks.triples, Views.{View, holds, has_right, is_unstamped, given_count}, Lists.Whole};
+ghost use Rattle.pas_steps.specs.{Lists.{Legal, part, visible, word_after}, declared.step.Made.Made};
+ghost use Rattle.pas_core.specs.{Good.{AgreesWithWords, IsInOnePlace, IsPlacedOnce}, Given.WasGiven, Stamps.{EachEnd, IsStampedOr, AllKeepToEnds}};
+ghost use Rattle.pas_core.specs.{Hints.{IsEmptyBacked, IsMinded}, Rights.{parked_bit, empty_bit, eligible_bit, IsRightInOnePlace, IsRightOffered}};
+ghost use Rattle.pas_core.specs.Rights.{IsUsableFree, IsOwed, IsRightParked, NobodyHasRight, NobodyOwes, AllClear};
 
 pub use crate::knowledge_laws::{answers_agree, known_is_true, one_right, untouched};
 pub use crate::lone_laws::{Fitting, a_lone_search_finds_what_there_is};

@@ -1,10 +1,8 @@
 //! What a search finds where nobody else is at work. The law is the contract of an empty function.
 ghost use Rattle.std.specs.Prelude.{ℕ, List, Result};
-ghost use Rattle.pas_profile.specs.Profiles.{IsValid, IsDirectoryOf};
-ghost use Rattle.pas_profile.specs.declared.{directory.Directory.Directory, event.NoRoom.NoRoom, profile.Profile.Profile};
-ghost use Rattle.pas_steps.specs.{Evidence.IsAntitone, Lists.Whole};
-ghost use Rattle.pas_steps.specs.declared.step.Made.{Made};
-ghost use Rattle.pas_core.specs.{Alone.SearchesAlone, Alone.IsPlainAnswer, Rights.AllRest};
+ghost use Rattle.pas_profile.specs.{Profiles.{IsValid, IsDirectoryOf}, declared.{directory.Directory.Directory, event.NoRoom.NoRoom, profile.Profile.Profile}};
+ghost use Rattle.pas_steps.specs.{Evidence.IsAntitone, Lists.Whole, declared.step.Made.Made};
+ghost use Rattle.pas_core.specs.{Alone.{SearchesAlone, IsPlainAnswer}, Rights.AllRest};
 
 /// What a request asks of a page. A back end says so of its requests.
 pub trait Fitting {

@@ -1,11 +1,9 @@
 //! What one more step does to one order of the actors' lists, and to words in a row. Each law is the contract of an empty function.
 ghost use Rattle.std.specs.Prelude.{ℕ, ◌≡◌, List, ◌∷◌, slice_index, slice_set};
-ghost use Rattle.pas_profile.specs.{Layouts.index_of, Profiles.IsWordOf};
-ghost use Rattle.pas_profile.specs.declared.profile.Profile.{Profile};
-ghost use Rattle.pas_steps.specs.{Effects.target, Effects.new_value, Views.View, Views.epoch_of, Desks.made, Desks.triple};
-ghost use Rattle.pas_steps.specs.Lists.{Whole, part, IsNext, Legal};
+ghost use Rattle.pas_profile.specs.{Layouts.index_of, Profiles.IsWordOf, declared.profile.Profile.Profile};
+ghost use Rattle.pas_steps.specs.{Effects.{target, new_value}, Views.{View, epoch_of}, Desks.{made, triple}, Lists.{Whole, part, IsNext, Legal}};
 ghost use Rattle.pas_steps.specs.declared.step.{Step.Step, Made.Made};
-ghost use Rattle.pas_core.specs.{Orders.IsOneOrder, Orders.with_step, Orders.ExtendsOnePart, WordLists.AreWordsAfter};
+ghost use Rattle.pas_core.specs.{Orders.{IsOneOrder, with_step, ExtendsOnePart}, WordLists.AreWordsAfter};
 
 /// A step that may come next at the end of a legal list gives a legal list, in which just its actor's part has the step. So where each
 /// actor keeps its own list, one order of all of them stays one when one actor goes on.

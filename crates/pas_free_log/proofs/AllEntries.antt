@@ -1,22 +1,17 @@
 -- What a flush does for all entries of a log.
 use Rattle.std.proofs.Common.{◌≡◌, ℕ, [], List, ◌∷◌, ◌++◌, refl, ap, sym, ◌∙◌, append_assoc, ◌+◌, ◌-◌, ◌/◌, ◌≤◌, ◌==◌, Some, arith, suc, ◌*◌, ◌<◌, subst, Bool}
-use Rattle.std.proofs.Common.{append-nil, length, length-append, zero, take, get_or, map, reverse}
-use Rattle.std.proofs.lemmas.List.{length-map, length-reverse, flat_map_more, reverse-append, take_more, reverse-reverse}
-use Rattle.std.proofs.lemmas.List.Elements.{All-append, All-take}
-use Rattle.pas_steps.specs.declared.step.{Made.Made, Step.TheVariants.Stamp, Step.TheVariants.Look}
-use Rattle.pas_steps.specs.{Kinds.Only, Views.View, Views.epoch_of, Views.known_epoch, Allowed.IsEpochKnown, Clear.IsClear, Calls.nothing, Calls.Does}
-use Rattle.pas_steps.specs.{Calls.Calls, Desks.Standing, Desks.made, Events.events_by}
-use Rattle.pas_steps.proofs.{Apart.only_within, Apart.only_both, Apart.epoch_same, Past.in_turn_length, Frames.events_append, Calls.still_clear}
-use Rattle.pas_free_log.specs.{Stamps.stamps_by, Stamps.pages_met, Stamps.stamps_with, Frames.ending, Frames.freeing, Returns.PageSteps, Returns.first_on}
-use Rattle.pas_free_log.specs.{Returns.count_on, Conditions.MayEnd, Endings.TriesBy, Endings.EndSteps, Noted.IsRange, Noted.AreRanges}
-use Rattle.pas_profile.specs.{Entries.entry_of, Directories.deed_word_of, Blocks.address_of, Blocks.grain_of}
-use Rattle.pas_profile.specs.declared.{word.Word.Word, name.Name.Name, entry.Entry.Entry}
+use Rattle.std.proofs.{Common.{append-nil, length, length-append, zero, take, get_or, map, reverse}, lemmas.List.{length-map, length-reverse, flat_map_more}}
+use Rattle.std.{proofs.lemmas.List.{reverse-append, take_more, reverse-reverse, Elements.{All-append, All-take}}, specs.List.flat_map}
+use Rattle.pas_steps.specs.{declared.step.{Made.Made, Step.TheVariants.{Stamp, Look}}, Kinds.Only, Views.{View, epoch_of, known_epoch}, Allowed.IsEpochKnown}
+use Rattle.pas_steps.{specs.{Clear.IsClear, Calls.{nothing, Does, Calls}, Desks.{Standing, made}, Events.events_by}, proofs.Apart.{only_within, only_both}}
+use Rattle.pas_steps.proofs.{Apart.epoch_same, Past.in_turn_length, Frames.events_append, Calls.still_clear}
+use Rattle.pas_free_log.specs.{Stamps.{stamps_by, pages_met, stamps_with}, Frames.{ending, freeing}, Returns.{PageSteps, first_on, count_on}, Conditions.MayEnd}
+use Rattle.pas_free_log.specs.{Endings.{TriesBy, EndSteps}, Noted.{IsRange, AreRanges}, declared.ending.Outcome.{Outcome, TheVariants.{Refused, Ended}}}
+use Rattle.pas_free_log.specs.{declared.noting.EndedRun.EndedRun, Flushes.{event_for, Settled, stamps_by_outcome, stamps_for, AfterEnd, EntriesSteps}}
+use Rattle.pas_free_log.{specs.Flushes.{shown_for, noted_for, noted_after, Flushes, EndsName}, proofs.OneEntry.stamps_append}
+use Rattle.pas_profile.specs.{Entries.entry_of, Directories.deed_word_of, Blocks.{address_of, grain_of}, declared.{word.Word.Word, name.Name.Name}}
+use Rattle.pas_profile.specs.declared.entry.Entry.{Entry}
 use Rattle.pas_rights.proofs.{Orders.return_few, Puts.puts_few}
-use Rattle.pas_free_log.specs.declared.{ending.Outcome.Outcome, ending.Outcome.TheVariants.Refused, ending.Outcome.TheVariants.Ended, noting.EndedRun.EndedRun}
-use Rattle.pas_free_log.specs.Flushes.{event_for, Settled, stamps_by_outcome, stamps_for, AfterEnd, EntriesSteps, shown_for, noted_for, noted_after, Flushes}
-use Rattle.pas_free_log.specs.Flushes.{EndsName}
-use Rattle.std.specs.List.{flat_map}
-use Rattle.pas_free_log.proofs.OneEntry.{stamps_append}
 
 -- ==== How many steps it makes at most.
 

@@ -1,44 +1,30 @@
 -- What a flush does for one entry of a log.
 use Rattle.std.proofs.Common.{◌≡◌, ℕ, [], true, false, List, ◌∷◌, ◌++◌, refl, ap, sym, ◌∙◌, append_assoc, true≢false, ◌+◌, ◌-◌, ◌/◌, ◌%◌, ◌≤◌, ◌==◌}
 use Rattle.std.proofs.Common.{if◌then◌else◌, Option, Some, arith, ◌&&◌, suc, ◌*◌, ◌<◌, ◌||◌, min, inl, inr, subst, ◌≢◌, ◌^◌, None, Bool, append-nil, ne_eqb}
-use Rattle.std.proofs.Common.{eqb-true, eq-eqb, IfSome, option_to_list, length}
-use Rattle.std.proofs.lemmas.{List.map-append, Bool.Decides.nat_tests, List.Elements.All-nil}
-use Rattle.pas_steps.specs.declared.step.{Made.Made, Step.Step}
-use Rattle.pas_steps.specs.declared.step.Step.TheVariants.{Stamp, Look, End, EndSized}
-use Rattle.pas_steps.specs.Kinds.{Kinds, Stamping, kind_of, is_in, apart, Only, LookDeed, Putting, returning, Ending}
-use Rattle.pas_steps.specs.Views.{View, EndedOn, epoch_of, known_deed, known_epoch, is_unstamped, examines, holds, or_zero, ends_on, Stays, Ends, grain_move}
-use Rattle.pas_steps.specs.Views.{held_after}
-use Rattle.pas_steps.proofs.Apart.{in_apart, only_within, only_both, deeds_same, unstamped_same, examines_same, epoch_same, events_same}
-use Rattle.pas_free_log.specs.Stamps.{stamped_by, stamps_by, page_count, pages_from, pages_met, stamps_with}
+use Rattle.std.proofs.{Common.{eqb-true, eq-eqb, IfSome, option_to_list, length}, lemmas.{List.{map-append, Elements.All-nil}, Bool.Decides.nat_tests}}
 use Rattle.std.proofs.lemmas.Bool.{cases_eq, cases_Bool, eqb-false, not-true, and_parts, and_from, false≢true}
-use Rattle.pas_profile.specs.{Directories.deed_word_of, Directories.directory_read, Directories.IsKind, Profiles.IsValid, Profiles.IsDirectoryOf}
-use Rattle.pas_profile.specs.{Blocks.address_of, Blocks.grain_of, Entries.entry_of, Entries.is_sized}
-use Rattle.pas_profile.specs.declared.{directory.Directory.Directory, profile.Profile.Profile, word.Word.Word, directory.Kind.Kind, name.Name.Name}
-use Rattle.pas_profile.specs.declared.{event.Event.Event, event.Range.Range, entry.Entry.Entry}
-use Rattle.pas_bits.specs.{Runs.in_run, Runs.meets_page, Masks.is_set}
-use Rattle.pas_bits.proofs.Runs.{to_run, run_of, run_above, met_by}
-use Rattle.pas_steps.specs.{Allowed.HoldsOn, Allowed.IsEpochKnown, Allowed.IsStepOf, Frames.OnlyReturns, Effects.succeeds}
-use Rattle.pas_steps.specs.Agreement.{AgreesDeed, AgreesLife, AgreesEnd, Agrees}
-use Rattle.pas_steps.specs.Calls.{nothing, put, Does, Calls, Kept, now, Leads}
-use Rattle.pas_steps.specs.Desks.{Standing, made, Makes, CanCall, Adds, AnyView}
-use Rattle.pas_steps.proofs.{Adding.adds_none, Adding.adds_step, Adding.adds_under, Called.call_then, ReadDeeds.directory_told, Past.once_later}
-use Rattle.pas_steps.proofs.Calls.{does_after_nothing, does_idly, returns_are, does_none, unexamined_over, leads_idly, nothing_then, end_fails, does_step}
-use Rattle.pas_steps.proofs.Calls.{end_effect, EndsBlock, end_succeeds, leads_as, leads_then, end_later, ends_back}
-use Rattle.pas_steps.proofs.Sets.{put_freed, put_as, freed_both, freed_nothing}
-use Rattle.pas_rights.specs.{Returns.Returned, Puts.masked, Puts.MayPut, Puts.PutsMask}
-use Rattle.pas_rights.proofs.Orders.{settled_clear, same_page, ends}
-use Rattle.pas_free_log.specs.Frames.{putting_back, run_freed, PutsBack, ending}
-use Rattle.pas_free_log.specs.Returns.{MayReturn, ReturnsPage, PageSteps, PagesSteps, first_on, count_on, ReturnsRun}
-use Rattle.pas_bits.specs.declared.mask.Mask4.{Mask4}
-use Rattle.pas_free_log.specs.Conditions.{IsRun, IsRunOnPage, IsNameOf, IsEntryOf, KnowsEpoch, MayEnd}
-use Rattle.pas_profile.specs.Lives.{live_word, is_live, turn_of, grains_of}
-use Rattle.pas_profile.proofs.{Sizes.class_grains_positive, Sizes.class_grains_le, Codecs.read_is, Codecs.is_live-live_word, Codecs.turn_of-live_word}
-use Rattle.pas_free_log.specs.Endings.{guess_by, guess_by_kind, is_of, Tries, TriesBy, IsRefusedBy, last_step, IsEndOf, IsOfRegion, EndsOne, reason_by}
-use Rattle.pas_free_log.specs.Endings.{reason_for}
-use Rattle.pas_free_log.specs.declared.{ending.Outcome.Outcome, ending.Outcome.TheVariants.Refused, ending.Outcome.TheVariants.Ended, noting.EndedRun.EndedRun}
-use Rattle.pas_free_log.specs.Flushes.{EndsEntry}
-use Rattle.pas_steps.specs.Events.{events_by, with_event, end_event, reason_of, event_of, sized_reason}
-use Rattle.pas_free_log.specs.Noted.{IsRange, AreRanges, range_of, run_of_kind, run_in, large_run}
+use Rattle.pas_steps.specs.{declared.step.{Made.Made, Step.{Step, TheVariants.{Stamp, Look, End, EndSized}}}, Kinds.{Kinds, Stamping, kind_of, is_in, apart}}
+use Rattle.pas_steps.specs.{Kinds.{Only, LookDeed, Putting, returning, Ending}, Views.{View, EndedOn, epoch_of, known_deed, known_epoch, is_unstamped}}
+use Rattle.pas_steps.specs.{Views.{examines, holds, or_zero, ends_on, Stays, Ends, grain_move, held_after}, Allowed.{HoldsOn, IsEpochKnown, IsStepOf}}
+use Rattle.pas_steps.specs.{Frames.OnlyReturns, Effects.succeeds, Agreement.{AgreesDeed, AgreesLife, AgreesEnd, Agrees}, Calls.{nothing, put, Does, Calls}}
+use Rattle.pas_steps.specs.{Calls.{Kept, now, Leads}, Desks.{Standing, made, Makes, CanCall, Adds, AnyView}, Events.{events_by, with_event, end_event}}
+use Rattle.pas_steps.{specs.Events.{reason_of, event_of, sized_reason}, proofs.Apart.{in_apart, only_within, only_both, deeds_same, unstamped_same}}
+use Rattle.pas_steps.proofs.{Apart.{examines_same, epoch_same, events_same}, Adding.{adds_none, adds_step, adds_under}, Called.call_then}
+use Rattle.pas_steps.proofs.{ReadDeeds.directory_told, Past.once_later, Calls.{does_after_nothing, does_idly, returns_are, does_none, unexamined_over}}
+use Rattle.pas_steps.proofs.Calls.{leads_idly, nothing_then, end_fails, does_step, end_effect, EndsBlock, end_succeeds, leads_as, leads_then, end_later}
+use Rattle.pas_steps.proofs.{Calls.ends_back, Sets.{put_freed, put_as, freed_both, freed_nothing}}
+use Rattle.pas_free_log.specs.{Stamps.{stamped_by, stamps_by, page_count, pages_from, pages_met, stamps_with}, Frames.{putting_back, run_freed, PutsBack}}
+use Rattle.pas_free_log.specs.{Frames.ending, Returns.{MayReturn, ReturnsPage, PageSteps, PagesSteps, first_on, count_on, ReturnsRun}, Conditions.IsRun}
+use Rattle.pas_free_log.specs.{Conditions.{IsRunOnPage, IsNameOf, IsEntryOf, KnowsEpoch, MayEnd}, Endings.{guess_by, guess_by_kind, is_of, Tries, TriesBy}}
+use Rattle.pas_free_log.specs.{Endings.{IsRefusedBy, last_step, IsEndOf, IsOfRegion, EndsOne, reason_by, reason_for}, declared.ending.Outcome.Outcome}
+use Rattle.pas_free_log.specs.{declared.{ending.Outcome.TheVariants.{Refused, Ended}, noting.EndedRun.EndedRun}, Flushes.EndsEntry, Noted.{IsRange, AreRanges}}
+use Rattle.pas_free_log.specs.Noted.{range_of, run_of_kind, run_in, large_run}
+use Rattle.pas_profile.specs.{Directories.{deed_word_of, directory_read, IsKind}, Profiles.{IsValid, IsDirectoryOf}, Blocks.{address_of, grain_of}}
+use Rattle.pas_profile.specs.{Entries.{entry_of, is_sized}, declared.{directory.{Directory.Directory, Kind.Kind}, profile.Profile.Profile, word.Word.Word}}
+use Rattle.pas_profile.specs.{declared.{name.Name.Name, event.{Event.Event, Range.Range}, entry.Entry.Entry}, Lives.{live_word, is_live, turn_of, grains_of}}
+use Rattle.pas_profile.proofs.{Sizes.{class_grains_positive, class_grains_le}, Codecs.{read_is, is_live-live_word, turn_of-live_word}}
+use Rattle.pas_bits.{specs.{Runs.{in_run, meets_page}, Masks.is_set, declared.mask.Mask4.Mask4}, proofs.Runs.{to_run, run_of, run_above, met_by}}
+use Rattle.pas_rights.{specs.{Returns.Returned, Puts.{masked, MayPut, PutsMask}}, proofs.Orders.{settled_clear, same_page, ends}}
 
 -- ==== The stamps of two calls, and steps that stamp no page.
 

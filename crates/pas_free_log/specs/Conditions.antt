@@ -1,8 +1,7 @@
 -- What the calls of this crate ask.
 use Rattle.std.specs.Prelude.{ℕ, ◌+◌, ◌-◌, ◌*◌, ◌/◌, ◌%◌, ◌^◌, ◌<◌, ◌≤◌, ◌≡◌, false}
-use Rattle.pas_profile.specs.{Profiles.IsPage, Blocks.address_of}
-use Rattle.pas_profile.specs.declared.{profile.Profile.Profile, name.Name.Name, entry.Entry.Entry}
-use Rattle.pas_steps.specs.{Views.View, Views.known_epoch, Views.examines, Allowed.IsEpochKnown}
+use Rattle.pas_profile.specs.{Profiles.IsPage, Blocks.address_of, declared.{profile.Profile.Profile, name.Name.Name, entry.Entry.Entry}}
+use Rattle.pas_steps.specs.{Views.{View, known_epoch, examines}, Allowed.IsEpochKnown}
 
 -- The end of this name may be tried: its address is a multiple of 16 on a page of the region, and its turn has a next one.
 pub record IsNameOf (f : Profile) (name : Name) : Type 0 where

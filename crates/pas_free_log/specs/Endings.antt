@@ -1,13 +1,11 @@
 -- The end of one name.
 use Rattle.std.specs.Prelude.{ℕ, ◌/◌, ◌≡◌, ◌≢◌, ◌==◌, Bool, true, false, ◌&&◌, ◌⊎◌, List, [], ◌∷◌, ◌++◌, Option, Some, None}
-use Rattle.pas_profile.specs.{Classes.class_grains, Directories.directory_read, Blocks.address_of, Blocks.grain_of, Entries.is_sized}
-use Rattle.pas_profile.specs.Lives.{live_word, is_live, turn_of, grains_of}
-use Rattle.pas_profile.specs.declared.{profile.Profile.Profile, directory.Directory.Directory, directory.Kind.Kind, name.Name.Name, word.Word.Word}
-use Rattle.pas_profile.specs.declared.{event.Why.Why, entry.Entry.Entry}
-use Rattle.pas_steps.specs.{Desks.Standing, Desks.Adds, Desks.made, Events.reason_of, Events.sized_reason}
-use Rattle.pas_steps.specs.declared.step.{Made.Made, Step.Step, Step.TheVariants.Look, Step.TheVariants.End, Step.TheVariants.EndSized}
-use Rattle.pas_free_log.specs.Conditions.{KnowsEpoch, IsRun}
-use Rattle.pas_free_log.specs.declared.ending.Outcome.{Outcome, TheVariants.Ended, TheVariants.Refused}
+use Rattle.pas_profile.specs.{Classes.class_grains, Directories.directory_read, Blocks.{address_of, grain_of}, Entries.is_sized, Lives.{live_word, is_live}}
+use Rattle.pas_profile.specs.{Lives.{turn_of, grains_of}, declared.{profile.Profile.Profile, directory.{Directory.Directory, Kind.Kind}, name.Name.Name}}
+use Rattle.pas_profile.specs.declared.{word.Word.Word, event.Why.Why, entry.Entry.Entry}
+use Rattle.pas_steps.specs.{Desks.{Standing, Adds, made}, Events.{reason_of, sized_reason}, declared.step.{Made.Made, Step.{Step, TheVariants.{Look, End}}}}
+use Rattle.pas_steps.specs.declared.step.Step.TheVariants.{EndSized}
+use Rattle.pas_free_log.specs.{Conditions.{KnowsEpoch, IsRun}, declared.ending.Outcome.{Outcome, TheVariants.{Ended, Refused}}}
 
 -- ---- guesses
 -- the length of a block that begins on a page of this kind: that of the class, and 1 where blocks differ

@@ -1,14 +1,12 @@
 -- The flush of a log.
-use Rattle.std.specs.Prelude.{ℕ, ◌+◌, ◌-◌, ◌*◌, ◌≤◌, ◌≡◌, List, [], ◌∷◌, ◌++◌, length, map, reverse, take, Option, Some, option_to_list}
-use Rattle.std.specs.List.{flat_map}
-use Rattle.pas_profile.specs.{Directories.directory_read, Blocks.grain_of, Entries.entry_of}
-use Rattle.pas_profile.specs.declared.{directory.Directory.Directory, name.Name.Name, word.Word.Word, event.Event.Event, entry.Entry.Entry}
-use Rattle.pas_steps.specs.{Views.View, Views.known_epoch, Views.epoch_of, Events.events_by, Calls.nothing, Calls.Does, Calls.Calls, Kinds.Only, Desks.Standing}
-use Rattle.pas_steps.specs.{Desks.made, InTurn.InTurn, Clear.IsClear}
-use Rattle.pas_steps.specs.declared.step.{Made.Made, Step.TheVariants.Look}
-use Rattle.pas_free_log.specs.{Conditions.MayEnd, Stamps.stamps_by, Stamps.pages_met, Stamps.stamps_with, Frames.ending, Frames.freeing, Endings.reason_for}
-use Rattle.pas_free_log.specs.{Endings.EndSteps, Returns.RunSteps, Noted.AreRanges, Noted.noted_by}
-use Rattle.pas_free_log.specs.declared.{noting.EndedRun.EndedRun, ending.Outcome.Outcome, ending.Outcome.TheVariants.Ended, ending.Outcome.TheVariants.Refused}
+use Rattle.std.specs.{Prelude.{ℕ, ◌+◌, ◌-◌, ◌*◌, ◌≤◌, ◌≡◌, List, [], ◌∷◌, ◌++◌, length, map, reverse, take, Option, Some, option_to_list}, List.flat_map}
+use Rattle.pas_profile.specs.{Directories.directory_read, Blocks.grain_of, Entries.entry_of, declared.{directory.Directory.Directory, name.Name.Name}}
+use Rattle.pas_profile.specs.declared.{word.Word.Word, event.Event.Event, entry.Entry.Entry}
+use Rattle.pas_steps.specs.{Views.{View, known_epoch, epoch_of}, Events.events_by, Calls.{nothing, Does, Calls}, Kinds.Only, Desks.{Standing, made}}
+use Rattle.pas_steps.specs.{InTurn.InTurn, Clear.IsClear, declared.step.{Made.Made, Step.TheVariants.Look}}
+use Rattle.pas_free_log.specs.{Conditions.MayEnd, Stamps.{stamps_by, pages_met, stamps_with}, Frames.{ending, freeing}, Endings.{reason_for, EndSteps}}
+use Rattle.pas_free_log.specs.{Returns.RunSteps, Noted.{AreRanges, noted_by}, declared.{noting.EndedRun.EndedRun, ending.Outcome.{Outcome, TheVariants.Ended}}}
+use Rattle.pas_free_log.specs.declared.ending.Outcome.TheVariants.{Refused}
 
 -- ---- one entry
 -- an entry, what came of the end of its name, and of which directory its page was read

@@ -1,9 +1,8 @@
 -- Kinds of steps of this crate, and what becomes of a run of grains.
 use Rattle.std.specs.Prelude.{ℕ, ◌/◌, ◌≡◌, List, ◌∷◌}
 use Rattle.pas_bits.specs.Runs.{in_run}
-use Rattle.pas_steps.specs.{Calls.Effect, Calls.freed, Views.View, Views.epoch_of}
-use Rattle.pas_steps.specs.Kinds.{Kinds, LookDeed, Putting, Ending, Stamping, Offering, Parking, Unparking, Hinting, looking, returning, Only}
-use Rattle.pas_steps.specs.declared.step.Made.{Made}
+use Rattle.pas_steps.specs.{Calls.{Effect, freed}, Views.{View, epoch_of}, Kinds.{Kinds, LookDeed, Putting, Ending, Stamping, Offering, Parking, Unparking}}
+use Rattle.pas_steps.specs.{Kinds.{Hinting, looking, returning, Only}, declared.step.Made.Made}
 use Rattle.pas_free_log.specs.Stamps.{stamps_by, page_count, pages_met, stamps_with}
 
 -- ---- kinds

@@ -1,8 +1,7 @@
 -- The runs of large blocks that ended.
 use Rattle.std.specs.Prelude.{ℕ, ◌+◌, ◌/◌, ◌%◌, ◌≤◌, ◌==◌, Bool, ◌&&◌, if◌then◌else◌, List, [], Option, Some, None, All, option_to_list}
-use Rattle.pas_profile.specs.declared.{directory.Directory.Directory, directory.Kind.Kind, event.Range.Range, name.Name.Name}
-use Rattle.pas_profile.specs.Blocks.{address_of}
-use Rattle.pas_free_log.specs.declared.{noting.EndedRun.EndedRun, ending.Outcome.Outcome, ending.Outcome.TheVariants.Ended, ending.Outcome.TheVariants.Refused}
+use Rattle.pas_profile.specs.{declared.{directory.{Directory.Directory, Kind.Kind}, event.Range.Range, name.Name.Name}, Blocks.address_of}
+use Rattle.pas_free_log.specs.declared.{noting.EndedRun.EndedRun, ending.Outcome.{Outcome, TheVariants.{Ended, Refused}}}
 
 -- some pages, which an index of pages takes
 pub record IsRange (range : Range) : Type 0 where

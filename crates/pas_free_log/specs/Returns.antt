@@ -1,14 +1,11 @@
 -- The grains of a block that ended, stamped and put back.
 use Rattle.std.specs.Prelude.{ℕ, ◌+◌, ◌-◌, ◌*◌, ◌/◌, ◌≡◌, min, max, true, false, List, [], ◌∷◌, ◌++◌}
-use Rattle.pas_profile.specs.Directories.{deed_word_of}
-use Rattle.pas_profile.specs.declared.{directory.Directory.Directory, word.Word.Word}
-use Rattle.pas_bits.specs.Runs.{in_run, meets_page}
-use Rattle.pas_steps.specs.Views.{View, holds, examines, EndedOn}
-use Rattle.pas_steps.specs.{Desks.Standing, Desks.made, Calls.Does, Calls.Calls, InTurn.InTurn}
-use Rattle.pas_steps.specs.declared.step.{Made.Made, Step.TheVariants.Look, Step.TheVariants.Stamp}
-use Rattle.pas_rights.specs.{Puts.masked, Puts.PutsBelow, Returns.ReturnSteps}
-use Rattle.pas_bits.specs.declared.mask.Mask4.{Mask4}
-use Rattle.pas_free_log.specs.{Conditions.KnowsEpoch, Stamps.page_count, Stamps.pages_from, Frames.run_freed, Frames.PutsBack}
+use Rattle.pas_profile.specs.{Directories.deed_word_of, declared.{directory.Directory.Directory, word.Word.Word}}
+use Rattle.pas_bits.specs.{Runs.{in_run, meets_page}, declared.mask.Mask4.Mask4}
+use Rattle.pas_steps.specs.{Views.{View, holds, examines, EndedOn}, Desks.{Standing, made}, Calls.{Does, Calls}, InTurn.InTurn, declared.step.Made.Made}
+use Rattle.pas_steps.specs.declared.step.Step.TheVariants.{Look, Stamp}
+use Rattle.pas_rights.specs.{Puts.{masked, PutsBelow}, Returns.ReturnSteps}
+use Rattle.pas_free_log.specs.{Conditions.KnowsEpoch, Stamps.{page_count, pages_from}, Frames.{run_freed, PutsBack}}
 
 -- ---- a page of a block that ended
 -- the actor holds the grains of the run, ended a block on each of its pages, examines none of them, and read the epoch

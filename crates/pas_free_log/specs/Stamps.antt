@@ -1,7 +1,6 @@
 -- Which pages steps stamp, and with which epoch.
 use Rattle.std.specs.Prelude.{ℕ, zero, suc, ◌+◌, ◌-◌, ◌/◌, ◌==◌, if◌then◌else◌, List, [], ◌∷◌, ◌++◌, map}
-use Rattle.pas_steps.specs.Views.{View, epoch_of}
-use Rattle.pas_steps.specs.declared.step.{Made.Made, Step.Step, Step.TheVariants.Stamp}
+use Rattle.pas_steps.specs.{Views.{View, epoch_of}, declared.step.{Made.Made, Step.{Step, TheVariants.Stamp}}}
 
 -- these stamps and the one that the step, made with this epoch, puts; no other step than a stamp puts one
 abbrev pub stamped_by : Step → ℕ → List (ℕ × ℕ) → List (ℕ × ℕ)

@@ -1,8 +1,8 @@
 //! The end of one name.
 ghost use Rattle.std.specs.Prelude.{◌≡◌, ◌≤◌, ◌↔◌, true, false, IfSome, IsTrue, MatchOption};
-ghost use Rattle.pas_profile.specs.{Lives.grains_of, Directories.IsKind, Entries.entry_of, Entries.is_sized};
+ghost use Rattle.pas_profile.specs.{Lives.grains_of, Directories.IsKind, Entries.{entry_of, is_sized}};
 ghost use Rattle.pas_steps.specs.Desks.{CanCall};
-ghost use Rattle.pas_free_log.specs.{Conditions.IsNameOf, Conditions.IsEntryOf, Conditions.KnowsEpoch, Endings.guess_by, Endings.is_of, Endings.EndsOne};
+ghost use Rattle.pas_free_log.specs.{Conditions.{IsNameOf, IsEntryOf, KnowsEpoch}, Endings.{guess_by, is_of, EndsOne}};
 
 use pas_profile::classes::class_size;
 use pas_profile::limits::{GRAIN_BYTES, PAGE_BYTES};

@@ -1,8 +1,7 @@
 //! The flush of a log.
 ghost use Rattle.std.specs.Prelude.{◌≡◌, ◌≤◌, ◌+◌, [], All, length};
-ghost use Rattle.pas_steps.specs.{Desks.CanCall, Clear.IsClear, Clear.HasNothing};
-ghost use Rattle.pas_free_log.specs.{Logs.entries_in, Conditions.IsEntryOf, Conditions.IsNameOf, Conditions.MayEnd, Flushes.EndsEntry, Flushes.Flushes};
-ghost use Rattle.pas_free_log.specs.{Flushes.EndsName};
+ghost use Rattle.pas_steps.specs.{Desks.CanCall, Clear.{IsClear, HasNothing}};
+ghost use Rattle.pas_free_log.specs.{Logs.entries_in, Conditions.{IsEntryOf, IsNameOf, MayEnd}, Flushes.{EndsEntry, Flushes, EndsName}};
 
 use crate::ending::{Outcome, end_logged};
 use crate::log::FreeLog;

@@ -1,7 +1,7 @@
 //! The grains of a block that ended, stamped and put back page by page.
 ghost use Rattle.std.specs.Prelude.{◌≡◌};
 ghost use Rattle.pas_steps.specs.Desks.{CanCall};
-ghost use Rattle.pas_free_log.specs.{Conditions.IsRun, Conditions.IsRunOnPage, Returns.MayReturn, Returns.ReturnsPage, Returns.ReturnsRun};
+ghost use Rattle.pas_free_log.specs.{Conditions.{IsRun, IsRunOnPage}, Returns.{MayReturn, ReturnsPage, ReturnsRun}};
 
 use pas_bits::Mask4;
 use pas_profile::limits::PAGE_GRAINS;

@@ -1,13 +1,12 @@
 -- Drawn requests are valid, and the checks of generated items hold.
 use Rattle.std.proofs.Common.{◌≡◌, ℕ, zero, suc, ◌+◌, ◌*◌, ◌/◌, ◌^◌, ◌<◌, ◌≤◌, ◌⊎◌, inl, inr, Bool, true, false, cond, nat_eq, nat_lt, refl, arith, lit<, ◌==◌}
-use Rattle.std.proofs.Common.{nat_le, not, ◌||◌, if◌then◌else◌, List, [], ◌∷◌, length, None, Some, ap, ◌∙◌, le-leb, lt-ltb}
-use Rattle.std.proofs.{Math.Nat.mod-lt, Math.Nat.mul-le-mul, lemmas.Bool.and_from, lemmas.Bool.cases_lt}
-use Rattle.pas_generate.specs.{Draws.drawn, Draws.draw, Draws.moved_by, Requests.IsValid, Requests.lot, Requests.request_from, Traces.IsJob, Meant.region}
+use Rattle.std.proofs.{Common.{nat_le, not, ◌||◌, if◌then◌else◌, List, [], ◌∷◌, length, None, Some, ap, ◌∙◌, le-leb, lt-ltb}, Math.Nat.{mod-lt, mul-le-mul}}
+use Rattle.std.proofs.lemmas.Bool.{and_from, cases_lt}
+use Rattle.pas_generate.specs.{Draws.{drawn, draw, moved_by}, Requests.{IsValid, lot, request_from}, Traces.IsJob, Meant.region}
 use Rattle.pas_trace.specs.Reasons.{first_failed, is_thread, is_alignment, is_named, is_named_now, thread_of, operations_in, guard_after, guard_in}
-use Rattle.pas_trace.specs.Reasons.{cost_of_size, cost_of, costs_of, record_bound, few_enough, reason_of}
-use Rattle.pas_trace.specs.declared.{fault.Reason.Reason, item.Item.Item, item.Item.TheVariants.Operates, item.Item.TheVariants.Scavenges}
-use Rattle.pas_trace.specs.declared.{item.Wish.TheVariants.Asks, item.Wish.TheVariants.Frees, plan.Chore.Chore}
-use Rattle.pas_trace.proofs.{Costs.small_cost, Costs.large_cost, PassedChecks.AreHeld}
+use Rattle.pas_trace.specs.{Reasons.{cost_of_size, cost_of, costs_of, record_bound, few_enough, reason_of}, declared.{fault.Reason.Reason, item.Item.Item}}
+use Rattle.pas_trace.{specs.declared.{item.{Item.TheVariants.{Operates, Scavenges}, Wish.TheVariants.{Asks, Frees}}, plan.Chore.Chore}, proofs.Costs.small_cost}
+use Rattle.pas_trace.proofs.{Costs.large_cost, PassedChecks.AreHeld}
 
 -- ==== Drawn requests are valid.
 

@@ -1,10 +1,8 @@
 -- The decimal of a number is read as the number.
 use Rattle.std.proofs.Common.{◌≡◌, ℕ, ◌+◌, ◌/◌, ◌%◌, ◌^◌, ◌<◌, ◌≤◌, nat_lt, nat_le, Bool, true, if◌then◌else◌, List, [], ◌∷◌, ◌++◌, length, get_or, None, Some}
-use Rattle.std.proofs.Common.{ap, ◌∙◌, arith, length-append, le-leb, lt-ltb}
-use Rattle.std.specs.Fmt.{decimal}
-use Rattle.std.proofs.lemmas.{Bool.and_from, Bool.and_parts, Fmt.decimal_by_steps, Fmt.decimal_digit, Fmt.first_decimal}
-use Rattle.pas_trace.specs.Numbers.{is_digit, all_digits, value_from, is_decimal, number_of}
-use Rattle.pas_trace.proofs.Digits.{digits-add, value-add}
+use Rattle.std.proofs.{Common.{ap, ◌∙◌, arith, length-append, le-leb, lt-ltb}, lemmas.{Bool.{and_from, and_parts}, Fmt.{decimal_by_steps, decimal_digit}}}
+use Rattle.std.{proofs.lemmas.Fmt.first_decimal, specs.Fmt.decimal}
+use Rattle.pas_trace.{specs.Numbers.{is_digit, all_digits, value_from, is_decimal, number_of}, proofs.Digits.{digits-add, value-add}}
 
 digit-is : (d : ℕ) → d < 10 → is_digit (48 + d) ≡ true
 digit-is d small = and_from (nat_le 48 (48 + d)) (nat_le (48 + d) 57) (le-leb 48 (48 + d) (omega arith)) (le-leb (48 + d) 57 (omega arith))

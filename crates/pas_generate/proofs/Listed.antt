@@ -1,11 +1,9 @@
 -- The allocations that no line has freed, against the items so far.
 use Rattle.std.proofs.Common.{◌≡◌, ◌≢◌, ℕ, ◌+◌, ◌-◌, ◌<◌, ◌≤◌, ◌==◌, nat_eq, Bool, true, false, not, ◌||◌, if◌then◌else◌, List, [], ◌∷◌, ◌++◌, length, set}
-use Rattle.std.proofs.Common.{get_or, All, swap_remove, arith, eq-eqb, ne_eqb}
-use Rattle.std.proofs.lemmas.Bool.{cases_eq, false_from_ne_true}
-use Rattle.std.proofs.lemmas.List.Elements.{All-push, All-take, All-set, All-get_or, All-weaker}
-use Rattle.pas_trace.specs.Wishes.{name_made, is_name}
-use Rattle.pas_trace.specs.Reasons.{makes, is_phase, is_named, is_named_now, thread_of}
-use Rattle.pas_trace.specs.declared.item.{Item.Item, Item.TheVariants.NextPhase, Item.TheVariants.Operates, Wish.Wish}
+use Rattle.std.proofs.{Common.{get_or, All, swap_remove, arith, eq-eqb, ne_eqb}, lemmas.{Bool.{cases_eq, false_from_ne_true}, List.Elements.All-push}}
+use Rattle.std.proofs.lemmas.List.Elements.{All-take, All-set, All-get_or, All-weaker}
+use Rattle.pas_trace.specs.{Wishes.{name_made, is_name}, Reasons.{makes, is_phase, is_named, is_named_now, thread_of}, declared.item.Item.Item}
+use Rattle.pas_trace.specs.declared.item.{Item.TheVariants.{NextPhase, Operates}, Wish.Wish}
 
 -- The name was asked for before the next one, by the thread; and if in the present phase, then at this one.
 pub record IsListed (threads phase next : ℕ) (items : List Item) (name thread at : ℕ) : Type 0 where

@@ -1,9 +1,7 @@
 -- The operation of a number, by cases.
 use Rattle.std.proofs.Common.{arith, ◌≡◌, ℕ, ◌+◌, ◌/◌, ◌%◌, Bool, true, false, ◌||◌, nat_eq, nat_lt, length, refl, sym, ◌∙◌, ne_eqb}
-use Rattle.pas_generate.specs.Draws.{moved, moved_by, drawn}
-use Rattle.pas_generate.specs.Operations.{State, allocates, allocation, after_allocation, free_of, after_free, thread_of, drawn_operation, after_drawn}
-use Rattle.pas_generate.specs.Operations.{operation_at, after_operation}
-use Rattle.pas_generate.specs.declared.operation.Operation.{Operation}
+use Rattle.pas_generate.specs.{Draws.{moved, moved_by, drawn}, Operations.{State, allocates, allocation, after_allocation, free_of, after_free, thread_of}}
+use Rattle.pas_generate.specs.{Operations.{drawn_operation, after_drawn, operation_at, after_operation}, declared.operation.Operation.Operation}
 
 -- The operation before each thousandth is a tick, which leaves the state as it is.
 pub tick_at : (threads n : ℕ) (s : State) → n % 1000 ≡ 999 → (operation_at threads n s ≡ Operation.Tick (n / 1000 + 1)) × (after_operation threads n s ≡ s)

@@ -1,17 +1,12 @@
 -- What the first line and the lines of operations say, in texts that are read line by line.
 use Rattle.std.proofs.Common.{◌≡◌, ℕ, ◌^◌, ◌<◌, ◌≤◌, List, [], ◌∷◌, codes, Some, refl, arith, le-leb, Bool, ◌++◌, Ok, ap, ◌∙◌, lit<, lt-ltb, ne_eqb, ◌+◌, None}
-use Rattle.std.proofs.Common.{sym, append_assoc, append-nil}
-use Rattle.std.specs.Fmt.{decimal}
-use Rattle.std.proofs.lemmas.Bool.{and_from}
-use Rattle.pas_trace.specs.{Numbers.number_of, Texts.words_of, Texts.lines_of, Plans.items_from, Plans.parsed}
-use Rattle.pas_trace.specs.Reasons.{within, header_with, header_of_words, started, reason_of, checked, kept, line_says}
-use Rattle.pas_generate.specs.{Lines.header, Meant.heading, Lines.free_line, Lines.tick_line}
-use Rattle.pas_generate.proofs.Digits.{number-back}
-use Rattle.pas_trace.proofs.WordLines.{IsLine, Lacks, lines-until}
-use Rattle.pas_generate.proofs.Splits.{decimal-word, word-by, last-word, word-before, IsWord}
-use Rattle.pas_trace.specs.Items.{trace_name, epoch_word, item1, item2, item5, item_of_words, item_of_line}
-use Rattle.pas_trace.specs.declared.{item.Item.Item, item.Item.TheVariants.Operates, item.Item.TheVariants.Scavenges, item.Wish.TheVariants.Asks}
-use Rattle.pas_trace.specs.declared.{item.Wish.TheVariants.Frees, plan.Chore.Chore, header.Header.Header}
+use Rattle.std.{proofs.{Common.{sym, append_assoc, append-nil}, lemmas.Bool.and_from}, specs.Fmt.decimal}
+use Rattle.pas_trace.specs.{Numbers.number_of, Texts.{words_of, lines_of}, Plans.{items_from, parsed}, Reasons.{within, header_with, header_of_words, started}}
+use Rattle.pas_trace.specs.{Reasons.{reason_of, checked, kept, line_says}, Items.{trace_name, epoch_word, item1, item2, item5, item_of_words, item_of_line}}
+use Rattle.pas_trace.specs.declared.{item.{Item.{Item, TheVariants.{Operates, Scavenges}}, Wish.TheVariants.{Asks, Frees}}, plan.Chore.Chore}
+use Rattle.pas_trace.{specs.declared.header.Header.Header, proofs.WordLines.{IsLine, Lacks, lines-until}}
+use Rattle.pas_generate.{specs.{Lines.{header, free_line, tick_line}, Meant.heading}, proofs.{Digits.number-back, Splits.{decimal-word, word-by, last-word}}}
+use Rattle.pas_generate.proofs.Splits.{word-before, IsWord}
 
 -- ==== What the first line says.
 

@@ -1,10 +1,7 @@
 -- Words, and lines that are made of them.
 use Rattle.std.proofs.Common.{◌≡◌, ℕ, ◌^◌, ◌<◌, ◌==◌, ◌&&◌, not, nat_lt, Bool, true, false, List, [], ◌∷◌, ◌++◌, length, sym, ap, ◌∙◌, arith, append_assoc}
-use Rattle.std.proofs.Common.{eq-eqb, ltb-true}
-use Rattle.std.specs.Fmt.{decimal}
-use Rattle.std.proofs.lemmas.Bool.{and_parts}
-use Rattle.pas_trace.specs.Texts.{pieces, without_empty}
-use Rattle.pas_trace.proofs.WordLines.{keeps, Lacks, lacks-both, digits-lack, pieces-until, pieces-only, IsLine}
+use Rattle.std.{proofs.{Common.{eq-eqb, ltb-true}, lemmas.Bool.and_parts}, specs.Fmt.decimal}
+use Rattle.pas_trace.{specs.Texts.{pieces, without_empty}, proofs.WordLines.{keeps, Lacks, lacks-both, digits-lack, pieces-until, pieces-only, IsLine}}
 use Rattle.pas_generate.proofs.Digits.{are-digits}
 
 pub record IsWord (w : List ℕ) : Type 0 where

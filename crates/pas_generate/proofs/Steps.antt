@@ -1,25 +1,19 @@
 -- One operation more: its lines are read, what is kept between two operations holds again, and the plan is made of them.
 use Rattle.std.proofs.Common.{◌≡◌, ℕ, ◌+◌, ◌*◌, ◌^◌, ◌<◌, ◌≤◌, ◌||◌, Bool, true, false, if◌then◌else◌, List, [], ◌∷◌, ◌++◌, map, length, Option, None, Some, Ok}
-use Rattle.std.proofs.Common.{refl, ap, arith, length-append, Global, ne_eqb, ◌⊎◌, ◌/◌, ◌%◌, nat_eq, nat_lt, codes, ◌∙◌, eq-eqb}
-use Rattle.std.specs.Global.{Vec}
-use Rattle.std.proofs.{lemmas.Bool.cases_eq, lemmas.Bool.false≢true, lemmas.List.length-map, Math.Nat.mod-lt}
+use Rattle.std.proofs.{Common.{refl, ap, arith, length-append, Global, ne_eqb, ◌⊎◌, ◌/◌, ◌%◌, nat_eq, nat_lt, codes, ◌∙◌, eq-eqb}, lemmas.Bool.cases_eq}
+use Rattle.std.{proofs.{lemmas.{Bool.false≢true, List.length-map}, Math.Nat.mod-lt}, specs.Global.Vec}
 use denote.RawPtr.{null_ptr}
 use Rattle.pas_profile.specs.declared.profile.Profile.{Profile}
-use Rattle.pas_trace.specs.declared.{header.Header.Header, item.Item.Item, plan.Op.Op, plan.Phase.Phase, plan.Plan.Plan, item.Wish.TheVariants.Asks}
-use Rattle.pas_trace.specs.declared.{item.Wish.TheVariants.Frees, plan.Chore.Chore, item.Item.TheVariants.NextPhase, item.Item.TheVariants.Operates}
-use Rattle.pas_trace.specs.declared.{item.Item.TheVariants.Scavenges}
-use Rattle.pas_trace.specs.Wishes.{name_made, is_name}
-use Rattle.pas_trace.specs.Reasons.{is_named, guard_in, record_bound, operations_in, kept}
-use Rattle.pas_trace.specs.Plans.{parsed, shared_in, add_last, phases_after, phases_in, all_bounds, ops_of, IsPlanOf}
+use Rattle.pas_trace.specs.declared.{header.Header.Header, item.{Item.{Item, TheVariants.{NextPhase, Operates, Scavenges}}, Wish.TheVariants.{Asks, Frees}}}
+use Rattle.pas_trace.specs.{declared.plan.{Op.Op, Phase.Phase, Plan.Plan, Chore.Chore}, Wishes.{name_made, is_name}, Reasons.{is_named, guard_in, record_bound}}
+use Rattle.pas_trace.specs.{Reasons.{operations_in, kept}, Plans.{parsed, shared_in, add_last, phases_after, phases_in, all_bounds, ops_of, IsPlanOf}}
 use Rattle.pas_trace.proofs.EveryPlan.{bounds_count, phases_within}
-use Rattle.pas_generate.specs.{Draws.drawn, Draws.draw, Draws.moved_by, Requests.request_from, Lines.line_of, Lines.tick_line, Traces.IsJob}
-use Rattle.pas_generate.specs.Operations.{State, place, none, freed, freeing_thread, allocation, after_allocation, free_of, after_free, allocates, begun}
-use Rattle.pas_generate.specs.Operations.{thread_of, drawn_operation, after_drawn}
-use Rattle.pas_generate.proofs.Checks.{valid, Counted, request-cost, tick-fine, pass-fine, IsRequested, allocation-fine, free-fine}
-use Rattle.pas_generate.proofs.Splits.{lacks-by}
-use Rattle.pas_generate.specs.Meant.{heading, with_allocation, with_free, with_drawn}
-use Rattle.pas_generate.proofs.Says.{IsWritten, allocation-says, free-says, tick-says, Reads, reads-both, reads-line, reads-said}
-use Rattle.pas_generate.proofs.Listed.{IsListed, listed-past, listed-next, listed-new, IsFreer, freer, Each, each-left, each-more, each-weaker}
+use Rattle.pas_generate.specs.{Draws.{drawn, draw, moved_by}, Requests.request_from, Lines.{line_of, tick_line}, Traces.IsJob, Operations.{State, place, none}}
+use Rattle.pas_generate.specs.Operations.{freed, freeing_thread, allocation, after_allocation, free_of, after_free, allocates, begun, thread_of}
+use Rattle.pas_generate.{specs.{Operations.{drawn_operation, after_drawn}, Meant.{heading, with_allocation, with_free, with_drawn}}, proofs.Checks.valid}
+use Rattle.pas_generate.proofs.{Checks.{Counted, request-cost, tick-fine, pass-fine, IsRequested, allocation-fine, free-fine}, Splits.lacks-by, Says.IsWritten}
+use Rattle.pas_generate.proofs.{Says.{allocation-says, free-says, tick-says, Reads, reads-both, reads-line, reads-said}, Listed.{IsListed, listed-past}}
+use Rattle.pas_generate.proofs.Listed.{listed-next, listed-new, IsFreer, freer, Each, each-left, each-more, each-weaker}
 
 -- ==== The plan of a text that is read, made of its items.
 

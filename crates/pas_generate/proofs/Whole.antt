@@ -1,18 +1,12 @@
 -- The whole text is read, one operation after the other.
 use Rattle.std.proofs.Common.{◌≡◌, ℕ, ◌+◌, List, [], ◌++◌, add-one, append_assoc, refl, sym, ap, ◌∙◌, append-nil, ◌≢◌, zero, suc, ◌*◌, ◌/◌, ◌%◌, ◌<◌, ◌≤◌, ◌∷◌}
-use Rattle.std.proofs.Common.{length, codes, inl, inr, Ok, Err, subst, arith, ne_eqb, Global}
-use Rattle.pas_generate.specs.Operations.{State, first_state, operation_at, after_operation}
-use Rattle.pas_generate.specs.declared.operation.Operation.{Operation}
-use Rattle.pas_generate.specs.Lines.{line_of, header}
-use Rattle.pas_generate.specs.Traces.{state_after, lines_of, IsJob, trace_text}
-use Rattle.std.proofs.lemmas.{Bool.cases_eq, List.Elements.All-nil}
-use Rattle.pas_trace.specs.Plans.{parsed, IsPlanOf}
-use Rattle.pas_trace.specs.declared.{fault.TraceFault.TraceFault, plan.Plan.Plan, item.Item.Item, item.Item.TheVariants.Shares, item.Item.TheVariants.Scavenges}
-use Rattle.pas_trace.specs.declared.{item.Item.TheVariants.NextPhase, plan.Chore.Chore}
-use Rattle.pas_generate.proofs.{Operations.tick_at, Operations.pass_at, Operations.drawn_at, Splits.lacks-by, Splits.line-then}
-use Rattle.pas_generate.proofs.Says.{header_words, header-line, header-says, Reads, reads-none, reads-both, reads-line, parsed-by}
-use Rattle.pas_generate.proofs.Steps.{has-plan, Follows, Step, tick-step, pass-step, drawn-step}
-use Rattle.pas_generate.specs.Meant.{heading, with_drawn, with_operation, items_after, meant}
+use Rattle.std.proofs.{Common.{length, codes, inl, inr, Ok, Err, subst, arith, ne_eqb, Global}, lemmas.{Bool.cases_eq, List.Elements.All-nil}}
+use Rattle.pas_generate.specs.{Operations.{State, first_state, operation_at, after_operation}, declared.operation.Operation.Operation, Lines.{line_of, header}}
+use Rattle.pas_generate.specs.{Traces.{state_after, lines_of, IsJob, trace_text}, Meant.{heading, with_drawn, with_operation, items_after, meant}}
+use Rattle.pas_generate.proofs.{Operations.{tick_at, pass_at, drawn_at}, Splits.{lacks-by, line-then}, Says.{header_words, header-line, header-says, Reads}}
+use Rattle.pas_generate.proofs.{Says.{reads-none, reads-both, reads-line, parsed-by}, Steps.{has-plan, Follows, Step, tick-step, pass-step, drawn-step}}
+use Rattle.pas_trace.specs.{Plans.{parsed, IsPlanOf}, declared.{fault.TraceFault.TraceFault, plan.{Plan.Plan, Chore.Chore}, item.Item.Item}}
+use Rattle.pas_trace.specs.declared.item.Item.TheVariants.{Shares, Scavenges, NextPhase}
 
 -- ==== One operation more.
 

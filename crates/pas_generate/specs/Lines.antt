@@ -1,6 +1,5 @@
 -- The lines of a trace.
-use Rattle.std.specs.Prelude.{ℕ, ◌+◌, ◌≤◌, List, ◌++◌, codes, vec_len, vec_capacity}
-use Rattle.std.specs.{Fmt.decimal, Global.Vec}
+use Rattle.std.specs.{Prelude.{ℕ, ◌+◌, ◌≤◌, List, ◌++◌, codes, vec_len, vec_capacity}, Fmt.decimal, Global.Vec}
 use Rattle.pas_generate.specs.declared.operation.{Request.Request, Operation.Operation}
 
 -- the header, and that the last of the six heaps is shared

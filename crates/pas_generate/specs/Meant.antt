@@ -1,11 +1,9 @@
 -- What a generated trace means.
 use Rattle.std.specs.Prelude.{ℕ, zero, suc, ◌+◌, ◌/◌, ◌%◌, nat_eq, if◌then◌else◌, List, [], ◌∷◌}
 use Rattle.pas_profile.specs.declared.profile.Profile.{Profile}
-use Rattle.pas_trace.specs.declared.{header.Header.Header, item.Item.Item, item.Wish.TheVariants.Asks, item.Wish.TheVariants.Frees, plan.Chore.Chore}
-use Rattle.pas_trace.specs.declared.item.Item.TheVariants.{Shares, NextPhase, Operates, Scavenges}
-use Rattle.pas_trace.specs.Plans.{Parsed}
-use Rattle.pas_generate.specs.{Requests.request_from, Traces.state_after}
-use Rattle.pas_generate.specs.Operations.{State, allocates, begun, thread_of, freed, freeing_thread}
+use Rattle.pas_trace.specs.declared.{header.Header.Header, item.{Item.{Item, TheVariants.{Shares, NextPhase, Operates, Scavenges}}, Wish.TheVariants.Asks}}
+use Rattle.pas_trace.specs.{declared.{item.Wish.TheVariants.Frees, plan.Chore.Chore}, Plans.Parsed}
+use Rattle.pas_generate.specs.{Requests.request_from, Traces.state_after, Operations.{State, allocates, begun, thread_of, freed, freeing_thread}}
 
 -- the region: six heaps, none of them shared as yet, and an age of 2
 abbrev pub region : ℕ → ℕ → Profile

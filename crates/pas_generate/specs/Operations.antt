@@ -1,8 +1,8 @@
 -- The operations of a trace, numbered from 1.
 use Rattle.std.specs.Prelude.{ℕ, ◌+◌, ◌/◌, ◌%◌, ◌<◌, ◌≤◌, Bool, ◌||◌, nat_eq, nat_lt, if◌then◌else◌, List, [], ◌∷◌, ◌++◌, length, slice_index_or, vec_len}
 use Rattle.std.specs.List.{swap_remove}
-use Rattle.pas_generate.specs.{Draws.draw, Draws.moved_by, Requests.request_from, Requests.after_request}
-use Rattle.pas_generate.specs.declared.{operation.Allocated.Allocated, operation.Operation.Operation, generator.Generator.Generator}
+use Rattle.pas_generate.specs.{Draws.{draw, moved_by}, Requests.{request_from, after_request}, declared.operation.{Allocated.Allocated, Operation.Operation}}
+use Rattle.pas_generate.specs.declared.generator.Generator.{Generator}
 
 -- what is known between two operations: where the draws stand, the allocations that no line has freed, the trace name of
 -- the next allocation, and the phase

@@ -1,8 +1,7 @@
 -- Random requests. The first draw gives the heap, the second a lot that decides on the size and the alignment, which the
 -- third and the fourth give.
 use Rattle.std.specs.Prelude.{ℕ, ◌≡◌, ◌<◌, ◌≤◌, ◌⊎◌, ◌+◌, ◌*◌, ◌^◌, nat_eq, nat_lt, if◌then◌else◌}
-use Rattle.pas_generate.specs.Draws.{draw, moved_by}
-use Rattle.pas_generate.specs.declared.operation.Request.{Request}
+use Rattle.pas_generate.specs.{Draws.{draw, moved_by}, declared.operation.Request.Request}
 
 -- the lot of a request, of sixteen
 abbrev pub lot : ℕ → ℕ

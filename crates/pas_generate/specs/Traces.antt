@@ -1,7 +1,6 @@
 -- The text of a generated trace.
 use Rattle.std.specs.Prelude.{ℕ, zero, suc, ◌≤◌, List, [], ◌++◌}
-use Rattle.pas_generate.specs.Operations.{State, first_state, operation_at, after_operation}
-use Rattle.pas_generate.specs.Lines.{header, line_of}
+use Rattle.pas_generate.specs.{Operations.{State, first_state, operation_at, after_operation}, Lines.{header, line_of}}
 
 -- the jobs that are generated: 1 to 200,000 operations of 1 to 16 threads on 2 to 4,096 pages
 pub record IsJob (ops threads pages : ℕ) : Type 0 where

@@ -1,10 +1,8 @@
 //! What all generated traces have in common, and what the reader of traces says of them. Each law is the contract of
 //! an empty function.
-ghost use Rattle.std.specs.Prelude.{ℕ, ◌≡◌, ◌≢◌, Ok, Err};
-ghost use Rattle.pas_generate.specs.{Requests.IsValid, Requests.request_from, Traces.IsJob, Traces.trace_text, Meant.meant};
-ghost use Rattle.std.specs.Global.{Global};
-ghost use Rattle.pas_trace.specs.Plans.{parsed, IsPlanOf};
-ghost use Rattle.pas_trace.specs.declared.{fault.TraceFault.TraceFault, plan.Plan.Plan};
+ghost use Rattle.std.specs.{Prelude.{ℕ, ◌≡◌, ◌≢◌, Ok, Err}, Global.Global};
+ghost use Rattle.pas_generate.specs.{Requests.{IsValid, request_from}, Traces.{IsJob, trace_text}, Meant.meant};
+ghost use Rattle.pas_trace.specs.{Plans.{parsed, IsPlanOf}, declared.{fault.TraceFault.TraceFault, plan.Plan.Plan}};
 
 /// Wherever the draws stand, the next request is one that a trace may have: of one of the six heaps, no larger than the
 /// smallest region, and aligned to 16, 32 or 64 bytes.

@@ -1,6 +1,6 @@
 //! Random requests.
 ghost use Rattle.std.specs.Prelude.{◌≡◌, ◌*◌, ◌^◌};
-ghost use Rattle.pas_generate.specs.{Draws.drawn, Draws.moved, Requests.after_request, Requests.request_from};
+ghost use Rattle.pas_generate.specs.{Draws.{drawn, moved}, Requests.{after_request, request_from}};
 
 use crate::draws::Draws;
 use crate::operation::Request;

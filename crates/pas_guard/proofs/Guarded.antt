@@ -2,37 +2,27 @@
 use Rattle.std.proofs.Common.{◌≡◌, ℕ, arith, ◌/◌, ◌==◌, Bool, true, false, if◌then◌else◌, List, [], ◌∷◌, ◌++◌, refl, ap, sym, ◌∙◌, subst, true≢false, inl, inr}
 use Rattle.std.proofs.Common.{eqb-true, eq-eqb, bit_or, ◌+◌, ◌<◌, ◌^◌, ◌||◌, length-append, append_assoc, ne_eqb, ◌≤◌, ◌≢◌, ◌%◌, ◌&&◌, ◌⊎◌}
 use Rattle.std.proofs.lemmas.Bool.{cases_Bool, Decides.nat_tests, or_right, cases_lt}
-use Rattle.pas_profile.specs.{Layouts.same_word, Profiles.IsValid, Directories.number_of}
-use Rattle.pas_profile.specs.declared.{directory.Directory.Directory, profile.Profile.Profile, name.Block.Block, guard.Guard.Guard}
-use Rattle.pas_profile.proofs.Codecs.{deed_word_of-positive}
-use Rattle.pas_steps.specs.{Allowed.Allowed, Effects.target, Effects.new_value, Past.Since, Desks.Standing, Desks.CanCall, Agreement.Agrees, Agreement.Agreed}
-use Rattle.pas_steps.specs.{Evidence.GetsRight, Evidence.GetsHere, Evidence.KeptHere, Past.Once, Past.Always, Kinds.apart}
-use Rattle.pas_steps.specs.Lists.{Triple, Whole, part, word_after, IsNext, Legal}
-use Rattle.pas_steps.specs.Views.{View, Stays, Gives, held_after, grain_move, holds, known_deed, KnowsDeed, has_right, Way, ByDeed, FromOffer, FromParked}
-use Rattle.pas_steps.specs.Views.{ToOffer, ToParked, Rests, had_after, right_after}
-use Rattle.pas_steps.specs.declared.step.{Made.Made, Step.Step}
-use Rattle.pas_steps.specs.declared.step.Step.TheVariants.{Look, Back, Deed, TakeRight, Offer, Park, Unpark}
-use Rattle.pas_core.proofs.{Deeds.looked, Deeds.known_is, Grains.one_holder, Rights.deeds_known}
-use Rattle.pas_large.specs.Claims.{StaysPut, in_span, HasPages, HoldsSpan, Releases}
-use Rattle.pas_large.specs.{Gives.GaveRun, Gives.GivesRun, Pages.of_pages, Pages.GotPages, Evidence.TakenWholeHere, Finds.MayFind}
-use Rattle.pas_guard.specs.{Raises.BacksNot, Evidence.BackedReadHere, Seeks.LeftSince, Guards.given_and_left, Guards.GuardsRun, Books.is_outer_of}
-use Rattle.pas_guard.specs.{Lowers.MayLower, Lowers.lowered, Lowers.Lowers, Seeks.HasSpan}
-use Rattle.pas_guard.specs.Guarded.{StandsGuard, LeavesGuard, KeepsGuard, GivesOn, IsUntouched, AreUntouched}
-use Rattle.pas_rights.specs.{Leaves.MayLeave, Leaves.Leaves, Gives.give_steps, Puts.masked, Words.full}
-use Rattle.pas_steps.specs.Calls.{Calls, Kept, Lost, ClearAfter, Does, on_page, Gained, now, nothing}
-use Rattle.pas_steps.proofs.Called.{call_then, next_call, call_as, call_knows}
-use Rattle.pas_steps.proofs.{Calls.does_as, Calls.does_then, Sets.both_fates, Sets.kept_kept, Apart.only_both, Past.always_map}
-use Rattle.pas_large.proofs.Claims.{call_knowing, span_in, in_parts, span_none, got_both}
-use Rattle.pas_scan.specs.Runs.{large_directory}
-use Rattle.pas_rights.specs.PutsBack.{giving_back, given_back, MayPutAndReturn, PutsAndReturns, put_and_left, GivesDuly, PutsAndLeaves}
-use Rattle.pas_rights.proofs.{Orders.on_full, Orders.since_kept, Puts.put_and_leave_due}
-use Rattle.pas_steps.proofs.Frames.{rights_stay, right_on, knows_still, right_own}
-use Rattle.pas_large.proofs.Pages.{undone, since_more}
-use Rattle.pas_steps.specs.Frames.{OnlyOn, IsOnPage, GivesUp, KeepsRight}
-use Rattle.pas_search.specs.Kinds.{IsReturnOf, ReturnsDuly}
+use Rattle.pas_profile.specs.{Layouts.same_word, Profiles.IsValid, Directories.number_of, declared.{directory.Directory.Directory, profile.Profile.Profile}}
+use Rattle.pas_profile.{specs.declared.{name.Block.Block, guard.Guard.Guard}, proofs.Codecs.deed_word_of-positive}
+use Rattle.pas_steps.specs.{Allowed.Allowed, Effects.{target, new_value}, Past.{Since, Once, Always}, Desks.{Standing, CanCall}, Agreement.{Agrees, Agreed}}
+use Rattle.pas_steps.specs.{Evidence.{GetsRight, GetsHere, KeptHere}, Kinds.apart, Lists.{Triple, Whole, part, word_after, IsNext, Legal}, Views.{View, Stays}}
+use Rattle.pas_steps.specs.Views.{Gives, held_after, grain_move, holds, known_deed, KnowsDeed, has_right, Way, ByDeed, FromOffer, FromParked, ToOffer, ToParked}
+use Rattle.pas_steps.specs.{Views.{Rests, had_after, right_after}, declared.step.{Made.Made, Step.{Step, TheVariants.{Look, Back, Deed, TakeRight, Offer}}}}
+use Rattle.pas_steps.specs.{declared.step.Step.TheVariants.{Park, Unpark}, Calls.{Calls, Kept, Lost, ClearAfter, Does, on_page, Gained, now, nothing}}
+use Rattle.pas_steps.{specs.Frames.{OnlyOn, IsOnPage, GivesUp, KeepsRight}, proofs.{Called.{call_then, next_call, call_as, call_knows}, Calls.does_as}}
+use Rattle.pas_steps.proofs.{Calls.does_then, Sets.{both_fates, kept_kept}, Apart.only_both, Past.always_map, Frames.{rights_stay, right_on, knows_still}}
+use Rattle.pas_steps.proofs.Frames.{right_own}
+use Rattle.pas_core.proofs.{Deeds.{looked, known_is}, Grains.one_holder, Rights.deeds_known}
+use Rattle.pas_large.specs.{Claims.{StaysPut, in_span, HasPages, HoldsSpan, Releases}, Gives.{GaveRun, GivesRun}, Pages.{of_pages, GotPages}}
+use Rattle.pas_large.{specs.{Evidence.TakenWholeHere, Finds.MayFind}, proofs.{Claims.{call_knowing, span_in, in_parts, span_none, got_both}, Pages.undone}}
+use Rattle.pas_large.proofs.Pages.{since_more}
+use Rattle.pas_guard.specs.{Raises.BacksNot, Evidence.BackedReadHere, Seeks.{LeftSince, HasSpan}, Guards.{given_and_left, GuardsRun}, Books.is_outer_of}
+use Rattle.pas_guard.specs.{Lowers.{MayLower, lowered, Lowers}, Guarded.{StandsGuard, LeavesGuard, KeepsGuard, GivesOn, IsUntouched, AreUntouched}}
+use Rattle.pas_rights.specs.{Leaves.{MayLeave, Leaves}, Gives.give_steps, Puts.masked, Words.full, PutsBack.{giving_back, given_back, MayPutAndReturn}}
+use Rattle.pas_rights.{specs.PutsBack.{PutsAndReturns, put_and_left, GivesDuly, PutsAndLeaves}, proofs.{Orders.{on_full, since_kept}, Puts.put_and_leave_due}}
+use Rattle.pas_scan.{specs.Runs.large_directory, proofs.LeftPages.holds_own}
+use Rattle.pas_search.{specs.Kinds.{IsReturnOf, ReturnsDuly}, proofs.PagesThatServe.{return_page, duly_in}}
 use Rattle.pas_bits.specs.Bits.{has_bit}
-use Rattle.pas_scan.proofs.LeftPages.{holds_own}
-use Rattle.pas_search.proofs.PagesThatServe.{return_page, duly_in}
 use Rattle.pas_profile.specs.declared.word.Word.TheVariants as Words
 
 -- only a back makes a page that isn't backed a backed one

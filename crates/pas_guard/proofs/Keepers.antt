@@ -1,29 +1,22 @@
 -- While a keeper's guard is up, its outer pages stand whole and bare.
 use Rattle.std.proofs.Common.{◌≡◌, ℕ, ◌+◌, ◌/◌, ◌<◌, ◌==◌, Bool, true, false, ◌||◌, if◌then◌else◌, ◌⊎◌, List, [], ◌∷◌, ◌++◌, length, inl, inr, refl, ap, sym}
 use Rattle.std.proofs.Common.{◌∙◌, subst, arith, append_assoc, append-nil, true≢false, Option, Some, None, Contains, slice_index_or, eqb-true, eq-eqb}
-use Rattle.std.proofs.lemmas.Bool.{cases_Bool, or_right, Decides.nat_tests}
-use Rattle.std.proofs.lemmas.List.Elements.{Contains-append_right, Contains-push_cases, Contains-append_left, Contains-push}
-use Rattle.pas_profile.specs.{Profiles.IsValid, Blocks.address_of}
-use Rattle.pas_profile.specs.declared.{directory.Directory.Directory, name.Block.Block, profile.Profile.Profile, guard.Guard.Guard}
+use Rattle.std.proofs.lemmas.{Bool.{cases_Bool, or_right, Decides.nat_tests}, List.Elements.{Contains-append_right, Contains-push_cases, Contains-append_left}}
+use Rattle.std.proofs.lemmas.List.Elements.{Contains-push}
+use Rattle.pas_profile.specs.{Profiles.IsValid, Blocks.address_of, declared.{directory.Directory.Directory, name.Block.Block, profile.Profile.Profile}}
+use Rattle.pas_profile.specs.declared.guard.Guard.{Guard}
 use Rattle.pas_scan.specs.Runs.{large_directory}
-use Rattle.pas_steps.specs.{Agreement.Agreed, Effects.in_mask, Past.Once, Past.Always, Clear.IsClear}
-use Rattle.pas_steps.specs.Kinds.{Kinds, Giving, Only, is_in, kind_of, Backing, returning}
-use Rattle.pas_steps.specs.Lists.{Triple, Whole, part, Legal}
-use Rattle.pas_steps.specs.Views.{Stays, Puts, grain_move, KnowsDeed, View}
-use Rattle.pas_steps.specs.declared.step.{Made.Made, Step.Step, Step.TheVariants.Put, Step.TheVariants.Give}
-use Rattle.pas_steps.proofs.{Adding.agreed_first, Adding.agreed_later, Past.once_later}
+use Rattle.pas_steps.specs.{Agreement.Agreed, Effects.in_mask, Past.{Once, Always}, Clear.IsClear, Kinds.{Kinds, Giving, Only, is_in, kind_of, Backing}}
+use Rattle.pas_steps.specs.{Kinds.returning, Lists.{Triple, Whole, part, Legal}, Views.{Stays, Puts, grain_move, KnowsDeed, View}, declared.step.Made.Made}
+use Rattle.pas_steps.{specs.declared.step.Step.{Step, TheVariants.{Put, Give}}, proofs.{Adding.{agreed_first, agreed_later}, Past.once_later}}
 use Rattle.pas_core.proofs.Nexts.{agrees_next}
-use Rattle.pas_large.specs.{Claims.in_span, Claims.StaysPut, Gives.run_block}
-use Rattle.pas_large.proofs.Claims.{span_in}
-use Rattle.pas_guard.specs.{Books.is_outer_of, Books.is_outer, Books.FitsBook, Guarded.StandsGuard, Seeks.seeking}
-use Rattle.pas_guard.specs.Keepers.{Call, MakesCall, MakesCalls, GivesBlockOf, PutsNoneOf, IsUpIn, IsUp, IsUpThrough, StandsBetween, StandsThrough, IsKeeper}
-use Rattle.pas_guard.specs.Keepers.{IsBeside, GivesGuarded}
-use Rattle.pas_guard.specs.Raises.{BacksNot, guard_of, IsRaised, RaiseSteps}
-use Rattle.pas_guard.specs.Sweeps.{is_over, SweptOne, Swept, sweeping, SweepSteps, life_look}
-use Rattle.pas_guard.proofs.Guarded.{head_same, stands_on, own_keep, guard_begins, untouched_between}
-use Rattle.pas_guard.proofs.Raises.{raised_backs, raised_pages, raised_leaves, kept_steady, no_backs, after_steady, after_unbacked, fits_find}
-use Rattle.pas_rights.specs.{Gives.give_steps, Puts.PutsHere, PutsBack.BackSteps, Words.full}
-use Rattle.pas_rights.proofs.Orders.{full_set, full_word}
+use Rattle.pas_large.{specs.{Claims.{in_span, StaysPut}, Gives.run_block}, proofs.Claims.span_in}
+use Rattle.pas_guard.specs.{Books.{is_outer_of, is_outer, FitsBook}, Guarded.StandsGuard, Seeks.seeking, Keepers.{Call, MakesCall, MakesCalls, GivesBlockOf}}
+use Rattle.pas_guard.specs.{Keepers.{PutsNoneOf, IsUpIn, IsUp, IsUpThrough, StandsBetween, StandsThrough, IsKeeper, IsBeside, GivesGuarded}, Raises.BacksNot}
+use Rattle.pas_guard.specs.{Raises.{guard_of, IsRaised, RaiseSteps}, Sweeps.{is_over, SweptOne, Swept, sweeping, SweepSteps, life_look}}
+use Rattle.pas_guard.proofs.{Guarded.{head_same, stands_on, own_keep, guard_begins, untouched_between}, Raises.{raised_backs, raised_pages, raised_leaves}}
+use Rattle.pas_guard.proofs.Raises.{kept_steady, no_backs, after_steady, after_unbacked, fits_find}
+use Rattle.pas_rights.{specs.{Gives.give_steps, Puts.PutsHere, PutsBack.BackSteps, Words.full}, proofs.Orders.{full_set, full_word}}
 use Rattle.pas_records.specs.declared.record.Record.{Record}
 
 -- ==== The list of all actors, and the steps of one.

@@ -1,18 +1,13 @@
 -- Guards that a sweep passes by, by looks that its desk was told.
 use Rattle.std.proofs.Common.{◌≡◌, ℕ, zero, suc, ◌+◌, ◌/◌, ◌<◌, ◌≤◌, Bool, true, false, ◌||◌, List, [], ◌∷◌, ◌++◌, length, refl, ap, sym, ◌∙◌, subst, arith}
 use Rattle.std.proofs.Common.{length-append}
-use Rattle.pas_profile.specs.{Profiles.IsPage, Profiles.IsValid, Profiles.IsWordOf, Blocks.address_of}
-use Rattle.pas_profile.specs.declared.{guard.Guard.Guard, profile.Profile.Profile, word.Word.Word}
+use Rattle.pas_profile.specs.{Profiles.{IsPage, IsValid, IsWordOf}, Blocks.address_of, declared.{guard.Guard.Guard, profile.Profile.Profile, word.Word.Word}}
 use Rattle.pas_records.specs.declared.record.Record.{Record}
 use Rattle.pas_scan.proofs.ToldLooks.{Told, look_told, adds_told}
-use Rattle.pas_steps.specs.{Agreement.Agrees, Agreement.Agreed, Told.StandsLater, Told.StandsStill, Views.View}
-use Rattle.pas_steps.specs.Lists.{Whole, Legal, part, word_after}
-use Rattle.pas_steps.specs.Desks.{Seat, Standing, AnyView, CanCall, Adds, triples}
-use Rattle.pas_steps.specs.declared.step.{Made.Made, Step.TheVariants.Look}
-use Rattle.pas_guard.specs.Books.{Each, FitsBook, IsGuardOf}
-use Rattle.pas_guard.specs.Sweeps.{is_over, life_look, life_word_of, LooksOver}
-use Rattle.pas_guard.specs.Passing.{guard_at, AreOfRegion, KnowsAlive, alive_looks, PassesAlive}
-use Rattle.pas_guard.proofs.Raises.{SweptSoFar, it_stays}
+use Rattle.pas_steps.specs.{Agreement.{Agrees, Agreed}, Told.{StandsLater, StandsStill}, Views.View, Lists.{Whole, Legal, part, word_after}, Desks.Seat}
+use Rattle.pas_steps.specs.{Desks.{Standing, AnyView, CanCall, Adds, triples}, declared.step.{Made.Made, Step.TheVariants.Look}}
+use Rattle.pas_guard.specs.{Books.{Each, FitsBook, IsGuardOf}, Sweeps.{is_over, life_look, life_word_of, LooksOver}, Passing.{guard_at, AreOfRegion}}
+use Rattle.pas_guard.{specs.Passing.{KnowsAlive, alive_looks, PassesAlive}, proofs.Raises.{SweptSoFar, it_stays}}
 
 -- ---- looks that are told
 alive_many : (guards : List Guard) (words : ℕ → ℕ) (from n : ℕ) → length (alive_looks guards words from n) ≡ n

@@ -1,32 +1,22 @@
 -- A guard goes up, and the actor fits the book still.
 use Rattle.std.proofs.Common.{◌≡◌, ◌≢◌, ℕ, ◌+◌, ◌*◌, ◌/◌, ◌<◌, ◌≤◌, ◌==◌, Bool, true, false, ◌||◌, if◌then◌else◌, List, [], ◌∷◌, ◌++◌, inl, inr, refl, ap, sym}
 use Rattle.std.proofs.Common.{◌∙◌, subst, arith, length-append, append_assoc, true≢false, Some, None, eqb-true, eq-eqb, ne_eqb, ◌⊎◌, length, append-nil, remove}
-use Rattle.std.proofs.Common.{slice_index_or}
-use Rattle.std.proofs.lemmas.Bool.{cases_Bool, or_from, or_parts, or_right}
-use Rattle.std.proofs.lemmas.Bool.Decides.{nat_tests}
-use Rattle.pas_profile.specs.{Blocks.address_of, Profiles.IsPage}
-use Rattle.pas_profile.specs.declared.{directory.Directory.Directory, name.Block.Block, profile.Profile.Profile, guard.Guard.Guard}
+use Rattle.std.proofs.{Common.slice_index_or, lemmas.Bool.{cases_Bool, or_from, or_parts, or_right, Decides.nat_tests}}
+use Rattle.pas_profile.specs.{Blocks.address_of, Profiles.IsPage, declared.{directory.Directory.Directory, name.Block.Block, profile.Profile.Profile}}
+use Rattle.pas_profile.specs.declared.guard.Guard.{Guard}
 use Rattle.pas_scan.specs.Runs.{large_directory}
-use Rattle.pas_steps.specs.Calls.{Calls, Kept, Lost, now, nothing, Does, Leads}
-use Rattle.pas_steps.specs.Desks.{Standing, CanCall, Seat, AnyView}
-use Rattle.pas_steps.specs.Agreement.{Agreed}
-use Rattle.pas_steps.specs.Kinds.{Kinds, Backing, Only, is_in, kind_of, returning, LookLife}
-use Rattle.pas_steps.specs.declared.step.{Step.TheVariants.Back, Step.TheVariants.Give, Made.Made}
-use Rattle.pas_steps.proofs.{Past.always_map, Past.always_both, Called.next_call, Called.call_none, Calls.leads_at, Calls.does_idly, Frames.knows_still}
-use Rattle.pas_steps.proofs.{SpareRoom.Spares, Apart.only_within, Apart.only_both}
-use Rattle.pas_large.proofs.Gives.{run_is}
-use Rattle.pas_guard.proofs.Seeks.{steady_kinds}
-use Rattle.pas_steps.specs.Views.{View, Stays, grain_move, holds, has_right, known_deed, KnowsDeed}
+use Rattle.pas_steps.specs.{Calls.{Calls, Kept, Lost, now, nothing, Does, Leads}, Desks.{Standing, CanCall, Seat, AnyView}, Agreement.Agreed, Kinds.Kinds}
+use Rattle.pas_steps.specs.{Kinds.{Backing, Only, is_in, kind_of, returning, LookLife}, declared.step.{Step.TheVariants.{Back, Give}, Made.Made}, Views.View}
+use Rattle.pas_steps.{specs.Views.{Stays, grain_move, holds, has_right, known_deed, KnowsDeed}, proofs.{Past.{always_map, always_both}, Called.next_call}}
+use Rattle.pas_steps.proofs.{Called.call_none, Calls.{leads_at, does_idly}, Frames.knows_still, SpareRoom.Spares, Apart.{only_within, only_both}}
 use Rattle.pas_steps.proofs.Adding.{adds_under, agreed_first, agreed_later, adds_call}
-use Rattle.pas_large.specs.{Claims.in_span, Claims.StaysPut, Claims.HasPages, Finds.MayFind, Finds.FindRoom, Gives.run_block}
+use Rattle.pas_large.proofs.{Gives.run_is, Left.{BacksIn, only_backs, backs_in, only_leaves, backs_few}, Claims.{has_got, room_after, span_in, steady_both}}
+use Rattle.pas_large.{proofs.Claims.steady_on, specs.{Claims.{in_span, StaysPut, HasPages}, Finds.{MayFind, FindRoom}, Gives.run_block}}
+use Rattle.pas_guard.{proofs.Seeks.steady_kinds, specs.{Books.{is_outer_of, is_outer, AreApart, Each, KnowsGuard, FitsBook, IsGuardOf}, Guards.left_last_first}}
+use Rattle.pas_guard.specs.{Guards.{GuardedRun, GuardsRun}, Lowers.{MayLower, lowered, Lowers}, Passing.no_guard, Raises.{BacksNot, RaiseRoom, guard_of}}
+use Rattle.pas_guard.specs.{Raises.{Raises, IsRaised}, Seeks.{seeking, HoldsWhole, HasSpan, Seeks}, Sweeps.{is_over, life_look, LooksOver, lowered_record}}
+use Rattle.pas_guard.specs.Sweeps.{SweptOne, Swept, sweeping, Sweeps}
 use Rattle.pas_rights.specs.{Gives.give_steps, PutsBack.giving_back}
-use Rattle.pas_large.proofs.Left.{BacksIn, only_backs, backs_in, only_leaves, backs_few}
-use Rattle.pas_large.proofs.Claims.{has_got, room_after, span_in, steady_both, steady_on}
-use Rattle.pas_guard.specs.Books.{is_outer_of, is_outer, AreApart, Each, KnowsGuard, FitsBook, IsGuardOf}
-use Rattle.pas_guard.specs.{Guards.left_last_first, Guards.GuardedRun, Guards.GuardsRun, Lowers.MayLower, Lowers.lowered, Lowers.Lowers, Passing.no_guard}
-use Rattle.pas_guard.specs.Raises.{BacksNot, RaiseRoom, guard_of, Raises, IsRaised}
-use Rattle.pas_guard.specs.Seeks.{seeking, HoldsWhole, HasSpan, Seeks}
-use Rattle.pas_guard.specs.Sweeps.{is_over, life_look, LooksOver, lowered_record, SweptOne, Swept, sweeping, Sweeps}
 use Rattle.pas_records.specs.declared.record.Record.{Record}
 
 -- ---- books with a guard more

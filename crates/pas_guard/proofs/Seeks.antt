@@ -3,38 +3,27 @@ use Rattle.std.proofs.Common.{ℕ, ◌+◌, ◌*◌, ◌/◌, ◌<◌, ◌≤◌
 use Rattle.std.proofs.Common.{Option, ◌≡◌, ◌≢◌, Some, None, ap, sym, subst, append_assoc, true≢false, length, length-append, eqb-true, eq-eqb, append-nil}
 use Rattle.std.proofs.lemmas.Bool.{cases_lt, cases_eq, cases_Bool}
 use Rattle.pas_large.proofs.Claims.{narrower, steady_on, steady_both, out_of, span_in, in_parts, span_past, has_got, room_after, alone_on, orderly_claim}
+use Rattle.pas_large.proofs.{Finds.{DeedOf, bad_later, alone_looks, knew, deeds_map, may_find, deeds_later, alone_later}, Pages.{Orderly, orderly_later}}
+use Rattle.pas_large.{proofs.Pages.orderly_wider, specs.Claims.{StaysPut, in_span, MayClaimPages, HasRunRoom, AloneFrom, DeedsIn, HasPages, Releases}}
+use Rattle.pas_large.specs.{Claims.{ClaimsRun, HoldsRun, FailsRun, HoldsSpan}, Evidence.{LostHere, BrokenHere, BadHere, AllUsable, FailsHere, HasFailed}}
+use Rattle.pas_large.specs.{Evidence.DeedsOf, Finds.{MayFind, FindRoom}}
 use Rattle.pas_bits.specs.Bits.{has_bit}
 use Rattle.pas_profile.specs.declared.{directory.Directory.Directory, profile.Profile.Profile, word.Word.Word}
-use Rattle.pas_rights.specs.{Puts.masked, PutsBack.giving_back, PutsBack.MayPutAndLeave, PutsBack.PutsAndLeaves, Words.full}
-use Rattle.pas_rights.proofs.Orders.{keeps_by}
-use Rattle.pas_scan.specs.Runs.{page_looks, IsFirstRun, HasNoRun, HasUnusable, FindsRun}
-use Rattle.pas_scan.specs.Usable.{ReadUsable, UnusableHere, WholeHere}
+use Rattle.pas_rights.{specs.{Puts.masked, PutsBack.{giving_back, MayPutAndLeave, PutsAndLeaves}, Words.full}, proofs.Orders.keeps_by}
+use Rattle.pas_scan.specs.{Runs.{page_looks, IsFirstRun, HasNoRun, HasUnusable, FindsRun}, Usable.{ReadUsable, UnusableHere, WholeHere}}
 use Rattle.pas_scan.proofs.LeftPages.{usable_before, usable_later, unusable_before, left_alone_by, lacks_by}
-use Rattle.pas_steps.specs.{Agreement.Agrees, Agreement.Agreed, Evidence.ReadsFree, Frames.KeepsRight, Past.Once, Past.Always, Past.Since}
-use Rattle.pas_steps.specs.{Unknown.unknown_pages}
-use Rattle.pas_steps.specs.Calls.{Calls, Leads, nothing, Does}
-use Rattle.pas_steps.specs.Desks.{Seat, Standing, AnyView, Adds, CanCall, Makes, made}
-use Rattle.pas_steps.specs.declared.step.{Step.Step, Made.Made, Step.TheVariants.Deed, Step.TheVariants.Look}
-use Rattle.pas_steps.specs.Kinds.{Kinds, Only, kind_of, is_in, apart, moving, within, changing}
-use Rattle.pas_steps.specs.Views.{View, held_after, holds, has_right, KnowsDeed}
-use Rattle.pas_steps.proofs.Adding.{adds_none, adds_step, adds_call, agreed_first, agreed_later}
-use Rattle.pas_steps.proofs.{Apart.in_apart, Apart.grain_same, Apart.holds_same, Called.call_then, Called.next_call, Frames.right_own, Frames.right_on}
-use Rattle.pas_steps.proofs.{Frames.knows_still, SpareRoom.Spares, Evidence.unknown}
-use Rattle.pas_steps.proofs.Calls.{does_none, does_idly, leads_none, leads_at}
-use Rattle.pas_steps.proofs.Past.{once_later, once_earlier, once_map, always_both, always_map}
-use Rattle.pas_search.specs.Kinds.{ReturnsDuly}
-use Rattle.pas_search.proofs.PagesThatServe.{duly_both, duly_none}
-use Rattle.pas_large.specs.Claims.{StaysPut, in_span, MayClaimPages, HasRunRoom, AloneFrom, DeedsIn, HasPages, Releases, ClaimsRun, HoldsRun, FailsRun}
-use Rattle.pas_large.specs.Claims.{HoldsSpan}
-use Rattle.pas_large.specs.Evidence.{LostHere, BrokenHere, BadHere, AllUsable, FailsHere, HasFailed, DeedsOf}
-use Rattle.pas_large.specs.Finds.{MayFind, FindRoom}
-use Rattle.pas_large.proofs.Finds.{DeedOf, bad_later, alone_looks, knew, deeds_map, may_find, deeds_later, alone_later}
+use Rattle.pas_steps.specs.{Agreement.{Agrees, Agreed}, Evidence.ReadsFree, Frames.KeepsRight, Past.{Once, Always, Since}, Unknown.unknown_pages, Calls.Calls}
+use Rattle.pas_steps.specs.{Calls.{Leads, nothing, Does}, Desks.{Seat, Standing, AnyView, Adds, CanCall, Makes, made}, declared.step.Step.Step}
+use Rattle.pas_steps.specs.{declared.step.{Step.TheVariants.{Deed, Look}, Made.Made}, Kinds.{Kinds, Only, kind_of, is_in, apart, moving, within, changing}}
+use Rattle.pas_steps.{specs.Views.{View, held_after, holds, has_right, KnowsDeed}, proofs.Adding.{adds_none, adds_step, adds_call, agreed_first, agreed_later}}
+use Rattle.pas_steps.proofs.{Apart.{in_apart, grain_same, holds_same}, Called.{call_then, next_call}, Frames.{right_own, right_on, knows_still}}
+use Rattle.pas_steps.proofs.{SpareRoom.Spares, Evidence.unknown, Calls.{does_none, does_idly, leads_none, leads_at}, Past.{once_later, once_earlier, once_map}}
+use Rattle.pas_steps.proofs.Past.{always_both, always_map}
+use Rattle.pas_search.{specs.Kinds.ReturnsDuly, proofs.PagesThatServe.{duly_both, duly_none}}
 use Rattle.pas_guard.proofs.Guarded.{no_span, span_kept, span_beside, span_joined, claim_keeps, span_of_none, span_then, span_lost, span_both, out_later}
-use Rattle.pas_guard.proofs.Guarded.{but_first, span_slid, span_has, span_holds, span_spares, release_duly, first_duly}
-use Rattle.pas_guard.specs.Evidence.{BackedReadHere, HoldsRunWhole, OuterBackedHere, IsBad, OuterFailsHere, HasFailedOnce}
-use Rattle.pas_guard.specs.Guarded.{LeavesGuard}
-use Rattle.pas_guard.specs.Seeks.{LeftSince, backed_looks, ZeroBackedHere, SomeBackedHere, LooksBacked, HoldsWhole, HasSpan, seeking, Seeks}
-use Rattle.pas_large.proofs.Pages.{Orderly, orderly_later, orderly_wider}
+use Rattle.pas_guard.{proofs.Guarded.{but_first, span_slid, span_has, span_holds, span_spares, release_duly, first_duly}, specs.Evidence.BackedReadHere}
+use Rattle.pas_guard.specs.{Evidence.{HoldsRunWhole, OuterBackedHere, IsBad, OuterFailsHere, HasFailedOnce}, Guarded.LeavesGuard, Seeks.LeftSince}
+use Rattle.pas_guard.specs.Seeks.{backed_looks, ZeroBackedHere, SomeBackedHere, LooksBacked, HoldsWhole, HasSpan, seeking, Seeks}
 
 -- ---- evidence, and later steps
 bad_more : (v : View) (d : Directory) (k s : ℕ) (ys xs : List Made) → IsBad v d k s xs → IsBad v d k s (ys ++ xs)

@@ -1,10 +1,8 @@
 -- Guards that are up, and how an actor fits a book of them.
 use Rattle.std.specs.Prelude.{ℕ, ◌/◌, ◌<◌, ◌≡◌, ◌≢◌, ◌==◌, Bool, false, ◌||◌, List, [], ◌∷◌}
-use Rattle.pas_profile.specs.{Profiles.IsPage, Blocks.address_of}
-use Rattle.pas_profile.specs.declared.{profile.Profile.Profile, guard.Guard.Guard}
+use Rattle.pas_profile.specs.{Profiles.IsPage, Blocks.address_of, declared.{profile.Profile.Profile, guard.Guard.Guard}}
 use Rattle.pas_scan.specs.Runs.{large_directory}
-use Rattle.pas_steps.specs.Clear.{IsClear}
-use Rattle.pas_steps.specs.Views.{View, holds, has_right, KnowsDeed}
+use Rattle.pas_steps.specs.{Clear.IsClear, Views.{View, holds, has_right, KnowsDeed}}
 use Rattle.pas_guard.specs.declared.book.GuardBook.{GuardBook}
 
 abbrev pub guards_in : GuardBook → List Guard

@@ -3,8 +3,7 @@
 use Rattle.std.specs.Prelude.{ℕ, ◌+◌, ◌/◌, ◌≡◌, ◌⊎◌, true, List, ◌++◌}
 use Rattle.pas_profile.specs.declared.{directory.Directory.Directory, word.Word.Word}
 use Rattle.pas_scan.specs.Runs.{IsInRun}
-use Rattle.pas_steps.specs.{Views.View, Views.holds, Past.Once}
-use Rattle.pas_steps.specs.declared.step.{Made.Made, Step.TheVariants.Look}
+use Rattle.pas_steps.specs.{Views.{View, holds}, Past.Once, declared.step.{Made.Made, Step.TheVariants.Look}}
 use Rattle.pas_large.specs.Evidence.{HasBad, AllUsable, HasFailed}
 
 -- the backed word of the page was read so while all grains of the page were the actor's

@@ -1,10 +1,9 @@
 -- Pages that one actor holds whole, from one place of a legal list to a later one.
 use Rattle.std.specs.Prelude.{ℕ, ◌/◌, ◌≡◌, ◌==◌, true, [], ◌∷◌}
-use Rattle.pas_profile.specs.{Directories.deed_word_of, Blocks.grain_of, Blocks.length_of}
+use Rattle.pas_profile.specs.{Directories.deed_word_of, Blocks.{grain_of, length_of}, declared.{directory.Directory.Directory, name.Block.Block}}
+use Rattle.pas_profile.specs.declared.word.Word.{Word}
 use Rattle.pas_bits.specs.Runs.{in_run}
-use Rattle.pas_profile.specs.declared.{directory.Directory.Directory, name.Block.Block, word.Word.Word}
-use Rattle.pas_steps.specs.{Lists.Whole, Lists.part, Lists.word_after, Views.Stays, Views.grain_move, Views.holds}
-use Rattle.pas_steps.specs.declared.step.{Made.Made, Step.Step, Step.TheVariants.Back, Step.TheVariants.Give}
+use Rattle.pas_steps.specs.{Lists.{Whole, part, word_after}, Views.{Stays, grain_move, holds}, declared.step.{Made.Made, Step.{Step, TheVariants.{Back, Give}}}}
 
 -- after the list the actor holds all grains of the page, which is of the directory and isn't backed
 pub record StandsGuard (l : Whole) (keeper page : ℕ) (d : Directory) : Type 0 where

@@ -1,10 +1,8 @@
 -- A run that is held is guarded: its inner pages are given as one block, and its outer pages are left whole.
 use Rattle.std.specs.Prelude.{ℕ, ◌+◌, ◌*◌, ◌/◌, ◌^◌, ◌<◌, ◌≤◌, ◌≡◌, true, if◌then◌else◌, List, ◌∷◌, ◌++◌, length}
 use Rattle.pas_profile.specs.declared.{directory.Directory.Directory, name.Block.Block}
-use Rattle.pas_steps.specs.Calls.{Calls, Effect, Kept, Lost, Does}
-use Rattle.pas_steps.specs.{Desks.Standing, InTurn.InTurn, Views.View, Views.KnowsDeed}
-use Rattle.pas_steps.specs.declared.step.Made.{Made}
-use Rattle.pas_large.specs.{Claims.in_span, Claims.HasPages, Gives.BackStep, Gives.pages_from, Gives.run_block}
+use Rattle.pas_steps.specs.{Calls.{Calls, Effect, Kept, Lost, Does}, Desks.Standing, InTurn.InTurn, Views.{View, KnowsDeed}, declared.step.Made.Made}
+use Rattle.pas_large.specs.{Claims.{in_span, HasPages}, Gives.{BackStep, pages_from, run_block}}
 use Rattle.pas_rights.specs.{Gives.give_steps, Leaves.LeaveSteps}
 
 -- the grains of the pages from `low` to below `high` are the actor's no longer, and neither are the rights of those from `first` to below `stop`

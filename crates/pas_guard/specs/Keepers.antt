@@ -1,13 +1,11 @@
 -- A keeper: an actor that makes no steps but those of calls of `raise` and `sweep` with its one book. When each of its guards is up, and what holds of the
 -- guard's two outer pages then.
 use Rattle.std.specs.Prelude.{ℕ, ◌+◌, ◌*◌, ◌≡◌, ◌⊎◌, Bool, false, List, [], ◌∷◌, ◌++◌, Contains, Option}
-use Rattle.pas_profile.specs.Blocks.{address_of}
-use Rattle.pas_profile.specs.declared.{name.Block.Block, profile.Profile.Profile, guard.Guard.Guard}
+use Rattle.pas_profile.specs.{Blocks.address_of, declared.{name.Block.Block, profile.Profile.Profile, guard.Guard.Guard}}
 use Rattle.pas_records.specs.declared.record.Record.{Record}
 use Rattle.pas_scan.specs.Runs.{large_directory}
-use Rattle.pas_steps.specs.{Agreement.Agreed, Lists.Triple, Lists.Whole, Lists.part, Past.Once, Past.Always}
-use Rattle.pas_steps.specs.declared.step.{Made.Made, Step.TheVariants.Give, Step.TheVariants.Put}
-use Rattle.pas_guard.specs.{Books.is_outer_of, Guarded.StandsGuard, Guarded.IsUntouched, Raises.RaiseSteps, Sweeps.SweepSteps}
+use Rattle.pas_steps.specs.{Agreement.Agreed, Lists.{Triple, Whole, part}, Past.{Once, Always}, declared.step.{Made.Made, Step.TheVariants.{Give, Put}}}
+use Rattle.pas_guard.specs.{Books.is_outer_of, Guarded.{StandsGuard, IsUntouched}, Raises.RaiseSteps, Sweeps.SweepSteps}
 
 -- ---- the calls of a keeper
 -- one call: what was asked, and what came of it

@@ -1,10 +1,9 @@
 -- A guard is lowered: its outer pages are put back.
 use Rattle.std.specs.Prelude.{ℕ, ◌/◌, ◌≤◌, ◌≡◌, true, if◌then◌else◌, List, ◌++◌, length}
 use Rattle.pas_profile.specs.declared.{profile.Profile.Profile, guard.Guard.Guard}
-use Rattle.pas_rights.specs.{PutsBack.giving_back, PutsBack.BackSteps, Words.full}
+use Rattle.pas_rights.specs.{PutsBack.{giving_back, BackSteps}, Words.full}
 use Rattle.pas_scan.specs.Runs.{large_directory}
-use Rattle.pas_steps.specs.Calls.{Calls, Effect, Kept, Lost, Does}
-use Rattle.pas_steps.specs.{Clear.IsClear, Desks.Standing, Frames.OnlyOn, Kinds.Only, Views.View, Views.holds}
+use Rattle.pas_steps.specs.{Calls.{Calls, Effect, Kept, Lost, Does}, Clear.IsClear, Desks.Standing, Frames.OnlyOn, Kinds.Only, Views.{View, holds}}
 use Rattle.pas_steps.specs.declared.step.Made.{Made}
 use Rattle.pas_guard.specs.Books.{is_outer_of, IsGuardOf, KnowsGuard}
 

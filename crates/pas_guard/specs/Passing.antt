@@ -1,9 +1,7 @@
 -- Guards that are passed by: looks at their life words are told to a desk that tells the whole state, and not made.
 use Rattle.std.specs.Prelude.{ℕ, zero, suc, ◌+◌, ◌/◌, ◌<◌, ◌≤◌, ◌≡◌, Bool, false, ◌||◌, List, [], ◌++◌, length, slice_index_or}
-use Rattle.pas_profile.specs.{Profiles.IsPage, Blocks.address_of}
-use Rattle.pas_profile.specs.declared.guard.Guard.{Guard}
-use Rattle.pas_steps.specs.{Told.TellsWord, Desks.Standing, Desks.AnyView, Desks.Adds}
-use Rattle.pas_steps.specs.declared.step.Made.{Made}
+use Rattle.pas_profile.specs.{Profiles.IsPage, Blocks.address_of, declared.guard.Guard.Guard}
+use Rattle.pas_steps.specs.{Told.TellsWord, Desks.{Standing, AnyView, Adds}, declared.step.Made.Made}
 use Rattle.pas_guard.specs.Sweeps.{is_over, life_look, life_word_of}
 
 abbrev pub no_guard : Guard

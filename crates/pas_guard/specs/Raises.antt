@@ -2,13 +2,12 @@
 use Rattle.std.specs.Prelude.{ℕ, ◌+◌, ◌*◌, ◌/◌, ◌≤◌, ◌≡◌, true, ◌∷◌, [], List, ◌++◌, length, Option, MatchOption}
 use Rattle.pas_profile.specs.declared.{directory.Directory.Directory, name.Block.Block, profile.Profile.Profile, guard.Guard.Guard}
 use Rattle.pas_scan.specs.Runs.{large_directory}
-use Rattle.pas_steps.specs.{Agreement.Agreed, Calls.Leads, Past.Always, Desks.Standing, Desks.Adds, InTurn.InTurn, Kinds.Only, Unknown.unknown_pages}
-use Rattle.pas_steps.specs.{Views.View}
+use Rattle.pas_steps.specs.{Agreement.Agreed, Calls.Leads, Past.Always, Desks.{Standing, Adds}, InTurn.InTurn, Kinds.Only, Unknown.unknown_pages, Views.View}
 use Rattle.pas_steps.specs.declared.step.{Step.TheVariants.Back, Made.Made}
-use Rattle.pas_large.specs.{Claims.StaysPut, Evidence.DeedsRise, Gives.BackStep, Gives.pages_from, Gives.run_block, Pages.OnlyDeedsShow}
+use Rattle.pas_large.specs.{Claims.StaysPut, Evidence.DeedsRise, Gives.{BackStep, pages_from, run_block}, Pages.OnlyDeedsShow}
 use Rattle.pas_rights.specs.{Gives.give_steps, Leaves.LeaveSteps}
 use Rattle.pas_search.specs.Kinds.{ReturnsDuly}
-use Rattle.pas_guard.specs.{Books.is_outer, Books.FitsBook, Guards.left_last_first, Seeks.seeking, Seeks.SoughtRun, Seeks.SoughtNone}
+use Rattle.pas_guard.specs.{Books.{is_outer, FitsBook}, Guards.left_last_first, Seeks.{seeking, SoughtRun, SoughtNone}}
 
 -- the actor fits the book, and there is room for the deeds that aren't known, and for n events more
 pub record RaiseRoom (f : Profile) (guards : List Guard) (n spare : ℕ) (v : View) : Type 0 where

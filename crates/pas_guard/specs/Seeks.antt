@@ -1,14 +1,12 @@
 -- The search for a run whose outer pages aren't backed.
 use Rattle.std.specs.Prelude.{ℕ, ◌+◌, ◌*◌, ◌/◌, ◌<◌, ◌≤◌, ◌≡◌, ◌≢◌, ◌⊎◌, Bool, true, false, MatchBool, ◌∷◌, [], List, length, Option, MatchOption}
 use Rattle.pas_profile.specs.declared.{directory.Directory.Directory, profile.Profile.Profile, word.Word.Word}
-use Rattle.pas_steps.specs.{Agreement.Agreed, Calls.Leads, Calls.nothing, Calls.Does, Desks.Standing, Desks.AnyView, Desks.Adds, Kinds.Kinds, Kinds.LookBacked}
-use Rattle.pas_steps.specs.{Kinds.Only, Past.Once, Past.Always, Past.Since}
-use Rattle.pas_steps.specs.Views.{View, holds, has_right, known_deed}
-use Rattle.pas_steps.specs.declared.step.{Made.Made, Step.TheVariants.Look}
-use Rattle.pas_large.specs.{Claims.in_span, Claims.LacksAll, Claims.StaysPut, Finds.MayFind, Finds.finding, Pages.GotPages, Pages.OnlyDeedsShow}
+use Rattle.pas_steps.specs.{Agreement.Agreed, Calls.{Leads, nothing, Does}, Desks.{Standing, AnyView, Adds}, Kinds.{Kinds, LookBacked, Only}, Past.Once}
+use Rattle.pas_steps.specs.{Past.{Always, Since}, Views.{View, holds, has_right, known_deed}, declared.step.{Made.Made, Step.TheVariants.Look}}
+use Rattle.pas_large.specs.{Claims.{in_span, LacksAll, StaysPut}, Finds.{MayFind, finding}, Pages.{GotPages, OnlyDeedsShow}, Evidence.{AllUsable, DeedsOf}}
+use Rattle.pas_large.specs.Evidence.{DeedsRise, IsTakenRun}
 use Rattle.pas_search.specs.Kinds.{ReturnsDuly}
-use Rattle.pas_large.specs.Evidence.{AllUsable, DeedsOf, DeedsRise, IsTakenRun}
-use Rattle.pas_guard.specs.{Guarded.LeavesGuard, Evidence.BackedReadHere, Evidence.IsBad, Evidence.HasFailedOnce}
+use Rattle.pas_guard.specs.{Guarded.LeavesGuard, Evidence.{BackedReadHere, IsBad, HasFailedOnce}}
 
 -- ---- the looks at the outer pages
 abbrev pub backed_looks : Kinds

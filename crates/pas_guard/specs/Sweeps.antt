@@ -1,12 +1,9 @@
 -- A sweep over the guards that are up.
 use Rattle.std.specs.Prelude.{ℕ, ◌/◌, ◌%◌, ◌*◌, ◌≤◌, ◌≡◌, nat_lt, Bool, true, false, ◌||◌, List, [], ◌∷◌, ◌++◌, length}
-use Rattle.pas_profile.specs.{Lives.turn_of, Blocks.address_of}
-use Rattle.pas_profile.specs.declared.{profile.Profile.Profile, word.Word.Word as TheWord, word.Word.Word, guard.Guard.Guard}
+use Rattle.pas_profile.specs.{Lives.turn_of, Blocks.address_of, declared.{profile.Profile.Profile, word.Word.{Word as TheWord, Word}, guard.Guard.Guard}}
 use Rattle.pas_records.specs.declared.record.{Record.Record, Said.Said}
 use Rattle.pas_rights.specs.PutsBack.{giving_back}
-use Rattle.pas_steps.specs.{Calls.Leads, Kinds.Kinds, Kinds.LookLife, Kinds.Only}
-use Rattle.pas_steps.specs.Desks.{Standing, AnyView, Adds, made}
-use Rattle.pas_steps.specs.declared.step.{Made.Made, Step.TheVariants.Look}
+use Rattle.pas_steps.specs.{Calls.Leads, Kinds.{Kinds, LookLife, Only}, Desks.{Standing, AnyView, Adds, made}, declared.step.{Made.Made, Step.TheVariants.Look}}
 use Rattle.pas_guard.specs.{Books.FitsBook, Lowers.LowerSteps}
 
 -- the life word of the block's first grain

@@ -1,17 +1,13 @@
 //! What holds of a guard that is up, whatever others do. Each law is the contract of an empty function.
 ghost use Rattle.std.specs.Prelude.{ℕ, ◌/◌, ◌≡◌, Bool, true, List, [], ◌∷◌, ◌++◌, Contains, Option};
-ghost use Rattle.pas_profile.specs.Profiles.{IsValid};
-ghost use Rattle.pas_profile.specs.declared.{directory.Directory.Directory, profile.Profile.Profile, name.Block.Block, guard.Guard.Guard as TheGuard};
-ghost use Rattle.pas_steps.specs.{Agreement.Agreed, Past.Always, Past.Since, Views.View, Views.KnowsDeed};
-ghost use Rattle.pas_steps.specs.Lists.{Triple, Whole, Legal, part};
-ghost use Rattle.pas_steps.specs.declared.step.Made.{Made};
+ghost use Rattle.pas_profile.specs.{Profiles.IsValid, declared.{directory.Directory.Directory, profile.Profile.Profile, name.Block.Block}};
+ghost use Rattle.pas_profile.specs.declared.guard.Guard.{Guard as TheGuard};
+ghost use Rattle.pas_steps.specs.{Agreement.Agreed, Past.{Always, Since}, Views.{View, KnowsDeed}, Lists.{Triple, Whole, Legal, part}, declared.step.Made.Made};
 ghost use Rattle.pas_large.specs.Claims.{StaysPut};
-ghost use Rattle.pas_guard.specs.{Evidence.BackedReadHere, Seeks.LeftSince, Raises.BacksNot, Sweeps.Swept, Guarded.StandsGuard, Guarded.KeepsGuard};
-ghost use Rattle.pas_guard.specs.{Guarded.AreUntouched};
-ghost use Rattle.pas_guard.specs.Books.{is_outer_of, is_outer, AreApart, FitsBook};
+ghost use Rattle.pas_guard.specs.{Evidence.BackedReadHere, Seeks.LeftSince, Raises.BacksNot, Sweeps.Swept, Guarded.{StandsGuard, KeepsGuard, AreUntouched}};
+ghost use Rattle.pas_guard.specs.{Books.{is_outer_of, is_outer, AreApart, FitsBook}, Keepers.{Call, MakesCall, MakesCalls, GivesBlockOf, PutsNoneOf, IsUpIn}};
+ghost use Rattle.pas_guard.specs.Keepers.{IsUpThrough, IsKeeper, IsBeside, GivesGuarded, StandsThrough};
 ghost use Rattle.pas_records.specs.declared.record.Record.{Record};
-ghost use Rattle.pas_guard.specs.Keepers.{Call, MakesCall, MakesCalls, GivesBlockOf, PutsNoneOf, IsUpIn, IsUpThrough, IsKeeper, IsBeside, GivesGuarded};
-ghost use Rattle.pas_guard.specs.Keepers.{StandsThrough};
 
 /// However the steps of all actors fall between each other, and whatever the others do: where an actor, the keeper, makes no steps but those of calls of
 /// `raise` and `sweep` with its one book, then from the give of a raise until the first put of its lowering both outer pages of the guard are held whole by

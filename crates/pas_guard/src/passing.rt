@@ -2,7 +2,7 @@
 ghost use Rattle.std.specs.Prelude.{ℕ, ◌≡◌, ◌≤◌, ◌<◌, ◌/◌, Bool, false, IsTrue, length, slice_index_or};
 ghost use Rattle.pas_profile.specs.{Profiles.IsPage, Blocks.address_of};
 ghost use Rattle.pas_steps.specs.Desks.{AnyView, CanCall};
-ghost use Rattle.pas_guard.specs.{Sweeps.is_over, Sweeps.life_word_of, Passing.AreOfRegion, Passing.KnowsAliveOnes, Passing.PassesAlive};
+ghost use Rattle.pas_guard.specs.{Sweeps.{is_over, life_word_of}, Passing.{AreOfRegion, KnowsAliveOnes, PassesAlive}};
 
 use pas_profile::limits::{GRAIN_BYTES, PAGE_BYTES};
 use pas_profile::{Guard, Word, read_life};

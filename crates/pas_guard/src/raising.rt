@@ -1,7 +1,7 @@
 //! Guards go up.
 ghost use Rattle.std.specs.Prelude.{◌≡◌, ◌≤◌, ◌<◌, ◌+◌, length};
 ghost use Rattle.pas_steps.specs.Desks.{CanCall};
-ghost use Rattle.pas_guard.specs.{Books.guards_in, Books.size_of_book, Raises.RaiseRoom, Raises.Raises};
+ghost use Rattle.pas_guard.specs.{Books.{guards_in, size_of_book}, Raises.{RaiseRoom, Raises}};
 
 use crate::book::GuardBook;
 use crate::guarding::guard_run;

@@ -3,7 +3,7 @@ ghost use Rattle.std.specs.Prelude.{◌≡◌, ◌≤◌, ◌+◌, ◌/◌, ◌%
 ghost use Rattle.pas_profile.specs.{Profiles.IsPage, Blocks.address_of};
 ghost use Rattle.pas_records.specs.Rooms.{records_in, room_of};
 ghost use Rattle.pas_steps.specs.Desks.{AnyView, CanCall};
-ghost use Rattle.pas_guard.specs.{Books.guards_in, Books.size_of_book, Books.FitsBook, Sweeps.LooksOver, Sweeps.Sweeps};
+ghost use Rattle.pas_guard.specs.{Books.{guards_in, size_of_book, FitsBook}, Sweeps.{LooksOver, Sweeps}};
 
 use crate::book::GuardBook;
 use crate::lowering::lower;

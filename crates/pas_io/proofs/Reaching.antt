@@ -1,7 +1,6 @@
 -- How far a source was read after one read more.
 use Rattle.std.proofs.Common.{◌≡◌, ℕ, ◌≤◌, List, subst, inl}
-use Rattle.pas_io.specs.Reached.{HasGone, HasRun}
-use Rattle.pas_io.specs.declared.reach.Reach.{Reach, TheVariants.Within}
+use Rattle.pas_io.specs.{Reached.{HasGone, HasRun}, declared.reach.Reach.{Reach, TheVariants.Within}}
 
 gone_within : (before after : Reach) → HasGone before after → before ≡ Within → after ≡ Within
 gone_within before after gone is = let Gone : Reach → Type 0 = λ r. HasGone r after in subst Gone is gone

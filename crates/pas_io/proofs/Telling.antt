@@ -1,10 +1,8 @@
 -- What several reads or writes in a row do to the bytes that are told.
 use Rattle.std.proofs.Common.{◌≡◌, ℕ, ◌+◌, ◌≤◌, List, [], ◌++◌, Option, None, Some, take, drop, length, ap, sym, ◌∙◌, subst, append_assoc, arith, length-take}
-use Rattle.std.proofs.Common.{take-append-drop, take_all}
-use Rattle.std.proofs.{lemmas.List.take-append-le, lemmas.List.drop_all, Math.Seq.take-add, Math.Seq.take-append-add}
+use Rattle.std.proofs.{Common.{take-append-drop, take_all}, lemmas.List.{take-append-le, drop_all}, Math.Seq.{take-add, take-append-add}}
 use borrow.Rule.Slice.PartMut.{put_mid}
-use Rattle.pas_io.specs.Inputs.{HasRead}
-use Rattle.pas_io.specs.Told.{KeepsTold, Moves, MovesTold, Writes, WritesFront}
+use Rattle.pas_io.specs.{Inputs.HasRead, Told.{KeepsTold, Moves, MovesTold, Writes, WritesFront}}
 
 -- Two writes in a row write the bytes of both.
 pub writes_more : (before middle after : Option (List ℕ)) (xs ys : List ℕ) → Writes before middle xs → Writes middle after ys → Writes before after (xs ++ ys)

@@ -1,7 +1,6 @@
 -- What was read of a source.
 use Rattle.std.specs.Prelude.{ℕ, ◌<◌, ◌≤◌, ◌≡◌, List, [], Option, Some, take, drop, length}
-use Rattle.pas_io.specs.declared.{reach.Reach.Reach, reach.Reach.TheVariants.Within, reach.Reach.TheVariants.AtEnd, whole.Input.Input}
-use Rattle.pas_io.specs.declared.{whole.Input.TheVariants.Whole, whole.Input.TheVariants.TooLong}
+use Rattle.pas_io.specs.declared.{reach.Reach.{Reach, TheVariants.{Within, AtEnd}}, whole.Input.{Input, TheVariants.{Whole, TooLong}}}
 
 -- the input is all the bytes that were told, or there are more of them than the limit
 abbrev pub IsInput : ℕ → List ℕ → Input → Type 0

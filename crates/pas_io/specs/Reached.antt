@@ -1,6 +1,6 @@
 -- How far a source was read.
 use Rattle.std.specs.Prelude.{ℕ, ◌≤◌, ◌≡◌, ◌≢◌, ◌⊎◌, List, []}
-use Rattle.pas_io.specs.declared.reach.Reach.{Reach, TheVariants.Within, TheVariants.AtEnd, TheVariants.Beyond}
+use Rattle.pas_io.specs.declared.reach.Reach.{Reach, TheVariants.{Within, AtEnd, Beyond}}
 
 -- after one more read that met the end
 abbrev pub HasMet : Reach → Reach → Type 0

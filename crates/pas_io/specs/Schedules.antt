@@ -1,6 +1,5 @@
 -- Calls that fail on purpose.
-use Rattle.std.specs.Prelude.{ℕ, ◌≡◌, ◌+◌, ◌-◌, ◌^◌, min}
-use Rattle.std.specs.List.{Contains}
+use Rattle.std.specs.{Prelude.{ℕ, ◌≡◌, ◌+◌, ◌-◌, ◌^◌, min}, List.Contains}
 use Rattle.pas_io.specs.declared.schedule.Schedule.{Schedule}
 
 -- the number of the next call, counted from 1, which stays at 2^64 - 1 once it is there

@@ -14,9 +14,7 @@ mod unread;
 pub mod whole;
 
 ghost use Rattle.std.specs.Prelude.{◌≡◌, ◌≢◌, ◌<◌, ◌≤◌, ◌+◌, ℕ, List, [], Option, length, take, IfOk, OnErr};
-ghost use Rattle.pas_io.specs.Told.{Rose, KeepsTold, MovesTold, Writes};
-ghost use Rattle.pas_io.specs.Reached.{HasGone, HasRun};
-ghost use Rattle.pas_io.specs.declared.reach.Reach.{Reach};
+ghost use Rattle.pas_io.specs.{Told.{Rose, KeepsTold, MovesTold, Writes}, Reached.{HasGone, HasRun}, declared.reach.Reach.Reach};
 
 pub use memory::{MemorySink, MemorySource};
 pub use reach::Reach;

@@ -36,7 +36,7 @@ impl MemorySource {
 
 impl Source for MemorySource {
     ghost use Rattle.std.specs.Prelude.{◌≡◌, ◌≤◌, ◌+◌, Some, length, IfOk, IsErr, OnErr, ◌↔◌};
-    ghost use Rattle.pas_io.specs.{Told.Rose, Told.MovesTold, Reached.HasGone, Reached.HasRun, Unread.left, Schedules.CallFails, Schedules.Called};
+    ghost use Rattle.pas_io.specs.{Told.{Rose, MovesTold}, Reached.{HasGone, HasRun}, Unread.left, Schedules.{CallFails, Called}};
 
     ghost rest = { λ s. Some (left s.unread) };
 
@@ -113,7 +113,7 @@ impl MemorySink {
 
 impl Sink for MemorySink {
     ghost use Rattle.std.specs.Prelude.{◌≡◌, ◌≢◌, ◌≤◌, ◌<◌, ◌+◌, ◌-◌, ◌⊎◌, ◌↔◌, min, Some, [], take, length, vec_len, IfOk, IsErr, OnErr};
-    ghost use Rattle.pas_io.specs.{Told.Rose, Told.Writes, Taken.taken, Taken.room_of, Schedules.CallFails, Schedules.Called};
+    ghost use Rattle.pas_io.specs.{Told.{Rose, Writes}, Taken.{taken, room_of}, Schedules.{CallFails, Called}};
 
     ghost held = { λ s. Some (taken s) };
 

@@ -1,6 +1,6 @@
 //! Reading a source piece by piece.
 ghost use Rattle.std.specs.Prelude.{◌≡◌, ◌<◌, ◌≤◌, ◌+◌, ◌-◌, ◌^◌, ℕ, List, length, take, drop, IfOk, OnErr};
-ghost use Rattle.pas_io.specs.{Told.Rose, Reached.StopsAtEnd, Inputs.HasRead, Inputs.Takes};
+ghost use Rattle.pas_io.specs.{Told.Rose, Reached.StopsAtEnd, Inputs.{HasRead, Takes}};
 ghost use Rattle.pas_io.specs.declared.reach.Reach.TheVariants as Reach;
 
 use crate::{Failed, Source};

@@ -1,6 +1,6 @@
 //! Calls that fail on purpose.
 ghost use Rattle.std.specs.Prelude.{◌≡◌, ◌≤◌, ◌+◌, ◌↔◌, IsTrue};
-ghost use Rattle.pas_io.specs.{Told.Rose, Schedules.CallFails, Schedules.Called};
+ghost use Rattle.pas_io.specs.{Told.Rose, Schedules.{CallFails, Called}};
 
 /// Which calls fail: those whose numbers, counted from 1, are listed. It counts the calls and their failures, up to 2^64 - 1 each.
 #[derive(Drop)]

@@ -1,6 +1,6 @@
 //! A source and a sink that never fail.
 ghost use Rattle.std.specs.Prelude.{◌≡◌, ◌≢◌, ◌≤◌, [], Some, None, length, take, IsOk, IfOk, OnErr};
-ghost use Rattle.pas_io.specs.{Told.Rose, Told.MovesTold, Told.Writes, Unread.left, Reached.HasRun};
+ghost use Rattle.pas_io.specs.{Told.{Rose, MovesTold, Writes}, Unread.left, Reached.HasRun};
 ghost use Rattle.pas_io.specs.declared.reach.Reach.TheVariants as Reach;
 
 use crate::reach::Reach;

@@ -1,7 +1,6 @@
 //! Reading and writing whole texts.
 ghost use Rattle.std.specs.Prelude.{◌≡◌, ◌<◌, ◌≤◌, ◌+◌, ◌^◌, ℕ, List, Some, IfOk, OnOk, OnErr, IsErrOf};
-ghost use Rattle.pas_io.specs.{Told.Rose, Told.Writes, Told.WritesFront, Reached.StopsAtEnd};
-ghost use Rattle.pas_io.specs.Inputs.{IsInput, IsReadOut, IsReadUp, IsShort, Takes};
+ghost use Rattle.pas_io.specs.{Told.{Rose, Writes, WritesFront}, Reached.StopsAtEnd, Inputs.{IsInput, IsReadOut, IsReadUp, IsShort, Takes}};
 ghost use Rattle.pas_io.specs.declared.reach.Reach.TheVariants as Reach;
 
 use crate::pieces::fill;

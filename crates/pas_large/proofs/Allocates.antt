@@ -1,34 +1,26 @@
 -- A large block: the run that was found is given, or the refusal has its reason.
-use Rattle.pas_steps.proofs.{SpareRoom.Spares, Called.call_then, Called.next_call, Apart.only_both, Apart.only_within, Parts.part_of_own, Parts.part_of_others}
-use Rattle.pas_steps.proofs.Calls.{leads_then, leads_idly, does_then, leads_as}
+use Rattle.pas_steps.proofs.{SpareRoom.Spares, Called.{call_then, next_call}, Apart.{only_both, only_within}, Parts.{part_of_own, part_of_others}}
+use Rattle.pas_steps.proofs.{Calls.{leads_then, leads_idly, does_then, leads_as}, Past.{always_map, once_later, once_map, since_once, always_both}}
+use Rattle.pas_steps.{proofs.Adding.{Tells, adds_call, agreed_later, legal_after, triples_append, adds_under}, specs.Calls.{Leads, Calls, nothing, Does}}
+use Rattle.pas_steps.specs.{Desks.{Seat, Standing, CanCall, triples, AnyView}, Kinds.{looking, kind_of, is_in, Only, lending}, Frames.{IsScan, OnlyScans}}
+use Rattle.pas_steps.specs.{Views.{View, holds, has_right}, Past.Always, Agreement.Agreed, Lists.{Whole, part, Legal}, Evidence.KeptHere}
+use Rattle.pas_steps.specs.declared.step.{Step.Step, Made.Made}
 use Rattle.std.proofs.Common.{◌≡◌, ℕ, ◌+◌, ◌*◌, ◌≤◌, true, List, ◌++◌, length-append, Option, Some, None, Result, MatchResult, Ok, Err, inl, inr, refl, ap, sym}
 use Rattle.std.proofs.Common.{◌∙◌, subst, arith, append_assoc, Bool, false, [], append-nil, ◌<◌, ◌⊎◌}
-use Rattle.pas_profile.specs.declared.{directory.Directory.Directory, event.NoRoom.NoRoom, name.Block.Block, profile.Profile.Profile}
-use Rattle.pas_profile.specs.declared.{event.NoRoom.TheVariants.Held}
-use Rattle.pas_scan.specs.{Runs.large_directory, Runs.IsInRun, Usable.WholeHere}
-use Rattle.pas_steps.specs.Calls.{Leads, Calls, nothing, Does}
-use Rattle.pas_steps.specs.Desks.{Seat, Standing, CanCall, triples, AnyView}
-use Rattle.pas_steps.specs.Kinds.{looking, kind_of, is_in, Only, lending}
-use Rattle.pas_steps.specs.{Frames.IsScan, Frames.OnlyScans, Views.View, Views.holds, Views.has_right, Past.Always, Agreement.Agreed, Lists.Whole, Lists.part}
-use Rattle.pas_steps.specs.{Lists.Legal, Evidence.KeptHere}
-use Rattle.pas_steps.specs.declared.step.{Step.Step, Made.Made}
-use Rattle.pas_steps.proofs.Past.{always_map, once_later, once_map, since_once, always_both}
-use Rattle.pas_steps.proofs.Adding.{Tells, adds_call, agreed_later, legal_after, triples_append, adds_under}
+use Rattle.pas_profile.specs.declared.{directory.Directory.Directory, event.NoRoom.{NoRoom, TheVariants.Held}, name.Block.Block, profile.Profile.Profile}
+use Rattle.pas_profile.specs.{Blocks.address_of, Directories.IsKind, Profiles.{IsValid, IsDirectoryOf}}
+use Rattle.pas_scan.specs.{Runs.{large_directory, IsInRun}, Usable.WholeHere}
 use Rattle.pas_large.specs.Allocates.{GaveLarge, IsAllocatedLarge, IsRefusedLarge, AllocatesByScan, AllocatesLarge, IsServedNamed, IsScanned}
-use Rattle.pas_large.specs.{Named.HoldsNamed, Named.ClaimsNamed, Named.missed_steps, Evidence.TakenWholeHere, Gives.GivesRun, Pages.GotPages}
-use Rattle.pas_large.specs.{Pages.OnlyDeedsShow, Pages.claiming_old, Refusals.IsReason, Refusals.Refuses, Alone.GoesByDoor, Alone.FindsTheRunThereIs}
-use Rattle.pas_large.specs.Telling.{IsNamedWhole, IsToldLarge, TakesNamed, IsToldByDoor}
-use Rattle.pas_large.specs.Claims.{in_span, HasPages, ClaimsRun, HoldsSpan, LacksAll, MayClaimPages}
-use Rattle.pas_large.proofs.Claims.{has_got, room_after, span_in, alone_at_first}
-use Rattle.pas_large.proofs.Told.{none_after, true_reason, never_missed, got_whole, lowest_alone, none_alone}
-use Rattle.pas_large.proofs.{Pages.undone, Refusals.reason_before, Finds.may_find}
-use Rattle.pas_large.specs.Finds.{MayFind, FindRoom, LooksAlone, Finds, finding}
-use Rattle.pas_rights.specs.Gives.{give_steps}
-use Rattle.pas_search.specs.{Kinds.ReturnsDuly, Telling.IsTrueReason, Alone.IsLone}
-use Rattle.pas_profile.specs.{Blocks.address_of, Directories.IsKind, Profiles.IsValid, Profiles.IsDirectoryOf}
-use Rattle.pas_core.proofs.{OneActor.legal_earlier, OneActor.lends_none, Nexts.agreed_steps}
+use Rattle.pas_large.specs.{Named.{HoldsNamed, ClaimsNamed, missed_steps}, Evidence.TakenWholeHere, Gives.GivesRun, Pages.{GotPages, OnlyDeedsShow}}
+use Rattle.pas_large.specs.{Pages.claiming_old, Refusals.{IsReason, Refuses}, Alone.{GoesByDoor, FindsTheRunThereIs}, Telling.{IsNamedWhole, IsToldLarge}}
+use Rattle.pas_large.specs.{Telling.{TakesNamed, IsToldByDoor}, Claims.{in_span, HasPages, ClaimsRun, HoldsSpan, LacksAll, MayClaimPages}, Finds.MayFind}
+use Rattle.pas_large.{specs.Finds.{FindRoom, LooksAlone, Finds, finding}, proofs.{Claims.{has_got, room_after, span_in, alone_at_first}, Told.none_after}}
+use Rattle.pas_large.proofs.{Told.{true_reason, never_missed, got_whole, lowest_alone, none_alone}, Pages.undone, Refusals.reason_before, Finds.may_find}
 use Rattle.pas_large.proofs.Lifted.{find_again, after_still, found_run, found_none}
-use Rattle.pas_search.proofs.{FindingAPage.OwnLacks, FindingAPage.still_lacks, FindingAPage.none_held_there, PagesThatServe.duly_both, PagesThatServe.duly_none}
+use Rattle.pas_rights.specs.Gives.{give_steps}
+use Rattle.pas_search.{specs.{Kinds.ReturnsDuly, Telling.IsTrueReason, Alone.IsLone}, proofs.FindingAPage.{OwnLacks, still_lacks, none_held_there}}
+use Rattle.pas_search.proofs.PagesThatServe.{duly_both, duly_none}
+use Rattle.pas_core.proofs.{OneActor.{legal_earlier, lends_none}, Nexts.agreed_steps}
 
 -- ---- the claim of the run that a door names
 -- whatever the door names may be claimed

@@ -1,37 +1,26 @@
 -- The claim of the pages of a run, one page more, and how they are left.
-use Rattle.pas_steps.specs.{Clear.IsClear, Frames.IsOnPage, Frames.OnlyOn, Past.Once, Past.Always, Past.Since, Evidence.KeptHere, Evidence.GetsHere}
-use Rattle.pas_steps.specs.{Agreement.Agreed, Unknown.unknown_pages, Kinds.Kinds, Kinds.within}
-use Rattle.pas_steps.proofs.{SpareRoom.Spares, SpareRoom.spare_falls, Sets.both_fates, Apart.only_both, Apart.only_within}
+use Rattle.pas_steps.specs.{Clear.IsClear, Frames.{IsOnPage, OnlyOn}, Past.{Once, Always, Since}, Evidence.{KeptHere, GetsHere}, Agreement.Agreed}
+use Rattle.pas_steps.specs.{Unknown.unknown_pages, Kinds.{Kinds, within}, Calls.{Kept, Gained, Lost, now, nothing, Does, Calls, Leads}, Views.{View, Stays}}
+use Rattle.pas_steps.specs.{Views.{grain_move, held_after, holds, has_right, KnowsDeed}, declared.step.{Made.Made, Step.TheVariants.Deed}, Desks.Seat}
+use Rattle.pas_steps.{specs.Desks.{Standing, CanCall, Adds}, proofs.{SpareRoom.{Spares, spare_falls}, Sets.both_fates, Apart.{only_both, only_within}}}
+use Rattle.pas_steps.proofs.{Calls.{does_as, does_then, does_after_nothing, does_none}, Frames.{right_on, on_grain, holds_on_page, knows_still}}
+use Rattle.pas_steps.proofs.{Past.{always_both, always_map, once_later, once_earlier}, Adding.{adds_none, adds_call, can_call, agreed_first, agreed_later}}
+use Rattle.pas_steps.proofs.{Adding.adds_under, Called.{call_none, call_then, next_call, call_as}}
 use Rattle.std.proofs.Common.{◌≡◌, ◌≢◌, ℕ, ◌+◌, ◌/◌, ◌-◌, ◌<◌, ◌≤◌, ◌==◌, ◌*◌, min, Bool, true, false, ◌||◌, if◌then◌else◌, List, [], ◌∷◌, ◌++◌, inl, inr, refl}
 use Rattle.std.proofs.Common.{ap, sym, ◌∙◌, arith, true≢false, length, subst, append_assoc, length-append, append-nil, Some, None, eqb-true, Option}
 use Rattle.std.proofs.lemmas.Bool.{and_parts, cases_Bool, cases_eq, Decides.nat_tests}
-use Rattle.pas_profile.specs.declared.{directory.Directory.Directory, profile.Profile.Profile}
-use Rattle.pas_steps.specs.Calls.{Kept, Gained, Lost, now, nothing, Does, Calls, Leads}
-use Rattle.pas_steps.specs.Views.{View, Stays, grain_move, held_after, holds, has_right, KnowsDeed}
-use Rattle.pas_steps.specs.declared.step.{Made.Made, Step.TheVariants.Deed}
-use Rattle.pas_steps.proofs.Calls.{does_as, does_then, does_after_nothing, does_none}
-use Rattle.pas_steps.proofs.Frames.{right_on, on_grain, holds_on_page, knows_still}
-use Rattle.pas_steps.proofs.Past.{always_both, always_map, once_later, once_earlier}
-use Rattle.pas_scan.specs.{Runs.page_looks, Usable.LeftAlone}
+use Rattle.pas_profile.specs.{declared.{directory.Directory.Directory, profile.Profile.Profile}, Directories.IsDirectory}
+use Rattle.pas_scan.{specs.{Runs.page_looks, Usable.LeftAlone}, proofs.LeftPages.{usable_later, left_alone_by, holds_own}}
 use Rattle.pas_large.specs.Pages.{of_pages, GotPages, MayClaim, DeedsOn, OnlyDeedsShow, claiming, claiming_old, LosesPage, BreaksPage, WinsPage, ClaimsPage}
 use Rattle.pas_large.specs.Claims.{in_span, MayClaimPages, HasRunRoom, AloneFrom, DeedsIn, HoldsSpan, FailsAt, ClaimsPages, HasPages, Releases, ClaimsRun}
-use Rattle.pas_large.specs.Claims.{LacksAll, StaysPut}
-use Rattle.pas_search.specs.Kinds.{ReturnsDuly}
-use Rattle.pas_search.proofs.PagesThatServe.{duly_both, duly_in, return_page}
-use Rattle.pas_rights.proofs.{Puts.put_and_leave_due, Orders.on_full}
-use Rattle.pas_large.proofs.Pages.{DeedsFrom, from_on, rise_later, rise_both, Orderly, below_both, below_wider, MadeHere, since_more, undone, no_deeds}
-use Rattle.pas_large.proofs.Pages.{knew_before, shows_both, shows_taking, after_more}
-use Rattle.pas_profile.specs.Directories.{IsDirectory}
-use Rattle.pas_rights.specs.{Puts.masked, Words.full}
-use Rattle.pas_rights.specs.PutsBack.{giving_back, taking_grains, GivesDuly, MayPutAndLeave, PutsAndLeaves}
-use Rattle.pas_steps.specs.Desks.{Seat, Standing, CanCall, Adds}
-use Rattle.pas_steps.proofs.Adding.{adds_none, adds_call, can_call, agreed_first, agreed_later, adds_under}
-use Rattle.pas_steps.proofs.Called.{call_none, call_then, next_call, call_as}
-use Rattle.pas_scan.proofs.LeftPages.{usable_later, left_alone_by, holds_own}
-use Rattle.pas_large.specs.Evidence.{LostHere, BrokenHere, TakenWholeHere, DeedsBelow, MissedHere, GotOf, LeftOrBroken}
-use Rattle.pas_large.specs.declared.claiming.Claimed.{Claimed}
-use Rattle.pas_large.proofs.Left.{parks_both, deeds_both, OffPage, off_on, off_parks, off_deeds, left_of_alone, left_off, got_off, left_before, got_before}
-use Rattle.pas_large.proofs.Left.{missed_before, left_hints, released}
+use Rattle.pas_large.specs.{Claims.{LacksAll, StaysPut}, Evidence.{LostHere, BrokenHere, TakenWholeHere, DeedsBelow, MissedHere, GotOf, LeftOrBroken}}
+use Rattle.pas_large.{specs.declared.claiming.Claimed.Claimed, proofs.Pages.{DeedsFrom, from_on, rise_later, rise_both, Orderly, below_both, below_wider}}
+use Rattle.pas_large.proofs.{Pages.{MadeHere, since_more, undone, no_deeds, knew_before, shows_both, shows_taking, after_more}, Left.{parks_both, deeds_both}}
+use Rattle.pas_large.proofs.Left.{OffPage, off_on, off_parks, off_deeds, left_of_alone, left_off, got_off, left_before, got_before, missed_before, left_hints}
+use Rattle.pas_large.proofs.Left.{released}
+use Rattle.pas_search.{specs.Kinds.ReturnsDuly, proofs.PagesThatServe.{duly_both, duly_in, return_page}}
+use Rattle.pas_rights.{proofs.{Puts.put_and_leave_due, Orders.on_full}, specs.{Puts.masked, Words.full, PutsBack.{giving_back, taking_grains, GivesDuly}}}
+use Rattle.pas_rights.specs.PutsBack.{MayPutAndLeave, PutsAndLeaves}
 
 -- ---- pages from one to below another, one page more, and what becomes of them
 pub span_in : (first stop p : ℕ) → first ≤ p → p < stop → in_span first stop p ≡ true

@@ -1,32 +1,25 @@
 -- The search for a run that can be claimed, one run more.
-use Rattle.pas_steps.proofs.{SpareRoom.Spares, Frames.right_own, Frames.deed_stays, Apart.only_within, Apart.only_both, Evidence.unknown}
+use Rattle.pas_steps.proofs.{SpareRoom.Spares, Frames.{right_own, deed_stays}, Apart.{only_within, only_both}, Evidence.unknown, Past.once_later}
+use Rattle.pas_steps.proofs.{Past.{once_earlier, once_map, always_both, always_map}, Adding.{Tells, adds_none, adds_call, agreed_first, agreed_later}}
+use Rattle.pas_steps.{proofs.{Adding.legal_after, Calls.{does_none, leads_none, leads_idly, leads_then, does_then, still_clear}}, specs.Views.View}
+use Rattle.pas_steps.specs.{Views.{known_deed, KnowsDeed}, Agreement.Agreed, Past.{Once, Always}, Calls.{Leads, nothing, Does}, Lists.{Whole, part, Legal}}
+use Rattle.pas_steps.specs.{Frames.OnlyScans, Kinds.{Kinds, Deeding, Only, kind_of, is_in, looking, apart, righting, moving, Backing, returning}}
+use Rattle.pas_steps.specs.{declared.step.{Made.Made, Step.TheVariants.Deed}, Desks.{Seat, Standing, Adds, CanCall, triples}}
 use Rattle.std.proofs.Common.{ℕ, ◌+◌, ◌<◌, ◌≤◌, List, [], ◌++◌, refl, ◌∙◌, inl, inr, ◌⊎◌, arith, Option, ◌≡◌, true, Some, None, ap, sym, subst, append_assoc}
 use Rattle.std.proofs.Common.{true≢false, false, length, ◌*◌, length-append, Bool, append-nil, ◌∷◌, Result, MatchResult, Ok, Err, MatchOption}
 use Rattle.std.proofs.lemmas.Bool.{cases_lt, cases_eq}
-use Rattle.pas_profile.specs.declared.{directory.Directory.Directory, profile.Profile.Profile, event.NoRoom.NoRoom, name.Block.Block}
-use Rattle.pas_steps.specs.{Views.View, Views.known_deed, Views.KnowsDeed, Agreement.Agreed, Past.Once, Past.Always, Calls.Leads, Calls.nothing, Calls.Does}
-use Rattle.pas_steps.specs.{Lists.Whole, Lists.part, Lists.Legal, Frames.OnlyScans}
-use Rattle.pas_steps.specs.Kinds.{Kinds, Deeding, Only, kind_of, is_in, looking, apart, righting, moving, Backing, returning}
-use Rattle.pas_scan.specs.Runs.{page_looks, HasUnusable, IsFirstRun, HasNoRun, IsInRun, FindsRun}
-use Rattle.pas_steps.specs.declared.step.{Made.Made, Step.TheVariants.Deed}
-use Rattle.pas_steps.proofs.Past.{once_later, once_earlier, once_map, always_both, always_map}
-use Rattle.pas_scan.specs.Usable.{DeedReadHere, UnusableHere, LeftAlone, ReadUsable}
+use Rattle.pas_profile.specs.{declared.{directory.Directory.Directory, profile.Profile.Profile, event.NoRoom.NoRoom, name.Block.Block}, Directories.IsKind}
+use Rattle.pas_profile.specs.Profiles.{IsValid}
+use Rattle.pas_scan.specs.{Runs.{page_looks, HasUnusable, IsFirstRun, HasNoRun, IsInRun, FindsRun}, Usable.{DeedReadHere, UnusableHere, LeftAlone, ReadUsable}}
 use Rattle.pas_scan.proofs.LeftPages.{usable_before, usable_later, unusable_before, left_alone_by, holds_own, deed_before, lacks_by}
-use Rattle.pas_search.specs.{Kinds.ReturnsDuly, Alone.IsLone}
-use Rattle.pas_search.proofs.PagesThatServe.{duly_both, duly_none}
-use Rattle.pas_large.specs.Evidence.{LostHere, BrokenHere, BadHere, HasBad, IsVain, AllUsable, FailsHere, HasFailed, DeedsOf}
-use Rattle.pas_large.specs.{Pages.OnceAfter, Pages.OnlyDeedsShow, Pages.claiming_old, Gives.pages_from, Gives.run_block}
-use Rattle.pas_large.specs.Claims.{AloneFrom, DeedsIn, FailsRun, in_span, MayClaimPages, HasRunRoom, LacksAll, ClaimsRun, HoldsRun}
-use Rattle.pas_steps.specs.Desks.{Seat, Standing, Adds, CanCall, triples}
-use Rattle.pas_steps.proofs.Adding.{Tells, adds_none, adds_call, agreed_first, agreed_later, legal_after}
-use Rattle.pas_steps.proofs.Calls.{does_none, leads_none, leads_idly, leads_then, does_then, still_clear}
-use Rattle.pas_profile.specs.{Directories.IsKind, Profiles.IsValid}
-use Rattle.pas_core.proofs.{Nexts.agreed_steps, OneActor.lends_none, OneActor.legal_earlier}
-use Rattle.pas_large.proofs.{Claims.orderly_claim, Claims.room_after, Claims.got_after, Told.never_fails, Told.lowest_alone, Told.none_alone}
-use Rattle.pas_large.proofs.Left.{parks_both, deeds_both, only_backs, backs_few, only_leaves}
-use Rattle.pas_large.specs.Finds.{MayFind, FindRoom, finding, Finds, FoundRun, FoundNone, LooksAlone, IsToldFind}
-use Rattle.pas_large.proofs.Pages.{Orderly, orderly_later, orderly_wider, known_of, shows_both}
-use Rattle.pas_large.specs.Allocates.{GaveLarge, IsAllocatedLarge, IsRefusedLarge, IsServedNamed, IsScanned}
+use Rattle.pas_search.{specs.{Kinds.ReturnsDuly, Alone.IsLone}, proofs.PagesThatServe.{duly_both, duly_none}}
+use Rattle.pas_large.specs.{Evidence.{LostHere, BrokenHere, BadHere, HasBad, IsVain, AllUsable, FailsHere, HasFailed, DeedsOf}, Pages.OnceAfter}
+use Rattle.pas_large.specs.{Pages.{OnlyDeedsShow, claiming_old}, Gives.{pages_from, run_block}, Claims.{AloneFrom, DeedsIn, FailsRun, in_span, MayClaimPages}}
+use Rattle.pas_large.specs.{Claims.{HasRunRoom, LacksAll, ClaimsRun, HoldsRun}, Finds.{MayFind, FindRoom, finding, Finds, FoundRun, FoundNone, LooksAlone}}
+use Rattle.pas_large.{specs.{Finds.IsToldFind, Allocates.{GaveLarge, IsAllocatedLarge, IsRefusedLarge, IsServedNamed, IsScanned}}, proofs.Claims.orderly_claim}
+use Rattle.pas_large.proofs.{Claims.{room_after, got_after}, Told.{never_fails, lowest_alone, none_alone}, Left.{parks_both, deeds_both, only_backs, backs_few}}
+use Rattle.pas_large.proofs.{Left.only_leaves, Pages.{Orderly, orderly_later, orderly_wider, known_of, shows_both}}
+use Rattle.pas_core.proofs.{Nexts.agreed_steps, OneActor.{lends_none, legal_earlier}}
 use Rattle.pas_rights.specs.Gives.{give_steps}
 
 -- ---- the search of runs so far: each run that begins below page `from` can't serve, and the pages from there to below `next` were read as usable

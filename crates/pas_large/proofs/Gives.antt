@@ -1,28 +1,18 @@
 -- The pages of a run are backed, its block is given, and they are left.
 use Rattle.std.proofs.Common.{◌≡◌, ℕ, zero, ◌+◌, ◌-◌, ◌*◌, ◌/◌, ◌<◌, ◌≤◌, ◌==◌, true, if◌then◌else◌, List, [], ◌∷◌, ◌++◌, length, inl, inr, refl, ap, sym, ◌∙◌}
-use Rattle.std.proofs.Common.{subst, arith, length-append, true≢false, ◌^◌, eq-eqb}
-use Rattle.std.proofs.lemmas.Bool.{cases_eq, and_from}
-use Rattle.pas_profile.specs.{Profiles.IsPage, Profiles.IsDirectoryOf, Blocks.grain_of, Blocks.length_of}
-use Rattle.pas_profile.specs.declared.{directory.Directory.Directory, profile.Profile.Profile, name.Block.Block}
-use Rattle.pas_profile.proofs.Codecs.{deed_word_of-positive}
-use Rattle.pas_rights.specs.Leaves.{MayLeave, Leaves, LeaveSteps}
-use Rattle.pas_steps.specs.{Agreement.Agrees, Allowed.Allowed, Events.events_by, Events.event_of, InTurn.InTurn}
-use Rattle.pas_steps.specs.Calls.{Calls, Kept, Lost, Does, ClearAfter}
-use Rattle.pas_steps.specs.Desks.{Standing, CanCall, CanMake, Makes, made}
-use Rattle.pas_steps.specs.Kinds.{Backing, Only, Giving, LookLife}
-use Rattle.pas_steps.specs.Views.{View, holds, holds_on, knows_backed, KnowsDeed, epoch_of}
-use Rattle.pas_steps.specs.declared.step.{Made.Made, Step.TheVariants.Back}
-use Rattle.pas_steps.proofs.{Apart.deeds_same, Frames.any_from, Sets.both_fates, Sets.kept_kept, Frames.with_few}
-use Rattle.pas_steps.proofs.Called.{call_none, call_step, call_then, next_call, call_as}
+use Rattle.std.proofs.{Common.{subst, arith, length-append, true≢false, ◌^◌, eq-eqb}, lemmas.Bool.{cases_eq, and_from}}
+use Rattle.pas_profile.specs.{Profiles.{IsPage, IsDirectoryOf}, Blocks.{grain_of, length_of}, declared.{directory.Directory.Directory, profile.Profile.Profile}}
+use Rattle.pas_profile.{specs.declared.name.Block.Block, proofs.Codecs.deed_word_of-positive}
+use Rattle.pas_rights.{specs.{Leaves.{MayLeave, Leaves, LeaveSteps}, Gives.{MayGive, block_of, give_steps, GivesRun as GivesBlock}}, proofs.Gives.bears_by}
+use Rattle.pas_steps.specs.{Agreement.Agrees, Allowed.Allowed, Events.{events_by, event_of}, InTurn.InTurn, Calls.{Calls, Kept, Lost, Does, ClearAfter}}
+use Rattle.pas_steps.specs.{Desks.{Standing, CanCall, CanMake, Makes, made}, Kinds.{Backing, Only, Giving, LookLife}, Views.{View, holds, holds_on}}
+use Rattle.pas_steps.{specs.{Views.{knows_backed, KnowsDeed, epoch_of}, declared.step.{Made.Made, Step.TheVariants.Back}}, proofs.Apart.deeds_same}
+use Rattle.pas_steps.proofs.{Frames.{any_from, with_few}, Sets.{both_fates, kept_kept}, Called.{call_none, call_step, call_then, next_call, call_as}}
 use Rattle.pas_steps.proofs.Calls.{does_as, does_then, does_none, does_idly, does_after_nothing, kept_first}
-use Rattle.pas_large.proofs.Claims.{pages_call, call_knowing, span_wider, span_in, in_parts, span_past, span_none, span_more}
-use Rattle.pas_large.proofs.Left.{only_backs, backs_few}
-use Rattle.pas_large.specs.Claims.{in_span, HasPages}
-use Rattle.pas_large.specs.Gives.{BackStep, pages_from, BackedRun, BacksRun, MayLeaveRun, LeavesRun, run_block, given_run, GaveRun, GivesRun, LeftRun}
-use Rattle.pas_rights.specs.Gives.{MayGive, block_of, give_steps, GivesRun as GivesBlock}
-use Rattle.pas_rights.proofs.Gives.{bears_by}
-use Rattle.pas_bits.specs.Runs.{in_run}
-use Rattle.pas_bits.proofs.Runs.{run_of, to_run}
+use Rattle.pas_large.proofs.{Claims.{pages_call, call_knowing, span_wider, span_in, in_parts, span_past, span_none, span_more}, Left.{only_backs, backs_few}}
+use Rattle.pas_large.specs.{Claims.{in_span, HasPages}, Gives.{BackStep, pages_from, BackedRun, BacksRun, MayLeaveRun, LeavesRun, run_block, given_run}}
+use Rattle.pas_large.specs.Gives.{GaveRun, GivesRun, LeftRun}
+use Rattle.pas_bits.{specs.Runs.in_run, proofs.Runs.{run_of, to_run}}
 
 -- ---- pages in turn
 none_in_turn : (P : ℕ → List Made → Type 0) (first : ℕ) → InTurn P (pages_from first (first - first)) []

@@ -2,28 +2,19 @@
 use Rattle.std.proofs.Common.{◌≡◌, ◌≢◌, ℕ, zero, suc, ◌+◌, ◌*◌, ◌/◌, ◌%◌, ◌<◌, ◌==◌, Bool, true, false, ◌||◌, MatchBool, List, [], ◌∷◌, ◌++◌, ◌⊎◌, inl, inr}
 use Rattle.std.proofs.Common.{slice_index, refl, ap, sym, ◌∙◌, subst, arith, append_assoc, true≢false, eq-eqb, ◌≤◌, length, length-append}
 use Rattle.std.proofs.lemmas.Bool.{and_from, cases_Bool, cases_eq, cond_both}
-use Rattle.pas_bits.specs.declared.mask.Mask4.{Mask4}
-use Rattle.pas_bits.specs.{Masks.is_set, Bits.has_bit}
-use Rattle.pas_bits.proofs.Words.{at_word}
-use Rattle.pas_profile.specs.Directories.{IsDirectory}
-use Rattle.pas_profile.specs.declared.directory.Directory.{Directory}
-use Rattle.pas_rights.specs.{Leaves.EndsLeave, Leaves.LeaveSteps, Puts.masked, Puts.WordPut, Puts.PutsBelow, PutsBack.giving_back, PutsBack.GivesDuly}
-use Rattle.pas_rights.specs.{PutsBack.PutsAndLeaves, Words.words, Words.full}
-use Rattle.pas_rights.specs.Looks.{looks, HasUsable, HasNoUsable, HintsEmpty, HintsWhere, ReadsBacked, ReadsAllFree, TakesNone}
-use Rattle.pas_rights.proofs.Puts.{leave_due, in_word, puts_kinds}
-use Rattle.pas_rights.proofs.Orders.{leave_returns, looks_only, looks_read, none_used, on_full}
-use Rattle.pas_steps.specs.{Desks.Standing, Desks.made, Effects.in_mask, Past.Once, Past.Always, InTurn.InTurn}
-use Rattle.pas_steps.specs.Evidence.{Readings, OneHere, ShowsHere, KeptHere, GetsHere}
-use Rattle.pas_steps.specs.Frames.{IsOnPage, OnlyOn, GivesUp, KeepsRight}
-use Rattle.pas_steps.specs.Kinds.{Kinds, LookFree, Deeding, Taking, Giving, Ending, Putting, Parking, kind_of, is_in, Only, returning, Backing}
-use Rattle.pas_steps.specs.Views.{View, grain_move, held_after, holds, has_right}
-use Rattle.pas_steps.specs.declared.step.{Made.Made, Step.Step, Step.TheVariants.Deed, Step.TheVariants.Park, Step.TheVariants.Back}
-use Rattle.pas_steps.proofs.{Apart.holds_over, Apart.holds_same, Apart.rights_same, Calls.returns_are, Frames.right_own, Frames.right_on, Frames.holds_on_page}
-use Rattle.pas_steps.proofs.Past.{always_both, always_map, once_earlier, once_later, in_turn_always}
-use Rattle.pas_scan.specs.Usable.{OfHere, ParksNotHere, IsFresh, MakesNoDeedHere, LeftAlone}
-use Rattle.pas_scan.proofs.LeftPages.{holds_own, since_earlier}
-use Rattle.pas_large.specs.Evidence.{BrokenHere, MissedHere, GotOf, LeftOrBroken}
-use Rattle.pas_large.specs.{Pages.OnceAfter, Gives.BackStep, Gives.pages_from}
+use Rattle.pas_bits.{specs.{declared.mask.Mask4.Mask4, Masks.is_set, Bits.has_bit}, proofs.Words.at_word}
+use Rattle.pas_profile.specs.{Directories.IsDirectory, declared.directory.Directory.Directory}
+use Rattle.pas_rights.specs.{Leaves.{EndsLeave, LeaveSteps}, Puts.{masked, WordPut, PutsBelow}, PutsBack.{giving_back, GivesDuly, PutsAndLeaves}, Words.words}
+use Rattle.pas_rights.specs.{Words.full, Looks.{looks, HasUsable, HasNoUsable, HintsEmpty, HintsWhere, ReadsBacked, ReadsAllFree, TakesNone}}
+use Rattle.pas_rights.proofs.{Puts.{leave_due, in_word, puts_kinds}, Orders.{leave_returns, looks_only, looks_read, none_used, on_full}}
+use Rattle.pas_steps.specs.{Desks.{Standing, made}, Effects.in_mask, Past.{Once, Always}, InTurn.InTurn, Evidence.{Readings, OneHere, ShowsHere, KeptHere}}
+use Rattle.pas_steps.specs.{Evidence.GetsHere, Frames.{IsOnPage, OnlyOn, GivesUp, KeepsRight}, Kinds.{Kinds, LookFree, Deeding, Taking, Giving, Ending}}
+use Rattle.pas_steps.specs.{Kinds.{Putting, Parking, kind_of, is_in, Only, returning, Backing}, Views.{View, grain_move, held_after, holds, has_right}}
+use Rattle.pas_steps.{specs.declared.step.{Made.Made, Step.{Step, TheVariants.{Deed, Park, Back}}}, proofs.Apart.{holds_over, holds_same, rights_same}}
+use Rattle.pas_steps.proofs.{Calls.returns_are, Frames.{right_own, right_on, holds_on_page}, Past.{always_both, always_map, once_earlier, once_later}}
+use Rattle.pas_steps.proofs.Past.{in_turn_always}
+use Rattle.pas_scan.{specs.Usable.{OfHere, ParksNotHere, IsFresh, MakesNoDeedHere, LeftAlone}, proofs.LeftPages.{holds_own, since_earlier}}
+use Rattle.pas_large.specs.{Evidence.{BrokenHere, MissedHere, GotOf, LeftOrBroken}, Pages.OnceAfter, Gives.{BackStep, pages_from}}
 
 -- ---- steps of kinds that make no deeds, and that park nothing
 pub deeds_none : (ks : Kinds) (page : ℕ) (steps : List Made) → is_in ks Deeding ≡ false → Only ks steps → Always (MakesNoDeedHere page) steps

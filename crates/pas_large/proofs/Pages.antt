@@ -1,46 +1,31 @@
 -- The claim of one page: its right and its grains, and how it is left.
 use Rattle.std.proofs.Common.{◌≡◌, ℕ, ◌==◌, Bool, true, false, if◌then◌else◌, [], ◌∷◌, ◌++◌, inl, refl, ◌∙◌, subst, arith, length-append, ap, append_assoc, ◌⊎◌}
 use Rattle.std.proofs.Common.{◌+◌, ◌*◌, ◌/◌, ◌%◌, ◌<◌, ◌≤◌, ◌&&◌, List, inr, sym, true≢false, ◌≢◌, length, Some, None, MatchBool, eqb-true, eq-eqb, ne_eqb}
-use Rattle.std.proofs.Common.{append-nil}
-use Rattle.std.proofs.lemmas.Bool.{eqb-false, cases_eq, cases_Bool, and_parts, and_from}
-use Rattle.pas_profile.specs.declared.{directory.Directory.Directory, profile.Profile.Profile, event.Event.Event, word.Word.Word}
-use Rattle.pas_bits.specs.declared.mask.Mask4.{Mask4}
-use Rattle.pas_bits.proofs.Words.{at_word}
-use Rattle.pas_rights.specs.{Leaves.LosesHere, Puts.masked, Takes.GetsGrains, Takes.TakesMask, Takes.takes, Words.words, Words.full, Claims.Claims}
-use Rattle.pas_rights.specs.PutsBack.{giving_back, taking_grains, GivesDuly, MayPutAndLeave, PutsAndLeaves}
-use Rattle.pas_rights.proofs.Puts.{due_none, put_and_leave_due, puts_kinds, takes_only, takes_on, takes_keep, takes_few, takes_right, takes_leave, takes_got}
-use Rattle.pas_rights.proofs.Puts.{takes_read}
-use Rattle.pas_rights.proofs.Orders.{full_set, full_word, keeps_by}
-use Rattle.pas_steps.specs.Calls.{Calls, Kept, Lost, later, Does, ClearAfter, Gained, now, Fate, nothing}
-use Rattle.pas_steps.specs.Desks.{Standing, CanCall, AnyView, Makes, Adds, made}
-use Rattle.pas_steps.specs.Frames.{IsOnPage, KeepsRight, IsRead, GivesUp}
-use Rattle.pas_steps.specs.Kinds.{Putting, Taking, kind_of, is_in, Kinds, LookDeed, Deeding, Only, apart, showing, within}
-use Rattle.pas_steps.specs.Views.{View, has_right, holds, KnowsDeed, Way, Rests, ByDeed, FromOffer, had_after, deed_after, known_deed}
-use Rattle.pas_steps.proofs.Apart.{unstamped_same, only_both, only_within, no_events, holds_same}
-use Rattle.pas_steps.proofs.Called.{call_as, call_then, next_call, call_knows}
+use Rattle.std.proofs.{Common.append-nil, lemmas.Bool.{eqb-false, cases_eq, cases_Bool, and_parts, and_from}, Math.Bool.and-true}
+use Rattle.pas_profile.specs.{declared.{directory.Directory.Directory, profile.Profile.Profile, event.Event.Event, word.Word.Word}, Directories.deed_word_of}
+use Rattle.pas_profile.{specs.Profiles.IsPage, proofs.Codecs.deed_word_of-positive}
+use Rattle.pas_bits.{specs.{declared.mask.Mask4.Mask4, Masks.{is_set, AllSetBelow, IsLowestClear}}, proofs.Words.at_word}
+use Rattle.pas_rights.specs.{Leaves.LosesHere, Puts.masked, Takes.{GetsGrains, TakesMask, takes}, Words.{words, full}, Claims.Claims, PutsBack.giving_back}
+use Rattle.pas_rights.{specs.PutsBack.{taking_grains, GivesDuly, MayPutAndLeave, PutsAndLeaves}, proofs.Puts.{due_none, put_and_leave_due, puts_kinds}}
+use Rattle.pas_rights.proofs.{Puts.{takes_only, takes_on, takes_keep, takes_few, takes_right, takes_leave, takes_got, takes_read}, Orders.{full_set, full_word}}
+use Rattle.pas_rights.proofs.Orders.{keeps_by}
+use Rattle.pas_steps.specs.{Calls.{Calls, Kept, Lost, later, Does, ClearAfter, Gained, now, Fate, nothing}, Desks.{Standing, CanCall, AnyView, Makes, Adds}}
+use Rattle.pas_steps.specs.{Desks.made, Frames.{IsOnPage, KeepsRight, IsRead, GivesUp}, Kinds.{Putting, Taking, kind_of, is_in, Kinds, LookDeed, Deeding, Only}}
+use Rattle.pas_steps.specs.{Kinds.{apart, showing, within}, Views.{View, has_right, holds, KnowsDeed, Way, Rests, ByDeed, FromOffer, had_after, deed_after}}
+use Rattle.pas_steps.specs.{Views.known_deed, Evidence.{GetsHere, ShowsHere, KeptHere, ReadsDeed, GetsRight, NoDeedHere}, Past.{Once, Since, Always}}
+use Rattle.pas_steps.specs.{Agreement.Agreed, Events.{with_event, events_by}, declared.step.{Made.Made, Step.{Step, TheVariants.{Look, Deed, TakeRight}}}}
+use Rattle.pas_steps.proofs.{Apart.{unstamped_same, only_both, only_within, no_events, holds_same}, Called.{call_as, call_then, next_call, call_knows}}
 use Rattle.pas_steps.proofs.Calls.{does_as, does_then, kept_first, does_on_page, leads_as, leads_at, leads_idly, owes_over, unexamined_over}
-use Rattle.pas_steps.proofs.Frames.{looks_read, right_reads, deed_stays, knows_still, rights_stay, events_append}
-use Rattle.pas_steps.proofs.Past.{always_both, always_pair, once_later, once_earlier, always_map, once_map}
+use Rattle.pas_steps.proofs.{Frames.{looks_read, right_reads, deed_stays, knows_still, rights_stay, events_append}, Past.{always_both, always_pair, once_later}}
+use Rattle.pas_steps.proofs.{Past.{once_earlier, always_map, once_map}, Unknown.{unknown_no_more, unknown_less}, Evidence.deed_known, Adding.adds_none}
+use Rattle.pas_steps.proofs.Adding.{adds_step, adds_call, adds_under, agreed_first, agreed_later}
 use Rattle.pas_large.specs.Pages.{OnceAfter, TookPage, TakesPage, getting, DeedsOn, OnlyDeedsShow, GetsPage, MayClaim, of_pages, GotPages, getting_old}
-use Rattle.pas_large.specs.Pages.{claiming, claiming_old, IsClaimed, ClaimsPage, GetsRightOf, LosesRightOf}
-use Rattle.pas_bits.specs.Masks.{is_set, AllSetBelow, IsLowestClear}
-use Rattle.pas_steps.specs.Evidence.{GetsHere, ShowsHere, KeptHere, ReadsDeed, GetsRight, NoDeedHere}
-use Rattle.pas_steps.specs.{Past.Once, Past.Since, Past.Always, Agreement.Agreed, Events.with_event, Events.events_by}
-use Rattle.pas_steps.specs.declared.step.{Made.Made, Step.Step, Step.TheVariants.Look, Step.TheVariants.Deed, Step.TheVariants.TakeRight}
-use Rattle.pas_steps.proofs.{Unknown.unknown_no_more, Unknown.unknown_less, Evidence.deed_known}
-use Rattle.pas_search.specs.Serving.{MayServe, HoldsNone, GotBefore, right_of}
-use Rattle.pas_search.proofs.PagesThatServe.{duly_none, duly_on}
-use Rattle.pas_large.specs.Evidence.{BrokenHere, TakenWholeHere, LostRightHere, LostHere, DeedsBelow, DeedsRise, MissedHere}
-use Rattle.pas_profile.specs.{Directories.deed_word_of, Profiles.IsPage}
-use Rattle.pas_profile.proofs.Codecs.{deed_word_of-positive}
-use Rattle.pas_steps.proofs.Adding.{adds_none, adds_step, adds_call, adds_under, agreed_first, agreed_later}
-use Rattle.pas_scan.specs.Runs.{page_looks}
-use Rattle.pas_scan.specs.Usable.{OfHere, ReadUsable, MakesNoDeedHere, LeftAlone}
-use Rattle.pas_scan.proofs.LeftPages.{left_alone_by}
-use Rattle.pas_large.specs.declared.claiming.Claimed.{Claimed}
-use Rattle.std.proofs.Math.Bool.{and-true}
+use Rattle.pas_large.specs.{Pages.{claiming, claiming_old, IsClaimed, ClaimsPage, GetsRightOf, LosesRightOf}, Evidence.{BrokenHere, TakenWholeHere}}
+use Rattle.pas_large.{specs.{Evidence.{LostRightHere, LostHere, DeedsBelow, DeedsRise, MissedHere}, declared.claiming.Claimed.Claimed}, proofs.Left.deeds_none}
+use Rattle.pas_large.proofs.Left.{deeds_both, parks_none, parks_kept, parks_both, nothing_held}
+use Rattle.pas_search.{specs.Serving.{MayServe, HoldsNone, GotBefore, right_of}, proofs.PagesThatServe.{duly_none, duly_on}}
+use Rattle.pas_scan.{specs.{Runs.page_looks, Usable.{OfHere, ReadUsable, MakesNoDeedHere, LeftAlone}}, proofs.LeftPages.left_alone_by}
 use Rattle.pas_core.proofs.Deeds.{looked}
-use Rattle.pas_large.proofs.Left.{deeds_none, deeds_both, parks_none, parks_kept, parks_both, nothing_held}
 
 -- ---- all grains of a page of a run: four takes, and where some grain wasn't free, what was got is put back and the page is left
 since_map : (P P' Q : Made → List Made → Type 0) (xs : List Made) → ((m : Made) (before : List Made) → P m before → P' m before) → Since P Q xs → Since P' Q xs

@@ -1,23 +1,17 @@
 -- The reason of a refusal: the eligible words, and then the verdict.
-use Rattle.pas_large.proofs.Pages.{since_more}
+use Rattle.pas_large.{proofs.Pages.since_more, specs.Refusals.{LastOffered, NotReadHere, IsAccounted, AllAccounted, IsReason, MarksOffered, Refuses}}
 use Rattle.std.proofs.Common.{◌≡◌, ◌≢◌, ℕ, ◌+◌, ◌/◌, ◌%◌, ◌<◌, Bool, true, false, List, ◌∷◌, length, inl, inr, refl, ap, sym, ◌∙◌, subst, arith, MatchBool, ◌≤◌}
-use Rattle.std.proofs.Common.{[], ◌++◌, append_assoc, true≢false, length-append, ◌*◌, get_or-set_same, get_or-set_other}
-use Rattle.std.proofs.{Math.ListN.set, Math.ListN.get_or, lemmas.Bool.MatchBool-at_false, lemmas.Bool.cases_lt}
+use Rattle.std.proofs.{Common.{[], ◌++◌, append_assoc, true≢false, length-append, ◌*◌, get_or-set_same, get_or-set_other}, Math.ListN.{set, get_or}}
+use Rattle.std.proofs.lemmas.Bool.{MatchBool-at_false, cases_lt}
 use Rattle.pas_bits.specs.Bits.{has_bit}
-use Rattle.pas_profile.specs.Directories.{number_of}
-use Rattle.pas_profile.specs.declared.{directory.Directory.Directory, word.Word.Word, profile.Profile.Profile, event.NoRoom.NoRoom}
-use Rattle.pas_profile.specs.declared.{event.NoRoom.TheVariants.NoSpace, event.NoRoom.TheVariants.Held}
-use Rattle.pas_steps.specs.{Past.Once, Past.Always, Past.Since, Frames.OnlyScans, Frames.IsScan, Desks.made, Desks.Seat, Desks.Standing, Kinds.kind_of}
-use Rattle.pas_steps.specs.{Kinds.is_in}
-use Rattle.pas_steps.specs.declared.step.{Made.Made, Step.Step, Step.TheVariants.Look}
-use Rattle.pas_scan.specs.Marks.{is_marked}
-use Rattle.pas_steps.specs.Evidence.{ReadsEligible, ZeroHere, OneHere, GetsHere, LeftHere, ParkedHere, ParkedLater, LacksAfter, MissingHere, HeldHere}
-use Rattle.pas_scan.proofs.Reading.{scans_lack, right_scans, place_of, scans_append}
-use Rattle.pas_scan.proofs.LeftPages.{since_earlier}
-use Rattle.pas_large.specs.Refusals.{LastOffered, NotReadHere, IsAccounted, AllAccounted, IsReason, MarksOffered, Refuses}
-use Rattle.pas_steps.specs.Views.{View, has_right, known_deed, KnowsDeed}
-use Rattle.pas_steps.proofs.{Adding.adds_call, Adding.agreed_first, Past.once_later, Past.once_earlier, Past.always_map, Frames.right_own, Evidence.zero_before}
-use Rattle.pas_scan.specs.Scan.{AllParked, IsVerdict, Judges, judging, last_block}
+use Rattle.pas_profile.specs.{Directories.number_of, declared.{directory.Directory.Directory, word.Word.Word, profile.Profile.Profile, event.NoRoom.NoRoom}}
+use Rattle.pas_profile.specs.declared.event.NoRoom.TheVariants.{NoSpace, Held}
+use Rattle.pas_steps.specs.{Past.{Once, Always, Since}, Frames.{OnlyScans, IsScan}, Desks.{made, Seat, Standing}, Kinds.{kind_of, is_in}}
+use Rattle.pas_steps.specs.{declared.step.{Made.Made, Step.{Step, TheVariants.Look}}, Evidence.{ReadsEligible, ZeroHere, OneHere, GetsHere, LeftHere}}
+use Rattle.pas_steps.specs.{Evidence.{ParkedHere, ParkedLater, LacksAfter, MissingHere, HeldHere}, Views.{View, has_right, known_deed, KnowsDeed}}
+use Rattle.pas_steps.proofs.{Adding.{adds_call, agreed_first}, Past.{once_later, once_earlier, always_map}, Frames.right_own, Evidence.zero_before}
+use Rattle.pas_scan.{specs.{Marks.is_marked, Scan.{AllParked, IsVerdict, Judges, judging, last_block}}, proofs.Reading.{scans_lack, right_scans, place_of}}
+use Rattle.pas_scan.proofs.{Reading.scans_append, LeftPages.since_earlier}
 
 -- ---- the offered pages are marked: one eligible word more
 -- what is marked below a block, and what was read of it

@@ -1,14 +1,11 @@
 -- Ranges of pages: in order, long enough, cut, and looked up.
 use Rattle.std.proofs.Common.{◌≡◌, ℕ, ◌<◌, ◌≤◌, nat_le, nat_lt, Bool, true, false, ◌||◌, if◌then◌else◌, List, [], ◌∷◌, inl, inr, refl, ap, sym, ◌∙◌, subst}
 use Rattle.std.proofs.Common.{arith, true≢false, ◌+◌, ◌-◌, ◌⊎◌, Option, Some, None, MatchOption, not, ◌&&◌, ◌++◌, ◌≢◌, length, get_or, set, take, drop}
-use Rattle.std.proofs.Common.{append_assoc, length-set, zero, suc, eq-eqb, ne_eqb, take_at, drop-drop, length-take-le}
-use Rattle.std.proofs.{Math.Bool.or_comm, lemmas.Bool.Decides.nat_tests}
-use Rattle.std.proofs.lemmas.Bool.{cases_Bool, cases_lt, and_parts, or_cases, or_from, or_left, or_right, cases_order, or_parts, cases_eq}
-use Rattle.pas_large.specs.declared.span.Span.{Span}
-use Rattle.pas_large.specs.Spans.{in_span, has_page, AreApart, hull, joined, lowest_fit, IsPlaceOf, left_of, cut_at, cut_lowest, EndsFrom}
-use Rattle.pas_large.specs.Sets.{HasMore, FitsAt, IsLowestFit, HasNoFit, HasFewer}
-use Rattle.std.specs.List.{remove, refill}
-use Rattle.std.proofs.lemmas.List.{drop_more, drop_all, take_more, set_split}
+use Rattle.std.proofs.{Common.{append_assoc, length-set, zero, suc, eq-eqb, ne_eqb, take_at, drop-drop, length-take-le}, Math.Bool.or_comm}
+use Rattle.std.proofs.lemmas.Bool.{Decides.nat_tests, cases_Bool, cases_lt, and_parts, or_cases, or_from, or_left, or_right, cases_order, or_parts, cases_eq}
+use Rattle.std.{proofs.lemmas.List.{drop_more, drop_all, take_more, set_split}, specs.List.{remove, refill}}
+use Rattle.pas_large.specs.{declared.span.Span.Span, Spans.{in_span, has_page, AreApart, hull, joined, lowest_fit, IsPlaceOf, left_of, cut_at, cut_lowest}}
+use Rattle.pas_large.specs.{Spans.EndsFrom, Sets.{HasMore, FitsAt, IsLowestFit, HasNoFit, HasFewer}}
 use Rattle.arrayvec.proofs.ArrayVecLemmas.{items-with_items}
 
 -- ==== Ranges in order: their pages, and what becomes of them with one more.

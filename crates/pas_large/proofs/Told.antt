@@ -1,38 +1,26 @@
 -- ONE ACTOR ALONE in a request for whole pages: a page that it read as usable was so, and one that was so it neither reads as not usable nor loses nor breaks.
 -- So a search finds the lowest usable run, a door's run is got just where it was whole, and the reason of a refusal is true.
 use Rattle.std.proofs.Common.{◌≡◌, ◌≢◌, ℕ, ◌+◌, ◌*◌, ◌/◌, ◌%◌, ◌<◌, ◌==◌, Bool, true, false, if◌then◌else◌, List, [], ◌∷◌, ◌++◌, inl, inr, refl, ap, ◌⊎◌, sym}
-use Rattle.std.proofs.Common.{◌∙◌, subst, arith, true≢false, eqb-true, eq-eqb, not}
-use Rattle.std.proofs.lemmas.Bool.{false≢true, cases_eq, or_left}
+use Rattle.std.proofs.{Common.{◌∙◌, subst, arith, true≢false, eqb-true, eq-eqb, not}, lemmas.Bool.{false≢true, cases_eq, or_left}}
 use Rattle.pas_bits.specs.Bits.{has_bit}
-use Rattle.pas_profile.specs.{Directories.deed_word_of, Directories.number_of, Directories.IsKind, Layouts.same_word, Profiles.IsValid, Profiles.IsPage}
-use Rattle.pas_profile.specs.{Profiles.IsDirectoryOf}
+use Rattle.pas_profile.specs.{Directories.{deed_word_of, number_of, IsKind}, Layouts.same_word, Profiles.{IsValid, IsPage, IsDirectoryOf}}
 use Rattle.pas_profile.specs.declared.{directory.Directory.Directory, profile.Profile.Profile, word.Word.Word, event.NoRoom.NoRoom}
 use Rattle.pas_profile.proofs.Codecs.{deed_word_of-positive}
-use Rattle.pas_steps.specs.{Effects.target, Effects.new_value, Effects.free_word_at, Past.Once, Past.Always, Past.Since, Desks.triple, Desks.triples}
-use Rattle.pas_steps.specs.{Agreement.Agreed, Allowed.Allowed}
-use Rattle.pas_steps.specs.Views.{Way, Rests, ToParked, way, has_right, KnowsDeed, known_deed}
-use Rattle.pas_steps.specs.Lists.{Whole, part, word_after, Legal}
-use Rattle.pas_steps.specs.Kinds.{looking, kind_of, is_in, Only}
-use Rattle.pas_steps.specs.Evidence.{ReadsEligible, ReadsDeed, OneHere, ZeroHere, ParkedHere, LacksAfter, MissingHere, HeldHere}
-use Rattle.pas_steps.specs.declared.step.{Step.Step, Made.Made, Step.TheVariants.Deed, Step.TheVariants.TakeRight, Step.TheVariants.Park}
-use Rattle.pas_steps.proofs.{Frames.right_own, Parts.part_of_own, Past.since_once, Past.once_map, Apart.rights_same}
-use Rattle.pas_core.specs.Rights.{eligible_bit, free_of_page}
-use Rattle.pas_core.proofs.Deeds.{known_is, number_told, deed_kept, looked}
-use Rattle.pas_core.proofs.OneActor.{unfit_entry, deed_none, deed_later, legal_before, of_page}
-use Rattle.pas_core.proofs.Rights.{Spot, With, InParked, is_with, is_offered, is_offered-true, spot_after, spot_of, DeedFits, spotted, no_deed}
-use Rattle.pas_core.proofs.Rights.{free_without_deed, offered_has_deed, deeds_known}
-use Rattle.pas_core.proofs.Nexts.{agreed_steps}
+use Rattle.pas_steps.specs.{Effects.{target, new_value, free_word_at}, Past.{Once, Always, Since}, Desks.{triple, triples}, Agreement.Agreed, Allowed.Allowed}
+use Rattle.pas_steps.specs.{Views.{Way, Rests, ToParked, way, has_right, KnowsDeed, known_deed}, Lists.{Whole, part, word_after, Legal}, Kinds.looking}
+use Rattle.pas_steps.specs.{Kinds.{kind_of, is_in, Only}, Evidence.{ReadsEligible, ReadsDeed, OneHere, ZeroHere, ParkedHere, LacksAfter, MissingHere, HeldHere}}
+use Rattle.pas_steps.{specs.declared.step.{Step.{Step, TheVariants.{Deed, TakeRight, Park}}, Made.Made}, proofs.{Frames.right_own, Parts.part_of_own}}
+use Rattle.pas_steps.proofs.{Past.{since_once, once_map}, Apart.rights_same}
+use Rattle.pas_core.{specs.Rights.{eligible_bit, free_of_page}, proofs.{Deeds.{known_is, number_told, deed_kept, looked}, OneActor.{unfit_entry, deed_none}}}
+use Rattle.pas_core.proofs.{OneActor.{deed_later, legal_before, of_page}, Rights.{Spot, With, InParked, is_with, is_offered, is_offered-true, spot_after}}
+use Rattle.pas_core.proofs.{Rights.{spot_of, DeedFits, spotted, no_deed, free_without_deed, offered_has_deed, deeds_known}, Nexts.agreed_steps}
 use Rattle.pas_scan.specs.Usable.{OfHere, WholeHere, ReadUsable, ParksNotHere, IsFresh, MakesNoDeedHere, DeedReadHere, OtherDeedHere, NotOfferedHere}
 use Rattle.pas_scan.proofs.LeftPages.{lacks_by}
-use Rattle.pas_search.specs.{Alone.IsLone, Telling.IsInHands, Telling.IsTrueReason}
-use Rattle.pas_search.proofs.LoneSteps.{fewer, once_lone, free_same, whole_read, used_never, none_read, never_made, of_now, was_offered_before}
-use Rattle.pas_search.proofs.FindingAPage.{known_exit, not_held_there, held_there}
+use Rattle.pas_search.{specs.{Alone.IsLone, Telling.{IsInHands, IsTrueReason}}, proofs.LoneSteps.{fewer, once_lone, free_same, whole_read, used_never}}
+use Rattle.pas_search.proofs.{LoneSteps.{none_read, never_made, of_now, was_offered_before}, FindingAPage.{known_exit, not_held_there, held_there}}
 use Rattle.pas_large.specs.Evidence.{LostRightHere, LostDeedHere, LostHere, BrokenHere, NotAll, BadHere, HasBad, AllUsable, FailsHere, HasFailed, DeedsOf}
-use Rattle.pas_large.specs.Evidence.{MissedHere, GotOf}
-use Rattle.pas_large.specs.Telling.{IsWholePage, IsUsablePage, IsUsableRun, HasNoUsableRun, IsLowestRun}
-use Rattle.pas_large.specs.Finds.{MayFind, FoundRun, FoundNone}
-use Rattle.pas_large.specs.Refusals.{NotReadHere, IsAccounted, IsHeldLarge, IsReason}
-use Rattle.pas_large.proofs.Pages.{known_of}
+use Rattle.pas_large.specs.{Evidence.{MissedHere, GotOf}, Telling.{IsWholePage, IsUsablePage, IsUsableRun, HasNoUsableRun, IsLowestRun}, Finds.MayFind}
+use Rattle.pas_large.{specs.{Finds.{FoundRun, FoundNone}, Refusals.{NotReadHere, IsAccounted, IsHeldLarge, IsReason}}, proofs.Pages.known_of}
 
 -- ---- looks change no word
 -- Looks leave each word as it was.

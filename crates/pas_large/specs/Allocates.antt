@@ -2,13 +2,11 @@
 use Rattle.std.specs.Prelude.{ℕ, ◌+◌, ◌*◌, ◌/◌, ◌^◌, ◌<◌, ◌≤◌, ◌≡◌, Bool, true, false, List, ◌++◌, length, Option, Result, Ok, Err, MatchResult, ◌⊎◌}
 use Rattle.pas_profile.specs.declared.{directory.Directory.Directory, event.NoRoom.NoRoom, name.Block.Block, profile.Profile.Profile}
 use Rattle.pas_scan.specs.Runs.{large_directory}
-use Rattle.pas_steps.specs.{Calls.Leads, Calls.nothing, Calls.Does, Desks.Standing, Desks.Adds, Desks.triples, Lists.Whole, Frames.OnlyScans, Kinds.Only}
-use Rattle.pas_steps.specs.{Past.Always, Views.View, Views.holds, Views.KnowsDeed, InTurn.InTurn}
-use Rattle.pas_steps.specs.declared.step.Made.{Made}
+use Rattle.pas_steps.specs.{Calls.{Leads, nothing, Does}, Desks.{Standing, Adds, triples}, Lists.Whole, Frames.OnlyScans, Kinds.Only, Past.Always, Views.View}
+use Rattle.pas_steps.specs.{Views.{holds, KnowsDeed}, InTurn.InTurn, declared.step.Made.Made}
 use Rattle.pas_search.specs.Kinds.{ReturnsDuly}
-use Rattle.pas_large.specs.{Claims.in_span, Named.HoldsNamed, Named.MissesNamed, Named.missed_steps, Pages.OnlyDeedsShow, Pages.claiming_old, Gives.BackStep}
-use Rattle.pas_large.specs.{Gives.pages_from, Gives.run_block, Refusals.IsReason, Telling.IsToldLarge, Telling.IsToldByDoor}
-use Rattle.pas_large.specs.Finds.{MayFind, finding, FoundRun, FoundNone, LooksAlone}
+use Rattle.pas_large.specs.{Claims.in_span, Named.{HoldsNamed, MissesNamed, missed_steps}, Pages.{OnlyDeedsShow, claiming_old}, Gives.{BackStep, pages_from}}
+use Rattle.pas_large.specs.{Gives.run_block, Refusals.IsReason, Telling.{IsToldLarge, IsToldByDoor}, Finds.{MayFind, finding, FoundRun, FoundNone, LooksAlone}}
 use Rattle.pas_rights.specs.{Gives.give_steps, Leaves.LeaveSteps}
 
 -- What the actor holds and has is as it was: none of the block's grains was held. The pages are known to be of the directory.

@@ -1,11 +1,9 @@
 -- A request for whole pages whose actor alone made steps meanwhile, whatever its desk tells.
 use Rattle.std.specs.Prelude.{ℕ, ◌≡◌, List, ◌++◌, Option, Result, Err}
-use Rattle.pas_profile.specs.declared.{directory.Directory.Directory, event.NoRoom.NoRoom, event.NoRoom.TheVariants.Held, name.Block.Block}
-use Rattle.pas_profile.specs.declared.{profile.Profile.Profile}
-use Rattle.pas_steps.specs.Lists.{Whole}
-use Rattle.pas_steps.specs.declared.step.Made.{Made}
+use Rattle.pas_profile.specs.declared.{directory.Directory.Directory, event.NoRoom.{NoRoom, TheVariants.Held}, name.Block.Block, profile.Profile.Profile}
+use Rattle.pas_steps.specs.{Lists.Whole, declared.step.Made.Made}
 use Rattle.pas_core.specs.Rights.{AllRest}
-use Rattle.pas_large.specs.{Allocates.IsScanned, Telling.HasNoUsableRun, Telling.IsNamedWhole, Telling.TakesNamed}
+use Rattle.pas_large.specs.{Allocates.IsScanned, Telling.{HasNoUsableRun, IsNamedWhole, TakesNamed}}
 
 -- The run that the door named serves the request exactly where its pages were whole before, the list l. Otherwise what was tried with it is undone, and the
 -- scan follows.

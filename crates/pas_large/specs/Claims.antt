@@ -2,16 +2,14 @@
 use Rattle.std.specs.Prelude.{ℕ, ◌+◌, ◌-◌, ◌*◌, ◌/◌, ◌<◌, ◌≤◌, ◌≡◌, ◌⊎◌, min, nat_le, nat_lt, Bool, true, false, ◌&&◌, List, ◌++◌, length, Option, None}
 use Rattle.std.specs.Prelude.{MatchOption}
 use Rattle.pas_profile.specs.declared.{directory.Directory.Directory, profile.Profile.Profile}
-use Rattle.pas_rights.specs.{Looks.HintsEmpty, PutsBack.giving_back, PutsBack.GivesDuly}
-use Rattle.pas_steps.specs.{Agreement.Agreed, Clear.IsClear, Desks.Standing, Desks.Adds, Evidence.KeptHere, Evidence.GetsHere, Frames.IsOnPage, Kinds.Only}
-use Rattle.pas_steps.specs.{Past.Once, Past.Always, Past.Since, Unknown.unknown_pages}
-use Rattle.pas_steps.specs.Calls.{Calls, Leads, Lost, nothing, Does}
-use Rattle.pas_steps.specs.Views.{View, Stays, grain_move, holds, has_right, known_deed, KnowsDeed}
-use Rattle.pas_steps.specs.declared.step.{Made.Made, Step.TheVariants.Deed}
+use Rattle.pas_rights.specs.{Looks.HintsEmpty, PutsBack.{giving_back, GivesDuly}}
+use Rattle.pas_steps.specs.{Agreement.Agreed, Clear.IsClear, Desks.{Standing, Adds}, Evidence.{KeptHere, GetsHere}, Frames.IsOnPage, Kinds.Only, Past.Once}
+use Rattle.pas_steps.specs.{Past.{Always, Since}, Unknown.unknown_pages, Calls.{Calls, Leads, Lost, nothing, Does}, Views.{View, Stays, grain_move, holds}}
+use Rattle.pas_steps.specs.{Views.{has_right, known_deed, KnowsDeed}, declared.step.{Made.Made, Step.TheVariants.Deed}}
 use Rattle.pas_scan.specs.Usable.{ReadUsable, LeftAlone}
 use Rattle.pas_search.specs.Kinds.{IsReturnOf, ReturnsDuly}
-use Rattle.pas_large.specs.Evidence.{LostHere, BrokenHere, TakenWholeHere, DeedsRise, MissedHere, GotOf, LeftOrBroken}
-use Rattle.pas_large.specs.Pages.{OnceAfter, of_pages, GotPages, OnlyDeedsShow, claiming, claiming_old}
+use Rattle.pas_large.specs.{Evidence.{LostHere, BrokenHere, TakenWholeHere, DeedsRise, MissedHere, GotOf, LeftOrBroken}, Pages.{OnceAfter, of_pages, GotPages}}
+use Rattle.pas_large.specs.Pages.{OnlyDeedsShow, claiming, claiming_old}
 
 -- the page is one of those from `first` to below `end`
 abbrev pub in_span : ℕ → ℕ → ℕ → Bool

@@ -1,8 +1,7 @@
 -- What indexes of ranges of pages answer that nobody else asks meanwhile: those of the heaps, by their numbers.
 use Rattle.std.specs.Prelude.{ℕ, List, [], replicate, Option, slice_index_or, slice_set}
 use Rattle.pas_profile.specs.declared.event.Range.{Range}
-use Rattle.pas_large.specs.declared.span.Span.{Span}
-use Rattle.pas_large.specs.Spans.{span_of, lowest_fit, cut_lowest, added}
+use Rattle.pas_large.specs.{declared.span.Span.Span, Spans.{span_of, lowest_fit, cut_lowest, added}}
 
 -- what they hold
 abbrev pub Indexes : Type 0

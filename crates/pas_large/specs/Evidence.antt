@@ -1,13 +1,10 @@
 -- The evidence of a large request, over the steps of one call, the newest first.
 use Rattle.std.specs.Prelude.{ℕ, ◌+◌, ◌/◌, ◌%◌, ◌<◌, ◌≤◌, ◌≡◌, ◌≢◌, ◌⊎◌, true, false, List}
 use Rattle.pas_bits.specs.Bits.{has_bit}
-use Rattle.pas_profile.specs.{Directories.deed_word_of, Profiles.IsPage}
-use Rattle.pas_profile.specs.declared.{directory.Directory.Directory, profile.Profile.Profile}
-use Rattle.pas_steps.specs.{Views.holds, Views.has_right, Past.Once, Past.Always, Past.Since}
-use Rattle.pas_steps.specs.declared.step.{Made.Made, Step.TheVariants.Deed, Step.TheVariants.TakeRight}
+use Rattle.pas_profile.specs.{Directories.deed_word_of, Profiles.IsPage, declared.{directory.Directory.Directory, profile.Profile.Profile}}
+use Rattle.pas_steps.specs.{Views.{holds, has_right}, Past.{Once, Always, Since}, declared.step.{Made.Made, Step.TheVariants.{Deed, TakeRight}}}
 use Rattle.pas_steps.specs.Evidence.{Readings, ReadsDeed, NoDeedHere, KeptHere, GetsHere, UnfitHere}
-use Rattle.pas_scan.specs.Usable.{DeedReadHere, OfHere, ParksNotHere, WholeHere, ReadUsable, IsFresh, UnusableHere, MakesNoDeedHere}
-use Rattle.pas_scan.specs.Runs.{IsInRun}
+use Rattle.pas_scan.specs.{Usable.{DeedReadHere, OfHere, ParksNotHere, WholeHere, ReadUsable, IsFresh, UnusableHere, MakesNoDeedHere}, Runs.IsInRun}
 
 -- ---- lost and broken
 -- a claim read its eligible bit as 0

@@ -1,14 +1,12 @@
 -- The search for a run that can be claimed.
 use Rattle.std.specs.Prelude.{ℕ, ◌+◌, ◌*◌, ◌<◌, ◌≤◌, ◌≡◌, ◌⊎◌, Bool, true, false, ◌∷◌, ◌++◌, List, length, Option, None, MatchOption}
 use Rattle.pas_profile.specs.declared.{directory.Directory.Directory, profile.Profile.Profile}
-use Rattle.pas_steps.specs.{Calls.Leads, Calls.nothing, Calls.Does, Clear.IsClear, Desks.Standing, Desks.Adds, Desks.triples, Lists.Whole, Lists.part}
-use Rattle.pas_steps.specs.{Lists.Legal, Past.Always, Unknown.unknown_pages}
-use Rattle.pas_steps.specs.Kinds.{Kinds, LookFree, LookEligible, looking, Only}
-use Rattle.pas_steps.specs.Views.{View, has_right, known_deed, KnowsDeed}
+use Rattle.pas_steps.specs.{Calls.{Leads, nothing, Does}, Clear.IsClear, Desks.{Standing, Adds, triples}, Lists.{Whole, part, Legal}, Past.Always}
+use Rattle.pas_steps.specs.{Unknown.unknown_pages, Kinds.{Kinds, LookFree, LookEligible, looking, Only}, Views.{View, has_right, known_deed, KnowsDeed}}
 use Rattle.pas_steps.specs.declared.step.Made.{Made}
-use Rattle.pas_large.specs.{Claims.in_span, Claims.LacksAll, Telling.HasNoUsableRun, Telling.IsLowestRun, Pages.GotPages, Pages.OnlyDeedsShow, Pages.claiming}
+use Rattle.pas_large.specs.{Claims.{in_span, LacksAll}, Telling.{HasNoUsableRun, IsLowestRun}, Pages.{GotPages, OnlyDeedsShow, claiming}, Evidence.HasBad}
+use Rattle.pas_large.specs.Evidence.{IsVain, HasFailed, DeedsOf, DeedsRise, IsTakenRun}
 use Rattle.pas_search.specs.Kinds.{ReturnsDuly}
-use Rattle.pas_large.specs.Evidence.{HasBad, IsVain, HasFailed, DeedsOf, DeedsRise, IsTakenRun}
 
 -- the actor is clear, and has no right of a page that is of the directory or whose deed it doesn't know
 pub record MayFind (d : Directory) (v : View) : Type 0 where

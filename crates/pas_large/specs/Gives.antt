@@ -1,12 +1,10 @@
 -- A run of pages is given as one block.
 use Rattle.std.specs.Prelude.{ℕ, zero, suc, ◌+◌, ◌-◌, ◌*◌, ◌/◌, ◌^◌, ◌<◌, ◌≤◌, ◌≡◌, true, if◌then◌else◌, List, [], ◌∷◌, ◌++◌, length}
-use Rattle.pas_profile.specs.Lives.{turn_of}
-use Rattle.pas_profile.specs.declared.{directory.Directory.Directory, name.Block.Block}
-use Rattle.pas_steps.specs.Calls.{Calls, Effect, Kept, Lost, nothing, Does, Bears}
+use Rattle.pas_profile.specs.{Lives.turn_of, declared.{directory.Directory.Directory, name.Block.Block}}
+use Rattle.pas_steps.specs.{Calls.{Calls, Effect, Kept, Lost, nothing, Does, Bears}, Desks.{Standing, Makes, made}, InTurn.InTurn, Views.{View, has_right}}
+use Rattle.pas_steps.specs.{Views.KnowsDeed, declared.step.{Made.Made, Step.TheVariants.Back}}
 use Rattle.pas_rights.specs.{Gives.give_steps, Leaves.LeaveSteps}
-use Rattle.pas_steps.specs.{Desks.Standing, Desks.Makes, Desks.made, InTurn.InTurn, Views.View, Views.has_right, Views.KnowsDeed}
-use Rattle.pas_steps.specs.declared.step.{Made.Made, Step.TheVariants.Back}
-use Rattle.pas_large.specs.{Claims.in_span, Claims.HasPages, Pages.of_pages}
+use Rattle.pas_large.specs.{Claims.{in_span, HasPages}, Pages.of_pages}
 
 -- so many pages from the first one on, the last one first
 abbrev pub pages_from : ℕ → ℕ → List ℕ

@@ -2,11 +2,10 @@
 use Rattle.std.specs.Prelude.{ℕ, ◌+◌, ◌*◌, ◌≤◌, ◌≡◌, true, List, [], length, Option, None, Some, MatchOption}
 use Rattle.pas_profile.specs.declared.{directory.Directory.Directory, profile.Profile.Profile}
 use Rattle.pas_scan.specs.Runs.{IsInRun}
-use Rattle.pas_steps.specs.{Calls.Leads, Calls.nothing, Calls.Does, Desks.Standing, Desks.Adds, Kinds.Only, Past.Once, Past.Always}
-use Rattle.pas_steps.specs.declared.step.Made.{Made}
+use Rattle.pas_steps.specs.{Calls.{Leads, nothing, Does}, Desks.{Standing, Adds}, Kinds.Only, Past.{Once, Always}, declared.step.Made.Made}
 use Rattle.pas_search.specs.Kinds.{ReturnsDuly}
-use Rattle.pas_large.specs.{Claims.in_span, Claims.LacksAll, Claims.HoldsSpan, Evidence.MissedHere, Evidence.GotOf, Evidence.LeftOrBroken, Finds.MayFind}
-use Rattle.pas_large.specs.{Pages.GotPages, Pages.OnlyDeedsShow, Pages.claiming_old}
+use Rattle.pas_large.specs.{Claims.{in_span, LacksAll, HoldsSpan}, Evidence.{MissedHere, GotOf, LeftOrBroken}, Finds.MayFind, Pages.{GotPages, OnlyDeedsShow}}
+use Rattle.pas_large.specs.Pages.{claiming_old}
 
 -- The run that was named is of the region, and it is the actor's: the right of each page was got, and each free word was taken whole since. At most
 -- six steps a page.

@@ -2,17 +2,13 @@
 use Rattle.std.specs.Prelude.{ℕ, ◌+◌, ◌/◌, ◌<◌, ◌≤◌, ◌≡◌, ◌==◌, ◌⊎◌, Bool, true, false, if◌then◌else◌, MatchBool, List, ◌++◌, ◌∷◌, [], length}
 use Rattle.pas_profile.specs.declared.{directory.Directory.Directory, profile.Profile.Profile}
 use Rattle.pas_rights.specs.PutsBack.{taking_grains, GivesDuly}
-use Rattle.pas_steps.specs.{Agreement.Agreed, Clear.IsClear, Desks.Standing, Desks.AnyView, Desks.Adds, Events.events_by, Evidence.KeptHere, Evidence.GetsHere}
-use Rattle.pas_steps.specs.{Frames.OnlyOn, Frames.KeepsRight, Past.Once, Past.Always, Past.Since, Unknown.unknown_pages}
-use Rattle.pas_steps.specs.Calls.{Leads, Fate, Kept, Gained, Lost, Effect, nothing, Does}
-use Rattle.pas_steps.specs.Kinds.{Kinds, LookDeed, Deeding, Claiming, Only}
-use Rattle.pas_steps.specs.Views.{View, holds, has_right, known_deed, KnowsDeed}
+use Rattle.pas_steps.specs.{Agreement.Agreed, Clear.IsClear, Desks.{Standing, AnyView, Adds}, Events.events_by, Evidence.{KeptHere, GetsHere}, Frames.OnlyOn}
+use Rattle.pas_steps.specs.{Frames.KeepsRight, Past.{Once, Always, Since}, Unknown.unknown_pages, Calls.{Leads, Fate, Kept, Gained, Lost, Effect, nothing}}
+use Rattle.pas_steps.specs.{Calls.Does, Kinds.{Kinds, LookDeed, Deeding, Claiming, Only}, Views.{View, holds, has_right, known_deed, KnowsDeed}}
 use Rattle.pas_steps.specs.declared.step.{Made.Made, Step.TheVariants.Deed}
 use Rattle.pas_scan.specs.Usable.{OfHere, ReadUsable, LeftAlone}
-use Rattle.pas_search.specs.Kinds.{ReturnsDuly}
-use Rattle.pas_search.specs.Serving.{MayServe, HoldsNone, GotBefore, right_of}
-use Rattle.pas_large.specs.Evidence.{LostHere, BrokenHere, TakenWholeHere, DeedsRise, MissedHere, GotOf, LeftOrBroken}
-use Rattle.pas_large.specs.declared.claiming.Claimed.{Claimed}
+use Rattle.pas_search.specs.{Kinds.ReturnsDuly, Serving.{MayServe, HoldsNone, GotBefore, right_of}}
+use Rattle.pas_large.specs.{Evidence.{LostHere, BrokenHere, TakenWholeHere, DeedsRise, MissedHere, GotOf, LeftOrBroken}, declared.claiming.Claimed.Claimed}
 
 -- the page's right isn't the actor's, unless the page is known to be of another directory; and the actor is clear
 pub record MayClaim (d : Directory) (page : ℕ) (v : View) : Type 0 where

@@ -1,13 +1,10 @@
 -- Why a large request is refused: what is said of each page of its directory.
 use Rattle.std.specs.Prelude.{ℕ, ◌+◌, ◌<◌, ◌≤◌, ◌≡◌, ◌⊎◌, false, MatchBool, List, ◌++◌, length, ◌/◌, ◌*◌}
-use Rattle.pas_profile.specs.Profiles.{IsPage}
-use Rattle.pas_profile.specs.declared.{directory.Directory.Directory, profile.Profile.Profile, event.NoRoom.NoRoom, event.NoRoom.TheVariants.NoSpace}
-use Rattle.pas_profile.specs.declared.{event.NoRoom.TheVariants.Held}
-use Rattle.pas_steps.specs.{Views.View, Views.has_right, Views.KnowsDeed, Agreement.Agreed, Desks.Standing, Desks.AnyView, Desks.Adds, Past.Once, Past.Since}
-use Rattle.pas_steps.specs.{Frames.OnlyScans}
-use Rattle.pas_steps.specs.declared.step.Made.{Made}
+use Rattle.pas_profile.specs.{Profiles.IsPage, declared.{directory.Directory.Directory, profile.Profile.Profile, event.NoRoom.{NoRoom, TheVariants.NoSpace}}}
+use Rattle.pas_profile.specs.declared.event.NoRoom.TheVariants.{Held}
+use Rattle.pas_steps.specs.{Views.{View, has_right, KnowsDeed}, Agreement.Agreed, Desks.{Standing, AnyView, Adds}, Past.{Once, Since}, Frames.OnlyScans}
+use Rattle.pas_steps.specs.{declared.step.Made.Made, Evidence.{ReadsEligible, ZeroHere, OneHere, Accounted, HeldHere}}
 use Rattle.pas_scan.specs.Marks.{is_marked}
-use Rattle.pas_steps.specs.Evidence.{ReadsEligible, ZeroHere, OneHere, Accounted, HeldHere}
 
 -- its eligible bit was last read as 1
 abbrev pub NotReadHere : Directory → ℕ → Made → List Made → Type 0

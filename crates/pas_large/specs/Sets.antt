@@ -1,7 +1,6 @@
 -- Sets of pages, and where enough pages follow each other in them.
 use Rattle.std.specs.Prelude.{ℕ, ◌+◌, ◌<◌, ◌≤◌, ◌≡◌, Bool, true, false, not, ◌&&◌, ◌||◌}
-use Rattle.pas_large.specs.declared.span.Span.{Span}
-use Rattle.pas_large.specs.Spans.{in_span}
+use Rattle.pas_large.specs.{declared.span.Span.Span, Spans.in_span}
 
 -- pages that belong together begin here: the page is of the set and the one before it isn't; and n pages from here on are
 pub record FitsAt (has : ℕ → Bool) (n first : ℕ) : Type 0 where

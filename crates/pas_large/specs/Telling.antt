@@ -1,9 +1,8 @@
 -- Runs of usable pages in a state, and what a request says of the states at its entry and its exit, on a desk that tells the whole state.
 use Rattle.std.specs.Prelude.{ℕ, ◌+◌, ◌*◌, ◌<◌, ◌≤◌, ◌≡◌, ◌⊎◌, true, List, length, Option, Some, Result, Ok, MatchResult}
-use Rattle.pas_profile.specs.{Directories.deed_word_of, Directories.number_of, Blocks.address_of}
-use Rattle.pas_profile.specs.declared.{directory.Directory.Directory, event.NoRoom.NoRoom, name.Block.Block, profile.Profile.Profile, word.Word.Word}
-use Rattle.pas_steps.specs.Lists.{Whole, word_after}
-use Rattle.pas_steps.specs.declared.step.Made.{Made}
+use Rattle.pas_profile.specs.{Directories.{deed_word_of, number_of}, Blocks.address_of, declared.{directory.Directory.Directory, event.NoRoom.NoRoom}}
+use Rattle.pas_profile.specs.declared.{name.Block.Block, profile.Profile.Profile, word.Word.Word}
+use Rattle.pas_steps.specs.{Lists.{Whole, word_after}, declared.step.Made.Made}
 use Rattle.pas_core.specs.Rights.{eligible_bit, free_of_page}
 use Rattle.pas_scan.specs.Runs.{IsInRun}
 use Rattle.pas_search.specs.Telling.{IsTrueReason}

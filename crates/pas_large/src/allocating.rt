@@ -2,7 +2,7 @@
 ghost use Rattle.std.specs.Prelude.{◌≡◌, ◌≤◌, ◌<◌, ◌+◌, ℕ, Option};
 ghost use Rattle.pas_scan.specs.Runs.{large_directory};
 ghost use Rattle.pas_steps.specs.Desks.{CanCall};
-ghost use Rattle.pas_large.specs.{Allocates.AllocatesByScan, Allocates.AllocatesLarge, Finds.FindRoom};
+ghost use Rattle.pas_large.specs.{Allocates.{AllocatesByScan, AllocatesLarge}, Finds.FindRoom};
 
 use crate::door::Door;
 use crate::finding::find_run;

@@ -1,7 +1,6 @@
 //! Changes of a list of ranges.
 ghost use Rattle.std.specs.Prelude.{◌≡◌, ◌≤◌, ◌<◌, ◌+◌, ◌-◌, ◌++◌, ◌∷◌, drop, take, length, slice_index_or};
-ghost use Rattle.pas_large.specs.Spans.{left_of};
-ghost use Rattle.pas_large.specs.declared.span.Span.{Span as TheSpan};
+ghost use Rattle.pas_large.specs.{Spans.left_of, declared.span.Span.Span as TheSpan};
 
 use crate::span::Span;
 use arrayvec::ArrayVec;

@@ -2,8 +2,7 @@
 ghost use Rattle.std.specs.Prelude.{◌≡◌, ◌≤◌, ◌<◌, ◌+◌};
 ghost use Rattle.pas_profile.specs.Profiles.{IsDirectoryOf};
 ghost use Rattle.pas_steps.specs.Desks.{CanCall};
-ghost use Rattle.pas_large.specs.Claims.{HasPages};
-ghost use Rattle.pas_large.specs.Gives.{BacksPage, BacksRun, MayLeaveRun, LeavesRun, GivesRun};
+ghost use Rattle.pas_large.specs.{Claims.HasPages, Gives.{BacksPage, BacksRun, MayLeaveRun, LeavesRun, GivesRun}};
 
 use pas_profile::limits::PAGE_GRAINS;
 use pas_profile::{Block, Directory};

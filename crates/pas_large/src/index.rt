@@ -20,8 +20,7 @@ pub struct LargeIndex {
 
 impl Model for LargeIndex {
     ghost use Rattle.std.specs.Prelude.{List};
-    ghost use Rattle.pas_large.specs.Spans.{AreApart};
-    ghost use Rattle.pas_large.specs.declared.span.Span.{Span as TheSpan};
+    ghost use Rattle.pas_large.specs.{Spans.AreApart, declared.span.Span.Span as TheSpan};
 
     ghost Value = { List TheSpan };
 
@@ -32,8 +31,8 @@ impl Model for LargeIndex {
 
 impl LargeIndex {
     ghost use Rattle.std.specs.Prelude.{◌≡◌, ◌≤◌, ◌<◌, ◌+◌, ◌↔◌, [], IsErr, OnOk, OnErr, MatchOption, length};
-    ghost use Rattle.pas_large.specs.Spans.{AreApart, span_of, joined, has_page, lowest_fit, cut_at, cut_lowest};
-    ghost use Rattle.pas_large.specs.Sets.{FitsAt, IsLowestFit, HasNoFit, HasMore, HasFewer};
+    ghost use Rattle.pas_large.specs.{Spans.{AreApart, span_of, joined, has_page, lowest_fit, cut_at, cut_lowest}, Sets.{FitsAt, IsLowestFit, HasNoFit}};
+    ghost use Rattle.pas_large.specs.Sets.{HasMore, HasFewer};
 
     /// An index without a page.
     pub fn new() -> LargeIndex

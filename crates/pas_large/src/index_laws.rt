@@ -1,8 +1,6 @@
 //! What is known of every index.
 ghost use Rattle.std.specs.Prelude.{◌≡◌, ◌≤◌, ◌+◌, ℕ, List};
-ghost use Rattle.pas_large.specs.Spans.{AreApart, span_of, joined, has_page};
-ghost use Rattle.pas_large.specs.Sets.{HasMore};
-ghost use Rattle.pas_large.specs.declared.span.Span.{Span as TheSpan};
+ghost use Rattle.pas_large.specs.{Spans.{AreApart, span_of, joined, has_page}, Sets.HasMore, declared.span.Span.Span as TheSpan};
 
 use crate::index::LargeIndex;
 use pas_profile::Range;

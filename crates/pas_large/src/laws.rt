@@ -2,7 +2,7 @@
 ghost use Rattle.std.specs.Prelude.{ℕ, ◌<◌, ◌++◌, Option, Result};
 ghost use Rattle.pas_profile.specs.declared.{event.NoRoom.NoRoom, name.Block.Block};
 ghost use Rattle.pas_scan.specs.Runs.{large_directory};
-ghost use Rattle.pas_steps.specs.{Desks.triples, Lists.Whole, Lists.part, Lists.Legal};
+ghost use Rattle.pas_steps.specs.{Desks.triples, Lists.{Whole, part, Legal}};
 ghost use Rattle.pas_large.specs.{Allocates.AllocatesLarge, Alone.FindsTheRunThereIs, Finds.MayFind};
 
 use pas_steps::Desk;

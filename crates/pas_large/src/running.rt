@@ -2,8 +2,7 @@
 ghost use Rattle.std.specs.Prelude.{◌≡◌, ◌≤◌, ◌<◌, ◌+◌};
 ghost use Rattle.pas_profile.specs.Profiles.{IsDirectoryOf};
 ghost use Rattle.pas_steps.specs.Desks.{CanCall};
-ghost use Rattle.pas_large.specs.Pages.{ClaimsPage};
-ghost use Rattle.pas_large.specs.Claims.{MayClaimPages, HasRunRoom, ClaimsPages, ClaimsRun, HasPages, Releases};
+ghost use Rattle.pas_large.specs.{Pages.ClaimsPage, Claims.{MayClaimPages, HasRunRoom, ClaimsPages, ClaimsRun, HasPages, Releases}};
 
 use crate::claiming::{Claimed, claim_page};
 use pas_bits::Mask4;

@@ -1,8 +1,6 @@
 //! Places in a list of ranges.
 ghost use Rattle.std.specs.Prelude.{◌≡◌, ◌≤◌, ◌<◌, ◌++◌, ◌∷◌, drop, take, length, slice_index_or};
-ghost use Rattle.pas_large.specs.Spans.{AreApart, EndsFrom, joined, lowest_fit, cut_at, has_page, IsPlaceOf};
-ghost use Rattle.pas_large.specs.Sets.{FitsAt};
-ghost use Rattle.pas_large.specs.declared.span.Span.{Span as TheSpan};
+ghost use Rattle.pas_large.specs.{Spans.{AreApart, EndsFrom, joined, lowest_fit, cut_at, has_page, IsPlaceOf}, Sets.FitsAt, declared.span.Span.Span as TheSpan};
 
 use crate::span::Span;
 

@@ -1,14 +1,11 @@
 -- What every run of the machine keeps about its live blocks, and what holds of each number of a range.
 use Rattle.std.proofs.Common.{ℕ, ◌≢◌, ◌+◌, subst, inl, inr, arith, ◌≡◌, ◌/◌, ◌%◌, ◌<◌, ◌==◌, Bool, true, false, if◌then◌else◌, List, [], ◌∷◌, Option, Some}
-use Rattle.std.proofs.Common.{None, refl, ap, sym, ◌∙◌, eqb-true}
-use Rattle.std.proofs.lemmas.{Bool.Decides.eqb_tells, Bool.false≢true, Option.none-some, Option.same_Some}
-use Rattle.pas_machine.specs.{Places.IsEach, Machine.Run, Machine.MayGive, Machine.Bears}
-use Rattle.pas_profile.specs.declared.{profile.Profile.Profile, directory.Directory.Directory, name.Block.Block, event.Event.Event}
-use Rattle.pas_bits.specs.Runs.{in_run, meets_page}
-use Rattle.pas_profile.specs.Blocks.{address_of, grain_of, length_of}
-use Rattle.pas_bits.proofs.Runs.{first_of_run, run_meets}
-use Rattle.pas_machine.specs.State.{Live, live_in, gives_in, ends_in, deed_in, backed_in, touches}
+use Rattle.std.proofs.{Common.{None, refl, ap, sym, ◌∙◌, eqb-true}, lemmas.{Bool.{Decides.eqb_tells, false≢true}, Option.{none-some, same_Some}}}
+use Rattle.pas_machine.specs.{Places.IsEach, Machine.{Run, MayGive, Bears}, State.{Live, live_in, gives_in, ends_in, deed_in, backed_in, touches}}
 use Rattle.pas_machine.specs.Laws.{AreApart, IsWhere, IsCounted, AreCounted, AreBorne}
+use Rattle.pas_profile.specs.{declared.{profile.Profile.Profile, directory.Directory.Directory, name.Block.Block, event.Event.Event}, Blocks.address_of}
+use Rattle.pas_profile.specs.Blocks.{grain_of, length_of}
+use Rattle.pas_bits.{specs.Runs.{in_run, meets_page}, proofs.Runs.{first_of_run, run_meets}}
 
 -- What is so of each number of a range, and of the next one, is so of the range up to that.
 pub each_more : (from until : ℕ) (P : ℕ → Type 0) → IsEach from until P → P until → IsEach from (until + 1) P

@@ -1,24 +1,18 @@
 -- Which events may come next, why others may not, and what a machine keeps.
 use Rattle.std.proofs.Common.{◌≡◌, ◌≢◌, ℕ, ◌+◌, ◌/◌, ◌%◌, ◌<◌, ◌≤◌, ◌⊎◌, ◌==◌, Bool, true, false, if◌then◌else◌, List, [], ◌∷◌, Option, Some, None, refl, ap}
 use Rattle.std.proofs.Common.{sym, ◌∙◌, subst, arith, inl, inr, ◌-◌, ◌*◌, length, get_or, is_some, replicate, set, get_or-set_same, get_or-set_other, ltb-true}
-use Rattle.std.proofs.Common.{ltb-false, eqb-true, eq-eqb, ne_eqb, nat_lt, MatchBool}
-use Rattle.std.proofs.{lemmas.Bool.false≢true, lemmas.Bool.true_from_ne_false, lemmas.Bool.false_from_ne_true, lemmas.Bool.Decides.eqb_tells}
-use Rattle.std.proofs.{lemmas.Bool.Decides.leb_tells, lemmas.Bool.Decides.nat_tests, lemmas.Option.none-some, lemmas.Option.same_Some, Math.Logic.∥∥₁_elim}
-use Rattle.std.proofs.{Math.Logic.∥∥₁_map, lemmas.List.get_or_default, lemmas.List.get_or-replicate}
-use Rattle.pas_profile.specs.declared.{profile.Profile.Profile, directory.Directory.Directory, name.Address.Address, name.Name.Name, name.Block.Block}
-use Rattle.pas_profile.specs.declared.{event.Event.Event, event.Why.Why}
-use Rattle.pas_profile.specs.{Profiles.IsPage, Blocks.address_of, Blocks.grain_of, Blocks.length_of}
-use Rattle.pas_bits.specs.Runs.{in_run, meets_page}
-use Rattle.pas_bits.proofs.Runs.{first_of_run, run_of, to_run, run_meets, met, to_meet, IsMet}
-use Rattle.pas_machine.specs.State.{Live, deed_in, backed_in, live_in, gives_in, ends_in, epoch_in, touches}
-use Rattle.pas_machine.specs.Machine.{Run, Admits, MayGive, Bears, IsLive, HasOtherRoom, IsReason, IsPlace}
-use Rattle.pas_machine.specs.Reasons.{reason_number, Applies, IsFirst, IsVerdict, IsOutside, IsNoPlace, IsNoRun, IsGrainOf, HasDeedOf, Covers}
-use Rattle.pas_machine.specs.declared.{fault.Illegal.Illegal, places.Page.Page, places.Place.Place}
-use Rattle.std.specs.Coded.{le_prop}
-use Rattle.pas_machine.specs.Laws.{IsCounted}
+use Rattle.std.proofs.{Common.{ltb-false, eqb-true, eq-eqb, ne_eqb, nat_lt, MatchBool}, lemmas.Bool.{false≢true, true_from_ne_false, false_from_ne_true}}
+use Rattle.std.proofs.lemmas.{Bool.Decides.{eqb_tells, leb_tells, nat_tests}, Option.{none-some, same_Some}, List.{get_or_default, get_or-replicate}}
+use Rattle.std.{proofs.Math.Logic.{∥∥₁_elim, ∥∥₁_map}, specs.Coded.le_prop}
+use Rattle.pas_profile.specs.declared.{profile.Profile.Profile, directory.Directory.Directory, name.{Address.Address, Name.Name, Block.Block}}
+use Rattle.pas_profile.specs.{declared.event.{Event.Event, Why.Why}, Profiles.IsPage, Blocks.{address_of, grain_of, length_of}}
+use Rattle.pas_bits.{specs.Runs.{in_run, meets_page}, proofs.Runs.{first_of_run, run_of, to_run, run_meets, met, to_meet, IsMet}}
+use Rattle.pas_machine.specs.{State.{Live, deed_in, backed_in, live_in, gives_in, ends_in, epoch_in, touches}, Machine.{Run, Admits, MayGive, Bears, IsLive}}
+use Rattle.pas_machine.specs.{Machine.{HasOtherRoom, IsReason, IsPlace}, Reasons.{reason_number, Applies, IsFirst, IsVerdict, IsOutside, IsNoPlace, IsNoRun}}
+use Rattle.pas_machine.specs.{Reasons.{IsGrainOf, HasDeedOf, Covers}, declared.{fault.Illegal.Illegal, places.{Page.Page, Place.Place}}, Laws.IsCounted}
 use Rattle.pas_machine.specs.Places.{Shows, IsLiveBlock, IsCovered, IsSome, IsEach, IsWhole, IsWithin, IsInside, blank_page, blank_place, bare_place, block_of}
-use Rattle.pas_machine.specs.Places.{block_at, page_in, place_in, place_with, grains_of, ended_at}
-use Rattle.pas_machine.proofs.LiveBlocks.{lives_where, live_long, all_counted, all_borne, live_apart, no_block}
+use Rattle.pas_machine.{specs.Places.{block_at, page_in, place_in, place_with, grains_of, ended_at}, proofs.LiveBlocks.{lives_where, live_long, all_counted}}
+use Rattle.pas_machine.proofs.LiveBlocks.{all_borne, live_apart, no_block}
 
 -- ==== That a reason applies exactly where an event may not come next, and that there is one first reason.
 

@@ -1,10 +1,8 @@
 -- What every run of the machine keeps.
 use Rattle.std.specs.Prelude.{ℕ, ◌+◌, ◌/◌, ◌≡◌, ◌≢◌, true, false, List, Option, None, Some}
-use Rattle.pas_profile.specs.declared.{profile.Profile.Profile, event.Event.Event}
+use Rattle.pas_profile.specs.{declared.{profile.Profile.Profile, event.Event.Event}, Blocks.{address_of, length_of}}
 use Rattle.pas_bits.specs.Runs.{in_run}
-use Rattle.pas_profile.specs.Blocks.{address_of, length_of}
-use Rattle.pas_machine.specs.State.{Live, live_in, gives_in, ends_in}
-use Rattle.pas_machine.specs.Machine.{Bears}
+use Rattle.pas_machine.specs.{State.{Live, live_in, gives_in, ends_in}, Machine.Bears}
 
 -- a block lives at its own address
 abbrev pub IsWhere : List Event → Type 0

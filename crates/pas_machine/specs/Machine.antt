@@ -1,8 +1,7 @@
 -- Which events the machine allows, and its runs.
 use Rattle.std.specs.Prelude.{ℕ, ◌+◌, ◌/◌, ◌%◌, ◌<◌, ◌≤◌, ◌≡◌, ◌≢◌, true, false, List, [], ◌∷◌, None, Some}
-use Rattle.pas_profile.specs.declared.{profile.Profile.Profile, directory.Directory.Directory, name.Name.Name, name.Block.Block, event.Event.Event}
-use Rattle.pas_profile.specs.declared.{event.Why.Why}
-use Rattle.pas_profile.specs.{Profiles.IsPage, Blocks.address_of, Blocks.grain_of, Blocks.length_of}
+use Rattle.pas_profile.specs.declared.{profile.Profile.Profile, directory.Directory.Directory, name.{Name.Name, Block.Block}, event.{Event.Event, Why.Why}}
+use Rattle.pas_profile.specs.{Profiles.IsPage, Blocks.{address_of, grain_of, length_of}}
 use Rattle.pas_bits.specs.Runs.{in_run}
 use Rattle.pas_machine.specs.State.{Live, deed_in, backed_in, live_in, gives_in, ends_in, epoch_in, touches}
 

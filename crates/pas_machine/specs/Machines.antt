@@ -1,9 +1,7 @@
 -- What a machine stands for, and what a step of it does.
 use Rattle.std.specs.Prelude.{◌-◌, ◌^◌, ◌≡◌, List, ◌∷◌, Result, Ok, Err}
-use Rattle.pas_profile.specs.declared.{profile.Profile.Profile, event.Event.Event}
-use Rattle.pas_profile.specs.Blocks.{address_of}
-use Rattle.pas_machine.specs.{State.gives_in, Machine.Admits, Reasons.IsFirst, Places.Shows}
-use Rattle.pas_machine.specs.declared.{fault.StepFault.StepFault, machine.Machine.Machine}
+use Rattle.pas_profile.specs.{declared.{profile.Profile.Profile, event.Event.Event}, Blocks.address_of}
+use Rattle.pas_machine.specs.{State.gives_in, Machine.Admits, Reasons.IsFirst, Places.Shows, declared.{fault.StepFault.StepFault, machine.Machine.Machine}}
 
 abbrev pub profile_of : Machine → Profile
 profile_of machine = machine.profile

@@ -1,11 +1,9 @@
 -- What a machine keeps of the pages and addresses of its region.
 use Rattle.std.specs.Prelude.{ℕ, ◌+◌, ◌-◌, ◌*◌, ◌%◌, ◌<◌, ◌≤◌, ◌≡◌, Bool, true, false, if◌then◌else◌, List, Option, None, Some, is_some, get_or, max}
-use Rattle.pas_profile.specs.declared.{profile.Profile.Profile, directory.Directory.Directory, name.Address.Address, name.Name.Name, name.Block.Block}
-use Rattle.pas_profile.specs.declared.{event.Event.Event}
-use Rattle.pas_profile.specs.Blocks.{address_of, grain_of, length_of}
-use Rattle.pas_machine.specs.State.{Live, deed_in, backed_in, live_in, gives_in, epoch_in}
-use Rattle.pas_machine.specs.{Machine.Run, Reasons.Covers}
-use Rattle.pas_machine.specs.declared.places.{Page.Page, Place.Place}
+use Rattle.pas_profile.specs.declared.{profile.Profile.Profile, directory.Directory.Directory, name.{Address.Address, Name.Name, Block.Block}}
+use Rattle.pas_profile.specs.{declared.event.Event.Event, Blocks.{address_of, grain_of, length_of}}
+use Rattle.pas_machine.specs.{State.{Live, deed_in, backed_in, live_in, gives_in, epoch_in}, Machine.Run, Reasons.Covers, declared.places.Page.Page}
+use Rattle.pas_machine.specs.declared.places.Place.{Place}
 
 abbrev pub blank_page : Page
 blank_page = record { directory = None; backed = false; epoch = 0 }

@@ -1,11 +1,10 @@
 -- Why an event may not come next: eleven reasons, and to which events each applies. They are said apart from what may come next (`Admits`);
 -- that the two agree is a law.
 use Rattle.std.specs.Prelude.{ℕ, ◌+◌, ◌/◌, ◌%◌, ◌<◌, ◌≤◌, ◌≡◌, ◌≢◌, ◌⊎◌, true, false, List, Option, None, Some}
-use Rattle.pas_profile.specs.declared.{profile.Profile.Profile, directory.Directory.Directory, name.Block.Block, event.Event.Event}
+use Rattle.pas_profile.specs.{declared.{profile.Profile.Profile, directory.Directory.Directory, name.Block.Block, event.Event.Event}, Blocks.address_of}
+use Rattle.pas_profile.specs.Blocks.{grain_of, length_of}
 use Rattle.pas_bits.specs.Runs.{in_run}
-use Rattle.pas_profile.specs.Blocks.{address_of, grain_of, length_of}
-use Rattle.pas_machine.specs.State.{Live, deed_in, backed_in, live_in, gives_in, epoch_in, touches}
-use Rattle.pas_machine.specs.Machine.{IsLive, IsReason}
+use Rattle.pas_machine.specs.{State.{Live, deed_in, backed_in, live_in, gives_in, epoch_in, touches}, Machine.{IsLive, IsReason}}
 use Rattle.pas_machine.specs.declared.fault.Illegal.{Illegal}
 
 -- the order of the reasons

@@ -2,9 +2,8 @@
 -- is one equation. Each part of the state is a map: a function of the events. For each part one table says what an event does to it, an
 -- event a line, and the state is the table applied event by event to the empty state.
 use Rattle.std.specs.Prelude.{ℕ, ◌+◌, ◌/◌, ◌==◌, max, Bool, true, false, if◌then◌else◌, List, [], ◌∷◌, Option, None, Some}
-use Rattle.pas_profile.specs.declared.{directory.Directory.Directory, name.Block.Block, event.Event.Event}
+use Rattle.pas_profile.specs.{declared.{directory.Directory.Directory, name.Block.Block, event.Event.Event}, Blocks.{address_of, length_of}}
 use Rattle.pas_bits.specs.Runs.{meets_page}
-use Rattle.pas_profile.specs.Blocks.{address_of, length_of}
 
 -- a live block, beside the address that it is found by
 pub record Live : Type 0 where

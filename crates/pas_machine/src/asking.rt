@@ -1,9 +1,8 @@
 //! What a machine says of a page and of a grain.
 ghost use Rattle.std.specs.Prelude.{◌≡◌, ◌*◌, ◌<◌, MatchBool, List};
-ghost use Rattle.pas_profile.specs.Profiles.{IsPage};
-ghost use Rattle.pas_profile.specs.declared.event.Event.{Event as TheEvent};
-ghost use Rattle.pas_machine.specs.State.{deed_in, backed_in, epoch_in, live_in, gives_in};
-ghost use Rattle.pas_machine.specs.{Machines.profile_of, Machines.StandsFor, Places.IsCovered, Places.block_of, Places.grains_of};
+ghost use Rattle.pas_profile.specs.{Profiles.IsPage, declared.event.Event.Event as TheEvent};
+ghost use Rattle.pas_machine.specs.{State.{deed_in, backed_in, epoch_in, live_in, gives_in}, Machines.{profile_of, StandsFor}, Places.{IsCovered, block_of}};
+ghost use Rattle.pas_machine.specs.Places.{grains_of};
 
 use crate::machine::Machine;
 use pas_profile::{Address, Block, Directory, Profile};

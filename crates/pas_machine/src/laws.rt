@@ -1,8 +1,7 @@
 //! What every run of the machine keeps. Each law is the contract of an empty function.
 ghost use Rattle.std.specs.Prelude.{List, ◌≡◌, ◌↔◌};
 ghost use Rattle.pas_profile.specs.declared.{profile.Profile.Profile, event.Event.Event};
-ghost use Rattle.pas_machine.specs.{Machine.Run, Machine.Admits, Reasons.Applies, Reasons.IsFirst};
-ghost use Rattle.pas_machine.specs.Laws.{IsWhere, AreApart, AreCounted, AreBorne};
+ghost use Rattle.pas_machine.specs.{Machine.{Run, Admits}, Reasons.{Applies, IsFirst}, Laws.{IsWhere, AreApart, AreCounted, AreBorne}};
 ghost use Rattle.pas_machine.specs.declared.fault.Illegal.{Illegal};
 
 /// Memory that one block has is never part of another: two blocks that live at different addresses have no grain in common.

@@ -1,7 +1,6 @@
 //! The allocator's machine as a program.
 ghost use Rattle.std.specs.Prelude.{◌≡◌, ◌+◌, ◌*◌, List, vec_len};
-ghost use Rattle.pas_profile.specs.Profiles.{IsValid};
-ghost use Rattle.pas_profile.specs.declared.event.Event.{Event as TheEvent};
+ghost use Rattle.pas_profile.specs.{Profiles.IsValid, declared.event.Event.Event as TheEvent};
 ghost use Rattle.pas_machine.specs.Places.{Shows};
 
 use crate::places::{Page, Place, blank_pages, blank_places, free_grains};

@@ -1,10 +1,8 @@
 //! The first reason why an event may not come next, if there is one, in the order of the reasons.
 ghost use Rattle.std.specs.Prelude.{ℕ, ◌≡◌, ◌+◌, ◌<◌, ◌≤◌, MatchBool, MatchOption, IfOk, IfErr, List, None};
-ghost use Rattle.pas_profile.specs.{Profiles.IsPage, Blocks.address_of, Blocks.grain_of, Blocks.length_of};
-ghost use Rattle.pas_profile.specs.declared.event.Event.{Event as TheEvent};
-ghost use Rattle.pas_machine.specs.{State.ends_in, Machine.IsPlace, Machine.IsLive, Machine.HasOtherRoom, Machines.profile_of, Machines.StandsFor};
-ghost use Rattle.pas_machine.specs.Reasons.{IsOutside, IsNoPlace, IsBroken, IsNoRun, IsVerdict, IsFirst};
-ghost use Rattle.pas_machine.specs.Places.{IsInside, IsWhole, IsWithin, IsLiveBlock, grains_of};
+ghost use Rattle.pas_profile.specs.{Profiles.IsPage, Blocks.{address_of, grain_of, length_of}, declared.event.Event.Event as TheEvent};
+ghost use Rattle.pas_machine.specs.{State.ends_in, Machine.{IsPlace, IsLive, HasOtherRoom}, Machines.{profile_of, StandsFor}, Reasons.{IsOutside, IsNoPlace}};
+ghost use Rattle.pas_machine.specs.{Reasons.{IsBroken, IsNoRun, IsVerdict, IsFirst}, Places.{IsInside, IsWhole, IsWithin, IsLiveBlock, grains_of}};
 
 use crate::fault::Illegal;
 use crate::looking::{is_some_covered, lacks_backing, lacks_deed};

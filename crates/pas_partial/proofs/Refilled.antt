@@ -1,29 +1,18 @@
 -- The lowest row of slots, as a run of grains and by the slots' first grains.
 use Rattle.std.proofs.Common.{◌≡◌, ℕ, ◌+◌, ◌-◌, ◌*◌, ◌/◌, ◌%◌, ◌<◌, ◌≤◌, min, true, refl, ap, sym, ◌∙◌, subst, arith, inl, inr, leb, leb-true, true≢false}
-use Rattle.std.proofs.Common.{div-add-mod', ◌==◌, Bool, if◌then◌else◌, List, ◌++◌, Ok, false, eq-eqb}
-use Rattle.std.proofs.Math.Nat.{add-mul, mod-lt, add-mul-mod_self_right, mul-le-mul_right, suc-mul}
-use Rattle.std.proofs.lemmas.{Bool.cases_lt, Nat.le-div, Bool.and_from}
-use Rattle.pas_bits.specs.{Masks.is_set, Masks.IsLowestPlace, Masks.IsRunEnd, Runs.in_run}
-use Rattle.pas_bits.proofs.Runs.{run_of, to_run}
-use Rattle.pas_bits.specs.declared.mask.Mask4.{Mask4}
-use Rattle.pas_partial.specs.Rows.{IsInRow, IsFreeSlot, IsLowestRow, IsLowestRun, lowest_rows, rows}
-use Rattle.pas_profile.specs.Classes.{IsClass, class_grains, slots_of, usable_grains}
-use Rattle.pas_profile.proofs.Sizes.{class_passes, class_grains_positive, slot_end, slot_lt}
-use Rattle.pas_segregated.specs.{Masks.start_of, Takes.AreFreeSlots, Takes.in_starts, Refills.GetsSlots, Refills.Refills, Stops.in_slots}
+use Rattle.std.proofs.{Common.{div-add-mod', ◌==◌, Bool, if◌then◌else◌, List, ◌++◌, Ok, false, eq-eqb}, Math.Nat.{add-mul, mod-lt, add-mul-mod_self_right}}
+use Rattle.std.proofs.{Math.Nat.{mul-le-mul_right, suc-mul}, lemmas.{Bool.{cases_lt, and_from}, Nat.le-div}}
+use Rattle.pas_bits.{specs.{Masks.{is_set, IsLowestPlace, IsRunEnd}, Runs.in_run, declared.mask.Mask4.Mask4}, proofs.Runs.{run_of, to_run}}
+use Rattle.pas_partial.specs.{Rows.{IsInRow, IsFreeSlot, IsLowestRow, IsLowestRun, lowest_rows, rows}, Refills.{shared_directory, shared_slots}}
+use Rattle.pas_profile.{specs.{Classes.{IsClass, class_grains, slots_of, usable_grains}, declared.directory.Directory.Directory}, proofs.Sizes.class_passes}
+use Rattle.pas_profile.proofs.Sizes.{class_grains_positive, slot_end, slot_lt}
+use Rattle.pas_segregated.specs.{Masks.start_of, Takes.{AreFreeSlots, in_starts}, Refills.{GetsSlots, Refills}, Stops.in_slots, declared.slots.Slots.Slots}
 use Rattle.pas_segregated.proofs.Starts.{start_at, start_below}
-use Rattle.pas_steps.proofs.{Sets.same_truth, Called.call_knows, Called.call_then, Calls.returns_are}
-use Rattle.pas_steps.specs.{Evidence.Readings, Desks.Standing}
-use Rattle.pas_search.specs.{Placements.IsPlaced, Allocates.served_by, Choices.choosing, Placements.by_run, Placements.placing, Searches.IsServed}
-use Rattle.pas_search.specs.{Searches.MaySearch, Searches.Searches}
-use Rattle.pas_search.specs.declared.{placing.Run.Run, serving.Served.Served}
-use Rattle.pas_profile.specs.declared.directory.Directory.{Directory}
+use Rattle.pas_steps.{proofs.{Sets.same_truth, Called.{call_knows, call_then}, Calls.returns_are}, specs.{Evidence.Readings, Desks.Standing, Calls.Calls}}
+use Rattle.pas_steps.specs.{Calls.{Kept, Gained, now}, Views.{View, holds, has_right, knows_backed}, declared.step.Made.Made}
+use Rattle.pas_search.specs.{Placements.{IsPlaced, by_run, placing}, Allocates.served_by, Choices.choosing, Searches.{IsServed, MaySearch, Searches}}
+use Rattle.pas_search.{specs.declared.{placing.Run.Run, serving.Served.Served}, proofs.TheBestPage.{KeepsNew, finds_as, finds_call, left_after}}
 use Rattle.pas_rights.specs.Leaves.{MayLeave, Leaves}
-use Rattle.pas_steps.specs.Calls.{Calls, Kept, Gained, now}
-use Rattle.pas_steps.specs.Views.{View, holds, has_right, knows_backed}
-use Rattle.pas_steps.specs.declared.step.Made.{Made}
-use Rattle.pas_search.proofs.TheBestPage.{KeepsNew, finds_as, finds_call, left_after}
-use Rattle.pas_segregated.specs.declared.slots.Slots.{Slots}
-use Rattle.pas_partial.specs.Refills.{shared_directory, shared_slots}
 
 -- ---- where slots end
 -- after the slots of a page less is left of it than a slot

@@ -1,15 +1,10 @@
 -- Slots of a shared page that follow each other.
-use Rattle.std.specs.Prelude.{ℕ, ◌+◌, ◌*◌, ◌<◌, ◌≤◌, ◌≡◌, ◌↔◌, IsTrue, refl}
-use Rattle.std.proofs.Common.{arith}
-use Rattle.std.proofs.Math.Nat.{mul-le-mul_right}
-use Rattle.pas_profile.specs.Classes.{IsClass, class_grains, usable_grains, IsSlotStart}
-use Rattle.pas_profile.specs.declared.directory.Kind.{Kind}
-use Rattle.pas_profile.proofs.Sizes.{class_grains_positive, usable_grains_le, first_slot}
-use Rattle.pas_bits.specs.declared.mask.Mask4.{Mask4}
-use Rattle.pas_bits.specs.{Masks.is_set, Runs.AreFree}
+use Rattle.std.{specs.Prelude.{ℕ, ◌+◌, ◌*◌, ◌<◌, ◌≤◌, ◌≡◌, ◌↔◌, IsTrue, refl}, proofs.{Common.arith, Math.Nat.mul-le-mul_right}}
+use Rattle.pas_profile.{specs.{Classes.{IsClass, class_grains, usable_grains, IsSlotStart}, declared.directory.Kind.Kind}, proofs.Sizes.class_grains_positive}
+use Rattle.pas_profile.proofs.Sizes.{usable_grains_le, first_slot}
+use Rattle.pas_bits.specs.{declared.mask.Mask4.Mask4, Masks.is_set, Runs.AreFree}
 use Rattle.pas_steps.specs.Evidence.{Readings}
-use Rattle.pas_search.specs.{Choices.Choice, Placements.Placement, Placements.IsPlacement}
-use Rattle.pas_search.specs.declared.placing.Run.{Run}
+use Rattle.pas_search.specs.{Choices.Choice, Placements.{Placement, IsPlacement}, declared.placing.Run.Run}
 use Rattle.pas_segregated.specs.Takes.{NoSlot, in_starts, fewer_slots}
 
 -- s is one of the first n places from the first on, each so much after the one before it, and Good holds of all of them up to s

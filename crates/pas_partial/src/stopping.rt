@@ -1,8 +1,8 @@
 //! Slots are given up.
 ghost use Rattle.std.specs.Prelude.{◌≡◌};
-ghost use Rattle.pas_profile.specs.{Classes.IsClass, Profiles.IsPage, Profiles.IsDirectoryOf};
+ghost use Rattle.pas_profile.specs.{Classes.IsClass, Profiles.{IsPage, IsDirectoryOf}};
 ghost use Rattle.pas_steps.specs.Desks.{CanCall};
-ghost use Rattle.pas_segregated.specs.{Masks.AreStarts, Stops.MayStopAt, Stops.StopsAt};
+ghost use Rattle.pas_segregated.specs.{Masks.AreStarts, Stops.{MayStopAt, StopsAt}};
 ghost use Rattle.pas_partial.specs.Refills.{shared_directory};
 
 use pas_profile::{Directory, Kind};

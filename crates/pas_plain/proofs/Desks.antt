@@ -1,28 +1,21 @@
 -- Desks at a plain region, and their passes.
 use Rattle.std.proofs.Common.{◌≡◌, ◌≢◌, ℕ, zero, suc, ◌+◌, ◌-◌, ◌*◌, ◌/◌, ◌%◌, ◌^◌, ◌<◌, ◌≤◌, min, All, List, [], ◌∷◌, ◌++◌, length, refl, ap, sym, ◌∙◌, arith}
-use Rattle.std.proofs.Common.{true, subst, Bool, if◌then◌else◌, length-append, append-nil, reverse}
-use Rattle.pas_profile.specs.{Rooms.shown, Rooms.EventRoom, Layouts.same_word, Profiles.IsWordOf}
-use Rattle.pas_profile.specs.declared.{profile.Profile.Profile, word.Word.Word, event.Event.Event}
-use Rattle.pas_profile.proofs.Places.{same_word-true}
-use Rattle.pas_steps.specs.{Events.events_of, Events.event_of, Allowed.Allowed, Allowed.IsStepOf, Agreement.Agrees, Calls.nothing, Calls.Does, Calls.Calls}
-use Rattle.pas_steps.specs.{Clear.IsClear, Clear.HasNothing, Effects.target, Effects.new_value, Noted.IsNoted, Noted.ShowsRest, Paged.value_in}
-use Rattle.pas_steps.specs.Lists.{Whole, part, word_after, Legal}
-use Rattle.pas_steps.specs.Views.{known_epoch, View, epoch_of, or_zero, epoch_after}
-use Rattle.pas_steps.specs.Told.{AreShort, StandsLater, StandsStill, TellsWord}
-use Rattle.pas_steps.proofs.{ShortOfGrains.short_alike, Parts.part_of_others, Parts.part_of_own, Frames.with_few, Called.call_none, Called.call_step}
-use Rattle.pas_steps.proofs.{Calls.does_idly, Nothing.nothing_still, Nothing.calls_rest, Running.target_of_region, Noting.rest_noted, Noting.count_next}
+use Rattle.std.proofs.{Common.{true, subst, Bool, if◌then◌else◌, length-append, append-nil, reverse}, lemmas.List.reverse-append}
+use Rattle.pas_profile.specs.{Rooms.{shown, EventRoom}, Layouts.same_word, Profiles.IsWordOf, declared.{profile.Profile.Profile, word.Word.Word}}
+use Rattle.pas_profile.{specs.declared.event.Event.Event, proofs.Places.same_word-true}
+use Rattle.pas_steps.specs.{Events.{events_of, event_of}, Allowed.{Allowed, IsStepOf}, Agreement.Agrees, Calls.{nothing, Does, Calls}, Clear.IsClear}
+use Rattle.pas_steps.specs.{Clear.HasNothing, Effects.{target, new_value}, Noted.{IsNoted, ShowsRest}, Paged.value_in, Lists.{Whole, part, word_after, Legal}}
+use Rattle.pas_steps.specs.{Views.{known_epoch, View, epoch_of, or_zero, epoch_after}, Told.{AreShort, StandsLater, StandsStill, TellsWord}, Desks.triples}
+use Rattle.pas_steps.specs.{Desks.{Seat, Standing, made, triple, CanMake, Makes}, declared.step.{Made.Made, Step.Step}, Kinds.{Kinds, kind_of, is_in, apart}}
+use Rattle.pas_steps.{specs.Kinds.changing, proofs.{ShortOfGrains.short_alike, Parts.{part_of_others, part_of_own}, Frames.with_few, Called.call_none}}
+use Rattle.pas_steps.proofs.{Called.call_step, Calls.does_idly, Nothing.{nothing_still, calls_rest}, Running.target_of_region, Noting.{rest_noted, count_next}}
 use Rattle.pas_bits.specs.Bits.{has_bit}
-use Rattle.pas_plain.specs.Short.{IsShortPage}
-use Rattle.pas_steps.specs.Desks.{triples, Seat, Standing, made, triple, CanMake, Makes}
-use Rattle.pas_steps.specs.declared.step.{Made.Made, Step.Step}
-use Rattle.pas_plain.specs.Plain.{actor_of, count_of_pass, CountsMore, word_at, Forgets, PassStands, pass_for, passes_from, profile_of, room_of_pass}
-use Rattle.pas_plain.specs.Plain.{events_shown, forgotten_by, spare_in, RegionStands, epoch_known, IsExchanged}
+use Rattle.pas_plain.specs.{Short.IsShortPage, Plain.{actor_of, count_of_pass, CountsMore, word_at, Forgets, PassStands, pass_for, passes_from, profile_of}}
+use Rattle.pas_plain.specs.Plain.{room_of_pass, events_shown, forgotten_by, spare_in, RegionStands, epoch_known, IsExchanged}
 use Rattle.pas_plain.specs.declared.{near.NearWords.NearWords, pass.PlainPass.PlainPass, region.PlainRegion.PlainRegion, desk.PlainDesk.PlainDesk}
-use Rattle.pas_steps.specs.Kinds.{Kinds, kind_of, is_in, apart, changing}
-use Rattle.pas_plain.specs.Seats.{region_of, pass_of, DeskStands, standing_of, shows_rest, spare_of_room, IsChanged}
-use Rattle.pas_plain.specs.Storms.{Acts, StormStands, seat_for, storm_of, own_stands}
+use Rattle.pas_plain.specs.{Seats.{region_of, pass_of, DeskStands, standing_of, shows_rest, spare_of_room, IsChanged}, Storms.{Acts, StormStands, seat_for}}
+use Rattle.pas_plain.specs.Storms.{storm_of, own_stands}
 use Rattle.pas_core.proofs.Nexts.{legal_next, agrees_next}
-use Rattle.std.proofs.lemmas.List.{reverse-append}
 
 -- ==== Passes that stand: at the opening, and at rest while another actor steps.
 

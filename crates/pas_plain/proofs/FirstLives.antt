@@ -1,11 +1,8 @@
 -- The life words of first grains, which stand side by side once more, after a write.
 use Rattle.std.proofs.Common.{◌≡◌, ℕ, ◌-◌, ◌<◌, ◌≤◌, ◌==◌, Bool, false, ◌&&◌, if◌then◌else◌, List, length, slice_index, slice_set, inl, inr, ap, sym, ◌∙◌}
-use Rattle.std.proofs.Common.{arith, subst, eq-eqb, ne_eqb, get_or-set_same, get_or-set_other}
-use Rattle.std.proofs.lemmas.Bool.{cases_eq}
-use Rattle.pas_profile.specs.{Layouts.same_word, Profiles.IsWordIn}
-use Rattle.pas_profile.specs.declared.word.{Layout.Layout, Word.Word}
-use Rattle.pas_steps.specs.Paged.{value_in}
-use Rattle.pas_steps.specs.declared.paged.PagedWords.{PagedWords}
+use Rattle.std.proofs.{Common.{arith, subst, eq-eqb, ne_eqb, get_or-set_same, get_or-set_other}, lemmas.Bool.cases_eq}
+use Rattle.pas_profile.specs.{Layouts.same_word, Profiles.IsWordIn, declared.word.{Layout.Layout, Word.Word}}
+use Rattle.pas_steps.specs.{Paged.value_in, declared.paged.PagedWords.PagedWords}
 
 -- these are the life words of the first grains of all pages
 abbrev pub AreFirsts : List ℕ → PagedWords → Type 0

@@ -1,22 +1,14 @@
 -- Pages that are noted as short of free grains: as a word is written, and as notes come and go.
 use Rattle.std.proofs.Common.{◌≡◌, ◌≢◌, ℕ, zero, suc, ◌+◌, ◌-◌, ◌*◌, ◌/◌, ◌%◌, ◌^◌, ◌<◌, ◌≤◌, ◌==◌, Bool, true, false, not, ◌&&◌, ◌||◌, if◌then◌else◌, ◌⊎◌, inl}
 use Rattle.std.proofs.Common.{inr, List, [], ◌∷◌, ◌++◌, length, replicate, refl, ap, sym, ◌∙◌, arith, subst, true≢false, bit_and, w64, eq-eqb, ne_eqb, eqb-true}
-use Rattle.std.proofs.Common.{get_or, get_or-set_same, get_or-set_other, slice_index, slice_set, length-set, Option, None, Some, MatchOption}
-use Rattle.std.specs.{Int.bit_not, Option.is_some}
-use Rattle.std.proofs.Math.ListN.{set}
-use Rattle.std.proofs.lemmas.Bool.{cases_eq, cases_Bool, not-false, not-true, and_parts, or_cases, false_from_ne_true}
-use Rattle.pas_bits.specs.declared.mask.Mask4.{Mask4}
-use Rattle.pas_bits.specs.{Masks.is_set, Masks.HasMember, Masks.HasNoPlace, Bits.has_bit, PageVectors.is_in_word, PageVectors.page_mask}
-use Rattle.pas_bits.proofs.{PageVectors.page_bit-clear, Words.bit_cleared, Words.none_of_zero}
-use Rattle.pas_profile.specs.{Layouts.same_word, Profiles.IsWordIn}
-use Rattle.pas_profile.specs.declared.word.Word.{Word}
-use Rattle.pas_profile.proofs.Places.{same_word-true}
-use Rattle.pas_steps.specs.{Paged.value_in, Told.free_by}
-use Rattle.pas_steps.specs.declared.paged.PagedWords.{PagedWords}
-use Rattle.pas_steps.proofs.ShortOfGrains.{short_alike}
-use Rattle.pas_plain.specs.ShortRows.{has_page, no_row, row_at}
-use Rattle.pas_plain.specs.Short.{GotNone, HasNote, IsRowOf, IsShortPage}
-use Rattle.pas_plain.specs.declared.short.{ShortPages.ShortPages, ShortRow.ShortRow}
+use Rattle.std.proofs.{Common.{get_or, get_or-set_same, get_or-set_other, slice_index, slice_set, length-set, Option, None, Some, MatchOption}, Math.ListN.set}
+use Rattle.std.{proofs.lemmas.Bool.{cases_eq, cases_Bool, not-false, not-true, and_parts, or_cases, false_from_ne_true}, specs.{Int.bit_not, Option.is_some}}
+use Rattle.pas_bits.specs.{declared.mask.Mask4.Mask4, Masks.{is_set, HasMember, HasNoPlace}, Bits.has_bit, PageVectors.{is_in_word, page_mask}}
+use Rattle.pas_bits.proofs.{PageVectors.page_bit-clear, Words.{bit_cleared, none_of_zero}}
+use Rattle.pas_profile.{specs.{Layouts.same_word, Profiles.IsWordIn, declared.word.Word.Word}, proofs.Places.same_word-true}
+use Rattle.pas_steps.{specs.{Paged.value_in, Told.free_by, declared.paged.PagedWords.PagedWords}, proofs.ShortOfGrains.short_alike}
+use Rattle.pas_plain.specs.{ShortRows.{has_page, no_row, row_at}, Short.{GotNone, HasNote, IsRowOf, IsShortPage}, declared.short.ShortPages.ShortPages}
+use Rattle.pas_plain.specs.declared.short.ShortRow.{ShortRow}
 
 -- ---- bits
 clear_as : (t b : Bool) → (if t then false else b) ≡ (not t && b)

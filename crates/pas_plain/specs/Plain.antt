@@ -1,12 +1,8 @@
 -- What a plain region, a pass and a plain desk stand for.
-use Rattle.std.specs.Prelude.{ℕ, ◌+◌, ◌-◌, ◌^◌, ◌≡◌, ◌≤◌, List, [], ◌∷◌, if◌then◌else◌, length, min, Option}
-use Rattle.pas_profile.specs.{Layouts.same_word, Profiles.IsWordOf, Rooms.EventRoom}
-use Rattle.std.proofs.Common.{arith}
-use Rattle.pas_profile.specs.declared.{event.Event.Event, profile.Profile.Profile, word.Word.Word}
-use Rattle.pas_steps.specs.{Effects.target, Effects.new_value, Events.events_of, Paged.value_in, Views.known_epoch}
-use Rattle.pas_steps.specs.Lists.{Whole, part, word_after, Legal}
-use Rattle.pas_steps.specs.declared.step.Step.{Step}
-use Rattle.pas_steps.specs.Noted.{ShowsRest, events_noted, room_of_notes, count_of_notes, epoch_noted, notes_for}
+use Rattle.std.{specs.Prelude.{ℕ, ◌+◌, ◌-◌, ◌^◌, ◌≡◌, ◌≤◌, List, [], ◌∷◌, if◌then◌else◌, length, min, Option}, proofs.Common.arith}
+use Rattle.pas_profile.specs.{Layouts.same_word, Profiles.IsWordOf, Rooms.EventRoom, declared.{event.Event.Event, profile.Profile.Profile, word.Word.Word}}
+use Rattle.pas_steps.specs.{Effects.{target, new_value}, Events.events_of, Paged.value_in, Views.known_epoch, Lists.{Whole, part, word_after, Legal}}
+use Rattle.pas_steps.specs.{declared.step.Step.Step, Noted.{ShowsRest, events_noted, room_of_notes, count_of_notes, epoch_noted, notes_for}}
 use Rattle.pas_plain.specs.declared.{region.PlainRegion.PlainRegion, pass.PlainPass.PlainPass}
 
 -- ---- regions

@@ -1,10 +1,7 @@
 -- What a plain desk stands for, and which passes are a region's own.
-use Rattle.std.specs.Prelude.{ℕ, ◌≡◌, ◌≢◌, ◌+◌, List, [], All, length}
-use Rattle.std.proofs.Common.{ap, sym, ◌∙◌, subst}
-use Rattle.std.proofs.Math.Nat.{sub-add_cancel}
-use Rattle.pas_steps.specs.{Views.View, Views.or_zero, Lists.Whole, Lists.part, Events.events_of, Desks.Seat, Desks.Standing, Noted.IsNoted, Noted.ShowsRest}
-use Rattle.pas_steps.proofs.Noting.{rest_length}
-use Rattle.pas_steps.specs.declared.step.Step.{Step}
+use Rattle.std.{specs.Prelude.{ℕ, ◌≡◌, ◌≢◌, ◌+◌, List, [], All, length}, proofs.{Common.{ap, sym, ◌∙◌, subst}, Math.Nat.sub-add_cancel}}
+use Rattle.pas_steps.specs.{Views.{View, or_zero}, Lists.{Whole, part}, Events.events_of, Desks.{Seat, Standing}, Noted.{IsNoted, ShowsRest}}
+use Rattle.pas_steps.{specs.declared.step.Step.Step, proofs.Noting.rest_length}
 use Rattle.pas_plain.specs.Plain.{profile_of, RegionStands, actor_of, events_shown, forgotten_by, spare_in, room_of_pass, epoch_known, PassStands, IsExchanged}
 use Rattle.pas_plain.specs.declared.{region.PlainRegion.PlainRegion, pass.PlainPass.PlainPass, desk.PlainDesk.PlainDesk}
 

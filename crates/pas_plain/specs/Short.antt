@@ -1,10 +1,8 @@
 -- Which pages are noted as short of free grains.
 use Rattle.std.specs.Prelude.{ℕ, ◌≡◌, ◌≤◌, ◌<◌, true, length}
 use Rattle.pas_bits.specs.Bits.{has_bit}
-use Rattle.pas_steps.specs.{Paged.value_in, Told.free_by, Told.IsShort}
-use Rattle.pas_steps.specs.declared.paged.PagedWords.{PagedWords}
-use Rattle.pas_plain.specs.ShortRows.{has_page, row_at}
-use Rattle.pas_plain.specs.declared.short.ShortPages.{ShortPages}
+use Rattle.pas_steps.specs.{Paged.value_in, Told.{free_by, IsShort}, declared.paged.PagedWords.PagedWords}
+use Rattle.pas_plain.specs.{ShortRows.{has_page, row_at}, declared.short.ShortPages.ShortPages}
 
 -- the row at this place is that of this run
 pub record IsRowOf (short : ShortPages) (grains align at : ℕ) : Type 0 where

@@ -1,11 +1,10 @@
 -- Two actors at one plain region, of whom one acts between the steps of the other.
-use Rattle.std.specs.Prelude.{◌+◌, ◌-◌, ◌^◌, ◌≡◌, ◌≢◌, List, length, min}
-use Rattle.std.proofs.Common.{ap, ◌∙◌}
-use Rattle.pas_steps.specs.{Calls.Calls, Clear.HasNothing, Desks.Seat, Desks.Standing, Events.events_of, Lists.Whole, Lists.part, Noted.ShowsRest, Views.View}
+use Rattle.std.{specs.Prelude.{◌+◌, ◌-◌, ◌^◌, ◌≡◌, ◌≢◌, List, length, min}, proofs.Common.{ap, ◌∙◌}}
+use Rattle.pas_steps.specs.{Calls.Calls, Clear.HasNothing, Desks.{Seat, Standing}, Events.events_of, Lists.{Whole, part}, Noted.ShowsRest, Views.View}
 use Rattle.pas_steps.specs.declared.step.Made.{Made}
 use Rattle.pas_plain.specs.Plain.{profile_of, RegionStands, actor_of, events_shown, forgotten_by, spare_in, room_of_pass, count_of_pass, PassStands}
-use Rattle.pas_plain.specs.Seats.{region_of, pass_of, seat_of, DeskStands, shows_rest, spare_of_room}
-use Rattle.pas_plain.specs.declared.{region.PlainRegion.PlainRegion, pass.PlainPass.PlainPass, desk.PlainDesk.PlainDesk}
+use Rattle.pas_plain.specs.{Seats.{region_of, pass_of, seat_of, DeskStands, shows_rest, spare_of_room}, declared.region.PlainRegion.PlainRegion}
+use Rattle.pas_plain.specs.declared.{pass.PlainPass.PlainPass, desk.PlainDesk.PlainDesk}
 
 -- an actor that had nothing and was clear made these steps, after which it has nothing and is clear again
 pub record Acts (desk desk' : Standing) : Type 0 where

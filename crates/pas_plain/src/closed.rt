@@ -37,8 +37,7 @@ impl<D: Desk> Closed<D> {
 }
 
 impl<D: Desk> Desk for Closed<D> {
-    ghost use Rattle.std.specs.Prelude.{false};
-    ghost use Rattle.std.proofs.lemmas.Bool.{false≢true};
+    ghost use Rattle.std.{specs.Prelude.false, proofs.lemmas.Bool.false≢true};
     ghost use Rattle.pas_plain.specs.Sides.{one_side};
 
     type Home = D::Home;

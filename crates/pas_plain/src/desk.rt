@@ -1,8 +1,7 @@
 //! The desk of an actor at a plain region.
 ghost use Rattle.std.specs.Prelude.{◌≡◌};
-ghost use Rattle.pas_steps.specs.{Lists.Whole, Lists.part, Views.View};
-ghost use Rattle.pas_plain.specs.Plain.{profile_of, actor_of, RegionStands, PassStands};
-ghost use Rattle.pas_plain.specs.Seats.{region_of, pass_of, IsPassOf, DeskStands};
+ghost use Rattle.pas_steps.specs.{Lists.{Whole, part}, Views.View};
+ghost use Rattle.pas_plain.specs.{Plain.{profile_of, actor_of, RegionStands, PassStands}, Seats.{region_of, pass_of, IsPassOf, DeskStands}};
 
 use crate::pass::PlainPass;
 use crate::region::PlainRegion;
@@ -33,9 +32,8 @@ impl PlainRegion {
 impl PlainDesk {
     ghost use Rattle.std.specs.Prelude.{◌≤◌};
     ghost use Rattle.pas_profile.specs.Profiles.{IsWordOf};
-    ghost use Rattle.pas_steps.specs.{Effects.target, Events.wants, Ranges.IsRanged};
-    ghost use Rattle.pas_steps.specs.declared.step.Step.{Step as TheStep};
-    ghost use Rattle.pas_plain.specs.{Plain.spare_in, Plain.count_of_pass, Plain.Forgets, Seats.IsChanged, Seats.seat_of};
+    ghost use Rattle.pas_steps.specs.{Effects.target, Events.wants, Ranges.IsRanged, declared.step.Step.Step as TheStep};
+    ghost use Rattle.pas_plain.specs.{Plain.{spare_in, count_of_pass, Forgets}, Seats.{IsChanged, seat_of}};
 
     /// Lets the actor rise: the region, and the actor's pass.
     #[inline]
@@ -107,10 +105,8 @@ impl PlainDesk {
 }
 
 impl Desk for PlainDesk {
-    ghost use Rattle.std.specs.Prelude.{◌-◌, ◌^◌, true, length, min};
-    ghost use Rattle.std.proofs.Common.{ap, ◌∙◌};
-    ghost use Rattle.pas_plain.specs.Plain.{events_shown, forgotten_by, spare_in, count_of_pass};
-    ghost use Rattle.pas_plain.specs.Seats.{standing_of, shows_rest, spare_of_room};
+    ghost use Rattle.std.{specs.Prelude.{◌-◌, ◌^◌, true, length, min}, proofs.Common.{ap, ◌∙◌}};
+    ghost use Rattle.pas_plain.specs.{Plain.{events_shown, forgotten_by, spare_in, count_of_pass}, Seats.{standing_of, shows_rest, spare_of_room}};
 
     type Home = u32;
 

@@ -29,7 +29,7 @@ fn no_lives(alloc: Global, count: usize) -> Result<Vec<u64>, NoMemory>
 
 impl NearWords {
     ghost use Rattle.std.specs.Prelude.{if◌then◌else◌};
-    ghost use Rattle.pas_profile.specs.{Profiles.IsWordIn, Layouts.opening, Layouts.same_word};
+    ghost use Rattle.pas_profile.specs.{Profiles.IsWordIn, Layouts.{opening, same_word}};
 
     /// The words of a region that nobody used yet.
     pub(crate) fn opened(alloc: Global, layout: Layout) -> Result<NearWords, NoMemory>

@@ -50,11 +50,10 @@ fn stays_short(words: &NearWords, page: u32, old: u64, new: u64) -> bool
 }
 
 impl PlainRegion {
-    ghost use Rattle.pas_profile.specs.Profiles.{IsPage, IsWordOf};
+    ghost use Rattle.pas_profile.specs.{Profiles.{IsPage, IsWordOf}, declared.word.Word.Word as TheWord};
     ghost use Rattle.pas_bits.specs.Bits.{has_bit};
-    ghost use Rattle.pas_steps.specs.{Effects.target as target_word, Ranges.IsRanged, States.profile_of as the_profile_of, States.word_in};
+    ghost use Rattle.pas_steps.specs.{Effects.target as target_word, Ranges.IsRanged, States.{profile_of as the_profile_of, word_in}};
     ghost use Rattle.std.specs.Prelude.{IfOk, [], ◌+◌, ◌*◌, ◌/◌, true};
-    ghost use Rattle.pas_profile.specs.declared.word.Word.{Word as TheWord};
     ghost use Rattle.pas_plain.specs.Plain.{profile_of, word_at, RegionStands, IsExchanged};
 
     /// A region that nobody used yet.

@@ -1,8 +1,7 @@
 //! One or two actors at a plain region that nobody used yet.
 ghost use Rattle.std.specs.Prelude.{◌≡◌, [], IfOk};
 ghost use Rattle.pas_profile.specs.Profiles.{IsValid};
-ghost use Rattle.pas_plain.specs.Plain.{profile_of, actor_of, spare_in, room_of_pass};
-ghost use Rattle.pas_plain.specs.Seats.{DeskStands, Opens, region_of, pass_of};
+ghost use Rattle.pas_plain.specs.{Plain.{profile_of, actor_of, spare_in, room_of_pass}, Seats.{DeskStands, Opens, region_of, pass_of}};
 
 use crate::desk::PlainDesk;
 use crate::pass::PlainPass;

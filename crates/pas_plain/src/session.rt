@@ -1,9 +1,8 @@
 //! How a region is opened for all its actors, and how it is closed.
 ghost use Rattle.std.specs.Prelude.{◌≡◌, ◌≤◌, ◌+◌, All, IfOk, [], vec_len};
-ghost use Rattle.pas_profile.specs.{Profiles.IsValid, Profiles.IsWordOf, Rooms.shown};
-ghost use Rattle.pas_steps.specs.{Lists.Whole, Lists.word_after, States.profile_of as the_profile_of, States.word_in};
-ghost use Rattle.pas_plain.specs.Plain.{profile_of, RegionStands, PassStands, passes_from};
-ghost use Rattle.pas_plain.specs.Seats.{ArePassesOf};
+ghost use Rattle.pas_profile.specs.{Profiles.{IsValid, IsWordOf}, Rooms.shown};
+ghost use Rattle.pas_steps.specs.{Lists.{Whole, word_after}, States.{profile_of as the_profile_of, word_in}};
+ghost use Rattle.pas_plain.specs.{Plain.{profile_of, RegionStands, PassStands, passes_from}, Seats.ArePassesOf};
 
 use crate::pass::PlainPass;
 use crate::region::PlainRegion;

@@ -1,7 +1,7 @@
 //! A desk between whose own steps another actor acts, for tests.
 ghost use Rattle.std.specs.Prelude.{◌≡◌};
 ghost use Rattle.pas_steps.specs.{Views.View, Lists.Whole};
-ghost use Rattle.pas_plain.specs.{Seats.region_of, Seats.pass_of, Storms.StormStands, Storms.MayStorm, Storms.seat_for};
+ghost use Rattle.pas_plain.specs.{Seats.{region_of, pass_of}, Storms.{StormStands, MayStorm, seat_for}};
 
 use crate::desk::PlainDesk;
 use crate::pass::PlainPass;
@@ -98,10 +98,8 @@ impl<I: Intruder> StormDesk<I> {
 }
 
 impl<I: Intruder> Desk for StormDesk<I> {
-    ghost use Rattle.std.specs.Prelude.{false};
-    ghost use Rattle.std.proofs.lemmas.Bool.{false≢true};
-    ghost use Rattle.pas_plain.specs.Plain.{forgotten_by};
-    ghost use Rattle.pas_plain.specs.Storms.{storm_of, shown_own, spare_own, counted_own};
+    ghost use Rattle.std.{specs.Prelude.false, proofs.lemmas.Bool.false≢true};
+    ghost use Rattle.pas_plain.specs.{Plain.forgotten_by, Storms.{storm_of, shown_own, spare_own, counted_own}};
 
     type Home = u32;
 

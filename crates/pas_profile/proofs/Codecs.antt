@@ -1,12 +1,9 @@
 -- The words of deeds and of lives say what they were made from, and nothing else.
 use Rattle.std.proofs.Common.{◌≡◌, ◌≢◌, ℕ, ◌-◌, ◌*◌, ◌/◌, ◌%◌, ◌^◌, ◌<◌, ◌≤◌, Bool, true, false, ltb, eqb, if◌then◌else◌, Option, None, Some, refl, ap, sym}
-use Rattle.std.proofs.Common.{◌∙◌, arith, ltb-true, ltb-false, lt-ltb, le-ltb, eqb-true, le-leb}
-use Rattle.std.proofs.lemmas.Nat.{mul-add-lt}
+use Rattle.std.proofs.{Common.{◌∙◌, arith, ltb-true, ltb-false, lt-ltb, le-ltb, eqb-true, le-leb}, lemmas.Nat.mul-add-lt}
 use Rattle.pas_profile.specs.Directories.{IsKind, kind_number, IsDirectory, number_of, deed_word_of, kind_of, with_kind, directory_read, deed_word_numbered}
-use Rattle.pas_profile.specs.Profiles.{IsValid, IsDirectoryOf}
-use Rattle.pas_profile.specs.declared.{profile.Profile.Profile, directory.Directory.Directory, directory.Kind.Kind}
-use Rattle.pas_profile.specs.Lives.{live_word, turn_of, grains_of, is_live}
-use Rattle.pas_profile.specs.declared.directory.Kind.TheVariants.{Class, Bitfit, Shared, Large}
+use Rattle.pas_profile.specs.{Profiles.{IsValid, IsDirectoryOf}, declared.{profile.Profile.Profile, directory.{Directory.Directory, Kind.Kind}}}
+use Rattle.pas_profile.specs.{declared.directory.Kind.TheVariants.{Class, Bitfit, Shared, Large}, Lives.{live_word, turn_of, grains_of, is_live}}
 
 -- A kind's number is below 23, and names the kind.
 

@@ -1,7 +1,5 @@
 -- What holds of each element of a list.
-use Rattle.std.proofs.Common.{List, [], ◌∷◌, ◌++◌, reverse, sym, subst}
-use Rattle.std.specs.List.{AllByRecursion}
-use Rattle.std.proofs.lemmas.List.{reverse-append}
+use Rattle.std.{proofs.{Common.{List, [], ◌∷◌, ◌++◌, reverse, sym, subst}, lemmas.List.reverse-append}, specs.List.AllByRecursion}
 
 -- What is so of each of two lists is so of each of both together.
 pub all_both : {A : Type 0} (P : A → Type 0) (xs ys : List A) → AllByRecursion P xs → AllByRecursion P ys → AllByRecursion P (xs ++ ys)

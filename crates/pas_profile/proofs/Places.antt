@@ -1,9 +1,8 @@
 -- Distinct words have distinct places, and every place is below the number of words.
-use Rattle.std.proofs.Common.{◌≡◌, ◌≢◌, ℕ, ◌*◌, ◌<◌, ◌==◌, true, false, if◌then◌else◌, refl, arith, eqb-true, eq-eqb}
-use Rattle.std.proofs.{Math.Nat.mul_comm, lemmas.Nat.mul-add-lt, lemmas.Nat.same_from_place, lemmas.Bool.and_parts, lemmas.Bool.and_from}
-use Rattle.pas_profile.specs.declared.word.Word.{Word}
-use Rattle.pas_profile.specs.Profiles.{IsWordIn, vector_words}
-use Rattle.pas_profile.specs.Layouts.{index_of, words_of, same_word, word_kind, word_minor, word_major}
+use Rattle.std.proofs.{Common.{◌≡◌, ◌≢◌, ℕ, ◌*◌, ◌<◌, ◌==◌, true, false, if◌then◌else◌, refl, arith, eqb-true, eq-eqb}, Math.Nat.mul_comm}
+use Rattle.std.proofs.lemmas.{Nat.{mul-add-lt, same_from_place}, Bool.{and_parts, and_from}}
+use Rattle.pas_profile.specs.{declared.word.Word.Word, Profiles.{IsWordIn, vector_words}, Layouts.{index_of, words_of, same_word, word_kind, word_minor}}
+use Rattle.pas_profile.specs.Layouts.{word_major}
 
 -- two words with one kind and the same two numbers are the same
 both : (x y : Word) → word_kind x ≡ word_kind y → word_minor x ≡ word_minor y → word_major x ≡ word_major y → same_word x y ≡ true

@@ -1,9 +1,7 @@
 -- The room of a request is large enough, and its directory is one of the profile.
 use Rattle.std.proofs.Common.{◌≡◌, ℕ, max, Bool, ap, sym, arith}
-use Rattle.pas_profile.specs.{Directories.IsKind, Directories.IsKindAmong, Profiles.IsAdmitted, Profiles.IsDirectoryOf, Requests.kind_of_route}
-use Rattle.pas_profile.specs.{Requests.directory_for}
-use Rattle.pas_profile.specs.Routes.{route_of, room_by, room_of, IsRouteOf, IsRoomFor}
-use Rattle.pas_profile.specs.declared.{directory.Route.Route, profile.Profile.Profile}
+use Rattle.pas_profile.specs.{Directories.{IsKind, IsKindAmong}, Profiles.{IsAdmitted, IsDirectoryOf}, Requests.{kind_of_route, directory_for}, Routes.route_of}
+use Rattle.pas_profile.specs.{Routes.{room_by, room_of, IsRouteOf, IsRoomFor}, declared.{directory.Route.Route, profile.Profile.Profile}}
 use Rattle.pas_profile.proofs.Sizes.{route_is, class_known, class_size_whole}
 
 -- ---- rooms

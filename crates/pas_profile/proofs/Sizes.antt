@@ -1,16 +1,12 @@
 -- Sizes of classes, of all and of those of a region, and the search of the class list.
 use Rattle.std.proofs.Common.{◌≡◌, ℕ, zero, suc, ◌<◌, Bool, true, ◌&&◌, refl, ◌≤◌, ◌==◌, nat_le, leb, length, get_or, arith, inl, inr, ◌+◌, ◌*◌, ◌%◌, max, ltb}
 use Rattle.std.proofs.Common.{eqb, false, if◌then◌else◌, List, drop, Some, None, ap, sym, ◌∙◌, subst, length-take, length-take-le, get_or-take, leb-true}
-use Rattle.std.proofs.Common.{eqb-true, lt-ltb, le-ltb, le-leb, ◌/◌, [], ◌∷◌, Option, div-add-mod', eq-eqb}
-use Rattle.std.proofs.{lemmas.Bool.Decides.Decides-below_and, lemmas.List.get_or_past, lemmas.List.drop_all, Math.Seq.drop-cons, Math.Nat.dvd-add}
-use Rattle.std.proofs.{Math.Nat.dvd-mul_left_of_dvd, lemmas.Nat.Gcd.dvd_of_mod-eq-zero, lemmas.Nat.Gcd.mod-eq-zero_of_dvd}
-use Rattle.std.proofs.lemmas.Bool.{cases_lt, or_cases, or_left, or_right, and_parts, lt-leb, and_left, and_from, cases_Bool, false≢true}
+use Rattle.std.proofs.{Common.{eqb-true, lt-ltb, le-ltb, le-leb, ◌/◌, [], ◌∷◌, Option, div-add-mod', eq-eqb}, lemmas.Bool.{Decides.Decides-below_and, cases_lt}}
+use Rattle.std.proofs.lemmas.{Bool.{or_cases, or_left, or_right, and_parts, lt-leb, and_left, and_from, cases_Bool, false≢true}, List.{get_or_past, drop_all}}
+use Rattle.std.{proofs.{lemmas.Nat.Gcd.{dvd_of_mod-eq-zero, mod-eq-zero_of_dvd}, Math.{Seq.drop-cons, Nat.{dvd-add, dvd-mul_left_of_dvd}}}, specs.Int.◌∣◌}
 use Rattle.pas_profile.specs.Classes.{class_sizes, IsClass, class_size, sizes_of, IsClassCount, class_grains, usable_grains, IsSlotStart}
-use Rattle.pas_profile.specs.Profiles.{AreClassesFor}
-use Rattle.pas_profile.specs.Routes.{first_class, route_of, route_with, route_without_class, Suits, IsSmallest, NoneSuits, IsRouteOf}
-use Rattle.pas_profile.specs.declared.{directory.Route.TheVariants.Class, directory.Route.TheVariants.Bitfit, directory.Route.TheVariants.Large}
-use Rattle.pas_profile.specs.declared.{routing.TheConstants.CLASS_BY_GRAINS}
-use Rattle.std.specs.Int.{◌∣◌}
+use Rattle.pas_profile.specs.{Profiles.AreClassesFor, Routes.{first_class, route_of, route_with, route_without_class, Suits, IsSmallest, NoneSuits, IsRouteOf}}
+use Rattle.pas_profile.specs.declared.{directory.Route.TheVariants.{Class, Bitfit, Large}, routing.TheConstants.CLASS_BY_GRAINS}
 
 -- ==== What holds at each number below one that is written out, by computing it there.
 

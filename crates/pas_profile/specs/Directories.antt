@@ -1,8 +1,6 @@
 -- Directories, their numbers, and the deed words that record them.
 use Rattle.std.specs.Prelude.{ℕ, ◌+◌, ◌-◌, ◌*◌, ◌/◌, ◌%◌, ◌<◌, ◌==◌, nat_lt, if◌then◌else◌, Option, None, Some}
-use Rattle.pas_profile.specs.Classes.{IsClass}
-use Rattle.pas_profile.specs.declared.directory.{Directory.Directory, Kind.Kind}
-use Rattle.pas_profile.specs.declared.directory.Kind.TheVariants.{Class, Bitfit, Shared, Large}
+use Rattle.pas_profile.specs.{Classes.IsClass, declared.directory.{Directory.Directory, Kind.{Kind, TheVariants.{Class, Bitfit, Shared, Large}}}}
 
 -- a class number names a class
 abbrev pub IsKind : Kind → Type 0

@@ -1,6 +1,5 @@
 -- Guards that are up.
-use Rattle.std.specs.Prelude.{ℕ, ◌==◌, List}
-use Rattle.std.specs.List.{filter}
+use Rattle.std.specs.{Prelude.{ℕ, ◌==◌, List}, List.filter}
 use Rattle.pas_profile.specs.declared.guard.{Guard.Guard, Raised.Raised}
 
 -- a guard of this keeper

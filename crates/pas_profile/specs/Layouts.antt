@@ -1,7 +1,6 @@
 -- Where the words of a region stand, and what they are at the opening.
 use Rattle.std.specs.Prelude.{ℕ, ◌+◌, ◌-◌, ◌*◌, ◌^◌, ◌==◌, Bool, ◌&&◌}
-use Rattle.pas_profile.specs.declared.word.Word.{Word}
-use Rattle.pas_profile.specs.Profiles.{vector_words}
+use Rattle.pas_profile.specs.{declared.word.Word.Word, Profiles.vector_words}
 
 -- the place of a word in a region of so many pages
 abbrev pub index_of : ℕ → Word → ℕ

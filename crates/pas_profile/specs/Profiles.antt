@@ -1,7 +1,7 @@
 -- The profile's limits, and which requests, pages, directories and words are of a profile.
 use Rattle.std.specs.Prelude.{ℕ, ◌+◌, ◌*◌, ◌/◌, ◌<◌, ◌≤◌, ◌==◌, nat_le, ◌&&◌, ◌||◌, IsTrue}
-use Rattle.pas_profile.specs.declared.{profile.Profile.Profile, directory.Directory.Directory, word.Word.Word}
-use Rattle.pas_profile.specs.{Classes.IsAlignment, Directories.IsKind, Directories.IsKindAmong}
+use Rattle.pas_profile.specs.{declared.{profile.Profile.Profile, directory.Directory.Directory, word.Word.Word}, Classes.IsAlignment, Directories.IsKind}
+use Rattle.pas_profile.specs.Directories.{IsKindAmong}
 
 -- a region of so many pages may have so many classes: twenty, or sixteen where it has at most 4,096 pages
 abbrev pub AreClassesFor : ℕ → ℕ → Type 0

@@ -1,8 +1,6 @@
 -- The directory of a request: of which kind the pages are that serve it.
-use Rattle.std.specs.Prelude.{ℕ, ◌==◌, Bool, true, false}
-use Rattle.std.specs.Int.{bit_at}
-use Rattle.pas_profile.specs.Routes.{route_of, room_of}
-use Rattle.pas_profile.specs.declared.{directory.Directory.Directory, directory.Kind.Kind, directory.Route.Route, profile.Profile.Profile}
+use Rattle.std.specs.{Prelude.{ℕ, ◌==◌, Bool, true, false}, Int.bit_at}
+use Rattle.pas_profile.specs.{Routes.{route_of, room_of}, declared.{directory.{Directory.Directory, Kind.Kind, Route.Route}, profile.Profile.Profile}}
 
 -- the route of a request in a region of the profile
 abbrev pub route_in : Profile → ℕ → ℕ → Route

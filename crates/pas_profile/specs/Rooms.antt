@@ -1,6 +1,5 @@
 -- What a room holds.
-use Rattle.std.specs.Prelude.{ℕ, ◌≡◌, ◌<◌, ◌≤◌, ◌^◌, List, length}
-use Rattle.std.specs.Coded.{Coded, coded×, coded_ℕ, coded_list, le_prop}
+use Rattle.std.specs.{Prelude.{ℕ, ◌≡◌, ◌<◌, ◌≤◌, ◌^◌, List, length}, Coded.{Coded, coded×, coded_ℕ, coded_list, le_prop}}
 use base.Stored.{coded_via}
 use mathlib.Core.HLevel.{is_prop→PathP}
 use Rattle.pas_profile.specs.declared.event.Event.{Event}

@@ -1,7 +1,6 @@
 -- How a request is served.
 use Rattle.std.specs.Prelude.{ℕ, ◌+◌, ◌-◌, ◌*◌, ◌/◌, ◌%◌, ◌<◌, ◌≤◌, ◌≡◌, ◌==◌, nat_le, max, ◌&&◌, if◌then◌else◌, List, [], ◌∷◌, Option, None, Some}
-use Rattle.pas_profile.specs.Classes.{class_size, sizes_of}
-use Rattle.pas_profile.specs.declared.directory.Route.{Route, TheVariants.Class, TheVariants.Bitfit, TheVariants.Large}
+use Rattle.pas_profile.specs.{Classes.{class_size, sizes_of}, declared.directory.Route.{Route, TheVariants.{Class, Bitfit, Large}}}
 
 -- the number of the first of these class sizes, which are numbered from n on, that is large enough and a multiple of the alignment
 abbrev pub first_class : List ℕ → ℕ → ℕ → ℕ → Option ℕ

@@ -1,7 +1,6 @@
 //! The classes of small blocks, and the grains that their slots cover.
-ghost use Rattle.std.specs.Prelude.{◌≡◌, ◌==◌, ◌<◌, ℕ, ◌/◌, ◌%◌, length, slice_index, Bool};
+ghost use Rattle.std.specs.{Prelude.{◌≡◌, ◌==◌, ◌<◌, ℕ, ◌/◌, ◌%◌, length, slice_index, Bool}, Int.bit_at};
 ghost use Rattle.pas_profile.specs.Classes.{IsClass, class_size as size_of_class, usable_grains, is_usable};
-ghost use Rattle.std.specs.Int.{bit_at};
 
 use crate::limits::{GRAIN_BYTES, PAGE_BYTES, PAGE_GRAINS};
 

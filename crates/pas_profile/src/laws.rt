@@ -1,11 +1,9 @@
 //! Laws of the profile's numbers: each function does nothing, and its contract is a fact that holds of all arguments.
 
 ghost use Rattle.std.specs.Prelude.{◌≡◌, ◌≢◌, ◌<◌, ◌≤◌, ◌+◌, ◌*◌, ◌%◌, ◌^◌, ℕ, Some, None, true, false};
-ghost use Rattle.pas_profile.specs.Classes.{IsClass, IsAlignment, IsSlotStart, class_grains};
-ghost use Rattle.pas_profile.specs.Directories.{IsDirectory, number_of, deed_word_of, directory_read};
-ghost use Rattle.pas_profile.specs.{Layouts.index_of, Profiles.IsAdmitted, Profiles.IsDirectoryOf, Profiles.IsWordIn, Requests.directory_for};
-ghost use Rattle.pas_profile.specs.Lives.{life_word_of, turn_of, grains_of, is_live};
-ghost use Rattle.pas_profile.specs.Routes.{Suits, IsRouteOf, IsRoomFor, route_of, room_of};
+ghost use Rattle.pas_profile.specs.{Classes.{IsClass, IsAlignment, IsSlotStart, class_grains}, Directories.{IsDirectory, number_of, deed_word_of}};
+ghost use Rattle.pas_profile.specs.{Directories.directory_read, Layouts.index_of, Profiles.{IsAdmitted, IsDirectoryOf, IsWordIn}, Requests.directory_for};
+ghost use Rattle.pas_profile.specs.{Lives.{life_word_of, turn_of, grains_of, is_live}, Routes.{Suits, IsRouteOf, IsRoomFor, route_of, room_of}};
 
 use crate::directory::Directory;
 use crate::profile::Profile;

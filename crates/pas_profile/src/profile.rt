@@ -21,8 +21,7 @@ pub struct Profile {
 
 impl Profile {
     ghost use Rattle.std.specs.Prelude.{◌↔◌, ◌≡◌, ◌*◌, ◌≤◌, IsTrue};
-    ghost use Rattle.pas_profile.specs.{Classes.IsAlignment, Profiles.IsValid, Profiles.IsAdmitted, Profiles.AreClassesFor, Requests.route_in};
-    ghost use Rattle.pas_profile.specs.{Requests.room_in};
+    ghost use Rattle.pas_profile.specs.{Classes.IsAlignment, Profiles.{IsValid, IsAdmitted, AreClassesFor}, Requests.{route_in, room_in}};
 
     /// Whether the region has twenty classes, or sixteen and at most 4,096 pages.
     fn has_classes(&self) -> bool

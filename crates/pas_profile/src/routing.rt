@@ -1,6 +1,6 @@
 //! The route of a request, and the room that it gets.
 ghost use Rattle.std.specs.Prelude.{◌≡◌, ◌≤◌};
-ghost use Rattle.pas_profile.specs.{Classes.IsAlignment, Classes.IsClassCount, Routes.route_of, Routes.room_of};
+ghost use Rattle.pas_profile.specs.{Classes.{IsAlignment, IsClassCount}, Routes.{route_of, room_of}};
 
 use crate::classes::{CLASS_SIZES, class_size};
 use crate::directory::Route;

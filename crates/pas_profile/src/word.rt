@@ -52,7 +52,7 @@ pub struct Layout {
 
 impl Layout {
     ghost use Rattle.std.specs.Prelude.{◌<◌};
-    ghost use Rattle.pas_profile.specs.{Profiles.IsValid, Profiles.IsWordIn, Layouts.index_of, Layouts.words_of};
+    ghost use Rattle.pas_profile.specs.{Profiles.{IsValid, IsWordIn}, Layouts.{index_of, words_of}};
 
     /// The layout of a region of this profile.
     pub fn new(profile: &Profile) -> Layout

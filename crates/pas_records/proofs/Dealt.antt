@@ -1,10 +1,8 @@
 -- Sheets that hold the parts of a round hold the round.
 use Rattle.std.proofs.Common.{◌≡◌, ℕ, suc, ◌+◌, ◌*◌, ◌-◌, min, ◌<◌, ◌≤◌, List, [], ◌∷◌, ◌++◌, All, refl, ap, sym, ◌∙◌, subst, arith, append_assoc, length}
-use Rattle.std.proofs.Common.{length-take, get_or, take, drop, take_all, drop_at, take_at, drop-drop}
-use Rattle.std.proofs.{lemmas.List.take_min, lemmas.List.take_rest, lemmas.List.drop_min, lemmas.List.Elements.All-take, lemmas.List.Elements.All-drop}
-use Rattle.std.proofs.{Math.Seq.take-add}
-use Rattle.pas_records.specs.declared.{sheets.Sheet.Sheet, record.Record.Record}
-use Rattle.pas_records.specs.{Lines.CanShow, Lines.line_of, Lines.lines_of, Texts.part_of, Texts.texts_of}
+use Rattle.std.proofs.{Common.{length-take, get_or, take, drop, take_all, drop_at, take_at, drop-drop}, lemmas.List.{take_min, take_rest, drop_min}}
+use Rattle.std.proofs.{lemmas.List.Elements.{All-take, All-drop}, Math.Seq.take-add}
+use Rattle.pas_records.specs.{declared.{sheets.Sheet.Sheet, record.Record.Record}, Lines.{CanShow, line_of, lines_of}, Texts.{part_of, texts_of}}
 
 -- each sheet holds the lines of its part
 abbrev pub AreFilled : List Sheet → List Record → Type 0

@@ -1,8 +1,7 @@
 -- Numbers of one, two and three decimal digits.
 use Rattle.std.proofs.Common.{◌≡◌, ℕ, zero, suc, ◌+◌, ◌-◌, ◌/◌, ◌%◌, ◌<◌, ◌≤◌, nat_lt, Bool, true, ◌&&◌, T, eqb, eqb→eq, eq-zero-or-pos, inl, inr, List, []}
-use Rattle.std.proofs.Common.{◌∷◌, ◌++◌, length, take, drop, get_or, codes, ap, ◌∙◌, arith, refl, lt-ltb}
+use Rattle.std.proofs.{Common.{◌∷◌, ◌++◌, length, take, drop, get_or, codes, ap, ◌∙◌, arith, refl, lt-ltb}, lemmas.{List.drop_more, Fmt.decimal_digit}}
 use Rattle.std.specs.{List.slice_range, Fmt.decimal}
-use Rattle.std.proofs.lemmas.{List.drop_more, Fmt.decimal_digit}
 use lib.Ieee.Fits.{and_l, and_r}
 use Rattle.itoa.proofs.Decimal.{decimal_two, decimal_pair}
 use Rattle.pas_records.specs.Lines.{hex_digit}

@@ -1,21 +1,18 @@
 -- What the marks of a page say once all actors are at rest.
 use Rattle.std.proofs.Common.{◌≡◌, ℕ, ◌+◌, ◌<◌, ◌==◌, not, Bool, true, false, sym, ◌∙◌, arith, ◌*◌, ◌/◌, ◌%◌, Option, None, Some, ap, eq-eqb, ne_eqb, zero, suc}
-use Rattle.std.proofs.Common.{◌≤◌, nat_le, nat_lt, refl, inl, inr, leb-true, ◌-◌, ◌≢◌}
-use Rattle.std.proofs.lemmas.Bool.{false≢true, cases_eq, and_parts, or_from, or_left, or_right, false_from_ne_true}
-use Rattle.pas_profile.specs.{Blocks.length_of, Profiles.IsValid, Profiles.IsPage, Profiles.IsDirectoryOf}
-use Rattle.pas_profile.specs.declared.{word.Word.Word, directory.Directory.Directory, profile.Profile.Profile}
-use Rattle.pas_machine.specs.State.{deed_in, backed_in, live_in, Live}
-use Rattle.pas_steps.specs.{Effects.free_word_at, Clear.HasNothing, Views.usable_by_kind}
-use Rattle.pas_records.specs.{Marks.offered_after, Marks.marks_after, Covered.covers, Covered.some_below, Covered.is_covered}
-use Rattle.pas_steps.specs.Lists.{Whole, word_after, visible, Legal, part}
-use Rattle.pas_core.specs.Good.{word_of_deed, word_of_backed, IsFreeGrain, IsCoveredByOne, IsInOnePlace}
-use Rattle.pas_records.specs.Rests.{AreFreeOrCovered, NobodyHolds, AreTrueMarks, NobodyHasRights}
-use Rattle.pas_bits.specs.{Bits.has_bit, Runs.in_run}
-use Rattle.pas_profile.specs.Directories.{number_of, directory_read, IsDirectory, deed_word_of}
+use Rattle.std.proofs.{Common.{◌≤◌, nat_le, nat_lt, refl, inl, inr, leb-true, ◌-◌, ◌≢◌}, lemmas.Bool.{false≢true, cases_eq, and_parts, or_from, or_left}}
+use Rattle.std.proofs.lemmas.Bool.{or_right, false_from_ne_true}
+use Rattle.pas_profile.specs.{Blocks.length_of, Profiles.{IsValid, IsPage, IsDirectoryOf}, declared.{word.Word.Word, directory.Directory.Directory}}
+use Rattle.pas_profile.specs.{declared.profile.Profile.Profile, Directories.{number_of, directory_read, IsDirectory, deed_word_of}}
 use Rattle.pas_profile.proofs.Codecs.{read-deed_word_of, directory_from_profile, deed_word_of-positive, same_from_deed_word}
-use Rattle.pas_core.proofs.{Deeds.deed_of, Deeds.backed_of, Deeds.directory_is_of, Lives.live_is_aligned, MachineRuns.in_one_place, Offers.offered_at_rest}
-use Rattle.pas_core.proofs.{Offers.hinted_at_rest, Rights.right_in_one_place}
-use Rattle.pas_core.specs.Rights.{eligible_bit, IsRightInOnePlace, IsRightOffered, IsUsableFree, AllClear}
+use Rattle.pas_machine.specs.State.{deed_in, backed_in, live_in, Live}
+use Rattle.pas_steps.specs.{Effects.free_word_at, Clear.HasNothing, Views.usable_by_kind, Lists.{Whole, word_after, visible, Legal, part}}
+use Rattle.pas_records.specs.{Marks.{offered_after, marks_after}, Covered.{covers, some_below, is_covered}, Rests.{AreFreeOrCovered, NobodyHolds, AreTrueMarks}}
+use Rattle.pas_records.specs.Rests.{NobodyHasRights}
+use Rattle.pas_core.specs.{Good.{word_of_deed, word_of_backed, IsFreeGrain, IsCoveredByOne, IsInOnePlace}, Rights.{eligible_bit, IsRightInOnePlace}}
+use Rattle.pas_core.{specs.Rights.{IsRightOffered, IsUsableFree, AllClear}, proofs.{Deeds.{deed_of, backed_of, directory_is_of}, Lives.live_is_aligned}}
+use Rattle.pas_core.proofs.{MachineRuns.in_one_place, Offers.{offered_at_rest, hinted_at_rest}, Rights.right_in_one_place}
+use Rattle.pas_bits.specs.{Bits.has_bit, Runs.in_run}
 
 -- ==== A grain that nobody holds is free or covered by a live block.
 

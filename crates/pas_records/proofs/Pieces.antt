@@ -1,7 +1,6 @@
 -- A text that goes out in pieces.
 use Rattle.std.proofs.Common.{◌≡◌, ℕ, ◌+◌, ◌-◌, List, [], ◌++◌, Option, ap, sym, ◌∙◌, subst, append_assoc, append-nil, arith}
-use Rattle.pas_io.specs.Told.{Writes, WritesFront}
-use Rattle.pas_io.proofs.Telling.{writes_more}
+use Rattle.pas_io.{specs.Told.{Writes, WritesFront}, proofs.Telling.writes_more}
 use Rattle.pas_records.specs.Pieces.{IsPutOut}
 
 -- a text that was written whole

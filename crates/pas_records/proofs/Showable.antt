@@ -1,11 +1,9 @@
 -- Each event of steps of the region can be shown.
-use Rattle.std.proofs.Common.{ℕ, List, subst}
-use Rattle.std.specs.List.{AllByRecursion}
+use Rattle.std.{proofs.Common.{ℕ, List, subst}, specs.List.AllByRecursion}
 use Rattle.pas_profile.specs.declared.{profile.Profile.Profile, event.Event.Event}
-use Rattle.pas_steps.specs.{Allowed.IsStepOf, Events.events_by, Past.Always, Views.View}
-use Rattle.pas_steps.specs.declared.step.{Made.Made, Step.Step}
+use Rattle.pas_steps.{specs.{Allowed.IsStepOf, Events.events_by, Past.Always, Views.View, declared.step.{Made.Made, Step.Step}}, proofs.Events.ComesOf}
+use Rattle.pas_steps.proofs.Events.{comes_of, each_event}
 use Rattle.pas_records.specs.Lines.{IsShowable}
-use Rattle.pas_steps.proofs.Events.{ComesOf, comes_of, each_event}
 
 -- the steps are of the region
 abbrev pub AreOfRegion : Profile → List Made → Type 0

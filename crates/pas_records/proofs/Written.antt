@@ -1,10 +1,8 @@
 -- Texts that are written one after the other.
 use Rattle.std.proofs.Common.{◌≡◌, ℕ, ◌+◌, ◌<◌, List, [], ◌++◌, Option, None, Some, ap, sym, ◌∙◌, append_assoc, append-nil, length, get_or, drop}
 use Rattle.std.proofs.lemmas.List.{at_drop_more}
-use Rattle.pas_records.specs.declared.sheets.Sheet.{Sheet}
-use Rattle.pas_io.specs.Told.{Writes, WritesFront}
-use Rattle.pas_io.proofs.Telling.{writes_more}
-use Rattle.pas_records.specs.Texts.{texts_of}
+use Rattle.pas_records.specs.{declared.sheets.Sheet.Sheet, Texts.texts_of}
+use Rattle.pas_io.{specs.Told.{Writes, WritesFront}, proofs.Telling.writes_more}
 
 -- nothing was written
 pub writes_none : (held : Option (List ℕ)) → Writes held held []

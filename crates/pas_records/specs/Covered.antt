@@ -1,8 +1,7 @@
 -- Which grains live blocks cover.
 use Rattle.std.specs.Prelude.{ℕ, zero, suc, ◌+◌, ◌*◌, ◌/◌, Bool, false, ◌||◌, List, Option, None, Some}
 use Rattle.pas_bits.specs.Runs.{in_run}
-use Rattle.pas_profile.specs.Blocks.{length_of}
-use Rattle.pas_profile.specs.declared.event.Event.{Event}
+use Rattle.pas_profile.specs.{Blocks.length_of, declared.event.Event.Event}
 use Rattle.pas_machine.specs.State.{Live, live_in}
 
 -- the block that lives at an address covers the grain

@@ -1,8 +1,7 @@
 -- The lines of a transcript. Every line ends with a newline; words are separated by single spaces.
-use Rattle.std.specs.Prelude.{ℕ, zero, suc, ◌+◌, ◌/◌, ◌%◌, ◌^◌, nat_lt, if◌then◌else◌, List, [], ◌∷◌, ◌++◌, codes}
-use Rattle.std.specs.Fmt.{decimal}
-use Rattle.pas_profile.specs.{Classes.class_size, Directories.IsKind, Blocks.address_of}
-use Rattle.pas_profile.specs.declared.{directory.Kind.Kind, directory.Directory.Directory, name.Name.Name, name.Block.Block, event.Event.Event, event.Why.Why}
+use Rattle.std.specs.{Prelude.{ℕ, zero, suc, ◌+◌, ◌/◌, ◌%◌, ◌^◌, nat_lt, if◌then◌else◌, List, [], ◌∷◌, ◌++◌, codes}, Fmt.decimal}
+use Rattle.pas_profile.specs.{Classes.class_size, Directories.IsKind, Blocks.address_of, declared.{directory.{Kind.Kind, Directory.Directory}, name.Name.Name}}
+use Rattle.pas_profile.specs.declared.{name.Block.Block, event.{Event.Event, Why.Why}}
 use Rattle.pas_records.specs.declared.record.{Said.Said, Record.Record}
 
 -- a hexadecimal digit, in lower case

@@ -1,8 +1,7 @@
 -- The marks of a page.
 use Rattle.std.specs.Prelude.{ℕ, ◌+◌, ◌==◌, Bool, false, if◌then◌else◌, List, [], ◌∷◌, ◌++◌, Option, None, Some, codes}
 use Rattle.pas_bits.specs.Bits.{has_bit}
-use Rattle.pas_profile.specs.Directories.{number_of, directory_read}
-use Rattle.pas_profile.specs.declared.{directory.Directory.Directory, word.Word.Word}
+use Rattle.pas_profile.specs.{Directories.{number_of, directory_read}, declared.{directory.Directory.Directory, word.Word.Word}}
 use Rattle.pas_steps.specs.Lists.{Whole, word_after}
 use Rattle.pas_core.specs.Rights.{parked_bit, empty_bit, eligible_bit}
 

@@ -1,12 +1,10 @@
 -- A region at rest: its words after a legal list of steps, when no actor has any more to do.
 use Rattle.std.specs.Prelude.{ℕ, ◌+◌, ◌*◌, ◌/◌, ◌%◌, ◌<◌, ◌≡◌, ◌≢◌, true, false, not, None, Some}
 use Rattle.pas_bits.specs.Bits.{has_bit}
-use Rattle.pas_profile.specs.Profiles.{IsPage, IsWordOf}
-use Rattle.pas_profile.specs.declared.{profile.Profile.Profile, word.Word.Word, directory.Directory.Directory}
+use Rattle.pas_profile.specs.{Profiles.{IsPage, IsWordOf}, declared.{profile.Profile.Profile, word.Word.Word, directory.Directory.Directory}}
 use Rattle.pas_machine.specs.State.{backed_in, deed_in, epoch_in}
-use Rattle.pas_steps.specs.{Effects.free_word_at, States.profile_of, States.word_in, Views.holds, Views.has_right, Views.usable_by_kind}
-use Rattle.pas_steps.specs.Lists.{Whole, part, word_after, visible}
-use Rattle.pas_steps.specs.declared.state.State.{State}
+use Rattle.pas_steps.specs.{Effects.free_word_at, States.{profile_of, word_in}, Views.{holds, has_right, usable_by_kind}, Lists.{Whole, part, word_after}}
+use Rattle.pas_steps.specs.{Lists.visible, declared.state.State.State}
 use Rattle.pas_records.specs.{Marks.marks_after, Covered.is_covered}
 
 -- the state has the words that the list left

@@ -1,7 +1,7 @@
 //! Filling all sheets with the lines of a round, in several threads at once.
 ghost use Rattle.std.specs.Prelude.{◌≡◌, ◌<◌, ◌≤◌, ◌+◌, ◌++◌, ℕ, All, length, get_or};
-ghost use Rattle.pas_records.specs.{Lines.CanShow, Lines.line_of, Lines.lines_of, Texts.part_of, Texts.texts_of};
-ghost use Rattle.pas_records.specs.declared.{sheets.Sheet.Sheet as TheSheet, sheets.TheConstants.SHEET_BYTES, text.TheConstants.LINE_BYTES};
+ghost use Rattle.pas_records.specs.{Lines.{CanShow, line_of, lines_of}, Texts.{part_of, texts_of}, declared.sheets.Sheet.Sheet as TheSheet};
+ghost use Rattle.pas_records.specs.declared.{sheets.TheConstants.SHEET_BYTES, text.TheConstants.LINE_BYTES};
 
 use crate::lines::push_record;
 use crate::record::Record;

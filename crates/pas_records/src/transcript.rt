@@ -2,7 +2,7 @@
 ghost use Rattle.std.specs.Prelude.{◌≡◌, ◌≤◌, ◌+◌, ℕ, List, Option, All, OnOk, OnErr};
 ghost use Rattle.arrayvec.specs.ArrayString.{array_string_len};
 ghost use Rattle.pas_io.specs.Told.{Rose, Writes, WritesFront};
-ghost use Rattle.pas_records.specs.{Lines.CanShow, Lines.lines_of, Pieces.IsPutOut};
+ghost use Rattle.pas_records.specs.{Lines.{CanShow, lines_of}, Pieces.IsPutOut};
 
 use crate::lines::push_record;
 use crate::record::Record;

@@ -1,7 +1,7 @@
 //! Writing the lines of records, a round of sheets at a time.
 ghost use Rattle.std.specs.Prelude.{◌≡◌, ◌<◌, ◌≤◌, All, OnOk, OnErr, length};
 ghost use Rattle.pas_io.specs.Told.{Rose, Writes, WritesFront};
-ghost use Rattle.pas_records.specs.{Lines.CanShow, Lines.lines_of, Texts.texts_of};
+ghost use Rattle.pas_records.specs.{Lines.{CanShow, lines_of}, Texts.texts_of};
 
 use crate::filling::{fill_batch, useful_threads};
 use crate::record::Record;

@@ -1,45 +1,35 @@
 -- What each actor's turn needs and leaves: instances of the turn. What a door to plain indexes tells is said as the definition of a replay says it.
 use Rattle.std.proofs.Common.{arith, ◌≡◌, ℕ, List, [], ◌∷◌, ◌++◌, length, drop, take, Option, ap, sym, ◌∙◌, subst, refl, length-set, take_at, ◌-◌, ◌≤◌, ◌==◌}
 use Rattle.std.proofs.Common.{Bool, true, false, if◌then◌else◌, set, get_or, eq-eqb, append-nil, ◌≢◌, zero, suc, ◌+◌, ◌<◌, nat_le, Some, None, length-append}
-use Rattle.pas_large.specs.Spans.{added}
+use Rattle.std.proofs.lemmas.Bool.{cases_eq, lt-leb}
+use Rattle.pas_large.specs.{Spans.added, Doors.{Indexes, found_in, cut_in, added_in, no_ranges}}
 use Rattle.pas_profile.specs.declared.{directory.Route.Route, event.Range.Range, profile.Profile.Profile, name.Block.Block, guard.Guard.Guard}
 use Rattle.pas_free_log.specs.declared.noting.EndedRun.{EndedRun}
-use Rattle.pas_large.specs.Doors.{Indexes, found_in, cut_in, added_in, no_ranges}
-use Rattle.pas_trace.specs.declared.{item.Request.Request, plan.Op.Op, plan.What.What, plan.Task.Task, plan.Work.Work}
-use Rattle.pas_cache.specs.{Calls.IsNamed, Calls.SettlesEach, Caches.cached, Caches.Cached}
-use Rattle.pas_trace.specs.Acts.{Operates, Settles, acts_of_op, acts_of_work, Act, Guards, Lowers, act_kept}
-use Rattle.pas_acts.specs.{Turns.RestsAt, Turns.Moves, Tries.tries_of, Tries.AreKeptFor, Works.Sits}
-use Rattle.pas_acts.specs.AtDesks.{GoesThrough, here, and_for, MayOperate, ThreadActs}
-use Rattle.pas_answers.specs.Answers.{Named, Progress, Caches, settled, after_settling}
-use Rattle.pas_answers.specs.{Reaching.Reaches, Reaching.AnswersTried, Reaching.AnswersGuarded, Names.block_named, Names.names_held, Replays.at_start}
-use Rattle.pas_answers.specs.{Keeping.owed_by_keeper, Keeping.cost_of_try, Rests.AreAtRest}
-use Rattle.pas_answers.specs.Indexes.{request_by, IsNamedFor, IsNamedBy, AllAreNamedBy, after_request, after_operation, with_noted, indexes_after_all}
-use Rattle.pas_answers.specs.Indexes.{after_tried, after_guarded, TriedIsNamedBy, GuardedIsNamedBy}
-use Rattle.pas_replay.specs.Operating.{ActsByIndexes}
-use Rattle.pas_trace.specs.Asked.{work_of, request_in, request_of, keeper_of}
-use Rattle.pas_trace.specs.{EveryPlan.asked_after, Reasons.cost_of_size, Codes.unlined}
-use Rattle.pas_plain.specs.Seats.{standing_of}
-use Rattle.pas_cache.specs.declared.cache.ThreadCache.{ThreadCache}
-use Rattle.pas_answers.specs.Calls.{Tells, AllMayStand, MayStand, IsMeant, named_by, freed_by, AreKnown, what_of, named_with}
-use Rattle.pas_answers.specs.Fit.{AreFit, cost_of_what, cost_of_act, own_cost_of_act, AreOfThreads, kept_cost_of, kept_costs_of}
-use Rattle.pas_answers.proofs.SingleActs.{meant_by, meant_stands, known_more, if_same, known_if, its_cache, other_cache, named_task}
-use Rattle.pas_answers.proofs.{OwnRecords.EachShown, Consequences.acts_shown, Consequences.tried_shown}
-use Rattle.pas_acts.proofs.AtDesk.{rests_for, sits_for, settled_rest, other_book}
-use Rattle.pas_replay.specs.Sessions.{Hand, IsTaken, TakesSeat, Replay, Left, HasNames, IsAt, SoFar, upon, pass_in, Slots, rests_as, rests, owes_as, owes}
-use Rattle.pas_replay.specs.Sessions.{own_events, ActorStands, records_owed_as, owed_of, owed_by, AreCaches, GoesBy, HasNamed, own_acts_of}
-use Rattle.pas_replay.proofs.Turning.{somewhere, there_is, rest_one, rest_two, hand, still_named, AsksNoIndex, thread_now, later_for, thread_turn, all_rest}
-use Rattle.pas_replay.proofs.Turning.{rest_first, goes_both, OthersKept, set_caches, book_is, place_is, set_books, set_places, still_places, owed_moves}
-use Rattle.pas_replay.proofs.Turning.{owed_at, keeper_owes, SitsAs, MovesAs, sits_now, turn, kept_by_moves, either_less, less_events, less_tries, said_more}
-use Rattle.std.proofs.lemmas.Bool.{cases_eq, lt-leb}
-use Rattle.pas_steps.specs.{Lists.Legal, Lists.part, Unknown.unknown_pages, Views.View}
-use Rattle.pas_plain.specs.declared.{desk.PlainDesk.PlainDesk, pass.PlainPass.PlainPass}
-use Rattle.pas_guard.specs.Books.{FitsBook, guards_in, size_of_book}
-use Rattle.pas_guard.specs.declared.book.GuardBook.{GuardBook}
-use Rattle.pas_answers.specs.Guarding.{Tried, IsTried, after_trying, after_giving}
-use Rattle.pas_answers.specs.declared.names.Names.{Names}
-use Rattle.pas_acts.specs.Keepers.{keeper_has, LaterKept, and_try, KeeperAt, KeeperTries, KeeperLowers}
-use Rattle.pas_records.specs.Rooms.{records_in, room_of, Records}
-use Rattle.pas_records.specs.declared.record.Record.{Record}
+use Rattle.pas_trace.specs.{declared.{item.Request.Request, plan.{Op.Op, What.What, Task.Task, Work.Work}}, Acts.{Operates, Settles, acts_of_op, acts_of_work}}
+use Rattle.pas_trace.specs.{Acts.{Act, Guards, Lowers, act_kept}, Asked.{work_of, request_in, request_of, keeper_of}, EveryPlan.asked_after}
+use Rattle.pas_trace.specs.{Reasons.cost_of_size, Codes.unlined}
+use Rattle.pas_cache.specs.{Calls.{IsNamed, SettlesEach}, Caches.{cached, Cached}, declared.cache.ThreadCache.ThreadCache}
+use Rattle.pas_acts.specs.{Turns.{RestsAt, Moves}, Tries.{tries_of, AreKeptFor}, Works.Sits, AtDesks.{GoesThrough, here, and_for, MayOperate, ThreadActs}}
+use Rattle.pas_acts.{specs.Keepers.{keeper_has, LaterKept, and_try, KeeperAt, KeeperTries, KeeperLowers}, proofs.AtDesk.{rests_for, sits_for, settled_rest}}
+use Rattle.pas_acts.proofs.AtDesk.{other_book}
+use Rattle.pas_answers.specs.{Answers.{Named, Progress, Caches, settled, after_settling}, Reaching.{Reaches, AnswersTried, AnswersGuarded}, Names.block_named}
+use Rattle.pas_answers.specs.{Names.names_held, Replays.at_start, Keeping.{owed_by_keeper, cost_of_try}, Rests.AreAtRest, Indexes.{request_by, IsNamedFor}}
+use Rattle.pas_answers.specs.Indexes.{IsNamedBy, AllAreNamedBy, after_request, after_operation, with_noted, indexes_after_all, after_tried, after_guarded}
+use Rattle.pas_answers.specs.{Indexes.{TriedIsNamedBy, GuardedIsNamedBy}, Calls.{Tells, AllMayStand, MayStand, IsMeant, named_by, freed_by, AreKnown, what_of}}
+use Rattle.pas_answers.specs.{Calls.named_with, Fit.{AreFit, cost_of_what, cost_of_act, own_cost_of_act, AreOfThreads, kept_cost_of, kept_costs_of}}
+use Rattle.pas_answers.{specs.{Guarding.{Tried, IsTried, after_trying, after_giving}, declared.names.Names.Names}, proofs.SingleActs.{meant_by, meant_stands}}
+use Rattle.pas_answers.proofs.{SingleActs.{known_more, if_same, known_if, its_cache, other_cache, named_task}, OwnRecords.EachShown, Consequences.acts_shown}
+use Rattle.pas_answers.proofs.Consequences.{tried_shown}
+use Rattle.pas_replay.specs.{Operating.ActsByIndexes, Sessions.{Hand, IsTaken, TakesSeat, Replay, Left, HasNames, IsAt, SoFar, upon, pass_in, Slots, rests_as}}
+use Rattle.pas_replay.specs.Sessions.{rests, owes_as, owes, own_events, ActorStands, records_owed_as, owed_of, owed_by, AreCaches, GoesBy, HasNamed}
+use Rattle.pas_replay.{specs.Sessions.own_acts_of, proofs.Turning.{somewhere, there_is, rest_one, rest_two, hand, still_named, AsksNoIndex, thread_now}}
+use Rattle.pas_replay.proofs.Turning.{later_for, thread_turn, all_rest, rest_first, goes_both, OthersKept, set_caches, book_is, place_is, set_books, set_places}
+use Rattle.pas_replay.proofs.Turning.{still_places, owed_moves, owed_at, keeper_owes, SitsAs, MovesAs, sits_now, turn, kept_by_moves, either_less, less_events}
+use Rattle.pas_replay.proofs.Turning.{less_tries, said_more}
+use Rattle.pas_plain.specs.{Seats.standing_of, declared.{desk.PlainDesk.PlainDesk, pass.PlainPass.PlainPass}}
+use Rattle.pas_steps.specs.{Lists.{Legal, part}, Unknown.unknown_pages, Views.View}
+use Rattle.pas_guard.specs.{Books.{FitsBook, guards_in, size_of_book}, declared.book.GuardBook.GuardBook}
+use Rattle.pas_records.specs.{Rooms.{records_in, room_of, Records}, declared.record.Record.Record}
 
 -- doors of which each is to one vector of indexes
 module _ {Door : Type 0} (Kept : Door → Door → Type 0) (held : Door → Indexes) where

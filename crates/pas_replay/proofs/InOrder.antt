@@ -1,49 +1,33 @@
 -- The acts of a replay, one after the other, and what stands between two operations where records are handed on.
 use Rattle.std.proofs.Common.{◌≡◌, ℕ, ◌+◌, ◌-◌, ◌<◌, ◌≤◌, not, List, [], ◌∷◌, ◌++◌, map, length, drop, get_or, refl, ap, sym, ◌∙◌, subst, arith, Option, Bool}
 use Rattle.std.proofs.Common.{true, false, length-append, append_assoc, append-nil, None, Some, MatchOption, All, drop_at, zero, suc, ◌*◌, ◌/◌, nat_le}
-use Rattle.std.proofs.Common.{if◌then◌else◌, inl, inr, slice_index, le-leb, reverse, slice_index_or, ◌==◌, ◌||◌}
+use Rattle.std.proofs.{Common.{if◌then◌else◌, inl, inr, slice_index, le-leb, reverse, slice_index_or, ◌==◌, ◌||◌}, lemmas.List.{drop_more, get_or-map}}
+use Rattle.std.proofs.{lemmas.{List.{length-map, Elements.All-drop}, Nat.mul-le, Bool.{cases_lt, lt-leb}, Option.same_Some}, Math.Nat.suc-mul}
 use Rattle.std.specs.List.{filter}
-use Rattle.pas_steps.specs.Lists.{Legal, Whole, part, word_after}
-use Rattle.std.proofs.{lemmas.List.drop_more, lemmas.List.get_or-map, lemmas.List.length-map, lemmas.List.Elements.All-drop, lemmas.Nat.mul-le}
-use Rattle.std.proofs.{lemmas.Bool.cases_lt, lemmas.Bool.lt-leb, Math.Nat.suc-mul, lemmas.Option.same_Some}
-use Rattle.pas_profile.specs.declared.{profile.Profile.Profile, word.Word.Word, guard.Guard.Guard}
-use Rattle.pas_trace.specs.declared.plan.{Op.Op, What.TheVariants.Alloc, Plan.Plan}
-use Rattle.pas_trace.specs.Acts.{Act, Wakes, Lowers, is_active, numbers_from, acts_of_op, acts_of_ops, phase_acts, MarksPhase, MarksClose, Ends, close_acts}
-use Rattle.pas_trace.specs.Acts.{acts_of}
-use Rattle.pas_answers.specs.{Answers.Progress, Answers.with_records, Reaching.Advances, Names.names_held, Ways.InOrder}
-use Rattle.pas_answers.specs.Fit.{AreFit, cost_of_act, costs_of, AreOfThreads, own_costs_of, kept_costs_of}
-use Rattle.pas_answers.specs.Replays.{at_start, phases_of, region_of, threads_of, keepers_of, acts_of_plan, empty_cache, Shows}
+use Rattle.pas_steps.specs.{Lists.{Legal, Whole, part, word_after}, Clear.HasNothing, States.{profile_of as the_profile_of, word_in}, Unknown.unknown_pages}
+use Rattle.pas_steps.{specs.Views.View, proofs.Nothing.nothing_yet}
+use Rattle.pas_profile.specs.{declared.{profile.Profile.Profile, word.Word.Word, guard.Guard.Guard}, Profiles.{IsValid, IsWordOf}, Rooms.EventRoom}
+use Rattle.pas_trace.specs.{declared.plan.{Op.Op, What.TheVariants.Alloc, Plan.Plan}, Acts.{Act, Wakes, Lowers, is_active, numbers_from, acts_of_op}}
+use Rattle.pas_trace.specs.{Acts.{acts_of_ops, phase_acts, MarksPhase, MarksClose, Ends, close_acts, acts_of}, EveryPlan.operations_of, Plans.IsPlanOf}
+use Rattle.pas_trace.{specs.{Plans.bounds_of, Codes.unlined, Scripts.without_lines}, proofs.Keepers.plan_actors}
+use Rattle.pas_answers.specs.{Answers.{Progress, with_records}, Reaching.Advances, Names.names_held, Ways.InOrder, Fit.{AreFit, cost_of_act, costs_of}}
+use Rattle.pas_answers.specs.{Fit.{AreOfThreads, own_costs_of, kept_costs_of}, Replays.{at_start, phases_of, region_of, threads_of, keepers_of, acts_of_plan}}
+use Rattle.pas_answers.{specs.{Replays.{empty_cache, Shows}, declared.names.Names.Names}, proofs.{OwnRecords.{EachShown, all_shown}, SingleActs.sum_both}}
+use Rattle.pas_answers.proofs.{Reached.{in_phases, plan_by_one_list}, Consequences.{acts_shown, replays, all_refuse, all_take}}
 use Rattle.pas_large.specs.Doors.{Indexes, no_ranges}
-use Rattle.pas_answers.proofs.{OwnRecords.EachShown, OwnRecords.all_shown, SingleActs.sum_both, Reached.in_phases, Reached.plan_by_one_list}
-use Rattle.pas_answers.proofs.Consequences.{acts_shown, replays, all_refuse, all_take}
 use Rattle.pas_replay.specs.Sessions.{pass_in, HasNames, own_events, ActorStands, Replay, Left, Hand, GoesBy, IsAt, SoFar, costs_and, upon, Session, SoFarAt}
 use Rattle.pas_replay.specs.Sessions.{owed_by, session, telling, SeatStands, rests_as, owes_as, records_owed_as, AreEmpty, AreLowered, hand_of}
-use Rattle.pas_plain.specs.declared.pass.PlainPass.{PlainPass}
-use Rattle.pas_bits.specs.Masks.{is_set}
-use Rattle.pas_bits.specs.declared.mask.Mask4.{Mask4}
-use Rattle.pas_acts.specs.{Awake.awake_in, Awake.idle_in, PlanKeepers.guarded_of, Parts.AreRooms}
-use Rattle.pas_acts.proofs.ActsLeft.{number_next, number_last, next_chosen, next_passed, none_left, threads_alike}
-use Rattle.pas_replay.proofs.Turning.{all_rest, still_places, owed_kept, op_costs, owed_most, AsksNoIndex, still_named, less_events, less_tries, other_stands}
-use Rattle.pas_replay.proofs.Turning.{said_more}
-use Rattle.pas_replay.specs.Taking.{dearest, left_between, FewWait, Between, room_for_taker, room_between, Begins}
-use Rattle.pas_profile.specs.{Profiles.IsValid, Profiles.IsWordOf, Rooms.EventRoom}
-use Rattle.pas_steps.specs.{Clear.HasNothing, States.profile_of as the_profile_of, States.word_in, Unknown.unknown_pages, Views.View}
-use Rattle.pas_trace.specs.{EveryPlan.operations_of, Plans.IsPlanOf, Plans.bounds_of, Codes.unlined, Scripts.without_lines}
-use Rattle.pas_plain.specs.Plain.{profile_of, RegionStands, PassStands, pass_for, passes_from}
-use Rattle.pas_guard.specs.Books.{FitsBook, is_outer}
-use Rattle.pas_guard.specs.declared.book.GuardBook.{GuardBook}
-use Rattle.pas_cache.specs.Caches.{Cached, AtRest}
-use Rattle.pas_cache.specs.declared.cache.ThreadCache.{ThreadCache}
-use Rattle.pas_cache.proofs.FlushesAndFrees.{rests_empty}
-use Rattle.pas_answers.specs.declared.names.Names.{Names}
-use Rattle.pas_replay.specs.Kits.{IsFresh, IsKitOf, replay_of}
-use Rattle.pas_replay.specs.declared.{kit.PlainKit.PlainKit, seats.Actors.Actors}
-use Rattle.pas_trace.proofs.Keepers.{plan_actors}
-use Rattle.pas_acts.proofs.PlanFacts.{plan_operate, plan_fit, plan_own, plan_scavenger, plan_total, plan_kept_own, plan_tries, plan_keeps, pages_owed_at_first}
-use Rattle.pas_acts.proofs.PlanFacts.{no_slots}
-use Rattle.pas_steps.proofs.Nothing.{nothing_yet}
-use Rattle.pas_records.specs.{Rooms.records_in, Rooms.room_of, Rooms.Records, Lines.CanShow}
-use Rattle.pas_records.specs.declared.record.Record.{Record}
+use Rattle.pas_replay.specs.{Taking.{dearest, left_between, FewWait, Between, room_for_taker, room_between, Begins}, Kits.{IsFresh, IsKitOf, replay_of}}
+use Rattle.pas_replay.{specs.declared.{kit.PlainKit.PlainKit, seats.Actors.Actors}, proofs.Turning.{all_rest, still_places, owed_kept, op_costs, owed_most}}
+use Rattle.pas_replay.proofs.Turning.{AsksNoIndex, still_named, less_events, less_tries, other_stands, said_more}
+use Rattle.pas_plain.specs.{declared.pass.PlainPass.PlainPass, Plain.{profile_of, RegionStands, PassStands, pass_for, passes_from}}
+use Rattle.pas_bits.specs.{Masks.is_set, declared.mask.Mask4.Mask4}
+use Rattle.pas_acts.{specs.{Awake.{awake_in, idle_in}, PlanKeepers.guarded_of, Parts.AreRooms}, proofs.ActsLeft.{number_next, number_last, next_chosen}}
+use Rattle.pas_acts.proofs.{ActsLeft.{next_passed, none_left, threads_alike}, PlanFacts.{plan_operate, plan_fit, plan_own, plan_scavenger, plan_total}}
+use Rattle.pas_acts.proofs.PlanFacts.{plan_kept_own, plan_tries, plan_keeps, pages_owed_at_first, no_slots}
+use Rattle.pas_guard.specs.{Books.{FitsBook, is_outer}, declared.book.GuardBook.GuardBook}
+use Rattle.pas_cache.{specs.{Caches.{Cached, AtRest}, declared.cache.ThreadCache.ThreadCache}, proofs.FlushesAndFrees.rests_empty}
+use Rattle.pas_records.specs.{Rooms.{records_in, room_of, Records}, Lines.CanShow, declared.record.Record.Record}
 
 -- ---- marks
 -- no actor has a hand in a mark

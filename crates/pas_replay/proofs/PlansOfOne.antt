@@ -1,26 +1,18 @@
 -- The bounds of a plan say whether it is of one thread: the acts of such a plan are that thread's, and its records are written in the same order in both ways.
 use Rattle.std.proofs.Common.{◌≡◌, ◌≢◌, ℕ, ◌+◌, ◌≤◌, ◌==◌, Bool, true, if◌then◌else◌, List, [], ◌∷◌, Option, None, slice_index, refl, ap, sym, ◌∙◌, subst}
-use Rattle.std.proofs.Common.{arith, MatchOption, eq-eqb, ◌++◌, append_assoc, append-nil}
-use Rattle.std.specs.List.{AllByRecursion}
-use Rattle.pas_profile.specs.declared.profile.Profile.{Profile}
-use Rattle.pas_trace.specs.Asked.{work_of, of_task, keeper_of, keeper_in}
-use Rattle.pas_trace.specs.EveryPlan.{all_ops, IsActorBy, IsActorOf, AreKept, records_of_chore, records_of_work, own_records}
-use Rattle.pas_trace.specs.Plans.{IsPlanOf, bounds_of}
-use Rattle.pas_trace.specs.declared.plan.{Chore.Chore, Work.Work, Op.Op, Plan.Plan}
-use Rattle.pas_trace.proofs.EveryPlan.{every_plan}
+use Rattle.std.{proofs.Common.{arith, MatchOption, eq-eqb, ◌++◌, append_assoc, append-nil}, specs.List.AllByRecursion}
+use Rattle.pas_profile.{specs.declared.profile.Profile.Profile, proofs.Lists.all_both}
+use Rattle.pas_trace.specs.{Asked.{work_of, of_task, keeper_of, keeper_in}, EveryPlan.{all_ops, IsActorBy, IsActorOf, AreKept, records_of_chore}}
+use Rattle.pas_trace.specs.{EveryPlan.{records_of_work, own_records}, Plans.{IsPlanOf, bounds_of}, declared.plan.{Chore.Chore, Work.Work, Op.Op, Plan.Plan}}
 use Rattle.pas_trace.specs.Acts.{Act, Operates, Guards, Ticks, MakesPass, ReadsEpoch, StopsIdle, Ends, Lowers, acts_of_work, acts_of, Settles, MarksPhase}
-use Rattle.pas_trace.specs.Acts.{Wakes, MarksClose}
-use Rattle.pas_answers.specs.Replays.{phases_of, threads_of, keepers_of, acts_of_plan, at_start, IsReplay, Shows, region_of}
+use Rattle.pas_trace.{specs.Acts.{Wakes, MarksClose}, proofs.EveryPlan.every_plan}
+use Rattle.pas_answers.specs.{Replays.{phases_of, threads_of, keepers_of, acts_of_plan, at_start, IsReplay, Shows, region_of}, Answers.{Progress, records_of}}
+use Rattle.pas_answers.specs.{Reaching.{Advances, Reaches}, Ways.{InOrder, OnThreads, is_of, EachOf, records_by, by_actors, by_phases, arranged}}
+use Rattle.pas_answers.proofs.{EachAct.all_acts, OwnRecords.{each_both, piece_of, all_by, none_by}}
 use Rattle.pas_replay.specs.OneThread.{IsOfOneThread}
-use Rattle.pas_answers.proofs.EachAct.{all_acts}
 use Rattle.pas_acts.proofs.{ActsOfPlan.ArePlanned, PlanFacts.plan_planned}
-use Rattle.pas_profile.proofs.Lists.{all_both}
-use Rattle.pas_steps.specs.{Events.events_by, Lists.Whole, Lists.part}
-use Rattle.pas_steps.specs.declared.state.State.{State}
+use Rattle.pas_steps.specs.{Events.events_by, Lists.{Whole, part}, declared.state.State.State}
 use Rattle.pas_records.specs.declared.record.Record.{Record}
-use Rattle.pas_answers.specs.{Answers.Progress, Answers.records_of, Reaching.Advances, Reaching.Reaches}
-use Rattle.pas_answers.specs.Ways.{InOrder, OnThreads, is_of, EachOf, records_by, by_actors, by_phases, arranged}
-use Rattle.pas_answers.proofs.OwnRecords.{each_both, piece_of, all_by, none_by}
 
 -- ---- operations of thread 1
 abbrev pub IsOfOne : Op → Type 0

@@ -1,47 +1,32 @@
 -- THE TURN: an actor sits down, does acts of its own as at any desk, and all others still stand.
 use Rattle.std.proofs.Common.{arith, ◌≡◌, ◌≢◌, ℕ, ◌<◌, length, set, Option, Some, None, inl, inr, refl, ap, sym, ◌∙◌, subst, get_or-set_same, get_or-set_other}
 use Rattle.std.proofs.Common.{length-set, set-set, zero, suc, ◌≤◌, Bool, true, if◌then◌else◌, List, [], ◌∷◌, ◌++◌, eqb-true, le-leb, ◌+◌, ◌-◌, get_or, ◌*◌}
-use Rattle.std.proofs.Common.{nat_le, ◌==◌, false, ◌||◌, not, length-append, append_assoc}
-use Rattle.std.proofs.{lemmas.List.set_comm, lemmas.List.set-get_or, lemmas.Option.same_Some, lemmas.Grind.get_or-set_at, Math.Nat.suc-mul}
-use Rattle.std.proofs.lemmas.Bool.{cases_eq, lt-leb, cases_lt, eqb-false}
-use Rattle.pas_plain.specs.Plain.{actor_of, Forgets, profile_of, RegionStands, PassStands}
-use Rattle.pas_plain.specs.Seats.{region_of, pass_of, standing_of, DeskStands}
-use Rattle.pas_plain.specs.declared.{pass.PlainPass.PlainPass, desk.PlainDesk.PlainDesk, region.PlainRegion.PlainRegion}
+use Rattle.std.proofs.{Common.{nat_le, ◌==◌, false, ◌||◌, not, length-append, append_assoc}, lemmas.{List.{set_comm, set-get_or}, Option.same_Some}}
+use Rattle.std.proofs.{lemmas.{Grind.get_or-set_at, Bool.{cases_eq, lt-leb, cases_lt, eqb-false}}, Math.Nat.suc-mul}
+use Rattle.pas_plain.specs.{Plain.{actor_of, Forgets, profile_of, RegionStands, PassStands}, Seats.{region_of, pass_of, standing_of, DeskStands}}
+use Rattle.pas_plain.{specs.declared.{pass.PlainPass.PlainPass, desk.PlainDesk.PlainDesk, region.PlainRegion.PlainRegion}, proofs.Desks.pass_rests}
 use Rattle.pas_replay.specs.Sessions.{Slots, pass_in, risen, IsTaken, StandsIn, IsInPlace, MayTakeSeat, ChangesSeats, TakesSeat, rests_as, rests, Replay, Left}
 use Rattle.pas_replay.specs.Sessions.{Hand, IsAt, SoFar, GoesBy, AreCaches, HaveBooks, HavePlaces, records_owed_as, owed_of, owed_by, MaySit, SeatStands}
-use Rattle.pas_replay.specs.Sessions.{owes_as, owes, own_events, ActorStands, HasNames, SoFarAt, session, upon}
-use Rattle.pas_profile.specs.declared.{profile.Profile.Profile, directory.Kind.Kind, guard.Guard.Guard}
-use Rattle.pas_steps.specs.{Views.View, Views.known_deed, Lists.part, Lists.Whole, Lists.Legal, Unknown.unknown_below, Unknown.unknown_here}
-use Rattle.pas_steps.specs.{Unknown.unknown_pages, Events.events_of, Desks.triples}
+use Rattle.pas_replay.specs.{Sessions.{owes_as, owes, own_events, ActorStands, HasNames, SoFarAt, session, upon}, Taking.dearest, declared.seats.Actors.Actors}
+use Rattle.pas_profile.{specs.declared.{profile.Profile.Profile, directory.Kind.Kind, guard.Guard.Guard}, proofs.Codecs.deed_word_of-positive}
+use Rattle.pas_steps.specs.{Views.{View, known_deed}, Lists.{part, Whole, Legal}, Unknown.{unknown_below, unknown_here, unknown_pages}, Events.events_of}
+use Rattle.pas_steps.{specs.{Desks.triples, declared.step.Made.Made}, proofs.Parts.part_of_others}
 use Rattle.pas_guard.specs.Books.{FitsBook, guards_in, size_of_book, AreApart, Each, IsGuardOf, KnowsGuard, is_outer, is_outer_of}
-use Rattle.pas_large.specs.Doors.{Indexes, no_ranges}
-use Rattle.pas_cache.specs.Caches.{Cached, AtRest, cached}
-use Rattle.pas_trace.specs.Acts.{Act, Operates, Settles, act_kept, acts_of_work, acts_of_op}
-use Rattle.pas_trace.specs.declared.plan.{Op.Op, Task.Task, Work.Work}
-use Rattle.pas_answers.specs.Answers.{Progress, settled, after_settling, Caches, Books, Named}
-use Rattle.pas_answers.specs.Indexes.{indexes_after, indexes_after_all, AllAreNamedBy, ActIsNamedBy}
-use Rattle.pas_answers.specs.{Reaching.Reaches, Reaching.Advances, Rests.AreAtRest, Rests.AllAtRest, Calls.owed_events, Keeping.owed_by_keeper}
-use Rattle.pas_answers.specs.{Replays.at_start}
-use Rattle.pas_cache.specs.declared.cache.ThreadCache.{ThreadCache}
 use Rattle.pas_guard.specs.declared.book.GuardBook.{GuardBook}
-use Rattle.pas_acts.specs.{Tries.tries_of, Tries.tries_of_act, Tries.AreKeptFor, Awake.idle_in, Works.Later, Works.Sits, Turns.RestsAt, Turns.Moves}
-use Rattle.pas_profile.proofs.Codecs.{deed_word_of-positive}
+use Rattle.pas_large.specs.Doors.{Indexes, no_ranges}
+use Rattle.pas_cache.specs.{Caches.{Cached, AtRest, cached}, declared.cache.ThreadCache.ThreadCache}
+use Rattle.pas_trace.specs.{Acts.{Act, Operates, Settles, act_kept, acts_of_work, acts_of_op}, declared.plan.{Op.Op, Task.Task, Work.Work}, Asked.work_of}
+use Rattle.pas_trace.{specs.{Asked.cost_of_task, EveryPlan.{IsSoundTask, records_of_work}, Reasons.cost_of_size}, proofs.ThreadsInOrder.numbers_count}
+use Rattle.pas_trace.proofs.Costs.{large_cost, small_cost}
+use Rattle.pas_answers.specs.{Answers.{Progress, settled, after_settling, Caches, Books, Named}, Indexes.{indexes_after, indexes_after_all, AllAreNamedBy}}
+use Rattle.pas_answers.specs.{Indexes.ActIsNamedBy, Reaching.{Reaches, Advances}, Rests.{AreAtRest, AllAtRest}, Calls.owed_events, Keeping.owed_by_keeper}
+use Rattle.pas_answers.specs.{Replays.at_start, Fit.{AreFit, IsFitWhat, costs_of, AreOfThreads, sum_over, own_cost_of_act, own_costs_of, kept_cost_of_act}}
+use Rattle.pas_answers.{specs.{Fit.{kept_costs_of, unbacks_of_act, unbacks_of}, declared.names.Names.Names}, proofs.{SingleActs.sum_both, OwnRecords.EachShown}}
+use Rattle.pas_answers.proofs.Consequences.{acts_shown}
+use Rattle.pas_acts.specs.{Tries.{tries_of, tries_of_act, AreKeptFor}, Awake.idle_in, Works.{Later, Sits}, Turns.{RestsAt, Moves}, AtDesks.{here, and_for}}
+use Rattle.pas_acts.{specs.AtDesks.{ThreadActs, for_act, HasRoomAt, ScavengerActs}, proofs.{ActsOfPlan.{chosen_few, work_costs}, AtDesk.sits_for}}
 use Rattle.pas_bits.specs.declared.mask.Mask4.{Mask4}
-use Rattle.pas_trace.specs.{Asked.work_of, Asked.cost_of_task, EveryPlan.IsSoundTask, EveryPlan.records_of_work, Reasons.cost_of_size}
-use Rattle.pas_trace.proofs.{ThreadsInOrder.numbers_count, Costs.large_cost, Costs.small_cost}
-use Rattle.pas_answers.specs.Fit.{AreFit, IsFitWhat, costs_of, AreOfThreads, sum_over, own_cost_of_act, own_costs_of, kept_cost_of_act, kept_costs_of}
-use Rattle.pas_answers.specs.Fit.{unbacks_of_act, unbacks_of}
-use Rattle.pas_replay.specs.Taking.{dearest}
-use Rattle.pas_acts.proofs.{ActsOfPlan.chosen_few, ActsOfPlan.work_costs, AtDesk.sits_for}
-use Rattle.pas_steps.specs.declared.step.Made.{Made}
-use Rattle.pas_steps.proofs.Parts.{part_of_others}
-use Rattle.pas_plain.proofs.Desks.{pass_rests}
-use Rattle.pas_answers.specs.declared.names.Names.{Names}
-use Rattle.pas_answers.proofs.{SingleActs.sum_both, OwnRecords.EachShown, Consequences.acts_shown}
-use Rattle.pas_acts.specs.AtDesks.{here, and_for, ThreadActs, for_act, HasRoomAt, ScavengerActs}
-use Rattle.pas_replay.specs.declared.seats.Actors.{Actors}
-use Rattle.pas_records.specs.Rooms.{records_in, room_of, Records}
-use Rattle.pas_records.specs.declared.record.Record.{Record}
+use Rattle.pas_records.specs.{Rooms.{records_in, room_of, Records}, declared.record.Record.Record}
 
 -- The one desk of a replay, at which the actors take turns; and how a replay goes on: what all actors have, and what they owe, when one did something.
 

@@ -1,15 +1,11 @@
 -- A kit that nobody used, made for a plan.
 use Rattle.std.specs.Prelude.{ℕ, ◌+◌, ◌<◌, ◌≤◌, ◌≡◌, List, [], length, Option, Some, None, slice_index}
-use Rattle.pas_trace.specs.{Courses.IsCourseOf, Plans.IsPlanOf, Plans.bounds_of}
-use Rattle.pas_trace.specs.declared.{course.Course.Course, plan.Op.Op, plan.Plan.Plan}
+use Rattle.pas_trace.specs.{Courses.IsCourseOf, Plans.{IsPlanOf, bounds_of}, declared.{course.Course.Course, plan.{Op.Op, Plan.Plan}}}
 use Rattle.pas_records.specs.Rooms.{Records, room_of}
-use Rattle.pas_replay.specs.{Taking.room_for_taker, Sessions.pass_in, Sessions.Replay}
-use Rattle.pas_plain.specs.Plain.{profile_of, actor_of, room_of_pass, RegionStands, PassStands}
-use Rattle.pas_plain.specs.declared.pass.PlainPass.{PlainPass}
+use Rattle.pas_replay.specs.{Taking.room_for_taker, Sessions.{pass_in, Replay}, declared.kit.PlainKit.PlainKit}
+use Rattle.pas_plain.specs.{Plain.{profile_of, actor_of, room_of_pass, RegionStands, PassStands}, declared.pass.PlainPass.PlainPass}
 use Rattle.pas_large.specs.Doors.{no_ranges}
-use Rattle.pas_answers.specs.{Fit.AllBelow, Names.block_named, Names.names_held}
-use Rattle.pas_answers.specs.Replays.{phases_of, region_of, threads_of, keepers_of, acts_of_plan}
-use Rattle.pas_replay.specs.declared.kit.PlainKit.{PlainKit}
+use Rattle.pas_answers.specs.{Fit.AllBelow, Names.{block_named, names_held}, Replays.{phases_of, region_of, threads_of, keepers_of, acts_of_plan}}
 use Rattle.pas_utility.specs.Outcomes.{places_of}
 use Rattle.pas_acts.specs.{Parts.AreUnused, PlanKeepers.AreBooks}
 

@@ -1,8 +1,6 @@
 -- A plan in which nothing could run at once: all its operations are those of one thread.
-use Rattle.std.specs.Prelude.{◌≡◌}
-use Rattle.std.specs.List.{AllByRecursion}
-use Rattle.pas_trace.specs.EveryPlan.{operations_of}
-use Rattle.pas_trace.specs.declared.plan.{Op.Op, Plan.Plan}
+use Rattle.std.specs.{Prelude.◌≡◌, List.AllByRecursion}
+use Rattle.pas_trace.specs.{EveryPlan.operations_of, declared.plan.{Op.Op, Plan.Plan}}
 use Rattle.pas_answers.specs.Replays.{threads_of}
 
 -- It has one thread, and each operation of each phase is thread 1's. So the scavenger, which is actor 0, has none: no tick, no pass, and no

@@ -2,10 +2,9 @@
 use Rattle.std.specs.Prelude.{ℕ, ◌≡◌, List, [], ◌∷◌}
 use Rattle.pas_profile.specs.declared.profile.Profile.{Profile}
 use Rattle.pas_large.specs.Doors.{Indexes}
-use Rattle.pas_trace.specs.Acts.{Operates, Settles}
-use Rattle.pas_trace.specs.declared.plan.Op.{Op}
-use Rattle.pas_answers.specs.{Answers.Named, Answers.Progress, Indexes.indexes_after_all, Indexes.AllAreNamedBy}
-use Rattle.pas_acts.specs.{Works.Later, AtDesks.Here, AtDesks.ThreadActs}
+use Rattle.pas_trace.specs.{Acts.{Operates, Settles}, declared.plan.Op.Op}
+use Rattle.pas_answers.specs.{Answers.{Named, Progress}, Indexes.{indexes_after_all, AllAreNamedBy}}
+use Rattle.pas_acts.specs.{Works.Later, AtDesks.{Here, ThreadActs}}
 
 -- Thread k did the operation, and what its cache noted was handed on. The runs that were named are those of the indexes, which hold then what they do after
 -- these acts.

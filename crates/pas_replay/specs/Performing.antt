@@ -1,8 +1,7 @@
 -- An operation of a phase whose line doesn't matter.
 use Rattle.std.specs.Prelude.{◌≡◌}
 use Rattle.pas_bits.specs.declared.mask.Mask4.{Mask4}
-use Rattle.pas_trace.specs.{Acts.acts_of_op, Codes.unlined}
-use Rattle.pas_trace.specs.declared.plan.Op.{Op}
+use Rattle.pas_trace.specs.{Acts.acts_of_op, Codes.unlined, declared.plan.Op.Op}
 use Rattle.pas_acts.specs.Awake.{idle_in}
 use Rattle.pas_replay.specs.Sessions.{Session, MayGoOn, GoesOn}
 

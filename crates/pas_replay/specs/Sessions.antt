@@ -1,30 +1,22 @@
 -- What stands between two acts of a replay: one legal list, for which the region and the pass of each actor stand, and at whose end each thread is at
 -- rest with its cache, each keeper fits its book, and the scavenger has nothing.
 use Rattle.std.specs.Prelude.{ℕ, zero, suc, ◌+◌, ◌<◌, ◌≤◌, ◌≡◌, nat_le, Bool, true, false, if◌then◌else◌, List, [], ◌∷◌, ◌++◌, length, Option, Some, None}
-use Rattle.std.specs.Prelude.{slice_index_or, slice_set}
+use Rattle.std.specs.{Prelude.{slice_index_or, slice_set}, List.AllByRecursion}
 use Rattle.pas_profile.specs.declared.{profile.Profile.Profile, name.Block.Block, guard.Guard.Guard}
-use Rattle.pas_steps.specs.{Clear.HasNothing, Events.events_of, Lists.Whole, Lists.part, Views.View, Unknown.unknown_pages}
-use Rattle.pas_plain.specs.Plain.{profile_of, actor_of, room_of_pass, RegionStands, PassStands}
-use Rattle.pas_plain.specs.Seats.{region_of, pass_of, IsPassOf}
+use Rattle.pas_steps.specs.{Clear.HasNothing, Events.events_of, Lists.{Whole, part}, Views.View, Unknown.unknown_pages}
+use Rattle.pas_plain.specs.{Plain.{profile_of, actor_of, room_of_pass, RegionStands, PassStands}, Seats.{region_of, pass_of, IsPassOf}}
 use Rattle.pas_plain.specs.declared.{region.PlainRegion.PlainRegion, pass.PlainPass.PlainPass, desk.PlainDesk.PlainDesk}
-use Rattle.std.specs.List.{AllByRecursion}
-use Rattle.pas_guard.specs.Books.{FitsBook, guards_in, size_of_book}
-use Rattle.pas_guard.specs.declared.book.GuardBook.{GuardBook}
-use Rattle.pas_answers.specs.{Keeping.owed_by_keeper, Names.names_held, Indexes.ReachesBy, Rests.AllAtRest, Replays.at_start}
-use Rattle.pas_cache.specs.Caches.{Cached, cached, AtRest}
-use Rattle.pas_cache.specs.declared.cache.ThreadCache.{ThreadCache}
+use Rattle.pas_guard.specs.{Books.{FitsBook, guards_in, size_of_book}, declared.book.GuardBook.GuardBook}
+use Rattle.pas_answers.specs.{Keeping.owed_by_keeper, Names.names_held, Indexes.ReachesBy, Rests.AllAtRest, Replays.at_start, Answers.{Progress, Named, Caches}}
+use Rattle.pas_answers.specs.{Answers.Books, Calls.{Tells, MayStand, AllMayStand, AreKnown, named_by, owed_events}, Fit.{AreFit, AreOfThreads, cost_of_act}}
+use Rattle.pas_answers.specs.{Fit.{own_costs_of, kept_costs_of, unbacks_of}, declared.names.Names.Names}
+use Rattle.pas_cache.specs.{Caches.{Cached, cached, AtRest}, declared.cache.ThreadCache.ThreadCache}
 use Rattle.pas_utility.specs.Outcomes.{places_of}
-use Rattle.pas_trace.specs.{Acts.Act, Acts.Settles, Acts.act_kept, Asked.keeper_of}
-use Rattle.pas_trace.specs.declared.plan.{Op.Op, Task.Task}
-use Rattle.pas_answers.specs.Answers.{Progress, Named, Caches, Books}
-use Rattle.pas_answers.specs.Calls.{Tells, MayStand, AllMayStand, AreKnown, named_by, owed_events}
-use Rattle.pas_answers.specs.Fit.{AreFit, AreOfThreads, cost_of_act, own_costs_of, kept_costs_of, unbacks_of}
+use Rattle.pas_trace.specs.{Acts.{Act, Settles, act_kept}, Asked.keeper_of, declared.plan.{Op.Op, Task.Task}}
 use Rattle.pas_large.specs.Doors.{Indexes, no_ranges}
 use Rattle.pas_acts.specs.Tries.{tries_of, AreKeptFor}
-use Rattle.pas_answers.specs.declared.names.Names.{Names}
 use Rattle.pas_replay.specs.declared.seats.Actors.{Actors}
-use Rattle.pas_records.specs.{Lines.CanShow, Rooms.records_in, Rooms.room_of, Rooms.Records}
-use Rattle.pas_records.specs.declared.record.Record.{Record}
+use Rattle.pas_records.specs.{Lines.CanShow, Rooms.{records_in, room_of, Records}, declared.record.Record.Record}
 
 -- ---- passes, by actor; None of the one at the desk
 abbrev pub Slots : Type 0

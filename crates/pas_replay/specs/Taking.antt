@@ -1,12 +1,10 @@
 -- A replay whose records are handed on while it goes on: how much room it needs, and what stands between two operations.
 use Rattle.std.specs.Prelude.{ℕ, ◌+◌, ◌*◌, ◌≤◌, ◌≡◌, List, [], ◌++◌, length, Option, None, Some, MatchOption}
 use Rattle.pas_profile.specs.declared.profile.Profile.{Profile}
-use Rattle.pas_trace.specs.Acts.{Act, acts_of}
-use Rattle.pas_trace.specs.declared.plan.{Op.Op, Plan.Plan}
-use Rattle.pas_answers.specs.{Fit.costs_of, Replays.phases_of, Replays.region_of}
+use Rattle.pas_trace.specs.{Acts.{Act, acts_of}, declared.plan.{Op.Op, Plan.Plan}}
+use Rattle.pas_answers.specs.{Fit.costs_of, Replays.{phases_of, region_of}}
 use Rattle.pas_replay.specs.Sessions.{Replay, Left, Hand, Session, SoFar, SoFarAt, telling}
-use Rattle.pas_records.specs.Rooms.{records_in, Records}
-use Rattle.pas_records.specs.declared.record.Record.{Record}
+use Rattle.pas_records.specs.{Rooms.{records_in, Records}, declared.record.Record.Record}
 
 -- What an operation may say, as a pass of all pages, the stops of all threads or a guarded request for all pages.
 abbrev pub dearest : Profile → ℕ

@@ -3,7 +3,7 @@
 ghost use Rattle.std.specs.Prelude.{◌≡◌, ◌↔◌, ◌≤◌, ◌+◌, ℕ, List, [], length, IsTrue};
 ghost use Rattle.pas_trace.specs.Plans.{IsPlanOf};
 ghost use Rattle.pas_records.specs.Rooms.{records_in, room_of};
-ghost use Rattle.pas_answers.specs.{Replays.phases_of, Replays.Shows, Ways.InOrder, Ways.OnThreads};
+ghost use Rattle.pas_answers.specs.{Replays.{phases_of, Shows}, Ways.{InOrder, OnThreads}};
 ghost use Rattle.pas_replay.specs.{Kits.IsKitOf, OneThread.IsOfOneThread};
 
 use crate::kit::{PlainKit, in_order};

@@ -1,13 +1,11 @@
 //! All that a replay needs, and the replay.
 
 ghost use Rattle.std.specs.Prelude.{◌≡◌, ◌≤◌, ◌<◌, ◌+◌, ◌++◌, ℕ, List, IfOk, Some, [], length, map};
-ghost use Rattle.pas_trace.specs.{Courses.IsCourse, Courses.IsCourseOf, Plans.IsPlanOf};
-ghost use Rattle.pas_trace.specs.declared.plan.Plan.{Plan as ThePlan};
-ghost use Rattle.pas_answers.specs.{Replays.phases_of, Replays.Shows, Ways.InOrder};
+ghost use Rattle.pas_trace.specs.{Courses.{IsCourse, IsCourseOf}, Plans.IsPlanOf, declared.plan.Plan.Plan as ThePlan};
+ghost use Rattle.pas_answers.specs.{Replays.{phases_of, Shows}, Ways.InOrder};
 ghost use Rattle.pas_large.specs.Doors.{no_ranges};
-ghost use Rattle.pas_replay.specs.{Kits.IsKitOf, Kits.MayReplay, Taking.room_for_taker};
-ghost use Rattle.pas_records.specs.Rooms.{records_in, room_of};
-ghost use Rattle.pas_records.specs.declared.record.Record.{Record as TheRecord};
+ghost use Rattle.pas_replay.specs.{Kits.{IsKitOf, MayReplay}, Taking.room_for_taker};
+ghost use Rattle.pas_records.specs.{Rooms.{records_in, room_of}, declared.record.Record.Record as TheRecord};
 
 use crate::order::replay;
 use crate::seats::Actors;

@@ -1,13 +1,11 @@
 //! The phases of a plan in order, and the close.
 ghost use Rattle.std.specs.Prelude.{◌≡◌, ◌+◌, ◌<◌, ◌≤◌, ◌^◌, map, length, ◌∷◌, List};
-ghost use Rattle.pas_trace.specs.Acts.{Wakes, ReadsEpoch, Ends, Lowers, numbers_from, idle_stops, acts_of_ops};
-ghost use Rattle.pas_replay.specs.Sessions.{Replay, Left, SoFarAt, AreEmpty, AreLowered, MayGoOn, GoesOn, hand_of, session, upon};
-ghost use Rattle.pas_replay.specs.Taking.{MayHandOn, HandsOn, Begins, Replays};
+ghost use Rattle.pas_trace.specs.{Acts.{Wakes, ReadsEpoch, Ends, Lowers, numbers_from, idle_stops, acts_of_ops}, Codes.unlined, Scripts.without_lines};
+ghost use Rattle.pas_trace.specs.declared.plan.Op.{Op as TheOp};
+ghost use Rattle.pas_replay.specs.{Sessions.{Replay, Left, SoFarAt, AreEmpty, AreLowered, MayGoOn, GoesOn, hand_of, session, upon}, Taking.MayHandOn};
+ghost use Rattle.pas_replay.specs.{Taking.{HandsOn, Begins, Replays}, Performing.{MayPerform, Performs}};
 ghost use Rattle.pas_acts.specs.Awake.{awake_in, idle_in};
 ghost use Rattle.pas_answers.specs.declared.names.Names.{Names as TheNames};
-ghost use Rattle.pas_trace.specs.{Codes.unlined, Scripts.without_lines};
-ghost use Rattle.pas_trace.specs.declared.plan.Op.{Op as TheOp};
-ghost use Rattle.pas_replay.specs.Performing.{MayPerform, Performs};
 ghost use Rattle.pas_records.specs.Rooms.{Records as TheRecords};
 
 use crate::seats::{

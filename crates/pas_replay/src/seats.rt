@@ -1,23 +1,16 @@
 //! The actors' places at the region. One sits at the desk at a time.
 ghost use Rattle.std.specs.Prelude.{◌≡◌, ◌≢◌, ◌<◌, ◌+◌, ◌-◌, ◌≤◌, ◌++◌, ℕ, List, [], ◌∷◌, length, option_and_then, slice_set};
 ghost use Rattle.pas_profile.specs.declared.profile.Profile.{Profile as TheProfile};
-ghost use Rattle.pas_plain.specs.{Plain.actor_of, Seats.pass_of, Seats.standing_of};
-ghost use Rattle.pas_plain.specs.declared.desk.PlainDesk.{PlainDesk as TheDesk};
-ghost use Rattle.pas_cache.specs.Caches.{cached};
-ghost use Rattle.pas_cache.specs.declared.cache.ThreadCache.{ThreadCache as TheCache};
-ghost use Rattle.pas_guard.specs.Books.{guards_in};
-ghost use Rattle.pas_guard.specs.declared.book.GuardBook.{GuardBook as TheBook};
-ghost use Rattle.pas_trace.specs.Asked.{request_of, freed_of};
-ghost use Rattle.pas_trace.specs.Acts.{Operates, Settles, Ticks, MakesPass, ReadsEpoch, StopsIdle, Wakes, Ends, Lowers};
-ghost use Rattle.pas_answers.specs.{Answers.Named, Answers.Progress, Answers.settled, Indexes.with_noted, Fit.IsFitWhat, Names.block_named, Names.names_held};
-ghost use Rattle.pas_answers.specs.{Names.MayPack};
-ghost use Rattle.pas_acts.specs.{Works.Later, AtDesks.here, AtDesks.MayOperate};
-ghost use Rattle.pas_replay.specs.Operating.{ActsByIndexes};
-ghost use Rattle.pas_answers.specs.Calls.{what_of, Tells, MayStand, AllMayStand, named_with, named_by};
+ghost use Rattle.pas_plain.specs.{Plain.actor_of, Seats.{pass_of, standing_of}, declared.desk.PlainDesk.PlainDesk as TheDesk};
+ghost use Rattle.pas_cache.specs.{Caches.cached, declared.cache.ThreadCache.ThreadCache as TheCache};
+ghost use Rattle.pas_guard.specs.{Books.guards_in, declared.book.GuardBook.GuardBook as TheBook};
+ghost use Rattle.pas_trace.specs.{Asked.{request_of, freed_of}, Acts.{Operates, Settles, Ticks, MakesPass, ReadsEpoch, StopsIdle, Wakes, Ends, Lowers}};
 ghost use Rattle.pas_trace.specs.declared.plan.Op.{Op as TheOp};
-ghost use Rattle.pas_answers.specs.declared.names.Names.{Names as TheNames};
-ghost use Rattle.pas_replay.specs.Sessions.{Replay, pass_in, hand_of, hand_at, session, IsTaken, MaySit, MayTakeSeat, ChangesSeats, TakesSeat, SoFarAt};
-ghost use Rattle.pas_replay.specs.Sessions.{MayGoOn, GoesOn, HasRead, MayGoOnAt, GoesOnAt, own_acts_of, Left, upon};
+ghost use Rattle.pas_answers.specs.{Answers.{Named, Progress, settled}, Indexes.with_noted, Fit.IsFitWhat, Names.{block_named, names_held, MayPack}};
+ghost use Rattle.pas_answers.specs.{Calls.{what_of, Tells, MayStand, AllMayStand, named_with, named_by}, declared.names.Names.Names as TheNames};
+ghost use Rattle.pas_acts.specs.{Works.Later, AtDesks.{here, MayOperate}};
+ghost use Rattle.pas_replay.specs.{Operating.ActsByIndexes, Sessions.{Replay, pass_in, hand_of, hand_at, session, IsTaken, MaySit, MayTakeSeat, ChangesSeats}};
+ghost use Rattle.pas_replay.specs.Sessions.{TakesSeat, SoFarAt, MayGoOn, GoesOn, HasRead, MayGoOnAt, GoesOnAt, own_acts_of, Left, upon};
 ghost use Rattle.pas_records.specs.Rooms.{Records as TheRecords};
 
 use pas_acts::at_desk::SCAVENGER;

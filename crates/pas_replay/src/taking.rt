@@ -1,10 +1,8 @@
 //! Who takes what a replay says, while it goes on.
 ghost use Rattle.std.specs.Prelude.{◌≡◌, ◌≤◌, ◌++◌, ℕ, List, [], Option, Some, All, IfOk, MatchOption, length};
-ghost use Rattle.pas_trace.specs.Courses.{IsCourse, IsCourseOf};
-ghost use Rattle.pas_trace.specs.declared.plan.Plan.{Plan as ThePlan};
+ghost use Rattle.pas_trace.specs.{Courses.{IsCourse, IsCourseOf}, declared.plan.Plan.Plan as ThePlan};
 ghost use Rattle.pas_replay.specs.Taking.{room_for_taker};
-ghost use Rattle.pas_records.specs.{Lines.CanShow, Rooms.records_in, Rooms.room_of};
-ghost use Rattle.pas_records.specs.declared.record.Record.{Record as TheRecord};
+ghost use Rattle.pas_records.specs.{Lines.CanShow, Rooms.{records_in, room_of}, declared.record.Record.Record as TheRecord};
 
 use pas_acts::region_by;
 use pas_profile::NoMemory;
@@ -37,8 +35,7 @@ pub trait Takes {
 pub(crate) struct Keeps;
 
 impl Takes for Keeps {
-    ghost use Rattle.std.specs.Prelude.{◌≡◌, ◌++◌, List, [], None};
-    ghost use Rattle.std.proofs.Common.{refl, ap, ◌∙◌};
+    ghost use Rattle.std.{specs.Prelude.{◌≡◌, ◌++◌, List, [], None}, proofs.Common.{refl, ap, ◌∙◌}};
     ghost use Rattle.pas_records.specs.declared.record.Record.{Record as TheRecord};
 
     ghost took = { λ a b first. first ≡ [] };

@@ -1,8 +1,7 @@
 -- Counts and sums below a number: one more, and how great they may be.
 use Rattle.std.proofs.Common.{◌≡◌, ℕ, zero, suc, ◌+◌, ◌/◌, ◌%◌, ◌<◌, ◌≤◌, Bool, if◌then◌else◌, [], ◌∷◌, slice_index, refl, ap, arith, add-one}
 use Rattle.pas_report.specs.Reports.{grains_that}
-use Rattle.pas_bits.specs.{Rows.set_count, Bits.has_bit, Bits.count_below}
-use Rattle.pas_bits.proofs.Rows.{set_most, count_suc, count_same}
+use Rattle.pas_bits.{specs.{Rows.set_count, Bits.{has_bit, count_below}}, proofs.Rows.{set_most, count_suc, count_same}}
 use Rattle.pas_machine.specs.Totals.{sum_below}
 
 -- ---- one more

@@ -3,8 +3,7 @@ use Rattle.std.proofs.Common.{◌≡◌, ℕ, zero, suc, ◌+◌, ◌-◌, ◌�
 use Rattle.pas_io.specs.Told.{WritesFront}
 use Rattle.pas_steps.specs.declared.state.State.{State}
 use Rattle.pas_report.specs.Counts.{page_by_words, pages_by_words, pages_of, report_by_words, totals_by_words}
-use Rattle.pas_records.specs.Pieces.{IsPutOut}
-use Rattle.pas_records.proofs.Pieces.{front_longer}
+use Rattle.pas_records.{specs.Pieces.IsPutOut, proofs.Pieces.front_longer}
 
 -- ---- the report so far
 abbrev pub so_far : State → ℕ → List ℕ

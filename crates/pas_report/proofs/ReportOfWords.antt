@@ -1,27 +1,21 @@
 -- Where the words of a state agree with the machine that the events reach, their totals are the machine's.
 use Rattle.std.proofs.Common.{◌≡◌, ℕ, ◌+◌, ◌^◌, ◌<◌, ◌==◌, not, Bool, true, false, if◌then◌else◌, List, sym, ◌∙◌, arith, le-leb, ◌*◌, ◌/◌, ◌%◌, Option, None}
-use Rattle.std.proofs.Common.{Some, ap, eq-eqb, ne_eqb, zero, suc, ◌≤◌, ◌++◌, codes, refl, inl, inr, ◌-◌, add-zero, add-suc}
-use Rattle.std.proofs.lemmas.Bool.{lt-leb}
-use Rattle.pas_profile.specs.{Lives.turn_of, Lives.is_live, Lives.live_word, Blocks.length_of, Profiles.IsValid, Profiles.IsPage, Profiles.IsDirectoryOf}
-use Rattle.pas_profile.specs.{Directories.number_of, Directories.directory_read}
-use Rattle.pas_profile.specs.declared.{event.Event.Event, word.Word.Word, directory.Directory.Directory, profile.Profile.Profile}
-use Rattle.pas_machine.specs.State.{deed_in, backed_in, live_in, gives_in, ends_in, Live, epoch_in}
-use Rattle.pas_machine.specs.Totals.{has_deed, has_block, page_at, address_at, sum_below}
-use Rattle.pas_steps.specs.{States.profile_of, States.word_in, States.IsUnusedAbove, Effects.life_word_at}
-use Rattle.pas_steps.specs.declared.state.State.{State}
-use Rattle.pas_report.specs.Totals.{totals_of, totals_text}
-use Rattle.pas_records.specs.{Marks.offered_after, Marks.marks_after, Covered.is_covered, Rests.HasWords, Rests.AreFreeOrCovered, Rests.AreStamped}
-use Rattle.pas_records.proofs.MarksAtRest.{backed_agrees, deed_read_after}
-use Rattle.pas_report.specs.Reports.{total_line, live_on, uncovered_on, page_text, machine_page, machine_pages, report_text}
+use Rattle.std.proofs.{Common.{Some, ap, eq-eqb, ne_eqb, zero, suc, ◌≤◌, ◌++◌, codes, refl, inl, inr, ◌-◌, add-zero, add-suc}, lemmas.Bool.lt-leb}
+use Rattle.pas_profile.specs.{Lives.{turn_of, is_live, live_word}, Blocks.length_of, Profiles.{IsValid, IsPage, IsDirectoryOf}, Directories.number_of}
+use Rattle.pas_profile.specs.{Directories.directory_read, declared.{event.Event.Event, word.Word.Word, directory.Directory.Directory, profile.Profile.Profile}}
+use Rattle.pas_profile.proofs.Codecs.{number_lt}
+use Rattle.pas_machine.specs.{State.{deed_in, backed_in, live_in, gives_in, ends_in, Live, epoch_in}, Totals.{has_deed, has_block, page_at, address_at}}
+use Rattle.pas_machine.specs.Totals.{sum_below}
+use Rattle.pas_steps.specs.{States.{profile_of, word_in, IsUnusedAbove}, Effects.life_word_at, declared.state.State.State, Lists.{Whole, word_after, visible}}
+use Rattle.pas_steps.specs.Lists.{Legal}
+use Rattle.pas_report.specs.{Totals.{totals_of, totals_text}, Reports.{total_line, live_on, uncovered_on, page_text, machine_page, machine_pages, report_text}}
 use Rattle.pas_report.specs.Counts.{pages_of, grains_in, life_of_grain, totals_counted, totals_by_words, IsDeedWord, AreDeedWords, live_counted_on}
 use Rattle.pas_report.specs.Counts.{free_counted_on, offered_by, marked_in, line_by_words, page_by_words, pages_by_words, report_by_words, AreCounted}
 use Rattle.pas_report.proofs.Counting.{sum_same, sum_and_count, grains_same}
-use Rattle.pas_bits.proofs.Rows.{count_same, count_suc}
-use Rattle.pas_steps.specs.Lists.{Whole, word_after, visible, Legal}
-use Rattle.pas_core.specs.Good.{word_of_deed, IsLifeOf, AgreesWithWords}
-use Rattle.pas_bits.specs.Bits.{has_bit, count_below}
-use Rattle.pas_profile.proofs.Codecs.{number_lt}
-use Rattle.pas_core.proofs.{Deeds.deed_of, Deeds.directory_is_of, Lives.life_of, MachineRuns.agrees}
+use Rattle.pas_records.specs.{Marks.{offered_after, marks_after}, Covered.is_covered, Rests.{HasWords, AreFreeOrCovered, AreStamped}}
+use Rattle.pas_records.proofs.MarksAtRest.{backed_agrees, deed_read_after}
+use Rattle.pas_bits.{proofs.Rows.{count_same, count_suc}, specs.Bits.{has_bit, count_below}}
+use Rattle.pas_core.{specs.Good.{word_of_deed, IsLifeOf, AgreesWithWords}, proofs.{Deeds.{deed_of, directory_is_of}, Lives.life_of, MachineRuns.agrees}}
 
 -- what the life word of a grain says of the machine at its address: whether a block lives there, how many ended and how many were given
 pub record IsLifeWord (word : ℕ) (lives : Bool) (gives ends : ℕ) : Type 0 where

@@ -1,15 +1,12 @@
 -- The report from the words of a region at rest: counts over its pages and grains, and the marks of a page.
 use Rattle.std.specs.Prelude.{ℕ, zero, suc, ◌+◌, ◌*◌, ◌/◌, ◌%◌, ◌^◌, ◌≤◌, ◌≡◌, ◌==◌, ◌⊎◌, Bool, false, not, List, [], ◌++◌, Option, None, Some, codes}
 use Rattle.pas_bits.specs.Bits.{has_bit, count_below}
-use Rattle.pas_profile.specs.{Directories.deed_word_of, Directories.number_of, Directories.directory_read, Lives.turn_of, Lives.is_live, Profiles.IsDirectoryOf}
-use Rattle.pas_profile.specs.{Profiles.IsPage}
+use Rattle.pas_profile.specs.{Directories.{deed_word_of, number_of, directory_read}, Lives.{turn_of, is_live}, Profiles.{IsDirectoryOf, IsPage}}
 use Rattle.pas_profile.specs.declared.{profile.Profile.Profile, directory.Directory.Directory, word.Word.Word}
 use Rattle.pas_machine.specs.Totals.{sum_below, page_at}
-use Rattle.pas_steps.specs.States.{profile_of, word_in}
-use Rattle.pas_steps.specs.declared.state.State.{State}
+use Rattle.pas_steps.specs.{States.{profile_of, word_in}, declared.state.State.State}
 use Rattle.pas_records.specs.Marks.{Marked}
-use Rattle.pas_report.specs.{Reports.grains_that, Reports.page_text, Totals.totals_text}
-use Rattle.pas_report.specs.declared.totals.Totals.{Totals}
+use Rattle.pas_report.specs.{Reports.{grains_that, page_text}, Totals.totals_text, declared.totals.Totals.Totals}
 
 -- the pages of the region, and its grains
 abbrev pub pages_of : State → ℕ

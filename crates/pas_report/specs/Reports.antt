@@ -1,10 +1,9 @@
 -- The report: a line for each page with a deed, in order, and the total line.
-use Rattle.std.specs.Prelude.{ℕ, zero, suc, ◌+◌, ◌*◌, Bool, not, List, [], ◌++◌, Option, None, Some, codes}
-use Rattle.std.specs.Fmt.{decimal}
+use Rattle.std.specs.{Prelude.{ℕ, zero, suc, ◌+◌, ◌*◌, Bool, not, List, [], ◌++◌, Option, None, Some, codes}, Fmt.decimal}
 use Rattle.pas_profile.specs.declared.{profile.Profile.Profile, directory.Directory.Directory, event.Event.Event}
 use Rattle.pas_bits.specs.Bits.{count_below}
-use Rattle.pas_machine.specs.{State.deed_in, State.live_in, State.epoch_in, Totals.has_block}
-use Rattle.pas_records.specs.{Covered.is_covered, Lines.kind_text, Marks.Marked, Marks.marks_text}
+use Rattle.pas_machine.specs.{State.{deed_in, live_in, epoch_in}, Totals.has_block}
+use Rattle.pas_records.specs.{Covered.is_covered, Lines.kind_text, Marks.{Marked, marks_text}}
 use Rattle.pas_report.specs.Totals.{totals_of, totals_text}
 
 -- ---- what the machine says of a page

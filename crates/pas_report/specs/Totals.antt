@@ -1,10 +1,8 @@
 -- The totals of a region, and the report's last line.
-use Rattle.std.specs.Prelude.{ℕ, ◌*◌, List, [], ◌∷◌, ◌++◌, codes}
-use Rattle.std.specs.Fmt.{decimal}
+use Rattle.std.specs.{Prelude.{ℕ, ◌*◌, List, [], ◌∷◌, ◌++◌, codes}, Fmt.decimal}
 use Rattle.pas_bits.specs.Bits.{count_below}
 use Rattle.pas_profile.specs.declared.{profile.Profile.Profile, event.Event.Event}
-use Rattle.pas_machine.specs.State.{deed_in, backed_in, live_in, gives_in, ends_in}
-use Rattle.pas_machine.specs.Totals.{sum_below, has_deed, has_block, page_at, address_at}
+use Rattle.pas_machine.specs.{State.{deed_in, backed_in, live_in, gives_in, ends_in}, Totals.{sum_below, has_deed, has_block, page_at, address_at}}
 use Rattle.pas_report.specs.declared.totals.Totals.{Totals}
 
 -- THE TOTALS of the machine that the events reach: its pages with a deed, its backed pages, its live blocks, its gives and its ends

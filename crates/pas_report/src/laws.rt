@@ -1,14 +1,11 @@
 //! What the report of a region at rest says of the allocator's machine. Each law is the contract of an empty function.
 ghost use Rattle.std.specs.Prelude.{◌≡◌, ◌≢◌, ◌<◌, ◌+◌, ◌*◌, ◌/◌, ℕ, not, true, false, None, Some};
-ghost use Rattle.pas_profile.specs.Profiles.{IsPage, IsValid};
-ghost use Rattle.pas_profile.specs.declared.{profile.Profile.Profile, directory.Directory.Directory};
+ghost use Rattle.pas_profile.specs.{Profiles.{IsPage, IsValid}, declared.{profile.Profile.Profile, directory.Directory.Directory}};
 ghost use Rattle.pas_machine.specs.State.{backed_in, deed_in};
-ghost use Rattle.pas_steps.specs.{Lists.Legal, Lists.Whole, Lists.visible, States.profile_of, Views.usable_by_kind};
-ghost use Rattle.pas_steps.specs.declared.state.State.{State};
+ghost use Rattle.pas_steps.specs.{Lists.{Legal, Whole, visible}, States.profile_of, Views.usable_by_kind, declared.state.State.State};
 ghost use Rattle.pas_core.specs.Rights.{AllClear};
-ghost use Rattle.pas_report.specs.{Counts.AreDeedWords, Counts.marked_in, Counts.report_by_words, Reports.report_text};
-ghost use Rattle.pas_records.specs.{Marks.marks_after, Covered.is_covered};
-ghost use Rattle.pas_records.specs.Rests.{AreFreeOrCovered, AreStamped, HasWords, NobodyHasRights, NobodyHolds};
+ghost use Rattle.pas_report.specs.{Counts.{AreDeedWords, marked_in, report_by_words}, Reports.report_text};
+ghost use Rattle.pas_records.specs.{Marks.marks_after, Covered.is_covered, Rests.{AreFreeOrCovered, AreStamped, HasWords, NobodyHasRights, NobodyHolds}};
 
 /// Where the words of a region are those after a legal list of steps, each page's deed word is 0 or a directory's, and each page has the marks
 /// that the list left. Where besides each grain is free or covered by a live block, as when no actor holds one, and each page is stamped, the

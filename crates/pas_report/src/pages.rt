@@ -4,9 +4,8 @@ ghost use Rattle.arrayvec.specs.ArrayString.{array_string_len};
 ghost use Rattle.pas_profile.specs.{Directories.IsKind, Profiles.IsPage};
 ghost use Rattle.pas_profile.specs.declared.word.Word.TheVariants as Word;
 ghost use Rattle.pas_steps.specs.States.{profile_of, word_in};
-ghost use Rattle.pas_report.specs.Counts.{IsDeedWord, free_counted_on, live_counted_on, marked_in, page_by_words};
+ghost use Rattle.pas_report.specs.{Counts.{IsDeedWord, free_counted_on, live_counted_on, marked_in, page_by_words}, Reports.page_text};
 ghost use Rattle.pas_records.specs.Marks.{marks_of};
-ghost use Rattle.pas_report.specs.Reports.{page_text};
 
 use crate::counts::{free_on, live_on};
 use crate::marking::{Marks, names_of, page_marks};

@@ -2,7 +2,7 @@
 ghost use Rattle.std.specs.Prelude.{◌≡◌, ◌<◌, ◌≤◌, ◌+◌, ◌*◌, ◌^◌, ◌++◌};
 ghost use Rattle.arrayvec.specs.ArrayString.{array_string_len};
 ghost use Rattle.pas_steps.specs.States.{profile_of};
-ghost use Rattle.pas_report.specs.{Counts.AreCounted, Counts.totals_by_words, Counts.totals_counted, Totals.totals_text};
+ghost use Rattle.pas_report.specs.{Counts.{AreCounted, totals_by_words, totals_counted}, Totals.totals_text};
 
 use arrayvec::ArrayString;
 use pas_profile::{Word, read_life};

@@ -1,18 +1,13 @@
 -- A run of grains is given as a block.
 use Rattle.std.proofs.Common.{◌≡◌, ℕ, ◌+◌, ◌*◌, ◌/◌, ◌^◌, ◌<◌, ◌≤◌, Bool, true, false, if◌then◌else◌, [], ◌∷◌, Some, refl, ap, sym, ◌∙◌, subst, arith, inl}
-use Rattle.std.proofs.Common.{eq-eqb}
-use Rattle.std.proofs.lemmas.Bool.{and_from}
-use Rattle.pas_profile.specs.{Lives.turn_of, Profiles.IsPage, Profiles.IsDirectoryOf, Blocks.grain_of, Blocks.length_of}
-use Rattle.pas_bits.specs.Runs.{in_run}
-use Rattle.pas_profile.specs.declared.{directory.Directory.Directory, name.Block.Block, profile.Profile.Profile, word.Word.Word}
-use Rattle.pas_bits.proofs.Runs.{run_of, first_of_run}
-use Rattle.pas_steps.specs.{Agreement.Agreed, Allowed.IsBlockOf, Allowed.KnowsBearing, Allowed.MayGiveNow, Lists.Whole}
-use Rattle.pas_steps.specs.Calls.{Kept, Lost, later, grain_fate, freed}
-use Rattle.pas_steps.specs.Desks.{Standing, made, Makes, CanMake, CanCall, Adds}
-use Rattle.pas_steps.specs.Views.{View, Gives, Stays, holds, holds_on, knows_backed, known_life, KnowsDeed, is_unstamped}
-use Rattle.pas_steps.specs.declared.step.Step.TheVariants.{Look, Give}
-use Rattle.pas_steps.proofs.Adding.{adds_none, adds_step, can_step, room_left}
-use Rattle.pas_steps.proofs.{Frames.backed_holds, Calls.does_as, Calls.does_step, Calls.does_then, Frames.given_le, SpareRoom.Spares}
+use Rattle.std.proofs.{Common.eq-eqb, lemmas.Bool.and_from}
+use Rattle.pas_profile.specs.{Lives.turn_of, Profiles.{IsPage, IsDirectoryOf}, Blocks.{grain_of, length_of}, declared.directory.Directory.Directory}
+use Rattle.pas_profile.specs.declared.{name.Block.Block, profile.Profile.Profile, word.Word.Word}
+use Rattle.pas_bits.{specs.Runs.in_run, proofs.Runs.{run_of, first_of_run}}
+use Rattle.pas_steps.specs.{Agreement.Agreed, Allowed.{IsBlockOf, KnowsBearing, MayGiveNow}, Lists.Whole, Calls.{Kept, Lost, later, grain_fate, freed}}
+use Rattle.pas_steps.specs.{Desks.{Standing, made, Makes, CanMake, CanCall, Adds}, Views.{View, Gives, Stays, holds, holds_on, knows_backed, known_life}}
+use Rattle.pas_steps.{specs.{Views.{KnowsDeed, is_unstamped}, declared.step.Step.TheVariants.{Look, Give}}, proofs.Adding.{adds_none, adds_step, can_step}}
+use Rattle.pas_steps.proofs.{Adding.room_left, Frames.{backed_holds, given_le}, Calls.{does_as, does_step, does_then}, SpareRoom.Spares}
 use Rattle.pas_rights.specs.Gives.{in_piece, MayGive, block_of, give_steps, GaveRun, GivesRun}
 
 -- ---- what may be given

@@ -1,36 +1,24 @@
 -- Steps for each free word in turn, and readings that stand while the right is kept.
 use Rattle.std.proofs.Common.{◌≡◌, ℕ, zero, suc, ◌+◌, ◌*◌, ◌/◌, ◌%◌, ◌<◌, ◌≤◌, Bool, true, false, ◌||◌, List, [], ◌∷◌, ◌++◌, length, slice_index, inl, inr}
 use Rattle.std.proofs.Common.{refl, ap, sym, ◌∙◌, subst, arith, append_assoc, length-append, true≢false, ◌≢◌, ◌-◌, ◌^◌, ◌==◌, not, ◌&&◌, if◌then◌else◌, ◌⊎◌}
-use Rattle.std.proofs.Common.{MatchBool, eq-eqb, lt-ltb, Option, None, Some, ne_eqb, eqb-true}
-use Rattle.std.proofs.lemmas.Bool.{cases_eq, and_from, and_parts, not_from_false, false_from_ne_true, cases_Bool, MatchBool-at_false}
-use Rattle.pas_bits.specs.{Bits.has_bit, Masks.is_set, Masks.IsEmpty, Masks.HasMember}
-use Rattle.pas_profile.specs.declared.{profile.Profile.Profile, directory.Directory.Directory, directory.Kind.Kind, word.Word.Word}
-use Rattle.pas_bits.specs.declared.mask.Mask4.{Mask4}
-use Rattle.pas_steps.specs.{Agreement.Agreed, Past.Always, Past.Since, Past.Once, Clear.OwesNothing, Clear.IsClearOn}
-use Rattle.pas_steps.specs.Evidence.{KeptHere, Readings, ReadsFree, ShowsHere}
-use Rattle.pas_steps.specs.Frames.{GivesUp, KeepsRight, AreLooks, OnlyOn, IsOnPage, IsReturn, OnlyReturns}
-use Rattle.pas_steps.specs.Views.{View, has_right, all_ones, usable_by_kind, no_usable, holds, known_free, Way, Rests, had_after, known_deed, KnowsDeed}
-use Rattle.pas_steps.specs.Views.{ToOffer, owes_check, owes_hint, is_unstamped, examines}
-use Rattle.pas_steps.specs.Kinds.{Kinds, Offering, Parking, kind_of, place_of, is_in, apart, Only, LookFree, Claiming, returning}
-use Rattle.pas_steps.specs.declared.step.{Made.Made, Step.Step}
-use Rattle.pas_steps.specs.declared.step.Step.TheVariants.{Look, Offer, Park, TakeRight}
-use Rattle.pas_steps.proofs.Adding.{agreed_first, agreed_later, adds_step, adds_none, adds_call, adds_under}
-use Rattle.pas_steps.proofs.Apart.{in_apart, holds_same, rights_same, deeds_same, unstamped_same}
-use Rattle.pas_steps.proofs.{Frames.rights_stay, Frames.examined_on, Frames.returns_on, Past.always_both, Past.always_map, Past.once_later, Bits.all_below-from}
-use Rattle.pas_steps.proofs.{Flags.stays_set, Flags.ends_none}
-use Rattle.pas_rights.specs.Words.{each_word, words, full, ones}
-use Rattle.pas_rights.specs.{Puts.masked, Claims.Claims}
-use Rattle.pas_profile.specs.Directories.{IsKind, IsDirectory, deed_word_of, number_of}
-use Rattle.pas_profile.proofs.{Sizes.usable_grains_ge, Codecs.read-deed_word_of, Codecs.deed_word_of-positive}
-use Rattle.pas_bits.proofs.Words.{at_word, full_bit}
-use Rattle.pas_steps.specs.Desks.{AnyView, Standing, Makes, Adds, made}
-use Rattle.pas_rights.specs.Looks.{looks, HasUsable, HasNoUsable, IsAllFree, HasUsed, looks_until, AreUsed, is_free, HintsWhere, HintSteps, ReadsPage}
-use Rattle.pas_rights.specs.Looks.{ReadsUntilUsed}
-use Rattle.pas_rights.specs.Leaves.{ReoffersWhere, OfferSteps, ParkSteps, EndsLeave, LeaveSteps, LosesHere, MayLeave, Leaves}
-use Rattle.pas_rights.specs.Returns.{ReofferSteps, ReturnSteps, ReoffersPage, Returned, Settles}
-use Rattle.pas_rights.specs.declared.reading.Used.{Used}
-use Rattle.pas_steps.specs.Calls.{Kept, Gained, now, Fate, Lost, Does, ClearAfter, on_page}
+use Rattle.std.proofs.{Common.{MatchBool, eq-eqb, lt-ltb, Option, None, Some, ne_eqb, eqb-true}, lemmas.Bool.{cases_eq, and_from, and_parts, not_from_false}}
+use Rattle.std.proofs.lemmas.Bool.{false_from_ne_true, cases_Bool, MatchBool-at_false}
+use Rattle.pas_bits.{specs.{Bits.has_bit, Masks.{is_set, IsEmpty, HasMember}, declared.mask.Mask4.Mask4}, proofs.Words.{at_word, full_bit}}
+use Rattle.pas_profile.specs.{declared.{profile.Profile.Profile, directory.{Directory.Directory, Kind.Kind}, word.Word.Word}, Directories.{IsKind, IsDirectory}}
+use Rattle.pas_profile.{specs.Directories.{deed_word_of, number_of}, proofs.{Sizes.usable_grains_ge, Codecs.{read-deed_word_of, deed_word_of-positive}}}
+use Rattle.pas_steps.specs.{Agreement.Agreed, Past.{Always, Since, Once}, Clear.{OwesNothing, IsClearOn}, Evidence.{KeptHere, Readings, ReadsFree, ShowsHere}}
+use Rattle.pas_steps.specs.{Frames.{GivesUp, KeepsRight, AreLooks, OnlyOn, IsOnPage, IsReturn, OnlyReturns}, Views.{View, has_right, all_ones, usable_by_kind}}
+use Rattle.pas_steps.specs.Views.{no_usable, holds, known_free, Way, Rests, had_after, known_deed, KnowsDeed, ToOffer, owes_check, owes_hint, is_unstamped}
+use Rattle.pas_steps.specs.{Views.examines, Kinds.{Kinds, Offering, Parking, kind_of, place_of, is_in, apart, Only, LookFree, Claiming, returning}}
+use Rattle.pas_steps.specs.{declared.step.{Made.Made, Step.{Step, TheVariants.{Look, Offer, Park, TakeRight}}}, Desks.{AnyView, Standing, Makes, Adds, made}}
+use Rattle.pas_steps.{specs.Calls.{Kept, Gained, now, Fate, Lost, Does, ClearAfter, on_page}, proofs.Adding.{agreed_first, agreed_later, adds_step, adds_none}}
+use Rattle.pas_steps.proofs.{Adding.{adds_call, adds_under}, Apart.{in_apart, holds_same, rights_same, deeds_same, unstamped_same}, Frames.rights_stay}
+use Rattle.pas_steps.proofs.{Frames.{examined_on, returns_on}, Past.{always_both, always_map, once_later}, Bits.all_below-from, Flags.{stays_set, ends_none}}
 use Rattle.pas_steps.proofs.Calls.{does_on_page, does_as, does_returns, returns_are}
+use Rattle.pas_rights.specs.{Words.{each_word, words, full, ones}, Puts.masked, Claims.Claims, Looks.{looks, HasUsable, HasNoUsable, IsAllFree, HasUsed}}
+use Rattle.pas_rights.specs.{Looks.{looks_until, AreUsed, is_free, HintsWhere, HintSteps, ReadsPage, ReadsUntilUsed}, Leaves.{ReoffersWhere, OfferSteps}}
+use Rattle.pas_rights.specs.{Leaves.{ParkSteps, EndsLeave, LeaveSteps, LosesHere, MayLeave, Leaves}, Returns.{ReofferSteps, ReturnSteps, ReoffersPage}}
+use Rattle.pas_rights.specs.{Returns.{Returned, Settles}, declared.reading.Used.Used}
 
 -- ---- each word
 pub each_always : (P : Made → Type 0) (steps : ℕ → List Made) → ((word : ℕ) → Always (λ m before. P m) (steps word)) → (n : ℕ)

@@ -1,37 +1,26 @@
 -- The grains of a mask of one page, put back word by word.
 use Rattle.std.proofs.Common.{◌≡◌, ◌≢◌, ℕ, zero, suc, ◌<◌, ◌+◌, ◌/◌, ◌%◌, ◌≤◌, ◌==◌, nat_lt, Bool, true, false, ◌&&◌, ◌||◌, List, [], ◌∷◌, ◌++◌, length}
 use Rattle.std.proofs.Common.{slice_index, inl, inr, refl, ap, sym, ◌∙◌, subst, arith, append_assoc, true≢false, eqb-true, ne_eqb, lt-ltb, le-ltb, ◌*◌}
-use Rattle.std.proofs.Common.{if◌then◌else◌, add-one, append-nil, Option, length-append, MatchBool}
-use Rattle.std.proofs.lemmas.Bool.{cases_eq, and_parts, and_right, and_from, and_left, or_right, or_from, false_from_ne_true}
-use Rattle.std.proofs.{lemmas.Bool.Decides.nat_tests, Math.Bool.and_comm}
-use Rattle.pas_bits.specs.{Bits.has_bit, Masks.is_set, Masks.HasMember, Masks.IsEmpty}
-use Rattle.pas_bits.specs.declared.mask.Mask4.{Mask4}
-use Rattle.pas_bits.proofs.Words.{none_of_zero, full_bit, at_word}
-use Rattle.pas_steps.specs.Calls.{Calls, Does, put, Kept, Gained, grain_fate, Fate, Lost, later, ClearAfter}
-use Rattle.pas_steps.specs.{Effects.in_mask, InTurn.numbers_below, Desks.Standing, Desks.made, Desks.CanCall, Past.Once, Past.Always, Past.Since}
-use Rattle.pas_steps.specs.{Agreement.Agreed, Agreement.AgreesFree, Clear.IsClearOn}
-use Rattle.pas_steps.specs.Frames.{IsOnPage, OnlyOn, KeepsRight, GivesUp}
-use Rattle.pas_steps.specs.Kinds.{Putting, Only, is_in, kind_of, Taking, Kinds, LookFree, LookBacked, Unparking, Hinting, returning, place_of, apart}
-use Rattle.pas_steps.specs.Views.{View, Move, Puts, grain_move, held_after, holds, Gets, Stays, has_right, known_free, KnowsDeed}
-use Rattle.pas_steps.specs.declared.step.{Made.Made, Step.TheVariants.Take, Step.TheVariants.Look, Step.TheVariants.Offer}
-use Rattle.pas_steps.proofs.Apart.{unstamped_same, rights_same, only_both, only_within, holds_same, examines_same, in_apart}
-use Rattle.pas_steps.proofs.Called.{call_then, call_as, call_none, call_knows, next_call}
-use Rattle.pas_steps.proofs.{Adding.agreed_first, Adding.agreed_later, Adding.adds_under, Flags.ap_if, Frames.returns_on}
-use Rattle.pas_steps.proofs.Calls.{does_none, does_then, does_as, does_step, kept_first, returns_are}
-use Rattle.pas_steps.proofs.Sets.{put_both, put_as, put_nothing, both_fates, same_truth, kept_kept}
-use Rattle.pas_steps.proofs.Past.{in_turn_always, in_turn_length, once_earlier, once_later, always_both, always_map}
-use Rattle.pas_rights.specs.Puts.{masked, MayPut, WordPut, PutsBelow, PutsHere, MayPutWord, PutsWord, PutsMask}
-use Rattle.pas_rights.specs.PutsBack.{GivesDuly, giving_back, MayPutAndReturn, given_back, PutsAndReturns, MayPutAndLeave, put_and_left, PutsAndLeaves}
-use Rattle.pas_rights.specs.PutsBack.{BackSteps}
-use Rattle.pas_rights.specs.Words.{words, ones}
-use Rattle.pas_rights.specs.Leaves.{MayLeave, Leaves, ReoffersWhere, EndsLeave, LeaveSteps}
-use Rattle.pas_rights.specs.Looks.{looks_until, is_free, HintsWhere, looks, IsAllFree, HasUsed, HintSteps, ReadsAllFree, TakesNone}
+use Rattle.std.proofs.{Common.{if◌then◌else◌, add-one, append-nil, Option, length-append, MatchBool}, lemmas.Bool.{cases_eq, and_parts, and_right, and_from}}
+use Rattle.std.proofs.{lemmas.Bool.{and_left, or_right, or_from, false_from_ne_true, Decides.nat_tests}, Math.Bool.and_comm}
+use Rattle.pas_bits.{specs.{Bits.has_bit, Masks.{is_set, HasMember, IsEmpty}, declared.mask.Mask4.Mask4}, proofs.Words.{none_of_zero, full_bit, at_word}}
+use Rattle.pas_steps.specs.{Calls.{Calls, Does, put, Kept, Gained, grain_fate, Fate, Lost, later, ClearAfter}, Effects.in_mask, InTurn.numbers_below}
+use Rattle.pas_steps.specs.{Desks.{Standing, made, CanCall}, Past.{Once, Always, Since}, Agreement.{Agreed, AgreesFree}, Clear.IsClearOn, Frames.IsOnPage}
+use Rattle.pas_steps.specs.{Frames.{OnlyOn, KeepsRight, GivesUp}, Kinds.{Putting, Only, is_in, kind_of, Taking, Kinds, LookFree, LookBacked, Unparking}}
+use Rattle.pas_steps.specs.{Kinds.{Hinting, returning, place_of, apart}, Views.{View, Move, Puts, grain_move, held_after, holds, Gets, Stays, has_right}}
+use Rattle.pas_steps.specs.{Views.{known_free, KnowsDeed}, declared.step.{Made.Made, Step.TheVariants.{Take, Look, Offer}}, Evidence.{Readings, ReadsFree}}
+use Rattle.pas_steps.{specs.Evidence.{ShowsHere, KeptHere}, proofs.Apart.{unstamped_same, rights_same, only_both, only_within, holds_same, examines_same}}
+use Rattle.pas_steps.proofs.{Apart.in_apart, Called.{call_then, call_as, call_none, call_knows, next_call}, Adding.{agreed_first, agreed_later, adds_under}}
+use Rattle.pas_steps.proofs.{Flags.ap_if, Frames.returns_on, Calls.{does_none, does_then, does_as, does_step, kept_first, returns_are}, Sets.{put_both, put_as}}
+use Rattle.pas_steps.proofs.{Sets.{put_nothing, both_fates, same_truth, kept_kept}, Past.{in_turn_always, in_turn_length, once_earlier, once_later}}
+use Rattle.pas_steps.proofs.Past.{always_both, always_map}
+use Rattle.pas_rights.specs.{Puts.{masked, MayPut, WordPut, PutsBelow, PutsHere, MayPutWord, PutsWord, PutsMask}, PutsBack.{GivesDuly, giving_back}}
+use Rattle.pas_rights.specs.{PutsBack.{MayPutAndReturn, given_back, PutsAndReturns, MayPutAndLeave, put_and_left, PutsAndLeaves, BackSteps}, Words.words}
+use Rattle.pas_rights.specs.{Words.ones, Leaves.{MayLeave, Leaves, ReoffersWhere, EndsLeave, LeaveSteps}, Looks.{looks_until, is_free, HintsWhere, looks}}
+use Rattle.pas_rights.specs.{Looks.{IsAllFree, HasUsed, HintSteps, ReadsAllFree, TakesNone}, Takes.{word_take, takes, taken, GetsGrains, TakesMask}}
+use Rattle.pas_rights.{specs.{Returns.{ReofferSteps, ReturnSteps, Settles, Returned}, declared.reading.Used.Used}, proofs.Orders.{each_always, each_few}}
+use Rattle.pas_rights.proofs.Orders.{each_agreed, keeps_by, words_read, bit_of, or_none, looks_held, leave_lacks, until_only, looks_only}
 use Rattle.pas_profile.specs.declared.{profile.Profile.Profile, directory.Directory.Directory, word.Word.Word}
-use Rattle.pas_steps.specs.Evidence.{Readings, ReadsFree, ShowsHere, KeptHere}
-use Rattle.pas_rights.specs.Takes.{word_take, takes, taken, GetsGrains, TakesMask}
-use Rattle.pas_rights.proofs.Orders.{each_always, each_few, each_agreed, keeps_by, words_read, bit_of, or_none, looks_held, leave_lacks, until_only, looks_only}
-use Rattle.pas_rights.specs.Returns.{ReofferSteps, ReturnSteps, Settles, Returned}
-use Rattle.pas_rights.specs.declared.reading.Used.{Used}
 
 -- ---- one word
 none_in : (page word mask g : ℕ) → mask ≡ 0 → in_mask page word mask g ≡ false

@@ -1,10 +1,9 @@
 -- A run of grains is given as a block.
 use Rattle.std.specs.Prelude.{ℕ, ◌+◌, ◌*◌, ◌/◌, ◌^◌, ◌<◌, ◌≡◌, true, false, List, [], ◌∷◌}
-use Rattle.pas_profile.specs.Lives.{turn_of}
+use Rattle.pas_profile.specs.{Lives.turn_of, declared.{name.Block.Block, profile.Profile.Profile, word.Word.Word}}
 use Rattle.pas_bits.specs.Runs.{in_run}
-use Rattle.pas_profile.specs.declared.{name.Block.Block, profile.Profile.Profile, word.Word.Word}
-use Rattle.pas_steps.specs.{Allowed.KnowsBearing, Calls.Calls, Calls.Does, Calls.freed, Desks.Standing, Desks.made, Views.View, Views.holds}
-use Rattle.pas_steps.specs.declared.step.{Made.Made, Step.TheVariants.Look, Step.TheVariants.Give}
+use Rattle.pas_steps.specs.{Allowed.KnowsBearing, Calls.{Calls, Does, freed}, Desks.{Standing, made}, Views.{View, holds}, declared.step.Made.Made}
+use Rattle.pas_steps.specs.declared.step.Step.TheVariants.{Look, Give}
 
 -- the grain, a number of the region, is one of the n from this one of the page on
 abbrev pub in_piece : ℕ → ℕ → ℕ → ℕ → Type 0

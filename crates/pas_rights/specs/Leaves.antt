@@ -2,11 +2,9 @@
 use Rattle.std.specs.Prelude.{ℕ, ◌≤◌, ◌≡◌, Bool, true, false, List, [], ◌∷◌, ◌++◌, length, MatchBool}
 use Rattle.pas_bits.specs.declared.mask.Mask4.{Mask4}
 use Rattle.pas_profile.specs.declared.directory.Directory.{Directory}
-use Rattle.pas_steps.specs.{Calls.Calls, Calls.Lost, Desks.Standing, Desks.Adds, Desks.made, Frames.AreLooks, Frames.OnlyReturns, Frames.GivesUp, Past.Once}
-use Rattle.pas_steps.specs.{Views.View, Views.has_right, Views.KnowsDeed}
-use Rattle.pas_steps.specs.declared.step.{Made.Made, Step.TheVariants.Offer, Step.TheVariants.Park}
-use Rattle.pas_rights.specs.Looks.{looks, HasUsable, HasNoUsable, IsAllFree, HasUsed, HintsWhere}
-use Rattle.pas_rights.specs.{Returns.ReofferSteps, Returns.Settles, Words.words}
+use Rattle.pas_steps.specs.{Calls.{Calls, Lost}, Desks.{Standing, Adds, made}, Frames.{AreLooks, OnlyReturns, GivesUp}, Past.Once, Views.{View, has_right}}
+use Rattle.pas_steps.specs.{Views.KnowsDeed, declared.step.{Made.Made, Step.TheVariants.{Offer, Park}}}
+use Rattle.pas_rights.specs.{Looks.{looks, HasUsable, HasNoUsable, IsAllFree, HasUsed, HintsWhere}, Returns.{ReofferSteps, Settles}, Words.words}
 
 -- the page's deed is known, and the right is the actor's
 pub record MayLeave (page : ℕ) (directory : Directory) (v : View) : Type 0 where

@@ -1,13 +1,10 @@
 -- Looks at the free words of a page, and what they show; and the hint of a page that may be empty.
 use Rattle.std.specs.Prelude.{ℕ, ◌<◌, ◌≡◌, ◌≢◌, Bool, true, false, ◌⊎◌, List, [], ◌∷◌, Option, None, Some, MatchOption}
-use Rattle.pas_bits.specs.declared.mask.Mask4.{Mask4}
-use Rattle.pas_bits.specs.{Masks.is_set, Masks.AllSetBelow, Bits.has_bit}
+use Rattle.pas_bits.specs.{declared.mask.Mask4.Mask4, Masks.{is_set, AllSetBelow}, Bits.has_bit}
 use Rattle.pas_profile.specs.declared.{directory.Directory.Directory, word.Word.Word}
-use Rattle.pas_steps.specs.Desks.{Standing, AnyView, Adds, made}
-use Rattle.pas_steps.specs.{Past.Since, Views.usable_by_kind, Views.all_ones}
-use Rattle.pas_steps.specs.declared.step.{Made.Made, Step.TheVariants.Look, Step.TheVariants.Take, Step.TheVariants.Hint}
-use Rattle.pas_rights.specs.Words.{each_word, words, ones}
-use Rattle.pas_rights.specs.declared.reading.Used.{Used}
+use Rattle.pas_steps.specs.{Desks.{Standing, AnyView, Adds, made}, Past.Since, Views.{usable_by_kind, all_ones}, declared.step.Made.Made}
+use Rattle.pas_steps.specs.declared.step.Step.TheVariants.{Look, Take, Hint}
+use Rattle.pas_rights.specs.{Words.{each_word, words, ones}, declared.reading.Used.Used}
 
 -- ---- looks
 -- a look at each free word below n of the page, with these answers

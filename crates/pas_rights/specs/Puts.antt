@@ -1,10 +1,8 @@
 -- Grains of one page that are put back.
 use Rattle.std.specs.Prelude.{ℕ, ◌/◌, ◌%◌, ◌≤◌, ◌≡◌, ◌≢◌, ◌==◌, ◌⊎◌, Bool, true, false, ◌&&◌, List, [], ◌∷◌, length, slice_index}
-use Rattle.pas_bits.specs.declared.mask.Mask4.{Mask4}
-use Rattle.pas_bits.specs.Masks.{is_set}
-use Rattle.pas_steps.specs.{Calls.Calls, Calls.Does, Calls.put, Desks.Standing, Desks.made, Effects.in_mask, Frames.OnlyOn, InTurn.InTurn, InTurn.numbers_below}
-use Rattle.pas_steps.specs.{Kinds.Putting, Kinds.Only, Views.View, Views.holds, Views.is_unstamped}
-use Rattle.pas_steps.specs.declared.step.{Made.Made, Step.TheVariants.Put}
+use Rattle.pas_bits.specs.{declared.mask.Mask4.Mask4, Masks.is_set}
+use Rattle.pas_steps.specs.{Calls.{Calls, Does, put}, Desks.{Standing, made}, Effects.in_mask, Frames.OnlyOn, InTurn.{InTurn, numbers_below}, Kinds.Putting}
+use Rattle.pas_steps.specs.{Kinds.Only, Views.{View, holds, is_unstamped}, declared.step.{Made.Made, Step.TheVariants.Put}}
 
 -- the grain, a number of the region, is one of the mask's on the page
 abbrev pub masked : ℕ → Mask4 → ℕ → Bool

@@ -1,15 +1,10 @@
 -- Grains of a page that are put back, and what follows: the page is kept or left.
 use Rattle.std.specs.Prelude.{ℕ, ◌≤◌, ◌≡◌, ◌==◌, ◌⊎◌, Bool, true, false, if◌then◌else◌, List, [], ◌∷◌, ◌++◌, length}
 use Rattle.pas_profile.specs.declared.directory.Directory.{Directory}
-use Rattle.pas_bits.specs.declared.mask.Mask4.{Mask4}
-use Rattle.pas_bits.specs.Masks.{IsEmpty, HasMember}
-use Rattle.pas_steps.specs.{Agreement.Agreed, Clear.IsClearOn, Desks.Standing, Frames.OnlyOn, Frames.KeepsRight, Past.Once}
-use Rattle.pas_steps.specs.Calls.{Calls, Effect, Kept, Lost, Does, freed}
-use Rattle.pas_steps.specs.Kinds.{Kinds, Taking, Putting, Only, returning}
-use Rattle.pas_steps.specs.Views.{View, holds, has_right, KnowsDeed}
-use Rattle.pas_steps.specs.declared.step.Made.{Made}
-use Rattle.pas_rights.specs.{Leaves.LeaveSteps, Leaves.LosesHere, Looks.HintsEmpty, Returns.ReturnSteps}
-use Rattle.pas_rights.specs.Puts.{masked, MayPut, PutsBelow, PutsTaken}
+use Rattle.pas_bits.specs.{declared.mask.Mask4.Mask4, Masks.{IsEmpty, HasMember}}
+use Rattle.pas_steps.specs.{Agreement.Agreed, Clear.IsClearOn, Desks.Standing, Frames.{OnlyOn, KeepsRight}, Past.Once, Calls.{Calls, Effect, Kept, Lost, Does}}
+use Rattle.pas_steps.specs.{Calls.freed, Kinds.{Kinds, Taking, Putting, Only, returning}, Views.{View, holds, has_right, KnowsDeed}, declared.step.Made.Made}
+use Rattle.pas_rights.specs.{Leaves.{LeaveSteps, LosesHere}, Looks.HintsEmpty, Returns.ReturnSteps, Puts.{masked, MayPut, PutsBelow, PutsTaken}}
 
 -- what is done where grains are put back, and where some were taken before
 abbrev pub giving_back : Kinds

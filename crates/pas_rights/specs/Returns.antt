@@ -2,12 +2,9 @@
 use Rattle.std.specs.Prelude.{ℕ, ◌%◌, ◌≤◌, ◌≡◌, true, false, ◌⊎◌, List, [], ◌∷◌, ◌++◌, Option, length}
 use Rattle.pas_bits.specs.Bits.{has_bit}
 use Rattle.pas_profile.specs.declared.directory.Directory.{Directory}
-use Rattle.pas_steps.specs.Calls.{Calls, Does, Fate, Kept, on_page}
-use Rattle.pas_steps.specs.{Clear.OwesNothing, Clear.IsClearOn, Desks.Standing, Desks.Adds, Desks.made, Frames.OnlyReturns}
-use Rattle.pas_steps.specs.Views.{View, KnowsDeed, is_unstamped, examines}
-use Rattle.pas_steps.specs.declared.step.{Made.Made, Step.TheVariants.Offer, Step.TheVariants.Unpark}
-use Rattle.pas_rights.specs.Looks.{looks_until, AreUsed, is_free, HintsWhere}
-use Rattle.pas_rights.specs.declared.reading.Used.{Used}
+use Rattle.pas_steps.specs.{Calls.{Calls, Does, Fate, Kept, on_page}, Clear.{OwesNothing, IsClearOn}, Desks.{Standing, Adds, made}, Frames.OnlyReturns}
+use Rattle.pas_steps.specs.{Views.{View, KnowsDeed, is_unstamped, examines}, declared.step.{Made.Made, Step.TheVariants.{Offer, Unpark}}}
+use Rattle.pas_rights.specs.{Looks.{looks_until, AreUsed, is_free, HintsWhere}, declared.reading.Used.Used}
 
 -- The right of the page has this fate, and nothing is owed on the page. All else is as it was: a page that was unstamped or examined still is, so
 -- the page is clear where it was neither.

@@ -1,11 +1,9 @@
 -- Grains of one page that are taken.
 use Rattle.std.specs.Prelude.{ℕ, ◌≡◌, ◌==◌, Bool, true, false, ◌&&◌, if◌then◌else◌, List, [], ◌∷◌}
-use Rattle.pas_bits.specs.declared.mask.Mask4.{Mask4}
-use Rattle.pas_bits.specs.Masks.{is_set}
-use Rattle.pas_steps.specs.Calls.{Calls, Effect, Kept, Gained, Does}
-use Rattle.pas_steps.specs.{Desks.Standing, Desks.Adds, Desks.made, Views.View, Views.holds, Views.has_right}
-use Rattle.pas_steps.specs.declared.step.{Made.Made, Step.TheVariants.Take}
-use Rattle.pas_rights.specs.{Puts.masked, Words.each_word, Words.words}
+use Rattle.pas_bits.specs.{declared.mask.Mask4.Mask4, Masks.is_set}
+use Rattle.pas_steps.specs.{Calls.{Calls, Effect, Kept, Gained, Does}, Desks.{Standing, Adds, made}, Views.{View, holds, has_right}, declared.step.Made.Made}
+use Rattle.pas_steps.specs.declared.step.Step.TheVariants.{Take}
+use Rattle.pas_rights.specs.{Puts.masked, Words.{each_word, words}}
 
 abbrev pub HasRight : ℕ → View → Type 0
 HasRight page v = has_right v page ≡ true

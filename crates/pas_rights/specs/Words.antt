@@ -1,8 +1,7 @@
 -- What is done to the four free words of a page, one after the other.
 use Rattle.std.specs.Prelude.{ℕ, zero, suc, List, [], ◌∷◌, ◌++◌, slice_index}
 use Rattle.pas_bits.specs.declared.mask.Mask4.{Mask4}
-use Rattle.pas_steps.specs.Views.{all_ones}
-use Rattle.pas_steps.specs.declared.step.Made.{Made}
+use Rattle.pas_steps.specs.{Views.all_ones, declared.step.Made.Made}
 
 -- these steps for each free word below n, the lowest first
 abbrev pub each_word : (ℕ → List Made) → ℕ → List Made

@@ -2,7 +2,7 @@
 ghost use Rattle.std.specs.Prelude.{◌≡◌, ◌<◌, ℕ, MatchBool};
 ghost use Rattle.pas_bits.specs.Masks.{is_set};
 ghost use Rattle.pas_profile.specs.{Directories.IsKind, Profiles.IsPage};
-ghost use Rattle.pas_steps.specs.{Views.usable_by_kind, Desks.AnyView, Desks.CanCall};
+ghost use Rattle.pas_steps.specs.{Views.usable_by_kind, Desks.{AnyView, CanCall}};
 ghost use Rattle.pas_rights.specs.Looks.{HasUsable, HasNoUsable, IsAllFree, HasUsed, Hinted};
 
 use pas_bits::Mask4;

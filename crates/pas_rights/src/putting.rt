@@ -2,8 +2,8 @@
 ghost use Rattle.std.specs.Prelude.{◌≡◌, ◌<◌};
 ghost use Rattle.pas_profile.specs.Profiles.{IsPage, IsDirectoryOf};
 ghost use Rattle.pas_steps.specs.Desks.{CanCall};
-ghost use Rattle.pas_rights.specs.Puts.{masked, MayPut, PutsMask, MayPutWord, PutsWord};
-ghost use Rattle.pas_rights.specs.PutsBack.{MayPutAndReturn, PutsAndReturns, MayPutAndLeave, PutsAndLeaves};
+ghost use Rattle.pas_rights.specs.{Puts.{masked, MayPut, PutsMask, MayPutWord, PutsWord}, PutsBack.{MayPutAndReturn, PutsAndReturns, MayPutAndLeave}};
+ghost use Rattle.pas_rights.specs.PutsBack.{PutsAndLeaves};
 
 use crate::leaving::leave;
 use crate::returning::returned;

@@ -5,28 +5,22 @@ use Rattle.pas_same_text.proofs.Common.{Profile, Word, all_both, read-deed_word_
 use Rattle.pas_same_text.proofs.Common.{Op, Plan, plan_actors, IsKnown, IsKept, IsThreadOf, IsActOf, AreSeated, IsSame, IsBetween, none_of_zero, deed_in, Whole}
 use Rattle.pas_same_text.proofs.Common.{word_after, visible, Legal, word_of_deed, IsRightInOnePlace, deed_of, directory_is_of, right_in_one_place, legal_before}
 use Rattle.pas_same_text.proofs.Common.{Marked, Progress, indexes_after, AreAtRest, phases_of, region_of, keepers_of, World, cache_in, each, opened, acts_on}
-use Rattle.pas_same_text.proofs.Common.{replayed, order_text, text_of, Indexes, no_ranges, Record}
+use Rattle.pas_same_text.proofs.{Common.{replayed, order_text, text_of, Indexes, no_ranges, Record}, EntrySteps.read_deed, CacheLists.{act_many, start_indexes}}
+use Rattle.pas_same_text.proofs.{OneAct.act_same, SeatedActs.{seated_next, stamped_kept}, KeepersRest.between_from, UsableBlocks.act_usable}
+use Rattle.pas_same_text.{proofs.TextOfBytes.{bytes_told, region_same}, specs.Known.{IsAdmittedWhat, IsGuardedWhat, IsPlanned, ArePlanned, IsCarried, AreKnown}}
+use Rattle.pas_same_text.specs.{Acts.IsListed, Told.IsTold, State.no_cache, Reports.{offered_by, parked_by}}
 use Rattle.std.proofs.Common.{◌≡◌, ◌≢◌, ℕ, zero, suc, ◌+◌, ◌<◌, ◌≤◌, Bool, List, [], ◌∷◌, ◌++◌, map, Option, Some, MatchOption, sym, arith, not, false, length}
 use Rattle.std.proofs.Common.{◌-◌, codes, None, inl, inr, refl, ap, ◌∙◌, subst}
 use Rattle.pas_profile.proofs.Sizes.{large_for}
 use Rattle.pas_trace.specs.Acts.{Wakes, Ends, Lowers, region_of, threads_of, keepers_of, acts_of_plan, is_active, threads_where, active_threads, idle_threads}
-use Rattle.pas_trace.specs.Acts.{acts_of_chore, acts_of_work, acts_of_op, acts_of_ops, phase_acts, close_acts, acts_from, acts_of}
-use Rattle.pas_trace.specs.Asked.{of_task, request_of, keeper_of, keeper_in}
-use Rattle.pas_trace.specs.EveryPlan.{all_ops, operations_of, IsActorBy, IsActorOf, IsSoundTask, IsSoundWork, AreSound, AreKept}
-use Rattle.pas_trace.specs.Plans.{ops_of}
-use Rattle.pas_trace.specs.declared.plan.{Chore.Chore, Task.Task, Work.Work}
-use Rattle.pas_trace.proofs.EveryPlan.{every_plan}
-use Rattle.pas_same_text.specs.Known.{IsAdmittedWhat, IsGuardedWhat, IsPlanned, ArePlanned, IsCarried, AreKnown}
-use Rattle.pas_same_text.specs.{Acts.IsListed, Told.IsTold, State.no_cache, Reports.offered_by, Reports.parked_by}
+use Rattle.pas_trace.specs.{Acts.{acts_of_chore, acts_of_work, acts_of_op, acts_of_ops, phase_acts, close_acts, acts_from, acts_of}, Asked.of_task}
+use Rattle.pas_trace.specs.{Asked.{request_of, keeper_of, keeper_in}, EveryPlan.{all_ops, operations_of, IsActorBy, IsActorOf, IsSoundTask, IsSoundWork}}
+use Rattle.pas_trace.{specs.{EveryPlan.{AreSound, AreKept}, Plans.ops_of, declared.plan.{Chore.Chore, Task.Task, Work.Work}}, proofs.EveryPlan.every_plan}
 use Rattle.pas_core.specs.Rights.{parked_bit}
 use Rattle.pas_report.specs.Reports.{machine_pages, report_text}
-use Rattle.pas_answers.specs.{Indexes.indexes_after_all, Reaching.Reaches, Rests.AllAtRest, Ways.InOrder}
-use Rattle.pas_answers.specs.Replays.{at_start, threads_of, acts_of_plan, IsReplay}
-use Rattle.pas_same_text.proofs.{EntrySteps.read_deed, CacheLists.act_many, CacheLists.start_indexes, OneAct.act_same, SeatedActs.seated_next}
-use Rattle.pas_same_text.proofs.{SeatedActs.stamped_kept, KeepersRest.between_from, UsableBlocks.act_usable, TextOfBytes.bytes_told, TextOfBytes.region_same}
-use Rattle.pas_answers.proofs.Reached.{was_so}
-use Rattle.pas_answers.proofs.EachAct.{all_front, all_back, all_of, all_of_chore}
-use Rattle.pas_records.specs.{Lines.lines_of, Marks.marks_after, Marks.offered_after, Rests.AreTrueMarks}
+use Rattle.pas_answers.specs.{Indexes.indexes_after_all, Reaching.Reaches, Rests.AllAtRest, Ways.InOrder, Replays.{at_start, threads_of, acts_of_plan}}
+use Rattle.pas_answers.{specs.Replays.IsReplay, proofs.{Reached.was_so, EachAct.{all_front, all_back, all_of, all_of_chore}}}
+use Rattle.pas_records.specs.{Lines.lines_of, Marks.{marks_after, offered_after}, Rests.AreTrueMarks}
 
 -- ---- several numbers, and acts of each of several actors
 all_from : (P : ℕ → Type 0) (k n : ℕ) → ((j : ℕ) → k ≤ j → j < k + n → P j) → AllByRecursion P (numbers_from k n)

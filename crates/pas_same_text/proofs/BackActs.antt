@@ -3,17 +3,14 @@ use Rattle.std.proofs.Common.{◌≡◌, ℕ, ◌+◌, ◌≤◌, nat_le, Bool, 
 use Rattle.std.proofs.Common.{sym, ◌∙◌, subst, append_assoc, arith, append-nil, eq-eqb, ◌==◌}
 use Rattle.pas_trace.specs.declared.plan.What.TheVariants.{Flush, Stop}
 use Rattle.pas_answers.specs.Answers.{suits, IsFlushed, after_stop}
-use Rattle.pas_same_text.specs.{State.names_it, Passes.stops_idle}
-use Rattle.pas_same_text.proofs.CacheLists.{same_own, same_with, same_again, same_many, flushes_keep}
-use Rattle.pas_same_text.proofs.StopActs.{flush_same, stop_same}
-use Rattle.pas_same_text.proofs.SmallActs.{unchanged, pages_next, says_same, cache_state, after_with, said_same, page_inside, freed_is, refused_same}
-use Rattle.pas_same_text.proofs.SmallActs.{freed_same, asks, name_freed}
-use Rattle.pas_same_text.proofs.Common.{false≢true, nat_tests, IsValid, Block, Name, Profile, events_by, part, visible, View, Made, Entry, TakesEntry}
-use Rattle.pas_same_text.proofs.Common.{EmptiesFull, Cached, Guard, Record, Said as TheSaid, Said, Act, IsThread, Free, FreeSized, Raw, RawSized, Progress}
-use Rattle.pas_same_text.proofs.Common.{Named, named, Answer, having, IsRemadeBy, IsFreed, IsFreedBy, IsStopped, standing_for, records_of, with_records}
-use Rattle.pas_same_text.proofs.Common.{with_steps, after_answer, room_noted, with_cache as with_cached, World, Cache, cache_of, set_cache, log_of, says}
-use Rattle.pas_same_text.proofs.Common.{remakes, IsSame, IsSameCache, adds, frees, frees_named, flushes, stops, IsResting, IsBetween, IsTaken, AreBlocksUsable}
-use Rattle.pas_same_text.proofs.Common.{HasUsableBlocks, StaysSameWhere}
+use Rattle.pas_same_text.{specs.{State.names_it, Passes.stops_idle}, proofs.CacheLists.{same_own, same_with, same_again, same_many, flushes_keep}}
+use Rattle.pas_same_text.proofs.{StopActs.{flush_same, stop_same}, SmallActs.{unchanged, pages_next, says_same, cache_state, after_with, said_same}}
+use Rattle.pas_same_text.proofs.{SmallActs.{page_inside, freed_is, refused_same, freed_same, asks, name_freed}, Common.{false≢true, nat_tests, IsValid, Block}}
+use Rattle.pas_same_text.proofs.Common.{Name, Profile, events_by, part, visible, View, Made, Entry, TakesEntry, EmptiesFull, Cached, Guard, Record}
+use Rattle.pas_same_text.proofs.Common.{Said as TheSaid, Said, Act, IsThread, Free, FreeSized, Raw, RawSized, Progress, Named, named, Answer, having}
+use Rattle.pas_same_text.proofs.Common.{IsRemadeBy, IsFreed, IsFreedBy, IsStopped, standing_for, records_of, with_records, with_steps, after_answer, room_noted}
+use Rattle.pas_same_text.proofs.Common.{with_cache as with_cached, World, Cache, cache_of, set_cache, log_of, says, remakes, IsSame, IsSameCache, adds, frees}
+use Rattle.pas_same_text.proofs.Common.{frees_named, flushes, stops, IsResting, IsBetween, IsTaken, AreBlocksUsable, HasUsableBlocks, StaysSameWhere}
 
 -- ---- a flush, and a stop
 module _ {f : Profile} {k : ℕ} {act : Act} {p p' : Progress} {w : World} (usable : HasUsableBlocks p) (thread : IsThread f k) (listed : k ≤ length w.caches)

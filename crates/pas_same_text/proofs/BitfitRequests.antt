@@ -6,13 +6,10 @@ use Rattle.pas_core.proofs.OneActor.{fit_entry, free_shown}
 use Rattle.pas_search.specs.Allocates.{IsGiven}
 use Rattle.pas_bitfit.specs.Runs.{fewer_runs, run_at, runs as run_choice}
 use Rattle.pas_cache.proofs.Routes.{bitfit_room, may_search_bitfit}
-use Rattle.pas_same_text.specs.Runs.{bitfit_of, gives_place, places}
-use Rattle.pas_same_text.proofs.{PlacesFit.bitfit_fits, PlacesFit.lowest_is, CacheLists.same_kept, CacheLists.kept_at, SmallActs.after_with, SmallActs.asks}
-use Rattle.pas_same_text.proofs.{Pieces.has_same, RunsFound.shown, RunsFound.shown_rest, SearchedPages.refused_same, SearchedPages.find_none}
-use Rattle.pas_same_text.proofs.{SearchedPages.refused_to}
-use Rattle.pas_same_text.proofs.GivenBlocks.{GivesBlock, page_chosen, page_ready, page_given}
-use Rattle.pas_same_text.proofs.CachedSlots.{HasAsked, answer_reached, by_route, request_taken}
-use Rattle.pas_same_text.proofs.RestingPages.{open_unguarded, had_open, owned_is, no_word}
+use Rattle.pas_same_text.{specs.Runs.{bitfit_of, gives_place, places}, proofs.{PlacesFit.{bitfit_fits, lowest_is}, CacheLists.{same_kept, kept_at}}}
+use Rattle.pas_same_text.proofs.{SmallActs.{after_with, asks}, Pieces.has_same, RunsFound.{shown, shown_rest}, SearchedPages.{refused_same, find_none}}
+use Rattle.pas_same_text.proofs.{SearchedPages.refused_to, GivenBlocks.{GivesBlock, page_chosen, page_ready, page_given}, CachedSlots.HasAsked}
+use Rattle.pas_same_text.proofs.{CachedSlots.{answer_reached, by_route, request_taken}, RestingPages.{open_unguarded, had_open, owned_is, no_word}}
 use Rattle.pas_same_text.proofs.Common.{refused_told, IsRefused, true_from_ne_false, address_of, false_from_ne_true, false≢true, in_run, to_run, deed_word_of}
 use Rattle.pas_same_text.proofs.Common.{IsAdmitted, IsDirectoryOf, route_in, room_in, is_shared, kind_of_route, directory_for, Directory, Route, Event, NoRoom}
 use Rattle.pas_same_text.proofs.Common.{Block, Profile, deed_in, Agreed, triples, events_by, Readings, View, has_right, known_deed, part, Legal, Made}

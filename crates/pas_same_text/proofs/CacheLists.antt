@@ -3,22 +3,20 @@ use Rattle.std.proofs.Common.{◌≡◌, ℕ, ◌<◌, ◌==◌, Bool, true, fal
 use Rattle.std.proofs.Common.{◌∙◌, subst, arith, eq-eqb, eqb-true, ne_eqb, ◌-◌, ◌≤◌, ◌≢◌, length, None, append-nil, nat_lt, option_to_list, suc, take, zero}
 use Rattle.std.proofs.Common.{◌+◌, ◌*◌, ◌⊎◌, All, ◌/◌, map}
 use Rattle.pas_cache.specs.Locals.{is_for as is_for_slots}
-use Rattle.pas_same_text.specs.{State.with_cache, Order.operates, Acts.KeepsIndexes}
+use Rattle.pas_same_text.{specs.{State.with_cache, Order.operates, Acts.KeepsIndexes}, proofs.Tests.{IsFound, found, passed, any_filtered, filtered_any}}
+use Rattle.pas_same_text.proofs.{Tests.on_page, Common.{take_none, nat_tests, same_Some, none-some, reverse_onto, All-head, All-tail, list_any-append}}
+use Rattle.pas_same_text.proofs.Common.{eqb-false, false≢true, or_cases, or_left, false_from_ne_true, or_right, AllByRecursion, find, flat_map, list_any}
+use Rattle.pas_same_text.proofs.Common.{filter, is_set, IsLowestSet, in_run, Slots, IsWithoutSlot, Cached, local_for, others_than, IsLocal, any_covers, covers}
+use Rattle.pas_same_text.proofs.Common.{Local, Cache, cache_in, is_for, others, is_cached, IsSameLocal, AreSameLocals, has_number, IsRising, IsSameCache}
+use Rattle.pas_same_text.proofs.Common.{AreSameCaches, Profile, IsThread, Caches, with_cache as with_cached, Settled, noted_after, noted_for, EndedRun, run_of}
+use Rattle.pas_same_text.proofs.Common.{to_run, class_grains, IsClass, same_truth, View, start_of, start_at, start_below, Directory, Event, Block, Route}
+use Rattle.pas_same_text.proofs.Common.{backed_in, sized_entry, entry_of, Entry, Record, Said, World, each, shows, says, cache_of, locals_of, log_of, set_cache}
+use Rattle.pas_same_text.proofs.Common.{set_log, is_unowned, minds, indexes_run, IsTaken, HandsOnOwn, some_of, deeds, backs, readies, large_of, is_run}
+use Rattle.pas_same_text.proofs.Common.{deeds_run, serves_pages, gives_up, gives_up_first, gives_first, fetches, makes_place, serves_class_by, ends, flushes}
+use Rattle.pas_same_text.proofs.Common.{stops, frees, frees_what, route_in, room_in, Progress, standing_for, Act, numbers_from, What, lowers, are_bare, raises}
+use Rattle.pas_same_text.proofs.Common.{raises_from, serves, acts_on, opened, Indexes, no_ranges, indexes_after, runs, Raised}
 use Rattle.pas_segregated.specs.Masks.{AreStarts}
-use Rattle.pas_same_text.proofs.Tests.{IsFound, found, passed, any_filtered, filtered_any, on_page}
-use Rattle.pas_same_text.proofs.Common.{take_none, nat_tests, same_Some, none-some, reverse_onto, All-head, All-tail, list_any-append, eqb-false, false≢true}
-use Rattle.pas_same_text.proofs.Common.{or_cases, or_left, false_from_ne_true, or_right, AllByRecursion, find, flat_map, list_any, filter, is_set, IsLowestSet}
-use Rattle.pas_same_text.proofs.Common.{in_run, Slots, IsWithoutSlot, Cached, local_for, others_than, IsLocal, any_covers, covers, Local, Cache, cache_in}
-use Rattle.pas_same_text.proofs.Common.{is_for, others, is_cached, IsSameLocal, AreSameLocals, has_number, IsRising, IsSameCache, AreSameCaches, Profile}
-use Rattle.pas_same_text.proofs.Common.{IsThread, Caches, with_cache as with_cached, Settled, noted_after, noted_for, EndedRun, run_of, to_run, class_grains}
-use Rattle.pas_same_text.proofs.Common.{IsClass, same_truth, View, start_of, start_at, start_below, Directory, Event, Block, Route, backed_in, sized_entry}
-use Rattle.pas_same_text.proofs.Common.{entry_of, Entry, Record, Said, World, each, shows, says, cache_of, locals_of, log_of, set_cache, set_log, is_unowned}
-use Rattle.pas_same_text.proofs.Common.{minds, indexes_run, IsTaken, HandsOnOwn, some_of, deeds, backs, readies, large_of, is_run, deeds_run, serves_pages}
-use Rattle.pas_same_text.proofs.Common.{gives_up, gives_up_first, gives_first, fetches, makes_place, serves_class_by, ends, flushes, stops, frees, frees_what}
-use Rattle.pas_same_text.proofs.Common.{route_in, room_in, Progress, standing_for, Act, numbers_from, What, lowers, are_bare, raises, raises_from, serves}
-use Rattle.pas_same_text.proofs.Common.{acts_on, opened, Indexes, no_ranges, indexes_after, runs, Raised}
-use Rattle.pas_large.specs.declared.span.Span.{Span}
-use Rattle.pas_large.specs.Doors.{cut_in}
+use Rattle.pas_large.specs.{declared.span.Span.Span, Doors.cut_in}
 use Rattle.pas_answers.specs.Indexes.{request_by, after_request, after_operation, with_noted}
 
 -- ---- looked up

@@ -7,13 +7,11 @@ use Rattle.pas_same_text.proofs.Common.{Request, Progress, Answer, named, having
 use Rattle.pas_same_text.proofs.Common.{World, Local, cache_of, locals_of, serves, IsAsked, address_on, is_free, is_offered, IsSame, HasSame, IsSameCache}
 use Rattle.pas_same_text.proofs.Common.{IsSameLocal, has_number, IsBetween, IsTaken, StaysSameWhere, false≢true, none-some, find, HasMember, IsLowestSet}
 use Rattle.pas_same_text.proofs.Common.{gives_in, Made, Look, Give, eligible_bit, runs, Slots, GivesSlot, IsWithoutSlot, Cached, local_for, others_than, Record}
-use Rattle.pas_same_text.proofs.Common.{is_for, others, gives_first, serves_class, same_truth}
+use Rattle.pas_same_text.proofs.{Common.{is_for, others, gives_first, serves_class, same_truth}, SmallActs.{after_with, asks, records_next}}
+use Rattle.pas_same_text.proofs.{FreeGrains.free_same, GivenBack.each_same, Tests.{and_first, and_second}, CacheLists.{same_with, Finds, found_same}}
+use Rattle.pas_same_text.proofs.{CacheLists.{others_same, last_same, slot_given}, RestingPages.{is_open, had_open, bit_offered, offered_bit}}
 use Rattle.pas_same_text.specs.Acts.{HasCachedSlot}
-use Rattle.pas_same_text.proofs.{SmallActs.after_with, SmallActs.asks, SmallActs.records_next, FreeGrains.free_same, GivenBack.each_same, Tests.and_first}
-use Rattle.pas_same_text.proofs.{Tests.and_second}
 use Rattle.pas_cache.specs.Locals.{is_for as is_for_slots}
-use Rattle.pas_same_text.proofs.CacheLists.{same_with, Finds, found_same, others_same, last_same, slot_given}
-use Rattle.pas_same_text.proofs.RestingPages.{is_open, had_open, bit_offered, offered_bit}
 
 -- Thread k asks for r after p, where the text's state is w, and is answered by a. All actors are at rest before and after it.
 pub record HasAsked (f : Profile) (k : ℕ) (r : Request) (p : Progress) (a : Answer) (w : World) : Type 0 where

@@ -4,17 +4,13 @@ use Rattle.std.proofs.Common.{length, ◌≡◌, ℕ, ◌+◌, ◌/◌, ◌%◌,
 use Rattle.std.proofs.Common.{inl, inr, refl, ap, sym, ◌∙◌, subst, append_assoc, arith, append-nil, true≢false, eq-eqb, eqb-true, Err}
 use Rattle.pas_steps.proofs.{Frames.right_of_own, Apart.deeds_same}
 use Rattle.pas_segregated.specs.Refills.{GivesSlots, GetsSlots}
-use Rattle.pas_cache.specs.Serves.{took_in}
-use Rattle.pas_same_text.specs.Classes.{local_on}
-use Rattle.pas_same_text.proofs.{PlacesFit.class_fits, PlacesFit.read_unguarded, SmallActs.after_with, SmallActs.asks, MadePlace.all_left}
-use Rattle.pas_same_text.proofs.{TakenSince.shared_row, TakenSince.right_kept, TakenSince.exclusive_free, TakenSlots.all_taken, TakenSlots.row_taken}
-use Rattle.pas_same_text.proofs.{TakenSlots.slots_rise, Tests.and_first, Tests.or_none, Pieces.has_same, RunsFound.shown, RunsFound.shown_rest, MadePlace.up_to}
-use Rattle.pas_same_text.proofs.FetchedClasses.{HasPlace, may_fetch, class_served_by, fetched_so, class_refused, IsFetched, with_place, place_fetched}
-use Rattle.pas_same_text.proofs.FetchedClasses.{text_fetched, fetch_between, fetch_carried}
-use Rattle.pas_same_text.proofs.CachedSlots.{text_locals, HasHead, head_of, cached_answered, HasAsked, answer_reached, request_taken}
-use Rattle.pas_same_text.proofs.GivenBlocks.{GivesBlock, page_chosen, page_ready, page_given}
-use Rattle.pas_same_text.proofs.CacheLists.{same_with, others_same, last_same, slot_given, same_own}
-use Rattle.pas_cache.proofs.Obtained.{kept_by}
+use Rattle.pas_cache.{specs.Serves.took_in, proofs.Obtained.kept_by}
+use Rattle.pas_same_text.{specs.Classes.local_on, proofs.{PlacesFit.{class_fits, read_unguarded}, SmallActs.{after_with, asks}, MadePlace.{all_left, up_to}}}
+use Rattle.pas_same_text.proofs.{TakenSince.{shared_row, right_kept, exclusive_free}, TakenSlots.{all_taken, row_taken, slots_rise}, Tests.{and_first, or_none}}
+use Rattle.pas_same_text.proofs.{Pieces.has_same, RunsFound.{shown, shown_rest}, FetchedClasses.{HasPlace, may_fetch, class_served_by, fetched_so}}
+use Rattle.pas_same_text.proofs.FetchedClasses.{class_refused, IsFetched, with_place, place_fetched, text_fetched, fetch_between, fetch_carried}
+use Rattle.pas_same_text.proofs.{CachedSlots.{text_locals, HasHead, head_of, cached_answered, HasAsked, answer_reached, request_taken}, GivenBlocks.GivesBlock}
+use Rattle.pas_same_text.proofs.{GivenBlocks.{page_chosen, page_ready, page_given}, CacheLists.{same_with, others_same, last_same, slot_given, same_own}}
 use Rattle.pas_same_text.proofs.Common.{LendsNone, address_of, false≢true, or_cases, not-false, list_any-append, is_set, class_size, class_grains, IsSlotStart}
 use Rattle.pas_same_text.proofs.Common.{deed_word_of, IsAdmitted, class_home, is_shared, kind_of_class, route_in, room_in, Directory, Event, NoRoom, Block}
 use Rattle.pas_same_text.proofs.Common.{Profile, Route, class_grains_positive, usable_grains_le, slot_end, triples, events_by, ShowsHere, Once, Always, View}

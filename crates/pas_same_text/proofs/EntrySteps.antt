@@ -2,26 +2,22 @@
 use Rattle.std.proofs.Common.{◌≡◌, ℕ, zero, suc, ◌<◌, true, Bool, List, [], ◌∷◌, ◌++◌, Option, None, Some, inl, inr, refl, ap, sym, subst, arith, true≢false}
 use Rattle.std.proofs.Common.{◌+◌, ◌*◌, ◌/◌, ◌^◌, ◌≤◌, false, ◌∙◌, eq-eqb}
 use Rattle.pas_bits.proofs.Runs.{to_meet}
-use Rattle.pas_steps.specs.{Allowed.IsEndIn, Effects.life_word_at, Kinds.Unparking}
-use Rattle.pas_rights.specs.{Looks.is_free, Looks.HintsWhere, Returns.ReofferSteps, Returns.ReturnSteps}
-use Rattle.pas_same_text.proofs.StepMarks.{hint_step, hints_none, IsMarked, marked_parts, none_marked, returns_marked}
+use Rattle.pas_steps.{specs.{Allowed.IsEndIn, Effects.life_word_at, Kinds.Unparking}, proofs.Past.in_turn_always}
+use Rattle.pas_rights.specs.{Looks.{is_free, HintsWhere}, Returns.{ReofferSteps, ReturnSteps}}
+use Rattle.pas_same_text.proofs.{StepMarks.{hint_step, hints_none, IsMarked, marked_parts, none_marked, returns_marked}, Flushes.visible_steps, Common.cases_eq}
+use Rattle.pas_same_text.proofs.Common.{hints_both, full_bit, Directory, Word, Event, Name, Profile, Always, Since, made, triples, event_of, events_by}
+use Rattle.pas_same_text.proofs.Common.{epoch_of, LookFree, Offering, Only, kind_of, is_in, LookDeed, Putting, Stamping, returning, Kinds, Made, Look, Stamp}
+use Rattle.pas_same_text.proofs.Common.{looks, looks_until, ReadsAllFree, TakesNone, HintsEmpty, ones, Used, until_only, return_returns, puts_kinds, meets_page}
+use Rattle.pas_same_text.proofs.Common.{address_of, grain_of, length_of, directory_read, deed_word_of, IsValid, read-deed_word_of, directory_from_profile, Live}
+use Rattle.pas_same_text.proofs.Common.{live_in, deed_in, gives_in, ends_in, Whole, part, word_after, visible, Legal, only_both, only_within, epoch_same}
+use Rattle.pas_same_text.proofs.Common.{events_same, returns_are, word_of_deed, deed_of, directory_is_of, legal_earlier, IsEndOf, Settled, EntrySteps, AfterEnd}
+use Rattle.pas_same_text.proofs.Common.{event_for, ending, is_sized, Ended, Refused, Entry, is_other_room}
 use Rattle.pas_answers.proofs.Consequences.{first_page}
 use Rattle.pas_profile.specs.Lives.{live_word}
-use Rattle.pas_steps.proofs.Past.{in_turn_always}
-use Rattle.pas_core.specs.Good.{IsLifeOf, IsLifeOfLive}
-use Rattle.pas_core.proofs.Lives.{life_of, block_of_word}
-use Rattle.pas_free_log.specs.{Endings.guess_by, Endings.last_step, Frames.putting_back, Stamps.pages_from}
-use Rattle.pas_free_log.specs.Returns.{PageSteps, PagesSteps, RunSteps, first_on, count_on}
-use Rattle.pas_free_log.specs.declared.ending.Outcome.{Outcome}
-use Rattle.pas_free_log.proofs.OneEntry.{first_look, trying, AreIdle, EndsWith, last_ends, last_refused, guess_is, not_ended, count_some, idle_before}
-use Rattle.pas_same_text.proofs.Flushes.{visible_steps}
-use Rattle.pas_same_text.proofs.Common.{cases_eq, hints_both, full_bit, Directory, Word, Event, Name, Profile, Always, Since, made, triples, event_of}
-use Rattle.pas_same_text.proofs.Common.{events_by, epoch_of, LookFree, Offering, Only, kind_of, is_in, LookDeed, Putting, Stamping, returning, Kinds, Made}
-use Rattle.pas_same_text.proofs.Common.{Look, Stamp, looks, looks_until, ReadsAllFree, TakesNone, HintsEmpty, ones, Used, until_only, return_returns}
-use Rattle.pas_same_text.proofs.Common.{puts_kinds, meets_page, address_of, grain_of, length_of, directory_read, deed_word_of, IsValid, read-deed_word_of}
-use Rattle.pas_same_text.proofs.Common.{directory_from_profile, Live, live_in, deed_in, gives_in, ends_in, Whole, part, word_after, visible, Legal, only_both}
-use Rattle.pas_same_text.proofs.Common.{only_within, epoch_same, events_same, returns_are, word_of_deed, deed_of, directory_is_of, legal_earlier, IsEndOf}
-use Rattle.pas_same_text.proofs.Common.{Settled, EntrySteps, AfterEnd, event_for, ending, is_sized, Ended, Refused, Entry, is_other_room}
+use Rattle.pas_core.{specs.Good.{IsLifeOf, IsLifeOfLive}, proofs.Lives.{life_of, block_of_word}}
+use Rattle.pas_free_log.specs.{Endings.{guess_by, last_step}, Frames.putting_back, Stamps.pages_from, Returns.{PageSteps, PagesSteps, RunSteps, first_on}}
+use Rattle.pas_free_log.{specs.{Returns.count_on, declared.ending.Outcome.Outcome}, proofs.OneEntry.{first_look, trying, AreIdle, EndsWith, last_ends}}
+use Rattle.pas_free_log.proofs.OneEntry.{last_refused, guess_is, not_ended, count_some, idle_before}
 
 read_earlier : (P Q : Made → Type 0) (ys xs : List Made) → Since (λ m before. P m) (λ m before. Q m) ys → Since (λ m before. P m) (λ m before. Q m) (ys ++ xs)
 read_earlier P Q [] xs h = absurd h

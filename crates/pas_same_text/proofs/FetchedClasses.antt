@@ -1,7 +1,6 @@
 -- SLOTS OF A CLASS ARE FETCHED for a request: place is made for a local allocator, in the text too, and from there on the fetch is a request of its own. At the
 -- end: no page serves it, in the text either.
-use Rattle.pas_cache.specs.{Serves.IsFilling, Changes.LeavesSpent}
-use Rattle.pas_cache.proofs.Obtained.{may_search}
+use Rattle.pas_cache.{specs.{Serves.IsFilling, Changes.LeavesSpent}, proofs.Obtained.may_search}
 use Rattle.pas_same_text.proofs.Common.{filling_for, false_from_ne_true, nat_tests, find, is_set, IsEmpty, IsValid, IsAdmitted, class_home, route_in, room_in}
 use Rattle.pas_same_text.proofs.Common.{Event, NoRoom, Profile, Word, Directory, Route, class_grains_positive, usable_grains_le, triples, events_by, View}
 use Rattle.pas_same_text.proofs.Common.{Whole, part, word_after, Legal, Made, triples_append, no_events, events_append, part_of_own, agreed_steps}
@@ -10,13 +9,12 @@ use Rattle.pas_same_text.proofs.Common.{filling_in, Fetches, IsRefill, IsObtaine
 use Rattle.pas_same_text.proofs.Common.{Said as TheSaid, IsThread, Progress, Named, records_of, said_by, Caches, named, Answer, after_answer, said_of_room}
 use Rattle.pas_same_text.proofs.Common.{Local, World, locals_of, some_of, refusal, refuses, AreResting, IsBetween, serves, is_for, fetches, serves_class_by}
 use Rattle.pas_same_text.proofs.Common.{serves_class, takes_page, IsSame, IsSameLocal, AreSameLocals, ArePagesSame, has_number, HasNoFit, IsRefused}
-use Rattle.pas_same_text.proofs.Common.{refused_told}
+use Rattle.pas_same_text.proofs.{Common.refused_told, CacheLists.{same_own, same_again, Finds, found_same, same_many, given_up_keeps, first_up_keeps}}
+use Rattle.pas_same_text.proofs.{SmallActs.after_with, SeatedActs.{cached_again, middle_rest}, BitfitRequests.none_searched, PlacesFit.class_fits}
+use Rattle.pas_same_text.proofs.{Pieces.has_same, SearchedPages.{refused_to, refused_same}, CachedSlots.{HasAsked, answer_reached}, MadePlace.up_to}
+use Rattle.pas_same_text.proofs.MadePlace.{placed_by, place_made, none_same, most_left, known_found}
 use Rattle.std.proofs.Common.{◌≡◌, ℕ, ◌≤◌, ◌<◌, nat_le, Bool, true, false, ◌||◌, List, [], ◌∷◌, ◌++◌, length, Option, None, Some, Result, refl, ap, sym, ◌∙◌}
 use Rattle.std.proofs.Common.{subst, append-nil, append_assoc, arith, true≢false, eq-eqb, Ok, Err, inl, inr}
-use Rattle.pas_same_text.proofs.CacheLists.{same_own, same_again, Finds, found_same, same_many, given_up_keeps, first_up_keeps}
-use Rattle.pas_same_text.proofs.{SmallActs.after_with, SeatedActs.cached_again, SeatedActs.middle_rest, BitfitRequests.none_searched, PlacesFit.class_fits}
-use Rattle.pas_same_text.proofs.{Pieces.has_same, SearchedPages.refused_to, SearchedPages.refused_same, CachedSlots.HasAsked, CachedSlots.answer_reached}
-use Rattle.pas_same_text.proofs.MadePlace.{up_to, placed_by, place_made, none_same, most_left, known_found}
 
 -- the text once place was made for a local allocator of the heap and class
 abbrev pub with_place : ℕ → ℕ → ℕ → World → World

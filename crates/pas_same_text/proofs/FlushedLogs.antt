@@ -2,25 +2,18 @@
 use Rattle.std.proofs.Common.{◌≡◌, ℕ, ◌-◌, ◌/◌, ◌≤◌, Bool, true, if◌then◌else◌, List, [], ◌∷◌, ◌++◌, length, map, reverse, take, Option, None, Some, inl, inr}
 use Rattle.std.proofs.Common.{refl, ap, sym, ◌∙◌, subst, append_assoc, arith, append-nil, eq-eqb}
 use Rattle.pas_steps.specs.Kinds.{LookEpoch}
-use Rattle.pas_free_log.specs.{Noted.large_run, Flushes.EntriesSteps}
-use Rattle.pas_free_log.specs.declared.ending.Outcome.{Outcome}
-use Rattle.pas_same_text.specs.State.{with_cache}
-use Rattle.pas_same_text.proofs.CacheLists.{all_locals, many_with, locals_with, same_with, same_own, same_again, with_own, room_for}
+use Rattle.pas_free_log.{specs.{Noted.large_run, Flushes.EntriesSteps, declared.ending.Outcome.Outcome}, proofs.AllEntries.{noted_more, noted_none}}
+use Rattle.pas_same_text.{specs.State.with_cache, proofs.CacheLists.{all_locals, many_with, locals_with, same_with, same_own, same_again, with_own, room_for}}
 use Rattle.pas_same_text.proofs.GivenBack.{rejected_returns, ended_returns, ended_caches, noted_then, Returns, returns_nothing, returns_then, returns_like}
-use Rattle.pas_same_text.proofs.GivenBack.{has_both, page_there}
-use Rattle.pas_same_text.proofs.Flushes.{reject_text, end_text, reject_shown, end_shown, reason_is}
-use Rattle.pas_same_text.proofs.EntrySteps.{IsEndOfBlock, found_block, block_marked, name_same, entry_kinds, entry_events, entry_hints, after_marked}
-use Rattle.pas_same_text.proofs.EntrySteps.{read_directory}
-use Rattle.pas_same_text.proofs.StepMarks.{IsMarked, marked_parts, none_marked, hints_none}
-use Rattle.pas_same_text.proofs.Tests.{has_filtered}
-use Rattle.pas_free_log.proofs.AllEntries.{noted_more, noted_none}
-use Rattle.pas_same_text.proofs.Common.{take_none, reverse_onto, same_Some, hints_both, meets_page, address_of, grain_of, length_of, IsValid, IsPage, Directory}
-use Rattle.pas_same_text.proofs.Common.{Event, Name, Profile, Word, Run, Live, live_in, deed_in, lives_where, made, triples, Only, Always, epoch_of, Whole}
-use Rattle.pas_same_text.proofs.Common.{part, visible, Legal, Made, Look, triples_append, only_both, only_within, epoch_same, part_of_own, runs, legal_earlier}
-use Rattle.pas_same_text.proofs.Common.{HintsEmpty, IsEndOf, reason_for, ending, freeing, Settled, EntrySteps, AfterEnd, event_for, shown_for, noted_for}
-use Rattle.pas_same_text.proofs.Common.{noted_after, Ended, Refused, Entry, EndedRun, Cached, Record, IsThread, Caches, with_cache as with_cached, World, Cache}
-use Rattle.pas_same_text.proofs.Common.{each, cache_of, noted_of, set_log, live_after, ends, ends_block, rejects, pages_of, IsShown, AreSameCaches, IsSameCache}
-use Rattle.pas_same_text.proofs.Common.{lives_in, has_number}
+use Rattle.pas_same_text.proofs.{GivenBack.{has_both, page_there}, Flushes.{reject_text, end_text, reject_shown, end_shown, reason_is}, EntrySteps.IsEndOfBlock}
+use Rattle.pas_same_text.proofs.EntrySteps.{found_block, block_marked, name_same, entry_kinds, entry_events, entry_hints, after_marked, read_directory}
+use Rattle.pas_same_text.proofs.{StepMarks.{IsMarked, marked_parts, none_marked, hints_none}, Tests.has_filtered, Common.{take_none, reverse_onto, same_Some}}
+use Rattle.pas_same_text.proofs.Common.{hints_both, meets_page, address_of, grain_of, length_of, IsValid, IsPage, Directory, Event, Name, Profile, Word, Run}
+use Rattle.pas_same_text.proofs.Common.{Live, live_in, deed_in, lives_where, made, triples, Only, Always, epoch_of, Whole, part, visible, Legal, Made, Look}
+use Rattle.pas_same_text.proofs.Common.{triples_append, only_both, only_within, epoch_same, part_of_own, runs, legal_earlier, HintsEmpty, IsEndOf, reason_for}
+use Rattle.pas_same_text.proofs.Common.{ending, freeing, Settled, EntrySteps, AfterEnd, event_for, shown_for, noted_for, noted_after, Ended, Refused, Entry}
+use Rattle.pas_same_text.proofs.Common.{EndedRun, Cached, Record, IsThread, Caches, with_cache as with_cached, World, Cache, each, cache_of, noted_of, set_log}
+use Rattle.pas_same_text.proofs.Common.{live_after, ends, ends_block, rejects, pages_of, IsShown, AreSameCaches, IsSameCache, lives_in, has_number}
 
 -- ---- lists of entries
 each_last : {A : Type 0} (does : A → World → World) (xs : List A) (x : A) (w : World) → each does (xs ++ x ∷ []) w ≡ does x (each does xs w)

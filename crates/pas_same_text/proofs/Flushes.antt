@@ -1,20 +1,15 @@
 -- What logged frees and flushes show: the events that the machine allows them.
-use Rattle.pas_same_text.proofs.{FreeGrains.block_of_live, FreeGrains.found_is, Tests.and_first, Tests.and_second, GivenBack.OnlyHints}
-use Rattle.pas_same_text.proofs.{GivenBack.all_only_hints}
-use Rattle.std.proofs.Common.{◌≡◌, ℕ, ◌<◌, ◌==◌, Bool, true, false, not, if◌then◌else◌, List, [], ◌∷◌, Option, Some, refl, ap, sym, ◌∙◌, subst, arith, eq-eqb}
-use Rattle.std.proofs.Common.{ne_eqb, ◌++◌, map, reverse, append_assoc}
-use Rattle.pas_same_text.proofs.Common.{and_from, nat_tests, not-true, reverse_onto, reverse-reverse, find, address_of, Event, Why, Block, Name, Profile, Word}
-use Rattle.pas_same_text.proofs.Common.{Run, Live, live_in, gives_in, ends_in, Entry, EndedRun, is_sized, event_for, Settled, shown_for, reason_for, World}
-use Rattle.pas_same_text.proofs.Common.{each, is_at, shows, live_after, set_log, notes, lives_in, pages_of, is_other_room, ends_block, rejects, ends, flushes}
-use Rattle.pas_same_text.proofs.Common.{IsShown, made, triple, triples, event_of, events_by, with_event, View, epoch_of, Whole, part, visible, Legal, Made}
-use Rattle.pas_same_text.proofs.Common.{Look, Kinds, Only, apart, showing, triples_append, part_of_own, no_events, runs, legal_earlier}
-use Rattle.std.proofs.lemmas.List.{map_push}
-use Rattle.pas_machine.specs.{Laws.IsCounted, Machine.IsLive, Machine.IsReason, Machine.HasOtherRoom}
-use Rattle.pas_machine.proofs.LiveBlocks.{all_counted}
-use Rattle.pas_free_log.specs.declared.ending.Outcome.{Outcome}
-use Rattle.pas_free_log.specs.Endings.{reason_by}
-use Rattle.pas_same_text.specs.{State.block_at, Frees.reason}
+use Rattle.pas_same_text.proofs.{FreeGrains.{block_of_live, found_is}, Tests.{and_first, and_second}, GivenBack.{OnlyHints, all_only_hints}, Common.and_from}
+use Rattle.pas_same_text.proofs.Common.{nat_tests, not-true, reverse_onto, reverse-reverse, find, address_of, Event, Why, Block, Name, Profile, Word, Run, Live}
+use Rattle.pas_same_text.proofs.Common.{live_in, gives_in, ends_in, Entry, EndedRun, is_sized, event_for, Settled, shown_for, reason_for, World, each, is_at}
+use Rattle.pas_same_text.proofs.Common.{shows, live_after, set_log, notes, lives_in, pages_of, is_other_room, ends_block, rejects, ends, flushes, IsShown, made}
+use Rattle.pas_same_text.proofs.Common.{triple, triples, event_of, events_by, with_event, View, epoch_of, Whole, part, visible, Legal, Made, Look, Kinds, Only}
+use Rattle.pas_same_text.{proofs.Common.{apart, showing, triples_append, part_of_own, no_events, runs, legal_earlier}, specs.{State.block_at, Frees.reason}}
 use Rattle.pas_same_text.specs.Entries.{IsEntryReason, IsEntryEvent, HaveOutcomes, are_unsized, onto, events_of_flush, HasShown, IsFlushOf}
+use Rattle.std.proofs.Common.{◌≡◌, ℕ, ◌<◌, ◌==◌, Bool, true, false, not, if◌then◌else◌, List, [], ◌∷◌, Option, Some, refl, ap, sym, ◌∙◌, subst, arith, eq-eqb}
+use Rattle.std.proofs.{Common.{ne_eqb, ◌++◌, map, reverse, append_assoc}, lemmas.List.map_push}
+use Rattle.pas_machine.{specs.{Laws.IsCounted, Machine.{IsLive, IsReason, HasOtherRoom}}, proofs.LiveBlocks.all_counted}
+use Rattle.pas_free_log.specs.{declared.ending.Outcome.Outcome, Endings.reason_by}
 use Rattle.pas_guard.proofs.Keepers.{older_legal}
 use Rattle.pas_steps.proofs.Frames.{with_append}
 

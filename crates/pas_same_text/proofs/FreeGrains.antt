@@ -6,17 +6,14 @@ use Rattle.pas_same_text.proofs.Common.{grain_of as first_grain, Event, Block, N
 use Rattle.pas_same_text.proofs.Common.{is_free, is_covered, is_cached, blocks_on, locals_on, is_kept, lives_in, raised_by, AreSameGuards, HasSame}
 use Rattle.pas_same_text.proofs.Common.{AreSameLocals, runs, in_one_place, is_outer_of, is_outer, Guard, Books, Progress, IsValid, lives_where, part, visible}
 use Rattle.pas_same_text.proofs.Common.{Whole, Legal, View, holds, has_right, IsPartOf, IsInOnePlace, free_of_page, any_covers, IsThread, IsBetween, free_bit}
-use Rattle.pas_same_text.proofs.Common.{Slots, Raised}
+use Rattle.pas_same_text.proofs.{Common.{Slots, Raised}, Tests.{and_first, and_second, any_filtered, filtered_any, any_weaker, on_page}, CacheLists.all_locals}
+use Rattle.pas_same_text.proofs.CacheLists.{has_grain, grains_same, IsOfCache, of_cache, in_all, cached_any, any_cached}
 use Rattle.pas_cache.specs.Locals.{any_keeps}
-use Rattle.std.proofs.Math.Bool.{and_comm}
-use Rattle.std.proofs.Common.{arith, ◌≡◌, ℕ, ◌/◌, ◌<◌, ◌≢◌, ◌==◌, Bool, true, false, not, ◌&&◌, ◌||◌, if◌then◌else◌, List, [], ◌∷◌, Option, Some, None, ◌⊎◌}
-use Rattle.std.proofs.Common.{inl, inr, refl, ap, sym, ◌∙◌, eq-eqb, ne_eqb, true≢false, map, subst, ◌+◌, ◌*◌, eqb-true}
+use Rattle.std.proofs.{Math.Bool.and_comm, Common.{arith, ◌≡◌, ℕ, ◌/◌, ◌<◌, ◌≢◌, ◌==◌, Bool, true, false, not, ◌&&◌, ◌||◌, if◌then◌else◌, List, [], ◌∷◌}}
+use Rattle.std.proofs.Common.{Option, Some, None, ◌⊎◌, inl, inr, refl, ap, sym, ◌∙◌, eq-eqb, ne_eqb, true≢false, map, subst, ◌+◌, ◌*◌, eqb-true}
 use Rattle.pas_bits.proofs.Runs.{first_of_run, run_meets}
 use Rattle.pas_machine.specs.Machine.{MayGive}
-use Rattle.pas_same_text.proofs.Tests.{and_first, and_second, any_filtered, filtered_any, any_weaker, on_page}
-use Rattle.pas_core.proofs.{Grains.some_grain, Offers.no_other_actor}
-use Rattle.pas_core.specs.Rights.{NobodyHasRight}
-use Rattle.pas_same_text.proofs.CacheLists.{all_locals, has_grain, grains_same, IsOfCache, of_cache, in_all, cached_any, any_cached}
+use Rattle.pas_core.{proofs.{Grains.some_grain, Offers.no_other_actor}, specs.Rights.NobodyHasRight}
 
 -- ---- a block that lives after the events, of which this is so
 pub record LivesSo (es : List Event) (p : Block → Bool) : Type 0 where

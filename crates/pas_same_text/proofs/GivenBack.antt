@@ -3,14 +3,13 @@ use Rattle.std.proofs.Common.{arith, ◌≡◌, ℕ, ◌==◌, Bool, true, false
 use Rattle.std.proofs.Common.{true≢false, eq-eqb, eqb-true, zero, suc, ◌+◌, ◌<◌, ◌≤◌, ◌&&◌, ◌||◌, if◌then◌else◌, inl, inr, ◌*◌, nat_lt, length, Some}
 use Rattle.std.proofs.lemmas.Bool.{or_parts}
 use Rattle.pas_guard.specs.Books.{AreApart}
-use Rattle.pas_same_text.specs.{State.with_cache, Pages.each_of, Pages.is_free_of, Guards.without_guard, Indexes.run_of}
-use Rattle.pas_same_text.proofs.Common.{Raised, nat_tests, list_any-append, or-false, false≢true, or_cases, or_left, false_from_ne_true, cases_eq, and_from}
-use Rattle.pas_same_text.proofs.Common.{list_any, filter, IsPage, grain_of, length_of, address_of, Profile, Block, Event, Why, Name, Record, Said, is_outer_of}
-use Rattle.pas_same_text.proofs.Common.{is_outer, Guard, World, each, Local, is_at, shows, cache_of, noted_of, is_guarded, minds, is_free, is_empty, is_hinted}
-use Rattle.pas_same_text.proofs.Common.{page_numbers, is_covered, is_cached, blocks_on, locals_on, lowers, raised_by, has_number, lives_in, notes, pages_of}
-use Rattle.pas_same_text.proofs.Common.{ends_block, rejects, meets_page, in_run, backed_in, Run, Live, live_in, numbers_from, same_truth, EndedRun}
-use Rattle.pas_same_text.proofs.{FreeGrains.has_outer, FreeGrains.LivesSo, FreeGrains.lives_so, SmallActs.records_next}
-use Rattle.pas_same_text.proofs.CacheLists.{same_guards, minds_keep, all_locals, locals_with}
+use Rattle.pas_same_text.{specs.{State.with_cache, Pages.{each_of, is_free_of}, Guards.without_guard, Indexes.run_of}, proofs.Common.{Raised, nat_tests}}
+use Rattle.pas_same_text.proofs.Common.{list_any-append, or-false, false≢true, or_cases, or_left, false_from_ne_true, cases_eq, and_from, list_any, filter}
+use Rattle.pas_same_text.proofs.Common.{IsPage, grain_of, length_of, address_of, Profile, Block, Event, Why, Name, Record, Said, is_outer_of, is_outer, Guard}
+use Rattle.pas_same_text.proofs.Common.{World, each, Local, is_at, shows, cache_of, noted_of, is_guarded, minds, is_free, is_empty, is_hinted, page_numbers}
+use Rattle.pas_same_text.proofs.Common.{is_covered, is_cached, blocks_on, locals_on, lowers, raised_by, has_number, lives_in, notes, pages_of, ends_block}
+use Rattle.pas_same_text.proofs.{Common.{rejects, meets_page, in_run, backed_in, Run, Live, live_in, numbers_from, same_truth, EndedRun}, FreeGrains.has_outer}
+use Rattle.pas_same_text.proofs.{FreeGrains.{LivesSo, lives_so}, SmallActs.records_next, CacheLists.{same_guards, minds_keep, all_locals, locals_with}}
 use Rattle.pas_same_text.proofs.Tests.{and_first, and_second, any_filtered, filtered_any, any_weaker, any_split, filtered_has, has_filtered}
 
 -- ==== What the text does where grains come back to pages: which grains are free then, and which pages are hinted.

@@ -7,13 +7,12 @@ use Rattle.pas_same_text.proofs.Common.{lends_none, BackStep, pages_from, Record
 use Rattle.pas_same_text.proofs.Common.{lives_in, HasSame, AreSameCaches, AreSearch, EventsAt, IsReturnOf, KeepsMarks, searching, ByDeed, FromOffered}
 use Rattle.pas_same_text.proofs.Common.{LeavesWhere, address_on, gives, readies, searched, only_both, only_within, part_of_own, triples_append, run_of, to_run}
 use Rattle.pas_same_text.proofs.Pieces.{UsesOnly, IsPiece, piece_pages, IsInUse, LeavesBehind, left_offered, marks_behind, no_hint, LeftAll, giving, leaving}
-use Rattle.pas_same_text.proofs.Pieces.{rest_leaves}
-use Rattle.std.proofs.Common.{◌≡◌, ℕ, ◌+◌, ◌*◌, ◌/◌, ◌<◌, ◌==◌, Bool, true, false, if◌then◌else◌, List, [], ◌∷◌, ◌++◌, reverse, Some, ◌⊎◌, inl, inr, refl, ap}
-use Rattle.std.proofs.Common.{sym, ◌∙◌, subst, eq-eqb, eqb-true, ne_eqb, zero, suc, None, Ok, append-nil, ◌≤◌, arith}
-use Rattle.pas_same_text.proofs.{CachedSlots.block_of, StopActs.events_recorded, Flushes.visible_steps, FreeGrains.free_uncovered, FreeGrains.guards_as}
-use Rattle.pas_same_text.proofs.{SmallActs.after_with, SearchedPages.deed_chosen, SearchedPages.offered_chosen, RestingPages.word_known}
+use Rattle.pas_same_text.proofs.{Pieces.rest_leaves, CachedSlots.block_of, StopActs.events_recorded, Flushes.visible_steps, FreeGrains.free_uncovered}
+use Rattle.pas_same_text.proofs.{FreeGrains.guards_as, SmallActs.after_with, SearchedPages.{deed_chosen, offered_chosen}, RestingPages.word_known}
 use Rattle.pas_same_text.proofs.RunsFound.{deeds_of, shown, shown_events, shown_records, shown_lives, shown_rest, IsAtPage, AllAtPage, search_at, given_ready}
 use Rattle.pas_same_text.proofs.StepMarks.{epoch_stays_by, HintsPage, at_bare, at_unbacked, once_parts}
+use Rattle.std.proofs.Common.{◌≡◌, ℕ, ◌+◌, ◌*◌, ◌/◌, ◌<◌, ◌==◌, Bool, true, false, if◌then◌else◌, List, [], ◌∷◌, ◌++◌, reverse, Some, ◌⊎◌, inl, inr, refl, ap}
+use Rattle.std.proofs.Common.{sym, ◌∙◌, subst, eq-eqb, eqb-true, ne_eqb, zero, suc, None, Ok, append-nil, ◌≤◌, arith}
 
 -- ---- events that make pages ready
 -- a deed of the directory, of one of these pages, or a backing

@@ -7,18 +7,16 @@ use Rattle.pas_same_text.proofs.Common.{word_after, visible, Legal, Made, Hint, 
 use Rattle.pas_same_text.proofs.Common.{eligible_bit, LendsNone, IsValid, deed_same, lends_none, give_steps, IsInRun, in_span, span_in, MadeOf, allocating}
 use Rattle.pas_same_text.proofs.Common.{AllByRecursion, seeking, numbers_from, Progress, World, each, is_offered, backs as backs_page, address_on}
 use Rattle.pas_same_text.proofs.Common.{legal_earlier, InTurn, Always, large_of, IsBetween, has_number, IsSame, HasSame, ArePagesSame, all_both, all_map}
-use Rattle.pas_same_text.proofs.Common.{BackStep, pages_from, ReturnsDuly, only_leaves}
+use Rattle.pas_same_text.proofs.{Common.{BackStep, pages_from, ReturnsDuly, only_leaves}, StepMarks.{IsMarked, HintsPage, seeks_unbacked, once_parts}}
+use Rattle.pas_same_text.proofs.{Flushes.{legal_between, visible_steps}, Tests.on_page, RestingPages.word_known, MissedGuards.{each_listed, unlisted_bare}}
+use Rattle.pas_same_text.proofs.{RunsFound.{shown, shown_events, each_in_turn, shown_both, deeded, deeded_events, deeds_of, backs_in_turn}, Pieces.IsPiece}
+use Rattle.pas_same_text.proofs.Pieces.{UsesOnly, hinted_before, piece_pages, uses_wider, left_offered, IsInUse, LeavesBehind, giving, LeftAll, leaving}
+use Rattle.pas_same_text.proofs.{Pieces.{marks_behind, no_hint, rest_leaves}, GivenBlocks.{AreReadying, GivesBlock, backs_ready, block_uses, made_ready}}
+use Rattle.pas_same_text.proofs.GivenBlocks.{only_block, IsReadying, ready_deeds}
 use Rattle.pas_steps.specs.Calls.{Kept, Gained, now as has_now}
-use Rattle.pas_same_text.proofs.StepMarks.{IsMarked, HintsPage, seeks_unbacked, once_parts}
 use Rattle.std.proofs.Common.{[], Some, ◌⊎◌, ◌≤◌, ◌≡◌, ℕ, ◌+◌, ◌*◌, ◌/◌, Bool, true, false, ◌||◌, if◌then◌else◌, List, ◌∷◌, ◌++◌, inl, inr, refl, ap, sym, ◌∙◌}
 use Rattle.std.proofs.Common.{subst, arith, append_assoc, true≢false}
 use Rattle.pas_large.proofs.{Claims.in_parts, Gives.run_is, Left.only_backs}
-use Rattle.pas_same_text.proofs.{Flushes.legal_between, Flushes.visible_steps, Tests.on_page, RestingPages.word_known, MissedGuards.each_listed}
-use Rattle.pas_same_text.proofs.{MissedGuards.unlisted_bare}
-use Rattle.pas_same_text.proofs.RunsFound.{shown, shown_events, each_in_turn, shown_both, deeded, deeded_events, deeds_of, backs_in_turn}
-use Rattle.pas_same_text.proofs.Pieces.{IsPiece, UsesOnly, hinted_before, piece_pages, uses_wider, left_offered, IsInUse, LeavesBehind, giving, LeftAll}
-use Rattle.pas_same_text.proofs.Pieces.{leaving, marks_behind, no_hint, rest_leaves}
-use Rattle.pas_same_text.proofs.GivenBlocks.{AreReadying, GivesBlock, backs_ready, block_uses, made_ready, only_block, IsReadying, ready_deeds}
 
 -- By the first of these steps actor k got the m pages of a run, by deeds of its directory alone. By the others n of them were backed, the lowest first, their block was given, and
 -- pages of the run were left.

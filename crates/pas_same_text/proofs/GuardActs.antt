@@ -1,27 +1,25 @@
 -- A GUARD GOES UP: the search of a keeper found a run. Its inner pages get memory where they have none, their block is given, and the keeper holds the two pages beside it.
 use Rattle.pas_same_text.proofs.GivenRuns.{GivesPages, all_kinds, backs_are_ready, backs_text, gives_it, lives_within, page_used, run_pages}
-use Rattle.std.proofs.Common.{◌≤◌, ◌≡◌, ℕ, ◌+◌, ◌*◌, ◌==◌, Bool, true, false, List, [], ◌∷◌, ◌++◌, Some, inl, inr, refl, ap, sym, ◌∙◌, subst, arith}
-use Rattle.std.proofs.Common.{append_assoc, eq-eqb, eqb-true, ◌-◌, ◌/◌, Option, None, append-nil}
 use Rattle.pas_same_text.proofs.Common.{false≢true, or_cases, or_left, number_of, IsDirectoryOf, Directory, Event, Block, Profile, deed_in, gives_in, triples}
 use Rattle.pas_same_text.proofs.Common.{events_by, View, part, Made, eligible_bit, agreed_steps, IsInRun, in_span, span_in, any_covers, is_outer_of, is_outer}
 use Rattle.pas_same_text.proofs.Common.{left_last_first, guard_of, HasSpan, Guard, Record, Said, Caches, Progress, named, records_of, World, says, is_offered}
 use Rattle.pas_same_text.proofs.Common.{backs, address_on, gives, large_of, raises, IsBetween, raised_by, has_number, IsSame, HasSame, AreSameCaches}
 use Rattle.pas_same_text.proofs.Common.{AreSameGuards, Raised, filter, address_of, IsAdmitted, route_in, room_in, Legal, part_of_own, legal_before}
 use Rattle.pas_same_text.proofs.Common.{legal_earlier, Cached, Indexes, found_in, Act, numbers_from, IsThread, Request, Op, What, with_book, AnswersTried}
-use Rattle.pas_same_text.proofs.Common.{Tried, IsTried, after_trying, each, serves, IsKnown, IsKept, KeepsSame, lowers_ended}
+use Rattle.pas_same_text.proofs.{Common.{Tried, IsTried, after_trying, each, serves, IsKnown, IsKept, KeepsSame, lowers_ended}, FreeGrains.outer_held}
+use Rattle.pas_same_text.proofs.{FreeGrains.free_unheld, SmallActs.records_next, Tests.on_page, Pieces.{UsesOnly, free_kept, IsInUse}, KeepersRest.book_finds}
+use Rattle.pas_same_text.proofs.{KeepersRest.keeper_of, LowerActs.{sweep_same, ended_text}, PagesRequests.{pages_answered, named_large}, RunsFound.shown}
+use Rattle.pas_same_text.proofs.{RunsFound.{shown_events, shown_rest, deeded, deeds_of}, SoughtRuns.{unowned_free, found_made, found_pages, IsSought}}
+use Rattle.pas_same_text.proofs.{SoughtRuns.{sought_text, missed_text}, MissedGuards.{all_listed, deed_listed, guards_more, inner_or, left_free, left_in_run}}
+use Rattle.pas_same_text.proofs.{MissedGuards.{outer_more, outer_or, missed_same}, GivenBlocks.{block_is, epoch_now, events_now, live_now, names_now}}
+use Rattle.pas_same_text.proofs.{GivenBlocks.{ready_deeds, ready_gives, records_now}, CacheLists.{request_indexes, all_lowered_keep, each_keeps, backs_keep}}
+use Rattle.pas_same_text.proofs.{CacheLists.same_indexes, SeatedActs.{own_book, other_book, swept, swept_between, raise_legal, raise_fits}}
+use Rattle.pas_same_text.{proofs.SeatedActs.{sweep_and_raise_are_the_try, tried_between}, specs.Guards.{guard_on, with_guard, is_over, guards}}
+use Rattle.std.proofs.Common.{◌≤◌, ◌≡◌, ℕ, ◌+◌, ◌*◌, ◌==◌, Bool, true, false, List, [], ◌∷◌, ◌++◌, Some, inl, inr, refl, ap, sym, ◌∙◌, subst, arith}
+use Rattle.std.proofs.Common.{append_assoc, eq-eqb, eqb-true, ◌-◌, ◌/◌, Option, None, append-nil}
 use Rattle.pas_guard.specs.Raises.{IsRaised}
-use Rattle.pas_same_text.specs.Guards.{guard_on, with_guard, is_over, guards}
-use Rattle.pas_same_text.proofs.{FreeGrains.outer_held, FreeGrains.free_unheld, SmallActs.records_next, Tests.on_page, Pieces.UsesOnly, Pieces.free_kept}
-use Rattle.pas_same_text.proofs.{Pieces.IsInUse, KeepersRest.book_finds, KeepersRest.keeper_of, LowerActs.sweep_same, LowerActs.ended_text}
-use Rattle.pas_same_text.proofs.{PagesRequests.pages_answered, PagesRequests.named_large}
-use Rattle.pas_same_text.proofs.RunsFound.{shown, shown_events, shown_rest, deeded, deeds_of}
-use Rattle.pas_same_text.proofs.SoughtRuns.{unowned_free, found_made, found_pages, IsSought, sought_text, missed_text}
-use Rattle.pas_same_text.proofs.MissedGuards.{all_listed, deed_listed, guards_more, inner_or, left_free, left_in_run, outer_more, outer_or, missed_same}
-use Rattle.pas_same_text.proofs.GivenBlocks.{block_is, epoch_now, events_now, live_now, names_now, ready_deeds, ready_gives, records_now}
-use Rattle.pas_answers.specs.{Indexes.after_tried, Indexes.TriedIsNamedBy, Guarding.said_of_guard, Guarding.after_giving}
+use Rattle.pas_answers.specs.{Indexes.{after_tried, TriedIsNamedBy}, Guarding.{said_of_guard, after_giving}}
 use Rattle.pas_profile.specs.Guards.{guards_of}
-use Rattle.pas_same_text.proofs.CacheLists.{request_indexes, all_lowered_keep, each_keeps, backs_keep, same_indexes}
-use Rattle.pas_same_text.proofs.SeatedActs.{own_book, other_book, swept, swept_between, raise_legal, raise_fits, sweep_and_raise_are_the_try, tried_between}
 
 module _ (name : ℕ) {f : Profile} {k heap n : ℕ} {p q : Progress} {w : World} {xs rest : List Made} {block : Block} {guards' : List Guard}
     (s : IsSought f k heap n p w xs) (run : IsRaised f (large_of heap) n (p.books k) guards' xs rest block) (there : IsBetween f q)

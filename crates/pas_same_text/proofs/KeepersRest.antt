@@ -6,11 +6,10 @@ use Rattle.pas_same_text.proofs.Common.{Allowed, triples, Since, HasNothing, Giv
 use Rattle.pas_same_text.proofs.Common.{AreAtRest, IsResting, AreResting, IsBetween, IsThreadOf, IsKeeperOf, AreSeated, large_of, IsValid, backed_in, Made}
 use Rattle.pas_same_text.proofs.Common.{Back, part_of_others, part_of_own, triples_append, always_map, word_of_backed, one_holder, agrees, agreed_steps}
 use Rattle.pas_same_text.proofs.Common.{legal_earlier, IsBeside, sweeping, SweepSteps, guard_of, filter, give_steps, MayFind, is_outer_of, is_outer, Each}
-use Rattle.pas_same_text.proofs.Common.{FitsBook, Guard, Record}
-use Rattle.pas_guard.proofs.Raises.{raised_leaves, no_backs, each_more, backs_both, raised_pages}
-use Rattle.pas_guard.specs.{Evidence.BackedReadHere, Seeks.LeftSince, Raises.BacksNot, Raises.RaiseSteps}
-use Rattle.pas_same_text.proofs.{FreeGrains.outer_held, GivenBack.some_outer, LowerActs.IsSwept, LowerActs.swept_told, LowerActs.goes_down, Tests.or_none}
-use Rattle.pas_same_text.proofs.{Tests.eqb_turned}
+use Rattle.pas_same_text.proofs.{Common.{FitsBook, Guard, Record}, FreeGrains.outer_held, GivenBack.some_outer, LowerActs.{IsSwept, swept_told, goes_down}}
+use Rattle.pas_same_text.proofs.Tests.{or_none, eqb_turned}
+use Rattle.pas_guard.{proofs.Raises.{raised_leaves, no_backs, each_more, backs_both, raised_pages}, specs.{Evidence.BackedReadHere, Seeks.LeftSince}}
+use Rattle.pas_guard.specs.Raises.{BacksNot, RaiseSteps}
 
 -- whoever acts is an actor of the region
 pub thread_of : (threads : ℕ) (f : Profile) (k : ℕ) → IsThreadOf threads k → threads ≤ f.threads → IsThread f k

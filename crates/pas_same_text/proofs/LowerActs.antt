@@ -7,19 +7,17 @@ use Rattle.pas_same_text.proofs.Common.{LookLife, Putting, Only, Whole, word_aft
 use Rattle.pas_same_text.proofs.Common.{legal_earlier, deed_of, one_holder, HintsEmpty, BackSteps, return_returns, puts_kinds, large_of, World, each, is_of}
 use Rattle.pas_same_text.proofs.Common.{lowers, lowers_ended, IsBetween, StaysSame, free_bit, raised_by, IsSame, HasSame, AreSameCaches, lives_in, Record}
 use Rattle.pas_same_text.proofs.Common.{is_outer_of, is_outer, Each, IsBeside, sweeping, SweepSteps, Guard, same_from_deed_word, View, holds, usable_by_kind}
-use Rattle.pas_same_text.proofs.Common.{word_of_deed, freeing, Act, IsThread, Progress, with_book, with_records, after_lowering, Raised}
+use Rattle.pas_same_text.proofs.{Common.{word_of_deed, freeing, Act, IsThread, Progress, with_book, with_records, after_lowering, Raised}, Flushes.unshown}
+use Rattle.pas_same_text.proofs.{EntrySteps.return_hints, GivenBack.{lowered_line, outer_pages, AreOfRegion, AreLowered, all_lowered, said_reversed}}
+use Rattle.pas_same_text.proofs.{GivenBack.{lowered_unguarded, others_stay, some_outer, apart_split, own_left, left_of, outer_number}, StepMarks.IsMarked}
+use Rattle.pas_same_text.proofs.StepMarks.{marked_parts, none_marked, returns_marked, hints_none, hint_marks, offer_marks, epoch_stays_by}
+use Rattle.pas_same_text.proofs.RestingPages.{is_open, deed_now, word_known, IsGivenBack, open_from, covered_not_held, free_left, given_pages}
+use Rattle.pas_same_text.proofs.FreeGrains.{cached_held, outer_held, held_by, never_both, holder_thread}
 use Rattle.pas_steps.specs.Views.{KnowsDeed}
 use Rattle.pas_profile.specs.Lives.{turn_of}
 use Rattle.pas_core.proofs.Lives.{turn_is}
 use Rattle.pas_rights.specs.Words.{full}
-use Rattle.pas_guard.specs.{Books.IsGuardOf, Books.KnowsGuard, Lowers.LowerSteps}
-use Rattle.pas_guard.specs.Sweeps.{is_over, life_look, lowered_record, SweptOne, Swept}
-use Rattle.pas_same_text.proofs.{Flushes.unshown, EntrySteps.return_hints}
-use Rattle.pas_same_text.proofs.GivenBack.{lowered_line, outer_pages, AreOfRegion, AreLowered, all_lowered, said_reversed, lowered_unguarded, others_stay}
-use Rattle.pas_same_text.proofs.GivenBack.{some_outer, apart_split, own_left, left_of, outer_number}
-use Rattle.pas_same_text.proofs.StepMarks.{IsMarked, marked_parts, none_marked, returns_marked, hints_none, hint_marks, offer_marks, epoch_stays_by}
-use Rattle.pas_same_text.proofs.RestingPages.{is_open, deed_now, word_known, IsGivenBack, open_from, covered_not_held, free_left, given_pages}
-use Rattle.pas_same_text.proofs.FreeGrains.{cached_held, outer_held, held_by, never_both, holder_thread}
+use Rattle.pas_guard.specs.{Books.{IsGuardOf, KnowsGuard}, Lowers.LowerSteps, Sweeps.{is_over, life_look, lowered_record, SweptOne, Swept}}
 
 -- the guard goes down: all do, or its block has ended by these events
 abbrev pub goes_down : Bool → List Event → Guard → Bool

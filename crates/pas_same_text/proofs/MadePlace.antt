@@ -1,20 +1,18 @@
 -- ONE LOCAL ALLOCATOR GOES, in the text alone: wherever it stands in its cache.
 use Rattle.std.proofs.Common.{arith, ◌≡◌, ℕ, Bool, true, false, not, ◌||◌, if◌then◌else◌, List, [], ◌∷◌, Some, refl, eqb-true, ◌≤◌, length, ◌==◌, ◌++◌, reverse}
 use Rattle.std.proofs.Common.{inl, inr, ◌&&◌, ap, sym, ◌∙◌, subst, append-nil, eq-eqb, ◌+◌, ◌/◌, ◌%◌, ◌<◌, nat_le, cond, All, Option, None, true≢false}
-use Rattle.pas_same_text.proofs.{GivenBack.Returns, GivenBack.OnlyHints, GivenBack.all_only_hints, Flushes.visible_steps, StopActs.slot_room}
-use Rattle.pas_same_text.proofs.{StopActs.read_room, CachedSlots.found_passes}
-use Rattle.pas_same_text.proofs.CacheLists.{same_guards, given_up_keeps, same_with, same_kept, Finds, for_same, found_same, others_same}
-use Rattle.pas_same_text.proofs.Tests.{any_weaker, any_filtered, and_second, and_first}
-use Rattle.pas_same_text.proofs.StopSteps.{AreUnique, one_returns, unique_of, IsMarkedBy, one_marked, one_hints, no_other_counted}
-use Rattle.pas_same_text.proofs.FreeGrains.{guards_as, still_unguarded, cached_held, outer_held, held_by, never_both, holder_thread}
-use Rattle.pas_same_text.proofs.RestingPages.{is_open, IsGivenBack, covered_not_held, free_left, given_pages}
-use Rattle.pas_same_text.proofs.StepMarks.{IsMarked, hint_marks, offer_marks, epoch_stays_by}
-use Rattle.pas_same_text.proofs.Common.{AreSameCaches, false≢true, list_any, find, IsPage, IsValid, IsDirectoryOf, Profile, Directory, Event, Local, Cache}
-use Rattle.pas_same_text.proofs.Common.{World, cache_of, locals_of, set_locals, is_for, others, gives_up, is_of, IsBetween, free_bit, live_in, events_by, Only}
-use Rattle.pas_same_text.proofs.Common.{part, visible, holds, Made, only_within, events_same, one_holder, freeing, home_of, StopStepsAt, Slots, Cached}
-use Rattle.pas_same_text.proofs.Common.{releasing, IsLocal, covers, any_covers, IsThread, Progress, with_steps, Record, IsSame, HasSame, IsSameCache}
-use Rattle.pas_same_text.proofs.Common.{IsSameLocal, AreSameLocals, lives_in, nat_tests, sum_by-cons, All-head, All-tail, same_Some, none-some, count_by}
-use Rattle.pas_same_text.proofs.Common.{IsEmpty, start_of, LeavesWhere, start_below, StopsFirst, local_for, others_than, gives_up_first, makes_place}
+use Rattle.pas_same_text.proofs.{GivenBack.{Returns, OnlyHints, all_only_hints}, Flushes.visible_steps, StopActs.{slot_room, read_room}}
+use Rattle.pas_same_text.proofs.{CachedSlots.found_passes, CacheLists.{same_guards, given_up_keeps, same_with, same_kept, Finds, for_same, found_same}}
+use Rattle.pas_same_text.proofs.{CacheLists.others_same, Tests.{any_weaker, any_filtered, and_second, and_first}, StopSteps.{AreUnique, one_returns, unique_of}}
+use Rattle.pas_same_text.proofs.{StopSteps.{IsMarkedBy, one_marked, one_hints, no_other_counted}, FreeGrains.{guards_as, still_unguarded, cached_held}}
+use Rattle.pas_same_text.proofs.{FreeGrains.{outer_held, held_by, never_both, holder_thread}, RestingPages.{is_open, IsGivenBack, covered_not_held, free_left}}
+use Rattle.pas_same_text.proofs.{RestingPages.given_pages, StepMarks.{IsMarked, hint_marks, offer_marks, epoch_stays_by}, Common.{AreSameCaches, false≢true}}
+use Rattle.pas_same_text.proofs.Common.{list_any, find, IsPage, IsValid, IsDirectoryOf, Profile, Directory, Event, Local, Cache, World, cache_of, locals_of}
+use Rattle.pas_same_text.proofs.Common.{set_locals, is_for, others, gives_up, is_of, IsBetween, free_bit, live_in, events_by, Only, part, visible, holds, Made}
+use Rattle.pas_same_text.proofs.Common.{only_within, events_same, one_holder, freeing, home_of, StopStepsAt, Slots, Cached, releasing, IsLocal, covers}
+use Rattle.pas_same_text.proofs.Common.{any_covers, IsThread, Progress, with_steps, Record, IsSame, HasSame, IsSameCache, IsSameLocal, AreSameLocals, lives_in}
+use Rattle.pas_same_text.proofs.Common.{nat_tests, sum_by-cons, All-head, All-tail, same_Some, none-some, count_by, IsEmpty, start_of, LeavesWhere, start_below}
+use Rattle.pas_same_text.proofs.Common.{StopsFirst, local_for, others_than, gives_up_first, makes_place}
 use Rattle.pas_cache.specs.{Serves.MakesPlace, Locals.is_for as is_for_slots}
 
 -- ---- the others of a cache

@@ -4,16 +4,14 @@ use Rattle.pas_same_text.proofs.Common.{left_last_first, is_outer_of, is_outer, 
 use Rattle.pas_same_text.proofs.Common.{AllByRecursion, Guard, Books, Progress, records_of, World, is_offered, large_of, IsBetween, free_bit, raised_by}
 use Rattle.pas_same_text.proofs.Common.{AreSameGuards, has_number, IsSame, HasSame, number_of, IsValid, IsDirectoryOf, Directory, Event, Profile, Word, deed_in}
 use Rattle.pas_same_text.proofs.Common.{triples, events_by, Only, Always, usable_by_kind, part, word_after, visible, Made, Step, Deed, only_within}
-use Rattle.pas_same_text.proofs.Common.{eligible_bit, right_in_one_place, LendsNone, lends_none, allocating, MadeOf, all_map, Raised}
-use Rattle.pas_same_text.proofs.StepMarks.{IsMarked, HintsPage, epoch_stays_by, seeks_unbacked}
-use Rattle.pas_same_text.proofs.Pieces.{all_in_run, IsPiece, UsesOnly, free_kept, hinted_before, piece_pages}
-use Rattle.pas_same_text.proofs.{KeepersRest.outer_last, StopActs.events_recorded}
-use Rattle.pas_same_text.proofs.RunsFound.{with_deed, deeded, deeds_of, shown, shown_events, shown_records, shown_lives, shown_rest}
-use Rattle.pas_same_text.proofs.RestingPages.{open_from, deed_now, bit_tells, bit_offered}
+use Rattle.pas_same_text.proofs.{Common.{eligible_bit, right_in_one_place, LendsNone, lends_none, allocating, MadeOf, all_map, Raised}, StepMarks.IsMarked}
+use Rattle.pas_same_text.proofs.{StepMarks.{HintsPage, epoch_stays_by, seeks_unbacked}, Pieces.{all_in_run, IsPiece, UsesOnly, free_kept, hinted_before}}
+use Rattle.pas_same_text.proofs.{Pieces.piece_pages, KeepersRest.outer_last, StopActs.events_recorded, RunsFound.{with_deed, deeded, deeds_of, shown}}
+use Rattle.pas_same_text.proofs.{RunsFound.{shown_events, shown_records, shown_lives, shown_rest}, RestingPages.{open_from, deed_now, bit_tells, bit_offered}}
 use Rattle.pas_same_text.proofs.SoughtRuns.{IsRunOf, IsMadeOf, unowned_free, visible_mid, made_events, none_made, none_pages, IsSought}
+use Rattle.pas_same_text.proofs.GivenBlocks.{AreReadying, made_ready, ready_deeds, ready_lives}
 use Rattle.std.proofs.Common.{map, ◌⊎◌, ne_eqb, append-nil, ◌≡◌, ℕ, ◌+◌, ◌*◌, ◌<◌, ◌==◌, Bool, true, false, if◌then◌else◌, List, [], ◌∷◌, ◌++◌, Some, inl, inr}
 use Rattle.std.proofs.Common.{refl, ap, sym, ◌∙◌, subst, arith, eq-eqb, eqb-true}
-use Rattle.pas_same_text.proofs.GivenBlocks.{AreReadying, made_ready, ready_deeds, ready_lives}
 
 -- ---- the pages whose deeds were made
 -- whether the step made a deed or not, the list only grows

@@ -2,13 +2,12 @@
 use Rattle.std.proofs.Common.{◌≡◌, ℕ, ◌≤◌, Bool, List, Option, None, Some, inl, inr, refl, sym, subst}
 use Rattle.pas_same_text.proofs.Common.{IsAdmitted, route_in, Route, Block, Profile, part, Indexes, Act, IsThread, Request, What, Progress, Named, Answer}
 use Rattle.pas_same_text.proofs.Common.{having, standing_for, IsServed, IsRemadeBy, after_answer, IsNamedBy, World, IsSame, IsBetween, HandsOnOwn, IsKnown}
-use Rattle.pas_same_text.proofs.Common.{KeepsSame, IsActOf, IsAsked, AnswersSame, RequestStaysSame, remakes, acts_on}
-use Rattle.pas_answers.specs.{Answers.request_for, Indexes.unless_suited, Calls.block_behind, Indexes.request_made}
-use Rattle.pas_same_text.proofs.BackActs.{flush_act, stop_act, end_act, idle_act, raw_act, raw_sized_act, free_act, free_sized_act, remakes_idly}
-use Rattle.pas_same_text.proofs.{CachedSlots.has_asked, BitfitRequests.bitfit_answered, ClassRequests.class_answered, GuardActs.by_what, LowerActs.lower_act}
-use Rattle.pas_same_text.proofs.{PagesRequests.pages_answered, PagesRequests.named_large, PassActs.pass_same, Replaced.replaced_same, CacheLists.indexes_kept}
-use Rattle.pas_same_text.proofs.{KeepersRest.thread_of, KeepersRest.keeper_of}
-use Rattle.pas_same_text.proofs.SmallActs.{phase_same, close_same, wake_same, reading_same, tick_same, settling_same}
+use Rattle.pas_same_text.proofs.{Common.{KeepsSame, IsActOf, IsAsked, AnswersSame, RequestStaysSame, remakes, acts_on}, BackActs.{flush_act, stop_act, end_act}}
+use Rattle.pas_same_text.proofs.{BackActs.{idle_act, raw_act, raw_sized_act, free_act, free_sized_act, remakes_idly}, CachedSlots.has_asked}
+use Rattle.pas_same_text.proofs.{BitfitRequests.bitfit_answered, ClassRequests.class_answered, GuardActs.by_what, LowerActs.lower_act}
+use Rattle.pas_same_text.proofs.{PagesRequests.{pages_answered, named_large}, PassActs.pass_same, Replaced.replaced_same, CacheLists.indexes_kept}
+use Rattle.pas_same_text.proofs.{KeepersRest.{thread_of, keeper_of}, SmallActs.{phase_same, close_same, wake_same, reading_same, tick_same, settling_same}}
+use Rattle.pas_answers.specs.{Answers.request_for, Indexes.{unless_suited, request_made}, Calls.block_behind}
 
 -- ---- a request, by its route
 by_route : (f : Profile) (k : ℕ) (r : Request) (p : Progress) (a : Answer) (w : World) (route : Route) → route_in f r.size r.align ≡ route → IsAsked f k r p a w

@@ -1,34 +1,29 @@
 -- A REQUEST FOR WHOLE PAGES THAT IS SERVED by a run: its pages get deeds and memory where they have none, the lowest first, and their block is given.
 use Rattle.pas_same_text.proofs.GivenRuns.{GivesPages, all_kinds, backs_text, deed_mid, gives_it, lives_within, page_used, run_pages, shown_mid}
-use Rattle.pas_same_text.proofs.{MissedGuards.all_listed, CacheLists.same_kept, CacheLists.kept_at, SmallActs.after_with, FreeGrains.guards_as}
-use Rattle.pas_same_text.proofs.RunsFound.{shown, shown_rest, DeedsInRun, in_turn, each_in_turn, deeded, deeds_of, deeded_falls, deeded_within, deeds_in_turn}
-use Rattle.pas_same_text.proofs.RunsFound.{deeds_in_run}
-use Rattle.pas_same_text.proofs.Pieces.{UsesOnly, LeftInTurn, all_in_run, has_same}
+use Rattle.pas_same_text.proofs.{MissedGuards.all_listed, CacheLists.{same_kept, kept_at}, SmallActs.after_with, FreeGrains.guards_as, RunsFound.shown}
+use Rattle.pas_same_text.proofs.RunsFound.{shown_rest, DeedsInRun, in_turn, each_in_turn, deeded, deeds_of, deeded_falls, deeded_within, deeds_in_turn}
+use Rattle.pas_same_text.proofs.{RunsFound.deeds_in_run, Pieces.{UsesOnly, LeftInTurn, all_in_run, has_same}, Common.{has_number, false≢true, deed_word_of}}
+use Rattle.pas_same_text.proofs.Common.{IsValid, IsDirectoryOf, Directory, Event, Block, Profile, deed_word_of-positive, Run, deed_in, triples, events_by}
+use Rattle.pas_same_text.proofs.Common.{InTurn, Always, View, Only, part, Legal, Made, only_within, always_map, word_of_deed, deed_of, runs, agreed_steps}
+use Rattle.pas_same_text.proofs.Common.{legal_earlier, give_steps, IsInRun, ReturnsDuly, in_span, DeedsRise, MayFind, finding, BackStep, pages_from, seeking}
+use Rattle.pas_same_text.proofs.Common.{MadeOf, span_in, AtRest, Cached, any_covers, may_find, Record, IsThread, Progress, named, records_of}
+use Rattle.pas_same_text.proofs.Common.{with_cache as with_cached, World, large_of, IsSame, HasSame, AreSameCaches, IsBetween, deeds, backs, address_on, gives}
+use Rattle.pas_same_text.proofs.Common.{run_block, GotPages, lowest_alone, lends_none, IsLone, address_of, IsAdmitted, route_in, room_in, is_shared}
+use Rattle.pas_same_text.proofs.Common.{kind_of_route, Route, NoRoom, Whole, Kinds, kind_of, is_in, apart, showing, looking, triples_append, part_of_own}
+use Rattle.pas_same_text.proofs.Common.{always_both, in_apart, only_both, AreQuiet, IsQuiet, IsServedNamed, IsScanned, Indexes, found_in, IsLowestRun}
+use Rattle.pas_same_text.proofs.Common.{IsNamedWhole, ServesPages, wanted_for, Act, Request, Alloc, Answer, after_answer, said_of_request}
+use Rattle.pas_same_text.proofs.{Common.{block_of as block_answered, IsNamedBy, serves, acts_on, IsTaken, named_run, lowest_run}, GivenBlocks.epoch_now}
+use Rattle.pas_same_text.proofs.{GivenBlocks.{events_now, live_now, names_now, records_now}, SearchedPages.{refused_to, refused_same, lowest_found}}
+use Rattle.pas_same_text.proofs.{SearchedPages.{none_lowest, named_whole, whole_named}, CachedSlots.{HasAsked, answer_reached, by_route, request_taken}}
+use Rattle.pas_same_text.specs.{Runs.{gives_pages, run_or, serves_run}, Indexes.loses_named}
 use Rattle.std.proofs.Common.{false, ◌≡◌, ◌≢◌, ℕ, ◌+◌, ◌*◌, ◌≤◌, ◌==◌, true, List, ◌∷◌, ◌++◌, Option, None, Some, inl, refl, ap, sym, ◌∙◌, subst, arith}
 use Rattle.std.proofs.Common.{append-nil, ◌/◌, Result, Ok, Err, ◌⊎◌, inr, append_assoc, true≢false}
-use Rattle.pas_same_text.proofs.Common.{has_number, false≢true, deed_word_of, IsValid, IsDirectoryOf, Directory, Event, Block, Profile, deed_word_of-positive}
-use Rattle.pas_same_text.proofs.Common.{Run, deed_in, triples, events_by, InTurn, Always, View, Only, part, Legal, Made, only_within, always_map, word_of_deed}
-use Rattle.pas_same_text.proofs.Common.{deed_of, runs, agreed_steps, legal_earlier, give_steps, IsInRun, ReturnsDuly, in_span, DeedsRise, MayFind, finding}
-use Rattle.pas_same_text.proofs.Common.{BackStep, pages_from, seeking, MadeOf, span_in, AtRest, Cached, any_covers, may_find, Record, IsThread, Progress, named}
-use Rattle.pas_same_text.proofs.Common.{records_of, with_cache as with_cached, World, large_of, IsSame, HasSame, AreSameCaches, IsBetween, deeds, backs}
-use Rattle.pas_same_text.proofs.Common.{address_on, gives, run_block, GotPages, lowest_alone, lends_none, IsLone, address_of, IsAdmitted, route_in, room_in}
-use Rattle.pas_same_text.proofs.Common.{is_shared, kind_of_route, Route, NoRoom, Whole, Kinds, kind_of, is_in, apart, showing, looking, triples_append}
-use Rattle.pas_same_text.proofs.Common.{part_of_own, always_both, in_apart, only_both, AreQuiet, IsQuiet, IsServedNamed, IsScanned, Indexes, found_in}
-use Rattle.pas_same_text.proofs.Common.{IsLowestRun, IsNamedWhole, ServesPages, wanted_for, Act, Request, Alloc, Answer, after_answer, said_of_request}
-use Rattle.pas_same_text.proofs.Common.{block_of as block_answered, IsNamedBy, serves, acts_on, IsTaken, named_run, lowest_run}
-use Rattle.pas_steps.specs.Calls.{Leads}
-use Rattle.pas_same_text.specs.{Runs.gives_pages, Indexes.loses_named, Runs.run_or, Runs.serves_run}
-use Rattle.pas_same_text.proofs.GivenBlocks.{epoch_now, events_now, live_now, names_now, records_now}
-use Rattle.pas_large.proofs.{Lifted.find_again, Pages.rise_none}
-use Rattle.pas_large.proofs.Allocates.{tried_lone, holds_whole, scans_only, goes_by_door, refused_alone}
-use Rattle.pas_steps.proofs.Apart.{no_event}
+use Rattle.pas_steps.{specs.Calls.Leads, proofs.Apart.no_event}
+use Rattle.pas_large.proofs.{Lifted.find_again, Pages.rise_none, Allocates.{tried_lone, holds_whole, scans_only, goes_by_door, refused_alone}}
+use Rattle.pas_large.specs.{Allocates.{IsAllocatedLarge, IsAllocatedNamed}, Alone.GoesByDoor, Pages.claiming_old}
 use Rattle.pas_search.proofs.PagesThatServe.{duly_both, duly_none}
-use Rattle.pas_large.specs.{Allocates.IsAllocatedLarge, Allocates.IsAllocatedNamed, Alone.GoesByDoor, Pages.claiming_old}
-use Rattle.pas_cache.specs.Calls.{IsNamed}
-use Rattle.pas_cache.proofs.Routes.{large_size, pages_asked}
+use Rattle.pas_cache.{specs.Calls.IsNamed, proofs.Routes.{large_size, pages_asked}}
 use Rattle.pas_answers.specs.Indexes.{ActIsNamedBy}
-use Rattle.pas_same_text.proofs.SearchedPages.{refused_to, refused_same, lowest_found, none_lowest, named_whole, whole_named}
-use Rattle.pas_same_text.proofs.CachedSlots.{HasAsked, answer_reached, by_route, request_taken}
 
 -- The n pages from the first one on were got by the first of these steps, which made deeds of pages of this run alone, the lowest first. By the others they were backed, the lowest
 -- first, their block was given, and they were left.

@@ -2,24 +2,21 @@
 -- of the text afterwards.
 use Rattle.std.proofs.Common.{◌≡◌, ℕ, zero, suc, ◌+◌, ◌*◌, ◌^◌, ◌≤◌, ◌==◌, Bool, true, false, not, if◌then◌else◌, List, [], ◌∷◌, ◌++◌, map, reverse}
 use Rattle.std.proofs.Common.{append_assoc, append-nil, Option, None, Some, refl, ap, sym, ◌∙◌, subst, arith, true≢false, eq-eqb, eqb-true, ne_eqb, ◌<◌, ◌&&◌}
-use Rattle.std.proofs.Common.{inl, inr}
+use Rattle.std.proofs.{Common.{inl, inr}, lemmas.{List.{Concat.flat_map-append, Elements.filter_agree}, Simd.map-map}}
 use Rattle.pas_same_text.proofs.Common.{false≢true, or_cases, or_left, not_from_false, cases_Bool, false_from_ne_true, reverse_onto, reverse-append}
 use Rattle.pas_same_text.proofs.Common.{reverse-reverse, fun_ext, find, filter, Event, Outcome, Profile, Directory, Word, backed_in, epoch_in, unbacks_in}
 use Rattle.pas_same_text.proofs.Common.{outcomes_in, all_tried, Progress, Record, Said, numbers_from, Act, World, each, says, acts_on, IsBetween, IsTaken}
 use Rattle.pas_same_text.proofs.Common.{AreEndsStamped, page_numbers, is_free, is_hinted, is_empty, is_offered, outcome_backed, outcome_of, has_number}
 use Rattle.pas_same_text.proofs.Common.{lives_in, IsSame, HasSame, AreSameCaches, number_of, IsValid, IsPage, IsDirectoryOf, vector_words, same_from_deed_word}
 use Rattle.pas_same_text.proofs.Common.{made, triples, part, word_after, visible, Legal, Made, Look, same_truth, empty_bit, eligible_bit, legal_earlier}
-use Rattle.pas_same_text.proofs.Common.{deed_same, offered_deed, hinted_page}
-use Rattle.pas_same_text.specs.Passes.{passes, free_bits, comes_to, examines}
-use Rattle.std.proofs.lemmas.{List.Concat.flat_map-append, List.Elements.filter_agree, Simd.map-map}
-use Rattle.pas_scavenger.specs.{Pages.unback_of, Passes.passing, Passes.PassSteps}
+use Rattle.pas_same_text.proofs.{Common.{deed_same, offered_deed, hinted_page}, CacheLists.all_locals, Tests.{filtered_has, has_filtered}}
+use Rattle.pas_same_text.proofs.{Flushes.{visible_steps, map_reverse}, StepMarks.{OffersPage, offered_by, epoch_stays_by}, FreeGrains.guards_as}
+use Rattle.pas_same_text.proofs.{FreeGrains.still_unguarded, GivenBack.{free_kept, empty_kept, is_idle, page_there}, PassOutcomes.{pair, stays_hinted}}
+use Rattle.pas_same_text.proofs.{PassOutcomes.{WasOffered, has_same}, RestingPages.{open_grows, page_idle, idle_hinted, is_open, had_open, offered_bit}}
+use Rattle.pas_same_text.{proofs.{RestingPages.bit_offered, PassOrder.{IsPast, falling, falling_skips, rising, past_all}}, specs.Passes.{passes, free_bits}}
+use Rattle.pas_same_text.specs.Passes.{comes_to, examines}
+use Rattle.pas_scavenger.specs.{Pages.unback_of, Passes.{passing, PassSteps}}
 use Rattle.pas_answers.specs.{PassRecords.record_of, Answers.after_pass}
-use Rattle.pas_same_text.proofs.{CacheLists.all_locals, Tests.filtered_has, Tests.has_filtered, Flushes.visible_steps, Flushes.map_reverse}
-use Rattle.pas_same_text.proofs.{StepMarks.OffersPage, StepMarks.offered_by, StepMarks.epoch_stays_by, FreeGrains.guards_as, FreeGrains.still_unguarded}
-use Rattle.pas_same_text.proofs.GivenBack.{free_kept, empty_kept, is_idle, page_there}
-use Rattle.pas_same_text.proofs.PassOutcomes.{pair, stays_hinted, WasOffered, has_same}
-use Rattle.pas_same_text.proofs.RestingPages.{open_grows, page_idle, idle_hinted, is_open, had_open, offered_bit, bit_offered}
-use Rattle.pas_same_text.proofs.PassOrder.{IsPast, falling, falling_skips, rising, past_all}
 
 -- ---- what the outcome of a page rests on
 bits_same : (w v : World) (page word : ℕ) → ((b : ℕ) → is_free v page b ≡ is_free w page b) → (n : ℕ) → free_bits v page word n ≡ free_bits w page word n

@@ -4,12 +4,10 @@ use Rattle.std.proofs.Common.{append_assoc, append-nil, Option, None, Some, inl,
 use Rattle.pas_same_text.proofs.Common.{cases_Bool, cases_eq, reverse_onto, filter-append, filter, has_bit, IsValid, vector_words, Directory, Outcome, Profile}
 use Rattle.pas_same_text.proofs.Common.{Word, made, triples, InTurn, Whole, word_after, Legal, Made, Look, Offer, triples_append, IsEmptyBacked, empty_bit}
 use Rattle.pas_same_text.proofs.Common.{legal_earlier, TrySteps, outcomes_in, all_tried, numbers_from, Progress, World, outcome_of, IsSame, IsBetween}
-use Rattle.pas_same_text.proofs.Common.{AreEndsStamped}
+use Rattle.pas_same_text.proofs.{Common.AreEndsStamped, StepMarks.{OffersPage, once_parts}, PassTries.tried, PassOutcomes.{WasOffered, pair, stays_hinted}}
+use Rattle.pas_same_text.proofs.PassOutcomes.{is_on, Spares, words_stay, spare_both, try_spares}
 use Rattle.pas_steps.specs.InTurn.{numbers_below}
-use Rattle.pas_scavenger.specs.Passes.{Tried, TriedSteps, with_outcome, WordRead, pages_set, WordSteps}
-use Rattle.pas_scavenger.proofs.Examinations.{outcomes_append}
-use Rattle.pas_same_text.proofs.{StepMarks.OffersPage, StepMarks.once_parts, PassTries.tried}
-use Rattle.pas_same_text.proofs.PassOutcomes.{WasOffered, pair, stays_hinted, is_on, Spares, words_stay, spare_both, try_spares}
+use Rattle.pas_scavenger.{specs.Passes.{Tried, TriedSteps, with_outcome, WordRead, pages_set, WordSteps}, proofs.Examinations.outcomes_append}
 
 -- ---- the numbers below n that pass a test, the greatest first
 abbrev pub falling : (ℕ → Bool) → ℕ → List ℕ

@@ -1,30 +1,24 @@
 -- WHAT A PASS READS, where no other actor makes a step, and what it leaves: steps on other pages leave a page's words and its bits of the page vectors, looks change no word,
 -- and before grains are taken the words of a page are those that were looked at.
-use Rattle.pas_same_text.proofs.{StepMarks.kept_over, GivenBack.each_at, GivenBack.each_all, SearchedPages.find_first, SearchedPages.find_none}
-use Rattle.pas_same_text.proofs.{FreeGrains.nobody_keeps, SeatedActs.stamps_told}
+use Rattle.pas_same_text.proofs.{StepMarks.kept_over, GivenBack.{each_at, each_all}, SearchedPages.{find_first, find_none}, FreeGrains.nobody_keeps}
+use Rattle.pas_same_text.proofs.{SeatedActs.stamps_told, Common.{false≢true, cases_eq, false_from_ne_true, has_bit, Mask4, page_bit-set, page_bit-clear}}
+use Rattle.pas_same_text.proofs.Common.{full_bit, grain_of, number_of, deed_word_of, IsDirectoryOf, IsValid, IsPage, Directory, Outcome, Word, Profile, Event}
+use Rattle.pas_same_text.proofs.Common.{made, triples, IsReturn, OnlyReturns, Always, all_ones, Whole, word_after, Legal, kind_of, is_in, looking, Only}
+use Rattle.pas_same_text.proofs.Common.{LookFree, Kinds, apart, LookDeed, Taking, Putting, Stamping, Made, Step, Look, Deed, Back, Take, Put, Give, End}
+use Rattle.pas_same_text.proofs.Common.{EndSized, TakeRight, Offer, Park, Unpark, Stamp, Hint, Tick, Unback, Unhint, only_both, only_within, always_both}
+use Rattle.pas_same_text.proofs.Common.{always_map, empty_bit, eligible_bit, IsUsableFree, looked, backed_of, offered_at_rest, right_in_one_place, looks_until}
+use Rattle.pas_same_text.proofs.Common.{looks, word_take, takes, ones, Used, until_only, leave_returns, return_returns, looks_only, used_at, TrySteps}
+use Rattle.pas_same_text.proofs.Common.{takes_until, first_looks, EndsWithout, ExamineSteps, taken_on, looks_same, Progress, World, HasSame, IsBetween, IsSame}
+use Rattle.pas_same_text.proofs.Common.{AreEndsStamped, is_free, are_free, is_guarded, is_kept, outcome_backed, outcome_of, deed_word_of-positive}
+use Rattle.pas_same_text.proofs.Common.{read-deed_word_of, directory_from_profile, same_from_deed_word, backed_in, epoch_in, word_of_backed, IsEmptyBacked}
+use Rattle.pas_same_text.{proofs.RestingPages.{free_at, backed_unguarded, clear_of, bit_tells}, specs.Passes.{used_word, free_bits}}
 use Rattle.std.proofs.Common.{arith, ◌≡◌, ℕ, ◌/◌, ◌%◌, ◌==◌, bit_and, bit_or, Bool, true, false, if◌then◌else◌, List, [], ◌∷◌, ◌++◌, Option, None, Some}
 use Rattle.std.proofs.Common.{slice_index, inl, inr, refl, ap, sym, ◌∙◌, subst, w64, ◌≢◌, zero, suc, ◌<◌, ◌≤◌, true≢false, ne_eqb, ◌+◌, ◌-◌, ◌*◌, ◌^◌, not}
-use Rattle.std.proofs.Common.{nat_lt, eq-eqb, lt-ltb, le-ltb}
-use Rattle.pas_same_text.proofs.Common.{false≢true, cases_eq, false_from_ne_true, has_bit, Mask4, page_bit-set, page_bit-clear, full_bit, grain_of, number_of}
-use Rattle.pas_same_text.proofs.Common.{deed_word_of, IsDirectoryOf, IsValid, IsPage, Directory, Outcome, Word, Profile, Event, made, triples, IsReturn}
-use Rattle.pas_same_text.proofs.Common.{OnlyReturns, Always, all_ones, Whole, word_after, Legal, kind_of, is_in, looking, Only, LookFree, Kinds, apart}
-use Rattle.pas_same_text.proofs.Common.{LookDeed, Taking, Putting, Stamping, Made, Step, Look, Deed, Back, Take, Put, Give, End, EndSized, TakeRight, Offer}
-use Rattle.pas_same_text.proofs.Common.{Park, Unpark, Stamp, Hint, Tick, Unback, Unhint, only_both, only_within, always_both, always_map, empty_bit}
-use Rattle.pas_same_text.proofs.Common.{eligible_bit, IsUsableFree, looked, backed_of, offered_at_rest, right_in_one_place, looks_until, looks, word_take}
-use Rattle.pas_same_text.proofs.Common.{takes, ones, Used, until_only, leave_returns, return_returns, looks_only, used_at, TrySteps, takes_until, first_looks}
-use Rattle.pas_same_text.proofs.Common.{EndsWithout, ExamineSteps, taken_on, looks_same, Progress, World, HasSame, IsBetween, IsSame, AreEndsStamped, is_free}
-use Rattle.pas_same_text.proofs.Common.{are_free, is_guarded, is_kept, outcome_backed, outcome_of, deed_word_of-positive, read-deed_word_of}
-use Rattle.pas_same_text.proofs.Common.{directory_from_profile, same_from_deed_word, backed_in, epoch_in, word_of_backed, IsEmptyBacked}
-use Rattle.pas_same_text.specs.Passes.{used_word, free_bits}
-use Rattle.std.proofs.lemmas.Nat.{mod-pow-add, Bits.bit_at-lt}
-use Rattle.std.specs.Int.{bit_at}
-use Rattle.pas_steps.specs.Kinds.{LookBacked, Claiming}
-use Rattle.pas_steps.proofs.Bits.{all_set}
+use Rattle.std.{proofs.{Common.{nat_lt, eq-eqb, lt-ltb, le-ltb}, lemmas.Nat.{mod-pow-add, Bits.bit_at-lt}}, specs.Int.bit_at}
+use Rattle.pas_steps.{specs.Kinds.{LookBacked, Claiming}, proofs.Bits.all_set}
 use Rattle.pas_core.proofs.Lives.{words_fit}
-use Rattle.pas_rights.specs.{Looks.AreUsed, Puts.PutsBelow}
-use Rattle.pas_rights.proofs.Orders.{each_always}
+use Rattle.pas_rights.{specs.{Looks.AreUsed, Puts.PutsBelow}, proofs.Orders.each_always}
 use Rattle.pas_scavenger.specs.{Puttings.BackSteps, Pages.AsksSteps}
-use Rattle.pas_same_text.proofs.RestingPages.{free_at, backed_unguarded, clear_of, bit_tells}
 use Rattle.pas_profile.proofs.Sizes.{usable_grains_ge}
 
 -- ---- on which page a step works

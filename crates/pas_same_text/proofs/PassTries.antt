@@ -1,21 +1,19 @@
 -- WHAT COMES OF A PAGE THAT IS TRIED: its outcome is that of the text, and where that ends its hint, it has none afterwards.
 use Rattle.pas_same_text.proofs.StepMarks.{backed_read, HintsPage, OffersPage, WasRead, backed_stays, hinted_by, hint_read, hints_none, hints_of, once_parts}
-use Rattle.std.proofs.Common.{◌≡◌, ◌≢◌, ℕ, ◌+◌, ◌<◌, Bool, true, false, if◌then◌else◌, List, [], ◌∷◌, ◌++◌, Option, None, Some, inl, inr, refl, ap, sym, ◌∙◌}
-use Rattle.std.proofs.Common.{subst, arith, true≢false, eq-eqb}
 use Rattle.pas_same_text.proofs.Common.{false≢true, false_from_ne_true, looks_same, hints_both, Mask4, page_bit-clear, number_of, IsValid, IsPage, Directory}
 use Rattle.pas_same_text.proofs.Common.{Outcome, Profile, Word, made, triple, triples, Whole, word_after, Legal, Once, Always, all_ones, Kinds, kind_of}
 use Rattle.pas_same_text.proofs.Common.{place_of, apart, looking, returning, Only, Taking, Putting, Offering, Hinting, Unbacking, Unhinting, Made, Look, Offer}
 use Rattle.pas_same_text.proofs.Common.{Hint, Unback, Unhint, triples_append, in_apart, only_both, only_within, returns_are, IsEmptyBacked, empty_bit}
 use Rattle.pas_same_text.proofs.Common.{eligible_bit, legal_earlier, hinted_page, looks, looks_until, ReadsBacked, HintsEmpty, ones, Used, leave_due}
 use Rattle.pas_same_text.proofs.Common.{leave_returns, return_returns, puts_kinds, used_at, TrySteps, takes_until, first_looks, EndsWithout, ExamineSteps}
-use Rattle.pas_same_text.proofs.Common.{taken_on, Progress, World, outcome_of, IsSame, IsBetween, AreEndsStamped}
-use Rattle.pas_steps.specs.Kinds.{LookStamp}
-use Rattle.pas_scavenger.specs.{Judgements.Judged, Puttings.BackSteps, Pages.EndsWith}
-use Rattle.pas_scavenger.proofs.Examinations.{takes_are}
-use Rattle.pas_same_text.proofs.PassOutcomes.{WasOffered, stays_hinted, bare_outcome, used_outcome, kept_outcome, young_outcome, old_outcome, empty_backed}
-use Rattle.pas_same_text.proofs.PassOutcomes.{frees_stay, stamps_stay, looks_told, IsAsked, asking, asks_only, asks_told, none_used, AreWordsKept, IsSpared}
-use Rattle.pas_same_text.proofs.PassOutcomes.{first_only}
+use Rattle.pas_same_text.proofs.{Common.{taken_on, Progress, World, outcome_of, IsSame, IsBetween, AreEndsStamped}, PassOutcomes.{WasOffered, stays_hinted}}
+use Rattle.pas_same_text.proofs.PassOutcomes.{bare_outcome, used_outcome, kept_outcome, young_outcome, old_outcome, empty_backed, frees_stay, stamps_stay}
+use Rattle.pas_same_text.proofs.PassOutcomes.{looks_told, IsAsked, asking, asks_only, asks_told, none_used, AreWordsKept, IsSpared, first_only}
 use Rattle.pas_same_text.proofs.EntrySteps.{return_hints}
+use Rattle.std.proofs.Common.{◌≡◌, ◌≢◌, ℕ, ◌+◌, ◌<◌, Bool, true, false, if◌then◌else◌, List, [], ◌∷◌, ◌++◌, Option, None, Some, inl, inr, refl, ap, sym, ◌∙◌}
+use Rattle.std.proofs.Common.{subst, arith, true≢false, eq-eqb}
+use Rattle.pas_steps.specs.Kinds.{LookStamp}
+use Rattle.pas_scavenger.{specs.{Judgements.Judged, Puttings.BackSteps, Pages.EndsWith}, proofs.Examinations.takes_are}
 
 -- ---- steps of some kinds hint no page, or offer none
 none_hints : (ks : Kinds) → apart ks (Hinting ∷ []) ≡ true → (page : ℕ) (xs : List Made) → Only ks xs → HintsPage page xs → ⊥

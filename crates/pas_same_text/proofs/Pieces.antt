@@ -5,21 +5,18 @@ use Rattle.std.proofs.Common.{append_assoc, false, Some, ◌⊎◌, true≢false
 use Rattle.pas_rights.proofs.Puts.{due_both}
 use Rattle.pas_same_text.proofs.StepMarks.{IsMarked, marked_parts, returns_marked, HintsPage, once_parts, none_marked, marked_left, hint_marks, offer_marks}
 use Rattle.pas_same_text.proofs.StepMarks.{offered_by, hints_of, hint_read, free_read, OffersPage, hinted_stays, hinted_by, KeepsBacked, hint_was, own_bit}
-use Rattle.pas_search.proofs.LoneSteps.{was_offered_before}
-use Rattle.pas_same_text.proofs.StopSteps.{ReadsRoom, leave_room, room_earlier, room_later, grain_read}
-use Rattle.pas_same_text.proofs.RestingPages.{open_from, free_left, open_grows, bit_at, is_open, bit_tells, bit_offered, deed_now, word_now, open_unguarded}
-use Rattle.pas_same_text.proofs.RestingPages.{had_open, clear_of, offered_bit}
+use Rattle.pas_same_text.proofs.{StopSteps.{ReadsRoom, leave_room, room_earlier, room_later, grain_read}, RestingPages.{open_from, free_left, open_grows}}
+use Rattle.pas_same_text.proofs.RestingPages.{bit_at, is_open, bit_tells, bit_offered, deed_now, word_now, open_unguarded, had_open, clear_of, offered_bit}
 use Rattle.pas_same_text.proofs.FreeGrains.{not_outer, unguarded_by, bit_free, cached_held, free_uncovered, free_unheld, free_unless, held_by, holder_thread}
-use Rattle.pas_same_text.proofs.FreeGrains.{outer_held}
-use Rattle.pas_same_text.proofs.Tests.{on_page}
-use Rattle.pas_same_text.proofs.Common.{AllByRecursion, list_any, Directory, Word, Profile, InTurn, Always, Once, triples, has_right, holds, GetsHere, Made}
-use Rattle.pas_same_text.proofs.Common.{Hint, Offer, LeaveSteps, GivesDuly, leave_due, leave_returns, IsInRun, MakesNoDeedHere, pages_from, all_map}
-use Rattle.pas_same_text.proofs.Common.{same_from_deed_word, has_bit, IsValid, IsDirectoryOf, number_of, deed_word_of, IsKind, Whole, word_after, Legal, part}
-use Rattle.pas_same_text.proofs.Common.{Event, visible, Kinds, Only, apart, Taking, Giving, LookLife, Backing, returning, Progress, World, is_offered}
-use Rattle.pas_same_text.proofs.Common.{is_guarded, is_hinted, HasSame, IsSame, ArePagesSame, IsBetween, free_bit, false≢true, false_from_ne_true, cases_Bool}
-use Rattle.pas_same_text.proofs.Common.{triples_append, only_both, only_within, once_later, same_truth, eligible_bit, empty_bit, IsPartOf, legal_before}
-use Rattle.pas_same_text.proofs.Common.{LendsNone, legal_earlier, right_not_offered, right_in_one_place, hinted_at_rest, only_leaves, Live, live_in, deed_in}
-use Rattle.pas_same_text.proofs.Common.{any_covers, allocating, is_outer, IsReturnOf, ReturnsDuly}
+use Rattle.pas_same_text.proofs.{FreeGrains.outer_held, Tests.on_page, Common.{AllByRecursion, list_any, Directory, Word, Profile, InTurn, Always, Once}}
+use Rattle.pas_same_text.proofs.Common.{triples, has_right, holds, GetsHere, Made, Hint, Offer, LeaveSteps, GivesDuly, leave_due, leave_returns, IsInRun}
+use Rattle.pas_same_text.proofs.Common.{MakesNoDeedHere, pages_from, all_map, same_from_deed_word, has_bit, IsValid, IsDirectoryOf, number_of, deed_word_of}
+use Rattle.pas_same_text.proofs.Common.{IsKind, Whole, word_after, Legal, part, Event, visible, Kinds, Only, apart, Taking, Giving, LookLife, Backing}
+use Rattle.pas_same_text.proofs.Common.{returning, Progress, World, is_offered, is_guarded, is_hinted, HasSame, IsSame, ArePagesSame, IsBetween, free_bit}
+use Rattle.pas_same_text.proofs.Common.{false≢true, false_from_ne_true, cases_Bool, triples_append, only_both, only_within, once_later, same_truth}
+use Rattle.pas_same_text.proofs.Common.{eligible_bit, empty_bit, IsPartOf, legal_before, LendsNone, legal_earlier, right_not_offered, right_in_one_place}
+use Rattle.pas_same_text.proofs.Common.{hinted_at_rest, only_leaves, Live, live_in, deed_in, any_covers, allocating, is_outer, IsReturnOf, ReturnsDuly}
+use Rattle.pas_search.proofs.LoneSteps.{was_offered_before}
 
 -- each of the pages is left, the one that was left last first
 abbrev pub LeftAll : Directory → List ℕ → List Made → Type 0

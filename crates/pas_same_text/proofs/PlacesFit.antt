@@ -1,18 +1,16 @@
 -- PLACES ON A PAGE, at a step from one to the next: where a bit-fit block fits, and where a slot of a class does, in the text exactly where it does by the free
 -- grains of the replay.
 use Rattle.std.proofs.Common.{◌≡◌, ℕ, zero, suc, ◌+◌, ◌*◌, ◌<◌, Bool, true, false, ◌||◌, if◌then◌else◌, List, [], ◌∷◌, take, inl, inr, refl, ap, ◌∙◌, arith}
-use Rattle.std.proofs.Common.{◌/◌, ◌%◌, ◌≤◌, ◌==◌, nat_le, nat_lt, not, ◌&&◌, sym, true≢false, eq-eqb, eqb-true}
-use Rattle.std.proofs.{Math.Nat.mul-mod_left, Math.Nat.mod-add-div', lemmas.Nat.div_below, lemmas.Nat.mul-le}
-use Rattle.pas_profile.specs.Classes.{IsAlignment}
-use Rattle.pas_profile.proofs.Sizes.{passes_at}
-use Rattle.pas_same_text.proofs.{FreeGrains.bit_unguarded, FreeGrains.bit_read, FreeGrains.read_unless, GivenBack.each_at, GivenBack.each_all, Tests.and_first}
-use Rattle.pas_same_text.proofs.{Tests.and_second}
-use Rattle.pas_bits.specs.Runs.{AreFree}
-use Rattle.pas_bitfit.proofs.Aligned.{or_last}
+use Rattle.std.proofs.{Common.{◌/◌, ◌%◌, ◌≤◌, ◌==◌, nat_le, nat_lt, not, ◌&&◌, sym, true≢false, eq-eqb, eqb-true}, Math.Nat.{mul-mod_left, mod-add-div'}}
+use Rattle.std.proofs.lemmas.Nat.{div_below, mul-le}
+use Rattle.pas_profile.{specs.Classes.IsAlignment, proofs.Sizes.passes_at}
+use Rattle.pas_same_text.proofs.{FreeGrains.{bit_unguarded, bit_read, read_unless}, GivenBack.{each_at, each_all}, Tests.{and_first, and_second}}
 use Rattle.pas_same_text.proofs.Common.{false≢true, or_cases, or_left, or_right, and_from, false_from_ne_true, suc-mul, nat_tests, list_any, filter, some_of}
 use Rattle.pas_same_text.proofs.Common.{World, is_free, are_free, is_guarded, lowest_place, HasSame, IsBetween, FitsSame, spaced, slots_for, IsClass}
 use Rattle.pas_same_text.proofs.Common.{class_grains, slots_of, IsSlotStart, IsValid, Profile, class_grains_positive, usable_grains_le, slot_end, Readings}
 use Rattle.pas_same_text.proofs.Common.{free_of_page, run_for, Fits, NoneFits, IsLowestFit, Progress, NoSlot}
+use Rattle.pas_bits.specs.Runs.{AreFree}
+use Rattle.pas_bitfit.proofs.Aligned.{or_last}
 
 -- Some numbers of a list pass a test exactly where the filtered list has any.
 some_filtered : (test : ℕ → Bool) (xs : List ℕ) → some_of (filter test xs) ≡ list_any test xs

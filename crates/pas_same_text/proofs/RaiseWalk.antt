@@ -3,8 +3,7 @@ use Rattle.std.proofs.Common.{◌≡◌, ◌≢◌, ℕ, zero, suc, ◌+◌, ◌
 use Rattle.std.proofs.Common.{sym, ◌∙◌, subst, arith, append_assoc, true≢false, ne_eqb, lt-ltb, ltb-true}
 use Rattle.pas_same_text.proofs.Common.{cases_eq, cases_lt, map-append, AllByRecursion, Directory, Event, Profile, Run, deed_in, backed_in, IsInRun}
 use Rattle.pas_same_text.proofs.Common.{numbers_from, World, page_numbers, deeds, are_bare, raises, raises_from, large_of, is_run, deeds_run, serves_pages}
-use Rattle.pas_same_text.proofs.Common.{all_map}
-use Rattle.pas_same_text.proofs.RunsFound.{shown, shown_events, each_in_turn, shown_both, deeds_of, AreFalling, AllInRun, deeds_in_turn}
+use Rattle.pas_same_text.proofs.{Common.all_map, RunsFound.{shown, shown_events, each_in_turn, shown_both, deeds_of, AreFalling, AllInRun, deeds_in_turn}}
 
 -- ==== PAGES FROM THE HIGHEST DOWN: those below a page, and the others
 abbrev pub below : ℕ → List ℕ → List ℕ

@@ -5,22 +5,20 @@ use Rattle.std.proofs.Common.{sym, ◌∙◌, subst, append_assoc, arith, map, r
 use Rattle.std.proofs.lemmas.List.Sorted.{IsPermutation-sym, IsPermutation-to_front}
 use Rattle.pas_steps.proofs.Adding.{agreed_first, agreed_later}
 use Rattle.pas_bitfit.specs.Allocates.{bitfit_directory, IsAllocated}
-use Rattle.pas_cache.specs.Serves.{FindsCached, pages_of}
-use Rattle.pas_cache.proofs.Resting.{found_passes, rests_kept, rests_reordered, rests_given}
-use Rattle.pas_cache.proofs.{Routes.not_bitfit, Routes.bitfit_rests, Obtained.rests_refilled}
-use Rattle.pas_same_text.specs.Order.{logs_replaced, replaces}
-use Rattle.pas_same_text.proofs.{CacheLists.same_own, MadePlace.up_to, BackActs.freed_any, SeatedActs.cached_again, SeatedActs.at_rest_now}
-use Rattle.pas_same_text.proofs.{SeatedActs.middle_rest, SmallActs.after_with, SmallActs.page_inside, SmallActs.freed_is, UsableBlocks.act_usable}
-use Rattle.pas_same_text.proofs.{CacheLists.serves_many, FetchedClasses.HasPlace, FetchedClasses.IsFetched, FetchedClasses.place_fetched}
+use Rattle.pas_cache.{specs.Serves.{FindsCached, pages_of}, proofs.{Resting.{found_passes, rests_kept, rests_reordered, rests_given}, Routes.not_bitfit}}
+use Rattle.pas_cache.proofs.{Routes.bitfit_rests, Obtained.rests_refilled}
+use Rattle.pas_same_text.{specs.Order.{logs_replaced, replaces}, proofs.{CacheLists.{same_own, serves_many}, MadePlace.up_to, BackActs.freed_any}}
+use Rattle.pas_same_text.proofs.{SeatedActs.{cached_again, at_rest_now, middle_rest}, SmallActs.{after_with, page_inside, freed_is}, UsableBlocks.act_usable}
+use Rattle.pas_same_text.proofs.{FetchedClasses.{HasPlace, IsFetched, place_fetched}, Common.{filling_for, find, filter, count_by, sum_by-cons, map-append}}
+use Rattle.pas_same_text.proofs.Common.{reverse-append, IsValid, IsAdmitted, route_in, is_shared, kind_of_route, class_home, directory_for, room_in, Directory}
+use Rattle.pas_same_text.proofs.Common.{Route, NoRoom, Block, Profile, Event, Agreed, triples, part, Legal, Whole, View, events_by, Made, triples_append}
+use Rattle.pas_same_text.proofs.Common.{events_append, part_of_own, agreed_steps, legal_earlier, IsServedNamed, IsScanned, MayFind, Slots, AtRest, Cached}
+use Rattle.pas_same_text.proofs.Common.{TakesEntry, RestsWith, local_for, filling_in, Fetches, IsObtained, ServesClass, ServesBitfit, ServesPages, ServesBy}
+use Rattle.pas_same_text.proofs.Common.{IsAnswered as IsAnsweredBy, may_find, IsThread, Act, Request, Alloc, Progress, Answer, wanted_by, Caches, Named, named}
+use Rattle.pas_same_text.proofs.Common.{having, IsReplaced, records_of, said_by, with_steps, after_answer, World, IsSame, IsBetween, IsResting, HasUsableBlocks}
+use Rattle.pas_same_text.proofs.Common.{logs, frees, serves, IsAsked, AnswersSame, RequestStaysSame, entry_of, Entry, Record, Said as TheSaid, IsNamedBy}
+use Rattle.pas_same_text.proofs.Common.{said_of_request, block_of}
 use Rattle.pas_free_log.specs.Conditions.{IsEntryOf}
-use Rattle.pas_same_text.proofs.Common.{filling_for, find, filter, count_by, sum_by-cons, map-append, reverse-append, IsValid, IsAdmitted, route_in, is_shared}
-use Rattle.pas_same_text.proofs.Common.{kind_of_route, class_home, directory_for, room_in, Directory, Route, NoRoom, Block, Profile, Event, Agreed, triples}
-use Rattle.pas_same_text.proofs.Common.{part, Legal, Whole, View, events_by, Made, triples_append, events_append, part_of_own, agreed_steps, legal_earlier}
-use Rattle.pas_same_text.proofs.Common.{IsServedNamed, IsScanned, MayFind, Slots, AtRest, Cached, TakesEntry, RestsWith, local_for, filling_in, Fetches}
-use Rattle.pas_same_text.proofs.Common.{IsObtained, ServesClass, ServesBitfit, ServesPages, ServesBy, IsAnswered as IsAnsweredBy, may_find, IsThread, Act}
-use Rattle.pas_same_text.proofs.Common.{Request, Alloc, Progress, Answer, wanted_by, Caches, Named, named, having, IsReplaced, records_of, said_by, with_steps}
-use Rattle.pas_same_text.proofs.Common.{after_answer, World, IsSame, IsBetween, IsResting, HasUsableBlocks, logs, frees, serves, IsAsked, AnswersSame}
-use Rattle.pas_same_text.proofs.Common.{RequestStaysSame, entry_of, Entry, Record, Said as TheSaid, IsNamedBy, said_of_request, block_of}
 
 -- ---- a request
 module _ (f : Profile) (k : ℕ) (r : Request) (p : Progress) (a : Answer) (w : World) (block : Block) (valid : IsValid f) (thread : IsThread f k)

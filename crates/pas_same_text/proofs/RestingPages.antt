@@ -1,7 +1,7 @@
 -- Pages whenever all actors are at rest: a page with room that nobody keeps is offered, and an offered page is offered in the text where it has room. Then: pages
 -- after an act that only gives back.
 use Rattle.std.proofs.Common.{◌≡◌, ℕ, zero, suc, ◌+◌, ◌*◌, ◌/◌, ◌%◌, ◌<◌, ◌≤◌, ◌==◌, Bool, true, false, not, ◌&&◌, List, Option, Some, inl, inr, refl, ap, sym}
-use Rattle.std.proofs.Common.{◌∙◌, arith, eq-eqb, eqb-true, true≢false, ◌++◌, subst}
+use Rattle.std.proofs.{Common.{◌∙◌, arith, eq-eqb, eqb-true, true≢false, ◌++◌, subst}, lemmas.Bool.and_cases}
 use Rattle.pas_same_text.proofs.Common.{false≢true, and_from, not_from_false, false_from_ne_true, not-true, not-false, or_cases, or_left, or_right, has_bit}
 use Rattle.pas_same_text.proofs.Common.{number_of, deed_word_of, deed_word_numbered, IsKind, IsValid, IsDirectoryOf, IsPage, Directory, Event, Profile, Word}
 use Rattle.pas_same_text.proofs.Common.{deed_word_of-positive, read-deed_word_of, directory_from_profile, same_from_deed_word, deed_in, Live, live_in}
@@ -10,15 +10,11 @@ use Rattle.pas_same_text.proofs.Common.{word_of_deed, IsPartOf, IsInOnePlace, wo
 use Rattle.pas_same_text.proofs.Common.{directory_is_of, known_is, offered_at_rest, hinted_at_rest, right_in_one_place, deeds_known, hinted_page, agrees}
 use Rattle.pas_same_text.proofs.Common.{in_one_place, one_backed, Progress, World, HasSame, ArePagesSame, has_number, IsBetween, free_bit, is_same, is_of}
 use Rattle.pas_same_text.proofs.Common.{is_kept, is_guarded, is_free, is_offered, is_none, is_empty, is_hinted, Made, same_truth, IsEmptyBacked, HintsEmpty}
-use Rattle.pas_same_text.proofs.Common.{freeing}
-use Rattle.std.proofs.lemmas.Bool.{and_cases}
+use Rattle.pas_same_text.proofs.{Common.freeing, FreeGrains.{free_unless, keeper, nobody_keeps, bit_free, bit_unguarded, guarded_by}, Tests.and_first}
+use Rattle.pas_same_text.proofs.{Tests.and_second, GivenBack.{Returns, is_idle, each_at, each_all}, StepMarks.{OffersPage, HintsPage, hinted_stays, hinted_by}}
+use Rattle.pas_same_text.{proofs.StepMarks.{offered_by, hinted_empty}, specs.Pages.{each_of, has_room}}
 use Rattle.pas_profile.proofs.Codecs.{numbered}
 use Rattle.pas_steps.specs.Clear.{IsClear}
-use Rattle.pas_same_text.specs.Pages.{each_of, has_room}
-use Rattle.pas_same_text.proofs.FreeGrains.{free_unless, keeper, nobody_keeps, bit_free, bit_unguarded, guarded_by}
-use Rattle.pas_same_text.proofs.Tests.{and_first, and_second}
-use Rattle.pas_same_text.proofs.GivenBack.{Returns, is_idle, each_at, each_all}
-use Rattle.pas_same_text.proofs.StepMarks.{OffersPage, HintsPage, hinted_stays, hinted_by, offered_by, hinted_empty}
 
 -- ---- tests of numbers that follow each other
 pub record Fails (from n : ℕ) (test : ℕ → Bool) : Type 0 where

@@ -1,11 +1,10 @@
 -- The replays of worked traces, by computing.
 use Rattle.std.proofs.Common.{◌≡◌, true, false, [], ◌∷◌, codes, refl, ℕ, List, Result, map, take}
-use Rattle.pas_same_text.proofs.Common.{Kind, numbers_from, Reason, TraceFault}
+use Rattle.pas_same_text.proofs.{Common.{Kind, numbers_from, Reason, TraceFault}, Seen.{seen, shown, row_of, marked, totalled, deed_of, back_of, unback_of}}
+use Rattle.pas_same_text.proofs.Seen.{give_of, freed_of, ended_of, no_block_of, size_differs_of, outside_of, unaligned_of, no_space_of, held_of, skipped_of}
+use Rattle.pas_same_text.proofs.Seen.{kept_of, tick_of, pass_of, young_of, stopped_of, phase_of, closed, counted, guarded_of, lowered_of, in_use_of}
+use Rattle.pas_same_text.{proofs.Seen.{not_offered_of, Seen, faulty}, specs.{Pages.each_of, Passes.free_bits}}
 use Rattle.pas_report.specs.Reports.{grains_that}
-use Rattle.pas_same_text.specs.{Pages.each_of, Passes.free_bits}
-use Rattle.pas_same_text.proofs.Seen.{seen, shown, row_of, marked, totalled, deed_of, back_of, unback_of, give_of, freed_of, ended_of, no_block_of}
-use Rattle.pas_same_text.proofs.Seen.{size_differs_of, outside_of, unaligned_of, no_space_of, held_of, skipped_of, kept_of, tick_of, pass_of, young_of}
-use Rattle.pas_same_text.proofs.Seen.{stopped_of, phase_of, closed, counted, guarded_of, lowered_of, in_use_of, not_offered_of, Seen, faulty}
 
 row_another_thread : seen (codes "pas 1 pages 1 threads 2 heaps 1 age 2\na 1 1 0 16 16\na 2 2 0 16 16\nf 2 2\n")
     ≡ shown (deed_of 1 1 0 (Kind.Class 0) ∷ back_of 1 1 ∷ give_of 1 4096 0 16 0 ∷ held_of 2 1 2 ∷ skipped_of 2 2 ∷ closed ∷ [])

@@ -9,9 +9,8 @@ use Rattle.pas_same_text.proofs.Common.{ReadsFree, Only, kind_of, is_in, InTurn,
 use Rattle.pas_same_text.proofs.Common.{Back, Give, End, EndSized, Unback, part_of_own, always_map, eligible_bit, looked, number_told, deed_kept, known_is}
 use Rattle.pas_same_text.proofs.Common.{backed_of, LendsNone, legal_before, lends_none, spot_of, spotted, offered_has_deed, deeds_known, MakesNoDeedHere}
 use Rattle.pas_same_text.proofs.Common.{ReturnsDuly, DeedsRise, IsWholePage, IsUsablePage, IsLowestRun, MayFind, finding, BackStep, pages_from, MadeOf}
-use Rattle.pas_same_text.proofs.Common.{free_bit, each, IsInRun, AllByRecursion, seeking, numbers_from}
+use Rattle.pas_same_text.proofs.{Common.{free_bit, each, IsInRun, AllByRecursion, seeking, numbers_from}, Tests.eqb_itself, Flushes.visible_steps}
 use Rattle.pas_machine.specs.Machine.{Admits, Bears}
-use Rattle.pas_same_text.proofs.{Tests.eqb_itself, Flushes.visible_steps}
 use Rattle.pas_large.specs.{Evidence.DeedsBelow, Finds.FoundRun}
 
 -- ---- events that are shown

@@ -2,14 +2,10 @@
 use Rattle.std.proofs.Common.{◌≡◌, ℕ, ◌+◌, ◌-◌, ◌<◌, ◌≤◌, nat_le, Bool, true, if◌then◌else◌, Option, None, Some, inl, inr, ap, sym, ◌∙◌, arith, ◌≢◌, zero, suc}
 use Rattle.std.proofs.Common.{false, ◌&&◌, List, [], ◌∷◌, ◌++◌, Ok, Err, refl, true≢false, eq-eqb, ◌⊎◌, subst, ◌==◌}
 use Rattle.pas_large.specs.Telling.{HasNoUsableRun}
-use Rattle.pas_same_text.specs.{Indexes.named_first, Runs.is_whole, Runs.if_whole, Searches.page_or, Searches.refusal_by}
-use Rattle.pas_same_text.proofs.{FreeGrains.read_unless, FreeGrains.keeper, FreeGrains.kept_by, GivenBack.each_at, GivenBack.each_all, Tests.and_first}
-use Rattle.pas_same_text.proofs.{Tests.and_second, CacheLists.same_kept, CacheLists.kept_at, Flushes.visible_steps, StepMarks.epoch_stays_by, StepMarks.at_bare}
-use Rattle.pas_same_text.proofs.{StepMarks.at_unbacked, SmallActs.after_with, SmallActs.records_next, Pieces.IsPiece, Pieces.piece_pages}
-use Rattle.pas_same_text.proofs.RestingPages.{open_unguarded, had_open, owned_is, no_word, unowned_by, deed_now, deed_from_word}
-use Rattle.pas_core.proofs.Rights.{right_not_parked}
-use Rattle.pas_search.specs.Telling.{IsInHands}
-use Rattle.pas_search.proofs.{ForBackEnds.events_quiet, FindingAPage.by_deed, FindingAPage.lowest_offered}
+use Rattle.pas_same_text.{specs.{Indexes.named_first, Runs.{is_whole, if_whole}, Searches.{page_or, refusal_by}}, proofs.FreeGrains.{read_unless, keeper}}
+use Rattle.pas_same_text.proofs.{FreeGrains.kept_by, GivenBack.{each_at, each_all}, Tests.{and_first, and_second}, CacheLists.{same_kept, kept_at}}
+use Rattle.pas_same_text.proofs.{Flushes.visible_steps, StepMarks.{epoch_stays_by, at_bare, at_unbacked}, SmallActs.{after_with, records_next}, Pieces.IsPiece}
+use Rattle.pas_same_text.proofs.{Pieces.piece_pages, RestingPages.{open_unguarded, had_open, owned_is, no_word, unowned_by, deed_now, deed_from_word}}
 use Rattle.pas_same_text.proofs.Common.{or_cases, or_left, or_right, and_from, false_from_ne_true, cases_Bool, cases_eq, false≢true, nat_tests, number_of}
 use Rattle.pas_same_text.proofs.Common.{deed_word_of, IsValid, IsPage, IsDirectoryOf, Directory, Profile, Word, Event, NoRoom, deed_word_of-positive}
 use Rattle.pas_same_text.proofs.Common.{same_from_deed_word, deed_in, live_in, part, word_after, Legal, visible, triples, target, Readings, Once, has_right}
@@ -20,7 +16,8 @@ use Rattle.pas_same_text.proofs.Common.{is_empty, is_offered, page_numbers, is_n
 use Rattle.pas_same_text.proofs.Common.{lowest_run, find, Made, spot_of, spotted, right_not_offered, right_in_one_place, FromOffered, ByDeed, IsTrueReason}
 use Rattle.pas_same_text.proofs.Common.{numbers_from, IsThread, some_of, refusal, searched, refuses, Cached, allocating, any_covers, only_within, always_map}
 use Rattle.pas_same_text.proofs.Common.{AreSearch, IsQuiet, IsDeedOrBack, AreQuiet, EventsAt, searching, Record}
-use Rattle.pas_core.specs.Fits.{IsOfferedFit}
+use Rattle.pas_core.{proofs.Rights.right_not_parked, specs.Fits.IsOfferedFit}
+use Rattle.pas_search.{specs.Telling.IsInHands, proofs.{ForBackEnds.events_quiet, FindingAPage.{by_deed, lowest_offered}}}
 
 -- ---- the first number that passes a test
 first_at : (test : ℕ → Bool) (from : ℕ) (rest : Option ℕ) (t : Bool) → test from ≡ t → t ≡ false → (if test from then Some from else rest) ≡ rest

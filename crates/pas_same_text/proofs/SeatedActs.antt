@@ -6,17 +6,13 @@ use Rattle.pas_same_text.proofs.Common.{agreed_steps, legal_before, legal_earlie
 use Rattle.pas_same_text.proofs.Common.{wanted_by, IsBetween, AreEndsStamped, IsResting, AreResting, false≢true, eqb-false, or_left, or_right, backed_in}
 use Rattle.pas_same_text.proofs.Common.{part_of_others, triples_append, part_of_own, Slots, AtRest, Cached, any_covers, is_outer_of, is_outer, Each, FitsBook}
 use Rattle.pas_same_text.proofs.Common.{Guard, Record, IsBeside, Request, Op, Tried, IsTried, after_trying, after_lowering, AnswersTried, AnswersGuarded}
-use Rattle.pas_same_text.proofs.Common.{IsThreadOf, IsKeeperOf, IsActOf, AreSeated}
-use Rattle.pas_core.specs.Stamps.{AllKeepToEnds}
-use Rattle.pas_core.proofs.Lives.{stamps_are_ends}
+use Rattle.pas_same_text.proofs.{Common.{IsThreadOf, IsKeeperOf, IsActOf, AreSeated}, CacheLists.again_at, LowerActs.swept_to, KeepersRest.others_bare}
+use Rattle.pas_same_text.proofs.KeepersRest.{keeper_resting, swept_beside, swept_bare, raised_beside, raised_bare, thread_rests, thread_at_rest, keeper_of}
+use Rattle.pas_same_text.{proofs.KeepersRest.IsNoKeepers, specs.Acts.KeepsStamped}
+use Rattle.pas_core.{specs.Stamps.AllKeepToEnds, proofs.Lives.stamps_are_ends}
 use Rattle.pas_trace.specs.Acts.{stepper_of}
-use Rattle.pas_answers.specs.{Answers.epoch_look, Guarding.IsLowered, Reaching.Advances}
-use Rattle.pas_answers.proofs.Consequences.{act_tidy, parts_kept, KeptPart, Tidy}
-use Rattle.pas_same_text.specs.Acts.{KeepsStamped}
+use Rattle.pas_answers.{specs.{Answers.epoch_look, Guarding.IsLowered, Reaching.Advances}, proofs.Consequences.{act_tidy, parts_kept, KeptPart, Tidy}}
 use Rattle.pas_cache.specs.Serves.{pages_of}
-use Rattle.pas_same_text.proofs.{CacheLists.again_at, LowerActs.swept_to}
-use Rattle.pas_same_text.proofs.KeepersRest.{others_bare, keeper_resting, swept_beside, swept_bare, raised_beside, raised_bare, thread_rests, thread_at_rest}
-use Rattle.pas_same_text.proofs.KeepersRest.{keeper_of, IsNoKeepers}
 use Rattle.pas_records.specs.Rests.{AreStamped}
 
 -- ---- the parts of the actors

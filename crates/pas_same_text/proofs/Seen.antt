@@ -2,13 +2,11 @@
 -- totals; or the fault of a text that is no trace. A record and a row stand for their lines, since `line_of` and `report_text` print just these fields.
 use Rattle.std.proofs.Common.{ℕ, ◌+◌, ◌*◌, ◌/◌, ◌==◌, Bool, true, false, not, List, [], ◌∷◌, length, count_by, reverse, Option, None, Some, Result, Ok, Err}
 use Rattle.pas_bits.specs.Bits.{count_below}
-use Rattle.pas_report.specs.{Reports.live_on, Totals.totals_of}
+use Rattle.pas_report.specs.{Reports.live_on, Totals.totals_of, declared.totals.Totals.Totals}
 use Rattle.pas_trace.specs.Plans.{parsed, fault_at}
-use Rattle.pas_same_text.specs.{Order.region_of, Reports.marks_of}
-use Rattle.pas_same_text.proofs.Common.{flat_map, Directory, Kind as TheKind, Event as TheEvent, Event, Why, Block, Name, Profile, grain_of, deed_in, epoch_in}
-use Rattle.pas_same_text.proofs.Common.{Marked, Record as TheRecord, Record, Said, Parsed, Reason, TraceFault, World, page_numbers, blocks_on, is_covered}
-use Rattle.pas_same_text.proofs.Common.{replay_of}
-use Rattle.pas_report.specs.declared.totals.Totals.{Totals}
+use Rattle.pas_same_text.{specs.{Order.region_of, Reports.marks_of}, proofs.Common.{flat_map, Directory, Kind as TheKind, Event as TheEvent, Event, Why, Block}}
+use Rattle.pas_same_text.proofs.Common.{Name, Profile, grain_of, deed_in, epoch_in, Marked, Record as TheRecord, Record, Said, Parsed, Reason, TraceFault}
+use Rattle.pas_same_text.proofs.Common.{World, page_numbers, blocks_on, is_covered, replay_of}
 
 -- ---- what is seen
 pub record Row : Type 0 where

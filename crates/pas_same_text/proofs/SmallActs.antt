@@ -1,17 +1,16 @@
 -- ACTS THAT CHANGE NO PAGE: what they keep; frees that are answered at once, and frees into a log with room.
 use Rattle.std.proofs.Common.{arith, ◌≡◌, ℕ, ◌==◌, Bool, true, false, ◌&&◌, if◌then◌else◌, List, ◌∷◌, refl, ap, ◌≤◌, length, max, [], ◌++◌, reverse, sym, ◌∙◌}
 use Rattle.std.proofs.Common.{subst, ◌+◌, ◌*◌, ◌/◌, ◌%◌, nat_le, nat_lt, Option, None, Some, inl, inr, append-nil, eq-eqb, ne_eqb}
-use Rattle.pas_profile.specs.declared.event.FreeFault.{FreeFault, TheVariants.Outside, TheVariants.Unaligned}
+use Rattle.pas_profile.specs.declared.event.FreeFault.{FreeFault, TheVariants.{Outside, Unaligned}}
 use Rattle.pas_same_text.specs.{State.set_noted, Acts.HasLogRoom, Indexes.settles, Order.begins, Passes.ticks, Frees.refuses_free}
-use Rattle.pas_same_text.proofs.CacheLists.{all_locals, locals_with, same_with, same_kept}
+use Rattle.pas_same_text.proofs.{CacheLists.{all_locals, locals_with, same_with, same_kept}, Common.{same_word, address_of, Block, Profile, Word, Name, Whole}}
+use Rattle.pas_same_text.proofs.Common.{word_after, visible, Legal, part, made, triple, events_by, Look, Tick, Made, empty_bit, eligible_bit, World, Cache}
+use Rattle.pas_same_text.proofs.Common.{each, cache_of, set_cache, noted_of, says, ArePagesSame, IsSame, IsSameCache, StaysSame, StaysSameWhere, indexes_run}
+use Rattle.pas_same_text.proofs.Common.{reverse_onto, nat_tests, EndedRun, Entry, Record, Said, Said as TheSaid, Act, IsThread, Progress, with_records, Named}
+use Rattle.pas_same_text.proofs.Common.{Answer, after_answer, IsFreed, IsFreedBy, standing_for, with_steps, records_of, said_by, room_noted, entry_of}
+use Rattle.pas_same_text.proofs.Common.{sized_entry, TakesEntry, Cached, Free, FreeSized, Raw, RawSized, adds, logs, frees, frees_what, frees_named, What}
 use Rattle.pas_answers.specs.Answers.{begun, after_settling, after_wake, after_tick, said_of_fault}
 use Rattle.pas_cache.specs.Calls.{RefusesName}
-use Rattle.pas_same_text.proofs.Common.{same_word, address_of, Block, Profile, Word, Name, Whole, word_after, visible, Legal, part, made, triple, events_by}
-use Rattle.pas_same_text.proofs.Common.{Look, Tick, Made, empty_bit, eligible_bit, World, Cache, each, cache_of, set_cache, noted_of, says, ArePagesSame}
-use Rattle.pas_same_text.proofs.Common.{IsSame, IsSameCache, StaysSame, StaysSameWhere, indexes_run, reverse_onto, nat_tests, EndedRun, Entry, Record, Said}
-use Rattle.pas_same_text.proofs.Common.{Said as TheSaid, Act, IsThread, Progress, with_records, Named, Answer, after_answer, IsFreed, IsFreedBy, standing_for}
-use Rattle.pas_same_text.proofs.Common.{with_steps, records_of, said_by, room_noted, entry_of, sized_entry, TakesEntry, Cached, Free, FreeSized, Raw, RawSized}
-use Rattle.pas_same_text.proofs.Common.{adds, logs, frees, frees_what, frees_named, What}
 
 -- ---- lists of steps with the same events and the same bits of pages
 pub record HaveSamePages (l l' : Whole) : Type 0 where

@@ -11,16 +11,13 @@ use Rattle.pas_same_text.proofs.Common.{lends_none, deed_none, legal_before, IsI
 use Rattle.pas_same_text.proofs.Common.{span_in, seeking, HasSpan, SoughtNone, large_of, is_usable, is_run, serves_pages, deed_word_of-positive, all_map, Run}
 use Rattle.pas_same_text.proofs.Common.{deed_in, backed_in, word_of_deed, runs, one_backed, agreed_steps, Progress, World, are_bare, raises, raises_from}
 use Rattle.pas_same_text.proofs.Common.{IsSame, HasSame, IsBetween, free_bit, page_numbers, each_of, is_none, is_same, is_free, is_empty, is_kept}
-use Rattle.pas_large.specs.Evidence.{AllUsable, DeedsOf}
-use Rattle.pas_large.proofs.Told.{run_was, bad_run}
-use Rattle.pas_guard.specs.Evidence.{HoldsRunWhole, OuterBackedHere, IsBad, OuterFailsHere, HasFailedOnce}
-use Rattle.pas_guard.specs.Seeks.{SoughtRun}
-use Rattle.pas_same_text.proofs.{StepMarks.backed_stays, FreeGrains.free_unheld, FreeGrains.bit_free, FreeGrains.keeper, KeepersRest.bare_since}
-use Rattle.pas_same_text.proofs.{KeepersRest.bare_events, Flushes.visible_steps, GivenBack.each_all, SearchedPages.run_usable, SearchedPages.usable_run}
-use Rattle.pas_same_text.proofs.{Pieces.has_same}
-use Rattle.pas_same_text.proofs.RunsFound.{shown, shown_events, shown_rest, with_deed, deeded, deeds_of, deeded_falls, deeded_events, deeds_live}
-use Rattle.pas_same_text.proofs.RestingPages.{open_from, is_open, owned_is, unowned_by}
-use Rattle.pas_same_text.proofs.RaiseWalk.{below, below_all, IsOfRun, IsWalked, found_text, none_text}
+use Rattle.pas_same_text.proofs.{StepMarks.backed_stays, FreeGrains.{free_unheld, bit_free, keeper}, KeepersRest.{bare_since, bare_events}}
+use Rattle.pas_same_text.proofs.{Flushes.visible_steps, GivenBack.each_all, SearchedPages.{run_usable, usable_run}, Pieces.has_same, RunsFound.shown}
+use Rattle.pas_same_text.proofs.RunsFound.{shown_events, shown_rest, with_deed, deeded, deeds_of, deeded_falls, deeded_events, deeds_live}
+use Rattle.pas_same_text.proofs.{RestingPages.{open_from, is_open, owned_is, unowned_by}, RaiseWalk.{below, below_all, IsOfRun, IsWalked, found_text}}
+use Rattle.pas_same_text.proofs.RaiseWalk.{none_text}
+use Rattle.pas_large.{specs.Evidence.{AllUsable, DeedsOf}, proofs.Told.{run_was, bad_run}}
+use Rattle.pas_guard.specs.{Evidence.{HoldsRunWhole, OuterBackedHere, IsBad, OuterFailsHere, HasFailedOnce}, Seeks.SoughtRun}
 
 -- ---- runs of n + 2 pages
 -- a run of the region that was usable

@@ -7,13 +7,12 @@ use Rattle.pas_same_text.proofs.Common.{Hinting, Unhinting, Offering, lending, W
 use Rattle.pas_same_text.proofs.Common.{Hint, Unhint, Deed, Take, Put, Give, End, EndSized, in_apart, always_map, once_map, empty_bit, eligible_bit}
 use Rattle.pas_same_text.proofs.Common.{IsEmptyBacked, word_of_deed, word_of_backed, looked, deed_of, number_told, backed_of, free_stays, LendsNone}
 use Rattle.pas_same_text.proofs.Common.{offered_has_deed, ReadsBacked, ReadsAllFree, TakesNone, HintsEmpty, GivesDuly, backed_in, deed_in, Readings, ReadsFree}
-use Rattle.pas_same_text.proofs.Common.{ShowsHere, GetsHere, IsReturnOf, ReturnsDuly, EventsAt, free_bit, MakesNoDeedHere, seeking}
+use Rattle.pas_same_text.proofs.{Common.{ShowsHere, GetsHere, IsReturnOf, ReturnsDuly, EventsAt, free_bit, MakesNoDeedHere, seeking}, Tests.eqb_itself}
+use Rattle.pas_same_text.proofs.RunsFound.{IsAtPage, IsShownAt, event_at}
 use Rattle.std.proofs.Common.{◌≡◌, ℕ, ◌/◌, ◌%◌, ◌<◌, ◌==◌, Bool, true, false, if◌then◌else◌, List, [], ◌∷◌, ◌++◌, ◌⊎◌, inl, inr, refl, ap, sym, ◌∙◌, subst}
 use Rattle.std.proofs.Common.{arith, true≢false, eqb-true, ◌≢◌, None, Some, ne_eqb}
-use Rattle.pas_steps.specs.{Allowed.IsStepOf, Kinds.Ticking, Effects.new_value}
-use Rattle.pas_steps.proofs.Past.{since_once}
+use Rattle.pas_steps.{specs.{Allowed.IsStepOf, Kinds.Ticking, Effects.new_value}, proofs.Past.since_once}
 use Rattle.pas_rights.specs.Looks.{ReadsEmpty}
-use Rattle.pas_same_text.proofs.{Tests.eqb_itself, RunsFound.IsAtPage, RunsFound.IsShownAt, RunsFound.event_at}
 use Rattle.pas_search.proofs.LoneSteps.{offer_one}
 
 -- ---- a word that steps of some kinds leave as it is said

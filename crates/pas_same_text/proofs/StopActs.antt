@@ -4,23 +4,21 @@ use Rattle.std.proofs.Common.{refl, ap, sym, ◌∙◌, subst, arith, true≢fal
 use Rattle.pas_bits.proofs.Runs.{IsMet, met}
 use Rattle.pas_machine.proofs.LiveBlocks.{live_apart, live_long}
 use Rattle.pas_cache.specs.Changes.{StopsEach}
-use Rattle.pas_same_text.proofs.FlushedLogs.{IsFlushedTo, IsEndedOn, OnlyFewer, flushed_start, flushed_all}
-use Rattle.pas_same_text.proofs.FreeGrains.{held_still, cached_held, held_by, never_both, guards_as, still_unguarded}
-use Rattle.pas_same_text.proofs.RestingPages.{is_open, deed_now, word_known, word_now, IsGivenBack, open_from, covered_not_held, free_left, given_pages}
-use Rattle.pas_same_text.proofs.CacheLists.{same_guards, flushes_keep, stops_keep, same_own, same_with, same_again}
-use Rattle.pas_same_text.proofs.{Flushes.map_reverse, Flushes.visible_steps, GivenBack.returns_then, GivenBack.has_both, Pieces.read_open}
-use Rattle.pas_same_text.proofs.StepMarks.{hint_marks, offer_marks, offered_of_region, epoch_stays_by, IsMarked, marked_parts}
+use Rattle.pas_same_text.proofs.{FlushedLogs.{IsFlushedTo, IsEndedOn, OnlyFewer, flushed_start, flushed_all}, FreeGrains.{held_still, cached_held, held_by}}
+use Rattle.pas_same_text.proofs.{FreeGrains.{never_both, guards_as, still_unguarded}, RestingPages.{is_open, deed_now, word_known, word_now, IsGivenBack}}
+use Rattle.pas_same_text.proofs.{RestingPages.{open_from, covered_not_held, free_left, given_pages}, CacheLists.{same_guards, flushes_keep, stops_keep}}
+use Rattle.pas_same_text.proofs.{CacheLists.{same_own, same_with, same_again}, Flushes.{map_reverse, visible_steps}, GivenBack.{returns_then, has_both}}
+use Rattle.pas_same_text.proofs.{Pieces.read_open, StepMarks.{hint_marks, offer_marks, offered_of_region, epoch_stays_by, IsMarked, marked_parts}}
 use Rattle.pas_same_text.proofs.StopSteps.{IsGivenUp, AllOfRegion, unique_of, all_up, IsMarkedBy, IsMarkedIn, AllClasses, ReadsRoom, room_earlier, all_marked}
-use Rattle.pas_same_text.proofs.StopSteps.{all_hints}
-use Rattle.pas_same_text.proofs.Common.{cases_Bool, eqb-false, false≢true, or_left, or_right, reverse-append, All-head, All-tail, length_of, IsValid, IsPage}
-use Rattle.pas_same_text.proofs.Common.{IsDirectoryOf, class_grains, IsSlotStart, deed_word_of, kind_of_class, Directory, Event, Profile, Word, Run, Live}
-use Rattle.pas_same_text.proofs.Common.{live_in, deed_in, made, triples, events_by, holds, usable_by_kind, View, Only, part, visible, Legal, word_after, Made}
-use Rattle.pas_same_text.proofs.Common.{Look, IsPartOf, runs, legal_earlier, deed_same, one_holder, freeing, Settled, noted_after, Entry, EndedRun, Slots}
-use Rattle.pas_same_text.proofs.Common.{EmptiesLog, Cached, any_covers, IsLocal, covers, releasing, Record, IsThread, Progress, records_of, with_steps}
-use Rattle.pas_same_text.proofs.Common.{with_records, with_cache as with_cached, World, each, set_log, Local, cache_of, locals_of, ends, flushes, gives_up_all}
-use Rattle.pas_same_text.proofs.Common.{stops, is_of, IsBetween, AreBlocksUsable, free_bit, IsSame, HasSame, AreSameCaches, IsSameCache, AreSameLocals}
-use Rattle.pas_same_text.proofs.Common.{lives_in, has_number, hints_both, HasMember, class_grains_positive, same_from_deed_word, triples_append, only_both}
-use Rattle.pas_same_text.proofs.Common.{only_within, events_append, start_of, home_of, start_at}
+use Rattle.pas_same_text.proofs.{StopSteps.all_hints, Common.{cases_Bool, eqb-false, false≢true, or_left, or_right, reverse-append, All-head, All-tail}}
+use Rattle.pas_same_text.proofs.Common.{length_of, IsValid, IsPage, IsDirectoryOf, class_grains, IsSlotStart, deed_word_of, kind_of_class, Directory, Event}
+use Rattle.pas_same_text.proofs.Common.{Profile, Word, Run, Live, live_in, deed_in, made, triples, events_by, holds, usable_by_kind, View, Only, part, visible}
+use Rattle.pas_same_text.proofs.Common.{Legal, word_after, Made, Look, IsPartOf, runs, legal_earlier, deed_same, one_holder, freeing, Settled, noted_after}
+use Rattle.pas_same_text.proofs.Common.{Entry, EndedRun, Slots, EmptiesLog, Cached, any_covers, IsLocal, covers, releasing, Record, IsThread, Progress}
+use Rattle.pas_same_text.proofs.Common.{records_of, with_steps, with_records, with_cache as with_cached, World, each, set_log, Local, cache_of, locals_of, ends}
+use Rattle.pas_same_text.proofs.Common.{flushes, gives_up_all, stops, is_of, IsBetween, AreBlocksUsable, free_bit, IsSame, HasSame, AreSameCaches, IsSameCache}
+use Rattle.pas_same_text.proofs.Common.{AreSameLocals, lives_in, has_number, hints_both, HasMember, class_grains_positive, same_from_deed_word, triples_append}
+use Rattle.pas_same_text.proofs.Common.{only_both, only_within, events_append, start_of, home_of, start_at}
 
 -- ---- records
 -- the records of events come to the end, on both sides

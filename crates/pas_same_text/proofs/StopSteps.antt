@@ -2,23 +2,19 @@
 -- on, and why a page is offered.
 use Rattle.std.proofs.Common.{◌≡◌, ℕ, ◌+◌, ◌-◌, ◌≤◌, ◌==◌, Bool, true, false, ◌&&◌, ◌||◌, cond, List, [], ◌∷◌, ◌++◌, length, map, refl, ap, sym, ◌∙◌, subst}
 use Rattle.std.proofs.Common.{arith, eq-eqb, eqb-true, zero, suc, ◌/◌, ◌%◌, ◌<◌, ◌⊎◌, inl, inr, MatchBool, true≢false}
-use Rattle.pas_steps.proofs.Past.{once_earlier}
-use Rattle.pas_cache.specs.{Locals.HasOneEach, Locals.is_for as is_for_slots, Changes.StopsAll}
-use Rattle.pas_same_text.specs.State.{with_cache}
-use Rattle.pas_same_text.proofs.CacheLists.{all_locals, own_with, many_with, with_own, for_same, cached_any, any_cached}
-use Rattle.pas_same_text.proofs.GivenBack.{Returns, OnlyHints, minded_last, all_only_hints, returns_nothing, returns_then}
-use Rattle.pas_same_text.proofs.LowerActs.{back_hints}
-use Rattle.pas_rights.specs.{Leaves.EndsLeave, Looks.HasUsable, Looks.HasNoUsable, Leaves.ReoffersWhere}
+use Rattle.pas_steps.{proofs.Past.once_earlier, specs.Kinds.Parking}
+use Rattle.pas_cache.{specs.{Locals.{HasOneEach, is_for as is_for_slots}, Changes.StopsAll}, proofs.Resting.counted}
+use Rattle.pas_same_text.{specs.State.with_cache, proofs.CacheLists.{all_locals, own_with, many_with, with_own, for_same, cached_any, any_cached}}
+use Rattle.pas_same_text.proofs.{GivenBack.{Returns, OnlyHints, minded_last, all_only_hints, returns_nothing, returns_then}, LowerActs.back_hints}
+use Rattle.pas_same_text.proofs.{StepMarks.{IsMarked, marked_parts, none_marked, returns_marked, hints_of}, Common.{or_right, cases_eq, list_any-append}}
+use Rattle.pas_same_text.proofs.Common.{sum_by-cons, list_any, count_by, has_bit, HasMember, IsClass, IsPage, Profile, Directory, Word, same_truth, once_later}
+use Rattle.pas_same_text.proofs.Common.{once_map, Slots, Local, Cache, World, each, cache_in, cache_of, locals_of, set_locals, is_for, others, gives_up}
+use Rattle.pas_same_text.proofs.Common.{gives_up_all, AreSameLocals, hints_both, Mask4, triples, Whole, word_after, Legal, Once, Always, usable_by_kind, Kinds}
+use Rattle.pas_same_text.proofs.Common.{Only, apart, Taking, LookFree, Putting, Made, Look, free_stays, LeaveSteps, BackSteps, words, looks, HintsEmpty}
+use Rattle.pas_same_text.proofs.Common.{leave_due, looks_only, leave_returns, return_returns, puts_kinds, start_of, home_of, StopStepsAt, LeavesWhere}
+use Rattle.pas_same_text.proofs.Common.{start_below, Park, made}
+use Rattle.pas_rights.specs.{Leaves.{EndsLeave, ReoffersWhere}, Looks.{HasUsable, HasNoUsable}}
 use Rattle.pas_segregated.specs.Stops.{AreGrains}
-use Rattle.pas_same_text.proofs.StepMarks.{IsMarked, marked_parts, none_marked, returns_marked, hints_of}
-use Rattle.pas_cache.proofs.Resting.{counted}
-use Rattle.pas_same_text.proofs.Common.{or_right, cases_eq, list_any-append, sum_by-cons, list_any, count_by, has_bit, HasMember, IsClass, IsPage, Profile}
-use Rattle.pas_same_text.proofs.Common.{Directory, Word, same_truth, once_later, once_map, Slots, Local, Cache, World, each, cache_in, cache_of, locals_of}
-use Rattle.pas_same_text.proofs.Common.{set_locals, is_for, others, gives_up, gives_up_all, AreSameLocals, hints_both, Mask4, triples, Whole, word_after, Legal}
-use Rattle.pas_same_text.proofs.Common.{Once, Always, usable_by_kind, Kinds, Only, apart, Taking, LookFree, Putting, Made, Look, free_stays, LeaveSteps}
-use Rattle.pas_same_text.proofs.Common.{BackSteps, words, looks, HintsEmpty, leave_due, looks_only, leave_returns, return_returns, puts_kinds, start_of}
-use Rattle.pas_same_text.proofs.Common.{home_of, StopStepsAt, LeavesWhere, start_below, Park, made}
-use Rattle.pas_steps.specs.Kinds.{Parking}
 
 -- ---- one local allocator of a heap and class
 abbrev pub AreUnique : List Local → Type 0

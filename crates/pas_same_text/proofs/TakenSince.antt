@@ -2,19 +2,17 @@
 use Rattle.std.proofs.Common.{◌||◌, ◌≡◌, ℕ, ◌+◌, ◌*◌, ◌/◌, ◌%◌, ◌<◌, List, ◌++◌, refl, ap, sym, ◌∙◌, arith, ◌≢◌, zero, suc, ◌≤◌, ◌==◌, Bool, true, false, ◌&&◌}
 use Rattle.std.proofs.Common.{if◌then◌else◌, [], ◌∷◌, IsTrue, ◌↔◌, inl, inr, subst, append_assoc, true≢false, eq-eqb, eqb-true, drop, ne_eqb, lt-ltb}
 use Rattle.pas_profile.specs.Classes.{usable_grains, is_usable}
-use Rattle.pas_search.specs.Choices.{TookChosen}
+use Rattle.pas_search.{specs.Choices.TookChosen, proofs.LoneSteps.shown_same}
 use Rattle.pas_partial.specs.Rows.{IsInRow, rows}
 use Rattle.pas_segregated.specs.Takes.{slot_within, TookSlots, takes_after, takes_since}
-use Rattle.pas_search.proofs.LoneSteps.{shown_same}
 use Rattle.pas_same_text.proofs.Common.{free_same, or-false, has_bit, is_set, Mask4, class_grains, IsSlotStart, Profile, Word, triples, free_word_at, Readings}
 use Rattle.pas_same_text.proofs.Common.{Allowed, made, target, in_mask, kind_of, is_in, lending, Once, Always, Whole, word_after, Legal, part, Made, Step}
 use Rattle.pas_same_text.proofs.Common.{same_truth, part_of_own, free_of_page, LendsNone, lends_none, AreSearch, searching, IsReturnOf, ReturnsDuly, KeepsMarks}
 use Rattle.pas_same_text.proofs.Common.{IsFreeSlot, IsLowestRow, free_bit, false≢true, cases_eq, or_cases, false_from_ne_true, none_of_zero, number_of, View}
 use Rattle.pas_same_text.proofs.Common.{Gets, Stays, grain_move, held_after, holds, has_right, Deed, Take, TakeRight, Offer, Park, Unpark, is_with, spotted}
-use Rattle.pas_same_text.proofs.Common.{takes, word_take, words}
+use Rattle.pas_same_text.proofs.{Common.{takes, word_take, words}, Tests.{and_first, and_second}}
 use Rattle.pas_steps.specs.Views.{Way, Rests, ByDeed, FromOffer, FromParked, ToParked, way, had_after}
 use Rattle.pas_core.proofs.Rights.{Spot, Suits, IsSpotted, step_suits}
-use Rattle.pas_same_text.proofs.Tests.{and_first, and_second}
 
 -- ---- the same readings show the same slots and rows
 free_slot_as : (class : ℕ) (r fair : Readings) → ((b : ℕ) → b < 256 → r b ≡ fair b) → (s : ℕ) → IsFreeSlot class r s → IsFreeSlot class fair s

@@ -1,14 +1,12 @@
 -- THE SLOTS that a search took of a page are those that the text takes of it: of an exclusive page all free ones, of a shared page the first free one and those behind
 -- it without a break, four at most.
 use Rattle.std.proofs.Common.{◌≡◌, ℕ, zero, suc, ◌+◌, ◌-◌, ◌*◌, ◌/◌, ◌<◌, ◌≤◌, ◌==◌, Bool, true, false, ◌||◌, if◌then◌else◌, List, [], ◌∷◌, IsTrue, ◌↔◌, inl}
-use Rattle.std.proofs.Common.{inr, refl, ap, sym, ◌∙◌, subst, arith, eq-eqb, eqb-true, ne_eqb}
+use Rattle.std.proofs.{Common.{inr, refl, ap, sym, ◌∙◌, subst, arith, eq-eqb, eqb-true, ne_eqb}, Math.Nat.{add-mul, mul-le-mul_right, mul-div_cancel}}
 use Rattle.pas_same_text.proofs.Common.{false≢true, or_cases, or_left, or_right, cases_Bool, false_from_ne_true, suc-mul, AllByRecursion, filter, is_set, Mask4}
 use Rattle.pas_same_text.proofs.Common.{IsClass, class_grains, slots_of, IsValid, Profile, class_grains_positive, same_truth, free_of_page, IsFreeSlot}
 use Rattle.pas_same_text.proofs.Common.{IsLowestRow, Progress, World, are_free, is_guarded, HasSame, IsRising, has_number, IsBetween, spaced, slots_for}
-use Rattle.std.proofs.Math.Nat.{add-mul, mul-le-mul_right, mul-div_cancel}
-use Rattle.pas_same_text.specs.Classes.{free_slots, row_from, first_row}
-use Rattle.pas_same_text.proofs.PlacesFit.{slot_there, slot_index, slot_tested, slot_free, in_spaced, from_spaced, next_place}
-use Rattle.pas_same_text.proofs.Tests.{filtered_has, has_filtered}
+use Rattle.pas_same_text.proofs.{PlacesFit.{slot_there, slot_index, slot_tested, slot_free, in_spaced, from_spaced, next_place}, Tests.filtered_has}
+use Rattle.pas_same_text.{proofs.Tests.has_filtered, specs.Classes.{free_slots, row_from, first_row}}
 
 -- ---- places that follow each other at a step, and pass a test
 all_above : (test : ℕ → Bool) (n from step low : ℕ) → low < from → AllByRecursion (λ m. low < m) (filter test (spaced from step n))

@@ -1,9 +1,8 @@
 -- THE TEXT OF THE BYTES is that of a replay of any plan of them.
 use Rattle.std.proofs.Common.{◌≡◌, ℕ, ◌==◌, if◌then◌else◌, List, Option, Some, ap, sym, ◌∙◌, arith}
 use Rattle.pas_same_text.proofs.Common.{Profile, IsPlanOf, Parsed, Op, Plan, plan_actors, phases_of, region_of, keepers_of, World, text_of, replayed, replay_of}
-use Rattle.pas_same_text.proofs.Common.{order_text}
+use Rattle.pas_same_text.{proofs.Common.order_text, specs.Order.{text_for, region_of as text_region}}
 use Rattle.pas_trace.specs.{Plans.shared_in, Reasons.guard_in}
-use Rattle.pas_same_text.specs.Order.{text_for, region_of as text_region}
 
 -- the region of a plan without keepers has no other actors than its threads
 pub region_same : (plan : Plan) → keepers_of plan ≡ 0 → plan.profile ≡ region_of plan

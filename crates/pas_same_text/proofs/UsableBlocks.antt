@@ -1,22 +1,20 @@
 -- Each act leaves each live block on grains that blocks of its page's directory may cover.
 use Rattle.std.proofs.Common.{arith, ◌≡◌, ℕ, Bool, true, false, if◌then◌else◌, List, [], ◌∷◌, ◌++◌, Option, None, Some, Result, refl, ap, ◌∙◌, ◌/◌, map, ◌%◌}
 use Rattle.std.proofs.Common.{◌==◌, Ok, Err, sym, subst, eqb-true, inl, inr}
-use Rattle.pas_same_text.specs.Acts.{KeepsUsable}
-use Rattle.pas_same_text.proofs.{Flushes.visible_steps, RestingPages.word_known}
-use Rattle.pas_answers.specs.Answers.{Having, IsGiven, RefusalEnds, RequestEnds, IsAnswered, entry_with}
+use Rattle.pas_same_text.{specs.Acts.KeepsUsable, proofs.{Flushes.visible_steps, RestingPages.word_known, Common.{Directory, Event, NoRoom, Block, Profile}}}
+use Rattle.pas_same_text.proofs.Common.{Route, Outcome, Word, Live, live_in, deed_in, Run, sized_entry, entry_of, Settled, shown_for, Entry, EndedRun, Record}
+use Rattle.pas_same_text.proofs.Common.{Said, AreBlocksUsable, HasUsableBlocks, AllByRecursion, route_in, room_in, is_shared, kind_of_route, Progress, Answer}
+use Rattle.pas_same_text.proofs.Common.{having, IsFreed, IsFreedBy, IsStopped, IsReplaced, wanted_by, standing_for, Act, request_in, What, Request, Op}
+use Rattle.pas_same_text.proofs.Common.{none-some, in_run, run_of, grain_of, length_of, IsKind, deed_word_of, IsValid, same_from_deed_word, all_map, triples}
+use Rattle.pas_same_text.proofs.Common.{events_by, View, known_deed, usable_by_kind, Whole, part, word_after, visible, Legal, Made, triples_append, no_events}
+use Rattle.pas_same_text.proofs.Common.{events_append, part_of_own, IsPartOf, word_of_deed, deed_of, directory_is_of, runs, legal_before, legal_earlier}
+use Rattle.pas_same_text.proofs.Common.{EmptiesLog, EmptiesFull, Cached, wanted_for, unbacks_in, SweepSteps, sweeping, Guard, Tried, IsTried, after_trying}
+use Rattle.pas_same_text.proofs.Common.{AnswersTried, AnswersGuarded}
+use Rattle.pas_answers.{specs.{Answers.{Having, IsGiven, RefusalEnds, RequestEnds, IsAnswered, entry_with}, Guarding.TryEnds}, proofs.Reached.tried_on}
+use Rattle.pas_answers.proofs.Reached.{pieces_back}
 use Rattle.pas_profile.proofs.Sizes.{class_suits, class_known}
 use Rattle.pas_machine.proofs.LiveBlocks.{all_borne}
 use Rattle.pas_cache.specs.Serves.{Wanted, IsPlaced, IsPreparing, IsDeedOf}
-use Rattle.pas_answers.specs.Guarding.{TryEnds}
-use Rattle.pas_answers.proofs.Reached.{tried_on, pieces_back}
-use Rattle.pas_same_text.proofs.Common.{Directory, Event, NoRoom, Block, Profile, Route, Outcome, Word, Live, live_in, deed_in, Run, sized_entry, entry_of}
-use Rattle.pas_same_text.proofs.Common.{Settled, shown_for, Entry, EndedRun, Record, Said, AreBlocksUsable, HasUsableBlocks, AllByRecursion, route_in, room_in}
-use Rattle.pas_same_text.proofs.Common.{is_shared, kind_of_route, Progress, Answer, having, IsFreed, IsFreedBy, IsStopped, IsReplaced, wanted_by, standing_for}
-use Rattle.pas_same_text.proofs.Common.{Act, request_in, What, Request, Op, none-some, in_run, run_of, grain_of, length_of, IsKind, deed_word_of, IsValid}
-use Rattle.pas_same_text.proofs.Common.{same_from_deed_word, all_map, triples, events_by, View, known_deed, usable_by_kind, Whole, part, word_after, visible}
-use Rattle.pas_same_text.proofs.Common.{Legal, Made, triples_append, no_events, events_append, part_of_own, IsPartOf, word_of_deed, deed_of, directory_is_of}
-use Rattle.pas_same_text.proofs.Common.{runs, legal_before, legal_earlier, EmptiesLog, EmptiesFull, Cached, wanted_for, unbacks_in, SweepSteps, sweeping, Guard}
-use Rattle.pas_same_text.proofs.Common.{Tried, IsTried, after_trying, AnswersTried, AnswersGuarded}
 
 -- ---- one event
 -- the block may be given so: each of its grains is one that blocks of its page's directory may cover

@@ -1,23 +1,18 @@
 -- WHAT AN ACT OWES: from a state that is the replay's it leads to one that is.
 use Rattle.std.specs.Prelude.{ℕ, ◌/◌, ◌%◌, ◌<◌, ◌≤◌, ◌≡◌, ◌⊎◌, true, false, ◌||◌, List, [], length, Some, All}
 use Rattle.pas_bits.specs.Masks.{HasMember}
-use Rattle.pas_profile.specs.Profiles.{IsValid}
-use Rattle.pas_profile.specs.declared.{directory.Directory.Directory, event.Event.Event, profile.Profile.Profile, guard.Guard.Guard}
+use Rattle.pas_profile.specs.{Profiles.IsValid, declared.{directory.Directory.Directory, event.Event.Event, profile.Profile.Profile, guard.Guard.Guard}}
 use Rattle.pas_machine.specs.State.{Live, live_in, deed_in, backed_in}
-use Rattle.pas_core.specs.{Good.IsPartOf, Stamps.AllStamped, Stamps.AllKeepToEnds}
-use Rattle.pas_steps.specs.Clear.{IsClear, HasNothing}
-use Rattle.pas_steps.specs.Views.{View, holds, has_right, usable_by_kind}
-use Rattle.pas_steps.specs.Lists.{Whole, part, visible, Legal}
+use Rattle.pas_core.specs.{Good.IsPartOf, Stamps.{AllStamped, AllKeepToEnds}}
+use Rattle.pas_steps.specs.{Clear.{IsClear, HasNothing}, Views.{View, holds, has_right, usable_by_kind}, Lists.{Whole, part, visible, Legal}}
 use Rattle.pas_large.specs.Doors.{Indexes}
 use Rattle.pas_segregated.specs.declared.slots.Slots.{Slots}
 use Rattle.pas_free_log.specs.Conditions.{IsEntryOf}
-use Rattle.pas_cache.specs.Contents.{Cached}
-use Rattle.pas_cache.specs.Locals.{local_for, any_covers, any_keeps, IsLocal, AreApart}
-use Rattle.pas_guard.specs.Books.{is_outer, Each, IsGuardOf, KnowsGuard, AreApart as AreGuardsApart}
-use Rattle.pas_guard.specs.Keepers.{IsBeside}
+use Rattle.pas_cache.specs.{Contents.Cached, Locals.{local_for, any_covers, any_keeps, IsLocal, AreApart}}
+use Rattle.pas_guard.specs.{Books.{is_outer, Each, IsGuardOf, KnowsGuard, AreApart as AreGuardsApart}, Keepers.IsBeside}
 use Rattle.pas_trace.specs.{Acts.Act, EveryPlan.IsThread}
-use Rattle.pas_answers.specs.{Answers.Caches, Answers.Books, Answers.Progress, Indexes.indexes_after, Reaching.Advances}
-use Rattle.pas_same_text.specs.{State.World, Order.acts_on, Same.IsSame, Same.HasSame}
+use Rattle.pas_answers.specs.{Answers.{Caches, Books, Progress}, Indexes.indexes_after, Reaching.Advances}
+use Rattle.pas_same_text.specs.{State.World, Order.acts_on, Same.{IsSame, HasSame}}
 
 -- ---- actors between two acts
 -- The actor holds exactly the grains of the unused slots of these local allocators and of the outer pages of these guards, has exactly the rights that the local

@@ -1,12 +1,10 @@
 -- REQUESTS OF A CLASS, which a thread's cache serves.
 use Rattle.std.specs.Prelude.{ℕ, zero, suc, ◌+◌, ◌==◌, nat_le, Bool, true, false, not, ◌&&◌, if◌then◌else◌, List, [], ◌∷◌, ◌++◌, length, Option, None, Some}
-use Rattle.std.specs.Prelude.{Result, Ok, Err}
-use Rattle.std.specs.List.{find, filter}
-use Rattle.pas_profile.specs.{Classes.class_size, Classes.class_grains, Classes.slots_of, Requests.class_home, Requests.is_shared}
-use Rattle.pas_profile.specs.declared.{event.NoRoom.NoRoom, profile.Profile.Profile}
-use Rattle.pas_same_text.specs.State.{Local, World, locals_of, set_locals}
-use Rattle.pas_same_text.specs.Pages.{are_free, minds}
-use Rattle.pas_same_text.specs.Searches.{some_of, searched, readies, address_on, gives, refuses}
+use Rattle.std.specs.{Prelude.{Result, Ok, Err}, List.{find, filter}}
+use Rattle.pas_profile.specs.{Classes.{class_size, class_grains, slots_of}, Requests.{class_home, is_shared}, declared.event.NoRoom.NoRoom}
+use Rattle.pas_profile.specs.declared.profile.Profile.{Profile}
+use Rattle.pas_same_text.specs.{State.{Local, World, locals_of, set_locals}, Pages.{are_free, minds}, Searches.{some_of, searched, readies, address_on, gives}}
+use Rattle.pas_same_text.specs.Searches.{refuses}
 
 -- ---- the slots that are taken of a page
 -- n numbers, each by the step above the one before

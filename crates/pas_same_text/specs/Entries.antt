@@ -1,16 +1,13 @@
 -- WHAT A LOGGED FREE SHOWS.
 use Rattle.std.specs.Prelude.{ℕ, ◌≡◌, Bool, true, false, not, ◌&&◌, List, [], ◌∷◌, ◌++◌, Some}
-use Rattle.pas_profile.specs.{Blocks.address_of, Profiles.IsValid, Entries.is_sized}
-use Rattle.pas_profile.specs.declared.{event.Event.Event, event.Why.Why, profile.Profile.Profile, word.Word.Word, entry.Entry.Entry}
+use Rattle.pas_profile.specs.{Blocks.address_of, Profiles.IsValid, Entries.is_sized, declared.{event.{Event.Event, Why.Why}, profile.Profile.Profile}}
+use Rattle.pas_profile.specs.declared.{word.Word.Word, entry.Entry.Entry}
 use Rattle.pas_machine.specs.State.{Live, live_in}
-use Rattle.pas_free_log.specs.declared.{ending.Outcome.Outcome, noting.EndedRun.EndedRun}
-use Rattle.pas_free_log.specs.Flushes.{event_for}
+use Rattle.pas_free_log.specs.{declared.{ending.Outcome.Outcome, noting.EndedRun.EndedRun}, Flushes.event_for}
 use Rattle.pas_records.specs.declared.record.Record.{Record}
 use Rattle.pas_cache.specs.Changes.{EmptiesLog}
-use Rattle.pas_steps.specs.Desks.{triples}
-use Rattle.pas_steps.specs.Lists.{Whole, visible, word_after, Legal}
-use Rattle.pas_steps.specs.declared.step.Made.{Made}
-use Rattle.pas_same_text.specs.{State.World, State.live_after, State.log_of, Frees.is_other_room, Same.lives_in}
+use Rattle.pas_steps.specs.{Desks.triples, Lists.{Whole, visible, word_after, Legal}, declared.step.Made.Made}
+use Rattle.pas_same_text.specs.{State.{World, live_after, log_of}, Frees.is_other_room, Same.lives_in}
 
 -- the text shows just this event more; caches and hints may change
 pub record IsShown (e : Event) (w w' : World) : Type 0 where

@@ -2,14 +2,13 @@
 use Rattle.std.specs.Prelude.{ℕ, ◌+◌, ◌*◌, ◌%◌, ◌==◌, nat_le, nat_lt, Bool, not, ◌&&◌, if◌then◌else◌, List, [], ◌∷◌, ◌++◌, length, Option, None, Some}
 use Rattle.std.specs.List.{filter}
 use Rattle.pas_bits.specs.Runs.{meets_page}
-use Rattle.pas_profile.specs.{Blocks.address_of, Blocks.grain_of, Blocks.length_of, Entries.sized_entry, Entries.is_sized}
-use Rattle.pas_profile.specs.declared.{event.Event.Event, event.FreeFault.FreeFault, event.Why.Why, name.Block.Block, name.Name.Name, profile.Profile.Profile}
-use Rattle.pas_profile.specs.declared.{entry.Entry.Entry}
+use Rattle.pas_profile.specs.{Blocks.{address_of, grain_of, length_of}, Entries.{sized_entry, is_sized}, declared.event.{Event.Event, FreeFault.FreeFault}}
+use Rattle.pas_profile.specs.declared.{event.Why.Why, name.{Block.Block, Name.Name}, profile.Profile.Profile, entry.Entry.Entry}
 use Rattle.pas_machine.specs.State.{ends_in}
 use Rattle.pas_records.specs.declared.record.{Record.Record, Said.Said}
 use Rattle.pas_answers.specs.Answers.{said_of_fault, standing_for}
-use Rattle.pas_same_text.specs.State.{World, each, block_at, shows, says, locals_of, log_of, set_log}
-use Rattle.pas_same_text.specs.{Indexes.notes, Pages.page_numbers, Pages.minds, Classes.gives_up}
+use Rattle.pas_same_text.specs.{State.{World, each, block_at, shows, says, locals_of, log_of, set_log}, Indexes.notes, Pages.{page_numbers, minds}}
+use Rattle.pas_same_text.specs.Classes.{gives_up}
 
 -- ---- a flush
 -- the pages of a block, in order

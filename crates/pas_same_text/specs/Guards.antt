@@ -1,14 +1,13 @@
 -- GUARDED REQUESTS: a block of whole pages between two pages that nobody else gets and that get no memory, as long as its guard is up. A keeper raises guards and
 -- lowers them; it is an actor of its own, has no cache, and says so in lines of its own.
-use Rattle.std.specs.Prelude.{ℕ, ◌+◌, ◌*◌, ◌/◌, ◌==◌, nat_lt, Bool, not, ◌&&◌, if◌then◌else◌, List, [], ◌∷◌, ◌++◌, Option, None, Some}
-use Rattle.std.specs.List.{filter}
-use Rattle.pas_profile.specs.{Blocks.address_of, Requests.room_in, Guards.guards_of, Guards.raised_by}
-use Rattle.pas_profile.specs.declared.{profile.Profile.Profile, guard.Guard.Guard, guard.Raised.Raised}
+use Rattle.std.specs.{Prelude.{ℕ, ◌+◌, ◌*◌, ◌/◌, ◌==◌, nat_lt, Bool, not, ◌&&◌, if◌then◌else◌, List, [], ◌∷◌, ◌++◌, Option, None, Some}, List.filter}
+use Rattle.pas_profile.specs.{Blocks.address_of, Requests.room_in, Guards.{guards_of, raised_by}, declared.{profile.Profile.Profile, guard.Guard.Guard}}
+use Rattle.pas_profile.specs.declared.guard.Raised.{Raised}
 use Rattle.pas_machine.specs.State.{backed_in, ends_in}
 use Rattle.pas_trace.specs.declared.item.Request.{Request}
 use Rattle.pas_records.specs.declared.record.{Record.Record, Said.Said}
-use Rattle.pas_same_text.specs.{State.World, State.each, State.says, Pages.page_numbers, Pages.minds, Searches.address_on, Searches.name_at}
-use Rattle.pas_same_text.specs.Runs.{is_run, deeds_run, gives_run, serves_pages}
+use Rattle.pas_same_text.specs.{State.{World, each, says}, Pages.{page_numbers, minds}, Searches.{address_on, name_at}, Runs.{is_run, deeds_run, gives_run}}
+use Rattle.pas_same_text.specs.Runs.{serves_pages}
 
 -- ---- guards are lowered
 -- its block has ended: more blocks ended at the address than its turn

@@ -1,10 +1,8 @@
 -- THE INDEXES OF LARGE RUNS: where blocks of whole pages ended, by heaps. An index is a hint where to look first: it may name pages that were given again.
 use Rattle.std.specs.Prelude.{ℕ, ◌/◌, nat_lt, if◌then◌else◌, List, [], ◌++◌, length, Option, option_to_list}
-use Rattle.pas_profile.specs.Blocks.{address_of, length_of}
-use Rattle.pas_profile.specs.declared.name.Block.{Block}
+use Rattle.pas_profile.specs.{Blocks.{address_of, length_of}, declared.name.Block.Block}
 use Rattle.pas_machine.specs.State.{deed_in}
-use Rattle.pas_free_log.specs.declared.noting.EndedRun.{EndedRun}
-use Rattle.pas_free_log.specs.Noted.{large_run}
+use Rattle.pas_free_log.specs.{declared.noting.EndedRun.EndedRun, Noted.large_run}
 use Rattle.pas_large.specs.Doors.{found_in, cut_in, added_in}
 use Rattle.pas_same_text.specs.State.{World, each, noted_of, set_noted}
 

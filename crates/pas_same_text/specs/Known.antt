@@ -1,15 +1,11 @@
 -- WHAT IS KNOWN OF AN ACT of a replay in the order of the text, and what it owes by that.
-use Rattle.std.specs.Prelude.{ℕ, ◌≤◌, ◌≡◌, List, length, Some, MatchOption}
-use Rattle.std.specs.List.{AllByRecursion}
-use Rattle.pas_profile.specs.{Profiles.IsValid, Profiles.IsAdmitted, Requests.route_in}
-use Rattle.pas_profile.specs.declared.{directory.Route.Route, profile.Profile.Profile}
+use Rattle.std.specs.{Prelude.{ℕ, ◌≤◌, ◌≡◌, List, length, Some, MatchOption}, List.AllByRecursion}
+use Rattle.pas_profile.specs.{Profiles.{IsValid, IsAdmitted}, Requests.route_in, declared.{directory.Route.Route, profile.Profile.Profile}}
 use Rattle.pas_steps.specs.Lists.{Legal}
 use Rattle.pas_large.specs.Doors.{Indexes}
-use Rattle.pas_trace.specs.{Acts.Act, Asked.request_in, Asked.keeper_in}
-use Rattle.pas_trace.specs.declared.plan.What.{What}
-use Rattle.pas_answers.specs.{Answers.Progress, Indexes.ActIsNamedBy, Indexes.AllAreNamedBy, Indexes.indexes_after, Reaching.Reaches, Rests.AllAtRest}
-use Rattle.pas_same_text.specs.{State.World, Order.acts_on, Same.IsSame, Acts.IsTaken, Acts.HasUsableBlocks, Acts.AreEndsStamped, Seats.IsActOf}
-use Rattle.pas_same_text.specs.{Seats.AreSeated}
+use Rattle.pas_trace.specs.{Acts.Act, Asked.{request_in, keeper_in}, declared.plan.What.What}
+use Rattle.pas_answers.specs.{Answers.Progress, Indexes.{ActIsNamedBy, AllAreNamedBy, indexes_after}, Reaching.Reaches, Rests.AllAtRest}
+use Rattle.pas_same_text.specs.{State.World, Order.acts_on, Same.IsSame, Acts.{IsTaken, HasUsableBlocks, AreEndsStamped}, Seats.{IsActOf, AreSeated}}
 
 -- ---- who acts, and what is asked for
 -- the operation's request is one that the profile admits, if it asks for anything

@@ -1,15 +1,13 @@
 -- THE WHOLE: what `pas order` prints for the bytes of a trace.
 use Rattle.std.specs.Prelude.{ℕ, ◌/◌, ◌==◌, if◌then◌else◌, List, [], map, Option, None, Some, Result, Ok, Err}
-use Rattle.pas_profile.specs.declared.{name.Block.Block, directory.Route.Route, profile.Profile.Profile}
-use Rattle.pas_profile.specs.{Requests.route_in, Requests.room_in, Entries.entry_of, Entries.sized_entry}
-use Rattle.pas_trace.specs.declared.{fault.TraceFault.TraceFault, plan.Op.Op, plan.What.What}
-use Rattle.pas_trace.specs.{Asked.request_in, Reasons.guard_in, Acts.Act, Acts.numbers_from, Acts.acts_of}
-use Rattle.pas_trace.specs.Plans.{Parsed, parsed, phases_in, shared_in}
+use Rattle.pas_profile.specs.{declared.{name.Block.Block, directory.Route.Route, profile.Profile.Profile}, Requests.{route_in, room_in}, Entries.entry_of}
+use Rattle.pas_profile.specs.Entries.{sized_entry}
+use Rattle.pas_trace.specs.{declared.{fault.TraceFault.TraceFault, plan.{Op.Op, What.What}}, Asked.request_in, Reasons.guard_in, Acts.{Act, numbers_from}}
+use Rattle.pas_trace.specs.{Acts.acts_of, Plans.{Parsed, parsed, phases_in, shared_in}}
 use Rattle.pas_answers.specs.Answers.{standing_for, suits}
-use Rattle.pas_same_text.specs.State.{World, each, no_cache, cache_of, set_cache, says, names_it}
-use Rattle.pas_same_text.specs.{Indexes.settles, Classes.serves_class, Runs.serves_bitfit, Runs.serves_pages, Guards.guards, Guards.lowers_all, Reports.text_of}
-use Rattle.pas_same_text.specs.Frees.{flushes, stops, logs, frees, frees_named}
-use Rattle.pas_same_text.specs.Passes.{ticks, passes, reads_epoch, stops_idle}
+use Rattle.pas_same_text.specs.{State.{World, each, no_cache, cache_of, set_cache, says, names_it}, Indexes.settles, Classes.serves_class, Runs.serves_bitfit}
+use Rattle.pas_same_text.specs.{Runs.serves_pages, Guards.{guards, lowers_all}, Reports.text_of, Frees.{flushes, stops, logs, frees, frees_named}, Passes.ticks}
+use Rattle.pas_same_text.specs.Passes.{passes, reads_epoch, stops_idle}
 use Rattle.pas_records.specs.declared.record.{Record.Record, Said.Said}
 
 -- ---- the operations of thread k; those of the scavenger are acts of their own

@@ -1,9 +1,9 @@
 -- WHAT GRAINS AND PAGES ARE in a state. Grain b of a page is one of its 256, from 0 on.
-use Rattle.std.specs.Prelude.{ℕ, zero, suc, ◌+◌, ◌*◌, ◌==◌, Bool, true, false, not, ◌&&◌, ◌||◌, List, ◌∷◌, Option, None, Some, if◌then◌else◌}
-use Rattle.std.specs.List.{list_any, flat_map, filter}
-use Rattle.pas_profile.specs.{Classes.class_grains, Directories.number_of, Blocks.grain_of, Blocks.length_of}
+use Rattle.std.specs.{Prelude.{ℕ, zero, suc, ◌+◌, ◌*◌, ◌==◌, Bool, true, false, not, ◌&&◌, ◌||◌, List, ◌∷◌, Option, None, Some, if◌then◌else◌}, List.list_any}
+use Rattle.std.specs.List.{flat_map, filter}
+use Rattle.pas_profile.specs.{Classes.class_grains, Directories.number_of, Blocks.{grain_of, length_of}, declared.directory.Directory.Directory}
+use Rattle.pas_profile.specs.declared.{name.Block.Block, profile.Profile.Profile}
 use Rattle.pas_bits.specs.Runs.{in_run, meets_page}
-use Rattle.pas_profile.specs.declared.{directory.Directory.Directory, name.Block.Block, profile.Profile.Profile}
 use Rattle.pas_machine.specs.State.{deed_in, backed_in}
 use Rattle.pas_steps.specs.Views.{usable_by_kind}
 use Rattle.pas_trace.specs.Acts.{numbers_from}

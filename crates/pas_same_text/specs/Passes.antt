@@ -1,12 +1,9 @@
 -- THE SCAVENGER: ticks, passes and idle operations.
-use Rattle.std.specs.Prelude.{ℕ, zero, suc, ◌+◌, ◌*◌, ◌^◌, nat_le, nat_lt, max, not, if◌then◌else◌, [], ◌∷◌, Option, None, Some}
-use Rattle.std.specs.List.{find, filter}
-use Rattle.pas_profile.specs.declared.{event.Event.Event, event.Outcome.Outcome, profile.Profile.Profile}
+use Rattle.std.specs.{Prelude.{ℕ, zero, suc, ◌+◌, ◌*◌, ◌^◌, nat_le, nat_lt, max, not, if◌then◌else◌, [], ◌∷◌, Option, None, Some}, List.{find, filter}}
+use Rattle.pas_profile.specs.declared.{event.{Event.Event, Outcome.Outcome}, profile.Profile.Profile}
 use Rattle.pas_machine.specs.State.{backed_in, epoch_in}
 use Rattle.pas_answers.specs.PassRecords.{record_of}
-use Rattle.pas_same_text.specs.State.{World, each, shows, says, cache_of}
-use Rattle.pas_same_text.specs.Pages.{page_numbers, is_free, are_free, is_kept, is_hinted, unhints}
-use Rattle.pas_same_text.specs.Frees.{stops}
+use Rattle.pas_same_text.specs.{State.{World, each, shows, says, cache_of}, Pages.{page_numbers, is_free, are_free, is_kept, is_hinted, unhints}, Frees.stops}
 use Rattle.pas_records.specs.declared.record.{Record.Record, Said.Said}
 
 -- ---- a tick: the epoch never falls

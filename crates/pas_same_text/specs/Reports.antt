@@ -4,7 +4,7 @@ use Rattle.pas_profile.specs.declared.{directory.Directory.Directory, profile.Pr
 use Rattle.pas_machine.specs.State.{deed_in, backed_in}
 use Rattle.pas_records.specs.{Lines.lines_of, Marks.Marked}
 use Rattle.pas_report.specs.Reports.{report_text}
-use Rattle.pas_same_text.specs.{State.World, Pages.is_offered, Pages.is_hinted}
+use Rattle.pas_same_text.specs.{State.World, Pages.{is_offered, is_hinted}}
 
 -- a page of a directory is offered, or else parked
 abbrev pub offered_by : World → Option Directory → ℕ → Bool

@@ -1,12 +1,9 @@
 -- A REQUEST in a replay, one that an operation asks for or one for the block that replaces another: what is known of it, and what it owes.
 use Rattle.std.specs.Prelude.{ℕ, ◌≤◌, length, Some}
-use Rattle.pas_profile.specs.{Profiles.IsValid, Profiles.IsAdmitted, Requests.route_in, Requests.room_in}
-use Rattle.pas_profile.specs.declared.profile.Profile.{Profile}
+use Rattle.pas_profile.specs.{Profiles.{IsValid, IsAdmitted}, Requests.{route_in, room_in}, declared.profile.Profile.Profile}
 use Rattle.pas_steps.specs.Lists.{part}
-use Rattle.pas_trace.specs.EveryPlan.{IsThread}
-use Rattle.pas_trace.specs.declared.item.Request.{Request}
-use Rattle.pas_answers.specs.Answers.{Progress, Answer, having, IsServed, after_answer}
-use Rattle.pas_answers.specs.Indexes.{IsNamedBy}
+use Rattle.pas_trace.specs.{EveryPlan.IsThread, declared.item.Request.Request}
+use Rattle.pas_answers.specs.{Answers.{Progress, Answer, having, IsServed, after_answer}, Indexes.IsNamedBy}
 use Rattle.pas_same_text.specs.{State.World, Order.serves, Same.IsSame, Acts.IsBetween}
 
 -- Thread k asks for r after p, and is answered by a; the text's state is w then. All actors are at rest before and after it. Where it is for whole pages, the run was

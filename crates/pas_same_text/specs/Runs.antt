@@ -1,11 +1,10 @@
 -- REQUESTS THAT NO CLASS SERVES: a run of grains on a bit-fit page, or a run of whole pages. No cache holds anything of them.
-use Rattle.std.specs.Prelude.{ℕ, ◌+◌, ◌*◌, ◌/◌, nat_le, Bool, ◌&&◌, ◌||◌, if◌then◌else◌, List, [], ◌∷◌, take, Option, None, Some, Result, Ok, Err}
-use Rattle.std.specs.List.{find, filter}
-use Rattle.pas_profile.specs.declared.{directory.Directory.Directory, directory.Kind.Kind, event.NoRoom.NoRoom, profile.Profile.Profile}
+use Rattle.std.specs.{Prelude.{ℕ, ◌+◌, ◌*◌, ◌/◌, nat_le, Bool, ◌&&◌, ◌||◌, if◌then◌else◌, List, [], ◌∷◌, take, Option, None, Some, Result, Ok, Err}, List.find}
+use Rattle.std.specs.List.{filter}
+use Rattle.pas_profile.specs.declared.{directory.{Directory.Directory, Kind.Kind}, event.NoRoom.NoRoom, profile.Profile.Profile}
 use Rattle.pas_trace.specs.Acts.{numbers_from}
-use Rattle.pas_same_text.specs.{State.World, State.each, Indexes.named_first, Indexes.loses_named, Classes.spaced}
-use Rattle.pas_same_text.specs.Pages.{page_numbers, each_of, are_free, is_empty, is_unowned, is_offered}
-use Rattle.pas_same_text.specs.Searches.{refusal, searched, deeds, backs, readies, address_on, gives, refuses}
+use Rattle.pas_same_text.specs.{State.{World, each}, Indexes.{named_first, loses_named}, Classes.spaced, Pages.{page_numbers, each_of, are_free, is_empty}}
+use Rattle.pas_same_text.specs.{Pages.{is_unowned, is_offered}, Searches.{refusal, searched, deeds, backs, readies, address_on, gives, refuses}}
 
 -- ---- a run of grains on one page
 -- the directory of the pages of a heap that are split bit by bit

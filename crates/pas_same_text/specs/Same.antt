@@ -1,18 +1,15 @@
 -- WHEN A STATE OF THE TEXT, which has no words or views, is that of a replay, which has a list of steps.
-use Rattle.std.specs.Prelude.{ℕ, ◌<◌, ◌≤◌, ◌≡◌, ◌==◌, Bool, List, [], ◌∷◌, length, map, reverse}
-use Rattle.std.specs.List.{AllByRecursion, list_any}
+use Rattle.std.specs.{Prelude.{ℕ, ◌<◌, ◌≤◌, ◌≡◌, ◌==◌, Bool, List, [], ◌∷◌, length, map, reverse}, List.{AllByRecursion, list_any}}
 use Rattle.pas_bits.specs.Masks.{is_set}
-use Rattle.pas_profile.specs.{Directories.number_of, Profiles.IsDirectoryOf, Guards.guards_of, Guards.raised_by}
-use Rattle.pas_profile.specs.declared.{directory.Directory.Directory, event.Event.Event, name.Block.Block, profile.Profile.Profile, word.Word.Word}
-use Rattle.pas_profile.specs.declared.{guard.Raised.Raised}
+use Rattle.pas_profile.specs.{Directories.number_of, Profiles.IsDirectoryOf, Guards.{guards_of, raised_by}, declared.directory.Directory.Directory}
+use Rattle.pas_profile.specs.declared.{event.Event.Event, name.Block.Block, profile.Profile.Profile, word.Word.Word, guard.Raised.Raised}
 use Rattle.pas_steps.specs.Lists.{Whole, word_after, visible}
 use Rattle.pas_core.specs.Rights.{empty_bit, eligible_bit}
 use Rattle.pas_segregated.specs.declared.slots.Slots.{Slots}
 use Rattle.pas_cache.specs.Contents.{Cached}
 use Rattle.pas_trace.specs.EveryPlan.{IsThread}
 use Rattle.pas_answers.specs.Answers.{Caches, Books, Progress}
-use Rattle.pas_same_text.specs.State.{Local, Cache, World, live_after, cache_in}
-use Rattle.pas_same_text.specs.Pages.{is_offered, is_hinted}
+use Rattle.pas_same_text.specs.{State.{Local, Cache, World, live_after, cache_in}, Pages.{is_offered, is_hinted}}
 
 -- ---- caches
 -- the number stands in the list; the list rises

@@ -1,10 +1,8 @@
 -- A SEARCH in a replay beside that of the text.
 use Rattle.std.specs.Prelude.{ℕ, ◌≡◌, true, false, List, ◌++◌}
-use Rattle.pas_profile.specs.Profiles.{IsValid, IsPage, IsDirectoryOf}
-use Rattle.pas_profile.specs.declared.{directory.Directory.Directory, profile.Profile.Profile}
-use Rattle.pas_steps.specs.{Desks.triples, Evidence.Readings, Evidence.IsAntitone, Kinds.kind_of, Kinds.is_in, Kinds.lending, Lists.part, Lists.Legal}
-use Rattle.pas_steps.specs.{Past.Always, Views.has_right, Views.KnowsDeed}
-use Rattle.pas_steps.specs.declared.step.Made.{Made}
+use Rattle.pas_profile.specs.{Profiles.{IsValid, IsPage, IsDirectoryOf}, declared.{directory.Directory.Directory, profile.Profile.Profile}}
+use Rattle.pas_steps.specs.{Desks.triples, Evidence.{Readings, IsAntitone}, Kinds.{kind_of, is_in, lending}, Lists.{part, Legal}, Past.Always, Views.has_right}
+use Rattle.pas_steps.specs.{Views.KnowsDeed, declared.step.Made.Made}
 use Rattle.pas_core.specs.Rights.{free_of_page}
 use Rattle.pas_answers.specs.Answers.{Progress}
 use Rattle.pas_same_text.specs.{State.World, Pages.is_guarded, Searches.some_of, Same.ArePagesSame}

@@ -1,13 +1,11 @@
 -- THE SEARCH of a small request, and what comes of a request: a block is given, or the request is refused.
-use Rattle.std.specs.Prelude.{ℕ, ◌+◌, ◌*◌, Bool, true, false, ◌&&◌, if◌then◌else◌, List, [], ◌∷◌, Option, None, Some, Result, Ok, Err}
-use Rattle.std.specs.List.{find}
-use Rattle.pas_profile.specs.declared.{directory.Directory.Directory, event.Event.Event, event.NoRoom.NoRoom, name.Block.Block, name.Name.Name}
-use Rattle.pas_profile.specs.declared.{profile.Profile.Profile}
+use Rattle.std.specs.{Prelude.{ℕ, ◌+◌, ◌*◌, Bool, true, false, ◌&&◌, if◌then◌else◌, List, [], ◌∷◌, Option, None, Some, Result, Ok, Err}, List.find}
+use Rattle.pas_profile.specs.declared.{directory.Directory.Directory, event.{Event.Event, NoRoom.NoRoom}, name.{Block.Block, Name.Name}}
+use Rattle.pas_profile.specs.declared.profile.Profile.{Profile}
 use Rattle.pas_machine.specs.State.{backed_in, gives_in}
 use Rattle.pas_records.specs.declared.record.Record.{Record}
 use Rattle.pas_answers.specs.Answers.{said_of_room}
-use Rattle.pas_same_text.specs.State.{World, shows, says, names_it}
-use Rattle.pas_same_text.specs.Pages.{page_numbers, is_unowned, is_of, is_kept, is_offered}
+use Rattle.pas_same_text.specs.{State.{World, shows, says, names_it}, Pages.{page_numbers, is_unowned, is_of, is_kept, is_offered}}
 
 -- the list has a number
 abbrev pub some_of : List ℕ → Bool

@@ -3,7 +3,7 @@ use Rattle.std.specs.Prelude.{ℕ, ◌<◌, ◌≤◌, ◌≡◌, true, false, [
 use Rattle.pas_profile.specs.declared.profile.Profile.{Profile}
 use Rattle.pas_machine.specs.State.{backed_in}
 use Rattle.pas_steps.specs.Lists.{visible}
-use Rattle.pas_guard.specs.{Books.is_outer, Books.Each, Keepers.IsBeside}
+use Rattle.pas_guard.specs.{Books.{is_outer, Each}, Keepers.IsBeside}
 use Rattle.pas_trace.specs.Acts.{Act}
 use Rattle.pas_answers.specs.{Answers.Progress, Replays.empty_cache}
 

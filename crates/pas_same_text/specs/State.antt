@@ -1,9 +1,7 @@
 -- WHAT A REPLAY HAS COME TO between two of its acts. No words of the region, no rights, views or steps stand in it: what pages and grains are follows from
 -- the events, the caches and the hints.
-use Rattle.std.specs.Prelude.{ℕ, ◌-◌, ◌==◌, not, Bool, if◌then◌else◌, List, [], ◌∷◌, Option}
-use Rattle.std.specs.List.{find, filter}
-use Rattle.pas_profile.specs.Blocks.{address_of}
-use Rattle.pas_profile.specs.declared.{event.Event.Event, name.Block.Block, entry.Entry.Entry, guard.Raised.Raised}
+use Rattle.std.specs.{Prelude.{ℕ, ◌-◌, ◌==◌, not, Bool, if◌then◌else◌, List, [], ◌∷◌, Option}, List.{find, filter}}
+use Rattle.pas_profile.specs.{Blocks.address_of, declared.{event.Event.Event, name.Block.Block, entry.Entry.Entry, guard.Raised.Raised}}
 use Rattle.pas_large.specs.declared.span.Span.{Span}
 use Rattle.pas_free_log.specs.declared.noting.EndedRun.{EndedRun}
 use Rattle.pas_answers.specs.Answers.{Named, named}

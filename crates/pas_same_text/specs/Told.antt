@@ -1,9 +1,8 @@
 -- WHAT IS WRITTEN OF A REPLAY, told by a state of the text.
 use Rattle.std.specs.Prelude.{◌≡◌, List, ◌++◌, reverse}
 use Rattle.pas_steps.specs.Lists.{Whole, visible}
-use Rattle.pas_records.specs.{Lines.lines_of, Marks.marks_after}
+use Rattle.pas_records.specs.{Lines.lines_of, Marks.marks_after, declared.record.Record.Record}
 use Rattle.pas_report.specs.Reports.{report_text}
-use Rattle.pas_records.specs.declared.record.Record.{Record}
 use Rattle.pas_trace.specs.declared.plan.Plan.{Plan}
 use Rattle.pas_answers.specs.Replays.{region_of}
 use Rattle.pas_same_text.specs.{State.World, Reports.text_of}

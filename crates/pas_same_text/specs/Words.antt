@@ -1,7 +1,7 @@
 -- Bits of words.
 use Rattle.std.specs.Prelude.{ℕ, ◌%◌, Bool}
 use Rattle.pas_bits.specs.Bits.{has_bit}
-use Rattle.pas_steps.specs.{Effects.free_word_at, Lists.Whole, Lists.word_after}
+use Rattle.pas_steps.specs.{Effects.free_word_at, Lists.{Whole, word_after}}
 
 -- the bit of a grain of the region: it is set where the grain is free
 abbrev pub free_bit : Whole → ℕ → Bool

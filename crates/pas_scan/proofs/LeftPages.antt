@@ -1,23 +1,16 @@
 -- Readings of pages, and the runs that they show.
 use Rattle.std.proofs.Common.{◌≡◌, ℕ, ◌+◌, ◌*◌, ◌/◌, ◌<◌, true, false, ◌||◌, List, [], ◌∷◌, ◌++◌, inl, inr, refl, ap, sym, ◌∙◌, true≢false, arith, ◌≢◌, ◌-◌}
-use Rattle.std.proofs.Common.{◌≤◌, Bool, if◌then◌else◌, subst, MatchBool, ◌%◌, ◌^◌, length-append, zero, suc, nat_lt, lt-ltb, le-ltb}
-use Rattle.pas_bits.specs.Bits.{has_bit}
-use Rattle.pas_profile.specs.declared.{directory.Directory.Directory, profile.Profile.Profile, word.Word.Word}
-use Rattle.pas_steps.specs.Views.{held_after, grain_move, holds, has_right, all_ones}
-use Rattle.pas_steps.specs.Past.{Once, Since}
-use Rattle.pas_steps.specs.Kinds.{Kinds, kind_of, place_of, is_in, apart, moving, righting, Only}
-use Rattle.pas_steps.specs.declared.step.{Step.Step, Made.Made, Step.TheVariants.Deed, Step.TheVariants.Look}
-use Rattle.pas_steps.proofs.Apart.{in_apart, holds_same, rights_same, only_both}
-use Rattle.pas_steps.proofs.{Frames.right_own, Adding.adds_call, Bits.all_set}
-use Rattle.pas_steps.proofs.Past.{once_later, once_earlier, always_map, always_both, once_map}
-use Rattle.pas_steps.specs.Evidence.{OneHere, NoDeedHere, ReadsEligible, ReadsDeed, ReadsFree}
+use Rattle.std.proofs.{Common.{◌≤◌, Bool, if◌then◌else◌, subst, MatchBool, ◌%◌, ◌^◌, length-append, zero, suc, nat_lt, lt-ltb, le-ltb}, lemmas.Bool.cases_lt}
+use Rattle.std.proofs.Math.Bool.{or-false}
+use Rattle.pas_bits.{specs.Bits.has_bit, proofs.Words.full_bit}
+use Rattle.pas_profile.specs.{declared.{directory.Directory.Directory, profile.Profile.Profile, word.Word.Word}, Directories.{number_of, deed_word_of}}
+use Rattle.pas_steps.specs.{Views.{held_after, grain_move, holds, has_right, all_ones}, Past.{Once, Since}, Kinds.{Kinds, kind_of, place_of, is_in, apart}}
+use Rattle.pas_steps.specs.{Kinds.{moving, righting, Only}, declared.step.{Step.{Step, TheVariants.{Deed, Look}}, Made.Made}, Evidence.{OneHere, NoDeedHere}}
+use Rattle.pas_steps.{specs.{Evidence.{ReadsEligible, ReadsDeed, ReadsFree}, Desks.{Standing, AnyView, Adds, made}}, proofs.Apart.{in_apart, holds_same}}
+use Rattle.pas_steps.proofs.{Apart.{rights_same, only_both}, Frames.right_own, Adding.adds_call, Bits.all_set, Past.{once_later, once_earlier, always_map}}
+use Rattle.pas_steps.proofs.Past.{always_both, once_map}
 use Rattle.pas_scan.specs.Usable.{DeedReadHere, OfHere, IsAllFree, WholeHere, ReadUsable, ParksNotHere, IsFresh, UnusableHere, LeftAlone, UsedHere}
-use Rattle.std.proofs.{lemmas.Bool.cases_lt, Math.Bool.or-false}
-use Rattle.pas_scan.specs.Passed.{held_looks}
-use Rattle.pas_scan.specs.Runs.{HasUnusable, IsFirstRun, HasNoRun, page_looks, FreeLookHere, UsedLookHere, LooksFree, ReadsUsable}
-use Rattle.pas_profile.specs.Directories.{number_of, deed_word_of}
-use Rattle.pas_steps.specs.Desks.{Standing, AnyView, Adds, made}
-use Rattle.pas_bits.proofs.Words.{full_bit}
+use Rattle.pas_scan.specs.{Passed.held_looks, Runs.{HasUnusable, IsFirstRun, HasNoRun, page_looks, FreeLookHere, UsedLookHere, LooksFree, ReadsUsable}}
 
 -- ==== Readings of one page, with steps that stood before, which left the page alone.
 

@@ -2,29 +2,19 @@
 use Rattle.std.proofs.Common.{◌≡◌, ◌≢◌, ℕ, suc, length, ◌+◌, ◌*◌, ◌/◌, ◌<◌, ◌≤◌, Bool, false, List, [], ◌∷◌, ◌++◌, ◌⊎◌, inl, inr, refl, ap, sym, ◌∙◌, subst}
 use Rattle.std.proofs.Common.{arith, ◌%◌, ◌^◌, ◌==◌, true, not, ◌&&◌, ◌||◌, if◌then◌else◌, append_assoc, max, min, bit_and, w64, eq-eqb, ne_eqb, eqb-true, ◌-◌}
 use Rattle.std.proofs.Common.{slice_index, slice_set, replicate, true≢false, length-append, get_or-set_same, get_or-set_other, nat_lt, lt-ltb, le-ltb, ltb-true}
-use Rattle.std.proofs.Common.{ltb-false, pow_pos, shr-shr, bit_or}
-use Rattle.std.proofs.lemmas.Bool.{cases_lt, cases_eq, and_parts, or_right, or_cases, not-true, not-false, cases_Bool, false_from_ne_true}
-use Rattle.pas_profile.specs.declared.{profile.Profile.Profile, word.Word.Word as TheWord, word.Word.Word, directory.Directory.Directory}
-use Rattle.pas_steps.specs.Views.{View, has_right, right_after, known_deed, deed_after, KnowsDeed}
-use Rattle.pas_steps.specs.{Past.Once, Past.Always, Frames.IsScan, Frames.OnlyScans, Desks.made, Kinds.kind_of, Kinds.is_in, Kinds.Only, Agreement.Agreed}
-use Rattle.pas_steps.specs.{Agreement.Agrees, Agreement.AgreesEligible}
-use Rattle.pas_steps.specs.Evidence.{ReadsDeed, DeedHere, IsSingle, ReadsParked, ParkedHere, ReadsEligible, ZeroHere}
-use Rattle.pas_steps.specs.declared.step.{Step.Step, Made.Made, Step.TheVariants.Look}
-use Rattle.pas_steps.proofs.Past.{always_map, always_both, once_later, once_earlier}
-use Rattle.pas_scan.specs.Rows.{looks_from, eligible_looks, WordReadHere, shows_page, IsLowestShown, ShowsNone}
-use Rattle.pas_scan.specs.{Passed.NoneIs, Marks.is_marked, Marks.IsHighest}
+use Rattle.std.proofs.{Common.{ltb-false, pow_pos, shr-shr, bit_or}, lemmas.Bool.{cases_lt, cases_eq, and_parts, or_right, or_cases, not-true, not-false}}
+use Rattle.std.proofs.lemmas.{Bool.{cases_Bool, false_from_ne_true}, List.{get_or-replicate, get_or_past}, Nat.Bits.{bit_at_ones, bit_at_above}}
+use Rattle.std.{proofs.Math.{Bool.{or_comm, and-true}, ListN.{set, get_or}, Pow.pow-lt}, specs.Int.bit_not}
+use Rattle.pas_profile.specs.{declared.{profile.Profile.Profile, word.Word.{Word as TheWord, Word}, directory.Directory.Directory}, Directories.deed_word_of}
+use Rattle.pas_profile.{specs.{Directories.{IsKind, number_of, deed_word_numbered}, Profiles.IsPage}, proofs.Codecs.numbered}
+use Rattle.pas_steps.specs.{Views.{View, has_right, right_after, known_deed, deed_after, KnowsDeed}, Past.{Once, Always}, Frames.{IsScan, OnlyScans}}
+use Rattle.pas_steps.specs.{Desks.made, Kinds.{kind_of, is_in, Only}, Agreement.{Agreed, Agrees, AgreesEligible}, Evidence.{ReadsDeed, DeedHere, IsSingle}}
+use Rattle.pas_steps.specs.{Evidence.{ReadsParked, ParkedHere, ReadsEligible, ZeroHere}, declared.step.{Step.{Step, TheVariants.Look}, Made.Made}}
+use Rattle.pas_steps.proofs.{Past.{always_map, always_both, once_later, once_earlier}, Apart.only_both}
+use Rattle.pas_scan.specs.{Rows.{looks_from, eligible_looks, WordReadHere, shows_page, IsLowestShown, ShowsNone}, Passed.NoneIs, Marks.{is_marked, IsHighest}}
 use Rattle.pas_scan.specs.Scan.{IsFirstBare, IsMember, AllParked, InBlock, judging, IsFirstOffered, deed_looks}
-use Rattle.std.specs.Int.{bit_not}
-use Rattle.pas_bits.specs.{Bits.has_bit, PageVectors.is_in_word}
-use Rattle.pas_profile.specs.Directories.{deed_word_of, IsKind, number_of, deed_word_numbered}
-use Rattle.pas_profile.specs.Profiles.{IsPage}
-use Rattle.pas_steps.proofs.Apart.{only_both}
-use Rattle.pas_bits.proofs.Words.{bit_cleared, bit_of_or, none_of_zero, is_zero, is_one}
-use Rattle.std.proofs.{Math.Bool.or_comm, Math.ListN.set, Math.ListN.get_or, lemmas.List.get_or-replicate, lemmas.List.get_or_past, Math.Pow.pow-lt}
-use Rattle.std.proofs.{lemmas.Nat.Bits.bit_at_ones, lemmas.Nat.Bits.bit_at_above, Math.Bool.and-true}
-use Rattle.pas_profile.proofs.Codecs.{numbered}
-use Rattle.pas_bits.specs.Rows.{is_set, IsEmpty, IsLowestSet, IsWithin}
-use Rattle.pas_bits.proofs.Rows.{none_past}
+use Rattle.pas_bits.{specs.{Bits.has_bit, PageVectors.is_in_word, Rows.{is_set, IsEmpty, IsLowestSet, IsWithin}}, proofs.Words.{bit_cleared, bit_of_or}}
+use Rattle.pas_bits.proofs.{Words.{none_of_zero, is_zero, is_one}, Rows.none_past}
 
 -- ---- these looks give no right
 scan_right : (s : Step) (a p : ℕ) (had : Bool) → IsScan s → right_after s a p had ≡ had

@@ -1,22 +1,16 @@
 -- Steps that a desk which tells the whole state is told, one after the other: mute ones that are allowed, and looks at words in order.
 use Rattle.std.proofs.Common.{◌≡◌, ◌≢◌, ℕ, zero, suc, ◌+◌, ◌-◌, ◌*◌, ◌/◌, ◌%◌, ◌<◌, ◌≤◌, Bool, if◌then◌else◌, List, [], ◌∷◌, ◌++◌, length, Option, None, refl}
-use Rattle.std.proofs.Common.{ap, sym, ◌∙◌, subst, arith, append-nil, false, inl, inr}
-use Rattle.std.proofs.lemmas.Bool.{cases_lt}
+use Rattle.std.proofs.{Common.{ap, sym, ◌∙◌, subst, arith, append-nil, false, inl, inr}, lemmas.Bool.cases_lt}
 use Rattle.pas_bits.specs.Bits.{has_bit}
-use Rattle.pas_profile.specs.{Directories.number_of, Directories.deed_word_of, Layouts.same_word, Profiles.IsValid, Profiles.IsWordOf, Profiles.IsDirectoryOf}
-use Rattle.pas_profile.specs.declared.{directory.Directory.Directory, profile.Profile.Profile, word.Word.Word}
-use Rattle.pas_profile.proofs.Codecs.{number_lt}
+use Rattle.pas_profile.specs.{Directories.{number_of, deed_word_of}, Layouts.same_word, Profiles.{IsValid, IsWordOf, IsDirectoryOf}}
+use Rattle.pas_profile.{specs.declared.{directory.Directory.Directory, profile.Profile.Profile, word.Word.Word}, proofs.Codecs.number_lt}
 use Rattle.pas_core.proofs.Nexts.{legal_next, agreed_steps}
-use Rattle.pas_steps.specs.{Agreement.Agreed, Allowed.Allowed, Allowed.IsStepOf, Effects.target, Effects.new_value, Events.event_of, Events.events_of}
-use Rattle.pas_steps.specs.{Events.with_event, Told.StandsLater, Told.StandsStill, Told.TellsWord}
-use Rattle.pas_steps.specs.Views.{View, epoch_of, epoch_after, known_epoch}
-use Rattle.pas_steps.specs.Lists.{Whole, Legal, part, word_after}
-use Rattle.pas_steps.specs.Desks.{Standing, AnyView, Adds, CanCall, made, triples}
-use Rattle.pas_steps.specs.declared.step.{Made.Made, Step.Step, Step.TheVariants.Look}
+use Rattle.pas_steps.specs.{Agreement.Agreed, Allowed.{Allowed, IsStepOf}, Effects.{target, new_value}, Events.{event_of, events_of, with_event}}
+use Rattle.pas_steps.specs.{Told.{StandsLater, StandsStill, TellsWord}, Views.{View, epoch_of, epoch_after, known_epoch}, Lists.{Whole, Legal, part}}
+use Rattle.pas_steps.specs.{Lists.word_after, Desks.{Standing, AnyView, Adds, CanCall, made, triples}, declared.step.{Made.Made, Step.{Step, TheVariants.Look}}}
 use Rattle.pas_steps.proofs.Parts.{part_of_own}
-use Rattle.pas_scan.proofs.Reading.{looks_count}
-use Rattle.pas_scan.specs.{Rows.looks_from, Scan.deed_looks}
-use Rattle.pas_scan.specs.Passed.{KnowsDeeds, KnowsOther, NoneIs, PassesDeeds, KnowsHeld, PassesHeld, held_looks}
+use Rattle.pas_scan.{proofs.Reading.looks_count, specs.{Rows.looks_from, Scan.deed_looks, Passed.{KnowsDeeds, KnowsOther, NoneIs, PassesDeeds, KnowsHeld}}}
+use Rattle.pas_scan.specs.Passed.{PassesHeld, held_looks}
 
 -- ---- steps that are made one after the other on a list, and change no word in the end
 -- After these steps the words of the region are these. They are legal, make no event, and read no epoch.

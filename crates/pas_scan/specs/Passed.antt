@@ -1,11 +1,8 @@
 -- Pages that are passed by: looks at their words are told to a desk that tells the whole state, and not made.
 use Rattle.std.specs.Prelude.{ℕ, zero, suc, ◌+◌, ◌-◌, ◌/◌, ◌%◌, ◌<◌, ◌≤◌, ◌≡◌, ◌≢◌, Bool, false, List, [], ◌∷◌, length}
 use Rattle.pas_bits.specs.Bits.{has_bit}
-use Rattle.pas_profile.specs.Directories.{deed_word_of, number_of}
-use Rattle.pas_profile.specs.declared.{directory.Directory.Directory, word.Word.Word}
-use Rattle.pas_steps.specs.Told.{TellsWord}
-use Rattle.pas_steps.specs.Desks.{Standing, AnyView, Adds, made}
-use Rattle.pas_steps.specs.declared.step.{Made.Made, Step.TheVariants.Look}
+use Rattle.pas_profile.specs.{Directories.{deed_word_of, number_of}, declared.{directory.Directory.Directory, word.Word.Word}}
+use Rattle.pas_steps.specs.{Told.TellsWord, Desks.{Standing, AnyView, Adds, made}, declared.step.{Made.Made, Step.TheVariants.Look}}
 use Rattle.pas_scan.specs.Scan.{deed_looks}
 
 -- ---- by their deed words alone

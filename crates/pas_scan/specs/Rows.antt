@@ -2,11 +2,8 @@
 -- bit p % 64 of the word p / 64 - block.
 use Rattle.std.specs.Prelude.{ℕ, ◌+◌, ◌-◌, ◌*◌, ◌/◌, ◌<◌, ◌≤◌, ◌≡◌, min, Bool, true, false, List, [], ◌∷◌, length, slice_index}
 use Rattle.pas_bits.specs.Rows.{is_set}
-use Rattle.pas_profile.specs.Directories.{number_of}
-use Rattle.pas_profile.specs.declared.{directory.Directory.Directory, profile.Profile.Profile, word.Word.Word as TheWord, word.Word.Word}
-use Rattle.pas_steps.specs.Desks.{Standing, AnyView, Adds, made}
-use Rattle.pas_steps.specs.Past.{Once}
-use Rattle.pas_steps.specs.declared.step.{Made.Made, Step.TheVariants.Look}
+use Rattle.pas_profile.specs.{Directories.number_of, declared.{directory.Directory.Directory, profile.Profile.Profile, word.Word.{Word as TheWord, Word}}}
+use Rattle.pas_steps.specs.{Desks.{Standing, AnyView, Adds, made}, Past.Once, declared.step.{Made.Made, Step.TheVariants.Look}}
 
 -- ---- what a row shows
 abbrev pub shows_page : List ℕ → ℕ → ℕ → Bool

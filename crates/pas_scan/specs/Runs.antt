@@ -1,8 +1,7 @@
 -- What the search for a run of pages promises.
 use Rattle.std.specs.Prelude.{ℕ, ◌+◌, ◌-◌, ◌*◌, ◌^◌, ◌<◌, ◌≤◌, ◌≡◌, ◌≢◌, Bool, MatchBool, List, [], ◌∷◌, length, Option, MatchOption}
-use Rattle.pas_profile.specs.declared.{directory.Directory.Directory, directory.Kind.Kind, profile.Profile.Profile, word.Word.Word}
-use Rattle.pas_steps.specs.{Views.all_ones, Desks.Standing, Desks.AnyView, Desks.Adds, Past.Once}
-use Rattle.pas_steps.specs.Kinds.{Kinds, LookFree, LookDeed, LookEligible, Only}
+use Rattle.pas_profile.specs.declared.{directory.{Directory.Directory, Kind.Kind}, profile.Profile.Profile, word.Word.Word}
+use Rattle.pas_steps.specs.{Views.all_ones, Desks.{Standing, AnyView, Adds}, Past.Once, Kinds.{Kinds, LookFree, LookDeed, LookEligible, Only}}
 use Rattle.pas_steps.specs.declared.step.{Made.Made, Step.TheVariants.Look}
 use Rattle.pas_scan.specs.Usable.{DeedReadHere, ReadUsable, UnusableHere}
 

@@ -1,15 +1,12 @@
 -- What the searches promise.
 use Rattle.std.specs.Prelude.{ℕ, ◌+◌, ◌-◌, ◌*◌, ◌/◌, ◌%◌, ◌<◌, ◌≤◌, ◌≡◌, true, false, List, [], ◌∷◌, ◌++◌, length, MatchOption, Option}
 use Rattle.pas_bits.specs.Bits.{has_bit}
-use Rattle.pas_profile.specs.{Directories.number_of, Profiles.IsPage}
-use Rattle.pas_profile.specs.declared.{directory.Directory.Directory, profile.Profile.Profile, event.NoRoom.NoRoom, event.NoRoom.TheVariants.NoSpace}
-use Rattle.pas_profile.specs.declared.{event.NoRoom.TheVariants.Held, word.Word.Word}
-use Rattle.pas_steps.specs.{Views.View, Views.has_right, Views.KnowsDeed, Agreement.Agreed, Desks.Standing, Desks.AnyView, Desks.Adds, Past.Once, Past.Always}
-use Rattle.pas_steps.specs.{Frames.OnlyScans}
-use Rattle.pas_steps.specs.Kinds.{Kinds, LookDeed, LookParked, Only}
-use Rattle.pas_steps.specs.declared.step.{Made.Made, Step.TheVariants.Look}
-use Rattle.pas_scan.specs.{Marks.is_marked, Rows.looks_from, Rows.eligible_looks, Rows.words_to}
-use Rattle.pas_steps.specs.Evidence.{ZeroHere, OneHere, DeedHere, NoDeedHere, ParkedHere, IsSingle}
+use Rattle.pas_profile.specs.{Directories.number_of, Profiles.IsPage, declared.{directory.Directory.Directory, profile.Profile.Profile, event.NoRoom.NoRoom}}
+use Rattle.pas_profile.specs.declared.{event.NoRoom.TheVariants.{NoSpace, Held}, word.Word.Word}
+use Rattle.pas_steps.specs.{Views.{View, has_right, KnowsDeed}, Agreement.Agreed, Desks.{Standing, AnyView, Adds}, Past.{Once, Always}, Frames.OnlyScans}
+use Rattle.pas_steps.specs.{Kinds.{Kinds, LookDeed, LookParked, Only}, declared.step.{Made.Made, Step.TheVariants.Look}, Evidence.{ZeroHere, OneHere, DeedHere}}
+use Rattle.pas_steps.specs.Evidence.{NoDeedHere, ParkedHere, IsSingle}
+use Rattle.pas_scan.specs.{Marks.is_marked, Rows.{looks_from, eligible_looks, words_to}}
 
 -- ---- the search of offered pages from page `next` on
 -- each page from this one on was read as not offered

@@ -2,11 +2,9 @@
 -- the call before it, the newest first.
 use Rattle.std.specs.Prelude.{ℕ, ◌+◌, ◌*◌, ◌<◌, ◌≡◌, ◌≢◌, ◌/◌, ◌⊎◌, true, false, ◌||◌, List}
 use Rattle.pas_bits.specs.Bits.{has_bit}
-use Rattle.pas_profile.specs.Directories.{deed_word_of}
-use Rattle.pas_profile.specs.declared.directory.Directory.{Directory}
-use Rattle.pas_steps.specs.{Views.holds, Views.has_right, Past.Once, Past.Always, Past.Since}
-use Rattle.pas_steps.specs.declared.step.{Made.Made, Step.TheVariants.Deed, Step.TheVariants.Park}
-use Rattle.pas_steps.specs.Evidence.{ReadsDeed, ReadsFree, ZeroHere, OneHere, NoDeedHere}
+use Rattle.pas_profile.specs.{Directories.deed_word_of, declared.directory.Directory.Directory}
+use Rattle.pas_steps.specs.{Views.{holds, has_right}, Past.{Once, Always, Since}, declared.step.{Made.Made, Step.TheVariants.{Deed, Park}}, Evidence.ReadsDeed}
+use Rattle.pas_steps.specs.Evidence.{ReadsFree, ZeroHere, OneHere, NoDeedHere}
 
 -- its deed word was read
 abbrev pub DeedReadHere : ℕ → Made → List Made → Type 0

@@ -2,45 +2,34 @@
 use Rattle.std.proofs.Common.{◌≡◌, ℕ, ◌*◌, ◌/◌, ◌%◌, ◌<◌, ◌==◌, nat_lt, Bool, true, false, ◌&&◌, ◌||◌, length, slice_index, slice_set, refl, ap, sym, ◌∙◌}
 use Rattle.std.proofs.Common.{arith, inl, inr, get_or-set_same, get_or-set_other, ◌+◌, not, if◌then◌else◌, List, [], ◌∷◌, ◌++◌, Option, None, Some, subst}
 use Rattle.std.proofs.Common.{bit_and, ◌≢◌, ◌≤◌, append_assoc, length-append, eq-eqb, ne_eqb, lt-ltb, le-ltb, ltb-true, eqb-true, zero, suc, ◌-◌, reverse, map}
-use Rattle.std.proofs.Common.{append-nil}
-use Rattle.std.proofs.{Math.Bool.or-false, lemmas.List.reverse-append, lemmas.List.length-reverse}
-use Rattle.std.proofs.lemmas.Bool.{cases_eq, cases_lt, cases_Bool, and_from, and_right}
-use Rattle.pas_bits.specs.{Bits.has_bit, Runs.in_run, Masks.is_set, PageVectors.HasNoPage, PageVectors.IsLowestPage}
-use Rattle.pas_bits.proofs.{Runs.to_run, Runs.run_of, Words.none_past, Words.full_bit}
-use Rattle.pas_bits.specs.declared.mask.Mask4.{Mask4}
-use Rattle.pas_steps.proofs.{Sets.same_truth, Sets.kept_kept, Adding.adds_none, Adding.adds_step, Adding.adds_under, Frames.any_from, Bits.all_below-from}
-use Rattle.pas_steps.proofs.{Past.once_later, SpareRoom.Spares, SpareRoom.spare_falls, Nothing.nothing_still, Frames.events_append}
-use Rattle.pas_rights.specs.{Words.full, Words.ones, Takes.takes, Leaves.MayLeave, Leaves.Leaves, Puts.masked, Puts.PutsMask, PutsBack.MayPutAndReturn}
-use Rattle.pas_rights.specs.{PutsBack.given_back, Returns.Returned, Claims.Claims}
+use Rattle.std.proofs.{Common.append-nil, Math.Bool.or-false, lemmas.{List.{reverse-append, length-reverse}, Bool.{cases_eq, cases_lt, cases_Bool, and_from}}}
+use Rattle.std.proofs.lemmas.Bool.{and_right}
+use Rattle.pas_bits.{specs.{Bits.has_bit, Runs.in_run, Masks.is_set, PageVectors.{HasNoPage, IsLowestPage}, declared.mask.Mask4.Mask4}, proofs.Runs.to_run}
+use Rattle.pas_bits.proofs.{Runs.run_of, Words.{none_past, full_bit}}
+use Rattle.pas_steps.proofs.{Sets.{same_truth, kept_kept}, Adding.{adds_none, adds_step, adds_under}, Frames.{any_from, events_append}, Bits.all_below-from}
+use Rattle.pas_steps.proofs.{Past.once_later, SpareRoom.{Spares, spare_falls}, Nothing.nothing_still, Apart.{holds_same, rights_same, unstamped_same}}
+use Rattle.pas_steps.proofs.{Apart.{only_within, only_both, epoch_same, events_same, no_events}, Calls.{opening, owes_over, unexamined_over, returns_are}}
+use Rattle.pas_steps.{proofs.{Calls.{does_then, does_idly}, Called.{call_as, call_then, call_knows, next_call, call_none, call_step}}, specs.Calls.Kept}
+use Rattle.pas_steps.specs.{Calls.{Gained, now, on_page, Does, Calls, Lost, ClearAfter}, Clear.{IsClear, HasNothing}, Agreement.{Agreed, AgreesEmpty}}
+use Rattle.pas_steps.specs.{Allowed.{IsEpochKnown, MayUnback}, Events.events_by, Evidence.ReadsFree, Past.Once, InTurn.{InTurn, numbers_below}, Desks.made}
+use Rattle.pas_steps.specs.{Desks.{Standing, Makes, Adds, CanCall}, Kinds.{LookFree, Taking, Only, Kinds, LookDeed, LookBacked, LookStamp, Claiming, Hinting}}
+use Rattle.pas_steps.specs.{Kinds.{Unbacking, Unhinting, apart, unstamping, within, Putting, returning, showing, LookEmpty, LookEpoch}, Views.{View, Gets}}
+use Rattle.pas_steps.specs.Views.{Stays, held_after, holds, has_right, all_ones, examines, holds_on, holds_all, knows_backed, or_zero, known_epoch, KnowsDeed}
+use Rattle.pas_steps.specs.{Views.{known_deed, ReadBacked}, declared.step.{Made.Made, Step.TheVariants.{TakeRight, Unhint, Look, Hint}}}
+use Rattle.pas_rights.specs.{Words.{full, ones}, Takes.takes, Leaves.{MayLeave, Leaves}, Puts.{masked, PutsMask}, PutsBack.{MayPutAndReturn, given_back}}
+use Rattle.pas_rights.specs.{Returns.Returned, Claims.Claims, declared.reading.Used.Used, Looks.{AreUsed, looks_until, IsUsed, ReadsUntilUsed}}
 use Rattle.pas_rights.proofs.Orders.{full_set, looks_only, same_page, until_only, until_few, leave_few, return_few, leave_returns, return_returns, ends}
 use Rattle.pas_rights.proofs.Puts.{puts_kinds, puts_few, may_return as may_settle, returned_call, takes_only, got_below, takes_hold as grains_held}
 use Rattle.pas_rights.proofs.Puts.{takes_few as grains_few}
-use Rattle.pas_profile.specs.declared.{directory.Directory.Directory, profile.Profile.Profile, word.Word.Word, event.Outcome.Outcome, event.Event.Event}
-use Rattle.pas_steps.specs.Calls.{Kept, Gained, now, on_page, Does, Calls, Lost, ClearAfter}
-use Rattle.pas_steps.specs.{Clear.IsClear, Clear.HasNothing, Agreement.Agreed, Agreement.AgreesEmpty, Allowed.IsEpochKnown, Allowed.MayUnback, Events.events_by}
-use Rattle.pas_steps.specs.{Evidence.ReadsFree, Past.Once, InTurn.InTurn, InTurn.numbers_below}
-use Rattle.pas_steps.specs.Desks.{made, Standing, Makes, Adds, CanCall}
-use Rattle.pas_steps.specs.Kinds.{LookFree, Taking, Only, Kinds, LookDeed, LookBacked, LookStamp, Claiming, Hinting, Unbacking, Unhinting, apart, unstamping}
-use Rattle.pas_steps.specs.Kinds.{within, Putting, returning, showing, LookEmpty, LookEpoch}
-use Rattle.pas_steps.specs.Views.{View, Gets, Stays, held_after, holds, has_right, all_ones, examines, holds_on, holds_all, knows_backed, or_zero, known_epoch}
-use Rattle.pas_steps.specs.Views.{KnowsDeed, known_deed, ReadBacked}
-use Rattle.pas_steps.specs.declared.step.Made.{Made}
-use Rattle.pas_steps.specs.declared.step.Step.TheVariants.{TakeRight, Unhint, Look, Hint}
-use Rattle.pas_steps.proofs.Apart.{holds_same, rights_same, unstamped_same, only_within, only_both, epoch_same, events_same, no_events}
-use Rattle.pas_steps.proofs.Calls.{opening, owes_over, unexamined_over, returns_are, does_then, does_idly}
-use Rattle.pas_rights.specs.declared.reading.Used.{Used}
-use Rattle.pas_scavenger.specs.Puttings.{IsAt, none, BackSteps, MayPutBack, PutsBack}
-use Rattle.pas_scavenger.specs.{Readings.was_free, Readings.takes_until, Readings.TakesUntilUsed, Evidence.UsedByOthers, Evidence.UnbackedHere}
-use Rattle.pas_scavenger.specs.Judgements.{MayJudge, used_at, Judged, JudgesPage}
-use Rattle.pas_profile.specs.declared.event.Outcome.TheVariants.{Unbacked, Bare, Young, InUse, NotOffered}
-use Rattle.pas_rights.specs.Looks.{AreUsed, looks_until, IsUsed, ReadsUntilUsed}
-use Rattle.pas_scavenger.specs.Pages.{first_looks, AsksSteps, EndsWithout, EndsWith, ExamineSteps, unback_of, quiet, examining, MayTake, TakesPage, TakesSteps}
-use Rattle.pas_scavenger.specs.Pages.{MayExamine, ReadsDirectory, ExaminesPage}
-use Rattle.pas_steps.proofs.Called.{call_as, call_then, call_knows, next_call, call_none, call_step}
-use Rattle.pas_profile.specs.{Directories.deed_word_of, Profiles.IsPage, Profiles.vector_words}
+use Rattle.pas_profile.specs.declared.{directory.Directory.Directory, profile.Profile.Profile, word.Word.Word, event.Outcome.{Outcome, TheVariants.Unbacked}}
+use Rattle.pas_profile.specs.{declared.event.{Outcome.TheVariants.{Bare, Young, InUse, NotOffered}, Event.Event}, Directories.deed_word_of, Profiles.IsPage}
+use Rattle.pas_profile.specs.Profiles.{vector_words}
+use Rattle.pas_scavenger.specs.{Puttings.{IsAt, none, BackSteps, MayPutBack, PutsBack}, Readings.{was_free, takes_until, TakesUntilUsed}, Evidence.UsedByOthers}
+use Rattle.pas_scavenger.specs.{Evidence.UnbackedHere, Judgements.{MayJudge, used_at, Judged, JudgesPage}, Pages.{first_looks, AsksSteps, EndsWithout}}
+use Rattle.pas_scavenger.specs.Pages.{EndsWith, ExamineSteps, unback_of, quiet, examining, MayTake, TakesPage, TakesSteps, MayExamine, ReadsDirectory}
+use Rattle.pas_scavenger.specs.{Pages.ExaminesPage, Passes.{Tried, with_outcome, outcomes_in, pages_set, trying, unbacks_in, IsReady, Tries, TriesPage}}
+use Rattle.pas_scavenger.specs.Passes.{WordRead, WordSteps, all_tried, passing, Passes}
 use Rattle.pas_utility.specs.Outcomes.{pair}
-use Rattle.pas_scavenger.specs.Passes.{Tried, with_outcome, outcomes_in, pages_set, trying, unbacks_in, IsReady, Tries, TriesPage, WordRead, WordSteps}
-use Rattle.pas_scavenger.specs.Passes.{all_tried, passing, Passes}
 
 -- ==== The grains that were taken, as a mask.
 

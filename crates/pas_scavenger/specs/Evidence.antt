@@ -1,8 +1,7 @@
 -- What the steps for one page show. What they hold is told by themselves, since the actor held nothing before them.
 use Rattle.std.specs.Prelude.{ℕ, ◌+◌, ◌/◌, ◌%◌, ◌≤◌, ◌≡◌, true, false, List}
 use Rattle.pas_profile.specs.declared.word.Word.{Word}
-use Rattle.pas_steps.specs.{Evidence.ReadsFree, Past.Once, Views.holds}
-use Rattle.pas_steps.specs.declared.step.{Made.Made, Step.TheVariants.Look, Step.TheVariants.Unback}
+use Rattle.pas_steps.specs.{Evidence.ReadsFree, Past.Once, Views.holds, declared.step.{Made.Made, Step.TheVariants.{Look, Unback}}}
 
 -- this free word of the page was read so, and none of its grains was held then
 abbrev pub UsedByOthers : ℕ → ℕ → ℕ → Made → List Made → Type 0

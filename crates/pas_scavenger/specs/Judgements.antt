@@ -1,10 +1,8 @@
 -- What becomes of a page whose grains were taken.
 use Rattle.std.specs.Prelude.{ℕ, ◌+◌, ◌/◌, ◌<◌, ◌≤◌, ◌≡◌, ◌≢◌, true, false, List, [], ◌∷◌, Option, None, Some}
-use Rattle.pas_profile.specs.declared.{event.Outcome.Outcome, word.Word.Word}
-use Rattle.pas_profile.specs.declared.event.Outcome.TheVariants.{Unbacked, Bare, Young, InUse, NotOffered}
-use Rattle.pas_steps.specs.Desks.{Standing, Adds, made}
-use Rattle.pas_steps.specs.Views.{View, holds, is_unstamped, known_epoch}
-use Rattle.pas_steps.specs.declared.step.{Made.Made, Step.TheVariants.Look, Step.TheVariants.Unback}
+use Rattle.pas_profile.specs.declared.{event.Outcome.{Outcome, TheVariants.{Unbacked, Bare, Young, InUse, NotOffered}}, word.Word.Word}
+use Rattle.pas_steps.specs.{Desks.{Standing, Adds, made}, Views.{View, holds, is_unstamped, known_epoch}, declared.step.{Made.Made, Step.TheVariants.Look}}
+use Rattle.pas_steps.specs.declared.step.Step.TheVariants.{Unback}
 use Rattle.pas_rights.specs.declared.reading.Used.{Used}
 
 abbrev pub used_at : ℕ → ℕ → Used

@@ -1,19 +1,13 @@
 -- What comes of one page whose empty bit was cleared: the first outcome that applies, by what was read.
 use Rattle.std.specs.Prelude.{ℕ, ◌%◌, ◌≤◌, ◌≡◌, ◌≢◌, ◌⊎◌, Bool, true, false, List, [], ◌∷◌, ◌++◌, Option, None, Some, length}
-use Rattle.pas_bits.specs.declared.mask.Mask4.{Mask4}
-use Rattle.pas_bits.specs.{Masks.is_set, Bits.has_bit}
-use Rattle.pas_profile.specs.{Directories.deed_word_of, Profiles.IsDirectoryOf}
-use Rattle.pas_profile.specs.declared.{directory.Directory.Directory, event.Event.Event, event.Outcome.Outcome, word.Word.Word}
-use Rattle.pas_profile.specs.declared.event.Outcome.TheVariants.{Unbacked, Bare, Young, InUse, NotOffered}
-use Rattle.pas_rights.specs.Looks.{looks_until, IsUsed, AreUsed}
-use Rattle.pas_steps.specs.{Calls.Calls, Clear.HasNothing, Events.events_by, Views.View, Views.KnowsDeed, Views.known_epoch}
-use Rattle.pas_steps.specs.Desks.{Standing, AnyView, Adds, made}
+use Rattle.pas_bits.specs.{declared.mask.Mask4.Mask4, Masks.is_set, Bits.has_bit}
+use Rattle.pas_profile.specs.{Directories.deed_word_of, Profiles.IsDirectoryOf, declared.{directory.Directory.Directory, event.{Event.Event, Outcome.Outcome}}}
+use Rattle.pas_profile.specs.declared.{event.Outcome.TheVariants.{Unbacked, Bare, Young, InUse, NotOffered}, word.Word.Word}
+use Rattle.pas_rights.specs.{Looks.{looks_until, IsUsed, AreUsed}, declared.reading.Used.Used}
+use Rattle.pas_steps.specs.{Calls.Calls, Clear.HasNothing, Events.events_by, Views.{View, KnowsDeed, known_epoch}, Desks.{Standing, AnyView, Adds, made}}
 use Rattle.pas_steps.specs.Kinds.{Kinds, LookFree, LookDeed, LookBacked, LookStamp, Taking, Putting, Claiming, Offering, Parking, Unparking, Hinting, Unbacking}
-use Rattle.pas_steps.specs.Kinds.{Only}
-use Rattle.pas_steps.specs.declared.step.{Made.Made, Step.TheVariants.Look, Step.TheVariants.TakeRight, Step.TheVariants.Hint}
-use Rattle.pas_scavenger.specs.{Readings.was_free, Readings.takes_until, Judgements.used_at, Judgements.Judged, Puttings.none, Puttings.IsAt}
-use Rattle.pas_scavenger.specs.{Puttings.BackSteps}
-use Rattle.pas_rights.specs.declared.reading.Used.{Used}
+use Rattle.pas_steps.specs.{Kinds.Only, declared.step.{Made.Made, Step.TheVariants.{Look, TakeRight, Hint}}}
+use Rattle.pas_scavenger.specs.{Readings.{was_free, takes_until}, Judgements.{used_at, Judged}, Puttings.{none, IsAt, BackSteps}}
 
 -- ---- the steps
 -- the backed word is read, and then free words up to a used one

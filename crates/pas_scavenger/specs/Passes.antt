@@ -2,12 +2,9 @@
 use Rattle.std.specs.Prelude.{ℕ, zero, suc, ◌+◌, ◌*◌, ◌%◌, ◌≤◌, ◌≡◌, true, false, if◌then◌else◌, List, [], ◌∷◌, ◌++◌, Option, None, Some, length, map, reverse}
 use Rattle.std.specs.List.{flat_map}
 use Rattle.pas_bits.specs.Bits.{has_bit}
-use Rattle.pas_profile.specs.Profiles.{vector_words}
-use Rattle.pas_profile.specs.declared.{profile.Profile.Profile, event.Event.Event, event.Outcome.Outcome, word.Word.Word}
-use Rattle.pas_steps.specs.{Calls.Calls, Clear.HasNothing, Desks.Standing, Desks.made, Events.events_by, InTurn.InTurn, InTurn.numbers_below, Views.View}
-use Rattle.pas_steps.specs.{Views.known_epoch}
-use Rattle.pas_steps.specs.Kinds.{Kinds, LookEpoch, LookEmpty, Unhinting, Only}
-use Rattle.pas_steps.specs.declared.step.{Made.Made, Step.TheVariants.Look, Step.TheVariants.Unhint}
+use Rattle.pas_profile.specs.{Profiles.vector_words, declared.{profile.Profile.Profile, event.{Event.Event, Outcome.Outcome}, word.Word.Word}}
+use Rattle.pas_steps.specs.{Calls.Calls, Clear.HasNothing, Desks.{Standing, made}, Events.events_by, InTurn.{InTurn, numbers_below}, Views.{View, known_epoch}}
+use Rattle.pas_steps.specs.{Kinds.{Kinds, LookEpoch, LookEmpty, Unhinting, Only}, declared.step.{Made.Made, Step.TheVariants.{Look, Unhint}}}
 use Rattle.pas_utility.specs.Outcomes.{pair}
 use Rattle.pas_scavenger.specs.Pages.{ExamineSteps, unback_of, examining}
 

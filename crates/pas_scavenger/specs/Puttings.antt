@@ -2,9 +2,8 @@
 use Rattle.std.specs.Prelude.{ℕ, ◌≡◌, ◌≢◌, ◌==◌, ◌&&◌, Bool, true, false, List, ◌++◌}
 use Rattle.pas_bits.specs.declared.mask.Mask4.{Mask4}
 use Rattle.pas_profile.specs.declared.directory.Directory.{Directory}
-use Rattle.pas_rights.specs.{Leaves.LeaveSteps, Puts.masked, Puts.PutsBelow, Returns.ReturnSteps}
-use Rattle.pas_steps.specs.{Calls.Calls, Clear.OwesNothing, Clear.HasNothing, Desks.Standing}
-use Rattle.pas_steps.specs.Views.{View, holds, has_right, KnowsDeed, is_unstamped, examines}
+use Rattle.pas_rights.specs.{Leaves.LeaveSteps, Puts.{masked, PutsBelow}, Returns.ReturnSteps}
+use Rattle.pas_steps.specs.{Calls.Calls, Clear.{OwesNothing, HasNothing}, Desks.Standing, Views.{View, holds, has_right, KnowsDeed, is_unstamped, examines}}
 use Rattle.pas_steps.specs.declared.step.Made.{Made}
 
 -- the grains are put, what is owed then is done, and the page is left

@@ -1,10 +1,8 @@
 -- Free words of a page that are taken in order until one isn't all ones.
 use Rattle.std.specs.Prelude.{ℕ, ◌/◌, ◌%◌, ◌==◌, nat_lt, Bool, ◌&&◌, ◌||◌, List, ◌∷◌, Option, None, Some}
 use Rattle.pas_bits.specs.Bits.{has_bit}
-use Rattle.pas_rights.specs.{Looks.AreUsed, Takes.HasRight, Takes.takes, Words.ones}
-use Rattle.pas_rights.specs.declared.reading.Used.{Used}
-use Rattle.pas_steps.specs.{Desks.Standing, Desks.Adds, Desks.made, Views.all_ones}
-use Rattle.pas_steps.specs.declared.step.{Made.Made, Step.TheVariants.Take}
+use Rattle.pas_rights.specs.{Looks.AreUsed, Takes.{HasRight, takes}, Words.ones, declared.reading.Used.Used}
+use Rattle.pas_steps.specs.{Desks.{Standing, Adds, made}, Views.all_ones, declared.step.{Made.Made, Step.TheVariants.Take}}
 
 -- the grain of the page, 0 to 255, was read as free: by a word before this one, or by this one
 abbrev pub was_free : Option Used → ℕ → Bool

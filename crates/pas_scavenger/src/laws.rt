@@ -1,9 +1,8 @@
 //! What the steps for one page show of its outcome. Each law is the contract of an empty function.
 ghost use Rattle.std.specs.Prelude.{ℕ, ◌≢◌, List};
 ghost use Rattle.pas_profile.specs.declared.event.Outcome.TheVariants.{InUse, Unbacked};
-ghost use Rattle.pas_steps.specs.{Past.Once, Views.all_ones};
-ghost use Rattle.pas_steps.specs.declared.step.Made.{Made};
-ghost use Rattle.pas_scavenger.specs.{Evidence.UsedByOthers, Evidence.UnbackedHere, Pages.ExamineSteps};
+ghost use Rattle.pas_steps.specs.{Past.Once, Views.all_ones, declared.step.Made.Made};
+ghost use Rattle.pas_scavenger.specs.{Evidence.{UsedByOthers, UnbackedHere}, Pages.ExamineSteps};
 
 /// A page is called in use only by a free word of which the pass held no grain when it read it.
 pub fn used_by_others()

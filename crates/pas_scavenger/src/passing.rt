@@ -1,6 +1,5 @@
 //! A pass over all pages that are hinted as empty.
-ghost use Rattle.std.specs.Prelude.{◌≡◌, ◌≤◌, ◌<◌, ◌+◌, ◌-◌, ◌*◌, length, reverse};
-ghost use Rattle.std.specs.List.{flat_map};
+ghost use Rattle.std.specs.{Prelude.{◌≡◌, ◌≤◌, ◌<◌, ◌+◌, ◌-◌, ◌*◌, length, reverse}, List.flat_map};
 ghost use Rattle.pas_profile.specs.Profiles.{IsPage, vector_words};
 ghost use Rattle.pas_steps.specs.{Clear.HasNothing, Desks.CanCall};
 ghost use Rattle.pas_utility.specs.Outcomes.{pairs_in, places_of};

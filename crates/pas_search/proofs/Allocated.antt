@@ -1,32 +1,21 @@
 -- A block is given of the run that a search found, and then the page is left.
 use Rattle.std.proofs.Common.{◌≡◌, ℕ, ◌+◌, ◌*◌, ◌/◌, ◌%◌, ◌^◌, ◌<◌, ◌≤◌, ◌==◌, Bool, true, false, ◌&&◌, if◌then◌else◌, List, [], ◌++◌, length, Some, None}
 use Rattle.std.proofs.Common.{Result, Ok, Err, MatchResult, refl, ap, sym, ◌∙◌, subst, arith, inl, inr, ◌⊎◌, append_assoc, length-append, true≢false, eq-eqb}
-use Rattle.std.proofs.Common.{eqb-true}
-use Rattle.std.proofs.lemmas.Bool.{and_parts, and_from}
-use Rattle.pas_profile.specs.{Profiles.IsDirectoryOf, Blocks.address_of, Blocks.grain_of, Blocks.length_of, Profiles.IsValid}
-use Rattle.pas_bits.specs.Runs.{in_run}
-use Rattle.pas_profile.specs.declared.{directory.Directory.Directory, event.NoRoom.NoRoom, name.Block.Block, profile.Profile.Profile}
-use Rattle.pas_bits.proofs.Runs.{to_run}
-use Rattle.pas_rights.specs.Gives.{MayGive, block_of, give_steps, GaveRun, GivesRun}
-use Rattle.pas_rights.specs.Leaves.{MayLeave, Leaves}
-use Rattle.pas_rights.proofs.Gives.{may_give_on, covers}
-use Rattle.pas_steps.specs.Calls.{Calls, Kept, Gained, Lost, now, later, Does}
-use Rattle.pas_steps.specs.Desks.{Seat, Standing, Adds, CanCall, triples}
-use Rattle.pas_steps.specs.{Unknown.HasRoom, Events.events_of, Events.events_by, Kinds.returning, Views.View, Views.holds, Views.KnowsDeed, Evidence.IsAntitone}
-use Rattle.pas_steps.specs.{Lists.Whole, Lists.part, Lists.Legal}
-use Rattle.pas_steps.specs.declared.step.Made.{Made}
-use Rattle.pas_steps.proofs.{Adding.room_left, Apart.events_same, Calls.does_as, Calls.does_then, Calls.returns_are, Frames.events_split, Sets.same_truth}
-use Rattle.pas_steps.proofs.{SpareRoom.Spares}
-use Rattle.pas_steps.proofs.Called.{call_as, call_knows, call_then, next_call}
-use Rattle.pas_search.specs.{Kinds.deeds_made, Serving.right_of, Telling.IsLowestOffered, Telling.IsLowestBare, Telling.IsTold, ByRank.AllocatesByRank}
-use Rattle.pas_search.specs.{Alone.FindsWhatThereIs, Choices.Choice}
-use Rattle.pas_search.specs.Placements.{Placement, IsPlacement, IsFit, placed, by_run, placing}
-use Rattle.pas_search.specs.Searches.{MaySearch, SearchRoom, FromOffered, ByDeed, Finds, IsRefused, search_steps, Searches}
-use Rattle.pas_search.specs.Ranks.{Measure, RankRoom, TriesBest, FromSurvey, IsBestOffered}
-use Rattle.pas_search.proofs.TheBestPage.{falls_back, adds_then, stood_then, KeepsNew, finds_call, finds_as, left_after}
-use Rattle.pas_search.proofs.{Pages.placed_fits, FindingAPage.IsFoundOrRefused, FindingAPage.found_before}
-use Rattle.pas_search.specs.declared.{serving.Served.Served, placing.Run.Run}
-use Rattle.pas_search.specs.Allocates.{GaveBlock, GivesFound, IsGiven, AllocatesRun}
+use Rattle.std.proofs.{Common.eqb-true, lemmas.Bool.{and_parts, and_from}}
+use Rattle.pas_profile.specs.{Profiles.{IsDirectoryOf, IsValid}, Blocks.{address_of, grain_of, length_of}, declared.directory.Directory.Directory}
+use Rattle.pas_profile.specs.declared.{event.NoRoom.NoRoom, name.Block.Block, profile.Profile.Profile}
+use Rattle.pas_bits.{specs.Runs.in_run, proofs.Runs.to_run}
+use Rattle.pas_rights.{specs.{Gives.{MayGive, block_of, give_steps, GaveRun, GivesRun}, Leaves.{MayLeave, Leaves}}, proofs.Gives.{may_give_on, covers}}
+use Rattle.pas_steps.specs.{Calls.{Calls, Kept, Gained, Lost, now, later, Does}, Desks.{Seat, Standing, Adds, CanCall, triples}, Unknown.HasRoom}
+use Rattle.pas_steps.specs.{Events.{events_of, events_by}, Kinds.returning, Views.{View, holds, KnowsDeed}, Evidence.IsAntitone, Lists.{Whole, part, Legal}}
+use Rattle.pas_steps.{specs.declared.step.Made.Made, proofs.{Adding.room_left, Apart.events_same, Calls.{does_as, does_then, returns_are}, Frames.events_split}}
+use Rattle.pas_steps.proofs.{Sets.same_truth, SpareRoom.Spares, Called.{call_as, call_knows, call_then, next_call}}
+use Rattle.pas_search.specs.{Kinds.deeds_made, Serving.right_of, Telling.{IsLowestOffered, IsLowestBare, IsTold}, ByRank.AllocatesByRank}
+use Rattle.pas_search.specs.{Alone.FindsWhatThereIs, Choices.Choice, Placements.{Placement, IsPlacement, IsFit, placed, by_run, placing}, Searches.MaySearch}
+use Rattle.pas_search.specs.{Searches.{SearchRoom, FromOffered, ByDeed, Finds, IsRefused, search_steps, Searches}, Ranks.{Measure, RankRoom, TriesBest}}
+use Rattle.pas_search.specs.{Ranks.{FromSurvey, IsBestOffered}, declared.{serving.Served.Served, placing.Run.Run}, Allocates.{GaveBlock, GivesFound, IsGiven}}
+use Rattle.pas_search.{specs.Allocates.AllocatesRun, proofs.TheBestPage.{falls_back, adds_then, stood_then, KeepsNew, finds_call, finds_as, left_after}}
+use Rattle.pas_search.proofs.{Pages.placed_fits, FindingAPage.{IsFoundOrRefused, found_before}}
 
 room_for_one : (f : Profile) (spare : ℕ) (v : View) → HasRoom f 2 spare v → HasRoom f 1 spare v
 room_for_one f spare v room = (omega (arith, room.0), elim room.1 [ inl all ↦ inl all | inr more ↦ inr (omega (arith, more)) ])

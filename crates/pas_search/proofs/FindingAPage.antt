@@ -2,39 +2,29 @@
 use Rattle.std.proofs.Common.{◌≡◌, ℕ, ◌+◌, ◌*◌, ◌/◌, ◌<◌, ◌≤◌, true, false, List, [], ◌∷◌, ◌++◌, refl, sym, ◌∙◌, subst, arith, ◌⊎◌, inl, inr, append_assoc}
 use Rattle.std.proofs.Common.{true≢false, ◌≢◌, ap, Result, Ok, Err, MatchResult, Bool, length, length-append, suc, Some, None, eq-eqb, ne_eqb}
 use Rattle.std.proofs.lemmas.Bool.{cases_Bool, cases_lt, cases_eq}
-use Rattle.pas_profile.specs.declared.{directory.Directory.Directory, profile.Profile.Profile, event.NoRoom.NoRoom, event.NoRoom.TheVariants.NoSpace}
-use Rattle.pas_profile.specs.declared.{event.NoRoom.TheVariants.Held, word.Word.Word}
-use Rattle.pas_steps.specs.declared.step.{Made.Made, Step.Step, Step.TheVariants.Deed}
-use Rattle.pas_steps.specs.Views.{has_right, KnowsDeed, View, deed_after, known_deed}
-use Rattle.pas_steps.specs.{Past.Once, Past.Always, Past.Since, Frames.OnlyScans, Effects.target, Agreement.Agreed, Clear.IsClear, Events.events_of}
-use Rattle.pas_steps.specs.{Events.events_by, Unknown.HasRoom, Calls.nothing, Calls.Does}
-use Rattle.pas_steps.proofs.Frames.{scans_look, looks_read, deed_stays, right_own, right_of_own, events_append}
-use Rattle.pas_steps.proofs.{Past.once_later, Past.once_earlier, Past.once_map, Parts.part_of_own, Unknown.all_known, Calls.still_clear, Evidence.deed_before}
-use Rattle.pas_steps.proofs.{Evidence.unknown, Evidence.deed_known}
-use Rattle.pas_steps.specs.Evidence.{UnfitHere, ZeroHere, DeedHere, ParkedHere, ParkedLater, LeftHere, LacksAfter, MissingHere, HeldHere, Accounted, AllDeeds}
-use Rattle.pas_steps.specs.Evidence.{ReadsDeed, KeptHere, OneHere, GetsRight, GetsHere, IsAntitone, Readings}
-use Rattle.pas_scan.specs.Marks.{is_marked}
-use Rattle.pas_scan.specs.Scan.{IsMember, AllParked, IsVerdict, last_block, Judges}
-use Rattle.pas_search.specs.{Serving.Rule, Serving.ShowsFit, Alone.page_found, Alone.FindsWhatThereIs}
-use Rattle.pas_search.specs.Kinds.{AreSearch, IsDeedOrBack, deeds_made, searching}
-use Rattle.pas_search.specs.Searches.{search_steps, Searching, AllAccounted, IsRefusal, IsRefused, MaySearch, DeedMadeHere, IsHeld, IsServed, SearchRoom}
-use Rattle.pas_search.specs.Searches.{BareRoom, FromOffered, ByDeed, SearchesOffered, ServesBare, SearchesBare, Searches}
-use Rattle.pas_search.proofs.PagesThatServe.{no_deeds, served_search, deeds_serves, AreVain, reads_vain, vain_lacks, vain_search, searched, vain_searching}
-use Rattle.pas_search.proofs.PagesThatServe.{ready, got_search, finds}
-use Rattle.pas_search.proofs.ForBackEnds.{events_quiet, room_kept}
-use Rattle.pas_profile.specs.{Directories.deed_word_of, Directories.number_of, Profiles.IsValid, Profiles.IsPage, Profiles.IsDirectoryOf}
+use Rattle.pas_profile.specs.declared.{directory.Directory.Directory, profile.Profile.Profile, event.NoRoom.{NoRoom, TheVariants.{NoSpace, Held}}}
+use Rattle.pas_profile.specs.{declared.word.Word.Word, Directories.{deed_word_of, number_of}, Profiles.{IsValid, IsPage, IsDirectoryOf}}
 use Rattle.pas_profile.proofs.Codecs.{deed_word_of-positive}
-use Rattle.pas_steps.specs.Lists.{Whole, part, word_after, Legal}
-use Rattle.pas_steps.specs.Desks.{triples, Seat, Standing, AnyView, made, Adds, CanCall}
-use Rattle.pas_core.proofs.{Deeds.known_is, Deeds.numbered_ne, Nexts.agreed_steps}
-use Rattle.pas_core.proofs.Rights.{is_offered, is_parked, spotted, own_eligible, is_with}
-use Rattle.pas_core.specs.{Fits.HasNoFit, Alone.ShowsNone, Alone.ShowsAnswer, Alone.IsPlainAnswer, Rights.AllRest, Rights.free_of_page}
-use Rattle.pas_search.specs.Telling.{IsLowestOffered, IsLowestBare, IsInHands, IsTrueReason, IsTold}
-use Rattle.pas_search.specs.declared.serving.Served.{Served}
+use Rattle.pas_steps.specs.{declared.step.{Made.Made, Step.{Step, TheVariants.Deed}}, Views.{has_right, KnowsDeed, View, deed_after, known_deed}, Past.Once}
+use Rattle.pas_steps.specs.{Past.{Always, Since}, Frames.OnlyScans, Effects.target, Agreement.Agreed, Clear.IsClear, Events.{events_of, events_by}}
+use Rattle.pas_steps.specs.{Unknown.HasRoom, Calls.{nothing, Does}, Evidence.{UnfitHere, ZeroHere, DeedHere, ParkedHere, ParkedLater, LeftHere, LacksAfter}}
+use Rattle.pas_steps.specs.Evidence.{MissingHere, HeldHere, Accounted, AllDeeds, ReadsDeed, KeptHere, OneHere, GetsRight, GetsHere, IsAntitone, Readings}
+use Rattle.pas_steps.{specs.{Lists.{Whole, part, word_after, Legal}, Desks.{triples, Seat, Standing, AnyView, made, Adds, CanCall}}, proofs.Frames.scans_look}
+use Rattle.pas_steps.proofs.{Frames.{looks_read, deed_stays, right_own, right_of_own, events_append}, Past.{once_later, once_earlier, once_map}}
+use Rattle.pas_steps.proofs.{Parts.part_of_own, Unknown.all_known, Calls.still_clear, Evidence.{deed_before, unknown, deed_known}, Adding.{adds_call, can_call}}
+use Rattle.pas_steps.proofs.Adding.{legal_after, adds_under}
+use Rattle.pas_scan.specs.{Marks.is_marked, Scan.{IsMember, AllParked, IsVerdict, last_block, Judges}}
+use Rattle.pas_search.specs.{Serving.{Rule, ShowsFit}, Alone.{page_found, FindsWhatThereIs}, Kinds.{AreSearch, IsDeedOrBack, deeds_made, searching}}
+use Rattle.pas_search.specs.Searches.{search_steps, Searching, AllAccounted, IsRefusal, IsRefused, MaySearch, DeedMadeHere, IsHeld, IsServed, SearchRoom}
+use Rattle.pas_search.specs.{Searches.{BareRoom, FromOffered, ByDeed, SearchesOffered, ServesBare, SearchesBare, Searches}, Telling.IsLowestOffered}
+use Rattle.pas_search.{specs.{Telling.{IsLowestBare, IsInHands, IsTrueReason, IsTold}, declared.serving.Served.Served}, proofs.PagesThatServe.no_deeds}
+use Rattle.pas_search.proofs.PagesThatServe.{served_search, deeds_serves, AreVain, reads_vain, vain_lacks, vain_search, searched, vain_searching, ready}
+use Rattle.pas_search.proofs.{PagesThatServe.{got_search, finds}, ForBackEnds.{events_quiet, room_kept}}
+use Rattle.pas_core.proofs.{Deeds.{known_is, numbered_ne}, Nexts.agreed_steps, Rights.{is_offered, is_parked, spotted, own_eligible, is_with}}
 use Rattle.pas_core.proofs.OneActor.{spot_same, zero_told, offer_told, offered_was, parked_told, entry_lacks, legal_before, offered_lacks, not_in_hands}
 use Rattle.pas_core.proofs.OneActor.{LendsNone, unfit_exit, fit_entry, deed_quiet, deed_exit, deed_none, lends_none, plain_answer, legal_earlier, unfit_lacks}
-use Rattle.pas_core.proofs.OneActor.{no_fit_there, none_serves, in_hands, is_with_own}
-use Rattle.pas_steps.proofs.Adding.{adds_call, can_call, legal_after, adds_under}
+use Rattle.pas_core.{proofs.OneActor.{no_fit_there, none_serves, in_hands, is_with_own}, specs.{Fits.HasNoFit, Alone.{ShowsNone, ShowsAnswer, IsPlainAnswer}}}
+use Rattle.pas_core.specs.Rights.{AllRest, free_of_page}
 
 -- a page that was read as 0 and whose right the call never had
 missing : (d : Directory) (p : ℕ) (xs : List Made) → Once (ZeroHere d p) xs → Always (LacksAfter p) xs → Since (MissingHere d p) (LacksAfter p) xs

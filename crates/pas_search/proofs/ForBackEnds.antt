@@ -1,11 +1,9 @@
 -- For crates above: a page on which nothing fits is left, after one reading of its free words; steps that make no event.
 use Rattle.std.proofs.Common.{◌≡◌, ℕ, ◌+◌, ◌<◌, ◌≤◌, true, List, [], ◌∷◌, ◌++◌, length, length-append, refl, ap, ◌∙◌, arith, inl, inr}
 use Rattle.pas_rights.specs.Leaves.{LosesHere}
-use Rattle.pas_steps.specs.Evidence.{Readings, ShowsHere, KeptHere, GetsHere, UnfitHere}
-use Rattle.pas_steps.specs.{Frames.AreLooks, Past.Once, Past.Since, Views.View, Views.has_right, Views.epoch_of, Desks.Standing, Desks.Adds, Desks.CanCall}
-use Rattle.pas_steps.specs.{Events.with_event, Events.events_of, Events.events_by, Lists.Whole}
-use Rattle.pas_steps.specs.declared.step.Made.{Made}
-use Rattle.pas_steps.proofs.{Frames.looks_read, Frames.right_reads, Past.once_later, Adding.room_left, Frames.events_split}
+use Rattle.pas_steps.specs.{Evidence.{Readings, ShowsHere, KeptHere, GetsHere, UnfitHere}, Frames.AreLooks, Past.{Once, Since}, Views.{View, has_right}}
+use Rattle.pas_steps.specs.{Views.epoch_of, Desks.{Standing, Adds, CanCall}, Events.{with_event, events_of, events_by}, Lists.Whole, declared.step.Made.Made}
+use Rattle.pas_steps.proofs.{Frames.{looks_read, right_reads, events_split}, Past.once_later, Adding.room_left}
 use Rattle.pas_search.specs.Kinds.{AreQuiet}
 
 since_looks : (P : Made → List Made → Type 0) (p : ℕ) (ys xs : List Made) → AreLooks ys → has_right xs p ≡ true → Since P (KeptHere p) xs

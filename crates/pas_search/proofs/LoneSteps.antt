@@ -1,24 +1,17 @@
 -- ONE ACTOR ALONE: what its steps read of a page is what was there before them, since they give and end no block, and give back only what they got.
 use Rattle.std.proofs.Common.{◌≡◌, ◌≢◌, ℕ, ◌+◌, ◌*◌, ◌/◌, ◌%◌, ◌<◌, ◌==◌, Bool, true, false, ◌&&◌, ◌||◌, if◌then◌else◌, List, [], ◌∷◌, ◌++◌, ◌⊎◌, inl, inr}
-use Rattle.std.proofs.Common.{refl, ap, sym, ◌∙◌, arith, subst, true≢false, eqb-true}
-use Rattle.std.proofs.lemmas.Bool.{false≢true, or_from, cases_Bool}
-use Rattle.pas_bits.specs.Bits.{has_bit}
-use Rattle.pas_bits.proofs.PageVectors.{page_bit-set, page_bit-clear}
-use Rattle.pas_profile.specs.{Directories.number_of, Directories.deed_word_of, Layouts.same_word}
-use Rattle.pas_profile.specs.declared.{directory.Directory.Directory, profile.Profile.Profile, word.Word.Word}
-use Rattle.pas_profile.proofs.Codecs.{deed_word_of-positive}
-use Rattle.pas_steps.specs.{Desks.triples, Past.Once, Past.Always, Kinds.kind_of, Kinds.is_in, Kinds.lending}
-use Rattle.pas_steps.specs.Effects.{target, new_value, in_mask, free_word_at}
-use Rattle.pas_steps.specs.Evidence.{Readings, ReadsFree, ShowsHere, NoDeedHere, GetsRight, GetsHere}
-use Rattle.pas_steps.specs.Lists.{Whole, part, word_after, Legal}
-use Rattle.pas_steps.specs.Views.{epoch_of, grain_move, held_after, holds}
-use Rattle.pas_steps.specs.declared.step.{Made.Made, Step.Step}
-use Rattle.pas_steps.specs.declared.step.Step.TheVariants.{Look, TakeRight, Offer, Deed, Take, Put}
-use Rattle.pas_core.specs.Rights.{eligible_bit, free_of_page}
-use Rattle.pas_core.proofs.{Deeds.looked, Deeds.deed_kept, Grains.free_moved, Grains.free_step}
-use Rattle.pas_core.proofs.OneActor.{LendsNone, bit_of, free_or_held, shown, of_page, deed_read, deed_none, deed_later}
+use Rattle.std.proofs.{Common.{refl, ap, sym, ◌∙◌, arith, subst, true≢false, eqb-true}, lemmas.Bool.{false≢true, or_from, cases_Bool}}
+use Rattle.pas_bits.{specs.Bits.has_bit, proofs.PageVectors.{page_bit-set, page_bit-clear}}
+use Rattle.pas_profile.specs.{Directories.{number_of, deed_word_of}, Layouts.same_word, declared.{directory.Directory.Directory, profile.Profile.Profile}}
+use Rattle.pas_profile.{specs.declared.word.Word.Word, proofs.Codecs.deed_word_of-positive}
+use Rattle.pas_steps.specs.{Desks.triples, Past.{Once, Always}, Kinds.{kind_of, is_in, lending}, Effects.{target, new_value, in_mask, free_word_at}}
+use Rattle.pas_steps.specs.{Evidence.{Readings, ReadsFree, ShowsHere, NoDeedHere, GetsRight, GetsHere}, Lists.{Whole, part, word_after, Legal}, Views.epoch_of}
+use Rattle.pas_steps.specs.{Views.{grain_move, held_after, holds}, declared.step.{Made.Made, Step.{Step, TheVariants.{Look, TakeRight, Offer, Deed, Take}}}}
+use Rattle.pas_steps.specs.declared.step.Step.TheVariants.{Put}
+use Rattle.pas_core.{specs.Rights.{eligible_bit, free_of_page}, proofs.{Deeds.{looked, deed_kept}, Grains.{free_moved, free_step}, OneActor.LendsNone}}
+use Rattle.pas_core.proofs.OneActor.{bit_of, free_or_held, shown, of_page, deed_read, deed_none, deed_later}
 use Rattle.pas_scan.specs.Usable.{OfHere, WholeHere, UsedHere, MakesNoDeedHere}
-use Rattle.pas_search.specs.{Alone.IsLone, Kinds.IsReturnOf, Kinds.ReturnsDuly}
+use Rattle.pas_search.specs.{Alone.IsLone, Kinds.{IsReturnOf, ReturnsDuly}}
 
 -- Without the newest one such steps are such.
 pub fewer : {f : Profile} {k : ℕ} {l : Whole} {m : Made} {xs : List Made} → IsLone f k l (m ∷ xs) → IsLone f k l xs

@@ -1,14 +1,11 @@
 -- What an actor that has nothing may ask, and what a request leaves for the next one.
 use Rattle.std.proofs.Common.{◌≡◌, ℕ, ◌+◌, ◌≤◌, ◌==◌, ◌⊎◌, ◌++◌, length, Bool, false, Result, if◌then◌else◌, refl, ◌∙◌, arith}
-use Rattle.pas_profile.specs.Profiles.{IsDirectoryOf, IsValid}
-use Rattle.pas_profile.specs.declared.{directory.Directory.Directory, directory.Kind.TheVariants.Bitfit, event.NoRoom.NoRoom, name.Block.Block}
-use Rattle.pas_profile.specs.declared.{profile.Profile.Profile}
-use Rattle.pas_steps.specs.{Agreement.Agreed, Clear.HasNothing, Desks.Standing, Desks.CanCall, Events.events_by, Views.View, Views.has_right}
-use Rattle.pas_steps.specs.Calls.{Kept, Lost, now, Does}
-use Rattle.pas_steps.proofs.{Adding.adds_under, Adding.agreed_later, Nothing.can_go_on, Nothing.nothing_still, SpareRoom.Spares, SpareRoom.spare_falls}
-use Rattle.pas_search.specs.{Searches.MaySearch, Searches.SearchRoom, Serving.right_of, Allocates.AllocatesRun, Choices.Choice}
+use Rattle.pas_profile.specs.{Profiles.{IsDirectoryOf, IsValid}, declared.{directory.{Directory.Directory, Kind.TheVariants.Bitfit}, event.NoRoom.NoRoom}}
+use Rattle.pas_profile.specs.declared.{name.Block.Block, profile.Profile.Profile}
+use Rattle.pas_steps.specs.{Agreement.Agreed, Clear.HasNothing, Desks.{Standing, CanCall}, Events.events_by, Views.{View, has_right}, Calls.{Kept, Lost, now}}
+use Rattle.pas_steps.{specs.Calls.Does, proofs.{Adding.{adds_under, agreed_later}, Nothing.{can_go_on, nothing_still}, SpareRoom.{Spares, spare_falls}}}
+use Rattle.pas_search.specs.{Searches.{MaySearch, SearchRoom}, Serving.right_of, Allocates.AllocatesRun, Choices.Choice, declared.placing.Run.Run}
 use Rattle.pas_search.proofs.ForBackEnds.{events_quiet}
-use Rattle.pas_search.specs.declared.placing.Run.{Run}
 
 -- ---- before a request
 -- an actor that has nothing may ask where there is room for three events, whatever is known of the pages

@@ -1,25 +1,15 @@
 -- What a survey read of the pages so far, and which one it found best.
 use Rattle.std.proofs.Common.{◌≡◌, ℕ, zero, suc, ◌+◌, ◌-◌, ◌*◌, ◌/◌, ◌<◌, ◌≤◌, false, List, [], ◌∷◌, ◌++◌, length, Option, None, Some, refl, ap, sym, ◌∙◌}
-use Rattle.std.proofs.Common.{subst, arith, inl, inr, append_assoc, append-nil, length-append}
-use Rattle.std.proofs.lemmas.Bool.{cases_lt, cases_eq}
-use Rattle.pas_bits.specs.{Bits.has_bit, Masks.is_set}
-use Rattle.pas_bits.specs.declared.mask.Mask4.{Mask4}
-use Rattle.pas_bits.proofs.Words.{at_word}
-use Rattle.pas_profile.specs.Profiles.{IsPage}
-use Rattle.pas_profile.specs.declared.{directory.Directory.Directory, profile.Profile.Profile}
-use Rattle.pas_rights.specs.{Looks.looks, Looks.ReadsPage, Words.words}
-use Rattle.pas_rights.proofs.Orders.{looks_are, looks_few}
-use Rattle.pas_scan.specs.{Rows.row_end, Rows.row_words, Rows.words_to, Scan.IsFirstOffered, Scan.FindsOffered}
-use Rattle.pas_steps.specs.{Agreement.Agreed, Frames.AreLooks, Past.Once, Evidence.Readings, Evidence.ZeroHere, Evidence.OneHere, Views.View, Views.has_right}
-use Rattle.pas_steps.specs.{Views.KnowsDeed}
-use Rattle.pas_steps.specs.Desks.{Seat, Standing, AnyView, Adds}
-use Rattle.pas_steps.specs.declared.step.Made.{Made}
-use Rattle.pas_steps.proofs.Adding.{adds_none, adds_call, agreed_first, agreed_later}
-use Rattle.pas_steps.proofs.Frames.{knows_still, looks_read, right_reads, scans_look, right_own}
-use Rattle.pas_steps.proofs.{Evidence.zero_before, Past.once_later, Past.once_earlier}
+use Rattle.std.proofs.{Common.{subst, arith, inl, inr, append_assoc, append-nil, length-append}, lemmas.Bool.{cases_lt, cases_eq}}
+use Rattle.pas_bits.{specs.{Bits.has_bit, Masks.is_set, declared.mask.Mask4.Mask4}, proofs.Words.at_word}
+use Rattle.pas_profile.specs.{Profiles.IsPage, declared.{directory.Directory.Directory, profile.Profile.Profile}}
+use Rattle.pas_rights.{specs.{Looks.{looks, ReadsPage}, Words.words}, proofs.Orders.{looks_are, looks_few}}
+use Rattle.pas_scan.specs.{Rows.{row_end, row_words, words_to}, Scan.{IsFirstOffered, FindsOffered}}
+use Rattle.pas_steps.specs.{Agreement.Agreed, Frames.AreLooks, Past.Once, Evidence.{Readings, ZeroHere, OneHere}, Views.{View, has_right, KnowsDeed}}
+use Rattle.pas_steps.{specs.{Desks.{Seat, Standing, AnyView, Adds}, declared.step.Made.Made}, proofs.Adding.{adds_none, adds_call, agreed_first, agreed_later}}
+use Rattle.pas_steps.proofs.{Frames.{knows_still, looks_read, right_reads, scans_look, right_own}, Evidence.zero_before, Past.{once_later, once_earlier}}
 use Rattle.pas_search.specs.Ranks.{Measure, SeenHere, IsRanked, IsSeen, AllSeen, HasNone, IsNoBetter, IsBestBelow, IsSurvey, IsBetterOf, survey_steps, Surveys}
-use Rattle.pas_search.specs.declared.surveying.Best.{Best}
-use Rattle.pas_search.proofs.PagesThatServe.{offered_further, row_within}
+use Rattle.pas_search.{specs.declared.surveying.Best.Best, proofs.PagesThatServe.{offered_further, row_within}}
 
 -- ---- looks
 looks_both : (ys xs : List Made) → AreLooks ys → AreLooks xs → AreLooks (ys ++ xs)

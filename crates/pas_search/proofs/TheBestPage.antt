@@ -2,35 +2,25 @@
 -- that follows it say of the state at entry, where no other actor makes a step meanwhile.
 use Rattle.std.proofs.Common.{◌≡◌, ℕ, ◌+◌, ◌*◌, ◌/◌, ◌%◌, ◌<◌, Bool, true, false, if◌then◌else◌, List, [], ◌∷◌, ◌++◌, Option, Some, inl, inr, refl, ap, sym}
 use Rattle.std.proofs.Common.{◌∙◌, subst, arith, true≢false, ◌≤◌, length, None, Result, append-nil, length-append, ◌==◌, ◌&&◌, Ok, eqb-true}
-use Rattle.pas_bits.specs.Bits.{has_bit}
-use Rattle.pas_profile.specs.{Directories.number_of, Layouts.same_word, Profiles.IsValid}
-use Rattle.pas_profile.specs.declared.{directory.Directory.Directory, profile.Profile.Profile, word.Word.Word, event.NoRoom.NoRoom}
-use Rattle.pas_steps.specs.{Agreement.Agreed, Effects.target, Effects.new_value, Effects.free_word_at, Frames.IsLook, Frames.AreLooks, Past.Once}
-use Rattle.pas_steps.specs.{Events.events_by, Events.events_of, Unknown.HasRoom, Past.Since}
-use Rattle.pas_steps.specs.Calls.{Leads, nothing, Does, Calls, Fate, Kept, Gained, Lost, later, ClearAfter, Effect, on_page}
-use Rattle.pas_steps.specs.Views.{has_right, View, KnowsDeed, holds}
-use Rattle.pas_steps.specs.Desks.{triples, Seat, Standing, Adds, CanCall, made}
-use Rattle.pas_steps.specs.Evidence.{Readings, ReadsEligible, IsAntitone, GetsRight, GetsHere}
-use Rattle.pas_steps.specs.Lists.{Whole, Legal, part, word_after}
-use Rattle.pas_steps.specs.declared.step.{Made.Made, Step.Step, Step.TheVariants.TakeRight}
-use Rattle.pas_core.specs.Rights.{eligible_bit, free_of_page}
-use Rattle.pas_core.proofs.{Deeds.looked, OneActor.fit_entry, OneActor.legal_earlier, OneActor.lends_none}
-use Rattle.pas_search.specs.Kinds.{searching, AreSearch, AreQuiet, IsQuiet}
-use Rattle.pas_search.specs.Serving.{Rule, ShowsFit, MayServe, ServeSteps, ServesPage, served}
-use Rattle.pas_search.specs.Searches.{MaySearch, Searching, SearchRoom, FewEvents, Searches, KeepsFound, Finds}
-use Rattle.pas_search.specs.Ranks.{Measure, IsOfGrains, SeenHere, IsRanked, TriesPage, FromSurvey, IsBestOffered, MayRank, RankRoom, Surveys, TriesBest}
-use Rattle.pas_search.specs.Ranks.{StoodBefore, having_made, FallsBack}
 use Rattle.std.proofs.lemmas.Bool.{cases_eq, and_parts, false_from_ne_true}
-use Rattle.pas_bits.proofs.Words.{none_of_zero}
+use Rattle.pas_bits.{specs.Bits.has_bit, proofs.Words.none_of_zero}
+use Rattle.pas_profile.specs.{Directories.number_of, Layouts.same_word, Profiles.IsValid, declared.{directory.Directory.Directory, profile.Profile.Profile}}
+use Rattle.pas_profile.specs.declared.{word.Word.Word, event.NoRoom.NoRoom}
+use Rattle.pas_steps.specs.{Agreement.Agreed, Effects.{target, new_value, free_word_at}, Frames.{IsLook, AreLooks}, Past.{Once, Since}, Events.events_by}
+use Rattle.pas_steps.specs.{Events.events_of, Unknown.HasRoom, Calls.{Leads, nothing, Does, Calls, Fate, Kept, Gained, Lost, later, ClearAfter, Effect}}
+use Rattle.pas_steps.specs.{Calls.on_page, Views.{has_right, View, KnowsDeed, holds}, Desks.{triples, Seat, Standing, Adds, CanCall, made}, Evidence.Readings}
+use Rattle.pas_steps.specs.{Evidence.{ReadsEligible, IsAntitone, GetsRight, GetsHere}, Lists.{Whole, Legal, part, word_after}, declared.step.Made.Made}
+use Rattle.pas_steps.{specs.declared.step.Step.{Step, TheVariants.TakeRight}, proofs.{Adding.{adds_call, adds_under, can_call, legal_after}, Calls.does_none}}
+use Rattle.pas_steps.proofs.{Calls.{leads_none, leads_then, still_clear, does_as, does_then}, Frames.{deed_stays, knows_still, looks_read}, Past.always_both}
+use Rattle.pas_steps.proofs.{Unknown.all_known, Sets.kept_kept}
+use Rattle.pas_core.{specs.Rights.{eligible_bit, free_of_page}, proofs.{Deeds.looked, OneActor.{fit_entry, legal_earlier, lends_none}}}
+use Rattle.pas_search.specs.{Kinds.{searching, AreSearch, AreQuiet, IsQuiet}, Serving.{Rule, ShowsFit, MayServe, ServeSteps, ServesPage, served}}
+use Rattle.pas_search.specs.{Searches.{MaySearch, Searching, SearchRoom, FewEvents, Searches, KeepsFound, Finds}, Ranks.{Measure, IsOfGrains, SeenHere}}
+use Rattle.pas_search.specs.Ranks.{IsRanked, TriesPage, FromSurvey, IsBestOffered, MayRank, RankRoom, Surveys, TriesBest, StoodBefore, having_made, FallsBack}
+use Rattle.pas_search.specs.{declared.{serving.Served.Served, surveying.Best.Best}, Allocates.served_by, Choices.{Choice, TakesKept, choosing}}
+use Rattle.pas_search.proofs.{ForBackEnds.room_kept, PagesThatServe.{IsReady, reads_vain, vain_searching, claim_rights, ready, got_search, got_before}}
+use Rattle.pas_search.proofs.PagesThatServe.{served_search, finds, never_got, deeds_serves, no_deeds, got_left, events_after_quiet}
 use Rattle.pas_scan.specs.Marks.{is_marked}
-use Rattle.pas_steps.proofs.Adding.{adds_call, adds_under, can_call, legal_after}
-use Rattle.pas_steps.proofs.Calls.{does_none, leads_none, leads_then, still_clear, does_as, does_then}
-use Rattle.pas_steps.proofs.{Frames.deed_stays, Frames.knows_still, Frames.looks_read, Past.always_both, Unknown.all_known, Sets.kept_kept}
-use Rattle.pas_search.specs.declared.{serving.Served.Served, surveying.Best.Best}
-use Rattle.pas_search.proofs.ForBackEnds.{room_kept}
-use Rattle.pas_search.proofs.PagesThatServe.{IsReady, reads_vain, vain_searching, claim_rights, ready, got_search, got_before, served_search, finds, never_got}
-use Rattle.pas_search.proofs.PagesThatServe.{deeds_serves, no_deeds, got_left, events_after_quiet}
-use Rattle.pas_search.specs.{Allocates.served_by, Choices.Choice, Choices.TakesKept, Choices.choosing}
 
 -- ---- looks leave each word as it was
 words_same : (k : ℕ) (xs : List Made) (l : Whole) (w : Word) → AreLooks xs → word_after (triples k xs ++ l) w ≡ word_after l w

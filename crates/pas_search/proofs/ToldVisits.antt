@@ -1,35 +1,26 @@
 -- Visits that are told: a page on which nothing fits is looked for, claimed, read and left, and each word is as it was.
 use Rattle.std.proofs.Common.{◌≡◌, ◌≢◌, ℕ, zero, suc, ◌+◌, ◌-◌, ◌*◌, ◌/◌, ◌%◌, ◌^◌, ◌<◌, ◌≤◌, ◌==◌, nat_lt, Bool, true, false, ◌&&◌, ◌||◌, if◌then◌else◌, ◌⊎◌}
 use Rattle.std.proofs.Common.{inl, inr, List, [], ◌∷◌, ◌++◌, length, refl, ap, sym, ◌∙◌, subst, arith, bit_and, bit_or, w64, append_assoc, length-append}
-use Rattle.std.proofs.Common.{slice_index, min, get_or, length-set, lt-ltb, not, eqb-true, eq-eqb, le-ltb, ltb-false, ltb-true}
+use Rattle.std.proofs.{Common.{slice_index, min, get_or, length-set, lt-ltb, not, eqb-true, eq-eqb, le-ltb, ltb-false, ltb-true}, Math.{ListN.set, Nat.suc-mul}}
+use Rattle.std.proofs.{Math.{Nat.zero-mul, Bool.and-true}, lemmas.Bool.{Decides.nat_tests, cases_eq, cases_lt, cases_Bool, false_from_ne_true, and_parts}}
+use Rattle.std.proofs.lemmas.{Bool.{not-true, not-false}, Nat.{Bits.{same_from_bits_below, bit_at-lt, bit_at-trailing_zeros}, or_lt, and_le_l}}
 use Rattle.std.specs.Int.{bit_at, bit_not, trailing_zeros}
-use Rattle.std.proofs.{Math.ListN.set, Math.Nat.suc-mul, Math.Nat.zero-mul, lemmas.Bool.Decides.nat_tests, lemmas.Nat.Bits.same_from_bits_below}
-use Rattle.std.proofs.{lemmas.Nat.Bits.bit_at-lt, lemmas.Nat.or_lt, lemmas.Nat.and_le_l, Math.Bool.and-true, lemmas.Nat.Bits.bit_at-trailing_zeros}
-use Rattle.std.proofs.lemmas.Bool.{cases_eq, cases_lt, cases_Bool, false_from_ne_true, and_parts, not-true, not-false}
-use Rattle.pas_bits.proofs.{Words.bit_of_and, Words.bit_cleared, Words.none_of_zero, PageVectors.page_added, PageVectors.page_mask_lt}
-use Rattle.pas_bits.proofs.{PageVectors.page_bit-clear}
-use Rattle.pas_scan.proofs.ToldLooks.{Told, after, IsMute, told_step, told_as, look_told, values_from, values_many, looks_told, adds_told}
-use Rattle.pas_scan.proofs.Reading.{low_bits, ones_below, count_of, first_one, marked_more, scans_of, shown_as}
-use Rattle.pas_steps.specs.Told.{AreShort, TellsWord, free_by, IsShort, StandsLater, StandsStill}
-use Rattle.pas_bits.specs.declared.mask.Mask4.{Mask4}
-use Rattle.pas_bits.specs.{Bits.has_bit, Bits.count_below, Masks.is_set, PageVectors.page_mask}
-use Rattle.pas_profile.specs.{Directories.number_of, Directories.IsDirectory, Layouts.same_word}
-use Rattle.pas_profile.specs.Profiles.{IsPage, IsValid, IsWordOf, IsDirectoryOf}
-use Rattle.pas_profile.specs.declared.{directory.Directory.Directory, profile.Profile.Profile, word.Word.Word}
-use Rattle.pas_profile.proofs.{Codecs.number_lt, Codecs.directory_from_profile, Places.same_word-true}
+use Rattle.pas_bits.proofs.{Words.{bit_of_and, bit_cleared, none_of_zero}, PageVectors.{page_added, page_mask_lt, page_bit-clear}}
+use Rattle.pas_bits.specs.{declared.mask.Mask4.Mask4, Bits.{has_bit, count_below}, Masks.is_set, PageVectors.page_mask}
+use Rattle.pas_scan.proofs.{ToldLooks.{Told, after, IsMute, told_step, told_as, look_told, values_from, values_many, looks_told, adds_told}, Reading.low_bits}
+use Rattle.pas_scan.{proofs.Reading.{ones_below, count_of, first_one, marked_more, scans_of, shown_as}, specs.Marks.{is_marked, IsBehind, IsHighest}}
+use Rattle.pas_scan.specs.{Scan.IsFirstOffered, Rows.{eligible_looks, row_end, words_to, WordReadHere}}
+use Rattle.pas_steps.specs.{Told.{AreShort, TellsWord, free_by, IsShort, StandsLater, StandsStill}, Past.Once, Evidence.GetsRight, Views.{View, KnowsDeed}}
+use Rattle.pas_steps.specs.{Lists.{Whole, Legal, part, word_after}, Desks.{Seat, Standing, AnyView, CanCall, made}, declared.step.Made.Made}
+use Rattle.pas_steps.{specs.declared.step.Step.TheVariants.{Look, TakeRight, Offer}, proofs.{Adding.{adds_call, agreed_first}, Frames.knows_still}}
+use Rattle.pas_steps.proofs.ShortOfGrains.{short_alike}
+use Rattle.pas_profile.specs.{Directories.{number_of, IsDirectory}, Layouts.same_word, Profiles.{IsPage, IsValid, IsWordOf, IsDirectoryOf}}
+use Rattle.pas_profile.{specs.declared.{directory.Directory.Directory, profile.Profile.Profile, word.Word.Word}, proofs.Codecs.number_lt}
+use Rattle.pas_profile.proofs.{Codecs.directory_from_profile, Places.same_word-true}
 use Rattle.pas_core.proofs.Nexts.{agreed_steps, agrees_next}
-use Rattle.pas_steps.specs.{Past.Once, Evidence.GetsRight, Views.View, Views.KnowsDeed}
-use Rattle.pas_steps.specs.Lists.{Whole, Legal, part, word_after}
-use Rattle.pas_steps.specs.Desks.{Seat, Standing, AnyView, CanCall, made}
-use Rattle.pas_steps.specs.declared.step.{Made.Made, Step.TheVariants.Look, Step.TheVariants.TakeRight, Step.TheVariants.Offer}
-use Rattle.pas_steps.proofs.{Adding.adds_call, Adding.agreed_first, Frames.knows_still, ShortOfGrains.short_alike}
 use Rattle.pas_rights.specs.Looks.{looks}
-use Rattle.pas_scan.specs.{Marks.is_marked, Marks.IsBehind, Marks.IsHighest, Scan.IsFirstOffered}
-use Rattle.pas_scan.specs.Rows.{eligible_looks, row_end, words_to, WordReadHere}
-use Rattle.pas_search.specs.Passing.{leaving_steps, MayPass, passed_steps, PassesBy, PassesPages}
-use Rattle.pas_search.specs.{Searches.GoesOn, Serving.Rule}
-use Rattle.pas_search.specs.declared.{passing.Passed.Passed, placing.LeastRun.LeastRun}
-use Rattle.pas_search.proofs.PagesThatServe.{got_right, passes_page, TriesPages}
+use Rattle.pas_search.specs.{Passing.{leaving_steps, MayPass, passed_steps, PassesBy, PassesPages}, Searches.GoesOn, Serving.Rule}
+use Rattle.pas_search.{specs.declared.{passing.Passed.Passed, placing.LeastRun.LeastRun}, proofs.PagesThatServe.{got_right, passes_page, TriesPages}}
 
 module _ (f : Profile) (k : ℕ) (l : Whole) (actor : k ≤ f.threads) where
   -- the looks at the free words of a page

@@ -1,15 +1,13 @@
 -- A run of grains that was chosen is given as a block.
 use Rattle.std.specs.Prelude.{ℕ, ◌+◌, ◌*◌, ◌/◌, ◌^◌, ◌<◌, ◌≤◌, ◌≡◌, ◌⊎◌, Bool, true, false, List, [], ◌∷◌, ◌++◌, length, Result, MatchResult}
 use Rattle.pas_bits.specs.Runs.{in_run}
-use Rattle.pas_profile.specs.Blocks.{address_of, grain_of, length_of}
-use Rattle.pas_profile.specs.declared.{directory.Directory.Directory, event.Event.Event, event.NoRoom.NoRoom, name.Block.Block, profile.Profile.Profile}
-use Rattle.pas_rights.specs.{Gives.block_of, Gives.give_steps, Leaves.LeaveSteps}
-use Rattle.pas_steps.specs.{Calls.Leads, Calls.Lost, Calls.Does, Desks.Standing, Desks.Adds, Desks.triples, Events.events_by, Lists.Whole, Views.View}
-use Rattle.pas_steps.specs.{Views.holds, Views.KnowsDeed}
+use Rattle.pas_profile.specs.{Blocks.{address_of, grain_of, length_of}, declared.{directory.Directory.Directory, event.{Event.Event, NoRoom.NoRoom}}}
+use Rattle.pas_profile.specs.declared.{name.Block.Block, profile.Profile.Profile}
+use Rattle.pas_rights.specs.{Gives.{block_of, give_steps}, Leaves.LeaveSteps}
+use Rattle.pas_steps.specs.{Calls.{Leads, Lost, Does}, Desks.{Standing, Adds, triples}, Events.events_by, Lists.Whole, Views.{View, holds, KnowsDeed}}
 use Rattle.pas_steps.specs.declared.step.Made.{Made}
-use Rattle.pas_search.specs.{Kinds.AreSearch, Serving.right_of, Telling.IsTold, Choices.Choice, Choices.choosing}
-use Rattle.pas_search.specs.Searches.{search_steps, MaySearch, FromOffered, ByDeed, Finds, IsRefused}
-use Rattle.pas_search.specs.declared.{serving.Served.Served, placing.Run.Run}
+use Rattle.pas_search.specs.{Kinds.AreSearch, Serving.right_of, Telling.IsTold, Choices.{Choice, choosing}, Searches.{search_steps, MaySearch, FromOffered}}
+use Rattle.pas_search.specs.{Searches.{ByDeed, Finds, IsRefused}, declared.{serving.Served.Served, placing.Run.Run}}
 
 abbrev pub served_by : {Found : Type 0} → ℕ → Found → Served Found
 served_by page found = record { page = page; found = found }

@@ -1,12 +1,9 @@
 -- A call whose actor alone made steps meanwhile, whatever its desk tells; and what a search is then.
 use Rattle.std.specs.Prelude.{ℕ, ◌≡◌, false, List, ◌++◌, Result, Ok, Err}
-use Rattle.pas_profile.specs.declared.{directory.Directory.Directory, event.NoRoom.NoRoom, event.NoRoom.TheVariants.NoSpace, event.NoRoom.TheVariants.Held}
-use Rattle.pas_profile.specs.declared.{profile.Profile.Profile}
-use Rattle.pas_steps.specs.{Desks.triples, Evidence.Readings, Kinds.kind_of, Kinds.is_in, Kinds.lending, Lists.Whole, Lists.Legal, Past.Always}
-use Rattle.pas_steps.specs.declared.step.Made.{Made}
+use Rattle.pas_profile.specs.declared.{directory.Directory.Directory, event.NoRoom.{NoRoom, TheVariants.{NoSpace, Held}}, profile.Profile.Profile}
+use Rattle.pas_steps.specs.{Desks.triples, Evidence.Readings, Kinds.{kind_of, is_in, lending}, Lists.{Whole, Legal}, Past.Always, declared.step.Made.Made}
 use Rattle.pas_core.specs.{Fits.HasNoFit, Rights.AllRest}
-use Rattle.pas_search.specs.Kinds.{ReturnsDuly}
-use Rattle.pas_search.specs.declared.serving.Served.{Served}
+use Rattle.pas_search.specs.{Kinds.ReturnsDuly, declared.serving.Served.Served}
 
 -- These steps of actor k came onto the list l with none of another actor between them. They give and end no block, and give back only what they got.
 pub record IsLone (f : Profile) (k : ℕ) (l : Whole) (steps : List Made) : Type 0 where

@@ -1,12 +1,9 @@
 -- A run of grains on the page that a rule ranks best is given as a block.
 use Rattle.std.specs.Prelude.{◌/◌, ◌≤◌, ◌≡◌, ◌⊎◌, Bool, true, List, ◌++◌, length, Result, Ok}
-use Rattle.pas_profile.specs.Blocks.{address_of}
-use Rattle.pas_profile.specs.declared.{directory.Directory.Directory, event.NoRoom.NoRoom, name.Block.Block}
-use Rattle.pas_steps.specs.{Desks.Standing, Desks.Adds, Lists.Whole, Views.View}
-use Rattle.pas_steps.specs.declared.step.Made.{Made}
-use Rattle.pas_search.specs.{Kinds.AreSearch, Searches.MaySearch, Allocates.AllocatesRun, Allocates.GivesFound, Choices.Choice}
-use Rattle.pas_search.specs.Ranks.{Measure, FromSurvey, IsBestOffered, FallsBack, try_steps}
-use Rattle.pas_search.specs.declared.placing.Run.{Run}
+use Rattle.pas_profile.specs.{Blocks.address_of, declared.{directory.Directory.Directory, event.NoRoom.NoRoom, name.Block.Block}}
+use Rattle.pas_steps.specs.{Desks.{Standing, Adds}, Lists.Whole, Views.View, declared.step.Made.Made}
+use Rattle.pas_search.specs.{Kinds.AreSearch, Searches.MaySearch, Allocates.{AllocatesRun, GivesFound}, Choices.Choice, Ranks.{Measure, FromSurvey}}
+use Rattle.pas_search.specs.{Ranks.{IsBestOffered, FallsBack, try_steps}, declared.placing.Run.Run}
 
 -- The page that is ranked best was taken from, and the block was given. That the page was the best one is true of the state at entry where the desk tells it.
 pub record GivesBest {Found : Type 0} (choice : Choice Found) (run : Found → Run) (ranks : Measure) (d : Directory) (tells : Bool) (desk desk' : Standing)

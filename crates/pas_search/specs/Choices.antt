@@ -1,10 +1,8 @@
 -- What is chosen of the free grains of a page.
 use Rattle.std.specs.Prelude.{ℕ, ◌%◌, ◌<◌, ◌≡◌, Bool, true, List}
 use Rattle.pas_profile.specs.declared.directory.Kind.{Kind}
-use Rattle.pas_bits.specs.declared.mask.Mask4.{Mask4}
-use Rattle.pas_bits.specs.Masks.{is_set}
-use Rattle.pas_steps.specs.{Effects.in_mask, Past.Once, Past.Since, Evidence.Readings, Evidence.ShowsHere, Evidence.GetsHere}
-use Rattle.pas_steps.specs.declared.step.{Made.Made, Step.TheVariants.Take}
+use Rattle.pas_bits.specs.{declared.mask.Mask4.Mask4, Masks.is_set}
+use Rattle.pas_steps.specs.{Effects.in_mask, Past.{Once, Since}, Evidence.{Readings, ShowsHere, GetsHere}, declared.step.{Made.Made, Step.TheVariants.Take}}
 use Rattle.pas_search.specs.Serving.{Rule}
 
 pub record Choice (Found : Type 0) : Type 1 where

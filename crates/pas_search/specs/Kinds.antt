@@ -2,11 +2,9 @@
 use Rattle.std.specs.Prelude.{◌⊎◌, ℕ, ◌≡◌, ◌==◌, suc, Bool, false, if◌then◌else◌, List, [], ◌∷◌, None}
 use Rattle.pas_profile.specs.declared.directory.Directory.{Directory}
 use Rattle.pas_rights.specs.{Puts.PutsHere, PutsBack.GivesDuly}
-use Rattle.pas_steps.specs.{Past.Once, Past.Always, Events.event_of, Evidence.GetsHere, Frames.OnlyOn}
-use Rattle.pas_steps.specs.Kinds.{Kinds, LookEpoch, LookFree, LookLife, LookDeed, LookBacked, LookStamp, LookParked, LookEmpty, LookEligible, Deeding, Backing}
-use Rattle.pas_steps.specs.Kinds.{Taking, Putting, Claiming, Offering, Parking, Unparking, Hinting, Only}
-use Rattle.pas_steps.specs.declared.step.{Step.Step, Made.Made}
-use Rattle.pas_steps.specs.declared.step.Step.TheVariants.{Deed, Back, Offer, Park, Unpark, Hint}
+use Rattle.pas_steps.specs.{Past.{Once, Always}, Events.event_of, Evidence.GetsHere, Frames.OnlyOn, Kinds.{Kinds, LookEpoch, LookFree, LookLife, LookDeed}}
+use Rattle.pas_steps.specs.Kinds.{LookBacked, LookStamp, LookParked, LookEmpty, LookEligible, Deeding, Backing, Taking, Putting, Claiming, Offering, Parking}
+use Rattle.pas_steps.specs.{Kinds.{Unparking, Hinting, Only}, declared.step.{Step.{Step, TheVariants.{Deed, Back, Offer, Park, Unpark, Hint}}, Made.Made}}
 
 -- ---- kinds
 -- what a back end may do on a page whose right was got: it makes no deed, claims nothing, stamps nothing, gives and ends no block

@@ -1,15 +1,11 @@
 -- Pages that are passed by: nothing fits on them, and their visits are told to the desk and not made.
 use Rattle.std.specs.Prelude.{ℕ, ◌+◌, ◌*◌, ◌/◌, ◌%◌, ◌^◌, ◌-◌, ◌<◌, ◌≤◌, ◌≡◌, ◌≢◌, min, Bool, true, false, List, ◌∷◌, ◌++◌, None}
-use Rattle.pas_bits.specs.declared.mask.Mask4.{Mask4}
-use Rattle.pas_bits.specs.{Bits.has_bit, Bits.count_below, Masks.is_set}
-use Rattle.pas_profile.specs.Directories.{IsDirectory, number_of}
-use Rattle.pas_profile.specs.declared.{directory.Directory.Directory, profile.Profile.Profile, word.Word.Word}
+use Rattle.pas_bits.specs.{declared.mask.Mask4.Mask4, Bits.{has_bit, count_below}, Masks.is_set}
+use Rattle.pas_profile.specs.{Directories.{IsDirectory, number_of}, declared.{directory.Directory.Directory, profile.Profile.Profile, word.Word.Word}}
 use Rattle.pas_rights.specs.{Looks.looks, Words.words}
-use Rattle.pas_steps.specs.{Lists.Whole, Lists.word_after, Views.View, Told.AreShort, Told.IsShort, Told.TellsWord}
-use Rattle.pas_steps.specs.Desks.{Standing, AnyView, Adds, made}
+use Rattle.pas_steps.specs.{Lists.{Whole, word_after}, Views.View, Told.{AreShort, IsShort, TellsWord}, Desks.{Standing, AnyView, Adds, made}}
 use Rattle.pas_steps.specs.declared.step.{Made.Made, Step.TheVariants.Offer}
-use Rattle.pas_search.specs.{Serving.Rule, Serving.ServeSteps, Searches.GoesOn}
-use Rattle.pas_search.specs.declared.{passing.Passed.Passed, placing.LeastRun.LeastRun}
+use Rattle.pas_search.specs.{Serving.{Rule, ServeSteps}, Searches.GoesOn, declared.{passing.Passed.Passed, placing.LeastRun.LeastRun}}
 
 -- the steps of a back end on a page where nothing fits: looks at its four free words, the same looks as it is left, and the offer
 abbrev pub leaving_steps : ℕ → Directory → Mask4 → ℕ → List Made

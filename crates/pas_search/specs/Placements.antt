@@ -2,9 +2,8 @@
 use Rattle.std.specs.Prelude.{ℕ, ◌+◌, ◌≤◌, ◌≡◌, true}
 use Rattle.pas_bits.specs.Runs.{in_run, AreFree}
 use Rattle.pas_profile.specs.declared.directory.Kind.{Kind}
-use Rattle.pas_steps.specs.{Evidence.Readings, Evidence.IsAntitone, Told.NoRun, Views.usable_by_kind}
-use Rattle.pas_search.specs.{Choices.Choice, Choices.choosing, Serving.Rule}
-use Rattle.pas_search.specs.declared.placing.{LeastRun.LeastRun, Run.Run}
+use Rattle.pas_steps.specs.{Evidence.{Readings, IsAntitone}, Told.NoRun, Views.usable_by_kind}
+use Rattle.pas_search.specs.{Choices.{Choice, choosing}, Serving.Rule, declared.placing.{LeastRun.LeastRun, Run.Run}}
 
 pub record Placement : Type 1 where
   pub asked : Type 0  -- what is asked of the request

@@ -1,17 +1,14 @@
 -- A search that takes the page which a rule ranks best.
 use Rattle.std.specs.Prelude.{ℕ, ◌+◌, ◌%◌, ◌*◌, ◌<◌, ◌≤◌, ◌≡◌, ◌⊎◌, Bool, true, false, List, ◌∷◌, ◌++◌, length, Option, None, Some, MatchOption, Result, Ok}
 use Rattle.pas_bits.specs.Bits.{has_bit}
-use Rattle.pas_profile.specs.{Directories.number_of, Profiles.IsPage}
-use Rattle.pas_profile.specs.declared.{directory.Directory.Directory, event.NoRoom.NoRoom, profile.Profile.Profile, word.Word.Word}
-use Rattle.pas_steps.specs.{Agreement.Agreed, Calls.Leads, Calls.nothing, Calls.Does, Frames.AreLooks, Lists.Whole, Past.Once, Unknown.HasRoom}
-use Rattle.pas_steps.specs.Desks.{Standing, AnyView, Adds, triples, made}
-use Rattle.pas_steps.specs.Evidence.{Readings, ZeroHere, OneHere, UnfitHere}
-use Rattle.pas_steps.specs.Views.{View, has_right, known_deed, KnowsDeed}
-use Rattle.pas_steps.specs.declared.step.{Made.Made, Step.TheVariants.Look, Step.TheVariants.TakeRight}
-use Rattle.pas_core.specs.{Fits.IsOfferedFit, Rights.eligible_bit, Rights.free_of_page}
+use Rattle.pas_profile.specs.{Directories.number_of, Profiles.IsPage, declared.{directory.Directory.Directory, event.NoRoom.NoRoom, profile.Profile.Profile}}
+use Rattle.pas_profile.specs.declared.word.Word.{Word}
+use Rattle.pas_steps.specs.{Agreement.Agreed, Calls.{Leads, nothing, Does}, Frames.AreLooks, Lists.Whole, Past.Once, Unknown.HasRoom, Desks.{Standing, AnyView}}
+use Rattle.pas_steps.specs.{Desks.{Adds, triples, made}, Evidence.{Readings, ZeroHere, OneHere, UnfitHere}, Views.{View, has_right, known_deed, KnowsDeed}}
+use Rattle.pas_steps.specs.declared.step.{Made.Made, Step.TheVariants.{Look, TakeRight}}
+use Rattle.pas_core.specs.{Fits.IsOfferedFit, Rights.{eligible_bit, free_of_page}}
 use Rattle.pas_scan.specs.Rows.{row_words}
-use Rattle.pas_search.specs.{Kinds.AreSearch, Kinds.AreQuiet, Kinds.deeds_made, Serving.Rule}
-use Rattle.pas_search.specs.Searches.{offered_steps, MaySearch, Finds, Searches}
+use Rattle.pas_search.specs.{Kinds.{AreSearch, AreQuiet, deeds_made}, Serving.Rule, Searches.{offered_steps, MaySearch, Finds, Searches}}
 use Rattle.pas_search.specs.declared.{serving.Served.Served, surveying.Best.Best}
 
 -- ---- what a rule means

@@ -1,19 +1,15 @@
 -- What a search asks and promises.
 use Rattle.std.specs.Prelude.{ℕ, ◌+◌, ◌-◌, ◌*◌, ◌/◌, ◌<◌, ◌≤◌, ◌≡◌, Bool, true, false, ◌⊎◌, List, ◌∷◌, ◌++◌, length, Result, MatchResult, Option, Some}
 use Rattle.std.specs.Prelude.{MatchOption}
-use Rattle.pas_profile.specs.Profiles.{IsPage}
-use Rattle.pas_profile.specs.declared.{directory.Directory.Directory, profile.Profile.Profile, event.NoRoom.NoRoom, event.NoRoom.TheVariants.NoSpace}
-use Rattle.pas_profile.specs.declared.{event.NoRoom.TheVariants.Held}
-use Rattle.pas_steps.specs.{Views.View, Views.has_right, Views.KnowsDeed, Events.events_by, Lists.Whole, Agreement.Agreed, Calls.Leads, Calls.nothing}
-use Rattle.pas_steps.specs.{Calls.Does, Clear.IsClear, Frames.OnlyReads, Past.Once, Past.Always, Unknown.KnowsAllDeeds, Unknown.HasRoom}
-use Rattle.pas_steps.specs.Desks.{Standing, Adds, triples, made}
-use Rattle.pas_steps.specs.Evidence.{Readings, ZeroHere, OneHere, UnfitHere, Searched, AllDeeds, Accounted, HeldHere, LacksAfter}
-use Rattle.pas_steps.specs.declared.step.{Made.Made, Step.TheVariants.Deed}
+use Rattle.pas_profile.specs.{Profiles.IsPage, declared.{directory.Directory.Directory, profile.Profile.Profile, event.NoRoom.{NoRoom, TheVariants.NoSpace}}}
+use Rattle.pas_profile.specs.declared.event.NoRoom.TheVariants.{Held}
+use Rattle.pas_steps.specs.{Views.{View, has_right, KnowsDeed}, Events.events_by, Lists.Whole, Agreement.Agreed, Calls.{Leads, nothing, Does}, Clear.IsClear}
+use Rattle.pas_steps.specs.{Frames.OnlyReads, Past.{Once, Always}, Unknown.{KnowsAllDeeds, HasRoom}, Desks.{Standing, Adds, triples, made}, Evidence.Readings}
+use Rattle.pas_steps.specs.{Evidence.{ZeroHere, OneHere, UnfitHere, Searched, AllDeeds, Accounted, HeldHere, LacksAfter}, declared.step.Made.Made}
+use Rattle.pas_steps.specs.declared.step.Step.TheVariants.{Deed}
 use Rattle.pas_scan.specs.{Marks.is_marked, Rows.row_words}
-use Rattle.pas_search.specs.Kinds.{AreSearch, KeepsMarks, AreQuiet, EventsAt, deeds_made}
-use Rattle.pas_search.specs.Serving.{Rule, IsUntouched, Keeps, ShowsFit, ServeSteps}
-use Rattle.pas_search.specs.Telling.{IsTold}
-use Rattle.pas_search.specs.declared.serving.Served.{Served}
+use Rattle.pas_search.specs.{Kinds.{AreSearch, KeepsMarks, AreQuiet, EventsAt, deeds_made}, Serving.{Rule, IsUntouched, Keeps, ShowsFit, ServeSteps}}
+use Rattle.pas_search.specs.{Telling.IsTold, declared.serving.Served.Served}
 
 -- ---- what is asked
 -- the actor is clear, and has no right of a page of the directory

@@ -1,12 +1,10 @@
 -- What a back end promises of one page.
 use Rattle.std.specs.Prelude.{ℕ, ◌/◌, ◌%◌, ◌<◌, ◌≤◌, ◌≡◌, ◌==◌, Bool, true, false, ◌&&◌, if◌then◌else◌, List, [], ◌∷◌, ◌++◌, length, Option, MatchOption}
 use Rattle.pas_profile.specs.declared.{directory.Directory.Directory, profile.Profile.Profile}
-use Rattle.pas_steps.specs.Views.{View, holds, has_right, known_free, knows_backed, KnowsDeed}
-use Rattle.pas_steps.specs.{Events.events_by, Agreement.Agreed, Clear.IsClearOn, Desks.Standing, Desks.Adds, Past.Once, Past.Always}
-use Rattle.pas_steps.specs.Calls.{Leads, Fate, Kept, Gained, Lost, Effect, Does}
-use Rattle.pas_steps.specs.Evidence.{Readings, ShowsHere, GetsHere, UnfitHere}
+use Rattle.pas_steps.specs.{Views.{View, holds, has_right, known_free, knows_backed, KnowsDeed}, Events.events_by, Agreement.Agreed, Clear.IsClearOn}
+use Rattle.pas_steps.specs.{Desks.{Standing, Adds}, Past.{Once, Always}, Calls.{Leads, Fate, Kept, Gained, Lost, Effect, Does}, Evidence.{Readings, ShowsHere}}
+use Rattle.pas_steps.specs.{Evidence.{GetsHere, UnfitHere}, declared.step.Made.Made}
 use Rattle.pas_rights.specs.{Leaves.LeaveSteps, PutsBack.GivesDuly}
-use Rattle.pas_steps.specs.declared.step.Made.{Made}
 use Rattle.pas_search.specs.Kinds.{OnlyServes, AreQuiet, KeepsMarks}
 
 -- ---- what a back end means by its answers

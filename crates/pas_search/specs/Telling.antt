@@ -1,10 +1,9 @@
 -- What a search says of the states at its entry and its exit, on a desk that tells the whole state.
 use Rattle.std.specs.Prelude.{ℕ, ◌<◌, ◌≤◌, ◌≡◌, ◌⊎◌, false, Result, MatchResult}
-use Rattle.pas_profile.specs.{Profiles.IsPage, Directories.deed_word_of, Directories.number_of}
-use Rattle.pas_profile.specs.declared.{directory.Directory.Directory, profile.Profile.Profile, event.NoRoom.NoRoom, event.NoRoom.TheVariants.NoSpace}
-use Rattle.pas_profile.specs.declared.{event.NoRoom.TheVariants.Held, word.Word.Word}
-use Rattle.pas_steps.specs.{Lists.Whole, Lists.word_after, Evidence.Readings}
-use Rattle.pas_core.specs.{Fits.IsOfferedFit, Fits.IsBarePage, Fits.HasNoFit, Rights.eligible_bit, Rights.parked_bit}
+use Rattle.pas_profile.specs.{Profiles.IsPage, Directories.{deed_word_of, number_of}, declared.{directory.Directory.Directory, profile.Profile.Profile}}
+use Rattle.pas_profile.specs.declared.{event.NoRoom.{NoRoom, TheVariants.{NoSpace, Held}}, word.Word.Word}
+use Rattle.pas_steps.specs.{Lists.{Whole, word_after}, Evidence.Readings}
+use Rattle.pas_core.specs.{Fits.{IsOfferedFit, IsBarePage, HasNoFit}, Rights.{eligible_bit, parked_bit}}
 
 -- the lowest page that is offered and fits
 pub record IsLowestOffered (no_fit : Readings → Type 0) (f : Profile) (d : Directory) (l : Whole) (page : ℕ) : Type 0 where

@@ -2,7 +2,7 @@
 ghost use Rattle.std.specs.Prelude.{◌≡◌, ◌≤◌, ◌+◌};
 ghost use Rattle.pas_profile.specs.Profiles.{IsDirectoryOf};
 ghost use Rattle.pas_steps.specs.{Clear.HasNothing, Desks.CanCall};
-ghost use Rattle.pas_search.specs.{Searches.SearchRoom, Allocates.AllocatesRun, Placements.placed, Placements.placing};
+ghost use Rattle.pas_search.specs.{Searches.SearchRoom, Allocates.AllocatesRun, Placements.{placed, placing}};
 
 use crate::by_placement::ByPlacement;
 use crate::finding::find_page;

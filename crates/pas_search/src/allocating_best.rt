@@ -2,7 +2,7 @@
 ghost use Rattle.std.specs.Prelude.{◌≡◌};
 ghost use Rattle.pas_profile.specs.Profiles.{IsDirectoryOf};
 ghost use Rattle.pas_steps.specs.Desks.{CanCall};
-ghost use Rattle.pas_search.specs.{Ranks.RankRoom, ByRank.AllocatesByRank, Placements.placed, Placements.placing};
+ghost use Rattle.pas_search.specs.{Ranks.RankRoom, ByRank.AllocatesByRank, Placements.{placed, placing}};
 
 use crate::allocating::alloc;
 use crate::best::take_best_page;

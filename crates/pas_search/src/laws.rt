@@ -1,15 +1,12 @@
 //! What a search finds where no other actor makes a step meanwhile, whatever its desk tells. Each law is the contract of an empty function.
 ghost use Rattle.std.specs.Prelude.{ℕ, ◌+◌, ◌*◌, ◌/◌, ◌<◌, ◌≡◌, true, ◌||◌, List, ◌++◌, Result};
-ghost use Rattle.pas_profile.specs.Profiles.{IsDirectoryOf};
-ghost use Rattle.pas_profile.specs.declared.{directory.Directory.Directory, event.NoRoom.NoRoom, profile.Profile.Profile, word.Word.Word};
-ghost use Rattle.pas_steps.specs.{Agreement.Agreed, Desks.triples, Past.Once, Past.Always, Views.View, Views.holds};
-ghost use Rattle.pas_steps.specs.Evidence.{Readings, ShowsHere, GetsHere, NoDeedHere};
-ghost use Rattle.pas_steps.specs.Lists.{Whole, part, word_after, Legal};
-ghost use Rattle.pas_steps.specs.declared.step.Made.{Made};
+ghost use Rattle.pas_profile.specs.{Profiles.IsDirectoryOf, declared.{directory.Directory.Directory, event.NoRoom.NoRoom, profile.Profile.Profile}};
+ghost use Rattle.pas_profile.specs.declared.word.Word.{Word};
+ghost use Rattle.pas_steps.specs.{Agreement.Agreed, Desks.triples, Past.{Once, Always}, Views.{View, holds}, Evidence.{Readings, ShowsHere, GetsHere}};
+ghost use Rattle.pas_steps.specs.{Evidence.NoDeedHere, Lists.{Whole, part, word_after, Legal}, declared.step.Made.Made};
 ghost use Rattle.pas_scan.specs.Usable.{MakesNoDeedHere};
-ghost use Rattle.pas_core.specs.{Alone.ShowsAnswer, Alone.IsPlainAnswer, Rights.AllRest, Rights.eligible_bit, Rights.free_of_page};
-ghost use Rattle.pas_search.specs.{Alone.IsLone, Alone.page_found, Searches.MaySearch, Searches.Searches, Telling.IsTold};
-ghost use Rattle.pas_search.specs.declared.serving.Served.{Served as TheServed};
+ghost use Rattle.pas_core.specs.{Alone.{ShowsAnswer, IsPlainAnswer}, Rights.{AllRest, eligible_bit, free_of_page}};
+ghost use Rattle.pas_search.specs.{Alone.{IsLone, page_found}, Searches.{MaySearch, Searches}, Telling.IsTold, declared.serving.Served.Served as TheServed};
 
 use crate::serving::Serving;
 use pas_steps::Desk;

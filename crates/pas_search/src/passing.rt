@@ -2,7 +2,7 @@
 ghost use Rattle.std.specs.Prelude.{ℕ, ◌≡◌, ◌≤◌, ◌<◌, ◌/◌, ◌*◌, ◌+◌, ◌^◌, ◌≢◌, ◌&&◌, nat_lt, not, true, MatchOption};
 ghost use Rattle.pas_bits.specs.Bits.{has_bit};
 ghost use Rattle.pas_profile.specs.Profiles.{IsDirectoryOf, IsPage};
-ghost use Rattle.pas_steps.specs.{Told.StandsStill, Desks.AnyView, Desks.CanCall};
+ghost use Rattle.pas_steps.specs.{Told.StandsStill, Desks.{AnyView, CanCall}};
 ghost use Rattle.pas_search.specs.Passing.{MayPass, PassesPages, passed_steps};
 
 use crate::placing::LeastRun;

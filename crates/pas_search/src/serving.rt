@@ -7,8 +7,8 @@ use pas_steps::Desk;
 pub trait Serving {
     ghost use Rattle.std.specs.Prelude.{ℕ, ◌≡◌, ◌≤◌, ◌<◌, true, None, Some, MatchOption, Bool};
     ghost use Rattle.pas_profile.specs.Profiles.{IsPage, IsDirectoryOf};
-    ghost use Rattle.pas_steps.specs.{Desks.CanCall, Evidence.Readings, Evidence.IsAntitone};
-    ghost use Rattle.pas_search.specs.{Serving.Rule, Serving.MayServe, Serving.ServesPage, Passing.PassesBy};
+    ghost use Rattle.pas_steps.specs.{Desks.CanCall, Evidence.{Readings, IsAntitone}};
+    ghost use Rattle.pas_search.specs.{Serving.{Rule, MayServe, ServesPage}, Passing.PassesBy};
 
     /// What it takes of a page.
     type Found: Copy;

@@ -1,35 +1,23 @@
 -- What takes and puts leave: the takes of the page, and grains that aren't held. And slots that are given up.
 use Rattle.std.proofs.Common.{◌≡◌, ℕ, zero, suc, ◌/◌, ◌%◌, ◌==◌, Bool, true, false, if◌then◌else◌, List, [], ◌∷◌, ◌++◌, refl, ap, sym, ◌∙◌, subst, arith, inl}
-use Rattle.std.proofs.Common.{append_assoc, length-append, ◌&&◌, eq-eqb, ◌<◌, None, Some, Ok, Err, true≢false, Result, MatchResult}
-use Rattle.std.proofs.lemmas.Bool.{and_from, cond_both}
-use Rattle.pas_bits.specs.{Bits.has_bit, Masks.is_set, Masks.IsEmpty, Masks.HasMember}
-use Rattle.pas_profile.specs.declared.{directory.Directory.Directory, directory.Kind.Kind, event.NoRoom.NoRoom, profile.Profile.Profile}
-use Rattle.pas_bits.specs.declared.mask.Mask4.{Mask4}
-use Rattle.pas_rights.specs.{Leaves.MayLeave, Leaves.Leaves, Puts.masked, Takes.word_take, Takes.takes, Takes.taken}
-use Rattle.pas_rights.specs.PutsBack.{giving_back, MayPutAndReturn, given_back, PutsAndReturns}
-use Rattle.pas_steps.specs.Calls.{Calls, Kept, Lost, later, ClearAfter, Does, Gained, now, Leads}
-use Rattle.pas_steps.specs.Desks.{made, Standing, CanCall, Makes, triples}
-use Rattle.pas_steps.specs.{Effects.in_mask, Evidence.GetsRight, Frames.IsOnPage, Evidence.IsAntitone, Lists.Whole, Lists.part, Lists.Legal}
-use Rattle.pas_steps.specs.Kinds.{Kinds, Deeding, Taking, Giving, Ending, Claiming, kind_of, is_in, Only, returning}
-use Rattle.pas_steps.specs.Views.{View, Puts, Stays, grain_move, held_after, holds, KnowsDeed, has_right}
-use Rattle.pas_steps.specs.declared.step.{Made.Made, Step.Step}
-use Rattle.pas_steps.specs.declared.step.Step.TheVariants.{Put, Look, Take, Back}
-use Rattle.pas_steps.proofs.Apart.{only_both, same_over, holds_over, only_within}
-use Rattle.pas_steps.proofs.Called.{call_as, call_then, next_call, call_knows}
-use Rattle.pas_steps.proofs.Calls.{does_then, does_as, returns_are, kept_first, leads_as}
-use Rattle.pas_steps.proofs.{Frames.returns_on, Past.always_both, Sets.kept_kept}
-use Rattle.pas_search.specs.{Serving.IsJustGot, Searches.MaySearch, Searches.Searches, Serving.ServesPage, Alone.FindsWhatThereIs, Searches.IsRefused}
-use Rattle.pas_segregated.specs.Stops.{in_slots, AreGrains, MayStopAt, LeavesWhere, of_slots, StopsAt, class_directory}
-use Rattle.pas_segregated.specs.Takes.{takes_after, takes_since, in_starts, TakesSlots, exclusive}
-use Rattle.pas_segregated.specs.declared.slots.Slots.{Slots}
-use Rattle.pas_profile.specs.{Classes.IsClass, Classes.IsSlotStart, Directories.IsKind, Profiles.IsValid, Profiles.IsDirectoryOf}
-use Rattle.pas_profile.proofs.Sizes.{class_grains_positive, slot_lt}
-use Rattle.pas_search.specs.declared.serving.Served.{Served}
-use Rattle.pas_search.proofs.{TheBestPage.found_call, FindingAPage.IsFoundOrRefused, FindingAPage.found_before}
-use Rattle.pas_search.proofs.Pages.{Prepares, on_page, leaves_page, keeps_page}
-use Rattle.pas_segregated.specs.Masks.{start_of}
-use Rattle.pas_segregated.specs.Refills.{exclusive_slots, GetsSlots, Refills, Filling, GivesSlots}
-use Rattle.pas_segregated.proofs.Starts.{start_at, start_below}
+use Rattle.std.proofs.{Common.{append_assoc, length-append, ◌&&◌, eq-eqb, ◌<◌, None, Some, Ok, Err, true≢false, Result, MatchResult}, lemmas.Bool.and_from}
+use Rattle.std.proofs.lemmas.Bool.{cond_both}
+use Rattle.pas_bits.specs.{Bits.has_bit, Masks.{is_set, IsEmpty, HasMember}, declared.mask.Mask4.Mask4}
+use Rattle.pas_profile.specs.{declared.{directory.{Directory.Directory, Kind.Kind}, event.NoRoom.NoRoom, profile.Profile.Profile}, Classes.IsClass}
+use Rattle.pas_profile.{specs.{Classes.IsSlotStart, Directories.IsKind, Profiles.{IsValid, IsDirectoryOf}}, proofs.Sizes.{class_grains_positive, slot_lt}}
+use Rattle.pas_rights.specs.{Leaves.{MayLeave, Leaves}, Puts.masked, Takes.{word_take, takes, taken}, PutsBack.{giving_back, MayPutAndReturn, given_back}}
+use Rattle.pas_rights.specs.PutsBack.{PutsAndReturns}
+use Rattle.pas_steps.specs.{Calls.{Calls, Kept, Lost, later, ClearAfter, Does, Gained, now, Leads}, Desks.{made, Standing, CanCall, Makes, triples}}
+use Rattle.pas_steps.specs.{Effects.in_mask, Evidence.{GetsRight, IsAntitone}, Frames.IsOnPage, Lists.{Whole, part, Legal}, Kinds.{Kinds, Deeding, Taking}}
+use Rattle.pas_steps.specs.{Kinds.{Giving, Ending, Claiming, kind_of, is_in, Only, returning}, Views.{View, Puts, Stays, grain_move, held_after, holds}}
+use Rattle.pas_steps.{specs.{Views.{KnowsDeed, has_right}, declared.step.{Made.Made, Step.{Step, TheVariants.{Put, Look, Take, Back}}}}, proofs.Apart.only_both}
+use Rattle.pas_steps.proofs.{Apart.{same_over, holds_over, only_within}, Called.{call_as, call_then, next_call, call_knows}, Calls.{does_then, does_as}}
+use Rattle.pas_steps.proofs.{Calls.{returns_are, kept_first, leads_as}, Frames.returns_on, Past.always_both, Sets.kept_kept}
+use Rattle.pas_search.specs.{Serving.{IsJustGot, ServesPage}, Searches.{MaySearch, Searches, IsRefused}, Alone.FindsWhatThereIs, declared.serving.Served.Served}
+use Rattle.pas_search.proofs.{TheBestPage.found_call, FindingAPage.{IsFoundOrRefused, found_before}, Pages.{Prepares, on_page, leaves_page, keeps_page}}
+use Rattle.pas_segregated.specs.{Stops.{in_slots, AreGrains, MayStopAt, LeavesWhere, of_slots, StopsAt, class_directory}, Takes.{takes_after, takes_since}}
+use Rattle.pas_segregated.specs.{Takes.{in_starts, TakesSlots, exclusive}, declared.slots.Slots.Slots, Masks.start_of, Refills.{exclusive_slots, GetsSlots}}
+use Rattle.pas_segregated.{specs.Refills.{Refills, Filling, GivesSlots}, proofs.Starts.{start_at, start_below}}
 
 -- ---- the takes
 abbrev counted : Kinds

@@ -1,13 +1,10 @@
 -- The slots of a class in a mask.
 use Rattle.std.proofs.Common.{◌≡◌, ℕ, ◌+◌, ◌-◌, ◌*◌, ◌/◌, ◌%◌, ◌<◌, ◌≤◌, ◌==◌, ◌↔◌, nat_le, IsTrue, Bool, true, false, ◌&&◌, List, length, slice_index, get_or}
-use Rattle.std.proofs.Common.{ap, sym, ◌∙◌, arith, inl, inr, eqb-true, eq-eqb, leb-true, le-leb, div-add-mod'}
-use Rattle.std.proofs.lemmas.Bool.{agree_below, agree_below_at, and_parts, and_from, lt-leb, cases_lt, and_right, false_from_ne_true}
-use Rattle.std.proofs.{lemmas.Nat.same_from_place, Math.Nat.mod-lt}
-use Rattle.pas_profile.specs.Classes.{IsClass, class_grains, usable_grains, IsSlotStart}
-use Rattle.pas_bits.specs.{Bits.has_bit, Masks.is_set, Masks.AreSet, Masks.IsNear}
-use Rattle.pas_profile.proofs.Sizes.{of_each_class, class_passes, class_grains_positive, usable_grains_le, slot_end}
-use Rattle.pas_bits.specs.declared.mask.Mask4.{Mask4}
-use Rattle.pas_bits.proofs.Words.{none_past}
+use Rattle.std.proofs.{Common.{ap, sym, ◌∙◌, arith, inl, inr, eqb-true, eq-eqb, leb-true, le-leb, div-add-mod'}, lemmas.Bool.{agree_below, agree_below_at}}
+use Rattle.std.proofs.{lemmas.{Bool.{and_parts, and_from, lt-leb, cases_lt, and_right, false_from_ne_true}, Nat.same_from_place}, Math.Nat.mod-lt}
+use Rattle.pas_profile.{specs.Classes.{IsClass, class_grains, usable_grains, IsSlotStart}, proofs.Sizes.{of_each_class, class_passes, class_grains_positive}}
+use Rattle.pas_profile.proofs.Sizes.{usable_grains_le, slot_end}
+use Rattle.pas_bits.{specs.{Bits.has_bit, Masks.{is_set, AreSet, IsNear}, declared.mask.Mask4.Mask4}, proofs.Words.none_past}
 use Rattle.pas_steps.proofs.Sets.{same_truth}
 use Rattle.pas_segregated.specs.Masks.{is_start, start_of, AreStarts}
 

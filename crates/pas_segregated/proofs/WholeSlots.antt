@@ -1,33 +1,22 @@
 -- The slots that the takes of a page got whole, and the grains that are put back.
 use Rattle.std.proofs.Common.{◌≡◌, ◌≢◌, ℕ, ◌+◌, ◌*◌, ◌/◌, ◌%◌, ◌<◌, ◌==◌, Bool, true, false, not, ◌&&◌, if◌then◌else◌, List, [], ◌∷◌, ◌++◌, refl, ap, sym, ◌∙◌}
-use Rattle.std.proofs.Common.{subst, arith, inl, inr, append_assoc, length-append, true≢false, eq-eqb, lt-ltb}
-use Rattle.std.proofs.lemmas.Bool.{cases_Bool, and_parts, and_from, and_right}
-use Rattle.pas_profile.specs.Classes.{IsClass, class_grains, usable_grains, is_usable, IsSlotStart}
-use Rattle.pas_bits.specs.{Bits.has_bit, Masks.is_set, Masks.IsEmpty, Masks.HasMember}
-use Rattle.pas_profile.specs.declared.directory.Directory.{Directory}
+use Rattle.std.proofs.{Common.{subst, arith, inl, inr, append_assoc, length-append, true≢false, eq-eqb, lt-ltb}, lemmas.Bool.{cases_Bool, and_parts, and_from}}
+use Rattle.std.proofs.lemmas.Bool.{and_right}
+use Rattle.pas_profile.specs.{Classes.{IsClass, class_grains, usable_grains, is_usable, IsSlotStart}, declared.directory.Directory.Directory}
 use Rattle.pas_profile.proofs.Sizes.{class_grains_positive, usable_grains_le, usable_grains_ge, first_slot}
-use Rattle.pas_bits.specs.declared.mask.Mask4.{Mask4}
-use Rattle.pas_bits.proofs.Words.{at_word, none_of_zero}
-use Rattle.pas_rights.specs.{Puts.masked, Puts.PutsBelow, Puts.PutsHere, Returns.ReturnSteps, Words.words}
-use Rattle.pas_rights.specs.PutsBack.{MayPutAndReturn, giving_back, PutsAndReturns, taking_grains}
-use Rattle.pas_rights.specs.Takes.{GetsGrains, taken, TakesMask, takes}
-use Rattle.pas_rights.proofs.Puts.{due_none, back_due, puts_kinds, some_put, return_holds, takes_only, takes_on, takes_keep, takes_few, takes_right}
-use Rattle.pas_rights.proofs.Puts.{takes_leave, takes_got, takes_held, takes_free, takes_read}
-use Rattle.pas_rights.proofs.Orders.{return_returns, bit_of, bit_on, since_kept}
-use Rattle.pas_steps.specs.{Views.View, Views.holds, Views.has_right, Agreement.Agreed, Past.Always, Past.Since, Frames.IsOnPage, Frames.GivesUp}
-use Rattle.pas_steps.specs.{Frames.KeepsRight, Desks.Seat, Desks.Standing, Desks.CanCall, Evidence.ShowsHere, Evidence.KeptHere}
-use Rattle.pas_steps.specs.Calls.{Calls, Kept, Gained, Lost, later, now}
-use Rattle.pas_steps.specs.Kinds.{Putting, Taking, Only, returning}
-use Rattle.pas_steps.specs.declared.step.Made.{Made}
-use Rattle.pas_steps.proofs.{Adding.agreed_first, Adding.agreed_later, Called.call_as, Called.call_then, Called.next_call, Past.always_both, Past.once_earlier}
-use Rattle.pas_steps.proofs.Apart.{only_within, only_both, deeds_same, holds_same, rights_same}
+use Rattle.pas_bits.{specs.{Bits.has_bit, Masks.{is_set, IsEmpty, HasMember}, declared.mask.Mask4.Mask4}, proofs.Words.{at_word, none_of_zero}}
+use Rattle.pas_rights.specs.{Puts.{masked, PutsBelow, PutsHere}, Returns.ReturnSteps, Words.words, PutsBack.{MayPutAndReturn, giving_back, PutsAndReturns}}
+use Rattle.pas_rights.{specs.{PutsBack.taking_grains, Takes.{GetsGrains, taken, TakesMask, takes}}, proofs.Puts.{due_none, back_due, puts_kinds, some_put}}
+use Rattle.pas_rights.proofs.Puts.{return_holds, takes_only, takes_on, takes_keep, takes_few, takes_right, takes_leave, takes_got, takes_held, takes_free}
+use Rattle.pas_rights.proofs.{Puts.takes_read, Orders.{return_returns, bit_of, bit_on, since_kept}}
+use Rattle.pas_steps.specs.{Views.{View, holds, has_right}, Agreement.Agreed, Past.{Always, Since}, Frames.{IsOnPage, GivesUp, KeepsRight}, Desks.Seat}
+use Rattle.pas_steps.specs.{Desks.{Standing, CanCall}, Evidence.{ShowsHere, KeptHere}, Calls.{Calls, Kept, Gained, Lost, later, now}, Kinds.{Putting, Taking}}
+use Rattle.pas_steps.{specs.{Kinds.{Only, returning}, declared.step.Made.Made}, proofs.{Adding.{agreed_first, agreed_later}, Called.{call_as, call_then}}}
+use Rattle.pas_steps.proofs.{Called.next_call, Past.{always_both, once_earlier}, Apart.{only_within, only_both, deeds_same, holds_same, rights_same}}
 use Rattle.pas_steps.proofs.Calls.{SameGrain, does_then, does_as, returns_are}
-use Rattle.pas_search.specs.{Kinds.KeepsMarks, Serving.MayServe, Serving.HoldsNone}
-use Rattle.pas_search.proofs.PagesThatServe.{keeps_marks, marks_after}
-use Rattle.pas_segregated.specs.Masks.{start_of}
-use Rattle.pas_segregated.specs.Takes.{AreUsable, AreFreeSlots, IsRest, in_starts, slots_on, takes_since, TakesSlots}
-use Rattle.pas_segregated.proofs.Starts.{start_at, start_below}
-use Rattle.pas_segregated.proofs.GivenUp.{takes_kept_by_giving_back, takes_are_all_since, none_yet, back_holds, same_after}
+use Rattle.pas_search.{specs.{Kinds.KeepsMarks, Serving.{MayServe, HoldsNone}}, proofs.PagesThatServe.{keeps_marks, marks_after}}
+use Rattle.pas_segregated.specs.{Masks.start_of, Takes.{AreUsable, AreFreeSlots, IsRest, in_starts, slots_on, takes_since, TakesSlots}}
+use Rattle.pas_segregated.proofs.{Starts.{start_at, start_below}, GivenUp.{takes_kept_by_giving_back, takes_are_all_since, none_yet, back_holds, same_after}}
 
 -- What was got without the grains of the kept slots is the rest.
 pub rest_is : (class : ℕ) (got starts kept others rest : Mask4) → ((g : ℕ) → is_set kept g ≡ is_set starts (start_of class g))

@@ -1,8 +1,7 @@
 -- Masks as sets of grains of a page, and the slots of a class in them.
 use Rattle.std.specs.Prelude.{ℕ, ◌+◌, ◌*◌, ◌/◌, ◌%◌, ◌≡◌, ◌==◌, nat_le, Bool, true, ◌&&◌}
 use Rattle.pas_profile.specs.Classes.{class_grains, usable_grains, IsSlotStart}
-use Rattle.pas_bits.specs.declared.mask.Mask4.{Mask4}
-use Rattle.pas_bits.specs.Masks.{is_set}
+use Rattle.pas_bits.specs.{declared.mask.Mask4.Mask4, Masks.is_set}
 
 -- a slot of the class begins at this grain of its page
 abbrev pub is_start : ℕ → ℕ → Bool

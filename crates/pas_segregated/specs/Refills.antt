@@ -1,17 +1,12 @@
 -- A refill.
 use Rattle.std.specs.Prelude.{ℕ, ◌≡◌, ◌==◌, Bool, true, false, not, ◌≤◌, ◌⊎◌, if◌then◌else◌, List, [], ◌++◌, length, Result, MatchResult}
-use Rattle.pas_profile.specs.Profiles.{IsPage}
-use Rattle.pas_profile.specs.declared.{directory.Directory.Directory, profile.Profile.Profile, event.NoRoom.NoRoom}
-use Rattle.pas_bits.specs.declared.mask.Mask4.{Mask4}
-use Rattle.pas_steps.specs.Calls.{Leads, Effect, Kept, Gained, Lost, Does}
-use Rattle.pas_steps.specs.{Views.View, Views.holds, Views.knows_backed, Lists.Whole, Desks.Standing, Desks.Adds, Desks.triples, Evidence.Readings}
-use Rattle.pas_steps.specs.{Kinds.returning, Kinds.Only}
-use Rattle.pas_steps.specs.declared.step.Made.{Made}
-use Rattle.pas_search.specs.{Kinds.AreSearch, Kinds.EventsAt, Serving.ShowsFit, Telling.IsTold}
-use Rattle.pas_search.specs.Searches.{search_steps, MaySearch, FromOffered, ByDeed, KeepsItsMarks, FewEvents, IsRefused}
-use Rattle.pas_segregated.specs.{Masks.AreStarts, Takes.TookSlots, Takes.NoSlot, Takes.in_starts}
-use Rattle.pas_bits.specs.Masks.{HasMember}
-use Rattle.pas_segregated.specs.Stops.{class_directory, home_of, in_slots, LeavesWhere, MayStopAt}
+use Rattle.pas_profile.specs.{Profiles.IsPage, declared.{directory.Directory.Directory, profile.Profile.Profile, event.NoRoom.NoRoom}}
+use Rattle.pas_bits.specs.{declared.mask.Mask4.Mask4, Masks.HasMember}
+use Rattle.pas_steps.specs.{Calls.{Leads, Effect, Kept, Gained, Lost, Does}, Views.{View, holds, knows_backed}, Lists.Whole, Desks.{Standing, Adds, triples}}
+use Rattle.pas_steps.specs.{Evidence.Readings, Kinds.{returning, Only}, declared.step.Made.Made}
+use Rattle.pas_search.specs.{Kinds.{AreSearch, EventsAt}, Serving.ShowsFit, Telling.IsTold, Searches.{search_steps, MaySearch, FromOffered, ByDeed}}
+use Rattle.pas_search.specs.Searches.{KeepsItsMarks, FewEvents, IsRefused}
+use Rattle.pas_segregated.specs.{Masks.AreStarts, Takes.{TookSlots, NoSlot, in_starts}, Stops.{class_directory, home_of, in_slots, LeavesWhere, MayStopAt}}
 use Rattle.pas_segregated.specs.declared.slots.Slots.{Slots}
 
 -- ---- what a refill is of

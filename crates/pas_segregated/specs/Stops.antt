@@ -1,16 +1,11 @@
 -- Slots that an actor holds, and how they are stopped.
 use Rattle.std.specs.Prelude.{ℕ, ◌/◌, ◌%◌, ◌<◌, ◌≤◌, ◌≡◌, ◌==◌, Bool, true, false, ◌&&◌, not, if◌then◌else◌, List, [], ◌++◌, length}
-use Rattle.pas_profile.specs.declared.directory.{Directory.Directory, Kind.Kind}
-use Rattle.pas_profile.specs.Requests.{kind_of_class}
-use Rattle.pas_bits.specs.declared.mask.Mask4.{Mask4}
-use Rattle.pas_bits.specs.Masks.{is_set, IsEmpty}
-use Rattle.pas_steps.specs.Calls.{Calls, Effect, Fate, Kept, Lost, Does}
-use Rattle.pas_steps.specs.{Clear.IsClear, Frames.OnlyOn, Kinds.Only, Desks.Standing}
-use Rattle.pas_steps.specs.Views.{View, holds, has_right, KnowsDeed}
-use Rattle.pas_steps.specs.declared.step.Made.{Made}
-use Rattle.pas_rights.specs.{Leaves.LeaveSteps, PutsBack.BackSteps, PutsBack.giving_back}
-use Rattle.pas_segregated.specs.Masks.{start_of}
-use Rattle.pas_segregated.specs.declared.slots.Slots.{Slots}
+use Rattle.pas_profile.specs.{declared.directory.{Directory.Directory, Kind.Kind}, Requests.kind_of_class}
+use Rattle.pas_bits.specs.{declared.mask.Mask4.Mask4, Masks.{is_set, IsEmpty}}
+use Rattle.pas_steps.specs.{Calls.{Calls, Effect, Fate, Kept, Lost, Does}, Clear.IsClear, Frames.OnlyOn, Kinds.Only, Desks.Standing, Views.{View, holds}}
+use Rattle.pas_steps.specs.{Views.{has_right, KnowsDeed}, declared.step.Made.Made}
+use Rattle.pas_rights.specs.{Leaves.LeaveSteps, PutsBack.{BackSteps, giving_back}}
+use Rattle.pas_segregated.specs.{Masks.start_of, declared.slots.Slots.Slots}
 
 -- the pages of one class of a heap
 abbrev pub class_directory : ℕ → ℕ → Directory

@@ -1,21 +1,15 @@
 -- The slots of a page that are taken.
 use Rattle.std.specs.Prelude.{ℕ, ◌+◌, ◌*◌, ◌/◌, ◌%◌, ◌<◌, ◌≤◌, ◌≡◌, ◌==◌, ◌↔◌, IsTrue, Bool, true, not, ◌&&◌, if◌then◌else◌, List, [], ◌∷◌, ◌++◌, length}
-use Rattle.std.proofs.Common.{ap, arith, inl, inr}
-use Rattle.std.proofs.lemmas.{Bool.cases_lt, List.get_or_past}
-use Rattle.pas_profile.specs.Classes.{is_usable, class_sizes, class_size, class_grains, usable_grains, IsSlotStart}
-use Rattle.pas_profile.proofs.Sizes.{slot_end}
-use Rattle.pas_bits.specs.{Bits.has_bit, Masks.is_set, Masks.IsEmpty, Masks.HasMember, Runs.AreFree}
-use Rattle.pas_profile.specs.declared.directory.{Directory.Directory, Kind.Kind}
-use Rattle.pas_bits.specs.declared.mask.Mask4.{Mask4}
-use Rattle.pas_rights.specs.{PutsBack.taking_grains, PutsBack.GivesDuly, Takes.GetsGrains, Takes.takes, Words.words}
-use Rattle.pas_steps.specs.{Views.View, Views.known_free, Agreement.Agreed, Calls.Calls, Calls.Leads, Past.Always, Past.Since, Frames.OnlyOn, Frames.KeepsRight}
-use Rattle.pas_steps.specs.{Kinds.Only, Desks.Standing, Desks.made}
-use Rattle.pas_steps.specs.declared.step.{Made.Made, Step.Step}
-use Rattle.pas_steps.specs.declared.step.Step.TheVariants.{Look, Deed, Back, Take, Put, Give, End, EndSized, TakeRight, Offer, Park, Unpark, Stamp, Hint, Tick}
-use Rattle.pas_steps.specs.declared.step.Step.TheVariants.{Unback, Unhint}
-use Rattle.pas_steps.specs.Evidence.{Readings, ShowsHere, KeptHere, IsAntitone}
-use Rattle.pas_search.specs.Kinds.{KeepsMarks}
-use Rattle.pas_search.specs.Serving.{Rule, MayServe, HoldsNone, IsJustGot, GotBefore, ReadsNoneHeld}
+use Rattle.std.proofs.{Common.{ap, arith, inl, inr}, lemmas.{Bool.cases_lt, List.get_or_past}}
+use Rattle.pas_profile.specs.{Classes.{is_usable, class_sizes, class_size, class_grains, usable_grains, IsSlotStart}, declared.directory.Directory.Directory}
+use Rattle.pas_profile.{specs.declared.directory.Kind.Kind, proofs.Sizes.slot_end}
+use Rattle.pas_bits.specs.{Bits.has_bit, Masks.{is_set, IsEmpty, HasMember}, Runs.AreFree, declared.mask.Mask4.Mask4}
+use Rattle.pas_rights.specs.{PutsBack.{taking_grains, GivesDuly}, Takes.{GetsGrains, takes}, Words.words}
+use Rattle.pas_steps.specs.{Views.{View, known_free}, Agreement.Agreed, Calls.{Calls, Leads}, Past.{Always, Since}, Frames.{OnlyOn, KeepsRight}, Kinds.Only}
+use Rattle.pas_steps.specs.{Desks.{Standing, made}, declared.step.{Made.Made, Step.{Step, TheVariants.{Look, Deed, Back, Take, Put, Give, End, EndSized}}}}
+use Rattle.pas_steps.specs.{declared.step.Step.TheVariants.{TakeRight, Offer, Park, Unpark, Stamp, Hint, Tick, Unback, Unhint}, Evidence.{Readings, ShowsHere}}
+use Rattle.pas_steps.specs.Evidence.{KeptHere, IsAntitone}
+use Rattle.pas_search.specs.{Kinds.KeepsMarks, Serving.{Rule, MayServe, HoldsNone, IsJustGot, GotBefore, ReadsNoneHeld}}
 use Rattle.pas_segregated.specs.Masks.{start_of}
 
 -- ---- slots

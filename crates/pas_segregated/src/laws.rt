@@ -1,11 +1,9 @@
 //! What a refill finds where no other actor makes a step meanwhile, whatever its desk tells. The law is the contract of an empty function.
 ghost use Rattle.std.specs.Prelude.{ℕ, ◌++◌, Result};
-ghost use Rattle.pas_profile.specs.Profiles.{IsDirectoryOf};
-ghost use Rattle.pas_profile.specs.declared.event.NoRoom.{NoRoom};
-ghost use Rattle.pas_steps.specs.{Desks.triples, Lists.Whole, Lists.part, Lists.Legal};
+ghost use Rattle.pas_profile.specs.{Profiles.IsDirectoryOf, declared.event.NoRoom.NoRoom};
+ghost use Rattle.pas_steps.specs.{Desks.triples, Lists.{Whole, part, Legal}};
 ghost use Rattle.pas_search.specs.{Alone.FindsWhatThereIs, Searches.MaySearch};
-ghost use Rattle.pas_segregated.specs.{Refills.exclusive_slots, Refills.Refills, Stops.class_directory, Takes.NoSlot};
-ghost use Rattle.pas_segregated.specs.declared.slots.Slots.{Slots as TheSlots};
+ghost use Rattle.pas_segregated.specs.{Refills.{exclusive_slots, Refills}, Stops.class_directory, Takes.NoSlot, declared.slots.Slots.Slots as TheSlots};
 
 use pas_steps::Desk;
 

@@ -3,7 +3,7 @@ ghost use Rattle.std.specs.Prelude.{◌≡◌};
 ghost use Rattle.pas_profile.specs.Profiles.{IsDirectoryOf};
 ghost use Rattle.pas_steps.specs.Desks.{CanCall};
 ghost use Rattle.pas_search.specs.Searches.{SearchRoom};
-ghost use Rattle.pas_segregated.specs.{Stops.class_directory, Refills.exclusive_slots, Refills.Refills};
+ghost use Rattle.pas_segregated.specs.{Stops.class_directory, Refills.{exclusive_slots, Refills}};
 
 use crate::serving::Exclusive;
 use crate::slots::Slots;

@@ -1,9 +1,8 @@
 //! Slots are given up.
 ghost use Rattle.std.specs.Prelude.{◌≡◌};
-ghost use Rattle.pas_profile.specs.{Classes.IsClass, Profiles.IsPage, Profiles.IsDirectoryOf};
+ghost use Rattle.pas_profile.specs.{Classes.IsClass, Profiles.{IsPage, IsDirectoryOf}};
 ghost use Rattle.pas_steps.specs.Desks.{CanCall};
-ghost use Rattle.pas_segregated.specs.Masks.{AreStarts};
-ghost use Rattle.pas_segregated.specs.Stops.{directory_of, MayStop, MayStopAt, Stops, StopsAt};
+ghost use Rattle.pas_segregated.specs.{Masks.AreStarts, Stops.{directory_of, MayStop, MayStopAt, Stops, StopsAt}};
 
 use crate::slots::{Slots, covered};
 use pas_profile::{Directory, Kind};

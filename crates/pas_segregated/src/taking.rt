@@ -1,9 +1,9 @@
 //! The free slots of a page are taken.
 ghost use Rattle.std.specs.Prelude.{◌≡◌};
-ghost use Rattle.pas_profile.specs.{Classes.IsClass, Profiles.IsPage, Profiles.IsDirectoryOf};
+ghost use Rattle.pas_profile.specs.{Classes.IsClass, Profiles.{IsPage, IsDirectoryOf}};
 ghost use Rattle.pas_steps.specs.Desks.{CanCall};
 ghost use Rattle.pas_search.specs.Serving.{MayServe};
-ghost use Rattle.pas_segregated.specs.{Masks.AreStarts, Takes.IsRest, Takes.TakesSlots};
+ghost use Rattle.pas_segregated.specs.{Masks.AreStarts, Takes.{IsRest, TakesSlots}};
 
 use crate::slots::{covered, whole_slots};
 use pas_bits::Mask4;

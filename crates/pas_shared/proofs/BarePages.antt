@@ -1,23 +1,16 @@
 -- A page without a deed has the words of the opening: nobody wrote there.
 use Rattle.std.proofs.Common.{◌≡◌, ◌≢◌, ℕ, ◌+◌, ◌-◌, ◌*◌, ◌/◌, ◌%◌, ◌^◌, ◌<◌, ◌≤◌, ◌==◌, true, false, if◌then◌else◌, List, [], ◌∷◌, Option, Some, None, refl}
-use Rattle.std.proofs.Common.{ap, sym, subst, ◌∙◌, arith, eqb-true, inl, inr, get_or, slice_index}
-use Rattle.std.proofs.lemmas.Bool.{false≢true, cond_both, cases_lt}
+use Rattle.std.proofs.{Common.{ap, sym, subst, ◌∙◌, arith, eqb-true, inl, inr, get_or, slice_index}, lemmas.Bool.{false≢true, cond_both, cases_lt}}
 use Rattle.atomic_table.specs.Table.{Final, Seen}
-use Rattle.pas_profile.specs.{Profiles.IsValid, Profiles.IsWordOf, Layouts.index_of, Layouts.opening, Layouts.same_word, Blocks.address_of}
-use Rattle.pas_profile.specs.declared.{profile.Profile.Profile, directory.Directory.Directory, event.Event.Event, word.Word.Word, name.Block.Block}
-use Rattle.pas_bits.specs.Bits.{has_bit}
-use Rattle.pas_bits.proofs.Runs.{first_of_run}
-use Rattle.pas_machine.specs.State.{deed_in, backed_in, gives_in, Live}
-use Rattle.pas_machine.specs.Machine.{Run, MayGive}
-use Rattle.pas_steps.specs.{Effects.target, Effects.new_value, Views.epoch_of, Allowed.Allowed, Allowed.HoldsOn}
-use Rattle.pas_steps.specs.Lists.{Whole, Legal, part, visible, word_after}
-use Rattle.pas_steps.specs.declared.step.Step.{Step, TheVariants.Stamp}
-use Rattle.pas_steps.proofs.Bits.{all_set}
-use Rattle.pas_core.specs.Good.{word_of_deed, word_of_backed, IsLifeOf, IsPlacedOnce, is_free}
-use Rattle.pas_core.proofs.{Deeds.deed_of, Deeds.backed_of, Deeds.deed_was_none, Lives.life_of, Lives.words_fit, MachineRuns.runs, Grains.placed_once}
-use Rattle.pas_core.proofs.{Grains.is_held_by-true, Grains.some_grain, Rights.free_without_deed}
-use Rattle.pas_shared.specs.{Ruled.AreAfterOneList, Ruled.Holds, Left.IsAsOpened}
-use Rattle.pas_shared.specs.declared.rule.Roster.{Roster}
+use Rattle.pas_profile.specs.{Profiles.{IsValid, IsWordOf}, Layouts.{index_of, opening, same_word}, Blocks.address_of, declared.profile.Profile.Profile}
+use Rattle.pas_profile.specs.declared.{directory.Directory.Directory, event.Event.Event, word.Word.Word, name.Block.Block}
+use Rattle.pas_bits.{specs.Bits.has_bit, proofs.Runs.first_of_run}
+use Rattle.pas_machine.specs.{State.{deed_in, backed_in, gives_in, Live}, Machine.{Run, MayGive}}
+use Rattle.pas_steps.specs.{Effects.{target, new_value}, Views.epoch_of, Allowed.{Allowed, HoldsOn}, Lists.{Whole, Legal, part, visible, word_after}}
+use Rattle.pas_steps.{specs.declared.step.Step.{Step, TheVariants.Stamp}, proofs.Bits.all_set}
+use Rattle.pas_core.{specs.Good.{word_of_deed, word_of_backed, IsLifeOf, IsPlacedOnce, is_free}, proofs.Deeds.{deed_of, backed_of, deed_was_none}}
+use Rattle.pas_core.proofs.{Lives.{life_of, words_fit}, MachineRuns.runs, Grains.{placed_once, is_held_by-true, some_grain}, Rights.free_without_deed}
+use Rattle.pas_shared.specs.{Ruled.{AreAfterOneList, Holds}, Left.IsAsOpened, declared.rule.Roster.Roster}
 
 -- ==== The machine gives and backs on pages with a deed alone.
 

@@ -1,18 +1,13 @@
 -- The rule of the shared words when a bench is laid out, looks and gives actors away; and for which lists a desk at a bench stands.
 use Rattle.std.proofs.Common.{suc, arith, List, [], ◌∷◌, ◌++◌, sym, subst, ◌≡◌, ◌≢◌, ◌⊎◌, inl, inr, ⊎_elim, ℕ, length, Bool, true, false, true≢false, eqb-true}
-use Rattle.std.proofs.Common.{eq-eqb, refl, ap, ◌∙◌, append-nil, length-append}
-use Rattle.std.proofs.lemmas.Bool.{false_from_ne_true}
+use Rattle.std.proofs.{Common.{eq-eqb, refl, ap, ◌∙◌, append-nil, length-append}, lemmas.Bool.false_from_ne_true}
 use Rattle.atomic_table.specs.Table.{Me, keeps, Allows, Splits, Enters}
 use Rattle.pas_profile.specs.declared.profile.Profile.{Profile}
-use Rattle.pas_steps.specs.{Views.View, Lists.Triple, Lists.Whole, Lists.part}
-use Rattle.pas_core.specs.Orders.{steps_by}
-use Rattle.pas_steps.specs.declared.step.Made.{Made}
-use Rattle.pas_steps.proofs.Parts.{part_of_own}
-use Rattle.pas_core.proofs.Choosing.{steps_by_nobody, no_steps_by_fewer, part_of_chosen, as_many_steps, steps_by_both}
-use Rattle.pas_shared.specs.declared.{bench.Member.Member, rule.Entry.Entry, rule.Row.Row, rule.Roster.Roster, rule.Roster.TheVariants.Benched}
-use Rattle.pas_shared.specs.Ruled.{Names, Holds, steps_of, among, made_in, HasRow, rows_in, row_with, with_made, only, only_this, leaver_of, alone, isnt}
-use Rattle.pas_shared.specs.Ruled.{row_of_only, left_of, picked_of, all_actors, IsEmptyBench, IsRowOf, AreRowsOf, SettlesAll}
-use Rattle.pas_shared.specs.Benches.{empty_row, SitsInRow, StandsOver}
+use Rattle.pas_steps.{specs.{Views.View, Lists.{Triple, Whole, part}, declared.step.Made.Made}, proofs.Parts.part_of_own}
+use Rattle.pas_core.{specs.Orders.steps_by, proofs.Choosing.{steps_by_nobody, no_steps_by_fewer, part_of_chosen, as_many_steps, steps_by_both}}
+use Rattle.pas_shared.specs.{declared.{bench.Member.Member, rule.{Entry.Entry, Row.Row, Roster.{Roster, TheVariants.Benched}}}, Ruled.{Names, Holds, steps_of}}
+use Rattle.pas_shared.specs.Ruled.{among, made_in, HasRow, rows_in, row_with, with_made, only, only_this, leaver_of, alone, isnt, row_of_only, left_of}
+use Rattle.pas_shared.specs.{Ruled.{picked_of, all_actors, IsEmptyBench, IsRowOf, AreRowsOf, SettlesAll}, Benches.{empty_row, SitsInRow, StandsOver}}
 use Rattle.pas_shared.proofs.Ruling.{part_both, Fits, entries_for, entries_same, enter, learns, split_by, split_one}
 
 -- ---- a bench on which nobody sits

@@ -1,10 +1,8 @@
 -- The passes of a region that nobody used yet.
-use Rattle.std.proofs.Common.{◌≡◌, ℕ, ◌+◌, List, [], ◌∷◌, All, refl, ◌∙◌}
-use Rattle.std.proofs.lemmas.List.Elements.{All-cons, All-nil}
+use Rattle.std.proofs.{Common.{◌≡◌, ℕ, ◌+◌, List, [], ◌∷◌, All, refl, ◌∙◌}, lemmas.List.Elements.{All-cons, All-nil}}
 use Rattle.pas_profile.specs.Rooms.{size_of_room, EventRoom}
-use Rattle.pas_shared.specs.Passes.{AreFresh, IsFreshPass}
-use Rattle.pas_shared.specs.declared.{region.SharedRegion.SharedRegion, pass.SharedPass.SharedPass}
-use Rattle.pas_shared.proofs.Pops.{first_is, others_are}
+use Rattle.pas_shared.{specs.{Passes.{AreFresh, IsFreshPass}, declared.{region.SharedRegion.SharedRegion, pass.SharedPass.SharedPass}}, proofs.Pops.first_is}
+use Rattle.pas_shared.proofs.Pops.{others_are}
 
 pub fresh_passes : (region : SharedRegion) (events k : ℕ) (rooms : List EventRoom) (passes : List SharedPass)
     → AreFresh region.table.shared.table_id region.profile k rooms passes → All (λ room. size_of_room room ≡ events) rooms

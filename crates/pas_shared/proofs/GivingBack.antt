@@ -3,9 +3,9 @@ use Rattle.std.proofs.Common.{◌≡◌, ℕ, ◌<◌, List, [], ◌∷◌, refl
 use Rattle.atomic_table.specs.Table.{Me, Splits, Allows}
 use Rattle.pas_profile.specs.declared.profile.Profile.{Profile}
 use Rattle.pas_steps.specs.Views.{View}
-use Rattle.pas_shared.specs.declared.{rule.Entry.Entry, rule.Part.Part, rule.Roster.Roster, region.SharedRegion.SharedRegion, rule.Roster.TheVariants.Settled}
-use Rattle.pas_shared.specs.Ruled.{Holds, alone, joined, looks_in, parts_in, seen_in, all_but_last, last_alone, AreEarlier, SeesAll}
-use Rattle.pas_shared.proofs.Ruling.{splits_last, looks}
+use Rattle.pas_shared.specs.{declared.{rule.{Entry.Entry, Part.Part, Roster.{Roster, TheVariants.Settled}}, region.SharedRegion.SharedRegion}, Ruled.Holds}
+use Rattle.pas_shared.{specs.Ruled.{alone, joined, looks_in, parts_in, seen_in, all_but_last, last_alone, AreEarlier, SeesAll}, proofs.Ruling.splits_last}
+use Rattle.pas_shared.proofs.Ruling.{looks}
 
 -- there is a first word
 pub some_word : (region : SharedRegion) → 0 < region.table.shared.table_id.words

@@ -1,14 +1,12 @@
 -- The table and the passes at the opening.
 use Rattle.std.proofs.Common.{◌≡◌, ℕ, suc, zero, ◌+◌, All, List, [], ◌∷◌, ◌++◌, length, refl, sym, ap, subst, ◌∙◌, arith, append_assoc, slice_index}
 use mathlib.Core.Option.{some-injective, some-ne-none}
-use Rattle.atomic_table.specs.{Seated.TableId, Table.Me, Table.Splits}
-use Rattle.pas_profile.specs.{Layouts.index_of, Layouts.words_of, Layouts.opening, Profiles.IsWordOf, Rooms.EventRoom}
-use Rattle.pas_profile.specs.declared.{profile.Profile.Profile, word.Word.Word}
+use Rattle.atomic_table.specs.{Seated.TableId, Table.{Me, Splits}}
+use Rattle.pas_profile.specs.{Layouts.{index_of, words_of, opening}, Profiles.IsWordOf, Rooms.EventRoom, declared.{profile.Profile.Profile, word.Word.Word}}
 use Rattle.pas_steps.specs.Views.{View}
-use Rattle.pas_shared.specs.declared.{rule.Roster.Roster, rule.Roster.TheVariants.Unused, pass.SharedPass.SharedPass}
-use Rattle.pas_shared.specs.Ruled.{Names, all_but_first, first_alone, AreNamed, AllKnow, AreAfterOneList, Holds}
-use Rattle.pas_shared.specs.Passes.{IsOfTable, IsFresh, AreFresh}
-use Rattle.pas_shared.proofs.Ruling.{Apart, SawOf, RowsOf, splits}
+use Rattle.pas_shared.specs.{declared.{rule.Roster.{Roster, TheVariants.Unused}, pass.SharedPass.SharedPass}, Ruled.{Names, all_but_first, first_alone}}
+use Rattle.pas_shared.{specs.{Ruled.{AreNamed, AllKnow, AreAfterOneList, Holds}, Passes.{IsOfTable, IsFresh, AreFresh}}, proofs.Ruling.{Apart, SawOf, RowsOf}}
+use Rattle.pas_shared.proofs.Ruling.{splits}
 
 -- of the one seat
 know_one : (P : Roster → Type 0) (w : Roster) → P w → AllKnow P (w ∷ [])

@@ -1,7 +1,6 @@
 -- Elements that move from one list to another.
-use Rattle.std.proofs.Common.{◌≡◌, ◌∙◌, suc, List, [], ◌∷◌, ◌++◌, map, refl, ap, sym, subst, arith, append_assoc}
-use Rattle.std.specs.List.{All}
-use Rattle.std.proofs.lemmas.List.Elements.{All-append, All-cons, All-nil}
+use Rattle.std.proofs.{Common.{◌≡◌, ◌∙◌, suc, List, [], ◌∷◌, ◌++◌, map, refl, ap, sym, subst, arith, append_assoc}, lemmas.List.Elements.{All-append, All-cons}}
+use Rattle.std.{proofs.lemmas.List.Elements.All-nil, specs.List.All}
 
 -- one more at the end
 pub all_more : {A : Type 0} (P : A → Type 0) (xs ys : List A) (x : A) → ys ≡ xs ++ x ∷ [] → All P xs → P x → All P ys

@@ -1,34 +1,25 @@
 -- The rule of the shared words, step by step and at the close.
 use Rattle.std.proofs.Common.{◌==◌, eqb-true, List, [], ◌∷◌, ◌++◌, sym, subst, ◌≡◌, ◌≢◌, ◌⊎◌, inl, inr, ⊎_elim, ℕ, suc, zero, ◌+◌, ◌<◌, ◌≤◌, length, set, Bool}
 use Rattle.std.proofs.Common.{true, false, eqb, eq-eqb, ne_eqb, refl, ap, ◌∙◌, arith, if◌then◌else◌, get_or, append-nil, slice_index, slice_set}
-use Rattle.pas_profile.specs.{Profiles.IsValid, Layouts.index_of, Layouts.words_of, Profiles.IsWordOf}
-use Rattle.pas_profile.specs.declared.{event.Event.Event, profile.Profile.Profile, word.Word.Word}
-use Rattle.pas_machine.specs.Machine.{Run}
-use Rattle.pas_steps.specs.{Views.known_deed, Views.View, Views.epoch_of, Effects.target, Effects.new_value, Desks.made, Desks.triple, Desks.triples}
-use Rattle.pas_steps.specs.{States.profile_of, States.word_in}
-use Rattle.pas_steps.specs.Lists.{Triple, Whole, Legal, part, visible, word_after}
-use Rattle.pas_core.proofs.MachineRuns.{runs, agrees, in_one_place, lists_borne}
-use Rattle.pas_core.proofs.{Offers.parked_is_owed, Offers.empty_is_minded, Deeds.known_is, Choosing.step_taken, Choosing.step_passed, Choosing.steps_by_one}
-use Rattle.pas_core.proofs.Lives.{life_is_known, ends_stamped, unstamped_is_held, stamp_known, epoch_known}
-use Rattle.pas_core.proofs.Rights.{right_in_one_place, free_without_deed, free_known, deeds_known, backed_known}
-use Rattle.pas_shared.specs.{Kept.IsGood, Kept.NoneIsEarly, Left.IsLeftBy, Pasts.HasOwn, Pasts.StandsAfter}
-use Rattle.std.proofs.lemmas.{Bool.cases_eq, Bool.false_from_ne_true, List.set-get_or, List.Elements.All-weaker, List.append_cancel_right}
-use Rattle.atomic_table.specs.Seated.{TableId}
-use Rattle.atomic_table.specs.Table.{Me, Act, keeps, Valid, stepped, carried_after, Allows, Splits, Joins, Final, Seen, Enters}
-use Rattle.atomic_table.proofs.Lists.{at_set, set_again}
+use Rattle.std.{proofs.lemmas.{Bool.{cases_eq, false_from_ne_true}, List.{set-get_or, Elements.All-weaker, append_cancel_right}}, specs.List.All}
+use Rattle.pas_profile.specs.{Profiles.{IsValid, IsWordOf}, Layouts.{index_of, words_of}, declared.{event.Event.Event, profile.Profile.Profile, word.Word.Word}}
 use Rattle.pas_profile.proofs.Places.{index_lt}
-use Rattle.pas_steps.specs.declared.{step.Step.Step, step.Made.Made, state.State.State}
-use Rattle.pas_steps.proofs.{Parts.part_of_own, Parts.part_of_others, Running.target_of_region}
-use Rattle.pas_core.specs.{Orders.with_step, WordLists.AreWordsAfter}
-use Rattle.pas_core.proofs.Nexts.{legal_next, agrees_next, with_step_own, with_step_others, one_order_next, words_next}
-use Rattle.pas_shared.specs.declared.{exchange.Change.Change, rule.Entry.Entry, rule.Part.Part, rule.Roster.Roster, rule.Row.Row, pass.SharedPass.SharedPass}
-use Rattle.pas_shared.specs.declared.rule.Roster.TheVariants.{Unused, Listed, Settled, Benched}
+use Rattle.pas_machine.specs.Machine.{Run}
+use Rattle.pas_steps.specs.{Views.{known_deed, View, epoch_of}, Effects.{target, new_value}, Desks.{made, triple, triples}, States.{profile_of, word_in}}
+use Rattle.pas_steps.specs.{Lists.{Triple, Whole, Legal, part, visible, word_after}, declared.{step.{Step.Step, Made.Made}, state.State.State}}
+use Rattle.pas_steps.proofs.{Parts.{part_of_own, part_of_others}, Running.target_of_region}
+use Rattle.pas_core.proofs.{MachineRuns.{runs, agrees, in_one_place, lists_borne}, Offers.{parked_is_owed, empty_is_minded}, Deeds.known_is}
+use Rattle.pas_core.proofs.{Choosing.{step_taken, step_passed, steps_by_one}, Lives.{life_is_known, ends_stamped, unstamped_is_held, stamp_known, epoch_known}}
+use Rattle.pas_core.proofs.{Rights.{right_in_one_place, free_without_deed, free_known, deeds_known, backed_known}, Nexts.{legal_next, agrees_next}}
+use Rattle.pas_core.{proofs.Nexts.{with_step_own, with_step_others, one_order_next, words_next}, specs.{Orders.with_step, WordLists.AreWordsAfter}}
+use Rattle.pas_shared.specs.{Kept.{IsGood, NoneIsEarly}, Left.IsLeftBy, Pasts.{HasOwn, StandsAfter}, declared.{exchange.Change.Change, rule.Entry.Entry}}
+use Rattle.pas_shared.specs.declared.{rule.{Part.Part, Roster.{Roster, TheVariants.{Unused, Listed, Settled, Benched}}, Row.Row}, pass.SharedPass.SharedPass}
 use Rattle.pas_shared.specs.Ruled.{HasPart, Names, alone, first_alone, all_but_first, joined, AreNamed, AreAfterOneList, Holds, changed, IsAskedOf, IsAdded}
 use Rattle.pas_shared.specs.Ruled.{Makes, IsAddedIfKept, parts_in, looks_in, first_look, steps_of, seen_in, SawNothing, IsEarlier, AreEarlier, AreApart}
 use Rattle.pas_shared.specs.Ruled.{AllKnow, SeesAll, among, made_in, SitsIn, HasRow, entries_by, rows_of, rows_in, IsNoBench, IsRowOf, AreRowsOf, SitsFor}
-use Rattle.pas_shared.specs.Ruled.{row_with, with_made, bases_in}
-use Rattle.std.specs.List.{All}
-use Rattle.pas_shared.specs.Passes.{view_of, seat_of, IsNamed, AreWordsOf}
+use Rattle.pas_shared.specs.{Ruled.{row_with, with_made, bases_in}, Passes.{view_of, seat_of, IsNamed, AreWordsOf}}
+use Rattle.atomic_table.specs.{Seated.TableId, Table.{Me, Act, keeps, Valid, stepped, carried_after, Allows, Splits, Joins, Final, Seen, Enters}}
+use Rattle.atomic_table.proofs.Lists.{at_set, set_again}
 use prog.Atomic.{either}
 use mathlib.Core.Option.{some, some-injective, some-ne-none}
 use lib.ListN.{get_elem?}

@@ -1,14 +1,12 @@
 -- What benches show, their members, and what a region comes to that is closed with one.
 use Rattle.std.specs.Prelude.{◌≡◌, ℕ, true, List, [], ◌∷◌, ◌++◌}
-use Rattle.pas_profile.specs.Profiles.{IsWordOf}
-use Rattle.pas_profile.specs.declared.{profile.Profile.Profile, word.Word.Word}
-use Rattle.pas_steps.specs.{Views.View, Desks.Seat, Desks.Standing, States.profile_of as the_profile_of, States.word_in, Noted.AreNotesOf, Noted.room_of_notes}
-use Rattle.pas_steps.specs.Lists.{Whole, Legal, part, word_after}
-use Rattle.pas_steps.specs.declared.state.State.{State}
+use Rattle.pas_profile.specs.{Profiles.IsWordOf, declared.{profile.Profile.Profile, word.Word.Word}}
+use Rattle.pas_steps.specs.{Views.View, Desks.{Seat, Standing}, States.{profile_of as the_profile_of, word_in}, Noted.{AreNotesOf, room_of_notes}, Lists.Whole}
+use Rattle.pas_steps.specs.{Lists.{Legal, part, word_after}, declared.state.State.State}
 use Rattle.pas_core.specs.Orders.{steps_by}
-use Rattle.pas_shared.specs.Ruled.{among, made_in, rows_in, all_actors, steps_of, AreRowsOf}
-use Rattle.pas_shared.specs.declared.{rule.Entry.Entry, rule.Row.Row, region.SharedRegion.SharedRegion, pass.SharedPass.SharedPass, bench.Bench.Bench}
-use Rattle.pas_shared.specs.declared.{bench.Member.Member, bench_desk.BenchHome.BenchHome}
+use Rattle.pas_shared.specs.{Ruled.{among, made_in, rows_in, all_actors, steps_of, AreRowsOf}, declared.rule.{Entry.Entry, Row.Row}}
+use Rattle.pas_shared.specs.declared.{region.SharedRegion.SharedRegion, pass.SharedPass.SharedPass, bench.{Bench.Bench, Member.Member}}
+use Rattle.pas_shared.specs.declared.bench_desk.BenchHome.{BenchHome}
 
 -- ---- rows
 -- nobody sits in it, and no step was made before

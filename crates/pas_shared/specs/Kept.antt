@@ -3,11 +3,10 @@ use Rattle.std.specs.Prelude.{ℕ, ◌≡◌, ◌≢◌, ◌+◌, ◌/◌, ◌%�
 use Rattle.pas_bits.specs.Bits.{has_bit}
 use Rattle.pas_profile.specs.declared.{event.Event.Event, profile.Profile.Profile, word.Word.Word}
 use Rattle.pas_machine.specs.{Machine.Run, Laws.AreBorne, State.epoch_in}
-use Rattle.pas_steps.specs.{Allowed.HoldsOn, Effects.free_word_at, Effects.life_word_at}
-use Rattle.pas_steps.specs.Views.{known_deed, known_free, knows_backed, known_life, known_stamp, epoch_of, is_unstamped}
-use Rattle.pas_steps.specs.Lists.{Whole, part, visible, word_after}
-use Rattle.pas_core.specs.{Good.IsInOnePlace, Good.AgreesWithWords, Hints.IsEmptyBacked, Hints.IsMinded, Stamps.EachEnd, Stamps.IsStampedOr}
-use Rattle.pas_core.specs.Rights.{IsRightInOnePlace, parked_bit, IsUsableFree, IsOwed}
+use Rattle.pas_steps.specs.{Allowed.HoldsOn, Effects.{free_word_at, life_word_at}, Views.{known_deed, known_free, knows_backed, known_life, known_stamp}}
+use Rattle.pas_steps.specs.{Views.{epoch_of, is_unstamped}, Lists.{Whole, part, visible, word_after}}
+use Rattle.pas_core.specs.{Good.{IsInOnePlace, AgreesWithWords}, Hints.{IsEmptyBacked, IsMinded}, Stamps.{EachEnd, IsStampedOr}, Rights.IsRightInOnePlace}
+use Rattle.pas_core.specs.Rights.{parked_bit, IsUsableFree, IsOwed}
 
 -- what each actor knows is so, whatever the others did since
 pub record KnowsTruly (l : Whole) : Type 0 where

@@ -1,12 +1,10 @@
 -- What a ledger has, and what a region comes to that is closed with one.
 use Rattle.std.specs.Prelude.{◌≡◌, List, []}
 use Rattle.pas_profile.specs.declared.profile.Profile.{Profile}
-use Rattle.pas_steps.specs.Lists.{Whole}
-use Rattle.pas_steps.specs.declared.state.State.{State}
-use Rattle.pas_shared.specs.Ruled.{parts_in, looks_in, seen_in, IsEarlier}
-use Rattle.pas_shared.specs.Passes.{view_of, EndsWith}
-use Rattle.pas_shared.specs.declared.{rule.Entry.Entry, rule.Part.Part, rule.Roster.TheVariants.Listed, region.SharedRegion.SharedRegion}
-use Rattle.pas_shared.specs.declared.{pass.SharedPass.SharedPass, ledger.Ledger.Ledger, ledger.Rest.Rest}
+use Rattle.pas_steps.specs.{Lists.Whole, declared.state.State.State}
+use Rattle.pas_shared.specs.{Ruled.{parts_in, looks_in, seen_in, IsEarlier}, Passes.{view_of, EndsWith}, declared.rule.{Entry.Entry, Part.Part}}
+use Rattle.pas_shared.specs.declared.{rule.Roster.TheVariants.Listed, region.SharedRegion.SharedRegion, pass.SharedPass.SharedPass, ledger.Ledger.Ledger}
+use Rattle.pas_shared.specs.declared.ledger.Rest.{Rest}
 
 -- the steps that stand in it, the newest first
 abbrev pub so_far : Ledger → Whole

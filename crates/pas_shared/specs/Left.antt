@@ -2,12 +2,9 @@
 use Rattle.std.specs.Prelude.{◌≡◌, ℕ, ◌+◌, ◌-◌, ◌*◌, ◌<◌, List, get_or, slice_index}
 use mathlib.Core.Option.{some}
 use lib.ListN.{get_elem?}
-use Rattle.pas_profile.specs.{Layouts.index_of, Profiles.IsWordOf}
-use Rattle.pas_profile.specs.declared.{profile.Profile.Profile, word.Word.Word}
-use Rattle.pas_steps.specs.States.{profile_of, word_in}
-use Rattle.pas_steps.specs.declared.state.State.{State}
-use Rattle.pas_shared.specs.Ruled.{AreAfterOneList}
-use Rattle.pas_shared.specs.declared.rule.Roster.{Roster}
+use Rattle.pas_profile.specs.{Layouts.index_of, Profiles.IsWordOf, declared.{profile.Profile.Profile, word.Word.Word}}
+use Rattle.pas_steps.specs.{States.{profile_of, word_in}, declared.state.State.State}
+use Rattle.pas_shared.specs.{Ruled.AreAfterOneList, declared.rule.Roster.Roster}
 
 -- the state has the words of the table, which held its rule when the seat had this view
 pub record IsLeftBy (f : Profile) (view : Roster) (state : State) : Type 0 where

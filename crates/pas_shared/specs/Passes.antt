@@ -1,14 +1,11 @@
 -- What a pass and a desk show, and what a closed region comes to.
 use Rattle.std.specs.Prelude.{◌≡◌, ℕ, ◌+◌, List, [], ◌∷◌, All}
 use Rattle.atomic_table.specs.Seated.{TableId}
-use Rattle.pas_profile.specs.{Profiles.IsWordOf, Rooms.size_of_room, Rooms.EventRoom}
-use Rattle.pas_profile.specs.declared.{profile.Profile.Profile, word.Word.Word}
-use Rattle.pas_steps.specs.{Views.View, Desks.Seat, Desks.Standing, States.profile_of as the_profile_of, States.word_in, Noted.room_of_notes}
-use Rattle.pas_steps.specs.Lists.{Whole, part, word_after, Legal}
-use Rattle.pas_steps.specs.declared.state.State.{State}
-use Rattle.pas_shared.specs.Ruled.{view_in, parts_in, HasPart}
-use Rattle.pas_shared.specs.declared.{rule.Roster.Roster, region.SharedRegion.SharedRegion, region.Opening.Opening, pass.SharedPass.SharedPass}
-use Rattle.pas_shared.specs.declared.{desk.SharedDesk.SharedDesk}
+use Rattle.pas_profile.specs.{Profiles.IsWordOf, Rooms.{size_of_room, EventRoom}, declared.{profile.Profile.Profile, word.Word.Word}}
+use Rattle.pas_steps.specs.{Views.View, Desks.{Seat, Standing}, States.{profile_of as the_profile_of, word_in}, Noted.room_of_notes, Lists.{Whole, part}}
+use Rattle.pas_steps.specs.{Lists.{word_after, Legal}, declared.state.State.State}
+use Rattle.pas_shared.specs.{Ruled.{view_in, parts_in, HasPart}, declared.{rule.Roster.Roster, region.{SharedRegion.SharedRegion, Opening.Opening}}}
+use Rattle.pas_shared.specs.declared.{pass.SharedPass.SharedPass, desk.SharedDesk.SharedDesk}
 
 abbrev pub profile_of : SharedRegion → Profile
 profile_of region = region.profile

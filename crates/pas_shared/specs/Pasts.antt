@@ -1,8 +1,7 @@
 -- What a past tells, and what stands behind it.
 use Rattle.std.specs.Prelude.{◌≡◌, ℕ, ◌++◌}
-use Rattle.pas_steps.specs.{Views.View, Lists.Whole, Lists.part}
-use Rattle.pas_shared.specs.Ledgers.{so_far, IsLedgerOf}
-use Rattle.pas_shared.specs.declared.{region.SharedRegion.SharedRegion, past.Past.Past}
+use Rattle.pas_steps.specs.{Views.View, Lists.{Whole, part}}
+use Rattle.pas_shared.specs.{Ledgers.{so_far, IsLedgerOf}, declared.{region.SharedRegion.SharedRegion, past.Past.Past}}
 
 -- the steps of all actors that stand in it: the first ones of the list of all, the newest of them first
 abbrev pub told : Past → Whole

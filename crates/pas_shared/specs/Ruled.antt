@@ -1,18 +1,15 @@
 -- The rule of the table: its words are those after one legal list, and what the seats know is the own list of each actor.
-use Rattle.std.specs.Prelude.{◌≡◌, ◌≢◌, ◌⊎◌, ℕ, ◌+◌, ◌≤◌, ◌==◌, max, Bool, true, false, if◌then◌else◌, List, [], ◌∷◌, ◌++◌, bit_and, bit_or}
-use Rattle.std.specs.Int.{bit_not, w64}
+use Rattle.std.specs.{Prelude.{◌≡◌, ◌≢◌, ◌⊎◌, ℕ, ◌+◌, ◌≤◌, ◌==◌, max, Bool, true, false, if◌then◌else◌, List, [], ◌∷◌, ◌++◌, bit_and, bit_or}, Int.bit_not}
+use Rattle.std.specs.Int.{w64}
 use mathlib.Core.Option.{some}
 use lib.ListN.{get_elem?}
 use Rattle.atomic_table.specs.Table.{State, Me}
-use Rattle.pas_profile.specs.Profiles.{IsValid}
-use Rattle.pas_profile.specs.declared.profile.Profile.{Profile}
-use Rattle.pas_steps.specs.{Views.View, Views.epoch_of, Effects.new_value, Allowed.Allowed, Allowed.IsStepOf, Agreement.Agrees, Lists.Whole, Lists.Legal}
-use Rattle.pas_steps.specs.{Lists.part, Desks.made, Desks.triple}
-use Rattle.pas_steps.specs.declared.step.{Made.Made, Step.Step}
-use Rattle.pas_core.specs.{Orders.IsOneOrder, Orders.steps_by, WordLists.AreWordsAfter}
-use Rattle.pas_shared.specs.declared.{exchange.Change.Change, exchange.Change.TheVariants.Raise, exchange.Change.TheVariants.Set}
-use Rattle.pas_shared.specs.declared.{exchange.Change.TheVariants.Clear, rule.Entry.Entry, rule.Part.Part, rule.Roster.Roster, rule.Row.Row}
-use Rattle.pas_shared.specs.declared.rule.Roster.TheVariants.{Unused, Listed, Settled, Benched}
+use Rattle.pas_profile.specs.{Profiles.IsValid, declared.profile.Profile.Profile}
+use Rattle.pas_steps.specs.{Views.{View, epoch_of}, Effects.new_value, Allowed.{Allowed, IsStepOf}, Agreement.Agrees, Lists.{Whole, Legal, part}, Desks.made}
+use Rattle.pas_steps.specs.{Desks.triple, declared.step.{Made.Made, Step.Step}}
+use Rattle.pas_core.specs.{Orders.{IsOneOrder, steps_by}, WordLists.AreWordsAfter}
+use Rattle.pas_shared.specs.declared.{exchange.Change.{Change, TheVariants.{Raise, Set, Clear}}, rule.{Entry.Entry, Part.Part, Roster.Roster}}
+use Rattle.pas_shared.specs.declared.rule.{Roster.TheVariants.{Unused, Listed, Settled, Benched}, Row.Row}
 
 -- ---- which actors a seat names
 abbrev pub HasPart : List Part → ℕ → View → Type 0

@@ -1,7 +1,6 @@
 -- What a worker at a shared region has before and after its part of a job.
 use Rattle.std.specs.Prelude.{Option, IsSome, IfSome}
-use Rattle.pas_shared.specs.Passes.{IsPassOf}
-use Rattle.pas_shared.specs.declared.{region.SharedRegion.SharedRegion, pass.SharedPass.SharedPass, workers.Worker.Worker}
+use Rattle.pas_shared.specs.{Passes.IsPassOf, declared.{region.SharedRegion.SharedRegion, pass.SharedPass.SharedPass, workers.Worker.Worker}}
 
 -- the worker has a pass of the region, with which it may do its part
 pub record IsReady {W : Type 0} (allowed : SharedRegion → W → SharedPass → Type 0) (region : SharedRegion) (worker : Worker W) : Type 0 where

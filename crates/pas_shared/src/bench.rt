@@ -4,8 +4,7 @@
 //! thread may have meanwhile.
 ghost use Rattle.std.specs.Prelude.{◌≡◌, ◌≤◌, []};
 ghost use Rattle.pas_profile.specs.Profiles.{IsValid};
-ghost use Rattle.pas_shared.specs.Ruled.{rows_in};
-ghost use Rattle.pas_shared.specs.declared.rule.Roster.TheVariants.{Benched};
+ghost use Rattle.pas_shared.specs.{Ruled.rows_in, declared.rule.Roster.TheVariants.Benched};
 
 use crate::leaving::leave;
 use crate::pass::{ActorSeat, SharedPass};
@@ -63,9 +62,9 @@ impl Member {
 
 impl Bench {
     ghost use Rattle.std.specs.Prelude.{◌∷◌, ◌++◌, true};
-    ghost use Rattle.pas_shared.specs.Ruled.{alone, among, only_this, isnt, made_in, rows_of, rows_of_only};
-    ghost use Rattle.pas_shared.specs.{Passes.IsPassOf, Passes.seat_of, Passes.view_of, Ledgers.part_of};
-    ghost use Rattle.pas_shared.specs.Benches.{rows_on, empty_row, IsBenchOf, IsMemberOf, HasLooked, IsFreshRow, first_row, SitsInRow, seat_of_member};
+    ghost use Rattle.pas_shared.specs.{Ruled.{alone, among, only_this, isnt, made_in, rows_of, rows_of_only}, Passes.{IsPassOf, seat_of, view_of}};
+    ghost use Rattle.pas_shared.specs.{Ledgers.part_of, Benches.{rows_on, empty_row, IsBenchOf, IsMemberOf, HasLooked, IsFreshRow, first_row, SitsInRow}};
+    ghost use Rattle.pas_shared.specs.Benches.{seat_of_member};
 
     /// A bench of the region on which nobody sits. One load.
     pub fn open(region: &SharedRegion) -> Bench

@@ -56,8 +56,8 @@ impl SharedRegion {
 
 impl BenchPlace {
     ghost use Rattle.std.specs.Prelude.{◌+◌, ◌≤◌, length};
-    ghost use Rattle.pas_steps.specs.{Allowed.IsStepOf, Allowed.Allowed, Agreement.Agrees, Events.wants, Desks.made, Noted.events_noted};
-    ghost use Rattle.pas_shared.specs.{Ruled.row_with, Benches.made_by, Benches.seat_of_member};
+    ghost use Rattle.pas_steps.specs.{Allowed.{IsStepOf, Allowed}, Agreement.Agrees, Events.wants, Desks.made, Noted.events_noted};
+    ghost use Rattle.pas_shared.specs.{Ruled.row_with, Benches.{made_by, seat_of_member}};
 
     /// Makes a step at the region, whatever actors of other seats do meanwhile, and notes it.
     #[inline(always)]
@@ -125,10 +125,9 @@ impl<'a> BenchDesk<'a> {
 }
 
 impl<'a> Desk for BenchDesk<'a> {
-    ghost use Rattle.std.specs.Prelude.{◌+◌, ◌-◌, ◌^◌, false, [], length, min, reverse};
-    ghost use Rattle.std.proofs.Common.{refl, ap, sym, ◌∙◌};
-    ghost use Rattle.std.proofs.{lemmas.Bool.false≢true, lemmas.List.length-reverse, Math.Nat.sub-add_cancel};
-    ghost use Rattle.pas_steps.specs.{Events.events_of, Noted.events_noted, Noted.room_of_notes, Noted.count_of_notes};
+    ghost use Rattle.std.{specs.Prelude.{◌+◌, ◌-◌, ◌^◌, false, [], length, min, reverse}, proofs.{Common.{refl, ap, sym, ◌∙◌}, lemmas.Bool.false≢true}};
+    ghost use Rattle.std.proofs.{lemmas.List.length-reverse, Math.Nat.sub-add_cancel};
+    ghost use Rattle.pas_steps.specs.{Events.events_of, Noted.{events_noted, room_of_notes, count_of_notes}};
     ghost use Rattle.pas_shared.specs.Benches.{home_of, standing_on};
 
     type Home = BenchHome;

@@ -1,10 +1,8 @@
 //! The words of a region whose actors have all risen.
-ghost use Rattle.std.specs.Prelude.{◌≡◌, ◌+◌, ◌-◌, ◌*◌, ◌<◌, ◌≤◌, ℕ, [], length, get_or, All};
+ghost use Rattle.std.specs.{Prelude.{◌≡◌, ◌+◌, ◌-◌, ◌*◌, ◌<◌, ◌≤◌, ℕ, [], length, get_or, All}, Slots.{slots_items, slots_len, IsFull}};
 ghost use Rattle.pas_profile.specs.Layouts.{words_of};
-ghost use Rattle.std.specs.Slots.{slots_items, slots_len, IsFull};
-ghost use Rattle.pas_shared.specs.{Ruled.joined, Ruled.seen_in, Ruled.IsNoBench, Passes.IsPassOf, Passes.IsNamed, Passes.EndsWith, Ledgers.IsLedgerOf};
-ghost use Rattle.pas_shared.specs.{Ledgers.so_far, Ledgers.EndsAfter, Pasts.IsPastOf, Pasts.told, Left.IsLeftBy, Left.IsAsOpened, Benches.rows_on};
-ghost use Rattle.pas_shared.specs.{Benches.IsBenchOf, Benches.EndsOnBench};
+ghost use Rattle.pas_shared.specs.{Ruled.{joined, seen_in, IsNoBench}, Passes.{IsPassOf, IsNamed, EndsWith}, Ledgers.{IsLedgerOf, so_far, EndsAfter}};
+ghost use Rattle.pas_shared.specs.{Pasts.{IsPastOf, told}, Left.{IsLeftBy, IsAsOpened}, Benches.{rows_on, IsBenchOf, EndsOnBench}};
 
 use crate::bench::Bench;
 use crate::ledger::Ledger;

@@ -43,10 +43,9 @@ impl<'a> SharedDesk<'a> {
 }
 
 impl<'a> Desk for SharedDesk<'a> {
-    ghost use Rattle.std.specs.Prelude.{◌+◌, ◌-◌, ◌^◌, false, [], length, min, reverse};
-    ghost use Rattle.std.proofs.Common.{refl, ap, sym, ◌∙◌};
-    ghost use Rattle.std.proofs.{lemmas.Bool.false≢true, lemmas.List.length-reverse, Math.Nat.sub-add_cancel};
-    ghost use Rattle.pas_steps.specs.{Events.events_of, Noted.events_noted, Noted.room_of_notes, Noted.count_of_notes};
+    ghost use Rattle.std.{specs.Prelude.{◌+◌, ◌-◌, ◌^◌, false, [], length, min, reverse}, proofs.{Common.{refl, ap, sym, ◌∙◌}, lemmas.Bool.false≢true}};
+    ghost use Rattle.std.proofs.{lemmas.List.length-reverse, Math.Nat.sub-add_cancel};
+    ghost use Rattle.pas_steps.specs.{Events.events_of, Noted.{events_noted, room_of_notes, count_of_notes}};
     ghost use Rattle.pas_shared.specs.Passes.{standing_of, seat_of};
 
     type Home = SharedRegion;

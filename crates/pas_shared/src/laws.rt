@@ -1,11 +1,9 @@
 //! What holds of a shared region, whichever threads its actors run in. Each law is the contract of an empty function.
 ghost use Rattle.std.specs.Prelude.{ℕ, List};
-ghost use Rattle.pas_profile.specs.Profiles.{IsValid};
-ghost use Rattle.pas_profile.specs.declared.profile.Profile.{Profile};
-ghost use Rattle.pas_steps.specs.declared.state.State.{State};
-ghost use Rattle.pas_steps.specs.Lists.{visible};
-ghost use Rattle.pas_shared.specs.declared.{rule.Roster.Roster, pass.SharedPass.SharedPass};
-ghost use Rattle.pas_shared.specs.{Kept.IsGood, Kept.NoneIsEarly, Passes.EndsWith, Ruled.AreAfterOneList};
+ghost use Rattle.pas_profile.specs.{Profiles.IsValid, declared.profile.Profile.Profile};
+ghost use Rattle.pas_steps.specs.{declared.state.State.State, Lists.visible};
+ghost use Rattle.pas_shared.specs.{declared.{rule.Roster.Roster, pass.SharedPass.SharedPass}, Kept.{IsGood, NoneIsEarly}, Passes.EndsWith};
+ghost use Rattle.pas_shared.specs.Ruled.{AreAfterOneList};
 
 /// Between any two steps of any actors the words are those after one legal list, whose part of each actor is that actor's own list: that is
 /// the rule of the table. After such a list each grain and each right is in one place, what each actor knows is true, no end of a block

@@ -1,7 +1,6 @@
 //! An actor that leaves a bench.
 ghost use Rattle.std.specs.Prelude.{◌≡◌, [], true};
-ghost use Rattle.pas_shared.specs.Ruled.{rows_in, among, left_of, only_this, leaver_of};
-ghost use Rattle.pas_shared.specs.Benches.{first_row, IsFreshRow};
+ghost use Rattle.pas_shared.specs.{Ruled.{rows_in, among, left_of, only_this, leaver_of}, Benches.{first_row, IsFreshRow}};
 ghost use Rattle.pas_shared.specs.declared.rule.Roster.TheVariants.{Benched};
 
 use crate::region::SharedRegion;

@@ -1,8 +1,7 @@
 //! A ledger of the steps of all actors. Whoever has all passes in hand, so that nobody sits at the region, can settle it: then it has all steps so far, and those that
 //! come later stand behind them.
 ghost use Rattle.std.specs.Prelude.{◌≡◌, []};
-ghost use Rattle.pas_shared.specs.Ruled.{looks_in, parts_in};
-ghost use Rattle.pas_shared.specs.declared.rule.Roster.TheVariants.{Settled};
+ghost use Rattle.pas_shared.specs.{Ruled.{looks_in, parts_in}, declared.rule.Roster.TheVariants.Settled};
 
 use crate::bench::Bench;
 use crate::pass::{ActorSeat, SharedPass};
@@ -29,10 +28,9 @@ pub struct Rest {
 
 impl Ledger {
     ghost use Rattle.std.specs.Prelude.{List, ◌∷◌, ◌++◌};
-    ghost use Rattle.pas_shared.specs.Ruled.{bases_in, HasAllOf, IsEarlier, AreEarlier};
-    ghost use Rattle.pas_shared.specs.{Benches.rows_on, Benches.IsBenchOf, Passes.IsPassOf};
-    ghost use Rattle.pas_shared.specs.Ledgers.{so_far, looks_of, actors_in, part_of, IsLedgerOf, IsSameLedger, IsRestOf};
-    ghost use Rattle.pas_shared.specs.declared.{rule.Part.Part, pass.SharedPass.SharedPass as ThePass};
+    ghost use Rattle.pas_shared.specs.{Ruled.{bases_in, HasAllOf, IsEarlier, AreEarlier}, Benches.{rows_on, IsBenchOf}, Passes.IsPassOf, Ledgers.so_far};
+    ghost use Rattle.pas_shared.specs.{Ledgers.{looks_of, actors_in, part_of, IsLedgerOf, IsSameLedger, IsRestOf}, declared.rule.Part.Part};
+    ghost use Rattle.pas_shared.specs.declared.pass.SharedPass.{SharedPass as ThePass};
 
     /// A ledger of the region in which no step stands. One load.
     pub fn open(region: &SharedRegion) -> Ledger

@@ -1,8 +1,7 @@
 //! How a region is opened for all its actors.
 ghost use Rattle.std.specs.Prelude.{◌≡◌, ◌+◌, ◌<◌, ◌≤◌, [], All, IfOk, length, vec_len};
 ghost use Rattle.pas_profile.specs.{Profiles.IsValid, Rooms.shown};
-ghost use Rattle.pas_shared.specs.Ruled.{alone};
-ghost use Rattle.pas_shared.specs.Passes.{profile_of, profile_of_opening, IsPassOf, IsFresh, AreFresh, AreFreshOf};
+ghost use Rattle.pas_shared.specs.{Ruled.alone, Passes.{profile_of, profile_of_opening, IsPassOf, IsFresh, AreFresh, AreFreshOf}};
 ghost use Rattle.pas_shared.specs.declared.rule.Roster.TheVariants.{Unused};
 
 use crate::pass::{ActorSeat, SharedPass};

@@ -60,7 +60,7 @@ impl ActorSeat {
 }
 
 impl SharedPass {
-    ghost use Rattle.pas_steps.specs.{Allowed.IsStepOf, Allowed.Allowed, Agreement.Agrees, Events.wants, Desks.made};
+    ghost use Rattle.pas_steps.specs.{Allowed.{IsStepOf, Allowed}, Agreement.Agrees, Events.wants, Desks.made};
     ghost use Rattle.pas_shared.specs.Passes.{IsPassOf, seat_of, view_of};
 
     /// The actor.

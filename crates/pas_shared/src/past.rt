@@ -17,7 +17,7 @@ pub struct Past {
 }
 
 impl Past {
-    ghost use Rattle.pas_shared.specs.{Ruled.IsEarlier, Pasts.told, Pasts.IsPastOf};
+    ghost use Rattle.pas_shared.specs.{Ruled.IsEarlier, Pasts.{told, IsPastOf}};
 
     /// A past in which no step stands. One load.
     pub fn nothing(region: &SharedRegion) -> Past
@@ -49,7 +49,7 @@ impl Past {
 }
 
 impl ActorSeat {
-    ghost use Rattle.pas_shared.specs.{Ruled.view_in, Ruled.IsEarlier, Ledgers.so_far, Ledgers.IsLedgerOf, Pasts.HasOwn};
+    ghost use Rattle.pas_shared.specs.{Ruled.{view_in, IsEarlier}, Ledgers.{so_far, IsLedgerOf}, Pasts.HasOwn};
 
     /// Writes all steps so far into the ledger, and with them those of the actor. Five loads.
     fn look(&mut self, region: &SharedRegion, ledger: &mut Ledger)
@@ -72,7 +72,7 @@ impl ActorSeat {
 }
 
 impl SharedPass {
-    ghost use Rattle.pas_shared.specs.{Ruled.IsEarlier, Passes.IsPassOf, Passes.seat_of, Passes.view_of, Pasts.told, Pasts.IsPastOf, Pasts.HasOwn};
+    ghost use Rattle.pas_shared.specs.{Ruled.IsEarlier, Passes.{IsPassOf, seat_of, view_of}, Pasts.{told, IsPastOf, HasOwn}};
 
     /// A past that has all steps which the actor made so far. Six loads.
     pub fn past(&mut self, region: &SharedRegion) -> Past
@@ -102,7 +102,7 @@ impl SharedPass {
 }
 
 impl<'a> SharedDesk<'a> {
-    ghost use Rattle.pas_shared.specs.{Ruled.IsEarlier, Passes.seat_of, Passes.view_of, Pasts.told, Pasts.IsPastOf, Pasts.HasOwn};
+    ghost use Rattle.pas_shared.specs.{Ruled.IsEarlier, Passes.{seat_of, view_of}, Pasts.{told, IsPastOf, HasOwn}};
 
     /// As `SharedPass::past`.
     pub fn past(&mut self) -> Past

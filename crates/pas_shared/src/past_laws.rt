@@ -1,7 +1,7 @@
 //! What a past comes to. The law is the contract of an empty function.
 ghost use Rattle.std.specs.Prelude.{◌≡◌, ◌++◌, ℕ};
-ghost use Rattle.pas_steps.specs.{Views.View, Lists.Whole, Lists.part};
-ghost use Rattle.pas_shared.specs.{Ruled.IsEarlier, Pasts.HasOwn, Pasts.StandsAfter};
+ghost use Rattle.pas_steps.specs.{Views.View, Lists.{Whole, part}};
+ghost use Rattle.pas_shared.specs.{Ruled.IsEarlier, Pasts.{HasOwn, StandsAfter}};
 
 /// What was done before a past was told stands before all that the actor does who took it. Whatever list goes on from the past that
 /// an actor got when its own list was `v`, as that of the close does: its first steps are those of the past, and what the actor made

@@ -1,7 +1,6 @@
 //! The region that the actors share.
 ghost use Rattle.std.specs.Prelude.{◌≡◌, [], slice_index, vec_len};
-ghost use Rattle.pas_profile.specs.{Layouts.index_of, Layouts.opening, Layouts.words_of, Profiles.IsValid, Profiles.IsWordOf};
-ghost use Rattle.pas_profile.specs.declared.word.Word.{Word};
+ghost use Rattle.pas_profile.specs.{Layouts.{index_of, opening, words_of}, Profiles.{IsValid, IsWordOf}, declared.word.Word.Word};
 ghost use Rattle.pas_shared.specs.declared.rule.Roster.TheVariants.{Unused};
 
 use crate::rule::{OneList, Roster, TableSeat};

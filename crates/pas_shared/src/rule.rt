@@ -48,8 +48,7 @@ pub enum Roster {
 pub struct OneList;
 
 impl TableRule<(), Roster, Profile> for OneList {
-    ghost use Rattle.pas_shared.specs.Ruled.{Holds};
-    ghost use Rattle.pas_shared.specs.declared.rule.Roster.TheVariants.{Unused};
+    ghost use Rattle.pas_shared.specs.{Ruled.Holds, declared.rule.Roster.TheVariants.Unused};
 
     ghost holds = { λ f s. Holds f s };
 
@@ -64,8 +63,7 @@ pub(crate) type TableSeat = Seat<(), Roster>;
 pub(crate) trait Chosen {
     ghost use Rattle.std.specs.Prelude.{ℕ};
     ghost use Rattle.pas_profile.specs.declared.profile.Profile.{Profile};
-    ghost use Rattle.pas_steps.specs.declared.step.Step.{Step};
-    ghost use Rattle.pas_steps.specs.Views.{View};
+    ghost use Rattle.pas_steps.specs.{declared.step.Step.Step, Views.View};
     ghost use Rattle.pas_shared.specs.declared.rule.Roster.{Roster};
 
     ghost profile: { Profile };
@@ -133,8 +131,7 @@ pub(crate) struct JoinsBoth;
 
 impl Join<Roster> for JoinsBoth {
     ghost use Rattle.std.specs.Prelude.{[]};
-    ghost use Rattle.pas_shared.specs.declared.rule.Roster.TheVariants.{Listed};
-    ghost use Rattle.pas_shared.specs.Ruled.{joined};
+    ghost use Rattle.pas_shared.specs.{declared.rule.Roster.TheVariants.Listed, Ruled.joined};
 
     ghost both = { joined };
 

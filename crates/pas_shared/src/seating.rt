@@ -1,6 +1,6 @@
 //! A shared region that nobody used yet, all of whose actors have the same room.
 ghost use Rattle.std.specs.Prelude.{◌≡◌, ◌+◌, [], All, IfOk, vec_len};
-ghost use Rattle.pas_profile.specs.{Profiles.IsValid, Rooms.shown, Rooms.size_of_room};
+ghost use Rattle.pas_profile.specs.{Profiles.IsValid, Rooms.{shown, size_of_room}};
 ghost use Rattle.pas_shared.specs.Passes.{profile_of, IsFreshPass};
 
 use crate::pass::SharedPass;

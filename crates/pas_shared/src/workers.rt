@@ -1,8 +1,6 @@
 //! Workers at a shared region: each sits down there, does its part of a job and rises, in a thread of its own.
 ghost use Rattle.std.specs.Prelude.{◌≡◌, ◌<◌, ℕ, Some, All, IfOk, length, map, get_or};
-ghost use Rattle.pas_shared.specs.Passes.{IsPassOf};
-ghost use Rattle.pas_shared.specs.Workers.{IsReady, HasPass, HasRisen, pass_of, work_of};
-ghost use Rattle.pas_shared.specs.declared.workers.Worker.{Worker as TheWorker};
+ghost use Rattle.pas_shared.specs.{Passes.IsPassOf, Workers.{IsReady, HasPass, HasRisen, pass_of, work_of}, declared.workers.Worker.Worker as TheWorker};
 
 use crate::desk::SharedDesk;
 use crate::pass::SharedPass;

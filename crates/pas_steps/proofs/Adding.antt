@@ -1,9 +1,8 @@
 -- How the steps of a call are put together.
 use Rattle.std.proofs.Common.{◌≡◌, ℕ, ◌+◌, ◌≤◌, List, [], ◌∷◌, ◌++◌, length, refl, ap, sym, ◌∙◌, subst, arith, append_assoc}
 use Rattle.pas_profile.specs.declared.profile.Profile.{Profile}
-use Rattle.pas_steps.specs.declared.step.{Made.Made, Step.Step}
-use Rattle.pas_steps.specs.{Views.View, Events.events_of, Allowed.Allowed, Allowed.IsStepOf, Agreement.Agrees, Agreement.Agreed, Lists.Whole, Lists.Legal}
-use Rattle.pas_steps.specs.Desks.{Standing, made, triple, triples, CanMake, Makes, CanCall, Adds}
+use Rattle.pas_steps.specs.{declared.step.{Made.Made, Step.Step}, Views.View, Events.events_of, Allowed.{Allowed, IsStepOf}, Agreement.{Agrees, Agreed}}
+use Rattle.pas_steps.specs.{Lists.{Whole, Legal}, Desks.{Standing, made, triple, triples, CanMake, Makes, CanCall, Adds}}
 
 -- ---- steps of one actor, put onto a whole list
 pub triples_append : (k : ℕ) (ys xs : List Made) (l : Whole) → triples k ys ++ (triples k xs ++ l) ≡ triples k (ys ++ xs) ++ l

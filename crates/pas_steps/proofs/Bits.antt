@@ -1,8 +1,6 @@
 -- Tests of all numbers below a bound, and a word without a bit.
-use Rattle.std.proofs.Common.{◌≡◌, ℕ, ◌^◌, ◌<◌, Bool, true, false, refl, ◌∙◌, arith, sym, eqb-true}
-use Rattle.std.specs.{Int.bit_at, Bool.Decides}
-use Rattle.std.proofs.lemmas.Bool.{eqb-false, Decides.Decides-below_and}
-use Rattle.std.proofs.lemmas.Nat.Bits.{same_from_bits_below, bit_at-zero, bit_at-lt, bit_at_ones}
+use Rattle.std.proofs.{Common.{◌≡◌, ℕ, ◌^◌, ◌<◌, Bool, true, false, refl, ◌∙◌, arith, sym, eqb-true}, lemmas.Bool.{eqb-false, Decides.Decides-below_and}}
+use Rattle.std.{proofs.lemmas.Nat.Bits.{same_from_bits_below, bit_at-zero, bit_at-lt, bit_at_ones}, specs.{Int.bit_at, Bool.Decides}}
 use Rattle.pas_bits.specs.Bits.{has_bit}
 use Rattle.pas_steps.specs.Views.{all_below, all_ones}
 

@@ -1,12 +1,9 @@
 -- Calls put together: no step, one more step, one more call, and what may come next.
 use Rattle.std.proofs.Common.{arith, ◌≡◌, ℕ, true, List, [], ◌∷◌, ◌++◌, append_assoc}
 use Rattle.pas_profile.specs.declared.directory.Directory.{Directory}
-use Rattle.pas_steps.specs.{Agreement.Agrees, Allowed.Allowed, Allowed.IsStepOf, Calls.Effect, Calls.Does, Calls.Calls, Views.View, Views.KnowsDeed}
-use Rattle.pas_steps.specs.Desks.{Standing, made, Makes, CanMake, CanCall}
-use Rattle.pas_steps.specs.Kinds.{Kinds, kind_of, is_in, apart, changing}
-use Rattle.pas_steps.specs.declared.step.{Made.Made, Step.Step}
-use Rattle.pas_steps.proofs.Adding.{agreed_first, agreed_later, adds_none, adds_step, adds_call, adds_under, can_step, can_call}
-use Rattle.pas_steps.proofs.Frames.{knows_still}
+use Rattle.pas_steps.specs.{Agreement.Agrees, Allowed.{Allowed, IsStepOf}, Calls.{Effect, Does, Calls}, Views.{View, KnowsDeed}, Desks.{Standing, made, Makes}}
+use Rattle.pas_steps.specs.{Desks.{CanMake, CanCall}, Kinds.{Kinds, kind_of, is_in, apart, changing}, declared.step.{Made.Made, Step.Step}}
+use Rattle.pas_steps.proofs.{Adding.{agreed_first, agreed_later, adds_none, adds_step, adds_call, adds_under, can_step, can_call}, Frames.knows_still}
 use Rattle.pas_steps.proofs.Calls.{leads_none, leads_as, leads_at, does_then, does_idly}
 
 -- A call of no step does what holds between each view and itself.

@@ -1,12 +1,9 @@
 -- What readings say of the view, and of later steps of the call.
 use Rattle.std.proofs.Common.{arith, ◌≡◌, ◌≢◌, ℕ, ◌==◌, false, if◌then◌else◌, List, [], ◌∷◌, ◌++◌, inl, inr, refl, ap, sym, ◌∙◌, eq-eqb}
-use Rattle.pas_profile.specs.Directories.{deed_word_of}
-use Rattle.pas_profile.specs.declared.{directory.Directory.Directory, profile.Profile.Profile}
-use Rattle.pas_steps.specs.{Agreement.Agrees, Agreement.Agreed, Desks.made, Past.Once}
-use Rattle.pas_steps.specs.Evidence.{ReadsDeed, ZeroHere, DeedHere, NoDeedHere}
-use Rattle.pas_steps.specs.Views.{View, has_right, known_deed, KnowsDeed}
-use Rattle.pas_steps.specs.declared.step.{Made.Made, Step.Step, Step.TheVariants.Deed}
-use Rattle.pas_steps.proofs.{Frames.right_own, Frames.deed_stays, Past.once_earlier}
+use Rattle.pas_profile.specs.{Directories.deed_word_of, declared.{directory.Directory.Directory, profile.Profile.Profile}}
+use Rattle.pas_steps.specs.{Agreement.{Agrees, Agreed}, Desks.made, Past.Once, Evidence.{ReadsDeed, ZeroHere, DeedHere, NoDeedHere}, Views.{View, has_right}}
+use Rattle.pas_steps.{specs.{Views.{known_deed, KnowsDeed}, declared.step.{Made.Made, Step.{Step, TheVariants.Deed}}}, proofs.Frames.{right_own, deed_stays}}
+use Rattle.pas_steps.proofs.Past.{once_earlier}
 
 -- a page that was read as having no deed isn't known to have one
 read_unknown : (f : Profile) (v : View) (p : ℕ) (s : Step) (a : ℕ) → ReadsDeed p s → Agrees f v s a → a ≡ 0 → known_deed v p ≢ 0 → ⊥

@@ -1,23 +1,17 @@
 -- What steps leave as it was.
 use Rattle.std.proofs.Common.{◌≡◌, ℕ, ◌≤◌, Bool, true, false, ◌&&◌, List, [], ◌∷◌, ◌++◌, length, Option, refl, ap, sym, ◌∙◌, subst, arith, append_assoc, ◌%◌}
-use Rattle.std.proofs.Common.{if◌then◌else◌, ◌==◌, true≢false, ◌+◌, eqb-true, ◌≢◌, ◌*◌, ◌/◌, ◌<◌, ne_eqb}
+use Rattle.std.proofs.{Common.{if◌then◌else◌, ◌==◌, true≢false, ◌+◌, eqb-true, ◌≢◌, ◌*◌, ◌/◌, ◌<◌, ne_eqb}, lemmas.Bool.{and_parts, and_right, cond-false}}
+use Rattle.std.{proofs.lemmas.Bool.{and_from, Decides.{nat_tests, Decides-below_or}}, specs.Bool.Decides}
 use Rattle.pas_bits.specs.Bits.{has_bit}
-use Rattle.pas_profile.specs.declared.{event.Event.Event, directory.Directory.Directory, profile.Profile.Profile, word.Word.Word}
-use Rattle.pas_steps.specs.declared.step.{Made.Made, Step.Step}
-use Rattle.pas_steps.specs.declared.step.Step.TheVariants.{Deed, TakeRight, Offer, Park, Unpark, Look}
-use Rattle.pas_profile.specs.Directories.{number_of}
-use Rattle.pas_steps.specs.Views.{View, Way, way, Rests, ByDeed, FromOffer, FromParked, ToOffer, ToParked, had_after, right_after, has_right, epoch_of}
-use Rattle.pas_steps.specs.Views.{given_after, given_count, Stays, grain_move, held_after, holds, deed_after, deed_after_look, known_deed, KnowsDeed}
-use Rattle.pas_steps.specs.Views.{check_after, hint_after, examined_after, examines, any_below, holds_on, backed_after, backed_after_look, knows_backed}
-use Rattle.pas_steps.specs.Events.{event_of, with_event, events_of, events_by}
-use Rattle.pas_steps.specs.{Past.Always, Effects.in_mask, Agreement.Agrees, Agreement.Agreed}
-use Rattle.pas_steps.specs.Frames.{GivesUp, KeepsRight, IsOnPage, IsReturn, IsRead, IsScan, OnlyOn, OnlyReturns, OnlyReads, OnlyScans, IsLook, AreLooks}
-use Rattle.pas_steps.specs.Frames.{unbacks}
-use Rattle.std.proofs.lemmas.Bool.{and_parts, and_right, cond-false, and_from}
+use Rattle.pas_profile.specs.{declared.{event.Event.Event, directory.Directory.Directory, profile.Profile.Profile, word.Word.Word}, Directories.number_of}
 use Rattle.pas_profile.proofs.Codecs.{deed_word_of-positive}
-use Rattle.pas_steps.proofs.{Flags.ends_none, Flags.stays_set, Past.always_map}
-use Rattle.std.proofs.lemmas.Bool.Decides.{nat_tests, Decides-below_or}
-use Rattle.std.specs.Bool.{Decides}
+use Rattle.pas_steps.specs.{declared.step.{Made.Made, Step.{Step, TheVariants.{Deed, TakeRight, Offer, Park, Unpark, Look}}}, Views.{View, Way, way, Rests}}
+use Rattle.pas_steps.specs.Views.{ByDeed, FromOffer, FromParked, ToOffer, ToParked, had_after, right_after, has_right, epoch_of, given_after, given_count}
+use Rattle.pas_steps.specs.Views.{Stays, grain_move, held_after, holds, deed_after, deed_after_look, known_deed, KnowsDeed, check_after, hint_after}
+use Rattle.pas_steps.specs.{Views.{examined_after, examines, any_below, holds_on, backed_after, backed_after_look, knows_backed}, Events.{event_of, with_event}}
+use Rattle.pas_steps.specs.{Events.{events_of, events_by}, Past.Always, Effects.in_mask, Agreement.{Agrees, Agreed}, Frames.{GivesUp, KeepsRight, IsOnPage}}
+use Rattle.pas_steps.{specs.Frames.{IsReturn, IsRead, IsScan, OnlyOn, OnlyReturns, OnlyReads, OnlyScans, IsLook, AreLooks, unbacks}, proofs.Flags.ends_none}
+use Rattle.pas_steps.proofs.{Flags.stays_set, Past.always_map}
 
 -- ---- events
 pub with_append : (o : Option Event) (xs ys : List Event) → with_event o (xs ++ ys) ≡ with_event o xs ++ ys

@@ -1,8 +1,7 @@
 -- An actor that has nothing: before its first step, and after calls that change nothing of what it holds, has and owes.
 use Rattle.std.proofs.Common.{[], refl, ◌∙◌, List}
-use Rattle.pas_steps.specs.{Calls.nothing, Calls.Does, Calls.Calls, Clear.IsClear, Clear.HasNothing, Desks.Standing, Desks.CanCall, Views.View}
-use Rattle.pas_steps.specs.declared.step.Made.{Made}
-use Rattle.pas_steps.proofs.{Called.call_as, Called.next_call, Calls.still_clear}
+use Rattle.pas_steps.specs.{Calls.{nothing, Does, Calls}, Clear.{IsClear, HasNothing}, Desks.{Standing, CanCall}, Views.View, declared.step.Made.Made}
+use Rattle.pas_steps.proofs.{Called.{call_as, next_call}, Calls.still_clear}
 
 -- an actor that made no step has nothing
 pub nothing_yet : HasNothing []

@@ -1,14 +1,10 @@
 -- Notes after one more step.
 use Rattle.std.proofs.Common.{◌≡◌, ℕ, ◌+◌, ◌-◌, ◌^◌, min, List, [], ◌∷◌, ◌++◌, length, drop, reverse, Option, None, Some, ap, ◌∙◌, sym, subst, arith}
-use Rattle.std.proofs.Common.{append-nil, append_assoc, length-append}
+use Rattle.std.proofs.{Common.{append-nil, append_assoc, length-append}, lemmas.List.{reverse-append, length-reverse}, Math.Seq.drop-append_seam}
 use Rattle.std.specs.Option.{option_to_list}
-use Rattle.std.proofs.{lemmas.List.reverse-append, lemmas.List.length-reverse, Math.Seq.drop-append_seam}
-use Rattle.pas_profile.specs.declared.event.Event.{Event}
-use Rattle.pas_profile.specs.Rooms.{shown}
-use Rattle.pas_steps.specs.{Events.event_of, Events.events_of, Events.with_event, Desks.made}
-use Rattle.pas_steps.specs.Views.{View, epoch_after, epoch_of, known_epoch, or_zero}
-use Rattle.pas_steps.specs.declared.{step.Step.Step, notes.Notes.Notes}
-use Rattle.pas_steps.specs.Noted.{events_noted, count_of_notes, epoch_noted, AreNotesOf, IsNoted, ShowsRest}
+use Rattle.pas_profile.specs.{declared.event.Event.Event, Rooms.shown}
+use Rattle.pas_steps.specs.{Events.{event_of, events_of, with_event}, Desks.made, Views.{View, epoch_after, epoch_of, known_epoch, or_zero}}
+use Rattle.pas_steps.specs.{declared.{step.Step.Step, notes.Notes.Notes}, Noted.{events_noted, count_of_notes, epoch_noted, AreNotesOf, IsNoted, ShowsRest}}
 
 shown_next : (o : Option Event) (shown es : List Event) → shown ≡ reverse es → shown ++ option_to_list o ≡ reverse (with_event o es)
 shown_next None shown es h = append-nil shown ∙ h

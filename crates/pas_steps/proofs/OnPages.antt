@@ -1,13 +1,11 @@
 -- The words of a region that stand in memory page by page: at the opening, as more pages come, and after a write.
 use Rattle.std.proofs.Common.{◌≡◌, ℕ, zero, suc, ◌+◌, ◌-◌, ◌*◌, ◌^◌, ◌<◌, ◌≤◌, Bool, true, false, if◌then◌else◌, List, [], ◌∷◌, ◌++◌, length, get_or, replicate}
-use Rattle.std.proofs.Common.{slice_index, slice_set, refl, ap, sym, ◌∙◌, arith, eq-eqb, get_or-set_same, get_or-set_other, vec_len}
-use Rattle.std.proofs.{Math.Nat.mul_comm, lemmas.Bool.and_from, lemmas.List.get_or-replicate, lemmas.Nat.mul-add-lt, lemmas.Nat.same_from_place}
-use Rattle.pas_profile.specs.Profiles.{vector_words, IsWordIn}
-use Rattle.pas_profile.specs.Layouts.{opening, same_word, word_minor, word_major}
-use Rattle.pas_profile.specs.declared.word.{Layout.Layout, Word.Word}
+use Rattle.std.proofs.{Common.{slice_index, slice_set, refl, ap, sym, ◌∙◌, arith, eq-eqb, get_or-set_same, get_or-set_other, vec_len}, Math.Nat.mul_comm}
+use Rattle.std.proofs.lemmas.{Bool.and_from, List.get_or-replicate, Nat.{mul-add-lt, same_from_place}}
+use Rattle.pas_profile.specs.{Profiles.{vector_words, IsWordIn}, Layouts.{opening, same_word, word_minor, word_major}, declared.word.{Layout.Layout, Word.Word}}
 use Rattle.pas_profile.proofs.Places.{same_word-true}
-use Rattle.pas_steps.specs.{Paged.no_lives, Paged.opening_page, Paged.value_in, States.IsUnusedAbove, Keeping.kept_value, States.profile_of}
-use Rattle.pas_steps.specs.declared.{state.Kept.Kept, state.State.State, paged.PageWords.PageWords, paged.PagedWords.PagedWords}
+use Rattle.pas_steps.specs.{Paged.{no_lives, opening_page, value_in}, States.{IsUnusedAbove, profile_of}, Keeping.kept_value, declared.state.Kept.Kept}
+use Rattle.pas_steps.specs.declared.{state.State.State, paged.{PageWords.PageWords, PagedWords.PagedWords}}
 
 -- ---- at the opening
 zero_at : (n i : ℕ) → slice_index (replicate n 0) i ≡ 0

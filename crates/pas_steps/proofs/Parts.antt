@@ -1,9 +1,7 @@
 -- The part of each actor after steps of one actor, and after every legal list.
 use Rattle.std.proofs.Common.{◌≡◌, ◌≢◌, ℕ, Bool, if◌then◌else◌, List, [], ◌∷◌, ◌++◌, refl, ap, ◌∙◌, ◌==◌, false, subst, eq-eqb, ne_eqb, eqb-true}
 use Rattle.std.proofs.lemmas.Bool.{cond_both}
-use Rattle.pas_steps.specs.Lists.{Whole, part, Triple, Legal}
-use Rattle.pas_steps.specs.{Desks.triples, Views.View}
-use Rattle.pas_steps.specs.declared.step.Made.{Made}
+use Rattle.pas_steps.specs.{Lists.{Whole, part, Triple, Legal}, Desks.triples, Views.View, declared.step.Made.Made}
 use Rattle.pas_profile.specs.declared.profile.Profile.{Profile}
 
 -- an actor's steps go to its own part

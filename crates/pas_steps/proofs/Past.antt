@@ -1,7 +1,6 @@
 -- Steps of the past: what held once, always and since, and steps for each of some things in turn.
 use Rattle.std.proofs.Common.{List, [], ◌∷◌, ◌++◌, inl, inr, ◌≡◌, ℕ, ◌*◌, ◌≤◌, length, ap, ◌∙◌, sym, subst, arith, length-append}
-use Rattle.pas_steps.specs.declared.step.Made.{Made}
-use Rattle.pas_steps.specs.{Past.Once, Past.Always, Past.Since, InTurn.InTurn}
+use Rattle.pas_steps.specs.{declared.step.Made.Made, Past.{Once, Always, Since}, InTurn.InTurn}
 
 -- ==== Once, always and since, over the steps of two calls.
 

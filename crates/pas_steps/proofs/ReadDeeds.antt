@@ -1,8 +1,7 @@
 -- The directory of a deed word that was read.
 use Rattle.std.proofs.Common.{◌≡◌, ℕ, Option, Some, ap, sym, ◌∙◌, subst}
-use Rattle.pas_profile.specs.{Directories.deed_word_of, Directories.directory_read, Profiles.IsValid, Profiles.IsDirectoryOf}
-use Rattle.pas_profile.specs.declared.{directory.Directory.Directory, profile.Profile.Profile}
-use Rattle.pas_profile.proofs.Codecs.{read-deed_word_of, directory_from_profile}
+use Rattle.pas_profile.specs.{Directories.{deed_word_of, directory_read}, Profiles.{IsValid, IsDirectoryOf}, declared.directory.Directory.Directory}
+use Rattle.pas_profile.{specs.declared.profile.Profile.Profile, proofs.Codecs.{read-deed_word_of, directory_from_profile}}
 
 -- The deed word of a page of the profile reads as its directory.
 pub directory_told : (f : Profile) (deed : ℕ) (r : Option Directory) → IsValid f → r ≡ directory_read deed

@@ -1,18 +1,14 @@
 -- The words of a region: that the numbers of a step fit them, that the word of a step is one of them, and what they are after one was written.
 use Rattle.std.proofs.Common.{ℕ, ◌+◌, ◌*◌, ◌/◌, ◌^◌, ◌<◌, ◌≤◌, arith, ◌%◌, ◌≡◌, Bool, true, false, if◌then◌else◌, List, length, sym, slice_index, slice_set}
 use Rattle.std.proofs.Common.{get_or-set_same, get_or-set_other, ◌==◌, [], ◌∷◌, get_or, set, take, Option, None, refl, ap, ◌∙◌, subst, inl, inr, eqb-true}
-use Rattle.std.proofs.Common.{length-append, length-set, length-take-le, take_at, take-take, get_or-take}
-use Rattle.pas_profile.specs.Profiles.{IsValid, vector_words, IsWordOf, IsWordIn}
-use Rattle.pas_profile.specs.declared.{profile.Profile.Profile, word.Word.Word}
-use Rattle.pas_profile.specs.{Blocks.address_of, Layouts.index_of, Layouts.words_of, Layouts.same_word}
-use Rattle.pas_steps.specs.{Allowed.IsStepOf, Allowed.Allowed, Ranges.IsRanged, Effects.target, Effects.new_value, States.profile_of, States.word_in}
-use Rattle.pas_steps.specs.Views.{View, epoch_after, known_epoch, or_zero, epoch_of}
-use Rattle.pas_steps.specs.declared.{step.Step.Step, state.State.State}
-use Rattle.pas_steps.specs.declared.step.Step.TheVariants.{Deed, Give, End, EndSized, TakeRight, Offer, Take, Put, Park, Unpark, Hint, Tick, Unhint}
-use Rattle.pas_profile.proofs.{Codecs.number_lt, Places.same_word-true, Places.index_lt, Places.other_place}
-use Rattle.std.proofs.lemmas.{Bool.eqb-false, Bool.cases_eq, List.take-append-le, List.get_or_at, List.get_or_append_left}
-use Rattle.pas_steps.specs.Lists.{Triple, Whole, part, word_after, IsNext, Legal}
-use Rattle.pas_steps.specs.Runs.{in_order, CanRun, IsOpening, IsAfter, IsStepped}
+use Rattle.std.proofs.{Common.{length-append, length-set, length-take-le, take_at, take-take, get_or-take}, lemmas.Bool.{eqb-false, cases_eq}}
+use Rattle.std.proofs.lemmas.List.{take-append-le, get_or_at, get_or_append_left}
+use Rattle.pas_profile.specs.{Profiles.{IsValid, vector_words, IsWordOf, IsWordIn}, declared.{profile.Profile.Profile, word.Word.Word}, Blocks.address_of}
+use Rattle.pas_profile.{specs.Layouts.{index_of, words_of, same_word}, proofs.{Codecs.number_lt, Places.{same_word-true, index_lt, other_place}}}
+use Rattle.pas_steps.specs.{Allowed.{IsStepOf, Allowed}, Ranges.IsRanged, Effects.{target, new_value}, States.{profile_of, word_in}, Views.{View, epoch_after}}
+use Rattle.pas_steps.specs.{Views.{known_epoch, or_zero, epoch_of}, declared.step.Step.{Step, TheVariants.{Deed, Give, End, EndSized, TakeRight, Offer, Take}}}
+use Rattle.pas_steps.specs.{declared.{step.Step.TheVariants.{Put, Park, Unpark, Hint, Tick, Unhint}, state.State.State}, Lists.{Triple, Whole, part}}
+use Rattle.pas_steps.specs.{Lists.{word_after, IsNext, Legal}, Runs.{in_order, CanRun, IsOpening, IsAfter, IsStepped}}
 
 -- ==== The numbers in a step of a region fit the words that they go into.
 

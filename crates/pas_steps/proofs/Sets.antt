@@ -1,9 +1,7 @@
 -- Effects on sets of grains and of pages, one after the other.
-use Rattle.std.proofs.Common.{◌≡◌, ℕ, Bool, true, false, ◌||◌, ◌==◌, if◌then◌else◌, inl, refl, ap, sym, subst, arith}
-use Rattle.pas_steps.specs.Calls.{Fate, Kept, Gained, Lost, later, nothing, put, freed, on_page, ClearAfter, Does, now, grain_fate}
-use Rattle.pas_steps.specs.Views.{View, Gives, Stays}
-use Rattle.pas_steps.proofs.Calls.{does_then, does_as, clear_step}
-use Rattle.std.proofs.Math.Bool.{or_self}
+use Rattle.std.proofs.{Common.{◌≡◌, ℕ, Bool, true, false, ◌||◌, ◌==◌, if◌then◌else◌, inl, refl, ap, sym, subst, arith}, Math.Bool.or_self}
+use Rattle.pas_steps.specs.{Calls.{Fate, Kept, Gained, Lost, later, nothing, put, freed, on_page, ClearAfter, Does, now, grain_fate}, Views.{View, Gives}}
+use Rattle.pas_steps.{specs.Views.Stays, proofs.Calls.{does_then, does_as, clear_step}}
 
 -- Two tests of which each follows from the other are equal.
 pub same_truth : (a b : Bool) → (a ≡ true → b ≡ true) → (b ≡ true → a ≡ true) → a ≡ b

@@ -1,7 +1,6 @@
 -- How the room for events falls.
 use Rattle.std.proofs.Common.{◌≡◌, ℕ, ◌+◌, List, length, arith, length-append}
-use Rattle.pas_steps.specs.declared.step.Made.{Made}
-use Rattle.pas_steps.specs.{Views.View, Events.events_of, Events.events_by, Lists.Whole, Desks.Standing, Desks.CanCall, Desks.Adds}
+use Rattle.pas_steps.specs.{declared.step.Made.Made, Views.View, Events.{events_of, events_by}, Lists.Whole, Desks.{Standing, CanCall, Adds}}
 use Rattle.pas_steps.proofs.Frames.{events_split}
 
 -- the law of a desk on its room

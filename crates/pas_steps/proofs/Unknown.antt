@@ -1,12 +1,9 @@
 -- Pages whose deeds aren't known grow fewer, and the room that is left for their deeds.
 use Rattle.std.proofs.Common.{◌≡◌, ◌≢◌, ℕ, zero, suc, ◌+◌, ◌≤◌, ◌==◌, Bool, if◌then◌else◌, List, ◌++◌, inl, inr, refl, ap, sym, ◌∙◌, arith, eqb-true, ne_eqb}
 use Rattle.std.proofs.lemmas.Bool.{eqb-false, cases_eq}
-use Rattle.pas_profile.specs.Profiles.{IsPage}
-use Rattle.pas_profile.specs.declared.profile.Profile.{Profile}
-use Rattle.pas_steps.specs.{Views.View, Views.known_deed, Agreement.Agreed}
-use Rattle.pas_steps.specs.Unknown.{KnowsAllDeeds, unknown_here, unknown_below, unknown_pages, HasRoom}
-use Rattle.pas_steps.specs.declared.step.Made.{Made}
-use Rattle.pas_steps.proofs.Frames.{deed_stays}
+use Rattle.pas_profile.specs.{Profiles.IsPage, declared.profile.Profile.Profile}
+use Rattle.pas_steps.specs.{Views.{View, known_deed}, Agreement.Agreed, Unknown.{KnowsAllDeeds, unknown_here, unknown_below, unknown_pages, HasRoom}}
+use Rattle.pas_steps.{specs.declared.step.Made.Made, proofs.Frames.deed_stays}
 
 abbrev one_if : Bool → ℕ
 one_if t = if t then 1 else 0

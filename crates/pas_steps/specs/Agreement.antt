@@ -3,15 +3,12 @@
 -- One definition by cases, kind by kind and word by word.
 use Rattle.std.specs.Prelude.{ℕ, ◌+◌, ◌*◌, ◌/◌, ◌%◌, ◌^◌, ◌<◌, ◌≤◌, ◌≡◌, ◌≢◌, true, false, List, [], ◌∷◌, ◌++◌, Some}
 use Rattle.pas_bits.specs.{Bits.has_bit, Runs.in_run}
-use Rattle.pas_profile.specs.{Directories.deed_word_of, Directories.deed_word_numbered, Directories.number_of, Profiles.IsPage, Profiles.IsDirectoryOf}
-use Rattle.pas_profile.specs.{Blocks.grain_of}
-use Rattle.pas_profile.specs.Lives.{live_word, is_live, turn_of, grains_of}
-use Rattle.pas_profile.specs.declared.{profile.Profile.Profile, directory.Directory.Directory, name.Name.Name, word.Word.Word}
+use Rattle.pas_profile.specs.{Directories.{deed_word_of, deed_word_numbered, number_of}, Profiles.{IsPage, IsDirectoryOf}, Blocks.grain_of, Lives.live_word}
+use Rattle.pas_profile.specs.{Lives.{is_live, turn_of, grains_of}, declared.{profile.Profile.Profile, directory.Directory.Directory, name.Name.Name}}
+use Rattle.pas_profile.specs.declared.word.Word.{Word}
 use Rattle.pas_steps.specs.Views.{View, holds, has_right, known_deed, known_free, knows_backed, known_life, epoch_of, known_stamp, ReadLive, ReadBacked}
-use Rattle.pas_steps.specs.Views.{EndedOn, EndedOnBoth}
-use Rattle.pas_steps.specs.declared.step.{Step.Step, Made.Made}
-use Rattle.pas_steps.specs.declared.step.Step.TheVariants.{Look, Deed, Back, Take, Put, Give, End, EndSized, TakeRight, Offer, Park, Unpark, Stamp, Hint, Tick}
-use Rattle.pas_steps.specs.declared.step.Step.TheVariants.{Unback, Unhint}
+use Rattle.pas_steps.specs.{Views.{EndedOn, EndedOnBoth}, declared.step.Step.{Step, TheVariants.{Look, Deed, Back, Take, Put, Give, End, EndSized, TakeRight}}}
+use Rattle.pas_steps.specs.declared.step.{Step.TheVariants.{Offer, Park, Unpark, Stamp, Hint, Tick, Unback, Unhint}, Made.Made}
 
 -- the word is no deed, or the deed of a directory of the profile
 abbrev pub IsDeedWord : Profile → ℕ → Type 0

@@ -1,14 +1,11 @@
 -- Which steps a view allows. It depends on that one view alone.
 use Rattle.std.specs.Prelude.{ℕ, ◌+◌, ◌-◌, ◌*◌, ◌/◌, ◌%◌, ◌^◌, ◌<◌, ◌≤◌, ◌≡◌, ◌≢◌, true, false, Option, None, Some}
-use Rattle.pas_profile.specs.{Lives.turn_of, Profiles.IsPage, Profiles.IsDirectoryOf, Profiles.IsWordOf, Blocks.address_of, Blocks.grain_of, Blocks.length_of}
-use Rattle.pas_profile.specs.declared.{profile.Profile.Profile, directory.Directory.Directory, name.Block.Block, name.Name.Name}
+use Rattle.pas_profile.specs.{Lives.turn_of, Profiles.{IsPage, IsDirectoryOf, IsWordOf}, Blocks.{address_of, grain_of, length_of}}
+use Rattle.pas_profile.specs.declared.{profile.Profile.Profile, directory.Directory.Directory, name.{Block.Block, Name.Name}}
 use Rattle.pas_bits.specs.Runs.{in_run}
-use Rattle.pas_steps.specs.Effects.{in_mask}
-use Rattle.pas_steps.specs.Views.{View, holds, has_right, known_deed, KnowsDeed, knows_backed, known_life, known_epoch, epoch_of, known_stamp, is_unstamped}
-use Rattle.pas_steps.specs.Views.{given_count}
-use Rattle.pas_steps.specs.declared.step.Step.{Step}
-use Rattle.pas_steps.specs.declared.step.Step.TheVariants.{Look, Deed, Back, Take, Put, Give, End, EndSized, TakeRight, Offer, Park, Unpark, Stamp, Hint, Tick}
-use Rattle.pas_steps.specs.declared.step.Step.TheVariants.{Unback, Unhint}
+use Rattle.pas_steps.specs.{Effects.in_mask, Views.{View, holds, has_right, known_deed, KnowsDeed, knows_backed, known_life, known_epoch, epoch_of}}
+use Rattle.pas_steps.specs.{Views.{known_stamp, is_unstamped, given_count}, declared.step.Step.{Step, TheVariants.{Look, Deed, Back, Take, Put, Give, End}}}
+use Rattle.pas_steps.specs.declared.step.Step.TheVariants.{EndSized, TakeRight, Offer, Park, Unpark, Stamp, Hint, Tick, Unback, Unhint}
 
 -- the operands are of the profile
 pub record IsBlockOf (f : Profile) (block : Block) : Type 0 where

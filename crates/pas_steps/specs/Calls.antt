@@ -1,14 +1,11 @@
 -- What a call does to what its actor holds, has and owes. That it still knows each deed that it knew is a law of all steps, and no matter of calls.
 use Rattle.std.specs.Prelude.{ℕ, ◌/◌, ◌≡◌, ◌==◌, Bool, true, false, ◌&&◌, if◌then◌else◌, List, ◌++◌}
-use Rattle.pas_profile.specs.declared.profile.Profile.{Profile}
+use Rattle.pas_profile.specs.{declared.profile.Profile.Profile, Blocks.grain_of}
 use Rattle.pas_bits.specs.Runs.{meets_page}
-use Rattle.pas_profile.specs.Blocks.{grain_of}
-use Rattle.pas_steps.specs.{Agreement.Agreed, Clear.IsClearOn, Desks.Standing, Desks.Adds, Effects.succeeds}
-use Rattle.pas_steps.specs.Views.{View, Move, Stays, Gets, Puts, Gives, Ends, grain_move, holds, Way, Rests, ByDeed, FromOffer, FromParked, ToOffer, ToParked}
-use Rattle.pas_steps.specs.Views.{way, has_right, knows_backed}
-use Rattle.pas_steps.specs.declared.step.{Step.Step, Made.Made}
-use Rattle.pas_steps.specs.declared.step.Step.TheVariants.{Look, Deed, Back, Take, Put, Give, End, EndSized, TakeRight, Offer, Park, Unpark, Stamp, Hint, Tick}
-use Rattle.pas_steps.specs.declared.step.Step.TheVariants.{Unback, Unhint}
+use Rattle.pas_steps.specs.{Agreement.Agreed, Clear.IsClearOn, Desks.{Standing, Adds}, Effects.succeeds, Views.{View, Move, Stays, Gets, Puts, Gives, Ends}}
+use Rattle.pas_steps.specs.Views.{grain_move, holds, Way, Rests, ByDeed, FromOffer, FromParked, ToOffer, ToParked, way, has_right, knows_backed}
+use Rattle.pas_steps.specs.declared.step.Step.{Step, TheVariants.{Look, Deed, Back, Take, Put, Give, End, EndSized, TakeRight, Offer, Park, Unpark, Stamp}}
+use Rattle.pas_steps.specs.declared.step.{Step.TheVariants.{Hint, Tick, Unback, Unhint}, Made.Made}
 
 -- ---- calls
 -- from each view that meets Before, these steps lead to one to which it stands in the relation Change

@@ -1,8 +1,7 @@
 -- What the calls of a desk say.
 use Rattle.std.specs.Prelude.{ℕ, ◌≡◌, List, [], ◌∷◌, ◌++◌}
 use Rattle.pas_profile.specs.declared.profile.Profile.{Profile}
-use Rattle.pas_steps.specs.{Views.View, Allowed.Allowed, Allowed.IsStepOf, Lists.Triple, Lists.Whole, Agreement.Agrees, Agreement.Agreed}
-use Rattle.pas_steps.specs.declared.step.{Step.Step, Made.Made}
+use Rattle.pas_steps.specs.{Views.View, Allowed.{Allowed, IsStepOf}, Lists.{Triple, Whole}, Agreement.{Agrees, Agreed}, declared.step.{Step.Step, Made.Made}}
 
 -- what no step of a desk changes: its actor, the region's profile, and how many events the actor's room holds in all
 pub record Seat : Type 0 where

@@ -1,12 +1,10 @@
 -- What a step does to its one word.
-use Rattle.std.specs.Prelude.{ℕ, ◌+◌, ◌/◌, ◌%◌, ◌==◌, max, Bool, ◌&&◌, if◌then◌else◌, bit_and, bit_or}
-use Rattle.std.specs.Int.{bit_not, w64}
+use Rattle.std.specs.{Prelude.{ℕ, ◌+◌, ◌/◌, ◌%◌, ◌==◌, max, Bool, ◌&&◌, if◌then◌else◌, bit_and, bit_or}, Int.{bit_not, w64}}
 use Rattle.pas_bits.specs.{Bits.has_bit, PageVectors.page_mask}
-use Rattle.pas_profile.specs.{Directories.deed_word_of, Directories.number_of, Lives.live_word, Blocks.grain_of, Blocks.length_of}
-use Rattle.pas_profile.specs.declared.{directory.Directory.Directory, word.Word.Word, name.Name.Name}
-use Rattle.pas_steps.specs.declared.step.Step.{Step}
-use Rattle.pas_steps.specs.declared.step.Step.TheVariants.{Look, Deed, Back, Take, Put, Give, End, EndSized, TakeRight, Offer, Park, Unpark, Stamp, Hint, Tick}
-use Rattle.pas_steps.specs.declared.step.Step.TheVariants.{Unback, Unhint}
+use Rattle.pas_profile.specs.{Directories.{deed_word_of, number_of}, Lives.live_word, Blocks.{grain_of, length_of}, declared.directory.Directory.Directory}
+use Rattle.pas_profile.specs.declared.{word.Word.Word, name.Name.Name}
+use Rattle.pas_steps.specs.declared.step.Step.{Step, TheVariants.{Look, Deed, Back, Take, Put, Give, End, EndSized, TakeRight, Offer, Park, Unpark, Stamp}}
+use Rattle.pas_steps.specs.declared.step.Step.TheVariants.{Hint, Tick, Unback, Unhint}
 
 -- ---- the words of a grain, which is a number of the region: `page * 256 + grain`
 abbrev pub free_word_at : ℕ → Word

@@ -1,11 +1,8 @@
 -- The event of a step, and the events of a view.
 use Rattle.std.specs.Prelude.{ℕ, ◌/◌, ◌==◌, nat_lt, ◌&&◌, if◌then◌else◌, List, [], ◌∷◌, ◌++◌, Option, None, Some}
-use Rattle.pas_profile.specs.Lives.{is_live, turn_of}
-use Rattle.pas_profile.specs.declared.{name.Name.Name, event.Event.Event, event.Why.Why}
-use Rattle.pas_steps.specs.{Views.View, Views.epoch_of, Effects.succeeds}
-use Rattle.pas_steps.specs.declared.step.{Step.Step, Made.Made}
-use Rattle.pas_steps.specs.declared.step.Step.TheVariants.{Look, Deed, Back, Take, Put, Give, End, EndSized, TakeRight, Offer, Park, Unpark, Stamp, Hint, Tick}
-use Rattle.pas_steps.specs.declared.step.Step.TheVariants.{Unback, Unhint}
+use Rattle.pas_profile.specs.{Lives.{is_live, turn_of}, declared.{name.Name.Name, event.{Event.Event, Why.Why}}}
+use Rattle.pas_steps.specs.{Views.{View, epoch_of}, Effects.succeeds, declared.step.Step.{Step, TheVariants.{Look, Deed, Back, Take, Put, Give, End, EndSized}}}
+use Rattle.pas_steps.specs.declared.step.{Step.TheVariants.{TakeRight, Offer, Park, Unpark, Stamp, Hint, Tick, Unback, Unhint}, Made.Made}
 
 -- why the end of a name is refused, from the life word that was read
 abbrev pub reason_of : Name → ℕ → Why

@@ -2,11 +2,9 @@
 -- it. For a page of the directory a reading of its eligible or parked bit counts only where the call hasn't the page's right before that step.
 use Rattle.std.specs.Prelude.{ℕ, ◌+◌, ◌*◌, ◌/◌, ◌%◌, ◌<◌, ◌≤◌, ◌≡◌, ◌≢◌, ◌⊎◌, Bool, true, false, ◌||◌, List, ◌∷◌}
 use Rattle.pas_bits.specs.Bits.{has_bit}
-use Rattle.pas_profile.specs.Directories.{number_of}
-use Rattle.pas_profile.specs.declared.{directory.Directory.Directory, word.Word.Word}
-use Rattle.pas_steps.specs.{Views.holds, Views.has_right, Past.Once, Past.Always, Past.Since, Frames.GivesUp}
-use Rattle.pas_steps.specs.declared.step.{Step.Step, Made.Made}
-use Rattle.pas_steps.specs.declared.step.Step.TheVariants.{Look, Deed, Take, TakeRight}
+use Rattle.pas_profile.specs.{Directories.number_of, declared.{directory.Directory.Directory, word.Word.Word}}
+use Rattle.pas_steps.specs.{Views.{holds, has_right}, Past.{Once, Always, Since}, Frames.GivesUp, declared.step.Step.{Step, TheVariants.{Look, Deed, Take}}}
+use Rattle.pas_steps.specs.declared.step.{Step.TheVariants.TakeRight, Made.Made}
 
 -- ---- what a step reads: the answers of `take_right`, `deed` and `take` are readings too
 -- the eligible bit of the page

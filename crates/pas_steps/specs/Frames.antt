@@ -1,10 +1,8 @@
 -- Kinds of steps that leave much as it was.
 use Rattle.std.specs.Prelude.{ℕ, ◌≢◌, ◌==◌, Bool, false, List, [], ◌∷◌}
 use Rattle.pas_profile.specs.declared.{directory.Directory.Directory, word.Word.Word}
-use Rattle.pas_steps.specs.Past.{Always}
-use Rattle.pas_steps.specs.declared.step.{Step.Step, Made.Made}
-use Rattle.pas_steps.specs.declared.step.Step.TheVariants.{Look, Deed, Back, Take, Put, Give, End, EndSized, TakeRight, Offer, Park, Unpark, Stamp, Hint, Tick}
-use Rattle.pas_steps.specs.declared.step.Step.TheVariants.{Unback, Unhint}
+use Rattle.pas_steps.specs.{Past.Always, declared.step.Step.{Step, TheVariants.{Look, Deed, Back, Take, Put, Give, End, EndSized, TakeRight, Offer, Park}}}
+use Rattle.pas_steps.specs.declared.step.{Step.TheVariants.{Unpark, Stamp, Hint, Tick, Unback, Unhint}, Made.Made}
 
 abbrev pub IsLook : Step → Type 0
 IsLook (Look word) = Unit {0}

@@ -1,9 +1,7 @@
 -- How a region at rest keeps its words.
 use Rattle.std.specs.Prelude.{ℕ, slice_index}
-use Rattle.pas_profile.specs.Layouts.{index_of}
-use Rattle.pas_profile.specs.declared.word.{Layout.Layout, Word.Word}
-use Rattle.pas_steps.specs.Paged.{value_in}
-use Rattle.pas_steps.specs.declared.{row.WordRow.WordRow, state.Kept.Kept}
+use Rattle.pas_profile.specs.{Layouts.index_of, declared.word.{Layout.Layout, Word.Word}}
+use Rattle.pas_steps.specs.{Paged.value_in, declared.{row.WordRow.WordRow, state.Kept.Kept}}
 
 -- for how many pages and heaps they are kept
 abbrev pub layout_of : Kept → Layout

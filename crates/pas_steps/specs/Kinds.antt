@@ -1,10 +1,8 @@
 -- Kinds of steps, and sets of kinds. What a crate's calls may do is a set, and what they leave as it was follows from the set by computing.
 use Rattle.std.specs.Prelude.{ℕ, ◌≡◌, ◌==◌, Bool, true, false, not, ◌&&◌, ◌||◌, List, [], ◌∷◌}
 use Rattle.pas_profile.specs.declared.word.Word.{Word}
-use Rattle.pas_steps.specs.Past.{Always}
-use Rattle.pas_steps.specs.declared.step.{Step.Step, Made.Made}
-use Rattle.pas_steps.specs.declared.step.Step.TheVariants.{Look, Deed, Back, Take, Put, Give, End, EndSized, TakeRight, Offer, Park, Unpark, Stamp, Hint, Tick}
-use Rattle.pas_steps.specs.declared.step.Step.TheVariants.{Unback, Unhint}
+use Rattle.pas_steps.specs.{Past.Always, declared.step.Step.{Step, TheVariants.{Look, Deed, Back, Take, Put, Give, End, EndSized, TakeRight, Offer, Park}}}
+use Rattle.pas_steps.specs.declared.step.{Step.TheVariants.{Unpark, Stamp, Hint, Tick, Unback, Unhint}, Made.Made}
 
 pub data StepKind : Type 0 where
   LookEpoch : StepKind

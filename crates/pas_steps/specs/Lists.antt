@@ -1,9 +1,7 @@
 -- Lists of steps of all actors, the NEWEST FIRST: the words and the events after them, the part of each actor, and which are legal.
 use Rattle.std.specs.Prelude.{ℕ, ◌≤◌, ◌≡◌, ◌==◌, if◌then◌else◌, List, [], ◌∷◌}
-use Rattle.pas_profile.specs.Layouts.{opening, same_word}
-use Rattle.pas_profile.specs.declared.{profile.Profile.Profile, word.Word.Word, event.Event.Event}
-use Rattle.pas_steps.specs.{Effects.target, Effects.new_value, Views.View, Views.epoch_of, Events.event_of, Events.with_event, Allowed.Allowed}
-use Rattle.pas_steps.specs.{Allowed.IsStepOf}
+use Rattle.pas_profile.specs.{Layouts.{opening, same_word}, declared.{profile.Profile.Profile, word.Word.Word, event.Event.Event}}
+use Rattle.pas_steps.specs.{Effects.{target, new_value}, Views.{View, epoch_of}, Events.{event_of, with_event}, Allowed.{Allowed, IsStepOf}}
 use Rattle.pas_steps.specs.declared.step.Made.{Made}
 
 -- an actor, and a step that it made

@@ -1,11 +1,7 @@
 -- What an actor's notes say of its steps.
-use Rattle.std.specs.Prelude.{ℕ, ◌+◌, ◌-◌, ◌^◌, ◌≡◌, ◌++◌, List, length, min, reverse, Option, None}
-use Rattle.std.specs.Option.{option_to_list}
-use Rattle.pas_profile.specs.Rooms.{shown, size_of_room, EventRoom}
-use Rattle.pas_profile.specs.declared.event.Event.{Event}
-use Rattle.pas_steps.specs.Events.{event_of, events_of}
-use Rattle.pas_steps.specs.Views.{View, known_epoch, epoch_after, or_zero}
-use Rattle.pas_steps.specs.declared.{step.Step.Step, notes.Notes.Notes}
+use Rattle.std.specs.{Prelude.{ℕ, ◌+◌, ◌-◌, ◌^◌, ◌≡◌, ◌++◌, List, length, min, reverse, Option, None}, Option.option_to_list}
+use Rattle.pas_profile.specs.{Rooms.{shown, size_of_room, EventRoom}, declared.event.Event.Event}
+use Rattle.pas_steps.specs.{Events.{event_of, events_of}, Views.{View, known_epoch, epoch_after, or_zero}, declared.{step.Step.Step, notes.Notes.Notes}}
 
 abbrev pub events_noted : Notes → List Event
 events_noted notes = shown notes.room

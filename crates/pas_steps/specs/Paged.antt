@@ -1,7 +1,6 @@
 -- The words of a region, of which those of a page stand in memory once one of them was written.
 use Rattle.std.specs.Prelude.{ℕ, List, ◌+◌, ◌-◌, ◌*◌, ◌^◌, get_or, replicate, slice_index}
-use Rattle.pas_profile.specs.{Profiles.vector_words, Layouts.opening}
-use Rattle.pas_profile.specs.declared.word.Word.{Word}
+use Rattle.pas_profile.specs.{Profiles.vector_words, Layouts.opening, declared.word.Word.Word}
 use Rattle.pas_steps.specs.declared.paged.{PageWords.PageWords, PagedWords.PagedWords}
 
 -- ---- a page

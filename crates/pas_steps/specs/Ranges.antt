@@ -1,9 +1,8 @@
 -- The numbers in a step fit the words that they go into.
 use Rattle.std.specs.Prelude.{◌-◌, ◌/◌, ◌^◌, ◌<◌}
 use Rattle.pas_profile.specs.{Directories.IsDirectory, Blocks.length_of}
-use Rattle.pas_steps.specs.declared.step.Step.{Step}
-use Rattle.pas_steps.specs.declared.step.Step.TheVariants.{Look, Deed, Back, Take, Put, Give, End, EndSized, TakeRight, Offer, Park, Unpark, Stamp, Hint, Tick}
-use Rattle.pas_steps.specs.declared.step.Step.TheVariants.{Unback, Unhint}
+use Rattle.pas_steps.specs.declared.step.Step.{Step, TheVariants.{Look, Deed, Back, Take, Put, Give, End, EndSized, TakeRight, Offer, Park, Unpark, Stamp}}
+use Rattle.pas_steps.specs.declared.step.Step.TheVariants.{Hint, Tick, Unback, Unhint}
 
 abbrev pub IsRanged : Step → Type 0
 IsRanged (Look word) = Unit {0}

@@ -1,9 +1,8 @@
 -- Steps in order, and the state after them.
 use Rattle.std.specs.Prelude.{ℕ, ◌≡◌, List, [], ◌∷◌, ◌++◌, if◌then◌else◌}
-use Rattle.pas_profile.specs.{Layouts.opening, Layouts.same_word, Profiles.IsWordOf}
-use Rattle.pas_profile.specs.declared.{profile.Profile.Profile, word.Word.Word}
-use Rattle.pas_steps.specs.{Effects.target, Effects.new_value, Lists.Whole, Lists.word_after, Lists.Legal, States.profile_of, States.word_in}
-use Rattle.pas_steps.specs.declared.{state.State.State, step.Step.Step}
+use Rattle.pas_profile.specs.{Layouts.{opening, same_word}, Profiles.IsWordOf, declared.{profile.Profile.Profile, word.Word.Word}}
+use Rattle.pas_steps.specs.{Effects.{target, new_value}, Lists.{Whole, word_after, Legal}, States.{profile_of, word_in}, declared.state.State.State}
+use Rattle.pas_steps.specs.declared.step.Step.{Step}
 
 -- the actors of a list and their steps, the OLDEST first
 abbrev pub in_order : Whole → List (ℕ × Step)

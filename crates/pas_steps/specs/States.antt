@@ -1,8 +1,7 @@
 -- What a state says: a region's profile, and the value of each word.
 use Rattle.std.specs.Prelude.{ℕ, ◌≡◌, ◌≤◌, ◌<◌}
 use Rattle.pas_profile.specs.declared.{profile.Profile.Profile, word.Word.Word}
-use Rattle.pas_steps.specs.Keeping.{kept_value}
-use Rattle.pas_steps.specs.declared.state.State.{State}
+use Rattle.pas_steps.specs.{Keeping.kept_value, declared.state.State.State}
 
 abbrev pub profile_of : State → Profile
 profile_of state = state.profile

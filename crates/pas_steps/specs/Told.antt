@@ -1,10 +1,8 @@
 -- What a desk that tells the whole state may be told, without a step: steps that change nothing. And what it knows of its pages' free grains.
 use Rattle.std.specs.Prelude.{ℕ, ◌+◌, ◌*◌, ◌/◌, ◌%◌, ◌<◌, ◌≤◌, ◌≡◌, Bool, true, false, List, ◌++◌, length}
 use Rattle.pas_bits.specs.{Bits.has_bit, Runs.AreFree}
-use Rattle.pas_profile.specs.Profiles.{IsWordOf}
-use Rattle.pas_profile.specs.declared.word.Word.{Word}
-use Rattle.pas_steps.specs.{Views.View, Views.known_epoch, Events.events_of, Lists.Whole, Lists.Legal, Lists.word_after, Desks.Seat, Desks.Standing}
-use Rattle.pas_steps.specs.{Desks.triples}
+use Rattle.pas_profile.specs.{Profiles.IsWordOf, declared.word.Word.Word}
+use Rattle.pas_steps.specs.{Views.{View, known_epoch}, Events.events_of, Lists.{Whole, Legal, word_after}, Desks.{Seat, Standing, triples}}
 use Rattle.pas_steps.specs.declared.step.Made.{Made}
 
 -- ---- words

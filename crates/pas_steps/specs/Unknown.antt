@@ -1,7 +1,6 @@
 -- Pages whose deeds aren't known, and the room that their deeds may take.
 use Rattle.std.specs.Prelude.{ℕ, zero, suc, ◌+◌, ◌≤◌, ◌≢◌, ◌==◌, ◌⊎◌, if◌then◌else◌}
-use Rattle.pas_profile.specs.Profiles.{IsPage}
-use Rattle.pas_profile.specs.declared.profile.Profile.{Profile}
+use Rattle.pas_profile.specs.{Profiles.IsPage, declared.profile.Profile.Profile}
 use Rattle.pas_steps.specs.Views.{View, known_deed}
 
 -- the deed of each page is known

@@ -2,14 +2,11 @@
 -- for each thing one table says what a step does to it, a kind of step a line, and the thing is the table applied step by step.
 use Rattle.std.specs.Prelude.{ℕ, zero, suc, ◌+◌, ◌-◌, ◌*◌, ◌/◌, ◌%◌, ◌^◌, ◌≡◌, ◌==◌, max, bit_and, Bool, true, false, not, ◌&&◌, ◌||◌, if◌then◌else◌, List, []}
 use Rattle.std.specs.Prelude.{◌∷◌, Option, None, Some}
-use Rattle.pas_profile.specs.{Classes.is_usable, Lives.is_live, Lives.turn_of, Lives.grains_of, Blocks.grain_of, Blocks.length_of}
-use Rattle.pas_bits.specs.{Bits.has_bit, Runs.in_run, Runs.meets_page}
-use Rattle.pas_profile.specs.declared.{directory.Directory.Directory, directory.Kind.Kind, word.Word.Word}
-use Rattle.pas_profile.specs.Directories.{deed_word_of, deed_word_numbered, directory_read, number_of}
-use Rattle.pas_steps.specs.{Effects.in_mask, Effects.succeeds, Past.Once}
-use Rattle.pas_steps.specs.declared.step.{Step.Step, Made.Made}
-use Rattle.pas_steps.specs.declared.step.Step.TheVariants.{Look, Deed, Back, Take, Put, Give, End, EndSized, TakeRight, Offer, Park, Unpark, Stamp, Hint, Tick}
-use Rattle.pas_steps.specs.declared.step.Step.TheVariants.{Unback, Unhint}
+use Rattle.pas_profile.specs.{Classes.is_usable, Lives.{is_live, turn_of, grains_of}, Blocks.{grain_of, length_of}, declared.directory.Directory.Directory}
+use Rattle.pas_profile.specs.{declared.{directory.Kind.Kind, word.Word.Word}, Directories.{deed_word_of, deed_word_numbered, directory_read, number_of}}
+use Rattle.pas_bits.specs.{Bits.has_bit, Runs.{in_run, meets_page}}
+use Rattle.pas_steps.specs.{Effects.{in_mask, succeeds}, Past.Once, declared.step.Step.{Step, TheVariants.{Look, Deed, Back, Take, Put, Give, End, EndSized}}}
+use Rattle.pas_steps.specs.declared.step.{Step.TheVariants.{TakeRight, Offer, Park, Unpark, Stamp, Hint, Tick, Unback, Unhint}, Made.Made}
 
 abbrev pub View : Type 0
 View = List Made

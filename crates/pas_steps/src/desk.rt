@@ -1,9 +1,7 @@
 //! One actor's place at a region.
 ghost use Rattle.std.specs.Prelude.{◌≡◌, ◌+◌, ◌-◌, ◌/◌, ◌^◌, ◌<◌, ◌≤◌, Bool, ℕ, true, min, length, List, MatchOption};
-ghost use Rattle.pas_profile.specs.declared.event.Event.{Event};
-ghost use Rattle.pas_profile.specs.Profiles.{IsValid, IsPage, IsWordOf};
-ghost use Rattle.pas_steps.specs.{Views.View, Events.events_of, Events.wants, Lists.Whole, Lists.Legal, Lists.part, Desks.Standing, Desks.CanMake, Desks.Makes};
-ghost use Rattle.pas_steps.specs.{Noted.ShowsRest};
+ghost use Rattle.pas_profile.specs.{declared.event.Event.Event, Profiles.{IsValid, IsPage, IsWordOf}};
+ghost use Rattle.pas_steps.specs.{Views.View, Events.{events_of, wants}, Lists.{Whole, Legal, part}, Desks.{Standing, CanMake, Makes}, Noted.ShowsRest};
 ghost use Rattle.pas_steps.specs.Told.{TellsWord, TookSteps, AreShort, StandsStill};
 
 use crate::step::Step;

@@ -1,9 +1,9 @@
 //! What a step does, as programs that a desk calls.
 ghost use Rattle.std.specs.Prelude.{◌≡◌, ◌<◌, ◌-◌, ◌/◌, ◌^◌};
 ghost use Rattle.pas_steps.specs.Effects.{target as target_word, new_value as the_value, life_word_at as the_life_word_at, ended_word};
+ghost use Rattle.pas_steps.specs.{Views.epoch_after as the_epoch, Ranges.IsRanged, Events.{event_of as the_event, end_event as the_end_event}};
+ghost use Rattle.pas_steps.specs.Events.{sized_event as the_sized_event, reason_of};
 ghost use Rattle.pas_profile.specs.Blocks.{grain_of};
-ghost use Rattle.pas_steps.specs.{Views.epoch_after as the_epoch, Ranges.IsRanged};
-ghost use Rattle.pas_steps.specs.Events.{event_of as the_event, end_event as the_end_event, sized_event as the_sized_event, reason_of};
 
 use crate::step::Step;
 use pas_bits::page_vector::page_mask;

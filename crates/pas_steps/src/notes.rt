@@ -1,6 +1,5 @@
 //! What an actor notes of its own steps.
-ghost use Rattle.std.specs.Prelude.{◌≡◌, ◌≤◌, ◌+◌, ◌++◌, ◌<◌, ◌^◌, [], length};
-ghost use Rattle.std.specs.Option.{option_to_list};
+ghost use Rattle.std.specs.{Prelude.{◌≡◌, ◌≤◌, ◌+◌, ◌++◌, ◌<◌, ◌^◌, [], length}, Option.option_to_list};
 ghost use Rattle.pas_profile.specs.Rooms.{shown, size_of_room};
 
 use crate::effect::{epoch_after, event_of};
@@ -30,8 +29,8 @@ fn record(room: &mut EventRoom, event: Option<Event>)
 
 impl Notes {
     ghost use Rattle.std.specs.Prelude.{◌-◌, min};
-    ghost use Rattle.pas_steps.specs.{Events.wants, Ranges.IsRanged, Views.or_zero};
-    ghost use Rattle.pas_steps.specs.Noted.{notes_for, IsNoted, events_noted, room_of_notes, count_of_notes, epoch_noted};
+    ghost use Rattle.pas_steps.specs.{Events.wants, Ranges.IsRanged, Views.or_zero, Noted.{notes_for, IsNoted, events_noted, room_of_notes, count_of_notes}};
+    ghost use Rattle.pas_steps.specs.Noted.{epoch_noted};
 
     /// Those of an actor that made no step.
     pub fn new(room: EventRoom) -> Notes

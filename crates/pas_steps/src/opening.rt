@@ -1,6 +1,6 @@
 //! The words of a region that nobody used yet.
 ghost use Rattle.std.specs.Prelude.{◌≡◌, ◌+◌, ◌-◌, ◌*◌, ◌/◌, ◌%◌, ◌^◌, ◌<◌, IfOk, slice_index, slice_set, vec_len};
-ghost use Rattle.pas_profile.specs.{Profiles.IsWordIn, Layouts.index_of, Layouts.words_of, Layouts.opening};
+ghost use Rattle.pas_profile.specs.{Profiles.IsWordIn, Layouts.{index_of, words_of, opening}};
 
 use pas_profile::{Layout, NoMemory, Word};
 use std::alloc::Global;

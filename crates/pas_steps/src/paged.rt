@@ -59,8 +59,7 @@ fn zeros(alloc: Global, count: usize) -> Result<Vec<u64>, NoMemory>
 
 impl PagedWords {
     ghost use Rattle.std.specs.Prelude.{◌<◌, if◌then◌else◌, IsTrue, IsFalse};
-    ghost use Rattle.pas_profile.specs.{Profiles.IsWordIn, Layouts.opening, Layouts.same_word};
-    ghost use Rattle.pas_profile.specs.declared.word.Word.{Word as TheWord};
+    ghost use Rattle.pas_profile.specs.{Profiles.IsWordIn, Layouts.{opening, same_word}, declared.word.Word.Word as TheWord};
     ghost use Rattle.pas_steps.specs.Paged.{value_in};
 
     /// The words of a region that nobody used yet. One pass over the deeds and the page vectors.

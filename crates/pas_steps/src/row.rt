@@ -14,8 +14,7 @@ pub struct WordRow {
 
 impl WordRow {
     ghost use Rattle.std.specs.Prelude.{if◌then◌else◌};
-    ghost use Rattle.pas_profile.specs.{Profiles.IsWordIn, Layouts.same_word};
-    ghost use Rattle.pas_profile.specs.declared.word.Word.{Word as TheWord};
+    ghost use Rattle.pas_profile.specs.{Profiles.IsWordIn, Layouts.same_word, declared.word.Word.Word as TheWord};
     ghost use Rattle.pas_steps.specs.Keeping.{value_in_row};
 
     /// These words, each at its place by the layout.

@@ -1,8 +1,7 @@
 //! The state of a region after a list of steps, whoever made them.
 ghost use Rattle.std.specs.Prelude.{◌≡◌};
 ghost use Rattle.pas_profile.specs.Profiles.{IsWordOf};
-ghost use Rattle.pas_steps.specs.{Effects.target as target_word, Ranges.IsRanged, States.profile_of, States.word_in, Views.epoch_after as the_epoch};
-ghost use Rattle.pas_steps.specs.{Views.or_zero};
+ghost use Rattle.pas_steps.specs.{Effects.target as target_word, Ranges.IsRanged, States.{profile_of, word_in}, Views.{epoch_after as the_epoch, or_zero}};
 ghost use Rattle.pas_steps.specs.Runs.{CanRun, IsOpening, IsAfter, IsStepped};
 
 use crate::effect::{epoch_after, new_value, target};

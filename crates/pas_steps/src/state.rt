@@ -26,9 +26,8 @@ pub struct State {
 
 impl State {
     ghost use Rattle.std.specs.Prelude.{◌≤◌, slice_index, if◌then◌else◌};
-    ghost use Rattle.pas_profile.specs.{Profiles.IsWordOf, Layouts.index_of, Layouts.same_word, Layouts.opening};
-    ghost use Rattle.pas_profile.specs.declared.word.Word.{Word as TheWord};
-    ghost use Rattle.pas_steps.specs.{States.profile_of, States.word_in, States.IsUnusedAbove, Paged.value_in};
+    ghost use Rattle.pas_profile.specs.{Profiles.IsWordOf, Layouts.{index_of, same_word, opening}, declared.word.Word.Word as TheWord};
+    ghost use Rattle.pas_steps.specs.{States.{profile_of, word_in, IsUnusedAbove}, Paged.value_in};
 
     /// The state with these words, each at its place by the profile's layout. It keeps the vector.
     pub fn of_words(profile: Profile, words: Vec<u64>) -> State

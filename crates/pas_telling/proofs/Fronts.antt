@@ -1,7 +1,6 @@
 -- A text that is written after another, and cut off.
 use Rattle.std.proofs.Common.{ℕ, List, ◌++◌, append_assoc, Option, ap, ◌∙◌, sym}
-use Rattle.pas_io.specs.Told.{Writes, WritesFront}
-use Rattle.pas_io.proofs.Telling.{writes_more}
+use Rattle.pas_io.{specs.Told.{Writes, WritesFront}, proofs.Telling.writes_more}
 
 -- a first part of a text that follows one that was written
 pub front_after : (before middle after : Option (List ℕ)) (text more : List ℕ) → Writes before middle text → WritesFront middle after more

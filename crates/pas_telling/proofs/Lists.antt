@@ -1,9 +1,7 @@
 -- Lists of words that are accepted.
 use Rattle.std.proofs.Common.{◌≡◌, ℕ, ◌≤◌, ◌<◌, Bool, false, List, [], ◌∷◌, IsTrue, Bor, get_or, length, ap, ◌∙◌, sym, inl, inr, arith, nat_eq, refl, codes}
-use Rattle.std.proofs.lemmas.{Bool.false≢true, Slice.Eq.slice_eq-Decides, Bool.Decides.Decides-eqb}
-use Rattle.std.specs.Cmp.Lexicographic.{pointwise}
-use Rattle.pas_telling.specs.Words.{texts_of, word_of, IsReplaying, IsChecking, IsGen, IsNumbers, IsAccepted}
-use Rattle.pas_telling.specs.declared.manner.Manner.{Manner}
+use Rattle.std.{proofs.lemmas.{Bool.{false≢true, Decides.Decides-eqb}, Slice.Eq.slice_eq-Decides}, specs.Cmp.Lexicographic.pointwise}
+use Rattle.pas_telling.specs.{Words.{texts_of, word_of, IsReplaying, IsChecking, IsGen, IsNumbers, IsAccepted}, declared.manner.Manner.Manner}
 
 -- a word that is the text
 is_text : (word text : List ℕ) (r : Bool) → r ≡ pointwise nat_eq word text → IsTrue r → word ≡ text

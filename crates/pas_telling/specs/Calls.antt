@@ -1,8 +1,7 @@
 -- What the words of a call come to.
 use Rattle.std.specs.Prelude.{ℕ, List}
-use Rattle.pas_telling.specs.Words.{IsReplaying, IsChecking, IsGen, IsAccepted}
-use Rattle.pas_telling.specs.declared.words.{Call.Call, Call.TheVariants.Replay, Call.TheVariants.Check, Call.TheVariants.Gen, Misread.Misread}
-use Rattle.pas_telling.specs.declared.words.{Misread.TheVariants.Usage, Misread.TheVariants.Memory}
+use Rattle.pas_telling.specs.{Words.{IsReplaying, IsChecking, IsGen, IsAccepted}, declared.words.Call.{Call, TheVariants.{Replay, Check, Gen}}}
+use Rattle.pas_telling.specs.declared.words.Misread.{Misread, TheVariants.{Usage, Memory}}
 
 -- the words ask for the call
 abbrev pub IsCall : List (List ℕ) → Call → Type 0

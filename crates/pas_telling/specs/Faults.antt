@@ -1,6 +1,5 @@
 -- The line of a trace fault.
-use Rattle.std.specs.Prelude.{ℕ, List, ◌++◌, codes}
-use Rattle.std.specs.Fmt.{decimal}
+use Rattle.std.specs.{Prelude.{ℕ, List, ◌++◌, codes}, Fmt.decimal}
 use Rattle.pas_trace.specs.declared.fault.{Reason.Reason, TraceFault.TraceFault}
 
 abbrev pub reason_text : Reason → List ℕ

@@ -1,11 +1,9 @@
 -- What of an outcome can be written, its text and its status.
 use Rattle.std.specs.Prelude.{ℕ, List, ◌++◌, All}
 use Rattle.pas_steps.specs.declared.state.State.{State}
-use Rattle.pas_records.specs.{Rooms.records_in, Lines.lines_of, Lines.CanShow}
+use Rattle.pas_records.specs.{Rooms.records_in, Lines.{lines_of, CanShow}, declared.record.Record.Record}
 use Rattle.pas_report.specs.Counts.{AreDeedWords, report_by_words}
-use Rattle.pas_records.specs.declared.record.Record.{Record}
-use Rattle.pas_telling.specs.Faults.{fault_text}
-use Rattle.pas_telling.specs.declared.outcome.Outcome.{Outcome, TheVariants.Replayed, TheVariants.Faulty}
+use Rattle.pas_telling.specs.{Faults.fault_text, declared.outcome.Outcome.{Outcome, TheVariants.{Replayed, Faulty}}}
 
 -- records and a state that can be written
 pub record IsShown (records : List Record) (state : State) : Type 0 where

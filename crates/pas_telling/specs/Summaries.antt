@@ -1,6 +1,5 @@
 -- The summary of a replay: how many lines of each sort its transcript has, and the totals.
-use Rattle.std.specs.Prelude.{ℕ, Bool, true, false, List, ◌++◌, codes, count_by}
-use Rattle.std.specs.Fmt.{decimal}
+use Rattle.std.specs.{Prelude.{ℕ, Bool, true, false, List, ◌++◌, codes, count_by}, Fmt.decimal}
 use Rattle.pas_profile.specs.declared.event.{Event.Event, Why.Why}
 use Rattle.pas_records.specs.declared.record.{Record.Record, Said.Said}
 use Rattle.pas_telling.specs.declared.summary.Tally.{Tally}

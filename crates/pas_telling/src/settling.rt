@@ -1,7 +1,7 @@
 //! The end of a replay on threads: the report is made, and what is spent is let go, while the lines of the records are written.
 ghost use Rattle.std.specs.Prelude.{◌≡◌, ◌≤◌, All, IfSome, OnOk, OnErr};
-ghost use Rattle.pas_io.specs.{Told.Rose, Told.Writes, Told.WritesFront, Taken.taken};
-ghost use Rattle.pas_records.specs.{Lines.CanShow, Lines.lines_of, Rooms.records_in};
+ghost use Rattle.pas_io.specs.{Told.{Rose, Writes, WritesFront}, Taken.taken};
+ghost use Rattle.pas_records.specs.{Lines.{CanShow, lines_of}, Rooms.records_in};
 ghost use Rattle.pas_report.specs.Counts.{AreDeedWords, report_by_words};
 ghost use Rattle.pas_telling.specs.Outcomes.{IsShown, shown_text};
 

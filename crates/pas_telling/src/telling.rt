@@ -2,8 +2,7 @@
 ghost use Rattle.std.specs.Prelude.{◌≡◌, ◌≤◌, OnOk, OnErr, length};
 ghost use Rattle.pas_io.specs.Told.{Rose, Tells, Writes, WritesFront};
 ghost use Rattle.pas_records.specs.Rooms.{records_in};
-ghost use Rattle.pas_telling.specs.Faults.{fault_text, reason_text};
-ghost use Rattle.pas_telling.specs.Outcomes.{IsShown, IsWritable, outcome_status, outcome_text, shown_text};
+ghost use Rattle.pas_telling.specs.{Faults.{fault_text, reason_text}, Outcomes.{IsShown, IsWritable, outcome_status, outcome_text, shown_text}};
 
 use crate::manner::Manner;
 use crate::outcome::Outcome;

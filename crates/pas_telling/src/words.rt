@@ -1,8 +1,6 @@
 //! What the words of a call ask for.
 ghost use Rattle.std.specs.Prelude.{ℕ, ◌≡◌, IfOk, IfErr, MatchOption};
-ghost use Rattle.pas_telling.specs.Words.{texts_of, word_of, IsAccepted, IsNumbers};
-ghost use Rattle.pas_telling.specs.Calls.{IsCall, IsMisread};
-ghost use Rattle.pas_telling.specs.declared.manner.Manner.{Manner};
+ghost use Rattle.pas_telling.specs.{Words.{texts_of, word_of, IsAccepted, IsNumbers}, Calls.{IsCall, IsMisread}, declared.manner.Manner.Manner};
 
 use crate::job::Job;
 use crate::manner::Manner;

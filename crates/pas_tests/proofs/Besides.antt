@@ -1,16 +1,13 @@
 -- Two actors that sit at one plain region after each other: a desk, and the pass of the other one at rest.
 use Rattle.std.proofs.Common.{◌≡◌, ◌≢◌, ℕ, ◌<◌, [], ◌++◌, refl, ap, sym, ◌∙◌, subst, inr, arith}
 use Rattle.pas_profile.specs.declared.{directory.Directory.Directory, profile.Profile.Profile}
-use Rattle.pas_steps.specs.Desks.{Seat, Standing, CanCall, triples, AnyView}
-use Rattle.pas_steps.specs.{Lists.Whole, Lists.part, Views.View}
-use Rattle.pas_steps.proofs.{Noting.rest_length, Parts.part_of_others}
-use Rattle.pas_plain.specs.Plain.{profile_of, actor_of, room_of_pass, spare_in, RegionStands, PassStands}
-use Rattle.pas_plain.specs.Seats.{region_of, pass_of, standing_of, shows_rest, DeskStands, Opens}
-use Rattle.pas_plain.specs.declared.{desk.PlainDesk.PlainDesk, pass.PlainPass.PlainPass, region.PlainRegion.PlainRegion}
+use Rattle.pas_steps.{specs.{Desks.{Seat, Standing, CanCall, triples, AnyView}, Lists.{Whole, part}, Views.View}, proofs.Noting.rest_length}
+use Rattle.pas_steps.proofs.Parts.{part_of_others}
+use Rattle.pas_plain.specs.{Plain.{profile_of, actor_of, room_of_pass, spare_in, RegionStands, PassStands}, Seats.{region_of, pass_of, standing_of, shows_rest}}
+use Rattle.pas_plain.specs.{Seats.{DeskStands, Opens}, declared.{desk.PlainDesk.PlainDesk, pass.PlainPass.PlainPass, region.PlainRegion.PlainRegion}}
 use Rattle.pas_plain.proofs.Desks.{pass_rests}
 use Rattle.pas_search.specs.Searches.{MaySearch, SearchRoom}
-use Rattle.pas_trials.specs.{Trials.Beside, Trials.Brings, Trials.Wants, Filling.Steps}
-use Rattle.pas_trials.specs.declared.wanting.Findings.{Findings}
+use Rattle.pas_trials.specs.{Trials.{Beside, Brings, Wants}, Filling.Steps, declared.wanting.Findings.Findings}
 use Rattle.pas_tests.specs.Seated.{Waits}
 
 -- an actor that made no step may search

@@ -1,32 +1,25 @@
 -- What a keeper has between its calls in a storm.
 use Rattle.std.proofs.Common.{◌≡◌, ℕ, zero, suc, ◌+◌, ◌<◌, ◌≤◌, false, List, [], ◌∷◌, ◌++◌, length, Option, Some, None, refl, ap, sym, ◌∙◌, subst, arith}
 use Rattle.std.proofs.Common.{length-append, slice_index_or, MatchOption, ◌-◌, reverse}
-use Rattle.pas_profile.specs.Profiles.{IsAdmitted}
-use Rattle.pas_profile.specs.declared.{directory.Directory.Directory, event.Event.Event, name.Block.Block, profile.Profile.Profile, word.Word.Word}
-use Rattle.pas_profile.specs.declared.{guard.Guard.Guard}
+use Rattle.pas_profile.specs.{Profiles.IsAdmitted, declared.{directory.Directory.Directory, event.Event.Event, name.Block.Block, profile.Profile.Profile}}
+use Rattle.pas_profile.specs.declared.{word.Word.Word, guard.Guard.Guard}
 use Rattle.pas_scan.specs.Runs.{large_directory}
-use Rattle.pas_steps.specs.{Calls.nothing, Calls.Does, Events.events_by, Views.View, Views.KnowsDeed, Lists.Whole, Unknown.unknown_pages, Clear.HasNothing}
-use Rattle.pas_steps.specs.{Events.events_of, Unknown.unknown_below, Noted.events_noted, Noted.room_of_notes}
-use Rattle.pas_steps.specs.Desks.{Seat, Standing, AnyView, CanCall, Makes, made, triples}
-use Rattle.pas_steps.specs.declared.step.{Made.Made, Step.TheVariants.Look}
-use Rattle.pas_steps.proofs.{Apart.no_events, Apart.only_both, Called.call_none, Called.call_then, Called.call_idly, Calls.does_none, Calls.does_then}
-use Rattle.pas_steps.proofs.{Frames.knows_still, SpareRoom.Spares, SpareRoom.spare_falls, Unknown.unknown_no_more, Nothing.nothing_yet, Noting.rest_length}
-use Rattle.pas_records.specs.Rooms.{records_in, Records, room_of}
-use Rattle.pas_records.specs.declared.record.Record.{Record}
+use Rattle.pas_steps.specs.{Calls.{nothing, Does}, Events.{events_by, events_of}, Views.{View, KnowsDeed}, Lists.Whole, Unknown.{unknown_pages, unknown_below}}
+use Rattle.pas_steps.specs.{Clear.HasNothing, Noted.{events_noted, room_of_notes}, Desks.{Seat, Standing, AnyView, CanCall, Makes, made, triples}}
+use Rattle.pas_steps.{specs.declared.step.{Made.Made, Step.TheVariants.Look}, proofs.{Apart.{no_events, only_both}, Called.{call_none, call_then, call_idly}}}
+use Rattle.pas_steps.proofs.{Calls.{does_none, does_then}, Frames.knows_still, SpareRoom.{Spares, spare_falls}, Unknown.unknown_no_more, Nothing.nothing_yet}
+use Rattle.pas_steps.proofs.Noting.{rest_length}
+use Rattle.pas_records.specs.{Rooms.{records_in, Records, room_of}, declared.record.Record.Record}
 use Rattle.pas_trace.specs.declared.item.Request.{Request}
-use Rattle.pas_guard.specs.Books.{Each, IsGuardOf, KnowsGuard, FitsBook, guards_in, size_of_book}
-use Rattle.pas_guard.specs.{Raises.IsRaised, Raises.IsNotRaised, Raises.guard_of, Seeks.backed_looks}
-use Rattle.pas_guard.specs.declared.book.GuardBook.{GuardBook}
-use Rattle.pas_cache.specs.{Serves.pages_of, Caches.Cached, Caches.AtRest}
-use Rattle.pas_answers.specs.{Answers.wanted_by, Guarding.Tried, Guarding.IsTried}
-use Rattle.pas_answers.specs.Keeping.{cost_of_try, MayTry, TriesRequest, MayLowerAll, LowersAll}
+use Rattle.pas_guard.specs.{Books.{Each, IsGuardOf, KnowsGuard, FitsBook, guards_in, size_of_book}, Raises.{IsRaised, IsNotRaised, guard_of}}
+use Rattle.pas_guard.specs.{Seeks.backed_looks, declared.book.GuardBook.GuardBook}
+use Rattle.pas_cache.specs.{Serves.pages_of, Caches.{Cached, AtRest}}
+use Rattle.pas_answers.specs.{Answers.wanted_by, Guarding.{Tried, IsTried}, Keeping.{cost_of_try, MayTry, TriesRequest, MayLowerAll, LowersAll}}
 use Rattle.pas_answers.proofs.Tries.{swept_count}
 use Rattle.pas_tests.specs.Kept.{MayKeep, Looked, guarded_region, Begins}
 use Rattle.pas_trials.proofs.Going.{few_below}
-use Rattle.pas_plain.specs.{Plain.spare_in, Storms.StormStands, Storms.seat_for}
-use Rattle.pas_plain.specs.declared.{pass.PlainPass.PlainPass, region.PlainRegion.PlainRegion}
-use Rattle.pas_shared.specs.Passes.{view_of, seat_of, standing_of}
-use Rattle.pas_shared.specs.declared.desk.SharedDesk.{SharedDesk}
+use Rattle.pas_plain.specs.{Plain.spare_in, Storms.{StormStands, seat_for}, declared.{pass.PlainPass.PlainPass, region.PlainRegion.PlainRegion}}
+use Rattle.pas_shared.specs.{Passes.{view_of, seat_of, standing_of}, declared.desk.SharedDesk.SharedDesk}
 
 -- ---- looks at backed words
 pub looked_none : {σ : Standing} → Looked σ σ

@@ -1,23 +1,16 @@
 -- An actor that goes on errands beside another one, and then in a storm.
 use Rattle.std.proofs.Common.{◌≡◌, ◌≢◌, ℕ, [], ◌++◌, refl, ap, sym, ◌∙◌, subst, ◌+◌, ◌<◌, ◌≤◌, inr, arith}
-use Rattle.pas_profile.specs.declared.profile.Profile.{Profile}
-use Rattle.pas_steps.specs.{Clear.HasNothing, Lists.Whole, Views.View, Unknown.unknown_pages}
-use Rattle.pas_steps.specs.Desks.{Seat, Standing, CanCall, triples}
+use Rattle.pas_profile.specs.{declared.profile.Profile.Profile, Profiles.IsDirectoryOf}
+use Rattle.pas_steps.specs.{Clear.HasNothing, Lists.Whole, Views.View, Unknown.unknown_pages, Desks.{Seat, Standing, CanCall, triples}}
 use Rattle.pas_steps.proofs.{Adding.adds_call, Called.next_call, Parts.part_of_others, Nothing.nothing_yet, Noting.rest_length}
-use Rattle.pas_cache.specs.{Caches.Cached, Caches.AtRest, Calls.StopsCache}
-use Rattle.pas_cache.proofs.FlushesAndFrees.{rests_empty}
-use Rattle.pas_plain.specs.Plain.{profile_of, actor_of, PassStands, spare_in}
-use Rattle.pas_plain.specs.Storms.{own_stands, StormStands, seat_for}
-use Rattle.pas_plain.specs.Seats.{region_of, pass_of, DeskStands, standing_of, Opens}
-use Rattle.pas_plain.specs.declared.{desk.PlainDesk.PlainDesk, pass.PlainPass.PlainPass, region.PlainRegion.PlainRegion}
-use Rattle.pas_plain.proofs.Desks.{pass_rests}
-use Rattle.pas_trials.specs.{Borrowing.Borrows, Filling.Steps, Borrowing.RestsWithRoom}
-use Rattle.pas_tests.specs.Seated.{RestsBeside, two_threads}
-use Rattle.pas_trials.proofs.{Opened.storm_stands, Going.few_below}
-use Rattle.pas_profile.specs.Profiles.{IsDirectoryOf}
+use Rattle.pas_cache.{specs.{Caches.{Cached, AtRest}, Calls.StopsCache}, proofs.FlushesAndFrees.rests_empty}
+use Rattle.pas_plain.specs.{Plain.{profile_of, actor_of, PassStands, spare_in}, Storms.{own_stands, StormStands, seat_for}, Seats.{region_of, pass_of}}
+use Rattle.pas_plain.specs.{Seats.{DeskStands, standing_of, Opens}, declared.{desk.PlainDesk.PlainDesk, pass.PlainPass.PlainPass}}
+use Rattle.pas_plain.{specs.declared.region.PlainRegion.PlainRegion, proofs.Desks.pass_rests}
+use Rattle.pas_trials.{specs.{Borrowing.{Borrows, RestsWithRoom}, Filling.Steps}, proofs.{Opened.storm_stands, Going.few_below}}
+use Rattle.pas_tests.{specs.Seated.{RestsBeside, two_threads}, proofs.Besides.may_search}
 use Rattle.pas_search.specs.Searches.{SearchRoom}
 use Rattle.pas_segregated.specs.Stops.{class_directory}
-use Rattle.pas_tests.proofs.Besides.{may_search}
 
 -- ---- before the storm
 pub rests_first : {d : PlainDesk} {p : PlainPass} {room : ℕ} {c : Cached} → Opens d p room → c.locals ≡ [] → c.log ≡ [] → RestsBeside d p c

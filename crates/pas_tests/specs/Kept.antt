@@ -1,14 +1,11 @@
 -- What a keeper has in a storm, and the region of one.
 use Rattle.std.specs.Prelude.{ℕ, ◌+◌, ◌*◌, ◌≤◌, ◌≡◌, List, [], length}
 use Rattle.pas_profile.specs.declared.profile.Profile.{Profile}
-use Rattle.pas_steps.specs.{Calls.Calls, Calls.nothing, Calls.Does, Desks.Standing, Desks.AnyView, Kinds.Only, Unknown.unknown_pages, Views.View}
-use Rattle.pas_steps.specs.declared.step.Made.{Made}
+use Rattle.pas_steps.specs.{Calls.{Calls, nothing, Does}, Desks.{Standing, AnyView}, Kinds.Only, Unknown.unknown_pages, Views.View, declared.step.Made.Made}
 use Rattle.pas_records.specs.Rooms.{records_in, room_of, Records}
-use Rattle.pas_guard.specs.{Books.FitsBook, Books.guards_in, Books.size_of_book, Seeks.backed_looks}
-use Rattle.pas_guard.specs.declared.book.GuardBook.{GuardBook}
+use Rattle.pas_guard.specs.{Books.{FitsBook, guards_in, size_of_book}, Seeks.backed_looks, declared.book.GuardBook.GuardBook}
 use Rattle.pas_answers.specs.Keeping.{owed_by_keeper}
-use Rattle.pas_plain.specs.{Plain.profile_of, Plain.room_of_pass, Storms.StormStands}
-use Rattle.pas_plain.specs.declared.{pass.PlainPass.PlainPass, region.PlainRegion.PlainRegion}
+use Rattle.pas_plain.specs.{Plain.{profile_of, room_of_pass}, Storms.StormStands, declared.{pass.PlainPass.PlainPass, region.PlainRegion.PlainRegion}}
 
 -- a region of so many pages, two actors and one heap
 abbrev pub guarded_region : ℕ → Profile

@@ -1,10 +1,9 @@
 -- Regions that nobody used yet, and what their actors have before and between their calls.
 use Rattle.std.specs.Prelude.{ℕ, ◌≡◌, ◌≢◌, []}
 use Rattle.pas_profile.specs.declared.profile.Profile.{Profile}
-use Rattle.pas_steps.specs.{Views.View, Lists.Whole, Lists.part}
+use Rattle.pas_steps.specs.{Views.View, Lists.{Whole, part}}
 use Rattle.pas_cache.specs.Caches.{Cached, AtRest}
-use Rattle.pas_plain.specs.Plain.{profile_of, actor_of, room_of_pass, PassStands}
-use Rattle.pas_plain.specs.{Seats.region_of, Seats.pass_of, Seats.DeskStands, Storms.StormStands}
+use Rattle.pas_plain.specs.{Plain.{profile_of, actor_of, room_of_pass, PassStands}, Seats.{region_of, pass_of, DeskStands}, Storms.StormStands}
 use Rattle.pas_plain.specs.declared.{desk.PlainDesk.PlainDesk, pass.PlainPass.PlainPass}
 
 -- ---- profiles

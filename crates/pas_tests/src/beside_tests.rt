@@ -2,7 +2,7 @@
 ghost use Rattle.std.specs.Prelude.{◌≡◌, ◌<◌, [], IfOk};
 ghost use Rattle.pas_steps.specs.{Lists.Whole, States.profile_of as the_profile_of, Views.View};
 ghost use Rattle.pas_cache.specs.Caches.{cached};
-ghost use Rattle.pas_plain.specs.{Plain.profile_of, Seats.region_of, Storms.StormStands, Seats.Opens};
+ghost use Rattle.pas_plain.specs.{Plain.profile_of, Seats.{region_of, Opens}, Storms.StormStands};
 ghost use Rattle.pas_tests.specs.Seated.{RestsBeside, two_threads};
 
 use crate::seating::plain_profile;

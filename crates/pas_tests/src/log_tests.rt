@@ -1,8 +1,7 @@
 //! A block over two pages, whose name is logged twice.
 ghost use Rattle.std.specs.Prelude.{◌≡◌, ◌≤◌, ◌∷◌, [], IfOk};
 ghost use Rattle.pas_steps.specs.{Desks.CanCall, Lists.Whole, States.profile_of as the_profile_of, Views.View, Clear.IsClear};
-ghost use Rattle.pas_plain.specs.Plain.{profile_of, spare_in, room_of_pass};
-ghost use Rattle.pas_plain.specs.Seats.{DeskStands, region_of, pass_of, standing_of};
+ghost use Rattle.pas_plain.specs.{Plain.{profile_of, spare_in, room_of_pass}, Seats.{DeskStands, region_of, pass_of, standing_of}};
 ghost use Rattle.pas_free_log.specs.Logs.{entries_in};
 ghost use Rattle.pas_profile.specs.Entries.{entry_of};
 

@@ -1,6 +1,6 @@
 ghost use Rattle.std.specs.Prelude.{◌≡◌, IfOk, []};
 ghost use Rattle.pas_steps.specs.{Lists.Whole, States.profile_of as the_profile_of, Views.View, Desks.CanMake};
-ghost use Rattle.pas_plain.specs.{Plain.profile_of, Plain.room_of_pass, Seats.DeskStands, Seats.region_of, Seats.pass_of};
+ghost use Rattle.pas_plain.specs.{Plain.{profile_of, room_of_pass}, Seats.{DeskStands, region_of, pass_of}};
 
 use pas_plain::*;
 use pas_profile::*;

@@ -1,5 +1,5 @@
 ghost use Rattle.std.specs.Prelude.{◌≡◌, ◌≤◌, ◌<◌, IfOk, Some, length};
-ghost use Rattle.pas_utility.specs.{Outcomes.pairs_in, Outcomes.places_of, Pools.threads_of, Pools.outcomes_of};
+ghost use Rattle.pas_utility.specs.{Outcomes.{pairs_in, places_of}, Pools.{threads_of, outcomes_of}};
 
 use pas_profile::{NoMemory, Outcome, Profile};
 use pas_utility::*;

@@ -2,8 +2,7 @@
 ghost use Rattle.std.specs.Prelude.{◌≡◌, ◌≤◌, [], true, IfOk};
 ghost use Rattle.pas_steps.specs.{Desks.CanCall, Lists.Whole, States.profile_of as the_profile_of, Views.View};
 ghost use Rattle.pas_cache.specs.Caches.{AtRest};
-ghost use Rattle.pas_plain.specs.Plain.{profile_of, room_of_pass, forgotten_by, spare_in};
-ghost use Rattle.pas_plain.specs.{Seats.region_of, Seats.pass_of, Storms.StormStands};
+ghost use Rattle.pas_plain.specs.{Plain.{profile_of, room_of_pass, forgotten_by, spare_in}, Seats.{region_of, pass_of}, Storms.StormStands};
 ghost use Rattle.pas_trials.specs.{Filling.Steps, Storms.cache_of};
 ghost use Rattle.pas_tests.specs.Seated.{RestsBeside, stormy};
 

@@ -1,37 +1,25 @@
 -- Actors on a bench: they sit down with their passes, stand still while another one acts, and leave; and a thread with its keeper on the bench of both.
 use Rattle.std.proofs.Common.{arith, ◌≡◌, ◌≢◌, ◌==◌, ℕ, Bool, true, false, if◌then◌else◌, inl, inr, List, [], ◌∷◌, ◌++◌, refl, ap, sym, ◌∙◌, subst, append-nil}
-use Rattle.std.proofs.Common.{eq-eqb, ne_eqb, true≢false, ◌+◌, Option, Some, None, eqb-true, ⊎_elim, ◌⊎◌}
-use Rattle.pas_steps.specs.{Calls.Calls, Lists.Whole, Lists.part, Views.View, Noted.room_of_notes, Desks.Standing, Desks.triple, Desks.triples}
-use Rattle.pas_steps.specs.declared.step.Made.{Made}
+use Rattle.std.proofs.{Common.{eq-eqb, ne_eqb, true≢false, ◌+◌, Option, Some, None, eqb-true, ⊎_elim, ◌⊎◌}, lemmas.{Option.same_Some, Bool.cases_eq}}
+use Rattle.pas_steps.specs.{Calls.Calls, Lists.{Whole, part}, Views.View, Noted.room_of_notes, Desks.{Standing, triple, triples}, declared.step.Made.Made}
 use Rattle.pas_steps.proofs.Parts.{part_of_own, part_of_others}
 use Rattle.pas_profile.specs.declared.{profile.Profile.Profile, name.Block.Block}
 use Rattle.pas_core.proofs.Choosing.{part_of_chosen}
 use Rattle.pas_shared.specs.Ruled.{among, made_in, HasRow, entries_by, rows_of, rows_of_only, isnt, only_this, all_actors, steps_of, IsRowOf, AreRowsOf}
 use Rattle.pas_shared.specs.Benches.{rows_on, first_row, row_on, seat_of_member, IsBenchOf, IsMemberOf, IsFreshRow, HasLooked, SitsInRow, MaySitOn, StandsOver}
-use Rattle.pas_shared.specs.Benches.{home_of, standing_on, empty_row}
-use Rattle.pas_shared.specs.{Ledgers.part_of, Passes.seat_of, Passes.view_of, Passes.IsPassOf}
-use Rattle.pas_shared.specs.declared.{bench.Bench.Bench, bench.Member.Member, pass.SharedPass.SharedPass, region.SharedRegion.SharedRegion, rule.Entry.Entry}
-use Rattle.pas_shared.specs.declared.{rule.Row.Row, bench_desk.BenchDesk.BenchDesk}
-use Rattle.pas_shared.proofs.{Benching.among_picked, Benching.row_since, Benching.stands_first, Ruling.part_both}
-use Rattle.pas_acts.specs.Works.{Sits, Later, Keeps, ThreadAt}
-use Rattle.pas_threads.specs.Left.{IsSeated, KeepsOrder, standing_beside, keeper_actors, pair_in, HasLeft}
-use Rattle.pas_threads.specs.Hands.{standing_of_pass, HasPass, Did, kept_by}
-use Rattle.pas_threads.specs.Still.{stays_beside}
-use Rattle.std.proofs.lemmas.{Option.same_Some, Bool.cases_eq}
-use Rattle.pas_trace.specs.declared.{item.Request.Request, plan.Op.Op}
+use Rattle.pas_shared.specs.{Benches.{home_of, standing_on, empty_row}, Ledgers.part_of, Passes.{seat_of, view_of, IsPassOf}, declared.bench.Bench.Bench}
+use Rattle.pas_shared.specs.declared.{bench.Member.Member, pass.SharedPass.SharedPass, region.SharedRegion.SharedRegion, rule.{Entry.Entry, Row.Row}}
+use Rattle.pas_shared.{specs.declared.bench_desk.BenchDesk.BenchDesk, proofs.{Benching.{among_picked, row_since, stands_first}, Ruling.part_both}}
+use Rattle.pas_acts.specs.{Works.{Sits, Later, Keeps, ThreadAt}, Keepers.{keeper_has, KeeperAt, KeeperTries, LaterKept, StandsAt, StandsStill, Keeping}}
+use Rattle.pas_acts.specs.{Keepers.OneKeeper, Pairs.{KeeperWaits, KeptPushed, PairAt, PairWorks}, declared.names.NameBook.NameBook}
+use Rattle.pas_threads.specs.{Left.{IsSeated, KeepsOrder, standing_beside, keeper_actors, pair_in, HasLeft}, Hands.{standing_of_pass, HasPass, Did, kept_by}}
+use Rattle.pas_threads.specs.{Still.stays_beside, declared.{keeper.{Seated.Seated, Keeper.Keeper}, workers.Worker.Worker}, Pairs.{IsKeeperOf, kept_by_worker}}
+use Rattle.pas_threads.specs.{Pairs.{kept_seated, MayDoPhase}, Seats.{keeper_parts, rows_without_keeper, seated_actors, IsSameKeeper, SitsBeside}}
+use Rattle.pas_threads.specs.Seats.{KeeperMayLeave, IsPassOfMember, HasRisen, PairSits, PairRose, IsAnother, KeeperSits}
+use Rattle.pas_trace.specs.{declared.{item.Request.Request, plan.Op.Op}, Acts.{Act, own_acts}}
 use Rattle.pas_guard.specs.declared.book.GuardBook.{GuardBook}
-use Rattle.pas_answers.specs.{Answers.Progress, Guarding.after_trying}
-use Rattle.pas_acts.specs.Keepers.{keeper_has, KeeperAt, KeeperTries, LaterKept, StandsAt, StandsStill, Keeping, OneKeeper}
-use Rattle.pas_threads.specs.declared.{keeper.Seated.Seated, keeper.Keeper.Keeper, workers.Worker.Worker}
-use Rattle.pas_trace.specs.Acts.{Act, own_acts}
-use Rattle.pas_acts.specs.Pairs.{KeeperWaits, KeptPushed, PairAt, PairWorks}
-use Rattle.pas_acts.specs.declared.names.NameBook.{NameBook}
-use Rattle.pas_threads.specs.Pairs.{IsKeeperOf, kept_by_worker, kept_seated, MayDoPhase}
-use Rattle.pas_threads.specs.Seats.{keeper_parts, rows_without_keeper, seated_actors, IsSameKeeper, SitsBeside, KeeperMayLeave, IsPassOfMember, HasRisen}
-use Rattle.pas_threads.specs.Seats.{PairSits, PairRose, IsAnother, KeeperSits}
-use Rattle.pas_answers.proofs.Reached.{goes_on}
-use Rattle.pas_records.specs.Rooms.{Records}
-use Rattle.pas_records.specs.declared.record.Record.{Record}
+use Rattle.pas_answers.{specs.{Answers.Progress, Guarding.after_trying}, proofs.Reached.goes_on}
+use Rattle.pas_records.specs.{Rooms.Records, declared.record.Record.Record}
 
 -- ---- what rows say of a list
 -- of each of its actors the list has what the row says

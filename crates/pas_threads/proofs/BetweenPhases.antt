@@ -1,39 +1,27 @@
 -- What the actors of all workers said in a phase, or at the close: in which order it is written, that it is paid for, and how the workers rest once it is gathered.
 use Rattle.std.proofs.Common.{◌≡◌, ℕ, suc, ◌+◌, ◌<◌, ◌≤◌, List, [], ◌++◌, length, get_or, ap, sym, ◌∙◌, arith, append_assoc, length-append, ◌∷◌, Option, refl}
-use Rattle.std.proofs.Common.{subst, zero, ◌⊎◌, inl, inr, map, drop, take, slice_index_or, drop_of_length-le, append-nil}
-use Rattle.pas_trace.specs.{EveryPlan.own_records, EveryPlan.records_of_ops, EveryPlan.all_ops, Plans.ops_of}
-use Rattle.pas_trace.specs.Acts.{own_acts, MarksPhase, MarksClose, Act, phase_acts, close_acts, acts_of}
-use Rattle.pas_trace.specs.declared.plan.{Op.Op, Phase.Phase}
-use Rattle.pas_trace.proofs.EveryPlan.{records_both, own_both}
-use Rattle.pas_cache.specs.Caches.{Cached, cached}
-use Rattle.pas_steps.specs.{Lists.part, Lists.Whole, Views.View}
-use Rattle.pas_shared.specs.declared.region.SharedRegion.{SharedRegion}
-use Rattle.pas_answers.specs.{Answers.Progress, Calls.owed_events, Answers.with_records, Reaching.Reaches, Replays.at_start, Phases.AreInPhases}
-use Rattle.pas_answers.specs.Ways.{AreSpoken, records_by, by_actors, OnThreads, arranged}
-use Rattle.pas_acts.specs.NameBooks.{room_for, NamesAt, requests_in}
-use Rattle.pas_threads.specs.Pairs.{no_more, owed_by_keepers, AreGuarded, owed_kept, IsLow}
-use Rattle.pas_threads.specs.Closing.{ThreadTold, KeeperTold, ClosedFirst}
-use Rattle.pas_threads.specs.Sessions.{Session, planned, owed_by, AreMarked, AreWritten, WorkerRests, WorkersRest, closing_acts, ScavengerRests, TeamAt}
-use Rattle.pas_threads.specs.Sessions.{HasPlaces, HasRoom, CloseDone, PhaseAt, PhaseDone, HasReplayed, IsOfActors, StandSo, WentBy}
-use Rattle.pas_threads.specs.Turns.{said_own, said_kept, said_by_all, said_by_keepers, TookNoPart}
-use Rattle.pas_threads.specs.declared.{workers.Worker.Worker, keeper.Keeper.Keeper, phases.Team.Team, scavenger.Scavenger.Scavenger}
-use Rattle.pas_threads.proofs.TakingTurns.{IsCleared, rests_clear, WereGathered, cleared_silent, pass_still, same_rests}
-use Rattle.pas_threads.proofs.ReadyPhases.{said_in_order, kept_in_order, kept_few, by_all, owed_less, kept_less, own_by, own_all, all_paid}
-use Rattle.pas_threads.proofs.Keepers.{AreAlike, alike_pushed, alike_said, guarded_alike, said_then, waits_gathered, of_gathered, silent_gathered, kept_still}
-use Rattle.pas_threads.proofs.Keepers.{keeper_is, owed_still, low_gathered, most_keepers}
-use Rattle.pas_records.specs.Rooms.{records_in, room_of, Records}
-use Rattle.pas_records.specs.declared.record.Record.{Record}
-use Rattle.std.proofs.lemmas.List.{drop_more}
-use Rattle.pas_profile.specs.declared.profile.Profile.{Profile}
-use Rattle.pas_cache.specs.declared.cache.ThreadCache.{ThreadCache}
-use Rattle.pas_shared.specs.Ruled.{IsEarlier}
-use Rattle.pas_answers.specs.Stages.{itself, Stage, stage, one_by_one, phase_stages, stages_from, stages_of}
-use Rattle.pas_answers.proofs.Reached.{reach_both}
-use Rattle.pas_acts.proofs.ActsLeft.{acts_left, close_left, first_phase, other_phase}
-use Rattle.pas_acts.proofs.{PlanFacts.are_arranged, AtDesk.sits_still}
-use Rattle.pas_acts.specs.declared.names.NameBook.{NameBook}
-use Rattle.pas_threads.proofs.{Closing.all_acts, Dealt.some_item}
+use Rattle.std.proofs.{Common.{subst, zero, ◌⊎◌, inl, inr, map, drop, take, slice_index_or, drop_of_length-le, append-nil}, lemmas.List.drop_more}
+use Rattle.pas_trace.specs.{EveryPlan.{own_records, records_of_ops, all_ops}, Plans.ops_of, Acts.{own_acts, MarksPhase, MarksClose, Act, phase_acts}}
+use Rattle.pas_trace.{specs.{Acts.{close_acts, acts_of}, declared.plan.{Op.Op, Phase.Phase}}, proofs.EveryPlan.{records_both, own_both}}
+use Rattle.pas_cache.specs.{Caches.{Cached, cached}, declared.cache.ThreadCache.ThreadCache}
+use Rattle.pas_steps.specs.{Lists.{part, Whole}, Views.View}
+use Rattle.pas_shared.specs.{declared.region.SharedRegion.SharedRegion, Ruled.IsEarlier}
+use Rattle.pas_answers.specs.{Answers.{Progress, with_records}, Calls.owed_events, Reaching.Reaches, Replays.at_start, Phases.AreInPhases, Ways.AreSpoken}
+use Rattle.pas_answers.specs.{Ways.{records_by, by_actors, OnThreads, arranged}, Stages.{itself, Stage, stage, one_by_one, phase_stages, stages_from}}
+use Rattle.pas_answers.{specs.Stages.stages_of, proofs.Reached.reach_both}
+use Rattle.pas_acts.{specs.{NameBooks.{room_for, NamesAt, requests_in}, declared.names.NameBook.NameBook}, proofs.ActsLeft.{acts_left, close_left, first_phase}}
+use Rattle.pas_acts.proofs.{ActsLeft.other_phase, PlanFacts.are_arranged, AtDesk.sits_still}
+use Rattle.pas_threads.specs.{Pairs.{no_more, owed_by_keepers, AreGuarded, owed_kept, IsLow}, Closing.{ThreadTold, KeeperTold, ClosedFirst}, Sessions.Session}
+use Rattle.pas_threads.specs.Sessions.{planned, owed_by, AreMarked, AreWritten, WorkerRests, WorkersRest, closing_acts, ScavengerRests, TeamAt, HasPlaces}
+use Rattle.pas_threads.specs.{Sessions.{HasRoom, CloseDone, PhaseAt, PhaseDone, HasReplayed, IsOfActors, StandSo, WentBy}, Turns.{said_own, said_kept}}
+use Rattle.pas_threads.specs.{Turns.{said_by_all, said_by_keepers, TookNoPart}, declared.{workers.Worker.Worker, keeper.Keeper.Keeper, phases.Team.Team}}
+use Rattle.pas_threads.{specs.declared.scavenger.Scavenger.Scavenger, proofs.TakingTurns.{IsCleared, rests_clear, WereGathered, cleared_silent, pass_still}}
+use Rattle.pas_threads.proofs.{TakingTurns.same_rests, ReadyPhases.{said_in_order, kept_in_order, kept_few, by_all, owed_less, kept_less, own_by, own_all}}
+use Rattle.pas_threads.proofs.{ReadyPhases.all_paid, Keepers.{AreAlike, alike_pushed, alike_said, guarded_alike, said_then, waits_gathered, of_gathered}}
+use Rattle.pas_threads.proofs.{Keepers.{silent_gathered, kept_still, keeper_is, owed_still, low_gathered, most_keepers}, Closing.all_acts, Dealt.some_item}
 use Rattle.pas_threads.proofs.Staging.{went_both, went_mark, in_both, unmarked, phase_unmarked, close_unmarked, earlier_both, stand_first}
+use Rattle.pas_records.specs.{Rooms.{records_in, room_of, Records}, declared.record.Record.Record}
+use Rattle.pas_profile.specs.declared.profile.Profile.{Profile}
 
 -- What was said from p to q by the actors of these workers, which rested before it with these operations, and those left, to come. What they owe afterwards (the keepers of
 -- `owing` do), and what was said, is paid for.

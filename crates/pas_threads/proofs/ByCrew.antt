@@ -1,32 +1,21 @@
 -- The acts of the scavenger's worker at its bench, and the stops of the threads that are lent to it.
 use Rattle.std.proofs.Common.{◌≡◌, ◌≢◌, ℕ, ◌+◌, ◌<◌, ◌≤◌, Bool, List, [], ◌∷◌, ◌++◌, length, drop, set, get_or, refl, ap, sym, ◌∙◌, subst, arith, length-append}
-use Rattle.std.proofs.Common.{drop_of_length-le, zero, suc, eq-eqb, ne_eqb}
-use Rattle.std.proofs.lemmas.List.{drop_more}
+use Rattle.std.proofs.{Common.{drop_of_length-le, zero, suc, eq-eqb, ne_eqb}, lemmas.List.drop_more}
 use Rattle.pas_profile.specs.declared.profile.Profile.{Profile}
-use Rattle.pas_shared.specs.Benches.{row_on, StandsOver}
-use Rattle.pas_shared.specs.declared.{bench.Bench.Bench, bench_desk.BenchDesk.BenchDesk, bench_desk.BenchHome.BenchHome}
+use Rattle.pas_shared.specs.{Benches.{row_on, StandsOver}, declared.{bench.Bench.Bench, bench_desk.{BenchDesk.BenchDesk, BenchHome.BenchHome}}}
 use Rattle.pas_shared.proofs.Benching.{row_tells}
-use Rattle.pas_trace.specs.Acts.{Act, StopsIdle, idle_stops, ReadsEpoch, acts_of_chore, scavenger_acts}
-use Rattle.pas_answers.specs.{Answers.Progress, Ways.EachOf, Ways.records_by, Fit.costs_of, Fit.cost_of_act, Fit.unbacks_of_act}
-use Rattle.pas_answers.proofs.OwnRecords.{records_both, none_by, all_by}
-use Rattle.pas_steps.specs.{Lists.Whole, Lists.part, Desks.Standing}
-use Rattle.pas_steps.proofs.Parts.{part_of_others}
-use Rattle.pas_acts.specs.{Works.Later, Keepers.StandsStill}
-use Rattle.pas_acts.specs.AtDesks.{told_if, for_act, HasRoomAt, ScavengerActs}
-use Rattle.pas_acts.proofs.AtDesk.{sits_still, sits_for}
-use Rattle.pas_threads.specs.Turns.{AreDistinct, Came, Pushed, Told, TookNoPart}
-use Rattle.pas_threads.specs.Lent.{Shift, number_in, standing_at, AreBeside, SitsLent, IsDeskAt, StopsLent, StoppedLent}
-use Rattle.pas_threads.specs.declared.workers.Worker.{Worker}
-use Rattle.pas_threads.proofs.TakingTurns.{by_scavenger, pushed_none, pushed_both, SoFar, at_first, goes_on, at_last, Stays, no_turn, no_part_both, came_none}
-use Rattle.pas_threads.proofs.TakingTurns.{came_both, told_none, told_both, acts_in_turn}
-use Rattle.pas_trace.specs.Asked.{work_of}
-use Rattle.pas_trace.specs.EveryPlan.{AreSound, IsActorBy, IsSoundWork, asked_after}
-use Rattle.pas_trace.specs.declared.plan.{Op.Op, Chore.Chore, Work.Work}
-use Rattle.pas_threads.specs.Hands.{and_left, ScavengerAt}
-use Rattle.pas_threads.specs.Crews.{Crew, crew, CrewStands, CrewDoes, CrewSits, CrewActs}
+use Rattle.pas_trace.specs.{Acts.{Act, StopsIdle, idle_stops, ReadsEpoch, acts_of_chore, scavenger_acts}, Asked.work_of, EveryPlan.{AreSound, IsActorBy}}
+use Rattle.pas_trace.specs.{EveryPlan.{IsSoundWork, asked_after}, declared.plan.{Op.Op, Chore.Chore, Work.Work}}
+use Rattle.pas_answers.{specs.{Answers.Progress, Ways.{EachOf, records_by}, Fit.{costs_of, cost_of_act, unbacks_of_act}}, proofs.OwnRecords.records_both}
+use Rattle.pas_answers.proofs.OwnRecords.{none_by, all_by}
+use Rattle.pas_steps.{specs.{Lists.{Whole, part}, Desks.Standing}, proofs.Parts.part_of_others}
+use Rattle.pas_acts.{specs.{Works.Later, Keepers.StandsStill, AtDesks.{told_if, for_act, HasRoomAt, ScavengerActs}}, proofs.AtDesk.{sits_still, sits_for}}
+use Rattle.pas_threads.specs.{Turns.{AreDistinct, Came, Pushed, Told, TookNoPart}, Lent.{Shift, number_in, standing_at, AreBeside, SitsLent, IsDeskAt}}
+use Rattle.pas_threads.specs.{Lent.{StopsLent, StoppedLent}, declared.workers.Worker.Worker, Hands.{and_left, ScavengerAt}, Crews.{Crew, crew, CrewStands}}
+use Rattle.pas_threads.{specs.Crews.{CrewDoes, CrewSits, CrewActs}, proofs.TakingTurns.{by_scavenger, pushed_none, pushed_both, SoFar, at_first, goes_on}}
+use Rattle.pas_threads.proofs.TakingTurns.{at_last, Stays, no_turn, no_part_both, came_none, came_both, told_none, told_both, acts_in_turn}
 use Rattle.pas_threads.proofs.CrewSits.{lent_stays}
-use Rattle.pas_records.specs.Rooms.{records_in, Records}
-use Rattle.pas_records.specs.declared.record.Record.{Record}
+use Rattle.pas_records.specs.{Rooms.{records_in, Records}, declared.record.Record.Record}
 
 -- ---- what is said of one thread's stop
 -- that it was stopped says the scavenger

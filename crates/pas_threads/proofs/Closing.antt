@@ -1,38 +1,27 @@
 -- The close: thread by thread and keeper by keeper; and behind each of these acts the ledger takes in a pass, is settled, and gives the pass back.
 use Rattle.std.proofs.Common.{◌≡◌, ◌≢◌, ℕ, suc, ◌+◌, ◌-◌, ◌<◌, ◌≤◌, inl, inr, List, [], ◌∷◌, ◌++◌, length, set, get_or, map, Option, Some, None, refl, ap, sym}
 use Rattle.std.proofs.Common.{◌∙◌, subst, arith, length-set, get_or-set_same, get_or-set_other, length-append, take, take_all, get_or-append-add, set-set}
-use Rattle.std.proofs.Common.{append-nil}
-use Rattle.std.proofs.lemmas.List.{set-get_or, get_or_default, take_more, length-map, get_or-map}
-use Rattle.std.proofs.{lemmas.Bool.cases_lt, lemmas.Bool.cases_eq, Math.ListN.get_or-append}
+use Rattle.std.proofs.{Common.append-nil, lemmas.{List.{set-get_or, get_or_default, take_more, length-map, get_or-map}, Bool.{cases_lt, cases_eq}}}
+use Rattle.std.proofs.Math.ListN.{get_or-append}
 use Rattle.pas_profile.specs.declared.profile.Profile.{Profile}
-use Rattle.pas_steps.specs.Lists.{Whole, part}
-use Rattle.pas_steps.proofs.Parts.{part_of_others}
-use Rattle.pas_trace.specs.Acts.{Act, Ends, Lowers, numbers_from}
-use Rattle.pas_trace.specs.declared.plan.Op.{Op}
-use Rattle.pas_trace.proofs.ThreadsInOrder.{numbers_count}
-use Rattle.pas_cache.specs.Caches.{Cached, cached}
-use Rattle.pas_cache.specs.declared.cache.ThreadCache.{ThreadCache}
-use Rattle.pas_shared.specs.{Ruled.IsEarlier, Ruled.HasPart, Ruled.AreEarlier, Passes.view_of, Passes.IsPassOf}
-use Rattle.pas_shared.specs.declared.{region.SharedRegion.SharedRegion, pass.SharedPass.SharedPass, ledger.Ledger.Ledger, ledger.Rest.Rest, rule.Entry.Entry}
-use Rattle.pas_shared.specs.declared.{rule.Part.Part}
-use Rattle.pas_answers.specs.{Answers.Progress, Answers.Caches, Answers.Books, Stages.Stage, Stages.one_by_one, Calls.owed_events, Ways.EachOf, Ways.records_by}
-use Rattle.pas_answers.specs.{Reaching.Reaches}
+use Rattle.pas_steps.{specs.Lists.{Whole, part}, proofs.Parts.part_of_others}
+use Rattle.pas_trace.{specs.{Acts.{Act, Ends, Lowers, numbers_from}, declared.plan.Op.Op}, proofs.ThreadsInOrder.numbers_count}
+use Rattle.pas_cache.specs.{Caches.{Cached, cached}, declared.cache.ThreadCache.ThreadCache}
+use Rattle.pas_shared.specs.{Ruled.{IsEarlier, HasPart, AreEarlier}, Passes.{view_of, IsPassOf}, declared.region.SharedRegion.SharedRegion}
+use Rattle.pas_shared.specs.{declared.{pass.SharedPass.SharedPass, ledger.{Ledger.Ledger, Rest.Rest}, rule.{Entry.Entry, Part.Part}}, Ledgers.so_far}
+use Rattle.pas_shared.specs.Ledgers.{looks_of, actors_in, part_of, IsSameLedger, IsRestOf}
+use Rattle.pas_answers.specs.{Answers.{Progress, Caches, Books}, Stages.{Stage, one_by_one}, Calls.owed_events, Ways.{EachOf, records_by}, Reaching.Reaches}
 use Rattle.pas_answers.proofs.OwnRecords.{records_both, all_by, none_by, spoken_piece, spoken_both}
-use Rattle.pas_acts.specs.{AtDesks.Here, AtDesks.ThreadActs, Keepers.KeeperHas, Keepers.KeeperLowers, Keepers.LaterKept, Pairs.KeptPushed, Works.Later}
-use Rattle.pas_acts.proofs.{AtDesk.leaves_rest, AtDesk.rests_still, Working.kept_both}
-use Rattle.pas_threads.specs.Pairs.{no_more, kept_by_worker, owed_kept, AreGuarded, IsButKeeper, IsKeeperOf, IsLow, KeeperLowered}
-use Rattle.pas_threads.specs.Sessions.{Session, evenly, closing_acts, StandSo, WentBy, WorkersRest}
-use Rattle.pas_threads.specs.{Settling.ActorsStand, Settling.Settled, Settling.StandsIn, Hands.HasPass, Kits.with_keeper}
-use Rattle.pas_threads.specs.Closing.{ThreadTold, KeeperTold, IsClosing, ClosedFirst, ClosesNext, ClosedSo}
-use Rattle.pas_threads.specs.Turns.{Came, Pushed, Turn, TookTurns, IsDue, owed_at}
-use Rattle.pas_threads.specs.declared.{keeper.Keeper.Keeper, workers.Worker.Worker}
-use Rattle.pas_threads.proofs.Dealt.{number_at, some_item}
-use Rattle.pas_threads.proofs.Staging.{still_at, thread_stands, keeper_stands, went_none, went_both, went_alone, one_by_one_both}
-use Rattle.pas_threads.proofs.Keepers.{alike_same, alike_pushed, guarded_alike, waits_still, kept_none}
-use Rattle.pas_threads.proofs.TakingTurns.{set_each, came_none, came_both, pushed_none, pushed_both, no_part_both, pass_still, same_owed}
-use Rattle.pas_shared.specs.Ledgers.{so_far, looks_of, actors_in, part_of, IsSameLedger, IsRestOf}
-use Rattle.pas_records.specs.Rooms.{records_in, room_of}
-use Rattle.pas_records.specs.declared.record.Record.{Record}
+use Rattle.pas_acts.{specs.{AtDesks.{Here, ThreadActs}, Keepers.{KeeperHas, KeeperLowers, LaterKept}, Pairs.KeptPushed, Works.Later}, proofs.AtDesk.leaves_rest}
+use Rattle.pas_acts.proofs.{AtDesk.rests_still, Working.kept_both}
+use Rattle.pas_threads.specs.{Pairs.{no_more, kept_by_worker, owed_kept, AreGuarded, IsButKeeper, IsKeeperOf, IsLow, KeeperLowered}, Sessions.{Session, evenly}}
+use Rattle.pas_threads.specs.{Sessions.{closing_acts, StandSo, WentBy, WorkersRest}, Settling.{ActorsStand, Settled, StandsIn}, Hands.HasPass, Kits.with_keeper}
+use Rattle.pas_threads.specs.{Closing.{ThreadTold, KeeperTold, IsClosing, ClosedFirst, ClosesNext, ClosedSo}, Turns.{Came, Pushed, Turn, TookTurns, IsDue}}
+use Rattle.pas_threads.{specs.{Turns.owed_at, declared.{keeper.Keeper.Keeper, workers.Worker.Worker}}, proofs.{Dealt.{number_at, some_item}, Staging.still_at}}
+use Rattle.pas_threads.proofs.{Staging.{thread_stands, keeper_stands, went_none, went_both, went_alone, one_by_one_both}, Keepers.{alike_same, alike_pushed}}
+use Rattle.pas_threads.proofs.{Keepers.{guarded_alike, waits_still, kept_none}, TakingTurns.{set_each, came_none, came_both, pushed_none, pushed_both}}
+use Rattle.pas_threads.proofs.TakingTurns.{no_part_both, pass_still, same_owed}
+use Rattle.pas_records.specs.{Rooms.{records_in, room_of}, declared.record.Record.Record}
 
 -- ---- all actors stand after turns of the threads
 pub turns_stand : {region : SharedRegion} {s : Session} {slot : Option SharedPass} {acts : List Act} {old now : List Worker} {later : ℕ → ℕ} {o p : Progress}

@@ -3,30 +3,24 @@ use Rattle.std.proofs.Common.{◌≡◌, ◌≢◌, ◌⊎◌, inl, inr, ⊎_eli
 use Rattle.std.proofs.Common.{Some, refl, ap, sym, ◌∙◌, subst, arith, true≢false, eq-eqb, ne_eqb, zero, suc, append-nil, get_or-set_other}
 use Rattle.std.proofs.lemmas.{Bool.cases_eq, Option.same_Some, List.get_or_default}
 use Rattle.pas_profile.specs.declared.profile.Profile.{Profile}
-use Rattle.pas_steps.specs.{Noted.AreNotesOf, Desks.Standing, Lists.Whole, Lists.part, Views.View}
+use Rattle.pas_steps.specs.{Noted.AreNotesOf, Desks.Standing, Lists.{Whole, part}, Views.View}
 use Rattle.pas_cache.specs.Caches.{Cached, cached}
 use Rattle.pas_core.proofs.Choosing.{steps_by_same}
-use Rattle.pas_shared.specs.Ruled.{among, made_in, all_actors, only, only_this, isnt, rows_of, rows_of_only, steps_of, IsRowOf, AreRowsOf}
-use Rattle.pas_shared.specs.Benches.{empty_row, first_row, row_on, rows_on, seat_of_member, standing_on, HasLooked, IsBenchOf, IsFreshRow, IsMemberOf}
-use Rattle.pas_shared.specs.Benches.{SitsInRow, MaySitOn, StandsOver}
-use Rattle.pas_shared.specs.{Ledgers.part_of, Passes.seat_of, Passes.view_of, Passes.IsPassOf}
-use Rattle.pas_shared.specs.declared.{bench.Bench.Bench, bench.Member.Member, bench_desk.BenchDesk.BenchDesk, bench_desk.BenchHome.BenchHome}
-use Rattle.pas_shared.specs.declared.{pass.SharedPass.SharedPass, region.SharedRegion.SharedRegion, rule.Entry.Entry, rule.Row.Row}
-use Rattle.pas_shared.proofs.Benching.{among_only, among_picked, row_tells, stands_first}
+use Rattle.pas_shared.specs.{Ruled.{among, made_in, all_actors, only, only_this, isnt, rows_of, rows_of_only, steps_of, IsRowOf, AreRowsOf}, Benches.empty_row}
+use Rattle.pas_shared.specs.Benches.{first_row, row_on, rows_on, seat_of_member, standing_on, HasLooked, IsBenchOf, IsFreshRow, IsMemberOf, SitsInRow, MaySitOn}
+use Rattle.pas_shared.specs.{Benches.StandsOver, Ledgers.part_of, Passes.{seat_of, view_of, IsPassOf}, declared.bench.{Bench.Bench, Member.Member}}
+use Rattle.pas_shared.specs.declared.{bench_desk.{BenchDesk.BenchDesk, BenchHome.BenchHome}, pass.SharedPass.SharedPass, region.SharedRegion.SharedRegion}
+use Rattle.pas_shared.{specs.declared.rule.{Entry.Entry, Row.Row}, proofs.Benching.{among_only, among_picked, row_tells, stands_first}}
 use Rattle.pas_trace.specs.Acts.{Act, StopsIdle}
-use Rattle.pas_answers.specs.Answers.{Progress}
-use Rattle.pas_answers.proofs.Reached.{goes_on}
-use Rattle.pas_acts.specs.{Works.Later, Turns.RestsAt, Keepers.StandsStill, AtDesks.here, AtDesks.told_if, AtDesks.ThreadActs}
-use Rattle.pas_acts.proofs.AtDesk.{rests_still}
-use Rattle.pas_threads.specs.{Hands.standing_of_pass, Left.crew_in, Left.KeepsOrder, Sessions.WorkerHas, Scavengers.CrewHasLeft, Turns.Pushed, Turns.Told}
-use Rattle.pas_threads.specs.Lent.{Shift, number_in, IsLent, AreLent, SitsAmong, standing_among, standing_at, home_at, WorkerSits, SitsLent, AreOfCrew, TellAs}
-use Rattle.pas_threads.specs.Lent.{IsButPlace, HasSeat, AreSeated, IsDeskAt, StopsLent, MayLeave, HasLeave, MayLeaveAll, HaveLeave}
-use Rattle.pas_threads.specs.Crews.{crew, CrewAt, CrewSits, CrewActs, CrewSat, CrewMayRise, CrewRose}
-use Rattle.pas_threads.specs.declared.workers.Worker.{Worker}
-use Rattle.pas_threads.proofs.Benched.{among_cases, among_here, among_later, seated, row_part, rows_part, has_seat, member_seat, sits_as, keeps_order}
-use Rattle.pas_threads.proofs.TakingTurns.{Stays, set_each}
-use Rattle.pas_records.specs.Rooms.{Records}
-use Rattle.pas_records.specs.declared.record.Record.{Record}
+use Rattle.pas_answers.{specs.Answers.Progress, proofs.Reached.goes_on}
+use Rattle.pas_acts.{specs.{Works.Later, Turns.RestsAt, Keepers.StandsStill, AtDesks.{here, told_if, ThreadActs}}, proofs.AtDesk.rests_still}
+use Rattle.pas_threads.specs.{Hands.standing_of_pass, Left.{crew_in, KeepsOrder}, Sessions.WorkerHas, Scavengers.CrewHasLeft, Turns.{Pushed, Told}, Lent.Shift}
+use Rattle.pas_threads.specs.Lent.{number_in, IsLent, AreLent, SitsAmong, standing_among, standing_at, home_at, WorkerSits, SitsLent, AreOfCrew, TellAs}
+use Rattle.pas_threads.specs.{Lent.{IsButPlace, HasSeat, AreSeated, IsDeskAt, StopsLent, MayLeave, HasLeave, MayLeaveAll, HaveLeave}, Crews.{crew, CrewAt}}
+use Rattle.pas_threads.{specs.{Crews.{CrewSits, CrewActs, CrewSat, CrewMayRise, CrewRose}, declared.workers.Worker.Worker}, proofs.Benched.among_cases}
+use Rattle.pas_threads.proofs.{Benched.{among_here, among_later, seated, row_part, rows_part, has_seat, member_seat, sits_as, keeps_order}, TakingTurns.Stays}
+use Rattle.pas_threads.proofs.TakingTurns.{set_each}
+use Rattle.pas_records.specs.{Rooms.Records, declared.record.Record.Record}
 
 -- ---- who is among some actors
 among_at : (ks : List ℕ) (i : ℕ) → i < length ks → among ks (get_or ks i 0) ≡ true

@@ -1,21 +1,14 @@
 -- Workers that are dealt into those of a mask and the others, and taken back; and the hands of a phase, before and after it.
 use Rattle.std.proofs.Common.{◌≡◌, ◌≢◌, ℕ, zero, suc, ◌+◌, ◌<◌, ◌≤◌, not, Bool, true, false, if◌then◌else◌, List, [], ◌∷◌, ◌++◌, map, length, get_or, reverse}
-use Rattle.std.proofs.Common.{refl, ap, sym, ◌∙◌, subst, arith, length-append, append_assoc, append-nil, All}
-use Rattle.std.specs.List.{filter}
-use Rattle.std.proofs.lemmas.{Bool.not_from_true, Bool.not_from_false, List.Elements.All-same, List.Elements.All-map, List.Elements.All-push}
-use Rattle.std.proofs.lemmas.{List.reverse-append, List.nil_from_length, List.same_from_push}
-use Rattle.pas_bits.specs.Masks.{is_set}
-use Rattle.pas_bits.specs.declared.mask.Mask4.{Mask4}
-use Rattle.pas_trace.specs.declared.plan.Op.{Op}
-use Rattle.pas_trace.specs.Acts.{is_active, numbers_from, idle_threads}
-use Rattle.pas_acts.proofs.ActsLeft.{threads_alike}
-use Rattle.pas_threads.specs.Dealing.{picked, count_of, is_in, is_out, AreDealt, AreSized}
-use Rattle.pas_threads.specs.{Turns.AreDistinct, Pairs.MayDoPhase, Pairs.DidPhase, Scavengers.MayScavenge, Scavengers.DidScavenge, Acting.MayAct, Acting.DidAct}
-use Rattle.pas_threads.specs.{Acting.DidEach}
-use Rattle.pas_threads.specs.declared.{workers.Worker.Worker, hands.Hand.Hand, hands.Hand.TheVariants.Thread, hands.Hand.TheVariants.Scavenger}
-use Rattle.pas_threads.specs.declared.{scavenger.Scavenger.Scavenger as TheScavenger}
+use Rattle.std.proofs.{Common.{refl, ap, sym, ◌∙◌, subst, arith, length-append, append_assoc, append-nil, All}, lemmas.Bool.{not_from_true, not_from_false}}
+use Rattle.std.{proofs.lemmas.List.{Elements.{All-same, All-map, All-push}, reverse-append, nil_from_length, same_from_push}, specs.List.filter}
+use Rattle.pas_bits.specs.{Masks.is_set, declared.mask.Mask4.Mask4}
+use Rattle.pas_trace.specs.{declared.plan.Op.Op, Acts.{is_active, numbers_from, idle_threads}}
+use Rattle.pas_acts.{proofs.ActsLeft.threads_alike, specs.declared.names.NameBook.NameBook}
+use Rattle.pas_threads.specs.{Dealing.{picked, count_of, is_in, is_out, AreDealt, AreSized}, Turns.AreDistinct, Pairs.{MayDoPhase, DidPhase}}
+use Rattle.pas_threads.specs.{Scavengers.{MayScavenge, DidScavenge}, Acting.{MayAct, DidAct, DidEach}, declared.{workers.Worker.Worker, hands.Hand.Hand}}
+use Rattle.pas_threads.specs.declared.{hands.Hand.TheVariants.{Thread, Scavenger}, scavenger.Scavenger.Scavenger as TheScavenger}
 use Rattle.pas_shared.specs.declared.region.SharedRegion.{SharedRegion}
-use Rattle.pas_acts.specs.declared.names.NameBook.{NameBook}
 
 -- ---- what is picked
 module _ {A : Type 0} (chosen : ℕ → Bool) where

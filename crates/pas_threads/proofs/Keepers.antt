@@ -1,32 +1,23 @@
 -- The keepers of workers: how those of a plan are made, how they stand on while others act and over a phase, what is gathered of them, and their last sweeps.
 use Rattle.std.proofs.Common.{◌≡◌, ℕ, suc, ◌+◌, ◌*◌, ◌<◌, ◌≤◌, ◌==◌, min, Bool, true, false, if◌then◌else◌, List, [], ◌∷◌, ◌++◌, length, get_or, slice_index}
 use Rattle.std.proofs.Common.{inl, inr, Option, Some, refl, ap, sym, ◌∙◌, subst, arith, ◌-◌, ◌^◌, eq-eqb, ne_eqb, ◌≢◌, None, append-nil, drop}
-use Rattle.std.proofs.Common.{drop_of_length-le, length-drop}
-use Rattle.std.proofs.{Math.Nat.le-min, Math.Nat.mul-le-mul, lemmas.Bool.cases_lt, lemmas.Bool.cases_eq, lemmas.List.get_or-map, lemmas.List.drop_more}
+use Rattle.std.proofs.{Common.{drop_of_length-le, length-drop}, Math.Nat.{le-min, mul-le-mul}, lemmas.{Bool.{cases_lt, cases_eq}, List.{get_or-map, drop_more}}}
 use Rattle.pas_profile.specs.declared.profile.Profile.{Profile}
-use Rattle.pas_trace.specs.{Asked.work_of, Asked.keeper_in, Plans.IsPlanOf, Plans.bounds_of, Reasons.cost_of_size, Reasons.actors_by}
-use Rattle.pas_trace.specs.EveryPlan.{kept_of_work, kept_records, records_of_what, records_of_ops, operations_of}
-use Rattle.pas_trace.specs.declared.plan.{Op.Op, Plan.Plan, What.What}
-use Rattle.pas_trace.proofs.{Costs.small_cost, Costs.large_cost, EveryPlan.every_plan, EveryPlan.threads_among, Keepers.keepers_few}
-use Rattle.pas_guard.specs.Books.{guards_in, size_of_book}
-use Rattle.pas_guard.specs.declared.book.GuardBook.{GuardBook}
+use Rattle.pas_trace.specs.{Asked.{work_of, keeper_in}, Plans.{IsPlanOf, bounds_of}, Reasons.{cost_of_size, actors_by}, EveryPlan.{kept_of_work, kept_records}}
+use Rattle.pas_trace.specs.{EveryPlan.{records_of_what, records_of_ops, operations_of}, declared.plan.{Op.Op, Plan.Plan, What.What}, Acts.{Act, Settles}}
+use Rattle.pas_trace.{specs.Acts.{act_kept, own_acts}, proofs.{Costs.{small_cost, large_cost}, EveryPlan.{every_plan, threads_among}, Keepers.keepers_few}}
+use Rattle.pas_guard.specs.{Books.{guards_in, size_of_book}, declared.book.GuardBook.GuardBook}
 use Rattle.pas_shared.specs.declared.{pass.SharedPass.SharedPass, region.SharedRegion.SharedRegion}
-use Rattle.pas_answers.specs.{Replays.threads_of, Replays.keepers_of, Answers.Progress, Ways.is_of, Ways.records_by}
-use Rattle.pas_acts.specs.{PlanKeepers.one_guarded, PlanKeepers.guarded_of, PlanKeepers.AreBooks, Shares.owner_in}
-use Rattle.pas_acts.proofs.{PlanFacts.is_guarded, AtDesk.keeper_still, PhaseActs.own_thread, PhaseActs.kept_thread, PhaseActs.owner_of}
-use Rattle.pas_threads.specs.Kits.{HaveKeepers, TakesKeeper, IsKeptBy, AreKeptBy, most_records}
-use Rattle.pas_threads.specs.Pairs.{AreGuarded, kept_by_worker, IsKeeperOf, IsSilent, no_more, owed_kept, keeper_at, IsLow, KeeperStands, KeeperRests}
-use Rattle.pas_threads.specs.Pairs.{said_by_keeper}
-use Rattle.pas_threads.specs.declared.{keeper.Keeper.Keeper, workers.Worker.Worker}
-use Rattle.pas_steps.specs.Lists.{part}
-use Rattle.pas_trace.specs.Acts.{Act, Settles, act_kept, own_acts}
-use Rattle.pas_answers.proofs.EachAct.{all_front, all_back}
-use Rattle.pas_acts.specs.Keepers.{LaterKept, Keeping, NoKeeper, OneKeeper, KeeperAt, keeper_has}
-use Rattle.pas_acts.specs.Pairs.{for_guard, for_guards, AreTriedBy, AreUnguarded, KeeperWaits, EachOfTwo, KeptPushed, KeptStill, owed_of}
-use Rattle.pas_threads.specs.{Hands.standing_of_pass, Turns.HasSaid, Performing.Round, Performing.ThreadDone}
+use Rattle.pas_answers.{specs.{Replays.{threads_of, keepers_of}, Answers.Progress, Ways.{is_of, records_by}}, proofs.EachAct.{all_front, all_back}}
+use Rattle.pas_acts.specs.{PlanKeepers.{one_guarded, guarded_of, AreBooks}, Shares.owner_in, Keepers.{LaterKept, Keeping, NoKeeper, OneKeeper, KeeperAt}}
+use Rattle.pas_acts.specs.{Keepers.keeper_has, Pairs.{for_guard, for_guards, AreTriedBy, AreUnguarded, KeeperWaits, EachOfTwo, KeptPushed, KeptStill, owed_of}}
+use Rattle.pas_acts.proofs.{PlanFacts.is_guarded, AtDesk.keeper_still, PhaseActs.{own_thread, kept_thread, owner_of}}
+use Rattle.pas_threads.specs.{Kits.{HaveKeepers, TakesKeeper, IsKeptBy, AreKeptBy, most_records}, Pairs.{AreGuarded, kept_by_worker, IsKeeperOf, IsSilent}}
+use Rattle.pas_threads.specs.{Pairs.{no_more, owed_kept, keeper_at, IsLow, KeeperStands, KeeperRests, said_by_keeper}, declared.keeper.Keeper.Keeper}
+use Rattle.pas_threads.specs.{declared.workers.Worker.Worker, Hands.standing_of_pass, Turns.HasSaid, Performing.{Round, ThreadDone}}
 use Rattle.pas_threads.proofs.{TakingTurns.each_pushed, Dealt.some_item}
-use Rattle.pas_records.specs.Rooms.{records_in, room_of}
-use Rattle.pas_records.specs.declared.record.Record.{Record}
+use Rattle.pas_steps.specs.Lists.{part}
+use Rattle.pas_records.specs.{Rooms.{records_in, room_of}, declared.record.Record.Record}
 
 -- ---- what they may say
 two_least : (size : ℕ) → 2 ≤ cost_of_size size

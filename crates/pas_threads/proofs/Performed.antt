@@ -1,46 +1,31 @@
 -- What hands did in a phase, and what the names are after it.
 use Rattle.std.proofs.Common.{◌≡◌, ℕ, ◌+◌, ◌<◌, ◌==◌, ◌||◌, ◌⊎◌, inl, inr, Bool, true, false, if◌then◌else◌, List, [], ◌∷◌, set, length, get_or, Option, Some}
 use Rattle.std.proofs.Common.{None, refl, ap, sym, ◌∙◌, subst, arith, ◌≤◌, ◌++◌, eq-eqb, ◌≢◌, zero, suc, ◌-◌, All, vec_capacity, append-nil, true≢false, le-leb}
-use Rattle.std.proofs.Common.{ne_eqb}
-use Rattle.std.proofs.lemmas.List.{get_or_default}
-use Rattle.std.proofs.lemmas.Bool.{cases_eq, false≢true, or_right, or_cases, or_parts, cases_Bool, cases_lt, not-true, not_from_false, lt-leb}
+use Rattle.std.proofs.{Common.ne_eqb, lemmas.{List.get_or_default, Bool.{cases_eq, false≢true, or_right, or_cases, or_parts, cases_Bool, cases_lt, not-true}}}
+use Rattle.std.{proofs.lemmas.Bool.{not_from_false, lt-leb}, specs.List.filter}
 use Rattle.pas_profile.specs.declared.{name.Block.Block, profile.Profile.Profile}
-use Rattle.pas_trace.specs.EveryPlan.{is_asked, asked_with, asked_after, asked_by, AreSound, IsActorOf}
-use Rattle.pas_answers.specs.{Answers.Named, Answers.standing_for, Answers.Progress, Names.block_named, Names.names_held, Fit.IsBelow, Fit.AreBelow}
-use Rattle.pas_answers.specs.{Fit.KeepsAbove, Reaching.Reaches}
-use Rattle.pas_answers.proofs.EachAct.{all_back}
+use Rattle.pas_trace.specs.{EveryPlan.{is_asked, asked_with, asked_after, asked_by, AreSound, IsActorOf}, Asked.{work_of, of_task, request_of}}
+use Rattle.pas_trace.specs.{declared.{plan.{What.What, Chore.Chore, Work.Work, Op.Op}, item.Request.Request}, Acts.{Act, act_kept, operation_in}}
+use Rattle.pas_trace.specs.Acts.{asked_after_operation, is_active, idle_threads, idle_stops, acts_of_chore, acts_of_work, acts_of_op, acts_of_ops, own_acts}
+use Rattle.pas_trace.{specs.Acts.{numbers_from, scavenger_acts}, proofs.{EveryPlan.kept_with, ThreadsInOrder.numbers_count}}
+use Rattle.pas_answers.specs.{Answers.{Named, standing_for, Progress}, Names.{block_named, names_held}, Fit.{IsBelow, AreBelow, KeepsAbove}, Reaching.Reaches}
+use Rattle.pas_answers.{specs.{Calls.{block_behind, MayStand, AreKnown, OnlyAsked}, declared.names.Names.Names}, proofs.EachAct.all_back}
 use Rattle.pas_acts.specs.NameBooks.{requests_in, room_for, names_of, came_to, known_in, Requests, name_asked, names_asked, AreWithin, NamesAt}
-use Rattle.pas_acts.specs.declared.names.NameBook.{NameBook}
-use Rattle.pas_threads.specs.declared.{workers.Worker.Worker, scavenger.Scavenger.Scavenger, phases.Team.Team, keeper.Keeper.Keeper}
-use Rattle.pas_threads.specs.Taken.{HasRequest, IsEmptied, HasTaken, HandsOver}
-use Rattle.pas_threads.proofs.{TakingTurns.set_each, TakingTurns.came_none, TakingTurns.pushed_none, Benched.among_cases, Benched.among_here}
-use Rattle.pas_threads.proofs.{Benched.among_later}
-use Rattle.pas_threads.proofs.Dealt.{some_item, picked_many, picked_at, picked_pairs, number_at, idle_picked, idle_distinct, idle_within}
+use Rattle.pas_acts.specs.{declared.names.NameBook.NameBook, Shares.{owner_in, IsWoven, AreAmong, IsRequestOf, NoneAsks, asked_after_act, asked_after_acts}}
+use Rattle.pas_acts.specs.{Shares.{actor_of_act, acts_by, AreInHand, thread_in}, Works.Later, Keepers.{Keeping, LaterKept}, Pairs.{PairWorks, KeeperWaits}}
+use Rattle.pas_acts.{specs.Pairs.KeptPushed, proofs.{ActsOfPlan.back_below, Naming.{are_known, sound_front, sound_back}, Noting.{asks, asks_more}}}
+use Rattle.pas_acts.proofs.{AtDesk.sits_for, PhaseActs.{none_own, acts_are_shared, own_thread, owner_of}}
+use Rattle.pas_threads.specs.{declared.{workers.Worker.Worker, scavenger.Scavenger.Scavenger, phases.Team.Team, keeper.Keeper.Keeper}, Taken.HasRequest}
+use Rattle.pas_threads.specs.{Taken.{IsEmptied, HasTaken, HandsOver}, Hands.{kept_by, WorkerAt, Did}, Sessions.WorkerHas, Turns.{Came, Told, TookNoPart}}
+use Rattle.pas_threads.specs.{Crews.{Crew, CrewDid}, Scavengers.{crew_of, ScavengerStands, DidScavenge}, Lent.{Shift, IsLent, AreLent}, Left.{pair_in, HasLeft}}
+use Rattle.pas_threads.specs.{Left.{keeper_actors, crew_in}, Dealing.{picked, count_of, is_in, is_out}, Performing.{Round, idle_in, IsReady, PaysFor}}
+use Rattle.pas_threads.specs.{Performing.{ThreadDone, ScavengerDone, PieceLeft}, Pairs.{kept_by_worker, IsKeeperOf, owed_kept, PairStands, PairDid, MayDoPhase}}
+use Rattle.pas_threads.{specs.Pairs.DidPhase, proofs.{TakingTurns.{set_each, came_none, pushed_none}, Benched.{among_cases, among_here, among_later}}}
+use Rattle.pas_threads.proofs.{Dealt.{some_item, picked_many, picked_at, picked_pairs, number_at, idle_picked, idle_distinct, idle_within}, Keepers.two_counted}
+use Rattle.pas_threads.proofs.Keepers.{owed_same, owed_still, kept_none, still_same, waits_still, kept_hands}
 use Rattle.pas_steps.specs.Desks.{Standing}
-use Rattle.pas_trace.specs.Asked.{work_of, of_task, request_of}
-use Rattle.pas_trace.specs.declared.{plan.What.What, item.Request.Request, plan.Chore.Chore, plan.Work.Work, plan.Op.Op}
-use Rattle.pas_trace.specs.Acts.{Act, act_kept, operation_in, asked_after_operation, is_active, idle_threads, idle_stops, acts_of_chore, acts_of_work}
-use Rattle.pas_trace.specs.Acts.{acts_of_op, acts_of_ops, own_acts, numbers_from, scavenger_acts}
-use Rattle.pas_answers.specs.Calls.{block_behind, MayStand, AreKnown, OnlyAsked}
-use Rattle.pas_answers.specs.declared.names.Names.{Names}
-use Rattle.pas_trace.proofs.{EveryPlan.kept_with, ThreadsInOrder.numbers_count}
-use Rattle.pas_acts.proofs.{ActsOfPlan.back_below, Naming.are_known, Noting.asks, Noting.asks_more, Naming.sound_front, Naming.sound_back, AtDesk.sits_for}
-use Rattle.pas_acts.proofs.PhaseActs.{none_own, acts_are_shared, own_thread, owner_of}
-use Rattle.pas_acts.specs.Shares.{owner_in, IsWoven, AreAmong, IsRequestOf, NoneAsks, asked_after_act, asked_after_acts, actor_of_act, acts_by, AreInHand}
-use Rattle.pas_acts.specs.Shares.{thread_in}
-use Rattle.pas_acts.specs.{Works.Later, Keepers.Keeping, Keepers.LaterKept, Pairs.PairWorks, Pairs.KeeperWaits, Pairs.KeptPushed}
-use Rattle.pas_threads.specs.{Hands.kept_by, Hands.WorkerAt, Hands.Did, Sessions.WorkerHas, Turns.Came, Turns.Told, Turns.TookNoPart, Crews.Crew, Crews.CrewDid}
-use Rattle.pas_threads.specs.{Scavengers.crew_of, Scavengers.ScavengerStands, Scavengers.DidScavenge, Lent.Shift, Lent.IsLent, Lent.AreLent}
-use Rattle.pas_threads.specs.Left.{pair_in, HasLeft, keeper_actors, crew_in}
-use Rattle.pas_bits.specs.Masks.{is_set}
-use Rattle.pas_bits.specs.declared.mask.Mask4.{Mask4}
-use Rattle.pas_shared.specs.declared.region.SharedRegion.{SharedRegion}
-use Rattle.pas_threads.specs.Dealing.{picked, count_of, is_in, is_out}
-use Rattle.pas_threads.specs.Performing.{Round, idle_in, IsReady, PaysFor, ThreadDone, ScavengerDone, PieceLeft}
-use Rattle.pas_threads.specs.Pairs.{kept_by_worker, IsKeeperOf, owed_kept, PairStands, PairDid, MayDoPhase, DidPhase}
-use Rattle.pas_threads.proofs.Keepers.{two_counted, owed_same, owed_still, kept_none, still_same, waits_still, kept_hands}
-use Rattle.std.specs.List.{filter}
-use Rattle.pas_shared.specs.Ruled.{among}
+use Rattle.pas_bits.specs.{Masks.is_set, declared.mask.Mask4.Mask4}
+use Rattle.pas_shared.specs.{declared.region.SharedRegion.SharedRegion, Ruled.among}
 
 -- ---- all workers, one after the other
 -- a request of these has the name, and what it came to is the same whatever else is said; or none has it

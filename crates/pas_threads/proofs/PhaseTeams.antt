@@ -1,50 +1,38 @@
 -- A phase of the team: what each worker's share of it is, what all workers did and said is put together, gathered and taken over, and then the team stands
 -- before the phases that are left.
 use Rattle.std.proofs.Common.{◌≡◌, ℕ, zero, ◌+◌, ◌-◌, ◌<◌, ◌≤◌, true, inl, inr, List, [], ◌++◌, length, None, refl, ap, sym, ◌∙◌, subst, arith, append-nil, suc}
-use Rattle.std.proofs.Common.{Bool, false, ◌∷◌, get_or, Option, All, map, length-append, MatchOption, eqb-true, eq-eqb, ◌⊎◌}
-use Rattle.std.proofs.lemmas.{List.append_cancel_left, Bool.false_from_ne_true, Bool.cases_Bool, Bool.cases_lt}
+use Rattle.std.proofs.{Common.{Bool, false, ◌∷◌, get_or, Option, All, map, length-append, MatchOption, eqb-true, eq-eqb, ◌⊎◌}, lemmas.List.append_cancel_left}
+use Rattle.std.proofs.lemmas.Bool.{false_from_ne_true, cases_Bool, cases_lt}
 use Rattle.pas_profile.specs.declared.profile.Profile.{Profile}
-use Rattle.pas_steps.specs.{Lists.part, Lists.Whole, Views.View}
-use Rattle.pas_shared.specs.declared.{region.SharedRegion.SharedRegion, ledger.Ledger.Ledger}
-use Rattle.pas_trace.specs.EveryPlan.{own_records, is_asked, records_of_ops, all_ops}
-use Rattle.pas_trace.specs.declared.plan.Op.{Op}
+use Rattle.pas_steps.specs.{Lists.{part, Whole}, Views.View}
+use Rattle.pas_shared.specs.{declared.{region.SharedRegion.SharedRegion, ledger.Ledger.Ledger}, Ruled.{steps_of, IsEarlier, AreEarlier}, Ledgers.looks_of}
+use Rattle.pas_trace.specs.{EveryPlan.{own_records, is_asked, records_of_ops, all_ops}, declared.plan.Op.Op, Acts.{Act, own_acts, scavenger_acts, idle_threads}}
+use Rattle.pas_trace.specs.{Acts.{acts_of_ops, is_active, Wakes, numbers_from, active_threads, phase_acts}, Asked.keeper_in, EveryPhase.FreeTheirOwn}
 use Rattle.pas_trace.proofs.EveryPlan.{own_both, records_both}
-use Rattle.pas_trace.specs.Acts.{Act, own_acts, scavenger_acts, idle_threads, acts_of_ops, is_active, Wakes, numbers_from, active_threads, phase_acts}
 use Rattle.pas_cache.specs.Caches.{Cached, cached}
 use Rattle.pas_utility.specs.Outcomes.{places_of}
-use Rattle.pas_answers.specs.{Answers.Progress, Answers.Named, Calls.owed_events, Calls.OnlyAsked, Fit.costs_of, Fit.own_costs_of, Fit.AreFit, Names.names_held}
-use Rattle.pas_answers.specs.{Reaching.Reaches, Ways.records_by, Ways.by_actors, Stages.in_hands, Stages.phase_stages}
-use Rattle.pas_answers.proofs.{OwnRecords.records_both as said_both, Reached.reach_both, EachAct.all_back}
-use Rattle.pas_acts.specs.{Pairs.for_guards, Pairs.KeeperWaits, Pairs.KeptPushed, Awake.awake_in}
-use Rattle.pas_acts.proofs.{ActsOfPlan.idle_few, ActsOfPlan.ops_fit, Weaving.weave, AtDesk.rests_still, AtDesk.sits_still, AtDesk.sits_for, Naming.sound_front}
-use Rattle.pas_acts.proofs.{Naming.below_front, ActsLeft.threads_alike}
-use Rattle.pas_acts.specs.Shares.{Owners, acts_by, owner_in, AreKeptBehind, IsShareOf, IsWoven}
-use Rattle.pas_acts.proofs.PhaseActs.{acts_are_shared, zero_own, own_thread, owner_of, kept_thread}
-use Rattle.pas_acts.specs.NameBooks.{NamesAt, requests_in, names_of, known_in, Requests, AreWithin}
-use Rattle.pas_acts.specs.declared.names.NameBook.{NameBook}
-use Rattle.pas_threads.specs.Pairs.{no_more, KeeperRests, owed_kept, keeper_at, owed_by_keepers, AreGuarded, kept_by_worker}
-use Rattle.pas_threads.specs.Performing.{Round, idle_in, ThreadDone, ScavengerDone, IsDone, HeardOrder, IsHeard}
-use Rattle.pas_threads.specs.Sessions.{WorkerRests, ScavengerRests, WorkerHas, Session, planned, owed_by, HasPlaces, TeamAt, AreMarked, AreWritten, HasRoom}
-use Rattle.pas_threads.specs.Sessions.{PhaseAt, PhaseDone, IsOfActors, StandSo, WentBy, evenly}
-use Rattle.pas_threads.specs.{Taken.HandsOver, Taken.HasTaken, Taken.IsWithin, Left.pair_in, Left.crew_in}
-use Rattle.pas_threads.specs.Turns.{owed_at, Came, TookNoPart, said_by_all, said_by_keepers, Pushed}
-use Rattle.pas_threads.proofs.TakingTurns.{IsCleared, IsScavengerCleared, WereTaken, cleared, pass_still, same_owed, WereGathered}
-use Rattle.pas_threads.proofs.Dealt.{number_at, some_item}
-use Rattle.pas_threads.proofs.Performed.{names_then, names_within, in_pair, pair_within, pair_has, pair_keeps, in_crew, crew_within}
-use Rattle.pas_threads.proofs.ReadyPhases.{own_costs, scavenger_costs, own_all, all_paid, owed_less, kept_less, HasBegun, round_of, room_is, active_front}
-use Rattle.pas_threads.proofs.ReadyPhases.{active_back}
-use Rattle.pas_threads.proofs.Keepers.{owed_still, will_wait_then, waits_next, waits_still, owed_gathered, keeper_is, kept_nobody, kept_will, kept_hands}
-use Rattle.pas_threads.proofs.Keepers.{pushed_alike}
-use Rattle.pas_threads.specs.declared.{scavenger.Scavenger.Scavenger, workers.Worker.Worker, keeper.Keeper.Keeper, phases.Team.Team}
-use Rattle.pas_bits.specs.Masks.{is_set}
-use Rattle.pas_bits.specs.declared.mask.Mask4.{Mask4}
-use Rattle.pas_shared.specs.{Ruled.steps_of, Ruled.IsEarlier, Ruled.AreEarlier, Ledgers.looks_of}
+use Rattle.pas_answers.specs.{Answers.{Progress, Named}, Calls.{owed_events, OnlyAsked}, Fit.{costs_of, own_costs_of, AreFit}, Names.names_held}
+use Rattle.pas_answers.{specs.{Reaching.Reaches, Ways.{records_by, by_actors}, Stages.{in_hands, phase_stages}}, proofs.OwnRecords.records_both as said_both}
+use Rattle.pas_answers.proofs.{Reached.reach_both, EachAct.all_back}
+use Rattle.pas_acts.specs.{Pairs.{for_guards, KeeperWaits, KeptPushed}, Awake.awake_in, Shares.{Owners, acts_by, owner_in, AreKeptBehind, IsShareOf, IsWoven}}
+use Rattle.pas_acts.specs.{NameBooks.{NamesAt, requests_in, names_of, known_in, Requests, AreWithin}, declared.names.NameBook.NameBook}
+use Rattle.pas_acts.proofs.{ActsOfPlan.{idle_few, ops_fit}, Weaving.weave, AtDesk.{rests_still, sits_still, sits_for}, Naming.{sound_front, below_front}}
+use Rattle.pas_acts.proofs.{ActsLeft.threads_alike, PhaseActs.{acts_are_shared, zero_own, own_thread, owner_of, kept_thread}}
+use Rattle.pas_threads.specs.{Pairs.{no_more, KeeperRests, owed_kept, keeper_at, owed_by_keepers, AreGuarded, kept_by_worker}, Performing.{Round, idle_in}}
+use Rattle.pas_threads.specs.{Performing.{ThreadDone, ScavengerDone, IsDone, HeardOrder, IsHeard}, Sessions.{WorkerRests, ScavengerRests, WorkerHas, Session}}
+use Rattle.pas_threads.specs.Sessions.{planned, owed_by, HasPlaces, TeamAt, AreMarked, AreWritten, HasRoom, PhaseAt, PhaseDone, IsOfActors, StandSo, WentBy}
+use Rattle.pas_threads.specs.{Sessions.evenly, Taken.{HandsOver, HasTaken, IsWithin}, Left.{pair_in, crew_in}, Turns.{owed_at, Came, TookNoPart, said_by_all}}
+use Rattle.pas_threads.specs.{Turns.{said_by_keepers, Pushed}, declared.{scavenger.Scavenger.Scavenger, workers.Worker.Worker, keeper.Keeper.Keeper}}
+use Rattle.pas_threads.{specs.declared.phases.Team.Team, proofs.TakingTurns.{IsCleared, IsScavengerCleared, WereTaken, cleared, pass_still, same_owed}}
+use Rattle.pas_threads.proofs.{TakingTurns.WereGathered, Dealt.{number_at, some_item}, Performed.{names_then, names_within, in_pair, pair_within, pair_has}}
+use Rattle.pas_threads.proofs.{Performed.{pair_keeps, in_crew, crew_within}, ReadyPhases.{own_costs, scavenger_costs, own_all, all_paid, owed_less, kept_less}}
+use Rattle.pas_threads.proofs.{ReadyPhases.{HasBegun, round_of, room_is, active_front, active_back}, Keepers.{owed_still, will_wait_then, waits_next}}
+use Rattle.pas_threads.proofs.{Keepers.{waits_still, owed_gathered, keeper_is, kept_nobody, kept_will, kept_hands, pushed_alike}, Staging.{stand_all, of_first}}
+use Rattle.pas_threads.proofs.{Staging.{went_both, went_alone, went_sorted, sorted_still, sorted_seen}, BetweenPhases.{AllTold, may_gather, room_left, written}}
+use Rattle.pas_threads.proofs.BetweenPhases.{rest_again}
+use Rattle.pas_bits.specs.{Masks.is_set, declared.mask.Mask4.Mask4}
 use Rattle.pas_core.specs.Orders.{steps_by}
-use Rattle.pas_trace.specs.{Asked.keeper_in, EveryPhase.FreeTheirOwn}
-use Rattle.pas_threads.proofs.Staging.{stand_all, of_first, went_both, went_alone, went_sorted, sorted_still, sorted_seen}
-use Rattle.pas_records.specs.Rooms.{records_in, room_of, Records}
-use Rattle.pas_records.specs.declared.record.Record.{Record}
-use Rattle.pas_threads.proofs.BetweenPhases.{AllTold, may_gather, room_left, written, rest_again}
+use Rattle.pas_records.specs.{Rooms.{records_in, room_of, Records}, declared.record.Record.Record}
 
 -- ---- the whole phase
 whole_share : (owner : Owners) (w : ℕ) (p : Progress) → IsShareOf owner w p p

@@ -1,35 +1,25 @@
 -- What a phase of the team begins with: what its acts cost, owe and say in all; its threads read the epoch, its names are noted, and all hands are ready.
 use Rattle.std.proofs.Common.{◌≡◌, ◌≢◌, ℕ, zero, suc, ◌+◌, ◌<◌, ◌≤◌, ◌==◌, Bool, true, if◌then◌else◌, inl, inr, List, [], ◌∷◌, ◌++◌, length, get_or, Option}
 use Rattle.std.proofs.Common.{None, refl, ap, sym, ◌∙◌, arith, append_assoc, length-append, eq-eqb, ne_eqb, ◌-◌, subst, MatchOption, vec_capacity}
-use Rattle.std.proofs.lemmas.Bool.{cases_eq, false≢true, or_cases, or_left, or_right}
+use Rattle.std.{proofs.lemmas.{Bool.{cases_eq, false≢true, or_cases, or_left, or_right}, List.with_items_is}, specs.Vec.with_items}
 use Rattle.pas_profile.specs.declared.profile.Profile.{Profile}
-use Rattle.pas_trace.specs.{Asked.keeper_in, EveryPhase.FreesItsOwn}
-use Rattle.pas_trace.specs.EveryPlan.{records_of_work, records_of_what, records_of_ops, own_records, all_ops}
-use Rattle.pas_trace.specs.declared.plan.{Work.Work, Op.Op}
-use Rattle.pas_trace.specs.Acts.{Act, Settles, act_kept, acts_of_op, own_acts, scavenger_acts, idle_threads, is_active}
-use Rattle.pas_answers.specs.{Answers.Progress, Answers.Books, Ways.records_by, Ways.by_actors, Calls.owed_events}
-use Rattle.pas_answers.specs.Fit.{cost_of_work, cost_of_what, costs_of, own_cost_of_act, own_costs_of}
-use Rattle.pas_answers.proofs.{SingleActs.sum_both, EachAct.all_front}
-use Rattle.pas_acts.proofs.{ActsOfPlan.work_costs, ActsOfPlan.idle_few, AtDesk.sits_still, AtDesk.sits_for, Naming.names_before, Naming.sound_front}
-use Rattle.pas_threads.specs.Pairs.{said_by_keeper, owed_kept, keeper_at, owed_by_keepers, AreGuarded, no_more}
-use Rattle.pas_threads.specs.Sessions.{owed_by, Session, planned, WorkerRests, AreResting, ScavengerRests, HasPlaces, TeamAt, WorkersRest}
-use Rattle.pas_threads.specs.Turns.{owed_at, said_by, said_kept, said_by_keepers, WokeAll}
-use Rattle.pas_threads.specs.declared.{workers.Worker.Worker, phases.Team.Team, scavenger.Scavenger.Scavenger}
-use Rattle.std.specs.Vec.{with_items}
-use Rattle.std.proofs.lemmas.List.{with_items_is}
-use Rattle.pas_bits.specs.declared.mask.Mask4.{Mask4}
-use Rattle.pas_steps.specs.{Lists.Whole, Lists.part, Views.View}
-use Rattle.pas_shared.specs.declared.region.SharedRegion.{SharedRegion}
+use Rattle.pas_trace.specs.{Asked.keeper_in, EveryPhase.FreesItsOwn, EveryPlan.{records_of_work, records_of_what, records_of_ops, own_records, all_ops}}
+use Rattle.pas_trace.specs.{declared.plan.{Work.Work, Op.Op}, Acts.{Act, Settles, act_kept, acts_of_op, own_acts, scavenger_acts, idle_threads, is_active}}
 use Rattle.pas_trace.proofs.EveryPlan.{own_both}
+use Rattle.pas_answers.specs.{Answers.{Progress, Books}, Ways.{records_by, by_actors}, Calls.owed_events, Fit.{cost_of_work, cost_of_what, costs_of}}
+use Rattle.pas_answers.{specs.Fit.{own_cost_of_act, own_costs_of}, proofs.{SingleActs.sum_both, EachAct.all_front}}
+use Rattle.pas_acts.{proofs.{ActsOfPlan.{work_costs, idle_few}, AtDesk.{sits_still, sits_for}, Naming.{names_before, sound_front}}, specs.Keepers.LaterKept}
+use Rattle.pas_acts.specs.{Pairs.for_guards, Works.Later, NameBooks.{NamesAt, ArePlaced, names_asked}, declared.names.NameBook.NameBook}
+use Rattle.pas_threads.specs.{Pairs.{said_by_keeper, owed_kept, keeper_at, owed_by_keepers, AreGuarded, no_more}, Sessions.{owed_by, Session, planned}}
+use Rattle.pas_threads.specs.{Sessions.{WorkerRests, AreResting, ScavengerRests, HasPlaces, TeamAt, WorkersRest}, Turns.{owed_at, said_by, said_kept}}
+use Rattle.pas_threads.specs.{Turns.{said_by_keepers, WokeAll}, declared.{workers.Worker.Worker, phases.Team.Team, scavenger.Scavenger.Scavenger}}
+use Rattle.pas_threads.{specs.{Hands.WorkerAt, Settling.ActorsStand, Performing.{Round, round, ScavengerHas, IsReady}}, proofs.Closing.turns_stand}
+use Rattle.pas_threads.proofs.{Staging.team_stands, TakingTurns.{pass_still, woke_rest}, Keepers.{alike_same, guarded_alike, kept_waits, kept_still}}
+use Rattle.pas_bits.specs.declared.mask.Mask4.{Mask4}
+use Rattle.pas_steps.specs.{Lists.{Whole, part}, Views.View}
+use Rattle.pas_shared.specs.declared.region.SharedRegion.{SharedRegion}
 use Rattle.pas_cache.specs.Caches.{Cached, cached}
-use Rattle.pas_acts.specs.{Keepers.LaterKept, Pairs.for_guards, Works.Later, NameBooks.NamesAt, NameBooks.ArePlaced, NameBooks.names_asked}
-use Rattle.pas_acts.specs.declared.names.NameBook.{NameBook}
-use Rattle.pas_threads.specs.{Hands.WorkerAt, Settling.ActorsStand}
-use Rattle.pas_threads.specs.Performing.{Round, round, ScavengerHas, IsReady}
-use Rattle.pas_threads.proofs.{Closing.turns_stand, Staging.team_stands, TakingTurns.pass_still, TakingTurns.woke_rest}
-use Rattle.pas_threads.proofs.Keepers.{alike_same, guarded_alike, kept_waits, kept_still}
-use Rattle.pas_records.specs.declared.record.Record.{Record}
-use Rattle.pas_records.specs.Rooms.{room_of}
+use Rattle.pas_records.specs.{declared.record.Record.Record, Rooms.room_of}
 
 -- ---- a thread
 cost_le : (f : Profile) (work : Work) → cost_of_work work ≤ records_of_work f work

@@ -1,29 +1,19 @@
 -- The phases of a replay: acts without a mark, acts after one another, how stages follow each other, and what a settled ledger has of a team.
 use Rattle.std.proofs.Common.{◌≡◌, ℕ, zero, suc, ◌+◌, ◌-◌, ◌<◌, ◌≤◌, ◌==◌, Bool, true, if◌then◌else◌, inl, inr, List, [], ◌∷◌, ◌++◌, length, map, get_or}
 use Rattle.std.proofs.Common.{Option, Some, refl, ap, sym, ◌∙◌, subst, arith, append_assoc, ◌⊎◌, take, length-append, eq-eqb, true≢false, take_at}
-use Rattle.std.specs.List.{AllByRecursion}
-use Rattle.std.proofs.lemmas.{Bool.cases_lt, Option.same_Some, Bool.cases_Bool, List.map-append}
-use Rattle.pas_profile.specs.declared.profile.Profile.{Profile}
-use Rattle.pas_profile.proofs.Lists.{all_both}
-use Rattle.pas_steps.specs.{Lists.Whole, Lists.part, Views.View, Lists.Triple, Desks.triples}
-use Rattle.pas_steps.specs.declared.step.Made.{Made}
+use Rattle.std.{proofs.lemmas.{Bool.{cases_lt, cases_Bool}, Option.same_Some, List.map-append}, specs.List.AllByRecursion}
+use Rattle.pas_profile.{specs.declared.profile.Profile.Profile, proofs.Lists.all_both}
+use Rattle.pas_steps.specs.{Lists.{Whole, part, Triple}, Views.View, Desks.triples, declared.step.Made.Made}
 use Rattle.pas_trace.specs.Acts.{Act, MarksPhase, MarksClose, Wakes, Ends, Lowers, active_threads, idle_threads, numbers_from, own_acts, act_kept, acts_of_work}
-use Rattle.pas_trace.specs.Acts.{acts_of_ops, phase_acts}
-use Rattle.pas_trace.specs.{Asked.work_of, EveryPlan.all_ops}
-use Rattle.pas_trace.specs.declared.plan.{Op.Op, Work.Work}
-use Rattle.pas_shared.specs.{Ruled.IsEarlier, Passes.seat_of, Passes.view_of, Passes.IsPassOf}
-use Rattle.pas_shared.specs.declared.{region.SharedRegion.SharedRegion, pass.SharedPass.SharedPass}
+use Rattle.pas_trace.specs.{Acts.{acts_of_ops, phase_acts}, Asked.work_of, EveryPlan.all_ops, declared.plan.{Op.Op, Work.Work}}
+use Rattle.pas_shared.specs.{Ruled.IsEarlier, Passes.{seat_of, view_of, IsPassOf}, declared.{region.SharedRegion.SharedRegion, pass.SharedPass.SharedPass}}
 use Rattle.pas_acts.specs.{Keepers.LaterKept, Pairs.KeeperWaits, Works.Later}
-use Rattle.pas_answers.specs.{Answers.Progress, Reaching.Reaches, Phases.StandFirst, Phases.AtMark, Phases.AreInPhases}
-use Rattle.pas_answers.proofs.Reached.{reach_both, goes_on, both_by_stages}
-use Rattle.pas_threads.specs.{Hands.HasPass, Settling.StandsIn, Settling.PassStands, Settling.ActorsStand, Left.KeepsOrder}
-use Rattle.pas_threads.specs.Pairs.{no_more, kept_by_worker, AreGuarded, HasKeeper, IsKeeperOf}
-use Rattle.pas_threads.specs.Sessions.{Session, closing_acts, WorkerHas, TeamAt, IsOfActors, StandSo, WentBy}
-use Rattle.pas_threads.specs.declared.{keeper.Keeper.Keeper, phases.Team.Team, workers.Worker.Worker}
-use Rattle.pas_threads.proofs.Dealt.{some_item}
-use Rattle.pas_core.specs.Orders.{steps_by}
-use Rattle.pas_core.proofs.Choosing.{steps_by_both, part_of_chosen, Within, steps_by_one, no_steps_by, as_many_steps}
-use Rattle.pas_answers.specs.Stages.{Owners, itself, in_hands, AreSorted, Stage, stage, one_by_one}
+use Rattle.pas_answers.specs.{Answers.Progress, Reaching.Reaches, Phases.{StandFirst, AtMark, AreInPhases}, Stages.{Owners, itself, in_hands, AreSorted, Stage}}
+use Rattle.pas_answers.{specs.Stages.{stage, one_by_one}, proofs.Reached.{reach_both, goes_on, both_by_stages}}
+use Rattle.pas_threads.specs.{Hands.HasPass, Settling.{StandsIn, PassStands, ActorsStand}, Left.KeepsOrder, Pairs.{no_more, kept_by_worker, AreGuarded}}
+use Rattle.pas_threads.specs.{Pairs.{HasKeeper, IsKeeperOf}, Sessions.{Session, closing_acts, WorkerHas, TeamAt, IsOfActors, StandSo, WentBy}}
+use Rattle.pas_threads.{specs.declared.{keeper.Keeper.Keeper, phases.Team.Team, workers.Worker.Worker}, proofs.Dealt.some_item}
+use Rattle.pas_core.{specs.Orders.steps_by, proofs.Choosing.{steps_by_both, part_of_chosen, Within, steps_by_one, no_steps_by, as_many_steps}}
 use Rattle.pas_guard.proofs.Keepers.{part_both}
 
 -- ---- acts without a mark

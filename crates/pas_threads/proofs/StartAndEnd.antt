@@ -1,43 +1,30 @@
 -- How a kit is made, where its team stands when a replay starts, and what its end gives.
 use Rattle.std.proofs.Common.{◌≡◌, ◌≢◌, ℕ, zero, suc, ◌+◌, ◌*◌, ◌<◌, ◌≤◌, ◌==◌, List, [], ◌∷◌, ◌++◌, length, map, get_or, slice_index, slice_index_or, Bool}
 use Rattle.std.proofs.Common.{if◌then◌else◌, inl, inr, Option, Some, None, refl, ap, sym, ◌∙◌, subst, arith, MatchOption, eq-eqb, ne_eqb, length-set, ◌-◌, ◌/◌}
-use Rattle.std.proofs.Common.{All, length-append, drop, append_assoc, append-nil, ◌⊎◌}
-use Rattle.std.specs.List.{remove}
-use Rattle.std.proofs.{Math.ListN.set, Math.ListN.get_or-append, Math.Nat.suc-mul, lemmas.Bool.cases_eq, lemmas.Bool.cases_lt, lemmas.List.length-map}
-use Rattle.std.proofs.{lemmas.List.drop_more, lemmas.List.get_or_push, Math.Seq.get_or-append-add, lemmas.Option.same_Some, lemmas.List.Elements.All-set}
-use Rattle.pas_profile.specs.{Rooms.shown, Rooms.size_of_room, Rooms.EventRoom, Profiles.IsValid}
-use Rattle.pas_profile.specs.declared.{profile.Profile.Profile, guard.Guard.Guard}
-use Rattle.pas_trace.specs.Acts.{Act, Settles, act_kept, own_acts}
-use Rattle.pas_trace.specs.Asked.{work_of, keeper_in}
-use Rattle.pas_trace.specs.EveryPlan.{AreKept, all_ops, own_records, kept_of_work, kept_records}
-use Rattle.pas_trace.specs.Plans.{IsPlanOf, bounds_of, ops_of, phases_of as the_phases}
-use Rattle.pas_trace.specs.declared.plan.{Op.Op, Phase.Phase, Plan.Plan, What.What}
-use Rattle.pas_trace.proofs.{EveryPlan.every_phase, EveryPlan.every_plan, EveryPlan.few_operations, Keepers.plan_actors}
+use Rattle.std.proofs.{Common.{All, length-append, drop, append_assoc, append-nil, ◌⊎◌}, Math.{ListN.{set, get_or-append}, Nat.suc-mul, Seq.get_or-append-add}}
+use Rattle.std.{proofs.lemmas.{Bool.{cases_eq, cases_lt}, List.{length-map, drop_more, get_or_push, Elements.All-set}, Option.same_Some}, specs.List.remove}
+use Rattle.pas_profile.specs.{Rooms.{shown, size_of_room, EventRoom}, Profiles.IsValid, declared.{profile.Profile.Profile, guard.Guard.Guard}}
+use Rattle.pas_trace.specs.{Acts.{Act, Settles, act_kept, own_acts}, Asked.{work_of, keeper_in}, EveryPlan.{AreKept, all_ops, own_records, kept_of_work}}
+use Rattle.pas_trace.specs.{EveryPlan.kept_records, Plans.{IsPlanOf, bounds_of, ops_of, phases_of as the_phases}, declared.plan.{Op.Op, Phase.Phase, Plan.Plan}}
+use Rattle.pas_trace.{specs.declared.plan.What.What, proofs.{EveryPlan.{every_phase, every_plan, few_operations}, Keepers.plan_actors}}
 use Rattle.pas_guard.specs.Books.{FitsBook, guards_in, is_outer}
-use Rattle.pas_cache.specs.Caches.{Cached, cached}
-use Rattle.pas_cache.proofs.FlushesAndFrees.{rests_empty}
-use Rattle.pas_shared.specs.Passes.{AreFresh, IsPassOf, seat_of, view_of}
-use Rattle.pas_shared.specs.declared.{pass.SharedPass.SharedPass, region.SharedRegion.SharedRegion}
-use Rattle.pas_answers.specs.{Calls.owed_events, Names.names_held, Answers.Progress, Fit.AreOfThreads, Ways.OnThreads, Stages.stages_of, Stages.GoByStages}
-use Rattle.pas_answers.specs.Replays.{at_start, phases_of, region_of, threads_of, keepers_of, acts_of_plan, Shows}
-use Rattle.pas_acts.specs.{PlanKeepers.one_guarded, PlanKeepers.guarded_of, Parts.AreRooms, Shares.AreKeptBehind, Keepers.LaterKept, Keepers.KeeperAt}
-use Rattle.pas_acts.specs.{Keepers.keeper_has, Pairs.for_guards, Pairs.AreTriedBy, Pairs.AreUnguarded}
-use Rattle.pas_acts.proofs.PlanFacts.{is_guarded, pages_owed_at_first, plan_threads, plan_above, wider_sound, no_slots}
-use Rattle.pas_acts.proofs.{Naming.below_all, Naming.names_at_start, PhaseActs.active_within}
-use Rattle.pas_steps.proofs.Nothing.{nothing_yet}
-use Rattle.pas_threads.specs.{Hands.standing_of_pass, Settling.PassStands, Settling.ActorsStand}
-use Rattle.pas_threads.specs.Kits.{IsEquipped, AreEquipped, IsNew, AreNew, IsSupplied, IsKeeperFor, IsKitOf, slots_of, kept_pass, IsBack, passes_in}
-use Rattle.pas_threads.specs.Pairs.{no_more, KeeperRests, owed_kept, keeper_at, owed_by_keepers, AreGuarded, HasKeeper, IsLow, KeeperStands}
-use Rattle.pas_threads.specs.Sessions.{Session, WorkerRests, ScavengerRests, TeamAt, HasRoom, owed_by, IsOfActors, HasReplayed}
-use Rattle.pas_threads.specs.declared.{keeper.Keeper.Keeper, kit.SharedKit.SharedKit, scavenger.Scavenger.Scavenger, workers.Worker.Worker, phases.Team.Team}
-use Rattle.pas_threads.proofs.{Dealt.some_item, Keepers.keeper_is, Keepers.stands_for, TakingTurns.set_each, TakingTurns.each_pushed}
-use Rattle.pas_threads.proofs.Staging.{nothing_since, of_first, stand_all, of_each_actor, some_keeper, stands_with, team_stands}
-use Rattle.pas_steps.specs.{Clear.HasNothing, Lists.Whole, Lists.part, Lists.Legal}
-use Rattle.pas_steps.specs.declared.state.State.{State}
+use Rattle.pas_cache.{specs.Caches.{Cached, cached}, proofs.FlushesAndFrees.rests_empty}
+use Rattle.pas_shared.specs.{Passes.{AreFresh, IsPassOf, seat_of, view_of}, declared.{pass.SharedPass.SharedPass, region.SharedRegion.SharedRegion}}
 use Rattle.pas_shared.specs.Ledgers.{EndsAfter}
-use Rattle.pas_answers.proofs.Consequences.{replays}
-use Rattle.pas_records.specs.Rooms.{records_in, room_of, Records}
-use Rattle.pas_records.specs.declared.record.Record.{Record}
+use Rattle.pas_answers.specs.{Calls.owed_events, Names.names_held, Answers.Progress, Fit.AreOfThreads, Ways.OnThreads, Stages.{stages_of, GoByStages}}
+use Rattle.pas_answers.{specs.Replays.{at_start, phases_of, region_of, threads_of, keepers_of, acts_of_plan, Shows}, proofs.Consequences.replays}
+use Rattle.pas_acts.specs.{PlanKeepers.{one_guarded, guarded_of}, Parts.AreRooms, Shares.AreKeptBehind, Keepers.{LaterKept, KeeperAt, keeper_has}}
+use Rattle.pas_acts.{specs.Pairs.{for_guards, AreTriedBy, AreUnguarded}, proofs.PlanFacts.{is_guarded, pages_owed_at_first, plan_threads, plan_above}}
+use Rattle.pas_acts.proofs.{PlanFacts.{wider_sound, no_slots}, Naming.{below_all, names_at_start}, PhaseActs.active_within}
+use Rattle.pas_steps.{proofs.Nothing.nothing_yet, specs.{Clear.HasNothing, Lists.{Whole, part, Legal}, declared.state.State.State}}
+use Rattle.pas_threads.specs.{Hands.standing_of_pass, Settling.{PassStands, ActorsStand}, Kits.{IsEquipped, AreEquipped, IsNew, AreNew, IsSupplied}}
+use Rattle.pas_threads.specs.{Kits.{IsKeeperFor, IsKitOf, slots_of, kept_pass, IsBack, passes_in}, Pairs.{no_more, KeeperRests, owed_kept, keeper_at}}
+use Rattle.pas_threads.specs.{Pairs.{owed_by_keepers, AreGuarded, HasKeeper, IsLow, KeeperStands}, Sessions.{Session, WorkerRests, ScavengerRests, TeamAt}}
+use Rattle.pas_threads.specs.{Sessions.{HasRoom, owed_by, IsOfActors, HasReplayed}, declared.{keeper.Keeper.Keeper, kit.SharedKit.SharedKit}}
+use Rattle.pas_threads.{specs.declared.{scavenger.Scavenger.Scavenger, workers.Worker.Worker, phases.Team.Team}, proofs.{Dealt.some_item, Keepers.keeper_is}}
+use Rattle.pas_threads.proofs.{Keepers.stands_for, TakingTurns.{set_each, each_pushed}, Staging.{nothing_since, of_first, stand_all, of_each_actor}}
+use Rattle.pas_threads.proofs.Staging.{some_keeper, stands_with, team_stands}
+use Rattle.pas_records.specs.{Rooms.{records_in, room_of, Records}, declared.record.Record.Record}
 
 -- ---- equipping
 pub equipped_more : {bounds : List ℕ} {passes after : List SharedPass} {workers now : List Worker} (pass : SharedPass) (worker : Worker)

@@ -2,34 +2,26 @@
 -- what a ledger heard of each, and of the benches that the hands of a phase left.
 use Rattle.std.proofs.Common.{arith, ◌≡◌, ℕ, ◌<◌, List, [], ◌++◌, length, get_or, sym, ◌∙◌, subst, ◌≢◌, inl, inr, ◌∷◌, set, refl, ap, append_assoc, suc, ◌+◌}
 use Rattle.std.proofs.Common.{◌-◌, ◌≤◌, true, false, map, length-append, drop, drop_of_length-le, append-nil, get_or-set_other, Option, true≢false, Bool}
-use Rattle.pas_answers.specs.{Names.names_held, Answers.Progress, Ways.EachOf, Ways.records_by, Calls.owed_events, Fit.own_cost_of_act}
-use Rattle.pas_acts.specs.declared.names.NameBook.{NameBook}
-use Rattle.pas_threads.specs.{Taken.IsEmptied, Taken.HasTaken, Hands.standing_of_pass, Left.HasLeft}
-use Rattle.pas_threads.specs.Turns.{said_by, said_by_all, said_by_keepers, HasSaid, IsOwnGathered, IsKeptGathered, IsGathered, AreDistinct, Came, Pushed, Told}
-use Rattle.pas_threads.specs.Turns.{TookNoPart, Turn, TookTurns, owed_at, IsDue, Woke, WokeAll}
-use Rattle.pas_threads.specs.declared.{scavenger.Scavenger.Scavenger, workers.Worker.Worker, phases.Team.Team}
-use Rattle.std.proofs.{lemmas.List.get_or_default, lemmas.List.drop_more, lemmas.List.get_or_push, lemmas.Grind.get_or-set_at, lemmas.Bool.cases_eq}
-use Rattle.std.proofs.{lemmas.Bool.cases_lt, Math.ListN.get_or-append}
-use Rattle.pas_profile.specs.declared.profile.Profile.{Profile}
-use Rattle.pas_steps.specs.{Lists.Whole, Lists.part, Desks.Standing}
-use Rattle.pas_trace.specs.Acts.{Act, Wakes, numbers_from, is_active}
-use Rattle.pas_answers.proofs.{OwnRecords.records_both, OwnRecords.none_by, OwnRecords.all_by, Reached.reach_both}
-use Rattle.pas_acts.specs.{Keepers.StandsStill, Works.Later, Works.Sits, NameBooks.requests_in, NameBooks.room_for, Awake.awake_in, AtDesks.here}
-use Rattle.pas_acts.specs.{AtDesks.ThreadActs}
-use Rattle.pas_acts.proofs.AtDesk.{leaves_rest, sits_for, rests_still}
-use Rattle.pas_shared.specs.declared.{region.SharedRegion.SharedRegion, pass.SharedPass.SharedPass, bench.Bench.Bench, ledger.Ledger.Ledger, rule.Entry.Entry}
-use Rattle.pas_shared.specs.declared.{rule.Row.Row}
+use Rattle.std.proofs.{lemmas.{List.{get_or_default, drop_more, get_or_push}, Grind.get_or-set_at, Bool.{cases_eq, cases_lt}}, Math.ListN.get_or-append}
 use Rattle.std.specs.List.{filter}
-use Rattle.pas_bits.specs.Masks.{is_set}
-use Rattle.pas_bits.specs.declared.mask.Mask4.{Mask4}
-use Rattle.pas_cache.specs.Caches.{Cached, cached, AtRest}
-use Rattle.pas_acts.proofs.ActsLeft.{acts_there, next_chosen, next_passed, none_left}
-use Rattle.pas_threads.specs.Sessions.{evenly, WorkerHas, WorkerRests, AreResting, HasPlaces}
-use Rattle.pas_shared.specs.Ruled.{IsEarlier, AreEarlier, first_look, bases_in}
-use Rattle.pas_threads.specs.Settling.{SawMore, HasHeard, HasBench, with_bench, IsButBench}
+use Rattle.pas_answers.specs.{Names.names_held, Answers.Progress, Ways.{EachOf, records_by}, Calls.owed_events, Fit.own_cost_of_act}
+use Rattle.pas_answers.proofs.{OwnRecords.{records_both, none_by, all_by}, Reached.reach_both}
+use Rattle.pas_acts.specs.{declared.names.NameBook.NameBook, Keepers.StandsStill, Works.{Later, Sits}, NameBooks.{requests_in, room_for}, Awake.awake_in}
+use Rattle.pas_acts.{specs.AtDesks.{here, ThreadActs}, proofs.{AtDesk.{leaves_rest, sits_for, rests_still}, ActsLeft.{acts_there, next_chosen, next_passed}}}
+use Rattle.pas_acts.proofs.ActsLeft.{none_left}
+use Rattle.pas_threads.specs.{Taken.{IsEmptied, HasTaken}, Hands.standing_of_pass, Left.HasLeft, Turns.{said_by, said_by_all, said_by_keepers, HasSaid}}
+use Rattle.pas_threads.specs.Turns.{IsOwnGathered, IsKeptGathered, IsGathered, AreDistinct, Came, Pushed, Told, TookNoPart, Turn, TookTurns, owed_at, IsDue}
+use Rattle.pas_threads.specs.{Turns.{Woke, WokeAll}, declared.{scavenger.Scavenger.Scavenger, workers.Worker.Worker, phases.Team.Team}, Sessions.evenly}
+use Rattle.pas_threads.specs.{Sessions.{WorkerHas, WorkerRests, AreResting, HasPlaces}, Settling.{SawMore, HasHeard, HasBench, with_bench, IsButBench}}
 use Rattle.pas_threads.specs.Performing.{Round, ThreadDone, ScavengerDone, HaveActed, HeardOrder, IsHeard}
-use Rattle.pas_records.specs.Rooms.{records_in, room_of, Records}
-use Rattle.pas_records.specs.declared.record.Record.{Record}
+use Rattle.pas_profile.specs.declared.profile.Profile.{Profile}
+use Rattle.pas_steps.specs.{Lists.{Whole, part}, Desks.Standing}
+use Rattle.pas_trace.specs.Acts.{Act, Wakes, numbers_from, is_active}
+use Rattle.pas_shared.specs.declared.{region.SharedRegion.SharedRegion, pass.SharedPass.SharedPass, bench.Bench.Bench, ledger.Ledger.Ledger, rule.Entry.Entry}
+use Rattle.pas_shared.specs.{declared.rule.Row.Row, Ruled.{IsEarlier, AreEarlier, first_look, bases_in}}
+use Rattle.pas_bits.specs.{Masks.is_set, declared.mask.Mask4.Mask4}
+use Rattle.pas_cache.specs.Caches.{Cached, cached, AtRest}
+use Rattle.pas_records.specs.{Rooms.{records_in, room_of, Records}, declared.record.Record.Record}
 
 -- All that these workers said came to the end of the records, for their threads and then for their keepers.
 pub record WereGathered (old new : List Worker) (out out' : Records) : Type 0 where

@@ -2,8 +2,8 @@
 use Rattle.std.specs.Prelude.{ℕ, ◌<◌, ◌≡◌, List, length, map, get_or}
 use Rattle.pas_trace.specs.declared.plan.Op.{Op}
 use Rattle.pas_shared.specs.declared.region.SharedRegion.{SharedRegion}
-use Rattle.pas_threads.specs.{Pairs.MayDoPhase, Pairs.DidPhase, Scavengers.MayScavenge, Scavengers.DidScavenge}
-use Rattle.pas_threads.specs.declared.{workers.Worker.Worker, hands.Hand.Hand, hands.Hand.TheVariants.Thread, hands.Hand.TheVariants.Scavenger}
+use Rattle.pas_threads.specs.{Pairs.{MayDoPhase, DidPhase}, Scavengers.{MayScavenge, DidScavenge}, declared.{workers.Worker.Worker, hands.Hand.Hand}}
+use Rattle.pas_threads.specs.declared.hands.Hand.TheVariants.{Thread, Scavenger}
 use Rattle.pas_acts.specs.declared.names.NameBook.{NameBook}
 
 -- the hand's operations of the phase can be done

@@ -1,18 +1,15 @@
 -- What is so of the workers once their actors made acts and said something; and the close: each thread is stopped, and then each keeper lowers its guards, one after the
 -- other.
 use Rattle.std.specs.Prelude.{ℕ, suc, ◌+◌, ◌<◌, ◌≤◌, ◌≡◌, ◌≢◌, List, [], ◌∷◌, ◌++◌, length, take, get_or, Option}
-use Rattle.pas_trace.specs.{Acts.Act, Acts.own_acts, EveryPlan.own_records}
-use Rattle.pas_trace.specs.declared.plan.Op.{Op}
+use Rattle.pas_trace.specs.{Acts.{Act, own_acts}, EveryPlan.own_records, declared.plan.Op.Op}
 use Rattle.pas_records.specs.declared.record.Record.{Record}
 use Rattle.pas_steps.specs.Lists.{Whole}
 use Rattle.pas_cache.specs.Caches.{cached}
 use Rattle.pas_shared.specs.declared.region.SharedRegion.{SharedRegion}
-use Rattle.pas_answers.specs.{Answers.Progress, Reaching.Reaches, Stages.one_by_one, Ways.AreSpoken, Ways.records_by}
+use Rattle.pas_answers.specs.{Answers.Progress, Reaching.Reaches, Stages.one_by_one, Ways.{AreSpoken, records_by}}
 use Rattle.pas_acts.specs.Pairs.{KeeperWaits, KeptPushed}
-use Rattle.pas_threads.specs.Pairs.{kept_by_worker, no_more, owed_kept, IsKeeperOf, IsLow}
-use Rattle.pas_threads.specs.Sessions.{Session, planned, evenly, closing_acts, WorkerHas, WentBy}
-use Rattle.pas_threads.specs.Turns.{owed_at, Came, Pushed, TookNoPart}
-use Rattle.pas_threads.specs.declared.{keeper.Keeper.Keeper, workers.Worker.Worker}
+use Rattle.pas_threads.specs.{Pairs.{kept_by_worker, no_more, owed_kept, IsKeeperOf, IsLow}, Sessions.{Session, planned, evenly, closing_acts, WorkerHas}}
+use Rattle.pas_threads.specs.{Sessions.WentBy, Turns.{owed_at, Came, Pushed, TookNoPart}, declared.{keeper.Keeper.Keeper, workers.Worker.Worker}}
 
 -- ---- the actors of a worker, where the replay came as far as q, and this was said
 -- The thread rests there with room for these operations. What it said came to the end of its records.

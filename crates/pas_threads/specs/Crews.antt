@@ -2,16 +2,13 @@
 use Rattle.std.specs.Prelude.{ℕ, ◌<◌, ◌≡◌, ◌≢◌, true, List, [], ◌∷◌, length, get_or}
 use Rattle.pas_steps.specs.{Desks.Standing, Lists.part}
 use Rattle.pas_records.specs.Rooms.{Records}
-use Rattle.pas_shared.specs.{Passes.seat_of, Ruled.among, Ruled.steps_of, Ruled.IsRowOf}
-use Rattle.pas_shared.specs.Benches.{row_on, rows_on, seat_of_member, IsBenchOf, StandsOver}
-use Rattle.pas_shared.specs.declared.{bench.Bench.Bench, bench_desk.BenchDesk.BenchDesk, bench_desk.BenchHome.BenchHome, pass.SharedPass.SharedPass}
+use Rattle.pas_shared.specs.{Passes.seat_of, Ruled.{among, steps_of, IsRowOf}, Benches.{row_on, rows_on, seat_of_member, IsBenchOf, StandsOver}}
+use Rattle.pas_shared.specs.declared.{bench.Bench.Bench, bench_desk.{BenchDesk.BenchDesk, BenchHome.BenchHome}, pass.SharedPass.SharedPass}
 use Rattle.pas_shared.specs.declared.{region.SharedRegion.SharedRegion, rule.Entry.Entry}
 use Rattle.pas_trace.specs.Acts.{Act}
 use Rattle.pas_answers.specs.Answers.{Progress}
-use Rattle.pas_threads.specs.{Hands.ScavengerAt, Seats.IsPassOfMember}
-use Rattle.pas_threads.specs.Lent.{Shift, number_in, standing_at, AreBeside, IsLent, AreLent, SitsLent, AreOfCrew, IsButPlace}
-use Rattle.pas_threads.specs.Turns.{Came, Pushed, Told, TookNoPart}
-use Rattle.pas_threads.specs.declared.workers.Worker.{Worker}
+use Rattle.pas_threads.specs.{Hands.ScavengerAt, Seats.IsPassOfMember, Lent.{Shift, number_in, standing_at, AreBeside, IsLent, AreLent, SitsLent, AreOfCrew}}
+use Rattle.pas_threads.specs.{Lent.IsButPlace, Turns.{Came, Pushed, Told, TookNoPart}, declared.workers.Worker.Worker}
 
 -- what the scavenger's worker works with: its desk, the lent workers, its places for outcomes, and its records
 pub record Crew : Type 1 where

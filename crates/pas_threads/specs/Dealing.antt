@@ -1,8 +1,7 @@
 -- How the workers of the threads are dealt into those of a mask and the others.
 use Rattle.std.specs.Prelude.{ℕ, zero, suc, ◌+◌, ◌≡◌, Bool, not, if◌then◌else◌, List, [], ◌∷◌, map, length}
-use Rattle.pas_bits.specs.Masks.{is_set}
-use Rattle.pas_bits.specs.declared.mask.Mask4.{Mask4}
-use Rattle.pas_threads.specs.declared.{workers.Worker.Worker, hands.Hand.Hand, hands.Hand.TheVariants.Thread}
+use Rattle.pas_bits.specs.{Masks.is_set, declared.mask.Mask4.Mask4}
+use Rattle.pas_threads.specs.declared.{workers.Worker.Worker, hands.Hand.{Hand, TheVariants.Thread}}
 
 -- of what belongs to the numbers from k on, that whose numbers are chosen, in order
 abbrev pub picked : {A : Type 0} → (ℕ → Bool) → ℕ → List A → List A

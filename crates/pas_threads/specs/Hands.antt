@@ -3,14 +3,11 @@ use Rattle.std.specs.Prelude.{ℕ, ◌+◌, ◌≡◌, List, Option, Some}
 use Rattle.pas_profile.specs.declared.profile.Profile.{Profile}
 use Rattle.pas_steps.specs.Desks.{Standing}
 use Rattle.pas_cache.specs.Caches.{cached}
-use Rattle.pas_shared.specs.Passes.{seat_of, view_of, IsPassOf}
-use Rattle.pas_shared.specs.declared.{region.SharedRegion.SharedRegion, pass.SharedPass.SharedPass}
+use Rattle.pas_shared.specs.{Passes.{seat_of, view_of, IsPassOf}, declared.{region.SharedRegion.SharedRegion, pass.SharedPass.SharedPass}}
 use Rattle.pas_trace.specs.Acts.{Act}
 use Rattle.pas_answers.specs.{Answers.Progress, Fit.costs_of}
 use Rattle.pas_records.specs.Rooms.{Records}
-use Rattle.pas_acts.specs.{AtDesks.HasRoomAt, NameBooks.table}
-use Rattle.pas_acts.specs.Works.{Keeps, keeps, Later, ThreadAt}
-use Rattle.pas_acts.specs.declared.names.NameBook.{NameBook}
+use Rattle.pas_acts.specs.{AtDesks.HasRoomAt, NameBooks.table, Works.{Keeps, keeps, Later, ThreadAt}, declared.names.NameBook.NameBook}
 use Rattle.pas_threads.specs.declared.workers.Worker.{Worker}
 
 -- so many events and records more, beside what these acts cost

@@ -2,20 +2,15 @@
 use Rattle.std.specs.Prelude.{ℕ, suc, ◌+◌, ◌*◌, ◌<◌, ◌≤◌, ◌≡◌, List, [], ◌∷◌, ◌++◌, Option, Some, None, length, slice_index, slice_index_or, get_or}
 use Rattle.std.specs.Prelude.{vec_capacity, min, drop, ◌^◌, ◌-◌}
 use Rattle.pas_profile.specs.declared.profile.Profile.{Profile}
-use Rattle.pas_trace.specs.{Plans.bounds_of, EveryPlan.operations_of}
-use Rattle.pas_trace.specs.declared.plan.Plan.{Plan}
+use Rattle.pas_trace.specs.{Plans.bounds_of, EveryPlan.operations_of, declared.plan.Plan.Plan}
 use Rattle.pas_utility.specs.Outcomes.{places_of}
 use Rattle.pas_cache.specs.Caches.{cached}
-use Rattle.pas_shared.specs.Passes.{profile_of, seat_of, view_of, IsPassOf}
-use Rattle.pas_shared.specs.declared.{region.SharedRegion.SharedRegion, pass.SharedPass.SharedPass}
-use Rattle.pas_answers.specs.{Fit.AllBelow, Names.block_named, Names.names_held}
-use Rattle.pas_answers.specs.Replays.{phases_of, region_of, threads_of, keepers_of, empty_cache}
-use Rattle.pas_guard.specs.Books.{guards_in, size_of_book}
-use Rattle.pas_guard.specs.declared.book.GuardBook.{GuardBook}
-use Rattle.pas_acts.specs.{PlanKeepers.guarded_of, NameBooks.requests_in, NameBooks.room_for}
-use Rattle.pas_threads.specs.{Pairs.AreGuarded, Sessions.HasPlaces}
-use Rattle.pas_acts.specs.declared.names.NameBook.{NameBook}
-use Rattle.pas_threads.specs.declared.{keeper.Keeper.Keeper, workers.Worker.Worker, scavenger.Scavenger.Scavenger, phases.Team.Team, kit.SharedKit.SharedKit}
+use Rattle.pas_shared.specs.{Passes.{profile_of, seat_of, view_of, IsPassOf}, declared.{region.SharedRegion.SharedRegion, pass.SharedPass.SharedPass}}
+use Rattle.pas_answers.specs.{Fit.AllBelow, Names.{block_named, names_held}, Replays.{phases_of, region_of, threads_of, keepers_of, empty_cache}}
+use Rattle.pas_guard.specs.{Books.{guards_in, size_of_book}, declared.book.GuardBook.GuardBook}
+use Rattle.pas_acts.specs.{PlanKeepers.guarded_of, NameBooks.{requests_in, room_for}, declared.names.NameBook.NameBook}
+use Rattle.pas_threads.specs.{Pairs.AreGuarded, Sessions.HasPlaces, declared.{keeper.Keeper.Keeper, workers.Worker.Worker, scavenger.Scavenger.Scavenger}}
+use Rattle.pas_threads.specs.declared.{phases.Team.Team, kit.SharedKit.SharedKit}
 use Rattle.pas_records.specs.Rooms.{records_in, room_of}
 
 -- ---- the passes

@@ -1,10 +1,10 @@
 -- The actors of a worker on its bench in a phase, and what it leaves behind: a bench that saw in which order they made their steps.
 use Rattle.std.specs.Prelude.{ℕ, ◌+◌, ◌≡◌, Bool, true, List, [], ◌∷◌, ◌++◌, Option, None, Some}
-use Rattle.pas_steps.specs.{Desks.Standing, Lists.Whole, Lists.part}
+use Rattle.pas_steps.specs.{Desks.Standing, Lists.{Whole, part}}
 use Rattle.pas_core.specs.Orders.{steps_by}
-use Rattle.pas_shared.specs.{Passes.view_of, Ruled.among, Ruled.steps_of}
-use Rattle.pas_shared.specs.Benches.{rows_on, row_on, made_by, seat_of_member, IsBenchOf, IsMemberOf, MaySitOn, StandsOver}
-use Rattle.pas_shared.specs.declared.{bench.Bench.Bench, bench.Member.Member, pass.SharedPass.SharedPass, region.SharedRegion.SharedRegion, rule.Entry.Entry}
+use Rattle.pas_shared.specs.{Passes.view_of, Ruled.{among, steps_of}, Benches.{rows_on, row_on, made_by, seat_of_member, IsBenchOf, IsMemberOf, MaySitOn}}
+use Rattle.pas_shared.specs.{Benches.StandsOver, declared.{bench.{Bench.Bench, Member.Member}, pass.SharedPass.SharedPass, region.SharedRegion.SharedRegion}}
+use Rattle.pas_shared.specs.declared.rule.Entry.{Entry}
 use Rattle.pas_threads.specs.declared.keeper.Keeper.{Keeper}
 
 -- ---- the actors of a worker

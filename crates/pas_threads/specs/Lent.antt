@@ -1,18 +1,16 @@
 -- The threads that are lent to the scavenger's worker in a phase in which they are idle: on its bench, and with their passes before and after.
 use Rattle.std.specs.Prelude.{ℕ, ◌<◌, ◌≤◌, ◌≡◌, ◌⊎◌, Bool, true, List, [], ◌∷◌, ◌++◌, Some, length, get_or}
 use Rattle.pas_profile.specs.declared.profile.Profile.{Profile}
-use Rattle.pas_steps.specs.{Desks.Standing, Lists.Whole, Lists.part, Views.View, Noted.AreNotesOf}
+use Rattle.pas_steps.specs.{Desks.Standing, Lists.{Whole, part}, Views.View, Noted.AreNotesOf}
 use Rattle.pas_cache.specs.Caches.{cached}
-use Rattle.pas_shared.specs.Ledgers.{part_of}
-use Rattle.pas_shared.specs.Ruled.{among, all_actors, HasRow, rows_of, rows_of_only, isnt, only_this, steps_of}
-use Rattle.pas_shared.specs.Benches.{row_on, first_row, home_of, seat_of_member, standing_on, IsFreshRow, IsMemberOf, SitsInRow, StandsOver}
-use Rattle.pas_shared.specs.declared.{bench.Bench.Bench, bench.Member.Member, bench_desk.BenchDesk.BenchDesk, bench_desk.BenchHome.BenchHome}
-use Rattle.pas_shared.specs.declared.{region.SharedRegion.SharedRegion, rule.Entry.Entry, rule.Row.Row}
+use Rattle.pas_shared.specs.{Ledgers.part_of, Ruled.{among, all_actors, HasRow, rows_of, rows_of_only, isnt, only_this, steps_of}, Benches.{row_on, first_row}}
+use Rattle.pas_shared.specs.{Benches.{home_of, seat_of_member, standing_on, IsFreshRow, IsMemberOf, SitsInRow, StandsOver}, declared.bench.Bench.Bench}
+use Rattle.pas_shared.specs.declared.{bench.Member.Member, bench_desk.{BenchDesk.BenchDesk, BenchHome.BenchHome}, region.SharedRegion.SharedRegion}
+use Rattle.pas_shared.specs.declared.rule.{Entry.Entry, Row.Row}
 use Rattle.pas_trace.specs.Acts.{Act, StopsIdle}
 use Rattle.pas_answers.specs.{Answers.Progress, Ways.records_by}
-use Rattle.pas_acts.specs.{Works.Later, Turns.RestsAt, AtDesks.here, AtDesks.told_if, AtDesks.ThreadActs}
-use Rattle.pas_threads.specs.{Hands.HasPass, Sessions.WorkerHas, Seats.IsPassOfMember, Turns.AreDistinct, Turns.Pushed, Turns.TookTurns}
-use Rattle.pas_threads.specs.declared.workers.Worker.{Worker}
+use Rattle.pas_acts.specs.{Works.Later, Turns.RestsAt, AtDesks.{here, told_if, ThreadActs}}
+use Rattle.pas_threads.specs.{Hands.HasPass, Sessions.WorkerHas, Seats.IsPassOfMember, Turns.{AreDistinct, Pushed, TookTurns}, declared.workers.Worker.Worker}
 use Rattle.pas_records.specs.Rooms.{Records}
 
 -- What the scavenger's worker goes by in a phase: the profile, which threads are idle, and for how much more there is room in the end, for the scavenger itself

@@ -4,19 +4,14 @@ use Rattle.std.specs.Prelude.{ℕ, zero, suc, map, ◌+◌, ◌<◌, ◌≤◌, 
 use Rattle.pas_profile.specs.declared.profile.Profile.{Profile}
 use Rattle.pas_steps.specs.Lists.{part}
 use Rattle.pas_guard.specs.Books.{guards_in}
-use Rattle.pas_shared.specs.Passes.{IsPassOf}
-use Rattle.pas_shared.specs.declared.{bench.Bench.Bench, region.SharedRegion.SharedRegion}
-use Rattle.pas_trace.specs.Acts.{Act, own_acts}
-use Rattle.pas_trace.specs.declared.plan.Op.{Op}
+use Rattle.pas_shared.specs.{Passes.IsPassOf, declared.{bench.Bench.Bench, region.SharedRegion.SharedRegion}}
+use Rattle.pas_trace.specs.{Acts.{Act, own_acts}, declared.plan.Op.Op}
 use Rattle.pas_answers.specs.{Answers.Progress, Keeping.owed_by_keeper}
-use Rattle.pas_acts.specs.Keepers.{LaterKept, Keeping, NoKeeper, OneKeeper, KeeperAt, KeeperLowers, keeper_has}
-use Rattle.pas_acts.specs.{Pairs.KeeperWaits, Pairs.PairWorks, Works.Later}
+use Rattle.pas_acts.specs.{Keepers.{LaterKept, Keeping, NoKeeper, OneKeeper, KeeperAt, KeeperLowers, keeper_has}, Pairs.{KeeperWaits, PairWorks}, Works.Later}
 use Rattle.pas_acts.specs.declared.names.NameBook.{NameBook}
-use Rattle.pas_threads.specs.Left.{pair_in, standing_beside, HasLeft}
-use Rattle.pas_threads.specs.Hands.{standing_of_pass, kept_by, WorkerAt, Did}
-use Rattle.pas_threads.specs.declared.{keeper.Keeper.Keeper, keeper.Seated.Seated, keeper.Beside.Beside, workers.Worker.Worker}
-use Rattle.pas_records.specs.Rooms.{records_in}
-use Rattle.pas_records.specs.declared.record.Record.{Record}
+use Rattle.pas_threads.specs.{Left.{pair_in, standing_beside, HasLeft}, Hands.{standing_of_pass, kept_by, WorkerAt, Did}, declared.keeper.Keeper.Keeper}
+use Rattle.pas_threads.specs.declared.{keeper.{Seated.Seated, Beside.Beside}, workers.Worker.Worker}
+use Rattle.pas_records.specs.{Rooms.records_in, declared.record.Record.Record}
 
 -- ---- the keeper of a worker
 -- what it has in hand while it doesn't sit at the region

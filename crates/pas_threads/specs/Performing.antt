@@ -1,25 +1,18 @@
 -- The operations of one phase, by all hands at once.
 use Rattle.std.specs.Prelude.{ℕ, suc, ◌+◌, ◌<◌, ◌≤◌, ◌≡◌, ◌⊎◌, Bool, true, false, List, [], ◌++◌, length, get_or}
 use Rattle.pas_profile.specs.declared.profile.Profile.{Profile}
-use Rattle.pas_trace.specs.EveryPlan.{AreSound}
-use Rattle.pas_trace.specs.declared.plan.Op.{Op}
+use Rattle.pas_trace.specs.{EveryPlan.AreSound, declared.plan.Op.Op, Acts.{is_active, acts_of_ops, idle_threads, own_acts, scavenger_acts}}
 use Rattle.pas_records.specs.declared.record.Record.{Record}
 use Rattle.pas_utility.specs.Outcomes.{places_of}
 use Rattle.pas_steps.specs.Lists.{Whole}
-use Rattle.pas_shared.specs.{Ledgers.looks_of, Ruled.steps_of, Ruled.IsEarlier, Ruled.AreEarlier}
-use Rattle.pas_shared.specs.declared.{ledger.Ledger.Ledger, region.SharedRegion.SharedRegion, rule.Entry.Entry}
-use Rattle.pas_trace.specs.Acts.{is_active, acts_of_ops, idle_threads, own_acts, scavenger_acts}
-use Rattle.pas_answers.specs.{Answers.Named, Answers.Progress, Fit.own_costs_of, Ways.records_by}
-use Rattle.pas_acts.specs.Shares.{AreAmong, AreKeptBehind, owner_in, acts_by}
-use Rattle.pas_acts.specs.NameBooks.{requests_in, room_for, names_of, names_asked}
-use Rattle.pas_threads.specs.Left.{pair_in, crew_in, HasLeft, KeepsOrder}
-use Rattle.pas_threads.specs.{Taken.HandsOver, Hands.standing_of_pass, Hands.HasPass, Hands.ScavengerAt, Sessions.Session, Sessions.WorkerHas}
-use Rattle.pas_threads.specs.{Sessions.HasPlaces}
-use Rattle.pas_acts.specs.{Works.Later, Keepers.LaterKept, Pairs.KeeperWaits, Pairs.KeptPushed, Pairs.KeptStill}
-use Rattle.pas_threads.specs.Pairs.{kept_by_worker, IsKeeperOf, PairStands, owed_kept}
-use Rattle.pas_threads.specs.Turns.{Came, Pushed, TookNoPart, owed_at}
-use Rattle.pas_acts.specs.declared.names.NameBook.{NameBook}
-use Rattle.pas_threads.specs.declared.{workers.Worker.Worker, scavenger.Scavenger.Scavenger, phases.Team.Team}
+use Rattle.pas_shared.specs.{Ledgers.looks_of, Ruled.{steps_of, IsEarlier, AreEarlier}, declared.{ledger.Ledger.Ledger, region.SharedRegion.SharedRegion}}
+use Rattle.pas_shared.specs.declared.rule.Entry.{Entry}
+use Rattle.pas_answers.specs.{Answers.{Named, Progress}, Fit.own_costs_of, Ways.records_by}
+use Rattle.pas_acts.specs.{Shares.{AreAmong, AreKeptBehind, owner_in, acts_by}, NameBooks.{requests_in, room_for, names_of, names_asked}, Works.Later}
+use Rattle.pas_acts.specs.{Keepers.LaterKept, Pairs.{KeeperWaits, KeptPushed, KeptStill}, declared.names.NameBook.NameBook}
+use Rattle.pas_threads.specs.{Left.{pair_in, crew_in, HasLeft, KeepsOrder}, Taken.HandsOver, Hands.{standing_of_pass, HasPass, ScavengerAt}, Sessions.Session}
+use Rattle.pas_threads.specs.{Sessions.{WorkerHas, HasPlaces}, Pairs.{kept_by_worker, IsKeeperOf, PairStands, owed_kept}, Turns.{Came, Pushed, TookNoPart}}
+use Rattle.pas_threads.specs.{Turns.owed_at, declared.{workers.Worker.Worker, scavenger.Scavenger.Scavenger, phases.Team.Team}}
 
 -- What all hands of a phase go by: the profile of the region and the number of threads, the book of names, the operations, for how much more each actor has
 -- room in the end, and how far the replay came before them.

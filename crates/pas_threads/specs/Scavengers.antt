@@ -1,14 +1,11 @@
 -- What the scavenger's worker has in hand while it doesn't sit at the region, before and after its acts of a phase.
 use Rattle.std.specs.Prelude.{ℕ, ◌≡◌, List, [], Some, vec_capacity}
 use Rattle.pas_steps.specs.Desks.{Standing}
-use Rattle.pas_trace.specs.{EveryPlan.AreSound, Acts.Act, Acts.scavenger_acts}
-use Rattle.pas_trace.specs.declared.plan.Op.{Op}
+use Rattle.pas_trace.specs.{EveryPlan.AreSound, Acts.{Act, scavenger_acts}, declared.plan.Op.Op}
 use Rattle.pas_utility.specs.Outcomes.{places_of}
-use Rattle.pas_shared.specs.Passes.{IsPassOf}
-use Rattle.pas_shared.specs.declared.{bench.Bench.Bench, pass.SharedPass.SharedPass, region.SharedRegion.SharedRegion}
+use Rattle.pas_shared.specs.{Passes.IsPassOf, declared.{bench.Bench.Bench, pass.SharedPass.SharedPass, region.SharedRegion.SharedRegion}}
 use Rattle.pas_answers.specs.Answers.{Progress}
-use Rattle.pas_threads.specs.{Hands.standing_of_pass, Hands.HasPass, Hands.Did, Lent.Shift, Left.crew_in, Left.HasLeft}
-use Rattle.pas_threads.specs.Crews.{Crew, crew, CrewAt, CrewDid}
+use Rattle.pas_threads.specs.{Hands.{standing_of_pass, HasPass, Did}, Lent.Shift, Left.{crew_in, HasLeft}, Crews.{Crew, crew, CrewAt, CrewDid}}
 use Rattle.pas_threads.specs.declared.scavenger.Scavenger.{Scavenger}
 
 -- what it works with at this desk

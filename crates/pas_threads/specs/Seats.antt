@@ -1,12 +1,9 @@
 -- How both actors of a worker sit down on one bench, and rise again.
 use Rattle.std.specs.Prelude.{ℕ, ◌≡◌, ◌≢◌, List, [], ◌∷◌, Option, None, Some}
-use Rattle.pas_shared.specs.{Ledgers.part_of, Passes.seat_of, Passes.view_of, Passes.IsPassOf}
-use Rattle.pas_shared.specs.Ruled.{made_in, rows_of_only, isnt, only_this, steps_of, IsRowOf}
-use Rattle.pas_shared.specs.Benches.{rows_on, row_on, seat_of_member, IsBenchOf, IsMemberOf, SitsInRow, MaySitOn}
-use Rattle.pas_shared.specs.declared.{bench.Bench.Bench, bench.Member.Member, pass.SharedPass.SharedPass, region.SharedRegion.SharedRegion, rule.Entry.Entry}
-use Rattle.pas_shared.specs.declared.{rule.Part.Part, rule.Row.Row}
-use Rattle.pas_threads.specs.Left.{IsSeated}
-use Rattle.pas_threads.specs.declared.keeper.{Keeper.Keeper, Seated.Seated}
+use Rattle.pas_shared.specs.{Ledgers.part_of, Passes.{seat_of, view_of, IsPassOf}, Ruled.{made_in, rows_of_only, isnt, only_this, steps_of, IsRowOf}}
+use Rattle.pas_shared.specs.{Benches.{rows_on, row_on, seat_of_member, IsBenchOf, IsMemberOf, SitsInRow, MaySitOn}, declared.bench.{Bench.Bench, Member.Member}}
+use Rattle.pas_shared.specs.declared.{pass.SharedPass.SharedPass, region.SharedRegion.SharedRegion, rule.{Entry.Entry, Part.Part, Row.Row}}
+use Rattle.pas_threads.specs.{Left.IsSeated, declared.keeper.{Keeper.Keeper, Seated.Seated}}
 
 -- ---- the keeper, if there is one
 -- its part

@@ -2,21 +2,16 @@
 use Rattle.std.specs.Prelude.{ℕ, zero, suc, ◌+◌, ◌<◌, ◌≤◌, ◌≡◌, ◌^◌, true, List, [], ◌∷◌, ◌++◌, map, length, get_or, vec_capacity}
 use Rattle.pas_profile.specs.declared.profile.Profile.{Profile}
 use Rattle.pas_steps.specs.Lists.{Whole, part}
-use Rattle.pas_trace.specs.{EveryPlan.all_ops, EveryPlan.own_records, EveryPlan.records_of_ops, EveryPhase.FreeTheirOwn}
-use Rattle.pas_trace.specs.declared.plan.Op.{Op}
-use Rattle.pas_records.specs.Rooms.{records_in, room_of, Records}
-use Rattle.pas_records.specs.declared.record.Record.{Record}
+use Rattle.pas_trace.specs.{EveryPlan.{all_ops, own_records, records_of_ops}, EveryPhase.FreeTheirOwn, declared.plan.Op.Op, Acts.{Act, Ends, Lowers, is_active}}
+use Rattle.pas_trace.specs.Acts.{numbers_from, own_acts, acts_of, phase_acts}
+use Rattle.pas_records.specs.{Rooms.{records_in, room_of, Records}, declared.record.Record.Record}
 use Rattle.pas_utility.specs.Outcomes.{places_of}
 use Rattle.pas_cache.specs.Caches.{cached}
-use Rattle.pas_shared.specs.Ruled.{IsEarlier}
-use Rattle.pas_shared.specs.declared.region.SharedRegion.{SharedRegion}
-use Rattle.pas_trace.specs.Acts.{Act, Ends, Lowers, is_active, numbers_from, own_acts, acts_of, phase_acts}
-use Rattle.pas_answers.specs.{Replays.at_start, Answers.Progress, Calls.owed_events, Reaching.Reaches, Phases.AreInPhases}
-use Rattle.pas_answers.specs.Stages.{Stage, one_by_one, phase_stages, stages_of, GoByStages}
-use Rattle.pas_answers.specs.Ways.{OnThreads, arranged, by_actors, AreSpoken}
-use Rattle.pas_acts.specs.{Shares.AreKeptBehind, Works.Later, Turns.RestsAt, NameBooks.NamesAt, NameBooks.requests_in, NameBooks.room_for}
-use Rattle.pas_threads.specs.Hands.{standing_of_pass, HasPass, ScavengerAt}
-use Rattle.pas_threads.specs.Pairs.{KeeperRests, AreGuarded, owed_by_keepers, IsLow}
+use Rattle.pas_shared.specs.{Ruled.IsEarlier, declared.region.SharedRegion.SharedRegion}
+use Rattle.pas_answers.specs.{Replays.at_start, Answers.Progress, Calls.owed_events, Reaching.Reaches, Phases.AreInPhases, Stages.{Stage, one_by_one}}
+use Rattle.pas_answers.specs.{Stages.{phase_stages, stages_of, GoByStages}, Ways.{OnThreads, arranged, by_actors, AreSpoken}}
+use Rattle.pas_acts.specs.{Shares.AreKeptBehind, Works.Later, Turns.RestsAt, NameBooks.{NamesAt, requests_in, room_for}}
+use Rattle.pas_threads.specs.{Hands.{standing_of_pass, HasPass, ScavengerAt}, Pairs.{KeeperRests, AreGuarded, owed_by_keepers, IsLow}}
 use Rattle.pas_threads.specs.declared.{workers.Worker.Worker, scavenger.Scavenger.Scavenger, phases.Team.Team}
 
 -- what a replay on threads goes by: the profile of its region, how many threads make the operations, and how many keepers stand behind them

@@ -1,12 +1,10 @@
 -- What stands in a ledger once it was settled, and what it heard of.
 use Rattle.std.specs.Prelude.{ℕ, suc, ◌+◌, ◌<◌, ◌≡◌, List, length, get_or, Option, Some}
 use Rattle.pas_steps.specs.Lists.{Whole, part}
-use Rattle.pas_shared.specs.Ruled.{AreEarlier, IsEarlier, HasAllOf, bases_in}
-use Rattle.pas_shared.specs.{Passes.seat_of, Passes.view_of, Passes.IsPassOf, Benches.rows_on, Benches.IsBenchOf, Ledgers.so_far, Ledgers.looks_of}
-use Rattle.pas_shared.specs.{Ledgers.actors_in}
-use Rattle.pas_shared.specs.declared.{bench.Bench.Bench, ledger.Ledger.Ledger, pass.SharedPass.SharedPass, region.SharedRegion.SharedRegion}
-use Rattle.pas_threads.specs.{Pairs.AreGuarded, Sessions.Session, Sessions.IsOfActors}
-use Rattle.pas_threads.specs.declared.{keeper.Keeper.Keeper, workers.Worker.Worker}
+use Rattle.pas_shared.specs.{Ruled.{AreEarlier, IsEarlier, HasAllOf, bases_in}, Passes.{seat_of, view_of, IsPassOf}, Benches.{rows_on, IsBenchOf}}
+use Rattle.pas_shared.specs.{Ledgers.{so_far, looks_of, actors_in}, declared.{bench.Bench.Bench, ledger.Ledger.Ledger, pass.SharedPass.SharedPass}}
+use Rattle.pas_shared.specs.declared.region.SharedRegion.{SharedRegion}
+use Rattle.pas_threads.specs.{Pairs.AreGuarded, Sessions.{Session, IsOfActors}, declared.{keeper.Keeper.Keeper, workers.Worker.Worker}}
 
 -- ---- settling
 -- It is the ledger of the same region, with the same actors, and what it saw are the first steps of those that stand there now. Those of its actors are all there.

@@ -1,16 +1,12 @@
 -- The members of a bench stand still while another one acts there. That is what a keeper owes to its thread, and a lent thread to the scavenger; so it stands with the
 -- definitions, where the code can cite it.
-use Rattle.std.specs.Prelude.{◌≡◌, true, [], ◌∷◌, Option, Some, None}
-use Rattle.std.proofs.Common.{refl, ap, sym, ◌∙◌, subst}
-use Rattle.pas_steps.specs.{Lists.Whole, Lists.part, Views.View, Noted.AreNotesOf}
-use Rattle.pas_shared.specs.Ruled.{among, made_in}
-use Rattle.pas_shared.specs.Benches.{rows_on, row_on, home_of, standing_on, IsBenchOf, StandsOver}
-use Rattle.pas_shared.specs.declared.{bench.Bench.Bench, bench.Member.Member, bench_desk.BenchDesk.BenchDesk, bench_desk.BenchHome.BenchHome}
-use Rattle.pas_shared.specs.declared.{region.SharedRegion.SharedRegion}
+use Rattle.std.{specs.Prelude.{◌≡◌, true, [], ◌∷◌, Option, Some, None}, proofs.Common.{refl, ap, sym, ◌∙◌, subst}}
+use Rattle.pas_steps.specs.{Lists.{Whole, part}, Views.View, Noted.AreNotesOf}
+use Rattle.pas_shared.specs.{Ruled.{among, made_in}, Benches.{rows_on, row_on, home_of, standing_on, IsBenchOf, StandsOver}, declared.bench.Bench.Bench}
+use Rattle.pas_shared.specs.declared.{bench.Member.Member, bench_desk.{BenchDesk.BenchDesk, BenchHome.BenchHome}, region.SharedRegion.SharedRegion}
 use Rattle.pas_shared.proofs.Benching.{row_tells}
 use Rattle.pas_acts.specs.Keepers.{KeptStands, StandsAt, StandsStill}
-use Rattle.pas_threads.specs.{Left.standing_beside, Pairs.kept_seated, Pairs.kept_beside}
-use Rattle.pas_threads.specs.declared.keeper.{Seated.Seated, Beside.Beside}
+use Rattle.pas_threads.specs.{Left.standing_beside, Pairs.{kept_seated, kept_beside}, declared.keeper.{Seated.Seated, Beside.Beside}}
 
 -- ---- a member
 -- whose bench has another one at its desk, which stands beside the list that comes of its steps

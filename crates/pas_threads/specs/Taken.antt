@@ -1,11 +1,9 @@
 -- What the workers of a phase hand over after it.
 use Rattle.std.specs.Prelude.{ℕ, ◌<◌, ◌≡◌, ◌⊎◌, true, List, [], length, get_or, Option, Some}
 use Rattle.pas_profile.specs.declared.{name.Block.Block, profile.Profile.Profile}
-use Rattle.pas_trace.specs.{EveryPlan.is_asked, Acts.own_acts}
-use Rattle.pas_trace.specs.declared.plan.Op.{Op}
-use Rattle.pas_answers.specs.{Answers.Named, Answers.standing_for, Calls.MayStand, Names.block_named}
-use Rattle.pas_acts.specs.NameBooks.{requests_in, room_for, names_of, names_asked, AreWithin, known_in}
-use Rattle.pas_acts.specs.declared.names.NameBook.{NameBook}
+use Rattle.pas_trace.specs.{EveryPlan.is_asked, Acts.own_acts, declared.plan.Op.Op}
+use Rattle.pas_answers.specs.{Answers.{Named, standing_for}, Calls.MayStand, Names.block_named}
+use Rattle.pas_acts.specs.{NameBooks.{requests_in, room_for, names_of, names_asked, AreWithin, known_in}, declared.names.NameBook.NameBook}
 use Rattle.pas_threads.specs.declared.workers.Worker.{Worker}
 
 -- the names of the worker's requests are below the limit

@@ -7,11 +7,10 @@ use Rattle.pas_cache.specs.Caches.{cached}
 use Rattle.pas_shared.specs.declared.region.SharedRegion.{SharedRegion}
 use Rattle.pas_trace.specs.Acts.{Act, Wakes}
 use Rattle.pas_answers.specs.{Answers.Progress, Calls.owed_events, Ways.records_by, Reaching.Reaches}
-use Rattle.pas_acts.specs.{Awake.awake_in, AtDesks.here, AtDesks.ThreadActs, Works.Later}
-use Rattle.pas_threads.specs.{Hands.Did, Sessions.evenly, Sessions.WorkerHas, Pairs.said_by_keeper, Pairs.IsButKeeper}
-use Rattle.pas_threads.specs.declared.{keeper.Keeper.Keeper, workers.Worker.Worker}
-use Rattle.pas_records.specs.Rooms.{records_in, room_of, Records}
-use Rattle.pas_records.specs.declared.record.Record.{Record}
+use Rattle.pas_acts.specs.{Awake.awake_in, AtDesks.{here, ThreadActs}, Works.Later}
+use Rattle.pas_threads.specs.{Hands.Did, Sessions.{evenly, WorkerHas}, Pairs.{said_by_keeper, IsButKeeper}, declared.keeper.Keeper.Keeper}
+use Rattle.pas_threads.specs.declared.workers.Worker.{Worker}
+use Rattle.pas_records.specs.{Rooms.{records_in, room_of, Records}, declared.record.Record.Record}
 
 -- ---- what acts come to
 -- how far these acts brought a replay from p, and what was said by them

@@ -1,11 +1,11 @@
 //! What the scavenger's worker does in a phase at its bench, with the idle threads that are lent to it.
 ghost use Rattle.std.specs.Prelude.{◌≡◌, ◌<◌, ◌^◌, ◌++◌, ℕ, List, [], length};
 ghost use Rattle.pas_utility.specs.Outcomes.{places_of};
-ghost use Rattle.pas_trace.specs.{EveryPlan.AreSound, EveryPlan.IsSoundWork, Acts.Act, Acts.acts_of_chore, Acts.scavenger_acts};
+ghost use Rattle.pas_trace.specs.{EveryPlan.{AreSound, IsSoundWork}, Acts.{Act, acts_of_chore, scavenger_acts}};
 ghost use Rattle.pas_trace.specs.declared.plan.Work.TheVariants as TheWork;
 ghost use Rattle.pas_answers.specs.Answers.{Progress};
 ghost use Rattle.pas_shared.specs.declared.bench_desk.BenchHome.{BenchHome};
-ghost use Rattle.pas_threads.specs.{Lent.Shift, Lent.home_at, Lent.standing_at, Crews.crew, Crews.CrewSits, Crews.CrewActs};
+ghost use Rattle.pas_threads.specs.{Lent.{Shift, home_at, standing_at}, Crews.{crew, CrewSits, CrewActs}};
 
 use crate::lending::stop_idle;
 use crate::workers::Worker;

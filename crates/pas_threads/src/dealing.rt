@@ -1,7 +1,6 @@
 //! The workers of a phase are dealt into the hands that act in it, and taken back.
 ghost use Rattle.std.specs.Prelude.{◌≡◌, ◌<◌, ◌≤◌, ◌++◌, [], ◌∷◌, true, false, List, length, vec_capacity};
-ghost use Rattle.pas_threads.specs.Dealing.{AreDealt, AreSized};
-ghost use Rattle.pas_threads.specs.declared.{workers.Worker.Worker as TheWorker, hands.Hand.Hand as AnyHand};
+ghost use Rattle.pas_threads.specs.{Dealing.{AreDealt, AreSized}, declared.{workers.Worker.Worker as TheWorker, hands.Hand.Hand as AnyHand}};
 ghost use Rattle.pas_threads.specs.declared.hands.Hand.TheVariants as TheHand;
 
 use crate::hands::Hand;

@@ -1,6 +1,6 @@
 //! The hands that act in a phase, all at once: the worker of each thread that has an operation in it, and the scavenger where one is its own.
 ghost use Rattle.std.specs.Prelude.{◌≡◌, ◌<◌, ◌^◌, ◌++◌, ◌∷◌, [], ℕ, true, false, All, List, length, map, get_or, vec_capacity};
-ghost use Rattle.pas_threads.specs.{Acting.MayAct, Acting.DidAct, Acting.DidEach, Pairs.MayDoPhase, Scavengers.MayScavenge, Scavengers.DidScavenge};
+ghost use Rattle.pas_threads.specs.{Acting.{MayAct, DidAct, DidEach}, Pairs.MayDoPhase, Scavengers.{MayScavenge, DidScavenge}};
 ghost use Rattle.pas_threads.specs.declared.{workers.Worker.Worker as TheWorker, scavenger.Scavenger.Scavenger as TheScavenger, hands.Hand.Hand as AnyHand};
 ghost use Rattle.pas_threads.specs.declared.hands.Hand.TheVariants as TheHand;
 

@@ -3,10 +3,9 @@ ghost use Rattle.std.specs.Prelude.{◌≡◌, ◌++◌, ℕ, Option, Some};
 ghost use Rattle.pas_profile.specs.declared.profile.Profile.{Profile as TheProfile};
 ghost use Rattle.pas_answers.specs.Answers.{Progress};
 ghost use Rattle.pas_acts.specs.Keepers.{LaterKept};
-ghost use Rattle.pas_shared.specs.Ruled.{rows_of};
-ghost use Rattle.pas_shared.specs.Benches.{rows_on, first_row, IsBenchOf, IsFreshRow};
-ghost use Rattle.pas_threads.specs.Pairs.{IsKeeperOf, KeeperStands, KeeperLowered};
-ghost use Rattle.pas_threads.specs.Seats.{keeper_parts, rows_without_keeper, IsSameKeeper, KeeperMayLeave, HasRisen};
+ghost use Rattle.pas_shared.specs.{Ruled.rows_of, Benches.{rows_on, first_row, IsBenchOf, IsFreshRow}};
+ghost use Rattle.pas_threads.specs.{Pairs.{IsKeeperOf, KeeperStands, KeeperLowered}, Seats.{keeper_parts, rows_without_keeper, IsSameKeeper, KeeperMayLeave}};
+ghost use Rattle.pas_threads.specs.Seats.{HasRisen};
 
 use pas_acts::keepers::{Tries, lower_all, try_guarded};
 use pas_guard::GuardBook;

@@ -5,12 +5,10 @@ ghost use Rattle.pas_records.specs.Rooms.{records_in, room_of};
 ghost use Rattle.pas_cache.specs.Caches.{cached};
 ghost use Rattle.pas_trace.specs.Acts.{StopsIdle, idle_stops};
 ghost use Rattle.pas_answers.specs.Answers.{Progress};
-ghost use Rattle.pas_acts.specs.{Works.Later, Turns.RestsAt, AtDesks.here, AtDesks.told_if, AtDesks.ThreadActs};
-ghost use Rattle.pas_shared.specs.{Ruled.all_actors, Benches.rows_on, Benches.IsBenchOf};
-ghost use Rattle.pas_shared.specs.declared.{bench_desk.BenchHome.BenchHome, rule.Entry.Entry};
-ghost use Rattle.pas_threads.specs.{Turns.Pushed, Hands.HasPass};
-ghost use Rattle.pas_threads.specs.Lent.{Shift, AreBeside, AreLent, AreOfCrew, TellAs, home_at, HasSeat, AreSeated, IsDeskAt, WorkerSits, SitsLent, StopsLent};
-ghost use Rattle.pas_threads.specs.Lent.{StoppedLent, MayLeave, HasLeave, MayLeaveAll, HaveLeave};
+ghost use Rattle.pas_acts.specs.{Works.Later, Turns.RestsAt, AtDesks.{here, told_if, ThreadActs}};
+ghost use Rattle.pas_shared.specs.{Ruled.all_actors, Benches.{rows_on, IsBenchOf}, declared.{bench_desk.BenchHome.BenchHome, rule.Entry.Entry}};
+ghost use Rattle.pas_threads.specs.{Turns.Pushed, Hands.HasPass, Lent.{Shift, AreBeside, AreLent, AreOfCrew, TellAs, home_at, HasSeat, AreSeated, IsDeskAt}};
+ghost use Rattle.pas_threads.specs.Lent.{WorkerSits, SitsLent, StopsLent, StoppedLent, MayLeave, HasLeave, MayLeaveAll, HaveLeave};
 
 use crate::workers::Worker;
 use pas_acts::at_desk::{SCAVENGER, stop_if_idle};

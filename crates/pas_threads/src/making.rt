@@ -1,14 +1,12 @@
 //! How the parts of a kit are made: in the memory of what was made ahead, where that is large enough, and in new memory otherwise.
 ghost use Rattle.std.specs.Prelude.{◌≡◌, ◌≤◌, ◌<◌, ◌+◌, ◌⊎◌, ℕ, List, Option, IfOk, All, true, Some, None, [], ◌++◌, length, slice_index, vec_capacity, false};
 ghost use Rattle.std.specs.Prelude.{◌^◌};
-ghost use Rattle.pas_profile.specs.Rooms.{shown};
-ghost use Rattle.pas_profile.specs.declared.profile.Profile.{Profile as TheProfile};
+ghost use Rattle.pas_profile.specs.{Rooms.shown, declared.profile.Profile.Profile as TheProfile};
 ghost use Rattle.pas_trace.specs.{Plans.IsPlanOf, Acts.is_active};
-ghost use Rattle.pas_utility.specs.{Outcomes.places_of, Pools.threads_of, Pools.has_seat, Pools.outcomes_of};
+ghost use Rattle.pas_utility.specs.{Outcomes.places_of, Pools.{threads_of, has_seat, outcomes_of}};
 ghost use Rattle.pas_cache.specs.Caches.{cached};
-ghost use Rattle.pas_answers.specs.{Names.block_named, Names.names_held, Replays.empty_cache, Replays.threads_of as threads_in};
-ghost use Rattle.pas_answers.specs.{Replays.keepers_of as keepers_in};
-ghost use Rattle.pas_acts.specs.{Parts.AreRooms, NameBooks.requests_in, NameBooks.room_for};
+ghost use Rattle.pas_answers.specs.{Names.{block_named, names_held}, Replays.{empty_cache, threads_of as threads_in, keepers_of as keepers_in}};
+ghost use Rattle.pas_acts.specs.{Parts.AreRooms, NameBooks.{requests_in, room_for}};
 ghost use Rattle.pas_shared.specs.declared.pass.SharedPass.{SharedPass as ThePass};
 ghost use Rattle.pas_threads.specs.Kits.{AreEquipped, IsSupplied, IsTeamOf, TakesKeeper, AreKeptBy, most_records};
 ghost use Rattle.pas_records.specs.Rooms.{records_in, room_of};

@@ -1,15 +1,13 @@
 //! The phases of a replay on threads, one after the other, and the close.
 ghost use Rattle.std.specs.Prelude.{◌≡◌, ◌+◌, ◌<◌, ◌^◌, ℕ, [], List, map, length};
 ghost use Rattle.pas_bits.specs.Masks.{is_set};
-ghost use Rattle.pas_trace.specs.{Plans.ops_of, Acts.is_active};
-ghost use Rattle.pas_trace.specs.declared.plan.Op.{Op as TheOp};
+ghost use Rattle.pas_trace.specs.{Plans.ops_of, Acts.is_active, declared.plan.Op.Op as TheOp};
 ghost use Rattle.pas_records.specs.Rooms.{records_in};
 ghost use Rattle.pas_answers.specs.{Replays.at_start, Answers.Progress};
 ghost use Rattle.pas_acts.specs.{Works.Later, Keepers.LaterKept};
-ghost use Rattle.pas_threads.specs.Performing.{round, IsReady, HaveActed, IsHeard};
+ghost use Rattle.pas_threads.specs.{Performing.{round, IsReady, HaveActed, IsHeard}, Sessions.{Session, StandSo, AreMarked, CloseDone, PhaseAt, PhaseDone}};
+ghost use Rattle.pas_threads.specs.{Sessions.{TeamAt, HasRoom, HasReplayed}, Settling.SawMore};
 ghost use Rattle.pas_shared.specs.Ledgers.{IsLedgerOf, so_far};
-ghost use Rattle.pas_threads.specs.Sessions.{Session, StandSo, AreMarked, CloseDone, PhaseAt, PhaseDone, TeamAt, HasRoom, HasReplayed};
-ghost use Rattle.pas_threads.specs.Settling.{SawMore};
 
 use crate::dealing::{deal, take_back};
 use crate::hands::{Hand, act_with};

@@ -5,8 +5,8 @@ ghost use Rattle.pas_utility.specs.Outcomes.{places_of};
 ghost use Rattle.pas_trace.specs.{EveryPlan.AreSound, Acts.scavenger_acts};
 ghost use Rattle.pas_answers.specs.Answers.{Progress};
 ghost use Rattle.pas_shared.specs.Passes.{view_of, IsPassOf};
-ghost use Rattle.pas_threads.specs.{Hands.standing_of_pass, Lent.Shift, Lent.AreLent, Scavengers.CrewHasLeft, Scavengers.MayScavenge, Scavengers.DidScavenge};
-ghost use Rattle.pas_threads.specs.Crews.{crew, CrewAt, CrewSat, CrewMayRise, CrewRose};
+ghost use Rattle.pas_threads.specs.{Hands.standing_of_pass, Lent.{Shift, AreLent}, Scavengers.{CrewHasLeft, MayScavenge, DidScavenge}, Crews.{crew, CrewAt}};
+ghost use Rattle.pas_threads.specs.Crews.{CrewSat, CrewMayRise, CrewRose};
 
 use crate::crew::scavenge;
 use crate::lending::{let_lent_leave, seat_lent};

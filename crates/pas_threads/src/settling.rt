@@ -2,11 +2,9 @@
 ghost use Rattle.std.specs.Prelude.{◌≡◌, ◌<◌, ◌≤◌, ℕ, Some, true, suc, length, get_or};
 ghost use Rattle.pas_bits.specs.Masks.{is_set};
 ghost use Rattle.pas_steps.specs.Lists.{Whole};
-ghost use Rattle.pas_shared.specs.Ledgers.{IsLedgerOf, so_far};
-ghost use Rattle.pas_threads.specs.{Hands.HasPass, Pairs.IsKeeperOf, Sessions.Session, Sessions.StandSo};
-ghost use Rattle.pas_threads.specs.Settling.{Settled, StandsIn, ActorsStand, SawMore, HasHeard, HasBench, IsButBench};
-ghost use Rattle.pas_shared.specs.declared.pass.SharedPass.{SharedPass as ThePass};
-ghost use Rattle.pas_threads.specs.declared.{keeper.Keeper.Keeper as TheKeeper, workers.Worker.Worker as TheWorker};
+ghost use Rattle.pas_shared.specs.{Ledgers.{IsLedgerOf, so_far}, declared.pass.SharedPass.SharedPass as ThePass};
+ghost use Rattle.pas_threads.specs.{Hands.HasPass, Pairs.IsKeeperOf, Sessions.{Session, StandSo}, Settling.{Settled, StandsIn, ActorsStand, SawMore, HasHeard}};
+ghost use Rattle.pas_threads.specs.{Settling.{HasBench, IsButBench}, declared.{keeper.Keeper.Keeper as TheKeeper, workers.Worker.Worker as TheWorker}};
 
 use crate::keeper::Keeper;
 use crate::scavenger::Scavenger;

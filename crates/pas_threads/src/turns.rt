@@ -8,9 +8,8 @@ ghost use Rattle.pas_cache.specs.Caches.{cached};
 ghost use Rattle.pas_trace.specs.Acts.{Wakes, Ends};
 ghost use Rattle.pas_shared.specs.Ledgers.{IsLedgerOf, so_far};
 ghost use Rattle.pas_acts.specs.{Works.Later, Keepers.LaterKept, Pairs.KeeperWaits};
-ghost use Rattle.pas_threads.specs.Sessions.{Session, StandSo, WorkerHas, WorkersRest, AreResting};
-ghost use Rattle.pas_threads.specs.{Settling.ActorsStand, Closing.ClosedFirst, Closing.ClosesNext, Closing.ClosedSo};
-ghost use Rattle.pas_threads.specs.Pairs.{IsKeeperOf, kept_by_worker, no_more, AreGuarded, IsButKeeper, KeeperStands, KeeperLowered};
+ghost use Rattle.pas_threads.specs.{Sessions.{Session, StandSo, WorkerHas, WorkersRest, AreResting}, Settling.ActorsStand, Closing.{ClosedFirst, ClosesNext}};
+ghost use Rattle.pas_threads.specs.{Closing.ClosedSo, Pairs.{IsKeeperOf, kept_by_worker, no_more, AreGuarded, IsButKeeper, KeeperStands, KeeperLowered}};
 ghost use Rattle.pas_threads.specs.Turns.{Turn, WokeAll, said_by_all, said_kept, said_by_keepers, IsOwnGathered, IsKeptGathered, IsGathered};
 ghost use Rattle.pas_threads.specs.declared.{keeper.Keeper.Keeper as TheKeeper, workers.Worker.Worker as TheWorker};
 

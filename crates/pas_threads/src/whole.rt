@@ -1,7 +1,7 @@
 //! The replay of a whole plan on threads, with the kit that was made for it.
 ghost use Rattle.std.specs.Prelude.{◌≡◌, ◌≤◌, ◌<◌, ◌+◌, ℕ, List, Some, All, [], map, length, vec_capacity, ◌++◌, ◌∷◌};
 ghost use Rattle.pas_trace.specs.Plans.{IsPlanOf};
-ghost use Rattle.pas_answers.specs.{Replays.phases_of, Replays.Shows, Ways.OnThreads};
+ghost use Rattle.pas_answers.specs.{Replays.{phases_of, Shows}, Ways.OnThreads};
 ghost use Rattle.pas_shared.specs.declared.pass.SharedPass.{SharedPass as ThePass};
 ghost use Rattle.pas_threads.specs.Kits.{IsKitOf, IsBack, kept_pass, passes_in, slots_of};
 ghost use Rattle.pas_records.specs.Rooms.{records_in, room_of};

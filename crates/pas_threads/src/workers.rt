@@ -1,9 +1,9 @@
 //! The workers of the threads at a shared region.
 ghost use Rattle.std.specs.Prelude.{◌≡◌, ◌<◌, ◌^◌, ◌∷◌, ℕ, All, length, get_or};
 ghost use Rattle.pas_answers.specs.Names.{names_held};
-ghost use Rattle.pas_shared.specs.{Passes.IsPassOf, Benches.row_on, Benches.MaySitOn};
-ghost use Rattle.pas_threads.specs.Seats.{seated_actors, IsAnother, KeeperSits, PairSits, PairRose};
-ghost use Rattle.pas_threads.specs.{Pairs.IsKeeperOf, Pairs.MayDoPhase, Pairs.DidPhase, Taken.HasTaken, Taken.IsWithin, Taken.IsEmptied};
+ghost use Rattle.pas_shared.specs.{Passes.IsPassOf, Benches.{row_on, MaySitOn}};
+ghost use Rattle.pas_threads.specs.{Seats.{seated_actors, IsAnother, KeeperSits, PairSits, PairRose}, Pairs.{IsKeeperOf, MayDoPhase, DidPhase}, Taken.HasTaken};
+ghost use Rattle.pas_threads.specs.Taken.{IsWithin, IsEmptied};
 
 use crate::keeper::{Beside, Keeper, Seated, let_keeper_leave, seat_keeper};
 use pas_acts::gate::Gate;

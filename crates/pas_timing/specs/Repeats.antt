@@ -1,10 +1,9 @@
 -- Steps that can be made at any time, and what a worker has before it is measured.
 use Rattle.std.specs.Prelude.{◌≡◌, ◌≤◌, ℕ}
 use Rattle.pas_profile.specs.declared.profile.Profile.{Profile}
-use Rattle.pas_steps.specs.{Views.View, Allowed.Allowed, Allowed.IsStepOf, Events.wants}
-use Rattle.pas_steps.specs.declared.step.Step.{Step}
-use Rattle.pas_shared.specs.{Passes.profile_of, Passes.IsFreshPass, Workers.IsReady}
-use Rattle.pas_shared.specs.declared.{region.SharedRegion.SharedRegion, pass.SharedPass.SharedPass, workers.Worker.Worker}
+use Rattle.pas_steps.specs.{Views.View, Allowed.{Allowed, IsStepOf}, Events.wants, declared.step.Step.Step}
+use Rattle.pas_shared.specs.{Passes.{profile_of, IsFreshPass}, Workers.IsReady, declared.{region.SharedRegion.SharedRegion, pass.SharedPass.SharedPass}}
+use Rattle.pas_shared.specs.declared.workers.Worker.{Worker}
 
 -- the step is of the region, makes no event, and any view allows it
 pub record IsFreeToMake (f : Profile) (step : Step) : Type 0 where

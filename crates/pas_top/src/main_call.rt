@@ -2,14 +2,11 @@
 ghost use Rattle.std.specs.Prelude.{◌≡◌, ◌≢◌, ◌+◌, ◌<◌, ◌≤◌, ◌⊎◌, ℕ, List, [], Some, Ok, Err, length};
 ghost use Rattle.pas_io.specs.{Inputs.Takes, Told.Rose, Reached.StopsAtEnd};
 ghost use Rattle.pas_io.specs.declared.reach.Reach.TheVariants as Reach;
-ghost use Rattle.pas_trace.specs.Plans.{IsPlanOf, parsed};
-ghost use Rattle.pas_trace.specs.declared.{plan.Plan.Plan, fault.TraceFault.TraceFault};
-ghost use Rattle.pas_check.specs.Inputs.{trace_in};
-ghost use Rattle.pas_check.specs.declared.verdict.Verdict.{Verdict};
+ghost use Rattle.pas_trace.specs.{Plans.{IsPlanOf, parsed}, declared.{plan.Plan.Plan, fault.TraceFault.TraceFault}};
+ghost use Rattle.pas_check.specs.{Inputs.trace_in, declared.verdict.Verdict.Verdict};
 ghost use Rattle.pas_telling.specs.declared.manner.Manner.{Manner};
-ghost use Rattle.pas_calls.specs.{Judgements.IsJudged, Judgements.verdict_status, OneText.WritesTextOf};
-ghost use Rattle.pas_calls.specs.Outputs.{most_bytes, texts_of, IsReplaying, IsChecking, ReadsInput, IsGen, IsAccepted, IsStatus, IsWriting, IsWritten};
-ghost use Rattle.pas_calls.specs.Outputs.{HasFailed, IsCutOff};
+ghost use Rattle.pas_calls.specs.{Judgements.{IsJudged, verdict_status}, OneText.WritesTextOf, Outputs.{most_bytes, texts_of, IsReplaying, IsChecking}};
+ghost use Rattle.pas_calls.specs.Outputs.{ReadsInput, IsGen, IsAccepted, IsStatus, IsWriting, IsWritten, HasFailed, IsCutOff};
 
 use crate::outcome::{replayed_on_threads, tell_outcome};
 use pas_calls::generating::generate;

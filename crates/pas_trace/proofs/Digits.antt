@@ -1,7 +1,7 @@
 -- Values of digits, digit by digit.
 use Rattle.std.proofs.Common.{◌≡◌, ℕ, ◌+◌, ◌-◌, ◌*◌, ◌^◌, ◌<◌, ◌≤◌, nat_lt, nat_le, Bool, true, false, ◌&&◌, if◌then◌else◌, List, [], ◌∷◌, ◌++◌, Option, None}
-use Rattle.std.proofs.Common.{Some, refl, arith, le-leb, le-ltb}
-use Rattle.std.proofs.{Math.Nat.pow-le-pow_right, lemmas.Grind.pow_more, lemmas.Bool.Decides.nat_tests, lemmas.Bool.and_from, lemmas.Bool.and_parts}
+use Rattle.std.proofs.{Common.{Some, refl, arith, le-leb, le-ltb}, Math.Nat.pow-le-pow_right, lemmas.{Grind.pow_more, Bool.{Decides.nat_tests, and_from}}}
+use Rattle.std.proofs.lemmas.Bool.{and_parts}
 use Rattle.pas_trace.specs.Numbers.{is_digit, all_digits, value_from, is_hex, hex_value, all_hex, hex_from}
 
 -- the value of digits that follow a value, if they are digits and it is below 2^64

@@ -1,26 +1,21 @@
 -- The operations of items follow one another soundly, and may make as many records as the items.
 use Rattle.std.proofs.Common.{◌≡◌, ℕ, ◌≢◌, ◌+◌, ◌*◌, ◌%◌, ◌<◌, ◌≤◌, ◌==◌, nat_le, ◌||◌, ◌&&◌, not, Bool, true, false, if◌then◌else◌, List, [], ◌∷◌, ◌++◌}
 use Rattle.std.proofs.Common.{length, Option, Some, None, refl, ap, sym, ◌∙◌, subst, arith, append_assoc, length-append, MatchOption, eq-eqb, ne_eqb, leb-true}
-use Rattle.std.proofs.Common.{leb-false, ltb-true, append-nil, zero, suc, slice_index, inl, inr, map, eqb-true}
-use Rattle.std.proofs.{Math.Bool.and-false, lemmas.Bool.and_parts, lemmas.Bool.cases_lt, lemmas.Bool.false≢true, lemmas.List.length-map}
-use Rattle.std.proofs.{lemmas.List.get_or_append_left, Math.Seq.get_or-append_seam}
-use Rattle.pas_profile.specs.Profiles.{IsValid, IsAdmitted}
-use Rattle.pas_profile.specs.declared.profile.Profile.{Profile}
+use Rattle.std.proofs.{Common.{leb-false, ltb-true, append-nil, zero, suc, slice_index, inl, inr, map, eqb-true}, Math.{Bool.and-false, Seq.get_or-append_seam}}
+use Rattle.std.proofs.lemmas.{Bool.{and_parts, cases_lt, false≢true}, List.{length-map, get_or_append_left}}
+use Rattle.pas_profile.specs.{Profiles.{IsValid, IsAdmitted}, declared.profile.Profile.Profile}
 use Rattle.pas_trace.specs.Reasons.{guard_in, is_sampled, large_requests, is_guarded, cost_of_size, cost_of_request, makes, is_named, heap_of_item, heap_of}
 use Rattle.pas_trace.specs.Reasons.{actor_of, cost_of, costs_of, cost_of_wish, records_of_chore, reason_of, actors_by, is_phase, is_named_now, thread_of}
-use Rattle.pas_trace.specs.Reasons.{is_operation, operations_in}
-use Rattle.pas_trace.specs.Plans.{operation, operation_of, keeper_for, request_kept, kept_costs, what_wished, what_of_chore, add_last, phases_in, phases_after}
-use Rattle.pas_trace.specs.Plans.{line_of_newest, own_costs, IsPlanOf, phases_of, ops_of, shared_in, bound_of, bounds_upto, bounds_of}
-use Rattle.pas_trace.specs.{Asked.request_in, Asked.keeper_in, Asked.freed_in, EveryPhase.FreesItsOwn, EveryPhase.FreeTheirOwn}
-use Rattle.pas_trace.specs.Wishes.{name_made, heap_made, is_large, is_name, name_freed}
-use Rattle.pas_trace.specs.EveryPlan.{all_ops, IsThread, is_asked, asked_with, asked_after, asked_by, AreBelow, AreSound, AreKept, records_of_what}
-use Rattle.pas_trace.specs.EveryPlan.{records_of_ops, own_records, kept_records, operations_of, IsSound}
-use Rattle.pas_trace.specs.declared.{item.Request.Request, item.Item.Item, item.Wish.Wish, plan.Chore.Chore, plan.Op.Op, plan.Plan.Plan}
-use Rattle.pas_trace.specs.declared.item.Item.TheVariants.{Guards, NextPhase, Operates, Scavenges}
-use Rattle.pas_trace.specs.declared.item.Wish.TheVariants.{Asks, Frees, FreesSized, FreesRaw, FreesRawSized, Remakes, Flushes, Stops}
-use Rattle.pas_trace.proofs.{ParsedItems.IsInRange, ParsedItems.AreChecked, ParsedItems.parts_of, Rooms.room_named, Costs.unguarded_cost, Costs.guarded_cost}
-use Rattle.pas_trace.proofs.{Costs.least_cost, WordLines.lines_few, Telling.bound-thread, Telling.bound-keeper}
-use Rattle.pas_trace.proofs.PassedChecks.{own_passed, guard_passed, aligns, is_not, held_both, counts_within}
+use Rattle.pas_trace.specs.{Reasons.{is_operation, operations_in}, Plans.{operation, operation_of, keeper_for, request_kept, kept_costs, what_wished}}
+use Rattle.pas_trace.specs.Plans.{what_of_chore, add_last, phases_in, phases_after, line_of_newest, own_costs, IsPlanOf, phases_of, ops_of, shared_in, bound_of}
+use Rattle.pas_trace.specs.{Plans.{bounds_upto, bounds_of}, Asked.{request_in, keeper_in, freed_in}, EveryPhase.{FreesItsOwn, FreeTheirOwn}, Wishes.name_made}
+use Rattle.pas_trace.specs.{Wishes.{heap_made, is_large, is_name, name_freed}, EveryPlan.{all_ops, IsThread, is_asked, asked_with, asked_after, asked_by}}
+use Rattle.pas_trace.specs.EveryPlan.{AreBelow, AreSound, AreKept, records_of_what, records_of_ops, own_records, kept_records, operations_of, IsSound}
+use Rattle.pas_trace.specs.declared.item.{Request.Request, Item.{Item, TheVariants.{Guards, NextPhase, Operates, Scavenges}}, Wish.{Wish, TheVariants.Asks}}
+use Rattle.pas_trace.specs.declared.{item.Wish.TheVariants.{Frees, FreesSized, FreesRaw, FreesRawSized, Remakes, Flushes, Stops}, plan.{Chore.Chore, Op.Op}}
+use Rattle.pas_trace.{specs.declared.plan.Plan.Plan, proofs.{ParsedItems.{IsInRange, AreChecked, parts_of}, Rooms.room_named, Costs.unguarded_cost}}
+use Rattle.pas_trace.proofs.{Costs.{guarded_cost, least_cost}, WordLines.lines_few, Telling.{bound-thread, bound-keeper}, PassedChecks.own_passed}
+use Rattle.pas_trace.proofs.PassedChecks.{guard_passed, aligns, is_not, held_both, counts_within}
 
 -- ---- the operations of items in one list: those before, and that of the newest item, where it is one
 abbrev pub ops_in : Profile → List Item → List Op

@@ -1,15 +1,12 @@
 -- Lines at the front of a text: their digits, their words, and where they end.
 use Rattle.std.proofs.Common.{◌≡◌, ◌≢◌, ℕ, ◌+◌, ◌-◌, ◌*◌, ◌^◌, ◌<◌, ◌≤◌, ◌==◌, nat_lt, Bool, true, false, if◌then◌else◌, List, [], ◌∷◌, ◌++◌, take, drop}
 use Rattle.std.proofs.Common.{length, get_or, None, Some, Ok, refl, sym, ap, ◌∙◌, arith, append_assoc, length-append, take-append-drop, length-take-le}
-use Rattle.std.proofs.Common.{get_or-take, le-leb, lt-ltb, ne_eqb}
-use Rattle.std.proofs.{Math.Nat.pow-le-pow_right, lemmas.Grind.pow_more, lemmas.List.take_rest, lemmas.List.take_more, lemmas.List.drop_more}
-use Rattle.std.proofs.{lemmas.Bool.and_from, lemmas.Bool.and_parts}
-use Rattle.pas_trace.specs.{Texts.pieces, Texts.without_empty, Texts.lines_of, FirstLines.BeginsWith, FirstLines.FirstSays}
-use Rattle.pas_trace.specs.Numbers.{is_digit, all_digits, value_from, is_decimal, number_of}
-use Rattle.pas_trace.specs.Items.{trace_name, item2, item5, item_of_words}
-use Rattle.pas_trace.specs.declared.item.{Item.Item, Item.TheVariants.Operates, Wish.TheVariants.Asks, Wish.TheVariants.Frees}
-use Rattle.pas_trace.proofs.Digits.{digit-is, digits-add, value-add}
-use Rattle.pas_trace.proofs.WordLines.{keeps, IsLine, Lacks, lacks-both, digits-lack, pieces-until, pieces-only, lines-until}
+use Rattle.std.proofs.{Common.{get_or-take, le-leb, lt-ltb, ne_eqb}, Math.Nat.pow-le-pow_right, lemmas.{Grind.pow_more, List.{take_rest, take_more, drop_more}}}
+use Rattle.std.proofs.lemmas.Bool.{and_from, and_parts}
+use Rattle.pas_trace.specs.{Texts.{pieces, without_empty, lines_of}, FirstLines.{BeginsWith, FirstSays}, Numbers.{is_digit, all_digits, value_from, is_decimal}}
+use Rattle.pas_trace.specs.{Numbers.number_of, Items.{trace_name, item2, item5, item_of_words}, declared.item.Item.{Item, TheVariants.Operates}}
+use Rattle.pas_trace.{specs.declared.item.Wish.TheVariants.{Asks, Frees}, proofs.{Digits.{digit-is, digits-add, value-add}, WordLines.{keeps, IsLine, Lacks}}}
+use Rattle.pas_trace.proofs.WordLines.{lacks-both, digits-lack, pieces-until, pieces-only, lines-until}
 
 -- the first so many bytes are digits of this value
 pub record AreDigits (text : List ℕ) (count value : ℕ) : Type 0 where

@@ -1,17 +1,12 @@
 -- What the reader's tables hold after each step.
 use Rattle.std.proofs.Common.{◌≡◌, ℕ, zero, suc, ◌<◌, ◌==◌, true, false, if◌then◌else◌, List, [], ◌∷◌, ◌++◌, length, map, get_or, set, Some, refl, sym, ap}
 use Rattle.std.proofs.Common.{subst, ◌∙◌, inl, inr, get_or-set_same, get_or-set_other, eq-eqb, ne_eqb, ◌+◌, Bool, arith, Result, Ok, Err, MatchResult}
-use Rattle.std.proofs.lemmas.Bool.{cases_eq}
-use Rattle.std.proofs.lemmas.List.{map-append, get_or_append_left, get_or_at, length-map}
-use Rattle.pas_trace.specs.Codes.{unlined, is_rare, IsPlaced, nothing, said_by, no_code}
-use Rattle.pas_trace.specs.Plans.{add_last, ops_of, parsed, IsReading}
-use Rattle.pas_trace.specs.Scripts.{without_lines, coded_ops, IsScriptFor, IsScriptOf, IsScripting}
-use Rattle.pas_trace.specs.Gathering.{scripted_phases, HasGathered, Gathers, is_scripting}
-use Rattle.pas_trace.specs.declared.{gathered.Coded.Coded, gathered.Gathered.Gathered, plan.Op.Op, code.Code.Code, header.Header.Header}
-use Rattle.pas_trace.specs.declared.{fault.ReadFault.ReadFault, fault.ReadFault.TheVariants.Trace, fault.ReadFault.TheVariants.NoMemory, item.Item.Item}
-use Rattle.pas_trace.specs.declared.{plan.Phase.Phase, plan.Plan.Plan, reader.Reader.Reader, script.CodedPhase.CodedPhase, script.Script.Script}
-use Rattle.std.specs.Global.{Vec}
-use Rattle.pas_trace.specs.Told.{Tells, IsRead, IsBegun, IsPlanned, IsScripted}
+use Rattle.std.{proofs.lemmas.{Bool.cases_eq, List.{map-append, get_or_append_left, get_or_at, length-map}}, specs.Global.Vec}
+use Rattle.pas_trace.specs.{Codes.{unlined, is_rare, IsPlaced, nothing, said_by, no_code}, Plans.{add_last, ops_of, parsed, IsReading}, Scripts.without_lines}
+use Rattle.pas_trace.specs.{Scripts.{coded_ops, IsScriptFor, IsScriptOf, IsScripting}, Gathering.{scripted_phases, HasGathered, Gathers, is_scripting}}
+use Rattle.pas_trace.specs.declared.{gathered.{Coded.Coded, Gathered.Gathered}, plan.{Op.Op, Phase.Phase, Plan.Plan}, code.Code.Code, header.Header.Header}
+use Rattle.pas_trace.specs.declared.{fault.ReadFault.{ReadFault, TheVariants.{Trace, NoMemory}}, item.Item.Item, reader.Reader.Reader}
+use Rattle.pas_trace.specs.{declared.script.{CodedPhase.CodedPhase, Script.Script}, Told.{Tells, IsRead, IsBegun, IsPlanned, IsScripted}}
 use Rattle.pas_trace.proofs.LexedLines.{read-planned, plan-read}
 use Rattle.pas_trace.specs.declared.gathered.Gathered.TheVariants as kind
 

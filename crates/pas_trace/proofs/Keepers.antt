@@ -1,7 +1,6 @@
 -- How many keepers a plan has.
 use Rattle.std.proofs.Common.{◌≡◌, ℕ, ◌+◌, ◌*◌, ◌≤◌, ◌==◌, Bool, true, false, if◌then◌else◌, arith}
-use Rattle.pas_trace.specs.Acts.{region_of, threads_of, keepers_of}
-use Rattle.pas_trace.specs.declared.plan.Plan.{Plan}
+use Rattle.pas_trace.specs.{Acts.{region_of, threads_of, keepers_of}, declared.plan.Plan.Plan}
 
 both_numbers : (t : Bool) (n : ℕ) → n + (if t then 0 else n) ≡ (if t then n else 2 * n)
 both_numbers true n = omega arith

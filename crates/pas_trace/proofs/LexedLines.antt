@@ -1,15 +1,11 @@
 -- The lines that are read, and those that are left.
 use Rattle.std.proofs.Common.{arith, ◌≡◌, ℕ, ◌+◌, Bool, List, [], ◌∷◌, Some, Result, Ok, Err, MatchResult, refl, sym, ap, subst, ◌∙◌, ◌==◌, true, false}
-use Rattle.std.proofs.Common.{if◌then◌else◌, ◌++◌, OnOk, map, length, codes, append_assoc, length-append}
-use Rattle.pas_trace.specs.declared.{header.Header.Header, fault.ReadFault.ReadFault, fault.ReadFault.TheVariants.Trace, fault.ReadFault.TheVariants.NoMemory}
-use Rattle.pas_trace.specs.declared.{item.Item.Item, plan.Plan.Plan, reader.Reader.Reader, fault.Reason.Reason, fault.TraceFault.TraceFault}
-use Rattle.pas_trace.specs.declared.{item.Item.TheVariants.Shares}
-use Rattle.pas_trace.specs.{Texts.lines_of, Texts.words_of, Reasons.line_says, Reasons.header_of, Gathering.is_scripting, FirstLines.FirstSays, Lexed.Say}
-use Rattle.pas_trace.specs.{Lexed.AreLexed}
-use Rattle.pas_trace.specs.Plans.{parsed, parsed_lines, with_header, with_items, items_from, after_item, IsPlanOf, IsReading, line_of_newest}
-use Rattle.pas_trace.specs.Told.{Tells, IsTaken, AreTaken, IsRead, IsBegun, IsPlanned}
-use Rattle.std.proofs.lemmas.List.{map-append}
-use Rattle.pas_trace.specs.Items.{same_bytes, item1, item_by_count, item_of_words, item_of_line, plain}
+use Rattle.std.proofs.{Common.{if◌then◌else◌, ◌++◌, OnOk, map, length, codes, append_assoc, length-append}, lemmas.List.map-append}
+use Rattle.pas_trace.specs.declared.{header.Header.Header, fault.{ReadFault.{ReadFault, TheVariants.{Trace, NoMemory}}, Reason.Reason, TraceFault.TraceFault}}
+use Rattle.pas_trace.specs.{declared.{item.Item.{Item, TheVariants.Shares}, plan.Plan.Plan, reader.Reader.Reader}, Texts.{lines_of, words_of}}
+use Rattle.pas_trace.specs.{Reasons.{line_says, header_of}, Gathering.is_scripting, FirstLines.FirstSays, Lexed.{Say, AreLexed}, Plans.{parsed, parsed_lines}}
+use Rattle.pas_trace.specs.{Plans.{with_header, with_items, items_from, after_item, IsPlanOf, IsReading, line_of_newest}, Told.{Tells, IsTaken, AreTaken}}
+use Rattle.pas_trace.specs.{Told.{IsRead, IsBegun, IsPlanned}, Items.{same_bytes, item1, item_by_count, item_of_words, item_of_line, plain}}
 
 -- the answer of the lines that are left is the answer of all
 pub record SoFar (old : Reader) (start : List Item) (lines : List (List ℕ)) (now : Reader) (left : List (List ℕ)) : Type 0 where

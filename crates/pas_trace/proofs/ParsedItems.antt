@@ -1,17 +1,13 @@
 -- A header has ten words, and its numbers are within the limits.
 use Rattle.std.proofs.Common.{◌≡◌, ℕ, ◌<◌, ◌≤◌, ◌&&◌, Bool, true, false, if◌then◌else◌, List, [], ◌∷◌, length, Option, None, Some, refl, subst, arith, codes}
-use Rattle.std.proofs.Common.{le-leb, ◌-◌, ◌^◌, ◌==◌, nat_lt, Result, IfOk, MatchOption, ltb-true, ◌+◌, Ok, Err, ap, ◌∙◌}
-use Rattle.std.proofs.lemmas.Bool.{and_parts}
-use Rattle.pas_profile.specs.Profiles.{IsValid, AreClassesFor}
-use Rattle.pas_trace.specs.declared.{header.Header.Header, fault.Reason.Reason, item.Item.Item, item.Item.TheVariants.Operates, item.Item.TheVariants.Scavenges}
-use Rattle.pas_trace.specs.declared.{fault.TraceFault.TraceFault, item.Wish.TheVariants.FreesRaw, item.Wish.TheVariants.FreesRawSized}
-use Rattle.pas_trace.specs.{Texts.words_of, Texts.lines_of, Numbers.number_of, Asked.epoch_of}
+use Rattle.std.proofs.{Common.{le-leb, ◌-◌, ◌^◌, ◌==◌, nat_lt, Result, IfOk, MatchOption, ltb-true, ◌+◌, Ok, Err, ap, ◌∙◌}, lemmas.Bool.and_parts}
+use Rattle.pas_profile.specs.{Profiles.{IsValid, AreClassesFor}, declared.profile.Profile.Profile}
+use Rattle.pas_trace.specs.declared.{header.Header.Header, fault.{Reason.Reason, TraceFault.TraceFault}, item.Item.{Item, TheVariants.{Operates, Scavenges}}}
+use Rattle.pas_trace.specs.{declared.item.Wish.TheVariants.{FreesRaw, FreesRawSized}, Texts.{words_of, lines_of}, Numbers.number_of, Asked.epoch_of}
 use Rattle.pas_trace.specs.Items.{same_bytes, below, since, has_since, item1, item2, item3, item4, item5, item_of_two, item_of_six, item_by_count}
-use Rattle.pas_trace.specs.Items.{item_of_words, item_of_line}
-use Rattle.pas_trace.specs.Reasons.{within, most_pages, header_with, header_for, header_of_words, header_of, reason_of, kept, checked, line_says}
+use Rattle.pas_trace.specs.{Items.{item_of_words, item_of_line}, Reasons.{within, most_pages, header_with, header_for, header_of_words, header_of, reason_of}}
+use Rattle.pas_trace.specs.{Reasons.{kept, checked, line_says}, Plans.{after_item, items_from, Parsed, with_items, with_header, parsed, parsed_lines}}
 use Rattle.pas_trace.proofs.PassedChecks.{if_some}
-use Rattle.pas_profile.specs.declared.profile.Profile.{Profile}
-use Rattle.pas_trace.specs.Plans.{after_item, items_from, Parsed, with_items, with_header, parsed, parsed_lines}
 
 -- Four or five words are no header.
 pub short4 : (a b c d : List ℕ) (ws : List (List ℕ)) → length ws < 2 → header_of_words (a ∷ b ∷ c ∷ d ∷ ws) ≡ None

@@ -1,14 +1,11 @@
 -- What an item keeps that passed its checks.
 use Rattle.std.proofs.Common.{◌≡◌, ℕ, ◌*◌, ◌^◌, ◌<◌, ◌≤◌, nat_le, nat_lt, Bool, true, false, not, if◌then◌else◌, List, [], ◌∷◌, Option, None, Some, refl, arith}
-use Rattle.std.proofs.Common.{MatchOption, ltb-true, leb-true}
-use Rattle.std.proofs.lemmas.Bool.{and_parts}
-use Rattle.pas_profile.specs.{Classes.IsAlignment, Profiles.IsValid}
-use Rattle.pas_profile.specs.declared.profile.Profile.{Profile}
-use Rattle.pas_trace.specs.Wishes.{Sizing, heap_in, sizing_in, name_made, name_freed, holds_of, IsFit, IsFitSizing}
-use Rattle.pas_trace.specs.Reasons.{first_failed, is_thread, is_alignment, record_bound, few_enough, may_free, is_guard_number, guard_in, checks_of, reason_of}
-use Rattle.pas_trace.specs.Reasons.{operations_in, started, is_operation, is_named, actor_of}
-use Rattle.pas_trace.specs.EveryPlan.{IsThread}
-use Rattle.pas_trace.specs.declared.{fault.Reason.Reason, item.Item.Item, item.Item.TheVariants.Guards, item.Item.TheVariants.Operates, item.Wish.Wish}
+use Rattle.std.proofs.{Common.{MatchOption, ltb-true, leb-true}, lemmas.Bool.and_parts}
+use Rattle.pas_profile.specs.{Classes.IsAlignment, Profiles.IsValid, declared.profile.Profile.Profile}
+use Rattle.pas_trace.specs.{Wishes.{Sizing, heap_in, sizing_in, name_made, name_freed, holds_of, IsFit, IsFitSizing}, Reasons.{first_failed, is_thread}}
+use Rattle.pas_trace.specs.Reasons.{is_alignment, record_bound, few_enough, may_free, is_guard_number, guard_in, checks_of, reason_of, operations_in, started}
+use Rattle.pas_trace.specs.{Reasons.{is_operation, is_named, actor_of}, EveryPlan.IsThread, declared.{fault.Reason.Reason, item.Item.Item}}
+use Rattle.pas_trace.specs.declared.item.{Item.TheVariants.{Guards, Operates}, Wish.Wish}
 
 abbrev pub AreHeld : List (Bool × Reason) → Type 0
 AreHeld [] = Unit {0}

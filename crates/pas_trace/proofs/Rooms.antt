@@ -1,7 +1,6 @@
 -- The room that a free names: of whole grains, of one at least, and no larger than the region.
 use Rattle.std.proofs.Common.{◌≡◌, ℕ, ◌*◌, ◌%◌, ◌≤◌, max, Some, arith}
-use Rattle.pas_profile.specs.{Profiles.IsValid, Requests.room_in, Routes.room_by, Routes.IsRouteOf}
-use Rattle.pas_profile.specs.declared.{directory.Route.Route, profile.Profile.Profile}
+use Rattle.pas_profile.specs.{Profiles.IsValid, Requests.room_in, Routes.{room_by, IsRouteOf}, declared.{directory.Route.Route, profile.Profile.Profile}}
 use Rattle.pas_profile.proofs.Sizes.{route_is, class_known, class_size-grains, class_grains_positive, class_grains_le}
 use Rattle.pas_trace.specs.EveryPlan.{IsRoomNamed}
 

@@ -1,14 +1,12 @@
 -- A text whose lines are taken as its bytes come.
 use Rattle.std.proofs.Common.{arith, ◌≡◌, ◌≢◌, ◌≤◌, ℕ, ◌+◌, ◌++◌, List, [], ◌∷◌, Option, None, Some, Result, Ok, Err, refl, sym, ap, subst, ◌∙◌, length, true}
 use Rattle.std.proofs.Common.{append_assoc, length-append, append-nil, take, Global}
-use Rattle.pas_trace.specs.declared.{header.Header.Header, item.Item.Item, reader.Reader.Reader, fault.TraceFault.TraceFault, script.Script.Script}
-use Rattle.pas_trace.specs.declared.{fault.ReadFault.ReadFault, fault.ReadFault.TheVariants.Trace, fault.ReadFault.TheVariants.NoMemory, stream.Lines.Lines}
+use Rattle.pas_trace.specs.declared.{header.Header.Header, item.Item.Item, reader.Reader.Reader, fault.{TraceFault.TraceFault, ReadFault.ReadFault}}
+use Rattle.pas_trace.specs.{declared.{fault.ReadFault.TheVariants.{Trace, NoMemory}, script.Script.Script, stream.Lines.Lines}, Texts.{lines_of, IsWhole}}
+use Rattle.pas_trace.specs.{Scripts.{IsScriptOf, IsScripting}, Told.{Tells, AreTaken, IsRead, IsBegun, IsScripted}, Plans.{IsReading, Parsed, parsed}}
+use Rattle.pas_trace.specs.{Plans.{parsed_lines, with_header, with_items, items_from, line_of_newest}, Streams.{HasReadText, AreLinesOf, AreLinesAfter}}
+use Rattle.pas_trace.{specs.Streams.TakesLines, proofs.{LexedLines.{items-more, items-fault}, Gathering.text-scripted}}
 use Rattle.pas_trace.specs.declared.stream.Lines.TheVariants as kind
-use Rattle.pas_trace.specs.{Texts.lines_of, Texts.IsWhole, Scripts.IsScriptOf, Scripts.IsScripting}
-use Rattle.pas_trace.specs.Told.{Tells, AreTaken, IsRead, IsBegun, IsScripted}
-use Rattle.pas_trace.specs.Plans.{IsReading, Parsed, parsed, parsed_lines, with_header, with_items, items_from, line_of_newest}
-use Rattle.pas_trace.specs.Streams.{HasReadText, AreLinesOf, AreLinesAfter, TakesLines}
-use Rattle.pas_trace.proofs.{LexedLines.items-more, LexedLines.items-fault, Gathering.text-scripted}
 
 -- ---- what a text comes to, from what the lines that are left come to
 module _ (P : List ℕ → Result Parsed TraceFault) (r : Reader) (items : List Item) (xs : List (List ℕ)) (tells : Tells r items)

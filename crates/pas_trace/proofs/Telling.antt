@@ -1,27 +1,21 @@
 -- The checks by what the reader keeps are those of the items before.
 use Rattle.std.proofs.Common.{◌≡◌, ℕ, ◌+◌, ◌*◌, nat_lt, nat_le, Bool, true, false, not, List, [], ◌∷◌, ◌++◌, Option, None, Some, Result, Ok, Err, refl, sym, ap}
 use Rattle.std.proofs.Common.{arith, ◌<◌, ◌≤◌, ◌==◌, ◌&&◌, if◌then◌else◌, length, get_or, set, ◌∙◌, eq-eqb, ne_eqb, le-leb, ◌≢◌, ◌||◌, subst, add-one, leb-true}
-use Rattle.std.proofs.Common.{rules, ltb-true}
+use Rattle.std.proofs.{Common.{rules, ltb-true}, Math.ListN.length-set, lemmas.{Bool.{cases_eq, lt-leb, and_parts}, Nat.mul-le}}
 use Rattle.pas_trace.specs.Wishes.{heap_in, sizing_in, name_made, name_freed, holds_of, asking, is_large, asks_pages, heap_by, heap_made, is_name, IsFit}
 use Rattle.pas_trace.specs.Reasons.{first_failed, is_thread, is_alignment, guard_after, guard_in, cost_of, cost_of_request, cost_of_wish, record_bound}
 use Rattle.pas_trace.specs.Reasons.{few_enough, may_free, checks_of, reason_of, operations_in, is_named, line_says, actor_of, is_operation, is_large_request}
 use Rattle.pas_trace.specs.Reasons.{large_requests, is_sampled, is_guarded, costs_of, cost_of_size, is_guard_number, actors_by, records_of_chore, is_phase}
-use Rattle.pas_trace.specs.Reasons.{makes, heap_of, started}
-use Rattle.pas_trace.specs.{Items.item_of_line, Gathering.HasGathered, Gathering.Gathers, Gathering.is_scripting}
-use Rattle.pas_trace.specs.Told.{few_told, sizing_told, told_checks, reason_told, has_owner, may_free_told, IsChecked, Tells, TellsSamples, IsSampled}
-use Rattle.pas_trace.specs.Told.{samples_next, keeper_told, owner_in, heap_told, NameTold, IsReady, CanSample, IsCounted, IsOperated, IsGuarding, IsAdded}
-use Rattle.pas_trace.specs.Told.{IsNextPhase}
-use Rattle.pas_trace.specs.declared.{fault.Reason.Reason, item.Request.Request, item.Item.Item, item.Wish.Wish, reader.Reader.Reader}
-use Rattle.pas_trace.specs.declared.{item.Wish.TheVariants.Remakes, samples.Samples.Samples, header.Header.Header, names.Owner.Owner, names.Names.Names}
-use Rattle.pas_trace.specs.declared.{plan.Chore.Chore, plan.Op.Op, plan.What.What, plan.What.TheVariants.Remake, gathered.Gathered.Gathered}
-use Rattle.pas_trace.specs.declared.item.Item.TheVariants.{Guards, Operates, Scavenges, NextPhase, Shares}
-use Rattle.std.proofs.{Math.ListN.length-set, lemmas.Bool.cases_eq, lemmas.Bool.lt-leb, lemmas.Bool.and_parts, lemmas.Nat.mul-le}
-use Rattle.pas_profile.specs.declared.profile.Profile.{Profile}
+use Rattle.pas_trace.specs.{Reasons.{makes, heap_of, started}, Items.item_of_line, Gathering.{HasGathered, Gathers, is_scripting}, Told.{few_told, sizing_told}}
+use Rattle.pas_trace.specs.Told.{told_checks, reason_told, has_owner, may_free_told, IsChecked, Tells, TellsSamples, IsSampled, samples_next, keeper_told}
+use Rattle.pas_trace.specs.Told.{owner_in, heap_told, NameTold, IsReady, CanSample, IsCounted, IsOperated, IsGuarding, IsAdded, IsNextPhase}
+use Rattle.pas_trace.specs.declared.{fault.Reason.Reason, item.{Request.Request, Item.{Item, TheVariants.{Guards, Operates, Scavenges, NextPhase, Shares}}}}
+use Rattle.pas_trace.specs.declared.{item.Wish.{Wish, TheVariants.Remakes}, reader.Reader.Reader, samples.Samples.Samples, header.Header.Header}
+use Rattle.pas_trace.specs.declared.{names.{Owner.Owner, Names.Names}, plan.{Chore.Chore, Op.Op, What.{What, TheVariants.Remake}}, gathered.Gathered.Gathered}
 use Rattle.pas_trace.specs.Plans.{kept_costs, keeper_for, shared_by, phases_after, phases_in, own_costs, bound_of, bounds_upto, all_bounds, operation}
-use Rattle.pas_trace.specs.Plans.{what_wished, what_of_chore, add_last, line_of_newest}
-use Rattle.pas_trace.proofs.{Costs.least_cost, Gathering.get_or-written}
-use Rattle.pas_profile.specs.Profiles.{IsValid}
+use Rattle.pas_trace.{specs.Plans.{what_wished, what_of_chore, add_last, line_of_newest}, proofs.{Costs.least_cost, Gathering.get_or-written}}
 use Rattle.pas_trace.proofs.PassedChecks.{FineCounts, own_passed, guard_passed, actor_within, counts_within, passes, all_fit}
+use Rattle.pas_profile.specs.{declared.profile.Profile.Profile, Profiles.IsValid}
 
 -- ---- the tables tell what the checks ask
 -- the bound with an operation; its cost goes by the `guard` line before it, and it is none itself

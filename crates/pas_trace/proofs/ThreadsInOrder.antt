@@ -1,7 +1,6 @@
 -- Threads in order: which acts of theirs are left.
 use Rattle.std.proofs.Common.{◌≡◌, ℕ, zero, suc, ◌+◌, ◌-◌, ◌<◌, ◌≤◌, Bool, true, false, if◌then◌else◌, List, [], ◌∷◌, ◌++◌, map, length, refl, ap, sym, ◌∙◌}
-use Rattle.std.proofs.Common.{arith}
-use Rattle.std.specs.List.{filter}
+use Rattle.std.{proofs.Common.arith, specs.List.filter}
 use Rattle.pas_trace.specs.Acts.{Act, numbers_from, threads_where}
 
 -- the numbers that are left

@@ -1,10 +1,9 @@
 -- Pieces, lines and words against places in the bytes.
 use Rattle.std.proofs.Common.{◌≡◌, ◌≢◌, ℕ, zero, suc, ◌+◌, ◌<◌, ◌≤◌, ◌==◌, Bool, true, false, if◌then◌else◌, List, [], ◌∷◌, take, drop, length, get_or, ◌-◌}
 use Rattle.std.proofs.Common.{refl, sym, ap, subst, ◌∙◌, arith, add-one, add-zero, length-drop, get_or-drop, eq-eqb, ne_eqb, nat_le, ◌++◌, leb-true}
-use Rattle.std.proofs.Common.{take-append-drop, append-nil, append_assoc}
-use Rattle.std.proofs.{Math.Seq.drop-length, lemmas.List.take_rest, lemmas.List.take_more, lemmas.List.drop_more, lemmas.Bool.and_parts}
-use Rattle.pas_trace.specs.Texts.{put_first, pieces, without_empty_end, lines_of, without_empty, words_of, IsWhole}
-use Rattle.pas_trace.specs.Numbers.{is_digit, all_digits}
+use Rattle.std.proofs.{Common.{take-append-drop, append-nil, append_assoc}, Math.Seq.drop-length, lemmas.List.{take_rest, take_more, drop_more}}
+use Rattle.std.proofs.lemmas.Bool.{and_parts}
+use Rattle.pas_trace.specs.{Texts.{put_first, pieces, without_empty_end, lines_of, without_empty, words_of, IsWhole}, Numbers.{is_digit, all_digits}}
 
 -- no byte among the first n is the separator
 abbrev pub NoneBefore : ℕ → List ℕ → ℕ → Type 0

@@ -1,11 +1,11 @@
 -- The acts of a plan, which a replay in the order of the text does one after the other. At the start of a phase stands its mark, from the second phase on, and
 -- then each thread that has an operation in it reads the epoch. The operations follow in order. After the last phase stands a mark, and then each
 -- thread is stopped, and in a guarded trace each keeper lowers its guards.
-use Rattle.std.specs.Prelude.{ℕ, zero, suc, ◌+◌, ◌==◌, Bool, false, ◌||◌, not, if◌then◌else◌, List, [], ◌∷◌, ◌++◌, map, Option, None, Some}
-use Rattle.std.specs.List.{filter, flat_map}
+use Rattle.std.specs.{Prelude.{ℕ, zero, suc, ◌+◌, ◌==◌, Bool, false, ◌||◌, not, if◌then◌else◌, List, [], ◌∷◌, ◌++◌, map, Option, None, Some}, List.filter}
+use Rattle.std.specs.List.{flat_map}
 use Rattle.pas_profile.specs.declared.profile.Profile.{Profile}
-use Rattle.pas_trace.specs.{Asked.work_of, Asked.keeper_of, Asked.keeper_in, EveryPlan.asked_after, Plans.ops_of, Reasons.actors_by}
-use Rattle.pas_trace.specs.declared.plan.{What.What, Chore.Chore, Work.Work, Op.Op, Plan.Plan}
+use Rattle.pas_trace.specs.{Asked.{work_of, keeper_of, keeper_in}, EveryPlan.asked_after, Plans.ops_of, Reasons.actors_by, declared.plan.What.What}
+use Rattle.pas_trace.specs.declared.plan.{Chore.Chore, Work.Work, Op.Op, Plan.Plan}
 
 -- `Operates`: a thread's operation, after which the runs of large blocks that its cache noted are handed on (`Settles`). `Ticks` and `MakesPass`: those of
 -- the scavenger. An idle operation is several acts: the scavenger reads the epoch, and then each thread that is idle in the phase is stopped, where it was

@@ -1,8 +1,7 @@
 -- What an operation asks for, in few tables, by which all that is said of operations goes.
 use Rattle.std.specs.Prelude.{ℕ, ◌+◌, Option, None, Some}
-use Rattle.pas_trace.specs.Reasons.{cost_of_size}
-use Rattle.pas_trace.specs.declared.{item.Request.Request, plan.What.What, plan.Task.Task, plan.Chore.Chore, plan.Work.Work}
-use Rattle.pas_trace.specs.declared.plan.What.TheVariants.{Alloc, Guarded, Free, FreeSized, Raw, RawSized, Remake, Flush, Stop, Tick, Pass, Idle}
+use Rattle.pas_trace.specs.{Reasons.cost_of_size, declared.{item.Request.Request, plan.What.{What, TheVariants.{Alloc, Guarded, Free, FreeSized, Raw}}}}
+use Rattle.pas_trace.specs.declared.plan.{What.TheVariants.{RawSized, Remake, Flush, Stop, Tick, Pass, Idle}, Task.Task, Chore.Chore, Work.Work}
 
 -- who acts, and for what
 abbrev pub work_of : What → Work

@@ -1,7 +1,6 @@
 -- What an operation is in eight bytes.
 use Rattle.std.specs.Prelude.{ℕ, ◌/◌, ◌%◌, ◌^◌, ◌<◌, ◌≡◌, ◌==◌, Bool, true, if◌then◌else◌, List, slice_index_or}
-use Rattle.pas_trace.specs.declared.{code.Code.Code, plan.Op.Op, plan.What.What}
-use Rattle.pas_trace.specs.declared.plan.What.TheVariants.{Alloc, Free, FreeSized, Pass}
+use Rattle.pas_trace.specs.declared.{code.Code.Code, plan.{Op.Op, What.{What, TheVariants.{Alloc, Free, FreeSized, Pass}}}}
 
 -- an operation but for its line
 abbrev pub unlined : Op → Op

@@ -1,8 +1,6 @@
 -- What a replay goes by: a plan, in whatever form the operations of its phases stand.
 use Rattle.std.specs.Prelude.{ℕ, ◌≡◌, List, map}
-use Rattle.pas_trace.specs.Plans.{bounds_of, ops_of, phases_of, IsPlanOf}
-use Rattle.pas_trace.specs.Scripts.{without_lines}
-use Rattle.pas_trace.specs.declared.{plan.Op.Op, plan.Plan.Plan, course.Course.Course}
+use Rattle.pas_trace.specs.{Plans.{bounds_of, ops_of, phases_of, IsPlanOf}, Scripts.without_lines, declared.{plan.{Op.Op, Plan.Plan}, course.Course.Course}}
 
 -- the course has what the plan has, but for the lines of operations, where a phase has these
 pub record IsCourseOf {P : Type 0} (said : P → List Op) (plan : Plan) (course : Course P) : Type 0 where

@@ -1,7 +1,6 @@
 -- What each phase of every plan keeps: which names its threads may free.
 use Rattle.std.specs.Prelude.{ℕ, ◌≡◌, ◌==◌, true, if◌then◌else◌, List, [], ◌∷◌, MatchOption}
-use Rattle.pas_trace.specs.{Asked.freed_in, EveryPlan.is_asked, EveryPlan.asked_after, EveryPlan.asked_by}
-use Rattle.pas_trace.specs.declared.plan.Op.{Op}
+use Rattle.pas_trace.specs.{Asked.freed_in, EveryPlan.{is_asked, asked_after, asked_by}, declared.plan.Op.Op}
 
 -- Each name that thread k frees in a phase of these operations was asked for by itself, or before the phase.
 abbrev pub FreesItsOwn : ℕ → List ℕ → List Op → Type 0

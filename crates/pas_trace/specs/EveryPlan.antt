@@ -1,12 +1,10 @@
 -- What the plan of every text keeps.
 use Rattle.std.specs.Prelude.{ℕ, ◌+◌, ◌-◌, ◌*◌, ◌%◌, ◌^◌, ◌<◌, ◌≤◌, ◌≡◌, ◌≢◌, ◌==◌, ◌||◌, Bool, true, false, if◌then◌else◌, List, [], ◌∷◌, ◌++◌, map, length}
 use Rattle.std.specs.Prelude.{slice_index, Option, None, Some, MatchOption}
-use Rattle.pas_profile.specs.Profiles.{IsValid, IsAdmitted}
-use Rattle.pas_profile.specs.declared.profile.Profile.{Profile}
-use Rattle.pas_trace.specs.Asked.{work_of, request_in, keeper_in, epoch_of, cost_of_task}
-use Rattle.pas_trace.specs.{Reasons.cost_of_size, Reasons.actors_by, Plans.ops_of, Plans.phases_of, Plans.bounds_of}
+use Rattle.pas_profile.specs.{Profiles.{IsValid, IsAdmitted}, declared.profile.Profile.Profile}
+use Rattle.pas_trace.specs.{Asked.{work_of, request_in, keeper_in, epoch_of, cost_of_task}, Reasons.{cost_of_size, actors_by}, Plans.{ops_of, phases_of}}
+use Rattle.pas_trace.specs.{Plans.bounds_of, declared.{plan.{What.What, Task.Task, Work.Work, Op.Op, Plan.Plan}, item.Request.Request}}
 pub use Rattle.pas_trace.specs.Reasons.{records_of_chore}
-use Rattle.pas_trace.specs.declared.{plan.What.What, item.Request.Request, plan.Task.Task, plan.Work.Work, plan.Op.Op, plan.Plan.Plan}
 
 -- the operations of all phases, in the order of the text
 abbrev pub all_ops : List (List Op) → List Op

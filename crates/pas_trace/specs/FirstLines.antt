@@ -1,8 +1,8 @@
 -- What stands at the front of a text.
 use Rattle.std.specs.Prelude.{ℕ, ◌<◌, ◌≡◌, Bool, true, List, [], ◌∷◌, ◌++◌, length, Option, None, Some, Ok}
 use Rattle.pas_profile.specs.declared.profile.Profile.{Profile}
-use Rattle.pas_trace.specs.declared.{header.Header.Header, item.Item.Item}
-use Rattle.pas_trace.specs.{Texts.lines_of, Reasons.header_of, Numbers.all_digits, Numbers.number_of, Items.item_of_line}
+use Rattle.pas_trace.specs.{declared.{header.Header.Header, item.Item.Item}, Texts.lines_of, Reasons.header_of, Numbers.{all_digits, number_of}}
+use Rattle.pas_trace.specs.Items.{item_of_line}
 
 -- the text begins with a word that is this number, and with this byte after it
 pub record BeginsWith (text : List ℕ) (n end : ℕ) (rest : List ℕ) : Type 0 where

@@ -1,7 +1,6 @@
 -- What the reader gathers: the operations of a plan, or those of a script, which have no lines.
 use Rattle.std.specs.Prelude.{◌≡◌, ◌++◌, ◌∷◌, [], Bool, true, false, List, map}
-use Rattle.pas_trace.specs.{Plans.ops_of, Scripts.coded_ops, Scripts.without_lines}
-use Rattle.pas_trace.specs.declared.{gathered.Whole.Whole, gathered.Coded.Coded, gathered.Gathered.Gathered, plan.Op.Op}
+use Rattle.pas_trace.specs.{Plans.ops_of, Scripts.{coded_ops, without_lines}, declared.{gathered.{Whole.Whole, Coded.Coded, Gathered.Gathered}, plan.Op.Op}}
 use Rattle.pas_trace.specs.declared.gathered.Gathered.TheVariants as kind
 
 -- the phases that were gathered, in order

@@ -1,10 +1,9 @@
 -- What a line says: the lines of a trace, word by word.
 use Rattle.std.specs.Prelude.{ℕ, ◌-◌, ◌^◌, ◌==◌, nat_lt, nat_le, Bool, true, false, ◌&&◌, ◌||◌, if◌then◌else◌, List, [], ◌∷◌, Option, None, Some, codes, Result}
 use Rattle.std.specs.Prelude.{Ok, Err}
-use Rattle.pas_trace.specs.{Texts.words_of, Numbers.number_of, Numbers.address_of_word}
-use Rattle.pas_trace.specs.declared.{item.Item.Item, plan.Chore.Chore, fault.Reason.Reason}
-use Rattle.pas_trace.specs.declared.item.Item.TheVariants.{Blank, Shares, Guards, NextPhase, Operates, Scavenges}
-use Rattle.pas_trace.specs.declared.item.Wish.TheVariants.{Asks, Frees, FreesSized, FreesRaw, FreesRawSized, Remakes, Flushes, Stops}
+use Rattle.pas_trace.specs.{Texts.words_of, Numbers.{number_of, address_of_word}, declared.item.Item.{Item, TheVariants.{Blank, Shares, Guards, NextPhase}}}
+use Rattle.pas_trace.specs.declared.item.{Item.TheVariants.{Operates, Scavenges}, Wish.TheVariants.{Asks, Frees, FreesSized, FreesRaw, FreesRawSized, Remakes}}
+use Rattle.pas_trace.specs.declared.{item.Wish.TheVariants.{Flushes, Stops}, plan.Chore.Chore, fault.Reason.Reason}
 
 -- two words are the same bytes
 abbrev pub same_bytes : List ℕ → List ℕ → Bool

@@ -1,7 +1,6 @@
 -- Lines that were taken apart before those in front of them were read.
 use Rattle.std.specs.Prelude.{ℕ, ◌+◌, ◌≤◌, ◌≡◌, Bool, List, ◌++◌, map, length, Ok}
-use Rattle.pas_trace.specs.{Texts.lines_of, Items.item_of_line}
-use Rattle.pas_trace.specs.declared.item.Item.{Item}
+use Rattle.pas_trace.specs.{Texts.lines_of, Items.item_of_line, declared.item.Item.Item}
 
 -- the lines of a text of this version say these items, one by one, whatever stands before them
 abbrev pub Say : ℕ → List (List ℕ) → List Item → Type 0

@@ -1,7 +1,6 @@
 -- What the names of a trace stand for, and what a line that reallocates asks of the block behind one.
 use Rattle.std.specs.Prelude.{ℕ, ◌%◌, ◌==◌, ◌&&◌, Bool, nat_le, if◌then◌else◌, List, [], ◌∷◌, max, Option, None, Some}
-use Rattle.pas_profile.specs.Blocks.{address_of}
-use Rattle.pas_profile.specs.declared.name.Block.{Block}
+use Rattle.pas_profile.specs.{Blocks.address_of, declared.name.Block.Block}
 use Rattle.pas_trace.specs.declared.item.Request.{Request}
 
 -- a block, or nothing where the request was refused; in a list the newest stands first

@@ -1,16 +1,13 @@
 -- The plan of a text, or its first fault.
 use Rattle.std.specs.Prelude.{ℕ, zero, suc, ◌+◌, ◌-◌, ◌^◌, ◌<◌, ◌≡◌, ◌==◌, ◌&&◌, nat_le, true, if◌then◌else◌, bit_or, List, [], ◌∷◌, ◌++◌, map, Option, None}
 use Rattle.std.specs.Prelude.{Some, Result, Ok, Err}
-use Rattle.pas_profile.specs.Requests.{room_in}
-use Rattle.pas_profile.specs.declared.{profile.Profile.Profile, name.Name.Name}
-use Rattle.pas_trace.specs.declared.{header.Header.Header, item.Item.Item, item.Wish.Wish, plan.Chore.Chore, fault.Reason.Reason, fault.TraceFault.TraceFault}
-use Rattle.pas_trace.specs.declared.{fault.ReadFault.ReadFault, fault.ReadFault.TheVariants.Trace, fault.ReadFault.TheVariants.NoMemory, plan.What.What}
-use Rattle.pas_trace.specs.declared.{plan.Op.Op, plan.Phase.Phase, plan.Phases.Phases, plan.Bounds.Bounds, plan.Plan.Plan}
-use Rattle.pas_trace.specs.Texts.{lines_of}
-use Rattle.pas_trace.specs.declared.item.Item.TheVariants.{Blank, Shares, Guards, NextPhase, Operates, Scavenges}
-use Rattle.pas_trace.specs.declared.item.Wish.TheVariants.{Asks, Frees, FreesSized, FreesRaw, FreesRawSized, Remakes, Flushes, Stops}
-use Rattle.pas_trace.specs.Reasons.{header_of, line_says, is_named, heap_of, actor_of, guard_in, is_guarded, actors_by, cost_of, record_bound}
-use Rattle.pas_trace.specs.declared.plan.What.TheVariants.{Alloc, Guarded, Free, FreeSized, Raw, RawSized, Remake, Flush, Stop, Tick, Pass, Idle}
+use Rattle.pas_profile.specs.{Requests.room_in, declared.{profile.Profile.Profile, name.Name.Name}}
+use Rattle.pas_trace.specs.declared.{header.Header.Header, item.{Item.{Item, TheVariants.{Blank, Shares, Guards, NextPhase, Operates, Scavenges}}, Wish.Wish}}
+use Rattle.pas_trace.specs.declared.{item.Wish.TheVariants.{Asks, Frees, FreesSized, FreesRaw, FreesRawSized, Remakes, Flushes, Stops}, plan.Chore.Chore}
+use Rattle.pas_trace.specs.declared.plan.What.{What, TheVariants.{Alloc, Guarded, Free, FreeSized, Raw, RawSized, Remake, Flush, Stop, Tick, Pass, Idle}}
+use Rattle.pas_trace.specs.declared.{plan.{Op.Op, Phase.Phase, Phases.Phases, Bounds.Bounds, Plan.Plan}, fault.{Reason.Reason, TraceFault.TraceFault}}
+use Rattle.pas_trace.specs.{declared.fault.ReadFault.{ReadFault, TheVariants.{Trace, NoMemory}}, Texts.lines_of, Reasons.{header_of, line_says, is_named}}
+use Rattle.pas_trace.specs.Reasons.{heap_of, actor_of, guard_in, is_guarded, actors_by, cost_of, record_bound}
 
 -- ---- the text, line by line: the items in order, or the fault of the lowest faulty line. `earlier` has the items before, the newest first
 abbrev pub fault_at : ℕ → Reason → TraceFault

@@ -2,11 +2,10 @@
 use Rattle.std.specs.Prelude.{ℕ, ◌+◌, ◌*◌, ◌/◌, ◌%◌, ◌==◌, nat_lt, nat_le, Bool, true, false, not, ◌&&◌, ◌||◌, if◌then◌else◌, List, [], ◌∷◌, Option, None, Some}
 use Rattle.std.specs.Prelude.{codes, Result, Ok, Err}
 use Rattle.pas_profile.specs.declared.profile.Profile.{Profile}
-use Rattle.pas_trace.specs.{Texts.words_of, Numbers.number_of, Items.same_bytes, Items.item_of_line}
-use Rattle.pas_trace.specs.declared.{header.Header.Header, item.Item.Item, item.Wish.Wish, plan.Chore.Chore, fault.Reason.Reason}
-use Rattle.pas_trace.specs.declared.item.Item.TheVariants.{Blank, Shares, Guards, NextPhase, Operates, Scavenges}
-use Rattle.pas_trace.specs.declared.item.Wish.TheVariants.{Asks, Frees, FreesSized, FreesRaw, FreesRawSized, Remakes, Flushes, Stops}
-use Rattle.pas_trace.specs.Wishes.{heap_in, sizing_in, name_made, name_freed, heap_made, asks_pages, holds_of, is_name}
+use Rattle.pas_trace.specs.{Texts.words_of, Numbers.number_of, Items.{same_bytes, item_of_line}, declared.{header.Header.Header, item.Item.Item}}
+use Rattle.pas_trace.specs.declared.item.{Item.TheVariants.{Blank, Shares, Guards, NextPhase, Operates, Scavenges}, Wish.{Wish, TheVariants.{Asks, Frees}}}
+use Rattle.pas_trace.specs.declared.{item.Wish.TheVariants.{FreesSized, FreesRaw, FreesRawSized, Remakes, Flushes, Stops}, plan.Chore.Chore}
+use Rattle.pas_trace.specs.{declared.fault.Reason.Reason, Wishes.{heap_in, sizing_in, name_made, name_freed, heap_made, asks_pages, holds_of, is_name}}
 
 -- ---- the header: `pas V pages P threads T heaps H age A`, each number within its limits
 -- the most pages of a region, by the version of its text

@@ -1,9 +1,8 @@
 -- The plan of a text in eight bytes an operation.
 use Rattle.std.specs.Prelude.{◌≡◌, ℕ, List, map, Result, Ok, Err}
-use Rattle.pas_trace.specs.Codes.{said_by, unlined}
-use Rattle.pas_trace.specs.Plans.{ops_of, phases_of, parsed, IsPlanOf}
-use Rattle.pas_trace.specs.declared.{plan.Op.Op, plan.Plan.Plan, script.CodedPhase.CodedPhase, script.CodedPhases.CodedPhases, script.Script.Script}
-use Rattle.pas_trace.specs.declared.{fault.ReadFault.ReadFault, fault.ReadFault.TheVariants.Trace, fault.ReadFault.TheVariants.NoMemory}
+use Rattle.pas_trace.specs.{Codes.{said_by, unlined}, Plans.{ops_of, phases_of, parsed, IsPlanOf}, declared.plan.{Op.Op, Plan.Plan}}
+use Rattle.pas_trace.specs.declared.{script.{CodedPhase.CodedPhase, CodedPhases.CodedPhases, Script.Script}, fault.ReadFault.{ReadFault, TheVariants.Trace}}
+use Rattle.pas_trace.specs.declared.fault.ReadFault.TheVariants.{NoMemory}
 
 -- the operations of a phase as a list
 abbrev pub coded_ops : CodedPhase → List Op

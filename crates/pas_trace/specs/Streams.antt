@@ -1,8 +1,7 @@
 -- What a reader of scripts has taken of a text whose bytes come piece by piece.
 use Rattle.std.specs.Prelude.{ℕ, ◌+◌, ◌≤◌, ◌≡◌, true, List, [], ◌++◌, take, length, Ok, Err}
-use Rattle.pas_trace.specs.{Texts.lines_of, Plans.parsed, Plans.with_items, Plans.items_from, Scripts.IsScripting, Gathering.is_scripting, Told.Tells}
-use Rattle.pas_trace.specs.{Told.IsRead}
-use Rattle.pas_trace.specs.declared.{item.Item.Item, reader.Reader.Reader, stream.Lines.Lines, stream.ScriptReader.ScriptReader}
+use Rattle.pas_trace.specs.{Texts.lines_of, Plans.{parsed, with_items, items_from}, Scripts.IsScripting, Gathering.is_scripting, Told.{Tells, IsRead}}
+use Rattle.pas_trace.specs.declared.{item.Item.Item, reader.Reader.Reader, stream.{Lines.Lines, ScriptReader.ScriptReader}}
 use Rattle.pas_trace.specs.declared.stream.Lines.TheVariants as kind
 
 -- the reader has read the text: what it and any rest come to is what the lines of the rest come to after these items

@@ -1,21 +1,16 @@
 -- What the reader keeps of the lines that it has read.
 use Rattle.std.specs.Prelude.{if◌then◌else◌, ℕ, ◌+◌, ◌*◌, ◌==◌, ◌≡◌, ◌≤◌, ◌<◌, nat_lt, nat_le, Bool, true, not, ◌&&◌, ◌||◌, List, [], ◌∷◌, ◌++◌, map, length}
 use Rattle.std.specs.Prelude.{Option, None, Some, Result, Ok, Err, slice_index, slice_index_or, slice_set}
-use Rattle.pas_profile.specs.Profiles.{IsValid}
-use Rattle.pas_trace.specs.declared.{header.Header.Header, fault.Reason.Reason, item.Item.Item, item.Wish.Wish, reader.Reader.Reader, plan.What.What}
-use Rattle.pas_trace.specs.declared.{plan.Plan.Plan, fault.ReadFault.ReadFault, fault.ReadFault.TheVariants.Trace, fault.ReadFault.TheVariants.NoMemory}
-use Rattle.pas_trace.specs.declared.{counts.Counts.Counts, names.Owner.Owner, names.Names.Names, outline.Outline.Outline, samples.Samples.Samples}
-use Rattle.pas_trace.specs.declared.{script.Script.Script}
-use Rattle.pas_trace.specs.{Gathering.HasGathered, Gathering.Gathers, Gathering.is_scripting, Scripts.coded_ops, Scripts.coded_phases, Scripts.without_lines}
-use Rattle.pas_trace.specs.{Texts.lines_of}
-use Rattle.pas_trace.specs.Wishes.{name_made, heap_made, asks_pages, is_name}
-use Rattle.pas_trace.specs.Reasons.{header_of, first_failed, is_thread, is_alignment, few_enough, own_checks, guard_checks, guard_with, guard_in}
-use Rattle.pas_trace.specs.Reasons.{large_requests, is_sampled, cost_of_wish, records_of_chore, started, operations_in, is_named, is_named_now, thread_of}
-use Rattle.pas_trace.specs.Reasons.{heap_of, record_bound, line_says, reason_of}
-use Rattle.pas_trace.specs.declared.item.Item.TheVariants.{Blank, Shares, Guards, NextPhase, Operates, Scavenges}
-use Rattle.pas_trace.specs.Plans.{ops_of, phases_of, bounds_of, phases_in, shared_in, line_of_newest, own_costs, kept_costs, all_bounds, AreNamedBelow}
-use Rattle.pas_trace.specs.Plans.{add_last, operation, what_wished, fault_at, items_from}
-use Rattle.pas_profile.specs.declared.profile.Profile.{Profile}
+use Rattle.pas_profile.specs.{Profiles.IsValid, declared.profile.Profile.Profile}
+use Rattle.pas_trace.specs.declared.{header.Header.Header, fault.{Reason.Reason, ReadFault.{ReadFault, TheVariants.{Trace, NoMemory}}}, item.Item.Item}
+use Rattle.pas_trace.specs.declared.{item.{Item.TheVariants.{Blank, Shares, Guards, NextPhase, Operates, Scavenges}, Wish.Wish}, reader.Reader.Reader}
+use Rattle.pas_trace.specs.declared.{plan.{What.What, Plan.Plan}, counts.Counts.Counts, names.{Owner.Owner, Names.Names}, outline.Outline.Outline}
+use Rattle.pas_trace.specs.{declared.{samples.Samples.Samples, script.Script.Script}, Gathering.{HasGathered, Gathers, is_scripting}, Scripts.coded_ops}
+use Rattle.pas_trace.specs.{Scripts.{coded_phases, without_lines}, Texts.lines_of, Wishes.{name_made, heap_made, asks_pages, is_name}, Reasons.header_of}
+use Rattle.pas_trace.specs.Reasons.{first_failed, is_thread, is_alignment, few_enough, own_checks, guard_checks, guard_with, guard_in, large_requests}
+use Rattle.pas_trace.specs.Reasons.{is_sampled, cost_of_wish, records_of_chore, started, operations_in, is_named, is_named_now, thread_of, heap_of}
+use Rattle.pas_trace.specs.{Reasons.{record_bound, line_says, reason_of}, Plans.{ops_of, phases_of, bounds_of, phases_in, shared_in, line_of_newest, own_costs}}
+use Rattle.pas_trace.specs.Plans.{kept_costs, all_bounds, AreNamedBelow, add_last, operation, what_wished, fault_at, items_from}
 
 -- what a plan and a script have beside their phases
 abbrev pub outline_of : Plan → Outline

@@ -1,9 +1,7 @@
 -- What an operation of a thread asks for, by few tables: one for each value that a check asks for, with a line for each wish.
 use Rattle.std.specs.Prelude.{ℕ, not, nat_le, ◌*◌, ◌<◌, ◌≤◌, ◌^◌, ◌==◌, Bool, true, false, Option, None, Some, MatchOption}
-use Rattle.pas_profile.specs.Classes.{IsAlignment}
-use Rattle.pas_profile.specs.declared.profile.Profile.{Profile}
-use Rattle.pas_trace.specs.declared.item.{Request.Request, Wish.Wish}
-use Rattle.pas_trace.specs.declared.item.Wish.TheVariants.{Asks, Frees, FreesSized, FreesRaw, FreesRawSized, Remakes, Flushes, Stops}
+use Rattle.pas_profile.specs.{Classes.IsAlignment, declared.profile.Profile.Profile}
+use Rattle.pas_trace.specs.declared.item.{Request.Request, Wish.{Wish, TheVariants.{Asks, Frees, FreesSized, FreesRaw, FreesRawSized, Remakes, Flushes, Stops}}}
 
 -- ---- the tables
 -- the heap that it names

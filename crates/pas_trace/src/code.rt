@@ -1,7 +1,6 @@
 //! Operations in eight bytes.
 ghost use Rattle.std.specs.Prelude.{◌≡◌, ◌≤◌, ◌<◌, ◌^◌, ◌*◌, ◌+◌, List, IfSome, length, slice_index, true, false};
-ghost use Rattle.pas_trace.specs.Codes.{kind_in, actor_in, heap_in, name_in, said_by, unlined, is_rare, IsPlaced};
-ghost use Rattle.pas_trace.specs.declared.plan.Op.{Op};
+ghost use Rattle.pas_trace.specs.{Codes.{kind_in, actor_in, heap_in, name_in, said_by, unlined, is_rare, IsPlaced}, declared.plan.Op.Op};
 
 use crate::plan::{Op, What};
 use std::mem::size_of;

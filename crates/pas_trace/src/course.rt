@@ -1,7 +1,6 @@
 //! What a replay goes by.
 ghost use Rattle.std.specs.Prelude.{map};
-ghost use Rattle.pas_trace.specs.{Codes.unlined, Courses.IsCourseOf, Plans.ops_of, Scripts.IsScriptFor, Scripts.coded_ops};
-ghost use Rattle.pas_trace.specs.declared.plan.Plan.{Plan as ThePlan};
+ghost use Rattle.pas_trace.specs.{Codes.unlined, Courses.IsCourseOf, Plans.ops_of, Scripts.{IsScriptFor, coded_ops}, declared.plan.Plan.Plan as ThePlan};
 
 use crate::plan::{Phase, Plan};
 use crate::script::{CodedPhase, Script};

@@ -1,6 +1,6 @@
 //! The two commonest lines, read in one pass from the front of a text.
 ghost use Rattle.std.specs.Prelude.{◌≡◌, ◌≤◌, ◌<◌, ◌^◌, ◌++◌, ℕ, IfSome, true, length, take, codes};
-ghost use Rattle.pas_trace.specs.{FirstLines.BeginsWith, FirstLines.FirstSays, Numbers.all_digits, Numbers.value_from};
+ghost use Rattle.pas_trace.specs.{FirstLines.{BeginsWith, FirstSays}, Numbers.{all_digits, value_from}};
 
 use crate::item::{Item, Wish};
 use crate::items::MOST_NAME;

@@ -1,7 +1,7 @@
 //! The operations of a trace, phase by phase, as they are read.
 ghost use Rattle.std.specs.Prelude.{◌≡◌, ◌++◌, ◌∷◌, [], Some, OnOk, IfOk, map, true, false};
-ghost use Rattle.pas_trace.specs.Gathering.{whole_phases, scripted_phases, Gathers, IsFirst, is_scripting};
-ghost use Rattle.pas_trace.specs.{Codes.unlined, Plans.ops_of, Plans.add_last, Scripts.coded_ops};
+ghost use Rattle.pas_trace.specs.{Gathering.{whole_phases, scripted_phases, Gathers, IsFirst, is_scripting}, Codes.unlined, Plans.{ops_of, add_last}};
+ghost use Rattle.pas_trace.specs.Scripts.{coded_ops};
 
 use crate::plan::{Op, Phase, Phases};
 use crate::script::{CodedPhase, CodedPhases};

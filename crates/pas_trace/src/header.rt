@@ -1,8 +1,7 @@
 //! The first line of a trace.
 ghost use Rattle.std.specs.Prelude.{◌≡◌, ◌<◌, ◌≤◌, ◌∷◌, IfSome, MatchOption, length};
 ghost use Rattle.pas_profile.specs.Profiles.{IsValid};
-ghost use Rattle.pas_trace.specs.{FirstLines.first_header, Texts.words_of, Numbers.number_of};
-ghost use Rattle.pas_trace.specs.Reasons.{within, most_pages, classes_of, header_with, header_of};
+ghost use Rattle.pas_trace.specs.{FirstLines.first_header, Texts.words_of, Numbers.number_of, Reasons.{within, most_pages, classes_of, header_with, header_of}};
 
 use crate::lines::next_line;
 use crate::numbers::number;

@@ -1,9 +1,8 @@
 //! From a line to what it says.
 ghost use Rattle.std.specs.Prelude.{◌≡◌, Some, None, MatchResult};
 ghost use Rattle.pas_trace.specs.Items.{plain, trace_name, epoch_word, turn_word, since, has_since, item_of_one, item_of_two, item_of_three, item_of_four};
-ghost use Rattle.pas_trace.specs.Items.{item5, item_of_five, item_of_six, item_by_count, item_of_words, item_of_line};
-ghost use Rattle.pas_trace.specs.{Numbers.address_of_word, Texts.words_of};
-ghost use Rattle.pas_trace.specs.declared.item.{Item.TheVariants.Operates, Wish.TheVariants.Asks, Wish.TheVariants.FreesRawSized, Wish.TheVariants.Remakes};
+ghost use Rattle.pas_trace.specs.{Items.{item5, item_of_five, item_of_six, item_by_count, item_of_words, item_of_line}, Numbers.address_of_word};
+ghost use Rattle.pas_trace.specs.{Texts.words_of, declared.item.{Item.TheVariants.Operates, Wish.TheVariants.{Asks, FreesRawSized, Remakes}}};
 
 use crate::fault::Reason;
 use crate::item::{Item, Wish};

@@ -1,7 +1,6 @@
 //! Where the operations of a phase stand.
 ghost use Rattle.std.specs.Prelude.{◌≡◌, ◌<◌, List, length, slice_index_or};
-ghost use Rattle.pas_trace.specs.Codes.{unlined};
-ghost use Rattle.pas_trace.specs.declared.plan.Op.{Op};
+ghost use Rattle.pas_trace.specs.{Codes.unlined, declared.plan.Op.Op};
 
 use crate::plan::{Op, Phase};
 

@@ -3,14 +3,11 @@ ghost use Rattle.std.specs.Prelude.{◌≡◌, ◌<◌, ◌≤◌, ◌+◌, ◌�
 ghost use Rattle.std.specs.Prelude.{if◌then◌else◌, length};
 ghost use Rattle.pas_profile.specs.Profiles.{IsValid};
 ghost use Rattle.pas_trace.specs.Reasons.{reason_of, cost_of, cost_of_request, cost_of_wish, guard_checks, is_guard_number, records_of_chore, started};
-ghost use Rattle.pas_trace.specs.Reasons.{is_thread, first_failed};
-ghost use Rattle.pas_trace.specs.{Items.item_of_line, Wishes.asking, Wishes.IsFit, Texts.lines_of, Lexed.Say, Lexed.AreLexed, Gathering.HasGathered};
-ghost use Rattle.pas_trace.specs.{Gathering.is_scripting, Scripts.IsScripting};
-ghost use Rattle.pas_trace.specs.Plans.{IsReading, bounds_of, bounds_upto, all_bounds, request_kept, fault_at};
-ghost use Rattle.pas_trace.specs.Told.{Tells, IsReady, CanSample, IsCounted, IsOperated, IsNextPhase, IsGuarding, IsAdded, IsTaken, IsFirstTaken, AreTaken};
-ghost use Rattle.pas_trace.specs.Told.{IsRead, IsBegun, IsOutlined, IsPlanned, IsScripted, IsChecked, AreTested, few_told, thread_told, sizing_told};
-ghost use Rattle.pas_trace.specs.Told.{freed_told, told_checks, reason_told};
-ghost use Rattle.pas_trace.specs.declared.item.{Item.Item, Wish.Wish};
+ghost use Rattle.pas_trace.specs.{Reasons.{is_thread, first_failed}, Items.item_of_line, Wishes.{asking, IsFit}, Texts.lines_of, Lexed.{Say, AreLexed}};
+ghost use Rattle.pas_trace.specs.{Gathering.{HasGathered, is_scripting}, Scripts.IsScripting, Plans.{IsReading, bounds_of, bounds_upto, all_bounds}};
+ghost use Rattle.pas_trace.specs.{Plans.{request_kept, fault_at}, Told.{Tells, IsReady, CanSample, IsCounted, IsOperated, IsNextPhase, IsGuarding, IsAdded}};
+ghost use Rattle.pas_trace.specs.Told.{IsTaken, IsFirstTaken, AreTaken, IsRead, IsBegun, IsOutlined, IsPlanned, IsScripted, IsChecked, AreTested, few_told};
+ghost use Rattle.pas_trace.specs.{Told.{thread_told, sizing_told, freed_told, told_checks, reason_told}, declared.item.{Item.Item, Wish.Wish}};
 
 use crate::counts::{Counts, MOST_OPERATIONS, MOST_RECORDS};
 use crate::fault::{ReadFault, Reason, TraceFault};

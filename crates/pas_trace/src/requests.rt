@@ -1,6 +1,6 @@
 //! Requests: their alignments, how many records one may make, and what it is in a plan.
 ghost use Rattle.std.specs.Prelude.{◌≡◌, ◌≤◌, ◌^◌, if◌then◌else◌, Some, None};
-ghost use Rattle.pas_trace.specs.{Reasons.cost_of_size, Reasons.cost_of_request, Reasons.is_alignment, Plans.request_kept};
+ghost use Rattle.pas_trace.specs.{Reasons.{cost_of_size, cost_of_request, is_alignment}, Plans.request_kept};
 
 use crate::plan::What;
 use pas_profile::limits::{GRAIN_BYTES, MOST_BITFIT, PAGE_BYTES};

@@ -1,7 +1,6 @@
 //! Reading a trace on two threads: one takes the lines of a piece apart while the other reads the piece before.
 ghost use Rattle.std.specs.Prelude.{◌≡◌, ◌≤◌, ◌<◌, ◌+◌, ◌++◌, ◌^◌, ℕ, List, Ok, OnOk, length};
-ghost use Rattle.pas_trace.specs.{Lexed.AreLexed, Plans.IsReading, Texts.lines_of, Told.Tells, Told.IsRead};
-ghost use Rattle.pas_trace.specs.declared.item.Item.{Item};
+ghost use Rattle.pas_trace.specs.{Lexed.AreLexed, Plans.IsReading, Texts.lines_of, Told.{Tells, IsRead}, declared.item.Item.Item};
 
 use crate::fault::ReadFault;
 use crate::gathered::Gathered;

@@ -1,6 +1,6 @@
 //! Which requests are guarded.
 ghost use Rattle.std.specs.Prelude.{◌≡◌, ◌<◌, ◌≤◌, ◌^◌, ◌&&◌, ℕ, length, slice_index};
-ghost use Rattle.pas_trace.specs.{Reasons.cost_of_size, Reasons.is_sampled, Wishes.is_large, Told.CanSample, Told.IsSampled, Told.samples_next};
+ghost use Rattle.pas_trace.specs.{Reasons.{cost_of_size, is_sampled}, Wishes.is_large, Told.{CanSample, IsSampled, samples_next}};
 
 use crate::requests::cost_of_allocation;
 use pas_profile::limits::MOST_BITFIT;

@@ -36,7 +36,7 @@ pub struct Script {
 
 impl CodedPhase {
     ghost use Rattle.std.specs.Prelude.{◌++◌, ◌∷◌, [], OnOk};
-    ghost use Rattle.pas_trace.specs.{Codes.said_by, Codes.unlined, Scripts.coded_ops};
+    ghost use Rattle.pas_trace.specs.{Codes.{said_by, unlined}, Scripts.coded_ops};
 
     /// No operation.
     pub(crate) fn new(alloc: Global) -> CodedPhase

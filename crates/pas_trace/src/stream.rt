@@ -1,8 +1,7 @@
 //! Reading a trace for its script while its bytes come.
 ghost use Rattle.std.specs.Prelude.{◌≡◌, ◌≢◌, ◌≤◌, ◌<◌, ◌+◌, ◌^◌, ◌++◌, ℕ, List, [], length, take};
-ghost use Rattle.pas_trace.specs.{Texts.lines_of, Texts.IsWhole, Told.Tells, Scripts.IsScripting};
-ghost use Rattle.pas_trace.specs.Streams.{HasReadText, AreLinesOf, HasTaken, AreLinesAfter, TakesLines};
-ghost use Rattle.pas_trace.specs.declared.item.Item.{Item};
+ghost use Rattle.pas_trace.specs.{Texts.{lines_of, IsWhole}, Told.Tells, Scripts.IsScripting, Streams.{HasReadText, AreLinesOf, HasTaken, AreLinesAfter}};
+ghost use Rattle.pas_trace.specs.{Streams.TakesLines, declared.item.Item.Item};
 ghost use Rattle.pas_trace.specs.declared.stream.Lines.TheVariants as Lines;
 
 use crate::fault::ReadFault;

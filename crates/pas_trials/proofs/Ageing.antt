@@ -1,9 +1,7 @@
 -- A hint and a tick, and what may come after them.
 use Rattle.std.proofs.Common.{[], ◌∷◌, List, refl, ℕ}
-use Rattle.pas_steps.proofs.{Nothing.nothing_still, Adding.adds_none, Adding.adds_step, Called.next_call, Calls.does_idly}
-use Rattle.pas_steps.specs.{Calls.Calls, Clear.HasNothing, Kinds.Hinting, Kinds.Ticking}
-use Rattle.pas_steps.specs.Desks.{Standing, Makes, CanCall, made}
-use Rattle.pas_steps.specs.declared.step.{Made.Made, Step.TheVariants.Hint, Step.TheVariants.Tick}
+use Rattle.pas_steps.{proofs.{Nothing.nothing_still, Adding.{adds_none, adds_step}, Called.next_call, Calls.does_idly}, specs.{Calls.Calls, Clear.HasNothing}}
+use Rattle.pas_steps.specs.{Kinds.{Hinting, Ticking}, Desks.{Standing, Makes, CanCall, made}, declared.step.{Made.Made, Step.TheVariants.{Hint, Tick}}}
 
 module _ {σ σ1 σ2 : Standing} (page h epoch t : ℕ) (hint : Makes σ σ1 (Hint page) h) (tick : Makes σ1 σ2 (Tick epoch) t) where
   abbrev pub hint_and_tick : List Made

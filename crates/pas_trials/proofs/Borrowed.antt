@@ -1,20 +1,16 @@
 -- Requests one after another over any desk, for slots and for whole pages, and how far they have come; frees and a stop.
 use Rattle.std.proofs.Common.{◌≡◌, ℕ, ◌+◌, ◌≤◌, [], ◌++◌, length, Bool, None, Result, refl, sym, ◌∙◌, subst, arith, ◌^◌, ◌<◌, nat_le, List, Ok, Err, ap}
 use Rattle.std.proofs.Common.{length-append, leb-true, MatchResult, Option}
-use Rattle.pas_profile.specs.declared.{name.Block.Block, event.NoRoom.NoRoom, profile.Profile.Profile, event.FreeFault.FreeFault, name.Name.Name}
-use Rattle.pas_profile.specs.declared.{event.Event.Event, entry.Entry.Entry}
-use Rattle.pas_steps.specs.{Desks.Standing, Desks.CanCall, Desks.triples, Events.events_of, Lists.Whole, Unknown.unknown_pages, Views.View, Events.events_by}
-use Rattle.pas_steps.specs.{Kinds.Only}
-use Rattle.pas_steps.proofs.{Called.call_none, Called.call_then, Adding.can_call, Frames.events_split, Frames.events_append, Unknown.unknown_no_more}
-use Rattle.pas_steps.proofs.{SpareRoom.Spares, SpareRoom.spare_falls}
-use Rattle.pas_cache.specs.{Caches.Cached, Caches.AtRest, Serves.Wanted, Changes.EmptiesFull, Kinds.releasing, Serves.wanted_for, Serves.pages_of}
-use Rattle.pas_cache.specs.Calls.{Allocates, TakesEntry, RefusesName, Frees, StopsCache, MayAllocatePages, AllocatesPages, most_events, FlushesLog}
-use Rattle.pas_cache.proofs.Budget.{HasBudget, budget_left, log_kept, emptied_events}
+use Rattle.pas_profile.specs.declared.{name.{Block.Block, Name.Name}, event.{NoRoom.NoRoom, FreeFault.FreeFault, Event.Event}, profile.Profile.Profile}
+use Rattle.pas_profile.specs.{declared.entry.Entry.Entry, Profiles.{IsValid, IsAdmitted}, Entries.entry_of}
+use Rattle.pas_steps.specs.{Desks.{Standing, CanCall, triples}, Events.{events_of, events_by}, Lists.Whole, Unknown.unknown_pages, Views.View, Kinds.Only}
+use Rattle.pas_steps.{specs.declared.step.Made.Made, proofs.{Called.{call_none, call_then}, Adding.can_call, Frames.{events_split, events_append}}}
+use Rattle.pas_steps.proofs.{Unknown.unknown_no_more, SpareRoom.{Spares, spare_falls}}
+use Rattle.pas_cache.specs.{Caches.{Cached, AtRest}, Serves.{Wanted, wanted_for, pages_of}, Changes.EmptiesFull, Kinds.releasing, Calls.{Allocates, TakesEntry}}
+use Rattle.pas_cache.{specs.Calls.{RefusesName, Frees, StopsCache, MayAllocatePages, AllocatesPages, most_events, FlushesLog}, proofs.Budget.HasBudget}
+use Rattle.pas_cache.proofs.{Budget.{budget_left, log_kept, emptied_events}, Obtained.spare_kept, Routes.{is_large, pages_asked}}
 use Rattle.pas_trials.specs.Borrowing.{Borrows, RestsWithRoom}
-use Rattle.pas_profile.specs.{Profiles.IsValid, Profiles.IsAdmitted, Entries.entry_of}
-use Rattle.pas_steps.specs.declared.step.Made.{Made}
 use Rattle.pas_free_log.specs.declared.noting.EndedRun.{EndedRun}
-use Rattle.pas_cache.proofs.{Obtained.spare_kept, Routes.is_large, Routes.pages_asked}
 
 -- ==== Requests one after another, and how far they have come.
 

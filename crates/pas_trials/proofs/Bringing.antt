@@ -1,11 +1,8 @@
 -- What a view meets after a deed, and after a look at a deed word.
 use Rattle.std.proofs.Common.{arith, ◌≡◌, ℕ, if◌then◌else◌, ◌∷◌, ap, ◌∙◌}
-use Rattle.pas_profile.specs.Directories.{deed_word_of}
-use Rattle.pas_profile.specs.declared.{directory.Directory.Directory, word.Word.Word}
-use Rattle.pas_steps.specs.{Desks.made, Views.View, Views.known_deed, Views.KnowsDeed}
-use Rattle.pas_steps.specs.declared.step.Step.TheVariants.{Look, Deed}
-use Rattle.pas_rights.specs.Leaves.{MayLeave}
-use Rattle.pas_rights.proofs.Orders.{same_page}
+use Rattle.pas_profile.specs.{Directories.deed_word_of, declared.{directory.Directory.Directory, word.Word.Word}}
+use Rattle.pas_steps.specs.{Desks.made, Views.{View, known_deed, KnowsDeed}, declared.step.Step.TheVariants.{Look, Deed}}
+use Rattle.pas_rights.{specs.Leaves.MayLeave, proofs.Orders.same_page}
 
 -- a deed that the page hadn't gives the right
 pub deed_gives : (p : ℕ) (d : Directory) (a : ℕ) (v : View) → a ≡ 0 → MayLeave p d (made (Deed p d) a ∷ v)

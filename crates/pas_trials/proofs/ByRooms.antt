@@ -1,11 +1,9 @@
 -- Ends of one name by rooms, one after the other, over any desk.
 use Rattle.std.proofs.Common.{◌≡◌, ℕ, ◌+◌, ◌%◌, ◌≤◌, List, [], ◌∷◌, ◌++◌, length, refl, arith}
-use Rattle.pas_profile.specs.Profiles.{IsValid}
-use Rattle.pas_profile.specs.declared.{name.Name.Name, profile.Profile.Profile, word.Word.Word}
-use Rattle.pas_steps.specs.{Allowed.IsStepOf, Allowed.IsEpochKnown, Events.event_of, Events.events_by, Views.View, Views.known_epoch, Views.epoch_of}
-use Rattle.pas_steps.specs.Desks.{Standing, made, Makes, CanMake, CanCall, AnyView, Adds}
-use Rattle.pas_steps.specs.declared.step.{Made.Made, Step.TheVariants.Look, Step.TheVariants.EndSized}
-use Rattle.pas_steps.proofs.{Adding.adds_none, Adding.adds_step, Adding.can_step, Frames.with_few, SpareRoom.Spares, SpareRoom.spare_falls}
+use Rattle.pas_profile.specs.{Profiles.IsValid, declared.{name.Name.Name, profile.Profile.Profile, word.Word.Word}}
+use Rattle.pas_steps.specs.{Allowed.{IsStepOf, IsEpochKnown}, Events.{event_of, events_by}, Views.{View, known_epoch, epoch_of}, Desks.{Standing, made, Makes}}
+use Rattle.pas_steps.{specs.{Desks.{CanMake, CanCall, AnyView, Adds}, declared.step.{Made.Made, Step.TheVariants.{Look, EndSized}}}, proofs.Adding.adds_none}
+use Rattle.pas_steps.proofs.{Adding.{adds_step, can_step}, Frames.with_few, SpareRoom.{Spares, spare_falls}}
 
 abbrev pub name : Name
 name = record { address = record { 0 = 4096 }; turn = 0 }

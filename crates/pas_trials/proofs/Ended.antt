@@ -1,12 +1,9 @@
 -- What an actor that tried the end of a name has.
 use Rattle.std.proofs.Common.{◌≡◌, ℕ, List, [], ◌∷◌, ◌++◌, Option, Some, None, refl, ap, sym, ◌∙◌, subst, IfSome, MatchOption}
-use Rattle.pas_profile.specs.declared.{event.Event.Event, name.Name.Name}
-use Rattle.pas_steps.specs.{Clear.HasNothing, Desks.Seat, Desks.CanCall, Events.events_of, Views.View}
-use Rattle.pas_steps.proofs.Frames.{events_split}
+use Rattle.pas_profile.specs.{declared.{event.Event.Event, name.Name.Name}, Entries.entry_of}
+use Rattle.pas_steps.{specs.{Clear.HasNothing, Desks.{Seat, CanCall}, Events.events_of, Views.View}, proofs.Frames.events_split}
 use Rattle.pas_free_log.specs.Flushes.{EndsName, event_for}
-use Rattle.pas_profile.specs.Entries.{entry_of}
-use Rattle.pas_shared.specs.Passes.{seat_of, view_of}
-use Rattle.pas_shared.specs.declared.pass.SharedPass.{SharedPass}
+use Rattle.pas_shared.specs.{Passes.{seat_of, view_of}, declared.pass.SharedPass.SharedPass}
 use Rattle.pas_trials.specs.Trades.{standing_at, HasEnded}
 
 -- the one view of its pass has nothing

@@ -1,14 +1,11 @@
 -- The first call of an actor, what a refill gave, and its stop.
 use Rattle.std.proofs.Common.{◌≡◌, ◌-◌, [], length, reverse, inr, refl, ap, sym, ◌∙◌, subst, arith, ℕ, ◌++◌, List}
 use Rattle.pas_profile.specs.declared.{directory.Directory.Directory, profile.Profile.Profile}
-use Rattle.pas_steps.specs.{Events.events_of, Views.View, Desks.CanCall, Noted.events_noted, Noted.room_of_notes, Agreement.Agreed}
+use Rattle.pas_steps.specs.{Events.events_of, Views.View, Desks.CanCall, Noted.{events_noted, room_of_notes}, Agreement.Agreed, declared.step.Made.Made}
 use Rattle.pas_steps.proofs.Nothing.{nothing_yet}
 use Rattle.pas_search.specs.Searches.{MaySearch, SearchRoom}
-use Rattle.pas_shared.specs.Passes.{view_of, seat_of, standing_of}
-use Rattle.pas_shared.specs.declared.{pass.SharedPass.SharedPass, desk.SharedDesk.SharedDesk}
-use Rattle.pas_steps.specs.declared.step.Made.{Made}
-use Rattle.pas_segregated.specs.Refills.{Filling, exclusive_slots, GivesSlots}
-use Rattle.pas_segregated.specs.Stops.{class_directory, directory_of, MayStopAt, MayStop}
+use Rattle.pas_shared.specs.{Passes.{view_of, seat_of, standing_of}, declared.{pass.SharedPass.SharedPass, desk.SharedDesk.SharedDesk}}
+use Rattle.pas_segregated.specs.{Refills.{Filling, exclusive_slots, GivesSlots}, Stops.{class_directory, directory_of, MayStopAt, MayStop}}
 use Rattle.pas_segregated.specs.declared.slots.Slots.{Slots}
 
 -- ==== The first call of an actor.

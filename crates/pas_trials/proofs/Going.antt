@@ -1,15 +1,11 @@
 -- Errands of an actor that is at rest with its cache, and what an actor that has nothing did.
 use Rattle.std.proofs.Common.{◌≡◌, ℕ, zero, suc, ◌≤◌, List, [], ◌∷◌, ◌++◌, ◌==◌, Bool, if◌then◌else◌, Option, None, Result, refl, ap, sym, ◌∙◌, subst, arith}
 use Rattle.pas_profile.specs.declared.{event.NoRoom.NoRoom, name.Block.Block, profile.Profile.Profile, entry.Entry.Entry}
-use Rattle.pas_steps.specs.{Calls.Calls, Clear.HasNothing, Kinds.Ticking, Unknown.unknown_here, Unknown.unknown_below, Views.View, Views.known_deed}
-use Rattle.pas_steps.specs.Desks.{Standing, Seat, CanCall, Makes, made}
-use Rattle.pas_steps.specs.declared.step.{Made.Made, Step.TheVariants.Tick}
-use Rattle.pas_steps.proofs.{Adding.adds_under, Calls.does_idly, Unknown.has_room, Nothing.nothing_still}
-use Rattle.pas_steps.proofs.Called.{call_none, call_step, call_as, call_then, next_call}
-use Rattle.pas_free_log.specs.Flushes.{Flushes}
-use Rattle.pas_free_log.specs.declared.noting.EndedRun.{EndedRun}
-use Rattle.pas_cache.specs.{Caches.Cached, Caches.AtRest, Serves.Wanted}
-use Rattle.pas_cache.specs.Calls.{MayAllocate, Allocates, MayAllocatePages, AllocatesPages, StopsCache, Rests}
+use Rattle.pas_steps.specs.{Calls.Calls, Clear.HasNothing, Kinds.Ticking, Unknown.{unknown_here, unknown_below}, Views.{View, known_deed}, Desks.Standing}
+use Rattle.pas_steps.{specs.{Desks.{Seat, CanCall, Makes, made}, declared.step.{Made.Made, Step.TheVariants.Tick}}, proofs.{Adding.adds_under, Calls.does_idly}}
+use Rattle.pas_steps.proofs.{Unknown.has_room, Nothing.nothing_still, Called.{call_none, call_step, call_as, call_then, next_call}}
+use Rattle.pas_free_log.specs.{Flushes.Flushes, declared.noting.EndedRun.EndedRun}
+use Rattle.pas_cache.specs.{Caches.{Cached, AtRest}, Serves.Wanted, Calls.{MayAllocate, Allocates, MayAllocatePages, AllocatesPages, StopsCache, Rests}}
 use Rattle.pas_cache.proofs.{Budget.log_kept, FlushesAndFrees.rests_empty, Resting.rests_kept}
 use Rattle.pas_plain.specs.Storms.{Acts}
 use Rattle.pas_trials.specs.{Borrowing.Borrows, SharedStorms.IsWorking}

@@ -1,31 +1,22 @@
 -- A block that one actor hands another: what each of the two did, and how their steps stand in the one list.
 use Rattle.std.proofs.Common.{◌≡◌, ◌≢◌, ℕ, zero, suc, ◌-◌, ◌/◌, ◌<◌, max, Bool, true, false, if◌then◌else◌, List, [], ◌∷◌, ◌++◌, length, reverse, Option, Some}
-use Rattle.std.proofs.Common.{Ok, inr, ⊎_elim, refl, sym, ap, ◌∙◌, subst, arith, nat_lt, eq-eqb, append-nil, append_assoc}
-use Rattle.std.specs.List.{AllByRecursion}
-use Rattle.std.proofs.lemmas.{Bool.cases_eq, List.append_cancel_right}
+use Rattle.std.proofs.{Common.{Ok, inr, ⊎_elim, refl, sym, ap, ◌∙◌, subst, arith, nat_lt, eq-eqb, append-nil, append_assoc}, lemmas.Bool.cases_eq}
+use Rattle.std.{proofs.lemmas.List.append_cancel_right, specs.List.AllByRecursion}
 use Rattle.pas_bits.proofs.Runs.{first_of_run}
-use Rattle.pas_profile.specs.{Blocks.address_of, Blocks.grain_of, Blocks.length_of, Lives.turn_of, Profiles.IsPage, Profiles.IsValid, Requests.route_in}
-use Rattle.pas_profile.specs.{Routes.room_by, Routes.IsRouteOf, Entries.entry_of}
-use Rattle.pas_profile.specs.declared.{directory.Directory.Directory, directory.Route.Route, event.Event.Event, event.Why.Why, name.Block.Block, name.Name.Name}
-use Rattle.pas_profile.specs.declared.{profile.Profile.Profile}
-use Rattle.pas_profile.proofs.Sizes.{route_is, class_known, class_size_whole}
-use Rattle.pas_steps.specs.{Noted.events_noted, Noted.room_of_notes, Clear.HasNothing, Views.View, Views.epoch_of}
-use Rattle.pas_machine.specs.{Machine.Run, Machine.IsLive, Machine.IsReason, State.live_in, State.ends_in}
-use Rattle.pas_steps.specs.Desks.{Seat, CanCall, triple, triples}
-use Rattle.pas_steps.specs.Events.{event_of, events_of, events_by, with_event}
-use Rattle.pas_steps.specs.Lists.{Triple, Whole, Legal, part, visible}
-use Rattle.pas_steps.specs.declared.{state.State.State, step.Made.Made}
-use Rattle.pas_steps.proofs.{Parts.part_of_own, Parts.part_of_others, Nothing.nothing_yet}
+use Rattle.pas_profile.specs.{Blocks.{address_of, grain_of, length_of}, Lives.turn_of, Profiles.{IsPage, IsValid}, Requests.route_in, Routes.room_by}
+use Rattle.pas_profile.specs.{Routes.IsRouteOf, Entries.entry_of, declared.{directory.{Directory.Directory, Route.Route}, event.{Event.Event, Why.Why}}}
+use Rattle.pas_profile.{specs.declared.{name.{Block.Block, Name.Name}, profile.Profile.Profile}, proofs.Sizes.{route_is, class_known, class_size_whole}}
+use Rattle.pas_steps.specs.{Noted.{events_noted, room_of_notes}, Clear.HasNothing, Views.{View, epoch_of}, Desks.{Seat, CanCall, triple, triples}}
+use Rattle.pas_steps.specs.{Events.{event_of, events_of, events_by, with_event}, Lists.{Triple, Whole, Legal, part, visible}, declared.state.State.State}
+use Rattle.pas_steps.{specs.declared.step.Made.Made, proofs.{Parts.{part_of_own, part_of_others}, Nothing.nothing_yet}}
+use Rattle.pas_machine.specs.{Machine.{Run, IsLive, IsReason}, State.{live_in, ends_in}}
 use Rattle.pas_core.proofs.MachineRuns.{runs}
-use Rattle.pas_free_log.specs.{Conditions.IsEntryOf, Flushes.EndsName, Flushes.event_for}
-use Rattle.pas_free_log.specs.declared.ending.Outcome.{Outcome, TheVariants.Ended, TheVariants.Refused}
-use Rattle.pas_cache.specs.{Caches.Cached, Caches.AtRest, Calls.MayAllocate, Calls.Allocates, Serves.IsPreparing, Serves.wanted_for}
-use Rattle.pas_shared.specs.{Ruled.IsEarlier, Passes.view_of, Passes.seat_of, Passes.standing_of, Pasts.told, Pasts.IsPastOf, Pasts.HasOwn, Ledgers.EndsAfter}
+use Rattle.pas_free_log.specs.{Conditions.IsEntryOf, Flushes.{EndsName, event_for}, declared.ending.Outcome.{Outcome, TheVariants.{Ended, Refused}}}
+use Rattle.pas_cache.specs.{Caches.{Cached, AtRest}, Calls.{MayAllocate, Allocates}, Serves.{IsPreparing, wanted_for}}
+use Rattle.pas_shared.specs.{Ruled.IsEarlier, Passes.{view_of, seat_of, standing_of}, Pasts.{told, IsPastOf, HasOwn}, Ledgers.EndsAfter}
 use Rattle.pas_shared.specs.declared.{desk.SharedDesk.SharedDesk, past.Past.Past, pass.SharedPass.SharedPass, region.SharedRegion.SharedRegion}
-use Rattle.pas_shared.proofs.{Pops.first_is, Pops.others_are, Ruling.part_both}
-use Rattle.pas_trials.specs.Handing.{IsFirst, IsOfActor, IsGiftOf, HasFreed, IsHandedOver}
-use Rattle.pas_trials.specs.declared.handing.Gift.{Gift}
-use Rattle.pas_trials.proofs.Firsts.{no_events}
+use Rattle.pas_shared.proofs.{Pops.{first_is, others_are}, Ruling.part_both}
+use Rattle.pas_trials.{specs.{Handing.{IsFirst, IsOfActor, IsGiftOf, HasFreed, IsHandedOver}, declared.handing.Gift.Gift}, proofs.Firsts.no_events}
 
 -- ==== What each of the two did.
 

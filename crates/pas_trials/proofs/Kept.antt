@@ -1,9 +1,6 @@
 -- Free grains, usable grains, and what is offered.
-use Rattle.std.proofs.Common.{arith, ◌≡◌, ℕ, ◌<◌, ◌≤◌, ◌⊎◌, Bool, true, false, true≢false, length, refl, sym, ◌∙◌, inl, inr}
-use Rattle.std.proofs.lemmas.Bool.{cases_lt}
-use Rattle.pas_bits.specs.Masks.{is_set, AreApart}
-use Rattle.pas_bits.specs.declared.mask.Mask4.{Mask4}
-use Rattle.pas_bits.proofs.Words.{none_past}
+use Rattle.std.proofs.{Common.{arith, ◌≡◌, ℕ, ◌<◌, ◌≤◌, ◌⊎◌, Bool, true, false, true≢false, length, refl, sym, ◌∙◌, inl, inr}, lemmas.Bool.cases_lt}
+use Rattle.pas_bits.{specs.{Masks.{is_set, AreApart}, declared.mask.Mask4.Mask4}, proofs.Words.none_past}
 
 module _ (free usable : Mask4) (is_free is_usable : ℕ → Bool) (Offered : Type 0) (frees : (g : ℕ) → g < 256 → is_set free g ≡ is_free g)
     (usables : (g : ℕ) → g < 256 → is_set usable g ≡ is_usable g) (four : length usable.0 ≡ 4) where

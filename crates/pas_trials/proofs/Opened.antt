@@ -1,10 +1,7 @@
 -- Two actors at a region that nobody used yet are in a storm, and the passes of two actors are the region's.
-use Rattle.std.proofs.Common.{◌≡◌, ℕ, List, [], ◌∷◌, All, sym, subst, arith}
-use Rattle.std.proofs.lemmas.List.Elements.{All-nil, All-cons}
-use Rattle.pas_steps.specs.Lists.{Whole}
-use Rattle.pas_steps.proofs.Nothing.{nothing_yet}
-use Rattle.pas_plain.specs.{Plain.profile_of, Plain.RegionStands, Plain.PassStands, Storms.StormStands}
-use Rattle.pas_plain.specs.Seats.{region_of, pass_of, Opens, ArePassesOf}
+use Rattle.std.proofs.{Common.{◌≡◌, ℕ, List, [], ◌∷◌, All, sym, subst, arith}, lemmas.List.Elements.{All-nil, All-cons}}
+use Rattle.pas_steps.{specs.Lists.Whole, proofs.Nothing.nothing_yet}
+use Rattle.pas_plain.specs.{Plain.{profile_of, RegionStands, PassStands}, Storms.StormStands, Seats.{region_of, pass_of, Opens, ArePassesOf}}
 use Rattle.pas_plain.specs.declared.{desk.PlainDesk.PlainDesk, pass.PlainPass.PlainPass, region.PlainRegion.PlainRegion}
 
 -- Once the actor at the desk of a new region has risen, the region and both passes stand for a storm.

@@ -1,13 +1,10 @@
 -- What is still owed after a call that ends too early, and that it is owed with reason.
 use Rattle.std.proofs.Common.{◌≡◌, ℕ, zero, suc, ◌<◌, ◌==◌, ◌&&◌, not, Bool, true, false, if◌then◌else◌, true≢false, ◌++◌, refl, ap, sym, ◌∙◌, arith, eq-eqb}
-use Rattle.pas_profile.specs.Profiles.{IsValid}
-use Rattle.pas_profile.specs.declared.profile.Profile.{Profile}
-use Rattle.pas_steps.specs.Lists.{Whole, Legal}
-use Rattle.pas_steps.specs.Views.{View, all_ones, owes_check, owes_hint}
+use Rattle.pas_profile.specs.{Profiles.IsValid, declared.profile.Profile.Profile}
+use Rattle.pas_steps.specs.{Lists.{Whole, Legal}, Views.{View, all_ones, owes_check, owes_hint}}
 use Rattle.pas_rights.specs.{Looks.looks, Words.ones}
-use Rattle.pas_core.specs.Hints.{IsEmptyBacked}
-use Rattle.pas_core.specs.Rights.{parked_bit, empty_bit, IsUsableFree, IsRightOffered, AllClear}
-use Rattle.pas_core.proofs.Offers.{parked_is_owed, each_clear, hinted_at_rest}
+use Rattle.pas_core.{specs.{Hints.IsEmptyBacked, Rights.{parked_bit, empty_bit, IsUsableFree, IsRightOffered, AllClear}}, proofs.Offers.parked_is_owed}
+use Rattle.pas_core.proofs.Offers.{each_clear, hinted_at_rest}
 use Rattle.pas_trials.specs.Unfinished.{ParkingOwes, LookingOwes}
 
 -- ---- a parking without looks

@@ -1,9 +1,8 @@
 -- What requests of a cache leave behind.
 use Rattle.std.specs.Prelude.{ℕ, List, ◌≡◌, ◌+◌, ◌≤◌}
 use Rattle.pas_profile.specs.declared.profile.Profile.{Profile}
-use Rattle.pas_cache.specs.{Caches.Cached, Caches.AtRest, Calls.Rests}
-use Rattle.pas_steps.specs.{Desks.Standing, Unknown.unknown_pages, Views.View}
-use Rattle.pas_steps.specs.declared.step.Made.{Made}
+use Rattle.pas_cache.specs.{Caches.{Cached, AtRest}, Calls.Rests}
+use Rattle.pas_steps.specs.{Desks.Standing, Unknown.unknown_pages, Views.View, declared.step.Made.Made}
 
 -- some steps were made, after which the actor is at rest with the other cache, whose log is the same
 pub record Borrows (c c' : Cached) (desk desk' : Standing) : Type 0 where

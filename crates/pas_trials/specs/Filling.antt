@@ -1,7 +1,6 @@
 -- What refills leave behind.
 use Rattle.std.specs.Prelude.{List}
-use Rattle.pas_steps.specs.{Views.View, Desks.Standing, Desks.Adds}
-use Rattle.pas_steps.specs.declared.step.Made.{Made}
+use Rattle.pas_steps.specs.{Views.View, Desks.{Standing, Adds}, declared.step.Made.Made}
 
 -- a call made some steps
 pub record Steps (desk desk' : Standing) (Before : View → Type 0) : Type 0 where

@@ -1,15 +1,11 @@
 -- A block that one actor hands another with its past, and what comes of it.
-use Rattle.std.specs.Prelude.{◌≡◌, ℕ, List, [], ◌∷◌, Some}
-use Rattle.std.specs.List.{AllByRecursion}
-use Rattle.pas_profile.specs.declared.{directory.Directory.Directory, event.Event.Event, name.Block.Block}
+use Rattle.std.specs.{Prelude.{◌≡◌, ℕ, List, [], ◌∷◌, Some}, List.AllByRecursion}
+use Rattle.pas_profile.specs.{declared.{directory.Directory.Directory, event.Event.Event, name.Block.Block}, Entries.entry_of}
 use Rattle.pas_steps.specs.Events.{events_of}
-use Rattle.pas_free_log.specs.{Conditions.IsEntryOf, Flushes.event_for}
-use Rattle.pas_profile.specs.Entries.{entry_of}
-use Rattle.pas_free_log.specs.declared.ending.Outcome.{Outcome}
+use Rattle.pas_free_log.specs.{Conditions.IsEntryOf, Flushes.event_for, declared.ending.Outcome.Outcome}
 use Rattle.pas_cache.specs.Serves.{IsPreparing}
-use Rattle.pas_shared.specs.{Ruled.IsEarlier, Pasts.told, Pasts.IsPastOf, Pasts.HasOwn}
-use Rattle.pas_shared.specs.Passes.{IsPassOf, view_of, seat_of, IsFreshPass}
-use Rattle.pas_shared.specs.declared.{past.Past.Past, pass.SharedPass.SharedPass, region.SharedRegion.SharedRegion}
+use Rattle.pas_shared.specs.{Ruled.IsEarlier, Pasts.{told, IsPastOf, HasOwn}, Passes.{IsPassOf, view_of, seat_of, IsFreshPass}, declared.past.Past.Past}
+use Rattle.pas_shared.specs.declared.{pass.SharedPass.SharedPass, region.SharedRegion.SharedRegion}
 use Rattle.pas_trials.specs.declared.handing.{Gift.Gift, Handed.Handed}
 
 -- the pass of this actor, which made no step, with room for so many events

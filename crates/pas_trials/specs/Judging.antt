@@ -1,11 +1,9 @@
 -- What holds of each page of a region when all its actors are at rest, and what is wrong where it doesn't.
-use Rattle.std.specs.Prelude.{ℕ, ◌+◌, ◌*◌, ◌/◌, ◌%◌, ◌<◌, ◌≤◌, ◌≡◌, Bool, true, not, List, Option, None, Some}
-use Rattle.std.specs.List.{list_any}
+use Rattle.std.specs.{Prelude.{ℕ, ◌+◌, ◌*◌, ◌/◌, ◌%◌, ◌<◌, ◌≤◌, ◌≡◌, Bool, true, not, List, Option, None, Some}, List.list_any}
 use Rattle.pas_bits.specs.{Bits.has_bit, Runs.in_run}
-use Rattle.pas_profile.specs.{Directories.number_of, Directories.directory_read, Profiles.IsPage, Blocks.grain_of, Blocks.length_of}
-use Rattle.pas_profile.specs.declared.{directory.Directory.Directory, name.Block.Block, word.Word.Word}
-use Rattle.pas_steps.specs.{States.profile_of, States.word_in, Views.usable_by_kind}
-use Rattle.pas_steps.specs.declared.state.State.{State}
+use Rattle.pas_profile.specs.{Directories.{number_of, directory_read}, Profiles.IsPage, Blocks.{grain_of, length_of}, declared.directory.Directory.Directory}
+use Rattle.pas_profile.specs.declared.{name.Block.Block, word.Word.Word}
+use Rattle.pas_steps.specs.{States.{profile_of, word_in}, Views.usable_by_kind, declared.state.State.State}
 use Rattle.pas_trials.specs.declared.judging.Fault.{Fault}
 
 -- ---- the words of a page

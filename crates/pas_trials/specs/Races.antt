@@ -2,10 +2,9 @@
 use Rattle.std.specs.Prelude.{◌≡◌, false, Option, None, Some, Result}
 use Rattle.pas_profile.specs.declared.event.NoRoom.{NoRoom}
 use Rattle.pas_steps.specs.Desks.{Standing}
-use Rattle.pas_segregated.specs.Refills.{exclusive_slots, Refills}
-use Rattle.pas_segregated.specs.declared.slots.Slots.{Slots}
-use Rattle.pas_shared.specs.{Passes.IsFreshPass, Passes.seat_of, Passes.view_of, Workers.IsReady}
-use Rattle.pas_shared.specs.declared.{region.SharedRegion.SharedRegion, pass.SharedPass.SharedPass, workers.Worker.Worker}
+use Rattle.pas_segregated.specs.{Refills.{exclusive_slots, Refills}, declared.slots.Slots.Slots}
+use Rattle.pas_shared.specs.{Passes.{IsFreshPass, seat_of, view_of}, Workers.IsReady, declared.{region.SharedRegion.SharedRegion, pass.SharedPass.SharedPass}}
+use Rattle.pas_shared.specs.declared.workers.Worker.{Worker}
 
 -- the pass is fresh, with room for two events, which is enough for a refill
 abbrev pub MayRefill : {W : Type 0} → SharedRegion → W → SharedPass → Type 0

@@ -1,10 +1,10 @@
 -- What holds of a thread's desk and cache between the turns of a storm.
 use Rattle.std.specs.Prelude.{◌≡◌, ℕ}
 use Rattle.pas_profile.specs.declared.profile.Profile.{Profile}
-use Rattle.pas_steps.specs.{Views.View, Clear.HasNothing, Desks.Standing, Desks.CanCall}
+use Rattle.pas_steps.specs.{Views.View, Clear.HasNothing, Desks.{Standing, CanCall}}
 use Rattle.pas_cache.specs.Caches.{Cached, cached, AtRest}
-use Rattle.pas_shared.specs.{Passes.IsFreshPass, Workers.IsReady}
-use Rattle.pas_shared.specs.declared.{region.SharedRegion.SharedRegion, pass.SharedPass.SharedPass, workers.Worker.Worker}
+use Rattle.pas_shared.specs.{Passes.IsFreshPass, Workers.IsReady, declared.{region.SharedRegion.SharedRegion, pass.SharedPass.SharedPass}}
+use Rattle.pas_shared.specs.declared.workers.Worker.{Worker}
 use Rattle.pas_trials.specs.declared.workers.StormWork.{StormWork}
 
 -- the actor's room is for so many events in all, the actor is at rest with the cache, and of its events none is forgotten

@@ -1,13 +1,11 @@
 -- Blocks that two threads hand to each other.
 use Rattle.std.specs.Prelude.{ℕ, ◌-◌, ◌≡◌, List, [], ◌∷◌, length, IfSome}
 use Rattle.atomic_table.specs.Seated.{TableId}
-use Rattle.pas_profile.specs.declared.{event.Event.Event, name.Name.Name}
-use Rattle.pas_steps.specs.{Clear.HasNothing, Desks.Standing, Events.events_of, Noted.events_noted, Noted.room_of_notes}
-use Rattle.pas_free_log.specs.Flushes.{event_for}
-use Rattle.pas_profile.specs.Entries.{entry_of}
-use Rattle.pas_free_log.specs.declared.ending.Outcome.{Outcome}
-use Rattle.pas_shared.specs.Passes.{IsPassOf, seat_of, view_of}
-use Rattle.pas_shared.specs.declared.{desk.SharedDesk.SharedDesk, past.Past.Past, pass.SharedPass.SharedPass, region.SharedRegion.SharedRegion}
+use Rattle.pas_profile.specs.{declared.{event.Event.Event, name.Name.Name}, Entries.entry_of}
+use Rattle.pas_steps.specs.{Clear.HasNothing, Desks.Standing, Events.events_of, Noted.{events_noted, room_of_notes}}
+use Rattle.pas_free_log.specs.{Flushes.event_for, declared.ending.Outcome.Outcome}
+use Rattle.pas_shared.specs.{Passes.{IsPassOf, seat_of, view_of}, declared.{desk.SharedDesk.SharedDesk, past.Past.Past, pass.SharedPass.SharedPass}}
+use Rattle.pas_shared.specs.declared.region.SharedRegion.{SharedRegion}
 use Rattle.pas_trials.specs.declared.trading.Traded.{Traded}
 
 -- ---- regions, by the tables of their words

@@ -1,14 +1,12 @@
 -- What the calls of a trial leave behind, so that the next one may come.
 use Rattle.std.specs.Prelude.{ℕ, ◌<◌, ◌≤◌, ◌≡◌, ◌≢◌, Bool, true, false, Option, None, Some, MatchOption, List, ◌++◌}
 use Rattle.pas_profile.specs.declared.directory.Directory.{Directory}
-use Rattle.pas_steps.specs.{Views.View, Views.has_right, Views.KnowsDeed, Lists.Whole, Calls.Leads, Calls.Calls, Desks.Standing, Desks.Adds, Desks.AnyView}
-use Rattle.pas_steps.specs.{Evidence.DeedHere, Past.Once}
-use Rattle.pas_steps.specs.declared.step.Made.{Made}
-use Rattle.pas_plain.specs.{Plain.profile_of, Plain.actor_of, Plain.PassStands, Seats.region_of, Seats.pass_of, Seats.DeskStands}
-use Rattle.pas_plain.specs.declared.{desk.PlainDesk.PlainDesk, pass.PlainPass.PlainPass}
+use Rattle.pas_steps.specs.{Views.{View, has_right, KnowsDeed}, Lists.Whole, Calls.{Leads, Calls}, Desks.{Standing, Adds, AnyView}, Evidence.DeedHere}
+use Rattle.pas_steps.specs.{Past.Once, declared.step.Made.Made}
+use Rattle.pas_plain.specs.{Plain.{profile_of, actor_of, PassStands}, Seats.{region_of, pass_of, DeskStands}, declared.desk.PlainDesk.PlainDesk}
+use Rattle.pas_plain.specs.declared.pass.PlainPass.{PlainPass}
 use Rattle.pas_rights.specs.Leaves.{MayLeave}
-use Rattle.pas_scan.specs.Marks.{is_marked}
-use Rattle.pas_scan.specs.Scan.{NoneOffered, IsFirstOffered, IsFirstBare, IsVerdict}
+use Rattle.pas_scan.specs.{Marks.is_marked, Scan.{NoneOffered, IsFirstOffered, IsFirstBare, IsVerdict}}
 use Rattle.pas_trials.specs.declared.wanting.Findings.{Findings}
 
 -- ---- calls

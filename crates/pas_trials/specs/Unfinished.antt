@@ -1,8 +1,7 @@
 -- What an actor does that leaves its call too early.
 use Rattle.std.specs.Prelude.{ℕ, ◌≡◌, true, List, ◌∷◌, ◌++◌}
 use Rattle.pas_profile.specs.declared.word.Word.{Word}
-use Rattle.pas_steps.specs.{Clear.OwesNothing, Desks.made, Views.View, Views.owes_hint}
-use Rattle.pas_steps.specs.declared.step.{Made.Made, Step.TheVariants.Look, Step.TheVariants.Park}
+use Rattle.pas_steps.specs.{Clear.OwesNothing, Desks.made, Views.{View, owes_hint}, declared.step.{Made.Made, Step.TheVariants.{Look, Park}}}
 use Rattle.pas_rights.specs.{Looks.looks, Words.ones}
 
 -- the looks of a leave at a page without room, and the parking, but no look after it

@@ -1,7 +1,7 @@
 //! A thread takes blocks from its cache and gives them up again.
 ghost use Rattle.std.specs.Prelude.{ℕ, ◌≡◌, ◌+◌, ◌-◌, ◌^◌, ◌<◌, ◌≤◌, [], false, MatchResult};
 ghost use Rattle.pas_bits.specs.Bits.{has_bit};
-ghost use Rattle.pas_steps.specs.{Desks.AnyView, Desks.CanCall, Unknown.unknown_pages};
+ghost use Rattle.pas_steps.specs.{Desks.{AnyView, CanCall}, Unknown.unknown_pages};
 ghost use Rattle.pas_cache.specs.Caches.{cached, AtRest};
 
 use pas_cache::ThreadCache;

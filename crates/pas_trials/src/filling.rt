@@ -3,7 +3,7 @@ ghost use Rattle.std.specs.Prelude.{◌≡◌};
 ghost use Rattle.pas_profile.specs.Profiles.{IsPage, IsDirectoryOf};
 ghost use Rattle.pas_steps.specs.Desks.{CanCall};
 ghost use Rattle.pas_search.specs.Searches.{MaySearch, SearchRoom};
-ghost use Rattle.pas_segregated.specs.{Masks.AreStarts, Stops.class_directory, Stops.directory_of, Stops.MayStop};
+ghost use Rattle.pas_segregated.specs.{Masks.AreStarts, Stops.{class_directory, directory_of, MayStop}};
 ghost use Rattle.pas_trials.specs.Filling.{Steps};
 
 use pas_profile::NoRoom;

@@ -1,10 +1,9 @@
 //! What is looked for when all actors of a region are at rest.
-ghost use Rattle.std.specs.Prelude.{◌≡◌, ◌+◌, ◌*◌, ◌<◌, ◌↔◌, ℕ, IsTrue, MatchOption, Some};
-ghost use Rattle.std.specs.List.{list_any};
+ghost use Rattle.std.specs.{Prelude.{◌≡◌, ◌+◌, ◌*◌, ◌<◌, ◌↔◌, ℕ, IsTrue, MatchOption, Some}, List.list_any};
 ghost use Rattle.pas_bits.specs.Masks.{is_set};
-ghost use Rattle.pas_profile.specs.{Directories.IsKind, Directories.directory_read, Profiles.IsPage, Profiles.IsDirectoryOf};
+ghost use Rattle.pas_profile.specs.{Directories.{IsKind, directory_read}, Profiles.{IsPage, IsDirectoryOf}};
 ghost use Rattle.pas_profile.specs.declared.word.Word.TheVariants as TheWord;
-ghost use Rattle.pas_steps.specs.{States.profile_of, States.word_in, Views.usable_by_kind};
+ghost use Rattle.pas_steps.specs.{States.{profile_of, word_in}, Views.usable_by_kind};
 ghost use Rattle.pas_trials.specs.Judging.{is_free, IsOffered, IsKept, IsMinded, covers, IsCounted, IsSound, IsFault, IsSoundPage, HasFault, IsFirstFault};
 ghost use Rattle.pas_trials.specs.Judging.{AreSound};
 

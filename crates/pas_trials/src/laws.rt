@@ -1,11 +1,9 @@
 //! What comes of a call that ends too early: nobody is at rest then, so no contract that promises rest can be met by it. Each law is the
 //! contract of an empty function.
 ghost use Rattle.std.specs.Prelude.{ℕ, ◌≡◌, ◌<◌, true, false};
-ghost use Rattle.pas_profile.specs.Profiles.{IsValid};
-ghost use Rattle.pas_profile.specs.declared.profile.Profile.{Profile};
+ghost use Rattle.pas_profile.specs.{Profiles.IsValid, declared.profile.Profile.Profile};
 ghost use Rattle.pas_steps.specs.Lists.{Whole, Legal};
-ghost use Rattle.pas_core.specs.Hints.{IsEmptyBacked};
-ghost use Rattle.pas_core.specs.Rights.{parked_bit, empty_bit, IsUsableFree, IsRightOffered, AllClear};
+ghost use Rattle.pas_core.specs.{Hints.IsEmptyBacked, Rights.{parked_bit, empty_bit, IsUsableFree, IsRightOffered, AllClear}};
 ghost use Rattle.pas_trials.specs.Unfinished.{ParkingOwes, LookingOwes};
 
 /// A leave that ends with the parking, with no look after it, still owes looks at the page. And it has to: wherever a page is parked

@@ -1,7 +1,7 @@
 //! Two actors at one plain region: one sits at the desk, and the pass of the other rests.
 ghost use Rattle.std.specs.Prelude.{◌≡◌, IfOk};
 ghost use Rattle.pas_steps.specs.States.{profile_of as the_profile_of};
-ghost use Rattle.pas_plain.specs.{Plain.profile_of, Seats.region_of, Seats.pass_of};
+ghost use Rattle.pas_plain.specs.{Plain.profile_of, Seats.{region_of, pass_of}};
 ghost use Rattle.pas_trials.specs.Trials.{Beside};
 
 use pas_plain::{PlainDesk, PlainPass, close};

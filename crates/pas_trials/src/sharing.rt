@@ -1,6 +1,6 @@
 //! An actor allocates a bit-fit block, or refills a class from a shared page and may stop the slots again.
 ghost use Rattle.std.specs.Prelude.{◌≡◌, ◌≤◌, ◌%◌};
-ghost use Rattle.pas_profile.specs.{Classes.IsClass, Classes.IsAlignment, Profiles.IsPage, Profiles.IsDirectoryOf};
+ghost use Rattle.pas_profile.specs.{Classes.{IsClass, IsAlignment}, Profiles.{IsPage, IsDirectoryOf}};
 ghost use Rattle.pas_steps.specs.Desks.{CanCall};
 ghost use Rattle.pas_search.specs.Searches.{MaySearch, SearchRoom};
 ghost use Rattle.pas_segregated.specs.{Masks.AreStarts, Stops.MayStopAt};

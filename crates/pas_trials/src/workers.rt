@@ -1,7 +1,7 @@
 //! Threads in a storm at one shared region, each with a cache of its own.
 ghost use Rattle.std.specs.Prelude.{◌≡◌, ◌≤◌, ⊤, All, IfOk};
 ghost use Rattle.pas_utility.specs.Pools.{threads_of};
-ghost use Rattle.pas_shared.specs.{Passes.IsPassOf, Passes.IsFreshPass, Workers.HasPass};
+ghost use Rattle.pas_shared.specs.{Passes.{IsPassOf, IsFreshPass}, Workers.HasPass};
 ghost use Rattle.pas_trials.specs.SharedStorms.{IsReadyForStorm, MayTakeTurns};
 
 use crate::shared_storm::Storm;

@@ -1,6 +1,5 @@
 -- What a table of heaps means.
-use Rattle.std.specs.Prelude.{ℕ, ◌==◌, Bool}
-use Rattle.std.specs.Int.{bit_at}
+use Rattle.std.specs.{Prelude.{ℕ, ◌==◌, Bool}, Int.bit_at}
 use Rattle.pas_utility.specs.declared.table.HeapTable.{HeapTable}
 
 -- the marks of shared heaps, those of the profile that the table was made from

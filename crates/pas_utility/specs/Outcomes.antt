@@ -1,7 +1,6 @@
 -- What a list of outcomes shows.
 use Rattle.std.specs.Prelude.{ℕ, List}
-use Rattle.pas_profile.specs.Rooms.{Holding}
-use Rattle.pas_profile.specs.declared.event.Outcome.{Outcome}
+use Rattle.pas_profile.specs.{Rooms.Holding, declared.event.Outcome.Outcome}
 
 -- a room for pairs of a page and its outcome
 abbrev pub Outcomes : Type 0

@@ -1,8 +1,7 @@
 -- The parts of a region's pools that are left.
 use Rattle.std.specs.Prelude.{ℕ, ◌+◌, ◌≤◌, ◌<◌, ◌≡◌, Bool, true, false, List, length, Option, Some, None, slice_index, slice_index_or}
 use Rattle.pas_profile.specs.Rooms.{shown, size_of_room, EventRoom}
-use Rattle.pas_utility.specs.declared.seat.CacheSeat.{CacheSeat}
-use Rattle.pas_utility.specs.{Outcomes.pairs_in, Outcomes.places_of, Outcomes.Outcomes, Seats.thread_of}
+use Rattle.pas_utility.specs.{declared.seat.CacheSeat.CacheSeat, Outcomes.{pairs_in, places_of, Outcomes}, Seats.thread_of}
 
 -- the size of an event room that is left
 abbrev pub size_left : Option EventRoom → Option ℕ

@@ -1,7 +1,6 @@
 -- What a region's pools have left.
 use Rattle.std.specs.Prelude.{ℕ, ◌-◌, Bool, Option, None, length, slice_index_or}
-use Rattle.pas_utility.specs.Parts.{size_left, is_left, places_left}
-use Rattle.pas_utility.specs.declared.utility.Utility.{Utility}
+use Rattle.pas_utility.specs.{Parts.{size_left, is_left, places_left}, declared.utility.Utility.Utility}
 
 -- The threads are the actors from 1 to this one. The scavenger, actor 0, has an event room alone.
 abbrev pub threads_of : Utility → ℕ

@@ -1,6 +1,6 @@
 //! The table of heaps.
 ghost use Rattle.std.specs.Prelude.{◌≡◌, ◌<◌};
-ghost use Rattle.pas_profile.specs.{Directories.IsKind, Directories.number_of, Requests.kind_of_class};
+ghost use Rattle.pas_profile.specs.{Directories.{IsKind, number_of}, Requests.kind_of_class};
 ghost use Rattle.pas_utility.specs.Heaps.{marks_of, is_marked};
 
 use pas_profile::{Directory, Kind, Profile};

@@ -53,8 +53,7 @@ fn seats_for(alloc: Global, threads: u8) -> Result<Vec<Option<CacheSeat>>, NoMem
 impl Utility {
     ghost use Rattle.std.specs.Prelude.{◌≢◌, ◌∷◌, [], MatchOption, Some, None, slice_index, Bool, true, false};
     ghost use Rattle.pas_profile.specs.Rooms.{shown, size_of_room};
-    ghost use Rattle.pas_utility.specs.{Seats.thread_of, Outcomes.pairs_in, Outcomes.places_of};
-    ghost use Rattle.pas_utility.specs.Pools.{threads_of, room_of, has_seat, outcomes_of};
+    ghost use Rattle.pas_utility.specs.{Seats.thread_of, Outcomes.{pairs_in, places_of}, Pools.{threads_of, room_of, has_seat, outcomes_of}};
 
     /// All parts for a region of this profile: for actor k a room of `bounds[k]` events without an event, for each thread a seat, and a list
     /// of outcomes with a place for each page.

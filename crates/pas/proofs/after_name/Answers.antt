@@ -1,5 +1,4 @@
-use Rattle.std.proofs.Common.{ap, ◌∙◌}
-use Rattle.std.proofs.lemmas.Iterator.{items_from_collect, Adapters.YieldsList-from_skip, Adapters.YieldsList-from_vec}
+use Rattle.std.proofs.{Common.{ap, ◌∙◌}, lemmas.Iterator.{items_from_collect, Adapters.{YieldsList-from_skip, YieldsList-from_vec}}}
 use Rattle.std.specs.Vec.Iter.{into_iter_items, into_iter_len}
 use Rattle.pas.proofs.after_name.Goals as goal
 

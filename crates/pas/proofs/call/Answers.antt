@@ -1,5 +1,4 @@
-use Rattle.std.proofs.Common.{◌≡◌, ◌⊎◌, ℕ, List, map, ap, ◌∙◌, subst}
-use Rattle.std.specs.String.{string_bytes}
+use Rattle.std.{proofs.Common.{◌≡◌, ◌⊎◌, ℕ, List, map, ap, ◌∙◌, subst}, specs.String.string_bytes}
 use Rattle.pas_calls.specs.Outputs.{texts_of, IsAccepted, IsCutOff, IsWriting, IsWritten}
 use Rattle.pas.proofs.call.Goals as goal
 

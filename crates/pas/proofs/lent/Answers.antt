@@ -1,5 +1,4 @@
-use Rattle.std.proofs.Common.{rules}
-use Rattle.std.proofs.lemmas.Iterator.{YieldsList-from_map_by, YieldsList-from_slice, Consumers.map_from_collect, Consumers.YieldsList-at}
+use Rattle.std.proofs.{Common.rules, lemmas.Iterator.{YieldsList-from_map_by, YieldsList-from_slice, Consumers.{map_from_collect, YieldsList-at}}}
 use Rattle.std.specs.String.{string_bytes}
 use Rattle.pas.proofs.lent.Goals as goal
 

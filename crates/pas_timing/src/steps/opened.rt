@@ -1,7 +1,7 @@
 //! Regions that nobody used yet, of one heap and four threads.
 ghost use Rattle.std.specs.Prelude.{◌≡◌, All, IfOk};
 ghost use Rattle.pas_steps.specs.Desks.{AnyView, CanCall};
-ghost use Rattle.pas_plain.specs.{Seats.standing_of, Seats.region_of, Plain.profile_of};
+ghost use Rattle.pas_plain.specs.{Seats.{standing_of, region_of}, Plain.profile_of};
 ghost use Rattle.pas_shared.specs.Passes.{profile_of as the_profile_of, IsFreshPass};
 ghost use Rattle.pas_timing.specs.Repeats.{bench_profile};
 

@@ -1,5 +1,4 @@
-use Rattle.std.proofs.Common.{arith, refl}
-use Rattle.std.proofs.lemmas.Bool.{false≢true}
+use Rattle.std.proofs.{Common.{arith, refl}, lemmas.Bool.false≢true}
 use Rattle.pas_acts.proofs.AtDesk.{may_answer, was_stopped, has_stayed}
 use Rattle.pas_acts.proofs.at_desk.stop_if_idle.Goals as goal
 

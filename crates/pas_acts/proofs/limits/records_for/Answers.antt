@@ -1,7 +1,5 @@
-use Rattle.std.proofs.Common.{List, ap, length, arith}
-use Rattle.std.proofs.lemmas.List.{length-map}
-use Rattle.pas_trace.specs.Plans.{ops_of, phases_of as phases_in_order}
-use Rattle.pas_trace.specs.declared.plan.Phase.{Phase}
+use Rattle.std.proofs.{Common.{List, ap, length, arith}, lemmas.List.length-map}
+use Rattle.pas_trace.specs.{Plans.{ops_of, phases_of as phases_in_order}, declared.plan.Phase.Phase}
 use Rattle.pas_acts.proofs.PlanFacts.{plan_phases}
 use Rattle.pas_acts.proofs.limits.records_for.Goals as goal
 

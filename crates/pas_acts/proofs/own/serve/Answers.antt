@@ -1,9 +1,7 @@
 use Rattle.std.proofs.Common.{◌∙◌, ap, subst}
 use Rattle.pas_profile.specs.declared.profile.Profile.{Profile}
 use Rattle.pas_answers.specs.Calls.{what_of, MayStand}
-use Rattle.pas_acts.specs.Pairs.{for_guards}
-use Rattle.pas_acts.proofs.AtDesk.{stands_at}
-use Rattle.pas_acts.proofs.Working.{may_try, may_next, given_stands, pair_given, pair_left, pair_alone, not_kept}
+use Rattle.pas_acts.{specs.Pairs.for_guards, proofs.{AtDesk.stands_at, Working.{may_try, may_next, given_stands, pair_given, pair_left, pair_alone, not_kept}}}
 use Rattle.pas_acts.proofs.own.serve.Goals as goal
 
 pub try_guarded-requires : goal.try_guarded-requires

@@ -1,8 +1,7 @@
 use Rattle.std.proofs.Common.{◌∙◌, sym, arith}
 use Rattle.pas_trace.specs.declared.plan.{Op.Op, What.TheVariants.Alloc}
-use Rattle.pas_acts.proofs.Working.{begins, stands_before, goes_on, skips, ends}
+use Rattle.pas_acts.proofs.{Working.{begins, stands_before, goes_on, skips, ends}, own.work.Goals.{then-op-actor, else-op-actor}}
 use Rattle.pas_acts.proofs.own.work.Goals as goal
-use Rattle.pas_acts.proofs.own.work.Goals.{then-op-actor, else-op-actor}
 
 abbrev past : Op
 past = record { line = 0; actor = 0; what = Alloc 0 0 0 0 }

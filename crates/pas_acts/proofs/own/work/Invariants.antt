@@ -4,7 +4,7 @@ use Rattle.pas_profile.specs.declared.profile.Profile.{Profile}
 use Rattle.pas_cache.specs.Caches.{cached}
 use Rattle.pas_trace.specs.Acts.{Act, own_acts}
 use Rattle.pas_answers.specs.Answers.{Progress}
-use Rattle.pas_acts.specs.{Keepers.LaterKept, NameBooks.table, Pairs.PairAt, Pairs.PairWorks, Works.Later, Works.keeps}
+use Rattle.pas_acts.specs.{Keepers.LaterKept, NameBooks.table, Pairs.{PairAt, PairWorks}, Works.{Later, keeps}}
 use Rattle.pas_acts.proofs.own.work.Given as goal
 
 abbrev pub invariant-loop-op : goal.invariant-loop-op

@@ -1,7 +1,5 @@
-use Rattle.std.proofs.Common.{subst, arith}
-use Rattle.std.proofs.lemmas.Bool.{false≢true}
-use Rattle.pas_acts.specs.Parts.{AreUnused}
-use Rattle.pas_acts.proofs.Making.{none_unused, next_unused, is_empty}
+use Rattle.std.proofs.{Common.{subst, arith}, lemmas.Bool.false≢true}
+use Rattle.pas_acts.{specs.Parts.AreUnused, proofs.Making.{none_unused, next_unused, is_empty}}
 use Rattle.pas_acts.proofs.parts.caches_for.Goals as goal
 
 pub loop-below-init : goal.loop-below-init

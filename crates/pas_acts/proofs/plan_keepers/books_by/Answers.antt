@@ -1,6 +1,5 @@
 use Rattle.std.proofs.Common.{arith, ◌∙◌}
-use Rattle.pas_trace.specs.EveryPlan.{operations_of}
-use Rattle.pas_trace.proofs.{EveryPlan.every_plan, Keepers.keepers_few}
+use Rattle.pas_trace.{specs.EveryPlan.operations_of, proofs.{EveryPlan.every_plan, Keepers.keepers_few}}
 use Rattle.pas_acts.proofs.Making.{no_books, same_books, books_in, course_guarded, course_keepers, course_within, guarded_few}
 use Rattle.pas_acts.proofs.plan_keepers.books_by.Goals as goal
 

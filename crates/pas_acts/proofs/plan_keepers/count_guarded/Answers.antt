@@ -1,8 +1,6 @@
 use Rattle.std.proofs.Common.{◌<◌, length, Bool, if◌then◌else◌, refl, ap, arith, drop_of_length-le, eq-eqb}
-use Rattle.pas_trace.specs.Asked.{keeper_in}
-use Rattle.pas_trace.specs.declared.plan.{Op.Op, What.TheVariants.Alloc}
-use Rattle.pas_acts.specs.PlanKeepers.{one_guarded}
-use Rattle.pas_acts.proofs.Making.{all_at, said_next, count_more}
+use Rattle.pas_trace.specs.{Asked.keeper_in, declared.plan.{Op.Op, What.TheVariants.Alloc}}
+use Rattle.pas_acts.{specs.PlanKeepers.one_guarded, proofs.Making.{all_at, said_next, count_more}}
 use Rattle.pas_acts.proofs.plan_keepers.count_guarded.Goals as goal
 
 pub add-requires-clause-actor : goal.add-requires-clause-actor

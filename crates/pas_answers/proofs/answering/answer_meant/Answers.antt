@@ -1,7 +1,7 @@
 use Rattle.std.proofs.Common.{◌≡◌, refl, ap, arith, length, drop}
 use Rattle.pas_cache.specs.Caches.{cached}
-use Rattle.pas_answers.specs.{Calls.what_of, Indexes.IsNamedFor, Indexes.request_made}
-use Rattle.pas_answers.proofs.Tries.{can_rest, is_shown, shown_longer, records_fit, said_fits, answers_silent, answers_said}
+use Rattle.pas_answers.{specs.{Calls.what_of, Indexes.{IsNamedFor, request_made}}, proofs.Tries.{can_rest, is_shown, shown_longer, records_fit, said_fits}}
+use Rattle.pas_answers.proofs.Tries.{answers_silent, answers_said}
 use Rattle.pas_answers.proofs.answering.answer_meant.Goals as goal
 
 pub push_events-requires-clause-within : goal.push_events-requires-clause-within

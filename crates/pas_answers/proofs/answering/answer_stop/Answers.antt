@@ -1,8 +1,7 @@
 use Rattle.std.proofs.Common.{Option, ℕ, None, ap, arith, refl}
 use Rattle.pas_trace.specs.declared.plan.{Task.Task, What.TheVariants.Stop}
 use Rattle.pas_cache.specs.Caches.{cached}
-use Rattle.pas_answers.proofs.Requests.{performs_stop}
-use Rattle.pas_answers.proofs.Tries.{can_rest, is_shown, shown_longer, records_fit, answers_silent}
+use Rattle.pas_answers.proofs.{Requests.performs_stop, Tries.{can_rest, is_shown, shown_longer, records_fit, answers_silent}}
 use Rattle.pas_answers.proofs.answering.answer_stop.Goals as goal
 
 pub stop-requires-clause-room : goal.stop-requires-clause-room

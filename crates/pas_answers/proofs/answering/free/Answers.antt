@@ -1,8 +1,7 @@
 use Rattle.std.proofs.Common.{Err, ap, ◌∙◌}
 use Rattle.pas_profile.specs.declared.event.FreeFault.TheVariants.{Outside, Unaligned}
 use Rattle.pas_cache.specs.Caches.{cached}
-use Rattle.pas_answers.specs.Answers.{entry_with}
-use Rattle.pas_answers.proofs.Requests.{frees_taken, frees_refused}
+use Rattle.pas_answers.{specs.Answers.entry_with, proofs.Requests.{frees_taken, frees_refused}}
 use Rattle.pas_answers.proofs.answering.free.Goals as goal
 
 pub returns-in-Ok-clause-frees : goal.returns-in-Ok-clause-frees

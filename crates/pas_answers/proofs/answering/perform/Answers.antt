@@ -1,9 +1,9 @@
 use Rattle.std.proofs.Common.{refl, sym, subst, ◌≡◌}
 use Rattle.pas_trace.specs.declared.plan.Task.{Task}
 use Rattle.pas_cache.specs.Caches.{cached}
-use Rattle.pas_answers.specs.{Calls.what_of, Indexes.IsNamedFor, Indexes.request_made}
-use Rattle.pas_answers.proofs.Requests.{can_log, fits_task, not_asked, performs_free, performs_skip, performs_raw, performs_flush, performs_stop, can_unguarded}
-use Rattle.pas_answers.proofs.Requests.{guarded_performs, can_resize, admitted_there, performs_move, performs_no_move}
+use Rattle.pas_answers.{specs.{Calls.what_of, Indexes.{IsNamedFor, request_made}}, proofs.Requests.{can_log, fits_task, not_asked, performs_free}}
+use Rattle.pas_answers.proofs.Requests.{performs_skip, performs_raw, performs_flush, performs_stop, can_unguarded, guarded_performs, can_resize, admitted_there}
+use Rattle.pas_answers.proofs.Requests.{performs_move, performs_no_move}
 use Rattle.pas_answers.proofs.answering.perform.Goals as goal
 
 pub free-requires-clause-turn : goal.free-requires-clause-turn

@@ -1,9 +1,6 @@
-use Rattle.std.proofs.Common.{Ok, ◌≡◌, ◌∙◌, ap, subst}
+use Rattle.std.proofs.{Common.{Ok, ◌≡◌, ◌∙◌, ap, subst}, lemmas.Option.same_Some}
 use Rattle.pas_cache.specs.Caches.{cached}
-use Rattle.std.proofs.lemmas.Option.{same_Some}
-use Rattle.pas_answers.specs.Calls.{IsBlockOf}
-use Rattle.pas_answers.proofs.SingleActs.{none_stands}
-use Rattle.pas_answers.proofs.Requests.{can_move, kept, replaced, refused, new_stands}
+use Rattle.pas_answers.{specs.Calls.IsBlockOf, proofs.{SingleActs.none_stands, Requests.{can_move, kept, replaced, refused, new_stands}}}
 use Rattle.pas_answers.proofs.answering.resize.Goals as goal
 
 pub remake-requires-clause-can : goal.remake-requires-clause-can

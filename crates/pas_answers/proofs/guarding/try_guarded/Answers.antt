@@ -1,9 +1,7 @@
-use Rattle.std.proofs.Common.{◌∙◌, ◌++◌, List, refl, ap, arith, length, length-append, drop, map}
-use Rattle.std.proofs.lemmas.List.{length-map}
-use Rattle.pas_records.specs.Rooms.{records_in}
-use Rattle.pas_records.specs.declared.record.Record.{Record}
-use Rattle.pas_answers.proofs.Requests.{asking}
-use Rattle.pas_answers.proofs.Tries.{is_shown, fewer_up, can_sweep, can_raise, more_shown, told_fits, given_stands, said_some, said_none, tries}
+use Rattle.std.proofs.{Common.{◌∙◌, ◌++◌, List, refl, ap, arith, length, length-append, drop, map}, lemmas.List.length-map}
+use Rattle.pas_records.specs.{Rooms.records_in, declared.record.Record.Record}
+use Rattle.pas_answers.proofs.{Requests.asking, Tries.{is_shown, fewer_up, can_sweep, can_raise, more_shown, told_fits, given_stands, said_some, said_none}}
+use Rattle.pas_answers.proofs.Tries.{tries}
 use Rattle.pas_answers.proofs.guarding.try_guarded.Goals as goal
 
 pub raise-block-requires-clause-book : goal.raise-block-requires-clause-book

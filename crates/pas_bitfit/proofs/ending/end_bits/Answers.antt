@@ -1,7 +1,6 @@
 use Rattle.std.proofs.Common.{◌||◌, ◌∙◌, ap}
 use Rattle.pas_bits.specs.Masks.{is_set}
-use Rattle.pas_bitfit.specs.Ends.{ends_with}
-use Rattle.pas_bitfit.proofs.EndBits.{one_more}
+use Rattle.pas_bitfit.{specs.Ends.ends_with, proofs.EndBits.one_more}
 use Rattle.pas_bitfit.proofs.ending.end_bits.Goals as goal
 
 pub loop-grain-preserved : goal.loop-grain-preserved

@@ -1,4 +1,4 @@
-use Rattle.pas_bitfit.specs.{Allocates.bitfit_directory, Allocates.run_for, Runs.runs, Runs.run_at, Runs.fewer_runs}
+use Rattle.pas_bitfit.specs.{Allocates.{bitfit_directory, run_for}, Runs.{runs, run_at, fewer_runs}}
 use Rattle.pas_search.proofs.Allocated.{run_alone}
 use Rattle.pas_bitfit.proofs.laws.a_lone_request_finds_what_there_is.Goals as goal
 

@@ -1,6 +1,5 @@
 use Rattle.std.proofs.Common.{◌%◌, ap, ◌∙◌, bit_or}
-use Rattle.pas_bits.specs.Bits.{has_bit}
-use Rattle.pas_bits.proofs.PageVectors.{page_added}
+use Rattle.pas_bits.{specs.Bits.has_bit, proofs.PageVectors.page_added}
 use Rattle.pas_bits.proofs.page_vector.with_page.Goals as goal
 
 pub returns : goal.returns

@@ -1,6 +1,5 @@
-use Rattle.std.proofs.Common.{◌≡◌, ◌+◌, length, refl, sym, ◌∙◌, ap, arith, w64}
+use Rattle.std.proofs.{Common.{◌≡◌, ◌+◌, length, refl, sym, ◌∙◌, ap, arith, w64}, lemmas.Simd.{adds_fit, fold-sum, length-zip2, sum-zip2, sum_fits}}
 use Rattle.std.specs.Simd.Lanes.{chunk, sum_l}
-use Rattle.std.proofs.lemmas.Simd.{adds_fit, fold-sum, length-zip2, sum-zip2, sum_fits}
 use Rattle.pas_bits.proofs.Rows.{before_most, count_before, group_more, lane_counts, length_counts, none_before, whole_before, word_more}
 use Rattle.pas_bits.proofs.row_count.count_ones.Goals as goal
 

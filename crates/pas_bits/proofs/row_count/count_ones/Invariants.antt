@@ -1,5 +1,4 @@
-use Rattle.std.proofs.Common.{◌≡◌, ◌-◌, ◌≤◌, length}
-use Rattle.std.specs.Simd.Lanes.{sum_l}
+use Rattle.std.{proofs.Common.{◌≡◌, ◌-◌, ◌≤◌, length}, specs.Simd.Lanes.sum_l}
 use Rattle.pas_bits.proofs.Rows.{count_before}
 use Rattle.pas_bits.proofs.row_count.count_ones.Given as goal
 

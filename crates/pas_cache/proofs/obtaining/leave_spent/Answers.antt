@@ -1,7 +1,5 @@
-use Rattle.std.proofs.Common.{◌<◌, ◌≡◌, false, length, subst}
-use Rattle.std.specs.List.{list_any}
-use Rattle.pas_cache.specs.Locals.{is_for, IsPlaceOf}
-use Rattle.pas_cache.proofs.Obtained.{leaves_none, leaves_spent}
+use Rattle.std.{proofs.Common.{◌<◌, ◌≡◌, false, length, subst}, specs.List.list_any}
+use Rattle.pas_cache.{specs.Locals.{is_for, IsPlaceOf}, proofs.Obtained.{leaves_none, leaves_spent}}
 use Rattle.pas_cache.proofs.obtaining.leave_spent.Goals as goal
 
 pub stop_at-requires-clause-place : goal.stop_at-requires-clause-place

@@ -1,6 +1,5 @@
 use Rattle.std.proofs.Common.{arith, sym, subst}
-use Rattle.pas_cache.specs.Locals.{HasOneEach}
-use Rattle.pas_cache.proofs.{Resting.refill_same, Obtained.obtain_rests, Obtained.obtains_cached}
+use Rattle.pas_cache.{specs.Locals.HasOneEach, proofs.{Resting.refill_same, Obtained.{obtain_rests, obtains_cached}}}
 use Rattle.pas_cache.proofs.obtaining.obtain.Goals as goal
 
 pub bring_cached-requires : goal.bring_cached-requires

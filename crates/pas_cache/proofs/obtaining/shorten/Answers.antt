@@ -1,5 +1,4 @@
-use Rattle.std.proofs.lemmas.Bool.{eqb-false}
-use Rattle.std.proofs.Common.{arith, sym, ◌∙◌}
+use Rattle.std.proofs.{lemmas.Bool.eqb-false, Common.{arith, sym, ◌∙◌}}
 use Rattle.pas_cache.proofs.Obtained.{releases_none, shortens_full}
 use Rattle.pas_cache.proofs.obtaining.shorten.Goals as goal
 

@@ -2,8 +2,7 @@ use Rattle.std.proofs.Common.{sym, subst}
 use Rattle.pas_bits.specs.Masks.{HasMember}
 use Rattle.pas_steps.specs.Desks.{CanCall}
 use Rattle.pas_segregated.specs.declared.slots.Slots.{Slots}
-use Rattle.pas_cache.specs.{Parts.MayGiveSlot, Parts.GivesLowest, Serves.filling_in}
-use Rattle.pas_cache.proofs.{Resting.last_is, Resting.last_set, Obtained.obtain_rests}
+use Rattle.pas_cache.{specs.{Parts.{MayGiveSlot, GivesLowest}, Serves.filling_in}, proofs.{Resting.{last_is, last_set}, Obtained.obtain_rests}}
 use Rattle.pas_cache.proofs.Alone.{fewer_room, room_to_give, give_call, serves_given, serves_none}
 use Rattle.pas_cache.proofs.serving.serve_class.Goals as goal
 

@@ -1,5 +1,4 @@
-use Rattle.std.proofs.Common.{◌∷◌, ◌∙◌, ap, append_assoc, append-nil, arith, refl, [], ◌++◌, sym}
-use Rattle.std.proofs.lemmas.List.{nil_from_length}
+use Rattle.std.proofs.{Common.{◌∷◌, ◌∙◌, ap, append_assoc, append-nil, arith, refl, [], ◌++◌, sym}, lemmas.List.nil_from_length}
 use Rattle.pas_cache.proofs.Obtained.{rests_call, releases_none, popped, stops_more}
 use Rattle.pas_cache.proofs.stopping.stop_all.Goals as goal
 

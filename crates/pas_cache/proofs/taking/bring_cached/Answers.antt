@@ -1,6 +1,5 @@
 use Rattle.std.proofs.Common.{arith, refl, sym}
-use Rattle.pas_cache.proofs.{Resting.none_any, Resting.at_end, Obtained.none_at_all, Obtained.brings, Obtained.none_cached}
-use Rattle.pas_cache.specs.Locals.{is_for}
+use Rattle.pas_cache.{proofs.{Resting.{none_any, at_end}, Obtained.{none_at_all, brings, none_cached}}, specs.Locals.is_for}
 use Rattle.pas_cache.proofs.taking.bring_cached.Goals as goal
 
 pub returns-in_default : goal.returns-in_default

@@ -1,5 +1,4 @@
-use Rattle.std.proofs.Common.{◌∙◌, ◌++◌, ◌∷◌, ◌+◌, [], List, ap, refl, arith, false, get_or, remove, length-set}
-use Rattle.std.proofs.lemmas.List.{get_or_default}
+use Rattle.std.proofs.{Common.{◌∙◌, ◌++◌, ◌∷◌, ◌+◌, [], List, ap, refl, arith, false, get_or, remove, length-set}, lemmas.List.get_or_default}
 use Rattle.pas_segregated.specs.declared.slots.Slots.{Slots as Local}
 use Rattle.pas_cache.proofs.Resting.{hole_on, hole_filled}
 use Rattle.pas_cache.proofs.taking.move_to_end.Goals as goal

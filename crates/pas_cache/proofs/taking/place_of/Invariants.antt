@@ -1,5 +1,4 @@
-use Rattle.std.proofs.Common.{◌≡◌, ◌≤◌, false, length, drop}
-use Rattle.std.specs.List.{list_any}
+use Rattle.std.{proofs.Common.{◌≡◌, ◌≤◌, false, length, drop}, specs.List.list_any}
 use Rattle.pas_cache.specs.Locals.{is_for}
 use Rattle.pas_cache.proofs.taking.place_of.Given as goal
 

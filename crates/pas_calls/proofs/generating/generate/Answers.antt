@@ -1,11 +1,9 @@
 use Rattle.std.proofs.Common.{◌∙◌, List, ap, subst, inr, refl}
 use Rattle.pas_report.specs.Counts.{totals_by_words}
-use Rattle.pas_records.specs.Rooms.{records_in}
-use Rattle.pas_records.specs.declared.record.Record.{Record}
+use Rattle.pas_records.specs.{Rooms.records_in, declared.record.Record.Record}
 use Rattle.pas_answers.specs.Ways.{InOrder}
-use Rattle.pas_calls.specs.{Outcomes.IsOutcome, Generating.IsSummarized}
+use Rattle.pas_calls.{specs.{Outcomes.IsOutcome, Generating.IsSummarized}, proofs.{Headline.summary_told, Statuses.summarized}}
 use Rattle.pas_telling.specs.Summaries.{summary_text}
-use Rattle.pas_calls.proofs.{Headline.summary_told, Statuses.summarized}
 use Rattle.pas_calls.proofs.generating.generate.Goals as goal
 
 pub returns-in-Ok-Replayed-clause-told : goal.returns-in-Ok-Replayed-clause-told

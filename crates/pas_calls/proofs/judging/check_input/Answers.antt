@@ -1,7 +1,6 @@
 use Rattle.std.proofs.Common.{ℕ, List, subst, inr}
 use Rattle.pas_io.specs.Inputs.{IsInput}
-use Rattle.pas_calls.specs.{Judgements.IsJudgement, Outputs.most_bytes}
-use Rattle.pas_calls.proofs.Endings.{tells_judgement}
+use Rattle.pas_calls.{specs.{Judgements.IsJudgement, Outputs.most_bytes}, proofs.Endings.tells_judgement}
 use Rattle.pas_calls.proofs.judging.check_input.Goals as goal
 
 pub returns-in-Ok-clause-ends : goal.returns-in-Ok-clause-ends

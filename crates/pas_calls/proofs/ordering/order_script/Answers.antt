@@ -1,9 +1,7 @@
 use Rattle.std.proofs.Common.{inr, arith, ◌≡◌, ◌≤◌, ℕ, List, length, Some}
-use Rattle.pas_trace.specs.{Courses.IsCourseOf, Plans.IsPlanOf}
-use Rattle.pas_trace.specs.declared.{course.Course.Course, plan.Op.Op, plan.Plan.Plan}
+use Rattle.pas_trace.specs.{Courses.IsCourseOf, Plans.IsPlanOf, declared.{course.Course.Course, plan.{Op.Op, Plan.Plan}}}
 use Rattle.pas_records.specs.Rooms.{Records, room_of}
-use Rattle.pas_replay.specs.{Kits.IsKitOf, Kits.MayReplay, Taking.room_for_taker}
-use Rattle.pas_replay.specs.declared.kit.PlainKit.{PlainKit}
+use Rattle.pas_replay.specs.{Kits.{IsKitOf, MayReplay}, Taking.room_for_taker, declared.kit.PlainKit.PlainKit}
 use Rattle.pas_calls.proofs.Statuses.{order_told}
 use Rattle.pas_calls.proofs.ordering.order_script.Goals as goal
 

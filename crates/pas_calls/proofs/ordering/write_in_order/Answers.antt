@@ -1,4 +1,4 @@
-use Rattle.pas_calls.proofs.{Headline.can_show, Statuses.cut_in_lines, Statuses.report_told, Statuses.cut_in_report}
+use Rattle.pas_calls.proofs.{Headline.can_show, Statuses.{cut_in_lines, report_told, cut_in_report}}
 use Rattle.pas_calls.proofs.ordering.write_in_order.Goals as goal
 
 pub returns-then-failed : goal.returns-then-failed

@@ -1,6 +1,5 @@
 use Rattle.std.proofs.Common.{rules, ◌∙◌, ◌++◌, false, sym}
-use Rattle.pas_calls.specs.Wrote.{Wrote, wrote_lines}
-use Rattle.pas_calls.proofs.Statuses.{waiting_shown, wrote_as}
+use Rattle.pas_calls.{specs.Wrote.{Wrote, wrote_lines}, proofs.Statuses.{waiting_shown, wrote_as}}
 use Rattle.pas_records.specs.{Lines.lines_of, Rooms.records_in}
 use Rattle.pas_calls.proofs.ordering.write_lines_in_order.Goals as goal
 

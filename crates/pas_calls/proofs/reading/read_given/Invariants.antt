@@ -1,7 +1,6 @@
 use Rattle.std.proofs.Common.{◌≡◌, ◌<◌, ◌≤◌, ◌+◌, ◌-◌, length}
 use Rattle.pas_io.specs.declared.reach.Reach.TheVariants.{Within}
-use Rattle.pas_calls.specs.Outputs.{most_bytes}
-use Rattle.pas_calls.proofs.TextInPieces.{IsReadTo}
+use Rattle.pas_calls.{specs.Outputs.most_bytes, proofs.TextInPieces.IsReadTo}
 use Rattle.pas_calls.proofs.reading.read_given.Given as goal
 
 -- the buffer has a place, and what was read is no more than an input may have

@@ -1,6 +1,5 @@
 use Rattle.std.proofs.Common.{length, sym, leb-false}
-use Rattle.pas_check.specs.Tables.{logged}
-use Rattle.pas_check.proofs.Actings.{logged_added, logged_full}
+use Rattle.pas_check.{specs.Tables.logged, proofs.Actings.{logged_added, logged_full}}
 use Rattle.pas_check.proofs.acting.log_entry.Goals as goal
 
 pub returns-then-is_full-clause-taken : goal.returns-then-is_full-clause-taken

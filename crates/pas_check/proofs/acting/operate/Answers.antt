@@ -1,6 +1,5 @@
 use Rattle.std.proofs.Common.{◌≡◌, ◌<◌, ◌^◌, ℕ, None, ap, subst, arith, MatchOption}
-use Rattle.pas_trace.specs.{Acts.Guards, Acts.Operates, Acts.act_kept, Asked.keeper_in, Asked.request_in}
-use Rattle.pas_trace.specs.declared.plan.What.{What, TheVariants.Guarded}
+use Rattle.pas_trace.specs.{Acts.{Guards, Operates, act_kept}, Asked.{keeper_in, request_in}, declared.plan.What.{What, TheVariants.Guarded}}
 use Rattle.pas_check.specs.{Begins.guarding, Calls.asked_for}
 use Rattle.pas_check.proofs.acting.operate.Goals as goal
 

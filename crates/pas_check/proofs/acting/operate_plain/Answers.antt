@@ -1,10 +1,7 @@
 use Rattle.std.proofs.Common.{arith, ◌≡◌, ◌⊎◌, ℕ, [], None, ap}
 use Rattle.pas_profile.specs.declared.profile.Profile.{Profile}
-use Rattle.pas_trace.specs.Acts.{Operates}
-use Rattle.pas_trace.specs.declared.plan.What.{What}
-use Rattle.pas_trace.specs.declared.plan.What.TheVariants.{Tick, Pass, Idle, Flush, Stop}
-use Rattle.pas_check.specs.{Begins.begun_what, Begins.flushing, States.Stand}
-use Rattle.pas_check.proofs.Actings.{asks_taken, nothing_begun}
+use Rattle.pas_trace.specs.{Acts.Operates, declared.plan.What.{What, TheVariants.{Tick, Pass, Idle, Flush, Stop}}}
+use Rattle.pas_check.{specs.{Begins.{begun_what, flushing}, States.Stand}, proofs.Actings.{asks_taken, nothing_begun}}
 use Rattle.pas_check.proofs.acting.operate_plain.Goals as goal
 
 -- an operation of the scavenger

@@ -1,6 +1,5 @@
 use Rattle.std.proofs.Common.{[], ap, arith, ◌∙◌}
-use Rattle.pas_check.specs.Calls.{after_request}
-use Rattle.pas_check.proofs.Actings.{after_none, after_plain, after_some, fits_wanted, served, served_amiss, served_logged}
+use Rattle.pas_check.{specs.Calls.after_request, proofs.Actings.{after_none, after_plain, after_some, fits_wanted, served, served_amiss, served_logged}}
 use Rattle.pas_check.proofs.acting.serve.Goals as goal
 
 pub returns-in_default-clause-taken : goal.returns-in_default-clause-taken

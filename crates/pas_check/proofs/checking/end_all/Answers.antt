@@ -1,7 +1,6 @@
 use Rattle.std.proofs.Common.{◌+◌, refl, arith}
 use Rattle.pas_trace.specs.Acts.{Ends}
-use Rattle.pas_check.specs.Checks.{threads_in}
-use Rattle.pas_check.proofs.Actings.{nothing_taken, number_taken, numbers_taken, sized_on, stopped}
+use Rattle.pas_check.{specs.Checks.threads_in, proofs.Actings.{nothing_taken, number_taken, numbers_taken, sized_on, stopped}}
 use Rattle.pas_check.proofs.checking.end_all.Goals as goal
 
 pub loop-index-init : goal.loop-index-init

@@ -1,7 +1,7 @@
 -- the keepers so far lowered their guards
 use Rattle.std.proofs.Common.{◌+◌, ◌-◌, ◌≤◌, map, true}
 use Rattle.pas_trace.specs.Acts.{Lowers, numbers_from}
-use Rattle.pas_check.specs.{Checks.IsSizedAs, Checks.TakenTo, Checks.threads_in, Leading.IsWithin}
+use Rattle.pas_check.specs.{Checks.{IsSizedAs, TakenTo, threads_in}, Leading.IsWithin}
 use Rattle.pas_check.proofs.checking.lower_all.Given as goal
 
 abbrev pub invariant-loop-index : goal.invariant-loop-index

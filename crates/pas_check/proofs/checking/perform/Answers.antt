@@ -1,9 +1,7 @@
 use Rattle.std.proofs.Common.{ℕ, not, ap, sym, ◌∙◌}
 use Rattle.pas_bits.specs.Masks.{is_set}
-use Rattle.pas_trace.specs.Acts.{threads_where}
-use Rattle.pas_trace.specs.declared.plan.{Chore.Chore, Work.Work}
-use Rattle.pas_check.specs.Checks.{threads_in}
-use Rattle.pas_check.proofs.Actings.{act_taken, pass_taken, chore_taken, operation_taken}
+use Rattle.pas_trace.specs.{Acts.threads_where, declared.plan.{Chore.Chore, Work.Work}}
+use Rattle.pas_check.{specs.Checks.threads_in, proofs.Actings.{act_taken, pass_taken, chore_taken, operation_taken}}
 use Rattle.pas_check.proofs.checking.perform.Goals as goal
 
 pub returns-in-Own-clause-taken : goal.returns-in-Own-clause-taken

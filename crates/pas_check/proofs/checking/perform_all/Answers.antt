@@ -1,11 +1,10 @@
 use Rattle.std.proofs.Common.{ap, get_or, not, subst, sym, drop_of_length-le}
 use Rattle.pas_bits.specs.Masks.{is_set}
-use Rattle.pas_profile.specs.Profiles.{IsValid}
-use Rattle.pas_profile.specs.declared.profile.Profile.{Profile}
+use Rattle.pas_profile.specs.{Profiles.IsValid, declared.profile.Profile.Profile}
 use Rattle.pas_machine.specs.Machines.{profile_of}
 use Rattle.pas_trace.specs.Acts.{acts_of_op, threads_where}
-use Rattle.pas_check.specs.Tables.{names_held}
-use Rattle.pas_check.proofs.Actings.{sized_as_before, sized_on, stopped, taken_for, then_taken, acts_at, one_planned_as, ops_there, past}
+use Rattle.pas_check.{specs.Tables.names_held, proofs.Actings.{sized_as_before, sized_on, stopped, taken_for, then_taken, acts_at, one_planned_as, ops_there}}
+use Rattle.pas_check.proofs.Actings.{past}
 use Rattle.pas_check.proofs.checking.perform_all.Goals as goal
 
 pub perform-requires-clause-valid : goal.perform-requires-clause-valid

@@ -3,8 +3,7 @@ use Rattle.std.proofs.Common.{drop, not, true}
 use Rattle.pas_bits.specs.Masks.{is_set}
 use Rattle.pas_machine.specs.Machines.{profile_of}
 use Rattle.pas_trace.specs.Acts.{acts_of_ops, threads_where}
-use Rattle.pas_check.specs.Checks.{ArePlanned, IsSizedAs, TakenTo, threads_in}
-use Rattle.pas_check.specs.{Leading.IsWithin, Tables.names_held}
+use Rattle.pas_check.specs.{Checks.{ArePlanned, IsSizedAs, TakenTo, threads_in}, Leading.IsWithin, Tables.names_held}
 use Rattle.pas_check.proofs.checking.perform_all.Given as goal
 
 abbrev pub invariant-loop-op : goal.invariant-loop-op

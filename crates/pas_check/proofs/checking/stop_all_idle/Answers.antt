@@ -1,9 +1,7 @@
 use Rattle.std.proofs.Common.{[], not, refl, arith, append-nil}
 use Rattle.pas_bits.specs.Masks.{is_set}
-use Rattle.pas_trace.specs.Acts.{StopsIdle}
-use Rattle.pas_check.specs.Checks.{threads_in}
-use Rattle.pas_check.proofs.Actings.{ahead, idly_taken, nothing_taken, sized_on, stopped, taken_on, then_taken}
-use Rattle.pas_trace.proofs.ThreadsInOrder.{next_there, none_left}
+use Rattle.pas_trace.{specs.Acts.StopsIdle, proofs.ThreadsInOrder.{next_there, none_left}}
+use Rattle.pas_check.{specs.Checks.threads_in, proofs.Actings.{ahead, idly_taken, nothing_taken, sized_on, stopped, taken_on, then_taken}}
 use Rattle.pas_check.proofs.checking.stop_all_idle.Goals as goal
 
 pub loop-index-init : goal.loop-index-init

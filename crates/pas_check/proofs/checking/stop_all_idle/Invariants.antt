@@ -1,9 +1,8 @@
 -- the idle threads so far were stopped, where they were idle for so many epochs
 use Rattle.std.proofs.Common.{◌∷◌, [], not, true}
 use Rattle.pas_bits.specs.Masks.{is_set}
-use Rattle.pas_trace.specs.Acts.{ReadsEpoch, StopsIdle, idle_stops, threads_where}
-use Rattle.pas_check.specs.{Checks.IsSizedAs, Checks.TakenTo, Checks.threads_in, Leading.IsWithin}
-use Rattle.pas_trace.proofs.ThreadsInOrder.{acts_there}
+use Rattle.pas_trace.{specs.Acts.{ReadsEpoch, StopsIdle, idle_stops, threads_where}, proofs.ThreadsInOrder.acts_there}
+use Rattle.pas_check.specs.{Checks.{IsSizedAs, TakenTo, threads_in}, Leading.IsWithin}
 use Rattle.pas_check.proofs.checking.stop_all_idle.Given as goal
 
 abbrev pub invariant-loop-index : goal.invariant-loop-index

@@ -1,11 +1,9 @@
 use Rattle.std.proofs.Common.{◌≡◌, ◌+◌, List, get_or, ap, subst, sym, ◌∙◌, drop_of_length-le, arith}
-use Rattle.pas_profile.specs.Profiles.{IsValid}
-use Rattle.pas_profile.specs.declared.profile.Profile.{Profile}
+use Rattle.pas_profile.specs.{Profiles.IsValid, declared.profile.Profile.Profile}
 use Rattle.pas_machine.specs.Machines.{profile_of}
-use Rattle.pas_trace.specs.Plans.{ops_of}
-use Rattle.pas_trace.specs.declared.plan.Op.{Op}
-use Rattle.pas_check.specs.{Checks.ArePlanned, Checks.threads_in, Tables.names_held}
-use Rattle.pas_check.proofs.Actings.{act_taken, sized_as_before, sized_on, stopped, then_taken, phase_at, phase_done, phases_there, planned_as}
+use Rattle.pas_trace.specs.{Plans.ops_of, declared.plan.Op.Op}
+use Rattle.pas_check.{specs.{Checks.{ArePlanned, threads_in}, Tables.names_held}, proofs.Actings.{act_taken, sized_as_before, sized_on, stopped, then_taken}}
+use Rattle.pas_check.proofs.Actings.{phase_at, phase_done, phases_there, planned_as}
 use Rattle.pas_check.proofs.checking.take_later.Goals as goal
 
 pub returns-then-not-mark_phase-clause-taken : goal.returns-then-not-mark_phase-clause-taken

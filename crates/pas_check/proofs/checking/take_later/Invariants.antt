@@ -2,8 +2,7 @@
 use Rattle.std.proofs.Common.{◌≡◌, ℕ, ◌+◌, drop, map, true}
 use Rattle.pas_machine.specs.Machines.{profile_of}
 use Rattle.pas_trace.specs.{Acts.acts_from, EveryPlan.all_ops, Plans.ops_of}
-use Rattle.pas_check.specs.Checks.{ArePlanned, IsSizedAs, TakenTo, threads_in}
-use Rattle.pas_check.specs.{Leading.IsWithin, Tables.names_held}
+use Rattle.pas_check.specs.{Checks.{ArePlanned, IsSizedAs, TakenTo, threads_in}, Leading.IsWithin, Tables.names_held}
 use Rattle.pas_check.proofs.checking.take_later.Given as goal
 
 abbrev pub invariant-loop-phase : goal.invariant-loop-phase

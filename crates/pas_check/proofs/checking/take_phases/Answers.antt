@@ -1,10 +1,8 @@
 use Rattle.std.proofs.Common.{◌<◌, List, drop, length, map, ap, subst, sym, ◌∙◌, arith}
 use Rattle.pas_profile.specs.declared.profile.Profile.{Profile}
 use Rattle.pas_machine.specs.Machines.{profile_of}
-use Rattle.pas_trace.specs.{EveryPlan.all_ops, Plans.ops_of}
-use Rattle.pas_trace.specs.declared.plan.{Op.Op, Phase.Phase}
-use Rattle.pas_check.specs.{Checks.ArePlanned, Tables.names_held}
-use Rattle.pas_check.proofs.Actings.{first_amiss, first_on, phases_there, planned_as, phases_behind_first}
+use Rattle.pas_trace.specs.{EveryPlan.all_ops, Plans.ops_of, declared.plan.{Op.Op, Phase.Phase}}
+use Rattle.pas_check.{specs.{Checks.ArePlanned, Tables.names_held}, proofs.Actings.{first_amiss, first_on, phases_there, planned_as, phases_behind_first}}
 use Rattle.pas_check.proofs.checking.take_phases.Goals as goal
 
 pub take_phase-requires-clause-planned : goal.take_phase-requires-clause-planned

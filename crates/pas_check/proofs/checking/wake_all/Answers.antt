@@ -1,11 +1,8 @@
 use Rattle.std.proofs.Common.{◌≡◌, ◌<◌, ◌+◌, true, false, [], refl, sym, ◌∙◌, arith, append-nil}
 use Rattle.pas_bits.specs.Masks.{is_set}
-use Rattle.pas_trace.specs.Acts.{Wakes}
-use Rattle.pas_check.specs.Checks.{threads_in}
-use Rattle.pas_check.proofs.Actings.{act_taken, nothing_taken, sized_on, then_taken}
-use Rattle.pas_trace.proofs.ThreadsInOrder.{next_chosen, next_passed, none_left}
+use Rattle.pas_trace.{specs.Acts.Wakes, proofs.ThreadsInOrder.{next_chosen, next_passed, none_left}}
+use Rattle.pas_check.{specs.Checks.threads_in, proofs.{Actings.{act_taken, nothing_taken, sized_on, then_taken}, checking.wake_all.Goals.{then-get, else-get}}}
 use Rattle.pas_check.proofs.checking.wake_all.Goals as goal
-use Rattle.pas_check.proofs.checking.wake_all.Goals.{then-get, else-get}
 
 pub loop-index-init : goal.loop-index-init
 loop-index-init c = record {

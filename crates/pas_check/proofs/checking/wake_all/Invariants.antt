@@ -1,10 +1,8 @@
 -- the threads so far woke where they are awake
 use Rattle.std.proofs.Common.{ℕ, List, [], true, map}
 use Rattle.pas_bits.specs.Masks.{is_set}
-use Rattle.pas_trace.specs.Acts.{Wakes, threads_where}
-use Rattle.pas_check.specs.{Checks.IsSizedAs, Checks.TakenTo, Checks.threads_in, Leading.IsWithin}
-use Rattle.pas_check.specs.declared.cutting.Cursor.{Cursor}
-use Rattle.pas_trace.proofs.ThreadsInOrder.{acts_there}
+use Rattle.pas_trace.{specs.Acts.{Wakes, threads_where}, proofs.ThreadsInOrder.acts_there}
+use Rattle.pas_check.specs.{Checks.{IsSizedAs, TakenTo, threads_in}, Leading.IsWithin, declared.cutting.Cursor.Cursor}
 use Rattle.pas_check.proofs.checking.wake_all.Given as goal
 
 abbrev pub invariant-loop-index : goal.invariant-loop-index

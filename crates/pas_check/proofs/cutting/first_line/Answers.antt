@@ -1,7 +1,5 @@
-use Rattle.std.proofs.Common.{◌≡◌, ◌<◌, ◌+◌, length, take, get_or, true, ap, ◌∙◌, arith, eqb-true, take_all}
-use Rattle.std.proofs.lemmas.List.{take_more, drop_all}
-use Rattle.pas_check.specs.Lines.{is_line}
-use Rattle.pas_check.proofs.Cuts.{front_before, front_ends, all_front, cut_first}
+use Rattle.std.proofs.{Common.{◌≡◌, ◌<◌, ◌+◌, length, take, get_or, true, ap, ◌∙◌, arith, eqb-true, take_all}, lemmas.List.{take_more, drop_all}}
+use Rattle.pas_check.{specs.Lines.is_line, proofs.Cuts.{front_before, front_ends, all_front, cut_first}}
 use Rattle.pas_check.proofs.cutting.first_line.Goals as goal
 
 pub returns-in-Some-clause-some : goal.returns-in-Some-clause-some

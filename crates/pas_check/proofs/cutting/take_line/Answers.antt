@@ -1,6 +1,5 @@
-use Rattle.std.proofs.Common.{eqb, drop, ap, sym, ◌∙◌, arith}
+use Rattle.std.proofs.{Common.{eqb, drop, ap, sym, ◌∙◌, arith}, lemmas.{Bool.{false≢true, Decides.Decides-eqb}, List.take_rest, Slice.Eq.starts_is}}
 use Rattle.std.specs.List.{concat, starts_with}
-use Rattle.std.proofs.lemmas.{Bool.false≢true, Bool.Decides.Decides-eqb, List.take_rest, Slice.Eq.starts_is}
 use Rattle.pas_check.proofs.Cuts.{cut_here, goes_on_with, line_some}
 use Rattle.pas_check.proofs.cutting.take_line.Goals as goal
 

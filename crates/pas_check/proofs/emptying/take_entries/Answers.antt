@@ -1,5 +1,4 @@
-use Rattle.std.proofs.Common.{refl, ◌∙◌}
-use Rattle.std.proofs.lemmas.List.{drop_more}
+use Rattle.std.proofs.{Common.{refl, ◌∙◌}, lemmas.List.drop_more}
 use Rattle.pas_profile.specs.declared.entry.Entry.{Entry}
 use Rattle.pas_check.proofs.Stretches.{entries_amiss, entries_begin, entries_lack, entries_more}
 use Rattle.pas_check.proofs.emptying.take_entries.Goals as goal

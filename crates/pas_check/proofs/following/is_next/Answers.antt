@@ -1,7 +1,6 @@
 use Rattle.std.proofs.Common.{◌++◌, ap, ◌∙◌}
 use Rattle.pas_records.specs.Lines.{line_of}
-use Rattle.pas_check.specs.Lines.{is_line}
-use Rattle.pas_check.proofs.Cuts.{record_line}
+use Rattle.pas_check.{specs.Lines.is_line, proofs.Cuts.record_line}
 use Rattle.pas_check.proofs.following.is_next.Goals as goal
 
 pub take_line-requires-clause-line : goal.take_line-requires-clause-line

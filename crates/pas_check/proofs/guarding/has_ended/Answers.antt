@@ -1,9 +1,7 @@
 use Rattle.std.proofs.Common.{◌≡◌, ◌*◌, ◌/◌, nat_lt, ap, sym, ◌∙◌, arith, le-ltb}
-use Rattle.pas_profile.specs.{Blocks.address_of, Entries.entry_of}
-use Rattle.pas_profile.specs.declared.name.Block.{Block}
-use Rattle.pas_machine.specs.{Machines.profile_of, State.gives_in, State.live_in}
-use Rattle.pas_check.proofs.OneNext.{block_there, counts, gone, nothing_there}
-use Rattle.pas_check.proofs.Stretches.{no_ends}
+use Rattle.pas_profile.specs.{Blocks.address_of, Entries.entry_of, declared.name.Block.Block}
+use Rattle.pas_machine.specs.{Machines.profile_of, State.{gives_in, live_in}}
+use Rattle.pas_check.proofs.{OneNext.{block_there, counts, gone, nothing_there}, Stretches.no_ends}
 use Rattle.pas_check.proofs.guarding.has_ended.Goals as goal
 
 pub returns-then-not-is_place : goal.returns-then-not-is_place

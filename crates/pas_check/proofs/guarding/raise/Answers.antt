@@ -1,6 +1,5 @@
 use Rattle.std.proofs.Common.{◌∷◌, [], ap, ◌++◌, ◌∙◌}
-use Rattle.pas_profile.specs.Guards.{raised_by}
-use Rattle.pas_profile.specs.declared.guard.Guard.{Guard}
+use Rattle.pas_profile.specs.{Guards.raised_by, declared.guard.Guard.Guard}
 use Rattle.pas_check.proofs.Stretches.{not_raised, raised}
 use Rattle.pas_check.proofs.guarding.raise.Goals as goal
 

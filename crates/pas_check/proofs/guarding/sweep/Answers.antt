@@ -1,5 +1,4 @@
-use Rattle.std.proofs.Common.{rules}
-use Rattle.std.proofs.lemmas.Fn.{filter_same}
+use Rattle.std.proofs.{Common.rules, lemmas.Fn.filter_same}
 use Rattle.pas_check.proofs.Stretches.{swept_amiss, swept_on}
 use Rattle.pas_check.proofs.guarding.sweep.Goals as goal
 

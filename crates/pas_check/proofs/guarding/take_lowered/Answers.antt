@@ -1,10 +1,7 @@
-use Rattle.std.proofs.Common.{drop_of_length-le}
-use Rattle.std.proofs.lemmas.List.{drop_more}
-use Rattle.pas_profile.specs.Guards.{raised_by}
-use Rattle.pas_profile.specs.declared.guard.Raised.{Raised}
-use Rattle.pas_check.proofs.{Stretches.sweep_begins, Stretches.sweep_lowers, Stretches.sweep_stays}
-use Rattle.pas_check.proofs.{guarding.take_lowered.Goals.else-goes_down-via-then-goes_down+else-not-take_record}
-use Rattle.pas_check.proofs.{guarding.take_lowered.Goals.else-goes_down-via-else-goes_down}
+use Rattle.std.proofs.{Common.drop_of_length-le, lemmas.List.drop_more}
+use Rattle.pas_profile.specs.{Guards.raised_by, declared.guard.Raised.Raised}
+use Rattle.pas_check.proofs.Stretches.{sweep_begins, sweep_lowers, sweep_stays}
+use Rattle.pas_check.proofs.guarding.take_lowered.Goals.{else-goes_down-via-then-goes_down+else-not-take_record, else-goes_down-via-else-goes_down}
 use Rattle.pas_check.proofs.guarding.take_lowered.Goals as goal
 
 abbrev nobody : Raised

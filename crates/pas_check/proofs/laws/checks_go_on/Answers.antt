@@ -1,5 +1,4 @@
-use Rattle.pas_check.proofs.Leads.{at_first, by_line, by_none, refused, ended_whole, ended_early}
-use Rattle.pas_check.proofs.ActsOfPlans.{begun_alike}
+use Rattle.pas_check.proofs.{Leads.{at_first, by_line, by_none, refused, ended_whole, ended_early}, ActsOfPlans.begun_alike}
 use Rattle.pas_check.proofs.laws.checks_go_on.Goals as goal
 
 pub returns-clause-first : goal.returns-clause-first

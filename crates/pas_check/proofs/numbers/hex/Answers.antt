@@ -1,5 +1,4 @@
-use Rattle.std.proofs.Common.{◌≡◌, ◌<◌, ◌+◌, ◌-◌, ◌%◌, drop, get_or, arith}
-use Rattle.std.proofs.lemmas.List.{drop_more, drop_all}
+use Rattle.std.proofs.{Common.{◌≡◌, ◌<◌, ◌+◌, ◌-◌, ◌%◌, drop, get_or, arith}, lemmas.List.{drop_more, drop_all}}
 use Rattle.pas_trace.specs.Numbers.{hex_value}
 use Rattle.pas_check.proofs.Readings.{hex_bound, hex_room, hex_most, hex_more, hex_stops}
 use Rattle.pas_check.proofs.numbers.hex.Goals as goal

@@ -1,5 +1,4 @@
-use Rattle.std.proofs.Common.{arith}
-use Rattle.std.proofs.lemmas.List.{drop_more}
+use Rattle.std.proofs.{Common.arith, lemmas.List.drop_more}
 use Rattle.pas_check.proofs.Readings.{too_large}
 use Rattle.pas_check.proofs.numbers.number.Goals as goal
 

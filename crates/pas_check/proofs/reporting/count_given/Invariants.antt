@@ -1,7 +1,7 @@
 -- the pages so far
 use Rattle.std.proofs.Common.{◌≡◌, ◌*◌, ◌^◌, ◌≤◌, List}
 use Rattle.pas_profile.specs.declared.event.Event.{Event}
-use Rattle.pas_machine.specs.{Machines.StandsFor, State.gives_in, Totals.address_at, Totals.sum_below}
+use Rattle.pas_machine.specs.{Machines.StandsFor, State.gives_in, Totals.{address_at, sum_below}}
 use Rattle.pas_check.proofs.reporting.count_given.Given as goal
 
 abbrev pub invariant-loop-before : goal.invariant-loop-before

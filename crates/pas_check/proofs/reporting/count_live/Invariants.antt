@@ -2,7 +2,7 @@
 use Rattle.std.proofs.Common.{◌≡◌, ◌*◌, ◌^◌, ◌≤◌, List}
 use Rattle.pas_bits.specs.Bits.{count_below}
 use Rattle.pas_profile.specs.declared.event.Event.{Event}
-use Rattle.pas_machine.specs.{Machines.StandsFor, State.live_in, Totals.address_at, Totals.has_block}
+use Rattle.pas_machine.specs.{Machines.StandsFor, State.live_in, Totals.{address_at, has_block}}
 use Rattle.pas_check.proofs.reporting.count_live.Given as goal
 
 abbrev pub invariant-loop-before : goal.invariant-loop-before

@@ -2,7 +2,7 @@
 use Rattle.std.proofs.Common.{◌≡◌, ◌≤◌, List}
 use Rattle.pas_bits.specs.Bits.{count_below}
 use Rattle.pas_profile.specs.declared.event.Event.{Event}
-use Rattle.pas_machine.specs.{Machines.StandsFor, State.backed_in, State.deed_in, Totals.has_deed, Totals.page_at}
+use Rattle.pas_machine.specs.{Machines.StandsFor, State.{backed_in, deed_in}, Totals.{has_deed, page_at}}
 use Rattle.pas_check.proofs.reporting.count_pages.Given as goal
 
 abbrev pub invariant-loop-before : goal.invariant-loop-before

@@ -1,9 +1,8 @@
 use Rattle.std.proofs.Common.{◌≡◌, ℕ, ◌+◌, ◌-◌, ◌++◌, List, refl, ap, subst, ◌∙◌, arith}
 use Rattle.pas_profile.specs.declared.profile.Profile.{Profile}
 use Rattle.pas_machine.specs.{Machines.profile_of, State.deed_in}
-use Rattle.pas_check.specs.{Begins.page_due, Leading.Leads, States.Due, States.with_due}
-use Rattle.pas_check.proofs.Leads.{leads_fails, leads_nowhere, leads_on}
-use Rattle.pas_check.proofs.Pages.{pages_are, pages_from, pages_last, pages_next}
+use Rattle.pas_check.{specs.{Begins.page_due, Leading.Leads, States.{Due, with_due}}, proofs.{Leads.{leads_fails, leads_nowhere, leads_on}, Pages.pages_are}}
+use Rattle.pas_check.proofs.Pages.{pages_from, pages_last, pages_next}
 use Rattle.pas_check.proofs.reporting.take_pages.Goals as goal
 
 pub loop-page-init : goal.loop-page-init

@@ -1,8 +1,7 @@
 -- the pages so far were taken
 use Rattle.std.proofs.Common.{◌≡◌, ◌+◌, ◌-◌, ◌++◌, List}
 use Rattle.pas_machine.specs.Machines.{profile_of, StandsFor}
-use Rattle.pas_check.specs.{Begins.pages_due, Leading.IsWithin, Leading.Leads, States.Due, States.Stand, States.with_due}
-use Rattle.pas_check.proofs.Pages.{pages_from}
+use Rattle.pas_check.{specs.{Begins.pages_due, Leading.{IsWithin, Leads}, States.{Due, Stand, with_due}}, proofs.Pages.pages_from}
 use Rattle.pas_check.proofs.reporting.take_pages.Given as goal
 
 abbrev pub invariant-loop-page : goal.invariant-loop-page

@@ -1,7 +1,6 @@
 use Rattle.std.proofs.Common.{◌++◌, [], ◌∷◌, false, refl}
 use Rattle.pas_machine.specs.Machines.{profile_of}
-use Rattle.pas_check.specs.{Begins.pages_due, States.Totals, States.with_due}
-use Rattle.pas_check.proofs.Leads.{led_on}
+use Rattle.pas_check.{specs.{Begins.pages_due, States.{Totals, with_due}}, proofs.Leads.led_on}
 use Rattle.pas_check.proofs.reporting.take_report.Goals as goal
 
 pub returns-then-not-take_head-clause-led : goal.returns-then-not-take_head-clause-led

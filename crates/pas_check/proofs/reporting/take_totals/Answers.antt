@@ -1,8 +1,7 @@
 use Rattle.std.proofs.Common.{ap, ◌∙◌}
 use Rattle.pas_machine.specs.Machines.{profile_of}
 use Rattle.pas_report.specs.Totals.{totals_text}
-use Rattle.pas_check.specs.Lines.{is_line}
-use Rattle.pas_check.proofs.{Cuts.totals_end, Pages.totals_led}
+use Rattle.pas_check.{specs.Lines.is_line, proofs.{Cuts.totals_end, Pages.totals_led}}
 use Rattle.pas_check.proofs.reporting.take_totals.Goals as goal
 
 pub take_line-requires-clause-line : goal.take_line-requires-clause-line

@@ -1,7 +1,5 @@
-use Rattle.std.proofs.Common.{◌≡◌, ◌+◌, ◌-◌, ◌≤◌, ◌∙◌, length, take, drop, sym, ap, false, arith, length-drop}
-use Rattle.std.proofs.lemmas.List.{take_rest}
-use Rattle.pas_check.specs.Inputs.{is_mark}
-use Rattle.pas_check.proofs.Pages.{past_mark, past_line, same_rest}
+use Rattle.std.proofs.{Common.{◌≡◌, ◌+◌, ◌-◌, ◌≤◌, ◌∙◌, length, take, drop, sym, ap, false, arith, length-drop}, lemmas.List.take_rest}
+use Rattle.pas_check.{specs.Inputs.is_mark, proofs.Pages.{past_mark, past_line, same_rest}}
 use Rattle.pas_check.proofs.splitting.split.Goals as goal
 
 pub returns-then-is_mark_line-clause-transcript : goal.returns-then-is_mark_line-clause-transcript

@@ -1,13 +1,10 @@
 use Rattle.std.proofs.Common.{◌≡◌, ◌≤◌, ◌^◌, List, [], length, ap, sym, arith}
 use Rattle.pas_profile.specs.declared.profile.Profile.{Profile}
 use Rattle.pas_machine.specs.Machines.{profile_of}
-use Rattle.pas_trace.specs.Acts.{keepers_of}
-use Rattle.pas_trace.specs.declared.plan.Phase.{Phase}
-use Rattle.pas_trace.proofs.{EveryPlan.every_plan, Keepers.keepers_few}
-use Rattle.pas_check.specs.{Begins.report_due, Checks.IsSoFar, States.at_first}
-use Rattle.pas_check.proofs.Actings.{acts_amiss, acts_on, ended_well, goes_on, known, opening_within, plan_few, planned_there, report_amiss, reported}
+use Rattle.pas_trace.{specs.{Acts.keepers_of, declared.plan.Phase.Phase}, proofs.{EveryPlan.every_plan, Keepers.keepers_few}}
+use Rattle.pas_check.{specs.{Begins.report_due, Checks.IsSoFar, States.at_first}, proofs.Actings.{acts_amiss, acts_on, ended_well, goes_on, known}}
+use Rattle.pas_check.proofs.{Actings.{opening_within, plan_few, planned_there, report_amiss, reported}, whole.check.Goals.Else-not-take_acts}
 use Rattle.pas_check.proofs.whole.check.Goals as goal
-use Rattle.pas_check.proofs.whole.check.Goals.{Else-not-take_acts}
 
 pub try_new-requires : goal.try_new-requires
 try_new-requires c = (every_plan c.requires.plan.2).valid

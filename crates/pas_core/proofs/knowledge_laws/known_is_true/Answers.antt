@@ -1,6 +1,6 @@
 use Rattle.std.proofs.Common.{sym}
 use Rattle.pas_profile.specs.declared.word.Word.{Word}
-use Rattle.pas_steps.specs.{Views.known_deed, Lists.part, Lists.word_after}
+use Rattle.pas_steps.specs.{Views.known_deed, Lists.{part, word_after}}
 use Rattle.pas_core.proofs.{Deeds.known_is, Rights.deeds_known, Lives.life_is_known}
 use Rattle.pas_core.proofs.knowledge_laws.known_is_true.Goals as goal
 

@@ -1,7 +1,6 @@
 use Rattle.std.proofs.Common.{◌≡◌, List, [], ◌∷◌, ◌++◌, length, ap, ◌∙◌, arith}
 use Rattle.pas_steps.proofs.Nothing.{calls_rest, can_go_on}
-use Rattle.pas_profile.specs.Entries.{entry_of}
-use Rattle.pas_profile.specs.declared.entry.Entry.{Entry}
+use Rattle.pas_profile.specs.{Entries.entry_of, declared.entry.Entry.Entry}
 use Rattle.pas_free_log.proofs.AllEntries.{ends_name}
 use Rattle.pas_free_log.proofs.flushing.end_one.Goals as goal
 

@@ -1,12 +1,10 @@
 use Rattle.std.proofs.Common.{◌≡◌, [], ◌∷◌, ◌++◌, get_or, refl, sym, ◌∙◌, subst, arith, append_assoc, take_all}
-use Rattle.pas_profile.specs.declared.{entry.Entry.Entry, word.Word.Word}
-use Rattle.pas_steps.specs.declared.step.Step.TheVariants.{Look}
-use Rattle.pas_steps.specs.{Views.View, Views.epoch_of, Events.events_by, Calls.nothing, Calls.Does, Calls.Calls, Kinds.LookEpoch, Clear.IsClear}
-use Rattle.pas_steps.proofs.{Apart.only_both, Calls.does_none, Calls.does_then, SpareRoom.spare_falls}
-use Rattle.pas_steps.proofs.Called.{call_none, call_idly, call_then, next_call}
-use Rattle.pas_free_log.specs.{Frames.ending, Flushes.Settled, Flushes.event_for}
-use Rattle.pas_profile.specs.Entries.{entry_of}
-use Rattle.pas_free_log.proofs.AllEntries.{events_more, stamps_more, entries_more, noted_more, noted_none, ranges_more, may_end, flushed}
+use Rattle.pas_profile.specs.{declared.{entry.Entry.Entry, word.Word.Word}, Entries.entry_of}
+use Rattle.pas_steps.specs.{declared.step.Step.TheVariants.Look, Views.{View, epoch_of}, Events.events_by, Calls.{nothing, Does, Calls}, Kinds.LookEpoch}
+use Rattle.pas_steps.{specs.Clear.IsClear, proofs.{Apart.only_both, Calls.{does_none, does_then}, SpareRoom.spare_falls, Called.{call_none, call_idly}}}
+use Rattle.pas_steps.proofs.Called.{call_then, next_call}
+use Rattle.pas_free_log.{specs.{Frames.ending, Flushes.{Settled, event_for}}, proofs.AllEntries.{events_more, stamps_more, entries_more, noted_more}}
+use Rattle.pas_free_log.proofs.AllEntries.{noted_none, ranges_more, may_end, flushed}
 use Rattle.pas_free_log.proofs.flushing.flush.Goals as goal
 
 pub loop-entry-init : goal.loop-entry-init

@@ -1,10 +1,8 @@
-use Rattle.std.proofs.Common.{◌≡◌, ℕ, ◌+◌, List, [], ◌∷◌, ◌++◌, take, map, reverse}
-use Rattle.std.specs.List.{flat_map}
+use Rattle.std.{proofs.Common.{◌≡◌, ℕ, ◌+◌, List, [], ◌∷◌, ◌++◌, take, map, reverse}, specs.List.flat_map}
 use Rattle.pas_profile.specs.declared.word.Word.{Word}
-use Rattle.pas_steps.specs.declared.step.{Made.Made, Step.TheVariants.Look}
-use Rattle.pas_steps.specs.{Views.View, Views.epoch_of, Events.events_by, Calls.nothing, Calls.Does, Calls.Calls, Kinds.Only, Desks.made, Clear.IsClear}
-use Rattle.pas_free_log.specs.{Stamps.stamps_by, Frames.ending, Noted.AreRanges}
-use Rattle.pas_free_log.specs.Flushes.{Settled, shown_for, stamps_for, noted_after, EntriesSteps}
+use Rattle.pas_steps.specs.{declared.step.{Made.Made, Step.TheVariants.Look}, Views.{View, epoch_of}, Events.events_by, Calls.{nothing, Does, Calls}}
+use Rattle.pas_steps.specs.{Kinds.Only, Desks.made, Clear.IsClear}
+use Rattle.pas_free_log.specs.{Stamps.stamps_by, Frames.ending, Noted.AreRanges, Flushes.{Settled, shown_for, stamps_for, noted_after, EntriesSteps}}
 use Rattle.pas_free_log.proofs.flushing.flush.Given as goal
 
 -- the entries so far were settled

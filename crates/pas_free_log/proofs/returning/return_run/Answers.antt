@@ -1,7 +1,6 @@
 use Rattle.std.proofs.Common.{◌≡◌, ◌-◌, [], ◌++◌, refl, sym, ◌∙◌, subst, arith}
-use Rattle.pas_steps.specs.Calls.{Does, Calls}
-use Rattle.pas_steps.proofs.Called.{call_none, call_then, next_call}
-use Rattle.pas_free_log.specs.{Conditions.IsRunOnPage, Frames.run_freed, Frames.PutsBack, Stamps.page_count, Returns.MayReturn, Returns.PagesSteps}
+use Rattle.pas_steps.{specs.Calls.{Does, Calls}, proofs.Called.{call_none, call_then, next_call}}
+use Rattle.pas_free_log.specs.{Conditions.IsRunOnPage, Frames.{run_freed, PutsBack}, Stamps.page_count, Returns.{MayReturn, PagesSteps}}
 use Rattle.pas_free_log.proofs.OneEntry.{back_none, none_freed, next_is, back_more, more_freed, order_more, may_more, on_page}
 use Rattle.pas_free_log.proofs.returning.return_run.Goals as goal
 

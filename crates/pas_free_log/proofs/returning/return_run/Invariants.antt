@@ -1,8 +1,6 @@
 use Rattle.std.proofs.Common.{◌≡◌, ◌-◌, ◌+◌, ◌≤◌, List}
-use Rattle.pas_steps.specs.declared.step.Made.{Made}
-use Rattle.pas_steps.specs.Calls.{Does, Calls}
-use Rattle.pas_free_log.specs.{Stamps.page_count, Frames.run_freed, Frames.PutsBack, Returns.MayReturn, Returns.PagesSteps}
-use Rattle.pas_free_log.proofs.OneEntry.{IsBorder}
+use Rattle.pas_steps.specs.{declared.step.Made.Made, Calls.{Does, Calls}}
+use Rattle.pas_free_log.{specs.{Stamps.page_count, Frames.{run_freed, PutsBack}, Returns.{MayReturn, PagesSteps}}, proofs.OneEntry.IsBorder}
 use Rattle.pas_free_log.proofs.returning.return_run.Given as goal
 
 -- the run up to the grain `from` was put back

@@ -1,5 +1,5 @@
 use Rattle.std.proofs.Common.{◌≡◌, ◌+◌, ◌*◌, ◌≤◌, ◌++◌, vec_len, vec_capacity}
-use Rattle.pas_generate.specs.{Operations.Stands, Operations.state_of, Lines.header, Traces.lines_of, Traces.state_after}
+use Rattle.pas_generate.specs.{Operations.{Stands, state_of}, Lines.header, Traces.{lines_of, state_after}}
 use Rattle.pas_generate.proofs.trace.trace_of.Given as goal
 
 abbrev pub invariant-loop-done : goal.invariant-loop-done

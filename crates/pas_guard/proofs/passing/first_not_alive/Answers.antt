@@ -1,5 +1,4 @@
-use Rattle.std.proofs.Common.{◌≡◌, ◌∙◌, inl, inr, sym, arith, subst}
-use Rattle.std.proofs.lemmas.Bool.{cases_lt}
+use Rattle.std.proofs.{Common.{◌≡◌, ◌∙◌, inl, inr, sym, arith, subst}, lemmas.Bool.cases_lt}
 use Rattle.pas_steps.specs.Told.{TellsWord}
 use Rattle.pas_guard.specs.Passing.{guard_at, KnowsAlive}
 use Rattle.pas_guard.proofs.passing.first_not_alive.Goals as goal

@@ -1,6 +1,5 @@
 use Rattle.std.proofs.Common.{◌≡◌, ◌+◌, ◌-◌, ◌<◌, arith, subst, refl}
-use Rattle.pas_guard.specs.Passing.{PassesAlive}
-use Rattle.pas_guard.proofs.PassedGuards.{alive_passed, passes_no_guard}
+use Rattle.pas_guard.{specs.Passing.PassesAlive, proofs.PassedGuards.{alive_passed, passes_no_guard}}
 use Rattle.pas_guard.proofs.passing.pass_alive.Goals as goal
 
 pub returns-then-all-clause-passes : goal.returns-then-all-clause-passes

@@ -1,5 +1,5 @@
 use Rattle.std.proofs.Common.{rules, ◌-◌, Some, length, ap, ◌∙◌, arith, length-drop, drop-drop}
-use Rattle.pas_io.proofs.{Reaching.run_on, Telling.filled_more, Telling.left_more}
+use Rattle.pas_io.proofs.{Reaching.run_on, Telling.{filled_more, left_more}}
 use Rattle.pas_io.proofs.pieces.fill.Goals as goal
 
 pub loop-taken-preserved : goal.loop-taken-preserved

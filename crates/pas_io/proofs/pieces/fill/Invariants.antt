@@ -1,6 +1,5 @@
 use Rattle.std.proofs.Common.{◌≡◌, ◌≤◌, ◌-◌, ℕ, List, length}
-use Rattle.pas_io.specs.Inputs.{HasRead}
-use Rattle.pas_io.specs.declared.reach.Reach.TheVariants.{Within}
+use Rattle.pas_io.specs.{Inputs.HasRead, declared.reach.Reach.TheVariants.Within}
 use Rattle.pas_io.proofs.pieces.fill.Given as goal
 
 abbrev pub invariant-loop-taken : goal.invariant-loop-taken

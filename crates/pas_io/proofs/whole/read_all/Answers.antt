@@ -1,7 +1,7 @@
 use Rattle.std.proofs.Common.{rules, ◌≡◌, ℕ, List, Some, length, ◌∙◌, arith}
-use Rattle.pas_io.proofs.Telling.{all_of_it, has_read_grown, read_out, whole_input}
+use Rattle.pas_io.proofs.{Telling.{all_of_it, has_read_grown, read_out, whole_input}, whole.read_all.Goals.then-loop-taken-test+else-taken-most}
+use Rattle.pas_io.proofs.whole.read_all.Goals.{else-loop-taken-test}
 use Rattle.pas_io.proofs.whole.read_all.Goals as goal
-use Rattle.pas_io.proofs.whole.read_all.Goals.{then-loop-taken-test+else-taken-most, else-loop-taken-test}
 
 pub loop-taken-preserved : goal.loop-taken-preserved
 loop-taken-preserved g c =

@@ -1,6 +1,5 @@
 use Rattle.std.proofs.Common.{◌≡◌, ◌<◌, ◌≤◌, ◌+◌, ◌-◌, ℕ, List, Some, length}
-use Rattle.pas_io.specs.Inputs.{HasRead}
-use Rattle.pas_io.specs.declared.reach.Reach.TheVariants.{Within, AtEnd}
+use Rattle.pas_io.specs.{Inputs.HasRead, declared.reach.Reach.TheVariants.{Within, AtEnd}}
 use Rattle.pas_io.proofs.whole.read_all.Given as goal
 
 -- the bytes so far stand in the buffer's front; they are all where they don't fill it

@@ -1,5 +1,4 @@
-use Rattle.pas_large.proofs.Allocates.{can_give_run, room_to_give_run, allocates, refuses_large}
-use Rattle.pas_large.proofs.Finds.{may_find}
+use Rattle.pas_large.proofs.{Allocates.{can_give_run, room_to_give_run, allocates, refuses_large}, Finds.may_find}
 use Rattle.pas_large.proofs.allocating.alloc_by_scan.Goals as goal
 
 pub give_run-requires-clause-can : goal.give_run-requires-clause-can

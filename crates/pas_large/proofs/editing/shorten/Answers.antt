@@ -1,7 +1,5 @@
-use Rattle.std.proofs.Common.{◌++◌, ◌+◌, take, drop, ap, ◌∙◌, get_or}
-use Rattle.std.proofs.lemmas.List.{get_or_default}
-use Rattle.pas_large.specs.Spans.{left_of}
-use Rattle.pas_large.proofs.Spans.{blank, shortened}
+use Rattle.std.proofs.{Common.{◌++◌, ◌+◌, take, drop, ap, ◌∙◌, get_or}, lemmas.List.get_or_default}
+use Rattle.pas_large.{specs.Spans.left_of, proofs.Spans.{blank, shortened}}
 use Rattle.pas_large.proofs.editing.shorten.Goals as goal
 
 pub returns-then-pages-span : goal.returns-then-pages-span

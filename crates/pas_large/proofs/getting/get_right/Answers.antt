@@ -1,6 +1,5 @@
 use Rattle.std.proofs.Common.{sym, ◌∙◌, false, ◌==◌, subst}
-use Rattle.pas_large.specs.Pages.{GetsPage}
-use Rattle.pas_large.proofs.Pages.{claim_gets, deed_gets, look_gets}
+use Rattle.pas_large.{specs.Pages.GetsPage, proofs.Pages.{claim_gets, deed_gets, look_gets}}
 use Rattle.pas_large.proofs.getting.get_right.Goals as goal
 
 pub returns-then-deed-deed_word-clause-gets : goal.returns-then-deed-deed_word-clause-gets

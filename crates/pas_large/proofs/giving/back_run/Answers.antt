@@ -1,8 +1,6 @@
 use Rattle.std.proofs.Common.{◌+◌, ◌-◌, ◌≤◌, subst, sym, refl, ◌∙◌, arith}
 use Rattle.pas_search.proofs.ForBackEnds.{room_after}
-use Rattle.pas_large.specs.Gives.{BacksRun}
-use Rattle.pas_large.proofs.{Claims.pages_call, Left.backs_few}
-use Rattle.pas_large.proofs.Gives.{backed_none, can_back_next, backed_more, back_events}
+use Rattle.pas_large.{specs.Gives.BacksRun, proofs.{Claims.pages_call, Left.backs_few, Gives.{backed_none, can_back_next, backed_more, back_events}}}
 use Rattle.pas_large.proofs.giving.back_run.Goals as goal
 
 pub loop-page-init : goal.loop-page-init

@@ -1,7 +1,6 @@
 use Rattle.std.proofs.Common.{◌≤◌, ◌+◌, ◌-◌, ◌<◌, sym, subst, arith}
 use Rattle.pas_search.proofs.ForBackEnds.{room_after}
-use Rattle.pas_large.proofs.Gives.{can_give, back_events, can_leave_run, gives_run}
-use Rattle.pas_large.proofs.Left.{backs_few}
+use Rattle.pas_large.proofs.{Gives.{can_give, back_events, can_leave_run, gives_run}, Left.backs_few}
 use Rattle.pas_large.proofs.giving.give_run.Goals as goal
 
 pub give-block-requires-clause-heap : goal.give-block-requires-clause-heap

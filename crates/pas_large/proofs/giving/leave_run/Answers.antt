@@ -1,6 +1,5 @@
 use Rattle.std.proofs.Common.{refl, ◌∙◌, subst, arith}
-use Rattle.pas_large.specs.Gives.{LeavesRun}
-use Rattle.pas_large.proofs.Gives.{left_run_none, can_leave_next, left_run_more}
+use Rattle.pas_large.{specs.Gives.LeavesRun, proofs.Gives.{left_run_none, can_leave_next, left_run_more}}
 use Rattle.pas_large.proofs.giving.leave_run.Goals as goal
 
 pub loop-page-init : goal.loop-page-init

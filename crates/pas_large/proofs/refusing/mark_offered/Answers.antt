@@ -1,9 +1,6 @@
 use Rattle.std.proofs.Common.{◌≡◌, ◌∷◌, ap, ◌∙◌, subst, arith}
-use Rattle.pas_profile.specs.Directories.{number_of}
-use Rattle.pas_profile.specs.declared.{word.Word.Word, profile.Profile.Profile}
-use Rattle.pas_steps.specs.declared.step.{Made.Made, Step.TheVariants.Look}
-use Rattle.pas_steps.specs.{Frames.IsScan, Desks.Makes, Desks.made}
-use Rattle.pas_steps.proofs.Adding.{adds_step}
+use Rattle.pas_profile.specs.{Directories.number_of, declared.{word.Word.Word, profile.Profile.Profile}}
+use Rattle.pas_steps.{specs.{declared.step.{Made.Made, Step.TheVariants.Look}, Frames.IsScan, Desks.{Makes, made}}, proofs.Adding.adds_step}
 use Rattle.pas_large.proofs.Refusals.{marked_more}
 use Rattle.pas_large.proofs.refusing.mark_offered.Goals as goal
 

@@ -1,6 +1,5 @@
 use Rattle.std.proofs.Common.{◌≡◌, List, length, ◌≤◌}
-use Rattle.pas_steps.specs.declared.step.Made.{Made}
-use Rattle.pas_steps.specs.{Desks.AnyView, Desks.Adds, Frames.OnlyScans}
+use Rattle.pas_steps.specs.{declared.step.Made.Made, Desks.{AnyView, Adds}, Frames.OnlyScans}
 use Rattle.pas_large.proofs.Refusals.{MarkedBelow}
 use Rattle.pas_large.proofs.refusing.mark_offered.Given as goal
 

@@ -1,6 +1,5 @@
 use Rattle.std.proofs.Common.{◌≤◌, ◌+◌, refl, ◌∙◌, subst, sym, arith}
-use Rattle.pas_large.specs.Claims.{ClaimsPages}
-use Rattle.pas_large.proofs.Claims.{none_claimed, may_claim, rest_call, room_after, won_turn, lost_turn, broken_turn}
+use Rattle.pas_large.{specs.Claims.ClaimsPages, proofs.Claims.{none_claimed, may_claim, rest_call, room_after, won_turn, lost_turn, broken_turn}}
 use Rattle.pas_large.proofs.running.claim_pages.Goals as goal
 
 pub loop-page-init : goal.loop-page-init

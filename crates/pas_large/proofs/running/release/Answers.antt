@@ -1,7 +1,6 @@
 use Rattle.std.proofs.Common.{refl, ◌∙◌, subst, arith}
 use Rattle.pas_profile.proofs.Codecs.{directory_from_profile}
-use Rattle.pas_large.specs.Claims.{Releases}
-use Rattle.pas_large.proofs.Claims.{left_none, leave_call, left_more}
+use Rattle.pas_large.{specs.Claims.Releases, proofs.Claims.{left_none, leave_call, left_more}}
 use Rattle.pas_large.proofs.running.release.Goals as goal
 
 pub loop-page-init : goal.loop-page-init

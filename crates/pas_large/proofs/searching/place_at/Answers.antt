@@ -1,7 +1,5 @@
-use Rattle.std.proofs.Common.{subst}
-use Rattle.std.proofs.lemmas.List.{get_or_default}
-use Rattle.pas_large.specs.Spans.{IsPlaceOf}
-use Rattle.pas_large.proofs.Spans.{blank, looks_within, looks_more, looked}
+use Rattle.std.proofs.{Common.subst, lemmas.List.get_or_default}
+use Rattle.pas_large.{specs.Spans.IsPlaceOf, proofs.Spans.{blank, looks_within, looks_more, looked}}
 use Rattle.pas_large.proofs.searching.place_at.Goals as goal
 
 pub loop-place-preserved : goal.loop-place-preserved

@@ -1,6 +1,5 @@
 use Rattle.std.proofs.Common.{get_or}
-use Rattle.pas_machine.specs.Places.{blank_page, IsOfHeap}
-use Rattle.pas_machine.proofs.LiveBlocks.{each_more}
+use Rattle.pas_machine.{specs.Places.{blank_page, IsOfHeap}, proofs.LiveBlocks.each_more}
 use Rattle.pas_machine.proofs.looking.lacks_deed.Goals as goal
 
 pub loop-page-preserved : goal.loop-page-preserved

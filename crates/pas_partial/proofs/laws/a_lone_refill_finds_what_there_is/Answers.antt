@@ -1,5 +1,4 @@
-use Rattle.pas_segregated.specs.Takes.{fewer_slots}
-use Rattle.pas_segregated.proofs.GivenUp.{refill_alone}
+use Rattle.pas_segregated.{specs.Takes.fewer_slots, proofs.GivenUp.refill_alone}
 use Rattle.pas_partial.specs.Refills.{shared_slots}
 use Rattle.pas_partial.proofs.laws.a_lone_refill_finds_what_there_is.Goals as goal
 

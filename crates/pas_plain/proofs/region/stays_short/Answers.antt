@@ -1,5 +1,4 @@
-use Rattle.std.proofs.Common.{sym, ◌∙◌, true≢false}
-use Rattle.std.proofs.lemmas.Bool.{MatchBool-at_false, not-true}
+use Rattle.std.proofs.{Common.{sym, ◌∙◌, true≢false}, lemmas.Bool.{MatchBool-at_false, not-true}}
 use Rattle.pas_plain.proofs.ShortOnes.{got_none}
 use Rattle.pas_plain.proofs.region.stays_short.Goals as goal
 

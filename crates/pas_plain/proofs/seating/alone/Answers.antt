@@ -1,6 +1,5 @@
 use Rattle.std.proofs.Common.{◌≡◌, [], length, ap, ◌∙◌, arith}
-use Rattle.pas_plain.specs.Plain.{actor_of, room_of_pass}
-use Rattle.pas_plain.proofs.Desks.{is_last}
+use Rattle.pas_plain.{specs.Plain.{actor_of, room_of_pass}, proofs.Desks.is_last}
 use Rattle.pas_plain.proofs.seating.alone.Goals as goal
 
 pub desk-requires : goal.desk-requires

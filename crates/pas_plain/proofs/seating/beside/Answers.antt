@@ -1,7 +1,6 @@
 use Rattle.std.proofs.Common.{◌≡◌, List, [], ◌∷◌, ◌++◌, ap, sym, ◌∙◌, subst, arith}
 use Rattle.pas_profile.specs.Rooms.{EventRoom}
-use Rattle.pas_plain.specs.Plain.{profile_of, actor_of, room_of_pass, PassStands}
-use Rattle.pas_plain.specs.declared.{pass.PlainPass.PlainPass, region.PlainRegion.PlainRegion}
+use Rattle.pas_plain.specs.{Plain.{profile_of, actor_of, room_of_pass, PassStands}, declared.{pass.PlainPass.PlainPass, region.PlainRegion.PlainRegion}}
 use Rattle.pas_plain.proofs.Desks.{are_two}
 use Rattle.pas_plain.proofs.seating.beside.Goals as goal
 

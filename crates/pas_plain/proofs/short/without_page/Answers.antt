@@ -1,5 +1,4 @@
-use Rattle.std.proofs.Common.{ap, ◌∙◌, bit_and, w64}
-use Rattle.std.specs.Int.{bit_not}
+use Rattle.std.{proofs.Common.{ap, ◌∙◌, bit_and, w64}, specs.Int.bit_not}
 use Rattle.pas_bits.specs.PageVectors.{is_in_word}
 use Rattle.pas_plain.proofs.ShortOnes.{page_cleared}
 use Rattle.pas_plain.proofs.short.without_page.Goals as goal

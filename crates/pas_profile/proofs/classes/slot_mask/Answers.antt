@@ -1,8 +1,6 @@
-use Rattle.std.proofs.Common.{arith, ◌≡◌, ℕ, ◌*◌, ◌/◌, ◌-◌, ◌%◌, ◌^◌, ◌<◌, ◌==◌, Bool, List, [], ◌∷◌, get_or, refl, sym, subst}
-use Rattle.std.proofs.lemmas.Bool.{agree_below, agree_below_at}
-use Rattle.pas_profile.specs.Classes.{IsClass, class_size, is_usable}
-use Rattle.std.specs.Int.{bit_at}
-use Rattle.pas_profile.proofs.Sizes.{class_passes}
+use Rattle.std.proofs.{Common.{arith, ◌≡◌, ℕ, ◌*◌, ◌/◌, ◌-◌, ◌%◌, ◌^◌, ◌<◌, ◌==◌, Bool, List, [], ◌∷◌, get_or, refl, sym, subst}, lemmas.Bool.agree_below}
+use Rattle.std.{proofs.lemmas.Bool.agree_below_at, specs.Int.bit_at}
+use Rattle.pas_profile.{specs.Classes.{IsClass, class_size, is_usable}, proofs.Sizes.class_passes}
 use Rattle.pas_profile.proofs.classes.slot_mask.Goals as goal
 
 -- the grain's bit is set in the mask of a class size

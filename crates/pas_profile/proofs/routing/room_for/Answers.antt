@@ -1,5 +1,5 @@
 use Rattle.std.proofs.Common.{◌∙◌, sym, arith}
-use Rattle.pas_profile.proofs.{Sizes.class_suits, Sizes.class_known, Requests.room_routed}
+use Rattle.pas_profile.proofs.{Sizes.{class_suits, class_known}, Requests.room_routed}
 use Rattle.pas_profile.proofs.routing.room_for.Goals as goal
 
 pub class_size-requires : goal.class_size-requires

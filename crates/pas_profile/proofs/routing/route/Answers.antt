@@ -1,9 +1,7 @@
-use Rattle.std.proofs.Common.{◌%◌, max, sym, ◌∙◌, arith, leb, eqb, le-leb, eq-eqb, ne_eqb}
-use Rattle.std.proofs.lemmas.Bool.{and_from, and_right}
-use Rattle.pas_profile.specs.Classes.{class_size}
-use Rattle.pas_profile.proofs.Sizes.{count_le, begins_at, found_at, passed_at, none_above, after_all, route_found, bitfit_for, large_for}
+use Rattle.std.proofs.{Common.{◌%◌, max, sym, ◌∙◌, arith, leb, eqb, le-leb, eq-eqb, ne_eqb}, lemmas.Bool.{and_from, and_right}}
+use Rattle.pas_profile.{specs.Classes.class_size, proofs.Sizes.{count_le, begins_at, found_at, passed_at, none_above, after_all, route_found, bitfit_for}}
+use Rattle.pas_profile.proofs.{Sizes.large_for, routing.route.Goals.{then-grains-lt65+else-loop-class-test, else-grains-lt65}}
 use Rattle.pas_profile.proofs.routing.route.Goals as goal
-use Rattle.pas_profile.proofs.routing.route.Goals.{then-grains-lt65+else-loop-class-test, else-grains-lt65}
 
 pub loop-class-init : goal.loop-class-init
 loop-class-init c =

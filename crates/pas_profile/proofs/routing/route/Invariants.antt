@@ -1,6 +1,6 @@
 -- The search of the classes from this one on answers as the search of all classes does, and each of them is large enough.
 use Rattle.std.proofs.Common.{◌≡◌, ◌≤◌, ◌<◌, ℕ, max, drop}
-use Rattle.pas_profile.specs.{Classes.class_size, Classes.sizes_of, Routes.first_class}
+use Rattle.pas_profile.specs.{Classes.{class_size, sizes_of}, Routes.first_class}
 use Rattle.pas_profile.proofs.routing.route.Given as goal
 
 abbrev pub invariant-loop-class : goal.invariant-loop-class

@@ -1,8 +1,5 @@
-use Rattle.std.proofs.Common.{◌*◌, List, length, drop, ap, sym, subst, arith, All}
-use Rattle.std.proofs.lemmas.List.Elements.{All-take, All-drop}
-use Rattle.pas_records.specs.declared.record.Record.{Record}
-use Rattle.pas_records.specs.Lines.{CanShow}
-use Rattle.pas_records.proofs.Dealt.{part_short}
+use Rattle.std.proofs.{Common.{◌*◌, List, length, drop, ap, sym, subst, arith, All}, lemmas.List.Elements.{All-take, All-drop}}
+use Rattle.pas_records.{specs.{declared.record.Record.Record, Lines.CanShow}, proofs.Dealt.part_short}
 use Rattle.pas_records.proofs.filling.fill_at.Goals as goal
 
 pub fill-requires-clause-few : goal.fill-requires-clause-few

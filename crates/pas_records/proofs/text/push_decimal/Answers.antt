@@ -1,7 +1,5 @@
-use Rattle.std.proofs.Common.{rules, ◌≡◌, List, ℕ, ◌++◌, ◌∷◌, [], length, ◌/◌, ◌%◌, ap, sym, ◌∙◌, arith}
-use Rattle.std.specs.Fmt.{decimal}
-use Rattle.pas_records.specs.Lines.{hex_digit}
-use Rattle.pas_records.proofs.{Decimals.one_digit, Decimals.two_digits, Decimals.three_digits, Texts.then_piece}
+use Rattle.std.{proofs.Common.{rules, ◌≡◌, List, ℕ, ◌++◌, ◌∷◌, [], length, ◌/◌, ◌%◌, ap, sym, ◌∙◌, arith}, specs.Fmt.decimal}
+use Rattle.pas_records.{specs.Lines.hex_digit, proofs.{Decimals.{one_digit, two_digits, three_digits}, Texts.then_piece}}
 use Rattle.pas_records.proofs.text.push_decimal.Goals as goal
 
 pub push_str-requires : goal.push_str-requires

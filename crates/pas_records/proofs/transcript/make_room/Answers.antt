@@ -1,6 +1,5 @@
 use Rattle.std.proofs.Common.{arith, rules, ◌≡◌, ℕ, List, Option, ◌∙◌}
-use Rattle.pas_records.specs.Pieces.{IsPutOut}
-use Rattle.pas_records.proofs.Pieces.{front_out, put_all}
+use Rattle.pas_records.{specs.Pieces.IsPutOut, proofs.Pieces.{front_out, put_all}}
 use Rattle.pas_records.proofs.transcript.make_room.Goals as goal
 
 pub returns-in_err-write_all-clause-front : goal.returns-in_err-write_all-clause-front

@@ -1,10 +1,8 @@
 use Rattle.std.proofs.Common.{rules, ◌≡◌, ℕ, ◌+◌, List, ◌++◌, [], ap, sym, ◌∙◌, subst, append_assoc, append-nil, drop, get_or, arith}
-use Rattle.std.proofs.lemmas.{List.at_drop_more, List.drop_all, Result.on_err_weaker}
+use Rattle.std.proofs.lemmas.{List.{at_drop_more, drop_all}, Result.on_err_weaker}
 use Rattle.pas_io.specs.Told.{WritesFront}
-use Rattle.pas_records.specs.{Lines.line_of, Lines.lines_of, Pieces.IsPutOut}
+use Rattle.pas_records.{specs.{Lines.{line_of, lines_of}, Pieces.IsPutOut, declared.record.Record.Record}, proofs.Pieces.{front_out, front_longer, put_more}}
 use Rattle.pas_profile.specs.declared.{event.Event.Event, directory.Kind.Kind}
-use Rattle.pas_records.specs.declared.record.Record.{Record}
-use Rattle.pas_records.proofs.Pieces.{front_out, front_longer, put_more}
 use Rattle.pas_records.proofs.transcript.write_lines_by.Goals as goal
 
 -- what a look past the end of the records would tell

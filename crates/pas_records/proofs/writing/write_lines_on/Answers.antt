@@ -1,11 +1,7 @@
-use Rattle.std.proofs.Common.{rules, ◌≡◌, ◌++◌, [], List, All, sym, ◌∙◌, subst, arith}
-use Rattle.std.proofs.lemmas.Result.{on_err_weaker}
-use Rattle.pas_io.specs.Told.{WritesFront}
-use Rattle.pas_io.proofs.Telling.{writes_more}
-use Rattle.pas_records.specs.declared.record.Record.{Record}
-use Rattle.pas_records.specs.{Lines.CanShow, Lines.lines_of, Texts.texts_of}
-use Rattle.pas_records.proofs.Dealt.{first_round, next_round, shown_before, shown_after}
-use Rattle.pas_records.proofs.Written.{front_more, writes_none}
+use Rattle.std.proofs.{Common.{rules, ◌≡◌, ◌++◌, [], List, All, sym, ◌∙◌, subst, arith}, lemmas.Result.on_err_weaker}
+use Rattle.pas_io.{specs.Told.WritesFront, proofs.Telling.writes_more}
+use Rattle.pas_records.{specs.{declared.record.Record.Record, Lines.{CanShow, lines_of}, Texts.texts_of}, proofs.Dealt.{first_round, next_round, shown_before}}
+use Rattle.pas_records.proofs.{Dealt.shown_after, Written.{front_more, writes_none}}
 use Rattle.pas_records.proofs.writing.write_lines_on.Goals as goal
 
 pub loop-round-init : goal.loop-round-init

@@ -1,6 +1,6 @@
 use Rattle.std.proofs.Common.{◌≡◌, ◌++◌, ℕ, List, All}
 use Rattle.pas_io.specs.Told.{Writes}
-use Rattle.pas_records.specs.{Lines.CanShow, Lines.lines_of, Texts.texts_of}
+use Rattle.pas_records.specs.{Lines.{CanShow, lines_of}, Texts.texts_of}
 use Rattle.pas_records.proofs.writing.write_lines_on.Given as goal
 
 -- the lines of the rounds before this one were written, but those of the last of them, which are on the full sheets

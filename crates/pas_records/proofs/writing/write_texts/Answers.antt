@@ -1,7 +1,6 @@
 use Rattle.std.proofs.Common.{rules, ◌+◌, ◌++◌, ◌∙◌, append_assoc, drop}
 use Rattle.pas_io.proofs.Telling.{writes_more}
-use Rattle.pas_records.specs.Texts.{texts_of}
-use Rattle.pas_records.proofs.Written.{front_more, next_text}
+use Rattle.pas_records.{specs.Texts.texts_of, proofs.Written.{front_more, next_text}}
 use Rattle.pas_records.proofs.writing.write_texts.Goals as goal
 
 pub returns-in_err-write_sheet-clause-front : goal.returns-in_err-write_sheet-clause-front

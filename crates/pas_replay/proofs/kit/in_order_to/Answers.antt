@@ -1,12 +1,9 @@
-use Rattle.std.proofs.Common.{All, refl, sym, subst, arith, List}
-use Rattle.std.proofs.lemmas.List.Elements.{All-nil}
-use Rattle.pas_plain.specs.Plain.{profile_of, PassStands}
-use Rattle.pas_plain.specs.declared.pass.PlainPass.{PlainPass}
+use Rattle.std.proofs.{Common.{All, refl, sym, subst, arith, List}, lemmas.List.Elements.All-nil}
+use Rattle.pas_plain.specs.{Plain.{profile_of, PassStands}, declared.pass.PlainPass.PlainPass}
 use Rattle.pas_acts.proofs.PlanFacts.{plan_phases, plan_valid, plan_operate, plan_fit}
 use Rattle.pas_trace.proofs.Keepers.{keepers_few}
 use Rattle.pas_answers.specs.{Names.names_held, Replays.phases_of}
-use Rattle.pas_replay.specs.Kits.{replay_of}
-use Rattle.pas_replay.proofs.InOrder.{list_in, start, shows}
+use Rattle.pas_replay.{specs.Kits.replay_of, proofs.InOrder.{list_in, start, shows}}
 use Rattle.pas_records.specs.Rooms.{room_of}
 use Rattle.pas_replay.proofs.kit.in_order_to.Goals as goal
 

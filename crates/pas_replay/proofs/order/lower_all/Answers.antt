@@ -1,5 +1,5 @@
 use Rattle.std.proofs.Common.{◌≡◌, ◌∙◌, ◌+◌, ◌-◌, set, ap, arith}
-use Rattle.pas_replay.proofs.{InOrder.next_keeper, InOrder.no_keeper, Turning.lowered_next}
+use Rattle.pas_replay.proofs.{InOrder.{next_keeper, no_keeper}, Turning.lowered_next}
 use Rattle.pas_replay.proofs.order.lower_all.Goals as goal
 
 pub lower-requires-clause-thread : goal.lower-requires-clause-thread

@@ -1,6 +1,5 @@
 use Rattle.std.proofs.Common.{◌≡◌, ◌∙◌, None, ap, refl}
-use Rattle.pas_trace.specs.Asked.{work_of}
-use Rattle.pas_trace.specs.declared.plan.{Op.Op, Task.Task, What.What, Work.Work}
+use Rattle.pas_trace.specs.{Asked.work_of, declared.plan.{Op.Op, Task.Task, What.What, Work.Work}}
 use Rattle.pas_acts.specs.Awake.{idle_in}
 use Rattle.pas_replay.proofs.{InOrder.as_first, ByActors.acts_by_work}
 use Rattle.pas_replay.proofs.order.perform.Goals as goal

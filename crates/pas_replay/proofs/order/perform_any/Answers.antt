@@ -1,9 +1,8 @@
 use Rattle.std.proofs.Common.{◌≡◌, ◌∙◌, ℕ, ap, sym, arith}
-use Rattle.pas_trace.specs.Codes.{unlined}
-use Rattle.pas_trace.specs.declared.plan.{Chore.Chore, Op.Op, Work.Work}
+use Rattle.pas_trace.specs.{Codes.unlined, declared.plan.{Chore.Chore, Op.Op, Work.Work}}
 use Rattle.pas_acts.specs.Awake.{idle_in}
 use Rattle.pas_answers.proofs.SingleActs.{own_what}
-use Rattle.pas_replay.proofs.{InOrder.as_first, ByActors.acts_by_work, ByActors.own_actor}
+use Rattle.pas_replay.proofs.{InOrder.as_first, ByActors.{acts_by_work, own_actor}}
 use Rattle.pas_replay.proofs.order.perform_any.Goals as goal
 
 pub tick-requires : goal.tick-requires

@@ -1,18 +1,13 @@
 use Rattle.std.proofs.Common.{◌≡◌, ◌+◌, ◌≤◌, ◌++◌, ◌∙◌, ℕ, List, [], ◌∷◌, length, Option, MatchOption, refl, sym, subst, ap, arith, drop, map, ◌<◌, get_or}
-use Rattle.pas_trace.specs.declared.plan.Op.{Op}
-use Rattle.pas_trace.specs.Acts.{Act, MarksPhase, Wakes, Ends, Lowers, acts_of_ops, numbers_from, phase_acts, MarksClose, is_active}
-use Rattle.pas_replay.specs.Sessions.{Replay, Left, Session, SoFarAt, hand_of, session, telling, upon}
-use Rattle.pas_replay.specs.Taking.{Begins, Between, left_between}
-use Rattle.pas_acts.specs.Awake.{awake_in, idle_in}
-use Rattle.pas_replay.proofs.{Turning.may_sit, order.replay.Given.Over}
-use Rattle.pas_replay.proofs.InOrder.{as_hand, after_mark, wakes_first, as_between, can_show, close_next, mark_next, marked, none_told, taken_on, told_then}
-use Rattle.pas_replay.proofs.InOrder.{wakes_next, list_at, list_in, same_active}
-use Rattle.pas_acts.proofs.ActsLeft.{acts_left, first_phase, other_phase, next_list, no_list}
-use Rattle.pas_replay.proofs.order.replay.Goals.{then-number-gt-UNMARKED, else-number-gt-UNMARKED, After-push-2, After-active_in-awake}
+use Rattle.pas_trace.specs.{declared.plan.Op.Op, Acts.{Act, MarksPhase, Wakes, Ends, Lowers, acts_of_ops, numbers_from, phase_acts, MarksClose, is_active}}
 use Rattle.pas_trace.specs.{Codes.unlined, Scripts.without_lines}
+use Rattle.pas_replay.specs.{Sessions.{Replay, Left, Session, SoFarAt, hand_of, session, telling, upon}, Taking.{Begins, Between, left_between}}
+use Rattle.pas_replay.proofs.{Turning.may_sit, order.replay.{Given.Over, Goals.{then-number-gt-UNMARKED, else-number-gt-UNMARKED, After-push-2}}}
+use Rattle.pas_replay.proofs.{order.replay.Goals.After-active_in-awake, InOrder.{as_hand, after_mark, wakes_first, as_between, can_show, close_next, mark_next}}
+use Rattle.pas_replay.proofs.InOrder.{marked, none_told, taken_on, told_then, wakes_next, list_at, list_in, same_active}
+use Rattle.pas_acts.{specs.Awake.{awake_in, idle_in}, proofs.ActsLeft.{acts_left, first_phase, other_phase, next_list, no_list}}
 use Rattle.pas_bits.specs.Masks.{is_set}
-use Rattle.pas_records.specs.Rooms.{records_in, room_of, Records}
-use Rattle.pas_records.specs.declared.record.Record.{Record}
+use Rattle.pas_records.specs.{Rooms.{records_in, room_of, Records}, declared.record.Record.Record}
 use Rattle.pas_replay.proofs.order.replay.Goals as goal
 
 pub sit-desk-requires-clause-may : goal.sit-desk-requires-clause-may

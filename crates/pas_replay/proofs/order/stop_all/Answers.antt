@@ -1,7 +1,7 @@
 use Rattle.std.proofs.Common.{◌≡◌, ◌∙◌, ◌+◌, ◌-◌, ℕ, List, length, set, ap, arith, length-set}
 use Rattle.pas_cache.specs.declared.cache.ThreadCache.{ThreadCache}
 use Rattle.pas_trace.specs.Acts.{Ends}
-use Rattle.pas_replay.proofs.{InOrder.next_number, InOrder.no_number, Turning.empty_next}
+use Rattle.pas_replay.proofs.{InOrder.{next_number, no_number}, Turning.empty_next}
 use Rattle.pas_replay.proofs.order.stop_all.Goals as goal
 
 pub end-requires-clause-thread : goal.end-requires-clause-thread

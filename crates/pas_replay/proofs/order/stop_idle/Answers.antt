@@ -1,11 +1,7 @@
-use Rattle.std.proofs.Common.{◌≡◌, ◌<◌, ◌≤◌, ◌∙◌, ◌-◌, ℕ, Bool, not, ap, sym, arith}
-use Rattle.std.specs.List.{filter}
-use Rattle.pas_bits.specs.Masks.{is_set}
-use Rattle.pas_bits.specs.declared.mask.Mask4.{Mask4}
+use Rattle.std.{proofs.Common.{◌≡◌, ◌<◌, ◌≤◌, ◌∙◌, ◌-◌, ℕ, Bool, not, ap, sym, arith}, specs.List.filter}
+use Rattle.pas_bits.specs.{Masks.is_set, declared.mask.Mask4.Mask4}
 use Rattle.pas_trace.specs.Acts.{Act, StopsIdle, numbers_from, idle_stops}
-use Rattle.pas_replay.specs.Sessions.{upon}
-use Rattle.pas_replay.proofs.InOrder.{as_read, chosen_next, passed_next, none_next}
-use Rattle.pas_replay.proofs.order.stop_idle.Goals.{then-not-get, else-not-get}
+use Rattle.pas_replay.{specs.Sessions.upon, proofs.{InOrder.{as_read, chosen_next, passed_next, none_next}, order.stop_idle.Goals.{then-not-get, else-not-get}}}
 use Rattle.pas_replay.proofs.order.stop_idle.Goals as goal
 
 -- the stop of a thread, and which threads it is for

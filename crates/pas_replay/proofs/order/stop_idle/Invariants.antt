@@ -1,6 +1,5 @@
 -- the idle threads so far were stopped, where they were idle for so many epochs
-use Rattle.std.proofs.Common.{◌≡◌, ◌+◌, ◌-◌, not, ◌∷◌, length}
-use Rattle.std.specs.List.{filter}
+use Rattle.std.{proofs.Common.{◌≡◌, ◌+◌, ◌-◌, not, ◌∷◌, length}, specs.List.filter}
 use Rattle.pas_bits.specs.Masks.{is_set}
 use Rattle.pas_trace.specs.Acts.{ReadsEpoch, numbers_from, idle_stops}
 use Rattle.pas_answers.specs.declared.names.Names.{Names}

@@ -1,6 +1,5 @@
 -- the threads so far read the epoch where they are active
-use Rattle.std.proofs.Common.{◌≡◌, ◌+◌, ◌-◌, length, map}
-use Rattle.std.specs.List.{filter}
+use Rattle.std.{proofs.Common.{◌≡◌, ◌+◌, ◌-◌, length, map}, specs.List.filter}
 use Rattle.pas_bits.specs.Masks.{is_set}
 use Rattle.pas_records.specs.Rooms.{Records}
 use Rattle.pas_trace.specs.Acts.{Wakes, numbers_from}

@@ -1,5 +1,5 @@
 use Rattle.std.proofs.Common.{◌≡◌, ◌+◌, refl, arith}
-use Rattle.pas_replay.proofs.{Turning.may_take_seat, ByActors.keeper_closes, ByActors.lower_turn, Turning.somewhere}
+use Rattle.pas_replay.proofs.{Turning.{may_take_seat, somewhere}, ByActors.{keeper_closes, lower_turn}}
 use Rattle.pas_replay.proofs.seats.lower.Goals as goal
 
 pub take_seat-requires : goal.take_seat-requires

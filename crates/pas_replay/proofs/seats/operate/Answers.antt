@@ -1,11 +1,8 @@
 use Rattle.std.proofs.Common.{◌∙◌, [], ◌∷◌, ℕ, Some, ap, subst, arith}
-use Rattle.pas_trace.specs.Acts.{Settles}
-use Rattle.pas_trace.specs.declared.plan.{Task.Task, What.What}
-use Rattle.pas_answers.specs.{Calls.what_of, Fit.IsFitWhat, Names.MayPack, Names.names_held}
-use Rattle.pas_answers.proofs.SingleActs.{may_pack}
-use Rattle.pas_replay.specs.Sessions.{upon}
-use Rattle.pas_replay.proofs.{InOrder.as_first, Turning.may_take_seat, Turning.somewhere}
-use Rattle.pas_replay.proofs.ByActors.{its_place, guards_first, not_guarded, has_named, keeper_may, left_turn, gave_turn}
+use Rattle.pas_trace.specs.{Acts.Settles, declared.plan.{Task.Task, What.What}}
+use Rattle.pas_answers.{specs.{Calls.what_of, Fit.IsFitWhat, Names.{MayPack, names_held}}, proofs.SingleActs.may_pack}
+use Rattle.pas_replay.{specs.Sessions.upon, proofs.{InOrder.as_first, Turning.{may_take_seat, somewhere}, ByActors.{its_place, guards_first, not_guarded}}}
+use Rattle.pas_replay.proofs.ByActors.{has_named, keeper_may, left_turn, gave_turn}
 use Rattle.pas_replay.proofs.seats.operate.Goals as goal
 
 pub take_seat-requires : goal.take_seat-requires

@@ -1,10 +1,8 @@
 use Rattle.std.proofs.Common.{◌-◌, ◌∙◌, subst, arith, length-set}
 use Rattle.pas_profile.specs.declared.profile.Profile.{Profile}
 use Rattle.pas_trace.specs.declared.plan.What.{What}
-use Rattle.pas_answers.specs.{Calls.MayStand, Fit.IsFitWhat, Names.block_named, Names.names_held}
-use Rattle.pas_answers.proofs.SingleActs.{freed_task, may_pack}
-use Rattle.pas_replay.proofs.Turning.{may_take_seat}
-use Rattle.pas_replay.proofs.ByActors.{has_named, may_operate, operate_turn, written_back}
+use Rattle.pas_answers.{specs.{Calls.MayStand, Fit.IsFitWhat, Names.{block_named, names_held}}, proofs.SingleActs.{freed_task, may_pack}}
+use Rattle.pas_replay.proofs.{Turning.may_take_seat, ByActors.{has_named, may_operate, operate_turn, written_back}}
 use Rattle.pas_replay.proofs.seats.serve.Goals as goal
 
 pub take_seat-requires : goal.take_seat-requires

@@ -1,7 +1,6 @@
 use Rattle.std.proofs.Common.{rules, ◌≡◌, ◌∙◌, refl, ap}
 use Rattle.pas_cache.specs.Caches.{cached}
-use Rattle.pas_large.specs.Doors.{Indexes}
-use Rattle.pas_large.specs.declared.plain_door.PlainDoor.{PlainDoor}
+use Rattle.pas_large.specs.{Doors.Indexes, declared.plain_door.PlainDoor.PlainDoor}
 use Rattle.pas_answers.specs.Indexes.{with_noted}
 use Rattle.pas_replay.proofs.ByActors.{handed}
 use Rattle.pas_replay.proofs.seats.settle_by.Goals as goal

@@ -1,5 +1,4 @@
-use Rattle.std.proofs.Common.{arith}
-use Rattle.std.proofs.lemmas.{List.get_or_default, Option.same_Some}
+use Rattle.std.proofs.{Common.arith, lemmas.{List.get_or_default, Option.same_Some}}
 use Rattle.pas_replay.proofs.Turning.{sits_down}
 use Rattle.pas_replay.proofs.seats.sit.Goals as goal
 

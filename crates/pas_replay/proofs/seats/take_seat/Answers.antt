@@ -1,5 +1,5 @@
 use Rattle.std.proofs.Common.{refl, sym, ◌∙◌}
-use Rattle.pas_replay.proofs.{Turning.seat_taken, seats.take_seat.Goals.then-actor, seats.take_seat.Goals.else-actor}
+use Rattle.pas_replay.proofs.{Turning.seat_taken, seats.take_seat.Goals.{then-actor, else-actor}}
 use Rattle.pas_replay.proofs.seats.take_seat.Goals as goal
 
 pub returns : goal.returns

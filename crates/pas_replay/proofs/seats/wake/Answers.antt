@@ -1,5 +1,5 @@
 use Rattle.std.proofs.Common.{◌-◌, refl, sym, arith, append-nil, length-set}
-use Rattle.pas_replay.proofs.{Turning.may_take_seat, ByActors.rests_now, ByActors.act_turn, Turning.somewhere}
+use Rattle.pas_replay.proofs.{Turning.{may_take_seat, somewhere}, ByActors.{rests_now, act_turn}}
 use Rattle.pas_replay.proofs.seats.wake.Goals as goal
 
 pub take_seat-requires : goal.take_seat-requires

@@ -1,6 +1,5 @@
 use Rattle.std.proofs.Common.{◌≡◌, ◌≤◌}
-use Rattle.pas_profile.specs.Lives.{is_live}
-use Rattle.pas_profile.specs.declared.word.Word.{Word}
+use Rattle.pas_profile.specs.{Lives.is_live, declared.word.Word.Word}
 use Rattle.pas_bits.specs.Bits.{count_below}
 use Rattle.pas_steps.specs.States.{word_in}
 use Rattle.pas_report.proofs.counts.live_on.Given as goal

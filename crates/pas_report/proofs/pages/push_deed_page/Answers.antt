@@ -1,7 +1,6 @@
 use Rattle.std.proofs.Common.{◌≡◌, ◌++◌, ap, ◌∙◌}
-use Rattle.pas_report.specs.{Counts.marked_in, Reports.page_text}
+use Rattle.pas_report.{specs.{Counts.marked_in, Reports.page_text}, proofs.MarkBits.marks_are}
 use Rattle.pas_records.specs.Marks.{marks_of}
-use Rattle.pas_report.proofs.MarkBits.{marks_are}
 use Rattle.pas_report.proofs.pages.push_deed_page.Goals as goal
 
 pub returns : goal.returns

@@ -1,7 +1,5 @@
-use Rattle.std.proofs.Common.{ℕ, List, ◌++◌, codes, ap, ◌∙◌}
-use Rattle.std.specs.Fmt.{decimal}
-use Rattle.pas_records.specs.{Lines.kind_text, Marks.marks_of, Marks.marks_text}
-use Rattle.pas_records.proofs.Texts.{then_piece, then_field}
+use Rattle.std.{proofs.Common.{ℕ, List, ◌++◌, codes, ap, ◌∙◌}, specs.Fmt.decimal}
+use Rattle.pas_records.{specs.{Lines.kind_text, Marks.{marks_of, marks_text}}, proofs.Texts.{then_piece, then_field}}
 use Rattle.pas_report.proofs.pages.push_shown_page.Goals as goal
 
 pub returns : goal.returns

@@ -1,11 +1,8 @@
-use Rattle.std.proofs.Common.{rules, ◌≡◌, ◌-◌, ap, sym, ◌∙◌, subst, arith, refl}
-use Rattle.std.proofs.lemmas.Result.{on_ok_weaker, on_err_weaker}
+use Rattle.std.proofs.{Common.{rules, ◌≡◌, ◌-◌, ap, sym, ◌∙◌, subst, arith, refl}, lemmas.Result.{on_ok_weaker, on_err_weaker}}
 use Rattle.pas_profile.specs.declared.profile.Profile.{Profile}
 use Rattle.pas_io.specs.Told.{Writes, WritesFront}
-use Rattle.pas_report.specs.Counts.{page_by_words, pages_of, report_by_words, totals_by_words}
-use Rattle.pas_records.specs.Pieces.{IsPutOut}
-use Rattle.pas_records.proofs.Pieces.{flushed, front_out, put_more}
-use Rattle.pas_report.proofs.Pieces.{next_page, report_front, report_put_out}
+use Rattle.pas_report.{specs.Counts.{page_by_words, pages_of, report_by_words, totals_by_words}, proofs.Pieces.{next_page, report_front, report_put_out}}
+use Rattle.pas_records.{specs.Pieces.IsPutOut, proofs.Pieces.{flushed, front_out, put_more}}
 use Rattle.pas_report.proofs.reports.report.Goals as goal
 
 pub returns-in_err-make_room-clause-front : goal.returns-in_err-make_room-clause-front

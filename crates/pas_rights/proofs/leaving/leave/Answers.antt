@@ -1,9 +1,7 @@
-use Rattle.std.proofs.Common.{arith, false, sym, subst}
-use Rattle.std.proofs.lemmas.Bool.{MatchBool-at_false}
+use Rattle.std.proofs.{Common.{arith, false, sym, subst}, lemmas.Bool.MatchBool-at_false}
 use Rattle.pas_profile.proofs.Codecs.{directory_from_profile}
 use Rattle.pas_steps.proofs.Adding.{adds_under, can_call}
-use Rattle.pas_rights.specs.{Leaves.EndsLeave, Looks.HasUsable, Looks.HasNoUsable}
-use Rattle.pas_rights.proofs.Orders.{may_still, leaves_by, none_used}
+use Rattle.pas_rights.{specs.{Leaves.EndsLeave, Looks.{HasUsable, HasNoUsable}}, proofs.Orders.{may_still, leaves_by, none_used}}
 use Rattle.pas_rights.proofs.leaving.leave.Goals as goal
 
 pub offer-requires-clause-can : goal.offer-requires-clause-can

@@ -1,7 +1,5 @@
 use Rattle.std.proofs.Common.{[], ◌∷◌, ◌++◌, refl, sym, subst}
-use Rattle.pas_steps.specs.declared.step.Step.TheVariants.{Offer}
-use Rattle.pas_steps.specs.Desks.{made}
-use Rattle.pas_steps.proofs.Adding.{adds_none, adds_step, adds_call}
+use Rattle.pas_steps.{specs.{declared.step.Step.TheVariants.Offer, Desks.made}, proofs.Adding.{adds_none, adds_step, adds_call}}
 use Rattle.pas_rights.specs.Looks.{HintsWhere}
 use Rattle.pas_rights.proofs.leaving.offer.Goals as goal
 

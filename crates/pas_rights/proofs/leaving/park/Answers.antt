@@ -1,9 +1,6 @@
 use Rattle.std.proofs.Common.{arith, [], ◌∷◌, ◌++◌, refl, sym, subst}
-use Rattle.pas_steps.specs.declared.step.Step.TheVariants.{Park}
-use Rattle.pas_steps.specs.Desks.{made}
-use Rattle.pas_steps.proofs.Adding.{adds_none, adds_step, adds_call, can_call}
-use Rattle.pas_rights.specs.{Leaves.ReoffersWhere, Looks.looks, Words.words}
-use Rattle.pas_rights.proofs.Orders.{knows_parked}
+use Rattle.pas_steps.{specs.{declared.step.Step.TheVariants.Park, Desks.made}, proofs.Adding.{adds_none, adds_step, adds_call, can_call}}
+use Rattle.pas_rights.{specs.{Leaves.ReoffersWhere, Looks.looks, Words.words}, proofs.Orders.knows_parked}
 use Rattle.pas_rights.proofs.leaving.park.Goals as goal
 
 pub reoffer-requires-clause-can : goal.reoffer-requires-clause-can

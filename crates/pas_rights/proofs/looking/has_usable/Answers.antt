@@ -1,5 +1,4 @@
-use Rattle.std.proofs.lemmas.Bool.{and_parts}
-use Rattle.std.proofs.Common.{arith}
+use Rattle.std.proofs.{lemmas.Bool.and_parts, Common.arith}
 use Rattle.pas_rights.proofs.Orders.{match_not, usable_none}
 use Rattle.pas_rights.proofs.looking.has_usable.Goals as goal
 

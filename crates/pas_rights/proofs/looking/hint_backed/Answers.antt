@@ -1,8 +1,6 @@
 use Rattle.std.proofs.Common.{[], ◌∷◌, refl, ap, inl, inr}
 use Rattle.pas_profile.specs.declared.word.Word.{Word}
-use Rattle.pas_steps.specs.declared.step.Step.TheVariants.{Look, Hint}
-use Rattle.pas_steps.specs.Desks.{made}
-use Rattle.pas_steps.proofs.Adding.{adds_none, adds_step}
+use Rattle.pas_steps.{specs.{declared.step.Step.TheVariants.{Look, Hint}, Desks.made}, proofs.Adding.{adds_none, adds_step}}
 use Rattle.pas_rights.proofs.looking.hint_backed.Goals as goal
 
 pub returns-then-look-eq1-clause-hinted : goal.returns-then-look-eq1-clause-hinted

@@ -1,8 +1,7 @@
 use Rattle.std.proofs.Common.{[], ◌++◌, refl, ◌∙◌, subst, sym, add-one, arith}
 use Rattle.pas_profile.specs.Profiles.{IsPage}
 use Rattle.pas_steps.proofs.Called.{call_none, next_call}
-use Rattle.pas_rights.specs.Puts.{PutsBelow}
-use Rattle.pas_rights.proofs.Puts.{may_put_word, puts_none, puts_more, puts_all}
+use Rattle.pas_rights.{specs.Puts.PutsBelow, proofs.Puts.{may_put_word, puts_none, puts_more, puts_all}}
 use Rattle.pas_rights.proofs.putting.put.Goals as goal
 
 pub loop-word-init : goal.loop-word-init

@@ -1,8 +1,6 @@
 use Rattle.std.proofs.Common.{◌≡◌, List}
-use Rattle.pas_steps.specs.Calls.{Calls, Does, put}
-use Rattle.pas_steps.specs.declared.step.Made.{Made}
-use Rattle.pas_rights.specs.Puts.{MayPut, PutsBelow}
-use Rattle.pas_rights.proofs.Puts.{masked_below}
+use Rattle.pas_steps.specs.{Calls.{Calls, Does, put}, declared.step.Made.Made}
+use Rattle.pas_rights.{specs.Puts.{MayPut, PutsBelow}, proofs.Puts.masked_below}
 use Rattle.pas_rights.proofs.putting.put.Given as goal
 
 -- the grains of the words below this one were put back

@@ -1,7 +1,6 @@
 use Rattle.std.proofs.Common.{arith, [], ◌∷◌, refl, inl, inr}
-use Rattle.pas_steps.specs.Desks.{made}
-use Rattle.pas_steps.specs.declared.step.Step.TheVariants.{Put}
-use Rattle.pas_steps.proofs.{Adding.adds_none, Adding.adds_step, Called.call_none, Calls.leads_put, Calls.leads_as}
+use Rattle.pas_steps.{specs.{Desks.made, declared.step.Step.TheVariants.Put}, proofs.{Adding.{adds_none, adds_step}, Called.call_none, Calls.leads_put}}
+use Rattle.pas_steps.proofs.Calls.{leads_as}
 use Rattle.pas_rights.proofs.Puts.{word_none}
 use Rattle.pas_rights.proofs.putting.put_word.Goals as goal
 

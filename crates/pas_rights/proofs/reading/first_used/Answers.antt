@@ -1,6 +1,5 @@
 use Rattle.std.proofs.Common.{◌≡◌, refl, subst, ◌∙◌, add-one, arith}
-use Rattle.pas_steps.specs.Desks.{AnyView, Adds}
-use Rattle.pas_steps.proofs.Adding.{adds_none, adds_step, can_step}
+use Rattle.pas_steps.{specs.Desks.{AnyView, Adds}, proofs.Adding.{adds_none, adds_step, can_step}}
 use Rattle.pas_rights.specs.{Looks.looks, Words.ones}
 use Rattle.pas_rights.proofs.reading.first_used.Goals as goal
 

@@ -1,7 +1,6 @@
 use Rattle.std.proofs.Common.{arith, [], ◌∷◌, sym, ◌∙◌, refl, inl, inr}
-use Rattle.pas_steps.specs.{Views.FromParked, Views.has_right, Desks.made}
-use Rattle.pas_steps.specs.declared.step.Step.TheVariants.{Offer, Unpark}
-use Rattle.pas_steps.proofs.Adding.{adds_none, adds_step, can_step}
+use Rattle.pas_steps.{specs.{Views.{FromParked, has_right}, Desks.made, declared.step.Step.TheVariants.{Offer, Unpark}}, proofs.Adding.{adds_none, adds_step}}
+use Rattle.pas_steps.proofs.Adding.{can_step}
 use Rattle.pas_rights.proofs.Orders.{knows_some, gets}
 use Rattle.pas_rights.proofs.returning.reoffer.Goals as goal
 

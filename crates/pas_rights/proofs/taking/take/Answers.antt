@@ -1,8 +1,7 @@
 use Rattle.std.proofs.Common.{arith, [], ◌∷◌}
 use Rattle.pas_bits.specs.declared.mask.Mask4.{Mask4}
 use Rattle.pas_steps.proofs.Adding.{adds_none, adds_call, can_call}
-use Rattle.pas_rights.specs.Words.{words}
-use Rattle.pas_rights.proofs.Puts.{takes_right, takes_get}
+use Rattle.pas_rights.{specs.Words.words, proofs.Puts.{takes_right, takes_get}}
 use Rattle.pas_rights.proofs.taking.take.Goals as goal
 
 pub take_word-requires-2-clause-can : goal.take_word-requires-2-clause-can

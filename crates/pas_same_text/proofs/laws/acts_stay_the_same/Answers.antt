@@ -1,5 +1,5 @@
 -- Acts one after the other.
-use Rattle.pas_same_text.proofs.{AllActs.acts_carried, AllActs.start_carried, CacheLists.act_many, OneAct.act_same}
+use Rattle.pas_same_text.proofs.{AllActs.{acts_carried, start_carried}, CacheLists.act_many, OneAct.act_same}
 use Rattle.pas_same_text.proofs.laws.acts_stay_the_same.Goals as goal
 
 pub returns-clause-many : goal.returns-clause-many

@@ -1,6 +1,5 @@
 -- States of the text beside words and views.
-use Rattle.pas_same_text.proofs.{FreeGrains.free_same, FreeGrains.keeper, FreeGrains.kept_by, RestingPages.is_opened, RestingPages.offered_bit}
-use Rattle.pas_same_text.proofs.{RestingPages.bit_offered}
+use Rattle.pas_same_text.proofs.{FreeGrains.{free_same, keeper, kept_by}, RestingPages.{is_opened, offered_bit, bit_offered}}
 use Rattle.pas_same_text.proofs.laws.states_are_told.Goals as goal
 
 pub returns-clause-free : goal.returns-clause-free

@@ -1,7 +1,6 @@
 use Rattle.std.proofs.Common.{◌≡◌, ◌+◌, ◌-◌, ◌∷◌, ap, sym, ◌∙◌, subst, arith}
 use Rattle.pas_profile.specs.declared.word.Word.{Word}
-use Rattle.pas_steps.specs.declared.step.{Made.Made, Step.TheVariants.Look}
-use Rattle.pas_steps.specs.{Frames.IsScan, Desks.made, Past.Once, Evidence.DeedHere}
+use Rattle.pas_steps.specs.{declared.step.{Made.Made, Step.TheVariants.Look}, Frames.IsScan, Desks.made, Past.Once, Evidence.DeedHere}
 use Rattle.pas_steps.proofs.Adding.{adds_step}
 use Rattle.pas_scan.proofs.Reading.{looks_more, looks_count, looks_scan, looks_single, deed_more, deeds_read, first_none}
 use Rattle.pas_scan.proofs.bare.first_without_deed.Goals as goal

@@ -1,6 +1,5 @@
 use Rattle.std.proofs.Common.{◌≡◌, ℕ, ◌-◌, length, ◌≤◌, ◌<◌, ◌+◌, List}
-use Rattle.pas_steps.specs.declared.step.Made.{Made}
-use Rattle.pas_steps.specs.{Desks.AnyView, Desks.Adds, Past.Once, Evidence.DeedHere}
+use Rattle.pas_steps.specs.{declared.step.Made.Made, Desks.{AnyView, Adds}, Past.Once, Evidence.DeedHere}
 use Rattle.pas_scan.specs.Scan.{deed_looks}
 use Rattle.pas_scan.proofs.bare.first_without_deed.Given as goal
 

@@ -1,6 +1,5 @@
 use Rattle.std.proofs.Common.{◌≡◌, ℕ, ◌+◌, ◌-◌, ◌/◌, length, ◌≤◌, ◌<◌, ◌*◌, List}
-use Rattle.pas_steps.specs.declared.step.Made.{Made}
-use Rattle.pas_steps.specs.{Desks.AnyView, Desks.Adds, Past.Once, Evidence.ZeroHere}
+use Rattle.pas_steps.specs.{declared.step.Made.Made, Desks.{AnyView, Adds}, Past.Once, Evidence.ZeroHere}
 use Rattle.pas_profile.specs.Directories.{number_of}
 use Rattle.pas_scan.specs.Rows.{eligible_looks}
 use Rattle.pas_scan.proofs.offered.first_offered.Given as goal

@@ -1,12 +1,9 @@
 use Rattle.std.proofs.Common.{◌≡◌, ◌+◌, ◌*◌, ◌/◌, ◌≤◌, ◌==◌, ◌&&◌, ◌||◌, min, ◌∷◌, length, refl, ap, sym, ◌∙◌, subst, arith}
 use Rattle.pas_bits.specs.PageVectors.{is_in_word}
 use Rattle.pas_profile.specs.declared.word.Word.{Word}
-use Rattle.pas_steps.specs.declared.step.{Made.Made, Step.TheVariants.Look}
-use Rattle.pas_steps.specs.Desks.{made}
-use Rattle.pas_steps.proofs.Adding.{adds_step}
-use Rattle.pas_scan.specs.{Scan.InBlock, Passed.NoneIs}
-use Rattle.pas_scan.proofs.Reading.{Below, Members, AreOf, passed_in, passed_below, passed_members, looks_single, looks_count, single_more, below_more}
-use Rattle.pas_scan.proofs.Reading.{members_more, IsSpan, span_block, span_first, span_some, span_end, span_page}
+use Rattle.pas_steps.{specs.{declared.step.{Made.Made, Step.TheVariants.Look}, Desks.made}, proofs.Adding.adds_step}
+use Rattle.pas_scan.{specs.{Scan.InBlock, Passed.NoneIs}, proofs.Reading.{Below, Members, AreOf, passed_in, passed_below, passed_members, looks_single}}
+use Rattle.pas_scan.proofs.Reading.{looks_count, single_more, below_more, members_more, IsSpan, span_block, span_first, span_some, span_end, span_page}
 use Rattle.pas_scan.proofs.parked.members.Goals.{then-is_open, else-is_open}
 use Rattle.pas_scan.proofs.parked.members.Goals as goal
 

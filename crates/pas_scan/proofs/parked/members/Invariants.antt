@@ -1,8 +1,6 @@
 use Rattle.std.proofs.Common.{◌≡◌, ◌+◌, ◌/◌, List, length}
-use Rattle.pas_steps.specs.declared.step.Made.{Made}
-use Rattle.pas_steps.specs.{Desks.AnyView, Desks.Adds, Evidence.IsSingle}
-use Rattle.pas_scan.specs.Scan.{InBlock}
-use Rattle.pas_scan.proofs.Reading.{Below, Members}
+use Rattle.pas_steps.specs.{declared.step.Made.Made, Desks.{AnyView, Adds}, Evidence.IsSingle}
+use Rattle.pas_scan.{specs.Scan.InBlock, proofs.Reading.{Below, Members}}
 use Rattle.pas_scan.proofs.parked.members.Given as goal
 
 -- the members of the block below this page

@@ -1,11 +1,8 @@
 use Rattle.std.proofs.Common.{◌+◌, ◌*◌, ◌∷◌, ◌++◌, sym, ◌∙◌, subst, arith, length-append}
 use Rattle.pas_profile.specs.declared.{word.Word.Word, profile.Profile.Profile}
-use Rattle.pas_steps.specs.declared.step.Step.TheVariants.{Look}
-use Rattle.pas_steps.specs.Desks.{made}
-use Rattle.pas_steps.proofs.Adding.{adds_step, adds_call}
-use Rattle.pas_scan.specs.Scan.{IsMember}
-use Rattle.pas_scan.proofs.Reading.{turn_scans, turn_below, turn_single, turn_kinds, scans_append, block_scans, parked_more, member_joined, held_bits}
-use Rattle.pas_scan.proofs.Reading.{held_here}
+use Rattle.pas_steps.{specs.{declared.step.Step.TheVariants.Look, Desks.made}, proofs.Adding.{adds_step, adds_call}}
+use Rattle.pas_scan.{specs.Scan.IsMember, proofs.Reading.{turn_scans, turn_below, turn_single, turn_kinds, scans_append, block_scans, parked_more}}
+use Rattle.pas_scan.proofs.Reading.{member_joined, held_bits, held_here}
 use Rattle.pas_scan.proofs.parked.verdict.Goals as goal
 
 pub loop-block-preserved : goal.loop-block-preserved

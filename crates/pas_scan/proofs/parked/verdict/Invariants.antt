@@ -1,8 +1,6 @@
 use Rattle.std.proofs.Common.{◌≡◌, ◌≤◌, ◌*◌, List, length}
-use Rattle.pas_steps.specs.declared.step.Made.{Made}
-use Rattle.pas_steps.specs.{Desks.AnyView, Desks.Adds, Frames.OnlyScans, Evidence.IsSingle, Kinds.Only}
-use Rattle.pas_scan.specs.Scan.{AllParked, judging}
-use Rattle.pas_scan.proofs.Reading.{Below}
+use Rattle.pas_steps.specs.{declared.step.Made.Made, Desks.{AnyView, Adds}, Frames.OnlyScans, Evidence.IsSingle, Kinds.Only}
+use Rattle.pas_scan.{specs.Scan.{AllParked, judging}, proofs.Reading.Below}
 use Rattle.pas_scan.proofs.parked.verdict.Given as goal
 
 -- the parked bit of each member below this block was read as 1

@@ -1,8 +1,7 @@
 use Rattle.std.proofs.Common.{◌/◌, arith, subst}
 use Rattle.pas_profile.specs.declared.word.Word.{Word}
 use Rattle.pas_steps.specs.Told.{TellsWord}
-use Rattle.pas_scan.specs.Passed.{KnowsDeeds}
-use Rattle.pas_scan.proofs.ToldLooks.{held_in_block}
+use Rattle.pas_scan.{specs.Passed.KnowsDeeds, proofs.ToldLooks.held_in_block}
 use Rattle.pas_scan.proofs.passed.first_not_held.Goals as goal
 
 pub loop-page-preserved : goal.loop-page-preserved

@@ -1,6 +1,5 @@
 use Rattle.std.proofs.Common.{◌≡◌, ◌+◌, ◌-◌, ◌<◌, arith, subst, refl}
-use Rattle.pas_scan.specs.Passed.{PassesDeeds}
-use Rattle.pas_scan.proofs.ToldLooks.{passes_told, passes_no_deeds}
+use Rattle.pas_scan.{specs.Passed.PassesDeeds, proofs.ToldLooks.{passes_told, passes_no_deeds}}
 use Rattle.pas_scan.proofs.passed.pass_deeds.Goals as goal
 
 pub returns-then-from-end-clause-passes : goal.returns-then-from-end-clause-passes

@@ -1,6 +1,5 @@
 use Rattle.std.proofs.Common.{◌≡◌, ◌+◌, ◌-◌, ◌<◌, arith, subst, refl}
-use Rattle.pas_scan.specs.Passed.{PassesHeld}
-use Rattle.pas_scan.proofs.ToldLooks.{held_passed, passes_none_held}
+use Rattle.pas_scan.{specs.Passed.PassesHeld, proofs.ToldLooks.{held_passed, passes_none_held}}
 use Rattle.pas_scan.proofs.passed.pass_held.Goals as goal
 
 pub returns-then-from-end-clause-passes : goal.returns-then-from-end-clause-passes

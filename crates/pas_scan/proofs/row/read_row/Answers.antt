@@ -1,9 +1,6 @@
 use Rattle.std.proofs.Common.{◌∙◌, ◌∷◌, [], ◌-◌, refl, subst, arith, rules}
-use Rattle.pas_profile.specs.Directories.{number_of}
-use Rattle.pas_profile.specs.declared.word.Word.{Word}
-use Rattle.pas_steps.specs.declared.step.Step.TheVariants.{Look}
-use Rattle.pas_steps.specs.Desks.{Makes, made}
-use Rattle.pas_steps.proofs.Adding.{adds_none, adds_step}
+use Rattle.pas_profile.specs.{Directories.number_of, declared.word.Word.Word}
+use Rattle.pas_steps.{specs.{declared.step.Step.TheVariants.Look, Desks.{Makes, made}}, proofs.Adding.{adds_none, adds_step}}
 use Rattle.pas_scan.proofs.Reading.{looks_more, zero_row, words_more, rest_more}
 use Rattle.pas_scan.proofs.row.read_row.Goals as goal
 

@@ -1,7 +1,6 @@
 use Rattle.std.proofs.Common.{◌≡◌, ℕ, ◌+◌, ◌-◌, ◌<◌, ◌≤◌, List, length, slice_index}
 use Rattle.pas_profile.specs.Directories.{number_of}
-use Rattle.pas_steps.specs.declared.step.Made.{Made}
-use Rattle.pas_steps.specs.{Desks.AnyView, Desks.Adds, Past.Once}
+use Rattle.pas_steps.specs.{declared.step.Made.Made, Desks.{AnyView, Adds}, Past.Once}
 use Rattle.pas_scan.specs.Rows.{eligible_looks, WordReadHere}
 use Rattle.pas_scan.proofs.row.read_row.Given as goal
 

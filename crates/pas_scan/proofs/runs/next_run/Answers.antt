@@ -1,9 +1,8 @@
 use Rattle.std.proofs.Common.{◌≡◌, ◌+◌, ◌-◌, ◌++◌, if◌then◌else◌, nat_lt, refl, ap, sym, ◌∙◌, subst, arith, length-append}
 use Rattle.pas_profile.specs.declared.profile.Profile.{Profile}
 use Rattle.pas_steps.proofs.{Adding.adds_call, Apart.only_both}
-use Rattle.pas_scan.specs.{Runs.large_directory, Runs.page_looks, Passed.held_looks}
-use Rattle.pas_scan.proofs.LeftPages.{left_alone_by, RunSoFar, run_none, run_more, run_found, run_ended, run_past, held_kinds, kept_after, kept_is}
-use Rattle.pas_scan.proofs.ToldLooks.{held_many}
+use Rattle.pas_scan.{specs.{Runs.{large_directory, page_looks}, Passed.held_looks}, proofs.LeftPages.{left_alone_by, RunSoFar, run_none, run_more, run_found}}
+use Rattle.pas_scan.proofs.{LeftPages.{run_ended, run_past, held_kinds, kept_after, kept_is}, ToldLooks.held_many}
 use Rattle.pas_scan.proofs.runs.next_run.Goals as goal
 
 pub loop-page-init : goal.loop-page-init

@@ -1,8 +1,6 @@
 use Rattle.std.proofs.Common.{◌≡◌, ◌+◌, ◌-◌, ◌*◌, ◌≤◌, List, length}
-use Rattle.pas_steps.specs.declared.step.Made.{Made}
-use Rattle.pas_steps.specs.{Desks.AnyView, Desks.Adds, Kinds.Only}
-use Rattle.pas_scan.specs.Runs.{large_directory, page_looks}
-use Rattle.pas_scan.proofs.LeftPages.{RunSoFar}
+use Rattle.pas_steps.specs.{declared.step.Made.Made, Desks.{AnyView, Adds}, Kinds.Only}
+use Rattle.pas_scan.{specs.Runs.{large_directory, page_looks}, proofs.LeftPages.RunSoFar}
 use Rattle.pas_scan.proofs.runs.next_run.Given as goal
 
 -- the run of usable pages that ends before this page, and the lower ones

@@ -1,8 +1,6 @@
 use Rattle.std.proofs.Common.{◌∷◌, refl, inl, ◌∙◌, arith}
 use Rattle.pas_profile.specs.declared.word.Word.{Word}
-use Rattle.pas_steps.specs.declared.step.Step.TheVariants.{Look}
-use Rattle.pas_steps.specs.Desks.{made}
-use Rattle.pas_steps.proofs.Adding.{can_step, adds_step}
+use Rattle.pas_steps.{specs.{declared.step.Step.TheVariants.Look, Desks.made}, proofs.Adding.{can_step, adds_step}}
 use Rattle.pas_scan.proofs.LeftPages.{free_more}
 use Rattle.pas_scan.proofs.usable.are_free.Goals as goal
 

@@ -1,6 +1,5 @@
 use Rattle.std.proofs.Common.{◌≡◌, ℕ, ◌<◌, List, length}
-use Rattle.pas_steps.specs.declared.step.Made.{Made}
-use Rattle.pas_steps.specs.{Desks.AnyView, Desks.Adds, Past.Once, Kinds.Only}
+use Rattle.pas_steps.specs.{declared.step.Made.Made, Desks.{AnyView, Adds}, Past.Once, Kinds.Only}
 use Rattle.pas_scan.specs.Runs.{page_looks, FreeLookHere}
 use Rattle.pas_scan.proofs.usable.are_free.Given as goal
 

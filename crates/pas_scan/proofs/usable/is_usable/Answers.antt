@@ -1,8 +1,6 @@
 use Rattle.std.proofs.Common.{[], ◌∷◌, refl, ◌∙◌, subst, ◌/◌, sym, inr, arith}
 use Rattle.pas_profile.specs.declared.word.Word.{Word}
-use Rattle.pas_steps.specs.declared.step.Step.TheVariants.{Look}
-use Rattle.pas_steps.specs.Desks.{Makes}
-use Rattle.pas_steps.proofs.Adding.{adds_none, adds_step}
+use Rattle.pas_steps.{specs.{declared.step.Step.TheVariants.Look, Desks.Makes}, proofs.Adding.{adds_none, adds_step}}
 use Rattle.pas_scan.proofs.LeftPages.{deed_look, eligible_look, deed_read, bare, other_deed, not_offered, reads_by}
 use Rattle.pas_scan.proofs.usable.is_usable.Goals as goal
 

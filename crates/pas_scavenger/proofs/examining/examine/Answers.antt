@@ -1,8 +1,7 @@
 use Rattle.std.proofs.Common.{refl, subst, arith}
 use Rattle.pas_rights.specs.Claims.{Claims}
-use Rattle.pas_scavenger.specs.Pages.{quiet}
-use Rattle.pas_scavenger.proofs.Examinations.{bare_page, used_page, can_read, can_claim, asked, asks, page_not_offered, can_take, page_taken, asks_sized}
-use Rattle.pas_scavenger.proofs.Examinations.{same_room}
+use Rattle.pas_scavenger.{specs.Pages.quiet, proofs.Examinations.{bare_page, used_page, can_read, can_claim, asked, asks, page_not_offered, can_take}}
+use Rattle.pas_scavenger.proofs.Examinations.{page_taken, asks_sized, same_room}
 use Rattle.pas_scavenger.proofs.examining.examine.Goals as goal
 
 pub returns-then-look-eq0-clause-examines : goal.returns-then-look-eq0-clause-examines

@@ -1,8 +1,7 @@
 use Rattle.std.proofs.Common.{[], ◌∷◌, subst}
 use Rattle.pas_profile.specs.declared.word.Word.{Word}
-use Rattle.pas_steps.specs.Desks.{AnyView, Adds, made}
-use Rattle.pas_steps.specs.declared.step.Step.TheVariants.{Look}
-use Rattle.pas_steps.proofs.{Adding.adds_none, Adding.adds_step, ReadDeeds.directory_told, ReadDeeds.directory_is}
+use Rattle.pas_steps.{specs.{Desks.{AnyView, Adds, made}, declared.step.Step.TheVariants.Look}, proofs.Adding.{adds_none, adds_step}}
+use Rattle.pas_steps.proofs.ReadDeeds.{directory_told, directory_is}
 use Rattle.pas_scavenger.proofs.examining.read_directory.Goals as goal
 
 pub unreachable-requires : goal.unreachable-requires

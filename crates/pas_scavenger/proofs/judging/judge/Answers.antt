@@ -1,7 +1,5 @@
 use Rattle.std.proofs.Common.{arith, ◌+◌, ◌<◌, ◌≤◌, ◌∷◌, refl, subst}
-use Rattle.pas_steps.specs.Desks.{made}
-use Rattle.pas_steps.specs.declared.step.Step.TheVariants.{Unback}
-use Rattle.pas_steps.proofs.Adding.{adds_step, can_step}
+use Rattle.pas_steps.{specs.{Desks.made, declared.step.Step.TheVariants.Unback}, proofs.Adding.{adds_step, can_step}}
 use Rattle.pas_scavenger.proofs.Examinations.{two_looks, looked, age_is, allowed}
 use Rattle.pas_scavenger.proofs.judging.judge.Goals as goal
 

@@ -1,10 +1,9 @@
 use Rattle.std.proofs.Common.{◌≡◌, [], ◌∷◌, ◌++◌, length, refl, ap, sym, ◌∙◌, subst, arith, add-one, length-append}
 use Rattle.pas_profile.specs.Profiles.{vector_words}
-use Rattle.pas_steps.specs.InTurn.{numbers_below}
-use Rattle.pas_steps.proofs.Called.{next_call}
+use Rattle.pas_steps.{specs.InTurn.numbers_below, proofs.Called.next_call}
 use Rattle.pas_utility.specs.Outcomes.{pairs_in}
-use Rattle.pas_scavenger.specs.Passes.{WordRead, WordSteps, all_tried}
-use Rattle.pas_scavenger.proofs.Examinations.{tries_then, tries_nothing, is_ready, first_room, passed, spare_pass}
+use Rattle.pas_scavenger.{specs.Passes.{WordRead, WordSteps, all_tried}, proofs.Examinations.{tries_then, tries_nothing, is_ready, first_room, passed}}
+use Rattle.pas_scavenger.proofs.Examinations.{spare_pass}
 use Rattle.pas_scavenger.proofs.passing.pass.Goals as goal
 
 pub loop-block-init : goal.loop-block-init

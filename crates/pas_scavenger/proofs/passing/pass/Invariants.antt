@@ -1,6 +1,5 @@
 use Rattle.std.proofs.Common.{◌≡◌, ◌+◌, ◌-◌, ◌*◌, ◌≤◌, List, [], length, map}
-use Rattle.pas_steps.specs.InTurn.{InTurn, numbers_below}
-use Rattle.pas_steps.specs.declared.step.Made.{Made}
+use Rattle.pas_steps.specs.{InTurn.{InTurn, numbers_below}, declared.step.Made.Made}
 use Rattle.pas_utility.specs.Outcomes.{pairs_in, places_of}
 use Rattle.pas_scavenger.specs.Passes.{WordRead, WordSteps, all_tried, Tries}
 use Rattle.pas_scavenger.proofs.passing.pass.Given as goal

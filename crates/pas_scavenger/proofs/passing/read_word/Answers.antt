@@ -1,12 +1,9 @@
 use Rattle.std.proofs.Common.{◌*◌, ◌-◌, ◌≡◌, [], ◌∷◌, ◌++◌, refl, ap, sym, ◌∙◌, subst, arith, append_assoc, length-append}
-use Rattle.pas_profile.specs.Profiles.{IsPage}
-use Rattle.pas_profile.specs.declared.word.Word.{Word}
-use Rattle.pas_steps.specs.Desks.{made}
-use Rattle.pas_steps.specs.declared.step.Step.TheVariants.{Look}
-use Rattle.pas_steps.proofs.Called.{next_call}
+use Rattle.pas_profile.specs.{Profiles.IsPage, declared.word.Word.Word}
+use Rattle.pas_steps.{specs.{Desks.made, declared.step.Step.TheVariants.Look}, proofs.Called.next_call}
 use Rattle.pas_utility.specs.Outcomes.{pairs_in}
-use Rattle.pas_scavenger.specs.Passes.{Tried, TrySteps, pages_set, Tries}
-use Rattle.pas_scavenger.proofs.Examinations.{looked_first, tries_then, spare_by, spare_page, one_pair, hinted_page, next_page, last_page}
+use Rattle.pas_scavenger.{specs.Passes.{Tried, TrySteps, pages_set, Tries}, proofs.Examinations.{looked_first, tries_then, spare_by, spare_page, one_pair}}
+use Rattle.pas_scavenger.proofs.Examinations.{hinted_page, next_page, last_page}
 use Rattle.pas_scavenger.proofs.passing.read_word.Goals as goal
 
 pub pages-init : goal.pages-init

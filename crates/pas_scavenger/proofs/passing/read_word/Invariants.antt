@@ -1,7 +1,6 @@
 use Rattle.std.proofs.Common.{◌≡◌, ◌+◌, ◌-◌, ◌*◌, ◌≤◌, List, [], ◌∷◌, ◌++◌, length, map}
 use Rattle.pas_profile.specs.declared.word.Word.{Word}
-use Rattle.pas_steps.specs.{Desks.made, InTurn.InTurn}
-use Rattle.pas_steps.specs.declared.step.{Made.Made, Step.TheVariants.Look}
+use Rattle.pas_steps.specs.{Desks.made, InTurn.InTurn, declared.step.{Made.Made, Step.TheVariants.Look}}
 use Rattle.pas_utility.specs.Outcomes.{pairs_in, places_of}
 use Rattle.pas_scavenger.specs.Passes.{Tried, TriedSteps, pages_set, Tries}
 use Rattle.pas_scavenger.proofs.passing.read_word.Given as goal

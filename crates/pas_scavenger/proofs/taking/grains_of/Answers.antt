@@ -1,7 +1,6 @@
 use Rattle.std.proofs.Common.{sym, ap, ◌∙◌, subst, arith}
 use Rattle.pas_rights.specs.Looks.{AreUsed}
-use Rattle.pas_scavenger.specs.Readings.{was_free}
-use Rattle.pas_scavenger.proofs.Examinations.{all_grains, grains_before}
+use Rattle.pas_scavenger.{specs.Readings.was_free, proofs.Examinations.{all_grains, grains_before}}
 use Rattle.pas_scavenger.proofs.taking.grains_of.Goals as goal
 
 pub returns-in-None : goal.returns-in-None

@@ -1,8 +1,6 @@
 use Rattle.std.proofs.Common.{◌≡◌, refl, subst, ◌∙◌, add-one, arith}
-use Rattle.pas_rights.specs.{Takes.HasRight, Takes.takes, Words.ones}
-use Rattle.pas_rights.proofs.Puts.{takes_right}
-use Rattle.pas_steps.specs.Desks.{Adds}
-use Rattle.pas_steps.proofs.Adding.{adds_none, adds_step, can_step}
+use Rattle.pas_rights.{specs.{Takes.{HasRight, takes}, Words.ones}, proofs.Puts.takes_right}
+use Rattle.pas_steps.{specs.Desks.Adds, proofs.Adding.{adds_none, adds_step, can_step}}
 use Rattle.pas_scavenger.proofs.taking.take_grains.Goals as goal
 
 pub loop-word-init : goal.loop-word-init

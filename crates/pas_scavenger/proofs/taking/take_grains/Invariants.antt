@@ -1,5 +1,5 @@
 use Rattle.std.proofs.Common.{◌≡◌}
-use Rattle.pas_rights.specs.{Takes.HasRight, Takes.takes, Words.ones}
+use Rattle.pas_rights.specs.{Takes.{HasRight, takes}, Words.ones}
 use Rattle.pas_steps.specs.Desks.{Adds}
 use Rattle.pas_scavenger.proofs.taking.take_grains.Given as goal
 

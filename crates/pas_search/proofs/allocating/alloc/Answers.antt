@@ -1,6 +1,6 @@
 use Rattle.std.proofs.Common.{Ok, Err}
-use Rattle.pas_search.proofs.Sessions.{can_ask_again, room_left}
-use Rattle.pas_search.proofs.Allocated.{may_search, room_to_search, is_run, run_within, can_give, room_to_give, one_deed, can_leave, allocates, refuses}
+use Rattle.pas_search.proofs.{Sessions.{can_ask_again, room_left}, Allocated.{may_search, room_to_search, is_run, run_within, can_give, room_to_give, one_deed}}
+use Rattle.pas_search.proofs.Allocated.{can_leave, allocates, refuses}
 use Rattle.pas_search.proofs.allocating.alloc.Goals as goal
 
 pub find_page-requires-clause-can : goal.find_page-requires-clause-can

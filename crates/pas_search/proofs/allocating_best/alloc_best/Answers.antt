@@ -1,6 +1,5 @@
-use Rattle.pas_search.proofs.TheBestPage.{can_go_on}
-use Rattle.pas_search.proofs.Allocated.{room_to_try, room_to_use, is_run, run_within, can_give, room_to_give, no_deed, can_leave, allocates_best}
-use Rattle.pas_search.proofs.Allocated.{allocates_then}
+use Rattle.pas_search.proofs.{TheBestPage.can_go_on, Allocated.{room_to_try, room_to_use, is_run, run_within, can_give, room_to_give, no_deed, can_leave}}
+use Rattle.pas_search.proofs.Allocated.{allocates_best, allocates_then}
 use Rattle.pas_search.proofs.allocating_best.alloc_best.Goals as goal
 
 pub take_best_page-requires-clause-can : goal.take_best_page-requires-clause-can

@@ -1,7 +1,6 @@
 use Rattle.std.proofs.Common.{sym, ◌∙◌}
-use Rattle.pas_search.specs.Searches.{MaySearch}
-use Rattle.pas_search.proofs.ForBackEnds.{room_kept}
-use Rattle.pas_search.proofs.TheBestPage.{rank_can, none_ranked, best_can, best_claim_adds, best_claim_quiet, best_lost, best_can_serve, best_left, best_served}
+use Rattle.pas_search.{specs.Searches.MaySearch, proofs.{ForBackEnds.room_kept, TheBestPage.{rank_can, none_ranked, best_can, best_claim_adds}}}
+use Rattle.pas_search.proofs.TheBestPage.{best_claim_quiet, best_lost, best_can_serve, best_left, best_served}
 use Rattle.pas_search.proofs.best.take_best_page.Goals as goal
 
 pub survey-requires-clause-can : goal.survey-requires-clause-can

@@ -2,8 +2,7 @@ use Rattle.std.proofs.Common.{◌∙◌, sym, subst}
 use Rattle.pas_profile.specs.declared.directory.Directory.{Directory}
 use Rattle.pas_steps.specs.Desks.{CanCall}
 use Rattle.pas_scan.specs.Scan.{Judges}
-use Rattle.pas_search.specs.Searches.{MaySearch}
-use Rattle.pas_search.proofs.FindingAPage.{ends_offered, ends_bare, ends_refused, bare_can, verdict_can, may_can, searches_by}
+use Rattle.pas_search.{specs.Searches.MaySearch, proofs.FindingAPage.{ends_offered, ends_bare, ends_refused, bare_can, verdict_can, may_can, searches_by}}
 use Rattle.pas_search.proofs.finding.find_page.Goals as goal
 
 pub search_offered-requires-clause-can : goal.search_offered-requires-clause-can

@@ -1,8 +1,6 @@
-use Rattle.std.proofs.Common.{◌≡◌, ℕ, ◌+◌, ◌*◌, ◌/◌, ◌%◌, ◌^◌, ◌<◌, inl, inr, arith, ap, sym, ◌∙◌, subst, MatchOption}
-use Rattle.std.proofs.lemmas.Bool.{cases_lt}
+use Rattle.std.proofs.{Common.{◌≡◌, ℕ, ◌+◌, ◌*◌, ◌/◌, ◌%◌, ◌^◌, ◌<◌, inl, inr, arith, ap, sym, ◌∙◌, subst, MatchOption}, lemmas.Bool.cases_lt}
 use Rattle.pas_bits.specs.Bits.{has_bit}
-use Rattle.pas_profile.specs.Directories.{number_of}
-use Rattle.pas_profile.specs.declared.{profile.Profile.Profile, word.Word.Word}
+use Rattle.pas_profile.specs.{Directories.number_of, declared.{profile.Profile.Profile, word.Word.Word}}
 use Rattle.pas_steps.specs.{Lists.word_after, Told.TellsWord}
 use Rattle.pas_search.proofs.ToldVisits.{none_open, may_pass}
 use Rattle.pas_search.proofs.passing.next_short.Goals as goal

@@ -1,8 +1,7 @@
 use Rattle.std.proofs.Common.{◌≡◌, ℕ, ◌*◌, ◌/◌, ◌%◌, ◌<◌, ◌≤◌, false}
 use Rattle.pas_bits.specs.Bits.{has_bit}
-use Rattle.pas_profile.specs.Directories.{number_of}
-use Rattle.pas_profile.specs.declared.word.Word.{Word}
-use Rattle.pas_steps.specs.{Lists.Whole, Lists.word_after, Views.View}
+use Rattle.pas_profile.specs.{Directories.number_of, declared.word.Word.Word}
+use Rattle.pas_steps.specs.{Lists.{Whole, word_after}, Views.View}
 use Rattle.pas_search.proofs.passing.next_short.Given as goal
 
 -- no page from `next` on to the ones of this block is offered

@@ -1,9 +1,7 @@
 use Rattle.std.proofs.Common.{◌≡◌, ◌∙◌, sym, ap, subst, arith, refl}
 use Rattle.pas_profile.specs.declared.profile.Profile.{Profile}
-use Rattle.pas_steps.specs.{Told.TookSteps, Desks.AnyView}
-use Rattle.pas_steps.proofs.Adding.{can_call}
-use Rattle.pas_search.specs.Passing.{passed_steps, PassesBy}
-use Rattle.pas_search.proofs.ToldVisits.{passes_turn, passes_none, passes_more}
+use Rattle.pas_steps.{specs.{Told.TookSteps, Desks.AnyView}, proofs.Adding.can_call}
+use Rattle.pas_search.{specs.Passing.{passed_steps, PassesBy}, proofs.ToldVisits.{passes_turn, passes_none, passes_more}}
 use Rattle.pas_search.proofs.passing.pass_short.Goals as goal
 
 pub loop-passed-init : goal.loop-passed-init

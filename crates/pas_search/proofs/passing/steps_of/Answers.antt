@@ -1,5 +1,4 @@
-use Rattle.std.proofs.Common.{◌≡◌, ◌+◌, ◌-◌, ◌*◌, ◌/◌, min, arith}
-use Rattle.std.proofs.{lemmas.Nat.zero_from_ones, Math.Nat.pos_of_ne-zero}
+use Rattle.std.proofs.{Common.{◌≡◌, ◌+◌, ◌-◌, ◌*◌, ◌/◌, min, arith}, lemmas.Nat.zero_from_ones, Math.Nat.pos_of_ne-zero}
 use Rattle.pas_bits.proofs.Rows.{ones_counted}
 use Rattle.pas_search.proofs.passing.steps_of.Goals as goal
 

@@ -1,5 +1,4 @@
-use Rattle.pas_segregated.specs.{Refills.exclusive_slots, Takes.fewer_slots}
-use Rattle.pas_segregated.proofs.GivenUp.{refill_alone}
+use Rattle.pas_segregated.{specs.{Refills.exclusive_slots, Takes.fewer_slots}, proofs.GivenUp.refill_alone}
 use Rattle.pas_segregated.proofs.laws.a_lone_refill_finds_what_there_is.Goals as goal
 
 pub returns : goal.returns

@@ -1,6 +1,5 @@
 use Rattle.std.proofs.Common.{[], refl}
-use Rattle.pas_segregated.specs.declared.slots.TheConstants.{STARTS}
-use Rattle.pas_segregated.proofs.Starts.{table_bits}
+use Rattle.pas_segregated.{specs.declared.slots.TheConstants.STARTS, proofs.Starts.table_bits}
 use Rattle.pas_segregated.proofs.slots.all_starts.Goals as goal
 
 pub returns : goal.returns

@@ -1,7 +1,6 @@
 use Rattle.std.proofs.Common.{subst}
 use Rattle.pas_steps.specs.Lists.{Whole}
-use Rattle.pas_shared.specs.Ruled.{IsEarlier}
-use Rattle.pas_shared.proofs.Ruling.{ends}
+use Rattle.pas_shared.{specs.Ruled.IsEarlier, proofs.Ruling.ends}
 use Rattle.pas_shared.proofs.closing.close_settled.Goals as goal
 
 pub returns : goal.returns

@@ -1,6 +1,4 @@
-use Rattle.std.proofs.Common.{◌+◌, ◌-◌, ◌*◌, refl, ◌∙◌, arith, inl, inr, ext_get_or}
-use Rattle.std.proofs.lemmas.Bool.{cases_lt}
-use Rattle.std.specs.Slots.{slots_items, slots_counts}
+use Rattle.std.{proofs.{Common.{◌+◌, ◌-◌, ◌*◌, refl, ◌∙◌, arith, inl, inr, ext_get_or}, lemmas.Bool.cases_lt}, specs.Slots.{slots_items, slots_counts}}
 use Rattle.pas_shared.proofs.closing.copy.Goals as goal
 
 pub loop-below-init : goal.loop-below-init

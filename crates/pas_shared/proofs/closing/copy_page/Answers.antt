@@ -1,5 +1,4 @@
-use Rattle.std.proofs.Common.{◌≡◌, ◌+◌, ◌-◌, ◌*◌, ℕ, ap, sym, subst, ◌∙◌, arith, get_or}
-use Rattle.std.specs.Slots.{slots_items}
+use Rattle.std.{proofs.Common.{◌≡◌, ◌+◌, ◌-◌, ◌*◌, ℕ, ap, sym, subst, ◌∙◌, arith, get_or}, specs.Slots.slots_items}
 use Rattle.pas_shared.proofs.Ruling.{read_at}
 use Rattle.pas_shared.proofs.closing.copy_page.Goals as goal
 

@@ -1,6 +1,5 @@
 use Rattle.std.proofs.Common.{◌≡◌, ◌≢◌, ◌<◌, ℕ, length, refl, sym, subst, ◌∙◌, arith, inl, inr, set, get_or, get_or-set_other, get_or-set_same, length-set}
-use Rattle.std.proofs.lemmas.Bool.{cases_lt}
-use Rattle.std.specs.Slots.{slots_items}
+use Rattle.std.{proofs.lemmas.Bool.cases_lt, specs.Slots.slots_items}
 use Rattle.pas_shared.proofs.Ruling.{read_at}
 use Rattle.pas_shared.proofs.closing.copy_part.Goals as goal
 

@@ -1,5 +1,4 @@
-use Rattle.std.proofs.Common.{◌≡◌, ◌<◌, ◌≤◌, ℕ, length, get_or}
-use Rattle.std.specs.Slots.{slots_items}
+use Rattle.std.{proofs.Common.{◌≡◌, ◌<◌, ◌≤◌, ℕ, length, get_or}, specs.Slots.slots_items}
 use Rattle.pas_shared.proofs.closing.copy_part.Given as goal
 
 -- those from the first place up to here are copied, and the others are as they were

@@ -1,7 +1,6 @@
 use Rattle.std.proofs.Common.{◌≡◌, List, [], ◌∷◌, ◌++◌, ap, sym, subst, ◌∙◌, append_assoc}
-use Rattle.pas_shared.specs.Ruled.{joined, seen_in, view_in, IsNoBench}
-use Rattle.pas_shared.specs.declared.pass.SharedPass.{SharedPass}
-use Rattle.pas_shared.proofs.{Ruling.takes_in, Ruling.seen_still, Ruling.no_bench_still, Pops.last_is}
+use Rattle.pas_shared.{specs.{Ruled.{joined, seen_in, view_in, IsNoBench}, declared.pass.SharedPass.SharedPass}, proofs.Ruling.{takes_in, seen_still}}
+use Rattle.pas_shared.proofs.{Ruling.no_bench_still, Pops.last_is}
 use Rattle.pas_shared.proofs.closing.join_all.Goals as goal
 
 -- the last pass, and those before it, are of the table

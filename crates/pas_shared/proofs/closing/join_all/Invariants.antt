@@ -1,7 +1,5 @@
-use Rattle.std.proofs.Common.{◌≡◌, List, ◌++◌, []}
-use Rattle.std.specs.List.{All}
-use Rattle.pas_shared.specs.declared.pass.SharedPass.{SharedPass}
-use Rattle.pas_shared.specs.{Ruled.seen_in, Ruled.IsNoBench, Passes.IsNamed}
+use Rattle.std.{proofs.Common.{◌≡◌, List, ◌++◌, []}, specs.List.All}
+use Rattle.pas_shared.specs.{declared.pass.SharedPass.SharedPass, Ruled.{seen_in, IsNoBench}, Passes.IsNamed}
 use Rattle.pas_shared.proofs.closing.join_all.Given as goal
 
 -- the seat names the actors of the passes that were taken in

@@ -1,8 +1,6 @@
-use Rattle.std.proofs.Common.{◌≤◌, List, ℕ, ap, sym, subst, ◌∙◌, slice_index}
-use Rattle.std.specs.Slots.{slots_items}
+use Rattle.std.{proofs.Common.{◌≤◌, List, ℕ, ap, sym, subst, ◌∙◌, slice_index}, specs.Slots.slots_items}
 use Rattle.pas_profile.specs.Layouts.{index_of}
-use Rattle.pas_shared.proofs.{Ruling.left_by, BarePages.as_opened}
-use Rattle.pas_shared.specs.Left.{IsAsOpened}
+use Rattle.pas_shared.{proofs.{Ruling.left_by, BarePages.as_opened}, specs.Left.IsAsOpened}
 use Rattle.pas_shared.proofs.closing.words_left.Goals as goal
 
 pub returns : goal.returns

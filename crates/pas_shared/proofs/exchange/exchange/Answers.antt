@@ -1,6 +1,5 @@
 -- each arm makes the step's new value of its word
-use Rattle.std.proofs.Common.{◌==◌, ◌+◌, ◌/◌, bit_and, bit_or, refl, ap, sym, ◌∙◌, w64}
-use Rattle.std.specs.Int.{bit_not}
+use Rattle.std.{proofs.Common.{◌==◌, ◌+◌, ◌/◌, bit_and, bit_or, refl, ap, sym, ◌∙◌, w64}, specs.Int.bit_not}
 use prog.Atomic.{either}
 use Rattle.pas_profile.specs.{Directories.deed_word_of, Lives.live_word}
 use Rattle.pas_shared.proofs.Ruling.{may_make, either_if}

@@ -1,7 +1,6 @@
 -- the load is allowed whatever it finds, and so is the exchange at the seat that it left: a word that the change alters isn't left as it is
 use Rattle.std.proofs.Common.{ap, ◌∙◌}
-use Rattle.pas_shared.specs.Ruled.{changed}
-use Rattle.pas_shared.proofs.Ruling.{may_look_first, may_change}
+use Rattle.pas_shared.{specs.Ruled.changed, proofs.Ruling.{may_look_first, may_change}}
 use Rattle.pas_shared.proofs.exchange.make_change.Goals as goal
 
 pub load-found-requires : goal.load-found-requires

@@ -1,6 +1,5 @@
 use Rattle.std.proofs.Common.{◌≡◌, ℕ, [], refl, sym, ap, ◌∙◌, subst, true}
-use Rattle.pas_shared.specs.{Ruled.among, Ruled.rows_in, Benches.first_row}
-use Rattle.pas_shared.proofs.{Benching.leaves_as, GivingBack.some_word}
+use Rattle.pas_shared.{specs.{Ruled.{among, rows_in}, Benches.first_row}, proofs.{Benching.leaves_as, GivingBack.some_word}}
 use Rattle.pas_shared.proofs.leaving.leave.Goals as goal
 
 pub split_seat-requires : goal.split_seat-requires

@@ -1,8 +1,7 @@
 use Rattle.std.proofs.Common.{◌≡◌, ◌≤◌, ℕ, ◌+◌, ◌++◌, ◌∷◌, [], List, length, vec_len, sym, ap, ◌∙◌, subst, arith}
 use Rattle.pas_profile.specs.Rooms.{shown, EventRoom}
-use Rattle.pas_shared.specs.declared.{rule.Roster.TheVariants.Unused, pass.SharedPass.SharedPass}
-use Rattle.pas_shared.specs.Passes.{AreFresh}
-use Rattle.pas_shared.proofs.{Opened.fresh_more, Opened.one_done, Pops.others_are}
+use Rattle.pas_shared.{specs.{declared.{rule.Roster.TheVariants.Unused, pass.SharedPass.SharedPass}, Passes.AreFresh}, proofs.Opened.{fresh_more, one_done}}
+use Rattle.pas_shared.proofs.Pops.{others_are}
 use Rattle.pas_shared.proofs.opening.deal.Goals as goal
 
 pub loop-room-preserved : goal.loop-room-preserved

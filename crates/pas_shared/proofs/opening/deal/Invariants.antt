@@ -1,8 +1,6 @@
-use Rattle.std.proofs.Common.{◌≡◌, ◌≤◌, ◌+◌, ◌++◌, List, [], length, vec_len, vec_capacity}
-use Rattle.std.specs.List.{All}
+use Rattle.std.{proofs.Common.{◌≡◌, ◌≤◌, ◌+◌, ◌++◌, List, [], length, vec_len, vec_capacity}, specs.List.All}
 use Rattle.pas_profile.specs.Rooms.{shown, EventRoom}
-use Rattle.pas_shared.specs.declared.rule.Roster.TheVariants.{Unused}
-use Rattle.pas_shared.specs.Passes.{AreFresh}
+use Rattle.pas_shared.specs.{declared.rule.Roster.TheVariants.Unused, Passes.AreFresh}
 use Rattle.pas_shared.proofs.opening.deal.Given as goal
 
 -- the passes so far are those of the first rooms, and the seat names the other actors

@@ -1,8 +1,6 @@
-use Rattle.std.proofs.Common.{◌∙◌, ◌∷◌, ◌++◌, [], List, Option, Some, ap, map, sym, subst, IfSome}
-use Rattle.std.proofs.lemmas.List.{map-append}
-use Rattle.pas_shared.specs.{Passes.IsPassOf, Workers.HasPass, Workers.pass_of, Workers.work_of}
-use Rattle.pas_shared.specs.declared.pass.SharedPass.{SharedPass}
-use Rattle.pas_shared.proofs.Pops.{all_more, first_is, others_are, first_moves}
+use Rattle.std.proofs.{Common.{◌∙◌, ◌∷◌, ◌++◌, [], List, Option, Some, ap, map, sym, subst, IfSome}, lemmas.List.map-append}
+use Rattle.pas_shared.{specs.{Passes.IsPassOf, Workers.{HasPass, pass_of, work_of}, declared.pass.SharedPass.SharedPass}, proofs.Pops.{all_more, first_is}}
+use Rattle.pas_shared.proofs.Pops.{others_are, first_moves}
 use Rattle.pas_shared.proofs.workers.into_passes.Goals as goal
 
 pub loop-worker-preserved : goal.loop-worker-preserved

@@ -1,5 +1,5 @@
 use Rattle.std.proofs.Common.{◌≡◌, ◌++◌, Some, All, map}
-use Rattle.pas_shared.specs.{Passes.IsPassOf, Workers.HasPass, Workers.pass_of, Workers.work_of}
+use Rattle.pas_shared.specs.{Passes.IsPassOf, Workers.{HasPass, pass_of, work_of}}
 use Rattle.pas_shared.proofs.workers.into_passes.Given as goal
 
 -- the workers that are left, behind those that were taken apart

@@ -1,7 +1,6 @@
 -- The free words below the number are filled.
 use Rattle.std.proofs.Common.{◌≡◌, ℕ, ◌+◌, ◌-◌, ◌*◌, ◌^◌, if◌then◌else◌, vec_len, slice_index, nat_lt}
-use Rattle.pas_profile.specs.{Profiles.IsWordIn, Layouts.index_of, Layouts.words_of}
-use Rattle.pas_profile.specs.declared.word.Word.{Word}
+use Rattle.pas_profile.specs.{Profiles.IsWordIn, Layouts.{index_of, words_of}, declared.word.Word.Word}
 use Rattle.pas_steps.proofs.opening.opening_words.Given as goal
 
 -- a word's value where the first n free words are filled, 4 a page

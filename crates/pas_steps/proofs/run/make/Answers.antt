@@ -1,8 +1,6 @@
 use Rattle.std.proofs.Common.{ℕ, ◌≡◌, refl, ap, ◌∙◌, if◌then◌else◌, Option, None, Some, unwrap_or}
-use Rattle.pas_profile.specs.Layouts.{same_word}
-use Rattle.pas_profile.specs.declared.word.Word.{Word}
-use Rattle.pas_steps.specs.{Effects.target, Effects.new_value, States.word_in, Views.or_zero}
-use Rattle.pas_steps.specs.declared.state.State.{State}
+use Rattle.pas_profile.specs.{Layouts.same_word, declared.word.Word.Word}
+use Rattle.pas_steps.specs.{Effects.{target, new_value}, States.word_in, Views.or_zero, declared.state.State.State}
 use Rattle.pas_steps.proofs.run.make.Goals as goal
 
 -- an actor that knows no epoch steps as one that knows 0

@@ -1,10 +1,7 @@
-use Rattle.std.proofs.Common.{ℕ, get_or, replicate, None, refl, sym, subst, take_all}
-use Rattle.std.proofs.lemmas.List.{get_or-replicate}
-use Rattle.pas_profile.specs.Profiles.{IsWordOf}
-use Rattle.pas_profile.specs.declared.word.Word.{Word}
-use Rattle.pas_steps.specs.{Effects.target, States.profile_of}
-use Rattle.pas_steps.specs.declared.step.Step.{Step, TheVariants.Look}
-use Rattle.pas_steps.proofs.Running.{step_at, at_actor, at_ranged, at_word, so_far_first, so_far_next, so_far_last}
+use Rattle.std.proofs.{Common.{ℕ, get_or, replicate, None, refl, sym, subst, take_all}, lemmas.List.get_or-replicate}
+use Rattle.pas_profile.specs.{Profiles.IsWordOf, declared.word.Word.Word}
+use Rattle.pas_steps.{specs.{Effects.target, States.profile_of, declared.step.Step.{Step, TheVariants.Look}}, proofs.Running.{step_at, at_actor, at_ranged}}
+use Rattle.pas_steps.proofs.Running.{at_word, so_far_first, so_far_next, so_far_last}
 use Rattle.pas_steps.proofs.run.run_steps.Goals as goal
 
 pub loop-actor-init : goal.loop-actor-init

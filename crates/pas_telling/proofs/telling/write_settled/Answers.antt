@@ -1,9 +1,7 @@
-use Rattle.std.proofs.Common.{rules, ◌++◌, ap, sym, subst}
-use Rattle.std.proofs.lemmas.Result.{on_err_weaker}
+use Rattle.std.proofs.{Common.{rules, ◌++◌, ap, sym, subst}, lemmas.Result.on_err_weaker}
 use Rattle.pas_io.specs.Told.{WritesFront}
 use Rattle.pas_report.specs.Counts.{report_by_words}
-use Rattle.pas_records.specs.Lines.{lines_of}
-use Rattle.pas_records.proofs.Pieces.{front_longer}
+use Rattle.pas_records.{specs.Lines.lines_of, proofs.Pieces.front_longer}
 use Rattle.pas_telling.proofs.Fronts.{front_after}
 use Rattle.pas_telling.proofs.telling.write_settled.Goals as goal
 

@@ -2,7 +2,7 @@ use Rattle.std.proofs.Common.{[], ◌++◌, ap, ◌∙◌, arith}
 use Rattle.pas_plain.specs.{Plain.profile_of, Storms.storm_of}
 use Rattle.pas_segregated.specs.Stops.{class_directory}
 use Rattle.pas_steps.specs.Desks.{Seat}
-use Rattle.pas_tests.proofs.{Besides.may_search, Stormed.of_heap, Stormed.room_left, Stormed.may_refill}
+use Rattle.pas_tests.proofs.{Besides.may_search, Stormed.{of_heap, room_left, may_refill}}
 use Rattle.pas_trials.proofs.Opened.{storm_stands}
 use Rattle.pas_tests.proofs.beside_tests.refill_in_a_storm.Goals as goal
 

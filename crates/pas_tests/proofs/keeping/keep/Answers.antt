@@ -1,7 +1,6 @@
 use Rattle.std.proofs.Common.{◌≡◌, ℕ, ◌≤◌, ◌+◌, ◌-◌, ◌∙◌, refl, sym, subst, arith}
 use Rattle.pas_steps.specs.Desks.{Seat, CanCall}
-use Rattle.pas_tests.specs.Kept.{MayKeep}
-use Rattle.pas_tests.proofs.BetweenCalls.{keeps_after_looks, admits_page, can_fit, can_try, keeps_after_try, can_lower, nothing_up}
+use Rattle.pas_tests.{specs.Kept.MayKeep, proofs.BetweenCalls.{keeps_after_looks, admits_page, can_fit, can_try, keeps_after_try, can_lower, nothing_up}}
 use Rattle.pas_tests.proofs.keeping.keep.Goals as goal
 
 pub loop-round-init : goal.loop-round-init

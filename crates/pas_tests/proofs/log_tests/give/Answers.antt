@@ -1,16 +1,12 @@
 -- Each step is allowed by the steps before it, whose answers are told.
 use Rattle.std.proofs.Common.{◌≡◌, ℕ, ◌-◌, ◌/◌, ◌%◌, ◌^◌, ◌⊎◌, Bool, true, false, ◌&&◌, ◌||◌, ◌==◌, not, bit_and, if◌then◌else◌, [], ◌∷◌, inl, inr, refl, ap}
-use Rattle.std.proofs.Common.{sym, subst, arith, leb, ltb, leb-true, ltb-true}
-use Rattle.std.proofs.lemmas.Bool.{and_parts, cases_eq}
-use Rattle.pas_profile.specs.declared.{directory.Directory.Directory, directory.Kind.TheVariants.Bitfit, name.Block.Block, name.Name.Name}
-use Rattle.pas_profile.specs.declared.{profile.Profile.Profile, word.Word.Word}
+use Rattle.std.proofs.{Common.{sym, subst, arith, leb, ltb, leb-true, ltb-true}, lemmas.Bool.{and_parts, cases_eq}}
+use Rattle.pas_profile.specs.declared.{directory.{Directory.Directory, Kind.TheVariants.Bitfit}, name.{Block.Block, Name.Name}, profile.Profile.Profile}
+use Rattle.pas_profile.specs.declared.word.Word.{Word}
 use Rattle.pas_bits.specs.Runs.{in_run}
-use Rattle.pas_steps.specs.{Allowed.Allowed, Allowed.KnowsBearing, Clear.IsClear, Desks.made}
-use Rattle.pas_steps.specs.Views.{View, any_below, holds, has_right, known_deed, knows_backed, known_life, owes_hint, examines, all_ones}
-use Rattle.pas_steps.specs.declared.step.Step.TheVariants.{Look, Deed, Back, Take, Give}
-use Rattle.pas_plain.specs.Plain.{actor_of}
-use Rattle.pas_plain.specs.declared.desk.PlainDesk.{PlainDesk}
-use Rattle.pas_plain.proofs.Desks.{At, start, next, can, told, spare}
+use Rattle.pas_steps.specs.{Allowed.{Allowed, KnowsBearing}, Clear.IsClear, Desks.made, Views.{View, any_below, holds, has_right, known_deed, knows_backed}}
+use Rattle.pas_steps.specs.{Views.{known_life, owes_hint, examines, all_ones}, declared.step.Step.TheVariants.{Look, Deed, Back, Take, Give}}
+use Rattle.pas_plain.{specs.{Plain.actor_of, declared.desk.PlainDesk.PlainDesk}, proofs.Desks.{At, start, next, can, told, spare}}
 use Rattle.pas_tests.proofs.log_tests.give.Goals.{After-take-2, After-back-2}
 use Rattle.pas_tests.proofs.log_tests.give.Goals as goal
 

@@ -1,9 +1,7 @@
 use Rattle.std.proofs.Common.{◌≡◌, [], ap, ◌∙◌, arith}
 use Rattle.pas_profile.specs.declared.profile.Profile.{Profile}
-use Rattle.pas_steps.specs.Desks.{Seat}
-use Rattle.pas_plain.specs.Plain.{profile_of}
-use Rattle.pas_plain.specs.declared.region.PlainRegion.{PlainRegion}
-use Rattle.pas_steps.proofs.Nothing.{nothing_yet}
+use Rattle.pas_steps.{specs.Desks.Seat, proofs.Nothing.nothing_yet}
+use Rattle.pas_plain.specs.{Plain.profile_of, declared.region.PlainRegion.PlainRegion}
 use Rattle.pas_tests.proofs.Besides.{may_search, whole_room, beside_first, waits_first, seated_then, beside_second}
 use Rattle.pas_tests.proofs.pass_tests.refill_and_pass.Goals as goal
 

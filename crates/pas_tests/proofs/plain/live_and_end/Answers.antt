@@ -1,15 +1,11 @@
 -- Each step of the test is allowed by the steps before it, whose answers are told.
-use Rattle.std.proofs.Common.{◌≡◌, ℕ, ◌-◌, ◌/◌, ◌%◌, ◌^◌, true, [], ◌∷◌, refl, ap, sym, subst, arith, leb, ltb, leb-true, ltb-true}
-use Rattle.std.proofs.lemmas.Bool.{and_parts}
-use Rattle.pas_profile.specs.declared.{directory.Directory.Directory, directory.Kind.TheVariants.Class, name.Block.Block, name.Name.Name}
-use Rattle.pas_profile.specs.declared.{profile.Profile.Profile, word.Word.Word}
+use Rattle.std.proofs.{Common.{◌≡◌, ℕ, ◌-◌, ◌/◌, ◌%◌, ◌^◌, true, [], ◌∷◌, refl, ap, sym, subst, arith, leb, ltb, leb-true, ltb-true}, lemmas.Bool.and_parts}
+use Rattle.pas_profile.specs.declared.{directory.{Directory.Directory, Kind.TheVariants.Class}, name.{Block.Block, Name.Name}, profile.Profile.Profile}
+use Rattle.pas_profile.specs.declared.word.Word.{Word}
 use Rattle.pas_bits.specs.Runs.{in_run}
-use Rattle.pas_steps.specs.{Allowed.Allowed, Allowed.KnowsBearing, Desks.made}
-use Rattle.pas_steps.specs.Views.{View, any_below, holds, has_right, known_deed, knows_backed, known_life}
+use Rattle.pas_steps.specs.{Allowed.{Allowed, KnowsBearing}, Desks.made, Views.{View, any_below, holds, has_right, known_deed, knows_backed, known_life}}
 use Rattle.pas_steps.specs.declared.step.Step.TheVariants.{Look, Deed, Back, Take, Give, End}
-use Rattle.pas_plain.specs.Plain.{actor_of}
-use Rattle.pas_plain.specs.declared.desk.PlainDesk.{PlainDesk}
-use Rattle.pas_plain.proofs.Desks.{At, start, next, can, told, spare}
+use Rattle.pas_plain.{specs.{Plain.actor_of, declared.desk.PlainDesk.PlainDesk}, proofs.Desks.{At, start, next, can, told, spare}}
 use Rattle.pas_tests.proofs.plain.live_and_end.Goals.{After-take, After-look-2}
 use Rattle.pas_tests.proofs.plain.live_and_end.Goals as goal
 

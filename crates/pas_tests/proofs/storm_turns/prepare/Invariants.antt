@@ -1,5 +1,5 @@
 use Rattle.std.proofs.Common.{◌≡◌}
-use Rattle.pas_plain.specs.{Plain.profile_of, Plain.room_of_pass, Plain.forgotten_by, Seats.region_of, Seats.pass_of}
+use Rattle.pas_plain.specs.{Plain.{profile_of, room_of_pass, forgotten_by}, Seats.{region_of, pass_of}}
 use Rattle.pas_tests.specs.Seated.{RestsBeside}
 use Rattle.pas_trials.specs.Storms.{cache_of}
 use Rattle.pas_tests.proofs.storm_turns.prepare.Given as goal

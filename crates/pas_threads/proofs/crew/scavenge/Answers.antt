@@ -1,8 +1,8 @@
 use Rattle.std.proofs.Common.{◌∙◌, refl, arith}
 use Rattle.pas_trace.specs.declared.plan.{Op.Op, What.TheVariants.Alloc}
 use Rattle.pas_threads.proofs.ByCrew.{chore_sound, next_acts, skip_acts, crew_begins, crew_before, crew_goes_on, crew_skips, crew_ends}
-use Rattle.pas_threads.proofs.crew.scavenge.Goals as goal
 use Rattle.pas_threads.proofs.crew.scavenge.Goals.{in-Chore, in_default}
+use Rattle.pas_threads.proofs.crew.scavenge.Goals as goal
 
 abbrev past : Op
 past = record { line = 0; actor = 0; what = Alloc 0 0 0 0 }

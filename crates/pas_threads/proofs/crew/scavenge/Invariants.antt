@@ -4,9 +4,7 @@ use Rattle.pas_shared.specs.declared.bench_desk.BenchHome.{BenchHome}
 use Rattle.pas_trace.specs.{EveryPlan.AreSound, Acts.scavenger_acts}
 use Rattle.pas_utility.specs.Outcomes.{places_of}
 use Rattle.pas_answers.specs.Answers.{Progress}
-use Rattle.pas_threads.specs.Lent.{Shift, home_at, standing_at, SitsLent}
-use Rattle.pas_threads.specs.Crews.{crew, CrewSits}
-use Rattle.pas_threads.proofs.ByCrew.{CrewSoFar}
+use Rattle.pas_threads.{specs.{Lent.{Shift, home_at, standing_at, SitsLent}, Crews.{crew, CrewSits}}, proofs.ByCrew.CrewSoFar}
 use Rattle.pas_threads.proofs.crew.scavenge.Given as goal
 
 abbrev pub invariant-loop-op : goal.invariant-loop-op

@@ -1,10 +1,8 @@
 use Rattle.std.proofs.Common.{◌∙◌, [], refl, ap, sym, subst, arith}
 use Rattle.pas_profile.specs.declared.profile.Profile.{Profile}
 use Rattle.pas_shared.specs.Benches.{seat_of_member}
-use Rattle.pas_trace.specs.{EveryPlan.IsSoundWork, Acts.acts_of_chore}
-use Rattle.pas_trace.specs.declared.plan.Work.{Work}
-use Rattle.pas_threads.proofs.ByCrew.{costs_stops, room_for_act, still_lent, as_acts, to_acts, did_alone, did_idle}
-use Rattle.pas_threads.proofs.CrewSits.{lent_stays}
+use Rattle.pas_trace.specs.{EveryPlan.IsSoundWork, Acts.acts_of_chore, declared.plan.Work.Work}
+use Rattle.pas_threads.proofs.{ByCrew.{costs_stops, room_for_act, still_lent, as_acts, to_acts, did_alone, did_idle}, CrewSits.lent_stays}
 use Rattle.pas_threads.proofs.crew.scavenge_one.Goals as goal
 
 pub tick-requires-clause-epoch : goal.tick-requires-clause-epoch

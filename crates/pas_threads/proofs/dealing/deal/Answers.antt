@@ -1,8 +1,7 @@
 use Rattle.std.proofs.Common.{◌≡◌, ◌∙◌, ◌+◌, ◌++◌, [], ◌∷◌, ap, sym, refl, arith, map, reverse, length, length-append, drop_of_length-le}
-use Rattle.std.proofs.lemmas.{Bool.not_from_true, Bool.not_from_false, List.map_push, List.reverse-reverse}
-use Rattle.pas_threads.specs.Dealing.{picked, is_in, is_out}
-use Rattle.pas_threads.specs.declared.hands.Hand.TheVariants.{Thread}
-use Rattle.pas_threads.proofs.Dealt.{pile_grows, pile_stays, pile_whole, last_left}
+use Rattle.std.proofs.lemmas.{Bool.{not_from_true, not_from_false}, List.{map_push, reverse-reverse}}
+use Rattle.pas_threads.{specs.{Dealing.{picked, is_in, is_out}, declared.hands.Hand.TheVariants.Thread}, proofs.Dealt.{pile_grows, pile_stays, pile_whole}}
+use Rattle.pas_threads.proofs.Dealt.{last_left}
 use Rattle.pas_threads.proofs.dealing.deal.Goals as goal
 
 pub loop-worker-init : goal.loop-worker-init

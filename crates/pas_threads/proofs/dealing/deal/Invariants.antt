@@ -1,7 +1,6 @@
 -- the workers so far are dealt, and there are places for the others
 use Rattle.std.proofs.Common.{◌≡◌, ◌+◌, ◌++◌, ◌≤◌, List, map, length, reverse, vec_capacity}
-use Rattle.pas_threads.specs.Dealing.{picked, is_in, is_out}
-use Rattle.pas_threads.specs.declared.{workers.Worker.Worker, hands.Hand.TheVariants.Thread}
+use Rattle.pas_threads.specs.{Dealing.{picked, is_in, is_out}, declared.{workers.Worker.Worker, hands.Hand.TheVariants.Thread}}
 use Rattle.pas_threads.proofs.dealing.deal.Given as goal
 
 abbrev pub invariant-loop-worker : goal.invariant-loop-worker

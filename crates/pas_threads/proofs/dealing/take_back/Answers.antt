@@ -1,9 +1,7 @@
-use Rattle.std.proofs.Common.{◌≡◌, ◌∙◌, ◌+◌, ◌-◌, ℕ, suc, inl, inr, ap, sym, refl, subst, arith, length, length-append}
-use Rattle.std.proofs.lemmas.Bool.{cases_Bool}
+use Rattle.std.proofs.{Common.{◌≡◌, ◌∙◌, ◌+◌, ◌-◌, ℕ, suc, inl, inr, ap, sym, refl, subst, arith, length, length-append}, lemmas.Bool.cases_Bool}
 use Rattle.pas_bits.specs.Masks.{is_set}
-use Rattle.pas_threads.proofs.Dealt.{SoTaken, none_taken, some_in, some_out, taken_in, taken_out, all_taken}
+use Rattle.pas_threads.proofs.{Dealt.{SoTaken, none_taken, some_in, some_out, taken_in, taken_out, all_taken}, dealing.take_back.Goals.After-get}
 use Rattle.pas_threads.proofs.dealing.take_back.Goals as goal
-use Rattle.pas_threads.proofs.dealing.take_back.Goals.{After-get}
 
 -- the next of the threads that are left
 module _ (c : After-get) where

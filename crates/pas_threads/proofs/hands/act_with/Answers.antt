@@ -1,8 +1,6 @@
-use Rattle.std.proofs.Common.{rules, ◌∙◌, ◌++◌, ◌∷◌, [], length, ap, sym, subst}
-use Rattle.pas_threads.specs.{Acting.DidEach, Scavengers.DidScavenge}
-use Rattle.pas_threads.specs.declared.hands.Hand.TheVariants.{Scavenger}
-use Rattle.std.proofs.lemmas.List.{same_from_push}
-use Rattle.pas_threads.proofs.Dealt.{threads_may, all_may, threads_did, all_did, each_from, same_scavenger}
+use Rattle.std.proofs.{Common.{rules, ◌∙◌, ◌++◌, ◌∷◌, [], length, ap, sym, subst}, lemmas.List.same_from_push}
+use Rattle.pas_threads.{specs.{Acting.DidEach, Scavengers.DidScavenge, declared.hands.Hand.TheVariants.Scavenger}, proofs.Dealt.{threads_may, all_may}}
+use Rattle.pas_threads.proofs.Dealt.{threads_did, all_did, each_from, same_scavenger}
 use Rattle.pas_threads.proofs.hands.act_with.Goals as goal
 
 pub act_all-requires-clause-may : goal.act_all-requires-clause-may

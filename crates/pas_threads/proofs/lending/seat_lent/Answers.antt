@@ -1,7 +1,5 @@
 use Rattle.std.proofs.Common.{◌≡◌, ◌≢◌, ◌∙◌, refl, sym, subst, arith, get_or-set_other}
-use Rattle.pas_threads.specs.Hands.{HasPass}
-use Rattle.pas_threads.specs.declared.workers.Worker.{Worker}
-use Rattle.pas_threads.proofs.CrewSits.{seats_begin, seats_go_on, seats_end}
+use Rattle.pas_threads.{specs.{Hands.HasPass, declared.workers.Worker.Worker}, proofs.CrewSits.{seats_begin, seats_go_on, seats_end}}
 use Rattle.pas_threads.proofs.lending.seat_lent.Goals as goal
 
 pub loop-index-init : goal.loop-index-init

@@ -1,5 +1,4 @@
-use Rattle.std.proofs.Common.{◌∙◌, refl, sym, subst}
-use Rattle.std.proofs.lemmas.Option.{same_Some}
+use Rattle.std.proofs.{Common.{◌∙◌, refl, sym, subst}, lemmas.Option.same_Some}
 use Rattle.pas_shared.specs.Passes.{IsPassOf}
 use Rattle.pas_threads.proofs.lending.seat_one.Goals as goal
 

@@ -2,8 +2,7 @@ use Rattle.std.proofs.Common.{◌∙◌, length, refl, ap, sym, arith, length-ap
 use Rattle.pas_records.specs.Rooms.{records_in}
 use Rattle.pas_shared.specs.declared.bench.Member.{Member}
 use Rattle.pas_answers.specs.Ways.{records_by}
-use Rattle.pas_threads.specs.Lent.{number_in}
-use Rattle.pas_threads.proofs.ByCrew.{stops_begin, stops_go_on, stops_end}
+use Rattle.pas_threads.{specs.Lent.number_in, proofs.ByCrew.{stops_begin, stops_go_on, stops_end}}
 use Rattle.pas_threads.proofs.lending.stop_idle.Goals as goal
 
 pub loop-index-init : goal.loop-index-init

@@ -1,5 +1,4 @@
-use Rattle.std.proofs.Common.{◌∙◌, Some, refl, ap, sym, subst}
-use Rattle.std.proofs.lemmas.Option.{same_Some}
+use Rattle.std.proofs.{Common.{◌∙◌, Some, refl, ap, sym, subst}, lemmas.Option.same_Some}
 use Rattle.pas_shared.specs.Benches.{MaySitOn}
 use Rattle.pas_acts.proofs.AtDesk.{leaves_rest}
 use Rattle.pas_threads.proofs.CrewSits.{may_sit, may_again, rests_at, home_moved, was_stopped}

@@ -1,5 +1,4 @@
-use Rattle.std.proofs.Common.{◌≡◌, ◌<◌, [], length, arith, length-set}
-use Rattle.std.proofs.lemmas.List.Elements.{All-set}
+use Rattle.std.proofs.{Common.{◌≡◌, ◌<◌, [], length, arith, length-set}, lemmas.List.Elements.All-set}
 use Rattle.pas_profile.specs.Rooms.{shown, EventRoom}
 use Rattle.pas_threads.proofs.StartAndEnd.{one_moved}
 use Rattle.pas_threads.proofs.making.move_rooms.Goals as goal

@@ -1,15 +1,10 @@
 use Rattle.std.proofs.Common.{◌≡◌, ◌≤◌, ◌+◌, ◌++◌, ℕ, List, take, drop, length, slice_index, ap, sym, ◌∙◌, subst, arith, vec_capacity, length-drop}
-use Rattle.std.proofs.Common.{length-take-le, take-append-drop}
-use Rattle.std.proofs.lemmas.Option.{same_Some}
-use Rattle.pas_trace.specs.Plans.{bounds_of}
-use Rattle.pas_trace.proofs.Keepers.{plan_actors}
+use Rattle.std.proofs.{Common.{length-take-le, take-append-drop}, lemmas.Option.same_Some}
+use Rattle.pas_trace.{specs.Plans.bounds_of, proofs.Keepers.plan_actors}
 use Rattle.pas_shared.specs.declared.pass.SharedPass.{SharedPass}
-use Rattle.pas_answers.specs.Names.{names_held}
-use Rattle.pas_answers.specs.Replays.{phases_of, region_of, threads_of, keepers_of}
-use Rattle.pas_acts.proofs.Naming.{all_higher}
-use Rattle.pas_acts.proofs.PlanFacts.{plan_valid, plan_threads, plan_bounds, plan_below}
-use Rattle.pas_threads.specs.Kits.{AreEquipped, IsSupplied, AreKeptBy}
-use Rattle.pas_threads.proofs.Keepers.{have_keepers}
+use Rattle.pas_answers.specs.{Names.names_held, Replays.{phases_of, region_of, threads_of, keepers_of}}
+use Rattle.pas_acts.proofs.{Naming.all_higher, PlanFacts.{plan_valid, plan_threads, plan_bounds, plan_below}}
+use Rattle.pas_threads.{specs.Kits.{AreEquipped, IsSupplied, AreKeptBy}, proofs.Keepers.have_keepers}
 use Rattle.pas_threads.proofs.making.team_for.Goals as goal
 
 -- the passes of the threads, and those of the keepers behind them

@@ -1,13 +1,10 @@
 use Rattle.std.proofs.Common.{◌≡◌, ◌+◌, ◌++◌, ◌∷◌, [], length, drop, slice_index, suc, Some, None, IfSome, refl, ap, subst, arith, ◌∙◌, length-drop}
-use Rattle.std.proofs.Common.{length-append}
-use Rattle.std.proofs.lemmas.List.Elements.{All-pop}
-use Rattle.pas_cache.specs.Caches.{cached}
-use Rattle.pas_cache.specs.declared.cache.ThreadCache.{ThreadCache}
+use Rattle.std.proofs.{Common.length-append, lemmas.List.Elements.All-pop}
+use Rattle.pas_cache.specs.{Caches.cached, declared.cache.ThreadCache.ThreadCache}
 use Rattle.pas_shared.proofs.Opened.{one_done}
 use Rattle.pas_answers.specs.Replays.{empty_cache}
-use Rattle.pas_threads.specs.Kits.{IsEquipped, IsKeptBy, most_records}
-use Rattle.pas_threads.specs.declared.workers.Worker.{Worker}
-use Rattle.pas_threads.proofs.{Keepers.keeper_next, Keepers.kept_more, StartAndEnd.equipped_more}
+use Rattle.pas_threads.{specs.{Kits.{IsEquipped, IsKeptBy, most_records}, declared.workers.Worker.Worker}, proofs.Keepers.{keeper_next, kept_more}}
+use Rattle.pas_threads.proofs.StartAndEnd.{equipped_more}
 use Rattle.pas_threads.proofs.making.workers_for.Goals as goal
 
 pub keeper_for-requires-clause-books : goal.keeper_for-requires-clause-books

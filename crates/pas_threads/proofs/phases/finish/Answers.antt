@@ -1,15 +1,11 @@
-use Rattle.std.proofs.Common.{◌≡◌, ◌+◌, ◌≤◌, ◌∙◌, length, refl, sym, subst, arith, ap, vec_capacity, List, []}
+use Rattle.std.proofs.{Common.{◌≡◌, ◌+◌, ◌≤◌, ◌∙◌, length, refl, sym, subst, arith, ap, vec_capacity, List, []}, lemmas.List.with_items_is}
 use Rattle.std.specs.Vec.{with_items}
-use Rattle.std.proofs.lemmas.List.{with_items_is}
 use Rattle.pas_records.specs.Rooms.{records_in, room_of}
-use Rattle.pas_shared.specs.Ledgers.{so_far}
-use Rattle.pas_shared.specs.declared.region.SharedRegion.{SharedRegion}
+use Rattle.pas_shared.specs.{Ledgers.so_far, declared.region.SharedRegion.SharedRegion}
 use Rattle.pas_answers.specs.Answers.{Progress}
-use Rattle.pas_threads.specs.{Settling.ActorsStand, Closing.ClosedSo, Turns.said_by_all, Turns.said_by_keepers}
-use Rattle.pas_threads.specs.Sessions.{Session, StandSo, TeamAt, WorkersRest}
-use Rattle.pas_threads.specs.declared.{workers.Worker.Worker, phases.Team.Team, scavenger.Scavenger.Scavenger}
-use Rattle.pas_threads.proofs.{Staging.team_stands, TakingTurns.WereGathered, TakingTurns.were_gathered, BetweenPhases.room_at_close, BetweenPhases.has_closed}
-use Rattle.pas_threads.proofs.{phases.finish.Goals.After-close_all}
+use Rattle.pas_threads.specs.{Settling.ActorsStand, Closing.ClosedSo, Turns.{said_by_all, said_by_keepers}, Sessions.{Session, StandSo, TeamAt, WorkersRest}}
+use Rattle.pas_threads.{specs.declared.{workers.Worker.Worker, phases.Team.Team, scavenger.Scavenger.Scavenger}, proofs.Staging.team_stands}
+use Rattle.pas_threads.proofs.{TakingTurns.{WereGathered, were_gathered}, BetweenPhases.{room_at_close, has_closed}, phases.finish.Goals.After-close_all}
 use Rattle.pas_threads.proofs.phases.finish.Goals as goal
 
 -- all rest, as they are lent to be closed

@@ -1,11 +1,7 @@
-use Rattle.std.proofs.Common.{◌≡◌, ◌∙◌, true, false, ap, sym, refl, arith, length}
-use Rattle.std.proofs.lemmas.List.{length-map}
+use Rattle.std.proofs.{Common.{◌≡◌, ◌∙◌, true, false, ap, sym, refl, arith, length}, lemmas.List.length-map}
 use Rattle.pas_trace.specs.Acts.{is_active}
-use Rattle.pas_threads.specs.Dealing.{picked, count_of, is_in, is_out}
-use Rattle.pas_threads.specs.Performing.{round}
-use Rattle.pas_threads.specs.declared.scavenger.Scavenger.{Scavenger}
-use Rattle.pas_threads.proofs.Dealt.{picked_many, count_most, threads_same}
-use Rattle.pas_threads.proofs.Performed.{shift_of, own_may, may_scavenge, piece, lent_same, lent_places}
+use Rattle.pas_threads.{specs.{Dealing.{picked, count_of, is_in, is_out}, Performing.round, declared.scavenger.Scavenger.Scavenger}, proofs.Dealt.picked_many}
+use Rattle.pas_threads.proofs.{Dealt.{count_most, threads_same}, Performed.{shift_of, own_may, may_scavenge, piece, lent_same, lent_places}}
 use Rattle.pas_threads.proofs.phases.perform_all.Goals as goal
 
 pub act_with-scavenger-requires-clause-threads : goal.act_with-scavenger-requires-clause-threads

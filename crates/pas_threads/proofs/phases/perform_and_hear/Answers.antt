@@ -1,7 +1,5 @@
-use Rattle.std.proofs.Common.{◌∙◌, suc, length, get_or, refl, ap, sym, subst, arith}
-use Rattle.std.proofs.lemmas.List.{with_items_is}
-use Rattle.pas_threads.specs.Settling.{HasHeard, HasBench, IsButBench}
-use Rattle.pas_threads.proofs.TakingTurns.{bench_left, heard_still, is_heard}
+use Rattle.std.proofs.{Common.{◌∙◌, suc, length, get_or, refl, ap, sym, subst, arith}, lemmas.List.with_items_is}
+use Rattle.pas_threads.{specs.Settling.{HasHeard, HasBench, IsButBench}, proofs.TakingTurns.{bench_left, heard_still, is_heard}}
 use Rattle.pas_threads.proofs.phases.perform_and_hear.Goals as goal
 
 pub hear_all-requires-clause-few : goal.hear_all-requires-clause-few

@@ -1,20 +1,16 @@
-use Rattle.std.proofs.Common.{[], ◌+◌, ◌≤◌, ◌∙◌, ◌∷◌, ◌≡◌, ℕ, List, length, ap, sym, refl, subst, All, vec_capacity}
+use Rattle.std.proofs.{Common.{[], ◌+◌, ◌≤◌, ◌∙◌, ◌∷◌, ◌≡◌, ℕ, List, length, ap, sym, refl, subst, All, vec_capacity}, lemmas.List.with_items_is}
 use Rattle.std.specs.Vec.{with_items}
-use Rattle.std.proofs.lemmas.List.{with_items_is}
-use Rattle.pas_trace.specs.EveryPlan.{all_ops, own_records}
-use Rattle.pas_trace.specs.declared.plan.Op.{Op}
+use Rattle.pas_trace.specs.{EveryPlan.{all_ops, own_records}, declared.plan.Op.Op}
 use Rattle.pas_records.specs.Rooms.{records_in, room_of}
 use Rattle.pas_shared.specs.Ledgers.{so_far, looks_of}
 use Rattle.pas_answers.specs.{Answers.Progress, Names.names_held}
-use Rattle.pas_threads.specs.Sessions.{planned, Session, AreResting, HasPlaces, TeamAt}
-use Rattle.pas_threads.specs.{Settling.ActorsStand, Taken.IsWithin, Turns.said_by_all, Turns.said_by_keepers}
-use Rattle.pas_threads.specs.declared.{phases.Team.Team, scavenger.Scavenger.Scavenger}
+use Rattle.pas_threads.specs.{Sessions.{planned, Session, AreResting, HasPlaces, TeamAt}, Settling.ActorsStand, Taken.IsWithin, Turns.said_by_all}
+use Rattle.pas_threads.{specs.{Turns.said_by_keepers, declared.{phases.Team.Team, scavenger.Scavenger.Scavenger}}, proofs.TakingTurns.{first_of, WereGathered}}
+use Rattle.pas_threads.proofs.{TakingTurns.{WereTaken, IsScavengerCleared, were_gathered, were_taken, taken_as}, Staging.team_stands}
+use Rattle.pas_threads.proofs.{phases.perform_phase.{Given.Over, Goals.{After-note, After-gather, After-take_all}}, ReadyPhases.{HasBegun, settled_team}}
+use Rattle.pas_threads.proofs.{ReadyPhases.{begun_as, begun_stands, woke_stands}, PhaseTeams.{may_append, gather_fits, may_take, reached, phase_team}}
+use Rattle.pas_threads.proofs.PhaseTeams.{phase_went, phase_done}
 use Rattle.pas_acts.proofs.Naming.{sound_front, below_front}
-use Rattle.pas_threads.proofs.TakingTurns.{first_of, WereGathered, WereTaken, IsScavengerCleared, were_gathered, were_taken, taken_as}
-use Rattle.pas_threads.proofs.{Staging.team_stands, phases.perform_phase.Given.Over, phases.perform_phase.Goals.After-note}
-use Rattle.pas_threads.proofs.{phases.perform_phase.Goals.After-gather, phases.perform_phase.Goals.After-take_all}
-use Rattle.pas_threads.proofs.ReadyPhases.{HasBegun, settled_team, begun_as, begun_stands, woke_stands}
-use Rattle.pas_threads.proofs.PhaseTeams.{may_append, gather_fits, may_take, reached, phase_team, phase_went, phase_done}
 use Rattle.pas_threads.proofs.phases.perform_phase.Goals as goal
 
 pub wake_all-requires-clause-rest : goal.wake_all-requires-clause-rest

@@ -1,16 +1,11 @@
-use Rattle.std.proofs.Common.{◌≡◌, ◌+◌, ◌++◌, ◌∙◌, List, [], ◌∷◌, length, drop, refl, sym, ap, arith, map}
-use Rattle.std.proofs.lemmas.List.{length-map}
-use Rattle.pas_trace.specs.Plans.{ops_of}
-use Rattle.pas_trace.specs.declared.plan.Op.{Op}
+use Rattle.std.proofs.{Common.{◌≡◌, ◌+◌, ◌++◌, ◌∙◌, List, [], ◌∷◌, length, drop, refl, sym, ap, arith, map}, lemmas.List.length-map}
+use Rattle.pas_trace.specs.{Plans.ops_of, declared.plan.Op.Op}
 use Rattle.pas_answers.specs.Replays.{at_start}
 use Rattle.pas_shared.specs.Ledgers.{so_far}
-use Rattle.pas_threads.specs.Sessions.{Session, TeamAt, HasRoom}
-use Rattle.pas_threads.proofs.BetweenPhases.{AfterPhases, BeforePhase, BeforeClose, no_phase, as_next, as_last, spare_for_mark, first_begins, other_begins}
-use Rattle.pas_threads.proofs.BetweenPhases.{phase_ends, spare_for_close, close_begins, close_ends}
-use Rattle.pas_threads.proofs.phases.replay.Given.{Over}
-use Rattle.pas_threads.proofs.phases.replay.Goals.{then-number-gt-UNMARKED, else-number-gt-UNMARKED, After-as_slice, After-push-2}
-use Rattle.pas_records.specs.Rooms.{records_in}
-use Rattle.pas_records.specs.declared.record.Record.{Record}
+use Rattle.pas_threads.{specs.Sessions.{Session, TeamAt, HasRoom}, proofs.BetweenPhases.{AfterPhases, BeforePhase, BeforeClose, no_phase, as_next, as_last}}
+use Rattle.pas_threads.proofs.BetweenPhases.{spare_for_mark, first_begins, other_begins, phase_ends, spare_for_close, close_begins, close_ends}
+use Rattle.pas_threads.proofs.phases.replay.{Given.Over, Goals.{then-number-gt-UNMARKED, else-number-gt-UNMARKED, After-as_slice, After-push-2}}
+use Rattle.pas_records.specs.{Rooms.records_in, declared.record.Record.Record}
 use Rattle.pas_threads.proofs.phases.replay.Goals as goal
 
 pub loop-phase-init : goal.loop-phase-init

@@ -3,8 +3,7 @@ use Rattle.std.proofs.Common.{◌≡◌, ◌+◌, drop, length, map}
 use Rattle.pas_trace.specs.Plans.{ops_of}
 use Rattle.pas_answers.specs.Replays.{at_start}
 use Rattle.pas_shared.specs.Ledgers.{so_far, IsLedgerOf}
-use Rattle.pas_threads.specs.Sessions.{Session, TeamAt, HasRoom}
-use Rattle.pas_threads.proofs.BetweenPhases.{AfterPhases}
+use Rattle.pas_threads.{specs.Sessions.{Session, TeamAt, HasRoom}, proofs.BetweenPhases.AfterPhases}
 use Rattle.pas_threads.proofs.phases.replay.Given as goal
 
 abbrev pub invariant-loop-phase : goal.invariant-loop-phase

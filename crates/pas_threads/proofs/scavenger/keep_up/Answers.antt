@@ -1,10 +1,8 @@
-use Rattle.std.proofs.Common.{◌∙◌, refl, sym, subst}
-use Rattle.std.proofs.lemmas.{List.with_items_is, Option.same_Some}
+use Rattle.std.proofs.{Common.{◌∙◌, refl, sym, subst}, lemmas.{List.with_items_is, Option.same_Some}}
 use Rattle.pas_utility.specs.Outcomes.{places_of}
 use Rattle.pas_shared.specs.Passes.{IsPassOf}
 use Rattle.pas_trace.specs.Acts.{scavenger_acts}
-use Rattle.pas_threads.specs.{Hands.standing_of_pass, Crews.crew, Crews.CrewAt, Scavengers.crew_of, Scavengers.CrewHasLeft}
-use Rattle.pas_threads.proofs.Benched.{seated}
+use Rattle.pas_threads.{specs.{Hands.standing_of_pass, Crews.{crew, CrewAt}, Scavengers.{crew_of, CrewHasLeft}}, proofs.Benched.seated}
 use Rattle.pas_threads.proofs.scavenger.keep_up.Goals as goal
 
 pub scavenge_seated-pass-requires-clause-pass : goal.scavenge_seated-pass-requires-clause-pass

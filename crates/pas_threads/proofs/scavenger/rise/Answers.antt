@@ -1,8 +1,6 @@
 use Rattle.std.proofs.Common.{◌≡◌, sym, subst}
-use Rattle.pas_shared.specs.Ruled.{made_in, only_this, isnt, rows_of_only}
-use Rattle.pas_shared.specs.Passes.{seat_of, view_of}
-use Rattle.pas_shared.specs.Benches.{first_row, rows_on, seat_of_member, HasLooked, IsBenchOf, SitsInRow}
-use Rattle.pas_shared.specs.declared.bench.Member.{Member}
+use Rattle.pas_shared.specs.{Ruled.{made_in, only_this, isnt, rows_of_only}, Passes.{seat_of, view_of}, Benches.{first_row, rows_on, seat_of_member, HasLooked}}
+use Rattle.pas_shared.specs.{Benches.{IsBenchOf, SitsInRow}, declared.bench.Member.Member}
 use Rattle.pas_threads.proofs.CrewSits.{all_may_leave, own_sits, fresh_row, all_rose}
 use Rattle.pas_threads.proofs.scavenger.rise.Goals as goal
 

@@ -1,7 +1,6 @@
 use Rattle.std.proofs.Common.{◌∙◌, refl, ap}
 use Rattle.pas_shared.specs.declared.bench_desk.BenchHome.{BenchHome}
-use Rattle.pas_threads.specs.Lent.{home_at}
-use Rattle.pas_threads.proofs.CrewSits.{crew_sits, crew_may_rise, crew_left}
+use Rattle.pas_threads.{specs.Lent.home_at, proofs.CrewSits.{crew_sits, crew_may_rise, crew_left}}
 use Rattle.pas_threads.proofs.scavenger.scavenge_seated.Goals as goal
 
 pub sit_down-desk-requires-clause-may : goal.sit_down-desk-requires-clause-may

@@ -1,8 +1,7 @@
-use Rattle.std.proofs.Common.{◌≡◌, ℕ, ◌<◌, length, get_or, Some, sym, ap, ◌∙◌, subst, arith, length-set, get_or-set_other}
-use Rattle.std.proofs.lemmas.{List.get_or_default, Option.same_Some}
-use Rattle.pas_shared.specs.{Passes.IsPassOf, Ledgers.so_far, Ledgers.actors_in}
-use Rattle.pas_threads.specs.{Kits.with_keeper, Pairs.IsKeeperOf, Settling.StandsIn, Settling.Settled}
-use Rattle.pas_threads.specs.declared.{keeper.Keeper.Keeper, workers.Worker.Worker}
+use Rattle.std.proofs.{Common.{◌≡◌, ℕ, ◌<◌, length, get_or, Some, sym, ap, ◌∙◌, subst, arith, length-set, get_or-set_other}, lemmas.List.get_or_default}
+use Rattle.std.proofs.lemmas.Option.{same_Some}
+use Rattle.pas_shared.specs.{Passes.IsPassOf, Ledgers.{so_far, actors_in}}
+use Rattle.pas_threads.specs.{Kits.with_keeper, Pairs.IsKeeperOf, Settling.{StandsIn, Settled}, declared.{keeper.Keeper.Keeper, workers.Worker.Worker}}
 use Rattle.pas_threads.proofs.Closing.{gives, settled_with, stands_still, keeper_back, here_or_later}
 use Rattle.pas_threads.proofs.settling.+settle_keepers.Goals as goal
 use Rattle.pas_threads.proofs.settling.+settle_keepers.Goals.{After-settle_keepers, After-give_back-pass}

@@ -1,10 +1,8 @@
-use Rattle.std.proofs.Common.{◌≡◌, ℕ, ◌<◌, length, get_or, Some, refl, sym, ap, ◌∙◌, subst, arith, length-set, get_or-set_other}
-use Rattle.std.proofs.lemmas.{List.get_or_default, Option.same_Some}
-use Rattle.pas_shared.specs.{Passes.IsPassOf, Ledgers.so_far, Ledgers.actors_in}
-use Rattle.pas_shared.specs.declared.pass.SharedPass.{SharedPass}
-use Rattle.pas_threads.specs.{Pairs.IsKeeperOf, Settling.StandsIn, Settling.Settled}
-use Rattle.pas_threads.specs.declared.workers.Worker.{Worker}
-use Rattle.pas_threads.proofs.Closing.{gives, settled_with, stands_still, with_pass, pass_back, kept_at, passes_at, here_or_later}
+use Rattle.std.proofs.{Common.{◌≡◌, ℕ, ◌<◌, length, get_or, Some, refl, sym, ap, ◌∙◌, subst, arith, length-set, get_or-set_other}, lemmas.List.get_or_default}
+use Rattle.std.proofs.lemmas.Option.{same_Some}
+use Rattle.pas_shared.specs.{Passes.IsPassOf, Ledgers.{so_far, actors_in}, declared.pass.SharedPass.SharedPass}
+use Rattle.pas_threads.{specs.{Pairs.IsKeeperOf, Settling.{StandsIn, Settled}, declared.workers.Worker.Worker}, proofs.Closing.{gives, settled_with}}
+use Rattle.pas_threads.proofs.Closing.{stands_still, with_pass, pass_back, kept_at, passes_at, here_or_later}
 use Rattle.pas_threads.proofs.settling.+settle_threads.Goals as goal
 use Rattle.pas_threads.proofs.settling.+settle_threads.Goals.{After-settle_threads, After-give_back-pass}
 

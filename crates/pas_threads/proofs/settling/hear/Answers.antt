@@ -1,6 +1,5 @@
-use Rattle.std.proofs.Common.{◌∙◌, sym, subst}
-use Rattle.std.proofs.lemmas.Option.{same_Some}
-use Rattle.pas_shared.specs.{Ruled.AreEarlier, Ruled.bases_in, Benches.rows_on, Benches.IsBenchOf, Ledgers.looks_of}
+use Rattle.std.proofs.{Common.{◌∙◌, sym, subst}, lemmas.Option.same_Some}
+use Rattle.pas_shared.specs.{Ruled.{AreEarlier, bases_in}, Benches.{rows_on, IsBenchOf}, Ledgers.looks_of}
 use Rattle.pas_threads.proofs.TakingTurns.{looks_apart}
 use Rattle.pas_threads.proofs.settling.hear.Goals as goal
 

@@ -1,8 +1,7 @@
 use Rattle.std.proofs.Common.{◌≡◌, ◌+◌, ◌∙◌, true, false, sym, arith}
 use Rattle.pas_bits.specs.Masks.{is_set}
-use Rattle.pas_threads.proofs.TakingTurns.{hears_first, hears_next, hears_pass, bench_next}
+use Rattle.pas_threads.proofs.{TakingTurns.{hears_first, hears_next, hears_pass, bench_next}, settling.hear_all.Goals.{then-get, else-get}}
 use Rattle.pas_threads.proofs.settling.hear_all.Goals as goal
-use Rattle.pas_threads.proofs.settling.hear_all.Goals.{then-get, else-get}
 
 pub loop-index-init : goal.loop-index-init
 loop-index-init c = record { of = c.requires.of; far = hears_first c.args.awake c.args.workers.now c.args.ledger.now }

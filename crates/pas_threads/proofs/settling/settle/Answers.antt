@@ -1,9 +1,7 @@
-use Rattle.std.proofs.Common.{sym, ◌∙◌, subst, arith}
-use Rattle.std.proofs.lemmas.Option.{same_Some}
+use Rattle.std.proofs.{Common.{sym, ◌∙◌, subst, arith}, lemmas.Option.same_Some}
 use Rattle.pas_shared.specs.Ledgers.{so_far, actors_in}
-use Rattle.pas_threads.specs.Settling.{StandsIn}
-use Rattle.pas_threads.proofs.Staging.{thread_back, keeper_back, stands_with, all_stand}
-use Rattle.pas_threads.proofs.Closing.{gives, settled_with, stands_still}
+use Rattle.pas_threads.{specs.Settling.StandsIn, proofs.{Staging.{thread_back, keeper_back, stands_with, all_stand}, Closing.{gives, settled_with}}}
+use Rattle.pas_threads.proofs.Closing.{stands_still}
 use Rattle.pas_threads.proofs.settling.settle.Goals as goal
 
 pub settle_threads-requires-clause-threads : goal.settle_threads-requires-clause-threads

@@ -1,11 +1,10 @@
 use Rattle.std.proofs.Common.{◌≡◌, ◌+◌, ◌-◌, ◌∙◌, true, None, [], length, get_or, refl, sym, subst, arith}
 use Rattle.pas_shared.specs.Ledgers.{so_far}
 use Rattle.pas_answers.specs.Answers.{Progress}
-use Rattle.pas_threads.specs.{Settling.ActorsStand, Closing.ClosedSo, Closing.ClosesNext, Sessions.Session, Sessions.StandSo, Sessions.WorkersRest}
-use Rattle.pas_threads.specs.declared.scavenger.Scavenger.{Scavenger}
-use Rattle.pas_threads.proofs.Closing.{closed_stand, settles_begin, settles_next, settles_pass}
-use Rattle.pas_threads.proofs.turns.close_all.Goals as goal
+use Rattle.pas_threads.specs.{Settling.ActorsStand, Closing.{ClosedSo, ClosesNext}, Sessions.{Session, StandSo, WorkersRest}}
+use Rattle.pas_threads.{specs.declared.scavenger.Scavenger.Scavenger, proofs.Closing.{closed_stand, settles_begin, settles_next, settles_pass}}
 use Rattle.pas_threads.proofs.turns.close_all.Goals.{After-close_one, then-close_one, else-close_one}
+use Rattle.pas_threads.proofs.turns.close_all.Goals as goal
 
 pub loop-place-init : goal.loop-place-init
 loop-place-init c = record { of = c.requires.of; same = refl; closed = λ s p rest stand stood. settles_begin rest stand stood }

@@ -2,7 +2,7 @@
 use Rattle.std.proofs.Common.{◌≡◌, []}
 use Rattle.pas_answers.specs.Answers.{Progress}
 use Rattle.pas_shared.specs.Ledgers.{IsLedgerOf, so_far}
-use Rattle.pas_threads.specs.{Sessions.Session, Sessions.StandSo, Sessions.WorkersRest, Settling.ActorsStand, Closing.ClosedSo}
+use Rattle.pas_threads.specs.{Sessions.{Session, StandSo, WorkersRest}, Settling.ActorsStand, Closing.ClosedSo}
 use Rattle.pas_threads.proofs.turns.close_all.Given as goal
 
 abbrev pub invariant-loop-place : goal.invariant-loop-place

@@ -1,8 +1,7 @@
-use Rattle.std.proofs.Common.{◌≡◌, ◌+◌, ◌-◌, ◌<◌, ◌≤◌, ◌∙◌, suc, length, get_or, set, ap, sym, arith}
-use Rattle.std.proofs.lemmas.{Bool.false≢true, List.set-get_or, List.get_or_default}
-use Rattle.pas_threads.specs.{Sessions.evenly, Pairs.no_more}
-use Rattle.pas_threads.specs.declared.workers.Worker.{Worker}
-use Rattle.pas_threads.proofs.{Keepers.stands_for, Closing.has_all, Closing.thread_closes, Closing.keeper_closes}
+use Rattle.std.proofs.{Common.{◌≡◌, ◌+◌, ◌-◌, ◌<◌, ◌≤◌, ◌∙◌, suc, length, get_or, set, ap, sym, arith}, lemmas.{Bool.false≢true, List.set-get_or}}
+use Rattle.std.proofs.lemmas.List.{get_or_default}
+use Rattle.pas_threads.{specs.{Sessions.evenly, Pairs.no_more, declared.workers.Worker.Worker}, proofs.{Keepers.stands_for, Closing.{has_all, thread_closes}}}
+use Rattle.pas_threads.proofs.Closing.{keeper_closes}
 use Rattle.pas_threads.proofs.turns.close_one.Goals as goal
 
 pub stop-requires : goal.stop-requires

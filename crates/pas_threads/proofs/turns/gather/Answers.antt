@@ -1,7 +1,7 @@
 use Rattle.std.proofs.Common.{◌≡◌, ◌∙◌, ◌++◌, ap, arith, length, length-append, append_assoc}
 use Rattle.pas_records.specs.Rooms.{records_in}
-use Rattle.pas_threads.specs.{Pairs.said_by_keeper, Turns.said_kept, Turns.said_by_all, Turns.said_by_keepers}
-use Rattle.pas_threads.proofs.{TakingTurns.gathered, TakingTurns.said_alike, turns.gather.Goals.After-gather_own}
+use Rattle.pas_threads.{specs.{Pairs.said_by_keeper, Turns.{said_kept, said_by_all, said_by_keepers}}, proofs.TakingTurns.{gathered, said_alike}}
+use Rattle.pas_threads.proofs.turns.gather.Goals.{After-gather_own}
 use Rattle.pas_threads.proofs.turns.gather.Goals as goal
 
 -- what was gathered for the threads leaves what is said for the keepers

@@ -1,7 +1,6 @@
 use Rattle.std.proofs.Common.{◌∙◌, refl, arith}
 use Rattle.pas_records.specs.Rooms.{records_in}
-use Rattle.pas_threads.specs.Turns.{said_own, IsOwnGathered}
-use Rattle.pas_threads.proofs.TakingTurns.{gather_begins, next_fits, gather_goes_on, gather_ends}
+use Rattle.pas_threads.{specs.Turns.{said_own, IsOwnGathered}, proofs.TakingTurns.{gather_begins, next_fits, gather_goes_on, gather_ends}}
 use Rattle.pas_threads.proofs.turns.gather_own.Goals as goal
 
 pub loop-place-init : goal.loop-place-init

@@ -1,8 +1,7 @@
 -- what the workers before this place said for their threads is gathered
 use Rattle.std.proofs.Common.{◌≡◌}
 use Rattle.pas_records.specs.Rooms.{records_in, room_of}
-use Rattle.pas_threads.specs.Turns.{said_own, IsOwnGathered}
-use Rattle.pas_threads.proofs.TakingTurns.{AreGathered}
+use Rattle.pas_threads.{specs.Turns.{said_own, IsOwnGathered}, proofs.TakingTurns.AreGathered}
 use Rattle.pas_threads.proofs.turns.gather_own.Given as goal
 
 abbrev pub invariant-loop-place : goal.invariant-loop-place

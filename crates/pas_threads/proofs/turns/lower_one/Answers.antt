@@ -1,7 +1,5 @@
-use Rattle.std.proofs.Common.{◌≡◌, ◌∙◌, Some, None, refl, ap, sym, subst}
-use Rattle.std.proofs.lemmas.{Bool.false≢true, Option.same_Some}
-use Rattle.pas_threads.specs.{Pairs.no_more, Pairs.KeeperStands, Pairs.KeeperLowered, Kits.with_keeper}
-use Rattle.pas_threads.proofs.Keepers.{stands_for}
+use Rattle.std.proofs.{Common.{◌≡◌, ◌∙◌, Some, None, refl, ap, sym, subst}, lemmas.{Bool.false≢true, Option.same_Some}}
+use Rattle.pas_threads.{specs.{Pairs.{no_more, KeeperStands, KeeperLowered}, Kits.with_keeper}, proofs.Keepers.stands_for}
 use Rattle.pas_threads.proofs.turns.lower_one.Goals as goal
 
 pub lower-requires : goal.lower-requires

@@ -1,9 +1,8 @@
 use Rattle.std.proofs.Common.{◌≡◌, ◌+◌, ◌∙◌, suc, true, false, sym}
 use Rattle.pas_bits.specs.Masks.{is_set}
-use Rattle.pas_threads.specs.Sessions.{evenly}
-use Rattle.pas_threads.proofs.TakingTurns.{wakes_begin, wakes_go_on, wakes_pass, wakes_end}
+use Rattle.pas_threads.{specs.Sessions.evenly, proofs.{TakingTurns.{wakes_begin, wakes_go_on, wakes_pass, wakes_end}, turns.wake_all.Goals.then-get}}
+use Rattle.pas_threads.proofs.turns.wake_all.Goals.{else-get}
 use Rattle.pas_threads.proofs.turns.wake_all.Goals as goal
-use Rattle.pas_threads.proofs.turns.wake_all.Goals.{then-get, else-get}
 
 pub loop-index-init : goal.loop-index-init
 loop-index-init c = record { far = λ f later p at. wakes_begin c.args.awake at }

@@ -2,8 +2,7 @@
 use Rattle.std.proofs.Common.{ℕ}
 use Rattle.pas_profile.specs.declared.profile.Profile.{Profile}
 use Rattle.pas_answers.specs.Answers.{Progress}
-use Rattle.pas_threads.specs.Sessions.{AreResting}
-use Rattle.pas_threads.proofs.TakingTurns.{WokeSoFar}
+use Rattle.pas_threads.{specs.Sessions.AreResting, proofs.TakingTurns.WokeSoFar}
 use Rattle.pas_threads.proofs.turns.wake_all.Given as goal
 
 abbrev pub invariant-loop-index : goal.invariant-loop-index

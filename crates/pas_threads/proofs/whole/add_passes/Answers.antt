@@ -1,8 +1,7 @@
-use Rattle.std.proofs.Common.{◌+◌, ◌∷◌, drop, length, get_or, length-set, ap, sym, ◌∙◌, subst, arith, get_or-set_other, length-append}
-use Rattle.std.proofs.lemmas.List.{drop_all, get_or_default}
-use Rattle.pas_threads.specs.Kits.{IsBack, kept_pass, passes_in}
-use Rattle.pas_threads.specs.declared.workers.Worker.{Worker}
-use Rattle.pas_threads.proofs.StartAndEnd.{as_many, out_more, out_all, passes_next}
+use Rattle.std.proofs.{Common.{◌+◌, ◌∷◌, drop, length, get_or, length-set, ap, sym, ◌∙◌, subst, arith, get_or-set_other, length-append}, lemmas.List.drop_all}
+use Rattle.std.proofs.lemmas.List.{get_or_default}
+use Rattle.pas_threads.{specs.{Kits.{IsBack, kept_pass, passes_in}, declared.workers.Worker.Worker}, proofs.StartAndEnd.{as_many, out_more, out_all}}
+use Rattle.pas_threads.proofs.StartAndEnd.{passes_next}
 use Rattle.pas_threads.proofs.whole.add_passes.Goals as goal
 
 pub add_passes_of-requires-clause-back : goal.add_passes_of-requires-clause-back

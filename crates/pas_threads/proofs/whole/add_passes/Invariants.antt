@@ -1,7 +1,6 @@
 -- the passes of the workers so far were added, and those from this place on are as they were
 use Rattle.std.proofs.Common.{◌≡◌, ◌≤◌, ◌++◌, ℕ, Some, map, drop, length, get_or, vec_capacity}
-use Rattle.pas_threads.specs.Kits.{passes_in}
-use Rattle.pas_threads.specs.declared.workers.Worker.{Worker}
+use Rattle.pas_threads.specs.{Kits.passes_in, declared.workers.Worker.Worker}
 use Rattle.pas_threads.proofs.whole.add_passes.Given as goal
 
 abbrev pub invariant-loop-place : goal.invariant-loop-place

@@ -1,6 +1,5 @@
 use Rattle.std.proofs.Common.{◌++◌, ◌∷◌, [], ap, ◌∙◌, append_assoc}
-use Rattle.pas_threads.specs.Kits.{kept_pass}
-use Rattle.pas_threads.proofs.StartAndEnd.{slots_for}
+use Rattle.pas_threads.{specs.Kits.kept_pass, proofs.StartAndEnd.slots_for}
 use Rattle.pas_threads.proofs.whole.add_passes_of.Goals as goal
 
 pub add_pass-requires-clause-back : goal.add_pass-requires-clause-back

@@ -1,7 +1,5 @@
-use Rattle.std.proofs.Common.{length, map, ap, arith}
-use Rattle.std.proofs.lemmas.List.{length-map}
-use Rattle.pas_trace.specs.Plans.{ops_of}
-use Rattle.pas_trace.proofs.Keepers.{plan_actors}
+use Rattle.std.proofs.{Common.{length, map, ap, arith}, lemmas.List.length-map}
+use Rattle.pas_trace.{specs.Plans.ops_of, proofs.Keepers.plan_actors}
 use Rattle.pas_acts.proofs.PlanFacts.{plan_phases, plan_valid, plan_operate}
 use Rattle.pas_threads.proofs.StartAndEnd.{session_of, handed, all_back, all_slots, all_of_region, shows, replayed_so}
 use Rattle.pas_threads.proofs.whole.on_threads_with_rooms.Goals as goal

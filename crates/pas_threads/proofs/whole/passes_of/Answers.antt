@@ -1,6 +1,5 @@
 use Rattle.std.proofs.Common.{All, length, ap, sym, ◌∙◌, subst, arith}
-use Rattle.pas_threads.specs.Kits.{IsBack, passes_in}
-use Rattle.pas_threads.proofs.StartAndEnd.{all_out}
+use Rattle.pas_threads.{specs.Kits.{IsBack, passes_in}, proofs.StartAndEnd.all_out}
 use Rattle.pas_threads.proofs.whole.passes_of.Goals as goal
 
 pub add_pass-requires-clause-back : goal.add_pass-requires-clause-back

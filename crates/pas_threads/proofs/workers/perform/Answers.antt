@@ -1,10 +1,7 @@
 use Rattle.std.proofs.Common.{◌≡◌, ◌∙◌, ◌∷◌, ◌+◌, Some, ap, sym, subst}
-use Rattle.pas_shared.specs.Benches.{row_on}
-use Rattle.pas_shared.specs.declared.{bench.Bench.Bench, bench.Member.Member, bench_desk.BenchHome.BenchHome, region.SharedRegion.SharedRegion}
-use Rattle.pas_threads.specs.Pairs.{MayDoPhase}
-use Rattle.pas_threads.specs.Seats.{seated_actors, IsAnother, KeeperSits, PairRose, PairSits}
-use Rattle.pas_threads.proofs.Benched.{sat_at, begins, keeper_may, keeper_other, actors_are, pair_did}
-use Rattle.pas_threads.proofs.workers.perform.{Given.Over, Goals.After-bench_desk-desk}
+use Rattle.pas_shared.specs.{Benches.row_on, declared.{bench.{Bench.Bench, Member.Member}, bench_desk.BenchHome.BenchHome, region.SharedRegion.SharedRegion}}
+use Rattle.pas_threads.{specs.{Pairs.MayDoPhase, Seats.{seated_actors, IsAnother, KeeperSits, PairRose, PairSits}}, proofs.Benched.{sat_at, begins, keeper_may}}
+use Rattle.pas_threads.proofs.{Benched.{keeper_other, actors_are, pair_did}, workers.perform.{Given.Over, Goals.After-bench_desk-desk}}
 use Rattle.pas_threads.proofs.workers.perform.Goals as goal
 
 -- both sit at the desk, as they sat down on its bench

@@ -1,7 +1,6 @@
 use Rattle.std.proofs.Common.{◌∙◌, ◌++◌, ◌∷◌, [], ap}
 use Rattle.pas_shared.specs.{Ruled.rows_of, Ledgers.part_of}
-use Rattle.pas_threads.specs.Seats.{keeper_parts}
-use Rattle.pas_threads.proofs.Benched.{sat, pair_sat, has_thread}
+use Rattle.pas_threads.{specs.Seats.keeper_parts, proofs.Benched.{sat, pair_sat, has_thread}}
 use Rattle.pas_threads.proofs.workers.sit_down.Goals as goal
 
 pub returns : goal.returns

@@ -1,9 +1,7 @@
-use Rattle.std.proofs.Common.{◌≡◌, length, get_or, inr, refl, sym, ◌∙◌, subst, arith, length-set, get_or-set_other}
-use Rattle.std.proofs.lemmas.List.{get_or_default}
+use Rattle.std.proofs.{Common.{◌≡◌, length, get_or, inr, refl, sym, ◌∙◌, subst, arith, length-set, get_or-set_other}, lemmas.List.get_or_default}
 use Rattle.pas_answers.specs.Names.{names_held, block_named}
 use Rattle.pas_acts.specs.NameBooks.{requests_in, names_of, known_in, AreWithin}
-use Rattle.pas_threads.specs.declared.workers.Worker.{Worker}
-use Rattle.pas_threads.proofs.Performed.{TakenUpTo, taken_more, with_requests, emptied_more}
+use Rattle.pas_threads.{specs.declared.workers.Worker.Worker, proofs.Performed.{TakenUpTo, taken_more, with_requests, emptied_more}}
 use Rattle.pas_threads.proofs.workers.take_all.Goals as goal
 
 pub loop-index-init : goal.loop-index-init

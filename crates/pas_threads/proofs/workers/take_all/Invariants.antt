@@ -1,9 +1,7 @@
 -- the requests of the workers before this place were taken over
 use Rattle.std.proofs.Common.{◌≡◌, ◌<◌, ◌≤◌, ℕ, get_or, length}
 use Rattle.pas_answers.specs.Names.{names_held}
-use Rattle.pas_threads.specs.Taken.{IsEmptied}
-use Rattle.pas_threads.specs.declared.workers.Worker.{Worker}
-use Rattle.pas_threads.proofs.Performed.{TakenUpTo}
+use Rattle.pas_threads.{specs.{Taken.IsEmptied, declared.workers.Worker.Worker}, proofs.Performed.TakenUpTo}
 use Rattle.pas_threads.proofs.workers.take_all.Given as goal
 
 abbrev pub invariant-loop-index : goal.invariant-loop-index

@@ -1,14 +1,12 @@
 use Rattle.std.proofs.Common.{rules, refl, ap, subst, inl, arith, ◌≡◌, ℕ, List}
 use Rattle.pas_io.specs.Inputs.{IsInput}
-use Rattle.pas_telling.specs.{Outcomes.outcome_status, Outcomes.outcome_text, Calls.IsCall, Calls.IsMisread}
-use Rattle.pas_telling.specs.declared.{manner.Manner.Manner, words.Call.Call}
+use Rattle.pas_telling.specs.{Outcomes.{outcome_status, outcome_text}, Calls.{IsCall, IsMisread}, declared.{manner.Manner.Manner, words.Call.Call}}
 use Rattle.pas_answers.specs.Ways.{OnThreads}
-use Rattle.pas_calls.proofs.Statuses.{gen_written, gen_cut_off, gen_sound, gen_summed, cut_off, not_four, sound, written}
-use Rattle.pas_calls.proofs.Endings.{check_output, check_sure, comes_faulty, comes_judged, comes_long, ended_cut_off, ended_failed, ended_sound, ended_status}
-use Rattle.pas_calls.proofs.Endings.{ended_sure, ended_with, ended_written, order_faulty, order_long, order_output, order_sure}
-use Rattle.pas_calls.specs.Judgements.{verdict_status}
-use Rattle.pas_calls.specs.Outputs.{IsReplaying, IsChecking, IsAccepted, IsOutput, most_bytes, texts_of}
-use Rattle.pas_calls.proofs.Headline.{can_write, outcome_output, too_long_output, status_not_four, written_told}
+use Rattle.pas_calls.proofs.{Statuses.{gen_written, gen_cut_off, gen_sound, gen_summed, cut_off, not_four, sound, written}, Endings.{check_output, check_sure}}
+use Rattle.pas_calls.proofs.Endings.{comes_faulty, comes_judged, comes_long, ended_cut_off, ended_failed, ended_sound, ended_status, ended_sure, ended_with}
+use Rattle.pas_calls.proofs.{Endings.{ended_written, order_faulty, order_long, order_output, order_sure}, Headline.{can_write, outcome_output, too_long_output}}
+use Rattle.pas_calls.{proofs.Headline.{status_not_four, written_told}, specs.{Judgements.verdict_status, Outputs.{IsReplaying, IsChecking, IsAccepted}}}
+use Rattle.pas_calls.specs.Outputs.{IsOutput, most_bytes, texts_of}
 use Rattle.pas_top.proofs.main_call.pas_main.Given as given
 use Rattle.pas_top.proofs.main_call.pas_main.Goals as goal
 

@@ -1,7 +1,5 @@
 use Rattle.std.proofs.Common.{List, sym, subst}
-use Rattle.pas_trace.specs.Lexed.{AreLexed}
-use Rattle.pas_trace.specs.declared.item.Item.{Item}
-use Rattle.pas_trace.proofs.LexedLines.{lexed-more}
+use Rattle.pas_trace.{specs.{Lexed.AreLexed, declared.item.Item.Item}, proofs.LexedLines.lexed-more}
 use Rattle.pas_trace.proofs.lexing.lex.Goals as goal
 
 pub loop-left-preserved : goal.loop-left-preserved

@@ -1,5 +1,4 @@
-use Rattle.std.proofs.Common.{◌+◌, drop, sym, ap, ◌∙◌, arith}
-use Rattle.std.proofs.lemmas.List.{drop_more, drop_all}
+use Rattle.std.proofs.{Common.{◌+◌, drop, sym, ap, ◌∙◌, arith}, lemmas.List.{drop_more, drop_all}}
 use Rattle.pas_trace.proofs.Digits.{value_after, value-step, value-large, value-end}
 use Rattle.pas_trace.proofs.numbers.value_of_digits.Goals as goal
 

@@ -1,5 +1,4 @@
-use Rattle.std.proofs.Common.{◌+◌, ◌*◌, drop, get_or, sym, ap, ◌∙◌, arith}
-use Rattle.std.proofs.lemmas.List.{drop_more, drop_all}
+use Rattle.std.proofs.{Common.{◌+◌, ◌*◌, drop, get_or, sym, ap, ◌∙◌, arith}, lemmas.List.{drop_more, drop_all}}
 use Rattle.pas_trace.proofs.Digits.{hex_after, hex-step, hex-stop, hex-digit, hex-none, hex-room, hex-more, hex-bound}
 use Rattle.pas_trace.proofs.numbers.value_of_hex.Goals as goal
 

@@ -1,6 +1,5 @@
-use Rattle.std.proofs.Common.{[], ◌∙◌}
-use Rattle.std.proofs.lemmas.Result.{err_from_is_err_and}
-use Rattle.pas_trace.proofs.{LexedLines.read-failed, Gathering.read-scripted, Gathering.scripted-reading, Gathering.same-fault}
+use Rattle.std.proofs.{Common.{[], ◌∙◌}, lemmas.Result.err_from_is_err_and}
+use Rattle.pas_trace.proofs.{LexedLines.read-failed, Gathering.{read-scripted, scripted-reading, same-fault}}
 use Rattle.pas_trace.proofs.reader.read_script.Goals as goal
 
 pub returns-in_err-read_lines : goal.returns-in_err-read_lines

@@ -1,8 +1,6 @@
-use Rattle.std.proofs.Common.{◌≡◌, ◌++◌, [], ℕ, List, subst, sym, ap, ◌∙◌, arith, append-nil}
-use Rattle.std.proofs.lemmas.Result.{err_from_is_err_and}
-use Rattle.pas_trace.specs.{Lexed.AreLexed, Texts.lines_of, Told.AreTaken}
-use Rattle.pas_trace.specs.declared.item.Item.{Item}
-use Rattle.pas_trace.proofs.LexedLines.{at-first, left-is, lexed-none, lexed-now, after-lines, lines-fault, all-read, at-ok, none-of}
+use Rattle.std.proofs.{Common.{◌≡◌, ◌++◌, [], ℕ, List, subst, sym, ap, ◌∙◌, arith, append-nil}, lemmas.Result.err_from_is_err_and}
+use Rattle.pas_trace.{specs.{Lexed.AreLexed, Texts.lines_of, Told.AreTaken, declared.item.Item.Item}, proofs.LexedLines.{at-first, left-is, lexed-none}}
+use Rattle.pas_trace.proofs.LexedLines.{lexed-now, after-lines, lines-fault, all-read, at-ok, none-of}
 use Rattle.pas_trace.proofs.rounds.read_pieces.Goals as goal
 
 pub loop-rest-init : goal.loop-rest-init

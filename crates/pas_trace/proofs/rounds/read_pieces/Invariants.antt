@@ -1,7 +1,5 @@
 use Rattle.std.proofs.Common.{◌≤◌, ◌+◌, ◌++◌, ℕ, List, length}
-use Rattle.pas_trace.specs.{Lexed.AreLexed, Texts.lines_of, Told.Tells}
-use Rattle.pas_trace.specs.declared.item.Item.{Item}
-use Rattle.pas_trace.proofs.LexedLines.{SoFar}
+use Rattle.pas_trace.{specs.{Lexed.AreLexed, Texts.lines_of, Told.Tells, declared.item.Item.Item}, proofs.LexedLines.SoFar}
 use Rattle.pas_trace.proofs.rounds.read_pieces.Given as goal
 
 abbrev pub invariant-loop-rest : goal.invariant-loop-rest

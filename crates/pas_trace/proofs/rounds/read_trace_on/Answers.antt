@@ -1,5 +1,4 @@
-use Rattle.std.proofs.Common.{[], ◌∙◌}
-use Rattle.std.proofs.lemmas.Result.{err_from_is_err_and}
+use Rattle.std.proofs.{Common.{[], ◌∙◌}, lemmas.Result.err_from_is_err_and}
 use Rattle.pas_trace.proofs.LexedLines.{read-planned, read-failed, planned-reading}
 use Rattle.pas_trace.proofs.rounds.read_trace_on.Goals as goal
 

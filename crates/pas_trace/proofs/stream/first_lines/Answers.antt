@@ -1,6 +1,5 @@
 use Rattle.std.proofs.Common.{arith, [], Bool, true, subst}
-use Rattle.pas_trace.specs.Told.{IsBegun}
-use Rattle.pas_trace.proofs.TakenLines.{faulty-front, begun-lines}
+use Rattle.pas_trace.{specs.Told.IsBegun, proofs.TakenLines.{faulty-front, begun-lines}}
 use Rattle.pas_trace.proofs.stream.first_lines.Goals as goal
 
 pub lines_after-requires-clause-tells : goal.lines_after-requires-clause-tells

@@ -1,6 +1,5 @@
-use Rattle.std.proofs.Common.{arith, ◌++◌, ◌∙◌}
-use Rattle.std.proofs.lemmas.Result.{err_from_is_err_and}
-use Rattle.pas_trace.proofs.{TakenLines.rest-scripted, TakenLines.rest-failed, Gathering.scripted-reading}
+use Rattle.std.proofs.{Common.{arith, ◌++◌, ◌∙◌}, lemmas.Result.err_from_is_err_and}
+use Rattle.pas_trace.proofs.{TakenLines.{rest-scripted, rest-failed}, Gathering.scripted-reading}
 use Rattle.pas_trace.proofs.stream.script_of.Goals as goal
 
 pub read_lines-requires-clause-tells : goal.read_lines-requires-clause-tells

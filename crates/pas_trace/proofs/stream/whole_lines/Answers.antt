@@ -1,6 +1,5 @@
 use Rattle.std.proofs.Common.{arith, ◌≡◌, ◌≢◌, ◌+◌, ◌-◌, [], ℕ, subst, take, refl}
-use Rattle.pas_trace.specs.Texts.{lines_of, IsWhole}
-use Rattle.pas_trace.proofs.WordLines.{whole-at, some-at}
+use Rattle.pas_trace.{specs.Texts.{lines_of, IsWhole}, proofs.WordLines.{whole-at, some-at}}
 use Rattle.pas_trace.proofs.stream.whole_lines.Goals as goal
 
 pub returns-then-text-end-eq10-clause-whole : goal.returns-then-text-end-eq10-clause-whole

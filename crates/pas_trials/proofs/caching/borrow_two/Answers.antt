@@ -1,10 +1,8 @@
 use Rattle.std.proofs.Common.{ℕ, ◌+◌, ◌∙◌, ap, arith}
 use Rattle.pas_steps.specs.Desks.{CanCall}
-use Rattle.pas_cache.specs.Caches.{Cached, cached}
-use Rattle.pas_cache.proofs.{Budget.HasBudget, Budget.may_allocate, Budget.budget_left, Routes.is_small}
+use Rattle.pas_cache.{specs.Caches.{Cached, cached}, proofs.{Budget.{HasBudget, may_allocate, budget_left}, Routes.is_small}}
 use Rattle.pas_trials.proofs.Borrowed.{admitted, budget_call, rest_call, budget_as, call_budget, log_after, small_turn, empty_few, one_logged, freed_call}
-use Rattle.pas_trials.proofs.Borrowed.{freed_budget, stop_room, stopped_call, stopped_budget}
-use Rattle.pas_trials.proofs.caching.borrow_two.{Given.Over, Goals.After-alloc-second}
+use Rattle.pas_trials.proofs.{Borrowed.{freed_budget, stop_room, stopped_call, stopped_budget}, caching.borrow_two.{Given.Over, Goals.After-alloc-second}}
 use Rattle.pas_trials.proofs.caching.borrow_two.Goals as goal
 
 -- what the two requests leave

@@ -2,8 +2,7 @@ use Rattle.std.proofs.Common.{◌++◌, sym, subst}
 use Rattle.pas_profile.specs.Profiles.{IsDirectoryOf}
 use Rattle.pas_search.specs.Searches.{MaySearch}
 use Rattle.pas_segregated.specs.Stops.{class_directory, directory_of, MayStop}
-use Rattle.pas_steps.specs.Desks.{Seat}
-use Rattle.pas_steps.proofs.Adding.{adds_call, can_call}
+use Rattle.pas_steps.{specs.Desks.Seat, proofs.Adding.{adds_call, can_call}}
 use Rattle.pas_trials.proofs.Firsts.{given_directory, may_stop_then}
 use Rattle.pas_trials.proofs.filling.fill.Goals as goal
 

@@ -1,6 +1,5 @@
 use Rattle.std.proofs.Common.{ap, refl, ◌∙◌}
-use Rattle.pas_shared.specs.Passes.{view_of, seat_of}
-use Rattle.pas_shared.specs.declared.{pass.SharedPass.SharedPass, region.SharedRegion.SharedRegion}
+use Rattle.pas_shared.specs.{Passes.{view_of, seat_of}, declared.{pass.SharedPass.SharedPass, region.SharedRegion.SharedRegion}}
 use Rattle.pas_trials.proofs.HandedOver.{can_ask, gift_of}
 use Rattle.pas_trials.proofs.handing.borrow.Goals as goal
 

@@ -1,7 +1,6 @@
 use Rattle.std.proofs.Common.{ℕ, ap, ◌∙◌, subst}
 use Rattle.pas_steps.specs.Views.{View}
-use Rattle.pas_shared.specs.{Passes.view_of, Passes.seat_of, Pasts.told, Pasts.HasOwn}
-use Rattle.pas_shared.specs.declared.{pass.SharedPass.SharedPass, region.SharedRegion.SharedRegion}
+use Rattle.pas_shared.specs.{Passes.{view_of, seat_of}, Pasts.{told, HasOwn}, declared.{pass.SharedPass.SharedPass, region.SharedRegion.SharedRegion}}
 use Rattle.pas_trials.proofs.HandedOver.{freed}
 use Rattle.pas_trials.proofs.handing.free.Goals as goal
 

@@ -1,9 +1,6 @@
 use Rattle.std.proofs.Common.{List, Option, subst, IfSome}
-use Rattle.pas_shared.specs.{Ledgers.EndsAfter, Pasts.told}
-use Rattle.pas_shared.specs.declared.pass.SharedPass.{SharedPass}
-use Rattle.pas_trials.specs.Handing.{IsGiftOf}
-use Rattle.pas_trials.specs.declared.handing.Gift.{Gift}
-use Rattle.pas_trials.proofs.HandedOver.{is_handed_over}
+use Rattle.pas_shared.specs.{Ledgers.EndsAfter, Pasts.told, declared.pass.SharedPass.SharedPass}
+use Rattle.pas_trials.{specs.{Handing.IsGiftOf, declared.handing.Gift.Gift}, proofs.HandedOver.is_handed_over}
 use Rattle.pas_trials.proofs.handing.hand_over.Goals as goal
 
 pub returns : goal.returns

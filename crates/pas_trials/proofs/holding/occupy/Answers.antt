@@ -1,13 +1,9 @@
 use Rattle.std.proofs.Common.{◌≡◌, ℕ, true, ◌∷◌, []}
 use Rattle.pas_profile.specs.declared.directory.Directory.{Directory}
 use Rattle.pas_rights.specs.Leaves.{MayLeave}
-use Rattle.pas_steps.specs.Calls.{Calls}
-use Rattle.pas_steps.specs.Desks.{Standing, made, Makes, AnyView}
-use Rattle.pas_steps.specs.declared.step.Step.TheVariants.{Deed}
-use Rattle.pas_steps.proofs.Adding.{adds_none, can_step}
+use Rattle.pas_steps.{specs.{Calls.Calls, Desks.{Standing, made, Makes, AnyView}, declared.step.Step.TheVariants.Deed}, proofs.Adding.{adds_none, can_step}}
 use Rattle.pas_steps.proofs.Called.{call_none, call_step, call_then, next_call}
-use Rattle.pas_trials.specs.Trials.{MayLeaveIf}
-use Rattle.pas_trials.proofs.Bringing.{deed_gives}
+use Rattle.pas_trials.{specs.Trials.MayLeaveIf, proofs.Bringing.deed_gives}
 use Rattle.pas_trials.proofs.holding.occupy.Goals as goal
 
 -- A deed that was made is a call after which the page may be left.

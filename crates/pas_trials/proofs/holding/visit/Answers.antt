@@ -1,9 +1,7 @@
 use Rattle.std.proofs.Common.{◌≡◌, ◌++◌, false, subst}
-use Rattle.pas_steps.specs.Views.{has_right}
-use Rattle.pas_steps.proofs.Called.{call_then}
-use Rattle.pas_rights.specs.Leaves.{MayLeave}
+use Rattle.pas_steps.{specs.Views.has_right, proofs.Called.call_then}
+use Rattle.pas_rights.{specs.Leaves.MayLeave, proofs.Orders.leave_lacks}
 use Rattle.pas_trials.specs.Trials.{MayLeaveIf}
-use Rattle.pas_rights.proofs.Orders.{leave_lacks}
 use Rattle.pas_trials.proofs.holding.visit.Goals as goal
 
 pub returns-clause-brings : goal.returns-clause-brings

@@ -1,5 +1,4 @@
-use Rattle.std.proofs.Common.{ℕ, ◌≡◌, ◌<◌, ◌+◌, ◌*◌, not}
-use Rattle.std.specs.List.{list_any}
+use Rattle.std.{proofs.Common.{ℕ, ◌≡◌, ◌<◌, ◌+◌, ◌*◌, not}, specs.List.list_any}
 use Rattle.pas_trials.specs.Judging.{is_free, covers}
 use Rattle.pas_trials.proofs.judging.is_counted.Given as goal
 

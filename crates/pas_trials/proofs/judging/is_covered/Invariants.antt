@@ -1,5 +1,4 @@
-use Rattle.std.proofs.Common.{◌≡◌, false, take}
-use Rattle.std.specs.List.{list_any}
+use Rattle.std.{proofs.Common.{◌≡◌, false, take}, specs.List.list_any}
 use Rattle.pas_trials.specs.Judging.{covers}
 use Rattle.pas_trials.proofs.judging.is_covered.Given as goal
 

@@ -1,7 +1,6 @@
 use Rattle.std.proofs.Common.{sym, ◌∙◌, true≢false, rules}
-use Rattle.pas_trials.specs.Judging.{is_free, IsOffered}
+use Rattle.pas_trials.{specs.Judging.{is_free, IsOffered}, proofs.Kept.{kept_full, full_kept}}
 use Rattle.pas_steps.specs.Views.{usable_by_kind}
-use Rattle.pas_trials.proofs.Kept.{kept_full, full_kept}
 use Rattle.pas_trials.proofs.judging.is_kept.Goals as goal
 
 pub returns-else-is_offered : goal.returns-else-is_offered

@@ -1,10 +1,8 @@
-use Rattle.std.proofs.Common.{◌≡◌, ◌+◌, ℕ, false, List, Option, None, Some, MatchOption, inl, inr, sym, ◌∙◌, subst, arith, true≢false}
+use Rattle.std.proofs.{Common.{◌≡◌, ◌+◌, ℕ, false, List, Option, None, Some, MatchOption, inl, inr, sym, ◌∙◌, subst, arith, true≢false}, lemmas.Bool.cases_eq}
 use Rattle.std.specs.Option.{is_some}
-use Rattle.std.proofs.lemmas.Bool.{cases_eq}
 use Rattle.pas_profile.specs.declared.name.Block.{Block}
 use Rattle.pas_steps.specs.declared.state.State.{State}
-use Rattle.pas_trials.specs.Judging.{IsSoundPage, HasFault}
-use Rattle.pas_trials.specs.declared.judging.Fault.{Fault}
+use Rattle.pas_trials.specs.{Judging.{IsSoundPage, HasFault}, declared.judging.Fault.Fault}
 use Rattle.pas_trials.proofs.judging.judge.Goals as goal
 
 -- A page without a fault is sound.

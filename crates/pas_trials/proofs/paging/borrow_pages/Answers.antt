@@ -1,6 +1,5 @@
 use Rattle.std.proofs.Common.{refl, ◌∙◌, ◌+◌, ◌-◌, ◌*◌, arith}
-use Rattle.pas_cache.specs.Serves.{wanted_for}
-use Rattle.pas_cache.proofs.Routes.{is_large}
+use Rattle.pas_cache.{specs.Serves.wanted_for, proofs.Routes.is_large}
 use Rattle.pas_trials.proofs.Borrowed.{may_ask, page_asked, room_as, log_as}
 use Rattle.pas_trials.proofs.paging.borrow_pages.Goals as goal
 

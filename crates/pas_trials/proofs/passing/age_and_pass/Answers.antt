@@ -1,7 +1,6 @@
 use Rattle.std.proofs.Common.{[], ◌∷◌, ◌++◌, refl, ap, sym, ◌∙◌, arith}
 use Rattle.pas_scavenger.proofs.Examinations.{same_room}
-use Rattle.pas_steps.specs.Kinds.{Hinting, Ticking}
-use Rattle.pas_steps.proofs.Adding.{adds_call}
+use Rattle.pas_steps.{specs.Kinds.{Hinting, Ticking}, proofs.Adding.adds_call}
 use Rattle.pas_trials.proofs.Ageing.{hint_and_tick, aged, may_pass}
 use Rattle.pas_trials.proofs.passing.age_and_pass.Goals as goal
 

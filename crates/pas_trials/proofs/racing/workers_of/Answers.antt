@@ -1,7 +1,6 @@
 use Rattle.std.proofs.Common.{refl}
 use Rattle.pas_trials.specs.Races.{IsReadyForRace}
-use Rattle.pas_shared.specs.Passes.{IsFreshPass}
-use Rattle.pas_shared.proofs.Pops.{all_more, first_is, others_are}
+use Rattle.pas_shared.{specs.Passes.IsFreshPass, proofs.Pops.{all_more, first_is, others_are}}
 use Rattle.pas_trials.proofs.racing.workers_of.Goals as goal
 
 pub loop-pass-preserved : goal.loop-pass-preserved

@@ -1,6 +1,5 @@
 use Rattle.std.proofs.Common.{sym, subst}
-use Rattle.pas_plain.specs.Plain.{profile_of, PassStands}
-use Rattle.pas_plain.specs.declared.region.PlainRegion.{PlainRegion}
+use Rattle.pas_plain.specs.{Plain.{profile_of, PassStands}, declared.region.PlainRegion.PlainRegion}
 use Rattle.pas_trials.proofs.Opened.{both_passes}
 use Rattle.pas_trials.proofs.seats.close_both.Goals as goal
 

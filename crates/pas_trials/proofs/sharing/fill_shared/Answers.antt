@@ -1,12 +1,8 @@
 use Rattle.std.proofs.Common.{◌≡◌, ℕ, ◌++◌, List, ap, sym, subst}
-use Rattle.pas_profile.specs.{Classes.IsClass, Profiles.IsDirectoryOf}
-use Rattle.pas_profile.specs.declared.profile.Profile.{Profile}
+use Rattle.pas_profile.specs.{Classes.IsClass, Profiles.IsDirectoryOf, declared.profile.Profile.Profile}
 use Rattle.pas_search.specs.Searches.{MaySearch}
-use Rattle.pas_segregated.specs.{Refills.GivesSlots, Stops.MayStopAt}
-use Rattle.pas_segregated.specs.declared.slots.Slots.{Slots}
-use Rattle.pas_steps.specs.Desks.{Seat}
-use Rattle.pas_steps.specs.declared.step.Made.{Made}
-use Rattle.pas_steps.proofs.Adding.{adds_call, can_call}
+use Rattle.pas_segregated.specs.{Refills.GivesSlots, Stops.MayStopAt, declared.slots.Slots.Slots}
+use Rattle.pas_steps.{specs.{Desks.Seat, declared.step.Made.Made}, proofs.Adding.{adds_call, can_call}}
 use Rattle.pas_partial.specs.Refills.{shared_directory, shared_slots}
 use Rattle.pas_trials.proofs.Firsts.{may_stop_where}
 use Rattle.pas_trials.proofs.sharing.fill_shared.Goals as goal

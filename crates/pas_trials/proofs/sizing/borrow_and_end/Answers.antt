@@ -1,6 +1,6 @@
 use Rattle.std.proofs.Common.{arith}
 use Rattle.pas_trials.proofs.Borrowed.{admitted, budget_call}
-use Rattle.pas_cache.proofs.{Budget.may_allocate, Budget.budget_left, Routes.is_small}
+use Rattle.pas_cache.proofs.{Budget.{may_allocate, budget_left}, Routes.is_small}
 use Rattle.pas_trials.proofs.sizing.borrow_and_end.Goals as goal
 
 pub alloc-block-requires-clause-route : goal.alloc-block-requires-clause-route

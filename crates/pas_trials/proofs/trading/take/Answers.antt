@@ -1,7 +1,6 @@
 use Rattle.std.proofs.Common.{subst}
 use Rattle.pas_free_log.specs.Flushes.{EndsName}
-use Rattle.pas_shared.specs.Passes.{standing_of}
-use Rattle.pas_shared.specs.declared.pass.SharedPass.{SharedPass}
+use Rattle.pas_shared.specs.{Passes.standing_of, declared.pass.SharedPass.SharedPass}
 use Rattle.pas_trials.specs.Trades.{standing_at}
 use Rattle.pas_trials.proofs.trading.take.Goals as goal
 

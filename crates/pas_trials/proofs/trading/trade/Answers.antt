@@ -1,9 +1,7 @@
 use Rattle.std.proofs.Common.{sym, subst, ◌∙◌, IfSome}
 use Rattle.pas_steps.specs.{Clear.HasNothing, Desks.CanCall}
-use Rattle.pas_shared.specs.Passes.{IsPassOf}
-use Rattle.pas_shared.specs.declared.{pass.SharedPass.SharedPass, region.SharedRegion.SharedRegion}
-use Rattle.pas_trials.specs.Trades.{standing_at, HasEnded}
-use Rattle.pas_trials.proofs.Ended.{has_nothing, has_ended}
+use Rattle.pas_shared.specs.{Passes.IsPassOf, declared.{pass.SharedPass.SharedPass, region.SharedRegion.SharedRegion}}
+use Rattle.pas_trials.{specs.Trades.{standing_at, HasEnded}, proofs.Ended.{has_nothing, has_ended}}
 use Rattle.pas_trials.proofs.trading.trade.Goals as goal
 
 pub returns : goal.returns

@@ -1,16 +1,9 @@
 use Rattle.std.proofs.Common.{◌≡◌, ℕ, Bool, Some, ◌∷◌, [], ap, sym, ◌∙◌, ◌==◌, true, if◌then◌else◌}
-use Rattle.pas_profile.specs.Directories.{deed_word_of}
-use Rattle.pas_profile.specs.declared.{directory.Directory.Directory, word.Word.Word}
-use Rattle.pas_steps.specs.Calls.{Calls, now, Gained, Kept}
-use Rattle.pas_steps.specs.Desks.{Standing, made, Makes, AnyView}
-use Rattle.pas_steps.specs.Views.{has_right, KnowsDeed, View}
-use Rattle.pas_steps.specs.declared.step.Step.TheVariants.{Look, TakeRight}
-use Rattle.pas_steps.proofs.Called.{call_none, call_step, call_then, next_call}
-use Rattle.pas_steps.proofs.Frames.{knows_still}
-use Rattle.pas_rights.specs.Claims.{Claims}
-use Rattle.pas_trials.specs.Trials.{Answered}
-use Rattle.pas_trials.proofs.Bringing.{look_reads, look_tells}
-use Rattle.pas_rights.proofs.Orders.{same_page}
+use Rattle.pas_profile.specs.{Directories.deed_word_of, declared.{directory.Directory.Directory, word.Word.Word}}
+use Rattle.pas_steps.specs.{Calls.{Calls, now, Gained, Kept}, Desks.{Standing, made, Makes, AnyView}, Views.{has_right, KnowsDeed, View}}
+use Rattle.pas_steps.{specs.declared.step.Step.TheVariants.{Look, TakeRight}, proofs.{Called.{call_none, call_step, call_then, next_call}, Frames.knows_still}}
+use Rattle.pas_rights.{specs.Claims.Claims, proofs.Orders.same_page}
+use Rattle.pas_trials.{specs.Trials.Answered, proofs.Bringing.{look_reads, look_tells}}
 use Rattle.pas_trials.proofs.wanting.ask.Goals as goal
 
 -- the deed word that was read is the directory's

@@ -1,6 +1,5 @@
 use Rattle.std.proofs.Common.{ap, ◌∙◌}
-use Rattle.pas_steps.specs.Desks.{AnyView, Seat}
-use Rattle.pas_steps.proofs.Adding.{adds_call}
+use Rattle.pas_steps.{specs.Desks.{AnyView, Seat}, proofs.Adding.adds_call}
 use Rattle.pas_scan.specs.Marks.{is_marked}
 use Rattle.pas_trials.proofs.Found.{offered_found, bare_found, verdict_found}
 use Rattle.pas_trials.proofs.wanting.want.Goals as goal

@@ -1,5 +1,4 @@
-use Rattle.std.proofs.Common.{◌≡◌}
-use Rattle.std.specs.List.{All}
+use Rattle.std.{proofs.Common.◌≡◌, specs.List.All}
 use Rattle.pas_utility.specs.Pools.{threads_of}
 use Rattle.pas_trials.specs.SharedStorms.{IsReadyForStorm}
 use Rattle.pas_shared.specs.Passes.{IsFreshPass}

@@ -1,11 +1,9 @@
 use Rattle.std.proofs.Common.{ℕ, ◌<◌, get_or, length, refl, ap, sym, ◌∙◌, subst, arith, List, take_all}
 use Rattle.pas_trace.specs.declared.plan.{Op.Op, What.TheVariants.Alloc}
-use Rattle.pas_answers.specs.Names.{names_held}
-use Rattle.pas_answers.specs.declared.names.Names.{Names}
-use Rattle.pas_acts.specs.NameBooks.{ArePlaced}
-use Rattle.pas_acts.proofs.Noting.{asks_same, asks_below, below_at, placed_next, counted, count_small}
-use Rattle.pas_acts.proofs.names.NameBook.note.Goals as goal
+use Rattle.pas_answers.specs.{Names.names_held, declared.names.Names.Names}
+use Rattle.pas_acts.{specs.NameBooks.ArePlaced, proofs.Noting.{asks_same, asks_below, below_at, placed_next, counted, count_small}}
 use Rattle.pas_acts.proofs.names.NameBook.note.Goals.{in-Some, in-None}
+use Rattle.pas_acts.proofs.names.NameBook.note.Goals as goal
 
 abbrev past : Op
 past = record { line = 0; actor = 0; what = Alloc 0 0 0 0 }

@@ -1,8 +1,7 @@
 use Rattle.std.proofs.Common.{◌+◌, subst, sym}
 use Rattle.pas_bits.specs.Masks.{is_set}
-use Rattle.pas_bestfit.proofs.Searched.{SoFar, preferred, not_preferred, none_fits}
+use Rattle.pas_bestfit.proofs.{Searched.{SoFar, preferred, not_preferred, none_fits}, best.BestPlacing.place.Goals.{then-is_preferred, else-is_preferred}}
 use Rattle.pas_bestfit.proofs.best.BestPlacing.place.Goals as goal
-use Rattle.pas_bestfit.proofs.best.BestPlacing.place.Goals.{then-is_preferred, else-is_preferred}
 
 pub loop-run-preserved : goal.loop-run-preserved
 loop-run-preserved c =

@@ -1,8 +1,7 @@
 use Rattle.std.proofs.Common.{ap, sym, subst}
 use Rattle.pas_bits.specs.Masks.{is_set}
 use Rattle.pas_search.specs.declared.placing.Run.{Run}
-use Rattle.pas_bestfit.specs.Bests.{IsBestFit}
-use Rattle.pas_bestfit.proofs.Shortest.{shortest}
+use Rattle.pas_bestfit.{specs.Bests.IsBestFit, proofs.Shortest.shortest}
 use Rattle.pas_bestfit.proofs.region.BestRanking.rank.Goals as goal
 
 pub returns : goal.returns

@@ -1,6 +1,5 @@
 use Rattle.std.proofs.Common.{◌≡◌, ◌*◌, rules, refl, arith, subst, slice_index}
-use Rattle.pas_bits.specs.Masks.{AreClear}
-use Rattle.pas_bits.proofs.Masks.{lowest_from, lowest_is, none_left}
+use Rattle.pas_bits.{specs.Masks.AreClear, proofs.Masks.{lowest_from, lowest_is, none_left}}
 use Rattle.pas_bits.proofs.mask.Mask4.first_set_from.Goals as goal
 
 pub overflow_cast-result-then-rest-ne0 : goal.overflow_cast-result-then-rest-ne0

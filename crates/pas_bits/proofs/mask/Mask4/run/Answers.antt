@@ -1,7 +1,5 @@
-use Rattle.std.proofs.Common.{◌∷◌, [], inl, inr, refl, sym, ◌∙◌, arith}
-use Rattle.std.proofs.lemmas.Bool.{cases_lt}
-use Rattle.pas_bits.specs.Runs.{in_run}
-use Rattle.pas_bits.proofs.{Words.four_words, Words.none_past, Runs.run_above}
+use Rattle.std.proofs.{Common.{◌∷◌, [], inl, inr, refl, sym, ◌∙◌, arith}, lemmas.Bool.cases_lt}
+use Rattle.pas_bits.{specs.Runs.in_run, proofs.{Words.{four_words, none_past}, Runs.run_above}}
 use Rattle.pas_bits.proofs.mask.Mask4.run.Goals as goal
 
 pub returns : goal.returns

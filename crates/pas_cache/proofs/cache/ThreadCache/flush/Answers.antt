@@ -1,6 +1,5 @@
 use Rattle.std.proofs.Common.{ap}
-use Rattle.pas_cache.specs.Caches.{Cached}
-use Rattle.pas_cache.proofs.FlushesAndFrees.{clear_call, flushes_log, rests_open}
+use Rattle.pas_cache.{specs.Caches.Cached, proofs.FlushesAndFrees.{clear_call, flushes_log, rests_open}}
 use Rattle.pas_cache.proofs.cache.ThreadCache.flush.Goals as goal
 
 pub flush-requires-clause-entries : goal.flush-requires-clause-entries

@@ -1,7 +1,6 @@
 use Rattle.std.proofs.Common.{arith, ◌≡◌, refl, ap, subst}
 use Rattle.pas_profile.specs.declared.profile.Profile.{Profile}
-use Rattle.pas_cache.specs.{Contents.CacheOf, Names.IsFaultOf}
-use Rattle.pas_cache.proofs.FlushesAndFrees.{flush_call, frees, refuses, rests_open}
+use Rattle.pas_cache.{specs.{Contents.CacheOf, Names.IsFaultOf}, proofs.FlushesAndFrees.{flush_call, frees, refuses, rests_open}}
 use Rattle.pas_cache.proofs.cache.ThreadCache.free_entry.Goals as goal
 
 pub log_entry-requires-clause-room : goal.log_entry-requires-clause-room

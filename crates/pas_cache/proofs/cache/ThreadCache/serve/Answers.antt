@@ -1,12 +1,9 @@
 use Rattle.std.proofs.Common.{arith, ◌∙◌, refl, sym, subst, ◌≡◌, ◌≤◌, ◌%◌, ap, None}
-use Rattle.pas_profile.specs.Profiles.{IsValid}
-use Rattle.pas_profile.specs.declared.{directory.Directory.Directory, directory.Route.Route, profile.Profile.Profile}
-use Rattle.pas_profile.proofs.Sizes.{bitfit_suits}
+use Rattle.pas_profile.{specs.{Profiles.IsValid, declared.{directory.{Directory.Directory, Route.Route}, profile.Profile.Profile}}, proofs.Sizes.bitfit_suits}
 use Rattle.pas_steps.specs.Desks.{CanCall}
 use Rattle.pas_bitfit.specs.Allocates.{Allocates}
-use Rattle.pas_cache.specs.{Caches.cached, Calls.MayAllocatePages, Parts.ServesFrom, Serves.IsFilling, Serves.filling_in}
-use Rattle.pas_cache.proofs.Routes.{large_size, goes, may_go, pages_asked, bitfit_call, bitfit_room, bitfit_allocates}
-use Rattle.pas_cache.proofs.{Obtained.obtain_rests, FlushesAndFrees.may_allocate_open}
+use Rattle.pas_cache.{specs.{Caches.cached, Calls.MayAllocatePages, Parts.ServesFrom, Serves.{IsFilling, filling_in}}, proofs.Routes.{large_size, goes, may_go}}
+use Rattle.pas_cache.proofs.{Routes.{pages_asked, bitfit_call, bitfit_room, bitfit_allocates}, Obtained.obtain_rests, FlushesAndFrees.may_allocate_open}
 use Rattle.pas_cache.proofs.Alone.{routed, roomed, filling_for, home_is, allocates, serve_call, formed, rests_after}
 use Rattle.pas_cache.proofs.cache.ThreadCache.serve.Goals as goal
 

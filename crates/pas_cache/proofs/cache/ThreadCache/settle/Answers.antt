@@ -1,9 +1,6 @@
-use Rattle.std.proofs.Common.{arith, [], get_or, sym, subst, take, refl, take_all}
-use Rattle.std.proofs.lemmas.List.{Elements.All-nil, Elements.All-same, take_more}
-use Rattle.pas_free_log.specs.Noted.{AreRanges, IsRange}
-use Rattle.pas_free_log.specs.declared.noting.EndedRun.{EndedRun}
-use Rattle.pas_cache.specs.Calls.{SettlesEach}
-use Rattle.pas_cache.proofs.FlushesAndFrees.{settles_more, blank}
+use Rattle.std.proofs.{Common.{arith, [], get_or, sym, subst, take, refl, take_all}, lemmas.List.{Elements.{All-nil, All-same}, take_more}}
+use Rattle.pas_free_log.specs.{Noted.{AreRanges, IsRange}, declared.noting.EndedRun.EndedRun}
+use Rattle.pas_cache.{specs.Calls.SettlesEach, proofs.FlushesAndFrees.{settles_more, blank}}
 use Rattle.pas_cache.proofs.cache.ThreadCache.settle.Goals as goal
 
 pub loop-run-init : goal.loop-run-init

@@ -1,6 +1,5 @@
 use Rattle.std.proofs.Common.{arith, [], refl, ap, ◌∙◌}
-use Rattle.pas_cache.specs.Caches.{Cached}
-use Rattle.pas_cache.proofs.FlushesAndFrees.{clear_call, flushes_log, flushed_call, stops_cache, rests_open, none_twice, none_formed}
+use Rattle.pas_cache.{specs.Caches.Cached, proofs.FlushesAndFrees.{clear_call, flushes_log, flushed_call, stops_cache, rests_open, none_twice, none_formed}}
 use Rattle.pas_cache.proofs.cache.ThreadCache.stop.Goals as goal
 
 pub flush-requires-clause-entries : goal.flush-requires-clause-entries

@@ -1,5 +1,4 @@
-use Rattle.std.proofs.Common.{arith}
-use Rattle.std.proofs.lemmas.List.{get_or_read}
+use Rattle.std.proofs.{Common.arith, lemmas.List.get_or_read}
 use Rattle.pas_check.proofs.Logs.{length_is, log_added, logs_kept}
 use Rattle.pas_check.proofs.logging.Logs.add.Goals as goal
 

@@ -1,5 +1,4 @@
-use Rattle.std.proofs.Common.{◌*◌, ◌/◌, ◌%◌, ap}
-use Rattle.std.proofs.Math.Nat.{mod-add-mod}
+use Rattle.std.proofs.{Common.{◌*◌, ◌/◌, ◌%◌, ap}, Math.Nat.mod-add-mod}
 use Rattle.pas_generate.specs.Draws.{drawn, moved}
 use Rattle.pas_generate.proofs.draws.Draws.draw.Goals as goal
 

@@ -1,6 +1,5 @@
 use Rattle.std.proofs.Common.{true, false}
-use Rattle.pas_generate.specs.Operations.{state_of}
-use Rattle.pas_generate.proofs.Operations.{began, allocated, was_freed}
+use Rattle.pas_generate.{specs.Operations.state_of, proofs.Operations.{began, allocated, was_freed}}
 use Rattle.pas_generate.proofs.generator.Generator.draw_operation.Goals as goal
 
 pub returns-then-is_allocation-clause-operation : goal.returns-then-is_allocation-clause-operation

@@ -1,6 +1,5 @@
 use Rattle.std.proofs.Common.{sym, ◌∙◌}
-use Rattle.pas_generate.specs.Operations.{state_of}
-use Rattle.pas_generate.proofs.Operations.{tick_at, pass_at, drawn_at}
+use Rattle.pas_generate.{specs.Operations.state_of, proofs.Operations.{tick_at, pass_at, drawn_at}}
 use Rattle.pas_generate.proofs.generator.Generator.next.Goals as goal
 
 pub returns-in-999-clause-state : goal.returns-in-999-clause-state

@@ -1,6 +1,5 @@
 use Rattle.std.proofs.Common.{◌+◌, sym, subst, arith, Some}
-use Rattle.pas_guard.specs.{Books.guards_in, Raises.Raises}
-use Rattle.pas_guard.proofs.Raises.{can_seek, can_guard, room_to_guard, raised, not_raised}
+use Rattle.pas_guard.{specs.{Books.guards_in, Raises.Raises}, proofs.Raises.{can_seek, can_guard, room_to_guard, raised, not_raised}}
 use Rattle.pas_guard.proofs.book.GuardBook.raise.Goals as goal
 
 pub seek_run-requires-clause-can : goal.seek_run-requires-clause-can

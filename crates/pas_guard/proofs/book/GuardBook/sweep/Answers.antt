@@ -1,9 +1,9 @@
 use Rattle.std.proofs.Common.{◌++◌, ◌∷◌, List, [], length, length-append, refl, ap, sym, subst, ◌∙◌, arith, slice_index_or}
 use Rattle.pas_records.specs.Rooms.{records_in}
-use Rattle.pas_guard.specs.{Books.guards_in, Passing.no_guard, Passing.AreOfRegion, Sweeps.lowered_record}
+use Rattle.pas_guard.{specs.{Books.guards_in, Passing.{no_guard, AreOfRegion}, Sweeps.lowered_record}, proofs.PassedGuards.{are_of_region, guards_stay}}
+use Rattle.pas_guard.proofs.{PassedGuards.{may_pass, place_within}, Raises.{swept_none, swept_all, its_page, may_look, can_lower_it, it_stays, it_goes}}
+use Rattle.pas_guard.proofs.Raises.{one_less}
 use Rattle.pas_profile.specs.declared.guard.Guard.{Guard}
-use Rattle.pas_guard.proofs.PassedGuards.{are_of_region, guards_stay, may_pass, place_within}
-use Rattle.pas_guard.proofs.Raises.{swept_none, swept_all, its_page, may_look, can_lower_it, it_stays, it_goes, one_less}
 use Rattle.pas_guard.proofs.book.GuardBook.sweep.Goals as goal
 
 pub loop-place-init : goal.loop-place-init

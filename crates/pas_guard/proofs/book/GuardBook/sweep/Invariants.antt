@@ -1,7 +1,6 @@
 use Rattle.std.proofs.Common.{◌≡◌, ◌≤◌, ◌+◌, ◌-◌, length}
 use Rattle.pas_records.specs.Rooms.{records_in, room_of}
-use Rattle.pas_guard.specs.Books.{guards_in, size_of_book}
-use Rattle.pas_guard.proofs.Raises.{SweptSoFar}
+use Rattle.pas_guard.{specs.Books.{guards_in, size_of_book}, proofs.Raises.SweptSoFar}
 use Rattle.pas_guard.proofs.book.GuardBook.sweep.Given as goal
 
 -- the guards before this place stay up, and those from there on come next

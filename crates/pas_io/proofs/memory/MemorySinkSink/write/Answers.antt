@@ -1,5 +1,4 @@
-use Rattle.std.proofs.Common.{◌-◌, arith, length-take}
-use Rattle.std.proofs.lemmas.{List.with_items_is, Slice.take-put_mid}
+use Rattle.std.proofs.{Common.{◌-◌, arith, length-take}, lemmas.{List.with_items_is, Slice.take-put_mid}}
 use Rattle.pas_io.proofs.memory.MemorySinkSink.write.Goals as goal
 
 -- what is copied stands right behind the bytes that were taken before

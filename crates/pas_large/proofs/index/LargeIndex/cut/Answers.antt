@@ -1,7 +1,5 @@
 use Rattle.std.proofs.Common.{◌∙◌, ◌≡◌, ◌++◌, ◌+◌, take, drop, get_or, sym, subst}
-use Rattle.pas_large.specs.declared.span.Span.{Span}
-use Rattle.pas_large.specs.{Spans.AreApart, Spans.has_page, Spans.left_of, Sets.HasFewer}
-use Rattle.pas_large.proofs.Spans.{cut_apart, cut_has, from_to, cut_is}
+use Rattle.pas_large.{specs.{declared.span.Span.Span, Spans.{AreApart, has_page, left_of}, Sets.HasFewer}, proofs.Spans.{cut_apart, cut_has, from_to, cut_is}}
 use Rattle.pas_large.proofs.index.LargeIndex.cut.Goals as goal
 
 pub returns-clause-ranges : goal.returns-clause-ranges

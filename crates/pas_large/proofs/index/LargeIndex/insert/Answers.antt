@@ -1,7 +1,5 @@
 use Rattle.std.proofs.Common.{◌∙◌, ◌≡◌, ◌++◌, ◌∷◌, take, drop, sym, subst, arith, ap}
-use Rattle.pas_large.specs.Spans.{AreApart, has_page, joined, span_of}
-use Rattle.pas_large.specs.Sets.{HasMore}
-use Rattle.pas_large.proofs.Spans.{joined_apart, joined_has}
+use Rattle.pas_large.{specs.{Spans.{AreApart, has_page, joined, span_of}, Sets.HasMore}, proofs.Spans.{joined_apart, joined_has}}
 use Rattle.pas_large.proofs.index.LargeIndex.insert.Goals as goal
 
 pub returns-clause-ranges : goal.returns-clause-ranges

@@ -1,6 +1,5 @@
 use Rattle.std.proofs.Common.{◌∙◌, ap, sym, subst, Some}
-use Rattle.pas_large.specs.Spans.{AreApart, lowest_fit}
-use Rattle.pas_large.proofs.Spans.{none_cut, cut_is_lowest, found_for}
+use Rattle.pas_large.{specs.Spans.{AreApart, lowest_fit}, proofs.Spans.{none_cut, cut_is_lowest, found_for}}
 use Rattle.pas_large.proofs.index.LargeIndex.take_lowest.Goals as goal
 
 pub returns-in_err-first-clause-left : goal.returns-in_err-first-clause-left

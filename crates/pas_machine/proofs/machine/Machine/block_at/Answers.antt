@@ -1,6 +1,5 @@
 use Rattle.std.proofs.Common.{◌∙◌, ◌≡◌, ◌*◌, ◌/◌, ◌<◌, arith}
-use Rattle.pas_machine.specs.Places.{grains_of}
-use Rattle.pas_machine.proofs.Verdicts.{block_is}
+use Rattle.pas_machine.{specs.Places.grains_of, proofs.Verdicts.block_is}
 use Rattle.pas_machine.proofs.machine.Machine.block_at.Goals as goal
 
 pub returns : goal.returns

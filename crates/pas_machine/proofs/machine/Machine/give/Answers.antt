@@ -1,6 +1,5 @@
 use Rattle.std.proofs.Common.{arith, ◌∙◌, refl, sym}
-use Rattle.pas_profile.specs.declared.event.Event.{Event}
-use Rattle.pas_profile.specs.Blocks.{address_of}
+use Rattle.pas_profile.specs.{declared.event.Event.Event, Blocks.address_of}
 use Rattle.pas_machine.proofs.Verdicts.{admits_of, place_at, gives_are, give_made, shown_after}
 use Rattle.pas_machine.proofs.machine.Machine.give.Goals as goal
 

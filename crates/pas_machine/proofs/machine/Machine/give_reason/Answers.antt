@@ -1,9 +1,7 @@
-use Rattle.std.proofs.Common.{◌≡◌, true, false, sym, ◌∙◌, arith}
-use Rattle.std.proofs.lemmas.Bool.{false≢true}
+use Rattle.std.proofs.{Common.{◌≡◌, true, false, sym, ◌∙◌, arith}, lemmas.Bool.false≢true}
 use Rattle.pas_profile.specs.Blocks.{address_of}
-use Rattle.pas_machine.specs.Places.{IsOfHeap}
-use Rattle.pas_machine.specs.declared.places.Page.{Page}
-use Rattle.pas_machine.proofs.Verdicts.{inside_never, give_before, number_below, gives_are, place_at, some_page, each_page, some_lives, none_lives}
+use Rattle.pas_machine.{specs.{Places.IsOfHeap, declared.places.Page.Page}, proofs.Verdicts.{inside_never, give_before, number_below, gives_are, place_at}}
+use Rattle.pas_machine.proofs.Verdicts.{some_page, each_page, some_lives, none_lives}
 use Rattle.pas_machine.proofs.machine.Machine.give_reason.Goals as goal
 
 pub returns-then-lacks_deed-clause-verdict : goal.returns-then-lacks_deed-clause-verdict

@@ -1,9 +1,7 @@
 use Rattle.std.proofs.Common.{◌≡◌, ◌+◌, ◌*◌, ◌<◌, ◌≤◌, List, Bool, true, false, get_or, subst, sym, ◌∙◌, arith}
-use Rattle.pas_machine.specs.declared.places.Page.{Page}
-use Rattle.pas_machine.specs.Places.{IsSome, IsEach}
-use Rattle.pas_machine.proofs.Verdicts.{page_is, unback_lives, unback_young, unback_may}
-use Rattle.pas_machine.proofs.machine.Machine.unback_reason.Goals as goal
+use Rattle.pas_machine.{specs.{declared.places.Page.Page, Places.{IsSome, IsEach}}, proofs.Verdicts.{page_is, unback_lives, unback_young, unback_may}}
 use Rattle.pas_machine.proofs.machine.Machine.unback_reason.Goals.{then-epoch-last-via-then-epoch-last, then-epoch-last-via-else-epoch-last+then-epoch-last-2}
+use Rattle.pas_machine.proofs.machine.Machine.unback_reason.Goals as goal
 
 pub returns-then-is_some_covered-clause-verdict : goal.returns-then-is_some_covered-clause-verdict
 returns-then-is_some_covered-clause-verdict c k es shows =

@@ -1,8 +1,7 @@
 use Rattle.std.proofs.Common.{◌≡◌, ◌-◌, ◌*◌, ◌/◌, min, subst, sym}
 use Rattle.pas_bits.specs.Masks.{is_set, IsLowestPlace}
 use Rattle.pas_search.specs.Placements.{IsPlaced}
-use Rattle.pas_partial.specs.Rows.{lowest_rows}
-use Rattle.pas_partial.proofs.Refilled.{placed_row}
+use Rattle.pas_partial.{specs.Rows.lowest_rows, proofs.Refilled.placed_row}
 use Rattle.pas_partial.proofs.partial.PartialPlacing.place.Goals as goal
 
 pub returns : goal.returns

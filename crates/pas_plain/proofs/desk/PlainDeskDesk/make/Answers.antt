@@ -1,6 +1,5 @@
 use Rattle.pas_steps.proofs.Running.{is_ranged, target_of_region}
-use Rattle.pas_plain.specs.Plain.{profile_of}
-use Rattle.pas_plain.proofs.Desks.{plain_makes}
+use Rattle.pas_plain.{specs.Plain.profile_of, proofs.Desks.plain_makes}
 use Rattle.pas_plain.proofs.desk.PlainDeskDesk.make.Goals as goal
 
 pub change-requires-clause-of_region : goal.change-requires-clause-of_region

@@ -1,7 +1,6 @@
 use Rattle.std.proofs.Common.{true, subst, sym}
 use Rattle.pas_steps.specs.Told.{TellsWord}
-use Rattle.pas_plain.specs.Seats.{standing_of}
-use Rattle.pas_plain.proofs.Desks.{tells_word}
+use Rattle.pas_plain.{specs.Seats.standing_of, proofs.Desks.tells_word}
 use Rattle.pas_plain.proofs.desk.PlainDeskDesk.peek.Goals as goal
 
 pub returns : goal.returns

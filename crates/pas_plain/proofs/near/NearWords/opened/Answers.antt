@@ -1,5 +1,4 @@
-use Rattle.std.proofs.Common.{◌≡◌, List, ℕ, ◌-◌, ◌∙◌, ap, sym, arith, length, slice_index}
-use Rattle.std.proofs.lemmas.List.{length-replicate}
+use Rattle.std.proofs.{Common.{◌≡◌, List, ℕ, ◌-◌, ◌∙◌, ap, sym, arith, length, slice_index}, lemmas.List.length-replicate}
 use Rattle.pas_profile.specs.declared.word.{Layout.Layout, Word.Word}
 use Rattle.pas_plain.proofs.ShortOnes.{no_page}
 use Rattle.pas_plain.proofs.near.NearWords.opened.Goals as goal

@@ -1,8 +1,5 @@
-use Rattle.std.proofs.Common.{◌∙◌, ap, sym, subst, arith}
-use Rattle.std.proofs.lemmas.Bool.{false_from_ne_true}
-use Rattle.pas_profile.specs.{Layouts.same_word, Profiles.IsWordIn}
-use Rattle.pas_profile.specs.declared.word.Word.{Word}
-use Rattle.pas_profile.proofs.Places.{same_word-true}
+use Rattle.std.proofs.{Common.{◌∙◌, ap, sym, subst, arith}, lemmas.Bool.false_from_ne_true}
+use Rattle.pas_profile.{specs.{Layouts.same_word, Profiles.IsWordIn, declared.word.Word.Word}, proofs.Places.same_word-true}
 use Rattle.pas_plain.proofs.FirstLives.{IsWrittenIn, first_written, firsts_kept, other_grain}
 use Rattle.pas_plain.proofs.near.NearWords.set.Goals as goal
 

@@ -1,8 +1,6 @@
-use Rattle.std.proofs.Common.{◌≡◌, refl, sym, subst, inl, inr, Option, MatchOption}
-use Rattle.std.proofs.lemmas.Bool.{MatchBool-at_false}
+use Rattle.std.proofs.{Common.{◌≡◌, refl, sym, subst, inl, inr, Option, MatchOption}, lemmas.Bool.MatchBool-at_false}
 use Rattle.pas_bits.specs.Masks.{IsLowestPlace}
-use Rattle.pas_plain.specs.Short.{IsShortPage}
-use Rattle.pas_plain.proofs.ShortOnes.{noted_short, none_there}
+use Rattle.pas_plain.{specs.Short.IsShortPage, proofs.ShortOnes.{noted_short, none_there}}
 use Rattle.pas_plain.proofs.region.PlainRegion.note_short.Goals as goal
 
 pub invariant_of-self : goal.invariant_of-self

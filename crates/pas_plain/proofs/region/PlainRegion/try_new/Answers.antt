@@ -1,7 +1,5 @@
 use Rattle.std.proofs.Common.{◌+◌, ◌≤◌, All, List, [], length, sym, subst, arith}
-use Rattle.pas_plain.specs.Plain.{PassStands}
-use Rattle.pas_plain.specs.declared.pass.PlainPass.{PlainPass}
-use Rattle.pas_plain.proofs.Desks.{passes_stand}
+use Rattle.pas_plain.{specs.{Plain.PassStands, declared.pass.PlainPass.PlainPass}, proofs.Desks.passes_stand}
 use Rattle.pas_plain.proofs.region.PlainRegion.try_new.Goals as goal
 
 pub returns-clause-stand : goal.returns-clause-stand

@@ -1,8 +1,6 @@
 use Rattle.std.proofs.Common.{◌≡◌, ◌==◌, ◌≢◌, ◌<◌, ◌/◌, length, arith, refl, sym, ap, ◌∙◌, inl, inr, true, false, true≢false, length-set, subst}
-use Rattle.std.proofs.{Math.ListN.set, lemmas.Bool.cases_eq, lemmas.Bool.cases_Bool}
-use Rattle.pas_plain.specs.ShortRows.{has_page, row_at}
-use Rattle.pas_plain.specs.declared.short.ShortRow.{ShortRow}
-use Rattle.pas_plain.proofs.ShortOnes.{row_is, note_there, row_there, page_without}
+use Rattle.std.proofs.{Math.ListN.set, lemmas.Bool.{cases_eq, cases_Bool}}
+use Rattle.pas_plain.{specs.{ShortRows.{has_page, row_at}, declared.short.ShortRow.ShortRow}, proofs.ShortOnes.{row_is, note_there, row_there, page_without}}
 use Rattle.pas_plain.proofs.short.ShortPages.forget.Goals as goal
 
 pub invariant_of-self : goal.invariant_of-self

@@ -1,5 +1,5 @@
 use Rattle.std.proofs.Common.{◌≡◌, ℕ, ◌<◌, false, length}
-use Rattle.pas_plain.specs.{ShortRows.has_page, ShortRows.row_at, Short.HasNote}
+use Rattle.pas_plain.specs.{ShortRows.{has_page, row_at}, Short.HasNote}
 use Rattle.pas_plain.proofs.short.ShortPages.forget.Given as goal
 
 -- the rows before this one haven't the page

@@ -1,8 +1,5 @@
-use Rattle.std.proofs.Common.{◌≡◌, ◌==◌, arith, refl, sym, ap, ◌∙◌, inl, inr, true, eqb-true}
-use Rattle.std.proofs.lemmas.Bool.{or_cases}
-use Rattle.pas_plain.specs.ShortRows.{has_page}
-use Rattle.pas_plain.specs.declared.short.ShortRow.{ShortRow}
-use Rattle.pas_plain.proofs.ShortOnes.{row_is, note_there, page_with}
+use Rattle.std.proofs.{Common.{◌≡◌, ◌==◌, arith, refl, sym, ap, ◌∙◌, inl, inr, true, eqb-true}, lemmas.Bool.or_cases}
+use Rattle.pas_plain.{specs.{ShortRows.has_page, declared.short.ShortRow.ShortRow}, proofs.ShortOnes.{row_is, note_there, page_with}}
 use Rattle.pas_plain.proofs.short.ShortPages.note.Goals as goal
 
 pub returns : goal.returns

@@ -1,7 +1,5 @@
 use Rattle.std.proofs.Common.{arith, refl, sym, ap, ◌∙◌}
-use Rattle.pas_plain.specs.ShortRows.{has_page}
-use Rattle.pas_plain.specs.declared.short.ShortRow.{ShortRow}
-use Rattle.pas_plain.proofs.ShortOnes.{row_pushed, note_pushed}
+use Rattle.pas_plain.{specs.{ShortRows.has_page, declared.short.ShortRow.ShortRow}, proofs.ShortOnes.{row_pushed, note_pushed}}
 use Rattle.pas_plain.proofs.short.ShortPages.row_for.Goals as goal
 
 pub invariant_of-self : goal.invariant_of-self

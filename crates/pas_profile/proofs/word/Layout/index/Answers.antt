@@ -1,7 +1,5 @@
 use Rattle.std.proofs.Common.{arith, subst}
-use Rattle.pas_profile.specs.Profiles.{IsWordIn}
-use Rattle.pas_profile.specs.declared.word.Word.TheVariants.{Eligible}
-use Rattle.pas_profile.proofs.Places.{index_lt}
+use Rattle.pas_profile.{specs.{Profiles.IsWordIn, declared.word.Word.TheVariants.Eligible}, proofs.Places.index_lt}
 use Rattle.pas_profile.proofs.word.Layout.index.Goals as goal
 
 pub returns-in-Eligible-clause-within : goal.returns-in-Eligible-clause-within

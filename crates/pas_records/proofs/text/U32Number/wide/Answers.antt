@@ -1,5 +1,4 @@
-use Rattle.std.proofs.Common.{arith}
-use Rattle.std.proofs.lemmas.Fmt.{length-decimal-le}
+use Rattle.std.proofs.{Common.arith, lemmas.Fmt.length-decimal-le}
 use Rattle.pas_records.proofs.text.U32Number.wide.Goals as goal
 
 pub returns-clause-fits : goal.returns-clause-fits

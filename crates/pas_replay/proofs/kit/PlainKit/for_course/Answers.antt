@@ -1,13 +1,10 @@
-use Rattle.std.proofs.Common.{ℕ, ◌+◌, List, [], Some, length, slice_index, ap, sym, ◌∙◌, subst, arith, All}
-use Rattle.std.proofs.lemmas.{List.length-map, Option.same_Some}
+use Rattle.std.proofs.{Common.{ℕ, ◌+◌, List, [], Some, length, slice_index, ap, sym, ◌∙◌, subst, arith, All}, lemmas.{List.length-map, Option.same_Some}}
 use Rattle.pas_profile.specs.declared.profile.Profile.{Profile}
-use Rattle.pas_plain.specs.Plain.{PassStands}
-use Rattle.pas_plain.specs.declared.pass.PlainPass.{PlainPass}
+use Rattle.pas_plain.specs.{Plain.PassStands, declared.pass.PlainPass.PlainPass}
 use Rattle.pas_large.specs.Doors.{no_ranges}
-use Rattle.pas_acts.specs.Parts.{AreUnused}
+use Rattle.pas_acts.{specs.Parts.AreUnused, proofs.PlanFacts.{plan_bounds, plan_below, plan_threads}}
 use Rattle.pas_answers.specs.{Fit.AllBelow, Replays.phases_of}
 use Rattle.pas_replay.proofs.InOrder.{passes_count, fresh_actor}
-use Rattle.pas_acts.proofs.PlanFacts.{plan_bounds, plan_below, plan_threads}
 use Rattle.pas_replay.proofs.kit.PlainKit.for_course.Goals as goal
 
 pub try_new-requires : goal.try_new-requires

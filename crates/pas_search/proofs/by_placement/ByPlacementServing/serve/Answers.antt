@@ -1,8 +1,7 @@
 use Rattle.std.proofs.Common.{false}
 use Rattle.pas_bits.specs.Masks.{is_set}
-use Rattle.pas_search.proofs.ForBackEnds.{room_kept}
-use Rattle.pas_search.proofs.Pages.{placed_fits, unfit, run_chosen, quiet_by, can_leave, can_back, looked_at, leaves_unfit, can_take, taken_from, keeps_chosen}
-use Rattle.pas_search.specs.Placements.{by_run, placing}
+use Rattle.pas_search.proofs.{ForBackEnds.room_kept, Pages.{placed_fits, unfit, run_chosen, quiet_by, can_leave, can_back, looked_at, leaves_unfit, can_take}}
+use Rattle.pas_search.{proofs.Pages.{taken_from, keeps_chosen}, specs.Placements.{by_run, placing}}
 use Rattle.pas_search.proofs.by_placement.ByPlacementServing.serve.Goals as goal
 
 pub leave-requires-clause-can : goal.leave-requires-clause-can

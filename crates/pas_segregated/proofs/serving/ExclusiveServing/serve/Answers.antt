@@ -1,8 +1,7 @@
 use Rattle.std.proofs.lemmas.Bool.{MatchBool-at_true, MatchBool-at_false}
 use Rattle.pas_bits.specs.Masks.{is_set, IsEmpty, HasMember}
-use Rattle.pas_segregated.specs.Takes.{in_starts, exclusive}
-use Rattle.pas_segregated.proofs.GivenUp.{class_of, prepared, leaves_slots, some_grain, keeps_slots}
-use Rattle.pas_search.proofs.{ForBackEnds.room_kept, Pages.quiet_by, Pages.can_leave, Pages.can_back}
+use Rattle.pas_segregated.{specs.Takes.{in_starts, exclusive}, proofs.GivenUp.{class_of, prepared, leaves_slots, some_grain, keeps_slots}}
+use Rattle.pas_search.proofs.{ForBackEnds.room_kept, Pages.{quiet_by, can_leave, can_back}}
 use Rattle.pas_segregated.proofs.serving.ExclusiveServing.serve.Goals as goal
 
 pub leave-requires-clause-can : goal.leave-requires-clause-can

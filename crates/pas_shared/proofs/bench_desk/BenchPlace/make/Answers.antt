@@ -1,10 +1,8 @@
 use Rattle.std.proofs.Common.{◌≡◌, inr, [], ◌∷◌, refl, sym, ap, ◌∙◌, subst}
-use Rattle.pas_profile.specs.Layouts.{words_of, index_of}
-use Rattle.pas_profile.specs.declared.profile.Profile.{Profile}
-use Rattle.pas_steps.specs.{Agreement.Agrees, Desks.made, Views.or_zero, Noted.AreNotesOf}
-use Rattle.pas_steps.proofs.Noting.{notes_next}
-use Rattle.pas_shared.specs.{Ruled.IsAskedOf, Ruled.rows_in, Ruled.row_with, Benches.row_on, Benches.first_row, Benches.made_by}
-use Rattle.pas_shared.proofs.Benching.{benched_is, one_row, row_stepped, made_next, sits_as}
+use Rattle.pas_profile.specs.{Layouts.{words_of, index_of}, declared.profile.Profile.Profile}
+use Rattle.pas_steps.{specs.{Agreement.Agrees, Desks.made, Views.or_zero, Noted.AreNotesOf}, proofs.Noting.notes_next}
+use Rattle.pas_shared.{specs.{Ruled.{IsAskedOf, rows_in, row_with}, Benches.{row_on, first_row, made_by}}, proofs.Benching.{benched_is, one_row, row_stepped}}
+use Rattle.pas_shared.proofs.Benching.{made_next, sits_as}
 use Rattle.pas_shared.proofs.bench_desk.BenchPlace.make.Goals as goal
 
 pub exchange-answer-requires-clause-place : goal.exchange-answer-requires-clause-place

@@ -1,4 +1,4 @@
-use Rattle.pas_shared.specs.{Ruled.made_in, Ruled.rows_in, Benches.first_row}
+use Rattle.pas_shared.specs.{Ruled.{made_in, rows_in}, Benches.first_row}
 use Rattle.pas_shared.proofs.bench_desk.BenchPlace.make.Given as goal
 
 -- the step is the one asked for, of the member that sits there

@@ -1,5 +1,4 @@
-use Rattle.std.proofs.Common.{arith, ap, sym}
-use Rattle.std.proofs.lemmas.Grind.{common_steps}
+use Rattle.std.proofs.{Common.{arith, ap, sym}, lemmas.Grind.common_steps}
 use Rattle.pas_shared.specs.Ruled.{changed}
 use Rattle.pas_shared.proofs.exchange.Change.of.Goals as goal
 

@@ -1,5 +1,5 @@
 use Rattle.std.proofs.Common.{ap, ◌∙◌}
-use Rattle.pas_shared.proofs.{Ruling.joins, GivingBack.some_word, GivingBack.took_last, GivingBack.splits_last_as}
+use Rattle.pas_shared.proofs.{Ruling.joins, GivingBack.{some_word, took_last, splits_last_as}}
 use Rattle.pas_shared.proofs.ledger.Ledger.give_back.Goals as goal
 
 pub split_seat-own-requires : goal.split_seat-own-requires

@@ -1,4 +1,4 @@
-use Rattle.pas_shared.proofs.{Ruling.first_earlier, GivingBack.some_word, GivingBack.looks_as, GivingBack.saw_each}
+use Rattle.pas_shared.proofs.{Ruling.first_earlier, GivingBack.{some_word, looks_as, saw_each}}
 use Rattle.pas_shared.proofs.ledger.Ledger.look.Goals as goal
 
 pub load-requires : goal.load-requires

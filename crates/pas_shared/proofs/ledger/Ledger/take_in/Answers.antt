@@ -1,5 +1,5 @@
 use Rattle.std.proofs.Common.{ap, ◌∙◌}
-use Rattle.pas_shared.proofs.{Ruling.joins, Ruling.splits_all, GivingBack.some_word}
+use Rattle.pas_shared.proofs.{Ruling.{joins, splits_all}, GivingBack.some_word}
 use Rattle.pas_shared.proofs.ledger.Ledger.take_in.Goals as goal
 
 pub split_seat-own-requires : goal.split_seat-own-requires

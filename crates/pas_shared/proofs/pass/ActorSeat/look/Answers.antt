@@ -1,9 +1,7 @@
 use Rattle.std.proofs.Common.{List, [], inl, refl, sym, ap, ◌∙◌, subst}
 use Rattle.pas_steps.specs.Lists.{part}
-use Rattle.pas_shared.specs.Ruled.{HasPart, parts_in, seen_in, view_in}
-use Rattle.pas_shared.specs.declared.rule.Part.{Part}
-use Rattle.pas_shared.proofs.Ruling.{joins, splits_all}
-use Rattle.pas_shared.proofs.GivingBack.{some_word, took_last, took_alone, splits_last_as, seen_by_rest}
+use Rattle.pas_shared.{specs.{Ruled.{HasPart, parts_in, seen_in, view_in}, declared.rule.Part.Part}, proofs.{Ruling.{joins, splits_all}, GivingBack.some_word}}
+use Rattle.pas_shared.proofs.GivingBack.{took_last, took_alone, splits_last_as, seen_by_rest}
 use Rattle.pas_shared.proofs.pass.ActorSeat.look.Goals as goal
 
 pub split_seat-own-requires : goal.split_seat-own-requires

@@ -1,6 +1,5 @@
 use Rattle.std.proofs.Common.{◌≡◌, inl, ℕ, [], ◌∷◌, refl, sym, ap, ◌∙◌, subst}
-use Rattle.pas_profile.specs.Layouts.{words_of}
-use Rattle.pas_profile.specs.declared.profile.Profile.{Profile}
+use Rattle.pas_profile.specs.{Layouts.words_of, declared.profile.Profile.Profile}
 use Rattle.pas_steps.specs.{Agreement.Agrees, Desks.made}
 use Rattle.pas_shared.specs.Ruled.{alone, actor_in, view_in, IsAskedOf, with_made}
 use Rattle.pas_shared.proofs.pass.ActorSeat.make.Goals as goal

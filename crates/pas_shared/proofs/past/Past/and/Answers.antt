@@ -1,5 +1,5 @@
 use Rattle.std.proofs.Common.{ap}
-use Rattle.pas_shared.proofs.{Ruling.joins, GivingBack.some_word, Ruling.both_earlier}
+use Rattle.pas_shared.proofs.{Ruling.{joins, both_earlier}, GivingBack.some_word}
 use Rattle.pas_shared.proofs.past.Past.and.Goals as goal
 
 pub join_seat-requires : goal.join_seat-requires

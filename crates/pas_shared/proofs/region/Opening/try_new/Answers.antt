@@ -1,8 +1,6 @@
 use Rattle.std.proofs.Common.{◌∙◌, ◌∷◌, [], List, ℕ, sym, ap, subst, slice_index}
-use Rattle.pas_profile.specs.{Layouts.index_of, Layouts.words_of, Profiles.IsWordIn}
-use Rattle.pas_shared.specs.declared.rule.Roster.TheVariants.{Unused}
-use Rattle.pas_shared.specs.Ruled.{AreAfterOneList}
-use Rattle.pas_shared.proofs.Opened.{begins}
+use Rattle.pas_profile.specs.{Layouts.{index_of, words_of}, Profiles.IsWordIn}
+use Rattle.pas_shared.{specs.{declared.rule.Roster.TheVariants.Unused, Ruled.AreAfterOneList}, proofs.Opened.begins}
 use Rattle.pas_shared.proofs.region.Opening.try_new.Goals as goal
 
 pub of_words-requires : goal.of_words-requires

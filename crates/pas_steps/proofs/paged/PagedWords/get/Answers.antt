@@ -1,6 +1,5 @@
 use Rattle.std.proofs.Common.{arith, length, ap, sym, ◌∙◌}
-use Rattle.pas_steps.specs.Paged.{value_in}
-use Rattle.pas_steps.proofs.OnPages.{life_past}
+use Rattle.pas_steps.{specs.Paged.value_in, proofs.OnPages.life_past}
 use Rattle.pas_steps.proofs.paged.PagedWords.get.Goals as goal
 
 pub returns-in-None-get : goal.returns-in-None-get

@@ -1,7 +1,5 @@
 use Rattle.std.proofs.Common.{arith, ◌≡◌, refl, ap, sym, ◌∙◌}
-use Rattle.pas_steps.specs.Paged.{value_in}
-use Rattle.pas_steps.specs.declared.paged.PagedWords.{PagedWords}
-use Rattle.pas_steps.proofs.OnPages.{rewritten, life_past}
+use Rattle.pas_steps.{specs.{Paged.value_in, declared.paged.PagedWords.PagedWords}, proofs.OnPages.{rewritten, life_past}}
 use Rattle.pas_steps.proofs.paged.PagedWords.set.Goals as goal
 
 pub returns-else-is_open_for-2-clause-words : goal.returns-else-is_open_for-2-clause-words

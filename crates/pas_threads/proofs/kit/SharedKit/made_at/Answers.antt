@@ -1,12 +1,9 @@
-use Rattle.std.proofs.Common.{◌+◌, ◌∷◌, Some, length, slice_index, ap, sym, ◌∙◌, subst, arith}
-use Rattle.std.proofs.lemmas.Option.{same_Some}
+use Rattle.std.proofs.{Common.{◌+◌, ◌∷◌, Some, length, slice_index, ap, sym, ◌∙◌, subst, arith}, lemmas.Option.same_Some}
 use Rattle.pas_profile.specs.declared.profile.Profile.{Profile}
-use Rattle.pas_trace.specs.Plans.{bounds_of}
-use Rattle.pas_trace.proofs.Keepers.{plan_actors}
+use Rattle.pas_trace.{specs.Plans.bounds_of, proofs.Keepers.plan_actors}
 use Rattle.pas_shared.proofs.Opened.{fresh_many}
 use Rattle.pas_acts.proofs.PlanFacts.{plan_bounds}
-use Rattle.pas_threads.specs.Kits.{AreNew}
-use Rattle.pas_threads.proofs.StartAndEnd.{all_new, first_taken}
+use Rattle.pas_threads.{specs.Kits.AreNew, proofs.StartAndEnd.{all_new, first_taken}}
 use Rattle.pas_threads.proofs.kit.SharedKit.made_at.Goals as goal
 
 pub try_new-requires : goal.try_new-requires

@@ -1,5 +1,4 @@
-use Rattle.pas_steps.specs.Desks.{AnyView}
-use Rattle.pas_steps.proofs.Adding.{can_call}
+use Rattle.pas_steps.{specs.Desks.AnyView, proofs.Adding.can_call}
 use Rattle.pas_timing.proofs.scan.searching.search.Goals as goal
 
 pub returns-then-by_rows-clause-seat : goal.returns-then-by_rows-clause-seat

@@ -1,8 +1,6 @@
 use Rattle.std.proofs.Common.{◌∙◌, ◌∷◌, ap}
 use Rattle.pas_profile.specs.declared.word.Word.{Word}
-use Rattle.pas_steps.specs.declared.step.Step.TheVariants.{Look}
-use Rattle.pas_steps.specs.Desks.{AnyView, made}
-use Rattle.pas_steps.proofs.Adding.{adds_step, can_call}
+use Rattle.pas_steps.{specs.{declared.step.Step.TheVariants.Look, Desks.{AnyView, made}}, proofs.Adding.{adds_step, can_call}}
 use Rattle.pas_timing.proofs.scan.words.first_by_words.Goals as goal
 
 pub loop-block-preserved : goal.loop-block-preserved

@@ -1,6 +1,5 @@
 use Rattle.std.proofs.Common.{◌≡◌, List}
-use Rattle.pas_steps.specs.declared.step.Made.{Made}
-use Rattle.pas_steps.specs.Desks.{AnyView, Adds}
+use Rattle.pas_steps.specs.{declared.step.Made.Made, Desks.{AnyView, Adds}}
 use Rattle.pas_timing.proofs.scan.words.first_by_words.Given as goal
 
 abbrev pub invariant-loop-block : goal.invariant-loop-block

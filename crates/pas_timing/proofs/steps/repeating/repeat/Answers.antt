@@ -1,6 +1,5 @@
 use Rattle.std.proofs.Common.{◌≤◌, ℕ, ◌∷◌, sym, subst, ◌∙◌}
-use Rattle.pas_steps.specs.Desks.{Seat, Standing, CanCall, CanMake, Makes, AnyView, made, triple}
-use Rattle.pas_steps.specs.declared.step.Step.{Step}
+use Rattle.pas_steps.specs.{Desks.{Seat, Standing, CanCall, CanMake, Makes, AnyView, made, triple}, declared.step.Step.Step}
 use Rattle.pas_timing.specs.Repeats.{IsFreeToMake}
 use Rattle.pas_timing.proofs.steps.repeating.repeat.Goals as goal
 

@@ -1,6 +1,5 @@
 use Rattle.std.proofs.Common.{refl}
-use Rattle.pas_shared.specs.Passes.{IsFreshPass}
-use Rattle.pas_shared.proofs.Pops.{all_more, first_is, others_are}
+use Rattle.pas_shared.{specs.Passes.IsFreshPass, proofs.Pops.{all_more, first_is, others_are}}
 use Rattle.pas_timing.specs.Repeats.{IsReadyToTake}
 use Rattle.pas_timing.proofs.steps.table.workers_of.Goals as goal
 

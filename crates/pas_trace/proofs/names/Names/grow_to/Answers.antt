@@ -1,6 +1,5 @@
 use Rattle.std.proofs.Common.{List, get_or, ap, ◌∙◌}
-use Rattle.pas_trace.specs.declared.names.Owner.{Owner}
-use Rattle.pas_trace.proofs.Gathering.{get_or-more}
+use Rattle.pas_trace.{specs.declared.names.Owner.Owner, proofs.Gathering.get_or-more}
 use Rattle.pas_trace.proofs.names.Names.grow_to.Goals as goal
 
 pub loop-self-preserved : goal.loop-self-preserved

@@ -1,7 +1,5 @@
-use Rattle.std.proofs.Common.{map, List, refl, ap, ◌∙◌, sym}
-use Rattle.std.proofs.lemmas.Simd.{map-map}
-use Rattle.pas_trace.specs.{Codes.unlined, Plans.ops_of}
-use Rattle.pas_trace.specs.declared.plan.{Phase.Phase, Op.Op}
+use Rattle.std.proofs.{Common.{map, List, refl, ap, ◌∙◌, sym}, lemmas.Simd.map-map}
+use Rattle.pas_trace.specs.{Codes.unlined, Plans.ops_of, declared.plan.{Phase.Phase, Op.Op}}
 use Rattle.pas_trace.proofs.plan.Plan.course.Goals as goal
 
 pub returns : goal.returns

@@ -1,7 +1,6 @@
-use Rattle.std.proofs.Common.{ap, arith}
-use Rattle.std.proofs.lemmas.Result.{on_ok_weaker}
-use Rattle.pas_trace.specs.Reasons.{actor_of, guard_after, is_operation}
-use Rattle.pas_trace.proofs.Telling.{added_wish, added_chore, added_phase, added_guard, small_actor, small_heap, ready_for, sample_for, guard_for, fit_for}
+use Rattle.std.proofs.{Common.{ap, arith}, lemmas.Result.on_ok_weaker}
+use Rattle.pas_trace.{specs.Reasons.{actor_of, guard_after, is_operation}, proofs.Telling.{added_wish, added_chore, added_phase, added_guard, small_actor}}
+use Rattle.pas_trace.proofs.Telling.{small_heap, ready_for, sample_for, guard_for, fit_for}
 use Rattle.pas_trace.proofs.reader.Reader.add.Goals as goal
 
 pub overflow_cast-self : goal.overflow_cast-self

@@ -1,6 +1,5 @@
 use Rattle.std.proofs.Common.{◌≡◌, ◌+◌, get_or, ap, sym, ◌∙◌, arith}
-use Rattle.pas_trace.specs.Plans.{bounds_upto, kept_costs}
-use Rattle.pas_trace.proofs.Telling.{kept-within, bound-keeper, bounds-more, all-plain, all-guarded}
+use Rattle.pas_trace.{specs.Plans.{bounds_upto, kept_costs}, proofs.Telling.{kept-within, bound-keeper, bounds-more, all-plain, all-guarded}}
 use Rattle.pas_trace.proofs.reader.Reader.add_keeper_bounds.Goals as goal
 
 pub overflow_add-self : goal.overflow_add-self

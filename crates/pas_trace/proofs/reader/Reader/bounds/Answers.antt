@@ -1,6 +1,5 @@
 use Rattle.std.proofs.Common.{◌≡◌, ◌+◌, ◌∷◌, ◌++◌, [], get_or, ap, ◌∙◌, arith}
-use Rattle.pas_trace.specs.Plans.{own_costs}
-use Rattle.pas_trace.proofs.Telling.{cost-within, bound-thread, bounds-more}
+use Rattle.pas_trace.{specs.Plans.own_costs, proofs.Telling.{cost-within, bound-thread, bounds-more}}
 use Rattle.pas_trace.proofs.reader.Reader.bounds.Goals as goal
 
 pub overflow_add-self : goal.overflow_add-self

@@ -1,6 +1,5 @@
 use Rattle.std.proofs.Common.{◌≡◌, List}
-use Rattle.pas_trace.specs.{Plans.bounds_upto, Told.Tells}
-use Rattle.pas_trace.specs.declared.item.Item.{Item}
+use Rattle.pas_trace.specs.{Plans.bounds_upto, Told.Tells, declared.item.Item.Item}
 use Rattle.pas_trace.proofs.reader.Reader.bounds.Given as goal
 
 abbrev pub invariant-loop-thread : goal.invariant-loop-thread

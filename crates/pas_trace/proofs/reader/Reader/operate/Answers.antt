@@ -1,8 +1,6 @@
-use Rattle.std.proofs.Common.{arith, ◌+◌, Some, None, if◌then◌else◌, refl, sym, ap, ◌∙◌, subst}
-use Rattle.std.proofs.lemmas.Result.{on_ok_weaker}
-use Rattle.pas_trace.specs.{Plans.request_kept, Told.IsOperated}
-use Rattle.pas_trace.specs.declared.{item.Wish.Wish, names.Owner.Owner, plan.What.What}
-use Rattle.pas_trace.proofs.Telling.{named, renamed, unnamed}
+use Rattle.std.proofs.{Common.{arith, ◌+◌, Some, None, if◌then◌else◌, refl, sym, ap, ◌∙◌, subst}, lemmas.Result.on_ok_weaker}
+use Rattle.pas_trace.{specs.{Plans.request_kept, Told.IsOperated, declared.{item.Wish.Wish, names.Owner.Owner, plan.What.What}}, proofs.Telling.named}
+use Rattle.pas_trace.proofs.Telling.{renamed, unnamed}
 use Rattle.pas_trace.proofs.reader.Reader.operate.Goals as goal
 
 pub returns-in_ok-give-in-Asks : goal.returns-in_ok-give-in-Asks

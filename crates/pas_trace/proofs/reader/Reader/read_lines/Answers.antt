@@ -1,6 +1,5 @@
 use Rattle.std.proofs.Common.{arith}
-use Rattle.pas_trace.specs.Texts.{lines_of}
-use Rattle.pas_trace.proofs.LexedLines.{at-first}
+use Rattle.pas_trace.{specs.Texts.lines_of, proofs.LexedLines.at-first}
 use Rattle.pas_trace.proofs.reader.Reader.read_lines.Goals as goal
 
 pub loop-after-init : goal.loop-after-init

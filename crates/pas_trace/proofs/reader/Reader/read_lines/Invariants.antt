@@ -1,7 +1,5 @@
 use Rattle.std.proofs.Common.{◌+◌, ◌≤◌, List, length}
-use Rattle.pas_trace.specs.{Texts.lines_of, Told.Tells}
-use Rattle.pas_trace.specs.declared.item.Item.{Item}
-use Rattle.pas_trace.proofs.LexedLines.{SoFar}
+use Rattle.pas_trace.{specs.{Texts.lines_of, Told.Tells, declared.item.Item.Item}, proofs.LexedLines.SoFar}
 use Rattle.pas_trace.proofs.reader.Reader.read_lines.Given as goal
 
 abbrev pub invariant-loop-after : goal.invariant-loop-after

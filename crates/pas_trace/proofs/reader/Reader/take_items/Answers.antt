@@ -1,7 +1,5 @@
-use Rattle.std.proofs.Common.{◌≡◌, ◌+◌, [], List, drop, subst, arith}
-use Rattle.std.proofs.lemmas.{List.drop_more, List.drop_all, Result.err_from_is_err_and}
-use Rattle.pas_trace.specs.declared.item.Item.{Item}
-use Rattle.pas_trace.proofs.LexedLines.{Further, further-more, further-line, further-fault, further-end}
+use Rattle.std.proofs.{Common.{◌≡◌, ◌+◌, [], List, drop, subst, arith}, lemmas.{List.{drop_more, drop_all}, Result.err_from_is_err_and}}
+use Rattle.pas_trace.{specs.declared.item.Item.Item, proofs.LexedLines.{Further, further-more, further-line, further-fault, further-end}}
 use Rattle.pas_trace.proofs.reader.Reader.take_items.Goals as goal
 
 pub take_by_kind-requires-clause-tells : goal.take_by_kind-requires-clause-tells

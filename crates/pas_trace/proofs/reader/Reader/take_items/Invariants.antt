@@ -1,7 +1,5 @@
 use Rattle.std.proofs.Common.{◌≡◌, ◌+◌, ℕ, List, drop}
-use Rattle.pas_trace.specs.{Lexed.Say, Told.Tells}
-use Rattle.pas_trace.specs.declared.item.Item.{Item}
-use Rattle.pas_trace.proofs.LexedLines.{Further}
+use Rattle.pas_trace.{specs.{Lexed.Say, Told.Tells, declared.item.Item.Item}, proofs.LexedLines.Further}
 use Rattle.pas_trace.proofs.reader.Reader.take_items.Given as goal
 
 abbrev pub invariant-loop-item : goal.invariant-loop-item

@@ -1,5 +1,4 @@
-use Rattle.std.proofs.Common.{◌≡◌, ◌∙◌, ℕ, length, subst, arith}
-use Rattle.std.proofs.lemmas.Result.{on_ok_weaker}
+use Rattle.std.proofs.{Common.{◌≡◌, ◌∙◌, ℕ, length, subst, arith}, lemmas.Result.on_ok_weaker}
 use Rattle.pas_trace.proofs.Gathering.{ArePlaced, rare-added}
 use Rattle.pas_trace.proofs.script.CodedPhase.add_rare.Goals as goal
 

@@ -1,8 +1,6 @@
 use Rattle.std.proofs.Common.{arith, ◌≡◌, ℕ, List, refl, subst}
-use Rattle.pas_trace.specs.Streams.{AreLinesOf, TakesLines}
-use Rattle.pas_trace.specs.declared.{stream.Lines.Lines, reader.Reader.Reader}
+use Rattle.pas_trace.{specs.{Streams.{AreLinesOf, TakesLines}, declared.{stream.Lines.Lines, reader.Reader.Reader}}, proofs.TakenLines.taken-faulty}
 use Rattle.pas_trace.specs.declared.stream.Lines.TheVariants as kind
-use Rattle.pas_trace.proofs.TakenLines.{taken-faulty}
 use Rattle.pas_trace.proofs.stream.ScriptReader.take.Goals as goal
 
 pub begin-requires : goal.begin-requires

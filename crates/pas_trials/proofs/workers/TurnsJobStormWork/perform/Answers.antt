@@ -1,6 +1,5 @@
 use Rattle.std.proofs.Common.{[], refl, sym, subst}
-use Rattle.pas_steps.specs.Views.{View}
-use Rattle.pas_steps.proofs.Nothing.{nothing_yet}
+use Rattle.pas_steps.{specs.Views.View, proofs.Nothing.nothing_yet}
 use Rattle.pas_cache.specs.Caches.{cached, AtRest}
 use Rattle.pas_shared.specs.Passes.{view_of, seat_of}
 use Rattle.pas_trials.proofs.workers.TurnsJobStormWork.perform.Goals as goal

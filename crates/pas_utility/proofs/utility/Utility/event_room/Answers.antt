@@ -1,5 +1,5 @@
-use Rattle.std.proofs.Common.{◌≡◌, ◌<◌, [], length, MatchOption, Option, Some, None, ap, sym, ◌∙◌, arith, slice_index_or}
-use Rattle.std.proofs.lemmas.List.{nil_from_length, get_or_default}
+use Rattle.std.proofs.{Common.{◌≡◌, ◌<◌, [], length, MatchOption, Option, Some, None, ap, sym, ◌∙◌, arith, slice_index_or}, lemmas.List.nil_from_length}
+use Rattle.std.proofs.lemmas.List.{get_or_default}
 use Rattle.pas_profile.specs.Rooms.{shown, size_of_room, EventRoom}
 use Rattle.pas_utility.specs.Parts.{size_left, events_left}
 use Rattle.pas_utility.proofs.utility.Utility.event_room.Goals as goal

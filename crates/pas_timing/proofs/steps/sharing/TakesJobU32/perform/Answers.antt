@@ -1,9 +1,7 @@
-use Rattle.std.proofs.Common.{◌≡◌, ℕ, Bool, true, false, [], refl}
-use Rattle.std.proofs.lemmas.Bool.{false≢true}
+use Rattle.std.proofs.{Common.{◌≡◌, ℕ, Bool, true, false, [], refl}, lemmas.Bool.false≢true}
 use Rattle.pas_profile.specs.declared.directory.Directory.{Directory}
 use Rattle.pas_rights.specs.Leaves.{MayLeave}
-use Rattle.pas_steps.specs.Views.{View}
-use Rattle.pas_steps.proofs.Called.{next_call}
+use Rattle.pas_steps.{specs.Views.View, proofs.Called.next_call}
 use Rattle.pas_shared.specs.Passes.{view_of}
 use Rattle.pas_trials.specs.Trials.{MayLeaveIf}
 use Rattle.pas_timing.proofs.steps.sharing.TakesJobU32.perform.Goals as goal
