@@ -3,5 +3,4 @@ pub mod GivingBack
 pub mod Opened
 pub mod Pops
 pub mod Benching
-mod BarePages
 mod FreshPasses

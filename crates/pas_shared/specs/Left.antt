@@ -1,5 +1,5 @@
 -- What a table is left with when the last seat closes it.
-use Rattle.std.specs.Prelude.{◌≡◌, ℕ, ◌+◌, ◌-◌, ◌*◌, ◌<◌, List, get_or, slice_index}
+use Rattle.std.specs.Prelude.{◌≡◌, ℕ, List, slice_index}
 use mathlib.Core.Option.{some}
 use lib.ListN.{get_elem?}
 use Rattle.pas_profile.specs.{Layouts.index_of, Profiles.IsWordOf, declared.{profile.Profile.Profile, word.Word.Word}}
@@ -15,8 +15,3 @@ pub record IsLeftBy (f : Profile) (view : Roster) (state : State) : Type 0 where
   pub seat : ℕ
   pub there : get_elem? rosters seat ≡ some view
   pub values : (word : Word) → IsWordOf f word → word_in state word ≡ slice_index words (index_of f.pages word)
-
--- where these words have no deed of the page, its other words are those words' too
-abbrev pub IsAsOpened : ℕ → List ℕ → List ℕ → ℕ → Type 0
-IsAsOpened pages words opened page = get_or words (index_of pages (Word.Deed page)) 0 ≡ 0 → (j : ℕ) → j < 263
-    → get_or opened (1 + 263 * (page - 1) + j) 0 ≡ get_or words (1 + 263 * (page - 1) + j) 0

@@ -1,8 +1,7 @@
 //! The words of a region whose actors have all risen.
-ghost use Rattle.std.specs.{Prelude.{◌≡◌, ◌+◌, ◌-◌, ◌*◌, ◌<◌, ◌≤◌, ℕ, [], length, get_or, All}, Slots.{slots_items, slots_len, IsFull}};
-ghost use Rattle.pas_profile.specs.Layouts.{words_of};
+ghost use Rattle.std.specs.{Prelude.{◌≡◌, ◌<◌, [], length, All}, Slots.{slots_items, slots_len, IsFull}};
 ghost use Rattle.pas_shared.specs.{Ruled.{joined, seen_in, IsNoBench}, Passes.{IsPassOf, IsNamed, EndsWith}, Ledgers.{IsLedgerOf, so_far, EndsAfter}};
-ghost use Rattle.pas_shared.specs.{Pasts.{IsPastOf, told}, Left.{IsLeftBy, IsAsOpened}, Benches.{rows_on, IsBenchOf, EndsOnBench}};
+ghost use Rattle.pas_shared.specs.{Pasts.{IsPastOf, told}, Left.IsLeftBy, Benches.{rows_on, IsBenchOf, EndsOnBench}};
 
 use crate::bench::Bench;
 use crate::ledger::Ledger;
@@ -11,7 +10,6 @@ use crate::past::Past;
 use crate::region::SharedRegion;
 use crate::rule::{JoinsBoth, TableSeat, TableWords};
 use atomic_table::Closed;
-use pas_profile::{Layout, Word};
 use pas_steps::State;
 use std::alloc::Global;
 
@@ -44,57 +42,19 @@ fn join_all(words: &TableWords, seat: &mut TableSeat, mut passes: Vec<SharedPass
     }
 }
 
-/// Copies the words of the table, which nobody shares any more, from one place on up to another.
-fn copy_part(closed: &Closed<(), Global>, words: &mut Vec<u64>, from: usize, to: usize)
-    requires full { IsFull closed.now.words × (length words.old.items ≡ slots_len closed.now.words) }
-    requires within { (from ≤ to) × (to ≤ length words.old.items) }
-    ensures sized { length words.new.items ≡ length words.old.items }
-    ensures copied { (k : ℕ) → from ≤ k → k < to → get_or words.new.items k 0 ≡ get_or (slots_items closed.now.words) k 0 }
-    ensures before { (k : ℕ) → k < from → get_or words.new.items k 0 ≡ get_or words.old.items k 0 }
-    ensures behind { (k : ℕ) → to ≤ k → get_or words.new.items k 0 ≡ get_or words.old.items k 0 }
+/// Copies the words of the table, which nobody shares any more.
+fn copy(closed: &Closed<(), Global>, words: &mut Vec<u64>)
+    requires { IsFull closed.now.words × (length words.old.items ≡ slots_len closed.now.words) }
+    ensures { words.new.items ≡ slots_items closed.now.words }
 {
-    for i in from..to {
+    for i in 0..words.len() {
         words[i] = closed.word(i);
     }
 }
 
-/// .. the words of a page, unless it has no deed: these are as they were at the opening.
-fn copy_page(closed: &Closed<(), Global>, words: &mut Vec<u64>, layout: &Layout, page: u32)
-    requires full { IsFull closed.now.words × (length words.old.items ≡ slots_len closed.now.words) }
-    requires sized { length words.old.items ≡ words_of layout.now.pages layout.now.heaps }
-    requires page { (1 ≤ page) × (page ≤ layout.now.pages) }
-    requires opened { IsAsOpened layout.now.pages (slots_items closed.now.words) words.old.items page }
-    ensures sized { length words.new.items ≡ length words.old.items }
-    ensures copied { (k : ℕ) → 1 + 263 * (page - 1) ≤ k → k < 1 + 263 * page → get_or words.new.items k 0 ≡ get_or (slots_items closed.now.words) k 0 }
-    ensures before { (k : ℕ) → k < 1 + 263 * (page - 1) → get_or words.new.items k 0 ≡ get_or words.old.items k 0 }
-    ensures behind { (k : ℕ) → 1 + 263 * page ≤ k → get_or words.new.items k 0 ≡ get_or words.old.items k 0 }
-{
-    if closed.word(layout.index(Word::Deed(page))) != 0 {
-        let first = layout.index(Word::Free(page, 0));
-        let last = layout.index(Word::Stamp(page));
-        copy_part(closed, words, first, last + 1);
-    }
-}
-
-/// Copies the words of the table over those of the opening. Words of pages that have no deed are passed over.
-fn copy(closed: &Closed<(), Global>, words: &mut Vec<u64>, layout: &Layout)
-    requires full { IsFull closed.now.words × (length words.old.items ≡ slots_len closed.now.words) }
-    requires sized { length words.old.items ≡ words_of layout.now.pages layout.now.heaps }
-    requires opened { (page : ℕ) → 1 ≤ page → page ≤ layout.now.pages → IsAsOpened layout.now.pages (slots_items closed.now.words) words.old.items page }
-    ensures { words.new.items ≡ slots_items closed.now.words }
-{
-    copy_part(closed, words, 0, 1);
-    for below in 0..layout.pages {
-        copy_page(closed, words, layout, below + 1);
-    }
-    let vectors = layout.index(Word::Parked(0));
-    let end = words.len();
-    copy_part(closed, words, vectors, end);
-}
-
 /// Ends the work at a region. The words of the state are those after one legal list, whose part of the actor of each pass that is
-/// handed in is the list of that actor's own steps. It takes no memory: the words of pages that have a deed are copied into
-/// the vector of the opening, which the region kept.
+/// handed in is the list of that actor's own steps. It takes no memory: the words are copied into a vector that the region kept for
+/// them.
 pub fn close(region: SharedRegion, passes: Vec<SharedPass>) -> State
     requires { All (IsPassOf region) passes.items }
     ensures { EndsWith region.profile passes.items result }
@@ -121,11 +81,11 @@ fn words_left(region: SharedRegion, seat: TableSeat) -> State
     let SharedRegion {
         table,
         profile,
-        layout,
+        layout: _,
         closed_words: mut words,
     } = region;
     let closed = table.close_with(seat);
-    copy(&closed, &mut words, &layout);
+    copy(&closed, &mut words);
     closed.free();
     State::of_words(profile, words)
 }

@@ -1,6 +1,6 @@
 //! The region that the actors share.
-ghost use Rattle.std.specs.Prelude.{◌≡◌, [], slice_index, vec_len};
-ghost use Rattle.pas_profile.specs.{Layouts.{index_of, opening, words_of}, Profiles.{IsValid, IsWordOf}, declared.word.Word.Word};
+ghost use Rattle.std.specs.Prelude.{◌≡◌, [], vec_len};
+ghost use Rattle.pas_profile.specs.{Layouts.words_of, Profiles.IsValid};
 ghost use Rattle.pas_shared.specs.declared.rule.Roster.TheVariants.{Unused};
 
 use crate::rule::{OneList, Roster, TableSeat};
@@ -14,13 +14,11 @@ pub struct SharedRegion {
     pub(crate) table: Table<(), Roster, Profile, OneList, Global>,
     pub(crate) profile: Profile,
     pub(crate) layout: Layout,
-    /// The words of the opening: at the close, what was written is copied over them.
     pub(crate) closed_words: Vec<u64>,
     ghost keyed: { (table.shared.key ≡ profile) × (table.shared.table_id.words ≡ words_of profile.pages profile.heaps) × (table.shared.table_id.slots ≡ 0) },
     ghost valid: { IsValid profile },
     ghost laid: { (layout.pages ≡ profile.pages) × (layout.heaps ≡ profile.heaps) },
     ghost sized: { vec_len closed_words ≡ words_of profile.pages profile.heaps },
-    ghost opened: { (word : Word) → IsWordOf profile word → slice_index closed_words.items (index_of profile.pages word) ≡ opening word },
 }
 
 /// A region at which nobody has a seat yet. It may be handed from one thread to another.
