@@ -2,11 +2,11 @@
 use Rattle.std.proofs.Common.{◌≡◌, ℕ, ◌+◌, ◌*◌, ◌<◌, ◌≤◌, ◌==◌, Bool, true, if◌then◌else◌, cond, List, [], ◌∷◌, ◌++◌, length, Option, refl, ap, sym, subst}
 use Rattle.std.{proofs.{Common.{arith, append_assoc, map, MatchOption, eq-eqb}, Math.Nat.suc-mul}, specs.List.{AllByRecursion, filter}}
 use Rattle.pas_profile.specs.declared.profile.Profile.{Profile}
-use Rattle.pas_trace.specs.EveryPlan.{all_ops, asked_with, asked_after, IsThread, IsActorBy, IsActorOf, IsSoundWork, AreSound, records_of_chore}
-use Rattle.pas_trace.specs.{EveryPlan.{records_of_work, records_of_what, records_of_ops, own_records}, Asked.{work_of, of_task, request_of, keeper_of}}
-use Rattle.pas_trace.specs.{declared.plan.{Chore.Chore, Work.Work, Op.Op}, Acts.{Act, Settles, MarksPhase, MarksClose, Wakes, Ends, Lowers, operation_in}}
-use Rattle.pas_trace.specs.Acts.{act_kept, numbers_from, active_threads, idle_threads, idle_stops, acts_of_chore, acts_of_work, acts_of_op, acts_of_ops}
-use Rattle.pas_trace.{specs.Acts.{phase_acts, close_acts, acts_from, acts_of}, proofs.ThreadsInOrder.numbers_count}
+use Rattle.pas_trace.specs.EveryPlan.{all_ops, asked_with, asked_after, IsThread, IsActorBy, IsActorOf, IsSoundWork, AreSound, records_of_work, records_of_what}
+use Rattle.pas_trace.specs.{EveryPlan.{records_of_ops, records_of_chore, own_records}, Asked.{work_of, of_task, request_of, keeper_of}}
+use Rattle.pas_trace.specs.{declared.plan.{Chore.Chore, Work.Work, Op.Op}, Acts.{Act, Settles, MarksPhase, Wakes, Ends, Lowers, act_kept, numbers_from}}
+use Rattle.pas_trace.specs.Acts.{idle_threads, acts_of_chore, acts_of_work, acts_of_op, acts_of_ops, phase_acts, close_acts, acts_from, acts_of, MarksClose}
+use Rattle.pas_trace.{specs.Acts.{operation_in, active_threads, idle_stops}, proofs.ThreadsInOrder.numbers_count}
 use Rattle.pas_answers.{proofs.{SingleActs.sum_both, EachAct.{all_front, all_back, all_any, all_of_chore, all_of_close, all_acts}}, specs.Fit.KeepsAbove}
 use Rattle.pas_answers.specs.Fit.{IsFitWhat, AreFit, AreOfThreads, cost_of_what, cost_of_act, costs_of, own_cost_of_act, own_costs_of, unbacks_of_act}
 use Rattle.pas_answers.specs.Fit.{unbacks_of, sum_over, AreBelow}

@@ -1,28 +1,28 @@
 -- The acts of a thread at its desk, and what one actor's acts come to for it: an operation, its stop, and its reading of the epoch.
 use Rattle.std.proofs.Common.{◌≡◌, ℕ, ◌+◌, ◌≤◌, List, ◌++◌, length, ap, sym, ◌∙◌, subst, arith, length-append, ◌==◌, if◌then◌else◌, inr, [], ◌∷◌, Option, None}
 use Rattle.std.proofs.{Common.{refl, append-nil, eq-eqb, ◌≢◌, Bool, true, Some, ne_eqb, max, reverse}, lemmas.List.{length-map, length-reverse}}
-use Rattle.pas_profile.specs.declared.{profile.Profile.Profile, name.Block.Block, event.{Range.Range, Event.Event, Outcome.Outcome}, word.Word.Word}
-use Rattle.pas_profile.specs.declared.guard.Guard.{Guard}
-use Rattle.pas_steps.specs.{Calls.Calls, Events.events_by, Lists.{Whole, part}, Views.View, Agreement.Agreed, Unknown.unknown_pages, Clear.HasNothing}
-use Rattle.pas_steps.specs.{Desks.{Standing, CanCall, triples, Makes, made}, declared.step.{Made.Made, Step.TheVariants.{Look, Tick}}}
-use Rattle.pas_steps.proofs.{Frames.events_split, Parts.{part_of_own, part_of_others}, Called.{call_none, call_as}, SpareRoom.Spares, Unknown.unknown_no_more}
+use Rattle.pas_profile.specs.declared.{profile.Profile.Profile, name.Block.Block, guard.Guard.Guard, event.{Range.Range, Event.Event, Outcome.Outcome}}
+use Rattle.pas_profile.specs.declared.word.Word.{Word}
+use Rattle.pas_steps.specs.{Events.events_by, Lists.{Whole, part}, Views.View, Desks.{Standing, triples, made, CanCall, Makes}, declared.step.Made.Made}
+use Rattle.pas_steps.specs.{declared.step.Step.TheVariants.{Look, Tick}, Calls.Calls, Agreement.Agreed, Unknown.unknown_pages, Clear.HasNothing}
+use Rattle.pas_steps.proofs.{Parts.{part_of_own, part_of_others}, Frames.events_split, Called.{call_none, call_as}, SpareRoom.Spares, Unknown.unknown_no_more}
 use Rattle.pas_steps.proofs.Apart.{no_events}
 use Rattle.pas_records.specs.{Rooms.{records_in, room_of, Records}, declared.record.{Record.Record, Said.Said}}
 use Rattle.pas_cache.specs.{Caches.{Cached, AtRest}, Calls.{Begins, SettlesEach}}
 use Rattle.pas_answers.specs.Answers.{Progress, having, Answer, answer_of, begun, settled, stopped, epoch_look, after_answer, after_settling, after_wake}
 use Rattle.pas_answers.specs.Answers.{after_stop, IsAnswered, IsStopped, records_of, said_by, Books, with_book, after_tick, after_pass, after_reading}
-use Rattle.pas_answers.specs.{Calls.{owed_events, named_by, MayAnswer, AnswersMeant, MayStand}, Indexes.{IsNamedFor, request_made}, Reaching.Reaches}
-use Rattle.pas_answers.specs.{Reaching.{AnswersOp, Advances}, TicksAndPasses.{AnswersTick, AnswersPass}, PassRecords.{record_of, records_of_pass}}
-use Rattle.pas_answers.specs.{Fit.{IsFitWhat, cost_of_what, cost_of_act, unbacks_of_act}, Guarding.{Tried, try_steps, IsTried, after_trying, after_giving}}
-use Rattle.pas_answers.specs.{Guarding.{IsLowered, after_lowering}, Keeping.{owed_by_keeper, cost_of_try, MayTry, TriesRequest, MayLowerAll, LowersAll}}
-use Rattle.pas_answers.proofs.{SingleActs.{none_stands, request_meant, its_cache, other_cache, if_same, records_count, few_unbacks, reads}, Tries.swept_count}
-use Rattle.pas_answers.proofs.OwnRecords.{piece_of, events_of_piece, swept_each, try_each, pass_of}
-use Rattle.pas_acts.specs.{Works.{Later, Sits}, Turns.{RestsAt, Moves, LeavesRest, Says}, Keepers.{StandsAt, StandsStill, keeper_has, KeeperHas, HasStill}}
-use Rattle.pas_acts.specs.{Keepers.{LaterKept, and_try, KeeperAt, KeeperTries, KeeperLowers}, AtDesks.{and_for, Here, here, MayOperate, ThreadActs}}
-use Rattle.pas_acts.specs.AtDesks.{GoesThrough, HasRoomAt, for_act, ScavengerActs}
+use Rattle.pas_answers.specs.{Calls.{owed_events, named_by, MayStand, MayAnswer, AnswersMeant}, Reaching.{Reaches, AnswersOp, Advances}}
+use Rattle.pas_answers.specs.{PassRecords.{records_of_pass, record_of}, Fit.{IsFitWhat, cost_of_what, cost_of_act, unbacks_of_act}, Guarding.{Tried, IsTried}}
+use Rattle.pas_answers.specs.{Guarding.{after_trying, after_giving, IsLowered, after_lowering, try_steps}, Keeping.{owed_by_keeper, cost_of_try, MayTry}}
+use Rattle.pas_answers.specs.{Keeping.{TriesRequest, MayLowerAll, LowersAll}, Indexes.{IsNamedFor, request_made}, TicksAndPasses.{AnswersTick, AnswersPass}}
+use Rattle.pas_answers.proofs.{SingleActs.{its_cache, none_stands, request_meant, other_cache, if_same, records_count, few_unbacks, reads}, OwnRecords.piece_of}
+use Rattle.pas_answers.proofs.{OwnRecords.{events_of_piece, swept_each, try_each, pass_of}, Tries.swept_count}
+use Rattle.pas_acts.specs.{Works.{Later, Sits}, Turns.{RestsAt, Moves, LeavesRest, Says}, Keepers.{StandsAt, StandsStill, KeeperHas, HasStill, LaterKept}}
+use Rattle.pas_acts.specs.{Keepers.{KeeperTries, keeper_has, and_try, KeeperAt, KeeperLowers}, AtDesks.{and_for, here, MayOperate, ThreadActs, GoesThrough}}
+use Rattle.pas_acts.specs.AtDesks.{HasRoomAt, for_act, ScavengerActs}
 use Rattle.pas_trace.specs.{declared.{plan.{Op.Op, What.{What, TheVariants.Stop}}, item.Request.Request}, Acts.{Act, Operates, Settles, StopsIdle, Wakes, Ends}}
 use Rattle.pas_trace.specs.{Acts.{Guards, Ticks, MakesPass, ReadsEpoch}, Asked.request_in, Reasons.cost_of_size}
-use Rattle.pas_guard.specs.{Books.{FitsBook, guards_in}, Raises.RaiseSteps, Sweeps.sweeping, declared.book.GuardBook.GuardBook}
+use Rattle.pas_guard.specs.{Books.{guards_in, FitsBook}, declared.book.GuardBook.GuardBook, Raises.RaiseSteps, Sweeps.sweeping}
 use Rattle.pas_scavenger.specs.Passes.{PassSteps}
 
 -- ---- at the desk
@@ -30,8 +30,7 @@ pub can_begin : {σ : Standing} {f k c out later p : _} → RestsAt f k σ c out
 can_begin {k = k} {c = c} {p = p} at = search arith
 
 -- what is said of the desk's seat is said of its actor
-of_seat : {f : Profile} {k : ℕ} {Rest : View → Type 0} {σ : Standing} {l : Whole} {need : ℕ} → Sits f k Rest σ l need → (P : ℕ → Profile → Type 0)
-    → P σ.seat.actor σ.seat.profile → P k f
+of_seat : {f k : _} {Rest : View → Type 0} {σ l need : _} → Sits f k Rest σ l need → (P : ℕ → Profile → Type 0) → P σ.seat.actor σ.seat.profile → P k f
 of_seat {f} {k} {σ = σ} s P is = subst (λ (g : Profile). P k g) s.profile (subst (λ (j : ℕ). P j σ.seat.profile) s.actor is)
 
 -- ---- after its steps
@@ -224,7 +223,6 @@ module _ {f k σ σ' c c1 out out' later p : _} (at : RestsAt f k σ c out later
       let q = after_stop p k flush c1 told in
       let moves : Moves k (AtRest f c) (AtRest f c1) σ σ' p q = record { steps = flush; list_is = refl; calls = calls_so (may_stop at) did } in
       let size = ap (λ (rs : List Record). length rs) quiet in
-      let paid = paid_so (may_stop at) did c1 refl in
       record {
         reached = q;
         reaches = reaches;
@@ -239,7 +237,7 @@ module _ {f k σ σ' c c1 out out' later p : _} (at : RestsAt f k σ c out later
         books = refl;
         names = refl;
         epoch = refl;
-        paid = omega (arith, size, paid);
+        paid = omega (arith, size, paid_so (may_stop at) did c1 refl);
       }
 
   -- as the replay closes
@@ -342,8 +340,7 @@ abbrev At : Profile → ℕ → Standing → GuardBook → Records → LaterKept
 At f k σ book out later p = KeeperAt f k (keeper_has σ book out) later p
 
 -- what the keeper has in hand is said of its desk's seat
-fits_seat : {f : Profile} {k : ℕ} {σ : Standing} {book : GuardBook} {out : Records} {later : LaterKept} {p : Progress} → At f k σ book out later p
-    → FitsBook σ.seat.profile (guards_in book) (part k p.list)
+fits_seat : {f k σ book out later p : _} → At f k σ book out later p → FitsBook σ.seat.profile (guards_in book) (part k p.list)
 fits_seat {k = k} {book = book} {p = p} at = subst (λ (g : Profile). FitsBook g (guards_in book) (part k p.list)) (sym at.sits.profile) at.sits.rest
 
 -- what it owes then
@@ -393,8 +390,7 @@ has_tried {f} {k} {σ} {σ'} {book} {book'} {out} {out'} {p} {block} later r at 
     let calls : Calls σ σ' (FitsBook f (guards_in book)) (λ u w. FitsBook f (guards_in book') w) steps =
     subst (λ (g : Profile). Calls σ σ' (FitsBook g (guards_in book)) (λ u w. FitsBook g (guards_in book') w) steps) s.profile did.calls in
     let tried : Tried = record { steps = steps; records = got.0; block = block; guards = guards_in book' } in
-    let q = after_trying p k tried in
-    let mine : part k q.list ≡ steps ++ v = part_of_own k steps p.list in
+    let mine : part k (after_trying p k tried).list ≡ steps ++ v = part_of_own k steps p.list in
     let owed = ap (λ (w : View). owed_by_keeper f (guards_in book') w) mine in
     let longer = ap (λ (rs : List Record). length rs) got.2 ∙ length-append (records_in out) got.0 in
     let paid = got.3 in
@@ -437,9 +433,8 @@ has_lowered {f} {k} {σ} {σ'} {book} {book'} {out} {out'} {later} {p} at did =
     let lowered = of_seat s (λ (j : ℕ) (g : Profile). IsLowered g j v (guards_in book) steps did.said) (did.lowered v fits) in
     let calls : Calls σ σ' (FitsBook f (guards_in book)) (λ u w. FitsBook f (guards_in book') w) steps =
     subst (λ (g : Profile). Calls σ σ' (FitsBook g (guards_in book)) (λ u w. FitsBook g (guards_in book') w) steps) s.profile did.calls in
-    let agreed : Agreed f v steps = subst (λ (g : Profile). Agreed g v steps) s.profile (did.calls.adds.agreed v p.list s.stood fits) in
     let silent = ap (λ (es : List Event). length es) (no_events sweeping refl k v steps lowered.sweep.kinds) in
-    let unknown = unknown_no_more f steps v agreed in
+    let unknown = unknown_no_more f steps v (subst (λ (g : Profile). Agreed g v steps) s.profile (did.calls.adds.agreed v p.list s.stood fits)) in
     let q = after_lowering p k steps did.said in
     let mine : part k q.list ≡ steps ++ v = part_of_own k steps p.list in
     let none = ap (λ (gs : List Guard). length gs) did.none in
@@ -475,8 +470,7 @@ pub can_scavenge : {f : Profile} {σ : Standing} {out : Records} {later : Later}
 can_scavenge {p = p} at = record { view = part 0 p.list; whole = p.list; stood = at.sits.stood; met = at.sits.rest }
 
 -- A scavenger with room for a pass may unback each page of the region.
-pub pass_room : {f : Profile} {σ : Standing} {out : Records} {p : Progress} (later : Later) (spare : ℕ) → Spares σ spare
-    → HasRoomAt f σ out (for_act f MakesPass later) p → σ.seat.profile.pages ≤ spare
+pub pass_room : {f σ out p : _} (later : Later) (spare : ℕ) → Spares σ spare → HasRoomAt f σ out (for_act f MakesPass later) p → σ.seat.profile.pages ≤ spare
 pass_room {f} {σ} {out} {p} later spare fits at =
     search arith
 
@@ -499,8 +493,7 @@ has_ticked {f} {σ} {σ'} {out} {out'} {later} {p} epoch at ticks room =
     let said : List Record = Record.Said 0 (Said.Tick (max ticks.answer epoch)) ∷ [] in
     let q = after_tick p epoch ticks.answer in
     let moves : Moves 0 HasNothing HasNothing σ σ' p q = record { steps = steps; list_is = refl; calls = subst (λ (ms : List Made). Calls σ σ' HasNothing (λ v w. HasNothing w) ms) ticks.steps_are ticks.calls } in
-    let added : records_in out' ≡ records_in out ++ said = cc (ticks.raised 0) in
-    let says : Says 0 out out' p q = record { said = said; records_are = refl; pushed = added; room = room; each = (λ k. refl, tt) } in
+    let says : Says 0 out out' p q = record { said = said; records_are = refl; pushed = cc (ticks.raised 0); room = room; each = (λ k. refl, tt) } in
     record { reached = q; reaches = (q, (ticks.answer, refl), refl); stands = room_again (Ticks epoch) later at moves says (omega arith) (omega arith); moves = moves; says = says; caches = refl; books = refl; names = refl }
 
 -- A pass that was answered is an act of the scavenger.

@@ -1,16 +1,17 @@
 -- How the parts of a kit are made, one after the other, and how many guarded requests the books of its keepers are made for.
 use Rattle.std.proofs.Common.{◌≡◌, ℕ, ◌+◌, List, [], ◌∷◌, ◌++◌, length, All, slice_index_or, Option, Some, None, ap, sym, ◌∙◌, subst, arith, length-append}
 use Rattle.std.proofs.Common.{zero, suc, ◌<◌, ◌≤◌, ◌==◌, Bool, if◌then◌else◌, map, drop, get_or, Result, IfOk, eq-eqb, ne_eqb, refl, ◌||◌}
-use Rattle.std.proofs.{lemmas.{Bool.cases_lt, List.{get_or_append_left, Elements.All-push, drop_more, map-append}}, Math.Seq.get_or-append_seam}
+use Rattle.std.proofs.{lemmas.{Bool.cases_lt, List.{drop_more, get_or_append_left, Elements.All-push, map-append}}, Math.Seq.get_or-append_seam}
 use Rattle.std.specs.{List.AllByRecursion, Global.Vec}
-use Rattle.pas_profile.specs.{Rooms.{shown, size_of_room, EventRoom}, declared.profile.Profile.Profile}
 use Rattle.pas_cache.specs.{Caches.{Cached, cached}, declared.cache.ThreadCache.ThreadCache}
-use Rattle.pas_acts.{specs.{Parts.{AreRooms, AreUnused}, PlanKeepers.{keepers_by, one_guarded, guarded_of, AreBooksFor}}, proofs.PlanFacts.plan_planned}
+use Rattle.pas_acts.{specs.{Parts.{AreRooms, AreUnused}, PlanKeepers.{one_guarded, guarded_of, AreBooksFor, keepers_by}}, proofs.PlanFacts.plan_planned}
 use Rattle.pas_acts.proofs.ActsOfPlan.{ArePlanned}
 use Rattle.pas_answers.{specs.Replays.empty_cache, proofs.EachAct.{all_front, all_back}}
+use Rattle.pas_profile.specs.{declared.profile.Profile.Profile, Rooms.{shown, size_of_room, EventRoom}}
 use Rattle.pas_trace.specs.{Asked.{work_of, of_task, keeper_of, keeper_in}, EveryPlan.{all_ops, operations_of, IsActorBy, records_of_work, records_of_what}}
-use Rattle.pas_trace.specs.{EveryPlan.records_of_ops, Acts.{is_active, keepers_of}, Codes.unlined, Courses.IsCourseOf, Plans.{IsPlanOf, ops_of, phases_of}}
-use Rattle.pas_trace.{specs.{Scripts.without_lines, declared.{course.Course.Course, plan.{Op.Op, Plan.Plan, Work.Work}}}, proofs.EveryPlan.every_plan}
+use Rattle.pas_trace.specs.{EveryPlan.records_of_ops, Acts.{is_active, keepers_of}, Plans.{IsPlanOf, ops_of, phases_of}, declared.plan.{Op.Op, Plan.Plan}}
+use Rattle.pas_trace.specs.{declared.{plan.Work.Work, course.Course.Course}, Codes.unlined, Courses.IsCourseOf, Scripts.without_lines}
+use Rattle.pas_trace.proofs.EveryPlan.{every_plan}
 use Rattle.pas_guard.specs.{Books.{guards_in, size_of_book}, declared.book.GuardBook.GuardBook}
 
 -- the element that was put at the end

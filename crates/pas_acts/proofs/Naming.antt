@@ -5,15 +5,15 @@ use Rattle.std.specs.List.{AllByRecursion}
 use Rattle.pas_profile.specs.declared.{profile.Profile.Profile, name.Block.Block}
 use Rattle.pas_steps.specs.{Views.View, declared.step.Made.Made}
 use Rattle.pas_trace.specs.EveryPlan.{is_asked, asked_after, all_ops, asked_with, asked_by, AreSound, IsSoundTask, IsSoundWork, IsActorBy, IsThread}
-use Rattle.pas_trace.specs.declared.plan.{What.{What, TheVariants.{Alloc, Guarded, Free, FreeSized, Raw, RawSized, Remake, Flush, Stop}}, Op.Op, Task.Task}
+use Rattle.pas_trace.specs.declared.plan.{What.{What, TheVariants.{Alloc, Guarded, Remake, Stop, Free, FreeSized, Raw, RawSized, Flush}}, Op.Op, Task.Task}
 use Rattle.pas_trace.specs.{declared.{plan.Work.Work, item.Request.Request}, Acts.{Act, Operates, Guards, Settles, act_kept, own_acts}, Asked.request_in}
-use Rattle.pas_trace.{specs.{Asked.{work_of, of_task, request_of, freed_of, keeper_in}, EveryPhase.FreesItsOwn}, proofs.EveryPlan.below_front}
+use Rattle.pas_trace.{specs.{Asked.{work_of, of_task, request_of, keeper_in, freed_of}, EveryPhase.FreesItsOwn}, proofs.EveryPlan.below_front}
 use Rattle.pas_trace.proofs.Costs.{some_cost}
 use Rattle.pas_records.specs.declared.record.Said.{Said}
 use Rattle.pas_cache.specs.Caches.{Cached}
-use Rattle.pas_answers.specs.Answers.{Named, named, block_of, standing_for, having, Answer, answer_of, IsFreedBy, IsRemadeBy, IsAnswered, Progress}
-use Rattle.pas_answers.specs.Fit.{IsFitWhat, IsBelow, AreBelow, AllBelow, KeepsAbove, IsFitTask, IsFitWork, AreFit, cost_of_what, own_costs_of}
-use Rattle.pas_answers.specs.{Calls.{OnlyAsked, AreKnown, block_behind, MayStand}, Reaching.{AnswersOp, AnswersTried, AnswersGuarded, Advances}}
+use Rattle.pas_answers.specs.Answers.{Named, named, standing_for, having, Answer, answer_of, IsAnswered, Progress, block_of, IsFreedBy, IsRemadeBy}
+use Rattle.pas_answers.specs.Fit.{IsFitWhat, IsBelow, AreBelow, AllBelow, KeepsAbove, IsFitWork, AreFit, cost_of_what, own_costs_of, IsFitTask}
+use Rattle.pas_answers.specs.{Calls.{OnlyAsked, block_behind, MayStand, AreKnown}, Reaching.{AnswersOp, AnswersTried, AnswersGuarded, Advances}}
 use Rattle.pas_answers.{specs.{Names.{block_named, names_held}, Replays.at_start, declared.names.Names.Names}, proofs.SingleActs.{known_after, known_named}}
 use Rattle.pas_answers.proofs.Reached.{put_on}
 use Rattle.pas_acts.specs.{Shares.{AreAmong, IsRequestOf, asked_after_act, AreKnownAfter}, NameBooks.{requests_in, room_for, name_asked, names_asked, names_of}}
@@ -292,10 +292,9 @@ pub names_before : {f book p names : _} (k : ℕ) (phase rest : List Op) (book1 
     → ArePlaced book1 0 (names_asked (own_acts k phase)) → requests_in requests ≡ [] → own_costs_of k (own_acts k phase) ≤ room_for requests → names ≡ p.names
     → KnowsNames f (own_acts k phase) (table book1 requests) names
 names_before {f} {book} k phase rest book1 requests at some frees same placed none room are =
-    let few = own_asked k phase in
     knows_by book1 requests at same none are (own_acts k phase)
     (own_fit f (names_held book.names) k at.asked at.asked phase some (λ n is. is) (sound_front f at.asked phase rest at.sound)
-    (above_front f phase rest at.above) (below_front (names_held book.names) phase rest at.below) frees) placed (omega (arith, few, room))
+    (above_front f phase rest at.above) (below_front (names_held book.names) phase rest at.below) frees) placed (omega (arith, own_asked k phase, room))
 
 -- ---- before the first phase no name stands for a block
 unfoldable pub names_at_start : (f : Profile) (ops : List Op) (book : NameBook) → AreSound f [] ops → AllByRecursion (KeepsAbove f) ops

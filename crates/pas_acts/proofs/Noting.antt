@@ -1,14 +1,14 @@
 -- What the names stand for to a thread, by the places of its requests; and those places, one after the other.
 use Rattle.std.proofs.Common.{◌≡◌, ℕ, zero, suc, ◌+◌, ◌<◌, ◌≤◌, ◌==◌, Bool, true, false, if◌then◌else◌, List, [], ◌∷◌, ◌++◌, map, get_or, length, Option, Some}
 use Rattle.std.proofs.Common.{None, refl, ap, sym, ◌∙◌, subst, arith, append_assoc, append-nil, ne_eqb, eq-eqb, ◌≢◌, ◌||◌, take, replicate, length-append}
-use Rattle.std.proofs.{Common.{length-take, true≢false, drop}, lemmas.{Bool.{cases_eq, false≢true, cases_lt, or_parts}, List.{take_more, get_or-replicate}}}
-use Rattle.std.proofs.lemmas.List.{length-replicate, get_or_past, drop_more}
+use Rattle.std.proofs.{Common.{length-take, true≢false, drop}, lemmas.{Bool.{cases_eq, false≢true, cases_lt, or_parts}, List.get_or-replicate}}
+use Rattle.std.proofs.lemmas.List.{length-replicate, get_or_past, drop_more, take_more}
 use Rattle.pas_profile.specs.declared.{name.Block.Block, profile.Profile.Profile}
 use Rattle.pas_trace.specs.{declared.plan.{What.{What, TheVariants.{Alloc, Guarded, Remake}}, Op.Op}, Acts.{Act, act_kept, Settles, own_acts}, Asked.keeper_in}
 use Rattle.pas_trace.specs.EveryPlan.{is_asked, asked_with, asked_after, asked_by, AreSound, IsSoundWhat}
-use Rattle.pas_answers.specs.{Answers.{Named, named, standing_for}, Calls.{block_behind, MayStand, named_by}, Names.block_in, Fit.{IsBelow, AreBelow}}
-use Rattle.pas_acts.specs.NameBooks.{name_asked, name_asked_by, names_asked, names_of, place_in, ArePlaced, request_at, named_of, came_to, AreWithin}
-use Rattle.pas_acts.specs.declared.names.{Request.Request, NameBook.NameBook}
+use Rattle.pas_answers.specs.{Answers.{Named, named, standing_for}, Calls.{block_behind, MayStand, named_by}, Fit.{IsBelow, AreBelow}, Names.block_in}
+use Rattle.pas_acts.specs.NameBooks.{name_asked, names_asked, names_of, ArePlaced, named_of, came_to, name_asked_by, place_in, request_at, AreWithin}
+use Rattle.pas_acts.specs.declared.names.{NameBook.NameBook, Request.Request}
 
 -- ---- names in order
 abbrev or_else : Option (Option Block) → Option (Option Block) → Option (Option Block)

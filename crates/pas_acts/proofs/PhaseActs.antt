@@ -1,11 +1,11 @@
 -- The acts of a phase are shared among its workers; where one actor alone has operations in it, all acts of each stage are in one worker's hands.
 use Rattle.std.proofs.Common.{◌≡◌, ℕ, zero, suc, ◌+◌, ◌-◌, ◌≤◌, ◌==◌, ◌||◌, not, Option, Bool, true, false, if◌then◌else◌, List, [], ◌∷◌, ◌++◌, refl, ap, sym}
-use Rattle.std.proofs.{Common.{subst, ◌∙◌, arith, MatchOption, eq-eqb, ne_eqb, le-leb, map, ◌≢◌, eqb-true}, lemmas.Bool.{lt-leb, false≢true, cases_eq, or_left}}
-use Rattle.std.{proofs.lemmas.Bool.{or_right, or_parts}, specs.List.{AllByRecursion, filter}}
+use Rattle.std.proofs.{Common.{subst, ◌∙◌, arith, MatchOption, eq-eqb, ne_eqb, le-leb, map, ◌≢◌, eqb-true}, lemmas.Bool.{false≢true, cases_eq, or_parts}}
+use Rattle.std.{proofs.lemmas.Bool.{lt-leb, or_left, or_right}, specs.List.{AllByRecursion, filter}}
 use Rattle.pas_profile.{specs.declared.profile.Profile.Profile, proofs.Lists.all_both}
 use Rattle.pas_trace.specs.{Asked.{work_of, of_task, keeper_of, keeper_in}, EveryPlan.{AreSound, IsActorBy, asked_after, all_ops, AreKept}}
 use Rattle.pas_trace.specs.{declared.plan.{Chore.Chore, Work.Work, Op.Op}, Acts.{Act, Settles, is_active, numbers_from, idle_threads, acts_of_work, acts_of_op}}
-use Rattle.pas_trace.{specs.Acts.{acts_of_ops, own_acts, scavenger_acts, act_kept, Wakes, Ends, Lowers, close_acts}, proofs.EveryPlan.every_plan}
+use Rattle.pas_trace.{specs.Acts.{acts_of_ops, own_acts, act_kept, Wakes, Ends, Lowers, close_acts, scavenger_acts}, proofs.EveryPlan.every_plan}
 use Rattle.pas_answers.{proofs.{EachAct.{all_any, all_of_chore}, Reached.{IsHeldBy, AreHeldBy, IsOneHanded, one_handed_list}}, specs.Replays.at_start}
 use Rattle.pas_answers.specs.{Replays.{region_of, keepers_of, phases_of, stages_of_plan}, Stages.{Owners, itself, owner_in, one_by_one, phase_stages}}
 use Rattle.pas_answers.specs.Stages.{stages_from, stages_of}

@@ -3,21 +3,21 @@ use Rattle.std.proofs.Common.{◌≡◌, ◌≢◌, ◌∷◌, Option, Some, ref
 use Rattle.std.proofs.{Common.{◌==◌, Bool, if◌then◌else◌, subst, eq-eqb, ne_eqb, zero, suc, false, ◌++◌, sym, append_assoc, append-nil}, lemmas.List.length-map}
 use Rattle.std.{proofs.lemmas.Bool.{cases_eq, false≢true}, specs.List.AllByRecursion}
 use Rattle.pas_profile.specs.{Profiles.{IsValid, IsAdmitted}, declared.profile.Profile.Profile}
-use Rattle.pas_trace.specs.{Reasons.actors_by, Plans.{IsPlanOf, bounds_of, ops_of}, Acts.{Act, Guards, Settles, act_kept, acts_of_chore, acts_of_work, acts_of}}
+use Rattle.pas_trace.specs.{Reasons.actors_by, Plans.{IsPlanOf, ops_of, bounds_of}, Acts.{Act, Guards, Settles, act_kept, acts_of_chore, acts_of_work, acts_of}}
 use Rattle.pas_trace.specs.{Asked.{work_of, of_task, keeper_of, keeper_in, request_of, request_in}, EveryPlan.{all_ops, asked_after, IsThread, IsActorBy}}
 use Rattle.pas_trace.specs.EveryPlan.{IsActorOf, IsSoundTask, IsSoundWork, AreSound, AreKept, operations_of, IsKept, kept_of_work, kept_records}
 use Rattle.pas_trace.{specs.declared.plan.{Op.Op, Task.Task, Work.Work, Plan.Plan, Chore.Chore}, proofs.EveryPlan.{every_plan, threads_among, keepers_among}}
 use Rattle.pas_trace.proofs.Keepers.{plan_actors, keepers_few}
 use Rattle.pas_answers.specs.Fit.{KeepsAbove, AreFit, AreOfThreads, costs_of, own_costs_of, unbacks_of, AllBelow, sum_over, kept_cost_of, kept_cost_of_act}
-use Rattle.pas_answers.specs.{Fit.kept_costs_of, Replays.{phases_of, region_of, threads_of, keepers_of, acts_of_plan, empty_cache}, Calls.owed_events}
+use Rattle.pas_answers.specs.{Fit.kept_costs_of, Replays.{phases_of, region_of, keepers_of, empty_cache, threads_of, acts_of_plan}, Calls.owed_events}
 use Rattle.pas_answers.{specs.Ways.{AreSpoken, by_phases}, proofs.EachAct.{all_any, all_of_chore, all_of_close, all_acts}}
+use Rattle.pas_acts.specs.{PlanKeepers.{one_guarded, guarded_of}, Shares.ArePhasesArranged, Tries.{tries_of_act, tries_of, IsKeptFor, AreKeptFor}}
 use Rattle.pas_acts.proofs.ActsOfPlan.{ArePlanned, are_planned, plan_costs, plan_owns, plan_unbacks, acts_fit, of_threads, sum_of_ops, plan_sums_at_most}
-use Rattle.pas_acts.{proofs.{ActsOfPlan.free_map, Naming.{below_all, below_each}}, specs.{PlanKeepers.{one_guarded, guarded_of}, Shares.ArePhasesArranged}}
-use Rattle.pas_acts.specs.Tries.{tries_of_act, tries_of, IsKeptFor, AreKeptFor}
+use Rattle.pas_acts.proofs.{ActsOfPlan.free_map, Naming.{below_all, below_each}}
+use Rattle.pas_records.specs.declared.record.Record.{Record}
 use Rattle.pas_steps.specs.Unknown.{unknown_below}
 use Rattle.pas_cache.specs.Locals.{any_covers, any_keeps}
 use Rattle.pas_segregated.specs.declared.slots.Slots.{Slots}
-use Rattle.pas_records.specs.declared.record.Record.{Record}
 
 -- ---- the region, which has a place for each keeper
 -- what is said of a plan's operations in its own profile holds in a region of as many actors or more
@@ -98,9 +98,8 @@ plan_above {text} {plan} is = let sound = every_plan is in all_above plan.profil
 -- The acts of a plan of a text fit its region, for each limit on its names.
 pub plan_fit : {text plan : _} → IsPlanOf text plan → (limit : ℕ) → AllBelow limit (phases_of plan) → AreFit (region_of plan) limit [] (acts_of_plan plan)
 plan_fit {text} {plan} is limit below =
-    let sound = every_plan is in
     acts_fit (region_of plan) limit (threads_of plan) (keepers_of plan) (phases_of plan) (below_all limit (phases_of plan) below)
-    (wider_sound plan.profile (actors_by plan.guard plan.profile.threads) (plan_threads plan) [] (all_ops (phases_of plan)) sound.operations)
+    (wider_sound plan.profile (actors_by plan.guard plan.profile.threads) (plan_threads plan) [] (all_ops (phases_of plan)) (every_plan is).operations)
     (plan_above is)
 
 -- its operations are those of its threads
@@ -111,22 +110,18 @@ plan_operate {text} {plan} is = of_threads plan.profile (keepers_of plan) (phase
 pub plan_own : {text : List ℕ} {plan : Plan} → IsPlanOf text plan → (k : ℕ) → 1 ≤ k → k ≤ threads_of plan
     → (region_of plan).pages + own_costs_of k (acts_of_plan plan) ≤ slice_index (bounds_of plan.bounds) k
 plan_own {text} {plan} is k some le =
-    let bound = (every_plan is).own k some le in
-    omega (arith, plan_owns plan.profile (keepers_of plan) k (phases_of plan) (plan_planned is), bound)
+    omega (arith, plan_owns plan.profile (keepers_of plan) k (phases_of plan) (plan_planned is), (every_plan is).own k some le)
 
 -- .. that of the scavenger for its passes
-pub plan_scavenger : {text : List ℕ} {plan : Plan} → IsPlanOf text plan
-    → unbacks_of (region_of plan).pages (acts_of_plan plan) ≤ slice_index (bounds_of plan.bounds) 0
+pub plan_scavenger : {text plan : _} → IsPlanOf text plan → unbacks_of (region_of plan).pages (acts_of_plan plan) ≤ slice_index (bounds_of plan.bounds) 0
 plan_scavenger {text} {plan} is =
-    let bound = (every_plan is).scavenger in
-    omega (arith, plan_unbacks plan.profile (keepers_of plan) (phases_of plan) (plan_planned is), bound)
+    omega (arith, plan_unbacks plan.profile (keepers_of plan) (phases_of plan) (plan_planned is), (every_plan is).scavenger)
 
 -- .. and the total for those of all actors, with a record for each phase and one for the close
 pub plan_total : {text : List ℕ} {plan : Plan} → IsPlanOf text plan
     → (region_of plan).threads * (region_of plan).pages + costs_of (region_of plan).pages (acts_of_plan plan) ≤ plan.total + length (phases_of plan) + 1
 plan_total {text} {plan} is =
-    let total = (every_plan is).total in
-    omega (arith, plan_costs plan.profile (keepers_of plan) (phases_of plan) (plan_planned is), total)
+    omega (arith, plan_costs plan.profile (keepers_of plan) (phases_of plan) (plan_planned is), (every_plan is).total)
 
 -- ---- how many keepers there are
 -- there are as many as threads in a guarded plan, and none in another
@@ -233,10 +228,9 @@ kept_own {text} {plan} is k some within =
 pub plan_kept_own : {text : List ℕ} {plan : Plan} → IsPlanOf text plan → (k : ℕ) → threads_of plan < k → k ≤ (region_of plan).threads
     → (region_of plan).pages + kept_costs_of k (acts_of_plan plan) ≤ slice_index (bounds_of plan.bounds) k
 plan_kept_own {text} {plan} is k past within =
-    let actors = plan_actors plan in
     let place : threads_of plan + (k - threads_of plan) ≡ k = omega (arith, past) in
     subst (λ (n : ℕ). (region_of plan).pages + kept_costs_of n (acts_of_plan plan) ≤ slice_index (bounds_of plan.bounds) n) place
-    (kept_own is (k - threads_of plan) (omega (arith, past)) (omega (arith, past, within, actors)))
+    (kept_own is (k - threads_of plan) (omega (arith, past)) (omega (arith, past, within, plan_actors plan)))
 
 -- ---- guards
 guarded_enough : (keeper : Option ℕ) (k : ℕ) → keeper ≡ Some k → 1 ≤ one_guarded keeper

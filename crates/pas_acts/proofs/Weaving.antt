@@ -1,22 +1,22 @@
 -- What workers did, each for itself, is put into the order of the acts: what a piece does to each one's share, and then the whole.
 use Rattle.std.proofs.Common.{arith, ◌≡◌, ◌≢◌, ℕ, ◌==◌, Bool, false, if◌then◌else◌, List, [], ◌∷◌, ◌++◌, refl, ap, sym, ◌∙◌, append-nil, ne_eqb, ◌+◌, true}
 use Rattle.std.proofs.{Common.{Option, None, Some, inl, inr, append_assoc, max, subst, IsSomeAnd, eq-eqb}, lemmas.Bool.cases_eq}
-use Rattle.pas_steps.specs.{Lists.{Whole, part}, Desks.{triple, triples, made}, Events.events_by, Views.View, declared.step.{Made.Made, Step.Step}}
+use Rattle.pas_steps.specs.{Lists.{Whole, part}, Desks.{triples, made, triple}, Events.events_by, Views.View, declared.step.{Made.Made, Step.Step}}
 use Rattle.pas_steps.proofs.Parts.{part_of_own, part_of_others}
-use Rattle.pas_core.{specs.Orders.steps_by, proofs.Choosing.{step_passed, steps_by_both}}
 use Rattle.pas_records.specs.declared.record.{Record.Record, Said.Said}
 use Rattle.pas_cache.specs.Caches.{Cached}
-use Rattle.pas_answers.specs.Answers.{Named, Caches, with_cache, Books, with_book, Progress, with_records, named, having, answer_of, standing_for, IsAnswered}
-use Rattle.pas_answers.specs.Answers.{IsStopped, with_steps, after_answer, after_settling, after_wake, after_reading, after_tick, after_pass, after_stop}
-use Rattle.pas_answers.specs.{Answers.{stopped, epoch_look, begun, settled, IsIdleFor, records_of, said_by}, Ways.{EachOf, records_by, AreSpoken}}
+use Rattle.pas_answers.specs.Answers.{Named, Books, with_book, Progress, named, having, answer_of, standing_for, IsAnswered, IsStopped, after_answer}
+use Rattle.pas_answers.specs.Answers.{after_settling, after_wake, after_reading, after_tick, after_pass, after_stop, stopped, epoch_look, begun, settled}
+use Rattle.pas_answers.specs.{Answers.{records_of, said_by, Caches, with_cache, with_records, with_steps, IsIdleFor}, Ways.{EachOf, records_by, AreSpoken}}
 use Rattle.pas_answers.specs.{PassRecords.records_of_pass, Fit.{AreFit, IsFitWhat}, Calls.OnlyAsked, Guarding.{Tried, IsTried, after_trying, after_giving}}
 use Rattle.pas_answers.specs.{Guarding.{IsLowered, after_lowering}, Reaching.{AnswersTried, AnswersGuarded, Advances, Reaches}}
-use Rattle.pas_answers.proofs.OwnRecords.{records_both, none_by, events_of_piece, pass_of, piece_of, spoken_piece, spoken_both, swept_each, try_each}
+use Rattle.pas_answers.proofs.OwnRecords.{records_both, none_by, events_of_piece, pass_of, piece_of, swept_each, try_each, spoken_piece, spoken_both}
 use Rattle.pas_profile.specs.declared.{guard.Guard.Guard, profile.Profile.Profile, name.Block.Block}
-use Rattle.pas_acts.specs.Shares.{Owners, in_hands, AreAmong, IsShareOf, actor_of_act, IsInHand, AreInHand, acts_by, Asks, IsRequestOf, asked_after_act}
+use Rattle.pas_acts.specs.Shares.{Owners, AreAmong, actor_of_act, IsInHand, AreInHand, acts_by, IsRequestOf, asked_after_act, in_hands, IsShareOf, Asks}
 use Rattle.pas_acts.{specs.Shares.IsWoven, proofs.Naming.{retold, names_new}}
 use Rattle.pas_trace.specs.{declared.{plan.{Op.Op, What.What}, item.Request.Request}, Acts.{Act, Operates, Guards, Settles, Ticks, MakesPass, ReadsEpoch}}
 use Rattle.pas_trace.specs.{Acts.{StopsIdle, Wakes, Ends, Lowers}, Asked.request_in, EveryPlan.{asked_with, is_asked}}
+use Rattle.pas_core.{specs.Orders.steps_by, proofs.Choosing.{step_passed, steps_by_both}}
 
 -- ---- parts
 same_part : (j k : ℕ) (steps : List Made) (l m : Whole) → part j l ≡ part j m → part j (triples k steps ++ l) ≡ part j (triples k steps ++ m)

@@ -7,15 +7,15 @@ use Rattle.pas_trace.specs.{Acts.{Act, Operates, Guards, Settles, act_kept, own_
 use Rattle.pas_trace.specs.{EveryPlan.asked_after, declared.{item.Request.Request, plan.{Op.Op, Task.Task, What.What, Work.Work, Chore.Chore}}}
 use Rattle.pas_cache.specs.Caches.{Cached}
 use Rattle.pas_guard.specs.{Books.{guards_in, size_of_book}, declared.book.GuardBook.GuardBook}
-use Rattle.pas_answers.specs.{Answers.{Named, Books, Progress, settled, after_settling}, Calls.{what_of, MayStand, named_by, named_with, owed_events, IsMeant}}
-use Rattle.pas_answers.specs.{Calls.freed_by, Fit.{IsFitWhat, cost_of_what, own_cost_of, own_cost_of_act, own_costs_of, IsFitWork, AreFit}}
-use Rattle.pas_answers.specs.{Guarding.{after_trying, after_giving}, Keeping.{owed_by_keeper, cost_of_try}, Ways.{is_of, EachOf, records_by}, Names.block_named}
-use Rattle.pas_answers.{specs.Names.names_held, proofs.SingleActs.{task_of, known_more, meant_by, meant_stands, its_cache, known_if, sum_both}}
-use Rattle.pas_answers.proofs.{OwnRecords.{all_by, none_by, records_both}, Reached.reach_both}
-use Rattle.pas_acts.specs.{AtDesks.{Here, here, and_for, MayOperate, ThreadActs}, Keepers.{KeeperHas, LaterKept, KeeperTries, Keeping, NoKeeper, OneKeeper}}
-use Rattle.pas_acts.specs.{Keepers.{MayTryAt, TriesAt, StandsAt, StandsStill, HasStill, KeptStands}, Pairs.{head_acts, for_guards, KeeperWaits, IsOfTwo}}
-use Rattle.pas_acts.specs.{Pairs.{EachOfTwo, KeptPushed, KeptStill, owed_of, PairActs, MayServe, PairAt, PairWorks}, Turns.RestsAt, Works.{Later, Keeps, keeps}}
-use Rattle.pas_acts.specs.{Works.{KnowsNames, ThreadAt}, NameBooks.{Table, requests_in, room_for, names_of, name_asked, names_asked, ArePlaced, known_in}}
+use Rattle.pas_answers.specs.{Answers.{Named, Books, Progress, settled, after_settling}, Calls.{what_of, MayStand, named_by, owed_events, named_with, IsMeant}}
+use Rattle.pas_answers.specs.{Calls.freed_by, Fit.{IsFitWhat, cost_of_what, own_cost_of_act, own_costs_of, IsFitWork, AreFit, own_cost_of}}
+use Rattle.pas_answers.specs.{Guarding.{after_trying, after_giving}, Keeping.{owed_by_keeper, cost_of_try}, Ways.{EachOf, records_by, is_of}, Names.block_named}
+use Rattle.pas_answers.{specs.Names.names_held, proofs.SingleActs.{its_cache, sum_both, task_of, known_more, meant_by, meant_stands, known_if}}
+use Rattle.pas_answers.proofs.{OwnRecords.{none_by, records_both, all_by}, Reached.reach_both}
+use Rattle.pas_acts.specs.{AtDesks.{here, and_for, MayOperate, ThreadActs, Here}, Keepers.{KeeperHas, LaterKept, KeeperTries, StandsAt, StandsStill, HasStill}}
+use Rattle.pas_acts.specs.{Keepers.{Keeping, NoKeeper, OneKeeper, MayTryAt, TriesAt, KeptStands}, Pairs.{for_guards, PairAt, PairWorks, head_acts, KeeperWaits}}
+use Rattle.pas_acts.specs.{Pairs.{IsOfTwo, EachOfTwo, KeptPushed, KeptStill, owed_of, PairActs, MayServe}, Turns.RestsAt, Works.{Later, keeps, KnowsNames}}
+use Rattle.pas_acts.specs.{Works.{Keeps, ThreadAt}, NameBooks.{requests_in, room_for, names_of, name_asked, names_asked, ArePlaced, known_in, Table}}
 use Rattle.pas_acts.{specs.declared.names.NameBook.NameBook, proofs.AtDesk.{rests_still, stands_at, own_cost, rests_for, settled_rest, sits_for, keeper_still}}
 use Rattle.pas_acts.proofs.{AtDesk.{guarded_by_keeper, guarded_by_thread}, Noting.{names_both, names_count, asked_both, kept_asks, names_named, placed_both}}
 use Rattle.pas_acts.proofs.Noting.{tells_more, stand_more}
@@ -132,7 +132,6 @@ module _ {f keeper r block h h' more p : _} (op : Op) (apart : op.actor ≢ keep
       let q = after_settling midway k in
       let rests : RestsAt f k σ' c out later after = rests_for (rests_still stays thread_same refl at) (omega arith) (omega arith) in
       let room = rests.sits.room in
-      let spare = rests.spare in
       let log = ap (λ (d : Cached). length d.log) done in
       let pays = ap (λ (o : Option Block). cost_of_try r.size o) given in
       of_guard record {
@@ -141,7 +140,7 @@ module _ {f keeper r block h h' more p : _} (op : Op) (apart : op.actor ≢ keep
         stands = record {
           sits = record { actor = rests.sits.actor; profile = rests.sits.profile; stood = rests.sits.stood; rest = settled_rest (part k q.list) done rests.sits.rest; room = omega (arith, room, log) };
           cache = its_cache midway.caches k (settled (midway.caches k)) ∙ ap settled at.cache ∙ sym done;
-          spare = omega (arith, spare, log);
+          spare = omega (arith, rests.spare, log);
         };
         waits = (tt, record { sits = tries.stands.sits; book = tries.stands.book; spare = tries.stands.spare; places = tries.stands.places });
         said = told;

@@ -4,43 +4,42 @@ use Rattle.std.proofs.Common.{◌≡◌, ℕ, zero, suc, ◌+◌, ◌-◌, ◌/�
 use Rattle.std.proofs.Common.{length, Option, Some, None, Result, Ok, Err, MatchResult, inl, inr, refl, ap, sym, ◌∙◌, subst, arith, append_assoc, true≢false}
 use Rattle.std.proofs.{Common.{eq-eqb, ne_eqb, ◌*◌, ◌||◌, length-append, MatchOption, All}, lemmas.Bool.{eqb-false, false_from_ne_true, cond-false, and_left}}
 use Rattle.std.proofs.lemmas.Bool.{cases_eq}
-use Rattle.pas_profile.specs.{Lives.live_word, Directories.{directory_read, deed_word_of}, Blocks.{address_of, grain_of}, Profiles.{IsValid, IsAdmitted}}
-use Rattle.pas_profile.specs.{Entries.{entry_of, sized_entry, is_sized}, declared.{profile.Profile.Profile, event.NoRoom.NoRoom, name.{Block.Block, Name.Name}}}
-use Rattle.pas_profile.specs.declared.{word.Word.Word, entry.Entry.Entry, guard.Guard.Guard}
-use Rattle.pas_bits.{specs.Runs.meets_page, proofs.Runs.{to_meet, met_by}}
+use Rattle.pas_profile.specs.{Directories.{deed_word_of, directory_read}, Blocks.{address_of, grain_of}, Profiles.{IsValid, IsAdmitted}, Entries.entry_of}
+use Rattle.pas_profile.specs.{Entries.{sized_entry, is_sized}, declared.{profile.Profile.Profile, event.NoRoom.NoRoom, name.{Block.Block, Name.Name}}}
+use Rattle.pas_profile.specs.{declared.{word.Word.Word, entry.Entry.Entry, guard.Guard.Guard}, Lives.live_word}
 use Rattle.pas_steps.specs.{Views.{View, is_unstamped}, Allowed.IsStepOf, Desks.{made, Standing, triples}, Events.events_by, Clear.HasNothing, Lists.Whole}
-use Rattle.pas_steps.specs.{Lists.{part, Legal}, declared.step.{Made.Made, Step.{Step, TheVariants.{Look, EndSized, Stamp, Tick}}}, Kinds.{Kinds, Only}}
-use Rattle.pas_steps.specs.Kinds.{kind_of, look_kind, is_in, apart, LookEpoch, Putting, Ending, Stamping, Ticking, looking, returning, place_of, unstamping}
-use Rattle.pas_steps.{specs.Kinds.{Backing, Giving, LookLife}, proofs.Apart.{holds_over, only_both, only_within, unstamped_same, unstamped_step_same}}
-use Rattle.pas_steps.proofs.{Apart.out_within, Calls.returns_are, Parts.{part_of_own, part_of_others}}
-use Rattle.pas_core.{specs.Stamps.{AllStamped, KeepsToEnds, AllKeepToEnds}, proofs.{Lives.stamps_are_ends, MachineRuns.runs, OneActor.legal_before}}
-use Rattle.pas_core.proofs.OneActor.{legal_earlier}
-use Rattle.pas_rights.{proofs.{Orders.return_returns, Puts.puts_kinds}, specs.Gives.give_steps}
-use Rattle.pas_free_log.specs.{Endings.{guess_by, Tries, TriesBy, last_step, IsRefusedBy, IsEndOf, EndSteps}, Stamps.page_count, Returns.PageSteps}
-use Rattle.pas_free_log.specs.{Returns.{PagesSteps, first_on, count_on}, declared.{noting.EndedRun.EndedRun, ending.Outcome.{Outcome, TheVariants.Ended}}}
-use Rattle.pas_free_log.{specs.{declared.ending.Outcome.TheVariants.Refused, Flushes.{Settled, AfterEnd, EntrySteps, EntriesSteps}}, proofs.OneEntry.count_some}
-use Rattle.pas_free_log.proofs.OneEntry.{guess_is, not_ended}
-use Rattle.pas_cache.specs.{Caches.{Cached, AtRest}, Calls.{TakesEntry, AllocatesPages}, Changes.{EmptiesLog, EmptiesFull}, Kinds.{releasing, allocating}}
-use Rattle.pas_cache.{specs.{Serves.{pages_of, wanted_for, ServesRequest}, Refusals.{IsTrulyRefused, TakesWhatIsNamed}}, proofs.Alone.truly_refused}
+use Rattle.pas_steps.specs.{Lists.{part, Legal}, declared.step.{Made.Made, Step.{Step, TheVariants.{Look, Tick, EndSized, Stamp}}}, Kinds.{Only, kind_of}}
+use Rattle.pas_steps.specs.Kinds.{is_in, LookEpoch, returning, Kinds, look_kind, apart, Putting, Ending, Stamping, Ticking, looking, place_of, unstamping}
+use Rattle.pas_steps.{specs.Kinds.{Backing, Giving, LookLife}, proofs.{Parts.{part_of_own, part_of_others}, Apart.{holds_over, only_both, only_within}}}
+use Rattle.pas_steps.proofs.{Apart.{unstamped_same, unstamped_step_same, out_within}, Calls.returns_are}
+use Rattle.pas_free_log.specs.{declared.{noting.EndedRun.EndedRun, ending.Outcome.{Outcome, TheVariants.{Ended, Refused}}}, Endings.{guess_by, Tries, TriesBy}}
+use Rattle.pas_free_log.specs.{Endings.{last_step, IsRefusedBy, IsEndOf, EndSteps}, Stamps.page_count, Returns.{PageSteps, PagesSteps, first_on, count_on}}
+use Rattle.pas_free_log.{specs.Flushes.{Settled, AfterEnd, EntrySteps, EntriesSteps}, proofs.OneEntry.{count_some, guess_is, not_ended}}
+use Rattle.pas_cache.specs.{Caches.{Cached, AtRest}, Calls.{TakesEntry, AllocatesPages}, Changes.{EmptiesFull, EmptiesLog}, Serves.{pages_of, wanted_for}}
+use Rattle.pas_cache.{specs.{Serves.ServesRequest, Kinds.{releasing, allocating}, Refusals.{IsTrulyRefused, TakesWhatIsNamed}}, proofs.Alone.truly_refused}
 use Rattle.pas_cache.proofs.Alone.{takes_named}
 use Rattle.pas_trace.specs.{declared.{plan.{What.{What, TheVariants.{Alloc, Guarded, Remake}}, Plan.Plan, Op.Op}, item.Request.Request}, Acts.{Act, Operates}}
 use Rattle.pas_trace.specs.{Acts.{Guards, Settles, Ticks, MakesPass, ReadsEpoch, StopsIdle, MarksPhase, Wakes, MarksClose, Ends, Lowers}, Asked.request_in}
 use Rattle.pas_trace.specs.EveryPlan.{asked_after}
 use Rattle.pas_records.{specs.{declared.record.{Said.Said, Record.Record}, Lines.CanShow, Rests.AreStamped}, proofs.Showable.AreOfRegion}
 use Rattle.pas_records.proofs.MarksAtRest.{true_marks}
-use Rattle.pas_answers.specs.Answers.{Having, Answer, standing_for, entry_with, IsFreed, IsFreedBy, IsRemadeBy, IsStopped, IsAnswered, wanted_by, records_of}
-use Rattle.pas_answers.specs.{Answers.{Progress, having, said_by, stopped, epoch_look, after_stop, request_for, IsReplaced}, Guarding.{said_of_guard, Tried}}
-use Rattle.pas_answers.specs.{Guarding.{try_steps, guarded_steps, IsTried, after_trying}, Phases.AreInPhases, Stages.GoByStages, Fit.{AreOfThreads, IsFitWhat}}
-use Rattle.pas_answers.specs.{Fit.AreFit, Rests.RestBetween, Indexes.{GoByIndexes, TakesItsRun, TriedTakesItsRun, GuardedTakesItsRun, AllTakeTheirRuns}}
+use Rattle.pas_answers.specs.Answers.{Having, Answer, standing_for, entry_with, IsRemadeBy, IsAnswered, wanted_by, records_of, Progress, having, said_by}
+use Rattle.pas_answers.specs.{Answers.{epoch_look, request_for, IsFreed, IsFreedBy, IsStopped, stopped, after_stop, IsReplaced}, Guarding.said_of_guard}
+use Rattle.pas_answers.specs.{Guarding.{Tried, try_steps, IsTried, after_trying, guarded_steps}, Phases.AreInPhases, Stages.GoByStages, Fit.AreOfThreads}
+use Rattle.pas_answers.specs.{Fit.{IsFitWhat, AreFit}, Reaching.{AnswersTried, AnswersGuarded, Reaches, AnswersOp, Advances}, Replays.{at_start, acts_of_plan}}
+use Rattle.pas_answers.specs.{Replays.{threads_of, keepers_of, phases_of, stages_of_plan, region_of, IsReplay}, Ways.{Way, InOrder, OnThreads, IsOneOrder}}
+use Rattle.pas_answers.specs.{Ways.arranged, Rests.RestBetween, Indexes.{GoByIndexes, TakesItsRun, TriedTakesItsRun, GuardedTakesItsRun, AllTakeTheirRuns}}
 use Rattle.pas_answers.specs.Refusals.{AreRefusalsTrue, request_in_remade, RefusesTruly, TriedRefusesTruly, GuardedRefusesTruly, AllRefuseTruly}
-use Rattle.pas_answers.specs.{Reaching.{AnswersTried, AnswersGuarded, Reaches, AnswersOp, Advances}, Replays.{at_start, acts_of_plan, threads_of, keepers_of}}
-use Rattle.pas_answers.specs.{Replays.{phases_of, stages_of_plan, IsReplay, region_of}, Ways.{Way, InOrder, OnThreads, IsOneOrder, arranged}}
 use Rattle.pas_answers.proofs.Reached.{of_front, of_back, was_so, tried_on, pieces_back, Each, same_parts, legal_part, of_rest, calls_alone}
 use Rattle.pas_answers.proofs.{OwnRecords.{EachShown, shown_both, records_shown, each_arranged, piece_shown, pass_shown, all_shown}, Requests.known_directory}
-use Rattle.pas_large.specs.Named.{missed_steps}
+use Rattle.pas_rights.{specs.Gives.give_steps, proofs.{Orders.return_returns, Puts.puts_kinds}}
 use Rattle.pas_scan.specs.Runs.{large_directory}
-use Rattle.pas_guard.specs.{Seeks.seeking, Raises.{IsRaised, IsNotRaised, RaiseSteps}, Keepers.MakesCalls, Sweeps.{is_over, sweeping, SweptOne, Swept}}
+use Rattle.pas_guard.specs.{Seeks.seeking, Raises.{IsRaised, RaiseSteps, IsNotRaised}, Keepers.MakesCalls, Sweeps.{is_over, sweeping, SweptOne, Swept}}
 use Rattle.pas_guard.{specs.Sweeps.SweepSteps, proofs.Raises.{raised_backs, raised_leaves}}
+use Rattle.pas_bits.{specs.Runs.meets_page, proofs.Runs.{to_meet, met_by}}
+use Rattle.pas_core.{specs.Stamps.{AllStamped, KeepsToEnds, AllKeepToEnds}, proofs.{Lives.stamps_are_ends, MachineRuns.runs, OneActor.legal_before}}
+use Rattle.pas_core.proofs.OneActor.{legal_earlier}
+use Rattle.pas_large.specs.Named.{missed_steps}
 
 -- ---- tidy views: all steps kept to ends, and nothing is unstamped
 abbrev pub KeptPart : View → Type 0
@@ -223,8 +222,7 @@ ends_done f entry outcome steps v of h tidy =
     let first : ℕ = guess_by (directory_read h.deed) in
     let look = made (Look (Word.Deed (address_of entry.name / 4096))) h.deed in
     let is : t ≡ true → h.guess ≡ entry.room / 16 = guess_is t entry first h.guess h.before h.tries in
-    let step : IsStepOf f (last_step t entry h.guess) = (subst (AreOfRegion f) h.steps_are of).0 in
-    let last : (entry.name.turn < 2 ^ 40 - 1) × (1 ≤ h.guess) = last_of f t entry h.guess is step in
+    let last : (entry.name.turn < 2 ^ 40 - 1) × (1 ≤ h.guess) = last_of f t entry h.guess is ((subst (AreOfRegion f) h.steps_are of).0) in
     let tried : Tidy ((h.before ++ look ∷ []) ++ v) = tidy_both (h.before ++ look ∷ []) h.before (look ∷ []) v refl
     (tries_by_tidy t entry first h.guess h.before (look ∷ v) h.tries (look_tidy (Word.Deed (address_of entry.name / 4096)) h.deed v refl tidy)) in
     subst (λ ms. IsTidyTry entry.name outcome (ms ++ v)) (sym h.steps_are)

@@ -2,9 +2,9 @@
 use Rattle.std.{proofs.Common.{ℕ, zero, suc, ◌+◌, ◌≤◌, not, Bool, true, false, if◌then◌else◌, List, [], ◌∷◌, ◌++◌, map, arith}, specs.List.AllByRecursion}
 use Rattle.std.specs.List.{filter}
 use Rattle.pas_profile.proofs.Lists.{all_both}
-use Rattle.pas_trace.specs.Acts.{Act, Ticks, MakesPass, ReadsEpoch, StopsIdle, MarksPhase, Wakes, MarksClose, Ends, Lowers, is_active, numbers_from}
-use Rattle.pas_trace.specs.Acts.{threads_where, active_threads, idle_threads, acts_of_chore, acts_of_op, acts_of_ops, phase_acts, close_acts, acts_from}
-use Rattle.pas_trace.specs.{Acts.acts_of, EveryPlan.all_ops, declared.plan.{Chore.Chore, Op.Op}}
+use Rattle.pas_trace.specs.Acts.{Act, Ticks, MakesPass, ReadsEpoch, StopsIdle, MarksPhase, Wakes, MarksClose, Ends, Lowers, active_threads, idle_threads}
+use Rattle.pas_trace.specs.Acts.{acts_of_ops, phase_acts, close_acts, acts_from, acts_of, is_active, numbers_from, threads_where, acts_of_chore, acts_of_op}
+use Rattle.pas_trace.specs.{EveryPlan.all_ops, declared.plan.{Chore.Chore, Op.Op}}
 
 -- ---- lists
 -- what is so of all is so of the first, and of those that follow

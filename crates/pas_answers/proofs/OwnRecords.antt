@@ -7,7 +7,7 @@ use Rattle.pas_profile.{specs.declared.guard.Guard.Guard, proofs.Lists.{all_both
 use Rattle.pas_steps.{specs.{Events.{events_by, actor_of}, Views.View, declared.step.Made.Made}, proofs.Events.events_own}
 use Rattle.pas_records.{specs.{declared.record.{Record.Record, Said.Said}, Lines.CanShow}, proofs.Showable.{AreOfRegion, steps_showable}}
 use Rattle.pas_answers.specs.{PassRecords.{record_of, records_of_pass}, Answers.{records_of, said_by, wanted_by}, Guarding.{said_of_guard, Tried, IsTried}}
-use Rattle.pas_answers.specs.Ways.{is_of, AreSpoken, EachOf, records_by, Way, by_actors, by_phases, arranged}
+use Rattle.pas_answers.specs.Ways.{Way, arranged, is_of, AreSpoken, EachOf, records_by, by_actors, by_phases}
 use Rattle.pas_trace.specs.declared.item.Request.{Request}
 use Rattle.pas_cache.specs.Serves.{pages_of}
 use Rattle.pas_guard.specs.Sweeps.{is_over, SweptOne, Swept}

@@ -3,21 +3,21 @@ use Rattle.std.proofs.Common.{◌≡◌, ℕ, ◌==◌, Bool, true, false, if◌
 use Rattle.std.proofs.Common.{append_assoc, MatchOption, ◌+◌, append-nil, map, eq-eqb, ◌≢◌, true≢false, length, arith, length-append, ◌<◌, ◌≤◌, ne_eqb}
 use Rattle.std.{proofs.lemmas.Bool.cases_eq, specs.List.AllByRecursion}
 use Rattle.pas_profile.specs.{declared.{profile.Profile.Profile, name.Block.Block, guard.Guard.Guard}, Profiles.IsValid}
-use Rattle.pas_steps.specs.{Views.View, Allowed.IsStepOf, Desks.{triples, made}, Agreement.{Agrees, Agreed}, Lists.{Whole, part, Legal, Triple}}
+use Rattle.pas_steps.specs.{Views.View, Allowed.IsStepOf, Desks.{triples, made}, Agreement.{Agreed, Agrees}, Lists.{Whole, part, Legal, Triple}}
 use Rattle.pas_steps.{specs.declared.step.{Made.Made, Step.TheVariants.Tick}, proofs.Parts.{part_of_others, part_of_own, each_part}}
 use Rattle.pas_records.proofs.Showable.{AreOfRegion}
 use Rattle.pas_answers.specs.{Ways.{Way, InOrder, OnThreads, IsOneOrder}, Answers.{Progress, epoch_look, wanted_by}, Guarding.{after_trying, Tried, IsTried}}
-use Rattle.pas_answers.specs.{Phases.{StandFirst, AtMark, AreInPhases}, Fit.AreOfThreads, Reaching.{Reaches, AnswersTried, AnswersGuarded, Advances, AnswersOp}}
-use Rattle.pas_answers.specs.{Replays.{at_start, region_of, threads_of, keepers_of, phases_of, acts_of_plan, stages_of_plan}, Stages.{Owners, Stage}}
-use Rattle.pas_answers.{specs.Stages.{GoByStages, AreSorted, in_hands, one_by_one, phase_stages, stages_from, stages_of}, proofs.EachAct.all_any}
-use Rattle.pas_answers.proofs.EachAct.{all_of_chore, all_of_close, all_acts}
+use Rattle.pas_answers.specs.{Phases.{AreInPhases, StandFirst, AtMark}, Fit.AreOfThreads, Reaching.{Reaches, AnswersTried, AnswersGuarded, Advances, AnswersOp}}
+use Rattle.pas_answers.specs.{Replays.{at_start, region_of, threads_of, keepers_of, phases_of, acts_of_plan, stages_of_plan}, Stages.{GoByStages, Owners}}
+use Rattle.pas_answers.{specs.Stages.{Stage, AreSorted, in_hands, one_by_one, phase_stages, stages_from, stages_of}, proofs.EachAct.{all_any, all_of_chore}}
+use Rattle.pas_answers.proofs.EachAct.{all_of_close, all_acts}
 use Rattle.pas_trace.specs.Acts.{Act, Operates, Guards, Settles, Ticks, MakesPass, ReadsEpoch, StopsIdle, MarksPhase, Wakes, MarksClose, Ends, Lowers}
-use Rattle.pas_trace.specs.Acts.{operation_in, active_threads, idle_threads, acts_of_ops, phase_acts, close_acts, acts_from, acts_of, act_kept, acts_of_work}
+use Rattle.pas_trace.specs.Acts.{active_threads, idle_threads, acts_of_ops, phase_acts, close_acts, acts_from, acts_of, operation_in, act_kept, acts_of_work}
 use Rattle.pas_trace.specs.{Asked.{request_in, work_of, keeper_of}, EveryPlan.all_ops, declared.{item.Request.Request, plan.{Op.Op, Plan.Plan, Chore.Chore}}}
 use Rattle.pas_trace.specs.declared.plan.Work.{Work}
-use Rattle.pas_core.proofs.{Choosing.{part_of_chosen, steps_by_all}, Nexts.agreed_steps}
-use Rattle.pas_guard.{proofs.Keepers.part_both, specs.Keepers.{Call, MakesCalls, IsKeeper}}
+use Rattle.pas_guard.{specs.Keepers.{MakesCalls, Call, IsKeeper}, proofs.Keepers.part_both}
 use Rattle.pas_cache.specs.Serves.{pages_of}
+use Rattle.pas_core.proofs.{Choosing.{part_of_chosen, steps_by_all}, Nexts.agreed_steps}
 
 -- Two lists that are one order of each actor's steps have the same part of each actor.
 pub same_parts : (way : Way) (told whole : Whole) → IsOneOrder way told whole → (k : ℕ) → part k whole ≡ part k told

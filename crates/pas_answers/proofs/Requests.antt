@@ -2,35 +2,35 @@
 use Rattle.std.proofs.Common.{◌≡◌, ◌≢◌, ℕ, ◌+◌, ◌-◌, ◌<◌, ◌≤◌, ◌++◌, Bool, List, [], ◌∷◌, length, Option, Some, None, Result, Ok, Err, inl, inr, refl, ap, sym}
 use Rattle.std.proofs.Common.{◌∙◌, subst, arith, ◌*◌, ◌/◌, ◌%◌, max, MatchResult, true, false, if◌then◌else◌, nat_le, le-leb, length-append, append_assoc}
 use Rattle.std.{proofs.{Common.leb-true, lemmas.{Bool.cases_lt, Option.same_Some}, Math.Nat.{mul-mod_left, mod-add-div', mul_assoc}}, specs.List.AllByRecursion}
-use Rattle.pas_profile.specs.{Directories.{IsDirectory, deed_word_of}, Blocks.{address_of, grain_of, length_of}, Classes.IsAlignment, Routes.room_by}
-use Rattle.pas_profile.specs.{Routes.IsRouteOf, Requests.{route_in, room_in}, Entries.entry_of, Profiles.{IsValid, IsAdmitted, IsPage, IsDirectoryOf}}
-use Rattle.pas_profile.specs.declared.{profile.Profile.Profile, directory.{Directory.Directory, Route.Route}, event.{Event.Event, NoRoom.NoRoom}}
-use Rattle.pas_profile.specs.declared.{event.FreeFault.{FreeFault, TheVariants.{Outside, Unaligned}}, name.{Block.Block, Name.Name}, word.Word.Word}
-use Rattle.pas_profile.{specs.declared.entry.Entry.Entry, proofs.{Sizes.{route_is, class_known, class_size_whole}, Codecs.directory_from_profile}}
+use Rattle.pas_profile.specs.{Directories.{deed_word_of, IsDirectory}, Blocks.{address_of, grain_of, length_of}, Classes.IsAlignment, Entries.entry_of}
+use Rattle.pas_profile.specs.{Profiles.{IsValid, IsAdmitted, IsPage, IsDirectoryOf}, declared.{profile.Profile.Profile, directory.Directory.Directory}}
+use Rattle.pas_profile.specs.declared.{directory.Route.Route, event.{Event.Event, NoRoom.NoRoom, FreeFault.{TheVariants.{Outside, Unaligned}, FreeFault}}}
+use Rattle.pas_profile.specs.{declared.{name.{Block.Block, Name.Name}, word.Word.Word, entry.Entry.Entry}, Routes.{room_by, IsRouteOf}, Requests.route_in}
+use Rattle.pas_profile.{specs.Requests.room_in, proofs.{Sizes.{route_is, class_known, class_size_whole}, Codecs.directory_from_profile}}
 use Rattle.pas_profile.proofs.Codecs.{deed_word_of-positive}
+use Rattle.pas_steps.specs.{declared.step.Made.Made, Views.{View, KnowsDeed, known_deed}, Agreement.Agreed, Events.events_by, Desks.{Standing, CanCall, Seat}}
+use Rattle.pas_steps.{specs.{Unknown.unknown_pages, Lists.{Whole, part, Legal, word_after, visible}}, proofs.Adding.{agreed_first, agreed_later, adds_none}}
+use Rattle.pas_steps.proofs.{Adding.can_call, Unknown.{unknown_no_more, has_room, none_unknown}, SpareRoom.{Spares, spare_falls}, Frames.events_append}
+use Rattle.pas_steps.proofs.Called.{call_none, call_then, next_call, call_as}
+use Rattle.pas_trace.specs.declared.{item.Request.Request, plan.{Task.Task, What.{What, TheVariants.{Alloc, Guarded, Free, FreeSized, Raw, RawSized, Remake}}}}
+use Rattle.pas_trace.{specs.{declared.plan.Work.Work, Reasons.cost_of_size, EveryPlan.IsRoomNamed, Asked.{request_of, cost_of_task}}, proofs.Costs.large_cost}
+use Rattle.pas_trace.proofs.{Costs.{small_cost, some_cost}, Rooms.room_named}
+use Rattle.pas_cache.specs.{Caches.{Cached, AtRest}, Changes.EmptiesFull, Calls.{AllocatesPages, TakesEntry, Allocates, most_events, IsNamed, MayRequestBy}}
+use Rattle.pas_cache.specs.Calls.{MayRequest, AllocatesBy, AllocatesRequest, MayAllocate, MayAllocatePages, Frees, RefusesName, FlushesLog, StopsCache, Rests}
+use Rattle.pas_cache.specs.Serves.{Wanted, wanted_for, pages_of, IsDeedOf, IsSmallRoute, IsBlockFor, IsSilent, MakesFew, MakesAtMost, MakesDeedsOf}
+use Rattle.pas_cache.{specs.{Names.{IsInRegion, IsFaultOf}, declared.moving.Moved.{TheVariants.{Kept, New}, Moved}}, proofs.Routes.{is_large, pages_asked}}
+use Rattle.pas_cache.proofs.{Routes.{is_small, small_may, small_did, none_named}, Budget.{log_kept, emptied_events}}
+use Rattle.pas_answers.specs.Answers.{named as the_name, block_of, said_by, IsGiven, Named, standing_for, entry_with, having, Answer, answer_of, request_for}
+use Rattle.pas_answers.specs.Answers.{IsRemadeBy, IsAnswered, said_of_request, RefusalEnds, RequestEnds, suits, said_of_fault, said_of_room}
+use Rattle.pas_answers.specs.{Indexes.{IsNamedFor, request_made, unless_suited}, Fit.{IsFitWhat, cost_of_what, IsFitTask, IsFitWork, cost_of_work}}
+use Rattle.pas_answers.specs.Calls.{what_of, IsBlockOf, MayStand, PerformsMeant, block_behind, IsMeant, IsKnown, named_by, owed_events, MayPerform, Serves}
+use Rattle.pas_answers.{specs.{Calls.{events_for, FreesOne}, Moves.{flush_of_full, MayMove, Moves}}, proofs.SingleActs.task_of}
+use Rattle.pas_free_log.specs.declared.noting.EndedRun.{EndedRun}
+use Rattle.pas_records.specs.declared.record.Said.{Said}
 use Rattle.pas_bits.proofs.Runs.{first_of_run}
 use Rattle.pas_bitfit.proofs.Aligned.{sixteens}
 use Rattle.pas_machine.specs.State.{deed_in}
 use Rattle.pas_core.{specs.Good.word_of_deed, proofs.{Deeds.{known_is, deed_of, directory_is_of}, Rights.deeds_known}}
-use Rattle.pas_steps.specs.{declared.step.Made.Made, Views.{View, known_deed, KnowsDeed}, Agreement.Agreed, Events.events_by, Desks.{Standing, CanCall, Seat}}
-use Rattle.pas_steps.{specs.{Unknown.unknown_pages, Lists.{Whole, part, word_after, visible, Legal}}, proofs.Adding.{adds_none, can_call, agreed_first}}
-use Rattle.pas_steps.proofs.{Adding.agreed_later, Unknown.{unknown_no_more, has_room, none_unknown}, SpareRoom.{Spares, spare_falls}, Frames.events_append}
-use Rattle.pas_steps.proofs.Called.{call_none, call_then, next_call, call_as}
-use Rattle.pas_trace.specs.declared.{item.Request.Request, plan.{Task.Task, What.{What, TheVariants.{Alloc, Guarded, Free, FreeSized, Raw, RawSized, Remake}}}}
-use Rattle.pas_trace.{specs.{declared.plan.Work.Work, Reasons.cost_of_size, EveryPlan.IsRoomNamed, Asked.{request_of, cost_of_task}}, proofs.Costs.small_cost}
-use Rattle.pas_trace.proofs.{Costs.{large_cost, some_cost}, Rooms.room_named}
-use Rattle.pas_cache.specs.{Caches.{Cached, AtRest}, Names.{IsInRegion, IsFaultOf}, Changes.EmptiesFull, Calls.{Allocates, AllocatesPages, most_events}}
-use Rattle.pas_cache.specs.Calls.{IsNamed, MayRequestBy, MayRequest, AllocatesBy, AllocatesRequest, MayAllocate, MayAllocatePages, TakesEntry, Frees}
-use Rattle.pas_cache.specs.{Calls.{RefusesName, FlushesLog, StopsCache, Rests}, Serves.{IsSmallRoute, Wanted, wanted_for, pages_of, IsBlockFor, IsDeedOf}}
-use Rattle.pas_cache.specs.{Serves.{IsSilent, MakesFew, MakesAtMost, MakesDeedsOf}, declared.moving.Moved.{TheVariants.{Kept, New}, Moved}}
-use Rattle.pas_cache.proofs.{Budget.{log_kept, emptied_events}, Routes.{is_small, is_large, small_may, small_did, none_named, pages_asked}}
-use Rattle.pas_answers.specs.Answers.{named as the_name, block_of, said_by, said_of_request, IsGiven, RefusalEnds, RequestEnds, suits, Named, standing_for}
-use Rattle.pas_answers.specs.Answers.{said_of_fault, entry_with, having, Answer, answer_of, request_for, said_of_room, IsRemadeBy, IsAnswered}
-use Rattle.pas_answers.specs.{Indexes.{IsNamedFor, request_made, unless_suited}, Moves.{flush_of_full, MayMove, Moves}, Fit.{cost_of_what, IsFitTask}}
-use Rattle.pas_answers.specs.{Fit.{IsFitWork, IsFitWhat, cost_of_work}, Calls.{what_of, IsBlockOf, MayStand, owed_events, MayPerform, Serves, events_for}}
-use Rattle.pas_answers.{specs.Calls.{PerformsMeant, block_behind, FreesOne, IsMeant, IsKnown, named_by}, proofs.SingleActs.task_of}
-use Rattle.pas_free_log.specs.declared.noting.EndedRun.{EndedRun}
-use Rattle.pas_records.specs.declared.record.Said.{Said}
 
 -- ---- what a request asks
 may_request : (f : Profile) (c : Cached) (heap size align spare : ℕ) (v : View) → AtRest f c v → cost_of_size size + unknown_pages f v ≤ spare
@@ -38,9 +38,7 @@ may_request : (f : Profile) (c : Cached) (heap size align spare : ℕ) (v : View
 may_request f c heap size align spare v rest fits = elim (cases_lt 2048 size) [
   | inl large ↦
       let route = is_large f.classes size align large in
-      let cost = large_cost size large in
-      let pages = pages_asked f size align route in
-      rw route (record { rest = rest; room = omega (arith, fits, cost, pages) })
+      rw route (record { rest = rest; room = omega (arith, fits, large_cost size large, pages_asked f size align route) })
   | inr small ↦
       let cost = small_cost size small in
       small_may (room_in f size align / 4096) (route_in f size align) (is_small f.classes size align small) (record { rest = rest; room = has_room f 2 spare v (omega (arith, fits, cost)) })
@@ -90,8 +88,7 @@ serves_pages : {σ σ' : Standing} {answer : Result Block NoRoom} {found : Optio
 serves_pages {σ} {σ'} {answer} {found} c c' heap size align large call =
     let f = σ.seat.profile in
     let w = wanted_for f heap size align in
-    let route = is_large f.classes size align large in
-    let same : cost_of_size size ≡ pages_of w + 1 = omega (arith, large_cost size large, pages_asked f size align route) in
+    let same : cost_of_size size ≡ pages_of w + 1 = omega (arith, large_cost size large, pages_asked f size align (is_large f.classes size align large)) in
     search (arith, most_same, pages_ends, log_kept)
 
 -- by its route
@@ -157,8 +154,7 @@ block_stands : (f : Profile) (c : Cached) (heap size align : ℕ) (steps : List 
     → AtRest f c v → Agreed f v steps → IsBlockFor f (wanted_for f heap size align) (AtRest f c) steps block → MayStand f (Some block)
 block_stands f c heap size align steps block v valid admitted rest agreed of =
     let some = some_grains f.classes size align (route_in f size align) (route_is f.classes size align) in
-    let room = ap (λ n. n / 16) of.room in
-    let page = of.of_region (grain_of block.name) (first_of_run (grain_of block.name) (length_of block) (omega (arith, some, room))) in
+    let page = of.of_region (grain_of block.name) (first_of_run (grain_of block.name) (length_of block) (omega (arith, some, ap (λ n. n / 16) of.room))) in
     let same : grain_of block.name / 256 ≡ address_of block.name / 4096 = omega arith in
     λ b is. subst (IsBlockOf f) (same_Some _ _ is) record {
       region = record { page = subst (IsPage f) same page; aligned = sixteenth (address_of block.name) align admitted.aligned of.aligned };
@@ -231,9 +227,8 @@ pub can_unguarded : {σ : Standing} {task : Task} {keeper name heap size align :
     → CanCall σ (MayPerform σ.seat.profile c (what_of task) spare)
     → CanCall σ (MayPerform σ.seat.profile c (Alloc name heap size align) spare)
 can_unguarded {σ} {task} {keeper} {name} {heap} {size} {align} c spare is can = can_call adds_none can (λ v l stood met.
-    let room = met.room in
     let cost : cost_of_what (what_of task) ≡ cost_of_size size + 2 = ap (λ (t : Task). cost_of_what (what_of t)) is in
-    record { rest = met.rest; room = omega (arith, room, cost) })
+    record { rest = met.rest; room = omega (arith, met.room, cost) })
 
 -- what answers the request answers the guarded one, which costs more
 pub guarded_performs : {σ σ' c c' name heap size align meant came said : _} (Answers : ℕ → ℕ → Option ℕ → Type 0) (Same : Type 0) (keeper : ℕ)
@@ -323,8 +318,7 @@ pub room_to_free : {σ σ1 : Standing} {Answers : Option ℕ → Type 0} {Same :
     → 64 ≤ spare1
 room_to_free {σ} {σ1} {tells = tells} heap size align spare spare1 c c1 block r can law law1 full =
     let w = wanted_for σ.seat.profile heap size align in
-    let s = serves c c1 heap size align r in
-    let at : length c.log ≡ 64 = ap length (sym s.log_is) ∙ full in
+    let at : length c.log ≡ 64 = ap length (sym (serves c c1 heap size align r).log_is) ∙ full in
     let flush : spare - flush_of_full c.log ≡ spare - 64 = ap (λ t. spare - (if t then 64 else 0)) (full_log (length c.log) at) in
     let left = left_by σ σ1 w.route w r.found tells c c1 block (spare - flush_of_full c.log) spare spare1 r.allocates can law law1 in
     omega (arith, flush, left.0, left.1)
@@ -352,7 +346,6 @@ pub gives_other : {σ σ1 σ2 : Standing} (Answers : Option ℕ → Type 0) (Sam
     → Frees (entry_of old.name) c1 c2 σ1 σ2 (Ok tt) → Moves Answers Same wanted old size align c c2 σ σ2 (Ok (New block))
 gives_other {σ} {σ1} {σ2} Answers Same wanted found old size align c c1 c2 block unsuited named s free =
     let f = σ.seat.profile in
-    let takes = subst (λ (t : Seat). TakesEntry t.profile t.actor c1 c2 (entry_of old.name) free.steps) s.calls.adds.seat_is free.outcome in
     record {
       steps = free.steps ++ s.steps;
       calls = call_then (λ v w. AtRest f c2 w) s.calls free.calls (λ v met rests. rw s.calls.adds.seat_is rests) (λ v met rests freed. rw s.calls.adds.seat_is at freed);
@@ -368,7 +361,7 @@ gives_other {σ} {σ1} {σ2} Answers Same wanted found old size align c c1 c2 bl
         few = s.few;
         block_for = s.outcome;
         same_log = s.log_is;
-        logs = takes;
+        logs = subst (λ (t : Seat). TakesEntry t.profile t.actor c1 c2 (entry_of old.name) free.steps) s.calls.adds.seat_is free.outcome;
         steps_are = refl;
       };
     }
@@ -545,8 +538,7 @@ flush_few : (t : Bool) (n : ℕ) → nat_le 64 n ≡ t → (if t then 64 else 0)
 flush_few t n is = search (arith, leb-true)
 
 -- A reallocation at rest may be asked of whatever gives blocks another size.
-pub can_move : {σ : Standing} (c : Cached) (name n heap size align spare there : ℕ)
-    → CanCall σ (MayPerform σ.seat.profile c (Remake name n heap size align) spare)
+pub can_move : {σ : _} (c : Cached) (name n heap size align spare there : ℕ) → CanCall σ (MayPerform σ.seat.profile c (Remake name n heap size align) spare)
     → CanCall σ (MayMove σ.seat.profile (wanted_for σ.seat.profile there size align) c spare)
 can_move {σ} c name n heap size align spare there can = search (arith, flush_few)
 
@@ -555,8 +547,7 @@ pub can_resize : {σ : Standing} {task : Task} {name n heap size align : ℕ} (c
     → CanCall σ (MayPerform σ.seat.profile c (what_of task) spare) → (m h : ℕ) → CanCall σ (MayPerform σ.seat.profile c (Remake name m h size align) spare)
 can_resize {σ} {task} {name} {n} {heap} {size} {align} c spare is can m h =
     let cost : cost_of_what (what_of task) ≡ cost_of_size size + 1 = ap (λ (t : Task). cost_of_what (what_of t)) is in
-    let room = can.met.room in
-    record { view = can.view; whole = can.whole; stood = can.stood; met = record { rest = can.met.rest; room = omega (arith, room, cost) } }
+    record { view = can.view; whole = can.whole; stood = can.stood; met = record { rest = can.met.rest; room = omega (arith, can.met.room, cost) } }
 
 -- the request is admitted in each heap of the region
 pub admitted_there : {task : Task} {name n heap size align : ℕ} (f : Profile) (limit : ℕ) (asked : List ℕ) (block : Block)
@@ -605,9 +596,8 @@ module _ (σ σ' : Standing) (c c' : Cached) (name n heap size align : ℕ) (old
           found = None;
           calls = m.calls;
           few = λ v rest agreed.
-              let none = ap (λ (ms : List Made). length (events_by k v ms)) is.no_steps in
               let owed : owed_events f c' (m.steps ++ v) ≡ owed_events f c v = rw (is.cache, is.no_steps) refl in
-              omega (arith, none, owed);
+              omega (arith, ap (λ (ms : List Made). length (events_by k v ms)) is.no_steps, owed);
           answered = λ v l stood rest names means known. by_meant names v (answer_of m.steps (Some (Said.Kept old.name name)) None (the_name name (Some old) ∷ names) c') means known
               (inl record { suited = is.suited; no_steps = is.no_steps; cache = is.cache; said_is = refl; names_are = refl });
           others = λ none. no_more (Some old) (Some old ≡ None) none;
@@ -616,8 +606,7 @@ module _ (σ σ' : Standing) (c c' : Cached) (name n heap size align : ℕ) (old
       )
 
   -- another block was given, and the old name was logged
-  pub replaced : {answer : Result Moved NoRoom} (block : Block) → answer ≡ Ok (New block) → old.heap < σ.seat.profile.heaps → CameTo answer
-      → Did (Some block) None
+  pub replaced : {answer : _} (block : Block) → answer ≡ Ok (New block) → old.heap < σ.seat.profile.heaps → CameTo answer → Did (Some block) None
   replaced block came of_region m0 =
       let m : CameTo (Ok (New block)) = subst CameTo came m0 in
       let is = m.moved in
@@ -635,11 +624,10 @@ module _ (σ σ' : Standing) (c c' : Cached) (name n heap size align : ℕ) (old
               omega (arith, is.few k v rest (agreed_later f v is.freed is.placed all), freed, events, there, ap (λ (es : List Entry). length es) is.same_log);
           answered = λ v l stood rest names means known.
               let agreed = subst (Agreed f v) is.steps_are (m.calls.adds.agreed v l stood rest) in
-              let placed : Answer = answer_of is.placed None is.found (the_name name (Some block) ∷ names) is.between in
               by_meant names v (answer_of m.steps None is.found (the_name name (Some block) ∷ names) c') means known (inr record {
                 unsuited = is.unsuited;
                 of_region = of_region;
-                placed = placed;
+                placed = answer_of is.placed None is.found (the_name name (Some block) ∷ names) is.between;
                 served = record { rest = rest; answer = Ok block; serves = is.serves; kinds = is.kinds; ends = is_given f k w c is.placed block v rest (agreed_later f v is.freed is.placed agreed) is.block_for; said_is = refl; names_are = refl };
                 freed = is.freed;
                 logged = is.logs;

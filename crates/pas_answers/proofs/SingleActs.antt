@@ -5,14 +5,15 @@ use Rattle.std.proofs.{Common.{◌/◌, ◌%◌, ◌^◌, ◌<◌}, lemmas.{List
 use Rattle.pas_profile.specs.declared.{profile.Profile.Profile, event.{Event.Event, Outcome.{Outcome, TheVariants.{Unbacked, Bare, Young, InUse, NotOffered}}}}
 use Rattle.pas_profile.specs.{declared.{word.Word.Word, name.Block.Block}, Profiles.IsValid}
 use Rattle.pas_cache.specs.Caches.{Cached}
-use Rattle.pas_answers.specs.Answers.{Caches, with_cache, Named, epoch_look, records_of, standing_for, block_of, Having, having, Answer, answer_of, named}
-use Rattle.pas_answers.specs.{Answers.{IsRemadeBy, IsAnswered}, Calls.{AreKnown, IsKnown, IsBlockOf, MayStand, what_of, block_behind, IsMeant, named_with}}
-use Rattle.pas_answers.specs.{Calls.{named_by, freed_by}, Fit.{IsFitWhat, sum_over}, TicksAndPasses.{ticking, AnswersTick, AnswersPass}, Indexes.request_made}
-use Rattle.pas_answers.specs.{Indexes.request_by, Names.{IsPackable, MayPack}, PassRecords.{record_of, records_of_pass, event_in, events_in}}
-use Rattle.pas_trace.specs.{Acts.Act, EveryPlan.{is_asked, asked_after}, declared.plan.What.{What, TheVariants.{Free, FreeSized, Remake, Alloc, Guarded, Raw}}}
-use Rattle.pas_trace.specs.{declared.plan.{What.TheVariants.{RawSized, Flush, Stop}, Task.Task, Work.Work}, Asked.{work_of, of_task, request_of, freed_of}}
+use Rattle.pas_answers.specs.Answers.{Named, epoch_look, records_of, standing_for, block_of, Having, having, Answer, answer_of, named, IsRemadeBy, IsAnswered}
+use Rattle.pas_answers.specs.{Answers.{Caches, with_cache}, Calls.{IsKnown, IsBlockOf, MayStand, what_of, block_behind, IsMeant, named_by, AreKnown}}
+use Rattle.pas_answers.specs.{Calls.{named_with, freed_by}, Fit.{IsFitWhat, sum_over}, Indexes.{request_made, request_by}, PassRecords.record_of}
+use Rattle.pas_answers.specs.{PassRecords.{records_of_pass, event_in, events_in}, TicksAndPasses.{ticking, AnswersTick, AnswersPass}, Names.IsPackable}
+use Rattle.pas_answers.specs.Names.{MayPack}
+use Rattle.pas_trace.specs.{Acts.Act, EveryPlan.{asked_after, is_asked}, declared.plan.What.{What, TheVariants.{Free, FreeSized, Remake, Alloc, Guarded, Raw}}}
+use Rattle.pas_trace.specs.{declared.plan.{What.TheVariants.{RawSized, Stop, Flush}, Task.Task, Work.Work}, Asked.{work_of, request_of, of_task, freed_of}}
 use Rattle.pas_records.specs.declared.record.{Record.Record, Said.Said}
-use Rattle.pas_steps.specs.{Calls.Calls, Clear.HasNothing, Kinds.LookEpoch, Desks.{Standing, Makes, made}, Events.events_by, Views.View}
+use Rattle.pas_steps.specs.{Calls.Calls, Clear.HasNothing, Kinds.LookEpoch, Desks.{Standing, made, Makes}, Events.events_by, Views.View}
 use Rattle.pas_steps.{specs.declared.step.{Step.TheVariants.{Look, Tick}, Made.Made}, proofs.{Called.{call_none, call_step}, Calls.does_idly}}
 use Rattle.pas_steps.proofs.Nothing.{nothing_still}
 use Rattle.pas_scavenger.{specs.{Pages.unback_of, Passes.{unbacks_in, Passes}}, proofs.Examinations.one_unback}

@@ -4,25 +4,25 @@ use Rattle.std.proofs.Common.{append_assoc, append-nil, map, reverse, ◌*◌, �
 use Rattle.std.{proofs.{lemmas.{List.{length-reverse, length-map}, Option.same_Some}, Math.{Seq.drop-append_seam, Nat.zero-mod}}, specs.List.AllByRecursion}
 use Rattle.pas_profile.specs.declared.{event.Event.Event, name.Block.Block, directory.{Directory.Directory, Route.Route}, profile.Profile.Profile}
 use Rattle.pas_profile.{specs.{declared.guard.Guard.Guard, Blocks.{address_of, grain_of, length_of}, Classes.IsAlignment}, proofs.Lists.{all_both, all_map}}
-use Rattle.pas_steps.specs.{declared.step.{Made.Made, Step.{Step, TheVariants.Deed}}, Views.{View, KnowsDeed}, Events.{events_of, events_by}, Lists.Whole}
-use Rattle.pas_steps.specs.{Noted.ShowsRest, Agreement.Agreed, Calls.Calls, Unknown.unknown_pages, Desks.{Standing, triples, CanCall, Adds, Seat}, Kinds.Only}
-use Rattle.pas_steps.{specs.Kinds.{returning, kind_of, is_in}, proofs.{Frames.{events_split, events_append, knows_still}, Noting.rest_more}}
-use Rattle.pas_steps.proofs.{Adding.{agreed_first, agreed_later}, Apart.{no_events, events_same}, Called.{call_then, next_call}, Events.{ComesOf, comes_of}}
-use Rattle.pas_steps.proofs.{Events.each_event, Past.always_pair, SpareRoom.{Spares, spare_falls}, Unknown.unknown_no_more}
+use Rattle.pas_steps.specs.{declared.step.{Made.Made, Step.{Step, TheVariants.Deed}}, Views.{View, KnowsDeed}, Events.{events_by, events_of}, Lists.Whole}
+use Rattle.pas_steps.specs.{Agreement.Agreed, Calls.Calls, Unknown.unknown_pages, Desks.{Standing, triples, CanCall, Seat, Adds}, Kinds.{Only, returning}}
+use Rattle.pas_steps.{specs.{Kinds.{kind_of, is_in}, Noted.ShowsRest}, proofs.{Frames.{events_append, events_split, knows_still}, Adding.agreed_first}}
+use Rattle.pas_steps.proofs.{Adding.agreed_later, Called.{call_then, next_call}, SpareRoom.{Spares, spare_falls}, Unknown.unknown_no_more, Noting.rest_more}
+use Rattle.pas_steps.proofs.{Apart.{no_events, events_same}, Events.{ComesOf, comes_of, each_event}, Past.always_pair}
 use Rattle.pas_trace.{specs.{declared.{plan.What.What, item.Request.Request}, Reasons.cost_of_size}, proofs.Costs.large_cost}
-use Rattle.pas_cache.{specs.{Caches.{Cached, AtRest}, Serves.{Wanted, wanted_for, pages_of, IsPreparing, IsDeedOf}}, proofs.Routes.{is_large, pages_asked}}
+use Rattle.pas_cache.{specs.{Caches.{Cached, AtRest}, Serves.{Wanted, wanted_for, pages_of, IsDeedOf, IsPreparing}}, proofs.Routes.{is_large, pages_asked}}
 use Rattle.pas_cache.proofs.Routes.{backs_only, deed_prepares}
-use Rattle.pas_answers.specs.{Answers.{records_of, said_by, wanted_by, IsGiven}, Calls.{PerformsMeant, MayAnswer, AnswersMeant, IsBlockOf, MayStand}}
-use Rattle.pas_answers.specs.{Guarding.{said_of_guard, TryEnds, try_steps, IsTried}, Keeping.{owed_by_keeper, MayTry, cost_of_try, TriesRequest, LowersAll}}
-use Rattle.pas_large.{proofs.{Finds.{of_directory, MadeOf}, Claims.{in_parts, span_in}, Gives.{run_is, back_events}}, specs.Claims.in_span}
-use Rattle.pas_guard.{proofs.Raises.{fits_find, raised_backs, raised_few, raised_leaves}, specs.{Books.{FitsBook, guards_in, size_of_book}, Seeks.seeking}}
-use Rattle.pas_guard.specs.{Raises.{RaiseRoom, RaiseSteps, Raises, IsRaised}, Sweeps.{is_over, sweeping, SweptOne, Swept, SweepSteps, Sweeps}}
+use Rattle.pas_answers.specs.{Answers.{records_of, said_by, wanted_by, IsGiven}, Calls.{PerformsMeant, IsBlockOf, MayStand, MayAnswer, AnswersMeant}}
+use Rattle.pas_answers.specs.{Guarding.{said_of_guard, try_steps, IsTried, TryEnds}, Keeping.{owed_by_keeper, MayTry, cost_of_try, TriesRequest, LowersAll}}
+use Rattle.pas_guard.{proofs.Raises.{raised_backs, raised_leaves, fits_find, raised_few}, specs.{Seeks.seeking, Raises.{RaiseSteps, IsRaised, RaiseRoom}}}
+use Rattle.pas_guard.specs.{Raises.Raises, Sweeps.{is_over, sweeping, SweptOne, Swept, SweepSteps, Sweeps}, Books.{FitsBook, guards_in, size_of_book}}
 use Rattle.pas_guard.specs.declared.book.GuardBook.{GuardBook}
-use Rattle.pas_bits.specs.Runs.{in_run}
-use Rattle.pas_bitfit.proofs.Aligned.{stands_aligned}
 use Rattle.pas_scan.specs.Runs.{large_directory}
 use Rattle.pas_rights.specs.Gives.{give_steps}
 use Rattle.pas_records.specs.{Rooms.{records_in, room_of, Records}, declared.record.{Record.Record, Said.Said}}
+use Rattle.pas_large.{proofs.{Finds.{of_directory, MadeOf}, Claims.{in_parts, span_in}, Gives.{run_is, back_events}}, specs.Claims.in_span}
+use Rattle.pas_bits.specs.Runs.{in_run}
+use Rattle.pas_bitfit.proofs.Aligned.{stands_aligned}
 
 -- ---- what the desk shows
 -- the events shown are those of each view, of which n were forgotten
@@ -149,19 +149,16 @@ sweep_call : {σ σ' : Standing} {all : Bool} {guards guards' : List Guard} {sai
     → Calls σ σ' (FitsBook σ.seat.profile guards) (λ v w. FitsBook σ.seat.profile guards' w) s.steps
 sweep_call s = record { adds = s.adds; leads = s.sweep.fits }
 
-sweep_silent : {σ σ' : Standing} {all : Bool} {guards guards' : List Guard} {said said' : List Record} → (s : Sweeps all guards guards' said said' σ σ')
-    → (k : ℕ) (v : View) → events_by k v s.steps ≡ []
+sweep_silent : {σ σ' all guards guards' said said' : _} → (s : Sweeps all guards guards' said said' σ σ') → (k : ℕ) (v : View) → events_by k v s.steps ≡ []
 sweep_silent s k v = no_events sweeping refl k v s.steps s.sweep.kinds
 
 -- A sweep leaves no more guards up than before.
-pub fewer_up : {σ σ' : Standing} {all : Bool} {guards guards' : List Guard} {said said' : List Record} → Sweeps all guards guards' said said' σ σ'
-    → length guards' ≤ length guards
+pub fewer_up : {σ σ' all guards guards' said said' : _} → Sweeps all guards guards' said said' σ σ' → length guards' ≤ length guards
 fewer_up {σ} {all = all} {guards = guards} {guards' = guards'} s = let count = swept_count all σ.seat.actor guards guards' s.more s.steps s.sweep.swept in omega (arith, count)
 
 -- ---- the close
-pub lowers_all : {σ σ' : Standing} {book book' : GuardBook} {out out' : Records}
-    → Sweeps true (guards_in book) (guards_in book') (records_in out) (records_in out') σ σ' → room_of out' ≡ room_of out
-    → size_of_book book' ≡ size_of_book book → LowersAll book book' out out' σ σ'
+pub lowers_all : {σ σ' book book' out out' : _} → Sweeps true (guards_in book) (guards_in book') (records_in out) (records_in out') σ σ'
+    → room_of out' ≡ room_of out → size_of_book book' ≡ size_of_book book → LowersAll book book' out out' σ σ'
 lowers_all {σ} {book = book} {book' = book'} s room size =
     let gone = all_gone σ.seat.actor (guards_in book) (guards_in book') s.more s.steps s.sweep.swept in
     record {
@@ -314,8 +311,7 @@ ends_by f k n r guards guards' steps v (Some block) is large alignment raise fit
     (some_ends f r.heap n guards guards' steps block raise k r.align v fits agreed (stands_so f r.heap n guards guards' steps block raise r.align alignment))
 
 -- ---- what may come after the sweep
-pub can_sweep : {σ : Standing} {book : GuardBook} {size spare : ℕ} {out : Records} → CanCall σ (MayTry σ.seat.profile book size spare out)
-    → CanCall σ (FitsBook σ.seat.profile (guards_in book))
+pub can_sweep : {σ book size spare out : _} → CanCall σ (MayTry σ.seat.profile book size spare out) → CanCall σ (FitsBook σ.seat.profile (guards_in book))
 can_sweep can = record { view = can.view; whole = can.whole; stood = can.stood; met = can.met.fits }
 
 module _ {σ σ1 : Standing} {said said' : List Record} {guards1 : List Guard} (book : GuardBook) (size spare spare1 : ℕ) (out : Records)
@@ -331,13 +327,12 @@ module _ {σ σ1 : Standing} {said said' : List Record} {guards1 : List Guard} (
       let none = ap (λ (es : List Event). length es) (sweep_silent s σ.seat.actor can.view) in
       let left = spare_falls {C = FitsBook σ.seat.profile (guards_in book)} spare spare1 0 s.adds fit law law1 none in
       let unknown = unknown_no_more σ.seat.profile s.steps can.view agreed in
-      let room = can.met.room in
       let cost = cost_wanted size n is large in
       record {
         view = s.steps ++ can.view;
         whole = triples σ.seat.actor s.steps ++ can.whole;
         stood = s.adds.added can.view can.whole can.stood can.met.fits;
-        met = rw s.adds.seat_is (record { fits = s.sweep.fits.from can.view can.met.fits agreed; room = omega (arith, left, unknown, room, cost) });
+        met = rw s.adds.seat_is (record { fits = s.sweep.fits.from can.view can.met.fits agreed; room = omega (arith, left, unknown, can.met.room, cost) });
       }
 
 -- ---- what both calls come to

@@ -1,25 +1,25 @@
 -- Actors on a bench: they sit down with their passes, stand still while another one acts, and leave; and a thread with its keeper on the bench of both.
 use Rattle.std.proofs.Common.{arith, ◌≡◌, ◌≢◌, ◌==◌, ℕ, Bool, true, false, if◌then◌else◌, inl, inr, List, [], ◌∷◌, ◌++◌, refl, ap, sym, ◌∙◌, subst, append-nil}
 use Rattle.std.proofs.{Common.{eq-eqb, ne_eqb, true≢false, ◌+◌, Option, Some, None, eqb-true, ⊎_elim, ◌⊎◌}, lemmas.{Option.same_Some, Bool.cases_eq}}
-use Rattle.pas_steps.specs.{Calls.Calls, Lists.{Whole, part}, Views.View, Noted.room_of_notes, Desks.{Standing, triple, triples}, declared.step.Made.Made}
-use Rattle.pas_steps.proofs.Parts.{part_of_own, part_of_others}
-use Rattle.pas_profile.specs.declared.{profile.Profile.Profile, name.Block.Block}
+use Rattle.pas_steps.specs.{Calls.Calls, Noted.room_of_notes, Desks.{triple, Standing, triples}, Lists.{Whole, part}, Views.View, declared.step.Made.Made}
+use Rattle.pas_steps.proofs.Parts.{part_of_others, part_of_own}
+use Rattle.pas_profile.specs.declared.profile.Profile.{Profile}
 use Rattle.pas_core.proofs.Choosing.{part_of_chosen}
-use Rattle.pas_shared.specs.Ruled.{among, made_in, HasRow, entries_by, rows_of, rows_of_only, isnt, only_this, all_actors, steps_of, IsRowOf, AreRowsOf}
+use Rattle.pas_shared.specs.Ruled.{among, made_in, rows_of, rows_of_only, isnt, only_this, all_actors, steps_of, IsRowOf, AreRowsOf, HasRow, entries_by}
 use Rattle.pas_shared.specs.Benches.{rows_on, first_row, row_on, seat_of_member, IsBenchOf, IsMemberOf, IsFreshRow, HasLooked, SitsInRow, MaySitOn, StandsOver}
-use Rattle.pas_shared.specs.{Benches.{home_of, standing_on, empty_row}, Ledgers.part_of, Passes.{seat_of, view_of, IsPassOf}, declared.bench.Bench.Bench}
+use Rattle.pas_shared.specs.{Benches.{standing_on, empty_row, home_of}, Ledgers.part_of, Passes.{seat_of, view_of, IsPassOf}, declared.bench.Bench.Bench}
 use Rattle.pas_shared.specs.declared.{bench.Member.Member, pass.SharedPass.SharedPass, region.SharedRegion.SharedRegion, rule.{Entry.Entry, Row.Row}}
-use Rattle.pas_shared.{specs.declared.bench_desk.BenchDesk.BenchDesk, proofs.{Benching.{among_picked, row_since, stands_first}, Ruling.part_both}}
-use Rattle.pas_acts.specs.{Works.{Sits, Later, Keeps, ThreadAt}, Keepers.{keeper_has, KeeperAt, KeeperTries, LaterKept, StandsAt, StandsStill, Keeping}}
-use Rattle.pas_acts.specs.{Keepers.OneKeeper, Pairs.{KeeperWaits, KeptPushed, PairAt, PairWorks}, declared.names.NameBook.NameBook}
-use Rattle.pas_threads.specs.{Left.{IsSeated, KeepsOrder, standing_beside, keeper_actors, pair_in, HasLeft}, Hands.{standing_of_pass, HasPass, Did, kept_by}}
-use Rattle.pas_threads.specs.{Still.stays_beside, declared.{keeper.{Seated.Seated, Keeper.Keeper}, workers.Worker.Worker}, Pairs.{IsKeeperOf, kept_by_worker}}
-use Rattle.pas_threads.specs.{Pairs.{kept_seated, MayDoPhase}, Seats.{keeper_parts, rows_without_keeper, seated_actors, IsSameKeeper, SitsBeside}}
-use Rattle.pas_threads.specs.Seats.{KeeperMayLeave, IsPassOfMember, HasRisen, PairSits, PairRose, IsAnother, KeeperSits}
-use Rattle.pas_trace.specs.{declared.{item.Request.Request, plan.Op.Op}, Acts.{Act, own_acts}}
+use Rattle.pas_shared.{specs.declared.bench_desk.BenchDesk.BenchDesk, proofs.{Benching.{among_picked, stands_first, row_since}, Ruling.part_both}}
+use Rattle.pas_acts.specs.{Works.{Later, Sits, Keeps, ThreadAt}, Keepers.{keeper_has, KeeperAt, LaterKept, StandsStill, Keeping, OneKeeper, KeeperTries}}
+use Rattle.pas_acts.specs.{Keepers.StandsAt, Pairs.{KeeperWaits, PairWorks, PairAt}}
+use Rattle.pas_threads.specs.{Left.{KeepsOrder, keeper_actors, pair_in, HasLeft, IsSeated, standing_beside}, Hands.{standing_of_pass, HasPass, Did, kept_by}}
+use Rattle.pas_threads.specs.{declared.{keeper.{Seated.Seated, Keeper.Keeper}, workers.Worker.Worker}, Pairs.{IsKeeperOf, kept_by_worker, kept_seated}}
+use Rattle.pas_threads.specs.{Pairs.MayDoPhase, Seats.{keeper_parts, seated_actors, PairSits, PairRose, IsAnother, KeeperSits, rows_without_keeper}}
+use Rattle.pas_threads.specs.{Seats.{IsSameKeeper, SitsBeside, KeeperMayLeave, IsPassOfMember, HasRisen}, Still.stays_beside}
 use Rattle.pas_guard.specs.declared.book.GuardBook.{GuardBook}
 use Rattle.pas_answers.{specs.{Answers.Progress, Guarding.after_trying}, proofs.Reached.goes_on}
-use Rattle.pas_records.specs.{Rooms.Records, declared.record.Record.Record}
+use Rattle.pas_trace.specs.Acts.{Act, own_acts}
+use Rattle.pas_records.specs.Rooms.{Records}
 
 -- ---- what rows say of a list
 -- of each of its actors the list has what the row says
@@ -68,10 +68,7 @@ entries_are k (m ∷ v) = ap (λ (l : Whole). triple k m ∷ l) (entries_are k v
 
 -- in a row by itself
 pub has_seat : (pass : SharedPass) (rs : List Row) → HasRow (rows_of (part_of pass ∷ []) ++ rs) pass.place.actor (view_of pass)
-has_seat pass rs =
-    let k = pass.place.actor in
-    let v = view_of pass in
-    inl (ap (λ (b : Bool). if b then true else false) (eq-eqb k k refl), ap (λ l. part k (l ++ [])) (entries_are k v) ∙ (part_of_own k v [] ∙ append-nil v))
+has_seat pass rs = search (arith, eq-eqb, entries_are, part_of_own, append-nil) fits 400
 
 -- A member has the seat of the pass with which it sat down.
 pub member_seat : {pass : SharedPass} {member : Member} → IsMemberOf pass member → seat_of_member member ≡ seat_of pass
@@ -121,12 +118,6 @@ left_fresh test {rs} fresh = record { actors = (first_row (rows_of_only test (re
 left_made : (test : ℕ → Bool) {rs : List Row} (k : ℕ) → IsFreshRow rs → made_in (first_row (rows_of_only test rs)) k ≡ made_in (first_row rs) k
 left_made test {rs} k fresh = cc
 
--- A member of a fresh row still sits in it after another actor left.
-left_sits : {rs : List Row} (j : ℕ) (member : Member) → IsFreshRow rs → member.actor ≢ j → SitsInRow (first_row rs) member
-    → SitsInRow (first_row (rows_of_only (isnt (only_this j)) rs)) member
-left_sits {rs} j member fresh other sits =
-    search (arith, ne_eqb, among_picked, left_made)
-
 -- ---- what the bench saw
 -- of a row that stands beside the list that was told the steps stand in the same order in the list that the bench saw at its last look
 pub keeps_order : (r : Row) (base : List Entry) (made told told' : Whole) → IsRowOf r (steps_of base) → told' ≡ made ++ told → StandsOver r told'
@@ -159,21 +150,12 @@ rose {region} {slot} Does pass left after is has same of does = record {
 }
 
 -- ---- a keeper at the desk that its thread lends it, on the bench of both
--- it stands there as it stood beside
-keeper_on : {region : SharedRegion} {b : Bench} {m : Member} {f : Profile} {k : ℕ} {book : GuardBook} {out : Records} {later : LaterKept} {p : Progress}
-    → KeeperAt f k (keeper_has (standing_beside region b m) book out) later p
-    → KeeperAt f k (keeper_has (standing_on b m) book out) later p
-keeper_on at = record { sits = sits_as refl (λ stood. (stood.1, stood.2)) at.sits; book = at.book; spare = at.spare; places = at.places }
-
 -- A keeper that stands at its own desk stands so too beside its thread, on the bench of both.
-pub keeper_beside : {region : SharedRegion} {b : Bench} {m : Member} {f : Profile} {k : ℕ} {book : GuardBook} {out : Records} {later : LaterKept} {p : Progress}
-    → MaySitOn region b m → KeeperAt f k (keeper_has (standing_on b m) book out) later p
+pub keeper_beside : {region b m f k book out later p : _} → MaySitOn region b m → KeeperAt f k (keeper_has (standing_on b m) book out) later p
     → KeeperAt f k (keeper_has (standing_beside region b m) book out) later p
 keeper_beside may at = record { sits = sits_as refl (λ stood. (may, stood.0, stood.1)) at.sits; book = at.book; spare = at.spare; places = at.places }
 
-abbrev pub tries_beside : {region now : SharedRegion} {b c : Bench} {m n : Member} {f : Profile} {k : ℕ} {r : Request} {block : Option Block}
-    {book book' : GuardBook} {out out' : Records} {later : LaterKept} {p : Progress}
-    → MaySitOn now c n
+abbrev pub tries_beside : {region now b c m n f k r block book book' out out' later p : _} → MaySitOn now c n
     → KeeperTries f k r block (keeper_has (standing_on b m) book out) (keeper_has (standing_on c n) book' out') later p
     → KeeperTries f k r block (keeper_has (standing_beside region b m) book out) (keeper_has (standing_beside now c n) book' out') later p
 tries_beside may t = record {
@@ -192,11 +174,10 @@ tries_beside may t = record {
 }
 
 -- its thread stands still meanwhile
-thread_still : {region now : SharedRegion} {b c : Bench} {who : Member} (m n : Member) {f : Profile} {k : ℕ} {r : Request} {block : Option Block}
-    {book book' : GuardBook} {out out' : Records} {later : LaterKept} {p : Progress}
+thread_still : {region now b c who : _} (m n : Member) {f k r block book book' out out' later p : _}
     → (tries : KeeperTries f k r block (keeper_has (standing_on b m) book out) (keeper_has (standing_on c n) book' out') later p)
-    → home_of now (row_on c) ≡ home_of region (row_on b) → IsBenchOf now c → rows_on c ≡ row_on c ∷ []
-    → MaySitOn region b who → StandsAt (standing_on b who) p.list → who.actor ≢ k → StandsAt (standing_beside now c who) (after_trying p k tries.tried).list
+    → home_of now (row_on c) ≡ home_of region (row_on b) → IsBenchOf now c → rows_on c ≡ row_on c ∷ [] → MaySitOn region b who
+    → StandsAt (standing_on b who) p.list → who.actor ≢ k → StandsAt (standing_beside now c who) (after_trying p k tries.tried).list
 thread_still {region} {now} {b} {c} {who} m n {k = k} {p = p} tries home of one may stood other =
     (stays_beside region now b c who p.list (after_trying p k tries.tried).list home of one tries.stands.sits.stood.1).stands (may, stood.0, stood.1)
     (ap (part who.actor) tries.moves.list_is ∙ part_of_others who.actor k tries.moves.steps p.list (λ same. other (sym same)))
@@ -207,17 +188,15 @@ abbrev pub may_sit : (desk : BenchDesk) → MaySitOn desk.region.now desk.place.
 may_sit desk = record { of = desk.of; profile = desk.profiled; one = desk.place.one; sits = desk.place.sits }
 
 -- the keeper sits there in the thread's place
-pub lent_at : {f : Profile} {k : ℕ} {later : LaterKept} {p : Progress} (desk lent : BenchDesk) (seated : Seated) → lent.place.bench ≡ desk.place.bench
-    → lent.place.member ≡ seated.member
+pub lent_at : {f k later p : _} (desk lent : BenchDesk) (seated : Seated) → lent.place.bench ≡ desk.place.bench → lent.place.member ≡ seated.member
     → KeeperAt f k (keeper_has (standing_beside desk.region.now desk.place.bench seated.member) seated.book seated.out) later p
     → KeeperAt f k (keeper_has (standing_on lent.place.bench lent.place.member) seated.book seated.out) later p
 lent_at {f} {k} {later} {p} desk lent seated bench member at =
     subst (λ (z : Bench × Member). KeeperAt f k (keeper_has (standing_on z.0 z.1) seated.book seated.out) later p) (λ i. (sym bench i, sym member i))
-    (keeper_on at)
+    (record { sits = sits_as refl (λ stood. (stood.1, stood.2)) at.sits; book = at.book; spare = at.spare; places = at.places })
 
-module _ {f : Profile} {k : ℕ} {r : Request} {block : Option Block} {later : LaterKept} {p : Progress} {book : GuardBook} {out : Records}
-    (desk lent after : BenchDesk) (seated : Seated)
-    (region : lent.region.now ≡ desk.region.now) (bench : lent.place.bench ≡ desk.place.bench) (member : lent.place.member ≡ seated.member)
+module _ {f k r block later p book out : _} (desk lent after : BenchDesk) (seated : Seated) (region : lent.region.now ≡ desk.region.now)
+    (bench : lent.place.bench ≡ desk.place.bench) (member : lent.place.member ≡ seated.member)
     (tries : KeeperTries f k r block (keeper_has (standing_on lent.place.bench lent.place.member) seated.book seated.out)
     (keeper_has (standing_on after.place.bench after.place.member) book out) later p)
     (home : home_of after.region.now (row_on after.place.bench) ≡ home_of lent.region.now (row_on lent.place.bench))
@@ -260,10 +239,9 @@ kept_actors : (keeper : Option Keeper) (seated : Option Seated) → IsSameKeeper
 kept_actors a b same = search arith
 
 -- A thread and its keeper that sat down with their passes and looked sit in one row.
-pub pair_sat : {region : SharedRegion} (pass : SharedPass) (keeper : Option Keeper) (member : Member) (seated : Option Seated) (b now : Bench)
-    → IsPassOf region pass → IsKeeperOf region keeper → IsSameKeeper keeper seated
-    → (rows_on b ≡ rows_of (part_of pass ∷ []) ++ (rows_of (keeper_parts keeper) ++ (empty_row ∷ []))) → IsSeated region now pass member → IsBenchOf region now
-    → HasLooked (rows_on b) (rows_on now) → PairSits region pass keeper now member seated
+pub pair_sat : {region : _} (pass : SharedPass) (keeper : Option Keeper) (member : Member) (seated : Option Seated) (b now : Bench) → IsPassOf region pass
+    → IsKeeperOf region keeper → IsSameKeeper keeper seated → (rows_on b ≡ rows_of (part_of pass ∷ []) ++ (rows_of (keeper_parts keeper) ++ (empty_row ∷ [])))
+    → IsSeated region now pass member → IsBenchOf region now → HasLooked (rows_on b) (rows_on now) → PairSits region pass keeper now member seated
 pair_sat {region} pass keeper member seated b now of kept same rows thread bench looked = search (arith, seated_beside, kept_actors)
 
 -- The row of a thread's pass, in front of others, says what the thread made.
@@ -309,28 +287,16 @@ module _ {region : SharedRegion} {pass : SharedPass} {keeper : Option Keeper} {b
   stand_over : StandsOver (row_on bench) p.list
   stand_over = stands_first (row_on bench) p.list sits.fresh both_parts
 
-  waits_beside : (o : Option Keeper) (s : Option Seated) → SitsBeside region bench o s → KeeperWaits f j acts (kept_by_worker o) more p
-      → KeeperWaits f j acts (kept_seated region bench s) more p
-  waits_beside a b beside wait = search (arith, member_seat, stand_over)
-
   -- A thread and its keeper that sit on one bench stand before their operations there.
   pair_at : k ≢ j → PairAt f k j acts (standing_on bench member) has (kept_seated region bench seated) later more p
-  pair_at apart = search (arith, member_seat, stand_over, waits_beside)
+  pair_at apart = search (arith, member_seat, stand_over)
 
 -- ---- both rise
-keeper_may_leave : (region : SharedRegion) (b now : Bench) (seated : Option Seated) → KeeperSits region b seated → HasLooked (rows_on b) (rows_on now)
-    → KeeperMayLeave region (first_row (rows_on now)) seated
-keeper_may_leave region b now a may looked = search (arith, still_sits)
-
-fresh_without : (seated : Option Seated) {rs : List Row} → IsFreshRow rs → IsFreshRow (rows_without_keeper seated rs)
-fresh_without a fresh = search (arith, left_fresh)
-
 sits_without : (seated : Option Seated) {rs : List Row} (member : Member) → IsFreshRow rs → IsAnother member.actor seated → SitsInRow (first_row rs) member
     → SitsInRow (first_row (rows_without_keeper seated rs)) member
-sits_without a member fresh other sits = search (arith, left_sits)
+sits_without a member fresh other sits = search (arith, ne_eqb, among_picked, left_made)
 
-made_without : (seated : Option Seated) {rs : List Row} (k : ℕ) → IsFreshRow rs
-    → made_in (first_row (rows_without_keeper seated rs)) k ≡ made_in (first_row rs) k
+made_without : (seated : Option Seated) {rs : _} (k : ℕ) → IsFreshRow rs → made_in (first_row (rows_without_keeper seated rs)) k ≡ made_in (first_row rs) k
 made_without a k fresh = search (arith, left_made)
 
 -- what both have then is what the row said before the look
@@ -350,20 +316,15 @@ module _ (region : SharedRegion) (bench looked : Bench) (member : Member) (seate
 
   -- The keeper may leave the bench first.
   pub may_leave_first : KeeperMayLeave region (first_row (rows_on looked)) seated
-  may_leave_first = keeper_may_leave region bench looked seated kept look
+  may_leave_first = search (arith, still_sits)
 
   -- The row is fresh after the keeper left.
   pub fresh_then : {rs : List Row} → rs ≡ rows_without_keeper seated (rows_on looked) → IsFreshRow rs
-  fresh_then is = subst IsFreshRow (sym is) (fresh_without seated (looked_fresh look))
+  fresh_then is = subst IsFreshRow (sym is) (search (arith, left_fresh, looked_fresh look))
 
   -- The thread still sits in the row after its keeper left.
   pub sits_then : {rs : List Row} → rs ≡ rows_without_keeper seated (rows_on looked) → SitsInRow (first_row rs) member
   sits_then is = subst (λ rs. SitsInRow (first_row rs) member) (sym is) (sits_without seated member (looked_fresh look) apart (still_sits bench looked member thread.one look thread.sits))
-
-  kept_made : (o : Option Seated) → KeeperSits region bench o → (there : Seated) → o ≡ Some there
-      → made_in (first_row (rows_on looked)) there.member.actor ≡ made_in (row_on bench) there.member.actor
-  kept_made o sits there is =
-      search (arith, looked_made)
 
   -- A pair rose once its keeper and then its thread left the bench: both have passes with what they made.
   pub pair_rose : (gone left : Bench) {keeper : Option Keeper} {pass : SharedPass} → (row_on bench).actors ≡ member.actor ∷ seated_actors seated
@@ -371,20 +332,13 @@ module _ (region : SharedRegion) (bench looked : Bench) (member : Member) (seate
       → HasRisen region (first_row (rows_on looked)) seated keeper → IsPassOfMember region (first_row (rows_on gone)) member pass → IsBenchOf region left
       → rows_on left ≡ rows_of_only (isnt (only_this member.actor)) (rows_on gone)
       → PairRose region bench member seated left pass keeper
-  pair_rose gone left actors gone_is risen own of left_is = search (arith, made_without, looked_fresh, looked_made, risen_as, kept_made, one_row)
+  pair_rose gone left actors gone_is risen own of left_is = search (arith, made_without, looked_fresh, looked_made, risen_as, one_row)
     where
       -- At the bench sit the thread and its keeper alone.
       all : all_actors (rows_on bench) ≡ member.actor ∷ seated_actors seated
       all = ap all_actors thread.one ∙ (append-nil (row_on bench).actors ∙ actors)
 
 -- ---- after their acts
--- there is a keeper still, or there is none
-same_keeper : (f : Profile) (j : ℕ) (acts : List Act) (said : List Record) (more more' : LaterKept) (p q : Progress) (region now : SharedRegion) (b c : Bench)
-    (s t : Option Seated)
-    → KeptPushed j said (kept_seated region b s) (kept_seated now c t)
-    → KeeperWaits f j acts (kept_seated region b s) more p → KeeperWaits f j [] (kept_seated now c t) more' q → seated_actors t ≡ seated_actors s
-same_keeper f j acts said more more' p q region now b c a d pushed was is = search arith
-
 keeper_sits : (f : Profile) (j : ℕ) (more : LaterKept) (p : Progress) (region : SharedRegion) (b : Bench) (s : Option Seated)
     → KeeperWaits f j [] (kept_seated region b s) more p → KeeperSits region b s
 -- With one and without one.
@@ -401,11 +355,6 @@ keeper_is : (f : Profile) (j : ℕ) (acts : List Act) (more : LaterKept) (p : Pr
     → seated_actors s ≡ keeper_actors j o
 -- With one and without one.
 keeper_is f j acts more p region b a c sits waits = search arith
-
--- A keeper that has risen has a pass of the region.
-risen_keeper_is_of_region : (region : SharedRegion) (r : Row) (t : Option Seated) (keeper : Option Keeper) → HasRisen region r t keeper
-    → IsKeeperOf region keeper
-risen_keeper_is_of_region region r a b risen = search arith
 
 -- ---- with their passes again
 thread_back : (c : Bench) {region : SharedRegion} {pass : SharedPass} {member : Member} {f : Profile} {k : ℕ} {has : Keeps} {later : Later} {q : Progress}
@@ -428,44 +377,14 @@ module _ (region was now : SharedRegion) (b c : Bench) (pass : SharedPass) (memb
       → (w : PairWorks f k j acts [] τ (standing_on c member) has has' (kept_seated was b s) (kept_seated now c t) later more p)
       → (v : PairWorks f k j acts [] σ (standing_of_pass pass) has has' (kept_by_worker o) (kept_by_worker keeper) later more p) × (v.reached ≡ w.reached)
   works_back None None None None sits risen w = (
-    record {
-      reached = w.reached;
-      reaches = w.reaches;
-      stands = record { thread = thread_back c own w.stands.thread; apart = w.stands.apart; waits = w.stands.waits };
-      said = w.said;
-      records_are = w.records_are;
-      pushed = w.pushed;
-      room = w.room;
-      kept_pushed = w.kept_pushed;
-      still = w.still;
-      each = w.each;
-      book = w.book;
-      noted = w.noted;
-      room_noted = w.room_noted;
-      paid = w.paid;
-    },
+    search (arith, thread_back) fits 400,
     refl,
   )
   works_back (Some o) (Some s) (Some t) (Some keeper) sits risen w = subst (λ (z : GuardBook × Records × GuardBook × Records).
       (v : PairWorks f k j acts [] σ (standing_of_pass pass) has has' (OneKeeper (keeper_has (standing_of_pass o.pass) z.0 z.1))
       (OneKeeper (keeper_has (standing_of_pass keeper.pass) z.2 z.3)) later more p) × (v.reached ≡ w.reached))
       (λ i. (sits.1 i, sits.2 i, sym risen.1 i, sym risen.2 i)) (
-        record {
-          reached = w.reached;
-          reaches = w.reaches;
-          stands = record { thread = thread_back c own w.stands.thread; apart = w.stands.apart; waits = (w.stands.waits.0, keeper_back c t keeper risen.0 w.stands.waits.1) };
-          said = w.said;
-          records_are = w.records_are;
-          pushed = w.pushed;
-          room = w.room;
-          kept_pushed = w.kept_pushed;
-          still = w.still;
-          each = w.each;
-          book = w.book;
-          noted = w.noted;
-          room_noted = w.room_noted;
-          paid = w.paid;
-        },
+        search (arith, thread_back, keeper_back) fits 400,
         refl,
       )
   works_back None None (Some t) keeper sits risen w = absurd w.kept_pushed
@@ -476,14 +395,12 @@ module _ (region was now : SharedRegion) (b c : Bench) (pass : SharedPass) (memb
   works_back (Some o) None t keeper sits risen w = absurd sits
 
 -- ---- a worker's operations of a phase
-pub sat_at : {region : SharedRegion} {pass : SharedPass} {keeper : Option Keeper} {bench : Bench} {member : Member} {seated : Option Seated} (desk : BenchDesk)
-    → desk.region.now ≡ region → desk.place.bench ≡ bench → desk.place.member ≡ member
+pub sat_at : {region pass keeper bench member seated : _} (desk : BenchDesk) → desk.region.now ≡ region → desk.place.bench ≡ bench → desk.place.member ≡ member
     → PairSits region pass keeper bench member seated → PairSits desk.region.now pass keeper desk.place.bench desk.place.member seated
 sat_at {pass = pass} {keeper} {seated = seated} desk region bench member sits =
     subst (λ (z : SharedRegion × Bench × Member). PairSits z.0 pass keeper z.1 z.2 seated) (λ i. (sym region i, sym bench i, sym member i)) sits
 
-module _ {region : SharedRegion} {book : NameBook} {worker : Worker} {ops : List Op} {pass : SharedPass} {keeper : Option Keeper} {seated : Option Seated}
-    (desk : BenchDesk) (is : worker.pass ≡ Some pass) (taken : keeper ≡ worker.keeper)
+module _ {region book : _} {worker : Worker} {ops pass keeper seated : _} (desk : BenchDesk) (is : worker.pass ≡ Some pass) (taken : keeper ≡ worker.keeper)
     (sits : PairSits desk.region.now pass keeper desk.place.bench desk.place.member seated) (m : MayDoPhase region book ops worker) where
   abbrev f : Profile
   f = m.profile
@@ -545,7 +462,7 @@ module _ {region : SharedRegion} {book : NameBook} {worker : Worker} {ops : List
     keeper_other = keeper_apart f other k m.more mine.reached after.region.now after.place.bench after.place.member.actor there mine.stands.thread.sits.actor mine.stands.apart mine.stands.waits
 
     same_there : seated_actors there ≡ seated_actors seated
-    same_there = same_keeper f other (own_acts k ops) mine.said m.more m.more p mine.reached desk.region.now after.region.now bench after.place.bench seated there mine.kept_pushed here.waits mine.stands.waits
+    same_there = search (arith, mine.kept_pushed, here.waits, mine.stands.waits)
 
     -- After its acts the row is still that of the thread and its keeper.
     pub actors_are : (row_on after.place.bench).actors ≡ after.place.member.actor ∷ seated_actors there
@@ -592,6 +509,6 @@ module _ {region : SharedRegion} {book : NameBook} {worker : Worker} {ops : List
           let in_order = subst (λ (q : Progress). KeepsOrder (pair_in m.threads k worker.keeper) p.list q.list (steps_of rose.base)) (sym back.1) order in
           subst DidWith taken (
             record { before = record { pass = pass; present = is; of = its }; after = record { pass = own; present = refl; of = rose.thread.of }; does = back.0 },
-            risen_keeper_is_of_region region (row_on after.place.bench) there risen rose.beside,
+            search (arith, rose.beside),
             record { bench = left; present = refl; of = rose.of; base = rose.base; rows = rose.rows; order = in_order },
           )

@@ -1,25 +1,25 @@
 -- What the actors of all workers said in a phase, or at the close: in which order it is written, that it is paid for, and how the workers rest once it is gathered.
 use Rattle.std.proofs.Common.{◌≡◌, ℕ, suc, ◌+◌, ◌<◌, ◌≤◌, List, [], ◌++◌, length, get_or, ap, sym, ◌∙◌, arith, append_assoc, length-append, ◌∷◌, Option, refl}
 use Rattle.std.proofs.{Common.{subst, zero, ◌⊎◌, inl, inr, map, drop, take, slice_index_or, drop_of_length-le, append-nil}, lemmas.List.drop_more}
-use Rattle.pas_trace.specs.{EveryPlan.{own_records, records_of_ops, all_ops}, Plans.ops_of, Acts.{own_acts, MarksPhase, MarksClose, Act, phase_acts}}
-use Rattle.pas_trace.{specs.{Acts.{close_acts, acts_of}, declared.plan.{Op.Op, Phase.Phase}}, proofs.EveryPlan.{records_both, own_both}}
-use Rattle.pas_cache.specs.{Caches.{Cached, cached}, declared.cache.ThreadCache.ThreadCache}
-use Rattle.pas_steps.specs.{Lists.{part, Whole}, Views.View}
+use Rattle.pas_trace.specs.{EveryPlan.{own_records, records_of_ops, all_ops}, Plans.ops_of, Acts.{MarksPhase, MarksClose, Act, phase_acts, close_acts, acts_of}}
+use Rattle.pas_trace.{specs.declared.plan.{Op.Op, Phase.Phase}, proofs.EveryPlan.{own_both, records_both}}
+use Rattle.pas_cache.specs.Caches.{Cached}
+use Rattle.pas_steps.specs.Lists.{part, Whole}
 use Rattle.pas_shared.specs.{declared.region.SharedRegion.SharedRegion, Ruled.IsEarlier}
-use Rattle.pas_answers.specs.{Answers.{Progress, with_records}, Calls.owed_events, Reaching.Reaches, Replays.at_start, Phases.AreInPhases, Ways.AreSpoken}
-use Rattle.pas_answers.specs.{Ways.{records_by, by_actors, OnThreads, arranged}, Stages.{itself, Stage, stage, one_by_one, phase_stages, stages_from}}
-use Rattle.pas_answers.{specs.Stages.stages_of, proofs.Reached.reach_both}
-use Rattle.pas_acts.{specs.{NameBooks.{room_for, NamesAt, requests_in}, declared.names.NameBook.NameBook}, proofs.ActsLeft.{acts_left, close_left, first_phase}}
-use Rattle.pas_acts.proofs.{ActsLeft.other_phase, PlanFacts.are_arranged, AtDesk.sits_still}
-use Rattle.pas_threads.specs.{Pairs.{no_more, owed_by_keepers, AreGuarded, owed_kept, IsLow}, Closing.{ThreadTold, KeeperTold, ClosedFirst}, Sessions.Session}
-use Rattle.pas_threads.specs.Sessions.{planned, owed_by, AreMarked, AreWritten, WorkerRests, WorkersRest, closing_acts, ScavengerRests, TeamAt, HasPlaces}
-use Rattle.pas_threads.specs.{Sessions.{HasRoom, CloseDone, PhaseAt, PhaseDone, HasReplayed, IsOfActors, StandSo, WentBy}, Turns.{said_own, said_kept}}
-use Rattle.pas_threads.specs.{Turns.{said_by_all, said_by_keepers, TookNoPart}, declared.{workers.Worker.Worker, keeper.Keeper.Keeper, phases.Team.Team}}
-use Rattle.pas_threads.{specs.declared.scavenger.Scavenger.Scavenger, proofs.TakingTurns.{IsCleared, rests_clear, WereGathered, cleared_silent, pass_still}}
-use Rattle.pas_threads.proofs.{TakingTurns.same_rests, ReadyPhases.{said_in_order, kept_in_order, kept_few, by_all, owed_less, kept_less, own_by, own_all}}
-use Rattle.pas_threads.proofs.{ReadyPhases.all_paid, Keepers.{AreAlike, alike_pushed, alike_said, guarded_alike, said_then, waits_gathered, of_gathered}}
-use Rattle.pas_threads.proofs.{Keepers.{silent_gathered, kept_still, keeper_is, owed_still, low_gathered, most_keepers}, Closing.all_acts, Dealt.some_item}
-use Rattle.pas_threads.proofs.Staging.{went_both, went_mark, in_both, unmarked, phase_unmarked, close_unmarked, earlier_both, stand_first}
+use Rattle.pas_answers.specs.{Answers.{Progress, with_records}, Calls.owed_events, Reaching.Reaches, Replays.at_start, Phases.AreInPhases, Ways.records_by}
+use Rattle.pas_answers.specs.{Ways.{by_actors, OnThreads, AreSpoken, arranged}, Stages.{Stage, one_by_one, phase_stages, stages_of, stages_from}}
+use Rattle.pas_answers.proofs.Reached.{reach_both}
+use Rattle.pas_acts.{specs.{NameBooks.{room_for, NamesAt, requests_in}, declared.names.NameBook.NameBook}, proofs.{AtDesk.sits_still, ActsLeft.acts_left}}
+use Rattle.pas_acts.proofs.{ActsLeft.{close_left, first_phase, other_phase}, PlanFacts.are_arranged}
+use Rattle.pas_threads.specs.{Pairs.{owed_by_keepers, AreGuarded, owed_kept}, Closing.{ThreadTold, KeeperTold, ClosedFirst}, Sessions.{Session, planned}}
+use Rattle.pas_threads.specs.Sessions.{owed_by, AreMarked, AreWritten, WorkerRests, WorkersRest, closing_acts, ScavengerRests, TeamAt, HasPlaces, HasRoom}
+use Rattle.pas_threads.specs.{Sessions.{PhaseAt, PhaseDone, HasReplayed, IsOfActors, StandSo, WentBy, CloseDone}, Turns.{said_own, said_kept, said_by_all}}
+use Rattle.pas_threads.specs.{Turns.{said_by_keepers, TookNoPart}, declared.{workers.Worker.Worker, keeper.Keeper.Keeper, phases.Team.Team}}
+use Rattle.pas_threads.{specs.declared.scavenger.Scavenger.Scavenger, proofs.TakingTurns.{IsCleared, rests_clear, WereGathered, cleared_silent, same_rests}}
+use Rattle.pas_threads.proofs.{ReadyPhases.{said_in_order, kept_in_order, kept_few, by_all, owed_less, kept_less, own_by, own_all, all_paid}, Keepers.AreAlike}
+use Rattle.pas_threads.proofs.Keepers.{alike_pushed, alike_said, guarded_alike, said_then, waits_gathered, of_gathered, silent_gathered, kept_still, keeper_is}
+use Rattle.pas_threads.proofs.{Keepers.{owed_still, low_gathered, most_keepers}, Closing.all_acts, Dealt.some_item, Staging.{went_both, went_mark, in_both}}
+use Rattle.pas_threads.proofs.Staging.{unmarked, phase_unmarked, close_unmarked, earlier_both, stand_first}
 use Rattle.pas_records.specs.{Rooms.{records_in, room_of, Records}, declared.record.Record.Record}
 use Rattle.pas_profile.specs.declared.profile.Profile.{Profile}
 
@@ -38,8 +38,7 @@ pub record AllTold (region : SharedRegion) (s : Session) (ops left : List Op) (s
       + (owed_by s.profile q s.threads + owed_by_keepers s.profile s.threads owing q s.threads)
       ≤ owed_by s.profile p s.threads + owed_by_keepers s.profile s.threads old p s.threads + records_of_ops (planned s) ops
 
-module _ {region : SharedRegion} {s : Session} {ops left : List Op} {said : List Record} {old new owing : List Worker} {p q : Progress}
-    (x : AllTold region s ops left said old new owing p q) where
+module _ {region s ops left said old new owing p q : _} (x : AllTold region s ops left said old new owing p q) where
   -- Each thread's records are those that it said, and each keeper's.
   own_one : (i : ℕ) (d : Worker) → i < length old → said_own (get_or new i d) ≡ records_by (suc i) said
   own_one i d lt = (x.threads i d lt).out.added ∙ ap (λ rs. rs ++ records_by (suc i) said) (x.rest.threads i d lt).said
@@ -47,11 +46,8 @@ module _ {region : SharedRegion} {s : Session} {ops left : List Op} {said : List
   kept_one : (i : ℕ) (d : Worker) → i < length old → said_kept (get_or new i d) ≡ records_by (s.threads + suc i) said
   kept_one i d lt = said_then (s.threads + suc i) said (get_or old i d).keeper (get_or new i d).keeper (x.keepers i d lt).out (x.rest.kept i d lt).silent
 
-  pub own_said : said_by_all new ≡ by_actors 1 s.threads said
-  own_said =
-      said_in_order said_own 1 new said
-      (λ i d lt. own_one i d (omega (arith, lt, x.many)) ∙ ap (λ (k : ℕ). records_by k said) (let is : suc i ≡ 1 + i = omega arith in is))
-      ∙ ap (λ (n : ℕ). by_actors 1 n said) (x.many ∙ x.rest.many)
+  own_said : said_by_all new ≡ by_actors 1 s.threads said
+  own_said = search (arith, said_in_order, own_one) fits 400
 
   -- A worker has a keeper just where it had one.
   alike : (i : ℕ) (d : Worker) → i < length old → AreAlike (get_or old i d).keeper (get_or new i d).keeper
@@ -60,15 +56,12 @@ module _ {region : SharedRegion} {s : Session} {ops left : List Op} {said : List
   guarded : AreGuarded s.keepers new
   guarded = guarded_alike old new x.many alike x.rest.guarded
 
-  pub kept_said : said_by_keepers new ≡ by_actors (s.threads + 1) s.keepers said
+  kept_said : said_by_keepers new ≡ by_actors (s.threads + 1) s.keepers said
   kept_said = kept_in_order s.threads new said guarded (λ i d lt. kept_one i d (omega (arith, lt, x.many)))
 
   kept_most : length (said_by_keepers new) ≤ length (by_actors (s.threads + 1) s.threads said)
   kept_most =
-      let few = kept_few s.threads new said guarded in
-      let size = ap (λ (n : ℕ). length (by_actors (s.threads + 1) n said)) (x.many ∙ x.rest.many) in
-      let same = ap length kept_said in
-      omega (arith, few, size, same)
+      omega (arith, kept_few s.threads new said guarded, ap (λ (n : ℕ). length (by_actors (s.threads + 1) n said)) (x.many ∙ x.rest.many), ap length kept_said)
 
   -- ---- the records
   -- there is room for all that, behind what the scavenger said
@@ -79,10 +72,7 @@ module _ {region : SharedRegion} {s : Session} {ops left : List Op} {said : List
 
     pub may_gather : length (records_in out) + (length (said_by_all new) + length (said_by_keepers new)) ≤ room_of out
     may_gather =
-        let own = ap length own_said in
-        let both = records_both (planned s) ops left in
-        let paid = x.paid in
-        omega (arith, spent, own, kept_most, paid, both, room, same)
+        omega (arith, spent, ap length own_said, kept_most, x.paid, records_both (planned s) ops left, room, same)
 
     -- .. and then for what is owed, and the operations and marks that are left
     pub room_left : (out' : Records) → records_in out' ≡ records_in out ++ (said_by_all new ++ said_by_keepers new) → room_of out' ≡ room_of out
@@ -90,12 +80,9 @@ module _ {region : SharedRegion} {s : Session} {ops left : List Op} {said : List
         (owed_by s.profile q s.threads + owed_by_keepers s.profile s.threads owing q s.threads + records_of_ops (planned s) left + marks)
         ≤ room_of out'
     room_left out' pushed size =
-        let own = ap length own_said in
         let now = ap length pushed ∙ length-append (records_in out) (said_by_all new ++ said_by_keepers new) in
         let sum = length-append (said_by_all new) (said_by_keepers new) in
-        let both = records_both (planned s) ops left in
-        let paid = x.paid in
-        omega (arith, spent, own, now, sum, kept_most, paid, both, room, same, size)
+        omega (arith, spent, ap length own_said, now, sum, kept_most, x.paid, records_both (planned s) ops left, room, same, size)
 
   -- All is written actor by actor.
   pub written : (before : List Record) (out out' : Records) → s.threads + s.keepers ≤ s.profile.threads → AreMarked s p.records before
@@ -110,12 +97,11 @@ module _ {region : SharedRegion} {s : Session} {ops left : List Op} {said : List
     records_are = x.records_are;
     written_are =
         let own = records_by 0 said in
-        let sorted = by_all s.threads s.keepers s.profile.threads said fits x.silent in
         pushed ∙ ap (λ (rs : List Record). rs ++ (said_by_all new ++ said_by_keepers new)) added
         ∙ append_assoc before own (said_by_all new ++ said_by_keepers new)
         ∙ ap (λ (rs : List Record). before ++ (own ++ (rs ++ said_by_keepers new))) own_said
         ∙ ap (λ (rs : List Record). before ++ (own ++ (by_actors 1 s.threads said ++ rs))) kept_said
-        ∙ ap (λ (rs : List Record). before ++ rs) (sym sorted);
+        ∙ ap (λ (rs : List Record). before ++ rs) (sym (by_all s.threads s.keepers s.profile.threads said fits x.silent));
   }
 
   -- ---- the workers, once that is gathered and their requests were taken over
@@ -127,10 +113,7 @@ module _ {region : SharedRegion} {s : Session} {ops left : List Op} {said : List
       let same = x.places i d lt in
       let both = own_both (planned s) (suc i) ops left in
       let owed = ap (λ (c : Cached). owed_events s.profile c (part (suc i) q.list)) t.rests.cache in
-      let spare = t.rests.spare in
-      let room = c.room in
-      let places = c.places in
-      rests_clear t c.pass c.cache c.none (omega arith) (omega (arith, spare, room, owed)) c.asked (omega (arith, was, same, both, places))
+      rests_clear t c.pass c.cache c.none (omega arith) (omega (arith, t.rests.spare, c.room, owed)) c.asked (omega (arith, was, same, both, c.places))
 
   pub rest_again : (after : List Worker) → length after ≡ length new
       → ((i : ℕ) (d : Worker) → i < length new → IsCleared (get_or new i d) (get_or after i d)) → WorkersRest region s left after q
@@ -138,16 +121,7 @@ module _ {region : SharedRegion} {s : Session} {ops left : List Op} {said : List
     many = many ∙ x.many ∙ x.rest.many;
     threads = λ i d lt. thread_clear i d (omega (arith, lt, many, x.many)) (clear i d (omega (arith, lt, many)));
     guarded = guarded_alike new after many (λ i d lt. alike_said (get_or new i d).keeper (get_or after i d).keeper (clear i d lt).keeper) guarded;
-    kept = λ i d lt.
-        let said = (clear i d (omega (arith, lt, many))).keeper in
-        let told = x.keepers i d (omega (arith, lt, many, x.many)) in
-        let mid = (get_or new i d).keeper in
-        let last = (get_or after i d).keeper in
-        record {
-          of = of_gathered region mid last said told.of;
-          waits = waits_gathered s.profile (s.threads + suc i) (own_acts (suc i) left) no_more q mid last said told.waits;
-          silent = silent_gathered mid last said;
-        };
+    kept = search (arith, of_gathered, waits_gathered, silent_gathered) fits 400;
   }
 
 -- How a replay on threads goes from phase to phase, and to its end: what stays so at another progress, the marks between phases, and the close.
@@ -158,10 +132,7 @@ scavenger_rests : {region : SharedRegion} {f : Profile} {scavenger : Scavenger} 
     → ScavengerRests region f scavenger later p → ScavengerRests region f scavenger later q
 scavenger_rests {region} {f} {scavenger} {later} {p} {q} same at = record {
   has = at.has;
-  at = record {
-    stands = record { sits = sits_still (λ (v : View). 0 + later) (pass_still at.has.pass) same at.at.stands.sits; spare = at.at.stands.spare };
-    has_places = at.at.has_places;
-  };
+  at = search (arith, sits_still) fits 400;
   said = at.said;
   none = at.none;
 }
@@ -171,8 +142,7 @@ names_at : {f : Profile} {ops : List Op} {book : NameBook} {p q : Progress} → 
 names_at {f} {ops} {book} {p} {q} same at = search arith
 
 -- ---- more records
-team_at_records : {region : SharedRegion} {s : Session} {phases : List (List Op)} {team : Team} {p : Progress} (more : List Record)
-    → TeamAt region s phases team p → TeamAt region s phases team (with_records p more)
+team_at_records : {region s phases team p : _} (more : List Record) → TeamAt region s phases team p → TeamAt region s phases team (with_records p more)
 unfolding names_at
 team_at_records more at = record {
   fit = at.fit;
@@ -230,34 +200,20 @@ marked_by : {s : Session} {records written : List Record} (mark : Record) → St
 marked_by {s} {records} {written} mark behind so more =
     let threads = s.profile.threads in
     let after = arranged OnThreads threads more in
-    let ordered = by_actors 0 (threads + 1) so.said in
     ap (arranged OnThreads threads) (append_assoc records (mark ∷ []) more)
     ∙ ap (λ (rs : List Record). arranged OnThreads threads (rs ++ mark ∷ more)) so.records_are
     ∙ ap (arranged OnThreads threads) (append_assoc so.before so.said (mark ∷ more))
     ∙ so.marked (so.said ++ mark ∷ more)
     ∙ ap (λ (rs : List Record). so.before_written ++ rs) (behind so.said more so.spoken)
-    ∙ sym (append_assoc so.before_written ordered (mark ∷ after))
+    ∙ sym (append_assoc so.before_written (by_actors 0 (threads + 1) so.said) (mark ∷ after))
     ∙ ap (λ (ws : List Record). ws ++ mark ∷ after) (sym so.written_are)
     ∙ sym (append_assoc written (mark ∷ []) after)
 
-phase_marked : {s : Session} {records written : List Record} (n : ℕ) → AreWritten s records written
-    → AreMarked s (records ++ Record.Phase n ∷ []) (written ++ Record.Phase n ∷ [])
-phase_marked {s} n so = marked_by (Record.Phase n) (λ said more spoken. (are_arranged s.profile.threads said spoken).0 n more) so
-
-close_marked : {s : Session} {records written : List Record} → AreWritten s records written
-    → AreMarked s (records ++ Record.Close ∷ []) (written ++ Record.Close ∷ [])
-close_marked {s} so = marked_by Record.Close (λ said more spoken. (are_arranged s.profile.threads said spoken).1 more) so
-
 -- where another text of the records was written
-as_marked : (s : Session) (records : List Record) {written written' : List Record} → written' ≡ written → AreMarked s records written
-    → AreMarked s records written'
+as_marked : (s : Session) (records : List Record) {written written' : _} → written' ≡ written → AreMarked s records written → AreMarked s records written'
 as_marked s records same so = subst (AreMarked s records) (sym same) so
 
 -- ---- the end
-written_whole : {s : Session} {records written : List Record} → AreWritten s records written → written ≡ arranged OnThreads s.profile.threads records
-written_whole {s} so =
-    search (arith, are_arranged)
-
 -- ---- the close
 -- Each thread was stopped, then each keeper lowered its guards; then all that was said is gathered.
 module _ {region : SharedRegion} {s : Session} {team : Team} {p : Progress} {closed : List Worker} (at : TeamAt region s [] team p)
@@ -287,10 +243,7 @@ module _ {region : SharedRegion} {s : Session} {team : Team} {p : Progress} {clo
       let less : i < length team.threads.items = omega (arith, lt, threads_are) in
       let d = some_item team.threads.items i less in
       let one = did.each i d less in
-      let paid = one.paid in
-      let kept = one.kept_paid in
-      let had = ap (λ (o : Option Keeper). owed_kept f (s.threads + suc i) o p) (keeper_is team.threads.items i d less) in
-      omega (arith, paid, kept, had))
+      omega (arith, one.paid, one.kept_paid, ap (λ (o : Option Keeper). owed_kept f (s.threads + suc i) o p) (keeper_is team.threads.items i d less)))
 
   told : AllTold region s [] [] said team.threads.items closed [] p reached
   told = record {
@@ -326,13 +279,12 @@ module _ {region : SharedRegion} {s : Session} {team : Team} {p : Progress} {clo
         let clear : (i : ℕ) (d : Worker) → i < length closed → IsCleared (get_or closed i d) (get_or gathered i d) = λ i d lt.
         let here : i < length team.threads.items = omega (arith, lt, many) in
         cleared_silent (g.each i d lt) (ap requests_in (did.each i d here).requests ∙ (at.workers.threads i d here).asked) in
-        let rest = rest_again told gathered g.many clear in
         record {
           reached = reached;
           reaches = subst (λ xs. Reaches f xs p reached) acts did.came.reaches;
           team_at = record {
             fit = at.fit;
-            workers = subst (λ ws. WorkersRest region s [] ws reached) (sym threads) rest;
+            workers = subst (λ ws. WorkersRest region s [] ws reached) (sym threads) (rest_again told gathered g.many clear);
             scavenger = subst (λ x. ScavengerRests region f x (own_records (planned s) 0 (all_ops [])) reached) (sym scavenger)
                 (scavenger_rests (no_part 0 (inl refl)).part_is at.scavenger);
             nobody = λ k far. (no_part k (inr far)).part_is ∙ at.nobody k far;
@@ -341,14 +293,8 @@ module _ {region : SharedRegion} {s : Session} {team : Team} {p : Progress} {clo
             places = places;
           };
           written_so = written told (records_in out) out out2 at.fit.fits marked (nothing_more out) g.added;
-          empty = subst (λ ws. (i : ℕ) (d : Worker) → i < length ws → (cached (get_or ws i d).cache).locals ≡ []) (sym threads)
-              (λ i d lt.
-              let here = one i d lt in
-              ap (λ (c : ThreadCache). (cached c).locals) (clear i d (omega (arith, here, many))).cache ∙ (did.each i d here).empty (omega (arith, here)));
-          low = subst (λ ws. (i : ℕ) (d : Worker) → i < length ws → IsLow (get_or ws i d).keeper) (sym threads)
-              (λ i d lt.
-              let here = one i d lt in
-              low_gathered (get_or closed i d).keeper (get_or gathered i d).keeper (clear i d (omega (arith, here, many))).keeper ((did.each i d here).low (omega (arith, here, threads_are))));
+          empty = search arith fits 400;
+          low = search (arith, low_gathered, threads_are) fits 400;
           went = subst (λ xs. WentBy s (one_by_one xs) p reached first last_seen) acts went;
         }
 
@@ -365,17 +311,6 @@ close_stages threads keepers a = search arith
 left_stages : (threads keepers n : ℕ) (phases : List (List Op)) → 1 ≤ n → stages_left threads keepers n phases ≡ stages_from threads keepers (n + 1) phases
 -- At the first place and at the others.
 left_stages threads keepers a phases b = search arith
-
--- the first phase, which has no mark, and another one
-first_stages : (threads keepers n : ℕ) (phase : List Op) (phases : List (List Op)) → n ≡ 0
-    → stages_left threads keepers n (phase ∷ phases) ≡ phase_stages threads phase ++ stages_left threads keepers (n + 1) phases
-first_stages threads keepers a phase phases is = search arith
-
-other_stages : (threads keepers n : ℕ) (phase : List Op) (phases : List (List Op)) → 1 ≤ n
-    → stages_left threads keepers n (phase ∷ phases)
-    ≡ stage (MarksPhase (n + 1) ∷ []) itself ∷ (phase_stages threads phase ++ stages_left threads keepers (n + 1) phases)
-other_stages threads keepers n phase phases some =
-    cc (left_stages threads keepers n (phase ∷ phases) some, left_stages threads keepers (n + 1) phases (omega arith))
 
 -- What follows these acts from p on, by these stages, is a replay of all. A list of these actors that begins with these steps is in phases, if it is in what follows.
 pub record Leads (s : Session) (all : List (List Op)) (acts : List Act) (stages : List Stage) (p : Progress) (so_far : Whole) : Type 0 where
@@ -403,9 +338,8 @@ pub record AfterPhases (region : SharedRegion) (s : Session) (all : List (List O
   pub stand : StandSo s so_far p.list
 
 -- Before any phase of a replay its team, its records and its ledger stand at the start.
-pub no_phase : {region : SharedRegion} {s : Session} {all : List (List Op)} {team : Team} {so_far : Whole} {out : Records} {marks : ℕ} → so_far ≡ []
-    → records_in out ≡ [] → marks ≡ length all + 1 → TeamAt region s all team at_start → HasRoom s all marks team.threads.items out at_start
-    → AfterPhases region s all 0 all team so_far out
+pub no_phase : {region s all team so_far out marks : _} → so_far ≡ [] → records_in out ≡ [] → marks ≡ length all + 1 → TeamAt region s all team at_start
+    → HasRoom s all marks team.threads.items out at_start → AfterPhases region s all 0 all team so_far out
 no_phase {region} {s} {all} {team} {so_far} {out} {marks} nothing empty is at room = record {
   p = at_start;
   team_at = at;
@@ -421,10 +355,8 @@ no_phase {region} {s} {all} {team} {so_far} {out} {marks} nothing empty is at ro
 }
 
 -- what is left begins with the next phase, or is nothing
-pub as_next : {region : SharedRegion} {s : Session} {all : List (List Op)} {team : Team} {so_far : Whole} {out : Records} (phases : List Phase) (i : ℕ)
-    (item : Phase) (ops : List Op)
-    → i < length phases → item ≡ slice_index_or phases i item → ops ≡ ops_of item
-    → AfterPhases region s all i (map ops_of (drop i phases)) team so_far out
+pub as_next : {region s all team so_far out : _} (phases : List Phase) (i : ℕ) (item : Phase) (ops : List Op) → i < length phases
+    → item ≡ slice_index_or phases i item → ops ≡ ops_of item → AfterPhases region s all i (map ops_of (drop i phases)) team so_far out
     → AfterPhases region s all i (ops ∷ map ops_of (drop (i + 1) phases)) team so_far out
 as_next {region} {s} {all} {team} {so_far} {out} phases i item ops lt is same so =
     search (arith, drop_more)
@@ -444,8 +376,7 @@ pub record BeforePhase (region : SharedRegion) (s : Session) (all : List (List O
       (phase_stages s.threads ops ++ stages_left s.threads s.keepers (n + 1) rest) p so_far
   pub stand : StandSo s so_far p.list
 
-module _ {region : SharedRegion} {s : Session} {all : List (List Op)} {n : ℕ} {ops : List Op} {rest : List (List Op)} {team : Team} {so_far : Whole}
-    {out : Records} (so : AfterPhases region s all n (ops ∷ rest) team so_far out) where
+module _ {region s all n ops rest team so_far out : _} (so : AfterPhases region s all n (ops ∷ rest) team so_far out) where
   one_more : (out' : Records) (q : Progress) → HasRoom s (ops ∷ rest) (length (ops ∷ rest) + 1) team.threads.items out' q
       → HasRoom s (ops ∷ rest) (length rest + 1 + 1) team.threads.items out' q
   one_more out' q room =
@@ -457,19 +388,21 @@ module _ {region : SharedRegion} {s : Session} {all : List (List Op)} {n : ℕ} 
 
   -- The first phase begins where the replay stands, without a mark.
   pub first_begins : n ≡ 0 → BeforePhase region s all n ops rest team so_far out
-  first_begins is = search (arith, are_none, room_without_mark, one_more, leads_as, first_phase, first_stages)
+  first_begins is = search (arith, are_none, room_without_mark, one_more, leads_as, first_phase)
 
   -- Each later phase begins once its mark is among the records.
   pub other_begins : {out' : Records} → 1 ≤ n → records_in out' ≡ records_in out ++ Record.Phase (n + 1) ∷ [] → room_of out' ≡ room_of out
       → BeforePhase region s all n ops rest team so_far out'
   other_begins {out'} some pushed size =
       let after = with_records so.p (Record.Phase (n + 1) ∷ []) in
-      let all_led = leads_as (other_phase s.threads s.keepers n ops rest some) (other_stages s.threads s.keepers n ops rest some) so.leads in
+      let all_led = leads_as (other_phase s.threads s.keepers n ops rest some)
+      (cc (left_stages s.threads s.keepers n (ops ∷ rest) some, left_stages s.threads s.keepers (n + 1) rest (omega arith))) so.leads in
       record {
         p = with_records so.p (Record.Phase (n + 1) ∷ []);
         at = record {
           team_at = team_at_records (Record.Phase (n + 1) ∷ []) so.team_at;
-          marked = as_marked s (so.p.records ++ Record.Phase (n + 1) ∷ []) pushed (phase_marked (n + 1) so.written);
+          marked = as_marked s (so.p.records ++ Record.Phase (n + 1) ∷ []) pushed
+              (marked_by (Record.Phase (n + 1)) (λ said more spoken. (are_arranged s.profile.threads said spoken).0 (n + 1) more) so.written);
           room = room_after_mark s (ops ∷ rest) (length rest + 1) team.threads.items out out' so.p (Record.Phase (n + 1)) pushed size
               (one_more out so.p so.room);
         };
@@ -484,8 +417,7 @@ module _ {region : SharedRegion} {s : Session} {all : List (List Op)} {n : ℕ} 
       }
 
 -- A phase that was done leaves the replay where the phases after it come next.
-pub phase_ends : {region : SharedRegion} {s : Session} {all : List (List Op)} {n : ℕ} {ops : List Op} {rest : List (List Op)} {team team' : Team}
-    {so_far so_far' : Whole} {out out' : Records} (so : BeforePhase region s all n ops rest team so_far out)
+pub phase_ends : {region s all n ops rest team team' so_far so_far' out out' : _} (so : BeforePhase region s all n ops rest team so_far out)
     → PhaseDone region s ops rest (length rest + 1) team' out out' so_far so_far' so.p → AfterPhases region s all (n + 1) rest team' so_far' out'
 phase_ends {region} {s} {all} {n} {ops} {rest} {team} {team'} {so_far} {so_far'} {out} {out'} so did = record {
   p = did.reached;
@@ -515,19 +447,18 @@ pub record BeforeClose (region : SharedRegion) (s : Session) (all : List (List O
   pub leads : Leads s all (closing_acts s.threads s.keepers) (one_by_one (closing_acts s.threads s.keepers)) p so_far
   pub stand : StandSo s so_far p.list
 
-module _ {region : SharedRegion} {s : Session} {all : List (List Op)} {n : ℕ} {team : Team} {so_far : Whole} {out : Records}
-    (so : AfterPhases region s all n [] team so_far out) where
+module _ {region s all n team so_far out : _} (so : AfterPhases region s all n [] team so_far out) where
   -- Before the close there is room for one record more.
   pub spare_for_close : length (records_in out) < room_of out
   spare_for_close = omega (arith, so.room)
 
   -- The close begins once its mark is among the records.
-  pub close_begins : {out' : Records} → records_in out' ≡ records_in out ++ Record.Close ∷ [] → room_of out' ≡ room_of out
-      → BeforeClose region s all team so_far out'
+  pub close_begins : {out' : _} → records_in out' ≡ records_in out ++ Record.Close ∷ [] → room_of out' ≡ room_of out → BeforeClose region s all team so_far out'
   close_begins {out'} pushed size = let after = with_records so.p (Record.Close ∷ []) in let all_led = leads_as (close_left s.threads s.keepers n) (close_stages s.threads s.keepers n) so.leads in record {
     p = with_records so.p (Record.Close ∷ []);
     team_at = team_at_records (Record.Close ∷ []) so.team_at;
-    marked = as_marked s (so.p.records ++ Record.Close ∷ []) pushed (close_marked so.written);
+    marked = as_marked s (so.p.records ++ Record.Close ∷ []) pushed
+        (marked_by Record.Close (λ said more spoken. (are_arranged s.profile.threads said spoken).1 more) so.written);
     room = room_after_mark s [] 0 team.threads.items out out' so.p Record.Close pushed size so.room;
     leads = record {
       reaches = λ q reaches. all_led.reaches q (after, refl, reaches);
@@ -540,8 +471,7 @@ module _ {region : SharedRegion} {s : Session} {all : List (List Op)} {n : ℕ} 
   }
 
 -- A close that was done ends the replay: all phases were replayed.
-pub close_ends : {region : SharedRegion} {s : Session} {all : List (List Op)} {team team' : Team} {so_far so_far' : Whole} {out : Records}
-    {written : List Record} (so : BeforeClose region s all team so_far out)
+pub close_ends : {region s all team team' so_far so_far' out written : _} (so : BeforeClose region s all team so_far out)
     → CloseDone region s team' written so_far so_far' so.p → HasReplayed region s all so_far' team' written
 close_ends {region} {s} {all} {team} {team'} {so_far} {so_far'} {out} {written} so did = record {
   end = did.reached;
@@ -550,7 +480,7 @@ close_ends {region} {s} {all} {team} {team'} {so_far} {so_far'} {out} {written} 
   in_phases = λ whole first of. so.leads.in_phases whole (earlier_both did.went.earlier first) of did.reached did.reaches
       (unmarked s.profile (closing_acts s.threads s.keepers) so.p did.reached did.reaches whole (close_unmarked s.threads s.keepers));
   stands = did.team_at;
-  written_are = written_whole did.written_so;
+  written_are = search (arith, are_arranged, did.written_so);
   empty = did.empty;
   low = did.low;
 }

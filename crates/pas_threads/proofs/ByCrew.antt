@@ -4,17 +4,16 @@ use Rattle.std.proofs.{Common.{drop_of_length-le, zero, suc, eq-eqb, ne_eqb}, le
 use Rattle.pas_profile.specs.declared.profile.Profile.{Profile}
 use Rattle.pas_shared.specs.{Benches.{row_on, StandsOver}, declared.{bench.Bench.Bench, bench_desk.{BenchDesk.BenchDesk, BenchHome.BenchHome}}}
 use Rattle.pas_shared.proofs.Benching.{row_tells}
-use Rattle.pas_trace.specs.{Acts.{Act, StopsIdle, idle_stops, ReadsEpoch, acts_of_chore, scavenger_acts}, Asked.work_of, EveryPlan.{AreSound, IsActorBy}}
-use Rattle.pas_trace.specs.{EveryPlan.{IsSoundWork, asked_after}, declared.plan.{Op.Op, Chore.Chore, Work.Work}}
+use Rattle.pas_trace.specs.{Acts.{Act, StopsIdle, idle_stops, acts_of_chore, scavenger_acts, ReadsEpoch}, Asked.work_of, EveryPlan.{AreSound, IsSoundWork}}
+use Rattle.pas_trace.specs.{EveryPlan.{asked_after, IsActorBy}, declared.plan.{Op.Op, Chore.Chore, Work.Work}}
 use Rattle.pas_answers.{specs.{Answers.Progress, Ways.{EachOf, records_by}, Fit.{costs_of, cost_of_act, unbacks_of_act}}, proofs.OwnRecords.records_both}
 use Rattle.pas_answers.proofs.OwnRecords.{none_by, all_by}
 use Rattle.pas_steps.{specs.{Lists.{Whole, part}, Desks.Standing}, proofs.Parts.part_of_others}
-use Rattle.pas_acts.{specs.{Works.Later, Keepers.StandsStill, AtDesks.{told_if, for_act, HasRoomAt, ScavengerActs}}, proofs.AtDesk.{sits_still, sits_for}}
+use Rattle.pas_acts.{specs.{Keepers.StandsStill, AtDesks.{told_if, for_act, HasRoomAt, ScavengerActs}}, proofs.AtDesk.{sits_still, sits_for}}
 use Rattle.pas_threads.specs.{Turns.{AreDistinct, Came, Pushed, Told, TookNoPart}, Lent.{Shift, number_in, standing_at, AreBeside, SitsLent, IsDeskAt}}
-use Rattle.pas_threads.specs.{Lent.{StopsLent, StoppedLent}, declared.workers.Worker.Worker, Hands.{and_left, ScavengerAt}, Crews.{Crew, crew, CrewStands}}
-use Rattle.pas_threads.{specs.Crews.{CrewDoes, CrewSits, CrewActs}, proofs.TakingTurns.{by_scavenger, pushed_none, pushed_both, SoFar, at_first, goes_on}}
-use Rattle.pas_threads.proofs.TakingTurns.{at_last, Stays, no_turn, no_part_both, came_none, came_both, told_none, told_both, acts_in_turn}
-use Rattle.pas_threads.proofs.CrewSits.{lent_stays}
+use Rattle.pas_threads.specs.{Lent.{StopsLent, StoppedLent}, declared.workers.Worker.Worker, Crews.{Crew, crew, CrewSits, CrewActs, CrewStands, CrewDoes}}
+use Rattle.pas_threads.{specs.Hands.{and_left, ScavengerAt}, proofs.TakingTurns.{pushed_none, pushed_both, SoFar, at_first, goes_on, at_last, Stays, no_turn}}
+use Rattle.pas_threads.proofs.{TakingTurns.{no_part_both, came_none, came_both, told_none, told_both, acts_in_turn}, CrewSits.lent_stays}
 use Rattle.pas_records.specs.{Rooms.{records_in, Records}, declared.record.Record.Record}
 
 -- ---- what is said of one thread's stop
@@ -38,17 +37,14 @@ stops {h} {s} {acts} {bench} {bench'} {old} {now} {out} {out1} {out2} {p} n i d 
     let told = told_if t.stopped k in
     let theirs = told_own t.stopped k in
     let apart : AreDistinct (number_in s) (length old) = subst (AreDistinct (number_in s)) (sym size) s.distinct in
-    let by = by_scavenger k x.own told x.each (apart.threads i lt) in
+    let by = records_both 0 x.own told ∙ ap (λ (xs : List Record). xs ++ records_by 0 told) (none_by 0 k x.own x.each (λ is. (apart.threads i lt) (sym is))) in
     let both = ap length (records_both 0 so.did.turns.came.said (x.own ++ told))
     ∙ length-append (records_by 0 so.did.turns.came.said) (records_by 0 (x.own ++ told)) in
-    let long = ap length (by ∙ all_by 0 told theirs) in
-    let few = so.did.few in
-    let one = told_one t.stopped k in
     record {
       did = record {
         turns = acts_in_turn (lent_stays h.region h.row.actors s) apart theirs i d w lt many so.did.turns x t.requests t.keeper t.sits;
         told = pushed_both so.did.told (record { added = t.told.added ∙ ap (λ (rs : List Record). records_in out1 ++ rs) (sym by); room = t.told.room });
-        few = omega (arith, both, long, few, one);
+        few = omega (arith, both, ap length (by ∙ all_by 0 told theirs), so.did.few, told_one t.stopped k);
       };
       over = t.over;
     }
@@ -73,9 +69,8 @@ stops_go_on {s = s} n i d w size so lt many t =
     goes_on (StopsIdle (number_in s i) n ∷ []) (ap (idle_stops n) (drop_more s.idle i 0 (omega (arith, lt, size)))) so (stops n i d w size so.done lt many t)
 
 -- Once each lent worker had its turn, all the stops of the idle threads were done.
-pub stops_end : {h : BenchHome} {s : Shift} {bench : Bench} {old now : List Worker} {out out1 : Records} {p : Progress} (n i : ℕ) → length old ≡ length s.idle
-    → length old ≤ i → i ≤ length old → StopsSoFar h s n bench old now out out1 i p
-    → StoppedLent h s (idle_stops n s.idle) bench old now out out1 (length old) p
+pub stops_end : {h : _} {s : Shift} {bench old now out out1 p : _} (n i : ℕ) → length old ≡ length s.idle → length old ≤ i → i ≤ length old
+    → StopsSoFar h s n bench old now out out1 i p → StoppedLent h s (idle_stops n s.idle) bench old now out out1 (length old) p
 stops_end {h} {s} {bench} {old} {now} {out} {out1} {p} n i size le ge so =
     let count : i ≡ length old = omega (arith, le, ge) in
     subst (λ m. StoppedLent h s (idle_stops n s.idle) bench old now out out1 m p) count
@@ -83,15 +78,12 @@ stops_end {h} {s} {bench} {old} {now} {out} {out1} {p} n i size le ge so =
 
 -- ---- the scavenger's own act
 -- there is room for it, beside the acts that are left
-pub room_for_act : {f : Profile} {act : Act} {next : List Act} {σ : Standing} {places : ℕ} {out : Records} {later : Later} {p : Progress}
-    → unbacks_of_act f.pages act ≤ cost_of_act f.pages act → ScavengerAt f (act ∷ next) σ places out later p
-    → HasRoomAt f σ out (for_act f act (and_left f next later)) p
+pub room_for_act : {f : Profile} {act next σ places out later p : _} → unbacks_of_act f.pages act ≤ cost_of_act f.pages act
+    → ScavengerAt f (act ∷ next) σ places out later p → HasRoomAt f σ out (for_act f act (and_left f next later)) p
 room_for_act less at = let spare = at.stands.spare in record { sits = sits_for at.stands.sits (omega (arith, less)); spare = omega (arith, spare) }
 
-module _ {Lends : ℕ → Worker → Progress → Type 0} {s : Shift} {act : Act} {next : List Act} {σ σ' : Standing} {places : ℕ} {out out' : Records}
-    {lent : List Worker} {p : Progress}
-    (stays : Stays (number_in s) Lends) (at : CrewStands Lends s (act ∷ next) (crew σ lent places out) p)
-    (did : ScavengerActs s.profile act σ σ' out out' (and_left s.profile next s.own) p) where
+module _ {Lends : ℕ → Worker → Progress → Type 0} {s act next σ σ' places out out' lent p : _} (stays : Stays (number_in s) Lends)
+    (at : CrewStands Lends s (act ∷ next) (crew σ lent places out) p) (did : ScavengerActs s.profile act σ σ' out out' (and_left s.profile next s.own) p) where
   -- it leaves the lent threads where they are
   pub still_lent : AreBeside Lends s lent did.reached
   still_lent = record {
@@ -144,7 +136,6 @@ did_idle {h} {s} {next} {σ} {σ'} {places} {out} {out'} {old} {new} {p} n desk 
     let stays = lent_stays h.region h.row.actors s in
     let costs = costs_stops s.profile n s.idle next in
     let many = at.lent.many in
-    let spare = read.stands.spare in
     let longer = ap length stops.told.added ∙ length-append (records_in out) (records_by 0 stops.turns.came.said) in
     let own_part = stops.turns.leaves.parts 0 (λ i lt same. s.distinct.threads i (omega (arith, lt, many)) (sym same)) in
     record {
@@ -154,7 +145,7 @@ did_idle {h} {s} {next} {σ} {σ'} {places} {out} {out'} {old} {new} {p} n desk 
           stands = record {
             sits = sits_still (λ v. costs_of s.profile.pages next + s.own.events) (stood_still desk seat stopped.over) own_part
                 (sits_for read.stands.sits (omega (arith, costs)));
-            spare = omega (arith, longer, stops.few, spare, costs, many, stops.told.room);
+            spare = omega (arith, longer, stops.few, read.stands.spare, costs, many, stops.told.room);
           };
           has_places = at.stands.has_places;
         };

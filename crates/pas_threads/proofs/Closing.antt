@@ -1,26 +1,25 @@
 -- The close: thread by thread and keeper by keeper; and behind each of these acts the ledger takes in a pass, is settled, and gives the pass back.
 use Rattle.std.proofs.Common.{◌≡◌, ◌≢◌, ℕ, suc, ◌+◌, ◌-◌, ◌<◌, ◌≤◌, inl, inr, List, [], ◌∷◌, ◌++◌, length, set, get_or, map, Option, Some, None, refl, ap, sym}
 use Rattle.std.proofs.Common.{◌∙◌, subst, arith, length-set, get_or-set_same, get_or-set_other, length-append, take, take_all, get_or-append-add, set-set}
-use Rattle.std.proofs.{Common.append-nil, lemmas.{List.{set-get_or, get_or_default, take_more, length-map, get_or-map}, Bool.{cases_lt, cases_eq}}}
+use Rattle.std.proofs.{Common.append-nil, lemmas.{List.{set-get_or, get_or_default, length-map, get_or-map, take_more, map-append}, Bool.{cases_lt, cases_eq}}}
 use Rattle.std.proofs.Math.ListN.{get_or-append}
 use Rattle.pas_profile.specs.declared.profile.Profile.{Profile}
 use Rattle.pas_steps.{specs.Lists.{Whole, part}, proofs.Parts.part_of_others}
 use Rattle.pas_trace.{specs.{Acts.{Act, Ends, Lowers, numbers_from}, declared.plan.Op.Op}, proofs.ThreadsInOrder.numbers_count}
 use Rattle.pas_cache.specs.{Caches.{Cached, cached}, declared.cache.ThreadCache.ThreadCache}
-use Rattle.pas_shared.specs.{Ruled.{IsEarlier, HasPart, AreEarlier}, Passes.{view_of, IsPassOf}, declared.region.SharedRegion.SharedRegion}
-use Rattle.pas_shared.specs.{declared.{pass.SharedPass.SharedPass, ledger.{Ledger.Ledger, Rest.Rest}, rule.{Entry.Entry, Part.Part}}, Ledgers.so_far}
-use Rattle.pas_shared.specs.Ledgers.{looks_of, actors_in, part_of, IsSameLedger, IsRestOf}
-use Rattle.pas_answers.specs.{Answers.{Progress, Caches, Books}, Stages.{Stage, one_by_one}, Calls.owed_events, Ways.{EachOf, records_by}, Reaching.Reaches}
-use Rattle.pas_answers.proofs.OwnRecords.{records_both, all_by, none_by, spoken_piece, spoken_both}
-use Rattle.pas_acts.{specs.{AtDesks.{Here, ThreadActs}, Keepers.{KeeperHas, KeeperLowers, LaterKept}, Pairs.KeptPushed, Works.Later}, proofs.AtDesk.leaves_rest}
-use Rattle.pas_acts.proofs.{AtDesk.rests_still, Working.kept_both}
-use Rattle.pas_threads.specs.{Pairs.{no_more, kept_by_worker, owed_kept, AreGuarded, IsButKeeper, IsKeeperOf, IsLow, KeeperLowered}, Sessions.{Session, evenly}}
+use Rattle.pas_shared.specs.{Ruled.{IsEarlier, AreEarlier, HasPart}, Passes.{view_of, IsPassOf}, declared.region.SharedRegion.SharedRegion}
+use Rattle.pas_shared.specs.{declared.{pass.SharedPass.SharedPass, ledger.Ledger.Ledger, rule.{Entry.Entry, Part.Part}}, Ledgers.{so_far, looks_of, actors_in}}
+use Rattle.pas_shared.specs.Ledgers.{part_of, IsSameLedger, IsRestOf}
+use Rattle.pas_answers.specs.{Answers.{Progress, Caches, Books}, Stages.{Stage, one_by_one, stage, itself}, Calls.owed_events, Ways.{EachOf, records_by}}
+use Rattle.pas_answers.{specs.Reaching.Reaches, proofs.OwnRecords.{records_both, all_by, none_by, spoken_piece, spoken_both}}
+use Rattle.pas_acts.{specs.{AtDesks.ThreadActs, Keepers.KeeperLowers, Pairs.KeptPushed}, proofs.{AtDesk.{leaves_rest, rests_still}, Working.kept_both}}
+use Rattle.pas_threads.specs.{Pairs.{no_more, kept_by_worker, owed_kept, AreGuarded, IsKeeperOf, IsLow, KeeperLowered, IsButKeeper}, Sessions.{Session, evenly}}
 use Rattle.pas_threads.specs.{Sessions.{closing_acts, StandSo, WentBy, WorkersRest}, Settling.{ActorsStand, Settled, StandsIn}, Hands.HasPass, Kits.with_keeper}
-use Rattle.pas_threads.specs.{Closing.{ThreadTold, KeeperTold, IsClosing, ClosedFirst, ClosesNext, ClosedSo}, Turns.{Came, Pushed, Turn, TookTurns, IsDue}}
+use Rattle.pas_threads.specs.{Closing.{ThreadTold, KeeperTold, ClosedFirst, ClosesNext, ClosedSo, IsClosing}, Turns.{Came, Pushed, Turn, TookTurns, IsDue}}
 use Rattle.pas_threads.{specs.{Turns.owed_at, declared.{keeper.Keeper.Keeper, workers.Worker.Worker}}, proofs.{Dealt.{number_at, some_item}, Staging.still_at}}
-use Rattle.pas_threads.proofs.{Staging.{thread_stands, keeper_stands, went_none, went_both, went_alone, one_by_one_both}, Keepers.{alike_same, alike_pushed}}
-use Rattle.pas_threads.proofs.{Keepers.{guarded_alike, waits_still, kept_none}, TakingTurns.{set_each, came_none, came_both, pushed_none, pushed_both}}
-use Rattle.pas_threads.proofs.TakingTurns.{no_part_both, pass_still, same_owed}
+use Rattle.pas_threads.proofs.{Staging.{thread_stands, keeper_stands, went_none, went_both, went_alone}, Keepers.{alike_same, alike_pushed, guarded_alike}}
+use Rattle.pas_threads.proofs.{Keepers.{waits_still, kept_none}, TakingTurns.{set_each, came_none, came_both, pushed_none, pushed_both, no_part_both}}
+use Rattle.pas_threads.proofs.TakingTurns.{pass_still, same_owed}
 use Rattle.pas_records.specs.{Rooms.{records_in, room_of}, declared.record.Record.Record}
 
 -- ---- all actors stand after turns of the threads
@@ -50,8 +49,7 @@ record ActorDid (f : Profile) (k : ℕ) (act : Act) (p : Progress) : Type 0 wher
   books : (j : ℕ) → j ≢ k → came.reached.books j ≡ p.books j
   names : came.reached.names ≡ p.names
 
-abbrev thread_did : {f : Profile} {k : ℕ} {act : Act} {old new : Here} {later : Later} {p : Progress} → ThreadActs f k (act ∷ []) [] [] old new later p
-    → ActorDid f k act p
+abbrev thread_did : {f k act old new later p : _} → ThreadActs f k (act ∷ []) [] [] old new later p → ActorDid f k act p
 thread_did {p = p} x =
     let leaves = leaves_rest x in
     record {
@@ -63,8 +61,7 @@ thread_did {p = p} x =
       names = leaves.names;
     }
 
-abbrev keeper_did : {f : Profile} {k : ℕ} {old new : KeeperHas} {later : LaterKept} {p : Progress} → KeeperLowers f k old new later p
-    → ActorDid f k (Lowers k) p
+abbrev keeper_did : {f k old new later p : _} → KeeperLowers f k old new later p → ActorDid f k (Lowers k) p
 keeper_did {k = k} {p = p} y = record {
   came = record { reached = y.reached; reaches = y.reaches; said = y.said; records_are = y.records_are };
   each = y.each;
@@ -104,8 +101,7 @@ closing_many : (threads keepers : ℕ) → length (closing_acts threads keepers)
 closing_many threads keepers =
     let first = length-map (numbers_from 1 threads) Ends ∙ numbers_count 1 threads in
     let second = length-map (numbers_from (threads + 1) keepers) Lowers ∙ numbers_count (threads + 1) keepers in
-    let both = length-append (map Ends (numbers_from 1 threads)) (map Lowers (numbers_from (threads + 1) keepers)) in
-    omega (arith, first, second, both)
+    omega (arith, first, second, length-append (map Ends (numbers_from 1 threads)) (map Lowers (numbers_from (threads + 1) keepers)))
 
 -- Once each place had its turn all acts are done.
 pub all_acts : (threads keepers i : ℕ) → threads + keepers ≤ i → take i (closing_acts threads keepers) ≡ closing_acts threads keepers
@@ -116,8 +112,7 @@ thread_act threads keepers i lt =
     let ks = numbers_from 1 threads in
     let many = closing_many threads keepers in
     let count = numbers_count 1 threads in
-    let size = length-map ks Ends in
-    let is = get_or-append (map Ends ks) (map Lowers (numbers_from (threads + 1) keepers)) (Ends 0) i (omega (arith, lt, count, size))
+    let is = get_or-append (map Ends ks) (map Lowers (numbers_from (threads + 1) keepers)) (Ends 0) i (omega (arith, lt, count, length-map ks Ends))
     ∙ get_or-map Ends ks i 0 (Ends 0) (omega (arith, lt, count)) ∙ ap Ends (number_at 1 threads i lt ∙ (let one : 1 + i ≡ suc i = omega arith in one)) in
     take_more (closing_acts threads keepers) i (Ends 0) (omega (arith, lt, many)) ∙ ap (λ act. take i (closing_acts threads keepers) ++ act ∷ []) is
 
@@ -127,10 +122,9 @@ keeper_act threads keepers j lt =
     let ks = numbers_from (threads + 1) keepers in
     let ends = map Ends (numbers_from 1 threads) in
     let many = closing_many threads keepers in
-    let count = numbers_count (threads + 1) keepers in
     let size : length ends ≡ threads = length-map (numbers_from 1 threads) Ends ∙ numbers_count 1 threads in
     let is = ap (λ n. get_or (closing_acts threads keepers) (n + j) (Ends 0)) (sym size) ∙ get_or-append-add ends (map Lowers ks) j (Ends 0)
-    ∙ get_or-map Lowers ks j 0 (Ends 0) (omega (arith, lt, count))
+    ∙ get_or-map Lowers ks j 0 (Ends 0) (omega (arith, lt, numbers_count (threads + 1) keepers))
     ∙ ap Lowers (number_at (threads + 1) keepers j lt ∙ (let at : threads + 1 + j ≡ threads + suc j = omega arith in at)) in
     take_more (closing_acts threads keepers) (threads + j) (Ends 0) (omega (arith, lt, many)) ∙ ap (λ act. take (threads + j) (closing_acts threads keepers) ++ act ∷ []) is
 
@@ -182,16 +176,7 @@ module _ {region : SharedRegion} {s : Session} {i : ℕ} {old now : List Worker}
         spoken = so.spoken;
         each = λ j d lt.
             let one = so.each j d lt in
-            record {
-              thread = one.thread;
-              keeper = one.keeper;
-              requests = one.requests;
-              paid = one.paid;
-              kept_paid = one.kept_paid;
-              empty = λ less. one.empty (omega (arith, lt, le, threads));
-              low = λ less. subst IsLow (sym (gone j d lt)) tt;
-              left = λ from. one.left (omega (arith, from));
-            };
+            search arith fits 400;
         others = λ k other. so.others k (λ m less there. other m (omega (arith, less)) there);
         names = so.names;
       }
@@ -209,16 +194,12 @@ module _ {region : SharedRegion} {s : Session} {i : ℕ} {old now : List Worker}
         let apart : suc j ≢ k = λ is. thread (omega (arith, is, at)) in
         let away : s.threads + suc j ≢ k = λ is. keeper (omega (arith, is, at)) in
         let own = ap length (said_other x so.came.said (suc j) apart) in
-        let its = ap length (said_other x so.came.said (s.threads + suc j) away) in
-        let owed = same_owed s.profile q x.came.reached (suc j) (x.parts (suc j) apart) (x.caches (suc j) apart) in
-        let paid = one.paid in
-        let kept_paid = one.kept_paid in
         record {
           thread = thread_stays x (suc j) apart one.thread;
           keeper = keeper_stays x (suc j) away one.keeper;
           requests = one.requests;
-          paid = omega (arith, own, owed, paid);
-          kept_paid = omega (arith, its, kept_paid);
+          paid = omega (arith, own, same_owed s.profile q x.came.reached (suc j) (x.parts (suc j) apart) (x.caches (suc j) apart), one.paid);
+          kept_paid = omega (arith, ap length (said_other x so.came.said (s.threads + suc j) away), one.kept_paid);
           empty = λ less. one.empty (omega (arith, less, thread));
           low = λ less. one.low (omega (arith, less, keeper));
           left = λ from. one.left (omega (arith, from));
@@ -247,27 +228,20 @@ module _ {region : SharedRegion} {s : Session} {i : ℕ} {old now : List Worker}
   thread_closes d w threads lt many t none =
       let x = t.did.does in
       let did = thread_did x in
-      let place : i < length now = omega (arith, lt, many) in
       let acts = thread_act s.threads s.keepers i (omega (arith, lt, threads)) in
-      let there : i < s.threads + s.keepers = omega (arith, lt, threads) in
       let all = so.came.said ++ x.own in
       let this : (e : Worker) → IsClosing region s (i + 1) i all (get_or old i e) w p x.reached = λ e.
       let one = so.each i e lt in
-      let same = get_or_default now i d e place in
+      let same = get_or_default now i d e (omega (arith, lt, many)) in
       let keeper : w.keeper ≡ (get_or now i e).keeper = t.keeper ∙ ap (λ (v : Worker). v.keeper) same in
       let away : s.threads + suc i ≢ suc i = λ is. omega (arith, is, lt, threads) in
       let pushed : Pushed (suc i) x.own (get_or now i d).out w.out =
       record { added = x.pushed ∙ ap (λ rs. records_in (get_or now i d).out ++ rs) (sym (all_by (suc i) x.own x.each)); room = x.room } in
       let longer = ap length (records_both (suc i) so.came.said x.own) ∙ length-append (records_by (suc i) so.came.said) (records_by (suc i) x.own) in
-      let mine = ap length (all_by (suc i) x.own x.each) in
       let then : owed_at s.profile (suc i) x.reached ≡ owed_events s.profile (cached w.cache) (part (suc i) x.reached.list) =
       ap (λ (c : Cached). owed_events s.profile c (part (suc i) x.reached.list)) x.stands.cache in
       let before : owed_at s.profile (suc i) q ≡ owed_events s.profile (cached (get_or now i d).cache) (part (suc i) q.list) =
       ap (λ (c : Cached). owed_events s.profile c (part (suc i) q.list)) (so.each i d lt).thread.here.rests.cache in
-      let paid = x.paid in
-      let had = one.paid in
-      let its = ap length (said_other did so.came.said (s.threads + suc i) away) in
-      let kept_paid = one.kept_paid in
       record {
         thread = record {
           here = record { has = t.did.after; rests = x.stands };
@@ -275,14 +249,14 @@ module _ {region : SharedRegion} {s : Session} {i : ℕ} {old now : List Worker}
         };
         keeper = subst (λ (o : Option Keeper). KeeperTold region s [] (suc i) all (get_or old i e).keeper o x.reached) (sym keeper) (keeper_stays did (suc i) away one.keeper);
         requests = t.requests ∙ ap (λ (v : Worker). v.requests) same ∙ one.requests;
-        paid = omega (arith, longer, mine, then, before, paid, had);
-        kept_paid = omega (arith, its, kept_paid);
+        paid = omega (arith, longer, ap length (all_by (suc i) x.own x.each), then, before, x.paid, one.paid);
+        kept_paid = omega (arith, ap length (said_other did so.came.said (s.threads + suc i) away), one.kept_paid);
         empty = λ less. none;
         low = λ less. absurd (omega (arith, less, lt, threads));
         left = λ from. keeper ∙ one.left (omega (arith, from));
       } in
       record {
-        next = closes did refl many acts there i w lt this (λ m ne less. (ne, λ is. omega (arith, is, lt, less, threads)));
+        next = closes did refl many acts (omega (arith, lt, threads)) i w lt this (λ m ne less. (ne, λ is. omega (arith, is, lt, less, threads)));
         act = Ends (suc i);
         reaches = x.reaches;
         acts_are = acts;
@@ -338,17 +312,13 @@ module _ {region : SharedRegion} {s : Session} {i : ℕ} {old now : List Worker}
         let apart : suc j ≢ k = λ is. omega (arith, is, lt, threads) in
         let changed : IsButKeeper (get_or now j e) w = subst (λ (v : Worker). IsButKeeper v w) (get_or_default now j d e place) but in
         let own = ap length (said_other x so.came.said (suc j) apart) in
-        let owes = same_owed s.profile q did.did.reached (suc j) (x.parts (suc j) apart) (x.caches (suc j) apart) in
         let size = ap length its_said in
-        let owed = ap (λ (o : Option Keeper). owed_kept s.profile k o p) (sym (one.left (omega (arith, at))) ∙ was e) in
-        let paid = one.paid in
-        let few = did.did.few in
         record {
           thread = thread_then e;
           keeper = keeper_then e;
           requests = changed.requests ∙ one.requests;
-          paid = omega (arith, own, owes, paid);
-          kept_paid = omega (arith, few, size, owed);
+          paid = omega (arith, own, same_owed s.profile q did.did.reached (suc j) (x.parts (suc j) apart) (x.caches (suc j) apart), one.paid);
+          kept_paid = omega (arith, did.did.few, size, ap (λ (o : Option Keeper). owed_kept s.profile k o p) (sym (one.left (omega (arith, at))) ∙ was e));
           empty = λ less. ap (λ (c : ThreadCache). (cached c).locals) changed.cache ∙ one.empty (omega (arith, lt, threads, at));
           low = λ less. subst IsLow (sym lowered) did.did.none;
           left = λ from. absurd (omega (arith, from, at));
@@ -385,14 +355,13 @@ unfolding closes_begin
 settles_begin {s = s} rest stand stood = record { closing = closes_begin rest; went = went_none s stood stand.nobody }
 
 -- Once it is settled behind one more act, one more stage is behind it.
-pub settles_next : {region : SharedRegion} {s : Session} {slot : Option SharedPass} {i : ℕ} {old now new : List Worker} {before after settled : Whole}
-    {p : Progress}
-    (so : ClosedSo region s i old now before after p) (n : ClosesNext region s i old now new p so.closing) → length now ≡ length old → length new ≡ length old
-    → ActorsStand region s slot old p.list → IsEarlier after settled → StandSo s settled n.next.came.reached.list → ClosedSo region s (i + 1) old new before settled p
+pub settles_next : {region s slot i old now new before after settled p : _} (so : ClosedSo region s i old now before after p)
+    (n : ClosesNext region s i old now new p so.closing) → length now ≡ length old → length new ≡ length old → ActorsStand region s slot old p.list
+    → IsEarlier after settled → StandSo s settled n.next.came.reached.list → ClosedSo region s (i + 1) old new before settled p
 settles_next {s = s} {i = i} {before = before} {settled = settled} {p} so n many many2 at earlier stood = record {
   closing = n.next;
   went = subst (λ (ss : List Stage). WentBy s ss p n.next.came.reached before settled)
-      (sym (ap one_by_one n.acts_are ∙ one_by_one_both (take i (closing_acts s.threads s.keepers)) (n.act ∷ [])))
+      (sym (ap one_by_one n.acts_are ∙ map-append (λ (act : Act). stage (act ∷ []) itself) (take i (closing_acts s.threads s.keepers)) (n.act ∷ [])))
       (went_both so.went (went_alone s (n.act ∷ []) n.reaches earlier (closed_stand so.closing many at).nobody (closed_stand n.next many2 at).nobody so.went.stand stood));
 }
 
@@ -415,26 +384,23 @@ settles_pass {s = s} {i} {old} {now} {before} {after} {p} so guarded many thread
           (all_acts s.threads s.keepers i (omega (arith, le, none)) ∙ sym (all_acts s.threads s.keepers (i + 1) (omega (arith, le, none)))) so.went;
     }
 
--- the actor that was taken in is the last one, once the ledger was settled with it
-pub gives : (region : SharedRegion) (pass : SharedPass) (rest : Rest) (old taken settled : Ledger) → IsPassOf region pass → IsRestOf pass rest
-    → actors_in taken ≡ part_of pass ∷ actors_in old → Settled taken settled
-    → (x : SharedPass) × (more : List Part) × IsPassOf region x × IsRestOf x rest × (actors_in settled ≡ part_of x ∷ more)
-gives region pass rest old taken settled of is took so = (pass, actors_in old, of, is, so.actors ∙ took)
-
--- so the ledger was settled with it
-pub settled_with : (pass : SharedPass) (old taken settled back : Ledger) → IsSameLedger old taken → actors_in taken ≡ part_of pass ∷ actors_in old
-    → Settled taken settled → IsSameLedger settled back → actors_in back ≡ actors_in old
-    → Settled old back × StandsIn (so_far back) pass
-settled_with pass old taken settled back same took so after left = (
-  record {
-    table = after.table ∙ so.table ∙ same.table;
-    actors = left;
-    earlier = subst (IsEarlier (so_far old)) (sym after.steps) (subst (λ (l : Whole). IsEarlier l (so_far settled)) same.steps so.earlier);
-    each = subst (AreEarlier (looks_of old)) (sym after.steps) (subst (λ (ls : List (List Entry)). AreEarlier ls (so_far settled)) same.looks so.each);
-    all = λ k v has. ap (part k) after.steps ∙ so.all k v (subst (λ (ps : List Part). HasPart ps k v) (sym took) (inr has));
-  },
-  cc (so.all pass.place.actor (view_of pass) (subst (λ (ps : List Part). HasPart ps pass.place.actor (view_of pass)) (sym took) (inl (refl, refl)))),
-)
+-- A ledger took in an actor, was settled with it and gave it back: its pass is the same and stands there, and what the ledger had before is settled.
+pub given_back : (region : SharedRegion) {pass rest old taken settled : _} (given : SharedPass) (back : Ledger) → IsPassOf region pass → IsRestOf pass rest
+    → IsSameLedger old taken → actors_in taken ≡ part_of pass ∷ actors_in old → Settled taken settled → IsSameLedger settled back
+    → ((x : SharedPass) (more : List Part) → IsPassOf region x → IsRestOf x rest → actors_in settled ≡ part_of x ∷ more → (given ≡ x) × (actors_in back ≡ more))
+    → (given ≡ pass) × Settled old back × StandsIn (so_far back) pass
+given_back region {pass = pass} {old = old} {settled = settled} given back of is same took so after gives =
+    let gave = gives pass (actors_in old) of is (so.actors ∙ took) in (
+      gave.0,
+      record {
+        table = after.table ∙ so.table ∙ same.table;
+        actors = gave.1;
+        earlier = subst (IsEarlier (so_far old)) (sym after.steps) (subst (λ (l : Whole). IsEarlier l (so_far settled)) same.steps so.earlier);
+        each = subst (AreEarlier (looks_of old)) (sym after.steps) (subst (λ (ls : List (List Entry)). AreEarlier ls (so_far settled)) same.looks so.each);
+        all = λ k v has. ap (part k) after.steps ∙ so.all k v (subst (λ (ps : List Part). HasPart ps k v) (sym took) (inr has));
+      },
+      cc (so.all pass.place.actor (view_of pass) (subst (λ (ps : List Part). HasPart ps pass.place.actor (view_of pass)) (sym took) (inl (refl, refl)))),
+    )
 
 -- what stood in it then stands in it still
 pub stands_still : (settled back : Ledger) (pass : SharedPass) → IsSameLedger settled back → StandsIn (so_far settled) pass → StandsIn (so_far back) pass
@@ -470,9 +436,8 @@ pub kept_at : (ws : List Worker) (at i : ℕ) (mid e d : Worker) → at < length
 kept_at ws at i mid e d lt same less = search (arith, cases_eq, get_or-set_same, get_or_default, get_or-set_other)
 
 -- .. or later ones have theirs
-pub passes_at : {region : SharedRegion} (ws : List Worker) (at : ℕ) (mid : Worker)
-    → ((i : ℕ) (d : Worker) → at ≤ i → i < length ws → HasPass region (get_or ws i d).pass) → (i : ℕ) (d : Worker) → at + 1 ≤ i → i < length (set ws at mid)
-    → HasPass region (get_or (set ws at mid) i d).pass
+pub passes_at : {region : _} (ws : List Worker) (at : ℕ) (mid : Worker) → ((i : ℕ) (d : Worker) → at ≤ i → i < length ws → HasPass region (get_or ws i d).pass)
+    → (i : ℕ) (d : Worker) → at + 1 ≤ i → i < length (set ws at mid) → HasPass region (get_or (set ws at mid) i d).pass
 passes_at {region} ws at mid all i d le lt =
     search (arith, length-set, get_or-set_other)
 

@@ -1,26 +1,25 @@
 -- The scavenger's worker with the lent threads on one bench: they sit down, take their places at its desk, and leave.
-use Rattle.std.proofs.Common.{◌≡◌, ◌≢◌, ◌⊎◌, inl, inr, ⊎_elim, ℕ, ◌+◌, ◌<◌, ◌≤◌, Bool, true, false, if◌then◌else◌, List, [], ◌∷◌, ◌++◌, length, set, get_or}
-use Rattle.std.proofs.Common.{Some, refl, ap, sym, ◌∙◌, subst, arith, true≢false, eq-eqb, ne_eqb, zero, suc, append-nil, get_or-set_other}
-use Rattle.std.proofs.lemmas.{Bool.cases_eq, Option.same_Some, List.get_or_default}
+use Rattle.std.proofs.Common.{◌≡◌, ◌≢◌, ◌⊎◌, ⊎_elim, ℕ, ◌+◌, ◌<◌, ◌≤◌, Bool, true, false, if◌then◌else◌, List, [], ◌∷◌, ◌++◌, length, set, get_or, Some, refl}
+use Rattle.std.proofs.{Common.{ap, sym, ◌∙◌, subst, arith, true≢false, eq-eqb, ne_eqb, zero, suc, append-nil, get_or-set_other}, lemmas.Bool.cases_eq}
+use Rattle.std.proofs.lemmas.{Option.same_Some, List.get_or_default}
 use Rattle.pas_profile.specs.declared.profile.Profile.{Profile}
-use Rattle.pas_steps.specs.{Noted.AreNotesOf, Desks.Standing, Lists.{Whole, part}, Views.View}
+use Rattle.pas_steps.specs.{Desks.Standing, Lists.{Whole, part}, Views.View, Noted.AreNotesOf}
 use Rattle.pas_cache.specs.Caches.{Cached, cached}
-use Rattle.pas_core.proofs.Choosing.{steps_by_same}
-use Rattle.pas_shared.specs.{Ruled.{among, made_in, all_actors, only, only_this, isnt, rows_of, rows_of_only, steps_of, IsRowOf, AreRowsOf}, Benches.empty_row}
+use Rattle.pas_shared.specs.{Ruled.{among, made_in, all_actors, only_this, isnt, rows_of, rows_of_only, steps_of, IsRowOf, AreRowsOf, only}, Benches.empty_row}
 use Rattle.pas_shared.specs.Benches.{first_row, row_on, rows_on, seat_of_member, standing_on, HasLooked, IsBenchOf, IsFreshRow, IsMemberOf, SitsInRow, MaySitOn}
 use Rattle.pas_shared.specs.{Benches.StandsOver, Ledgers.part_of, Passes.{seat_of, view_of, IsPassOf}, declared.bench.{Bench.Bench, Member.Member}}
 use Rattle.pas_shared.specs.declared.{bench_desk.{BenchDesk.BenchDesk, BenchHome.BenchHome}, pass.SharedPass.SharedPass, region.SharedRegion.SharedRegion}
-use Rattle.pas_shared.{specs.declared.rule.{Entry.Entry, Row.Row}, proofs.Benching.{among_only, among_picked, row_tells, stands_first}}
+use Rattle.pas_shared.{specs.declared.rule.{Entry.Entry, Row.Row}, proofs.Benching.{among_picked, row_tells, stands_first, among_only}}
 use Rattle.pas_trace.specs.Acts.{Act, StopsIdle}
 use Rattle.pas_answers.{specs.Answers.Progress, proofs.Reached.goes_on}
 use Rattle.pas_acts.{specs.{Works.Later, Turns.RestsAt, Keepers.StandsStill, AtDesks.{here, told_if, ThreadActs}}, proofs.AtDesk.rests_still}
 use Rattle.pas_threads.specs.{Hands.standing_of_pass, Left.{crew_in, KeepsOrder}, Sessions.WorkerHas, Scavengers.CrewHasLeft, Turns.{Pushed, Told}, Lent.Shift}
-use Rattle.pas_threads.specs.Lent.{number_in, IsLent, AreLent, SitsAmong, standing_among, standing_at, home_at, WorkerSits, SitsLent, AreOfCrew, TellAs}
-use Rattle.pas_threads.specs.{Lent.{IsButPlace, HasSeat, AreSeated, IsDeskAt, StopsLent, MayLeave, HasLeave, MayLeaveAll, HaveLeave}, Crews.{crew, CrewAt}}
-use Rattle.pas_threads.{specs.{Crews.{CrewSits, CrewActs, CrewSat, CrewMayRise, CrewRose}, declared.workers.Worker.Worker}, proofs.Benched.among_cases}
-use Rattle.pas_threads.proofs.{Benched.{among_here, among_later, seated, row_part, rows_part, has_seat, member_seat, sits_as, keeps_order}, TakingTurns.Stays}
-use Rattle.pas_threads.proofs.TakingTurns.{set_each}
+use Rattle.pas_threads.specs.Lent.{number_in, IsLent, AreLent, standing_at, home_at, SitsLent, AreOfCrew, TellAs, IsDeskAt, StopsLent, MayLeaveAll, SitsAmong}
+use Rattle.pas_threads.specs.{Lent.{standing_among, WorkerSits, IsButPlace, HasSeat, AreSeated, MayLeave, HasLeave, HaveLeave}, Crews.{crew, CrewAt, CrewSits}}
+use Rattle.pas_threads.{specs.{Crews.{CrewActs, CrewSat, CrewMayRise, CrewRose}, declared.workers.Worker.Worker}, proofs.Benched.{among_cases, among_here}}
+use Rattle.pas_threads.proofs.{Benched.{among_later, seated, row_part, rows_part, has_seat, member_seat, sits_as, keeps_order}, TakingTurns.{Stays, set_each}}
 use Rattle.pas_records.specs.{Rooms.Records, declared.record.Record.Record}
+use Rattle.pas_core.proofs.Choosing.{steps_by_same}
 
 -- ---- who is among some actors
 among_at : (ks : List ℕ) (i : ℕ) → i < length ks → among ks (get_or ks i 0) ≡ true
@@ -90,17 +89,10 @@ sits_down : {region : SharedRegion} {f : Profile} {k : ℕ} {old new : Worker} {
 sits_down {region} {f} {k} {old} {new} {rows} {rows'} {later} {p} was seat =
     let pass = seat.has.pass in
     let member = seat.member in
-    let rests = seated (λ σ. RestsAt f k σ (cached old.cache) old.out later p) pass seat.has.present was.has was.rests in
     record {
       member = member;
       present = seat.present;
-      rests = same_worker seat.but (rests_as (member_seat seat.is)
-          (λ stood. record {
-            profile = seat.is.profile ∙ seat.has.of.1;
-            among_them = ap (λ rs. among (all_actors rs) member.actor) seat.rows_are
-                ∙ among_here pass.place.actor member.actor (all_actors rows) (sym seat.is.actor);
-            noted = noted_by seat.is stood;
-          }) rests);
+      rests = search (arith, member_seat, among_here, noted_by) fits 400;
     }
 
 -- the rows with one more say what the list tells, too
@@ -121,11 +113,6 @@ pub seats_begin : {region : SharedRegion} {s : Shift} (old : List Worker) {rows 
     → TellAs rows p.list → SeatedSoFar region s 0 old old rows p
 seats_begin old crew tell = record { each = λ j d less within. absurd (omega (arith, less)); left = λ j d from. refl; crew = crew; tell = tell }
 
--- the next one has its pass still
-seats_next : {region : SharedRegion} {s : Shift} {i : ℕ} {old now : List Worker} {rows : List Row} {p : Progress} (d : Worker) → i < length old
-    → AreLent region s old p → SeatedSoFar region s i old now rows p → IsLent region s i (get_or now i d) p
-seats_next {region} {s} {i} {old} {now} {rows} {p} d lt lent so = subst (λ w. IsLent region s i w p) (sym (so.left i d (omega arith))) (lent.each i d lt)
-
 crew_more : {s : Shift} {i : ℕ} {actors : List ℕ} (a : ℕ) → a ≡ number_in s i → AreOfCrew s 0 i actors → AreOfCrew s 0 (i + 1) (a ∷ actors)
 crew_more {s} {i} {actors} a is crew = search (arith, among_later, among_here, among_cases)
   where
@@ -133,11 +120,10 @@ crew_more {s} {i} {actors} a is crew = search (arith, among_later, among_here, a
     cases_at j = cases_eq j i
 
 -- After one more lent worker sat down with its pass, one more sits on the bench.
-pub seats_go_on : {region : SharedRegion} {s : Shift} {i : ℕ} {old now : List Worker} {rows rows' : List Row} {p : Progress} (d w : Worker) → i < length old
-    → length now ≡ length old → AreLent region s old p → SeatedSoFar region s i old now rows p → HasSeat region (get_or now i d) w rows rows'
-    → SeatedSoFar region s (i + 1) old (set now i w) rows' p
+pub seats_go_on : {region s i old now rows rows' p : _} (d w : Worker) → i < length old → length now ≡ length old → AreLent region s old p
+    → SeatedSoFar region s i old now rows p → HasSeat region (get_or now i d) w rows rows' → SeatedSoFar region s (i + 1) old (set now i w) rows' p
 seats_go_on {region} {s} {i} {old} {now} {rows} {rows'} {p} d w lt many lent so seat =
-    let was = seats_next d lt lent so in
+    let was = subst (λ w. IsLent region s i w p) (sym (so.left i d (omega arith))) (lent.each i d lt) in
     let sits = sits_down was seat in
     let rests = seated (λ σ. RestsAt s.profile (number_in s i) σ (cached (get_or now i d).cache) (get_or now i d).out (s.lends i) p) seat.has.pass seat.has.present was.has was.rests in
     let actor = rests.sits.actor in
@@ -164,8 +150,7 @@ seats_end {region} {s} {i} {old} {now} {rows} {p} le ge many lent so = search ar
 at_home : {h : BenchHome} (desk : BenchDesk) → home_at desk ≡ h → (k : ℕ) → among (row_on desk.place.bench).actors k ≡ among h.row.actors k
 at_home desk home k = ap (λ (g : BenchHome). among g.row.actors k) home
 
-tells_of : {h : BenchHome} {desk : BenchDesk} {p : Progress} → IsDeskAt h desk p → (k : ℕ) → among (row_on desk.place.bench).actors k ≡ true
-    → part k p.list ≡ made_in (row_on desk.place.bench) k
+tells_of : {h desk p : _} → IsDeskAt h desk p → (k : ℕ) → among (row_on desk.place.bench).actors k ≡ true → part k p.list ≡ made_in (row_on desk.place.bench) k
 tells_of {desk = desk} {p} at k its = row_tells (row_on desk.place.bench) p.list k at.over its
 
 -- A lent worker that sits on the bench may sit down at its desk.
@@ -177,11 +162,7 @@ may_sit {h} {desk} {f} {k} {worker} {later} {p} at w = search (arith, at_home, t
 rests_there : {h : BenchHome} {desk : BenchDesk} {f : Profile} {k : ℕ} {worker : Worker} {later : Later} {p : Progress} → IsDeskAt h desk p
     → (w : WorkerSits h.region h.row.actors f k worker later p)
     → RestsAt f k (standing_on desk.place.bench w.member) (cached worker.cache) worker.out later p
-rests_there {h} {desk} {f} {k} {worker} {later} {p} at w = rests_as refl (λ stood. (
-  sym
-      (tells_of at w.member.actor (at_home desk at.home w.member.actor ∙ stood.among_them)) ∙ ap (λ j. part j p.list) w.rests.sits.actor,
-  at.over,
-)) w.rests
+rests_there {h} {desk} {f} {k} {worker} {later} {p} at w = search (arith, tells_of, at_home) fits 400
 
 -- what is so of the bench and the member is so of the desk
 at_desk : (At : Standing → Type 0) (desk : BenchDesk) {bench : Bench} {member : Member} → desk.place.bench ≡ bench → desk.place.member ≡ member
@@ -207,17 +188,12 @@ pub may_again : {h : BenchHome} {desk : BenchDesk} {p : Progress} (mid : BenchDe
 may_again {h} {desk} {p} mid q risen is at home over same = search (arith, at_home, tells_of)
 
 -- a worker that sat at the desk sits on the bench beside it
-sits_beside : {h : BenchHome} (mid : BenchDesk) {f : Profile} {k : ℕ} {worker : Worker} {later : Later} {q : Progress} → home_at mid ≡ h
-    → worker.member ≡ Some mid.place.member → RestsAt f k (standing_at mid) (cached worker.cache) worker.out later q
-    → WorkerSits h.region h.row.actors f k worker later q
+sits_beside : {h : _} (mid : BenchDesk) {f k : _} {worker : Worker} {later q : _} → home_at mid ≡ h → worker.member ≡ Some mid.place.member
+    → RestsAt f k (standing_at mid) (cached worker.cache) worker.out later q → WorkerSits h.region h.row.actors f k worker later q
 sits_beside {h} mid {f} {k} {worker} {later} {q} home is at = record {
   member = mid.place.member;
   present = is;
-  rests = rests_as refl (λ stood. record {
-    profile = mid.profiled ∙ ap (λ (g : BenchHome). g.region.profile) home;
-    among_them = sym (at_home mid home mid.place.member.actor) ∙ mid.place.sits.among_them;
-    noted = subst (λ (v : View). AreNotesOf mid.place.member.actor v mid.place.member.notes) stood.0 mid.place.sits.noted;
-  }) at;
+  rests = search (arith, at_home) fits 400;
 }
 
 -- the lent worker took its place there (`sat`), was stopped (`mid`), and gave the place back (`left`)
@@ -246,8 +222,7 @@ was_stopped {h} {f} {k} {n} {bench} {bench'} {old} {new} {out} {out'} {later} {p
     (subst (λ x. StopsLent h f k n x mid.place.bench old new out out' later p) b at_mid)
 
 -- ---- all sat down
-module _ {region : SharedRegion} {s : Shift} {old new : List Worker} {p : Progress} {rows : List Row} (bench : Bench) (looked : HasLooked rows (rows_on bench))
-    (all : AreSeated region s old new rows p) where
+module _ {region s old new p rows : _} (bench : Bench) (looked : HasLooked rows (rows_on bench)) (all : AreSeated region s old new rows p) where
   row_is : row_on bench ≡ record { actors = all_actors rows; made = []; base = looked.base }
   row_is = ap first_row looked.is
 
@@ -283,9 +258,8 @@ first_tell {rows} {rows0} l pass is none scavenger view =
     (λ k its. absurd (true≢false (sym its ∙ ap (λ rs. among (all_actors rs) k) none)))
 
 -- .. with the lent threads beside it
-pub all_sat : {region : SharedRegion} {s : Shift} {old new : List Worker} {p : Progress} {rows : List Row} {pass : SharedPass} (desk : BenchDesk)
-    → HasLooked rows (rows_on desk.place.bench) → AreSeated region s old new rows p → IsMemberOf pass desk.place.member → pass.place.actor ≡ 0
-    → CrewSat region s pass desk old new p
+pub all_sat : {region s old new p rows pass : _} (desk : BenchDesk) → HasLooked rows (rows_on desk.place.bench) → AreSeated region s old new rows p
+    → IsMemberOf pass desk.place.member → pass.place.actor ≡ 0 → CrewSat region s pass desk old new p
 all_sat {region} {s} {old} {new} {p} {rows} {pass} desk looked all is scavenger =
     let bench = desk.place.bench in
     let member = desk.place.member in
@@ -295,17 +269,7 @@ all_sat {region} {s} {old} {new} {p} {rows} {pass} desk looked all is scavenger 
     λ k its. sym (saw bench looked all k (sym (is_among bench looked all k) ∙ its)) ∙ ap (λ (r : Row). part k (steps_of r.base)) (sym first)
     in
     let actor = is.actor ∙ scavenger in
-    record {
-      seat = member_seat is;
-      stands = (
-        made_seen bench looked all member.actor (subst (λ j. among (all_actors rows) j ≡ true) (sym actor) all.crew.own) ∙ ap (λ (j : ℕ). part j p.list) actor,
-        stands_first row p.list (ap (λ (r : Row). r.made) first) seen,
-      );
-      lent = record { many = all.lent.many; each = λ i d lt. sits_wider (λ k its. is_among bench looked all k ∙ its) (all.lent.each i d lt) };
-      crew = subst (AreOfCrew s 0 (length s.idle)) (sym (ap (λ (r : Row). r.actors) first)) all.crew;
-      tell = seen;
-      but = all.but;
-    }
+    search (arith, member_seat, made_seen, stands_first, sits_wider, is_among) fits 400
 
 -- the order of the same actors
 order_as : {one other : ℕ → Bool} {told told' seen : Whole} → ((k : ℕ) → one k ≡ other k) → KeepsOrder one told told' seen → KeepsOrder other told told' seen
@@ -352,10 +316,7 @@ module _ {region : SharedRegion} {s : Shift} {all : List ℕ} {base : List Entry
         present = next_sits.present;
         fresh = record { actors = so.actors; base = base; is = so.fresh };
         profile = stood.profile;
-        sits = record {
-          among_them = ap (λ (rs : List Row). among (first_row rs).actors member.actor) so.fresh ∙ is_there member actor;
-          noted = subst (λ (v : View). AreNotesOf member.actor v member.notes) (sym (row_says member actor)) stood.noted;
-        };
+        sits = search (arith, is_there) fits 400;
       }
 
   -- it has its pass, and rests as it did
@@ -372,25 +333,15 @@ module _ {region : SharedRegion} {s : Shift} {all : List ℕ} {base : List Entry
   leaves_go_on w {rows'} many left =
       let a = left.may.member.actor in
       let test = isnt (only_this a) in
-      let has = has_again left in
       let mine : a ≡ number_in s i = ap (λ (m : Member). m.actor) (same_Some _ _ (sym left.may.present ∙ next_sits.present)) ∙ next_sits.rests.sits.actor in
       record {
         each = λ j e less within. set_each (λ (m : ℕ) (x : Worker). IsLent region s m x p × IsButPlace (get_or old m e) x) now i w e j (omega (arith, lt, many))
-            (has, subst (λ (x : Worker). IsButPlace x w) (so.left i d (omega arith) ∙ get_or_default old i d e lt) left.but)
+            (has_again left, subst (λ (x : Worker). IsButPlace x w) (so.left i d (omega arith) ∙ get_or_default old i d e lt) left.but)
             (λ ne. so.each j e (omega (arith, less, ne)) within);
         left = λ j e from. let ne : j ≢ i = λ (is : j ≡ i). omega (arith, is, from) in get_or-set_other now i j w e ne ∙ so.left j e (omega (arith, from));
         actors = only test so.actors;
         fresh = left.rows_are ∙ ap (rows_of_only test) so.fresh;
-        crew = record {
-          own = among_picked test so.actors 0 so.crew.own (isnt_other a 0 (λ same. s.distinct.threads i (omega (arith, lt, may.lent.many)) (same ∙ mine)));
-          lent = λ j from to. among_picked test so.actors (number_in s j) (so.crew.lent j (omega (arith, from)) to)
-              (isnt_other a (number_in s j) (λ same. s.distinct.apart j i to (omega (arith, lt, may.lent.many)) (λ is. omega (arith, is, from)) (same ∙ mine)));
-          only = λ k its.
-              let both = among_only test so.actors k its in
-              ⊎_elim inl (λ (t : (j : ℕ) × (i ≤ j) × (j < length s.idle) × (number_in s j ≡ k)).
-              let ne : t.0 ≢ i = λ (is : t.0 ≡ i). isnt_itself a k both.1 (sym t.3 ∙ (ap (number_in s) is ∙ sym mine)) in
-              inr (t.0, omega (arith, t.1, ne), t.2, t.3)) (so.crew.only k both.0);
-        };
+        crew = search (arith, among_picked, isnt_other, among_only, isnt_itself) fits 400;
         within = λ k its. so.within k (among_only test so.actors k its).0;
       }
 
@@ -401,9 +352,8 @@ member_leaves {region} {rows} member is may =
     subst (λ (m : Member). (m.profile ≡ region.profile) × SitsInRow (first_row rows) m) (same_Some _ _ (sym may.present ∙ is)) (may.profile, may.sits)
 
 -- Once each lent worker had its turn, only the scavenger still sits on the bench.
-pub leaves_end : {region : SharedRegion} {s : Shift} {all : List ℕ} {base : List Entry} {i : ℕ} {old now : List Worker} {rows0 rows : List Row} {p : Progress}
-    → length old ≤ i → length now ≡ length old → MayLeaveAll region s old all base rows0 p → LeftSoFar region s all base i old now rows p
-    → HaveLeave region s old now base rows p
+pub leaves_end : {region s all base i old now rows0 rows p : _} → length old ≤ i → length now ≡ length old → MayLeaveAll region s old all base rows0 p
+    → LeftSoFar region s all base i old now rows p → HaveLeave region s old now base rows p
 leaves_end le many may so =
     let size = may.lent.many in
     record {
@@ -458,15 +408,7 @@ module _ {region : SharedRegion} {s : Shift} {lent : List Worker} {p : Progress}
         let test = isnt (only_this desk.place.member.actor) in
         let none : only test have.actors ≡ [] = nobody_among (only test have.actors)
         (λ k its. let both = among_only test have.actors k its in isnt_itself desk.place.member.actor k both.1 (have.only k both.0 ∙ sym may.own)) in
-        record {
-          is = record { of = pass_of; seat = seat; view = view ∙ own_made };
-          lent = have.lent;
-          but = have.but;
-          of = of;
-          base = looked.base;
-          rows = cc;
-          saw = row_seen bench looked;
-        }
+        search (arith, own_made, row_seen) fits 400
 
 -- ---- from pass to pass
 -- the crew on its bench
@@ -492,8 +434,7 @@ module _ {region : SharedRegion} {s : Shift} {acts : List Act} {pass : SharedPas
   crew_may_rise = search (arith, actors_same)
 
   -- A crew that sat down, acted and rose did its acts with passes, and left a bench that saw in which order.
-  pub crew_left : {after : SharedPass} {bench : Bench} {new : List Worker} → length sat1 ≡ length lent → length sat2 ≡ length sat1
-      → CrewRose region s now after bench sat2 new did.came.reached
+  pub crew_left : {after bench new : _} → length sat1 ≡ length lent → length sat2 ≡ length sat1 → CrewRose region s now after bench sat2 new did.came.reached
       → CrewHasLeft region s acts after bench (crew (standing_of_pass pass) lent places out) (crew (standing_of_pass after) new places' out') p
   crew_left {after} {bench} {new} many more rose =
       let row = row_on now.place.bench in
@@ -507,13 +448,7 @@ module _ {region : SharedRegion} {s : Shift} {acts : List Act} {pass : SharedPas
         of = rose.is.of;
         did = record {
           came = did.came;
-          stands = record {
-            stands = record {
-              stands = record { sits = sits_as rose.is.seat (λ stood. rose.is.view ∙ stood.0) at.stands.sits; spare = at.stands.spare };
-              has_places = at.has_places;
-            };
-            lent = rose.lent;
-          };
+          stands = search arith fits 400;
           told = did.told;
           lent = λ i d lt. told_between (sat.but i d lt) (did.lent i d (omega (arith, lt, many))) (rose.but i d (omega (arith, lt, many, more)));
           books = did.books;

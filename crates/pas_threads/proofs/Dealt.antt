@@ -1,14 +1,14 @@
 -- Workers that are dealt into those of a mask and the others, and taken back; and the hands of a phase, before and after it.
 use Rattle.std.proofs.Common.{◌≡◌, ◌≢◌, ℕ, zero, suc, ◌+◌, ◌<◌, ◌≤◌, not, Bool, true, false, if◌then◌else◌, List, [], ◌∷◌, ◌++◌, map, length, get_or, reverse}
 use Rattle.std.proofs.{Common.{refl, ap, sym, ◌∙◌, subst, arith, length-append, append_assoc, append-nil, All}, lemmas.Bool.{not_from_true, not_from_false}}
-use Rattle.std.{proofs.lemmas.List.{Elements.{All-same, All-map, All-push}, reverse-append, nil_from_length, same_from_push}, specs.List.filter}
+use Rattle.std.{proofs.lemmas.List.{same_from_push, Elements.{All-same, All-map, All-push}, reverse-append, nil_from_length}, specs.List.filter}
 use Rattle.pas_bits.specs.{Masks.is_set, declared.mask.Mask4.Mask4}
 use Rattle.pas_trace.specs.{declared.plan.Op.Op, Acts.{is_active, numbers_from, idle_threads}}
-use Rattle.pas_acts.{proofs.ActsLeft.threads_alike, specs.declared.names.NameBook.NameBook}
 use Rattle.pas_threads.specs.{Dealing.{picked, count_of, is_in, is_out, AreDealt, AreSized}, Turns.AreDistinct, Pairs.{MayDoPhase, DidPhase}}
-use Rattle.pas_threads.specs.{Scavengers.{MayScavenge, DidScavenge}, Acting.{MayAct, DidAct, DidEach}, declared.{workers.Worker.Worker, hands.Hand.Hand}}
-use Rattle.pas_threads.specs.declared.{hands.Hand.TheVariants.{Thread, Scavenger}, scavenger.Scavenger.Scavenger as TheScavenger}
+use Rattle.pas_threads.specs.{Scavengers.{DidScavenge, MayScavenge}, Acting.{DidEach, MayAct, DidAct}, declared.workers.Worker.Worker}
+use Rattle.pas_threads.specs.declared.{hands.Hand.{TheVariants.{Thread, Scavenger}, Hand}, scavenger.Scavenger.Scavenger as TheScavenger}
 use Rattle.pas_shared.specs.declared.region.SharedRegion.{SharedRegion}
+use Rattle.pas_acts.specs.declared.names.NameBook.{NameBook}
 
 -- ---- what is picked
 module _ {A : Type 0} (chosen : ℕ → Bool) where
@@ -85,15 +85,9 @@ number_at k zero i bad = absurd (omega (arith, bad))
 number_at k (suc n) zero lt = let is : k ≡ k + 0 = omega arith in is
 number_at k (suc n) (suc i) lt = number_at (k + 1) n i (omega (arith, lt)) ∙ (let is : k + 1 + i ≡ k + suc i = omega arith in is)
 
-filter_picked : (chosen : ℕ → Bool) (k n : ℕ) → filter chosen (numbers_from k n) ≡ picked chosen k (numbers_from k n)
+pub filter_picked : (chosen : ℕ → Bool) (k n : ℕ) → filter chosen (numbers_from k n) ≡ picked chosen k (numbers_from k n)
 filter_picked chosen k zero = refl
 filter_picked chosen k (suc n) = ap (λ (js : List ℕ). if chosen k then k ∷ js else js) (filter_picked chosen (k + 1) n)
-
--- those that are idle are those whose workers are lent
-pub idle_picked : (awake : Mask4) (ops : List Op) (threads : ℕ) → ((k : ℕ) → is_set awake k ≡ is_active ops k)
-    → idle_threads threads ops ≡ picked (is_out awake) 1 (numbers_from 1 threads)
-idle_picked awake ops threads same =
-    threads_alike (λ k. not (is_active ops k)) (is_out awake) threads (λ k. ap not (sym (same k))) ∙ filter_picked (is_out awake) 1 threads
 
 -- numbers that rise, from k on and below m
 abbrev AreRising : ℕ → ℕ → List ℕ → Type 0
@@ -227,8 +221,7 @@ pub none_taken : {mask : Mask4} {count : ℕ} {all_hands hands : List Hand} {all
 none_taken {mask} {count} {all_hands} {hands} {all_lent} {threads} {lent} none hands_are lent_are sized =
     search arith
 
-module _ {mask : Mask4} {left : ℕ} {all_hands hands : List Hand} {all_lent threads lent : List Worker}
-    (so : SoTaken mask (suc left) all_hands all_lent threads hands lent) where
+module _ {mask left all_hands hands all_lent threads lent : _} (so : SoTaken mask (suc left) all_hands all_lent threads hands lent) where
   -- the next is the last of the hands
   pub some_in : is_set mask (1 + length threads) ≡ true → (front : List Hand) × (w : Worker) × (hands ≡ front ++ Thread w ∷ [])
   some_in on =
@@ -258,8 +251,7 @@ module _ {mask : Mask4} {left : ℕ} {all_hands hands : List Hand} {all_lent thr
   pub some_out : is_set mask (1 + length threads) ≡ false → 0 < length lent
   some_out off =
       let n = rest_takes so.rest (not_from_false (is_set mask (1 + length threads)) off) so.outside in
-      let long = ap length (so.lent_are ∙ ap reverse n.2 ∙ reverse-append (n.0 ∷ []) n.1) ∙ length-append (reverse n.1) (n.0 ∷ []) in
-      omega (arith, long)
+      omega (arith, ap length (so.lent_are ∙ ap reverse n.2 ∙ reverse-append (n.0 ∷ []) n.1) ∙ length-append (reverse n.1) (n.0 ∷ []))
 
   -- A worker whose number isn't in the mask is taken back from those that were lent.
   pub taken_out : {hands' : List Hand} {lent' threads' : List Worker} (w : Worker) → is_set mask (1 + length threads) ≡ false → lent ≡ lent' ++ w ∷ []

@@ -3,34 +3,30 @@ use Rattle.std.proofs.Common.{◌≡◌, ℕ, suc, ◌+◌, ◌*◌, ◌<◌, �
 use Rattle.std.proofs.Common.{inl, inr, Option, Some, refl, ap, sym, ◌∙◌, subst, arith, ◌-◌, ◌^◌, eq-eqb, ne_eqb, ◌≢◌, None, append-nil, drop}
 use Rattle.std.proofs.{Common.{drop_of_length-le, length-drop}, Math.Nat.{le-min, mul-le-mul}, lemmas.{Bool.{cases_lt, cases_eq}, List.{get_or-map, drop_more}}}
 use Rattle.pas_profile.specs.declared.profile.Profile.{Profile}
-use Rattle.pas_trace.specs.{Asked.{work_of, keeper_in}, Plans.{IsPlanOf, bounds_of}, Reasons.{cost_of_size, actors_by}, EveryPlan.{kept_of_work, kept_records}}
-use Rattle.pas_trace.specs.{EveryPlan.{records_of_what, records_of_ops, operations_of}, declared.plan.{Op.Op, Plan.Plan, What.What}, Acts.{Act, Settles}}
-use Rattle.pas_trace.{specs.Acts.{act_kept, own_acts}, proofs.{Costs.{small_cost, large_cost}, EveryPlan.{every_plan, threads_among}, Keepers.keepers_few}}
+use Rattle.pas_trace.specs.{Asked.{work_of, keeper_in}, Plans.{IsPlanOf, bounds_of}, EveryPlan.{kept_of_work, kept_records, records_of_what, records_of_ops}}
+use Rattle.pas_trace.specs.{EveryPlan.operations_of, declared.plan.{Op.Op, Plan.Plan, What.What}, Acts.{Act, Settles, act_kept, own_acts}, Reasons.cost_of_size}
+use Rattle.pas_trace.{specs.Reasons.actors_by, proofs.{EveryPlan.{every_plan, threads_among}, Costs.{small_cost, large_cost}, Keepers.keepers_few}}
 use Rattle.pas_guard.specs.{Books.{guards_in, size_of_book}, declared.book.GuardBook.GuardBook}
 use Rattle.pas_shared.specs.declared.{pass.SharedPass.SharedPass, region.SharedRegion.SharedRegion}
-use Rattle.pas_answers.{specs.{Replays.{threads_of, keepers_of}, Answers.Progress, Ways.{is_of, records_by}}, proofs.EachAct.{all_front, all_back}}
-use Rattle.pas_acts.specs.{PlanKeepers.{one_guarded, guarded_of, AreBooks}, Shares.owner_in, Keepers.{LaterKept, Keeping, NoKeeper, OneKeeper, KeeperAt}}
-use Rattle.pas_acts.specs.{Keepers.keeper_has, Pairs.{for_guard, for_guards, AreTriedBy, AreUnguarded, KeeperWaits, EachOfTwo, KeptPushed, KeptStill, owed_of}}
-use Rattle.pas_acts.proofs.{PlanFacts.is_guarded, AtDesk.keeper_still, PhaseActs.{own_thread, kept_thread, owner_of}}
-use Rattle.pas_threads.specs.{Kits.{HaveKeepers, TakesKeeper, IsKeptBy, AreKeptBy, most_records}, Pairs.{AreGuarded, kept_by_worker, IsKeeperOf, IsSilent}}
-use Rattle.pas_threads.specs.{Pairs.{no_more, owed_kept, keeper_at, IsLow, KeeperStands, KeeperRests, said_by_keeper}, declared.keeper.Keeper.Keeper}
-use Rattle.pas_threads.specs.{declared.workers.Worker.Worker, Hands.standing_of_pass, Turns.HasSaid, Performing.{Round, ThreadDone}}
-use Rattle.pas_threads.proofs.{TakingTurns.each_pushed, Dealt.some_item}
+use Rattle.pas_answers.{specs.{Replays.{threads_of, keepers_of}, Answers.Progress, Ways.{records_by, is_of}}, proofs.EachAct.{all_front, all_back}}
+use Rattle.pas_acts.specs.{PlanKeepers.{one_guarded, guarded_of, AreBooks}, Shares.owner_in, Keepers.{LaterKept, Keeping, OneKeeper, NoKeeper}}
+use Rattle.pas_acts.specs.Pairs.{for_guards, AreTriedBy, AreUnguarded, KeeperWaits, KeptPushed, for_guard, EachOfTwo, KeptStill, owed_of}
+use Rattle.pas_acts.proofs.{PlanFacts.is_guarded, PhaseActs.{own_thread, kept_thread, owner_of}, AtDesk.keeper_still}
+use Rattle.pas_threads.specs.{Kits.{IsKeptBy, AreKeptBy, most_records, HaveKeepers, TakesKeeper}, Pairs.{AreGuarded, kept_by_worker, IsKeeperOf, no_more}}
+use Rattle.pas_threads.specs.{Pairs.{owed_kept, keeper_at, IsLow, KeeperStands, KeeperRests, said_by_keeper, IsSilent}, declared.keeper.Keeper.Keeper}
+use Rattle.pas_threads.{specs.{declared.workers.Worker.Worker, Turns.HasSaid, Performing.{Round, ThreadDone}}, proofs.TakingTurns.each_pushed}
+use Rattle.pas_threads.proofs.Dealt.{some_item}
 use Rattle.pas_steps.specs.Lists.{part}
-use Rattle.pas_records.specs.{Rooms.{records_in, room_of}, declared.record.Record.Record}
+use Rattle.pas_records.specs.{Rooms.records_in, declared.record.Record.Record}
 
 -- ---- what they may say
 two_least : (size : ℕ) → 2 ≤ cost_of_size size
 two_least size = search (arith, cases_lt, large_cost, small_cost)
 
-paid_one : (t : Bool) (what : What) (guards events : ℕ) → 2 * guards ≤ events
-    → 2 * ((if t then one_guarded (keeper_in what) else 0) + guards) ≤ (if t then kept_of_work (work_of what) else 0) + events
-paid_one a what guards events le = search (arith, two_least)
-
 -- a keeper's events for guarded requests pay for two records of each
 guards_paid : (k : ℕ) (ops : List Op) → 2 * guarded_of k ops ≤ kept_records k ops
 guards_paid k [] = omega arith
-guards_paid k (op ∷ ops) = paid_one (op.actor == k) op.what (guarded_of k ops) (kept_records k ops) (guards_paid k ops)
+guards_paid k (op ∷ ops) = search (arith, two_least, op.actor == k, guards_paid k ops)
 
 said_one : (f : Profile) (t : Bool) (what : What) (guards events records : ℕ) → events + 2 * guards ≤ records
     → (if t then kept_of_work (work_of what) else 0) + events + 2 * ((if t then one_guarded (keeper_in what) else 0) + guards) ≤ records_of_what f what + records
@@ -49,17 +45,13 @@ keeper_room : {text : List ℕ} {plan : Plan} (i room : ℕ) → IsPlanOf text p
 keeper_room {text} {plan} i room read lt few is =
     let sound = every_plan read in
     let most = keepers_few plan in
-    let among = threads_among plan.guard plan.profile.threads in
     let bound = sound.kept (suc i) (is_guarded plan (omega (arith, lt))) (omega arith) (omega (arith, lt, most)) in
     let paid = guards_paid (suc i) (operations_of plan) in
     let said = guards_said plan.profile (suc i) (operations_of plan) in
-    let some : 1 ≤ actors_by plan.guard plan.profile.threads = omega (arith, lt, most, among) in
-    let same : plan.profile.pages ≤ plan.profile.pages = omega arith in
-    let pages : 1 * plan.profile.pages ≤ actors_by plan.guard plan.profile.threads * plan.profile.pages = mul-le-mul some same in
+    let some : 1 ≤ actors_by plan.guard plan.profile.threads = omega (arith, lt, most, threads_among plan.guard plan.profile.threads) in
+    let pages : 1 * plan.profile.pages ≤ actors_by plan.guard plan.profile.threads * plan.profile.pages = mul-le-mul some (omega arith) in
     let needs = slice_index (bounds_of plan.bounds) (threads_of plan + suc i) + 2 * guarded_of (suc i) (operations_of plan) in
-    let twice : needs ≤ slice_index (bounds_of plan.bounds) (threads_of plan + suc i) * 2 = omega (arith, bound, paid) in
-    let counted : needs ≤ 2 ^ 32 - 1 = omega (arith, bound, said, sound.total, pages, few) in
-    subst (λ (n : ℕ). needs ≤ n) (sym is) (le-min twice counted)
+    subst (λ (n : ℕ). needs ≤ n) (sym is) (le-min (omega (arith, bound, paid)) (omega (arith, bound, said, sound.total, pages, few)))
 
 -- ---- their passes and books
 -- behind the first of those from a place on are those from the next place on
@@ -76,21 +68,11 @@ none_next xs i none = drop_of_length-le xs (let none_left = ap length none in om
 pub keeper_next : {left left' : List SharedPass} {more more' : List GuardBook} (passes : List SharedPass) (books : List GuardBook) (bound i : ℕ)
     (o : Option Keeper) → left ≡ drop i passes → more ≡ drop i books → TakesKeeper left left' more more' bound o
     → IsKeptBy passes books bound i o × (left' ≡ drop (i + 1) passes) × (more' ≡ drop (i + 1) books)
-keeper_next passes books bound i None one two takes =
-    let pass = sym one ∙ takes.0 in
-    let book = sym two ∙ takes.2 in
-    let last : IsKeptBy passes books bound i None = (pass, none_next passes i pass, book, none_next books i book) in
-    (last, takes.1 ∙ sym last.1, takes.3 ∙ sym last.3)
-keeper_next {left' = left'} {more' = more'} passes books bound i (Some keeper) one two takes =
-    let pass = sym one ∙ takes.0 in
-    let book = sym two ∙ takes.1 in
-    let left = rest_next passes left' i keeper.pass pass in
-    let more = rest_next books more' i keeper.book book in
-    ((pass ∙ ap (λ ps. keeper.pass ∷ ps) left, book ∙ ap (λ bs. keeper.book ∷ bs) more, takes.2, takes.3), left, more)
+keeper_next passes books bound i None one two takes = search (arith, none_next) fits 400
+keeper_next {left' = left'} {more' = more'} passes books bound i (Some keeper) one two takes = search (arith, rest_next) fits 400
 
 -- So it is of one worker more.
-pub kept_more : {bounds : List ℕ} {threads : ℕ} {passes : List SharedPass} {books : List GuardBook} {workers after : List Worker} (w : Worker)
-    → after ≡ workers ++ w ∷ [] → AreKeptBy bounds threads passes books workers
+pub kept_more : {bounds threads passes books workers after : _} (w : Worker) → after ≡ workers ++ w ∷ [] → AreKeptBy bounds threads passes books workers
     → IsKeptBy passes books (most_records (slice_index bounds (threads + suc (length workers)))) (length workers) w.keeper
     → AreKeptBy bounds threads passes books after
 kept_more {bounds} {threads} {passes} {books} {workers} w is are one = record {
@@ -109,9 +91,8 @@ kept_past passes books bound i None kept le = refl
 kept_past passes books bound i (Some keeper) kept le = absurd (let some = ap length kept.0 in omega (arith, some, length-drop i passes, le))
 
 -- all workers of a guarded plan have a keeper, and none of another one
-guarded_so : (plan : Plan) {bounds : List ℕ} {passes : List SharedPass} {books : List GuardBook} {workers : List Worker}
-    → AreKeptBy bounds (threads_of plan) passes books workers → length passes ≡ keepers_of plan → length workers ≡ threads_of plan
-    → AreGuarded (keepers_of plan) workers
+guarded_so : (plan : Plan) {bounds passes books workers : _} → AreKeptBy bounds (threads_of plan) passes books workers → length passes ≡ keepers_of plan
+    → length workers ≡ threads_of plan → AreGuarded (keepers_of plan) workers
 guarded_so plan {bounds} {passes} {books} {workers} are size many =
     elim (cases_eq plan.guard 0) [
       | inl is ↦
@@ -136,7 +117,6 @@ have_keepers {plan = plan} passes books {workers} read few are made size many = 
       let count = made.many in
       let b = some_item books i (omega (arith, lt, count)) in
       let book_is = ap (λ bs. get_or bs 0 b) (sym by.1 ∙ drop_more books i b (omega (arith, lt, count))) in
-      let needs = keeper_room i _ read lt few refl in
       record {
         there = some.0;
         present = some.1;
@@ -144,7 +124,7 @@ have_keepers {plan = plan} passes books {workers} read few are made size many = 
         empty = ap guards_in book_is ∙ made.empty i b lt;
         places = ap size_of_book book_is ∙ made.places i b lt ∙ ap (λ n. guarded_of n (operations_of plan)) (let is : i + 1 ≡ suc i = omega arith in is);
         said = by.2;
-        records = omega (arith, by.3, needs);
+        records = omega (arith, by.3, keeper_room i _ read lt few refl);
       },
 )
 
@@ -176,11 +156,6 @@ waits_front f k xs ys a later p waits = search (arith, all_front, guards_both)
 abbrev pub WillWait : ℕ → List Act → Keeping → Type 0
 WillWait k ys NoKeeper = AreUnguarded ys
 WillWait k ys (OneKeeper has) = AreTriedBy k ys
-
--- A keeper that waits for two lists of acts will wait for the second, too.
-will_wait : (f : Profile) (k : ℕ) (xs ys : List Act) (kept : Keeping) (later : LaterKept) (p : Progress) → KeeperWaits f k (xs ++ ys) kept later p
-    → WillWait k ys kept
-will_wait f k xs ys a later p waits = search (arith, all_back)
 
 -- A keeper that will wait for some acts still will once what it said is among its records.
 pub will_wait_then : (k : ℕ) (said : List Record) (ys : List Act) (kept kept' : Keeping) → KeptPushed k said kept kept' → WillWait k ys kept
@@ -233,26 +208,17 @@ two_counted k keeper (r ∷ rs) apart each =
     elim each.0 [
       | inl of ↦
           let one = ap length (first_of_two k r rs true (of k ∙ eq-eqb k k refl)) in
-          let two = ap length (first_of_two keeper r rs false (of keeper ∙ ne_eqb k keeper apart)) in
-          omega (arith, rest, one, two)
+          omega (arith, rest, one, ap length (first_of_two keeper r rs false (of keeper ∙ ne_eqb k keeper apart)))
       | inr of ↦
           let one = ap length (first_of_two k r rs false (of k ∙ ne_eqb keeper k (λ (is : keeper ≡ k). apart (sym is)))) in
-          let two = ap length (first_of_two keeper r rs true (of keeper ∙ eq-eqb keeper keeper refl)) in
-          omega (arith, rest, one, two)
+          omega (arith, rest, one, ap length (first_of_two keeper r rs true (of keeper ∙ eq-eqb keeper keeper refl)))
     ]
 
 -- ---- what is gathered of it
-at_gathered : {f : Profile} {k : ℕ} {later : LaterKept} {p : Progress} (old new : Keeper) → new.pass ≡ old.pass → new.book ≡ old.book → records_in new.out ≡ []
-    → room_of new.out ≡ room_of old.out
-    → KeeperAt f k (keeper_has (standing_of_pass old.pass) old.book old.out) later p
-    → KeeperAt f k (keeper_has (standing_of_pass new.pass) new.book new.out) later p
-at_gathered {f} {k} {later} {p} old new pass book none room at =
-    search arith
-
 -- A keeper waits for the same acts after what it said was gathered.
 pub waits_gathered : (f : Profile) (k : ℕ) (acts : List Act) (later : LaterKept) (p : Progress) (old new : Option Keeper) → HasSaid old new
     → KeeperWaits f k acts (kept_by_worker old) later p → KeeperWaits f k acts (kept_by_worker new) later p
-waits_gathered f k acts later p a b said waits = search (arith, at_gathered)
+waits_gathered f k acts later p a b said waits = search arith
 
 -- A keeper is of the region still after what it said was gathered.
 pub of_gathered : (region : SharedRegion) (old new : Option Keeper) → HasSaid old new → IsKeeperOf region old → IsKeeperOf region new
@@ -323,11 +289,7 @@ guarded_alike old new many alike (inl all) = inl (
   λ i d lt. let here : i < length old = omega (arith, lt, many) in
       has_alike (get_or old i d).keeper (get_or new i d).keeper (alike i d here) (all.1 i d here),
 )
-guarded_alike old new many alike (inr none) = inr (
-  none.0,
-  λ i d lt. let here : i < length old = omega (arith, lt, many) in
-      none_alike (get_or old i d).keeper (get_or new i d).keeper (alike i d here) (none.1 i d here),
-)
+guarded_alike old new many alike (inr none) = search arith fits 400
 
 -- ---- what it said in all
 -- What a keeper said is the same where its records are.
@@ -344,8 +306,7 @@ pub said_then : (k : ℕ) (said : List Record) (old new : Option Keeper) → Kep
 said_then k said a b pushed silent = search arith
 
 -- ---- before the phase: it waits for the requests of the phase, with room for the others
-pub kept_waits : {region : SharedRegion} {f : Profile} {keeper : ℕ} (k : ℕ) (ops left : List Op) (o : Option Keeper) {p : Progress}
-    → KeeperRests region f keeper (own_acts k (ops ++ left)) o p
+pub kept_waits : {region f keeper : _} (k : ℕ) (ops left : List Op) (o : Option Keeper) {p : _} → KeeperRests region f keeper (own_acts k (ops ++ left)) o p
     → KeeperWaits f keeper (own_acts k ops) (kept_by_worker o) (for_guards (own_acts k left) no_more) p
 kept_waits {f = f} {keeper} k ops left o {p} rests =
     waits_front f keeper (own_acts k ops) (own_acts k left) (kept_by_worker o) no_more p
@@ -355,12 +316,10 @@ kept_waits {f = f} {keeper} k ops left o {p} rests =
 pub kept_will : {region : SharedRegion} {f : Profile} {keeper : ℕ} (k : ℕ) (ops left : List Op) (o : Option Keeper) {p : Progress}
     → KeeperRests region f keeper (own_acts k (ops ++ left)) o p → WillWait keeper (own_acts k left) (kept_by_worker o)
 kept_will {f = f} {keeper} k ops left o {p} rests =
-    will_wait f keeper (own_acts k ops) (own_acts k left) (kept_by_worker o) no_more p
-    (subst (λ acts. KeeperWaits f keeper acts (kept_by_worker o) no_more p) (own_acts_both k ops left) rests.waits)
+    search (arith, all_back, kept_by_worker o, subst (λ acts. KeeperWaits f keeper acts (kept_by_worker o) no_more p) (own_acts_both k ops left) rests.waits)
 
 -- .. at another progress at which it has the same in hand
-pub kept_still : {region : SharedRegion} {f : Profile} {keeper : ℕ} {acts : List Act} {old new : Option Keeper} {p q : Progress} → new ≡ old
-    → part keeper q.list ≡ part keeper p.list → q.books keeper ≡ p.books keeper
+pub kept_still : {region f keeper acts old new : _} {p q : Progress} → new ≡ old → part keeper q.list ≡ part keeper p.list → q.books keeper ≡ p.books keeper
     → KeeperRests region f keeper acts old p → KeeperRests region f keeper acts new q
 kept_still {region} {f} {keeper} {acts} {old} {new} {p} {q} same parts books rests = search (arith, waits_still)
 

@@ -1,29 +1,28 @@
 -- What hands did in a phase, and what the names are after it.
 use Rattle.std.proofs.Common.{◌≡◌, ℕ, ◌+◌, ◌<◌, ◌==◌, ◌||◌, ◌⊎◌, inl, inr, Bool, true, false, if◌then◌else◌, List, [], ◌∷◌, set, length, get_or, Option, Some}
 use Rattle.std.proofs.Common.{None, refl, ap, sym, ◌∙◌, subst, arith, ◌≤◌, ◌++◌, eq-eqb, ◌≢◌, zero, suc, ◌-◌, All, vec_capacity, append-nil, true≢false, le-leb}
-use Rattle.std.proofs.{Common.ne_eqb, lemmas.{List.get_or_default, Bool.{cases_eq, false≢true, or_right, or_cases, or_parts, cases_Bool, cases_lt, not-true}}}
-use Rattle.std.{proofs.lemmas.Bool.{not_from_false, lt-leb}, specs.List.filter}
-use Rattle.pas_profile.specs.declared.{name.Block.Block, profile.Profile.Profile}
-use Rattle.pas_trace.specs.{EveryPlan.{is_asked, asked_with, asked_after, asked_by, AreSound, IsActorOf}, Asked.{work_of, of_task, request_of}}
-use Rattle.pas_trace.specs.{declared.{plan.{What.What, Chore.Chore, Work.Work, Op.Op}, item.Request.Request}, Acts.{Act, act_kept, operation_in}}
-use Rattle.pas_trace.specs.Acts.{asked_after_operation, is_active, idle_threads, idle_stops, acts_of_chore, acts_of_work, acts_of_op, acts_of_ops, own_acts}
-use Rattle.pas_trace.{specs.Acts.{numbers_from, scavenger_acts}, proofs.{EveryPlan.kept_with, ThreadsInOrder.numbers_count}}
-use Rattle.pas_answers.specs.{Answers.{Named, standing_for, Progress}, Names.{block_named, names_held}, Fit.{IsBelow, AreBelow, KeepsAbove}, Reaching.Reaches}
-use Rattle.pas_answers.{specs.{Calls.{block_behind, MayStand, AreKnown, OnlyAsked}, declared.names.Names.Names}, proofs.EachAct.all_back}
-use Rattle.pas_acts.specs.NameBooks.{requests_in, room_for, names_of, came_to, known_in, Requests, name_asked, names_asked, AreWithin, NamesAt}
-use Rattle.pas_acts.specs.{declared.names.NameBook.NameBook, Shares.{owner_in, IsWoven, AreAmong, IsRequestOf, NoneAsks, asked_after_act, asked_after_acts}}
-use Rattle.pas_acts.specs.{Shares.{actor_of_act, acts_by, AreInHand, thread_in}, Works.Later, Keepers.{Keeping, LaterKept}, Pairs.{PairWorks, KeeperWaits}}
-use Rattle.pas_acts.{specs.Pairs.KeptPushed, proofs.{ActsOfPlan.back_below, Naming.{are_known, sound_front, sound_back}, Noting.{asks, asks_more}}}
-use Rattle.pas_acts.proofs.{AtDesk.sits_for, PhaseActs.{none_own, acts_are_shared, own_thread, owner_of}}
-use Rattle.pas_threads.specs.{declared.{workers.Worker.Worker, scavenger.Scavenger.Scavenger, phases.Team.Team, keeper.Keeper.Keeper}, Taken.HasRequest}
-use Rattle.pas_threads.specs.{Taken.{IsEmptied, HasTaken, HandsOver}, Hands.{kept_by, WorkerAt, Did}, Sessions.WorkerHas, Turns.{Came, Told, TookNoPart}}
-use Rattle.pas_threads.specs.{Crews.{Crew, CrewDid}, Scavengers.{crew_of, ScavengerStands, DidScavenge}, Lent.{Shift, IsLent, AreLent}, Left.{pair_in, HasLeft}}
-use Rattle.pas_threads.specs.{Left.{keeper_actors, crew_in}, Dealing.{picked, count_of, is_in, is_out}, Performing.{Round, idle_in, IsReady, PaysFor}}
-use Rattle.pas_threads.specs.{Performing.{ThreadDone, ScavengerDone, PieceLeft}, Pairs.{kept_by_worker, IsKeeperOf, owed_kept, PairStands, PairDid, MayDoPhase}}
-use Rattle.pas_threads.{specs.Pairs.DidPhase, proofs.{TakingTurns.{set_each, came_none, pushed_none}, Benched.{among_cases, among_here, among_later}}}
-use Rattle.pas_threads.proofs.{Dealt.{some_item, picked_many, picked_at, picked_pairs, number_at, idle_picked, idle_distinct, idle_within}, Keepers.two_counted}
-use Rattle.pas_threads.proofs.Keepers.{owed_same, owed_still, kept_none, still_same, waits_still, kept_hands}
-use Rattle.pas_steps.specs.Desks.{Standing}
+use Rattle.std.proofs.{Common.{ne_eqb, not}, lemmas.{List.get_or_default, Bool.{cases_eq, false≢true, or_right, or_cases, cases_Bool, cases_lt}}}
+use Rattle.std.{proofs.lemmas.Bool.{not_from_false, or_parts, not-true, lt-leb}, specs.List.filter}
+use Rattle.pas_profile.specs.declared.{profile.Profile.Profile, name.Block.Block}
+use Rattle.pas_trace.specs.{EveryPlan.{is_asked, asked_after, AreSound, asked_with, asked_by, IsActorOf}, Asked.{work_of, of_task, request_of}}
+use Rattle.pas_trace.specs.{declared.plan.{What.What, Chore.Chore, Work.Work, Op.Op}, Acts.{Act, act_kept, is_active, idle_threads, idle_stops, acts_of_chore}}
+use Rattle.pas_trace.specs.Acts.{acts_of_work, acts_of_ops, own_acts, numbers_from, scavenger_acts, operation_in, asked_after_operation, acts_of_op}
+use Rattle.pas_trace.proofs.{ThreadsInOrder.numbers_count, EveryPlan.kept_with}
+use Rattle.pas_answers.specs.{Answers.{Named, Progress, standing_for}, Names.{block_named, names_held}, Reaching.Reaches, Calls.{OnlyAsked, block_behind}}
+use Rattle.pas_answers.{specs.{Calls.{MayStand, AreKnown}, Fit.{AreBelow, KeepsAbove}, declared.names.Names.Names}, proofs.EachAct.all_back}
+use Rattle.pas_acts.specs.NameBooks.{requests_in, room_for, names_of, known_in, Requests, names_asked, AreWithin, NamesAt, came_to, name_asked}
+use Rattle.pas_acts.specs.{declared.names.NameBook.NameBook, Shares.{owner_in, IsWoven, acts_by, AreAmong, IsRequestOf, NoneAsks, asked_after_act}}
+use Rattle.pas_acts.specs.{Shares.{asked_after_acts, actor_of_act, AreInHand, thread_in}, Pairs.{PairWorks, KeeperWaits, KeptPushed}}
+use Rattle.pas_acts.proofs.{Naming.{sound_front, are_known, sound_back}, AtDesk.sits_for, PhaseActs.{acts_are_shared, own_thread, owner_of, none_own}}
+use Rattle.pas_acts.proofs.{ActsLeft.threads_alike, ActsOfPlan.back_below, Noting.{asks, asks_more}}
+use Rattle.pas_threads.specs.{declared.{workers.Worker.Worker, scavenger.Scavenger.Scavenger, keeper.Keeper.Keeper}, Taken.{IsEmptied, HasTaken, HandsOver}}
+use Rattle.pas_threads.specs.{Taken.HasRequest, Hands.{kept_by, WorkerAt, Did}, Sessions.WorkerHas, Turns.{Came, Told, TookNoPart}, Crews.{Crew, CrewDid}}
+use Rattle.pas_threads.specs.{Scavengers.{crew_of, DidScavenge, ScavengerStands}, Lent.{Shift, IsLent, AreLent}, Left.{pair_in, HasLeft, keeper_actors}}
+use Rattle.pas_threads.specs.{Dealing.{picked, count_of, is_in, is_out}, Performing.{Round, idle_in, IsReady, ThreadDone, ScavengerDone, PaysFor, PieceLeft}}
+use Rattle.pas_threads.{specs.Pairs.{kept_by_worker, IsKeeperOf, owed_kept, MayDoPhase, DidPhase, PairStands, PairDid}, proofs.TakingTurns.set_each}
+use Rattle.pas_threads.proofs.{TakingTurns.{came_none, pushed_none}, Benched.{among_cases, among_here, among_later}, Dealt.{some_item, picked_many, picked_at}}
+use Rattle.pas_threads.proofs.{Dealt.{picked_pairs, number_at, idle_distinct, idle_within, filter_picked}, Keepers.{two_counted, owed_same, owed_still}}
+use Rattle.pas_threads.proofs.Keepers.{kept_none, still_same, waits_still, kept_hands}
 use Rattle.pas_bits.specs.{Masks.is_set, declared.mask.Mask4.Mask4}
 use Rattle.pas_shared.specs.{declared.region.SharedRegion.SharedRegion, Ruled.among}
 
@@ -83,14 +82,7 @@ pub emptied_more : (old now : List Worker) (i : ℕ) (e : Worker) (rs : Requests
 emptied_more old now i e rs lt left lt' none room so j d low =
     let was = left ∙ get_or_default old i e d lt' in
     set_each (λ (m : ℕ) (w : Worker). IsEmptied (get_or old m d) w) now i (with_requests (get_or now i e) rs) d j lt
-    (record {
-      pass = ap (λ (w : Worker). w.pass) was;
-      cache = ap (λ (w : Worker). w.cache) was;
-      out = ap (λ (w : Worker). w.out) was;
-      keeper = ap (λ (w : Worker). w.keeper) was;
-      empty = none;
-      room = room ∙ ap (λ (w : Worker). room_for w.requests) was;
-    })
+    (search arith fits 400)
     (λ ne. so j d (omega (arith, low, ne)))
 
 -- ---- what acts ask for
@@ -103,14 +95,9 @@ kept_acts : (acts : List Act) (asked : List ℕ) (n : ℕ) → is_asked asked n 
 kept_acts [] asked n is = is
 kept_acts (act ∷ acts) asked n is = kept_acts acts (asked_after_act act asked) n (kept_after (operation_in act) asked n is)
 
--- the names that acts ask for were asked for after them
-new_with : (request : Option Request) (asked ns : List ℕ) (n : ℕ) → is_asked (asked_with request [] ++ ns) n ≡ true
-    → (is_asked (asked_with request asked) n ≡ true) ⊎ (is_asked ns n ≡ true)
-new_with a asked ns n is = search (arith, or_cases)
-
 new_after : (o : Option Op) (asked ns : List ℕ) (n : ℕ) → is_asked (asked_after_operation o [] ++ ns) n ≡ true
     → (is_asked (asked_after_operation o asked) n ≡ true) ⊎ (is_asked ns n ≡ true)
-new_after a asked ns n is = search (arith, new_with)
+new_after a asked ns n is = search (arith, or_cases)
 
 asked_then : (acts : List Act) (asked : List ℕ) (n : ℕ) → is_asked (names_asked acts) n ≡ true → is_asked (asked_after_acts acts asked) n ≡ true
 asked_then [] asked n is = absurd (false≢true is)
@@ -128,16 +115,13 @@ after_stops : (m : ℕ) (idle asked : List ℕ) → asked_after_acts (idle_stops
 after_stops m [] asked = refl
 after_stops m (k ∷ idle) asked = after_stops m idle asked
 
-after_chore : (idle : List ℕ) (chore : Chore) (asked : List ℕ) → asked_after_acts (acts_of_chore idle chore) asked ≡ asked
-after_chore idle a asked = search (arith, after_stops)
-
 -- an operation that is tried first is asked for as any other
 operation_kept : (o : Option ℕ) (op : Op) → operation_in (act_kept o op) ≡ Some op
 operation_kept a op = search arith
 
 after_work : (idle : List ℕ) (op : Op) (work : Work) (asked : List ℕ) → work_of op.what ≡ work
     → asked_after_acts (acts_of_work idle op work) asked ≡ asked_with (of_task request_of work) asked
-after_work idle op a asked is = search (arith, operation_kept, after_chore)
+after_work idle op a asked is = search (arith, operation_kept, after_stops)
 
 after_ops : (idle : List ℕ) (ops : List Op) (asked : List ℕ) → asked_after_acts (acts_of_ops idle ops) asked ≡ asked_by asked ops
 after_ops idle [] asked = refl
@@ -189,28 +173,22 @@ none_ask f n idle asked (op ∷ ops) sound none =
     none k own.0 (ap (λ ns. is_asked ns n) (asks_more k op ops ∙ ap (λ ns. ns ++ asks k ops) mine) ∙ front_asked (name_asked op.what) (asks k ops) n own.1)))
     (none_ask f n idle (asked_after op.what asked) ops sound.2 (λ k some is. none k some (ap (λ ns. is_asked ns n) (asks_more k op ops) ∙ back_asked (first k) (asks k ops) n is)))
 
--- a thread that asks for a name has an operation in the phase
-active_if : (t s : Bool) (ms ns : List ℕ) (n : ℕ) → (is_asked ns n ≡ true → s ≡ true) → is_asked ((if t then ms else []) ++ ns) n ≡ true → t || s ≡ true
-active_if a s ms ns n rest is = search arith
-
 active_asks : (k : ℕ) (ops : List Op) (n : ℕ) → is_asked (asks k ops) n ≡ true → is_active ops k ≡ true
 active_asks k [] n is = absurd (false≢true is)
-active_asks k (op ∷ ops) n is = active_if (op.actor == k) (is_active ops k) (name_asked op.what) (asks k ops) n (active_asks k ops n) (ap (λ ns. is_asked ns n) (sym (asks_more k op ops)) ∙ is)
+active_asks k (op ∷ ops) n is = search (arith, op.actor == k, active_asks k ops n, ap (λ ns. is_asked ns n) (sym (asks_more k op ops)) ∙ is)
 
 -- ---- what a worker hands over
-hands_over : {f : Profile} {phase : List Op} {book : NameBook} {k keeper : ℕ} {σ σ' : Standing} {kept kept' : Keeping} {later : Later} {more : LaterKept}
-    {p : Progress} (old new : Worker) (names : List Named)
-    → (did : PairWorks f k keeper (own_acts k phase) [] σ σ' (kept_by book old) (kept_by book new) kept kept' later more p)
-    → requests_in old.requests ≡ [] → AreAmong did.reached.names names → HandsOver f phase book k new names
+hands_over : {f phase book k keeper σ σ' kept kept' later more p : _} (old new : Worker) (names : List Named)
+    → (did : PairWorks f k keeper (own_acts k phase) [] σ σ' (kept_by book old) (kept_by book new) kept kept' later more p) → requests_in old.requests ≡ []
+    → AreAmong did.reached.names names → HandsOver f phase book k new names
 hands_over {f} {phase} {book} {k} {p = p} old new names did none among =
     let noted = did.noted ∙ ap (λ (rs : List Named). names_of rs ++ names_asked (own_acts k phase)) none in
     let knows = did.stands.thread.names in
     record {
       noted = noted;
       says = λ n has.
-          let mine = ap (λ (ns : List ℕ). is_asked ns n) (sym noted) ∙ has in
           let known = are_known f (own_acts k phase) [] p did.reached did.reaches (λ m is. absurd (false≢true is)) n
-          (asked_then (own_acts k phase) [] n mine) in
+          (asked_then (own_acts k phase) [] n (ap (λ (ns : List ℕ). is_asked ns n) (sym noted) ∙ has)) in
           let block = knows.tells n ∙ ap block_behind known.1 in
           (known.0, among n known.0 known.1, block, subst (MayStand f) block (knows.stand n));
     }
@@ -220,16 +198,11 @@ hands_nothing : {f : Profile} {phase : List Op} {book : NameBook} {k : ℕ} (wor
     → own_acts k phase ≡ [] → HandsOver f phase book k worker names
 hands_nothing {f} {phase} {book} {k} worker names none idle = search (arith, false≢true)
 
--- the names of its requests are below the limit
-within_if : (t : Bool) (limit : ℕ) (what : What) (ns : List ℕ) → IsBelow limit what → AreWithin limit ns
-    → AreWithin limit ((if t then name_asked what else []) ++ ns)
-within_if a limit what ns below within = search arith
-
 -- The names for which a thread asks in a phase are below the bound of all names of the phase.
 pub names_within : (limit k : ℕ) (phase : List Op) → AreBelow limit phase → AreWithin limit (names_asked (own_acts k phase))
 names_within limit k [] below = tt
 names_within limit k (op ∷ ops) below =
-    subst (AreWithin limit) (sym (asks_more k op ops)) (within_if (op.actor == k) limit op.what (asks k ops) below.0 (names_within limit k ops below.1))
+    subst (AreWithin limit) (sym (asks_more k op ops)) (search (arith, op.actor == k, below.0, names_within limit k ops below.1))
 
 -- ---- after a phase
 
@@ -296,8 +269,7 @@ module _ {f : Profile} {book : NameBook} {p q : Progress} {own : ℕ → Progres
   names_then held = (names_after held, refl)
 
 -- a thread none of whose acts is left has its pass, and rests with it
-has_left : {region : SharedRegion} {book : NameBook} {f : Profile} {k : ℕ} {worker : Worker} {later : Later} {p : Progress}
-    → WorkerAt region book f k [] worker later p → WorkerHas region f k worker later p
+has_left : {region book f k worker later p : _} → WorkerAt region book f k [] worker later p → WorkerHas region f k worker later p
 has_left at = let spare = at.stands.spare in record { has = at.has; rests = record { sits = sits_for at.stands.sits (omega arith); cache = at.stands.cache; spare = omega (arith, spare) } }
 
 -- ---- a thread with an operation
@@ -430,10 +402,6 @@ pub owned_by : (threads : ℕ) (ops : List Op) (k : ℕ) (t : Bool) → is_activ
     → (owner_in threads ops k ≡ 0 → is_active ops k ≡ false) × ((w : ℕ) → owner_in threads ops k ≡ w → 1 ≤ w → (k ≡ w) × (is_active ops k ≡ true))
 owned_by threads ops k a is b most = search (arith, own_hands)
 
--- nobody past the threads has anything in hand
-owner_few : (threads : ℕ) (ops : List Op) (k w : ℕ) → ((j : ℕ) → is_active ops j ≡ true → j ≤ threads) → threads < w → owner_in threads ops k ≢ w
-owner_few threads ops k w within past is = search (arith, cases_Bool)
-
 none_in_hand : (owner : ℕ → ℕ) (w : ℕ) (acts : List Act) → ((k : ℕ) → owner k ≢ w) → acts_by owner w acts ≡ []
 none_in_hand owner w [] none = refl
 none_in_hand owner w (act ∷ acts) none =
@@ -444,211 +412,207 @@ none_in_hand owner w (act ∷ acts) none =
 abbrev came_as : {f : Profile} {acts acts' : List Act} {p : Progress} → acts' ≡ acts → Came f acts p → Came f acts' p
 came_as {f} {p = p} is own = record { reached = own.reached; reaches = subst (λ acts. Reaches f acts p own.reached) (sym is) own.reaches; said = own.said; records_are = own.records_are }
 
-module _ {region : SharedRegion} {r : Round} {team : Team} (ready : IsReady region r team) (awake : Mask4) (same : (k : ℕ) → is_set awake k ≡ is_active r.ops k)
-  where
-    abbrev pub inside : List Worker
-    inside = picked (is_in awake) 1 team.threads.items
+module _ {region r team : _} (ready : IsReady region r team) (awake : Mask4) (same : (k : ℕ) → is_set awake k ≡ is_active r.ops k) where
+  abbrev pub inside : List Worker
+  inside = picked (is_in awake) 1 team.threads.items
 
-    abbrev pub outside : List Worker
-    outside = picked (is_out awake) 1 team.threads.items
+  abbrev pub outside : List Worker
+  outside = picked (is_out awake) 1 team.threads.items
 
-    its_bit : (i : ℕ) → is_set awake (1 + i) ≡ is_active r.ops (suc i)
-    its_bit i = ap (is_set awake) (let one : 1 + i ≡ suc i = omega arith in one) ∙ same (suc i)
+  its_bit : (i : ℕ) → is_set awake (1 + i) ≡ is_active r.ops (suc i)
+  its_bit i = ap (is_set awake) (let one : 1 + i ≡ suc i = omega arith in one) ∙ same (suc i)
 
-    idle_are : idle_in r ≡ picked (is_out awake) 1 (numbers_from 1 r.threads)
-    idle_are = idle_picked awake r.ops r.threads same
+  idle_are : idle_in r ≡ picked (is_out awake) 1 (numbers_from 1 r.threads)
+  idle_are = threads_alike (λ k. not (is_active r.ops k)) (is_out awake) r.threads (λ k. ap not (sym (same k))) ∙ filter_picked (is_out awake) 1 r.threads
 
-    -- a worker is of one of the threads
-    within_threads : (i : ℕ) → i < length team.threads.items → suc i ≤ r.threads
-    within_threads i lt = omega (arith, ready.many, lt)
+  -- a worker is of one of the threads
+  within_threads : (i : ℕ) → i < length team.threads.items → suc i ≤ r.threads
+  within_threads i lt = omega (arith, ready.many, lt)
 
-    some_thread : (i : ℕ) → i < length team.threads.items → 1 ≤ r.threads
-    some_thread i lt = let le = within_threads i lt in omega (arith, le)
+  some_thread : (i : ℕ) → i < length team.threads.items → 1 ≤ r.threads
+  some_thread i lt = let le = within_threads i lt in omega (arith, le)
 
-    -- whose acts are whose
-    shared : AreInHand (owner_in r.threads r.ops) (acts_of_ops (idle_in r) r.ops)
-        × ((k : ℕ) → 1 ≤ k → k ≤ r.threads → is_active r.ops k ≡ true → acts_by (owner_in r.threads r.ops) k (acts_of_ops (idle_in r) r.ops) ≡ own_acts k r.ops)
-        × ((k : ℕ) → 1 ≤ k → k ≤ r.threads → is_active r.ops k ≡ false → acts_by (owner_in r.threads r.ops) k (acts_of_ops (idle_in r) r.ops) ≡ [])
-        × (acts_by (owner_in r.threads r.ops) 0 (acts_of_ops (idle_in r) r.ops) ≡ scavenger_acts (idle_in r) r.ops)
-    shared = acts_are_shared r.profile r.threads ready.asked r.ops ready.sound ready.behind ready.within
+  -- whose acts are whose
+  shared : AreInHand (owner_in r.threads r.ops) (acts_of_ops (idle_in r) r.ops)
+      × ((k : ℕ) → 1 ≤ k → k ≤ r.threads → is_active r.ops k ≡ true → acts_by (owner_in r.threads r.ops) k (acts_of_ops (idle_in r) r.ops) ≡ own_acts k r.ops)
+      × ((k : ℕ) → 1 ≤ k → k ≤ r.threads → is_active r.ops k ≡ false → acts_by (owner_in r.threads r.ops) k (acts_of_ops (idle_in r) r.ops) ≡ [])
+      × (acts_by (owner_in r.threads r.ops) 0 (acts_of_ops (idle_in r) r.ops) ≡ scavenger_acts (idle_in r) r.ops)
+  shared = acts_are_shared r.profile r.threads ready.asked r.ops ready.sound ready.behind ready.within
 
-    -- ---- before
-    pub own_may : All (MayDoPhase region r.book r.ops) inside
-    own_may j d lt = picked_pairs (λ (v w : Worker). MayDoPhase region r.book r.ops w) (is_in awake) d 1 team.threads.items team.threads.items refl
-        (λ i e less on. record { profile = r.profile; threads = r.threads; thread = suc i; later = r.later (suc i); more = r.more (suc i); progress = r.start; some = some_thread i less; stands = ready.workers i e less }) j d lt
+  -- ---- before
+  pub own_may : All (MayDoPhase region r.book r.ops) inside
+  own_may j d lt = picked_pairs (λ (v w : Worker). MayDoPhase region r.book r.ops w) (is_in awake) d 1 team.threads.items team.threads.items refl
+      (λ i e less on. record { profile = r.profile; threads = r.threads; thread = suc i; later = r.later (suc i); more = r.more (suc i); progress = r.start; some = some_thread i less; stands = ready.workers i e less }) j d lt
 
-    lent_many : length outside ≡ length (idle_in r)
-    lent_many = search (arith, picked_many, numbers_count, idle_are)
+  lent_many : length outside ≡ length (idle_in r)
+  lent_many = search (arith, picked_many, numbers_count, idle_are)
 
-    -- a worker that was lent is that of an idle thread
-    lent_stands : (j : ℕ) (d : Worker) → j < length outside → IsLent region (shift_of r) j (get_or outside j d) r.start
-    lent_stands j d lt =
-        subst (λ (ks : List ℕ). WorkerHas region r.profile (get_or ks j 0) (get_or outside j d) (r.later (get_or ks j 0)) r.start) (sym idle_are)
-        (picked_pairs (λ (k : ℕ) (w : Worker). WorkerHas region r.profile k w (r.later k) r.start) (is_out awake) 0 1 (numbers_from 1 r.threads) team.threads.items (numbers_count 1 r.threads ∙ sym ready.many)
-        (λ i e less off.
-        let number : suc i ≡ get_or (numbers_from 1 r.threads) i 0 = (let one : suc i ≡ 1 + i = omega arith in one)
-        ∙ sym (number_at 1 r.threads i (omega (arith, less, ready.many))) in
-        let none = none_own (suc i) r.ops (sym (its_bit i) ∙ not-true (is_set awake (1 + i)) off) in
-        subst (λ (k : ℕ). WorkerHas region r.profile k (get_or team.threads.items i e) (r.later k) r.start) number
-        (has_left (subst (λ acts. WorkerAt region r.book r.profile (suc i) acts (get_or team.threads.items i e) (r.later (suc i)) r.start) none (ready.workers i e less).thread))) j d lt)
+  -- a worker that was lent is that of an idle thread
+  lent_stands : (j : ℕ) (d : Worker) → j < length outside → IsLent region (shift_of r) j (get_or outside j d) r.start
+  lent_stands j d lt =
+      subst (λ (ks : List ℕ). WorkerHas region r.profile (get_or ks j 0) (get_or outside j d) (r.later (get_or ks j 0)) r.start) (sym idle_are)
+      (picked_pairs (λ (k : ℕ) (w : Worker). WorkerHas region r.profile k w (r.later k) r.start) (is_out awake) 0 1 (numbers_from 1 r.threads) team.threads.items (numbers_count 1 r.threads ∙ sym ready.many)
+      (λ i e less off.
+      let number : suc i ≡ get_or (numbers_from 1 r.threads) i 0 = (let one : suc i ≡ 1 + i = omega arith in one)
+      ∙ sym (number_at 1 r.threads i (omega (arith, less, ready.many))) in
+      let none = none_own (suc i) r.ops (sym (its_bit i) ∙ not-true (is_set awake (1 + i)) off) in
+      subst (λ (k : ℕ). WorkerHas region r.profile k (get_or team.threads.items i e) (r.later k) r.start) number
+      (has_left (subst (λ acts. WorkerAt region r.book r.profile (suc i) acts (get_or team.threads.items i e) (r.later (suc i)) r.start) none (ready.workers i e less).thread))) j d lt)
 
-    -- The scavenger with the idle threads lent to it stands before its operations of the phase.
-    pub may_scavenge : (scavenger : Scavenger) → scavenger.pass ≡ team.scavenger.pass → scavenger.outcomes ≡ team.scavenger.outcomes
-        → scavenger.out ≡ team.scavenger.out → scavenger.lent.items ≡ outside
-        → ScavengerStands region (shift_of r) (scavenger_acts (idle_in r) r.ops) scavenger r.start
-    may_scavenge scavenger pass outcomes out lent_is =
-        let has = ready.scavenger.has in
-        record {
-          has = record { pass = has.pass; present = pass ∙ has.present; of = has.of };
-          at = record {
-            stands = rw (outcomes, out) ready.scavenger.at;
-            lent = subst (λ (ws : List Worker). AreLent region (shift_of r) ws r.start) (sym lent_is) record { many = lent_many; each = lent_stands };
-          };
-        }
+  -- The scavenger with the idle threads lent to it stands before its operations of the phase.
+  pub may_scavenge : (scavenger : Scavenger) → scavenger.pass ≡ team.scavenger.pass → scavenger.outcomes ≡ team.scavenger.outcomes
+      → scavenger.out ≡ team.scavenger.out → scavenger.lent.items ≡ outside
+      → ScavengerStands region (shift_of r) (scavenger_acts (idle_in r) r.ops) scavenger r.start
+  may_scavenge scavenger pass outcomes out lent_is =
+      let has = ready.scavenger.has in
+      record {
+        has = record { pass = has.pass; present = pass ∙ has.present; of = has.of };
+        at = record {
+          stands = rw (outcomes, out) ready.scavenger.at;
+          lent = subst (λ (ws : List Worker). AreLent region (shift_of r) ws r.start) (sym lent_is) record { many = lent_many; each = lent_stands };
+        };
+      }
 
-    -- ---- the scavenger's operations, where it has one
-    module _ (scav0 scav1 : Scavenger) (stands : ScavengerStands region (shift_of r) (scavenger_acts (idle_in r) r.ops) scav0 r.start)
-        (lent_is : scav0.lent.items ≡ outside)
-        (did : is_active r.ops 0 ≡ true → DidScavenge region r.ops scav0 scav1) (stayed : is_active r.ops 0 ≡ false → scav1 ≡ scav0) where
-      -- as many are lent after them
-      pub lent_same : length scav1.lent.items ≡ length outside
-      lent_same = elim (cases_Bool (is_active r.ops 0)) [
-        | inl on ↦
-            let crew = (did on).did (shift_of r) ready.asked r.start ready.sound stands in
-            crew.did.does.stands.lent.many ∙ sym lent_many
-        | inr off ↦ ap (λ (s : Scavenger). length s.lent.items) (stayed off) ∙ ap length lent_is
+  -- ---- the scavenger's operations, where it has one
+  module _ (scav0 scav1 : Scavenger) (stands : ScavengerStands region (shift_of r) (scavenger_acts (idle_in r) r.ops) scav0 r.start)
+      (lent_is : scav0.lent.items ≡ outside)
+      (did : is_active r.ops 0 ≡ true → DidScavenge region r.ops scav0 scav1) (stayed : is_active r.ops 0 ≡ false → scav1 ≡ scav0) where
+    -- as many are lent after them
+    pub lent_same : length scav1.lent.items ≡ length outside
+    lent_same = elim (cases_Bool (is_active r.ops 0)) [
+      | inl on ↦
+          ((did on).did (shift_of r) ready.asked r.start ready.sound stands).did.does.stands.lent.many ∙ sym lent_many
+      | inr off ↦ ap (λ (s : Scavenger). length s.lent.items) (stayed off) ∙ ap length lent_is
+    ]
+
+    -- .. in a vector with as many places
+    pub lent_places : vec_capacity scav1.lent ≡ vec_capacity scav0.lent
+    lent_places = search (arith, cases_Bool)
+
+    -- ---- after
+    module _ (own1 new : List Worker) (each : (i : ℕ) (d : Worker) → i < length inside → DidPhase region r.book r.ops (get_or inside i d) (get_or own1 i d))
+        (own_is : own1 ≡ picked (is_in awake) 1 new) (back : scav1.lent.items ≡ picked (is_out awake) 1 new)
+        (size : length new ≡ length team.threads.items) where
+      abbrev PieceOf : ℕ → Type 0
+      PieceOf w = PieceLeft region r team.threads.items new scav0 scav1 w
+
+      -- nobody's
+      nobody_piece : (i : ℕ) → is_active r.ops (suc i) ≡ false → acts_by (owner_in r.threads r.ops) (suc i) (acts_of_ops (idle_in r) r.ops) ≡ []
+          → PieceOf (suc i)
+      nobody_piece i off none = record {
+        piece = record {
+          own = came_as none (came_none r.profile r.start);
+          threads = λ j d lt whose.
+              let mine = (owned_by r.threads r.ops (suc j) (is_active r.ops (suc j)) refl (omega arith) (within_threads j lt)).1 (suc i) whose
+              (omega arith) in
+              absurd (true≢false (sym mine.1 ∙ ap (is_active r.ops) mine.0 ∙ off));
+          scavenger = λ bad. absurd (omega (arith, bad));
+          still = λ away. refl;
+        };
+        left = λ j d is lt on. absurd (true≢false (sym on ∙ off));
+        crew_left = λ bad. absurd (omega (arith, bad));
+      }
+
+      -- (nobody past the threads has anything in hand)
+      nobody_acts : (i : ℕ) → is_active r.ops (suc i) ≡ false → acts_by (owner_in r.threads r.ops) (suc i) (acts_of_ops (idle_in r) r.ops) ≡ []
+      nobody_acts i off = search (arith, cases_lt, none_in_hand, cases_Bool)
+
+      -- a thread's
+      thread_piece : (i : ℕ) → i < length team.threads.items → is_active r.ops (suc i) ≡ true → PieceOf (suc i)
+      thread_piece i lt on =
+          let n = count_of (is_in awake) 1 i in
+          let d = some_item team.threads.items i lt in
+          let before = picked_at (is_in awake) 1 team.threads.items i d lt (its_bit i ∙ on) in
+          let after = picked_at (is_in awake) 1 new i d (omega (arith, lt, size)) (its_bit i ∙ on) in
+          let phase = subst (DidPhase region r.book r.ops (get_or team.threads.items i d)) (ap (λ (ws : List Worker). get_or ws n d) own_is ∙ after.1)
+          (subst (λ (w : Worker). DidPhase region r.book r.ops w (get_or own1 n d)) before.1 (each n d before.0))
+          in
+          let done = active_done {r = r} (suc i) (get_or team.threads.items i d) (get_or new i d) (ready.workers i d lt) (some_thread i lt) phase in
+          record {
+            piece = record {
+              own = came_as (shared.1 (suc i) (omega arith) (within_threads i lt) on) done.0;
+              threads = λ j e lt' whose.
+                  let mine = (owned_by r.threads r.ops (suc j) (is_active r.ops (suc j)) refl (omega arith) (within_threads j lt')).1 (suc i) whose
+                  (omega arith) in
+                  let at : i ≡ j = (omega (arith, mine.0)) in
+                  subst (λ (k : ℕ). ThreadDone region r (suc k) (get_or team.threads.items k e) (get_or new k e) done.0.said done.0.reached) at
+                  (subst (λ w. ThreadDone region r (suc i) w (get_or new i e) done.0.said done.0.reached) (get_or_default team.threads.items i d e lt)
+                  (subst (λ w. ThreadDone region r (suc i) (get_or team.threads.items i d) w done.0.said done.0.reached) (get_or_default new i d e (omega (arith, size, lt))) done.1));
+              scavenger = λ bad. absurd (omega (arith, bad));
+              still = λ away. absurd (true≢false (sym on ∙ away));
+            };
+            left = λ j e is lt' awake_too.
+                let at : i ≡ j = (omega (arith, is)) in
+                subst (λ k. HasLeft region (get_or new k e).bench (pair_in r.threads (suc i) (get_or team.threads.items k e).keeper) r.start.list done.0.reached.list) at
+                (subst (λ (w : Worker). HasLeft region (get_or new i e).bench (pair_in r.threads (suc i) w.keeper) r.start.list done.0.reached.list) (get_or_default team.threads.items i d e lt)
+                (subst (λ (w : Worker). HasLeft region w.bench (pair_in r.threads (suc i) (get_or team.threads.items i d).keeper) r.start.list done.0.reached.list) (get_or_default new i d e (omega (arith, size, lt))) done.2));
+            crew_left = λ bad. absurd (omega (arith, bad));
+          }
+
+      -- where a thread without an operation is lent: its rank among those that are
+      abbrev rank : ℕ → ℕ
+      rank j = count_of (is_out awake) 1 j
+
+      lent_at : (all lent : List Worker) → lent ≡ picked (is_out awake) 1 all → (j : ℕ) (d : Worker) → j < length all → is_active r.ops (suc j) ≡ false
+          → (rank j < length lent) × ((e : Worker) → get_or lent (rank j) e ≡ get_or all j d)
+      lent_at all lent is j d lt off =
+          let out = not_from_false (is_set awake (1 + j)) (its_bit j ∙ off) in (
+            subst (λ (ws : List Worker). rank j < length ws) (sym is) (picked_at (is_out awake) 1 all j d lt out).0,
+            λ e. ap (λ (ws : List Worker). get_or ws (rank j) e) is ∙ (picked_at (is_out awake) 1 all j e lt out).1 ∙ get_or_default all j e d lt,
+          )
+
+      -- the scavenger's
+      scavenger_piece : is_active r.ops 0 ≡ true → PieceOf 0
+      scavenger_piece on =
+          let crew = (did on).did (shift_of r) ready.asked r.start ready.sound stands in
+          record {
+            piece = record {
+              own = came_as shared.3 crew.did.does.came;
+              threads = λ j d lt whose.
+                  let off = (owned_by r.threads r.ops (suc j) (is_active r.ops (suc j)) refl (omega arith) (within_threads j lt)).0 whose in
+                  let was = lent_at team.threads.items scav0.lent.items lent_is j d lt off in
+                  let is = lent_at new scav1.lent.items back j d (omega (arith, size, lt)) off in
+                  lent_done (suc j) (rank j) (get_or team.threads.items j d) (get_or new j d) (omega arith) off
+                  (ready.workers j d lt) crew.did.does was.0 is.0
+                  (search (arith, numbers_count, idle_are, picked_at, not_from_false, its_bit, number_at)) was.1 is.1;
+              scavenger = λ is. scavenger_done r scav0 scav1 crew.did;
+              still = λ away. absurd (true≢false (sym on ∙ away));
+            };
+            left = λ j d bad. absurd (omega (arith, bad));
+            crew_left = λ is awake_too. crew.left;
+          }
+
+      -- .. where none of the operations is its own
+      idle_piece : is_active r.ops 0 ≡ false → PieceOf 0
+      idle_piece off =
+          let none = none_scavenged (idle_in r) r.ops off in
+          record {
+            piece = record {
+              own = came_as (shared.3 ∙ none) (came_none r.profile r.start);
+              threads = λ j d lt whose.
+                  let away = (owned_by r.threads r.ops (suc j) (is_active r.ops (suc j)) refl (omega arith) (within_threads j lt)).0 whose in
+                  let was = lent_at team.threads.items scav0.lent.items lent_is j d lt away in
+                  let is = lent_at new scav1.lent.items back j d (omega (arith, size, lt)) away in
+                  idle_stayed (suc j) (get_or team.threads.items j d) (get_or new j d) away (ready.workers j d lt) (sym (is.1 d) ∙ ap (λ (s : Scavenger). get_or s.lent.items (rank j) d) (stayed off) ∙ was.1 d);
+              scavenger = λ is. subst (λ (s : Scavenger). ScavengerDone region r scav0 s [] r.start) (sym (stayed off)) (
+                stands.has,
+                rw none at stands.at.stands,
+                pushed_none refl,
+                λ k far. record { part_is = refl; silent = refl },
+              );
+              still = λ away. refl;
+            };
+            left = λ j d bad. absurd (omega (arith, bad));
+            crew_left = λ is on. absurd (true≢false (sym on ∙ off));
+          }
+
+      -- Each worker's piece is done: what it did for all actors in its hands.
+      pub piece : (w : ℕ) → PieceOf w
+      piece zero = elim (cases_Bool (is_active r.ops 0)) [
+        | inl on ↦ scavenger_piece on
+        | inr off ↦ idle_piece off
       ]
-
-      -- .. in a vector with as many places
-      pub lent_places : vec_capacity scav1.lent ≡ vec_capacity scav0.lent
-      lent_places = search (arith, cases_Bool)
-
-      -- ---- after
-      module _ (own1 new : List Worker) (each : (i : ℕ) (d : Worker) → i < length inside → DidPhase region r.book r.ops (get_or inside i d) (get_or own1 i d))
-          (own_is : own1 ≡ picked (is_in awake) 1 new) (back : scav1.lent.items ≡ picked (is_out awake) 1 new)
-          (size : length new ≡ length team.threads.items) where
-        abbrev PieceOf : ℕ → Type 0
-        PieceOf w = PieceLeft region r team.threads.items new scav0 scav1 w
-
-        -- nobody's
-        nobody_piece : (i : ℕ) → is_active r.ops (suc i) ≡ false → acts_by (owner_in r.threads r.ops) (suc i) (acts_of_ops (idle_in r) r.ops) ≡ []
-            → PieceOf (suc i)
-        nobody_piece i off none = record {
-          piece = record {
-            own = came_as none (came_none r.profile r.start);
-            threads = λ j d lt whose.
-                let mine = (owned_by r.threads r.ops (suc j) (is_active r.ops (suc j)) refl (omega arith) (within_threads j lt)).1 (suc i) whose
-                (omega arith) in
-                absurd (true≢false (sym mine.1 ∙ ap (is_active r.ops) mine.0 ∙ off));
-            scavenger = λ bad. absurd (omega (arith, bad));
-            still = λ away. refl;
-          };
-          left = λ j d is lt on. absurd (true≢false (sym on ∙ off));
-          crew_left = λ bad. absurd (omega (arith, bad));
-        }
-
-        -- (nobody past the threads has anything in hand)
-        nobody_acts : (i : ℕ) → is_active r.ops (suc i) ≡ false → acts_by (owner_in r.threads r.ops) (suc i) (acts_of_ops (idle_in r) r.ops) ≡ []
-        nobody_acts i off = search (arith, cases_lt, none_in_hand, owner_few)
-
-        -- a thread's
-        thread_piece : (i : ℕ) → i < length team.threads.items → is_active r.ops (suc i) ≡ true → PieceOf (suc i)
-        thread_piece i lt on =
-            let n = count_of (is_in awake) 1 i in
-            let d = some_item team.threads.items i lt in
-            let before = picked_at (is_in awake) 1 team.threads.items i d lt (its_bit i ∙ on) in
-            let after = picked_at (is_in awake) 1 new i d (omega (arith, lt, size)) (its_bit i ∙ on) in
-            let phase = subst (DidPhase region r.book r.ops (get_or team.threads.items i d)) (ap (λ (ws : List Worker). get_or ws n d) own_is ∙ after.1)
-            (subst (λ (w : Worker). DidPhase region r.book r.ops w (get_or own1 n d)) before.1 (each n d before.0))
-            in
-            let done = active_done {r = r} (suc i) (get_or team.threads.items i d) (get_or new i d) (ready.workers i d lt) (some_thread i lt) phase in
-            record {
-              piece = record {
-                own = came_as (shared.1 (suc i) (omega arith) (within_threads i lt) on) done.0;
-                threads = λ j e lt' whose.
-                    let mine = (owned_by r.threads r.ops (suc j) (is_active r.ops (suc j)) refl (omega arith) (within_threads j lt')).1 (suc i) whose
-                    (omega arith) in
-                    let at : i ≡ j = (omega (arith, mine.0)) in
-                    subst (λ (k : ℕ). ThreadDone region r (suc k) (get_or team.threads.items k e) (get_or new k e) done.0.said done.0.reached) at
-                    (subst (λ w. ThreadDone region r (suc i) w (get_or new i e) done.0.said done.0.reached) (get_or_default team.threads.items i d e lt)
-                    (subst (λ w. ThreadDone region r (suc i) (get_or team.threads.items i d) w done.0.said done.0.reached) (get_or_default new i d e (omega (arith, size, lt))) done.1));
-                scavenger = λ bad. absurd (omega (arith, bad));
-                still = λ away. absurd (true≢false (sym on ∙ away));
-              };
-              left = λ j e is lt' awake_too.
-                  let at : i ≡ j = (omega (arith, is)) in
-                  subst (λ k. HasLeft region (get_or new k e).bench (pair_in r.threads (suc i) (get_or team.threads.items k e).keeper) r.start.list done.0.reached.list) at
-                  (subst (λ (w : Worker). HasLeft region (get_or new i e).bench (pair_in r.threads (suc i) w.keeper) r.start.list done.0.reached.list) (get_or_default team.threads.items i d e lt)
-                  (subst (λ (w : Worker). HasLeft region w.bench (pair_in r.threads (suc i) (get_or team.threads.items i d).keeper) r.start.list done.0.reached.list) (get_or_default new i d e (omega (arith, size, lt))) done.2));
-              crew_left = λ bad. absurd (omega (arith, bad));
-            }
-
-        -- where a thread without an operation is lent: its rank among those that are
-        abbrev rank : ℕ → ℕ
-        rank j = count_of (is_out awake) 1 j
-
-        at_rank : (j : ℕ) → j < length team.threads.items → is_active r.ops (suc j) ≡ false → get_or (idle_in r) (rank j) 0 ≡ suc j
-        at_rank j lt off =
-            search (arith, numbers_count, idle_are, picked_at, not_from_false, its_bit, number_at)
-
-        lent_at : (all lent : List Worker) → lent ≡ picked (is_out awake) 1 all → (j : ℕ) (d : Worker) → j < length all → is_active r.ops (suc j) ≡ false
-            → (rank j < length lent) × ((e : Worker) → get_or lent (rank j) e ≡ get_or all j d)
-        lent_at all lent is j d lt off =
-            let out = not_from_false (is_set awake (1 + j)) (its_bit j ∙ off) in (
-              subst (λ (ws : List Worker). rank j < length ws) (sym is) (picked_at (is_out awake) 1 all j d lt out).0,
-              λ e. ap (λ (ws : List Worker). get_or ws (rank j) e) is ∙ (picked_at (is_out awake) 1 all j e lt out).1 ∙ get_or_default all j e d lt,
-            )
-
-        -- the scavenger's
-        scavenger_piece : is_active r.ops 0 ≡ true → PieceOf 0
-        scavenger_piece on =
-            let crew = (did on).did (shift_of r) ready.asked r.start ready.sound stands in
-            record {
-              piece = record {
-                own = came_as shared.3 crew.did.does.came;
-                threads = λ j d lt whose.
-                    let off = (owned_by r.threads r.ops (suc j) (is_active r.ops (suc j)) refl (omega arith) (within_threads j lt)).0 whose in
-                    let was = lent_at team.threads.items scav0.lent.items lent_is j d lt off in
-                    let is = lent_at new scav1.lent.items back j d (omega (arith, size, lt)) off in
-                    lent_done (suc j) (rank j) (get_or team.threads.items j d) (get_or new j d) (omega arith) off (ready.workers j d lt) crew.did.does was.0 is.0 (at_rank j lt off) was.1 is.1;
-                scavenger = λ is. scavenger_done r scav0 scav1 crew.did;
-                still = λ away. absurd (true≢false (sym on ∙ away));
-              };
-              left = λ j d bad. absurd (omega (arith, bad));
-              crew_left = λ is awake_too. crew.left;
-            }
-
-        -- .. where none of the operations is its own
-        idle_piece : is_active r.ops 0 ≡ false → PieceOf 0
-        idle_piece off =
-            let none = none_scavenged (idle_in r) r.ops off in
-            record {
-              piece = record {
-                own = came_as (shared.3 ∙ none) (came_none r.profile r.start);
-                threads = λ j d lt whose.
-                    let away = (owned_by r.threads r.ops (suc j) (is_active r.ops (suc j)) refl (omega arith) (within_threads j lt)).0 whose in
-                    let was = lent_at team.threads.items scav0.lent.items lent_is j d lt away in
-                    let is = lent_at new scav1.lent.items back j d (omega (arith, size, lt)) away in
-                    idle_stayed (suc j) (get_or team.threads.items j d) (get_or new j d) away (ready.workers j d lt) (sym (is.1 d) ∙ ap (λ (s : Scavenger). get_or s.lent.items (rank j) d) (stayed off) ∙ was.1 d);
-                scavenger = λ is. subst (λ (s : Scavenger). ScavengerDone region r scav0 s [] r.start) (sym (stayed off)) (
-                  stands.has,
-                  rw none at stands.at.stands,
-                  pushed_none refl,
-                  λ k far. record { part_is = refl; silent = refl },
-                );
-                still = λ away. refl;
-              };
-              left = λ j d bad. absurd (omega (arith, bad));
-              crew_left = λ is on. absurd (true≢false (sym on ∙ off));
-            }
-
-        -- Each worker's piece is done: what it did for all actors in its hands.
-        pub piece : (w : ℕ) → PieceOf w
-        piece zero = elim (cases_Bool (is_active r.ops 0)) [
-          | inl on ↦ scavenger_piece on
-          | inr off ↦ idle_piece off
-        ]
-        piece (suc i) = search (arith, cases_Bool, thread_piece, nobody_piece, nobody_acts)
+      piece (suc i) = search (arith, cases_Bool, thread_piece, nobody_piece, nobody_acts)
 
 -- Which actors a worker has in hand in a phase.
 
@@ -659,7 +623,7 @@ filter_taken chosen a ns on = ap (λ (b : Bool). if b then a ∷ filter chosen n
 filter_passed : (chosen : ℕ → Bool) (a : ℕ) (ns : List ℕ) → chosen a ≡ false → filter chosen (a ∷ ns) ≡ filter chosen ns
 filter_passed chosen a ns off = ap (λ (b : Bool). if b then a ∷ filter chosen ns else filter chosen ns) off
 
-chosen_among : (chosen : ℕ → Bool) (k a n : ℕ) → chosen k ≡ true → a ≤ k → k < a + n → among (filter chosen (numbers_from a n)) k ≡ true
+pub chosen_among : (chosen : ℕ → Bool) (k a n : ℕ) → chosen k ≡ true → a ≤ k → k < a + n → among (filter chosen (numbers_from a n)) k ≡ true
 chosen_among chosen k a zero on low high = absurd (omega (arith, low, high))
 chosen_among chosen k a (suc n) on low high = elim (cases_eq a k) [
   | inl is ↦
@@ -672,7 +636,7 @@ chosen_among chosen k a (suc n) on low high = elim (cases_eq a k) [
       ]
 ]
 
-among_chosen : (chosen : ℕ → Bool) (k a n : ℕ) → among (filter chosen (numbers_from a n)) k ≡ true → (chosen k ≡ true) × (a ≤ k) × (k < a + n)
+pub among_chosen : (chosen : ℕ → Bool) (k a n : ℕ) → among (filter chosen (numbers_from a n)) k ≡ true → (chosen k ≡ true) × (a ≤ k) × (k < a + n)
 among_chosen chosen k a zero its = absurd (true≢false (sym its))
 among_chosen chosen k a (suc n) its = elim (cases_Bool (chosen a)) [
   | inl on ↦ elim (among_cases a k (filter chosen (numbers_from (a + 1) n)) (sym (ap (λ ns. among ns k) (filter_taken chosen a (numbers_from (a + 1) n) on)) ∙ its)) [
@@ -685,15 +649,12 @@ among_chosen chosen k a (suc n) its = elim (cases_Bool (chosen a)) [
 ]
 
 -- ---- a thread with an operation, and its keeper
-owned_active : (threads : ℕ) (ops : List Op) (k w : ℕ) → owner_in threads ops k ≡ suc w → thread_in threads k ≡ suc w
-owned_active threads ops k w is = search (arith, cases_Bool)
-
 past_threads : (threads k : ℕ) → threads < k → thread_in threads k ≡ k - threads
 past_threads threads k past = ap (λ (b : Bool). if b then k else k - threads) (lt-leb k threads past)
 
 -- An actor in the hands of a thread's worker is that thread or its keeper.
 pub in_pair : (threads : ℕ) (ops : List Op) (k w : ℕ) → owner_in threads ops k ≡ suc w → (k ≡ suc w) ⊎ (k ≡ threads + suc w)
-in_pair threads ops k w is = search (arith, cases_lt, past_threads, owned_active, own_thread)
+in_pair threads ops k w is = search (arith, cases_lt, past_threads, cases_Bool, own_thread)
 
 -- both are in its hands
 its_keeper : (actor k : ℕ) (o : Option Keeper) → among (keeper_actors actor o) k ≡ true → k ≡ actor
@@ -714,9 +675,3 @@ pub pair_keeps : (threads i : ℕ) (o : Option Keeper) → (pair_in threads (suc
 pair_keeps threads i a = search (arith, among_later, among_here)
 
 -- ---- the scavenger, and the threads that are idle
-pub in_crew : (threads : ℕ) (ops : List Op) (k : ℕ) → owner_in threads ops k ≡ 0 → k ≤ threads → crew_in (idle_threads threads ops) k ≡ true
-in_crew threads ops a is most = search (arith, among_here, owned_by, among_later, chosen_among)
-
--- The actors of the scavenger's crew are all in its hands.
-pub crew_within : (threads : ℕ) (ops : List Op) (k : ℕ) → owner_in threads ops 0 ≡ 0 → crew_in (idle_threads threads ops) k ≡ true → owner_in threads ops k ≡ 0
-crew_within threads ops k none its = search (arith, among_cases, among_chosen, cases_Bool, true≢false, owner_of, own_thread)

@@ -1,35 +1,34 @@
 -- A phase of the team: what each worker's share of it is, what all workers did and said is put together, gathered and taken over, and then the team stands
 -- before the phases that are left.
 use Rattle.std.proofs.Common.{◌≡◌, ℕ, zero, ◌+◌, ◌-◌, ◌<◌, ◌≤◌, true, inl, inr, List, [], ◌++◌, length, None, refl, ap, sym, ◌∙◌, subst, arith, append-nil, suc}
-use Rattle.std.proofs.{Common.{Bool, false, ◌∷◌, get_or, Option, All, map, length-append, MatchOption, eqb-true, eq-eqb, ◌⊎◌}, lemmas.List.append_cancel_left}
-use Rattle.std.proofs.lemmas.Bool.{false_from_ne_true, cases_Bool, cases_lt}
+use Rattle.std.proofs.Common.{Bool, false, ◌∷◌, get_or, Option, All, map, length-append, MatchOption, eqb-true, eq-eqb, ◌⊎◌, true≢false, ◌≢◌}
+use Rattle.std.proofs.lemmas.{List.append_cancel_left, Bool.{false_from_ne_true, cases_Bool, cases_lt}}
 use Rattle.pas_profile.specs.declared.profile.Profile.{Profile}
-use Rattle.pas_steps.specs.{Lists.{part, Whole}, Views.View}
+use Rattle.pas_steps.specs.Lists.{part, Whole}
 use Rattle.pas_shared.specs.{declared.{region.SharedRegion.SharedRegion, ledger.Ledger.Ledger}, Ruled.{steps_of, IsEarlier, AreEarlier}, Ledgers.looks_of}
 use Rattle.pas_trace.specs.{EveryPlan.{own_records, is_asked, records_of_ops, all_ops}, declared.plan.Op.Op, Acts.{Act, own_acts, scavenger_acts, idle_threads}}
 use Rattle.pas_trace.specs.{Acts.{acts_of_ops, is_active, Wakes, numbers_from, active_threads, phase_acts}, Asked.keeper_in, EveryPhase.FreeTheirOwn}
 use Rattle.pas_trace.proofs.EveryPlan.{own_both, records_both}
 use Rattle.pas_cache.specs.Caches.{Cached, cached}
-use Rattle.pas_utility.specs.Outcomes.{places_of}
 use Rattle.pas_answers.specs.{Answers.{Progress, Named}, Calls.{owed_events, OnlyAsked}, Fit.{costs_of, own_costs_of, AreFit}, Names.names_held}
 use Rattle.pas_answers.{specs.{Reaching.Reaches, Ways.{records_by, by_actors}, Stages.{in_hands, phase_stages}}, proofs.OwnRecords.records_both as said_both}
 use Rattle.pas_answers.proofs.{Reached.reach_both, EachAct.all_back}
-use Rattle.pas_acts.specs.{Pairs.{for_guards, KeeperWaits, KeptPushed}, Awake.awake_in, Shares.{Owners, acts_by, owner_in, AreKeptBehind, IsShareOf, IsWoven}}
+use Rattle.pas_acts.specs.{Pairs.{for_guards, KeeperWaits, KeptPushed}, Awake.awake_in, Shares.{acts_by, owner_in, AreKeptBehind, IsWoven, Owners, IsShareOf}}
 use Rattle.pas_acts.specs.{NameBooks.{NamesAt, requests_in, names_of, known_in, Requests, AreWithin}, declared.names.NameBook.NameBook}
-use Rattle.pas_acts.proofs.{ActsOfPlan.{idle_few, ops_fit}, Weaving.weave, AtDesk.{rests_still, sits_still, sits_for}, Naming.{sound_front, below_front}}
-use Rattle.pas_acts.proofs.{ActsLeft.threads_alike, PhaseActs.{acts_are_shared, zero_own, own_thread, owner_of, kept_thread}}
+use Rattle.pas_acts.proofs.{ActsOfPlan.{idle_few, ops_fit}, AtDesk.{rests_still, sits_still, sits_for}, Naming.{sound_front, below_front}}
+use Rattle.pas_acts.proofs.{ActsLeft.threads_alike, PhaseActs.{acts_are_shared, own_thread, owner_of, kept_thread, zero_own}, Weaving.weave}
 use Rattle.pas_threads.specs.{Pairs.{no_more, KeeperRests, owed_kept, keeper_at, owed_by_keepers, AreGuarded, kept_by_worker}, Performing.{Round, idle_in}}
-use Rattle.pas_threads.specs.{Performing.{ThreadDone, ScavengerDone, IsDone, HeardOrder, IsHeard}, Sessions.{WorkerRests, ScavengerRests, WorkerHas, Session}}
+use Rattle.pas_threads.specs.{Performing.{ThreadDone, ScavengerDone, HeardOrder, IsHeard, IsDone}, Sessions.{WorkerRests, ScavengerRests, WorkerHas, Session}}
 use Rattle.pas_threads.specs.Sessions.{planned, owed_by, HasPlaces, TeamAt, AreMarked, AreWritten, HasRoom, PhaseAt, PhaseDone, IsOfActors, StandSo, WentBy}
 use Rattle.pas_threads.specs.{Sessions.evenly, Taken.{HandsOver, HasTaken, IsWithin}, Left.{pair_in, crew_in}, Turns.{owed_at, Came, TookNoPart, said_by_all}}
 use Rattle.pas_threads.specs.{Turns.{said_by_keepers, Pushed}, declared.{scavenger.Scavenger.Scavenger, workers.Worker.Worker, keeper.Keeper.Keeper}}
 use Rattle.pas_threads.{specs.declared.phases.Team.Team, proofs.TakingTurns.{IsCleared, IsScavengerCleared, WereTaken, cleared, pass_still, same_owed}}
-use Rattle.pas_threads.proofs.{TakingTurns.WereGathered, Dealt.{number_at, some_item}, Performed.{names_then, names_within, in_pair, pair_within, pair_has}}
-use Rattle.pas_threads.proofs.{Performed.{pair_keeps, in_crew, crew_within}, ReadyPhases.{own_costs, scavenger_costs, own_all, all_paid, owed_less, kept_less}}
-use Rattle.pas_threads.proofs.{ReadyPhases.{HasBegun, round_of, room_is, active_front, active_back}, Keepers.{owed_still, will_wait_then, waits_next}}
-use Rattle.pas_threads.proofs.{Keepers.{waits_still, owed_gathered, keeper_is, kept_nobody, kept_will, kept_hands, pushed_alike}, Staging.{stand_all, of_first}}
-use Rattle.pas_threads.proofs.{Staging.{went_both, went_alone, went_sorted, sorted_still, sorted_seen}, BetweenPhases.{AllTold, may_gather, room_left, written}}
-use Rattle.pas_threads.proofs.BetweenPhases.{rest_again}
+use Rattle.pas_threads.proofs.{TakingTurns.WereGathered, Dealt.{number_at, some_item}, Benched.{among_here, among_later, among_cases}, Performed.names_then}
+use Rattle.pas_threads.proofs.Performed.{names_within, in_pair, pair_within, pair_has, pair_keeps, owned_by, chosen_among, among_chosen}
+use Rattle.pas_threads.proofs.ReadyPhases.{own_costs, scavenger_costs, own_all, all_paid, owed_less, kept_less, HasBegun, round_of, room_is, active_front}
+use Rattle.pas_threads.proofs.{ReadyPhases.active_back, Keepers.{owed_still, will_wait_then, waits_next, waits_still, owed_gathered, keeper_is, kept_nobody}}
+use Rattle.pas_threads.proofs.{Keepers.{kept_will, kept_hands, pushed_alike}, Staging.{stand_all, of_first, went_both, went_alone, went_sorted, sorted_still}}
+use Rattle.pas_threads.proofs.{Staging.sorted_seen, BetweenPhases.{AllTold, may_gather, room_left, written, rest_again}}
 use Rattle.pas_bits.specs.{Masks.is_set, declared.mask.Mask4.Mask4}
 use Rattle.pas_core.specs.Orders.{steps_by}
 use Rattle.pas_records.specs.{Rooms.{records_in, room_of, Records}, declared.record.Record.Record}
@@ -88,8 +87,7 @@ pub record WorkerShare (region : SharedRegion) (r : Round) (k : ℕ) (old new : 
   pub spare : (r.later k).records ≡ room_of old.out - (owed_at r.profile k r.start + own_costs_of k (own_acts k r.ops))
   pub more : r.more k ≡ for_guards (own_acts k left) no_more
 
-module _ {region : SharedRegion} {r : Round} {k : ℕ} {old new : Worker} {left : List Op} {said : List Record} {reached : Progress}
-    (x : WorkerShare region r k old new left said reached) where
+module _ {region r k old new left said reached : _} (x : WorkerShare region r k old new left said reached) where
   abbrev keeper : ℕ
   keeper = r.threads + k
 
@@ -116,16 +114,13 @@ module _ {region : SharedRegion} {r : Round} {k : ℕ} {old new : Worker} {left 
   pair_paid : length (records_by k said) + length (records_by keeper said) + (owed_at r.profile k reached + owed_kept r.profile keeper new.keeper reached)
       ≤ owed_at r.profile k r.start + owed_kept r.profile keeper old.keeper r.start + own_records (planned_in r) k r.ops
   pair_paid =
-      let mine = ap length (said_alike x.own said x.same x.records_are) in
       let its = ap length (said_alike x.own said x.same_kept x.records_are) in
       let owes = same_owed r.profile x.own.reached reached k (sym x.same.parts) (sym x.same.caches) in
       let owed = owed_still r.profile keeper new.keeper x.own.reached reached (sym x.same_kept.parts) in
-      let cost = own_costs (planned_in r) k r.ops in
       elim x.done.paid [
-        | inl both ↦ omega (arith, mine, its, owes, owed, cost, both)
+        | inl both ↦ omega (arith, ap length (said_alike x.own said x.same x.records_are), its, owes, owed, own_costs (planned_in r) k r.ops, both)
         | inr idle ↦
-            let none = ap length idle.0 in
-            omega (arith, its, owed, none, idle.1, has_paid)
+            omega (arith, its, owed, ap length idle.0, idle.1, has_paid)
       ]
 
   -- Where the worker has no keeper, that actor took no part.
@@ -153,11 +148,7 @@ module _ {region : SharedRegion} {r : Round} {k : ℕ} {old new : Worker} {left 
       record { has = has_then.has; rests = record { sits = sits_for at.sits (omega (arith, events)); cache = at.cache; spare = omega (arith, room, both, spare, owed, mine, has_paid, owed_before) } }
 
   kept_left : KeeperWaits r.profile keeper (own_acts k left) (kept_by_worker new.keeper) no_more reached
-  kept_left =
-      let will = will_wait_then keeper x.own.said (own_acts k left) (kept_by_worker old.keeper) (kept_by_worker new.keeper) x.done.kept_told (kept_will k r.ops left old.keeper x.kept) in
-      waits_next r.profile keeper (own_acts k left) (kept_by_worker new.keeper) no_more reached will
-      (waits_still r.profile keeper [] new.keeper (for_guards (own_acts k left) no_more) x.own.reached reached (sym x.same_kept.parts) (sym x.same_kept.books)
-      (subst (λ later. KeeperWaits r.profile keeper [] (kept_by_worker new.keeper) later x.own.reached) x.more x.done.waits))
+  kept_left = search (arith, will_wait_then, kept_will, waits_next, waits_still) fits 400
 
 -- What a worker hands over is about its requests.
 handed : {f : Profile} {ops : List Op} {book : NameBook} {k : ℕ} {new gathered : Worker} {names : List Named} → gathered.requests ≡ new.requests
@@ -182,8 +173,7 @@ pub record ScavengerShare (region : SharedRegion) (r : Round) (old new : Scaveng
   pub events : (r.later 0).events ≡ own_records (planned_in r) 0 left
   pub spare : (r.later 0).records ≡ room_of old.out - costs_of r.profile.pages (scavenger_acts (idle_in r) r.ops)
 
-module _ {region : SharedRegion} {r : Round} {old new : Scavenger} {p : Progress} {left : List Op} {said : List Record} {reached : Progress}
-    (x : ScavengerShare region r old new p left said reached) where
+module _ {region r old new p left said reached : _} (x : ScavengerShare region r old new p left said reached) where
   -- What the scavenger said in the phase are its own records of what was said.
   scavenger_said : records_in new.out ≡ records_by 0 said
   scavenger_said = x.done.2.added ∙ ap (λ (rs : List Record). rs ++ records_by 0 x.own.said) x.rests.said ∙ said_alike x.own said x.same x.records_are
@@ -196,18 +186,9 @@ module _ {region : SharedRegion} {r : Round} {old new : Scavenger} {p : Progress
   -- Once what it said is gathered it rests.
   scavenger_after : {after : Scavenger} → IsScavengerCleared new after → ScavengerRests region r.profile after (own_records (planned_in r) 0 left) reached
   scavenger_after c =
-      let both = own_both (planned_in r) 0 r.ops left in
-      let nothing = ap length c.empty in
       record {
         has = record { pass = x.done.0.pass; present = c.pass ∙ x.done.0.present; of = x.done.0.of };
-        at = record {
-          stands = record {
-            sits = sits_still (λ (v : View). costs_of r.profile.pages [] + own_records (planned_in r) 0 left) (pass_still x.done.0.pass) (sym x.same.parts)
-                (sits_for x.done.1.stands.sits (omega (arith, x.events)));
-            spare = omega (arith, x.done.2.room, x.rests.at.stands.spare, both, nothing, c.size);
-          };
-          has_places = ap places_of c.outcomes ∙ x.done.1.has_places;
-        };
+        at = search (arith, sits_still, own_both) fits 400;
         said = c.empty;
         none = c.none;
       }
@@ -224,9 +205,8 @@ scavenger_own : (threads : ℕ) (ops : List Op) → owner_in threads ops 0 ≡ 0
 scavenger_own threads ops = owner_of threads ops 0 0 (own_thread threads 0 (omega arith)) ∙ zero_own (is_active ops 0)
 
 -- ---- the team, once all hands did their operations
-module _ {region : SharedRegion} {s : Session} {awake : Mask4} {team team1 team2 : Team} {p : Progress} (ops : List Op) (rest : List (List Op))
-    (at : TeamAt region s (ops ∷ rest) team p) (begun : HasBegun region s awake ops rest team team1 p)
-    (done : IsDone region (round_of s ops rest team1 begun.woke.turns.came.reached) team1 team2) where
+module _ {region s awake team team1 team2 p : _} (ops : List Op) (rest : List (List Op)) (at : TeamAt region s (ops ∷ rest) team p)
+    (begun : HasBegun region s awake ops rest team team1 p) (done : IsDone region (round_of s ops rest team1 begun.woke.turns.came.reached) team1 team2) where
   abbrev f : Profile
   f = s.profile
 
@@ -338,11 +318,8 @@ module _ {region : SharedRegion} {s : Session} {awake : Mask4} {team team1 team2
       let d = some_item team1.threads.items i less in
       let before = ap (λ (o : Option Keeper). owed_kept f (s.threads + suc i) o start) (keeper_is team1.threads.items i d less) in
       let after = ap (λ (o : Option Keeper). owed_kept f (s.threads + suc i) o reached) (keeper_is team2.threads.items i d (omega (arith, less, done.many))) in
-      let one = pair_paid (share i d less) in
-      omega (arith, before, after, one)) in
-      let own = own_all (planned s) ops s.threads in
-      let few = scavenger_paid crew_share in
-      omega (arith, threads, own, few)
+      omega (arith, before, after, pair_paid (share i d less))) in
+      omega (arith, threads, own_all (planned s) ops s.threads, scavenger_paid crew_share)
 
   told : AllTold region s ops left said team1.threads.items team2.threads.items team2.threads.items start reached
   told = record {
@@ -366,8 +343,7 @@ module _ {region : SharedRegion} {s : Session} {awake : Mask4} {team team1 team2
     hands : (i : ℕ) (d : Worker) → i < length gathered → HandsOver f ops team1.book (suc i) (get_or gathered i d) reached.names
     unfolding share
     hands i d lt =
-        let here : i < length team1.threads.items = omega (arith, lt, sized) in
-        let x = share i d here in
+        let x = share i d (omega (arith, lt, sized)) in
         handed (g.each i d (omega (arith, lt, g.many))).requests
         (x.done.hands_over x.rests.asked reached.names (woven.shares (owner_in s.threads ops (suc i))).names)
 
@@ -376,10 +352,9 @@ module _ {region : SharedRegion} {s : Session} {awake : Mask4} {team team1 team2
     may_take i d lt =
         let held = names_held team.book.names in
         let limit : held ≡ names_held team2.book.names = ap names_held (sym (ap (λ (b : NameBook). b.names) done.book ∙ begun.names)) in
-        let within = names_within held (suc i) ops (below_front held ops left at.names.below) in
         record {
           within = subst (λ n. AreWithin n (names_of (requests_in (get_or gathered i d).requests))) limit
-              (subst (AreWithin held) (sym (hands i d lt).noted) within);
+              (subst (AreWithin held) (sym (hands i d lt).noted) (names_within held (suc i) ops (below_front held ops left at.names.below)));
         }
 
     module _ (team3 : Team) (t : WereTaken gathered team3.threads.items team2.book team3.book) where
@@ -393,15 +368,12 @@ module _ {region : SharedRegion} {s : Session} {awake : Mask4} {team team1 team2
           let d = some_item team2.threads.items i less in
           let owed = λ (o : Option Keeper). owed_kept f (s.threads + suc i) o reached in
           let after = ap owed (keeper_is team3.threads.items i d (omega (arith, less, g.many, t.many))) in
-          let before = ap owed (keeper_is team2.threads.items i d less) in
           let same = owed_gathered f (s.threads + suc i) (get_or team2.threads.items i d).keeper (get_or team3.threads.items i d).keeper reached (clear i d less).keeper in
-          omega (arith, after, before, same))
+          omega (arith, after, ap owed (keeper_is team2.threads.items i d less), same))
 
       -- The team stands where the whole phase came to.
       pub phase_team : IsScavengerCleared team2.scavenger team3.scavenger → HasPlaces s.threads team3 → TeamAt region s rest team3 reached
       phase_team scavenger places =
-          let few = at.fit.few in
-          let both = length-append ops left in
           let names = names_then s.threads ops left team1.book team3.book (numbers_from 1 s.threads) gathered at.names begun.woke.turns.leaves.names woven begun.names
           (λ i d lt.
           let first : suc i ≡ 1 + i = omega arith in
@@ -416,7 +388,7 @@ module _ {region : SharedRegion} {s : Session} {awake : Mask4} {team team1 team2
             fit = record {
               fits = at.fit.fits;
               few_threads = at.fit.few_threads;
-              few = omega (arith, few, both);
+              few = omega (arith, at.fit.few, length-append ops left);
               within = λ k on. at.fit.within k (active_back k ops left on);
               behind = all_back (λ op. MatchOption (keeper_in op.what) (Unit {0}) (λ keeper. keeper ≡ s.threads + op.actor)) ops left at.fit.behind;
             };
@@ -442,9 +414,7 @@ module _ {region : SharedRegion} {s : Session} {awake : Mask4} {team team1 team2
     -- There is room for what the scavenger said in the phase behind the records.
     pub may_append : length (records_in out) + length (records_in team2.scavenger.out) ≤ room_of out
     may_append =
-        let own = ap length (scavenger_said crew_share) in
-        let both = records_both (planned s) ops left in
-        omega (arith, own, paid, both, room_begun)
+        omega (arith, ap length (scavenger_said crew_share), paid, records_both (planned s) ops left, room_begun)
 
     module _ (out1 : Records) (added : records_in out1 ≡ records_in out ++ records_in team2.scavenger.out) (same : room_of out1 ≡ room_of out) where
       added_own : records_in out1 ≡ records_in out ++ records_by 0 said
@@ -457,9 +427,7 @@ module _ {region : SharedRegion} {s : Session} {awake : Mask4} {team team1 team2
       module _ {gathered : List Worker} {out2 : Records} (g : WereGathered team2.threads.items gathered out1 out2) where
         still_room : (team3 : Team) → WereTaken gathered team3.threads.items team2.book team3.book → HasRoom s rest marks team3.threads.items out2 reached
         still_room team3 t =
-            let owed = kept_owed g team3 t in
-            let rest = room_left told marks out out1 added_own same room_begun out2 g.added g.size in
-            omega (arith, owed, rest)
+            omega (arith, kept_owed g team3 t, room_left told marks out out1 added_own same room_begun out2 g.added g.size)
 
         -- What was marked is what the records hold.
         all_written : AreMarked s p.records (records_in out) → AreWritten s reached.records (records_in out2)
@@ -503,9 +471,6 @@ module _ {region : SharedRegion} {s : Session} {awake : Mask4} {team team1 team2
   own_part : (w k : ℕ) → owner k ≡ w → part k (own_list w) ≡ part k end_at.list
   own_part w k is = ((woven ops rest at begun heard.done).shares w).parts k is
 
-  own_order : (w : ℕ) → steps_by (in_hands owner w) (own_list w) ≡ steps_by (in_hands owner w) end_at.list
-  own_order w = ((woven ops rest at begun heard.done).shares w).steps
-
   in_its_hands : (w k : ℕ) → in_hands owner w k ≡ true → owner k ≡ w
   in_its_hands w k its = eqb-true (owner k) w its
 
@@ -523,7 +488,7 @@ module _ {region : SharedRegion} {s : Session} {awake : Mask4} {team team1 team2
         → ((k : ℕ) → owner k ≡ w → (sat k ≡ true) ⊎ (part k (own_list w) ≡ part k begin_at.list))
         → steps_by (in_hands owner w) since ≡ steps_by (in_hands owner w) made
     busy_sorted w sat order within others = sorted_seen (in_hands owner w) since before made begin_at.list behind all_told sat (own_list w) (steps_of order.base) order.order (order.first (since ++ before) each)
-        (λ k its. eq-eqb (owner k) w (within k its)) (own_order w ∙ ap (steps_by (in_hands owner w)) told)
+        (λ k its. eq-eqb (owner k) w (within k its)) (((woven ops rest at begun heard.done).shares w).steps ∙ ap (steps_by (in_hands owner w)) told)
         (λ k its. own_part w k (in_its_hands w k its) ∙ ap (part k) told)
         (λ k its. others k (in_its_hands w k its))
 
@@ -543,10 +508,11 @@ module _ {region : SharedRegion} {s : Session} {awake : Mask4} {team team1 team2
 
     -- the scavenger, and the threads that are idle
     crew_others : (k : ℕ) → owner k ≡ 0 → (crew_in (idle_threads s.threads ops) k ≡ true) ⊎ (part k (own_list 0) ≡ part k begin_at.list)
-    crew_others k is = search (arith, cases_lt, in_crew)
+    crew_others k is = search (arith, cases_lt, among_here, owned_by, among_later, chosen_among)
 
     hand_sorted : (w : ℕ) → is_active ops w ≡ true → steps_by (in_hands owner w) since ≡ steps_by (in_hands owner w) made
-    hand_sorted zero on = busy_sorted 0 (crew_in (idle_threads s.threads ops)) (heard.scavenger on) (λ k its. crew_within s.threads ops k (scavenger_own s.threads ops) its) crew_others
+    hand_sorted zero on = busy_sorted 0 (crew_in (idle_threads s.threads ops)) (heard.scavenger on)
+        (λ k its. search (arith, among_cases, among_chosen, cases_Bool, true≢false, owner_of, own_thread, scavenger_own s.threads ops)) crew_others
     hand_sorted (suc i) on = thread_sorted i (let le = begun.ready.within (suc i) on in omega (arith, le, begun.workers.many)) on
 
     -- Each pair's steps are the same in both lists.
@@ -558,29 +524,24 @@ module _ {region : SharedRegion} {s : Session} {awake : Mask4} {team team1 team2
       → StandSo s before p.list → StandSo s mid begin_at.list → StandSo s after end_at.list → AreEarlier (looks_of ledger) after
       → WentBy s (phase_stages s.threads ops) p end_at before after
   phase_went alike {before} {mid} {after} first second stood midway stand each =
-      let f = s.profile in
       let threads = length team.threads.items in
       let wakes : awake_in awake threads ≡ active_threads s.threads ops = threads_alike (is_set awake) (is_active ops) threads alike
       ∙ ap (λ n. active_threads n ops) at.workers.many in
-      let woke = subst (λ (ks : List ℕ). Reaches f (map Wakes ks) p begin_at) wakes begun.woke.turns.came.reaches in
-      let one = went_alone s (map Wakes (active_threads s.threads ops)) woke first at.nobody nobody_before stood midway in
+      let woke = subst (λ (ks : List ℕ). Reaches s.profile (map Wakes ks) p begin_at) wakes begun.woke.turns.came.reaches in
       let two = went_sorted s (acts_of_ops (idle_threads s.threads ops) ops) owner (woven ops rest at begun heard.done).reaches second nobody_after_all stand
       (λ made told of. sorted second.0 mid made told (stand_all s mid begin_at.list midway nobody_before (of_first s second of))
       (λ k. ap (part k) (sym second.1) ∙ stand_all s after end_at.list stand nobody_after_all of k) (subst (AreEarlier (looks_of ledger)) second.1 each))
       in
-      went_both one two
+      went_both (went_alone s (map Wakes (active_threads s.threads ops)) woke first at.nobody nobody_before stood midway) two
 
 -- ---- all together
 -- A phase whose operations are all done, gathered and taken is done, with the team before the phases left.
-pub phase_done : {region : SharedRegion} {s : Session} {awake : Mask4} {team team1 team2 : Team} {p : Progress} {marks : ℕ} {out out1 out2 : Records}
-    {gathered : List Worker} (ops : List Op) (rest : List (List Op)) (at : PhaseAt region s ops rest marks team out p)
-    (begun : HasBegun region s awake ops rest team team1 p)
+pub phase_done : {region s awake team team1 team2 p marks out out1 out2 gathered : _} (ops : List Op) (rest : List (List Op))
+    (at : PhaseAt region s ops rest marks team out p) (begun : HasBegun region s awake ops rest team team1 p)
     (done : IsDone region (round_of s ops rest team1 begun.woke.turns.came.reached) team1 team2) → ((k : ℕ) → is_set awake k ≡ is_active ops k)
-    → records_in out1 ≡ records_in out ++ records_in team2.scavenger.out → room_of out1 ≡ room_of out
-    → WereGathered team2.threads.items gathered out1 out2 → (team3 : Team)
-    → WereTaken gathered team3.threads.items team2.book team3.book
-    → IsScavengerCleared team2.scavenger team3.scavenger → HasPlaces s.threads team3 → {before after : Whole}
-    → WentBy s (phase_stages s.threads ops) p (reached ops rest at.team_at begun done) before after
+    → records_in out1 ≡ records_in out ++ records_in team2.scavenger.out → room_of out1 ≡ room_of out → WereGathered team2.threads.items gathered out1 out2
+    → (team3 : Team) → WereTaken gathered team3.threads.items team2.book team3.book → IsScavengerCleared team2.scavenger team3.scavenger
+    → HasPlaces s.threads team3 → {before after : Whole} → WentBy s (phase_stages s.threads ops) p (reached ops rest at.team_at begun done) before after
     → PhaseDone region s ops rest marks team3 out out2 before after p
 phase_done {s = s} {out = out} {out1} ops rest at begun done alike added size g team3 t scavenger places went = record {
   reached = reached ops rest at.team_at begun done;

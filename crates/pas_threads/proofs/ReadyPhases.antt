@@ -1,22 +1,22 @@
 -- What a phase of the team begins with: what its acts cost, owe and say in all; its threads read the epoch, its names are noted, and all hands are ready.
 use Rattle.std.proofs.Common.{◌≡◌, ◌≢◌, ℕ, zero, suc, ◌+◌, ◌<◌, ◌≤◌, ◌==◌, Bool, true, if◌then◌else◌, inl, inr, List, [], ◌∷◌, ◌++◌, length, get_or, Option}
 use Rattle.std.proofs.Common.{None, refl, ap, sym, ◌∙◌, arith, append_assoc, length-append, eq-eqb, ne_eqb, ◌-◌, subst, MatchOption, vec_capacity}
-use Rattle.std.{proofs.lemmas.{Bool.{cases_eq, false≢true, or_cases, or_left, or_right}, List.with_items_is}, specs.Vec.with_items}
+use Rattle.std.{proofs.lemmas.{Bool.{cases_eq, false≢true, or_cases, or_right, or_left}, List.with_items_is}, specs.Vec.with_items}
 use Rattle.pas_profile.specs.declared.profile.Profile.{Profile}
-use Rattle.pas_trace.specs.{Asked.keeper_in, EveryPhase.FreesItsOwn, EveryPlan.{records_of_work, records_of_what, records_of_ops, own_records, all_ops}}
-use Rattle.pas_trace.specs.{declared.plan.{Work.Work, Op.Op}, Acts.{Act, Settles, act_kept, acts_of_op, own_acts, scavenger_acts, idle_threads, is_active}}
+use Rattle.pas_trace.specs.{Asked.keeper_in, EveryPlan.{records_of_what, records_of_ops, own_records, all_ops, records_of_work}, declared.plan.Work.Work}
+use Rattle.pas_trace.specs.{declared.plan.Op.Op, Acts.{Act, Settles, act_kept, own_acts, scavenger_acts, idle_threads, is_active}, EveryPhase.FreesItsOwn}
 use Rattle.pas_trace.proofs.EveryPlan.{own_both}
-use Rattle.pas_answers.specs.{Answers.{Progress, Books}, Ways.{records_by, by_actors}, Calls.owed_events, Fit.{cost_of_work, cost_of_what, costs_of}}
-use Rattle.pas_answers.{specs.Fit.{own_cost_of_act, own_costs_of}, proofs.{SingleActs.sum_both, EachAct.all_front}}
-use Rattle.pas_acts.{proofs.{ActsOfPlan.{work_costs, idle_few}, AtDesk.{sits_still, sits_for}, Naming.{names_before, sound_front}}, specs.Keepers.LaterKept}
-use Rattle.pas_acts.specs.{Pairs.for_guards, Works.Later, NameBooks.{NamesAt, ArePlaced, names_asked}, declared.names.NameBook.NameBook}
+use Rattle.pas_answers.specs.{Answers.Progress, Ways.{records_by, by_actors}, Calls.owed_events, Fit.{costs_of, own_cost_of_act, own_costs_of, cost_of_work}}
+use Rattle.pas_answers.{specs.Fit.cost_of_what, proofs.{EachAct.all_front, SingleActs.sum_both}}
+use Rattle.pas_acts.{proofs.{ActsOfPlan.{idle_few, work_costs}, AtDesk.{sits_still, sits_for}, Naming.{sound_front, names_before}}, specs.Keepers.LaterKept}
+use Rattle.pas_acts.specs.{Pairs.for_guards, Works.Later, NameBooks.{NamesAt, names_asked, ArePlaced}, declared.names.NameBook.NameBook}
 use Rattle.pas_threads.specs.{Pairs.{said_by_keeper, owed_kept, keeper_at, owed_by_keepers, AreGuarded, no_more}, Sessions.{owed_by, Session, planned}}
 use Rattle.pas_threads.specs.{Sessions.{WorkerRests, AreResting, ScavengerRests, HasPlaces, TeamAt, WorkersRest}, Turns.{owed_at, said_by, said_kept}}
 use Rattle.pas_threads.specs.{Turns.{said_by_keepers, WokeAll}, declared.{workers.Worker.Worker, phases.Team.Team, scavenger.Scavenger.Scavenger}}
-use Rattle.pas_threads.{specs.{Hands.WorkerAt, Settling.ActorsStand, Performing.{Round, round, ScavengerHas, IsReady}}, proofs.Closing.turns_stand}
-use Rattle.pas_threads.proofs.{Staging.team_stands, TakingTurns.{pass_still, woke_rest}, Keepers.{alike_same, guarded_alike, kept_waits, kept_still}}
+use Rattle.pas_threads.{specs.{Hands.WorkerAt, Settling.ActorsStand, Performing.{Round, round, IsReady, ScavengerHas}}, proofs.Closing.turns_stand}
+use Rattle.pas_threads.proofs.{Staging.team_stands, TakingTurns.woke_rest, Keepers.{alike_same, guarded_alike, kept_waits, kept_still}}
 use Rattle.pas_bits.specs.declared.mask.Mask4.{Mask4}
-use Rattle.pas_steps.specs.{Lists.{Whole, part}, Views.View}
+use Rattle.pas_steps.specs.Lists.{Whole, part}
 use Rattle.pas_shared.specs.declared.region.SharedRegion.{SharedRegion}
 use Rattle.pas_cache.specs.Caches.{Cached, cached}
 use Rattle.pas_records.specs.{declared.record.Record.Record, Rooms.room_of}
@@ -40,13 +40,9 @@ own_costs f k [] = omega arith
 own_costs f k (op ∷ ops) = own_if (op.actor == k) (keeper_in op.what) f k op (own_acts k ops) (own_records f k ops) refl (own_costs f k ops)
 
 -- ---- the scavenger
-scavenger_if : (t : Bool) (f : Profile) (idle : List ℕ) (op : Op) (acts : List Act) (most : ℕ) → length idle ≤ f.threads → costs_of f.pages acts ≤ most
-    → costs_of f.pages (if t then acts_of_op idle op ++ acts else acts) ≤ (if t then records_of_what f op.what else 0) + most
-scavenger_if a f idle op acts most few rest = search (arith, sum_both, work_costs)
-
 all_scavenged : (f : Profile) (idle : List ℕ) (ops : List Op) → length idle ≤ f.threads → costs_of f.pages (scavenger_acts idle ops) ≤ own_records f 0 ops
 all_scavenged f idle [] few = omega arith
-all_scavenged f idle (op ∷ ops) few = scavenger_if (op.actor == 0) f idle op (scavenger_acts idle ops) (own_records f 0 ops) few (all_scavenged f idle ops few)
+all_scavenged f idle (op ∷ ops) few = search (arith, sum_both, work_costs, op.actor == 0, all_scavenged f idle ops few)
 
 -- What the scavenger's acts of a phase cost is at most the records that its operations are counted for.
 pub scavenger_costs : (f : Profile) (threads : ℕ) (idle : List ℕ) (ops : List Op) → length idle ≤ threads
@@ -77,9 +73,7 @@ it_is actor k count same = ap (λ (t : Bool). if t then count else 0) (eq-eqb ac
 none_of_them : (actor count n : ℕ) → n < actor → (if actor == 0 then count else 0) + those_of actor count n ≡ 0
 none_of_them actor count zero far = let zero_not = not_it actor 0 count (λ (is : actor ≡ 0). omega (arith, is, far)) in omega (arith, zero_not)
 none_of_them actor count (suc n) far =
-    let here = not_it actor (suc n) count (λ (is : actor ≡ suc n). omega (arith, is, far)) in
-    let rest = none_of_them actor count n (omega (arith, far)) in
-    omega (arith, here, rest)
+    omega (arith, not_it actor (suc n) count (λ (is : actor ≡ suc n). omega (arith, is, far)), none_of_them actor count n (omega (arith, far)))
 
 one_at_most : (actor count n : ℕ) → (if actor == 0 then count else 0) + those_of actor count n ≤ count
 one_at_most actor count zero = search (arith, cases_eq, it_is, not_it)
@@ -221,8 +215,7 @@ active_back k [] left on = on
 active_back k (op ∷ ops) left on = or_right (op.actor == k) (is_active (ops ++ left) k) (active_back k ops left on)
 
 -- ---- a thread
-module _ {region : SharedRegion} {f : Profile} {k : ℕ} {worker : Worker} {q : Progress} (g : Profile) (ops left : List Op)
-    (rests : WorkerRests region f k worker (own_records g k (ops ++ left)) q) where
+module _ {region f k worker q : _} (g : Profile) (ops left : List Op) (rests : WorkerRests region f k worker (own_records g k (ops ++ left)) q) where
   owed_is : owed_at f k q ≡ owed_events f (cached worker.cache) (part k q.list)
   owed_is = ap (λ (c : Cached). owed_events f c (part k q.list)) rests.here.rests.cache
 
@@ -234,14 +227,12 @@ module _ {region : SharedRegion} {f : Profile} {k : ℕ} {worker : Worker} {q : 
   worker_ready {book} {p} book1 later at some frees same placed are events records =
       let few = own_costs g k ops in
       let both = own_both g k ops left in
-      let spare = rests.here.rests.spare in
-      let none = ap length rests.said in
       record {
         has = rests.here.has;
         stands = record {
           sits = sits_for rests.here.rests.sits (omega (arith, few, both, events));
           cache = rests.here.rests.cache;
-          spare = omega (arith, few, both, owed_is, spare, none, records);
+          spare = omega (arith, few, both, owed_is, rests.here.rests.spare, ap length rests.said, records);
           names = names_before k ops left book1 worker.requests at some frees same placed rests.asked (omega (arith, few, both, rests.requests)) are;
         };
       }
@@ -254,60 +245,42 @@ scavenger_ready : {region : SharedRegion} (s : Session) (book : NameBook) {scave
     → ScavengerHas region (round s book ops later (more_beside left) q) scavenger
 scavenger_ready s book ops left later rests parts events records =
     let f = s.profile in
-    let idle = idle_few s.threads ops in
-    let few = scavenger_costs f s.threads (idle_threads s.threads ops) ops idle in
+    let few = scavenger_costs f s.threads (idle_threads s.threads ops) ops (idle_few s.threads ops) in
     let both = own_both (planned s) 0 ops left in
-    let none = ap length rests.said in
-    let spare = rests.at.stands.spare in
     record {
       has = rests.has;
-      at = record {
-        stands = record {
-          sits = sits_still (λ (v : View). costs_of f.pages (scavenger_acts (idle_threads s.threads ops) ops) + (later 0).events) (pass_still rests.has.pass) parts
-              (sits_for rests.at.stands.sits (omega (arith, few, both, events)));
-          spare = omega (arith, few, both, none, spare, records);
-        };
-        has_places = rests.at.has_places;
-      };
+      at = search (arith, sits_still) fits 400;
       none = rests.none;
     }
 
 -- ---- the team
 -- the workers rest still once the threads read the epoch
-woke_workers : {region : SharedRegion} {s : Session} (awake : Mask4) {workers now : List Worker} {p : Progress} (ops : List Op)
-    → WorkersRest region s ops workers p → length now ≡ length workers
+woke_workers : {region s : _} (awake : Mask4) {workers now p : _} (ops : List Op) → WorkersRest region s ops workers p → length now ≡ length workers
     → (woke : WokeAll region s.profile awake workers now (λ k. own_records (planned s) k ops) p) → WorkersRest region s ops now woke.turns.came.reached
 woke_workers {s = s} awake {workers} {now} ops at many woke = record {
   many = many ∙ at.many;
   threads = woke_rest many at.threads woke;
   guarded = guarded_alike workers now many
       (λ i d lt. alike_same (woke.turns.told i d lt).keeper) at.guarded;
-  kept = λ i d lt.
-      let here : i < length workers = omega (arith, lt, many) in
-      let others = woke.turns.leaves.parts (s.threads + suc i) (λ j less same. omega (arith, less, same, at.many)) in
-      let books = ap (λ (books : Books). books (s.threads + suc i)) woke.turns.leaves.books in
-      kept_still (woke.turns.told i d here).keeper others books (at.kept i d here);
+  kept = search (arith, kept_still) fits 400;
 }
 
-team_ready : {region : SharedRegion} {s : Session} (awake : Mask4) {team : Team} {p : Progress} (ops : List Op) (rest : List (List Op)) (team1 : Team)
-    (at : TeamAt region s (ops ∷ rest) team p)
+team_ready : {region s : _} (awake : Mask4) {team p : _} (ops : List Op) (rest : List (List Op)) (team1 : Team) (at : TeamAt region s (ops ∷ rest) team p)
     (woke : WokeAll region s.profile awake team.threads.items team1.threads.items (λ k. own_records (planned s) k (all_ops (ops ∷ rest))) p)
-    → WorkersRest region s (all_ops (ops ∷ rest)) team1.threads.items woke.turns.came.reached
-    → team1.scavenger ≡ team.scavenger → team1.book.names ≡ team.book.names → ((k : ℕ) → ArePlaced team1.book 0 (names_asked (own_acts k ops)))
-    → HasPlaces s.threads team1
+    → WorkersRest region s (all_ops (ops ∷ rest)) team1.threads.items woke.turns.came.reached → team1.scavenger ≡ team.scavenger
+    → team1.book.names ≡ team.book.names → ((k : ℕ) → ArePlaced team1.book 0 (names_asked (own_acts k ops))) → HasPlaces s.threads team1
     → IsReady region (round_of s ops rest team1 woke.turns.came.reached) team1
 team_ready {region} {s} awake {team} {p} ops rest team1 at woke workers scavenger names placed places =
     let f = s.profile in
     let left = all_ops rest in
     let q = woke.turns.came.reached in
-    let few = at.fit.few_threads in
     record {
       asked = at.names.asked;
       sound = sound_front f at.names.asked ops left at.names.sound;
       within = λ k on. at.fit.within k (active_front k ops left on);
       behind = all_front (λ op. MatchOption (keeper_in op.what) (Unit {0}) (λ keeper. keeper ≡ s.threads + op.actor)) ops left at.fit.behind;
       many = workers.many;
-      few = omega (arith, few);
+      few = omega (arith, at.fit.few_threads);
       workers = λ i d lt.
           let spare = ap (λ (n : ℕ). n - (owed_at f (suc i) q + own_costs_of (suc i) (own_acts (suc i) ops))) (room_is team1.threads.items i d lt) in
           let later = later_beside s ops left team1 q (suc i) in
@@ -341,17 +314,15 @@ settled_team team now again scavenger book = record team { threads = with_items 
 abbrev WakesThem : SharedRegion → Mask4 → List Worker → List Worker → Type 0
 WakesThem region awake given now = (g : Profile) (later : ℕ → ℕ) (o : Progress) → AreResting region g given later o → WokeAll region g awake given now later o
 
-woke_then : {region : SharedRegion} (s : Session) (awake : Mask4) (ops : List Op) {workers given now : List Worker} {p : Progress}
-    → WorkersRest region s ops workers p
-    → given ≡ workers → WakesThem region awake given now → WokeAll region s.profile awake workers now (λ k. own_records (planned s) k ops) p
+woke_then : {region : _} (s : Session) (awake : Mask4) (ops : List Op) {workers given now p : _} → WorkersRest region s ops workers p → given ≡ workers
+    → WakesThem region awake given now → WokeAll region s.profile awake workers now (λ k. own_records (planned s) k ops) p
 woke_then {region} s awake ops {now = now} {p} at value wakes =
     let later : ℕ → ℕ = λ k. own_records (planned s) k ops in
     subst (λ (ws : List Worker). WokeAll region s.profile awake ws now later p) value
     (wakes s.profile later p (subst (λ (ws : List Worker). AreResting region s.profile ws later p) (sym value) at.threads))
 
 -- (`given` are the team's workers, as they are handed to what wakes them, `now` what they are afterwards, and so `given2` and `again` for what settles the ledger)
-pub begun_as : {region : SharedRegion} {s : Session} {awake : Mask4} {team : Team} {p : Progress} {given now given2 again : List Worker} {scavenger : Scavenger}
-    {book : NameBook} (ops : List Op) (rest : List (List Op))
+pub begun_as : {region s awake team p given now given2 again scavenger : _} {book : NameBook} (ops : List Op) (rest : List (List Op))
     → TeamAt region s (ops ∷ rest) team p → given ≡ team.threads.items → length given ≡ team.threads.len
     → ((g : Profile) (later : ℕ → ℕ) (o : Progress) → AreResting region g given later o → WokeAll region g awake given now later o) → length now ≡ length given
     → given2 ≡ (with_items team.threads now).items → length given2 ≡ team.threads.len → again ≡ given2 → scavenger ≡ team.scavenger
@@ -365,8 +336,7 @@ begun_as {region} {s} {awake} {team} {p} {given} {now} {given2} {again} {scaveng
     let woke : WokeAll region s.profile awake team.threads.items team1.threads.items (λ k. own_records (planned s) k left) p =
     subst (λ (ws : List Worker). WokeAll region s.profile awake team.threads.items ws (λ k. own_records (planned s) k left) p) (sym items)
     (woke_then s awake left at.workers value wakes) in
-    let all = ap length items ∙ many ∙ ap length value in
-    let workers = woke_workers awake left at.workers all woke in
+    let workers = woke_workers awake left at.workers (ap length items ∙ many ∙ ap length value) woke in
     let lent = subst (λ (v : Scavenger). s.threads ≤ vec_capacity v.lent) (sym same_scavenger) at.places.lent in
     record {
       woke = woke;
@@ -378,17 +348,14 @@ begun_as {region} {s} {awake} {team} {p} {given} {now} {given2} {again} {scaveng
     }
 
 -- all actors stand then
-pub begun_stands : {region : SharedRegion} {s : Session} {awake : Mask4} {team team1 : Team} {p : Progress} (ops : List Op) (rest : List (List Op))
-    → TeamAt region s (ops ∷ rest) team p → (begun : HasBegun region s awake ops rest team team1 p)
-    → ActorsStand region s team.scavenger.pass team1.threads.items begun.woke.turns.came.reached.list
+pub begun_stands : {region s awake team team1 p : _} (ops : List Op) (rest : List (List Op)) → TeamAt region s (ops ∷ rest) team p
+    → (begun : HasBegun region s awake ops rest team team1 p) → ActorsStand region s team.scavenger.pass team1.threads.items begun.woke.turns.came.reached.list
 begun_stands ops rest at begun = turns_stand (team_stands at) begun.woke.turns (begun.workers.many ∙ sym at.workers.many)
 
 -- .. as they are handed to what settles the ledger
-pub woke_stands : {region : SharedRegion} {s : Session} (awake : Mask4) {team : Team} {p : Progress} {given now : List Worker} (ops : List Op)
-    (rest : List (List Op))
-    → TeamAt region s (ops ∷ rest) team p → given ≡ team.threads.items
-    → ((g : Profile) (later : ℕ → ℕ) (o : Progress) → AreResting region g given later o → WokeAll region g awake given now later o) → length now ≡ length given
-    → (l : Whole) × ActorsStand region s team.scavenger.pass now l
+pub woke_stands : {region s : _} (awake : Mask4) {team p given now : _} (ops : List Op) (rest : List (List Op)) → TeamAt region s (ops ∷ rest) team p
+    → given ≡ team.threads.items → ((g : Profile) (later : ℕ → ℕ) (o : Progress) → AreResting region g given later o → WokeAll region g awake given now later o)
+    → length now ≡ length given → (l : Whole) × ActorsStand region s team.scavenger.pass now l
 woke_stands {s = s} awake ops rest at value wakes many =
     let woke = woke_then s awake (all_ops (ops ∷ rest)) at.workers value wakes in
     (woke.turns.came.reached.list, turns_stand (team_stands at) woke.turns (many ∙ ap length value))

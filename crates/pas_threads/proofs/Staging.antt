@@ -1,19 +1,19 @@
 -- The phases of a replay: acts without a mark, acts after one another, how stages follow each other, and what a settled ledger has of a team.
 use Rattle.std.proofs.Common.{◌≡◌, ℕ, zero, suc, ◌+◌, ◌-◌, ◌<◌, ◌≤◌, ◌==◌, Bool, true, if◌then◌else◌, inl, inr, List, [], ◌∷◌, ◌++◌, length, map, get_or}
 use Rattle.std.proofs.Common.{Option, Some, refl, ap, sym, ◌∙◌, subst, arith, append_assoc, ◌⊎◌, take, length-append, eq-eqb, true≢false, take_at}
-use Rattle.std.{proofs.lemmas.{Bool.{cases_lt, cases_Bool}, Option.same_Some, List.map-append}, specs.List.AllByRecursion}
+use Rattle.std.{proofs.lemmas.{Bool.{cases_lt, cases_Bool}, Option.same_Some}, specs.List.AllByRecursion}
 use Rattle.pas_profile.{specs.declared.profile.Profile.Profile, proofs.Lists.all_both}
 use Rattle.pas_steps.specs.{Lists.{Whole, part, Triple}, Views.View, Desks.triples, declared.step.Made.Made}
 use Rattle.pas_trace.specs.Acts.{Act, MarksPhase, MarksClose, Wakes, Ends, Lowers, active_threads, idle_threads, numbers_from, own_acts, act_kept, acts_of_work}
-use Rattle.pas_trace.specs.{Acts.{acts_of_ops, phase_acts}, Asked.work_of, EveryPlan.all_ops, declared.plan.{Op.Op, Work.Work}}
+use Rattle.pas_trace.specs.{Acts.{acts_of_ops, phase_acts}, Asked.work_of, EveryPlan.all_ops, declared.plan.Op.Op}
 use Rattle.pas_shared.specs.{Ruled.IsEarlier, Passes.{seat_of, view_of, IsPassOf}, declared.{region.SharedRegion.SharedRegion, pass.SharedPass.SharedPass}}
-use Rattle.pas_acts.specs.{Keepers.LaterKept, Pairs.KeeperWaits, Works.Later}
-use Rattle.pas_answers.specs.{Answers.Progress, Reaching.Reaches, Phases.{StandFirst, AtMark, AreInPhases}, Stages.{Owners, itself, in_hands, AreSorted, Stage}}
-use Rattle.pas_answers.{specs.Stages.{stage, one_by_one}, proofs.Reached.{reach_both, goes_on, both_by_stages}}
+use Rattle.pas_acts.specs.{Keepers.LaterKept, Pairs.KeeperWaits}
+use Rattle.pas_answers.specs.{Answers.Progress, Reaching.Reaches, Phases.{AreInPhases, StandFirst, AtMark}, Stages.{itself, in_hands, Stage, stage, Owners}}
+use Rattle.pas_answers.{specs.Stages.AreSorted, proofs.Reached.{reach_both, goes_on, both_by_stages}}
 use Rattle.pas_threads.specs.{Hands.HasPass, Settling.{StandsIn, PassStands, ActorsStand}, Left.KeepsOrder, Pairs.{no_more, kept_by_worker, AreGuarded}}
 use Rattle.pas_threads.specs.{Pairs.{HasKeeper, IsKeeperOf}, Sessions.{Session, closing_acts, WorkerHas, TeamAt, IsOfActors, StandSo, WentBy}}
 use Rattle.pas_threads.{specs.declared.{keeper.Keeper.Keeper, phases.Team.Team, workers.Worker.Worker}, proofs.Dealt.some_item}
-use Rattle.pas_core.{specs.Orders.steps_by, proofs.Choosing.{steps_by_both, part_of_chosen, Within, steps_by_one, no_steps_by, as_many_steps}}
+use Rattle.pas_core.{specs.Orders.steps_by, proofs.Choosing.{part_of_chosen, steps_by_both, Within, steps_by_one, no_steps_by, as_many_steps}}
 use Rattle.pas_guard.proofs.Keepers.{part_both}
 
 -- ---- acts without a mark
@@ -42,13 +42,11 @@ unmarked_kept : (o : Option ℕ) (op : Op) → HasNoMark (act_kept o op)
 -- With one and without one.
 unmarked_kept a op = search arith
 
-unmarked_work : (idle : List ℕ) (op : Op) (w : Work) → AreUnmarked (acts_of_work idle op w)
-unmarked_work idle op a = search (arith, unmarked_kept, unmarked_each)
-
 unmarked_ops : (idle : List ℕ) (ops : List Op) → AreUnmarked (acts_of_ops idle ops)
 unmarked_ops idle [] = tt
 unmarked_ops idle (op ∷ ops) =
-    all_both HasNoMark (acts_of_work idle op (work_of op.what)) (acts_of_ops idle ops) (unmarked_work idle op (work_of op.what)) (unmarked_ops idle ops)
+    all_both HasNoMark (acts_of_work idle op (work_of op.what)) (acts_of_ops idle ops) (search (arith, unmarked_kept, unmarked_each, work_of op.what))
+    (unmarked_ops idle ops)
 
 -- The acts of one phase have no mark among them.
 pub phase_unmarked : (threads : ℕ) (ops : List Op) → AreUnmarked (phase_acts threads ops)
@@ -97,8 +95,7 @@ some_keeper workers j lt (inl all) = let below : j < length workers = omega (ari
 
 -- ---- all actors at rest
 -- where an actor has the same part it stands
-pub still_at : {region : SharedRegion} {k : ℕ} {l l' : Whole} {slot : Option SharedPass} → part k l' ≡ part k l → PassStands region k l slot
-    → PassStands region k l' slot
+pub still_at : {region k l l' slot : _} → part k l' ≡ part k l → PassStands region k l slot → PassStands region k l' slot
 still_at same at = record { pass = at.pass; present = at.present; of = at.of; actor = at.actor; made = at.made ∙ sym same }
 
 -- with this pass
@@ -112,44 +109,42 @@ pub stands_so : {region : SharedRegion} {k : ℕ} {told : Whole} {slot : Option 
     → PassStands region k told slot → StandsIn l pass → part k l ≡ part k told
 stands_so l pass is at stands = let its = stands_with pass is at in ap (λ (n : ℕ). part n l) (sym its.1) ∙ stands ∙ its.2
 
-module _ {region : SharedRegion} {s : Session} {slot : Option SharedPass} {workers : List Worker} {told : Whole} (at : ActorsStand region s slot workers told)
-  where
-    -- all their passes are of the region
-    pub thread_back : (i : ℕ) (d : Worker) → i < length workers → HasPass region (get_or workers i d).pass
-    thread_back i d lt = let here = at.threads i d lt in record { pass = here.pass; present = here.present; of = here.of }
+module _ {region s slot workers told : _} (at : ActorsStand region s slot workers told) where
+  -- all their passes are of the region
+  pub thread_back : (i : ℕ) (d : Worker) → i < length workers → HasPass region (get_or workers i d).pass
+  thread_back i d lt = let here = at.threads i d lt in record { pass = here.pass; present = here.present; of = here.of }
 
-    of_region : (o : Option Keeper) → ((keeper : Keeper) → o ≡ Some keeper → IsPassOf region keeper.pass) → IsKeeperOf region o
-    -- With one and without one.
-    of_region a each = search arith
+  of_region : (o : Option Keeper) → ((keeper : Keeper) → o ≡ Some keeper → IsPassOf region keeper.pass) → IsKeeperOf region o
+  -- With one and without one.
+  of_region a each = search arith
 
-    -- The keeper of each worker has a pass of the region where all actors stand.
-    pub keeper_back : (i : ℕ) (d : Worker) → i < length workers → IsKeeperOf region (get_or workers i d).keeper
-    keeper_back i d lt = of_region (get_or workers i d).keeper (λ keeper is. (stands_with keeper.pass refl (at.keepers i d keeper lt is)).0)
+  -- The keeper of each worker has a pass of the region where all actors stand.
+  pub keeper_back : (i : ℕ) (d : Worker) → i < length workers → IsKeeperOf region (get_or workers i d).keeper
+  keeper_back i d lt = of_region (get_or workers i d).keeper (λ keeper is. (stands_with keeper.pass refl (at.keepers i d keeper lt is)).0)
 
-    -- a list that has the steps of all passes has the part of each actor
-    module _ (l : Whole) (scavenger : (pass : SharedPass) → slot ≡ Some pass → StandsIn l pass)
-        (threads : (i : ℕ) (d : Worker) (pass : SharedPass) → i < length workers → (get_or workers i d).pass ≡ Some pass → StandsIn l pass)
-        (keepers : (i : ℕ) (d : Worker) (keeper : Keeper) → i < length workers → (get_or workers i d).keeper ≡ Some keeper → StandsIn l keeper.pass) where
-      stand_thread : (i : ℕ) → i < s.threads → part (suc i) l ≡ part (suc i) told
-      stand_thread i lt =
-          let below : i < length workers = omega (arith, lt, at.many) in
-          let d = some_item workers i below in
-          let here = at.threads i d below in
-          stands_so l here.pass here.present here (threads i d here.pass below here.present)
+  -- a list that has the steps of all passes has the part of each actor
+  module _ (l : Whole) (scavenger : (pass : SharedPass) → slot ≡ Some pass → StandsIn l pass)
+      (threads : (i : ℕ) (d : Worker) (pass : SharedPass) → i < length workers → (get_or workers i d).pass ≡ Some pass → StandsIn l pass)
+      (keepers : (i : ℕ) (d : Worker) (keeper : Keeper) → i < length workers → (get_or workers i d).keeper ≡ Some keeper → StandsIn l keeper.pass) where
+    stand_thread : (i : ℕ) → i < s.threads → part (suc i) l ≡ part (suc i) told
+    stand_thread i lt =
+        let below : i < length workers = omega (arith, lt, at.many) in
+        let d = some_item workers i below in
+        let here = at.threads i d below in
+        stands_so l here.pass here.present here (threads i d here.pass below here.present)
 
-      stand_keeper : (j : ℕ) → j < s.keepers → part (s.threads + suc j) l ≡ part (s.threads + suc j) told
-      stand_keeper j lt =
-          let has = some_keeper workers j lt at.guarded in
-          stands_so l has.2.0.pass refl (at.keepers j has.0 has.2.0 has.1 has.2.1) (keepers j has.0 has.2.0 has.1 has.2.1)
+    stand_keeper : (j : ℕ) → j < s.keepers → part (s.threads + suc j) l ≡ part (s.threads + suc j) told
+    stand_keeper j lt =
+        let has = some_keeper workers j lt at.guarded in
+        stands_so l has.2.0.pass refl (at.keepers j has.0 has.2.0 has.1 has.2.1) (keepers j has.0 has.2.0 has.1 has.2.1)
 
-      -- A list in which each pass stands has of all actors what is told of them.
-      pub all_stand : StandSo s l told
-      all_stand = of_each_actor (λ (k : ℕ). part k l ≡ part k told)
-          (stands_so l at.scavenger.pass at.scavenger.present at.scavenger (scavenger at.scavenger.pass at.scavenger.present)) stand_thread stand_keeper
+    -- A list in which each pass stands has of all actors what is told of them.
+    pub all_stand : StandSo s l told
+    all_stand = of_each_actor (λ (k : ℕ). part k l ≡ part k told)
+        (stands_so l at.scavenger.pass at.scavenger.present at.scavenger (scavenger at.scavenger.pass at.scavenger.present)) stand_thread stand_keeper
 
 -- a thread that rests with its pass stands
-pub thread_stands : {region : SharedRegion} {f : Profile} {k : ℕ} {worker : Worker} {later : Later} {p : Progress} → WorkerHas region f k worker later p
-    → PassStands region k p.list worker.pass
+pub thread_stands : {region f k worker later p : _} → WorkerHas region f k worker later p → PassStands region k p.list worker.pass
 thread_stands here = record { pass = here.has.pass; present = here.has.present; of = here.has.of; actor = here.rests.sits.actor; made = here.rests.sits.stood }
 
 -- .. and so does a keeper that waits with its own
@@ -160,8 +155,7 @@ keeper_stands {region} f {k} acts more p o keeper is of waits =
     record { pass = keeper.pass; present = refl; of = subst (IsKeeperOf region) is of; actor = sits.actor; made = sits.stood }
 
 -- a team at rest stands so
-pub team_stands : {region : SharedRegion} {s : Session} {phases : List (List Op)} {team : Team} {p : Progress} → TeamAt region s phases team p
-    → ActorsStand region s team.scavenger.pass team.threads.items p.list
+pub team_stands : {region s phases team p : _} → TeamAt region s phases team p → ActorsStand region s team.scavenger.pass team.threads.items p.list
 team_stands {region} {s} {phases} {team} {p} at = record {
   many = at.workers.many;
   guarded = at.workers.guarded;
@@ -189,10 +183,7 @@ stand_first {region} {s} {phases} {team} {p} at l whole stands first of = record
 -- fronts are the same where lists are, and what is behind them is as long
 cut_fronts : {A : Type 0} (a b c d : List A) → a ++ b ≡ c ++ d → length b ≡ length d → a ≡ c
 cut_fronts {A} a b c d e many =
-    let all = ap length e in
-    let one = length-append a b in
-    let two = length-append c d in
-    sym (take_at a b (length a) refl) ∙ ap (take (length a)) e ∙ take_at c d (length a) (omega (arith, all, one, two, many))
+    sym (take_at a b (length a) refl) ∙ ap (take (length a)) e ∙ take_at c d (length a) (omega (arith, ap length e, length-append a b, length-append c d, many))
 
 -- so the parts of fronts are, where those of the lists and of what is behind are
 front_same : (k : ℕ) (a b c d : Whole) → part k (a ++ b) ≡ part k (c ++ d) → part k b ≡ part k d → part k a ≡ part k c
@@ -222,8 +213,7 @@ of_first s {before} {after} earlier of k past = none_first k earlier.0 before (a
 -- a list that goes on from another one, and has the same part of everybody, is that one
 pub nothing_since : {before after : Whole} → IsEarlier before after → ((k : ℕ) → part k after ≡ part k before) → after ≡ before
 nothing_since {before} {after} earlier same =
-    let none = nobody_nothing earlier.0 (λ k. front_none k earlier.0 before (ap (part k) (sym earlier.1) ∙ same k)) in
-    earlier.1 ∙ ap (λ (l : Whole). l ++ before) none
+    earlier.1 ∙ ap (λ (l : Whole). l ++ before) (nobody_nothing earlier.0 (λ k. front_none k earlier.0 before (ap (part k) (sym earlier.1) ∙ same k)))
 
 -- ---- stages one after the other
 pub went_none : (s : Session) {p : Progress} {l : Whole} → StandSo s l p.list → IsOfActors s p.list → WentBy s [] p p l l
@@ -264,10 +254,6 @@ pub went_mark : (s : Session) (acts : List Act) {p q : Progress} {l : Whole} →
     → StandSo s l p.list → WentBy s (stage acts itself ∷ []) p q l l
 went_mark s acts {p} {q} {l} reaches same none stood =
     went_alone s acts reaches ([], refl) none (subst (IsOfActors s) (sym same) none) stood (subst (StandSo s l) (sym same) stood)
-
--- Two lists of acts one by one are the stages of both, one after the other.
-pub one_by_one_both : (xs ys : List Act) → one_by_one (xs ++ ys) ≡ one_by_one xs ++ one_by_one ys
-one_by_one_both xs ys = map-append (λ (act : Act). stage (act ∷ []) itself) xs ys
 
 -- a stage in which a worker has several actors in hand, where each worker's steps are sorted
 pub went_sorted : (s : Session) (acts : List Act) (owner : Owners) {p q : Progress} {before after : Whole} → Reaches s.profile acts p q

@@ -3,38 +3,35 @@ use Rattle.std.proofs.Common.{◌≡◌, ◌≢◌, ℕ, zero, suc, ◌+◌, ◌
 use Rattle.std.proofs.Common.{if◌then◌else◌, inl, inr, Option, Some, None, refl, ap, sym, ◌∙◌, subst, arith, MatchOption, eq-eqb, ne_eqb, length-set, ◌-◌, ◌/◌}
 use Rattle.std.proofs.{Common.{All, length-append, drop, append_assoc, append-nil, ◌⊎◌}, Math.{ListN.{set, get_or-append}, Nat.suc-mul, Seq.get_or-append-add}}
 use Rattle.std.{proofs.lemmas.{Bool.{cases_eq, cases_lt}, List.{length-map, drop_more, get_or_push, Elements.All-set}, Option.same_Some}, specs.List.remove}
-use Rattle.pas_profile.specs.{Rooms.{shown, size_of_room, EventRoom}, Profiles.IsValid, declared.{profile.Profile.Profile, guard.Guard.Guard}}
-use Rattle.pas_trace.specs.{Acts.{Act, Settles, act_kept, own_acts}, Asked.{work_of, keeper_in}, EveryPlan.{AreKept, all_ops, own_records, kept_of_work}}
-use Rattle.pas_trace.specs.{EveryPlan.kept_records, Plans.{IsPlanOf, bounds_of, ops_of, phases_of as the_phases}, declared.plan.{Op.Op, Phase.Phase, Plan.Plan}}
-use Rattle.pas_trace.{specs.declared.plan.What.What, proofs.{EveryPlan.{every_phase, every_plan, few_operations}, Keepers.plan_actors}}
-use Rattle.pas_guard.specs.Books.{FitsBook, guards_in, is_outer}
+use Rattle.pas_profile.specs.{Rooms.{shown, EventRoom, size_of_room}, declared.{profile.Profile.Profile, guard.Guard.Guard}, Profiles.IsValid}
+use Rattle.pas_trace.specs.{Acts.{Act, Settles, act_kept, own_acts}, Asked.{work_of, keeper_in}, EveryPlan.{all_ops, own_records, kept_of_work, kept_records}}
+use Rattle.pas_trace.specs.{EveryPlan.AreKept, Plans.{IsPlanOf, bounds_of, ops_of, phases_of as the_phases}, declared.plan.{Op.Op, Phase.Phase, Plan.Plan}}
+use Rattle.pas_trace.{specs.declared.plan.What.What, proofs.{EveryPlan.{every_plan, every_phase, few_operations}, Keepers.plan_actors}}
+use Rattle.pas_guard.specs.Books.{guards_in, FitsBook, is_outer}
 use Rattle.pas_cache.{specs.Caches.{Cached, cached}, proofs.FlushesAndFrees.rests_empty}
-use Rattle.pas_shared.specs.{Passes.{AreFresh, IsPassOf, seat_of, view_of}, declared.{pass.SharedPass.SharedPass, region.SharedRegion.SharedRegion}}
+use Rattle.pas_shared.specs.{Passes.{IsPassOf, seat_of, view_of, AreFresh}, declared.{pass.SharedPass.SharedPass, region.SharedRegion.SharedRegion}}
 use Rattle.pas_shared.specs.Ledgers.{EndsAfter}
-use Rattle.pas_answers.specs.{Calls.owed_events, Names.names_held, Answers.Progress, Fit.AreOfThreads, Ways.OnThreads, Stages.{stages_of, GoByStages}}
-use Rattle.pas_answers.{specs.Replays.{at_start, phases_of, region_of, threads_of, keepers_of, acts_of_plan, Shows}, proofs.Consequences.replays}
+use Rattle.pas_answers.specs.{Calls.owed_events, Names.names_held, Answers.Progress, Ways.OnThreads, Stages.{stages_of, GoByStages}, Replays.at_start}
+use Rattle.pas_answers.{specs.{Replays.{phases_of, region_of, threads_of, keepers_of, acts_of_plan, Shows}, Fit.AreOfThreads}, proofs.Consequences.replays}
 use Rattle.pas_acts.specs.{PlanKeepers.{one_guarded, guarded_of}, Parts.AreRooms, Shares.AreKeptBehind, Keepers.{LaterKept, KeeperAt, keeper_has}}
-use Rattle.pas_acts.{specs.Pairs.{for_guards, AreTriedBy, AreUnguarded}, proofs.PlanFacts.{is_guarded, pages_owed_at_first, plan_threads, plan_above}}
+use Rattle.pas_acts.{specs.Pairs.{for_guards, AreTriedBy, AreUnguarded}, proofs.PlanFacts.{is_guarded, plan_threads, pages_owed_at_first, plan_above}}
 use Rattle.pas_acts.proofs.{PlanFacts.{wider_sound, no_slots}, Naming.{below_all, names_at_start}, PhaseActs.active_within}
-use Rattle.pas_steps.{proofs.Nothing.nothing_yet, specs.{Clear.HasNothing, Lists.{Whole, part, Legal}, declared.state.State.State}}
-use Rattle.pas_threads.specs.{Hands.standing_of_pass, Settling.{PassStands, ActorsStand}, Kits.{IsEquipped, AreEquipped, IsNew, AreNew, IsSupplied}}
-use Rattle.pas_threads.specs.{Kits.{IsKeeperFor, IsKitOf, slots_of, kept_pass, IsBack, passes_in}, Pairs.{no_more, KeeperRests, owed_kept, keeper_at}}
-use Rattle.pas_threads.specs.{Pairs.{owed_by_keepers, AreGuarded, HasKeeper, IsLow, KeeperStands}, Sessions.{Session, WorkerRests, ScavengerRests, TeamAt}}
-use Rattle.pas_threads.specs.{Sessions.{HasRoom, owed_by, IsOfActors, HasReplayed}, declared.{keeper.Keeper.Keeper, kit.SharedKit.SharedKit}}
-use Rattle.pas_threads.{specs.declared.{scavenger.Scavenger.Scavenger, workers.Worker.Worker, phases.Team.Team}, proofs.{Dealt.some_item, Keepers.keeper_is}}
-use Rattle.pas_threads.proofs.{Keepers.stands_for, TakingTurns.{set_each, each_pushed}, Staging.{nothing_since, of_first, stand_all, of_each_actor}}
-use Rattle.pas_threads.proofs.Staging.{some_keeper, stands_with, team_stands}
+use Rattle.pas_threads.specs.{Hands.standing_of_pass, Settling.{PassStands, ActorsStand}, Kits.{IsEquipped, AreEquipped, AreNew, IsSupplied, kept_pass, IsBack}}
+use Rattle.pas_threads.specs.{Kits.{passes_in, IsNew, IsKeeperFor, IsKitOf, slots_of}, Pairs.{no_more, KeeperRests, owed_kept, keeper_at, owed_by_keepers}}
+use Rattle.pas_threads.specs.{Pairs.{AreGuarded, HasKeeper, IsLow, KeeperStands}, Sessions.{Session, WorkerRests, ScavengerRests, TeamAt, HasRoom, owed_by}}
+use Rattle.pas_threads.specs.{Sessions.{IsOfActors, HasReplayed}, declared.{keeper.Keeper.Keeper, scavenger.Scavenger.Scavenger, workers.Worker.Worker}}
+use Rattle.pas_threads.{specs.declared.{phases.Team.Team, kit.SharedKit.SharedKit}, proofs.{Dealt.some_item, Keepers.{keeper_is, stands_for}}}
+use Rattle.pas_threads.proofs.{TakingTurns.{set_each, each_pushed}, Staging.{nothing_since, of_first, stand_all, of_each_actor, some_keeper, stands_with}}
+use Rattle.pas_threads.proofs.Staging.{team_stands}
+use Rattle.pas_steps.{specs.{Lists.{Whole, part, Legal}, Clear.HasNothing, declared.state.State.State}, proofs.Nothing.nothing_yet}
 use Rattle.pas_records.specs.{Rooms.{records_in, room_of, Records}, declared.record.Record.Record}
 
 -- ---- equipping
-pub equipped_more : {bounds : List ℕ} {passes after : List SharedPass} {workers now : List Worker} (pass : SharedPass) (worker : Worker)
-    → after ≡ passes ++ pass ∷ [] → now ≡ workers ++ worker ∷ [] → AreEquipped bounds passes workers
-    → IsEquipped pass (slice_index bounds (suc (length workers))) worker → AreEquipped bounds after now
+pub equipped_more : {bounds passes after workers now : _} (pass : SharedPass) (worker : Worker) → after ≡ passes ++ pass ∷ [] → now ≡ workers ++ worker ∷ []
+    → AreEquipped bounds passes workers → IsEquipped pass (slice_index bounds (suc (length workers))) worker → AreEquipped bounds after now
 equipped_more {bounds} {passes} {after} {workers} {now} pass worker first second are new = record {
   many =
-      let one = ap length first in
-      let two = ap length second in
-      omega (arith, one, two, length-append passes (pass ∷ []), length-append workers (worker ∷ []), are.many);
+      omega (arith, ap length first, ap length second, length-append passes (pass ∷ []), length-append workers (worker ∷ []), are.many);
   each = λ i d e lt.
       each_pushed (λ (m : ℕ) (w : Worker). (p : SharedPass) → IsEquipped (get_or after m p) (slice_index bounds (suc m)) w) workers worker second
       (λ p. subst (λ q. IsEquipped q (slice_index bounds (suc (length workers))) worker) (sym (ap (λ ps. get_or ps (length workers) p) first ∙ get_or_push passes pass p (length workers) (sym are.many))) new)
@@ -151,9 +148,6 @@ starts_at : (region : SharedRegion) (f : Profile) (k bound later : ℕ) (pass : 
     → WorkerRests region f k worker later at_start
 starts_at region f k bound later pass worker of_profile within unused has =
     let owed : owed_events f (cached worker.cache) [] ≡ f.pages = ap (λ (c : Cached). owed_events f c []) has.cache ∙ pages_owed_at_first f in
-    let room = unused.room in
-    let requests = has.requests in
-    let none = ap length has.said in
     record {
       here = record {
         has = record { pass = pass; present = has.present; of = unused.of_region };
@@ -163,15 +157,15 @@ starts_at region f k bound later pass worker of_profile within unused has =
             profile = unused.of_region.1 ∙ of_profile;
             stood = unused.no_step;
             rest = rests_empty f (cached worker.cache) [] (ap (λ (c : Cached). c.locals) has.cache) (ap (λ (c : Cached). c.log) has.cache) nothing_yet;
-            room = omega (arith, owed, room, within);
+            room = omega (arith, owed, unused.room, within);
           };
           cache = sym has.cache;
-          spare = omega (arith, owed, has.records, within, none);
+          spare = omega (arith, owed, has.records, within, ap length has.said);
         };
       };
       said = has.said;
       asked = has.asked;
-      requests = omega (arith, requests, within);
+      requests = omega (arith, has.requests, within);
     }
 
 scavenger_starts : (region : SharedRegion) (f : Profile) (bound later : ℕ) (pass : SharedPass) (scavenger : Scavenger) → region.profile ≡ f → later ≤ bound
@@ -179,13 +173,12 @@ scavenger_starts : (region : SharedRegion) (f : Profile) (bound later : ℕ) (pa
     → ScavengerRests region f scavenger later at_start
 scavenger_starts region f bound later pass scavenger of_profile within unused ready =
     let room = unused.room in
-    let none = ap length ready.said in
     record {
       has = record { pass = pass; present = ready.present; of = unused.of_region };
       at = record {
         stands = record {
           sits = record { actor = unused.actor; profile = unused.of_region.1 ∙ of_profile; stood = unused.no_step; rest = nothing_yet; room = omega (arith, room, within) };
-          spare = omega (arith, none, ready.records, within);
+          spare = omega (arith, ap length ready.said, ready.records, within);
         };
         has_places = ready.places;
       };
@@ -196,10 +189,7 @@ scavenger_starts region f bound later pass scavenger of_profile within unused re
 owed_start : (f : Profile) (n : ℕ) → owed_by f at_start n ≡ n * f.pages
 owed_start f zero = omega arith
 owed_start f (suc n) =
-    let this = pages_owed_at_first f in
-    let rest = owed_start f n in
-    let more = suc-mul n f.pages in
-    omega (arith, this, rest, more)
+    omega (arith, pages_owed_at_first f, owed_start f n, suc-mul n f.pages)
 
 -- the region of the plan, its threads and its keepers
 abbrev pub session_of : Plan → Session
@@ -220,17 +210,14 @@ keeper_starts region plan k pass o of_profile tried within unused has =
     let events = counted.0 in
     let owed = pages_owed_at_first f in
     let room = unused.room in
-    let spare = has.records in
-    let places = has.places in
-    let none = ap length has.said in
     let up = ap length has.empty in
     let fits : FitsBook f (guards_in there.book) [] =
     subst (λ gs. FitsBook f gs []) (sym has.empty) (record { apart = tt; of_region = tt; knows = tt; held = nothing_yet.grains; rights = nothing_yet.rights; clear = nothing_yet.clear }) in
     let at : KeeperAt f actor (keeper_has (standing_of_pass pass) there.book there.out) (for_guards (own_acts k ops) no_more) at_start = record {
       sits = record { actor = unused.actor; profile = unused.of_region.1 ∙ of_profile; stood = unused.no_step; rest = fits; room = omega (arith, room, within, events, owed) };
       book = sym has.empty;
-      spare = omega (arith, none, up, owed, counted.2, spare, within);
-      places = omega (arith, up, counted.1, places);
+      spare = omega (arith, ap length has.said, up, owed, counted.2, has.records, within);
+      places = omega (arith, up, counted.1, has.places);
     } in
     subst (λ (x : Option Keeper). KeeperRests region f actor (own_acts k ops) x at_start) (sym has.present) record {
       of = subst (IsPassOf region) (sym has.pass_is) unused.of_region;
@@ -245,13 +232,12 @@ kept_start : {text : List ℕ} {plan : Plan} {kit : SharedKit} → IsPlanOf text
     (get_or kit.team.threads.items i d).keeper at_start
 kept_start {text} {plan} {kit} read made (inl all) many i d lt =
     let plans = every_plan read in
-    let some = is_guarded plan (omega (arith, all.0, lt)) in
     let had = made.team.keepers in
     let e = some_item made.kept 0 (omega (arith, had.0, all.0, lt)) in
     let unused = subst (IsNew kit.region (suc (length made.others + i)) (slice_index (bounds_of plan.bounds) (suc (length made.others + i)))) (get_or-append-add made.others made.kept i e)
     (made.unused (suc (length made.others + i)) e (omega (arith, had.0, all.0, lt, length-append made.others made.kept))) in
     let place : suc (length made.others + i) ≡ threads_of plan + suc i = omega (arith, made.many) in
-    let bound = plans.kept (suc i) some (omega arith) (omega (arith, lt, many)) in
+    let bound = plans.kept (suc i) (is_guarded plan (omega (arith, all.0, lt))) (omega arith) (omega (arith, lt, many)) in
     keeper_starts kit.region plan (suc i) (slice_index_or made.kept i e) (get_or kit.team.threads.items i d).keeper made.profile
     (tried_own plan.profile plan.guard (suc i) (all_ops (phases_of plan)) plans.keepers)
     (omega (arith, bound)) (subst (λ n. IsNew kit.region n (slice_index (bounds_of plan.bounds) n) (slice_index_or made.kept i e)) place unused)
@@ -261,8 +247,7 @@ kept_start {text} {plan} {kit} read made (inr none) many i d lt =
     let zero_of = guarded_none plan (omega (arith, lt, many)) none.0 in
     rw none.1 (record { of = tt; waits = unguarded_own plan.profile plan.guard (suc i) (all_ops (phases_of plan)) zero_of plans.keepers; silent = tt })
 
-start : {text : List ℕ} {plan : Plan} {kit : SharedKit} → IsPlanOf text plan → IsKitOf plan kit
-    → TeamAt kit.region (session_of plan) (phases_of plan) kit.team at_start
+start : {text plan kit : _} → IsPlanOf text plan → IsKitOf plan kit → TeamAt kit.region (session_of plan) (phases_of plan) kit.team at_start
 unfolding names_at_start
 start {text} {plan} {kit} read made =
     let f = region_of plan in
@@ -270,15 +255,12 @@ start {text} {plan} {kit} read made =
     let ops = all_ops (phases_of plan) in
     let plans = every_plan read in
     let many = made.team.workers.many ∙ made.many in
-    let scavenger = plans.scavenger in
-    let count = few_operations read in
-    let actors = plan_actors plan in
     let threads = plan_threads plan in
     record {
       fit = record {
-        fits = omega (arith, actors);
+        fits = omega (arith, plan_actors plan);
         few_threads = omega (arith, plans.actors, threads);
-        few = omega (arith, count);
+        few = omega (arith, few_operations read);
         within = λ k on. active_within plan.profile [] ops k plans.operations on;
         behind = behind_own plan.profile plan.guard ops plans.keepers;
       };
@@ -288,14 +270,13 @@ start {text} {plan} {kit} read made =
             let e = some_item made.others 0 (omega (arith, lt, made.team.workers.many)) in
             let unused = subst (IsNew kit.region (suc i) (slice_index bounds (suc i))) (get_or-append made.others made.kept e i (omega (arith, lt, made.team.workers.many)))
             (made.unused (suc i) e (omega (arith, lt, made.team.workers.many, length-append made.others made.kept))) in
-            let own = plans.own (suc i) (omega arith) (omega (arith, lt, many)) in
             starts_at kit.region f (suc i) (slice_index bounds (suc i)) (own_records plan.profile (suc i) ops) (get_or made.others i e) (get_or kit.team.threads.items i d) made.profile
-            (omega (arith, own)) unused (made.team.workers.each i e d lt);
+            (omega (arith, plans.own (suc i) (omega arith) (omega (arith, lt, many)))) unused (made.team.workers.each i e d lt);
         guarded = made.team.keepers.1;
         kept = kept_start read made made.team.keepers.1 many;
       };
       scavenger = scavenger_starts kit.region f (slice_index bounds 0) (own_records plan.profile 0 ops) made.first kit.team.scavenger made.profile
-          (omega (arith, scavenger)) (made.unused 0 made.first (omega arith)) made.team.scavenger;
+          (omega (arith, plans.scavenger)) (made.unused 0 made.first (omega arith)) made.team.scavenger;
       nobody = λ k past. refl;
       names = names_at_start f ops kit.team.book (wider_sound plan.profile f.threads threads [] ops plans.operations) (plan_above read)
           (below_all (names_held kit.team.book.names) (phases_of plan) made.team.book.names) made.team.book.no_name;
@@ -306,20 +287,14 @@ start {text} {plan} {kit} read made =
 both_pages : (n m pages : ℕ) → (n + m) * pages ≡ n * pages + m * pages
 both_pages zero m pages = omega arith
 both_pages (suc n) m pages =
-    let rest = both_pages n m pages in
-    let one = suc-mul (n + m) pages in
-    let two = suc-mul n pages in
-    omega (arith, rest, one, two)
+    omega (arith, both_pages n m pages, suc-mul (n + m) pages, suc-mul n pages)
 
 -- each keeper owes a deed of each page
 owed_first : (f : Profile) (threads : ℕ) (workers : List Worker) (n : ℕ)
     → ((i : ℕ) → i < n → owed_kept f (threads + suc i) (keeper_at workers i) at_start ≤ f.pages) → owed_by_keepers f threads workers at_start n ≤ n * f.pages
 owed_first f threads workers zero few = omega arith
 owed_first f threads workers (suc n) few =
-    let this = few n (omega arith) in
-    let rest = owed_first f threads workers n (λ i lt. few i (omega (arith, lt))) in
-    let more = suc-mul n f.pages in
-    omega (arith, this, rest, more)
+    omega (arith, few n (omega arith), owed_first f threads workers n (λ i lt. few i (omega (arith, lt))), suc-mul n f.pages)
 
 none_owed : (f : Profile) (threads : ℕ) (workers : List Worker) (n : ℕ) → n ≤ length workers
     → ((i : ℕ) (d : Worker) → i < length workers → (get_or workers i d).keeper ≡ None) → owed_by_keepers f threads workers at_start n ≡ 0
@@ -328,20 +303,15 @@ none_owed f threads workers (suc n) le none =
     let lt : n < length workers = omega (arith, le) in
     let d = some_item workers n lt in
     let this = ap (λ (o : Option Keeper). owed_kept f (threads + suc n) o at_start) (keeper_is workers n d lt ∙ none n d lt) in
-    let rest = none_owed f threads workers n (omega (arith, le)) none in
-    omega (arith, this, rest)
+    omega (arith, this, none_owed f threads workers n (omega (arith, le)) none)
 
 owed_one : (plan : Plan) (k actor : ℕ) (pass : SharedPass) (o : Option Keeper) → IsKeeperFor plan k pass o
     → owed_kept (region_of plan) actor o at_start ≤ (region_of plan).pages
 owed_one plan k actor pass o has =
     let f = region_of plan in
-    let owed = pages_owed_at_first f in
-    let up = ap length has.empty in
-    let same = ap (λ (x : Option Keeper). owed_kept f actor x at_start) has.present in
-    omega (arith, owed, up, same)
+    omega (arith, pages_owed_at_first f, ap length has.empty, ap (λ (x : Option Keeper). owed_kept f actor x at_start) has.present)
 
-kept_owed : {plan : Plan} {kit : SharedKit} → IsKitOf plan kit → AreGuarded (keepers_of plan) kit.team.threads.items
-    → length kit.team.threads.items ≡ threads_of plan
+kept_owed : {plan kit : _} → IsKitOf plan kit → AreGuarded (keepers_of plan) kit.team.threads.items → length kit.team.threads.items ≡ threads_of plan
     → owed_by_keepers (region_of plan) (threads_of plan) kit.team.threads.items at_start (threads_of plan) ≤ keepers_of plan * (region_of plan).pages
 kept_owed {plan} {kit} made (inl all) many =
     let workers = kit.team.threads.items in
@@ -352,27 +322,20 @@ kept_owed {plan} {kit} made (inl all) many =
     let e = some_item made.kept 0 (omega (arith, had.0, all.0, less)) in
     let one = owed_one plan (suc i) (threads_of plan + suc i) (slice_index_or made.kept i e) (get_or workers i d).keeper
     (had.2 i e d (omega (arith, all.0, less))) in
-    let is = ap (λ (o : Option Keeper). owed_kept (region_of plan) (threads_of plan + suc i) o at_start) (keeper_is workers i d less) in
-    omega (arith, one, is)) in
-    let pages = ap (λ (n : ℕ). n * (region_of plan).pages) (all.0 ∙ many) in
-    omega (arith, each, pages)
+    omega (arith, one, ap (λ (o : Option Keeper). owed_kept (region_of plan) (threads_of plan + suc i) o at_start) (keeper_is workers i d less))) in
+    omega (arith, each, ap (λ (n : ℕ). n * (region_of plan).pages) (all.0 ∙ many))
 kept_owed {plan} {kit} made (inr none) many =
-    let nothing = none_owed (region_of plan) (threads_of plan) kit.team.threads.items (threads_of plan) (omega (arith, many)) none.1 in
-    omega (arith, nothing)
+    omega (arith, none_owed (region_of plan) (threads_of plan) kit.team.threads.items (threads_of plan) (omega (arith, many)) none.1)
 
 start_room : {text : List ℕ} {plan : Plan} {kit : SharedKit} (out : Records) → IsPlanOf text plan → IsKitOf plan kit → records_in out ≡ []
     → plan.total + length (phases_of plan) + 1 ≤ room_of out
     → HasRoom (session_of plan) (phases_of plan) (length (the_phases plan.phases) + 1) kit.team.threads.items out at_start
 start_room {text} {plan} {kit} out read made empty room =
     let owed = owed_start (region_of plan) (threads_of plan) in
-    let many_workers = made.team.workers.many ∙ made.many in
-    let kept = kept_owed made made.team.keepers.1 many_workers in
-    let total = (every_plan read).total in
+    let kept = kept_owed made made.team.keepers.1 (made.team.workers.many ∙ made.many) in
     let actors = ap (λ (n : ℕ). n * (region_of plan).pages) (plan_actors plan) in
     let sum = both_pages (threads_of plan) (keepers_of plan) (region_of plan).pages in
-    let none = ap length empty in
-    let many = length-map (the_phases plan.phases) ops_of in
-    omega (arith, owed, kept, total, actors, sum, none, room, many)
+    omega (arith, owed, kept, (every_plan read).total, actors, sum, ap length empty, room, length-map (the_phases plan.phases) ops_of)
 
 -- the plan as the replay is handed it
 pub handed : {text : List ℕ} {plan : Plan} {kit : SharedKit} (out : Records) (slice : List Phase) → IsPlanOf text plan → IsKitOf plan kit
@@ -449,16 +412,14 @@ slots_many : (workers : List Worker) → ((i : ℕ) (d : Worker) → i < length 
 slots_many [] all = omega arith
 slots_many (w ∷ ws) all =
     let one = ap (λ (o : Option Keeper). length (kept_pass o ++ passes_in ws)) (all 0 w (omega arith)).1 in
-    let rest = slots_many ws (λ i d lt. all (suc i) d (omega (arith, lt))) in
-    omega (arith, one, rest)
+    omega (arith, one, slots_many ws (λ i d lt. all (suc i) d (omega (arith, lt))))
 
 slots_few : (workers : List Worker) → ((i : ℕ) (d : Worker) → i < length workers → (get_or workers i d).keeper ≡ None)
     → length (passes_in workers) ≡ length workers
 slots_few [] none = refl
 slots_few (w ∷ ws) none =
     let one = ap (λ (o : Option Keeper). length (kept_pass o ++ passes_in ws)) (none 0 w (omega arith)) in
-    let rest = slots_few ws (λ i d lt. none (suc i) d (omega (arith, lt))) in
-    omega (arith, one, rest)
+    omega (arith, one, slots_few ws (λ i d lt. none (suc i) d (omega (arith, lt))))
 
 slots_count : {keepers : ℕ} (workers : List Worker) → AreGuarded keepers workers → length (passes_in workers) ≡ length workers + keepers
 slots_count workers (inl all) = omega (arith, all.0, slots_many workers all.1)
@@ -550,8 +511,7 @@ pub shows : {plan : Plan} {region : SharedRegion} {so_far : Whole} {team : Team}
 shows {plan} {region} {so_far} {team} passes {written} {state} valid threads of_profile replayed back ends =
     let closed = subst (λ (f : Profile). EndsAfter f so_far passes state) of_profile ends in
     let after = closed.ends.after in
-    let actors = plan_actors plan in
-    let same = same_parts replayed.stands passes back after.whole (omega (arith, actors)) after.legal after.parts in
+    let same = same_parts replayed.stands passes back after.whole (omega (arith, plan_actors plan)) after.legal after.parts in
     let s = session_of plan in
     let of : IsOfActors s after.whole = λ k past. same k ∙ replayed.stands.nobody k past in
     let all : after.whole ≡ so_far = nothing_since closed.begins
@@ -567,9 +527,8 @@ shows {plan} {region} {so_far} {team} passes {written} {state} valid threads of_
     }
 
 -- the plan as the replay was handed it
-pub replayed_so : (plan : Plan) {region : SharedRegion} {so_far : Whole} {team : Team} {written : List Record} (slice : List Phase)
-    → slice ≡ the_phases plan.phases → HasReplayed region (session_of plan) (map ops_of slice) so_far team written
-    → HasReplayed region (session_of plan) (phases_of plan) so_far team written
+pub replayed_so : (plan : Plan) {region so_far team written : _} (slice : List Phase) → slice ≡ the_phases plan.phases
+    → HasReplayed region (session_of plan) (map ops_of slice) so_far team written → HasReplayed region (session_of plan) (phases_of plan) so_far team written
 replayed_so plan {region} {so_far} {team} {written} slice is replayed =
     subst (λ ps. HasReplayed region (session_of plan) (map ops_of ps) so_far team written) is replayed
 
@@ -578,12 +537,9 @@ replayed_so plan {region} {so_far} {team} {written} slice is replayed =
 pub as_many : (old now : List SharedPass) (left slots : List (Option SharedPass)) → slots_for now ++ left ≡ slots_for old ++ slots
     → length now + length left ≡ length old + length slots
 as_many old now left slots is =
-    let same = ap length is in
     let here = length-append (slots_for now) left in
     let there = length-append (slots_for old) slots in
-    let first = length-map now (λ (pass : SharedPass). Some pass) in
-    let second = length-map old (λ (pass : SharedPass). Some pass) in
-    omega (arith, same, here, there, first, second)
+    omega (arith, ap length is, here, there, length-map now (λ (pass : SharedPass). Some pass), length-map old (λ (pass : SharedPass). Some pass))
 
 -- with those at some places more
 pub out_more : (now after : List SharedPass) (slots left next whole : List (Option SharedPass)) → slots_for after ≡ slots_for now ++ slots

@@ -1,26 +1,25 @@
 -- Workers in a row that take turns: threads read the epoch before a phase and are stopped at the close, one after the other; what they said is gathered, and
 -- what a ledger heard of each, and of the benches that the hands of a phase left.
 use Rattle.std.proofs.Common.{arith, ◌≡◌, ℕ, ◌<◌, List, [], ◌++◌, length, get_or, sym, ◌∙◌, subst, ◌≢◌, inl, inr, ◌∷◌, set, refl, ap, append_assoc, suc, ◌+◌}
-use Rattle.std.proofs.Common.{◌-◌, ◌≤◌, true, false, map, length-append, drop, drop_of_length-le, append-nil, get_or-set_other, Option, true≢false, Bool}
-use Rattle.std.proofs.{lemmas.{List.{get_or_default, drop_more, get_or_push}, Grind.get_or-set_at, Bool.{cases_eq, cases_lt}}, Math.ListN.get_or-append}
+use Rattle.std.proofs.Common.{◌-◌, ◌≤◌, true, false, map, length-append, drop, drop_of_length-le, append-nil, get_or-set_other, Option, true≢false}
+use Rattle.std.proofs.{lemmas.{List.{get_or_default, drop_more, get_or_push}, Bool.{cases_eq, cases_lt}, Grind.get_or-set_at}, Math.ListN.get_or-append}
 use Rattle.std.specs.List.{filter}
 use Rattle.pas_answers.specs.{Names.names_held, Answers.Progress, Ways.{EachOf, records_by}, Calls.owed_events, Fit.own_cost_of_act}
 use Rattle.pas_answers.proofs.{OwnRecords.{records_both, none_by, all_by}, Reached.reach_both}
-use Rattle.pas_acts.specs.{declared.names.NameBook.NameBook, Keepers.StandsStill, Works.{Later, Sits}, NameBooks.{requests_in, room_for}, Awake.awake_in}
-use Rattle.pas_acts.{specs.AtDesks.{here, ThreadActs}, proofs.{AtDesk.{leaves_rest, sits_for, rests_still}, ActsLeft.{acts_there, next_chosen, next_passed}}}
-use Rattle.pas_acts.proofs.ActsLeft.{none_left}
+use Rattle.pas_acts.specs.{declared.names.NameBook.NameBook, Keepers.StandsStill, Works.Later, NameBooks.{requests_in, room_for}, Awake.awake_in, AtDesks.here}
+use Rattle.pas_acts.{specs.AtDesks.ThreadActs, proofs.{AtDesk.{leaves_rest, rests_still}, ActsLeft.{acts_there, next_chosen, next_passed, none_left}}}
 use Rattle.pas_threads.specs.{Taken.{IsEmptied, HasTaken}, Hands.standing_of_pass, Left.HasLeft, Turns.{said_by, said_by_all, said_by_keepers, HasSaid}}
-use Rattle.pas_threads.specs.Turns.{IsOwnGathered, IsKeptGathered, IsGathered, AreDistinct, Came, Pushed, Told, TookNoPart, Turn, TookTurns, owed_at, IsDue}
-use Rattle.pas_threads.specs.{Turns.{Woke, WokeAll}, declared.{scavenger.Scavenger.Scavenger, workers.Worker.Worker, phases.Team.Team}, Sessions.evenly}
-use Rattle.pas_threads.specs.{Sessions.{WorkerHas, WorkerRests, AreResting, HasPlaces}, Settling.{SawMore, HasHeard, HasBench, with_bench, IsButBench}}
-use Rattle.pas_threads.specs.Performing.{Round, ThreadDone, ScavengerDone, HaveActed, HeardOrder, IsHeard}
+use Rattle.pas_threads.specs.Turns.{IsOwnGathered, IsKeptGathered, AreDistinct, Came, Pushed, Told, TookNoPart, Turn, TookTurns, owed_at, IsDue, WokeAll}
+use Rattle.pas_threads.specs.{Turns.{IsGathered, Woke}, declared.{scavenger.Scavenger.Scavenger, workers.Worker.Worker, phases.Team.Team}, Sessions.evenly}
+use Rattle.pas_threads.specs.{Sessions.{WorkerHas, WorkerRests, AreResting, HasPlaces}, Settling.{HasHeard, HasBench, IsButBench, SawMore, with_bench}}
+use Rattle.pas_threads.specs.Performing.{Round, ThreadDone, ScavengerDone, HeardOrder, IsHeard, HaveActed}
 use Rattle.pas_profile.specs.declared.profile.Profile.{Profile}
 use Rattle.pas_steps.specs.{Lists.{Whole, part}, Desks.Standing}
 use Rattle.pas_trace.specs.Acts.{Act, Wakes, numbers_from, is_active}
 use Rattle.pas_shared.specs.declared.{region.SharedRegion.SharedRegion, pass.SharedPass.SharedPass, bench.Bench.Bench, ledger.Ledger.Ledger, rule.Entry.Entry}
-use Rattle.pas_shared.specs.{declared.rule.Row.Row, Ruled.{IsEarlier, AreEarlier, first_look, bases_in}}
+use Rattle.pas_shared.specs.{declared.rule.Row.Row, Ruled.{IsEarlier, AreEarlier, bases_in, first_look}}
 use Rattle.pas_bits.specs.{Masks.is_set, declared.mask.Mask4.Mask4}
-use Rattle.pas_cache.specs.Caches.{Cached, cached, AtRest}
+use Rattle.pas_cache.specs.Caches.{Cached, cached}
 use Rattle.pas_records.specs.{Rooms.{records_in, room_of, Records}, declared.record.Record.Record}
 
 -- All that these workers said came to the end of the records, for their threads and then for their keepers.
@@ -61,15 +60,7 @@ cleared {new = new} g e = search arith
 
 -- So is one that was gathered and asked for nothing.
 pub cleared_silent : {old new : Worker} → IsGathered old new → requests_in old.requests ≡ [] → IsCleared old new
-cleared_silent g none = record {
-  pass = g.pass;
-  cache = g.cache;
-  none = g.none;
-  room = g.room;
-  keeper = g.keeper;
-  asked = ap requests_in g.requests ∙ none;
-  places = ap room_for g.requests;
-}
+cleared_silent g none = assumption (ap requests_in g.requests ∙ none, ap room_for g.requests)
 
 -- what the scavenger said was gathered, and it is otherwise as it was, with no thread lent to it
 pub record IsScavengerCleared (old new : Scavenger) : Type 0 where
@@ -84,8 +75,7 @@ pub taken_as : {old new now : List Worker} {book book' : NameBook} → now ≡ n
 taken_as {old} {book = book} {book'} is t = subst (λ (ws : List Worker). WereTaken old ws book book') (sym is) t
 
 -- What was taken over from these workers was taken over from those that they are.
-pub were_taken : {given old new : List Worker} {book book' : NameBook} → given ≡ old → HasTaken book book' given
-    → names_held book'.names ≡ names_held book.names
+pub were_taken : {given old new book book' : _} → given ≡ old → HasTaken book book' given → names_held book'.names ≡ names_held book.names
     → ((i : ℕ) (d : Worker) → i < length given → IsEmptied (get_or given i d) (get_or new i d)) → length new ≡ length given → WereTaken old new book book'
 were_taken {new = new} {book} {book'} value taken held each many =
     subst (λ (ws : List Worker). WereTaken ws new book book') value (record { taken = taken; held = held; each = each; many = many })
@@ -164,11 +154,10 @@ pub each_pushed : {A : Type 0} (Is : ℕ → A → Type 0) (old : List A) {new :
     → ((i : ℕ) (d : A) → i < length old → Is i (get_or old i d)) → (i : ℕ) (d : A) → i < length new → Is i (get_or new i d)
 each_pushed {A} Is old w is this all i d lt =
     let at = ap (λ (xs : List A). get_or xs i d) is in
-    let long = ap length is ∙ length-append old (w ∷ []) in
     elim (cases_lt i (length old)) [
       | inl less ↦ subst (Is i) (sym (at ∙ get_or-append old (w ∷ []) d i less)) (all i d less)
       | inr past ↦
-          let here : length old ≡ i = omega (arith, past, lt, long) in
+          let here : length old ≡ i = omega (arith, past, lt, ap length is ∙ length-append old (w ∷ [])) in
           subst (Is i) (sym (at ∙ get_or_push old w d i here)) (subst (λ (m : ℕ). Is m w) here this)
     ]
 
@@ -184,10 +173,6 @@ no_turn {f} {number} {Stands} {old} {p} at = record { came = came_none f p; stan
 -- those of thread k and then of the scavenger, by actor
 pub by_own : (k : ℕ) (mine told : List Record) → EachOf k mine → EachOf 0 told → 0 ≢ k → records_by k (mine ++ told) ≡ mine
 by_own k mine told one two ne = cc (records_both k mine told, all_by k mine one, none_by k 0 told two ne, append-nil mine)
-
--- What a thread says adds nothing to the records of the scavenger.
-pub by_scavenger : (k : ℕ) (mine told : List Record) → EachOf k mine → 0 ≢ k → records_by 0 (mine ++ told) ≡ records_by 0 told
-by_scavenger k mine told one ne = records_both 0 mine told ∙ ap (λ (xs : List Record). xs ++ records_by 0 told) (none_by 0 k mine one (λ is. ne (sym is)))
 
 -- What one thread and the scavenger say has nothing of another actor.
 pub by_other : (j k : ℕ) (mine told : List Record) → EachOf k mine → EachOf 0 told → k ≢ j → 0 ≢ j → records_by j (mine ++ told) ≡ []
@@ -245,17 +230,11 @@ pub rests_clear : {region : SharedRegion} {f : Profile} {k n : ℕ} {later : Lat
     → owed_at f k p + n ≤ room_of new.out → requests_in new.requests ≡ [] → n ≤ room_for new.requests → WorkerRests region f k new n p
 rests_clear {region} {f} {k} {n} {later} {w} {new} {p} at pass cache none events spare asked requests =
     let same : cached w.cache ≡ cached new.cache = ap cached (sym cache) in
-    let size = ap length none in
     let owed = ap (λ (c : Cached). owed_events f c (part k p.list)) (at.rests.cache ∙ same) in
     record {
       here = record {
         has = record { pass = at.has.pass; present = pass ∙ at.has.present; of = at.has.of };
-        rests = record {
-          sits = subst (λ c. Sits f k (AtRest f c) (standing_of_pass at.has.pass) p.list (owed_events f c (part k p.list) + n)) same
-              (sits_for at.rests.sits (omega (arith, events)));
-          cache = at.rests.cache ∙ same;
-          spare = omega (arith, size, owed, spare);
-        };
+        rests = search arith fits 400;
       };
       said = none;
       asked = asked;
@@ -278,14 +257,12 @@ pub threads_distinct : (places : ℕ) → AreDistinct suc places
 threads_distinct places = record { threads = λ i lt same. omega (arith, same); apart = λ i j low high ne same. ne (omega (arith, same)) }
 
 -- before the first turn
-pub none_took : {region : SharedRegion} {f : Profile} (old : List Worker) {later : ℕ → ℕ} {p : Progress} → AreResting region f old later p
+none_took : {region : SharedRegion} {f : Profile} (old : List Worker) {later : ℕ → ℕ} {p : Progress} → AreResting region f old later p
     → (i : ℕ) (d : Worker) → i < length old → IsDue region f later p i (get_or old i d) p
 none_took old at i d lt = let none = ap length (at i d lt).said in record { here = (at i d lt).here; paid = omega (arith, none) }
 
 -- the next worker takes its turn, by an act that costs it nothing
-abbrev turn_taken : {region : SharedRegion} {f : Profile} {acts : List Act} {act : Act} {old now : List Worker} {later : ℕ → ℕ} {p : Progress} (i : ℕ)
-    (d w : Worker)
-    → own_cost_of_act (suc i) act ≡ 0 → i < length old → length now ≡ length old
+abbrev turn_taken : {region f acts act old now later p : _} (i : ℕ) (d w : Worker) → own_cost_of_act (suc i) act ≡ 0 → i < length old → length now ≡ length old
     → (so : TookTurns f suc (IsDue region f later p) acts old now p) → Turn region f (suc i) act [] (get_or now i d) w (evenly (later (suc i))) so.came.reached
     → TookTurns f suc (IsDue region f later p) (acts ++ (act ∷ [])) old (set now i w) p
 turn_taken {f = f} {old = old} {now} i d w free lt many so t =
@@ -297,9 +274,8 @@ turn_taken {f = f} {old = old} {now} i d w free lt many so t =
     (λ c. owed_events f c (part k x.reached.list)) x.stands.cache in
     let before : owed_at f k so.came.reached ≡ owed_events f (cached (get_or now i d).cache) (part k so.came.reached.list) = ap
     (λ c. owed_events f c (part k so.came.reached.list)) was.here.rests.cache in
-    let paid = x.paid in
     acts_in_turn due_stays (threads_distinct (length old)) tt i d w lt many so x t.requests t.keeper
-    (record { here = record { has = t.did.after; rests = x.stands }; paid = omega (arith, longer, then, before, paid, was.paid, free) })
+    (record { here = record { has = t.did.after; rests = x.stands }; paid = omega (arith, longer, then, before, x.paid, was.paid, free) })
 
 -- ---- before a phase
 -- those of the mask before this place read the epoch
@@ -308,14 +284,11 @@ WokeSoFar region f awake i old now later p =
     SoFar (acts_there Wakes (is_set awake) 0 (length old) []) (acts_there Wakes (is_set awake) i (length old) []) (λ acts. Woke region f acts old now later p)
 
 -- Before any thread reads the epoch, none has.
-pub wakes_begin : (awake : Mask4) {region : SharedRegion} {f : Profile} {old : List Worker} {later : ℕ → ℕ} {p : Progress} → AreResting region f old later p
-    → WokeSoFar region f awake 0 old old later p
+pub wakes_begin : (awake : Mask4) {region f old later p : _} → AreResting region f old later p → WokeSoFar region f awake 0 old old later p
 wakes_begin awake {old = old} at = at_first (record { turns = no_turn (none_took old at); silent = refl })
 
 -- One more worker woke.
-wakes : {region : SharedRegion} {f : Profile} {acts : List Act} {old now : List Worker} {later : ℕ → ℕ} {p : Progress} (i : ℕ) (d w : Worker)
-    (so : Woke region f acts old now later p)
-    → i < length old → length now ≡ length old
+wakes : {region f acts old now later p : _} (i : ℕ) (d w : Worker) (so : Woke region f acts old now later p) → i < length old → length now ≡ length old
     → (t : Turn region f (suc i) (Wakes (suc i)) [] (get_or now i d) w (evenly (later (suc i))) so.turns.came.reached) → t.did.does.own ≡ []
     → Woke region f (acts ++ (Wakes (suc i) ∷ [])) old (set now i w) later p
 wakes i d w so lt many t none = record { turns = turn_taken i d w refl lt many so.turns t; silent = ap (λ rs. so.turns.came.said ++ (rs ++ [])) none ∙ append-nil so.turns.came.said ∙ so.silent }
@@ -352,13 +325,12 @@ woke_rest {old = old} {now} many at woke i d lt =
     let less : i < length old = omega (arith, lt, many) in
     let was = at i d less in
     let told = woke.turns.told i d less in
-    let size = ap room_for told.requests in
     record {
       here = (woke.turns.stand i d less).here;
       said = told.out.added ∙ ap (λ rs. records_in (get_or old i d).out ++ records_by (suc i) rs) woke.silent ∙ append-nil (records_in (get_or old i d).out)
           ∙ was.said;
       asked = ap requests_in told.requests ∙ was.asked;
-      requests = omega (arith, was.requests, size);
+      requests = omega (arith, was.requests, ap room_for told.requests);
     }
 
 -- ---- what is gathered
@@ -395,8 +367,7 @@ module _ (says : Worker → List Record) (Is : Worker → Worker → Type 0) whe
       search (arith, drop_more)
 
   -- After one more worker what it said stands behind the records.
-  pub gather_goes_on : {i : ℕ} {old now : List Worker} {before said said' : List Record} (d w : Worker) → i < length old → length now ≡ length old
-      → AreGathered says Is i old now before said
+  pub gather_goes_on : {i old now before said said' : _} (d w : Worker) → i < length old → length now ≡ length old → AreGathered says Is i old now before said
       → said' ≡ said ++ says (get_or now i d) → Is (get_or now i d) w → AreGathered says Is (i + 1) old (set now i w) before said'
   gather_goes_on {i} {old} {now} {before} {said} {said'} d w lt many so added one = record {
     said_are = cc (append_assoc said (says (get_or now i d)) (said_by says (drop (i + 1) old)), next_said i old now before said d lt so);
@@ -412,14 +383,10 @@ module _ (says : Worker → List Record) (Is : Worker → Worker → Type 0) whe
       let mine = says (get_or now i d) in
       let rest = said_by says (drop (i + 1) old) in
       let all = ap length (next_said i old now before said d lt so) in
-      let one = length-append said (mine ++ rest) in
-      let two = length-append mine rest in
-      let three = length-append before (said_by says old) in
-      omega (arith, all, one, two, three, fits)
+      omega (arith, all, length-append said (mine ++ rest), length-append mine rest, length-append before (said_by says old), fits)
 
   -- Once each worker had its turn, all that they said stands behind the records.
-  pub gather_ends : {i : ℕ} {old now : List Worker} {before said : List Record} → length old ≤ i → AreGathered says Is i old now before said
-      → said ≡ before ++ said_by says old
+  pub gather_ends : {i old now before said : _} → length old ≤ i → AreGathered says Is i old now before said → said ≡ before ++ said_by says old
   gather_ends {i} {old} {now} {before} {said} le so =
       sym (append-nil said) ∙ ap (λ (ws : List Worker). said ++ said_by says ws) (sym (drop_of_length-le old le)) ∙ so.said_are
 
@@ -440,22 +407,13 @@ pub record HeardSoFar (awake : Mask4) (i : ℕ) (old now : List Worker) (first l
   pub same : (j : ℕ) (d : Worker) → j < length old → IsButBench (get_or old j d) (get_or now j d)
   pub left : (j : ℕ) (d : Worker) → i ≤ j → get_or now j d ≡ get_or old j d
 
--- Before any bench the ledger heard of none.
-pub hears_first : (awake : Mask4) (old : List Worker) (ledger : Ledger) → HeardSoFar awake 0 old old ledger ledger
-hears_first awake old ledger = record { saw = λ l first. first; heard = λ j d less. absurd (omega (arith, less)); same = λ j d lt. refl; left = λ j d le. refl }
-
 -- .. and of the next one, too
 pub hears_next : {awake : Mask4} {i : ℕ} {old now : List Worker} {first ledger ledger' : Ledger} (d : Worker) (gone : Option Bench) → i < length old
     → length now ≡ length old → HeardSoFar awake i old now first ledger → SawMore ledger ledger' → HasHeard ledger' (get_or now i d).bench
     → HeardSoFar awake (i + 1) old (set now i (with_bench (get_or now i d) gone)) first ledger'
 hears_next {awake} {i} {old} {now} {first} {ledger} {ledger'} d gone lt many so saw heard = record {
   saw = λ l begins. so.saw l (saw l begins);
-  heard = λ j e less within on. elim (cases_eq j i) [
-    | inl same ↦
-        subst (λ (m : ℕ). HasHeard ledger' (get_or old m e).bench) (sym same)
-        (subst (λ (w : Worker). HasHeard ledger' w.bench) (so.left i d (omega arith) ∙ get_or_default old i d e lt) heard)
-    | inr other ↦ λ bench is l begins. so.heard j e (omega (arith, less, other)) within on bench is l (saw l begins)
-  ];
+  heard = search (arith, cases_eq, get_or_default) fits 400;
   same = λ j e less. set_each (λ (m : ℕ) (w : Worker). IsButBench (get_or old m e) w) now i (with_bench (get_or now i d) gone) e j (omega (arith, lt, many))
       (ap (λ (w : Worker). with_bench w gone) (so.left i d (omega arith) ∙ get_or_default old i d e lt)) (λ ne. so.same j e less);
   left = λ j e le. let ne : j ≢ i = λ (is : j ≡ i). omega (arith, is, le) in get_or-set_other now i j (with_bench (get_or now i d) gone) e ne ∙ so.left j e (omega (arith, le));
@@ -467,8 +425,7 @@ pub hears_pass : {awake : Mask4} {i : ℕ} {old now : List Worker} {first ledger
 hears_pass {awake} {i} {old} off so = search (arith, true≢false)
 
 -- the next one has its bench still
-pub bench_next : {region : SharedRegion} {awake : Mask4} {i : ℕ} {old now : List Worker} {first ledger : Ledger} (d : Worker) → i < length old
-    → HeardSoFar awake i old now first ledger → is_set awake (i + 1) ≡ true
+pub bench_next : {region awake i old now first ledger : _} (d : Worker) → i < length old → HeardSoFar awake i old now first ledger → is_set awake (i + 1) ≡ true
     → ((j : ℕ) (e : Worker) → j < length old → is_set awake (suc j) ≡ true → HasBench region (get_or old j e).bench) → HasBench region (get_or now i d).bench
 bench_next {region} {awake} {i} d lt so on has =
     subst (λ (w : Worker). HasBench region w.bench) (sym (so.left i d (omega arith)))
@@ -476,13 +433,11 @@ bench_next {region} {awake} {i} d lt so on has =
 
 -- ---- the ledger heard of the benches that the hands of a phase left
 -- A bench was left in its slot, of the same region.
-pub bench_left : {region : SharedRegion} {slot : Option Bench} {chosen : ℕ → Bool} {told told' : Whole} → HasLeft region slot chosen told told'
-    → HasBench region slot
+pub bench_left : {region slot chosen told told' : _} → HasLeft region slot chosen told told' → HasBench region slot
 bench_left left = record { bench = left.bench; present = left.present; of = left.of }
 
 -- .. so it heard the order in which its actors made their steps
-heard_order : {region : SharedRegion} {ledger : Ledger} {slot : Option Bench} {chosen : ℕ → Bool} {told told' : Whole} → HasLeft region slot chosen told told'
-    → HasHeard ledger slot → HeardOrder ledger chosen told told'
+heard_order : {region ledger slot chosen told told' : _} → HasLeft region slot chosen told told' → HasHeard ledger slot → HeardOrder ledger chosen told told'
 heard_order left heard = record {
   base = left.base;
   order = left.order;
@@ -494,8 +449,7 @@ pub heard_still : (old new : Ledger) {slot : Option Bench} → SawMore old new �
 heard_still old new saw heard bench is l begins = heard bench is l (saw l begins)
 
 -- nothing that a thread did is about its bench
-thread_but : {region : SharedRegion} {r : Round} {k : ℕ} {old new new' : Worker} {said : List Record} {q : Progress} → IsButBench new new'
-    → ThreadDone region r k old new said q → ThreadDone region r k old new' said q
+thread_but : {region r k old new new' said q : _} → IsButBench new new' → ThreadDone region r k old new said q → ThreadDone region r k old new' said q
 thread_but {region} {r} {k} {old} {new} {new'} {said} {q} same done =
     subst (λ (w : Worker). ThreadDone region r k old w said q) (sym same) (record {
       stands = record { has = done.stands.has; rests = done.stands.rests };

@@ -1,5 +1,5 @@
-use Rattle.std.proofs.Common.{◌<◌, length, Bool, if◌then◌else◌, refl, ap, arith, drop_of_length-le, eq-eqb}
-use Rattle.pas_trace.specs.{Asked.keeper_in, declared.plan.{Op.Op, What.TheVariants.Alloc}}
+use Rattle.std.proofs.Common.{◌<◌, length, Bool, if◌then◌else◌, refl, ap, arith, eq-eqb}
+use Rattle.pas_trace.specs.{Asked.keeper_in, declared.plan.Op.Op}
 use Rattle.pas_acts.{specs.PlanKeepers.one_guarded, proofs.Making.{all_at, said_next, count_more}}
 use Rattle.pas_acts.proofs.plan_keepers.count_guarded.Goals as goal
 
@@ -8,8 +8,7 @@ add-requires-clause-actor g c =
     let op = c.op-op.result in
     let lt : c.loop-place.place < length (g.P.Operations.ops c.args.phase.now) = omega (arith, c.loop-place-test.true, c.count-place-end.ensures) in
     let actor = ap (λ (o : Op). o.actor) (c.op-op.ensures op) in
-    let below = all_at (λ (o : Op). o.actor < 17) (g.P.Operations.ops c.args.phase.now) c.loop-place.place op c.requires.actors lt in
-    omega (arith, actor, below)
+    omega (arith, actor, all_at (λ (o : Op). o.actor < 17) (g.P.Operations.ops c.args.phase.now) c.loop-place.place op c.requires.actors lt)
 
 pub add-requires-clause-few : goal.add-requires-clause-few
 add-requires-clause-few g c =

@@ -1,7 +1,7 @@
-use Rattle.std.proofs.{Common.{◌<◌, List, map, subst, sym, ap, ◌∙◌, arith, drop_of_length-le}, lemmas.List.{get_or-replicate, length-replicate, get_or_past}}
+use Rattle.std.proofs.{Common.{◌<◌, List, subst, sym, ap, ◌∙◌, arith}, lemmas.List.{get_or-replicate, length-replicate, get_or_past}}
 use Rattle.std.specs.List.{AllByRecursion}
-use Rattle.pas_trace.specs.{EveryPlan.all_ops, declared.plan.Op.Op}
-use Rattle.pas_acts.{specs.PlanKeepers.guarded_of, proofs.Making.{phase_at, phases_next}}
+use Rattle.pas_trace.specs.declared.plan.Op.{Op}
+use Rattle.pas_acts.proofs.Making.{phase_at, phases_next}
 use Rattle.pas_acts.proofs.plan_keepers.guarded_by_thread.Goals as goal
 
 pub loop-phase-init : goal.loop-phase-init

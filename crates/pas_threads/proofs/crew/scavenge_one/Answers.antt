@@ -12,15 +12,13 @@ pub tick-requires-clause-stands : goal.tick-requires-clause-stands
 tick-requires-clause-stands c =
     let m = c.requires.may in
     let s = m.1 in
-    let at = as_acts m.2 (ap (acts_of_chore s.idle) c.in-Tick.is) m.6 in
-    (s.profile, _, m.3, room_for_act (omega arith) at.stands)
+    (s.profile, _, m.3, room_for_act (omega arith) (as_acts m.2 (ap (acts_of_chore s.idle) c.in-Tick.is) m.6).stands)
 
 pub pass-requires-clause-stands : goal.pass-requires-clause-stands
 pass-requires-clause-stands c =
     let m = c.requires.may in
     let s = m.1 in
-    let at = as_acts m.2 (ap (acts_of_chore s.idle) c.in-Pass.is) m.6 in
-    (s.profile, _, m.3, room_for_act (omega arith) at.stands)
+    (s.profile, _, m.3, room_for_act (omega arith) (as_acts m.2 (ap (acts_of_chore s.idle) c.in-Pass.is) m.6).stands)
 
 pub pass-requires-clause-places : goal.pass-requires-clause-places
 pass-requires-clause-places c = let at = c.requires.may.6.stands in at.has_places ∙ ap (λ (h : Profile). h.pages) (sym at.stands.sits.profile)
@@ -29,8 +27,7 @@ pub read_epoch-epoch-requires : goal.read_epoch-epoch-requires
 read_epoch-epoch-requires c =
     let m = c.requires.may in
     let s = m.1 in
-    let at = as_acts m.2 (ap (acts_of_chore s.idle) c.in-Idle.is) m.6 in
-    record { stands = (s.profile, c.args.out.now, _, m.3, room_for_act (omega arith) at.stands) }
+    record { stands = (s.profile, c.args.out.now, _, m.3, room_for_act (omega arith) (as_acts m.2 (ap (acts_of_chore s.idle) c.in-Idle.is) m.6).stands) }
 
 pub stop_idle-requires-clause-lent : goal.stop_idle-requires-clause-lent
 stop_idle-requires-clause-lent c =
@@ -46,8 +43,7 @@ stop_idle-requires-clause-room c =
     let m = c.requires.may in
     let s = m.1 in
     let at = as_acts m.2 (ap (acts_of_chore s.idle) c.in-Idle.is) m.6 in
-    let costs = costs_stops s.profile c.in-Idle.epochs s.idle m.2 in
-    omega (arith, at.stands.stands.spare, at.lent.many, costs)
+    omega (arith, at.stands.stands.spare, at.lent.many, costs_stops s.profile c.in-Idle.epochs s.idle m.2)
 
 pub returns-in-Tick-clause-did : goal.returns-in-Tick-clause-did
 returns-in-Tick-clause-did c = λ h s next p home was.

@@ -38,14 +38,12 @@ pub loop-below-preserved : goal.loop-below-preserved
 loop-below-preserved c =
     let d = (goal.at.loop-below-preserved c).After-get in
     let i = c.loop-below.invariant in
-    let many = i.many in
-    let more = ap length c.push_reserved.ensures.items ∙ length-append c.loop-below.threads.items _ in
     record {
       so = elim (cases_Bool c.get.result) [
         | inl on ↦ let back = c.next_back-worker.ensures.awake on in taken_in (so d) c.next_back-worker.result (its_bit d ∙ on) back.0 back.1 c.push_reserved.ensures.items
         | inr off ↦ let back = c.next_back-worker.ensures.idle off in taken_out (so d) c.next_back-worker.result (its_bit d ∙ off) back.0 back.1 c.push_reserved.ensures.items
       ];
-      many = omega (arith, many, more);
+      many = omega (arith, i.many, ap length c.push_reserved.ensures.items ∙ length-append c.loop-below.threads.items _);
       threads = c.push_reserved.ensures.capacity ∙ i.threads;
       hands = c.next_back-worker.ensures.places.0 ∙ i.hands;
       lent = c.next_back-worker.ensures.places.1 ∙ i.lent;

@@ -6,8 +6,7 @@ use Rattle.pas_threads.proofs.hands.act_with.Goals as goal
 pub act_all-requires-clause-may : goal.act_all-requires-clause-may
 act_all-requires-clause-may g c =
     let own = c.requires.threads in
-    let may = threads_may own.0 own.1 own.2 in
-    search (rules, may)
+    search (rules, threads_may own.0 own.1 own.2)
 
 pub returns-then-not-busy-clause-threads : goal.returns-then-not-busy-clause-threads
 returns-then-not-busy-clause-threads g c = λ own is. threads_did own c.act_all.new.hands.items (c.act_all.ensures.many ∙ ap length is)
@@ -17,8 +16,7 @@ pub act_all-requires-2-clause-may : goal.act_all-requires-2-clause-may
 act_all-requires-2-clause-may g c =
     let own = c.requires.threads in
     let is = c.push_reserved.ensures.items ∙ ap (λ hs. hs ++ Scavenger c.args.scavenger ∷ []) own.1 in
-    let may = all_may own.0 c.args.scavenger is own.2 (c.requires.scavenger c.if-not-busy.false) in
-    search (rules, may)
+    search (rules, all_may own.0 c.args.scavenger is own.2 (c.requires.scavenger c.if-not-busy.false))
 
 pub pop_scavenger-requires : goal.pop_scavenger-requires
 pop_scavenger-requires g c =

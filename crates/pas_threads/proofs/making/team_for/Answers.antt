@@ -3,7 +3,7 @@ use Rattle.std.proofs.{Common.{length-take-le, take-append-drop}, lemmas.Option.
 use Rattle.pas_trace.{specs.Plans.bounds_of, proofs.Keepers.plan_actors}
 use Rattle.pas_shared.specs.declared.pass.SharedPass.{SharedPass}
 use Rattle.pas_answers.specs.{Names.names_held, Replays.{phases_of, region_of, threads_of, keepers_of}}
-use Rattle.pas_acts.proofs.{Naming.all_higher, PlanFacts.{plan_valid, plan_threads, plan_bounds, plan_below}}
+use Rattle.pas_acts.proofs.{PlanFacts.{plan_valid, plan_threads, plan_bounds, plan_below}, Naming.all_higher}
 use Rattle.pas_threads.{specs.Kits.{AreEquipped, IsSupplied, AreKeptBy}, proofs.Keepers.have_keepers}
 use Rattle.pas_threads.proofs.making.team_for.Goals as goal
 
@@ -13,9 +13,7 @@ own_many threads keepers all own many is = ap length is ∙ length-take-le threa
 
 kept_many : (threads keepers : ℕ) (all kept : List SharedPass) → length all ≡ threads + keepers → kept ≡ drop threads all → length kept ≡ keepers
 kept_many threads keepers all kept many is =
-    let same = ap length is in
-    let left = length-drop threads all in
-    omega (arith, same, left, many)
+    omega (arith, ap length is, length-drop threads all, many)
 
 -- The passes of threads and keepers, one after the other, are all.
 both : (threads : ℕ) (all own kept : List SharedPass) → own ≡ take threads all → kept ≡ drop threads all → all ≡ own ++ kept
@@ -23,46 +21,38 @@ both threads all own kept first last = sym (take-append-drop threads all) ∙ ap
 
 pub caches_for-requires-clause-few : goal.caches_for-requires-clause-few
 caches_for-requires-clause-few c =
-    let most = (plan_valid c.requires.plan.1).threads in
-    let among = plan_threads c.args.plan.now in
-    omega (arith, most, among)
+    omega (arith, (plan_valid c.requires.plan.1).threads, plan_threads c.args.plan.now)
 
 pub workers_for-requires-clause-bounds : goal.workers_for-requires-clause-bounds
 workers_for-requires-clause-bounds c =
     let plan = c.args.plan.now in
-    let count = ap length c.as_slice-bounds.ensures ∙ plan_bounds c.requires.plan.1 in
     let own = own_many (threads_of plan) (keepers_of plan) c.args.others.items c.split_off.new.self.items c.requires.passes c.in-Ok.ensures.items in
     let kept = kept_many (threads_of plan) (keepers_of plan) c.args.others.items c.in-Ok.kept.items c.requires.passes c.in-Ok.ensures.tail in
-    let actors = plan_actors plan in
-    omega (arith, count, own, kept, actors)
+    omega (arith, ap length c.as_slice-bounds.ensures ∙ plan_bounds c.requires.plan.1, own, kept, plan_actors plan)
 
 pub workers_for-requires-clause-books : goal.workers_for-requires-clause-books
 workers_for-requires-clause-books c =
     let plan = c.args.plan.now in
     let kept = kept_many (threads_of plan) (keepers_of plan) c.args.others.items c.in-Ok.kept.items c.requires.passes c.in-Ok.ensures.tail in
-    let books = c.in_ok-books.ensures.many in
-    omega (arith, books, kept)
+    omega (arith, c.in_ok-books.ensures.many, kept)
 
 pub bounds-bounds-0 : goal.bounds-bounds-0
 bounds-bounds-0 c =
-    let count = ap length c.as_slice-bounds.ensures ∙ plan_bounds c.requires.plan.1 in
-    omega (arith, count)
+    omega (arith, ap length c.as_slice-bounds.ensures ∙ plan_bounds c.requires.plan.1)
 
 pub returns : goal.returns
 returns c =
     let plan = c.args.plan.now in
-    let bounds = bounds_of plan.bounds in
     let own = c.split_off.new.self.items in
     let kept = c.in-Ok.kept.items in
     let threads = c.in_ok-threads.threads in
     let many : length own ≡ threads_of plan = own_many (threads_of plan) (keepers_of plan) c.args.others.items own c.requires.passes c.in-Ok.ensures.items in
     let size : length kept ≡ keepers_of plan = kept_many (threads_of plan) (keepers_of plan) c.args.others.items kept c.requires.passes c.in-Ok.ensures.tail in
-    let equipped : AreEquipped bounds own threads.items = subst
+    let equipped : AreEquipped (bounds_of plan.bounds) own threads.items = subst
     (λ bs. AreEquipped bs own threads.items) c.as_slice-bounds.ensures c.in_ok-threads.ensures.workers in
     let workers : length threads.items ≡ threads_of plan = equipped.many ∙ many in
     let kept_by = subst (λ bs. AreKeptBy bs (threads_of plan) kept c.in_ok-books.books.items threads.items) c.as_slice-bounds.ensures
     (subst (λ n. AreKeptBy c.as_slice-bounds.result.now n kept c.in_ok-books.books.items threads.items) many c.in_ok-threads.ensures.kept) in
-    let have = have_keepers kept c.in_ok-books.books.items c.requires.plan.1 c.total_of-total.ensures.counted kept_by c.in_ok-books.ensures size workers in
     let capacity : threads_of plan ≤ vec_capacity threads = omega (arith, many, c.in_ok-threads.ensures.places) in
     let hands = c.in-Ok-with_capacity.ensures.capacity in (
       own,
@@ -73,7 +63,7 @@ returns c =
         scavenger = subst (λ bs. IsSupplied (region_of plan) c.args.first (slice_index bs 0) c.in_ok-scavenger.scavenger) c.as_slice-bounds.ensures
             (c.in_ok-scavenger.ensures.ready (region_of plan) (same_Some _ _ (sym c.outcomes_from-outcomes.ensures ∙ c.caches_for.ensures.outcomes ∙ c.requires.outcomes)));
         workers = equipped;
-        keepers = have;
+        keepers = have_keepers kept c.in_ok-books.books.items c.requires.plan.1 c.total_of-total.ensures.counted kept_by c.in_ok-books.ensures size workers;
         book = record {
           no_name = c.in_ok-book.ensures.empty;
           names = all_higher plan.names_limit (names_held c.in_ok-book.book.names) (phases_of plan) c.in_ok-book.ensures.room (plan_below c.requires.plan.1);

@@ -9,8 +9,7 @@ use Rattle.pas_threads.proofs.{TakingTurns.{WereGathered, were_gathered}, Betwee
 use Rattle.pas_threads.proofs.phases.finish.Goals as goal
 
 -- all rest, as they are lent to be closed
-rest : {region : SharedRegion} {s : Session} {team : Team} {p : Progress} (ws : List Worker) → ws ≡ team.threads.items → TeamAt region s [] team p
-    → WorkersRest region s [] ws p
+rest : {region s : _} {team : Team} {p : _} (ws : List Worker) → ws ≡ team.threads.items → TeamAt region s [] team p → WorkersRest region s [] ws p
 rest {region} {s} {team} {p} ws value at = subst (λ us. WorkersRest region s [] us p) (sym value) at.workers
 
 -- All actors of the team stand.
@@ -37,9 +36,7 @@ module _ (c : After-close_all) where
 pub close_all-requires-clause-few : goal.close_all-requires-clause-few
 close_all-requires-clause-few c =
     let at = c.requires.may.2 in
-    let same = ap length c.deref_mut.ensures.value in
-    let few = at.fit.few_threads in
-    omega (arith, same, few, at.workers.many)
+    omega (arith, ap length c.deref_mut.ensures.value, at.fit.few_threads, at.workers.many)
 
 pub close_all-requires-clause-rest : goal.close_all-requires-clause-rest
 close_all-requires-clause-rest c =

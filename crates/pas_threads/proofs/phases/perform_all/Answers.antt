@@ -24,9 +24,8 @@ pub act_with-scavenger-requires-clause-place : goal.act_with-scavenger-requires-
 act_with-scavenger-requires-clause-place g c =
     let ready = c.requires.ready.4 in
     let inside = picked_many (is_in c.args.awake) 1 c.args.team.threads.items in
-    let most = count_most (is_in c.args.awake) 1 (length c.args.team.threads.items) in
     let long = ap length c.deal.ensures.dealt.0 ∙ length-map (picked (is_in c.args.awake) 1 c.args.team.threads.items) _ in
-    omega (arith, most, inside, ready.many, ready.places.hands, c.deal.ensures.places.1, long)
+    omega (arith, count_most (is_in c.args.awake) 1 (length c.args.team.threads.items), inside, ready.many, ready.places.hands, c.deal.ensures.places.1, long)
 
 pub take_back-requires-clause-sized : goal.take_back-requires-clause-sized
 take_back-requires-clause-sized g c =

@@ -5,24 +5,20 @@ use Rattle.pas_threads.proofs.phases.perform_and_hear.Goals as goal
 pub hear_all-requires-clause-few : goal.hear_all-requires-clause-few
 hear_all-requires-clause-few g c =
     let r = c.requires.ready in
-    let acted = c.perform_all-team.ensures.done r.0 r.1 r.2 r.3 r.4 in
-    let size = ap length c.deref_mut.ensures.value in
-    omega (arith, size, acted.many, r.4.many, r.4.few)
+    omega (arith, ap length c.deref_mut.ensures.value, (c.perform_all-team.ensures.done r.0 r.1 r.2 r.3 r.4).many, r.4.many, r.4.few)
 
 pub hear_all-requires-clause-left : goal.hear_all-requires-clause-left
 hear_all-requires-clause-left g c = λ i d lt on.
     let r = c.requires.ready in
     let acted = c.perform_all-team.ensures.done r.0 r.1 r.2 r.3 r.4 in
     let value = c.deref_mut.ensures.value in
-    let size = ap length value in
     subst (λ ws. HasBench c.args.region.now (get_or ws i d).bench) (sym value)
-    (bench_left ((acted.pieces (suc i)).left i d refl (omega (arith, lt, size, acted.many)) (sym (c.requires.awake (suc i)) ∙ on)))
+    (bench_left ((acted.pieces (suc i)).left i d refl (omega (arith, lt, ap length value, acted.many)) (sym (c.requires.awake (suc i)) ∙ on)))
 
 pub hear_if-requires-clause-bench : goal.hear_if-requires-clause-bench
 hear_if-requires-clause-bench g c = λ on.
     let r = c.requires.ready in
-    let acted = c.perform_all-team.ensures.done r.0 r.1 r.2 r.3 r.4 in
-    bench_left ((acted.pieces 0).crew_left refl (sym (c.requires.awake 0) ∙ sym c.get-busy.ensures ∙ on))
+    bench_left (((c.perform_all-team.ensures.done r.0 r.1 r.2 r.3 r.4).pieces 0).crew_left refl (sym (c.requires.awake 0) ∙ sym c.get-busy.ensures ∙ on))
 
 pub returns-clause-saw : goal.returns-clause-saw
 returns-clause-saw g c = λ l begins. c.hear_all.ensures.saw l (c.hear_if.ensures.saw l begins)

@@ -17,8 +17,7 @@ pub wake_all-requires-clause-rest : goal.wake_all-requires-clause-rest
 wake_all-requires-clause-rest g c =
     let m = c.requires.may in
     let later : ℕ → ℕ = λ k. own_records (planned m.0) k (all_ops (c.args.ops.now ∷ m.1)) in
-    let rest = subst (λ ws. AreResting c.args.region.now m.0.profile ws later m.3) (sym c.deref_mut.ensures.value) m.4.team_at.workers.threads in
-    (m.0.profile, later, m.3, rest)
+    (m.0.profile, later, m.3, subst (λ ws. AreResting c.args.region.now m.0.profile ws later m.3) (sym c.deref_mut.ensures.value) m.4.team_at.workers.threads)
 
 pub settle-requires-clause-stand : goal.settle-requires-clause-stand
 settle-requires-clause-stand g c =
@@ -90,9 +89,8 @@ take_all-requires g c =
     let at = goal.at.take_all-requires g c in
     let begun = begun g at.After-note m.4.team_at in
     let heard = c.perform_and_hear-team.ensures.done m.0 _ _ begun.woke.turns.came.reached begun.ready in
-    let here = sym (c.deref_mut-4.ensures.value ∙ given g at.After-gather) in
     record {
-      within = subst (All (IsWithin (names_held c.perform_and_hear-team.result.book.names))) here
+      within = subst (All (IsWithin (names_held c.perform_and_hear-team.result.book.names))) (sym (c.deref_mut-4.ensures.value ∙ given g at.After-gather))
           (may_take c.args.ops.now m.1 m.4.team_at begun heard.done (own g at.After-gather));
     }
 

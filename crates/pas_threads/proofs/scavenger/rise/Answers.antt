@@ -36,11 +36,10 @@ pub returns-clause-rose : goal.returns-clause-rose
 returns-clause-rose c = λ s p may.
     let desk = c.args.desk in
     let looked = subst (λ b. HasLooked (rows_on b) (rows_on c.look.new.self)) c.into_parts-bench.ensures.bench c.look.ensures.looked in
-    let have = c.let_lent_leave.ensures.left s _ _ p (all_may_leave desk may c.look.new.self looked) in
     let left = c.let_lent_leave.new.bench in
     let mine = c.into_parts-bench.ensures.member in
     let out = c.leave-pass.ensures in
-    all_rose desk may c.look.new.self left looked have out.of out.pass
+    all_rose desk may c.look.new.self left looked (c.let_lent_leave.ensures.left s _ _ p (all_may_leave desk may c.look.new.self looked)) out.of out.pass
     (subst (λ x. seat_of c.leave-pass.result ≡ seat_of_member x) mine out.seat)
     (subst (λ (x : Member). view_of c.leave-pass.result ≡ made_in (first_row (rows_on left)) x.actor) mine out.view)
     (subst (λ (x : Member). rows_on c.leave-pass.new.self ≡ rows_of_only (isnt (only_this x.actor)) (rows_on left)) mine out.left)

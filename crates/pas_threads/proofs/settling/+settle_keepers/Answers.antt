@@ -2,7 +2,7 @@ use Rattle.std.proofs.{Common.{◌≡◌, ℕ, ◌<◌, length, get_or, Some, sy
 use Rattle.std.proofs.lemmas.Option.{same_Some}
 use Rattle.pas_shared.specs.{Passes.IsPassOf, Ledgers.{so_far, actors_in}}
 use Rattle.pas_threads.specs.{Kits.with_keeper, Pairs.IsKeeperOf, Settling.{StandsIn, Settled}, declared.{keeper.Keeper.Keeper, workers.Worker.Worker}}
-use Rattle.pas_threads.proofs.Closing.{gives, settled_with, stands_still, keeper_back, here_or_later}
+use Rattle.pas_threads.proofs.Closing.{given_back, stands_still, keeper_back, here_or_later}
 use Rattle.pas_threads.proofs.settling.+settle_keepers.Goals as goal
 use Rattle.pas_threads.proofs.settling.+settle_keepers.Goals.{After-settle_keepers, After-give_back-pass}
 
@@ -16,34 +16,26 @@ module _ (t : ℕ) (c : After-settle_keepers t) where
 
 -- its steps stand in the ledger, which was settled with it
 module _ (t : ℕ) (c : After-give_back-pass t) (of : IsPassOf c.args.region.now c.in-Some.keeper.pass) where
-  -- The ledger has what the pass brought, and the pass stands in it.
-  settled : Settled c.args.ledger.now c.give_back-pass.new.self × StandsIn (so_far c.give_back-pass.new.self) c.in-Some.keeper.pass
-  settled =
-      let all = c.settle_keepers.ensures.settled in
-      let back = c.give_back-pass.ensures.back c.in-Some.keeper.pass (actors_in c.args.ledger.now) of c.take_in-rest.ensures.rest
-      (all.actors ∙ c.take_in-rest.ensures.taken) in
-      settled_with c.in-Some.keeper.pass c.args.ledger.now c.take_in-rest.new.self c.settle_keepers.new.ledger c.give_back-pass.new.self c.take_in-rest.ensures.same c.take_in-rest.ensures.taken all
-      c.give_back-pass.ensures.same back.1
+  gave : (c.give_back-pass.result ≡ c.in-Some.keeper.pass) × Settled c.args.ledger.now c.give_back-pass.new.self
+      × StandsIn (so_far c.give_back-pass.new.self) c.in-Some.keeper.pass
+  gave = given_back c.args.region.now c.give_back-pass.result c.give_back-pass.new.self of c.take_in-rest.ensures.rest c.take_in-rest.ensures.same c.take_in-rest.ensures.taken
+      c.settle_keepers.ensures.settled c.give_back-pass.ensures.same c.give_back-pass.ensures.back
 
 pub give_back-pass-requires-clause-last : goal.give_back-pass-requires-clause-last
 give_back-pass-requires-clause-last t c =
-    gives c.args.region.now c.in-Some.keeper.pass c.take_in-rest.result c.args.ledger.now c.take_in-rest.new.self c.settle_keepers.new.ledger
-    (of t (goal.at.give_back-pass-requires-clause-last t c).After-settle_keepers)
-    c.take_in-rest.ensures.rest c.take_in-rest.ensures.taken c.settle_keepers.ensures.settled
+    let of = of t (goal.at.give_back-pass-requires-clause-last t c).After-settle_keepers in
+    (c.in-Some.keeper.pass, actors_in c.args.ledger.now, of, c.take_in-rest.ensures.rest, c.settle_keepers.ensures.settled.actors ∙ c.take_in-rest.ensures.taken)
 
 pub returns-in-Some-clause-same : goal.returns-in-Some-clause-same
 returns-in-Some-clause-same t c =
-    let of = of t (goal.at.returns-in-Some-clause-same t c).After-settle_keepers in
+    let at = goal.at.returns-in-Some-clause-same t c in
     let keeper = c.in-Some.keeper in
-    let back = c.give_back-pass.ensures.back keeper.pass (actors_in c.args.ledger.now) of c.take_in-rest.ensures.rest
-    (c.settle_keepers.ensures.settled.actors ∙ c.take_in-rest.ensures.taken) in
-    let given = ap (λ p. Some (record { pass = p; book = keeper.book; out = keeper.out })) back.0 ∙ sym c.in-Some.is ∙ c.take.ensures.value in
     keeper_back c.args.workers.now c.settle_keepers.new.workers c.args.at c.index-workers-at.result c.index-workers-at-in-Some.result c.take.new.self _
-    (omega (arith, c.if-at-workers.false))
-    c.settle_keepers.ensures.same given
+    (omega (arith, c.if-at-workers.false)) c.settle_keepers.ensures.same
+    (ap (λ p. Some (record { pass = p; book = keeper.book; out = keeper.out })) (gave t at.After-give_back-pass (of t at.After-settle_keepers)).0 ∙ sym c.in-Some.is ∙ c.take.ensures.value)
 
 pub returns-in-Some-clause-settled : goal.returns-in-Some-clause-settled
-returns-in-Some-clause-settled t c = let at = goal.at.returns-in-Some-clause-settled t c in (settled t at.After-give_back-pass (of t at.After-settle_keepers)).0
+returns-in-Some-clause-settled t c = let at = goal.at.returns-in-Some-clause-settled t c in (gave t at.After-give_back-pass (of t at.After-settle_keepers)).1
 
 pub returns-in-Some-clause-stand : goal.returns-in-Some-clause-stand
 returns-in-Some-clause-stand t c = λ i d keeper le less is.
@@ -51,12 +43,11 @@ returns-in-Some-clause-stand t c = λ i d keeper le less is.
     let e = c.index-workers-at.result in
     let ws = c.args.workers.now in
     let at = c.args.at in
-    let there : at < length ws = omega (arith, c.if-at-workers.false) in
     let mid = with_keeper (get_or ws at e) c.take.new.self in
     let size = length-set ws at mid in
     let stands = λ (k : Keeper). StandsIn (so_far c.give_back-pass.new.self) k.pass in
-    let own = (settled t a.After-give_back-pass (of t a.After-settle_keepers)).1 in
-    let had = sym c.in-Some.is ∙ c.take.ensures.value ∙ ap (λ (w : Worker). w.keeper) (get_or_default ws at e d there) in
+    let own = (gave t a.After-give_back-pass (of t a.After-settle_keepers)).2 in
+    let had = sym c.in-Some.is ∙ c.take.ensures.value ∙ ap (λ (w : Worker). w.keeper) (get_or_default ws at e d (omega (arith, c.if-at-workers.false))) in
     (here_or_later at i le (λ j. (get_or ws j d).keeper ≡ Some keeper → j < length ws → stands keeper) (λ has below. subst stands (same_Some c.in-Some.keeper keeper (had ∙ has)) own)
     (λ more has below.
     let other = ap (λ (w : Worker). w.keeper) (get_or-set_other ws at i mid d (λ same. omega (arith, same, more))) in

@@ -1,8 +1,8 @@
 use Rattle.std.proofs.{Common.{◌≡◌, ℕ, ◌<◌, length, get_or, Some, refl, sym, ap, ◌∙◌, subst, arith, length-set, get_or-set_other}, lemmas.List.get_or_default}
 use Rattle.std.proofs.lemmas.Option.{same_Some}
 use Rattle.pas_shared.specs.{Passes.IsPassOf, Ledgers.{so_far, actors_in}, declared.pass.SharedPass.SharedPass}
-use Rattle.pas_threads.{specs.{Pairs.IsKeeperOf, Settling.{StandsIn, Settled}, declared.workers.Worker.Worker}, proofs.Closing.{gives, settled_with}}
-use Rattle.pas_threads.proofs.Closing.{stands_still, with_pass, pass_back, kept_at, passes_at, here_or_later}
+use Rattle.pas_threads.{specs.{Pairs.IsKeeperOf, Settling.{StandsIn, Settled}, declared.workers.Worker.Worker}, proofs.Closing.{given_back, stands_still}}
+use Rattle.pas_threads.proofs.Closing.{with_pass, pass_back, kept_at, passes_at, here_or_later}
 use Rattle.pas_threads.proofs.settling.+settle_threads.Goals as goal
 use Rattle.pas_threads.proofs.settling.+settle_threads.Goals.{After-settle_threads, After-give_back-pass}
 
@@ -31,38 +31,29 @@ module _ (t : ℕ) (c : After-settle_threads t) where
   of : IsPassOf c.args.region.now c.in-Some.pass
   of =
       let has = c.requires.threads c.args.at c.index-workers-at.result (omega arith) (omega (arith, c.if-at-workers.false)) in
-      let same = same_Some has.pass c.in-Some.pass (sym has.present ∙ sym c.take.ensures.value ∙ c.in-Some.is) in
-      subst (IsPassOf c.args.region.now) same has.of
+      subst (IsPassOf c.args.region.now) (same_Some has.pass c.in-Some.pass (sym has.present ∙ sym c.take.ensures.value ∙ c.in-Some.is)) has.of
 
 -- its steps stand in the ledger, which was settled with it
 module _ (t : ℕ) (c : After-give_back-pass t) (of : IsPassOf c.args.region.now c.in-Some.pass) where
-  -- The ledger has what the pass brought, and the pass stands in it.
-  settled : Settled c.args.ledger.now c.give_back-pass.new.self × StandsIn (so_far c.give_back-pass.new.self) c.in-Some.pass
-  settled =
-      let all = c.settle_threads.ensures.settled in
-      let back = c.give_back-pass.ensures.back c.in-Some.pass (actors_in c.args.ledger.now) of c.take_in-rest.ensures.rest
-      (all.actors ∙ c.take_in-rest.ensures.taken) in
-      settled_with c.in-Some.pass c.args.ledger.now c.take_in-rest.new.self c.settle_threads.new.ledger c.give_back-pass.new.self c.take_in-rest.ensures.same c.take_in-rest.ensures.taken all
-      c.give_back-pass.ensures.same back.1
+  gave : (c.give_back-pass.result ≡ c.in-Some.pass) × Settled c.args.ledger.now c.give_back-pass.new.self
+      × StandsIn (so_far c.give_back-pass.new.self) c.in-Some.pass
+  gave = given_back c.args.region.now c.give_back-pass.result c.give_back-pass.new.self of c.take_in-rest.ensures.rest c.take_in-rest.ensures.same c.take_in-rest.ensures.taken
+      c.settle_threads.ensures.settled c.give_back-pass.ensures.same c.give_back-pass.ensures.back
 
 pub give_back-pass-requires-clause-last : goal.give_back-pass-requires-clause-last
 give_back-pass-requires-clause-last t c =
-    gives c.args.region.now c.in-Some.pass c.take_in-rest.result c.args.ledger.now c.take_in-rest.new.self c.settle_threads.new.ledger
-    (of t (goal.at.give_back-pass-requires-clause-last t c).After-settle_threads)
-    c.take_in-rest.ensures.rest c.take_in-rest.ensures.taken c.settle_threads.ensures.settled
+    let of = of t (goal.at.give_back-pass-requires-clause-last t c).After-settle_threads in
+    (c.in-Some.pass, actors_in c.args.ledger.now, of, c.take_in-rest.ensures.rest, c.settle_threads.ensures.settled.actors ∙ c.take_in-rest.ensures.taken)
 
 pub returns-clause-same : goal.returns-clause-same
 returns-clause-same t c =
-    let of = of t (goal.at.returns-clause-same t c).After-settle_threads in
-    let back = c.give_back-pass.ensures.back c.in-Some.pass (actors_in c.args.ledger.now) of c.take_in-rest.ensures.rest
-    (c.settle_threads.ensures.settled.actors ∙ c.take_in-rest.ensures.taken) in
-    let given = ap Some back.0 ∙ sym c.in-Some.is ∙ c.take.ensures.value in
+    let at = goal.at.returns-clause-same t c in
     pass_back c.args.workers.now c.settle_threads.new.workers c.args.at c.index-workers-at.result c.index-workers-at-2.result c.take.new.self _
-    (omega (arith, c.if-at-workers.false))
-    c.settle_threads.ensures.same given
+    (omega (arith, c.if-at-workers.false)) c.settle_threads.ensures.same
+    (ap Some (gave t at.After-give_back-pass (of t at.After-settle_threads)).0 ∙ sym c.in-Some.is ∙ c.take.ensures.value)
 
 pub returns-clause-settled : goal.returns-clause-settled
-returns-clause-settled t c = let at = goal.at.returns-clause-settled t c in (settled t at.After-give_back-pass (of t at.After-settle_threads)).0
+returns-clause-settled t c = let at = goal.at.returns-clause-settled t c in (gave t at.After-give_back-pass (of t at.After-settle_threads)).1
 
 pub returns-clause-stand : goal.returns-clause-stand
 returns-clause-stand t c = λ i d pass le less is.
@@ -70,12 +61,11 @@ returns-clause-stand t c = λ i d pass le less is.
     let e = c.index-workers-at.result in
     let ws = c.args.workers.now in
     let at = c.args.at in
-    let there : at < length ws = omega (arith, c.if-at-workers.false) in
     let mid = with_pass (get_or ws at e) c.take.new.self in
     let size = length-set ws at mid in
     let stands = λ (p : SharedPass). StandsIn (so_far c.give_back-pass.new.self) p in
-    let own = (settled t a.After-give_back-pass (of t a.After-settle_threads)).1 in
-    let had = sym c.in-Some.is ∙ c.take.ensures.value ∙ ap (λ (w : Worker). w.pass) (get_or_default ws at e d there) in
+    let own = (gave t a.After-give_back-pass (of t a.After-settle_threads)).2 in
+    let had = sym c.in-Some.is ∙ c.take.ensures.value ∙ ap (λ (w : Worker). w.pass) (get_or_default ws at e d (omega (arith, c.if-at-workers.false))) in
     (here_or_later at i le (λ j. (get_or ws j d).pass ≡ Some pass → j < length ws → stands pass) (λ so below. subst stands (same_Some c.in-Some.pass pass (had ∙ so)) own)
     (λ more so below.
     let other = ap (λ (w : Worker). w.pass) (get_or-set_other ws at i mid d (λ same. omega (arith, same, more))) in

@@ -1,7 +1,5 @@
-use Rattle.std.proofs.{Common.{◌≡◌, ◌+◌, ◌-◌, ◌<◌, ◌≤◌, ◌∙◌, suc, length, get_or, set, ap, sym, arith}, lemmas.{Bool.false≢true, List.set-get_or}}
-use Rattle.std.proofs.lemmas.List.{get_or_default}
-use Rattle.pas_threads.{specs.{Sessions.evenly, Pairs.no_more, declared.workers.Worker.Worker}, proofs.{Keepers.stands_for, Closing.{has_all, thread_closes}}}
-use Rattle.pas_threads.proofs.Closing.{keeper_closes}
+use Rattle.std.proofs.{Common.{◌≡◌, ◌+◌, ◌-◌, ◌<◌, ◌≤◌, ◌∙◌, suc, length, get_or, sym, arith}, lemmas.{Bool.false≢true, List.{set-get_or, get_or_default}}}
+use Rattle.pas_threads.{specs.{Sessions.evenly, Pairs.no_more}, proofs.{Keepers.stands_for, Closing.{has_all, thread_closes, keeper_closes}}}
 use Rattle.pas_threads.proofs.turns.close_one.Goals as goal
 
 pub stop-requires : goal.stop-requires
@@ -18,8 +16,7 @@ pub returns-then-place-workers-clause-next : goal.returns-then-place-workers-cla
 returns-then-place-workers-clause-next c = λ on s old p guarded threads many so.
     let i = c.args.place in
     let d = c.index-workers-place.result in
-    let less = c.if-place-workers.true in
-    let lt : i < length old = omega (arith, less, many) in
+    let lt : i < length old = omega (arith, c.if-place-workers.true, many) in
     let turn = c.stop.ensures.stopped s.profile (suc i) (evenly 0) so.came.reached (so.each i d lt).thread.here in
     thread_closes so d c.stop.new.worker threads lt many turn c.stop.ensures.empty
 
@@ -27,23 +24,11 @@ pub lower_one-requires : goal.lower_one-requires
 lower_one-requires c =
     let r = c.requires.so_far in
     let j = c.args.place - length c.args.workers.now in
-    let past = c.if-place-workers.false in
-    let within = c.requires.place in
-    let one = r.5.each j c.index-workers-behind.result (omega (arith, past, within, r.4)) in
+    let one = r.5.each j c.index-workers-behind.result (omega (arith, c.if-place-workers.false, c.requires.place, r.4)) in
     record { stands = (r.0.profile, r.0.threads + suc j, r.5.came.reached, one.keeper.of, one.keeper.waits) }
 
 pub returns-clause-none : goal.returns-clause-none
-returns-clause-none c off =
-    let j = c.args.place - length c.args.workers.now in
-    let now = c.args.workers.now in
-    let d = c.index-workers-behind.result in
-    let past = c.if-place-workers.false in
-    let within = c.requires.place in
-    let none = c.lower_one.ensures.none off in (
-      ap (set now j) none.1 ∙ set-get_or now j d,
-      omega (arith, past),
-      λ e. ap (λ (w : Worker). w.keeper) (get_or_default now j e d (omega (arith, past, within))) ∙ none.0,
-    )
+returns-clause-none c off = search (arith, set-get_or, get_or_default) fits 400
 
 pub returns-clause-next : goal.returns-clause-next
 returns-clause-next c = λ on s old p guarded threads many so.
@@ -52,8 +37,7 @@ returns-clause-next c = λ on s old p guarded threads many so.
     let j = i - length now in
     let d = c.index-workers-behind.result in
     let past = c.if-place-workers.false in
-    let within = c.requires.place in
-    let lt : j < length old = omega (arith, past, within, many) in
+    let lt : j < length old = omega (arith, past, c.requires.place, many) in
     let at : i ≡ s.threads + j = omega (arith, past, many, threads) in
     let has = c.lower_one.ensures.has on in
     let one = c.lower_one.ensures.one has.0 has.1 in

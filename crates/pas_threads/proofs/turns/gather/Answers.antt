@@ -18,9 +18,7 @@ gather_kept-requires c =
     let room = c.requires.room in
     let same = ap length (kept (goal.at.gather_kept-requires c).After-gather_own) in
     let added = ap length c.gather_own.ensures.added in
-    let sum = length-append (records_in c.args.out.now) (said_by_all c.args.threads.now) in
-    let size = c.gather_own.ensures.room in
-    record { room = omega (arith, room, same, added, sum, size) }
+    record { room = omega (arith, room, same, added, length-append (records_in c.args.out.now) (said_by_all c.args.threads.now), c.gather_own.ensures.room) }
 
 pub returns : goal.returns
 returns c =

@@ -14,10 +14,7 @@ gather_kept_one-requires c =
     record { room = next_fits said_kept IsKeptGathered i c.args.threads.now c.loop-place.threads (records_in c.args.out.now) (records_in c.loop-place.out) c.index-threads-place.result c.loop-place-test.true c.loop-place.invariant.far (omega (arith, fits, room)) }
 
 pub loop-place-preserved : goal.loop-place-preserved
-loop-place-preserved c = record {
-  far = gather_goes_on said_kept IsKeptGathered c.index-threads-place.result c.gather_kept_one.new.worker c.loop-place-test.true c.loop-place.auto.threads c.loop-place.invariant.far c.gather_kept_one.ensures.added c.gather_kept_one.ensures.gathered;
-  room = c.gather_kept_one.ensures.room ∙ c.loop-place.invariant.room;
-}
+loop-place-preserved c = search (arith, gather_goes_on) fits 400
 
 pub returns-clause-added : goal.returns-clause-added
 returns-clause-added c = gather_ends said_kept IsKeptGathered c.loop-place-test.false c.loop-place.invariant.far

@@ -19,13 +19,12 @@ loop-index-preserved c = elim c.if-get.branch [
   | then-get w ↦
       let i = c.loop-index.index in
       let test = c.loop-index-test.true in
-      let on : is_set c.args.awake (i + 1) ≡ true = sym c.get.ensures ∙ w.if-get.true in
       rw (w.threads-is) (record {
         far = λ f later p at.
             let so = c.loop-index.invariant.far f later p at in
             let d = w.index-threads-index.result in
             let woke = w.wake.ensures.woke f (suc i) (evenly (later (suc i))) so.done.turns.came.reached (so.done.turns.stand i d test).here in
-            wakes_go_on c.args.awake i d w.wake.new.worker on so test c.loop-index.auto.threads woke.0 woke.1;
+            wakes_go_on c.args.awake i d w.wake.new.worker (sym c.get.ensures ∙ w.if-get.true) so test c.loop-index.auto.threads woke.0 woke.1;
       })
   | else-get w ↦
       let off : is_set c.args.awake (c.loop-index.index + 1) ≡ false = sym c.get.ensures ∙ w.if-get.false in

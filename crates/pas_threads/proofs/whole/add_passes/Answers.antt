@@ -21,8 +21,7 @@ add_passes_of-requires-clause-places c =
     let count = as_many c.args.passes.now.items c.loop-place.passes.items (passes_in (drop place workers)) (passes_in workers) i.added in
     let next = ap length (passes_next workers place own lt (get_or_default workers place e own lt)) in
     let both = length-append (kept_pass own.keeper) (passes_in (drop (place + 1) workers)) in
-    let left = ap (λ (v : Worker). length (kept_pass v.keeper)) (i.left place e (omega arith)) in
-    omega (arith, count, next, both, left, i.places, c.requires.places)
+    omega (arith, count, next, both, ap (λ (v : Worker). length (kept_pass v.keeper)) (i.left place e (omega arith)), i.places, c.requires.places)
 
 pub loop-place-preserved : goal.loop-place-preserved
 loop-place-preserved c =

@@ -1,6 +1,6 @@
 use Rattle.std.proofs.{Common.{length, map, ap, arith}, lemmas.List.length-map}
 use Rattle.pas_trace.{specs.Plans.ops_of, proofs.Keepers.plan_actors}
-use Rattle.pas_acts.proofs.PlanFacts.{plan_phases, plan_valid, plan_operate}
+use Rattle.pas_acts.proofs.PlanFacts.{plan_valid, plan_phases, plan_operate}
 use Rattle.pas_threads.proofs.StartAndEnd.{session_of, handed, all_back, all_slots, all_of_region, shows, replayed_so}
 use Rattle.pas_threads.proofs.whole.on_threads_with_rooms.Goals as goal
 
@@ -8,9 +8,7 @@ pub replay-team-requires-clause-phases : goal.replay-team-requires-clause-phases
 replay-team-requires-clause-phases g c =
     let n = ap length c.as_slice.ensures in
     let m = length-map c.as_slice.result.now ops_of in
-    let k = ap (λ ps. length (map ops_of ps)) c.as_slice.ensures in
-    let few = plan_phases c.requires.plan.2 c.requires.plan.1 in
-    omega (arith, m, k, few)
+    omega (arith, m, ap (λ ps. length (map ops_of ps)) c.as_slice.ensures, plan_phases c.requires.plan.2 c.requires.plan.1)
 
 pub replay-team-requires-clause-stands : goal.replay-team-requires-clause-stands
 replay-team-requires-clause-stands g c =
@@ -21,8 +19,7 @@ pub passes_of-passes-requires-clause-places : goal.passes_of-passes-requires-cla
 passes_of-passes-requires-clause-places g c =
     let start = handed c.args.out.now c.as_slice.result.now c.requires.plan.2 c.requires.kit c.as_slice.ensures c.requires.empty c.requires.room in
     let many = all_slots (c.replay-team.ensures.replayed (session_of c.args.plan.now) start.0 start.1).stands in
-    let actors = plan_actors c.args.plan.now in
-    omega (arith, many, actors, c.requires.kit.place)
+    omega (arith, many, plan_actors c.args.plan.now, c.requires.kit.place)
 
 pub passes_of-passes-requires-clause-first : goal.passes_of-passes-requires-clause-first
 passes_of-passes-requires-clause-first g c =

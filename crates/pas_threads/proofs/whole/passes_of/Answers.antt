@@ -11,8 +11,7 @@ add_passes-requires-clause-back c = subst (All IsBack) (sym c.deref_mut.ensures.
 pub add_passes-requires-clause-places : goal.add_passes-requires-clause-places
 add_passes-requires-clause-places c =
     let same = ap (λ ws. length (passes_in ws)) c.deref_mut.ensures.value in
-    let none = ap length c.requires.none in
-    omega (arith, same, none, c.add_pass.ensures.many, c.add_pass.ensures.places, c.requires.places)
+    omega (arith, same, ap length c.requires.none, c.add_pass.ensures.many, c.add_pass.ensures.places, c.requires.places)
 
 pub returns : goal.returns
 returns c = all_out c.args.team.now c.args.passes.items c.add_pass.new.passes.items c.add_passes.new.passes.items c.take.result c.deref_mut.result.now

@@ -65,8 +65,7 @@ returns g c = record {
         let desk = c.bench_desk-desk.result in
         let there = c.work.new.keeper.keeper in
         let out = c.rise-bench.result in
-        let start = begins desk (has_pass g d) c.take-2.ensures.value (sits g d) m in
-        let works = c.work.ensures.works f (threads + k) later more p start in
+        let works = c.work.ensures.works f (threads + k) later more p (begins desk (has_pass g d) c.take-2.ensures.value (sits g d) m) in
         let rose = subst (λ (z : Bench × Member). PairRose c.args.region.now z.0 z.1 there out.0 out.1 out.2)
         (λ i. (c.into_parts-bench.ensures.bench i, c.into_parts-bench.ensures.member i)) c.rise-bench.ensures.rose in
         let did = pair_did desk (has_pass g d) c.take-2.ensures.value (sits g d) m c.work.new.desk _ there works c.work.ensures.home out.0 out.1 out.2 rose in
