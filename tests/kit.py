@@ -118,7 +118,10 @@ def test_lanes():
     plan.seconds_by_crate = lambda: {"low": 10, "long": 30, "short": 20}
     low, tests = ("low", "proof"), ("low", "tests")
     tasks = {low: [], tests: [], ("short", "proof"): [low], ("long", "proof"): [low]}
-    check(lanes.chains({key: (after, 1, 1, None) for key, after in tasks.items()})[low] == 40, "the longest chain isn't of 40 seconds")
+    told = {key: (after, 1, 1, None) for key, after in tasks.items()}
+    works = {key: it[1] for key, it in lanes.with_more_jobs(told).items()}
+    check(works == {low: 10, tests: 0, ("short", "proof"): 20, ("long", "proof"): 30}, f"the work of each task in seconds: {works}")
+    check(lanes.chains(told, works)[low] == 40, "the longest chain isn't of 40 seconds")
     got = jobs_given(tasks)
     check(got == {low: 3, tests: 1, ("short", "proof"): 1, ("long", "proof"): 3}, f"jobs: {got}")
     got = jobs_given(tasks | {("low", "edits", 0): [low]})
