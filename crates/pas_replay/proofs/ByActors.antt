@@ -433,7 +433,9 @@ module _ {r : Replay} {desk0 desk passes0 passes caches books places indexes tab
         let place : k ≡ r.threads + i = there_so.0 in
         let some : 1 ≤ i = there_so.1 in
         let most : i ≤ length books = there_so.2 in
-        let turned : KeeperTurned r k (Guards k op ∷ more.acts) (Operates op ∷ more.acts) there book desk desk' p q = search (arith, book_is, thread_events) in
+        let kept : (j : ℕ) → j ≢ k → q.books j ≡ p.books j = λ j ne. other_book p.books k j did.tried.guards ne in
+        let fewer : (j : ℕ) → tries_of j (Operates op ∷ more.acts) ≤ tries_of j (Guards k op ∷ more.acts) = λ j. grind arith in
+        let turned : KeeperTurned r k (Guards k op ∷ more.acts) (Operates op ∷ more.acts) there book desk desk' p q = search (arith, thread_events, kept, fewer) in
         let change = owed_then k i there book place some most seat is at turned in
         let cost = ap (λ (b : Option Block). cost_of_try size b) none in
         let longer = ap (λ (rs : List Record). length rs) did.pushed ∙ length-append (records_in out) did.tried.records in
