@@ -1,13 +1,13 @@
 -- Set bits of a mask, word by word: the lowest ones, those of runs, how many there are, and places of runs among them.
 use Rattle.std.proofs.Common.{◌≡◌, ◌≢◌, ℕ, ◌+◌, ◌-◌, ◌/◌, ◌%◌, ◌^◌, ◌<◌, ◌≤◌, ◌==◌, true, false, inl, inr, ap, sym, ◌∙◌, arith, ◌*◌, ◌⊎◌, ◌&&◌, ◌↔◌, IsTrue}
 use Rattle.std.proofs.Common.{not, min, Bool, length, slice_index, lit<, bit_and, subst, refl, Option, MatchBool, MatchOption, w64, shr-shr, pow_pos}
-use Rattle.std.proofs.{Common.{div-add-mod', count_ones}, lemmas.{Bool.{cases_lt, and_parts, not-false, not-true, Decides.nat_tests}, Nat.{shr_le, and_le_l}}}
-use Rattle.std.proofs.lemmas.Nat.{same_from_place, mod-mul-add, Bits.{bit_at-trailing_zeros, bit_at_above, bit_at_mask_inside, bit_at_mask_below}}
-use Rattle.std.{proofs.{lemmas.{Nat.Bits.{bit_at_mask_above, ones_shr}, Grind.div_ceil_times}, Math.{Nat.pow-le-pow_right, Bool.and-true}}, specs.Int.bit_at}
-use Rattle.std.specs.{Int.trailing_zeros, Option.is_some}
+use Rattle.std.proofs.{Common.{div-add-mod', count_ones, bit_or, true≢false, eqb-true, eq-eqb, zero, suc}, lemmas.Bool.{cases_lt, and_parts, not-false}}
+use Rattle.std.proofs.lemmas.{Bool.{not-true, Decides.nat_tests, cases_Bool, cases_eq}, Nat.{shr_le, and_le_l, same_from_place, mod-mul-add}}
+use Rattle.std.proofs.lemmas.Nat.Bits.{bit_at-trailing_zeros, bit_at_above, bit_at_mask_inside, bit_at_mask_below, bit_at_mask_above, ones_shr}
+use Rattle.std.{proofs.{lemmas.Grind.div_ceil_times, Math.{Nat.pow-le-pow_right, Bool.and-true}}, specs.{Int.{bit_at, trailing_zeros}, Option.is_some}}
 use Rattle.pas_bits.specs.{Bits.{has_bit, count_below}, Runs.in_run, declared.mask.Mask4.Mask4, Masks.{is_set, AreSet, AreApart, set_count, AllSetBelow}}
 use Rattle.pas_bits.{specs.Masks.{AreClear, IsLowestSet, IsLowestClear, IsEmpty, HasMember, IsRunEnd, IsPlace, HasNoPlace}, proofs.Words.{none_of_zero, is_one}}
-use Rattle.pas_bits.proofs.{Words.{bit_of_and, by_word, at_word, set_within, WordsFit}, Runs.{run_of, to_run, run_below, run_above}, Rows.count_same}
+use Rattle.pas_bits.proofs.{Words.{bit_of_and, by_word, at_word, set_within, WordsFit, bit_of_or}, Runs.{run_of, to_run, run_below, run_above}, Rows.count_same}
 use Rattle.pas_bits.proofs.Rows.{count_add, ones_counted}
 
 -- ==== The lowest set bit of a word from a place on.
@@ -161,10 +161,57 @@ pub lowest_is : (mask : Mask4) (from word low g : ℕ) → g ≡ 64 * word + low
 lowest_is mask from word low g at is began small fits some before =
     search (arith, lowest_from, at_word, cases_lt, by_word)
 
--- there is none exactly in an empty mask
-pub is_empty_by : (mask : Mask4) (o : Option ℕ) → MatchOption o (AreClear mask 0 256) (λ g. IsLowestSet mask 0 g) → (t : Bool) → is_some o ≡ not t
-    → MatchBool t (IsEmpty mask) (HasMember mask)
-is_empty_by mask o clear t e = grind arith
+-- ---- the union of the words
+abbrev pub union_of : Mask4 → ℕ
+union_of mask = bit_or (bit_or (bit_or (slice_index mask.0 0) (slice_index mask.0 1)) (slice_index mask.0 2)) (slice_index mask.0 3)
+
+four_words : (k : ℕ) → k < 4 → (k ≡ 0) ⊎ (k ≡ 1) ⊎ (k ≡ 2) ⊎ (k ≡ 3)
+four_words zero lt = inl refl
+four_words (suc zero) lt = inr (inl refl)
+four_words (suc (suc zero)) lt = inr (inr (inl refl))
+four_words (suc (suc (suc zero))) lt = inr (inr (inr refl))
+four_words (suc (suc (suc (suc k)))) lt = absurd (omega (arith, lt))
+
+-- Each bit of a mask is one of the union.
+in_union : (mask : Mask4) (g : ℕ) → g < 256 → is_set mask g ≡ true → has_bit (union_of mask) (g % 64) ≡ true
+in_union mask g lt is =
+    let below : g / 64 < 4 = omega (arith, lt) in
+    search (arith, below, is, bit_of_or, four_words)
+
+-- A mask with a word that isn't 0 has a member.
+has_bit_in : (mask : Mask4) (k : ℕ) → k < 4 → slice_index mask.0 k < 2 ^ 64 → slice_index mask.0 k ≢ 0 → HasMember mask
+has_bit_in mask k few fits some =
+    let found = bit_at-trailing_zeros w64 (slice_index mask.0 k) (omega (arith, some)) fits in (
+      64 * k + trailing_zeros w64 (slice_index mask.0 k),
+      omega (arith, few, found.0),
+      at_word mask k (trailing_zeros w64 (slice_index mask.0 k)) found.0 ∙ ap (λ (m : ℕ). m == 1) found.1,
+    )
+
+-- the union of words that are all 0 is 0
+no_union : (a b c d : ℕ) → a ≡ 0 → b ≡ 0 → c ≡ 0 → d ≡ 0 → bit_or (bit_or (bit_or a b) c) d ≡ 0
+no_union a b c d first second third fourth = rw (first, second, third, fourth) refl
+
+-- A mask is empty exactly where the union of its words is 0.
+pub empty_by_union : (mask : Mask4) → WordsFit mask → (t : Bool) → (union_of mask == 0) ≡ t → MatchBool t (IsEmpty mask) (HasMember mask)
+empty_by_union mask fits true is_zero = λ g lt. elim (cases_Bool (is_set mask g)) [
+  | inl is ↦ absurd (true≢false (sym (in_union mask g lt is) ∙ ap (λ (n : ℕ). has_bit n (g % 64)) (eqb-true _ _ is_zero) ∙ none_of_zero (g % 64)))
+  | inr off ↦ off
+]
+empty_by_union mask fits false some =
+    let has = λ (k : ℕ) (few : k < 4) (ne : slice_index mask.0 k ≢ 0). has_bit_in mask k few (fits k) ne in
+    elim (cases_eq (slice_index mask.0 0) 0) [
+      | inl a ↦ elim (cases_eq (slice_index mask.0 1) 0) [
+        | inl b ↦ elim (cases_eq (slice_index mask.0 2) 0) [
+          | inl c ↦ elim (cases_eq (slice_index mask.0 3) 0) [
+            | inl d ↦ absurd (true≢false (sym (eq-eqb _ _ (no_union _ _ _ _ a b c d)) ∙ some))
+            | inr fourth ↦ has 3 (omega arith) fourth
+          ]
+          | inr third ↦ has 2 (omega arith) third
+        ]
+        | inr second ↦ has 1 (omega arith) second
+      ]
+      | inr first ↦ has 0 (omega arith) first
+    ]
 
 -- ---- the lowest clear bit, by the other bits of the mask
 abbrev pub AreOthers : Mask4 → Mask4 → Type 0

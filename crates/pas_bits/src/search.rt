@@ -20,12 +20,13 @@ impl Mask4 {
         None
     }
 
-    /// Whether no bit is set. Looks at each word at most once.
-    #[tactic(auto, using(crate::proofs::Masks::is_empty_by))]
+    /// Whether no bit is set. Looks at each word once, and branches nowhere.
+    #[inline]
     pub fn is_empty(&self) -> bool
         ensures { MatchBool result (IsEmpty self.now) (HasMember self.now) }
     {
-        self.first_set_from(0).is_none()
+        let union = self.0[0] | self.0[1] | self.0[2] | self.0[3];
+        union == 0
     }
 
     /// The lowest clear bit. None exactly where all 256 are set. Looks at each word at most once.

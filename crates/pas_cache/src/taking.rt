@@ -11,7 +11,7 @@ use pas_segregated::Slots;
 fn has_slot(slots: &Slots) -> bool
     ensures { MatchBool result (HasMember slots.now.starts) (IsEmpty slots.now.starts) }
 {
-    slots.starts.first_set_from(0).is_some()
+    !slots.starts.is_empty()
 }
 
 /// Whether it serves this heap and class.

@@ -3,10 +3,9 @@ ghost use Rattle.std.specs.Prelude.{◌≡◌};
 ghost use Rattle.pas_steps.specs.Desks.{CanCall};
 ghost use Rattle.pas_free_log.specs.{Conditions.{IsRun, IsRunOnPage}, Returns.{MayReturn, ReturnsPage, ReturnsRun}};
 
-use pas_bits::Mask4;
 use pas_profile::limits::PAGE_GRAINS;
 use pas_profile::{Word, read_deed};
-use pas_rights::{put, returned};
+use pas_rights::{put_run, returned};
 use pas_steps::Desk;
 
 /// Stamps the page of the run, puts the run's grains back, and ends what is owed on the page. At most fourteen steps.
@@ -24,7 +23,7 @@ fn return_page<D: Desk>(desk: &mut D, grain: u32, grains: u32)
     };
     desk.stamp(page);
     let first = (grain % PAGE_GRAINS) as u8;
-    put(desk, page, &Mask4::run(first, grains as u16));
+    put_run(desk, page, first, grains as u16);
     returned(desk, page, directory);
 }
 

@@ -9,7 +9,8 @@ ghost use Rattle.pas_answers.specs.declared.names.Names.{Names as TheNames};
 ghost use Rattle.pas_records.specs.Rooms.{Records as TheRecords};
 
 use crate::seats::{
-    Actors, end, lower, operate, pass, read_epoch, rise, serve, sit, stop_if_idle, tick, wake,
+    Actors, end, lower, operate, pass, read_epoch, rise, serve_free, serve_request, sit,
+    stop_if_idle, tick, wake,
 };
 use crate::taking::Takes;
 use pas_acts::active_in;
@@ -19,7 +20,7 @@ use pas_answers::names::Names;
 use pas_bits::Mask4;
 use pas_plain::{PlainDesk, PlainRegion};
 use pas_records::{Record, Records};
-use pas_trace::{Chore, Op, Operations, Task, What, Work};
+use pas_trace::{Chore, Op, Operations, What, Work};
 
 /// The number of the phase that begins without a mark.
 const UNMARKED: u32 = 1;
@@ -110,19 +111,10 @@ fn perform<M: Remake>(
             heap,
             size,
             align,
-        } => {
-            let task = Task::Request {
-                name,
-                heap,
-                size,
-                align,
-            };
-            serve(desk, actors, names, remaker, op.actor, task, out);
-        }
-        What::Free { name } => {
-            let task = Task::Free { name, room: None };
-            serve(desk, actors, names, remaker, op.actor, task, out);
-        }
+        } => serve_request(
+            desk, actors, names, remaker, op.actor, name, heap, size, align, out,
+        ),
+        What::Free { name } => serve_free(desk, actors, names, remaker, op.actor, name, out),
         _ => perform_any(desk, actors, names, remaker, awake, op, out),
     }
 }

@@ -6,6 +6,7 @@ ghost use Rattle.pas_cache.specs.{Caches.cached, declared.cache.ThreadCache.Thre
 ghost use Rattle.pas_guard.specs.{Books.guards_in, declared.book.GuardBook.GuardBook as TheBook};
 ghost use Rattle.pas_trace.specs.{Asked.{request_of, freed_of}, Acts.{Operates, Settles, Ticks, MakesPass, ReadsEpoch, StopsIdle, Wakes, Ends, Lowers}};
 ghost use Rattle.pas_trace.specs.declared.plan.Op.{Op as TheOp};
+ghost use Rattle.pas_trace.specs.declared.plan.What.TheVariants as TheWhat;
 ghost use Rattle.pas_answers.specs.{Answers.{Named, Progress, settled}, Indexes.with_noted, Fit.IsFitWhat, Names.{block_named, names_held, MayPack}};
 ghost use Rattle.pas_answers.specs.{Calls.{what_of, Tells, MayStand, AllMayStand, named_with, named_by}, declared.names.Names.Names as TheNames};
 ghost use Rattle.pas_acts.specs.{Works.Later, AtDesks.{here, MayOperate}};
@@ -181,10 +182,10 @@ fn settle(actors: &mut Actors, actor: u8)
 }
 
 /// The thread of this number does the task, and what its name came to is kept. A request for whole pages asks the indexes, and they take the runs of large blocks
-/// that its cache noted. This answers each operation of the thread that asks for the task, and that no keeper answers. It stays out of line, and is the one place
-/// that has an operation answered, whose code stands in line here.
-#[inline(never)]
-pub(crate) fn serve<M: Remake>(
+/// that its cache noted. This answers each operation of the thread that asks for the task, and that no keeper answers. All its code stands in line, in three
+/// places: those two kinds of tasks that are the most by far have one each, which no longer asks what the task is.
+#[inline(always)]
+fn serve<M: Remake>(
     desk: &mut PlainDesk,
     actors: &mut Actors,
     names: &mut Names,
@@ -205,6 +206,85 @@ pub(crate) fn serve<M: Remake>(
     let meant = freed(names, task);
     let came = operate_by(desk, &mut actors.indexes, cache, remaker, task, meant, out);
     keep(names, task, came);
+}
+
+/// The thread of this number makes a request, as `serve` does.
+#[inline(never)]
+pub(crate) fn serve_request<M: Remake>(
+    desk: &mut PlainDesk,
+    actors: &mut Actors,
+    names: &mut Names,
+    remaker: &M,
+    actor: u8,
+    name: u32,
+    heap: u8,
+    size: u32,
+    align: u32,
+    out: &mut Records,
+)
+    requires some { 1 ≤ actor }
+    requires thread { actor ≤ length actors.old.caches.items }
+    requires so_far { (op : TheOp) × (op.actor ≡ actor) × (op.what ≡ TheWhat.Alloc name heap size align)
+        × MayGoOn (λ n. Operates op ∷ (Settles op.actor ∷ [])) (session desk.old actors.old names.old out.old) }
+    ensures threads { length actors.new.caches.items ≡ length actors.old.caches.items }
+    ensures so_far { (op : TheOp) → op.actor ≡ actor → op.what ≡ TheWhat.Alloc name heap size align
+        → GoesOn (λ n. Operates op ∷ (Settles op.actor ∷ []))
+        (session desk.old actors.old names.old out.old) (session desk.new actors.new names.new out.new) }
+{
+    let task = Task::Request {
+        name,
+        heap,
+        size,
+        align,
+    };
+    serve(desk, actors, names, remaker, actor, task, out);
+}
+
+/// The thread of this number frees the block that the name stands for, as `serve` does.
+#[inline(never)]
+pub(crate) fn serve_free<M: Remake>(
+    desk: &mut PlainDesk,
+    actors: &mut Actors,
+    names: &mut Names,
+    remaker: &M,
+    actor: u8,
+    name: u32,
+    out: &mut Records,
+)
+    requires some { 1 ≤ actor }
+    requires thread { actor ≤ length actors.old.caches.items }
+    requires so_far { (op : TheOp) × (op.actor ≡ actor) × (op.what ≡ TheWhat.Free name)
+        × MayGoOn (λ n. Operates op ∷ (Settles op.actor ∷ [])) (session desk.old actors.old names.old out.old) }
+    ensures threads { length actors.new.caches.items ≡ length actors.old.caches.items }
+    ensures so_far { (op : TheOp) → op.actor ≡ actor → op.what ≡ TheWhat.Free name
+        → GoesOn (λ n. Operates op ∷ (Settles op.actor ∷ []))
+        (session desk.old actors.old names.old out.old) (session desk.new actors.new names.new out.new) }
+{
+    let task = Task::Free { name, room: None };
+    serve(desk, actors, names, remaker, actor, task, out);
+}
+
+/// The thread of this number does a task of whatever kind, as `serve` does.
+#[inline(never)]
+fn serve_any<M: Remake>(
+    desk: &mut PlainDesk,
+    actors: &mut Actors,
+    names: &mut Names,
+    remaker: &M,
+    actor: u8,
+    task: Task,
+    out: &mut Records,
+)
+    requires some { 1 ≤ actor }
+    requires thread { actor ≤ length actors.old.caches.items }
+    requires so_far { (op : TheOp) × (op.actor ≡ actor) × (op.what ≡ what_of task)
+        × MayGoOn (λ n. Operates op ∷ (Settles op.actor ∷ [])) (session desk.old actors.old names.old out.old) }
+    ensures threads { length actors.new.caches.items ≡ length actors.old.caches.items }
+    ensures so_far { (op : TheOp) → op.actor ≡ actor → op.what ≡ what_of task
+        → GoesOn (λ n. Operates op ∷ (Settles op.actor ∷ []))
+        (session desk.old actors.old names.old out.old) (session desk.new actors.new names.new out.new) }
+{
+    serve(desk, actors, names, remaker, actor, task, out);
 }
 
 /// The thread of this number does the task, and its events and what is said come to the records. Its keeper tries a guarded request first: it lowers the guards of
@@ -242,10 +322,10 @@ pub(crate) fn operate<M: Remake>(
                     keep(names, task, Some(block));
                     settle(actors, actor);
                 }
-                None => serve(desk, actors, names, remaker, actor, task, out),
+                None => serve_any(desk, actors, names, remaker, actor, task, out),
             }
         }
-        _ => serve(desk, actors, names, remaker, actor, task, out),
+        _ => serve_any(desk, actors, names, remaker, actor, task, out),
     }
 }
 

@@ -1,25 +1,24 @@
 -- The grains of a mask of one page, put back word by word.
 use Rattle.std.proofs.Common.{◌≡◌, ◌≢◌, ℕ, zero, suc, ◌<◌, ◌+◌, ◌/◌, ◌%◌, ◌≤◌, ◌==◌, nat_lt, Bool, true, false, ◌&&◌, ◌||◌, List, [], ◌∷◌, ◌++◌, length}
-use Rattle.std.proofs.Common.{slice_index, inl, inr, refl, ap, sym, ◌∙◌, subst, arith, append_assoc, true≢false, eqb-true, ne_eqb, lt-ltb, le-ltb, ◌*◌}
+use Rattle.std.proofs.Common.{slice_index, ◌^◌, inl, inr, refl, ap, sym, ◌∙◌, subst, arith, append_assoc, true≢false, eqb-true, ne_eqb, lt-ltb, le-ltb, ◌*◌}
 use Rattle.std.proofs.{Common.{if◌then◌else◌, add-one, append-nil, Option, length-append, MatchBool}, lemmas.Bool.{cases_eq, and_parts, and_right, and_from}}
 use Rattle.std.proofs.{lemmas.Bool.{and_left, or_right, or_from, false_from_ne_true, Decides.nat_tests}, Math.Bool.and_comm}
 use Rattle.pas_bits.{specs.{Bits.has_bit, Masks.{is_set, HasMember, IsEmpty}, declared.mask.Mask4.Mask4}, proofs.Words.{none_of_zero, full_bit, at_word}}
 use Rattle.pas_steps.specs.{Calls.{Calls, Does, put, Kept, Gained, grain_fate, Fate, Lost, later, ClearAfter}, Effects.in_mask, InTurn.numbers_below}
 use Rattle.pas_steps.specs.{Desks.{Standing, made, CanCall}, Past.{Once, Always, Since}, Agreement.{Agreed, AgreesFree}, Clear.IsClearOn, Frames.IsOnPage}
 use Rattle.pas_steps.specs.{Frames.{OnlyOn, KeepsRight, GivesUp}, Kinds.{Putting, Only, is_in, kind_of, Taking, Kinds, LookFree, LookBacked, Unparking}}
-use Rattle.pas_steps.specs.{Kinds.{Hinting, returning, place_of, apart}, Views.{View, Move, Puts, grain_move, held_after, holds, Gets, Stays, has_right}}
-use Rattle.pas_steps.specs.{Views.{known_free, KnowsDeed}, declared.step.{Made.Made, Step.TheVariants.{Take, Look, Offer}}, Evidence.{Readings, ReadsFree}}
-use Rattle.pas_steps.{specs.Evidence.{ShowsHere, KeptHere}, proofs.Apart.{unstamped_same, rights_same, only_both, only_within, holds_same, examines_same}}
-use Rattle.pas_steps.proofs.{Apart.in_apart, Called.{call_then, call_as, call_none, call_knows, next_call}, Adding.{agreed_first, agreed_later, adds_under}}
-use Rattle.pas_steps.proofs.{Flags.ap_if, Frames.returns_on, Calls.{does_none, does_then, does_as, does_step, kept_first, returns_are}, Sets.{put_both, put_as}}
-use Rattle.pas_steps.proofs.{Sets.{put_nothing, both_fates, same_truth, kept_kept}, Past.{in_turn_always, in_turn_length, once_earlier, once_later}}
-use Rattle.pas_steps.proofs.Past.{always_both, always_map}
-use Rattle.pas_rights.specs.{Puts.{masked, MayPut, WordPut, PutsBelow, PutsHere, MayPutWord, PutsWord, PutsMask}, PutsBack.{GivesDuly, giving_back}}
-use Rattle.pas_rights.specs.{PutsBack.{MayPutAndReturn, given_back, PutsAndReturns, MayPutAndLeave, put_and_left, PutsAndLeaves, BackSteps}, Words.words}
-use Rattle.pas_rights.specs.{Words.ones, Leaves.{MayLeave, Leaves, ReoffersWhere, EndsLeave, LeaveSteps}, Looks.{looks_until, is_free, HintsWhere, looks}}
-use Rattle.pas_rights.specs.{Looks.{IsAllFree, HasUsed, HintSteps, ReadsAllFree, TakesNone}, Takes.{word_take, takes, taken, GetsGrains, TakesMask}}
-use Rattle.pas_rights.{specs.{Returns.{ReofferSteps, ReturnSteps, Settles, Returned}, declared.reading.Used.Used}, proofs.Orders.{each_always, each_few}}
-use Rattle.pas_rights.proofs.Orders.{each_agreed, keeps_by, words_read, bit_of, or_none, looks_held, leave_lacks, until_only, looks_only}
+use Rattle.pas_steps.specs.{Kinds.{Hinting, apart}, Views.{View, holds, Gets, Stays, has_right, known_free, KnowsDeed}, declared.step.Made.Made}
+use Rattle.pas_steps.{specs.{declared.step.Step.TheVariants.{Take, Look}, Evidence.{Readings, ReadsFree, ShowsHere, KeptHere}}, proofs.Apart.unstamped_same}
+use Rattle.pas_steps.proofs.{Apart.{rights_same, only_both, only_within, holds_same, in_apart}, Called.{call_then, call_as, call_none, call_knows, next_call}}
+use Rattle.pas_steps.proofs.{Adding.{agreed_first, agreed_later, adds_under}, Flags.ap_if, Frames.returns_on, Calls.{does_none, does_then, does_as, does_step}}
+use Rattle.pas_steps.proofs.{Calls.{kept_first, returns_are}, Sets.{put_both, put_as, put_nothing, both_fates, same_truth, kept_kept}, Past.in_turn_always}
+use Rattle.pas_steps.proofs.{Past.{in_turn_length, once_earlier, once_later, always_both, always_map}, Bits.none_set}
+use Rattle.pas_rights.specs.{Puts.{masked, MayPut, WordPut, PutsBelow, PutsHere, MayPutWord, PutsWord, PutsMask, IsRunMask}, PutsBack.GivesDuly}
+use Rattle.pas_rights.specs.{PutsBack.{MayPutAndReturn, given_back, PutsAndReturns, MayPutAndLeave, PutsAndLeaves, BackSteps}, Words.words, Leaves.MayLeave}
+use Rattle.pas_rights.specs.{Leaves.{Leaves, ReoffersWhere, EndsLeave, LeaveSteps}, Looks.{looks_until, is_free, HintsWhere, looks, IsAllFree, HasUsed}}
+use Rattle.pas_rights.specs.{Looks.{ReadsAllFree, TakesNone}, Takes.{word_take, takes, taken, GetsGrains, TakesMask}, Returns.{ReofferSteps, ReturnSteps}}
+use Rattle.pas_rights.{specs.{Returns.{Settles, Returned}, declared.reading.Used.Used}, proofs.Orders.{each_always, each_few, each_agreed, keeps_by}}
+use Rattle.pas_rights.proofs.Orders.{words_read, bit_of, or_none, looks_held, leave_lacks, until_only, looks_only}
 use Rattle.pas_profile.specs.declared.{profile.Profile.Profile, directory.Directory.Directory, word.Word.Word}
 
 -- ---- one word
@@ -128,6 +127,36 @@ puts_all page mask steps order calls = record {
   on = puts_on page mask 4 steps order;
   few = puts_few page mask steps order;
 }
+
+-- ---- a run within one word
+-- The words of a run's mask are empty but for the one that the run lies in.
+pub other_words_empty : (g n : ℕ) (mask : Mask4) → IsRunMask g n mask → g % 64 + n ≤ 64 → ((w : ℕ) → slice_index mask.0 w < 2 ^ 64) → (w : ℕ) → w < 4
+    → w ≢ g / 64 → slice_index mask.0 w ≡ 0
+other_words_empty g n mask is within fit w lt ne =
+    none_set _ (fit w) (λ b small. sym (at_word mask w b small) ∙ is (64 * w + b) ∙ grind (arith, nat_tests, within, ne, small))
+
+module _ (page word : ℕ) (mask : Mask4) (empty : (w : ℕ) → w < 4 → w ≢ word → slice_index mask.0 w ≡ 0) where
+  none_below : (n : ℕ) → n ≤ 4 → n ≤ word → PutsBelow page mask n []
+  none_below zero few le = refl
+  none_below (suc n) few le = ([], [], inl (empty n few (λ e. omega (arith, e, le)), refl), none_below n (omega (arith, few)) (omega (arith, le)), refl)
+
+  one_below : (n : ℕ) (steps : List Made) → n ≤ 4 → word < n → WordPut page word (slice_index mask.0 word) steps → PutsBelow page mask n steps
+  one_below zero steps few lt h = absurd (omega (arith, lt))
+  one_below (suc n) steps few lt h = elim (cases_eq word n) [
+    | inl e ↦ (steps, [], subst (λ w. WordPut page w (slice_index mask.0 w) steps) e h, none_below n (omega (arith, few)) (omega (arith, e)), sym (append-nil steps))
+    | inr ne ↦ ([], steps, inl (empty n few (λ e. ne (sym e)), refl), one_below n steps (omega (arith, few)) (omega (arith, lt, ne)) h, refl)
+  ]
+
+  all_in : (g : ℕ) → in_mask page word (slice_index mask.0 word) g ≡ masked_below page mask 4 g
+  all_in g = grind (arith, in_word, none_of_zero, empty, nat_tests, eqb-true)
+
+  -- Where all grains of a mask are in one word, a put of that word is one of the mask.
+  pub may_put_one : (v : View) → MayPut page mask v → MayPutWord page word (slice_index mask.0 word) v
+  may_put_one v met = record { held = λ g is. met.held g (and_parts _ _ (sym (all_in g) ∙ is)).1; stamped = met.stamped }
+
+  pub puts_one : {σ σ1 : Standing} → word < 4 → PutsWord page word (slice_index mask.0 word) σ σ1 → PutsMask page mask σ σ1
+  puts_one lt p = puts_all page mask p.steps (one_below 4 p.steps (omega arith) lt p.order)
+      (call_as _ p.calls may_put_one (λ v w met d. put_as _ _ page d all_in))
 
 -- ==== Grains of one page, taken word by word.
 
@@ -356,11 +385,6 @@ module _ {σ σ1 : Standing} (page : ℕ) (d : Directory) (mask : Mask4) (puts :
   put_call : {B : View → Type 0} → ((v : View) → B v → MayPut page mask v) → ((v : View) → B v → KnowsDeed page d v)
       → Calls σ σ1 B (λ v w. Does (put (masked page mask) page) v w × KnowsDeed page d w) puts.steps
   put_call may knows = call_knows page d (call_as (Does (put (masked page mask) page)) puts.calls may (λ v w met does. does)) knows
-
-  -- what settles the page then has it clear again
-  settled : {r : Fate} (v w : View) → Settles page r (puts.steps ++ v) w → IsClearOn page v → IsClearOn page w
-  settled v w settles clear =
-      search (arith, unstamped_same, examines_same)
 
   clear_after : {r : Fate} (v u : View) → Settles page r (puts.steps ++ v) u → (q : ℕ)
       → ClearAfter (later (if page == q then Lost else Kept) (if page == q then Kept else Kept)) q v u → IsClearOn q v → IsClearOn q u

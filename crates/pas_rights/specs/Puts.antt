@@ -1,6 +1,6 @@
 -- Grains of one page that are put back.
 use Rattle.std.specs.Prelude.{ℕ, ◌/◌, ◌%◌, ◌≤◌, ◌≡◌, ◌≢◌, ◌==◌, ◌⊎◌, Bool, true, false, ◌&&◌, List, [], ◌∷◌, length, slice_index}
-use Rattle.pas_bits.specs.{declared.mask.Mask4.Mask4, Masks.is_set}
+use Rattle.pas_bits.specs.{declared.mask.Mask4.Mask4, Masks.is_set, Runs.in_run}
 use Rattle.pas_steps.specs.{Calls.{Calls, Does, put}, Desks.{Standing, made}, Effects.in_mask, Frames.OnlyOn, InTurn.{InTurn, numbers_below}, Kinds.Putting}
 use Rattle.pas_steps.specs.{Kinds.Only, Views.{View, holds, is_unstamped}, declared.step.{Made.Made, Step.TheVariants.Put}}
 
@@ -37,6 +37,16 @@ pub record PutsMask (page : ℕ) (mask : Mask4) (desk desk' : Standing) : Type 0
   pub kinds : Only (Putting ∷ []) steps
   pub on : OnlyOn page steps
   pub few : length steps ≤ 4
+
+-- the mask has the n grains from g on, and no other
+abbrev pub IsRunMask : ℕ → ℕ → Mask4 → Type 0
+IsRunMask g n mask = (x : ℕ) → is_set mask x ≡ in_run g n x
+
+-- The n grains of the page from g on were put back, as those of a mask are that has just these.
+pub record PutsRun (page g n : ℕ) (desk desk' : Standing) : Type 0 where
+  pub mask : Mask4
+  pub is : IsRunMask g n mask
+  pub puts : PutsMask page mask desk desk'
 
 -- ---- of private functions: the grains of one free word
 pub record MayPutWord (page word mask : ℕ) (v : View) : Type 0 where

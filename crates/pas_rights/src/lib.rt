@@ -14,7 +14,7 @@ mod taking;
 pub use claiming::claim;
 pub use giving::give;
 pub use leaving::leave;
-pub use putting::{put, put_and_leave, put_and_return};
+pub use putting::{put, put_and_leave, put_and_return, put_run};
 pub use reading::{Used, first_used, read};
 pub use returning::returned;
 pub use taking::take;

@@ -1,9 +1,10 @@
 //! Grains of one page are put back.
-ghost use Rattle.std.specs.Prelude.{◌≡◌, ◌<◌};
+ghost use Rattle.std.specs.Prelude.{◌≡◌, ◌<◌, ◌≤◌, ◌+◌};
 ghost use Rattle.pas_profile.specs.Profiles.{IsPage, IsDirectoryOf};
 ghost use Rattle.pas_steps.specs.Desks.{CanCall};
-ghost use Rattle.pas_rights.specs.{Puts.{masked, MayPut, PutsMask, MayPutWord, PutsWord}, PutsBack.{MayPutAndReturn, PutsAndReturns, MayPutAndLeave}};
-ghost use Rattle.pas_rights.specs.PutsBack.{PutsAndLeaves};
+ghost use Rattle.pas_bits.specs.declared.mask.Mask4.{Mask4 as Mask};
+ghost use Rattle.pas_rights.specs.{Puts.{masked, MayPut, PutsMask, IsRunMask, PutsRun, MayPutWord, PutsWord}, PutsBack.{MayPutAndReturn, PutsAndReturns}};
+ghost use Rattle.pas_rights.specs.PutsBack.{MayPutAndLeave, PutsAndLeaves};
 
 use crate::leaving::leave;
 use crate::returning::returned;
@@ -34,6 +35,22 @@ fn put_word<D: Desk>(desk: &mut D, page: u32, word: u8, mask: u64)
     if mask != 0 {
         desk.put(page, word, mask);
     }
+}
+
+/// Puts the run of so many grains of the page from the first one on back: one put where a free word has them all, and at most four.
+pub fn put_run<D: Desk>(desk: &mut D, page: u32, first: u8, grains: u16)
+    requires page { IsPage (D.standing desk.old).seat.profile page }
+    requires within { first + grains ≤ 256 }
+    requires can { (mask : Mask) → IsRunMask first grains mask → CanCall (D.standing desk.old) (MayPut page mask) }
+    ensures puts { PutsRun page first grains (D.standing desk.old) (D.standing desk.new) }
+    ensures home { D.home desk.new ≡ D.home desk.old }
+{
+    let mask = Mask4::run(first, grains);
+    if first as u16 % 64 + grains > 64 {
+        return put(desk, page, &mask);
+    }
+    let word = first / 64;
+    put_word(desk, page, word, mask.0[word as usize]);
 }
 
 /// Puts the mask's grains of a page back, whose deed is known as the directory, and then does what `returned` does.

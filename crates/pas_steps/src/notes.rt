@@ -1,10 +1,11 @@
 //! What an actor notes of its own steps.
 ghost use Rattle.std.specs.{Prelude.{◌≡◌, ◌≤◌, ◌+◌, ◌++◌, ◌<◌, ◌^◌, [], length}, Option.option_to_list};
 ghost use Rattle.pas_profile.specs.Rooms.{shown, size_of_room};
+ghost use Rattle.pas_steps.specs.Views.{epoch_after};
 
-use crate::effect::{epoch_after, event_of};
+use crate::effect::event_of;
 use crate::step::Step;
-use pas_profile::{Event, EventRoom};
+use pas_profile::{Event, EventRoom, Word};
 
 /// An actor's events, in a room that was made for them, the number of its steps (which stays at 2^64 - 1 once it is there), and the
 /// newest epoch that it read. So it never needs the list of its steps.
@@ -24,6 +25,21 @@ fn record(room: &mut EventRoom, event: Option<Event>)
 {
     if let Some(event) = event {
         room.push(event);
+    }
+}
+
+/// Keeps the epoch that the step read or raised. No other step writes it.
+#[inline(always)]
+fn learn(epoch: &mut Option<u64>, step: Step, answer: u64)
+    ensures { epoch.new ≡ epoch_after step answer epoch.old }
+{
+    match step {
+        Step::Look { word: Word::Epoch } => *epoch = Some(answer),
+        Step::Tick { epoch: raised } => *epoch = Some(answer.max(raised)),
+        Step::Look { .. } | Step::Deed { .. } | Step::Back { .. } | Step::Take { .. } => {}
+        Step::Put { .. } | Step::Give { .. } | Step::End { .. } | Step::EndSized { .. } => {}
+        Step::TakeRight { .. } | Step::Offer { .. } | Step::Park { .. } | Step::Unpark { .. } => {}
+        Step::Stamp { .. } | Step::Hint { .. } | Step::Unback { .. } | Step::Unhint { .. } => {}
     }
 }
 
@@ -113,6 +129,6 @@ impl Notes {
         let event = event_of(actor, self.epoch(), step, answer);
         record(&mut self.room, event);
         self.count = self.count.saturating_add(1);
-        self.epoch = epoch_after(step, answer, self.epoch);
+        learn(&mut self.epoch, step, answer);
     }
 }
