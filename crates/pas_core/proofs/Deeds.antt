@@ -1,6 +1,6 @@
 -- Deed words and backed words: what of them stays, of which directories and pages they are, and that they are those of the machine.
 use Rattle.std.proofs.Common.{◌≡◌, ◌≢◌, ℕ, ◌==◌, Bool, true, false, if◌then◌else◌, [], ◌∷◌, refl, ap, sym, ◌∙◌, arith, ◌⊎◌, not, List, Option, Some, None}
-use Rattle.std.proofs.{Common.{bit_or, eqb-true, ne_eqb}, lemmas.{Bool.{cases_eq, cond_both, Decides.nat_tests}, Option.same_Some}}
+use Rattle.std.proofs.{Common.{bit_or, eqb-true, ne_eqb}, lemmas.Bool.{cases_eq, cond_both, Decides.nat_tests}}
 use Rattle.pas_profile.specs.{Directories.{IsKind, number_of, deed_word_of, deed_word_numbered}, Layouts.same_word, Profiles.{IsPage, IsDirectoryOf}}
 use Rattle.pas_profile.specs.declared.{profile.Profile.Profile, directory.Directory.Directory, word.Word.Word, event.Event.Event}
 use Rattle.pas_profile.proofs.Codecs.{kind_number_lt}
@@ -87,13 +87,6 @@ deed_of f [] legal p = refl
 deed_of f (t ∷ l) legal p = search (arith, eqb-true, event_if, end_event_cases, deed_of f l legal.1 p)
 
 -- ---- each directory of the machine is of the profile
-abbrev AreOf : Profile → List Event → Type 0
-AreOf f es = (p : ℕ) (d : Directory) → deed_in es p ≡ Some d → IsDirectoryOf f d
-
-directory_if : (f : Profile) (z : Bool) (k q : ℕ) (d : Directory) (es : List Event) → IsDirectoryOf f d → AreOf f es
-    → AreOf f (with_event (if z then Some (Event.Deed k q d) else None) es)
-directory_if f z k q d es of rest p d' is = grind (arith, same_Some)
-
 -- A page's deed by the events of a legal list is a directory of the profile.
 pub directory_is_of : (f : Profile) (l : Whole) → Legal f l → (p : ℕ) (d : Directory) → deed_in (visible l) p ≡ Some d → IsDirectoryOf f d
 directory_is_of f [] legal p d is = cc

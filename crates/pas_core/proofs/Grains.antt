@@ -1,13 +1,12 @@
 -- Each grain is in exactly one place: free, held by one actor, or covered by one live block.
-use Rattle.std.proofs.Common.{◌≡◌, ℕ, ◌+◌, ◌-◌, ◌*◌, ◌/◌, ◌%◌, ◌^◌, ◌<◌, ◌≤◌, ◌==◌, nat_lt, nat_le, Bool, true, false, not, ◌&&◌, ◌||◌, if◌then◌else◌, [], ◌∷◌}
-use Rattle.std.proofs.{Common.{refl, ap, sym, ◌∙◌, arith, bit_and, bit_or, w64, eqb-true, le-leb}, lemmas.{Nat.Bits.bit_at_ones, Bool.{and_parts, lt-leb}}}
-use Rattle.std.{proofs.lemmas.Bool.{cond_both, Decides.nat_tests}, specs.Int.bit_not}
+use Rattle.std.proofs.Common.{◌≡◌, ℕ, ◌+◌, ◌-◌, ◌*◌, ◌/◌, ◌%◌, ◌^◌, ◌<◌, ◌≤◌, ◌==◌, nat_lt, nat_le, Bool, true, false, ◌&&◌, ◌||◌, if◌then◌else◌, [], ◌∷◌, refl}
+use Rattle.std.proofs.{Common.{ap, sym, ◌∙◌, arith, bit_or, eqb-true, le-leb}, lemmas.{Nat.Bits.bit_at_ones, Bool.{and_parts, lt-leb, cond_both}}}
+use Rattle.std.proofs.lemmas.Bool.Decides.{nat_tests}
 use Rattle.pas_bits.{specs.{Bits.has_bit, Runs.in_run}, proofs.{Words.{bit_cleared, bit_of_or}, Runs.first_of_run}}
-use Rattle.pas_profile.specs.{Layouts.same_word, Lives.live_word, Profiles.IsValid, Blocks.{address_of, grain_of, length_of}, declared.profile.Profile.Profile}
-use Rattle.pas_profile.specs.declared.{name.Block.Block, word.Word.Word}
-use Rattle.pas_steps.specs.{Effects.{free_word_at, life_word_at, in_mask, target, new_value}, Views.{Move, Stays, Gets, Puts, Gives, Ends, grain_move}}
-use Rattle.pas_steps.specs.{Views.{held_after, holds, epoch_of}, Allowed.{Allowed, IsStepOf}, Lists.{Whole, word_after, part, IsNext, Legal}}
-use Rattle.pas_steps.{specs.declared.step.Step.{Step, TheVariants.{Look, Take, Put, Give, End, EndSized}}, proofs.Running.guess_fits}
+use Rattle.pas_profile.specs.{Layouts.same_word, Lives.live_word, Profiles.IsValid, Blocks.grain_of, declared.{profile.Profile.Profile, name.Block.Block}}
+use Rattle.pas_steps.specs.{Effects.{free_word_at, life_word_at, target, new_value}, Views.{Move, Stays, Gets, Puts, Gives, Ends, grain_move, held_after}}
+use Rattle.pas_steps.specs.{Views.{holds, epoch_of}, Allowed.{Allowed, IsStepOf}, Lists.{Whole, word_after, part, IsNext, Legal}, declared.step.Step.Step}
+use Rattle.pas_steps.{specs.declared.step.Step.TheVariants.{Take, Give}, proofs.Running.guess_fits}
 use Rattle.pas_core.{specs.Good.{Place, IsFree, Held, Covered, is_free, is_held_by, is_covered_by, covers, IsPlacedOnce}, proofs.Deeds.looked}
 
 -- ---- words of grains: one for each grain
@@ -64,12 +63,8 @@ covered_moved s b was = was
 pub if_true : (t : Bool) → (if t then true else false) ≡ t
 if_true t = grind arith
 
--- A test that chooses false or itself is false.
-pub if_false : (t : Bool) → (if t then false else t) ≡ false
-if_false t = grind arith
-
 covered_next : (j : ℕ) (m : Move) (b : ℕ) (o : Place) → Fits j m o → covered_moved m b (is_covered_by b o) ≡ is_covered_by b (place_after j m o)
-covered_next j s b o h = grind (arith, if_true, if_false)
+covered_next j s b o h = grind (arith, if_true)
 
 -- ---- the free words
 put_free : (t : Bool) (old mask b : ℕ)

@@ -3,21 +3,19 @@ use Rattle.std.proofs.Common.{◌≡◌, ◌≢◌, ℕ, ◌+◌, ◌-◌, ◌*�
 use Rattle.std.proofs.Common.{None, refl, ap, sym, ◌∙◌, subst, arith, inl, inr, ◌++◌, length, zero, suc, eqb-true, eq-eqb, le-leb, max, ◌⊎◌, w64}
 use Rattle.std.proofs.lemmas.Bool.{false≢true, cases_eq, and_parts, cond_both, eqb-false, and_from, false_from_ne_true, cases_Bool, Decides.nat_tests}
 use Rattle.std.{proofs.lemmas.{Option.{same_Some, none-some}, Nat.{and_le_l, or_lt}}, specs.Int.bit_not}
-use Rattle.pas_profile.specs.{Layouts.{same_word, opening}, Lives.{live_word, is_live, turn_of}, Profiles.{IsValid, IsDirectoryOf}, Blocks.address_of}
-use Rattle.pas_profile.specs.{Blocks.{grain_of, length_of}, Directories.deed_word_of, declared.{profile.Profile.Profile, name.{Block.Block, Name.Name}}}
-use Rattle.pas_profile.{specs.declared.{event.{Event.Event, Why.Why}, directory.Directory.Directory, word.Word.Word}, proofs.Codecs.kind_number_lt}
+use Rattle.pas_profile.specs.{Layouts.same_word, Lives.{live_word, is_live, turn_of}, Profiles.{IsValid, IsDirectoryOf}, Blocks.{address_of, grain_of}}
+use Rattle.pas_profile.specs.{Blocks.length_of, Directories.deed_word_of, declared.{profile.Profile.Profile, name.{Block.Block, Name.Name}, event.Event.Event}}
+use Rattle.pas_profile.{specs.declared.{event.Why.Why, directory.Directory.Directory, word.Word.Word}, proofs.Codecs.kind_number_lt}
 use Rattle.pas_bits.{specs.{Runs.{in_run, meets_page}, PageVectors.page_mask}, proofs.{Runs.{first_of_run, IsMet, met}, PageVectors.page_mask_lt}}
 use Rattle.pas_machine.specs.{State.{Live, live_in, gives_in, ends_in, touches, epoch_in}, Machine.{Admits, Run}, Totals.sum_below}
-use Rattle.pas_steps.specs.{Effects.{life_word_at, target, new_value, in_mask}, Allowed.{Allowed, IsStepOf, IsBlockOf, HoldsOn, MayPutNow, MayGiveNow}}
-use Rattle.pas_steps.specs.Views.{View, Move, Stays, Gives, Ends, grain_move, held_after, holds, epoch_of, looks_at_life, life_after, known_life, given_after}
-use Rattle.pas_steps.specs.Views.{given_count, epoch_after, known_epoch, or_zero, holds_all, stamp_after, known_stamp, unstamped_after, is_unstamped, ends_on}
-use Rattle.pas_steps.specs.{Events.{event_of, end_event, with_event, reason_of, sized_reason, sized_event}, Lists.{Whole, word_after, part, visible, IsNext}}
-use Rattle.pas_steps.specs.{Lists.{Legal, Triple}, declared.step.Step.{Step, TheVariants.{Look, Deed, Back, Give, End, EndSized, Take, Put, TakeRight, Offer}}}
-use Rattle.pas_steps.{specs.{declared.step.Step.TheVariants.{Park, Unpark, Stamp, Hint, Tick, Unhint}, Desks.made}, proofs.Parts.each_part}
-use Rattle.pas_steps.proofs.{Running.guess_fits, Bits.all_below-at, Flags.{stays_set, was_set}}
-use Rattle.pas_core.specs.{Good.{Place, Held, is_held_by, covers, IsPlacedOnce, IsLifeOf, IsLifeOfNone, IsLifeOfLive, IsBare}, Given.WasGiven, Stamps.IsSoAtEnd}
-use Rattle.pas_core.{specs.Stamps.{EachEnd, IsStampedOr, KeepsToEnds, AllKeepToEnds}, proofs.Grains.{life_same, give_short, Fits, is_held_by-true, covers_live}}
-use Rattle.pas_core.proofs.{Grains.{some_grain, step_fits, placed_once, one_holder}, Deeds.{event_if, end_event_cases, looked, next_value}}
+use Rattle.pas_steps.specs.{Effects.{life_word_at, target, new_value}, Allowed.{Allowed, IsStepOf, HoldsOn}, Views.{View, Move, Stays, Gives, Ends, grain_move}}
+use Rattle.pas_steps.specs.Views.{held_after, holds, epoch_of, life_after, known_life, given_after, given_count, holds_all, stamp_after, known_stamp}
+use Rattle.pas_steps.specs.{Views.{unstamped_after, is_unstamped, ends_on}, Events.{event_of, with_event}, Lists.{Whole, word_after, part, visible, IsNext}}
+use Rattle.pas_steps.specs.{Lists.{Legal, Triple}, declared.step.Step.{Step, TheVariants.{Back, Give, End, Take, TakeRight, Unpark, Stamp, Tick, Unhint}}}
+use Rattle.pas_steps.{specs.Desks.made, proofs.{Parts.each_part, Bits.all_below-at, Flags.{stays_set, was_set}}}
+use Rattle.pas_core.specs.{Good.{Place, Held, is_held_by, covers, IsPlacedOnce, IsLifeOf, IsLifeOfLive, IsBare}, Given.WasGiven, Stamps.{EachEnd, IsStampedOr}}
+use Rattle.pas_core.{specs.Stamps.AllKeepToEnds, proofs.Grains.{life_same, give_short, is_held_by-true, covers_live, some_grain, step_fits, placed_once}}
+use Rattle.pas_core.proofs.{Grains.one_holder, Deeds.{event_if, end_event_cases, looked, next_value}}
 
 -- ==== The life words are those of the machine, and what actors know of them is true.
 
@@ -39,9 +37,6 @@ pub word_is : (l : Whole) (a c g : ℕ) → a ≡ word_after l (life_word_at c) 
 word_is l a c g is x = is ∙ ap (λ b. word_after l (life_word_at b)) (eqb-true c g x)
 
 -- ---- what is known of a life word
-pub look_is : (l : Whole) (s : Step) (a g : ℕ) → a ≡ word_after l (target s) → looks_at_life s g ≡ true → a ≡ word_after l (life_word_at g)
-look_is l s a g is h = grind (arith, and_parts, eqb-true, false≢true)
-
 -- of an own step
 own_life : (m : Move) (looks held : Bool) (a word word' : ℕ) (known : Option ℕ) (w : ℕ) → (is_still m ≡ true → word' ≡ word) → (looks ≡ true → a ≡ word)
     → ((w : ℕ) → known ≡ Some w → (held ≡ true) × (w ≡ word))
@@ -51,9 +46,6 @@ own_life s looks held a word word' known w rests is old h = grind (arith, same_S
 -- of another's step: it moves no grain that this actor holds
 same_holder : (j k : ℕ) (o : Place) → o ≡ Held j → o ≡ Held k → (j == k) ≡ true
 same_holder j k o f h = ap (is_held_by k) (sym f) ∙ ap (is_held_by k) h ∙ eq-eqb k k refl
-
-no_move : (j k : ℕ) (m : Move) (o : Place) → Fits j m o → o ≡ Held k → (j == k) ≡ false → is_still m ≡ true
-no_move j k s o fits h ne = grind (arith, false≢true, same_holder)
 
 -- what a view knows of a life word is the word, and the grain is held
 abbrev pub TellsLife : View → ℕ → ℕ → Type 0
@@ -67,11 +59,12 @@ rests_at f t l g legal = λ still. search (arith, as_test, life_same, give_rests
 -- What a view knows of a life word is the word, and its actor holds the grain.
 pub life_is_known : (f : Profile) (l : Whole) → IsValid f → Legal f l → (k g : ℕ) → TellsLife (part k l) g (word_after l (life_word_at g))
 life_is_known f l valid legal k g = each_part f (λ l k v. TellsLife v g (word_after l (life_word_at g))) (λ k w h. cc)
-    (λ t l legal before w. own_life _ _ _ _ _ _ _ w (rests_at f t l g legal) (look_is l _ _ g legal.0.answer_is) before) (λ t l k legal other before w h.
+    (λ t l legal before w. own_life _ _ _ _ _ _ _ w (rests_at f t l g legal) (λ h. grind (arith, and_parts, eqb-true, false≢true)) before)
+    (λ t l k legal other before w h.
     let o = before w h in
     let at : IsPlacedOnce l g = placed_once f l valid legal.1 g in
     let fits = step_fits f l _ _ _ g at valid legal.0.of_region legal.0.allowed legal.0.answer_is in
-    (o.0, o.1 ∙ sym (rests_at f t l g legal (no_move _ k _ at.place fits (is_held_by-true k at.place (sym (at.held k) ∙ o.0)) other)))) l legal k
+    (o.0, o.1 ∙ sym (rests_at f t l g legal (grind (arith, false≢true, same_holder))))) l legal k
 
 -- ---- life words of the machine
 -- the block that a live word tells of
@@ -90,17 +83,6 @@ live_is_live f g word b gives ends h = let big : 2 ^ 63 ≤ word = omega (arith,
 -- the grain of an address
 address_same : (address g : ℕ) → address % 16 ≡ 0 → (address == 16 * g) ≡ (address / 16 == g)
 address_same address g aligned = grind (arith, nat_tests, aligned)
-
--- the facts of a block that may be given at the grain
-record IsNewAt (f : Profile) (g : ℕ) (block : Block) (ends : ℕ) : Type 0 where
-  turn : block.name.turn ≡ ends
-  address : address_of block.name ≡ 16 * g
-  whole : block.room % 16 ≡ 0
-  some : 0 < length_of block
-  short : length_of block < 2 ^ 23
-  first : 256 ≤ g
-  last : g + length_of block ≤ 256 * (f.pages + 1)
-  heap : block.heap < f.heaps
 
 -- the machine's life of a grain
 abbrev LifeIn : Profile → ℕ → ℕ → List Event → ℕ → Type 0
@@ -210,7 +192,7 @@ count_gives [] = 0
 count_gives (e ∷ es) = gives_counted e (count_gives es)
 
 -- the gives at one address are some of all
-gives_few : (es : List Event) (address : ℕ) → gives_in es address ≤ count_gives es
+pub gives_few : (es : List Event) (address : ℕ) → gives_in es address ≤ count_gives es
 gives_few [] address = omega arith
 gives_few (Event.Give k block ∷ es) address = search (arith, cond_both, gives_few es address)
 gives_few (e ∷ es) address = gives_few es address
@@ -226,7 +208,7 @@ turns_few es address = let some = gives_few es address in let few = counts_few e
 -- ==== Turns are small: each actor gives at most 2 ^ 32 blocks.
 
 -- ---- an actor gives at most 2 ^ 32 blocks
-given_small : (f : Profile) (l : Whole) → Legal f l → (k : ℕ) → given_count (part k l) ≤ 2 ^ 32
+pub given_small : (f : Profile) (l : Whole) → Legal f l → (k : ℕ) → given_count (part k l) ≤ 2 ^ 32
 given_small f = each_part f (λ l k v. given_count v ≤ 2 ^ 32) (λ k. omega arith) (λ t l legal before. (grind arith)) (λ t l k legal other before. before)
 
 -- ---- all gives are the sum of those of the actors
@@ -243,12 +225,12 @@ sum_rises : (n j c : ℕ) (v w : ℕ → ℕ) → ((k : ℕ) → v k ≤ w k) �
 sum_rises zero j c v w grows here low = absurd (omega (arith, low))
 sum_rises (suc n) j c v w grows here low = rises_last (j == n) n j c v w refl grows here low (λ other. sum_rises n j c v w grows here other)
 
-sum_small : (n : ℕ) (v : ℕ → ℕ) → ((k : ℕ) → v k ≤ 2 ^ 32) → sum_below n v ≤ n * 2 ^ 32
+pub sum_small : (n : ℕ) (v : ℕ → ℕ) → ((k : ℕ) → v k ≤ 2 ^ 32) → sum_below n v ≤ n * 2 ^ 32
 sum_small zero v h = omega arith
 sum_small (suc n) v h = omega (arith, sum_small n v h, h n)
 
 -- the visible gives are at most those of all actors
-all_gives : (f : Profile) (l : Whole) → Legal f l → count_gives (visible l) ≤ sum_below (f.threads + 1) (λ k. given_count (part k l))
+pub all_gives : (f : Profile) (l : Whole) → Legal f l → count_gives (visible l) ≤ sum_below (f.threads + 1) (λ k. given_count (part k l))
 all_gives f [] legal = omega arith
 all_gives f (t ∷ l) legal =
     let actor : t.actor < f.threads + 1 = omega (arith, legal.0.actor) in
@@ -261,13 +243,6 @@ all_gives f (t ∷ l) legal =
     grind (arith, all_gives f l legal.1, is, rises)
 
 -- ---- turns
--- the turn of each life word is small
-pub turn_small : (f : Profile) (l : Whole) → IsValid f → Legal f l → (g : ℕ) → turn_of (word_after l (life_word_at g)) < 2 ^ 37
-turn_small f l valid legal g =
-    let life : IsLifeOf f g (word_after l (life_word_at g)) (live_in (visible l) (16 * g)) (gives_in (visible l) (16 * g)) (ends_in (visible l) (16 * g)) = life_of f l valid legal g in
-    let ends : ends_in (visible l) (16 * g) ≤ gives_in (visible l) (16 * g) = (grind arith) in
-    grind (arith, turn_is f g (word_after l (life_word_at g)) (live_in (visible l) (16 * g)) (gives_in (visible l) (16 * g)) (ends_in (visible l) (16 * g)) life, ends, sum_small, given_small, all_gives, gives_few)
-
 -- ==== Epochs, stamps, and the ends that stamps tell of.
 
 -- ==== The epoch only grows, every word fits 64 bits, and epochs and stamps are below 2 ^ 40.
@@ -292,13 +267,9 @@ value_small f e (Tick raised) old valid of he h = omega (arith, of, h)
 value_small f e (Unhint q) old valid of he h = omega (arith, and_le_l old (bit_not w64 (page_mask q)))
 value_small f e s old valid of he h = search (arith, cond_both, deed_small, or_lt, give_short, page_mask_lt)
 
--- Each word fits 64 bits at the opening: word by word.
-opening_small : (word : Word) → opening word < 2 ^ 64
-opening_small s = grind arith
-
 -- every word fits 64 bits
 pub words_fit : (f : Profile) (l : Whole) → IsValid f → Legal f l → (word : Word) → word_after l word < 2 ^ 64
-words_fit f [] valid legal word = opening_small word
+words_fit f [] valid legal word = grind arith
 words_fit f (t ∷ l) valid legal word =
     search (arith, epoch_known, cond_both, value_small, words_fit f l valid legal.1 Word.Epoch, words_fit f l valid legal.1 word)
 
@@ -341,29 +312,20 @@ stamps s p = false
 stamps_held : (f : Profile) (v : View) (s : Step) (p : ℕ) → Allowed f v s → stamps s p ≡ true → HoldsOn v p
 stamps_held f v s p allowed h = grind (arith, eqb-true, false≢true)
 
--- What is found only where a test passes shows that it passed.
-all_if : (t : Bool) (o : Option ℕ) (s : ℕ) → (if t then o else None) ≡ Some s → (t ≡ true) × (o ≡ Some s)
-all_if t o s h = grind arith
-
 -- while a stamp is known each grain of the page is held
 known_all : (v : View) (p s : ℕ) → known_stamp v p ≡ Some s → holds_all v p ≡ true
 known_all [] p s h = cc
-known_all (m ∷ v) p s h = (all_if (holds_all (m ∷ v) p) (stamp_after m.step m.answer p (known_stamp v p)) s h).0
+known_all (m ∷ v) p s h = (let it : ((holds_all (m ∷ v) p) ≡ true) × ((stamp_after m.step m.answer p (known_stamp v p)) ≡ Some s) = grind arith in it).0
 
 all_held : (v : View) (p g : ℕ) → holds_all v p ≡ true → g / 256 ≡ p → holds v g ≡ true
 all_held v p g all e =
     let is : p * 256 + g % 256 ≡ g = omega (arith, e) in
     subst (λ x. holds v x ≡ true) is (all_below-at 256 _ (λ b. holds v (p * 256 + b)) all (omega arith))
 
--- A stamp that is known after one was raised is of another page, so its word stands.
-own_stamp : (x : Bool) (e word : ℕ) (known : Option ℕ) (s : ℕ) → ((s : ℕ) → known ≡ Some s → word ≡ s) → (if x then None else known) ≡ Some s
-    → (if x then max word e else word) ≡ s
-own_stamp x e word known s h k = grind arith
-
 -- a stamp that a view knows is the page's
 pub stamp_known : (f : Profile) (l : Whole) → IsValid f → Legal f l → (k p s : ℕ) → known_stamp (part k l) p ≡ Some s → word_after l (Word.Stamp p) ≡ s
 stamp_known f l valid legal k p = each_part f (λ l k v. (s : ℕ) → known_stamp v p ≡ Some s → word_after l (Word.Stamp p) ≡ s) (λ k s told. cc)
-    (λ t l legal before s h. (grind (arith, looked, eqb-true, own_stamp)))
+    (λ t l legal before s h. (grind (arith, looked, eqb-true)))
     (λ t l k legal other before s h. (grind (arith, looked, false_from_ne_true, stamps_held, false≢true, one_holder, all_held, known_all _ p s h)) ∙ before s h) l legal k
 
 -- ---- an actor holds a grain of each page that is unstamped for it
@@ -415,19 +377,13 @@ ends_step f l valid legal P k e s a p of is new h = grind (arith, event_if, end_
 stamp_next : (e : ℕ) (s : Step) (p old : ℕ) → old ≤ next_value e s (Word.Stamp p) old
 stamp_next e s p old = grind (arith, looked, cond_both)
 
-late_next : (f : Profile) (t : Triple) (l : Whole) → Legal f (t ∷ l) → (p k n : ℕ) → IsStampedOr l p k n → IsStampedOr (t ∷ l) p k n
-late_next f t l legal p k n before = search (arith, stamp_next, epoch_known, cond_both, eqb-true, stays_set)
-
-now_late : (t : Triple) (l : Whole) (p : ℕ) → ends_on t.made.step t.made.answer p ≡ true → IsStampedOr (t ∷ l) p t.actor (epoch_of (part t.actor l))
-now_late t l p h = search (arith, eq-eqb, false≢true)
-
 -- the epoch of each end on a page is at most the page's stamp, or the page is unstamped for its actor, which knows an epoch as great
 pub ends_stamped : (f : Profile) (l : Whole) → IsValid f → Legal f l → (p : ℕ) → EachEnd (IsStampedOr l p) (visible l) p
 ends_stamped f [] valid legal p = tt
 ends_stamped f (t ∷ l) valid legal p =
     let next : IsNext f l t = legal.0 in
-    ends_step f l valid legal.1 _ _ _ _ _ p next.of_region next.answer_is (now_late t l p)
-    (ends_map _ _ _ p (λ k n. late_next f t l legal p k n) (ends_stamped f l valid legal.1 p))
+    ends_step f l valid legal.1 _ _ _ _ _ p next.of_region next.answer_is (λ h. search (arith, eq-eqb, false≢true))
+    (ends_map _ _ _ p (λ k n before. search (arith, stamp_next, epoch_known, cond_both, eqb-true, stays_set)) (ends_stamped f l valid legal.1 p))
 
 -- ---- the machine's epoch of a page
 ends_bound : (es : List Event) (p n : ℕ) → EachEnd (λ k e. e ≤ n) es p → epoch_in es p ≤ n

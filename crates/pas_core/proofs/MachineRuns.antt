@@ -1,17 +1,17 @@
 -- The machine behind a legal list: its visible events are a run, the words are those of the machine, each grain is in one place in the machine's words,
 -- and in some list a page is unbacked.
-use Rattle.std.proofs.Common.{◌≡◌, ◌≢◌, ℕ, ◌+◌, ◌-◌, ◌*◌, ◌/◌, ◌%◌, ◌^◌, ◌<◌, ◌≤◌, ◌==◌, nat_lt, Bool, true, false, ◌&&◌, if◌then◌else◌, List, [], ◌∷◌, Option}
-use Rattle.std.proofs.{Common.{Some, None, refl, ap, sym, ◌∙◌, arith, inl, inr, max, eqb-true, eq-eqb, leb-true}, lemmas.Bool.{false≢true, eqb-false}}
-use Rattle.std.proofs.lemmas.{Bool.{and_parts, and_from, cond_both, false_from_ne_true, cases_eq, Decides.nat_tests}, Nat.Bits.bit_at_ones}
+use Rattle.std.proofs.Common.{◌≡◌, ◌≢◌, ℕ, ◌+◌, ◌-◌, ◌*◌, ◌/◌, ◌%◌, ◌^◌, ◌<◌, ◌≤◌, ◌==◌, Bool, true, false, ◌&&◌, if◌then◌else◌, List, [], ◌∷◌, Option, Some}
+use Rattle.std.proofs.{Common.{None, refl, ap, sym, ◌∙◌, arith, inl, inr, max, eqb-true, eq-eqb, leb-true}, lemmas.Bool.{false≢true, eqb-false, and_parts}}
+use Rattle.std.proofs.lemmas.{Bool.{and_from, cond_both, false_from_ne_true, cases_eq, Decides.nat_tests}, Nat.Bits.bit_at_ones}
 use Rattle.pas_profile.specs.{Directories.deed_word_of, Profiles.{IsValid, IsPage, IsDirectoryOf}, Blocks.{address_of, grain_of, length_of}, Lives.live_word}
 use Rattle.pas_profile.specs.{Lives.{is_live, turn_of, grains_of}, declared.{profile.Profile.Profile, directory.{Directory.Directory, Kind.TheVariants.Large}}}
 use Rattle.pas_profile.{specs.declared.{name.{Block.Block, Name.Name}, word.Word.Word, event.{Event.Event, Why.Why}}, proofs.Codecs.kind_number_lt}
 use Rattle.pas_bits.{specs.{Runs.{in_run, meets_page}, Bits.has_bit}, proofs.Runs.{run_of, first_of_run, IsMet, met}}
-use Rattle.pas_machine.specs.{State.{Live, deed_in, backed_in, live_in, gives_in, ends_in, touches}, Machine.{IsPlace, Bears, IsClear, IsLive, MayGive}}
-use Rattle.pas_machine.{specs.{Machine.{IsReason, Admits, Run}, Laws.{AreBorne, AreApart}}, proofs.LiveBlocks.{all_borne, live_apart}}
+use Rattle.pas_machine.specs.{State.{Live, deed_in, live_in, gives_in, ends_in, touches}, Machine.{IsPlace, Bears, IsClear, MayGive, IsReason, Admits, Run}}
+use Rattle.pas_machine.{specs.Laws.{AreBorne, AreApart}, proofs.LiveBlocks.{all_borne, live_apart}}
 use Rattle.pas_steps.specs.{Effects.{life_word_at, target, free_word_at, in_mask}, Views.{holds, epoch_of, known_deed, View, Gets, Stays, held_after, holds_on}}
-use Rattle.pas_steps.specs.{Views.{holds_all, knows_backed, known_stamp, all_ones}, Events.{event_of, with_event, reason_of}, Desks.{made, triple, triples}}
-use Rattle.pas_steps.specs.{Allowed.{Allowed, IsStepOf, IsBlockOf, KnowsBearing, MayUnback}, Lists.{Whole, word_after, part, visible, Legal, IsNext}}
+use Rattle.pas_steps.specs.{Views.{holds_all, known_stamp, all_ones}, Events.{event_of, with_event, reason_of}, Desks.{made, triple, triples}, Allowed.Allowed}
+use Rattle.pas_steps.specs.{Allowed.{IsStepOf, IsBlockOf, KnowsBearing, MayUnback}, Lists.{Whole, word_after, part, visible, Legal, IsNext}}
 use Rattle.pas_steps.specs.declared.step.{Step.{Step, TheVariants.{Deed, Back, Give, End, EndSized, Unback, Look, Take, Tick}}, Made.Made}
 use Rattle.pas_steps.proofs.{Frames.any_from, Bits.all_below-from}
 use Rattle.pas_core.specs.Good.{word_of_deed, word_of_backed, IsLifeOf, IsLifeOfLive, AgreesWithWords, Place, IsFree, Held, Covered, is_free, is_held_by}
@@ -27,10 +27,6 @@ pub agrees : (f : Profile) (l : Whole) → IsValid f → Legal f l → AgreesWit
 agrees f l valid legal = record { deed = deed_of f l legal; backed = backed_of f l legal; life = life_of f l valid legal; bare = bare_of f l legal }
 
 -- ---- grains of a run
-page_of_run : (f : Profile) (address room x : ℕ) → 4096 ≤ address → address + room ≤ 4096 * (f.pages + 1) → address % 16 ≡ 0
-    → in_run (address / 16) (room / 16) x ≡ true → IsPage f (x / 256)
-page_of_run f address room x low high aligned run = search (arith, run_of)
-
 -- ---- deeds and backed pages that are known are the machine's
 pub one_backed : (b : Bool) → 1 ≡ word_of_backed b → b ≡ true
 one_backed b h = grind arith
@@ -103,7 +99,7 @@ give_admits f l valid legal k block of allowed =
       aligned = allowed.aligned;
       whole = allowed.whole;
       some = allowed.some;
-      bears = λ x here. bearing f l valid legal k block.heap _ (page_of_run f _ block.room x of.first of.last allowed.aligned here) (allowed.bears x here);
+      bears = λ x here. bearing f l valid legal k block.heap _ (search (arith, run_of)) (allowed.bears x here);
       clear = clear f l valid legal k (grain_of block.name) (length_of block) allowed.held;
       turn = allowed.turn_is ∙ ap turn_of (life_is_known f l valid legal k _ allowed.word allowed.known).1 ∙ give_turn f _ _ _ _ _ life
           (dead_while_held f l k _ _ _ _ (placed_once f l valid legal _)

@@ -3,24 +3,23 @@ use Rattle.std.proofs.Common.{ℕ, ◌==◌, List, [], ◌∷◌, ◌≡◌, ◌
 use Rattle.std.proofs.Common.{if◌then◌else◌, Option, None, ◌%◌, eqb-true, leb-true, length-set, ◌++◌, slice_index, slice_set, eq-eqb, ne_eqb}
 use Rattle.std.proofs.lemmas.{Bool.{cond_both, false≢true, and_parts, and_from, false_from_ne_true}, Option.same_Some}
 use Rattle.pas_profile.specs.declared.{profile.Profile.Profile, directory.Directory.Directory, name.{Name.Name, Block.Block}, word.Word.Word, event.Event.Event}
-use Rattle.pas_profile.specs.{Directories.number_of, Profiles.{IsValid, IsWordOf}, Blocks.{address_of, grain_of, length_of}, Layouts.{index_of, same_word}}
-use Rattle.pas_profile.{specs.Lives.{live_word, is_live, turn_of, grains_of}, proofs.Codecs.{deed_word_of-positive, is_live-live_word, grains_of-live_word}}
+use Rattle.pas_profile.specs.{Profiles.{IsValid, IsWordOf}, Blocks.{address_of, grain_of, length_of}, Layouts.{index_of, same_word}, Lives.{live_word, is_live}}
+use Rattle.pas_profile.{specs.Lives.{turn_of, grains_of}, proofs.Codecs.{deed_word_of-positive, is_live-live_word, grains_of-live_word}}
 use Rattle.pas_profile.proofs.Places.{same_word-true}
-use Rattle.pas_steps.specs.{Past.Once, Allowed.{IsStepOf, Allowed}, Events.{event_of, with_event}, Desks.{made, triple, triples}, Effects.life_word_at}
-use Rattle.pas_steps.specs.{Effects.{target, free_word_at, new_value}, Lists.{Triple, Whole, part, Legal, word_after, visible, IsNext}, declared.step.Made.Made}
-use Rattle.pas_steps.specs.declared.step.Step.{Step, TheVariants.{End, EndSized, Look, Back, Give, Unback, Deed, Take, Put, TakeRight, Offer, Park, Unpark}}
-use Rattle.pas_steps.specs.{declared.step.Step.TheVariants.{Stamp, Hint, Unhint}, Views.{ends_on, EndedOn, EndedOnBoth, epoch_of, reads_life, IsLiveRead}}
-use Rattle.pas_steps.specs.{Views.{ReadLive, reads_backed, ReadBacked, holds, View}, Agreement.{heap_recorded, AgreesDeed, AgreesFree, AgreesLife, AgreesEnd}}
-use Rattle.pas_steps.{specs.Agreement.{AgreesBacked, AgreesParked, AgreesEmpty, AgreesEligible, AgreesEpoch, AgreesStamp, Agrees, Agreed}, proofs.Flags.was_set}
+use Rattle.pas_steps.specs.{Past.Once, Allowed.{IsStepOf, Allowed}, Events.with_event, Desks.{made, triple, triples}, Effects.{life_word_at, target}}
+use Rattle.pas_steps.specs.{Effects.{free_word_at, new_value}, Lists.{Triple, Whole, part, Legal, word_after, visible, IsNext}, declared.step.Made.Made}
+use Rattle.pas_steps.specs.{declared.step.Step.{Step, TheVariants.{End, EndSized, Look, Back, Unback, Deed, Stamp}}, Views.{ends_on, EndedOn, EndedOnBoth}}
+use Rattle.pas_steps.specs.{Views.{epoch_of, IsLiveRead, ReadLive, reads_backed, ReadBacked, holds, View}, Agreement.{heap_recorded, AgreesFree, AgreesLife}}
+use Rattle.pas_steps.{specs.Agreement.{AgreesEnd, AgreesParked, AgreesEmpty, AgreesEligible, AgreesEpoch, AgreesStamp, Agrees, Agreed}, proofs.Flags.was_set}
 use Rattle.pas_steps.proofs.{Running.{guess_fits, place_written}, Parts.{part_of_own, part_of_others}}
 use Rattle.pas_bits.{specs.{Runs.{in_run, meets_page}, Bits.has_bit}, proofs.Runs.{IsMet, met, first_of_run}}
 use Rattle.pas_machine.specs.{State.{Live, live_in, deed_in, backed_in, gives_in, ends_in}, Machine.{Bears, Run}}
-use Rattle.pas_core.specs.{Good.{word_of_deed, IsLifeOf, Held, is_free, is_covered_by, covers, IsPlacedOnce}, Given.WasGiven, Rights.{parked_bit, empty_bit}}
-use Rattle.pas_core.{specs.{Rights.eligible_bit, WordLists.AreWordsAfter, Orders.{IsOneOrder, with_step, ExtendsOnePart}}, proofs.Deeds.{deed_kept, known_is}}
-use Rattle.pas_core.proofs.{Deeds.{deed_words, deed_of, directory_is_of, backed_of}, Lives.{IsFound, end_finds, epoch_known, epoch_small, stamp_small}}
-use Rattle.pas_core.proofs.{Lives.{stamp_known, look_is, word_is, life_of, life_is_known, live_is_live, one_more, turn_small}, MachineRuns.{lists_borne, runs}}
-use Rattle.pas_core.proofs.{MachineRuns.one_backed, Grains.{is_held_by-true, placed_once}, Rights.{deeds_known, backed_small, backed_known, right_not_offered}}
-use Rattle.pas_core.proofs.Rights.{right_not_parked, offered_is_known, offered_page, parked_page, hinted_page, free_known}
+use Rattle.pas_core.specs.{Good.{word_of_deed, IsLifeOf, is_free, is_covered_by, covers, IsPlacedOnce}, Given.WasGiven, WordLists.AreWordsAfter}
+use Rattle.pas_core.{specs.Orders.{IsOneOrder, with_step, ExtendsOnePart}, proofs.Deeds.{deed_kept, known_is, deed_words, deed_of, directory_is_of, backed_of}}
+use Rattle.pas_core.proofs.Lives.{IsFound, end_finds, epoch_known, epoch_small, stamp_small, stamp_known, word_is, life_of, life_is_known, live_is_live}
+use Rattle.pas_core.proofs.{Lives.{one_more, turn_is, gives_few, given_small, sum_small, all_gives}, MachineRuns.{lists_borne, runs, one_backed}}
+use Rattle.pas_core.proofs.{Grains.{is_held_by-true, placed_once}, Rights.{deeds_known, backed_small, backed_known, right_not_offered, right_not_parked}}
+use Rattle.pas_core.proofs.Rights.{offered_is_known, offered_page, parked_page, hinted_page, free_known}
 
 -- ==== What a step of an actor told once is so for good, where every later step keeps it.
 
@@ -56,9 +55,6 @@ record HasEnded (l : Whole) (s : Step) (a : ℕ) : Type 0 where
   heap : ℕ
   pages : (page : ℕ) → ends_on s a page ≡ true → IsOfHeap l page heap
 
-no_end : (l : Whole) (s : Step) (a : ℕ) → ((page : ℕ) → ends_on s a page ≡ false) → HasEnded l s a
-no_end l s a none = record { heap = 0; pages = λ page h. absurd (false≢true (sym (none page) ∙ h)) }
-
 end_pages : (f : Profile) (l : Whole) → IsValid f → Legal f l → (name : Name) (guess a : ℕ) → IsStepOf f (End name guess)
     → a ≡ word_after l (life_word_at (grain_of name)) → (t : Bool) → (a == live_word name.turn guess) ≡ t → HasEnded l (End name guess) a
 end_pages f l valid legal name guess a of is true e =
@@ -68,14 +64,14 @@ end_pages f l valid legal name guess a of is true e =
       pages = λ page h. live_heap f l valid legal _ guess page at.block at.lives at.grains_are (omega (arith, of.3)) (and_parts (a == live_word name.turn guess) (meets_page (grain_of name) guess page) h).1;
     }
 end_pages f l valid legal name guess a of is false e =
-    no_end l (End name guess) a (λ page. ap (λ b. b && meets_page (grain_of name) guess page) e)
+    record { heap = 0; pages = λ page' h. absurd (false≢true (sym (ap (λ b. b && meets_page (grain_of name) guess page') e) ∙ h)) }
 
 has_ended : (f : Profile) (l : Whole) → IsValid f → Legal f l → (s : Step) (a : ℕ) → IsStepOf f s → a ≡ word_after l (target s) → HasEnded l s a
 has_ended f l valid legal (End name guess) a of is = end_pages f l valid legal name guess a of is (a == live_word name.turn guess) refl
 has_ended f l valid legal (EndSized name room) a of is =
     let at : HasEnded l (End name (room / 16)) a = end_pages f l valid legal name _ a of.0 is _ refl in
     record { heap = at.heap; pages = at.pages }
-has_ended f l valid legal s a of is = no_end l s a (λ page. refl)
+has_ended f l valid legal s a of is = record { heap = 0; pages = λ page' h. absurd (false≢true (sym (refl) ∙ h)) }
 
 -- a page of a block that an actor once ended has a deed
 ended_has_deed : (f : Profile) (l : Whole) → IsValid f → Legal f l → (k page : ℕ) → EndedOn (part k l) page → word_after l (Word.Deed page) ≢ 0
@@ -128,12 +124,6 @@ some_deed : (o : Option Directory) → o ≢ None → word_of_deed o ≢ 0
 some_deed o h = grind (arith, deed_word_of-positive)
 
 -- ---- a page that was read as backed
-backed_word : (l : Whole) (a q p : ℕ) → a ≡ word_after l (Word.Backed q) → (q == p) ≡ true → a ≡ word_after l (Word.Backed p)
-backed_word l a q p is e = is ∙ ap (λ n. word_after l (Word.Backed n)) (eqb-true q p e)
-
-backed_read : (l : Whole) (s : Step) (a p : ℕ) → a ≡ word_after l (target s) → reads_backed s p ≡ true → a ≡ word_after l (Word.Backed p)
-backed_read l s a p is h = grind (arith, backed_word, false≢true)
-
 -- a page that an actor once read as backed has a deed
 read_backed : (f : Profile) (l : Whole) → IsValid f → Legal f l → (k p : ℕ) → ReadBacked (part k l) p → word_after l (Word.Deed p) ≢ 0
 read_backed f l valid legal k p =
@@ -142,9 +132,6 @@ read_backed f l valid legal k p =
     (λ t l legal ne. λ z. ne (sym (deed_kept l t p ne) ∙ z)) l legal
 
 -- ---- a block that was read as live
-life_read : (l : Whole) (s : Step) (a g : ℕ) → a ≡ word_after l (target s) → reads_life s g ≡ true → a ≡ word_after l (life_word_at g)
-life_read l s a g is h = grind (arith, look_is, word_is, false≢true)
-
 -- a block of so many grains was given at the grain, with this turn
 record WasThere (l : Whole) (g turn grains : ℕ) : Type 0 where
   block : Block
@@ -167,7 +154,7 @@ was_there f l valid legal k g turn grains =
     since_once f k (λ m before. IsLiveRead m g turn grains) (λ l. WasThere l g turn grains)
     (λ t l legal read.
     let next : IsNext f l t = legal.0 in
-    let word : t.made.answer ≡ word_after l (life_word_at g) = life_read l _ _ g next.answer_is read.reads in
+    let word : t.made.answer ≡ word_after l (life_word_at g) = grind (arith, and_parts, eqb-true, word_is, false≢true) in
     there f l g (word_after l (life_word_at g)) turn grains (gives_in (visible l) (16 * g)) (ends_in (visible l) (16 * g)) (live_in (visible l) (16 * g)) refl refl (life_of f l valid legal.1 g)
     (ap is_live (sym word) ∙ read.live) (ap turn_of (sym word) ∙ read.turn_is) (ap grains_of (sym word) ∙ read.grains_are))
     (λ t l legal was. record {
@@ -178,19 +165,9 @@ was_there f l valid legal k g turn grains =
       given = event_kept f _ _ was.block (runs f (t ∷ l) valid legal) was.given;
     }) l legal
 
--- a block that an actor once read as live, and that still lives, has the length that it had then
-read_again : (f : Profile) (l : Whole) → IsValid f → Legal f l → (k g grains : ℕ) → is_live (word_after l (life_word_at g)) ≡ true
-    → ReadLive (part k l) g (turn_of (word_after l (life_word_at g))) grains → grains_of (word_after l (life_word_at g)) ≡ grains
-read_again f l valid legal k g grains alive read =
-    let was : WasThere l g (turn_of (word_after l (life_word_at g))) grains = was_there f l valid legal k g _ grains read in
-    (grind (arith, leb-true, life_of f l valid legal g)) ∙ was.grains_are
-
 -- ==== The answer of each legal step agrees with its actor's view.
 
 -- ---- where a grain is that is held
-held_place : (l : Whole) (k g : ℕ) (at : IsPlacedOnce l g) → holds (part k l) g ≡ true → at.place ≡ Held k
-held_place l k g at h = is_held_by-true k at.place (sym (at.held k) ∙ h)
-
 -- ---- deed words, free words and backed words
 word_at : (l : Whole) (page word a g : ℕ) → a ≡ word_after l (Word.Free page word) → g / 256 ≡ page → g / 64 % 4 ≡ word → a ≡ word_after l (free_word_at g)
 word_at l page word a g is p w = is ∙ ap (λ x. word_after l (Word.Free x word)) (sym p) ∙ ap (λ x. word_after l (Word.Free (g / 256) x)) (sym w)
@@ -201,7 +178,7 @@ free_agrees f l valid legal k page word a is = record {
   free = λ g p w h. ap (λ n. has_bit n (g % 64)) (word_at l page word a g is p w) ∙ free_known f l legal k g h;
   held = λ g p w h.
       let at : IsPlacedOnce l g = placed_once f l valid legal g in
-      ap (λ n. has_bit n (g % 64)) (word_at l page word a g is p w) ∙ at.free ∙ ap is_free (held_place l k g at h);
+      ap (λ n. has_bit n (g % 64)) (word_at l page word a g is p w) ∙ at.free ∙ ap is_free (is_held_by-true k at.place (sym (at.held k) ∙ h));
 }
 
 -- ---- life words
@@ -215,11 +192,7 @@ covered_is_free : (f : Profile) (l : Whole) → IsValid f → Legal f l → (k g
 covered_is_free f l valid legal k g x live inside = false_from_ne_true _ (λ h.
     let at : IsPlacedOnce l x = placed_once f l valid legal x in
     let covered : covers (word_after l (life_word_at g)) g x ≡ true = and_from _ _ live inside in
-    false≢true (sym (at.covered g ∙ ap (is_covered_by g) (held_place l k x at h)) ∙ covered))
-
--- no block lives at a grain that is held
-held_is_dead : (f : Profile) (l : Whole) → IsValid f → Legal f l → (k g : ℕ) → holds (part k l) g ≡ true → is_live (word_after l (life_word_at g)) ≡ false
-held_is_dead f l valid legal k g h = search (arith, false_from_ne_true, first_of_run, word_length, false≢true, covered_is_free)
+    false≢true (sym (at.covered g ∙ ap (is_covered_by g) (is_held_by-true k at.place (sym (at.held k) ∙ h))) ∙ covered))
 
 -- a life word is that of a live block, or the turn alone
 live_codec : (f : Profile) (g word : ℕ) (live : Option Live) (gives ends : ℕ) → IsLifeOf f g word live gives ends → is_live word ≡ true
@@ -232,31 +205,39 @@ turn_codec f g word live gives ends life h = grind (arith, false≢true, live_is
 life_agrees : (f : Profile) (l : Whole) → IsValid f → Legal f l → (k g a : ℕ) → a ≡ word_after l (life_word_at g) → AgreesLife f (part k l) g a
 life_agrees f l valid legal k g a is = subst (AgreesLife f (part k l) g) (sym is) record {
   known = λ w h. sym (life_is_known f l valid legal k g w h).1;
-  held = held_is_dead f l valid legal k g;
-  turn = turn_small f l valid legal g;
+  held = λ h. search (arith, false_from_ne_true, first_of_run, word_length, false≢true, covered_is_free);
+  turn = let life : IsLifeOf f g (word_after l (life_word_at g)) (live_in (visible l) (16 * g)) (gives_in (visible l) (16 * g)) (ends_in (visible l) (16 * g)) =
+      life_of f l valid legal g in
+      -- the turn of each life word is small
+      let ends : ends_in (visible l) (16 * g) ≤ gives_in (visible l) (16 * g) = (grind arith) in
+      grind (
+        arith,
+        turn_is f g (word_after l (life_word_at g)) (live_in (visible l) (16 * g)) (gives_in (visible l) (16 * g))
+            (ends_in (visible l) (16 * g)) life,
+        ends,
+        sum_small,
+        given_small,
+        all_gives,
+        gives_few,
+      );
   length = word_length f l valid legal g;
   live = live_codec f g _ _ _ _ (life_of f l valid legal g);
   turn_alone = turn_codec f g _ _ _ _ (life_of f l valid legal g);
-  again = read_again f l valid legal k g;
+  again = λ grains alive read. let was : WasThere l g (turn_of (word_after l (life_word_at g))) grains = was_there f l valid legal k g _ grains read in
+      (grind (arith, leb-true, life_of f l valid legal g)) ∙ was.grains_are;
 }
 
 -- ---- the life word of an end
--- no grain of the block that ends is held
-end_apart : (f : Profile) (l : Whole) → IsValid f → Legal f l → (k : ℕ) (name : Name) (guess a : ℕ) → IsStepOf f (End name guess)
-    → a ≡ word_after l (life_word_at (grain_of name)) → a ≡ live_word name.turn guess → (x : ℕ) → in_run (grain_of name) guess x ≡ true
-    → holds (part k l) x ≡ false
-end_apart f l valid legal k name guess a of is live x inside =
-    let turn : name.turn < 2 ^ 40 = omega (arith, of.2) in
-    let word : live_word name.turn guess ≡ word_after l (life_word_at (grain_of name)) = sym live ∙ is in
-    let n : guess ≡ grains_of (word_after l (life_word_at (grain_of name))) = sym (grains_of-live_word name.turn guess turn (guess_fits guess f.pages valid.pages of.4)) ∙ ap grains_of word in
-    covered_is_free f l valid legal k _ x (ap is_live (sym word) ∙ is_live-live_word name.turn guess) (ap (λ m. in_run (grain_of name) m x) (sym n) ∙ inside)
-
 end_agrees : (f : Profile) (l : Whole) → IsValid f → Legal f l → (k : ℕ) (name : Name) (guess a : ℕ) → IsStepOf f (End name guess)
     → a ≡ word_after l (life_word_at (grain_of name)) → AgreesEnd f (part k l) name guess a
 end_agrees f l valid legal k name guess a of is = record {
   life = life_agrees f l valid legal k _ a is;
   within = λ hit. let at : IsFound f l name guess = end_finds f l valid legal name guess a of is hit in (at.first, at.last);
-  apart = end_apart f l valid legal k name guess a of is;
+  apart = λ live x inside. let turn : name.turn < 2 ^ 40 = omega (arith, of.2) in
+      let word : live_word name.turn guess ≡ word_after l (life_word_at (grain_of name)) = sym live ∙ is in
+      let n : guess ≡ grains_of (word_after l (life_word_at (grain_of name))) =
+      sym (grains_of-live_word name.turn guess turn (guess_fits guess f.pages valid.pages of.4)) ∙ ap grains_of word in
+      covered_is_free f l valid legal k _ x (ap is_live (sym word) ∙ is_live-live_word name.turn guess) (ap (λ m. in_run (grain_of name) m x) (sym n) ∙ inside);
 }
 
 -- ---- page vectors

@@ -6,13 +6,13 @@ use Rattle.std.{proofs.lemmas.Nat.and_le_r, specs.Int.bit_not}
 use Rattle.pas_bits.{specs.Bits.has_bit, proofs.{Words.bit_cleared, PageVectors.{page_bit-clear, page_bit-set}}}
 use Rattle.pas_profile.specs.{Profiles.IsValid, Directories.directory_read, declared.{profile.Profile.Profile, word.Word.Word}}
 use Rattle.pas_steps.specs.{Effects.{free_word_at, target}, Allowed.{Allowed, IsStepOf, HoldsOn}, Desks.{made, triple, triples}, Clear.IsClear, Views.all_ones}
-use Rattle.pas_steps.specs.Views.{hint_after, owes_hint, examined_after, examines, epoch_of, way, ToParked, Rests, Way, has_right, known_deed, usable_by}
-use Rattle.pas_steps.specs.{Views.{no_usable, check_after, owes_check}, Lists.{Whole, part, word_after, IsNext, Legal}, declared.step.Step.Step}
-use Rattle.pas_steps.specs.declared.step.{Step.TheVariants.{Look, Back, Take, Put, Hint, Unback, Unhint, Deed, TakeRight, Offer, Park, Unpark}, Made.Made}
-use Rattle.pas_steps.proofs.{Flags.stays_set, Bits.{none_set, all_set, all_below-at}, Parts.part_of_others}
+use Rattle.pas_steps.specs.Views.{hint_after, owes_hint, examined_after, examines, epoch_of, way, has_right, known_deed, usable_by, no_usable, check_after}
+use Rattle.pas_steps.specs.{Views.owes_check, Lists.{Whole, part, word_after, IsNext, Legal}, declared.step.Step.{Step, TheVariants.{Look, Take, Put, Hint}}}
+use Rattle.pas_steps.{specs.declared.step.{Step.TheVariants.{Unback, Unhint, Deed, Park}, Made.Made}, proofs.{Flags.stays_set, Bits.{none_set, all_set}}}
+use Rattle.pas_steps.proofs.{Bits.all_below-at, Parts.part_of_others}
 use Rattle.pas_core.specs.{Good.{Held, is_free, IsPlacedOnce}, Hints.{IsEmptyBacked, IsMinded}, Rights.{empty_bit, parked_bit, IsUsableFree, IsOwed}}
 use Rattle.pas_core.{specs.Rights.{IsRightInOnePlace, IsRightOffered, IsRightParked, NobodyHasRight, NobodyOwes, AllClear}, proofs.Deeds.{next_value, looked}}
-use Rattle.pas_core.proofs.{Deeds.{known_is, word_stays}, Grains.{is_held_by-true, placed_once}, Lives.words_fit, Rights.{Spot, InParked, is_with, is_parked}}
+use Rattle.pas_core.proofs.{Deeds.{known_is, word_stays}, Grains.{is_held_by-true, placed_once}, Lives.words_fit, Rights.{InParked, is_with, is_parked}}
 use Rattle.pas_core.proofs.Rights.{spot_after, spot_of, IsSpotted, spotted, parked_spot, right_in_one_place}
 
 -- ==== A backed page whose grains are all free isn't forgotten: its empty bit is set, or some actor owes its hint, or some actor examines it.
@@ -57,23 +57,19 @@ keeps l j s a p hint examined bit e = grind (arith, cond_both)
 put_owes : (s : Step) (a p : ℕ) (was : Bool) → puts s p ≡ true → hint_after s a p was ≡ true
 put_owes s a p was h = grind (arith, false≢true)
 
--- a take that leaves each grain of the page free got none, and read all ones
-take_mask_none : (l : Whole) (j e q w mask a p : ℕ) → w < 4 → mask < 2 ^ 64 → (q == p) ≡ true
-    → ((b : ℕ) → b < 64 → has_bit (next_value e (Take q w mask) (Word.Free p w) (word_after l (Word.Free p w))) b ≡ true) → mask ≡ 0
-take_mask_none l j e q w mask a p hw hm here free = none_set mask hm (λ b hb.
-    let both : ((w == w) && (q == p)) ≡ true = ap (λ t. t && (q == p)) (eq-eqb w w refl) ∙ here in
-    let cleared : (has_bit (word_after l (Word.Free p w)) b && not (has_bit mask b)) ≡ true
-    = sym (bit_cleared _ mask b hm hb)
-    ∙ ap (λ t. has_bit (if t then bit_and (word_after l (Word.Free p w)) (bit_not w64 mask) else word_after l (Word.Free p w)) b) (sym both) ∙ free b hb in
-    not-true _ (and_parts (has_bit (word_after l (Word.Free p w)) b) (not (has_bit mask b)) cleared).1)
-
 take_keeps : (f : Profile) (l : Whole) → IsValid f → Legal f l → (j q w mask a p : ℕ) → w < 4 → mask < 2 ^ 64 → a ≡ word_after l (Word.Free q w)
     → IsEmptyBacked l p → IsEmptyBacked (triple j (made (Take q w mask) a) ∷ l) p
     → ((q == p) && (not (a == all_ones) || not (bit_and a mask == 0))) ≡ false
 take_keeps f l valid legal j q w mask a p hw hm is empty now = false_from_ne_true _ (λ h.
     let parts = and_parts (q == p) (not (a == all_ones) || not (bit_and a mask == 0)) h in
     let full : a ≡ all_ones = is ∙ ap (λ x. word_after l (Word.Free x w)) (eqb-true q p parts.0) ∙ full_word f l valid legal p w hw empty in
-    let none : mask ≡ 0 = take_mask_none l j (epoch_of (part j l)) q w mask a p hw hm parts.0 (λ b hb. free_bits _ p w b hw hb now) in
+    let none : mask ≡ 0 = none_set mask hm (λ b' hb'.
+    let both : ((w == w) && (q == p)) ≡ true = ap (λ t. t && (q == p)) (eq-eqb w w refl) ∙ parts.0 in
+    let cleared : (has_bit (word_after l (Word.Free p w)) b' && not (has_bit mask b')) ≡ true
+    = sym (bit_cleared _ mask b' hm hb')
+    ∙ ap (λ t. has_bit (if t then bit_and (word_after l (Word.Free p w)) (bit_not w64 mask) else word_after l (Word.Free p w)) b') (sym both)
+    ∙ (free_bits _ p w b' hw hb' now) in
+    not-true _ (and_parts (has_bit (word_after l (Word.Free p w)) b') (not (has_bit mask b')) cleared).1) in
     let zero : bit_and a mask ≡ 0 = ap (bit_and a) none ∙ (let le = and_le_r a 0 in omega (arith, le)) in
     false≢true (sym (or_from _ _ (ap not (eq-eqb a all_ones full)) (ap not (eq-eqb _ 0 zero))) ∙ parts.1))
 
@@ -150,17 +146,6 @@ look_keeps l q u a p w b k at is_free is = false_from_ne_true _ (λ h.
 
 -- ---- what was so before a step
 -- ---- steps
--- grains that are put into the word of a parked page are owed by who put them, since it hasn't the right
-put_owed : (l : Whole) (j q u mask a p w b : ℕ) → IsSpotted l p → spot_of l p ≡ InParked → (has_bit (word_after l (Word.Free p w)) b ≡ true → IsOwed l p w)
-    → (t : Bool) → ((u == w) && (q == p)) ≡ t
-    → has_bit (if t then bit_or (word_after l (Word.Free p w)) mask else word_after l (Word.Free p w)) b ≡ true
-    → IsOwed (triple j (made (Put q u mask) a) ∷ l) p w
-put_owed l j q u mask a p w b at parked before t e free = grind (arith, owes_now, is_with, keeps_owed, stays_set)
-
-park_owed : (l : Whole) (j q a p w : ℕ) (t : Bool) → (q == p) ≡ t → spot_after j (if t then ToParked else Rests) (spot_of l p) ≡ InParked
-    → (spot_of l p ≡ InParked → IsOwed l p w) → IsOwed (triple j (made (Park q) a) ∷ l) p w
-park_owed l j q a p w t e parked before = grind (arith, owes_now, keeps_owed, stays_set)
-
 -- a page stays parked only where its parked bit isn't cleared
 unpark_other : (l : Whole) (q a p : ℕ) → IsSpotted l p → a ≡ word_after l (Word.Parked (q / 64)) → spot_of l p ≡ InParked
     → ((q == p) && has_bit a (p % 64)) ≡ false → (q == p) ≡ false
@@ -173,8 +158,8 @@ owed_step : (f : Profile) (l : Whole) (j e : ℕ) (s : Step) (a p w b : ℕ) →
     → IsOwed (triple j (made s a) ∷ l) p w
 owed_step f l j e (Look (Word.Free q u)) a p w b small at of is before usable o free =
     search (arith, looked, keeps_owed, cond-false, look_keeps)
-owed_step f l j e (Put q u mask) a p w b small at of is before usable o free = put_owed l j q u mask a p w b at o (before o) ((u == w) && (q == p)) refl free
-owed_step f l j e (Park q) a p w b small at of is before usable o free = park_owed l j q a p w (q == p) refl o (λ parked. before parked free)
+owed_step f l j e (Put q u mask) a p w b small at of is before usable o free = grind (arith, owes_now, is_with, keeps_owed, stays_set)
+owed_step f l j e (Park q) a p w b small at of is before usable o free = grind (arith, owes_now, keeps_owed, stays_set)
 owed_step f l j e s a p w b small at of is before usable o free = search (arith, keeps_owed, and_parts, bit_cleared, cond-false, unpark_other)
 
 -- the induction
@@ -214,16 +199,13 @@ no_other_actor f [] legal k past = refl
 no_other_actor f (t ∷ l) legal k past = search (arith, ne_eqb, no_other_actor f l legal.1 k past)
 
 -- ---- all at rest
-clear_owes : (f : Profile) (l : Whole) → Legal f l → AllClear f l → (p w : ℕ) → w < 4 → NobodyOwes l p w
-clear_owes f l legal clear p w small = λ k. elim (cases_lt f.threads k) [
-  | inl past ↦ ap (λ v. owes_check v p w) (no_other_actor f l legal k past)
-  | inr within ↦ ((clear k within).on p).owes.checks w small
-]
-
 -- When all actors are clear, a page with a usable free grain whose right nobody has is offered.
 pub offered_at_rest : (f : Profile) (l : Whole) → Legal f l → AllClear f l → (p w b : ℕ) → w < 4 → word_after l (Word.Deed p) ≢ 0 → IsUsableFree l p w b
     → NobodyHasRight l p → IsRightOffered f l p
-offered_at_rest f l legal clear p w b small deed free lacks = free_is_offered f l legal p w b deed free lacks (clear_owes f l legal clear p w small)
+offered_at_rest f l legal clear p w b small deed free lacks = free_is_offered f l legal p w b deed free lacks (λ k. elim (cases_lt f.threads k) [
+  | inl past ↦ ap (λ v. owes_check v p w) (no_other_actor f l legal k past)
+  | inr within ↦ ((clear k within).on p).owes.checks w small
+])
 
 -- so is any actor
 pub each_clear : (f : Profile) (l : Whole) → Legal f l → AllClear f l → (k : ℕ) → IsClear (part k l)

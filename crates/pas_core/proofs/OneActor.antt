@@ -1,10 +1,10 @@
 -- Laws of one actor alone, in a list that is legal as a whole: what its steps leave as it was, which grains are free and where rights are before and
 -- after them, and what its search finds.
 use Rattle.pas_core.proofs.{Deeds.{word_stays, looked, deed_kept, known_is, numbered_ne}, Rights.{put_keeps, one_has_right, offered_has_deed, offered_spot}}
-use Rattle.pas_core.proofs.Rights.{own_eligible, is_on_offer, Spot, With, is_with, is_offered, is_parked, spot_after, spot_of, Suits, DeedFits, IsSpotted}
-use Rattle.pas_core.proofs.{Rights.{step_suits, spotted}, Grains.{Fits, free_moved, free_step, step_fits, placed_once, is_held_by-true}, Nexts.agrees_next}
-use Rattle.pas_core.specs.{Rights.{free_of_page, eligible_bit, parked_bit, AllRest}, Good.{Place, Held, is_free, is_held_by, IsPlacedOnce}, Fits.IsOfferedFit}
-use Rattle.pas_core.specs.{Fits.{IsBarePage, HasNoFit}, Alone.{ShowsOffered, ShowsBare, ShowsNone, ShowsHeld, ShowsAnswer, SearchesAlone, IsPlainAnswer}}
+use Rattle.pas_core.proofs.Rights.{own_eligible, is_on_offer, Spot, With, is_with, is_offered, is_parked, spot_of, DeedFits, IsSpotted, step_suits, spotted}
+use Rattle.pas_core.{proofs.{Grains.{Fits, free_moved, free_step, step_fits, placed_once, is_held_by-true}, Nexts.agrees_next}, specs.Rights.free_of_page}
+use Rattle.pas_core.specs.{Rights.{eligible_bit, parked_bit, AllRest}, Good.{Place, Held, is_free, is_held_by, IsPlacedOnce}, Fits.{IsOfferedFit, HasNoFit}}
+use Rattle.pas_core.specs.Alone.{ShowsNone, ShowsHeld, ShowsAnswer, SearchesAlone, IsPlainAnswer}
 use Rattle.std.proofs.Common.{◌≡◌, ℕ, ◌/◌, true, false, if◌then◌else◌, List, [], ◌∷◌, ◌++◌, refl, ap, ◌∙◌, true≢false, ◌≢◌, ◌+◌, ◌*◌, ◌%◌, ◌<◌, ◌==◌, Bool}
 use Rattle.std.proofs.{Common.{◌||◌, sym, arith, inl, inr, None, Some, subst, Result, Ok, Err, eq-eqb, eqb-true}, lemmas.Bool.{cases_Bool, cond_both, or_left}}
 use Rattle.std.proofs.lemmas.Bool.{or_parts, or_from, cases_eq, false≢true, and_parts}
@@ -13,11 +13,11 @@ use Rattle.pas_profile.specs.{Directories.{number_of, deed_word_of}, Layouts.sam
 use Rattle.pas_profile.specs.declared.{profile.Profile.Profile, event.{Event.Event, NoRoom.{NoRoom, TheVariants.NoSpace}}, directory.Directory.Directory}
 use Rattle.pas_profile.proofs.Codecs.{deed_word_of-positive, numbered}
 use Rattle.pas_steps.specs.{Effects.{target, new_value, free_word_at}, Desks.{triples, triple}, Past.{Once, Always}, Events.event_of, Allowed.Allowed}
-use Rattle.pas_steps.specs.{Agreement.Agrees, Views.{epoch_of, View, Move, Stays, Gets, Puts, Gives, Ends, grain_move, held_after, holds, Way, Rests, way}}
-use Rattle.pas_steps.specs.{Views.{had_after, has_right, deed_after, known_deed, KnowsDeed}, Lists.{Whole, part, word_after, Legal}, Kinds.{Kinds, kind_of}}
-use Rattle.pas_steps.specs.{Kinds.{is_in, apart, Only, Taking, Claiming, Deeding, lending}, declared.step.{Made.Made, Step.{Step, TheVariants.Deed}}}
-use Rattle.pas_steps.specs.Evidence.{Readings, IsAntitone, ReadsFree, ReadsDeed, ShowsHere, KeptHere, UnfitHere, DeedHere, ReadsEligible, ReadsParked, ZeroHere}
-use Rattle.pas_steps.{specs.Evidence.{OneHere, ParkedHere, LacksAfter, Searched, AllDeeds}, proofs.{Apart.in_apart, Past.{since_once, always_map, once_map}}}
+use Rattle.pas_steps.specs.{Agreement.Agrees, Views.{epoch_of, View, Move, Stays, Gets, Puts, Gives, Ends, grain_move, held_after, holds, way, had_after}}
+use Rattle.pas_steps.specs.{Views.{has_right, deed_after, known_deed, KnowsDeed}, Lists.{Whole, part, word_after, Legal}, Kinds.{Kinds, kind_of, is_in, apart}}
+use Rattle.pas_steps.specs.{Kinds.{Only, Taking, Claiming, Deeding, lending}, declared.step.{Made.Made, Step.{Step, TheVariants.Deed}}, Evidence.Readings}
+use Rattle.pas_steps.specs.Evidence.{IsAntitone, ReadsFree, ReadsDeed, ShowsHere, KeptHere, UnfitHere, DeedHere, ReadsEligible, ReadsParked, ZeroHere, OneHere}
+use Rattle.pas_steps.{specs.Evidence.{ParkedHere, LacksAfter, Searched, AllDeeds}, proofs.{Apart.in_apart, Past.{since_once, always_map, once_map}}}
 use Rattle.pas_steps.proofs.{Parts.{part_of_own, part_of_others, each_part}, Adding.triples_append, Frames.{right_own, right_of_own, lacks_now, deed_stays}}
 
 -- ==== Bits of free and eligible words, and deed words, that steps of some kinds leave as they were.
@@ -54,9 +54,6 @@ IsPlain Puts = Unit {0}
 IsPlain (Gives a) = ⊥
 IsPlain (Ends a) = ⊥
 
-plain_move : (s : Step) (a g : ℕ) → is_in lending (kind_of s) ≡ false → IsPlain (grain_move s a g)
-plain_move s a g h = grind (arith, cond_both, true≢false)
-
 -- no block is given or ended
 abbrev pub LendsNone : List Made → Type 0
 LendsNone = Always (λ m before. is_in lending (kind_of m.step) ≡ false)
@@ -83,7 +80,8 @@ pub free_or_held : (f : Profile) (k : ℕ) (l : Whole) (g : ℕ) (xs : List Made
 free_or_held f k l g [] legal lends free = or_left (bit_of l g) false free
 free_or_held f k l g (m ∷ xs) legal lends free =
     ap (λ x. x || held_after (grain_move m.step m.answer g) (holds xs g)) (bit_moved f k l g m xs legal)
-    ∙ (grind (arith, plain_move m.step m.answer g lends.0, free_or_held f k l g xs legal.1 lends.1 free))
+    ∙ (let plain_move : IsPlain (grain_move m.step m.answer g) = grind (arith, cond_both, true≢false) in
+    grind (arith, plain_move, free_or_held f k l g xs legal.1 lends.1 free))
 
 -- ---- a grain that is neither free nor the actor's stays so
 abbrev pub Used : ℕ → Whole → ℕ → List Made → Type 0
@@ -101,7 +99,7 @@ used_next : (f : Profile) (k : ℕ) (l : Whole) (g : ℕ) (m : Made) (xs : List 
 used_next f k l g m xs valid legal search used =
     let w : Whole = triples k xs ++ l in
     let at : IsPlacedOnce w g = placed_once f w valid legal.1 g in
-    let moved = used_move k _ at.place _ _ (plain_move m.step m.answer g search)
+    let moved = used_move k _ at.place _ _ (grind (arith, cond_both, true≢false))
     (step_fits f w k _ _ g at valid legal.0.of_region legal.0.allowed legal.0.answer_is)
     (sym at.free ∙ used.0) (sym (at.held k) ∙ ap (λ v. holds v g) (part_of_own k xs l) ∙ used.1) used.0 used.1 in
     (bit_moved f k l g m xs legal ∙ moved.0, moved.1)
@@ -437,18 +435,7 @@ module _ (no_fit : Readings → Type 0) (f : Profile) (d : Directory) (k : ℕ) 
   abbrev w : Whole
   w = triples k xs ++ l
 
-  -- The list at entry is legal, since the one with the call behind it is.
-  first : Legal f l
-  first = legal_before f k xs l legal
-
   -- ---- a page that serves could before the search
-  offered_fits : (page : ℕ) → ShowsOffered no_fit f d (part k l) page xs → IsOfferedFit no_fit f d l page
-  offered_fits page shows = record {
-    of_region = shows.of_region;
-    offered = offered_was f k l d page xs valid of legal (λ known. rest.rights page k) shows.offered;
-    fits = fit_entry no_fit f k l page shows.readings xs fewer valid legal lends shows.fits shows.read shows.none_held;
-  }
-
   -- ---- no page is in another's hands
   nobody_holds : (page : ℕ) → ShowsNone no_fit f d xs → ShowsHeld f d (part k l) page xs → ⊥
   nobody_holds page none shows =
@@ -461,11 +448,20 @@ module _ (no_fit : Readings → Type 0) (f : Profile) (d : Directory) (k : ℕ) 
       let not_parked : is_parked (spot_of l page) ≡ false = parked_told f k l page false xs legal lacks shows.lacked (once_map _ _ xs (λ m before h. h.0) shows.held) in
       let with = in_hands _ _ at.deed (λ z. deed_word_of-positive d (sym deed ∙ z))
       (sym (own_eligible f w legal page d of deed) ∙ at.eligible (number_of d) ∙ ap (is_offered (number_of d)) same ∙ not_offered) (ap is_parked same ∙ not_parked) in
-      true≢false (sym ((spotted f l first page).has with.0 ∙ ap (is_with with.0) (sym same ∙ with.1) ∙ is_with_own with.0) ∙ rest.rights page with.0)
+      true≢false (sym ((spotted f l (legal_before f k xs l legal) page).has with.0 ∙ ap (is_with with.0) (sym same ∙ with.1) ∙ is_with_own with.0)
+      ∙ rest.rights page with.0)
 
   -- An answer that one actor's steps show is true of the state.
   plain : (answer : Result ℕ NoRoom) → ShowsAnswer no_fit f d (part k l) xs answer → IsPlainAnswer no_fit f d l answer
-  plain (Ok page) (inl shows) = record { not_held = λ p bad. absurd cc; none_fits = λ bad. absurd cc; no_space = λ none. absurd (none.offered page (offered_fits page shows)) }
+  plain (Ok page) (inl shows) = record {
+    not_held = λ p bad. absurd cc;
+    none_fits = λ bad. absurd cc;
+    no_space = λ none. absurd (none.offered page (record {
+      of_region = shows.of_region;
+      offered = offered_was f k l d page xs valid of legal (λ known. rest.rights page k) shows.offered;
+      fits = fit_entry no_fit f k l page shows.readings xs fewer valid legal lends shows.fits shows.read shows.none_held;
+    }));
+  }
   plain (Ok page) (inr shows) = record { not_held = λ p bad. absurd cc; none_fits = λ bad. absurd cc; no_space = λ none. absurd (none.bare page (record { of_region = shows.of_region; no_deed = deed_made f k l d page xs legal shows.made })) }
   plain (Err NoSpace) shows = record { not_held = λ p bad. absurd cc; none_fits = λ is. none_serves no_fit f k l d xs fewer legal lends shows.searched shows.deeds shows.quiet; no_space = λ none. refl }
   plain (Err (NoRoom.Held page)) shows = absurd (nobody_holds page shows.0 shows.1)

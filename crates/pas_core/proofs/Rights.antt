@@ -1,20 +1,19 @@
 -- Rights and what views know: where the right of a page is, the bits of page vectors that are set, and that what views know of deeds, of free grains and
 -- of backed pages is true.
 use Rattle.std.proofs.Common.{◌≡◌, ◌≢◌, ℕ, ◌/◌, ◌%◌, ◌==◌, Bool, true, false, ◌&&◌, if◌then◌else◌, [], ◌∷◌, refl, ap, sym, ◌∙◌, subst, inl, inr, arith, ◌^◌}
-use Rattle.std.proofs.{Common.{◌<◌, not, ◌||◌, bit_and, bit_or, ◌+◌, ◌*◌, ◌≤◌, eqb-true, eq-eqb, w64}, lemmas.Bool.{false≢true, and_parts, cond_both}}
-use Rattle.std.{proofs.lemmas.{Bool.{eqb-false, or_left, or_cases, false_from_ne_true, cases_eq, Decides.nat_tests}, Nat.Bits.bit_at_ones}, specs.Int.bit_not}
+use Rattle.std.proofs.{Common.{◌<◌, not, ◌||◌, bit_or, ◌+◌, ◌*◌, ◌≤◌, eqb-true, eq-eqb}, lemmas.Bool.{false≢true, and_parts, cond_both, eqb-false, or_left}}
+use Rattle.std.proofs.lemmas.{Bool.{or_cases, false_from_ne_true, cases_eq, Decides.nat_tests}, Nat.Bits.bit_at_ones}
 use Rattle.pas_bits.{specs.Bits.has_bit, proofs.{Words.{none_of_zero, bit_cleared, bit_of_or}, PageVectors.{page_bit-clear, page_bit-set}}}
-use Rattle.pas_profile.specs.{Directories.{number_of, deed_word_of, deed_word_numbered, IsKind}, Layouts.same_word, Profiles.{IsPage, IsDirectoryOf, IsValid}}
+use Rattle.pas_profile.specs.{Directories.{number_of, deed_word_of, deed_word_numbered, IsKind}, Profiles.{IsPage, IsDirectoryOf, IsValid}}
 use Rattle.pas_profile.{specs.declared.{profile.Profile.Profile, directory.Directory.Directory, word.Word.Word}, proofs.Codecs.deed_word_of-positive}
 use Rattle.pas_profile.proofs.Codecs.{numbered}
-use Rattle.pas_steps.specs.{Effects.{target, free_word_at, in_mask}, Allowed.{Allowed, IsStepOf, MayUnback}, Agreement.IsDeedWord, Frames.unbacks, Views.Way}
-use Rattle.pas_steps.specs.Views.{Rests, ByDeed, FromOffer, FromParked, ToOffer, ToParked, way, had_after, has_right, deed_after, known_deed, epoch_of}
-use Rattle.pas_steps.specs.{Views.{free_after, known_free, View, holds, holds_on, backed_after, knows_backed}, Lists.{Whole, part, word_after, IsNext, Legal}}
-use Rattle.pas_steps.{specs.{Lists.Triple, declared.step.Step.{Step, TheVariants.{Look, Deed, TakeRight, Offer, Park, Unpark, Take}}}, proofs.Flags.was_set}
-use Rattle.pas_steps.proofs.{Frames.{any_one, backed_holds}, Parts.each_part}
+use Rattle.pas_steps.specs.{Effects.{target, free_word_at, in_mask}, Allowed.{Allowed, MayUnback}, Agreement.IsDeedWord, Frames.unbacks, Views.{Way, Rests}}
+use Rattle.pas_steps.specs.Views.{ByDeed, FromOffer, FromParked, ToOffer, ToParked, way, has_right, deed_after, known_deed, epoch_of, free_after, known_free}
+use Rattle.pas_steps.specs.{Views.{View, holds, holds_on, backed_after, knows_backed}, Lists.{Whole, part, word_after, IsNext, Legal, Triple}}
+use Rattle.pas_steps.{specs.declared.step.Step.{Step, TheVariants.{Look, Deed, TakeRight, Offer, Park, Take}}, proofs.{Flags.was_set, Frames.any_one}}
+use Rattle.pas_steps.proofs.{Frames.backed_holds, Parts.each_part}
 use Rattle.pas_core.{specs.Rights.{parked_bit, eligible_bit, empty_bit, IsRightInOnePlace}, proofs.Deeds.{next_value, looked, IsKnown, known_is, word_stays}}
-use Rattle.pas_core.proofs.{Deeds.{deed_tells, look_tells, deed_at, numbered_ne, deed_words, deed_has_page, number_told}, Grains.{if_true, if_false}}
-use Rattle.pas_core.proofs.Grains.{one_holder}
+use Rattle.pas_core.proofs.{Deeds.{deed_tells, look_tells, deed_at, numbered_ne, deed_words, deed_has_page, number_told}, Grains.{if_true, one_holder}}
 
 -- ==== The right of each page is at one spot after a legal list, and what views know of deeds is true. Each needs the other, so one induction
 -- proves both: an offer goes into the vector of the directory that its actor knows, and a set bit of that vector tells the directory.
@@ -109,14 +108,11 @@ parked_rests : (y was : Bool) (m : Way) → ((b : Bool) → parked_moved m b ≡
 parked_rests y was m h = cond_both y m Rests (λ x. was ≡ parked_moved x was) (λ here. sym (h was)) (λ other. refl)
 
 -- ---- the eligible words
-offered_rests : (y was : Bool) (n : ℕ) (m : Way) → ((b : Bool) → offered_moved m n b ≡ b) → was ≡ offered_moved (if y then m else Rests) n was
-offered_rests y was n m h = cond_both y m Rests (λ x. was ≡ offered_moved x n was) (λ here. sym (h was)) (λ other. refl)
-
 eligible_step : (l : Whole) (e : ℕ) (s : Step) (a p n : ℕ) → a ≡ word_after l (target s)
     → has_bit (next_value e s (Word.Eligible n (p / 64)) (word_after l (Word.Eligible n (p / 64)))) (p % 64) ≡ offered_moved (way s a p) n (eligible_bit l n p)
 eligible_step l e (TakeRight q d) a p n is = search (arith, page_bit-clear, eqb-true)
 eligible_step l e (Offer q d) a p n is = search (arith, page_bit-set)
-eligible_step l e s a p n is = search (arith, looked, offered_rests)
+eligible_step l e s a p n is = search (arith, looked, cond_both)
 
 -- ---- a legal step's way suits
 suits_if : (j : ℕ) (m : Way) (o : Spot) (t : Bool) → (t ≡ true → Suits j m o) → Suits j (if t then m else Rests) o
@@ -163,7 +159,7 @@ spotted f (t ∷ l) legal p =
     let suits : Suits j (way s a p) (spot_of l p) = step_suits f l j s a p at next.allowed next.answer_is in
     record {
       has = λ k. cond_both (j == k) (t.made ∷ part k l) (part k l) (λ v. has_right v p ≡ is_with k (spot_of (t ∷ l) p)) (λ e. grind arith) (λ e. grind arith);
-      eligible = λ n. eligible_step l e s a p n next.answer_is ∙ ap (offered_moved (way s a p) n) (at.eligible n) ∙ (grind (arith, if_false, if_true));
+      eligible = λ n. eligible_step l e s a p n next.answer_is ∙ ap (offered_moved (way s a p) n) (at.eligible n) ∙ (grind (arith, if_true));
       parked = (search (arith, parked_rests, page_bit-set, park_cases, page_bit-clear, eqb-true)) ∙ ap (parked_moved (way s a p)) at.parked ∙ (grind arith);
       deed = search (arith, nat_tests, deed_word_of-positive, eqb-true, moved_fits, somewhere, suits_then, known_here, numbered);
       known = λ k. cond_both (j == k) (t.made ∷ part k l) (part k l) (λ v. IsKnown (known_deed v p) (word_after (t ∷ l) (Word.Deed p)))
@@ -304,14 +300,10 @@ tells_free (Look (Word.Free q w)) a g right = (w == g / 64 % 4) && (q == g / 256
 tells_free (Deed q d) a g right = (q == g / 256) && (a == 0)
 tells_free s a g right = false
 
--- A step that leaves a thing: it is known where it was, and isn't this one.
-leaves_or : (x known : Bool) → (if x then false else known) ≡ (false || (not false && not x && known))
-leaves_or x known = grind arith
-
 -- a grain is known as free if the step tells so, or if it was, and the step neither takes it nor gives the right away
 free_after-is : (s : Step) (a g : ℕ) (right known : Bool)
     → free_after s a g right known ≡ (tells_free s a g right || (not (takes s g) && not (leaves s (g / 256)) && known))
-free_after-is s a g right known = grind (arith, leaves_or)
+free_after-is s a g right known = grind arith
 
 -- Where both tests fail and the third passes, each is known.
 not_from : (x z y : Bool) → (not x && not z && y) ≡ true → (x ≡ false) × (z ≡ false) × (y ≡ true)

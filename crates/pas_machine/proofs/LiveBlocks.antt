@@ -1,22 +1,17 @@
 -- What every run of the machine keeps about its live blocks, and what holds of each number of a range.
-use Rattle.std.proofs.Common.{ℕ, ◌≢◌, ◌+◌, subst, inl, inr, arith, ◌≡◌, ◌/◌, ◌%◌, ◌<◌, ◌==◌, Bool, true, false, if◌then◌else◌, List, [], ◌∷◌, Option, Some}
-use Rattle.std.proofs.{Common.{None, refl, ap, sym, ◌∙◌, eqb-true}, lemmas.{Bool.{Decides.eqb_tells, false≢true}, Option.{none-some, same_Some}}}
-use Rattle.pas_machine.specs.{Places.IsEach, Machine.{Run, MayGive, Bears}, State.{Live, live_in, gives_in, ends_in, deed_in, backed_in, touches}}
-use Rattle.pas_machine.specs.Laws.{AreApart, IsWhere, IsCounted, AreCounted, AreBorne}
+use Rattle.std.proofs.Common.{ℕ, ◌≢◌, ◌+◌, arith, ◌≡◌, ◌/◌, ◌%◌, ◌<◌, ◌==◌, Bool, true, false, if◌then◌else◌, List, [], ◌∷◌, Option, Some, None, refl, ap, sym}
+use Rattle.std.proofs.{Common.{◌∙◌, eqb-true}, lemmas.{Bool.{Decides.eqb_tells, false≢true}, Option.{none-some, same_Some}}}
+use Rattle.pas_machine.specs.{Places.IsEach, Machine.{Run, MayGive, Bears}, State.{Live, live_in, gives_in, ends_in, deed_in, backed_in}, Laws.AreApart}
+use Rattle.pas_machine.specs.Laws.{IsWhere, IsCounted, AreCounted, AreBorne}
 use Rattle.pas_profile.specs.{declared.{profile.Profile.Profile, directory.Directory.Directory, name.Block.Block, event.Event.Event}, Blocks.address_of}
 use Rattle.pas_profile.specs.Blocks.{grain_of, length_of}
-use Rattle.pas_bits.{specs.Runs.{in_run, meets_page}, proofs.Runs.{first_of_run, run_meets}}
+use Rattle.pas_bits.{specs.Runs.in_run, proofs.Runs.{first_of_run, run_meets}}
 
 -- What is so of each number of a range, and of the next one, is so of the range up to that.
 pub each_more : (from until : ℕ) (P : ℕ → Type 0) → IsEach from until P → P until → IsEach from (until + 1) P
 each_more from until P before last n low high = search (arith, eqb_tells)
 
 -- ---- what holds of each block that is given holds of each live block
-given_if : (P : ℕ → Live → Type 0) (t : Bool) (a k : ℕ) (block : Block) (old : Option Live) (b : Live) → (address_of block.name == a) ≡ t
-    → P (address_of block.name) (record { actor = k; block = block }) → ((b : Live) → old ≡ Some b → P a b)
-    → (if t then Some (record { actor = k; block = block }) else old) ≡ Some b → P a b
-given_if P t a k block old b e new before h = grind (arith, same_Some, eqb-true)
-
 ended_if : (P : Live → Type 0) (t : Bool) (old : Option Live) (b : Live) → ((b : Live) → old ≡ Some b → P b) → (if t then None else old) ≡ Some b → P b
 ended_if P t old b before h = grind (arith, none-some)
 
@@ -24,7 +19,7 @@ each_live : (f : Profile) (P : ℕ → Live → Type 0)
     → ((es : List Event) (k : ℕ) (block : Block) → MayGive f es block → P (address_of block.name) (record { actor = k; block = block }))
     → (es : List Event) → Run f es → (a : ℕ) (b : Live) → live_in es a ≡ Some b → P a b
 each_live f P new [] run a b h = absurd (none-some _ h)
-each_live f P new (Event.Give k block ∷ es) run a b h = let rest = each_live f P new es run.1 a in grind (arith, rest, given_if)
+each_live f P new (Event.Give k block ∷ es) run a b h = let rest = each_live f P new es run.1 a in grind (arith, rest, same_Some, eqb-true)
 each_live f P new (Event.End k name e ∷ es) run a b h = ended_if (P a) (address_of name == a) (live_in es a) b (each_live f P new es run.1 a) h
 each_live f P new (e ∷ es) run a b h = each_live f P new es run.1 a b h
 

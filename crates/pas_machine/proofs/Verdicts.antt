@@ -1,12 +1,11 @@
 -- Which events may come next, why others may not, and what a machine keeps.
 use Rattle.std.proofs.Common.{◌≡◌, ◌≢◌, ℕ, ◌+◌, ◌/◌, ◌%◌, ◌<◌, ◌≤◌, ◌⊎◌, ◌==◌, Bool, true, false, if◌then◌else◌, List, [], ◌∷◌, Option, Some, None, refl, ap}
-use Rattle.std.proofs.Common.{sym, ◌∙◌, subst, arith, inl, inr, ◌-◌, ◌*◌, length, get_or, is_some, replicate, set, get_or-set_same, get_or-set_other, ltb-true}
-use Rattle.std.proofs.{Common.{ltb-false, eqb-true, eq-eqb, ne_eqb, nat_lt, MatchBool}, lemmas.Bool.{false≢true, true_from_ne_false, false_from_ne_true}}
-use Rattle.std.proofs.lemmas.{Bool.Decides.{eqb_tells, leb_tells, nat_tests}, Option.{none-some, same_Some}, List.{get_or_default, get_or-replicate}}
-use Rattle.std.{proofs.Math.Logic.{∥∥₁_elim, ∥∥₁_map}, specs.Coded.le_prop}
+use Rattle.std.proofs.Common.{sym, ◌∙◌, subst, arith, inl, inr, ◌-◌, ◌*◌, length, get_or, is_some, set, get_or-set_same, get_or-set_other, ltb-true, ltb-false}
+use Rattle.std.proofs.{Common.{eqb-true, eq-eqb, ne_eqb, nat_lt, MatchBool}, lemmas.Bool.{false≢true, true_from_ne_false, false_from_ne_true}}
+use Rattle.std.proofs.{lemmas.{Bool.Decides.{eqb_tells, leb_tells, nat_tests}, Option.{none-some, same_Some}, List.get_or_default}, Math.Logic.∥∥₁_map}
 use Rattle.pas_profile.specs.declared.{profile.Profile.Profile, directory.Directory.Directory, name.{Address.Address, Name.Name, Block.Block}}
 use Rattle.pas_profile.specs.{declared.event.{Event.Event, Why.Why}, Profiles.IsPage, Blocks.{address_of, grain_of, length_of}}
-use Rattle.pas_bits.{specs.Runs.{in_run, meets_page}, proofs.Runs.{first_of_run, run_of, to_run, run_meets, met, to_meet, IsMet}}
+use Rattle.pas_bits.{specs.Runs.{in_run, meets_page}, proofs.Runs.{first_of_run, run_of, to_run, run_meets, met, to_meet}}
 use Rattle.pas_machine.specs.{State.{Live, deed_in, backed_in, live_in, gives_in, ends_in, epoch_in, touches}, Machine.{Run, Admits, MayGive, Bears, IsLive}}
 use Rattle.pas_machine.specs.{Machine.{HasOtherRoom, IsReason, IsPlace}, Reasons.{reason_number, Applies, IsFirst, IsVerdict, IsOutside, IsNoPlace, IsNoRun}}
 use Rattle.pas_machine.specs.{Reasons.{IsGrainOf, HasDeedOf, Covers}, declared.{fault.Illegal.Illegal, places.{Page.Page, Place.Place}}, Laws.IsCounted}
@@ -39,14 +38,11 @@ page_of : (f : Profile) (page : ℕ) → (IsOutside f page → ⊥) → IsPage f
 page_of f page never = (le_of 1 page (λ h. never (inl h)), le_of page f.pages (λ h. never (inr h)))
 
 -- A page of the region isn't outside of it.
-not_outside : (f : Profile) (page : ℕ) → IsPage f page → IsOutside f page → ⊥
+pub not_outside : (f : Profile) (page : ℕ) → IsPage f page → IsOutside f page → ⊥
 not_outside f page is e = grind arith
 
 place_of : (f : Profile) (address : ℕ) → (IsNoPlace f address → ⊥) → IsPlace f address
 place_of f address never = (page_of f (address / 4096) (λ h. never (inl h)), equal_of (address % 16) 0 (λ h. never (inr h)))
-
-not_no_place : (f : Profile) (address : ℕ) → IsPlace f address → IsNoPlace f address → ⊥
-not_no_place f address is e = grind (arith, not_outside)
 
 -- ---- deeds
 -- each deed of a run is of a heap of the profile
@@ -118,12 +114,6 @@ admits_of f es (Event.End k name epoch) never = (place_of f (address_of name) (n
 admits_of f es (Event.Reject k name why) never = (place_of f (address_of name) (never Illegal.BadPage), reason_of es name why (never Illegal.WrongReason))
 
 -- ---- and where it may come next, none applies
-not_no_run : (f : Profile) (es : List Event) (block : Block) → MayGive f es block → IsNoRun f block → ⊥
-not_no_run f es block may e = grind (arith, not_outside)
-
-first_grain : (f : Profile) (es : List Event) (block : Block) → MayGive f es block → IsGrainOf block (grain_of block.name)
-first_grain f es block may = first_of_run (grain_of block.name) (length_of block) (omega (arith, may.some, may.whole))
-
 -- To an event that a run admits no reason applies.
 pub never_of : (f : Profile) (es : List Event) → Run f es → (e : Event) → Admits f es e → (reason : Illegal) → Applies f es e reason → ⊥
 never_of f es run (Event.Deed k page d) may Illegal.BadPage h = not_outside f page may.0 h
@@ -136,18 +126,18 @@ never_of f es run (Event.Unback k page epoch) may Illegal.BadPage h = not_outsid
 never_of f es run (Event.Unback k page epoch) may Illegal.NotBacked h = false≢true (sym h ∙ may.1)
 never_of f es run (Event.Unback k page epoch) may Illegal.LivesThere h = false≢true (sym (may.2 h.0) ∙ h.1)
 never_of f es run (Event.Unback k page epoch) may Illegal.TooYoung h = search arith
-never_of f es run (Event.Give k block) may Illegal.BadPage h = not_no_run f es block may h
+never_of f es run (Event.Give k block) may Illegal.BadPage h = grind (arith, not_outside)
 never_of f es run (Event.Give k block) may Illegal.BadHeap h =
-    let bears = may.bears (grain_of block.name) (first_grain f es block may) in
+    let bears = may.bears (grain_of block.name) (first_of_run (grain_of block.name) (length_of block) (omega (arith, may.some, may.whole))) in
     let heap : block.heap < f.heaps = subst (λ n. n < f.heaps) bears.of_heap (deed_heaps f es run (grain_of block.name / 256) bears.directory bears.deed) in
     let other : f.heaps ≤ block.heap = h in omega arith
 never_of f es run (Event.Give k block) may Illegal.NoDeed h = let bears = may.bears h.0 h.1 in h.2 (bears.directory, bears.deed, bears.of_heap)
 never_of f es run (Event.Give k block) may Illegal.NotBacked h = false≢true (sym h.2 ∙ (may.bears h.0 h.1).backed)
 never_of f es run (Event.Give k block) may Illegal.LivesThere h = false≢true (sym (may.clear h.2.address h.2.live h.2.lives h.0 h.2.has) ∙ h.1)
 never_of f es run (Event.Give k block) may Illegal.WrongTurn h = h may.turn
-never_of f es run (Event.End k name epoch) may Illegal.BadPage h = not_no_place f (address_of name) may.0 h
+never_of f es run (Event.End k name epoch) may Illegal.BadPage h = grind (arith, not_outside)
 never_of f es run (Event.End k name epoch) may Illegal.NotLive h = h may.1
-never_of f es run (Event.Reject k name why) may Illegal.BadPage h = not_no_place f (address_of name) may.0 h
+never_of f es run (Event.Reject k name why) may Illegal.BadPage h = grind (arith, not_outside)
 never_of f es run (Event.Reject k name why) may Illegal.WrongReason h = h may.1
 never_of f es run e may reason h = h
 
@@ -157,13 +147,9 @@ numbered n = if n == 1 then Illegal.BadPage else if n == 2 then Illegal.BadHeap 
     else if n == 5 then Illegal.BackedTwice else if n == 6 then Illegal.NotBacked else if n == 7 then Illegal.LivesThere else if n == 8 then Illegal.TooYoung
     else if n == 9 then Illegal.WrongTurn else if n == 10 then Illegal.NotLive else Illegal.WrongReason
 
--- Each reason is read back from its number: reason by reason.
-numbers_tell : (reason : Illegal) → numbered (reason_number reason) ≡ reason
-numbers_tell reason = grind arith
-
 -- Only one reason is the first that applies to an event.
 pub one_first : (f : Profile) (es : List Event) (e : Event) (reason other : Illegal) → IsFirst f es e reason → IsFirst f es e other → reason ≡ other
-one_first f es e reason other first first' = sym (numbers_tell reason) ∙ (ap numbered same ∙ numbers_tell other)
+one_first f es e reason other first first' = sym (grind arith) ∙ (ap numbered same ∙ (let it : numbered (reason_number other) ≡ other = grind arith in it))
   where
     same : reason_number reason ≡ reason_number other
     same = search (arith, le_of)
@@ -175,16 +161,17 @@ one_first f es e reason other first first' = sym (numbers_tell reason) ∙ (ap n
 long_of : (block : Block) → IsWhole block → 0 < length_of block
 long_of block is = let some : 0 < block.room = is.some in let whole : block.room % 16 ≡ 0 = is.whole in omega (arith, some, whole)
 
-ends_outside : (f : Profile) (block : Block) → IsWhole block → grains_of f < grain_of block.name + length_of block → IsNoRun f block
-ends_outside f block is high =
-    let long : 0 < length_of block = long_of block is in
-    let last : ℕ = grain_of block.name + length_of block - 1 in
-    inr (grain_of block.name + length_of block - 1, to_run (grain_of block.name) (length_of block) (grain_of block.name + length_of block - 1) (omega (arith, long)) (omega (arith, long)), inr (omega (arith, high)))
-
 -- A block is no run of the region exactly where its end is past the region's.
 pub ends_by_test : (f : Profile) (block : Block) (t : Bool) → IsWhole block → 256 ≤ grain_of block.name
     → nat_lt (256 * f.pages + 256) (grain_of block.name + length_of block) ≡ t → MatchBool t (IsNoRun f block) (IsWithin f block)
-ends_by_test f block true is low e = ends_outside f block is (ltb-true (grains_of f) (grain_of block.name + length_of block) e)
+ends_by_test f block true is low e = let long : 0 < length_of block = long_of block is in
+    let last : ℕ = grain_of block.name + length_of block - 1 in
+    inr (
+      grain_of block.name + length_of block - 1,
+      to_run (grain_of block.name) (length_of block) (grain_of block.name + length_of block - 1)
+          (omega (arith, long)) (omega (arith, long)),
+      inr (omega (arith, (ltb-true (grains_of f) (grain_of block.name + length_of block) e))),
+    )
 ends_by_test f block false is low e = (low, ltb-false (grains_of f) (grain_of block.name + length_of block) e)
 
 -- A block inside the region is a run of it.
@@ -201,10 +188,6 @@ inside_never f block is (inr h) = outside h.2
     outside : IsOutside f (h.0 / 256) → ⊥
     outside (inl low) = omega (arith, low, at.0, is.within.0)
     outside (inr high) = omega (arith, high, at.1, is.within.1)
-
--- a page in the range of a run's pages has a grain of it
-grain_on : (g n p : ℕ) → 0 < n → g / 256 ≤ p → p < (g + n + 255) / 256 → IsMet g n p
-grain_on g n p some low high = met g n p some (to_meet g n p (omega (arith, low)) (omega (arith, high)))
 
 page_on : (g n x : ℕ) → in_run g n x ≡ true → (g / 256 ≤ x / 256) × (x / 256 < (g + n + 255) / 256)
 page_on g n x h = let at = run_of g n x h in (omega (arith, at.0), omega (arith, at.1))
@@ -272,11 +255,6 @@ module _ {f : Profile} {pages : List Page} {places : List Place} {covered : List
   found_other differs live = search (arith, found_there, same_Some)
 
 -- ---- unbacks
--- a live block that has a grain of the page touches it, and the other way round
-touches_by : (f : Profile) (es : List Event) → Run f es → (page x : ℕ) → x / 256 ≡ page → Covers es x
-    → (address : ℕ) × (touches (live_in es address) page ≡ true)
-touches_by f es run page x on c = search (arith, lives_where, run_meets)
-
 touched_by : (f : Profile) (es : List Event) → Run f es → (page : ℕ) → ((x : ℕ) → 256 * page ≤ x → x < 256 * page + 256 → Covers es x → ⊥) → (address : ℕ)
     → touches (live_in es address) page ≡ true → ⊥
 touched_by f es run page never address h = by (live_in es address) refl h
@@ -291,21 +269,14 @@ touched_by f es run page never address h = by (live_in es address) refl h
         never x.grain (omega (arith, on)) (omega (arith, on)) (record { address = address; live = b; lives = is; has = x.of_run })
 
 -- The reasons that come before this one don't hold: reason by reason.
-unback_before : (f : Profile) (es : List Event) (k page epoch n : ℕ) → (1 < n → IsOutside f page → ⊥) → (6 < n → backed_in es page ≡ false → ⊥)
+pub unback_before : (f : Profile) (es : List Event) (k page epoch n : ℕ) → (1 < n → IsOutside f page → ⊥) → (6 < n → backed_in es page ≡ false → ⊥)
     → (7 < n → (a : ℕ) → touches (live_in es a) page ≡ true → ⊥)
     → (8 < n → epoch < epoch_in es page + f.age → ⊥) → (reason : Illegal) → reason_number reason < n → Applies f es (Event.Unback k page epoch) reason → ⊥
 unback_before f es k page epoch n a b c d reason lt h = grind arith
 
--- The number of each reason is below 12.
-pub number_below : (reason : Illegal) → reason_number reason < 12
-number_below reason = grind arith
-
 -- where the page was read, and is of the region
-backed_now : (es : List Event) (page : ℕ) (p : Page) → p ≡ page_in es page → p.backed ≡ true → backed_in es page ≡ false → ⊥
+pub backed_now : (es : List Event) (page : ℕ) (p : Page) → p ≡ page_in es page → p.backed ≡ true → backed_in es page ≡ false → ⊥
 backed_now es page p is backed h = false≢true (sym h ∙ (ap (λ (q : Page). q.backed) (sym is) ∙ backed))
-
-covered_at : (es : List Event) (x : ℕ) (t : Bool) → IsCovered es x t → t ≡ true → Covers es x
-covered_at es x t is h = grind (arith, false≢true)
 
 uncovered_at : (es : List Event) (x : ℕ) (t : Bool) → IsCovered es x t → t ≡ false → Covers es x → ⊥
 uncovered_at es x t is h = grind (arith, false≢true)
@@ -319,37 +290,16 @@ unback_lives f pages places covered es shows k page epoch within p is backed som
     let low : 256 * page ≤ some.0 = some.1 in
     let until : some.0 < 256 * page + 256 = some.2 in
     record {
-      applies = touches_by f es shows.run page some.0 (omega (arith, low, until)) (covered_at es some.0 (get_or covered some.0 false) (shows.covered_are some.0 (omega (arith, high, until))) some.3);
+      applies = search (arith, lives_where, run_meets);
       others = unback_before f es k page epoch 7 (λ _. not_outside f page within) (λ _. backed_now es page p is backed) (λ lt. absurd (omega (arith, lt))) (λ lt. absurd (omega (arith, lt)));
     }
 
 -- No live block touches a page without a covered grain.
-untouched : (f : Profile) (pages : List Page) (places : List Place) (covered : List Bool) (es : List Event) → Shows f pages places covered es → (page : ℕ)
+pub untouched : (f : Profile) (pages : List Page) (places : List Place) (covered : List Bool) (es : List Event) → Shows f pages places covered es → (page : ℕ)
     → IsPage f page
     → IsEach (256 * page) (256 * page + 256) (λ x. get_or covered x false ≡ false) → (a : ℕ) → touches (live_in es a) page ≡ true → ⊥
 untouched f pages places covered es shows page within each = touched_by f es shows.run page (λ x low until. let high : page ≤ f.pages = within.1 in
     uncovered_at es x (get_or covered x false) (shows.covered_are x (omega (arith, high, until))) (each x low until))
-
--- An unback of an empty page at too small an epoch is refused first because it is too young.
-pub unback_young : (f : Profile) (pages : List Page) (places : List Place) (covered : List Bool) (es : List Event) → Shows f pages places covered es
-    → (k page epoch : ℕ) → IsPage f page → (p : Page) → p ≡ page_in es page → p.backed ≡ true
-    → IsEach (256 * page) (256 * page + 256) (λ x. get_or covered x false ≡ false) → epoch < p.epoch + f.age
-    → IsFirst f es (Event.Unback k page epoch) Illegal.TooYoung
-unback_young f pages places covered es shows k page epoch within p is backed each young = record {
-  applies = subst (λ (q : Page). epoch < q.epoch + f.age) is young;
-  others = unback_before f es k page epoch 8 (λ _. not_outside f page within) (λ _. backed_now es page p is backed)
-      (λ _. untouched f pages places covered es shows page within each) (λ lt. absurd (omega (arith, lt)));
-}
-
--- No reason applies to an unback of an empty backed page at an epoch that is late enough.
-pub unback_may : (f : Profile) (pages : List Page) (places : List Place) (covered : List Bool) (es : List Event) → Shows f pages places covered es
-    → (k page epoch : ℕ) → IsPage f page → (p : Page) → p ≡ page_in es page → p.backed ≡ true
-    → IsEach (256 * page) (256 * page + 256) (λ x. get_or covered x false ≡ false) → p.epoch + f.age ≤ epoch → (reason : Illegal)
-    → Applies f es (Event.Unback k page epoch) reason → ⊥
-unback_may f pages places covered es shows k page epoch within p is backed each old reason =
-    let old' : epoch_in es page + f.age ≤ epoch = subst (λ (q : Page). q.epoch + f.age ≤ epoch) is old in
-    unback_before f es k page epoch 12 (λ _. not_outside f page within) (λ _. backed_now es page p is backed)
-    (λ _. untouched f pages places covered es shows page within each) (λ _ young. omega (arith, old', young)) reason (number_below reason)
 
 -- ---- gives
 pub give_before : (f : Profile) (es : List Event) (k : ℕ) (block : Block) (n : ℕ) → (1 < n → IsNoRun f block → ⊥) → (2 < n → f.heaps ≤ block.heap → ⊥)
@@ -366,7 +316,7 @@ first_page block = grain_of block.name / 256
 abbrev pub until_page : Block → ℕ
 until_page block = (grain_of block.name + length_of block + 255) / 256
 
-page_within : (f : Profile) (block : Block) → IsWithin f block → (x : ℕ) → IsGrainOf block x → (x / 256 ≤ f.pages) × (x < grains_of f)
+pub page_within : (f : Profile) (block : Block) → IsWithin f block → (x : ℕ) → IsGrainOf block x → (x / 256 ≤ f.pages) × (x < grains_of f)
 page_within f block within x has = search (arith, run_of)
 
 -- what the machine was asked of each page and each grain of the run
@@ -376,7 +326,8 @@ module _ {f : Profile} {pages : List Page} {places : List Place} {covered : List
   pub some_page : (P : Page → Type 0) → IsSome (first_page block) (until_page block) (λ page. P (get_or pages page blank_page))
       → (x : ℕ) × IsGrainOf block x × P (page_in es (x / 256))
   some_page P some =
-      let x = grain_on (grain_of block.name) (length_of block) some.0 (long_of block is.whole) some.1 some.2 in
+      let x = met (grain_of block.name) (length_of block) some.0 (long_of block is.whole)
+      (to_meet (grain_of block.name) (length_of block) some.0 (omega (arith, some.1)) (omega (arith, some.2))) in
       let within : some.0 ≤ f.pages = subst (λ n. n ≤ f.pages) x.of_page (page_within f block is.within x.grain x.of_run).0 in
       (x.grain, x.of_run, subst P (shows.pages_are some.0 within ∙ ap (page_in es) (sym x.of_page)) some.3)
 
@@ -385,11 +336,6 @@ module _ {f : Profile} {pages : List Page} {places : List Place} {covered : List
       → P (page_in es (x / 256))
   each_page P each x has =
       search (arith, page_on, page_within)
-
-  -- Where some grain of a block is marked as covered, a live block covers it.
-  pub some_lives : IsSome (grain_of block.name) (grain_of block.name + length_of block) (λ x. get_or covered x false ≡ true)
-      → (x : ℕ) × IsGrainOf block x × Covers es x
-  some_lives some = search (arith, to_run, covered_at, page_within)
 
   -- Where no grain of a block is marked as covered, no live block covers any.
   pub none_lives : IsEach (grain_of block.name) (grain_of block.name + length_of block) (λ x. get_or covered x false ≡ false) → (x : ℕ) → IsGrainOf block x
@@ -410,43 +356,21 @@ place_at f pages places covered es shows block is =
     place_is f pages places covered es shows (grain_of block.name) (omega (arith, is.within.1, long_of block is.whole))
 
 -- a live block ends within the region
-live_within : (f : Profile) (es : List Event) → Run f es → (a : ℕ) (b : Live) → live_in es a ≡ Some b → a / 16 + length_of b.block ≤ grains_of f
+pub live_within : (f : Profile) (es : List Event) → Run f es → (a : ℕ) (b : Live) → live_in es a ≡ Some b → a / 16 + length_of b.block ≤ grains_of f
 live_within f es run a b is =
     let long : 0 < length_of b.block = live_long f es run a b is in
     let last : in_run (a / 16) (length_of b.block) (a / 16 + length_of b.block - 1) ≡ true = to_run (a / 16) (length_of b.block) (a / 16 + length_of b.block - 1) (omega (arith, long)) (omega (arith, long)) in
     let on : (a / 16 + length_of b.block - 1) / 256 ≤ f.pages = (all_borne f es run a b is (a / 16 + length_of b.block - 1) last).exists.1 in
     omega (arith, on, long)
 
--- The live block of a name ends within the grains of the region.
-pub ends_within : (f : Profile) (pages : List Page) (places : List Place) (covered : List Bool) (name : Name) (block : Block)
-    → ∥ ((es : List Event) × Shows f pages places covered es) ∥₁
-    → ((es : List Event) → Shows f pages places covered es → IsLiveBlock es name block) → grain_of name + length_of block ≤ grains_of f
-ends_within f pages places covered name block some is = ∥∥₁_elim some le_prop (λ s.
-    let live = is s.0 s.1 in
-    subst (λ (b : Block). grain_of name + length_of b ≤ grains_of f) live.2 (live_within f s.0 s.1.run (address_of name) live.0 live.1))
-
 -- ==== What a machine keeps at its opening.
-
--- Blank tables show a region in which nothing happened.
-pub opens : (f : Profile) (pages : List Page) (places : List Place) (covered : List Bool) → pages ≡ replicate (f.pages + 1) blank_page
-    → places ≡ replicate (grains_of f) blank_place → covered ≡ replicate (grains_of f) false
-    → Shows f pages places covered []
-opens f pages places covered e e' e'' = search (arith, get_or-replicate, none-some)
 
 -- ==== What a machine keeps after an event that may come next is what the events lead to.
 
 -- ---- one element is written
-written : {X : Type 0} (xs : List X) (d : X) (i most : ℕ) (x : X) (old new : ℕ → X) → i < length xs → ((j : ℕ) → j < most → get_or xs j d ≡ old j) → x ≡ new i
-    → ((j : ℕ) → i ≢ j → old j ≡ new j)
-    → (j : ℕ) → j < most → get_or (set xs i x) j d ≡ new j
-written xs d i most x old new low before here others j within = search (arith, eqb_tells, get_or-set_same, get_or-set_other)
-
 -- ---- covered grains, where the live blocks are the same
-same_cover : (es es' : List Event) (x : ℕ) → ((a : ℕ) → live_in es' a ≡ live_in es a) → Covers es x → Covers es' x
+pub same_cover : (es es' : List Event) (x : ℕ) → ((a : ℕ) → live_in es' a ≡ live_in es a) → Covers es x → Covers es' x
 same_cover es es' x same c = record { address = c.address; live = c.live; lives = same c.address ∙ c.lives; has = c.has }
-
-same_covered : (es es' : List Event) (x : ℕ) (t : Bool) → ((a : ℕ) → live_in es' a ≡ live_in es a) → IsCovered es x t → IsCovered es' x t
-same_covered es es' x t same is = grind (arith, same_cover)
 
 -- ---- deeds, backs and unbacks
 -- an event that changes what is kept of one page alone; `after q t` is what is kept of page q after it, where t says that q is that page
@@ -465,10 +389,9 @@ module _ (f : Profile) (pages : List Page) (places : List Place) (covered : List
         may,
         record {
           run = (may, shows.run);
-          pages_are = λ q h. written pages blank_page page (f.pages + 1) (new p) (page_in es) (page_in (e ∷ es)) (omega (arith, high, same, sized))
-              (λ j l. shows.pages_are j (omega (arith, l))) here others q (omega (arith, h));
+          pages_are = λ q h. search (arith, eqb_tells, get_or-set_same, get_or-set_other);
           places_are = λ g h. shows.places_are g h ∙ places_same g;
-          covered_are = λ x h. same_covered es (e ∷ es) x (get_or covered x false) live_same (shows.covered_are x h);
+          covered_are = λ x h. grind (arith, same_cover);
         },
       )
 
@@ -493,34 +416,23 @@ module _ (f : Profile) (pages : List Page) (places : List Place) (covered : List
   unback_made epoch none k es shows = page_made es shows (Event.Unback k page epoch) (none k es shows) (λ q. record q { backed = false })
       (λ q t. record { directory = deed_in es q; backed = if t then false else backed_in es q; epoch = epoch_in es q }) (λ q. refl) (λ q. refl) (λ q. refl) (λ g. refl) (λ a. refl)
 
--- A refusal that is admitted changes nothing of the tables that show it.
-pub reject_shows : (f : Profile) (pages : List Page) (places : List Place) (covered : List Bool) (es : List Event) → Shows f pages places covered es
-    → (k : ℕ) (name : Name) (why : Why) → Admits f es (Event.Reject k name why)
-    → Shows f pages places covered (Event.Reject k name why ∷ es)
-reject_shows f pages places covered es shows k name why may = search (arith, same_covered)
-
 -- ---- gives
-off_place : (a g : ℕ) → a % 16 ≡ 0 → a / 16 ≢ g → a ≢ 16 * g
-off_place a g h ne e = ne (omega (arith, h, e))
-
 -- the place of an address is written; `after g t` is what is kept of grain g after the event, where t says that the address is the grain's
 place_set : (f : Profile) (places : List Place) (es : List Event) (e : Event) (a : ℕ) (v : Place) (after : ℕ → Bool → Place) → a % 16 ≡ 0
     → a / 16 < length places → ((g : ℕ) → g < grains_of f → get_or places g blank_place ≡ place_in es g)
     → v ≡ after (a / 16) true → ((g : ℕ) → place_in es g ≡ after g false) → ((g : ℕ) → after g (a == 16 * g) ≡ place_in (e ∷ es) g) → (g : ℕ) → g < grains_of f
     → get_or (set places (a / 16) v) g blank_place ≡ place_in (e ∷ es) g
-place_set f places es e a v after aligned low are new kept now = written places blank_place (a / 16) (grains_of f) v (place_in es) (place_in (e ∷ es)) low are
-    (new ∙ ap (after (a / 16)) (sym (eq-eqb a (16 * (a / 16)) (sym (at_place a aligned)))) ∙ now (a / 16))
-    (λ g ne. kept g ∙ ap (after g) (sym (ne_eqb a (16 * g) (off_place a g aligned ne))) ∙ now g)
-
--- the range of a block
-in_range : (g n x : ℕ) → (in_run g n x ≡ true → ⊥) → x < g + n → x < g
-in_range g n x out high = elim (leb_tells g x) [ inl h ↦ absurd (out (to_run g n x h.1 high)) | inr h ↦ h.1 ]
+place_set f places es e a v after aligned low are new kept now = λ j within. search (arith, eqb_tells, get_or-set_same, get_or-set_other)
 
 -- a grain that is outside of what was marked is as it was
 unmarked : (covered covered' : List Bool) (g n x : ℕ) → ((y : ℕ) → y < g → get_or covered' y false ≡ get_or covered y false)
     → ((y : ℕ) → g + n ≤ y → get_or covered' y false ≡ get_or covered y false)
     → (in_run g n x ≡ true → ⊥) → get_or covered' x false ≡ get_or covered x false
-unmarked covered covered' g n x below above out = elim (leb_tells (g + n) x) [ inl h ↦ above x h.1 | inr h ↦ below x (in_range g n x out h.1) ]
+unmarked covered covered' g n x below above out = elim (leb_tells (g + n) x) [
+  | inl h ↦
+      above x h.1
+  | inr h ↦ below x (elim (leb_tells g x) [ inl h' ↦ absurd (out (to_run g n x h'.1 h.1)) | inr h' ↦ h'.1 ])
+]
 
 give_covered : (f : Profile) (es : List Event) → Run f es → (k : ℕ) (block : Block) → MayGive f es block → (x : ℕ) (t : Bool)
     → (in_run (grain_of block.name) (length_of block) x ≡ true → ⊥) → IsCovered es x t
@@ -546,9 +458,6 @@ new_cover es k block x has = record {
   has = has;
 }
 
-covered_by : (es : List Event) (x : ℕ) (t : Bool) → t ≡ true → Covers es x → IsCovered es x t
-covered_by es x t e c = grind (arith, false≢true)
-
 uncovered_by : (es : List Event) (x : ℕ) (t : Bool) → t ≡ false → (Covers es x → ⊥) → IsCovered es x t
 uncovered_by es x t e never = grind (arith, false≢true)
 
@@ -571,7 +480,7 @@ give_shows f pages places covered covered' es shows k block may gives is low set
   where
     by : (x : ℕ) → x < grains_of f → (t : Bool) → in_run (grain_of block.name) (length_of block) x ≡ t
         → IsCovered (Event.Give k block ∷ es) x (get_or covered' x false)
-    by x h true e = search (arith, run_of, covered_by, new_cover)
+    by x h true e = search (arith, run_of, false≢true, new_cover)
     by x h false e = search (arith, false≢true, unmarked, give_covered)
 
 -- by what was read at the block's first grain, and marked from there on

@@ -1,9 +1,9 @@
 -- The words of deeds and of lives say what they were made from, and nothing else.
-use Rattle.std.proofs.Common.{◌≡◌, ◌≢◌, ℕ, ◌-◌, ◌*◌, ◌/◌, ◌%◌, ◌^◌, ◌<◌, ◌≤◌, Bool, true, false, ltb, eqb, if◌then◌else◌, Option, None, Some, refl, ap, sym}
-use Rattle.std.proofs.{Common.{◌∙◌, arith, ltb-true, ltb-false, lt-ltb, le-ltb, eqb-true, le-leb}, lemmas.Nat.mul-add-lt}
-use Rattle.pas_profile.specs.Directories.{IsKind, kind_number, IsDirectory, number_of, deed_word_of, kind_of, with_kind, directory_read, deed_word_numbered}
+use Rattle.std.proofs.Common.{◌≡◌, ◌≢◌, ℕ, ◌-◌, ◌*◌, ◌/◌, ◌%◌, ◌^◌, ◌<◌, ◌≤◌, true, ltb, if◌then◌else◌, Option, None, Some, refl, ap, sym, ◌∙◌, arith, lt-ltb}
+use Rattle.std.proofs.{Common.{le-ltb, le-leb}, lemmas.Nat.mul-add-lt}
+use Rattle.pas_profile.specs.Directories.{IsKind, kind_number, IsDirectory, number_of, deed_word_of, kind_of, directory_read, deed_word_numbered}
 use Rattle.pas_profile.specs.{Profiles.{IsValid, IsDirectoryOf}, declared.{profile.Profile.Profile, directory.{Directory.Directory, Kind.Kind}}}
-use Rattle.pas_profile.specs.{declared.directory.Kind.TheVariants.{Class, Bitfit, Shared, Large}, Lives.{live_word, turn_of, grains_of, is_live}}
+use Rattle.pas_profile.specs.Lives.{live_word, turn_of, grains_of, is_live}
 
 -- A kind's number is below 23, and names the kind.
 
@@ -13,18 +13,6 @@ kind_number_lt k h = grind arith
 
 kind_of-kind_number : (k : Kind) → IsKind k → kind_of (kind_number k) ≡ Some k
 kind_of-kind_number k h = grind (arith, lt-ltb)
-
-abbrev Names : ℕ → Kind → Type 0
-Names n k = IsKind k × (kind_number k ≡ n)
-
--- The kind that a number chooses has that number.
-named : (small bitfit shared large : Bool) (n : ℕ) (k : Kind) → (small ≡ true → n < 20) → (bitfit ≡ true → n ≡ 20) → (shared ≡ true → n ≡ 21)
-    → (large ≡ true → n ≡ 22) →
-    (if small then Some (Class n) else (if bitfit then Some Bitfit else (if shared then Some Shared else (if large then Some Large else None)))) ≡ Some k → Names n k
-named small b c d n k p q r s e = grind arith
-
-kind_named : (n : ℕ) (k : Kind) → kind_of n ≡ Some k → Names n k
-kind_named n k e = named (ltb n 20) (eqb n 20) (eqb n 21) (eqb n 22) n k (ltb-true n 20) (eqb-true n 20) (eqb-true n 21) (eqb-true n 22) e
 
 same_kind : (a b : Kind) → IsKind a → IsKind b → kind_number a ≡ kind_number b → a ≡ b
 same_kind a b ha hb e =
@@ -55,10 +43,6 @@ same_parts a b h k = ap (λ (n : ℕ). record { heap = n; kind = a.kind }) h ∙
 pub deed_word_of-positive : (d : Directory) → deed_word_of d ≢ 0
 deed_word_of-positive d e = omega (arith, e)
 
--- a deed word is read as the directory that it was made from
-abbrev read_by : Bool → Bool → ℕ → ℕ → Option Directory
-read_by low below heap kind = if low then None else (if below then with_kind heap (kind_of kind) else None)
-
 -- The deed word of a directory reads as that directory.
 pub read-deed_word_of : (d : Directory) → IsDirectory d → directory_read (deed_word_of d) ≡ Some d
 read-deed_word_of d h =
@@ -67,18 +51,9 @@ read-deed_word_of d h =
 abbrev Records : ℕ → Directory → Type 0
 Records w d = IsDirectory d × (w ≡ deed_word_of d)
 
--- A directory that is read has the kind and the heap that were read.
-with_kind_is : (heap : ℕ) (o : Option Kind) (d : Directory) → with_kind heap o ≡ Some d → (k : Kind) × (o ≡ Some k) × (d.heap ≡ heap) × (d.kind ≡ k)
-with_kind_is heap o d e = grind arith
-
--- A deed word that is read as a directory records it.
-recorded : (low below : Bool) (w : ℕ) (d : Directory) → (low ≡ false → 65536 ≤ w) → (below ≡ true → w < 73728)
-    → read_by low below ((w - 65536) / 256) (w % 256) ≡ Some d → Records w d
-recorded low b w d p q e = grind (arith, with_kind_is, kind_named)
-
 -- a word is read as a directory only where it is that directory's deed word
 pub read_is : (w : ℕ) (d : Directory) → directory_read w ≡ Some d → Records w d
-read_is w d e = recorded (ltb w 65536) (ltb w 73728) w d (ltb-false w 65536) (ltb-true w 73728) e
+read_is w d e = grind arith
 
 not_read : (w : ℕ) (o : Option Directory) → directory_read w ≡ o → ((d : Directory) → IsDirectory d → w ≢ deed_word_of d) → o ≡ None
 not_read w o e h = grind (arith, read_is)

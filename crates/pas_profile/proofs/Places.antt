@@ -8,19 +8,9 @@ use Rattle.pas_profile.specs.Layouts.{word_major}
 both : (x y : Word) → word_kind x ≡ word_kind y → word_minor x ≡ word_minor y → word_major x ≡ word_major y → same_word x y ≡ true
 both x y k i j = search (arith, and_from, eq-eqb)
 
--- the word of these three numbers
-abbrev word_from : ℕ → ℕ → ℕ → Word
-word_from kind i j =
-    if kind == 0 then Word.Epoch else (if kind == 1 then Word.Free j i else (if kind == 2 then Word.Life j i else (if kind == 3 then Word.Deed j else (
-    if kind == 4 then Word.Backed j else (if kind == 5 then Word.Stamp j else (if kind == 6 then Word.Parked j else (if kind == 7 then Word.Empty j else Word.Eligible i j)))))))
-
--- Each word is read back from its numbers: kind by kind.
-from_numbers : (w : Word) → word_from (word_kind w) (word_minor w) (word_major w) ≡ w
-from_numbers s = grind arith
-
 -- two words that are the same by their numbers are equal
 pub same_word-true : (x y : Word) → same_word x y ≡ true → x ≡ y
-same_word-true x y h = search (arith, and_parts, from_numbers, eqb-true)
+same_word-true x y h = search (arith, and_parts, eqb-true)
 
 -- every place is below the number of words
 pub index_lt : (pages heaps : ℕ) (w : Word) → IsWordIn pages heaps w → index_of pages w < words_of pages heaps

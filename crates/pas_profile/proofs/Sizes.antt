@@ -1,8 +1,8 @@
 -- Sizes of classes, of all and of those of a region, and the search of the class list.
-use Rattle.std.proofs.Common.{◌≡◌, ℕ, zero, suc, ◌<◌, Bool, true, ◌&&◌, refl, ◌≤◌, ◌==◌, nat_le, leb, length, get_or, arith, inl, inr, ◌+◌, ◌*◌, ◌%◌, max, ltb}
-use Rattle.std.proofs.Common.{eqb, false, if◌then◌else◌, List, drop, Some, None, ap, sym, ◌∙◌, subst, length-take, length-take-le, get_or-take, leb-true}
-use Rattle.std.proofs.{Common.{eqb-true, lt-ltb, le-ltb, le-leb, ◌/◌, [], ◌∷◌, Option, div-add-mod', eq-eqb}, lemmas.Bool.{Decides.Decides-below_and, cases_lt}}
-use Rattle.std.proofs.lemmas.{Bool.{or_cases, or_left, or_right, and_parts, lt-leb, and_left, and_from, cases_Bool, false≢true}, List.{get_or_past, drop_all}}
+use Rattle.std.proofs.Common.{◌≡◌, ℕ, zero, suc, ◌<◌, Bool, true, ◌&&◌, refl, ◌≤◌, ◌==◌, leb, length, get_or, arith, inl, inr, ◌+◌, ◌*◌, ◌%◌, max, ltb, eqb}
+use Rattle.std.proofs.Common.{false, if◌then◌else◌, List, drop, Some, None, ap, sym, ◌∙◌, subst, length-take, length-take-le, get_or-take, leb-true, eqb-true}
+use Rattle.std.proofs.{Common.{lt-ltb, le-ltb, le-leb, ◌/◌, [], ◌∷◌, Option, div-add-mod', eq-eqb}, lemmas.Bool.{Decides.Decides-below_and, cases_lt, or_cases}}
+use Rattle.std.proofs.lemmas.{Bool.{or_left, or_right, and_parts, lt-leb, and_left, and_from, cases_Bool, false≢true}, List.{get_or_past, drop_all}}
 use Rattle.std.{proofs.{lemmas.Nat.Gcd.{dvd_of_mod-eq-zero, mod-eq-zero_of_dvd}, Math.{Seq.drop-cons, Nat.{dvd-add, dvd-mul_left_of_dvd}}}, specs.Int.◌∣◌}
 use Rattle.pas_profile.specs.Classes.{class_sizes, IsClass, class_size, sizes_of, IsClassCount, class_grains, usable_grains, IsSlotStart}
 use Rattle.pas_profile.specs.{Profiles.AreClassesFor, Routes.{first_class, route_of, route_with, route_without_class, Suits, IsSmallest, NoneSuits, IsRouteOf}}
@@ -30,10 +30,6 @@ of_each_class test = passes_below test 20
 pub class_passes : (test : ℕ → Bool) → of_each_class test ≡ true → (class : ℕ) → IsClass class → test class ≡ true
 class_passes test all class is = passes_at test 20 class all is
 
--- what has a size is a class
-class_from_size : (class : ℕ) → 1 ≤ class_size class → IsClass class
-class_from_size class some = search (arith, cases_lt, get_or_past)
-
 -- The size of each class is at most 1,024 bytes.
 pub class_size_le : (class : ℕ) → class_size class ≤ 1024
 class_size_le class = search (arith, cases_lt, leb-true, class_passes, leb, get_or_past)
@@ -49,9 +45,6 @@ count_of pages classes is = search (arith, or_cases, or_right, or_left, and_part
 -- There are at most so many sizes as classes.
 sizes_le : (classes : ℕ) → length (sizes_of classes) ≤ classes
 sizes_le classes = omega (arith, length-take classes class_sizes)
-
-sizes_are : (classes : ℕ) → classes ≤ 20 → length (sizes_of classes) ≡ classes
-sizes_are classes few = length-take-le classes class_sizes few
 
 -- The size in the list at a class is the size of that class.
 size_at : (classes class : ℕ) → class < classes → get_or (sizes_of classes) class 0 ≡ class_size class
@@ -77,11 +70,6 @@ passed_over cs i size align e = elim (cases_lt i (length cs)) [
   | inr past ↦ cc (drop_all (i + 1) cs (omega (arith, past)), drop_all i cs past)
 ]
 
--- a class that suits is found
-found_here : (cs : List ℕ) (i size align : ℕ) → i < length cs → suits (get_or cs i 0) size align ≡ true → first_class (drop i cs) i size align ≡ Some i
-found_here cs i size align h e =
-    one_step cs i i size align h ∙ ap (λ b. if b then Some i else first_class (drop (suc i) cs) (i + 1) size align) e
-
 -- classes that are too small are passed over
 small_ones : (cs : List ℕ) (size align i : ℕ) → ((k : ℕ) → k < i → get_or cs k 0 < size) →
     first_class (drop i cs) i size align ≡ first_class cs 0 size align
@@ -101,21 +89,8 @@ parts_at grains k =
 abbrev parts_with : ℕ → Bool
 parts_with grains = leb (get_or CLASS_BY_GRAINS grains 0) 19 && passes_below (λ k. parts_at grains k) 20
 
-parts_all : passes_below parts_with 65 ≡ true
-parts_all = refl
-
 abbrev AtTable : ℕ → ℕ → Type 0
 AtTable grains first = (first ≤ 19) × ((k : ℕ) → k < first → class_size k + 16 ≤ 16 * grains) × ((k : ℕ) → first ≤ k → k < 20 → 16 * max grains 1 ≤ class_size k)
-
-at_table : (grains : ℕ) → grains < 65 → AtTable grains (get_or CLASS_BY_GRAINS grains 0)
-at_table grains h =
-    let both = and_parts (leb (get_or CLASS_BY_GRAINS grains 0) 19) (passes_below (λ k. parts_at grains k) 20) (passes_at parts_with 65 grains parts_all h) in
-    let each : (k : ℕ) → k < 20 → parts_at grains k ≡ true = λ k lt. passes_at (λ k. parts_at grains k) 20 k both.1 lt in
-    let top : get_or CLASS_BY_GRAINS grains 0 ≤ 19 = leb-true _ _ both.0 in (
-      top,
-      (λ k lt. leb-true _ _ (rw lt-ltb at (each k (omega (arith, lt, top))))),
-      (λ k ge lt. leb-true _ _ (rw le-ltb at (each k lt))),
-    )
 
 -- the search from the table's class on answers as the whole search, and the classes from it on are large enough
 pub record BeginsAt (classes size align first : ℕ) : Type 0 where
@@ -132,13 +107,22 @@ begins classes size align grains first low high t = record {
 -- The table by grains tells where the search for a size's class may begin.
 pub begins_at : (classes size align grains : ℕ) → grains < 65 → size ≤ 16 * grains → 16 * grains < size + 16
     → BeginsAt classes size align (get_or CLASS_BY_GRAINS grains 0)
-begins_at classes size align grains few low high = begins classes size align grains _ low high (at_table grains few)
+begins_at classes size align grains few low high = begins classes size align grains _ low high
+    (let both = and_parts (leb (get_or CLASS_BY_GRAINS grains 0) 19) (passes_below (λ k. parts_at grains k) 20) (passes_at parts_with 65 grains refl few) in
+    let each : (k : ℕ) → k < 20 → parts_at grains k ≡ true = λ k lt. passes_at (λ k. parts_at grains k) 20 k both.1 lt in
+    let top : get_or CLASS_BY_GRAINS grains 0 ≤ 19 = leb-true _ _ both.0 in (
+      top,
+      (λ k lt. leb-true _ _ (rw lt-ltb at (each k (omega (arith, lt, top))))),
+      (λ k ge lt. leb-true _ _ (rw le-ltb at (each k lt))),
+    ))
 
 -- a class of the region that suits is found where the search has come to it
 pub found_at : (classes class size align : ℕ) → classes ≤ 20 → class < classes → suits (class_size class) size align ≡ true
     → first_class (drop class (sizes_of classes)) class size align ≡ Some class
 found_at classes class size align few lt e =
-    found_here (sizes_of classes) class size align (omega (arith, lt, sizes_are classes few)) (ap (λ c. suits c size align) (size_at classes class lt) ∙ e)
+    one_step (sizes_of classes) class class size align (omega (arith, lt, length-take-le classes class_sizes few))
+    ∙ ap (λ b. if b then Some class else first_class (drop (suc class) (sizes_of classes)) (class + 1) size align)
+    (ap (λ c. suits c size align) (size_at classes class lt) ∙ e)
 
 -- one that doesn't suit is passed over
 pub passed_at : (classes class size align : ℕ) → class < classes → suits (class_size class) size align ≡ false →
@@ -162,10 +146,6 @@ pub after_all : (classes size align class : ℕ) → classes ≤ class
     → first_class (sizes_of classes) 0 (max size 1) align ≡ None
 after_all classes size align class h e =
     sym e ∙ ap (λ (cs : List ℕ). first_class cs class (max size 1) align) (drop_all class (sizes_of classes) (omega (arith, h, sizes_le classes)))
-
--- A size of at most 2,048 bytes without a class is bit-fit.
-pub bitfit_for : (classes size align : ℕ) → size ≤ 2048 → first_class (sizes_of classes) 0 (max size 1) align ≡ None → Bitfit ≡ route_of classes size align
-bitfit_for classes size align h e = search (arith, le-leb)
 
 -- A size above 2,048 bytes is for whole pages.
 pub large_for : (classes size align : ℕ) → 2048 < size → Large ≡ route_of classes size align
@@ -213,17 +193,14 @@ slot_end class grain h s = omega (arith, s.within, usable_grains_le class h)
 pub first_slot : (class : ℕ) → IsClass class → IsSlotStart class 0
 first_slot class h = search (arith, class_passes, class_grains_le, usable_grains_ge)
 
--- Grains in rows of k, each of 16 bytes, are as many bytes as the grains.
-scaled : (k g : ℕ) → g % k ≡ 0 → g / k * (16 * k) ≡ g * 16
-scaled k g e = omega (arith, e, div-add-mod' g k)
-
 -- every slot of the class begins at a multiple of each alignment that divides the class's size
 pub slot_aligned : (class grain page align : ℕ) → IsClass class → IsSlotStart class grain → 4096 % align ≡ 0 → class_size class % align ≡ 0
     → (page * 4096 + grain * 16) % align ≡ 0
 slot_aligned class grain page align h s whole fits =
     let k = class_grains class in
     let turn : grain / k * class_size class ≡ grain * 16
-    = ap (λ n. grain / k * n) (class_size-grains class h) ∙ scaled k grain s.aligned in
+    = ap (λ n. grain / k * n) (class_size-grains class h)
+    ∙ (let it : grain / k * (16 * k) ≡ grain * 16 = omega (arith, s.aligned, div-add-mod' grain k) in it) in
     mod-eq-zero_of_dvd align (dvd-add align (dvd-mul_left_of_dvd align (dvd_of_mod-eq-zero align whole) page)
     (subst (λ n. align ∣ n) turn (dvd-mul_left_of_dvd align (dvd_of_mod-eq-zero align fits) (grain / k))))
 
@@ -308,7 +285,7 @@ class_suits classes size align class e = subst (IsRouteOf classes size align) e 
 
 -- what suits a request is a class
 pub class_known : (classes size align class : ℕ) → IsSmallest classes size align class → IsClass class
-class_known classes size align class is = class_from_size class (omega (arith, is.suits.room))
+class_known classes size align class is = search (arith, cases_lt, get_or_past)
 
 -- a route to a bit-fit page
 pub bitfit_suits : (classes size align : ℕ) → route_of classes size align ≡ Bitfit → (size ≤ 2048) × NoneSuits classes size align

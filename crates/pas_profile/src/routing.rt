@@ -1,5 +1,5 @@
 //! The route of a request, and the room that it gets.
-ghost use Rattle.std.specs.Prelude.{◌≡◌, ◌≤◌};
+ghost use Rattle.std.specs.Prelude.{◌≡◌, ◌≤◌, ◌%◌, ◌==◌};
 ghost use Rattle.pas_profile.specs.{Classes.{IsAlignment, IsClassCount}, Routes.{route_of, room_of}};
 
 use crate::classes::{CLASS_SIZES, class_size};
@@ -13,6 +13,16 @@ const CLASS_BY_GRAINS: [u8; 65] = [
     18, 18, 18, 18, 18, 18, 19, 19, 19, 19, 19, 19, 19, 19,
 ];
 
+/// Whether a size in whole grains is a multiple of the alignment. Nearly every alignment is a grain, which needs no division.
+#[inline(always)]
+fn is_multiple(size: u32, align: u32) -> bool
+    requires whole { size % 16 ≡ 0 }
+    requires align { IsAlignment align }
+    ensures { result ≡ (size % align == 0) }
+{
+    align == GRAIN_BYTES || size % align == 0
+}
+
 /// The route of a request for so many bytes at a multiple of the alignment, in a region of sixteen or twenty classes: the smallest of
 /// its classes that is large enough and a multiple of the alignment; where there is none, a bit-fit page up to 2,048 bytes, and whole
 /// pages above. At most as many steps as there are classes.
@@ -24,7 +34,7 @@ pub fn route(classes: u8, size: u32, align: u32) -> Route
     let grains = size.div_ceil(GRAIN_BYTES) as usize;
     if grains < CLASS_BY_GRAINS.len() {
         for class in CLASS_BY_GRAINS[grains]..classes {
-            if CLASS_SIZES[class as usize] % align == 0 {
+            if is_multiple(CLASS_SIZES[class as usize], align) {
                 return Route::Class(class);
             }
         }

@@ -167,10 +167,6 @@ module _ {F : Type 0} (rule : Rule F) (f : Profile) (k : ℕ) (l : Whole) (d : D
   abbrev w : Whole
   w = triples k xs ++ l
 
-  -- The list at entry is legal, since the one with the search behind it is.
-  first : Legal f l
-  first = legal_before f k xs l legal
-
   -- a page that was chosen, and of which this was read with the right
   could_serve : (p : ℕ) (kept : ℕ → Bool) → IsPage f p → FromOffered rule.no_fit d p xs ⊎ ByDeed rule.no_fit f d p xs
       → ShowsFit rule.no_fit kept f p (MaySearch d) xs xs → IsLowestOffered rule.no_fit f d l p ⊎ IsLowestBare rule.no_fit f d l p

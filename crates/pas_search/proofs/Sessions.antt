@@ -25,10 +25,6 @@ nothing_left page v w none does = record {
   clear = record { on = λ q. does.clear q (none.clear.on q) };
 }
 
--- either way at most one
-one_deed : (m : ℕ) {A B : Type 0} → (A → m ≡ 0) → (B → m ≡ 1) → A ⊎ B → m ≤ 1
-one_deed m f g either = search arith
-
 module _ {Found : Type 0} {σ σ' : Standing} {tells : Bool} {choice : Choice Found} {run : Found → Run} (d : Directory) where
   -- After the request an actor that had nothing has nothing.
   leads : (answer : Result Block NoRoom) (asks : AllocatesRun choice run d tells σ σ' answer) (v : View) → HasNothing v

@@ -1,18 +1,17 @@
 -- Values of digits, digit by digit.
 use Rattle.std.proofs.Common.{◌≡◌, ℕ, ◌+◌, ◌-◌, ◌*◌, ◌^◌, ◌<◌, ◌≤◌, nat_lt, nat_le, Bool, true, false, ◌&&◌, if◌then◌else◌, List, [], ◌∷◌, ◌++◌, Option, None}
-use Rattle.std.proofs.{Common.{Some, refl, arith, le-leb, le-ltb}, Math.Nat.pow-le-pow_right, lemmas.{Grind.pow_more, Bool.{Decides.nat_tests, and_from}}}
-use Rattle.std.proofs.lemmas.Bool.{and_parts}
-use Rattle.pas_trace.specs.Numbers.{is_digit, all_digits, value_from, is_hex, hex_value, all_hex, hex_from}
+use Rattle.std.proofs.{Common.{Some, refl, arith, le-leb}, Math.Nat.pow-le-pow_right, lemmas.Bool.{and_from, and_parts}}
+use Rattle.pas_trace.specs.Numbers.{is_digit, all_digits, value_from, is_hex, all_hex, hex_from}
 
 -- the value of digits that follow a value, if they are digits and it is below 2^64
 abbrev pub value_after : ℕ → List ℕ → Option ℕ
 value_after v bs = if all_digits bs && nat_lt (value_from v bs) 18446744073709551616 then Some (value_from v bs) else None
 
-value-grows : (v : ℕ) (bs : List ℕ) → v ≤ value_from v bs
+pub value-grows : (v : ℕ) (bs : List ℕ) → v ≤ value_from v bs
 value-grows v [] = omega arith
 value-grows v (b ∷ bs) = omega (arith, value-grows (10 * v + (b - 48)) bs)
 
-if-false : (x y : Bool) (o : Option ℕ) → y ≡ false → (if x && y then o else None) ≡ None
+pub if-false : (x y : Bool) (o : Option ℕ) → y ≡ false → (if x && y then o else None) ≡ None
 if-false true y o e = rw e refl
 if-false false y o e = refl
 
@@ -23,14 +22,6 @@ digit-is b lo hi = and_from (nat_le 48 b) (nat_le b 57) (le-leb 48 b lo) (le-leb
 -- One digit more makes the value ten times as large, and adds the digit.
 pub value-step : (v b : ℕ) (bs : List ℕ) → 48 ≤ b → b ≤ 57 → value_after v (b ∷ bs) ≡ value_after (10 * v + (b - 48)) bs
 value-step v b bs lo hi = let e : is_digit b ≡ true = digit-is b lo hi in rw e refl
-
--- Digits whose value comes to 2^64 or more are no number.
-pub value-large : (v b : ℕ) (bs : List ℕ) → 18446744073709551616 ≤ 10 * v + (b - 48) → value_after v (b ∷ bs) ≡ None
-value-large v b bs ge = search (arith, if-false, le-ltb, value-grows)
-
--- A value below 2^64 without a digit left is that value.
-pub value-end : (v : ℕ) → v < 18446744073709551616 → value_after v [] ≡ Some v
-value-end v lt = grind arith
 
 -- one digit more at the end
 pub digits-add : (ds : List ℕ) (d : ℕ) → all_digits ds ≡ true → is_digit d ≡ true → all_digits (ds ++ d ∷ []) ≡ true
@@ -46,42 +37,23 @@ value-add n (b ∷ ds) d = value-add (10 * n + (b - 48)) ds d
 abbrev pub hex_after : ℕ → List ℕ → Option ℕ
 hex_after v bs = if all_hex bs then Some (hex_from v bs) else None
 
--- One hexadecimal digit more makes the value sixteen times as large, and adds the digit.
-pub hex-step : (v b : ℕ) (bs : List ℕ) → is_hex b ≡ true → hex_after v (b ∷ bs) ≡ hex_after (16 * v + hex_value b) bs
-hex-step v b bs e = rw e refl
-
 -- A byte that is no hexadecimal digit makes the value none.
 pub hex-stop : (v b : ℕ) (bs : List ℕ) → is_hex b ≡ false → hex_after v (b ∷ bs) ≡ None
 hex-stop v b bs e = rw e refl
 
-hex-small : (b : ℕ) → is_hex b ≡ true → hex_value b ≤ 15
-hex-small b e = grind (arith, nat_tests)
-
 -- what the code reads of a digit
-none-tested : (t : Bool) (x : ℕ) → None ≡ (if t then Some x else None) → t ≡ false
+pub none-tested : (t : Bool) (x : ℕ) → None ≡ (if t then Some x else None) → t ≡ false
 none-tested true x e = cc
 none-tested false x e = refl
 
--- A byte that reads as no hexadecimal digit is none.
-pub hex-none : (b : ℕ) → None ≡ (if is_hex b then Some (hex_value b) else None) → is_hex b ≡ false
-hex-none b e = none-tested (is_hex b) (hex_value b) e
-
-some-tested : (t : Bool) (x y : ℕ) → Some y ≡ (if t then Some x else None) → (t ≡ true) × (y ≡ x)
+pub some-tested : (t : Bool) (x y : ℕ) → Some y ≡ (if t then Some x else None) → (t ≡ true) × (y ≡ x)
 some-tested true x y e = (refl, cc)
 some-tested false x y e = cc
-
--- A byte that reads as a hexadecimal digit is one, of that value, at most 15.
-pub hex-digit : (b d : ℕ) → Some d ≡ (if is_hex b then Some (hex_value b) else None) → (is_hex b ≡ true) × (d ≡ hex_value b) × (d ≤ 15)
-hex-digit b d e = search (arith, some-tested, hex-small)
 
 -- the value stays small
 pub hex-room : (v i : ℕ) → v < 16 ^ i → i ≤ 7 → v < 268435456
 hex-room v i lt le =
     let p : 16 ^ i ≤ 16 ^ 7 = pow-le-pow_right (omega arith) le in omega (arith, lt, p)
-
--- One hexadecimal digit more of a number gives a number of one digit more.
-pub hex-more : (v d i : ℕ) → v < 16 ^ i → d ≤ 15 → 16 * v + d < 16 ^ (i + 1)
-hex-more v d i lt le = omega (arith, pow_more 16 i, lt, le)
 
 -- A number of at most eight hexadecimal digits is below 2^32.
 pub hex-bound : (v i : ℕ) → v < 16 ^ i → i ≤ 8 → v < 4294967296

@@ -1,21 +1,20 @@
 -- The operations of items follow one another soundly, and may make as many records as the items.
-use Rattle.std.proofs.Common.{◌≡◌, ℕ, ◌≢◌, ◌+◌, ◌*◌, ◌%◌, ◌<◌, ◌≤◌, ◌==◌, nat_le, ◌||◌, ◌&&◌, not, Bool, true, false, if◌then◌else◌, List, [], ◌∷◌, ◌++◌}
-use Rattle.std.proofs.Common.{length, Option, Some, None, refl, ap, sym, ◌∙◌, subst, arith, append_assoc, length-append, MatchOption, eq-eqb, ne_eqb, leb-true}
-use Rattle.std.proofs.{Common.{leb-false, ltb-true, append-nil, zero, suc, slice_index, inl, inr, map, eqb-true}, Math.{Bool.and-false, Seq.get_or-append_seam}}
-use Rattle.std.proofs.lemmas.{Bool.{and_parts, cases_lt, false≢true}, List.{length-map, get_or_append_left}}
+use Rattle.std.proofs.{lemmas.{Bool.{lt-leb, and_parts, cases_lt, false≢true}, List.{length-map, get_or_append_left}}, Common.{◌≡◌, ℕ, ◌≢◌, ◌+◌, ◌*◌, ◌%◌, ◌<◌}}
+use Rattle.std.proofs.Common.{◌≤◌, ◌==◌, nat_le, ◌||◌, ◌&&◌, not, Bool, true, false, if◌then◌else◌, List, [], ◌∷◌, ◌++◌, length, Option, Some, None, refl, ap}
+use Rattle.std.proofs.Common.{sym, ◌∙◌, subst, arith, append_assoc, length-append, MatchOption, eq-eqb, ne_eqb, leb-true, leb-false, ltb-true, append-nil, zero}
+use Rattle.std.proofs.{Common.{suc, slice_index, inl, inr, map, eqb-true}, Math.{Bool.and-false, Seq.get_or-append_seam}}
 use Rattle.pas_profile.specs.{Profiles.{IsValid, IsAdmitted}, declared.profile.Profile.Profile}
-use Rattle.pas_trace.specs.Reasons.{guard_in, is_sampled, large_requests, is_guarded, cost_of_size, cost_of_request, makes, is_named, heap_of_item, heap_of}
-use Rattle.pas_trace.specs.Reasons.{actor_of, cost_of, costs_of, cost_of_wish, records_of_chore, reason_of, actors_by, is_phase, is_named_now, thread_of}
-use Rattle.pas_trace.specs.{Reasons.{is_operation, operations_in}, Plans.{operation, operation_of, keeper_for, request_kept, kept_costs, what_wished}}
-use Rattle.pas_trace.specs.Plans.{what_of_chore, add_last, phases_in, phases_after, line_of_newest, own_costs, IsPlanOf, phases_of, ops_of, shared_in, bound_of}
-use Rattle.pas_trace.specs.{Plans.{bounds_upto, bounds_of}, Asked.{request_in, keeper_in, freed_in}, EveryPhase.{FreesItsOwn, FreeTheirOwn}, Wishes.name_made}
-use Rattle.pas_trace.specs.{Wishes.{heap_made, is_large, is_name, name_freed}, EveryPlan.{all_ops, IsThread, is_asked, asked_with, asked_after, asked_by}}
-use Rattle.pas_trace.specs.EveryPlan.{AreBelow, AreSound, AreKept, records_of_what, records_of_ops, own_records, kept_records, operations_of, IsSound}
-use Rattle.pas_trace.specs.declared.item.{Request.Request, Item.{Item, TheVariants.{Guards, NextPhase, Operates, Scavenges}}, Wish.{Wish, TheVariants.Asks}}
-use Rattle.pas_trace.specs.declared.{item.Wish.TheVariants.{Frees, FreesSized, FreesRaw, FreesRawSized, Remakes, Flushes, Stops}, plan.{Chore.Chore, Op.Op}}
-use Rattle.pas_trace.{specs.declared.plan.Plan.Plan, proofs.{ParsedItems.{IsInRange, AreChecked, parts_of}, Rooms.room_named, Costs.unguarded_cost}}
-use Rattle.pas_trace.proofs.{Costs.{guarded_cost, least_cost}, WordLines.lines_few, Telling.{bound-thread, bound-keeper}, PassedChecks.own_passed}
-use Rattle.pas_trace.proofs.PassedChecks.{guard_passed, aligns, is_not, held_both, counts_within}
+use Rattle.pas_trace.specs.Reasons.{guard_in, is_sampled, large_requests, is_guarded, cost_of_size, cost_of_request, is_named, heap_of, actor_of, cost_of}
+use Rattle.pas_trace.specs.Reasons.{costs_of, cost_of_wish, records_of_chore, reason_of, actors_by, is_phase, is_named_now, thread_of, is_operation}
+use Rattle.pas_trace.specs.{Reasons.operations_in, Plans.{operation, operation_of, keeper_for, request_kept, kept_costs, what_wished, what_of_chore, add_last}}
+use Rattle.pas_trace.specs.Plans.{phases_in, phases_after, line_of_newest, own_costs, IsPlanOf, phases_of, ops_of, shared_in, bound_of, bounds_upto, bounds_of}
+use Rattle.pas_trace.specs.{Asked.{request_in, keeper_in, freed_in}, EveryPhase.{FreesItsOwn, FreeTheirOwn}, Wishes.is_large, EveryPlan.{all_ops, IsThread}}
+use Rattle.pas_trace.specs.EveryPlan.{is_asked, asked_with, asked_after, asked_by, AreBelow, AreSound, AreKept, records_of_what, records_of_ops, own_records}
+use Rattle.pas_trace.specs.{EveryPlan.{kept_records, operations_of, IsSound}, declared.item.{Request.Request, Item.{Item, TheVariants.{Guards, NextPhase}}}}
+use Rattle.pas_trace.specs.declared.item.{Item.TheVariants.{Operates, Scavenges}, Wish.{Wish, TheVariants.{Asks, Frees, FreesSized, FreesRaw, FreesRawSized}}}
+use Rattle.pas_trace.{specs.declared.{item.Wish.TheVariants.{Remakes, Flushes, Stops}, plan.{Chore.Chore, Op.Op, Plan.Plan}}, proofs.ParsedItems.IsInRange}
+use Rattle.pas_trace.proofs.{ParsedItems.{AreChecked, parts_of}, Rooms.room_named, Costs.{unguarded_cost, guarded_cost, least_cost}, WordLines.lines_few}
+use Rattle.pas_trace.proofs.{Telling.bound-thread, PassedChecks.{own_passed, guard_passed, aligns, is_not, held_both, counts_within}}
 
 -- ---- the operations of items in one list: those before, and that of the newest item, where it is one
 abbrev pub ops_in : Profile → List Item → List Op
@@ -61,24 +60,12 @@ sharing f shared = record f { shared = shared }
 abbrev HaveHeaps : Profile → List Item → Type 0
 HaveHeaps f items = (n : ℕ) → is_named items n ≡ true → heap_of items n < f.heaps
 
-made_heap : (f : Profile) (t : ℕ) (w : Wish) (earlier : List Item) (n : ℕ) → is_name (name_made w) n ≡ true → reason_of f earlier (Operates t w) ≡ None
-    → HaveHeaps f earlier → heap_made (heap_of earlier) w < f.heaps
-made_heap f t w earlier n is passed homes = search (arith, ltb-true, own_passed)
-
--- whichever way the test goes
-name_heap : (here : Bool) (f : Profile) (i : Item) (earlier : List Item) (n : ℕ) → makes i n ≡ here → (here ≡ true → heap_of_item (heap_of earlier) i < f.heaps)
-    → HaveHeaps f earlier → is_named (i ∷ earlier) n ≡ true → heap_of (i ∷ earlier) n < f.heaps
-name_heap a f i earlier n is made homes known = search arith
-
 item_heaps : (f : Profile) (i : Item) (earlier : List Item) → reason_of f earlier i ≡ None → HaveHeaps f earlier → HaveHeaps f (i ∷ earlier)
-item_heaps f i earlier passed homes n known = search (arith, name_heap, made_heap)
+item_heaps f i earlier passed homes n known = search (arith, ltb-true, own_passed)
 
 all_heaps : (f : Profile) (items : List Item) → AreChecked f items → HaveHeaps f items
 all_heaps f [] checked = λ n known. absurd (cc)
 all_heaps f (i ∷ earlier) checked = item_heaps f i earlier checked.0.passes (all_heaps f earlier checked.1)
-
-large_size : (size : ℕ) → is_large size ≡ true → 2048 < size
-large_size size large = leb-false size 2048 (is_not (nat_le size 2048) large)
 
 -- a request that is guarded, or isn't
 request_sound : (f : Profile) (t n h s a : ℕ) (guarded : Bool) (line : ℕ) (asked : List ℕ) → IsThread f t → IsAdmitted f s a h → is_asked asked n ≡ false
@@ -94,7 +81,7 @@ item_sound f shared (Operates t (Asks n h s a)) earlier asked passed range names
     let size = leb-true s (4096 * f.pages) held.size in
     request_sound (sharing f shared) t n h s a (is_guarded earlier (Operates t (Asks n h s a))) (line_of_newest (Operates t (Asks n h s a) ∷ earlier)) asked held.thread
     (record { within = omega (arith, size); aligned = aligns a held.align; of_profile = ltb-true h f.heaps held.heap }) (names n ∙ is_not (is_named earlier n) held.fresh)
-    (λ guarded. large_size s (and_parts (is_large s) (is_sampled (guard_in earlier) (large_requests t earlier + 1)) guarded).0)
+    (λ guarded. leb-false s 2048 (is_not (nat_le s 2048) (and_parts (is_large s) (is_sampled (guard_in earlier) (large_requests t earlier + 1)) guarded).0))
 item_sound f shared (Operates t (Frees n)) earlier asked passed range names valid homes =
     let held = own_passed f earlier t (Frees n) passed in (held.thread, (names n ∙ held.known, tt), tt)
 item_sound f shared (Operates t (FreesSized n s a)) earlier asked passed range names valid homes =
@@ -117,20 +104,10 @@ item_sound f shared (Scavenges Chore.Pass) earlier asked passed range names vali
 item_sound f shared (Scavenges (Chore.Idle n)) earlier asked passed range names valid homes = (refl, range, tt)
 item_sound f shared i earlier asked passed range names valid homes = tt
 
--- what an operation of a thread, and a chore, ask for
-asks_for : (f : Profile) (heaps : ℕ → ℕ) (keeper : Option ℕ) (w : Wish) (asked : List ℕ) (n : ℕ)
-    → is_asked (asked_after (what_wished f heaps keeper w) asked) n ≡ (is_name (name_made w) n || is_asked asked n)
-asks_for f heaps keeper w asked n = search arith
-
 -- A chore asks for no name of the trace.
 asks_none : (c : Chore) (asked : List ℕ) → asked_after (what_of_chore c) asked ≡ asked
 asks_none (Chore.Tick e) asked = refl
 asks_none c asked = refl
-
--- The names that operations asked for are those of their items, with one item more, too.
-item_names : (f : Profile) (i : Item) (earlier : List Item) (asked : List ℕ) → AreNames asked earlier
-    → AreNames (asked_by asked (new_ops f i earlier)) (i ∷ earlier)
-item_names f i earlier asked names m = search (arith, asks_for, asks_none)
 
 pub record AreFollowing (f : Profile) (shared : ℕ) (items : List Item) : Type 0 where
   pub sound : AreSound (sharing f shared) [] (ops_in f items)
@@ -144,7 +121,8 @@ following f shared (i ∷ earlier) valid checked =
     let asked = asked_by [] (ops_in f earlier) in
     record {
       sound = search (arith, ops_next, sound_both, item_sound, all_heaps);
-      names = subst (λ now. AreNames now (i ∷ earlier)) (sym (ap (asked_by []) (ops_next f i earlier) ∙ asked_both [] (ops_in f earlier) (new_ops f i earlier))) (item_names f i earlier asked before.names);
+      names = subst (λ now. AreNames now (i ∷ earlier)) (sym (ap (asked_by []) (ops_next f i earlier) ∙ asked_both [] (ops_in f earlier) (new_ops f i earlier)))
+          (λ m. search (arith, asks_none));
     }
 
 -- ---- the names that they ask for are below a limit above all of them
@@ -191,34 +169,17 @@ not_none : (guard number : ℕ) (none : Bool) → (guard == 0) ≡ none → not 
 not_none guard number true is sampled = absurd (cc)
 not_none guard number false is sampled = λ zero. absurd (let same = eq-eqb guard 0 zero in cc)
 
--- a guarded item is a request for whole pages after a `guard` line
-guard_there : (earlier : List Item) (t n h s a : ℕ) → is_guarded earlier (Operates t (Asks n h s a)) ≡ true → (2048 < s) × (guard_in earlier ≢ 0)
-guard_there earlier t n h s a guarded = search (arith, and_parts, large_size, not_none)
-
 wish_records : (f : Profile) (shared : ℕ) (heaps : ℕ → ℕ) (earlier : List Item) (t : ℕ) (w : Wish)
     → records_of_what (sharing f shared) (what_wished f heaps (keeper_for f earlier (Operates t w)) w) ≤ cost_of_wish (guard_in earlier) w
-wish_records f shared heaps earlier t w = search (arith, large_records, guard_there, least_cost)
+wish_records f shared heaps earlier t w = search (arith, large_records, and_parts, leb-false, not_none, least_cost)
 
 chore_records : (f : Profile) (shared : ℕ) (c : Chore) → records_of_what (sharing f shared) (what_of_chore c) ≡ records_of_chore f c
 chore_records f shared (Chore.Tick e) = refl
 chore_records f shared c = refl
 
-item_records : (f : Profile) (shared : ℕ) (i : Item) (earlier : List Item)
-    → records_of_ops (sharing f shared) (new_ops f i earlier) ≤ cost_of f (guard_in earlier) i
-item_records f shared i earlier = search (arith, wish_records, chore_records)
-
 if_le : (t : Bool) (m n : ℕ) → m ≤ n → (if t then m else 0) + 0 ≤ (if t then n else 0)
 if_le true m n le = omega (arith, le)
 if_le false m n le = omega arith
-
-item_own : (f : Profile) (shared k : ℕ) (i : Item) (earlier : List Item)
-    → own_records (sharing f shared) k (new_ops f i earlier) ≤ (if actor_of i == k then cost_of f (guard_in earlier) i else 0)
-item_own f shared k i earlier = search (arith, if_le, wish_records, chore_records)
-
--- .. those of the scavenger are exact
-item_scavenger : (f : Profile) (shared : ℕ) (i : Item) (earlier : List Item) → reason_of f earlier i ≡ None
-    → own_records (sharing f shared) 0 (new_ops f i earlier) ≡ (if actor_of i == 0 then cost_of f (guard_in earlier) i else 0)
-item_scavenger f shared i earlier passed = search (arith, own_passed, ne_eqb, chore_records)
 
 own_more : (t : Bool) (own cost : ℕ) → own + (if t then cost else 0) ≡ (if t then own + cost else own)
 own_more true own cost = refl
@@ -230,7 +191,8 @@ all_records f shared [] = omega arith
 all_records f shared (i ∷ earlier) =
     let g = sharing f shared in
     let both = ap (records_of_ops g) (ops_next f i earlier) ∙ records_both g (ops_in f earlier) (new_ops f i earlier) in
-    omega (arith, both, item_records f shared i earlier, all_records f shared earlier)
+    let item_records : records_of_ops (sharing f shared) (new_ops f i earlier) ≤ cost_of f (guard_in earlier) i = search (arith, wish_records, chore_records) in
+    omega (arith, both, item_records, all_records f shared earlier)
 
 -- An actor's operations may make at most as many records as its items.
 all_own : (f : Profile) (shared k : ℕ) (items : List Item) → own_records (sharing f shared) k (ops_in f items) ≤ own_costs f k items
@@ -239,7 +201,8 @@ all_own f shared k (i ∷ earlier) =
     let g = sharing f shared in
     let both = ap (own_records g k) (ops_next f i earlier) ∙ own_both g k (ops_in f earlier) (new_ops f i earlier) in
     let more = own_more (actor_of i == k) (own_costs f k earlier) (cost_of f (guard_in earlier) i) in
-    omega (arith, both, more, item_own f shared k i earlier, all_own f shared k earlier)
+    let item_own : own_records (sharing f shared) k (new_ops f i earlier) ≤ (if actor_of i == k then cost_of f (guard_in earlier) i else 0) =
+    search (arith, if_le, wish_records, chore_records) in omega (arith, both, more, item_own, all_own f shared k earlier)
 
 -- The scavenger's operations may make just as many records as its items.
 all_scavenger : (f : Profile) (shared : ℕ) (items : List Item) → AreChecked f items
@@ -249,27 +212,16 @@ all_scavenger f shared (i ∷ earlier) checked =
     let g = sharing f shared in
     let both = ap (own_records g 0) (ops_next f i earlier) ∙ own_both g 0 (ops_in f earlier) (new_ops f i earlier) in
     let more = own_more (actor_of i == 0) (own_costs f 0 earlier) (cost_of f (guard_in earlier) i) in
-    omega (arith, both, more, item_scavenger f shared i earlier checked.0.passes, all_scavenger f shared earlier checked.1)
+    let item_scavenger : own_records (sharing f shared) 0 (new_ops f i earlier) ≡ (if actor_of i == 0 then cost_of f (guard_in earlier) i else 0) =
+    search (arith, own_passed, ne_eqb, chore_records) in omega (arith, both, more, item_scavenger, all_scavenger f shared earlier checked.1)
 
 -- ---- without a `guard` line they may make as many as their lines cost
 none_guarded : (earlier : List Item) (t n h s a : ℕ) → guard_in earlier ≡ 0 → is_guarded earlier (Operates t (Asks n h s a)) ≡ false
 none_guarded earlier t n h s a none = ap (λ guard. is_large s && is_sampled guard (large_requests t earlier + 1)) none ∙ and-false (is_large s)
 
-wish_exact : (f : Profile) (shared : ℕ) (heaps : ℕ → ℕ) (earlier : List Item) (t : ℕ) (w : Wish) → guard_in earlier ≡ 0
-    → records_of_what (sharing f shared) (what_wished f heaps (keeper_for f earlier (Operates t w)) w) ≡ cost_of_wish (guard_in earlier) w
-wish_exact f shared heaps earlier t w b = search (arith, none_guarded, unguarded_cost)
-
-item_exact : (f : Profile) (shared : ℕ) (i : Item) (earlier : List Item) → guard_in earlier ≡ 0
-    → records_of_ops (sharing f shared) (new_ops f i earlier) ≡ cost_of f (guard_in earlier) i
-item_exact f shared i earlier a = search (arith, wish_exact, chore_records)
-
 if_same : (t : Bool) (n : ℕ) → n ≡ (if t then n else n)
 if_same true n = refl
 if_same false n = refl
-
-own_exactly : (f : Profile) (shared k : ℕ) (i : Item) (earlier : List Item) → guard_in earlier ≡ 0
-    → own_records (sharing f shared) k (new_ops f i earlier) ≡ (if actor_of i == k then cost_of f (guard_in earlier) i else 0)
-own_exactly f shared k i earlier a = search (arith, wish_exact, chore_records, if_same)
 
 none_before : (f : Profile) (i : Item) (earlier : List Item) → reason_of f earlier i ≡ None → guard_in (i ∷ earlier) ≡ 0 → guard_in earlier ≡ 0
 none_before f (Guards n) earlier passed none = (guard_passed f earlier n passed).single
@@ -283,7 +235,8 @@ exact_records f shared (i ∷ earlier) checked none =
     let g = sharing f shared in
     let before = none_before f i earlier checked.0.passes none in
     let both = ap (records_of_ops g) (ops_next f i earlier) ∙ records_both g (ops_in f earlier) (new_ops f i earlier) in
-    omega (arith, both, item_exact f shared i earlier before, exact_records f shared earlier checked.1 before)
+    let item_exact : records_of_ops (sharing f shared) (new_ops f i earlier) ≡ cost_of f (guard_in earlier) i =
+    search (arith, none_guarded, unguarded_cost, chore_records) in omega (arith, both, item_exact, exact_records f shared earlier checked.1 before)
 
 -- Without a guard, an actor's operations may make just as many records as its items.
 exact_own : (f : Profile) (shared k : ℕ) (items : List Item) → AreChecked f items → guard_in items ≡ 0
@@ -294,7 +247,13 @@ exact_own f shared k (i ∷ earlier) checked none =
     let before = none_before f i earlier checked.0.passes none in
     let both = ap (own_records g k) (ops_next f i earlier) ∙ own_both g k (ops_in f earlier) (new_ops f i earlier) in
     let more = own_more (actor_of i == k) (own_costs f k earlier) (cost_of f (guard_in earlier) i) in
-    omega (arith, both, more, own_exactly f shared k i earlier before, exact_own f shared k earlier checked.1 before)
+    let own_exactly : own_records (sharing f shared) k (new_ops f i earlier) ≡ (if actor_of i == k then cost_of f (guard_in earlier) i else 0) = search (
+      arith,
+      none_guarded,
+      unguarded_cost,
+      chore_records,
+      if_same,
+    ) in omega (arith, both, more, own_exactly, exact_own f shared k earlier checked.1 before)
 
 -- ---- what keepers may make for them, and who they are
 kept_both : (k : ℕ) (xs ys : List Op) → kept_records k (xs ++ ys) ≡ kept_records k xs + kept_records k ys
@@ -311,17 +270,14 @@ kept_one : (f : Profile) (guarded mine : Bool) (line t k n h s a : ℕ) → (t =
 kept_one f true mine line t k n h s a is = ap (λ b. (if b then cost_of_size s else 0) + 0) is ∙ omega arith
 kept_one f false mine line t k n h s a is = ap (λ b. (if b then 0 else 0) + 0) is ∙ none_or mine
 
-item_kept : (f : Profile) (k : ℕ) (i : Item) (earlier : List Item)
-    → kept_records k (new_ops f i earlier) ≡ (if is_guarded earlier i && (actor_of i == k) then cost_of f 0 i else 0)
-item_kept f k i earlier = search (arith, kept_one, none_or)
-
 -- A keeper's operations may make just as many records as its items.
 all_kept : (f : Profile) (k : ℕ) (items : List Item) → kept_records k (ops_in f items) ≡ kept_costs f k items
 all_kept f k [] = refl
 all_kept f k (i ∷ earlier) =
     let both = ap (kept_records k) (ops_next f i earlier) ∙ kept_both k (ops_in f earlier) (new_ops f i earlier) in
     let more = own_more (is_guarded earlier i && (actor_of i == k)) (kept_costs f k earlier) (cost_of f 0 i) in
-    omega (arith, both, more, item_kept f k i earlier, all_kept f k earlier)
+    let item_kept : kept_records k (new_ops f i earlier) ≡ (if is_guarded earlier i && (actor_of i == k) then cost_of f 0 i else 0) =
+    search (arith, kept_one, none_or) in omega (arith, both, more, item_kept, all_kept f k earlier)
 
 -- each guarded request after a `guard` line has the keeper of its thread
 one_kept : (f : Profile) (guard : ℕ) (guarded : Bool) (line t n h s a : ℕ) → (guarded ≡ true → guard ≢ 0)
@@ -332,9 +288,6 @@ one_kept f guard false line t n h s a some = (tt, tt)
 keepers_both : (f : Profile) (guard : ℕ) (xs ys : List Op) → AreKept f guard xs → AreKept f guard ys → AreKept f guard (xs ++ ys)
 keepers_both f guard [] ys a b = b
 keepers_both f guard (x ∷ xs) ys a b = (a.0, keepers_both f guard xs ys a.1 b)
-
-item_keepers : (f : Profile) (i : Item) (earlier : List Item) → AreKept f (guard_in earlier) (new_ops f i earlier)
-item_keepers f i earlier = search (arith, one_kept, guard_there)
 
 -- a `guard` line stands before them all
 kept_so : (guard other place : ℕ) (o : Option ℕ) → (guard ≢ 0 → other ≢ 0) → MatchOption o (Unit {0}) (λ keeper. (keeper ≡ place) × (guard ≢ 0))
@@ -352,7 +305,8 @@ guard_more f i earlier passed some = some
 
 item_guard : (f : Profile) (i : Item) (earlier : List Item) → reason_of f earlier i ≡ None → AreKept f (guard_in (i ∷ earlier)) (new_ops f i earlier)
 item_guard f i earlier passed =
-    same_guard f (guard_in earlier) (guard_in (i ∷ earlier)) (new_ops f i earlier) (guard_more f i earlier passed) (item_keepers f i earlier)
+    same_guard f (guard_in earlier) (guard_in (i ∷ earlier)) (new_ops f i earlier) (guard_more f i earlier passed)
+    (search (arith, one_kept, and_parts, leb-false, not_none))
 
 -- The guarded requests of items that passed their checks are kept by their threads' keepers.
 all_keepers : (f : Profile) (items : List Item) → AreChecked f items → AreKept f (guard_in items) (ops_in f items)
@@ -369,15 +323,12 @@ add_few op [] = omega arith
 add_few op (p ∷ []) = omega arith
 add_few op (p ∷ q ∷ phases) = omega (arith, add_few op (q ∷ phases))
 
-after_few : (f : Profile) (heaps : ℕ → ℕ) (keeper : Option ℕ) (i : Item) (line : ℕ) (phases : List (List Op))
-    → length (phases_after f heaps keeper i line phases) ≤ length phases + 1
-after_few f heaps keeper i line phases = search (arith, length-append, add_few)
-
 -- There is at most one phase more than items.
 pub phases_within : (f : Profile) (items : List Item) → length (phases_in f items) ≤ length items + 1
 phases_within f [] = omega arith
 phases_within f (i ∷ earlier) =
-    omega (arith, after_few f (heap_of earlier) (keeper_for f earlier i) i (line_of_newest (i ∷ earlier)) (phases_in f earlier), phases_within f earlier)
+    let after_few : length (phases_after f (heap_of earlier) (keeper_for f earlier i) i (line_of_newest (i ∷ earlier)) (phases_in f earlier)) ≤ length
+    (phases_in f earlier) + 1 = search (arith, length-append, add_few) in omega (arith, after_few, phases_within f earlier)
 
 -- ==== The plan of every text is sound.
 
@@ -415,11 +366,6 @@ of_one f g guard place (Some keeper) same kept = (kept.0 ∙ ap (λ n. n + place
 of_threads : (f g : Profile) (guard : ℕ) (ops : List Op) → f.threads ≡ g.threads → AreKept g guard ops → AreKept f guard ops
 of_threads f g guard [] same kept = tt
 of_threads f g guard (op ∷ ops) same kept = (of_one f.threads g.threads guard op.actor (keeper_in op.what) same kept.0, of_threads f g guard ops same kept.1)
-
-keepers_of : (f g : Profile) (guard other : ℕ) (ops others : List Op) → f.threads ≡ g.threads → guard ≡ other → ops ≡ others → AreKept g other others
-    → AreKept f guard ops
-keepers_of f g guard other ops others threads same is kept =
-    subst (λ (os : List Op). AreKept f guard os) (sym is) (subst (λ (n : ℕ). AreKept f n others) (sym same) (of_threads f g other others threads kept))
 
 -- there are 16 at most beside the scavenger
 few_actors : (f : Profile) (i : Item) (earlier : List Item) → reason_of f earlier i ≡ None → f.threads ≤ 16 → actors_by (guard_in earlier) f.threads ≤ 16
@@ -464,7 +410,8 @@ every_plan {text} {plan} is =
       names = subst (AreBelow plan.names_limit) (sym ops) (all_below plan.names_limit [] (ops_in f is.items) (λ n asked. is.names n (sym (follow.names n) ∙ asked)));
       phases = omega (arith, many, phases, few, lines_few text);
       actors = omega (arith, known, actors_few f is.items all.checked all.valid.threads);
-      keepers = keepers_of plan.profile f plan.guard (guard_in is.items) (operations_of plan) (ops_in f is.items) threads is.guard ops (all_keepers f is.items all.checked);
+      keepers = subst (λ (os : List Op). AreKept plan.profile plan.guard os) (sym ops) (subst (λ (n : ℕ). AreKept plan.profile n (ops_in f is.items))
+          (sym is.guard) (of_threads plan.profile f (guard_in is.items) (ops_in f is.items) threads (all_keepers f is.items all.checked)));
       count = ap (λ bs. length bs) is.bounds ∙ bounds_count f is.items (actors + 1) ∙ ap (λ n. n + 1) (sym known);
       scavenger = bound 0 (omega arith) ∙ sym (ap (λ h. own_records h 0 (operations_of plan)) is.profile ∙ ap (own_records g 0) ops ∙ all_scavenger f (shared_in is.items) is.items all.checked);
       own = search (arith, bound-thread);
@@ -472,7 +419,7 @@ every_plan {text} {plan} is =
           let thread = bound-thread f is.items k some (omega (arith, le, threads)) in
           let same = ap (λ h. own_records h k (operations_of plan)) is.profile ∙ ap (own_records g k) ops ∙ exact_own f (shared_in is.items) k is.items all.checked (sym is.guard ∙ none) in
           omega (arith, bound k (omega (arith, le, threads, among)), thread, same, pages);
-      kept = search (arith, keepers_among, bound-keeper, all_kept);
+      kept = search (arith, keepers_among, ne_eqb, lt-leb, all_kept);
       total =
           search (arith, all_records);
       exact_total = search (arith, exact_records);
@@ -539,49 +486,20 @@ record HasLast (f : Profile) (items : List Item) : Type 0 where
   frees : (k : ℕ) → FreesItsOwn k (asked_in front) last
   own : HaveOwn (λ k. own_by k (asked_in front) last) items
 
--- whichever case it is
-wish_frees : (f : Profile) (heaps : ℕ → ℕ) (keeper : Option ℕ) (w : Wish) → freed_in (what_wished f heaps keeper w) ≡ name_freed w
-wish_frees f heaps keeper w = search arith
-
 chore_frees : (c : Chore) → freed_in (what_of_chore c) ≡ None
 chore_frees (Chore.Tick e) = refl
 chore_frees c = refl
-
-item_frees : (f : Profile) (i : Item) (earlier : List Item) (own : ℕ → List ℕ) → reason_of f earlier i ≡ None → HaveOwn own earlier → (k : ℕ)
-    → FreesItsOwn k (own k) (new_ops f i earlier)
-item_frees f i earlier own passed have k = search (arith, own_passed, held_both, wish_frees, chore_frees)
 
 -- ---- what a thread may free after an item
 either_same : (t : Bool) (asked : List ℕ) (n : ℕ) → is_asked asked n ≡ true → is_asked (if t then asked else asked) n ≡ true
 either_same true asked n is = is
 either_same false asked n is = is
 
--- an operation of thread t: of a name that it makes, what another thread may free is no other than before
-own_made : (f : Profile) (heaps : ℕ → ℕ) (keeper : Option ℕ) (new mine : Bool) (w : Wish) (n : ℕ) (asked : List ℕ) → is_name (name_made w) n ≡ new
-    → (new ≡ true → mine ≡ true) → (new ≡ false → is_asked asked n ≡ true)
-    → is_asked (if mine then asked_after (what_wished f heaps keeper w) asked else asked) n ≡ true
-own_made f heaps keeper a b w n asked is own old = search (arith, asks_for, false≢true)
-
 only_left : (t : Bool) → t || false ≡ true → t ≡ true
 only_left true is = refl
 only_left false is = absurd (cc)
 
-wish_own : (f : Profile) (heaps : ℕ → ℕ) (keeper : Option ℕ) (new named now : Bool) (t thread k : ℕ) (w : Wish) (n : ℕ) (asked : List ℕ)
-    → is_name (name_made w) n ≡ new → new || named ≡ true → ((k == (if new then t else thread)) || not (new || now)) ≡ true
-    → (named ≡ true → ((k == thread) || not now) ≡ true → is_asked asked n ≡ true)
-    → is_asked (if t == k then asked_after (what_wished f heaps keeper w) asked else asked) n ≡ true
-wish_own f heaps keeper a named now t thread k w n asked is known may old = search (arith, own_made, eq-eqb, eqb-true, only_left)
-
-item_own_told : (f : Profile) (i : Item) (earlier : List Item) (own : ℕ → List ℕ) → is_phase i ≡ false → HaveOwn own earlier
-    → HaveOwn (λ k. own_by k (own k) (new_ops f i earlier)) (i ∷ earlier)
-item_own_told f i earlier own other have k n may = search (arith, wish_own, asks_none, either_same)
-
 -- ---- item by item
-item_behind : (f : Profile) (i : Item) (earlier : List Item) (front : List (List Op)) (last : List Op) → is_phase i ≡ false
-    → phases_in f earlier ≡ front ++ last ∷ []
-    → phases_in f (i ∷ earlier) ≡ front ++ (last ++ new_ops f i earlier) ∷ []
-item_behind f i earlier front last other same = search (arith, append-nil, add_behind)
-
 after_other : (f : Profile) (i : Item) (earlier : List Item) → is_phase i ≡ false → reason_of f earlier i ≡ None → HasLast f earlier → HasLast f (i ∷ earlier)
 after_other f i earlier other passed at =
     let before = asked_in at.front in
@@ -590,16 +508,17 @@ after_other f i earlier other passed at =
     record {
       front = at.front;
       last = at.last ++ news;
-      same = item_behind f i earlier at.front at.last other at.same;
+      same = search (arith, append-nil, add_behind);
       fronts = at.fronts;
-      names = subst (λ now. AreNames now (i ∷ earlier)) (sym (asked_both before at.last news)) (item_names f i earlier _ at.names);
-      frees = λ k. frees_both k before at.last news (at.frees k) (item_frees f i earlier own passed at.own k);
-      own = λ k n may. subst (λ now. is_asked now n ≡ true) (sym (own_in_turn k before at.last news)) (item_own_told f i earlier own other at.own k n may);
+      names = subst (λ now. AreNames now (i ∷ earlier)) (sym (asked_both before at.last news)) (λ m. search (arith, asks_none));
+      frees = λ k. frees_both k before at.last news (at.frees k) (search (arith, own_passed, held_both, chore_frees));
+      own = λ k n may. subst (λ now. is_asked now n ≡ true) (sym (own_in_turn k before at.last news))
+          (search (arith, false≢true, eq-eqb, eqb-true, only_left, asks_none, either_same));
     }
 
-after_phase : (f : Profile) (earlier : List Item) → HasLast f earlier → HasLast f (NextPhase ∷ earlier)
-after_phase f earlier at =
-    let asked : asked_by (asked_in at.front) at.last ≡ asked_in (at.front ++ at.last ∷ []) = sym (ap (asked_by []) (all_behind at.front at.last) ∙ asked_both [] (all_ops at.front) at.last) in
+after_item : (f : Profile) (i : Item) (earlier : List Item) → reason_of f earlier i ≡ None → HasLast f earlier → HasLast f (i ∷ earlier)
+after_item f NextPhase earlier passed at = let asked : asked_by (asked_in at.front) at.last ≡ asked_in (at.front ++ at.last ∷ []) =
+    sym (ap (asked_by []) (all_behind at.front at.last) ∙ asked_both [] (all_ops at.front) at.last) in
     let names : AreNames (asked_in (at.front ++ at.last ∷ [])) earlier = subst (λ now. AreNames now earlier) asked at.names in
     record {
       front = at.front ++ at.last ∷ [];
@@ -610,9 +529,6 @@ after_phase f earlier at =
       frees = λ k. tt;
       own = λ k n may. names n ∙ may.0;
     }
-
-after_item : (f : Profile) (i : Item) (earlier : List Item) → reason_of f earlier i ≡ None → HasLast f earlier → HasLast f (i ∷ earlier)
-after_item f NextPhase earlier passed at = after_phase f earlier at
 after_item f i earlier passed at = after_other f i earlier refl passed at
 
 after_all : (f : Profile) (items : List Item) → AreChecked f items → HasLast f items

@@ -1,8 +1,8 @@
 -- Lines at the front of a text: their digits, their words, and where they end.
 use Rattle.std.proofs.Common.{◌≡◌, ◌≢◌, ℕ, ◌+◌, ◌-◌, ◌*◌, ◌^◌, ◌<◌, ◌≤◌, ◌==◌, nat_lt, Bool, true, false, if◌then◌else◌, List, [], ◌∷◌, ◌++◌, take, drop}
-use Rattle.std.proofs.Common.{length, get_or, None, Some, Ok, refl, sym, ap, ◌∙◌, arith, append_assoc, length-append, take-append-drop, length-take-le}
-use Rattle.std.proofs.{Common.{get_or-take, le-leb, lt-ltb, ne_eqb}, Math.Nat.pow-le-pow_right, lemmas.{Grind.pow_more, List.{take_rest, take_more, drop_more}}}
-use Rattle.std.proofs.lemmas.Bool.{and_from, and_parts}
+use Rattle.std.proofs.Common.{length, get_or, None, Some, Ok, refl, sym, ap, ◌∙◌, arith, append_assoc, length-append, take-append-drop, length-take-le, le-leb}
+use Rattle.std.proofs.{Common.{lt-ltb, ne_eqb}, Math.Nat.pow-le-pow_right, lemmas.{Grind.pow_more, List.{take_rest, take_more, drop_more}, Bool.and_from}}
+use Rattle.std.proofs.lemmas.Bool.{and_parts}
 use Rattle.pas_trace.specs.{Texts.{pieces, without_empty, lines_of}, FirstLines.{BeginsWith, FirstSays}, Numbers.{is_digit, all_digits, value_from, is_decimal}}
 use Rattle.pas_trace.specs.{Numbers.number_of, Items.{trace_name, item2, item5, item_of_words}, declared.item.Item.{Item, TheVariants.Operates}}
 use Rattle.pas_trace.{specs.declared.item.Wish.TheVariants.{Asks, Frees}, proofs.{Digits.{digit-is, digits-add, value-add}, WordLines.{keeps, IsLine, Lacks}}}
@@ -39,9 +39,6 @@ digits-small count value small few =
     let most : 10 ^ count ≤ 10 ^ 18 = pow-le-pow_right (omega arith) few in omega (arith, small, most)
 
 -- ---- a number and the byte after it
-decimal-from : (w : List ℕ) → all_digits w ≡ true → 0 < length w → (1 < length w → get_or w 0 0 ≢ 48) → is_decimal w ≡ true
-decimal-from a digits d head = search (arith, and_parts, and_from, le-leb)
-
 number-found : (text : List ℕ) (count value end : ℕ) → all_digits (take count text) ≡ true → value ≡ value_from 0 (take count text)
     → value < 1000000000000000000
     → 0 < count → count < length text → get_or text count 0 ≡ end → (1 < count → get_or text 0 0 ≢ 48)
@@ -49,7 +46,7 @@ number-found : (text : List ℕ) (count value end : ℕ) → all_digits (take co
 number-found text count value end digits is small some within ended head =
     let w = take count text in
     let long : length w ≡ count = length-take-le count text (omega arith) in
-    let decimal : is_decimal w ≡ true = decimal-from w digits (omega arith) (λ more e. head (omega (arith, more, long)) (sym (get_or-take count text 0 0 some) ∙ e)) in
+    let decimal : is_decimal w ≡ true = search (arith, and_parts, and_from, le-leb) in
     let fits : nat_lt (value_from 0 w) (2 ^ 64) ≡ true = lt-ltb _ _ (omega (arith, is, small)) in
     let tested = and_from _ _ decimal fits in
     record {
@@ -123,15 +120,12 @@ line-says version b text words rest item big l says =
       says = λ started. rw other (ap (item_of_words version started) whole.words_are ∙ says started);
     }
 
-name-fits : (w : List ℕ) (n : ℕ) → number_of w ≡ Some n → 1 ≤ n → n ≤ 1000000 → trace_name w ≡ Some n
-name-fits w n e lo hi = search (arith, lt-ltb, le-leb)
-
 -- A text that begins with the words of an allocation, up to a line feed, says it in its first line.
 pub allocation-first : (version : ℕ) (text t1 t2 t3 t4 rest : List ℕ) (t n h s a : ℕ) → BeginsWith text t 32 t1 → BeginsWith t1 n 32 t2 → BeginsWith t2 h 32 t3
     → BeginsWith t3 s 32 t4 → BeginsWith t4 a 10 rest → 1 ≤ n → n ≤ 1000000
     → FirstSays version (97 ∷ 32 ∷ text) (Operates t (Asks n h s a)) rest
 allocation-first version text t1 t2 t3 t4 rest t n h s a b1 b2 b3 b4 b5 lo hi =
-    let named = name-fits b2.word n b2.number lo hi in
+    let named : trace_name b2.word ≡ Some n = search (arith, lt-ltb, le-leb) in
     line-says version 97 text (b1.word ∷ b2.word ∷ b3.word ∷ b4.word ∷ b5.word ∷ []) rest _ (omega arith)
     (line-more text t t1 _ rest b1 (line-more t1 n t2 _ rest b2 (line-more t2 h t3 _ rest b3 (line-more t3 s t4 _ rest b4 (line-end t4 a rest b5)))))
     (λ started i. item5 (λ t n h s a. Operates t (Asks n h s a)) (b1.number i) (named i) (b3.number i) (b4.number i) (b5.number i))
@@ -140,5 +134,5 @@ allocation-first version text t1 t2 t3 t4 rest t n h s a b1 b2 b3 b4 b5 lo hi =
 pub free-first : (version : ℕ) (text t1 rest : List ℕ) (t n : ℕ) → BeginsWith text t 32 t1 → BeginsWith t1 n 10 rest → 1 ≤ n → n ≤ 1000000
     → FirstSays version (102 ∷ 32 ∷ text) (Operates t (Frees n)) rest
 free-first version text t1 rest t n b1 b2 lo hi =
-    let named = name-fits b2.word n b2.number lo hi in
+    let named : trace_name b2.word ≡ Some n = search (arith, lt-ltb, le-leb) in
     line-says version 102 text (b1.word ∷ b2.word ∷ []) rest _ (omega arith) (line-more text t t1 _ rest b1 (line-end t1 n rest b2)) (λ started i. item2 (λ t n. Operates t (Frees n)) (b1.number i) (named i))

@@ -63,16 +63,12 @@ said-more rare op [] all = refl
 said-more rare op (c ∷ codes) all = ap (λ o. o ∷ map (said_by (rare ++ op ∷ [])) codes) (said-here rare op c _ refl (all zero))
     ∙ ap (λ ops. said_by rare c ∷ ops) (said-more rare op codes (λ k. all (suc k)))
 
--- A code that is the place of the last operation stands for it.
-said-last : (rare : List Op) (op : Op) (code : Code) → is_rare code ≡ true → code.tail ≡ length rare → said_by (rare ++ op ∷ []) code ≡ unlined op
-said-last rare op code is last = rw (is, last) (ap unlined (get_or_at rare op [] nothing (length rare) refl))
-
 -- .. and the others stand for what they stood for.
 pub rare-added : (codes : List Code) (rare now : List Op) (op : Op) (code : Code) → ArePlaced (length rare) codes → now ≡ rare ++ op ∷ [] → is_rare code ≡ true
     → code.tail ≡ length rare → map (said_by now) codes ++ said_by now code ∷ [] ≡ map (said_by rare) codes ++ unlined op ∷ []
 rare-added codes rare now op code all e is last = ap (λ (xs : List Op). map (said_by xs) codes ++ said_by xs code ∷ []) e
     ∙ ap (λ (ops : List Op). ops ++ said_by (rare ++ op ∷ []) code ∷ []) (said-more rare op codes all)
-    ∙ ap (λ (o : Op). map (said_by rare) codes ++ o ∷ []) (said-last rare op code is last)
+    ∙ ap (λ (o : Op). map (said_by rare) codes ++ o ∷ []) (rw (is, last) (ap unlined (get_or_at rare op [] nothing (length rare) refl)))
 
 -- ==== The plan that a script is of.
 

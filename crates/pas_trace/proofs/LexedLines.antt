@@ -41,12 +41,6 @@ taken-fault : (old now new : Reader) (start : List Item) (lines : List (List ℕ
 taken-fault old now new start lines line left (Trace fault) far t = search arith
 taken-fault old now new start lines line left NoMemory far t = tt
 
--- Where no line is left, all lines are taken.
-at-end : (old now : Reader) (start : List Item) (lines left : List (List ℕ)) → SoFar old start lines now left → left ≡ []
-    → AreTaken old start lines now (Ok tt)
-at-end old now start lines left far none =
-    (far.items, far.same ∙ ap (items_from old.header (now.line + 1) far.items) none, far.tells, far.header, far.scripting)
-
 -- ---- the first line of a text
 abbrev pub left-is : (old now : Reader) (start : List Item) (lines left other : List (List ℕ)) → left ≡ other → SoFar old start lines now left
     → SoFar old start lines now other
@@ -74,10 +68,6 @@ plan-read text f all plan read p = record {
   names = p.outline.names;
 }
 
-planned : (text line rest : List ℕ) (f : Header) (all : List Item) (plan : Plan) → lines_of text ≡ line ∷ lines_of rest → header_of line ≡ Some f
-    → items_from f 2 [] (lines_of rest) ≡ Ok all → IsPlanned f all plan → IsPlanOf text plan
-planned text line rest f all plan e h i p = plan-read text f all plan (parsed-items text line rest f e h ∙ ap (with_items f) i) p
-
 from-second : (r : Reader) (rest : List ℕ) → Tells r [] → items_from r.header 2 [] (lines_of rest) ≡ items_from r.header (r.line + 1) [] (lines_of rest)
 from-second r rest t = ap (λ n. items_from r.header n [] (lines_of rest)) (sym (ap (λ n. n + 1) t.line))
 
@@ -85,7 +75,8 @@ from-second r rest t = ap (λ n. items_from r.header n [] (lines_of rest)) (sym 
 pub read-planned : (for_script : Bool) (text rest : List ℕ) (r new : Reader) (plan : Plan) → IsBegun for_script text r rest → (h : IsRead r [] rest new (Ok tt))
     → IsPlanned new.header h.0 plan → IsPlanOf text plan
 read-planned for_script text rest r new plan b h made =
-    planned text b.line rest r.header h.0 plan b.cut b.header (from-second r rest b.tells ∙ h.1) (subst (λ (g : Header). IsPlanned g h.0 plan) h.3 made)
+    plan-read text r.header h.0 plan (parsed-items text b.line rest r.header b.cut b.header ∙ ap (with_items r.header) (from-second r rest b.tells ∙ h.1))
+    (subst (λ (g : Header). IsPlanned g h.0 plan) h.3 made)
 
 -- A text that was read with a fault has that as its first.
 pub read-failed : (for_script : Bool) (text rest : List ℕ) (r new : Reader) (fault : ReadFault) → IsBegun for_script text r rest
@@ -123,10 +114,6 @@ since-anywhere : (is : Bool) (one other : Result Item Reason) (why : Reason) (it
 since-anywhere true one other why item h e = h e
 since-anywhere false one other why item h e = absurd (cc)
 
-words-anywhere : (version : ℕ) (started : Bool) (words : List (List ℕ)) (item : Item) → item_of_words version true words ≡ Ok item
-    → item_of_words version started words ≡ Ok item
-words-anywhere version started a item e = search (arith, since-anywhere, count-anywhere)
-
 comment-anywhere : (is : Bool) (blank one other : Result Item Reason) (item : Item) → (one ≡ Ok item → other ≡ Ok item) → (if is then blank else one) ≡ Ok item
     → (if is then blank else other) ≡ Ok item
 comment-anywhere true blank one other item h e = e
@@ -137,12 +124,9 @@ pub says-anywhere : (version : ℕ) (started : Bool) (line : List ℕ) (item : I
     → item_of_line version started line ≡ Ok item
 says-anywhere version started [] item e = e
 says-anywhere version started (b ∷ bs) item e = comment-anywhere (b == 35) _ (item_of_words version true (words_of (b ∷ bs)))
-    (item_of_words version started (words_of (b ∷ bs))) item (words-anywhere version started (words_of (b ∷ bs)) item) e
+    (item_of_words version started (words_of (b ∷ bs))) item (λ e. search (arith, since-anywhere, count-anywhere)) e
 
 -- ---- lines are taken apart, one after another
-pub lexed-none : (version : ℕ) (text : List ℕ) → AreLexed version text [] text
-lexed-none version text = record { lines = []; cut = refl; say = λ started. refl; few = omega arith }
-
 -- readers of one header lex alike
 pub lexed-now : (old now : Reader) (text : List ℕ) (items others : List Item) (left : List ℕ) → now.header ≡ old.header → items ≡ others
     → AreLexed old.header.version text items left
@@ -213,13 +197,9 @@ further-fault old now new start lines item items fault h takes =
     let far = left-is old now start lines h.left (f.line ∷ f.rest) f.is h.far in
     taken-fault old now new start lines _ _ fault far (takes far.items f.line far.tells (said-now old now far.header f.line item (f.says now.started)))
 
-none-left : (version : ℕ) (left : List (List ℕ)) → Say version left [] → left ≡ []
+pub none-left : (version : ℕ) (left : List (List ℕ)) → Say version left [] → left ≡ []
 none-left version [] say = refl
 none-left version (line ∷ left) say = let e = say true in absurd (cc)
-
--- Where no item is left, all lines are taken.
-pub further-end : (old now : Reader) (start : List Item) (lines : List (List ℕ)) → Further old start lines now [] → AreTaken old start lines now (Ok tt)
-further-end old now start lines h = at-end old now start lines h.left h.far (none-left old.header.version h.left h.say)
 
 -- ---- lines in front of others
 after-more : (n : ℕ) (says : Result Item Reason) (some more : Item → Result (List Item) TraceFault) (all : List Item) (result : Result (List Item) TraceFault)
@@ -260,11 +240,6 @@ after-lines old now new start lines xs ys far t =
       same = far.same ∙ ap (λ n. items_from old.header (n + 1) far.items (xs ++ ys)) line ∙ items-more old.header far.items xs ys t.0 taken ∙ ap (λ n. items_from old.header (n + 1) t.0 ys) (sym line');
     }
 
--- Lines with a fault end the taking of all lines with that fault.
-pub lines-fault : (old now new : Reader) (start : List Item) (lines xs ys : List (List ℕ)) (fault : ReadFault) (far : SoFar old start lines now (xs ++ ys))
-    → AreTaken now far.items xs new (Err fault) → AreTaken old start lines new (Err fault)
-lines-fault old now new start lines xs ys a far t = search (arith, items-fault)
-
 -- .. and those that are left
 pub all-read : (old now new : Reader) (start : List Item) (lines left : List (List ℕ)) (result : Result (Unit {0}) ReadFault)
     (far : SoFar old start lines now left)
@@ -278,19 +253,11 @@ pub lexed-far : (old now : Reader) (start : List Item) (text : List ℕ) (items 
 lexed-far old now start text items left lexed t taken = after-lines old old now start _ lexed.lines _
     (left-is old old start (lines_of text) (lines_of text) (lexed.lines ++ lines_of left) lexed.cut (at-first old start (lines_of text) t)) taken
 
--- A text whose first lines were taken is read as what is left of it is read then.
-pub lexed-read : (old now new : Reader) (start : List Item) (text : List ℕ) (items : List Item) (left : List ℕ) (result : Result (Unit {0}) ReadFault)
-    → (lexed : AreLexed old.header.version text items left) → Tells old start
-    → AreTaken old start lexed.lines now (Ok tt) → ((told : List Item) → Tells now told → IsRead now told left new result) → IsRead old start text new result
-lexed-read old now new start text items left result lexed t taken read =
-    let far = lexed-far old now start text items left lexed t taken in all-read old now new start _ _ result far (read far.items far.tells)
-
 -- A text whose first lines have a fault is read with that fault.
 pub lexed-fault : (old new : Reader) (start : List Item) (text : List ℕ) (items : List Item) (left : List ℕ) (fault : ReadFault)
     → (lexed : AreLexed old.header.version text items left) → Tells old start
     → AreTaken old start lexed.lines new (Err fault) → IsRead old start text new (Err fault)
-lexed-fault old new start text items left fault lexed t taken = lines-fault old old new start (lines_of text) lexed.lines (lines_of left) fault
-    (left-is old old start (lines_of text) (lines_of text) (lexed.lines ++ lines_of left) lexed.cut (at-first old start (lines_of text) t)) taken
+lexed-fault old new start text items left fault lexed t taken = search (arith, items-fault)
 
 -- ---- results and lists
 pub at-ok : (result : Result (Unit {0}) ReadFault) (P : Type 0) → OnOk result P → result ≡ Ok tt → P

@@ -4,10 +4,9 @@ use Rattle.std.proofs.{Common.{le-leb, ◌-◌, ◌^◌, ◌==◌, nat_lt, Resul
 use Rattle.pas_profile.specs.{Profiles.{IsValid, AreClassesFor}, declared.profile.Profile.Profile}
 use Rattle.pas_trace.specs.declared.{header.Header.Header, fault.{Reason.Reason, TraceFault.TraceFault}, item.Item.{Item, TheVariants.{Operates, Scavenges}}}
 use Rattle.pas_trace.specs.{declared.item.Wish.TheVariants.{FreesRaw, FreesRawSized}, Texts.{words_of, lines_of}, Numbers.number_of, Asked.epoch_of}
-use Rattle.pas_trace.specs.Items.{same_bytes, below, since, has_since, item1, item2, item3, item4, item5, item_of_two, item_of_six, item_by_count}
-use Rattle.pas_trace.specs.{Items.{item_of_words, item_of_line}, Reasons.{within, most_pages, header_with, header_for, header_of_words, header_of, reason_of}}
-use Rattle.pas_trace.specs.{Reasons.{kept, checked, line_says}, Plans.{after_item, items_from, Parsed, with_items, with_header, parsed, parsed_lines}}
-use Rattle.pas_trace.proofs.PassedChecks.{if_some}
+use Rattle.pas_trace.specs.Items.{same_bytes, below, since, has_since, item1, item2, item3, item4, item5, item_of_two, item_of_six, item_of_words, item_of_line}
+use Rattle.pas_trace.specs.Reasons.{within, most_pages, header_with, header_for, header_of_words, header_of, reason_of, kept, checked, line_says}
+use Rattle.pas_trace.{specs.Plans.{after_item, items_from, Parsed, with_items, with_header, parsed, parsed_lines}, proofs.PassedChecks.if_some}
 
 -- Four or five words are no header.
 pub short4 : (a b c d : List ℕ) (ws : List (List ℕ)) → length ws < 2 → header_of_words (a ∷ b ∷ c ∷ d ∷ ws) ≡ None
@@ -44,16 +43,13 @@ for_valid None p t h a f e = absurd (cc)
 for_valid (Some version) p t h a f e = numbers_valid version _ _ _ _ f (λ n. in_range 1 (most_pages version) n (number_of p))
     (λ n. in_range 1 16 n (number_of t)) (λ n. in_range 1 32 n (number_of h)) (λ n. in_range 1 1000000 n (number_of a)) e
 
-no_header : {A : Type 0} (f : Header) → None ≡ Some f → A
-no_header f bad = absurd (cc)
-
 words_valid : (ws : List (List ℕ)) (f : Header) → header_of_words ws ≡ Some f → IsValid f.profile
 words_valid (a ∷ b ∷ c ∷ d ∷ g ∷ h ∷ i ∷ j ∷ k ∷ m ∷ []) f e =
     let q = if_some (same_bytes a (codes "pas") && same_bytes c (codes "pages") && same_bytes g (codes "threads") && same_bytes i (codes "heaps") && same_bytes k (codes "age"))
     (header_for (within 1 4 (number_of b)) d h j m) f e in
     for_valid (within 1 4 (number_of b)) d h j m f q.1
-words_valid (a ∷ b ∷ c ∷ d ∷ g ∷ h ∷ i ∷ j ∷ k ∷ m ∷ n ∷ ws) f e = no_header f e
-words_valid s f e = no_header f e
+words_valid (a ∷ b ∷ c ∷ d ∷ g ∷ h ∷ i ∷ j ∷ k ∷ m ∷ n ∷ ws) f e = absurd (cc)
+words_valid s f e = absurd (cc)
 
 -- The region of a line that is a header is a valid profile.
 pub header_valid : (line : List ℕ) (f : Header) → header_of line ≡ Some f → IsValid f.profile
@@ -116,12 +112,10 @@ two_range started w a = search (arith, if_range, range1, below_lt)
 six_range : (w a b c d e : List ℕ) → IfOk (item_of_six w a b c d e) IsInRange
 six_range w a b c d e = search (arith, if_range, range5, below_lt)
 
-count_range : (started : Bool) (w : List ℕ) (more : List (List ℕ)) → IfOk (item_by_count started w more) IsInRange
-count_range started w h = search (arith, if_range, two_range, range2, range3, below_lt, range4, six_range)
-
 words_range : (version : ℕ) (started : Bool) (ws : List (List ℕ)) → IfOk (item_of_words version started ws) IsInRange
 words_range version started [] = tt
-words_range version started (w ∷ more) = if_range (has_since version (since w)) _ _ (count_range started w more) tt
+words_range version started (w ∷ more) =
+    if_range (has_since version (since w)) _ _ (search (arith, if_range, two_range, range2, range3, below_lt, range4, six_range)) tt
 
 -- The numbers of the item that a line says are within the ranges of their places.
 line_range : (version : ℕ) (started : Bool) (line : List ℕ) → IfOk (item_of_line version started line) IsInRange

@@ -2,10 +2,10 @@
 use Rattle.std.proofs.Common.{◌≡◌, ℕ, ◌*◌, ◌^◌, ◌<◌, ◌≤◌, nat_le, nat_lt, Bool, true, false, not, if◌then◌else◌, List, [], ◌∷◌, Option, None, Some, refl, arith}
 use Rattle.std.proofs.{Common.{MatchOption, ltb-true, leb-true}, lemmas.Bool.and_parts}
 use Rattle.pas_profile.specs.{Classes.IsAlignment, Profiles.IsValid, declared.profile.Profile.Profile}
-use Rattle.pas_trace.specs.{Wishes.{Sizing, heap_in, sizing_in, name_made, name_freed, holds_of, IsFit, IsFitSizing}, Reasons.{first_failed, is_thread}}
-use Rattle.pas_trace.specs.Reasons.{is_alignment, record_bound, few_enough, may_free, is_guard_number, guard_in, checks_of, reason_of, operations_in, started}
-use Rattle.pas_trace.specs.{Reasons.{is_operation, is_named, actor_of}, EveryPlan.IsThread, declared.{fault.Reason.Reason, item.Item.Item}}
-use Rattle.pas_trace.specs.declared.item.{Item.TheVariants.{Guards, Operates}, Wish.Wish}
+use Rattle.pas_trace.specs.{Wishes.{Sizing, heap_in, sizing_in, name_made, name_freed, holds_of, IsFit, IsFitSizing}, Reasons.{first_failed, is_alignment}}
+use Rattle.pas_trace.specs.Reasons.{record_bound, few_enough, may_free, is_guard_number, guard_in, checks_of, reason_of, operations_in, started, is_operation}
+use Rattle.pas_trace.specs.{Reasons.{is_named, actor_of}, EveryPlan.IsThread, declared.{fault.Reason.Reason, item.Item.{Item, TheVariants.{Guards, Operates}}}}
+use Rattle.pas_trace.specs.declared.item.Wish.{Wish}
 
 abbrev pub AreHeld : List (Bool × Reason) → Type 0
 AreHeld [] = Unit {0}
@@ -24,9 +24,6 @@ pub passes : (f : Profile) (items : List Item) (i : Item) → reason_of f items 
 passes f items i e = all_hold (checks_of f items i) e
 
 -- ---- what the checks say
-thread_within : (f : Profile) (t : ℕ) → is_thread f t ≡ true → IsThread f t
-thread_within f t e = let p = and_parts (nat_le 1 t) (nat_le t f.threads) e in (leb-true _ _ p.0, leb-true _ _ p.1)
-
 -- A number that tests as an alignment is one.
 pub aligns : (a : ℕ) → is_alignment a ≡ true → IsAlignment a
 aligns a e = search (arith, and_parts)
@@ -63,7 +60,8 @@ pub record OwnPassed (f : Profile) (items : List Item) (t : ℕ) (w : Wish) : Ty
 pub own_passed : (f : Profile) (items : List Item) (t : ℕ) (w : Wish) → reason_of f items (Operates t w) ≡ None → OwnPassed f items t w
 own_passed f items t w e =
     let held = passes f items (Operates t w) e in
-    assumption (thread_within f t held.0, counts_fit f items (Operates t w) held.1.1.1.1.1.1.1)
+    let thread_within : IsThread f t = let p = and_parts (nat_le 1 t) (nat_le t f.threads) held.0 in
+    (leb-true _ _ p.0, leb-true _ _ p.1) in assumption (thread_within, counts_fit f items (Operates t w) held.1.1.1.1.1.1.1)
 
 -- those of a `guard` line
 pub record GuardPassed (f : Profile) (items : List Item) (n : Option ℕ) : Type 0 where
@@ -91,10 +89,6 @@ pub held_both : {A : Type 0} (o : Option A) (test other : A → Bool) (P : A →
 held_both None test other P all a b = tt
 held_both (Some x) test other P all a b = all x a b
 
--- the numbers of an operation have a place in a plan
-small_heap : (f : Profile) → IsValid f → (h : ℕ) → nat_lt h f.heaps ≡ true → h < 2 ^ 8
-small_heap f valid h held = omega (arith, valid.heaps, ltb-true h f.heaps held)
-
 fit_sizing : (f : Profile) → IsValid f → (s : Sizing) → nat_le s.size (4096 * f.pages) ≡ true → is_alignment s.align ≡ true → IsFitSizing f s
 fit_sizing f valid s size align =
     let le = leb-true s.size _ size in
@@ -102,4 +96,4 @@ fit_sizing f valid s size align =
 
 -- What a thread wishes by an item that passed its checks fits a valid profile.
 pub all_fit : (f : Profile) (items : List Item) (t : ℕ) (w : Wish) → IsValid f → OwnPassed f items t w → IsFit f w
-all_fit f items t w valid p = search (arith, held_both, small_heap, fit_sizing)
+all_fit f items t w valid p = search (arith, held_both, ltb-true, fit_sizing)

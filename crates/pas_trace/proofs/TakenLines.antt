@@ -1,11 +1,11 @@
 -- A text whose lines are taken as its bytes come.
-use Rattle.std.proofs.Common.{arith, ◌≡◌, ◌≢◌, ◌≤◌, ℕ, ◌+◌, ◌++◌, List, [], ◌∷◌, Option, None, Some, Result, Ok, Err, refl, sym, ap, subst, ◌∙◌, length, true}
-use Rattle.std.proofs.Common.{append_assoc, length-append, append-nil, take, Global}
+use Rattle.std.proofs.Common.{arith, ◌≡◌, ◌≢◌, ◌≤◌, ℕ, ◌+◌, ◌++◌, List, [], ◌∷◌, Option, None, Some, Result, Ok, Err, refl, sym, ap, subst, ◌∙◌, true}
+use Rattle.std.proofs.Common.{append_assoc, length-append}
 use Rattle.pas_trace.specs.declared.{header.Header.Header, item.Item.Item, reader.Reader.Reader, fault.{TraceFault.TraceFault, ReadFault.ReadFault}}
 use Rattle.pas_trace.specs.{declared.{fault.ReadFault.TheVariants.{Trace, NoMemory}, script.Script.Script, stream.Lines.Lines}, Texts.{lines_of, IsWhole}}
 use Rattle.pas_trace.specs.{Scripts.{IsScriptOf, IsScripting}, Told.{Tells, AreTaken, IsRead, IsBegun, IsScripted}, Plans.{IsReading, Parsed, parsed}}
 use Rattle.pas_trace.specs.{Plans.{parsed_lines, with_header, with_items, items_from, line_of_newest}, Streams.{HasReadText, AreLinesOf, AreLinesAfter}}
-use Rattle.pas_trace.{specs.Streams.TakesLines, proofs.{LexedLines.{items-more, items-fault}, Gathering.text-scripted}}
+use Rattle.pas_trace.proofs.{LexedLines.{items-more, items-fault}, Gathering.text-scripted}
 use Rattle.pas_trace.specs.declared.stream.Lines.TheVariants as kind
 
 -- ---- what a text comes to, from what the lines that are left come to
@@ -32,7 +32,8 @@ with-fault : (h : Header) (read : Result (List Item) TraceFault) (fault : TraceF
 with-fault h (Err other) fault e = let same : other ≡ fault = cc in ap Err same
 with-fault h (Ok items) fault e = absurd (cc)
 
-header-fault : (h : Option Header) (lines more : List (List ℕ)) (fault : TraceFault) → with_header h lines ≡ Err fault → with_header h (lines ++ more) ≡ Err fault
+header-fault : (h : Option Header) (lines more : List (List ℕ)) (fault : TraceFault) → with_header h lines ≡ Err fault
+    → with_header h (lines ++ more) ≡ Err fault
 header-fault None lines more fault e = e
 header-fault (Some h) lines more fault e = ap (with_items h) (items-fault h 2 [] lines more fault (with-fault h (items_from h 2 [] lines) fault e))
 
@@ -71,7 +72,8 @@ begun-lines text r left (kind.Faulty (Trace fault)) whole b after =
 
 -- ---- the lines after those that were read
 -- What is said of a fault is said of no reader after it.
-pub read-no-more : (r new : Reader) (items : List Item) (text : List ℕ) (fault : ReadFault) → IsRead r items text new (Err fault) → IsRead r items text r (Err fault)
+pub read-no-more : (r new : Reader) (items : List Item) (text : List ℕ) (fault : ReadFault) → IsRead r items text new (Err fault)
+    → IsRead r items text r (Err fault)
 read-no-more r new items text (Trace fault) h = h
 read-no-more r new items text NoMemory h = tt
 
@@ -105,37 +107,10 @@ pub rest-scripted : (before rest : List ℕ) (r new : Reader) (script : Script) 
 rest-scripted before rest r new script h t made =
     text-scripted (before ++ rest) r.header t.0 script (h.goes rest ∙ ap (with_items r.header) t.1) (subst (λ (f : Header). IsScripted f t.0 script) t.3 made)
 
--- A text whose rest has a fault has that as its first.
-pub rest-wrong : (before rest : List ℕ) (r : Reader) (fault : TraceFault) (h : HasReadText before r) → items_from r.header (r.line + 1) h.items (lines_of rest) ≡ Err fault
-    → parsed (before ++ rest) ≡ Err fault
-rest-wrong before rest r fault h e = h.goes rest ∙ ap (with_items r.header) e
-
 -- .. which may want memory
 pub rest-failed : (before rest : List ℕ) (r new : Reader) (fault : ReadFault) (h : HasReadText before r) → IsRead r h.items rest new (Err fault)
     → IsScripting (before ++ rest) (Err fault)
-rest-failed before rest r new (Trace fault) h e = rest-wrong before rest r fault h e
+rest-failed before rest r new (Trace fault) h e = h.goes rest ∙ ap (with_items r.header) e
 rest-failed before rest r new NoMemory h e = tt
 
 -- ---- the bytes that come next
--- Where they have no whole line none is taken.
-pub taken-none : (old : Lines) (text : List ℕ) → TakesLines old text old 0
-taken-none old text = record { within = omega arith; taken = λ before h. subst (λ (t : List ℕ). AreLinesOf t old) (sym (append-nil before)) h }
-
--- Their whole lines are taken where none was before ..
-pub taken-first : (alloc : Global) (text : List ℕ) (new : Lines) (count : ℕ) → count ≤ length text → AreLinesOf (take count text) new
-    → TakesLines (kind.Unread alloc) text new count
-taken-first alloc text new count fits h =
-    record { within = fits; taken = λ before is. subst (λ (t : List ℕ). AreLinesOf (t ++ take count text) new) (sym is) h }
-
--- .. and after those that were read.
-pub taken-more : (r : Reader) (text : List ℕ) (new : Lines) (count : ℕ) → count ≤ length text → IsWhole (take count text) → AreLinesAfter r (take count text) new
-    → TakesLines (kind.Read r) text new count
-taken-more r text new count fits whole after = record { within = fits; taken = λ before h. more-lines before (take count text) r new whole h after }
-
--- Behind a fault all are taken.
-pub taken-faulty : (fault : ReadFault) (text : List ℕ) → TakesLines (kind.Faulty fault) text (kind.Faulty fault) (length text)
-taken-faulty fault text = record {
-  within = omega arith;
-  taken = λ before wrong rest. subst (λ (t : List ℕ). IsScripting t (Err fault)) (sym (append_assoc before (take (length text) text) rest))
-      (wrong (take (length text) text ++ rest));
-}

@@ -1,42 +1,35 @@
 -- The checks by what the reader keeps are those of the items before.
-use Rattle.std.proofs.Common.{◌≡◌, ℕ, ◌+◌, ◌*◌, nat_lt, nat_le, Bool, true, false, not, List, [], ◌∷◌, ◌++◌, Option, None, Some, Result, Ok, Err, refl, sym, ap}
-use Rattle.std.proofs.Common.{arith, ◌<◌, ◌≤◌, ◌==◌, ◌&&◌, if◌then◌else◌, length, get_or, set, ◌∙◌, eq-eqb, ne_eqb, le-leb, ◌≢◌, ◌||◌, subst, add-one, leb-true}
-use Rattle.std.proofs.{Common.{rules, ltb-true}, Math.ListN.length-set, lemmas.{Bool.{cases_eq, lt-leb, and_parts}, Nat.mul-le}}
-use Rattle.pas_trace.specs.Wishes.{heap_in, sizing_in, name_made, name_freed, holds_of, asking, is_large, asks_pages, heap_by, heap_made, is_name, IsFit}
-use Rattle.pas_trace.specs.Reasons.{first_failed, is_thread, is_alignment, guard_after, guard_in, cost_of, cost_of_request, cost_of_wish, record_bound}
-use Rattle.pas_trace.specs.Reasons.{few_enough, may_free, checks_of, reason_of, operations_in, is_named, line_says, actor_of, is_operation, is_large_request}
-use Rattle.pas_trace.specs.Reasons.{large_requests, is_sampled, is_guarded, costs_of, cost_of_size, is_guard_number, actors_by, records_of_chore, is_phase}
-use Rattle.pas_trace.specs.{Reasons.{makes, heap_of, started}, Items.item_of_line, Gathering.{HasGathered, Gathers, is_scripting}, Told.{few_told, sizing_told}}
-use Rattle.pas_trace.specs.Told.{told_checks, reason_told, has_owner, may_free_told, IsChecked, Tells, TellsSamples, IsSampled, samples_next, keeper_told}
-use Rattle.pas_trace.specs.Told.{owner_in, heap_told, NameTold, IsReady, CanSample, IsCounted, IsOperated, IsGuarding, IsAdded, IsNextPhase}
-use Rattle.pas_trace.specs.declared.{fault.Reason.Reason, item.{Request.Request, Item.{Item, TheVariants.{Guards, Operates, Scavenges, NextPhase, Shares}}}}
-use Rattle.pas_trace.specs.declared.{item.Wish.{Wish, TheVariants.Remakes}, reader.Reader.Reader, samples.Samples.Samples, header.Header.Header}
-use Rattle.pas_trace.specs.declared.{names.{Owner.Owner, Names.Names}, plan.{Chore.Chore, Op.Op, What.{What, TheVariants.Remake}}, gathered.Gathered.Gathered}
-use Rattle.pas_trace.specs.Plans.{kept_costs, keeper_for, shared_by, phases_after, phases_in, own_costs, bound_of, bounds_upto, all_bounds, operation}
-use Rattle.pas_trace.{specs.Plans.{what_wished, what_of_chore, add_last, line_of_newest}, proofs.{Costs.least_cost, Gathering.get_or-written}}
-use Rattle.pas_trace.proofs.PassedChecks.{FineCounts, own_passed, guard_passed, actor_within, counts_within, passes, all_fit}
+use Rattle.std.proofs.Common.{◌≡◌, ℕ, ◌+◌, ◌*◌, nat_lt, nat_le, Bool, true, false, not, List, [], ◌∷◌, ◌++◌, Option, None, Some, Ok, refl, sym, ap, arith, ◌<◌}
+use Rattle.std.proofs.Common.{◌≤◌, ◌==◌, ◌&&◌, if◌then◌else◌, length, get_or, set, ◌∙◌, eq-eqb, ne_eqb, le-leb, ◌≢◌, ◌||◌, subst, add-one, leb-true, rules}
+use Rattle.std.proofs.{Math.ListN.length-set, lemmas.{Bool.{cases_eq, and_parts}, Nat.mul-le}}
+use Rattle.pas_trace.specs.Wishes.{heap_in, sizing_in, name_made, name_freed, holds_of, is_large, asks_pages, heap_by, heap_made, is_name, IsFit}
+use Rattle.pas_trace.specs.Reasons.{first_failed, is_thread, is_alignment, guard_after, guard_in, cost_of, cost_of_wish, record_bound, few_enough, may_free}
+use Rattle.pas_trace.specs.Reasons.{checks_of, reason_of, operations_in, is_named, line_says, actor_of, is_operation, is_large_request, large_requests}
+use Rattle.pas_trace.specs.Reasons.{is_sampled, is_guarded, costs_of, cost_of_size, is_guard_number, actors_by, records_of_chore, is_phase, makes, heap_of}
+use Rattle.pas_trace.specs.{Reasons.started, Items.item_of_line, Gathering.{HasGathered, Gathers, is_scripting}, Told.{few_told, told_checks, has_owner}}
+use Rattle.pas_trace.specs.Told.{may_free_told, Tells, TellsSamples, IsSampled, samples_next, keeper_told, owner_in, heap_told, NameTold, IsReady, CanSample}
+use Rattle.pas_trace.specs.{Told.{IsCounted, IsOperated, IsGuarding, IsAdded, IsNextPhase}, declared.{fault.Reason.Reason, item.Item.Item}}
+use Rattle.pas_trace.specs.declared.{item.{Item.TheVariants.{Guards, Operates, Scavenges, NextPhase}, Wish.{Wish, TheVariants.Remakes}}, reader.Reader.Reader}
+use Rattle.pas_trace.specs.declared.{samples.Samples.Samples, header.Header.Header, names.{Owner.Owner, Names.Names}, plan.{Chore.Chore, Op.Op, What.What}}
+use Rattle.pas_trace.specs.{declared.{plan.What.TheVariants.Remake, gathered.Gathered.Gathered}, Plans.{kept_costs, keeper_for, shared_by, phases_after}}
+use Rattle.pas_trace.specs.Plans.{phases_in, own_costs, bound_of, bounds_upto, operation, what_wished, what_of_chore, add_last, line_of_newest}
+use Rattle.pas_trace.proofs.{Costs.least_cost, Gathering.get_or-written, PassedChecks.{FineCounts, own_passed, guard_passed, actor_within, counts_within}}
+use Rattle.pas_trace.proofs.PassedChecks.{all_fit}
 use Rattle.pas_profile.specs.{declared.profile.Profile.Profile, Profiles.IsValid}
 
 -- ---- the tables tell what the checks ask
 -- the bound with an operation; its cost goes by the `guard` line before it, and it is none itself
-bound-after : (r : Reader) (items : List Item) (i : Item) → guard_after i (guard_in items) ≡ guard_in items → Tells r items
+pub bound-after : (r : Reader) (items : List Item) (i : Item) → guard_after i (guard_in items) ≡ guard_in items → Tells r items
     → r.counts.bound + cost_of r.header.profile r.samples.guard i ≡ record_bound r.header.profile (i ∷ items)
 bound-after r items i none t = search arith
-
-few-same : (r : Reader) (items : List Item) (i : Item) → guard_after i (guard_in items) ≡ guard_in items → Tells r items
-    → few_told r (cost_of r.header.profile r.samples.guard i) ≡ few_enough (operations_in items) (record_bound r.header.profile (i ∷ items))
-few-same r items i none t = search (arith, bound-after)
 
 -- two tests that say the same of each value
 holds-same : {A : Type 0} (o : Option A) (test other : A → Bool) → ((x : A) → test x ≡ other x) → holds_of test o ≡ holds_of other o
 holds-same None test other same = refl
 holds-same (Some x) test other same = same x
 
--- each table that it reads has what the items tell of the name
-free-same : (r : Reader) (items : List Item) (t n : ℕ) → Tells r items → may_free_told r t n ≡ may_free items t n
-free-same r items t n h = search arith
-
-own-same : (r : Reader) (items : List Item) (t : ℕ) (w : Wish) → Tells r items → told_checks r (Operates t w) ≡ checks_of r.header.profile items (Operates t w)
+pub own-same : (r : Reader) (items : List Item) (t : ℕ) (w : Wish) → Tells r items
+    → told_checks r (Operates t w) ≡ checks_of r.header.profile items (Operates t w)
 own-same r items t w h =
     let f = r.header.profile in
     let list : Bool → Bool → Bool → List (Bool × Reason) → List (Bool × Reason) = λ fresh known free few.
@@ -45,51 +38,32 @@ own-same r items t w h =
     let named : (n : ℕ) → has_owner r n ≡ is_named items n = λ n. sym (h.names n).named in
     let fresh = holds-same (name_made w) (λ n. not (has_owner r n)) (λ n. not (is_named items n)) (λ n. ap not (named n)) in
     let known = holds-same (name_freed w) (has_owner r) (is_named items) named in
-    let free = holds-same (name_freed w) (may_free_told r t) (may_free items t) (λ n. free-same r items t n h) in
+    -- each table that it reads has what the items tell of the name
+    let free = holds-same (name_freed w) (may_free_told r t) (may_free items t) (λ n. search arith) in
     let few = few_told r (cost_of_wish r.samples.guard w) in
-    cc (few-same r items (Operates t w) refl h)
-
-checks-same : (r : Reader) (items : List Item) (i : Item) → Tells r items → told_checks r i ≡ checks_of r.header.profile items i
-checks-same r items i h = search (arith, own-same, few-same)
+    let few-same : few_told r (cost_of r.header.profile r.samples.guard (Operates t w)) ≡ few_enough (operations_in items)
+    (record_bound r.header.profile ((Operates t w) ∷ items)) = search (arith, bound-after) in cc (few-same)
 
 -- ---- what a line says
 pub says-item : (r : Reader) (items : List Item) (line : List ℕ) (i : Item) → Tells r items → Ok i ≡ item_of_line r.header.version r.started line
     → first_failed (told_checks r i) ≡ None
     → (line_says r.header items line ≡ Ok i) × (reason_of r.header.profile items i ≡ None)
-says-item r items line i h e none = search (arith, checks-same)
-
--- A line whose item fails a check by what the reader keeps says that reason.
-pub says-reason : (r : Reader) (items : List Item) (line : List ℕ) (i : Item) (why : Reason) → Tells r items
-    → Ok i ≡ item_of_line r.header.version r.started line → first_failed (told_checks r i) ≡ Some why
-    → line_says r.header items line ≡ Err why
-says-reason r items line i why h e some = search (arith, checks-same)
+says-item r items line i h e none = search (arith, own-same, bound-after)
 
 -- ---- a request that passes its own checks stands by those of every operation
-passed-then : (cs ds : List (Bool × Reason)) → first_failed cs ≡ None → first_failed (cs ++ ds) ≡ first_failed ds
+pub passed-then : (cs ds : List (Bool × Reason)) → first_failed cs ≡ None → first_failed (cs ++ ds) ≡ first_failed ds
 passed-then [] ds e = refl
 passed-then ((true, r) ∷ cs) ds e = passed-then cs ds e
 passed-then ((false, r) ∷ cs) ds e = absurd (cc)
-
--- A request whose other checks passed is checked by its cost alone.
-pub request-checked : (r : Reader) (t : ℕ) (q : Request) (result : Result ℕ Reason)
-    → is_thread r.header.profile t ≡ true → nat_lt q.heap r.header.profile.heaps ≡ true → first_failed (sizing_told r q.size q.align) ≡ None
-    → not (has_owner r q.name) ≡ true
-    → IsChecked (first_failed (few_told r (cost_of_request r.samples.guard q.size))) (cost_of_request r.samples.guard q.size) result
-    → IsChecked (reason_told r t (asking q)) (cost_of_request r.samples.guard q.size) result
-request-checked r t q result thread heap sized fresh few = search (arith, passed-then)
 
 -- ---- the checks of a `guard` line, one after the other
 
 -- ==== Which requests are guarded, by what the reader keeps.
 
 -- ---- a count that is raised in one place
-raised : (here : Bool) (xs : List ℕ) (t k more n : ℕ) → t < length xs → (t == k) ≡ here → get_or xs k 0 ≡ n
-    → get_or (set xs t (get_or xs t 0 + more)) k 0 ≡ (if here then n + more else n)
-raised here xs t k more n lt is told = search (arith, cases_eq, eq-eqb, get_or-written, ne_eqb)
-
 raised_where : (on : Bool) (xs : List ℕ) (t k more n : ℕ) → t < length xs → get_or xs k 0 ≡ n
     → get_or (if on then set xs t (get_or xs t 0 + more) else xs) k 0 ≡ (if on && (t == k) then n + more else n)
-raised_where true xs t k more n lt told = raised (t == k) xs t k more n lt refl told
+raised_where true xs t k more n lt told = search (arith, cases_eq, eq-eqb, get_or-written, ne_eqb)
 raised_where false xs t k more n lt told = told
 
 width_where : (on : Bool) (xs : List ℕ) (t x : ℕ) → length (if on then set xs t x else xs) ≡ length xs
@@ -113,11 +87,6 @@ keeper_same : (r : Reader) (items : List Item) (t : ℕ) (w : Wish) → Tells r 
 keeper_same r items t w told lt =
     ap (λ on. if on then Some (r.header.profile.threads + t) else None) (guarded_same r.header.profile r.samples items told.samples t w lt)
 
--- what is no operation of a thread is no request
-unsampled : (f : Profile) (s : Samples) (i : Item) (items : List Item) → is_large_request i ≡ false → ((guard : ℕ) → guard_after i guard ≡ guard)
-    → TellsSamples f s items → TellsSamples f s (i ∷ items)
-unsampled f s i items none same told = search arith
-
 -- ---- one request is counted
 pub sampled_small : (s : Samples) (t size : ℕ) → size ≤ 2048
     → (false ≡ (is_large size && samples_next s t)) × IsSampled s s t (is_large size) (cost_of_size size)
@@ -138,12 +107,8 @@ few_larges : (t : ℕ) (items : List Item) → large_requests t items ≤ operat
 few_larges t [] = omega arith
 few_larges t (i ∷ items) = one_more _ _ _ _ _ (large_is i) (few_larges t items)
 
--- A wish that isn't guarded costs no more.
-cheaper : (guard : ℕ) (w : Wish) → cost_of_wish 0 w ≤ cost_of_wish guard w
-cheaper guard w = search (arith, least_cost)
-
 cheaper_item : (f : Profile) (guard : ℕ) (i : Item) → cost_of f 0 i ≤ cost_of f guard i
-cheaper_item f guard (Operates t w) = cheaper guard w
+cheaper_item f guard (Operates t w) = search (arith, least_cost)
 cheaper_item f guard i = omega arith
 
 some_more : (on : Bool) (n m cost plain : ℕ) → plain ≤ cost → n ≤ m → (if on then n + plain else n) ≤ m + cost
@@ -151,7 +116,7 @@ some_more true n m cost plain least le = omega (arith, least, le)
 some_more false n m cost plain least le = omega (arith, le)
 
 -- what keepers may make is counted among all costs
-few_kept : (f : Profile) (k : ℕ) (items : List Item) → kept_costs f k items ≤ costs_of f items
+pub few_kept : (f : Profile) (k : ℕ) (items : List Item) → kept_costs f k items ≤ costs_of f items
 few_kept f k [] = omega arith
 few_kept f k (i ∷ items) = some_more _ _ _ _ _ (cheaper_item f _ i) (few_kept f k items)
 
@@ -163,32 +128,22 @@ if-le true x y z p q = p
 if-le false x y z p q = q
 
 -- an actor's own costs are among all
-own_costs-le : (f : Profile) (k : ℕ) (items : List Item) → own_costs f k items ≤ costs_of f items
+pub own_costs-le : (f : Profile) (k : ℕ) (items : List Item) → own_costs f k items ≤ costs_of f items
 own_costs-le f k [] = omega arith
 own_costs-le f k (i ∷ items) =
     let h = own_costs-le f k items in
     let cost = cost_of f (guard_in items) i in
     if-le (actor_of i == k) (own_costs f k items + cost) (own_costs f k items) (costs_of f items + cost) (omega (arith, h)) (omega (arith, h))
 
--- The cost of each actor is within the bound that the reader keeps.
-pub cost-within : (r : Reader) (items : List Item) (k : ℕ) → Tells r items → k < 17 → get_or r.counts.costs k 0 ≤ r.counts.bound
-cost-within r items k t lt =
-    omega (arith, t.costs k lt, t.bound, own_costs-le r.header.profile k items)
-
--- What each keeper may say is within the bound that the reader keeps.
-pub kept-within : (r : Reader) (items : List Item) (k : ℕ) → Tells r items → k < 17 → get_or r.samples.kept k 0 ≤ r.counts.bound
-kept-within r items k t lt =
-    omega (arith, t.samples.kept k lt, t.bound, few_kept r.header.profile k items)
-
 -- a request of the thread may be counted
 can-sample : (r : Reader) (items : List Item) (i : Item) (actor : ℕ) → Tells r items → FineCounts r.header.profile items i → actor ≤ 16
     → CanSample r.samples actor
-can-sample r items i actor t fine le = search (arith, kept-within, few_larges)
+can-sample r items i actor t fine le = search (arith, few_kept, few_larges)
 
 -- An operation whose counts are fine may be counted for its actor.
 ready : (r : Reader) (items : List Item) (i : Item) (actor cost : ℕ) → ((guard : ℕ) → guard_after i guard ≡ guard) → Tells r items
     → FineCounts r.header.profile items i → actor ≤ 16 → cost ≡ cost_of r.header.profile r.samples.guard i → IsReady r.counts actor cost
-ready r items i actor cost same t fine le e = search (arith, bound-after, cost-within)
+ready r items i actor cost same t fine le e = search (arith, bound-after, own_costs-le)
 
 -- ---- names
 -- an item that neither makes the name nor begins a phase leaves all that is told of it
@@ -204,14 +159,10 @@ what-same : (f : Profile) (heaps others : ℕ → ℕ) (keeper : Option ℕ) (w 
 what-same f heaps others keeper (Remakes n o s a) same = ap (λ heap. Remake n o heap s a) (same o)
 what-same f heaps others keeper w same = refl
 
-taken-here : (t heap p : ℕ) (w : Wish) (items : List Item) (n : ℕ) → heap_made (heap_of items) w ≡ heap → 1 ≤ t → is_name (name_made w) n ≡ true
-    → NameTold (record { thread = t; heap = heap; phase = p }) p (Operates t w ∷ items) n
-taken-here t heap p w items n home least e = search (arith, ne_eqb, eq-eqb)
-
 taken-by : (here : Bool) (t heap p : ℕ) (w : Wish) (items : List Item) (o o' : Owner) (n : ℕ) → heap_made (heap_of items) w ≡ heap
     → is_name (name_made w) n ≡ here → 1 ≤ t → o' ≡ (if here then record { thread = t; heap = heap; phase = p } else o) → NameTold o p items n
     → NameTold o' p (Operates t w ∷ items) n
-taken-by a t heap p w items o o' n home is least e told = search (arith, taken-here, kept-name)
+taken-by a t heap p w items o o' n home is least e told = search (arith, ne_eqb, eq-eqb, kept-name)
 
 -- ---- an item that is an operation, of a thread or of the scavenger
 pub record IsOperation (f : Profile) (heaps : ℕ → ℕ) (keeper : Option ℕ) (guard : ℕ) (i : Item) (actor : ℕ) (what : What) (cost : ℕ) : Type 0 where
@@ -222,11 +173,6 @@ pub record IsOperation (f : Profile) (heaps : ℕ → ℕ) (keeper : Option ℕ)
   pub thread : actor_of i ≡ actor
   pub costs : cost_of f guard i ≡ cost
   pub phases : (line : ℕ) (ps : List (List Op)) → phases_after f heaps keeper i line ps ≡ add_last (Some (operation line actor what)) ps
-
-cost-added : (f : Profile) (i : Item) (items : List Item) (costs : List ℕ) (actor cost k : ℕ) → actor < length costs → actor_of i ≡ actor
-    → cost_of f (guard_in items) i ≡ cost
-    → get_or costs k 0 ≡ own_costs f k items → get_or (set costs actor (get_or costs actor 0 + cost)) k 0 ≡ own_costs f k (i ∷ items)
-cost-added f i items costs actor cost k lt is_actor is_cost told = search (arith, cases_eq, eq-eqb, get_or-written, ne_eqb)
 
 -- an operation is gathered behind those of the items before
 gathered-more : (old new : Reader) (items : List Item) (i : Item) (actor : ℕ) (what : What) (cost : ℕ) → Tells old items
@@ -248,23 +194,12 @@ operated : (old new : Reader) (names : Names) (samples : Samples) (items : List 
     → IsCounted (record old { line = old.line + 1; names = names; samples = samples }) new actor what cost
     → HasGathered (phases_in new.header.profile (i ∷ items)) new.gathered → Tells new (i ∷ items)
 operated old new names samples items i actor what cost t op can told sampling h gathered =
-    search (arith, bound-after, length-set, cost-added)
+    search (arith, bound-after, length-set, cases_eq, eq-eqb, get_or-written, ne_eqb)
 
 -- what the names hold after an item
 abbrev pub NamesAfter : Reader → Names → Item → Type 0
 NamesAfter old names i =
     (items : List Item) → Tells old items → reason_of old.header.profile items i ≡ None → (n : ℕ) → NameTold (owner_in names n) old.phase (i ∷ items) n
-
-names-taken : (old : Reader) (names : Names) (t : ℕ) (w : Wish)
-    → ((n : ℕ)
-    → owner_in names n
-    ≡ (if is_name (name_made w) n then record { thread = t; heap = heap_made (heap_told old) w; phase = old.phase } else owner_in old.names n))
-    → NamesAfter old names (Operates t w)
-names-taken old names t w given items told e n = taken-by _ t _ old.phase w items _ _ n
-    (heap-by-same _ _ (heap_in w) (name_freed w) (λ m. (told.names m).heap)) refl (own_passed old.header.profile items t w e).thread.0 (given n) (told.names n)
-
-names-kept : (old : Reader) (c : Chore) → NamesAfter old old.names (Scavenges c)
-names-kept old c items told e n = kept-name (Scavenges c) items (owner_in old.names n) old.phase n refl refl (told.names n)
 
 -- .. and which requests are guarded
 abbrev pub SamplesAfter : Reader → Samples → Item → Type 0
@@ -310,7 +245,9 @@ added_wish old new t w h =
       costs = refl;
       phases = λ line ps. search (arith, keeper_same, small_thread, what-same);
     } in
-    added old new h.names h.samples (Operates t w) t what cost op (names-taken old h.names t w h.given)
+    added old new h.names h.samples (Operates t w) t what cost op (λ items told e n. taken-by _ t _ old.phase w items _ _ n
+    (heap-by-same _ _ (heap_in w) (name_freed w) (λ m. (told.names m).heap)) refl (own_passed old.header.profile items t w e).thread.0 (h.given n)
+    (told.names n))
     (λ items told e. sampled f old.samples items told.samples h.samples t w (small_thread old items t w told e) h.sampled) h.counted
 
 -- A chore that was counted is added to what the reader keeps.
@@ -322,7 +259,8 @@ added_chore old new c h =
     let op : (items : List Item) → Tells old items → reason_of f items (Scavenges c) ≡ None → IsOperation f (heap_of items)
     (keeper_for f items (Scavenges c)) old.samples.guard (Scavenges c) 0 (what_of_chore c) cost = λ items told e.
     record { operates = refl; same_phase = refl; same_guard = λ g. refl; marks = λ m. refl; thread = refl; costs = refl; phases = λ line ps. refl } in
-    added old new old.names old.samples (Scavenges c) 0 (what_of_chore c) cost op (names-kept old c) (λ items told e. unsampled f old.samples _ items refl (λ g. refl) told.samples) h
+    added old new old.names old.samples (Scavenges c) 0 (what_of_chore c) cost op
+    (λ items told e n. kept-name (Scavenges c) items (owner_in old.names n) old.phase n refl refl (told.names n)) (λ items told e. search arith) h
 
 -- ---- a phase begins
 phased : (old new : Reader) (items : List Item) → Tells old items → IsNextPhase (record old { line = old.line + 1 }) new
@@ -340,18 +278,12 @@ added_phase old new h = record {
 }
 
 -- ---- a `guard` line stands before all operations
-or_none : (s t u : Bool) → s || t || u ≡ false → (s ≡ false) × (u ≡ false)
-or_none a t u is = search arith
-
--- whichever case it is
-no_cost : (f : Profile) (guard : ℕ) (i : Item) → is_operation i ≡ false → cost_of f guard i ≡ 0
-no_cost f guard i a = search arith
-
 none-costs : (f : Profile) (items : List Item) → started items ≡ false → costs_of f items ≡ 0
 none-costs f [] none = refl
 none-costs f (i ∷ items) none =
-    let both = or_none (is_operation i) (is_phase i) (started items) none in
-    omega (arith, no_cost f (guard_in items) i both.0, none-costs f items both.1)
+    let both : ((is_operation i) ≡ false) × ((started items) ≡ false) = search arith in
+    -- whichever case it is
+    let no_cost : cost_of f (guard_in items) i ≡ 0 = search arith in omega (arith, no_cost, none-costs f items both.1)
 
 free-cost : (here : Bool) (n : ℕ) → n ≡ (if here then n + 0 else n)
 free-cost true n = omega arith
@@ -413,18 +345,6 @@ bounds-more f items k bound bounds more e b m =
 pub bound-thread : (f : Profile) (items : List Item) (k : ℕ) → 1 ≤ k → k ≤ f.threads → f.pages + own_costs f k items ≡ bound_of f items k
 bound-thread f items k some within = search (arith, ne_eqb, le-leb)
 
--- The bound of a keeper is what it may say and the region's pages.
-pub bound-keeper : (f : Profile) (items : List Item) (k : ℕ) → 1 ≤ k → f.pages + kept_costs f k items ≡ bound_of f items (f.threads + k)
-bound-keeper f items k some = search (arith, ne_eqb, lt-leb)
-
--- those of all actors, without a `guard` line and with one
-pub all-plain : (f : Profile) (items : List Item) → guard_in items ≡ 0 → bounds_upto f items (f.threads + 1) ≡ all_bounds f items
-all-plain f items none = ap (λ guard. bounds_upto f items (actors_by guard f.threads + 1)) (sym none)
-
--- In a guarded trace the bounds are those of the threads and of as many keepers.
-pub all-guarded : (f : Profile) (items : List Item) → guard_in items ≢ 0 → bounds_upto f items (f.threads + (f.threads + 1)) ≡ all_bounds f items
-all-guarded f items some = search (arith, ne_eqb)
-
 -- ==== What an item that passed its checks may do to the reader.
 
 module _ (r : Reader) (items : List Item) (i : Item) (tells : Tells r items) (passed : reason_of r.header.profile items i ≡ None) where
@@ -451,14 +371,7 @@ module _ (r : Reader) (items : List Item) (i : Item) (tells : Tells r items) (pa
   pub fit_for : (t : ℕ) (w : Wish) → i ≡ Operates t w → IsFit r.header.profile w
   fit_for t w is = all_fit r.header.profile items t w tells.header (own_passed r.header.profile items t w (rw is at passed))
 
-  -- The heap that an item shares is below 32, where it passed its checks.
-  pub small_heap : (h : ℕ) → i ≡ Shares h → h < 32
-  small_heap h is = search (arith, ltb-true, passes)
-
 -- ---- an operation was counted, by a reader that had given its name
-eqb_sym : (m n : ℕ) → (m == n) ≡ (n == m)
-eqb_sym m n = search (arith, cases_eq, eq-eqb, ne_eqb)
-
 -- A wish that makes a name is operated once it is sampled, its name has an owner, and its operation is counted.
 pub named : (old mid new : Reader) (names : Names) (samples : Samples) (t name heap : ℕ) (w : Wish) (what : What) (cost : ℕ) → Some name ≡ name_made w
     → heap ≡ heap_made (heap_told old) w
@@ -470,13 +383,9 @@ named old mid new names samples t name heap w what cost made home is same sample
   names = names;
   samples = samples;
   sampled = sampled;
-  given = search (arith, eqb_sym);
+  given = search (arith, cases_eq, eq-eqb, ne_eqb);
   counted = rw (same, is) at counted;
 }
-
--- a wish that is no request leaves what is known of requests
-idle_sample : (s : Samples) (t : ℕ) (w : Wish) → asks_pages w ≡ false → IsSampled s s t (asks_pages w) (cost_of_wish 0 w)
-idle_sample s t w none = search arith
 
 no_keeper : (old : Reader) (t : ℕ) (w : Wish) → asks_pages w ≡ false → keeper_told old t w ≡ None
 no_keeper old t w none = ap (λ large. if large && samples_next old.samples t then Some (old.header.profile.threads + t) else None) none
@@ -489,7 +398,7 @@ pub renamed : (old mid new : Reader) (names : Names) (t name heap : ℕ) (w : Wi
     → IsCounted mid new t what cost → IsOperated old new t w cost
 renamed old mid new names t name heap w what cost made home none is same given counted =
     named old mid new names old.samples t name heap w what cost made home (is ∙ ap (λ keeper. what_wished old.header.profile (heap_told old) keeper w)
-    (sym (no_keeper old t w none))) same (idle_sample old.samples t w none) given counted
+    (sym (no_keeper old t w none))) same (search arith) given counted
 
 -- A wish that makes no name and asks for no pages is operated once its operation is counted.
 pub unnamed : (old mid new : Reader) (t : ℕ) (w : Wish) (what : What) (cost : ℕ) → None ≡ name_made w → asks_pages w ≡ false
@@ -498,7 +407,7 @@ pub unnamed : (old mid new : Reader) (t : ℕ) (w : Wish) (what : What) (cost : 
 unnamed old mid new t w what cost none small is same counted = record {
   names = old.names;
   samples = old.samples;
-  sampled = idle_sample old.samples t w small;
+  sampled = search arith;
   given = λ n. ap (λ o. if is_name o n then record { thread = t; heap = heap_made (heap_told old) w; phase = old.phase } else owner_in old.names n) none;
   counted = search (arith, no_keeper);
 }

@@ -18,11 +18,6 @@ pub numbers_count : (k n : ℕ) → length (numbers_from k n) ≡ n
 numbers_count k zero = refl
 numbers_count k (suc n) = ap suc (numbers_count (k + 1) n)
 
--- .. of those of which this is so
-chosen_next : {on : Bool} (chosen : ℕ → Bool) (k n m : ℕ) → n ≡ m + 1 → chosen k ≡ on
-    → filter chosen (numbers_from k n) ≡ (if on then k ∷ filter chosen (numbers_from (k + 1) m) else filter chosen (numbers_from (k + 1) m))
-chosen_next chosen k n m is same = search (arith, number_next)
-
 -- the thread at place i of n is one of them, or isn't, or there is none
 module _ (to : ℕ → Act) (chosen : ℕ → Bool) (i n : ℕ) (more : List Act) where
   -- the acts for the threads from there on
@@ -35,11 +30,13 @@ module _ (to : ℕ → Act) (chosen : ℕ → Bool) (i n : ℕ) (more : List Act
 
   -- The acts from a thread on that is chosen are its own and those of the threads past it.
   pub next_chosen : i < n → chosen (i + 1) ≡ true → acts_there ≡ to (i + 1) ∷ acts_past
-  next_chosen lt on = ap (λ (ks : List ℕ). map to ks ++ more) (chosen_next {on = true} chosen (i + 1) (n - i) (n - (i + 1)) (omega (arith, lt)) on)
+  next_chosen lt on = ap (λ (ks : List ℕ). map to ks ++ more) (let it : filter chosen (numbers_from (i + 1) (n - i)) ≡ (if true then (i + 1) ∷ filter chosen
+      (numbers_from ((i + 1) + 1) (n - (i + 1))) else filter chosen (numbers_from ((i + 1) + 1) (n - (i + 1)))) = search (arith, number_next) in it)
 
   -- The acts from a thread on that isn't chosen are those of the threads past it.
   pub next_passed : i < n → chosen (i + 1) ≡ false → acts_there ≡ acts_past
-  next_passed lt off = ap (λ (ks : List ℕ). map to ks ++ more) (chosen_next {on = false} chosen (i + 1) (n - i) (n - (i + 1)) (omega (arith, lt)) off)
+  next_passed lt off = ap (λ (ks : List ℕ). map to ks ++ more) (let it : filter chosen (numbers_from (i + 1) (n - i)) ≡ (if false then (i + 1) ∷ filter chosen
+      (numbers_from ((i + 1) + 1) (n - (i + 1))) else filter chosen (numbers_from ((i + 1) + 1) (n - (i + 1)))) = search (arith, number_next) in it)
 
   -- Past the last thread no act of theirs is left.
   pub none_left : n ≤ i → acts_there ≡ more

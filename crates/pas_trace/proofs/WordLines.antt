@@ -1,9 +1,8 @@
 -- Pieces, lines and words against places in the bytes.
 use Rattle.std.proofs.Common.{◌≡◌, ◌≢◌, ℕ, zero, suc, ◌+◌, ◌<◌, ◌≤◌, ◌==◌, Bool, true, false, if◌then◌else◌, List, [], ◌∷◌, take, drop, length, get_or, ◌-◌}
 use Rattle.std.proofs.Common.{refl, sym, ap, subst, ◌∙◌, arith, add-one, add-zero, length-drop, get_or-drop, eq-eqb, ne_eqb, nat_le, ◌++◌, leb-true}
-use Rattle.std.proofs.{Common.{take-append-drop, append-nil, append_assoc}, Math.Seq.drop-length, lemmas.List.{take_rest, take_more, drop_more}}
-use Rattle.std.proofs.lemmas.Bool.{and_parts}
-use Rattle.pas_trace.specs.{Texts.{put_first, pieces, without_empty_end, lines_of, without_empty, words_of, IsWhole}, Numbers.{is_digit, all_digits}}
+use Rattle.std.proofs.{Common.{take-append-drop, append-nil}, Math.Seq.drop-length, lemmas.{List.{take_rest, take_more, drop_more}, Bool.and_parts}}
+use Rattle.pas_trace.specs.{Texts.{put_first, pieces, without_empty_end, lines_of, without_empty, words_of}, Numbers.{is_digit, all_digits}}
 
 -- no byte among the first n is the separator
 abbrev pub NoneBefore : ℕ → List ℕ → ℕ → Type 0
@@ -18,7 +17,7 @@ pieces-off : (s b : ℕ) (bs : List ℕ) → b ≢ s → pieces s (b ∷ bs) ≡
 pieces-off s b bs e = let t : (b == s) ≡ false = ne_eqb b s e in rw t refl
 
 -- the first piece ends at the first separator
-pieces-found : (s : ℕ) (bs : List ℕ) (n : ℕ) → NoneBefore s bs n → n < length bs → get_or bs n 0 ≡ s → pieces s bs ≡ take n bs ∷ pieces s (drop (suc n) bs)
+pub pieces-found : (s : ℕ) (bs : List ℕ) (n : ℕ) → NoneBefore s bs n → n < length bs → get_or bs n 0 ≡ s → pieces s bs ≡ take n bs ∷ pieces s (drop (suc n) bs)
 pieces-found s [] n none lt found = absurd (omega arith)
 pieces-found s (b ∷ bs) zero none lt found = pieces-at s b bs found
 pieces-found s (b ∷ bs) (suc n) none lt found =
@@ -53,33 +52,17 @@ end-cons [] q qs = refl
 end-cons (b ∷ bs) q qs = refl
 
 -- An empty end that falls away leaves the pieces before it as they are.
-end-after : (p : List ℕ) (s : ℕ) (bs : List ℕ) → without_empty_end (p ∷ pieces s bs) ≡ p ∷ without_empty_end (pieces s bs)
+pub end-after : (p : List ℕ) (s : ℕ) (bs : List ℕ) → without_empty_end (p ∷ pieces s bs) ≡ p ∷ without_empty_end (pieces s bs)
 end-after p s bs =
     let some = pieces-some s bs in
     ap (λ ps. without_empty_end (p ∷ ps)) some.2 ∙ end-cons p some.0 some.1 ∙ sym (ap (λ ps. p ∷ without_empty_end ps) some.2)
 
-lines-found : (bs : List ℕ) (n : ℕ) → NoneBefore 10 bs n → n < length bs → get_or bs n 0 ≡ 10 → lines_of bs ≡ take n bs ∷ lines_of (drop (n + 1) bs)
-lines-found bs n none lt found = search (arith, pieces-found, end-after, add-one)
-
-lines-last : (bs : List ℕ) → 0 < length bs → NoneBefore 10 bs (length bs) → lines_of bs ≡ bs ∷ []
+pub lines-last : (bs : List ℕ) → 0 < length bs → NoneBefore 10 bs (length bs) → lines_of bs ≡ bs ∷ []
 lines-last [] some none = absurd (omega arith)
 lines-last (b ∷ bs) some none = ap without_empty_end (pieces-whole 10 (b ∷ bs) none)
 
--- .. as the code cuts them
-abbrev pub IsCut : List ℕ → List ℕ → List ℕ → Type 0
-IsCut text line rest = (lines_of text ≡ line ∷ lines_of rest) × (length rest < length text)
-
--- A text without a line feed is cut into itself and nothing.
-pub cut-last : (bs : List ℕ) (n : ℕ) → 0 < length bs → NoneBefore 10 bs n → n ≡ length bs → IsCut bs bs (take (length bs - n) (drop n bs))
-cut-last bs n some none e = search (arith, take_rest, drop-length, lines-last)
-
--- A text with a first line feed is cut there into its first line and the rest.
-pub cut-found : (bs : List ℕ) (n : ℕ) → NoneBefore 10 bs n → n ≤ length bs → (n < length bs → get_or bs n 0 ≡ 10) → n ≢ length bs
-    → IsCut bs (take n bs) (take (length bs - (n + 1)) (drop (n + 1) bs))
-cut-found bs n none le ended ne = search (arith, take_rest, lines-found, length-drop)
-
 -- ---- words
-words-skip : (bs : List ℕ) (n : ℕ) → ((k : ℕ) → k < n → get_or bs k 0 ≡ 32) → n ≤ length bs → words_of bs ≡ words_of (drop n bs)
+pub words-skip : (bs : List ℕ) (n : ℕ) → ((k : ℕ) → k < n → get_or bs k 0 ≡ 32) → n ≤ length bs → words_of bs ≡ words_of (drop n bs)
 words-skip bs zero spaces le = refl
 words-skip [] (suc n) spaces le = absurd (omega arith)
 words-skip (b ∷ bs) (suc n) spaces le =
@@ -91,19 +74,8 @@ pub keeps : (bs : List ℕ) (ps : List (List ℕ)) → 0 < length bs → without
 keeps [] ps some = absurd (omega arith)
 keeps (b ∷ bs) ps some = refl
 
--- for zero and any other number
-take-some : (bs : List ℕ) (n : ℕ) → 0 < n → n < length bs → 0 < length (take n bs)
-take-some bs a c lt = search arith
-
-words-found : (bs : List ℕ) (n : ℕ) → NoneBefore 32 bs n → 0 < n → n < length bs → get_or bs n 0 ≡ 32 → words_of bs ≡ take n bs ∷ words_of (drop (n + 1) bs)
-words-found bs n none some lt found = search (arith, pieces-found, take-some, add-one)
-
 words-last : (bs : List ℕ) → 0 < length bs → NoneBefore 32 bs (length bs) → words_of bs ≡ bs ∷ []
 words-last bs some none = ap without_empty (pieces-whole 32 bs none) ∙ keeps bs [] some
-
--- .. as the code cuts them
-pub words-none : (bs : List ℕ) (n : ℕ) → ((k : ℕ) → k < n → get_or bs k 0 ≡ 32) → n ≡ length bs → words_of bs ≡ []
-words-none bs n spaces e = words-skip bs n spaces (omega (arith, e)) ∙ ap (λ m. words_of (drop m bs)) e ∙ ap words_of (drop-length bs)
 
 -- the bytes from the first word on
 pub record FromWord (bs word : List ℕ) : Type 0 where
@@ -132,7 +104,7 @@ some-before w (suc n) head e = omega arith
 -- A word ends before the first space after it, and the other words follow.
 pub word-found : (bs w : List ℕ) (n : ℕ) → FromWord bs w → NoneBefore 32 w n → n ≤ length w → (n < length w → get_or w n 0 ≡ 32) → n ≢ length w
     → words_of bs ≡ take n w ∷ words_of (take (length w - (n + 1)) (drop (n + 1) w))
-word-found bs w n from none le ended ne = search (arith, take_rest, some-before, words-found)
+word-found bs w n from none le ended ne = search (arith, take_rest, some-before, pieces-found, add-one)
 
 -- ==== Lines and words that are known whole, without the byte that parts them.
 
@@ -196,7 +168,7 @@ end-append (p ∷ q ∷ ps) s bs = end-cons p q (ps ++ pieces s bs) ∙ ap (λ q
 lines-ended : (xs ys : List ℕ) → lines_of (xs ++ 10 ∷ ys) ≡ pieces 10 xs ++ lines_of ys
 lines-ended xs ys = ap without_empty_end (pieces-append 10 xs ys) ∙ end-append (pieces 10 xs) 10 ys
 
-lines-append : (xs ys : List ℕ) → lines_of (xs ++ 10 ∷ ys) ≡ lines_of (xs ++ 10 ∷ []) ++ lines_of ys
+pub lines-append : (xs ys : List ℕ) → lines_of (xs ++ 10 ∷ ys) ≡ lines_of (xs ++ 10 ∷ []) ++ lines_of ys
 lines-append xs ys = lines-ended xs ys ∙ ap (λ ls. ls ++ lines_of ys) (sym (lines-ended xs [] ∙ append-nil (pieces 10 xs)))
 
 -- .. behind the line feed at a place
@@ -206,13 +178,6 @@ lines-cut bs n lt found =
     let whole : bs ≡ take n bs ++ 10 ∷ after = sym (take-append-drop n bs) ∙ ap (λ (t : List ℕ). take n bs ++ t) (drop_more bs n 0 lt ∙ ap (λ (b : ℕ). b ∷ after) found) in
     let front : take (n + 1) bs ≡ take n bs ++ 10 ∷ [] = take_more bs n 0 lt ∙ ap (λ (b : ℕ). take n bs ++ b ∷ []) found in
     ap lines_of whole ∙ lines-append (take n bs) after ∙ ap (λ (t : List ℕ). lines_of t ++ lines_of after) (sym front)
-
--- The front of a text up to the end of a line is whole lines, of which there is one.
-pub whole-at : (bs : List ℕ) (n : ℕ) → n < length bs → get_or bs n 0 ≡ 10 → IsWhole (take (n + 1) bs)
-whole-at bs n lt found rest =
-    let front : take (n + 1) bs ≡ take n bs ++ 10 ∷ [] = take_more bs n 0 lt ∙ ap (λ (b : ℕ). take n bs ++ b ∷ []) found in
-    ap (λ (t : List ℕ). lines_of (t ++ rest)) front ∙ ap lines_of (append_assoc (take n bs) (10 ∷ []) rest) ∙ lines-append (take n bs) rest
-    ∙ ap (λ (t : List ℕ). lines_of t ++ lines_of rest) (sym front)
 
 pub some-at : (bs : List ℕ) (n : ℕ) → n < length bs → get_or bs n 0 ≡ 10 → lines_of (take (n + 1) bs) ≢ []
 some-at bs n lt found none =
@@ -230,13 +195,11 @@ lines-from bs p n within ended le ne = search (arith, take_rest, length-drop, ge
 
 -- ==== A text has no more lines than bytes, and one.
 
--- whichever way the test goes
-split_few : (t : Bool) (b : ℕ) (ps : List (List ℕ)) → length (if t then [] ∷ ps else put_first b ps) ≤ length ps + 1
-split_few a b ps = search arith
-
 pieces_few : (separator : ℕ) (text : List ℕ) → length (pieces separator text) ≤ length text + 1
 pieces_few separator [] = omega arith
-pieces_few separator (b ∷ bs) = omega (arith, split_few (b == separator) b (pieces separator bs), pieces_few separator bs)
+pieces_few separator (b ∷ bs) = let split_few : length (if (b == separator) then [] ∷ (pieces separator bs) else put_first b (pieces separator bs)) ≤ length
+    -- whichever way the test goes
+    (pieces separator bs) + 1 = search arith in omega (arith, split_few, pieces_few separator bs)
 
 ends_few : (ps : List (List ℕ)) → length (without_empty_end ps) ≤ length ps
 ends_few [] = omega arith

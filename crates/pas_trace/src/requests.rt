@@ -5,12 +5,15 @@ ghost use Rattle.pas_trace.specs.{Reasons.{cost_of_size, cost_of_request, is_ali
 use crate::plan::What;
 use pas_profile::limits::{GRAIN_BYTES, MOST_BITFIT, PAGE_BYTES};
 
-/// Whether the alignment is a power of two from 16 to 4,096: a divisor of 4,096 is a power of two.
+/// Whether the alignment is a power of two from 16 to 4,096: a divisor of 4,096 is a power of two. Nearly every one is 16, which needs no division.
 #[inline(always)]
 pub(crate) fn is_aligning(align: u64) -> bool
     ensures { result ≡ is_alignment align }
 {
-    align >= GRAIN_BYTES as u64 && align <= PAGE_BYTES as u64 && PAGE_BYTES % align as u32 == 0
+    align == GRAIN_BYTES as u64
+        || align > GRAIN_BYTES as u64
+            && align <= PAGE_BYTES as u64
+            && PAGE_BYTES % align as u32 == 0
 }
 
 /// How many records an allocation of so many bytes may make, in a region of whatever classes: 2, or one and one for each whole page.

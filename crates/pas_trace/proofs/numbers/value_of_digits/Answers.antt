@@ -1,9 +1,9 @@
-use Rattle.std.proofs.{Common.{◌+◌, drop, sym, ap, ◌∙◌, arith}, lemmas.List.{drop_more, drop_all}}
-use Rattle.pas_trace.proofs.Digits.{value_after, value-step, value-large, value-end}
+use Rattle.std.proofs.{Common.{le-ltb, ◌+◌, drop, sym, ap, ◌∙◌, arith}, lemmas.List.{drop_more, drop_all}}
+use Rattle.pas_trace.proofs.Digits.{value-grows, if-false, value_after, value-step}
 use Rattle.pas_trace.proofs.numbers.value_of_digits.Goals as goal
 
 pub returns-then-value-digit : goal.returns-then-value-digit
-returns-then-value-digit c = search (arith, drop_more, value-large)
+returns-then-value-digit c = search (arith, drop_more, if-false, le-ltb, value-grows)
 
 pub loop-byte-preserved : goal.loop-byte-preserved
 loop-byte-preserved c =
@@ -13,4 +13,4 @@ loop-byte-preserved c =
     sym (value-step v _ (drop (i + 1) w) c.if-byte-lt48.false c.if-byte-gt57.false) ∙ sym (ap (value_after v) (drop_more w i 0 c.loop-byte-test.true)) ∙ c.loop-byte.invariant
 
 pub returns : goal.returns
-returns c = search (arith, drop_all, value-end)
+returns c = search (arith, drop_all)

@@ -1,16 +1,18 @@
-use Rattle.std.proofs.{Common.{◌+◌, ◌*◌, drop, get_or, sym, ap, ◌∙◌, arith}, lemmas.List.{drop_more, drop_all}}
-use Rattle.pas_trace.proofs.Digits.{hex_after, hex-step, hex-stop, hex-digit, hex-none, hex-room, hex-more, hex-bound}
+use Rattle.std.proofs.{lemmas.{Grind.pow_more, Bool.Decides.nat_tests, List.{drop_more, drop_all}}, Common.{◌≡◌, ◌≤◌, true, refl, ◌+◌, ◌*◌, drop, get_or, sym}}
+use Rattle.std.proofs.Common.{ap, ◌∙◌, arith}
+use Rattle.pas_trace.{specs.Numbers.{is_hex, hex_value}, proofs.Digits.{some-tested, none-tested, hex_after, hex-stop, hex-room, hex-bound}}
 use Rattle.pas_trace.proofs.numbers.value_of_hex.Goals as goal
 
 pub returns-in_default-clause-value : goal.returns-in_default-clause-value
-returns-in_default-clause-value c = search (arith, drop_more, hex-stop, hex-none, c.in_default.ensures)
+returns-in_default-clause-value c = search (arith, drop_more, hex-stop, none-tested, c.in_default.ensures)
 
 pub overflow_mul-value : goal.overflow_mul-value
 overflow_mul-value c = let r = hex-room _ _ c.loop-byte.invariant.1 (omega arith) in omega arith
 
 pub overflow_add-value : goal.overflow_add-value
 overflow_add-value c =
-    let d = hex-digit (get_or c.args.digits.now c.loop-byte.byte-index 0) c.in-Some.digit c.in-Some.ensures in
+    let d : (is_hex (get_or c.args.digits.now c.loop-byte.byte-index 0) ≡ true) × (c.in-Some.digit ≡ hex_value
+    (get_or c.args.digits.now c.loop-byte.byte-index 0)) × (c.in-Some.digit ≤ 15) = search (arith, some-tested, nat_tests) in
     let r = hex-room c.loop-byte.value c.loop-byte.byte-index c.loop-byte.invariant.1 (omega arith) in omega (arith, d)
 
 pub loop-byte-preserved : goal.loop-byte-preserved
@@ -19,9 +21,10 @@ loop-byte-preserved c =
     let i = c.loop-byte.byte-index in
     let v = c.loop-byte.value in
     let b = get_or w i 0 in
-    let d = hex-digit b c.in-Some.digit c.in-Some.ensures in (
-      ap (λ x. hex_after (16 * v + x) (drop (i + 1) w)) d.1 ∙ sym (hex-step v b (drop (i + 1) w) d.0) ∙ sym (ap (hex_after v) (drop_more w i 0 c.loop-byte-test.true)) ∙ c.loop-byte.invariant.0,
-      hex-more v c.in-Some.digit i c.loop-byte.invariant.1 d.2,
+    let d : (is_hex b ≡ true) × (c.in-Some.digit ≡ hex_value b) × (c.in-Some.digit ≤ 15) = search (arith, some-tested, nat_tests) in (
+      ap (λ x. hex_after (16 * v + x) (drop (i + 1) w)) d.1 ∙ sym (rw d.0 refl) ∙ sym (ap (hex_after v) (drop_more w i 0 c.loop-byte-test.true))
+          ∙ c.loop-byte.invariant.0,
+      omega (arith, pow_more 16 i, c.loop-byte.invariant.1, d.2),
     )
 
 pub returns-clause-small : goal.returns-clause-small

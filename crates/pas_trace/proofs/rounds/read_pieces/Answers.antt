@@ -1,6 +1,6 @@
-use Rattle.std.proofs.{Common.{◌≡◌, ◌++◌, [], ℕ, List, subst, sym, ap, ◌∙◌, arith, append-nil}, lemmas.Result.err_from_is_err_and}
-use Rattle.pas_trace.{specs.{Lexed.AreLexed, Texts.lines_of, Told.AreTaken, declared.item.Item.Item}, proofs.LexedLines.{at-first, left-is, lexed-none}}
-use Rattle.pas_trace.proofs.LexedLines.{lexed-now, after-lines, lines-fault, all-read, at-ok, none-of}
+use Rattle.pas_trace.{proofs.LexedLines.{items-fault, at-first, left-is, lexed-now, after-lines, all-read, at-ok, none-of}, specs.Lexed.AreLexed}
+use Rattle.pas_trace.specs.{Texts.lines_of, Told.AreTaken, declared.item.Item.Item}
+use Rattle.std.proofs.{Common.{refl, ◌≡◌, ◌++◌, [], ℕ, List, subst, sym, ap, ◌∙◌, arith, append-nil}, lemmas.Result.err_from_is_err_and}
 use Rattle.pas_trace.proofs.rounds.read_pieces.Goals as goal
 
 pub loop-rest-init : goal.loop-rest-init
@@ -10,7 +10,8 @@ loop-rest-init g c =
     let piece = c.cut.result.0.now in
     record {
       piece = piece;
-      lexed = subst (λ (items : List Item). AreLexed r.header.version piece items piece) (sym c.clear.ensures.items) (lexed-none r.header.version piece);
+      lexed = subst (λ (items : List Item). AreLexed r.header.version piece items piece) (sym c.clear.ensures.items)
+          (record { lines = []; cut = refl; say = λ started. refl; few = omega arith });
       far = λ told t. left-is r r told (lines_of text) (lines_of text) (lines_of piece ++ lines_of c.cut.result.1.now) c.cut.ensures.lines (at-first r told (lines_of text) t);
       size = omega (arith, c.requires.size, c.cut.ensures.bytes);
     }
@@ -61,7 +62,7 @@ returns-in_err-took g c told t =
     let new = c.take_and_lex-took.new.reader in
     let lexed = lexed-now c.args.reader.now now h.piece c.loop-rest.full.items _ c.loop-rest.left.now far.header (sym c.deref.ensures.value) h.lexed in
     let read = subst (λ result. AreTaken now far.items (lines_of h.piece) new result) c.in_err-took.was (c.take_and_lex-took.ensures.read far.items h.piece far.tells lexed) in
-    rw (p.1, p.2) (lines-fault c.args.reader.now now new told (lines_of c.args.text.now) (lines_of h.piece) (lines_of c.loop-rest.rest.now) _ far read)
+    rw (p.1, p.2) (search (arith, items-fault))
 
 pub returns : goal.returns
 returns g c told t =

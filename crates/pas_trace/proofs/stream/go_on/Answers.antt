@@ -1,5 +1,5 @@
-use Rattle.std.proofs.Common.{arith, length-take}
-use Rattle.pas_trace.proofs.TakenLines.{taken-more}
+use Rattle.std.proofs.Common.{take, arith, length-take}
+use Rattle.pas_trace.proofs.TakenLines.{more-lines}
 use Rattle.pas_trace.proofs.stream.go_on.Goals as goal
 
 pub lines_after-lines-requires-clause-tells : goal.lines_after-lines-requires-clause-tells
@@ -11,4 +11,8 @@ lines_after-lines-requires-clause-size c = let few = c.requires.1.few in omega (
 pub returns : goal.returns
 returns c =
     let whole = c.whole_lines-count.ensures in
-    taken-more c.args.reader c.args.text.now c.lines_after-lines.result c.whole_lines-count.result whole.within whole.whole c.lines_after-lines.ensures
+    record {
+      within = whole.within;
+      taken = λ before h. more-lines before
+          (take c.whole_lines-count.result c.args.text.now) c.args.reader c.lines_after-lines.result whole.whole h c.lines_after-lines.ensures;
+    }

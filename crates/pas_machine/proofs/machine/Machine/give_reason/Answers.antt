@@ -1,7 +1,8 @@
+use Rattle.pas_bits.proofs.Runs.{to_run}
+use Rattle.pas_machine.{proofs.Verdicts.{page_within, inside_never, give_before, gives_are, place_at, some_page, each_page, none_lives}, specs.Places.IsOfHeap}
+use Rattle.pas_machine.specs.declared.places.Page.{Page}
 use Rattle.std.proofs.{Common.{◌≡◌, true, false, sym, ◌∙◌, arith}, lemmas.Bool.false≢true}
 use Rattle.pas_profile.specs.Blocks.{address_of}
-use Rattle.pas_machine.{specs.{Places.IsOfHeap, declared.places.Page.Page}, proofs.Verdicts.{inside_never, give_before, number_below, gives_are, place_at}}
-use Rattle.pas_machine.proofs.Verdicts.{some_page, each_page, some_lives, none_lives}
 use Rattle.pas_machine.proofs.machine.Machine.give_reason.Goals as goal
 
 pub returns-then-lacks_deed-clause-verdict : goal.returns-then-lacks_deed-clause-verdict
@@ -38,7 +39,7 @@ returns-then-is_some_covered-clause-verdict c k es shows =
     let backed = rw (c.grain-first.ensures, c.grains.ensures, c.deref-2.ensures.value) at c.if-lacks_backing.ensures in
     let some = rw (c.grain-first.ensures, c.grains.ensures, c.deref-3.ensures.value) at c.if-is_some_covered.ensures in
     record {
-      applies = some_lives shows block is some;
+      applies = search (arith, to_run, false≢true, page_within);
       others = give_before f es k block 7 (λ _. inside_never f block is) (λ _ h. omega (arith, h, c.if-block-self.false))
           (λ _ h. h.2 (each_page shows block is (λ (p : Page). IsOfHeap block.heap p.directory) deeds h.0 h.1))
           (λ _ h. false≢true (cc (each_page shows block is (λ (p : Page). p.backed ≡ true) backed h.0 h.1))) (λ lt. absurd (omega (arith, lt))) (λ lt. absurd (omega (arith, lt)));
@@ -72,4 +73,4 @@ returns-clause-verdict c k es shows reason =
     give_before f es k block 12 (λ _. inside_never f block is) (λ _ h. omega (arith, h, c.if-block-self.false))
     (λ _ h. h.2 (each_page shows block is (λ (p : Page). IsOfHeap block.heap p.directory) deeds h.0 h.1))
     (λ _ h. false≢true (sym h.2 ∙ each_page shows block is (λ (p : Page). p.backed ≡ true) backed h.0 h.1)) (λ _ h. none_lives shows block is clear h.0 h.1 h.2)
-    (λ _ h. h (sym c.if-index-block.false ∙ gives_are es (address_of block.name) is.whole.aligned c.index.result.now p)) reason (number_below reason)
+    (λ _ h. h (sym c.if-index-block.false ∙ gives_are es (address_of block.name) is.whole.aligned c.index.result.now p)) reason (grind arith)

@@ -1,13 +1,13 @@
-use Rattle.std.proofs.{Common.{ap, arith}, lemmas.Result.on_ok_weaker}
-use Rattle.pas_trace.{specs.Reasons.{actor_of, guard_after, is_operation}, proofs.Telling.{added_wish, added_chore, added_phase, added_guard, small_actor}}
-use Rattle.pas_trace.proofs.Telling.{small_heap, ready_for, sample_for, guard_for, fit_for}
+use Rattle.std.proofs.{Common.{ltb-true, ap, arith}, lemmas.Result.on_ok_weaker}
+use Rattle.pas_trace.proofs.{PassedChecks.passes, Telling.{added_wish, added_chore, added_phase, added_guard, small_actor, ready_for, sample_for, guard_for}}
+use Rattle.pas_trace.{proofs.Telling.fit_for, specs.Reasons.{actor_of, guard_after, is_operation}}
 use Rattle.pas_trace.proofs.reader.Reader.add.Goals as goal
 
 pub overflow_cast-self : goal.overflow_cast-self
-overflow_cast-self c = search (arith, small_heap)
+overflow_cast-self c = search (arith, ltb-true, passes)
 
 pub overflow_shl-self : goal.overflow_shl-self
-overflow_shl-self c = search (arith, small_heap)
+overflow_shl-self c = search (arith, ltb-true, passes)
 
 pub overflow_cast-thread : goal.overflow_cast-thread
 overflow_cast-thread c =

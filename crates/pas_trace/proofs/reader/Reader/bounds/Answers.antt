@@ -1,9 +1,9 @@
+use Rattle.pas_trace.{proofs.Telling.{own_costs-le, bound-thread, bounds-more}, specs.Plans.own_costs}
 use Rattle.std.proofs.Common.{◌≡◌, ◌+◌, ◌∷◌, ◌++◌, [], get_or, ap, ◌∙◌, arith}
-use Rattle.pas_trace.{specs.Plans.own_costs, proofs.Telling.{cost-within, bound-thread, bounds-more}}
 use Rattle.pas_trace.proofs.reader.Reader.bounds.Goals as goal
 
 pub overflow_add-self : goal.overflow_add-self
-overflow_add-self c = search (arith, cost-within)
+overflow_add-self c = search (arith, own_costs-le)
 
 pub loop-thread-init : goal.loop-thread-init
 loop-thread-init c items t =

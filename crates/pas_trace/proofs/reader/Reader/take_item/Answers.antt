@@ -1,5 +1,5 @@
-use Rattle.std.proofs.Common.{sym, refl}
-use Rattle.pas_trace.proofs.Telling.{says-item, says-reason}
+use Rattle.std.proofs.Common.{arith, sym, refl}
+use Rattle.pas_trace.proofs.Telling.{bound-after, own-same, says-item}
 use Rattle.pas_trace.proofs.reader.Reader.take_item.Goals as goal
 
 pub returns-in-Ok-add : goal.returns-in-Ok-add
@@ -9,4 +9,4 @@ returns-in-Ok-add c items line t e =
     (c.args.item, says.0, added.tells items t says.1, added.header, added.line, added.scripting)
 
 pub returns-in-Err : goal.returns-in-Err
-returns-in-Err c items line t e = rw c.fault.ensures (c.in-Err.reason, says-reason _ items line _ c.in-Err.reason t (sym e) c.in-Err.ensures, refl)
+returns-in-Err c items line t e = rw c.fault.ensures (c.in-Err.reason, search (arith, own-same, bound-after), refl)

@@ -1,5 +1,5 @@
-use Rattle.std.proofs.{Common.{◌≡◌, ◌+◌, [], List, drop, subst, arith}, lemmas.{List.{drop_more, drop_all}, Result.err_from_is_err_and}}
-use Rattle.pas_trace.{specs.declared.item.Item.Item, proofs.LexedLines.{Further, further-more, further-line, further-fault, further-end}}
+use Rattle.std.proofs.{Common.{ap, ◌∙◌, ◌≡◌, ◌+◌, [], List, drop, subst, arith}, lemmas.{List.{drop_more, drop_all}, Result.err_from_is_err_and}}
+use Rattle.pas_trace.{specs.{Plans.items_from, declared.item.Item.Item}, proofs.LexedLines.{none-left, Further, further-more, further-line, further-fault}}
 use Rattle.pas_trace.proofs.reader.Reader.take_items.Goals as goal
 
 pub take_by_kind-requires-clause-tells : goal.take_by_kind-requires-clause-tells
@@ -40,4 +40,12 @@ pub returns-clause-taken : goal.returns-clause-taken
 returns-clause-taken c told lines t said =
     let h = c.loop-item.invariant.further told lines t said in
     let none : drop c.loop-item.item-index c.args.items.now ≡ [] = drop_all c.loop-item.item-index c.args.items.now (omega arith) in
-    further-end c.args.self.now c.loop-item.self told lines (subst (λ (items : List Item). Further c.args.self.now told lines c.loop-item.self items) none h)
+    let h = subst (λ (items : List Item). Further c.args.self.now told lines c.loop-item.self items) none h in (
+      h.far.items,
+      h.far.same
+          ∙ ap (items_from c.args.self.now.header (c.loop-item.self.line + 1) h.far.items)
+          (none-left c.args.self.now.header.version h.left h.say),
+      h.far.tells,
+      h.far.header,
+      h.far.scripting,
+    )

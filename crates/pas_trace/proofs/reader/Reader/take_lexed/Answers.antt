@@ -1,5 +1,5 @@
+use Rattle.pas_trace.proofs.LexedLines.{all-read, lexed-far, lexed-fault}
 use Rattle.std.proofs.lemmas.Result.{err_from_is_err_and}
-use Rattle.pas_trace.proofs.LexedLines.{lexed-far, lexed-read, lexed-fault}
 use Rattle.pas_trace.proofs.reader.Reader.take_lexed.Goals as goal
 
 pub returns-in_err-take_items-clause-read : goal.returns-in_err-take_items-clause-read
@@ -17,4 +17,5 @@ read_lines-requires-clause-tells c =
 
 pub returns-clause-read : goal.returns-clause-read
 returns-clause-read c told text t lexed =
-    lexed-read _ _ _ told text _ _ _ lexed t (c.in_ok-take_items.ensures.taken told lexed.lines t lexed.say) c.read_lines.ensures.read
+    let far = lexed-far _ _ told text _ _ lexed t (c.in_ok-take_items.ensures.taken told lexed.lines t lexed.say) in
+    all-read _ _ _ told _ _ _ far (c.read_lines.ensures.read far.items far.tells)

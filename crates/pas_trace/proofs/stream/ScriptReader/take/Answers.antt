@@ -1,5 +1,5 @@
-use Rattle.std.proofs.Common.{arith, ◌≡◌, ℕ, List, refl, subst}
-use Rattle.pas_trace.{specs.{Streams.{AreLinesOf, TakesLines}, declared.{stream.Lines.Lines, reader.Reader.Reader}}, proofs.TakenLines.taken-faulty}
+use Rattle.std.proofs.Common.{◌++◌, Err, sym, length, append_assoc, take, arith, ◌≡◌, ℕ, List, refl, subst}
+use Rattle.pas_trace.specs.{Scripts.IsScripting, Streams.{AreLinesOf, TakesLines}, declared.{stream.Lines.Lines, reader.Reader.Reader}}
 use Rattle.pas_trace.specs.declared.stream.Lines.TheVariants as kind
 use Rattle.pas_trace.proofs.stream.ScriptReader.take.Goals as goal
 
@@ -20,4 +20,9 @@ pub returns-in-Read : goal.returns-in-Read
 returns-in-Read c = rw c.in-Read.is (takes-same c.go_on.ensures (rw c.in-Read.is refl))
 
 pub returns-in-Faulty : goal.returns-in-Faulty
-returns-in-Faulty c = rw c.in-Faulty.is (taken-faulty c.in-Faulty.fault c.args.text.now)
+returns-in-Faulty c = rw c.in-Faulty.is (record {
+  within = omega arith;
+  taken = λ before wrong rest. subst (λ (t : List ℕ). IsScripting t (Err c.in-Faulty.fault))
+      (sym (append_assoc before (take (length c.args.text.now) c.args.text.now) rest))
+      (wrong (take (length c.args.text.now) c.args.text.now ++ rest));
+})
