@@ -1,7 +1,6 @@
 -- Which acts of a plan are left: for threads in order, which the reader's crate has, and after so many phases.
-use Rattle.std.proofs.Common.{◌≡◌, ℕ, zero, suc, ◌+◌, ◌<◌, ◌≤◌, List, [], ◌∷◌, ◌++◌, length, drop, get_or, ap, arith, drop_of_length-le}
-use Rattle.std.proofs.lemmas.List.{drop_more}
-use Rattle.pas_trace.specs.{declared.plan.Op.Op, Acts.{Act, MarksPhase, phase_acts, close_acts, acts_from, acts_of}}
+use Rattle.std.proofs.Common.{[], ◌≡◌, ℕ, zero, suc, ◌+◌, ◌<◌, ◌≤◌, List, ◌∷◌, ◌++◌, length, drop, get_or, ap, arith, drop_of_length-le}
+use Rattle.pas_acts.proofs.Common.{drop_more, Op, Act, MarksPhase, phase_acts, close_acts, acts_from, acts_of}
 pub use Rattle.pas_trace.proofs.ThreadsInOrder.{number_next, number_last, acts_there, next_chosen, next_passed, none_left, threads_alike}
 
 -- after so many phases
@@ -13,10 +12,6 @@ acts_left threads keepers (suc n) phases = acts_from threads keepers (suc n + 1)
 pub close_left : (threads keepers n : ℕ) → acts_left threads keepers n [] ≡ close_acts threads keepers
 close_left threads keepers a = search arith
 
--- After n phases just the acts of those behind them are left: by the definitions.
-left_is : (threads keepers n : ℕ) (phases : List (List Op)) → 1 ≤ n → acts_left threads keepers n phases ≡ acts_from threads keepers (n + 1) phases
-left_is threads keepers n phases h = grind arith
-
 -- the first phase, which has no mark, and another one
 pub first_phase : (threads keepers n : ℕ) (phase : List Op) (phases : List (List Op)) → n ≡ 0
     → acts_left threads keepers n (phase ∷ phases) ≡ phase_acts threads phase ++ acts_left threads keepers (n + 1) phases
@@ -25,7 +20,7 @@ first_phase threads keepers n phase phases is = grind arith
 -- A phase that isn't the first is its mark, its acts and those of the phases after it.
 pub other_phase : (threads keepers n : ℕ) (phase : List Op) (phases : List (List Op)) → 1 ≤ n
     → acts_left threads keepers n (phase ∷ phases) ≡ MarksPhase (n + 1) ∷ (phase_acts threads phase ++ acts_left threads keepers (n + 1) phases)
-other_phase threads keepers n phase phases some = search (arith, left_is)
+other_phase threads keepers n phase phases some = search arith
 
 -- The acts left from a phase on are those of its operations and of the phases after it.
 pub next_list : (threads keepers : ℕ) (lists : List (List Op)) (i : ℕ) → i < length lists

@@ -1,15 +1,13 @@
 -- The acts of a plan fit where its operations do, and cost no more than they, and one record for each phase and one for the close.
-use Rattle.std.proofs.Common.{◌≡◌, ℕ, ◌+◌, ◌*◌, ◌<◌, ◌≤◌, ◌==◌, Bool, true, if◌then◌else◌, cond, List, [], ◌∷◌, ◌++◌, length, Option, refl, ap, sym, subst}
-use Rattle.std.{proofs.{Common.{arith, append_assoc, map, MatchOption, eq-eqb}, Math.Nat.suc-mul}, specs.List.{AllByRecursion, filter}}
-use Rattle.pas_profile.specs.declared.profile.Profile.{Profile}
-use Rattle.pas_trace.specs.EveryPlan.{all_ops, asked_with, asked_after, IsThread, IsActorBy, IsActorOf, IsSoundWork, AreSound, records_of_work, records_of_what}
-use Rattle.pas_trace.specs.{EveryPlan.{records_of_ops, records_of_chore, own_records}, Asked.{work_of, of_task, request_of, keeper_of}}
-use Rattle.pas_trace.specs.{declared.plan.{Chore.Chore, Work.Work, Op.Op}, Acts.{Act, Settles, MarksPhase, Wakes, Ends, Lowers, act_kept, numbers_from}}
-use Rattle.pas_trace.specs.Acts.{idle_threads, acts_of_chore, acts_of_work, acts_of_op, acts_of_ops, phase_acts, close_acts, acts_from, acts_of, MarksClose}
-use Rattle.pas_trace.{specs.Acts.{operation_in, active_threads, idle_stops}, proofs.ThreadsInOrder.numbers_count}
-use Rattle.pas_answers.{proofs.{SingleActs.sum_both, EachAct.{all_front, all_back, all_any, all_of_chore, all_of_close, all_acts}}, specs.Fit.KeepsAbove}
-use Rattle.pas_answers.specs.Fit.{IsFitWhat, AreFit, AreOfThreads, cost_of_what, cost_of_act, costs_of, own_cost_of_act, own_costs_of, unbacks_of_act}
-use Rattle.pas_answers.specs.Fit.{unbacks_of, sum_over, AreBelow}
+use Rattle.std.proofs.Common.{if◌then◌else◌, [], ◌≡◌, ℕ, ◌+◌, ◌*◌, ◌<◌, ◌≤◌, ◌==◌, Bool, true, cond, List, ◌∷◌, ◌++◌, length, Option, refl, ap, arith}
+use Rattle.std.proofs.{Common.{append_assoc, map, MatchOption, eq-eqb}, Math.Nat.suc-mul}
+use Rattle.pas_acts.proofs.Common.{AllByRecursion, filter, Profile, all_ops, asked_with, asked_after, IsActorBy, IsActorOf, AreSound, records_of_ops, work_of}
+use Rattle.pas_acts.proofs.Common.{of_task, Chore, Work, Op, Act, Settles, MarksPhase, Wakes, Ends, Lowers, act_kept, numbers_from, idle_threads, acts_of_work}
+use Rattle.pas_acts.proofs.Common.{acts_of_op, acts_of_ops, phase_acts, close_acts, acts_from, acts_of, sum_both, all_front, all_back, all_any, all_of_chore}
+use Rattle.pas_acts.proofs.Common.{all_of_close, all_acts, KeepsAbove, AreFit, AreOfThreads, cost_of_what, cost_of_act, costs_of, own_cost_of_act, own_costs_of}
+use Rattle.pas_acts.proofs.Common.{unbacks_of_act, unbacks_of, sum_over, AreBelow}
+use Rattle.pas_trace.specs.{EveryPlan.{IsSoundWork, records_of_work, records_of_what, own_records}, Asked.request_of, Acts.{MarksClose, operation_in}}
+use Rattle.pas_trace.{specs.Acts.{active_threads, idle_stops}, proofs.ThreadsInOrder.numbers_count}
 
 -- ---- so many threads
 one_chosen : (b : Bool) (k : ℕ) (chosen ks : List ℕ) → length chosen ≤ length ks → length (cond b (k ∷ chosen) chosen) ≤ length (k ∷ ks)
@@ -57,8 +55,7 @@ module _ (f : Profile) (cost : Act → ℕ) (most : Op → ℕ) (mark : ℕ)
     (phase : (n : ℕ) → cost (MarksPhase n) ≡ mark) (close : cost MarksClose ≡ mark) where
   of_ops : (idle : List ℕ) (ops : List Op) → length idle ≤ f.threads → ArePlanned f ops → sum_over cost (acts_of_ops idle ops) ≤ sum_of_ops most ops
   of_ops idle [] few all = omega arith
-  of_ops idle (op ∷ ops) few all =
-      omega (arith, each idle op few all.0, of_ops idle ops few all.1, sum_both cost (acts_of_op idle op) (acts_of_ops idle ops))
+  of_ops idle (op ∷ ops) few all = let rest = of_ops idle ops few all.1 in search (arith, rest, sum_both)
 
   of_phase : (ops : List Op) → ArePlanned f ops → sum_over cost (phase_acts f.threads ops) ≤ sum_of_ops most ops
   of_phase ops all =
@@ -85,10 +82,6 @@ module _ (f : Profile) (cost : Act → ℕ) (most : Op → ℕ) (mark : ℕ)
   plan_sums_at_most keepers (p ∷ ps) all = let marked = of_later keepers 1 (p ∷ ps) all in omega (arith, marked)
 
 -- ---- each operation
--- records
-chore_costs : (f : Profile) (idle : List ℕ) (chore : Chore) → length idle ≤ f.threads → costs_of f.pages (acts_of_chore idle chore) ≤ records_of_chore f chore
-chore_costs f idle chore few = search (arith, one_each)
-
 -- a thread's operation costs the same whether it is guarded or not
 kept_cost : (f : Profile) (keeper : Option ℕ) (op : Op) → costs_of f.pages (act_kept keeper op ∷ (Settles op.actor ∷ [])) ≡ cost_of_what op.what
 kept_cost f keeper op = grind arith
@@ -96,35 +89,15 @@ kept_cost f keeper op = grind arith
 -- The acts of an operation's work cost at most the records that the work may make.
 pub work_costs : (f : Profile) (idle : List ℕ) (op : Op) (work : Work) → work_of op.what ≡ work → length idle ≤ f.threads
     → costs_of f.pages (acts_of_work idle op work) ≤ records_of_work f work
-work_costs f idle op work is few = search (arith, kept_cost, chore_costs)
+work_costs f idle op work is few = search (arith, kept_cost, one_each)
 
 -- events of thread k
 own_cost : (t : Bool) (a b : ℕ) → a ≡ b → (if t then a else 0) + 0 ≤ (if t then b else 0)
 own_cost t a b same = grind arith
 
-chore_owns : (k : ℕ) (idle : List ℕ) (chore : Chore) → own_costs_of k (acts_of_chore idle chore) ≡ 0
-chore_owns k idle chore = search (arith, free_map)
-
--- whether it is guarded or not, by computing
-kept_owns : (k : ℕ) (keeper : Option ℕ) (op : Op)
-    → own_costs_of k (act_kept keeper op ∷ (Settles op.actor ∷ [])) ≡ (if op.actor == k then cost_of_what op.what else 0) + 0
-kept_owns k a op = search arith
-
-work_owns : (f : Profile) (k : ℕ) (idle : List ℕ) (op : Op) (work : Work) → work_of op.what ≡ work
-    → own_costs_of k (acts_of_work idle op work) ≤ (if op.actor == k then records_of_work f work else 0)
-work_owns f k idle op work is = search (arith, kept_owns, own_cost, chore_owns)
-
 -- pages that the scavenger unbacks, which is actor 0
 its_own : (t : Bool) (n : ℕ) → t ≡ true → n ≤ (if t then 1 + n else 0)
 its_own t n is = grind arith
-
--- A guarded request and what settles it end the backing of no page.
-kept_unbacks : (f : Profile) (keeper : Option ℕ) (op : Op) → unbacks_of f.pages (act_kept keeper op ∷ (Settles op.actor ∷ [])) ≤ 0
-kept_unbacks f keeper op = grind arith
-
-work_unbacks : (f : Profile) (idle : List ℕ) (op : Op) (work : Work) → IsActorBy f work op.actor
-    → unbacks_of f.pages (acts_of_work idle op work) ≤ (if op.actor == 0 then records_of_work f work else 0)
-work_unbacks f idle op work h = grind (arith, kept_unbacks, its_own, eq-eqb, free_map)
 
 -- ---- the plan's own sums
 records_sum : (f : Profile) (ops : List Op) → sum_of_ops (λ op. records_of_what f op.what) ops ≡ records_of_ops f ops
@@ -148,7 +121,7 @@ pub plan_owns : (f : Profile) (keepers k : ℕ) (phases : List (List Op)) → Ar
     → own_costs_of k (acts_of f.threads keepers phases) ≤ own_records f k (all_ops phases)
 plan_owns f keepers k phases all =
     let most = plan_sums_at_most f (own_cost_of_act k) (λ op. if op.actor == k then records_of_what f op.what else 0) 0
-    (λ idle op few is. work_owns f k idle op (work_of op.what) refl) (λ j. refl) (λ j. refl) (λ j. refl) (λ n. refl) refl keepers phases all in
+    (λ idle op few is. search (arith, own_cost, free_map)) (λ j. refl) (λ j. refl) (λ j. refl) (λ n. refl) refl keepers phases all in
     omega (arith, most, own_sum f k (all_ops phases))
 
 -- The acts of a plan unback at most as many pages as the scavenger's operations may make records.
@@ -156,7 +129,7 @@ pub plan_unbacks : (f : Profile) (keepers : ℕ) (phases : List (List Op)) → A
     → unbacks_of f.pages (acts_of f.threads keepers phases) ≤ own_records f 0 (all_ops phases)
 plan_unbacks f keepers phases all =
     let most = plan_sums_at_most f (unbacks_of_act f.pages) (λ op. if op.actor == 0 then records_of_what f op.what else 0) 0
-    (λ idle op few is. work_unbacks f idle op (work_of op.what) is) (λ j. refl) (λ j. refl) (λ j. refl) (λ n. refl) refl keepers phases all in
+    (λ idle op few is. grind (arith, its_own, eq-eqb, free_map)) (λ j. refl) (λ j. refl) (λ j. refl) (λ n. refl) refl keepers phases all in
     omega (arith, most, own_sum f 0 (all_ops phases))
 
 -- ---- what acts fit to
@@ -169,29 +142,18 @@ skip_stops : (f : Profile) (limit : ℕ) (asked : List ℕ) (n : ℕ) (idle : Li
 skip_stops f limit asked n [] more fit = fit
 skip_stops f limit asked n (k ∷ idle) more fit = skip_stops f limit asked n idle more fit
 
-fits_chore : (f : Profile) (limit : ℕ) (asked : List ℕ) (chore : Chore) (idle : List ℕ) (more : List Act) → IsSoundWork f asked (Work.Chore chore)
-    → AreFit f limit asked more → AreFit f limit asked (acts_of_chore idle chore ++ more)
-fits_chore f limit asked chore idle more sound fit = search (arith, skip_stops)
-
--- They fit where the operation's keeper is one of the region.
-kept_fits : (f : Profile) (limit : ℕ) (asked : List ℕ) (keeper : Option ℕ) (op : Op) (more : List Act)
-    → MatchOption keeper (Unit {0}) (λ k. IsThread f k × (op.actor < k)) → IsThread f op.actor → IsFitWhat f limit asked op.what
-    → AreFit f limit (asked_after op.what asked) more → AreFit f limit asked (act_kept keeper op ∷ (Settles op.actor ∷ more))
-kept_fits f limit asked keeper op more h i j m = grind arith
-
 -- Each work of an operation fits.
 fits : (f : Profile) (limit : ℕ) (asked : List ℕ) (op : Op) (work : Work) (idle : List ℕ) (more : List Act) → KeepsAbove f op → work_of op.what ≡ work
     → MatchOption (of_task request_of work) (Unit {0}) (λ r. r.name < limit) → IsActorBy f work op.actor → IsSoundWork f asked work
     → AreFit f limit (asked_with (of_task request_of work) asked) more → AreFit f limit asked (acts_of_work idle op work ++ more)
-fits f limit asked op work idle more above is below of sound fit = search (arith, kept_fits, fits_chore)
+fits f limit asked op work idle more above is below of sound fit = search (arith, skip_stops)
 
 -- The acts of operations, and what follows them, fit where the names of all are below a limit.
 pub ops_fit : (f : Profile) (limit : ℕ) (idle : List ℕ) (ops rest : List Op) (more : List Act) → AreBelow limit (ops ++ rest) → Continues f limit rest more
     → Continues f limit (ops ++ rest) (acts_of_ops idle ops ++ more)
 ops_fit f limit idle [] rest more below go asked sound above = go asked sound above
 ops_fit f limit idle (op ∷ ops) rest more below go asked sound above =
-    subst (AreFit f limit asked) (sym (append_assoc (acts_of_op idle op) (acts_of_ops idle ops) more))
-    (fits f limit asked op (work_of op.what) idle _ above.0 refl below.0 sound.0 sound.1 (ops_fit f limit idle ops rest more below.1 go _ sound.2 above.1))
+    let rest = ops_fit f limit idle ops rest more below.1 go _ sound.2 above.1 in search (arith, rest, append_assoc, fits)
 
 wakes_fit : (f : Profile) (limit : ℕ) (asked : List ℕ) (ks : List ℕ) (more : List Act) → AreFit f limit asked more → AreFit f limit asked (map Wakes ks ++ more)
 wakes_fit f limit asked [] more fit = fit
@@ -234,14 +196,10 @@ of_each : (threads : ℕ) (acts : List Act) → AllByRecursion (IsOfThread threa
 of_each threads [] all = tt
 of_each threads (act ∷ acts) all = (all.0, of_each threads acts all.1)
 
--- They are acts of a thread where the operation is.
-of_kept : (threads : ℕ) (keeper : Option ℕ) (op : Op) → op.actor ≤ threads
-    → AllByRecursion (IsOfThread threads) (act_kept keeper op ∷ (Settles op.actor ∷ []))
-of_kept threads keeper op h = grind arith
-
+-- a thread's own acts, guarded or not, and those of a chore
 of_work : (f : Profile) (idle : List ℕ) (op : Op) (work : Work) → IsActorBy f work op.actor
     → AllByRecursion (IsOfThread f.threads) (acts_of_work idle op work)
-of_work f idle op (Work.Own task) of = of_kept f.threads (keeper_of task) op of.1
+of_work f idle op (Work.Own task) of = grind arith
 of_work f idle op (Work.Chore chore) of = all_of_chore (IsOfThread f.threads) (λ k. Unit {0}) idle chore (λ epoch. tt) tt tt (λ k n is. tt) (all_any idle)
 
 -- The acts of a plan are of its threads.

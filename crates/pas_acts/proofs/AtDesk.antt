@@ -1,34 +1,28 @@
 -- The acts of a thread at its desk, and what one actor's acts come to for it: an operation, its stop, and its reading of the epoch.
-use Rattle.std.proofs.Common.{◌≡◌, ℕ, ◌+◌, ◌≤◌, List, ◌++◌, length, ap, sym, ◌∙◌, subst, arith, length-append, ◌==◌, if◌then◌else◌, inr, [], ◌∷◌, Option, None}
-use Rattle.std.proofs.{Common.{refl, append-nil, eq-eqb, ◌≢◌, Bool, true, Some, ne_eqb, max, reverse}, lemmas.List.{length-map, length-reverse}}
-use Rattle.pas_profile.specs.declared.{profile.Profile.Profile, name.Block.Block, guard.Guard.Guard, event.{Range.Range, Event.Event, Outcome.Outcome}}
-use Rattle.pas_profile.specs.declared.word.Word.{Word}
-use Rattle.pas_steps.specs.{Events.events_by, Lists.{Whole, part}, Views.View, Desks.{Standing, triples, made, CanCall, Makes}, declared.step.Made.Made}
-use Rattle.pas_steps.specs.{declared.step.Step.TheVariants.{Look, Tick}, Calls.Calls, Agreement.Agreed, Unknown.unknown_pages, Clear.HasNothing}
-use Rattle.pas_steps.proofs.{Parts.{part_of_own, part_of_others}, Frames.events_split, Called.{call_none, call_as}, SpareRoom.Spares, Unknown.unknown_no_more}
+use Rattle.std.proofs.Common.{if◌then◌else◌, [], ◌≡◌, ℕ, ◌+◌, ◌≤◌, List, ◌++◌, length, ap, sym, ◌∙◌, subst, arith, length-append, ◌==◌, ◌∷◌, Option, None, refl}
+use Rattle.std.proofs.{Common.{append-nil, eq-eqb, ◌≢◌, Bool, true, ne_eqb, max, reverse}, lemmas.List.length-reverse}
+use Rattle.pas_acts.proofs.Common.{length-map, Profile, Block, Guard, events_by, Whole, part, View, Standing, triples, made, Made, part_of_own, part_of_others}
+use Rattle.pas_acts.proofs.Common.{records_in, room_of, Records, Record, Said, Cached, Progress, having, Answer, answer_of, begun, settled, stopped, epoch_look}
+use Rattle.pas_acts.proofs.Common.{after_answer, after_settling, after_wake, after_stop, IsAnswered, IsStopped, records_of, said_by, Books, with_book}
+use Rattle.pas_acts.proofs.Common.{after_tick, after_pass, after_reading, owed_events, named_by, MayStand, Reaches, records_of_pass, IsFitWhat, cost_of_what}
+use Rattle.pas_acts.proofs.Common.{cost_of_act, unbacks_of_act, Tried, IsTried, after_trying, IsLowered, after_lowering, owed_by_keeper, cost_of_try, its_cache}
+use Rattle.pas_acts.proofs.Common.{piece_of, events_of_piece, swept_each, try_each, pass_of, Later, RestsAt, StandsAt, StandsStill, KeeperHas, HasStill}
+use Rattle.pas_acts.proofs.Common.{LaterKept, KeeperTries, and_for, here, MayOperate, ThreadActs, Op, What, Request, Act, Operates, Settles, StopsIdle, Wakes}
+use Rattle.pas_acts.{proofs.Common.{Ends, Ticks, MakesPass, ReadsEpoch, cost_of_size, guards_in, GuardBook}, specs.{Works.Sits, Turns.{Moves, LeavesRest}}}
+use Rattle.pas_acts.specs.{Turns.Says, Keepers.{keeper_has, and_try, KeeperAt, KeeperLowers}, AtDesks.{GoesThrough, HasRoomAt, for_act, ScavengerActs}}
+use Rattle.pas_trace.specs.declared.plan.What.TheVariants.{Stop}
+use Rattle.pas_profile.specs.declared.{event.{Range.Range, Event.Event, Outcome.Outcome}, word.Word.Word}
+use Rattle.pas_steps.specs.{Desks.{CanCall, Makes}, declared.step.Step.TheVariants.{Look, Tick}, Calls.Calls, Agreement.Agreed, Unknown.unknown_pages}
+use Rattle.pas_steps.{specs.Clear.HasNothing, proofs.{Frames.events_split, Called.{call_none, call_as}, SpareRoom.Spares, Unknown.unknown_no_more}}
 use Rattle.pas_steps.proofs.Apart.{no_events}
-use Rattle.pas_records.specs.{Rooms.{records_in, room_of, Records}, declared.record.{Record.Record, Said.Said}}
-use Rattle.pas_cache.specs.{Caches.{Cached, AtRest}, Calls.{Begins, SettlesEach}}
-use Rattle.pas_answers.specs.Answers.{Progress, having, Answer, answer_of, begun, settled, stopped, epoch_look, after_answer, after_settling, after_wake}
-use Rattle.pas_answers.specs.Answers.{after_stop, IsAnswered, IsStopped, records_of, said_by, Books, with_book, after_tick, after_pass, after_reading}
-use Rattle.pas_answers.specs.{Calls.{owed_events, named_by, MayStand, MayAnswer, AnswersMeant}, Reaching.{Reaches, AnswersOp, Advances}}
-use Rattle.pas_answers.specs.{PassRecords.{records_of_pass, record_of}, Fit.{IsFitWhat, cost_of_what, cost_of_act, unbacks_of_act}, Guarding.{Tried, IsTried}}
-use Rattle.pas_answers.specs.{Guarding.{after_trying, after_giving, IsLowered, after_lowering, try_steps}, Keeping.{owed_by_keeper, cost_of_try, MayTry}}
-use Rattle.pas_answers.specs.{Keeping.{TriesRequest, MayLowerAll, LowersAll}, Indexes.{IsNamedFor, request_made}, TicksAndPasses.{AnswersTick, AnswersPass}}
-use Rattle.pas_answers.proofs.{SingleActs.{its_cache, none_stands, request_meant, other_cache, if_same, records_count, few_unbacks, reads}, OwnRecords.piece_of}
-use Rattle.pas_answers.proofs.{OwnRecords.{events_of_piece, swept_each, try_each, pass_of}, Tries.swept_count}
-use Rattle.pas_acts.specs.{Works.{Later, Sits}, Turns.{RestsAt, Moves, LeavesRest, Says}, Keepers.{StandsAt, StandsStill, KeeperHas, HasStill, LaterKept}}
-use Rattle.pas_acts.specs.{Keepers.{KeeperTries, keeper_has, and_try, KeeperAt, KeeperLowers}, AtDesks.{and_for, here, MayOperate, ThreadActs, GoesThrough}}
-use Rattle.pas_acts.specs.AtDesks.{HasRoomAt, for_act, ScavengerActs}
-use Rattle.pas_trace.specs.{declared.{plan.{Op.Op, What.{What, TheVariants.Stop}}, item.Request.Request}, Acts.{Act, Operates, Settles, StopsIdle, Wakes, Ends}}
-use Rattle.pas_trace.specs.{Acts.{Guards, Ticks, MakesPass, ReadsEpoch}, Asked.request_in, Reasons.cost_of_size}
-use Rattle.pas_guard.specs.{Books.{guards_in, FitsBook}, declared.book.GuardBook.GuardBook, Raises.RaiseSteps, Sweeps.sweeping}
+use Rattle.pas_cache.specs.{Caches.AtRest, Calls.{Begins, SettlesEach}}
+use Rattle.pas_answers.specs.{Calls.{MayAnswer, AnswersMeant}, PassRecords.record_of, Guarding.try_steps, Keeping.{MayTry, TriesRequest, MayLowerAll}}
+use Rattle.pas_answers.{specs.{Keeping.LowersAll, Indexes.{IsNamedFor, request_made}, TicksAndPasses.{AnswersTick, AnswersPass}}, proofs.SingleActs.none_stands}
+use Rattle.pas_answers.proofs.{SingleActs.{request_meant, other_cache, if_same, records_count, few_unbacks, reads}, Tries.swept_count}
+use Rattle.pas_guard.specs.{Books.FitsBook, Raises.RaiseSteps, Sweeps.sweeping}
 use Rattle.pas_scavenger.specs.Passes.{PassSteps}
 
 -- ---- at the desk
-pub can_begin : {σ : Standing} {f k c out later p : _} → RestsAt f k σ c out later p → CanCall σ (AtRest σ.seat.profile c)
-can_begin {k = k} {c = c} {p = p} at = search arith
-
 -- what is said of the desk's seat is said of its actor
 of_seat : {f k : _} {Rest : View → Type 0} {σ l need : _} → Sits f k Rest σ l need → (P : ℕ → Profile → Type 0) → P σ.seat.actor σ.seat.profile → P k f
 of_seat {f} {k} {σ = σ} s P is = subst (λ (g : Profile). P k g) s.profile (subst (λ (j : ℕ). P j σ.seat.profile) s.actor is)
@@ -109,12 +103,9 @@ module _ {f k what meant came σ σ' c c1 out out' later p : _} (may : MayOperat
   abbrev pub the_answer : Answer
   the_answer = answer_of steps did.said did.performs.found (named_by what came ++ p.names) c1
 
-  is_answered : IsAnswered f k what (having p.names v c) the_answer
-  is_answered = search (arith, of_seat, was_at_rest)
-
   -- The request was answered so.
   answered : IsAnswered f k what (having p.names v (p.caches k)) the_answer
-  answered = subst (λ (d : Cached). IsAnswered f k what (having p.names v d) the_answer) (sym may.rests.cache) is_answered
+  answered = subst (λ (d : Cached). IsAnswered f k what (having p.names v d) the_answer) (sym may.rests.cache) (search (arith, of_seat, was_at_rest))
 
   calls_so : Calls σ σ' (AtRest f c) (λ x w. AtRest f c1 w) steps
   calls_so = subst (λ (g : Profile). Calls σ σ' (AtRest g c) (λ x w. AtRest g c1 w) steps) may.rests.sits.profile did.performs.calls
@@ -125,13 +116,10 @@ module _ {f k what meant came σ σ' c c1 out out' later p : _} (may : MayOperat
   pushed_so : records_in out' ≡ records_in out ++ piece
   pushed_so = search (arith, of_seat, was_at_rest)
 
-  few_so : length (events_by k v steps) + length (said_by k did.said) + owed_events f c1 (steps ++ v) ≤ cost_of_what what + owed_events f c v
-  few_so = search (arith, of_seat, was_at_rest)
-
   -- so is what came to its records, where it has a cache whose log is the same
   paid_so : (c' : Cached) → length c'.log ≡ length c1.log
       → length piece + owed_events f c' (part k (triples k steps ++ p.list)) ≤ cost_of_what what + owed_events f c v
-  paid_so c' log = search (arith, part_of_own, length-append, records_count, few_so)
+  paid_so c' log = search (arith, part_of_own, length-append, records_count, of_seat, was_at_rest)
 
   -- the thread rests again with that
   rests_again : {c' : Cached} {q : Progress} → (moves : Moves k (AtRest f c) (AtRest f c') σ σ' p q) → moves.steps ≡ steps → length c'.log ≡ length c1.log
@@ -253,23 +241,7 @@ module _ {f k σ σ' c c1 out out' later p : _} (at : RestsAt f k σ c out later
 pub has_stayed : {f : Profile} {k n epoch : ℕ} {σ : Standing} {c : Cached} {out : Records} {later : Later} {p : Progress} → RestsAt f k σ c out later p
     → p.epoch ≡ epoch → (c.idle_since + n ≤ epoch → ⊥)
     → ThreadActs f k (StopsIdle k n ∷ []) [] [] (here σ c out) (here σ c out) later p
-has_stayed {f} {k} {n} {epoch} {σ} {c} {out} {later} {p} at read short =
-    record {
-      reached = p;
-      reaches = (p, inr (λ idle. short (omega (arith, ap (λ (d : Cached). d.idle_since) at.cache, read, idle)), refl), refl);
-      stands = at;
-      moves = record { steps = []; list_is = refl; calls = call_none (λ x met. met) };
-      own = [];
-      records_are = sym (append-nil p.records);
-      pushed = sym (append-nil (records_in out));
-      room = refl;
-      each = tt;
-      caches = λ j ne. refl;
-      books = refl;
-      names = refl;
-      epoch = refl;
-      paid = omega arith;
-    }
+has_stayed {f} {k} {n} {epoch} {σ} {c} {out} {later} {p} at read short = search (arith, call_none, append-nil)
 
 -- ---- the epoch is read
 pub has_begun : {f : Profile} {k : ℕ} {σ σ' : Standing} {c c' : Cached} {out : Records} {later : Later} {p : Progress} → RestsAt f k σ c out later p
@@ -321,20 +293,6 @@ pub other_book : (books : Books) (k j : ℕ) (guards : List Guard) → j ≢ k �
 other_book books k j guards ne = ap (λ (b : Bool). if b then guards else books j) (ne_eqb j k ne)
 
 -- ---- a guarded request is answered
--- by its keeper, which gave a block
-pub guarded_by_keeper : (f : Profile) (keeper : ℕ) (op : Op) (r : Request) (block : Block) (p : Progress) (t : Tried) → request_in op.what ≡ Some r
-    → IsTried f keeper r (part keeper p.list) (p.books keeper) t → t.block ≡ Some block
-    → Advances f (Guards keeper op) p (after_giving (after_trying p keeper t) r.name block)
-guarded_by_keeper f keeper op r block p t asks is given =
-    search arith
-
--- by its thread, where the keeper gave none
-pub guarded_by_thread : (f : Profile) (keeper : ℕ) (op : Op) (r : Request) (p q : Progress) (t : Tried) → request_in op.what ≡ Some r
-    → IsTried f keeper r (part keeper p.list) (p.books keeper) t → t.block ≡ None
-    → AnswersOp f op (after_trying p keeper t) q → Advances f (Guards keeper op) p q
-guarded_by_thread f keeper op r p q t asks is given did =
-    search arith
-
 -- ---- at the desk
 abbrev At : Profile → ℕ → Standing → GuardBook → Records → LaterKept → Progress → Type 0
 At f k σ book out later p = KeeperAt f k (keeper_has σ book out) later p
@@ -468,11 +426,6 @@ has_lowered {f} {k} {σ} {σ'} {book} {book'} {out} {out'} {later} {p} at did =
 -- ---- before
 pub can_scavenge : {f : Profile} {σ : Standing} {out : Records} {later : Later} {p : Progress} → HasRoomAt f σ out later p → CanCall σ HasNothing
 can_scavenge {p = p} at = record { view = part 0 p.list; whole = p.list; stood = at.sits.stood; met = at.sits.rest }
-
--- A scavenger with room for a pass may unback each page of the region.
-pub pass_room : {f σ out p : _} (later : Later) (spare : ℕ) → Spares σ spare → HasRoomAt f σ out (for_act f MakesPass later) p → σ.seat.profile.pages ≤ spare
-pass_room {f} {σ} {out} {p} later spare fits at =
-    search arith
 
 -- ---- after
 -- there is room again, where the act pays for the events of its steps and for what is said

@@ -1,3 +1,4 @@
+mod Common
 pub mod Noting
 pub mod AtDesk
 pub mod Working

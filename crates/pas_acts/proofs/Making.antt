@@ -1,18 +1,14 @@
 -- How the parts of a kit are made, one after the other, and how many guarded requests the books of its keepers are made for.
-use Rattle.std.proofs.Common.{◌≡◌, ℕ, ◌+◌, List, [], ◌∷◌, ◌++◌, length, All, slice_index_or, Option, Some, None, ap, sym, ◌∙◌, subst, arith, length-append}
-use Rattle.std.proofs.Common.{zero, suc, ◌<◌, ◌≤◌, ◌==◌, Bool, if◌then◌else◌, map, drop, get_or, Result, IfOk, eq-eqb, ne_eqb, refl, ◌||◌}
-use Rattle.std.proofs.{lemmas.{Bool.cases_lt, List.{drop_more, get_or_append_left, Elements.All-push, map-append}}, Math.Seq.get_or-append_seam}
-use Rattle.std.specs.{List.AllByRecursion, Global.Vec}
-use Rattle.pas_cache.specs.{Caches.{Cached, cached}, declared.cache.ThreadCache.ThreadCache}
-use Rattle.pas_acts.{specs.{Parts.{AreRooms, AreUnused}, PlanKeepers.{one_guarded, guarded_of, AreBooksFor, keepers_by}}, proofs.PlanFacts.plan_planned}
-use Rattle.pas_acts.proofs.ActsOfPlan.{ArePlanned}
-use Rattle.pas_answers.{specs.Replays.empty_cache, proofs.EachAct.{all_front, all_back}}
-use Rattle.pas_profile.specs.{declared.profile.Profile.Profile, Rooms.{shown, size_of_room, EventRoom}}
-use Rattle.pas_trace.specs.{Asked.{work_of, of_task, keeper_of, keeper_in}, EveryPlan.{all_ops, operations_of, IsActorBy, records_of_work, records_of_what}}
-use Rattle.pas_trace.specs.{EveryPlan.records_of_ops, Acts.{is_active, keepers_of}, Plans.{IsPlanOf, ops_of, phases_of}, declared.plan.{Op.Op, Plan.Plan}}
-use Rattle.pas_trace.specs.{declared.{plan.Work.Work, course.Course.Course}, Codes.unlined, Courses.IsCourseOf, Scripts.without_lines}
-use Rattle.pas_trace.proofs.EveryPlan.{every_plan}
-use Rattle.pas_guard.specs.{Books.{guards_in, size_of_book}, declared.book.GuardBook.GuardBook}
+use Rattle.std.proofs.Common.{if◌then◌else◌, [], ◌≡◌, ℕ, ◌+◌, List, ◌∷◌, ◌++◌, length, All, slice_index_or, Option, Some, None, ap, sym, ◌∙◌, subst, arith}
+use Rattle.std.proofs.{Common.{length-append, zero, suc, ◌<◌, ◌≤◌, ◌==◌, map, drop, get_or, eq-eqb, ne_eqb, refl, ◌||◌}, lemmas.List.get_or_append_left}
+use Rattle.std.proofs.{lemmas.List.{Elements.All-push, map-append}, Math.Seq.get_or-append_seam}
+use Rattle.pas_acts.proofs.Common.{cases_lt, drop_more, AllByRecursion, cached, AreRooms, AreUnused, one_guarded, guarded_of, AreBooksFor, empty_cache, all_of}
+use Rattle.pas_acts.proofs.Common.{all_front, all_back, Profile, keeper_in, all_ops, operations_of, records_of_ops, is_active, IsPlanOf, ops_of, Op, Plan}
+use Rattle.pas_acts.proofs.{Common.{every_plan, guards_in, size_of_book, GuardBook}, PlanFacts.plan_planned, ActsOfPlan.ArePlanned}
+use Rattle.pas_acts.specs.PlanKeepers.{keepers_by}
+use Rattle.pas_cache.specs.declared.cache.ThreadCache.{ThreadCache}
+use Rattle.pas_profile.specs.Rooms.{shown, size_of_room, EventRoom}
+use Rattle.pas_trace.specs.{Acts.keepers_of, Plans.phases_of, declared.course.Course.Course, Codes.unlined, Courses.IsCourseOf, Scripts.without_lines}
 
 -- the element that was put at the end
 at_end : {A : Type 0} (xs : List A) (x d : A) (k : ℕ) → k ≡ length xs → slice_index_or (xs ++ x ∷ []) k d ≡ x
@@ -22,10 +18,6 @@ at_end xs x d k is = ap (λ i. slice_index_or (xs ++ x ∷ []) i d) is ∙ get_o
 each_next : {A : Type 0} (P : ℕ → A → Type 0) (n : ℕ) (xs after : List A) (x : A) → after ≡ xs ++ x ∷ [] → length xs ≡ n
     → ((k : ℕ) (d : A) → k < n → P k (slice_index_or xs k d)) → P n x → (k : ℕ) (d : A) → k < n + 1 → P k (slice_index_or after k d)
 each_next {A} P n xs after x is many all this k d lt = search (arith, cases_lt, get_or_append_left, at_end)
-
--- there are no rooms, so nothing is said of one
-pub no_rooms : (sizes : ℕ → Option ℕ) (rooms : List EventRoom) → rooms ≡ [] → AreRooms sizes 0 rooms
-no_rooms sizes rooms none = search arith
 
 -- .. and one more
 pub next_room : {sizes : ℕ → Option ℕ} {count : ℕ} {rooms : List EventRoom} (after : List EventRoom) (room : EventRoom) → after ≡ rooms ++ room ∷ []
@@ -56,10 +48,6 @@ next_unused {count} {caches} after cache is empty made =
       each = each_next (λ k (c : ThreadCache). cached c ≡ empty_cache) count caches after cache is many made.each empty;
     }
 
--- a cache with these parts is empty
-pub is_empty : (c : Cached) → c.locals ≡ [] → c.log ≡ [] → c.noted ≡ [] → c.idle_since ≡ 0 → c ≡ empty_cache
-is_empty c locals log noted idle = search (arith, c.log, c.noted, c.idle_since)
-
 -- ---- counts
 abbrev guards_of : ℕ → Op → ℕ
 guards_of k op = if op.actor == k then one_guarded (keeper_in op.what) else 0
@@ -68,15 +56,11 @@ guarded_both : (k : ℕ) (xs ys : List Op) → guarded_of k (xs ++ ys) ≡ guard
 guarded_both k [] ys = omega arith
 guarded_both k (x ∷ xs) ys = let rest = guarded_both k xs ys in omega (arith, rest)
 
--- with one operation more
-pub guarded_next : (k : ℕ) (ops : List Op) (i : ℕ) (d : Op) → i < length ops
-    → guarded_of k (drop i ops) ≡ guards_of k (get_or ops i d) + guarded_of k (drop (i + 1) ops)
-guarded_next k ops i d lt = ap (λ (xs : List Op). guarded_of k xs) (drop_more ops i d lt)
-
 -- .. which is said but for its line
 pub said_next : (k : ℕ) (said : Op) (ops : List Op) (i : ℕ) → i < length ops → ((d : Op) → unlined said ≡ slice_index_or ops i d)
     → guarded_of k (drop i ops) ≡ guards_of k said + guarded_of k (drop (i + 1) ops)
-said_next k said ops i lt at = guarded_next k ops i said lt ∙ ap (λ (o : Op). guards_of k o + guarded_of k (drop (i + 1) ops)) (sym (at said))
+said_next k said ops i lt at = (ap (λ (xs : List Op). guarded_of k xs) (drop_more ops i said lt))
+    ∙ ap (λ (o : Op). guards_of k o + guarded_of k (drop (i + 1) ops)) (sym (at said))
 
 pub active_next : (k : ℕ) (said : Op) (ops : List Op) (i : ℕ) → i < length ops → ((d : Op) → unlined said ≡ slice_index_or ops i d)
     → is_active (drop i ops) k ≡ ((said.actor == k) || is_active (drop (i + 1) ops) k)
@@ -93,27 +77,16 @@ pub count_more : (a k more : ℕ) (counts : ℕ → ℕ) → (if a == k then cou
 count_more a k more counts = search (arith, eq-eqb, ne_eqb)
 
 -- ---- each costs its plan a record at least
-few_work : (f : Profile) (work : Work) → one_guarded (of_task keeper_of work) ≤ records_of_work f work
-few_work f work = grind arith
-
--- by the test
-few_if : (t : Bool) (a b : ℕ) → a ≤ b → (if t then a else 0) ≤ b
-few_if c a b le = search arith
-
 -- Operations have no more guarded requests than they may make records.
 pub guarded_few : (f : Profile) (k : ℕ) (ops : List Op) → guarded_of k ops ≤ records_of_ops f ops
 guarded_few f k [] = omega arith
-guarded_few f k (op ∷ ops) =
-    omega (arith, few_if (op.actor == k) (one_guarded (keeper_in op.what)) (records_of_what f op.what) (few_work f (work_of op.what)), guarded_few f k ops)
+guarded_few f k (op ∷ ops) = let rest = guarded_few f k ops in search (arith, rest)
 
 -- ---- actors
-within_work : (f : Profile) (work : Work) (k : ℕ) → f.threads ≤ 16 → IsActorBy f work k → k < 17
-within_work f work k h i = grind arith
-
 -- The actor of each planned operation is below 17.
-pub actors_within : (f : Profile) (ops : List Op) → f.threads ≤ 16 → ArePlanned f ops → AllByRecursion (λ (op : Op). op.actor < 17) ops
+actors_within : (f : Profile) (ops : List Op) → f.threads ≤ 16 → ArePlanned f ops → AllByRecursion (λ (op : Op). op.actor < 17) ops
 actors_within f [] few all = tt
-actors_within f (op ∷ ops) few all = (within_work f (work_of op.what) op.actor few all.0, actors_within f ops few all.1)
+actors_within f (op ∷ ops) few all = (grind arith, actors_within f ops few all.1)
 
 -- What is so of each of a list is so of the one at a place.
 pub all_at : {A : Type 0} (P : A → Type 0) (xs : List A) (i : ℕ) (d : A) → AllByRecursion P xs → i < length xs → P (get_or xs i d)
@@ -129,13 +102,9 @@ phase_at said P (p ∷ phases) zero d all lt = all_front P (said p) (all_ops (ma
 phase_at said P (p ∷ phases) (suc i) d all lt = phase_at said P phases i d (all_back P (said p) (all_ops (map said phases)) all) (omega (arith, lt))
 
 -- ---- without their lines
-pub same_guarded : (k : ℕ) (ops : List Op) → guarded_of k (map unlined ops) ≡ guarded_of k ops
+same_guarded : (k : ℕ) (ops : List Op) → guarded_of k (map unlined ops) ≡ guarded_of k ops
 same_guarded k [] = refl
 same_guarded k (op ∷ ops) = ap (λ (n : ℕ). guards_of k op + n) (same_guarded k ops)
-
-still_within : (n : ℕ) (ops : List Op) → AllByRecursion (λ (op : Op). op.actor < n) ops → AllByRecursion (λ (op : Op). op.actor < n) (map unlined ops)
-still_within n [] all = tt
-still_within n (op ∷ ops) all = (all.0, still_within n ops all.1)
 
 all_unlined : (phases : List (List Op)) → all_ops (without_lines phases) ≡ map unlined (all_ops phases)
 all_unlined [] = refl
@@ -151,7 +120,8 @@ module _ {P : Type 0} {said : P → List Op} {plan : Plan} {course : Course P} (
 
   pub course_within : {text : List ℕ} → IsPlanOf text plan → AllByRecursion (λ (op : Op). op.actor < 17) (all_ops (map said course.phases.now))
   course_within {text} read = subst (λ (ops : List Op). AllByRecursion (λ (op : Op). op.actor < 17) ops) (sym said_all)
-      (still_within 17 (operations_of plan) (actors_within plan.profile (operations_of plan) (every_plan read).valid.threads (plan_planned read)))
+      (all_of (λ (op : Op). op.actor < 17) (λ (op : Op). op.actor < 17) unlined (operations_of plan) (λ op lt. lt)
+      (actors_within plan.profile (operations_of plan) (every_plan read).valid.threads (plan_planned read)))
 
   pub course_keepers : keepers_by course.guard course.profile.threads ≡ keepers_of plan
   course_keepers = ap (λ (n : ℕ). keepers_by n course.profile.threads) same.guard ∙ ap (λ (f : Profile). keepers_by plan.guard f.threads) same.profile
@@ -175,8 +145,3 @@ next_book {many} {places} {books} after book is empty size made =
 pub same_books : {many many' : ℕ} {places places' : ℕ → ℕ} {books : List GuardBook} → many ≡ many' → ((k : ℕ) → places k ≡ places' k)
     → AreBooksFor many places books → AreBooksFor many' places' books
 same_books {many} {many'} {places} {places'} {books} same alike made = search (arith, made.many, made.empty, made.places)
-
--- Books that were made for keepers are for as many keepers with the same places, otherwise counted.
-pub books_in : {many many' : ℕ} {places places' : ℕ → ℕ} {E : Type 0} (made : Result (Vec GuardBook) E) → many ≡ many' → ((k : ℕ) → places k ≡ places' k)
-    → IfOk made (λ books. AreBooksFor many places books.items) → IfOk made (λ books. AreBooksFor many' places' books.items)
-books_in made same alike is = search (arith, same_books)

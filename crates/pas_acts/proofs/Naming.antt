@@ -1,24 +1,16 @@
 -- The names of a phase: what they stand for to all and to each worker once it was done, how many there are, and what is known of them afterwards.
-use Rattle.std.proofs.Common.{arith, ◌≡◌, ◌≢◌, ℕ, ◌==◌, ◌||◌, Bool, false, if◌then◌else◌, inl, inr, List, ◌∷◌, Option, Some, None, refl, sym, ◌∙◌, subst}
-use Rattle.std.proofs.{Common.{ne_eqb, ◌≤◌, [], ◌++◌, ◌<◌, true, length, ap, length-append, MatchOption, eq-eqb, true≢false}, lemmas.Bool.{cases_eq, or_parts}}
-use Rattle.std.specs.List.{AllByRecursion}
-use Rattle.pas_profile.specs.declared.{profile.Profile.Profile, name.Block.Block}
-use Rattle.pas_steps.specs.{Views.View, declared.step.Made.Made}
-use Rattle.pas_trace.specs.EveryPlan.{is_asked, asked_after, all_ops, asked_with, asked_by, AreSound, IsSoundTask, IsSoundWork, IsActorBy, IsThread}
-use Rattle.pas_trace.specs.declared.plan.{What.{What, TheVariants.{Alloc, Guarded, Remake, Stop, Free, FreeSized, Raw, RawSized, Flush}}, Op.Op, Task.Task}
-use Rattle.pas_trace.specs.{declared.{plan.Work.Work, item.Request.Request}, Acts.{Act, Operates, Guards, Settles, act_kept, own_acts}, Asked.request_in}
-use Rattle.pas_trace.{specs.{Asked.{work_of, of_task, request_of, keeper_in, freed_of}, EveryPhase.FreesItsOwn}, proofs.EveryPlan.below_front}
-use Rattle.pas_trace.proofs.Costs.{some_cost}
-use Rattle.pas_records.specs.declared.record.Said.{Said}
-use Rattle.pas_cache.specs.Caches.{Cached}
-use Rattle.pas_answers.specs.Answers.{Named, named, standing_for, having, Answer, answer_of, IsAnswered, Progress, block_of, IsFreedBy, IsRemadeBy}
-use Rattle.pas_answers.specs.Fit.{IsFitWhat, IsBelow, AreBelow, AllBelow, KeepsAbove, IsFitWork, AreFit, cost_of_what, own_costs_of, IsFitTask}
-use Rattle.pas_answers.specs.{Calls.{OnlyAsked, block_behind, MayStand, AreKnown}, Reaching.{AnswersOp, AnswersTried, AnswersGuarded, Advances}}
-use Rattle.pas_answers.{specs.{Names.{block_named, names_held}, Replays.at_start, declared.names.Names.Names}, proofs.SingleActs.{known_after, known_named}}
+use Rattle.std.proofs.Common.{if◌then◌else◌, [], arith, ◌≡◌, ◌≢◌, ℕ, ◌==◌, ◌||◌, Bool, false, inl, inr, List, ◌∷◌, Option, Some, None, refl, sym, ◌∙◌, subst}
+use Rattle.std.proofs.Common.{ne_eqb, ◌≤◌, ◌++◌, ◌<◌, true, length, ap, length-append, MatchOption, eq-eqb, true≢false}
+use Rattle.pas_acts.proofs.Common.{cases_eq, or_parts, AllByRecursion, Profile, Block, View, is_asked, asked_after, all_ops, asked_with, asked_by, AreSound}
+use Rattle.pas_acts.proofs.Common.{IsThread, What, Alloc, Op, Request, Act, Operates, Guards, Settles, act_kept, own_acts, request_in, keeper_in, Cached, Named}
+use Rattle.pas_acts.proofs.Common.{named, standing_for, having, Answer, answer_of, IsAnswered, Progress, IsFitWhat, AreBelow, AllBelow, KeepsAbove, AreFit}
+use Rattle.pas_acts.proofs.Common.{own_costs_of, OnlyAsked, block_behind, MayStand, AnswersTried, Advances, block_named, names_held, at_start, Names, all_front}
+use Rattle.pas_acts.proofs.Common.{AreAmong, asked_after_act, requests_in, room_for, names_asked, names_of, ArePlaced, came_to, known_in, table, KnowsNames}
+use Rattle.pas_acts.{proofs.{Common.NameBook, ActsOfPlan.back_below, Noting.{is_same, not_before, kept_asks}, Working.kept_cost}, specs.Shares.IsRequestOf}
+use Rattle.pas_acts.specs.{Shares.AreKnownAfter, NameBooks.{NamesAt, Requests}}
+use Rattle.pas_answers.{specs.{Reaching.AnswersOp, Answers.{block_of, IsRemadeBy}, Calls.AreKnown}, proofs.SingleActs.{known_after, known_named}}
 use Rattle.pas_answers.proofs.Reached.{put_on}
-use Rattle.pas_acts.specs.{Shares.{AreAmong, IsRequestOf, asked_after_act, AreKnownAfter}, NameBooks.{requests_in, room_for, name_asked, names_asked, names_of}}
-use Rattle.pas_acts.specs.{NameBooks.{ArePlaced, came_to, known_in, table, NamesAt, Requests}, Works.KnowsNames, declared.names.NameBook.NameBook}
-use Rattle.pas_acts.proofs.{ActsOfPlan.back_below, Noting.{is_same, not_before, kept_asks}, Working.kept_cost}
+use Rattle.pas_trace.{specs.{declared.plan.What.TheVariants.{Guarded, Remake}, EveryPhase.FreesItsOwn}, proofs.{EveryPlan.below_front, Costs.some_cost}}
 pub use Rattle.pas_trace.proofs.EveryPlan.{below_front}
 
 none_some : {b : Option Block} {A : Type 0} → None ≡ Some b → A
@@ -46,17 +38,6 @@ pub record Retold (f : Profile) (k : ℕ) (what : What) (asked : List ℕ) (name
   pub others : (few : List Named) → AreAmong few names → AreAmong few after
   pub only_asked : OnlyAsked (asked_after what asked) after
   pub same_names : (n : ℕ) → (IsRequestOf n what → ⊥) → standing_for after n ≡ standing_for names n
-
--- What a freed name stands for is the same by the fewer names and by the many, whatever was answered.
-freed_same : (f : Profile) (k : ℕ) (c c1 : Cached) (name : ℕ) (room : Option ℕ) (o many : Option (Option Block)) (steps : List Made) (said : Option Said)
-    → ((b : Option Block) → o ≡ Some b → many ≡ Some b) → IsFreedBy f k c c1 name room o steps said → IsFreedBy f k c c1 name room many steps said
-freed_same f k c c1 name room o many steps said h i = grind arith
-
--- by the names that the answer has, whatever it did
-keeps_names : (f : Profile) (k : ℕ) (what : What) (asked : List ℕ) (few names : List Named) (v : View) (c : Cached) (a : Answer)
-    → a.names ≡ few → AreAmong few names → OnlyAsked (asked_after what asked) names
-    → IsAnswered f k what (having names v c) (answer_of a.steps a.said a.found names a.cache) → Retold f k what asked names v c a
-keeps_names f k what asked few names v c a same among only answered = search arith
 
 -- .. a reallocation
 remade_same : (f : Profile) (k name size align : ℕ) (o many : Option (Option Block)) (few names : List Named) (v : View) (c : Cached) (a : Answer)
@@ -115,18 +96,12 @@ names_new asked few names name block new among only = search (arith, both_more, 
 -- An answer by what a worker knows of names is one by what all know.
 pub retold : (f : Profile) (limit k : ℕ) (what : What) (asked : List ℕ) (few names : List Named) (v : View) (c : Cached) (a : Answer)
     → AreAmong few names → OnlyAsked asked names → IsFitWhat f limit asked what → IsAnswered f k what (having few v c) a → Retold f k what asked names v c a
-retold f limit k (Alloc name heap size align) asked few names v c a among only fit answered = search (arith, asks_name)
-retold f limit k (Guarded keeper name heap size align) asked few names v c a among only fit answered = search (arith, asks_name)
-retold f limit k (Free name) asked few names v c a among only fit answered = search (arith, keeps_names, freed_same)
-retold f limit k (FreeSized name room) asked few names v c a among only fit answered = search (arith, keeps_names, freed_same)
-retold f limit k (Raw block) asked few names v c a among only fit answered = search (arith, keeps_names)
-retold f limit k (RawSized room block) asked few names v c a among only fit answered = search (arith, keeps_names)
 retold f limit k (Remake name old heap size align) asked few names v c a among only fit answered =
     let again = remade_same f k name size align (standing_for few old) (standing_for names old) few names v c a (among old) answered in
     asks_name f k (Remake name old heap size align) asked few names v c a name again.0 refl (λ n same. same) fit.1.1 among only again.1 again.2
-retold f limit k Flush asked few names v c a among only fit answered = search (arith, keeps_names)
-retold f limit k Stop asked few names v c a among only fit answered = search (arith, keeps_names)
-retold f limit k what asked few names v c a among only fit answered = absurd answered
+retold f limit k (Alloc name heap size align) asked few names v c a among only fit answered = search (arith, asks_name)
+retold f limit k (Guarded keeper name heap size align) asked few names v c a among only fit answered = search (arith, asks_name)
+retold f limit k what asked few names v c a among only fit answered = search arith
 
 below_both : (limit : ℕ) (xs ys : List Op) → AreBelow limit xs → AreBelow limit ys → AreBelow limit (xs ++ ys)
 below_both limit [] ys a b = b
@@ -137,13 +112,10 @@ pub below_all : (limit : ℕ) (phases : List (List Op)) → AllBelow limit phase
 below_all limit [] all = tt
 below_all limit (p ∷ ps) all = below_both limit p (all_ops ps) all.0 (below_all limit ps all.1)
 
--- What is below a limit is below a higher one, whatever is asked.
-below_what : (limit higher : ℕ) (what : What) → limit ≤ higher → IsBelow limit what → IsBelow higher what
-below_what limit higher what h i = grind arith
-
+-- what is below a limit is below a higher one, whatever is asked
 below_higher : (limit higher : ℕ) (ops : List Op) → limit ≤ higher → AreBelow limit ops → AreBelow higher ops
 below_higher limit higher [] le all = tt
-below_higher limit higher (op ∷ ops) le all = (below_what limit higher op.what le all.0, below_higher limit higher ops le all.1)
+below_higher limit higher (op ∷ ops) le all = (grind arith, below_higher limit higher ops le all.1)
 
 -- Names below a limit are below each higher one.
 pub all_higher : (limit higher : ℕ) (phases : List (List Op)) → limit ≤ higher → AllBelow limit phases → AllBelow higher phases
@@ -162,8 +134,7 @@ same_known asked is known = subst (λ (s : Progress). AreKnown asked s.names) (s
 -- a guarded request's name stands for the block that its keeper gave, or for what its thread's answer came to
 known_op : (f : Profile) (op : Op) (asked : List ℕ) (p q : Progress) → AnswersOp f op p q → AreKnown asked p.names
     → AreKnown (asked_after op.what asked) q.names
-known_op f op asked p q did known = same_known (asked_after op.what asked) did.2
-    (known_after f op.actor op.what asked p.names did.0.names _ (p.caches op.actor) did.0.cache did.0.steps did.0.said did.0.found did.1 known)
+known_op f op asked p q did known = search (arith, same_known, known_after)
 
 known_tried : (f : Profile) (op : Op) (r : Request) (block : Option Block) (asked : List ℕ) (p q : Progress) → request_in op.what ≡ Some r
     → AnswersTried f op r block p q → AreKnown asked p.names → AreKnown (asked_after op.what asked) q.names
@@ -171,14 +142,10 @@ known_tried f op r (Some block) asked p q asks did known = subst (λ (o : Option
     (same_known (r.name ∷ asked) did (known_named r.name (Some block) asked p.names known))
 known_tried f op r None asked p q asks did known = known_op f op asked p q did known
 
-known_guarded : (f : Profile) (keeper : ℕ) (op : Op) (o : Option Request) → request_in op.what ≡ o → (asked : List ℕ) (p q : Progress)
-    → AnswersGuarded f keeper op o p q → AreKnown asked p.names → AreKnown (asked_after op.what asked) q.names
-known_guarded f keeper op o h asked p q i j = grind (arith, known_tried)
-
 known_one : (f : Profile) (act : Act) (asked : List ℕ) (p q : Progress) → Advances f act p q → AreKnown asked p.names
     → AreKnown (asked_after_act act asked) q.names
 known_one f (Operates op) asked p q did known = known_op f op asked p q did known
-known_one f (Guards keeper op) asked p q did known = known_guarded f keeper op (request_in op.what) refl asked p q did known
+known_one f (Guards keeper op) asked p q did known = grind (arith, known_tried)
 known_one f act asked p q did known = subst (AreKnown asked) (sym (put_on f act p q did).2) known
 
 -- The names that were asked for stand for something after the acts, too.
@@ -198,35 +165,13 @@ pub sound_back : (f : Profile) (asked : List ℕ) (xs ys : List Op) → AreSound
 sound_back f asked [] ys sound = sound
 sound_back f asked (x ∷ xs) ys sound = sound_back f (asked_after x.what asked) xs ys sound.2
 
-above_front : (f : Profile) (xs ys : List Op) → AllByRecursion (KeepsAbove f) (xs ++ ys) → AllByRecursion (KeepsAbove f) xs
-above_front f [] ys above = tt
-above_front f (x ∷ xs) ys above = (above.0, above_front f xs ys above.1)
-
 -- ---- the thread's own operations fit
 -- what was asked for among the first was so among the second
 abbrev IsSmaller : List ℕ → List ℕ → Type 0
 IsSmaller few many = (n : ℕ) → is_asked many n ≡ false → is_asked few n ≡ false
 
--- by the two tests
-or_false : (s t : Bool) → s ≡ false → t ≡ false → s || t ≡ false
-or_false a t one two = search arith
-
-smaller_after : (request : Option Request) (few many : List ℕ) → IsSmaller few many → IsSmaller (asked_with request few) (asked_with request many)
-smaller_after a few many small n b = search (arith, or_parts, or_false)
-
 smaller_if : (t : Bool) (what : What) (few many : List ℕ) → IsSmaller few many → IsSmaller (if t then asked_after what few else few) (asked_after what many)
-smaller_if a what few many small n b = search (arith, smaller_after, not_before)
-
--- What a sound task asks for fits, whatever task it is.
-fit_task : (f : Profile) (limit : ℕ) (few many : List ℕ) (task : Task) → IsSmaller few many → IsSoundTask f many task
-    → MatchOption (request_of task) (Unit {0}) (λ r. r.name < limit) → MatchOption (freed_of task) (Unit {0}) (λ n. is_asked few n ≡ true)
-    → IsFitTask f limit few task
-fit_task f limit few many task h i j k = grind arith
-
-fit_work : (f : Profile) (limit k : ℕ) (few many : List ℕ) (work : Work) → 1 ≤ k → IsSmaller few many → IsActorBy f work k → IsSoundWork f many work
-    → MatchOption (of_task request_of work) (Unit {0}) (λ r. r.name < limit)
-    → MatchOption (of_task freed_of work) (Unit {0}) (λ n. is_asked few n ≡ true) → IsThread f k × IsFitWork f limit few work
-fit_work f limit k few many work h i j m p q = grind (arith, fit_task)
+smaller_if a what few many small n b = search (arith, or_parts, not_before)
 
 -- Acts with those of a keeper in front fit, whether there is a keeper or not.
 fit_if : (t : Bool) (f : Profile) (limit : ℕ) (asked : List ℕ) (keeper : Option ℕ) (op : Op) (acts : List Act)
@@ -235,6 +180,7 @@ fit_if : (t : Bool) (f : Profile) (limit : ℕ) (asked : List ℕ) (keeper : Opt
     → AreFit f limit asked (if t then act_kept keeper op ∷ (Settles op.actor ∷ acts) else acts)
 fit_if t f limit asked keeper op acts h i j = grind arith
 
+-- an operation of the thread fits, guarded or not, and another asks for a name alone
 own_fit : (f : Profile) (limit k : ℕ) (few many : List ℕ) (ops : List Op) → 1 ≤ k → IsSmaller few many → AreSound f many ops → AllByRecursion (KeepsAbove f) ops
     → AreBelow limit ops → FreesItsOwn k few ops → AreFit f limit few (own_acts k ops)
 own_fit f limit k few many [] some small sound above below frees = tt
@@ -243,17 +189,14 @@ own_fit f limit k few many (op ∷ ops) some small sound above below frees =
     fit_if t f limit few (keeper_in op.what) op (own_acts k ops) above.0
     (λ is.
     let same = is_same op.actor k is in
-    fit_work f limit op.actor few many (work_of op.what) (omega (arith, some, same)) small sound.0 sound.1 below.0 (frees.0 same))
+    grind arith)
     (own_fit f limit k (if t then asked_after op.what few else few) (asked_after op.what many) ops some (smaller_if t op.what few many small) sound.2 above.1 below.1 frees.1)
 
 -- ---- there is room for its requests
-few_asked : (what : What) → length (name_asked what) ≤ cost_of_what what
-few_asked what = grind (arith, some_cost)
-
 own_asked : (k : ℕ) (ops : List Op) → length (names_asked (own_acts k ops)) ≤ own_costs_of k (own_acts k ops)
 own_asked k [] = omega arith
 own_asked k (op ∷ ops) =
-    let rest = own_asked k ops in grind (arith, rest, cases_eq, kept_cost, eq-eqb, few_asked, kept_asks, length-append, ne_eqb)
+    let rest = own_asked k ops in grind (arith, rest, cases_eq, kept_cost, eq-eqb, some_cost, kept_asks, length-append, ne_eqb)
 
 -- ---- before a phase
 module _ {f : Profile} {ops : List Op} {book : NameBook} {p : Progress} {names : List Named} (book1 : NameBook) (requests : Requests)
@@ -270,9 +213,6 @@ module _ {f : Profile} {ops : List Op} {book : NameBook} {p : Progress} {names :
   still_known : (n : ℕ) → is_asked at.asked n ≡ true → (block : Option Block) × (standing_for names n ≡ Some block)
   still_known n is = let known = at.known n is in (known.0, ap (λ (ns : List Named). standing_for ns n) are ∙ known.1)
 
-  no_names : names_of (requests_in requests) ≡ []
-  no_names = ap names_of none
-
   -- a thread with these acts, which fit
   knows_by : (acts : List Act) → AreFit f (names_held book.names) at.asked acts → ArePlaced book1 0 (names_asked acts)
       → length (names_asked acts) ≤ room_for requests → KnowsNames f acts (table book1 requests) names
@@ -282,7 +222,7 @@ module _ {f : Profile} {ops : List Op} {book : NameBook} {p : Progress} {names :
     tells = book_tells;
     stand = book_stands;
     known = still_known;
-    placed = subst (λ (ns : List ℕ). ArePlaced book1 0 (ns ++ names_asked acts)) (sym no_names) placed;
+    placed = subst (λ (ns : List ℕ). ArePlaced book1 0 (ns ++ names_asked acts)) (sym (ap names_of none)) placed;
     room = let size = ap (λ (rs : List Named). length rs) none in omega (arith, size, room);
   }
 
@@ -294,7 +234,8 @@ pub names_before : {f book p names : _} (k : ℕ) (phase rest : List Op) (book1 
 names_before {f} {book} k phase rest book1 requests at some frees same placed none room are =
     knows_by book1 requests at same none are (own_acts k phase)
     (own_fit f (names_held book.names) k at.asked at.asked phase some (λ n is. is) (sound_front f at.asked phase rest at.sound)
-    (above_front f phase rest at.above) (below_front (names_held book.names) phase rest at.below) frees) placed (omega (arith, own_asked k phase, room))
+    (all_front (KeepsAbove f) phase rest at.above) (below_front (names_held book.names) phase rest at.below) frees) placed
+    (omega (arith, own_asked k phase, room))
 
 -- ---- before the first phase no name stands for a block
 unfoldable pub names_at_start : (f : Profile) (ops : List Op) (book : NameBook) → AreSound f [] ops → AllByRecursion (KeepsAbove f) ops

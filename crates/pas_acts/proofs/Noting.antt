@@ -1,14 +1,13 @@
 -- What the names stand for to a thread, by the places of its requests; and those places, one after the other.
-use Rattle.std.proofs.Common.{◌≡◌, ℕ, zero, suc, ◌+◌, ◌<◌, ◌≤◌, ◌==◌, Bool, true, false, if◌then◌else◌, List, [], ◌∷◌, ◌++◌, map, get_or, length, Option, Some}
+use Rattle.std.proofs.Common.{if◌then◌else◌, [], ◌≡◌, ℕ, zero, suc, ◌+◌, ◌<◌, ◌≤◌, ◌==◌, Bool, true, false, List, ◌∷◌, ◌++◌, map, get_or, length, Option, Some}
 use Rattle.std.proofs.Common.{None, refl, ap, sym, ◌∙◌, subst, arith, append_assoc, append-nil, ne_eqb, eq-eqb, ◌≢◌, ◌||◌, take, replicate, length-append}
-use Rattle.std.proofs.{Common.{length-take, true≢false, drop}, lemmas.{Bool.{cases_eq, false≢true, cases_lt, or_parts}, List.get_or-replicate}}
-use Rattle.std.proofs.lemmas.List.{length-replicate, get_or_past, drop_more, take_more}
-use Rattle.pas_profile.specs.declared.{name.Block.Block, profile.Profile.Profile}
-use Rattle.pas_trace.specs.{declared.plan.{What.{What, TheVariants.{Alloc, Guarded, Remake}}, Op.Op}, Acts.{Act, act_kept, Settles, own_acts}, Asked.keeper_in}
-use Rattle.pas_trace.specs.EveryPlan.{is_asked, asked_with, asked_after, asked_by, AreSound, IsSoundWhat}
-use Rattle.pas_answers.specs.{Answers.{Named, named, standing_for}, Calls.{block_behind, MayStand, named_by}, Fit.{IsBelow, AreBelow}, Names.block_in}
-use Rattle.pas_acts.specs.NameBooks.{name_asked, names_asked, names_of, ArePlaced, named_of, came_to, name_asked_by, place_in, request_at, AreWithin}
-use Rattle.pas_acts.specs.declared.names.{NameBook.NameBook, Request.Request}
+use Rattle.std.proofs.{Common.{length-take, true≢false, drop}, lemmas.List.take_more}
+use Rattle.pas_acts.proofs.Common.{cases_eq, false≢true, cases_lt, or_parts, get_or-replicate, length-replicate, get_or_past, drop_more, Block, Profile, What}
+use Rattle.pas_acts.proofs.Common.{Op, Request as Asking, Act, act_kept, own_acts, is_asked, asked_with, asked_after, asked_by, AreSound, Named, named}
+use Rattle.pas_acts.proofs.Common.{standing_for, block_behind, MayStand, named_with, AreBelow, name_asked, names_asked, names_of, ArePlaced, named_of, came_to}
+use Rattle.pas_acts.{proofs.Common.NameBook, specs.{NameBooks.{name_asked_by, place_in, request_at, AreWithin}, declared.names.Request.Request}}
+use Rattle.pas_answers.specs.{Fit.IsBelow, Names.block_in}
+use Rattle.pas_trace.specs.EveryPlan.{IsSoundWhat}
 
 -- ---- names in order
 abbrev or_else : Option (Option Block) → Option (Option Block) → Option (Option Block)
@@ -41,10 +40,6 @@ asked_both (x ∷ xs) ys = ap (λ (ns : List ℕ). name_asked_by x ++ ns) (asked
 -- an operation's act asks for the same, whether it is guarded or not
 pub kept_asks : (o : Option ℕ) (op : Op) → name_asked_by (act_kept o op) ≡ name_asked op.what
 kept_asks a op = search arith
-
--- the names of what an operation came to are those that it asks for
-pub names_named : (what : What) (came : Option Block) → names_of (named_by what came) ≡ name_asked what
-names_named a came = search arith
 
 -- ---- places
 pub placed_both : (book : NameBook) (i : ℕ) (xs ys : List ℕ) → ArePlaced book i (xs ++ ys) → ArePlaced book i xs × ArePlaced book (i + length xs) ys
@@ -130,32 +125,21 @@ came_same : (rs rs' : List Named) (n : ℕ) (base : Option Block) → rs' ≡ rs
 came_same rs rs' n base is = ap (λ (xs : List Named). came_to (standing_for xs n) base) (is ∙ append-nil rs)
 
 -- After an operation the thread's requests tell of each name what the replay's names do.
-pub tells_more : (book : NameBook) (rs rs' : List Named) (what : What) (came : Option Block) (names : List Named) (ms : List ℕ) (n : ℕ) (base : Option Block)
-    → rs' ≡ rs ++ named_by what came → ArePlaced book 0 (names_of rs ++ (name_asked what ++ ms))
+pub tells_more : (book : NameBook) (rs rs' : List Named) (request : Option Asking) (came : Option Block) (names : List Named) (ms : List ℕ) (n : ℕ)
+    (base : Option Block)
+    → rs' ≡ rs ++ named_with request came → ArePlaced book 0 (names_of rs ++ (asked_with request [] ++ ms))
     → came_to (standing_for rs n) base ≡ block_behind (standing_for names n)
-    → came_to (standing_for rs' n) base ≡ block_behind (standing_for (named_by what came ++ names) n)
-tells_more book rs rs' (Alloc name heap size align) came names ms n base is placed tells =
-    came_as rs (named name came ∷ []) n base rs' is ∙ both_ways (name == n) (standing_for rs n) came base _ (not_yet book rs ms name n placed) tells
-tells_more book rs rs' (Guarded keeper name heap size align) came names ms n base is placed tells =
-    came_as rs (named name came ∷ []) n base rs' is ∙ both_ways (name == n) (standing_for rs n) came base _ (not_yet book rs ms name n placed) tells
-tells_more book rs rs' (Remake name old heap size align) came names ms n base is placed tells =
-    came_as rs (named name came ∷ []) n base rs' is ∙ both_ways (name == n) (standing_for rs n) came base _ (not_yet book rs ms name n placed) tells
-tells_more book rs rs' what came names ms n base is placed tells = came_same rs rs' n base is ∙ tells
-
-stand_same : (f : Profile) (rs rs' : List Named) (n : ℕ) (base : Option Block) → rs' ≡ rs ++ [] → MayStand f (came_to (standing_for rs n) base)
-    → MayStand f (came_to (standing_for rs' n) base)
-stand_same f rs rs' n base is stands = subst (MayStand f) (sym (came_same rs rs' n base is)) stands
+    → came_to (standing_for rs' n) base ≡ block_behind (standing_for (named_with request came ++ names) n)
+tells_more book rs rs' None came names ms n base is placed tells = came_same rs rs' n base is ∙ tells
+tells_more book rs rs' (Some r) came names ms n base is placed tells =
+    came_as rs (named r.name came ∷ []) n base rs' is ∙ both_ways (r.name == n) (standing_for rs n) came base _ (not_yet book rs ms r.name n placed) tells
 
 -- After an operation what a name stands for by the thread's requests may stand in the region.
-pub stand_more : (f : Profile) (rs rs' : List Named) (what : What) (came : Option Block) (n : ℕ) (base : Option Block) → rs' ≡ rs ++ named_by what came
-    → MayStand f came → MayStand f (came_to (standing_for rs n) base) → MayStand f (came_to (standing_for rs' n) base)
-stand_more f rs rs' (Alloc name heap size align) came n base is new old =
-    subst (MayStand f) (sym (came_as rs (named name came ∷ []) n base rs' is)) (stand_either f (name == n) (standing_for rs n) came base new old)
-stand_more f rs rs' (Guarded keeper name heap size align) came n base is new old =
-    subst (MayStand f) (sym (came_as rs (named name came ∷ []) n base rs' is)) (stand_either f (name == n) (standing_for rs n) came base new old)
-stand_more f rs rs' (Remake name other heap size align) came n base is new old =
-    subst (MayStand f) (sym (came_as rs (named name came ∷ []) n base rs' is)) (stand_either f (name == n) (standing_for rs n) came base new old)
-stand_more f rs rs' what came n base is new old = stand_same f rs rs' n base is old
+pub stand_more : (f : Profile) (rs rs' : List Named) (request : Option Asking) (came : Option Block) (n : ℕ) (base : Option Block)
+    → rs' ≡ rs ++ named_with request came → MayStand f came → MayStand f (came_to (standing_for rs n) base) → MayStand f (came_to (standing_for rs' n) base)
+stand_more f rs rs' None came n base is new old = subst (MayStand f) (sym (came_same rs rs' n base is)) old
+stand_more f rs rs' (Some r) came n base is new old =
+    subst (MayStand f) (sym (came_as rs (named r.name came ∷ []) n base rs' is)) (stand_either f (r.name == n) (standing_for rs n) came base new old)
 
 -- ---- counts
 pub none_yet : (n k : ℕ) → ◌≡◌ {A = ℕ} (get_or (replicate n 0) k 0) 0
@@ -165,36 +149,23 @@ none_yet n k = search (arith, cases_lt, get_or-replicate, length-replicate, get_
 abbrev pub asks : ℕ → List Op → List ℕ
 asks k ops = names_asked (own_acts k ops)
 
-own_one : (t : Bool) (o : Option ℕ) (op : Op) (acts : List Act)
-    → names_asked (if t then act_kept o op ∷ (Settles op.actor ∷ acts) else acts) ≡ (if t then name_asked op.what else []) ++ names_asked acts
-own_one a o op acts = search (arith, kept_asks)
-
 -- The names that an actor asks for by one operation more in front are that one's, if it is its own, and the others.
 pub asks_more : (k : ℕ) (op : Op) (ops : List Op) → asks k (op ∷ ops) ≡ (if op.actor == k then name_asked op.what else []) ++ asks k ops
-asks_more k op ops = own_one (op.actor == k) (keeper_in op.what) op (own_acts k ops)
+asks_more k op ops = search (arith, kept_asks)
 
 asks_last : (k : ℕ) (ops : List Op) (op : Op) → asks k (ops ++ op ∷ []) ≡ asks k ops ++ (if op.actor == k then name_asked op.what else [])
 asks_last k [] op = asks_more k op [] ∙ append-nil (if op.actor == k then name_asked op.what else [])
 asks_last k (o ∷ ops) op =
     let rest = asks_last k ops op in grind (arith, rest, asks_more)
 
--- by whether there is a request
-one_at_most : (request : _) → length (asked_with request []) ≤ 1
-one_at_most a = search arith
-
--- by the test
-if_few : (t : Bool) (ns : List ℕ) → length ns ≤ 1 → length (if t then ns else []) ≤ 1
-if_few a ns few = search arith
-
 asks_few : (k : ℕ) (ops : List Op) → length (asks k ops) ≤ length ops
 asks_few k [] = omega arith
 asks_few k (op ∷ ops) =
-    let rest = asks_few k ops in grind (arith, rest, asks_more, length-append, if_few, one_at_most)
+    let rest = asks_few k ops in grind (arith, rest, asks_more, length-append)
 
 -- An actor asks for at most one name an operation.
 pub count_small : (k : ℕ) (ops : List Op) (i : ℕ) → i < length ops → length (asks k (take i ops)) ≤ i
-count_small k ops i lt =
-    omega (arith, asks_few k (take i ops), length-take i ops, lt)
+count_small k ops i lt = search (arith, asks_few, take, length-take)
 
 -- ---- a new name is none of those before
 
@@ -229,29 +200,14 @@ below_at limit [] i d below lt = absurd (let bad : i < 0 = lt in omega (arith, b
 below_at limit (op ∷ ops) zero d below lt = below.0
 below_at limit (op ∷ ops) (suc i) d below lt = below_at limit ops i d below.1 (omega (arith, lt))
 
--- a name that an operation asks for wasn't asked for before
-asks_new : (f : Profile) (asked : List ℕ) (what : What) (name : ℕ) → IsSoundWhat f asked what → name_asked what ≡ name ∷ [] → is_asked asked name ≡ false
-asks_new f asked what name sound is = search arith
-
 -- .. and is below the limit
 pub asks_below : (limit : ℕ) (what : What) (name : ℕ) → IsBelow limit what → name_asked what ≡ name ∷ [] → name < limit
 asks_below limit what name below is = search arith
-
--- the name of the operation at a place is new to each thread
-new_name : (f : Profile) (asked : List ℕ) (ops : List Op) (i : ℕ) (d : Op) (name : ℕ) → AreSound f asked ops → i < length ops
-    → name_asked (get_or ops i d).what ≡ name ∷ [] → (k : ℕ) → is_asked (asks k (take i ops)) name ≡ false
-new_name f asked ops i d name sound lt is k = search (arith, not_asked, asks_new, sound_at)
 
 -- ---- a place is set
 -- the name has this place, and each other its own
 abbrev pub SetsPlace : NameBook → NameBook → ℕ → ℕ → Type 0
 SetsPlace old new name place = (n : ℕ) → place_in new n ≡ (if name == n then place else place_in old n)
-
-set_here : (old new : NameBook) (name place : ℕ) → SetsPlace old new name place → place_in new name ≡ place
-set_here old new name place sets = sets name ∙ ap (λ (t : Bool). if t then place else place_in old name) (eq-eqb name name refl)
-
-set_other : (old new : NameBook) (name place n : ℕ) → SetsPlace old new name place → name ≢ n → place_in new n ≡ place_in old n
-set_other old new name place n sets other = sets n ∙ ap (λ (t : Bool). if t then place else place_in old n) (ne_eqb name n other)
 
 -- Numbers that a test tells apart are distinct.
 apart : (x name : ℕ) → x == name ≡ false → name ≢ x
@@ -262,7 +218,8 @@ still_placed : (old new : NameBook) (name place i : ℕ) (xs : List ℕ) → Set
 still_placed old new name place i [] sets none placed = tt
 still_placed old new name place i (x ∷ xs) sets none placed =
     let both = or_parts (x == name) (is_asked xs name) none in
-    (set_other old new name place x sets (apart x name both.0) ∙ placed.0, still_placed old new name place (i + 1) xs sets both.1 placed.1)
+    let same = sets x ∙ ap (λ (t : Bool). if t then place else place_in old x) (ne_eqb name x (apart x name both.0)) in
+    (same ∙ placed.0, still_placed old new name place (i + 1) xs sets both.1 placed.1)
 
 one_more : (t : Bool) (old new : NameBook) (name : ℕ) (xs : List ℕ) → (t ≡ true → place_in new name ≡ length xs) → ArePlaced new 0 xs
     → ArePlaced new 0 (xs ++ (if t then name ∷ [] else []))
@@ -285,39 +242,27 @@ pub placed_next : (f : Profile) (asked : List ℕ) (old new : NameBook) (ops : L
 placed_next f asked old new ops i d name place sound lt is sets count k placed =
     let a = (get_or ops i d).actor in
     let xs = asks k (take i ops) in
-    let there = still_placed old new name place 0 xs sets (new_name f asked ops i d name sound lt is k) placed in
+    let there = still_placed old new name place 0 xs sets (search (arith, not_asked, sound_at)) placed in
     let here : a == k ≡ true → place_in new name ≡ length xs =
-    λ same. set_here old new name place sets ∙ count ∙ ap (λ (j : ℕ). length (asks j (take i ops))) (is_same a k same) in
+    λ same. (sets name ∙ ap (λ (t : Bool). if t then place else place_in old name) (eq-eqb name name refl)) ∙ count
+    ∙ ap (λ (j : ℕ). length (asks j (take i ops))) (is_same a k same) in
     subst (λ (ns : List ℕ). ArePlaced new 0 ns) (sym (asks_next k ops i d (name ∷ []) lt is)) (one_more (a == k) old new name xs here there)
-
-if_length : (t : Bool) (xs : List ℕ) (name c : ℕ) → length (xs ++ (if t then name ∷ [] else [])) ≡ (if t then length xs + 1 else length xs)
-if_length a xs name c = search (arith, length-append)
-
-count_if : (a k place old : ℕ) (n : ℕ → ℕ) → place ≡ n a → old ≡ n k → (if a == k then place + 1 else old) ≡ (if a == k then n k + 1 else n k)
-count_if a k place old n here there = search (arith, cases_eq, eq-eqb, ne_eqb)
-
--- .. and how many a thread asked for then
-count_next : (ops : List Op) (i : ℕ) (d : Op) (name k : ℕ) → i < length ops → name_asked (get_or ops i d).what ≡ name ∷ []
-    → length (asks k (take (i + 1) ops)) ≡ (if (get_or ops i d).actor == k then length (asks k (take i ops)) + 1 else length (asks k (take i ops)))
-count_next ops i d name k lt is =
-    ap (λ (ns : List ℕ). length ns) (asks_next k ops i d (name ∷ []) lt is) ∙ if_length ((get_or ops i d).actor == k) (asks k (take i ops)) name 0
 
 -- An operation that asks for a name makes the names of its actor one more, and of no other.
 pub counted : (ops : List Op) (i : ℕ) (d : Op) (name k place old : ℕ) → i < length ops → name_asked (get_or ops i d).what ≡ name ∷ []
     → place ≡ length (asks (get_or ops i d).actor (take i ops)) → old ≡ length (asks k (take i ops))
     → (if (get_or ops i d).actor == k then place + 1 else old) ≡ length (asks k (take (i + 1) ops))
 counted ops i d name k place old lt is here there =
-    count_if (get_or ops i d).actor k place old (λ j. length (asks j (take i ops))) here there ∙ sym (count_next ops i d name k lt is)
-
--- another operation asks for none
-if_nothing : (t : Bool) (xs : List ℕ) → xs ++ (if t then [] else []) ≡ xs
-if_nothing true xs = append-nil xs
-if_nothing false xs = append-nil xs
+    let a = (get_or ops i d).actor in
+    let many = length (asks k (take i ops)) in
+    let next : length (asks k (take (i + 1) ops)) ≡ (if a == k then many + 1 else many) =
+    ap (λ (ns : List ℕ). length ns) (asks_next k ops i d (name ∷ []) lt is) ∙ (search (arith, length-append)) in
+    search (arith, next, cases_eq, eq-eqb, ne_eqb)
 
 -- An operation that asks for no name leaves the names asked for as they are.
 pub asks_same : (k : ℕ) (ops : List Op) (i : ℕ) (d : Op) → i < length ops → name_asked (get_or ops i d).what ≡ []
     → asks k (take (i + 1) ops) ≡ asks k (take i ops)
-asks_same k ops i d lt none = asks_next k ops i d [] lt none ∙ if_nothing ((get_or ops i d).actor == k) (asks k (take i ops))
+asks_same k ops i d lt none = asks_next k ops i d [] lt none ∙ (search (arith, append-nil))
 
 -- The book takes a thread's requests over, from the last to the first.
 
@@ -329,13 +274,9 @@ within_at limit (r ∷ items) zero d within lt = within.0
 within_at limit (r ∷ items) (suc i) d within lt = within_at limit items i d within.1 (omega (arith, lt))
 
 -- ---- what the names stand for then
-came_if : (t : Bool) (block base : Option Block) (o : Option (Option Block))
-    → came_to (if t then Some block else o) base ≡ (if t then block else came_to o base)
-came_if a block base o = search arith
-
 -- The request at a place says what its name stands for, and those behind it what the others do.
 pub over_next : (items : List Request) (i j : ℕ) (d : Request) (n : ℕ) (base : Option Block) → i < length items → j ≡ i + 1
     → (if (get_or items i d).name == n then block_in (get_or items i d).meaning else came_to (standing_for (map named_of (drop j items)) n) base)
     ≡ came_to (standing_for (map named_of (drop i items)) n) base
 over_next items i j d n base lt next =
-    search (arith, came_if, drop_more)
+    search (arith, drop_more)

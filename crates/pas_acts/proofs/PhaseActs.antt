@@ -1,16 +1,14 @@
 -- The acts of a phase are shared among its workers; where one actor alone has operations in it, all acts of each stage are in one worker's hands.
-use Rattle.std.proofs.Common.{◌≡◌, ℕ, zero, suc, ◌+◌, ◌-◌, ◌≤◌, ◌==◌, ◌||◌, not, Option, Bool, true, false, if◌then◌else◌, List, [], ◌∷◌, ◌++◌, refl, ap, sym}
-use Rattle.std.proofs.{Common.{subst, ◌∙◌, arith, MatchOption, eq-eqb, ne_eqb, le-leb, map, ◌≢◌, eqb-true}, lemmas.Bool.{false≢true, cases_eq, or_parts}}
-use Rattle.std.{proofs.lemmas.Bool.{lt-leb, or_left, or_right}, specs.List.{AllByRecursion, filter}}
-use Rattle.pas_profile.{specs.declared.profile.Profile.Profile, proofs.Lists.all_both}
-use Rattle.pas_trace.specs.{Asked.{work_of, of_task, keeper_of, keeper_in}, EveryPlan.{AreSound, IsActorBy, asked_after, all_ops, AreKept}}
-use Rattle.pas_trace.specs.{declared.plan.{Chore.Chore, Work.Work, Op.Op}, Acts.{Act, Settles, is_active, numbers_from, idle_threads, acts_of_work, acts_of_op}}
-use Rattle.pas_trace.{specs.Acts.{acts_of_ops, own_acts, act_kept, Wakes, Ends, Lowers, close_acts, scavenger_acts}, proofs.EveryPlan.every_plan}
-use Rattle.pas_answers.{proofs.{EachAct.{all_any, all_of_chore}, Reached.{IsHeldBy, AreHeldBy, IsOneHanded, one_handed_list}}, specs.Replays.at_start}
-use Rattle.pas_answers.specs.{Replays.{region_of, keepers_of, phases_of, stages_of_plan}, Stages.{Owners, itself, owner_in, one_by_one, phase_stages}}
-use Rattle.pas_answers.specs.Stages.{stages_from, stages_of}
-use Rattle.pas_acts.specs.Shares.{Owners, actor_of_act, IsInHand, AreInHand, acts_by, thread_in, owner_in, AreKeptBehind, ActsAreShared}
-use Rattle.pas_acts.{specs.AloneInOrder.{AreOfOneActor, AloneIsInOrder}, proofs.Naming.{sound_front, sound_back}}
+use Rattle.std.proofs.Common.{if◌then◌else◌, [], ◌≡◌, ℕ, zero, suc, ◌+◌, ◌-◌, ◌≤◌, ◌==◌, ◌||◌, not, Bool, true, false, List, ◌∷◌, ◌++◌, refl, ap, sym, subst}
+use Rattle.std.proofs.{Common.{◌∙◌, arith, MatchOption, eq-eqb, ne_eqb, le-leb, map, ◌≢◌, eqb-true}, lemmas.Bool.{lt-leb, or_left, or_right}}
+use Rattle.pas_acts.proofs.Common.{false≢true, cases_eq, or_parts, AllByRecursion, filter, Profile, all_both, work_of, of_task, keeper_of, keeper_in, AreSound}
+use Rattle.pas_acts.proofs.Common.{IsActorBy, asked_after, all_ops, AreKept, Chore, Work, Op, Act, Settles, is_active, numbers_from, idle_threads, acts_of_work}
+use Rattle.pas_acts.proofs.Common.{acts_of_op, acts_of_ops, own_acts, act_kept, Wakes, Ends, Lowers, close_acts, every_plan, all_of, all_any, all_of_chore}
+use Rattle.pas_acts.proofs.{Common.{at_start, region_of, keepers_of, phases_of, Owners, actor_of_act, IsInHand, AreInHand, acts_by}, Naming.sound_front}
+use Rattle.pas_acts.{proofs.Naming.sound_back, specs.{Shares.{thread_in, owner_in, AreKeptBehind, ActsAreShared}, AloneInOrder.{AreOfOneActor, AloneIsInOrder}}}
+use Rattle.pas_trace.specs.Acts.{scavenger_acts}
+use Rattle.pas_answers.{proofs.Reached.{IsHeldBy, AreHeldBy, IsOneHanded, one_handed_list}, specs.{Replays.stages_of_plan, Stages.{Owners, itself, owner_in}}}
+use Rattle.pas_answers.specs.Stages.{one_by_one, phase_stages, stage, stages_from, stages_of}
 
 -- ---- who owns whom
 -- each operation's actor is its own worker
@@ -43,22 +41,15 @@ all_own threads all (op ∷ ops) within most =
 pub zero_own : (t : Bool) → ◌≡◌ {A = ℕ} (if t then 0 else 0) 0
 zero_own a = search arith
 
--- who is active is a thread of the region, or the scavenger
-work_within : (f : Profile) (work : Work) (k : ℕ) → IsActorBy f work k → k ≤ f.threads
-work_within f work k h = grind arith
-
 -- An actor with an operation in a sound phase is one of the threads.
 pub active_within : (f : Profile) (asked : List ℕ) (ops : List Op) (k : ℕ) → AreSound f asked ops → is_active ops k ≡ true → k ≤ f.threads
 active_within f asked [] k sound on = absurd (false≢true on)
-active_within f asked (op ∷ ops) k sound on = let rest = active_within f _ ops k sound.2 in grind (arith, rest, cases_eq, work_within, ne_eqb)
+active_within f asked (op ∷ ops) k sound on = let rest = active_within f _ ops k sound.2 in grind (arith, rest, cases_eq, ne_eqb)
 
 -- ---- the acts of one worker
-if_both : (t : Bool) (act : Act) (xs ys zs : List Act) → zs ≡ xs ++ ys → (if t then act ∷ zs else zs) ≡ (if t then act ∷ xs else xs) ++ ys
-if_both t act xs ys zs h = grind arith
-
 by_both : (owner : Owners) (w : ℕ) (xs ys : List Act) → acts_by owner w (xs ++ ys) ≡ acts_by owner w xs ++ acts_by owner w ys
 by_both owner w [] ys = refl
-by_both owner w (x ∷ xs) ys = let rest = by_both owner w xs ys in grind (arith, rest, if_both)
+by_both owner w (x ∷ xs) ys = let rest = by_both owner w xs ys in grind (arith, rest)
 
 -- ---- each act of an operation
 -- by what is so of each operation besides
@@ -72,12 +63,9 @@ module _ (f : Profile) (P : Act → Type 0) (Q : Op → Type 0) (idle : List ℕ
 abbrev pub AreOf : ℕ → List Act → Type 0
 AreOf j acts = AllByRecursion (λ act. actor_of_act act ≡ j) acts
 
--- A guarded request and what settles it are the thread's.
-kept_is_of : (keeper : Option ℕ) (op : Op) → AreOf op.actor (act_kept keeper op ∷ (Settles op.actor ∷ []))
-kept_is_of keeper op = grind arith
-
+-- a thread's own acts, guarded or not, and those of a chore
 work_is_of : (f : Profile) (idle : List ℕ) (op : Op) (work : Work) → IsActorBy f work op.actor → AreOf op.actor (acts_of_work idle op work)
-work_is_of f idle op (Work.Own task) of = kept_is_of (keeper_of task) op
+work_is_of f idle op (Work.Own task) of = grind arith
 work_is_of f idle op (Work.Chore chore) of =
     all_of_chore (λ act. actor_of_act act ≡ op.actor) (λ k. Unit {0}) idle chore (λ epoch. sym of) (sym of) (sym of) (λ k n is. sym of) (all_any idle)
 
@@ -87,35 +75,24 @@ are_of : (f : Profile) (j : ℕ) (idle : List ℕ) (asked : List ℕ) (ops : Lis
 are_of f j idle asked ops sound own = all_of_kept f (λ act. actor_of_act act ≡ j) (λ op. op.actor ≡ j) idle
     (λ op of is. subst (λ (i : ℕ). AreOf i (acts_of_op idle op)) is (work_is_of f idle op (work_of op.what) of)) asked ops sound own
 
--- by the test
-none_if : (t : Bool) → ◌≡◌ {A = List Act} [] (if t then [] else [])
-none_if a = search arith
-
--- by the test
-one_if : (t : Bool) (act : Act) (acts : List Act) → (if t then act ∷ (if t then acts else []) else (if t then acts else [])) ≡ (if t then act ∷ acts else [])
-one_if a act acts = search arith
-
 -- acts of an actor that is its own worker are that worker's, and nobody else's
 all_or_none : (owner : Owners) (j k : ℕ) (acts : List Act) → owner j ≡ j → AreOf j acts → acts_by owner k acts ≡ (if j == k then acts else [])
-all_or_none owner j k [] own of = none_if (j == k)
+all_or_none owner j k [] own of = search arith
 all_or_none owner j k (act ∷ acts) own of =
-    let rest = all_or_none owner j k acts own of.1 in grind (arith, rest, one_if)
-
--- by the test
-then_others : (t : Bool) (acts rest : List Act) → (if t then acts else []) ++ rest ≡ (if t then acts ++ rest else rest)
-then_others a acts rest = search arith
+    let rest = all_or_none owner j k acts own of.1 in grind (arith, rest)
 
 -- The acts of worker k are `whole` of the operations, where that has the acts of each operation of actor k.
 module _ (f : Profile) (owner : Owners) (k : ℕ) (idle : List ℕ) (whole : List Op → List Act) (none : whole [] ≡ [])
     (next : (op : Op) (ops : List Op) → IsActorBy f (work_of op.what) op.actor → whole (op ∷ ops)
     ≡ (if op.actor == k then acts_of_op idle op ++ whole ops else whole ops)) where
+  -- operation by operation, of the worker or not
   of_ops : (asked : List ℕ) (ops : List Op) → OwnThemselves owner ops → AreSound f asked ops → acts_by owner k (acts_of_ops idle ops) ≡ whole ops
   of_ops asked [] own sound = sym none
   of_ops asked (op ∷ ops) own sound =
       by_both owner k (acts_of_op idle op) (acts_of_ops idle ops)
       ∙ ap (λ (acts : List Act). acts ++ acts_by owner k (acts_of_ops idle ops)) (all_or_none owner op.actor k (acts_of_op idle op) own.0 (work_is_of f idle op (work_of op.what) sound.0))
       ∙ ap (λ (acts : List Act). (if op.actor == k then acts_of_op idle op else []) ++ acts) (of_ops (asked_after op.what asked) ops own.1 sound.2)
-      ∙ then_others (op.actor == k) (acts_of_op idle op) (whole ops) ∙ sym (next op ops sound.0)
+      ∙ (search arith) ∙ sym (next op ops sound.0)
 
 -- no operation of a thread is a chore
 own_next : (f : Profile) (k : ℕ) (idle : List ℕ) (op : Op) (work : Work) (rest : List Act) → 1 ≤ k → IsActorBy f work op.actor
@@ -135,21 +112,11 @@ none_own k (op ∷ ops) is =
 abbrev AreIdle : Owners → List ℕ → Type 0
 AreIdle owner ks = AllByRecursion (λ k. owner k ≡ owner 0) ks
 
--- Both are in the hands of one worker.
-kept_in_hand : (owner : Owners) (keeper : Option ℕ) (op : Op) → MatchOption keeper (Unit {0}) (λ k. owner k ≡ owner op.actor)
-    → AreInHand owner (act_kept keeper op ∷ (Settles op.actor ∷ []))
-kept_in_hand owner keeper op h = grind arith
-
+-- a thread's own acts, guarded or not, and those of a chore
 hands_one : (owner : Owners) (idle : List ℕ) (op : Op) (work : Work) → MatchOption (of_task keeper_of work) (Unit {0}) (λ k. owner k ≡ owner op.actor)
     → AreIdle owner idle → AreInHand owner (acts_of_work idle op work)
-hands_one owner idle op (Work.Own task) own all = kept_in_hand owner (keeper_of task) op own
+hands_one owner idle op (Work.Own task) own all = grind arith
 hands_one owner idle op (Work.Chore chore) own all = all_of_chore (IsInHand owner) (λ k. owner k ≡ owner 0) idle chore (λ epoch. tt) tt tt (λ k n is. is) all
-
--- a keeper is in the hands of its thread's worker
-kept_owned : (f : Profile) (threads : ℕ) (ops : List Op) (op : Op) (work : Work) (o : Option ℕ) → of_task keeper_of work ≡ o → IsActorBy f work op.actor
-    → op.actor ≤ threads → MatchOption o (Unit {0}) (λ keeper. keeper ≡ threads + op.actor)
-    → MatchOption o (Unit {0}) (λ k. owner_in threads ops k ≡ owner_in threads ops op.actor)
-kept_owned f threads ops op work o h i j m = grind (arith, owner_of, kept_thread, own_thread)
 
 idle_one : (threads : ℕ) (ops : List Op) (k : ℕ) (t : Bool) (rest : List ℕ) → k ≤ threads → is_active ops k ≡ t → AreIdle (owner_in threads ops) rest
     → AreIdle (owner_in threads ops) (if not t then k ∷ rest else rest)
@@ -159,17 +126,15 @@ idle_one threads ops k t rest h i j = grind (arith, owner_of, own_thread, zero_o
 are_idle : (threads : ℕ) (ops : List Op) (k n : ℕ) → k + n ≤ threads + 1
     → AreIdle (owner_in threads ops) (filter (λ k. not (is_active ops k)) (numbers_from k n))
 are_idle threads ops k zero within = tt
-are_idle threads ops k (suc n) within = idle_one threads ops k (is_active ops k) (filter (λ k. not (is_active ops k)) (numbers_from (k + 1) n))
-    (omega (arith, within)) refl (are_idle threads ops (k + 1) n (omega (arith, within)))
+are_idle threads ops k (suc n) within = let rest = are_idle threads ops (k + 1) n (omega (arith, within)) in search (arith, rest, idle_one, not)
 
 -- each operation is active among all
 actors_within : (threads : ℕ) (all ops : List Op) → ((k : ℕ) → is_active ops k ≡ true → is_active all k ≡ true)
     → ((k : ℕ) → is_active all k ≡ true → k ≤ threads) → AllByRecursion (λ (op : Op). op.actor ≤ threads) ops
 actors_within threads all [] within most = tt
-actors_within threads all (op ∷ ops) within most = (
-  most op.actor (within op.actor (or_left (op.actor == op.actor) (is_active ops op.actor) (eq-eqb op.actor op.actor refl))),
-  actors_within threads all ops (λ k is. within k (or_right (op.actor == k) (is_active ops k) is)) most,
-)
+actors_within threads all (op ∷ ops) within most =
+    let rest = actors_within threads all ops (λ k is. within k (or_right (op.actor == k) (is_active ops k) is)) most in
+    search (arith, rest, or_left, eq-eqb, or_right)
 
 both_kept : (threads : ℕ) (ops : List Op) → AreKeptBehind threads ops → AllByRecursion (λ (op : Op). op.actor ≤ threads) ops
     → AllByRecursion (λ (op : Op). (op.actor ≤ threads) × MatchOption (keeper_in op.what) (Unit {0}) (λ keeper. keeper ≡ threads + op.actor)) ops
@@ -185,7 +150,7 @@ acts_are_shared f threads asked ops sound kept most =
     let of_thread : (k : ℕ) → 1 ≤ k → acts_by owner k (acts_of_ops idle ops) ≡ own_acts k ops = λ k some.
     of_ops f owner k idle (own_acts k) refl (λ op rest of. own_next f k idle op (work_of op.what) (own_acts k rest) some of) asked ops own sound in (
       all_of_kept f (IsInHand owner) (λ (op : Op). (op.actor ≤ threads) × MatchOption (keeper_in op.what) (Unit {0}) (λ keeper. keeper ≡ threads + op.actor)) idle
-          (λ op of here. hands_one owner idle op _ (kept_owned f threads ops op _ _ refl of here.0 here.1) (are_idle threads ops 1 threads (omega arith)))
+          (λ op of here. hands_one owner idle op _ (grind (arith, owner_of, kept_thread, own_thread)) (are_idle threads ops 1 threads (omega arith)))
           asked ops sound (both_kept threads ops kept (actors_within threads ops ops (λ k is. is) most)),
       λ k some within active. of_thread k some,
       λ k some within inactive. of_thread k some ∙ none_own k ops inactive,
@@ -197,23 +162,14 @@ acts_are_shared f threads asked ops sound kept most =
 abbrev IsSomebodys : Act → Type 0
 IsSomebodys act = (w : ℕ) × IsHeldBy itself w act
 
-each_held : (acts : List Act) → AllByRecursion IsSomebodys acts → AllByRecursion IsOneHanded (one_by_one acts)
-each_held [] all = tt
-each_held (act ∷ acts) all = ((all.0.0, (all.0.1, tt)), each_held acts all.1)
-
-ends_held : (ks : List ℕ) → AllByRecursion IsSomebodys (map Ends ks)
-ends_held [] = tt
-ends_held (k ∷ ks) = ((k, refl), ends_held ks)
-
-lowers_held : (ks : List ℕ) → AllByRecursion IsSomebodys (map Lowers ks)
-lowers_held [] = tt
-lowers_held (k ∷ ks) = ((k, refl), lowers_held ks)
-
 close_held : (threads keepers : ℕ) → AllByRecursion IsOneHanded (one_by_one (close_acts threads keepers))
 close_held threads keepers =
     let ends = numbers_from 1 threads in
     let lowers = numbers_from (threads + 1) keepers in
-    each_held (close_acts threads keepers) ((0, tt), all_both IsSomebodys (map Ends ends) (map Lowers lowers) (ends_held ends) (lowers_held lowers))
+    let all_end = all_of IsSomebodys (λ k. Unit {0}) Ends ends (λ k any. (k, refl)) (all_any ends) in
+    let all_lower = all_of IsSomebodys (λ k. Unit {0}) Lowers lowers (λ k any. (k, refl)) (all_any lowers) in
+    all_of IsOneHanded IsSomebodys (λ act. stage (act ∷ []) itself) (close_acts threads keepers) (λ act by. (by.0, (by.1, tt)))
+    ((0, tt), all_both IsSomebodys (map Ends ends) (map Lowers lowers) all_end all_lower)
 
 -- ---- the acts of a phase of one actor
 active_is : (ops : List Op) (k j : ℕ) → AllByRecursion (λ (op : Op). op.actor ≡ k) ops → is_active ops j ≡ true → j ≡ k
@@ -233,13 +189,10 @@ wakes_held ops k (j ∷ js) own = at (wakes_held ops k js own) (is_active ops j)
     at rest true on = (active_is ops k j own on, rest)
     at rest false off = rest
 
--- what its worker makes of what it has in hand, it has in hand
-held_of : (owner : Owners) (k : ℕ) (act : Act) → IsInHand owner act → actor_of_act act ≡ k → IsHeldBy owner (owner k) act
-held_of owner k act h i = grind arith
-
+-- act by act: each is in the hands of the worker of its actor
 all_held : (owner : Owners) (k : ℕ) (acts : List Act) → AreInHand owner acts → AreOf k acts → AreHeldBy owner (owner k) acts
 all_held owner k [] hands of = tt
-all_held owner k (act ∷ acts) hands of = (held_of owner k act hands.0 of.0, all_held owner k acts hands.1 of.1)
+all_held owner k (act ∷ acts) hands of = (grind arith, all_held owner k acts hands.1 of.1)
 
 phase_held : (f : Profile) (asked : List ℕ) (ops : List Op) → AreSound f asked ops → AreKeptBehind f.threads ops → AreOfOneActor ops
     → AllByRecursion IsOneHanded (phase_stages f.threads ops)
@@ -251,14 +204,9 @@ phase_held f asked ops sound kept one =
     ((k, wakes_held ops k _ one.own), ((owner k, all_held owner k (acts_of_ops idle ops) hands (are_of f k idle asked ops sound one.own)), tt))
 
 -- ---- the phases of a plan, whose operations follow each other
--- Where there is a keeper, it stands behind the threads.
-behind_one : (threads actor guard : ℕ) (o : Option ℕ) → MatchOption o (Unit {0}) (λ keeper. (keeper ≡ threads + actor) × (guard ≢ 0))
-    → MatchOption o (Unit {0}) (λ keeper. keeper ≡ threads + actor)
-behind_one threads actor guard o h = grind arith
-
 kept_front : (f : Profile) (guard : ℕ) (xs ys : List Op) → AreKept f guard (xs ++ ys) → AreKeptBehind f.threads xs
 kept_front f guard [] ys kept = tt
-kept_front f guard (x ∷ xs) ys kept = (behind_one f.threads x.actor guard (keeper_in x.what) kept.0, kept_front f guard xs ys kept.1)
+kept_front f guard (x ∷ xs) ys kept = (grind arith, kept_front f guard xs ys kept.1)
 
 kept_back : (f : Profile) (guard : ℕ) (xs ys : List Op) → AreKept f guard (xs ++ ys) → AreKept f guard ys
 kept_back f guard [] ys kept = kept

@@ -1,20 +1,16 @@
 -- Each plan can be replayed: its operations follow one another, its bounds suffice for their records, and its keepers are asked for no more than they have room for.
-use Rattle.std.proofs.Common.{◌≡◌, ◌≢◌, ◌∷◌, Option, Some, refl, ap, ◌∙◌, ℕ, ◌+◌, ◌*◌, ◌<◌, ◌≤◌, List, [], length, slice_index, arith, ◌^◌, MatchOption, ◌-◌}
-use Rattle.std.proofs.{Common.{◌==◌, Bool, if◌then◌else◌, subst, eq-eqb, ne_eqb, zero, suc, false, ◌++◌, sym, append_assoc, append-nil}, lemmas.List.length-map}
-use Rattle.std.{proofs.lemmas.Bool.{cases_eq, false≢true}, specs.List.AllByRecursion}
-use Rattle.pas_profile.specs.{Profiles.{IsValid, IsAdmitted}, declared.profile.Profile.Profile}
-use Rattle.pas_trace.specs.{Reasons.actors_by, Plans.{IsPlanOf, ops_of, bounds_of}, Acts.{Act, Guards, Settles, act_kept, acts_of_chore, acts_of_work, acts_of}}
-use Rattle.pas_trace.specs.{Asked.{work_of, of_task, keeper_of, keeper_in, request_of, request_in}, EveryPlan.{all_ops, asked_after, IsThread, IsActorBy}}
-use Rattle.pas_trace.specs.EveryPlan.{IsActorOf, IsSoundTask, IsSoundWork, AreSound, AreKept, operations_of, IsKept, kept_of_work, kept_records}
-use Rattle.pas_trace.{specs.declared.plan.{Op.Op, Task.Task, Work.Work, Plan.Plan, Chore.Chore}, proofs.EveryPlan.{every_plan, threads_among, keepers_among}}
-use Rattle.pas_trace.proofs.Keepers.{plan_actors, keepers_few}
-use Rattle.pas_answers.specs.Fit.{KeepsAbove, AreFit, AreOfThreads, costs_of, own_costs_of, unbacks_of, AllBelow, sum_over, kept_cost_of, kept_cost_of_act}
-use Rattle.pas_answers.specs.{Fit.kept_costs_of, Replays.{phases_of, region_of, keepers_of, empty_cache, threads_of, acts_of_plan}, Calls.owed_events}
-use Rattle.pas_answers.{specs.Ways.{AreSpoken, by_phases}, proofs.EachAct.{all_any, all_of_chore, all_of_close, all_acts}}
-use Rattle.pas_acts.specs.{PlanKeepers.{one_guarded, guarded_of}, Shares.ArePhasesArranged, Tries.{tries_of_act, tries_of, IsKeptFor, AreKeptFor}}
+use Rattle.std.proofs.Common.{if◌then◌else◌, [], ◌≡◌, ◌≢◌, ◌∷◌, Option, Some, refl, ap, ◌∙◌, ℕ, ◌+◌, ◌*◌, ◌<◌, ◌≤◌, List, length, slice_index, arith, ◌^◌}
+use Rattle.std.proofs.Common.{MatchOption, ◌-◌, ◌==◌, Bool, subst, eq-eqb, ne_eqb, zero, suc, false, ◌++◌, sym, append_assoc, append-nil}
+use Rattle.pas_acts.proofs.Common.{length-map, cases_eq, false≢true, AllByRecursion, IsValid, IsAdmitted, Profile, actors_by, IsPlanOf, ops_of, Act, Guards}
+use Rattle.pas_acts.proofs.Common.{acts_of_work, acts_of, work_of, of_task, keeper_of, keeper_in, request_in, all_ops, asked_after, IsThread, IsActorBy}
+use Rattle.pas_acts.proofs.Common.{IsActorOf, AreSound, AreKept, operations_of, Op, Work, Plan, Chore, every_plan, plan_actors, keepers_few, KeepsAbove, AreFit}
+use Rattle.pas_acts.proofs.Common.{AreOfThreads, costs_of, own_costs_of, unbacks_of, AllBelow, sum_over, phases_of, region_of, keepers_of, empty_cache}
+use Rattle.pas_acts.proofs.Common.{owed_events, AreSpoken, all_any, all_of_chore, all_of_close, all_acts, one_guarded, guarded_of, Record}
 use Rattle.pas_acts.proofs.ActsOfPlan.{ArePlanned, are_planned, plan_costs, plan_owns, plan_unbacks, acts_fit, of_threads, sum_of_ops, plan_sums_at_most}
-use Rattle.pas_acts.proofs.{ActsOfPlan.free_map, Naming.{below_all, below_each}}
-use Rattle.pas_records.specs.declared.record.Record.{Record}
+use Rattle.pas_acts.{proofs.{ActsOfPlan.free_map, Naming.{below_all, below_each}}, specs.{Shares.ArePhasesArranged, Tries.{tries_of_act, tries_of, IsKeptFor}}}
+use Rattle.pas_acts.specs.Tries.{AreKeptFor}
+use Rattle.pas_trace.{specs.{Plans.bounds_of, EveryPlan.{IsKept, kept_of_work, kept_records}}, proofs.EveryPlan.{threads_among, keepers_among}}
+use Rattle.pas_answers.specs.{Fit.{kept_cost_of, kept_cost_of_act, kept_costs_of}, Replays.{threads_of, acts_of_plan}, Ways.by_phases}
 use Rattle.pas_steps.specs.Unknown.{unknown_below}
 use Rattle.pas_cache.specs.Locals.{any_covers, any_keeps}
 use Rattle.pas_segregated.specs.declared.slots.Slots.{Slots}
@@ -25,43 +21,23 @@ module _ (f : Profile) (threads : ℕ) (more : f.threads ≤ threads) where
   abbrev pub region : Profile
   region = record f { threads = threads }
 
-  -- What an actor of the profile may do, it may do in the region, which has as many: work by work.
-  wider_actor : (work : Work) (k : ℕ) → IsActorBy f work k → IsActorBy region work k
-  wider_actor work k h = grind arith
-
   wider_admits : (size align heap : ℕ) → IsAdmitted f size align heap → IsAdmitted region size align heap
   wider_admits size align heap admits = record { within = admits.within; aligned = admits.aligned; of_profile = admits.of_profile }
-
-  wider_task : (asked : List ℕ) (task : Task) → IsSoundTask f asked task → IsSoundTask region asked task
-  wider_task asked task sound = search (arith, wider_admits)
-
-  wider_work : (asked : List ℕ) (work : Work) → IsSoundWork f asked work → IsSoundWork region asked work
-  wider_work asked work sound = search (arith, wider_task)
 
   -- Operations that are sound in a region are sound in one with more threads.
   pub wider_sound : (asked : List ℕ) (ops : List Op) → AreSound f asked ops → AreSound region asked ops
   wider_sound asked [] sound = tt
-  wider_sound asked (op ∷ ops) sound = let rest = wider_sound (asked_after op.what asked) ops sound.2 in grind (arith, rest, wider_actor, wider_work)
-
--- the keepers of a guarded plan are actors of its region behind all threads
-above_one : (f : Profile) (guard : ℕ) (actor : ℕ) (o : Option ℕ) → 1 ≤ actor → actor ≤ f.threads
-    → MatchOption o (Unit {0}) (λ keeper. (keeper ≡ f.threads + actor) × (guard ≢ 0))
-    → MatchOption o (Unit {0}) (λ keeper. IsThread (record f { threads = actors_by guard f.threads }) keeper × (actor < keeper))
-above_one f guard actor o h most kept = search (arith, keepers_among)
+  wider_sound asked (op ∷ ops) sound = let rest = wider_sound (asked_after op.what asked) ops sound.2 in grind (arith, rest, wider_admits)
 
 -- A keeper that is asked for is one of the profile: work by work.
 of_thread : (f : Profile) (work : Work) (k : ℕ) (o : Option ℕ) → IsActorBy f work k → of_task keeper_of work ≡ o → (keeper : ℕ) → o ≡ Some keeper → IsThread f k
 of_thread f work k o h i keeper j = grind arith
 
-keeps_above : (f : Profile) (guard : ℕ) (op : Op) (o : Option ℕ) → keeper_in op.what ≡ o → IsActorOf f op.what op.actor
-    → MatchOption o (Unit {0}) (λ keeper. (keeper ≡ f.threads + op.actor) × (guard ≢ 0))
-    → MatchOption o (Unit {0}) (λ keeper. IsThread (record f { threads = actors_by guard f.threads }) keeper × (op.actor < keeper))
-keeps_above f guard op o is of kept = search (arith, of_thread, above_one)
-
 all_above : (f : Profile) (guard : ℕ) (asked : List ℕ) (ops : List Op) → AreSound f asked ops → AreKept f guard ops
     → AllByRecursion (KeepsAbove (record f { threads = actors_by guard f.threads })) ops
 all_above f guard asked [] sound kept = tt
-all_above f guard asked (op ∷ ops) sound kept = let rest = all_above f guard (asked_after op.what asked) ops sound.2 kept.1 in grind (arith, rest, keeps_above)
+all_above f guard asked (op ∷ ops) sound kept = let rest = all_above f guard (asked_after op.what asked) ops sound.2 kept.1 in
+    grind (arith, rest, of_thread, keepers_among)
 
 -- ---- the plan
 pub plan_valid : {text : List ℕ} {plan : Plan} → IsPlanOf text plan → IsValid (region_of plan)
@@ -141,15 +117,10 @@ are_both : (f : Profile) (guard : ℕ) (ops : List Op) → ArePlanned f ops → 
 are_both f guard [] planned kept = tt
 are_both f guard (op ∷ ops) planned kept = ((planned.0, kept.0), are_both f guard ops planned.1 kept.1)
 
-keeps_task : (f : Profile) (guard : ℕ) (op : Op) (keeper : Option ℕ) → op.actor ≤ f.threads
-    → MatchOption keeper (Unit {0}) (λ k. (k ≡ f.threads + op.actor) × (guard ≢ 0))
-    → AreKeptFor f.threads (if guard == 0 then 0 else f.threads) (act_kept keeper op ∷ (Settles op.actor ∷ []))
-keeps_task f guard op keeper most kept = search (arith, guarded_keepers)
-
 keeps_work : (f : Profile) (guard : ℕ) (idle : List ℕ) (op : Op) (work : Work) → IsActorBy f work op.actor
     → MatchOption (of_task keeper_of work) (Unit {0}) (λ k. (k ≡ f.threads + op.actor) × (guard ≢ 0))
     → AreKeptFor f.threads (if guard == 0 then 0 else f.threads) (acts_of_work idle op work)
-keeps_work f guard idle op (Work.Own task) of kept = keeps_task f guard op (keeper_of task) of.1 kept
+keeps_work f guard idle op (Work.Own task) of kept = search (arith, guarded_keepers)
 keeps_work f guard idle op (Work.Chore chore) of kept =
     all_of_chore (IsKeptFor f.threads (if guard == 0 then 0 else f.threads)) (λ k. Unit {0}) idle chore (λ epoch. tt) tt tt (λ k n is. tt) (all_any idle)
 
@@ -185,30 +156,16 @@ kept_same threads keepers k act kept = search (arith, its_keeper)
 tries_same : (threads keepers k : ℕ) (act : Act) → IsKeptFor threads keepers act → tries_of_act (threads + k) act ≡ asked_of_act (λ op. 1) k act
 tries_same threads keepers k act kept = search (arith, its_keeper)
 
--- no more than is counted for each operation of the thread
-if_less : (t : Bool) (a b : ℕ) → a ≤ b → (if t then a else 0) + (0 + 0) ≤ (if t then b else 0)
-if_less t a b less = grind arith
-
 module _ (much most : Op → ℕ) (k : ℕ) (enough : (op : Op) (keeper : ℕ) → keeper_in op.what ≡ Some keeper → much op ≤ most op) where
-  asked_kept : (op : Op) (keeper : Option ℕ) → keeper_in op.what ≡ keeper
-      → sum_over (asked_of_act much k) (act_kept keeper op ∷ (Settles op.actor ∷ [])) ≤ (if op.actor == k then most op else 0)
-  asked_kept op keeper is = search (arith, if_less)
-
-  asked_chore : (idle : List ℕ) (chore : Chore) → sum_over (asked_of_act much k) (acts_of_chore idle chore) ≡ 0
-  asked_chore idle a = search (arith, free_map)
-
   asked_work : (idle : List ℕ) (op : Op) (work : Work) → work_of op.what ≡ work
       → sum_over (asked_of_act much k) (acts_of_work idle op work) ≤ (if op.actor == k then most op else 0)
-  asked_work idle op work is = search (arith, asked_kept, asked_chore)
+  asked_work idle op work is = search (arith, free_map)
 
   asked_all : (f : Profile) (keepers : ℕ) (phases : List (List Op)) → ArePlanned f (all_ops phases)
       → sum_over (asked_of_act much k) (acts_of f.threads keepers phases) ≤ sum_of_ops (λ op. if op.actor == k then most op else 0) (all_ops phases)
   asked_all f keepers phases planned = search (arith, plan_sums_at_most, asked_work)
 
 -- ---- events
-kept_enough : (work : Work) (keeper : ℕ) → of_task keeper_of work ≡ Some keeper → kept_cost_of (of_task request_of work) ≤ kept_of_work work
-kept_enough work keeper h = grind arith
-
 kept_sum : (k : ℕ) (ops : List Op) → sum_of_ops (λ op. if op.actor == k then kept_of_work (work_of op.what) else 0) ops ≡ kept_records k ops
 kept_sum k [] = refl
 kept_sum k (op ∷ ops) = ap (λ n. (if op.actor == k then kept_of_work (work_of op.what) else 0) + n) (kept_sum k ops)
@@ -221,7 +178,7 @@ kept_own {text} {plan} is k some within =
     let bound = (every_plan is).kept k (is_guarded plan (omega (arith, some, within))) some (omega (arith, within, keepers_few plan)) in
     let same = asked_sum (λ op. kept_cost_of (request_in op.what)) (kept_cost_of_act (f.threads + k)) f.threads (keepers_of plan) k (kept_same f.threads (keepers_of plan) k) (acts_of_plan plan) (plan_keeps is) in
     let all = asked_all (λ op. kept_cost_of (request_in op.what)) (λ op. kept_of_work (work_of op.what)) k
-    (λ op keeper asks. kept_enough (work_of op.what) keeper asks) f (keepers_of plan) (phases_of plan) (plan_planned is) in
+    (λ op keeper asks. grind arith) f (keepers_of plan) (phases_of plan) (plan_planned is) in
     omega (arith, bound, same, all, kept_sum k (all_ops (phases_of plan)))
 
 -- What a keeper may cost, with the region's pages, is within its bound.
@@ -233,9 +190,6 @@ plan_kept_own {text} {plan} is k past within =
     (kept_own is (k - threads_of plan) (omega (arith, past)) (omega (arith, past, within, plan_actors plan)))
 
 -- ---- guards
-guarded_enough : (keeper : Option ℕ) (k : ℕ) → keeper ≡ Some k → 1 ≤ one_guarded keeper
-guarded_enough keeper k h = grind arith
-
 guarded_sum : (k : ℕ) (ops : List Op) → sum_of_ops (λ op. if op.actor == k then one_guarded (keeper_in op.what) else 0) ops ≡ guarded_of k ops
 guarded_sum k [] = refl
 guarded_sum k (op ∷ ops) = ap (λ n. (if op.actor == k then one_guarded (keeper_in op.what) else 0) + n) (guarded_sum k ops)
@@ -245,7 +199,8 @@ pub plan_tries : {text plan : _} → IsPlanOf text plan → (k : ℕ) → tries_
 plan_tries {text} {plan} is k =
     let f = plan.profile in
     let same = asked_sum (λ op. 1) (tries_of_act (f.threads + k)) f.threads (keepers_of plan) k (tries_same f.threads (keepers_of plan) k) (acts_of_plan plan) (plan_keeps is) in
-    let all = asked_all (λ op. 1) (λ op. one_guarded (keeper_in op.what)) k (λ op keeper asks. guarded_enough (keeper_in op.what) keeper asks) f (keepers_of plan) (phases_of plan) (plan_planned is) in
+    let all = asked_all (λ op. 1) (λ op. one_guarded (keeper_in op.what)) k (λ op keeper asks. grind arith) f (keepers_of plan) (phases_of plan)
+    (plan_planned is) in
     omega (arith, same, all, guarded_sum k (all_ops (phases_of plan)))
 
 unknown_all : (n : ℕ) → unknown_below n [] ≡ n

@@ -1,27 +1,20 @@
 -- What workers did, each for itself, is put into the order of the acts: what a piece does to each one's share, and then the whole.
-use Rattle.std.proofs.Common.{arith, ◌≡◌, ◌≢◌, ℕ, ◌==◌, Bool, false, if◌then◌else◌, List, [], ◌∷◌, ◌++◌, refl, ap, sym, ◌∙◌, append-nil, ne_eqb, ◌+◌, true}
-use Rattle.std.proofs.{Common.{Option, None, Some, inl, inr, append_assoc, max, subst, IsSomeAnd, eq-eqb}, lemmas.Bool.cases_eq}
-use Rattle.pas_steps.specs.{Lists.{Whole, part}, Desks.{triples, made, triple}, Events.events_by, Views.View, declared.step.{Made.Made, Step.Step}}
-use Rattle.pas_steps.proofs.Parts.{part_of_own, part_of_others}
-use Rattle.pas_records.specs.declared.record.{Record.Record, Said.Said}
-use Rattle.pas_cache.specs.Caches.{Cached}
-use Rattle.pas_answers.specs.Answers.{Named, Books, with_book, Progress, named, having, answer_of, standing_for, IsAnswered, IsStopped, after_answer}
-use Rattle.pas_answers.specs.Answers.{after_settling, after_wake, after_reading, after_tick, after_pass, after_stop, stopped, epoch_look, begun, settled}
-use Rattle.pas_answers.specs.{Answers.{records_of, said_by, Caches, with_cache, with_records, with_steps, IsIdleFor}, Ways.{EachOf, records_by, AreSpoken}}
-use Rattle.pas_answers.specs.{PassRecords.records_of_pass, Fit.{AreFit, IsFitWhat}, Calls.OnlyAsked, Guarding.{Tried, IsTried, after_trying, after_giving}}
-use Rattle.pas_answers.specs.{Guarding.{IsLowered, after_lowering}, Reaching.{AnswersTried, AnswersGuarded, Advances, Reaches}}
-use Rattle.pas_answers.proofs.OwnRecords.{records_both, none_by, events_of_piece, pass_of, piece_of, swept_each, try_each, spoken_piece, spoken_both}
-use Rattle.pas_profile.specs.declared.{guard.Guard.Guard, profile.Profile.Profile, name.Block.Block}
-use Rattle.pas_acts.specs.Shares.{Owners, AreAmong, actor_of_act, IsInHand, AreInHand, acts_by, IsRequestOf, asked_after_act, in_hands, IsShareOf, Asks}
-use Rattle.pas_acts.{specs.Shares.IsWoven, proofs.Naming.{retold, names_new}}
-use Rattle.pas_trace.specs.{declared.{plan.{Op.Op, What.What}, item.Request.Request}, Acts.{Act, Operates, Guards, Settles, Ticks, MakesPass, ReadsEpoch}}
-use Rattle.pas_trace.specs.{Acts.{StopsIdle, Wakes, Ends, Lowers}, Asked.request_in, EveryPlan.{asked_with, is_asked}}
+use Rattle.std.proofs.Common.{if◌then◌else◌, [], arith, ◌≡◌, ◌≢◌, ℕ, ◌==◌, Bool, false, List, ◌∷◌, ◌++◌, refl, ap, sym, ◌∙◌, append-nil, ne_eqb, ◌+◌, true}
+use Rattle.std.proofs.Common.{Option, None, Some, inl, inr, append_assoc, max, subst, IsSomeAnd, eq-eqb}
+use Rattle.pas_acts.proofs.Common.{cases_eq, Whole, part, triples, made, events_by, View, Made, part_of_own, part_of_others, Record, Said, Cached, Named, Books}
+use Rattle.pas_acts.proofs.Common.{with_book, Progress, named, having, answer_of, standing_for, IsAnswered, IsStopped, after_answer, after_wake, after_reading}
+use Rattle.pas_acts.proofs.Common.{after_tick, after_pass, after_stop, stopped, epoch_look, begun, records_of, said_by, EachOf, records_by, AreSpoken}
+use Rattle.pas_acts.proofs.Common.{records_of_pass, AreFit, IsFitWhat, OnlyAsked, Tried, IsTried, after_trying, after_giving, IsLowered, after_lowering}
+use Rattle.pas_acts.proofs.Common.{AnswersTried, Advances, Reaches, records_both, none_by, events_of_piece, pass_of, piece_of, swept_each, try_each, Guard}
+use Rattle.pas_acts.proofs.Common.{Profile, Block, Owners, AreAmong, actor_of_act, IsInHand, AreInHand, acts_by, asked_after_act, Op, Request, Act, Operates}
+use Rattle.pas_acts.proofs.{Common.{Guards, Settles, Ticks, MakesPass, ReadsEpoch, StopsIdle, Wakes, Ends, Lowers, request_in, asked_with}, Naming.retold}
+use Rattle.pas_acts.{proofs.Naming.names_new, specs.Shares.{in_hands, IsShareOf, Asks, IsWoven}}
+use Rattle.pas_answers.{specs.{Reaching.AnswersGuarded, Answers.{Caches, with_cache, with_records, with_steps, IsIdleFor}}, proofs.OwnRecords.spoken_piece}
+use Rattle.pas_answers.proofs.OwnRecords.{spoken_both}
+use Rattle.pas_steps.specs.{Desks.triple, declared.step.Step.Step}
 use Rattle.pas_core.{specs.Orders.steps_by, proofs.Choosing.{step_passed, steps_by_both}}
 
 -- ---- parts
-same_part : (j k : ℕ) (steps : List Made) (l m : Whole) → part j l ≡ part j m → part j (triples k steps ++ l) ≡ part j (triples k steps ++ m)
-same_part j k steps l m same = search (arith, cases_eq, part_of_own, part_of_others)
-
 -- ---- steps
 -- the same ones in front of both
 same_steps : (chosen : ℕ → Bool) (new l m : Whole) → steps_by chosen l ≡ steps_by chosen m → steps_by chosen (new ++ l) ≡ steps_by chosen (new ++ m)
@@ -63,7 +56,7 @@ module _ {owner : Owners} {w : ℕ} {own p : Progress} (share : IsShareOf owner 
 -- ---- the same change at both
 share_list : {owner : Owners} {w : ℕ} {own p : Progress} (k : ℕ) (steps : List Made) → IsShareOf owner w own p
     → IsShareOf owner w (record own { list = triples k steps ++ own.list }) (record p { list = triples k steps ++ p.list })
-share_list {owner} {w} {own} {p} k steps share = search (arith, by_lists, same_steps, same_part)
+share_list {owner} {w} {own} {p} k steps share = search (arith, by_lists, same_steps, cases_eq, part_of_own, part_of_others)
 
 -- A worker's share changes as the whole does, where one cache became another.
 share_cache : {owner : Owners} {w : ℕ} {own p : Progress} (k : ℕ) (c c' : Cached) → c ≡ c' → IsShareOf owner w own p
@@ -117,9 +110,7 @@ elsewhere_both owner x rs ss one two = λ j is. records_both j rs ss ∙ ap (λ 
 
 -- Another worker's share stays as it is where records elsewhere are added.
 beside_records : {owner x own p : _} (rs : List Record) → AreElsewhere owner x rs → IsShareOf owner x own p → IsShareOf owner x own (with_records p rs)
-beside_records {owner} {x} {own} {p} rs away share =
-    by_records share own.records (p.records ++ rs) (λ j is. share.records j is
-    ∙ sym (records_both j p.records rs ∙ ap (λ (xs : List Record). records_by j p.records ++ xs) (away j is) ∙ append-nil (records_by j p.records)))
+beside_records {owner} {x} {own} {p} rs away share = search (arith, by_records, records_both, append-nil)
 
 -- ---- one act
 -- An act that was answered from a share on is answered from all on. Its worker has its share of what came of it, and each other worker the one that it had.
@@ -206,14 +197,6 @@ idle_one f owner asked k n p before after mine only share did =
     ]
 
 -- ---- a guarded request: its keeper's piece, and what follows it
--- an operation that makes a request asks for a new name, and for no other
-new_request : (f : Profile) (limit : ℕ) (asked : List ℕ) (what : What) (r : Request) → request_in what ≡ Some r → IsFitWhat f limit asked what
-    → is_asked asked r.name ≡ false
-new_request f limit asked what r h i = grind arith
-
-asks_this : (what : What) (r : Request) (n : ℕ) → request_in what ≡ Some r → r.name ≡ n → IsRequestOf n what
-asks_this what r n asks same = subst (λ (o : Option Request). IsSomeAnd o (λ q. q.name ≡ n)) (sym asks) same
-
 -- The worker's own progress after the try is its share of that of all; each other worker has its share as before.
 record TriedOne (owner : Owners) (w : ℕ) (p own : Progress) (keeper : ℕ) (t : Tried) : Type 0 where
   share : IsShareOf owner w (after_trying own keeper t) (after_trying p keeper t)
@@ -238,7 +221,7 @@ module _ (f : Profile) (owner : Owners) (limit : ℕ) (asked : List ℕ) (keeper
   followed r t (Some block) asks given is each did =
       let one = tried_one owner (owner op.actor) p before keeper t mine each share in
       let next = after_giving (after_trying p keeper t) r.name block in
-      let new = names_new asked before.names p.names r.name (Some block) (new_request f limit asked op.what r asks fit) share.names only in
+      let new = names_new asked before.names p.names r.name (Some block) (grind arith) share.names only in
       record {
         next = next;
         advances = subst (λ (o : Option Request). AnswersGuarded f keeper op o p next) (sym asks) (t, is, subst (λ (b : Option Block). AnswersTried f op r b (after_trying p keeper t) next) (sym given) refl);
@@ -248,7 +231,7 @@ module _ (f : Profile) (owner : Owners) (limit : ℕ) (asked : List ℕ) (keeper
         records_are = refl;
         spoken = spoken_piece keeper t.records each;
         only_asked = subst (λ (ns : List ℕ). OnlyAsked ns (named r.name (Some block) ∷ p.names)) (sym (ap (λ (o : Option Request). asked_with o asked) asks)) new.only_asked;
-        same_names = λ n none. new.same_names n (λ same. none (asks_this op.what r n asks same));
+        same_names = λ n none. new.same_names n (λ same. none (subst (λ (o : Option Request). IsSomeAnd o (λ q. q.name ≡ n)) (sym asks) same));
       }
   followed r t None asks given is each did =
       let one = tried_one owner (owner op.actor) p before keeper t mine each share in
@@ -287,10 +270,7 @@ woven_one : (f : Profile) (owner : Owners) (limit : ℕ) (asked : List ℕ) (act
     → IsShareOf owner (owner (actor_of_act act)) before p → Advances f act before after → IsWovenOne f owner act asked p after
 woven_one f owner limit asked (Operates op) acts p before after fit hand only share did = search (arith, operates_one)
 woven_one f owner limit asked (Guards keeper op) acts p before after fit hand only share did = search (arith, guards_one)
-woven_one f owner limit asked (Settles k) acts p before after fit hand only share did =
-    let same = ap settled (share.caches k refl) in
-    woven_by (after_settling p k) [] only refl (sym (append-nil p.records)) tt did (share_cache k (settled (before.caches k)) (settled (p.caches k)) same share)
-    (λ x o other theirs. beside_cache k (settled (p.caches k)) other theirs) refl
+woven_one f owner limit asked (Settles k) acts p before after fit hand only share did = search (arith, woven_by, append-nil, share_cache, beside_cache)
 woven_one f owner limit asked (Ticks asked_for) acts p before after fit hand only share did =
     let e = did.0 in
     let steps : List Made = made (Step.Tick asked_for) e ∷ [] in

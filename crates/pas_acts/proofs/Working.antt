@@ -1,25 +1,21 @@
 -- The operations of one thread in a phase, one after the other.
-use Rattle.std.proofs.Common.{◌≡◌, ◌≢◌, ℕ, ◌+◌, ◌==◌, inl, inr, List, [], ◌∷◌, ◌++◌, length, Option, None, Some, refl, ap, sym, ◌∙◌, subst, arith}
-use Rattle.std.proofs.{Common.{length-append, append_assoc, append-nil, ◌<◌, ◌≤◌, drop, get_or, drop_of_length-le, eq-eqb, ne_eqb}, lemmas.List.drop_more}
-use Rattle.pas_profile.{specs.{Profiles.IsAdmitted, declared.{name.Block.Block, profile.Profile.Profile}}, proofs.Lists.{all_both, all_map}}
-use Rattle.pas_steps.{specs.{Desks.Standing, Lists.{Whole, part}, Views.View}, proofs.Parts.part_of_others}
-use Rattle.pas_trace.specs.{Acts.{Act, Operates, Guards, Settles, act_kept, own_acts}, Asked.{of_task, request_in, keeper_of, keeper_in}, Reasons.cost_of_size}
-use Rattle.pas_trace.specs.{EveryPlan.asked_after, declared.{item.Request.Request, plan.{Op.Op, Task.Task, What.What, Work.Work, Chore.Chore}}}
-use Rattle.pas_cache.specs.Caches.{Cached}
-use Rattle.pas_guard.specs.{Books.{guards_in, size_of_book}, declared.book.GuardBook.GuardBook}
-use Rattle.pas_answers.specs.{Answers.{Named, Books, Progress, settled, after_settling}, Calls.{what_of, MayStand, named_by, owed_events, named_with, IsMeant}}
-use Rattle.pas_answers.specs.{Calls.freed_by, Fit.{IsFitWhat, cost_of_what, own_cost_of_act, own_costs_of, IsFitWork, AreFit, own_cost_of}}
-use Rattle.pas_answers.specs.{Guarding.{after_trying, after_giving}, Keeping.{owed_by_keeper, cost_of_try}, Ways.{EachOf, records_by, is_of}, Names.block_named}
-use Rattle.pas_answers.{specs.Names.names_held, proofs.SingleActs.{its_cache, sum_both, task_of, known_more, meant_by, meant_stands, known_if}}
-use Rattle.pas_answers.proofs.{OwnRecords.{none_by, records_both, all_by}, Reached.reach_both}
-use Rattle.pas_acts.specs.{AtDesks.{here, and_for, MayOperate, ThreadActs, Here}, Keepers.{KeeperHas, LaterKept, KeeperTries, StandsAt, StandsStill, HasStill}}
-use Rattle.pas_acts.specs.{Keepers.{Keeping, NoKeeper, OneKeeper, MayTryAt, TriesAt, KeptStands}, Pairs.{for_guards, PairAt, PairWorks, head_acts, KeeperWaits}}
-use Rattle.pas_acts.specs.{Pairs.{IsOfTwo, EachOfTwo, KeptPushed, KeptStill, owed_of, PairActs, MayServe}, Turns.RestsAt, Works.{Later, keeps, KnowsNames}}
-use Rattle.pas_acts.specs.{Works.{Keeps, ThreadAt}, NameBooks.{requests_in, room_for, names_of, name_asked, names_asked, ArePlaced, known_in, Table}}
-use Rattle.pas_acts.{specs.declared.names.NameBook.NameBook, proofs.AtDesk.{rests_still, stands_at, own_cost, rests_for, settled_rest, sits_for, keeper_still}}
-use Rattle.pas_acts.proofs.{AtDesk.{guarded_by_keeper, guarded_by_thread}, Noting.{names_both, names_count, asked_both, kept_asks, names_named, placed_both}}
-use Rattle.pas_acts.proofs.Noting.{tells_more, stand_more}
-use Rattle.pas_records.specs.{Rooms.{records_in, room_of, Records}, declared.record.Record.Record}
+use Rattle.std.proofs.Common.{[], ◌≡◌, ◌≢◌, ℕ, ◌+◌, ◌==◌, inl, inr, List, ◌∷◌, ◌++◌, length, Option, None, Some, refl, ap, sym, ◌∙◌, subst, arith}
+use Rattle.std.proofs.Common.{length-append, append_assoc, append-nil, ◌<◌, ◌≤◌, drop, get_or, drop_of_length-le, eq-eqb, ne_eqb}
+use Rattle.pas_acts.proofs.Common.{drop_more, IsAdmitted, Block, Profile, all_both, Standing, Whole, part, View, part_of_others, Act, Operates, Guards, Settles}
+use Rattle.pas_acts.proofs.Common.{act_kept, own_acts, of_task, request_in, keeper_of, keeper_in, cost_of_size, asked_after, Request, Op, What, Work, Chore}
+use Rattle.pas_acts.proofs.Common.{Cached, guards_in, size_of_book, GuardBook, Named, Books, Progress, settled, after_settling, what_of, MayStand, named_by}
+use Rattle.pas_acts.proofs.Common.{owed_events, named_with, IsFitWhat, cost_of_what, own_cost_of_act, own_costs_of, AreFit, after_trying, after_giving}
+use Rattle.pas_acts.proofs.Common.{owed_by_keeper, cost_of_try, EachOf, records_by, block_named, names_held, its_cache, sum_both, none_by, records_both}
+use Rattle.pas_acts.proofs.Common.{reach_both, here, and_for, MayOperate, ThreadActs, KeeperHas, LaterKept, KeeperTries, StandsAt, StandsStill, HasStill}
+use Rattle.pas_acts.proofs.Common.{for_guards, PairAt, PairWorks, RestsAt, Later, keeps, KnowsNames, requests_in, room_for, names_of, name_asked, names_asked}
+use Rattle.pas_acts.proofs.{Common.{ArePlaced, known_in, NameBook, records_in, room_of, Records, Record}, AtDesk.{rests_still, stands_at, own_cost, rests_for}}
+use Rattle.pas_acts.proofs.{AtDesk.{settled_rest, sits_for, keeper_still}, Noting.{names_both, names_count, asked_both, kept_asks, placed_both, tells_more}}
+use Rattle.pas_acts.{proofs.Noting.stand_more, specs.{AtDesks.Here, Keepers.{Keeping, NoKeeper, OneKeeper, MayTryAt, TriesAt, KeptStands}, Pairs.head_acts}}
+use Rattle.pas_acts.specs.{Pairs.{KeeperWaits, IsOfTwo, EachOfTwo, KeptPushed, KeptStill, PairActs, MayServe}, Works.{Keeps, ThreadAt}, NameBooks.Table}
+use Rattle.pas_trace.specs.declared.plan.Task.{Task}
+use Rattle.pas_answers.{specs.{Fit.{IsFitWork, own_cost_of}, Calls.{IsMeant, freed_by}, Ways.is_of}, proofs.SingleActs.{task_of, known_more, meant_by}}
+use Rattle.pas_answers.proofs.{SingleActs.{meant_stands, known_if}, OwnRecords.all_by}
+use Rattle.pas_profile.proofs.Lists.{all_map}
 
 -- A thread and its keeper: what an operation of the thread comes to for both.
 
@@ -38,17 +34,7 @@ two_both j k xs ys a b = all_both (IsOfTwo j k) xs ys a b
 pub kept_cost : (k : ℕ) (o : Option ℕ) (op : Op) → own_cost_of_act k (act_kept o op) ≡ own_cost_of k (Some op)
 kept_cost k a op = search arith
 
--- the acts of an operation cost its thread what the operation does
-head_cost : (op : Op) → own_costs_of op.actor (head_acts op) ≡ cost_of_what op.what
-head_cost op =
-    omega (arith, kept_cost op.actor (keeper_in op.what) op, own_cost op)
-
 -- ---- the keeper, where the thread alone acts
--- it waits still, where its part and its book are as they were
-waits_still : (f : Profile) (keeper : ℕ) (kept kept' : Keeping) (later : LaterKept) (p q : Progress) → KeptStands kept kept' p.list q.list
-    → part keeper q.list ≡ part keeper p.list → q.books keeper ≡ p.books keeper → KeeperWaits f keeper [] kept later p → KeeperWaits f keeper [] kept' later q
-waits_still f keeper a b later p q stands parts books waits = search (arith, keeper_still)
-
 -- where nobody acts
 kept_same : (kept : Keeping) (l : Whole) → KeptStands kept kept l l
 kept_same a l = search arith
@@ -56,47 +42,11 @@ kept_same a l = search arith
 -- A keeper that stood still and said nothing has its records as they were.
 nothing_kept : (keeper : ℕ) (kept kept' : Keeping) (l m : Whole) (said : List Record) → KeptStands kept kept' l m → records_by keeper said ≡ []
     → KeptPushed keeper said kept kept'
-nothing_kept keeper NoKeeper NoKeeper l m said stands none = none
-nothing_kept keeper (OneKeeper old) (OneKeeper new) l m said stands none = (
-  ap records_in stands.out
-      ∙ sym (ap (λ (rs : List Record). records_in old.out ++ rs) none ∙ append-nil (records_in old.out)),
-  ap room_of stands.out,
-  ap size_of_book stands.book,
-)
-nothing_kept keeper _ _ l m said stands none = absurd stands
+nothing_kept keeper kept kept' l m said stands none = search (arith, append-nil)
 
 -- Where there is no keeper and its part of the list is the same, nobody made its steps.
 still_without_keeper : (keeper : ℕ) (kept : Keeping) (p q : Progress) → part keeper q.list ≡ part keeper p.list → KeptStill keeper kept p q
 still_without_keeper keeper a p q parts = search arith
-
--- the same keeper owes the same by the same book
-owes_same : (f : Profile) (kept kept' : Keeping) (l m : Whole) (v : View) → KeptStands kept kept' l m → owed_of f kept' v ≡ owed_of f kept v
-owes_same f a b l m v stands = search arith
-
--- an act of the thread alone
-alone_acts : {f k acts came old new later p : _} (keeper : ℕ) (kept kept' : Keeping) (more : LaterKept)
-    → k ≢ keeper → KeeperWaits f keeper [] kept more p
-    → (did : ThreadActs f k acts came [] old new later p) → KeptStands kept kept' p.list did.reached.list
-    → PairActs f k keeper acts came old new kept kept' later more p
-alone_acts {f} {k} {acts} {came} {old} {new} {later} {p} keeper kept kept' more apart waits did stands =
-    let parts : part keeper did.reached.list ≡ part keeper p.list =
-    ap (λ (l : Whole). part keeper l) did.moves.list_is ∙ part_of_others keeper k did.moves.steps p.list apart in
-    let owed = owes_same f kept kept' p.list did.reached.list (part keeper did.reached.list) stands ∙ ap (λ (w : View). owed_of f kept w) parts in
-    record {
-      reached = did.reached;
-      reaches = did.reaches;
-      stands = did.stands;
-      waits = waits_still f keeper kept kept' more p did.reached stands parts (ap (λ (books : Books). books keeper) did.books) waits;
-      said = did.own;
-      records_are = did.records_are ∙ ap (λ (rs : List Record). p.records ++ rs) (append-nil did.own);
-      pushed = did.pushed ∙ ap (λ (rs : List Record). records_in old.out ++ rs) (sym (all_by k did.own did.each));
-      room = did.room;
-      kept_pushed = nothing_kept keeper kept kept' p.list did.reached.list did.own stands (none_by keeper k did.own did.each apart);
-      still = still_without_keeper keeper kept p did.reached parts;
-      each = of_one k keeper did.own did.each;
-      names = did.names;
-      paid = omega (arith, did.paid, owed);
-    }
 
 -- ---- the keeper first
 module _ {f keeper r block h h' more p : _} (op : Op) (apart : op.actor ≢ keeper) (asks : request_in op.what ≡ Some r) (kept : keeper_in op.what ≡ Some keeper)
@@ -136,7 +86,7 @@ module _ {f keeper r block h h' more p : _} (op : Op) (apart : op.actor ≢ keep
       let pays = ap (λ (o : Option Block). cost_of_try r.size o) given in
       of_guard record {
         reached = q;
-        reaches = (midway, guarded_by_keeper f keeper op r b p tries.tried asks tries.is (tries.block_is ∙ given), (q, refl, refl));
+        reaches = (midway, search arith, (q, refl, refl));
         stands = record {
           sits = record { actor = rests.sits.actor; profile = rests.sits.profile; stood = rests.sits.stood; rest = settled_rest (part k q.list) done rests.sits.rest; room = omega (arith, room, log) };
           cache = its_cache midway.caches k (settled (midway.caches k)) ∙ ap settled at.cache ∙ sym done;
@@ -167,7 +117,7 @@ module _ {f keeper r block h h' more p : _} (op : Op) (apart : op.actor ≢ keep
       of_guard record {
         reached = did.reached;
         reaches =
-            (did.reaches.0, guarded_by_thread f keeper op r p did.reaches.0 tries.tried asks tries.is (tries.block_is ∙ none) did.reaches.1, did.reaches.2);
+            (did.reaches.0, search arith, did.reaches.2);
         stands = did.stands;
         waits = (tt, keeper_still still parts (ap (λ (books : Books). books keeper) did.books) tries.stands);
         said = told ++ did.own;
@@ -193,20 +143,13 @@ module _ {f keeper r block h h' more p : _} (op : Op) (apart : op.actor ≢ keep
 may_still : {f k keeper r got h h' more what meant σ σ' c out later p : _} (tries : KeeperTries f keeper r got h h' more p) → k ≢ keeper
     → StandsStill σ σ' p.list (after_trying p keeper tries.tried).list → MayOperate f k what meant (here σ c out) later p
     → MayOperate f k what meant (here σ' c out) later (after_trying p keeper tries.tried)
-may_still {k = j} {keeper = by} {p = p} tries apart stays may =
-    let parts = part_of_others j by tries.tried.steps p.list (λ e. apart (sym e)) in
-    record { rests = rests_still stays parts refl may.rests; limit = may.limit; asked = may.asked; fit = may.fit; known = may.known; means = may.means; stands = may.stands }
+may_still {k = j} {keeper = by} {p = p} tries apart stays may = search (arith, part_of_others, rests_still)
 
 pub may_next : {f k keeper what meant σ σ' c out later : _} (r : Request) (got : Option Block) (more : LaterKept) (p : Progress) (kept kept' : Keeping)
     → k ≢ keeper → TriesAt f keeper r got σ σ' kept kept' more p → MayOperate f k what meant (here σ c out) later p
     → (q : Progress) × MayOperate f k what meant (here σ' c out) later q
 may_next r got more p (OneKeeper h) (OneKeeper h') apart tries may = (_, may_still tries.0 apart tries.1 may)
 may_next r got more p _ _ apart tries may = absurd tries
-
--- The block that the keeper gave may stand for a name.
-pub given_stands : (f : Profile) (keeper : ℕ) (r : Request) (got : Option Block) (σ σ' : Standing) (kept kept' : Keeping) (more : LaterKept) (p : Progress)
-    → TriesAt f keeper r got σ σ' kept kept' more p → MayStand f got
-given_stands f keeper r got σ σ' a b more p tries = search arith
 
 -- its task, where it is one
 module _ {k name heap size align : ℕ} (op : Op) (asks : op.what ≡ what_of (Task.Guarded k name heap size align)) where
@@ -219,19 +162,11 @@ module _ {k name heap size align : ℕ} (op : Op) (asks : op.what ≡ what_of (T
       → KeeperWaits f keeper (act_kept (keeper_in op.what) op ∷ rest) (OneKeeper has) more p → keeper_in op.what ≡ Some keeper
   its_keeper more rest waits = let is = ap (λ (w : What). keeper_in w) asks in search arith
 
-  -- with a keeper, and without one
-  may_try_at : (f : Profile) (keeper limit : ℕ) (known : List ℕ) (more : LaterKept) (p : Progress) (rest : List Act) (kept : Keeping)
-      → IsFitWhat f limit known op.what → KeeperWaits f keeper (act_kept (keeper_in op.what) op ∷ rest) kept more p
-      → IsAdmitted f size align heap × (2048 < size) × MayTryAt f keeper size kept (for_guards rest more) p
-  may_try_at f keeper limit known more p rest a fit waits = search arith
-
   -- It may try it.
   pub may_try : {f keeper next meant σ c out later : _} (kept : Keeping) (more : LaterKept) (p : Progress)
       → MayServe f keeper op next meant (here σ c out) kept later more p
       → IsAdmitted f size align heap × (2048 < size) × MayTryAt f keeper size kept (for_guards next more) p × StandsAt σ p.list × (σ.seat.actor ≢ keeper)
-  may_try {f} {keeper} {next} kept more p at =
-      let may = may_try_at f keeper at.may.limit at.may.asked more p (Settles op.actor ∷ next) kept at.may.fit at.waits in
-      (may.0, may.1, may.2, stands_at at.may.rests.sits, λ e. at.apart (sym at.may.rests.sits.actor ∙ e))
+  may_try {f} {keeper} {next} kept more p at = search (arith, stands_at)
 
   -- It gave a block.
   pub pair_given : {f keeper next p got σ σ' c c' out meant later : _} (b : Block) (more : LaterKept) (kept kept' : Keeping)
@@ -257,13 +192,10 @@ module _ {k name heap size align : ℕ} (op : Op) (asks : op.what ≡ what_of (T
   pair_left came more _ _ kept'' none at tries did stands = absurd tries
 
 -- ---- an operation that is none
-none_keeps : (task : Task) → ((k name heap size align : ℕ) → task ≡ Task.Guarded k name heap size align → ⊥) → keeper_of task ≡ None
-none_keeps task other = search arith
-
 -- nobody keeps a guard of it
 pub not_kept : (op : Op) (task : Task) → op.what ≡ what_of task → ((k name heap size align : ℕ) → task ≡ Task.Guarded k name heap size align → ⊥)
     → keeper_in op.what ≡ None
-not_kept op task asks other = ap (λ (w : What). keeper_in w) asks ∙ ap (λ (w : Work). of_task keeper_of w) (task_of task) ∙ none_keeps task other
+not_kept op task asks other = ap (λ (w : What). keeper_in w) asks ∙ ap (λ (w : Work). of_task keeper_of w) (task_of task) ∙ (search arith)
 
 -- With a keeper, and without one.
 waits_past : (f : Profile) (keeper : ℕ) (more : LaterKept) (p : Progress) (op : Op) (rest : List Act) (kept : Keeping)
@@ -280,7 +212,7 @@ pair_alone {f} {keeper} {next} {p} {old = old} {new} {later} came more op kept k
     let rest = Settles op.actor ∷ next in
     let waits = waits_past f keeper more p op rest kept (subst (λ (o : Option ℕ). KeeperWaits f keeper (act_kept o op ∷ rest) kept more p) none at.waits) in
     subst (λ (o : Option ℕ). PairActs f op.actor keeper (act_kept o op ∷ (Settles op.actor ∷ [])) (named_by op.what came) old new kept kept' later (for_guards next more) p)
-    (sym none) (alone_acts keeper kept kept' (for_guards next more) at.apart waits did stands)
+    (sym none) (search (arith, part_of_others, keeper_still, append-nil, all_by, nothing_kept, none_by, still_without_keeper, of_one))
 
 -- ---- an operation's acts
 -- the first of them may be guarded: the thread's part of it goes by the operation alone
@@ -296,24 +228,13 @@ Before f op next σ has later p = ThreadAt f op.actor (head_acts op ++ next) σ 
 abbrev pub with_acts : ℕ → List Act → Later → Later
 with_acts k next later = record { events = own_costs_of k next + later.events; records = own_costs_of k next + later.records }
 
--- it rests, with room for them
-thread_rests : {f k acts σ c known out later p : _} (cost : ℕ) (next : List Act)
-    → own_costs_of k acts ≡ cost + own_costs_of k next → ThreadAt f k acts σ (keeps c known out) later p
-    → RestsAt f k σ c out (and_for cost (with_acts k next later)) p
-thread_rests cost next same at = search (arith, sits_for)
-
--- A thread before an operation rests, with room for it and for its acts after it.
-pub op_rests : {f : Profile} {next : List Act} {σ : Standing} {c : Cached} {known : Table} {out : Records} {later : Later} {p : Progress} (op : Op)
-    → Before f op next σ (keeps c known out) later p → RestsAt f op.actor σ c out (and_for (cost_of_what op.what) (with_acts op.actor next later)) p
-op_rests {next = next} op at = search (arith, sum_both, head_cost, thread_rests)
-
 thread_stands : {f : Profile} {k : ℕ} {next : List Act} {σ : Standing} {c : Cached} {known : Table} {out : Records} {later : Later} {p : Progress}
     → RestsAt f k σ c out (with_acts k next later) p → KnowsNames f next known p.names → ThreadAt f k next σ (keeps c known out) later p
 thread_stands at names = let spare = at.spare in record { sits = sits_for at.sits (omega arith); cache = at.cache; spare = omega (arith, spare); names = names }
 
 -- ---- before an operation
 -- it fits
-pub its_fit : {f : Profile} {next : List Act} {known : Table} {names : List Named} (op : Op) → (knows : KnowsNames f (head_acts op ++ next) known names)
+its_fit : {f : Profile} {next : List Act} {known : Table} {names : List Named} (op : Op) → (knows : KnowsNames f (head_acts op ++ next) known names)
     → IsFitWhat f (names_held known.book.names) knows.asked op.what
 its_fit {f} {next} {known} op knows = (fit_now f (names_held known.book.names) knows.asked (keeper_in op.what) op next knows.fit).0
 
@@ -326,7 +247,7 @@ may_operate : {f next σ c known out later p what meant : _} (op : Op)
     → op.what ≡ what → Before f op next σ (keeps c known out) later p → meant ≡ freed_by (known_in known.book known.requests) what
     → MayOperate f op.actor op.what meant (here σ c out) (with_acts op.actor next later) p
 may_operate {f} {next} {σ} {c} {known} {out} {later} {p} op asks at freed = let is = freed ∙ ap (freed_by (known_in known.book known.requests)) (sym asks) in record {
-  rests = op_rests op at;
+  rests = search (arith, sum_both, kept_cost, own_cost, sits_for);
   limit = names_held known.book.names;
   asked = at.names.asked;
   fit = its_fit op at.names;
@@ -365,7 +286,7 @@ pub record IsKept (known known' : Table) (what : What) (came : Option Block) : T
 names_kept : {known known' : Table} (what : What) {came : Option Block} → IsKept known known' what came
     → names_of (requests_in known'.requests) ≡ names_of (requests_in known.requests) ++ name_asked what
 names_kept {known} {known'} what {came} kept =
-    search (arith, names_both, names_named)
+    search (arith, names_both)
 
 knows_more : {f next known known' came names : _} (op : Op) → KnowsNames f (head_acts op ++ next) known names → IsKept known known' op.what came
     → MayStand f came → KnowsNames f next known' (named_by op.what came ++ names)
@@ -381,18 +302,13 @@ knows_more {f} {next} {known} {known'} {came} {names} op knows kept stands =
     subst (λ (b : NameBook). KnowsNames f next (record { book = b; requests = known'.requests }) (named_by what came ++ names)) (sym kept.book) record {
       asked = asked_after what knows.asked;
       fit = (fit_now f (names_held known.book.names) knows.asked (keeper_in what) op next knows.fit).1;
-      tells = λ n. tells_more known.book rs rs' what came names (names_asked next) n (block_named known.book.names n) kept.requests placed (knows.tells n);
-      stand = λ n. stand_more f rs rs' what came n (block_named known.book.names n) kept.requests stands (knows.stand n);
-      known = known_more what came knows.asked names knows.known;
+      tells = λ n. tells_more known.book rs rs' (request_in what) came names (names_asked next) n (block_named known.book.names n) kept.requests placed
+          (knows.tells n);
+      stand = λ n. stand_more f rs rs' (request_in what) came n (block_named known.book.names n) kept.requests stands (knows.stand n);
+      known = known_more (request_in what) came knows.asked names knows.known;
       placed = subst (λ (ns : List ℕ). ArePlaced known.book 0 ns) (sym (ap (λ (ns : List ℕ). ns ++ names_asked next) same ∙ append_assoc (names_of rs) (name_asked what) (names_asked next))) placed;
       room = omega (arith, knows.room, kept.room, now, names_count rs, names_count rs', grown, length-append (name_asked what) (names_asked next));
     }
-
--- the keeper waits for what comes next
-waits_next : (f : Profile) (keeper : ℕ) (more : LaterKept) (p : Progress) (said : List Record) (op : Op) (next : List Act) (kept kept' : Keeping) (q : Progress)
-    → KeeperWaits f keeper (head_acts op ++ next) kept more p → KeptPushed keeper said kept kept'
-    → KeeperWaits f keeper [] kept' (for_guards next more) q → KeeperWaits f keeper next kept' more q
-waits_next f keeper more p said op next kept kept' q h i j = grind arith
 
 -- An operation that thread and keeper did, and whose request was noted, is work of the pair.
 pub operated : {f keeper next σ σ' c c' known known' what came out out' kept kept' later more p : _} (op : Op)
@@ -410,7 +326,7 @@ operated {f} {keeper} {next} {σ} {σ'} {c} {c'} {known} {known'} {what} {came} 
       stands = record {
         thread = thread_stands did.stands (subst (λ (ns : List Named). KnowsNames f next known' ns) (sym did.names) (knows_more op at.thread.names noted stands));
         apart = at.apart;
-        waits = waits_next f keeper more p did.said op next kept kept' did.reached at.waits did.kept_pushed did.waits;
+        waits = grind arith;
       };
       said = did.said;
       records_are = did.records_are;
@@ -429,61 +345,7 @@ operated {f} {keeper} {next} {σ} {σ'} {c} {c'} {known} {known'} {what} {came} 
 -- What a keeper said in two parts, one after the other, it said together.
 pub kept_both : (keeper : ℕ) (xs ys : List Record) (k0 k1 k2 : Keeping) → KeptPushed keeper xs k0 k1 → KeptPushed keeper ys k1 k2
     → KeptPushed keeper (xs ++ ys) k0 k2
-kept_both keeper xs ys NoKeeper NoKeeper NoKeeper one two = records_both keeper xs ys ∙ ap (λ (rs : List Record). rs ++ records_by keeper ys) one ∙ two
-kept_both keeper xs ys (OneKeeper h0) (OneKeeper h1) (OneKeeper h2) one two = (
-  two.0 ∙ ap (λ (rs : List Record). rs ++ records_by keeper ys) one.0 ∙ append_assoc (records_in h0.out) (records_by keeper xs) (records_by keeper ys)
-      ∙ ap (λ (rs : List Record). records_in h0.out ++ rs) (sym (records_both keeper xs ys)),
-  two.1 ∙ one.1,
-  two.2 ∙ one.2,
-)
-kept_both keeper xs ys NoKeeper (OneKeeper h1) k2 one two = absurd one
-kept_both keeper xs ys (OneKeeper h0) NoKeeper k2 one two = absurd one
-kept_both keeper xs ys _ _ _ one two = absurd two
-
--- What was pushed stays, and what stood still goes on to, for the keeper and for the others.
-still_both : (keeper : ℕ) (xs : List Record) (k0 k1 : Keeping) (p q r : Progress) → KeptPushed keeper xs k0 k1 → KeptStill keeper k0 p q
-    → KeptStill keeper k1 q r → KeptStill keeper k0 p r
-still_both keeper xs k0 k1 p q r h i j = grind arith
-
-works_both : {f k keeper xs ys mid next σ0 σ σ' h0 h h' k0 k1 k2 later more p : _}
-    → (one : PairWorks f k keeper xs mid σ0 σ h0 h k0 k1 later more p)
-    → PairWorks f k keeper ys next σ σ' h h' k1 k2 later more one.reached → PairWorks f k keeper (xs ++ ys) next σ0 σ' h0 h' k0 k2 later more p
-works_both {f} {k} {keeper} {xs} {ys} {mid} {next} {σ0} {σ} {σ'} {h0} {h} {h'} {k0} {k1} {k2} {later} {more} {p} one two =
-    record {
-      reached = two.reached;
-      reaches = reach_both f xs ys p one.reached two.reached one.reaches two.reaches;
-      stands = two.stands;
-      said = one.said ++ two.said;
-      records_are = two.records_are ∙ ap (λ (rs : List Record). rs ++ two.said) one.records_are ∙ append_assoc p.records one.said two.said;
-      pushed = simp (two.pushed, one.pushed, append_assoc, ← records_both);
-      room = two.room ∙ one.room;
-      kept_pushed = kept_both keeper one.said two.said k0 k1 k2 one.kept_pushed two.kept_pushed;
-      still = still_both keeper one.said k0 k1 p one.reached two.reached one.kept_pushed one.still two.still;
-      each = two_both k keeper one.said two.said one.each two.each;
-      book = two.book ∙ one.book;
-      noted = simp (two.noted, one.noted, append_assoc, ← asked_both);
-      room_noted = two.room_noted ∙ one.room_noted;
-      paid = omega (arith, length-append one.said two.said, sum_both (own_cost_of_act k) xs ys, one.paid, two.paid);
-    }
-
-works_none : {f : Profile} {k keeper : ℕ} {acts : List Act} {σ : Standing} {has : Keeps} (kept : Keeping) {later : Later} {more : LaterKept} {p : Progress}
-    → PairAt f k keeper acts σ has kept later more p → PairWorks f k keeper [] acts σ σ has has kept kept later more p
-works_none {f} {k} {keeper} {acts} {σ} {has} kept {later} {more} {p} at = record {
-  reached = p;
-  reaches = refl;
-  stands = at;
-  said = [];
-  records_are = sym (append-nil p.records);
-  pushed = sym (append-nil (records_in has.out));
-  room = refl;
-  kept_pushed = nothing_kept keeper kept kept p.list p.list [] (kept_same kept p.list) refl;
-  still = still_without_keeper keeper kept p p refl;
-  each = tt;
-  book = refl;
-  noted = sym (append-nil (names_of (requests_in has.table.requests)));
-  room_noted = refl;
-  paid = omega arith;
-}
+kept_both keeper xs ys k0 k1 k2 one two = search (arith, records_both, append_assoc)
 
 -- ---- which operation comes next
 own_next : (k : ℕ) (ops : List Op) (i : ℕ) (d : Op) → i < length ops → (get_or ops i d).actor ≡ k
@@ -502,7 +364,7 @@ SoFar f k keeper ops i σ0 σ h0 h k0 k1 later more p =
 -- Before the first operation of a phase a pair did none.
 pub begins : {f : Profile} {k keeper : ℕ} (ops : List Op) {σ : Standing} {has : Keeps} (kept : Keeping) {later : Later} {more : LaterKept} {p : Progress}
     → PairAt f k keeper (own_acts k ops) σ has kept later more p → SoFar f k keeper ops 0 σ σ has has kept kept later more p
-begins ops kept at = ([], refl, works_none kept at)
+begins ops kept at = ([], refl, search (arith, append-nil, nothing_kept, kept_same, still_without_keeper))
 
 -- the operation is the thread's: it stands before it
 pub stands_before : {f k keeper : _} (ops : List Op) {i σ0 σ h0 h k0 k1 later more p : _} (d : Op)
@@ -519,7 +381,8 @@ goes_on {f} {k} {keeper} ops {i} {σ0} {σ} {σ'} {h0} {h} {h'} {k0} {k1} {k2} {
     let op = get_or ops i d in
     let rest = own_acts k (drop (i + 1) ops) in
     let mine : PairWorks f k keeper (head_acts op) rest σ σ' h h' k1 k2 later more so.2.reached = subst (λ (j : ℕ). PairWorks f j keeper (head_acts op) rest σ σ' h h' k1 k2 later more so.2.reached) is did in
-    (so.0 ++ head_acts op, append_assoc so.0 (head_acts op) rest ∙ ap (λ (acts : List Act). so.0 ++ acts) (sym (own_next k ops i d lt is)) ∙ so.1, works_both so.2 mine)
+    let all = append_assoc so.0 (head_acts op) rest ∙ ap (λ (acts : List Act). so.0 ++ acts) (sym (own_next k ops i d lt is)) ∙ so.1 in
+    (so.0 ++ head_acts op, all, search (arith, reach_both, append_assoc, records_both, kept_both, two_both, asked_both, length-append, sum_both))
 
 -- An operation of another actor is skipped.
 pub skips : {f k keeper : _} (ops : List Op) {i σ0 σ h0 h k0 k1 later more p : _} (d : Op)
@@ -532,7 +395,4 @@ skips {f} {k} {keeper} ops {i} {σ0} {σ} {h0} {h} {k0} {k1} {later} {more} {p} 
 pub ends : {f k keeper : _} (ops : List Op) {i σ0 σ h0 h k0 k1 later more p : _}
     → length ops ≤ i → SoFar f k keeper ops i σ0 σ h0 h k0 k1 later more p
     → PairWorks f k keeper (own_acts k ops) [] σ0 σ h0 h k0 k1 later more p
-ends {f} {k} {keeper} ops {i} {σ0} {σ} {h0} {h} {k0} {k1} {later} {more} {p} le so =
-    let none : own_acts k (drop i ops) ≡ [] = ap (λ (xs : List Op). own_acts k xs) (drop_of_length-le ops le) in
-    let all : so.0 ≡ own_acts k ops = sym (append-nil so.0) ∙ ap (λ (acts : List Act). so.0 ++ acts) (sym none) ∙ so.1 in
-    subst (λ (acts : List Act). PairWorks f k keeper acts [] σ0 σ h0 h k0 k1 later more p) all (subst (λ (acts : List Act). PairWorks f k keeper so.0 acts σ0 σ h0 h k0 k1 later more p) none so.2)
+ends {f} {k} {keeper} ops {i} {σ0} {σ} {h0} {h} {k0} {k1} {later} {more} {p} le so = search (arith, drop, drop_of_length-le, append-nil)

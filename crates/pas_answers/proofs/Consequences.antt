@@ -1,41 +1,35 @@
 -- What answers an operation leaves its actor's view tidy: no epoch is learned between an end and its stamps, a page is stamped only where it is unstamped,
 -- and at the end none is.
-use Rattle.std.proofs.Common.{◌≡◌, ℕ, zero, suc, ◌+◌, ◌-◌, ◌/◌, ◌^◌, ◌<◌, ◌≤◌, ◌==◌, nat_le, Bool, true, false, ◌&&◌, if◌then◌else◌, List, [], ◌∷◌, ◌++◌}
+use Rattle.std.proofs.Common.{[], ◌≡◌, ℕ, zero, suc, ◌+◌, ◌-◌, ◌/◌, ◌^◌, ◌<◌, ◌≤◌, ◌==◌, nat_le, Bool, true, false, ◌&&◌, if◌then◌else◌, List, ◌∷◌, ◌++◌}
 use Rattle.std.proofs.Common.{length, Option, Some, None, Result, Ok, Err, MatchResult, inl, inr, refl, ap, sym, ◌∙◌, subst, arith, append_assoc, true≢false}
-use Rattle.std.proofs.{Common.{eq-eqb, ne_eqb, ◌*◌, ◌||◌, length-append, MatchOption, All}, lemmas.Bool.{eqb-false, false_from_ne_true, cond-false, and_left}}
-use Rattle.std.proofs.lemmas.Bool.{cases_eq}
-use Rattle.pas_profile.specs.{Directories.{deed_word_of, directory_read}, Blocks.{address_of, grain_of}, Profiles.{IsValid, IsAdmitted}, Entries.entry_of}
-use Rattle.pas_profile.specs.{Entries.{sized_entry, is_sized}, declared.{profile.Profile.Profile, event.NoRoom.NoRoom, name.{Block.Block, Name.Name}}}
-use Rattle.pas_profile.specs.{declared.{word.Word.Word, entry.Entry.Entry, guard.Guard.Guard}, Lives.live_word}
-use Rattle.pas_steps.specs.{Views.{View, is_unstamped}, Allowed.IsStepOf, Desks.{made, Standing, triples}, Events.events_by, Clear.HasNothing, Lists.Whole}
-use Rattle.pas_steps.specs.{Lists.{part, Legal}, declared.step.{Made.Made, Step.{Step, TheVariants.{Look, Tick, EndSized, Stamp}}}, Kinds.{Only, kind_of}}
-use Rattle.pas_steps.specs.Kinds.{is_in, LookEpoch, returning, Kinds, look_kind, apart, Putting, Ending, Stamping, Ticking, looking, place_of, unstamping}
-use Rattle.pas_steps.{specs.Kinds.{Backing, Giving, LookLife}, proofs.{Parts.{part_of_own, part_of_others}, Apart.{holds_over, only_both, only_within}}}
+use Rattle.std.proofs.{Common.{eq-eqb, ne_eqb, ◌*◌, length-append, MatchOption, All}, lemmas.Bool.{eqb-false, false_from_ne_true, cond-false, and_left}}
+use Rattle.pas_answers.proofs.Common.{cases_eq, deed_word_of, address_of, grain_of, IsValid, IsAdmitted, entry_of, Profile, NoRoom, Block, Name, Word, Entry}
+use Rattle.pas_answers.proofs.Common.{Guard, View, IsStepOf, made, Standing, triples, events_by, HasNothing, Whole, part, Legal, Made, Step, Look, Tick, Only}
+use Rattle.pas_answers.proofs.Common.{kind_of, is_in, LookEpoch, returning, part_of_own, part_of_others, EndedRun, Cached, TakesEntry, AllocatesPages}
+use Rattle.pas_answers.proofs.Common.{EmptiesFull, What, Alloc, Guarded, Remake, Plan, Op, Request, Act, Operates, Guards, Settles, Ticks, MakesPass}
+use Rattle.pas_answers.proofs.Common.{ReadsEpoch, StopsIdle, MarksPhase, Wakes, MarksClose, Ends, Lowers, request_in, asked_after, Said, Record, CanShow}
+use Rattle.pas_answers.proofs.Common.{AreOfRegion, Having, Answer, standing_for, entry_with, IsRemadeBy, IsAnswered, wanted_by, records_of, Progress, having}
+use Rattle.pas_answers.proofs.Common.{said_by, Named, epoch_look, request_for, Tried, IsTried, after_trying, AreInPhases, GoByStages, AreOfThreads, IsFitWhat}
+use Rattle.pas_answers.proofs.Common.{AnswersTried, AnswersGuarded, Reaches, Advances, at_start, acts_of_plan, threads_of, keepers_of, phases_of}
+use Rattle.pas_answers.proofs.Common.{stages_of_plan, region_of, Way, InOrder, OnThreads, IsOneOrder, arranged, give_steps, large_directory, seeking, IsRaised}
+use Rattle.pas_answers.proofs.{Common.{RaiseSteps, MakesCalls, sweeping, Swept, SweepSteps, raised_backs, raised_leaves}, Reached.{of_front, of_back, was_so}}
+use Rattle.pas_answers.proofs.{Reached.{tried_on, pieces_back, Each, same_parts, legal_part, of_rest, calls_alone}, OwnRecords.{EachShown, shown_both}}
+use Rattle.pas_answers.proofs.{OwnRecords.{records_shown, each_arranged, piece_shown, pass_shown, all_shown, swept_all, try_all}, Requests.known_directory}
+use Rattle.pas_answers.specs.{Guarding.{try_steps, guarded_steps}, Reaching.AnswersOp, Answers.{IsFreed, IsFreedBy, IsServed, IsStopped, stopped, after_stop}}
+use Rattle.pas_answers.specs.{Fit.AreFit, Replays.IsReplay, Rests.RestBetween, Indexes.{GoByIndexes, TriedTakesItsRun, GuardedTakesItsRun, AllTakeTheirRuns}}
+use Rattle.pas_answers.specs.Refusals.{AreRefusalsTrue, Served, request_in_answer, request_in_remade, TriedRefusesTruly, GuardedRefusesTruly, AllRefuseTruly}
+use Rattle.pas_profile.specs.{Directories.directory_read, Entries.{sized_entry, is_sized}, Lives.live_word}
+use Rattle.pas_steps.specs.{Views.is_unstamped, declared.step.Step.TheVariants.{EndSized, Stamp}, Kinds.{Kinds, look_kind, apart, Putting, Ending, Stamping}}
+use Rattle.pas_steps.{specs.Kinds.{Ticking, looking, place_of, unstamping, Backing, Giving, LookLife}, proofs.Apart.{holds_over, only_both, only_within}}
 use Rattle.pas_steps.proofs.{Apart.{unstamped_same, unstamped_step_same, out_within}, Calls.returns_are}
-use Rattle.pas_free_log.specs.{declared.{noting.EndedRun.EndedRun, ending.Outcome.{Outcome, TheVariants.{Ended, Refused}}}, Endings.{guess_by, Tries, TriesBy}}
-use Rattle.pas_free_log.specs.{Endings.{last_step, IsRefusedBy, IsEndOf, EndSteps}, Stamps.page_count, Returns.{PageSteps, PagesSteps, first_on, count_on}}
-use Rattle.pas_free_log.{specs.Flushes.{Settled, AfterEnd, EntrySteps, EntriesSteps}, proofs.OneEntry.{count_some, guess_is, not_ended}}
-use Rattle.pas_cache.specs.{Caches.{Cached, AtRest}, Calls.{TakesEntry, AllocatesPages}, Changes.{EmptiesFull, EmptiesLog}, Serves.{pages_of, wanted_for}}
-use Rattle.pas_cache.{specs.{Serves.ServesRequest, Kinds.{releasing, allocating}, Refusals.{IsTrulyRefused, TakesWhatIsNamed}}, proofs.Alone.truly_refused}
+use Rattle.pas_free_log.specs.{declared.ending.Outcome.{Outcome, TheVariants.{Ended, Refused}}, Endings.{guess_by, last_step, IsRefusedBy, IsEndOf, EndSteps}}
+use Rattle.pas_free_log.specs.{Stamps.page_count, Returns.{PageSteps, PagesSteps, first_on, count_on}, Flushes.{Settled, AfterEnd, EntrySteps, EntriesSteps}}
+use Rattle.pas_free_log.proofs.OneEntry.{count_some, guess_is, not_ended}
+use Rattle.pas_cache.{specs.{Changes.EmptiesLog, Kinds.{releasing, allocating}, Refusals.{IsTrulyRefused, TakesWhatIsNamed}}, proofs.Alone.truly_refused}
 use Rattle.pas_cache.proofs.Alone.{takes_named}
-use Rattle.pas_trace.specs.{declared.{plan.{What.{What, TheVariants.{Alloc, Guarded, Remake}}, Plan.Plan, Op.Op}, item.Request.Request}, Acts.{Act, Operates}}
-use Rattle.pas_trace.specs.{Acts.{Guards, Settles, Ticks, MakesPass, ReadsEpoch, StopsIdle, MarksPhase, Wakes, MarksClose, Ends, Lowers}, Asked.request_in}
-use Rattle.pas_trace.specs.EveryPlan.{asked_after}
-use Rattle.pas_records.{specs.{declared.record.{Said.Said, Record.Record}, Lines.CanShow, Rests.AreStamped}, proofs.Showable.AreOfRegion}
-use Rattle.pas_records.proofs.MarksAtRest.{true_marks}
-use Rattle.pas_answers.specs.Answers.{Having, Answer, standing_for, entry_with, IsRemadeBy, IsAnswered, wanted_by, records_of, Progress, having, said_by}
-use Rattle.pas_answers.specs.{Answers.{epoch_look, request_for, IsFreed, IsFreedBy, IsStopped, stopped, after_stop, IsReplaced}, Guarding.said_of_guard}
-use Rattle.pas_answers.specs.{Guarding.{Tried, try_steps, IsTried, after_trying, guarded_steps}, Phases.AreInPhases, Stages.GoByStages, Fit.AreOfThreads}
-use Rattle.pas_answers.specs.{Fit.{IsFitWhat, AreFit}, Reaching.{AnswersTried, AnswersGuarded, Reaches, AnswersOp, Advances}, Replays.{at_start, acts_of_plan}}
-use Rattle.pas_answers.specs.{Replays.{threads_of, keepers_of, phases_of, stages_of_plan, region_of, IsReplay}, Ways.{Way, InOrder, OnThreads, IsOneOrder}}
-use Rattle.pas_answers.specs.{Ways.arranged, Rests.RestBetween, Indexes.{GoByIndexes, TakesItsRun, TriedTakesItsRun, GuardedTakesItsRun, AllTakeTheirRuns}}
-use Rattle.pas_answers.specs.Refusals.{AreRefusalsTrue, request_in_remade, RefusesTruly, TriedRefusesTruly, GuardedRefusesTruly, AllRefuseTruly}
-use Rattle.pas_answers.proofs.Reached.{of_front, of_back, was_so, tried_on, pieces_back, Each, same_parts, legal_part, of_rest, calls_alone}
-use Rattle.pas_answers.proofs.{OwnRecords.{EachShown, shown_both, records_shown, each_arranged, piece_shown, pass_shown, all_shown}, Requests.known_directory}
-use Rattle.pas_rights.{specs.Gives.give_steps, proofs.{Orders.return_returns, Puts.puts_kinds}}
-use Rattle.pas_scan.specs.Runs.{large_directory}
-use Rattle.pas_guard.specs.{Seeks.seeking, Raises.{IsRaised, RaiseSteps, IsNotRaised}, Keepers.MakesCalls, Sweeps.{is_over, sweeping, SweptOne, Swept}}
-use Rattle.pas_guard.{specs.Sweeps.SweepSteps, proofs.Raises.{raised_backs, raised_leaves}}
+use Rattle.pas_records.{specs.Rests.AreStamped, proofs.MarksAtRest.true_marks}
+use Rattle.pas_rights.proofs.{Orders.return_returns, Puts.puts_kinds}
+use Rattle.pas_guard.specs.Raises.{IsNotRaised}
 use Rattle.pas_bits.{specs.Runs.meets_page, proofs.Runs.{to_meet, met_by}}
 use Rattle.pas_core.{specs.Stamps.{AllStamped, KeepsToEnds, AllKeepToEnds}, proofs.{Lives.stamps_are_ends, MachineRuns.runs, OneActor.legal_before}}
 use Rattle.pas_core.proofs.OneActor.{legal_earlier}
@@ -54,23 +48,17 @@ pub record Tidy (v : View) : Type 0 where
 abbrev bound : Kinds
 bound = LookEpoch ∷ Stamping ∷ Ticking ∷ []
 
-keeps_free : (s : Step) (v : View) → is_in bound (kind_of s) ≡ false → KeepsToEnds v s
-keeps_free s v h = search (arith, true≢false)
-
 kept_over : (ks : Kinds) → apart ks bound ≡ true → (steps : List Made) (v : View) → Only ks steps → KeptPart v → KeptPart (steps ++ v)
-kept_over ks w = holds_over KeptPart bound ks (λ m v h kept. (keeps_free m.step v h, kept)) w
+kept_over ks w = holds_over KeptPart bound ks (λ m v h kept. (search (arith, true≢false), kept)) w
 
 -- kinds of steps after which a tidy view may not be tidy
 abbrev untidy : Kinds
 untidy = Ending ∷ Stamping ∷ Ticking ∷ []
 
-keeps_tidy : (s : Step) (v : View) → is_in untidy (kind_of s) ≡ false → AllStamped v → KeepsToEnds v s
-keeps_tidy s v h stamped = search (arith, true≢false)
-
 -- Steps of kinds that learn no epoch, end nothing and stamp nothing leave a view tidy.
 pub tidy_over : (ks : Kinds) → apart ks untidy ≡ true → (steps : List Made) (v : View) → Only ks steps → Tidy v → Tidy (steps ++ v)
 tidy_over ks w = holds_over Tidy untidy ks
-    (λ m v h tidy. record { kept = (keeps_tidy m.step v h tidy.stamped, tidy.kept); stamped = λ p. unstamped_step_same m.step m.answer p (is_unstamped v p) (out_within unstamping untidy (place_of (kind_of m.step)) refl h) ∙ tidy.stamped p }) w
+    (λ m v h tidy. record { kept = (search (arith, true≢false), tidy.kept); stamped = λ p. unstamped_step_same m.step m.answer p (is_unstamped v p) (out_within unstamping untidy (place_of (kind_of m.step)) refl h) ∙ tidy.stamped p }) w
 
 -- A look at another word than the epoch leaves a view tidy.
 pub look_tidy : (word : Word) (a : ℕ) (v : View) → is_in looking (look_kind word) ≡ true → Tidy v → Tidy (made (Look word) a ∷ v)
@@ -118,15 +106,8 @@ record PagesDone (g n k : ℕ) (v : View) : Type 0 where
 pub first_page : (g k : ℕ) → first_on g (g / 256 + k) / 256 ≡ g / 256 + k
 first_page g k = omega arith
 
--- What is true after others were cleared was true, and isn't one of them.
-others_stay : (x was : Bool) → (if x then false else was) ≡ true → (x ≡ false) × (was ≡ true)
-others_stay x was h = grind arith
-
 other_stays : (x was : Bool) → x ≡ false → was ≡ true → (if x then false else was) ≡ true
 other_stays x was e h = ap (λ t. if t then false else was) e ∙ h
-
-next_pending : (g n k : ℕ) (v w : View) → IsPending g n k v → PageDone (g / 256 + k) v w → IsPending g n (suc k) w
-next_pending g n k v w was at = search (arith, others_stay, eqb-false, other_stays, ne_eqb)
 
 pages_done : (k g n : ℕ) (steps : List Made) (v : View) → 1 ≤ n → g / 256 + k ≤ (g + n - 1) / 256 + 1 → PagesDone g n 0 v → PagesSteps k g n steps
     → PagesDone g n k (steps ++ v)
@@ -137,14 +118,12 @@ pages_done (suc k) g n steps v some few was h =
     let un : is_unstamped (h.1 ++ v) (first_on g (g / 256 + k) / 256) ≡ true = ap (is_unstamped (h.1 ++ v)) (first_page g k) ∙ before.pending.rest (g / 256 + k) meets (omega arith) in
     let page : PageDone (g / 256 + k) (h.1 ++ v) (h.0 ++ (h.1 ++ v))
     = subst (λ p. PageDone p (h.1 ++ v) (h.0 ++ (h.1 ++ v))) (first_page g k) (page_done (first_on g (g / 256 + k)) (count_on g n (g / 256 + k)) h.0 (h.1 ++ v) h.2 before.kept un) in
-    subst (PagesDone g n (suc k)) (sym (ap (λ ms. ms ++ v) h.4 ∙ append_assoc h.0 h.1 v)) record { kept = page.kept; pending = next_pending g n k (h.1 ++ v) (h.0 ++ (h.1 ++ v)) before.pending page }
-
-all_pages : (g n : ℕ) → 1 ≤ n → g / 256 + page_count g n ≡ (g + n - 1) / 256 + 1
-all_pages g n some = let count = count_some g n some in omega (arith, count, some)
+    let pending : IsPending g n (suc k) (h.0 ++ (h.1 ++ v)) = search (arith, eqb-false, other_stays, ne_eqb) in
+    subst (PagesDone g n (suc k)) (sym (ap (λ ms. ms ++ v) h.4 ∙ append_assoc h.0 h.1 v)) record { kept = page.kept; pending = pending }
 
 run_tidy : (g n : ℕ) (steps : List Made) (v : View) → 1 ≤ n → PagesDone g n 0 v → PagesSteps (page_count g n) g n steps → Tidy (steps ++ v)
 run_tidy g n steps v some was h =
-    let count : g / 256 + page_count g n ≡ (g + n - 1) / 256 + 1 = all_pages g n some in
+    let count : g / 256 + page_count g n ≡ (g + n - 1) / 256 + 1 = omega (arith, count_some g n some, some) in
     let at : PagesDone g n (page_count g n) (steps ++ v) = pages_done (page_count g n) g n steps v some (omega (arith, count)) was h in
     record {
       kept = at.kept;
@@ -157,18 +136,8 @@ run_tidy g n steps v some was h =
 misses : (z y was : Bool) → z ≡ false → (if z && y then true else was) ≡ was
 misses z y was h = cond-false (z && y) true was (and_left z y h)
 
-tries_tidy : (name : Name) (first guess : ℕ) (before : List Made) (v : View) → Tries name first guess before → Tidy v → Tidy (before ++ v)
-tries_tidy name first guess before v h tidy = search (arith, tidy_none, misses, ne_eqb)
-
--- What wasn't so before is so now just where the test passes.
-if_met : (y was : Bool) → was ≡ false → (if y then true else was) ≡ y
-if_met y was h = grind arith
-
 met_from : (g n p : ℕ) → meets_page g n p ≡ true → g / 256 + 0 ≤ p
 met_from g n p h = let low = (met_by g n p h).0 in omega (arith, low)
-
-ended_is : {x y : ℕ} → Ended x ≡ Ended y → x ≡ y
-ended_is h = cc
 
 not_refused : {x y : ℕ} → Ended x ≡ Refused y → ⊥
 not_refused h = cc
@@ -202,16 +171,13 @@ last_of : (f : Profile) (t : Bool) (entry : Entry) (n : ℕ) → (t ≡ true →
 last_of f true entry n is of = (of.0.2, subst (λ m. 1 ≤ m) (sym (is refl)) of.0.3)
 last_of f false entry n is of = (of.2, of.3)
 
-tries_by_tidy : (t : Bool) (entry : Entry) (first guess : ℕ) (before : List Made) (v : View) → TriesBy t entry first guess before → Tidy v → Tidy (before ++ v)
-tries_by_tidy t entry first guess before v h tidy = search (arith, tidy_none, tries_tidy)
-
 pending_now : (name : Name) (guess a : ℕ) (s : Step) (u : View) → MarksEnds name guess s → AllStamped u → a ≡ live_word name.turn guess
     → IsPending (grain_of name) guess 0 (made s a ∷ u)
-pending_now name guess a s u h stamped hit = search (arith, eq-eqb, if_met, met_from)
+pending_now name guess a s u h stamped hit = search (arith, eq-eqb, met_from)
 
 end_done : (t : Bool) (name : Name) (outcome : Outcome) (guess a : ℕ) (s : Step) (u : View) → MarksEnds name guess s → Tidy u → name.turn < 2 ^ 40 - 1
     → 1 ≤ guess → EndOf t name guess a outcome → IsTidyTry name outcome (made s a ∷ u)
-end_done t name (Ended grains) guess a s u marks tidy turn some h = search (arith, ended_is, pending_now, not_refused)
+end_done t name (Ended grains) guess a s u marks tidy turn some h = search (arith, pending_now, not_refused)
 end_done t name (Refused read) guess a s u marks tidy turn some h = search (arith, not_refused, misses, ne_eqb, not_ended)
 
 -- ---- an entry, all entries, and a flush; the steps are of the region
@@ -224,7 +190,7 @@ ends_done f entry outcome steps v of h tidy =
     let is : t ≡ true → h.guess ≡ entry.room / 16 = guess_is t entry first h.guess h.before h.tries in
     let last : (entry.name.turn < 2 ^ 40 - 1) × (1 ≤ h.guess) = last_of f t entry h.guess is ((subst (AreOfRegion f) h.steps_are of).0) in
     let tried : Tidy ((h.before ++ look ∷ []) ++ v) = tidy_both (h.before ++ look ∷ []) h.before (look ∷ []) v refl
-    (tries_by_tidy t entry first h.guess h.before (look ∷ v) h.tries (look_tidy (Word.Deed (address_of entry.name / 4096)) h.deed v refl tidy)) in
+    (search (arith, tidy_none, misses, ne_eqb)) in
     subst (λ ms. IsTidyTry entry.name outcome (ms ++ v)) (sym h.steps_are)
     (end_done t entry.name outcome h.guess h.answer (last_step t entry h.guess) ((h.before ++ look ∷ []) ++ v) (marks_by t entry h.guess is) tried last.0 last.1 (end_of entry h.guess h.answer outcome h.comes_to))
 
@@ -337,29 +303,15 @@ pub try_tidy : (f : Profile) (keeper : ℕ) (r : Request) (v : View) (guards : L
 try_tidy f keeper r v guards t is tidy = search (arith, tidy_both, raise_tidy, sweep_tidy)
 
 -- ---- shown
-one_shown : (down : Bool) (k : ℕ) (guard : Guard) (first : List Made) (kept after : List Guard) (said more : List Record)
-    → SweptOne down k guard first kept after said more → EachShown more → EachShown said
-one_shown true k guard first kept after said more is rest = subst EachShown (sym is.2) (tt, rest)
-one_shown false k guard first kept after said more is rest = subst EachShown (sym is.2) rest
-
--- Each line that a sweep says can be shown.
+-- each line that a sweep says
 swept_shown : (all : Bool) (k : ℕ) (guards kept : List Guard) (said : List Record) (steps : List Made) → Swept all k guards kept said steps → EachShown said
-swept_shown all k [] kept said steps is = subst EachShown (sym is.1) tt
-swept_shown all k (guard ∷ guards) kept said steps is = one_shown (all || is_over guard is.0) k guard is.1 kept is.3 said is.4 is.5 (swept_shown all k guards is.3 is.4 is.2 is.6)
-
-guard_shown : (keeper name k : ℕ) (block : Option Block) → EachShown (said_of_guard keeper name k block)
-guard_shown keeper name k None = tt
-guard_shown keeper name k (Some block) = (tt, tt)
+swept_shown all k = swept_all CanShow k (λ s. tt) all
 
 -- Each record of a keeper's try can be shown.
 try_shown : (f : Profile) (keeper : ℕ) (r : Request) (v : View) (guards : List Guard) (t : Tried) → IsTried f keeper r v guards t → AreOfRegion f t.steps
     → EachShown t.records
-try_shown f keeper r v guards t is of =
-    let raised = of_front f is.raised is.swept (subst (AreOfRegion f) is.steps_are of) in
-    let events = records_of (events_by keeper (is.swept ++ v) is.raised) in
-    let said = said_of_guard keeper r.name (pages_of (wanted_by f r)) t.block in
-    subst EachShown (sym is.records_are) (shown_both is.lowered (events ++ said) (swept_shown false keeper guards is.left is.lowered is.swept is.sweep.swept)
-    (shown_both events said (records_shown f keeper is.raised (is.swept ++ v) raised) (guard_shown keeper r.name (pages_of (wanted_by f r)) t.block)))
+try_shown f keeper r v guards t is of = try_all CanShow keeper (λ s. tt) f r v guards t is
+    (records_shown f keeper is.raised (is.swept ++ v) (of_front f is.raised is.swept (subst (AreOfRegion f) is.steps_are of)))
 
 -- ---- short
 pub try_short : (f : Profile) (keeper : ℕ) (r : Request) (v : View) (guards : List Guard) (t : Tried) → IsTried f keeper r v guards t
@@ -577,105 +529,69 @@ replays way plan reached whole records valid answers one_order phases stages rec
 }
 
 -- ---- one operation
-request_refuses : (f : Profile) (k heap size align : ℕ) (c c' : Cached) (l : Whole) (steps : List Made) (found : Option ℕ) (answer : Result Block NoRoom)
-    → IsValid f → IsAdmitted f size align heap → AtRest f c (part k l) → Legal f (triples k steps ++ l)
-    → ServesRequest f (wanted_for f heap size align) found c c' steps answer
-    → MatchResult answer (λ block. Unit {0}) (IsTrulyRefused f (wanted_for f heap size align) c.locals l (triples k steps ++ l))
-request_refuses f k heap size align c c' l steps found answer valid admitted rest legal serves = search (arith, truly_refused)
+-- Of a request that was made: its refusal is true, and a run that was named for it was taken exactly where it is whole.
+module _ (f : Profile) (k : ℕ) (names : List Named) (c : Cached) (l : Whole) (valid : IsValid f) where
+  abbrev b : Having
+  b = having names (part k l) c
 
--- where a block is replaced, of a request in a heap of the region
-module _ (f : Profile) (k name size align : ℕ) (b : Having) (a : Answer) (l : Whole) (valid : IsValid f) (own : part k l ≡ b.view)
-    (legal : Legal f (triples k a.steps ++ l)) where
-  placed_legal : (old : Block) (h : IsReplaced f k (request_for old name size align) old b a) → Legal f (triples k h.placed.steps ++ l)
-  placed_legal old h = legal_earlier f k h.freed h.placed.steps l (subst (λ (ms : List Made). Legal f (triples k ms ++ l)) h.steps_are legal)
+  abbrev IsTrue : Option (Served f k b) → Type 0
+  IsTrue o = MatchOption o (Unit {0}) (λ s. MatchResult s.served.answer (λ block. Unit {0})
+      (IsTrulyRefused f (wanted_by f s.request) c.locals l (triples k s.placed.steps ++ l)))
+      × MatchOption o (Unit {0}) (λ s. TakesWhatIsNamed f (wanted_by f s.request) s.placed.found l s.placed.steps s.served.answer)
 
-  remade_refuses : (o : Option (Option Block)) → ((heap : ℕ) → heap < f.heaps → IsAdmitted f size align heap) → (is : IsRemadeBy f k name size align o b a)
-      → MatchOption (request_in_remade f k name size align o b a is) (Unit {0})
-      (λ s. MatchResult s.served.answer (λ block. Unit {0}) (IsTrulyRefused f (wanted_by f s.request) b.cache.locals l (triples k s.placed.steps ++ l)))
-  remade_refuses None admitted is = tt
-  remade_refuses (Some None) admitted is = tt
-  remade_refuses (Some (Some old)) admitted (inl kept) = tt
-  remade_refuses (Some (Some old)) admitted (inr h) = request_refuses f k old.heap size align b.cache h.placed.cache l h.placed.steps h.placed.found h.served.answer valid (admitted old.heap h.of_region)
-      (subst (AtRest f b.cache) (sym own) h.served.rest) (placed_legal old h) h.served.serves
+  request_true : (r : Request) (a : Answer) (is : IsServed f k r b a) → IsAdmitted f r.size r.align r.heap → Legal f (triples k a.steps ++ l)
+      → IsTrue (Some (record { request = r; placed = a; served = is }))
+  request_true r a is admitted legal =
+      (search (arith, truly_refused), takes_named f r.heap r.size r.align k a.found c a.cache l a.steps is.answer valid is.rest legal is.serves)
 
-  remade_takes : (o : Option (Option Block)) (is : IsRemadeBy f k name size align o b a)
-      → MatchOption (request_in_remade f k name size align o b a is) (Unit {0})
-      (λ s. TakesWhatIsNamed f (wanted_by f s.request) s.placed.found l s.placed.steps s.served.answer)
-  remade_takes None is = tt
-  remade_takes (Some None) is = tt
-  remade_takes (Some (Some old)) (inl kept) = tt
-  remade_takes (Some (Some old)) (inr h) = takes_named f old.heap size align k h.placed.found b.cache h.placed.cache l h.placed.steps h.served.answer valid
-      (subst (AtRest f b.cache) (sym own) h.served.rest) (placed_legal old h) h.served.serves
+  -- where a block is replaced, of a request in a heap of the region
+  remade_true : (name size align : ℕ) (o : Option (Option Block)) (a : Answer) (is : IsRemadeBy f k name size align o b a)
+      → ((heap : ℕ) → heap < f.heaps → IsAdmitted f size align heap) → Legal f (triples k a.steps ++ l)
+      → IsTrue (request_in_remade f k name size align o b a is)
+  remade_true name size align (Some (Some old)) a (inr h) admitted legal = request_true (request_for old name size align) h.placed h.served
+      (admitted old.heap h.of_region) (legal_earlier f k h.freed h.placed.steps l (subst (λ (ms : List Made). Legal f (triples k ms ++ l)) h.steps_are legal))
+  remade_true name size align (Some (Some old)) a (inl kept) admitted legal = (tt, tt)
+  remade_true name size align (Some None) a is admitted legal = (tt, tt)
+  remade_true name size align None a is admitted legal = (tt, tt)
 
--- a request that is admitted in one heap is so in each
-in_each_heap : (f : Profile) (size align heap : ℕ) → IsAdmitted f size align heap → (other : ℕ) → other < f.heaps → IsAdmitted f size align other
-in_each_heap f size align heap admitted other of = record { within = admitted.within; aligned = admitted.aligned; of_profile = of }
+  operation_true : (limit : ℕ) (asked : List ℕ) (what : What) (a : Answer) (is : IsAnswered f k what b a) → IsFitWhat f limit asked what
+      → Legal f (triples k a.steps ++ l) → IsTrue (request_in_answer f k what b a is)
+  operation_true limit asked (Alloc name heap size align) a is fit legal = request_true _ a is fit.1.0 legal
+  operation_true limit asked (Guarded keeper name heap size align) a is fit legal = request_true _ a is fit.1.0 legal
+  operation_true limit asked (Remake name old heap size align) a is fit legal = remade_true name size align (standing_for names old) a is
+      (λ other of. record { within = fit.1.0.within; aligned = fit.1.0.aligned; of_profile = of }) legal
+  operation_true limit asked what a is fit legal = (tt, tt)
 
-operation_refuses : (f : Profile) (k limit : ℕ) (asked : List ℕ) (what : What) (b : Having) (a : Answer) (l : Whole) → IsValid f → part k l ≡ b.view
-    → IsFitWhat f limit asked what → Legal f (triples k a.steps ++ l) → (is : IsAnswered f k what b a) → RefusesTruly f k what b a is l
-operation_refuses f k limit asked (Alloc name heap size align) b a l valid own fit legal is =
-    request_refuses f k heap size align b.cache a.cache l a.steps a.found is.answer valid fit.1.0 (subst (AtRest f b.cache) (sym own) is.rest) legal is.serves
-operation_refuses f k limit asked (Guarded keeper name heap size align) b a l valid own fit legal is =
-    request_refuses f k heap size align b.cache a.cache l a.steps a.found is.answer valid fit.1.0 (subst (AtRest f b.cache) (sym own) is.rest) legal is.serves
-operation_refuses f k limit asked (Remake name old heap size align) b a l valid own fit legal is =
-    remade_refuses f k name size align b a l valid own legal (standing_for b.names old) (in_each_heap f size align heap fit.1.0) is
-operation_refuses f k limit asked what b a l valid own fit legal is = tt
+-- ---- an act: an operation, and a guarded request that its thread answers
+op_true : (f : Profile) (limit : ℕ) (asked : List ℕ) (op : Op) (p q : Progress) (valid : IsValid f) → IsFitWhat f limit asked op.what → Legal f q.list
+    → (is : AnswersOp f op p q) → IsTrue f op.actor p.names (p.caches op.actor) p.list valid (request_in_answer f op.actor op.what _ is.0 is.1)
+op_true f limit asked op p q valid fit legal is = operation_true f op.actor p.names (p.caches op.actor) p.list valid limit asked op.what is.0 is.1 fit
+    (subst (λ (s : Progress). Legal f s.list) is.2 legal)
 
--- ---- a guarded request that its thread answers
-tried_refuses : (f : Profile) (limit : ℕ) (asked : List ℕ) (op : Op) (r : Request) (block : Option Block) (p q : Progress) → IsValid f
+tried_true : (f : Profile) (limit : ℕ) (asked : List ℕ) (op : Op) (r : Request) (block : Option Block) (p q : Progress) → IsValid f
     → IsFitWhat f limit asked op.what → Legal f q.list → (is : AnswersTried f op r block p q)
-    → TriedRefusesTruly f op r block p q is
-tried_refuses f limit asked op r (Some block) p q valid fit legal is = tt
-tried_refuses f limit asked op r None p q valid fit legal is = operation_refuses f op.actor limit asked op.what
-    (having p.names (part op.actor p.list) (p.caches op.actor)) is.0 p.list valid refl fit (subst (λ (s : Progress). Legal f s.list) is.2 legal) is.1
+    → TriedRefusesTruly f op r block p q is × TriedTakesItsRun f op r block p q is
+tried_true f limit asked op r (Some block) p q valid fit legal is = (tt, tt)
+tried_true f limit asked op r None p q valid fit legal is = op_true f limit asked op p q valid fit legal is
 
-guarded_refuses : (f : Profile) (keeper limit : ℕ) (asked : List ℕ) (op : Op) (o : Option Request) (p q : Progress) → IsValid f
+guarded_true : (f : Profile) (keeper limit : ℕ) (asked : List ℕ) (op : Op) (o : Option Request) (p q : Progress) → IsValid f
     → IsFitWhat f limit asked op.what → Legal f q.list → (is : AnswersGuarded f keeper op o p q)
-    → GuardedRefusesTruly f keeper op o p q is
-guarded_refuses f keeper limit asked op None p q valid fit legal is = absurd is
-guarded_refuses f keeper limit asked op (Some r) p q valid fit legal is = tried_refuses f limit asked op r is.0.block (after_trying p keeper is.0) q valid fit legal is.2
+    → GuardedRefusesTruly f keeper op o p q is × GuardedTakesItsRun f keeper op o p q is
+guarded_true f keeper limit asked op None p q valid fit legal is = absurd is
+guarded_true f keeper limit asked op (Some r) p q valid fit legal is = tried_true f limit asked op r is.0.block
+    (after_trying p keeper is.0) q valid fit legal is.2
 
 -- ---- all acts
-pub all_refuse : (f : Profile) (limit : ℕ) (asked : List ℕ) (acts : List Act) (p q : Progress) → IsValid f → AreFit f limit asked acts → Legal f q.list
-    → (is : Reaches f acts p q) → AllRefuseTruly f acts p q is
-all_refuse f limit asked [] p q valid fit legal is = tt
-all_refuse f limit asked (Operates op ∷ acts) p q valid fit legal is = (
-  operation_refuses f op.actor limit asked op.what (having p.names (part op.actor p.list) (p.caches op.actor)) is.1.0 p.list valid refl fit.1
-      (subst (λ (r : Progress). Legal f r.list) is.1.2 (was_so f (Legal f) (legal_before f) acts is.0 q is.2 legal)) is.1.1,
-  all_refuse f limit (asked_after op.what asked) acts is.0 q valid fit.2 legal is.2,
-)
-all_refuse f limit asked (Guards keeper op ∷ acts) p q valid fit legal is =
-    let now = was_so f (Legal f) (legal_before f) acts is.0 q is.2 legal in
-    (guarded_refuses f keeper limit asked op (request_in op.what) p is.0 valid fit.3 now is.1, all_refuse f limit (asked_after op.what asked) acts is.0 q valid fit.4 legal is.2)
-all_refuse f limit asked (Ticks epoch ∷ acts) p q valid fit legal is = (tt, all_refuse f limit asked acts is.0 q valid fit.1 legal is.2)
-all_refuse f limit asked (act ∷ acts) p q valid fit legal is = (tt, all_refuse f limit asked acts is.0 q valid fit legal is.2)
-
--- ---- the runs that were named
-takes_run : (f : Profile) (k : ℕ) (what : What) (b : Having) (a : Answer) (l : Whole) → IsValid f → part k l ≡ b.view → Legal f (triples k a.steps ++ l)
-    → (is : IsAnswered f k what b a) → TakesItsRun f k what b a is l
-takes_run f k (Alloc name heap size align) b a l valid own legal is = takes_named f heap size align k a.found b.cache a.cache l a.steps is.answer valid (subst (AtRest f b.cache) (sym own) is.rest) legal is.serves
-takes_run f k (Guarded keeper name heap size align) b a l valid own legal is =
-    takes_named f heap size align k a.found b.cache a.cache l a.steps is.answer valid (subst (AtRest f b.cache) (sym own) is.rest) legal is.serves
-takes_run f k (Remake name old heap size align) b a l valid own legal is = remade_takes f k name size align b a l valid own legal (standing_for b.names old) is
-takes_run f k what b a l valid own legal is = tt
-
-tried_takes : (f : Profile) (op : Op) (r : Request) (block : Option Block) (p q : Progress) → IsValid f → Legal f q.list → (is : AnswersTried f op r block p q)
-    → TriedTakesItsRun f op r block p q is
-tried_takes f op r block p q valid legal is = search (arith, takes_run)
-
-guarded_takes : (f : Profile) (keeper : ℕ) (op : Op) (o : Option Request) (p q : Progress) → IsValid f → Legal f q.list
-    → (is : AnswersGuarded f keeper op o p q) → GuardedTakesItsRun f keeper op o p q is
-guarded_takes f keeper op o p q valid legal is = search (arith, tried_takes)
-
--- In a legal replay each run that was named for a request serves exactly where its pages are whole.
-pub all_take : (f : Profile) (acts : List Act) (p q : Progress) → IsValid f → Legal f q.list → (is : Reaches f acts p q) → AllTakeTheirRuns f acts p q is
-all_take f [] p q valid legal is = tt
-all_take f (Operates op ∷ acts) p q valid legal is = (
-  takes_run f op.actor op.what (having p.names (part op.actor p.list) (p.caches op.actor)) is.1.0 p.list valid refl
-      (subst (λ (r : Progress). Legal f r.list) is.1.2 (was_so f (Legal f) (legal_before f) acts is.0 q is.2 legal)) is.1.1,
-  all_take f acts is.0 q valid legal is.2,
-)
-all_take f (Guards keeper op ∷ acts) p q valid legal is =
-    let now = was_so f (Legal f) (legal_before f) acts is.0 q is.2 legal in
-    (guarded_takes f keeper op (request_in op.what) p is.0 valid now is.1, all_take f acts is.0 q valid legal is.2)
-all_take f (act ∷ acts) p q valid legal is = (tt, all_take f acts is.0 q valid legal is.2)
+-- In a legal replay each refusal is true, and each run that was named for a request serves exactly where its pages are whole.
+pub all_true : (f : Profile) (limit : ℕ) (asked : List ℕ) (acts : List Act) (p q : Progress) → IsValid f → AreFit f limit asked acts → Legal f q.list
+    → (is : Reaches f acts p q) → AllRefuseTruly f acts p q is × AllTakeTheirRuns f acts p q is
+all_true f limit asked [] p q valid fit legal is = (tt, tt)
+all_true f limit asked (Operates op ∷ acts) p q valid fit legal is =
+    let one = op_true f limit asked op p is.0 valid fit.1 (was_so f (Legal f) (legal_before f) acts is.0 q is.2 legal) is.1 in
+    let rest = all_true f limit (asked_after op.what asked) acts is.0 q valid fit.2 legal is.2 in ((one.0, rest.0), (one.1, rest.1))
+all_true f limit asked (Guards keeper op ∷ acts) p q valid fit legal is =
+    let one = guarded_true f keeper limit asked op (request_in op.what) p is.0 valid fit.3 (was_so f (Legal f) (legal_before f) acts is.0 q is.2 legal) is.1 in
+    let rest = all_true f limit (asked_after op.what asked) acts is.0 q valid fit.4 legal is.2 in ((one.0, rest.0), (one.1, rest.1))
+all_true f limit asked (Ticks epoch ∷ acts) p q valid fit legal is = let rest = all_true f limit asked acts is.0 q valid fit.1 legal is.2 in
+    ((tt, rest.0), (tt, rest.1))
+all_true f limit asked (act ∷ acts) p q valid fit legal is = let rest = all_true f limit asked acts is.0 q valid fit legal is.2 in ((tt, rest.0), (tt, rest.1))

@@ -1,10 +1,8 @@
 -- What is so of each act of a plan, by what is so of its operations.
-use Rattle.std.{proofs.Common.{ℕ, zero, suc, ◌+◌, ◌≤◌, not, Bool, true, false, if◌then◌else◌, List, [], ◌∷◌, ◌++◌, map, arith}, specs.List.AllByRecursion}
-use Rattle.std.specs.List.{filter}
-use Rattle.pas_profile.proofs.Lists.{all_both}
-use Rattle.pas_trace.specs.Acts.{Act, Ticks, MakesPass, ReadsEpoch, StopsIdle, MarksPhase, Wakes, MarksClose, Ends, Lowers, active_threads, idle_threads}
-use Rattle.pas_trace.specs.Acts.{acts_of_ops, phase_acts, close_acts, acts_from, acts_of, is_active, numbers_from, threads_where, acts_of_chore, acts_of_op}
-use Rattle.pas_trace.specs.{EveryPlan.all_ops, declared.plan.{Chore.Chore, Op.Op}}
+use Rattle.std.{proofs.Common.{[], ℕ, zero, suc, ◌+◌, ◌≤◌, not, Bool, true, false, if◌then◌else◌, List, ◌∷◌, ◌++◌, map, arith}, specs.List.filter}
+use Rattle.pas_answers.proofs.Common.{AllByRecursion, all_both, Act, Ticks, MakesPass, ReadsEpoch, StopsIdle, MarksPhase, Wakes, MarksClose, Ends, Lowers}
+use Rattle.pas_answers.proofs.Common.{active_threads, idle_threads, acts_of_ops, phase_acts, close_acts, acts_from, acts_of, all_ops, Chore, Op}
+use Rattle.pas_trace.specs.Acts.{is_active, numbers_from, threads_where, acts_of_chore, acts_of_op}
 
 -- ---- lists
 -- what is so of all is so of the first, and of those that follow
@@ -80,8 +78,7 @@ module _ (P : Act → Type 0) (Q : Op → Type 0) (threads keepers : ℕ)
   all_later : (n : ℕ) (phases : List (List Op)) → AllByRecursion Q (all_ops phases) → AllByRecursion P (acts_from threads keepers n phases)
   all_later n [] all = last
   all_later n (p ∷ ps) all =
-      let rest = all_later (n + 1) ps (all_back Q p (all_ops ps) all) in
-      (marks n, all_both P (phase_acts threads p) (acts_from threads keepers (n + 1) ps) (all_of_phase p (all_front Q p (all_ops ps) all)) rest)
+      let rest = all_later (n + 1) ps (all_back Q p (all_ops ps) all) in search (arith, rest, all_back, all_both, all_of_phase, all_front)
 
   -- What the acts of each operation are, and each mark, wake and end besides, each act of a plan is.
   pub all_acts : (phases : List (List Op)) → AllByRecursion Q (all_ops phases) → AllByRecursion P (acts_of threads keepers phases)

@@ -1,3 +1,4 @@
+mod Common
 pub mod Requests
 pub mod OwnRecords
 pub mod Reached

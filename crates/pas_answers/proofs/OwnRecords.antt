@@ -1,37 +1,28 @@
 -- The records of a piece are of its actor, and each can be shown, in whatever order they are written.
-use Rattle.std.proofs.Common.{◌≡◌, ◌≢◌, ℕ, ◌==◌, Bool, true, false, ◌||◌, if◌then◌else◌, List, [], ◌∷◌, ◌++◌, reverse, Option, Some, None, refl, ap, sym, ◌∙◌}
-use Rattle.std.proofs.{Common.{subst, map, eq-eqb, ne_eqb, arith, zero, suc, ◌+◌, All}, lemmas.List.Elements.{All-nil, All-push, All-append}}
-use Rattle.std.specs.List.{AllByRecursion}
-use Rattle.pas_profile.specs.declared.{event.{Event.Event, Outcome.{Outcome, TheVariants.Unbacked}}, name.Block.Block, profile.Profile.Profile}
-use Rattle.pas_profile.{specs.declared.guard.Guard.Guard, proofs.Lists.{all_both, all_map, all_reverse}}
-use Rattle.pas_steps.{specs.{Events.{events_by, actor_of}, Views.View, declared.step.Made.Made}, proofs.Events.events_own}
-use Rattle.pas_records.{specs.{declared.record.{Record.Record, Said.Said}, Lines.CanShow}, proofs.Showable.{AreOfRegion, steps_showable}}
-use Rattle.pas_answers.specs.{PassRecords.{record_of, records_of_pass}, Answers.{records_of, said_by, wanted_by}, Guarding.{said_of_guard, Tried, IsTried}}
-use Rattle.pas_answers.specs.Ways.{Way, arranged, is_of, AreSpoken, EachOf, records_by, by_actors, by_phases}
-use Rattle.pas_trace.specs.declared.item.Request.{Request}
-use Rattle.pas_cache.specs.Serves.{pages_of}
-use Rattle.pas_guard.specs.Sweeps.{is_over, SweptOne, Swept}
+use Rattle.std.proofs.Common.{[], ◌≡◌, ◌≢◌, ℕ, ◌==◌, Bool, true, ◌||◌, if◌then◌else◌, List, ◌∷◌, ◌++◌, reverse, Option, refl, ap, sym, ◌∙◌, subst, map, eq-eqb}
+use Rattle.std.proofs.{Common.{ne_eqb, arith, zero, suc, ◌+◌, All}, lemmas.List.Elements.{All-nil, All-push, All-append}}
+use Rattle.pas_answers.proofs.Common.{AllByRecursion, Event, Outcome, Block, Profile, Guard, all_both, all_map, events_by, View, Made, Record, Said, CanShow}
+use Rattle.pas_answers.proofs.Common.{AreOfRegion, record_of, records_of_pass, records_of, said_by, said_of_guard, Tried, IsTried, Way, arranged, Request}
+use Rattle.pas_answers.{proofs.{Common.{SweptOne, Swept}, EachAct.{all_of, all_any}}, specs.Ways.{is_of, AreSpoken, EachOf, records_by, by_actors, by_phases}}
+use Rattle.pas_profile.{specs.declared.event.Outcome.TheVariants.Unbacked, proofs.Lists.all_reverse}
+use Rattle.pas_guard.specs.Sweeps.{is_over}
+use Rattle.pas_steps.{specs.Events.actor_of, proofs.Events.events_own}
+use Rattle.pas_records.proofs.Showable.{steps_showable}
 
 -- ---- what is so of each record of a piece, by its events and by what is said
-events_all : (P : Record → Type 0) (es : List Event) → AllByRecursion (λ e. P (Record.Event e)) es → AllByRecursion P (map Record.Event es)
-events_all P [] all = tt
-events_all P (e ∷ es) all = (all.0, events_all P es all.1)
-
 -- What is so of each event is so of the records of those events.
 piece_events : (P : Record → Type 0) (es : List Event) → AllByRecursion (λ e. P (Record.Event e)) es → AllByRecursion P (records_of es)
-piece_events P es all = events_all P (reverse es) (all_reverse (λ e. P (Record.Event e)) es all)
+piece_events P es all = all_of P (λ e. P (Record.Event e)) Record.Event (reverse es) (λ e is. is) (all_reverse (λ e. P (Record.Event e)) es all)
 
 -- What is so of each event of a piece and of all that its actor says is so of each of its records.
 piece_all : (P : Record → Type 0) (k : ℕ) (es : List Event) (said : Option Said) → AllByRecursion (λ e. P (Record.Event e)) es
     → ((s : Said) → P (Record.Said k s)) → AllByRecursion P (records_of es ++ said_by k said)
-piece_all P k es None all says = all_both P (records_of es) [] (piece_events P es all) tt
-piece_all P k es (Some said) all says = all_both P (records_of es) (Record.Said k said ∷ []) (piece_events P es all) (says said, tt)
+piece_all P k es said all says = search (arith, all_both, piece_events)
 
 -- What is so of the record of each page's outcome is so of all those of a pass.
 outcomes_all : (P : Record → Type 0) (k epoch : ℕ) (found : List (ℕ × Outcome)) → ((page : ℕ) (o : Outcome) → P (record_of k epoch page o))
     → AllByRecursion P (map (λ p. record_of k epoch p.0 p.1) found)
-outcomes_all P k epoch [] all = tt
-outcomes_all P k epoch (x ∷ found) all = (all x.0 x.1, outcomes_all P k epoch found all)
+outcomes_all P k epoch found all = all_of P (λ x. Unit {0}) (λ p. record_of k epoch p.0 p.1) found (λ x any. all x.0 x.1) (all_any found)
 
 -- ---- each is of actor j
 abbrev IsOf : ℕ → Record → Type 0
@@ -52,9 +43,9 @@ events_of_piece j v steps = piece_events (IsOf j) (events_by j v steps) (events_
 pub piece_of : (j : ℕ) (v : View) (steps : List Made) (said : Option Said) → EachOf j (records_of (events_by j v steps) ++ said_by j said)
 piece_of j v steps said = piece_all (IsOf j) j (events_by j v steps) said (events_are j v steps) (λ s k. refl)
 
+-- by cases
 outcome_of : (j epoch page : ℕ) (o : Outcome) → IsOf j (record_of j epoch page o)
-outcome_of j epoch page Unbacked k = refl
-outcome_of j epoch page o k = refl
+outcome_of j epoch page o k = search arith
 
 -- The records of a pass are those of the actor that makes it.
 pub pass_of : (j epoch : ℕ) (found : List (ℕ × Outcome)) → EachOf j (records_of_pass j epoch found)
@@ -71,8 +62,7 @@ spoken_both xs ys a b = all_both (λ r. (j : ℕ) × (is_of j r ≡ true)) xs ys
 
 -- ---- those of one actor
 both_by : (t : Bool) (r : Record) (xs ys zs : List Record) → zs ≡ xs ++ ys → (if t then r ∷ zs else zs) ≡ (if t then r ∷ xs else xs) ++ ys
-both_by true r xs ys zs is = ap (λ (rs : List Record). r ∷ rs) is
-both_by false r xs ys zs is = is
+both_by t r xs ys zs is = search arith
 
 -- An actor's records among two lists are those of both, one after the other.
 pub records_both : (k : ℕ) (xs ys : List Record) → records_by k (xs ++ ys) ≡ records_by k xs ++ records_by k ys
@@ -89,28 +79,36 @@ pub none_by : (k j : ℕ) (rs : List Record) → EachOf j rs → j ≢ k → rec
 none_by k j [] all other = refl
 none_by k j (r ∷ rs) all other = ap (λ (t : Bool). if t then r ∷ records_by k rs else records_by k rs) (all.0 k ∙ ne_eqb j k other) ∙ none_by k j rs all.1 other
 
--- ---- what a keeper says is its own
-lowered_each : (down : Bool) (k : ℕ) (guard : Guard) (first : List Made) (kept after : List Guard) (said more : List Record)
-    → SweptOne down k guard first kept after said more → EachOf k more → EachOf k said
-lowered_each true k guard first kept after said more is rest = subst (EachOf k) (sym is.2) (λ j. refl, rest)
-lowered_each false k guard first kept after said more is rest = subst (EachOf k) (sym is.2) rest
+-- ---- what a keeper says
+-- is so where it is so of all that it says and of its events
+module _ (P : Record → Type 0) (k : ℕ) (says : (s : Said) → P (Record.Said k s)) where
+  -- by cases
+  lowered_all : (down : Bool) (guard : Guard) (first : List Made) (kept after : List Guard) (said more : List Record)
+      → SweptOne down k guard first kept after said more → AllByRecursion P more → AllByRecursion P said
+  lowered_all down guard first kept after said more is rest = search arith
+
+  -- The lines of a sweep.
+  pub swept_all : (all : Bool) (guards kept : List Guard) (said : List Record) (steps : List Made) → Swept all k guards kept said steps → AllByRecursion P said
+  swept_all all [] kept said steps is = subst (AllByRecursion P) (sym is.1) tt
+  swept_all all (guard ∷ guards) kept said steps is = lowered_all (all || is_over guard is.0) guard is.1 kept is.3 said is.4 is.5
+      (swept_all all guards is.3 is.4 is.2 is.6)
+
+  -- by cases
+  guard_all : (name n : ℕ) (block : Option Block) → AllByRecursion P (said_of_guard k name n block)
+  guard_all name n block = search arith
+
+  -- The records of a try.
+  pub try_all : (f : Profile) (r : Request) (v : View) (guards : List Guard) (t : Tried) (is : IsTried f k r v guards t)
+      → AllByRecursion P (records_of (events_by k (is.swept ++ v) is.raised)) → AllByRecursion P t.records
+  try_all f r v guards t is events = search (arith, all_both, swept_all, guard_all)
 
 -- The lines of a sweep are records of its keeper.
 pub swept_each : (all : Bool) (k : ℕ) (guards kept : List Guard) (said : List Record) (steps : List Made) → Swept all k guards kept said steps → EachOf k said
-swept_each all k [] kept said steps is = subst (EachOf k) (sym is.1) tt
-swept_each all k (guard ∷ guards) kept said steps is = lowered_each (all || is_over guard is.0) k guard is.1 kept is.3 said is.4 is.5 (swept_each all k guards is.3 is.4 is.2 is.6)
-
-guard_each : (keeper name k : ℕ) (block : Option Block) → EachOf keeper (said_of_guard keeper name k block)
-guard_each keeper name k None = tt
-guard_each keeper name k (Some block) = (λ j. refl, tt)
+swept_each all k = swept_all (IsOf k) k (λ s j. refl) all
 
 -- The records of a keeper's try are its own.
 pub try_each : (f : Profile) (keeper : ℕ) (r : Request) (v : View) (guards : List Guard) (t : Tried) → IsTried f keeper r v guards t → EachOf keeper t.records
-try_each f keeper r v guards t is =
-    let events = records_of (events_by keeper (is.swept ++ v) is.raised) in
-    let said = said_of_guard keeper r.name (pages_of (wanted_by f r)) t.block in
-    subst (EachOf keeper) (sym is.records_are) (each_both keeper is.lowered (events ++ said) (swept_each false keeper guards is.left is.lowered is.swept is.sweep.swept)
-    (each_both keeper events said (events_of_piece keeper (is.swept ++ v) is.raised) (guard_each keeper r.name (pages_of (wanted_by f r)) t.block)))
+try_each f keeper r v guards t is = try_all (IsOf keeper) keeper (λ s j. refl) f r v guards t is (events_of_piece keeper (is.swept ++ v) is.raised)
 
 abbrev pub EachShown : List Record → Type 0
 EachShown = AllByRecursion CanShow
@@ -119,9 +117,9 @@ EachShown = AllByRecursion CanShow
 pub shown_both : (xs ys : List Record) → EachShown xs → EachShown ys → EachShown (xs ++ ys)
 shown_both xs ys a b = all_both CanShow xs ys a b
 
+-- by cases
 one_by : (t : Bool) (r : Record) (rs : List Record) → CanShow r → EachShown rs → EachShown (if t then r ∷ rs else rs)
-one_by true r rs one rest = (one, rest)
-one_by false r rs one rest = rest
+one_by t r rs one rest = search arith
 
 -- .. and so it is where they stand actor by actor
 each_by : (k : ℕ) (rs : List Record) → EachShown rs → EachShown (records_by k rs)
@@ -134,8 +132,7 @@ each_actors k (suc n) rs all = shown_both (records_by k rs) (by_actors (k + 1) n
 
 each_phases : (threads : ℕ) (since rs : List Record) → EachShown since → EachShown rs → EachShown (by_phases threads since rs)
 each_phases threads since [] a b = each_actors 0 (threads + 1) since a
-each_phases threads since (Record.Phase n ∷ rs) a b = shown_both (by_actors 0 (threads + 1) since) (Record.Phase n ∷ by_phases threads [] rs)
-    (each_actors 0 (threads + 1) since a) (tt, each_phases threads [] rs tt b.1)
+each_phases threads since (Record.Phase n ∷ rs) a b = let rest = each_phases threads [] rs tt b.1 in search (arith, rest, shown_both, each_actors)
 each_phases threads since (Record.Close ∷ rs) a b = shown_both (by_actors 0 (threads + 1) since) (Record.Close ∷ by_phases threads [] rs) (each_actors 0 (threads + 1) since a) (tt, each_phases threads [] rs tt b.1)
 each_phases threads since (Record.Event e ∷ rs) a b = each_phases threads (since ++ Record.Event e ∷ []) rs (shown_both since (Record.Event e ∷ []) a (b.0, tt)) b.1
 each_phases threads since (Record.Said k said ∷ rs) a b = each_phases threads (since ++ Record.Said k said ∷ []) rs (shown_both since (Record.Said k said ∷ []) a (b.0, tt)) b.1

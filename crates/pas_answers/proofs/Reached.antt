@@ -1,22 +1,18 @@
 -- Acts that were answered one after the other, in the whole and stage by stage: what they found on the list stays there, and each actor has its part of it.
-use Rattle.std.proofs.Common.{◌≡◌, ℕ, ◌==◌, Bool, true, false, if◌then◌else◌, List, [], ◌∷◌, ◌++◌, ap, ◌∙◌, refl, inl, inr, Option, Some, None, sym, subst}
+use Rattle.std.proofs.Common.{[], ◌≡◌, ℕ, ◌==◌, Bool, true, false, if◌then◌else◌, List, ◌∷◌, ◌++◌, ap, ◌∙◌, refl, inl, inr, Option, Some, None, sym, subst}
 use Rattle.std.proofs.Common.{append_assoc, MatchOption, ◌+◌, append-nil, map, eq-eqb, ◌≢◌, true≢false, length, arith, length-append, ◌<◌, ◌≤◌, ne_eqb}
-use Rattle.std.{proofs.lemmas.Bool.cases_eq, specs.List.AllByRecursion}
-use Rattle.pas_profile.specs.{declared.{profile.Profile.Profile, name.Block.Block, guard.Guard.Guard}, Profiles.IsValid}
-use Rattle.pas_steps.specs.{Views.View, Allowed.IsStepOf, Desks.{triples, made}, Agreement.{Agreed, Agrees}, Lists.{Whole, part, Legal, Triple}}
-use Rattle.pas_steps.{specs.declared.step.{Made.Made, Step.TheVariants.Tick}, proofs.Parts.{part_of_others, part_of_own, each_part}}
-use Rattle.pas_records.proofs.Showable.{AreOfRegion}
-use Rattle.pas_answers.specs.{Ways.{Way, InOrder, OnThreads, IsOneOrder}, Answers.{Progress, epoch_look, wanted_by}, Guarding.{after_trying, Tried, IsTried}}
-use Rattle.pas_answers.specs.{Phases.{AreInPhases, StandFirst, AtMark}, Fit.AreOfThreads, Reaching.{Reaches, AnswersTried, AnswersGuarded, Advances, AnswersOp}}
-use Rattle.pas_answers.specs.{Replays.{at_start, region_of, threads_of, keepers_of, phases_of, acts_of_plan, stages_of_plan}, Stages.{GoByStages, Owners}}
-use Rattle.pas_answers.{specs.Stages.{Stage, AreSorted, in_hands, one_by_one, phase_stages, stages_from, stages_of}, proofs.EachAct.{all_any, all_of_chore}}
-use Rattle.pas_answers.proofs.EachAct.{all_of_close, all_acts}
-use Rattle.pas_trace.specs.Acts.{Act, Operates, Guards, Settles, Ticks, MakesPass, ReadsEpoch, StopsIdle, MarksPhase, Wakes, MarksClose, Ends, Lowers}
-use Rattle.pas_trace.specs.Acts.{active_threads, idle_threads, acts_of_ops, phase_acts, close_acts, acts_from, acts_of, operation_in, act_kept, acts_of_work}
-use Rattle.pas_trace.specs.{Asked.{request_in, work_of, keeper_of}, EveryPlan.all_ops, declared.{item.Request.Request, plan.{Op.Op, Plan.Plan, Chore.Chore}}}
-use Rattle.pas_trace.specs.declared.plan.Work.{Work}
-use Rattle.pas_guard.{specs.Keepers.{MakesCalls, Call, IsKeeper}, proofs.Keepers.part_both}
-use Rattle.pas_cache.specs.Serves.{pages_of}
+use Rattle.pas_answers.proofs.Common.{cases_eq, AllByRecursion, Profile, Block, Guard, IsValid, View, IsStepOf, triples, made, Agreed, Whole, part, Legal, Made}
+use Rattle.pas_answers.proofs.Common.{Tick, part_of_others, part_of_own, AreOfRegion, Way, InOrder, OnThreads, IsOneOrder, Progress, epoch_look, wanted_by}
+use Rattle.pas_answers.proofs.Common.{after_trying, Tried, IsTried, AreInPhases, AreOfThreads, Reaches, AnswersTried, AnswersGuarded, Advances, at_start}
+use Rattle.pas_answers.proofs.Common.{region_of, threads_of, keepers_of, phases_of, acts_of_plan, stages_of_plan, GoByStages, Act, Operates, Guards, Settles}
+use Rattle.pas_answers.proofs.Common.{Ticks, MakesPass, ReadsEpoch, StopsIdle, MarksPhase, Wakes, MarksClose, Ends, Lowers, active_threads, idle_threads}
+use Rattle.pas_answers.proofs.Common.{acts_of_ops, phase_acts, close_acts, acts_from, acts_of, request_in, work_of, all_ops, Request, Op, Plan, Chore, Work}
+use Rattle.pas_answers.{proofs.{Common.{MakesCalls, pages_of}, EachAct.{all_any, all_of_chore, all_of_close, all_acts}}, specs.Answers.Books}
+use Rattle.pas_answers.specs.{Guarding.after_lowering, Phases.{StandFirst, AtMark}, Stages.{Owners, Stage, AreSorted, in_hands, one_by_one, phase_stages}}
+use Rattle.pas_answers.specs.Stages.{stages_from, stages_of}
+use Rattle.pas_steps.{specs.{Agreement.Agrees, Lists.Triple}, proofs.Parts.each_part}
+use Rattle.pas_trace.specs.{Acts.{operation_in, act_kept, acts_of_work}, Asked.keeper_of}
+use Rattle.pas_guard.{specs.Keepers.{Call, IsKeeper}, proofs.Keepers.part_both}
 use Rattle.pas_core.proofs.{Choosing.{part_of_chosen, steps_by_all}, Nexts.agreed_steps}
 
 -- Two lists that are one order of each actor's steps have the same part of each actor.
@@ -66,9 +62,6 @@ reach_both f (x ∷ xs) ys p q r one two = (one.0, one.1, reach_both f xs ys one
 list_of : {p q : Progress} → q ≡ p → q.list ≡ p.list
 list_of is = ap (λ (r : Progress). r.list) is
 
-names_of : {p q : Progress} → q ≡ p → q.names ≡ p.names
-names_of is = ap (λ (r : Progress). r.names) is
-
 -- pieces of steps, the newest first, each of one actor
 pub data Pieces : Type 0 where
   Done : Pieces
@@ -81,42 +74,81 @@ pieces_on (Before k steps earlier) l = triples k steps ++ pieces_on earlier l
 abbrev piece_of : ℕ → List Made → Pieces
 piece_of k steps = Before k steps Done
 
--- an act puts pieces onto it, and changes no name unless it is an operation
-abbrev PutsOn : Act → Progress → Progress → Type 0
-PutsOn act p q = (pieces : Pieces) × (q.list ≡ pieces_on pieces p.list) × MatchOption (operation_in act) (q.names ≡ p.names) (λ op. Unit {0})
+-- .. each of an actor of which this is so
+abbrev AreBy : (ℕ → Type 0) → Pieces → Type 0
+AreBy P Done = Unit {0}
+AreBy P (Before k steps earlier) = P k × AreBy P earlier
+
+-- the actors that make the steps of an act are so
+abbrev pub IsBy : (ℕ → Type 0) → Act → Type 0
+IsBy P (Operates op) = P op.actor
+IsBy P (Guards keeper op) = P keeper × P op.actor
+IsBy P (Settles k) = Unit {0}
+IsBy P (Ticks epoch) = P 0
+IsBy P MakesPass = P 0
+IsBy P ReadsEpoch = P 0
+IsBy P (StopsIdle k n) = P k
+IsBy P (MarksPhase n) = Unit {0}
+IsBy P (Wakes k) = P k
+IsBy P MarksClose = Unit {0}
+IsBy P (Ends k) = P k
+IsBy P (Lowers keeper) = P keeper
+
+-- the books are as they were, unless the act is one of a keeper
+abbrev SameBooks : Act → Progress → Progress → Type 0
+SameBooks (Guards keeper op) p q = Unit {0}
+SameBooks (Lowers keeper) p q = Unit {0}
+SameBooks act p q = q.books ≡ p.books
+
+-- an act puts pieces of its actors onto it, and changes no name unless it is an operation
+abbrev PutsOn : Act → Progress → Progress → Type 1
+PutsOn act p q = (pieces : Pieces) × (q.list ≡ pieces_on pieces p.list) × MatchOption (operation_in act) (q.names ≡ p.names)
+    (λ op. Unit {0}) × SameBooks act p q
+    × ((P : ℕ → Type 0) → IsBy P act → AreBy P pieces)
 
 -- .. a guarded request one of its keeper, and then, where that gave no block, one of its thread
 pub tried_on : (f : Profile) (op : Op) (r : Request) (block : Option Block) (p q : Progress) → AnswersTried f op r block p q
-    → (pieces : Pieces) × (q.list ≡ pieces_on pieces p.list)
-tried_on f op r (Some block) p q did = (Done, list_of did)
-tried_on f op r None p q did = (piece_of op.actor did.0.steps, list_of did.2)
+    → (pieces : Pieces) × (q.list ≡ pieces_on pieces p.list) × ((P : ℕ → Type 0) → P op.actor → AreBy P pieces)
+tried_on f op r (Some block) p q did = (Done, list_of did, λ P by. tt)
+tried_on f op r None p q did = (piece_of op.actor did.0.steps, list_of did.2, λ P by. (by, tt))
 
 pieces_both : (late early : Pieces) (l : Whole) → (both : Pieces) × (pieces_on both l ≡ pieces_on late (pieces_on early l))
-pieces_both Done early l = (early, refl)
-pieces_both (Before k steps earlier) early l = let rest = pieces_both earlier early l in (Before k steps rest.0, ap (λ (m : Whole). triples k steps ++ m) rest.1)
+    × ((P : ℕ → Type 0) → AreBy P late → AreBy P early → AreBy P both)
+pieces_both Done early l = (early, refl, λ P one two. two)
+pieces_both (Before k steps earlier) early l =
+    let rest = pieces_both earlier early l in
+    (Before k steps rest.0, ap (λ (m : Whole). triples k steps ++ m) rest.1, λ P one two. (one.0, rest.2 P one.1 two))
 
 guarded_on : (f : Profile) (keeper : ℕ) (op : Op) (o : Option Request) (p q : Progress) → AnswersGuarded f keeper op o p q
-    → (pieces : Pieces) × (q.list ≡ pieces_on pieces p.list)
+    → (pieces : Pieces) × (q.list ≡ pieces_on pieces p.list) × ((P : ℕ → Type 0) → P keeper × P op.actor → AreBy P pieces)
 guarded_on f keeper op None p q did = absurd did
 guarded_on f keeper op (Some r) p q did =
     let late = tried_on f op r did.0.block (after_trying p keeper did.0) q did.2 in
     let both = pieces_both late.0 (piece_of keeper did.0.steps) p.list in
-    (both.0, late.1 ∙ sym both.1)
+    (both.0, late.1 ∙ sym both.1, λ P by. both.2 P (late.2 P by.1) (by.0, tt))
 
 -- An act puts its pieces of steps onto the list, and changes nothing of it otherwise.
 pub put_on : (f : Profile) (act : Act) (p q : Progress) → Advances f act p q → PutsOn act p q
-put_on f (Operates op) p q did = (piece_of op.actor did.0.steps, list_of did.2, tt)
-put_on f (Guards keeper op) p q did = let on = guarded_on f keeper op (request_in op.what) p q did in (on.0, on.1, tt)
-put_on f (Settles k) p q did = (Done, list_of did, names_of did)
-put_on f (Ticks epoch) p q did = (piece_of 0 (made (Tick epoch) did.0 ∷ []), list_of did.1, names_of did.1)
-put_on f MakesPass p q did = (piece_of 0 did.2, list_of did.4, names_of did.4)
-put_on f ReadsEpoch p q did = (piece_of 0 (epoch_look did.0), list_of did.1, names_of did.1)
-put_on f (StopsIdle k n) p q did = elim did [ inl so ↦ (piece_of k so.1, list_of so.4, names_of so.4) | inr stays ↦ (Done, list_of stays.1, names_of stays.1) ]
-put_on f (MarksPhase n) p q did = (Done, list_of did, names_of did)
-put_on f (Wakes k) p q did = (piece_of k (epoch_look did.0), list_of did.1, names_of did.1)
-put_on f MarksClose p q did = (Done, list_of did, names_of did)
-put_on f (Ends k) p q did = (piece_of k did.0, list_of did.3, names_of did.3)
-put_on f (Lowers keeper) p q did = (piece_of keeper did.0, list_of did.3, names_of did.3)
+put_on f (Operates op) p q did = rw did.2 (piece_of op.actor did.0.steps, refl, tt, refl, λ P by. (by, tt))
+put_on f (Guards keeper op) p q did = let on = guarded_on f keeper op (request_in op.what) p q did in (on.0, on.1, tt, tt, on.2)
+put_on f (Settles k) p q did = rw did (Done, refl, refl, refl, λ P by. tt)
+put_on f (Ticks epoch) p q did = rw did.1 (piece_of 0 (made (Tick epoch) did.0 ∷ []), refl, refl, refl, λ P by. (by, tt))
+put_on f MakesPass p q did = rw did.4 (piece_of 0 did.2, refl, refl, refl, λ P by. (by, tt))
+put_on f ReadsEpoch p q did = rw did.1 (piece_of 0 (epoch_look did.0), refl, refl, refl, λ P by. (by, tt))
+put_on f (StopsIdle k n) p q did = elim did [
+  | inl so ↦ rw so.4 (piece_of k so.1, refl, refl, refl, λ P by. (by, tt))
+  | inr stays ↦ rw stays.1 (Done, refl, refl, refl, λ P by. tt)
+]
+put_on f (MarksPhase n) p q did = rw did (Done, refl, refl, refl, λ P by. tt)
+put_on f (Wakes k) p q did = rw did.1 (piece_of k (epoch_look did.0), refl, refl, refl, λ P by. (by, tt))
+put_on f MarksClose p q did = rw did (Done, refl, refl, refl, λ P by. tt)
+put_on f (Ends k) p q did = rw did.3 (piece_of k did.0, refl, refl, refl, λ P by. (by, tt))
+put_on f (Lowers keeper) p q did = rw did.3 (piece_of keeper did.0, refl, refl, tt, λ P by. (by, tt))
+
+-- Where none of the pieces is of an actor, its part stays.
+pieces_past : (P : ℕ → Type 0) (j : ℕ) → ((k : ℕ) → P k → k ≢ j) → (pieces : Pieces) (l : Whole) → AreBy P pieces → part j (pieces_on pieces l) ≡ part j l
+pieces_past P j other Done l by = refl
+pieces_past P j other (Before k steps earlier) l by = part_of_others j k steps (pieces_on earlier l) (other k by.0) ∙ pieces_past P j other earlier l by.1
 
 -- What a list keeps when steps are taken off it is so of the list before all the pieces of an act.
 pub pieces_back : (P : Whole → Type 0) → ((k : ℕ) (steps : List Made) (l : Whole) → P (triples k steps ++ l) → P l) → (pieces : Pieces) (l : Whole)
@@ -170,13 +202,12 @@ acts_one_by_one : (acts : List Act) → acts_in (one_by_one acts) ≡ acts
 acts_one_by_one [] = refl
 acts_one_by_one (act ∷ acts) = ap (λ (more : List Act). act ∷ more) (acts_one_by_one acts)
 
-acts_of_phase : (threads : ℕ) (ops : List Op) → acts_in (phase_stages threads ops) ≡ phase_acts threads ops
-acts_of_phase threads ops = ap (λ (acts : List Act). map Wakes (active_threads threads ops) ++ acts) (append-nil (acts_of_ops (idle_threads threads ops) ops))
-
 acts_behind_phase : (threads : ℕ) (ops : List Op) (ss : List Stage) (acts : List Act) → acts_in ss ≡ acts
     → acts_in (phase_stages threads ops ++ ss) ≡ phase_acts threads ops ++ acts
 acts_behind_phase threads ops ss acts is = acts_in_both (phase_stages threads ops) ss
-    ∙ (ap (λ (first : List Act). first ++ acts_in ss) (acts_of_phase threads ops) ∙ ap (λ (more : List Act). phase_acts threads ops ++ more) is)
+    ∙ (ap (λ (ops_acts : List Act). (map Wakes (active_threads threads ops) ++ ops_acts) ++ acts_in ss)
+    (append-nil (acts_of_ops (idle_threads threads ops) ops))
+    ∙ ap (λ (more : List Act). phase_acts threads ops ++ more) is)
 
 acts_of_stages_from : (threads keepers n : ℕ) (phases : List (List Op)) → acts_in (stages_from threads keepers n phases) ≡ acts_from threads keepers n phases
 acts_of_stages_from threads keepers n [] = acts_one_by_one (close_acts threads keepers)
@@ -236,61 +267,19 @@ sorted_part owner one other k same =
 -- ---- whose steps an act makes
 -- they are of actors in the hands of worker w
 abbrev pub IsHeldBy : Owners → ℕ → Act → Type 0
-IsHeldBy owner w (Operates op) = owner op.actor ≡ w
-IsHeldBy owner w (Guards keeper op) = (owner keeper ≡ w) × (owner op.actor ≡ w)
-IsHeldBy owner w (Settles k) = Unit {0}
-IsHeldBy owner w (Ticks epoch) = owner 0 ≡ w
-IsHeldBy owner w MakesPass = owner 0 ≡ w
-IsHeldBy owner w ReadsEpoch = owner 0 ≡ w
-IsHeldBy owner w (StopsIdle k n) = owner k ≡ w
-IsHeldBy owner w (MarksPhase n) = Unit {0}
-IsHeldBy owner w (Wakes k) = owner k ≡ w
-IsHeldBy owner w MarksClose = Unit {0}
-IsHeldBy owner w (Ends k) = owner k ≡ w
-IsHeldBy owner w (Lowers keeper) = owner keeper ≡ w
+IsHeldBy owner w act = IsBy (λ k. owner k ≡ w) act
 
 abbrev pub AreHeldBy : Owners → ℕ → List Act → Type 0
 AreHeldBy owner w acts = AllByRecursion (IsHeldBy owner w) acts
 
-part_is : (k : ℕ) {p q : Progress} → q ≡ p → part k q.list ≡ part k p.list
-part_is k is = ap (λ (r : Progress). part k r.list) is
-
 -- an actor in another's hands has no step of it
-module _ (f : Profile) (owner : Owners) (w j : ℕ) (other : owner j ≢ w) where
-  -- An actor in another's hands isn't this one.
-  apart : (k : ℕ) → owner k ≡ w → k ≢ j
-  apart k its same = other (sym (ap owner same) ∙ its)
-
-  put_by : (k : ℕ) (steps : List Made) (l : Whole) → owner k ≡ w → part j (triples k steps ++ l) ≡ part j l
-  put_by k steps l its = part_of_others j k steps l (apart k its)
-
-  tried_by : (op : Op) (r : Request) (block : Option Block) (p q : Progress) → owner op.actor ≡ w → AnswersTried f op r block p q
-      → part j q.list ≡ part j p.list
-  tried_by op r (Some block) p q its did = part_is j did
-  tried_by op r None p q its did = part_is j did.2 ∙ put_by op.actor did.0.steps p.list its
-
-  guarded_by : (keeper : ℕ) (op : Op) (o : Option Request) (p q : Progress) → owner keeper ≡ w → owner op.actor ≡ w → AnswersGuarded f keeper op o p q
-      → part j q.list ≡ part j p.list
-  guarded_by keeper op None p q kept its did = absurd did
-  guarded_by keeper op (Some r) p q kept its did = tried_by op r did.0.block (after_trying p keeper did.0) q its did.2 ∙ put_by keeper did.0.steps p.list kept
-
-  act_by : (act : Act) (p q : Progress) → IsHeldBy owner w act → Advances f act p q → part j q.list ≡ part j p.list
-  act_by (Operates op) p q its did = part_is j did.2 ∙ put_by op.actor did.0.steps p.list its
-  act_by (Guards keeper op) p q its did = guarded_by keeper op (request_in op.what) p q its.0 its.1 did
-  act_by (Settles k) p q its did = part_is j did
-  act_by (Ticks epoch) p q its did = part_is j did.1 ∙ put_by 0 (made (Tick epoch) did.0 ∷ []) p.list its
-  act_by MakesPass p q its did = part_is j did.4 ∙ put_by 0 did.2 p.list its
-  act_by ReadsEpoch p q its did = part_is j did.1 ∙ put_by 0 (epoch_look did.0) p.list its
-  act_by (StopsIdle k n) p q its did = elim did [ inl so ↦ part_is j so.4 ∙ put_by k so.1 p.list its | inr stays ↦ part_is j stays.1 ]
-  act_by (MarksPhase n) p q its did = part_is j did
-  act_by (Wakes k) p q its did = part_is j did.1 ∙ put_by k (epoch_look did.0) p.list its
-  act_by MarksClose p q its did = part_is j did
-  act_by (Ends k) p q its did = part_is j did.3 ∙ put_by k did.0 p.list its
-  act_by (Lowers keeper) p q its did = part_is j did.3 ∙ put_by keeper did.0 p.list its
-
-  acts_by : (acts : List Act) (p q : Progress) → AreHeldBy owner w acts → Reaches f acts p q → part j q.list ≡ part j p.list
-  acts_by [] p q its is = part_is j is
-  acts_by (act ∷ acts) p q its is = acts_by acts is.0 q its.1 is.2 ∙ act_by act p is.0 its.0 is.1
+acts_by : (f : Profile) (owner : Owners) (w j : ℕ) → owner j ≢ w → (acts : List Act) (p q : Progress) → AreHeldBy owner w acts → Reaches f acts p q
+    → part j q.list ≡ part j p.list
+acts_by f owner w j other [] p q its is = ap (λ (r : Progress). part j r.list) is
+acts_by f owner w j other (act ∷ acts) p q its is =
+    let on = put_on f act p is.0 is.1 in
+    let past = pieces_past (λ k. owner k ≡ w) j (λ k mine same. other (sym (ap owner same) ∙ mine)) on.0 p.list (on.4 (λ k. owner k ≡ w) its.0) in
+    acts_by f owner w j other acts is.0 q its.1 is.2 ∙ ap (part j) on.1 ∙ past
 
 -- so of what they put in front it has nothing
 nothing_more : (v w : List Made) → v ++ w ≡ w → v ≡ []
@@ -332,31 +321,6 @@ IsUpTo n (Wakes k) = k ≤ n
 IsUpTo n (Ends k) = k ≤ n
 IsUpTo n act = Unit {0}
 
--- .. not the keeper's
-abbrev IsApart : ℕ → Act → Type 0
-IsApart keeper (Operates op) = op.actor ≢ keeper
-IsApart keeper (Guards j op) = op.actor ≢ keeper
-IsApart keeper (StopsIdle k m) = k ≢ keeper
-IsApart keeper (Wakes k) = k ≢ keeper
-IsApart keeper (Ends k) = k ≢ keeper
-IsApart keeper act = 0 ≢ keeper
-
--- A thread isn't a keeper.
-below : (k n keeper : ℕ) → n < keeper → k ≤ n → k ≢ keeper
-below k n keeper lt le = λ same. omega (arith, lt, le, same)
-
-act_apart : (n keeper : ℕ) → n < keeper → (act : Act) → MatchOption (operation_in act) (Unit {0}) (λ op. op.actor ≤ n) → IsUpTo n act → IsApart keeper act
-act_apart n keeper lt (Operates op) of up = below op.actor n keeper lt of
-act_apart n keeper lt (Guards j op) of up = below op.actor n keeper lt of
-act_apart n keeper lt (StopsIdle k m) of up = below k n keeper lt up
-act_apart n keeper lt (Wakes k) of up = below k n keeper lt up
-act_apart n keeper lt (Ends k) of up = below k n keeper lt up
-act_apart n keeper lt act of up = below 0 n keeper lt (omega arith)
-
-acts_apart : (n keeper : ℕ) → n < keeper → (acts : List Act) → AreOfThreads n acts → AllByRecursion (IsUpTo n) acts → AllByRecursion (IsApart keeper) acts
-acts_apart n keeper lt [] of up = tt
-acts_apart n keeper lt (act ∷ acts) of up = (act_apart n keeper lt act of.0 up.0, acts_apart n keeper lt acts of.1 up.1)
-
 -- ---- the acts of a plan
 kept_up : (n : ℕ) (keeper : Option ℕ) (op : Op) → AllByRecursion (IsUpTo n) (act_kept keeper op ∷ (Settles op.actor ∷ []))
 kept_up n None op = (tt, (tt, tt))
@@ -365,12 +329,6 @@ kept_up n (Some keeper) op = (tt, (tt, tt))
 work_up : (n : ℕ) (idle : List ℕ) (op : Op) (work : Work) → AllByRecursion (λ j. j ≤ n) idle → AllByRecursion (IsUpTo n) (acts_of_work idle op work)
 work_up n idle op (Work.Own task) all = kept_up n (keeper_of task) op
 work_up n idle op (Work.Chore chore) all = all_of_chore (IsUpTo n) (λ j. j ≤ n) idle chore (λ epoch. tt) tt tt (λ k m le. le) all
-
-all_up : (n keepers : ℕ) (phases : List (List Op)) → AllByRecursion (IsUpTo n) (acts_of n keepers phases)
-all_up n keepers phases =
-    let close = all_of_close (IsUpTo n) n keepers tt (λ k le. le) (λ k. tt) in
-    let own = λ (idle : List ℕ) (op : Op) (within : AllByRecursion (λ j. j ≤ n) idle) (any : Unit {0}). work_up n idle op (work_of op.what) within in
-    all_acts (IsUpTo n) (λ op. Unit {0}) n keepers own (λ k le. le) (λ m. tt) close phases (all_any (all_ops phases))
 
 -- ---- a keeper's part
 abbrev HasCalls : Profile → ℕ → Progress → Type 0
@@ -384,21 +342,6 @@ has_still f keeper p q books list has = (
       (subst (λ (v : View). MakesCalls f keeper has.0 (p.books keeper) v) (sym list) has.1),
 )
 
--- neither steps nor a book changed
-book_of : (keeper : ℕ) {p q : Progress} → q ≡ p → q.books keeper ≡ p.books keeper
-book_of keeper is = ap (λ (r : Progress). r.books keeper) is
-
-part_of : (keeper : ℕ) {p q : Progress} → q ≡ p → part keeper q.list ≡ part keeper p.list
-part_of keeper is = ap (λ (r : Progress). part keeper r.list) is
-
--- .. or steps of another actor were made
-module _ (f : Profile) (keeper : ℕ) (p q after : Progress) (is : q ≡ after) (has : HasCalls f keeper p) where
-  all_still : after.books keeper ≡ p.books keeper → part keeper after.list ≡ part keeper p.list → HasCalls f keeper q
-  all_still books list = has_still f keeper p q (book_of keeper is ∙ books) (part_of keeper is ∙ list) has
-
-op_still : (f : Profile) (keeper : ℕ) (op : Op) (p q : Progress) → op.actor ≢ keeper → AnswersOp f op p q → HasCalls f keeper p → HasCalls f keeper q
-op_still f keeper op p q other did has = all_still f keeper p q _ did.2 has refl (part_of_others keeper op.actor did.0.steps p.list other)
-
 -- its own try
 own_tried : (f : Profile) (j : ℕ) (r : Request) (p : Progress) (t : Tried) → IsTried f j r (part j p.list) (p.books j) t → HasCalls f j p
     → HasCalls f j (after_trying p j t)
@@ -408,7 +351,7 @@ own_tried f j r p t is has =
     let made_so : MakesCalls f j calls t.guards (is.raised ++ (is.swept ++ v)) = (is.left, is.swept ++ v, is.raised, (p.books j, v, is.swept, has.1, is.sweep, refl), is.raise, refl) in
     let list : part j (after_trying p j t).list ≡ is.raised ++ (is.swept ++ v) = part_of_own j t.steps p.list ∙ ap (λ (ms : List Made). ms ++ v) is.steps_are ∙ append_assoc is.raised is.swept v in
     let book : (after_trying p j t).books j ≡ t.guards = ap (λ (b : Bool). if b then t.guards else p.books j) (eq-eqb j j refl) in
-    (calls, subst (λ (gs : List Guard). MakesCalls f j calls gs (part j (after_trying p j t).list)) (sym book) (subst (λ (w : View). MakesCalls f j calls t.guards w) (sym list) made_so))
+    (calls, rw (book, list) made_so)
 
 try_has : (f : Profile) (keeper j : ℕ) (r : Request) (p : Progress) (t : Tried) → IsTried f j r (part j p.list) (p.books j) t → HasCalls f keeper p
     → HasCalls f keeper (after_trying p j t)
@@ -417,56 +360,60 @@ try_has f keeper j r p t is has = elim (cases_eq j keeper) [
   | inr other ↦ has_still f keeper p (after_trying p j t) (ap (λ (b : Bool). if b then t.guards else p.books keeper) (ne_eqb keeper j (λ e. other (sym e)))) (part_of_others keeper j t.steps p.list other) has
 ]
 
-tried_has : (f : Profile) (keeper : ℕ) (op : Op) (r : Request) (block : Option Block) (p q : Progress) → op.actor ≢ keeper → AnswersTried f op r block p q
-    → HasCalls f keeper p → HasCalls f keeper q
-tried_has f keeper op r (Some block) p q other did has = all_still f keeper p q _ did has refl refl
-tried_has f keeper op r None p q other did has = op_still f keeper op p q other did has
-
-guarded_has : (f : Profile) (keeper j : ℕ) (op : Op) (o : Option Request) (p q : Progress) → op.actor ≢ keeper → AnswersGuarded f j op o p q
-    → HasCalls f keeper p → HasCalls f keeper q
-guarded_has f keeper j op None p q other did has = absurd did
-guarded_has f keeper j op (Some r) p q other did has = tried_has f keeper op r did.0.block (after_trying p j did.0) q other did.2 (try_has f keeper j r p did.0 did.1 has)
-
 -- its own last sweep
 lowered_has : (f : Profile) (keeper j : ℕ) (p q : Progress) → Advances f (Lowers j) p q → HasCalls f keeper p → HasCalls f keeper q
 lowered_has f keeper j p q did has =
-    let steps = did.0 in let said = did.1 in elim (cases_eq j keeper) [
+    let steps = did.0 in let said = did.1 in rw did.3 (elim (cases_eq j keeper) [
       | inl same ↦
           let own : HasCalls f j p = subst (λ (i : ℕ). HasCalls f i p) (sym same) has in
           let calls = Call.Sweep true said ∷ own.0 in
           let made_so : MakesCalls f j calls [] (steps ++ part j p.list) = (p.books j, part j p.list, steps, own.1, did.2.sweep, refl) in
-          let list : part j q.list ≡ steps ++ part j p.list = part_of j did.3 ∙ part_of_own j steps p.list in
-          let book : q.books j ≡ [] = book_of j did.3 ∙ ap (λ (b : Bool). if b then [] else p.books j) (eq-eqb j j refl) in
-          subst (λ (i : ℕ). HasCalls f i q) same (calls, subst (λ (gs : List Guard). MakesCalls f j calls gs (part j q.list)) (sym book) (subst (λ (w : View). MakesCalls f j calls [] w) (sym list) made_so))
-      | inr other ↦ all_still f keeper p q _ did.3 has (ap (λ (b : Bool). if b then [] else p.books keeper) (ne_eqb keeper j (λ e. other (sym e)))) (part_of_others keeper j steps p.list other)
-    ]
+          let book : (after_lowering p j steps said).books j ≡ [] = ap (λ (b : Bool). if b then [] else p.books j) (eq-eqb j j refl) in
+          subst (λ (i : ℕ). HasCalls f i (after_lowering p j steps said)) same (calls, rw (book, part_of_own j steps p.list) made_so)
+      | inr other ↦ has_still f keeper p (after_lowering p j steps said)
+          (ap (λ (b : Bool). if b then [] else p.books keeper) (ne_eqb keeper j (λ e. other (sym e)))) (part_of_others keeper j steps p.list other) has
+    ])
 
-act_has : (f : Profile) (keeper : ℕ) (act : Act) (p q : Progress) → IsApart keeper act → Advances f act p q → HasCalls f keeper p → HasCalls f keeper q
-act_has f keeper (MarksPhase n) p q apart did has = all_still f keeper p q _ did has refl refl
-act_has f keeper MarksClose p q apart did has = all_still f keeper p q _ did has refl refl
-act_has f keeper (Wakes k) p q apart did has = all_still f keeper p q _ did.1 has refl (part_of_others keeper k (epoch_look did.0) p.list apart)
-act_has f keeper (Operates op) p q apart did has = op_still f keeper op p q apart did has
-act_has f keeper (Guards j op) p q apart did has = guarded_has f keeper j op (request_in op.what) p q apart did has
-act_has f keeper (Settles k) p q apart did has = all_still f keeper p q _ did has refl refl
-act_has f keeper (Ticks asked) p q apart did has = all_still f keeper p q _ did.1 has refl (part_of_others keeper 0 (made (Tick asked) did.0 ∷ []) p.list apart)
-act_has f keeper MakesPass p q apart did has = all_still f keeper p q _ did.4 has refl (part_of_others keeper 0 did.2 p.list apart)
-act_has f keeper ReadsEpoch p q apart did has = all_still f keeper p q _ did.1 has refl (part_of_others keeper 0 (epoch_look did.0) p.list apart)
-act_has f keeper (StopsIdle k n) p q apart did has = search (arith, all_still, part_of_others)
-act_has f keeper (Ends k) p q apart did has = all_still f keeper p q _ did.3 has refl (part_of_others keeper k did.0 p.list apart)
-act_has f keeper (Lowers j) p q apart did has = lowered_has f keeper j p q did has
+-- the threads are so many, and the keeper stands behind them
+module _ (f : Profile) (n keeper : ℕ) (lt : n < keeper) where
+  -- An act of threads and the scavenger leaves its part and its book.
+  still : (act : Act) (p q : Progress) → Advances f act p q → IsBy (λ k. k ≤ n) act → q.books ≡ p.books → HasCalls f keeper p → HasCalls f keeper q
+  still act p q did by books has =
+      let on = put_on f act p q did in
+      let past = pieces_past (λ k. k ≤ n) keeper (λ k le same. omega (arith, lt, le, same)) on.0 p.list (on.4 (λ k. k ≤ n) by) in
+      has_still f keeper p q (ap (λ (bs : Books). bs keeper) books) (ap (part keeper) on.1 ∙ past) has
 
-acts_have : (f : Profile) (keeper : ℕ) (acts : List Act) (p q : Progress) → AllByRecursion (IsApart keeper) acts → Reaches f acts p q → HasCalls f keeper p
-    → HasCalls f keeper q
-acts_have f keeper [] p q apart is has = all_still f keeper p q p is has refl refl
-acts_have f keeper (act ∷ acts) p q apart is has = acts_have f keeper acts is.0 q apart.1 is.2 (act_has f keeper act p is.0 apart.0 is.1 has)
+  tried_has : (op : Op) (r : Request) (block : Option Block) (p q : Progress) → op.actor ≤ n → AnswersTried f op r block p q → HasCalls f keeper p
+      → HasCalls f keeper q
+  tried_has op r (Some block) p q le did has = rw did has
+  tried_has op r None p q le did has = still (Operates op) p q did le (ap (λ (s : Progress). s.books) did.2) has
+
+  guarded_has : (j : ℕ) (op : Op) (o : Option Request) (p q : Progress) → op.actor ≤ n → AnswersGuarded f j op o p q → HasCalls f keeper p → HasCalls f keeper q
+  guarded_has j op None p q le did has = absurd did
+  guarded_has j op (Some r) p q le did has = tried_has op r did.0.block (after_trying p j did.0) q le did.2 (try_has f keeper j r p did.0 did.1 has)
+
+  -- the actors of all other acts are so few
+  act_has : (act : Act) (p q : Progress) → MatchOption (operation_in act) (Unit {0}) (λ op. op.actor ≤ n) → IsUpTo n act → Advances f act p q
+      → HasCalls f keeper p → HasCalls f keeper q
+  act_has (Guards j op) p q of up did has = guarded_has j op (request_in op.what) p q of did has
+  act_has (Lowers j) p q of up did has = lowered_has f keeper j p q did has
+  act_has act p q of up did has = still act p q did (search arith) (put_on f act p q did).3 has
+
+  acts_have : (acts : List Act) (p q : Progress) → AreOfThreads n acts → AllByRecursion (IsUpTo n) acts → Reaches f acts p q → HasCalls f keeper p
+      → HasCalls f keeper q
+  acts_have [] p q of up is has = rw is has
+  acts_have (act ∷ acts) p q of up is has = acts_have acts is.0 q of.1 up.1 is.2 (act_has act p is.0 of.0 up.0 is.1 has)
 
 -- after the acts of a plan
 pub calls_alone : (f : Profile) (keeper threads keepers : ℕ) (phases : List (List Op)) (p q : Progress) → threads < keeper
     → AreOfThreads threads (acts_of threads keepers phases) → Reaches f (acts_of threads keepers phases) p q → p.list ≡ [] → p.books keeper ≡ []
     → (calls : List Call) × (guards : List Guard) × MakesCalls f keeper calls guards (part keeper q.list)
 calls_alone f keeper threads keepers phases p q lt of is none empty =
-    let acts = acts_of threads keepers phases in
-    let has = acts_have f keeper acts p q (acts_apart threads keeper lt acts of (all_up threads keepers phases)) is ([], (empty, ap (λ (l : Whole). part keeper l) none)) in
+    let close = all_of_close (IsUpTo threads) threads keepers tt (λ k le. le) (λ k. tt) in
+    let own = λ (idle : List ℕ) (op : Op) (within : AllByRecursion (λ j. j ≤ threads) idle) (any : Unit {0}).
+    work_up threads idle op (work_of op.what) within in
+    let up = all_acts (IsUpTo threads) (λ op. Unit {0}) threads keepers own (λ k le. le) (λ m. tt) close phases (all_any (all_ops phases)) in
+    let has = acts_have f threads keeper lt (acts_of threads keepers phases) p q of up is ([], (empty, ap (λ (l : Whole). part keeper l) none)) in
     (has.0, q.books keeper, has.1)
 
 -- ---- so it is a keeper, as the laws of guards speak of one

@@ -1,21 +1,15 @@
 -- What a single act changes and shows, whatever region it is done at.
-use Rattle.std.proofs.Common.{◌≡◌, ◌≢◌, ℕ, ◌+◌, ◌≤◌, ◌++◌, Bool, if◌then◌else◌, List, length, refl, ap, ◌∙◌, arith, true, false, [], ◌∷◌, reverse}
-use Rattle.std.proofs.Common.{length-append, eq-eqb, ne_eqb, sym, map, append-nil, Some, append_assoc, max, Option, None, option_and_then, ◌==◌, ◌||◌, subst}
-use Rattle.std.proofs.{Common.{◌/◌, ◌%◌, ◌^◌, ◌<◌}, lemmas.{List.{length-reverse, length-map, reverse-append}, Grind.flat_map-append}}
-use Rattle.pas_profile.specs.declared.{profile.Profile.Profile, event.{Event.Event, Outcome.{Outcome, TheVariants.{Unbacked, Bare, Young, InUse, NotOffered}}}}
-use Rattle.pas_profile.specs.{declared.{word.Word.Word, name.Block.Block}, Profiles.IsValid}
-use Rattle.pas_cache.specs.Caches.{Cached}
-use Rattle.pas_answers.specs.Answers.{Named, epoch_look, records_of, standing_for, block_of, Having, having, Answer, answer_of, named, IsRemadeBy, IsAnswered}
-use Rattle.pas_answers.specs.{Answers.{Caches, with_cache}, Calls.{IsKnown, IsBlockOf, MayStand, what_of, block_behind, IsMeant, named_by, AreKnown}}
-use Rattle.pas_answers.specs.{Calls.{named_with, freed_by}, Fit.{IsFitWhat, sum_over}, Indexes.{request_made, request_by}, PassRecords.record_of}
-use Rattle.pas_answers.specs.{PassRecords.{records_of_pass, event_in, events_in}, TicksAndPasses.{ticking, AnswersTick, AnswersPass}, Names.IsPackable}
-use Rattle.pas_answers.specs.Names.{MayPack}
-use Rattle.pas_trace.specs.{Acts.Act, EveryPlan.{asked_after, is_asked}, declared.plan.What.{What, TheVariants.{Free, FreeSized, Remake, Alloc, Guarded, Raw}}}
-use Rattle.pas_trace.specs.{declared.plan.{What.TheVariants.{RawSized, Stop, Flush}, Task.Task, Work.Work}, Asked.{work_of, request_of, of_task, freed_of}}
-use Rattle.pas_records.specs.declared.record.{Record.Record, Said.Said}
-use Rattle.pas_steps.specs.{Calls.Calls, Clear.HasNothing, Kinds.LookEpoch, Desks.{Standing, made, Makes}, Events.events_by, Views.View}
-use Rattle.pas_steps.{specs.declared.step.{Step.TheVariants.{Look, Tick}, Made.Made}, proofs.{Called.{call_none, call_step}, Calls.does_idly}}
-use Rattle.pas_steps.proofs.Nothing.{nothing_still}
+use Rattle.std.proofs.Common.{[], ◌≡◌, ◌≢◌, ℕ, ◌+◌, ◌≤◌, ◌++◌, Bool, if◌then◌else◌, List, length, refl, ap, ◌∙◌, arith, true, false, ◌∷◌, reverse}
+use Rattle.std.proofs.Common.{length-append, eq-eqb, ne_eqb, sym, map, append-nil, Some, append_assoc, max, Option, None, option_and_then, ◌==◌, ◌||◌}
+use Rattle.std.proofs.lemmas.{List.reverse-append, Grind.flat_map-append}
+use Rattle.pas_answers.proofs.Common.{length-reverse, length-map, Profile, Event, Outcome, Word, Block, IsValid, Cached, Named, epoch_look, records_of}
+use Rattle.pas_answers.proofs.Common.{standing_for, block_of, Having, Answer, named, IsAnswered, IsKnown, MayStand, what_of, block_behind, IsMeant, named_by}
+use Rattle.pas_answers.proofs.Common.{IsFitWhat, request_made, record_of, records_of_pass, Act, asked_after, What, Free, FreeSized, Remake, Alloc, Guarded}
+use Rattle.pas_answers.proofs.Common.{Task, Work, work_of, Request, Record, Said, Calls, HasNothing, LookEpoch, Standing, made, Look, Tick, call_none}
+use Rattle.pas_answers.specs.{Answers.{Caches, with_cache}, Calls.{AreKnown, named_with, freed_by}, Fit.sum_over, Indexes.request_by, PassRecords.event_in}
+use Rattle.pas_answers.specs.{PassRecords.events_in, TicksAndPasses.{ticking, AnswersTick, AnswersPass}, Names.MayPack}
+use Rattle.pas_trace.specs.{Asked.{request_of, of_task, freed_of}, EveryPlan.{asked_with, is_asked}}
+use Rattle.pas_steps.{specs.Desks.Makes, proofs.{Called.call_step, Calls.does_idly, Nothing.nothing_still}}
 use Rattle.pas_scavenger.{specs.{Pages.unback_of, Passes.{unbacks_in, Passes}}, proofs.Examinations.one_unback}
 
 -- ---- caches of which that of thread k became another
@@ -28,16 +22,12 @@ other_cache caches k j c ne = ap (λ (b : Bool). if b then c else caches j) (ne_
 
 -- A choice whose test holds is what it chooses then.
 pub if_same : (t : Bool) (c : ℕ) → t ≡ true → (if t then c else 0) ≡ c
-if_same true c is = refl
-if_same false c is = absurd (let bad : false ≡ true = is in cc)
+if_same t c is = search arith
 
 -- A name that a fitting operation frees or reallocates is one that stands for something.
 pub known_if : (f : Profile) (limit : ℕ) (asked : List ℕ) (names : List Named) (what : What) → IsFitWhat f limit asked what → AreKnown asked names
     → IsKnown names what
-known_if f limit asked names (Free name) fit known = known name fit.1.0
-known_if f limit asked names (FreeSized name room) fit known = known name fit.1.0
-known_if f limit asked names (Remake name old heap size align) fit known = known old fit.1.2
-known_if f limit asked names s fit known = tt
+known_if f limit asked names s fit known = search arith
 
 -- There are as many records of events as events.
 pub records_count : (es : List Event) → length (records_of es) ≡ length es
@@ -46,8 +36,7 @@ records_count es = length-map (reverse es) Record.Event ∙ length-reverse es
 -- A pass unbacks no more pages than it has outcomes.
 pub few_unbacks : (k epoch : ℕ) (pairs : List (ℕ × Outcome)) → length (unbacks_in k epoch pairs) ≤ length pairs
 few_unbacks k epoch [] = omega arith
-few_unbacks k epoch (x ∷ pairs) =
-    omega (arith, one_unback k epoch x.0 x.1, few_unbacks k epoch pairs, length-append (unback_of k epoch x.0 x.1) (unbacks_in k epoch pairs))
+few_unbacks k epoch (x ∷ pairs) = let rest = few_unbacks k epoch pairs in search (arith, rest, one_unback, length-append)
 
 -- One look at the epoch leaves an actor that has nothing with nothing.
 pub reads : {σ σ' : Standing} (epoch : ℕ) → Makes σ σ' (Look Word.Epoch) epoch → Calls σ σ' HasNothing (λ v w. HasNothing w) (epoch_look epoch)
@@ -61,12 +50,9 @@ sum_both cost (x ∷ xs) ys = let rest = sum_both cost xs ys in omega (arith, re
 
 -- ==== The events among the records of a pass are those of its steps.
 
+-- by cases
 one_event : (k epoch page : ℕ) (o : Outcome) → event_in (record_of k epoch page o) ≡ reverse (unback_of k epoch page o)
-one_event k epoch page Unbacked = refl
-one_event k epoch page Bare = refl
-one_event k epoch page (Young stamp) = refl
-one_event k epoch page (InUse word value) = refl
-one_event k epoch page NotOffered = refl
+one_event k epoch page o = search arith
 
 -- of the outcomes, which the events have the newest first
 outcomes_shown : (k epoch : ℕ) (found : List (ℕ × Outcome))
@@ -78,36 +64,26 @@ outcomes_shown k epoch (x ∷ found) =
     ∙ sym (ap (λ ps. reverse (unbacks_in k epoch ps)) (reverse-append one found) ∙ ap reverse (flat_map-append (λ (p : ℕ × Outcome). unback_of k epoch p.0 p.1) (reverse found) one)
     ∙ reverse-append (unbacks_in k epoch (reverse found)) (unbacks_in k epoch one) ∙ ap (λ es. reverse es ++ reverse (unbacks_in k epoch (reverse found))) (append-nil (unback_of k epoch x.0 x.1)))
 
--- The events among the records of a pass are those of its steps, in order.
-pass_shown : {σ σ' : Standing} {epoch : ℕ} {found : List (ℕ × Outcome)} (passes : Passes σ σ' epoch found) (v : View)
-    → events_in (records_of_pass σ.seat.actor epoch found) ≡ reverse (events_by σ.seat.actor v passes.steps)
-pass_shown {σ} {σ'} {epoch} {found} passes v = outcomes_shown σ.seat.actor epoch found ∙ ap reverse (sym (passes.order.events v))
-
 -- ==== A tick and a pass with their records.
 
 -- ---- a tick
-module _ {σ σ' : Standing} (asked answer : ℕ) (makes : Makes σ σ' (Tick asked) answer) where
-  -- A tick leaves nothing behind.
-  ticks : Calls σ σ' HasNothing (λ v w. HasNothing w) (made (Tick asked) answer ∷ [])
-  ticks = call_step (λ v w. HasNothing w) (call_none {R = λ v w. HasNothing w} (λ v met. met)) makes (λ v met is. tt)
-      (λ v met is agrees. nothing_still (does_idly σ.seat.profile ticking refl (made (Tick asked) answer ∷ []) v (refl, tt) (agrees, tt)) met)
-
-  -- A tick whose record was said is answered.
-  pub tick_answered : (epoch actor : ℕ) (before after : List Record) → epoch ≡ max answer asked → actor ≡ σ'.seat.actor
-      → after ≡ before ++ Record.Said actor (Said.Tick epoch) ∷ [] → AnswersTick asked σ σ' before after
-  tick_answered epoch actor before after raised own added = record {
-    answer = answer;
-    steps = made (Tick asked) answer ∷ [];
-    steps_are = refl;
-    few = refl;
-    calls = ticks;
-    kinds = (refl, tt);
-    silent = λ v. refl;
-    epoch = epoch;
-    raised = λ earlier. raised;
-    known = λ v. ap (λ e. Some e) (sym raised);
-    added = added ∙ ap (λ k. before ++ Record.Said k (Said.Tick epoch) ∷ []) (own ∙ ap (λ s. s.actor) makes.seat_is);
-  }
+-- whose record was said is answered
+pub tick_answered : {σ σ' : Standing} (asked answer : ℕ) → Makes σ σ' (Tick asked) answer → (epoch actor : ℕ) (before after : List Record)
+    → epoch ≡ max answer asked → actor ≡ σ'.seat.actor → after ≡ before ++ Record.Said actor (Said.Tick epoch) ∷ [] → AnswersTick asked σ σ' before after
+tick_answered {σ} asked answer makes epoch actor before after raised own added = record {
+  answer = answer;
+  steps = made (Tick asked) answer ∷ [];
+  steps_are = refl;
+  few = refl;
+  calls = call_step (λ v w. HasNothing w) (call_none {R = λ v w. HasNothing w} (λ v met. met)) makes (λ v met is. tt)
+      (λ v met is agrees. nothing_still (does_idly σ.seat.profile ticking refl (made (Tick asked) answer ∷ []) v (refl, tt) (agrees, tt)) met);
+  kinds = (refl, tt);
+  silent = λ v. refl;
+  epoch = epoch;
+  raised = λ earlier. raised;
+  known = λ v. ap (λ e. Some e) (sym raised);
+  added = added ∙ ap (λ k. before ++ Record.Said k (Said.Tick epoch) ∷ []) (own ∙ ap (λ s. s.actor) makes.seat_is);
+}
 
 -- ---- a pass
 pub pass_answered : {σ σ' epoch found : _} (spare spare' actor : ℕ) (listed : List (ℕ × Outcome)) (before marked after : List Record)
@@ -120,19 +96,14 @@ pass_answered {σ} {σ'} {epoch} {found} spare spare' actor listed before marked
   added = added ∙ ap (λ ps. marked ++ map (λ p. record_of actor epoch p.0 p.1) ps) same ∙ ap (λ rs. rs ++ map (λ p. record_of actor epoch p.0 p.1) found) mark
       ∙ append_assoc before (Record.Said actor (Said.Pass epoch) ∷ []) (map (λ p. record_of actor epoch p.0 p.1) found)
       ∙ ap (λ k. before ++ records_of_pass k epoch found) (own ∙ ap (λ s. s.actor) passes.calls.adds.seat_is);
-  shown = pass_shown passes;
+  shown = λ v. outcomes_shown σ.seat.actor epoch found ∙ ap reverse (sym (passes.order.events v));
   spare_is = fell;
 }
 
 -- An operation by what it asks for, and what the names that it frees or reallocates stand for, before it and after it.
-
--- it is the one that asks its thread for this
-same_own : {a b : Task} → Work.Own a ≡ Work.Own b → a ≡ b
-same_own is = cc
-
 -- An operation that is a thread's own task is the operation of that task.
 pub own_what : (what : What) (task : Task) → work_of what ≡ Work.Own task → what ≡ what_of task
-own_what what task is = search (arith, same_own)
+own_what what task is = search arith
 
 -- each case computes
 pub task_of : (task : Task) → work_of (what_of task) ≡ Work.Own task
@@ -171,58 +142,29 @@ one_more : (t : Bool) (block : Option Block) (rest : Option (Option Block)) (old
 one_more true block rest old known is = (block, refl)
 one_more false block rest old known is = known is
 
-same_names : (asked : List ℕ) {names names' : List Named} → names' ≡ names → AreKnown asked names → AreKnown asked names'
-same_names asked same known = subst (λ (ns : List Named). AreKnown asked ns) (sym same) known
-
--- a reallocation asks for its new name, which stands for this then
-remade_names : (f : Profile) (k name size align : ℕ) (o : Option (Option Block)) (b : Having) (a : Answer) → IsRemadeBy f k name size align o b a
-    → (came : Option Block) × (a.names ≡ named name came ∷ b.names)
-remade_names f k name size align o b a is = grind arith
-
--- After an operation was answered, each name that was asked for so far stands for something.
-pub known_after : (f : Profile) (k : ℕ) (what : What) (asked : List ℕ) (names names' : List Named) (v : View) (c c' : Cached) (steps : List Made)
-    (said : Option Said) (found : Option ℕ)
-    → IsAnswered f k what (having names v c) (answer_of steps said found names' c') → AreKnown asked names → AreKnown (asked_after what asked) names'
-known_after f k (Alloc name heap size align) asked names names' l c c' steps said found answered known = subst (λ (ns : List Named). AreKnown (name ∷ asked) ns)
-    (sym answered.names_are) (λ n is. one_more (name == n) (block_of answered.answer) (standing_for names n) (is_asked asked n) (known n) is)
-known_after f k (Guarded keeper name heap size align) asked names names' l c c' steps said found answered known = subst (λ (ns : List Named). AreKnown
-    (name ∷ asked) ns) (sym answered.names_are) (λ n is. one_more (name == n) (block_of answered.answer) (standing_for names n) (is_asked asked n) (known n) is)
-known_after f k (Free name) asked names names' l c c' steps said found answered known = same_names asked answered.1 known
-known_after f k (FreeSized name room) asked names names' l c c' steps said found answered known = same_names asked answered.1 known
-known_after f k (Raw block) asked names names' l c c' steps said found answered known = same_names asked answered.1 known
-known_after f k (RawSized room block) asked names names' l c c' steps said found answered known = same_names asked answered.1 known
-known_after f k (Remake name old heap size align) asked names names' l c c' steps said found answered known =
-    search (arith, remade_names, one_more)
-known_after f k Flush asked names names' l c c' steps said found answered known = same_names asked answered.2 known
-known_after f k Stop asked names names' l c c' steps said found answered known = same_names asked answered.2 known
-known_after f k what asked names names' l c c' steps said found answered known = absurd answered
-
--- the name that an operation asked for stands for what it came to
-pub known_more : (what : What) (came : Option Block) (asked : List ℕ) (names : List Named) → AreKnown asked names
-    → AreKnown (asked_after what asked) (named_by what came ++ names)
-known_more (Alloc name heap size align) came asked names known = λ n is. one_more (name == n) came (standing_for names n) (is_asked asked n) (known n) is
-known_more (Guarded keeper name heap size align) came asked names known = λ n is. one_more (name == n) came (standing_for names n) (is_asked asked n) (known n) is
-known_more (Remake name old heap size align) came asked names known = λ n is. one_more (name == n) came (standing_for names n) (is_asked asked n) (known n) is
-known_more what came asked names known = known
-
 -- a name that comes to stand for something is known, and so are those before it
 pub known_named : (name : ℕ) (came : Option Block) (asked : List ℕ) (names : List Named) → AreKnown asked names
     → AreKnown (name ∷ asked) (named name came ∷ names)
 known_named name came asked names known = λ n is. one_more (name == n) came (standing_for names n) (is_asked asked n) (known n) is
 
--- A block of the region may be packed.
-packs : (f : Profile) (block : Block) → IsValid f → IsBlockOf f block → IsPackable block
-packs f block valid of =
-    record {
-      first = omega (arith, of.region.page.0);
-      last = omega (arith, of.region.page.1, valid.pages);
-      aligned = of.region.aligned;
-      whole = of.room.0;
-      room = omega (arith, of.room.2, valid.pages);
-      turn = omega (arith, of.turn);
-    }
+-- the name that a request asked for, if there is one, stands for what it came to
+pub known_more : (request : Option Request) (came : Option Block) (asked : List ℕ) (names : List Named) → AreKnown asked names
+    → AreKnown (asked_with request asked) (named_with request came ++ names)
+known_more None came asked names known = known
+known_more (Some r) came asked names known = known_named r.name came asked names known
 
--- So may what a name may stand for.
+-- An answer has the name that its operation asks for, with what that came to, and the names before it.
+names_answered : (f : Profile) (k : ℕ) (what : What) (b : Having) (a : Answer) → IsAnswered f k what b a
+    → (came : Option Block) × (a.names ≡ named_by what came ++ b.names)
+names_answered f k (Alloc name heap size align) b a is = (block_of is.answer, is.names_are)
+names_answered f k (Guarded keeper name heap size align) b a is = (block_of is.answer, is.names_are)
+names_answered f k what b a is = grind arith
+
+-- After an operation was answered, each name that was asked for so far stands for something.
+pub known_after : (f : Profile) (k : ℕ) (what : What) (asked : List ℕ) (b : Having) (a : Answer) → IsAnswered f k what b a → AreKnown asked b.names
+    → AreKnown (asked_after what asked) a.names
+known_after f k what asked b a is known = search (arith, names_answered, known_more)
+
+-- What a name may stand for may be packed.
 pub may_pack : (f : Profile) (found : Option Block) → IsValid f → MayStand f found → MayPack found
-may_pack f None valid stands = tt
-may_pack f (Some block) valid stands = packs f block valid (stands block refl)
+may_pack f found valid stands = search arith

@@ -1,25 +1,22 @@
 -- What an operation adds to the records.
-use Rattle.std.proofs.Common.{◌≡◌, ℕ, ◌+◌, ◌<◌, ◌≤◌, ◌++◌, List, [], ◌∷◌, length, drop, Option, Some, None, ap, sym, ◌∙◌, subst, arith, length-append}
-use Rattle.std.proofs.Common.{append_assoc, append-nil, map, reverse, ◌*◌, ◌/◌, ◌%◌, Bool, true, false, ◌||◌, refl, true≢false, ◌-◌, ◌^◌}
-use Rattle.std.{proofs.{lemmas.{List.{length-reverse, length-map}, Option.same_Some}, Math.{Seq.drop-append_seam, Nat.zero-mod}}, specs.List.AllByRecursion}
-use Rattle.pas_profile.specs.declared.{event.Event.Event, name.Block.Block, directory.{Directory.Directory, Route.Route}, profile.Profile.Profile}
-use Rattle.pas_profile.{specs.{declared.guard.Guard.Guard, Blocks.{address_of, grain_of, length_of}, Classes.IsAlignment}, proofs.Lists.{all_both, all_map}}
-use Rattle.pas_steps.specs.{declared.step.{Made.Made, Step.{Step, TheVariants.Deed}}, Views.{View, KnowsDeed}, Events.{events_by, events_of}, Lists.Whole}
-use Rattle.pas_steps.specs.{Agreement.Agreed, Calls.Calls, Unknown.unknown_pages, Desks.{Standing, triples, CanCall, Seat, Adds}, Kinds.{Only, returning}}
-use Rattle.pas_steps.{specs.{Kinds.{kind_of, is_in}, Noted.ShowsRest}, proofs.{Frames.{events_append, events_split, knows_still}, Adding.agreed_first}}
-use Rattle.pas_steps.proofs.{Adding.agreed_later, Called.{call_then, next_call}, SpareRoom.{Spares, spare_falls}, Unknown.unknown_no_more, Noting.rest_more}
-use Rattle.pas_steps.proofs.{Apart.{no_events, events_same}, Events.{ComesOf, comes_of, each_event}, Past.always_pair}
-use Rattle.pas_trace.{specs.{declared.{plan.What.What, item.Request.Request}, Reasons.cost_of_size}, proofs.Costs.large_cost}
-use Rattle.pas_cache.{specs.{Caches.{Cached, AtRest}, Serves.{Wanted, wanted_for, pages_of, IsDeedOf, IsPreparing}}, proofs.Routes.{is_large, pages_asked}}
-use Rattle.pas_cache.proofs.Routes.{backs_only, deed_prepares}
-use Rattle.pas_answers.specs.{Answers.{records_of, said_by, wanted_by, IsGiven}, Calls.{PerformsMeant, IsBlockOf, MayStand, MayAnswer, AnswersMeant}}
-use Rattle.pas_answers.specs.{Guarding.{said_of_guard, try_steps, IsTried, TryEnds}, Keeping.{owed_by_keeper, MayTry, cost_of_try, TriesRequest, LowersAll}}
-use Rattle.pas_guard.{proofs.Raises.{raised_backs, raised_leaves, fits_find, raised_few}, specs.{Seeks.seeking, Raises.{RaiseSteps, IsRaised, RaiseRoom}}}
-use Rattle.pas_guard.specs.{Raises.Raises, Sweeps.{is_over, sweeping, SweptOne, Swept, SweepSteps, Sweeps}, Books.{FitsBook, guards_in, size_of_book}}
+use Rattle.std.proofs.Common.{[], ◌≡◌, ℕ, ◌+◌, ◌<◌, ◌≤◌, ◌++◌, List, ◌∷◌, length, drop, Option, Some, None, ap, sym, ◌∙◌, subst, arith, length-append}
+use Rattle.std.proofs.{Common.{append_assoc, append-nil, map, reverse, ◌*◌, ◌/◌, ◌%◌, Bool, true, false, refl, true≢false, ◌-◌, ◌^◌}, Math.Seq.drop-append_seam}
+use Rattle.std.proofs.Math.Nat.{zero-mod}
+use Rattle.pas_answers.proofs.Common.{length-reverse, length-map, same_Some, AllByRecursion, Event, Block, Directory, Route, Profile, Guard, address_of}
+use Rattle.pas_answers.proofs.Common.{grain_of, length_of, IsAlignment, all_both, all_map, Made, Step, View, KnowsDeed, events_by, Whole, Agreed, Calls}
+use Rattle.pas_answers.proofs.Common.{Standing, triples, CanCall, Seat, Only, returning, kind_of, is_in, events_append, agreed_first, agreed_later, call_then}
+use Rattle.pas_answers.proofs.Common.{next_call, Spares, spare_falls, unknown_no_more, What, Request, cost_of_size, large_cost, Cached, AtRest, Wanted}
+use Rattle.pas_answers.proofs.Common.{wanted_for, pages_of, is_large, pages_asked, records_of, said_by, wanted_by, IsGiven, PerformsMeant, IsBlockOf, MayStand}
+use Rattle.pas_answers.proofs.Common.{said_of_guard, raised_backs, raised_leaves, seeking, RaiseSteps, IsRaised, sweeping, SweptOne, Swept, SweepSteps}
+use Rattle.pas_answers.{proofs.Common.{large_directory, give_steps, records_in, room_of, Record, Said}, specs.Calls.{MayAnswer, AnswersMeant}}
+use Rattle.pas_answers.specs.{Guarding.TryEnds, Keeping.{owed_by_keeper, MayTry, cost_of_try, TriesRequest, LowersAll}}
+use Rattle.pas_steps.specs.{Unknown.unknown_pages, declared.step.Step.TheVariants.Deed, Events.events_of, Desks.Adds, Noted.ShowsRest}
+use Rattle.pas_steps.proofs.{Frames.{events_split, knows_still}, Noting.rest_more, Apart.{no_events, events_same}, Events.{ComesOf, comes_of, each_event}}
+use Rattle.pas_steps.proofs.Past.{always_pair}
+use Rattle.pas_cache.{specs.Serves.{IsDeedOf, IsPreparing}, proofs.Routes.{backs_only, deed_prepares}}
+use Rattle.pas_guard.{proofs.Raises.{fits_find, raised_few}, specs.{Raises.{RaiseRoom, Raises}, Sweeps.Sweeps, Books.{FitsBook, guards_in, size_of_book}}}
 use Rattle.pas_guard.specs.declared.book.GuardBook.{GuardBook}
-use Rattle.pas_scan.specs.Runs.{large_directory}
-use Rattle.pas_rights.specs.Gives.{give_steps}
-use Rattle.pas_records.specs.{Rooms.{records_in, room_of, Records}, declared.record.{Record.Record, Said.Said}}
+use Rattle.pas_records.specs.Rooms.{Records}
 use Rattle.pas_large.{proofs.{Finds.{of_directory, MadeOf}, Claims.{in_parts, span_in}, Gives.{run_is, back_events}}, specs.Claims.in_span}
 use Rattle.pas_bits.specs.Runs.{in_run}
 use Rattle.pas_bitfit.proofs.Aligned.{stands_aligned}
@@ -31,16 +28,11 @@ IsShown n σ shown = (v : View) (l : Whole) → σ.stands v l → ShowsRest n sh
 
 -- What a desk answers to be shown is shown by it.
 pub is_shown : (σ : Standing) {m n : ℕ} {told shown : List Event} → told ≡ shown → m ≡ n → IsShown m σ shown → IsShown n σ told
-is_shown σ {m} {n} {told} {shown} is same shows v l stood =
-    subst (λ k. ShowsRest k told (events_of σ.seat.actor v)) same (subst (λ es. ShowsRest m es (events_of σ.seat.actor v)) (sym is) (shows v l stood))
+is_shown σ {m} {n} {told} {shown} is same shows v l stood = search arith
 
 shown_more : {σ σ' : Standing} {C : View → Type 0} {steps : List Made} {n : ℕ} → Adds σ σ' C steps → (old new : List Event) → IsShown n σ old → IsShown n σ' new
     → (v : View) (l : Whole) → σ.stands v l → C v → new ≡ old ++ reverse (events_by σ.seat.actor v steps)
-shown_more {σ} {σ'} {C} {steps} {n} adds old new before after v l stood met =
-    let k = σ.seat.actor in
-    let next = after (steps ++ v) (triples k steps ++ l) (adds.added v l stood met) in
-    rest_more old new (events_of k v) (events_by k v steps) (before v l stood)
-    (subst (ShowsRest n new) (events_split k steps v) (subst (λ s. ShowsRest n new (events_of s.actor (steps ++ v))) adds.seat_is next))
+shown_more {σ} {σ'} {C} {steps} {n} adds old new before after v l stood met = search (arith, rest_more, events_split)
 
 -- the events of a call are those from the place on where the earlier ones ended
 shown_new : {σ σ' : Standing} {C : View → Type 0} {steps : List Made} {n : ℕ} → Adds σ σ' C steps → (old new : List Event) → IsShown n σ old
@@ -78,67 +70,47 @@ records_fit {σ} {σ'} {said} {c'} {n} what meant came c spare out old new can p
 pub said_fits : {said : Option Said} (k : ℕ) (out pushed : Records) (events : List Event) (message : Said) → said ≡ Some message
     → length (records_in out) + length events + length (said_by k said) ≤ room_of out
     → records_in pushed ≡ records_in out ++ map Record.Event events → room_of pushed ≡ room_of out → length (records_in pushed) < room_of pushed
-said_fits {said} k out pushed events message is fits added same =
-    let size = ap (λ (rs : List Record). length rs) added ∙ length-append (records_in out) (map Record.Event events) ∙ ap (λ n. length (records_in out) + n) (length-map events Record.Event) in
-    let one : length (said_by k said) ≡ 1 = ap (λ o. length (said_by k o)) is in
-    omega (arith, size, one, fits, same)
+said_fits {said} k out pushed events message is fits added same = search (arith, length, length-append, map, length-map)
 
--- nothing is said besides
-pub answers_silent : {σ σ' : Standing} {said : Option Said} {n : ℕ} (Named : Option ℕ → Type 0) (what : What) (meant came : Option Block) (c c' : Cached)
-    (out out' : Records) (old new : List Event)
-    → said ≡ None
-    → (performs : PerformsMeant what meant came c c' σ σ' said) → Named performs.found → IsShown n σ old → IsShown n σ' new
-    → records_in out' ≡ records_in out ++ map Record.Event (drop (length old) new) → room_of out' ≡ room_of out
+-- nothing is said besides, or this
+pub nothing_said : {said : Option Said} (k : ℕ) (rs out : List Record) → said ≡ None → out ≡ rs → out ≡ rs ++ said_by k said
+nothing_said k rs out is added = rw is (added ∙ sym (append-nil rs))
+
+-- What was said is what was to be said.
+pub this_said : {said : Option Said} (k actor : ℕ) (rs pushed out : List Record) (message : Said) → said ≡ Some message → actor ≡ k → pushed ≡ rs
+    → out ≡ pushed ++ Record.Said actor message ∷ [] → out ≡ rs ++ said_by k said
+this_said k actor rs pushed out message is own added last = rw (is, ← own, ← added) last
+
+-- An operation that was performed, and whose events and what is said came to the records, is answered.
+pub answers : {σ σ' : Standing} {said : Option Said} {n : ℕ} (Named : Option ℕ → Type 0) (what : What) (meant came : Option Block) (c c' : Cached)
+    (out out' : Records) (old new : List Event) (performs : PerformsMeant what meant came c c' σ σ' said)
+    → Named performs.found → IsShown n σ old → IsShown n σ' new
+    → records_in out' ≡ (records_in out ++ map Record.Event (drop (length old) new)) ++ said_by σ.seat.actor said → room_of out' ≡ room_of out
     → (did : AnswersMeant what meant came c c' out out' σ σ') × Named did.performs.found
-answers_silent {σ} {σ'} {said} {n} Named what meant came c c' out out' old new is performs named before after added room = (
+answers {σ} {said = said} Named what meant came c c' out out' old new performs named before after added room = (
   record {
     said = said;
     performs = performs;
-    pushed = λ v l stood rest. added ∙ ap (λ es. records_in out ++ map Record.Event es) (shown_new performs.calls.adds old new before after v l stood rest)
-        ∙ ap (λ rs. records_in out ++ rs) (sym (append-nil (records_of (events_by σ.seat.actor v performs.steps)))
-        ∙ ap (λ o. records_of (events_by σ.seat.actor v performs.steps) ++ said_by σ.seat.actor o) (sym is));
+    pushed = λ v l stood rest. added
+        ∙ ap (λ es. (records_in out ++ map Record.Event es) ++ said_by σ.seat.actor said) (shown_new performs.calls.adds old new before after v l stood rest)
+        ∙ append_assoc (records_in out) (records_of (events_by σ.seat.actor v performs.steps)) (said_by σ.seat.actor said);
     room = room;
   },
   named,
 )
-
--- this is said besides
-pub answers_said : {σ σ' : Standing} {said : Option Said} {n : ℕ} (Named : Option ℕ → Type 0) (what : What) (meant came : Option Block) (c c' : Cached)
-    (out pushed out' : Records) (old new : List Event) (message : Said) (actor : ℕ)
-    → said ≡ Some message → actor ≡ σ'.seat.actor
-    → (performs : PerformsMeant what meant came c c' σ σ' said) → Named performs.found → IsShown n σ old → IsShown n σ' new
-    → records_in pushed ≡ records_in out ++ map Record.Event (drop (length old) new) → room_of pushed ≡ room_of out
-    → records_in out' ≡ records_in pushed ++ Record.Said actor message ∷ [] → room_of out' ≡ room_of pushed
-    → (did : AnswersMeant what meant came c c' out out' σ σ') × Named did.performs.found
-answers_said {σ} {σ'} {said} {n} Named what meant came c c' out pushed out' old new message actor is actor_is performs named before after added same last room =
-    let own : actor ≡ σ.seat.actor = actor_is ∙ ap (λ s. s.actor) performs.calls.adds.seat_is in (
-      record {
-        said = said;
-        performs = performs;
-        pushed = λ v l stood rest.
-            let records = records_of (events_by σ.seat.actor v performs.steps) in
-            let first : records_in pushed ≡ records_in out ++ records = added ∙ ap (λ es. records_in out ++ map Record.Event es) (shown_new performs.calls.adds old new before after v l stood rest) in
-            last ∙ ap (λ k. records_in pushed ++ Record.Said k message ∷ []) own ∙ ap (λ rs. rs ++ said_by σ.seat.actor (Some message)) first
-            ∙ append_assoc (records_in out) records (said_by σ.seat.actor (Some message)) ∙ ap (λ o. records_in out ++ (records ++ said_by σ.seat.actor o)) (sym is);
-        room = room ∙ same;
-      },
-      named,
-    )
 
 -- ==== What a keeper's two calls come to for a request that it tries, and at the close.
 
 -- ---- a sweep
 one_count : (t : Bool) (k : ℕ) (guard : Guard) (first : List Made) (kept after : List Guard) (said more : List Record)
     → SweptOne t k guard first kept after said more → length said + length kept ≡ length more + length after + 1
-one_count true k guard first kept after said more h = let kept_is = ap (λ (gs : List Guard). length gs) h.1 in let said_is = ap (λ (rs : List Record). length rs) h.2 in omega (arith, kept_is, said_is)
-one_count false k guard first kept after said more h = let kept_is = ap (λ (gs : List Guard). length gs) h.1 in let said_is = ap (λ (rs : List Record). length rs) h.2 in omega (arith, kept_is, said_is)
+one_count t k guard first kept after said more h = search (arith, length)
 
 -- each guard stays up, or is said to be lowered
 pub swept_count : (all : Bool) (k : ℕ) (guards kept : List Guard) (said : List Record) (steps : List Made) → Swept all k guards kept said steps
     → length said + length kept ≡ length guards
 swept_count all k [] kept said steps h = let kept_is = ap (λ (gs : List Guard). length gs) h.0 in let said_is = ap (λ (rs : List Record). length rs) h.1 in omega (arith, kept_is, said_is)
-swept_count all k (guard ∷ guards) kept said steps h =
-    omega (arith, one_count (all || is_over guard h.0) k guard h.1 kept h.3 said h.4 h.5, swept_count all k guards h.3 h.4 h.2 h.6)
+swept_count all k (guard ∷ guards) kept said steps h = let rest = swept_count all k guards h.3 h.4 h.2 h.6 in search (arith, rest, one_count)
 
 -- .. and none where all are to go
 all_gone : (k : ℕ) (guards kept : List Guard) (said : List Record) (steps : List Made) → Swept true k guards kept said steps → kept ≡ []
@@ -202,17 +174,12 @@ module _ (f : Profile) (heap n : ℕ) (guards guards' : List Guard) (steps : Lis
   abbrev Raised : Option Block → Type 0
   Raised answer = RaiseSteps f heap n guards guards' answer steps
 
-  guards_more : (answer : Option Block) → Raised answer → length guards' ≡ length guards + more_guards answer
-  guards_more answer is = search (arith, length-append)
-
   -- ---- where it gave none
   none_is : (is : Raised None) → steps ≡ is.searched
   none_is is = is.steps_are ∙ ap (λ (xs : List Made). xs ++ is.searched) is.outcome.nothing
 
   none_ends : Raised None → (k : ℕ) (v : View) → FitsBook f guards v → Agreed f v steps → AllByRecursion (IsDeedOf d) (events_by k v steps)
-  none_ends is k v fits agreed =
-      let deeds = is.outcome.found.deeds v (fits_find f d guards v fits) (subst (Agreed f v) (none_is is) agreed) in
-      subst (λ (xs : List Made). AllByRecursion (IsDeedOf d) (events_by k v xs)) (sym (none_is is)) (deeds_sought d is.searched is.kinds (of_directory d (n + 2) _ is.searched deeds) k v)
+  none_ends is k v fits agreed = search (arith, fits_find, none_is, deeds_sought, of_directory)
 
   -- ---- where it gave a block
   module _ (block : Block) (is : Raised (Some block)) where
@@ -226,34 +193,20 @@ module _ (f : Profile) (heap n : ℕ) (guards guards' : List Guard) (steps : Lis
     some_is : steps ≡ up.left ++ (given ++ is.searched)
     some_is = is.steps_are ∙ ap (λ (xs : List Made). xs ++ is.searched) up.after_is ∙ append_assoc up.left given is.searched
 
-    before_give : (v : View) → Agreed f v steps → Agreed f v (given ++ is.searched)
-    before_give v agreed = agreed_later f v up.left (given ++ is.searched) (subst (Agreed f v) some_is agreed)
-
     events_are : (k : ℕ) (v : View) → events_by k v steps ≡ Event.Give k block ∷ (events_by k (is.searched ++ v) up.backs ++ events_by k v is.searched)
     events_are k v = ap (events_by k v) some_is ∙ events_same returning refl k v up.left (given ++ is.searched) (raised_leaves up)
         ∙ ap (λ (es : List Event). Event.Give k block ∷ es) (events_append k up.backs is.searched v)
 
     turn_small : (v : View) → Agreed f v steps → block.name.turn < 2 ^ 37
     turn_small v agreed =
-        omega (arith, ap (λ (b : Block). b.name.turn) up.block_is, (agreed_first f v given is.searched (before_give v agreed)).1.0.turn)
+        let all = agreed_later f v up.left (given ++ is.searched) (subst (Agreed f v) some_is agreed) in
+        omega (arith, ap (λ (b : Block). b.name.turn) up.block_is, (agreed_first f v given is.searched all).1.0.turn)
 
     page_is : address_of block.name ≡ (up.first + 1) * 4096
     page_is = ap (λ (b : Block). address_of b.name) up.block_is
 
     block_of_region : (v : View) → heap < f.heaps → 1 ≤ n → n ≤ f.pages → Agreed f v steps → IsBlockOf f block
     block_of_region v of some within agreed = search (arith, turn_small, page_is)
-
-    -- the pages of the block are known to have the directory as their deed
-    deeds_known : (v : View) → FitsBook f guards v → Agreed f v steps → (g : ℕ) → in_run (grain_of block.name) (length_of block) g ≡ true
-        → KnowsDeed (g / 256) d (steps ++ v)
-    deeds_known v fits agreed g inside =
-        let all = subst (Agreed f v) is.steps_are agreed in
-        let span = up.found.got.from v (fits_find f d guards v fits) (agreed_later f v is.after is.searched all) in
-        let page : in_span (up.first + 1) (up.first + 1 + n) (g / 256) ≡ true = sym (run_is d (up.first + 1) n up.word g) ∙ ap (λ (b : Block). in_run (grain_of b.name) (length_of b) g) (sym up.block_is) ∙ inside in
-        let at = in_parts (up.first + 1) (up.first + 1 + n) (g / 256) page in
-        let before = span.got.deeds (g / 256) (span_in up.first (up.first + (n + 2)) (g / 256) (omega (arith, at.0)) (omega (arith, at.1))) in
-        subst (λ (w : View). KnowsDeed (g / 256) d w) (sym (append_assoc is.after is.searched v) ∙ ap (λ (xs : List Made). xs ++ v) (sym is.steps_are))
-        (knows_still f d (g / 256) is.after (is.searched ++ v) (agreed_first f v is.after is.searched all) before)
 
     some_ends : (k align : ℕ) (v : View) → FitsBook f guards v → Agreed f v steps → address_of block.name % align ≡ 0
         → IsGiven k (record { directory = d; route = Route.Large; room = n * 4096; align = align }) v steps block
@@ -263,7 +216,14 @@ module _ (f : Profile) (heap n : ℕ) (guards guards' : List Guard) (steps : Lis
           room = ap (λ (b : Block). b.room) up.block_is;
           placed = omega (arith, page_is);
           aligned = aligned;
-          of_directory = deeds_known v fits agreed;
+          of_directory = λ g inside.
+              let all = subst (Agreed f v) is.steps_are agreed in
+              let span = up.found.got.from v (fits_find f d guards v fits) (agreed_later f v is.after is.searched all) in
+              let page : in_span (up.first + 1) (up.first + 1 + n) (g / 256) ≡ true = sym (run_is d (up.first + 1) n up.word g) ∙ ap (λ (b : Block). in_run (grain_of b.name) (length_of b) g) (sym up.block_is) ∙ inside in
+              let at = in_parts (up.first + 1) (up.first + 1 + n) (g / 256) page in
+              let before = span.got.deeds (g / 256) (span_in up.first (up.first + (n + 2)) (g / 256) (omega (arith, at.0)) (omega (arith, at.1))) in
+              subst (λ (w : View). KnowsDeed (g / 256) d w) (sym (append_assoc is.after is.searched v) ∙ ap (λ (xs : List Made). xs ++ v) (sym is.steps_are))
+              (knows_still f d (g / 256) is.after (is.searched ++ v) (agreed_first f v is.after is.searched all) before);
           before = events_by k (is.searched ++ v) up.backs ++ events_by k v is.searched;
           events = events_are k v;
           prepared = all_both (IsPreparing d) (events_by k (is.searched ++ v) up.backs) (events_by k v is.searched)
@@ -358,11 +318,10 @@ module _ {σ σ1 σ2 : Standing} (r : Request) (book book1 book2 : GuardBook) (o
   raise_so : RaiseSteps f r.heap n guards1 guards2 answer u.steps
   raise_so = subst (λ (x : Seat). RaiseSteps x.profile r.heap n guards1 guards2 answer u.steps) s.adds.seat_is u.raise
 
-  raise_call : Calls σ1 σ2 (FitsBook f guards1) (λ v w. FitsBook f guards2 w) u.steps
-  raise_call = subst (λ (x : Seat). Calls σ1 σ2 (FitsBook x.profile guards1) (λ v w. FitsBook x.profile guards2 w) u.steps) s.adds.seat_is (record { adds = u.adds; leads = u.raise.fits })
-
   both_call : Calls σ σ2 (FitsBook f (guards_in book)) (λ v w. FitsBook f guards2 w) steps
-  both_call = call_then (λ v w. FitsBook f guards2 w) (sweep_call s) raise_call (λ v met here. here) (λ v met here later. later)
+  both_call = call_then (λ v w. FitsBook f guards2 w) (sweep_call s) (subst (λ (x : Seat). Calls σ1 σ2 (FitsBook x.profile guards1)
+      (λ v w. FitsBook x.profile guards2 w) u.steps) s.adds.seat_is
+      (record { adds = u.adds; leads = u.raise.fits })) (λ v met here. here) (λ v met here later. later)
 
   -- after the sweep
   fits_then : (v : View) → FitsBook f (guards_in book) v → Agreed f v s.steps → FitsBook f guards1 (s.steps ++ v)
@@ -382,9 +341,6 @@ module _ {σ σ1 σ2 : Standing} (r : Request) (book book1 book2 : GuardBook) (o
   most_cost : (a : Option Block) → cost_of_raise n a ≤ cost_of_size r.size
   most_cost a = search (arith, cost_wanted)
 
-  few_both : (v : View) → Agreed f v steps → length (events_by k v steps) + unknown_pages f (steps ++ v) ≤ cost_of_size r.size + unknown_pages f v
-  few_both v agreed = search (arith, events_then, few_then, most_cost)
-
   -- what is said
   abbrev told : View → List Record
   told v = s.more ++ (records_of (events_by k (s.steps ++ v) u.steps) ++ said_of_guard k r.name (pages_of (wanted_by f r)) answer)
@@ -395,40 +351,14 @@ module _ {σ σ1 σ2 : Standing} (r : Request) (book book1 book2 : GuardBook) (o
   -- The records of a try and what its keeper owes afterwards are paid for.
   paid : (v : View) → Agreed f v steps
       → length (told v) + owed_by_keeper f guards2 (steps ++ v) ≤ cost_of_try r.size answer + owed_by_keeper f (guards_in book) v
-  paid v agreed =
-      let es = events_by k (s.steps ++ v) u.steps in
-      let guard = said_of_guard k r.name (pages_of (wanted_by f r)) answer in
-      let count = swept_count false k (guards_in book) guards1 s.more s.steps s.sweep.swept in
-      let more = guards_more f r.heap n guards1 guards2 u.steps answer raise_so in
-      let a = length-append s.more (records_of es ++ guard) in
-      let c : length (records_of es) ≡ length es = length-map (reverse es) Record.Event ∙ length-reverse es in
-      omega (arith, few_then v agreed, count, more, one_told answer (pages_of (wanted_by f r)), a, length-append (records_of es) guard, c)
-
-  is_tried : (v : View) → IsAlignment r.align → FitsBook f (guards_in book) v → Agreed f v steps
-      → IsTried f k r v (guards_in book) (record { steps = steps; records = told v; block = answer; guards = guards2 })
-  is_tried v alignment met agreed =
-      let first = agreed_later f v u.steps s.steps agreed in
-      record {
-        fits = met;
-        swept = s.steps;
-        left = guards1;
-        lowered = s.more;
-        sweep = s.sweep;
-        raised = u.steps;
-        raise = subst (λ (m : ℕ). RaiseSteps f r.heap m guards1 guards2 answer u.steps) (count_wanted f r n is large) raise_so;
-        ends = ends_by f k n r guards1 guards2 u.steps (s.steps ++ v) answer is large alignment raise_so (fits_then v met first) (agreed_first f v u.steps s.steps agreed);
-        steps_are = refl;
-        records_are = refl;
-      }
+  paid v agreed = search (arith, swept_count, length, raise_so, length-append, length-map, reverse, length-reverse, few_then, one_told)
 
   -- ---- the next calls
-  after_sweep : CanCall σ (FitsBook f (guards_in book)) → CanCall σ1 (FitsBook σ1.seat.profile guards1)
-  after_sweep can = next_call (sweep_call s) can (λ v met here. subst (λ (x : Seat). FitsBook x.profile guards1 (s.steps ++ v)) (sym s.adds.seat_is) here)
-
   -- After a raise a desk has shown no fewer events than before it.
   pub more_shown : {gone : ℕ} (old new : List Event) → IsShown gone σ1 old → IsShown gone σ2 new → CanCall σ (FitsBook f (guards_in book))
       → length old ≤ length new
-  more_shown {gone} old new before after can = shown_longer u.adds old new before after (after_sweep can)
+  more_shown {gone} old new before after can = shown_longer u.adds old new before after
+      (next_call (sweep_call s) can (λ v met here. subst (λ (x : Seat). FitsBook x.profile guards1 (s.steps ++ v)) (sym s.adds.seat_is) here))
 
   -- the events that are shown more are those of the raise
   shown_of : {gone : ℕ} (old new : List Event) → IsShown gone σ1 old → IsShown gone σ2 new → (v : View) (l : Whole) → σ.stands v l
@@ -475,18 +405,6 @@ module _ {σ σ1 σ2 : Standing} (r : Request) (book book1 book2 : GuardBook) (o
   pub said_none : (rs : List Record) → answer ≡ None → rs ≡ rs ++ said_of_guard k r.name (pages_of (wanted_by f r)) answer
   said_none rs none = sym (ap (λ (a : Option Block). rs ++ said_of_guard k r.name (pages_of (wanted_by f r)) a) none ∙ append-nil rs)
 
-  -- the keeper's records, in the order in which they came
-  told_are : {gone : ℕ} (out2 out3 : Records) (old new : List Event) → IsShown gone σ1 old → IsShown gone σ2 new
-      → records_in out2 ≡ records_in out1 ++ map Record.Event (drop (length old) new)
-      → records_in out3 ≡ records_in out2 ++ said_of_guard k r.name (pages_of (wanted_by f r)) answer → (v : View) (l : Whole) → σ.stands v l
-      → FitsBook f (guards_in book) v → records_in out3 ≡ records_in out ++ told v
-  told_are {gone} out2 out3 old new before after events last v l stood met =
-      let shown = shown_of old new before after v l stood met in search (arith, shown, append_assoc)
-
-  -- A try makes so many steps at most.
-  short : length steps ≤ try_steps f r (guards_in book)
-  short = search (arith, count_wanted, raise_so, length-append)
-
   -- A sweep and a raise after it, with what is said of both, are a keeper's try of a request.
   pub tries : {gone : ℕ} (out2 out3 : Records) (old new : List Event) → IsAlignment r.align → IsShown gone σ1 old → IsShown gone σ2 new
       → records_in out2 ≡ records_in out1 ++ map Record.Event (drop (length old) new)
@@ -495,9 +413,28 @@ module _ {σ σ1 σ2 : Standing} (r : Request) (book book1 book2 : GuardBook) (o
   tries {gone} out2 out3 old new alignment before after events last room size = record {
     steps = steps;
     calls = both_call;
-    short = short;
-    few = λ v met agreed. few_both v agreed;
-    tried = λ v l stood met. let agreed = both_agreed v l stood met in (told v, is_tried v alignment met agreed, told_are out2 out3 old new before after events last v l stood met, paid v agreed);
+    short = search (arith, count_wanted, raise_so, length-append);
+    few = λ v met agreed. search (arith, events_then, few_then, most_cost);
+    tried = λ v l stood met.
+        let agreed = both_agreed v l stood met in
+        let first = agreed_later f v u.steps s.steps agreed in
+        let shown = shown_of old new before after v l stood met in (
+          told v,
+          record {
+            fits = met;
+            swept = s.steps;
+            left = guards1;
+            lowered = s.more;
+            sweep = s.sweep;
+            raised = u.steps;
+            raise = subst (λ (m : ℕ). RaiseSteps f r.heap m guards1 guards2 answer u.steps) (count_wanted f r n is large) raise_so;
+            ends = ends_by f k n r guards1 guards2 u.steps (s.steps ++ v) answer is large alignment raise_so (fits_then v met first) (agreed_first f v u.steps s.steps agreed);
+            steps_are = refl;
+            records_are = refl;
+          },
+          search (arith, shown, append_assoc),
+          paid v agreed,
+        );
     room = room;
     size = size;
   }

@@ -1,35 +1,28 @@
 -- What each actor's turn needs and leaves: instances of the turn. What a door to plain indexes tells is said as the definition of a replay says it.
 use Rattle.std.proofs.Common.{arith, ◌≡◌, ℕ, List, [], ◌∷◌, ◌++◌, length, drop, take, Option, ap, sym, ◌∙◌, subst, refl, length-set, take_at, ◌-◌, ◌≤◌, ◌==◌}
 use Rattle.std.proofs.Common.{Bool, true, false, if◌then◌else◌, set, get_or, eq-eqb, append-nil, ◌≢◌, zero, suc, ◌+◌, ◌<◌, nat_le, Some, None, length-append}
-use Rattle.std.proofs.lemmas.Bool.{cases_eq, lt-leb}
-use Rattle.pas_large.specs.{Spans.added, Doors.{Indexes, found_in, cut_in, added_in, no_ranges}}
-use Rattle.pas_profile.specs.declared.{directory.Route.Route, event.Range.Range, profile.Profile.Profile, name.Block.Block, guard.Guard.Guard}
+use Rattle.pas_replay.proofs.Common.{cases_eq, lt-leb, Indexes, no_ranges, Profile, Guard, Op, What, Task, Work, Operates, Settles, acts_of_op, acts_of_work}
+use Rattle.pas_replay.proofs.Common.{Act, Guards, Lowers, work_of, keeper_of, cost_of_size, unlined, cached, Cached, ThreadCache, RestsAt, Moves, tries_of}
+use Rattle.pas_replay.proofs.Common.{AreKeptFor, Sits, here, and_for, ThreadActs, sits_for, Named, Progress, Caches, after_settling, Reaches, block_named}
+use Rattle.pas_replay.proofs.Common.{names_held, at_start, owed_by_keeper, AreAtRest, AllAreNamedBy, with_noted, indexes_after_all, MayStand, what_of, AreFit}
+use Rattle.pas_replay.proofs.Common.{cost_of_act, AreOfThreads, kept_costs_of, Names, EachShown, acts_shown, Hand, IsTaken, TakesSeat, Replay, Left, HasNames}
+use Rattle.pas_replay.proofs.Common.{IsAt, SoFar, upon, pass_in, Slots, rests_as, rests, owes, own_events, ActorStands, owed_of, owed_by, AreCaches, GoesBy}
+use Rattle.pas_replay.proofs.Common.{standing_of, PlainDesk, PlainPass, Legal, part, unknown_pages, View, FitsBook, guards_in, size_of_book, GuardBook}
+use Rattle.pas_replay.proofs.{Common.{records_in, room_of, Records, Record}, Turning.{somewhere, there_is, rest_one, rest_two, hand, still_named, AsksNoIndex}}
+use Rattle.pas_replay.proofs.Turning.{thread_now, later_for, thread_turn, all_rest, rest_first, goes_both, OthersKept, set_caches, book_is, place_is, set_books}
+use Rattle.pas_replay.proofs.Turning.{set_places, still_places, owed_moves, owed_at, keeper_owes, SitsAs, MovesAs, sits_now, turn, kept_by_moves, either_less}
+use Rattle.pas_replay.{proofs.Turning.{less_events, less_tries, said_more}, specs.{Operating.ActsByIndexes, Sessions.{HasNamed, own_acts_of}}}
+use Rattle.pas_answers.specs.{Fit.{own_cost_of_act, cost_of_what, kept_cost_of}, Answers.settled, Reaching.{AnswersTried, AnswersGuarded}, Keeping.cost_of_try}
+use Rattle.pas_answers.specs.{Indexes.{IsNamedFor, IsNamedBy, after_operation, after_tried, after_guarded, TriedIsNamedBy, GuardedIsNamedBy}, Calls.Tells}
+use Rattle.pas_answers.specs.{Calls.{AllMayStand, IsMeant, named_by, freed_by, AreKnown, named_with}, Guarding.{Tried, IsTried, after_trying, after_giving}}
+use Rattle.pas_answers.proofs.{SingleActs.{meant_by, meant_stands, known_more, if_same, known_if, its_cache, other_cache, named_task}, Consequences.tried_shown}
+use Rattle.pas_large.specs.{Spans.added, Doors.{found_in, cut_in, added_in}}
+use Rattle.pas_profile.specs.declared.{event.Range.Range, name.Block.Block}
 use Rattle.pas_free_log.specs.declared.noting.EndedRun.{EndedRun}
-use Rattle.pas_trace.specs.{declared.{item.Request.Request, plan.{Op.Op, What.What, Task.Task, Work.Work}}, Acts.{Operates, Settles, acts_of_op, acts_of_work}}
-use Rattle.pas_trace.specs.{Acts.{Act, Guards, Lowers, act_kept}, Asked.{work_of, request_in, request_of, keeper_of}, EveryPlan.asked_after}
-use Rattle.pas_trace.specs.{Reasons.cost_of_size, Codes.unlined}
-use Rattle.pas_cache.specs.{Calls.{IsNamed, SettlesEach}, Caches.{cached, Cached}, declared.cache.ThreadCache.ThreadCache}
-use Rattle.pas_acts.specs.{Turns.{RestsAt, Moves}, Tries.{tries_of, AreKeptFor}, Works.Sits, AtDesks.{GoesThrough, here, and_for, MayOperate, ThreadActs}}
-use Rattle.pas_acts.{specs.Keepers.{keeper_has, LaterKept, and_try, KeeperAt, KeeperTries, KeeperLowers}, proofs.AtDesk.{rests_for, sits_for, settled_rest}}
-use Rattle.pas_acts.proofs.AtDesk.{other_book}
-use Rattle.pas_answers.specs.{Answers.{Named, Progress, Caches, settled, after_settling}, Reaching.{Reaches, AnswersTried, AnswersGuarded}, Names.block_named}
-use Rattle.pas_answers.specs.{Names.names_held, Replays.at_start, Keeping.{owed_by_keeper, cost_of_try}, Rests.AreAtRest, Indexes.{request_by, IsNamedFor}}
-use Rattle.pas_answers.specs.Indexes.{IsNamedBy, AllAreNamedBy, after_request, after_operation, with_noted, indexes_after_all, after_tried, after_guarded}
-use Rattle.pas_answers.specs.{Indexes.{TriedIsNamedBy, GuardedIsNamedBy}, Calls.{Tells, AllMayStand, MayStand, IsMeant, named_by, freed_by, AreKnown, what_of}}
-use Rattle.pas_answers.specs.{Calls.named_with, Fit.{AreFit, cost_of_what, cost_of_act, own_cost_of_act, AreOfThreads, kept_cost_of, kept_costs_of}}
-use Rattle.pas_answers.{specs.{Guarding.{Tried, IsTried, after_trying, after_giving}, declared.names.Names.Names}, proofs.SingleActs.{meant_by, meant_stands}}
-use Rattle.pas_answers.proofs.{SingleActs.{known_more, if_same, known_if, its_cache, other_cache, named_task}, OwnRecords.EachShown, Consequences.acts_shown}
-use Rattle.pas_answers.proofs.Consequences.{tried_shown}
-use Rattle.pas_replay.specs.{Operating.ActsByIndexes, Sessions.{Hand, IsTaken, TakesSeat, Replay, Left, HasNames, IsAt, SoFar, upon, pass_in, Slots, rests_as}}
-use Rattle.pas_replay.specs.Sessions.{rests, owes_as, owes, own_events, ActorStands, records_owed_as, owed_of, owed_by, AreCaches, GoesBy, HasNamed}
-use Rattle.pas_replay.{specs.Sessions.own_acts_of, proofs.Turning.{somewhere, there_is, rest_one, rest_two, hand, still_named, AsksNoIndex, thread_now}}
-use Rattle.pas_replay.proofs.Turning.{later_for, thread_turn, all_rest, rest_first, goes_both, OthersKept, set_caches, book_is, place_is, set_books, set_places}
-use Rattle.pas_replay.proofs.Turning.{still_places, owed_moves, owed_at, keeper_owes, SitsAs, MovesAs, sits_now, turn, kept_by_moves, either_less, less_events}
-use Rattle.pas_replay.proofs.Turning.{less_tries, said_more}
-use Rattle.pas_plain.specs.{Seats.standing_of, declared.{desk.PlainDesk.PlainDesk, pass.PlainPass.PlainPass}}
-use Rattle.pas_steps.specs.{Lists.{Legal, part}, Unknown.unknown_pages, Views.View}
-use Rattle.pas_guard.specs.{Books.{FitsBook, guards_in, size_of_book}, declared.book.GuardBook.GuardBook}
-use Rattle.pas_records.specs.{Rooms.{records_in, room_of, Records}, declared.record.Record.Record}
+use Rattle.pas_trace.specs.{declared.item.Request.Request, Acts.act_kept, Asked.{request_in, request_of}, EveryPlan.asked_after}
+use Rattle.pas_cache.specs.Calls.{SettlesEach}
+use Rattle.pas_acts.specs.{AtDesks.{GoesThrough, MayOperate}, Keepers.{keeper_has, LaterKept, and_try, KeeperAt, KeeperTries, KeeperLowers}}
+use Rattle.pas_acts.proofs.AtDesk.{rests_for, settled_rest, other_book}
 
 -- doors of which each is to one vector of indexes
 module _ {Door : Type 0} (Kept : Door → Door → Type 0) (held : Door → Indexes) where
@@ -49,13 +42,9 @@ module _ {Door : Type 0} (Kept : Door → Door → Type 0) (held : Door → Inde
     kept_same : (before after : Door) → after ≡ before → Kept before after
     kept_same before after same = subst (Kept before) (sym same) (still before)
 
-    asked_on : (route : Route) (heap n : ℕ) (found : Option ℕ) (before after : Door) → IsNamed route (Answers before after heap n) (after ≡ before) found
-        → Kept before after × IsNamed route (λ o. o ≡ found_in (held before) heap n) (Unit {0}) found × (held after ≡ after_request route heap n (held before))
-    asked_on route heap n found before after h = grind (arith, kept_same)
-
     asked_for : (f : Profile) (request : Option Request) (found : Option ℕ) (before after : Door)
         → IsNamedFor f (Answers before after) (after ≡ before) request found → Asked f request found before after
-    asked_for f request found before after h = grind (arith, kept_same, asked_on)
+    asked_for f request found before after h = grind (arith, kept_same)
 
     -- Runs that a door was handed one by one are added to its indexes, in order.
     pub handed : (together : (a b c : Door) → Kept a b → Kept b c → Kept a c) (runs : List EndedRun) (before after : Door)
@@ -70,25 +59,12 @@ module _ {Door : Type 0} (Kept : Door → Door → Type 0) (held : Door → Inde
         → GoesThrough Answers HandsOn f op p q is before after
         → AllAreNamedBy f (held before) (Operates op ∷ (Settles op.actor ∷ [])) p q is × Kept before after
         × (held after ≡ indexes_after_all f (Operates op ∷ (Settles op.actor ∷ [])) p q is (held before))
-    went_through together f op p q is before after (next, named, settled) =
-        let asked = asked_for f (request_by p.names op.what) is.1.0.found before next named in
-        let later = handed together (is.0.caches op.actor).noted next after settled in
-        ((asked.named, (tt, tt)), together before next after asked.kept later.0, later.1 ∙ ap (λ ix. with_noted ix (is.0.caches op.actor).noted) asked.left)
+    went_through together f op p q is before after so = search (arith, asked_for, handed)
 
 -- ---- how many indexes there are
-request_many : (route : Route) (heap n : ℕ) (indexes : Indexes) → length (after_request route heap n indexes) ≡ length indexes
-request_many route heap n indexes = grind (arith, length-set)
-
-after_many : (f : Profile) (request : Option Request) (indexes : Indexes) → length (after_operation f request indexes) ≡ length indexes
-after_many f request indexes = grind (arith, request_many)
-
 noted_many : (runs : List EndedRun) (indexes : Indexes) → length (with_noted indexes runs) ≡ length indexes
 noted_many [] indexes = refl
 noted_many (run ∷ runs) indexes = let rest = noted_many runs (added_in indexes run.heap run.range) in grind (arith, rest, length-set)
-
-operated_many : (f : Profile) (op : Op) (p q : Progress) (is : Reaches f (Operates op ∷ (Settles op.actor ∷ [])) p q) (indexes : Indexes)
-    → length (indexes_after_all f (Operates op ∷ (Settles op.actor ∷ [])) p q is indexes) ≡ length indexes
-operated_many f op p q is indexes = search (arith, noted_many, after_many)
 
 -- a vector whose elements were all written back has what the indexes hold then
 pub noted_back : {indexes indexes' : Indexes} (items : Indexes) (many : ℕ) (runs : List EndedRun) → indexes ≡ items → length indexes ≡ many
@@ -105,7 +81,7 @@ written_back {f} {k} {op} {indexes} {indexes'} {p = p} items many is same acts =
     record {
       did = did;
       named = subst (λ (ix : Indexes). AllAreNamedBy f ix (Operates op ∷ (Settles op.actor ∷ [])) p did.reached did.reaches) is acts.named;
-      left = take_at indexes' _ many (ap (λ (ix : Indexes). length ix) acts.left ∙ operated_many f op p did.reached did.reaches indexes ∙ same) ∙ acts.left
+      left = take_at indexes' _ many (ap (λ (ix : Indexes). length ix) acts.left ∙ (search (arith, noted_many, length-set)) ∙ same) ∙ acts.left
           ∙ ap (λ (ix : Indexes). indexes_after_all f (Operates op ∷ (Settles op.actor ∷ [])) p did.reached did.reaches ix) is;
     }
 
@@ -164,9 +140,7 @@ may_operate {r} {op} {desk1 = desk1} {caches = caches} {table = table} {out} {p}
 pub has_named : {op : Op} {before after : Names} (task : Task) (came : Option Block) → op.what ≡ what_of task → names_held after ≡ names_held before
     → ((known : List Named) → Tells before known → Tells after (named_with (request_of task) came ++ known))
     → ((f : Profile) → AllMayStand f before → MayStand f came → AllMayStand f after) → HasNamed op came before after
-has_named {op} {after = after} task came asks held tells stand =
-    let same = named_task task came ∙ ap (λ (w : What). named_by w came) (sym asks) in
-    record { held = held; tells = λ known told. subst (λ (ns : List Named). Tells after (ns ++ known)) same (tells known told); stand = stand }
+has_named {op} {after = after} task came asks held tells stand = search (arith, named_task)
 
 -- An operation that a thread did at its seat takes the replay on, by what the indexes name.
 pub operate_turn : {r more : _} {op : Op} {desk desk1 desk2 passes passes1 caches books places indexes indexes' table table' out out' p : _} (k : ℕ)
@@ -188,7 +162,7 @@ operate_turn {r} {more} {op} {desk1 = desk1} {desk2} {caches = caches} {indexes 
       fit = subst (λ (limit : ℕ). AreFit r.profile limit (asked_after op.what names.asked) more.acts) (sym named.held) names.fit.2;
       tells = named.tells p.names names.tells;
       stand = named.stand r.profile names.stand stands;
-      known = known_more op.what came names.asked p.names names.known;
+      known = known_more (request_in op.what) came names.asked p.names names.known;
     })
     at.operate.1.1 at.keep.1.1 (omega arith) (sym (append-nil (records_in out'))) refl)
 
@@ -292,8 +266,7 @@ module _ {r : Replay} {left more desk0 desk desk' passes0 passes caches books pl
 
   -- .. and no more than all owed before
   owed_least : owed_by_keeper r.profile (guards_in there) (part k p.list) ≤ owed_by r.threads r.profile p (r.threads + r.keepers)
-  owed_least =
-      omega (arith, owed_at r.threads r.profile p k (r.threads + r.keepers) (omega (arith, past)) within, keeper_was)
+  owed_least = search (arith, owed_at, past, within, keeper_was)
 
   moves_so : MovesAs (nat_le k r.threads) r k desk desk' p q
   moves_so = search (arith, lt-leb)
@@ -395,8 +368,7 @@ not_guarded op task other = ap (λ (o : Option ℕ). act_kept o op ∷ (Settles 
 -- Its keeper is the one of the keepers that has the thread's place.
 pub its_place : {r : Replay} {op : Op} {h : Hand} {p : Progress} (k i : ℕ) (more : Left) → op.actor ≡ i → IsAt r (upon r (Guards k op ∷ []) more) h p
     → (k ≡ r.threads + i) × (1 ≤ i) × (i ≤ length h.books)
-its_place k i more mine at =
-    (omega (arith, at.keep.0.0, mine), omega (arith, mine, at.names.fit.2.0), omega (arith, mine, at.keep.0.1, at.kept))
+its_place k i more mine at = search arith
 
 -- the keeper of the thread at place i sits at the desk, and the thread's guarded request comes next
 module _ {r : Replay} {desk0 desk passes0 passes caches books places indexes table out p i there : _} {k name heap size align : ℕ} (op : Op) (more : Left)
@@ -470,7 +442,8 @@ module _ {r : Replay} {desk0 desk passes0 passes caches books places indexes tab
           fit = subst (λ (limit : ℕ). AreFit f limit (asked_after op.what names.asked) more.acts) (sym named.held) names.fit.4;
           tells = subst (λ (o : Option Request). Tells table' (named_with o (Some block) ++ p.names)) asked_is (named.tells p.names names.tells);
           stand = named.stand f names.stand (subst (λ (b : Option Block). MayStand f b) gave did.given);
-          known = subst (λ (o : Option Request). AreKnown (asked_after op.what names.asked) (named_with o (Some block) ++ p.names)) asked_is (known_more op.what (Some block) names.asked p.names names.known);
+          known = subst (λ (o : Option Request). AreKnown (asked_after op.what names.asked) (named_with o (Some block) ++ p.names)) asked_is
+              (known_more (request_in op.what) (Some block) names.asked p.names names.known);
         }) at.operate.1 at.keep.1
         (said_more r.told (records_in out) _ p.records did.tried.records at.records_are did.pushed) did.room (omega (arith, change, least, mine_was, did.stands.spare))
 
@@ -478,15 +451,6 @@ module _ {r : Replay} {desk0 desk passes0 passes caches books places indexes tab
 settled_as : (f : Profile) (kind : Bool) (c : Cached) (guards : List Guard) (v : View) → rests_as kind f c guards v → rests_as kind f (settled c) guards v
 settled_as f true c guards v rest = settled_rest v refl rest
 settled_as f false c guards v rest = rest
-
--- by the kind of actor
-owes_settled : (f : Profile) (kind : Bool) (c : Cached) (v : View) → owes_as kind f (settled c) v ≡ owes_as kind f c v
-owes_settled f a c v = search arith
-
--- by the kind of actor
-owed_settled : (f : Profile) (kind : Bool) (c : Cached) (guards : List Guard) (v : View)
-    → records_owed_as kind f (settled c) guards v ≡ records_owed_as kind f c guards v
-owed_settled f a c guards v = search arith
 
 module _ (threads : ℕ) (f : Profile) (p : Progress) (k : ℕ) where
   abbrev settling : Progress
@@ -500,12 +464,12 @@ module _ (threads : ℕ) (f : Profile) (p : Progress) (k : ℕ) where
   same_of of same j = search (arith, cases_eq, its_cache, other_cache)
 
   owes_then : (j : ℕ) (v : View) → owes threads f settling j v ≡ owes threads f p j v
-  owes_then j v = grind (arith, same_of, owes_settled)
+  owes_then j v = grind (arith, same_of)
 
   owed_then_by : (n : ℕ) → owed_by threads f settling n ≡ owed_by threads f p n
   owed_then_by zero = refl
   owed_then_by (suc n) =
-      let rest = owed_then_by n in grind (arith, rest, same_of, owed_settled)
+      let rest = owed_then_by n in grind (arith, rest, same_of)
 
   stands_then : {j : ℕ} {slot : Option PlainPass} (more : List Act) → ActorStands threads f j p slot (Settles k ∷ more)
       → ActorStands threads f j settling slot more

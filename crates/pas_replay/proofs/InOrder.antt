@@ -2,41 +2,31 @@
 use Rattle.std.proofs.Common.{◌≡◌, ℕ, ◌+◌, ◌-◌, ◌<◌, ◌≤◌, not, List, [], ◌∷◌, ◌++◌, map, length, drop, get_or, refl, ap, sym, ◌∙◌, subst, arith, Option, Bool}
 use Rattle.std.proofs.Common.{true, false, length-append, append_assoc, append-nil, None, Some, MatchOption, All, drop_at, zero, suc, ◌*◌, ◌/◌, nat_le}
 use Rattle.std.proofs.{Common.{if◌then◌else◌, inl, inr, slice_index, le-leb, reverse, slice_index_or, ◌==◌, ◌||◌}, lemmas.List.{drop_more, get_or-map}}
-use Rattle.std.proofs.{lemmas.{List.{length-map, Elements.All-drop}, Nat.mul-le, Bool.{cases_lt, lt-leb}, Option.same_Some}, Math.Nat.suc-mul}
-use Rattle.std.specs.List.{filter}
-use Rattle.pas_steps.specs.{Lists.{Legal, Whole, part, word_after}, Clear.HasNothing, States.{profile_of as the_profile_of, word_in}, Unknown.unknown_pages}
-use Rattle.pas_steps.{specs.Views.View, proofs.Nothing.nothing_yet}
-use Rattle.pas_profile.specs.{declared.{profile.Profile.Profile, word.Word.Word, guard.Guard.Guard}, Profiles.{IsValid, IsWordOf}, Rooms.EventRoom}
-use Rattle.pas_trace.specs.{declared.plan.{Op.Op, What.TheVariants.Alloc, Plan.Plan}, Acts.{Act, Wakes, Lowers, is_active, numbers_from, acts_of_op}}
-use Rattle.pas_trace.specs.{Acts.{acts_of_ops, phase_acts, MarksPhase, MarksClose, Ends, close_acts, acts_of}, EveryPlan.operations_of, Plans.IsPlanOf}
-use Rattle.pas_trace.{specs.{Plans.bounds_of, Codes.unlined, Scripts.without_lines}, proofs.Keepers.plan_actors}
-use Rattle.pas_answers.specs.{Answers.{Progress, with_records}, Reaching.Advances, Names.names_held, Ways.InOrder, Fit.{AreFit, cost_of_act, costs_of}}
-use Rattle.pas_answers.specs.{Fit.{AreOfThreads, own_costs_of, kept_costs_of}, Replays.{at_start, phases_of, region_of, threads_of, keepers_of, acts_of_plan}}
-use Rattle.pas_answers.{specs.{Replays.{empty_cache, Shows}, declared.names.Names.Names}, proofs.{OwnRecords.{EachShown, all_shown}, SingleActs.sum_both}}
-use Rattle.pas_answers.proofs.{Reached.{in_phases, plan_by_one_list}, Consequences.{acts_shown, replays, all_refuse, all_take}}
-use Rattle.pas_large.specs.Doors.{Indexes, no_ranges}
-use Rattle.pas_replay.specs.Sessions.{pass_in, HasNames, own_events, ActorStands, Replay, Left, Hand, GoesBy, IsAt, SoFar, costs_and, upon, Session, SoFarAt}
-use Rattle.pas_replay.specs.Sessions.{owed_by, session, telling, SeatStands, rests_as, owes_as, records_owed_as, AreEmpty, AreLowered, hand_of}
-use Rattle.pas_replay.specs.{Taking.{dearest, left_between, FewWait, Between, room_for_taker, room_between, Begins}, Kits.{IsFresh, IsKitOf, replay_of}}
-use Rattle.pas_replay.{specs.declared.{kit.PlainKit.PlainKit, seats.Actors.Actors}, proofs.Turning.{all_rest, still_places, owed_kept, op_costs, owed_most}}
-use Rattle.pas_replay.proofs.Turning.{AsksNoIndex, still_named, less_events, less_tries, other_stands, said_more}
-use Rattle.pas_plain.specs.{declared.pass.PlainPass.PlainPass, Plain.{profile_of, RegionStands, PassStands, pass_for, passes_from}}
-use Rattle.pas_bits.specs.{Masks.is_set, declared.mask.Mask4.Mask4}
-use Rattle.pas_acts.{specs.{Awake.{awake_in, idle_in}, PlanKeepers.guarded_of, Parts.AreRooms}, proofs.ActsLeft.{number_next, number_last, next_chosen}}
-use Rattle.pas_acts.proofs.{ActsLeft.{next_passed, none_left, threads_alike}, PlanFacts.{plan_operate, plan_fit, plan_own, plan_scavenger, plan_total}}
-use Rattle.pas_acts.proofs.PlanFacts.{plan_kept_own, plan_tries, plan_keeps, pages_owed_at_first, no_slots}
-use Rattle.pas_guard.specs.{Books.{FitsBook, is_outer}, declared.book.GuardBook.GuardBook}
-use Rattle.pas_cache.{specs.{Caches.{Cached, AtRest}, declared.cache.ThreadCache.ThreadCache}, proofs.FlushesAndFrees.rests_empty}
-use Rattle.pas_records.specs.{Rooms.{records_in, room_of, Records}, Lines.CanShow, declared.record.Record.Record}
+use Rattle.std.proofs.lemmas.{List.Elements.All-drop, Nat.mul-le}
+use Rattle.pas_replay.proofs.Common.{length-map, cases_lt, lt-leb, same_Some, suc-mul, filter, Legal, Whole, part, unknown_pages, View, Profile, Guard, Op}
+use Rattle.pas_replay.proofs.Common.{Plan, Act, Wakes, Lowers, is_active, numbers_from, acts_of_op, acts_of_ops, phase_acts, MarksPhase, MarksClose, Ends}
+use Rattle.pas_replay.proofs.Common.{acts_of, IsPlanOf, bounds_of, unlined, without_lines, Progress, Advances, names_held, InOrder, AreFit, cost_of_act}
+use Rattle.pas_replay.proofs.Common.{costs_of, AreOfThreads, own_costs_of, kept_costs_of, at_start, phases_of, region_of, threads_of, keepers_of, acts_of_plan}
+use Rattle.pas_replay.proofs.Common.{Shows, Names, EachShown, sum_both, acts_shown, Indexes, no_ranges, pass_in, HasNames, ActorStands, Replay, Left, Hand}
+use Rattle.pas_replay.proofs.Common.{GoesBy, IsAt, SoFar, upon, Session, SoFarAt, owed_by, session, telling, SeatStands, rests_as, owes_as, records_owed_as}
+use Rattle.pas_replay.proofs.Common.{hand_of, dearest, left_between, Between, Begins, IsKitOf, replay_of, Actors, PlainPass, profile_of, RegionStands}
+use Rattle.pas_replay.proofs.Common.{PassStands, is_set, Mask4, awake_in, idle_in, plan_operate, plan_fit, FitsBook, is_outer, Cached, AtRest, records_in}
+use Rattle.pas_replay.proofs.{Common.{room_of, Records, Record}, Turning.{all_rest, still_places, owed_kept, op_costs, owed_most, AsksNoIndex, still_named}}
+use Rattle.pas_replay.{proofs.Turning.{less_events, less_tries, other_stands, said_more}, specs.{Sessions.{costs_and, AreEmpty, AreLowered}, Taking.FewWait}}
+use Rattle.pas_replay.specs.{Taking.{room_for_taker, room_between}, Kits.IsFresh, declared.kit.PlainKit.PlainKit}
+use Rattle.pas_steps.{specs.{Lists.word_after, Clear.HasNothing, States.{profile_of as the_profile_of, word_in}}, proofs.Nothing.nothing_yet}
+use Rattle.pas_profile.specs.{declared.word.Word.Word, Profiles.{IsValid, IsWordOf}, Rooms.EventRoom}
+use Rattle.pas_trace.{specs.{declared.plan.What.TheVariants.Alloc, Acts.close_acts, EveryPlan.operations_of}, proofs.Keepers.plan_actors}
+use Rattle.pas_answers.{specs.{Answers.with_records, Replays.empty_cache}, proofs.{OwnRecords.all_shown, Reached.{in_phases, plan_by_one_list}}}
+use Rattle.pas_answers.proofs.Consequences.{replays, all_true}
+use Rattle.pas_plain.specs.Plain.{pass_for, passes_from}
+use Rattle.pas_acts.{specs.{PlanKeepers.guarded_of, Parts.AreRooms}, proofs.ActsLeft.{number_next, number_last, next_chosen, next_passed, none_left}}
+use Rattle.pas_acts.proofs.{ActsLeft.threads_alike, PlanFacts.{plan_own, plan_scavenger, plan_total, plan_kept_own, plan_tries, plan_keeps}}
+use Rattle.pas_acts.proofs.PlanFacts.{pages_owed_at_first, no_slots}
+use Rattle.pas_cache.proofs.FlushesAndFrees.{rests_empty}
+use Rattle.pas_records.specs.Lines.{CanShow}
 
 -- ---- marks
--- no actor has a hand in a mark
-still_stands : (threads : ℕ) (f : Profile) (k : ℕ) {slot : Option PlainPass} (p : Progress) (acts more : List Act) (mark : Record)
-    → own_events threads f k more ≤ own_events threads f k acts → ActorStands threads f k p slot acts
-    → ActorStands threads f k (with_records p (mark ∷ [])) slot more
-still_stands threads f k p acts more mark less st =
-    other_stands threads f p (with_records p (mark ∷ [])) {j = k} {k = k + 1} acts more [] (λ e. omega (arith, e)) refl refl refl refl less st
-
 -- A mark that was said takes the replay on, and the acts behind it come next.
 pub after_mark : {r : Replay} {more : Left} {act : Act} {T : Type 0} {h : Hand} (out' : Records) (mark : Record) → T × SoFar r (upon r (act ∷ []) more) h
     → ((p : Progress) → Advances r.profile act p (with_records p (mark ∷ []))) → cost_of_act r.profile.pages act ≡ 1
@@ -46,7 +36,8 @@ after_mark {r} {more} {act} {T} {h} out' mark (taken, (p, at)) advances one fit 
     let f = r.profile in
     let next = with_records p (mark ∷ []) in
     let each : (k : ℕ) → k ≤ f.threads → ActorStands r.threads f k next (pass_in h.passes k) more.acts
-    = λ k le. still_stands r.threads f k p (act ∷ more.acts) more.acts mark (less_events r.threads f (act ∷ []) more.acts k) (at.each k le) in
+    = λ k le. (other_stands r.threads f p (with_records p (mark ∷ [])) {j = k} {k = k + 1} (act ∷ more.acts) more.acts []
+    (λ e. omega (arith, e)) refl refl refl refl (less_events r.threads f (act ∷ []) more.acts k) (at.each k le)) in
     let known : HasNames f more.acts h.table next.names = still_named fit refl at.names in
     let places = still_places r.threads h.books (act ∷ more.acts) more.acts (less_tries (act ∷ []) more.acts) at.books_have in
     let said = said_more r.told (records_in h.out) (records_in out') p.records (mark ∷ []) at.records_are pushed in
@@ -96,10 +87,6 @@ upon_same r more same = ap (λ (xs : List Act). upon r xs more) same
 -- .. which stand before no acts
 upon_alike : (r : Replay) (acts acts' : List Act) (more : Left) → acts ++ [] ≡ acts' ++ [] → upon r acts more ≡ upon r acts' more
 upon_alike r acts acts' more same = upon_same r more (sym (append-nil acts) ∙ same ∙ append-nil acts')
-
--- .. where some come first, and others then
-upon_both : (r : Replay) (first acts : List Act) (more : Left) → upon r (first ++ acts) more ≡ upon r first (upon r acts more)
-upon_both r first acts more = left_same (append_assoc first acts more.acts) (costs_both r.profile first acts more.room)
 
 pub as_first : {r : Replay} {acts acts' : List Act} {T : Type 0} {h : Hand} (more : Left) → acts ≡ acts' → T × SoFar r (upon r acts more) h
     → T × SoFar r (upon r acts' more) h
@@ -159,12 +146,6 @@ module _ {r : Replay} {T : Type 0} {h : Hand} (i : ℕ) (more : Left) where
 abbrev pub past : Op
 past = record { line = 0; actor = 0; what = Alloc 0 0 0 0 }
 
--- Operations from one on are that operation, and then the others.
-at_next : (idle : List ℕ) (more : List Act) (ops : List Op) (i : ℕ) → i < length ops
-    → acts_of_ops idle (drop i ops) ++ more ≡ acts_of_op idle (get_or ops i past) ++ (acts_of_ops idle (drop (i + 1) ops) ++ more)
-at_next idle more ops i lt =
-    search (arith, drop_more, append_assoc)
-
 -- the phase begins: first its threads wake
 pub wakes_first : (threads : ℕ) (awake : Mask4) (ops : List Op) (more : List Act) → ((k : ℕ) → is_set awake k ≡ is_active ops k)
     → phase_acts threads ops ++ more ≡ map Wakes (awake_in awake threads) ++ (acts_of_ops (idle_in awake threads) ops ++ more)
@@ -183,8 +164,7 @@ as_so told room out at same size spare = search arith
 may_do : (waits : Option ℕ) (r : Replay) (s : Session) (acts more : List Act) → costs_of r.profile.pages acts ≤ dearest r.profile
     → Between waits r (acts ++ more) s
     → SoFarAt r (upon r acts (left_between waits r more)) s
-may_do None r s acts more cheap btw =
-    as_left (left_same refl (sum_both (cost_of_act r.profile.pages) acts more ∙ sym (costs_then r.profile acts (costs_of r.profile.pages more)))) btw.0
+may_do None r s acts more cheap btw = search (arith, as_left, left_same, sum_both, costs_then)
 may_do (Some most) r s acts more cheap ((taken, (p, at)), few) =
     let f = r.profile in
     let n = r.threads + r.keepers in
@@ -212,18 +192,13 @@ told_then waits r acts s first more btw = subst (λ (told : List Record). Betwee
 pub as_between : (waits : Option ℕ) (r : Replay) (s : Session) {acts acts' : List Act} → acts ≡ acts' → Between waits r acts s → Between waits r acts' s
 as_between waits r s same btw = subst (λ (xs : List Act). Between waits r xs s) same btw
 
--- by whether a number may wait
-few_then : (waits : Option ℕ) (r : Replay) (out out' : Records) → FewWait waits r out → MatchOption waits (Unit {0}) (λ most. length (records_in out') ≤ most)
-    → FewWait waits r out'
-few_then a r out out' few less = search arith
-
 -- Between two operations the taker takes the first of the records that wait.
 pub taken_on : (waits : Option ℕ) (r : Replay) (acts : List Act) (s : Session) (before : Records) (told first : List Record) (out : Records)
     → records_in s.out ≡ first ++ records_in out → room_of out ≡ room_of s.out → MatchOption waits (Unit {0}) (λ most. length (records_in out) ≤ most)
     → FewWait waits r before → SoFarAt (telling r told) (left_between waits r acts) s
     → Between waits (telling r (told ++ first)) acts (session s.desk s.actors s.table out)
 taken_on waits r acts s before told first out parts size less few (taken, (p, at)) =
-    search (arith, length-append, append_assoc, few_then)
+    search (arith, length-append, append_assoc)
 
 -- ---- the next operation
 -- Where operations from one on come next, there is room for that one.
@@ -234,7 +209,7 @@ pub op_next : (waits : Option ℕ) (r : Replay) (s : Session) (awake : Mask4) (o
 op_next waits r s awake ops more i lt btw =
     let idle = idle_in awake r.threads in
     let rest = acts_of_ops idle (drop (i + 1) ops) ++ more in
-    let now = as_between waits r s (at_next idle more ops i lt) btw in
+    let now = as_between waits r s (search (arith, drop_more, append_assoc)) btw in
     may_do waits r s (acts_of_op idle (get_or ops i past)) rest (op_costs awake (get_or ops i past) rest now.0.1.1) now
 
 -- The operation at a place of a phase is the one there of each list that is the phase's but for lines.
@@ -260,8 +235,7 @@ list_at said phases lists i item same lt is =
 
 pub list_in : {P : Type 0} (said : P → List Op) (phases : List P) (lists : List (List Op)) → map said phases ≡ without_lines lists
     → length lists ≡ length phases
-list_in said phases lists same =
-    sym (length-map lists (λ (ops : List Op). map unlined ops)) ∙ sym (ap (λ (xs : List (List Op)). length xs) same) ∙ length-map phases said
+list_in said phases lists same = search (arith, length-map, map, length)
 
 -- A thread is active among operations where it is without their lines.
 pub same_active : (ops : List Op) (k : ℕ) → is_active (map unlined ops) k ≡ is_active ops k
@@ -285,7 +259,8 @@ close_next waits r s btw =
     let last = none_costs f Lowers (λ k. refl) (numbers_from (r.threads + 1) r.keepers) in
     let now = as_between waits r s (sym (append-nil (MarksClose ∷ (ends ++ lowers)))) btw in
     let may = may_do waits r s (MarksClose ∷ (ends ++ lowers)) [] (omega (arith, sum_both (cost_of_act f.pages) ends lowers, first, last)) now in
-    as_left (ap (λ (left : Left). upon r (MarksClose ∷ []) left) (upon_both r ends lowers (left_between waits r []))) may
+    as_left (ap (λ (left : Left). upon r (MarksClose ∷ []) left) (left_same (append_assoc ends lowers (left_between waits r []).acts)
+    (costs_both r.profile ends lowers (left_between waits r []).room))) may
 
 -- ---- marks
 -- There is room for a mark that comes next.
@@ -344,8 +319,7 @@ all_owed f kind = grind (arith, pages_owed_at_first)
 
 owed_start : (threads : ℕ) (f : Profile) (n : ℕ) → owed_by threads f at_start n ≡ n * f.pages
 owed_start threads f zero = omega arith
-owed_start threads f (suc n) =
-    omega (arith, all_owed f (nat_le (suc n) threads), owed_start threads f n, suc-mul n f.pages)
+owed_start threads f (suc n) = let rest = owed_start threads f n in search (arith, rest, all_owed, nat_le, suc-mul)
 
 -- the room suffices for all that the actors owe at first, and for what is to come between two operations
 suffices : (waits : Option ℕ) {text : List ℕ} (plan : Plan) (room : ℕ) → IsPlanOf text plan → room_for_taker waits plan ≤ room
@@ -353,11 +327,6 @@ suffices : (waits : Option ℕ) {text : List ℕ} (plan : Plan) (room : ℕ) →
 suffices None plan room read enough = let total = plan_total read in omega (arith, total, enough)
 suffices (Some most) plan room read enough =
     search (arith, mul-le)
-
--- by whether a number may wait
-few_at_first : (waits : Option ℕ) (plan : Plan) (out : Records) → records_in out ≡ [] → room_for_taker waits plan ≤ room_of out
-    → FewWait waits (replay_of plan (room_of out)) out
-few_at_first a plan out empty enough = search arith
 
 -- A replay starts at the kit of its plan, with nothing said and all its acts to come.
 pub start : (waits : Option ℕ) {text : List ℕ} {plan : Plan} {kit : PlainKit} {out : Records} {phases : List (List Op)} → phases ≡ phases_of plan
@@ -406,16 +375,13 @@ start waits {text} {plan} {kit} {out} phases read made empty room =
           answers = λ q goes. subst (λ (ix : Indexes). GoesBy (threads_of plan) (region_of plan) ix (acts_of_plan plan) at_start q) made.indexes goes;
         },
       ),
-      few_at_first waits plan out empty room,
+      search arith,
     )
 
--- The first of the caches, of which there is one at least.
-some_cache : (caches : List ThreadCache) → 1 ≤ length caches → ThreadCache
-some_cache caches h = grind arith
-
-some_book : (books : List GuardBook) → 1 ≤ length books → GuardBook
-some_book [] bad = absurd (omega (arith, bad))
-some_book (book ∷ books) some = book
+-- the first of a list, of which there is one at least
+first_of : {A : Type 0} (xs : List A) → 1 ≤ length xs → A
+first_of [] bad = absurd (omega (arith, bad))
+first_of (x ∷ xs) some = x
 
 module _ {r : Replay} {left : Left} {h : Hand} (so : SoFar r left h) (empty : AreEmpty h.caches) (lowered : AreLowered h.books) where
   -- a thread has no local allocator, and a keeper no guard
@@ -423,7 +389,7 @@ module _ {r : Replay} {left : Left} {h : Hand} (so : SoFar r left h) (empty : Ar
   bare_thread i most =
       let p = so.0 in
       let within : i < length h.caches = omega (arith, most, so.1.many) in
-      let d = some_cache h.caches (omega (arith, within)) in
+      let d = first_of h.caches (omega (arith, within)) in
       let rest = subst (λ (kind : Bool). rests_as kind r.profile (p.caches (suc i)) (p.books (suc i)) (part (suc i) p.list)) (le-leb (suc i) r.threads most)
       (so.1.each (suc i) (omega (arith, most, so.1.threads))).rest in
       let none = no_slots (p.caches (suc i)).locals (ap (λ (c : Cached). c.locals) (so.1.caches_are i d within) ∙ empty i d within) in
@@ -433,7 +399,7 @@ module _ {r : Replay} {left : Left} {h : Hand} (so : SoFar r left h) (empty : Ar
   bare_keeper i j place most =
       let p = so.0 in
       let within : j < length h.books = omega (arith, most, so.1.kept) in
-      let d = some_book h.books (omega (arith, within)) in
+      let d = first_of h.books (omega (arith, within)) in
       let fits = subst (λ (kind : Bool). rests_as kind r.profile (p.caches (suc i)) (p.books (suc i)) (part (suc i) p.list))
       (lt-leb (suc i) r.threads (omega (arith, place))) (so.1.each (suc i) (omega (arith, place, most, so.1.threads))).rest in
       let none = ap p.books place ∙ so.1.books_are j d within ∙ lowered j d within in
@@ -465,12 +431,12 @@ shows waits told room {plan} {region} actors table {out} {state} limit valid thr
     let legal = subst (λ (f : Profile). Legal f p.list) at.profile_is at.stands.legal in
     let all = at.answers p ((refl, tt), all_rest at) in
     let answers = all.0.0 in
+    let true_ones = all_true (region_of plan) limit [] (acts_of_plan plan) at_start p valid fit legal answers in
     record {
       whole = p.list;
       replay = replays InOrder plan p p.list (told ++ records_in out) valid answers refl (in_phases (region_of plan)
           (acts_of_plan plan) at_start p answers p.list ([], refl)) (plan_by_one_list plan p answers) at.records_are legal (bare_at so empty lowered)
-          (all_refuse (region_of plan) limit [] (acts_of_plan plan) at_start p valid fit legal answers)
-          ((all.0.1, all_take (region_of plan) (acts_of_plan plan) at_start p valid legal answers), all.1) threads;
+          true_ones.0 ((all.0.1, true_ones.1), all.1) threads;
       profile = profile ∙ at.profile_is;
       words = λ w of. words p.list at.stands w (subst (λ (f : Profile). IsWordOf f w) (sym at.profile_is) of);
     }
@@ -491,10 +457,6 @@ pass_at n k [] d r bad = absurd (omega (arith, bad))
 pass_at n zero (room ∷ rooms) d r lt = ap (λ j. pass_for j room) (omega arith)
 pass_at n (suc k) (room ∷ rooms) d r lt = pass_at (n + 1) k rooms d r (omega (arith, lt)) ∙ ap (λ j. pass_for j (slice_index_or rooms k r)) (omega arith)
 
-first_room : (rooms : List EventRoom) → 1 ≤ length rooms → EventRoom
-first_room [] bad = absurd (omega (arith, bad))
-first_room (room ∷ rooms) some = room
-
 -- the actors, whose passes have the rooms, did nothing yet
 pub fresh_actor : (plan : Plan) (sizes : ℕ → Option ℕ) (count : ℕ) (rooms : List EventRoom) (passes : List PlainPass) (places : List (Option PlainPass))
     → AreRooms sizes count rooms → ((k : ℕ) → k < count → sizes k ≡ Some (slice_index (bounds_of plan.bounds) k))
@@ -504,7 +466,7 @@ fresh_actor plan sizes count rooms passes places are bounds is stand placed k lt
     let all = are.many in
     let same = ap (λ (ps : List PlainPass). length ps) is in
     let long = passes_count 0 rooms in
-    let r = first_room rooms (omega (arith, lt, all)) in
+    let r = first_of rooms (omega (arith, lt, all)) in
     let room = slice_index_or rooms k r in
     let pass = pass_for k room in
     let at : slice_index_or passes k pass ≡ pass = ap (λ (ps : List PlainPass). slice_index_or ps k pass) is ∙ pass_at 0 k rooms pass r (omega (arith, lt, all)) ∙ ap (λ (j : ℕ). pass_for j room) (omega arith) in

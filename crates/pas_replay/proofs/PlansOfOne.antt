@@ -1,18 +1,16 @@
 -- The bounds of a plan say whether it is of one thread: the acts of such a plan are that thread's, and its records are written in the same order in both ways.
-use Rattle.std.proofs.Common.{◌≡◌, ◌≢◌, ℕ, ◌+◌, ◌≤◌, ◌==◌, Bool, true, if◌then◌else◌, List, [], ◌∷◌, Option, None, slice_index, refl, ap, sym, ◌∙◌, subst}
-use Rattle.std.{proofs.Common.{arith, MatchOption, eq-eqb, ◌++◌, append_assoc, append-nil}, specs.List.AllByRecursion}
-use Rattle.pas_profile.{specs.declared.profile.Profile.Profile, proofs.Lists.all_both}
-use Rattle.pas_trace.specs.{Asked.{work_of, of_task, keeper_of, keeper_in}, EveryPlan.{all_ops, IsActorBy, IsActorOf, AreKept, records_of_chore}}
-use Rattle.pas_trace.specs.{EveryPlan.{records_of_work, own_records}, Plans.{IsPlanOf, bounds_of}, declared.plan.{Chore.Chore, Work.Work, Op.Op, Plan.Plan}}
-use Rattle.pas_trace.specs.Acts.{Act, Operates, Guards, Ticks, MakesPass, ReadsEpoch, StopsIdle, Ends, Lowers, acts_of_work, acts_of, Settles, MarksPhase}
-use Rattle.pas_trace.{specs.Acts.{Wakes, MarksClose}, proofs.EveryPlan.every_plan}
-use Rattle.pas_answers.specs.{Replays.{phases_of, threads_of, keepers_of, acts_of_plan, at_start, IsReplay, Shows, region_of}, Answers.{Progress, records_of}}
-use Rattle.pas_answers.specs.{Reaching.{Advances, Reaches}, Ways.{InOrder, OnThreads, is_of, EachOf, records_by, by_actors, by_phases, arranged}}
+use Rattle.std.proofs.Common.{◌≡◌, ◌≢◌, ℕ, ◌+◌, ◌≤◌, ◌==◌, if◌then◌else◌, List, [], ◌∷◌, Option, None, slice_index, refl, ap, sym, ◌∙◌, subst, arith}
+use Rattle.std.{proofs.Common.{MatchOption, eq-eqb, ◌++◌, append_assoc, append-nil}, specs.List.AllByRecursion}
+use Rattle.pas_replay.proofs.Common.{Profile, work_of, keeper_of, IsPlanOf, bounds_of, Work, Op, Plan, Act, Operates, Guards, ReadsEpoch, StopsIdle, Ends}
+use Rattle.pas_replay.proofs.Common.{Lowers, acts_of_work, acts_of, Settles, MarksPhase, Wakes, MarksClose, phases_of, threads_of, keepers_of, acts_of_plan}
+use Rattle.pas_replay.{proofs.Common.{at_start, Shows, region_of, Progress, Advances, Reaches, InOrder, Whole, part, Record}, specs.OneThread.IsOfOneThread}
+use Rattle.pas_profile.proofs.Lists.{all_both}
+use Rattle.pas_trace.specs.{Asked.{of_task, keeper_in}, EveryPlan.{all_ops, IsActorBy, IsActorOf, AreKept, own_records}, Acts.{Ticks, MakesPass}}
+use Rattle.pas_trace.proofs.EveryPlan.{every_plan}
+use Rattle.pas_answers.specs.{Replays.IsReplay, Answers.records_of, Ways.{OnThreads, is_of, EachOf, records_by, by_actors, by_phases, arranged}}
 use Rattle.pas_answers.proofs.{EachAct.all_acts, OwnRecords.{each_both, piece_of, all_by, none_by}}
-use Rattle.pas_replay.specs.OneThread.{IsOfOneThread}
 use Rattle.pas_acts.proofs.{ActsOfPlan.ArePlanned, PlanFacts.plan_planned}
-use Rattle.pas_steps.specs.{Events.events_by, Lists.{Whole, part}, declared.state.State.State}
-use Rattle.pas_records.specs.declared.record.Record.{Record}
+use Rattle.pas_steps.specs.{Events.events_by, declared.state.State.State}
 
 -- ---- operations of thread 1
 abbrev pub IsOfOne : Op → Type 0
@@ -21,21 +19,9 @@ IsOfOne op = op.actor ≡ 1
 abbrev pub AreOfOne : List Op → Type 0
 AreOfOne ops = AllByRecursion IsOfOne ops
 
--- an operation of the scavenger makes a record
-its_record : (t : Bool) (n : ℕ) → t ≡ true → 1 ≤ n → (if t then n else 0) ≡ 0 → ⊥
-its_record t n h i j = grind arith
-
--- Each chore makes a record at least, of one thread's region: chore by chore.
-chore_record : (f : Profile) (chore : Chore) → f.threads ≡ 1 → 1 ≤ records_of_chore f chore
-chore_record f chore h = grind arith
-
-thread_or_record : (f : Profile) (k : ℕ) (work : Work) → f.threads ≡ 1 → IsActorBy f work k → (if k == 0 then records_of_work f work else 0) ≡ 0 → k ≡ 1
-thread_or_record f k work h i j = grind (arith, its_record, eq-eqb, chore_record)
-
 no_records : (f : Profile) (ops : List Op) → f.threads ≡ 1 → ArePlanned f ops → own_records f 0 ops ≡ 0 → AreOfOne ops
 no_records f [] one all none = tt
-no_records f (op ∷ ops) one all none =
-    (thread_or_record f op.actor (work_of op.what) one all.0 (omega (arith, none)), no_records f ops one all.1 (omega (arith, none)))
+no_records f (op ∷ ops) one all none = let rest = no_records f ops one all.1 (omega (arith, none)) in search (arith, rest, eq-eqb)
 
 one_records : (f : Profile) (ops : List Op) → AreOfOne ops → own_records f 0 ops ≡ 0
 one_records f [] all = refl

@@ -1,32 +1,26 @@
 -- THE TURN: an actor sits down, does acts of its own as at any desk, and all others still stand.
 use Rattle.std.proofs.Common.{arith, ◌≡◌, ◌≢◌, ℕ, ◌<◌, length, set, Option, Some, None, inl, inr, refl, ap, sym, ◌∙◌, subst, get_or-set_same, get_or-set_other}
 use Rattle.std.proofs.Common.{length-set, set-set, zero, suc, ◌≤◌, Bool, true, if◌then◌else◌, List, [], ◌∷◌, ◌++◌, eqb-true, le-leb, ◌+◌, ◌-◌, get_or, ◌*◌}
-use Rattle.std.proofs.{Common.{nat_le, ◌==◌, false, ◌||◌, not, length-append, append_assoc}, lemmas.{List.{set_comm, set-get_or}, Option.same_Some}}
-use Rattle.std.proofs.{lemmas.{Grind.get_or-set_at, Bool.{cases_eq, lt-leb, cases_lt, eqb-false}}, Math.Nat.suc-mul}
-use Rattle.pas_plain.specs.{Plain.{actor_of, Forgets, profile_of, RegionStands, PassStands}, Seats.{region_of, pass_of, standing_of, DeskStands}}
-use Rattle.pas_plain.{specs.declared.{pass.PlainPass.PlainPass, desk.PlainDesk.PlainDesk, region.PlainRegion.PlainRegion}, proofs.Desks.pass_rests}
-use Rattle.pas_replay.specs.Sessions.{Slots, pass_in, risen, IsTaken, StandsIn, IsInPlace, MayTakeSeat, ChangesSeats, TakesSeat, rests_as, rests, Replay, Left}
-use Rattle.pas_replay.specs.Sessions.{Hand, IsAt, SoFar, GoesBy, AreCaches, HaveBooks, HavePlaces, records_owed_as, owed_of, owed_by, MaySit, SeatStands}
-use Rattle.pas_replay.specs.{Sessions.{owes_as, owes, own_events, ActorStands, HasNames, SoFarAt, session, upon}, Taking.dearest, declared.seats.Actors.Actors}
-use Rattle.pas_profile.{specs.declared.{profile.Profile.Profile, directory.Kind.Kind, guard.Guard.Guard}, proofs.Codecs.deed_word_of-positive}
-use Rattle.pas_steps.specs.{Views.{View, known_deed}, Lists.{part, Whole, Legal}, Unknown.{unknown_below, unknown_here, unknown_pages}, Events.events_of}
-use Rattle.pas_steps.{specs.{Desks.triples, declared.step.Made.Made}, proofs.Parts.part_of_others}
-use Rattle.pas_guard.specs.Books.{FitsBook, guards_in, size_of_book, AreApart, Each, IsGuardOf, KnowsGuard, is_outer, is_outer_of}
-use Rattle.pas_guard.specs.declared.book.GuardBook.{GuardBook}
-use Rattle.pas_large.specs.Doors.{Indexes, no_ranges}
-use Rattle.pas_cache.specs.{Caches.{Cached, AtRest, cached}, declared.cache.ThreadCache.ThreadCache}
-use Rattle.pas_trace.specs.{Acts.{Act, Operates, Settles, act_kept, acts_of_work, acts_of_op}, declared.plan.{Op.Op, Task.Task, Work.Work}, Asked.work_of}
-use Rattle.pas_trace.{specs.{Asked.cost_of_task, EveryPlan.{IsSoundTask, records_of_work}, Reasons.cost_of_size}, proofs.ThreadsInOrder.numbers_count}
-use Rattle.pas_trace.proofs.Costs.{large_cost, small_cost}
-use Rattle.pas_answers.specs.{Answers.{Progress, settled, after_settling, Caches, Books, Named}, Indexes.{indexes_after, indexes_after_all, AllAreNamedBy}}
-use Rattle.pas_answers.specs.{Indexes.ActIsNamedBy, Reaching.{Reaches, Advances}, Rests.{AreAtRest, AllAtRest}, Calls.owed_events, Keeping.owed_by_keeper}
-use Rattle.pas_answers.specs.{Replays.at_start, Fit.{AreFit, IsFitWhat, costs_of, AreOfThreads, sum_over, own_cost_of_act, own_costs_of, kept_cost_of_act}}
-use Rattle.pas_answers.{specs.{Fit.{kept_costs_of, unbacks_of_act, unbacks_of}, declared.names.Names.Names}, proofs.{SingleActs.sum_both, OwnRecords.EachShown}}
-use Rattle.pas_answers.proofs.Consequences.{acts_shown}
-use Rattle.pas_acts.specs.{Tries.{tries_of, tries_of_act, AreKeptFor}, Awake.idle_in, Works.{Later, Sits}, Turns.{RestsAt, Moves}, AtDesks.{here, and_for}}
-use Rattle.pas_acts.{specs.AtDesks.{ThreadActs, for_act, HasRoomAt, ScavengerActs}, proofs.{ActsOfPlan.{chosen_few, work_costs}, AtDesk.sits_for}}
-use Rattle.pas_bits.specs.declared.mask.Mask4.{Mask4}
-use Rattle.pas_records.specs.{Rooms.{records_in, room_of, Records}, declared.record.Record.Record}
+use Rattle.std.proofs.{Common.{nat_le, ◌==◌, false, ◌||◌, not, length-append, append_assoc}, lemmas.{List.{set_comm, set-get_or}, Grind.get_or-set_at}}
+use Rattle.std.proofs.lemmas.Bool.{eqb-false}
+use Rattle.pas_replay.proofs.Common.{same_Some, cases_eq, lt-leb, cases_lt, suc-mul, actor_of, profile_of, RegionStands, PassStands, standing_of, PlainPass}
+use Rattle.pas_replay.proofs.Common.{PlainDesk, Slots, pass_in, IsTaken, ChangesSeats, TakesSeat, rests_as, rests, Replay, Left, Hand, IsAt, SoFar, GoesBy}
+use Rattle.pas_replay.proofs.Common.{AreCaches, records_owed_as, owed_of, owed_by, SeatStands, owes_as, owes, own_events, ActorStands, HasNames, SoFarAt}
+use Rattle.pas_replay.proofs.Common.{session, upon, dearest, Actors, Profile, Guard, View, part, Whole, Legal, unknown_pages, FitsBook, guards_in, size_of_book}
+use Rattle.pas_replay.proofs.Common.{is_outer, GuardBook, Indexes, no_ranges, Cached, AtRest, cached, ThreadCache, Act, Operates, Settles, acts_of_work}
+use Rattle.pas_replay.proofs.Common.{acts_of_op, Op, Work, work_of, cost_of_size, Progress, after_settling, Caches, Named, indexes_after_all, AllAreNamedBy}
+use Rattle.pas_replay.proofs.Common.{Reaches, Advances, AreAtRest, owed_by_keeper, at_start, AreFit, costs_of, AreOfThreads, own_costs_of, kept_costs_of, Names}
+use Rattle.pas_replay.proofs.Common.{sum_both, EachShown, acts_shown, tries_of, AreKeptFor, idle_in, Sits, RestsAt, Moves, here, and_for, ThreadActs, sits_for}
+use Rattle.pas_replay.{proofs.Common.{Mask4, records_in, room_of, Records, Record}, specs.Sessions.{risen, StandsIn, IsInPlace, MayTakeSeat, HaveBooks}}
+use Rattle.pas_replay.specs.Sessions.{HavePlaces, MaySit}
+use Rattle.pas_plain.{specs.{Plain.Forgets, Seats.{region_of, pass_of, DeskStands}, declared.region.PlainRegion.PlainRegion}, proofs.Desks.pass_rests}
+use Rattle.pas_profile.{specs.declared.directory.Kind.Kind, proofs.Codecs.deed_word_of-positive}
+use Rattle.pas_steps.specs.{Views.known_deed, Unknown.{unknown_below, unknown_here}, Events.events_of, Desks.triples, declared.step.Made.Made}
+use Rattle.pas_steps.proofs.Parts.{part_of_others}
+use Rattle.pas_guard.specs.Books.{AreApart, Each, IsGuardOf, KnowsGuard, is_outer_of}
+use Rattle.pas_trace.{specs.EveryPlan.records_of_work, proofs.{ThreadsInOrder.numbers_count, Costs.{large_cost, small_cost}}}
+use Rattle.pas_answers.specs.{Answers.Books, Indexes.{indexes_after, ActIsNamedBy}, Rests.AllAtRest, Calls.owed_events, Fit.{sum_over, unbacks_of}}
+use Rattle.pas_acts.{specs.{Tries.tries_of_act, Works.Later, AtDesks.{for_act, HasRoomAt, ScavengerActs}}, proofs.ActsOfPlan.{chosen_few, work_costs}}
 
 -- The one desk of a replay, at which the actors take turns; and how a replay goes on: what all actors have, and what they owe, when one did something.
 
@@ -49,11 +43,6 @@ sits_down desk passes k slot actor has =
     search (arith, set-set, set-get_or)
 
 -- ---- one rises with its pass p at place i, and another sits down, whose pass q was at place k
-seats_change : (p q : PlainPass) (i k : ℕ) (passes : Slots) (slot : Option PlainPass) → k ≢ i → pass_in passes k ≡ Some q
-    → set (set (set passes k slot) i (Some p)) k (Some q) ≡ set passes i (Some p)
-seats_change p q i k passes slot ne has =
-    search (arith, set_comm, set-set, set-get_or)
-
 -- the one that sits down there has its pass
 pub pass_there : (desk : PlainDesk) (passes : Slots) (k : ℕ) → actor_of (pass_of desk) ≢ k → (may : MayTakeSeat desk passes k)
     → pass_in passes k ≡ Some may.own.pass
@@ -64,7 +53,7 @@ pub seats_changed : {desk desk' : PlainDesk} {passes : Slots} {q : PlainPass} (k
     → actor_of (pass_of desk) ≢ k → pass_in passes k ≡ Some q → actor_of q ≡ k
     → region_of desk' ≡ region_of desk → pass_of desk' ≡ q → ChangesSeats desk desk' passes (set (set passes k slot) n (Some (pass_of desk))) k
 seats_changed {desk} {desk'} {passes} {q} k n slot is other has actor region pass =
-    search (arith, seats_change)
+    search (arith, set_comm, set-set, set-get_or)
 
 -- ---- the one that sits down forgets what it had shown
 -- it is in its own place as it was
@@ -134,14 +123,10 @@ pub rest_one : (threads : ℕ) (f : Profile) (act : Act) (p q : Progress) (is : 
     → AreAtRest threads f q.caches q.books q.list → AllAtRest threads f (act ∷ []) p q is
 rest_one threads f act p q is before after = (before, subst (λ (s : Progress). AreAtRest threads f s.caches s.books s.list) is.2 after)
 
--- what a cache noted doesn't matter
-before_settled : (f : Profile) (t : Bool) (c own : Cached) (v : View) → (t ≡ true → own ≡ c) → AtRest f (if t then settled c else own) v → AtRest f own v
-before_settled f t c own v h i = grind arith
-
 -- What rests once an actor's records were settled rested before.
 unsettled : (threads : ℕ) (f : Profile) (p : Progress) (k : ℕ)
     → AreAtRest threads f (after_settling p k).caches (after_settling p k).books (after_settling p k).list → AreAtRest threads f p.caches p.books p.list
-unsettled threads f p k rest = search (arith, before_settled, eqb-true)
+unsettled threads f p k rest = search (arith, eqb-true)
 
 -- .. before an operation, once it is done, and after what its cache noted was handed on
 pub rest_two : (threads : ℕ) (f : Profile) (op : Op) (p q : Progress) (is : Reaches f (Operates op ∷ (Settles op.actor ∷ [])) p q)
@@ -174,11 +159,10 @@ pub set_caches : {caches caches' : Caches} (list : List ThreadCache) (k : ℕ) (
     → ((j : ℕ) → j ≢ k → caches' j ≡ caches j) → AreCaches caches list → AreCaches caches' (set list (k - 1) cache)
 set_caches {caches} {caches'} list k cache some most its others all i d less = search (arith, length-set, cases_eq, get_or-set_at, get_or-set_other)
 
--- those below the next place are empty
-pub empty_next : (caches caches' : List ThreadCache) (i : ℕ) (cache : ThreadCache) → caches' ≡ set caches i cache → i < length caches
-    → ((j : ℕ) (d : ThreadCache) → j < i → (cached (get_or caches j d)).locals ≡ []) → (cached cache).locals ≡ []
-    → (j : ℕ) (d : ThreadCache) → j < i + 1 → (cached (get_or caches' j d)).locals ≡ []
-empty_next caches caches' i cache is lt before this j d less = search (arith, cases_eq, get_or-set_at, get_or-set_other)
+-- what is so of those below a place, and of the one that was put there, is so of those below the next place
+pub so_below_next : {A : Type 0} (P : A → Type 0) (xs xs' : List A) (i : ℕ) (x : A) → xs' ≡ set xs i x → i < length xs
+    → ((j : ℕ) (d : A) → j < i → P (get_or xs j d)) → P x → (j : ℕ) (d : A) → j < i + 1 → P (get_or xs' j d)
+so_below_next P xs xs' i x is lt before this j d less = search (arith, cases_eq, get_or-set_at, get_or-set_other)
 
 -- ---- the books of the keepers
 pub book_is : (threads : ℕ) (books : Books) (list : List GuardBook) (i : ℕ) (there : GuardBook) → 1 ≤ i → i ≤ length list → HaveBooks threads books list
@@ -218,12 +202,6 @@ set_places threads list i book acts more some most this fewer all j d less =
 pub still_places : (threads : ℕ) (list : List GuardBook) (acts more : List Act) → ((j : ℕ) → tries_of j more ≤ tries_of j acts) → HavePlaces threads list acts
     → HavePlaces threads list more
 still_places threads list acts more fewer all i d lt = let one = all i d lt in let few = fewer (threads + suc i) in omega (arith, one, few)
-
--- those below the next place are empty
-pub lowered_next : (books books' : List GuardBook) (i : ℕ) (book : GuardBook) → books' ≡ set books i book → i < length books
-    → ((j : ℕ) (d : GuardBook) → j < i → guards_in (get_or books j d) ≡ []) → guards_in book ≡ []
-    → (j : ℕ) (d : GuardBook) → j < i + 1 → guards_in (get_or books' j d) ≡ []
-lowered_next books books' i book is lt before this j d less = search (arith, cases_eq, get_or-set_at, get_or-set_other)
 
 -- ---- what actors owe
 -- nothing of any actor but k changed
@@ -329,13 +307,11 @@ within_pages f (suc n) guards v apart of knows =
 
 all_within : (f : Profile) (guards : List Guard) → Each (IsGuardOf f) guards → low_within f.pages guards ≡ length guards
 all_within f [] of = refl
-all_within f (guard ∷ guards) of =
-    omega (arith, ap one_if (le-leb guard.low f.pages of.0.low.1), all_within f guards of.1)
+all_within f (guard ∷ guards) of = let rest = all_within f guards of.1 in search (arith, rest, le-leb)
 
 -- A keeper owes at most a record for each page: it knows the deeds of the pages at its guards.
 keeper_owes_few : (f : Profile) (guards : List Guard) (v : View) → FitsBook f guards v → unknown_pages f v + length guards ≤ f.pages
-keeper_owes_few f guards v fits =
-    omega (arith, within_pages f f.pages guards v fits.apart fits.of_region fits.knows, all_within f guards fits.of_region)
+keeper_owes_few f guards v fits = search (arith, within_pages, all_within)
 
 unknown_few : (n : ℕ) (v : View) → unknown_below n v ≤ n
 unknown_few zero v = omega arith
@@ -364,23 +340,12 @@ owed_most {r} {p = p} at (suc n) most =
     ]
 
 -- ---- what an operation costs
-size_costs : (pages size : ℕ) → size ≤ pages * 4096 → cost_of_size size ≤ pages + 2
-size_costs pages size within = search (arith, cases_lt, large_cost, small_cost)
-
 large_costs : (pages size : ℕ) → size ≤ pages * 4096 → 2048 < size → cost_of_size size ≤ pages + 1
 large_costs pages size within large = omega (arith, within, large_cost size large)
 
-task_costs : (f : Profile) (asked : List ℕ) (task : Task) → IsSoundTask f asked task → cost_of_task task ≤ f.pages + 3
-task_costs f asked a sound = search (arith, size_costs, large_costs)
-
--- An operation fits, whether it is guarded or not.
-pub kept_fit : (f : Profile) (limit : ℕ) (asked : List ℕ) (o : Option ℕ) (op : Op) (more : List Act) → AreFit f limit asked (act_kept o op ∷ more)
-    → IsFitWhat f limit asked op.what
-kept_fit f limit asked a op more fit = search arith
-
 cheap_work : (f : Profile) (limit : ℕ) (asked idle : List ℕ) (op : Op) (work : Work) (more : List Act) → work_of op.what ≡ work
     → AreFit f limit asked (acts_of_work idle op work ++ more) → records_of_work f work ≤ dearest f
-cheap_work f limit asked idle op a more is fit = search (arith, kept_fit, task_costs)
+cheap_work f limit asked idle op a more is fit = search (arith, cases_lt, large_cost, small_cost, large_costs)
 
 -- No operation that comes next costs more than the dearest.
 pub op_costs : {r : Replay} {h : Hand} {p : Progress} {room : ℕ} (awake : Mask4) (op : Op) (more : List Act)
@@ -461,10 +426,6 @@ module _ {r : Replay} {left desk0 desk passes0 passes caches books places indexe
 
 -- ---- the others
 module _ (threads : ℕ) (f : Profile) (p q : Progress) where
-  -- What rests by the same cache and book still rests.
-  rests_kept : (j : ℕ) (v : View) → q.caches j ≡ p.caches j → q.books j ≡ p.books j → rests threads f p j v → rests threads f q j v
-  rests_kept j v h i k = grind arith
-
   -- And owes the same.
   owes_kept : (j : ℕ) (v : View) → q.caches j ≡ p.caches j → owes threads f q j v ≡ owes threads f p j v
   owes_kept j v h = grind arith
@@ -482,7 +443,7 @@ module _ (threads : ℕ) (f : Profile) (p q : Progress) where
         present = there ∙ st.present;
         actor = st.actor;
         stands = subst (λ (w : Whole). PassStands f st.pass w) (sym list) (pass_rests f st.pass k steps p.list (λ e. ne (e ∙ st.actor)) st.stands);
-        rest = rests_kept j (part j q.list) cache book (subst (λ (v : View). rests threads f p j v) (sym kept) st.rest);
+        rest = grind arith;
         room = omega (arith, events, owed, st.room, free);
       }
 
@@ -496,9 +457,7 @@ either_less t a b a' b' h i = grind arith
 
 -- The acts that are left of some make no more events of an actor than all of them.
 pub less_events : (threads : ℕ) (f : Profile) (first more : List Act) (j : ℕ) → own_events threads f j more ≤ own_events threads f j (first ++ more)
-less_events threads f first more zero = behind (unbacks_of_act f.pages) first more
-less_events threads f first more (suc i) =
-    either_less (nat_le (suc i) threads) _ _ _ _ (behind (own_cost_of_act (suc i)) first more) (behind (kept_cost_of_act (suc i)) first more)
+less_events threads f first more j = search (arith, behind, either_less, nat_le)
 
 -- The acts that are left of some have no more guarded requests of a keeper than all of them.
 pub less_tries : (first more : List Act) (j : ℕ) → tries_of j more ≤ tries_of j (first ++ more)
@@ -515,8 +474,7 @@ AsksNoIndex f act = (indexes : Indexes) (p : Progress) → ((q : Progress) (is :
 -- What is known of the names is known yet, where no name came and the acts that are left fit.
 pub still_named : {f acts more table names names' : _} → ((limit : ℕ) (asked : List ℕ) → AreFit f limit asked acts → AreFit f limit asked more)
     → names' ≡ names → HasNames f acts table names → HasNames f more table names'
-still_named {f} {acts} {more} {table} fit same has =
-    subst (HasNames f more table) (sym same) record { asked = has.asked; fit = fit _ _ has.fit; tells = has.tells; stand = has.stand; known = has.known }
+still_named {f} {acts} {more} {table} fit same has = search arith
 
 -- ---- the turn
 -- Actor k did acts at the desk, after which `more` are left: it came from p to q. It sits there again, and the acts cost others nothing.
@@ -564,9 +522,6 @@ module _ {r : Replay} {left more : Left} {desk0 desk desk' : PlainDesk} {passes0
     room = x.sits.room;
   }
 
-  same_slot : (j : ℕ) → j ≢ k → pass_in (risen desk' passes) j ≡ pass_in (risen desk passes) j
-  same_slot j ne = search (arith, put_elsewhere)
-
   -- An actor that took its seat and did its acts leaves the replay where the acts after them come next.
   pub turn : IsTaken desk' passes × IsAt r more (hand desk' passes caches' books' places' indexes' table' out') q
   turn =
@@ -575,7 +530,7 @@ module _ {r : Replay} {left more : Left} {desk0 desk desk' : PlainDesk} {passes0
       = λ j most. elim (cases_eq j k) [
         | inl same ↦ subst (λ (m : ℕ). ActorStands r.threads r.profile m q (pass_in (risen desk' passes) m) more.acts) (sym same) this_stands
         | inr other ↦ other_stands r.threads r.profile p q left.acts more.acts x.moves.steps (λ (e : k ≡ j). other (sym e)) x.moves.list_is
-            (x.kept.caches j other) (x.kept.books j other) (same_slot j other) (x.free j other) ((at k within seat before).each j most)
+            (x.kept.caches j other) (x.kept.books j other) (search (arith, put_elsewhere)) (x.free j other) ((at k within seat before).each j most)
       ] in
       let nobody : (j : ℕ) → r.threads + r.keepers < j → part j q.list ≡ []
       = λ j past. ap (λ l. part j l) x.moves.list_is ∙ part_of_others j k x.moves.steps p.list (λ e. omega (arith, e, within, past)) ∙ before.nobody j past in

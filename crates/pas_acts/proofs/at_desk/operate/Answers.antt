@@ -1,7 +1,5 @@
 use Rattle.std.proofs.Common.{arith, sym, subst}
-use Rattle.pas_profile.specs.declared.profile.Profile.{Profile}
-use Rattle.pas_answers.specs.Calls.{MayStand}
-use Rattle.pas_acts.proofs.AtDesk.{may_do, fit_at, may_answer, has_operated}
+use Rattle.pas_acts.proofs.{Common.{Profile, MayStand}, AtDesk.{may_do, fit_at, may_answer, has_operated}}
 use Rattle.pas_acts.proofs.at_desk.operate.Goals as goal
 
 pub answer_meant-came-requires-clause-fit : goal.answer_meant-came-requires-clause-fit

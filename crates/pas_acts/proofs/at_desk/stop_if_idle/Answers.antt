@@ -1,5 +1,5 @@
-use Rattle.std.proofs.{Common.{arith, refl}, lemmas.Bool.false≢true}
-use Rattle.pas_acts.proofs.AtDesk.{may_answer, was_stopped, has_stayed}
+use Rattle.std.proofs.Common.{arith, refl}
+use Rattle.pas_acts.proofs.{Common.false≢true, AtDesk.{may_answer, was_stopped, has_stayed}}
 use Rattle.pas_acts.proofs.at_desk.stop_if_idle.Goals as goal
 
 pub answer_stop-requires : goal.answer_stop-requires

@@ -1,7 +1,6 @@
 -- the threads of the operations so far
 use Rattle.std.proofs.Common.{◌≡◌, ◌||◌, ℕ, drop}
-use Rattle.pas_bits.specs.Masks.{is_set}
-use Rattle.pas_trace.specs.Acts.{is_active}
+use Rattle.pas_acts.proofs.Common.{is_set, is_active}
 use Rattle.pas_acts.proofs.awake.active.Given as goal
 
 abbrev pub invariant-loop-op : goal.invariant-loop-op

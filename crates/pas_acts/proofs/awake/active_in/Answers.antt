@@ -1,6 +1,5 @@
 use Rattle.std.proofs.Common.{ℕ, ◌≡◌, ◌||◌, ◌==◌, ◌+◌, drop, arith}
-use Rattle.pas_trace.specs.Acts.{is_active}
-use Rattle.pas_acts.proofs.Making.{active_next}
+use Rattle.pas_acts.proofs.{Common.is_active, Making.active_next}
 use Rattle.pas_acts.proofs.awake.active_in.Goals as goal
 
 pub loop-place-preserved : goal.loop-place-preserved

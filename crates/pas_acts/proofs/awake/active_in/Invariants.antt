@@ -1,7 +1,6 @@
 -- the threads of the operations so far, of which the last one is one
 use Rattle.std.proofs.Common.{◌≡◌, ◌<◌, ◌||◌, ℕ, drop, true}
-use Rattle.pas_bits.specs.Masks.{is_set}
-use Rattle.pas_trace.specs.Acts.{is_active}
+use Rattle.pas_acts.proofs.Common.{is_set, is_active}
 use Rattle.pas_acts.proofs.awake.active_in.Given as goal
 
 abbrev pub invariant-loop-place : goal.invariant-loop-place

@@ -1,5 +1,4 @@
-use Rattle.pas_acts.proofs.{Naming.are_known, Weaving.weave}
-use Rattle.pas_answers.proofs.Reached.{reach_both}
+use Rattle.pas_acts.proofs.{Naming.are_known, Weaving.weave, Common.reach_both}
 use Rattle.pas_acts.proofs.laws.weaving.Goals as goal
 
 pub returns-clause-woven : goal.returns-clause-woven

@@ -1,6 +1,6 @@
-use Rattle.std.proofs.{Common.{List, ap, length, arith}, lemmas.List.length-map}
-use Rattle.pas_trace.specs.{Plans.{ops_of, phases_of as phases_in_order}, declared.plan.Phase.Phase}
-use Rattle.pas_acts.proofs.PlanFacts.{plan_phases}
+use Rattle.std.proofs.Common.{List, ap, length, arith}
+use Rattle.pas_acts.proofs.{Common.{length-map, ops_of}, PlanFacts.plan_phases}
+use Rattle.pas_trace.specs.{Plans.phases_of as phases_in_order, declared.plan.Phase.Phase}
 use Rattle.pas_acts.proofs.limits.records_for.Goals as goal
 
 pub overflow_cast-as_slice : goal.overflow_cast-as_slice

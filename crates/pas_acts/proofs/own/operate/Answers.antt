@@ -1,6 +1,5 @@
 use Rattle.std.proofs.Common.{◌++◌, ◌∙◌, refl, ap, sym, subst, arith}
-use Rattle.pas_profile.specs.Profiles.{IsValid}
-use Rattle.pas_acts.{specs.NameBooks.{known_in, requests_in}, proofs.Working.{may_serve, no_chore, its_own, room_now, operated}}
+use Rattle.pas_acts.proofs.{Common.{IsValid, known_in, requests_in}, Working.{may_serve, no_chore, its_own, room_now, operated}}
 use Rattle.pas_answers.proofs.SingleActs.{may_pack, own_what, freed_task, named_task}
 use Rattle.pas_acts.proofs.own.operate.Goals as goal
 

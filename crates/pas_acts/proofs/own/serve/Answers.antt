@@ -1,7 +1,6 @@
-use Rattle.std.proofs.Common.{◌∙◌, ap, subst}
-use Rattle.pas_profile.specs.declared.profile.Profile.{Profile}
-use Rattle.pas_answers.specs.Calls.{what_of, MayStand}
-use Rattle.pas_acts.{specs.Pairs.for_guards, proofs.{AtDesk.stands_at, Working.{may_try, may_next, given_stands, pair_given, pair_left, pair_alone, not_kept}}}
+use Rattle.std.proofs.Common.{arith, ◌∙◌, ap, subst}
+use Rattle.pas_acts.proofs.{Common.{Profile, what_of, MayStand, for_guards}, AtDesk.stands_at, Working.{may_try, may_next, pair_given, pair_left, pair_alone}}
+use Rattle.pas_acts.proofs.Working.{not_kept}
 use Rattle.pas_acts.proofs.own.serve.Goals as goal
 
 pub try_guarded-requires : goal.try_guarded-requires
@@ -21,12 +20,13 @@ operate-requires g c =
 pub operate-requires-in_default : goal.operate-requires-in_default
 operate-requires-in_default g c = let st = c.requires.stands in record { stands = (st.0, st.2, st.4, st.6, st.7, st.8.may) }
 
+-- what the keeper gave stands where its try was one
 pub returns-in-Some-clause-serves : goal.returns-in-Some-clause-serves
 returns-in-Some-clause-serves g c f k op next later more p asks at =
     let is = asks ∙ ap what_of c.in-Guarded.is in
     let may = may_try op is (g.K.Tries.has c.args.desk.now c.args.keeper.now) more p at in
     let tries = c.try_guarded.ensures.tries f k (for_guards next more) p may.2 may.3 may.4 in
-    (pair_given op is c.in-Some.block more _ _ c.in-Some.is at tries c.settle.ensures.cache, subst (MayStand f) c.in-Some.is (given_stands f k _ _ _ _ _ _ _ p tries))
+    (pair_given op is c.in-Some.block more _ _ c.in-Some.is at tries c.settle.ensures.cache, subst (MayStand f) c.in-Some.is (search arith))
 
 pub returns-in-None-clause-serves : goal.returns-in-None-clause-serves
 returns-in-None-clause-serves g c f k op next later more p asks at =

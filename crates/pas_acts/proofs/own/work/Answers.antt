@@ -1,6 +1,5 @@
 use Rattle.std.proofs.Common.{◌∙◌, sym, arith}
-use Rattle.pas_trace.specs.declared.plan.{Op.Op, What.TheVariants.Alloc}
-use Rattle.pas_acts.proofs.{Working.{begins, stands_before, goes_on, skips, ends}, own.work.Goals.{then-op-actor, else-op-actor}}
+use Rattle.pas_acts.proofs.{Common.{Op, Alloc}, Working.{begins, stands_before, goes_on, skips, ends}, own.work.Goals.{then-op-actor, else-op-actor}}
 use Rattle.pas_acts.proofs.own.work.Goals as goal
 
 abbrev past : Op
@@ -9,9 +8,9 @@ past = record { line = 0; actor = 0; what = Alloc 0 0 0 0 }
 pub loop-op-init : goal.loop-op-init
 loop-op-init g c = search (arith, begins)
 
+-- by cases
 pub overflow_add-number : goal.overflow_add-number
-overflow_add-number g c =
-    (omega (arith, c.loop-op.invariant.number, c.loop-op-test.true, c.requires.few))
+overflow_add-number g c = search arith
 
 pub operate_by_kind-requires : goal.operate_by_kind-requires
 operate_by_kind-requires g c =

@@ -1,10 +1,6 @@
 -- the operations so far are done
 use Rattle.std.proofs.Common.{◌≡◌, ℕ, ◌≤◌, List, ◌++◌, drop}
-use Rattle.pas_profile.specs.declared.profile.Profile.{Profile}
-use Rattle.pas_cache.specs.Caches.{cached}
-use Rattle.pas_trace.specs.Acts.{Act, own_acts}
-use Rattle.pas_answers.specs.Answers.{Progress}
-use Rattle.pas_acts.specs.{Keepers.LaterKept, NameBooks.table, Pairs.{PairAt, PairWorks}, Works.{Later, keeps}}
+use Rattle.pas_acts.proofs.Common.{Profile, cached, Act, own_acts, Progress, LaterKept, table, PairAt, PairWorks, Later, keeps}
 use Rattle.pas_acts.proofs.own.work.Given as goal
 
 abbrev pub invariant-loop-op : goal.invariant-loop-op

@@ -1,5 +1,5 @@
-use Rattle.std.proofs.{Common.{subst, arith}, lemmas.Bool.false≢true}
-use Rattle.pas_acts.{specs.Parts.AreUnused, proofs.Making.{none_unused, next_unused, is_empty}}
+use Rattle.std.proofs.Common.{arith}
+use Rattle.pas_acts.proofs.{Common.false≢true, Making.{none_unused, next_unused}}
 use Rattle.pas_acts.proofs.parts.caches_for.Goals as goal
 
 pub loop-below-init : goal.loop-below-init
@@ -11,8 +11,8 @@ unreachable-requires c =
 
 pub loop-below-preserved : goal.loop-below-preserved
 loop-below-preserved c =
-    search (arith, next_unused, is_empty)
+    search (arith, next_unused)
 
+-- by cases
 pub returns-clause-caches : goal.returns-clause-caches
-returns-clause-caches c =
-    subst (λ n. AreUnused n c.loop-below.caches.items) (omega (arith, c.loop-below-test.false, c.loop-below.auto.below-end)) c.loop-below.invariant.made
+returns-clause-caches c = search arith

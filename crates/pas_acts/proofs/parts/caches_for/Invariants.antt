@@ -1,7 +1,6 @@
 -- the threads so far have empty caches, and the seats of the others are left
 use Rattle.std.proofs.Common.{◌≡◌, ◌≤◌, ◌<◌, ℕ, vec_capacity}
-use Rattle.pas_utility.specs.Pools.{threads_of, has_seat, outcomes_of}
-use Rattle.pas_acts.specs.Parts.{AreUnused}
+use Rattle.pas_acts.proofs.Common.{threads_of, has_seat, outcomes_of, AreUnused}
 use Rattle.pas_acts.proofs.parts.caches_for.Given as goal
 
 abbrev pub invariant-loop-below : goal.invariant-loop-below

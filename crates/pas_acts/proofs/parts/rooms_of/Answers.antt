@@ -1,9 +1,10 @@
 use Rattle.std.proofs.Common.{sym, ◌∙◌, arith}
-use Rattle.pas_acts.proofs.Making.{no_rooms, next_room, left_room}
+use Rattle.pas_acts.proofs.Making.{next_room, left_room}
 use Rattle.pas_acts.proofs.parts.rooms_of.Goals as goal
 
+-- there are no rooms yet
 pub loop-actor-init : goal.loop-actor-init
-loop-actor-init c = search (arith, no_rooms)
+loop-actor-init c = search arith
 
 pub unreachable-requires : goal.unreachable-requires
 unreachable-requires c =

@@ -1,7 +1,7 @@
 -- the actors so far have their rooms, and those of the others are left
 use Rattle.std.proofs.Common.{◌≡◌, ◌≤◌, ◌+◌, ℕ, vec_capacity}
-use Rattle.pas_utility.specs.Pools.{threads_of, has_seat, outcomes_of, room_of}
-use Rattle.pas_acts.specs.Parts.{AreRooms}
+use Rattle.pas_acts.proofs.Common.{threads_of, has_seat, outcomes_of, AreRooms}
+use Rattle.pas_utility.specs.Pools.{room_of}
 use Rattle.pas_acts.proofs.parts.rooms_of.Given as goal
 
 abbrev pub invariant-loop-actor : goal.invariant-loop-actor

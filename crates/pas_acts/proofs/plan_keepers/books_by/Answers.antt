@@ -1,6 +1,6 @@
 use Rattle.std.proofs.Common.{arith, ◌∙◌}
-use Rattle.pas_trace.{specs.EveryPlan.operations_of, proofs.{EveryPlan.every_plan, Keepers.keepers_few}}
-use Rattle.pas_acts.proofs.Making.{no_books, same_books, books_in, course_guarded, course_keepers, course_within, guarded_few}
+use Rattle.pas_acts.proofs.{Common.{operations_of, every_plan, keepers_few}, Making.{no_books, same_books, course_guarded, course_keepers, course_within}}
+use Rattle.pas_acts.proofs.Making.{guarded_few}
 use Rattle.pas_acts.proofs.plan_keepers.books_by.Goals as goal
 
 pub returns-then-keepers-eq0 : goal.returns-then-keepers-eq0
@@ -20,5 +20,4 @@ books_of-requires g c =
     omega (arith, c.keepers_by-keepers.ensures ∙ course_keepers is.same, keepers_few is.plan, (every_plan is.read).valid.threads)
 
 pub returns : goal.returns
-returns g c plan same =
-    books_in c.books_of.result (c.keepers_by-keepers.ensures ∙ course_keepers same) (λ k. c.guarded_by_thread.ensures k ∙ course_guarded same k) c.books_of.ensures
+returns g c plan same = search (arith, same_books, course_keepers, course_guarded)

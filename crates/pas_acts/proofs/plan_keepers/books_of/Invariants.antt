@@ -1,6 +1,6 @@
 -- the keepers so far have their books
 use Rattle.std.proofs.Common.{◌≤◌, slice_index_or, vec_capacity}
-use Rattle.pas_acts.specs.PlanKeepers.{AreBooksFor}
+use Rattle.pas_acts.proofs.Common.{AreBooksFor}
 use Rattle.pas_acts.proofs.plan_keepers.books_of.Given as goal
 
 abbrev pub invariant-loop-below : goal.invariant-loop-below

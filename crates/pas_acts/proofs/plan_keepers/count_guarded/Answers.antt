@@ -1,6 +1,5 @@
-use Rattle.std.proofs.Common.{◌<◌, length, Bool, if◌then◌else◌, refl, ap, arith, eq-eqb}
-use Rattle.pas_trace.specs.{Asked.keeper_in, declared.plan.Op.Op}
-use Rattle.pas_acts.{specs.PlanKeepers.one_guarded, proofs.Making.{all_at, said_next, count_more}}
+use Rattle.std.proofs.Common.{if◌then◌else◌, ◌<◌, length, Bool, refl, ap, arith, eq-eqb}
+use Rattle.pas_acts.proofs.{Common.{keeper_in, Op, one_guarded}, Making.{all_at, said_next, count_more}}
 use Rattle.pas_acts.proofs.plan_keepers.count_guarded.Goals as goal
 
 pub add-requires-clause-actor : goal.add-requires-clause-actor

@@ -1,6 +1,6 @@
 -- the guarded requests of the operations so far are counted
 use Rattle.std.proofs.Common.{◌≡◌, ◌+◌, ℕ, drop, slice_index_or}
-use Rattle.pas_acts.specs.PlanKeepers.{guarded_of}
+use Rattle.pas_acts.proofs.Common.{guarded_of}
 use Rattle.pas_acts.proofs.plan_keepers.count_guarded.Given as goal
 
 abbrev pub invariant-loop-place : goal.invariant-loop-place

@@ -1,7 +1,5 @@
-use Rattle.std.proofs.{Common.{◌<◌, List, subst, sym, ap, ◌∙◌, arith}, lemmas.List.{get_or-replicate, length-replicate, get_or_past}}
-use Rattle.std.specs.List.{AllByRecursion}
-use Rattle.pas_trace.specs.declared.plan.Op.{Op}
-use Rattle.pas_acts.proofs.Making.{phase_at, phases_next}
+use Rattle.std.proofs.Common.{◌<◌, List, subst, sym, ap, arith}
+use Rattle.pas_acts.proofs.{Common.{get_or-replicate, length-replicate, get_or_past, AllByRecursion, Op}, Making.{phase_at, phases_next}}
 use Rattle.pas_acts.proofs.plan_keepers.guarded_by_thread.Goals as goal
 
 pub loop-phase-init : goal.loop-phase-init
@@ -13,13 +11,7 @@ count_guarded-requires-clause-actors g c =
     subst (λ (ops : List Op). AllByRecursion (λ (op : Op). op.actor < 17) ops) (ap g.P.Operations.ops (sym c.phase-item.is)) own
 
 pub count_guarded-requires-clause-few : goal.count_guarded-requires-clause-few
-count_guarded-requires-clause-few g c k =
-    let next = phases_next g.P.Operations.ops k c.args.phases.now c.loop-phase.phase-index c.phase-item.result c.loop-phase-test.true c.phase-item.is in
-    omega (arith, c.loop-phase.invariant.counts k, next, c.requires.few k)
+count_guarded-requires-clause-few g c k = search (arith, phases_next)
 
 pub loop-phase-preserved : goal.loop-phase-preserved
-loop-phase-preserved g c = record {
-  counts = λ k.
-      let next = phases_next g.P.Operations.ops k c.args.phases.now c.loop-phase.phase-index c.phase-item.result c.loop-phase-test.true c.phase-item.is in
-      omega (arith, c.count_guarded.ensures k, c.loop-phase.invariant.counts k, next);
-}
+loop-phase-preserved g c = search (arith, phases_next)

@@ -1,7 +1,6 @@
 -- the guarded requests of the phases so far are counted
 use Rattle.std.proofs.Common.{◌≡◌, ◌+◌, ℕ, drop, map, slice_index_or}
-use Rattle.pas_trace.specs.EveryPlan.{all_ops}
-use Rattle.pas_acts.specs.PlanKeepers.{guarded_of}
+use Rattle.pas_acts.proofs.Common.{all_ops, guarded_of}
 use Rattle.pas_acts.proofs.plan_keepers.guarded_by_thread.Given as goal
 
 abbrev pub invariant-loop-phase : goal.invariant-loop-phase

@@ -1,7 +1,5 @@
 use Rattle.std.proofs.Common.{◌≡◌, ◌+◌, ℕ, ap, sym, ◌∙◌, subst, arith}
-use Rattle.pas_profile.specs.{Profiles.IsValid, declared.profile.Profile.Profile}
-use Rattle.pas_trace.{specs.Reasons.actors_by, proofs.{EveryPlan.every_plan, Keepers.plan_actors}}
-use Rattle.pas_acts.proofs.{Making.course_keepers, PlanFacts.plan_valid}
+use Rattle.pas_acts.proofs.{Common.{IsValid, Profile, actors_by, every_plan, plan_actors}, Making.course_keepers, PlanFacts.plan_valid}
 use Rattle.pas_acts.proofs.plan_keepers.region_by.Goals as goal
 
 pub overflow_add-result : goal.overflow_add-result

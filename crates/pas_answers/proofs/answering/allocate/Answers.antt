@@ -1,6 +1,5 @@
 use Rattle.std.proofs.Common.{Ok, Err, ◌≡◌}
-use Rattle.pas_cache.specs.Caches.{cached}
-use Rattle.pas_answers.proofs.{SingleActs.none_stands, Requests.{can_request, serves, performs_request, given_stands}}
+use Rattle.pas_answers.proofs.{Common.cached, SingleActs.none_stands, Requests.{can_request, serves, performs_request, given_stands}}
 use Rattle.pas_answers.proofs.answering.allocate.Goals as goal
 
 pub serve-requires-clause-can : goal.serve-requires-clause-can

@@ -1,5 +1,5 @@
 use Rattle.std.proofs.Common.{subst}
-use Rattle.pas_trace.specs.EveryPlan.{IsRoomNamed}
+use Rattle.pas_answers.proofs.Common.{IsRoomNamed}
 use Rattle.pas_answers.proofs.answering.log.Goals as goal
 
 pub free_sized-requires-clause-size : goal.free_sized-requires-clause-size

@@ -1,6 +1,6 @@
 -- the events so far were added
 use Rattle.std.proofs.Common.{◌≡◌, ◌++◌, take, drop, map}
-use Rattle.pas_records.specs.{Rooms.{records_in, room_of}, declared.record.Record.Record}
+use Rattle.pas_answers.proofs.Common.{records_in, room_of, Record}
 use Rattle.pas_answers.proofs.answering.push_events.Given as goal
 
 abbrev pub invariant-loop-event : goal.invariant-loop-event

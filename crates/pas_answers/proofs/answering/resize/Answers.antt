@@ -1,15 +1,12 @@
-use Rattle.std.proofs.{Common.{Ok, ◌≡◌, ◌∙◌, ap, subst}, lemmas.Option.same_Some}
-use Rattle.pas_cache.specs.Caches.{cached}
-use Rattle.pas_answers.{specs.Calls.IsBlockOf, proofs.{SingleActs.none_stands, Requests.{can_move, kept, replaced, refused, new_stands}}}
+use Rattle.std.proofs.Common.{arith, Ok, ◌≡◌, ◌∙◌, ap, subst}
+use Rattle.pas_answers.proofs.{Common.{same_Some, cached, IsBlockOf}, SingleActs.none_stands, Requests.{can_move, kept, replaced, refused, new_stands}}
 use Rattle.pas_answers.proofs.answering.resize.Goals as goal
 
 pub remake-requires-clause-can : goal.remake-requires-clause-can
 remake-requires-clause-can g c = can_move (cached c.args.cache.now) c.args.name 0 0 c.args.size c.args.align (g.D.Desk.spare_of c.args.desk.now) c.args.old.heap (c.requires.can 0 0)
 
 pub returns-in-Ok-Kept-clause-performs : goal.returns-in-Ok-Kept-clause-performs
-returns-in-Ok-Kept-clause-performs g c = λ n heap.
-    kept (g.D.Desk.standing c.args.desk.now) (g.D.Desk.standing c.remake.new.desk) (cached c.args.cache.now) (cached c.remake.new.cache) c.args.name n heap c.args.size c.args.align c.args.old (g.O.Door.answers c.args.door.now c.remake.new.door) (c.remake.new.door ≡ c.args.door.now)
-    (c.in-Ok-Kept.is ∙ ap (λ moved. Ok moved) c.in-Ok-Kept.field-0-is) c.remake.ensures.moves
+returns-in-Ok-Kept-clause-performs g c = search (arith, kept)
 
 pub returns-in-Ok-Kept-clause-stands : goal.returns-in-Ok-Kept-clause-stands
 returns-in-Ok-Kept-clause-stands g c = λ block is. subst (IsBlockOf (g.D.Desk.standing c.args.desk.now).seat.profile) (same_Some _ _ is) c.requires.stands

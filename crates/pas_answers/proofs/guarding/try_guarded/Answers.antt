@@ -1,12 +1,10 @@
-use Rattle.std.proofs.{Common.{◌∙◌, ◌++◌, List, refl, ap, arith, length, length-append, drop, map}, lemmas.List.length-map}
-use Rattle.pas_records.specs.{Rooms.records_in, declared.record.Record.Record}
-use Rattle.pas_answers.proofs.{Requests.asking, Tries.{is_shown, fewer_up, can_sweep, can_raise, more_shown, told_fits, given_stands, said_some, said_none}}
-use Rattle.pas_answers.proofs.Tries.{tries}
+use Rattle.std.proofs.Common.{◌∙◌, ◌++◌, List, refl, ap, arith, length, length-append, drop, map}
+use Rattle.pas_answers.proofs.{Common.{length-map, records_in, Record}, Requests.asking, Tries.{is_shown, fewer_up, can_sweep, can_raise, more_shown}}
+use Rattle.pas_answers.proofs.Tries.{told_fits, given_stands, said_some, said_none, tries}
 use Rattle.pas_answers.proofs.guarding.try_guarded.Goals as goal
 
 pub raise-block-requires-clause-book : goal.raise-block-requires-clause-book
-raise-block-requires-clause-book g c =
-    omega (arith, fewer_up c.sweep.ensures.sweeps, c.requires.can.met.place, c.sweep.ensures.size)
+raise-block-requires-clause-book g c = search (arith, fewer_up)
 
 pub raise-block-requires-clause-can : goal.raise-block-requires-clause-can
 raise-block-requires-clause-can g c = can_raise c.args.book.now c.args.size (g.D.Desk.spare_of c.args.desk.now)

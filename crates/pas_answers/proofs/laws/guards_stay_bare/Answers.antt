@@ -1,7 +1,5 @@
 use Rattle.std.proofs.Common.{subst}
-use Rattle.pas_steps.specs.Lists.{Whole, part, Legal}
-use Rattle.pas_guard.specs.Keepers.{MakesCalls}
-use Rattle.pas_answers.{specs.Replays.region_of, proofs.Reached.is_keeper}
+use Rattle.pas_answers.proofs.{Common.{Whole, part, Legal, MakesCalls, region_of}, Reached.is_keeper}
 use Rattle.pas_answers.proofs.laws.guards_stay_bare.Goals as goal
 
 pub returns : goal.returns

@@ -1,10 +1,9 @@
-use Rattle.std.proofs.Common.{sym, ◌∙◌, refl}
-use Rattle.pas_cache.specs.Caches.{cached}
-use Rattle.pas_answers.proofs.Requests.{serves, can_serve, keeps_block, leaves_block, room_to_free, can_free, no_fault, gives_other, in_same}
+use Rattle.std.proofs.Common.{arith, sym, ◌∙◌}
+use Rattle.pas_answers.proofs.{Common.{call_none, cached}, Requests.{serves, can_serve, leaves_block, room_to_free, can_free, no_fault, gives_other}}
 use Rattle.pas_answers.proofs.moving.reallocate.Goals as goal
 
 pub returns-then-suits-clause-moves : goal.returns-then-suits-clause-moves
-returns-then-suits-clause-moves g c = keeps_block _ _ _ c.args.old c.args.size c.args.align (cached c.args.cache.now) (sym c.suits.ensures ∙ c.if-suits.true) refl
+returns-then-suits-clause-moves g c = search (arith, call_none)
 
 pub serve-requires-clause-can : goal.serve-requires-clause-can
 serve-requires-clause-can g c = can_serve (cached c.args.cache.now) c.args.old.heap c.args.size c.args.align (g.D.Desk.spare_of c.args.desk.now) c.requires.can
@@ -20,7 +19,7 @@ free-requires-clause-can g c = can_free c.args.old.heap c.args.size c.args.align
     (cached c.serve.new.self) c.in-Ok.block c.in-Ok.ensures.allocates c.requires.can
 
 pub unreachable-requires : goal.unreachable-requires
-unreachable-requires g c = let s = serves (cached c.args.cache.now) (cached c.serve.new.self) c.args.old.heap c.args.size c.args.align c.in-Ok.ensures.allocates in no_fault (g.D.Desk.standing c.serve.new.desk).seat.profile c.args.old.name c.in-Err-free._fault (in_same s c.args.old.name c.requires.region) c.in-Err-free.ensures.frees.outcome.fault_is
+unreachable-requires g c = search (arith, serves, no_fault)
 
 pub returns-in-Ok-free-clause-moves : goal.returns-in-Ok-free-clause-moves
 returns-in-Ok-free-clause-moves g c = let r = c.in-Ok.ensures.allocates in let s = serves (cached c.args.cache.now) (cached c.serve.new.self) c.args.old.heap c.args.size c.args.align r in gives_other _ _ _ r.found c.args.old c.args.size c.args.align (cached c.args.cache.now) (cached c.serve.new.self) (cached c.free.new.self) c.in-Ok.block (sym c.suits.ensures ∙ c.if-suits.false) r.named s c.in-Ok-free.ensures.frees

@@ -1,7 +1,6 @@
 -- the records of the outcomes so far were added
 use Rattle.std.proofs.Common.{◌≡◌, ◌++◌, take, map}
-use Rattle.pas_records.specs.Rooms.{records_in, room_of}
-use Rattle.pas_answers.specs.PassRecords.{record_of}
+use Rattle.pas_answers.proofs.Common.{records_in, room_of, record_of}
 use Rattle.pas_answers.proofs.passing.push_outcomes.Given as goal
 
 abbrev pub invariant-loop-page : goal.invariant-loop-page

@@ -1,6 +1,5 @@
 use Rattle.std.proofs.Common.{◌≡◌, ℕ, List, length, ap, sym, ◌∙◌, arith, slice_index, eqb-true, eq-eqb}
-use Rattle.pas_acts.proofs.PlanFacts.{plan_bounds}
-use Rattle.pas_replay.proofs.{PlansOfOne.{bound_shows, one_shows}, alone.is_of_one_thread.Goals.{then-plan-eq1, else-plan-eq1}}
+use Rattle.pas_replay.proofs.{Common.plan_bounds, PlansOfOne.{bound_shows, one_shows}, alone.is_of_one_thread.Goals.{then-plan-eq1, else-plan-eq1}}
 use Rattle.pas_replay.proofs.alone.is_of_one_thread.Goals as goal
 
 pub bounds-as_slice : goal.bounds-as_slice

@@ -1,6 +1,5 @@
 use Rattle.std.proofs.Common.{List, ◌++◌, subst}
-use Rattle.pas_records.specs.{Rooms.records_in, declared.record.Record.Record}
-use Rattle.pas_answers.specs.{Replays.Shows, Ways.InOrder}
+use Rattle.pas_replay.proofs.Common.{records_in, Record, Shows, InOrder}
 use Rattle.pas_replay.proofs.kit.in_order.Goals as goal
 
 pub in_order_to-requires-clause-plan : goal.in_order_to-requires-clause-plan

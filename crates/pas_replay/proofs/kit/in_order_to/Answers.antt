@@ -1,10 +1,8 @@
 use Rattle.std.proofs.{Common.{All, refl, sym, subst, arith, List}, lemmas.List.Elements.All-nil}
-use Rattle.pas_plain.specs.{Plain.{profile_of, PassStands}, declared.pass.PlainPass.PlainPass}
-use Rattle.pas_acts.proofs.PlanFacts.{plan_phases, plan_valid, plan_operate, plan_fit}
+use Rattle.pas_replay.proofs.{Common.{profile_of, PassStands, PlainPass, plan_operate, plan_fit, names_held, phases_of, replay_of, room_of}, InOrder.list_in}
+use Rattle.pas_replay.proofs.InOrder.{start, shows}
+use Rattle.pas_acts.proofs.PlanFacts.{plan_phases, plan_valid}
 use Rattle.pas_trace.proofs.Keepers.{keepers_few}
-use Rattle.pas_answers.specs.{Names.names_held, Replays.phases_of}
-use Rattle.pas_replay.{specs.Kits.replay_of, proofs.InOrder.{list_in, start, shows}}
-use Rattle.pas_records.specs.Rooms.{room_of}
 use Rattle.pas_replay.proofs.kit.in_order_to.Goals as goal
 
 pub replay-region-requires-clause-phases : goal.replay-region-requires-clause-phases
@@ -13,9 +11,7 @@ replay-region-requires-clause-phases g c =
     omega (arith, list_in g.P.Operations.ops c.args.course.now.phases.now (phases_of c.requires.plan.1) may.same.phases, plan_phases may.read may.short)
 
 pub replay-region-requires-clause-books : goal.replay-region-requires-clause-books
-replay-region-requires-clause-books g c =
-    let may = c.requires.plan.2 in
-    omega (arith, may.fits.books.many, may.fits.unused.many, keepers_few c.requires.plan.1)
+replay-region-requires-clause-books g c = search (arith, keepers_few)
 
 pub replay-region-requires-clause-so_far : goal.replay-region-requires-clause-so_far
 replay-region-requires-clause-so_far g c =

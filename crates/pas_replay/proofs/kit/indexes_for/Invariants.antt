@@ -1,6 +1,6 @@
 -- an index for each heap so far
 use Rattle.std.proofs.Common.{◌≡◌, ◌≤◌, vec_capacity}
-use Rattle.pas_large.specs.Doors.{no_ranges}
+use Rattle.pas_replay.proofs.Common.{no_ranges}
 use Rattle.pas_replay.proofs.kit.indexes_for.Given as goal
 
 abbrev pub invariant-loop-heap : goal.invariant-loop-heap

@@ -1,5 +1,5 @@
-use Rattle.std.proofs.Common.{◌≡◌, ◌∙◌, ◌+◌, ◌-◌, set, ap, arith}
-use Rattle.pas_replay.proofs.{InOrder.{next_keeper, no_keeper}, Turning.lowered_next}
+use Rattle.std.proofs.Common.{◌≡◌, ◌∙◌, ◌+◌, ◌-◌, [], set, ap, arith}
+use Rattle.pas_replay.proofs.{Common.{guards_in, GuardBook}, InOrder.{next_keeper, no_keeper}, Turning.so_below_next}
 use Rattle.pas_replay.proofs.order.lower_all.Goals as goal
 
 pub lower-requires-clause-thread : goal.lower-requires-clause-thread
@@ -24,7 +24,8 @@ loop-index-preserved c =
       far = λ table r more so.
           c.lower.ensures.so_far table r _ (next_keeper i more _ (omega (arith, so.1.1.many)) (omega (arith, c.loop-index-test.true, so.1.1.kept)) (c.loop-index.invariant.far table r more so));
       caches = c.lower.ensures.caches ∙ c.loop-index.invariant.caches;
-      lowered = lowered_next now c.lower.new.actors.books.items i ended.0 (ended.1 ∙ ap (λ j. set now j ended.0) (let at : i + 1 - 1 ≡ i = omega arith in at))
+      lowered = so_below_next (λ (book : GuardBook). guards_in book ≡ []) now c.lower.new.actors.books.items i ended.0
+          (ended.1 ∙ ap (λ j. set now j ended.0) (let at : i + 1 - 1 ≡ i = omega arith in at))
           (omega (arith, c.loop-index-test.true, so0.3.1.1.kept, far)) c.loop-index.invariant.lowered ended.2;
     }
 

@@ -1,9 +1,6 @@
 -- the keepers so far lowered their guards
 use Rattle.std.proofs.Common.{◌≡◌, ◌+◌, ◌-◌, ◌<◌, ℕ, [], get_or, map}
-use Rattle.pas_guard.specs.{Books.guards_in, declared.book.GuardBook.GuardBook}
-use Rattle.pas_trace.specs.Acts.{Lowers, numbers_from}
-use Rattle.pas_answers.specs.declared.names.Names.{Names}
-use Rattle.pas_replay.specs.Sessions.{Replay, Left, SoFarAt, session, upon}
+use Rattle.pas_replay.proofs.Common.{guards_in, GuardBook, Lowers, numbers_from, Names, Replay, Left, SoFarAt, session, upon}
 use Rattle.pas_replay.proofs.order.lower_all.Given as goal
 
 abbrev pub invariant-loop-index : goal.invariant-loop-index

@@ -1,19 +1,17 @@
 use Rattle.std.proofs.Common.{◌≡◌, ◌∙◌, None, ap, refl}
-use Rattle.pas_trace.specs.{Asked.work_of, declared.plan.{Op.Op, Task.Task, What.What, Work.Work}}
-use Rattle.pas_acts.specs.Awake.{idle_in}
-use Rattle.pas_replay.proofs.{InOrder.as_first, ByActors.acts_by_work}
+use Rattle.pas_replay.proofs.{InOrder.as_first, ByActors.acts_by_work, Common.{work_of, Op, Task, What, Work, idle_in}}
 use Rattle.pas_replay.proofs.order.perform.Goals as goal
 
 pub returns-in-Alloc-clause-so_far : goal.returns-in-Alloc-clause-so_far
 returns-in-Alloc-clause-so_far g c op same r more so =
     let is = c.in-Alloc.is in
     let asks : work_of c.args.op.what ≡ Work.Own (Task.Request c.in-Alloc.name c.in-Alloc.heap c.in-Alloc.size c.in-Alloc.align) = ap (λ (w : What). work_of w) is in
-    c.serve.ensures.so_far op (ap (λ (o : Op). o.actor) same) (ap (λ (o : Op). o.what) same ∙ is) r more
+    c.serve_request.ensures.so_far op (ap (λ (o : Op). o.actor) same) (ap (λ (o : Op). o.what) same ∙ is) r more
     (as_first more (acts_by_work (idle_in c.args.awake r.threads) op c.args.op same refl asks) so)
 
 pub returns-in-Free-clause-so_far : goal.returns-in-Free-clause-so_far
 returns-in-Free-clause-so_far g c op same r more so =
     let is = c.in-Free.is in
     let asks : work_of c.args.op.what ≡ Work.Own (Task.Free c.in-Free.name None) = ap (λ (w : What). work_of w) is in
-    c.serve-in-Free.ensures.so_far op (ap (λ (o : Op). o.actor) same) (ap (λ (o : Op). o.what) same ∙ is) r more
+    c.serve_free.ensures.so_far op (ap (λ (o : Op). o.actor) same) (ap (λ (o : Op). o.what) same ∙ is) r more
     (as_first more (acts_by_work (idle_in c.args.awake r.threads) op c.args.op same refl asks) so)

@@ -1,7 +1,6 @@
-use Rattle.std.proofs.{Common.{◌<◌, ◌≤◌, ◌∙◌, ◌++◌, List, [], drop_of_length-le, refl, ap, arith, length, get_or}, lemmas.List.length-map}
-use Rattle.pas_trace.specs.{Acts.acts_of_ops, Codes.unlined, declared.plan.Op.Op}
-use Rattle.pas_acts.specs.Awake.{idle_in}
-use Rattle.pas_replay.{specs.Sessions.{session, telling}, proofs.InOrder.{as_between, can_show, none_told, op_next, past, place_in, said_at, taken_on}}
+use Rattle.std.proofs.Common.{◌≤◌, ◌∙◌, ◌++◌, List, [], drop_of_length-le, refl, ap, arith, length, get_or}
+use Rattle.pas_replay.proofs.{Common.{length-map, acts_of_ops, unlined, Op, idle_in, session, telling}, InOrder.{as_between, can_show, none_told, op_next}}
+use Rattle.pas_replay.proofs.InOrder.{past, place_in, said_at, taken_on}
 use Rattle.pas_replay.proofs.order.perform_all.Goals as goal
 
 pub loop-place-init : goal.loop-place-init

@@ -1,9 +1,6 @@
 -- the operations so far are done, and some records were taken
 use Rattle.std.proofs.Common.{◌≡◌, ◌++◌, List, drop, length, map}
-use Rattle.pas_trace.specs.{Acts.{Act, acts_of_ops}, Codes.unlined, declared.plan.Op.Op}
-use Rattle.pas_acts.specs.Awake.{idle_in}
-use Rattle.pas_replay.specs.{Sessions.{Replay, session, telling}, Taking.Between}
-use Rattle.pas_records.specs.declared.record.Record.{Record}
+use Rattle.pas_replay.proofs.Common.{Act, acts_of_ops, unlined, Op, idle_in, Replay, session, telling, Between, Record}
 use Rattle.pas_replay.proofs.order.perform_all.Given as goal
 
 abbrev pub invariant-loop-place : goal.invariant-loop-place

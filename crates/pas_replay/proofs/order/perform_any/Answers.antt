@@ -1,8 +1,7 @@
 use Rattle.std.proofs.Common.{◌≡◌, ◌∙◌, ℕ, ap, sym, arith}
-use Rattle.pas_trace.specs.{Codes.unlined, declared.plan.{Chore.Chore, Op.Op, Work.Work}}
-use Rattle.pas_acts.specs.Awake.{idle_in}
+use Rattle.pas_replay.proofs.{Common.{unlined, Op, Work, idle_in}, InOrder.as_first, ByActors.{acts_by_work, own_actor}}
+use Rattle.pas_trace.specs.declared.plan.Chore.{Chore}
 use Rattle.pas_answers.proofs.SingleActs.{own_what}
-use Rattle.pas_replay.proofs.{InOrder.as_first, ByActors.{acts_by_work, own_actor}}
 use Rattle.pas_replay.proofs.order.perform_any.Goals as goal
 
 pub tick-requires : goal.tick-requires
@@ -28,16 +27,7 @@ same_what : (op said : Op) → unlined op ≡ unlined said → op.what ≡ said.
 same_what op said same = ap (λ (o : Op). o.what) same
 
 pub operate-requires : goal.operate-requires
-operate-requires g c =
-    let so0 = c.requires.so_far in
-    let so = as_first so0.2.1 (acts_by_work (idle_in c.args.awake so0.2.0.threads) so0.0 c.args.op so0.1 c.work.ensures c.in-Own.is) so0.2.2 in
-    let thread = own_actor c.in-Own.task so0.0 so0.2.1 so.1 in
-    let actor = ap (λ (o : Op). o.actor) so0.1 in
-    record {
-      some = omega (arith, actor, thread.0);
-      thread = omega (arith, actor, thread.1, so.1.1.many);
-      so_far = (so0.0, actor, same_what so0.0 c.args.op so0.1 ∙ own_what c.args.op.what c.in-Own.task (sym c.work.ensures ∙ c.in-Own.is), (so0.2.0, so0.2.1, so));
-    }
+operate-requires g c = search (arith, as_first, acts_by_work, own_actor, same_what, own_what)
 
 pub returns-in-Own-clause-so_far : goal.returns-in-Own-clause-so_far
 returns-in-Own-clause-so_far g c op same r more so =

@@ -1,13 +1,11 @@
 use Rattle.std.proofs.Common.{◌≡◌, ◌+◌, ◌≤◌, ◌++◌, ◌∙◌, ℕ, List, [], ◌∷◌, length, Option, MatchOption, refl, sym, subst, ap, arith, drop, map, ◌<◌, get_or}
-use Rattle.pas_trace.specs.{declared.plan.Op.Op, Acts.{Act, MarksPhase, Wakes, Ends, Lowers, acts_of_ops, numbers_from, phase_acts, MarksClose, is_active}}
-use Rattle.pas_trace.specs.{Codes.unlined, Scripts.without_lines}
-use Rattle.pas_replay.specs.{Sessions.{Replay, Left, Session, SoFarAt, hand_of, session, telling, upon}, Taking.{Begins, Between, left_between}}
-use Rattle.pas_replay.proofs.{Turning.may_sit, order.replay.{Given.Over, Goals.{then-number-gt-UNMARKED, else-number-gt-UNMARKED, After-push-2}}}
-use Rattle.pas_replay.proofs.{order.replay.Goals.After-active_in-awake, InOrder.{as_hand, after_mark, wakes_first, as_between, can_show, close_next, mark_next}}
-use Rattle.pas_replay.proofs.InOrder.{marked, none_told, taken_on, told_then, wakes_next, list_at, list_in, same_active}
-use Rattle.pas_acts.{specs.Awake.{awake_in, idle_in}, proofs.ActsLeft.{acts_left, first_phase, other_phase, next_list, no_list}}
-use Rattle.pas_bits.specs.Masks.{is_set}
-use Rattle.pas_records.specs.{Rooms.{records_in, room_of, Records}, declared.record.Record.Record}
+use Rattle.pas_replay.proofs.Common.{Op, Act, MarksPhase, Wakes, Ends, Lowers, acts_of_ops, numbers_from, phase_acts, is_active, unlined, without_lines, Replay}
+use Rattle.pas_replay.proofs.Common.{Left, Session, SoFarAt, hand_of, session, telling, upon, Begins, Between, left_between, awake_in, idle_in, acts_left}
+use Rattle.pas_replay.proofs.{Common.{is_set, records_in, room_of, Records, Record}, Turning.may_sit, order.replay.{Given.Over, Goals.then-number-gt-UNMARKED}}
+use Rattle.pas_replay.proofs.{order.replay.Goals.{else-number-gt-UNMARKED, After-push-2, After-active_in-awake}, InOrder.{as_hand, after_mark, wakes_first}}
+use Rattle.pas_replay.proofs.InOrder.{as_between, can_show, close_next, mark_next, marked, none_told, taken_on, told_then, wakes_next, list_at, list_in}
+use Rattle.pas_replay.proofs.InOrder.{same_active}
+use Rattle.pas_acts.proofs.ActsLeft.{first_phase, other_phase, next_list, no_list}
 use Rattle.pas_replay.proofs.order.replay.Goals as goal
 
 pub sit-desk-requires-clause-may : goal.sit-desk-requires-clause-may
@@ -70,9 +68,7 @@ module _ (g : Over) (c : After-active_in-awake g) (lists : List (List Op)) (same
 
     -- The replay is between two phases.
     far : Between waits (telling r so_far) (acts_left r.threads r.keepers c.loop-phase.phase-index (ops ∷ drop (c.loop-phase.phase-index + 1) lists)) before
-    far =
-        let lt : c.loop-phase.phase-index < length lists = omega (arith, c.loop-phase-test.true, list_in g.P.Operations.ops c.args.phases.now lists same) in
-        as_between waits (telling r so_far) before (next_list r.threads r.keepers lists c.loop-phase.phase-index lt) (c.loop-phase.invariant.far lists same r begins)
+    far = search (arith, length, list_in, as_between, next_list)
 
     -- its operations are those of the list but for their lines, and so its threads are those that have one there
     as_listed : g.P.Operations.ops c.phase-item.result ≡ map unlined ops
@@ -167,16 +163,7 @@ loop-phase-preserved g c =
 
 -- ---- the close
 pub push-requires-2 : goal.push-requires-2
-push-requires-2 g c =
-    let waits = g.T.Takes.waits in
-    let so0 = c.requires.so_far in
-    let at = c.loop-phase.invariant in
-    let r = telling so0.2 at.told in
-    let s = session c.loop-phase.desk c.loop-phase.actors c.loop-phase.names c.loop-phase.out in
-    let past_all : length so0.0 ≤ c.loop-phase.phase-index = omega (arith, c.loop-phase-test.false, list_in g.P.Operations.ops c.args.phases.now so0.0 so0.1) in
-    let far = as_between waits r s (no_list r.threads r.keepers so0.0 c.loop-phase.phase-index past_all) (at.far so0.0 so0.1 so0.2 so0.3) in
-    let spare = (mark_next waits r s _ MarksClose refl far).1.1.spare in
-    omega (arith, spare)
+push-requires-2 g c = search (arith, length, list_in, far, as_between, no_list, mark_next)
 
 module _ (g : Over) (c : After-push-2 g) (lists : List (List Op)) (same : map g.P.Operations.ops c.args.phases.now ≡ without_lines lists) (r : Replay)
     (begins : Begins g.T.Takes.waits lists r (hand_of c.args.region c.args.actors.now c.args.names.now c.args.out.now)) where

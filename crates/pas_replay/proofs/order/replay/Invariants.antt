@@ -1,9 +1,6 @@
 -- the phases so far are done, and some records were taken
 use Rattle.std.proofs.Common.{◌≡◌, List, drop, length, map}
-use Rattle.pas_replay.specs.{Sessions.{Replay, hand_of, session, telling}, Taking.{Begins, Between}}
-use Rattle.pas_acts.proofs.ActsLeft.{acts_left}
-use Rattle.pas_trace.specs.{Scripts.without_lines, declared.plan.Op.Op}
-use Rattle.pas_records.specs.declared.record.Record.{Record}
+use Rattle.pas_replay.proofs.Common.{Replay, hand_of, session, telling, Begins, Between, acts_left, without_lines, Op, Record}
 use Rattle.pas_replay.proofs.order.replay.Given as goal
 
 abbrev pub invariant-loop-phase : goal.invariant-loop-phase

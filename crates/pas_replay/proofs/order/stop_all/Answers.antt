@@ -1,7 +1,5 @@
-use Rattle.std.proofs.Common.{◌≡◌, ◌∙◌, ◌+◌, ◌-◌, ℕ, List, length, set, ap, arith, length-set}
-use Rattle.pas_cache.specs.declared.cache.ThreadCache.{ThreadCache}
-use Rattle.pas_trace.specs.Acts.{Ends}
-use Rattle.pas_replay.proofs.{InOrder.{next_number, no_number}, Turning.empty_next}
+use Rattle.std.proofs.Common.{◌≡◌, ◌∙◌, ◌+◌, ◌-◌, ℕ, List, [], length, set, ap, arith, length-set}
+use Rattle.pas_replay.proofs.{Common.{cached, ThreadCache, Ends}, InOrder.{next_number, no_number}, Turning.so_below_next}
 use Rattle.pas_replay.proofs.order.stop_all.Goals as goal
 
 pub end-requires-clause-thread : goal.end-requires-clause-thread
@@ -28,7 +26,8 @@ loop-index-preserved c =
     record {
       far = λ table r more so. c.end.ensures.so_far table r _ (next_number Ends i r.threads more (omega (arith, c.loop-index-test.true, so.1.1.many)) (c.loop-index.invariant.far table r more so));
       threads = ap (λ (cs : List ThreadCache). length cs) ended.1 ∙ length-set now (i + 1 - 1) ended.0 ∙ same;
-      empty = empty_next now c.end.new.actors.caches.items i ended.0 (ended.1 ∙ ap (λ (j : ℕ). set now j ended.0) (let at : i + 1 - 1 ≡ i = omega arith in at))
+      empty = so_below_next (λ (cache : ThreadCache). (cached cache).locals ≡ []) now c.end.new.actors.caches.items i ended.0
+          (ended.1 ∙ ap (λ (j : ℕ). set now j ended.0) (let at : i + 1 - 1 ≡ i = omega arith in at))
           (omega (arith, c.loop-index-test.true, same)) c.loop-index.invariant.empty ended.2;
     }
 

@@ -1,9 +1,6 @@
 -- the threads so far were stopped
 use Rattle.std.proofs.Common.{◌≡◌, ◌+◌, ◌-◌, ◌<◌, ℕ, [], length, get_or, map}
-use Rattle.pas_cache.specs.{Caches.cached, declared.cache.ThreadCache.ThreadCache}
-use Rattle.pas_trace.specs.Acts.{Ends, numbers_from}
-use Rattle.pas_answers.specs.declared.names.Names.{Names}
-use Rattle.pas_replay.specs.Sessions.{Replay, Left, SoFarAt, session, upon}
+use Rattle.pas_replay.proofs.Common.{cached, ThreadCache, Ends, numbers_from, Names, Replay, Left, SoFarAt, session, upon}
 use Rattle.pas_replay.proofs.order.stop_all.Given as goal
 
 abbrev pub invariant-loop-index : goal.invariant-loop-index

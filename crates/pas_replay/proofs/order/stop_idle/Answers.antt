@@ -1,7 +1,6 @@
-use Rattle.std.{proofs.Common.{◌≡◌, ◌<◌, ◌≤◌, ◌∙◌, ◌-◌, ℕ, Bool, not, ap, sym, arith}, specs.List.filter}
-use Rattle.pas_bits.specs.{Masks.is_set, declared.mask.Mask4.Mask4}
-use Rattle.pas_trace.specs.Acts.{Act, StopsIdle, numbers_from, idle_stops}
-use Rattle.pas_replay.{specs.Sessions.upon, proofs.{InOrder.{as_read, chosen_next, passed_next, none_next}, order.stop_idle.Goals.{then-not-get, else-not-get}}}
+use Rattle.std.proofs.Common.{◌≡◌, ◌<◌, ◌≤◌, ◌∙◌, ◌-◌, ℕ, Bool, not, ap, sym, arith}
+use Rattle.pas_replay.proofs.{Common.{filter, is_set, Mask4, Act, StopsIdle, numbers_from, idle_stops, upon}, InOrder.{as_read, chosen_next, passed_next}}
+use Rattle.pas_replay.proofs.{InOrder.none_next, order.stop_idle.Goals.{then-not-get, else-not-get}}
 use Rattle.pas_replay.proofs.order.stop_idle.Goals as goal
 
 -- the stop of a thread, and which threads it is for
@@ -23,9 +22,9 @@ loop-index-init c = record {
   threads = c.read_epoch-epoch.ensures.threads;
 }
 
+-- by cases
 pub stop_if_idle-requires-clause-thread : goal.stop_if_idle-requires-clause-thread
-stop_if_idle-requires-clause-thread c =
-    omega (arith, c.loop-index-test.true, c.len-threads.ensures, c.loop-index.invariant.threads)
+stop_if_idle-requires-clause-thread c = search arith
 
 pub stop_if_idle-requires-clause-so_far : goal.stop_if_idle-requires-clause-so_far
 stop_if_idle-requires-clause-so_far c =

@@ -1,7 +1,5 @@
 use Rattle.std.proofs.Common.{◌∙◌, ◌<◌, ◌≤◌, sym, arith}
-use Rattle.pas_bits.specs.Masks.{is_set}
-use Rattle.pas_trace.specs.Acts.{Wakes}
-use Rattle.pas_replay.proofs.{InOrder.{as_left, chosen_next, passed_next, none_next}, order.wake_all.Goals.{then-get, else-get}}
+use Rattle.pas_replay.proofs.{Common.{is_set, Wakes}, InOrder.{as_left, chosen_next, passed_next, none_next}, order.wake_all.Goals.{then-get, else-get}}
 use Rattle.pas_replay.proofs.order.wake_all.Goals as goal
 
 pub wake-requires-clause-thread : goal.wake-requires-clause-thread

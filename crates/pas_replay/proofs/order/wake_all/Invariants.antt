@@ -1,11 +1,6 @@
 -- the threads so far read the epoch where they are active
-use Rattle.std.{proofs.Common.{◌≡◌, ◌+◌, ◌-◌, length, map}, specs.List.filter}
-use Rattle.pas_bits.specs.Masks.{is_set}
-use Rattle.pas_records.specs.Rooms.{Records}
-use Rattle.pas_trace.specs.Acts.{Wakes, numbers_from}
-use Rattle.pas_acts.specs.Awake.{awake_in}
-use Rattle.pas_replay.specs.Sessions.{Replay, Left, SoFarAt, session, upon}
-use Rattle.pas_answers.specs.declared.names.Names.{Names}
+use Rattle.std.proofs.Common.{◌≡◌, ◌+◌, ◌-◌, length, map}
+use Rattle.pas_replay.proofs.Common.{filter, is_set, Records, Wakes, numbers_from, awake_in, Replay, Left, SoFarAt, session, upon, Names}
 use Rattle.pas_replay.proofs.order.wake_all.Given as goal
 
 abbrev pub invariant-loop-index : goal.invariant-loop-index

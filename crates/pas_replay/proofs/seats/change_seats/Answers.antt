@@ -1,6 +1,5 @@
-use Rattle.std.proofs.{Common.{None, Some, ap, sym, ◌∙◌, subst, set}, lemmas.{List.get_or_default, Option.same_Some}}
-use Rattle.pas_plain.specs.{Plain.actor_of, declared.pass.PlainPass.PlainPass}
-use Rattle.pas_replay.{specs.Sessions.ChangesSeats, proofs.Turning.{pass_there, seats_changed}}
+use Rattle.std.proofs.Common.{None, Some, ap, sym, ◌∙◌, subst, set}
+use Rattle.pas_replay.proofs.{Common.{get_or_default, same_Some, actor_of, PlainPass, ChangesSeats}, Turning.{pass_there, seats_changed}}
 use Rattle.pas_replay.proofs.seats.change_seats.Goals as goal
 
 pub returns : goal.returns

@@ -1,8 +1,7 @@
 use Rattle.std.proofs.Common.{◌∙◌, [], ◌∷◌, ℕ, Some, ap, subst, arith}
-use Rattle.pas_trace.specs.{Acts.Settles, declared.plan.{Task.Task, What.What}}
-use Rattle.pas_answers.{specs.{Calls.what_of, Fit.IsFitWhat, Names.{MayPack, names_held}}, proofs.SingleActs.may_pack}
-use Rattle.pas_replay.{specs.Sessions.upon, proofs.{InOrder.as_first, Turning.{may_take_seat, somewhere}, ByActors.{its_place, guards_first, not_guarded}}}
-use Rattle.pas_replay.proofs.ByActors.{has_named, keeper_may, left_turn, gave_turn}
+use Rattle.pas_answers.specs.Names.{MayPack}
+use Rattle.pas_replay.proofs.{InOrder.as_first, Turning.{may_take_seat, somewhere}, ByActors.{its_place, guards_first, not_guarded, has_named, keeper_may}}
+use Rattle.pas_replay.proofs.{ByActors.{left_turn, gave_turn}, Common.{Settles, Task, what_of, may_pack, upon}}
 use Rattle.pas_replay.proofs.seats.operate.Goals as goal
 
 pub take_seat-requires : goal.take_seat-requires
@@ -19,27 +18,21 @@ try_guarded-requires-clause-stands g c =
     (so0.3.0.profile, c.in-Guarded.keeper, _, so.0, keeper_may so0.0 (upon so0.3.0 (Settles so0.0.actor ∷ []) so0.3.1) so0.1 (so0.2 ∙ ap what_of c.in-Guarded.is) c.take_seat.ensures c.index_mut-book.ensures.value so.1)
 
 pub keep-requires-clause-fit : goal.keep-requires-clause-fit
-keep-requires-clause-fit g c =
-    let so0 = c.requires.so_far in
-    let f = so0.3.0.profile in
-    let names = (guards_first so0.0 so0.3.1 c.in-Guarded.is so0.3.2).1.1.names in
-    (f, names.asked, subst (λ (w : What). IsFitWhat f (names_held c.args.names.now) names.asked w) (so0.2 ∙ ap what_of c.in-Guarded.is) names.fit.3)
+keep-requires-clause-fit g c = search (arith, guards_first)
 
 pub keep-requires-clause-packs : goal.keep-requires-clause-packs
 keep-requires-clause-packs g c = subst MayPack c.in-Some.is (may_pack _ c.try_guarded.result c.take_seat.new.desk.region.valid c.try_guarded.ensures.stands)
 
-pub serve-requires-clause-so_far : goal.serve-requires-clause-so_far
-serve-requires-clause-so_far g c =
+pub serve_any-requires-clause-so_far : goal.serve_any-requires-clause-so_far
+serve_any-requires-clause-so_far g c =
     let so0 = c.requires.so_far in
     let so = (guards_first so0.0 so0.3.1 c.in-Guarded.is so0.3.2).1 in
     let asks = so0.2 ∙ ap what_of c.in-Guarded.is in
     let did = c.try_guarded.ensures.tries so0.3.0.profile c.in-Guarded.keeper _ so.0 (keeper_may so0.0 (upon so0.3.0 (Settles so0.0.actor ∷ []) so0.3.1) so0.1 asks c.take_seat.ensures c.index_mut-book.ensures.value so.1) in
     (so0.0, so0.1, asks, (so0.3.0, so0.3.1, somewhere (left_turn so0.0 (upon so0.3.0 (Settles so0.0.actor ∷ []) so0.3.1) so0.1 asks c.take_seat.ensures c.index_mut-book.ensures.value so.1 did c.in-None.is)))
 
-pub serve-requires-in_default-clause-so_far : goal.serve-requires-in_default-clause-so_far
-serve-requires-in_default-clause-so_far g c =
-    let so0 = c.requires.so_far in
-    (so0.0, so0.1, so0.2, (so0.3.0, so0.3.1, as_first so0.3.1 (not_guarded so0.0 c.args.task c.in_default.not-Guarded) so0.3.2))
+pub serve_any-requires-in_default-clause-so_far : goal.serve_any-requires-in_default-clause-so_far
+serve_any-requires-in_default-clause-so_far g c = search (arith, as_first, not_guarded)
 
 pub returns-in-Some-clause-so_far : goal.returns-in-Some-clause-so_far
 returns-in-Some-clause-so_far g c op mine is r more so0 =
@@ -56,8 +49,8 @@ returns-in-None-clause-so_far g c op mine is r more so0 =
     let so = (guards_first op more c.in-Guarded.is so0).1 in
     let asks = is ∙ ap what_of c.in-Guarded.is in
     let did = c.try_guarded.ensures.tries r.profile c.in-Guarded.keeper _ so.0 (keeper_may op (upon r (Settles op.actor ∷ []) more) mine asks c.take_seat.ensures c.index_mut-book.ensures.value so.1) in
-    c.serve.ensures.so_far op mine asks r more (somewhere (left_turn op (upon r (Settles op.actor ∷ []) more) mine asks c.take_seat.ensures c.index_mut-book.ensures.value so.1 did c.in-None.is))
+    c.serve_any.ensures.so_far op mine asks r more (somewhere (left_turn op (upon r (Settles op.actor ∷ []) more) mine asks c.take_seat.ensures c.index_mut-book.ensures.value so.1 did c.in-None.is))
 
 pub returns-in_default-clause-so_far : goal.returns-in_default-clause-so_far
 returns-in_default-clause-so_far g c op mine is r more so =
-    c.serve-in_default.ensures.so_far op mine is r more (as_first more (not_guarded op c.args.task c.in_default.not-Guarded) so)
+    c.serve_any-in_default.ensures.so_far op mine is r more (as_first more (not_guarded op c.args.task c.in_default.not-Guarded) so)

@@ -1,8 +1,5 @@
 use Rattle.std.proofs.Common.{rules, ◌≡◌, ◌∙◌, [], ◌∷◌, refl, ap, subst}
-use Rattle.pas_large.specs.{Doors.Indexes, declared.plain_door.PlainDoor.PlainDoor}
-use Rattle.pas_trace.specs.Acts.{Operates, Settles}
-use Rattle.pas_answers.specs.Indexes.{AllAreNamedBy, indexes_after_all}
-use Rattle.pas_replay.proofs.ByActors.{went_through}
+use Rattle.pas_replay.proofs.{Common.{Indexes, PlainDoor, Operates, Settles, AllAreNamedBy, indexes_after_all}, ByActors.went_through}
 use Rattle.pas_replay.proofs.seats.operate_by.Goals as goal
 
 -- a door to the same indexes

@@ -1,6 +1,5 @@
 use Rattle.std.proofs.Common.{◌∙◌, refl, ap, sym, arith}
-use Rattle.pas_profile.specs.declared.profile.Profile.{Profile}
-use Rattle.pas_replay.proofs.Turning.{may_take_seat, sat_down, scavenger_now, scavenger_turn, somewhere}
+use Rattle.pas_replay.proofs.{Common.Profile, Turning.{may_take_seat, sat_down, scavenger_now, scavenger_turn, somewhere}}
 use Rattle.pas_replay.proofs.seats.pass.Goals as goal
 
 pub take_seat-requires : goal.take_seat-requires

@@ -1,8 +1,7 @@
 use Rattle.std.proofs.Common.{◌-◌, ◌∙◌, subst, arith, length-set}
-use Rattle.pas_profile.specs.declared.profile.Profile.{Profile}
-use Rattle.pas_trace.specs.declared.plan.What.{What}
-use Rattle.pas_answers.{specs.{Calls.MayStand, Fit.IsFitWhat, Names.{block_named, names_held}}, proofs.SingleActs.{freed_task, may_pack}}
-use Rattle.pas_replay.proofs.{Turning.may_take_seat, ByActors.{has_named, may_operate, operate_turn, written_back}}
+use Rattle.pas_replay.proofs.{Common.{Profile, What, MayStand, block_named, names_held, may_pack}, Turning.may_take_seat, ByActors.{has_named, may_operate}}
+use Rattle.pas_replay.proofs.ByActors.{operate_turn, written_back}
+use Rattle.pas_answers.{specs.Fit.IsFitWhat, proofs.SingleActs.freed_task}
 use Rattle.pas_replay.proofs.seats.serve.Goals as goal
 
 pub take_seat-requires : goal.take_seat-requires

@@ -1,8 +1,5 @@
 use Rattle.std.proofs.Common.{◌-◌, set, sym, subst, length-set}
-use Rattle.pas_cache.specs.Caches.{cached}
-use Rattle.pas_large.specs.Doors.{Indexes}
-use Rattle.pas_replay.{specs.Sessions.{IsAt, hand_at}, proofs.ByActors.{noted_back, settle_turn}}
-use Rattle.pas_answers.specs.Answers.{after_settling}
+use Rattle.pas_replay.{proofs.{Common.{cached, Indexes, IsAt, after_settling}, ByActors.{noted_back, settle_turn}}, specs.Sessions.hand_at}
 use Rattle.pas_replay.proofs.seats.settle.Goals as goal
 
 pub returns-clause-threads : goal.returns-clause-threads

@@ -1,8 +1,5 @@
 use Rattle.std.proofs.Common.{rules, ◌≡◌, ◌∙◌, refl, ap}
-use Rattle.pas_cache.specs.Caches.{cached}
-use Rattle.pas_large.specs.{Doors.Indexes, declared.plain_door.PlainDoor.PlainDoor}
-use Rattle.pas_answers.specs.Indexes.{with_noted}
-use Rattle.pas_replay.proofs.ByActors.{handed}
+use Rattle.pas_replay.proofs.{Common.{cached, Indexes, PlainDoor, with_noted}, ByActors.handed}
 use Rattle.pas_replay.proofs.seats.settle_by.Goals as goal
 
 -- a door to the same indexes

@@ -1,5 +1,5 @@
-use Rattle.std.proofs.{Common.arith, lemmas.{List.get_or_default, Option.same_Some}}
-use Rattle.pas_replay.proofs.Turning.{sits_down}
+use Rattle.std.proofs.Common.{arith}
+use Rattle.pas_replay.proofs.{Common.{get_or_default, same_Some}, Turning.sits_down}
 use Rattle.pas_replay.proofs.seats.sit.Goals as goal
 
 pub returns-clause-hand : goal.returns-clause-hand

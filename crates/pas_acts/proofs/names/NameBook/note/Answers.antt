@@ -1,7 +1,5 @@
 use Rattle.std.proofs.Common.{ℕ, ◌<◌, get_or, length, refl, ap, sym, ◌∙◌, subst, arith, List, take_all}
-use Rattle.pas_trace.specs.declared.plan.{Op.Op, What.TheVariants.Alloc}
-use Rattle.pas_answers.specs.{Names.names_held, declared.names.Names.Names}
-use Rattle.pas_acts.{specs.NameBooks.ArePlaced, proofs.Noting.{asks_same, asks_below, below_at, placed_next, counted, count_small}}
+use Rattle.pas_acts.proofs.{Common.{Op, Alloc, names_held, Names, ArePlaced}, Noting.{asks_same, asks_below, below_at, placed_next, counted, count_small}}
 use Rattle.pas_acts.proofs.names.NameBook.note.Goals.{in-Some, in-None}
 use Rattle.pas_acts.proofs.names.NameBook.note.Goals as goal
 

@@ -1,7 +1,6 @@
 -- the names of the operations so far have their places
 use Rattle.std.proofs.Common.{◌≡◌, ℕ, take, length, slice_index_or}
-use Rattle.pas_trace.specs.Acts.{own_acts}
-use Rattle.pas_acts.specs.NameBooks.{names_asked, ArePlaced}
+use Rattle.pas_acts.proofs.Common.{own_acts, names_asked, ArePlaced}
 use Rattle.pas_acts.proofs.names.NameBook.note.Given as goal
 
 abbrev pub invariant-loop-op : goal.invariant-loop-op

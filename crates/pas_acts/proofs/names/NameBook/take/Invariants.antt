@@ -1,7 +1,6 @@
 -- the last requests so far were taken over
 use Rattle.std.proofs.Common.{◌≡◌, ◌-◌, ℕ, map, drop, length}
-use Rattle.pas_answers.specs.{Answers.standing_for, Names.{names_held, block_named}}
-use Rattle.pas_acts.specs.NameBooks.{named_of, came_to}
+use Rattle.pas_acts.proofs.Common.{standing_for, names_held, block_named, named_of, came_to}
 use Rattle.pas_acts.proofs.names.NameBook.take.Given as goal
 
 abbrev pub invariant-loop-done : goal.invariant-loop-done

@@ -1,10 +1,9 @@
-use Rattle.std.proofs.Common.{Some, ap, sym, ◌∙◌}
+use Rattle.std.proofs.Common.{arith, sym}
 use Rattle.pas_acts.proofs.Noting.{at_named, at_other, at_past}
 use Rattle.pas_acts.proofs.names.Request.at.Goals as goal
 
 pub returns-then-request-name : goal.returns-then-request-name
-returns-then-request-name c =
-    ap (λ o. Some o) c.block.ensures ∙ at_named c.args.requests.now c.args.place c.args.name _ c.if-place-requests.true c.if-request-name.true
+returns-then-request-name c = search (arith, at_named)
 
 pub returns-else-request-name : goal.returns-else-request-name
 returns-else-request-name c = at_other c.args.requests.now c.args.place c.args.name _ c.if-place-requests.true c.if-request-name.false

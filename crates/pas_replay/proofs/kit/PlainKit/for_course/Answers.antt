@@ -1,10 +1,8 @@
-use Rattle.std.proofs.{Common.{ℕ, ◌+◌, List, [], Some, length, slice_index, ap, sym, ◌∙◌, subst, arith, All}, lemmas.{List.length-map, Option.same_Some}}
-use Rattle.pas_profile.specs.declared.profile.Profile.{Profile}
-use Rattle.pas_plain.specs.{Plain.PassStands, declared.pass.PlainPass.PlainPass}
-use Rattle.pas_large.specs.Doors.{no_ranges}
-use Rattle.pas_acts.{specs.Parts.AreUnused, proofs.PlanFacts.{plan_bounds, plan_below, plan_threads}}
-use Rattle.pas_answers.specs.{Fit.AllBelow, Replays.phases_of}
-use Rattle.pas_replay.proofs.InOrder.{passes_count, fresh_actor}
+use Rattle.std.proofs.Common.{ℕ, ◌+◌, List, [], Some, length, slice_index, ap, sym, ◌∙◌, subst, arith, All}
+use Rattle.pas_replay.proofs.{Common.{length-map, same_Some, Profile, PassStands, PlainPass, no_ranges, plan_bounds, phases_of}, InOrder.passes_count}
+use Rattle.pas_replay.proofs.InOrder.{fresh_actor}
+use Rattle.pas_acts.{specs.Parts.AreUnused, proofs.PlanFacts.{plan_below, plan_threads}}
+use Rattle.pas_answers.specs.Fit.{AllBelow}
 use Rattle.pas_replay.proofs.kit.PlainKit.for_course.Goals as goal
 
 pub try_new-requires : goal.try_new-requires
@@ -19,24 +17,13 @@ pub rooms_of-requires-clause-left : goal.rooms_of-requires-clause-left
 rooms_of-requires-clause-left g c = λ k le. (slice_index c.args.course.now.bounds.now k, c.in_ok-utility.ensures.rooms k le)
 
 pub caches_for-requires-clause-few : goal.caches_for-requires-clause-few
-caches_for-requires-clause-few g c =
-    let is = c.requires in
-    let own = ap (λ (f : Profile). f.threads) is.same.profile in
-    omega (arith, own, c.region_by-profile.ensures.valid.threads, ap (λ (f : Profile). f.threads) (c.region_by-profile.ensures.region is.plan is.same), plan_threads is.plan)
+caches_for-requires-clause-few g c = search (arith, plan_threads)
 
 pub caches_for-requires-clause-threads : goal.caches_for-requires-clause-threads
-caches_for-requires-clause-threads g c =
-    let is = c.requires in
-    let own = ap (λ (f : Profile). f.threads) is.same.profile in
-    let region = ap (λ (f : Profile). f.threads) (c.region_by-profile.ensures.region is.plan is.same) in
-    omega (arith, own, region, plan_threads is.plan, c.rooms_of.ensures.threads, c.in_ok-utility.ensures.threads)
+caches_for-requires-clause-threads g c = search (arith, plan_threads)
 
 pub caches_for-requires-clause-left : goal.caches_for-requires-clause-left
-caches_for-requires-clause-left g c = λ k one le.
-    let is = c.requires in
-    let own = ap (λ (f : Profile). f.threads) is.same.profile in
-    let region = ap (λ (f : Profile). f.threads) (c.region_by-profile.ensures.region is.plan is.same) in
-    c.rooms_of.ensures.seats k ∙ c.in_ok-utility.ensures.seats k one (omega (arith, own, region, plan_threads is.plan, le))
+caches_for-requires-clause-left g c = search (arith, plan_threads)
 
 pub returns : goal.returns
 returns g c text plan read same =

@@ -1,5 +1,5 @@
 use Rattle.std.proofs.lemmas.Result.{IfOk-weaker}
-use Rattle.pas_replay.specs.Kits.{IsKitOf}
+use Rattle.pas_replay.proofs.Common.{IsKitOf}
 use Rattle.pas_replay.proofs.kit.PlainKit.try_new.Goals as goal
 
 pub for_course-requires : goal.for_course-requires
